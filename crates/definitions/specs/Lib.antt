@@ -1,0 +1,4 @@
+pub mod Scan
+pub mod Sort
+pub mod Hypotenuse
+pub mod Nearest
