@@ -1,4 +1,15 @@
 pub mod Scan
 pub mod Sort
+pub mod Grid
+pub mod Spans
+pub mod Partition
 pub mod Hypotenuse
 pub mod Nearest
+pub mod Geometry
+pub mod RampGeometry
+pub mod RegionRecord
+pub mod Context
+pub mod Junctions
+pub mod RampMouths
+pub mod RampInteriors
+pub mod Rows

@@ -1,0 +1,115 @@
+-- Region records (document 01, 'Context'; RegionStats of context.rs) and what is asked of one: corners, dominance (junctions.rs), flatness.
+-- Assumes nothing.
+use Prim.Native.Nat.{ℕ, zero, suc, _+_, _*_, _/_, _%_, _^_, min, max}
+use mathlib.Core.Bool.{Bool, true, false, _&&_, _||_, cond}
+use mathlib.Core.Option.{Option, none, some}
+use mathlib.Core.List.{List, [], _∷_, map}
+use lib.ListN.{getD}
+use lib.Dec.{eqb, ltb, leb}
+use lib.Ieee.{Float}
+use Rattle.definitions.specs.Scan.{anyBelow, countBelow, bit, onlyIf}
+use Rattle.definitions.specs.Grid.{Map, cellCount, cellAt, isRamp, elevation}
+use Rattle.definitions.specs.Spans.{pixelsPerWalkCell}
+use Rattle.definitions.specs.Geometry.{Point, float}
+
+-- `elevations` is the mask: bit e is set where a cell has elevation e. `elevationCounts` has one count for each elevation 0 to 3.
+pub record Region : Type 0 where
+  pub cells : ℕ
+  pub minX : Float
+  pub minY : Float
+  pub maxX : Float
+  pub maxY : Float
+  pub hasRamp : Bool
+  pub elevations : ℕ
+  pub elevationCounts : List ℕ
+
+-- the empty record: zero throughout
+unfoldable pub emptyRegion : Region
+unfolding float
+emptyRegion =
+    record
+      { cells = 0;
+        minX = float 0;
+        minY = float 0;
+        maxX = float 0;
+        maxY = float 0;
+        hasRamp = false;
+        elevations = 0;
+        elevationCounts = 0 ∷ 0 ∷ 0 ∷ 0 ∷ [] }
+
+-- ---- the record of a region
+
+-- the least and the most that f gives at the numbers below n that pass p; 0 where there is none
+unfoldable pub least : ℕ → (ℕ → Bool) → (ℕ → ℕ) → ℕ
+unfolding anyBelow
+least zero p f = 0
+least (suc n) p f = cond (p n) (cond (anyBelow n p) (min (least n p f) (f n)) (f n)) (least n p f)
+
+unfoldable pub most : ℕ → (ℕ → Bool) → (ℕ → ℕ) → ℕ
+most zero p f = 0
+most (suc n) p f = cond (p n) (max (most n p f) (f n)) (most n p f)
+
+-- the mask of the elevations 0 to 3 that pass p
+abbrev pub maskOf : (ℕ → Bool) → ℕ
+maskOf p = bit (p 0) + 2 * bit (p 1) + 4 * bit (p 2) + 8 * bit (p 3)
+
+-- From the cells whose label is r, a number from 1 on. Edges are in pixels: exact as f64, so that the Rust's minima and maxima of floats are these.
+-- Of a number that no cell has it is the empty record.
+unfoldable pub regionOf : Map → List ℕ → ℕ → Region
+unfolding cellCount countBelow least most anyBelow float
+regionOf M ls r =
+    let n = cellCount M in
+    let mine : ℕ → Bool = λ c. eqb (getD ls c 0) r in
+    let mineAt : ℕ → ℕ → Bool = λ e c. mine c && eqb (elevation (cellAt M c)) e in
+    record
+      { cells = countBelow n mine;
+        minX = float (least n mine (λ c. c % M .width * pixelsPerWalkCell));
+        minY = float (least n mine (λ c. c / M .width * pixelsPerWalkCell));
+        maxX = float (most n mine (λ c. c % M .width * pixelsPerWalkCell + pixelsPerWalkCell));
+        maxY = float (most n mine (λ c. c / M .width * pixelsPerWalkCell + pixelsPerWalkCell));
+        hasRamp = anyBelow n (λ c. mine c && isRamp (cellAt M c));
+        elevations = maskOf (λ e. anyBelow n (mineAt e));
+        elevationCounts = map (λ e. countBelow n (mineAt e)) (0 ∷ 1 ∷ 2 ∷ 3 ∷ []) }
+
+-- ---- of a record
+
+-- `corners` of RegionStats, in its order
+unfoldable pub corners : Region → List Point
+corners s =
+    record { px = s .minX; py = s .minY } ∷ record { px = s .minX; py = s .maxY } ∷ record { px = s .maxX; py = s .minY } ∷ record { px = s .maxX; py = s .maxY } ∷ []
+
+abbrev pub elevationCount : Region → ℕ → ℕ
+elevationCount s e = getD (s .elevationCounts) e 0
+
+-- the elevation of most cells; of equal counts the lower
+abbrev pub better : Region → ℕ → ℕ → ℕ
+better s best e = cond (ltb (elevationCount s best) (elevationCount s e)) e best
+
+unfoldable pub mostCommonElevation : Region → ℕ
+mostCommonElevation s = better s (better s (better s 0 1) 2) 3
+
+-- `dominant_elevation` of junctions.rs: that elevation, if it has 99 of 100 cells or more
+unfoldable pub dominantElevation : Region → Option ℕ
+unfolding mostCommonElevation
+dominantElevation s =
+    let e = mostCommonElevation s in
+    onlyIf (leb (s .cells * 99) (elevationCount s e * 100)) e
+
+abbrev pub bothSame : Option ℕ → Option ℕ → Bool
+bothSame none o = false
+bothSame (some a) none = false
+bothSame (some a) (some b) = eqb a b
+
+-- bit e of a mask of eight bits
+abbrev pub hasBit : ℕ → ℕ → Bool
+hasBit mask e = eqb (mask / 2 ^ e % 2) 1
+
+-- `(first.elevations | second.elevations).count_ones()`
+unfoldable pub joinedOnes : Region → Region → ℕ
+unfolding countBelow
+joinedOnes s t = countBelow 8 (λ e. hasBit (s .elevations) e || hasBit (t .elevations) e)
+
+-- strictly flat, of a union: exactly one bit set in the joined elevation mask. `flat` of junctions.rs is the same of one record twice.
+unfoldable pub strictlyFlat : Region → Region → Bool
+unfolding joinedOnes
+strictlyFlat s t = eqb (joinedOnes s t) 1
