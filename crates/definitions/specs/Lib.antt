@@ -13,3 +13,7 @@ pub mod Junctions
 pub mod RampMouths
 pub mod RampInteriors
 pub mod Rows
+pub mod Lists
+pub mod SheetNumber
+pub mod Sheet
+pub mod SheetExamples
