@@ -5,3 +5,5 @@ pub mod ListOrder
 pub mod Ranks
 pub mod Merging
 pub mod MergingInside
+pub mod ListsAsSets
+pub mod Stars
