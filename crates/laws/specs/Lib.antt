@@ -5,5 +5,12 @@ pub mod ListOrder
 pub mod Ranks
 pub mod Merging
 pub mod MergingInside
+pub mod SelectionBySets
+pub mod Booleans
+pub mod SoundContext
+pub mod FullCut
 pub mod ListsAsSets
 pub mod Stars
+pub mod AscendingPairs
+pub mod SortedMembers
+pub mod Triangles

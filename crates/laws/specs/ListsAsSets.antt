@@ -7,11 +7,8 @@ use mathlib.Core.List.{List, [], _∷_, _++_, append-nil}
 use lib.Dec.{eqb}
 use borrow.Author.Tests.{eqb-true}
 use Rattle.definitions.specs.Scan.{any, filter, member, addNew, addAll}
+use Rattle.laws.specs.FullCut.{isEmpty}
 use Rattle.laws.specs.Lists.{All, done, more, all-append, any-append, filter-append}
-
-abbrev pub isEmpty : {A : Type 0} → List A → Bool
-isEmpty [] = true
-isEmpty (x ∷ l) = false
 
 pub empty-filter : {A : Type 0} (f : A → Bool) (l : List A) → isEmpty (filter f l) ≡ not (any f l)
 unfolding filter any

@@ -13,7 +13,8 @@ use borrow.Author.Tests.{ne-eqb}
 use Rattle.definitions.specs.Scan.{any, all, filter, onlyIf, member, addNew, addAll}
 use Rattle.definitions.specs.Grid.{Pair, contains}
 use Rattle.definitions.specs.RampMouths.{MouthShape, single, star, regionsOf, distinctRegions, commonRegions, starFrom, mouthShape}
-use Rattle.laws.specs.ListsAsSets.{isEmpty, empty-filter, any-addAll, filter-addAll}
+use Rattle.laws.specs.FullCut.{isEmpty}
+use Rattle.laws.specs.ListsAsSets.{empty-filter, any-addAll, filter-addAll}
 
 -- what an index outside the list gives; the Rust never reads there, as `full_cut` asks for a pair
 abbrev pub noPair : Pair
@@ -23,9 +24,9 @@ noPair = record { lo = 0; hi = 0 }
 --         .into_iter()
 --         .filter(|region| entry.region_pairs.iter().all(|pair| pair.contains(region)))
 --         .collect();
-unfoldable pub literalCommon : List Pair → List ℕ
+unfoldable pub commonRust : List Pair → List ℕ
 unfolding filter all
-literalCommon pairs =
+commonRust pairs =
     let first = getD pairs 0 noPair in
     filter (λ region. all (λ pair. contains region pair) pairs) (first .lo ∷ first .hi ∷ [])
 
@@ -52,13 +53,13 @@ pushInners outer inner (pair ∷ pairs) = pushInners outer (pushInner outer (pus
 --         outer: *outer,
 --         inner,
 --     })
-unfoldable pub literalStarFrom : List Pair → List ℕ → Option MouthShape
+unfoldable pub starFromRust : List Pair → List ℕ → Option MouthShape
 unfolding pushInners
-literalStarFrom pairs [] = none
-literalStarFrom pairs (outer ∷ []) =
+starFromRust pairs [] = none
+starFromRust pairs (outer ∷ []) =
     let inner = pushInners outer [] pairs in
     onlyIf (not (isEmpty inner)) (star outer inner)
-literalStarFrom pairs (u ∷ v ∷ common) = none
+starFromRust pairs (u ∷ v ∷ common) = none
 
 --     if !full_cut(entry) {
 --         return None;
@@ -66,10 +67,10 @@ literalStarFrom pairs (u ∷ v ∷ common) = none
 --     if entry.region_pairs.len() == 1 {
 --         return Some(MouthShape::Single(entry.region_pairs[0]));
 --     }
-unfoldable pub literalStar : Bool → List Pair → Option MouthShape
-unfolding literalStarFrom literalCommon
-literalStar full pairs =
-    cond (not full) none (cond (eqb (length pairs) 1) (some (single (getD pairs 0 noPair))) (literalStarFrom pairs (literalCommon pairs)))
+unfoldable pub starRust : Bool → List Pair → Option MouthShape
+unfolding starFromRust commonRust
+starRust full pairs =
+    cond (not full) none (cond (eqb (length pairs) 1) (some (single (getD pairs 0 noPair))) (starFromRust pairs (commonRust pairs)))
 
 -- ---- the inner regions
 
@@ -131,8 +132,8 @@ other-out f a b x h = go (f a) refl (f b) refl h
         short e = let z : _≡_ {A = ℕ} 0 1 = cc in omega arith
 
 module _ (p : Pair) (l : List Pair) where
-  some-inner : (outer : ℕ) → literalCommon (p ∷ l) ≡ outer ∷ [] → any (λ r. not (eqb r outer)) (distinctRegions (p ∷ l)) ≡ true
-  unfolding literalCommon distinctRegions any
+  some-inner : (outer : ℕ) → commonRust (p ∷ l) ≡ outer ∷ [] → any (λ r. not (eqb r outer)) (distinctRegions (p ∷ l)) ≡ true
+  unfolding commonRust distinctRegions any
   some-inner outer h = any-addAll f [] (regionsOf (p ∷ l)) ∙ go (f (p .lo)) (f (p .hi)) (other-out (λ r. all (contains r) (p ∷ l)) (p .lo) (p .hi) outer h)
     where
       f : ℕ → Bool
@@ -143,16 +144,16 @@ module _ (p : Pair) (l : List Pair) where
       go false true e = refl
       go false false e = absurd (false≢true e)
 
-  from-is : (common : List ℕ) → literalCommon (p ∷ l) ≡ common → literalStarFrom (p ∷ l) common ≡ starFrom (p ∷ l) common
-  unfolding literalStarFrom starFrom
+  from-is : (common : List ℕ) → commonRust (p ∷ l) ≡ common → starFromRust (p ∷ l) common ≡ starFrom (p ∷ l) common
+  unfolding starFromRust starFrom
   from-is [] h = refl
   from-is (outer ∷ []) h = rw (inner-is outer (p ∷ l), empty-filter (λ r. not (eqb r outer)) (distinctRegions (p ∷ l)), some-inner outer h) refl
   from-is (u ∷ v ∷ w) h = refl
 
 -- `star` of the Rust is `mouthShape`
-pub star-is : (full : Bool) (pairs : List Pair) → literalStar full pairs ≡ mouthShape full pairs
-unfolding literalStar literalStarFrom literalCommon mouthShape commonRegions filter all
+pub star-is : (full : Bool) (pairs : List Pair) → starRust full pairs ≡ mouthShape full pairs
+unfolding starRust starFromRust commonRust mouthShape commonRegions filter all
 star-is false pairs = refl
 star-is true [] = refl
 star-is true (p ∷ []) = refl
-star-is true (p ∷ q ∷ l) = rw (ne-eqb (length (p ∷ q ∷ l)) 1 (λ e. omega arith)) (from-is p (q ∷ l) (literalCommon (p ∷ q ∷ l)) refl)
+star-is true (p ∷ q ∷ l) = rw (ne-eqb (length (p ∷ q ∷ l)) 1 (λ e. omega arith)) (from-is p (q ∷ l) (commonRust (p ∷ q ∷ l)) refl)
