@@ -14,3 +14,10 @@ pub mod Stars
 pub mod AscendingPairs
 pub mod SortedMembers
 pub mod Triangles
+pub mod Sets
+pub mod Incidents
+pub mod MouthLiteral
+pub mod MouthLoop
+pub mod MouthFound
+pub mod MouthKept
+pub mod MouthChain

@@ -112,7 +112,7 @@ inner-is outer pairs = pushes-are outer [] pairs ∙ sym (filter-addAll (λ r. n
 -- ---- it is not empty
 
 -- of two numbers a filter leaves exactly x: then one of the two is not x
-other-out : (f : ℕ → Bool) (a b x : ℕ) → filter f (a ∷ b ∷ []) ≡ x ∷ [] → (not (eqb a x) || not (eqb b x)) ≡ true
+pub other-out : (f : ℕ → Bool) (a b x : ℕ) → filter f (a ∷ b ∷ []) ≡ x ∷ [] → (not (eqb a x) || not (eqb b x)) ≡ true
 unfolding filter
 other-out f a b x h = go (f a) refl (f b) refl h
   where

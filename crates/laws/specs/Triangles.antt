@@ -119,7 +119,7 @@ unfolding any
 any-regions r [] = refl
 any-regions r (p ∷ l) = ap (λ b. eqb (p .lo) r || (eqb (p .hi) r || b)) (any-regions r l) ∙ sym (or-assoc (eqb (p .lo) r) (eqb (p .hi) r) (any (contains r) l))
 
-any-not : {A : Type 0} (f g : A → Bool) → ((x : A) → f x ≡ g x) → (l : List A) → any (λ x. not (f x)) l ≡ not (all g l)
+pub any-not : {A : Type 0} (f g : A → Bool) → ((x : A) → f x ≡ g x) → (l : List A) → any (λ x. not (f x)) l ≡ not (all g l)
 unfolding any all
 any-not f g h [] = refl
 any-not f g h (x ∷ l) = rw (h x, any-not f g h l) (go (g x))
