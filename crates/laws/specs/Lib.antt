@@ -1,3 +1,5 @@
 pub mod Squares
 pub mod WholeRoot
 pub mod Patterns
+pub mod SameOrder
+pub mod PatternOrder
