@@ -1,5 +1,6 @@
 pub mod Squares
 pub mod WholeRoot
 pub mod Patterns
-pub mod SameOrder
+pub mod Comparisons
 pub mod PatternOrder
+pub mod NearestRoot

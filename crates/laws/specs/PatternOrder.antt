@@ -11,7 +11,7 @@ use lib.Pow.{pow-pos}
 use lib.Ieee.{Float, nan, inf, fin, binary64, fits, toBits}
 use Rattle.definitions.specs.Hypotenuse.{magnitude, inRange}
 use Rattle.definitions.specs.Nearest.{patternMagnitude}
-use Rattle.laws.specs.SameOrder.{SameOrder, leb-same, eqb-same}
+use Rattle.laws.specs.Comparisons.{le-or-lt, SameOrder, leb-same, eqb-same}
 use Rattle.laws.specs.Patterns.{magnitude-low, magnitude-normal, patternOf, read}
 
 -- ---- the next pattern
@@ -55,11 +55,7 @@ next-low b h = elim (last-or b h) [
 ]
 
 next : (b : ℕ) → patternMagnitude b < patternMagnitude (b + 1)
-next b = go (ltb b (2 ^ 52)) (ltb→lt b (2 ^ 52)) (nltb→le b (2 ^ 52))
-  where
-    go : (t : Bool) → (T t → b < 2 ^ 52) → (T (not t) → 2 ^ 52 ≤ b) → patternMagnitude b < patternMagnitude (b + 1)
-    go true y n = next-low b (y tt)
-    go false y n = next-normal b (n tt)
+next b = elim (le-or-lt (2 ^ 52) b) [ inl h ↦ next-normal b h | inr h ↦ next-low b h ]
 
 -- ---- any two patterns
 
@@ -106,7 +102,4 @@ in-range (fin s m e) f = at (magnitude (fin s m e)) (patternOf (fin s m e)) (rea
     at c b q =
         ap (λ (z : ℕ). eqb z 0 || (leb (2 ^ 1010) z && leb z (2 ^ 1089))) q
         ∙ (λ i. eqb (patternMagnitude b) (sym (ends .2) i) || (leb (sym (ends .0) i) (patternMagnitude b) && leb (patternMagnitude b) (sym (ends .1) i)))
-        ∙ (λ i.
-        eqb-same (patternMagnitude b) (patternMagnitude 0) b 0 (magnitude-order b 0) i
-        || (leb-same (patternMagnitude (959 * 2 ^ 52)) (patternMagnitude b) (959 * 2 ^ 52) b (magnitude-order (959 * 2 ^ 52) b) i
-        && leb-same (patternMagnitude b) (patternMagnitude (1038 * 2 ^ 52)) b (1038 * 2 ^ 52) (magnitude-order b (1038 * 2 ^ 52)) i))
+        ∙ (λ i. eqb-same (magnitude-order b 0) i || (leb-same (magnitude-order (959 * 2 ^ 52) b) i && leb-same (magnitude-order b (1038 * 2 ^ 52)) i))

@@ -1,23 +1,24 @@
 -- Bit patterns of doubles. `made`: the pattern of q * 2 ^ k smallest doubles is k * 2 ^ 52 + q, since the exponent's field and the fraction are one number and a carry runs from one into the other.
 -- `ofBits-value` and `read` go the other way: the double of a pattern has the magnitude `patternMagnitude`, and a double that fits has its magnitude from its pattern. Assumes nothing.
 use mathlib.Core.Path.{_≡_, refl, sym, ap, _∙_, subst}
-use mathlib.Core.Logic.{inl, inr}
+use mathlib.Core.Logic.{_⊎_, inl, inr}
 use Prim.Native.Nat.{ℕ, zero, suc, _+_, _-_, _*_, _/_, _%_, _^_, _≤_, _<_}
 use native.Mathlib.Nat.{mul-div-cancel, mul-one, mul-le-mul-right, mul-lt-mul-of-pos-right, lt-of-lt-of-le, lt-of-le-of-lt, lt-of-not-le, not-le-of-lt, le-trans, le-of-eq, le-antisymm, eq-or-lt-of-le, zero-add, mul-assoc, pow-succ', mod-eq-of-lt}
 use native.Mathlib.Omega.{arith}
 use mathlib.Core.Bool.{Bool, true, false, not, cond, true≢false}
 use lib.IntN.{ℤ}
 use lib.Dec.{T, leb, ltb, eqb, lt→ltb, ltb→lt, leb→le, not-T, eqb→eq, lit<, lit≤}
-use lib.Pow.{pow-add, pow-pos, pow-mono, pow-lt}
+use lib.Pow.{pow-add, pow-pos, pow-mono, pow-lt, shl-lt}
 use lib.Ieee.{Float, nan, inf, fin, binary64, up, down, size, odd, units, fits, ofFields, ofBits, toBits, nanBits}
 use lib.Ieee.Digits.{size-lt, size-le}
-use lib.Ieee.Fits.{down-pos, odd-fits}
-use lib.Ieee.Exact.{HasValue, odd-sign}
+use lib.Ieee.Fits.{down-pos, odd-fits, inf-fits}
+use lib.Ieee.Exact.{HasValue, odd-sign, units-val}
 use lib.Ieee.Scale.{finite}
 use lib.Ieee.Bits.{cond-no, is-true, ofBits-toBits, nanBits-above}
 use borrow.Author.Tests.{leb-false, lt-leb}
 use Rattle.definitions.specs.Hypotenuse.{magnitude}
 use Rattle.definitions.specs.Nearest.{patternMagnitude}
+use Rattle.laws.specs.Comparisons.{le-or-lt}
 
 -- ---- magnitudes
 
@@ -37,10 +38,7 @@ pub magnitude-normal : (b : ℕ) → 2 ^ 52 ≤ b → patternMagnitude b ≡ (2 
 unfolding patternMagnitude
 magnitude-normal b h = cond-no (ltb b (2 ^ 52)) b _ (not-T (ltb b (2 ^ 52)) (λ t. not-le-of-lt (ltb→lt b (2 ^ 52) t) h))
 
--- ---- from digits to a pattern: q has 53 of them, or is 2 ^ 53
-
-size-exact : (a n : ℕ) → 2 ^ a ≤ n → n < 2 ^ suc a → size n ≡ suc a
-size-exact a n lo hi = le-antisymm (size-le n (suc a) hi) (lt-of-not-le (λ (g : size n ≤ a). not-le-of-lt (lt-of-lt-of-le (size-lt n) (pow-mono g)) lo))
+-- ---- from digits to a pattern
 
 -- `toBits` of a double that is not negative sees only its magnitude n
 written : (x : Float) (n : ℕ) → HasValue x false n (2 ^ 1074) → toBits binary64 x ≡ (size n - 53) * 2 ^ 52 + n / 2 ^ (size n - 53)
@@ -52,28 +50,35 @@ written (fin false m e) n h =
     ap (λ (z : ℕ). 0 + (size z - 53) * 2 ^ 52 + z / 2 ^ (size z - 53)) (ap (λ (z : ℕ). z / down e) (h .1) ∙ mul-div-cancel n (down-pos e))
     ∙ ap (λ (z : ℕ). z + n / 2 ^ (size n - 53)) (zero-add ((size n - 53) * 2 ^ 52))
 
-pattern-of : (q k : ℕ) → 2 ^ 52 ≤ q → q < 2 ^ 53 → (size (q * 2 ^ k) - 53) * 2 ^ 52 + q * 2 ^ k / 2 ^ (size (q * 2 ^ k) - 53) ≡ k * 2 ^ 52 + q
-pattern-of q k lo hi =
-    let a : 2 ^ (52 + k) ≤ q * 2 ^ k = le-trans (le-of-eq (pow-add 2 52 k)) (mul-le-mul-right (2 ^ k) lo) in
-    let b : q * 2 ^ k < 2 ^ suc (52 + k) = lt-of-lt-of-le (mul-lt-mul-of-pos-right hi (pow-pos k)) (le-of-eq (sym (pow-add 2 53 k) ∙ ap (λ (z : ℕ). 2 ^ z) (up-53 k))) in
-    ap (λ (z : ℕ). z * 2 ^ 52 + q * 2 ^ k / 2 ^ z) (drop-53 k (size (q * 2 ^ k)) (size-exact (52 + k) (q * 2 ^ k) a b))
-    ∙ ap (λ (z : ℕ). k * 2 ^ 52 + z) (mul-div-cancel q (pow-pos k))
-  where
-    up-53 : (k : ℕ) → 53 + k ≡ suc (52 + k)
-    up-53 k = omega arith
+-- q has 53 digits, or is 2 ^ 53, or has fewer and nothing was dropped
+abbrev pub Leading : ℕ → ℕ → Type 0
+Leading q k = (2 ^ 52 ≤ q) ⊎ (k ≡ 0)
 
-    drop-53 : (k z : ℕ) → z ≡ suc (52 + k) → z - 53 ≡ k
-    drop-53 k z h = omega arith
+drop-53 : (q k : ℕ) → Leading q k → q < 2 ^ 53 → size (q * 2 ^ k) - 53 ≡ k
+drop-53 q k (inl lo) hi =
+    exact (size (q * 2 ^ k)) k
+    (size-le (q * 2 ^ k) (53 + k) (shl-lt 53 k hi))
+    (lt-of-not-le (λ (g : size (q * 2 ^ k) ≤ 52 + k). not-le-of-lt (lt-of-lt-of-le (size-lt (q * 2 ^ k)) (pow-mono g)) (le-trans (le-of-eq (pow-add 2 52 k)) (mul-le-mul-right (2 ^ k) lo))))
+  where
+    exact : (z k : ℕ) → z ≤ 53 + k → 52 + k < z → z - 53 ≡ k
+    exact z k a b = omega arith
+drop-53 q k (inr e) hi = subst (λ (k : ℕ). size (q * 2 ^ k) - 53 ≡ k) (sym e) (none (size (q * 2 ^ 0)) (size-le (q * 2 ^ 0) 53 (shl-lt 53 0 hi)))
+  where
+    none : (z : ℕ) → z ≤ 53 → z - 53 ≡ 0
+    none z h = omega arith
 
 -- 2 ^ 53 times 2 ^ k is 2 ^ 52 times 2 ^ (k + 1)
-pattern-at : (q k : ℕ) → 2 ^ 52 ≤ q → q ≤ 2 ^ 53 → (size (q * 2 ^ k) - 53) * 2 ^ 52 + q * 2 ^ k / 2 ^ (size (q * 2 ^ k) - 53) ≡ k * 2 ^ 52 + q
-pattern-at q k lo hi = elim (eq-or-lt-of-le hi) [
+pattern-at : (q k : ℕ) → Leading q k → q ≤ 2 ^ 53 → (size (q * 2 ^ k) - 53) * 2 ^ 52 + q * 2 ^ k / 2 ^ (size (q * 2 ^ k) - 53) ≡ k * 2 ^ 52 + q
+pattern-at q k lead hi = elim (eq-or-lt-of-le hi) [
   | inl e ↦
       let r : q * 2 ^ k ≡ 2 ^ 52 * 2 ^ suc k = ap (λ (z : ℕ). z * 2 ^ k) e ∙ mul-assoc (2 ^ 52) 2 (2 ^ k) ∙ ap (λ (z : ℕ). 2 ^ 52 * z) (sym (pow-succ' 2 k)) in
-      ap (λ (z : ℕ). (size z - 53) * 2 ^ 52 + z / 2 ^ (size z - 53)) r ∙ pattern-of (2 ^ 52) (suc k) (lit≤ tt) (lit< tt) ∙ carried k q e
-  | inr l ↦ pattern-of q k lo l
+      ap (λ (z : ℕ). (size z - 53) * 2 ^ 52 + z / 2 ^ (size z - 53)) r ∙ below (2 ^ 52) (suc k) (inl (lit≤ tt)) (lit< tt) ∙ carried k q e
+  | inr l ↦ below q k lead l
 ]
   where
+    below : (q k : ℕ) → Leading q k → q < 2 ^ 53 → (size (q * 2 ^ k) - 53) * 2 ^ 52 + q * 2 ^ k / 2 ^ (size (q * 2 ^ k) - 53) ≡ k * 2 ^ 52 + q
+    below q k lead l = ap (λ (z : ℕ). z * 2 ^ 52 + q * 2 ^ k / 2 ^ z) (drop-53 q k lead l) ∙ ap (λ (z : ℕ). k * 2 ^ 52 + z) (mul-div-cancel q (pow-pos k))
+
     carried : (k q : ℕ) → q ≡ 2 ^ 53 → suc k * 2 ^ 52 + 2 ^ 52 ≡ k * 2 ^ 52 + q
     carried k q e = omega arith
 
@@ -84,17 +89,54 @@ room q k h l = lt-of-le-of-lt (mul-le-mul-right (2 ^ k) h) (lt-of-le-of-lt (le-o
     far : (k : ℕ) → k < 2045 → 53 + k < 2098
     far k h = omega arith
 
-units-odd : (q k : ℕ) → q * 2 ^ k < 2 ^ 2098 → units binary64 false q k ≡ odd 54 false q k 1074
+pub toBits-units : (q k : ℕ) → Leading q k → q ≤ 2 ^ 53 → k < 2045 → toBits binary64 (units binary64 false q k) ≡ k * 2 ^ 52 + q
+toBits-units q k lead hi l = written (units binary64 false q k) (q * 2 ^ k) (units-val binary64 false q k (room q k hi l)) ∙ pattern-at q k lead hi
+
+pub units-fits : (q k : ℕ) → q ≤ 2 ^ 53 → T (fits binary64 (units binary64 false q k))
 unfolding units
-units-odd q k h = ap (λ (b : Bool). cond b (odd 54 false q k 1074) (inf false)) (is-true (ltb (q * 2 ^ k) (2 ^ 2098)) (lt→ltb (q * 2 ^ k) (2 ^ 2098) h))
+units-fits q k h = go (ltb (q * 2 ^ k) (2 ^ 2098)) (ltb→lt (q * 2 ^ k) (2 ^ 2098))
+  where
+    go : (b : Bool) → (T b → q * 2 ^ k < 2 ^ 2098) → T (fits binary64 (cond b (odd 54 false q k 1074) (inf false)))
+    go true l = odd-fits binary64 54 false q k (lt-of-le-of-lt h (lit< tt)) h (l tt)
+    go false l = inf-fits binary64 false
 
 pub made : (q k : ℕ) → 2 ^ 52 ≤ q → q ≤ 2 ^ 53 → k < 2045 → ofBits binary64 (k * 2 ^ 52 + q) ≡ units binary64 false q k
-made q k lo hi l =
-    let x = odd 54 false q k 1074 in
-    let f : T (fits binary64 x) = odd-fits binary64 54 false q k (lt-of-le-of-lt hi (lit< tt)) hi (room q k hi l) in
-    ap (ofBits binary64) (sym (written x (q * 2 ^ k) (odd-sign 54 false q k 1074) ∙ pattern-at q k lo hi))
-    ∙ ofBits-toBits binary64 x f
-    ∙ sym (units-odd q k (room q k hi l))
+made q k lo hi l = ap (ofBits binary64) (sym (toBits-units q k (inl lo) hi l)) ∙ ofBits-toBits binary64 (units binary64 false q k) (units-fits q k hi)
+
+-- the magnitude of that pattern
+magnitude-53 : (q k : ℕ) → 2 ^ 52 ≤ q → q < 2 ^ 53 → patternMagnitude (k * 2 ^ 52 + q) ≡ q * 2 ^ k
+magnitude-53 q k lo hi =
+    magnitude-normal (k * 2 ^ 52 + q) (omega arith)
+    ∙ ap (λ (z : ℕ). z * 2 ^ ((k * 2 ^ 52 + q) / 2 ^ 52 - 1)) (fraction q k lo hi)
+    ∙ ap (λ (z : ℕ). q * 2 ^ z) (exponent q k lo hi)
+  where
+    fraction : (q k : ℕ) → 2 ^ 52 ≤ q → q < 2 ^ 53 → 2 ^ 52 + (k * 2 ^ 52 + q) % 2 ^ 52 ≡ q
+    fraction q k lo hi = omega arith
+
+    exponent : (q k : ℕ) → 2 ^ 52 ≤ q → q < 2 ^ 53 → (k * 2 ^ 52 + q) / 2 ^ 52 - 1 ≡ k
+    exponent q k lo hi = omega arith
+
+pub magnitude-at : (q k : ℕ) → Leading q k → q ≤ 2 ^ 53 → patternMagnitude (k * 2 ^ 52 + q) ≡ q * 2 ^ k
+magnitude-at q k lead hi = go lead (eq-or-lt-of-le hi)
+  where
+    carried : (k q : ℕ) → q ≡ 2 ^ 53 → k * 2 ^ 52 + q ≡ suc k * 2 ^ 52 + 2 ^ 52
+    carried k q e = omega arith
+
+    few : (q : ℕ) → q < 2 ^ 53 → patternMagnitude (0 * 2 ^ 52 + q) ≡ q * 2 ^ 0
+    few q h = elim (le-or-lt (2 ^ 52) q) [
+      | inl l ↦ magnitude-53 q 0 l h
+      | inr l ↦ ap patternMagnitude (zero-add q) ∙ magnitude-low q l ∙ sym (mul-one q)
+    ]
+
+    go : Leading q k → (q ≡ 2 ^ 53) ⊎ (q < 2 ^ 53) → patternMagnitude (k * 2 ^ 52 + q) ≡ q * 2 ^ k
+    go lead (inl e) =
+        ap patternMagnitude (carried k q e)
+        ∙ magnitude-53 (2 ^ 52) (suc k) (lit≤ tt) (lit< tt)
+        ∙ ap (λ (z : ℕ). 2 ^ 52 * z) (pow-succ' 2 k)
+        ∙ sym (mul-assoc (2 ^ 52) 2 (2 ^ k))
+        ∙ ap (λ (z : ℕ). z * 2 ^ k) (sym e)
+    go (inl lo) (inr l) = magnitude-53 q k lo l
+    go (inr z) (inr l) = subst (λ (k : ℕ). patternMagnitude (k * 2 ^ 52 + q) ≡ q * 2 ^ k) (sym z) (few q l)
 
 -- a pattern up to the infinity's is no NaN's
 pub no-nan : (b : ℕ) → b ≤ 2047 * 2 ^ 52 → T (not (nanBits binary64 b))

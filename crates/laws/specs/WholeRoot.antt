@@ -10,7 +10,7 @@ use lib.Dec.{T, leb, leb→le, nleb→lt}
 use lib.Pow.{pow-add, pow-mono}
 use lib.Ieee.{Float, size, nearest, units, binary64}
 use lib.Ieee.Digits.{size-lt, size-le}
-use Rattle.definitions.specs.Hypotenuse.{digit, wholeRoot, roundedRoot, rootOf}
+use Rattle.definitions.specs.Hypotenuse.{digit, wholeRoot, rootOf}
 use Rattle.laws.specs.Squares.{square-twice, square-next, lt-of-squares}
 
 -- ---- the whole root
@@ -41,10 +41,14 @@ four-pow (suc d) =
     ∙ ap (λ (x : ℕ). x * 4) (four-pow d)
     ∙ sym (pow-suc 4 d)
 
-pub enough-digits : (s : ℕ) → s < 4 ^ (size s / 2 + 1)
-enough-digits s =
+-- the whole root that `rootOf` takes
+abbrev pub rootFor : ℕ → ℕ
+rootFor s = wholeRoot (size s / 2 + 1) s
+
+pub rootFor-is : (s : ℕ) → IsWholeRoot s (rootFor s)
+rootFor-is s =
     let d = size s / 2 + 1 in
-    lt-of-lt-of-le (size-lt s) (le-trans (pow-mono (even (size s))) (le-of-eq (pow-add 2 d d ∙ four-pow d)))
+    wholeRoot-is d s (lt-of-lt-of-le (size-lt s) (le-trans (pow-mono (even (size s))) (le-of-eq (pow-add 2 d d ∙ four-pow d))))
   where
     even : (z : ℕ) → z ≤ z / 2 + 1 + (z / 2 + 1)
     even z = omega arith
@@ -55,9 +59,9 @@ enough-digits s =
 abbrev pub rootAt : ℕ → ℕ → ℕ → Float
 rootAt s q k = units binary64 false (nearest q (compare (4 * s) ((2 * q + 1) * 2 ^ k * ((2 * q + 1) * 2 ^ k)))) k
 
-pub roundedRoot-at : (s n : ℕ) → roundedRoot s n ≡ rootAt s (n / 2 ^ (size n - 53)) (size n - 53)
-unfolding roundedRoot
-roundedRoot-at s n = refl
+pub rootOf-at : (s : ℕ) → rootOf s ≡ rootAt s (rootFor s / 2 ^ (size (rootFor s) - 53)) (size (rootFor s) - 53)
+unfolding rootOf
+rootOf-at s = refl
 
 module _ (s n q k : ℕ) (r : IsWholeRoot s n) (lo : 2 ^ 52 ≤ q) (hi : q < 2 ^ 53) (a : q * 2 ^ k * (q * 2 ^ k) ≤ s) (b : s < (q + 1) * 2 ^ k * ((q + 1) * 2 ^ k)) where
   root-ge : q * 2 ^ k ≤ n
@@ -78,12 +82,10 @@ module _ (s n q k : ℕ) (r : IsWholeRoot s n) (lo : 2 ^ 52 ≤ q) (hi : q < 2 ^
       from-size : (z k : ℕ) → z ≤ 53 + k → 52 + k < z → z - 53 ≡ k
       from-size z k a b = omega arith
 
-  roundedRoot-is : roundedRoot s n ≡ rootAt s q k
-  roundedRoot-is =
-      roundedRoot-at s n
-      ∙ ap (λ (z : ℕ). rootAt s (n / 2 ^ z) z) dropped
-      ∙ ap (λ (z : ℕ). rootAt s z k) (div-eq-of-lt-le (2 ^ k) root-ge root-lt)
-
 pub rootOf-is : (s q k : ℕ) → 2 ^ 52 ≤ q → q < 2 ^ 53 → q * 2 ^ k * (q * 2 ^ k) ≤ s → s < (q + 1) * 2 ^ k * ((q + 1) * 2 ^ k) → rootOf s ≡ rootAt s q k
-unfolding rootOf
-rootOf-is s q k lo hi a b = let d = size s / 2 + 1 in roundedRoot-is s (wholeRoot d s) q k (wholeRoot-is d s (enough-digits s)) lo hi a b
+rootOf-is s q k lo hi a b =
+    let n = rootFor s in
+    let r : IsWholeRoot s n = rootFor-is s in
+    rootOf-at s
+    ∙ ap (λ (z : ℕ). rootAt s (n / 2 ^ z) z) (dropped s n q k r lo hi a b)
+    ∙ ap (λ (z : ℕ). rootAt s z k) (div-eq-of-lt-le (2 ^ k) (root-ge s n q k r lo hi a b) (root-lt s n q k r lo hi a b))

@@ -1,10 +1,17 @@
--- Two pairs of numbers in the same order have the same results of `leb`, `ltb` and `eqb`. Assumes nothing.
+-- Comparisons of whole numbers: of two one is not above the other, and pairs in the same order have the same results of `leb`, `ltb` and `eqb`. Assumes nothing.
 use mathlib.Core.Path.{_≡_, refl, sym, subst}
-use mathlib.Core.Logic.{_↔_}
+use mathlib.Core.Logic.{_↔_, _⊎_, inl, inr}
 use Prim.Native.Nat.{ℕ, _≤_, _<_}
 use native.Mathlib.Nat.{le-antisymm, le-of-eq, lt-of-not-le, not-le-of-lt}
-use mathlib.Core.Bool.{Bool, true, false}
-use lib.Dec.{T, leb, ltb, eqb, leb→le, le→leb, ltb→lt, lt→ltb, eqb→eq, eqb-refl}
+use mathlib.Core.Bool.{Bool, true, false, not}
+use lib.Dec.{T, leb, ltb, eqb, leb→le, le→leb, nleb→lt, ltb→lt, lt→ltb, eqb→eq, eqb-refl}
+
+pub le-or-lt : (a b : ℕ) → (a ≤ b) ⊎ (b < a)
+le-or-lt a b = go (leb a b) (leb→le a b) (nleb→lt a b)
+  where
+    go : (t : Bool) → (T t → a ≤ b) → (T (not t) → b < a) → (a ≤ b) ⊎ (b < a)
+    go true y n = inl (y tt)
+    go false y n = inr (n tt)
 
 pub same-test : (p q : Bool) → (T p → T q) → (T q → T p) → p ≡ q
 same-test true true f g = refl
@@ -16,7 +23,7 @@ same-test false false f g = refl
 abbrev pub SameOrder : (a b c d : ℕ) → Type 0
 SameOrder a b c d = (a ≤ b ↔ c ≤ d) × (b ≤ a ↔ d ≤ c)
 
-module _ (a b c d : ℕ) (h : SameOrder a b c d) where
+module _ {a b c d : ℕ} (h : SameOrder a b c d) where
   pub leb-same : leb a b ≡ leb c d
   leb-same = same-test (leb a b) (leb c d) (λ t. le→leb c d (h .0 .0 (leb→le a b t))) (λ t. le→leb a b (h .0 .1 (leb→le c d t)))
 
