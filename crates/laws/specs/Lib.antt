@@ -4,3 +4,4 @@ pub mod Patterns
 pub mod Comparisons
 pub mod PatternOrder
 pub mod NearestRoot
+pub mod Hypotenuse

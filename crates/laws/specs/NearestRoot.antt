@@ -200,7 +200,10 @@ module _ (n : ℕ) (some : 0 < n) where
   next-gt : n + 1 ≤ (kept + 1) * 2 ^ dropped
   next-gt = le-trans (le-of-eq (add-one n)) (div-lt-iff-lt-mul (pow-pos dropped) .0 (subst (λ (x : ℕ). kept < x) (sym (add-one kept)) (le-refl (suc kept))))
 
--- 2 ^ 2097 is half of what an infinity stands for, so that no rounding reaches one
+-- an infinity stands for 2 ^ 2098, so a root below half of that has no more than 2097 digits and is not rounded to one
+pub few-dropped : (s : ℕ) → s < 2 ^ 2097 * 2 ^ 2097 → size (rootFor s) - 53 < 2045
+few-dropped s h = let few : size (rootFor s) ≤ 2097 = size-le (rootFor s) 2097 (lt-of-squares (rootFor s) (2 ^ 2097) (lt-of-le-of-lt (rootFor-is s .0) h)) in omega arith
+
 pub rootOf-nearest : (s : ℕ) → s < 2 ^ 2097 * 2 ^ 2097 → Nearest s (toBits binary64 (rootOf s))
 rootOf-nearest s h = elim (eq-zero-or-pos s) [
   | inl z ↦ subst (λ (s : ℕ). Nearest s (toBits binary64 (rootOf s))) (sym z) at-zero
@@ -209,10 +212,9 @@ rootOf-nearest s h = elim (eq-zero-or-pos s) [
       let r : IsWholeRoot s n = rootFor-is s in
       let l : 1 < n + 1 = lt-of-squares 1 (n + 1) (lt-of-le-of-lt p (r .1)) in
       let some : 0 < n = omega arith in
-      let few : size n ≤ 2097 = size-le n 2097 (lt-of-squares n (2 ^ 2097) (lt-of-le-of-lt (r .0) h)) in
       subst (λ (x : Float). Nearest s (toBits binary64 x)) (sym (rootOf-at s))
       (meets s (kept n some) (dropped n some) (kept-leading n some) (kept-some n some) (kept-lt 53 n)
       (le-trans (square-le (kept n some * 2 ^ dropped n some) n (kept-le n some)) (r .0))
       (lt-of-lt-of-le (r .1) (square-le (n + 1) ((kept n some + 1) * 2 ^ dropped n some) (next-gt n some)))
-      (omega arith))
+      (few-dropped s h))
 ]

@@ -83,7 +83,7 @@ pattern-at q k lead hi = elim (eq-or-lt-of-le hi) [
     carried k q e = omega arith
 
 -- no infinity yet
-room : (q k : ℕ) → q ≤ 2 ^ 53 → k < 2045 → q * 2 ^ k < 2 ^ 2098
+pub room : (q k : ℕ) → q ≤ 2 ^ 53 → k < 2045 → q * 2 ^ k < 2 ^ 2098
 room q k h l = lt-of-le-of-lt (mul-le-mul-right (2 ^ k) h) (lt-of-le-of-lt (le-of-eq (sym (pow-add 2 53 k))) (pow-lt (far k l)))
   where
     far : (k : ℕ) → k < 2045 → 53 + k < 2098
@@ -228,6 +228,11 @@ module _ (s : Bool) (m : ℕ) (e : ℤ) (f : T (fits binary64 (fin s m e))) wher
 
 abbrev pub SignClear : Float → Type 0
 SignClear x = (m : ℕ) × (e : ℤ) × (x ≡ fin false m e)
+
+pub clear-of : (x : Float) (a c : ℕ) → HasValue x false a c → SignClear x
+clear-of nan a c h = absurd h
+clear-of (inf t) a c h = absurd h
+clear-of (fin t m e) a c h = (m, e, ap (λ (t : Bool). fin t m e) (h .0))
 
 clear-below : (m : ℕ) (e : ℤ) → T (fits binary64 (fin false m e)) → toBits binary64 (fin false m e) < 2047 * 2 ^ 52
 clear-below m e f = whole (word false m e f) (leb-false (2 ^ 63) (word false m e f) (sym (word-value false m e f .0))) (finite-word false m e f)
