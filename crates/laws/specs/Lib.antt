@@ -5,3 +5,4 @@ pub mod Comparisons
 pub mod PatternOrder
 pub mod NearestRoot
 pub mod Hypotenuse
+pub mod KeysAsBits
