@@ -1,20 +1,21 @@
 -- `hypotOf` is what document 01 asks for: for two doubles in range the double nearest to the root of the sum of squares, ties to the even significand; +0 for zeros;
 -- never a NaN, never with its sign set, always a double. In range the magnitudes are at most 2 ^ 1089 smallest doubles, far below the infinities. Assumes nothing.
-use mathlib.Core.Path.{_≡_, refl, sym, ap, _∙_, subst}
+use mathlib.Core.Path.{_≡_, refl, sym, ap, subst}
 use mathlib.Core.Logic.{_⊎_, inl, inr}
-use Prim.Native.Nat.{ℕ, _+_, _-_, _*_, _/_, _^_, _≤_, _<_, compare, zero-le}
+use Prim.Native.Nat.{ℕ, _*_, _^_, _≤_, _<_, zero-le}
 use native.Mathlib.Nat.{le-trans, le-of-eq, lt-of-le-of-lt, add-le-add}
 use mathlib.Core.Bool.{Bool, true, false, cond, _&&_, _||_, true≢false}
 use lib.IntN.{pos}
 use lib.Dec.{T, leb, ltb, eqb, leb→le, eqb→eq, lit<}
-use lib.Ieee.{Float, nan, inf, fin, binary64, size, nearest, odd, units, fits, isNan, toBits}
+use lib.Ieee.{Float, nan, inf, fin, binary64, nearest, odd, units, fits, isNan, toBits}
 use lib.Ieee.Fits.{nearest-le, kept-lt, cond-fits}
 use lib.Ieee.Exact.{odd-sign, units-val}
 use Rattle.definitions.specs.Hypotenuse.{rootOf, magnitude, sumOfSquares, hypotOf, inRange, hypotValue}
 use Rattle.definitions.specs.Nearest.{Nearest}
 use Rattle.laws.specs.Squares.{square-le}
-use Rattle.laws.specs.WholeRoot.{rootFor, rootOf-at}
-use Rattle.laws.specs.Patterns.{SignClear, clear-of, room, units-fits}
+use Rattle.laws.specs.LeadingDigits.{dropped, kept}
+use Rattle.laws.specs.WholeRoot.{rootFor, againstMiddle, rootOf-at}
+use Rattle.laws.specs.Patterns.{SignClear, clear-of, no-overflow, units-fits}
 use Rattle.laws.specs.NearestRoot.{few-dropped, rootOf-nearest}
 
 -- ---- the root of any s
@@ -27,28 +28,25 @@ units-sign q k = go (ltb (q * 2 ^ k) (2 ^ 2098))
     go true = inr (clear-of (odd 54 false q k 1074) (q * 2 ^ k) (2 ^ 1074) (odd-sign 54 false q k 1074))
     go false = inl refl
 
+units-clear : (q k : ℕ) → q ≤ 2 ^ 53 → k < 2045 → SignClear (units binary64 false q k)
+units-clear q k h l = clear-of (units binary64 false q k) (q * 2 ^ k) (2 ^ 1074) (units-val binary64 false q k (no-overflow q k h l))
+
 module _ (s : ℕ) where
-  abbrev dropped : ℕ
-  dropped = size (rootFor s) - 53
-
-  abbrev kept : ℕ
-  kept = rootFor s / 2 ^ dropped
-
-  -- the digits of the result
-  abbrev digits : ℕ
-  digits = nearest kept (compare (4 * s) ((2 * kept + 1) * 2 ^ dropped * ((2 * kept + 1) * 2 ^ dropped)))
-
-  digits-le : digits ≤ 2 ^ 53
-  digits-le = le-trans (nearest-le kept (compare (4 * s) ((2 * kept + 1) * 2 ^ dropped * ((2 * kept + 1) * 2 ^ dropped)))) (kept-lt 53 (rootFor s))
+  -- `rootOf` gives a double of at most 53 digits, or the next power of two
+  made-of : (P : Float → Type 0) → ((q : ℕ) → q ≤ 2 ^ 53 → P (units binary64 false q (dropped (rootFor s)))) → P (rootOf s)
+  made-of P f =
+      let n = rootFor s in
+      let o = againstMiddle s (kept n) (dropped n) in
+      subst P (sym (rootOf-at s)) (f (nearest (kept n) o) (le-trans (nearest-le (kept n) o) (kept-lt 53 n)))
 
   rootOf-fits : T (fits binary64 (rootOf s))
-  rootOf-fits = subst (λ (x : Float). T (fits binary64 x)) (sym (rootOf-at s)) (units-fits digits dropped digits-le)
+  rootOf-fits = made-of (λ x. T (fits binary64 x)) (λ q h. units-fits q (dropped (rootFor s)) h)
 
   rootOf-sign : (rootOf s ≡ inf false) ⊎ SignClear (rootOf s)
-  rootOf-sign = subst (λ (x : Float). (x ≡ inf false) ⊎ SignClear x) (sym (rootOf-at s)) (units-sign digits dropped)
+  rootOf-sign = made-of (λ x. (x ≡ inf false) ⊎ SignClear x) (λ q h. units-sign q (dropped (rootFor s)))
 
   rootOf-clear : s < 2 ^ 2097 * 2 ^ 2097 → SignClear (rootOf s)
-  rootOf-clear h = subst SignClear (sym (rootOf-at s)) (clear-of (units binary64 false digits dropped) (digits * 2 ^ dropped) (2 ^ 1074) (units-val binary64 false digits dropped (room digits dropped digits-le (few-dropped s h))))
+  rootOf-clear l = made-of SignClear (λ q h. units-clear q (dropped (rootFor s)) h (few-dropped s l))
 
 -- ---- the hypotenuse of any two doubles
 

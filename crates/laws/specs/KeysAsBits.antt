@@ -1,21 +1,22 @@
--- Widths and separations stand in the passes' keys as their bit patterns. For finite doubles whose sign is clear this is their order: `lt`, `le` and `eq` of IEEE 754 are `ltb`, `leb` and `eqb` of the patterns,
--- since a pattern's magnitude grows with the pattern and the magnitudes compare as the values do. So Rust's `partial_cmp` of two such doubles is the order of their bits.
--- IEEE 754-2019's totalOrder of them is the order of the numbers too, with +0 least: there is one double for each number, as -0 has its sign set.
--- Rust's `f64::total_cmp` compares sign and magnitude of the two patterns, which for patterns with the sign clear is their order as numbers. Assumes nothing.
-use mathlib.Core.Path.{_≡_, refl, sym, ap, _∙_, subst}
-use mathlib.Core.Logic.{_↔_, _⊎_, inl, inr}
+-- Widths and separations stand in the passes' keys as their bit patterns. For finite doubles whose sign is clear this is their order: IEEE 754's `lt`, `le` and `eq` of them
+-- are `ltb`, `leb` and `eqb` of the patterns, since the magnitude grows with the pattern, and values compare as their magnitudes. So Rust's `partial_cmp` of them is the order of the bits.
+-- IEEE 754-2019's totalOrder of them is the numerical order too, with +0 least: each number has one such double, -0 having its sign set.
+-- Rust's `f64::total_cmp` compares the patterns as signs and magnitudes, which for patterns with the sign clear is the same again. Assumes nothing.
+use mathlib.Core.Path.{_≡_, refl, sym, _∙_}
+use mathlib.Core.Logic.{_↔_, inl, inr}
 use Prim.Native.Nat.{ℕ, _*_, _^_, _≤_, _<_}
-use native.Mathlib.Nat.{le-of-eq, le-of-lt, eq-or-lt-of-le, mul-le-mul-right, le-of-mul-le-mul-right}
+use native.Mathlib.Nat.{not-le-of-lt, le-of-eq, le-of-lt, eq-or-lt-of-le, mul-le-mul-right, le-of-mul-le-mul-right}
 use mathlib.Core.Bool.{Bool, true, false, _&&_, _||_, true≢false}
-use lib.Dec.{T, leb, ltb, eqb, leb→le, le→leb, ltb→lt, lt→ltb, eqb→eq}
+use lib.Dec.{T, leb, ltb, eqb}
 use lib.Pow.{pow-pos}
 use lib.Ieee.{Float, nan, inf, fin, binary64, up, down, lt, le, eq, fits, ofBits, toBits}
-use lib.Ieee.Fits.{eq→eqb, down-pos}
+use lib.Ieee.Fits.{down-pos}
 use lib.Ieee.Exact.{HasValue}
 use lib.Ieee.Order.{transfer}
 use lib.Ieee.Bits.{ofBits-toBits}
+use borrow.Author.Tests.{lt-ltb, le-ltb, le-leb, lt-leb, eq-eqb, ne-eqb}
 use Rattle.definitions.specs.Nearest.{patternMagnitude}
-use Rattle.laws.specs.Comparisons.{SameOrder, same-test, leb-same, ltb-same, eqb-same}
+use Rattle.laws.specs.Comparisons.{le-or-lt, SameOrder, leb-same, ltb-same, eqb-same}
 use Rattle.laws.specs.Patterns.{SignClear, toBits-below, ofBits-below}
 use Rattle.laws.specs.PatternOrder.{magnitude-order}
 
@@ -30,24 +31,13 @@ and-true true = refl
 and-true false = refl
 
 below-or-level : (a b : ℕ) → (ltb a b || (eqb a b && true)) ≡ leb a b
-below-or-level a b = ap (λ (t : Bool). ltb a b || t) (and-true (eqb a b)) ∙ same-test (ltb a b || eqb a b) (leb a b) (either (ltb a b) (eqb a b) (ltb→lt a b) (eqb→eq a b)) (λ t. go (eq-or-lt-of-le (leb→le a b t)))
-  where
-    either : (p q : Bool) → (T p → a < b) → (T q → a ≡ b) → T (p || q) → T (leb a b)
-    either true q f g t = le→leb a b (le-of-lt (f tt))
-    either false true f g t = le→leb a b (le-of-eq (g tt))
-    either false false f g t = absurd t
-
-    right : (p q : Bool) → T q → T (p || q)
-    right true q t = tt
-    right false q t = t
-
-    left : (p q : Bool) → T p → T (p || q)
-    left true q t = tt
-    left false q t = absurd t
-
-    go : (a ≡ b) ⊎ (a < b) → T (ltb a b || eqb a b)
-    go (inl e) = right (ltb a b) (eqb a b) (eq→eqb e)
-    go (inr l) = left (ltb a b) (eqb a b) (lt→ltb a b l)
+below-or-level a b = elim (le-or-lt a b) [
+  | inl h ↦ elim (eq-or-lt-of-le h) [
+    | inl e ↦ (λ i. le-ltb a b (le-of-eq (sym e)) i || (eq-eqb a b e i && true)) ∙ sym (le-leb a b h)
+    | inr l ↦ (λ i. lt-ltb a b l i || (eqb a b && true)) ∙ sym (le-leb a b h)
+  ]
+  | inr l ↦ (λ i. le-ltb a b (le-of-lt l) i || (ne-eqb a b (λ e. not-le-of-lt l (le-of-eq e)) i && true)) ∙ sym (lt-leb a b l)
+]
 
 -- the three comparisons of x and y are those of a and b
 abbrev Alike : Float → Float → ℕ → ℕ → Type 0

@@ -1,4 +1,5 @@
 pub mod Squares
+pub mod LeadingDigits
 pub mod WholeRoot
 pub mod Patterns
 pub mod Comparisons

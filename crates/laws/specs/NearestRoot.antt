@@ -3,22 +3,22 @@
 -- q + 1 in the next one's, and the one comparison of `roundedRoot` is that with the middle of these two. Assumes nothing.
 use mathlib.Core.Path.{_≡_, refl, sym, ap, _∙_, subst}
 use mathlib.Core.Logic.{_⊎_, inl, inr}
-use Prim.Native.Nat.{ℕ, zero, suc, _+_, _-_, _*_, _/_, _%_, _^_, _≤_, _<_, compare, Ordering, Ordering·lt, Ordering·eq, Ordering·gt}
-use native.Mathlib.Nat.{le-trans, le-of-eq, le-of-lt, lt-of-lt-of-le, lt-of-le-of-lt, lt-of-not-le, not-le-of-lt, le-refl, le-antisymm, le-of-suc-le-suc, eq-or-lt-of-le, eq-zero-or-pos, add-le-add, add-mul, add-assoc, mul-assoc, mul-le-mul-left, mul-lt-mul-of-pos-left, pow-succ', le-div-iff-mul-le, div-lt-iff-lt-mul, div-mul-le-self, one-mul, zero-mul, zero-add, mul-one}
+use Prim.Native.Nat.{ℕ, _+_, _-_, _*_, _%_, _^_, _≤_, _<_, Ordering, Ordering·lt, Ordering·eq, Ordering·gt}
+use native.Mathlib.Nat.{le-trans, le-of-eq, le-of-lt, lt-of-lt-of-le, lt-of-le-of-lt, lt-of-not-le, le-antisymm, le-of-suc-le-suc, eq-or-lt-of-le, eq-zero-or-pos, add-le-add, add-mul, add-assoc, mul-le-mul-left, mul-lt-mul-of-pos-left}
 use native.Mathlib.Numerals.{add-one}
 use native.Mathlib.Omega.{arith}
 use lib.Dec.{isLe, isEq, lit<, lit≤}
-use lib.Pow.{pow-add, pow-pos, pow-mono}
 use lib.Ieee.{Float, size, nearest, binary64, toBits}
-use lib.Ieee.Digits.{size-lt, size-le, size-reaches}
+use lib.Ieee.Digits.{size-le}
 use lib.Ieee.Fits.{nearest-le, kept-lt}
 use lib.Ieee.Nearest.{nearest-ge}
 use borrow.Author.Tests.{leb-true, leb-false, eqb-true, eqb-false}
-use Rattle.definitions.specs.Hypotenuse.{wholeRoot, rootOf}
+use Rattle.definitions.specs.Hypotenuse.{rootOf}
 use Rattle.definitions.specs.Nearest.{patternMagnitude, Nearest}
 use Rattle.laws.specs.Squares.{square-le, square-lt, lt-of-squares, le-of-squares, square-twice}
-use Rattle.laws.specs.WholeRoot.{IsWholeRoot, rootFor, rootFor-is, rootAt, rootOf-at}
-use Rattle.laws.specs.Patterns.{Leading, toBits-units, magnitude-at}
+use Rattle.laws.specs.LeadingDigits.{dropped, kept, Leading, kept-leading, kept-some, kept-le, kept-next}
+use Rattle.laws.specs.WholeRoot.{IsWholeRoot, rootFor, rootFor-is, againstMiddle, rootAt, rootOf-at}
+use Rattle.laws.specs.Patterns.{toBits-units, magnitude-at}
 use Rattle.laws.specs.PatternOrder.{magnitude-lt, magnitude-le}
 
 -- ---- it determines b
@@ -137,7 +137,7 @@ module _ (s q k : ℕ) (lead : Leading q k) (some : 0 < q) (hi : q < 2 ^ 53) (a 
       back : (c q : ℕ) → c + (q + 1) - 1 ≡ c + q
       back c q = omega arith
 
-  rounds : (o : Ordering) → compare (4 * s) (mid * mid) ≡ o → Nearest s (k * 2 ^ 52 + nearest q o)
+  rounds : (o : Ordering) → againstMiddle s q k ≡ o → Nearest s (k * 2 ^ 52 + nearest q o)
   rounds Ordering·lt e = stays (leb-true (4 * s) (mid * mid) (ap isLe e)) (λ z. absurd (eqb-false (4 * s) (mid * mid) (ap isEq e) z))
   rounds Ordering·gt e = subst (λ (z : ℕ). Nearest s (k * 2 ^ 52 + z)) (add-one q) (rises (le-of-lt l) (λ z. absurd (not-equal l z)))
     where
@@ -165,9 +165,9 @@ module _ (s q k : ℕ) (lead : Leading q k) (some : 0 < q) (hi : q < 2 ^ 53) (a 
       go (inl l) = inl (le-trans l (nearest-ge q o))
       go (inr e) = inr e
 
-  pub meets : k < 2045 → Nearest s (toBits binary64 (rootAt s q k))
+  meets : k < 2045 → Nearest s (toBits binary64 (rootAt s q k))
   meets far =
-      let o = compare (4 * s) (mid * mid) in
+      let o = againstMiddle s q k in
       subst (λ (z : ℕ). Nearest s z) (sym (toBits-units (nearest q o) k (within o .0) (within o .1) far)) (rounds o refl)
 
 -- zero is the nearest to its root
@@ -175,33 +175,8 @@ at-zero : Nearest 0 (toBits binary64 (rootOf 0))
 unfolding rootOf toBits patternMagnitude
 at-zero = record { aboveMiddle = lit≤ tt; belowMiddle = lit≤ tt; lowTie = λ _. refl; highTie = λ _. refl }
 
--- the digits that are kept of a whole root n, which is not 0
-module _ (n : ℕ) (some : 0 < n) where
-  abbrev dropped : ℕ
-  dropped = size n - 53
-
-  abbrev kept : ℕ
-  kept = n / 2 ^ dropped
-
-  kept-leading : Leading kept dropped
-  kept-leading = elim (eq-zero-or-pos dropped) [
-    | inl z ↦ inr z
-    | inr h ↦ inl (le-div-iff-mul-le (pow-pos dropped) .1 (le-trans (le-of-eq (sym (pow-add 2 52 dropped))) (size-reaches n (52 + dropped) (omega arith))))
-  ]
-
-  kept-some : 0 < kept
-  kept-some =
-      let z : 0 < size n = lt-of-not-le (λ (g : size n ≤ 0). not-le-of-lt (lt-of-lt-of-le (size-lt n) (pow-mono g)) some) in
-      le-div-iff-mul-le (pow-pos dropped) .1 (le-trans (le-of-eq (one-mul (2 ^ dropped))) (size-reaches n dropped (omega arith)))
-
-  kept-le : kept * 2 ^ dropped ≤ n
-  kept-le = div-mul-le-self n (2 ^ dropped)
-
-  next-gt : n + 1 ≤ (kept + 1) * 2 ^ dropped
-  next-gt = le-trans (le-of-eq (add-one n)) (div-lt-iff-lt-mul (pow-pos dropped) .0 (subst (λ (x : ℕ). kept < x) (sym (add-one kept)) (le-refl (suc kept))))
-
 -- an infinity stands for 2 ^ 2098, so a root below half of that has no more than 2097 digits and is not rounded to one
-pub few-dropped : (s : ℕ) → s < 2 ^ 2097 * 2 ^ 2097 → size (rootFor s) - 53 < 2045
+pub few-dropped : (s : ℕ) → s < 2 ^ 2097 * 2 ^ 2097 → dropped (rootFor s) < 2045
 few-dropped s h = let few : size (rootFor s) ≤ 2097 = size-le (rootFor s) 2097 (lt-of-squares (rootFor s) (2 ^ 2097) (lt-of-le-of-lt (rootFor-is s .0) h)) in omega arith
 
 pub rootOf-nearest : (s : ℕ) → s < 2 ^ 2097 * 2 ^ 2097 → Nearest s (toBits binary64 (rootOf s))
@@ -211,10 +186,9 @@ rootOf-nearest s h = elim (eq-zero-or-pos s) [
       let n = rootFor s in
       let r : IsWholeRoot s n = rootFor-is s in
       let l : 1 < n + 1 = lt-of-squares 1 (n + 1) (lt-of-le-of-lt p (r .1)) in
-      let some : 0 < n = omega arith in
       subst (λ (x : Float). Nearest s (toBits binary64 x)) (sym (rootOf-at s))
-      (meets s (kept n some) (dropped n some) (kept-leading n some) (kept-some n some) (kept-lt 53 n)
-      (le-trans (square-le (kept n some * 2 ^ dropped n some) n (kept-le n some)) (r .0))
-      (lt-of-lt-of-le (r .1) (square-le (n + 1) ((kept n some + 1) * 2 ^ dropped n some) (next-gt n some)))
+      (meets s (kept n) (dropped n) (kept-leading n) (kept-some n (omega arith)) (kept-lt 53 n)
+      (le-trans (square-le (kept n * 2 ^ dropped n) n (kept-le n)) (r .0))
+      (lt-of-lt-of-le (r .1) (square-le (n + 1) ((kept n + 1) * 2 ^ dropped n) (le-trans (le-of-eq (add-one n)) (kept-next n))))
       (few-dropped s h))
 ]

@@ -5,8 +5,8 @@ use mathlib.Core.Logic.{_⊎_, inl, inr}
 use Prim.Native.Nat.{ℕ, zero, suc, _+_, _-_, _*_, _/_, _%_, _^_, _≤_, _<_}
 use native.Mathlib.Nat.{mul-lt-mul-of-pos-right, lt-of-not-le, not-le-of-lt, le-of-eq, le-of-lt, eq-or-lt-of-le, mul-assoc, pow-succ', lt-trans, le-of-suc-le-suc}
 use native.Mathlib.Omega.{arith}
-use mathlib.Core.Bool.{Bool, true, false, not, _&&_, _||_}
-use lib.Dec.{T, leb, ltb, eqb, ltb→lt, nltb→le, lit<, lit≤}
+use mathlib.Core.Bool.{Bool, true, false, _&&_, _||_}
+use lib.Dec.{T, leb, eqb, lit<, lit≤}
 use lib.Pow.{pow-pos}
 use lib.Ieee.{Float, nan, inf, fin, binary64, fits, toBits}
 use Rattle.definitions.specs.Hypotenuse.{magnitude, inRange}

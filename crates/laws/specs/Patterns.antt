@@ -1,16 +1,15 @@
--- Bit patterns of doubles. `made`: the pattern of q * 2 ^ k smallest doubles is k * 2 ^ 52 + q, since the exponent's field and the fraction are one number and a carry runs from one into the other.
+-- Bit patterns of doubles. `made`: the pattern of q * 2 ^ k smallest doubles is k * 2 ^ 52 + q, the leading digit of q being one in the exponent's field. Where q is 2 ^ 53 the carry is there too.
 -- `ofBits-value` and `read` go the other way: the double of a pattern has the magnitude `patternMagnitude`, and a double that fits has its magnitude from its pattern. Assumes nothing.
 use mathlib.Core.Path.{_≡_, refl, sym, ap, _∙_, subst}
 use mathlib.Core.Logic.{_⊎_, inl, inr}
 use Prim.Native.Nat.{ℕ, zero, suc, _+_, _-_, _*_, _/_, _%_, _^_, _≤_, _<_}
-use native.Mathlib.Nat.{mul-div-cancel, mul-one, mul-le-mul-right, mul-lt-mul-of-pos-right, lt-of-lt-of-le, lt-of-le-of-lt, lt-of-not-le, not-le-of-lt, le-trans, le-of-eq, le-antisymm, eq-or-lt-of-le, zero-add, mul-assoc, pow-succ', mod-eq-of-lt}
+use native.Mathlib.Nat.{mul-div-cancel, mul-lt-mul-of-pos-right, le-refl, mul-one, mul-le-mul-right, lt-of-le-of-lt, lt-of-not-le, not-le-of-lt, le-of-eq, eq-or-lt-of-le, zero-add, mul-assoc, pow-succ', mod-eq-of-lt}
 use native.Mathlib.Omega.{arith}
 use mathlib.Core.Bool.{Bool, true, false, not, cond, true≢false}
 use lib.IntN.{ℤ}
-use lib.Dec.{T, leb, ltb, eqb, lt→ltb, ltb→lt, leb→le, not-T, eqb→eq, lit<, lit≤}
-use lib.Pow.{pow-add, pow-pos, pow-mono, pow-lt, shl-lt}
-use lib.Ieee.{Float, nan, inf, fin, binary64, up, down, size, odd, units, fits, ofFields, ofBits, toBits, nanBits}
-use lib.Ieee.Digits.{size-lt, size-le}
+use lib.Dec.{T, leb, ltb, eqb, lt→ltb, ltb→lt, not-T, eqb→eq, lit<, lit≤}
+use lib.Pow.{pow-add, pow-pos, pow-lt}
+use lib.Ieee.{Float, nan, inf, fin, binary64, up, down, odd, units, fits, ofFields, ofBits, toBits, nanBits}
 use lib.Ieee.Fits.{down-pos, odd-fits, inf-fits}
 use lib.Ieee.Exact.{HasValue, odd-sign, units-val}
 use lib.Ieee.Scale.{finite}
@@ -19,6 +18,7 @@ use borrow.Author.Tests.{leb-false, lt-leb}
 use Rattle.definitions.specs.Hypotenuse.{magnitude}
 use Rattle.definitions.specs.Nearest.{patternMagnitude}
 use Rattle.laws.specs.Comparisons.{le-or-lt}
+use Rattle.laws.specs.LeadingDigits.{dropped, kept, Leading, dropped-is, kept-is}
 
 -- ---- magnitudes
 
@@ -41,56 +41,39 @@ magnitude-normal b h = cond-no (ltb b (2 ^ 52)) b _ (not-T (ltb b (2 ^ 52)) (λ 
 -- ---- from digits to a pattern
 
 -- `toBits` of a double that is not negative sees only its magnitude n
-written : (x : Float) (n : ℕ) → HasValue x false n (2 ^ 1074) → toBits binary64 x ≡ (size n - 53) * 2 ^ 52 + n / 2 ^ (size n - 53)
+written : (x : Float) (n : ℕ) → HasValue x false n (2 ^ 1074) → toBits binary64 x ≡ dropped n * 2 ^ 52 + kept n
 unfolding toBits
 written nan n h = absurd h
 written (inf t) n h = absurd h
 written (fin true m e) n h = absurd (true≢false (h .0))
 written (fin false m e) n h =
-    ap (λ (z : ℕ). 0 + (size z - 53) * 2 ^ 52 + z / 2 ^ (size z - 53)) (ap (λ (z : ℕ). z / down e) (h .1) ∙ mul-div-cancel n (down-pos e))
-    ∙ ap (λ (z : ℕ). z + n / 2 ^ (size n - 53)) (zero-add ((size n - 53) * 2 ^ 52))
+    ap (λ (z : ℕ). 0 + dropped z * 2 ^ 52 + kept z) (ap (λ (z : ℕ). z / down e) (h .1) ∙ mul-div-cancel n (down-pos e))
+    ∙ ap (λ (z : ℕ). z + kept n) (zero-add (dropped n * 2 ^ 52))
 
--- q has 53 digits, or is 2 ^ 53, or has fewer and nothing was dropped
-abbrev pub Leading : ℕ → ℕ → Type 0
-Leading q k = (2 ^ 52 ≤ q) ⊎ (k ≡ 0)
-
-drop-53 : (q k : ℕ) → Leading q k → q < 2 ^ 53 → size (q * 2 ^ k) - 53 ≡ k
-drop-53 q k (inl lo) hi =
-    exact (size (q * 2 ^ k)) k
-    (size-le (q * 2 ^ k) (53 + k) (shl-lt 53 k hi))
-    (lt-of-not-le (λ (g : size (q * 2 ^ k) ≤ 52 + k). not-le-of-lt (lt-of-lt-of-le (size-lt (q * 2 ^ k)) (pow-mono g)) (le-trans (le-of-eq (pow-add 2 52 k)) (mul-le-mul-right (2 ^ k) lo))))
-  where
-    exact : (z k : ℕ) → z ≤ 53 + k → 52 + k < z → z - 53 ≡ k
-    exact z k a b = omega arith
-drop-53 q k (inr e) hi = subst (λ (k : ℕ). size (q * 2 ^ k) - 53 ≡ k) (sym e) (none (size (q * 2 ^ 0)) (size-le (q * 2 ^ 0) 53 (shl-lt 53 0 hi)))
-  where
-    none : (z : ℕ) → z ≤ 53 → z - 53 ≡ 0
-    none z h = omega arith
+pattern-53 : (q k : ℕ) → Leading q k → q < 2 ^ 53 → dropped (q * 2 ^ k) * 2 ^ 52 + kept (q * 2 ^ k) ≡ k * 2 ^ 52 + q
+pattern-53 q k lead hi =
+    let n = q * 2 ^ k in
+    let above : q * 2 ^ k < (q + 1) * 2 ^ k = mul-lt-mul-of-pos-right (omega arith) (pow-pos k) in
+    ap (λ (z : ℕ). z * 2 ^ 52 + n / 2 ^ z) (dropped-is n q k hi (le-refl n) above lead) ∙ ap (λ (z : ℕ). k * 2 ^ 52 + z) (kept-is n q k hi (le-refl n) above)
 
 -- 2 ^ 53 times 2 ^ k is 2 ^ 52 times 2 ^ (k + 1)
-pattern-at : (q k : ℕ) → Leading q k → q ≤ 2 ^ 53 → (size (q * 2 ^ k) - 53) * 2 ^ 52 + q * 2 ^ k / 2 ^ (size (q * 2 ^ k) - 53) ≡ k * 2 ^ 52 + q
+carry : (q k : ℕ) → q ≡ 2 ^ 53 → (q * 2 ^ k ≡ 2 ^ 52 * 2 ^ suc k) × (k * 2 ^ 52 + q ≡ suc k * 2 ^ 52 + 2 ^ 52)
+carry q k e = (ap (λ (z : ℕ). z * 2 ^ k) e ∙ mul-assoc (2 ^ 52) 2 (2 ^ k) ∙ ap (λ (z : ℕ). 2 ^ 52 * z) (sym (pow-succ' 2 k)), omega arith)
+
+pattern-at : (q k : ℕ) → Leading q k → q ≤ 2 ^ 53 → dropped (q * 2 ^ k) * 2 ^ 52 + kept (q * 2 ^ k) ≡ k * 2 ^ 52 + q
 pattern-at q k lead hi = elim (eq-or-lt-of-le hi) [
-  | inl e ↦
-      let r : q * 2 ^ k ≡ 2 ^ 52 * 2 ^ suc k = ap (λ (z : ℕ). z * 2 ^ k) e ∙ mul-assoc (2 ^ 52) 2 (2 ^ k) ∙ ap (λ (z : ℕ). 2 ^ 52 * z) (sym (pow-succ' 2 k)) in
-      ap (λ (z : ℕ). (size z - 53) * 2 ^ 52 + z / 2 ^ (size z - 53)) r ∙ below (2 ^ 52) (suc k) (inl (lit≤ tt)) (lit< tt) ∙ carried k q e
-  | inr l ↦ below q k lead l
+  | inl e ↦ ap (λ (z : ℕ). dropped z * 2 ^ 52 + kept z) (carry q k e .0) ∙ pattern-53 (2 ^ 52) (suc k) (inl (lit≤ tt)) (lit< tt) ∙ sym (carry q k e .1)
+  | inr l ↦ pattern-53 q k lead l
 ]
-  where
-    below : (q k : ℕ) → Leading q k → q < 2 ^ 53 → (size (q * 2 ^ k) - 53) * 2 ^ 52 + q * 2 ^ k / 2 ^ (size (q * 2 ^ k) - 53) ≡ k * 2 ^ 52 + q
-    below q k lead l = ap (λ (z : ℕ). z * 2 ^ 52 + q * 2 ^ k / 2 ^ z) (drop-53 q k lead l) ∙ ap (λ (z : ℕ). k * 2 ^ 52 + z) (mul-div-cancel q (pow-pos k))
 
-    carried : (k q : ℕ) → q ≡ 2 ^ 53 → suc k * 2 ^ 52 + 2 ^ 52 ≡ k * 2 ^ 52 + q
-    carried k q e = omega arith
-
--- no infinity yet
-pub room : (q k : ℕ) → q ≤ 2 ^ 53 → k < 2045 → q * 2 ^ k < 2 ^ 2098
-room q k h l = lt-of-le-of-lt (mul-le-mul-right (2 ^ k) h) (lt-of-le-of-lt (le-of-eq (sym (pow-add 2 53 k))) (pow-lt (far k l)))
+pub no-overflow : (q k : ℕ) → q ≤ 2 ^ 53 → k < 2045 → q * 2 ^ k < 2 ^ 2098
+no-overflow q k h l = lt-of-le-of-lt (mul-le-mul-right (2 ^ k) h) (lt-of-le-of-lt (le-of-eq (sym (pow-add 2 53 k))) (pow-lt (far k l)))
   where
     far : (k : ℕ) → k < 2045 → 53 + k < 2098
     far k h = omega arith
 
 pub toBits-units : (q k : ℕ) → Leading q k → q ≤ 2 ^ 53 → k < 2045 → toBits binary64 (units binary64 false q k) ≡ k * 2 ^ 52 + q
-toBits-units q k lead hi l = written (units binary64 false q k) (q * 2 ^ k) (units-val binary64 false q k (room q k hi l)) ∙ pattern-at q k lead hi
+toBits-units q k lead hi l = written (units binary64 false q k) (q * 2 ^ k) (units-val binary64 false q k (no-overflow q k hi l)) ∙ pattern-at q k lead hi
 
 pub units-fits : (q k : ℕ) → q ≤ 2 ^ 53 → T (fits binary64 (units binary64 false q k))
 unfolding units
@@ -119,9 +102,6 @@ magnitude-53 q k lo hi =
 pub magnitude-at : (q k : ℕ) → Leading q k → q ≤ 2 ^ 53 → patternMagnitude (k * 2 ^ 52 + q) ≡ q * 2 ^ k
 magnitude-at q k lead hi = go lead (eq-or-lt-of-le hi)
   where
-    carried : (k q : ℕ) → q ≡ 2 ^ 53 → k * 2 ^ 52 + q ≡ suc k * 2 ^ 52 + 2 ^ 52
-    carried k q e = omega arith
-
     few : (q : ℕ) → q < 2 ^ 53 → patternMagnitude (0 * 2 ^ 52 + q) ≡ q * 2 ^ 0
     few q h = elim (le-or-lt (2 ^ 52) q) [
       | inl l ↦ magnitude-53 q 0 l h
@@ -129,12 +109,7 @@ magnitude-at q k lead hi = go lead (eq-or-lt-of-le hi)
     ]
 
     go : Leading q k → (q ≡ 2 ^ 53) ⊎ (q < 2 ^ 53) → patternMagnitude (k * 2 ^ 52 + q) ≡ q * 2 ^ k
-    go lead (inl e) =
-        ap patternMagnitude (carried k q e)
-        ∙ magnitude-53 (2 ^ 52) (suc k) (lit≤ tt) (lit< tt)
-        ∙ ap (λ (z : ℕ). 2 ^ 52 * z) (pow-succ' 2 k)
-        ∙ sym (mul-assoc (2 ^ 52) 2 (2 ^ k))
-        ∙ ap (λ (z : ℕ). z * 2 ^ k) (sym e)
+    go lead (inl e) = ap patternMagnitude (carry q k e .1) ∙ magnitude-53 (2 ^ 52) (suc k) (lit≤ tt) (lit< tt) ∙ sym (carry q k e .0)
     go (inl lo) (inr l) = magnitude-53 q k lo l
     go (inr z) (inr l) = subst (λ (k : ℕ). patternMagnitude (k * 2 ^ 52 + q) ≡ q * 2 ^ k) (sym z) (few q l)
 

@@ -1,6 +1,6 @@
 -- Squares of whole numbers are in the order of the numbers, so that a root is found, and two roots are compared, by squares alone. Assumes nothing.
 use mathlib.Core.Path.{_≡_, refl}
-use Prim.Native.Nat.{ℕ, suc, _+_, _*_, _≤_, _<_}
+use Prim.Native.Nat.{ℕ, _+_, _*_, _≤_, _<_}
 use native.Mathlib.Nat.{mul-le-mul, mul-le-mul-left, mul-lt-mul-of-pos-right, lt-of-le-of-lt, lt-of-not-le, not-le-of-lt, le-of-lt, le-of-suc-le-suc, mul-one, one-mul, mul-add, add-mul, add-assoc, add-comm, add-left-comm, mul-mul-mul-comm}
 use native.Mathlib.Omega.{arith}
 

@@ -2,16 +2,18 @@
 -- `rootOf-is` is the lemma for code: whoever has 53 digits q and a number k of dropped ones, with s between the squares of q * 2 ^ k and (q + 1) * 2 ^ k, has `rootOf s`.
 -- For then the whole root is from q * 2 ^ k up to below (q + 1) * 2 ^ k, which determines its size and its leading digits. Assumes nothing.
 use mathlib.Core.Path.{_≡_, refl, sym, ap, _∙_, subst}
-use Prim.Native.Nat.{ℕ, zero, suc, _+_, _-_, _*_, _/_, _^_, _≤_, _<_, compare, zero-le}
-use native.Mathlib.Nat.{zero-lt-suc, lt-of-not-le, not-le-of-lt, lt-of-le-of-lt, lt-of-lt-of-le, le-trans, le-of-eq, div-lt-iff-lt-mul, div-eq-of-lt-le, pow-suc, mul-mul-mul-comm, mul-le-mul-right}
+use mathlib.Core.Logic.{inl}
+use Prim.Native.Nat.{ℕ, zero, suc, _+_, _*_, _/_, _^_, _≤_, _<_, compare, Ordering, zero-le}
+use native.Mathlib.Nat.{zero-lt-suc, lt-of-le-of-lt, lt-of-lt-of-le, le-trans, le-of-eq, div-lt-iff-lt-mul, pow-suc, mul-mul-mul-comm}
 use native.Mathlib.Omega.{arith}
 use mathlib.Core.Bool.{Bool, true, false, not, cond}
 use lib.Dec.{T, leb, leb→le, nleb→lt}
 use lib.Pow.{pow-add, pow-mono}
 use lib.Ieee.{Float, size, nearest, units, binary64}
-use lib.Ieee.Digits.{size-lt, size-le}
+use lib.Ieee.Digits.{size-lt}
 use Rattle.definitions.specs.Hypotenuse.{digit, wholeRoot, rootOf}
 use Rattle.laws.specs.Squares.{square-twice, square-next, lt-of-squares}
+use Rattle.laws.specs.LeadingDigits.{dropped, kept, dropped-is, kept-is}
 
 -- ---- the whole root
 
@@ -55,37 +57,25 @@ rootFor-is s =
 
 -- ---- the rounding
 
--- the double nearest to the root of s that `roundedRoot` makes of the leading digits q and the number k of the others
-abbrev pub rootAt : ℕ → ℕ → ℕ → Float
-rootAt s q k = units binary64 false (nearest q (compare (4 * s) ((2 * q + 1) * 2 ^ k * ((2 * q + 1) * 2 ^ k)))) k
+-- s against the square of the middle between the digits q and q + 1 over k dropped ones, both times 4
+abbrev pub againstMiddle : ℕ → ℕ → ℕ → Ordering
+againstMiddle s q k = compare (4 * s) ((2 * q + 1) * 2 ^ k * ((2 * q + 1) * 2 ^ k))
 
-pub rootOf-at : (s : ℕ) → rootOf s ≡ rootAt s (rootFor s / 2 ^ (size (rootFor s) - 53)) (size (rootFor s) - 53)
+-- what `roundedRoot` makes of the digits q that it keeps and the number k of those that it drops
+abbrev pub rootAt : ℕ → ℕ → ℕ → Float
+rootAt s q k = units binary64 false (nearest q (againstMiddle s q k)) k
+
+pub rootOf-at : (s : ℕ) → rootOf s ≡ rootAt s (kept (rootFor s)) (dropped (rootFor s))
 unfolding rootOf
 rootOf-at s = refl
-
-module _ (s n q k : ℕ) (r : IsWholeRoot s n) (lo : 2 ^ 52 ≤ q) (hi : q < 2 ^ 53) (a : q * 2 ^ k * (q * 2 ^ k) ≤ s) (b : s < (q + 1) * 2 ^ k * ((q + 1) * 2 ^ k)) where
-  root-ge : q * 2 ^ k ≤ n
-  root-ge = let l = lt-of-squares (q * 2 ^ k) (n + 1) (lt-of-le-of-lt a (r .1)) in omega arith
-
-  root-lt : n < (q + 1) * 2 ^ k
-  root-lt = lt-of-squares n ((q + 1) * 2 ^ k) (lt-of-le-of-lt (r .0) b)
-
-  dropped : size n - 53 ≡ k
-  dropped =
-      from-size (size n) k
-      (size-le n (53 + k) (lt-of-lt-of-le root-lt (le-trans (mul-le-mul-right (2 ^ k) (next q hi)) (le-of-eq (sym (pow-add 2 53 k))))))
-      (lt-of-not-le (λ (g : size n ≤ 52 + k). not-le-of-lt (lt-of-lt-of-le (size-lt n) (pow-mono g)) (le-trans (le-of-eq (pow-add 2 52 k)) (le-trans (mul-le-mul-right (2 ^ k) lo) root-ge))))
-    where
-      next : (q : ℕ) → q < 2 ^ 53 → q + 1 ≤ 2 ^ 53
-      next q h = omega arith
-
-      from-size : (z k : ℕ) → z ≤ 53 + k → 52 + k < z → z - 53 ≡ k
-      from-size z k a b = omega arith
 
 pub rootOf-is : (s q k : ℕ) → 2 ^ 52 ≤ q → q < 2 ^ 53 → q * 2 ^ k * (q * 2 ^ k) ≤ s → s < (q + 1) * 2 ^ k * ((q + 1) * 2 ^ k) → rootOf s ≡ rootAt s q k
 rootOf-is s q k lo hi a b =
     let n = rootFor s in
     let r : IsWholeRoot s n = rootFor-is s in
+    let l : q * 2 ^ k < n + 1 = lt-of-squares (q * 2 ^ k) (n + 1) (lt-of-le-of-lt a (r .1)) in
+    let above : q * 2 ^ k ≤ n = omega arith in
+    let below : n < (q + 1) * 2 ^ k = lt-of-squares n ((q + 1) * 2 ^ k) (lt-of-le-of-lt (r .0) b) in
     rootOf-at s
-    ∙ ap (λ (z : ℕ). rootAt s (n / 2 ^ z) z) (dropped s n q k r lo hi a b)
-    ∙ ap (λ (z : ℕ). rootAt s z k) (div-eq-of-lt-le (2 ^ k) (root-ge s n q k r lo hi a b) (root-lt s n q k r lo hi a b))
+    ∙ ap (λ (z : ℕ). rootAt s (n / 2 ^ z) z) (dropped-is n q k hi above below (inl lo))
+    ∙ ap (λ (z : ℕ). rootAt s z k) (kept-is n q k hi above below)
