@@ -34,7 +34,6 @@ unfolding wholeRoot
 wholeRoot-is zero n h = (zero-le, h)
 wholeRoot-is (suc d) n h = digit-is n (wholeRoot d (n / 4)) (wholeRoot-is d (n / 4) (div-lt-iff-lt-mul (zero-lt-suc 3) .1 (subst (λ (x : ℕ). n < x) (pow-suc 4 d) h)))
 
--- the number of digits that `rootOf` asks for is enough: s < 2 ^ size s ≤ 4 ^ (size s / 2 + 1)
 four-pow : (d : ℕ) → 2 ^ d * 2 ^ d ≡ 4 ^ d
 four-pow zero = refl
 four-pow (suc d) =
@@ -47,6 +46,7 @@ four-pow (suc d) =
 abbrev pub rootFor : ℕ → ℕ
 rootFor s = wholeRoot (size s / 2 + 1) s
 
+-- it has digits enough: s < 2 ^ size s ≤ 4 ^ (size s / 2 + 1)
 pub rootFor-is : (s : ℕ) → IsWholeRoot s (rootFor s)
 rootFor-is s =
     let d = size s / 2 + 1 in
