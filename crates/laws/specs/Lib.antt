@@ -5,3 +5,12 @@ pub mod ListOrder
 pub mod Ranks
 pub mod Merging
 pub mod MergingInside
+pub mod Squares
+pub mod LeadingDigits
+pub mod WholeRoot
+pub mod Patterns
+pub mod Comparisons
+pub mod PatternOrder
+pub mod NearestRoot
+pub mod Hypotenuse
+pub mod KeysAsBits
