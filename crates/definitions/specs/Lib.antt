@@ -19,5 +19,8 @@ pub mod SheetNumber
 pub mod Sheet
 pub mod Refusals
 pub mod Verdict
+pub mod AtExit
 pub mod Printed
 pub mod SheetExamples
+pub mod CaseJ
+pub mod Cases
