@@ -77,7 +77,7 @@ outputAtExit complete pass M old = overwrite (flatRows (rowsOf pass M)) old
 
 -- all that was lent, after a call that answered with this number
 unfoldable pub callExit : Lent → ℕ → Lent
-unfolding mapIn stageOf
+unfolding mapIn stageOf labels cellCount spanCount contextOf talliesOf pairRowsOf recordsOf rowsOf flatRows
 callExit L number =
     let M = mapIn L in
     let s = stageOf number in
@@ -100,7 +100,7 @@ callExit L number =
 
 -- the same of the partition alone, which is lent neither records nor output
 unfoldable pub partitionExit : Lent → ℕ → Lent
-unfolding mapIn stageOf
+unfolding mapIn stageOf labels cellCount spanCount contextOf talliesOf pairRowsOf recordsOf rowsOf flatRows
 partitionExit L number =
     let M = mapIn L in
     let s = stageOf number in

@@ -24,3 +24,4 @@ pub mod Printed
 pub mod SheetExamples
 pub mod CaseJ
 pub mod Cases
+pub mod RefusalExamples
