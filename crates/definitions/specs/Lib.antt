@@ -25,3 +25,4 @@ pub mod SheetExamples
 pub mod CaseJ
 pub mod Cases
 pub mod RefusalExamples
+pub mod Examples
