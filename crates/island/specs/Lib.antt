@@ -3,3 +3,5 @@ pub mod Frame
 pub mod Steps
 pub mod StepCells
 pub mod Restrict
+pub mod CellLabels
+pub mod Labels
