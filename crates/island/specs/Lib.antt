@@ -5,3 +5,4 @@ pub mod StepCells
 pub mod Restrict
 pub mod CellLabels
 pub mod Labels
+pub mod Pairs

@@ -155,6 +155,15 @@ module _ {A : Type 0} where
       go true e h ih = absurd (true≢false h)
       go false e h ih = more e (ih h)
 
+  pub all-every : {P : A → Type 0} → ((x : A) → P x) → (l : List A) → All P l
+  all-every h [] = done
+  all-every h (x ∷ l) = more (h x) (all-every h l)
+
+  pub filter-ext : {f g : A → Bool} {l : List A} → All (λ x. f x ≡ g x) l → filter f l ≡ filter g l
+  unfolding filter
+  filter-ext done = refl
+  filter-ext (more {x = x} h a) = ap₂ (λ b r. cond b (x ∷ r) r) h (filter-ext a)
+
   pub filter-gather : (f : A → Bool) (n : ℕ) (F G : ℕ → List A) → ((c : ℕ) → filter f (F c) ≡ G c) → filter f (gather n F) ≡ gather n G
   unfolding gather filter
   filter-gather f zero F G h = refl
@@ -182,12 +191,17 @@ module _ {A : Type 0} where
       go true e a = more e a
       go false e a = a
 
-module _ {A B : Type 0} {P : B → Type 0} where
-  pub all-onto : (f : A → B) {l : List A} → All (λ x. P (f x)) l → All P (map f l)
-  all-onto f done = done
-  all-onto f (more h a) = more h (all-onto f a)
+module _ {A B : Type 0} where
+  pub map-ext : {f g : A → B} {l : List A} → All (λ x. f x ≡ g x) l → map f l ≡ map g l
+  map-ext done = refl
+  map-ext (more h a) = ap₂ {C = List B} (λ x r. x ∷ r) h (map-ext a)
 
-  pub all-concatMap : (F : A → List B) (l : List A) → ((x : A) → All P (F x)) → All P (concatMap F l)
-  unfolding concatMap
-  all-concatMap F [] h = done
-  all-concatMap F (x ∷ l) h = all-append (h x) (all-concatMap F l h)
+  module _ {P : B → Type 0} where
+    pub all-onto : (f : A → B) {l : List A} → All (λ x. P (f x)) l → All P (map f l)
+    all-onto f done = done
+    all-onto f (more h a) = more h (all-onto f a)
+
+    pub all-concatMap : (F : A → List B) (l : List A) → ((x : A) → All P (F x)) → All P (concatMap F l)
+    unfolding concatMap
+    all-concatMap F [] h = done
+    all-concatMap F (x ∷ l) h = all-append (h x) (all-concatMap F l h)
