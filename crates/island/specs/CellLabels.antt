@@ -4,16 +4,16 @@ use Prim.Native.Nat.{ℕ, suc, _≤_, _<_}
 use native.Mathlib.Omega.{arith}
 use mathlib.Core.Path.{_≡_, refl, sym, ap, ap₂, _∙_}
 use mathlib.Core.Bool.{Bool, true, false, _&&_, cond}
-use mathlib.Core.List.{List, map}
+use mathlib.Core.List.{map}
 use lib.ListN.{getD, length-map, List·getD-eq-default}
 use lib.Dec.{eqb, ltb}
 use borrow.Author.Tests.{ltb-true, ltb-false, eqb-true, eq-eqb}
 use Rattle.definitions.specs.Scan.{run, countBelow}
-use Rattle.definitions.specs.Grid.{Map, Pair, cellCount}
+use Rattle.definitions.specs.Grid.{Map, cellCount}
 use Rattle.definitions.specs.Partition.{walkableAt, isRoot, roots, labels, regionCount, uncut}
 use Rattle.laws.specs.Lists.{All, all-map, length-run, getD-tab}
 use Rattle.laws.specs.Ranks.{rank-lt, rank-eqb}
-use Rattle.laws.specs.Merging.{Within, Rooted, rooted, Kept, Level, kept-all}
+use Rattle.laws.specs.Merging.{Rooted, rooted, Kept, kept-all}
 use Rattle.laws.specs.Scans.{both}
 use Rattle.island.specs.StepCells.{Sound, sound, uncut-all}
 
@@ -83,6 +83,7 @@ module _ (M : Map) where
       inside : c < cellCount M → (w : Bool) → walkableAt M c ≡ w → labelOf c ≤ countBelow (cellCount M) isRootCell
       inside h true w = omega (arith, label-walkable c h w, rank-lt isRootCell (rootOf c) (cellCount M) (root-is c h w) (root-lt c h))
       inside h false w = omega (arith, label-blocked c h w)
+
       go : (b : Bool) → ltb c (cellCount M) ≡ b → labelOf c ≤ countBelow (cellCount M) isRootCell
       go true e = inside (ltb-true _ _ e) (walkableAt M c) refl
       go false e = omega (arith, label-past c (ltb-false _ _ e))

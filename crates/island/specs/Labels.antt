@@ -5,12 +5,12 @@ use native.Mathlib.Omega.{arith}
 use native.Mathlib.Nat.{add-zero}
 use native.Mathlib.Numerals.{add-one}
 use mathlib.Core.Path.{_≡_, refl, sym, ap, ap₂, _∙_}
-use mathlib.Core.Bool.{Bool, true, false, _&&_, true≢false, and-true, and-false, and-comm, and-assoc}
+use mathlib.Core.Bool.{Bool, true, false, _&&_, true≢false, and-true, and-false}
 use lib.Dec.{eqb}
 use borrow.Author.Tests.{eqb-true, eq-eqb}
 use Rattle.definitions.specs.Scan.{anyBelow, countBelow, bit}
 use Rattle.definitions.specs.Grid.{Map, cellCount}
-use Rattle.definitions.specs.Partition.{walkableAt, labels, roots, regionCount}
+use Rattle.definitions.specs.Partition.{walkableAt, labels, regionCount}
 use Rattle.laws.specs.Ranks.{rank, rank-shift}
 use Rattle.laws.specs.Scans.{count-ext, any-at, any-none}
 use Rattle.island.specs.Premises.{Island}
@@ -55,8 +55,10 @@ module _ (M : Map) (isl : ℕ → Bool) where
       where
         swap : (a b : Bool) → ((a && true) && b) ≡ ((a && b) && true)
         swap a b = ap (λ x. x && b) (and-true a) ∙ sym (and-true (a && b))
+
         none : (a b d : Bool) → ((a && false) && b) ≡ ((a && d) && false)
         none a b d = ap (λ x. x && b) (and-false a) ∙ sym (and-false (a && d))
+
         go : (b : Bool) → isl c ≡ b → ((walkableAt M c && b) && eqb (rootOf (restrict M isl) c) c) ≡ ((walkableAt M c && eqb (rootOf M c) c) && b)
         go true e = ap (λ r. (walkableAt M c && true) && eqb r c) (sym (root-same M isl I c h e)) ∙ swap (walkableAt M c) (eqb (rootOf M c) c)
         go false e = none (walkableAt M c) (eqb (rootOf (restrict M isl) c) c) (eqb (rootOf M c) c)
@@ -69,15 +71,18 @@ module _ (M : Map) (isl : ℕ → Bool) where
       where
         mine : labelOf M c ≡ suc (countBelow c (isRootCell M))
         mine = label-walkable M c h (root-walkable M c r) ∙ ap (λ x. suc (countBelow x (isRootCell M))) (root-own M c r)
+
         same-count : {m n : ℕ} → suc m ≡ suc n → m ≡ n
         same-count e = omega arith
+
         other : isl c ≡ false → (d : ℕ) → d < cellCount M → ((isl d && walkableAt M d) && eqb (labelOf M d) (suc (countBelow c (isRootCell M)))) ≡ false
         other e d l =
             three-and (isl d) (walkableAt M d) _
-              (λ i w q.
-                true≢false
-                  (sym i ∙ sym (root-side M isl I d l)
-                    ∙ ap isl (root-one M (rootOf M d) c (root-is M d l w) r (same-count (sym (label-walkable M d l w) ∙ eqb-true _ _ q))) ∙ e))
+            (λ i w q.
+            true≢false
+            (sym i ∙ sym (root-side M isl I d l)
+            ∙ ap isl (root-one M (rootOf M d) c (root-is M d l w) r (same-count (sym (label-walkable M d l w) ∙ eqb-true _ _ q))) ∙ e))
+
         go : (b : Bool) → isl c ≡ b → anyBelow (cellCount M) (λ d. (isl d && walkableAt M d) && eqb (labelOf M d) (suc (countBelow c (isRootCell M)))) ≡ b
         go true e = any-at (cellCount M) _ c h (rw (e, root-walkable M c r, mine) (eq-eqb (suc (countBelow c (isRootCell M))) (suc (countBelow c (isRootCell M))) refl))
         go false e = any-none (cellCount M) _ (other e)
@@ -95,8 +100,8 @@ module _ (M : Map) (isl : ℕ → Bool) where
     unfolding cellCount
     label-in c h w i =
         label-walkable (restrict M isl) c h (walkable-at M isl c h ∙ ap₂ _&&_ w i)
-          ∙ ap (λ x. suc (countBelow x (isRootCell (restrict M isl)))) (sym (root-same M isl I c h i))
-          ∙ ap suc (sym (counted (rootOf M c) (omega (arith, root-lt M c h))) ∙ ap (rank inR) (sym (label-walkable M c h w)))
+        ∙ ap (λ x. suc (countBelow x (isRootCell (restrict M isl)))) (sym (root-same M isl I c h i))
+        ∙ ap suc (sym (counted (rootOf M c) (omega (arith, root-lt M c h))) ∙ ap (rank inR) (sym (label-walkable M c h w)))
 
     -- other cells have label 0
     pub label-out : (c : ℕ) → c < cellCount M → (walkableAt M c && isl c) ≡ false → labelOf (restrict M isl) c ≡ 0

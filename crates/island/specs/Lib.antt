@@ -6,3 +6,6 @@ pub mod Restrict
 pub mod CellLabels
 pub mod Labels
 pub mod Pairs
+pub mod Records
+pub mod Framed
+pub mod Same

@@ -1,6 +1,6 @@
 -- The pairs of labels that a span separates. Of any labels: what holds of each step's pair holds of all, and a renaming that keeps the order of pairs goes through
 -- the sorted list of distinct ones. Of the island's steps: the restricted map's labels separate the same steps, into the renamed pairs.
-use Prim.Native.Nat.{ℕ, _<_, min, max}
+use Prim.Native.Nat.{ℕ, min, max}
 use native.Mathlib.Omega.{arith}
 use mathlib.Core.Path.{_≡_, refl, sym, ap, ap₂, _∙_}
 use mathlib.Core.Bool.{Bool, true, false, not, _&&_, _||_, cond}
@@ -117,9 +117,10 @@ module _ (M : Map) (isl : ℕ → Bool) where
       renamed-in : labelPair (labels S) e ≡ renP R (labelPair (labels M) e)
       renamed-in =
           λ i.
-            record
-              { lo = (ap₂ min lo-in hi-in ∙ sym (min-in R (labelOf M (e .lo)) (labelOf M (e .hi)) (lo-side l) (hi-side l))) i;
-                hi = (ap₂ max lo-in hi-in ∙ sym (max-in R (labelOf M (e .lo)) (labelOf M (e .hi)) (lo-side l) (hi-side l))) i }
+          record {
+            lo = (ap₂ min lo-in hi-in ∙ sym (min-in R (labelOf M (e .lo)) (labelOf M (e .hi)) (lo-side l) (hi-side l))) i;
+            hi = (ap₂ max lo-in hi-in ∙ sym (max-in R (labelOf M (e .lo)) (labelOf M (e .hi)) (lo-side l) (hi-side l))) i;
+          }
 
     pub separated-same : {es : List Pair} → All (Lies true) es → filter (isSeparated (labels S)) es ≡ filter (isSeparated (labels M)) es
     separated-same a = filter-ext (all-map (λ e l. separated-in l) a)
@@ -128,10 +129,11 @@ module _ (M : Map) (isl : ℕ → Bool) where
     unfolding pairsOf
     pairs-same {es} a =
         ap (λ k. addPairs [] (map (labelPair (labels S)) k)) (separated-same a)
-          ∙ ap (addPairs []) (map-ext (all-map (λ e l. renamed-in l) apart) ∙ sym (map-map (renP R) (labelPair (labels M)) kept))
-          ∙ sym (addPairs-in (In R) (renP R) (lt-same R) (eq-same R) done (all-onto (labelPair (labels M)) (all-map (λ e l. pair-in l) apart)))
+        ∙ ap (addPairs []) (map-ext (all-map (λ e l. renamed-in l) apart) ∙ sym (map-map (renP R) (labelPair (labels M)) kept))
+        ∙ sym (addPairs-in (In R) (renP R) (lt-same R) (eq-same R) done (all-onto (labelPair (labels M)) (all-map (λ e l. pair-in l) apart)))
       where
         kept : List Pair
         kept = filter (isSeparated (labels M)) es
+
         apart : All (Lies true) kept
         apart = all-filter (isSeparated (labels M)) a

@@ -1,7 +1,7 @@
 -- A map restricted to an island: all other cells blocked, and only the boundaries that cut the island, with their spans. Its cut steps are those of the spans
 -- that cut there, its uncut steps are the island's, and so the island's cells have the roots that they have in the map.
 -- The argument: no step leaves the island, so that each span's steps lie on one side, and the premise that no span cuts on both gives that all of them do.
-use Prim.Native.Nat.{ℕ, _%_, _<_}
+use Prim.Native.Nat.{ℕ, _<_}
 use mathlib.Core.Path.{_≡_, refl, sym, ap, ap₂, _∙_, fun-ext}
 use mathlib.Core.Bool.{Bool, true, false, not, _&&_, _||_, cond, true≢false, and-true, and-false}
 use mathlib.Core.List.{List, [], _∷_, _++_, map, map-id}
@@ -9,14 +9,14 @@ use lib.ListN.{getD}
 use lib.Arith.{digits-lt}
 use lib.Dec.{eqb, ltb}
 use borrow.Author.Tests.{ltb-true, lt-ltb, eqb-true}
-use Rattle.definitions.specs.Scan.{run, any, filter, concatMap, gather, anyBelow}
+use Rattle.definitions.specs.Scan.{run, any, filter, concatMap, anyBelow}
 use Rattle.definitions.specs.Grid.{Map, Position, Segment, Pair, pairEq, noSegment, canonical, index, cellCount, cellAt, isWalkable, positionOf, toward, walkable, isStep, directions, neighbors, onward, edge, spanCount, spanOf, boundaryOf}
 use Rattle.definitions.specs.Spans.{cuts, candidatePositions, cutSteps}
 use Rattle.definitions.specs.Partition.{allSteps, cutAll, uncut, roots}
-use Rattle.laws.specs.Lists.{All, done, more, all-split, all-map, all-both, filter-none, any-gather, getD-tab}
+use Rattle.laws.specs.Lists.{All, done, more, all-split, all-map, all-both, any-gather, getD-tab}
 use Rattle.laws.specs.Ranks.{rank, any-rank}
 use Rattle.laws.specs.Scans.{both, picked, picked-length, picked-at, all-not-any, filter-gather, filter-swap}
-use Rattle.laws.specs.MergingInside.{Keeps, Agree, Sided, renamed, merging-inside}
+use Rattle.laws.specs.MergingInside.{Keeps, Agree, Sided, merging-inside}
 use Rattle.island.specs.Premises.{cutsIsland, cutsRemainder, hasAnchor, Island}
 use Rattle.island.specs.Steps.{steps-in}
 use Rattle.island.specs.StepCells.{sound, uncut-all, cut-all}
@@ -25,13 +25,14 @@ module _ (M : Map) (isl : ℕ → Bool) where
   -- the island's cells that have an anchor, ascending, are the anchors
   abbrev pub restrict : Map
   restrict =
-      record
-        { width = M .width;
-          height = M .height;
-          cells = map (λ c. cond (isl c) (cellAt M c) 0) (run 0 (cellCount M));
-          spans = picked (cutsIsland M isl) (spanOf M) (spanCount M);
-          boundaries = picked (cutsIsland M isl) (boundaryOf M) (spanCount M);
-          anchors = picked (λ c. isl c && hasAnchor M isl c) (λ c. c) (cellCount M) }
+      record {
+        width = M .width;
+        height = M .height;
+        cells = map (λ c. cond (isl c) (cellAt M c) 0) (run 0 (cellCount M));
+        spans = picked (cutsIsland M isl) (spanOf M) (spanCount M);
+        boundaries = picked (cutsIsland M isl) (boundaryOf M) (spanCount M);
+        anchors = picked (λ c. isl c && hasAnchor M isl c) (λ c. c) (cellCount M);
+      }
 
   pub cells-at : (c : ℕ) → c < cellCount M → cellAt restrict c ≡ cond (isl c) (cellAt M c) 0
   cells-at c h = getD-tab (λ c. cond (isl c) (cellAt M c) 0) 0 (cellCount M) c h
@@ -60,23 +61,27 @@ module _ (M : Map) (isl : ℕ → Bool) where
       where
         one : All (λ e. isl (e .lo) ≡ isl (e .hi)) (cutSteps M i)
         one = cut-all M (λ e. isl (e .lo) ≡ isl (e .hi)) (I .apart) i
+
         below : ltb i (spanCount M) ≡ true
         below = lt-ltb i (spanCount M) l
+
         inner : (a b : Bool) → a ≡ b → (not a && not b) ≡ false → a ≡ true
         inner true b e h = refl
         inner false true e h = e
         inner false false e h = absurd (true≢false h)
+
         outer : (a b : Bool) → a ≡ b → (a && b) ≡ false → a ≡ false
         outer true true e h = h
         outer true false e h = e
         outer false b e h = refl
+
         go : (b : Bool) → cutsIsland M isl i ≡ b → All (λ e. isl (e .lo) ≡ b) (cutSteps M i)
         go true h =
             all-map (λ e k. inner (isl (e .lo)) (isl (e .hi)) (k .0) (k .1))
-              (all-both one (all-not-any _ (cutSteps M i) (sym (ap₂ _&&_ h (ap (λ b. b && any (λ e. not (isl (e .lo)) && not (isl (e .hi))) (cutSteps M i)) below)) ∙ I .oneSided i)))
+            (all-both one (all-not-any _ (cutSteps M i) (sym (ap₂ _&&_ h (ap (λ b. b && any (λ e. not (isl (e .lo)) && not (isl (e .hi))) (cutSteps M i)) below)) ∙ I .oneSided i)))
         go false h =
             all-map (λ e k. outer (isl (e .lo)) (isl (e .hi)) (k .0) (k .1))
-              (all-both one (all-not-any _ (cutSteps M i) (sym (ap (λ b. b && any (λ e. isl (e .lo) && isl (e .hi)) (cutSteps M i)) below) ∙ h)))
+            (all-both one (all-not-any _ (cutSteps M i) (sym (ap (λ b. b && any (λ e. isl (e .lo) && isl (e .hi)) (cutSteps M i)) below) ∙ h)))
 
     -- ---- steps
 
@@ -117,6 +122,7 @@ module _ (M : Map) (isl : ℕ → Bool) where
         empty : isl (index M p) ≡ false → (l : List Position) → All (λ e. isl (e .lo) ≡ true) (map (edge M p) l) → [] ≡ map (edge M p) l
         empty h [] a = refl
         empty h (q ∷ l) (more k a) = absurd (true≢false (sym k ∙ h))
+
         go : (b : Bool) → isl (index M p) ≡ b → piece restrict g p ≡ piece M g p
         go true h = ap (λ l. map (edge M p) (filter (cuts g p) l)) (onward-in p h)
         go false h = ap (λ l. map (edge M p) (filter (cuts g p) l)) (onward-out p h) ∙ empty h (filter (cuts g p) (onward M p)) a
@@ -133,7 +139,7 @@ module _ (M : Map) (isl : ℕ → Bool) where
     unfolding cutSteps spanOf
     cut-in i h =
         rw (picked-at (cutsIsland M isl) (spanOf M) noSegment (spanCount M) i (cuts-lt i h) h)
-          (pieces-in (canonical (spanOf M i)) (candidatePositions (M .width) (M .height) (canonical (spanOf M i))) (all-map (λ e k. k ∙ h) (cut-sided i (cuts-lt i h))))
+        (pieces-in (canonical (spanOf M i)) (candidatePositions (M .width) (M .height) (canonical (spanOf M i))) (all-map (λ e k. k ∙ h) (cut-sided i (cuts-lt i h))))
 
     -- ---- the uncut steps
 
@@ -168,17 +174,17 @@ module _ (M : Map) (isl : ℕ → Bool) where
     unfolding cutAll
     gone-in e h =
         any-gather (pairEq e) (spanCount M) (cutSteps M)
-          ∙ any-rank (cutsIsland M isl) _ (λ i. any (pairEq e) (cutSteps restrict i)) (spanCount M)
-            (λ i l b. ap (any (pairEq e)) (sym (cut-in i b)))
-            (λ i l b. not-among e h (all-map (λ x k. k ∙ b) (cut-sided i l)))
-          ∙ ap (λ n. anyBelow n (λ i. any (pairEq e) (cutSteps restrict i))) (sym count-in)
-          ∙ sym (any-gather (pairEq e) (spanCount restrict) (cutSteps restrict))
+        ∙ any-rank (cutsIsland M isl) _ (λ i. any (pairEq e) (cutSteps restrict i)) (spanCount M)
+        (λ i l b. ap (any (pairEq e)) (sym (cut-in i b)))
+        (λ i l b. not-among e h (all-map (λ x k. k ∙ b) (cut-sided i l)))
+        ∙ ap (λ n. anyBelow n (λ i. any (pairEq e) (cutSteps restrict i))) (sym count-in)
+        ∙ sym (any-gather (pairEq e) (spanCount restrict) (cutSteps restrict))
 
     uncut-in : filter inner (uncut M) ≡ uncut restrict
     unfolding uncut
     uncut-in =
         filter-swap inner (λ e. not (any (pairEq e) (cutAll M))) (λ e. not (any (pairEq e) (cutAll restrict))) (allSteps M) (λ e h. ap not (gone-in e h))
-          ∙ ap (filter (λ e. not (any (pairEq e) (cutAll restrict)))) all-in
+        ∙ ap (filter (λ e. not (any (pairEq e) (cutAll restrict)))) all-in
 
     -- ---- the roots
 
@@ -193,9 +199,9 @@ module _ (M : Map) (isl : ℕ → Bool) where
         sided : All (Sided isl (λ c. c) (cellCount M) (cellCount M) unmoved) (uncut M)
         sided =
             uncut-all M (Sided isl (λ c. c) (cellCount M) (cellCount M) unmoved)
-              (λ p d h.
-                let s = sound M p d h in
-                record { lo = s .lo; hi = s .hi; one = I .apart p d h })
+            (λ p d h.
+            let s = sound M p d h in
+            record { lo = s .lo; hi = s .hi; one = I .apart p d h })
 
     -- a root lies where its cell does, and an island cell has the same root in both maps
     pub root-side : (c : ℕ) → c < cellCount M → isl (getD (roots M) c 0) ≡ isl c

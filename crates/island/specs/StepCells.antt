@@ -44,11 +44,12 @@ module _ (M : Map) where
   pub sound : (p d : Position) → isStep M p d ≡ true → Sound (edge M p (toward p d))
   sound p d h =
       let f = four M p d h in
-      record
-        { lo = walkable-lt p (f .near);
-          hi = walkable-lt (toward p d) (f .far);
-          loWalkable = walkable-cell p (f .near);
-          hiWalkable = walkable-cell (toward p d) (f .far) }
+      record {
+        lo = walkable-lt p (f .near);
+        hi = walkable-lt (toward p d) (f .far);
+        loWalkable = walkable-cell p (f .near);
+        hiWalkable = walkable-cell (toward p d) (f .far);
+      }
 
   module _ (P : Pair → Type 0) (each : (p d : Position) → isStep M p d ≡ true → P (edge M p (toward p d))) where
     onward-all : (p : Position) → All (λ q. P (edge M p q)) (onward M p)
@@ -63,4 +64,4 @@ module _ (M : Map) where
     unfolding cutSteps
     cut-all i =
         all-concatMap _ (candidatePositions (M .width) (M .height) (canonical (spanOf M i)))
-          (λ p. all-onto (edge M p) (all-filter (cuts (canonical (spanOf M i)) p) (onward-all p)))
+        (λ p. all-onto (edge M p) (all-filter (cuts (canonical (spanOf M i)) p) (onward-all p)))

@@ -37,9 +37,9 @@ unfolding isStep
 join4 M p d f = rw (f .nearX, f .nearY, f .right, f .down, f .far, f .near, f .side, f .under) refl
 
 module _
-  (M M′ : Map) (isl : Position → Bool)
-  (blocked : (q : Position) → walkable M′ q ≡ (walkable M q && isl q))
-  (apart : (p d : Position) → isStep M p d ≡ true → isl p ≡ isl (toward p d)) where
+    (M M′ : Map) (isl : Position → Bool)
+    (blocked : (q : Position) → walkable M′ q ≡ (walkable M q && isl q))
+    (apart : (p d : Position) → isStep M p d ≡ true → isl p ≡ isl (toward p d)) where
   weaker : (q : Position) → walkable M′ q ≡ true → walkable M q ≡ true
   weaker q h = both (walkable M q) (isl q) (sym (blocked q) ∙ h) .0
 
@@ -58,49 +58,54 @@ module _
     where
       legs : Four M p (at (d .x) 1)
       legs =
-          record
-            { nearX = f .nearX;
-              nearY = refl;
-              right = f .right;
-              down = le-leb 1 (p .y + 1) (omega arith);
-              far = rw (one-back (p .y)) (f .side);
-              near = f .near;
-              side = f .side;
-              under = rw (one-back (p .y)) (f .near) }
+          record {
+            nearX = f .nearX;
+            nearY = refl;
+            right = f .right;
+            down = le-leb 1 (p .y + 1) (omega arith);
+            far = rw (one-back (p .y)) (f .side);
+            near = f .near;
+            side = f .side;
+            under = rw (one-back (p .y)) (f .near);
+          }
 
   leg-y : (p d : Position) → Four M p d → isl p ≡ isl (at (p .x) (toward p d .y))
   leg-y p d f = apart p (at 1 (d .y)) (join4 M p (at 1 (d .y)) legs) ∙ ap (λ n. isl (at n (p .y + d .y - 1))) (one-back (p .x))
     where
       legs : Four M p (at 1 (d .y))
       legs =
-          record
-            { nearX = refl;
-              nearY = f .nearY;
-              right = le-leb 1 (p .x + 1) (omega arith);
-              down = f .down;
-              far = rw (one-back (p .x)) (f .under);
-              near = f .near;
-              side = rw (one-back (p .x)) (f .near);
-              under = f .under }
+          record {
+            nearX = refl;
+            nearY = f .nearY;
+            right = le-leb 1 (p .x + 1) (omega arith);
+            down = f .down;
+            far = rw (one-back (p .x)) (f .under);
+            near = f .near;
+            side = rw (one-back (p .x)) (f .near);
+            under = f .under;
+          }
 
   pub steps-in : (p d : Position) → isStep M′ p d ≡ (isl p && isStep M p d)
   steps-in p d = go (isStep M p d) refl (isl p) refl (isStep M′ p d) refl
     where
       whole : isl p ≡ true → Four M p d → Four M′ p d
       whole i f =
-          record
-            { nearX = f .nearX;
-              nearY = f .nearY;
-              right = f .right;
-              down = f .down;
-              far = stays (toward p d) (f .far) (sym (apart p d (join4 M p d f)) ∙ i);
-              near = stays p (f .near) i;
-              side = stays _ (f .side) (sym (leg-x p d f) ∙ i);
-              under = stays _ (f .under) (sym (leg-y p d f) ∙ i) }
+          record {
+            nearX = f .nearX;
+            nearY = f .nearY;
+            right = f .right;
+            down = f .down;
+            far = stays (toward p d) (f .far) (sym (apart p d (join4 M p d f)) ∙ i);
+            near = stays p (f .near) i;
+            side = stays _ (f .side) (sym (leg-x p d f) ∙ i);
+            under = stays _ (f .under) (sym (leg-y p d f) ∙ i);
+          }
+
       back : Four M′ p d → Four M p d
       back f =
           record
-            { nearX = f .nearX; nearY = f .nearY; right = f .right; down = f .down; far = weaker _ (f .far); near = weaker _ (f .near); side = weaker _ (f .side); under = weaker _ (f .under) }
+          { nearX = f .nearX; nearY = f .nearY; right = f .right; down = f .down; far = weaker _ (f .far); near = weaker _ (f .near); side = weaker _ (f .side); under = weaker _ (f .under) }
+
       go : (b : Bool) → isStep M p d ≡ b → (c : Bool) → isl p ≡ c → (e : Bool) → isStep M′ p d ≡ e → e ≡ (c && b)
       go true h true i true k = refl
       go true h true i false k = absurd (false≢true (sym k ∙ join4 M′ p d (whole i (four M p d h))))

@@ -54,6 +54,7 @@ any-at (suc n) f c h k = go (ltb c n) refl (λ l. any-at n f c l k)
   where
     here : c ≡ n → (anyBelow n f || f n) ≡ true
     here e = rw (← e, k) (or-true (anyBelow c f))
+
     go : (b : Bool) → ltb c n ≡ b → (c < n → anyBelow n f ≡ true) → (anyBelow n f || f n) ≡ true
     go true e ih = rw (ih (ltb-true c n e)) refl
     go false e ih = here (omega (arith, ltb-false c n e))
@@ -118,8 +119,10 @@ module _ {A : Type 0} (p : ℕ → Bool) (f : ℕ → A) where
     where
       here : (m : ℕ) → m ≡ i → getD (picked m ++ toList (onlyIf (p m) (f m))) (countBelow i p) d ≡ f i
       here m e = rw (e, k) (getD-at (picked i) (f i) [] d (countBelow i p) (picked-length i))
+
       there : i < n → getD (picked n) (countBelow i p) d ≡ f i → getD (picked n ++ toList (onlyIf (p n) (f n))) (countBelow i p) d ≡ f i
       there l ih = List·getD-append (picked n) (toList (onlyIf (p n) (f n))) d (countBelow i p) (omega (arith, picked-length n, rank-lt p i n k l)) ∙ ih
+
       go : (b : Bool) → ltb i n ≡ b → (i < n → getD (picked n) (countBelow i p) d ≡ f i) → getD (picked n ++ toList (onlyIf (p n) (f n))) (countBelow i p) d ≡ f i
       go true e ih = there (ltb-true i n e) (ih (ltb-true i n e))
       go false e ih = here n (omega (arith, ltb-false i n e))
