@@ -1,4 +1,5 @@
--- The context of the restricted map is that of the map, seen inside the island: every field of the frame, from the steps, labels, pairs and records.
+-- The context of the restricted map is that of the map, seen inside the island (`framed`): every field of the frame, from the steps, labels, pairs and records.
+-- A context holds each span's cut steps in a list by number, and a span beyond the list has none. Assumes `Island`.
 use Prim.Native.Nat.{ℕ, suc, _≤_, _<_}
 use native.Mathlib.Omega.{arith}
 use mathlib.Core.Path.{_≡_, refl, sym, ap, _∙_}

@@ -1,5 +1,5 @@
 -- The island's labels, counted through, are the labels of the restricted map. Labels count roots in order, an island cell has the same root in both maps,
--- and a root of the restricted map is a root in the island; so the label there counts the regions inside before it.
+-- and the restricted map's roots are the map's roots in the island; so a label there counts the regions inside before it. Assumes `Island`.
 use Prim.Native.Nat.{ℕ, zero, suc, _+_, _≤_, _<_}
 use native.Mathlib.Omega.{arith}
 use native.Mathlib.Nat.{add-zero}

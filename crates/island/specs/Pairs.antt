@@ -1,5 +1,5 @@
 -- The pairs of labels that a span separates. Of any labels: what holds of each step's pair holds of all, and a renaming that keeps the order of pairs goes through
--- the sorted list of distinct ones. Of the island's steps: the restricted map's labels separate the same steps, into the renamed pairs.
+-- the sorted list of distinct ones. Of the island's steps: the restricted map's labels separate the same steps, into the renamed pairs. Assumes `Island`.
 use Prim.Native.Nat.{ℕ, min, max}
 use native.Mathlib.Omega.{arith}
 use mathlib.Core.Path.{_≡_, refl, sym, ap, ap₂, _∙_}

@@ -1,5 +1,5 @@
 -- A region inside the island has the same cells in the map and in the restricted map, so that its record and whether it is anchored are the same.
--- The argument: cell by cell the two labels say alike whether the cell is the region's, and all of its cells are the island's.
+-- The argument: cell by cell the two labels say alike whether the cell is the region's, and all of its cells are the island's. Assumes `Island`.
 use Prim.Native.Nat.{ℕ, zero, suc, _+_, _*_, _/_, _%_, _<_, min, max}
 use native.Mathlib.Omega.{arith}
 use mathlib.Core.Path.{_≡_, refl, sym, ap, ap₂, _∙_}

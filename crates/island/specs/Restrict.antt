@@ -1,6 +1,6 @@
--- A map restricted to an island: all other cells blocked, and only the boundaries that cut the island, with their spans. Its cut steps are those of the spans
--- that cut there, its uncut steps are the island's, and so the island's cells have the roots that they have in the map.
--- The argument: no step leaves the island, so that each span's steps lie on one side, and the premise that no span cuts on both gives that all of them do.
+-- A map restricted to an island: its cut steps are those of the spans that cut the island, its uncut steps are the island's, and so an island cell has the root
+-- that it has in the map. The argument: no step leaves the island, so that each cut step lies whole on one side; a span with a step in the island has none outside
+-- by the premise, and one with none in the island has all outside. Assumes the premises of an island (`Island`).
 use Prim.Native.Nat.{ℕ, _<_}
 use mathlib.Core.Path.{_≡_, refl, sym, ap, ap₂, _∙_, fun-ext}
 use mathlib.Core.Bool.{Bool, true, false, not, _&&_, _||_, cond, true≢false, and-true, and-false}
@@ -22,7 +22,7 @@ use Rattle.island.specs.Steps.{steps-in}
 use Rattle.island.specs.StepCells.{sound, uncut-all, cut-all}
 
 module _ (M : Map) (isl : ℕ → Bool) where
-  -- the island's cells that have an anchor, ascending, are the anchors
+  -- The same sides; every cell outside the island 0; the boundaries that cut the island, and their spans; the island cells with an anchor, each once, ascending.
   abbrev pub restrict : Map
   restrict =
       record {

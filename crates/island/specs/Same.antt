@@ -1,5 +1,5 @@
 -- Two maps that are alike on an island restrict to one map: sides, cells, boundaries and anchors agree by the premises, and spans are the endpoints of
--- the boundaries.
+-- the boundaries. Assumes `Alike`.
 use Prim.Native.Nat.{ℕ, _*_, _<_}
 use mathlib.Core.Path.{_≡_, refl, ap, ap₂, sym, _∙_}
 use mathlib.Core.Bool.{Bool, true, false, _&&_, cond}
