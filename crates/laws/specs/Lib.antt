@@ -14,3 +14,4 @@ pub mod PatternOrder
 pub mod NearestRoot
 pub mod Hypotenuse
 pub mod KeysAsBits
+pub mod Scans
