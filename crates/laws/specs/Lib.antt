@@ -5,3 +5,6 @@ pub mod ListOrder
 pub mod Ranks
 pub mod Merging
 pub mod MergingInside
+pub mod Members
+pub mod Chains
+pub mod Steps
