@@ -5,6 +5,10 @@ pub mod ListOrder
 pub mod Ranks
 pub mod Merging
 pub mod MergingInside
+pub mod Tests
 pub mod Members
+pub mod Below
 pub mod Chains
 pub mod Steps
+pub mod Regions
+pub mod LabelsDetermined

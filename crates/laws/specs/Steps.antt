@@ -1,9 +1,9 @@
 -- Every step of the grid, cut or not, joins two walkable cells of the grid, of which the first has the smaller number. Holds of every map, also of one whose
 -- list of cells is shorter than the grid, since a cell beyond the list is not walkable. Assumes nothing.
 use Prim.Native.Nat.{ℕ, _+_, _<_}
-use mathlib.Core.Path.{_≡_, refl}
-use mathlib.Core.Bool.{Bool, true, false, _&&_, cond, false≢true}
-use mathlib.Core.List.{List, map}
+use mathlib.Core.Path.{_≡_}
+use mathlib.Core.Bool.{Bool, true, _&&_}
+use mathlib.Core.List.{map}
 use lib.Dec.{ltb, leb}
 use lib.Arith.{digits-lt}
 use borrow.Author.Tests.{ltb-true}
@@ -14,6 +14,7 @@ use Rattle.definitions.specs.Partition.{allSteps, uncut, walkableAt}
 use Rattle.laws.specs.Lists.{All, all-map, all-both, all-filter}
 use Rattle.laws.specs.Ranks.{gather-all}
 use Rattle.laws.specs.Merging.{Within}
+use Rattle.laws.specs.Tests.{both}
 use Rattle.laws.specs.Members.{filter-passes, all-mapped, all-joined}
 
 pub record Step (M : Map) (e : Pair) : Type 0 where
@@ -21,10 +22,6 @@ pub record Step (M : Map) (e : Pair) : Type 0 where
   pub ordered : e .lo < e .hi
   pub lowWalkable : walkableAt M (e .lo) ≡ true
   pub highWalkable : walkableAt M (e .hi) ≡ true
-
-both : (a b : Bool) → (a && b) ≡ true → (a ≡ true) × (b ≡ true)
-both true b h = (refl, h)
-both false b h = absurd (false≢true h)
 
 module _ (M : Map) where
   -- a walkable position is a cell of the grid
