@@ -12,3 +12,4 @@ pub mod Chains
 pub mod Steps
 pub mod Regions
 pub mod LabelsDetermined
+pub mod Components
