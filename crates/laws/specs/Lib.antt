@@ -13,3 +13,5 @@ pub mod Steps
 pub mod Regions
 pub mod LabelsDetermined
 pub mod Components
+pub mod PairOrder
+pub mod PairInsertion

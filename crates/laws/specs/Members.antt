@@ -1,8 +1,11 @@
 -- Members of lists: what holds of every element holds of a member; what a map, a filter and a joining of lists have for members; and a scan of a list finds
 -- exactly when there is a member to find. Assumes nothing.
+use Prim.Native.Nat.{ℕ, zero, suc, _<_}
+use native.Mathlib.Omega.{arith}
 use mathlib.Core.Path.{_≡_, refl, sym, ap, subst, _∙_}
 use mathlib.Core.Bool.{Bool, true, false, _||_, cond, false≢true}
 use mathlib.Core.List.{List, [], _∷_, map, List·Memᴰ, List·Memᴰ·head, List·Memᴰ·tail}
+use lib.ListN.{length, getD}
 use Rattle.definitions.specs.Scan.{any, filter, concatMap}
 use Rattle.laws.specs.Lists.{All, done, more, all-append, all-map}
 
@@ -10,6 +13,11 @@ module _ {A : Type 0} where
   pub all-at : {P : A → Type 0} {x : A} {l : List A} → All P l → List·Memᴰ x l → P x
   all-at {P} (more h a) (List·Memᴰ·head e) = subst P (sym e) h
   all-at (more h a) (List·Memᴰ·tail m) = all-at a m
+
+  pub all-place : {P : A → Type 0} {l : List A} (d : A) → All P l → (i : ℕ) → i < length l → P (getD l i d)
+  all-place d done i h = absurd (omega arith)
+  all-place d (more k a) zero h = k
+  all-place d (more k a) (suc i) h = all-place d a i (omega arith)
 
   pub all-members : (l : List A) → All (λ x. List·Memᴰ x l) l
   all-members [] = done
