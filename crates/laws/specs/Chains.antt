@@ -4,7 +4,7 @@
 -- holds throughout its class. Assumes nothing.
 use Prim.Native.Nat.{ℕ, _≤_, _<_, min, max}
 use native.Mathlib.Omega.{arith}
-use mathlib.Core.Path.{_≡_, refl, sym, ap, _∙_, subst}
+use mathlib.Core.Path.{_≡_, refl, sym, _∙_, subst}
 use mathlib.Core.Logic.{_↔_}
 use mathlib.Core.Bool.{Bool, true, false, cond}
 use mathlib.Core.List.{List, List·Memᴰ}
@@ -16,7 +16,7 @@ use Rattle.definitions.specs.Grid.{Pair}
 use Rattle.definitions.specs.Partition.{Joined, here, along, back, merge, mergeAll}
 use Rattle.laws.specs.Lists.{All, done, more, all-both, length-run}
 use Rattle.laws.specs.Members.{all-at, all-members}
-use Rattle.laws.specs.Merging.{merged, merge-at, merge-length, Within, Rooted, rooted, run-at, step-joins}
+use Rattle.laws.specs.Merging.{merged, merge-at, merge-length, Within, rooted, run-at, step-joins}
 
 -- ---- chains
 
@@ -40,7 +40,7 @@ module _ {E : List Pair} where
 -- ---- each number is joined to its name
 
 module _ (E : List Pair) (n : ℕ) where
-  -- every pair of E has names joined to its numbers
+  -- one merge: the names of p's numbers are joined to them, and so to one another
   merged-joined : (rs : List ℕ) (p : Pair) → ((c : ℕ) → c < n → Joined E c (getD rs c 0)) → Within n p → List·Memᴰ p E → (c : ℕ) → c < n → Joined E c (merged (getD rs (p .lo) 0) (getD rs (p .hi) 0) (getD rs c 0))
   unfolding merged
   merged-joined rs p j w m c h = go (eqb r (max a b)) refl (ltb a b) refl
@@ -53,12 +53,16 @@ module _ (E : List Pair) (n : ℕ) where
       r = getD rs c 0
       across : Joined E a b
       across = joined-trans (along {e = p} (joined-sym (j (p .lo) (w .lo))) m) (j (p .hi) (w .hi))
-      from : (k l : ℕ) → r ≡ k → l ≡ k → Joined E c l
-      from k l e f = subst (λ x. Joined E c x) (e ∙ sym f) (j c h)
+      named : (k : ℕ) → r ≡ k → Joined E c k
+      named k e = subst (λ x. Joined E c x) e (j c h)
       go : (t : Bool) → eqb r (max a b) ≡ t → (u : Bool) → ltb a b ≡ u → Joined E c (cond t (min a b) r)
       go false q u v = j c h
-      go true q true v = joined-trans (from b b (omega (arith, ltb-true a b v, eqb-true r (max a b) q)) refl) (subst (λ x. Joined E b x) (omega (arith, ltb-true a b v)) (joined-sym across))
-      go true q false v = joined-trans (from a a (omega (arith, ltb-false a b v, eqb-true r (max a b) q)) refl) (subst (λ x. Joined E a x) (omega (arith, ltb-false a b v)) across)
+      go true q true v =
+          subst (λ x. Joined E c x) (omega (arith, ltb-true a b v))
+            (joined-trans (named b (omega (arith, ltb-true a b v, eqb-true r (max a b) q))) (joined-sym across))
+      go true q false v =
+          subst (λ x. Joined E c x) (omega (arith, ltb-false a b v))
+            (joined-trans (named a (omega (arith, ltb-false a b v, eqb-true r (max a b) q))) across)
 
   names-joined : {ps : List Pair} (rs : List ℕ) → length rs ≡ n → ((c : ℕ) → c < n → Joined E c (getD rs c 0)) → All (λ p. Within n p × List·Memᴰ p E) ps → (c : ℕ) → c < n → Joined E c (getD (mergeAll rs ps) c 0)
   unfolding mergeAll

@@ -3,10 +3,10 @@
 -- Rust's depth-first search fills; and its name is its least label. All from the laws on merging (Chains). Assumes that premise alone.
 use Prim.Native.Nat.{ℕ, zero, suc, _≤_, _<_}
 use native.Mathlib.Omega.{arith}
-use mathlib.Core.Path.{_≡_, refl, sym, ap, _∙_}
+use mathlib.Core.Path.{_≡_, refl, sym, _∙_}
 use mathlib.Core.Logic.{_↔_}
 use mathlib.Core.Bool.{Bool, true, false, cond}
-use mathlib.Core.List.{List, [], _++_}
+use mathlib.Core.List.{List, []}
 use lib.Dec.{eqb, ltb}
 use borrow.Author.Tests.{ltb-true, ltb-false, eqb-true, eqb-false}
 use Rattle.definitions.specs.Scan.{gather}
@@ -14,7 +14,7 @@ use Rattle.definitions.specs.Grid.{Pair}
 use Rattle.definitions.specs.Partition.{Joined}
 use Rattle.definitions.specs.Context.{Context}
 use Rattle.definitions.specs.RampInteriors.{isOrdinary, links, components, componentOf}
-use Rattle.laws.specs.Lists.{All, done, all-append, all-split, all-map}
+use Rattle.laws.specs.Lists.{All, done, all-append, all-split}
 use Rattle.laws.specs.Merging.{Within, rooted, step-joins}
 use Rattle.laws.specs.Chains.{same-name, name-least, class-least}
 

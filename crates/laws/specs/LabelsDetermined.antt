@@ -18,7 +18,7 @@ use Rattle.laws.specs.Tests.{both, eqb-same}
 use Rattle.laws.specs.Below.{below-at, below-none, below-ext, count-ext, First, below-first}
 use Rattle.laws.specs.Regions.{root, roots-rooted, root-below, root-walkable, root-label, root-first, isRoot-parts, label-walkable, label-blocked, labels-joined, labels-length}
 
--- cell c is walkable and has the label of r
+-- cell c is walkable and has label r
 abbrev pub sharesLabel : Map → List ℕ → ℕ → ℕ → Bool
 sharesLabel M ls r c = walkableAt M c && eqb (getD ls c 0) r
 

@@ -15,3 +15,4 @@ pub mod LabelsDetermined
 pub mod Components
 pub mod PairOrder
 pub mod PairInsertion
+pub mod PairLaws

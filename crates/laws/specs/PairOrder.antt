@@ -2,16 +2,16 @@
 -- is in order place by place, and is determined by its members. Assumes nothing.
 use Prim.Native.Nat.{ℕ, zero, suc, _<_}
 use native.Mathlib.Omega.{arith}
-use mathlib.Core.Path.{_≡_, refl, sym, ap, ap₂, _∙_, subst}
+use mathlib.Core.Path.{_≡_, refl, sym, ap, ap₂, _∙_}
 use mathlib.Core.Bool.{Bool, true, false, _&&_, _||_, true≢false, false≢true, and-false, or-false, or-true}
 use mathlib.Core.List.{List, [], _∷_}
 use lib.ListN.{length, getD}
 use lib.Dec.{eqb, ltb}
-use borrow.Author.Tests.{ltb-true, ltb-false, lt-ltb, eqb-true, eq-eqb, ne-eqb}
+use borrow.Author.Tests.{lt-ltb, eqb-true, eq-eqb}
 use Rattle.definitions.specs.Scan.{any}
 use Rattle.definitions.specs.Sort.{listLt}
 use Rattle.definitions.specs.Grid.{Pair, pairLt, pairEq}
-use Rattle.laws.specs.Lists.{All, done, more, all-map}
+use Rattle.laws.specs.Lists.{All, more, all-map}
 use Rattle.laws.specs.StableSort.{Weak}
 use Rattle.laws.specs.ListOrder.{by-key, eqb-sym, Three, less, same, over, three}
 use Rattle.laws.specs.Tests.{both}

@@ -17,7 +17,7 @@ use Rattle.laws.specs.Ranks.{rank-lt, rank-eqb}
 use Rattle.laws.specs.Merging.{Within, Rooted, rooted}
 use Rattle.laws.specs.Tests.{both}
 use Rattle.laws.specs.Below.{rank-taken}
-use Rattle.laws.specs.Chains.{joined-sym, joined-same, name-joined, same-name}
+use Rattle.laws.specs.Chains.{joined-sym, joined-same, name-joined, same-name, class-least}
 use Rattle.laws.specs.Steps.{uncut-steps}
 
 module _ (M : Map) where
@@ -37,6 +37,11 @@ module _ (M : Map) where
   pub roots-joined : (c d : ℕ) → c < cellCount M → d < cellCount M → (root c ≡ root d) ↔ Joined (uncut M) c d
   unfolding roots
   roots-joined c d h k = same-name (cellCount M) uncut-within c d h k
+
+  -- a set of cells that has c and is closed under uncut steps has the region of c
+  pub region-least : (P : ℕ → Bool) → All (λ e. P (e .lo) ≡ P (e .hi)) (uncut M) → (c d : ℕ) → c < cellCount M → d < cellCount M → root d ≡ root c → P c ≡ true → P d ≡ true
+  unfolding roots
+  region-least P s c d h k e t = class-least (cellCount M) uncut-within P s c d h k e t
 
   pub root-below : (c : ℕ) → c < cellCount M → root c < cellCount M
   root-below c h = omega (arith, roots-rooted .low c h)
