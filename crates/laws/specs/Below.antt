@@ -1,12 +1,14 @@
--- Scans over the numbers below n, number by number: what is found somewhere has a first place, tests that agree below n have equal scans, and every rank below
--- the count is taken by a number inside. Assumes nothing.
-use Prim.Native.Nat.{ℕ, zero, suc, _+_, _<_}
+-- Scans over the numbers below n, number by number: what is found somewhere has a first place, tests that agree below n have equal scans, every rank below
+-- the count is taken by a number inside, and what is gathered is what is gathered at each number. Assumes nothing.
+use Prim.Native.Nat.{ℕ, zero, suc, _+_, _≤_, _<_}
 use native.Mathlib.Omega.{arith}
 use mathlib.Core.Path.{_≡_, refl, sym, ap, ap₂, _∙_}
 use mathlib.Core.Bool.{Bool, true, false, _||_, false≢true, or-true}
+use mathlib.Core.List.{List}
 use lib.Dec.{ltb}
 use borrow.Author.Tests.{ltb-true, ltb-false}
-use Rattle.definitions.specs.Scan.{anyBelow, countBelow, bit}
+use Rattle.definitions.specs.Scan.{anyBelow, countBelow, gather, bit}
+use Rattle.laws.specs.Lists.{All, done, all-append, all-split}
 use Rattle.laws.specs.Ranks.{rank}
 
 pub below-at : (n : ℕ) (f : ℕ → Bool) (c : ℕ) → c < n → f c ≡ true → anyBelow n f ≡ true
@@ -65,7 +67,28 @@ rank-taken inside (suc n) k h = go (ltb k (rank inside n)) refl (inside n) refl 
   where
     wider : Ranked inside n k → Ranked inside (suc n) k
     wider r = record { place = r .place; below = omega (arith, r .below); isInside = r .isInside; rank-is = r .rank-is }
+
     go : (b : Bool) → ltb k (rank inside n) ≡ b → (c : Bool) → inside n ≡ c → (k < rank inside n → Ranked inside n k) → Ranked inside (suc n) k
     go true e c i ih = wider (ih (ltb-true k (rank inside n) e))
     go false e true i ih = record { place = n; below = omega arith; isInside = i; rank-is = omega (arith, ltb-false k (rank inside n) e, rw i at h) }
     go false e false i ih = absurd (omega (arith, ltb-false k (rank inside n) e, rw i at h))
+
+-- ---- what holds of all that is gathered holds of what is gathered at each number, and the other way round
+
+module _ {A : Type 0} {P : A → Type 0} (f : ℕ → List A) where
+  pub gather-below : (n : ℕ) → ((i : ℕ) → i < n → All P (f i)) → All P (gather n f)
+  unfolding gather
+  gather-below zero h = done
+  gather-below (suc n) h = all-append (gather-below n (λ i l. h i (omega arith))) (h n (omega arith))
+
+  pub gather-at : (n : ℕ) → All P (gather n f) → (i : ℕ) → i < n → All P (f i)
+  unfolding gather
+  gather-at zero a i l = absurd (omega arith)
+  gather-at (suc n) a i l = go (all-split (gather n f) a) (ltb i n) refl (λ b. gather-at n b i)
+    where
+      go : All P (gather n f) × All P (f n) → (b : Bool) → ltb i n ≡ b → (All P (gather n f) → i < n → All P (f i)) → All P (f i)
+      go s true e ih = ih (s .0) (ltb-true i n e)
+      go s false e ih = rw (last (ltb-false i n e)) (s .1)
+        where
+          last : n ≤ i → i ≡ n
+          last h = omega arith

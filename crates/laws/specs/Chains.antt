@@ -47,29 +47,34 @@ module _ (E : List Pair) (n : ℕ) where
     where
       a : ℕ
       a = getD rs (p .lo) 0
+
       b : ℕ
       b = getD rs (p .hi) 0
+
       r : ℕ
       r = getD rs c 0
+
       across : Joined E a b
       across = joined-trans (along {e = p} (joined-sym (j (p .lo) (w .lo))) m) (j (p .hi) (w .hi))
+
       named : (k : ℕ) → r ≡ k → Joined E c k
       named k e = subst (λ x. Joined E c x) e (j c h)
+
       go : (t : Bool) → eqb r (max a b) ≡ t → (u : Bool) → ltb a b ≡ u → Joined E c (cond t (min a b) r)
       go false q u v = j c h
       go true q true v =
           subst (λ x. Joined E c x) (omega (arith, ltb-true a b v))
-            (joined-trans (named b (omega (arith, ltb-true a b v, eqb-true r (max a b) q))) (joined-sym across))
+          (joined-trans (named b (omega (arith, ltb-true a b v, eqb-true r (max a b) q))) (joined-sym across))
       go true q false v =
           subst (λ x. Joined E c x) (omega (arith, ltb-false a b v))
-            (joined-trans (named a (omega (arith, ltb-false a b v, eqb-true r (max a b) q))) across)
+          (joined-trans (named a (omega (arith, ltb-false a b v, eqb-true r (max a b) q))) across)
 
   names-joined : {ps : List Pair} (rs : List ℕ) → length rs ≡ n → ((c : ℕ) → c < n → Joined E c (getD rs c 0)) → All (λ p. Within n p × List·Memᴰ p E) ps → (c : ℕ) → c < n → Joined E c (getD (mergeAll rs ps) c 0)
   unfolding mergeAll
   names-joined rs l j done = j
   names-joined rs l j (more {x = p} w a) =
       names-joined (merge rs p) (merge-length rs p ∙ l)
-        (λ c h. subst (λ x. Joined E c x) (sym (merge-at rs p c (omega arith))) (merged-joined rs p j (w .0) (w .1) c h)) a
+      (λ c h. subst (λ x. Joined E c x) (sym (merge-at rs p c (omega arith))) (merged-joined rs p j (w .0) (w .1) c h)) a
 
 -- ---- the classes, from each number alone
 

@@ -1,42 +1,24 @@
--- The components of pass 2, of a context whose pairs name labels of regions. Two labels have one component exactly when ordinary full cuts join them; the
--- component of r is the least set of labels that has r and is closed under ordinary full cuts (`component-closed`, `component-least`), which is what the
--- Rust's depth-first search fills; and its name is its least label. All from the laws on merging (Chains). Assumes that premise alone.
-use Prim.Native.Nat.{ℕ, zero, suc, _≤_, _<_}
+-- The components of pass 2, of a context whose pairs name labels up to the number of regions. Two labels have one component exactly when ordinary full cuts join
+-- them; the component of r is the least set of labels that has r and is closed under ordinary full cuts (`component-closed`, `component-least`), which is what
+-- the Rust's depth-first search fills; and its name is its least label. All from the laws on merging (Chains). Assumes that premise alone.
+use Prim.Native.Nat.{ℕ, suc, _≤_, _<_}
 use native.Mathlib.Omega.{arith}
 use mathlib.Core.Path.{_≡_, refl, sym, _∙_}
 use mathlib.Core.Logic.{_↔_}
 use mathlib.Core.Bool.{Bool, true, false, cond}
-use mathlib.Core.List.{List, []}
-use lib.Dec.{eqb, ltb}
-use borrow.Author.Tests.{ltb-true, ltb-false, eqb-true, eqb-false}
-use Rattle.definitions.specs.Scan.{gather}
+use mathlib.Core.List.{[]}
+use lib.Dec.{eqb}
+use borrow.Author.Tests.{eqb-true, eqb-false}
 use Rattle.definitions.specs.Grid.{Pair}
 use Rattle.definitions.specs.Partition.{Joined}
 use Rattle.definitions.specs.Context.{Context}
 use Rattle.definitions.specs.RampInteriors.{isOrdinary, links, components, componentOf}
-use Rattle.laws.specs.Lists.{All, done, all-append, all-split}
+use Rattle.laws.specs.Lists.{All, done}
 use Rattle.laws.specs.Merging.{Within, rooted, step-joins}
+use Rattle.laws.specs.Below.{gather-below, gather-at}
 use Rattle.laws.specs.Chains.{same-name, name-least, class-least}
 
 -- ---- what holds of every link is what holds of every pair of every ordinary full cut
-
-module _ {A : Type 0} {P : A → Type 0} (f : ℕ → List A) where
-  gather-below : (n : ℕ) → ((i : ℕ) → i < n → All P (f i)) → All P (gather n f)
-  unfolding gather
-  gather-below zero h = done
-  gather-below (suc n) h = all-append (gather-below n (λ i l. h i (omega arith))) (h n (omega arith))
-
-  gather-at : (n : ℕ) → All P (gather n f) → (i : ℕ) → i < n → All P (f i)
-  unfolding gather
-  gather-at zero a i l = absurd (omega arith)
-  gather-at (suc n) a i l = go (all-split (gather n f) a) (ltb i n) refl (λ b. gather-at n b i)
-    where
-      go : All P (gather n f) × All P (f n) → (b : Bool) → ltb i n ≡ b → (All P (gather n f) → i < n → All P (f i)) → All P (f i)
-      go s true e ih = ih (s .0) (ltb-true i n e)
-      go s false e ih = rw (last (ltb-false i n e)) (s .1)
-        where
-          last : n ≤ i → i ≡ n
-          last h = omega arith
 
 module _ (C : Context) {P : Pair → Type 0} where
   pub links-all : ((i : ℕ) → i < C .count → isOrdinary C i ≡ true → All P (C .pairs i)) → All P (links C)

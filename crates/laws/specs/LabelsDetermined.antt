@@ -46,6 +46,7 @@ module _ (M : Map) where
     where
       label : ℕ → ℕ
       label d = getD (labels M) d 0
+
       before : walkableAt M c ≡ true → root M c ≡ c → (d : ℕ) → d < c → sharesLabel M (labels M) (label c) d ≡ false
       before w e d l = pick (walkableAt M d) refl (eqb (label d) (label c)) refl
         where
@@ -53,30 +54,34 @@ module _ (M : Map) where
           pick true v true q = absurd (root-first M c h (ap₂ _&&_ w (eq-eqb (root M c) c e)) d l (eqb-true _ _ q))
           pick true v false q = refl
           pick false v b q = refl
+
       earlier : walkableAt M c ≡ true → (root M c ≡ c → ⊥) → anyBelow c (sharesLabel M (labels M) (label c)) ≡ true
       earlier w n =
           below-at c (sharesLabel M (labels M) (label c)) (root M c) (omega (arith, roots-rooted M .low c h, n))
-            (ap₂ _&&_ v (eq-eqb _ _ (root-label M (root M c) c (root-below M c h) h v w .1 (roots-rooted M .own c h))))
+          (ap₂ _&&_ v (eq-eqb _ _ (root-label M (root M c) c (root-below M c h) h v w .1 (roots-rooted M .own c h))))
         where
           v : walkableAt M (root M c) ≡ true
           v = root-walkable M c h ∙ w
+
       same : walkableAt M c ≡ true → (b : Bool) → eqb (root M c) c ≡ b → not (anyBelow c (sharesLabel M (labels M) (label c))) ≡ b
       same w true e = ap not (below-none c _ (before w (eqb-true _ _ e)))
       same w false e = ap not (earlier w (eqb-false _ _ e))
+
       go : (b : Bool) → walkableAt M c ≡ b → (b && not (anyBelow c (sharesLabel M (labels M) (label c)))) ≡ (b && eqb (root M c) c)
       go true w = same w (eqb (root M c) c) refl
       go false w = refl
 
   pub labels-meet : Labelling M (labels M)
   labels-meet =
-      record
-        { long = labels-length M;
-          shared = labels-joined M;
-          counted = λ c h f.
+      record {
+        long = labels-length M;
+        shared = labels-joined M;
+        counted = λ c h f.
             let p = isRoot-parts M c (sym (first-root c h) ∙ f) in
             label-walkable M c h (p .0) ∙ ap (λ r. suc (countBelow r (isRoot M (roots M)))) (p .1)
-              ∙ ap suc (sym (count-ext c _ _ (λ d l. first-root d (omega arith))));
-          blocked = label-blocked M }
+            ∙ ap suc (sym (count-ext c _ _ (λ d l. first-root d (omega arith))));
+        blocked = label-blocked M;
+      }
 
 -- ---- no two lists meet them
 
@@ -106,20 +111,26 @@ module _ (M : Map) {ls ls′ : List ℕ} (L : Labelling M ls) (L′ : Labelling 
     where
       own : walkableAt M c ≡ true → sharesLabel M ls (getD ls c 0) c ≡ true
       own w = ap₂ _&&_ w (eq-eqb (getD ls c 0) (getD ls c 0) refl)
+
       -- f is the first cell of the region of c
       through : walkableAt M c ≡ true → First (sharesLabel M ls (getD ls c 0)) (suc c) → getD ls c 0 ≡ getD ls′ c 0
       through w t = sym e ∙ label-of-first f below first ∙ L′ .shared f c below h v w .1 (L .shared f c below h v w .0 e)
         where
           f : ℕ
           f = t .place
+
           below : f < cellCount M
           below = omega (arith, t .below)
+
           v : walkableAt M f ≡ true
           v = both _ (eqb (getD ls f 0) (getD ls c 0)) (t .found) .0
+
           e : getD ls f 0 ≡ getD ls c 0
           e = eqb-true _ _ (both (walkableAt M f) _ (t .found) .1)
+
           first : isFirst M ls f ≡ true
           first = ap₂ _&&_ v (ap (λ r. not (anyBelow f (sharesLabel M ls r))) e ∙ ap not (t .none))
+
       go : (b : Bool) → walkableAt M c ≡ b → getD ls c 0 ≡ getD ls′ c 0
       go true w = through w (below-first (sharesLabel M ls (getD ls c 0)) (suc c) (below-at (suc c) _ c (omega arith) (own w)))
       go false w = L .blocked c h w ∙ sym (L′ .blocked c h w)

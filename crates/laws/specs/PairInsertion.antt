@@ -49,6 +49,7 @@ any-addPair f p (q ∷ l) = go (pairLt p q) (pairEq p q) refl (any-addPair f p l
     swap true true c = refl
     swap true false c = refl
     swap false b c = refl
+
     go : (b c : Bool) → pairEq p q ≡ c → any f (addPair p l) ≡ (f p || any f l) → any f (cond b (p ∷ q ∷ l) (cond c (q ∷ l) (q ∷ addPair p l))) ≡ (f p || (f q || any f l))
     go true c e ih = refl
     go false true e ih = rw (pair-same p q e) (sym (or-self-left (f q) (any f l)))

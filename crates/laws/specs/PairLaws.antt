@@ -38,6 +38,7 @@ module _ (ls : List ℕ) where
     where
       test : Pair → Bool
       test e = isSeparated ls e && f (labelPair ls e)
+
       go : (es : List Pair) → any f (map (labelPair ls) (filter (isSeparated ls) es)) ≡ any test es
       go [] = refl
       go (e ∷ es) = pick (isSeparated ls e) (go es)
@@ -61,6 +62,7 @@ module _ (ls : List ℕ) where
       go : (l : List Pair) → addPairs [] (map (labelPair ls) l) ≡ [] → length l ≡ 0
       go [] e = refl
       go (x ∷ l) e = absurd (true≢false (sym (any-addPairs (λ p. true) [] (map (labelPair ls) (x ∷ l))) ∙ ap (any (λ p. true)) e))
+
       back : (l : List Pair) → length l ≡ 0 → addPairs [] (map (labelPair ls) l) ≡ []
       back [] e = refl
       back (x ∷ l) e = absurd (omega arith)
@@ -70,12 +72,13 @@ module _ (ls : List ℕ) where
   unfolding pairsOf filter
   pairsOf-step es e =
       ap (λ l. addPairs [] (map (labelPair ls) l)) (filter-append (isSeparated ls) es (e ∷ []))
-        ∙ ap (addPairs []) (map-append (labelPair ls) (filter (isSeparated ls) es) (filter (isSeparated ls) (e ∷ [])))
-        ∙ addPairs-append [] (map (labelPair ls) (filter (isSeparated ls) es)) (map (labelPair ls) (filter (isSeparated ls) (e ∷ [])))
-        ∙ go (isSeparated ls e)
+      ∙ ap (addPairs []) (map-append (labelPair ls) (filter (isSeparated ls) es) (filter (isSeparated ls) (e ∷ [])))
+      ∙ addPairs-append [] (map (labelPair ls) (filter (isSeparated ls) es)) (map (labelPair ls) (filter (isSeparated ls) (e ∷ [])))
+      ∙ go (isSeparated ls e)
     where
       before : List Pair
       before = addPairs [] (map (labelPair ls) (filter (isSeparated ls) es))
+
       go : (b : Bool) → addPairs before (map (labelPair ls) (cond b (e ∷ []) [])) ≡ cond b (addPair (labelPair ls e) before) before
       go true = refl
       go false = refl
@@ -100,7 +103,7 @@ module _ (M : Map) where
   unfolding pairsOf
   pairsOf-named {es} a =
       all-addPairs (Named M) done
-        (all-mapped (labelPair (labels M)) (all-map (λ e h. step-named e (h .0) (h .1)) (all-both (all-filter (isSeparated (labels M)) a) (filter-passes (isSeparated (labels M)) es))))
+      (all-mapped (labelPair (labels M)) (all-map (λ e h. step-named e (h .0) (h .1)) (all-both (all-filter (isSeparated (labels M)) a) (filter-passes (isSeparated (labels M)) es))))
 
   -- ---- of the map's context, for every number, also one beyond the spans
 
@@ -114,7 +117,7 @@ module _ (M : Map) where
       go true e = subst (All (Step M)) (sym (getD-tab (cutSteps M) [] (spanCount M) i (ltb-true _ _ e))) (cutSteps-steps M i)
       go false e =
           subst (All (Step M))
-            (sym (List·getD-eq-default (map (cutSteps M) (run 0 (spanCount M))) [] (omega (arith, ltb-false i (spanCount M) e, length-map (run 0 (spanCount M)) (cutSteps M), length-run 0 (spanCount M))))) done
+          (sym (List·getD-eq-default (map (cutSteps M) (run 0 (spanCount M))) [] (omega (arith, ltb-false i (spanCount M) e, length-map (run 0 (spanCount M)) (cutSteps M), length-run 0 (spanCount M))))) done
 
   pairs-cut : (i : ℕ) → contextOf M .pairs i ≡ pairsOf (labels M) (cutOf i)
   unfolding contextOf pairsOf addPairs filter
@@ -144,6 +147,9 @@ module _ (M : Map) where
   unfolding fullCut
   fullCut-pair i h e =
       let b = both (ltb 0 (contextOf M .removedEdges i)) (eqb (contextOf M .removedEdges i) (contextOf M .separatedEdges i)) h in
-      omega
-        (arith, ltb-true 0 (contextOf M .removedEdges i) (b .0), eqb-true (contextOf M .removedEdges i) (contextOf M .separatedEdges i) (b .1),
-        pairs-empty i .0 e)
+      omega (
+        arith,
+        ltb-true 0 (contextOf M .removedEdges i) (b .0),
+        eqb-true (contextOf M .removedEdges i) (contextOf M .separatedEdges i) (b .1),
+        pairs-empty i .0 e,
+      )

@@ -39,9 +39,10 @@ pair-list p q = ap (λ b. ltb (p .lo) (q .lo) || (eqb (p .lo) (q .lo) && b)) (ap
 
 pub pair-weak : Weak pairLt
 pair-weak =
-    record
-      { asym = λ p q h. sym (pair-list q p) ∙ W .asym p q (pair-list p q ∙ h);
-        cotr = λ p q r h k. sym (pair-list p r) ∙ W .cotr p q r (pair-list p q ∙ h) (pair-list r q ∙ k) }
+    record {
+      asym = λ p q h. sym (pair-list q p) ∙ W .asym p q (pair-list p q ∙ h);
+      cotr = λ p q r h k. sym (pair-list p r) ∙ W .cotr p q r (pair-list p q ∙ h) (pair-list r q ∙ k);
+    }
   where
     W : Weak (λ (p q : Pair). listLt (p .lo ∷ p .hi ∷ []) (q .lo ∷ q .hi ∷ []))
     W = by-key (λ p. p .lo ∷ p .hi ∷ [])
@@ -96,6 +97,7 @@ distinct-at {l} d s i j h k e = go (three i j)
   where
     never : (p q : Pair) → pairLt p q ≡ true → p ≡ q → ⊥
     never p q f g = true≢false (sym (pair-equal p q g) ∙ pair-differ p q f)
+
     go : Three i j → i ≡ j
     go (less f) = absurd (never _ _ (ascending-at d s i j f k) e)
     go (same f) = f
@@ -116,6 +118,7 @@ ascending-unique (next {p = p} {l = l} a s) (next {p = q} {l = m} b t) h = ap₂
   where
     absent : (p q : Pair) {m : List Pair} → pairLt p q ≡ true → All (λ r. pairLt q r ≡ true) m → any (pairEq p) (q ∷ m) ≡ false
     absent p q f c = before-absent p (more f (all-map (λ r g. pair-trans p q r f g) c))
+
     heads : p ≡ q
     heads = go (pairEq p q) refl (pairLt p q) refl
       where
@@ -123,6 +126,7 @@ ascending-unique (next {p = p} {l = l} a s) (next {p = q} {l = m} b t) h = ap₂
         go true e c f = pair-same p q e
         go false e true f = absurd (true≢false (sym (head-found p l) ∙ h p ∙ absent p q f b))
         go false e false f = absurd (true≢false (sym (head-found q m) ∙ sym (h q) ∙ absent q p (pair-total p q f e) a))
+
     tails : (r : Pair) → any (pairEq r) l ≡ any (pairEq r) m
     tails r = go (pairEq r p) refl
       where

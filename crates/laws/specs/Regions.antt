@@ -96,9 +96,10 @@ module _ (M : Map) where
       go false w e = refl
 
   pub root-label : (c d : ℕ) → c < cellCount M → d < cellCount M → walkableAt M c ≡ true → walkableAt M d ≡ true → (getD (labels M) c 0 ≡ getD (labels M) d 0) ↔ (root c ≡ root d)
-  root-label c d h k w v =
-      (λ e. eqb-true (root c) (root d) (rank-eqb (isRoot M (roots M)) (root c) (root d) (root-isRoot c h w) (root-isRoot d k v) ∙ eq-eqb _ _ (ranks e)),
-      λ e. label-walkable c h w ∙ ap (λ r. suc (countBelow r (isRoot M (roots M)))) e ∙ sym (label-walkable d k v))
+  root-label c d h k w v = (
+    λ e. eqb-true (root c) (root d) (rank-eqb (isRoot M (roots M)) (root c) (root d) (root-isRoot c h w) (root-isRoot d k v) ∙ eq-eqb _ _ (ranks e)),
+    λ e. label-walkable c h w ∙ ap (λ r. suc (countBelow r (isRoot M (roots M)))) e ∙ sym (label-walkable d k v),
+  )
     where
       ranks : getD (labels M) c 0 ≡ getD (labels M) d 0 → countBelow (root c) (isRoot M (roots M)) ≡ countBelow (root d) (isRoot M (roots M))
       ranks e = omega (arith, label-walkable c h w, label-walkable d k v)
@@ -128,6 +129,7 @@ module _ (M : Map) where
     where
       w : walkableAt M c ≡ true
       w = isRoot-parts c r .0
+
       go : (b : Bool) → walkableAt M d ≡ b → ⊥
       go true v = omega (arith, root-label d c (omega arith) h v w .0 e, isRoot-parts c r .1, roots-rooted .low d (omega arith))
       go false v = omega (arith, label-blocked d (omega arith) v, label-range c h w .0)
@@ -139,9 +141,10 @@ module _ (M : Map) where
       let t = rank-taken (isRoot M (roots M)) (cellCount M) k h in
       let p = isRoot-parts (t .place) (t .isInside) in
       let e = label-walkable (t .place) (t .below) (p .0) ∙ ap (λ r. suc (countBelow r (isRoot M (roots M)))) (p .1) ∙ ap suc (t .rank-is) in
-      record
-        { cell = t .place;
-          below = t .below;
-          isWalkable = p .0;
-          label = e;
-          first = λ d l q. root-first (t .place) (t .below) (t .isInside) d l (q ∙ sym e) }
+      record {
+        cell = t .place;
+        below = t .below;
+        isWalkable = p .0;
+        label = e;
+        first = λ d l q. root-first (t .place) (t .below) (t .isInside) d l (q ∙ sym e);
+      }

@@ -46,12 +46,14 @@ module _ (M : Map) where
   unfolding onward neighbors
   onward-step p =
       all-map (λ q h. made q (h .0) (h .1))
-        (all-both (all-filter later near) (filter-passes later (neighbors M p)))
+      (all-both (all-filter later near) (filter-passes later (neighbors M p)))
     where
       later : Position → Bool
       later q = ltb (index M p) (index M q)
+
       near : All (λ q. (walkable M p ≡ true) × (walkable M q ≡ true)) (neighbors M p)
       near = all-mapped (toward p) (all-map (step-ends p) (filter-passes (isStep M p) directions))
+
       made : (q : Position) → (walkable M p ≡ true) × (walkable M q ≡ true) → later q ≡ true → Step M (edge M p q)
       made q w l =
           let a = walkable-cell p (w .0) in
@@ -62,7 +64,7 @@ module _ (M : Map) where
   unfolding allSteps
   allSteps-steps =
       gather-all (Step M) (λ c. map (edge M (positionOf M c)) (onward M (positionOf M c))) (cellCount M)
-        (λ c. all-mapped (edge M (positionOf M c)) (onward-step (positionOf M c)))
+      (λ c. all-mapped (edge M (positionOf M c)) (onward-step (positionOf M c)))
 
   pub uncut-steps : All (Step M) (uncut M)
   unfolding uncut
@@ -72,4 +74,4 @@ module _ (M : Map) where
   unfolding cutSteps
   cutSteps-steps s =
       all-joined (λ p. map (edge M p) (filter (cuts (canonical (spanOf M s)) p) (onward M p))) (candidatePositions (M .width) (M .height) (canonical (spanOf M s)))
-        (λ p. all-mapped (edge M p) (all-filter _ (onward-step p)))
+      (λ p. all-mapped (edge M p) (all-filter _ (onward-step p)))
