@@ -15,3 +15,14 @@ pub mod NearestRoot
 pub mod Hypotenuse
 pub mod KeysAsBits
 pub mod Scans
+pub mod Tests
+pub mod Members
+pub mod Below
+pub mod Chains
+pub mod Steps
+pub mod Regions
+pub mod LabelsDetermined
+pub mod Components
+pub mod PairOrder
+pub mod PairInsertion
+pub mod PairLaws
