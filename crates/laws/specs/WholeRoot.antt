@@ -76,15 +76,19 @@ module _ (s n : ℕ) (r : IsWholeRoot s n) where
       most z e =
           size-le s (z + z)
           (lt-of-lt-of-le (r .1) (le-trans (square-le (n + 1) (2 ^ z) (subst (λ (x : ℕ). x ≤ 2 ^ z) (sym (add-one n)) (subst (λ (x : ℕ). n < 2 ^ x) e (size-lt n)))) (le-of-eq (sym (pow-add 2 z z)))))
+
       least : (y : ℕ) → size n ≡ suc y → y + y < size s
       least y e =
           lt-of-not-le
           (λ (g : size s ≤ y + y).
           not-le-of-lt (lt-of-lt-of-le (size-lt s) (pow-mono g)) (le-trans (le-of-eq (pow-add 2 y y)) (le-trans (square-le (2 ^ y) n (size-reaches n y (omega arith))) (r .0))))
+
       none : (z : ℕ) → z ≤ 0 → (z + 1) / 2 ≡ 0
       none z h = omega arith
+
       half : (z y : ℕ) → z ≤ suc y + suc y → y + y < z → (z + 1) / 2 ≡ suc y
       half z y h l = omega arith
+
       go : (z : ℕ) → size n ≡ z → (size s + 1) / 2 ≡ z
       go zero e = none (size s) (most zero e)
       go (suc y) e = half (size s) y (most (suc y) e) (least y e)
@@ -94,9 +98,10 @@ module _ (s n : ℕ) (r : IsWholeRoot s n) where
   leading-root k =
       let q = n / 2 ^ k in
       let below : q * 2 ^ k ≤ n = div-mul-le-self n (2 ^ k) in
-      let above : n + 1 ≤ (q + 1) * 2 ^ k = subst (λ (x : ℕ). x ≤ (q + 1) * 2 ^ k) (sym (add-one n)) (div-lt-iff-lt-mul (pow-pos k) .0 (subst (λ (x : ℕ). q < x) (sym (add-one q)) (le-refl (suc q)))) in
-      (le-div-iff-mul-le (four-pos k) .1 (le-trans (le-of-eq (sym (squared q))) (le-trans (square-le (q * 2 ^ k) n below) (r .0))),
-      div-lt-iff-lt-mul (four-pos k) .1 (lt-of-lt-of-le (r .1) (le-trans (square-le (n + 1) ((q + 1) * 2 ^ k) above) (le-of-eq (squared (q + 1))))))
+      let above : n + 1 ≤ (q + 1) * 2 ^ k = subst (λ (x : ℕ). x ≤ (q + 1) * 2 ^ k) (sym (add-one n)) (div-lt-iff-lt-mul (pow-pos k) .0 (subst (λ (x : ℕ). q < x) (sym (add-one q)) (le-refl (suc q)))) in (
+        le-div-iff-mul-le (four-pos k) .1 (le-trans (le-of-eq (sym (squared q))) (le-trans (square-le (q * 2 ^ k) n below) (r .0))),
+        div-lt-iff-lt-mul (four-pos k) .1 (lt-of-lt-of-le (r .1) (le-trans (square-le (n + 1) ((q + 1) * 2 ^ k) above) (le-of-eq (squared (q + 1))))),
+      )
     where
       squared : (q : ℕ) → q * 2 ^ k * (q * 2 ^ k) ≡ q * q * 4 ^ k
       squared q = mul-mul-mul-comm q (2 ^ k) q (2 ^ k) ∙ ap (λ (x : ℕ). q * q * x) (four-pow k)
