@@ -17,7 +17,7 @@ use Rattle.definitions.specs.RampMouths.{MouthShape, MouthProposal, distinctReg
 use Rattle.laws.specs.Lists.{All, filter-append, map-append}
 use Rattle.laws.specs.SoundContext.{Sound}
 use Rattle.laws.specs.FullCut.{full-cut, full-pair}
-use Rattle.laws.specs.AscendingPairs.{AscendingPairs}
+use Rattle.laws.specs.PairOrder.{Ascending}
 use Rattle.laws.specs.Stars.{starRust, star-is}
 use Rattle.laws.specs.Triangles.{triangleRust, sortedRegions, triangle-is}
 use Rattle.laws.specs.MouthLiteral.{isNone, fullCutAt, rampOf, nearby, overlay, broad, foundMouth}
@@ -57,7 +57,7 @@ module _ {A B : Type 0} (f : B → Bool) (e : A → B) where
   filter-gather (suc n) F G h =
       filter-append f (gather n F) (F n) ∙ ap₂ _++_ (filter-gather n F G (λ i l. h i (omega arith))) (h n (omega arith)) ∙ sym (map-append e (gather n G) (G n))
 
-module _ (C : Context) (sound : Sound C) (ascending : (i : ℕ) → AscendingPairs (C .pairs i)) (measured : (r : ℕ) → finite (C .region r .minX) ≡ true) where
+module _ (C : Context) (sound : Sound C) (ascending : (i : ℕ) → Ascending (C .pairs i)) (measured : (r : ℕ) → finite (C .region r .minX) ≡ true) where
   module _ (a m : ℕ) where
     shape-is : starRust (fullCutAt C m) (C .pairs m) ≡ mouthShape (fullCut C m) (C .pairs m)
     shape-is = star-is (fullCutAt C m) (C .pairs m) ∙ ap (λ b. mouthShape b (C .pairs m)) (sym (full-cut C sound m))

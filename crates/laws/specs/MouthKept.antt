@@ -14,7 +14,7 @@ use Rattle.definitions.specs.Scan.{any, all, filter, toList, onlyIf, concatMap}
 use Rattle.definitions.specs.Sort.{sort}
 use Rattle.definitions.specs.Grid.{Pair, contains}
 use Rattle.definitions.specs.Geometry.{Point, center, distance}
-use Rattle.definitions.specs.RegionRecord.{corners}
+use Rattle.definitions.specs.RegionRecord.{Region, corners}
 use Rattle.definitions.specs.Context.{Context, fullCut}
 use Rattle.definitions.specs.RampMouths.{MouthShape, single, star, MouthProposal, regionsOf, distinctRegions, commonRegions, starFrom, mouthShape, retain, maxMouthDistance, maxApproachRadius, separationOf, approachFits, singleMouth, starMouth, shapedMouth, triangleMouth, triangle, cornersNear, isLocal}
 use Rattle.laws.specs.Lists.{All, done, more, all-filter}
@@ -78,15 +78,19 @@ module _ (C : Context) (measured : (r : ℕ) → finite (C .region r .minX) ≡ 
   unfolding isRetained cornersNear
   retained-is p a = inside (p .isTriangle) ∙ all-agree _ _ at a
     where
+      near : Region → Bool
+      near stat = finite (stat .minX) && all (λ corner. any (λ middle. le (distance corner middle) maxApproachRadius) (concatMap toList (centersOf (rendered C p)))) (corners stat)
+
       F : ℕ → Bool
-      F region = isSomeAnd (statsOf C region) (λ stat. finite (stat .minX) && all (λ corner. any (λ middle. le (distance corner middle) maxApproachRadius) (concatMap toList (centersOf (rendered C p)))) (corners stat))
+      F region = isSomeAnd (statsOf C region) near
 
       inside : (b : Bool) → all F (cond b (sort ltb (p .inner)) (p .inner)) ≡ all F (p .inner)
       inside true = all-tests-sort ltb F (p .inner)
       inside false = refl
 
       at : (r : ℕ) → Inhabited C r → F r ≡ all (λ c. le (distance c (center (C .boundary (p .rampIndex) .endpoints))) maxApproachRadius || p .twoPortBroadApproach && le (distance c (center (C .boundary (p .mouthIndex) .endpoints))) maxApproachRadius) (corners (C .region r))
-      at r h = rw (lt-ltb 0 (C .region r .cells) h, measured r) (λ i. all (λ c. corner-is p c i) (corners (C .region r)))
+      at r h =
+          ap (λ b. isSomeAnd (onlyIf b (C .region r)) near) (lt-ltb 0 (C .region r .cells) h) ∙ (λ i. measured r i && all (λ c. corner-is p c i) (corners (C .region r)))
 
   -- the regions of a mouth's shape
   abbrev pub ShapeIf : Option MouthShape → Type 0

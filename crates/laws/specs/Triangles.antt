@@ -9,15 +9,13 @@ use mathlib.Core.Option.{Option, none, some}
 use mathlib.Core.List.{List, [], _∷_, _++_, map}
 use lib.ListN.{length}
 use lib.Dec.{eqb, ltb, leb}
-use borrow.Author.Tests.{le-leb, ne-eqb, eqb-true}
+use borrow.Author.Tests.{le-leb, ne-eqb}
 use Rattle.definitions.specs.Scan.{any, all, filter, onlyIf, addNew, addAll}
 use Rattle.definitions.specs.Sort.{sort}
 use Rattle.definitions.specs.Grid.{Pair, contains, pairEq, pairLt}
 use Rattle.definitions.specs.RampMouths.{regionsOf, distinctRegions, triangleRepresentative}
-use Rattle.laws.specs.Booleans.{and-left, and-right}
 use Rattle.laws.specs.Lists.{All, done, more}
-use Rattle.laws.specs.ListOrder.{eqb-sym}
-use Rattle.laws.specs.AscendingPairs.{AscendingPairs, before, before-differs}
+use Rattle.laws.specs.PairOrder.{pair-same, pairEq-sym, pair-differ, Ascending, next}
 
 -- ---- as the Rust writes it
 
@@ -130,20 +128,6 @@ any-not f g h (x ∷ l) = rw (h x, any-not f g h l) (go (g x))
 
 -- ---- edges
 
--- equal pairs are equal the other way round
-pair-sym : (p q : Pair) → pairEq p q ≡ pairEq q p
-pair-sym p q = λ i. eqb-sym (p .lo) (q .lo) i && eqb-sym (p .hi) (q .hi) i
-
--- what equals two pairs makes them equal
-pair-trans : (p q r : Pair) → pairEq p q ≡ true → pairEq p r ≡ true → pairEq q r ≡ true
-pair-trans p q r h k = rw (lo, hi) at k
-  where
-    lo : p .lo ≡ q .lo
-    lo = eqb-true (p .lo) (q .lo) (and-left (eqb (p .lo) (q .lo)) (eqb (p .hi) (q .hi)) h)
-
-    hi : p .hi ≡ q .hi
-    hi = eqb-true (p .hi) (q .hi) (and-right (eqb (p .lo) (q .lo)) (eqb (p .hi) (q .hi)) h)
-
 own-key : (p : Pair) → p .lo < p .hi → edgeKey p ≡ p
 own-key p h = rw (le-leb (p .lo) (p .hi) (omega arith)) refl
 
@@ -156,11 +140,11 @@ module _ (p q s t : Pair) (pq : pairEq p q ≡ false) (st : pairEq s t ≡ false
   -- the union, by what each edge of the ramp finds among the mouth's
   union-is : addEdges (p ∷ q ∷ []) (s ∷ t ∷ []) ≡ cond (pairEq p s || pairEq q s) (cond (pairEq p t || pairEq q t) (p ∷ q ∷ []) (p ∷ q ∷ t ∷ [])) (cond (pairEq p t || pairEq q t) (p ∷ q ∷ s ∷ []) (p ∷ q ∷ s ∷ t ∷ []))
   unfolding addEdges addEdge any
-  union-is = rw (pair-sym s p, pair-sym s q, or-false (pairEq q s)) (go (pairEq p s || pairEq q s))
+  union-is = rw (pairEq-sym s p, pairEq-sym s q, or-false (pairEq q s)) (go (pairEq p s || pairEq q s))
     where
       go : (b : Bool) → addEdge (cond b (p ∷ q ∷ []) (p ∷ q ∷ s ∷ [])) t ≡ cond b (cond (pairEq p t || pairEq q t) (p ∷ q ∷ []) (p ∷ q ∷ t ∷ [])) (cond (pairEq p t || pairEq q t) (p ∷ q ∷ s ∷ []) (p ∷ q ∷ s ∷ t ∷ []))
-      go true = rw (pair-sym t p, pair-sym t q, or-false (pairEq q t)) refl
-      go false = rw (pair-sym t p, pair-sym t q, pair-sym t s, st, or-false (pairEq q t)) refl
+      go true = rw (pairEq-sym t p, pairEq-sym t q, or-false (pairEq q t)) refl
+      go false = rw (pairEq-sym t p, pairEq-sym t q, pairEq-sym t s, st, or-false (pairEq q t)) refl
 
   -- the union has three edges exactly where one is common
   counts : {A : Type 0} (x : A) → cond (not (eqb (length (addEdges (p ∷ q ∷ []) (s ∷ t ∷ []))) 3) || not (eqb (intersectionCount (p ∷ q ∷ []) (s ∷ t ∷ [])) 1)) none (some x) ≡ onlyIf (eqb (intersectionCount (p ∷ q ∷ []) (s ∷ t ∷ [])) 1) x
@@ -168,7 +152,7 @@ module _ (p q s t : Pair) (pq : pairEq p q ≡ false) (st : pairEq s t ≡ false
   counts {A} x = rw (union-is, or-false (pairEq p t), or-false (pairEq q t)) (go (pairEq p s) refl (pairEq p t) refl (pairEq q s) refl (pairEq q t) refl)
     where
       twice : {B : Type 0} (a b c : Pair) → pairEq b c ≡ false → pairEq a b ≡ true → pairEq a c ≡ true → B
-      twice a b c d h k = absurd (true≢false (sym (pair-trans a b c h k) ∙ d))
+      twice a b c d h k = absurd (true≢false (sym (ap (λ x. pairEq x c) (sym (pair-same a b h)) ∙ k) ∙ d))
 
       Goal : Bool → Bool → Bool → Bool → Type 0
       Goal ps pt qs qt =
@@ -178,10 +162,10 @@ module _ (p q s t : Pair) (pq : pairEq p q ≡ false) (st : pairEq s t ≡ false
 
       go : (ps : Bool) → pairEq p s ≡ ps → (pt : Bool) → pairEq p t ≡ pt → (qs : Bool) → pairEq q s ≡ qs → (qt : Bool) → pairEq q t ≡ qt → Goal ps pt qs qt
       go true a true b qs c qt d = twice p s t st a b
-      go true a false b true c qt d = twice s p q pq (pair-sym s p ∙ a) (pair-sym s q ∙ c)
+      go true a false b true c qt d = twice s p q pq (pairEq-sym s p ∙ a) (pairEq-sym s q ∙ c)
       go true a false b false c true d = refl
       go true a false b false c false d = refl
-      go false a true b qs c true d = twice t p q pq (pair-sym t p ∙ b) (pair-sym t q ∙ d)
+      go false a true b qs c true d = twice t p q pq (pairEq-sym t p ∙ b) (pairEq-sym t q ∙ d)
       go false a true b true c false d = refl
       go false a true b false c false d = refl
       go false a false b true c true d = twice q s t st c d
@@ -200,11 +184,11 @@ module _ (p q s t : Pair) (hp : p .lo < p .hi) (hq : q .lo < q .hi) (hs : s .lo 
   unfolding triangleRust triangleRepresentative triangleEdges distinctRegions intersectionCount
   two-pairs =
       rw (
-        two-edges p q hp hq (pair-sym q p ∙ before-differs p q (before p q pq)),
-        two-edges s t hs ht (pair-sym t s ∙ before-differs s t (before s t st)),
+        two-edges p q hp hq (pairEq-sym q p ∙ pair-differ p q pq),
+        two-edges s t hs ht (pairEq-sym t s ∙ pair-differ s t st),
         pushes-are [] (p ∷ q ∷ []),
         any-not (λ r. any (λ x. eqb x r) (regionsOf (s ∷ t ∷ []))) (λ r. any (contains r) (s ∷ t ∷ [])) (λ r. any-regions r (s ∷ t ∷ [])) rs,
-        counts p q s t (before-differs p q (before p q pq)) (before-differs s t (before s t st)) (sort ltb rs),
+        counts p q s t (pair-differ p q pq) (pair-differ s t st) (sort ltb rs),
       )
       (go (eqb (length rs) 3) (all (λ r. any (contains r) (s ∷ t ∷ [])) rs) (eqb (intersectionCount (p ∷ q ∷ []) (s ∷ t ∷ [])) 1))
     where
@@ -218,7 +202,7 @@ module _ (p q s t : Pair) (hp : p .lo < p .hi) (hq : q .lo < q .hi) (hs : s .lo 
       go false b c = refl
 
 -- `triangle_representative` of the Rust is `triangleRepresentative`, sorted
-pub triangle-is : (mouthFull rampFull : Bool) (mouth ramp : List Pair) → All (λ e. e .lo < e .hi) mouth → AscendingPairs mouth → All (λ e. e .lo < e .hi) ramp → AscendingPairs ramp
+pub triangle-is : (mouthFull rampFull : Bool) (mouth ramp : List Pair) → All (λ e. e .lo < e .hi) mouth → Ascending mouth → All (λ e. e .lo < e .hi) ramp → Ascending ramp
     → triangleRust mouthFull rampFull mouth ramp ≡ sortedRegions (cond (mouthFull && rampFull) (triangleRepresentative mouth ramp) none)
 unfolding triangleRust triangleRepresentative
 triangle-is false rampFull mouth ramp h a k b = refl
@@ -229,8 +213,8 @@ triangle-is true true (p ∷ q ∷ r ∷ l) ramp h a k b = rw (ne-eqb (length (p
 triangle-is true true (p ∷ q ∷ []) [] h a k b = refl
 triangle-is true true (p ∷ q ∷ []) (s ∷ []) h a k b = refl
 triangle-is true true (p ∷ q ∷ []) (s ∷ t ∷ u ∷ m) h a k b = rw (ne-eqb (length (s ∷ t ∷ u ∷ m)) 2 (λ e. omega arith)) refl
-triangle-is true true (p ∷ q ∷ []) (s ∷ t ∷ []) h a k b = go h (a .0) k (b .0)
+triangle-is true true (p ∷ q ∷ []) (s ∷ t ∷ []) h a k b = go h a k b
   where
-    go : All (λ e. e .lo < e .hi) (p ∷ q ∷ []) → All (λ e. pairLt p e ≡ true) (q ∷ []) → All (λ e. e .lo < e .hi) (s ∷ t ∷ []) → All (λ e. pairLt s e ≡ true) (t ∷ [])
+    go : All (λ e. e .lo < e .hi) (p ∷ q ∷ []) → Ascending (p ∷ q ∷ []) → All (λ e. e .lo < e .hi) (s ∷ t ∷ []) → Ascending (s ∷ t ∷ [])
         → triangleRust true true (p ∷ q ∷ []) (s ∷ t ∷ []) ≡ sortedRegions (triangleRepresentative (p ∷ q ∷ []) (s ∷ t ∷ []))
-    go (more hp (more hq done)) (more pq done) (more hs (more ht done)) (more st done) = two-pairs p q s t hp hq hs ht pq st
+    go (more hp (more hq done)) (next (more pq done) n) (more hs (more ht done)) (next (more st done) l) = two-pairs p q s t hp hq hs ht pq st
