@@ -26,6 +26,7 @@ pub mod Components
 pub mod PairOrder
 pub mod PairInsertion
 pub mod PairLaws
+pub mod Disjunction
 pub mod SelectionBySets
 pub mod SoundContext
 pub mod ScansOfAll
@@ -41,3 +42,4 @@ pub mod MouthLoop
 pub mod MouthFound
 pub mod MouthKept
 pub mod MouthChain
+pub mod Selection1

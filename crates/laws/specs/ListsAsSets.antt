@@ -7,6 +7,7 @@ use mathlib.Core.List.{List, [], _∷_, _++_, append-nil}
 use lib.Dec.{eqb}
 use borrow.Author.Tests.{eqb-true}
 use Rattle.definitions.specs.Scan.{any, filter, member, addNew, addAll}
+use Rattle.laws.specs.Disjunction.{disjunction}
 use Rattle.laws.specs.FullCut.{isEmpty}
 use Rattle.laws.specs.Lists.{All, done, more, all-append, any-append, filter-append}
 
@@ -18,6 +19,11 @@ empty-filter f (x ∷ l) = go (f x) (empty-filter f l)
     go : (b : Bool) → isEmpty (filter f l) ≡ not (any f l) → isEmpty (cond b (x ∷ filter f l) (filter f l)) ≡ not (b || any f l)
     go true ih = refl
     go false ih = ih
+
+pub any-or : {A : Type 0} (f g : A → Bool) (l : List A) → any (λ x. f x || g x) l ≡ (any f l || any g l)
+unfolding any
+any-or f g [] = refl
+any-or f g (x ∷ l) = ap (λ b. f x || g x || b) (any-or f g l) ∙ simp disjunction
 
 -- ---- one number
 
