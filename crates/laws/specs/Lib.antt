@@ -42,4 +42,6 @@ pub mod MouthLoop
 pub mod MouthFound
 pub mod MouthKept
 pub mod MouthChain
+pub mod SetTests
 pub mod Selection1
+pub mod Selection2

@@ -23,6 +23,7 @@ use Rattle.laws.specs.SortedMembers.{any-sort}
 use Rattle.laws.specs.PairOrder.{pairEq-sym}
 use Rattle.laws.specs.PairInsertion.{any-addPair}
 use Rattle.laws.specs.Sets.{setInsert, setExtend, member-insert, member-extend}
+use Rattle.laws.specs.SetTests.{extended}
 use Rattle.laws.specs.SelectionBySets.{loop, growAll, loop-by-state}
 use Rattle.laws.specs.Incidents.{isSomeAnd}
 use Rattle.laws.specs.MouthLoop.{MouthRust}
@@ -142,10 +143,6 @@ unfolding member any
 outer-put r outers [] h = sym (or-false (member r outers))
 outer-put r outers (x ∷ []) h = member-insert r outers x ∙ simp (or-false, disjunction)
 outer-put r outers (x ∷ y ∷ l) h = absurd (omega arith)
-
--- a set with the numbers of m put in, asked of each number of xs
-extended : (set m xs : List ℕ) → any (λ r. member r (setExtend set m)) xs ≡ (any (λ r. member r set) xs || any (λ r. member r m) xs)
-extended set m xs = (λ i. any (λ r. member-extend r set m i) xs) ∙ any-or (λ r. member r set) (λ r. member r m) xs
 
 module _ (C : Context) (s : Reserved) (q p : MouthProposal) (oq : OneOuter q) (op : OneOuter p) where
   inner-member : (r : ℕ) → member r (innerRust q) ≡ member r (q .inner)
