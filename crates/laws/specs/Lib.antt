@@ -45,3 +45,5 @@ pub mod MouthChain
 pub mod SetTests
 pub mod Selection1
 pub mod Selection2
+pub mod LeavesLiteral
+pub mod Leaves
