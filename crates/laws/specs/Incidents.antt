@@ -81,7 +81,7 @@ unfolding setInsert
 insert-again n done = rw (le-ltb n n (omega arith), eq-eqb n n refl) refl
 insert-again n (more {x = x} h a) = rw (le-ltb n x (omega arith), ne-eqb n x (λ e. omega arith)) (ap {B = List ℕ} (λ r. x ∷ r) (insert-again n a))
 
-default-entry : (l : List ℕ) → orDefault (entryOf l) ≡ l
+pub default-entry : (l : List ℕ) → orDefault (entryOf l) ≡ l
 default-entry [] = refl
 default-entry (x ∷ l) = refl
 

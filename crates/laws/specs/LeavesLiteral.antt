@@ -9,7 +9,7 @@ use lib.Dec.{eqb, ltb}
 use Rattle.definitions.specs.Scan.{any, filter, member}
 use Rattle.definitions.specs.Grid.{Pair}
 use Rattle.definitions.specs.Context.{Context}
-use Rattle.definitions.specs.RampInteriors.{Expansion, exteriors, invalid}
+use Rattle.definitions.specs.RampInteriors.{Expansion, invalid}
 use Rattle.laws.specs.Sets.{setInsert}
 use Rattle.laws.specs.Incidents.{isNoneOr, incidentsRust}
 use Rattle.laws.specs.MouthLiteral.{find}

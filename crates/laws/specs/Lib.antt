@@ -47,3 +47,6 @@ pub mod Selection1
 pub mod Selection2
 pub mod LeavesLiteral
 pub mod Leaves
+pub mod ComponentLiteral
+pub mod ComponentRegions
+pub mod ComponentSearch

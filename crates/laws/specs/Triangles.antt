@@ -112,10 +112,10 @@ unfolding pushRegions addAll
 pushes-are regions [] = refl
 pushes-are regions (p ∷ pairs) = pushes-are (addNew (addNew regions (p .lo)) (p .hi)) pairs
 
-any-regions : (r : ℕ) (l : List Pair) → any (λ x. eqb x r) (regionsOf l) ≡ any (contains r) l
+pub any-regions : (f : ℕ → Bool) (l : List Pair) → any f (regionsOf l) ≡ any (λ p. f (p .lo) || f (p .hi)) l
 unfolding any
-any-regions r [] = refl
-any-regions r (p ∷ l) = ap (λ b. eqb (p .lo) r || (eqb (p .hi) r || b)) (any-regions r l) ∙ sym (or-assoc (eqb (p .lo) r) (eqb (p .hi) r) (any (contains r) l))
+any-regions f [] = refl
+any-regions f (p ∷ l) = ap (λ b. f (p .lo) || (f (p .hi) || b)) (any-regions f l) ∙ sym (or-assoc (f (p .lo)) (f (p .hi)) (any (λ p. f (p .lo) || f (p .hi)) l))
 
 pub any-not : {A : Type 0} (f g : A → Bool) → ((x : A) → f x ≡ g x) → (l : List A) → any (λ x. not (f x)) l ≡ not (all g l)
 unfolding any all
@@ -187,7 +187,7 @@ module _ (p q s t : Pair) (hp : p .lo < p .hi) (hq : q .lo < q .hi) (hs : s .lo 
         two-edges p q hp hq (pairEq-sym q p ∙ pair-differ p q pq),
         two-edges s t hs ht (pairEq-sym t s ∙ pair-differ s t st),
         pushes-are [] (p ∷ q ∷ []),
-        any-not (λ r. any (λ x. eqb x r) (regionsOf (s ∷ t ∷ []))) (λ r. any (contains r) (s ∷ t ∷ [])) (λ r. any-regions r (s ∷ t ∷ [])) rs,
+        any-not (λ r. any (λ x. eqb x r) (regionsOf (s ∷ t ∷ []))) (λ r. any (contains r) (s ∷ t ∷ [])) (λ r. any-regions (λ x. eqb x r) (s ∷ t ∷ [])) rs,
         counts p q s t (pair-differ p q pq) (pair-differ s t st) (sort ltb rs),
       )
       (go (eqb (length rs) 3) (all (λ r. any (contains r) (s ∷ t ∷ [])) rs) (eqb (intersectionCount (p ∷ q ∷ []) (s ∷ t ∷ [])) 1))
