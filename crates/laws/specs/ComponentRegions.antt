@@ -46,7 +46,7 @@ none-below (suc n) f g h = ap₂ _||_ (none-below n f g (λ i l. h i (omega arit
     go true b = refl
     go false b = refl
 
-all-below-at : (n : ℕ) (g : ℕ → Bool) → allBelow n g ≡ true → (i : ℕ) → i < n → g i ≡ true
+pub all-below-at : (n : ℕ) (g : ℕ → Bool) → allBelow n g ≡ true → (i : ℕ) → i < n → g i ≡ true
 unfolding allBelow
 all-below-at zero g h i l = absurd (omega arith)
 all-below-at (suc n) g h i l = go (ltb i n) refl (all-below-at n g (both (allBelow n g) (g n) h .0) i)

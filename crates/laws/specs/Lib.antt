@@ -50,3 +50,7 @@ pub mod Leaves
 pub mod ComponentLiteral
 pub mod ComponentRegions
 pub mod ComponentSearch
+pub mod AllowedElevations
+pub mod InteriorLiteral
+pub mod CheckedContext
+pub mod InteriorChain

@@ -49,7 +49,7 @@ keepIf f (some x) = onlyIf (f x) x
 abbrev pub Inhabited : Context → ℕ → Type 0
 Inhabited C r = 0 < C .region r .cells
 
-all-agree : {A : Type 0} {P : A → Type 0} (f g : A → Bool) {l : List A} → ((x : A) → P x → f x ≡ g x) → All P l → all f l ≡ all g l
+pub all-agree : {A : Type 0} {P : A → Type 0} (f g : A → Bool) {l : List A} → ((x : A) → P x → f x ≡ g x) → All P l → all f l ≡ all g l
 unfolding all
 all-agree f g h done = refl
 all-agree f g h (more {x = x} k a) = ap₂ _&&_ (h x k) (all-agree f g h a)
