@@ -5,3 +5,4 @@ pub mod ListOrder
 pub mod Ranks
 pub mod Merging
 pub mod MergingInside
+pub mod SelectionBySets
