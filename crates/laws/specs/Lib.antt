@@ -6,3 +6,6 @@ pub mod Ranks
 pub mod Merging
 pub mod MergingInside
 pub mod SelectionBySets
+pub mod SoundContext
+pub mod FullCut
+pub mod Booleans
