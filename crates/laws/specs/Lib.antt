@@ -9,3 +9,4 @@ pub mod SelectionBySets
 pub mod SoundContext
 pub mod FullCut
 pub mod Booleans
+pub mod Sets
