@@ -10,3 +10,5 @@ pub mod SoundContext
 pub mod FullCut
 pub mod Booleans
 pub mod Sets
+pub mod Scans
+pub mod Ports

@@ -2,7 +2,6 @@
 -- are one list; so a set whose members are the numbers below n that pass a test is `numbersBelow`, and what is asked of it is a scan. Assumes nothing.
 use Prim.Native.Nat.{ℕ, zero, suc, _+_, _<_}
 use native.Mathlib.Omega.{arith}
-use native.Mathlib.Nat.{add-zero}
 use mathlib.Core.Path.{_≡_, refl, sym, ap, ap₂, _∙_}
 use mathlib.Core.Bool.{Bool, true, false, not, _&&_, _||_, cond, true≢false, false≢true, or-false, and-true, and-false, and-assoc}
 use mathlib.Core.List.{List, [], _∷_, _++_, append-nil}
@@ -10,7 +9,6 @@ use lib.ListN.{length, length-append}
 use lib.Dec.{eqb, ltb}
 use borrow.Author.Tests.{ltb-true, ltb-false, lt-ltb, le-ltb, eqb-true, eqb-false, eq-eqb, ne-eqb}
 use Rattle.definitions.specs.Scan.{any, all, member, collect, toList, onlyIf, anyBelow, allBelow, countBelow, bit}
-use Rattle.laws.specs.Booleans.{or-cases}
 use Rattle.laws.specs.Lists.{All, done, more, all-append, all-map, any-append}
 use Rattle.laws.specs.ListOrder.{Three, less, same, over, three}
 
@@ -63,9 +61,11 @@ member-insert x (z ∷ l) y = go (ltb y z) (eqb y z) refl (member-insert x l y)
     swap true true c = refl
     swap true false c = refl
     swap false b c = refl
+
     twice : (a c : Bool) → (a || c) ≡ (a || (a || c))
     twice true c = refl
     twice false c = refl
+
     go : (b c : Bool) → eqb y z ≡ c → member x (setInsert l y) ≡ (eqb x y || member x l) → member x (cond b (y ∷ z ∷ l) (cond c (z ∷ l) (z ∷ setInsert l y))) ≡ (eqb x y || (eqb x z || member x l))
     go true c e ih = refl
     go false true e ih = rw (eqb-true y z e) (twice (eqb x z) (member x l))
@@ -183,6 +183,7 @@ module _ (f : ℕ → Bool) where
       last : (b : Bool) → member x (toList (onlyIf b n)) ≡ (b && eqb x n)
       last true = or-false (eqb x n)
       last false = refl
+
       go : Three x n → (ltb x n && f x || f n && eqb x n) ≡ (ltb x (suc n) && f x)
       go (less h) = rw (lt-ltb x n h, lt-ltb x (suc n) (omega arith), ne-eqb x n (λ e. omega arith), and-false (f n)) (or-false (f x))
       go (same h) = rw h (rw (le-ltb n n (omega arith), lt-ltb n (suc n) (omega arith), eq-eqb n n refl) (and-true (f n)))

@@ -3,8 +3,6 @@
 use Prim.Native.Nat.{ℕ, _*_, _^_, _<_, _≤_}
 use mathlib.Core.Path.{_≡_}
 use mathlib.Core.List.{[]}
-use Rattle.definitions.specs.Grid.{Pair, Boundary}
-use Rattle.definitions.specs.RegionRecord.{Region}
 use Rattle.definitions.specs.Context.{Context}
 use Rattle.laws.specs.Lists.{All}
 
