@@ -12,3 +12,4 @@ pub mod Booleans
 pub mod Sets
 pub mod Scans
 pub mod Ports
+pub mod Exteriors

@@ -145,6 +145,17 @@ same-members (some {x = x} {l = l} a s) (some {x = y} {l = m} b t) h = go (three
     go (same k) ih = rw k (ap {B = List ℕ} (λ r. y ∷ r) (ih (tails-agree x {m = m} a (rw k b) (λ z. h z ∙ rw k refl))))
     go (over k) ih = absurd (false≢true (sym (below-none y x k a) ∙ h y ∙ head-member y m))
 
+-- `len` after `insert`
+pub length-insert : (x : ℕ) {l : List ℕ} → Ascending l → length (setInsert l x) ≡ length l + bit (not (member x l))
+unfolding setInsert member any
+length-insert x none = refl
+length-insert x (some {x = y} {l = l} a s) = go (three x y) (length-insert x s)
+  where
+    go : Three x y → length (setInsert l x) ≡ length l + bit (not (member x l)) → length (cond (ltb x y) (x ∷ y ∷ l) (cond (eqb x y) (y ∷ l) (y ∷ setInsert l x))) ≡ suc (length l) + bit (not (eqb x y || member x l))
+    go (less h) ih = rw (lt-ltb x y h, ne-eqb x y (λ e. omega arith), above-none x {l = l} (all-map (λ z k. omega arith) a)) (omega arith)
+    go (same h) ih = rw (le-ltb x y (omega arith), eq-eqb x y h) (omega arith)
+    go (over h) ih = rw (le-ltb x y (omega arith), ne-eqb x y (λ e. omega arith)) (omega (arith, ih))
+
 -- ---- the numbers below n that pass f
 
 all-append-test : {A : Type 0} (g : A → Bool) (l m : List A) → all g (l ++ m) ≡ (all g l && all g m)
