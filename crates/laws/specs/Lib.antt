@@ -13,3 +13,5 @@ pub mod Sets
 pub mod Scans
 pub mod Ports
 pub mod Exteriors
+pub mod JunctionProposals
+pub mod Selection3
