@@ -15,3 +15,4 @@ pub mod Ports
 pub mod Exteriors
 pub mod JunctionProposals
 pub mod Selection3
+pub mod FormedProposals

@@ -75,6 +75,10 @@ fit-unfit p (some q) = rw (union-member (q .lo) p, union-member (q .hi) p) (go (
     go false true = refl
     go false false = refl
 
+pub incidents-below : (C : Context) (r : ℕ) → portsOf C r ≡ numbersBelow (C .count) (λ j. isIncident C j r)
+unfolding portsOf numbersBelow
+incidents-below C r = refl
+
 module _ (C : Context) (i : ℕ) (p : Pair) where
   -- what the walk asks of an incident
   abbrev passes : ℕ → Bool
@@ -127,10 +131,6 @@ module _ (C : Context) (i : ℕ) (p : Pair) where
       go false true h k = s
       go false false h k = k
 
-  incidents-below : (r : ℕ) → portsOf C r ≡ numbersBelow (C .count) (λ j. isIncident C j r)
-  unfolding portsOf numbersBelow
-  incidents-below r = refl
-
   -- what is asked of j as an incident of either region
   asked : (j : ℕ) → ((not (isIncident C j (p .lo)) || passes j) && (not (isIncident C j (p .hi)) || passes j)) ≡ (not (isUnionPort C i p j) || holds (fullPair C j) (fitsUnion p))
   unfolding isUnionPort
@@ -151,7 +151,7 @@ module _ (C : Context) (i : ℕ) (p : Pair) where
       order false false false u = refl
 
   all-passes : (r : ℕ) → all passes (portsOf C r) ≡ allBelow (C .count) (λ j. not (isIncident C j r) || passes j)
-  all-passes r = ap (all passes) (incidents-below r) ∙ all-below (λ j. isIncident C j r) passes (C .count)
+  all-passes r = ap (all passes) (incidents-below C r) ∙ all-below (λ j. isIncident C j r) passes (C .count)
 
   abbrev first : Walked
   first = walkRegion C i p [] (portsOf C (p .lo))
@@ -175,7 +175,7 @@ module _ (C : Context) (i : ℕ) (p : Pair) where
       ∙ all-same (λ j. (not (isIncident C j (p .lo)) || passes j) && (not (isIncident C j (p .hi)) || passes j)) (λ j. not (isUnionPort C i p j) || holds (fullPair C j) (fitsUnion p)) (C .count) (λ j h. asked j)
 
   incident-member : (x r : ℕ) → member x (portsOf C r) ≡ (ltb x (C .count) && isIncident C x r)
-  incident-member x r = ap (member x) (incidents-below r) ∙ member-below (λ j. isIncident C j r) x (C .count)
+  incident-member x r = ap (member x) (incidents-below C r) ∙ member-below (λ j. isIncident C j r) x (C .count)
 
   both-ports : first .valid ≡ true → walkUnion C i p .ports ≡ second .ports
   unfolding walkUnion

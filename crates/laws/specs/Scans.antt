@@ -3,7 +3,9 @@ use Prim.Native.Nat.{ℕ, zero, suc, _+_, _<_}
 use native.Mathlib.Omega.{arith}
 use mathlib.Core.Path.{_≡_, refl, ap, ap₂, _∙_}
 use mathlib.Core.Bool.{Bool, true, false, _&&_, _||_}
-use Rattle.definitions.specs.Scan.{anyBelow, allBelow, countBelow, bit}
+use mathlib.Core.Option.{Option}
+use Rattle.definitions.specs.Scan.{anyBelow, allBelow, countBelow, bit, collect, toList}
+use Rattle.laws.specs.Lists.{All, done, all-append}
 
 module _ (f g : ℕ → Bool) where
   pub any-same : (n : ℕ) → ((j : ℕ) → j < n → f j ≡ g j) → anyBelow n f ≡ anyBelow n g
@@ -31,3 +33,9 @@ module _ (f g : ℕ → Bool) where
       order true false true d = refl
       order true false false d = refl
       order false b c d = refl
+
+-- what f gives below n
+pub collect-below : {A : Type 0} (P : A → Type 0) (f : ℕ → Option A) (n : ℕ) → ((i : ℕ) → i < n → All P (toList (f i))) → All P (collect n f)
+unfolding collect
+collect-below P f zero h = done
+collect-below P f (suc n) h = all-append (collect-below P f n (λ i l. h i (omega arith))) (h n (omega arith))
