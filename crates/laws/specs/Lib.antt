@@ -10,7 +10,7 @@ pub mod SoundContext
 pub mod FullCut
 pub mod Booleans
 pub mod Sets
-pub mod Scans
+pub mod ScansOfAll
 pub mod Ports
 pub mod Exteriors
 pub mod JunctionProposals
