@@ -37,15 +37,16 @@ contextOf M =
     let ls = labels M in
     let cut = map (cutSteps M) (run 0 (spanCount M)) in
     let pairs = map (pairsOf ls) cut in
-    record
-      { count = spanCount M;
-        regions = regionCount M;
-        boundary = boundaryOf M;
-        removedEdges = λ s. length (getD cut s []);
-        separatedEdges = λ s. length (filter (isSeparated ls) (getD cut s []));
-        pairs = λ s. getD pairs s [];
-        anchored = anchoredOf M ls;
-        region = regionOf M ls }
+    record {
+      count = spanCount M;
+      regions = regionCount M;
+      boundary = boundaryOf M;
+      removedEdges = λ s. length (getD cut s []);
+      separatedEdges = λ s. length (filter (isSeparated ls) (getD cut s []));
+      pairs = λ s. getD pairs s [];
+      anchored = anchoredOf M ls;
+      region = regionOf M ls;
+    }
 
 -- ---- of a context
 

@@ -23,9 +23,10 @@ point p = record { px = float (p .x); py = float (p .y) }
 unfoldable pub center : Segment → Point
 unfolding div add float
 center s =
-    record
-      { px = div binary64 (add binary64 (float (s .a .x)) (float (s .b .x))) (float 2);
-        py = div binary64 (add binary64 (float (s .a .y)) (float (s .b .y))) (float 2) }
+    record {
+      px = div binary64 (add binary64 (float (s .a .x)) (float (s .b .x))) (float 2);
+      py = div binary64 (add binary64 (float (s .a .y)) (float (s .b .y))) (float 2);
+    }
 
 -- the arguments never leave the range of the hypotenuse within a pass (document 01, 'Hypotenuse'), so that 13 cannot arise there
 unfoldable pub distance : Point → Point → Float
@@ -44,6 +45,6 @@ pointSegmentDistance p a b =
     let dy = sub binary64 (b .py) (a .py) in
     let n = add binary64 (mul binary64 dx dx) (mul binary64 dy dy) in
     let t =
-      cond (eq n (float 0)) (float 0)
-        (clamp01 (div binary64 (add binary64 (mul binary64 (sub binary64 (p .px) (a .px)) dx) (mul binary64 (sub binary64 (p .py) (a .py)) dy)) n)) in
+    cond (eq n (float 0)) (float 0)
+    (clamp01 (div binary64 (add binary64 (mul binary64 (sub binary64 (p .px) (a .px)) dx) (mul binary64 (sub binary64 (p .py) (a .py)) dy)) n)) in
     distance p (record { px = add binary64 (a .px) (mul binary64 t dx); py = add binary64 (a .py) (mul binary64 t dy) })

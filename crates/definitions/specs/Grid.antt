@@ -70,25 +70,27 @@ segmentAt l k = record { a = at (getD l k 0) (getD l (k + 1) 0); b = at (getD l 
 
 abbrev pub boundaryAt : List ℕ → ℕ → Boundary
 boundaryAt l k =
-    record
-      { endpoints = segmentAt l k;
-        widthBits = getD l (k + 4) 0;
-        kind = getD l (k + 5) 0;
-        rampId = getD l (k + 6) 0;
-        lower = getD l (k + 7) 0;
-        upper = getD l (k + 8) 0 }
+    record {
+      endpoints = segmentAt l k;
+      widthBits = getD l (k + 4) 0;
+      kind = getD l (k + 5) 0;
+      rampId = getD l (k + 6) 0;
+      lower = getD l (k + 7) 0;
+      upper = getD l (k + 8) 0;
+    }
 
 -- the map that a call is lent: sides, cells, spans, boundaries, anchors
 unfoldable pub mapOf : ℕ → ℕ → List ℕ → List ℕ → List ℕ → List ℕ → Map
 unfolding run
 mapOf w h cells spans boundaries anchors =
-    record
-      { width = w;
-        height = h;
-        cells = cells;
-        spans = map (λ i. segmentAt spans (4 * i)) (run 0 (length spans / 4));
-        boundaries = map (λ i. boundaryAt boundaries (9 * i)) (run 0 (length boundaries / 9));
-        anchors = map (λ i. getD anchors (2 * i + 1) 0 * w + getD anchors (2 * i) 0) (run 0 (length anchors / 2)) }
+    record {
+      width = w;
+      height = h;
+      cells = cells;
+      spans = map (λ i. segmentAt spans (4 * i)) (run 0 (length spans / 4));
+      boundaries = map (λ i. boundaryAt boundaries (9 * i)) (run 0 (length boundaries / 9));
+      anchors = map (λ i. getD anchors (2 * i + 1) 0 * w + getD anchors (2 * i) 0) (run 0 (length anchors / 2));
+    }
 
 -- what stands for a span or a boundary beyond the lists; no definition's result turns on it
 abbrev pub noSegment : Segment

@@ -94,7 +94,7 @@ module _ (C : Context) where
   unfolding isUnionPort fullPair anyBelow
   isNewExterior i p j =
       isUnionPort i p j
-        && holds (fullPair C j) (λ q. not (anyBelow j (λ k. isUnionPort i p k && holds (fullPair C k) (λ o. eqb (exteriorOf p o) (exteriorOf p q)))))
+      && holds (fullPair C j) (λ q. not (anyBelow j (λ k. isUnionPort i p k && holds (fullPair C k) (λ o. eqb (exteriorOf p o) (exteriorOf p q)))))
 
   abbrev pub anchoredRegions : Pair → ℕ
   anchoredRegions p = bit (C .anchored (p .lo)) + bit (C .anchored (p .hi))
@@ -117,9 +117,9 @@ module _ (C : Context) where
   unfolding portsFit countBelow isUnionPort allBelow isNearPort isNewExterior isWidest
   unionShape i p =
       noRamp C i && ltb (anchoredRegions p) 2 && portsFit i p && leb 3 (countBelow (C .count) (isUnionPort i p))
-        && allBelow (C .count) (λ j. not (isUnionPort i p j) || isNearPort i j)
-        && leb 3 (countBelow (C .count) (isNewExterior i p))
-        && (not (eqb (anchoredRegions p) 1) || isWidest i p)
+      && allBelow (C .count) (λ j. not (isUnionPort i p j) || isNearPort i j)
+      && leb 3 (countBelow (C .count) (isNewExterior i p))
+      && (not (eqb (anchoredRegions p) 1) || isWidest i p)
 
   unfoldable pub unionRegions : ℕ → Pair → Bool
   unfolding withinSpanRadius withinRadius center strictlyFlat dominantElevation
@@ -129,8 +129,8 @@ module _ (C : Context) where
       let ends = C .boundary i .endpoints in
       let one = eqb (anchoredRegions p) 1 in
       not (s .hasRamp) && not (t .hasRamp)
-        && cond one (withinSpanRadius s ends && withinSpanRadius t ends) (withinRadius s (center ends) && withinRadius t (center ends))
-        && (strictlyFlat s t || one && bothSame (dominantElevation s) (dominantElevation t))
+      && cond one (withinSpanRadius s ends && withinSpanRadius t ends) (withinRadius s (center ends) && withinRadius t (center ends))
+      && (strictlyFlat s t || one && bothSame (dominantElevation s) (dominantElevation t))
 
   unfoldable pub unionFrom : ℕ → Option Pair → Option Proposal
   unfolding unionShape unionRegions
@@ -168,7 +168,7 @@ module _ (C : Context) where
   unfolding isNearPort withinRadius center strictlyFlat
   bridgeFits r i k t =
       isNearPort i i && isNearPort i k && isNearPort i t && not (C .region r .hasRamp) && withinRadius (C .region r) (center (C .boundary i .endpoints))
-        && strictlyFlat (C .region r) (C .region r)
+      && strictlyFlat (C .region r) (C .region r)
 
   unfoldable pub bridgeAt : ℕ → ℕ → ℕ → ℕ → Option Proposal
   unfolding bridgeFits portExterior
@@ -215,7 +215,7 @@ module _ (C : Context) where
   unfolding isReservedPort anyBelow
   conflict q p =
       isReservedPort p (q .index) || isReservedPort q (p .index) || anyBelow (C .count) (λ j. isReservedPort p j && isReservedPort q j)
-        || regionConflict (q .kind) (p .kind) q p
+      || regionConflict (q .kind) (p .kind) q p
 
   -- unions by boundary, then bridges by pocket
   unfoldable pub proposals : List Proposal

@@ -13,7 +13,16 @@ pub mod Junctions
 pub mod RampMouths
 pub mod RampInteriors
 pub mod Rows
+pub mod Limits
 pub mod Lists
 pub mod SheetNumber
 pub mod Sheet
+pub mod Refusals
+pub mod Verdict
+pub mod AtExit
+pub mod Printed
 pub mod SheetExamples
+pub mod CaseJ
+pub mod Cases
+pub mod RefusalExamples
+pub mod Examples

@@ -61,19 +61,19 @@ intersects s t =
     let rightLeftStart = cross (t .a) (t .b) (s .a) in
     let rightLeftEnd = cross (t .a) (t .b) (s .b) in
     isZero leftRightStart && onSegment (s .a) (s .b) (t .a) || isZero leftRightEnd && onSegment (s .a) (s .b) (t .b)
-      || isZero rightLeftStart && onSegment (t .a) (t .b) (s .a) || isZero rightLeftEnd && onSegment (t .a) (t .b) (s .b)
-      || not (eqb (signum leftRightStart) (signum leftRightEnd)) && not (eqb (signum rightLeftStart) (signum rightLeftEnd))
+    || isZero rightLeftStart && onSegment (t .a) (t .b) (s .a) || isZero rightLeftEnd && onSegment (t .a) (t .b) (s .b)
+    || not (eqb (signum leftRightStart) (signum leftRightEnd)) && not (eqb (signum rightLeftStart) (signum rightLeftEnd))
 
 -- the separation of two boundaries, from their endpoints as written
 unfoldable pub segmentDistance : Segment → Segment → Float
 unfolding intersects float fmin pointSegmentDistance point
 segmentDistance s t =
     cond (intersects s t) (float 0)
-      (fmin
-        (fmin
-          (fmin (pointSegmentDistance (point (s .a)) (point (t .a)) (point (t .b))) (pointSegmentDistance (point (s .b)) (point (t .a)) (point (t .b))))
-          (pointSegmentDistance (point (t .a)) (point (s .a)) (point (s .b))))
-        (pointSegmentDistance (point (t .b)) (point (s .a)) (point (s .b))))
+    (fmin
+    (fmin
+    (fmin (pointSegmentDistance (point (s .a)) (point (t .a)) (point (t .b))) (pointSegmentDistance (point (s .b)) (point (t .a)) (point (t .b))))
+    (pointSegmentDistance (point (t .a)) (point (s .a)) (point (s .b))))
+    (pointSegmentDistance (point (t .b)) (point (s .a)) (point (s .b))))
 
 -- ---- representatives, from canonical endpoints
 
@@ -92,7 +92,7 @@ isNearbyParallelRepresentative left right =
     let rightY = difference (t .b .y) (t .a .y) in
     let lengths = mul binary64 (hypotOf leftX leftY) (hypotOf rightX rightY) in
     not (lt maxRepresentativeOffset (distance (point (s .a)) (point (t .a)))) && not (lt maxRepresentativeOffset (distance (point (s .b)) (point (t .b))))
-      && lt (float 0) lengths && le minParallelCosine (div binary64 (fabs (add binary64 (mul binary64 leftX rightX) (mul binary64 leftY rightY))) lengths)
+    && lt (float 0) lengths && le minParallelCosine (div binary64 (fabs (add binary64 (mul binary64 leftX rightX) (mul binary64 leftY rightY))) lengths)
 
 -- `overlapping_ramp_representative(..).is_some()`
 unfoldable pub overlappingRampRepresentative : Segment → Segment → Bool
@@ -107,13 +107,13 @@ overlappingRampRepresentative candidate ramp =
     let candidateDy = difference (s .b .y) (s .a .y) in
     let candidateLength = hypotOf candidateDx candidateDy in
     let normalOffset : Position → Float =
-      λ p. div binary64 (fabs (sub binary64 (mul binary64 (difference (p .x) (t .a .x)) dy) (mul binary64 (difference (p .y) (t .a .y)) dx))) rampLength in
+    λ p. div binary64 (fabs (sub binary64 (mul binary64 (difference (p .x) (t .a .x)) dy) (mul binary64 (difference (p .y) (t .a .y)) dx))) rampLength in
     let project : Position → Float =
-      λ p. div binary64 (add binary64 (mul binary64 (difference (p .x) (t .a .x)) dx) (mul binary64 (difference (p .y) (t .a .y)) dy)) rampLength in
+    λ p. div binary64 (add binary64 (mul binary64 (difference (p .x) (t .a .x)) dx) (mul binary64 (difference (p .y) (t .a .y)) dy)) rampLength in
     let candidateMin = fmin (project (s .a)) (project (s .b)) in
     let candidateMax = fmax (project (s .a)) (project (s .b)) in
     let overlap = fmax (sub binary64 (fmin rampLength candidateMax) (fmax (float 0) candidateMin)) (float 0) in
     not (eq rampLength (float 0)) && not (eq candidateLength (float 0))
-      && not (lt (div binary64 (fabs (add binary64 (mul binary64 dx candidateDx) (mul binary64 dy candidateDy))) (mul binary64 rampLength candidateLength)) minParallelCosine)
-      && not (lt maxOverlayNormalOffset (fmax (normalOffset (s .a)) (normalOffset (s .b))))
-      && le (mul binary64 minOverlayFraction (fmin rampLength candidateLength)) overlap
+    && not (lt (div binary64 (fabs (add binary64 (mul binary64 dx candidateDx) (mul binary64 dy candidateDy))) (mul binary64 rampLength candidateLength)) minParallelCosine)
+    && not (lt maxOverlayNormalOffset (fmax (normalOffset (s .a)) (normalOffset (s .b))))
+    && le (mul binary64 minOverlayFraction (fmin rampLength candidateLength)) overlap

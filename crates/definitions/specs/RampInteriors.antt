@@ -90,8 +90,8 @@ module _ (C : Context) where
     unfolding edgesOf isEdge allBelow all any componentRegions
     isCandidate r =
         eqb (componentOf r) r && leb 1 (length (edgesOf r)) && leb (length (edgesOf r)) maxInteriorEdges
-          && allBelow (C .count) (λ i. not (isEdge r i) || all (λ p. eqb (componentOf (p .lo)) r) (C .pairs i))
-          && not (any (C .anchored) (componentRegions r))
+        && allBelow (C .count) (λ i. not (isEdge r i) || all (λ p. eqb (componentOf (p .lo)) r) (C .pairs i))
+        && not (any (C .anchored) (componentRegions r))
 
     -- a boundary about the component that is no edge of it
     unfoldable pub isPort : ℕ → ℕ → Bool
@@ -116,7 +116,7 @@ module _ (C : Context) where
   unfolding insideCount addLeaf member
   expandPair i es s p =
       cond (ltb 0 (insideCount (s .regions) p)) s
-        (cond (eqb (insideCount es p) 1) (addLeaf i s (cond (member (p .lo) es) (p .hi) (p .lo))) (invalid s))
+      (cond (eqb (insideCount es p) 1) (addLeaf i s (cond (member (p .lo) es) (p .hi) (p .lo))) (invalid s))
 
   unfoldable pub expandPairs : ℕ → List ℕ → Expansion → List Pair → Expansion
   unfolding expandPair
@@ -139,7 +139,7 @@ module _ (C : Context) where
   unfolding fullCut
   portsFit a b =
       not (noRamp C a) && not (noRamp C b) && fullCut C a && fullCut C b && eqb (C .boundary a .rampId) (C .boundary b .rampId)
-        && not (eqb (C .boundary a .kind) (C .boundary b .kind))
+      && not (eqb (C .boundary a .kind) (C .boundary b .kind))
 
   -- one of the two elevations of the ramp of boundary a
   unfoldable pub isAllowedElevation : ℕ → ℕ → Bool
@@ -151,10 +151,10 @@ module _ (C : Context) where
   regionFits a b r =
       let s = C .region r in
       allBelow 8 (λ e. not (hasBit (s .elevations) e) || isAllowedElevation a e)
-        && all
-          (λ c.
-            le (distance c (center (C .boundary a .endpoints))) maxApproachRadius || le (distance c (center (C .boundary b .endpoints))) maxApproachRadius)
-          (corners s)
+      && all
+      (λ c.
+      le (distance c (center (C .boundary a .endpoints))) maxApproachRadius || le (distance c (center (C .boundary b .endpoints))) maxApproachRadius)
+      (corners s)
 
   -- from the component's regions, edges and ports: exactly two ports
   unfoldable pub interiorFrom : List ℕ → List ℕ → List ℕ → Option InteriorProposal
@@ -164,7 +164,7 @@ module _ (C : Context) where
   interiorFrom rs es (a ∷ b ∷ []) =
       let s = expandPort (expandPort (record { regions = rs; valid = true }) a) b in
       onlyIf (portsFit a b && s .valid && any (λ q. C .region q .hasRamp) (s .regions) && all (regionFits a b) (s .regions))
-        (record { regions = s .regions; edges = es; firstPort = a; secondPort = b })
+      (record { regions = s .regions; edges = es; firstPort = a; secondPort = b })
   interiorFrom rs es (a ∷ b ∷ c ∷ l) = none
 
   unfoldable pub interiorProposal : List ℕ → ℕ → Option InteriorProposal

@@ -70,8 +70,8 @@ unfolding distinctRegions all any filter
 triangleRepresentative (p ∷ q ∷ []) (s ∷ t ∷ []) =
     let rs = distinctRegions (p ∷ q ∷ []) in
     onlyIf
-      (eqb (length rs) 3 && all (λ r. any (contains r) (s ∷ t ∷ [])) rs && eqb (length (filter (λ e. any (pairEq e) (s ∷ t ∷ [])) (p ∷ q ∷ []))) 1)
-      rs
+    (eqb (length rs) 3 && all (λ r. any (contains r) (s ∷ t ∷ [])) rs && eqb (length (filter (λ e. any (pairEq e) (s ∷ t ∷ [])) (p ∷ q ∷ []))) 1)
+    rs
 triangleRepresentative [] m = none
 triangleRepresentative (p ∷ []) m = none
 triangleRepresentative (p ∷ q ∷ r ∷ l) m = none
@@ -114,7 +114,7 @@ module _ (C : Context) where
   unfolding anyBelow isIncident
   otherEndIncident a r =
       anyBelow (C .count)
-        (λ j. not (noRamp C j) && eqb (C .boundary j .rampId) (C .boundary a .rampId) && not (eqb (C .boundary j .kind) (C .boundary a .kind)) && isIncident C j r)
+      (λ j. not (noRamp C j) && eqb (C .boundary j .rampId) (C .boundary a .rampId) && not (eqb (C .boundary j .kind) (C .boundary a .kind)) && isIncident C j r)
 
   unfoldable pub broadMouth : ℕ → ℕ → Bool
   unfolding le mul float width
@@ -128,7 +128,7 @@ module _ (C : Context) where
   unfolding le fmax width mul maxOverlayWidthRatio fmin overlappingRampRepresentative
   overlayRepresentative m a =
       le (fmax (width C m) (width C a)) (mul binary64 maxOverlayWidthRatio (fmin (width C m) (width C a)))
-        && overlappingRampRepresentative (C .boundary m .endpoints) (C .boundary a .endpoints)
+      && overlappingRampRepresentative (C .boundary m .endpoints) (C .boundary a .endpoints)
 
   unfoldable pub overlayOnly : ℕ → ℕ → Bool
   unfolding overlayRepresentative nearbyRepresentative broadMouth
@@ -147,7 +147,7 @@ module _ (C : Context) where
   unfolding any overlayOnly onlyIncidents otherEndIncident all incidentCount isIncident
   approachFits m a r inner isSingle anchoredAny =
       not (any (C .anchored) inner) && not (overlayOnly m a && (not isSingle || anchoredAny || not (onlyIncidents r m a))) && not (otherEndIncident a r)
-        && (leb (length inner) 1 || onlyIncidents r m a && all (λ s. eqb s r || eqb (incidentCount C s) 1 && isIncident C m s) inner)
+      && (leb (length inner) 1 || onlyIncidents r m a && all (λ s. eqb s r || eqb (incidentCount C s) 1 && isIncident C m s) inner)
 
   unfoldable pub twoPortBroad : ℕ → ℕ → ℕ → List ℕ → Bool → Bool
   unfolding broadMouth overlayOnly onlyIncidents
@@ -159,14 +159,15 @@ module _ (C : Context) where
   singleMouth m a p [] = none
   singleMouth m a p (r ∷ []) =
       onlyIf (approachFits m a r (r ∷ []) true (C .anchored (p .lo) || C .anchored (p .hi)))
-        (record
-          { mouthIndex = m;
-            rampIndex = a;
-            outer = otherRegion r p ∷ [];
-            inner = r ∷ [];
-            isTriangle = false;
-            twoPortBroadApproach = twoPortBroad m a r (r ∷ []) true;
-            separation = separationOf m a })
+      (record {
+        mouthIndex = m;
+        rampIndex = a;
+        outer = otherRegion r p ∷ [];
+        inner = r ∷ [];
+        isTriangle = false;
+        twoPortBroadApproach = twoPortBroad m a r (r ∷ []) true;
+        separation = separationOf m a;
+      })
   singleMouth m a p (r ∷ s ∷ l) = none
 
   -- a star about `outer`, those of its inner regions given that the ramp borders: exactly one is wanted
@@ -175,14 +176,15 @@ module _ (C : Context) where
   starMouth m a outer inner [] = none
   starMouth m a outer inner (r ∷ []) =
       onlyIf (approachFits m a r inner false (any (C .anchored) inner))
-        (record
-          { mouthIndex = m;
-            rampIndex = a;
-            outer = outer ∷ [];
-            inner = inner;
-            isTriangle = false;
-            twoPortBroadApproach = twoPortBroad m a r inner false;
-            separation = separationOf m a })
+      (record {
+        mouthIndex = m;
+        rampIndex = a;
+        outer = outer ∷ [];
+        inner = inner;
+        isTriangle = false;
+        twoPortBroadApproach = twoPortBroad m a r inner false;
+        separation = separationOf m a;
+      })
   starMouth m a outer inner (r ∷ s ∷ l) = none
 
   -- from the ramp's full pair and the mouth's shape
@@ -199,14 +201,15 @@ module _ (C : Context) where
   unfolding filter separationOf
   triangleMouth m a rs =
       onlyIf (leb (length (filter (C .anchored) rs)) 1)
-        (record
-          { mouthIndex = m;
-            rampIndex = a;
-            outer = filter (C .anchored) rs;
-            inner = filter (λ r. not (C .anchored r)) rs;
-            isTriangle = true;
-            twoPortBroadApproach = false;
-            separation = separationOf m a })
+      (record {
+        mouthIndex = m;
+        rampIndex = a;
+        outer = filter (C .anchored) rs;
+        inner = filter (λ r. not (C .anchored r)) rs;
+        isTriangle = true;
+        twoPortBroadApproach = false;
+        separation = separationOf m a;
+      })
 
   unfoldable pub triangle : ℕ → ℕ → Option (List ℕ)
   unfolding nearbyRepresentative fullCut triangleRepresentative
@@ -225,13 +228,13 @@ module _ (C : Context) where
   unfolding all corners le distance center maxApproachRadius
   cornersNear p =
       all
-        (λ r.
-          all
-            (λ c.
-              le (distance c (center (C .boundary (p .rampIndex) .endpoints))) maxApproachRadius
-                || p .twoPortBroadApproach && le (distance c (center (C .boundary (p .mouthIndex) .endpoints))) maxApproachRadius)
-            (corners (C .region r)))
-        (p .inner)
+      (λ r.
+      all
+      (λ c.
+      le (distance c (center (C .boundary (p .rampIndex) .endpoints))) maxApproachRadius
+      || p .twoPortBroadApproach && le (distance c (center (C .boundary (p .mouthIndex) .endpoints))) maxApproachRadius)
+      (corners (C .region r)))
+      (p .inner)
 
   unfoldable pub isLocal : MouthProposal → Bool
   unfolding lt maxMouthDistance cornersNear
@@ -241,8 +244,8 @@ module _ (C : Context) where
   unfolding fullCut broadMouth nearbyRepresentative overlayRepresentative isLocal triangleOr triangle shapedMouth fullPair mouthShape
   mouthProposal a m =
       cond (not (noRamp C a) && fullCut C a && noRamp C m && (broadMouth m a || nearbyRepresentative m a || overlayRepresentative m a))
-        (retain isLocal (triangleOr (triangle m a) m a (shapedMouth m a (fullPair C a) (mouthShape (fullCut C m) (C .pairs m)))))
-        none
+      (retain isLocal (triangleOr (triangle m a) m a (shapedMouth m a (fullPair C a) (mouthShape (fullCut C m) (C .pairs m)))))
+      none
 
   -- by ramp, then by mouth
   unfoldable pub proposals : List MouthProposal
@@ -261,9 +264,9 @@ module _ (C : Context) where
   unfolding meet
   conflict q p =
       eqb (q .mouthIndex) (p .mouthIndex)
-        || eqb (C .boundary (q .rampIndex) .rampId) (C .boundary (p .rampIndex) .rampId) && eqb (C .boundary (q .rampIndex) .kind) (C .boundary (p .rampIndex) .kind)
-        || meet (p .outer) (q .inner) || meet (p .inner) (q .inner) || meet (p .inner) (q .outer)
-        || (p .isTriangle || q .isTriangle) && meet (unionOf p) (unionOf q)
+      || eqb (C .boundary (q .rampIndex) .rampId) (C .boundary (p .rampIndex) .rampId) && eqb (C .boundary (q .rampIndex) .kind) (C .boundary (p .rampIndex) .kind)
+      || meet (p .outer) (q .inner) || meet (p .inner) (q .inner) || meet (p .inner) (q .outer)
+      || (p .isTriangle || q .isTriangle) && meet (unionOf p) (unionOf q)
 
   unfoldable pub ranksBefore : MouthProposal → MouthProposal → Bool
   unfolding listLt key

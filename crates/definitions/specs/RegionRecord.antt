@@ -27,15 +27,16 @@ pub record Region : Type 0 where
 unfoldable pub emptyRegion : Region
 unfolding float
 emptyRegion =
-    record
-      { cells = 0;
-        minX = float 0;
-        minY = float 0;
-        maxX = float 0;
-        maxY = float 0;
-        hasRamp = false;
-        elevations = 0;
-        elevationCounts = 0 ∷ 0 ∷ 0 ∷ 0 ∷ [] }
+    record {
+      cells = 0;
+      minX = float 0;
+      minY = float 0;
+      maxX = float 0;
+      maxY = float 0;
+      hasRamp = false;
+      elevations = 0;
+      elevationCounts = 0 ∷ 0 ∷ 0 ∷ 0 ∷ [];
+    }
 
 -- ---- the record of a region
 
@@ -61,15 +62,16 @@ regionOf M ls r =
     let n = cellCount M in
     let mine : ℕ → Bool = λ c. eqb (getD ls c 0) r in
     let mineAt : ℕ → ℕ → Bool = λ e c. mine c && eqb (elevation (cellAt M c)) e in
-    record
-      { cells = countBelow n mine;
-        minX = float (least n mine (λ c. c % M .width * pixelsPerWalkCell));
-        minY = float (least n mine (λ c. c / M .width * pixelsPerWalkCell));
-        maxX = float (most n mine (λ c. c % M .width * pixelsPerWalkCell + pixelsPerWalkCell));
-        maxY = float (most n mine (λ c. c / M .width * pixelsPerWalkCell + pixelsPerWalkCell));
-        hasRamp = anyBelow n (λ c. mine c && isRamp (cellAt M c));
-        elevations = maskOf (λ e. anyBelow n (mineAt e));
-        elevationCounts = map (λ e. countBelow n (mineAt e)) (0 ∷ 1 ∷ 2 ∷ 3 ∷ []) }
+    record {
+      cells = countBelow n mine;
+      minX = float (least n mine (λ c. c % M .width * pixelsPerWalkCell));
+      minY = float (least n mine (λ c. c / M .width * pixelsPerWalkCell));
+      maxX = float (most n mine (λ c. c % M .width * pixelsPerWalkCell + pixelsPerWalkCell));
+      maxY = float (most n mine (λ c. c / M .width * pixelsPerWalkCell + pixelsPerWalkCell));
+      hasRamp = anyBelow n (λ c. mine c && isRamp (cellAt M c));
+      elevations = maskOf (λ e. anyBelow n (mineAt e));
+      elevationCounts = map (λ e. countBelow n (mineAt e)) (0 ∷ 1 ∷ 2 ∷ 3 ∷ []);
+    }
 
 -- ---- of a record
 

@@ -5,18 +5,11 @@ use mathlib.Core.Bool.{Bool, true, false, _&&_, cond}
 use mathlib.Core.List.{List, [], _∷_}
 use lib.ListN.{length}
 use lib.Dec.{leb, eqb}
+use Rattle.definitions.specs.Limits.{isSide, maxEntries, numbersPerSpan, numbersPerBoundary, numbersPerAnchor}
 use Rattle.definitions.specs.Lists.{overwrite}
 use Rattle.definitions.specs.SheetNumber.{Read, found, failed, number}
 
 -- ---- the limits
-
--- 'Lists lent and filled': "Width and height are 1 to 1,024 cells"
-abbrev pub maxSide : ℕ
-maxSide = 1024
-
--- 'Lists lent and filled': "At most 256 spans, 256 boundaries and 256 anchors."
-abbrev pub maxEntries : ℕ
-maxEntries = 256
 
 -- the plain reader limits the cells no further than the sides do
 abbrev pub plainCellLimit : ℕ
@@ -74,9 +67,6 @@ unfoldable pub cell : Reader ℕ
 unfolding judged
 cell = judged (λ value. leb value 255)
 
-abbrev pub isSide : ℕ → Bool
-isSide side = leb 1 side && leb side maxSide
-
 -- The number of cells: "a side outside 1 to 1,024 [goes] to check 1 once both sides are read";
 -- of `keptlist`'s own limit, "More is `refused 1 at 0`, once both sides are read."
 abbrev pub area : ℕ → ℕ → ℕ → Reader ℕ
@@ -117,9 +107,9 @@ sheet cellLimit = do
   height ← number
   count ← area cellLimit width height
   cells ← times count cell
-  spans ← entries 4
-  boundaries ← entries 9
-  anchors ← entries 2
+  spans ← entries numbersPerSpan
+  boundaries ← entries numbersPerBoundary
+  anchors ← entries numbersPerAnchor
   _ ← end
   give (record { pass = pass; width = width; height = height; cells = cells; spans = spans; boundaries = boundaries; anchors = anchors })
 

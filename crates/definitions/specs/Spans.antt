@@ -42,7 +42,7 @@ unfoldable pub segmentsIntersect : Position → Position → Position → Positi
 unfolding cross onSegment
 segmentsIntersect a b c d =
     (strictlyOpposite (cross a b c) (cross a b d) && strictlyOpposite (cross c d a) (cross c d b)) || (isZero (cross a b c) && onSegment a b c)
-      || (isZero (cross a b d) && onSegment a b d) || (isZero (cross c d a) && onSegment c d a) || (isZero (cross c d b) && onSegment c d b)
+    || (isZero (cross a b d) && onSegment a b d) || (isZero (cross c d a) && onSegment c d a) || (isZero (cross c d b) && onSegment c d b)
 
 -- pixel x * 8 + 4, y * 8 + 4
 abbrev pub middleOf : ℕ → ℕ
@@ -56,7 +56,7 @@ unfoldable pub cuts : Segment → Position → Position → Bool
 unfolding cross segmentsIntersect
 cuts s p q =
     not (Bool·beq (nonNeg (cross (s .a) (s .b) (cellCenter p))) (nonNeg (cross (s .a) (s .b) (cellCenter q))))
-      && segmentsIntersect (s .a) (s .b) (cellCenter p) (cellCenter q)
+    && segmentsIntersect (s .a) (s .b) (cellCenter p) (cellCenter q)
 
 -- ---- the cells near a segment, in the Rust's order
 
@@ -95,10 +95,10 @@ candidatePositions w h s =
     let a = s .a in
     let b = s .b in
     cond (leb (distanceBetween (a .y) (b .y)) (distanceBetween (a .x) (b .x)))
-      (concatMap (λ x. map (λ y. at x y) (candidateMinorRange (lineAt (a .x) (a .y) (b .x) (b .y) (middleOf x)) h)) (candidateAxisRange (min (a .x) (b .x)) (max (a .x) (b .x)) w))
-      (let lower = cond (leb (a .y) (b .y)) a b in
-      let upper = cond (leb (a .y) (b .y)) b a in
-      concatMap (λ y. map (λ x. at x y) (candidateMinorRange (lineAt (lower .y) (lower .x) (upper .y) (upper .x) (middleOf y)) w)) (candidateAxisRange (min (a .y) (b .y)) (max (a .y) (b .y)) h))
+    (concatMap (λ x. map (λ y. at x y) (candidateMinorRange (lineAt (a .x) (a .y) (b .x) (b .y) (middleOf x)) h)) (candidateAxisRange (min (a .x) (b .x)) (max (a .x) (b .x)) w))
+    (let lower = cond (leb (a .y) (b .y)) a b in
+    let upper = cond (leb (a .y) (b .y)) b a in
+    concatMap (λ y. map (λ x. at x y) (candidateMinorRange (lineAt (lower .y) (lower .x) (upper .y) (upper .x) (middleOf y)) w)) (candidateAxisRange (min (a .y) (b .y)) (max (a .y) (b .y)) h))
 
 -- The steps that span s cuts: the cell of smaller number is among the candidate positions, and `cuts` holds.
 unfoldable pub cutSteps : Map → ℕ → List Pair

@@ -5,6 +5,16 @@ pub mod ListOrder
 pub mod Ranks
 pub mod Merging
 pub mod MergingInside
+pub mod Squares
+pub mod LeadingDigits
+pub mod WholeRoot
+pub mod Patterns
+pub mod Comparisons
+pub mod PatternOrder
+pub mod NearestRoot
+pub mod Hypotenuse
+pub mod KeysAsBits
+pub mod Scans
 pub mod SelectionBySets
 pub mod SoundContext
 pub mod FullCut

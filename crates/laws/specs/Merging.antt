@@ -66,6 +66,7 @@ merged-twice a b r = go (eqb r (max a b)) refl
     low : (t : Bool) → eqb (min a b) (max a b) ≡ t → cond t (min a b) (min a b) ≡ min a b
     low true q = refl
     low false q = refl
+
     go : (t : Bool) → eqb r (max a b) ≡ t → merged a b (cond t (min a b) r) ≡ cond t (min a b) r
     go true q = low (eqb (min a b) (max a b)) refl
     go false q = rw q refl
@@ -82,22 +83,26 @@ merged-name f a b r ha hb hr = go (eqb r (max a b)) (ltb a b) refl
 module _ (n : ℕ) where
   rooted-merge : (rs : List ℕ) (p : Pair) → Rooted n rs → Within n p → Rooted n (merge rs p)
   rooted-merge rs p R w =
-      record
-        { long = merge-length rs p ∙ R .long;
-          low = λ c l. omega (arith, new c l, merged-le a b (getD rs c 0), R .low c l);
-          own = λ c l. ap (λ x. getD (merge rs p) x 0) (new c l) ∙ twice c l ∙ sym (new c l) }
+      record {
+        long = merge-length rs p ∙ R .long;
+        low = λ c l. omega (arith, new c l, merged-le a b (getD rs c 0), R .low c l);
+        own = λ c l. ap (λ x. getD (merge rs p) x 0) (new c l) ∙ twice c l ∙ sym (new c l);
+      }
     where
       a : ℕ
       a = getD rs (p .lo) 0
+
       b : ℕ
       b = getD rs (p .hi) 0
+
       new : (c : ℕ) → c < n → getD (merge rs p) c 0 ≡ merged a b (getD rs c 0)
       new c l = merge-at rs p c (omega (arith, R .long))
+
       twice : (c : ℕ) → c < n → getD (merge rs p) (merged a b (getD rs c 0)) 0 ≡ merged a b (getD rs c 0)
       twice c l =
           new (merged a b (getD rs c 0)) (omega (arith, merged-le a b (getD rs c 0), R .low c l))
-            ∙ ap (merged a b) (merged-name (λ x. getD rs x 0) a b (getD rs c 0) (R .own (p .lo) (w .lo)) (R .own (p .hi) (w .hi)) (R .own c l))
-            ∙ merged-twice a b (getD rs c 0)
+          ∙ ap (merged a b) (merged-name (λ x. getD rs x 0) a b (getD rs c 0) (R .own (p .lo) (w .lo)) (R .own (p .hi) (w .hi)) (R .own c l))
+          ∙ merged-twice a b (getD rs c 0)
 
   rooted-all : {ps : List Pair} (rs : List ℕ) → Rooted n rs → All (Within n) ps → Rooted n (mergeAll rs ps)
   unfolding mergeAll
@@ -110,6 +115,7 @@ module _ (n : ℕ) where
       map-same : (l : List ℕ) → map (λ x. x) l ≡ l
       map-same [] = refl
       map-same (x ∷ l) = ap {B = List ℕ} (λ r. x ∷ r) (map-same l)
+
       go : getD (map (λ x. x) (run 0 n)) c 0 ≡ c → getD (run 0 n) c 0 ≡ c
       go e = ap (λ l. getD l c 0) (sym (map-same (run 0 n))) ∙ e
 
@@ -117,8 +123,8 @@ module _ (n : ℕ) where
   pub rooted : {ps : List Pair} → All (Within n) ps → Rooted n (mergeAll (run 0 n) ps)
   rooted a =
       rooted-all (run 0 n)
-        (record { long = length-run 0 n; low = λ c h. omega (arith, run-at c h); own = λ c h. ap (λ x. getD (run 0 n) x 0) (run-at c h) })
-        a
+      (record { long = length-run 0 n; low = λ c h. omega (arith, run-at c h); own = λ c h. ap (λ x. getD (run 0 n) x 0) (run-at c h) })
+      a
 
 -- ---- whatever is the same at both numbers of each pair is the same at a number and at its name
 
@@ -143,11 +149,12 @@ module _ {X : Type 0} (g : ℕ → X) (n : ℕ) where
 
   kept-merge : (rs : List ℕ) (p : Pair) → Kept rs → Level p → Kept (merge rs p)
   kept-merge rs p k l =
-      record
-        { long = merge-length rs p ∙ k .long;
-          same = λ c h.
+      record {
+        long = merge-length rs p ∙ k .long;
+        same = λ c h.
             ap g (merge-at rs p c (omega (arith, k .long)))
-              ∙ merged-same _ _ _ (k .same (p .lo) (l .lo) ∙ l .level ∙ sym (k .same (p .hi) (l .hi))) ∙ k .same c h }
+            ∙ merged-same _ _ _ (k .same (p .lo) (l .lo) ∙ l .level ∙ sym (k .same (p .hi) (l .hi))) ∙ k .same c h;
+      }
 
   kept-from : {ps : List Pair} (rs : List ℕ) → Kept rs → All Level ps → Kept (mergeAll rs ps)
   unfolding mergeAll
@@ -180,16 +187,16 @@ module _ (n : ℕ) where
   one-stays [] rs c d l h k e = e
   one-stays (p ∷ ps) rs c d l h k e =
       one-stays ps (merge rs p) c d (merge-length rs p ∙ l) h k
-        (merge-at rs p c (omega arith) ∙ ap (merged (getD rs (p .lo) 0) (getD rs (p .hi) 0)) e ∙ sym (merge-at rs p d (omega arith)))
+      (merge-at rs p c (omega arith) ∙ ap (merged (getD rs (p .lo) 0) (getD rs (p .hi) 0)) e ∙ sym (merge-at rs p d (omega arith)))
 
   joins-from : {ps : List Pair} (rs : List ℕ) → length rs ≡ n → All (Within n) ps → All (λ p. getD (mergeAll rs ps) (p .lo) 0 ≡ getD (mergeAll rs ps) (p .hi) 0) ps
   unfolding mergeAll
   joins-from rs l done = done
   joins-from rs l (more {x = p} {l = ps} w a) =
       more
-        (one-stays ps (merge rs p) (p .lo) (p .hi) (merge-length rs p ∙ l) (w .lo) (w .hi)
-          (merge-at rs p (p .lo) (omega (arith, w .lo)) ∙ merged-one _ _ ∙ sym (merge-at rs p (p .hi) (omega (arith, w .hi)))))
-        (joins-from (merge rs p) (merge-length rs p ∙ l) a)
+      (one-stays ps (merge rs p) (p .lo) (p .hi) (merge-length rs p ∙ l) (w .lo) (w .hi)
+      (merge-at rs p (p .lo) (omega (arith, w .lo)) ∙ merged-one _ _ ∙ sym (merge-at rs p (p .hi) (omega (arith, w .hi)))))
+      (joins-from (merge rs p) (merge-length rs p ∙ l) a)
 
   -- from each number alone
   pub step-joins : {ps : List Pair} → All (Within n) ps → All (λ p. getD (mergeAll (run 0 n) ps) (p .lo) 0 ≡ getD (mergeAll (run 0 n) ps) (p .hi) 0) ps

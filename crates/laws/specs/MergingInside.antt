@@ -84,14 +84,19 @@ module _ (inside : ℕ → Bool) (e : ℕ → ℕ) (n n′ : ℕ) (K : Keeps ins
     where
       r : ℕ
       r = getD rs c 0
+
       a : ℕ
       a = getD rs (p .lo) 0
+
       b : ℕ
       b = getD rs (p .hi) 0
+
       ha : inside a ≡ inside (p .lo)
       ha = g .side (p .lo) (s .lo)
+
       hb : inside b ≡ inside (p .lo)
       hb = g .side (p .hi) (s .hi) ∙ sym (s .one)
+
       go : (t : Bool) → eqb r (max a b) ≡ t → inside (cond t (min a b) r) ≡ inside c
       go true q = pick-min inside (inside (p .lo)) a b ha hb ∙ sym (pick-max inside (inside (p .lo)) a b ha hb) ∙ ap inside (sym (eqb-true r (max a b) q)) ∙ g .side c h
       go false q = g .side c h
@@ -100,7 +105,7 @@ module _ (inside : ℕ → Bool) (e : ℕ → ℕ) (n n′ : ℕ) (K : Keeps ins
   unfolding merged
   merged-ren a b r ha hb hr =
       pick (eqb r (max a b))
-        ∙ ap (λ t. cond t (min (e a) (e b)) (e r)) (K .level r (max a b) hr (pick-max inside true a b ha hb) ∙ ap (eqb (e r)) (max-ren a b ha hb))
+      ∙ ap (λ t. cond t (min (e a) (e b)) (e r)) (K .level r (max a b) hr (pick-max inside true a b ha hb) ∙ ap (eqb (e r)) (max-ren a b ha hb))
     where
       pick : (t : Bool) → e (cond t (min a b) r) ≡ cond t (min (e a) (e b)) (e r)
       pick true = min-ren a b ha hb
@@ -108,15 +113,16 @@ module _ (inside : ℕ → Bool) (e : ℕ → ℕ) (n n′ : ℕ) (K : Keeps ins
 
   merge-inside : (rs rs′ : List ℕ) (p : Pair) → Agree rs rs′ → Sided p → inside (p .lo) ≡ true → Agree (merge rs p) (merge rs′ (renamed p))
   merge-inside rs rs′ p g s i =
-      record
-        { long = merge-length rs p ∙ g .long;
-          long′ = merge-length rs′ (renamed p) ∙ g .long′;
-          side = side-merge rs rs′ p g s;
-          same = λ c h k.
+      record {
+        long = merge-length rs p ∙ g .long;
+        long′ = merge-length rs′ (renamed p) ∙ g .long′;
+        side = side-merge rs rs′ p g s;
+        same = λ c h k.
             ap e (merge-at rs p c (omega (arith, g .long)))
-              ∙ merged-ren (getD rs (p .lo) 0) (getD rs (p .hi) 0) (getD rs c 0) (g .side (p .lo) (s .lo) ∙ i) (g .side (p .hi) (s .hi) ∙ i′) (g .side c h ∙ k)
-              ∙ (λ t. merged (g .same (p .lo) (s .lo) i t) (g .same (p .hi) (s .hi) i′ t) (g .same c h k t))
-              ∙ sym (merge-at rs′ (renamed p) (e c) (omega (arith, g .long′, K .small c h k))) }
+            ∙ merged-ren (getD rs (p .lo) 0) (getD rs (p .hi) 0) (getD rs c 0) (g .side (p .lo) (s .lo) ∙ i) (g .side (p .hi) (s .hi) ∙ i′) (g .side c h ∙ k)
+            ∙ (λ t. merged (g .same (p .lo) (s .lo) i t) (g .same (p .hi) (s .hi) i′ t) (g .same c h k t))
+            ∙ sym (merge-at rs′ (renamed p) (e c) (omega (arith, g .long′, K .small c h k)));
+      }
     where
       i′ : inside (p .hi) ≡ true
       i′ = sym (s .one) ∙ i
@@ -124,18 +130,19 @@ module _ (inside : ℕ → Bool) (e : ℕ → ℕ) (n n′ : ℕ) (K : Keeps ins
   merge-outside : (rs rs′ : List ℕ) (p : Pair) → Agree rs rs′ → Sided p → inside (p .lo) ≡ false → Agree (merge rs p) rs′
   unfolding merged
   merge-outside rs rs′ p g s o =
-      record
-        { long = merge-length rs p ∙ g .long;
-          long′ = g .long′;
-          side = side-merge rs rs′ p g s;
-          same = λ c h k. ap e (merge-at rs p c (omega (arith, g .long))) ∙ go c h k (eqb (getD rs c 0) (max (getD rs (p .lo) 0) (getD rs (p .hi) 0))) refl }
+      record {
+        long = merge-length rs p ∙ g .long;
+        long′ = g .long′;
+        side = side-merge rs rs′ p g s;
+        same = λ c h k. ap e (merge-at rs p c (omega (arith, g .long))) ∙ go c h k (eqb (getD rs c 0) (max (getD rs (p .lo) 0) (getD rs (p .hi) 0))) refl;
+      }
     where
       go : (c : ℕ) → c < n → inside c ≡ true → (t : Bool) → eqb (getD rs c 0) (max (getD rs (p .lo) 0) (getD rs (p .hi) 0)) ≡ t → e (cond t (min (getD rs (p .lo) 0) (getD rs (p .hi) 0)) (getD rs c 0)) ≡ getD rs′ (e c) 0
       go c h k true q =
           absurd
-            (true≢false
-              (sym k ∙ sym (g .side c h) ∙ ap inside (eqb-true _ _ q)
-                ∙ pick-max inside false _ _ (g .side (p .lo) (s .lo) ∙ o) (g .side (p .hi) (s .hi) ∙ sym (s .one) ∙ o)))
+          (true≢false
+          (sym k ∙ sym (g .side c h) ∙ ap inside (eqb-true _ _ q)
+          ∙ pick-max inside false _ _ (g .side (p .lo) (s .lo) ∙ o) (g .side (p .hi) (s .hi) ∙ sym (s .one) ∙ o)))
       go c h k false q = g .same c h k
 
   agree-from : {ps : List Pair} (rs rs′ : List ℕ) → Agree rs rs′ → All Sided ps → Agree (mergeAll rs ps) (mergeAll rs′ (map renamed (filter (λ p. inside (p .lo)) ps)))
@@ -151,9 +158,10 @@ module _ (inside : ℕ → Bool) (e : ℕ → ℕ) (n n′ : ℕ) (K : Keeps ins
   pub merging-inside : {ps : List Pair} → All Sided ps → Agree (mergeAll (run 0 n) ps) (mergeAll (run 0 n′) (map renamed (filter (λ p. inside (p .lo)) ps)))
   merging-inside a =
       agree-from (run 0 n) (run 0 n′)
-        (record
-          { long = length-run 0 n;
-            long′ = length-run 0 n′;
-            side = λ c h. ap inside (run-at n c h);
-            same = λ c h k. ap e (run-at n c h) ∙ sym (run-at n′ (e c) (K .small c h k)) })
-        a
+      (record {
+        long = length-run 0 n;
+        long′ = length-run 0 n′;
+        side = λ c h. ap inside (run-at n c h);
+        same = λ c h k. ap e (run-at n c h) ∙ sym (run-at n′ (e c) (K .small c h k));
+      })
+      a

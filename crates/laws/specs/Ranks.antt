@@ -39,6 +39,7 @@ module _ (inside : ℕ → Bool) where
     where
       at : j - suc i + suc i ≡ j
       at = omega arith
+
       go : rank (suc i) ≤ rank j
       go = rw at at (rank-le (suc i) (j - suc i))
 
@@ -61,12 +62,15 @@ module _ (inside : ℕ → Bool) where
     where
       lt-case : ltb i j ≡ true → rank i ≡ rank j → ⊥
       lt-case e q = omega (arith, rank-lt i j h (ltb-true i j e))
+
       gt-case : (b : Bool) → ltb j i ≡ b → ltb i j ≡ false → (i ≡ j → ⊥) → rank i ≡ rank j → ⊥
       gt-case true e f n q = omega (arith, rank-lt j i k (ltb-true j i e))
       gt-case false e f n q = n (omega (arith, ltb-false j i e, ltb-false i j f))
+
       differ : (b : Bool) → ltb i j ≡ b → (i ≡ j → ⊥) → rank i ≡ rank j → ⊥
       differ true e n q = lt-case e q
       differ false e n q = gt-case (ltb j i) refl e n q
+
       go : (b : Bool) → eqb i j ≡ b → b ≡ eqb (rank i) (rank j)
       go true e = sym (eq-eqb _ _ (ap rank (eqb-true i j e)))
       go false e = sym (ne-eqb _ _ (differ (ltb i j) refl (eqb-false i j e)))

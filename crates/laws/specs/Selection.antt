@@ -30,8 +30,10 @@ module _ {A : Type 0} (conflict : A → A → Bool) (p : A → Bool) (P : A → 
     where
       grow : (b : Bool) → p r ≡ b → filter p (acc ++ (r ∷ [])) ≡ filter p acc ++ cond b (r ∷ []) []
       grow b e = rw (← e) (filter-append p acc (r ∷ []))
+
       inside : p r ≡ true → (c : Bool) → any (λ q. conflict q r) acc ≡ c → select conflict (cond c (filter p acc) (filter p acc ++ (r ∷ []))) (filter p l) ≡ select conflict (filter p acc) (r ∷ filter p l)
       inside e c h = ap (λ c. select conflict (cond c (filter p acc) (filter p acc ++ (r ∷ []))) (filter p l)) (sym h ∙ any-filter r g e a)
+
       go : (b : Bool) → p r ≡ b → (c : Bool) → any (λ q. conflict q r) acc ≡ c → select conflict (filter p (cond c acc (acc ++ (r ∷ [])))) (filter p l) ≡ select conflict (filter p acc) (cond b (r ∷ filter p l) (filter p l))
       go true e true h = inside e true h
       go true e false h = ap (λ m. select conflict m (filter p l)) (grow true e) ∙ inside e false h
@@ -57,7 +59,7 @@ module _ {A B : Type 0} (e : A → B) (P : A → Type 0) where
     map-select a done = refl
     map-select {acc} a (more {x = r} {l = l} g m) =
         map-select (grown r g a (any (λ q. conflict q r) acc)) m
-          ∙ ap (λ c. select conflict′ c (map e l)) (go (any (λ q. conflict q r) acc) ∙ ap (λ c. cond c (map e acc) (map e acc ++ (e r ∷ []))) (map-any g a))
+        ∙ ap (λ c. select conflict′ c (map e l)) (go (any (λ q. conflict q r) acc) ∙ ap (λ c. cond c (map e acc) (map e acc ++ (e r ∷ []))) (map-any g a))
       where
         go : (c : Bool) → map e (cond c acc (acc ++ (r ∷ []))) ≡ cond c (map e acc) (map e acc ++ (e r ∷ []))
         go true = refl
