@@ -12,7 +12,7 @@ use Rattle.definitions.specs.Junctions.{Proposal, isSome, unionShape, unionRegi
 use Rattle.laws.specs.Lists.{All, done, more, all-append, all-map}
 use Rattle.laws.specs.StableSort.{all-sort}
 use Rattle.laws.specs.SoundContext.{Sound}
-use Rattle.laws.specs.Scans.{collect-below}
+use Rattle.laws.specs.ScansOfAll.{collect-below}
 use Rattle.laws.specs.Sets.{setExtend, below-all, member-extend}
 use Rattle.laws.specs.Ports.{incidents-below}
 use Rattle.laws.specs.JunctionProposals.{asEnum, Formed, ofUnion, ofBridge}

@@ -12,8 +12,8 @@ use borrow.Author.Tests.{ltb-true, eqb-true, ne-eqb}
 use Rattle.definitions.specs.Scan.{all}
 use Rattle.definitions.specs.Grid.{Pair}
 use Rattle.definitions.specs.Context.{Context, onlyPair, fullCut, fullPair}
-use Rattle.laws.specs.Booleans.{and-left, and-right}
 use Rattle.laws.specs.Lists.{All, done, more}
+use Rattle.laws.specs.Scans.{both}
 use Rattle.laws.specs.SoundContext.{Sound}
 
 -- ---- as the Rust writes it
@@ -50,9 +50,8 @@ module _ (C : Context) (sound : Sound C) where
   some-separated : (i : ℕ) → fullCut C i ≡ true → C .separatedEdges i ≡ 0 → ⊥
   unfolding fullCut
   some-separated i h e =
-      let more0 : 0 < C .removedEdges i = ltb-true 0 (C .removedEdges i) (and-left (ltb 0 (C .removedEdges i)) (eqb (C .removedEdges i) (C .separatedEdges i)) h) in
-      let same : C .removedEdges i ≡ C .separatedEdges i = eqb-true (C .removedEdges i) (C .separatedEdges i) (and-right (ltb 0 (C .removedEdges i)) (eqb (C .removedEdges i) (C .separatedEdges i)) h) in
-      omega arith
+      let tests = both (ltb 0 (C .removedEdges i)) (eqb (C .removedEdges i) (C .separatedEdges i)) h in
+      omega (arith, ltb-true 0 (C .removedEdges i) (tests .0), eqb-true (C .removedEdges i) (C .separatedEdges i) (tests .1))
 
   some-pair : (i : ℕ) → fullCut C i ≡ true → isEmpty (C .pairs i) ≡ false
   some-pair i h = go (C .pairs i) refl

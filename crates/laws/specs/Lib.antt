@@ -18,7 +18,7 @@ pub mod Scans
 pub mod SelectionBySets
 pub mod SoundContext
 pub mod FullCut
-pub mod Booleans
+pub mod Disjunction
 pub mod Sets
 pub mod ScansOfAll
 pub mod Ports

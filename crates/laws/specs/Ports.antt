@@ -13,9 +13,9 @@ use Rattle.definitions.specs.Scan.{any, all, member, allBelow, countBelow}
 use Rattle.definitions.specs.Grid.{Pair, contains}
 use Rattle.definitions.specs.Context.{Context, holds, fullPair, isIncident}
 use Rattle.definitions.specs.Junctions.{fitsUnion, isUnionPort, portsFit, portsOf}
-use Rattle.laws.specs.Booleans.{and-left, and-right}
 use Rattle.laws.specs.ListOrder.{eqb-sym}
-use Rattle.laws.specs.Scans.{all-same, all-and}
+use Rattle.laws.specs.Scans.{both}
+use Rattle.laws.specs.ScansOfAll.{all-ext, all-and}
 use Rattle.laws.specs.Sets.{setInsert, numbersBelow, Ascending, none, member-insert, insert-ascending, member-below, length-below, all-below, set-below}
 
 -- ---- as the Rust writes it
@@ -172,7 +172,7 @@ module _ (C : Context) (i : ℕ) (p : Pair) where
   walk-valid =
       walk-both ∙ ap₂ _&&_ (region-valid [] (portsOf C (p .lo)) ∙ all-passes (p .lo)) (region-valid (first .ports) (portsOf C (p .hi)) ∙ all-passes (p .hi))
       ∙ all-and (λ j. not (isIncident C j (p .lo)) || passes j) (λ j. not (isIncident C j (p .hi)) || passes j) (C .count)
-      ∙ all-same (λ j. (not (isIncident C j (p .lo)) || passes j) && (not (isIncident C j (p .hi)) || passes j)) (λ j. not (isUnionPort C i p j) || holds (fullPair C j) (fitsUnion p)) (C .count) (λ j h. asked j)
+      ∙ all-ext (λ j. (not (isIncident C j (p .lo)) || passes j) && (not (isIncident C j (p .hi)) || passes j)) (λ j. not (isUnionPort C i p j) || holds (fullPair C j) (fitsUnion p)) (C .count) (λ j h. asked j)
 
   incident-member : (x r : ℕ) → member x (portsOf C r) ≡ (ltb x (C .count) && isIncident C x r)
   incident-member x r = ap (member x) (incidents-below C r) ∙ member-below (λ j. isIncident C j r) x (C .count)
@@ -184,10 +184,9 @@ module _ (C : Context) (i : ℕ) (p : Pair) where
   pub walk-member : walkUnion C i p .valid ≡ true → (x : ℕ) → member x (walkUnion C i p .ports) ≡ (ltb x (C .count) && isUnionPort C i p x)
   unfolding isUnionPort member any
   walk-member h x =
-      let v : first .valid ≡ true = and-left (first .valid) (second .valid) (sym walk-both ∙ h) in
-      let w : second .valid ≡ true = and-right (first .valid) (second .valid) (sym walk-both ∙ h) in
-      ap (member x) (both-ports v) ∙ region-ports (first .ports) (portsOf C (p .hi)) w x
-      ∙ ap₂ (λ a b. a || (b && not (eqb x i))) (region-ports [] (portsOf C (p .lo)) v x ∙ ap (λ a. a && not (eqb x i)) (incident-member x (p .lo))) (incident-member x (p .hi))
+      let valid = both (first .valid) (second .valid) (sym walk-both ∙ h) in
+      ap (member x) (both-ports (valid .0)) ∙ region-ports (first .ports) (portsOf C (p .hi)) (valid .1) x
+      ∙ ap₂ (λ a b. a || (b && not (eqb x i))) (region-ports [] (portsOf C (p .lo)) (valid .0) x ∙ ap (λ a. a && not (eqb x i)) (incident-member x (p .lo))) (incident-member x (p .hi))
       ∙ order (ltb x (C .count)) (isIncident C x (p .lo)) (isIncident C x (p .hi)) (not (eqb x i))
     where
       order : (l a b n : Bool) → (l && a && n || (l && b && n)) ≡ (l && (n && (a || b)))

@@ -1,27 +1,18 @@
--- Scans over the numbers below n: tests that agree there give equal scans, and what a conjunction or disjunction of scans is. Assumes nothing.
-use Prim.Native.Nat.{ℕ, zero, suc, _+_, _<_}
+-- Scans that ask a test of all numbers below n, and what holds of all that a scan collects. Assumes nothing.
+use Prim.Native.Nat.{ℕ, zero, suc, _<_}
 use native.Mathlib.Omega.{arith}
-use mathlib.Core.Path.{_≡_, refl, ap, ap₂, _∙_}
-use mathlib.Core.Bool.{Bool, true, false, _&&_, _||_}
+use mathlib.Core.Path.{_≡_, refl, sym, ap, ap₂, _∙_}
+use mathlib.Core.Bool.{Bool, true, false, _&&_, and-assoc}
 use mathlib.Core.Option.{Option}
-use Rattle.definitions.specs.Scan.{anyBelow, allBelow, countBelow, bit, collect, toList}
+use mathlib.Core.List.{List, [], _∷_, _++_}
+use Rattle.definitions.specs.Scan.{all, allBelow, collect, toList}
 use Rattle.laws.specs.Lists.{All, done, all-append}
 
 module _ (f g : ℕ → Bool) where
-  pub any-same : (n : ℕ) → ((j : ℕ) → j < n → f j ≡ g j) → anyBelow n f ≡ anyBelow n g
-  unfolding anyBelow
-  any-same zero h = refl
-  any-same (suc n) h = ap₂ _||_ (any-same n (λ j l. h j (omega arith))) (h n (omega arith))
-
-  pub all-same : (n : ℕ) → ((j : ℕ) → j < n → f j ≡ g j) → allBelow n f ≡ allBelow n g
+  pub all-ext : (n : ℕ) → ((j : ℕ) → j < n → f j ≡ g j) → allBelow n f ≡ allBelow n g
   unfolding allBelow
-  all-same zero h = refl
-  all-same (suc n) h = ap₂ _&&_ (all-same n (λ j l. h j (omega arith))) (h n (omega arith))
-
-  pub count-same : (n : ℕ) → ((j : ℕ) → j < n → f j ≡ g j) → countBelow n f ≡ countBelow n g
-  unfolding countBelow
-  count-same zero h = refl
-  count-same (suc n) h = ap₂ _+_ (count-same n (λ j l. h j (omega arith))) (ap bit (h n (omega arith)))
+  all-ext zero h = refl
+  all-ext (suc n) h = ap₂ _&&_ (all-ext n (λ j l. h j (omega arith))) (h n (omega arith))
 
   pub all-and : (n : ℕ) → (allBelow n f && allBelow n g) ≡ allBelow n (λ j. f j && g j)
   unfolding allBelow
@@ -33,6 +24,11 @@ module _ (f g : ℕ → Bool) where
       order true false true d = refl
       order true false false d = refl
       order false b c d = refl
+
+pub all-append-test : {A : Type 0} (g : A → Bool) (l m : List A) → all g (l ++ m) ≡ (all g l && all g m)
+unfolding all
+all-append-test g [] m = refl
+all-append-test g (x ∷ l) m = ap (λ b. g x && b) (all-append-test g l m) ∙ sym (and-assoc (g x) (all g l) (all g m))
 
 -- what f gives below n
 pub collect-below : {A : Type 0} (P : A → Type 0) (f : ℕ → Option A) (n : ℕ) → ((i : ℕ) → i < n → All P (toList (f i))) → All P (collect n f)

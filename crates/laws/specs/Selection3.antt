@@ -10,10 +10,10 @@ use Rattle.definitions.specs.Scan.{any, member, anyBelow}
 use Rattle.definitions.specs.Sort.{select}
 use Rattle.definitions.specs.Context.{Context}
 use Rattle.definitions.specs.Junctions.{Proposal, isReservedPort, namesRegion, regionConflict, conflict}
-use Rattle.laws.specs.Booleans.{disjunction}
+use Rattle.laws.specs.Disjunction.{disjunction}
 use Rattle.laws.specs.Lists.{All}
 use Rattle.laws.specs.ListOrder.{eqb-sym}
-use Rattle.laws.specs.Scans.{any-same}
+use Rattle.laws.specs.Scans.{any-ext}
 use Rattle.laws.specs.Sets.{setInsert, setExtend, member-insert, member-extend, member-below, any-below}
 use Rattle.laws.specs.SelectionBySets.{loop, growAll, loop-by-state}
 use Rattle.laws.specs.JunctionProposals.{ProposalEnum, UnionStruct, BridgeStruct, union, bridge, portsOfEnum, reservedPorts, enumOf, asEnum}
@@ -127,7 +127,7 @@ module _ (C : Context) where
       each j = rw (member-insert j removed (q .index), member-extend j ports (reservedPorts C q), eqb-sym j (q .index)) (simp disjunction)
 
       theirs : any (λ j. member j (reservedPorts C q)) (reservedPorts C p) ≡ anyBelow (C .count) (λ j. isReservedPort C p j && isReservedPort C q j)
-      theirs = any-below (isReservedPort C p) (λ j. member j (reservedPorts C q)) (C .count) ∙ any-same (λ j. isReservedPort C p j && member j (reservedPorts C q)) (λ j. isReservedPort C p j && isReservedPort C q j) (C .count) (λ j l. ap (λ b. isReservedPort C p j && b) (member-reserved q j l))
+      theirs = any-below (isReservedPort C p) (λ j. member j (reservedPorts C q)) (C .count) ∙ any-ext (C .count) (λ j. isReservedPort C p j && member j (reservedPorts C q)) (λ j. isReservedPort C p j && isReservedPort C q j) (λ j l. ap (λ b. isReservedPort C p j && b) (member-reserved q j l))
 
   -- the own boundary of p
   own-taken : (q p : Proposal) → p .index < C .count → (ports : List ℕ) → member (p .index) (setExtend ports (reservedPorts C q)) ≡ (member (p .index) ports || isReservedPort C q (p .index))

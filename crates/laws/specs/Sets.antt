@@ -3,13 +3,15 @@
 use Prim.Native.Nat.{ℕ, zero, suc, _+_, _<_}
 use native.Mathlib.Omega.{arith}
 use mathlib.Core.Path.{_≡_, refl, sym, ap, ap₂, _∙_}
-use mathlib.Core.Bool.{Bool, true, false, not, _&&_, _||_, cond, true≢false, false≢true, or-false, and-true, and-false, and-assoc}
+use mathlib.Core.Bool.{Bool, true, false, not, _&&_, _||_, cond, true≢false, false≢true, or-false, and-true, and-false}
 use mathlib.Core.List.{List, [], _∷_, _++_, append-nil}
-use lib.ListN.{length, length-append}
+use lib.ListN.{length}
 use lib.Dec.{eqb, ltb}
 use borrow.Author.Tests.{ltb-true, ltb-false, lt-ltb, le-ltb, eqb-true, eqb-false, eq-eqb, ne-eqb}
 use Rattle.definitions.specs.Scan.{any, all, member, collect, toList, onlyIf, anyBelow, allBelow, countBelow, bit}
 use Rattle.laws.specs.Lists.{All, done, more, all-append, all-map, any-append}
+use Rattle.laws.specs.Scans.{picked-length, any-picked}
+use Rattle.laws.specs.ScansOfAll.{all-append-test}
 use Rattle.laws.specs.ListOrder.{Three, less, same, over, three}
 
 -- `insert`: x goes to its place, unless it is there
@@ -158,11 +160,6 @@ length-insert x (some {x = y} {l = l} a s) = go (three x y) (length-insert x s)
 
 -- ---- the numbers below n that pass f
 
-all-append-test : {A : Type 0} (g : A → Bool) (l m : List A) → all g (l ++ m) ≡ (all g l && all g m)
-unfolding all
-all-append-test g [] m = refl
-all-append-test g (x ∷ l) m = ap (λ b. g x && b) (all-append-test g l m) ∙ sym (and-assoc (g x) (all g l) (all g m))
-
 module _ (f : ℕ → Bool) where
   pub below-all : (n : ℕ) → All (λ x. x < n) (numbersBelow n f)
   unfolding numbersBelow collect
@@ -201,22 +198,12 @@ module _ (f : ℕ → Bool) where
       go (over h) = rw (le-ltb x n (omega arith), le-ltb x (suc n) h, ne-eqb x n (λ e. omega arith)) (and-false (f n))
 
   pub length-below : (n : ℕ) → length (numbersBelow n f) ≡ countBelow n f
-  unfolding numbersBelow collect countBelow
-  length-below zero = refl
-  length-below (suc n) = length-append (numbersBelow n f) (toList (onlyIf (f n) n)) ∙ ap₂ _+_ (length-below n) (last (f n))
-    where
-      last : (b : Bool) → length (toList (onlyIf b n)) ≡ bit b
-      last true = refl
-      last false = refl
+  unfolding numbersBelow
+  length-below n = picked-length f (λ j. j) n
 
   pub any-below : (g : ℕ → Bool) (n : ℕ) → any g (numbersBelow n f) ≡ anyBelow n (λ j. f j && g j)
-  unfolding numbersBelow collect any anyBelow
-  any-below g zero = refl
-  any-below g (suc n) = any-append g (numbersBelow n f) (toList (onlyIf (f n) n)) ∙ ap₂ _||_ (any-below g n) (last (f n))
-    where
-      last : (b : Bool) → any g (toList (onlyIf b n)) ≡ (b && g n)
-      last true = or-false (g n)
-      last false = refl
+  unfolding numbersBelow
+  any-below g n = any-picked f (λ j. j) g n
 
   pub all-below : (g : ℕ → Bool) (n : ℕ) → all g (numbersBelow n f) ≡ allBelow n (λ j. not (f j) || g j)
   unfolding numbersBelow collect all allBelow
