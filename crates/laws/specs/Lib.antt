@@ -26,3 +26,5 @@ pub mod Exteriors
 pub mod JunctionProposals
 pub mod Selection3
 pub mod FormedProposals
+pub mod BridgeGroups
+pub mod Bridges

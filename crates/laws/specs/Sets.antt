@@ -170,6 +170,15 @@ module _ (f : ℕ → Bool) where
       last true = more {x = n} (omega arith) done
       last false = done
 
+  pub below-pass : (n : ℕ) → All (λ x. f x ≡ true) (numbersBelow n f)
+  unfolding numbersBelow collect
+  below-pass zero = done
+  below-pass (suc n) = all-append (below-pass n) (last (f n) refl)
+    where
+      last : (b : Bool) → f n ≡ b → All (λ x. f x ≡ true) (toList (onlyIf b n))
+      last true e = more e done
+      last false e = done
+
   ascending-end : (n : ℕ) {l : List ℕ} → Ascending l → All (λ x. x < n) l → Ascending (l ++ (n ∷ []))
   ascending-end n none done = some done none
   ascending-end n (some a s) (more h b) = some (all-append a (more h done)) (ascending-end n s b)
