@@ -23,6 +23,7 @@ pub mod Sets
 pub mod ScansOfAll
 pub mod Ports
 pub mod Exteriors
+pub mod WidestPort
 pub mod JunctionProposals
 pub mod Selection3
 pub mod FormedProposals
