@@ -9,3 +9,9 @@ pub mod Pairs
 pub mod Records
 pub mod Framed
 pub mod Same
+pub mod RegionLists
+pub mod FrameLemmas
+pub mod FrameUnions
+pub mod FrameBridges
+pub mod FrameJunctions
+pub mod FrameRows
