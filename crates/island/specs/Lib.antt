@@ -15,3 +15,7 @@ pub mod FrameUnions
 pub mod FrameBridges
 pub mod FrameJunctions
 pub mod FrameRows
+pub mod FrameShapes
+pub mod FrameApproaches
+pub mod FrameMouthProposals
+pub mod FrameMouths
