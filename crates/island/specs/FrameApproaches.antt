@@ -14,12 +14,12 @@ use Rattle.definitions.specs.Geometry.{float}
 use Rattle.definitions.specs.RampGeometry.{segmentDistance, isNearbyParallelRepresentative, overlappingRampRepresentative, fmin, fmax}
 use Rattle.definitions.specs.Context.{Context, otherRegion, isIncident, incidentCount, noRamp}
 use Rattle.definitions.specs.RampMouths.{MouthShape, single, star, MouthProposal, maxOverlayWidthRatio, onlyIncidents, otherEndIncident, broadMouth, nearbyRepresentative, overlayRepresentative, overlayOnly, separationOf, approachFits, twoPortBroad, singleMouth, starMouth, shapedMouth, triangleMouth}
-use Rattle.laws.specs.Lists.{All, done, more, all-filter, filter-ren, any-ren, all-ren}
+use Rattle.laws.specs.Lists.{All, done, more, all-filter, filter-ren, all-ren}
 use Rattle.laws.specs.Ranks.{rank}
 use Rattle.laws.specs.Options.{OnO, absent, present, only-map}
 use Rattle.island.specs.Frame.{Frame, ren, renP, ren-eqb}
 use Rattle.island.specs.RegionLists.{On, PairOn, contains-in, otherRegion-in}
-use Rattle.island.specs.FrameLemmas.{isIncident-in, isIncident-split, incidentCount-in, width-in, any-in}
+use Rattle.island.specs.FrameLemmas.{isIncident-in, isIncident-split, incidentCount-in, width-in, any-anchored-in, any-in}
 use Rattle.island.specs.FrameShapes.{renShape, ShapeOn}
 
 abbrev pub renMouth : (ℕ → Bool) → (ℕ → Bool) → MouthProposal → MouthProposal
@@ -55,9 +55,6 @@ module _ {L S : Context} {inB inR : ℕ → Bool} (F : Frame L S inB inR) where
       end : ℕ → Bool
       end j = not (noRamp L j) && eqb (L .boundary j .rampId) (L .boundary a .rampId) && not (eqb (L .boundary j .kind) (L .boundary a .kind))
 
-  any-anchored-in : {l : List ℕ} → All (On inR true) l → any (L .anchored) l ≡ any (S .anchored) (map (ren inR) l)
-  any-anchored-in x = any-ren (ren inR) (On inR true) (L .anchored) (S .anchored) (F .anchored) x
-
   module _ (m a : ℕ) (b : inB m ≡ true) (c : inB a ≡ true) where
     pub broadMouth-in : broadMouth L m a ≡ broadMouth S (rank inB m) (rank inB a)
     unfolding broadMouth
@@ -88,7 +85,7 @@ module _ {L S : Context} {inB inR : ℕ → Bool} (F : Frame L S inB inR) where
     unfolding approachFits
     approachFits-in r l u v h x =
         λ t.
-        not (any-anchored-in x t) && not (overlayOnly-in t && (not u || v || not (onlyIncidents-in r m a h b c t))) && not (otherEndIncident-in a r c h t)
+        not (any-anchored-in F x t) && not (overlayOnly-in t && (not u || v || not (onlyIncidents-in r m a h b c t))) && not (otherEndIncident-in a r c h t)
         && (leb (sym (length-map l (ren inR)) t) 1
         || onlyIncidents-in r m a h b c t
         && all-ren (ren inR) (On inR true) (λ s. eqb s r || eqb (incidentCount L s) 1 && isIncident L m s)
@@ -148,7 +145,7 @@ module _ {L S : Context} {inB inR : ℕ → Bool} (F : Frame L S inB inR) where
           separation = separationOf L m a;
         }))
         ∙ (λ t.
-        onlyIf (approachFits-in r inner false (any-anchored-in k t) h k t)
+        onlyIf (approachFits-in r inner false (any-anchored-in F k t) h k t)
         (record {
           mouthIndex = rank inB m;
           rampIndex = rank inB a;

@@ -6,7 +6,7 @@ use mathlib.Core.Bool.{Bool, true, false, not, _&&_, _||_, and-false}
 use mathlib.Core.List.{_++_, map}
 use lib.ListN.{length}
 use lib.Dec.{eqb, ltb}
-use Rattle.definitions.specs.Scan.{filter, anyBelow, collect, member}
+use Rattle.definitions.specs.Scan.{filter, collect, member}
 use Rattle.definitions.specs.Sort.{listLt}
 use Rattle.definitions.specs.Grid.{Boundary}
 use Rattle.definitions.specs.Context.{Context}
@@ -16,16 +16,12 @@ use Rattle.laws.specs.ListOrder.{by-key, prefix-lt}
 use Rattle.laws.specs.Ranks.{rank, rank-eqb, rank-shift, collect-rank, collect-all}
 use Rattle.laws.specs.Options.{on-list, on-map, option-in, option-out}
 use Rattle.laws.specs.NumberLists.{split}
+use Rattle.laws.specs.AllOrNone.{none-below}
 use Rattle.laws.specs.Choice.{Placed, placed, choice-in, named-in}
 use Rattle.island.specs.Frame.{Frame, ren, ren-eqb, ren-ltb}
 use Rattle.island.specs.FrameLemmas.{isIncident-in, isIncident-split, any-in}
 use Rattle.island.specs.FrameUnions.{renProposal, ProposalOn, unionProposal-in, unionProposal-on}
 use Rattle.island.specs.FrameBridges.{bridgeProposal-in, bridgeProposal-on}
-
-none-below : (f : ℕ → Bool) (n : ℕ) → ((j : ℕ) → f j ≡ false) → anyBelow n f ≡ false
-unfolding anyBelow
-none-below f zero h = refl
-none-below f (suc n) h = ap₂ _||_ (none-below f n h) (h n)
 
 -- ---- of two proposals, with no context
 

@@ -10,11 +10,11 @@ use lib.Ieee.{binary64, ofBits}
 use Rattle.definitions.specs.Scan.{any, anyBelow, allBelow, countBelow, collect, toList, onlyIf}
 use Rattle.definitions.specs.Grid.{Pair, contains}
 use Rattle.definitions.specs.Context.{Context, onlyPair, holds, fullCut, fullPair, isIncident, incidentCount, noRamp, width}
-use Rattle.laws.specs.Lists.{All, done, more, all-map}
+use Rattle.laws.specs.Lists.{All, done, more, all-map, any-ren}
 use Rattle.laws.specs.Ranks.{rank, any-rank, all-rank, count-rank, collect-map, collect-all}
 use Rattle.laws.specs.Options.{OnO, absent, present, on-only, on-list}
 use Rattle.island.specs.Frame.{Frame, ren, renP}
-use Rattle.island.specs.RegionLists.{PairOn, any-contains-in, any-contains-split}
+use Rattle.island.specs.RegionLists.{On, PairOn, any-contains-in, any-contains-split}
 
 onlyPair-map : (e : Pair → Pair) (c : Bool) (l : List Pair) → onlyPair c (map e l) ≡ Option·map e (onlyPair c l)
 onlyPair-map e true [] = refl
@@ -65,7 +65,7 @@ module _ {L S : Context} {inB inR : ℕ → Bool} (F : Frame L S inB inR) where
       go absent = refl
       go (present {x = q} k) = s q k
 
-  -- ---- ramps and widths
+  -- ---- ramps, widths and anchors
 
   pub noRamp-in : (i : ℕ) → inB i ≡ true → noRamp L i ≡ noRamp S (rank inB i)
   noRamp-in i b = λ t. eqb (F .boundary i b t .kind) 0
@@ -73,6 +73,9 @@ module _ {L S : Context} {inB inR : ℕ → Bool} (F : Frame L S inB inR) where
   pub width-in : (i : ℕ) → inB i ≡ true → width L i ≡ width S (rank inB i)
   unfolding width
   width-in i b = λ t. ofBits binary64 (F .boundary i b t .widthBits)
+
+  pub any-anchored-in : {l : List ℕ} → All (On inR true) l → any (L .anchored) l ≡ any (S .anchored) (map (ren inR) l)
+  any-anchored-in x = any-ren (ren inR) (On inR true) (L .anchored) (S .anchored) (F .anchored) x
 
   -- ---- scans that find nothing outside
 

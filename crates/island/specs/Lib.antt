@@ -19,3 +19,6 @@ pub mod FrameShapes
 pub mod FrameApproaches
 pub mod FrameMouthProposals
 pub mod FrameMouths
+pub mod FrameComponents
+pub mod FrameExpansions
+pub mod FrameInteriors

@@ -8,20 +8,11 @@ use lib.Dec.{eqb}
 use Rattle.definitions.specs.Scan.{any, filter, concatMap, member}
 use Rattle.definitions.specs.Sort.{sort, select}
 use Rattle.laws.specs.Lists.{All, done, more, all-map, all-both, all-filter}
+use Rattle.laws.specs.AllOrNone.{filter-passes}
 use Rattle.laws.specs.StableSort.{Weak, filter-sort, map-sort, all-sort}
 use Rattle.laws.specs.Selection.{filter-select, map-select, all-select}
 use Rattle.laws.specs.Ranks.{rank, rank-eqb}
 use Rattle.laws.specs.NumberLists.{split, member-ren, member-split, member-append}
-
--- what a filter leaves passes its test
-pub filter-passes : {A : Type 0} (p : A → Bool) (l : List A) → All (λ x. p x ≡ true) (filter p l)
-unfolding filter
-filter-passes p [] = done
-filter-passes {A} p (x ∷ l) = go (p x) refl (filter-passes p l)
-  where
-    go : (b : Bool) → p x ≡ b → All (λ x. p x ≡ true) (filter p l) → All (λ x. p x ≡ true) (cond b (x ∷ filter p l) (filter p l))
-    go true e a = more e a
-    go false e a = a
 
 -- `On b x` says that x lies inside, or outside, as b is true or false
 module _ {A : Type 0} (inside : A → Bool) (On : Bool → A → Type 0) where

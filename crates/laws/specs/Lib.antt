@@ -26,6 +26,7 @@ pub mod Components
 pub mod PairOrder
 pub mod PairInsertion
 pub mod PairLaws
+pub mod AllOrNone
 pub mod Options
 pub mod NumberLists
 pub mod Choice
