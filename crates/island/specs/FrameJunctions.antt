@@ -10,13 +10,13 @@ use Rattle.definitions.specs.Scan.{filter, collect, member}
 use Rattle.definitions.specs.Sort.{listLt}
 use Rattle.definitions.specs.Grid.{Boundary}
 use Rattle.definitions.specs.Context.{Context}
-use Rattle.definitions.specs.Junctions.{Proposal, regionConflict, boundaryKey, tieKey, unionProposal, bridgeProposal, isReservedPort, key, ranksBefore, conflict, proposals, ranked, taken, removed}
+use Rattle.definitions.specs.Junctions.{Proposal, namesRegion, regionConflict, boundaryKey, tieKey, unionProposal, bridgeProposal, isReservedPort, key, ranksBefore, conflict, proposals, ranked, taken, removed}
 use Rattle.laws.specs.Lists.{All, all-append, filter-append, map-append}
 use Rattle.laws.specs.ListOrder.{by-key, prefix-lt}
 use Rattle.laws.specs.Ranks.{rank, rank-eqb, rank-shift, collect-rank, collect-all}
 use Rattle.laws.specs.Options.{on-list, on-map, option-in, option-out}
 use Rattle.laws.specs.NumberLists.{split}
-use Rattle.laws.specs.AllOrNone.{none-below}
+use Rattle.laws.specs.Scans.{any-none}
 use Rattle.laws.specs.Choice.{Placed, placed, choice-in, named-in}
 use Rattle.island.specs.Frame.{Frame, ren, ren-eqb, ren-ltb}
 use Rattle.island.specs.FrameLemmas.{isIncident-in, isIncident-split, any-in}
@@ -36,48 +36,29 @@ module _ (inB inR : ℕ → Bool) where
       || (ren-eqb inR (p .first) (q .first) (h .first) (k .first) t
       && (ren-ltb inR (p .second) (q .second) (h .second) t || (ren-eqb inR (p .second) (q .second) (h .second) (k .second) t && false)))))
 
-  module _ (q p : Proposal) where
-    regionConflict-in : (m n : ℕ) → ProposalOn inB inR true q → ProposalOn inB inR true p → regionConflict m n q p ≡ regionConflict m n (renProposal inB inR q) (renProposal inB inR p)
-    regionConflict-in m n h k = go m n
-      where
-        ff : eqb (q .first) (p .first) ≡ eqb (ren inR (q .first)) (ren inR (p .first))
-        ff = ren-eqb inR (q .first) (p .first) (h .first) (k .first)
+  namesRegion-in : (q : Proposal) (r : ℕ) → ProposalOn inB inR true q → inR r ≡ true → namesRegion q r ≡ namesRegion (renProposal inB inR q) (ren inR r)
+  namesRegion-in q r h k = ap₂ _||_ (ren-eqb inR (q .first) r (h .first) k) (ren-eqb inR (q .second) r (h .second) k)
 
-        fs : eqb (q .first) (p .second) ≡ eqb (ren inR (q .first)) (ren inR (p .second))
-        fs = ren-eqb inR (q .first) (p .second) (h .first) (k .second)
+  namesRegion-split : (q : Proposal) (r : ℕ) → ProposalOn inB inR false q → inR r ≡ true → namesRegion q r ≡ false
+  namesRegion-split q r h k = ap₂ _||_ (split inR false (q .first) r (h .first) k) (split inR false (q .second) r (h .second) k)
 
-        sf : eqb (q .second) (p .first) ≡ eqb (ren inR (q .second)) (ren inR (p .first))
-        sf = ren-eqb inR (q .second) (p .first) (h .second) (k .first)
+  regionConflict-in : (m n : ℕ) (q p : Proposal) → ProposalOn inB inR true q → ProposalOn inB inR true p → regionConflict m n q p ≡ regionConflict m n (renProposal inB inR q) (renProposal inB inR p)
+  regionConflict-in zero zero q p h k = ap₂ _||_ (namesRegion-in q (p .first) h (k .first)) (namesRegion-in q (p .second) h (k .second))
+  regionConflict-in (suc m) zero q p h k = ap₂ _||_ (namesRegion-in q (p .first) h (k .first)) (namesRegion-in q (p .second) h (k .second))
+  regionConflict-in zero (suc n) q p h k = ap₂ _||_ (namesRegion-in q (p .first) h (k .first)) (namesRegion-in q (p .second) h (k .second))
+  regionConflict-in (suc m) (suc n) q p h k =
+      λ t.
+      ren-eqb inR (q .first) (p .first) (h .first) (k .first) t || ren-eqb inR (q .first) (p .second) (h .first) (k .second) t
+      || ren-eqb inR (q .second) (p .first) (h .second) (k .first) t
 
-        ss : eqb (q .second) (p .second) ≡ eqb (ren inR (q .second)) (ren inR (p .second))
-        ss = ren-eqb inR (q .second) (p .second) (h .second) (k .second)
-
-        go : (m n : ℕ) → regionConflict m n q p ≡ regionConflict m n (renProposal inB inR q) (renProposal inB inR p)
-        go zero zero = λ t. (ff t || sf t) || (fs t || ss t)
-        go zero (suc n) = λ t. (ff t || sf t) || (fs t || ss t)
-        go (suc m) zero = λ t. (ff t || sf t) || (fs t || ss t)
-        go (suc m) (suc n) = λ t. ff t || fs t || sf t
-
-    regionConflict-apart : (m n : ℕ) → ProposalOn inB inR false q → ProposalOn inB inR true p → regionConflict m n q p ≡ false
-    regionConflict-apart m n h k = go m n
-      where
-        ff : eqb (q .first) (p .first) ≡ false
-        ff = split inR false (q .first) (p .first) (h .first) (k .first)
-
-        fs : eqb (q .first) (p .second) ≡ false
-        fs = split inR false (q .first) (p .second) (h .first) (k .second)
-
-        sf : eqb (q .second) (p .first) ≡ false
-        sf = split inR false (q .second) (p .first) (h .second) (k .first)
-
-        ss : eqb (q .second) (p .second) ≡ false
-        ss = split inR false (q .second) (p .second) (h .second) (k .second)
-
-        go : (m n : ℕ) → regionConflict m n q p ≡ false
-        go zero zero = λ t. (ff t || sf t) || (fs t || ss t)
-        go zero (suc n) = λ t. (ff t || sf t) || (fs t || ss t)
-        go (suc m) zero = λ t. (ff t || sf t) || (fs t || ss t)
-        go (suc m) (suc n) = λ t. ff t || fs t || sf t
+  regionConflict-apart : (m n : ℕ) (q p : Proposal) → ProposalOn inB inR false q → ProposalOn inB inR true p → regionConflict m n q p ≡ false
+  regionConflict-apart zero zero q p h k = ap₂ _||_ (namesRegion-split q (p .first) h (k .first)) (namesRegion-split q (p .second) h (k .second))
+  regionConflict-apart (suc m) zero q p h k = ap₂ _||_ (namesRegion-split q (p .first) h (k .first)) (namesRegion-split q (p .second) h (k .second))
+  regionConflict-apart zero (suc n) q p h k = ap₂ _||_ (namesRegion-split q (p .first) h (k .first)) (namesRegion-split q (p .second) h (k .second))
+  regionConflict-apart (suc m) (suc n) q p h k =
+      λ t.
+      split inR false (q .first) (p .first) (h .first) (k .first) t || split inR false (q .first) (p .second) (h .first) (k .second) t
+      || split inR false (q .second) (p .first) (h .second) (k .first) t
 
 module _ {L S : Context} {inB inR : ℕ → Bool} (F : Frame L S inB inR) where
   abbrev e : Proposal → Proposal
@@ -163,15 +144,15 @@ module _ {L S : Context} {inB inR : ℕ → Bool} (F : Frame L S inB inR) where
       (λ j b. ap₂ _&&_ (isReservedPort-in p j k b) (isReservedPort-in q j h b))
       (λ j b. ap (λ x. x && isReservedPort L q j) (isReservedPort-split true p j k b))
       t
-      || regionConflict-in inB inR q p (q .kind) (p .kind) h k t
+      || regionConflict-in inB inR (q .kind) (p .kind) q p h k t
 
   conflict-apart : (q p : Proposal) → PlaceOf false q → PlaceOf true p → conflict L q p ≡ false
   unfolding conflict
   conflict-apart q p h k =
       λ t.
       isReservedPort-split true p (q .index) k (h .index) t || isReservedPort-split false q (p .index) h (k .index) t
-      || none-below (λ j. isReservedPort L p j && isReservedPort L q j) (L .count) (λ j. each j (inB j) refl) t
-      || regionConflict-apart inB inR q p (q .kind) (p .kind) h k t
+      || any-none (L .count) (λ j. isReservedPort L p j && isReservedPort L q j) (λ j l. each j (inB j) refl) t
+      || regionConflict-apart inB inR (q .kind) (p .kind) q p h k t
     where
       each : (j : ℕ) (b : Bool) → inB j ≡ b → (isReservedPort L p j && isReservedPort L q j) ≡ false
       each j true c = ap (λ x. isReservedPort L p j && x) (isReservedPort-split false q j h c) ∙ and-false (isReservedPort L p j)

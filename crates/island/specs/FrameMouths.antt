@@ -80,14 +80,19 @@ module _ {L S : Context} {inB inR : ℕ → Bool} (F : Frame L S inB inR) where
   ranksBefore-in p q g h = ap₂ listLt (key-in p g) (key-in q h)
     where
       key-in : (p : MouthProposal) → PlaceOf true p → key L p ≡ key S (e p)
-      key-in p g = λ t. toBits binary64 (p .separation) ∷ endpointsKey (F .boundary (p .mouthIndex) (g .mouth) t .endpoints) ++ endpointsKey (F .boundary (p .rampIndex) (g .ramp) t .endpoints)
+      key-in p g =
+          λ t.
+          toBits binary64 (p .separation)
+          ∷ endpointsKey (F .boundary (p .mouthIndex) (g .mouth) t .endpoints) ++ endpointsKey (F .boundary (p .rampIndex) (g .ramp) t .endpoints)
 
   conflict-in : (q p : MouthProposal) → PlaceOf true q → PlaceOf true p → conflict L q p ≡ conflict S (e q) (e p)
   unfolding conflict
   conflict-in q p g k =
       λ t.
+      let x = F .boundary (q .rampIndex) (g .ramp) t in
+      let y = F .boundary (p .rampIndex) (k .ramp) t in
       rank-eqb inB (q .mouthIndex) (p .mouthIndex) (g .mouth) (k .mouth) t
-      || eqb (F .boundary (q .rampIndex) (g .ramp) t .rampId) (F .boundary (p .rampIndex) (k .ramp) t .rampId) && eqb (F .boundary (q .rampIndex) (g .ramp) t .kind) (F .boundary (p .rampIndex) (k .ramp) t .kind)
+      || eqb (x .rampId) (y .rampId) && eqb (x .kind) (y .kind)
       || meet-in inR (k .outer) (g .inner) t || meet-in inR (k .inner) (g .inner) t || meet-in inR (k .inner) (g .outer) t
       || (p .isTriangle || q .isTriangle)
       && (meet-in inR (all-append (k .outer) (k .inner)) (all-append (g .outer) (g .inner))

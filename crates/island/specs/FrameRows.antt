@@ -15,7 +15,7 @@ use Rattle.laws.specs.StableSort.{filter-sort, map-sort}
 use Rattle.laws.specs.ListOrder.{by-key, prefix-lt}
 use Rattle.laws.specs.Ranks.{rank, rank-ltb, rank-eqb, collect-rank}
 use Rattle.laws.specs.Options.{on-only, only-map, option-in, option-out}
-use Rattle.laws.specs.AllOrNone.{filter-passes}
+use Rattle.laws.specs.Scans.{filter-passes}
 use Rattle.island.specs.Frame.{Frame}
 
 module _ (inB : ℕ → Bool) where

@@ -121,7 +121,8 @@ module _ {L S : Context} {inB inR : ℕ → Bool} (F : Frame L S inB inR) where
     unfolding unionShape
     unionShape-in =
         λ t.
-        noRamp-in F i b t && ltb (anchoredRegions-in t) 2 && portsFit-in t && leb 3 (count-in F (isUnionPort L i p) (isUnionPort S (rank inB i) (renP inR p)) isUnionPort-in isUnionPort-out t)
+        noRamp-in F i b t && ltb (anchoredRegions-in t) 2 && portsFit-in t
+        && leb 3 (count-in F (isUnionPort L i p) (isUnionPort S (rank inB i) (renP inR p)) isUnionPort-in isUnionPort-out t)
         && ports-in (isNearPort L i) (isNearPort S (rank inB i)) (λ j c. isNearPort-in i j b c) t
         && leb 3 (count-in F (isNewExterior L i p) (isNewExterior S (rank inB i) (renP inR p)) isNewExterior-in isNewExterior-out t)
         && (not (eqb (anchoredRegions-in t) 1) || isWidest-in t)

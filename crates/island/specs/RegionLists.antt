@@ -9,7 +9,8 @@ use Rattle.definitions.specs.Scan.{any, member, addAll}
 use Rattle.definitions.specs.Grid.{Pair, contains, pairEq}
 use Rattle.definitions.specs.Context.{otherRegion}
 use Rattle.definitions.specs.RampMouths.{regionsOf, distinctRegions, meet}
-use Rattle.laws.specs.Lists.{All, done, more, any-ren}
+use Rattle.laws.specs.Lists.{All, done, more, all-map, any-ren}
+use Rattle.laws.specs.Members.{any-fails}
 use Rattle.laws.specs.NumberLists.{all-addAll, member-ren, addAll-ren, meet-ren, split}
 use Rattle.laws.specs.ListOrder.{eqb-sym}
 use Rattle.island.specs.Frame.{ren, renP, ren-eqb}
@@ -54,9 +55,7 @@ module _ (inR : ℕ → Bool) where
   any-contains-in r h a = any-ren (renP inR) (PairOn true) (contains r) (contains (ren inR r)) (λ p k. contains-in r p h k) a
 
   pub any-contains-split : (b : Bool) (r : ℕ) {l : List Pair} → inR r ≡ b → All (PairOn (not b)) l → any (contains r) l ≡ false
-  unfolding any
-  any-contains-split b r h done = refl
-  any-contains-split b r h (more {x = p} k a) = ap₂ _||_ (contains-split b r p h k) (any-contains-split b r h a)
+  any-contains-split b r h a = any-fails (contains r) (all-map (λ p k. contains-split b r p h k) a)
 
   -- ---- lists of regions
 

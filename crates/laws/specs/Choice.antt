@@ -8,7 +8,7 @@ use lib.Dec.{eqb}
 use Rattle.definitions.specs.Scan.{any, filter, concatMap, member}
 use Rattle.definitions.specs.Sort.{sort, select}
 use Rattle.laws.specs.Lists.{All, done, more, all-map, all-both, all-filter}
-use Rattle.laws.specs.AllOrNone.{filter-passes}
+use Rattle.laws.specs.Scans.{filter-passes}
 use Rattle.laws.specs.StableSort.{Weak, filter-sort, map-sort, all-sort}
 use Rattle.laws.specs.Selection.{filter-select, map-select, all-select}
 use Rattle.laws.specs.Ranks.{rank, rank-eqb}

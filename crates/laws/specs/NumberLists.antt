@@ -1,14 +1,15 @@
 -- Lists of numbers asked as sets (`member`, `addNew`, `addAll`, `meet`): under a renaming e that keeps the equality of the numbers at hand, and where
 -- the numbers lie on two sides of a test. Assumes nothing.
 use Prim.Native.Nat.{ℕ}
-use mathlib.Core.Path.{_≡_, refl, sym, ap, ap₂, _∙_}
+use mathlib.Core.Path.{_≡_, refl, sym, ap, _∙_}
 use mathlib.Core.Bool.{Bool, true, false, not, _||_, cond, true≢false, false≢true}
 use mathlib.Core.List.{List, [], _∷_, _++_, map}
 use lib.Dec.{eqb}
 use borrow.Author.Tests.{eqb-true}
-use Rattle.definitions.specs.Scan.{any, member, addNew, addAll}
+use Rattle.definitions.specs.Scan.{member, addNew, addAll}
 use Rattle.definitions.specs.RampMouths.{meet}
-use Rattle.laws.specs.Lists.{All, done, more, all-append, any-append, any-ren, map-append}
+use Rattle.laws.specs.Lists.{All, done, more, all-append, all-map, any-append, any-ren, map-append}
+use Rattle.laws.specs.Members.{any-fails}
 
 module _ {P : ℕ → Type 0} where
   all-addNew : {l : List ℕ} {x : ℕ} → All P l → P x → All P (addNew l x)
@@ -61,14 +62,12 @@ module _ (inside : ℕ → Bool) where
       go true e false h k = absurd (false≢true (sym h ∙ ap inside (eqb-true x y e) ∙ k))
 
   pub member-split : (b : Bool) (r : ℕ) {l : List ℕ} → inside r ≡ b → All (λ s. inside s ≡ not b) l → member r l ≡ false
-  unfolding member any
-  member-split b r h done = refl
-  member-split b r h (more {x = s} k a) = ap₂ _||_ (split b r s h k) (member-split b r h a)
+  unfolding member
+  member-split b r h a = any-fails (eqb r) (all-map (λ s k. split b r s h k) a)
 
   pub meet-split : (b : Bool) {l m : List ℕ} → All (λ r. inside r ≡ b) l → All (λ r. inside r ≡ not b) m → meet l m ≡ false
-  unfolding meet any
-  meet-split b done y = refl
-  meet-split b (more {x = r} h x) y = ap₂ _||_ (member-split b r h y) (meet-split b x y)
+  unfolding meet
+  meet-split b {m = m} x y = any-fails (λ r. member r m) (all-map (λ r h. member-split b r h y) x)
 
 pub member-append : (r : ℕ) (l m : List ℕ) → member r (l ++ m) ≡ (member r l || member r m)
 unfolding member
