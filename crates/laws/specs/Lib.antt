@@ -26,3 +26,6 @@ pub mod Components
 pub mod PairOrder
 pub mod PairInsertion
 pub mod PairLaws
+pub mod Options
+pub mod NumberLists
+pub mod Choice
