@@ -6,8 +6,6 @@ use Rattle.definitions.specs.Scan.{run}
 use Rattle.definitions.specs.Grid.{Map, mapOf, at, Pair}
 use Rattle.definitions.specs.Spans.{cutSteps}
 use Rattle.definitions.specs.Partition.{labels, regionCount, pairsOf}
-use Rattle.definitions.specs.Context.{contextOf}
-use Rattle.definitions.specs.Junctions.{Proposal, proposals}
 use Rattle.definitions.specs.Rows.{Row, rowsOf}
 use Rattle.definitions.specs.Printed.{keptlist, text}
 use Rattle.definitions.specs.SheetExamples.{bytesJ, sheetJ}
@@ -30,10 +28,6 @@ pair a b = record { lo = a; hi = b }
 pub pairsJ : map (λ s. pairsOf (labels mapJ) (cutSteps mapJ s)) (run 0 5) ≡ (pair 3 4 ∷ []) ∷ (pair 2 3 ∷ []) ∷ (pair 1 3 ∷ []) ∷ (pair 4 5 ∷ []) ∷ (pair 4 6 ∷ []) ∷ []
 unfolding labels pairsOf cutSteps run mapJ
 pairsJ = refl
-
-pub proposalsJ : proposals (contextOf mapJ) ≡ record { index = 0; kind = 0; first = 3; second = 4 } ∷ []
-unfolding proposals contextOf mapJ
-proposalsJ = refl
 
 abbrev pub row : ℕ → ℕ → ℕ → ℕ → ℕ → Row
 row i a b c d = record { number = i; line = record { a = at a b; b = at c d } }

@@ -62,29 +62,31 @@ segment a b c d = record { a = at a b; b = at c d }
 unfoldable pub regionOfCounts : ℕ → ℕ → Region
 unfolding float
 regionOfCounts n k =
-    record
-      { cells = n;
-        minX = float 0;
-        minY = float 0;
-        maxX = float 8;
-        maxY = float 8;
-        hasRamp = false;
-        elevations = cond (eqb n k) 1 3;
-        elevationCounts = k ∷ (n - k) ∷ 0 ∷ 0 ∷ [] }
+    record {
+      cells = n;
+      minX = float 0;
+      minY = float 0;
+      maxX = float 8;
+      maxY = float 8;
+      hasRamp = false;
+      elevations = cond (eqb n k) 1 3;
+      elevationCounts = k ∷ (n - k) ∷ 0 ∷ 0 ∷ [];
+    }
 
 -- two boundaries with no ramp, of these endpoints and widths, about a flat region of one cell
 unfoldable pub twoBoundaries : Segment → Segment → ℕ → ℕ → Context
 unfolding regionOfCounts
 twoBoundaries s t a b =
-    record
-      { count = 2;
-        regions = 1;
-        boundary = λ i. record { endpoints = cond (eqb i 0) s t; widthBits = cond (eqb i 0) a b; kind = 0; rampId = 0; lower = 0; upper = 0 };
-        removedEdges = λ i. 0;
-        separatedEdges = λ i. 0;
-        pairs = λ i. [];
-        anchored = λ r. false;
-        region = λ r. regionOfCounts 1 1 }
+    record {
+      count = 2;
+      regions = 1;
+      boundary = λ i. record { endpoints = cond (eqb i 0) s t; widthBits = cond (eqb i 0) a b; kind = 0; rampId = 0; lower = 0; upper = 0 };
+      removedEdges = λ i. 0;
+      separatedEdges = λ i. 0;
+      pairs = λ i. [];
+      anchored = λ r. false;
+      region = λ r. regionOfCounts 1 1;
+    }
 
 -- the pocket's two shared ports are boundaries 0 and 1, of these widths; all is near
 unfoldable pub picked : ℕ → ℕ → Option Proposal
@@ -101,14 +103,14 @@ unfoldable pub threeCells : Map
 unfolding mapOf
 threeCells =
     mapOf 3 1 (1 ∷ 1 ∷ 1 ∷ []) (8 ∷ 0 ∷ 8 ∷ 8 ∷ 16 ∷ 0 ∷ 16 ∷ 8 ∷ [])
-      (8 ∷ 0 ∷ 8 ∷ 8 ∷ width8 ∷ 0 ∷ 0 ∷ 0 ∷ 0 ∷ 16 ∷ 0 ∷ 16 ∷ 8 ∷ width8 ∷ 1 ∷ 7 ∷ 0 ∷ 1 ∷ []) []
+    (8 ∷ 0 ∷ 8 ∷ 8 ∷ width8 ∷ 0 ∷ 0 ∷ 0 ∷ 0 ∷ 16 ∷ 0 ∷ 16 ∷ 8 ∷ width8 ∷ 1 ∷ 7 ∷ 0 ∷ 1 ∷ []) []
 
 -- four cells of elevation 0 cut likewise at 8, 16, 24: ramp 7 Lower, none, ramp 7 Upper, one middle cell a ramp
 unfoldable pub fourCells : Map
 unfolding mapOf
 fourCells =
     mapOf 4 1 (1 ∷ 3 ∷ 1 ∷ 1 ∷ []) (8 ∷ 0 ∷ 8 ∷ 8 ∷ 16 ∷ 0 ∷ 16 ∷ 8 ∷ 24 ∷ 0 ∷ 24 ∷ 8 ∷ [])
-      (8 ∷ 0 ∷ 8 ∷ 8 ∷ width8 ∷ 1 ∷ 7 ∷ 0 ∷ 1 ∷ 16 ∷ 0 ∷ 16 ∷ 8 ∷ width8 ∷ 0 ∷ 0 ∷ 0 ∷ 0 ∷ 24 ∷ 0 ∷ 24 ∷ 8 ∷ width8 ∷ 2 ∷ 7 ∷ 0 ∷ 1 ∷ []) []
+    (8 ∷ 0 ∷ 8 ∷ 8 ∷ width8 ∷ 1 ∷ 7 ∷ 0 ∷ 1 ∷ 16 ∷ 0 ∷ 16 ∷ 8 ∷ width8 ∷ 0 ∷ 0 ∷ 0 ∷ 0 ∷ 24 ∷ 0 ∷ 24 ∷ 8 ∷ width8 ∷ 2 ∷ 7 ∷ 0 ∷ 1 ∷ []) []
 
 -- ---- the list
 
@@ -117,28 +119,28 @@ unfolding toBits hypotOf float portAt dominantElevation regionOfCounts emptyRegi
 cases =
     -- "hypotenuse 3, 4 gives 5; 0, 0 gives 0; 1, 1 gives bits 3FF6A09E667F3BCD hexadecimal"
     eqb (toBits binary64 (hypotOf (float 3) (float 4))) (toBits binary64 (float 5))
-      ∷ eqb (toBits binary64 (hypotOf (float 0) (float 0))) 0
-      ∷ eqb (toBits binary64 (hypotOf (float 1) (float 1))) 0x3FF6A09E667F3BCD
-      -- "port distance 384 passes, 384.5 doesn't"
-      ∷ portAt 768
-      ∷ not (portAt 769)
-      -- "99 cells of 100 dominate, 98 of 99 don't. Equal counts, as in the empty record, choose the lower elevation."
-      ∷ isNumber (dominantElevation (regionOfCounts 100 99)) 0
-      ∷ isNone (dominantElevation (regionOfCounts 99 98))
-      ∷ isNumber (dominantElevation emptyRegion) 0
-      -- "bridge widths 16 and 8 pick the 16; 15.5 and 8 pick none", whichever comes first
-      ∷ removes (picked width16 width8) 0
-      ∷ removes (picked width8 width16) 1
-      ∷ isNone (picked width15-5 width8)
-      ∷ isNone (picked width8 width15-5)
-      -- "pairs [1,2], [1,3] form a star with outer 1; [1,2], [3,4] don't"
-      ∷ isStarAbout (mouthShape true (pair 1 2 ∷ pair 1 3 ∷ [])) 1
-      ∷ isNone (mouthShape true (pair 1 2 ∷ pair 3 4 ∷ []))
-      -- "three cells in a row [..]: pass 1 removes the first"
-      ∷ sameNumbers (removedOf 1 threeCells) (0 ∷ [])
-      -- "four cells of elevation 0 [..]: pass 2 removes the middle"
-      ∷ sameNumbers (removedOf 2 fourCells) (1 ∷ [])
-      ∷ []
+    ∷ eqb (toBits binary64 (hypotOf (float 0) (float 0))) 0
+    ∷ eqb (toBits binary64 (hypotOf (float 1) (float 1))) 0x3FF6A09E667F3BCD
+    -- "port distance 384 passes, 384.5 doesn't"
+    ∷ portAt 768
+    ∷ not (portAt 769)
+    -- "99 cells of 100 dominate, 98 of 99 don't. Equal counts, as in the empty record, choose the lower elevation."
+    ∷ isNumber (dominantElevation (regionOfCounts 100 99)) 0
+    ∷ isNone (dominantElevation (regionOfCounts 99 98))
+    ∷ isNumber (dominantElevation emptyRegion) 0
+    -- "bridge widths 16 and 8 pick the 16; 15.5 and 8 pick none", whichever comes first
+    ∷ removes (picked width16 width8) 0
+    ∷ removes (picked width8 width16) 1
+    ∷ isNone (picked width15-5 width8)
+    ∷ isNone (picked width8 width15-5)
+    -- "pairs [1,2], [1,3] form a star with outer 1; [1,2], [3,4] don't"
+    ∷ isStarAbout (mouthShape true (pair 1 2 ∷ pair 1 3 ∷ [])) 1
+    ∷ isNone (mouthShape true (pair 1 2 ∷ pair 3 4 ∷ []))
+    -- "three cells in a row [..]: pass 1 removes the first"
+    ∷ sameNumbers (removedOf 1 threeCells) (0 ∷ [])
+    -- "four cells of elevation 0 [..]: pass 2 removes the middle"
+    ∷ sameNumbers (removedOf 2 fourCells) (1 ∷ [])
+    ∷ []
 
 pub cases-hold : all (λ b. b) cases ≡ true
 unfolding all cases

@@ -37,21 +37,21 @@ unfolding hypotBits numberOf
 hypotExamples =
     -- the exact root lies in the middle of two doubles: 10,247,559,438,486,793 half units goes down to the even significand,
     eqb (hypotBits 0x408B95146A80E448 0x40C21F1B4712BE68) 0x40C2340CEE12A684
-      -- and 11,177,791,640,515,787 goes up to it
-      ∷ eqb (hypotBits 0x40B7735837B91FD3 0x40C006248ED7952E) 0x40C3DB12360D9A66
-      -- 0.1 and 1e-10
-      ∷ eqb (hypotBits 0x3FB999999999999A 0x3DDB7CDFD9D7BDBB) 0x3FB999999999999A
-      -- signs do not count, and two negative zeros give +0
-      ∷ eqb (hypotBits 0xC008000000000000 0x4010000000000000) 0x4014000000000000
-      ∷ eqb (hypotBits 0x8000000000000000 0x8000000000000000) 0
-      -- the range: from 2 ^ -64 to 2 ^ 15, or zero
-      ∷ eqb (numberOf 0x3BF0000000000000 0x40E0000000000000) 0
-      ∷ eqb (numberOf 0x3BEFFFFFFFFFFFFF 0x40E0000000000000) 13
-      ∷ eqb (numberOf 0x3BF0000000000000 0x40E0000000000001) 13
-      ∷ eqb (numberOf 0x8000000000000000 0xC0E0000000000000) 0
-      ∷ eqb (numberOf 0x7FF0000000000000 0) 13
-      ∷ eqb (numberOf 0 0x7FF8000000000000) 13
-      ∷ []
+    -- and 11,177,791,640,515,787 goes up to it
+    ∷ eqb (hypotBits 0x40B7735837B91FD3 0x40C006248ED7952E) 0x40C3DB12360D9A66
+    -- 0.1 and 1e-10
+    ∷ eqb (hypotBits 0x3FB999999999999A 0x3DDB7CDFD9D7BDBB) 0x3FB999999999999A
+    -- signs do not count, and two negative zeros give +0
+    ∷ eqb (hypotBits 0xC008000000000000 0x4010000000000000) 0x4014000000000000
+    ∷ eqb (hypotBits 0x8000000000000000 0x8000000000000000) 0
+    -- the range: from 2 ^ -64 to 2 ^ 15, or zero
+    ∷ eqb (numberOf 0x3BF0000000000000 0x40E0000000000000) 0
+    ∷ eqb (numberOf 0x3BEFFFFFFFFFFFFF 0x40E0000000000000) 13
+    ∷ eqb (numberOf 0x3BF0000000000000 0x40E0000000000001) 13
+    ∷ eqb (numberOf 0x8000000000000000 0xC0E0000000000000) 0
+    ∷ eqb (numberOf 0x7FF0000000000000 0) 13
+    ∷ eqb (numberOf 0 0x7FF8000000000000) 13
+    ∷ []
 
 pub hypot-examples : all (λ b. b) hypotExamples ≡ true
 unfolding all hypotExamples
@@ -82,7 +82,7 @@ unfolding mapOf
 ranking =
     let spans : List (List ℕ) = (24 ∷ 8 ∷ 24 ∷ 16 ∷ []) ∷ (16 ∷ 8 ∷ 16 ∷ 16 ∷ []) ∷ (8 ∷ 8 ∷ 8 ∷ 16 ∷ []) ∷ (32 ∷ 8 ∷ 32 ∷ 16 ∷ []) ∷ (8 ∷ 8 ∷ 16 ∷ 8 ∷ []) ∷ (24 ∷ 8 ∷ 32 ∷ 8 ∷ []) ∷ (16 ∷ 16 ∷ 24 ∷ 16 ∷ []) ∷ [] in
     mapOf 5 3 (0 ∷ 1 ∷ 0 ∷ 1 ∷ 0 ∷ 1 ∷ 1 ∷ 1 ∷ 1 ∷ 1 ∷ 0 ∷ 0 ∷ 1 ∷ 0 ∷ 0 ∷ []) (concatMap (λ s. s) spans)
-      (concatMap (λ s. s ++ (width8 ∷ 0 ∷ 0 ∷ 0 ∷ 0 ∷ [])) spans) []
+    (concatMap (λ s. s ++ (width8 ∷ 0 ∷ 0 ∷ 0 ∷ 0 ∷ [])) spans) []
 
 -- ---- a triangle tested against reserved regions instead of all occupied ones
 
@@ -90,15 +90,16 @@ ranking =
 unfoldable pub twoRamps : Context
 unfolding regionOfCounts
 twoRamps =
-    record
-      { count = 2;
-        regions = 4;
-        boundary = λ i. record { endpoints = segment 0 0 0 8; widthBits = width8; kind = 1; rampId = i; lower = 0; upper = 1 };
-        removedEdges = λ i. 0;
-        separatedEdges = λ i. 0;
-        pairs = λ i. [];
-        anchored = λ r. false;
-        region = λ r. regionOfCounts 1 1 }
+    record {
+      count = 2;
+      regions = 4;
+      boundary = λ i. record { endpoints = segment 0 0 0 8; widthBits = width8; kind = 1; rampId = i; lower = 0; upper = 1 };
+      removedEdges = λ i. 0;
+      separatedEdges = λ i. 0;
+      pairs = λ i. [];
+      anchored = λ r. false;
+      region = λ r. regionOfCounts 1 1;
+    }
 
 -- the proposal of mouth i at ramp i about outer region 1
 unfoldable pub aboutOne : ℕ → Bool → List ℕ → MouthProposal
@@ -122,37 +123,37 @@ unfoldable pub anchoredCells : ℕ → List ℕ → Map
 unfolding mapOf
 anchoredCells fourth anchors =
     mapOf 4 1 (1 ∷ 1 ∷ 1 ∷ fourth ∷ []) (8 ∷ 0 ∷ 8 ∷ 8 ∷ 16 ∷ 0 ∷ 16 ∷ 8 ∷ [])
-      (8 ∷ 0 ∷ 8 ∷ 8 ∷ width8 ∷ 0 ∷ 0 ∷ 0 ∷ 0 ∷ 16 ∷ 0 ∷ 16 ∷ 8 ∷ width8 ∷ 1 ∷ 7 ∷ 0 ∷ 1 ∷ []) anchors
+    (8 ∷ 0 ∷ 8 ∷ 8 ∷ width8 ∷ 0 ∷ 0 ∷ 0 ∷ 0 ∷ 16 ∷ 0 ∷ 16 ∷ 8 ∷ width8 ∷ 1 ∷ 7 ∷ 0 ∷ 1 ∷ []) anchors
 
 -- the same with a third span, on the right edge, that has no boundary
 unfoldable pub unequalCounts : Map
 unfolding mapOf
 unequalCounts =
     mapOf 3 1 (1 ∷ 1 ∷ 1 ∷ []) (8 ∷ 0 ∷ 8 ∷ 8 ∷ 16 ∷ 0 ∷ 16 ∷ 8 ∷ 24 ∷ 0 ∷ 24 ∷ 8 ∷ [])
-      (16 ∷ 0 ∷ 16 ∷ 8 ∷ width8 ∷ 1 ∷ 7 ∷ 0 ∷ 1 ∷ 8 ∷ 0 ∷ 8 ∷ 8 ∷ width8 ∷ 0 ∷ 0 ∷ 0 ∷ 0 ∷ []) []
+    (16 ∷ 0 ∷ 16 ∷ 8 ∷ width8 ∷ 1 ∷ 7 ∷ 0 ∷ 1 ∷ 8 ∷ 0 ∷ 8 ∷ 8 ∷ width8 ∷ 0 ∷ 0 ∷ 0 ∷ 0 ∷ []) []
 
 unfoldable pub examples : List Bool
 unfolding apartAsWritten apartTurned removedOf ranking conflict twoRamps aboutOne interiorRow anchoredCells contextOf withinSpanRadius regionOfCounts
 examples =
     apartAsWritten
-      ∷ not apartTurned
-      ∷ sameNumbers (removedOf 3 ranking) (1 ∷ [])
-      -- a triangle may not meet the outer region of a taken mouth, nor a mouth that of a taken triangle; two mouths may share it
-      ∷ conflict twoRamps (aboutOne 0 false (2 ∷ [])) (aboutOne 1 true (3 ∷ 4 ∷ []))
-      ∷ conflict twoRamps (aboutOne 0 true (2 ∷ 3 ∷ [])) (aboutOne 1 false (4 ∷ []))
-      ∷ not (conflict twoRamps (aboutOne 0 false (2 ∷ [])) (aboutOne 1 false (4 ∷ [])))
-      -- an anchored outer region leaves the mouth as it is; an anchored inner one does not; an anchor on a blocked cell is no region's
-      ∷ sameNumbers (removedOf 1 (anchoredCells 0 (0 ∷ 0 ∷ []))) (0 ∷ [])
-      ∷ sameNumbers (removedOf 1 (anchoredCells 0 (1 ∷ 0 ∷ []))) []
-      ∷ sameNumbers (removedOf 1 (anchoredCells 0 (3 ∷ 0 ∷ []))) (0 ∷ [])
-      ∷ contextOf (anchoredCells 0 (3 ∷ 0 ∷ [])) .anchored 0
-      -- "Eight edges in an interior are allowed, nine skip it."
-      ∷ sameNumbers (removedOf 2 (interiorRow 11)) (1 ∷ 2 ∷ 3 ∷ 4 ∷ 5 ∷ 6 ∷ 7 ∷ 8 ∷ [])
-      ∷ sameNumbers (removedOf 2 (interiorRow 12)) []
-      -- "Exactly 512 pixels is within the radius."
-      ∷ withinSpanRadius (regionOfCounts 1 1) (segment 512 0 512 8)
-      ∷ not (withinSpanRadius (regionOfCounts 1 1) (segment 513 0 513 8))
-      ∷ []
+    ∷ not apartTurned
+    ∷ sameNumbers (removedOf 3 ranking) (1 ∷ [])
+    -- a triangle may not meet the outer region of a taken mouth, nor a mouth that of a taken triangle; two mouths may share it
+    ∷ conflict twoRamps (aboutOne 0 false (2 ∷ [])) (aboutOne 1 true (3 ∷ 4 ∷ []))
+    ∷ conflict twoRamps (aboutOne 0 true (2 ∷ 3 ∷ [])) (aboutOne 1 false (4 ∷ []))
+    ∷ not (conflict twoRamps (aboutOne 0 false (2 ∷ [])) (aboutOne 1 false (4 ∷ [])))
+    -- an anchored outer region leaves the mouth as it is; an anchored inner one does not; an anchor on a blocked cell is no region's
+    ∷ sameNumbers (removedOf 1 (anchoredCells 0 (0 ∷ 0 ∷ []))) (0 ∷ [])
+    ∷ sameNumbers (removedOf 1 (anchoredCells 0 (1 ∷ 0 ∷ []))) []
+    ∷ sameNumbers (removedOf 1 (anchoredCells 0 (3 ∷ 0 ∷ []))) (0 ∷ [])
+    ∷ contextOf (anchoredCells 0 (3 ∷ 0 ∷ [])) .anchored 0
+    -- "Eight edges in an interior are allowed, nine skip it."
+    ∷ sameNumbers (removedOf 2 (interiorRow 11)) (1 ∷ 2 ∷ 3 ∷ 4 ∷ 5 ∷ 6 ∷ 7 ∷ 8 ∷ [])
+    ∷ sameNumbers (removedOf 2 (interiorRow 12)) []
+    -- "Exactly 512 pixels is within the radius."
+    ∷ withinSpanRadius (regionOfCounts 1 1) (segment 512 0 512 8)
+    ∷ not (withinSpanRadius (regionOfCounts 1 1) (segment 513 0 513 8))
+    ∷ []
 
 pub examples-hold : all (λ b. b) examples ≡ true
 unfolding all examples

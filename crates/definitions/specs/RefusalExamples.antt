@@ -19,21 +19,22 @@ use Rattle.definitions.specs.Cases.{width8, segment}
 
 unfoldable pub lentTwo : ℕ → ℕ → ℕ → List ℕ → List ℕ → List ℕ → List ℕ → List ℕ → List ℕ → List Region → Lent
 lentTwo pass w h cells spans boundaries anchors labels pairs records =
-    record
-      { pass = pass;
-        width = w;
-        height = h;
-        cells = cells;
-        spans = spans;
-        boundaries = boundaries;
-        anchors = anchors;
-        labels = labels;
-        masks = 7 ∷ 7 ∷ 7 ∷ [];
-        queue = 8 ∷ 8 ∷ 8 ∷ [];
-        tallies = 5 ∷ 5 ∷ 5 ∷ [];
-        pairs = pairs;
-        records = records;
-        output = 6 ∷ 6 ∷ 6 ∷ 6 ∷ 6 ∷ 6 ∷ [] }
+    record {
+      pass = pass;
+      width = w;
+      height = h;
+      cells = cells;
+      spans = spans;
+      boundaries = boundaries;
+      anchors = anchors;
+      labels = labels;
+      masks = 7 ∷ 7 ∷ 7 ∷ [];
+      queue = 8 ∷ 8 ∷ 8 ∷ [];
+      tallies = 5 ∷ 5 ∷ 5 ∷ [];
+      pairs = pairs;
+      records = records;
+      output = 6 ∷ 6 ∷ 6 ∷ 6 ∷ 6 ∷ 6 ∷ [];
+    }
 
 abbrev pub cellsTwo : List ℕ
 cellsTwo = 1 ∷ 1 ∷ []
@@ -71,41 +72,41 @@ unfoldable pub refusalExamples : List Bool
 unfolding answerTo answerIn
 refusalExamples =
     is (answerTo 3 2 1 cellsTwo spanTwo boundaryTwo (1 ∷ 0 ∷ [])) 0 1
-      -- 1: the sides; before 2 and all others
-      ∷ is (answerTo 9 0 1 cellsTwo spanTwo boundaryTwo []) 1 0
-      ∷ is (answerTo 3 2 1025 cellsTwo spanTwo boundaryTwo []) 1 0
-      -- 2: cells missing or too many
-      ∷ is (answerTo 3 2 1 (1 ∷ []) spanTwo boundaryTwo []) 2 0
-      ∷ is (answerTo 3 2 1 (1 ∷ 1 ∷ 1 ∷ []) (8 ∷ []) boundaryTwo []) 2 0
-      -- 3: an unfinished entry; before 4
-      ∷ is (answerTo 0 2 1 cellsTwo (8 ∷ 8 ∷ 8 ∷ 0 ∷ 1 ∷ []) boundaryTwo []) 3 0
-      ∷ is (answerTo 3 2 1 cellsTwo spanTwo (8 ∷ []) []) 3 0
-      ∷ is (answerTo 3 2 1 cellsTwo spanTwo boundaryTwo (0 ∷ [])) 3 0
-      -- 4: the pass; before 5
-      ∷ is (answerTo 0 2 1 cellsTwo (17 ∷ 8 ∷ 8 ∷ 0 ∷ []) boundaryTwo []) 4 0
-      ∷ is (answerTo 4 2 1 cellsTwo spanTwo boundaryTwo []) 4 0
-      -- 5 and 6: the first faulty span, 5 first within a span; endpoints on the right and lower edge are on the map
-      ∷ is (answerTo 3 2 1 cellsTwo (16 ∷ 8 ∷ 8 ∷ 0 ∷ []) boundaryTwo []) 0 1
-      ∷ is (answerTo 3 2 1 cellsTwo (17 ∷ 8 ∷ 8 ∷ 0 ∷ []) boundaryTwo []) 5 0
-      ∷ is (answerTo 3 2 1 cellsTwo (8 ∷ 8 ∷ 8 ∷ 0 ∷ 8 ∷ 0 ∷ 8 ∷ 9 ∷ []) boundaryTwo []) 5 1
-      ∷ is (answerTo 3 2 1 cellsTwo (8 ∷ 8 ∷ 8 ∷ 8 ∷ 17 ∷ 0 ∷ 8 ∷ 8 ∷ []) boundaryTwo []) 6 0
-      ∷ is (answerTo 3 2 1 cellsTwo (8 ∷ 9 ∷ 8 ∷ 9 ∷ []) boundaryTwo []) 5 0
-      -- 7: the first faulty boundary; before 8
-      ∷ is (answerTo 3 2 1 cellsTwo spanTwo (8 ∷ 8 ∷ 8 ∷ 9 ∷ width8 ∷ 0 ∷ 0 ∷ 0 ∷ 0 ∷ []) (2 ∷ 0 ∷ [])) 7 0
-      -- 8: the first anchor outside the grid; before 9
-      ∷ is (answerTo 3 2 1 (17 ∷ 1 ∷ []) spanTwo boundaryTwo (1 ∷ 0 ∷ 2 ∷ 0 ∷ [])) 8 1
-      ∷ is (answerTo 3 2 1 cellsTwo spanTwo boundaryTwo (0 ∷ 1 ∷ [])) 8 0
-      -- 9: the first walkable cell of elevation 4; one that is blocked, or of elevation 3, is no fault
-      ∷ is (answerTo 3 2 1 (1 ∷ 17 ∷ []) spanTwo boundaryTwo []) 9 1
-      ∷ is (answerTo 3 2 1 (13 ∷ 16 ∷ []) spanTwo boundaryTwo []) 0 1
-      -- 10: a list too short; before 11
-      ∷ is (answerIn (9 ∷ []) pairsTwo 0) 10 0
-      -- 11: one record for two regions; before 12
-      ∷ is (answerIn labelsTwo [] 1) 11 0
-      -- 12: no whole row for one pair
-      ∷ is (answerIn labelsTwo (4 ∷ 4 ∷ []) 2) 12 0
-      ∷ is (answerIn labelsTwo (4 ∷ 4 ∷ 4 ∷ []) 2) 0 1
-      ∷ []
+    -- 1: the sides; before 2 and all others
+    ∷ is (answerTo 9 0 1 cellsTwo spanTwo boundaryTwo []) 1 0
+    ∷ is (answerTo 3 2 1025 cellsTwo spanTwo boundaryTwo []) 1 0
+    -- 2: cells missing or too many
+    ∷ is (answerTo 3 2 1 (1 ∷ []) spanTwo boundaryTwo []) 2 0
+    ∷ is (answerTo 3 2 1 (1 ∷ 1 ∷ 1 ∷ []) (8 ∷ []) boundaryTwo []) 2 0
+    -- 3: an unfinished entry; before 4
+    ∷ is (answerTo 0 2 1 cellsTwo (8 ∷ 8 ∷ 8 ∷ 0 ∷ 1 ∷ []) boundaryTwo []) 3 0
+    ∷ is (answerTo 3 2 1 cellsTwo spanTwo (8 ∷ []) []) 3 0
+    ∷ is (answerTo 3 2 1 cellsTwo spanTwo boundaryTwo (0 ∷ [])) 3 0
+    -- 4: the pass; before 5
+    ∷ is (answerTo 0 2 1 cellsTwo (17 ∷ 8 ∷ 8 ∷ 0 ∷ []) boundaryTwo []) 4 0
+    ∷ is (answerTo 4 2 1 cellsTwo spanTwo boundaryTwo []) 4 0
+    -- 5 and 6: the first faulty span, 5 first within a span; endpoints on the right and lower edge are on the map
+    ∷ is (answerTo 3 2 1 cellsTwo (16 ∷ 8 ∷ 8 ∷ 0 ∷ []) boundaryTwo []) 0 1
+    ∷ is (answerTo 3 2 1 cellsTwo (17 ∷ 8 ∷ 8 ∷ 0 ∷ []) boundaryTwo []) 5 0
+    ∷ is (answerTo 3 2 1 cellsTwo (8 ∷ 8 ∷ 8 ∷ 0 ∷ 8 ∷ 0 ∷ 8 ∷ 9 ∷ []) boundaryTwo []) 5 1
+    ∷ is (answerTo 3 2 1 cellsTwo (8 ∷ 8 ∷ 8 ∷ 8 ∷ 17 ∷ 0 ∷ 8 ∷ 8 ∷ []) boundaryTwo []) 6 0
+    ∷ is (answerTo 3 2 1 cellsTwo (8 ∷ 9 ∷ 8 ∷ 9 ∷ []) boundaryTwo []) 5 0
+    -- 7: the first faulty boundary; before 8
+    ∷ is (answerTo 3 2 1 cellsTwo spanTwo (8 ∷ 8 ∷ 8 ∷ 9 ∷ width8 ∷ 0 ∷ 0 ∷ 0 ∷ 0 ∷ []) (2 ∷ 0 ∷ [])) 7 0
+    -- 8: the first anchor outside the grid; before 9
+    ∷ is (answerTo 3 2 1 (17 ∷ 1 ∷ []) spanTwo boundaryTwo (1 ∷ 0 ∷ 2 ∷ 0 ∷ [])) 8 1
+    ∷ is (answerTo 3 2 1 cellsTwo spanTwo boundaryTwo (0 ∷ 1 ∷ [])) 8 0
+    -- 9: the first walkable cell of elevation 4; one that is blocked, or of elevation 3, is no fault
+    ∷ is (answerTo 3 2 1 (1 ∷ 17 ∷ []) spanTwo boundaryTwo []) 9 1
+    ∷ is (answerTo 3 2 1 (13 ∷ 16 ∷ []) spanTwo boundaryTwo []) 0 1
+    -- 10: a list too short; before 11
+    ∷ is (answerIn (9 ∷ []) pairsTwo 0) 10 0
+    -- 11: one record for two regions; before 12
+    ∷ is (answerIn labelsTwo [] 1) 11 0
+    -- 12: no whole row for one pair
+    ∷ is (answerIn labelsTwo (4 ∷ 4 ∷ []) 2) 12 0
+    ∷ is (answerIn labelsTwo (4 ∷ 4 ∷ 4 ∷ []) 2) 0 1
+    ∷ []
 
 pub refusal-examples : all (λ b. b) refusalExamples ≡ true
 unfolding all refusalExamples
@@ -125,24 +126,24 @@ unfoldable pub limitExamples : List Bool
 unfolding widthFits boundaryFits boundaryWith
 limitExamples =
     isSide 1024
-      ∷ not (isSide 1025)
-      ∷ isWhole 4 (replicate 1024 0)
-      ∷ not (isWhole 4 (replicate 1028 0))
-      -- widths: +0 and 65,536 fit; the next above, an infinity, a NaN and -0 do not
-      ∷ widthFits 0
-      ∷ widthFits 0x40F0000000000000
-      ∷ not (widthFits 0x40F0000000000001)
-      ∷ not (widthFits 0x7FF0000000000000)
-      ∷ not (widthFits 0x7FF8000000000000)
-      ∷ not (widthFits 0x8000000000000000)
-      -- kind, ramp id, elevations; equal endpoints are no fault of a boundary
-      ∷ boundaryFits 1 1 (boundaryWith width8 2 (2 ^ 32 - 1) 7 7)
-      ∷ not (boundaryFits 1 1 (boundaryWith width8 3 0 0 0))
-      ∷ not (boundaryFits 1 1 (boundaryWith width8 1 (2 ^ 32) 0 0))
-      ∷ not (boundaryFits 1 1 (boundaryWith width8 1 0 8 0))
-      ∷ not (boundaryFits 1 1 (boundaryWith width8 1 0 0 8))
-      ∷ not (boundaryFits 1 1 (boundaryWith width8 0 0 0 1))
-      ∷ []
+    ∷ not (isSide 1025)
+    ∷ isWhole 4 (replicate 1024 0)
+    ∷ not (isWhole 4 (replicate 1028 0))
+    -- widths: +0 and 65,536 fit; the next above, an infinity, a NaN and -0 do not
+    ∷ widthFits 0
+    ∷ widthFits 0x40F0000000000000
+    ∷ not (widthFits 0x40F0000000000001)
+    ∷ not (widthFits 0x7FF0000000000000)
+    ∷ not (widthFits 0x7FF8000000000000)
+    ∷ not (widthFits 0x8000000000000000)
+    -- kind, ramp id, elevations; equal endpoints are no fault of a boundary
+    ∷ boundaryFits 1 1 (boundaryWith width8 2 (2 ^ 32 - 1) 7 7)
+    ∷ not (boundaryFits 1 1 (boundaryWith width8 3 0 0 0))
+    ∷ not (boundaryFits 1 1 (boundaryWith width8 1 (2 ^ 32) 0 0))
+    ∷ not (boundaryFits 1 1 (boundaryWith width8 1 0 8 0))
+    ∷ not (boundaryFits 1 1 (boundaryWith width8 1 0 0 8))
+    ∷ not (boundaryFits 1 1 (boundaryWith width8 0 0 0 1))
+    ∷ []
 
 pub limit-examples : all (λ b. b) limitExamples ≡ true
 unfolding all limitExamples

@@ -9,3 +9,16 @@ pub mod Pairs
 pub mod Records
 pub mod Framed
 pub mod Same
+pub mod RegionLists
+pub mod FrameLemmas
+pub mod FrameUnions
+pub mod FrameBridges
+pub mod FrameJunctions
+pub mod FrameRows
+pub mod FrameShapes
+pub mod FrameApproaches
+pub mod FrameMouthProposals
+pub mod FrameMouths
+pub mod FrameComponents
+pub mod FrameExpansions
+pub mod FrameInteriors
