@@ -17,7 +17,8 @@ use Rattle.definitions.specs.RegionRecord.{Region, corners, hasBit, joinedOnes,
 use Rattle.definitions.specs.Context.{Context, holds, onlyPair, fullCut, fullPair, isIncident, noRamp}
 use Rattle.definitions.specs.Junctions.{Proposal, maxUnionRadiusPixels, withinDistance, beyond, isSome, withinRadius, portsOf, portExterior, isShared, isNearPort, isTwiceAsWide, bridgeFits, bridgeAt, pickBridge, bridgeOfPorts, bridgeProposal}
 use Rattle.laws.specs.Lists.{All, done, more}
-use Rattle.laws.specs.Scans.{both, count-ext}
+use Rattle.laws.specs.Scans.{count-ext}
+use Rattle.laws.specs.Tests.{both}
 use Rattle.laws.specs.Sets.{below-pass}
 use Rattle.laws.specs.Ports.{incidents-below}
 use Rattle.laws.specs.BridgeGroups.{Group, Bridge, pushGroup, pushBeyond, pushPort, groupsFrom, bridgeIfNear, widerOf, bridgeOfGroups, arranged, three-groups}

@@ -5,11 +5,12 @@ use mathlib.Core.Path.{_≡_, refl}
 use mathlib.Core.Bool.{Bool, true, false, not, _&&_, cond}
 use mathlib.Core.Option.{Option, none, some}
 use mathlib.Core.List.{List, [], map}
-use Rattle.definitions.specs.Scan.{any, all, member, toList, onlyIf}
+use Rattle.definitions.specs.Scan.{any, all, member, toList}
 use Rattle.definitions.specs.Grid.{Pair}
 use Rattle.definitions.specs.Context.{Context, onlyPair, fullCut, fullPair, isIncident, noRamp}
 use Rattle.definitions.specs.Junctions.{Proposal, isSome, unionShape, unionRegions, portExterior, bridgeFits, unionFrom, unionProposal, portsOf, isShared, isTwiceAsWide, bridgeAt, pickBridge, bridgeOfPorts, bridgeProposal, proposals, ranksBefore, ranked, taken, removed}
 use Rattle.laws.specs.Lists.{All, done, more, all-append, all-map}
+use Rattle.laws.specs.Options.{on-only, on-list}
 use Rattle.laws.specs.StableSort.{all-sort}
 use Rattle.laws.specs.SoundContext.{Sound}
 use Rattle.laws.specs.ScansOfAll.{collect-below}
@@ -29,19 +30,15 @@ full-all C P i a = go (fullCut C i) a
     go true (more h (more k a)) = done
     go false a = done
 
-all-if : {A : Type 0} (P : A → Type 0) (b : Bool) (x : A) → P x → All P (toList (onlyIf b x))
-all-if P true x h = more h done
-all-if P false x h = done
-
 module _ (C : Context) where
   union-formed : (i : ℕ) (o : Option Pair) → i < C .count → All (λ p. p .lo < p .hi) (toList o) → All (Formed C) (toList (unionFrom C i o))
   unfolding unionFrom
   union-formed i none h a = done
-  union-formed i (some p) h (more l done) = all-if (Formed C) (unionShape C i p && unionRegions C i p) (record { index = i; kind = 0; first = p .lo; second = p .hi }) (ofUnion refl l h)
+  union-formed i (some p) h (more l done) = on-list (on-only (unionShape C i p && unionRegions C i p) (record { index = i; kind = 0; first = p .lo; second = p .hi }) (ofUnion refl l h))
 
   at-formed : (r i k t : ℕ) → i < C .count → All (Formed C) (toList (bridgeAt C r i k t))
   unfolding bridgeAt
-  at-formed r i k t h = all-if (Formed C) (bridgeFits C r i k t) (record { index = i; kind = 1; first = r; second = portExterior C r i }) (ofBridge refl h)
+  at-formed r i k t h = on-list (on-only (bridgeFits C r i k t) (record { index = i; kind = 1; first = r; second = portExterior C r i }) (ofBridge refl h))
 
   pick-formed : (r i k t : ℕ) → i < C .count → k < C .count → All (Formed C) (toList (pickBridge C r i k t))
   unfolding pickBridge

@@ -14,7 +14,7 @@ use Rattle.definitions.specs.Grid.{Pair, contains}
 use Rattle.definitions.specs.Context.{Context, holds, fullPair, isIncident}
 use Rattle.definitions.specs.Junctions.{fitsUnion, isUnionPort, portsFit, portsOf}
 use Rattle.laws.specs.ListOrder.{eqb-sym}
-use Rattle.laws.specs.Scans.{both}
+use Rattle.laws.specs.Tests.{both}
 use Rattle.laws.specs.ScansOfAll.{all-ext, all-and}
 use Rattle.laws.specs.Sets.{setInsert, numbersBelow, Ascending, none, member-insert, insert-ascending, member-below, length-below, all-below, set-below}
 

@@ -9,7 +9,8 @@ use lib.ListN.{length}
 use lib.Dec.{eqb, ltb}
 use borrow.Author.Tests.{ltb-true, ltb-false, lt-ltb, le-ltb, eqb-true, eqb-false, eq-eqb, ne-eqb}
 use Rattle.definitions.specs.Scan.{any, all, member, collect, toList, onlyIf, anyBelow, allBelow, countBelow, bit}
-use Rattle.laws.specs.Lists.{All, done, more, all-append, all-map, any-append}
+use Rattle.laws.specs.Lists.{All, done, more, all-append, all-map}
+use Rattle.laws.specs.NumberLists.{member-append}
 use Rattle.laws.specs.Scans.{picked-length, any-picked}
 use Rattle.laws.specs.ScansOfAll.{all-append-test}
 use Rattle.laws.specs.ListOrder.{Three, less, same, over, three}
@@ -35,10 +36,6 @@ pub data Ascending : List ℕ → Type 0 where
   some : {x : ℕ} {l : List ℕ} → All (λ y. x < y) l → Ascending l → Ascending (x ∷ l)
 
 -- ---- members
-
-pub member-append : (x : ℕ) (l m : List ℕ) → member x (l ++ m) ≡ (member x l || member x m)
-unfolding member
-member-append x l m = any-append (eqb x) l m
 
 pub member-all : (P : ℕ → Type 0) (x : ℕ) {l : List ℕ} → All P l → member x l ≡ true → P x
 unfolding member any
