@@ -8,7 +8,7 @@ use mathlib.Core.List.{List, [], map}
 use Rattle.definitions.specs.Scan.{any, all, member, toList}
 use Rattle.definitions.specs.Grid.{Pair}
 use Rattle.definitions.specs.Context.{Context, onlyPair, fullCut, fullPair, isIncident, noRamp}
-use Rattle.definitions.specs.Junctions.{Proposal, isSome, unionShape, unionRegions, portExterior, bridgeFits, unionFrom, unionProposal, portsOf, isShared, isTwiceAsWide, bridgeAt, pickBridge, bridgeOfPorts, bridgeProposal, proposals, ranksBefore, ranked, taken, removed}
+use Rattle.definitions.specs.Junctions.{isSome, unionShape, unionRegions, portExterior, bridgeFits, unionFrom, unionProposal, portsOf, isShared, isTwiceAsWide, bridgeAt, pickBridge, bridgeOfPorts, bridgeProposal, proposals, ranksBefore, ranked, taken, removed}
 use Rattle.laws.specs.Lists.{All, done, more, all-append, all-map}
 use Rattle.laws.specs.Options.{on-only, on-list}
 use Rattle.laws.specs.StableSort.{all-sort}
@@ -16,7 +16,7 @@ use Rattle.laws.specs.SoundContext.{Sound}
 use Rattle.laws.specs.ScansOfAll.{collect-below}
 use Rattle.laws.specs.Sets.{setExtend, below-all, member-extend}
 use Rattle.laws.specs.Ports.{incidents-below}
-use Rattle.laws.specs.JunctionProposals.{asEnum, Formed, ofUnion, ofBridge}
+use Rattle.laws.specs.JunctionProposals.{asEnum, Formed, ofUnion, ofBridge, index-below}
 use Rattle.laws.specs.Selection3.{selectProposals, selection}
 
 -- the one full pair is one of the pairs
@@ -80,14 +80,10 @@ module _ (C : Context) where
     unfolding ranked
     ranked-formed = all-sort (Formed C) (ranksBefore C) proposals-formed
 
-    index-below : (p : Proposal) → Formed C p → p .index < C .count
-    index-below p (ofUnion k o h) = h
-    index-below p (ofBridge k h) = h
-
     -- what the Rust's selection returns, from the same ranked list, is the set of the boundaries that the definitions remove
     pub selected-set : selectProposals (map (asEnum C) (ranked C)) ≡ setExtend [] (removed C)
     unfolding removed taken
-    selected-set = selection C (all-map index-below ranked-formed)
+    selected-set = selection C (all-map (index-below C) ranked-formed)
 
     pub selected-member : (j : ℕ) → member j (selectProposals (map (asEnum C) (ranked C))) ≡ member j (removed C)
     unfolding member any

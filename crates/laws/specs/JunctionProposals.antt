@@ -1,5 +1,5 @@
 -- The proposals of junctions.rs as the Rust has them, an enum of two structs that carry their ports, and how a proposal of the definitions is read as one.
--- Definitions only. Assumes nothing.
+-- Assumes nothing.
 use Prim.Native.Nat.{ℕ, zero, suc, _<_}
 use mathlib.Core.Path.{_≡_}
 use mathlib.Core.List.{List}
@@ -54,3 +54,7 @@ module _ (C : Context) where
   pub data Formed (p : Proposal) : Type 0 where
     ofUnion : p .kind ≡ 0 → p .first < p .second → p .index < C .count → Formed p
     ofBridge : p .kind ≡ 1 → p .index < C .count → Formed p
+
+  pub index-below : (p : Proposal) → Formed p → p .index < C .count
+  index-below p (ofUnion k o h) = h
+  index-below p (ofBridge k h) = h

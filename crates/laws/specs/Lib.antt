@@ -38,7 +38,9 @@ pub mod ScansOfAll
 pub mod Ports
 pub mod Exteriors
 pub mod WidestPort
+pub mod Orderings
 pub mod JunctionProposals
+pub mod Ranking
 pub mod Selection3
 pub mod FormedProposals
 pub mod BridgeGroups
