@@ -4,30 +4,26 @@
 use Prim.Native.Nat.{ℕ, suc}
 use native.Mathlib.Omega.{arith}
 use mathlib.Core.Path.{_≡_, refl, sym, ap, ap₂, _∙_}
-use mathlib.Core.Bool.{Bool, true, false, not, _&&_, _||_, cond, false≢true, or-false, or-self}
+use mathlib.Core.Bool.{Bool, true, false, not, _&&_, _||_, cond, false≢true, or-false}
 use mathlib.Core.Option.{Option, none, some}
 use mathlib.Core.List.{List, [], _∷_}
 use lib.ListN.{length}
 use lib.Dec.{eqb, ltb}
 use borrow.Author.Tests.{ne-eqb, eqb-true}
-use Rattle.definitions.specs.Scan.{any, all, countBelow, onlyIf}
+use Rattle.definitions.specs.Scan.{any, all, onlyIf}
 use Rattle.definitions.specs.Grid.{Pair, contains}
 use Rattle.definitions.specs.Geometry.{Point, center}
-use Rattle.definitions.specs.RegionRecord.{Region, corners, hasBit, joinedOnes, strictlyFlat}
+use Rattle.definitions.specs.RegionRecord.{Region, corners, strictlyFlat}
 use Rattle.definitions.specs.Context.{Context, holds, onlyPair, fullCut, fullPair, isIncident, noRamp}
 use Rattle.definitions.specs.Junctions.{Proposal, maxUnionRadiusPixels, withinDistance, beyond, isSome, withinRadius, portsOf, portExterior, isShared, isNearPort, isTwiceAsWide, bridgeFits, bridgeAt, pickBridge, bridgeOfPorts, bridgeProposal}
 use Rattle.laws.specs.Lists.{All, done, more}
-use Rattle.laws.specs.Scans.{count-ext}
 use Rattle.laws.specs.Tests.{both}
 use Rattle.laws.specs.Sets.{below-pass}
 use Rattle.laws.specs.Ports.{incidents-below}
+use Rattle.laws.specs.ElevationMasks.{flat, flat-is}
 use Rattle.laws.specs.BridgeGroups.{Group, Bridge, pushGroup, pushBeyond, pushPort, groupsFrom, bridgeIfNear, widerOf, bridgeOfGroups, arranged, three-groups}
 
 -- ---- as the Rust writes it
-
---     stats.elevations != 0 && stats.elevations.count_ones() == 1
-unfoldable pub flat : Region → Bool
-flat s = not (eqb (s .elevations) 0) && eqb (countBelow 8 (hasBit (s .elevations))) 1
 
 module _ (C : Context) where
   -- `ctx.stats.get(&region)`: a region has a record if it has a cell
@@ -53,22 +49,6 @@ module _ (C : Context) where
   rankBridge pocket (some b) = onlyIf (bridgeIsLocal (b .index) (statsOf pocket)) (record { index = b .index; kind = 1; first = pocket; second = b .exterior })
 
 -- ---- and that it is the same
-
-pub ones-same : (s : Region) → countBelow 8 (hasBit (s .elevations)) ≡ joinedOnes s s
-unfolding joinedOnes
-ones-same s = count-ext 8 (hasBit (s .elevations)) (λ e. hasBit (s .elevations) e || hasBit (s .elevations) e) (λ e h. sym (or-self (hasBit (s .elevations) e)))
-
-no-ones : (m : ℕ) → m ≡ 0 → eqb (countBelow 8 (hasBit m)) 1 ≡ false
-unfolding countBelow
-no-ones m e = ap (λ m. eqb (countBelow 8 (hasBit m)) 1) e
-
-pub flat-is : (s : Region) → flat s ≡ strictlyFlat s s
-unfolding flat strictlyFlat
-flat-is s = go (eqb (s .elevations) 0) refl ∙ ap (λ n. eqb n 1) (ones-same s)
-  where
-    go : (b : Bool) → eqb (s .elevations) 0 ≡ b → (not b && eqb (countBelow 8 (hasBit (s .elevations))) 1) ≡ eqb (countBelow 8 (hasBit (s .elevations))) 1
-    go true e = sym (no-ones (s .elevations) (eqb-true (s .elevations) 0 e))
-    go false e = refl
 
 pub radius-empty : (s : Region) (m : Point) → ltb 0 (s .cells) ≡ false → withinRadius s m ≡ false
 unfolding withinRadius

@@ -43,5 +43,6 @@ pub mod JunctionProposals
 pub mod Ranking
 pub mod Selection3
 pub mod FormedProposals
+pub mod ElevationMasks
 pub mod BridgeGroups
 pub mod Bridges
