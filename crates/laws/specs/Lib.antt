@@ -40,9 +40,11 @@ pub mod Exteriors
 pub mod WidestPort
 pub mod Orderings
 pub mod JunctionProposals
+pub mod Unions
 pub mod Ranking
 pub mod Selection3
 pub mod FormedProposals
 pub mod ElevationMasks
 pub mod BridgeGroups
 pub mod Bridges
+pub mod UnionRegions
