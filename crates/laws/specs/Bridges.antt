@@ -19,7 +19,7 @@ use Rattle.definitions.specs.Junctions.{Proposal, maxUnionRadiusPixels, withinD
 use Rattle.laws.specs.Lists.{All, done, more}
 use Rattle.laws.specs.Tests.{both}
 use Rattle.laws.specs.Sets.{below-pass}
-use Rattle.laws.specs.Ports.{incidents-below}
+use Rattle.laws.specs.IncidentMap.{incidents-below}
 use Rattle.laws.specs.ElevationMasks.{flat, flat-is}
 use Rattle.laws.specs.BridgeGroups.{Group, Bridge, pushGroup, pushBeyond, pushPort, groupsFrom, bridgeIfNear, widerOf, bridgeOfGroups, arranged, three-groups}
 

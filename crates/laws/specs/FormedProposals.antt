@@ -15,7 +15,7 @@ use Rattle.laws.specs.StableSort.{all-sort}
 use Rattle.laws.specs.SoundContext.{Sound}
 use Rattle.laws.specs.ScansOfAll.{collect-below}
 use Rattle.laws.specs.Sets.{setExtend, below-all, member-extend}
-use Rattle.laws.specs.Ports.{incidents-below}
+use Rattle.laws.specs.IncidentMap.{incidents-below}
 use Rattle.laws.specs.JunctionProposals.{asEnum, Formed, ofUnion, ofBridge, index-below}
 use Rattle.laws.specs.Selection3.{selectProposals, selection}
 

@@ -35,6 +35,9 @@ pub mod FullCut
 pub mod Disjunction
 pub mod Sets
 pub mod ScansOfAll
+pub mod Entries
+pub mod IncidentMap
+pub mod IncidentTable
 pub mod Ports
 pub mod Exteriors
 pub mod WidestPort

@@ -16,6 +16,7 @@ use Rattle.definitions.specs.Junctions.{fitsUnion, isUnionPort, portsFit, ports
 use Rattle.laws.specs.ListOrder.{eqb-sym}
 use Rattle.laws.specs.Tests.{both}
 use Rattle.laws.specs.ScansOfAll.{all-ext, all-and}
+use Rattle.laws.specs.IncidentMap.{incidents-below}
 use Rattle.laws.specs.Sets.{setInsert, numbersBelow, Ascending, none, member-insert, insert-ascending, member-below, length-below, all-below, set-below}
 
 -- ---- as the Rust writes it
@@ -74,10 +75,6 @@ fit-unfit p (some q) = rw (union-member (q .lo) p, union-member (q .hi) p) (go (
     go true false = refl
     go false true = refl
     go false false = refl
-
-pub incidents-below : (C : Context) (r : ℕ) → portsOf C r ≡ numbersBelow (C .count) (λ j. isIncident C j r)
-unfolding portsOf numbersBelow
-incidents-below C r = refl
 
 module _ (C : Context) (i : ℕ) (p : Pair) where
   -- what the walk asks of an incident

@@ -155,6 +155,22 @@ length-insert x (some {x = y} {l = l} a s) = go (three x y) (length-insert x s)
     go (same h) ih = rw (le-ltb x y (omega arith), eq-eqb x y h) (omega arith)
     go (over h) ih = rw (le-ltb x y (omega arith), ne-eqb x y (λ e. omega arith)) (omega (arith, ih))
 
+-- a number above all others goes to the end, and one that is there stays
+insert-last : (n : ℕ) {l : List ℕ} → All (λ x. x < n) l → setInsert l n ≡ l ++ (n ∷ [])
+unfolding setInsert
+insert-last n done = refl
+insert-last n (more {x = x} h a) = rw (le-ltb n x (omega arith), ne-eqb n x (λ e. omega arith)) (ap {B = List ℕ} (λ r. x ∷ r) (insert-last n a))
+
+pub insert-again : (n : ℕ) (l : List ℕ) → setInsert (setInsert l n) n ≡ setInsert l n
+unfolding setInsert
+insert-again n [] = rw (le-ltb n n (omega arith), eq-eqb n n refl) refl
+insert-again n (y ∷ l) = go (three n y) (insert-again n l)
+  where
+    go : Three n y → setInsert (setInsert l n) n ≡ setInsert l n → setInsert (setInsert (y ∷ l) n) n ≡ setInsert (y ∷ l) n
+    go (less h) ih = rw (lt-ltb n y h, le-ltb n n (omega arith), eq-eqb n n refl) refl
+    go (same h) ih = rw (le-ltb n y (omega arith), eq-eqb n y h, le-ltb n y (omega arith), eq-eqb n y h) refl
+    go (over h) ih = rw (le-ltb n y (omega arith), ne-eqb n y (λ e. omega arith), le-ltb n y (omega arith), ne-eqb n y (λ e. omega arith)) (ap {B = List ℕ} (λ r. y ∷ r) ih)
+
 -- ---- the numbers below n that pass f
 
 module _ (f : ℕ → Bool) where
@@ -175,6 +191,20 @@ module _ (f : ℕ → Bool) where
       last : (b : Bool) → f n ≡ b → All (λ x. f x ≡ true) (toList (onlyIf b n))
       last true e = more e done
       last false e = done
+
+  pub below-nothing : (n : ℕ) → ((j : ℕ) → f j ≡ false) → numbersBelow n f ≡ []
+  unfolding numbersBelow collect
+  below-nothing zero h = refl
+  below-nothing (suc n) h = rw (h n) (append-nil (numbersBelow n f) ∙ below-nothing n h)
+
+  -- the set with one number more
+  pub below-insert : (n : ℕ) → numbersBelow (suc n) f ≡ cond (f n) (setInsert (numbersBelow n f) n) (numbersBelow n f)
+  unfolding numbersBelow collect
+  below-insert n = go (f n)
+    where
+      go : (b : Bool) → numbersBelow n f ++ toList (onlyIf b n) ≡ cond b (setInsert (numbersBelow n f) n) (numbersBelow n f)
+      go true = sym (insert-last n (below-all n))
+      go false = append-nil (numbersBelow n f)
 
   ascending-end : (n : ℕ) {l : List ℕ} → Ascending l → All (λ x. x < n) l → Ascending (l ++ (n ∷ []))
   ascending-end n none done = some done none
