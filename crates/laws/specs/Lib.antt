@@ -51,3 +51,4 @@ pub mod ElevationMasks
 pub mod BridgeGroups
 pub mod Bridges
 pub mod UnionRegions
+pub mod JunctionsAsRust
