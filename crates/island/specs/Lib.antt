@@ -22,3 +22,4 @@ pub mod FrameMouths
 pub mod FrameComponents
 pub mod FrameExpansions
 pub mod FrameInteriors
+pub mod Theorem
