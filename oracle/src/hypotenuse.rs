@@ -1,20 +1,23 @@
 //! The double nearest to the exact root of the sum of two squares, ties to the even significand, by wide whole numbers; and, under
 //! the feature `exact-hypot`, the symbol `hypot` that `f64::hypot` calls.
 
-use std::sync::atomic::{AtomicU64, Ordering};
+use std::cell::Cell;
+use std::cmp::Ordering;
 
-static CALLS: AtomicU64 = AtomicU64::new(0);
+thread_local! {
+    static CALLS: Cell<u64> = const { Cell::new(0) };
+}
 
-/// How often the exported `hypot` has been called, which shows that `f64::hypot` really comes here.
+/// How often this thread has called the exported `hypot`, which shows that `f64::hypot` really comes here.
 pub fn calls() -> u64 {
-    CALLS.load(Ordering::Relaxed)
+    CALLS.get()
 }
 
 /// `f64::hypot` is a call of the C function of this name, so the copied files come here without a changed line.
 #[cfg(feature = "exact-hypot")]
 #[unsafe(no_mangle)]
 pub extern "C" fn hypot(x: f64, y: f64) -> f64 {
-    CALLS.fetch_add(1, Ordering::Relaxed);
+    CALLS.set(CALLS.get() + 1);
     rounded(x, y)
 }
 
@@ -49,10 +52,8 @@ pub fn rounded(x: f64, y: f64) -> f64 {
     // The sum of the squares in units of 4^exponent, with 112 binary places below the smaller's last so that the root
     // always has digits to be rounded away.
     let exponent = smaller_exponent - 56;
-    let sum = Wide::from(square(larger_digits))
-        .shifted_left(2 * gap as u32)
-        .plus(Wide::from(square(smaller_digits)))
-        .shifted_left(112);
+    let sum =
+        Wide::from(square(larger_digits)).shifted_left(2 * gap as u32).plus(Wide::from(square(smaller_digits))).shifted_left(112);
     let root_length = sum.length().div_ceil(2) as i32;
     let last_place = (root_length + exponent - 53).max(-1074);
     let dropped = (last_place - exponent) as u32;
@@ -61,9 +62,9 @@ pub fn rounded(x: f64, y: f64) -> f64 {
     // Between `below` and its successor: the half-way point's square, in the units of `sum`.
     let half_way = Wide::from(square(2 * below + 1)).shifted_left(2 * (dropped - 1));
     let digits = match sum.cmp(&half_way) {
-        std::cmp::Ordering::Less => below,
-        std::cmp::Ordering::Equal => below + below % 2,
-        std::cmp::Ordering::Greater => below + 1,
+        Ordering::Less => below,
+        Ordering::Equal => below + below % 2,
+        Ordering::Greater => below + 1,
     };
     assembled(digits, last_place)
 }
@@ -145,12 +146,12 @@ impl Wide {
     }
 
     fn plus(self, other: Self) -> Self {
-        let mut result = [0; 6];
+        let mut result = self.0;
         let mut carry = false;
-        for index in 0..6 {
-            let (sum, first) = self.0[index].overflowing_add(other.0[index]);
+        for (limb, addend) in result.iter_mut().zip(other.0) {
+            let (sum, first) = limb.overflowing_add(addend);
             let (sum, second) = sum.overflowing_add(u64::from(carry));
-            result[index] = sum;
+            *limb = sum;
             carry = first || second;
         }
         assert!(!carry);
@@ -159,13 +160,13 @@ impl Wide {
 }
 
 impl Ord for Wide {
-    fn cmp(&self, other: &Self) -> std::cmp::Ordering {
+    fn cmp(&self, other: &Self) -> Ordering {
         self.0.iter().rev().cmp(other.0.iter().rev())
     }
 }
 
 impl PartialOrd for Wide {
-    fn partial_cmp(&self, other: &Self) -> Option<std::cmp::Ordering> {
+    fn partial_cmp(&self, other: &Self) -> Option<Ordering> {
         Some(self.cmp(other))
     }
 }

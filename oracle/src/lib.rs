@@ -47,7 +47,11 @@ impl TerrainGrid {
         assert!(width > 0 && height > 0 && cells.len() == width as usize * height as usize);
         Self { width, height, cells }
     }
+}
 
+// Word for word, which tests/source.rs checks.
+#[rustfmt::skip]
+impl TerrainGrid {
     pub fn width(&self) -> u32 {
         self.width
     }

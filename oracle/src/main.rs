@@ -8,6 +8,9 @@ use std::process::ExitCode;
 
 const USAGE: &str = "usage: oracle kept|full|partition|read|hypot [--many] [--cells N] [--bytes N] [--records N] [--pairs N]";
 
+/// A command that reads sheets: what it prints for one of them.
+type Answering = fn(&[u8], &Limits) -> String;
+
 struct Limits {
     read: ReadLimits,
     room: Room,
@@ -15,14 +18,9 @@ struct Limits {
 
 impl Limits {
     /// The lists that `keptlist` lends.
-    const KEPTLIST: Self = Self {
-        read: ReadLimits { cells: 4_096, bytes: Some(65_536) },
-        room: Room { records: Some(512), pairs: Some(2_048) },
-    };
-    const PLAIN: Self = Self {
-        read: ReadLimits { cells: 1_048_576, bytes: None },
-        room: Room::UNLIMITED,
-    };
+    const KEPTLIST: Self =
+        Self { read: ReadLimits { cells: 4_096, bytes: Some(65_536) }, room: Room { records: Some(512), pairs: Some(2_048) } };
+    const PLAIN: Self = Self { read: ReadLimits { cells: 1_048_576, bytes: None }, room: Room::UNLIMITED };
 }
 
 fn main() -> ExitCode {
@@ -37,8 +35,8 @@ fn main() -> ExitCode {
 
 fn run(arguments: Vec<String>) -> Result<(), String> {
     let (command, options) = arguments.split_first().ok_or(USAGE)?;
-    let (answer, mut limits): (fn(&[u8], &Limits) -> String, Limits) = match command.as_str() {
-        "kept" => (kept, Limits::KEPTLIST),
+    let (answer, mut limits) = match command.as_str() {
+        "kept" => (kept as Answering, Limits::KEPTLIST),
         "full" => (full, Limits::PLAIN),
         "partition" => (partition, Limits::PLAIN),
         "read" => (read, Limits::PLAIN),

@@ -43,7 +43,7 @@ fn cell_count(map: &Map) -> Result<(), Refusal> {
 }
 
 fn entries(list: &[u64], numbers: usize) -> Result<(), Refusal> {
-    holds(3, list.len() % numbers == 0 && list.len() / numbers <= MAX_ENTRIES as usize)
+    holds(3, list.len().is_multiple_of(numbers) && list.len() / numbers <= MAX_ENTRIES as usize)
 }
 
 fn spans(map: &Map) -> Result<(), Refusal> {

@@ -127,15 +127,8 @@ impl Original {
 }
 
 fn grid(map: &Map) -> TerrainGrid {
-    let cells = map
-        .cells
-        .iter()
-        .map(|cell| TerrainCell {
-            walkable: cell & 1 != 0,
-            ramp: cell & 2 != 0,
-            elevation: cell >> 2,
-        })
-        .collect();
+    let cells =
+        map.cells.iter().map(|cell| TerrainCell { walkable: cell & 1 != 0, ramp: cell & 2 != 0, elevation: cell >> 2 }).collect();
     TerrainGrid::new(map.width as u32, map.height as u32, cells)
 }
 
