@@ -35,8 +35,8 @@ fn main() -> ExitCode {
 
 fn run(arguments: Vec<String>) -> Result<(), String> {
     let (command, options) = arguments.split_first().ok_or(USAGE)?;
-    let (answer, mut limits) = match command.as_str() {
-        "kept" => (kept as Answering, Limits::KEPTLIST),
+    let (answer, mut limits): (Answering, Limits) = match command.as_str() {
+        "kept" => (kept, Limits::KEPTLIST),
         "full" => (full, Limits::PLAIN),
         "partition" => (partition, Limits::PLAIN),
         "read" => (read, Limits::PLAIN),
