@@ -201,7 +201,8 @@ fn records(Context(context): &Context<'_>) -> Vec<Record> {
     context.stats.values().map(record).collect()
 }
 
-fn row(boundary: &TopologyBoundary) -> [u64; 5] {
+/// A kept boundary's number and canonical endpoints.
+pub fn row(boundary: &TopologyBoundary) -> [u64; 5] {
     let [[number, _]] = boundary.sources[..] else { panic!("a boundary keeps its sources") };
     let [a, b] = boundary.endpoints;
     [number, a.x, a.y, b.x, b.y].map(u64::from)
