@@ -44,15 +44,11 @@ pub fn all() -> Vec<Named> {
         Named { name: "league", about: "rooms and corridors", map: rooms(1, 512, 13, 60, 12) },
         Named { name: "large", about: "rooms and corridors", map: rooms(2, 1_024, 26, 256, 24) },
         Named { name: "open", about: "no wall, 256 spans across the whole map: the longest partition", map: open(3) },
-        Named { name: "comb", about: "512 corridors cut by each of 256 spans: the longest context and pass 2", map: comb() },
-        Named {
-            name: "mouths",
-            about: "128 ramps and 128 mouths at one region: most proposals of pass 1",
-            map: alcoves(4, true),
-        },
+        Named { name: "comb", about: "512 corridors cut by each of 256 spans: the longest pass 2", map: comb() },
+        Named { name: "mouths", about: "128 ramps and 128 mouths at one region: most proposals of pass 1", map: mouths(4) },
         Named { name: "stars", about: "128 ramps and 128 mouths, each with 512 pairs: the longest pass 1", map: stars() },
-        Named { name: "interiors", about: "85 sealed interiors: most proposals of pass 2", map: interiors() },
-        Named { name: "hub", about: "256 boundaries at one region: the longest pass 3", map: alcoves(5, false) },
+        Named { name: "interiors", about: "127 sealed interiors: most proposals of pass 2", map: interiors() },
+        Named { name: "hub", about: "256 boundaries at one region: the longest pass 3", map: hub(5) },
     ]
 }
 
@@ -179,11 +175,33 @@ fn comb() -> Map {
     sketch.map
 }
 
-/// One region with 256 alcoves of one cell, a boundary at each: corridors with alcoves below at even columns and above at odd ones, joined
-/// at the left. With ramps, every second boundary in a shuffled order bears one, and the others are wide enough for broad mouths.
-fn alcoves(seed: u64, ramps: bool) -> Map {
+/// One region with 128 ramps and 128 mouths, all within a mouth's distance of each other: 64 alcoves, four equal spans at each. The mouths are
+/// wide enough to be broad.
+fn mouths(seed: u64) -> Map {
     let mut random = Random(seed);
-    let (columns, corridors) = (28, 10);
+    let (mut sketch, mut spans) = alcoves(&mut random, 14, 5);
+    spans.truncate(MAX_ENTRIES / 4);
+    let mut cuts: Vec<_> = spans.into_iter().enumerate().flat_map(|(alcove, span)| [(alcove % 2 == 0, span); 4]).collect();
+    random.shuffle(&mut cuts);
+    for (id, (ramp, span)) in cuts.into_iter().enumerate() {
+        let tail = if ramp { [1, id as u64, 0, 1] } else { PLAIN };
+        sketch.cut(span, if ramp { 8 } else { 16 + random.below(64) }, tail);
+    }
+    sketch.map
+}
+
+/// One region with 256 alcoves, a boundary at each.
+fn hub(seed: u64) -> Map {
+    let mut random = Random(seed);
+    let (mut sketch, spans) = alcoves(&mut random, 28, 10);
+    for span in spans.into_iter().take(MAX_ENTRIES) {
+        sketch.cut(span, 16 + random.below(64), PLAIN);
+    }
+    sketch.map
+}
+
+/// Corridors with alcoves of one cell, below at even columns and above at odd ones, joined at the left; and the alcoves' borders, shuffled.
+fn alcoves(random: &mut Random, columns: u64, corridors: u64) -> (Sketch, Vec<[u64; 4]>) {
     let (width, height) = (columns + 1, 3 * corridors + 1);
     let mut sketch = Sketch::new(width, height, 0);
     sketch.fill(0..1, 0..height, WALKABLE);
@@ -203,12 +221,7 @@ fn alcoves(seed: u64, ramps: bool) -> Map {
         }
     }
     random.shuffle(&mut spans);
-    for (index, span) in spans.into_iter().take(MAX_ENTRIES).enumerate() {
-        let bears = ramps && index % 2 == 0;
-        let tail = if bears { [1, index as u64, 0, 1] } else { PLAIN };
-        sketch.cut(span, if bears { 8 } else { 16 + random.below(64) }, tail);
-    }
-    sketch.map
+    (sketch, spans)
 }
 
 /// A corridor of 1,024 cells with 512 alcoves, and 256 spans that each cut them all off.
@@ -223,18 +236,15 @@ fn stars() -> Map {
     sketch.map
 }
 
-/// Four cells in a row, again and again: a ramp's lower end, a cut in its middle, its upper end.
+/// A row of ramp cells, each cut from the next: the lower and the upper end of one ramp in turn, and a plain cut between each two of them.
+/// Every two neighbouring ends seal an interior, so each end serves two.
 fn interiors() -> Map {
-    let count = MAX_ENTRIES as u64 / 3;
-    let mut sketch = Sketch::new(4, 2 * count, 0);
-    for id in 0..count {
-        let row = 2 * id;
-        sketch.fill(0..4, row..row + 1, WALKABLE);
-        sketch.fill(1..3, row..row + 1, WALKABLE + RAMP);
-        for (x, kind) in [(1, 1), (2, 0), (3, 2)] {
-            let tail = if kind == 0 { PLAIN } else { [kind, id, 0, 1] };
-            sketch.cut([PIXELS * x, PIXELS * row, PIXELS * x, PIXELS * (row + 1)], 8, tail);
-        }
+    let width = MAX_ENTRIES as u64;
+    let mut sketch = Sketch::new(width, 1, WALKABLE + RAMP);
+    for index in 0..width - 1 {
+        let tail = if index % 2 == 1 { PLAIN } else { [1 + index / 2 % 2, 7, 0, 1] };
+        let x = PIXELS * (index + 1);
+        sketch.cut([x, 0, x, PIXELS], 8, tail);
     }
     sketch.map
 }
