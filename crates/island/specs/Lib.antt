@@ -9,3 +9,4 @@ pub mod Pairs
 pub mod Records
 pub mod Framed
 pub mod Same
+pub mod Decide
