@@ -1,19 +1,19 @@
--- A test that computes, of two maps and an island, and the theorem that the premises of demand 3 (`Alike`) hold where it does: a tool to exhibit examples, which
--- the island theorem does not use. Its scans are bounded: a step starts from a cell of the grid to one of nine places, what cuts has a number below the
--- count of spans, and beyond the boundaries stands one of kind 0. Assumes nothing.
+-- A test that computes, and the theorem that two maps and an island that pass it meet the premises of demand 3 (`Alike`). It is a tool to exhibit examples; the
+-- island theorem does not use it. The premises ask of every number, and the test within bounds: a step goes from a cell of the grid to one of nine places, what
+-- cuts a step has a number below the count of spans, and beyond the list of boundaries stands one of kind 0, which has no ramp. Assumes nothing.
 use Prim.Native.Nat.{ℕ, zero, suc, _<_}
 use native.Mathlib.Omega.{arith}
 use mathlib.Core.Path.{_≡_, refl, sym, ap, ap₂, _∙_}
 use mathlib.Core.Bool.{Bool, true, false, not, _&&_, _||_, Bool·beq, false≢true, true≢false, Bool·not-not}
 use mathlib.Core.List.{List, [], _∷_}
 use lib.ListN.{length, List·getD-eq-default}
-use lib.Dec.{eqb, ltb, leb}
+use lib.Dec.{eqb, ltb}
 use borrow.Author.Tests.{ltb-true, ltb-false, leb-true, eqb-true}
 use Rattle.definitions.specs.Scan.{allBelow}
 use Rattle.definitions.specs.Grid.{Map, Position, at, Segment, Boundary, noBoundary, index, cellCount, cellAt, walkable, toward, isStep, spanCount, spanOf, boundaryOf}
 use Rattle.laws.specs.Tests.{both}
 use Rattle.island.specs.Premises.{cutsIsland, cutsRemainder, hasAnchor, cutting, Island, Alike}
-use Rattle.island.specs.Steps.{Four, four}
+use Rattle.island.specs.Steps.{four}
 use Rattle.island.specs.Restrict.{cuts-lt}
 
 -- ---- the tests
@@ -45,6 +45,11 @@ unfoldable pub allPlaces : ℕ → ℕ → (Position → Bool) → Bool
 unfolding allBelow
 allPlaces w h f = allBelow h (λ y. allBelow w (λ x. f (at x y)))
 
+-- spans and boundaries are one list
+unfoldable pub isOneList : Map → Bool
+unfolding allBelow spanCount spanOf boundaryOf
+isOneList M = eqb (length (M .boundaries)) (spanCount M) && allBelow (spanCount M) (λ i. isSameSegment (spanOf M i) (boundaryOf M i .endpoints))
+
 module _ (M : Map) (isl : ℕ → Bool) where
   -- a step from p in direction d, if there is one, stays on its side
   unfoldable pub staysOn : Position → Position → Bool
@@ -59,25 +64,21 @@ module _ (M : Map) (isl : ℕ → Bool) where
   unfolding allBelow spanCount cutsIsland cutsRemainder
   isOneSided = allBelow (spanCount M) (λ i. not (cutsIsland M isl i && cutsRemainder M isl i))
 
-  -- boundaries i and j, where i cuts the island and j does not, have not one ramp id
-  unfoldable pub haveOwnRamps : ℕ → ℕ → Bool
+  -- if i cuts the island and j does not, and both have a ramp id, the two differ
+  unfoldable pub rampIdsDiffer : ℕ → ℕ → Bool
   unfolding boundaryOf cutsIsland
-  haveOwnRamps i j =
+  rampIdsDiffer i j =
       implies (not (eqb (boundaryOf M i .kind) 0))
       (implies (not (eqb (boundaryOf M j .kind) 0))
       (implies (cutsIsland M isl i) (implies (not (cutsIsland M isl j)) (not (eqb (boundaryOf M j .rampId) (boundaryOf M i .rampId))))))
 
-  unfoldable pub hasOwnRamps : Bool
-  unfolding allBelow spanCount haveOwnRamps
-  hasOwnRamps = allBelow (spanCount M) (λ i. allBelow (length (M .boundaries)) (haveOwnRamps i))
-
-  unfoldable pub isOneList : Bool
-  unfolding allBelow spanCount spanOf boundaryOf
-  isOneList = eqb (length (M .boundaries)) (spanCount M) && allBelow (spanCount M) (λ i. isSameSegment (spanOf M i) (boundaryOf M i .endpoints))
+  unfoldable pub hasOwnRampIds : Bool
+  unfolding allBelow spanCount rampIdsDiffer
+  hasOwnRampIds = allBelow (spanCount M) (λ i. allBelow (length (M .boundaries)) (rampIdsDiffer i))
 
   unfoldable pub isIsland : Bool
-  unfolding isApart isOneSided hasOwnRamps isOneList
-  isIsland = isApart && isOneSided && hasOwnRamps && isOneList
+  unfolding isApart isOneSided hasOwnRampIds isOneList
+  isIsland = isApart && isOneSided && hasOwnRampIds && isOneList M
 
 unfoldable pub isAlike : Map → Map → (ℕ → Bool) → Bool
 unfolding allBelow cellCount hasAnchor isSameList cutting isIsland
@@ -184,19 +185,19 @@ module _ (M : Map) (isl : ℕ → Bool) where
       go true e = ltb-true _ _ e
       go false e = absurd (true≢false (sym (ap (λ (b : Boundary). eqb (b .kind) 0) (List·getD-eq-default (M .boundaries) noBoundary (ltb-false _ _ e))) ∙ h))
 
-  ramp-ids : hasOwnRamps M isl ≡ true → (i j : ℕ) → cutsIsland M isl i ≡ true → cutsIsland M isl j ≡ false → eqb (boundaryOf M i .kind) 0 ≡ false → eqb (boundaryOf M j .kind) 0 ≡ false → eqb (boundaryOf M j .rampId) (boundaryOf M i .rampId) ≡ false
-  unfolding hasOwnRamps haveOwnRamps
+  ramp-ids : hasOwnRampIds M isl ≡ true → (i j : ℕ) → cutsIsland M isl i ≡ true → cutsIsland M isl j ≡ false → eqb (boundaryOf M i .kind) 0 ≡ false → eqb (boundaryOf M j .kind) 0 ≡ false → eqb (boundaryOf M j .rampId) (boundaryOf M i .rampId) ≡ false
+  unfolding hasOwnRampIds rampIdsDiffer
   ramp-ids h i j c d k l =
       not-true _
       (implied _ _
       (implied (cutsIsland M isl i) _ (implied _ _ (implied _ _ (all-below (length (M .boundaries)) _ (all-below (spanCount M) _ h i (cuts-lt M isl i c)) j (ramp-lt j l)) (ap not k)) (ap not l)) c)
       (ap not d))
 
-  island : isIsland M isl ≡ true → Island M isl
+  pub island : isIsland M isl ≡ true → Island M isl
   unfolding isIsland isOneList
   island h =
-      let k3 = both _ (isOneList M isl) h in
-      let k2 = both _ (hasOwnRamps M isl) (k3 .0) in
+      let k3 = both _ (isOneList M) h in
+      let k2 = both _ (hasOwnRampIds M isl) (k3 .0) in
       let k1 = both (isApart M isl) (isOneSided M isl) (k2 .0) in
       let k = both (eqb (length (M .boundaries)) (spanCount M)) _ (k3 .1) in
       record {

@@ -10,3 +10,4 @@ pub mod Records
 pub mod Framed
 pub mod Same
 pub mod Decide
+pub mod Example
