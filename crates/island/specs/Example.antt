@@ -1,22 +1,22 @@
 -- The premises of demand 3 are met by maps that differ and of which a pass removes a boundary of the island: for each pass two inputs, computed.
 -- Outside the island they differ in cells, anchors and boundaries, so that its boundaries have other numbers and its regions other labels. Assumes nothing.
 use Prim.Native.Nat.{ℕ, _*_, _/_, _%_}
-use mathlib.Core.Path.{_≡_, refl}
+use mathlib.Core.Path.{_≡_, refl, ap, _∙_}
 use mathlib.Core.Bool.{Bool, true, false, not, Bool·beq}
-use mathlib.Core.List.{List, [], _∷_, _++_}
+use mathlib.Core.List.{List, [], _∷_, _++_, map}
 use lib.ListN.{length, getD, take, drop, replicate}
 use lib.Dec.{eqb, ltb, leb}
 use Rattle.definitions.specs.Limits.{numbersPerBoundary, numbersPerSpan}
-use Rattle.definitions.specs.Scan.{anyBelow, collect, onlyIf, gather}
-use Rattle.definitions.specs.Grid.{Map, cellCount}
+use Rattle.definitions.specs.Scan.{anyBelow, collect, onlyIf, gather, filter, member}
+use Rattle.definitions.specs.Grid.{Map, cellCount, boundaryOf}
 use Rattle.definitions.specs.Partition.{labels}
 use Rattle.definitions.specs.RegionRecord.{emptyRegion}
-use Rattle.definitions.specs.Rows.{Row, isKept, rowsOf}
+use Rattle.definitions.specs.Rows.{Row, removedOf, isKept, rowsFrom, rowsOf}
 use Rattle.definitions.specs.Verdict.{Lent, mapIn, verdict}
 use Rattle.definitions.specs.CaseJ.{row}
 use Rattle.definitions.specs.Cases.{width8}
 use Rattle.definitions.specs.SheetExamples.{sheetJ}
-use Rattle.island.specs.Premises.{cutsIsland, hasAnchor, rankOf, Alike, islandRows}
+use Rattle.island.specs.Premises.{cutsIsland, hasAnchor, rankOf, ranked, Alike, islandRows}
 use Rattle.island.specs.Decide.{isSameList, isAlike, alike}
 
 -- ---- what is shown
@@ -36,7 +36,7 @@ pub record Shown (pass : ℕ) (L L′ : Lent) (isl : ℕ → Bool) (i i′ : ℕ
   pub accepted : verdict L .number ≡ 0
   pub accepted′ : verdict L′ .number ≡ 0
   pub premises : Alike (mapIn L) (mapIn L′) isl
-  -- where the premises say nothing, the maps differ, and so do numbers and labels
+  -- the maps differ, which by the premises is outside the island, and so do labels and numbers on it
   pub cellsDiffer : isSameList eqb (L .cells) (L′ .cells) ≡ false
   pub anchorsDiffer : anyBelow (cellCount (mapIn L)) (λ c. not (Bool·beq (hasAnchor (mapIn L) isl c) (hasAnchor (mapIn L′) isl c))) ≡ true
   pub boundariesDiffer : isSameList eqb (L .boundaries) (L′ .boundaries) ≡ false
@@ -50,6 +50,19 @@ pub record Shown (pass : ℕ) (L L′ : Lent) (isl : ℕ → Bool) (i i′ : ℕ
   pub removed′ : isKept pass (mapIn L′) i′ ≡ false
   pub rowsAre : islandRows pass (mapIn L) isl ≡ rows
   pub rowsAre′ : islandRows pass (mapIn L′) isl ≡ rows
+
+-- ---- what is kept, by what is removed, so that the pass is computed once
+
+removed-from : (pass : ℕ) (M : Map) {gone : List ℕ} → removedOf pass M ≡ gone → (i : ℕ) → member i gone ≡ true → isKept pass M i ≡ false
+unfolding isKept
+removed-from pass M e i h = ap (λ g. not (member i g)) e ∙ ap not h
+
+abbrev rowsWithout : Map → (ℕ → Bool) → List ℕ → List Row
+rowsWithout M isl gone = map (ranked M isl) (filter (λ r. cutsIsland M isl (r .number)) (rowsFrom (length (M .boundaries)) (boundaryOf M) (λ i. not (member i gone))))
+
+rows-from : (pass : ℕ) (M : Map) (isl : ℕ → Bool) {gone : List ℕ} → removedOf pass M ≡ gone → islandRows pass M isl ≡ rowsWithout M isl gone
+unfolding rowsOf
+rows-from pass M isl e = ap (rowsWithout M isl) e
 
 -- ---- how the inputs are written
 
@@ -97,8 +110,16 @@ mouth′ = inputOf 1 7 1 (5 ∷ 3 ∷ 0 ∷ 0 ∷ 1 ∷ 1 ∷ 1 ∷ []) (ramp 2 
 abbrev pub behindFour : ℕ → Bool
 behindFour c = leb 4 c
 
+pub mouth-removes : removedOf 1 (mapIn mouth) ≡ 2 ∷ 0 ∷ []
+unfolding removedOf mapIn mouth
+mouth-removes = refl
+
+pub mouth′-removes : removedOf 1 (mapIn mouth′) ≡ 1 ∷ []
+unfolding removedOf mapIn mouth′
+mouth′-removes = refl
+
 pub mouth-shown : Shown 1 mouth mouth′ behindFour 0 1 (row 1 48 0 48 8 ∷ [])
-unfolding mouth mouth′ mapIn verdict isAlike isSameList anyBelow islandLabels cutsIsland rankOf isKept rowsOf
+unfolding mouth mouth′ mapIn verdict isAlike isSameList anyBelow islandLabels cutsIsland rankOf filter rowsFrom member
 mouth-shown =
     record {
       passIs = refl;
@@ -114,10 +135,10 @@ mouth-shown =
       cuts = refl;
       cuts′ = refl;
       ranksAgree = refl;
-      removed = refl;
-      removed′ = refl;
-      rowsAre = refl;
-      rowsAre′ = refl;
+      removed = removed-from 1 (mapIn mouth) mouth-removes _ refl;
+      removed′ = removed-from 1 (mapIn mouth′) mouth′-removes _ refl;
+      rowsAre = rows-from 1 (mapIn mouth) behindFour mouth-removes;
+      rowsAre′ = rows-from 1 (mapIn mouth′) behindFour mouth′-removes;
     }
 
 -- ---- pass 2
@@ -135,8 +156,16 @@ unfolding inputOf
 interior′ =
     inputOf 2 8 1 (1 ∷ 5 ∷ 0 ∷ 0 ∷ 1 ∷ 3 ∷ 1 ∷ 1 ∷ []) (ramp 1 7 40 0 40 8 ++ plain 8 0 8 8 ++ plain 48 0 48 8 ++ ramp 2 7 56 0 56 8) (7 ∷ 0 ∷ 7 ∷ 0 ∷ [])
 
+pub interior-removes : removedOf 2 (mapIn interior) ≡ 1 ∷ []
+unfolding removedOf mapIn interior
+interior-removes = refl
+
+pub interior′-removes : removedOf 2 (mapIn interior′) ≡ 2 ∷ []
+unfolding removedOf mapIn interior′
+interior′-removes = refl
+
 pub interior-shown : Shown 2 interior interior′ behindFour 1 2 (row 0 40 0 40 8 ∷ row 2 56 0 56 8 ∷ [])
-unfolding interior interior′ mapIn verdict isAlike isSameList anyBelow islandLabels cutsIsland rankOf isKept rowsOf
+unfolding interior interior′ mapIn verdict isAlike isSameList anyBelow islandLabels cutsIsland rankOf filter rowsFrom member
 interior-shown =
     record {
       passIs = refl;
@@ -152,10 +181,10 @@ interior-shown =
       cuts = refl;
       cuts′ = refl;
       ranksAgree = refl;
-      removed = refl;
-      removed′ = refl;
-      rowsAre = refl;
-      rowsAre′ = refl;
+      removed = removed-from 2 (mapIn interior) interior-removes _ refl;
+      removed′ = removed-from 2 (mapIn interior′) interior′-removes _ refl;
+      rowsAre = rows-from 2 (mapIn interior) behindFour interior-removes;
+      rowsAre′ = rows-from 2 (mapIn interior′) behindFour interior′-removes;
     }
 
 -- ---- pass 3
@@ -184,8 +213,16 @@ junction′ =
 abbrev pub firstFour : ℕ → Bool
 firstFour c = ltb (c % 6) 4
 
+pub junction-removes : removedOf 3 (mapIn junction) ≡ 0 ∷ []
+unfolding removedOf mapIn junction
+junction-removes = refl
+
+pub junction′-removes : removedOf 3 (mapIn junction′) ≡ 1 ∷ []
+unfolding removedOf mapIn junction′
+junction′-removes = refl
+
 pub junction-shown : Shown 3 junction junction′ firstFour 0 1 (row 1 8 8 8 16 ∷ row 2 8 8 16 8 ∷ row 4 16 16 24 16 ∷ row 3 24 8 24 16 ∷ [])
-unfolding junction junction′ mapIn verdict isAlike isSameList anyBelow islandLabels cutsIsland rankOf isKept rowsOf
+unfolding junction junction′ mapIn verdict isAlike isSameList anyBelow islandLabels cutsIsland rankOf filter rowsFrom member
 junction-shown =
     record {
       passIs = refl;
@@ -201,8 +238,8 @@ junction-shown =
       cuts = refl;
       cuts′ = refl;
       ranksAgree = refl;
-      removed = refl;
-      removed′ = refl;
-      rowsAre = refl;
-      rowsAre′ = refl;
+      removed = removed-from 3 (mapIn junction) junction-removes _ refl;
+      removed′ = removed-from 3 (mapIn junction′) junction′-removes _ refl;
+      rowsAre = rows-from 3 (mapIn junction) firstFour junction-removes;
+      rowsAre′ = rows-from 3 (mapIn junction′) firstFour junction′-removes;
     }
