@@ -22,3 +22,6 @@ pub mod FrameMouths
 pub mod FrameComponents
 pub mod FrameExpansions
 pub mod FrameInteriors
+pub mod Theorem
+pub mod Decide
+pub mod Example
