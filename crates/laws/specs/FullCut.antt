@@ -13,7 +13,7 @@ use Rattle.definitions.specs.Scan.{all}
 use Rattle.definitions.specs.Grid.{Pair}
 use Rattle.definitions.specs.Context.{Context, onlyPair, fullCut, fullPair}
 use Rattle.laws.specs.Lists.{All, done, more}
-use Rattle.laws.specs.Scans.{both}
+use Rattle.laws.specs.Tests.{both}
 use Rattle.laws.specs.SoundContext.{Sound}
 
 -- ---- as the Rust writes it

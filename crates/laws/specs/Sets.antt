@@ -9,7 +9,8 @@ use lib.ListN.{length}
 use lib.Dec.{eqb, ltb}
 use borrow.Author.Tests.{ltb-true, ltb-false, lt-ltb, le-ltb, eqb-true, eqb-false, eq-eqb, ne-eqb}
 use Rattle.definitions.specs.Scan.{any, all, member, collect, toList, onlyIf, anyBelow, allBelow, countBelow, bit}
-use Rattle.laws.specs.Lists.{All, done, more, all-append, all-map, any-append}
+use Rattle.laws.specs.Lists.{All, done, more, all-append, all-map}
+use Rattle.laws.specs.NumberLists.{member-append}
 use Rattle.laws.specs.Scans.{picked-length, any-picked}
 use Rattle.laws.specs.ScansOfAll.{all-append-test}
 use Rattle.laws.specs.ListOrder.{Three, less, same, over, three}
@@ -35,10 +36,6 @@ pub data Ascending : List ℕ → Type 0 where
   some : {x : ℕ} {l : List ℕ} → All (λ y. x < y) l → Ascending l → Ascending (x ∷ l)
 
 -- ---- members
-
-pub member-append : (x : ℕ) (l m : List ℕ) → member x (l ++ m) ≡ (member x l || member x m)
-unfolding member
-member-append x l m = any-append (eqb x) l m
 
 pub member-all : (P : ℕ → Type 0) (x : ℕ) {l : List ℕ} → All P l → member x l ≡ true → P x
 unfolding member any
@@ -158,6 +155,22 @@ length-insert x (some {x = y} {l = l} a s) = go (three x y) (length-insert x s)
     go (same h) ih = rw (le-ltb x y (omega arith), eq-eqb x y h) (omega arith)
     go (over h) ih = rw (le-ltb x y (omega arith), ne-eqb x y (λ e. omega arith)) (omega (arith, ih))
 
+-- a number above all others goes to the end, and one that is there stays
+insert-last : (n : ℕ) {l : List ℕ} → All (λ x. x < n) l → setInsert l n ≡ l ++ (n ∷ [])
+unfolding setInsert
+insert-last n done = refl
+insert-last n (more {x = x} h a) = rw (le-ltb n x (omega arith), ne-eqb n x (λ e. omega arith)) (ap {B = List ℕ} (λ r. x ∷ r) (insert-last n a))
+
+pub insert-again : (n : ℕ) (l : List ℕ) → setInsert (setInsert l n) n ≡ setInsert l n
+unfolding setInsert
+insert-again n [] = rw (le-ltb n n (omega arith), eq-eqb n n refl) refl
+insert-again n (y ∷ l) = go (three n y) (insert-again n l)
+  where
+    go : Three n y → setInsert (setInsert l n) n ≡ setInsert l n → setInsert (setInsert (y ∷ l) n) n ≡ setInsert (y ∷ l) n
+    go (less h) ih = rw (lt-ltb n y h, le-ltb n n (omega arith), eq-eqb n n refl) refl
+    go (same h) ih = rw (le-ltb n y (omega arith), eq-eqb n y h, le-ltb n y (omega arith), eq-eqb n y h) refl
+    go (over h) ih = rw (le-ltb n y (omega arith), ne-eqb n y (λ e. omega arith), le-ltb n y (omega arith), ne-eqb n y (λ e. omega arith)) (ap {B = List ℕ} (λ r. y ∷ r) ih)
+
 -- ---- the numbers below n that pass f
 
 module _ (f : ℕ → Bool) where
@@ -169,6 +182,29 @@ module _ (f : ℕ → Bool) where
       last : (b : Bool) → All (λ x. x < suc n) (toList (onlyIf b n))
       last true = more {x = n} (omega arith) done
       last false = done
+
+  pub below-pass : (n : ℕ) → All (λ x. f x ≡ true) (numbersBelow n f)
+  unfolding numbersBelow collect
+  below-pass zero = done
+  below-pass (suc n) = all-append (below-pass n) (last (f n) refl)
+    where
+      last : (b : Bool) → f n ≡ b → All (λ x. f x ≡ true) (toList (onlyIf b n))
+      last true e = more e done
+      last false e = done
+
+  pub below-nothing : (n : ℕ) → ((j : ℕ) → f j ≡ false) → numbersBelow n f ≡ []
+  unfolding numbersBelow collect
+  below-nothing zero h = refl
+  below-nothing (suc n) h = rw (h n) (append-nil (numbersBelow n f) ∙ below-nothing n h)
+
+  -- the set with one number more
+  pub below-insert : (n : ℕ) → numbersBelow (suc n) f ≡ cond (f n) (setInsert (numbersBelow n f) n) (numbersBelow n f)
+  unfolding numbersBelow collect
+  below-insert n = go (f n)
+    where
+      go : (b : Bool) → numbersBelow n f ++ toList (onlyIf b n) ≡ cond b (setInsert (numbersBelow n f) n) (numbersBelow n f)
+      go true = sym (insert-last n (below-all n))
+      go false = append-nil (numbersBelow n f)
 
   ascending-end : (n : ℕ) {l : List ℕ} → Ascending l → All (λ x. x < n) l → Ascending (l ++ (n ∷ []))
   ascending-end n none done = some done none
