@@ -9,7 +9,7 @@ use Rattle.definitions.specs.Scan.{any, member}
 use Rattle.definitions.specs.Context.{Context}
 use Rattle.laws.specs.FullCut.{isEmpty}
 use Rattle.laws.specs.Sets.{setInsert}
-use Rattle.laws.specs.Incidents.{orDefault, incidentsRust}
+use Rattle.laws.specs.Incidents.{orNothing, incidentsRust}
 
 module _ (C : Context) where
   --     edges.is_empty()
@@ -40,4 +40,4 @@ module _ (C : Context) where
   --     for region in &regions {
   unfoldable pub portsFrom : List ℕ → List ℕ → List ℕ → List ℕ
   portsFrom edges ports [] = ports
-  portsFrom edges ports (region ∷ regions) = portsFrom edges (insertPorts edges ports (orDefault (incidentsRust C region))) regions
+  portsFrom edges ports (region ∷ regions) = portsFrom edges (insertPorts edges ports (orNothing (incidentsRust C region))) regions

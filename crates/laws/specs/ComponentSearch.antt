@@ -20,7 +20,7 @@ use Rattle.laws.specs.Scans.{both}
 use Rattle.laws.specs.Merging.{Within}
 use Rattle.laws.specs.Sets.{setInsert, setExtend, Ascending, none, numbersBelow, member-insert, member-below, member-extend, insert-ascending, extend-ascending, any-below, set-below, same-members}
 use Rattle.laws.specs.SetTests.{any-extend}
-use Rattle.laws.specs.Incidents.{orDefault, incidentsRust, default-entry, incidents-are}
+use Rattle.laws.specs.Incidents.{orNothing, incidentsRust, nothing-present, incidents-are}
 use Rattle.laws.specs.ComponentLiteral.{isPassedOver, leavesComponent, insertPorts, portsFrom}
 use Rattle.laws.specs.ComponentRegions.{any-swap, inside, allInside, leaves-is, region-members}
 
@@ -61,8 +61,8 @@ module _ (C : Context) (r : ℕ) where
 
   -- ---- ports
 
-  incident-in : (i x : ℕ) → member i (orDefault (incidentsRust C x)) ≡ (ltb i (C .count) && isIncident C i x)
-  incident-in i x = ap (member i) (ap orDefault (incidents-are C x) ∙ default-entry (numbersBelow (C .count) (λ j. isIncident C j x))) ∙ member-below (λ j. isIncident C j x) i (C .count)
+  incident-in : (i x : ℕ) → member i (orNothing (incidentsRust C x)) ≡ (ltb i (C .count) && isIncident C i x)
+  incident-in i x = ap (member i) (ap orNothing (incidents-are C x) ∙ nothing-present (numbersBelow (C .count) (λ j. isIncident C j x))) ∙ member-below (λ j. isIncident C j x) i (C .count)
 
   port-put : (i : ℕ) (ports indexes : List ℕ) → member i (insertPorts C edges ports indexes) ≡ (member i ports || member i indexes && not (member i edges))
   unfolding insertPorts member any
@@ -100,8 +100,8 @@ module _ (C : Context) (r : ℕ) where
   unfolding portsFrom any
   ports-put i ports [] = sym (ap (λ b. member i ports || b && not (member i edges)) (and-false (ltb i (C .count))) ∙ or-false (member i ports))
   ports-put i ports (x ∷ rs) =
-      ports-put i (insertPorts C edges ports (orDefault (incidentsRust C x))) rs
-      ∙ ap (λ b. b || (ltb i (C .count) && any (isIncident C i) rs) && not (member i edges)) (port-put i ports (orDefault (incidentsRust C x)) ∙ ap (λ b. member i ports || b && not (member i edges)) (incident-in i x))
+      ports-put i (insertPorts C edges ports (orNothing (incidentsRust C x))) rs
+      ∙ ap (λ b. b || (ltb i (C .count) && any (isIncident C i) rs) && not (member i edges)) (port-put i ports (orNothing (incidentsRust C x)) ∙ ap (λ b. member i ports || b && not (member i edges)) (incident-in i x))
       ∙ order (member i ports) (ltb i (C .count)) (isIncident C i x) (any (isIncident C i) rs) (not (member i edges))
     where
       order : (p l c q n : Bool) → (p || (l && c) && n || (l && q) && n) ≡ (p || (l && (c || q)) && n)
@@ -114,7 +114,7 @@ module _ (C : Context) (r : ℕ) where
   ports-ascending : {ports : List ℕ} (rs : List ℕ) → Ascending ports → Ascending (portsFrom C edges ports rs)
   unfolding portsFrom
   ports-ascending [] s = s
-  ports-ascending (x ∷ rs) s = ports-ascending rs (port-ascending (orDefault (incidentsRust C x)) s)
+  ports-ascending (x ∷ rs) s = ports-ascending rs (port-ascending (orNothing (incidentsRust C x)) s)
 
   module _ (within : (i : ℕ) → All (Within (suc (C .regions))) (C .pairs i)) (named : 1 ≤ r) (regions : List ℕ) (ascending : Ascending regions) (found : (x : ℕ) → member x regions ≡ inside C r x) where
     -- ---- regions

@@ -9,7 +9,7 @@ use borrow.Author.Tests.{eqb-true}
 use Rattle.definitions.specs.Scan.{any, filter, member, addNew, addAll}
 use Rattle.laws.specs.Disjunction.{disjunction}
 use Rattle.laws.specs.FullCut.{isEmpty}
-use Rattle.laws.specs.Lists.{All, done, more, all-append, any-append, filter-append}
+use Rattle.laws.specs.Lists.{any-append, filter-append}
 
 pub empty-filter : {A : Type 0} (f : A → Bool) (l : List A) → isEmpty (filter f l) ≡ not (any f l)
 unfolding filter any
@@ -56,15 +56,6 @@ any-addAll f l (x ∷ xs) = any-addAll f (addNew l x) xs ∙ ap (λ b. b || any 
 pub member-addAll : (r : ℕ) (l xs : List ℕ) → member r (addAll l xs) ≡ (member r l || member r xs)
 unfolding member
 member-addAll r l xs = any-addAll (eqb r) l xs
-
-pub all-addAll : {P : ℕ → Type 0} {l xs : List ℕ} → All P l → All P xs → All P (addAll l xs)
-unfolding addAll addNew
-all-addAll a done = a
-all-addAll {P} {l} a (more {x = x} h b) = all-addAll (go (member x l)) b
-  where
-    go : (c : Bool) → All P (cond c l (l ++ (x ∷ [])))
-    go true = a
-    go false = all-append a (more h done)
 
 -- ---- filters
 

@@ -18,7 +18,7 @@ use Rattle.definitions.specs.RegionRecord.{Region, corners}
 use Rattle.definitions.specs.Context.{Context, fullCut}
 use Rattle.definitions.specs.RampMouths.{MouthShape, single, star, MouthProposal, regionsOf, distinctRegions, commonRegions, starFrom, mouthShape, retain, maxMouthDistance, maxApproachRadius, separationOf, approachFits, singleMouth, starMouth, shapedMouth, triangleMouth, triangle, cornersNear, isLocal}
 use Rattle.laws.specs.Lists.{All, done, more, all-filter}
-use Rattle.laws.specs.ListsAsSets.{all-addAll}
+use Rattle.laws.specs.NumberLists.{all-addAll}
 use Rattle.laws.specs.SortedMembers.{all-tests-sort}
 use Rattle.laws.specs.SoundContext.{Sound}
 use Rattle.laws.specs.Incidents.{isSomeAnd}
