@@ -27,7 +27,7 @@ use Rattle.laws.specs.SetTests.{any-extend}
 use Rattle.laws.specs.Incidents.{isSomeAnd}
 use Rattle.laws.specs.Triangles.{any-not}
 use Rattle.laws.specs.MouthLiteral.{fullCutAt}
-use Rattle.laws.specs.MouthLoop.{statsOf}
+use Rattle.laws.specs.Bridges.{statsOf}
 use Rattle.laws.specs.MouthKept.{Inhabited, keepIf, all-agree}
 use Rattle.laws.specs.AllowedElevations.{noneElse, eachAllowed, mask-is}
 use Rattle.laws.specs.Leaves.{ports-are}

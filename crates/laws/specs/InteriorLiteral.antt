@@ -16,7 +16,7 @@ use Rattle.definitions.specs.RampMouths.{maxApproachRadius}
 use Rattle.laws.specs.Sets.{setExtend}
 use Rattle.laws.specs.Incidents.{isSomeAnd}
 use Rattle.laws.specs.MouthLiteral.{fullCutAt, rampOf}
-use Rattle.laws.specs.MouthLoop.{statsOf}
+use Rattle.laws.specs.Bridges.{statsOf}
 use Rattle.laws.specs.AllowedElevations.{noneElse}
 use Rattle.laws.specs.LeavesLiteral.{walkPort}
 use Rattle.laws.specs.Selection2.{InteriorRust}

@@ -74,3 +74,5 @@ pub mod AllowedElevations
 pub mod CheckedContext
 pub mod InteriorLiteral
 pub mod InteriorChain
+pub mod Separations
+pub mod MouthsAsRust

@@ -22,7 +22,8 @@ use Rattle.laws.specs.NumberLists.{all-addAll}
 use Rattle.laws.specs.SortedMembers.{all-tests-sort}
 use Rattle.laws.specs.SoundContext.{Sound}
 use Rattle.laws.specs.Incidents.{isSomeAnd}
-use Rattle.laws.specs.MouthLoop.{MouthRust, centersOf, statsOf, pushMouth, isRetained}
+use Rattle.laws.specs.MouthLoop.{MouthRust, centersOf, pushMouth, isRetained}
+use Rattle.laws.specs.Bridges.{statsOf}
 use Rattle.laws.specs.MouthFound.{headOf, innerRust, unionRust, foundOf}
 
 -- a proposal of the definitions, as the Rust has it

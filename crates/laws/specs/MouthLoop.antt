@@ -4,17 +4,17 @@ use Prim.Native.Nat.{ℕ}
 use mathlib.Core.Bool.{Bool, not, _&&_, _||_, cond}
 use mathlib.Core.Option.{Option, none, some}
 use mathlib.Core.List.{List, [], _∷_}
-use lib.Dec.{ltb}
 use lib.Ieee.{Float, le, lt}
 use lib.Ieee.Scale.{finite}
-use Rattle.definitions.specs.Scan.{any, all, filter, concatMap, collect, gather, toList, onlyIf}
+use Rattle.definitions.specs.Scan.{any, all, filter, concatMap, collect, gather, toList}
 use Rattle.definitions.specs.Geometry.{Point, center, distance}
 use Rattle.definitions.specs.RampGeometry.{segmentDistance}
-use Rattle.definitions.specs.RegionRecord.{Region, corners}
+use Rattle.definitions.specs.RegionRecord.{corners}
 use Rattle.definitions.specs.Context.{Context}
 use Rattle.definitions.specs.RampMouths.{maxMouthDistance, maxApproachRadius}
 use Rattle.laws.specs.MouthLiteral.{FoundMouth, isNone, fullCutAt, fullPairAt, rampOf, nearby, overlay, broad, foundMouth}
 use Rattle.laws.specs.Incidents.{isSomeAnd}
+use Rattle.laws.specs.Bridges.{statsOf}
 use Rattle.laws.specs.Stars.{starRust}
 use Rattle.laws.specs.Triangles.{triangleRust}
 
@@ -40,10 +40,6 @@ abbrev pub centersOf : MouthRust → List (Option Point)
 centersOf p = cond (p .twoPortBroadApproach) (some (p .rampCenter) ∷ some (p .mouthCenter) ∷ []) (some (p .rampCenter) ∷ none ∷ [])
 
 module _ (C : Context) where
-  -- `ctx.stats.get(&r)`: there is an entry exactly where a cell has made one
-  abbrev pub statsOf : ℕ → Option Region
-  statsOf r = onlyIf (ltb 0 (C .region r .cells)) (C .region r)
-
   -- ---- the body of the loop
 
   module _ (a m : ℕ) where
@@ -121,7 +117,7 @@ module _ (C : Context) where
   isRetained p =
       all
       (λ region.
-      isSomeAnd (statsOf region)
+      isSomeAnd (statsOf C region)
       (λ stat. finite (stat .minX) && all (λ corner. any (λ middle. le (distance corner middle) maxApproachRadius) (concatMap toList (centersOf p))) (corners stat)))
       (p .inner)
 

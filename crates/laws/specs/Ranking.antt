@@ -80,7 +80,7 @@ sorted-is : (s : Segment) → sortEndpoints s ≡ canonical s
 unfolding sortEndpoints canonical
 sorted-is s = ap (λ t. cond t (record { a = s .b; b = s .a }) s) (position-less (s .b) (s .a))
 
-endpoints-compare : (b c : Boundary) → compareBoundaries b c ≡ listCompare (endpointsKey (b .endpoints)) (endpointsKey (c .endpoints))
+pub endpoints-compare : (b c : Boundary) → compareBoundaries b c ≡ listCompare (endpointsKey (b .endpoints)) (endpointsKey (c .endpoints))
 unfolding compareBoundaries endpointsKey
 endpoints-compare b c =
     (λ i. thenWith (comparePositions (sorted-is (b .endpoints) i .a) (sorted-is (c .endpoints) i .a)) (comparePositions (sorted-is (b .endpoints) i .b) (sorted-is (c .endpoints) i .b)))
