@@ -169,7 +169,7 @@ module _ (C : Context) (within : (i : ℕ) → All (Within (suc (C .regions))) (
   named-edge : (x i : ℕ) → i < C .count → isOrdinary C i ≡ true → inside C r x ≡ true → named x i ≡ true → isEdge C (components C) r i ≡ true
   named-edge x i h o k e = sym (edge-is i h) ∙ ap₂ _&&_ o (sym (any-regions (inside C r) (C .pairs i)) ∙ any-member (inside C r) x (regionsOf (C .pairs i)) e k)
 
-  in-range : (x : ℕ) → 1 ≤ r → inside C r x ≡ true → x ≤ C .regions
+  pub in-range : (x : ℕ) → 1 ≤ r → inside C r x ≡ true → x ≤ C .regions
   unfolding components
   in-range x h k = go (leb x (C .regions)) refl
     where

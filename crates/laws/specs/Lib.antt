@@ -76,3 +76,8 @@ pub mod InteriorLiteral
 pub mod InteriorChain
 pub mod Separations
 pub mod MouthsAsRust
+pub mod DepthFirstLiteral
+pub mod SearchRounds
+pub mod SearchGraph
+pub mod SearchInvariant
+pub mod DepthFirst
