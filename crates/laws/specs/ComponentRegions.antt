@@ -137,7 +137,7 @@ module _ (C : Context) (within : (i : ℕ) → All (Within (suc (C .regions))) (
             go false e c = refl
 
   -- x stands in a pair of i
-  abbrev named : ℕ → ℕ → Bool
+  abbrev pub named : ℕ → ℕ → Bool
   named x i = member x (regionsOf (C .pairs i))
 
   region-scan : (x : ℕ) → member x (componentRegions C (components C) r) ≡ anyBelow (C .count) (λ i. isEdge C (components C) r i && named x i)
@@ -166,7 +166,7 @@ module _ (C : Context) (within : (i : ℕ) → All (Within (suc (C .regions))) (
           more (t .0) (more (sym q ∙ t .0) (regions-of b (t .1)))
 
   -- an ordinary full cut with a pair that names a region inside is an edge
-  named-edge : (x i : ℕ) → i < C .count → isOrdinary C i ≡ true → inside C r x ≡ true → named x i ≡ true → isEdge C (components C) r i ≡ true
+  pub named-edge : (x i : ℕ) → i < C .count → isOrdinary C i ≡ true → inside C r x ≡ true → named x i ≡ true → isEdge C (components C) r i ≡ true
   named-edge x i h o k e = sym (edge-is i h) ∙ ap₂ _&&_ o (sym (any-regions (inside C r) (C .pairs i)) ∙ any-member (inside C r) x (regionsOf (C .pairs i)) e k)
 
   pub in-range : (x : ℕ) → 1 ≤ r → inside C r x ≡ true → x ≤ C .regions
@@ -181,7 +181,7 @@ module _ (C : Context) (within : (i : ℕ) → All (Within (suc (C .regions))) (
       go false e = absurd (omega (arith, eqb-true (componentOf C (components C) x) r k, List·getD-eq-default (components C) 0 {n = x} (omega (arith, size, leb-false x (C .regions) e))))
 
   -- a region inside stands in a pair of an edge, if there is an edge
-  inside-named : (x : ℕ) → 1 ≤ r → anyBelow (C .count) (isEdge C (components C) r) ≡ true → inside C r x ≡ true → anyBelow (C .count) (λ i. isEdge C (components C) r i && named x i) ≡ true
+  pub inside-named : (x : ℕ) → 1 ≤ r → anyBelow (C .count) (isEdge C (components C) r) ≡ true → inside C r x ≡ true → anyBelow (C .count) (λ i. isEdge C (components C) r i && named x i) ≡ true
   unfolding isEdge
   inside-named x h e k = go (anyBelow (C .count) (λ i. isEdge C (components C) r i && named x i)) refl
     where

@@ -33,7 +33,7 @@ some-edge : (n : ℕ) (f : ℕ → Bool) → not (isEmpty (numbersBelow n f)) �
 some-edge n f = sym (any-true (numbersBelow n f)) ∙ any-below f (λ j. true) n ∙ (λ i. anyBelow n (λ j. and-true (f j) i))
 
 -- `edges.len()` below 1 is `edges.is_empty()`
-at-least-one : (l : List ℕ) → leb 1 (length l) ≡ not (isEmpty l)
+pub at-least-one : (l : List ℕ) → leb 1 (length l) ≡ not (isEmpty l)
 at-least-one [] = refl
 at-least-one (x ∷ l) = le-leb 1 (length (x ∷ l)) (omega arith)
 
@@ -45,13 +45,13 @@ at-most n m = go (leb n m) refl
     go false e = lt-ltb m n (leb-false n m e)
 
 module _ (C : Context) (r : ℕ) where
-  abbrev edges : List ℕ
+  abbrev pub edges : List ℕ
   edges = edgesOf C (components C) r
 
   abbrev ours : List ℕ
   ours = componentRegions C (components C) r
 
-  edge-found : not (isEmpty edges) ≡ anyBelow (C .count) (isEdge C (components C) r)
+  pub edge-found : not (isEmpty edges) ≡ anyBelow (C .count) (isEdge C (components C) r)
   unfolding edgesOf numbersBelow
   edge-found = some-edge (C .count) (isEdge C (components C) r)
 

@@ -57,6 +57,7 @@ pub mod SortedMembers
 pub mod Stars
 pub mod Triangles
 pub mod Incidents
+pub mod KeptLists
 pub mod MouthLiteral
 pub mod MouthLoop
 pub mod MouthFound
@@ -81,3 +82,6 @@ pub mod SearchRounds
 pub mod SearchGraph
 pub mod SearchInvariant
 pub mod DepthFirst
+pub mod InteriorLoop
+pub mod InteriorStarts
+pub mod InteriorsAsRust

@@ -1,20 +1,19 @@
 -- The proposals of pass 1: those that the Rust's double loop pushes and its `retain` leaves are the proposals of the definitions, one by one and in order.
 -- Besides what is found of a mouth and a ramp (MouthFound) and what is kept (MouthKept) this needs that a test made of a list as a whole can be made of each
 -- element as it is put there. Assumes nothing.
-use Prim.Native.Nat.{ℕ, zero, suc, _<_}
-use native.Mathlib.Omega.{arith}
-use mathlib.Core.Path.{_≡_, refl, sym, ap, ap₂, _∙_}
+use Prim.Native.Nat.{ℕ, _<_}
+use mathlib.Core.Path.{_≡_, refl, sym, ap, _∙_}
 use mathlib.Core.Bool.{Bool, true, false, not, _&&_, _||_, cond, and-false}
 use mathlib.Core.Option.{Option, none, some, Option·map}
-use mathlib.Core.List.{List, [], _∷_, _++_, map, append-nil}
+use mathlib.Core.List.{List, [], _∷_, map}
 use lib.ListN.{length}
 use lib.Dec.{eqb}
 use lib.Ieee.Scale.{finite}
-use Rattle.definitions.specs.Scan.{any, all, filter, collect, gather, toList, onlyIf}
+use Rattle.definitions.specs.Scan.{any, all, filter, collect, onlyIf}
 use Rattle.definitions.specs.Grid.{Pair, contains, pairEq}
 use Rattle.definitions.specs.Context.{Context, noRamp, fullCut, fullPair}
 use Rattle.definitions.specs.RampMouths.{MouthShape, MouthProposal, distinctRegions, mouthShape, triangleRepresentative, retain, broadMouth, nearbyRepresentative, overlayRepresentative, shapedMouth, triangleMouth, triangle, triangleOr, isLocal, mouthProposal, proposals}
-use Rattle.laws.specs.Lists.{All, filter-append, map-append}
+use Rattle.laws.specs.Lists.{All}
 use Rattle.laws.specs.SoundContext.{Sound}
 use Rattle.laws.specs.FullCut.{full-cut, full-pair}
 use Rattle.laws.specs.PairOrder.{Ascending}
@@ -22,40 +21,9 @@ use Rattle.laws.specs.Stars.{starRust, star-is}
 use Rattle.laws.specs.Triangles.{triangleRust, sortedRegions, triangle-is}
 use Rattle.laws.specs.MouthLiteral.{isNone, fullCutAt, rampOf, nearby, overlay, broad, foundMouth}
 use Rattle.laws.specs.MouthLoop.{MouthRust, pushMouth, mouthBody, rampBody, pushedRust, isRetained, proposalsRust}
-use Rattle.laws.specs.MouthKept.{Inhabited, rendered, keepIf, MadeIf, pushed-is, made-shape, made-triangle, distinct-inhabited, shape-made}
+use Rattle.laws.specs.MouthKept.{Inhabited, rendered, MadeIf, pushed-is, made-shape, made-triangle, distinct-inhabited, shape-made}
+use Rattle.laws.specs.KeptLists.{keepIf, filter-collect, collect-none, filter-gather}
 use Rattle.laws.specs.MouthFound.{foundOf, found-is}
-
--- ---- filters and maps of what loops collect
-
-module _ {A B : Type 0} (f : B → Bool) (e : A → B) where
-  filter-collect : (n : ℕ) (F : ℕ → Option B) (G : ℕ → Option A) → ((i : ℕ) → i < n → keepIf f (F i) ≡ Option·map e (G i)) → filter f (collect n F) ≡ map e (collect n G)
-  unfolding collect filter
-  filter-collect zero F G h = refl
-  filter-collect (suc n) F G h =
-      filter-append f (collect n F) (toList (F n)) ∙ ap₂ _++_ (filter-collect n F G (λ i l. h i (omega arith))) (one (F n) ∙ ap toList (h n (omega arith)) ∙ two (G n)) ∙ sym (map-append e (collect n G) (toList (G n)))
-    where
-      one : (o : Option B) → filter f (toList o) ≡ toList (keepIf f o)
-      one none = refl
-      one (some x) = go (f x)
-        where
-          go : (b : Bool) → cond b (x ∷ []) [] ≡ toList (onlyIf b x)
-          go true = refl
-          go false = refl
-
-      two : (o : Option A) → toList (Option·map e o) ≡ map e (toList o)
-      two none = refl
-      two (some x) = refl
-
-  collect-none : (n : ℕ) (G : ℕ → Option A) → ((i : ℕ) → G i ≡ none) → [] ≡ map e (collect n G)
-  unfolding collect
-  collect-none zero G h = refl
-  collect-none (suc n) G h = rw (h n, append-nil (collect n G)) (collect-none n G h)
-
-  filter-gather : (n : ℕ) (F : ℕ → List B) (G : ℕ → List A) → ((i : ℕ) → i < n → filter f (F i) ≡ map e (G i)) → filter f (gather n F) ≡ map e (gather n G)
-  unfolding gather filter
-  filter-gather zero F G h = refl
-  filter-gather (suc n) F G h =
-      filter-append f (gather n F) (F n) ∙ ap₂ _++_ (filter-gather n F G (λ i l. h i (omega arith))) (h n (omega arith)) ∙ sym (map-append e (gather n G) (G n))
 
 module _ (C : Context) (sound : Sound C) (ascending : (i : ℕ) → Ascending (C .pairs i)) (measured : (r : ℕ) → finite (C .region r .minX) ≡ true) where
   module _ (a m : ℕ) where
@@ -169,7 +137,7 @@ module _ (C : Context) (sound : Sound C) (ascending : (i : ℕ) → Ascending (C
       loop b c = cond (isNone (cond b none (some (C .boundary a)))) [] (cond (not c) [] (collect (C .count) (mouthBody C a)))
 
       out : (b c : Bool) → noRamp C a ≡ b → fullCut C a ≡ c → (not b && c) ≡ false → [] ≡ map (rendered C) (collect (C .count) (mouthProposal C a))
-      out b c e f h = collect-none (isRetained C) (rendered C) (C .count) (mouthProposal C a) (λ m. passed-over a m ((λ i. not (e i) && f i) ∙ h))
+      out b c e f h = collect-none (rendered C) (C .count) (mouthProposal C a) (λ m. passed-over a m ((λ i. not (e i) && f i) ∙ h))
 
       go : (b : Bool) → noRamp C a ≡ b → (c : Bool) → fullCut C a ≡ c → filter (isRetained C) (loop b c) ≡ map (rendered C) (collect (C .count) (mouthProposal C a))
       go true e c f = out true c e f refl

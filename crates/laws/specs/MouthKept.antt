@@ -24,6 +24,7 @@ use Rattle.laws.specs.SoundContext.{Sound}
 use Rattle.laws.specs.Incidents.{isSomeAnd}
 use Rattle.laws.specs.MouthLoop.{MouthRust, centersOf, pushMouth, isRetained}
 use Rattle.laws.specs.Bridges.{statsOf}
+use Rattle.laws.specs.KeptLists.{keepIf}
 use Rattle.laws.specs.MouthFound.{headOf, innerRust, unionRust, foundOf}
 
 -- a proposal of the definitions, as the Rust has it
@@ -41,10 +42,6 @@ rendered C p =
       mouthCenter = center (C .boundary (p .mouthIndex) .endpoints);
       twoPortBroadApproach = p .twoPortBroadApproach;
     }
-
-abbrev pub keepIf : {A : Type 0} → (A → Bool) → Option A → Option A
-keepIf f none = none
-keepIf f (some x) = onlyIf (f x) x
 
 -- a region that some cell has
 abbrev pub Inhabited : Context → ℕ → Type 0
