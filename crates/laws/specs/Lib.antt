@@ -52,3 +52,4 @@ pub mod BridgeGroups
 pub mod Bridges
 pub mod UnionRegions
 pub mod JunctionsAsRust
+pub mod SoundMaps
