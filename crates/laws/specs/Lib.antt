@@ -42,6 +42,7 @@ pub mod Ports
 pub mod Exteriors
 pub mod WidestPort
 pub mod Orderings
+pub mod CompareBoundaries
 pub mod JunctionProposals
 pub mod Unions
 pub mod Ranking
@@ -53,3 +54,4 @@ pub mod Bridges
 pub mod UnionRegions
 pub mod JunctionsAsRust
 pub mod SoundMaps
+pub mod CanonicalOutput
