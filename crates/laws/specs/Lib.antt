@@ -55,3 +55,4 @@ pub mod UnionRegions
 pub mod JunctionsAsRust
 pub mod SoundMaps
 pub mod CanonicalOutput
+pub mod JunctionRows
