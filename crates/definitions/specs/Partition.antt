@@ -21,6 +21,7 @@ unfoldable pub cutAll : Map → List Pair
 unfolding gather spanCount cutSteps
 cutAll M = gather (spanCount M) (cutSteps M)
 
+-- The Rust keeps a mask of cut directions for each cell, and always sets the bits of both ends of a step.
 unfoldable pub uncut : Map → List Pair
 unfolding cutAll filter any allSteps
 uncut M =
@@ -81,7 +82,7 @@ isSeparated ls e = not (eqb (getD ls (e .lo) 0) (getD ls (e .hi) 0))
 abbrev pub labelPair : List ℕ → Pair → Pair
 labelPair ls e = record { lo = min (getD ls (e .lo) 0) (getD ls (e .hi) 0); hi = max (getD ls (e .lo) 0) (getD ls (e .hi) 0) }
 
--- into an ascending list, if not there
+-- into an ascending list, if not there: what sorting all and dropping repeats gives (laws: PairLaws, pairsOf-unique)
 unfoldable pub addPair : Pair → List Pair → List Pair
 addPair p [] = p ∷ []
 addPair p (q ∷ l) = cond (pairLt p q) (p ∷ q ∷ l) (cond (pairEq p q) (q ∷ l) (q ∷ addPair p l))

@@ -13,7 +13,7 @@ use lib.Dec.{eqb, ltb}
 use borrow.Author.Tests.{lt-ltb, le-ltb, eqb-true, eqb-false, eq-eqb, ne-eqb}
 use Rattle.definitions.specs.Scan.{all, onlyIf}
 use Rattle.definitions.specs.Grid.{Pair}
-use Rattle.definitions.specs.Context.{Context, fullPair}
+use Rattle.definitions.specs.Context.{Context}
 use Rattle.definitions.specs.Junctions.{isTwiceAsWide, isNearPort}
 use Rattle.laws.specs.ListOrder.{Three, less, same, over, three}
 
@@ -56,12 +56,14 @@ pub record Bridge : Type 0 where
   pub index : ℕ
   pub exterior : ℕ
 
-module _ (C : Context) where
+-- `full` is `full_pair(&metadata[..])` (FullCut)
+module _ (full : ℕ → Option Pair) where
   --     for index in ports { .. }
   unfoldable pub groupsFrom : ℕ → List Group → List ℕ → List Group
   groupsFrom pocket groups [] = groups
-  groupsFrom pocket groups (j ∷ js) = groupsFrom pocket (pushPort pocket groups j (fullPair C j)) js
+  groupsFrom pocket groups (j ∷ js) = groupsFrom pocket (pushPort pocket groups j (full j)) js
 
+module _ (C : Context) where
   --     let middle = center(&boundaries[index]);
   --     if ports.iter().all(|port| within_distance(middle, center(&boundaries[*port]), MAX_PORT_DISTANCE_PIXELS)) { .. }
   unfoldable pub bridgeIfNear : List ℕ → ℕ → ℕ → Option Bridge

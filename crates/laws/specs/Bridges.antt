@@ -25,17 +25,18 @@ use Rattle.laws.specs.BridgeGroups.{Group, Bridge, pushGroup, pushBeyond
 
 -- ---- as the Rust writes it
 
-module _ (C : Context) where
-  -- `ctx.stats.get(&region)`: a region has a record if it has a cell
-  abbrev pub statsOf : ℕ → Option Region
-  statsOf r = onlyIf (ltb 0 (C .region r .cells)) (C .region r)
-
+module _ (C : Context) (full : ℕ → Option Pair) where
   --     if ctx.anchored.contains(pocket) || ports.len() != 3 { continue; }
   --     if ports.iter().any(|index| boundaries[*index].ramp.is_some() || full_pair(&metadata[*index]).is_none()) { continue; }
   unfoldable pub pocketBridge : ℕ → List ℕ → Option Bridge
   pocketBridge pocket ports =
       cond (C .anchored pocket || not (eqb (length ports) 3)) none
-      (cond (any (λ j. not (noRamp C j) || not (isSome (fullPair C j))) ports) none (bridgeOfGroups C ports (groupsFrom C pocket [] ports)))
+      (cond (any (λ j. not (noRamp C j) || not (isSome (full j))) ports) none (bridgeOfGroups C ports (groupsFrom full pocket [] ports)))
+
+module _ (C : Context) where
+  -- `ctx.stats.get(&region)`: a region has a record if it has a cell
+  abbrev pub statsOf : ℕ → Option Region
+  statsOf r = onlyIf (ltb 0 (C .region r .cells)) (C .region r)
 
   --     let Some(stats) = ctx.stats.get(&proposal.pocket) else { continue; };
   --     if !stats.has_ramp && within_radius(stats, center(&boundaries[proposal.index])) && flat(stats) { .. }
@@ -133,7 +134,7 @@ module _ (C : Context) (r : ℕ) where
       go true e = rank-wider ports i k t n (shared-same i k t e)
       go false e = h
 
-  groups-three : (i j k : ℕ) → All (λ j. holds (fullPair C j) (contains r) ≡ true) (i ∷ j ∷ k ∷ []) → groupsFrom C r [] (i ∷ j ∷ k ∷ []) ≡ pushGroup (pushGroup (pushGroup [] (portExterior C r i) i) (portExterior C r j) j) (portExterior C r k) k
+  groups-three : (i j k : ℕ) → All (λ j. holds (fullPair C j) (contains r) ≡ true) (i ∷ j ∷ k ∷ []) → groupsFrom (fullPair C) r [] (i ∷ j ∷ k ∷ []) ≡ pushGroup (pushGroup (pushGroup [] (portExterior C r i) i) (portExterior C r j) j) (portExterior C r k) k
   unfolding groupsFrom portExterior
   groups-three i j k (more a (more b (more c done))) =
       ap (λ l. pushPort r (pushPort r l j (fullPair C j)) k (fullPair C k)) (port-pushed [] i (fullPair C i) a)
@@ -174,7 +175,7 @@ module _ (C : Context) (r : ℕ) where
       third false false c = refl
 
   -- of three ports, each a full pair of the pocket
-  pub bridge-of-three : (i j k : ℕ) → All (λ j. holds (fullPair C j) (contains r) ≡ true) (i ∷ j ∷ k ∷ []) → rankBridge C r (bridgeOfGroups C (i ∷ j ∷ k ∷ []) (groupsFrom C r [] (i ∷ j ∷ k ∷ []))) ≡ bridgeOfPorts C r (i ∷ j ∷ k ∷ [])
+  pub bridge-of-three : (i j k : ℕ) → All (λ j. holds (fullPair C j) (contains r) ≡ true) (i ∷ j ∷ k ∷ []) → rankBridge C r (bridgeOfGroups C (i ∷ j ∷ k ∷ []) (groupsFrom (fullPair C) r [] (i ∷ j ∷ k ∷ []))) ≡ bridgeOfPorts C r (i ∷ j ∷ k ∷ [])
   unfolding bridgeOfPorts
   bridge-of-three i j k a =
       ap (λ l. rankBridge C r (bridgeOfGroups C (i ∷ j ∷ k ∷ []) l)) (groups-three i j k a)
@@ -215,12 +216,12 @@ module _ (C : Context) (r : ℕ) where
 
   -- the ports, if they are usable
   abbrev validated : List ℕ → Option Bridge
-  validated l = cond (any (λ j. not (noRamp C j) || not (isSome (fullPair C j))) l) none (bridgeOfGroups C l (groupsFrom C r [] l))
+  validated l = cond (any (λ j. not (noRamp C j) || not (isSome (fullPair C j))) l) none (bridgeOfGroups C l (groupsFrom (fullPair C) r [] l))
 
   three-validated : (i j k : ℕ) → All (λ j. isIncident C j r ≡ true) (i ∷ j ∷ k ∷ []) → rankBridge C r (validated (i ∷ j ∷ k ∷ [])) ≡ cond (all usable (i ∷ j ∷ k ∷ [])) (bridgeOfPorts C r (i ∷ j ∷ k ∷ [])) none
-  three-validated i j k a = ap (λ b. rankBridge C r (cond b none (bridgeOfGroups C (i ∷ j ∷ k ∷ []) (groupsFrom C r [] (i ∷ j ∷ k ∷ []))))) (none-unusable (i ∷ j ∷ k ∷ [])) ∙ go (all usable (i ∷ j ∷ k ∷ [])) refl
+  three-validated i j k a = ap (λ b. rankBridge C r (cond b none (bridgeOfGroups C (i ∷ j ∷ k ∷ []) (groupsFrom (fullPair C) r [] (i ∷ j ∷ k ∷ []))))) (none-unusable (i ∷ j ∷ k ∷ [])) ∙ go (all usable (i ∷ j ∷ k ∷ [])) refl
     where
-      go : (b : Bool) → all usable (i ∷ j ∷ k ∷ []) ≡ b → rankBridge C r (cond (not b) none (bridgeOfGroups C (i ∷ j ∷ k ∷ []) (groupsFrom C r [] (i ∷ j ∷ k ∷ [])))) ≡ cond b (bridgeOfPorts C r (i ∷ j ∷ k ∷ [])) none
+      go : (b : Bool) → all usable (i ∷ j ∷ k ∷ []) ≡ b → rankBridge C r (cond (not b) none (bridgeOfGroups C (i ∷ j ∷ k ∷ []) (groupsFrom (fullPair C) r [] (i ∷ j ∷ k ∷ [])))) ≡ cond b (bridgeOfPorts C r (i ∷ j ∷ k ∷ [])) none
       go true e = bridge-of-three i j k (ports-full a e)
       go false e = refl
 
@@ -238,7 +239,7 @@ module _ (C : Context) (r : ℕ) where
   incidents-pass = rw (incidents-below C r) (below-pass (λ j. isIncident C j r) (C .count))
 
   -- a pocket
-  pub pocket-is : rankBridge C r (pocketBridge C r (portsOf C r)) ≡ bridgeProposal C r
+  pub pocket-is : rankBridge C r (pocketBridge C (fullPair C) r (portsOf C r)) ≡ bridgeProposal C r
   unfolding pocketBridge bridgeProposal
   pocket-is = go (C .anchored r) (counted (portsOf C r) incidents-pass)
     where

@@ -26,19 +26,20 @@ unfoldable pub insertExterior : Pair → List ℕ → Option Pair → List ℕ
 insertExterior p exteriors none = exteriors
 insertExterior p exteriors (some q) = setInsert exteriors (cond (member (q .lo) (unionSet p)) (q .hi) (q .lo))
 
-module _ (C : Context) (p : Pair) where
+module _ (full : ℕ → Option Pair) (p : Pair) where
   --     for port in &ports { .. }
   unfoldable pub exteriorsFrom : List ℕ → List ℕ → List ℕ
   exteriorsFrom exteriors [] = exteriors
-  exteriorsFrom exteriors (j ∷ js) = exteriorsFrom (insertExterior p exteriors (fullPair C j)) js
+  exteriorsFrom exteriors (j ∷ js) = exteriorsFrom (insertExterior p exteriors (full j)) js
 
-  -- ---- and that it is the same
+-- ---- and that it is the same
 
+module _ (C : Context) (p : Pair) where
   insert-is : (exteriors : List ℕ) (q : Pair) → insertExterior p exteriors (some q) ≡ setInsert exteriors (exteriorOf p q)
   unfolding insertExterior
   insert-is exteriors q = rw (union-member (q .lo) p) refl
 
-  exteriors-append : (exteriors js ks : List ℕ) → exteriorsFrom exteriors (js ++ ks) ≡ exteriorsFrom (exteriorsFrom exteriors js) ks
+  exteriors-append : (exteriors js ks : List ℕ) → exteriorsFrom (fullPair C) p exteriors (js ++ ks) ≡ exteriorsFrom (fullPair C) p (exteriorsFrom (fullPair C) p exteriors js) ks
   unfolding exteriorsFrom
   exteriors-append exteriors [] ks = refl
   exteriors-append exteriors (j ∷ js) ks = exteriors-append (insertExterior p exteriors (fullPair C j)) js ks
@@ -46,13 +47,13 @@ module _ (C : Context) (p : Pair) where
   module _ (i : ℕ) where
     -- the set after the ports below n
     abbrev after : ℕ → List ℕ
-    after n = exteriorsFrom [] (numbersBelow n (isUnionPort C i p))
+    after n = exteriorsFrom (fullPair C) p [] (numbersBelow n (isUnionPort C i p))
 
     after-suc : (n : ℕ) → after (suc n) ≡ cond (isUnionPort C i p n) (insertExterior p (after n) (fullPair C n)) (after n)
     unfolding numbersBelow collect exteriorsFrom
     after-suc n = exteriors-append [] (numbersBelow n (isUnionPort C i p)) (toList (onlyIf (isUnionPort C i p n) n)) ∙ go (isUnionPort C i p n)
       where
-        go : (b : Bool) → exteriorsFrom (after n) (toList (onlyIf b n)) ≡ cond b (insertExterior p (after n) (fullPair C n)) (after n)
+        go : (b : Bool) → exteriorsFrom (fullPair C) p (after n) (toList (onlyIf b n)) ≡ cond b (insertExterior p (after n) (fullPair C n)) (after n)
         go true = refl
         go false = refl
 
@@ -97,5 +98,5 @@ module _ (C : Context) (p : Pair) where
         go false o = sym (add-zero (length (after n)))
 
     -- `exteriors.len()`, of the set that the ports of the union give
-    pub exteriors-length : length (exteriorsFrom [] (numbersBelow (C .count) (isUnionPort C i p))) ≡ countBelow (C .count) (isNewExterior C i p)
+    pub exteriors-length : length (exteriorsFrom (fullPair C) p [] (numbersBelow (C .count) (isUnionPort C i p))) ≡ countBelow (C .count) (isNewExterior C i p)
     exteriors-length = after-length (C .count)

@@ -1,5 +1,5 @@
 -- Full cuts as the Rust writes them (context.rs), and that in a sound context they are the definitions' full cuts. The argument: if the two counts are equal
--- and above 0 there is a separated step, so there is a pair; and the labels of every pair differ. Assumes nothing.
+-- and above 0 there is a separated step, so there is a pair; and the labels of every pair differ. Assumes a sound context.
 use Prim.Native.Nat.{ℕ, suc, _<_}
 use native.Mathlib.Omega.{arith}
 use mathlib.Core.Path.{_≡_, refl}

@@ -1,6 +1,5 @@
--- The map `incidents` of context.rs, as it is filled there boundary by boundary, pair by pair: its entries by ascending key. It has an entry for each region that a
--- pair names, and the entry is the set of the boundaries about that region. The argument: two ascending maps whose entries are not empty, and that hold the same at
--- every key, are one; and what the map holds at a key grows by a boundary where one of the boundary's pairs names the key. Assumes a sound context.
+-- The map `incidents` of context.rs as it is filled there, boundary by boundary, pair by pair; at a region it holds the boundaries about that region. The argument: what
+-- it holds there grows by a boundary where one of the boundary's pairs names the region. Assumes nothing.
 use Prim.Native.Nat.{ℕ, zero, suc}
 use mathlib.Core.Path.{_≡_, refl, sym, ap, ap₂, _∙_}
 use mathlib.Core.Bool.{Bool, true, false, _||_, cond}

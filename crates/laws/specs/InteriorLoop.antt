@@ -8,7 +8,7 @@ use Rattle.definitions.specs.Scan.{member, filter, toList}
 use Rattle.definitions.specs.Sort.{sort}
 use Rattle.definitions.specs.Context.{Context}
 use Rattle.laws.specs.Orderings.{isLess, thenWith}
-use Rattle.laws.specs.Ranking.{compareBoundaries}
+use Rattle.laws.specs.CompareBoundaries.{compareBoundaries}
 use Rattle.laws.specs.DepthFirstLiteral.{Search, graphKeys, searchFrom}
 use Rattle.laws.specs.ComponentLiteral.{isPassedOver, leavesComponent, portsFrom}
 use Rattle.laws.specs.InteriorLiteral.{fromPorts, isRetained}
@@ -48,7 +48,7 @@ module _ (C : Context) where
   --         endpoints(&boundaries[left.ports[0]]).cmp(&endpoints(&boundaries[right.ports[0]]))
   --     })
   unfoldable pub compareInteriors : InteriorRust → InteriorRust → Ordering
-  compareInteriors left right = thenWith (compare (left .rampId) (right .rampId)) (compareBoundaries (C .boundary (left .firstPort)) (C .boundary (right .firstPort)))
+  compareInteriors left right = thenWith (compare (left .rampId) (right .rampId)) (compareBoundaries (C .boundary (left .firstPort) .endpoints) (C .boundary (right .firstPort) .endpoints))
 
   --     proposals.sort_by(|left, right| ..);
   unfoldable pub sortInteriors : List InteriorRust → List InteriorRust

@@ -29,7 +29,7 @@ use Rattle.laws.specs.FullCut.{isEmpty}
 use Rattle.laws.specs.Sets
 use Rattle.laws.specs.Sets.{setExtend, numbersBelow, below-all, member-extend}
 use Rattle.laws.specs.Orderings.{isLess, thenWith, listCompare, list-compare}
-use Rattle.laws.specs.Ranking.{endpoints-compare}
+use Rattle.laws.specs.CompareBoundaries.{endpoints-compare}
 use Rattle.laws.specs.MouthKept.{Inhabited}
 use Rattle.laws.specs.KeptLists.{keepIf, filter-kept, filter-joined, collect-shift}
 use Rattle.laws.specs.ComponentRegions.{inside, allInside, edges-are}
@@ -193,7 +193,7 @@ module _ (C : Context) (sound : Sound C) (checked : Checked C) where
 
   rank-is : (p q : InteriorProposal) → ranksBefore C p q ≡ isLess (compareInteriors C (rendered C p) (rendered C q))
   unfolding ranksBefore compareInteriors key listCompare
-  rank-is p q = sym (ap (λ o. isLess (thenWith (compare (C .boundary (p .firstPort) .rampId) (C .boundary (q .firstPort) .rampId)) o)) (endpoints-compare (C .boundary (p .firstPort)) (C .boundary (q .firstPort))) ∙ list-compare (key C p) (key C q))
+  rank-is p q = sym (ap (λ o. isLess (thenWith (compare (C .boundary (p .firstPort) .rampId) (C .boundary (q .firstPort) .rampId)) o)) (endpoints-compare (C .boundary (p .firstPort) .endpoints) (C .boundary (q .firstPort) .endpoints)) ∙ list-compare (key C p) (key C q))
 
   -- the set that the Rust fills is the set of the boundaries that the definitions remove
   pub removed-set : removedSet C ≡ setExtend [] (removed C)

@@ -3,7 +3,7 @@
 -- Ranking and Selection3. Assumes a sound context.
 use Prim.Native.Nat.{ℕ, zero, suc, _<_}
 use native.Mathlib.Omega.{arith}
-use mathlib.Core.Path.{_≡_, refl, sym, ap, ap₂, _∙_}
+use mathlib.Core.Path.{_≡_, refl, sym, ap, ap₂, _∙_, fun-ext}
 use mathlib.Core.Bool.{Bool, true, false, not, _&&_, _||_, cond, or-false, and-true, and-comm}
 use mathlib.Core.Option.{Option, none, some, Option·map}
 use mathlib.Core.List.{List, [], _∷_, _++_, map, append-nil, append-assoc}
@@ -16,6 +16,7 @@ use Rattle.definitions.specs.Junctions.{anchoredRegions, isUnionPort, unionShap
 use Rattle.laws.specs.Lists.{filter-append, map-append}
 use Rattle.laws.specs.Scans.{collect-ext}
 use Rattle.laws.specs.SoundContext.{Sound}
+use Rattle.laws.specs.FullCut.{fullPairRust, full-pair}
 use Rattle.laws.specs.Sets.{setExtend, numbersBelow, member-extend}
 use Rattle.laws.specs.Entries.{Entry}
 use Rattle.laws.specs.IncidentMap.{incidents}
@@ -32,29 +33,34 @@ use Rattle.laws.specs.FormedProposals.{proposals-formed, selected-set}
 -- ---- as the Rust writes it
 
 module _ (C : Context) where
-  --     for (index, entry) in metadata.iter().enumerate() { .. }
-  unfoldable pub unionProposals : List UnionStruct
-  unionProposals = collect (C .count) (λ i. unionOfPair C i (fullPair C i))
-
-  --     bridge_proposals.push(BridgeProposal { index, pocket: *pocket, exterior, ports: ports.clone() });
   abbrev pub bridgeWith : Entry → Bridge → BridgeStruct
   bridgeWith e b = record { index = b .index; pocket = e .region; exterior = b .exterior; ports = e .boundaries }
-
-  --     for (pocket, ports) in &ctx.incidents { .. }
-  unfoldable pub bridgeProposals : List BridgeStruct
-  bridgeProposals = concatMap (λ e. toList (Option·map (bridgeWith e) (pocketBridge C (e .region) (e .boundaries)))) (incidents C)
 
   unfoldable pub bridgePasses : BridgeStruct → Bool
   bridgePasses x = bridgeIsLocal C (x .index) (statsOf C (x .pocket))
 
+-- `full` is `full_pair(&metadata[..])`
+module _ (C : Context) (full : ℕ → Option Pair) where
+  --     for (index, entry) in metadata.iter().enumerate() { .. }
+  unfoldable pub unionProposals : List UnionStruct
+  unionProposals = collect (C .count) (λ i. unionOfPair C full i (full i))
+
+  --     for (pocket, ports) in &ctx.incidents { ..; bridge_proposals.push(BridgeProposal { index, pocket: *pocket, exterior, ports: ports.clone() }); }
+  unfoldable pub bridgeProposals : List BridgeStruct
+  bridgeProposals = concatMap (λ e. toList (Option·map (bridgeWith C e) (pocketBridge C full (e .region) (e .boundaries)))) (incidents C)
+
   --     for proposal in union_proposals { ..; if .. { ranked.push(Proposal::Union(proposal)); } }
   --     for proposal in bridge_proposals { ..; if .. { ranked.push(Proposal::Bridge(proposal)); } }
   unfoldable pub rankedProposals : List ProposalEnum
-  rankedProposals = map union (filter (unionPasses C) unionProposals) ++ map bridge (filter bridgePasses bridgeProposals)
+  rankedProposals = map union (filter (unionPasses C) unionProposals) ++ map bridge (filter (bridgePasses C) bridgeProposals)
 
   --     let removed = select_proposals(boundaries, ranked);
+  unfoldable pub removedWith : List ℕ
+  removedWith = selectProposals (sortProposals C rankedProposals)
+
+module _ (C : Context) where
   unfoldable pub removedSet : List ℕ
-  removedSet = selectProposals (sortProposals C rankedProposals)
+  removedSet = removedWith C (λ j. fullPairRust (C .removedEdges j) (C .separatedEdges j) (C .pairs j))
 
 -- ---- and that it is the same
 
@@ -85,7 +91,7 @@ module _ (C : Context) where
 
   module _ (sound : Sound C) where
     -- a boundary that is a full pair
-    union-at : (i : ℕ) (p : Pair) → i < C .count → map union (filter (unionPasses C) (toList (unionOfPair C i (some p)))) ≡ map (asEnum C) (toList (onlyIf (unionShape C i p && unionRegions C i p) (record { index = i; kind = 0; first = p .lo; second = p .hi })))
+    union-at : (i : ℕ) (p : Pair) → i < C .count → map union (filter (unionPasses C) (toList (unionOfPair C (fullPair C) i (some p)))) ≡ map (asEnum C) (toList (onlyIf (unionShape C i p && unionRegions C i p) (record { index = i; kind = 0; first = p .lo; second = p .hi })))
     unfolding filter
     union-at i p h = ap (λ o. map union (filter (unionPasses C) (toList o))) (union-is C i p sound h) ∙ shape (unionShape C i p)
       where
@@ -97,15 +103,15 @@ module _ (C : Context) where
         shape true = regions (unionRegions C i p) (passes-is C i p)
         shape false = refl
 
-    unions-at : (i : ℕ) → i < C .count → (o : Option Pair) → map union (filter (unionPasses C) (toList (unionOfPair C i o))) ≡ map (asEnum C) (toList (unionFrom C i o))
+    unions-at : (i : ℕ) → i < C .count → (o : Option Pair) → map union (filter (unionPasses C) (toList (unionOfPair C (fullPair C) i o))) ≡ map (asEnum C) (toList (unionFrom C i o))
     unfolding unionOfPair unionFrom filter
     unions-at i h none = refl
     unions-at i h (some p) = union-at i p h
 
-    unions-are : map union (filter (unionPasses C) (unionProposals C)) ≡ map (asEnum C) (collect (C .count) (unionProposal C))
+    unions-are : map union (filter (unionPasses C) (unionProposals C (fullPair C))) ≡ map (asEnum C) (collect (C .count) (unionProposal C))
     unfolding unionProposals unionProposal collect
     unions-are =
-        collected union (unionPasses C) (asEnum C) (C .count) (λ i. toList (unionOfPair C i (fullPair C i))) (unionProposal C) (λ n. collect n (λ i. unionOfPair C i (fullPair C i))) refl (λ i h. refl)
+        collected union (unionPasses C) (asEnum C) (C .count) (λ i. toList (unionOfPair C (fullPair C) i (fullPair C i))) (unionProposal C) (λ n. collect n (λ i. unionOfPair C (fullPair C) i (fullPair C i))) refl (λ i h. refl)
         (λ i h. unions-at i h (fullPair C i))
 
     -- a pocket
@@ -119,13 +125,13 @@ module _ (C : Context) where
         go false = refl
 
     abbrev bridgesOf : Entry → List BridgeStruct
-    bridgesOf e = toList (Option·map (bridgeWith C e) (pocketBridge C (e .region) (e .boundaries)))
+    bridgesOf e = toList (Option·map (bridgeWith C e) (pocketBridge C (fullPair C) (e .region) (e .boundaries)))
 
-    pocket-empty : (r : ℕ) → pocketBridge C r [] ≡ none
+    pocket-empty : (r : ℕ) → pocketBridge C (fullPair C) r [] ≡ none
     unfolding pocketBridge any
     pocket-empty r = go (C .anchored r)
       where
-        go : (b : Bool) → cond (b || true) none (bridgeOfGroups C [] (groupsFrom C r [] [])) ≡ none
+        go : (b : Bool) → cond (b || true) none (bridgeOfGroups C [] (groupsFrom (fullPair C) r [] [])) ≡ none
         go true = refl
         go false = refl
 
@@ -135,9 +141,9 @@ module _ (C : Context) where
     entry-bridges r (x ∷ l) = append-nil (bridgesOf (record { region = r; boundaries = x ∷ l }))
 
     bridges-at : (r : ℕ) → map bridge (filter (bridgePasses C) (concatMap bridgesOf (toList (entryOf r (portsOf C r))))) ≡ map (asEnum C) (toList (bridgeProposal C r))
-    bridges-at r = ap (λ l. map bridge (filter (bridgePasses C) l)) (entry-bridges r (portsOf C r)) ∙ bridge-at r (portsOf C r) refl (pocketBridge C r (portsOf C r)) ∙ ap (λ o. map (asEnum C) (toList o)) (pocket-is C r)
+    bridges-at r = ap (λ l. map bridge (filter (bridgePasses C) l)) (entry-bridges r (portsOf C r)) ∙ bridge-at r (portsOf C r) refl (pocketBridge C (fullPair C) r (portsOf C r)) ∙ ap (λ o. map (asEnum C) (toList o)) (pocket-is C r)
 
-    bridges-are : map bridge (filter (bridgePasses C) (bridgeProposals C)) ≡ map (asEnum C) (collect (C .regions) (λ k. bridgeProposal C (suc k)))
+    bridges-are : map bridge (filter (bridgePasses C) (bridgeProposals C (fullPair C))) ≡ map (asEnum C) (collect (C .regions) (λ k. bridgeProposal C (suc k)))
     unfolding bridgeProposals collect concatMap
     bridges-are =
         ap (λ es. map bridge (filter (bridgePasses C) (concatMap bridgesOf es))) (incidents-are C sound)
@@ -145,17 +151,21 @@ module _ (C : Context) where
         (λ n. concatMap bridgesOf (collect n (λ k. entryOf (suc k) (portsOf C (suc k))))) refl
         (λ k h. concat-append bridgesOf (collect k (λ k. entryOf (suc k) (portsOf C (suc k)))) (toList (entryOf (suc k) (portsOf C (suc k))))) (λ k h. bridges-at (suc k))
 
-    proposals-are : rankedProposals C ≡ map (asEnum C) (proposals C)
+    proposals-are : rankedProposals C (fullPair C) ≡ map (asEnum C) (proposals C)
     unfolding rankedProposals proposals
     proposals-are = ap₂ _++_ unions-are bridges-are ∙ sym (map-append (asEnum C) (collect (C .count) (unionProposal C)) (collect (C .regions) (λ k. bridgeProposal C (suc k))))
+
+    same-ranked : selectProposals (map (asEnum C) (sort (ranksBefore C) (proposals C))) ≡ setExtend [] (removed C)
+    same-ranked = unfold ranked in (selected-set C sound)
+
+    removed-with : removedWith C (fullPair C) ≡ setExtend [] (removed C)
+    unfolding removedWith
+    removed-with = ap (λ l. selectProposals (sortProposals C l)) proposals-are ∙ ap selectProposals (sym (ranked-is C sound (proposals-formed C sound))) ∙ same-ranked
 
     -- the set that the Rust returns is the set of the boundaries that the definitions remove
     pub removed-set : removedSet C ≡ setExtend [] (removed C)
     unfolding removedSet
-    removed-set = ap (λ l. selectProposals (sortProposals C l)) proposals-are ∙ ap selectProposals (sym (ranked-is C sound (proposals-formed C sound))) ∙ same-ranked
-      where
-        same-ranked : selectProposals (map (asEnum C) (sort (ranksBefore C) (proposals C))) ≡ setExtend [] (removed C)
-        same-ranked = unfold ranked in (selected-set C sound)
+    removed-set = ap (removedWith C) (fun-ext (λ j. sym (full-pair C sound j))) ∙ removed-with
 
     -- so it removes what they remove
     pub removed-member : (j : ℕ) → member j (removedSet C) ≡ member j (removed C)

@@ -42,6 +42,7 @@ pub mod Ports
 pub mod Exteriors
 pub mod WidestPort
 pub mod Orderings
+pub mod CompareBoundaries
 pub mod JunctionProposals
 pub mod Unions
 pub mod Ranking
@@ -52,6 +53,9 @@ pub mod BridgeGroups
 pub mod Bridges
 pub mod UnionRegions
 pub mod JunctionsAsRust
+pub mod SoundMaps
+pub mod CanonicalOutput
+pub mod JunctionRows
 pub mod ListsAsSets
 pub mod SortedMembers
 pub mod Stars

@@ -25,7 +25,7 @@ use Rattle.laws.specs.SoundContext.{Sound}
 use Rattle.laws.specs.CheckedContext.{Checked}
 use Rattle.laws.specs.Sets.{setExtend, member-extend}
 use Rattle.laws.specs.Orderings.{isLess, thenWith, listCompare, list-compare, list-append}
-use Rattle.laws.specs.Ranking.{compareBoundaries, endpoints-compare}
+use Rattle.laws.specs.CompareBoundaries.{compareBoundaries, endpoints-compare}
 use Rattle.laws.specs.Separations.{Apart, partialCmp, orEqual, partial-is, separation-apart}
 use Rattle.laws.specs.MouthLoop.{MouthRust, proposalsRust}
 use Rattle.laws.specs.MouthKept.{rendered}
@@ -49,8 +49,8 @@ module _ (C : Context) where
   unfoldable pub compareMouths : MouthRust → MouthRust → Ordering
   compareMouths left right =
       thenWith
-      (thenWith (orEqual (partialCmp (left .separation) (right .separation))) (compareBoundaries (C .boundary (left .mouthIndex)) (C .boundary (right .mouthIndex))))
-      (compareBoundaries (C .boundary (left .rampIndex)) (C .boundary (right .rampIndex)))
+      (thenWith (orEqual (partialCmp (left .separation) (right .separation))) (compareBoundaries (C .boundary (left .mouthIndex) .endpoints) (C .boundary (right .mouthIndex) .endpoints)))
+      (compareBoundaries (C .boundary (left .rampIndex) .endpoints) (C .boundary (right .rampIndex) .endpoints))
 
   --     proposals.sort_by(|left, right| ..);
   unfoldable pub sortMouths : List MouthRust → List MouthRust
@@ -70,7 +70,7 @@ module _ (C : Context) where
   compared : (p q : MouthProposal) → Apart (p .separation) → Apart (q .separation) → compareMouths C (rendered C p) (rendered C q) ≡ listCompare (key C p) (key C q)
   unfolding compareMouths key listCompare
   compared p q a b =
-      (λ i. thenWith (thenWith (partial-is (p .separation) (q .separation) a b i) (endpoints-compare (C .boundary (p .mouthIndex)) (C .boundary (q .mouthIndex)) i)) (endpoints-compare (C .boundary (p .rampIndex)) (C .boundary (q .rampIndex)) i))
+      (λ i. thenWith (thenWith (partial-is (p .separation) (q .separation) a b i) (endpoints-compare (C .boundary (p .mouthIndex) .endpoints) (C .boundary (q .mouthIndex) .endpoints) i)) (endpoints-compare (C .boundary (p .rampIndex) .endpoints) (C .boundary (q .rampIndex) .endpoints) i))
       ∙ sym (list-append (toBits binary64 (p .separation) ∷ endpointsKey (C .boundary (p .mouthIndex) .endpoints)) (toBits binary64 (q .separation) ∷ endpointsKey (C .boundary (q .mouthIndex) .endpoints)) (endpointsKey (C .boundary (p .rampIndex) .endpoints)) (endpointsKey (C .boundary (q .rampIndex) .endpoints)) refl)
 
   rank-is : (p q : MouthProposal) → Good p → Good q → ranksBefore C p q ≡ isLess (compareMouths C (rendered C p) (rendered C q))

@@ -12,11 +12,12 @@ use borrow.Author.Tests.{eqb-true}
 use Rattle.definitions.specs.Scan.{any, all, member, allBelow, countBelow}
 use Rattle.definitions.specs.Grid.{Pair, contains}
 use Rattle.definitions.specs.Context.{Context, holds, fullPair, isIncident}
-use Rattle.definitions.specs.Junctions.{fitsUnion, isUnionPort, portsFit, portsOf}
+use Rattle.definitions.specs.Junctions.{fitsUnion, isUnionPort, portsFit}
 use Rattle.laws.specs.ListOrder.{eqb-sym}
 use Rattle.laws.specs.Tests.{both}
 use Rattle.laws.specs.ScansOfAll.{all-ext, all-and}
-use Rattle.laws.specs.IncidentMap.{incidents-below}
+use Rattle.laws.specs.Entries.{Entry, boundariesAt}
+use Rattle.laws.specs.IncidentMap.{incidents, incidents-below, incidents-get}
 use Rattle.laws.specs.Sets.{setInsert, numbersBelow, Ascending, none, member-insert, insert-ascending, member-below, length-below, all-below, set-below}
 
 -- ---- as the Rust writes it
@@ -35,7 +36,8 @@ pub record Walked : Type 0 where
   pub valid : Bool
   pub ports : List ℕ
 
-module _ (C : Context) where
+-- `full` is `full_pair(&metadata[..])` (FullCut)
+module _ (full : ℕ → Option Pair) where
   --     for other_index in ctx.incidents.get(&region).into_iter().flatten() {
   --         if *other_index == index { continue; }
   --         ..                                          -- `isUnfit`: the walk ends
@@ -45,13 +47,13 @@ module _ (C : Context) where
   walkRegion i p ports [] = record { valid = true; ports = ports }
   walkRegion i p ports (j ∷ js) =
       cond (eqb j i) (walkRegion i p ports js)
-      (cond (isUnfit p (fullPair C j)) (record { valid = false; ports = ports }) (walkRegion i p (setInsert ports j) js))
+      (cond (isUnfit p (full j)) (record { valid = false; ports = ports }) (walkRegion i p (setInsert ports j) js))
 
   --     for region in pair { ..; if !valid { break; } }
-  unfoldable pub walkUnion : ℕ → Pair → Walked
-  walkUnion i p =
-      let first = walkRegion i p [] (portsOf C (p .lo)) in
-      cond (first .valid) (walkRegion i p (first .ports) (portsOf C (p .hi))) first
+  unfoldable pub walkUnion : List Entry → ℕ → Pair → Walked
+  walkUnion incidents i p =
+      let first = walkRegion i p [] (boundariesAt incidents (p .lo)) in
+      cond (first .valid) (walkRegion i p (first .ports) (boundariesAt incidents (p .hi))) first
 
 -- ---- and that it is the same
 
@@ -83,14 +85,14 @@ module _ (C : Context) (i : ℕ) (p : Pair) where
 
   -- the walk at incident j, by the two tests that are made of it
   abbrev walkAt : List ℕ → ℕ → List ℕ → Bool → Bool → Walked
-  walkAt ports j js own unfit = cond own (walkRegion C i p ports js) (cond unfit (record { valid = false; ports = ports }) (walkRegion C i p (setInsert ports j) js))
+  walkAt ports j js own unfit = cond own (walkRegion (fullPair C) i p ports js) (cond unfit (record { valid = false; ports = ports }) (walkRegion (fullPair C) i p (setInsert ports j) js))
 
-  region-valid : (ports js : List ℕ) → walkRegion C i p ports js .valid ≡ all passes js
+  region-valid : (ports js : List ℕ) → walkRegion (fullPair C) i p ports js .valid ≡ all passes js
   unfolding walkRegion all
   region-valid ports [] = refl
   region-valid ports (j ∷ js) = go (eqb j i) (isUnfit p (fullPair C j)) (region-valid ports js) (region-valid (setInsert ports j) js)
     where
-      go : (a b : Bool) → walkRegion C i p ports js .valid ≡ all passes js → walkRegion C i p (setInsert ports j) js .valid ≡ all passes js → walkAt ports j js a b .valid ≡ ((a || not b) && all passes js)
+      go : (a b : Bool) → walkRegion (fullPair C) i p ports js .valid ≡ all passes js → walkRegion (fullPair C) i p (setInsert ports j) js .valid ≡ all passes js → walkAt ports j js a b .valid ≡ ((a || not b) && all passes js)
       go true b h k = h
       go false true h k = refl
       go false false h k = k
@@ -99,7 +101,7 @@ module _ (C : Context) (i : ℕ) (p : Pair) where
   abbrev Filled : List ℕ → List ℕ → Walked → Type 0
   Filled ports js w = w .valid ≡ true → (x : ℕ) → member x (w .ports) ≡ (member x ports || (member x js && not (eqb x i)))
 
-  region-ports : (ports js : List ℕ) → Filled ports js (walkRegion C i p ports js)
+  region-ports : (ports js : List ℕ) → Filled ports js (walkRegion (fullPair C) i p ports js)
   unfolding walkRegion member any
   region-ports ports [] = λ h x. sym (or-false (member x ports))
   region-ports ports (j ∷ js) = go (eqb j i) refl (isUnfit p (fullPair C j)) (region-ports ports js) (region-ports (setInsert ports j) js)
@@ -113,17 +115,17 @@ module _ (C : Context) (i : ℕ) (p : Pair) where
       other x true f e mp m = rw (eqb-true x j e, f) (sym (or-true mp))
       other x false f e mp m = refl
 
-      go : (a : Bool) → eqb j i ≡ a → (b : Bool) → Filled ports js (walkRegion C i p ports js) → Filled (setInsert ports j) js (walkRegion C i p (setInsert ports j) js) → Filled ports (j ∷ js) (walkAt ports j js a b)
+      go : (a : Bool) → eqb j i ≡ a → (b : Bool) → Filled ports js (walkRegion (fullPair C) i p ports js) → Filled (setInsert ports j) js (walkRegion (fullPair C) i p (setInsert ports j) js) → Filled ports (j ∷ js) (walkAt ports j js a b)
       go true e b ih ih′ h x = ih h x ∙ ap (λ c. member x ports || c) (rw (eqb-true j i e) (own (eqb x i) (member x js)))
       go false e true ih ih′ h x = absurd (false≢true h)
       go false e false ih ih′ h x = ih′ h x ∙ ap (λ c. c || (member x js && not (eqb x i))) (member-insert x ports j) ∙ other x (eqb x j) e refl (member x ports) (member x js)
 
-  region-ascending : {ports : List ℕ} (js : List ℕ) → Ascending ports → Ascending (walkRegion C i p ports js .ports)
+  region-ascending : {ports : List ℕ} (js : List ℕ) → Ascending ports → Ascending (walkRegion (fullPair C) i p ports js .ports)
   unfolding walkRegion
   region-ascending [] s = s
   region-ascending {ports} (j ∷ js) s = go (eqb j i) (isUnfit p (fullPair C j)) (region-ascending js s) (region-ascending js (insert-ascending j s))
     where
-      go : (a b : Bool) → Ascending (walkRegion C i p ports js .ports) → Ascending (walkRegion C i p (setInsert ports j) js .ports) → Ascending (walkAt ports j js a b .ports)
+      go : (a b : Bool) → Ascending (walkRegion (fullPair C) i p ports js .ports) → Ascending (walkRegion (fullPair C) i p (setInsert ports j) js .ports) → Ascending (walkAt ports j js a b .ports)
       go true b h k = h
       go false true h k = s
       go false false h k = k
@@ -147,16 +149,16 @@ module _ (C : Context) (i : ℕ) (p : Pair) where
       order false false true u = refl
       order false false false u = refl
 
-  all-passes : (r : ℕ) → all passes (portsOf C r) ≡ allBelow (C .count) (λ j. not (isIncident C j r) || passes j)
-  all-passes r = ap (all passes) (incidents-below C r) ∙ all-below (λ j. isIncident C j r) passes (C .count)
+  all-passes : (r : ℕ) → all passes (boundariesAt (incidents C) r) ≡ allBelow (C .count) (λ j. not (isIncident C j r) || passes j)
+  all-passes r = ap (all passes) (incidents-get C r ∙ incidents-below C r) ∙ all-below (λ j. isIncident C j r) passes (C .count)
 
   abbrev first : Walked
-  first = walkRegion C i p [] (portsOf C (p .lo))
+  first = walkRegion (fullPair C) i p [] (boundariesAt (incidents C) (p .lo))
 
   abbrev second : Walked
-  second = walkRegion C i p (first .ports) (portsOf C (p .hi))
+  second = walkRegion (fullPair C) i p (first .ports) (boundariesAt (incidents C) (p .hi))
 
-  walk-both : walkUnion C i p .valid ≡ (first .valid && second .valid)
+  walk-both : walkUnion (fullPair C) (incidents C) i p .valid ≡ (first .valid && second .valid)
   unfolding walkUnion
   walk-both = go (first .valid) refl
     where
@@ -164,26 +166,26 @@ module _ (C : Context) (i : ℕ) (p : Pair) where
       go true e = refl
       go false e = e
 
-  pub walk-valid : walkUnion C i p .valid ≡ portsFit C i p
+  pub walk-valid : walkUnion (fullPair C) (incidents C) i p .valid ≡ portsFit C i p
   unfolding portsFit
   walk-valid =
-      walk-both ∙ ap₂ _&&_ (region-valid [] (portsOf C (p .lo)) ∙ all-passes (p .lo)) (region-valid (first .ports) (portsOf C (p .hi)) ∙ all-passes (p .hi))
+      walk-both ∙ ap₂ _&&_ (region-valid [] (boundariesAt (incidents C) (p .lo)) ∙ all-passes (p .lo)) (region-valid (first .ports) (boundariesAt (incidents C) (p .hi)) ∙ all-passes (p .hi))
       ∙ all-and (λ j. not (isIncident C j (p .lo)) || passes j) (λ j. not (isIncident C j (p .hi)) || passes j) (C .count)
       ∙ all-ext (λ j. (not (isIncident C j (p .lo)) || passes j) && (not (isIncident C j (p .hi)) || passes j)) (λ j. not (isUnionPort C i p j) || holds (fullPair C j) (fitsUnion p)) (C .count) (λ j h. asked j)
 
-  incident-member : (x r : ℕ) → member x (portsOf C r) ≡ (ltb x (C .count) && isIncident C x r)
-  incident-member x r = ap (member x) (incidents-below C r) ∙ member-below (λ j. isIncident C j r) x (C .count)
+  incident-member : (x r : ℕ) → member x (boundariesAt (incidents C) r) ≡ (ltb x (C .count) && isIncident C x r)
+  incident-member x r = ap (member x) (incidents-get C r ∙ incidents-below C r) ∙ member-below (λ j. isIncident C j r) x (C .count)
 
-  both-ports : first .valid ≡ true → walkUnion C i p .ports ≡ second .ports
+  both-ports : first .valid ≡ true → walkUnion (fullPair C) (incidents C) i p .ports ≡ second .ports
   unfolding walkUnion
   both-ports h = rw h refl
 
-  pub walk-member : walkUnion C i p .valid ≡ true → (x : ℕ) → member x (walkUnion C i p .ports) ≡ (ltb x (C .count) && isUnionPort C i p x)
+  pub walk-member : walkUnion (fullPair C) (incidents C) i p .valid ≡ true → (x : ℕ) → member x (walkUnion (fullPair C) (incidents C) i p .ports) ≡ (ltb x (C .count) && isUnionPort C i p x)
   unfolding isUnionPort member any
   walk-member h x =
       let valid = both (first .valid) (second .valid) (sym walk-both ∙ h) in
-      ap (member x) (both-ports (valid .0)) ∙ region-ports (first .ports) (portsOf C (p .hi)) (valid .1) x
-      ∙ ap₂ (λ a b. a || (b && not (eqb x i))) (region-ports [] (portsOf C (p .lo)) (valid .0) x ∙ ap (λ a. a && not (eqb x i)) (incident-member x (p .lo))) (incident-member x (p .hi))
+      ap (member x) (both-ports (valid .0)) ∙ region-ports (first .ports) (boundariesAt (incidents C) (p .hi)) (valid .1) x
+      ∙ ap₂ (λ a b. a || (b && not (eqb x i))) (region-ports [] (boundariesAt (incidents C) (p .lo)) (valid .0) x ∙ ap (λ a. a && not (eqb x i)) (incident-member x (p .lo))) (incident-member x (p .hi))
       ∙ order (ltb x (C .count)) (isIncident C x (p .lo)) (isIncident C x (p .hi)) (not (eqb x i))
     where
       order : (l a b n : Bool) → (l && a && n || (l && b && n)) ≡ (l && (n && (a || b)))
@@ -197,18 +199,18 @@ module _ (C : Context) (i : ℕ) (p : Pair) where
       order true false false false = refl
       order false a b n = refl
 
-  walk-ascending : Ascending (walkUnion C i p .ports)
+  walk-ascending : Ascending (walkUnion (fullPair C) (incidents C) i p .ports)
   unfolding walkUnion
   walk-ascending = go (first .valid)
     where
       go : (b : Bool) → Ascending ((cond b second first) .ports)
-      go true = region-ascending (portsOf C (p .hi)) (region-ascending (portsOf C (p .lo)) none)
-      go false = region-ascending (portsOf C (p .lo)) none
+      go true = region-ascending (boundariesAt (incidents C) (p .hi)) (region-ascending (boundariesAt (incidents C) (p .lo)) none)
+      go false = region-ascending (boundariesAt (incidents C) (p .lo)) none
 
   -- the set, as a list
-  pub walk-ports : walkUnion C i p .valid ≡ true → walkUnion C i p .ports ≡ numbersBelow (C .count) (isUnionPort C i p)
+  pub walk-ports : walkUnion (fullPair C) (incidents C) i p .valid ≡ true → walkUnion (fullPair C) (incidents C) i p .ports ≡ numbersBelow (C .count) (isUnionPort C i p)
   walk-ports h = set-below (isUnionPort C i p) (C .count) walk-ascending (walk-member h)
 
   -- `ports.len()`
-  pub walk-length : walkUnion C i p .valid ≡ true → length (walkUnion C i p .ports) ≡ countBelow (C .count) (isUnionPort C i p)
+  pub walk-length : walkUnion (fullPair C) (incidents C) i p .valid ≡ true → length (walkUnion (fullPair C) (incidents C) i p .ports) ≡ countBelow (C .count) (isUnionPort C i p)
   walk-length h = ap length (walk-ports h) ∙ length-below (isUnionPort C i p) (C .count)

@@ -7,16 +7,15 @@ use mathlib.Core.Path.{_≡_, refl, sym, ap, ap₂, _∙_}
 use mathlib.Core.Bool.{cond}
 use mathlib.Core.List.{List, [], _∷_, map}
 use lib.Dec.{ltb}
-use borrow.Author.Tests.{lt-ltb, le-ltb}
+use borrow.Author.Tests.{lt-ltb}
 use Rattle.definitions.specs.Sort.{sort}
-use Rattle.definitions.specs.Grid.{Position, Segment, Boundary, positionLt, canonical}
-use Rattle.definitions.specs.Context.{Context, endpointsKey}
+use Rattle.definitions.specs.Context.{Context}
 use Rattle.definitions.specs.Junctions.{Proposal, boundaryKey, tieKey, key, ranksBefore}
 use Rattle.laws.specs.Lists.{All}
 use Rattle.laws.specs.StableSort.{map-sort}
 use Rattle.laws.specs.SoundContext.{Sound}
-use Rattle.laws.specs.ListOrder.{Three, less, same, over, three}
-use Rattle.laws.specs.Orderings.{isLess, thenWith, listCompare, compare-less, compare-same, compare-over, compare-ltb, compare-from, list-compare, list-pair, list-append}
+use Rattle.laws.specs.Orderings.{isLess, thenWith, listCompare, compare-from, list-compare, list-append}
+use Rattle.laws.specs.CompareBoundaries.{compareBoundaries, endpoints-compare}
 use Rattle.laws.specs.JunctionProposals.{ProposalEnum, union, bridge, indexOf, enumOf, asEnum, Formed, ofUnion, ofBridge, index-below}
 
 -- ---- as the Rust writes it
@@ -25,20 +24,6 @@ use Rattle.laws.specs.JunctionProposals.{ProposalEnum, union, bridge, in
 -- pattern is the lesser
 unfoldable pub totalCmp : ℕ → ℕ → Ordering
 totalCmp a b = cond (ltb a (2 ^ 63)) (cond (ltb b (2 ^ 63)) (compare a b) Ordering·gt) (cond (ltb b (2 ^ 63)) Ordering·lt (compare b a))
-
--- `Ord` of PixelPosition, derived: x, then y
-abbrev pub comparePositions : Position → Position → Ordering
-comparePositions p q = thenWith (compare (p .x) (q .x)) (compare (p .y) (q .y))
-
---     endpoints.sort();
-unfoldable pub sortEndpoints : Segment → Segment
-sortEndpoints s = cond (isLess (comparePositions (s .b) (s .a))) (record { a = s .b; b = s .a }) s
-
---     canonical(left.endpoints).cmp(&canonical(right.endpoints))
-unfoldable pub compareBoundaries : Boundary → Boundary → Ordering
-compareBoundaries left right =
-    thenWith (comparePositions (sortEndpoints (left .endpoints) .a) (sortEndpoints (right .endpoints) .a))
-    (comparePositions (sortEndpoints (left .endpoints) .b) (sortEndpoints (right .endpoints) .b))
 
 --     Self::Union(x) => (0, x.pair[0].min(x.pair[1]), x.pair[0].max(x.pair[1])),
 --     Self::Bridge(x) => (1, x.pocket, x.exterior),
@@ -54,7 +39,7 @@ module _ (C : Context) where
   compareProposals left right =
       thenWith
       (thenWith (totalCmp (C .boundary (indexOf right) .widthBits) (C .boundary (indexOf left) .widthBits))
-      (compareBoundaries (C .boundary (indexOf left)) (C .boundary (indexOf right))))
+      (compareBoundaries (C .boundary (indexOf left) .endpoints) (C .boundary (indexOf right) .endpoints)))
       (listCompare (tieKeyOf left) (tieKeyOf right))
 
   --     ranked.sort_by(|left, right| ..);
@@ -67,27 +52,6 @@ module _ (C : Context) where
 pub wider-first : (a b : ℕ) → a < 2 ^ 63 → b < 2 ^ 63 → totalCmp b a ≡ compare (2 ^ 64 - a) (2 ^ 64 - b)
 unfolding totalCmp
 wider-first a b h k = rw (lt-ltb a (2 ^ 63) h, lt-ltb b (2 ^ 63) k) (sym (compare-from (2 ^ 64) a b (omega arith) (omega arith)))
-
-position-less : (p q : Position) → isLess (comparePositions p q) ≡ positionLt p q
-position-less p q = go (three (p .x) (q .x))
-  where
-    go : Three (p .x) (q .x) → isLess (comparePositions p q) ≡ positionLt p q
-    go (less h) = rw (compare-less (p .x) (q .x) h, lt-ltb (p .x) (q .x) h) refl
-    go (same h) = rw (compare-same (p .x) (q .x) h, le-ltb (p .x) (q .x) (omega arith)) (compare-ltb (p .y) (q .y))
-    go (over h) = rw (compare-over (p .x) (q .x) h, le-ltb (p .x) (q .x) (omega arith)) refl
-
-sorted-is : (s : Segment) → sortEndpoints s ≡ canonical s
-unfolding sortEndpoints canonical
-sorted-is s = ap (λ t. cond t (record { a = s .b; b = s .a }) s) (position-less (s .b) (s .a))
-
-pub endpoints-compare : (b c : Boundary) → compareBoundaries b c ≡ listCompare (endpointsKey (b .endpoints)) (endpointsKey (c .endpoints))
-unfolding compareBoundaries endpointsKey
-endpoints-compare b c =
-    (λ i. thenWith (comparePositions (sorted-is (b .endpoints) i .a) (sorted-is (c .endpoints) i .a)) (comparePositions (sorted-is (b .endpoints) i .b) (sorted-is (c .endpoints) i .b)))
-    ∙ sym (both-ends (canonical (b .endpoints)) (canonical (c .endpoints)))
-  where
-    both-ends : (s t : Segment) → listCompare (s .a .x ∷ s .a .y ∷ s .b .x ∷ s .b .y ∷ []) (t .a .x ∷ t .a .y ∷ t .b .x ∷ t .b .y ∷ []) ≡ thenWith (comparePositions (s .a) (t .a)) (comparePositions (s .b) (t .b))
-    both-ends s t = list-append (s .a .x ∷ s .a .y ∷ []) (t .a .x ∷ t .a .y ∷ []) (s .b .x ∷ s .b .y ∷ []) (t .b .x ∷ t .b .y ∷ []) refl ∙ ap₂ thenWith (list-pair (s .a .x) (t .a .x) (s .a .y) (t .a .y)) (list-pair (s .b .x) (t .b .x) (s .b .y) (t .b .y))
 
 module _ (C : Context) where
   index-is : (k : ℕ) (p : Proposal) → indexOf (enumOf C k p) ≡ p .index
@@ -120,9 +84,9 @@ module _ (C : Context) where
     compared =
         (λ i. thenWith
         (thenWith (totalCmp (C .boundary (index-is (q .kind) q i) .widthBits) (C .boundary (index-is (p .kind) p i) .widthBits))
-        (compareBoundaries (C .boundary (index-is (p .kind) p i)) (C .boundary (index-is (q .kind) q i))))
+        (compareBoundaries (C .boundary (index-is (p .kind) p i) .endpoints) (C .boundary (index-is (q .kind) q i) .endpoints)))
         (listCompare (tie-is p fp i) (tie-is q fq i)))
-        ∙ (λ i. thenWith (thenWith (wider-first (C .boundary (p .index) .widthBits) (C .boundary (q .index) .widthBits) h k i) (endpoints-compare (C .boundary (p .index)) (C .boundary (q .index)) i)) (listCompare (tieKey p) (tieKey q)))
+        ∙ (λ i. thenWith (thenWith (wider-first (C .boundary (p .index) .widthBits) (C .boundary (q .index) .widthBits) h k i) (endpoints-compare (C .boundary (p .index) .endpoints) (C .boundary (q .index) .endpoints) i)) (listCompare (tieKey p) (tieKey q)))
         ∙ sym (list-append (boundaryKey (C .boundary (p .index))) (boundaryKey (C .boundary (q .index))) (tieKey p) (tieKey q) refl)
 
     pub rank-is : isLess (compareProposals C (asEnum C p) (asEnum C q)) ≡ ranksBefore C p q

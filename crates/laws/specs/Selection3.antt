@@ -15,7 +15,7 @@ use Rattle.laws.specs.Lists.{All}
 use Rattle.laws.specs.ListOrder.{eqb-sym}
 use Rattle.laws.specs.Scans.{any-ext}
 use Rattle.laws.specs.Sets.{setInsert, setExtend, member-insert, member-extend, member-below, any-below}
-use Rattle.laws.specs.SelectionBySets.{loop, growAll, loop-by-state}
+use Rattle.laws.specs.SelectionBySets.{loop, growAll, takenBy, loop-taken, select-by-state}
 use Rattle.laws.specs.JunctionProposals.{ProposalEnum, UnionStruct, BridgeStruct, union, bridge, portsOfEnum, reservedPorts, enumOf, asEnum}
 
 -- ---- as the Rust writes it
@@ -240,9 +240,16 @@ module _ (C : Context) where
   unfolding refuses
   starts-free p = ap₂ _||_ (none-taken (portsOfEnum (asEnum C p))) (match-free (p .kind) p)
 
-  pub selection : {l : List Proposal} → All (λ p. p .index < C .count) l → selectProposals (map (asEnum C) l) ≡ setExtend [] (map (λ p. p .index) (select (conflict C) [] l))
-  unfolding selectProposals
-  selection {l} a =
-      ap (λ s. s .removed) (loop-enum nothingReserved l
-      ∙ loop-by-state (λ t p. refuses t (asEnum C p)) (λ t p. grow t (asEnum C p)) (conflict C) (λ p. p .index < C .count) (λ s. Unit {0}) (λ s q v h f. tt) (λ s q p v h k f. taken-adds s q p h k) nothingReserved tt (λ p h. starts-free p) a)
-      ∙ removed-all nothingReserved (select (conflict C) [] l)
+  -- the proposals that the loop takes, and the boundaries that it removes
+  module _ {l : List Proposal} (below : All (λ p. p .index < C .count) l) where
+    pub selection-taken : takenBy (λ t p. refuses t (asEnum C p)) (λ t p. grow t (asEnum C p)) nothingReserved l ≡ select (conflict C) [] l
+    selection-taken =
+        select-by-state (λ t p. refuses t (asEnum C p)) (λ t p. grow t (asEnum C p)) (conflict C) (λ p. p .index < C .count) (λ s. Unit {0}) (λ s q v h f. tt)
+        (λ s q p v h k f. taken-adds s q p h k) nothingReserved tt (λ p h. starts-free p) below
+
+    pub selection : selectProposals (map (asEnum C) l) ≡ setExtend [] (map (λ p. p .index) (select (conflict C) [] l))
+    unfolding selectProposals
+    selection =
+        ap (λ s. s .removed) (loop-enum nothingReserved l ∙ loop-taken (λ t p. refuses t (asEnum C p)) (λ t p. grow t (asEnum C p)) nothingReserved l)
+        ∙ removed-all nothingReserved (takenBy (λ t p. refuses t (asEnum C p)) (λ t p. grow t (asEnum C p)) nothingReserved l)
+        ∙ ap (λ m. setExtend [] (map (λ p. p .index) m)) selection-taken

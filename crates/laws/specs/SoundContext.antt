@@ -1,5 +1,5 @@
 -- What the context of a map always meets, and a context made up need not: where a definition leaves out a test of the Rust, or asks another,
--- it is because of one of these. Definitions only. Assumes nothing.
+-- it is because of one of these (SoundMaps proves them of a map). Definitions only. Assumes nothing.
 use Prim.Native.Nat.{ℕ, _*_, _^_, _<_, _≤_}
 use mathlib.Core.Path.{_≡_}
 use mathlib.Core.List.{[]}

@@ -1,5 +1,5 @@
 -- The widest port of a union as the Rust finds it (junctions.rs), a fold of `max` from 0.0, and that a boundary is at least as wide exactly where `isWidest` holds.
--- The argument: finite widths whose sign is clear compare as their bits (KeysAsBits), and no number is above the greatest of some exactly if it is above none of them.
+-- The argument: finite widths whose sign is clear compare as their bits (KeysAsBits), and a number is no less than the greatest of some exactly where it is no less than each.
 -- Assumes a sound context.
 use Prim.Native.Nat.{ℕ, _*_, _^_, _<_, _≤_}
 use native.Mathlib.Omega.{arith}
