@@ -89,3 +89,5 @@ pub mod DepthFirst
 pub mod InteriorLoop
 pub mod InteriorStarts
 pub mod InteriorsAsRust
+pub mod CheckedMaps
+pub mod RampRows
