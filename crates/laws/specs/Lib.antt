@@ -14,6 +14,7 @@ pub mod PatternOrder
 pub mod NearestRoot
 pub mod Hypotenuse
 pub mod KeysAsBits
+pub mod Values
 pub mod Scans
 pub mod Tests
 pub mod Members
