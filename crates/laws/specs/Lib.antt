@@ -15,6 +15,7 @@ pub mod NearestRoot
 pub mod Hypotenuse
 pub mod KeysAsBits
 pub mod Values
+pub mod Rounding
 pub mod Scans
 pub mod Tests
 pub mod Members
