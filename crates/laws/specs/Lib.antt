@@ -16,6 +16,7 @@ pub mod Hypotenuse
 pub mod KeysAsBits
 pub mod Values
 pub mod Rounding
+pub mod WholeDoubles
 pub mod Scans
 pub mod Tests
 pub mod Members
