@@ -17,6 +17,7 @@ pub mod KeysAsBits
 pub mod Values
 pub mod Rounding
 pub mod WholeDoubles
+pub mod InRange
 pub mod Scans
 pub mod Tests
 pub mod Members

@@ -2,17 +2,17 @@
 -- `float` of numbers up to 2 ^ 53 is added, multiplied, subtracted and compared as the numbers are. Assumes nothing.
 use mathlib.Core.Path.{_≡_, refl, sym, ap, _∙_, subst}
 use Prim.Native.Nat.{ℕ, _+_, _-_, _*_, _^_, _≤_, _<_}
-use native.Mathlib.Nat.{le-trans, lt-of-le-of-lt, lt-of-lt-of-le, mul-one, mul-assoc, mul-le-mul, mul-le-mul-right}
+use native.Mathlib.Nat.{le-trans, le-of-lt, lt-of-le-of-lt, lt-of-lt-of-le, mul-one, mul-assoc, mul-le-mul, mul-le-mul-right}
 use native.Mathlib.Omega.{arith}
 use mathlib.Core.Bool.{Bool, true, false, _&&_, Bool·beq, cond, and-true}
-use lib.Dec.{T, ltb, eqb, lit<, lit≤}
+use lib.Dec.{ltb, eqb, lit≤}
 use lib.Pow.{pow-add, pow-pos, pow-mono, shl-lt}
-use lib.Ieee.{Float, binary64, unlike, round, neg, sum, add, sub, mul, lt, eq}
+use lib.Ieee.{Float, binary64, unlike, round, sum, add, sub, mul, div, lt, eq}
 use lib.Ieee.Exact.{HasValue, round-exact}
 use lib.Ieee.Back.{round-whole}
 use borrow.Author.Tests.{le-ltb}
 use Rattle.definitions.specs.Geometry.{float}
-use Rattle.laws.specs.Values.{value-again, add-value, sub-value, mul-value, lt-value, eq-value}
+use Rattle.laws.specs.Values.{value-again, add-value, sub-value, mul-value, div-value, lt-value, eq-value}
 
 -- ---- x is ±number / 2 ^ i, and the number is at most B
 
@@ -119,3 +119,15 @@ module _ (m n : ℕ) (hm : m ≤ 2 ^ 53) (hn : n ≤ 2 ^ 53) where
 
 pub float-unsigned : (B n : ℕ) → B ≤ 2 ^ 53 → n ≤ B → Unsigned 0 B (float n)
 float-unsigned B n far h = record { number = n; upto = h; value = float-value n (le-trans h far) }
+
+-- half of one
+pub half-float : (B n : ℕ) → B < 2 ^ 53 → n ≤ B → Unsigned 1 B (div binary64 (float n) (float 2))
+half-float B n far h =
+    let l : n < 2 ^ 53 = lt-of-le-of-lt h far in
+    record {
+      number = n;
+      upto = h;
+      value = subst (λ (x : Float). HasValue x false n 2)
+          (sym (div-value false false n 1 2 1 (pow-pos 0) (pow-pos 0) (pow-pos 1) (float n) (float 2) (float-value n (le-of-lt l)) (float-value 2 (lit≤ tt)) ∙ ap (λ (z : ℕ). round binary64 false z 2) (mul-one n)))
+          (round-dyadic false 1 n (lit≤ tt) l);
+    }
