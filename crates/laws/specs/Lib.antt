@@ -18,6 +18,7 @@ pub mod Values
 pub mod Rounding
 pub mod WholeDoubles
 pub mod InRange
+pub mod Differences
 pub mod Scans
 pub mod Tests
 pub mod Members
