@@ -19,6 +19,7 @@ pub mod Rounding
 pub mod WholeDoubles
 pub mod InRange
 pub mod Differences
+pub mod Clamped
 pub mod Scans
 pub mod Tests
 pub mod Members
