@@ -29,10 +29,10 @@ units-in-range (inf t) s c v l h = absurd v
 units-in-range (fin t m e) s c v l h = ap (λ z. eqb z 0 || (leb (2 ^ 1010) z && leb z (2 ^ 1089))) (magnitude-of (fin t m e) s c v) ∙ in-bounds c l h
 
 -- a number of halves, up to 2 ^ 15
-pub halves-in-range : {x : Float} → Dyadic 1 (2 ^ 16) x → inRange x ≡ true
-halves-in-range {x} h =
+pub halves-in-range : {B : ℕ} {x : Float} → B ≤ 2 ^ 16 → Dyadic 1 B x → inRange x ≡ true
+halves-in-range {x = x} far h =
     units-in-range x (h .sign) (h .number * 2 ^ 1073) (value-again x (h .sign) (h .number) 2 (h .number * 2 ^ 1073) (2 ^ 1074) (pow-pos 1) (sym (mul-assoc (h .number) (2 ^ 1073) 2)) (h .value))
-    (least (h .number)) (le-trans (mul-le-mul-right (2 ^ 1073) (h .upto)) (lit≤ tt))
+    (least (h .number)) (mul-le-mul-right (2 ^ 1073) (le-trans (h .upto) far))
   where
     least : (n : ℕ) → (n * 2 ^ 1073 ≡ 0) ⊎ (2 ^ 1010 ≤ n * 2 ^ 1073)
     least zero = inl (zero-mul (2 ^ 1073))

@@ -20,6 +20,7 @@ pub mod WholeDoubles
 pub mod InRange
 pub mod Differences
 pub mod Clamped
+pub mod DistanceRange
 pub mod Scans
 pub mod Tests
 pub mod Members

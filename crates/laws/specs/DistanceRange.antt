@@ -1,0 +1,158 @@
+-- Where points of a map are asked how far they are apart, the arguments of the hypotenuse are in its range: differences of pixels and half pixels, up to 8,192 pixels, are numbers
+-- of halves; and between a point and a segment they are differences as in Differences.antt. So number 13 cannot come, and the answer is `distance`, whose sign is clear.
+-- Assumes coordinates of at most 8,192 pixels.
+use mathlib.Core.Path.{_≡_, refl, sym, subst}
+use Prim.Native.Nat.{ℕ, _+_, _*_, _^_, _≤_}
+use native.Mathlib.Nat.{le-trans, add-le-add}
+use mathlib.Core.Bool.{Bool, true, false, cond}
+use lib.Dec.{T, lit≤, lit<}
+use lib.Ieee.{Float, binary64, add, sub, mul, div, eq, fits}
+use Rattle.definitions.specs.Limits.{maxSide}
+use Rattle.definitions.specs.Grid.{Position, Segment, positionLt, canonical}
+use Rattle.definitions.specs.Spans.{pixelsPerWalkCell}
+use Rattle.definitions.specs.Hypotenuse.{inRange, hypotNumber, hypotValue}
+use Rattle.definitions.specs.Geometry.{Point, float, point, center, distance, clamp01, pointSegmentDistance}
+use Rattle.definitions.specs.RampGeometry.{difference}
+use Rattle.laws.specs.Patterns.{SignClear}
+use Rattle.laws.specs.Hypotenuse.{hypotOf-fits, hypotOf-clear}
+use Rattle.laws.specs.WholeDoubles.{Dyadic, Whole, Unsigned, signed, whole-halves, difference-dyadic, add-dyadic, mul-dyadic, add-float, float-unsigned, half-float}
+use Rattle.laws.specs.InRange.{BothInRange, halves-in-range, range-number, range-value}
+use Rattle.laws.specs.Differences.{Part, difference-in-range}
+use Rattle.laws.specs.Clamped.{segment-part}
+
+-- ---- coordinates
+
+-- 8,192: the largest coordinate of a map of the largest side
+abbrev pub maxPixel : ℕ
+maxPixel = pixelsPerWalkCell * maxSide
+
+-- a whole number of pixels, and of half pixels, on such a map
+abbrev pub Pixel : Float → Type 0
+Pixel x = Unsigned 0 maxPixel x
+
+abbrev pub HalfPixel : Float → Type 0
+HalfPixel x = Unsigned 1 (maxPixel * 2) x
+
+pub record PixelPoint (p : Point) : Type 0 where
+  pub onX : Pixel (p .px)
+  pub onY : Pixel (p .py)
+
+pub record HalfPixelPoint (p : Point) : Type 0 where
+  pub onX : HalfPixel (p .px)
+  pub onY : HalfPixel (p .py)
+
+pub record PixelPosition (p : Position) : Type 0 where
+  pub x-le : p .x ≤ maxPixel
+  pub y-le : p .y ≤ maxPixel
+
+pub record PixelSegment (s : Segment) : Type 0 where
+  pub first : PixelPosition (s .a)
+  pub second : PixelPosition (s .b)
+
+pub pixel-half : {p : Point} → PixelPoint p → HalfPixelPoint p
+pixel-half h = record { onX = whole-halves (h .onX); onY = whole-halves (h .onY) }
+
+float-pixel : (n : ℕ) → n ≤ maxPixel → Pixel (float n)
+float-pixel n h = float-unsigned maxPixel n (lit≤ tt) h
+
+pub point-pixel : {p : Position} → PixelPosition p → PixelPoint (point p)
+unfolding point
+point-pixel {p} h = record { onX = float-pixel (p .x) (h .x-le); onY = float-pixel (p .y) (h .y-le) }
+
+pub center-half : {s : Segment} → PixelSegment s → HalfPixelPoint (center s)
+unfolding center
+center-half {s} h =
+    record { onX = middle (s .a .x) (s .b .x) (h .first .x-le) (h .second .x-le); onY = middle (s .a .y) (s .b .y) (h .first .y-le) (h .second .y-le) }
+  where
+    middle : (m n : ℕ) → m ≤ maxPixel → n ≤ maxPixel → HalfPixel (div binary64 (add binary64 (float m) (float n)) (float 2))
+    middle m n hm hn =
+        subst (λ (x : Float). HalfPixel (div binary64 x (float 2))) (sym (add-float m n (small hm) (small hn))) (half-float (maxPixel * 2) (m + n) (lit< tt) (add-le-add hm hn))
+      where
+        small : {k : ℕ} → k ≤ maxPixel → k ≤ 2 ^ 53
+        small h = le-trans h (lit≤ tt)
+
+pub canonical-pixel : {s : Segment} → PixelSegment s → PixelSegment (canonical s)
+unfolding canonical
+canonical-pixel {s} h = go (positionLt (s .b) (s .a))
+  where
+    go : (t : Bool) → PixelSegment (cond t (record { a = s .b; b = s .a }) s)
+    go true = record { first = h .second; second = h .first }
+    go false = h
+
+-- ---- the distance of two points
+
+-- the arguments that `distance p q` gives the hypotenuse
+abbrev pub DistanceInRange : Point → Point → Type 0
+DistanceInRange p q = BothInRange (sub binary64 (p .px) (q .px)) (sub binary64 (p .py) (q .py))
+
+half-difference : {x y : Float} → HalfPixel x → HalfPixel y → inRange (sub binary64 x y) ≡ true
+half-difference p q = halves-in-range (lit≤ tt) (difference-dyadic (lit≤ tt) (lit< tt) p q)
+
+pub distance-in-range : (p q : Point) → HalfPixelPoint p → HalfPixelPoint q → DistanceInRange p q
+distance-in-range p q hp hq = (half-difference (hp .onX) (hq .onX), half-difference (hp .onY) (hq .onY))
+
+module _ (p q : Point) (h : DistanceInRange p q) where
+  pub distance-number : hypotNumber (sub binary64 (p .px) (q .px)) (sub binary64 (p .py) (q .py)) ≡ 0
+  distance-number = range-number (sub binary64 (p .px) (q .px)) (sub binary64 (p .py) (q .py)) h
+
+  pub distance-value : hypotValue (sub binary64 (p .px) (q .px)) (sub binary64 (p .py) (q .py)) ≡ distance p q
+  unfolding distance
+  distance-value = range-value (sub binary64 (p .px) (q .px)) (sub binary64 (p .py) (q .py)) h
+
+  pub distance-clear : SignClear (distance p q)
+  unfolding distance
+  distance-clear = hypotOf-clear (sub binary64 (p .px) (q .px)) (sub binary64 (p .py) (q .py)) (h .0) (h .1)
+
+pub distance-fits : (p q : Point) → T (fits binary64 (distance p q))
+unfolding distance
+distance-fits p q = hypotOf-fits (sub binary64 (p .px) (q .px)) (sub binary64 (p .py) (q .py))
+
+-- the two differences whose hypotenuse is a segment's length
+pub differences-in-range : (m n k l : ℕ) → m ≤ maxPixel → n ≤ maxPixel → k ≤ maxPixel → l ≤ maxPixel → BothInRange (difference m n) (difference k l)
+unfolding difference
+differences-in-range m n k l hm hn hk hl = (of m n hm hn, of k l hk hl)
+  where
+    of : (m n : ℕ) → m ≤ maxPixel → n ≤ maxPixel → inRange (sub binary64 (float m) (float n)) ≡ true
+    of m n hm hn = half-difference (whole-halves (float-pixel m hm)) (whole-halves (float-pixel n hn))
+
+-- ---- the distance of a point and a segment
+
+whole-difference : {x y : Float} → Pixel x → Pixel y → Whole maxPixel (sub binary64 x y)
+whole-difference u v = difference-dyadic (lit≤ tt) (lit< tt) u v
+
+products : {u v x y : Float} → Whole maxPixel u → Whole maxPixel v → Whole maxPixel x → Whole maxPixel y → Whole (2 ^ 27) (add binary64 (mul binary64 u v) (mul binary64 x y))
+products hu hv hx hy = add-dyadic (mul-dyadic hu hv (lit≤ tt) (lit< tt)) (mul-dyadic hx hy (lit≤ tt) (lit< tt)) (lit≤ tt) (lit< tt)
+
+module _ (p a b : Point) where
+  abbrev alongX : Float
+  alongX = sub binary64 (b .px) (a .px)
+
+  abbrev alongY : Float
+  alongY = sub binary64 (b .py) (a .py)
+
+  -- the part of the segment that lies before the nearest point: t of `pointSegmentDistance`
+  abbrev pub partBefore : Float
+  partBefore =
+      let n = add binary64 (mul binary64 alongX alongX) (mul binary64 alongY alongY) in
+      cond (eq n (float 0)) (float 0) (clamp01 (div binary64 (add binary64 (mul binary64 (sub binary64 (p .px) (a .px)) alongX) (mul binary64 (sub binary64 (p .py) (a .py)) alongY)) n))
+
+  abbrev pub nearestPoint : Point
+  nearestPoint = record { px = add binary64 (a .px) (mul binary64 partBefore alongX); py = add binary64 (a .py) (mul binary64 partBefore alongY) }
+
+  pub point-segment-is : pointSegmentDistance p a b ≡ distance p nearestPoint
+  unfolding pointSegmentDistance
+  point-segment-is = refl
+
+  module _ (hp : PixelPoint p) (ha : PixelPoint a) (hb : PixelPoint b) where
+    part-of-segment : Part partBefore
+    part-of-segment =
+        let x = whole-difference (hb .onX) (ha .onX) in
+        let y = whole-difference (hb .onY) (ha .onY) in
+        segment-part (add binary64 (mul binary64 (sub binary64 (p .px) (a .px)) alongX) (mul binary64 (sub binary64 (p .py) (a .py)) alongY)) (add binary64 (mul binary64 alongX alongX) (mul binary64 alongY alongY))
+        (products (whole-difference (hp .onX) (ha .onX)) x (whole-difference (hp .onY) (ha .onY)) y) (products x x y y)
+
+    pub point-segment-in-range : DistanceInRange p nearestPoint
+    point-segment-in-range = (
+      difference-in-range (p .px) (a .px) partBefore alongX (signed (hp .onX)) (signed (ha .onX)) part-of-segment (whole-difference (hb .onX) (ha .onX)),
+      difference-in-range (p .py) (a .py) partBefore alongY (signed (hp .onY)) (signed (ha .onY)) part-of-segment (whole-difference (hb .onY) (ha .onY)),
+    )
