@@ -21,6 +21,7 @@ pub mod InRange
 pub mod Differences
 pub mod Clamped
 pub mod DistanceRange
+pub mod PassRange
 pub mod Scans
 pub mod Tests
 pub mod Members
