@@ -75,12 +75,11 @@ outputAtExit labelled pass M old = old
 outputAtExit tallied pass M old = old
 outputAtExit complete pass M old = overwrite (flatRows (rowsOf pass M)) old
 
--- all that was lent, after a call that answered with this number
-unfoldable pub callExit : Lent → ℕ → Lent
-unfolding mapIn stageOf labels cellCount spanCount contextOf talliesOf pairRowsOf recordsOf rowsOf flatRows
-callExit L number =
+-- all that was lent, with the lists that the partition fills as they are at this stage, and these records and output
+unfoldable pub exitWith : Lent → Stage → List Region → List ℕ → Lent
+unfolding mapIn labels cellCount spanCount contextOf talliesOf pairRowsOf
+exitWith L s records output =
     let M = mapIn L in
-    let s = stageOf number in
     record {
       pass = L .pass;
       width = L .width;
@@ -94,29 +93,16 @@ callExit L number =
       queue = scratchAtExit s M (L .queue);
       tallies = talliesAtExit s M (L .tallies);
       pairs = pairsAtExit s M (L .pairs);
-      records = recordsAtExit s M (L .records);
-      output = outputAtExit s (L .pass) M (L .output);
+      records = records;
+      output = output;
     }
 
--- the same of the partition alone, which is lent neither records nor output
+-- after the call that runs a pass answered with this number
+unfoldable pub callExit : Lent → ℕ → Lent
+unfolding exitWith stageOf mapIn contextOf recordsOf rowsOf flatRows
+callExit L number = exitWith L (stageOf number) (recordsAtExit (stageOf number) (mapIn L) (L .records)) (outputAtExit (stageOf number) (L .pass) (mapIn L) (L .output))
+
+-- after the partition alone, which is lent neither records nor output, did
 unfoldable pub partitionExit : Lent → ℕ → Lent
-unfolding mapIn stageOf labels cellCount spanCount contextOf talliesOf pairRowsOf recordsOf rowsOf flatRows
-partitionExit L number =
-    let M = mapIn L in
-    let s = stageOf number in
-    record {
-      pass = L .pass;
-      width = L .width;
-      height = L .height;
-      cells = L .cells;
-      spans = L .spans;
-      boundaries = L .boundaries;
-      anchors = L .anchors;
-      labels = labelsAtExit s M (L .labels);
-      masks = scratchAtExit s M (L .masks);
-      queue = scratchAtExit s M (L .queue);
-      tallies = talliesAtExit s M (L .tallies);
-      pairs = pairsAtExit s M (L .pairs);
-      records = L .records;
-      output = L .output;
-    }
+unfolding exitWith stageOf
+partitionExit L number = exitWith L (stageOf number) (L .records) (L .output)

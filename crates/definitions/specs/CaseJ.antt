@@ -1,7 +1,7 @@
 -- Case J of document 01, computed: labels, pairs, kept rows, and what `keptlist` prints for its sheet.
 use Prim.Native.Nat.{ℕ}
 use mathlib.Core.Path.{_≡_, refl}
-use mathlib.Core.List.{List, [], _∷_, _++_, map}
+use mathlib.Core.List.{[], _∷_, map}
 use Rattle.definitions.specs.Scan.{run}
 use Rattle.definitions.specs.Grid.{Map, mapOf, at, Pair}
 use Rattle.definitions.specs.Spans.{cutSteps}

@@ -1,25 +1,25 @@
 -- Computed examples that a porter would get wrong: both sides of the thresholds that document 01 names and does not mark P, its four likely errors,
 -- ties of the hypotenuse, unequal counts, an anchor on a blocked cell, the diagonal rule, a side value of zero.
-use Prim.Native.Nat.{ℕ, _+_, _-_, _*_}
+use Prim.Native.Nat.{ℕ, _-_, _*_}
 use mathlib.Core.Path.{_≡_, refl}
-use mathlib.Core.Bool.{Bool, true, false, not, cond}
+use mathlib.Core.Bool.{Bool, true, not, cond}
 use mathlib.Core.List.{List, [], _∷_, _++_, map}
+use lib.ListN.{length, getD}
 use lib.Dec.{eqb}
 use lib.IntN.{pos}
-use lib.Ieee.{Float, binary64, ofBits, toBits, neg, lt}
+use lib.Ieee.{binary64, ofBits, toBits, lt}
 use Rattle.definitions.specs.Scan.{all, run, concatMap}
 use Rattle.definitions.specs.Grid.{Map, at, mapOf}
 use Rattle.definitions.specs.Spans.{cross}
 use Rattle.definitions.specs.Partition.{labels}
-use Rattle.definitions.specs.Hypotenuse.{hypotOf, hypotNumber, hypotValue}
-use Rattle.definitions.specs.Geometry.{float}
+use Rattle.definitions.specs.Hypotenuse.{hypotOf, hypotNumber}
 use Rattle.definitions.specs.RampGeometry.{segmentDistance}
-use Rattle.definitions.specs.Context.{Context, contextOf}
-use Rattle.definitions.specs.RampMouths.{MouthProposal, maxMouthDistance, conflict}
+use Rattle.definitions.specs.Context.{contextOf}
+use Rattle.definitions.specs.RampMouths.{maxMouthDistance}
 use Rattle.definitions.specs.Junctions.{withinSpanRadius}
 use Rattle.definitions.specs.Rows.{removedOf, rowsOf}
 use Rattle.definitions.specs.CaseJ.{row}
-use Rattle.definitions.specs.Cases.{width8, segment, regionOfCounts, sameNumbers}
+use Rattle.definitions.specs.Cases.{width8, width16, segment, regionOfCounts, sameNumbers}
 
 -- ---- the hypotenuse
 
@@ -75,37 +75,33 @@ apartTurned = lt maxMouthDistance (segmentDistance (segment 56 322 56 322) (segm
 
 -- ---- equal widths ranked by boundary number before endpoints
 
--- Five cells in a row, an arm on each of the middle three, every border cut. Boundaries 0 (at pixel 24) and 1 (at 16) may both go, and each is a port of the
--- other: 1 goes, by its endpoints.
+-- boundaries of these endpoints, widths and ramps (kind, id, lower and upper elevation), each with its span
+unfoldable pub withBoundaries : ℕ → ℕ → List ℕ → List (List ℕ) → List (List ℕ) → List ℕ → Map
+unfolding mapOf concatMap
+withBoundaries w h cells lines tails anchors =
+    mapOf w h cells (concatMap (λ l. l) lines) (concatMap (λ i. getD lines i [] ++ getD tails i []) (run 0 (length lines))) anchors
+
+abbrev pub plain : List ℕ
+plain = width8 ∷ 0 ∷ 0 ∷ 0 ∷ 0 ∷ []
+
+-- Three cells in a row, each with an arm. Boundaries 0 (at pixel 16) and 1 (at 8) may both go, and each is a port of the other: 1 goes, by its endpoints.
 unfoldable pub ranking : Map
-unfolding mapOf
+unfolding withBoundaries
 ranking =
-    let spans : List (List ℕ) = (24 ∷ 8 ∷ 24 ∷ 16 ∷ []) ∷ (16 ∷ 8 ∷ 16 ∷ 16 ∷ []) ∷ (8 ∷ 8 ∷ 8 ∷ 16 ∷ []) ∷ (32 ∷ 8 ∷ 32 ∷ 16 ∷ []) ∷ (8 ∷ 8 ∷ 16 ∷ 8 ∷ []) ∷ (24 ∷ 8 ∷ 32 ∷ 8 ∷ []) ∷ (16 ∷ 16 ∷ 24 ∷ 16 ∷ []) ∷ [] in
-    mapOf 5 3 (0 ∷ 1 ∷ 0 ∷ 1 ∷ 0 ∷ 1 ∷ 1 ∷ 1 ∷ 1 ∷ 1 ∷ 0 ∷ 0 ∷ 1 ∷ 0 ∷ 0 ∷ []) (concatMap (λ s. s) spans)
-    (concatMap (λ s. s ++ (width8 ∷ 0 ∷ 0 ∷ 0 ∷ 0 ∷ [])) spans) []
+    withBoundaries 3 3 (1 ∷ 0 ∷ 1 ∷ 1 ∷ 1 ∷ 1 ∷ 0 ∷ 1 ∷ 0 ∷ [])
+    ((16 ∷ 8 ∷ 16 ∷ 16 ∷ []) ∷ (8 ∷ 8 ∷ 8 ∷ 16 ∷ []) ∷ (0 ∷ 8 ∷ 8 ∷ 8 ∷ []) ∷ (16 ∷ 8 ∷ 24 ∷ 8 ∷ []) ∷ (8 ∷ 16 ∷ 16 ∷ 16 ∷ []) ∷ [])
+    (plain ∷ plain ∷ plain ∷ plain ∷ plain ∷ []) []
 
 -- ---- a triangle tested against reserved regions instead of all occupied ones
 
--- the boundaries 0 and 1 are Lower ends of two ramps
-unfoldable pub twoRamps : Context
-unfolding regionOfCounts
-twoRamps =
-    record {
-      count = 2;
-      regions = 4;
-      boundary = λ i. record { endpoints = segment 0 0 0 8; widthBits = width8; kind = 1; rampId = i; lower = 0; upper = 1 };
-      removedEdges = λ i. 0;
-      separatedEdges = λ i. 0;
-      pairs = λ i. [];
-      anchored = λ r. false;
-      region = λ r. regionOfCounts 1 1;
-    }
-
--- the proposal of mouth i at ramp i about outer region 1
-unfoldable pub aboutOne : ℕ → Bool → List ℕ → MouthProposal
-unfolding float
-aboutOne i isTriangle inner =
-    record { mouthIndex = i; rampIndex = i; outer = 1 ∷ []; inner = inner; isTriangle = isTriangle; twoPortBroadApproach = false; separation = float 0 }
+-- The mouth 2 goes first, about the anchored region of cell (1, 1). The triangle of boundary 0 with ramp 1 meets that region, which no triangle has reserved,
+-- and is refused.
+unfoldable pub occupied : Map
+unfolding withBoundaries
+occupied =
+    withBoundaries 3 4 (1 ∷ 0 ∷ 1 ∷ 1 ∷ 1 ∷ 1 ∷ 0 ∷ 1 ∷ 1 ∷ 0 ∷ 1 ∷ 1 ∷ [])
+    ((16 ∷ 0 ∷ 16 ∷ 32 ∷ []) ∷ (16 ∷ 0 ∷ 24 ∷ 32 ∷ []) ∷ (8 ∷ 8 ∷ 8 ∷ 16 ∷ []) ∷ (0 ∷ 8 ∷ 8 ∷ 8 ∷ []) ∷ [])
+    (plain ∷ (width8 ∷ 1 ∷ 7 ∷ 0 ∷ 1 ∷ []) ∷ (width16 ∷ 0 ∷ 0 ∷ 0 ∷ 0 ∷ []) ∷ (width8 ∷ 1 ∷ 8 ∷ 0 ∷ 1 ∷ []) ∷ []) (1 ∷ 1 ∷ [])
 
 -- ---- rows of cells
 
@@ -133,15 +129,12 @@ unequalCounts =
     (16 ∷ 0 ∷ 16 ∷ 8 ∷ width8 ∷ 1 ∷ 7 ∷ 0 ∷ 1 ∷ 8 ∷ 0 ∷ 8 ∷ 8 ∷ width8 ∷ 0 ∷ 0 ∷ 0 ∷ 0 ∷ []) []
 
 unfoldable pub examples : List Bool
-unfolding apartAsWritten apartTurned removedOf ranking conflict twoRamps aboutOne interiorRow anchoredCells contextOf withinSpanRadius regionOfCounts
+unfolding apartAsWritten apartTurned removedOf ranking occupied interiorRow anchoredCells contextOf withinSpanRadius regionOfCounts
 examples =
     apartAsWritten
     ∷ not apartTurned
     ∷ sameNumbers (removedOf 3 ranking) (1 ∷ [])
-    -- a triangle may not meet the outer region of a taken mouth, nor a mouth that of a taken triangle; two mouths may share it
-    ∷ conflict twoRamps (aboutOne 0 false (2 ∷ [])) (aboutOne 1 true (3 ∷ 4 ∷ []))
-    ∷ conflict twoRamps (aboutOne 0 true (2 ∷ 3 ∷ [])) (aboutOne 1 false (4 ∷ []))
-    ∷ not (conflict twoRamps (aboutOne 0 false (2 ∷ [])) (aboutOne 1 false (4 ∷ [])))
+    ∷ sameNumbers (removedOf 1 occupied) (2 ∷ [])
     -- an anchored outer region leaves the mouth as it is; an anchored inner one does not; an anchor on a blocked cell is no region's
     ∷ sameNumbers (removedOf 1 (anchoredCells 0 (0 ∷ 0 ∷ []))) (0 ∷ [])
     ∷ sameNumbers (removedOf 1 (anchoredCells 0 (1 ∷ 0 ∷ []))) []

@@ -2,7 +2,7 @@
 -- as IEEE 754-2019 has `hypot` among its correctly rounded operations. Over whole numbers, by one comparison of squares. Assumes nothing.
 -- `Nearest.antt` says the same as a relation.
 use Prim.Native.Nat.{ℕ, zero, suc, _+_, _-_, _*_, _/_, _^_, compare}
-use mathlib.Core.Bool.{Bool, true, false, cond, _&&_, _||_}
+use mathlib.Core.Bool.{Bool, false, cond, _&&_, _||_}
 use lib.Dec.{leb, eqb}
 use lib.IntN.{pos}
 use lib.Ieee.{Float, nan, inf, fin, up, down, size, nearest, units, binary64}

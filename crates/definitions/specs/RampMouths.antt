@@ -10,9 +10,9 @@ use lib.Ieee.{Float, binary64, le, lt, mul, div, toBits}
 use Rattle.definitions.specs.Scan.{any, all, filter, anyBelow, collect, gather, onlyIf, member, addAll}
 use Rattle.definitions.specs.Sort.{sort, select, listLt}
 use Rattle.definitions.specs.Grid.{Pair, pairEq, contains}
-use Rattle.definitions.specs.Geometry.{Point, float, center, distance}
+use Rattle.definitions.specs.Geometry.{float, center, distance}
 use Rattle.definitions.specs.RampGeometry.{segmentDistance, isNearbyParallelRepresentative, overlappingRampRepresentative, fmin, fmax}
-use Rattle.definitions.specs.RegionRecord.{Region, corners}
+use Rattle.definitions.specs.RegionRecord.{corners}
 use Rattle.definitions.specs.Context.{Context, fullCut, fullPair, otherRegion, isIncident, incidentCount, noRamp, width, endpointsKey}
 
 unfoldable pub maxMouthDistance : Float

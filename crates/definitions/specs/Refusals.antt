@@ -1,7 +1,7 @@
 -- The checks of document 01's table that look at what is lent, numbers 1 to 10: each gives the first faulty place, or none. Quotations are of the table.
 -- Assumes nothing; entries of the lists are 64-bit numbers and cells are bytes, as their element types have it.
 use Prim.Native.Nat.{ℕ, zero, suc, _+_, _*_, _/_, _%_, _^_}
-use mathlib.Core.Bool.{Bool, not, _&&_, _||_, cond}
+use mathlib.Core.Bool.{Bool, not, _&&_, _||_}
 use mathlib.Core.Option.{Option, none, some}
 use mathlib.Core.List.{List}
 use lib.ListN.{length, getD}

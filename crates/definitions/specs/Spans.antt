@@ -1,7 +1,7 @@
 -- The steps that a span cuts: `candidate_positions`, `SpanGeometry::cuts` and what they call, of areas.rs, over unbounded whole numbers.
 -- (Within the limits every number of the Rust is below 2 ^ 28, so that its i64 never wraps.) Assumes nothing.
 use Prim.Native.Nat.{ℕ, suc, _+_, _-_, _*_, _/_, min, max}
-use mathlib.Core.Bool.{Bool, true, false, not, _&&_, _||_, Bool·beq, cond}
+use mathlib.Core.Bool.{Bool, false, not, _&&_, _||_, Bool·beq, cond}
 use mathlib.Core.List.{List, map}
 use lib.Dec.{eqb, leb}
 use lib.IntN.{ℤ, pos, negsuc, _+ℤ_, _-ℤ_, _*ℤ_}

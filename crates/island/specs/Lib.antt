@@ -23,3 +23,5 @@ pub mod FrameComponents
 pub mod FrameExpansions
 pub mod FrameInteriors
 pub mod Theorem
+pub mod Decide
+pub mod Example

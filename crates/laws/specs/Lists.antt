@@ -1,12 +1,12 @@
 -- Lists: what holds of every element (`All`), and how filters, maps and scans go through one another. Assumes nothing.
-use Prim.Native.Nat.{ℕ, zero, suc, _+_, _<_, _≤_}
+use Prim.Native.Nat.{ℕ, zero, suc, _+_, _<_}
 use native.Mathlib.Omega.{arith}
 use native.Mathlib.Nat.{add-zero, zero-add}
 use mathlib.Core.Path.{_≡_, refl, sym, ap, ap₂, _∙_}
 use mathlib.Core.Bool.{Bool, true, false, _&&_, _||_, cond, or-assoc}
 use mathlib.Core.List.{List, [], _∷_, _++_, map}
 use lib.ListN.{length, getD}
-use Rattle.definitions.specs.Scan.{any, all, filter, concatMap, gather, anyBelow, run}
+use Rattle.definitions.specs.Scan.{any, all, filter, gather, anyBelow, run}
 
 pub data All {A : Type 0} (P : A → Type 0) : List A → Type 0 where
   done : All P []

@@ -4,15 +4,14 @@ use Prim.Native.Nat.{ℕ, zero, suc, _+_, _-_, _≤_, _<_}
 use native.Mathlib.Omega.{arith}
 use native.Mathlib.Nat.{add-zero}
 use native.Mathlib.Numerals.{add-one}
-use mathlib.Core.Path.{_≡_, refl, sym, ap, ap₂, _∙_}
-use mathlib.Core.Logic.{_⊎_, inl, inr}
-use mathlib.Core.Bool.{Bool, true, false, not, _&&_, _||_, cond, or-false, and-true}
-use mathlib.Core.Option.{Option, none, some}
-use mathlib.Core.List.{List, [], _∷_, _++_, map, append-nil}
-use lib.Dec.{eqb, ltb, leb}
+use mathlib.Core.Path.{_≡_, refl, sym, ap}
+use mathlib.Core.Bool.{Bool, true, false, _&&_, _||_, or-false, and-true}
+use mathlib.Core.Option.{Option}
+use mathlib.Core.List.{List, [], _++_, map, append-nil}
+use lib.Dec.{eqb, ltb}
 use borrow.Author.Tests.{ltb-true, ltb-false, eqb-true, eqb-false, lt-ltb, le-ltb, eq-eqb, ne-eqb}
 use Rattle.definitions.specs.Scan.{anyBelow, allBelow, countBelow, collect, gather, toList, bit, filter}
-use Rattle.laws.specs.Lists.{filter-append, map-append, All, done, more, all-append}
+use Rattle.laws.specs.Lists.{filter-append, map-append, All, done, all-append}
 
 module _ (inside : ℕ → Bool) where
   abbrev pub rank : ℕ → ℕ
