@@ -1,83 +1,21 @@
 -- Where points of a map are asked how far they are apart, the arguments of the hypotenuse are in its range: differences of pixels and half pixels, up to 8,192 pixels, are numbers
 -- of halves; and between a point and a segment they are differences as in Differences.antt. So number 13 cannot come, and the answer is `distance`, whose sign is clear.
--- Assumes coordinates of at most 8,192 pixels.
-use mathlib.Core.Path.{_≡_, refl, sym, subst}
-use Prim.Native.Nat.{ℕ, _+_, _*_, _^_, _≤_}
-use native.Mathlib.Nat.{le-trans, add-le-add}
-use mathlib.Core.Bool.{Bool, true, false, cond}
+-- Assumes nothing but that coordinates are at most 8,192 pixels (Pixels.antt).
+use mathlib.Core.Path.{_≡_, refl}
+use Prim.Native.Nat.{ℕ, _^_, _≤_}
+use mathlib.Core.Bool.{true, cond}
 use lib.Dec.{T, lit≤, lit<}
 use lib.Ieee.{Float, binary64, add, sub, mul, div, eq, fits}
-use Rattle.definitions.specs.Limits.{maxSide}
-use Rattle.definitions.specs.Grid.{Position, Segment, positionLt, canonical}
-use Rattle.definitions.specs.Spans.{pixelsPerWalkCell}
 use Rattle.definitions.specs.Hypotenuse.{inRange, hypotNumber, hypotValue}
-use Rattle.definitions.specs.Geometry.{Point, float, point, center, distance, clamp01, pointSegmentDistance}
+use Rattle.definitions.specs.Geometry.{Point, float, distance, clamp01, pointSegmentDistance}
 use Rattle.definitions.specs.RampGeometry.{difference}
 use Rattle.laws.specs.Patterns.{SignClear}
 use Rattle.laws.specs.Hypotenuse.{hypotOf-fits, hypotOf-clear}
-use Rattle.laws.specs.WholeDoubles.{Dyadic, Whole, Unsigned, signed, whole-halves, difference-dyadic, add-dyadic, mul-dyadic, add-float, float-unsigned, half-float}
+use Rattle.laws.specs.WholeDoubles.{Whole, signed, whole-halves, difference-dyadic, add-dyadic, mul-dyadic}
 use Rattle.laws.specs.InRange.{BothInRange, halves-in-range, range-number, range-value}
 use Rattle.laws.specs.Differences.{Part, difference-in-range}
 use Rattle.laws.specs.Clamped.{segment-part}
-
--- ---- coordinates
-
--- 8,192: the largest coordinate of a map of the largest side
-abbrev pub maxPixel : ℕ
-maxPixel = pixelsPerWalkCell * maxSide
-
--- a whole number of pixels, and of half pixels, on such a map
-abbrev pub Pixel : Float → Type 0
-Pixel x = Unsigned 0 maxPixel x
-
-abbrev pub HalfPixel : Float → Type 0
-HalfPixel x = Unsigned 1 (maxPixel * 2) x
-
-pub record PixelPoint (p : Point) : Type 0 where
-  pub onX : Pixel (p .px)
-  pub onY : Pixel (p .py)
-
-pub record HalfPixelPoint (p : Point) : Type 0 where
-  pub onX : HalfPixel (p .px)
-  pub onY : HalfPixel (p .py)
-
-pub record PixelPosition (p : Position) : Type 0 where
-  pub x-le : p .x ≤ maxPixel
-  pub y-le : p .y ≤ maxPixel
-
-pub record PixelSegment (s : Segment) : Type 0 where
-  pub first : PixelPosition (s .a)
-  pub second : PixelPosition (s .b)
-
-pub pixel-half : {p : Point} → PixelPoint p → HalfPixelPoint p
-pixel-half h = record { onX = whole-halves (h .onX); onY = whole-halves (h .onY) }
-
-float-pixel : (n : ℕ) → n ≤ maxPixel → Pixel (float n)
-float-pixel n h = float-unsigned maxPixel n (lit≤ tt) h
-
-pub point-pixel : {p : Position} → PixelPosition p → PixelPoint (point p)
-unfolding point
-point-pixel {p} h = record { onX = float-pixel (p .x) (h .x-le); onY = float-pixel (p .y) (h .y-le) }
-
-pub center-half : {s : Segment} → PixelSegment s → HalfPixelPoint (center s)
-unfolding center
-center-half {s} h =
-    record { onX = middle (s .a .x) (s .b .x) (h .first .x-le) (h .second .x-le); onY = middle (s .a .y) (s .b .y) (h .first .y-le) (h .second .y-le) }
-  where
-    middle : (m n : ℕ) → m ≤ maxPixel → n ≤ maxPixel → HalfPixel (div binary64 (add binary64 (float m) (float n)) (float 2))
-    middle m n hm hn =
-        subst (λ (x : Float). HalfPixel (div binary64 x (float 2))) (sym (add-float m n (small hm) (small hn))) (half-float (maxPixel * 2) (m + n) (lit< tt) (add-le-add hm hn))
-      where
-        small : {k : ℕ} → k ≤ maxPixel → k ≤ 2 ^ 53
-        small h = le-trans h (lit≤ tt)
-
-pub canonical-pixel : {s : Segment} → PixelSegment s → PixelSegment (canonical s)
-unfolding canonical
-canonical-pixel {s} h = go (positionLt (s .b) (s .a))
-  where
-    go : (t : Bool) → PixelSegment (cond t (record { a = s .b; b = s .a }) s)
-    go true = record { first = h .second; second = h .first }
-    go false = h
+use Rattle.laws.specs.Pixels.{maxPixel, Pixel, HalfPixel, PixelPoint, HalfPixelPoint, float-pixel}
 
 -- ---- the distance of two points
 

@@ -20,7 +20,9 @@ pub mod WholeDoubles
 pub mod InRange
 pub mod Differences
 pub mod Clamped
+pub mod Pixels
 pub mod DistanceRange
+pub mod MapPixels
 pub mod PassRange
 pub mod Scans
 pub mod Tests
