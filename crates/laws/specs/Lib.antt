@@ -22,6 +22,7 @@ pub mod Differences
 pub mod Clamped
 pub mod Pixels
 pub mod DistanceRange
+pub mod NoFault
 pub mod MapPixels
 pub mod PassRange
 pub mod Scans
