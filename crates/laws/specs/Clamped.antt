@@ -2,7 +2,7 @@
 -- It is zero, or at least 2 ^ -27 since the quotient is, and at most 1 by the clamp (`Part`). Assumes nothing.
 use mathlib.Core.Path.{_≡_, refl, sym, _∙_, subst}
 use mathlib.Core.Logic.{_⊎_, inl, inr}
-use Prim.Native.Nat.{ℕ, zero, suc, _+_, _*_, _^_, _≤_, _<_, zero-le}
+use Prim.Native.Nat.{ℕ, zero, suc, _+_, _^_, _≤_, _<_, zero-le}
 use native.Mathlib.Nat.{le-trans, le-of-eq, mul-one, one-mul, zero-mul, mul-le-mul-left, mul-le-mul-right, zero-lt-suc}
 use native.Mathlib.Omega.{arith}
 use mathlib.Core.Bool.{Bool, true, false, cond, or-true, true≢false, Bool·beq}

@@ -4,8 +4,8 @@
 -- other than 0 make a half at least. So a difference is 0 or at least 2 ^ -53. All is counted in units of the smallest double, 2 ^ -1074. Assumes nothing.
 use mathlib.Core.Path.{_≡_, refl, sym, ap, _∙_, subst}
 use mathlib.Core.Logic.{_⊎_, inl, inr}
-use Prim.Native.Nat.{ℕ, zero, suc, _+_, _-_, _*_, _^_, _≤_, _<_, zero-le}
-use native.Mathlib.Nat.{le-trans, le-of-eq, le-of-lt, lt-of-lt-of-le, mul-one, one-mul, zero-mul, mul-zero, zero-add, add-zero, mul-assoc, mul-comm, add-mul, mul-sub, mul-le-mul, mul-le-mul-left, mul-le-mul-right, zero-lt-suc, pow-succ'}
+use Prim.Native.Nat.{ℕ, zero, suc, _+_, _-_, _*_, _^_, _≤_, _<_}
+use native.Mathlib.Nat.{le-trans, le-of-eq, le-of-lt, lt-of-lt-of-le, mul-one, one-mul, zero-mul, mul-zero, mul-assoc, mul-comm, add-mul, mul-sub, mul-le-mul, mul-le-mul-left, mul-le-mul-right, zero-lt-suc, pow-succ'}
 use native.Mathlib.Omega.{arith}
 use mathlib.Core.Bool.{Bool, true, false, not, _&&_, Bool·beq, cond}
 use lib.Dec.{T, ltb, ltb→lt, nltb→le, lit≤, lit<}

@@ -1,5 +1,5 @@
 -- When a double is in the range of the hypotenuse, and what the operation answers for two such: number 0, and `hypotOf` as its value. Assumes nothing.
-use mathlib.Core.Path.{_≡_, refl, sym, ap, _∙_}
+use mathlib.Core.Path.{_≡_, sym, ap, _∙_}
 use mathlib.Core.Logic.{_⊎_, inl, inr}
 use Prim.Native.Nat.{ℕ, zero, suc, _*_, _^_, _≤_}
 use native.Mathlib.Nat.{le-trans, le-of-eq, mul-assoc, mul-le-mul-right, one-mul, zero-mul, zero-lt-suc}

@@ -25,6 +25,7 @@ pub mod DistanceRange
 pub mod NoFault
 pub mod MapPixels
 pub mod PassRange
+pub mod SeparationKey
 pub mod Scans
 pub mod Tests
 pub mod Members

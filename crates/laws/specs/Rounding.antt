@@ -1,7 +1,7 @@
 -- What rounding keeps, counted in units of the smallest double, 2 ^ -1074: what is 2 ^ j at least stays so, what is 2 ^ j at most stays so, and a multiple of 2 ^ j stays one;
 -- for 2 ^ j is a double, and either the digits that are dropped stand below it or the result is a multiple of a larger power. And a double of 2 ^ (j + 52) units or more is a multiple
 -- of 2 ^ j, since it has 53 digits. Assumes nothing.
-use mathlib.Core.Path.{_≡_, refl, sym, ap, _∙_, subst}
+use mathlib.Core.Path.{_≡_, sym, ap, _∙_, subst}
 use mathlib.Core.Logic.{_⊎_, inl, inr}
 use Prim.Native.Nat.{ℕ, zero, suc, _+_, _-_, _*_, _/_, _%_, _^_, _≤_, _<_, zero-le, compare, compare·zero-suc, Ordering, Ordering·lt}
 use native.Mathlib.Nat.{le-trans, le-of-eq, le-of-lt, lt-of-lt-of-le, lt-of-le-of-lt, not-le-of-lt, le-refl, le-add-left, lt-irrefl, zero-lt-suc, mul-one, one-mul, zero-mul, mul-assoc, mul-comm, mul-le-mul-right, mul-lt-mul-of-pos-right, mul-pos, mul-div-cancel, mul-mod-left, le-div-iff-mul-le, div-lt-iff-lt-mul}

@@ -1,7 +1,6 @@
 -- An operation on finite doubles sees only what numbers they are, not how these are written. Where x is ±a / c and y is ±b / d (`HasValue` of lib.Ieee.Exact), a sum, a product
 -- and a quotient round the fraction that follows from these numbers, and a comparison compares them. Sums and comparisons are stated for one denominator. Assumes nothing.
 use mathlib.Core.Path.{_≡_, refl, sym, ap, _∙_}
-use mathlib.Core.Logic.{_↔_}
 use Prim.Native.Nat.{ℕ, zero, suc, _+_, _-_, _*_, _≤_, _<_}
 use native.Mathlib.Nat.{le-trans, le-of-eq, lt-of-lt-of-le, lt-irrefl, add-mul, zero-mul, mul-sub, mul-comm, mul-assoc, mul-left-comm, mul-right-comm, mul-mul-mul-comm, mul-pos, mul-le-mul-right, le-of-mul-le-mul-right, eq-of-mul-eq-mul-right}
 use mathlib.Core.Bool.{Bool, true, false, not, _&&_, _||_, Bool·beq, cond}
