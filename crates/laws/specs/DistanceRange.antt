@@ -72,7 +72,8 @@ module _ (p a b : Point) where
   abbrev pub partBefore : Float
   partBefore =
       let n = add binary64 (mul binary64 alongX alongX) (mul binary64 alongY alongY) in
-      cond (eq n (float 0)) (float 0) (clamp01 (div binary64 (add binary64 (mul binary64 (sub binary64 (p .px) (a .px)) alongX) (mul binary64 (sub binary64 (p .py) (a .py)) alongY)) n))
+      cond (eq n (float 0)) (float 0)
+      (clamp01 (div binary64 (add binary64 (mul binary64 (sub binary64 (p .px) (a .px)) alongX) (mul binary64 (sub binary64 (p .py) (a .py)) alongY)) n))
 
   abbrev pub nearestPoint : Point
   nearestPoint = record { px = add binary64 (a .px) (mul binary64 partBefore alongX); py = add binary64 (a .py) (mul binary64 partBefore alongY) }
@@ -81,16 +82,9 @@ module _ (p a b : Point) where
   unfolding pointSegmentDistance
   point-segment-is = refl
 
-  module _ (hp : PixelPoint p) (ha : PixelPoint a) (hb : PixelPoint b) where
-    part-of-segment : Part partBefore
-    part-of-segment =
-        let x = whole-difference (hb .onX) (ha .onX) in
-        let y = whole-difference (hb .onY) (ha .onY) in
-        segment-part (add binary64 (mul binary64 (sub binary64 (p .px) (a .px)) alongX) (mul binary64 (sub binary64 (p .py) (a .py)) alongY)) (add binary64 (mul binary64 alongX alongX) (mul binary64 alongY alongY))
-        (products (whole-difference (hp .onX) (ha .onX)) x (whole-difference (hp .onY) (ha .onY)) y) (products x x y y)
-
-    pub point-segment-in-range : DistanceInRange p nearestPoint
-    point-segment-in-range = (
-      difference-in-range (p .px) (a .px) partBefore alongX (signed (hp .onX)) (signed (ha .onX)) part-of-segment (whole-difference (hb .onX) (ha .onX)),
-      difference-in-range (p .py) (a .py) partBefore alongY (signed (hp .onY)) (signed (ha .onY)) part-of-segment (whole-difference (hb .onY) (ha .onY)),
-    )
+  pub point-segment-in-range : PixelPoint p → PixelPoint a → PixelPoint b → DistanceInRange p nearestPoint
+  point-segment-in-range hp ha hb =
+      let x = whole-difference (hb .onX) (ha .onX) in
+      let y = whole-difference (hb .onY) (ha .onY) in
+      let t : Part partBefore = segment-part (products (whole-difference (hp .onX) (ha .onX)) x (whole-difference (hp .onY) (ha .onY)) y) (products x x y y) in
+      (difference-in-range (signed (hp .onX)) (signed (ha .onX)) t x, difference-in-range (signed (hp .onY)) (signed (ha .onY)) t y)

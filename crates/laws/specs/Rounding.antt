@@ -9,7 +9,7 @@ use native.Mathlib.Omega.{arith}
 use mathlib.Core.Bool.{Bool}
 use lib.Dec.{T}
 use lib.Pow.{pow-add, pow-pos, pow-mono, pow-lt}
-use lib.Ieee.{Float, nan, inf, fin, binary64, fits, size, nearest, round}
+use lib.Ieee.{Float, nan, inf, fin, binary64, fits, size, nearest, units, round}
 use lib.Ieee.Digits.{size-le, size-reaches}
 use lib.Ieee.Fits.{round-is}
 use lib.Ieee.Exact.{HasValue, units-val}
@@ -17,6 +17,7 @@ use lib.Ieee.Nearest.{closest, closest-mono, nearest-ge}
 use lib.Ieee.Order.{drop, kept}
 use Rattle.definitions.specs.Nearest.{patternMagnitude}
 use Rattle.laws.specs.Comparisons.{le-or-lt}
+use Rattle.laws.specs.Values.{Units}
 use Rattle.laws.specs.Patterns.{magnitude-of, magnitude-low, magnitude-normal, patternOf, read}
 
 split-power : (j k : ℕ) → k ≤ j → 2 ^ (j - k) * 2 ^ k ≡ 2 ^ j
@@ -46,7 +47,9 @@ module _ (n den : ℕ) (D : 0 < den) where
 
   scaled-power : (j x : ℕ) → k ≤ j → x * 2 ^ (j - k) * (den * 2 ^ k) ≡ x * 2 ^ j * den
   scaled-power j x l =
-      ap (λ (z : ℕ). x * 2 ^ (j - k) * z) (mul-comm den (2 ^ k)) ∙ sym (mul-assoc (x * 2 ^ (j - k)) (2 ^ k) den) ∙ ap (λ (z : ℕ). z * den) (mul-assoc x (2 ^ (j - k)) (2 ^ k) ∙ ap (λ (z : ℕ). x * z) (split-power j k l))
+      ap (λ (z : ℕ). x * 2 ^ (j - k) * z) (mul-comm den (2 ^ k))
+      ∙ sym (mul-assoc (x * 2 ^ (j - k)) (2 ^ k) den)
+      ∙ ap (λ (z : ℕ). z * den) (mul-assoc x (2 ^ (j - k)) (2 ^ k) ∙ ap (λ (z : ℕ). x * z) (split-power j k l))
 
   from-kept : (j : ℕ) → k ≤ j → 2 ^ j * den ≤ n → 2 ^ j ≤ nearestUnits n den
   from-kept j l h =
@@ -58,7 +61,9 @@ module _ (n den : ℕ) (D : 0 < den) where
   nearest-from : (j : ℕ) → 2 ^ j * den ≤ n → 2 ^ j ≤ nearestUnits n den
   nearest-from j h = elim (le-or-lt k j) [
     | inl l ↦ from-kept j l h
-    | inr l ↦ le-trans (pow-mono (omega arith)) (from-kept (52 + k) (omega arith) (le-div-iff-mul-le D .0 (size-reaches (n / den) (52 + k) (reached (size (n / den)) (lt-of-le-of-lt zero-le l)))))
+    | inr l ↦
+        let all : 52 + k < size (n / den) = reached (size (n / den)) (lt-of-le-of-lt zero-le l) in
+        le-trans (pow-mono (omega arith)) (from-kept (52 + k) (omega arith) (le-div-iff-mul-le D .0 (size-reaches (n / den) (52 + k) all)))
   ]
     where
       reached : (z : ℕ) → 0 < z - 53 → 52 + (z - 53) < z
@@ -82,40 +87,49 @@ module _ (n den : ℕ) (D : 0 < den) where
   nearest-multiple j c h = elim (le-or-lt k j) [
     | inl l ↦
         let x = c * 2 ^ (j - k) in
-        (c, ap (λ (z : ℕ). closest z (den * 2 ^ k) * 2 ^ k) (h ∙ sym (scaled-power j c l)) ∙ ap (λ (z : ℕ). z * 2 ^ k) (closest-whole x (den * 2 ^ k) (mul-pos D (pow-pos k))) ∙ mul-assoc c (2 ^ (j - k)) (2 ^ k) ∙ ap (λ (z : ℕ). c * z) (split-power j k l))
+        (
+          c,
+          ap (λ (z : ℕ). closest z (den * 2 ^ k) * 2 ^ k) (h ∙ sym (scaled-power j c l))
+              ∙ ap (λ (z : ℕ). z * 2 ^ k) (closest-whole x (den * 2 ^ k) (mul-pos D (pow-pos k)))
+              ∙ mul-assoc c (2 ^ (j - k)) (2 ^ k)
+              ∙ ap (λ (z : ℕ). c * z) (split-power j k l),
+        )
     | inr l ↦ (kept 53 n den * 2 ^ (k - j), ap (λ (z : ℕ). kept 53 n den * z) (sym (split-power k j (le-of-lt l))) ∙ sym (mul-assoc (kept 53 n den) (2 ^ (k - j)) (2 ^ j)))
   ]
 
 -- ---- a double that is the rounding of ±num / den, a fraction of at most 2 ^ k units
 
-pub record Rounded (s : Bool) (num den k : ℕ) (r : Float) : Type 0 where
-  pub units : ℕ
-  pub value : HasValue r s units (2 ^ 1074)
-  pub upto : units ≤ 2 ^ k
-  pub from : (j : ℕ) → 2 ^ j * den ≤ num * 2 ^ 1074 → 2 ^ j ≤ units
-  pub multiple : (j c : ℕ) → num * 2 ^ 1074 ≡ c * 2 ^ j * den → (z : ℕ) × (units ≡ z * 2 ^ j)
+pub record Rounded (num den k : ℕ) (r : Float) : Type 0 where
+  pub units : Units r
+  pub upto : units .number ≤ 2 ^ k
+  pub from : (j : ℕ) → 2 ^ j * den ≤ num * 2 ^ 1074 → 2 ^ j ≤ units .number
+  pub multiple : (j c : ℕ) → num * 2 ^ 1074 ≡ c * 2 ^ j * den → (z : ℕ) × (units .number ≡ z * 2 ^ j)
 
-pub rounded : (s : Bool) (num den k : ℕ) → 0 < den → k < 2098 → num * 2 ^ 1074 ≤ 2 ^ k * den → Rounded s num den k (round binary64 s num den)
+pub rounded : (s : Bool) (num den k : ℕ) → 0 < den → k < 2098 → num * 2 ^ 1074 ≤ 2 ^ k * den → Rounded num den k (round binary64 s num den)
 rounded s num den k D far h =
     let n = num * 2 ^ 1074 in
     let up : nearestUnits n den ≤ 2 ^ k = nearest-upto n den D k h in
+    let v : HasValue (units binary64 s (kept 53 n den) (drop 53 n den)) s (nearestUnits n den) (2 ^ 1074) =
+    units-val binary64 s (kept 53 n den) (drop 53 n den) (lt-of-le-of-lt up (pow-lt far)) in
     record {
-      units = nearestUnits n den;
-      value = subst (λ (x : Float). HasValue x s (nearestUnits n den) (2 ^ 1074)) (sym (round-is binary64 s num den)) (units-val binary64 s (kept 53 n den) (drop 53 n den) (lt-of-le-of-lt up (pow-lt far)));
+      units = record { sign = s; number = nearestUnits n den; value = subst (λ (x : Float). HasValue x s (nearestUnits n den) (2 ^ 1074)) (sym (round-is binary64 s num den)) v };
       upto = up;
       from = nearest-from n den D;
       multiple = nearest-multiple n den D;
     }
 
 -- zero is a multiple of 2 ^ (k + 1), and at most 2 ^ k
-pub rounded-zero : {s : Bool} {den k : ℕ} {r : Float} (x : Rounded s 0 den k r) → x .units ≡ 0
-rounded-zero {den = den} {k = k} x =
+pub rounded-zero : {den k : ℕ} {r : Float} (x : Rounded 0 den k r) → x .units .number ≡ 0
+rounded-zero {den} {k} x =
     let m = x .multiple (suc k) 0 (zero-mul (2 ^ 1074) ∙ sym ((λ i. zero-mul (2 ^ suc k) i * den) ∙ zero-mul den)) in
     none (m .0) (m .1)
   where
-    none : (z : ℕ) → x .units ≡ z * 2 ^ suc k → x .units ≡ 0
+    none : (z : ℕ) → x .units .number ≡ z * 2 ^ suc k → x .units .number ≡ 0
     none zero e = e ∙ zero-mul (2 ^ suc k)
-    none (suc z) e = absurd (not-le-of-lt (pow-lt {i = k} {j = suc k} (le-refl (suc k))) (le-trans (le-of-eq (sym (one-mul (2 ^ suc k)))) (le-trans (mul-le-mul-right (2 ^ suc k) (zero-lt-suc z)) (le-trans (le-of-eq (sym e)) (x .upto)))))
+    none (suc z) e =
+        absurd
+        (not-le-of-lt (pow-lt {i = k} {j = suc k} (le-refl (suc k)))
+        (le-trans (le-of-eq (sym (one-mul (2 ^ suc k)))) (le-trans (mul-le-mul-right (2 ^ suc k) (zero-lt-suc z)) (le-trans (le-of-eq (sym e)) (x .upto)))))
 
 -- ---- a double of 2 ^ (j + 52) units or more
 
@@ -137,10 +151,13 @@ large-pattern b j h = elim (le-or-lt (2 ^ 52) b) [
     order k (inl d) n = absurd (n d)
     order k (inr d) n = omega arith
 
-pub large-multiple : (x : Float) (s : Bool) (c j : ℕ) → T (fits binary64 x) → HasValue x s c (2 ^ 1074) → 2 ^ (j + 52) ≤ c → (z : ℕ) × (c ≡ z * 2 ^ j)
-large-multiple nan s c j f v h = absurd v
-large-multiple (inf t) s c j f v h = absurd v
-large-multiple (fin t m e) s c j f v h =
-    let q : c ≡ patternMagnitude (patternOf (fin t m e)) = sym (magnitude-of (fin t m e) s c v) ∙ read t m e f .0 in
-    let r = large-pattern (patternOf (fin t m e)) j (le-trans h (le-of-eq q)) in
-    (r .0, q ∙ r .1)
+pub large-multiple : {x : Float} (p : Units x) (j : ℕ) → T (fits binary64 x) → 2 ^ (j + 52) ≤ p .number → (z : ℕ) × (p .number ≡ z * 2 ^ j)
+large-multiple {x} p j f h = go x f (p .value)
+  where
+    go : (x : Float) → T (fits binary64 x) → HasValue x (p .sign) (p .number) (2 ^ 1074) → (z : ℕ) × (p .number ≡ z * 2 ^ j)
+    go nan f v = absurd v
+    go (inf t) f v = absurd v
+    go (fin t m e) f v =
+        let q : p .number ≡ patternMagnitude (patternOf (fin t m e)) = sym (magnitude-of (fin t m e) (p .sign) (p .number) v) ∙ read t m e f .0 in
+        let r = large-pattern (patternOf (fin t m e)) j (le-trans h (le-of-eq q)) in
+        (r .0, q ∙ r .1)

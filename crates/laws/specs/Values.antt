@@ -1,7 +1,7 @@
--- An operation on finite doubles sees only what numbers they are, not how these are written. Where x is ±a / c and y is ±b / d (`HasValue` of lib.Ieee.Exact), a sum, a product
--- and a quotient round the fraction that follows from these numbers, and a comparison compares them. Sums and comparisons are stated for one denominator. Assumes nothing.
+-- An operation on finite doubles sees only what numbers they are, not how these are written (`Valued`): a sum, a product and a quotient round the fraction that follows from the operands'
+-- fractions, and a comparison compares these. Sums and comparisons are stated for fractions of one denominator. Assumes nothing.
 use mathlib.Core.Path.{_≡_, refl, sym, ap, _∙_}
-use Prim.Native.Nat.{ℕ, zero, suc, _+_, _-_, _*_, _≤_, _<_}
+use Prim.Native.Nat.{ℕ, zero, suc, _+_, _-_, _*_, _^_, _≤_, _<_}
 use native.Mathlib.Nat.{le-trans, le-of-eq, lt-of-lt-of-le, lt-irrefl, add-mul, zero-mul, mul-sub, mul-comm, mul-assoc, mul-left-comm, mul-right-comm, mul-mul-mul-comm, mul-pos, mul-le-mul-right, le-of-mul-le-mul-right, eq-of-mul-eq-mul-right}
 use mathlib.Core.Bool.{Bool, true, false, not, _&&_, _||_, Bool·beq, cond}
 use lib.Dec.{ltb, eqb, eqb·suc-zero}
@@ -54,7 +54,8 @@ module _ {X Y k a b c : ℕ} (r : Same X Y k a b c) where
       cond (Bool·beq s t) (round-same binary64 s (X + Y) k (a + b) c (r .K) (r .C) (sum-cross r) i)
       (cond (ltb-same (same-order r) i) (round-same binary64 t (Y - X) k (b - a) c (r .K) (r .C) (minus-cross (swapped r)) i)
       (round-same binary64 (s && ltb Y X) (X - Y) k (a - b) c (r .K) (r .C) (minus-cross r) i)))
-      ∙ ap (λ z. cond (Bool·beq s t) (round binary64 s (a + b) c) (cond (ltb a b) (round binary64 t (b - a) c) (round binary64 (s && z) (a - b) c))) (ltb-same (same-order (swapped r)))
+      ∙ ap (λ z. cond (Bool·beq s t) (round binary64 s (a + b) c) (cond (ltb a b) (round binary64 t (b - a) c) (round binary64 (s && z) (a - b) c)))
+      (ltb-same (same-order (swapped r)))
 
   below-same : (s t : Bool) → below s X t Y ≡ below s a t b
   below-same false false = ltb-same (same-order r)
@@ -65,17 +66,30 @@ module _ {X Y k a b c : ℕ} (r : Same X Y k a b c) where
   level-same : (s t : Bool) → level s X t Y ≡ level s a t b
   level-same s t = λ i. eqb-same (same-order r) i && (Bool·beq s t || eqb-same (same-order (first-zero r)) i)
 
--- ---- what the doubles are
+-- ---- doubles as fractions
 
--- the same fraction with another denominator
-pub value-again : (x : Float) (s : Bool) (a c b d : ℕ) → 0 < c → a * d ≡ b * c → HasValue x s a c → HasValue x s b d
-value-again nan s a c b d C e h = h
-value-again (inf t) s a c b d C e h = h
-value-again (fin t m k) s a c b d C e h = (
+-- x is ±number / c (and has that sign, if it is zero)
+pub record Valued (c : ℕ) (x : Float) : Type 0 where
+  pub sign : Bool
+  pub number : ℕ
+  pub value : HasValue x sign number c
+
+-- in smallest doubles
+abbrev pub Units : Float → Type 0
+Units x = Valued (2 ^ 1074) x
+
+pub again-value : (x : Float) (s : Bool) (a c b d : ℕ) → 0 < c → a * d ≡ b * c → HasValue x s a c → HasValue x s b d
+again-value nan s a c b d C e h = h
+again-value (inf t) s a c b d C e h = h
+again-value (fin t m k) s a c b d C e h = (
   h .0,
   eq-of-mul-eq-mul-right c C (m * up k * d) (b * down k)
       (mul-right-comm (m * up k) d c ∙ ap (λ (z : ℕ). z * d) (h .1) ∙ mul-right-comm a (down k) d ∙ ap (λ (z : ℕ). z * down k) e ∙ mul-right-comm b c (down k)),
 )
+
+-- the same fraction with another denominator
+abbrev pub valued-again : {c : ℕ} {x : Float} (p : Valued c x) (b d : ℕ) → 0 < c → p .number * d ≡ b * c → Valued d x
+valued-again {c} {x} p b d C e = record { sign = p .sign; number = b; value = again-value x (p .sign) (p .number) c b d C e (p .value) }
 
 pub neg-value : (x : Float) (s : Bool) (a c : ℕ) → HasValue x s a c → HasValue (neg x) (not s) a c
 unfolding neg
@@ -83,76 +97,89 @@ neg-value nan s a c h = h
 neg-value (inf t) s a c h = h
 neg-value (fin t m e) s a c h = (ap not (h .0), h .1)
 
--- over the denominator of a sum
-over-both : (m n : ℕ) (e d : ℤ) (a b c : ℕ) → 0 < c → m * up e * c ≡ a * down e → n * up d * c ≡ b * down d
-    → Same (m * up e * down d) (n * up d * down e) (down e * down d) a b c
-over-both m n e d a b c C p q =
-    record {
-      K = mul-pos (down-pos e) (down-pos d);
-      C = C;
-      p = mul-right-comm (m * up e) (down d) c ∙ ap (λ (z : ℕ). z * down d) p ∙ mul-assoc a (down e) (down d);
-      q = mul-right-comm (n * up d) (down e) c ∙ ap (λ (z : ℕ). z * down e) q ∙ mul-assoc b (down d) (down e) ∙ ap (λ (z : ℕ). b * z) (mul-comm (down d) (down e));
-    }
+abbrev pub neg-valued : {c : ℕ} {x : Float} → Valued c x → Valued c (neg x)
+neg-valued {c} {x} p = record { sign = not (p .sign); number = p .number; value = neg-value x (p .sign) (p .number) c (p .value) }
 
-module _ (s t : Bool) (a b c : ℕ) (C : 0 < c) where
-  pub add-value : (x y : Float) → HasValue x s a c → HasValue y t b c → add binary64 x y ≡ sum binary64 s a t b c
+-- how it is written
+record Written (s : Bool) (a c : ℕ) (x : Float) : Type 0 where
+  m : ℕ
+  e : ℤ
+  is : x ≡ fin s m e
+  cross : m * up e * c ≡ a * down e
+
+written : {c : ℕ} {x : Float} (p : Valued c x) → Written (p .sign) (p .number) c x
+written {c} {x} p = go x (p .value)
+  where
+    go : (x : Float) → HasValue x (p .sign) (p .number) c → Written (p .sign) (p .number) c x
+    go nan h = absurd h
+    go (inf t) h = absurd h
+    go (fin t m e) h = record { m = m; e = e; is = λ i. fin (h .0 i) m e; cross = h .1 }
+
+-- ---- sums and comparisons
+
+module _ {c : ℕ} {x y : Float} (p : Valued c x) (q : Valued c y) (C : 0 < c) where
+  abbrev u : Written (p .sign) (p .number) c x
+  u = written p
+
+  abbrev v : Written (q .sign) (q .number) c y
+  v = written q
+
+  -- over the denominator of the sum
+  over-both : Same (u .m * up (u .e) * down (v .e)) (v .m * up (v .e) * down (u .e)) (down (u .e) * down (v .e)) (p .number) (q .number) c
+  over-both =
+      record {
+        K = mul-pos (down-pos (u .e)) (down-pos (v .e));
+        C = C;
+        p = mul-right-comm (u .m * up (u .e)) (down (v .e)) c ∙ ap (λ (z : ℕ). z * down (v .e)) (u .cross) ∙ mul-assoc (p .number) (down (u .e)) (down (v .e));
+        q = mul-right-comm (v .m * up (v .e)) (down (u .e)) c ∙ ap (λ (z : ℕ). z * down (u .e)) (v .cross) ∙ mul-assoc (q .number) (down (v .e)) (down (u .e)) ∙ ap (λ (z : ℕ). q .number * z) (mul-comm (down (v .e)) (down (u .e)));
+      }
+
+  pub add-value : add binary64 x y ≡ sum binary64 (p .sign) (p .number) (q .sign) (q .number) c
   unfolding add
-  add-value nan y p q = absurd p
-  add-value (inf u) y p q = absurd p
-  add-value (fin u m e) nan p q = absurd q
-  add-value (fin u m e) (inf v) p q = absurd q
-  add-value (fin u m e) (fin v n d) p q =
-      (λ i. sum binary64 (p .0 i) (m * up e * down d) (q .0 i) (n * up d * down e) (down e * down d)) ∙ sum-same (over-both m n e d a b c C (p .1) (q .1)) s t
+  add-value = (λ i. add binary64 (u .is i) (v .is i)) ∙ sum-same over-both (p .sign) (q .sign)
 
-  pub lt-value : (x y : Float) → HasValue x s a c → HasValue y t b c → lt x y ≡ below s a t b
+  pub lt-value : lt x y ≡ below (p .sign) (p .number) (q .sign) (q .number)
   unfolding lt
-  lt-value nan y p q = absurd p
-  lt-value (inf u) y p q = absurd p
-  lt-value (fin u m e) nan p q = absurd q
-  lt-value (fin u m e) (inf v) p q = absurd q
-  lt-value (fin u m e) (fin v n d) p q =
-      (λ i. below (p .0 i) (m * up e * down d) (q .0 i) (n * up d * down e)) ∙ below-same (over-both m n e d a b c C (p .1) (q .1)) s t
+  lt-value = (λ i. lt (u .is i) (v .is i)) ∙ below-same over-both (p .sign) (q .sign)
 
-  pub eq-value : (x y : Float) → HasValue x s a c → HasValue y t b c → eq x y ≡ level s a t b
+  pub eq-value : eq x y ≡ level (p .sign) (p .number) (q .sign) (q .number)
   unfolding eq
-  eq-value nan y p q = absurd p
-  eq-value (inf u) y p q = absurd p
-  eq-value (fin u m e) nan p q = absurd q
-  eq-value (fin u m e) (inf v) p q = absurd q
-  eq-value (fin u m e) (fin v n d) p q =
-      (λ i. level (p .0 i) (m * up e * down d) (q .0 i) (n * up d * down e)) ∙ level-same (over-both m n e d a b c C (p .1) (q .1)) s t
+  eq-value = (λ i. eq (u .is i) (v .is i)) ∙ level-same over-both (p .sign) (q .sign)
 
-pub sub-value : (s t : Bool) (a b c : ℕ) → 0 < c → (x y : Float) → HasValue x s a c → HasValue y t b c → sub binary64 x y ≡ sum binary64 s a (not t) b c
+pub sub-value : {c : ℕ} {x y : Float} (p : Valued c x) (q : Valued c y) → 0 < c → sub binary64 x y ≡ sum binary64 (p .sign) (p .number) (not (q .sign)) (q .number) c
 unfolding sub
-sub-value s t a b c C x y p q = add-value s (not t) a b c C x (neg y) p (neg-value y t b c q)
+sub-value p q C = add-value p (neg-valued q) C
 
-module _ (s t : Bool) (a c b d : ℕ) (C : 0 < c) (D : 0 < d) where
-  pub mul-value : (x y : Float) → HasValue x s a c → HasValue y t b d → mul binary64 x y ≡ round binary64 (unlike s t) (a * b) (c * d)
+-- ---- products and quotients
+
+module _ {c d : ℕ} {x y : Float} (p : Valued c x) (q : Valued d y) (C : 0 < c) (D : 0 < d) where
+  abbrev s : Bool
+  s = unlike (p .sign) (q .sign)
+
+  pub mul-value : mul binary64 x y ≡ round binary64 s (p .number * q .number) (c * d)
   unfolding mul
-  mul-value nan y p q = absurd p
-  mul-value (inf u) y p q = absurd p
-  mul-value (fin u m e) nan p q = absurd q
-  mul-value (fin u m e) (inf v) p q = absurd q
-  mul-value (fin u m e) (fin v n k) p q =
-      (λ i. round binary64 (unlike (p .0 i) (q .0 i)) (m * up e * (n * up k)) (down e * down k))
-      ∙ round-same binary64 (unlike s t) (m * up e * (n * up k)) (down e * down k) (a * b) (c * d) (mul-pos (down-pos e) (down-pos k)) (mul-pos C D)
-      (mul-mul-mul-comm (m * up e) (n * up k) c d ∙ (λ i. p .1 i * q .1 i) ∙ mul-mul-mul-comm a (down e) b (down k))
+  mul-value =
+      let u = written p in
+      let v = written q in
+      (λ i. mul binary64 (u .is i) (v .is i))
+      ∙ round-same binary64 s (u .m * up (u .e) * (v .m * up (v .e))) (down (u .e) * down (v .e)) (p .number * q .number) (c * d) (mul-pos (down-pos (u .e)) (down-pos (v .e))) (mul-pos C D)
+      (mul-mul-mul-comm (u .m * up (u .e)) (v .m * up (v .e)) c d ∙ (λ i. u .cross i * v .cross i) ∙ mul-mul-mul-comm (p .number) (down (u .e)) (q .number) (down (v .e)))
 
-  pub div-value : 0 < b → (x y : Float) → HasValue x s a c → HasValue y t b d → div binary64 x y ≡ round binary64 (unlike s t) (a * d) (b * c)
-  div-value B nan y p q = absurd p
-  div-value B (inf u) y p q = absurd p
-  div-value B (fin u m e) nan p q = absurd q
-  div-value B (fin u m e) (inf v) p q = absurd q
-  div-value B (fin u m e) (fin v n k) p q =
-      let N : 0 < n * up k = first-pos (n * up k) d (lt-of-lt-of-le (mul-pos B (down-pos k)) (le-of-eq (sym (q .1)))) in
-      (λ i. div binary64 (fin (p .0 i) m e) (fin (q .0 i) n k))
-      ∙ rounds n k (first-pos n (up k) N)
-      ∙ round-same binary64 (unlike s t) (m * up e * down k) (n * up k * down e) (a * d) (b * c) (mul-pos N (down-pos e)) (mul-pos B C)
-      (across (m * up e) (down k) b c ∙ (λ i. p .1 i * sym (q .1) i) ∙ across a (down e) (n * up k) d)
+  pub div-value : 0 < q .number → div binary64 x y ≡ round binary64 s (p .number * d) (q .number * c)
+  div-value B =
+      let u = written p in
+      let v = written q in
+      let some : 0 < v .m * up (v .e) = first-pos (v .m * up (v .e)) d (lt-of-lt-of-le (mul-pos B (down-pos (v .e))) (le-of-eq (sym (v .cross)))) in
+      (λ i. div binary64 (u .is i) (v .is i))
+      ∙ rounds (u .m) (u .e) (v .m) (v .e) (first-pos (v .m) (up (v .e)) some)
+      ∙ round-same binary64 s (u .m * up (u .e) * down (v .e)) (v .m * up (v .e) * down (u .e)) (p .number * d) (q .number * c) (mul-pos some (down-pos (u .e))) (mul-pos B C)
+      (across (u .m * up (u .e)) (down (v .e)) (q .number) c ∙ (λ i. u .cross i * sym (v .cross) i) ∙ across (p .number) (down (u .e)) (v .m * up (v .e)) d)
     where
-      rounds : (n : ℕ) (k : ℤ) → 0 < n → div binary64 (fin s m e) (fin t n k) ≡ round binary64 (unlike s t) (m * up e * down k) (n * up k * down e)
-      rounds zero k h = absurd (lt-irrefl 0 h)
-      rounds (suc n) k h = unfold div in ap (λ z. cond z (cond (eqb m 0) nan (inf (unlike s t))) (round binary64 (unlike s t) (m * up e * down k) (suc n * up k * down e))) (eqb·suc-zero n)
+      rounds : (m : ℕ) (e : ℤ) (n : ℕ) (k : ℤ) → 0 < n → div binary64 (fin (p .sign) m e) (fin (q .sign) n k) ≡ round binary64 s (m * up e * down k) (n * up k * down e)
+      rounds m e zero k h = absurd (lt-irrefl 0 h)
+      rounds m e (suc n) k h =
+          unfold div in
+          ap (λ z. cond z (cond (eqb m 0) nan (inf s)) (round binary64 s (m * up e * down k) (suc n * up k * down e))) (eqb·suc-zero n)
 
       across : (u v w z : ℕ) → u * v * (w * z) ≡ u * z * (w * v)
       across u v w z = simp (mul-assoc, mul-comm, mul-left-comm) refl

@@ -12,15 +12,13 @@ use lib.Ieee.Exact.{HasValue, round-exact}
 use lib.Ieee.Back.{round-whole}
 use borrow.Author.Tests.{le-ltb}
 use Rattle.definitions.specs.Geometry.{float}
-use Rattle.laws.specs.Values.{value-again, add-value, sub-value, mul-value, div-value, lt-value, eq-value}
+use Rattle.laws.specs.Values.{Valued, valued-again, add-value, sub-value, mul-value, div-value, lt-value, eq-value}
 
 -- ---- x is ±number / 2 ^ i, and the number is at most B
 
 pub record Dyadic (i B : ℕ) (x : Float) : Type 0 where
-  pub sign : Bool
-  pub number : ℕ
-  pub upto : number ≤ B
-  pub value : HasValue x sign number (2 ^ i)
+  pub parts : Valued (2 ^ i) x
+  pub upto : parts .number ≤ B
 
 -- a whole number of magnitude at most B
 abbrev pub Whole : ℕ → Float → Type 0
@@ -32,29 +30,37 @@ pub record Unsigned (i B : ℕ) (x : Float) : Type 0 where
   pub upto : number ≤ B
   pub value : HasValue x false number (2 ^ i)
 
+abbrev pub unsigned-valued : {i B : ℕ} {x : Float} → Unsigned i B x → Valued (2 ^ i) x
+unsigned-valued h = record { sign = false; number = h .number; value = h .value }
+
 pub signed : {i B : ℕ} {x : Float} → Unsigned i B x → Dyadic i B x
-signed h = record { sign = false; number = h .number; upto = h .upto; value = h .value }
+signed h = record { parts = unsigned-valued h; upto = h .upto }
 
 -- a whole number is twice as many halves
 pub whole-halves : {B : ℕ} {x : Float} → Unsigned 0 B x → Unsigned 1 (B * 2) x
-whole-halves {x = x} h = record { number = h .number * 2; upto = mul-le-mul-right 2 (h .upto); value = value-again x false (h .number) 1 (h .number * 2) 2 (pow-pos 0) (sym (mul-one (h .number * 2))) (h .value) }
+whole-halves h =
+    record {
+      number = h .number * 2;
+      upto = mul-le-mul-right 2 (h .upto);
+      value = valued-again (unsigned-valued h) (h .number * 2) 2 (pow-pos 0) (sym (mul-one (h .number * 2))) .value;
+    }
 
 -- ---- exact results
 
 round-dyadic : (s : Bool) (i n : ℕ) → i ≤ 1074 → n < 2 ^ 53 → HasValue (round binary64 s n (2 ^ i)) s n (2 ^ i)
 round-dyadic s i n l h =
     round-exact binary64 s n (2 ^ i) n (1074 - i) (pow-pos i) h (lt-of-lt-of-le (shl-lt 53 (1074 - i) h) (pow-mono {i = 53 + (1074 - i)} {j = 2098} (far i)))
-    (ap (λ (z : ℕ). n * z) (ap (λ (z : ℕ). 2 ^ z) (parts i l) ∙ pow-add 2 (1074 - i) i) ∙ sym (mul-assoc n (2 ^ (1074 - i)) (2 ^ i)))
+    (ap (λ (z : ℕ). n * z) (ap (λ (z : ℕ). 2 ^ z) (split i l) ∙ pow-add 2 (1074 - i) i) ∙ sym (mul-assoc n (2 ^ (1074 - i)) (2 ^ i)))
   where
     far : (i : ℕ) → 53 + (1074 - i) ≤ 2098
     far i = omega arith
 
-    parts : (i : ℕ) → i ≤ 1074 → 1074 ≡ 1074 - i + i
-    parts i l = omega arith
+    split : (i : ℕ) → i ≤ 1074 → 1074 ≡ 1074 - i + i
+    split i l = omega arith
 
 module _ {i B : ℕ} (l : i ≤ 1074) (far : B < 2 ^ 53) where
   dyadic-round : (s : Bool) (n : ℕ) → n ≤ B → Dyadic i B (round binary64 s n (2 ^ i))
-  dyadic-round s n h = record { sign = s; number = n; upto = h; value = round-dyadic s i n l (lt-of-le-of-lt h far) }
+  dyadic-round s n h = record { parts = record { sign = s; number = n; value = round-dyadic s i n l (lt-of-le-of-lt h far) }; upto = h }
 
   dyadic-sum : (s t : Bool) (a b : ℕ) → a + b ≤ B → Dyadic i B (sum binary64 s a t b (2 ^ i))
   unfolding sum
@@ -68,66 +74,66 @@ module _ {i B : ℕ} (l : i ≤ 1074) (far : B < 2 ^ 53) where
   -- with both signs clear the difference is at most the larger of the two
   pub difference-dyadic : {x y : Float} → Unsigned i B x → Unsigned i B y → Dyadic i B (sub binary64 x y)
   unfolding sum
-  difference-dyadic {x} {y} p q =
-      subst (Dyadic i B) (sym (sub-value false false (p .number) (q .number) (2 ^ i) (pow-pos i) x y (p .value) (q .value))) (go (p .number) (q .number) (p .upto) (q .upto) (ltb (p .number) (q .number)))
+  difference-dyadic p q =
+      subst (Dyadic i B) (sym (sub-value (unsigned-valued p) (unsigned-valued q) (pow-pos i))) (go (p .number) (q .number) (p .upto) (q .upto) (ltb (p .number) (q .number)))
     where
       go : (a b : ℕ) → a ≤ B → b ≤ B → (l : Bool) → Dyadic i B (cond l (round binary64 true (b - a) (2 ^ i)) (round binary64 false (a - b) (2 ^ i)))
       go a b h k true = dyadic-round true (b - a) (omega arith)
       go a b h k false = dyadic-round false (a - b) (omega arith)
 
-module _ {i A B : ℕ} {x y : Float} (p : Dyadic i A x) (q : Dyadic i B y) (l : i ≤ 1074) (far : A + B < 2 ^ 53) where
-  pub add-dyadic : Dyadic i (A + B) (add binary64 x y)
-  add-dyadic =
-      subst (Dyadic i (A + B)) (sym (add-value (p .sign) (q .sign) (p .number) (q .number) (2 ^ i) (pow-pos i) x y (p .value) (q .value)))
-      (dyadic-sum l far (p .sign) (q .sign) (p .number) (q .number) (omega (arith, p .upto, q .upto)))
+pub add-dyadic : {i A B : ℕ} {x y : Float} → Dyadic i A x → Dyadic i B y → i ≤ 1074 → A + B < 2 ^ 53 → Dyadic i (A + B) (add binary64 x y)
+add-dyadic {i} {A} {B} p q l far =
+    subst (Dyadic i (A + B)) (sym (add-value (p .parts) (q .parts) (pow-pos i)))
+    (dyadic-sum l far (p .parts .sign) (q .parts .sign) (p .parts .number) (q .parts .number) (omega (arith, p .upto, q .upto)))
 
 pub mul-dyadic : {i j A B : ℕ} {x y : Float} → Dyadic i A x → Dyadic j B y → i + j ≤ 1074 → A * B < 2 ^ 53 → Dyadic (i + j) (A * B) (mul binary64 x y)
-mul-dyadic {i} {j} {A} {B} {x} {y} p q l far =
-    subst (Dyadic (i + j) (A * B)) (sym (mul-value (p .sign) (q .sign) (p .number) (2 ^ i) (q .number) (2 ^ j) (pow-pos i) (pow-pos j) x y (p .value) (q .value) ∙ ap (round binary64 (unlike (p .sign) (q .sign)) (p .number * q .number)) (sym (pow-add 2 i j))))
-    (dyadic-round l far (unlike (p .sign) (q .sign)) (p .number * q .number) (mul-le-mul (p .upto) (q .upto)))
+mul-dyadic {i} {j} {A} {B} p q l far =
+    let s = unlike (p .parts .sign) (q .parts .sign) in
+    let n = p .parts .number * q .parts .number in
+    subst (Dyadic (i + j) (A * B)) (sym (mul-value (p .parts) (q .parts) (pow-pos i) (pow-pos j) ∙ ap (round binary64 s n) (sym (pow-add 2 i j))))
+    (dyadic-round l far s n (mul-le-mul (p .upto) (q .upto)))
 
 -- ---- `float`
-
-pub float-value : (n : ℕ) → n ≤ 2 ^ 53 → HasValue (float n) false n 1
-unfolding float
-float-value n h = round-whole binary64 false n h
 
 pub float-round : (n : ℕ) → float n ≡ round binary64 false n 1
 unfolding float
 float-round n = refl
 
+pub float-value : (n : ℕ) → n ≤ 2 ^ 53 → HasValue (float n) false n 1
+unfolding float
+float-value n h = round-whole binary64 false n h
+
+abbrev pub float-valued : (n : ℕ) → n ≤ 2 ^ 53 → Valued 1 (float n)
+float-valued n h = record { sign = false; number = n; value = float-value n h }
+
+pub float-unsigned : (B n : ℕ) → B ≤ 2 ^ 53 → n ≤ B → Unsigned 0 B (float n)
+float-unsigned B n far h = record { number = n; upto = h; value = float-value n (le-trans h far) }
+
 module _ (m n : ℕ) (hm : m ≤ 2 ^ 53) (hn : n ≤ 2 ^ 53) where
   pub add-float : add binary64 (float m) (float n) ≡ float (m + n)
   unfolding sum
-  add-float = add-value false false m n 1 (pow-pos 0) (float m) (float n) (float-value m hm) (float-value n hn) ∙ sym (float-round (m + n))
+  add-float = add-value (float-valued m hm) (float-valued n hn) (pow-pos 0) ∙ sym (float-round (m + n))
 
   pub mul-float : mul binary64 (float m) (float n) ≡ float (m * n)
-  mul-float = mul-value false false m 1 n 1 (pow-pos 0) (pow-pos 0) (float m) (float n) (float-value m hm) (float-value n hn) ∙ sym (float-round (m * n))
+  mul-float = mul-value (float-valued m hm) (float-valued n hn) (pow-pos 0) (pow-pos 0) ∙ sym (float-round (m * n))
 
   pub sub-float : n ≤ m → sub binary64 (float m) (float n) ≡ float (m - n)
   unfolding sum
   sub-float h =
-      sub-value false false m n 1 (pow-pos 0) (float m) (float n) (float-value m hm) (float-value n hn)
+      sub-value (float-valued m hm) (float-valued n hn) (pow-pos 0)
       ∙ ap (λ z. cond z (round binary64 true (n - m) 1) (round binary64 false (m - n) 1)) (le-ltb m n h)
       ∙ sym (float-round (m - n))
 
   pub lt-float : lt (float m) (float n) ≡ ltb m n
-  lt-float = lt-value false false m n 1 (pow-pos 0) (float m) (float n) (float-value m hm) (float-value n hn)
+  lt-float = lt-value (float-valued m hm) (float-valued n hn) (pow-pos 0)
 
   pub eq-float : eq (float m) (float n) ≡ eqb m n
-  eq-float = eq-value false false m n 1 (pow-pos 0) (float m) (float n) (float-value m hm) (float-value n hn) ∙ and-true (eqb m n)
-
-pub float-unsigned : (B n : ℕ) → B ≤ 2 ^ 53 → n ≤ B → Unsigned 0 B (float n)
-float-unsigned B n far h = record { number = n; upto = h; value = float-value n (le-trans h far) }
+  eq-float = eq-value (float-valued m hm) (float-valued n hn) (pow-pos 0) ∙ and-true (eqb m n)
 
 -- half of one
 pub half-float : (B n : ℕ) → B < 2 ^ 53 → n ≤ B → Unsigned 1 B (div binary64 (float n) (float 2))
 half-float B n far h =
     let l : n < 2 ^ 53 = lt-of-le-of-lt h far in
-    record {
-      number = n;
-      upto = h;
-      value = subst (λ (x : Float). HasValue x false n 2)
-          (sym (div-value false false n 1 2 1 (pow-pos 0) (pow-pos 0) (pow-pos 1) (float n) (float 2) (float-value n (le-of-lt l)) (float-value 2 (lit≤ tt)) ∙ ap (λ (z : ℕ). round binary64 false z 2) (mul-one n)))
-          (round-dyadic false 1 n (lit≤ tt) l);
-    }
+    let e : div binary64 (float n) (float 2) ≡ round binary64 false n 2 =
+    div-value (float-valued n (le-of-lt l)) (float-valued 2 (lit≤ tt)) (pow-pos 0) (pow-pos 0) (pow-pos 1) ∙ ap (λ (z : ℕ). round binary64 false z 2) (mul-one n) in
+    record { number = n; upto = h; value = subst (λ (x : Float). HasValue x false n 2) (sym e) (round-dyadic false 1 n (lit≤ tt) l) }
