@@ -1,5 +1,5 @@
--- The part t of a segment at which a point's nearest point lies, as `pointSegmentDistance` has it: a quotient of whole numbers, with a divisor from 1 to 2 ^ 27, brought between 0 and 1.
--- It is zero, or at least 2 ^ -27 since the quotient is, and at most 1 by the clamp (`Part`). Assumes nothing.
+-- The part t of a segment that lies before a point's nearest point, as `pointSegmentDistance` has it: a quotient of whole numbers, with a divisor from 1 to
+-- 2 ^ 27, brought between 0 and 1. It is zero, or at least 2 ^ -27 since the quotient is, and at most 1 by the clamp (`Part`). Assumes nothing.
 use mathlib.Core.Path.{_≡_, refl, sym, _∙_, subst}
 use mathlib.Core.Logic.{_⊎_, inl, inr}
 use Prim.Native.Nat.{ℕ, zero, suc, _+_, _*_, _^_, _≤_, _<_, zero-le}
@@ -62,9 +62,10 @@ quotient-part {x} {y} p q M =
     let s = unlike (p .parts .sign) (q .parts .sign) in
     let n = p .parts .number in
     let d = q .parts .number in
-    let most : n * 2 ^ 1074 ≤ 2 ^ 1101 * d = le-trans (mul-le-mul-right (2 ^ 1074) (p .upto)) (le-trans (le-of-eq (sym (pow-add 2 27 1074) ∙ sym (mul-one (2 ^ 1101)))) (mul-le-mul-left (2 ^ 1101) M)) in
-    let r : Rounded n d 1101 (div binary64 x y) =
-    subst (Rounded n d 1101) (sym (div-value (p .parts) (q .parts) (pow-pos 0) (pow-pos 0) M ∙ (λ i. round binary64 s (mul-one n i) (mul-one d i)))) (rounded s n d 1101 M (lit< tt) most) in
+    let most : n * 2 ^ 1074 ≤ 2 ^ 1101 * d =
+    le-trans (mul-le-mul-right (2 ^ 1074) (p .upto)) (le-trans (le-of-eq (sym (pow-add 2 27 1074) ∙ sym (mul-one (2 ^ 1101)))) (mul-le-mul-left (2 ^ 1101) M)) in
+    let e : div binary64 x y ≡ round binary64 s n d = div-value (p .parts) (q .parts) (pow-pos 0) (pow-pos 0) M ∙ (λ i. round binary64 s (mul-one n i) (mul-one d i)) in
+    let r : Rounded n d 1101 (div binary64 x y) = subst (Rounded n d 1101) (sym e) (rounded s n d 1101 M (lit< tt) most) in
     clamp-part (r .units) (least-quotient n d (q .upto) r)
 
 -- with t zero for a divisor of zero

@@ -1,7 +1,8 @@
--- The differences p - (a + t * dx) by which a pass measures how far a point is from a segment are in the range of the hypotenuse. Here p, a and dx are whole numbers up to 2 ^ 13 and
--- t is zero or from 2 ^ -27 to 1. That t * dx is a multiple of some small power of two is not enough: the smallest such power would be 2 ^ -79. What holds of it is that it is a multiple
--- of 2 ^ -53, as every double from a half on is, or else from 2 ^ -27 to a half (`Spaced`); and adding a whole number keeps this, since a number below a half and a whole number
--- other than 0 make a half at least. So a difference is 0 or at least 2 ^ -53. All is counted in units of the smallest double, 2 ^ -1074. Assumes nothing.
+-- The differences p - (a + t * dx) by which a pass measures how far a point is from a segment are in the range of the hypotenuse. Here p, a and dx are whole
+-- numbers up to 2 ^ 13 and t is zero or from 2 ^ -27 to 1. That t is a multiple of a power of two is not enough: that power is 2 ^ -79 for the least t.
+-- What holds of t * dx is that it is a multiple of 2 ^ -53, as every double from a half on is, or else from 2 ^ -27 to a half (`Spaced`); and adding a whole
+-- number keeps this, since a whole number other than 0 and a number up to a half make a half at least. So a difference is 0 or at least 2 ^ -53.
+-- All is counted in units of the smallest double, 2 ^ -1074. Assumes nothing.
 use mathlib.Core.Path.{_≡_, refl, sym, ap, _∙_, subst}
 use mathlib.Core.Logic.{_⊎_, inl, inr}
 use Prim.Native.Nat.{ℕ, zero, suc, _+_, _-_, _*_, _^_, _≤_, _<_}
@@ -73,7 +74,8 @@ sum-joins s t a b = go (Bool·beq s t) (ltb a b) (ltb→lt a b) (nltb→le a b)
   where
     go : (o l : Bool) → (T l → a < b) → (T (not l) → b ≤ a)
         → (u : Bool) × (v : ℕ) × Joins a b v
-        × (cond o (round binary64 s (a + b) (2 ^ 1074)) (cond l (round binary64 t (b - a) (2 ^ 1074)) (round binary64 (s && ltb b a) (a - b) (2 ^ 1074))) ≡ round binary64 u v (2 ^ 1074))
+        × (cond o (round binary64 s (a + b) (2 ^ 1074)) (cond l (round binary64 t (b - a) (2 ^ 1074)) (round binary64 (s && ltb b a) (a - b) (2 ^ 1074)))
+        ≡ round binary64 u v (2 ^ 1074))
     go true l y n = (s, a + b, inl refl, refl)
     go false true y n = (t, b - a, inr (inl (rest b a (le-of-lt (y tt)))), refl)
       where
@@ -116,9 +118,11 @@ joins-least h (suc A) c v p l j = inr (least (suc A * (2 * h)) (le-trans (le-of-
     least x g (inr (inr e)) = omega arith
 
 -- what is rounded, v, is spaced, so the result is
-join-spaced : {k : ℕ} {r : Float} (A b v : ℕ) → Joins (A * 2 ^ 1074) b v → T (fits binary64 r) → (x : Rounded v (2 ^ 1074) k r) → MultipleOrSmall b → MultipleOrSmall (x .units .number)
+join-spaced : {k : ℕ} {r : Float} (A b v : ℕ) → Joins (A * 2 ^ 1074) b v → T (fits binary64 r) → (x : Rounded v (2 ^ 1074) k r) → MultipleOrSmall b
+    → MultipleOrSmall (x .units .number)
 join-spaced A b v j f x (inl z) =
-    let same : Joins (A * 2 ^ 53 * 2 ^ 1021) (z .0 * 2 ^ 1021) v = subst (λ (y : ℕ). Joins y (z .0 * 2 ^ 1021) v) (sym (mul-assoc A (2 ^ 53) (2 ^ 1021))) (subst (λ (y : ℕ). Joins (A * 2 ^ 1074) y v) (z .1) j) in
+    let same : Joins (A * 2 ^ 53 * 2 ^ 1021) (z .0 * 2 ^ 1021) v =
+    subst (λ (y : ℕ). Joins y (z .0 * 2 ^ 1021) v) (sym (mul-assoc A (2 ^ 53) (2 ^ 1021))) (subst (λ (y : ℕ). Joins (A * 2 ^ 1074) y v) (z .1) j) in
     let c = joins-multiple (2 ^ 1021) (A * 2 ^ 53) (z .0) v same in
     inl (x .multiple 1021 (c .0) (ap (λ (y : ℕ). y * 2 ^ 1074) (c .1)))
 join-spaced A b v j f x (inr z) = elim (joins-least (2 ^ 1073) A b v (lt-of-lt-of-le (pow-pos 1047) (z .0)) (z .1) j) [
@@ -154,7 +158,8 @@ spaced-in-range q = units-in-range (q .units) (low (q .units .number) (q .spaced
     low : (c : ℕ) → MultipleOrSmall c → (c ≡ 0) ⊎ (2 ^ 1010 ≤ c)
     low c (inr h) = inr (le-trans (lit≤ tt) (h .0))
     low c (inl (zero, e)) = inl (e ∙ zero-mul (2 ^ 1021))
-    low c (inl (suc z, e)) = inr (le-trans {m = 2 ^ 1021} (lit≤ tt) (le-trans (le-of-eq (sym (one-mul (2 ^ 1021)))) (le-trans (mul-le-mul-right (2 ^ 1021) (zero-lt-suc z)) (le-of-eq (sym e)))))
+    low c (inl (suc z, e)) =
+        inr (le-trans {m = 2 ^ 1021} (lit≤ tt) (le-trans (le-of-eq (sym (one-mul (2 ^ 1021)))) (le-trans (mul-le-mul-right (2 ^ 1021) (zero-lt-suc z)) (le-of-eq (sym e)))))
 
 sub-is : (x y : Float) → sub binary64 x y ≡ add binary64 x (neg y)
 unfolding sub

@@ -1,6 +1,6 @@
--- Where points of a map are asked how far they are apart, the arguments of the hypotenuse are in its range: differences of pixels and half pixels, up to 8,192 pixels, are numbers
--- of halves; and between a point and a segment they are differences as in Differences.antt. So number 13 cannot come, and the answer is `distance`, whose sign is clear.
--- Assumes nothing but that coordinates are at most 8,192 pixels (Pixels.antt).
+-- Where points of a map are asked how far they are apart, the arguments of the hypotenuse are in its range: differences of pixels and half pixels are numbers
+-- of halves, and between a point and a segment they are differences as in Differences.antt. So number 13 cannot come, and the answer is `distance`, whose sign
+-- is clear. Assumes coordinates of at most 8,192 pixels, as Pixels.antt has it.
 use mathlib.Core.Path.{_≡_, refl}
 use Prim.Native.Nat.{ℕ, _^_, _≤_}
 use mathlib.Core.Bool.{true, cond}
@@ -58,7 +58,8 @@ differences-in-range m n k l hm hn hk hl = (of m n hm hn, of k l hk hl)
 whole-difference : {x y : Float} → Pixel x → Pixel y → Whole maxPixel (sub binary64 x y)
 whole-difference u v = difference-dyadic (lit≤ tt) (lit< tt) u v
 
-products : {u v x y : Float} → Whole maxPixel u → Whole maxPixel v → Whole maxPixel x → Whole maxPixel y → Whole (2 ^ 27) (add binary64 (mul binary64 u v) (mul binary64 x y))
+products : {u v x y : Float} → Whole maxPixel u → Whole maxPixel v → Whole maxPixel x → Whole maxPixel y
+    → Whole (2 ^ 27) (add binary64 (mul binary64 u v) (mul binary64 x y))
 products hu hv hx hy = add-dyadic (mul-dyadic hu hv (lit≤ tt) (lit< tt)) (mul-dyadic hx hy (lit≤ tt) (lit< tt)) (lit≤ tt) (lit< tt)
 
 module _ (p a b : Point) where

@@ -34,7 +34,8 @@ units-in-range {x} p l h = go x (p .value)
 pub halves-in-range : {B : ℕ} {x : Float} → B ≤ 2 ^ 16 → Dyadic 1 B x → inRange x ≡ true
 halves-in-range far h =
     let n = h .parts .number in
-    units-in-range (valued-again (h .parts) (n * 2 ^ 1073) (2 ^ 1074) (pow-pos 1) (sym (mul-assoc n (2 ^ 1073) 2))) (least n) (mul-le-mul-right (2 ^ 1073) (le-trans (h .upto) far))
+    units-in-range (valued-again (h .parts) (n * 2 ^ 1073) (2 ^ 1074) (pow-pos 1) (sym (mul-assoc n (2 ^ 1073) 2))) (least n)
+    (mul-le-mul-right (2 ^ 1073) (le-trans (h .upto) far))
   where
     least : (n : ℕ) → (n * 2 ^ 1073 ≡ 0) ⊎ (2 ^ 1010 ≤ n * 2 ^ 1073)
     least zero = inl (zero-mul (2 ^ 1073))

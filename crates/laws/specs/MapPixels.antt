@@ -1,5 +1,5 @@
--- The coordinates of a map that passes checks 1 and 7 of document 01's table: its sides are 1 to 1,024 cells and its boundaries' endpoints are on it, so that endpoints are pixels up
--- to 8,192. So are the edges of a region, the least and the most of coordinates of its cells. Assumes nothing.
+-- The coordinates of a map that passes checks 1 and 7 of document 01's table: its sides are 1 to 1,024 cells and its boundaries' endpoints are on it, so that
+-- endpoints are pixels up to 8,192. So are the edges of a region, the least and the most of coordinates of its cells. Assumes nothing.
 use mathlib.Core.Path.{_≡_}
 use Prim.Native.Nat.{ℕ, zero, suc, _+_, _*_, _/_, _%_, _≤_, _<_, zero-le, min, max}
 use native.Mathlib.Nat.{le-trans, mul-le-mul-left, mod-lt, div-lt-iff-lt-mul}
@@ -36,7 +36,8 @@ unfolding run
 all-run f s zero h = done
 all-run f s (suc n) h = more (h s (omega arith)) (all-run f (suc s) n (λ i l. h i (omega arith)))
 
-pub lent-on-map : (w h : ℕ) (cells spans boundaries anchors : List ℕ) → sidesFault w h ≡ none → boundariesFault w h boundaries ≡ none → OnMap (mapOf w h cells spans boundaries anchors)
+pub lent-on-map : (w h : ℕ) (cells spans boundaries anchors : List ℕ) → sidesFault w h ≡ none → boundariesFault w h boundaries ≡ none
+    → OnMap (mapOf w h cells spans boundaries anchors)
 unfolding mapOf
 lent-on-map w h cells spans boundaries anchors s b =
     let sides = both (isSide w) (isSide h) (no-fault (isSide w && isSide h) 0 s) in
@@ -129,7 +130,8 @@ pub map-pixel : {M : Map} → OnMap M → PixelContext (contextOf M)
 unfolding contextOf
 map-pixel {M} h =
     record {
-      ends = all-default {P = λ b. PixelSegment (b .endpoints)} noBoundary nowhere (all-map (λ b k. segment-pixel (M .width) (M .height) (h .wide) (h .high) (b .endpoints) k) (h .ends));
+      ends = all-default {P = λ b. PixelSegment (b .endpoints)} noBoundary nowhere
+          (all-map (λ b k. segment-pixel (M .width) (M .height) (h .wide) (h .high) (b .endpoints) k) (h .ends));
       edges = region-pixel M (h .wide) (h .high) (labels M);
     }
   where

@@ -1,6 +1,6 @@
--- No pass leaves the range of the hypotenuse (document 01, 'Hypotenuse'), so that number 13 cannot come from one: `pass-in-range` says it of every map that passes checks 1 and 7, for
--- each place at which a definition of a pass asks how far two points are apart. Their coordinates are pixels and half pixels up to 8,192 (MapPixels), for which DistanceRange has it.
--- Assumes nothing.
+-- No pass leaves the range of the hypotenuse (document 01, 'Hypotenuse'), so that number 13 cannot come from one: `pass-in-range` says it of every map that
+-- passes checks 1 and 7, for each place at which a definition of a pass asks how far two points are apart or how long a segment is. The coordinates there are
+-- pixels and half pixels up to 8,192 (MapPixels), for which DistanceRange has it. Assumes nothing.
 use Prim.Native.Nat.{ℕ}
 use Rattle.definitions.specs.Grid.{Position, Segment, Map, canonical}
 use Rattle.definitions.specs.Geometry.{Point, point, center}
@@ -89,7 +89,8 @@ context-in-range {C} h =
       separations = λ m a. separation-in-range (h .ends m) (h .ends a);
       representatives = λ m a. representative-in-range (canonical-pixel (h .ends m)) (canonical-pixel (h .ends a));
       ports = λ i j. centers-in-range (h .ends i) (h .ends j);
-      cornersToCenter = λ r i. all-map (λ c k. distance-in-range c (center (C .boundary i .endpoints)) (pixel-half k) (center-half (h .ends i))) (corners-pixel (h .edges r));
+      cornersToCenter = λ r i.
+          all-map (λ c k. distance-in-range c (center (C .boundary i .endpoints)) (pixel-half k) (center-half (h .ends i))) (corners-pixel (h .edges r));
       cornersToSpan = λ r i. all-map (λ c k. segment-in-range k (h .ends i)) (corners-pixel (h .edges r));
     }
 

@@ -1,5 +1,5 @@
--- Coordinates of a map as doubles: points whose coordinates are whole numbers of pixels, and half pixels as centres have, up to 8,192, the largest coordinate of a map of the
--- largest side. Endpoints, centres and corners of regions are such points. Assumes nothing.
+-- Coordinates of a map as doubles: whole numbers of pixels, and half pixels as centres have, up to 8,192, the largest coordinate of a map of the largest side.
+-- Endpoints, centres and corners of regions have such coordinates. Assumes nothing.
 use mathlib.Core.Path.{sym, subst}
 use Prim.Native.Nat.{ℕ, _+_, _*_, _^_, _≤_}
 use native.Mathlib.Nat.{le-trans, add-le-add}
@@ -75,7 +75,8 @@ center-half {s} h =
   where
     middle : (m n : ℕ) → m ≤ maxPixel → n ≤ maxPixel → HalfPixel (div binary64 (add binary64 (float m) (float n)) (float 2))
     middle m n hm hn =
-        subst (λ (x : Float). HalfPixel (div binary64 x (float 2))) (sym (add-float m n (small hm) (small hn))) (half-float (maxPixel * 2) (m + n) (lit< tt) (add-le-add hm hn))
+        subst (λ (x : Float). HalfPixel (div binary64 x (float 2))) (sym (add-float m n (small hm) (small hn)))
+        (half-float (maxPixel * 2) (m + n) (lit< tt) (add-le-add hm hn))
       where
         small : {k : ℕ} → k ≤ maxPixel → k ≤ 2 ^ 53
         small h = le-trans h (lit≤ tt)

@@ -1,6 +1,6 @@
--- What rounding keeps, counted in units of the smallest double, 2 ^ -1074: what is 2 ^ j at least stays so, what is 2 ^ j at most stays so, and a multiple of 2 ^ j stays one;
--- for 2 ^ j is a double, and either the digits that are dropped stand below it or the result is a multiple of a larger power. And a double of 2 ^ (j + 52) units or more is a multiple
--- of 2 ^ j, since it has 53 digits. Assumes nothing.
+-- What rounding keeps, counted in units of the smallest double, 2 ^ -1074: what is 2 ^ j at least stays so, what is 2 ^ j at most stays so, and a multiple of
+-- 2 ^ j stays one; for 2 ^ j is a double, and either the digits that are dropped stand below it or the result is a multiple of a larger power.
+-- And a double of 2 ^ (j + 52) units or more is a multiple of 2 ^ j, since it has 53 digits. Assumes nothing.
 use mathlib.Core.Path.{_≡_, sym, ap, _∙_, subst}
 use mathlib.Core.Logic.{_⊎_, inl, inr}
 use Prim.Native.Nat.{ℕ, zero, suc, _+_, _-_, _*_, _/_, _%_, _^_, _≤_, _<_, zero-le, compare, compare·zero-suc, Ordering, Ordering·lt}
@@ -9,7 +9,7 @@ use native.Mathlib.Omega.{arith}
 use mathlib.Core.Bool.{Bool}
 use lib.Dec.{T}
 use lib.Pow.{pow-add, pow-pos, pow-mono, pow-lt}
-use lib.Ieee.{Float, nan, inf, fin, binary64, fits, size, nearest, units, round}
+use lib.Ieee.{Float, nan, inf, fin, binary64, fits, size, nearest, round}
 use lib.Ieee.Digits.{size-le, size-reaches}
 use lib.Ieee.Fits.{round-is}
 use lib.Ieee.Exact.{HasValue, units-val}
@@ -45,17 +45,14 @@ module _ (n den : ℕ) (D : 0 < den) where
   abbrev k : ℕ
   k = drop 53 n den
 
-  scaled-power : (j x : ℕ) → k ≤ j → x * 2 ^ (j - k) * (den * 2 ^ k) ≡ x * 2 ^ j * den
-  scaled-power j x l =
-      ap (λ (z : ℕ). x * 2 ^ (j - k) * z) (mul-comm den (2 ^ k))
-      ∙ sym (mul-assoc (x * 2 ^ (j - k)) (2 ^ k) den)
-      ∙ ap (λ (z : ℕ). z * den) (mul-assoc x (2 ^ (j - k)) (2 ^ k) ∙ ap (λ (z : ℕ). x * z) (split-power j k l))
+  in-steps : (j : ℕ) → k ≤ j → 2 ^ (j - k) * (den * 2 ^ k) ≡ 2 ^ j * den
+  in-steps j l = ap (λ (z : ℕ). 2 ^ (j - k) * z) (mul-comm den (2 ^ k)) ∙ sym (mul-assoc (2 ^ (j - k)) (2 ^ k) den) ∙ ap (λ (z : ℕ). z * den) (split-power j k l)
 
   from-kept : (j : ℕ) → k ≤ j → 2 ^ j * den ≤ n → 2 ^ j ≤ nearestUnits n den
   from-kept j l h =
-      let u : 2 ^ (j - k) * (den * 2 ^ k) ≤ n = le-trans (le-of-eq ((λ i. sym (one-mul (2 ^ (j - k))) i * (den * 2 ^ k)) ∙ scaled-power j 1 l ∙ (λ i. one-mul (2 ^ j) i * den))) h in
-      le-trans (le-of-eq (sym (split-power j k l)))
-      (mul-le-mul-right (2 ^ k) (le-trans (le-div-iff-mul-le (mul-pos D (pow-pos k)) .1 u) (nearest-ge (n / (den * 2 ^ k)) (compare (n % (den * 2 ^ k) * 2) (den * 2 ^ k)))))
+      let u = den * 2 ^ k in
+      let q : 2 ^ (j - k) ≤ n / u = le-div-iff-mul-le (mul-pos D (pow-pos k)) .1 (le-trans (le-of-eq (in-steps j l)) h) in
+      le-trans (le-of-eq (sym (split-power j k l))) (mul-le-mul-right (2 ^ k) (le-trans q (nearest-ge (n / u) (compare (n % u * 2) u))))
 
   -- where digits are dropped, the fraction is 2 ^ (52 + k) at least
   nearest-from : (j : ℕ) → 2 ^ j * den ≤ n → 2 ^ j ≤ nearestUnits n den
@@ -74,11 +71,10 @@ module _ (n den : ℕ) (D : 0 < den) where
       let w : n / den < 2 ^ suc j = div-lt-iff-lt-mul D .1 (lt-of-le-of-lt h (mul-lt-mul-of-pos-right (pow-lt (le-refl (suc j))) D)) in
       let l : k ≤ j = few (size (n / den)) j (size-le (n / den) (suc j) w) in
       let x = 2 ^ (j - k) in
-      let under : n ≤ x * (den * 2 ^ k) = le-trans h (le-of-eq ((λ i. sym (one-mul (2 ^ j)) i * den) ∙ sym (scaled-power j 1 l) ∙ (λ i. one-mul x i * (den * 2 ^ k)))) in
-      le-trans (mul-le-mul-right (2 ^ k) (le-trans (closest-mono n (den * 2 ^ k) (x * 1) 1 (mul-pos D (pow-pos k)) (zero-lt-suc 0)
-      (le-trans (le-of-eq (mul-one n)) (le-trans under (le-of-eq (λ i. sym (mul-one x) i * (den * 2 ^ k))))))
-      (le-of-eq (closest-whole x 1 (zero-lt-suc 0)))))
-      (le-of-eq (split-power j k l))
+      let u = den * 2 ^ k in
+      let under : n * 1 ≤ x * 1 * u = le-trans (le-of-eq (mul-one n)) (le-trans h (le-of-eq (sym (in-steps j l) ∙ (λ i. sym (mul-one x) i * u)))) in
+      let q : closest n u ≤ x = le-trans (closest-mono n u (x * 1) 1 (mul-pos D (pow-pos k)) (zero-lt-suc 0) under) (le-of-eq (closest-whole x 1 (zero-lt-suc 0))) in
+      le-trans (mul-le-mul-right (2 ^ k) q) (le-of-eq (split-power j k l))
     where
       few : (z j : ℕ) → z ≤ suc j → z - 53 ≤ j
       few z j h = omega arith
@@ -86,15 +82,16 @@ module _ (n den : ℕ) (D : 0 < den) where
   nearest-multiple : (j c : ℕ) → n ≡ c * 2 ^ j * den → (z : ℕ) × (nearestUnits n den ≡ z * 2 ^ j)
   nearest-multiple j c h = elim (le-or-lt k j) [
     | inl l ↦
-        let x = c * 2 ^ (j - k) in
-        (
+        let x = c * 2 ^ (j - k) in (
           c,
-          ap (λ (z : ℕ). closest z (den * 2 ^ k) * 2 ^ k) (h ∙ sym (scaled-power j c l))
+          ap (λ (z : ℕ). closest z (den * 2 ^ k) * 2 ^ k) (h ∙ mul-assoc c (2 ^ j) den ∙ ap (λ (z : ℕ). c * z) (sym (in-steps j l)) ∙ sym (mul-assoc c (2 ^ (j - k)) (den * 2 ^ k)))
               ∙ ap (λ (z : ℕ). z * 2 ^ k) (closest-whole x (den * 2 ^ k) (mul-pos D (pow-pos k)))
               ∙ mul-assoc c (2 ^ (j - k)) (2 ^ k)
               ∙ ap (λ (z : ℕ). c * z) (split-power j k l),
         )
-    | inr l ↦ (kept 53 n den * 2 ^ (k - j), ap (λ (z : ℕ). kept 53 n den * z) (sym (split-power k j (le-of-lt l))) ∙ sym (mul-assoc (kept 53 n den) (2 ^ (k - j)) (2 ^ j)))
+    | inr l ↦
+        let q = kept 53 n den in
+        (q * 2 ^ (k - j), ap (λ (z : ℕ). q * z) (sym (split-power k j (le-of-lt l))) ∙ sym (mul-assoc q (2 ^ (k - j)) (2 ^ j)))
   ]
 
 -- ---- a double that is the rounding of ±num / den, a fraction of at most 2 ^ k units
@@ -109,10 +106,11 @@ pub rounded : (s : Bool) (num den k : ℕ) → 0 < den → k < 2098 → num * 2 
 rounded s num den k D far h =
     let n = num * 2 ^ 1074 in
     let up : nearestUnits n den ≤ 2 ^ k = nearest-upto n den D k h in
-    let v : HasValue (units binary64 s (kept 53 n den) (drop 53 n den)) s (nearestUnits n den) (2 ^ 1074) =
-    units-val binary64 s (kept 53 n den) (drop 53 n den) (lt-of-le-of-lt up (pow-lt far)) in
+    let v : HasValue (round binary64 s num den) s (nearestUnits n den) (2 ^ 1074) =
+    subst (λ (x : Float). HasValue x s (nearestUnits n den) (2 ^ 1074)) (sym (round-is binary64 s num den))
+    (units-val binary64 s (kept 53 n den) (drop 53 n den) (lt-of-le-of-lt up (pow-lt far))) in
     record {
-      units = record { sign = s; number = nearestUnits n den; value = subst (λ (x : Float). HasValue x s (nearestUnits n den) (2 ^ 1074)) (sym (round-is binary64 s num den)) v };
+      units = record { sign = s; number = nearestUnits n den; value = v };
       upto = up;
       from = nearest-from n den D;
       multiple = nearest-multiple n den D;
@@ -138,7 +136,8 @@ large-pattern b j h = elim (le-or-lt (2 ^ 52) b) [
   | inl l ↦
       let k = b / 2 ^ 52 - 1 in
       let g = 2 ^ 52 + b % 2 ^ 52 in
-      let up : patternMagnitude b < 2 ^ (53 + k) = lt-of-le-of-lt (le-of-eq (magnitude-normal b l)) (lt-of-lt-of-le (mul-lt-mul-of-pos-right (small b) (pow-pos k)) (le-of-eq (sym (pow-add 2 53 k)))) in
+      let up : patternMagnitude b < 2 ^ (53 + k) =
+      lt-of-le-of-lt (le-of-eq (magnitude-normal b l)) (lt-of-lt-of-le (mul-lt-mul-of-pos-right (small b) (pow-pos k)) (le-of-eq (sym (pow-add 2 53 k)))) in
       let jk : j ≤ k = order k (le-or-lt (53 + k) (j + 52)) (λ (d : 53 + k ≤ j + 52). not-le-of-lt up (le-trans (pow-mono d) h)) in
       (g * 2 ^ (k - j), magnitude-normal b l ∙ ap (λ (z : ℕ). g * z) (sym (split-power k j jk)) ∙ sym (mul-assoc g (2 ^ (k - j)) (2 ^ j)))
   | inr l ↦ absurd (not-le-of-lt (lt-of-lt-of-le (subst (λ (z : ℕ). z < 2 ^ 52) (sym (magnitude-low b l)) l) (pow-mono (le-add-left 52 j))) h)

@@ -1,6 +1,6 @@
--- Separations of boundaries on a map are finite doubles with the sign clear: each is 0.0 or a distance within the range of the hypotenuse. So their bits, which stand first in the key of
--- pass 1, order them as IEEE 754 does, and pass 1 ranks as the Rust's chain from `partial_cmp` on: by separation and, of equal separations, by endpoints (`ranks-by-separation`).
--- Assumes coordinates of at most 8,192 pixels (Pixels.antt).
+-- Separations of boundaries on a map are finite doubles with the sign clear: each is 0.0 or a distance within the range of the hypotenuse. So their bits, which
+-- stand first in the key of pass 1, order them as IEEE 754 does, and pass 1 ranks as the Rust's chain from `partial_cmp` on: by separation and, of equal
+-- separations, by endpoints (`ranks-by-separation`). Assumes coordinates of at most 8,192 pixels, as Pixels.antt has it.
 use mathlib.Core.Path.{_≡_, sym, ap, subst}
 use Prim.Native.Nat.{ℕ}
 use mathlib.Core.Bool.{Bool, true, false, _&&_, _||_, cond}
@@ -37,7 +37,11 @@ unfolding fmin
 fmin-clear {x} {y} h k = cond-clear (lt y x) k h
 
 zero-clear : Clear (float 0)
-zero-clear = record { sign = clear-of (float 0) 0 1 (float-value 0 (lit≤ tt)); held = subst (λ (x : Float). T (fits binary64 x)) (sym (float-round 0)) (round-fits binary64 false 0 1) }
+zero-clear =
+    record {
+      sign = clear-of (float 0) 0 1 (float-value 0 (lit≤ tt));
+      held = subst (λ (x : Float). T (fits binary64 x)) (sym (float-round 0)) (round-fits binary64 false 0 1);
+    }
 
 segment-clear : (p : Point) (t : Segment) → SegmentInRange p t → Clear (pointSegmentDistance p (point (t .a)) (point (t .b)))
 segment-clear p t h =
@@ -49,7 +53,9 @@ unfolding segmentDistance
 separation-clear {s} {t} hs ht =
     let r = separation-in-range hs ht in
     cond-clear (intersects s t) zero-clear
-    (fmin-clear (fmin-clear (fmin-clear (segment-clear (point (s .a)) t (r .first)) (segment-clear (point (s .b)) t (r .second))) (segment-clear (point (t .a)) s (r .third))) (segment-clear (point (t .b)) s (r .fourth)))
+    (fmin-clear
+    (fmin-clear (fmin-clear (segment-clear (point (s .a)) t (r .first)) (segment-clear (point (s .b)) t (r .second))) (segment-clear (point (t .a)) s (r .third)))
+    (segment-clear (point (t .b)) s (r .fourth)))
 
 pub clear-number : {x : Float} → Clear x → isNan x ≡ false
 unfolding isNan

@@ -1,5 +1,5 @@
--- An operation on finite doubles sees only what numbers they are, not how these are written (`Valued`): a sum, a product and a quotient round the fraction that follows from the operands'
--- fractions, and a comparison compares these. Sums and comparisons are stated for fractions of one denominator. Assumes nothing.
+-- An operation on finite doubles sees only what numbers they are, not how these are written (`Valued`): a sum, a product and a quotient round the fraction
+-- that follows from the operands' fractions, and a comparison compares these. Sums and comparisons are stated for fractions of one denominator. Assumes nothing.
 use mathlib.Core.Path.{_≡_, refl, sym, ap, _∙_}
 use Prim.Native.Nat.{ℕ, zero, suc, _+_, _-_, _*_, _^_, _≤_, _<_}
 use native.Mathlib.Nat.{le-trans, le-of-eq, lt-of-lt-of-le, lt-irrefl, add-mul, zero-mul, mul-sub, mul-comm, mul-assoc, mul-left-comm, mul-right-comm, mul-mul-mul-comm, mul-pos, mul-le-mul-right, le-of-mul-le-mul-right, eq-of-mul-eq-mul-right}
@@ -26,7 +26,10 @@ module _ {X Y k a b c : ℕ} (r : Same X Y k a b c) where
   swapped = record { K = r .K; C = r .C; p = r .q; q = r .p }
 
   same-order : SameOrder X Y a b
-  same-order = ((over k c (r .K) (r .p) (r .q), over c k (r .C) (sym (r .p)) (sym (r .q))), (over k c (r .K) (r .q) (r .p), over c k (r .C) (sym (r .q)) (sym (r .p))))
+  same-order = (
+    (over k c (r .K) (r .p) (r .q), over c k (r .C) (sym (r .p)) (sym (r .q))),
+    (over k c (r .K) (r .q) (r .p), over c k (r .C) (sym (r .q)) (sym (r .p))),
+  )
     where
       over : {u v x y : ℕ} (w z : ℕ) → 0 < w → u * z ≡ x * w → v * z ≡ y * w → u ≤ v → x ≤ y
       over w z W e f h = le-of-mul-le-mul-right (le-trans (le-of-eq (sym e)) (le-trans (mul-le-mul-right z h) (le-of-eq f))) W
@@ -131,7 +134,10 @@ module _ {c : ℕ} {x y : Float} (p : Valued c x) (q : Valued c y) (C : 0 < c) w
         K = mul-pos (down-pos (u .e)) (down-pos (v .e));
         C = C;
         p = mul-right-comm (u .m * up (u .e)) (down (v .e)) c ∙ ap (λ (z : ℕ). z * down (v .e)) (u .cross) ∙ mul-assoc (p .number) (down (u .e)) (down (v .e));
-        q = mul-right-comm (v .m * up (v .e)) (down (u .e)) c ∙ ap (λ (z : ℕ). z * down (u .e)) (v .cross) ∙ mul-assoc (q .number) (down (v .e)) (down (u .e)) ∙ ap (λ (z : ℕ). q .number * z) (mul-comm (down (v .e)) (down (u .e)));
+        q = mul-right-comm (v .m * up (v .e)) (down (u .e)) c
+            ∙ ap (λ (z : ℕ). z * down (u .e)) (v .cross)
+            ∙ mul-assoc (q .number) (down (v .e)) (down (u .e))
+            ∙ ap (λ (z : ℕ). q .number * z) (mul-comm (down (v .e)) (down (u .e)));
       }
 
   pub add-value : add binary64 x y ≡ sum binary64 (p .sign) (p .number) (q .sign) (q .number) c
@@ -161,21 +167,28 @@ module _ {c d : ℕ} {x y : Float} (p : Valued c x) (q : Valued d y) (C : 0 < c)
   mul-value =
       let u = written p in
       let v = written q in
+      let x = u .m * up (u .e) in
+      let y = v .m * up (v .e) in
+      let e : x * y * (c * d) ≡ p .number * q .number * (down (u .e) * down (v .e)) =
+      mul-mul-mul-comm x y c d ∙ (λ i. u .cross i * v .cross i) ∙ mul-mul-mul-comm (p .number) (down (u .e)) (q .number) (down (v .e)) in
       (λ i. mul binary64 (u .is i) (v .is i))
-      ∙ round-same binary64 s (u .m * up (u .e) * (v .m * up (v .e))) (down (u .e) * down (v .e)) (p .number * q .number) (c * d) (mul-pos (down-pos (u .e)) (down-pos (v .e))) (mul-pos C D)
-      (mul-mul-mul-comm (u .m * up (u .e)) (v .m * up (v .e)) c d ∙ (λ i. u .cross i * v .cross i) ∙ mul-mul-mul-comm (p .number) (down (u .e)) (q .number) (down (v .e)))
+      ∙ round-same binary64 s (x * y) (down (u .e) * down (v .e)) (p .number * q .number) (c * d) (mul-pos (down-pos (u .e)) (down-pos (v .e))) (mul-pos C D) e
 
   pub div-value : 0 < q .number → div binary64 x y ≡ round binary64 s (p .number * d) (q .number * c)
   div-value B =
       let u = written p in
       let v = written q in
-      let some : 0 < v .m * up (v .e) = first-pos (v .m * up (v .e)) d (lt-of-lt-of-le (mul-pos B (down-pos (v .e))) (le-of-eq (sym (v .cross)))) in
+      let x = u .m * up (u .e) in
+      let y = v .m * up (v .e) in
+      let some : 0 < y = first-pos y d (lt-of-lt-of-le (mul-pos B (down-pos (v .e))) (le-of-eq (sym (v .cross)))) in
+      let e : x * down (v .e) * (q .number * c) ≡ p .number * d * (y * down (u .e)) =
+      across x (down (v .e)) (q .number) c ∙ (λ i. u .cross i * sym (v .cross) i) ∙ across (p .number) (down (u .e)) y d in
       (λ i. div binary64 (u .is i) (v .is i))
       ∙ rounds (u .m) (u .e) (v .m) (v .e) (first-pos (v .m) (up (v .e)) some)
-      ∙ round-same binary64 s (u .m * up (u .e) * down (v .e)) (v .m * up (v .e) * down (u .e)) (p .number * d) (q .number * c) (mul-pos some (down-pos (u .e))) (mul-pos B C)
-      (across (u .m * up (u .e)) (down (v .e)) (q .number) c ∙ (λ i. u .cross i * sym (v .cross) i) ∙ across (p .number) (down (u .e)) (v .m * up (v .e)) d)
+      ∙ round-same binary64 s (x * down (v .e)) (y * down (u .e)) (p .number * d) (q .number * c) (mul-pos some (down-pos (u .e))) (mul-pos B C) e
     where
-      rounds : (m : ℕ) (e : ℤ) (n : ℕ) (k : ℤ) → 0 < n → div binary64 (fin (p .sign) m e) (fin (q .sign) n k) ≡ round binary64 s (m * up e * down k) (n * up k * down e)
+      rounds : (m : ℕ) (e : ℤ) (n : ℕ) (k : ℤ) → 0 < n
+          → div binary64 (fin (p .sign) m e) (fin (q .sign) n k) ≡ round binary64 s (m * up e * down k) (n * up k * down e)
       rounds m e zero k h = absurd (lt-irrefl 0 h)
       rounds m e (suc n) k h =
           unfold div in

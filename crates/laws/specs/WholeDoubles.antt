@@ -1,5 +1,5 @@
--- Whole numbers and binary fractions as doubles. Of numerators below 2 ^ 53 sums, differences and products are exact, since a double has 53 digits and nothing is dropped;
--- `float` of numbers up to 2 ^ 53 is added, multiplied, subtracted and compared as the numbers are. Assumes nothing.
+-- Whole numbers and binary fractions as doubles. Of numerators below 2 ^ 53 sums, differences and products are exact, since a double has 53 digits and nothing
+-- is dropped; `float` of numbers up to 2 ^ 53 is added, multiplied, subtracted and compared as the numbers are. Assumes nothing.
 use mathlib.Core.Path.{_≡_, refl, sym, ap, _∙_, subst}
 use Prim.Native.Nat.{ℕ, _+_, _-_, _*_, _^_, _≤_, _<_}
 use native.Mathlib.Nat.{le-trans, le-of-lt, lt-of-le-of-lt, lt-of-lt-of-le, mul-one, mul-assoc, mul-le-mul, mul-le-mul-right}
@@ -66,7 +66,8 @@ module _ {i B : ℕ} (l : i ≤ 1074) (far : B < 2 ^ 53) where
   unfolding sum
   dyadic-sum s t a b h = go (Bool·beq s t) (ltb a b)
     where
-      go : (o l : Bool) → Dyadic i B (cond o (round binary64 s (a + b) (2 ^ i)) (cond l (round binary64 t (b - a) (2 ^ i)) (round binary64 (s && ltb b a) (a - b) (2 ^ i))))
+      go : (o l : Bool)
+          → Dyadic i B (cond o (round binary64 s (a + b) (2 ^ i)) (cond l (round binary64 t (b - a) (2 ^ i)) (round binary64 (s && ltb b a) (a - b) (2 ^ i))))
       go true l = dyadic-round s (a + b) h
       go false true = dyadic-round t (b - a) (omega arith)
       go false false = dyadic-round (s && ltb b a) (a - b) (omega arith)
@@ -75,7 +76,8 @@ module _ {i B : ℕ} (l : i ≤ 1074) (far : B < 2 ^ 53) where
   pub difference-dyadic : {x y : Float} → Unsigned i B x → Unsigned i B y → Dyadic i B (sub binary64 x y)
   unfolding sum
   difference-dyadic p q =
-      subst (Dyadic i B) (sym (sub-value (unsigned-valued p) (unsigned-valued q) (pow-pos i))) (go (p .number) (q .number) (p .upto) (q .upto) (ltb (p .number) (q .number)))
+      subst (Dyadic i B) (sym (sub-value (unsigned-valued p) (unsigned-valued q) (pow-pos i)))
+      (go (p .number) (q .number) (p .upto) (q .upto) (ltb (p .number) (q .number)))
     where
       go : (a b : ℕ) → a ≤ B → b ≤ B → (l : Bool) → Dyadic i B (cond l (round binary64 true (b - a) (2 ^ i)) (round binary64 false (a - b) (2 ^ i)))
       go a b h k true = dyadic-round true (b - a) (omega arith)
