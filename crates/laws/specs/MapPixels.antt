@@ -119,12 +119,12 @@ region-pixel M hw hh ls r =
     row : (c : ℕ) → c < cellCount M → c / M .width < maxSide
     row c l = le-trans (div-lt-iff-lt-mul (side-bounds (M .width) hw .0) .1 l) (side-bounds (M .height) hh .1)
 
+-- ---- the context
+
 all-default : {A : Type 0} {P : A → Type 0} {l : List A} (d : A) → P d → All P l → (i : ℕ) → P (getD l i d)
 all-default d k done i = k
 all-default d k (more h a) zero = h
 all-default d k (more h a) (suc i) = all-default d k a i
-
--- ---- the context
 
 pub map-pixel : {M : Map} → OnMap M → PixelContext (contextOf M)
 unfolding contextOf
