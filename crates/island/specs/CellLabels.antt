@@ -11,10 +11,10 @@ use borrow.Author.Tests.{ltb-true, ltb-false, eqb-true, eq-eqb}
 use Rattle.definitions.specs.Scan.{run, countBelow}
 use Rattle.definitions.specs.Grid.{Map, cellCount}
 use Rattle.definitions.specs.Partition.{walkableAt, isRoot, roots, labels, regionCount, uncut}
-use Rattle.laws.specs.Lists.{All, all-map, length-run, getD-tab}
-use Rattle.laws.specs.Ranks.{rank-lt, rank-eqb}
-use Rattle.laws.specs.Merging.{Rooted, rooted, Kept, kept-all}
-use Rattle.laws.specs.Scans.{both}
+use Rattle.laws.specs.ListLaws.Lists.{All, all-map, length-run, getD-tab}
+use Rattle.laws.specs.OrderLaws.Ranks.{rank-lt, rank-eqb}
+use Rattle.laws.specs.RegionLaws.Merging.{Rooted, rooted, Kept, kept-all}
+use Rattle.laws.specs.ListLaws.Scans.{both}
 use Rattle.island.specs.StepCells.{Sound, sound, uncut-all}
 
 module _ (M : Map) where

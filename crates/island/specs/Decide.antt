@@ -11,7 +11,7 @@ use lib.Dec.{eqb, ltb}
 use borrow.Author.Tests.{ltb-true, ltb-false, leb-true, eqb-true}
 use Rattle.definitions.specs.Scan.{allBelow}
 use Rattle.definitions.specs.Grid.{Map, Position, at, Segment, Boundary, noBoundary, index, cellCount, cellAt, walkable, toward, isStep, spanCount, spanOf, boundaryOf}
-use Rattle.laws.specs.Tests.{both}
+use Rattle.laws.specs.ListLaws.Tests.{both}
 use Rattle.island.specs.Premises.{cutsIsland, cutsRemainder, hasAnchor, cutting, Island, Alike}
 use Rattle.island.specs.Steps.{four}
 use Rattle.island.specs.Restrict.{cuts-lt}

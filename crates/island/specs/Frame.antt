@@ -8,9 +8,9 @@ use lib.Dec.{eqb, ltb, eqb·suc-suc, leb·suc-suc}
 use borrow.Author.Tests.{eqb-true}
 use Rattle.definitions.specs.Grid.{Pair}
 use Rattle.definitions.specs.Context.{Context}
-use Rattle.laws.specs.Lists.{All}
-use Rattle.laws.specs.Ranks.{rank, rank-ltb, rank-eqb}
-use Rattle.laws.specs.Merging.{Within}
+use Rattle.laws.specs.ListLaws.Lists.{All}
+use Rattle.laws.specs.OrderLaws.Ranks.{rank, rank-ltb, rank-eqb}
+use Rattle.laws.specs.RegionLaws.Merging.{Within}
 
 module _ (inR : ℕ → Bool) where
   -- the small context's number of a region inside

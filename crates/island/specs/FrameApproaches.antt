@@ -14,9 +14,9 @@ use Rattle.definitions.specs.Geometry.{float}
 use Rattle.definitions.specs.RampGeometry.{segmentDistance, isNearbyParallelRepresentative, overlappingRampRepresentative, fmin, fmax}
 use Rattle.definitions.specs.Context.{Context, otherRegion, isIncident, incidentCount, noRamp}
 use Rattle.definitions.specs.RampMouths.{MouthShape, single, star, MouthProposal, maxOverlayWidthRatio, onlyIncidents, otherEndIncident, broadMouth, nearbyRepresentative, overlayRepresentative, overlayOnly, separationOf, approachFits, twoPortBroad, singleMouth, starMouth, shapedMouth, triangleMouth}
-use Rattle.laws.specs.Lists.{All, done, more, all-filter, filter-ren, all-ren}
-use Rattle.laws.specs.Ranks.{rank}
-use Rattle.laws.specs.Options.{OnO, absent, present, only-map}
+use Rattle.laws.specs.ListLaws.Lists.{All, done, more, all-filter, filter-ren, all-ren}
+use Rattle.laws.specs.OrderLaws.Ranks.{rank}
+use Rattle.laws.specs.ListLaws.Options.{OnO, absent, present, only-map}
 use Rattle.island.specs.Frame.{Frame, ren, renP, ren-eqb}
 use Rattle.island.specs.RegionLists.{On, PairOn, contains-in, otherRegion-in}
 use Rattle.island.specs.FrameLemmas.{isIncident-in, isIncident-split, incidentCount-in, width-in, any-anchored-in, any-in}

@@ -13,9 +13,9 @@ use Rattle.definitions.specs.Geometry.{float, center}
 use Rattle.definitions.specs.RegionRecord.{strictlyFlat}
 use Rattle.definitions.specs.Context.{Context, fullPair, isIncident, noRamp}
 use Rattle.definitions.specs.Junctions.{Proposal, isSome, beyond, withinRadius, portsOf, portExterior, isShared, isTwiceAsWide, bridgeFits, bridgeAt, pickBridge, bridgeOfPorts, bridgeProposal}
-use Rattle.laws.specs.Lists.{All, done, more, all-ren}
-use Rattle.laws.specs.Ranks.{rank}
-use Rattle.laws.specs.Options.{OnO, absent, present, on-only, on-cond, only-map, cond-map}
+use Rattle.laws.specs.ListLaws.Lists.{All, done, more, all-ren}
+use Rattle.laws.specs.OrderLaws.Ranks.{rank}
+use Rattle.laws.specs.ListLaws.Options.{OnO, absent, present, on-only, on-cond, only-map, cond-map}
 use Rattle.island.specs.Frame.{Frame, ren, renP, ren-eqb}
 use Rattle.island.specs.RegionLists.{PairOn, otherRegion-in, otherRegion-on}
 use Rattle.island.specs.FrameLemmas.{isIncident-in, isIncident-split, fullPair-in, fullPair-on, holds-in, noRamp-in, width-in, chosen-in, chosen-on}

@@ -12,14 +12,14 @@ use Rattle.definitions.specs.Grid.{Pair}
 use Rattle.definitions.specs.Context.{Context}
 use Rattle.definitions.specs.RampMouths.{regionsOf}
 use Rattle.definitions.specs.RampInteriors.{maxInteriorEdges, isOrdinary, links, components, isEdge, edgesOf, componentRegions, isCandidate, isPort, componentPorts}
-use Rattle.laws.specs.Lists.{All, done, more, all-map, all-both, filter-none, any-ren, all-ren}
-use Rattle.laws.specs.Ranks.{rank, rank-lt, rank-shift, gather-rank, gather-map, gather-all}
-use Rattle.laws.specs.ListOrder.{eqb-sym}
-use Rattle.laws.specs.Components.{component}
-use Rattle.laws.specs.Merging.{Within}
-use Rattle.laws.specs.MergingInside.{Keeps, Agree, Sided, merging-inside}
-use Rattle.laws.specs.Members.{any-fails}
-use Rattle.laws.specs.NumberLists.{all-addAll, split}
+use Rattle.laws.specs.ListLaws.Lists.{All, done, more, all-map, all-both, filter-none, any-ren, all-ren}
+use Rattle.laws.specs.OrderLaws.Ranks.{rank, rank-lt, rank-shift, gather-rank, gather-map, gather-all}
+use Rattle.laws.specs.OrderLaws.ListOrder.{eqb-sym}
+use Rattle.laws.specs.RegionLaws.Components.{component}
+use Rattle.laws.specs.RegionLaws.Merging.{Within}
+use Rattle.laws.specs.RegionLaws.MergingInside.{Keeps, Agree, Sided, merging-inside}
+use Rattle.laws.specs.ListLaws.Members.{any-fails}
+use Rattle.laws.specs.ListLaws.NumberLists.{all-addAll, split}
 use Rattle.island.specs.Frame.{Frame, ren, renP, ren-eqb, ren-ltb}
 use Rattle.island.specs.RegionLists.{On, PairOn, addAll-in, regionsOf-on, regionsOf-in}
 use Rattle.island.specs.FrameLemmas.{pairs-on, fullCut-in, any-anchored-in, all-in, chosen-in, chosen-on}

@@ -9,8 +9,8 @@ use Rattle.definitions.specs.Scan.{all, member, bit}
 use Rattle.definitions.specs.Grid.{Pair}
 use Rattle.definitions.specs.Context.{Context, isIncident, incidentCount}
 use Rattle.definitions.specs.RampInteriors.{Expansion, insideCount, pairExterior, exteriors, invalid, addLeaf, expandPair, expandPairs, expandPort}
-use Rattle.laws.specs.Lists.{All, done, more, all-append, map-append, all-ren}
-use Rattle.laws.specs.Ranks.{rank}
+use Rattle.laws.specs.ListLaws.Lists.{All, done, more, all-append, map-append, all-ren}
+use Rattle.laws.specs.OrderLaws.Ranks.{rank}
 use Rattle.island.specs.Frame.{Frame, ren, renP}
 use Rattle.island.specs.RegionLists.{On, PairOn, member-in}
 use Rattle.island.specs.FrameLemmas.{pairs-on, isIncident-in, incidentCount-in}

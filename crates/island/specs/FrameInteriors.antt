@@ -15,12 +15,12 @@ use Rattle.definitions.specs.RegionRecord.{hasBit, corners}
 use Rattle.definitions.specs.Context.{Context, endpointsKey}
 use Rattle.definitions.specs.RampMouths.{maxApproachRadius}
 use Rattle.definitions.specs.RampInteriors.{InteriorProposal, Expansion, components, edgesOf, componentRegions, isCandidate, componentPorts, expandPort, portsFit, isAllowedElevation, regionFits, interiorFrom, interiorProposal, proposals, key, ranksBefore, conflict, taken, removed}
-use Rattle.laws.specs.Lists.{All, done, more, all-map, any-ren, all-ren}
-use Rattle.laws.specs.ListOrder.{by-key}
-use Rattle.laws.specs.Ranks.{rank, rank-eqb, rank-shift, collect-rank, collect-all}
-use Rattle.laws.specs.Options.{OnO, absent, on-only, on-cond, on-list, on-map, only-map, cond-map, option-in, option-out}
-use Rattle.laws.specs.NumberLists.{meet-ren, meet-split}
-use Rattle.laws.specs.Choice.{Placed, placed, choice-in, choice-placed, listed-in}
+use Rattle.laws.specs.ListLaws.Lists.{All, done, more, all-map, any-ren, all-ren}
+use Rattle.laws.specs.OrderLaws.ListOrder.{by-key}
+use Rattle.laws.specs.OrderLaws.Ranks.{rank, rank-eqb, rank-shift, collect-rank, collect-all}
+use Rattle.laws.specs.ListLaws.Options.{OnO, absent, on-only, on-cond, on-list, on-map, only-map, cond-map, option-in, option-out}
+use Rattle.laws.specs.ListLaws.NumberLists.{meet-ren, meet-split}
+use Rattle.laws.specs.OrderLaws.Choice.{Placed, placed, choice-in, choice-placed, listed-in}
 use Rattle.island.specs.Frame.{Frame, ren}
 use Rattle.island.specs.RegionLists.{On, meet-in}
 use Rattle.island.specs.FrameLemmas.{fullCut-in}

@@ -11,13 +11,13 @@ use Rattle.definitions.specs.Sort.{listLt}
 use Rattle.definitions.specs.Grid.{Boundary}
 use Rattle.definitions.specs.Context.{Context}
 use Rattle.definitions.specs.Junctions.{Proposal, namesRegion, regionConflict, boundaryKey, tieKey, unionProposal, bridgeProposal, isReservedPort, key, ranksBefore, conflict, proposals, ranked, taken, removed}
-use Rattle.laws.specs.Lists.{All, all-append, filter-append, map-append}
-use Rattle.laws.specs.ListOrder.{by-key, prefix-lt}
-use Rattle.laws.specs.Ranks.{rank, rank-eqb, rank-shift, collect-rank, collect-all}
-use Rattle.laws.specs.Options.{on-list, on-map, option-in, option-out}
-use Rattle.laws.specs.NumberLists.{split}
-use Rattle.laws.specs.Scans.{any-none}
-use Rattle.laws.specs.Choice.{Placed, placed, choice-in, named-in}
+use Rattle.laws.specs.ListLaws.Lists.{All, all-append, filter-append, map-append}
+use Rattle.laws.specs.OrderLaws.ListOrder.{by-key, prefix-lt}
+use Rattle.laws.specs.OrderLaws.Ranks.{rank, rank-eqb, rank-shift, collect-rank, collect-all}
+use Rattle.laws.specs.ListLaws.Options.{on-list, on-map, option-in, option-out}
+use Rattle.laws.specs.ListLaws.NumberLists.{split}
+use Rattle.laws.specs.ListLaws.Scans.{any-none}
+use Rattle.laws.specs.OrderLaws.Choice.{Placed, placed, choice-in, named-in}
 use Rattle.island.specs.Frame.{Frame, ren, ren-eqb, ren-ltb}
 use Rattle.island.specs.FrameLemmas.{isIncident-in, isIncident-split, any-in}
 use Rattle.island.specs.FrameUnions.{renProposal, ProposalOn, unionProposal-in, unionProposal-on}

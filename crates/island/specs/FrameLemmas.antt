@@ -10,9 +10,9 @@ use lib.Ieee.{binary64, ofBits}
 use Rattle.definitions.specs.Scan.{any, anyBelow, allBelow, countBelow, collect, toList, onlyIf}
 use Rattle.definitions.specs.Grid.{Pair, contains}
 use Rattle.definitions.specs.Context.{Context, onlyPair, holds, fullCut, fullPair, isIncident, incidentCount, noRamp, width}
-use Rattle.laws.specs.Lists.{All, done, more, all-map, any-ren}
-use Rattle.laws.specs.Ranks.{rank, any-rank, all-rank, count-rank, collect-map, collect-all}
-use Rattle.laws.specs.Options.{OnO, absent, present, on-only, on-list}
+use Rattle.laws.specs.ListLaws.Lists.{All, done, more, all-map, any-ren}
+use Rattle.laws.specs.OrderLaws.Ranks.{rank, any-rank, all-rank, count-rank, collect-map, collect-all}
+use Rattle.laws.specs.ListLaws.Options.{OnO, absent, present, on-only, on-list}
 use Rattle.island.specs.Frame.{Frame, ren, renP}
 use Rattle.island.specs.RegionLists.{On, PairOn, any-contains-in, any-contains-split}
 

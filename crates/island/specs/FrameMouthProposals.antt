@@ -14,9 +14,9 @@ use Rattle.definitions.specs.Geometry.{center, distance}
 use Rattle.definitions.specs.RegionRecord.{corners}
 use Rattle.definitions.specs.Context.{Context, fullCut, fullPair, noRamp}
 use Rattle.definitions.specs.RampMouths.{MouthShape, single, star, MouthProposal, maxMouthDistance, maxApproachRadius, retain, mouthShape, triangleRepresentative, broadMouth, nearbyRepresentative, overlayRepresentative, approachFits, singleMouth, starMouth, shapedMouth, triangleMouth, triangle, triangleOr, cornersNear, isLocal, mouthProposal}
-use Rattle.laws.specs.Lists.{All, done, more, all-filter, filter-none, all-ren}
-use Rattle.laws.specs.Ranks.{rank}
-use Rattle.laws.specs.Options.{OnO, absent, present, on-only, on-cond, only-map, cond-map}
+use Rattle.laws.specs.ListLaws.Lists.{All, done, more, all-filter, filter-none, all-ren}
+use Rattle.laws.specs.OrderLaws.Ranks.{rank}
+use Rattle.laws.specs.ListLaws.Options.{OnO, absent, present, on-only, on-cond, only-map, cond-map}
 use Rattle.island.specs.Frame.{Frame, ren}
 use Rattle.island.specs.RegionLists.{On, PairOn, contains-split, otherRegion-on}
 use Rattle.island.specs.FrameLemmas.{pairs-on, fullCut-in, fullPair-in, fullPair-on}

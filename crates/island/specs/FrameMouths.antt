@@ -10,12 +10,12 @@ use Rattle.definitions.specs.Scan.{filter, collect, gather, member}
 use Rattle.definitions.specs.Sort.{listLt}
 use Rattle.definitions.specs.Context.{Context, endpointsKey}
 use Rattle.definitions.specs.RampMouths.{MouthProposal, meet, mouthProposal, proposals, key, conflict, ranksBefore, taken, removed}
-use Rattle.laws.specs.Lists.{All, all-append, filter-none, map-append}
-use Rattle.laws.specs.ListOrder.{by-key}
-use Rattle.laws.specs.Ranks.{rank, rank-eqb, collect-rank, collect-all, gather-rank, gather-all}
-use Rattle.laws.specs.Options.{OnO, absent, on-list, on-map, option-in, option-out}
-use Rattle.laws.specs.NumberLists.{split, meet-split}
-use Rattle.laws.specs.Choice.{Placed, placed, choice-in, named-in}
+use Rattle.laws.specs.ListLaws.Lists.{All, all-append, filter-none, map-append}
+use Rattle.laws.specs.OrderLaws.ListOrder.{by-key}
+use Rattle.laws.specs.OrderLaws.Ranks.{rank, rank-eqb, collect-rank, collect-all, gather-rank, gather-all}
+use Rattle.laws.specs.ListLaws.Options.{OnO, absent, on-list, on-map, option-in, option-out}
+use Rattle.laws.specs.ListLaws.NumberLists.{split, meet-split}
+use Rattle.laws.specs.OrderLaws.Choice.{Placed, placed, choice-in, named-in}
 use Rattle.island.specs.Frame.{Frame, Ids, ren}
 use Rattle.island.specs.RegionLists.{meet-in}
 use Rattle.island.specs.FrameApproaches.{renMouth}

@@ -11,11 +11,11 @@ use Rattle.definitions.specs.Sort.{sort, listLt}
 use Rattle.definitions.specs.Grid.{Segment, canonical}
 use Rattle.definitions.specs.Context.{Context, endpointsKey}
 use Rattle.definitions.specs.Rows.{Row, rowKey, rowsFrom}
-use Rattle.laws.specs.StableSort.{filter-sort, map-sort}
-use Rattle.laws.specs.ListOrder.{by-key, prefix-lt}
-use Rattle.laws.specs.Ranks.{rank, rank-ltb, rank-eqb, collect-rank}
-use Rattle.laws.specs.Options.{on-only, only-map, option-in, option-out}
-use Rattle.laws.specs.Scans.{filter-passes}
+use Rattle.laws.specs.OrderLaws.StableSort.{filter-sort, map-sort}
+use Rattle.laws.specs.OrderLaws.ListOrder.{by-key, prefix-lt}
+use Rattle.laws.specs.OrderLaws.Ranks.{rank, rank-ltb, rank-eqb, collect-rank}
+use Rattle.laws.specs.ListLaws.Options.{on-only, only-map, option-in, option-out}
+use Rattle.laws.specs.ListLaws.Scans.{filter-passes}
 use Rattle.island.specs.Frame.{Frame}
 
 module _ (inB : ℕ → Bool) where

@@ -10,8 +10,8 @@ use lib.Dec.{eqb}
 use Rattle.definitions.specs.Scan.{any, all, filter, onlyIf}
 use Rattle.definitions.specs.Grid.{Pair, contains, pairEq}
 use Rattle.definitions.specs.RampMouths.{MouthShape, single, star, distinctRegions, commonRegions, starFrom, mouthShape, triangleRepresentative}
-use Rattle.laws.specs.Lists.{All, done, more, all-filter, filter-ren, any-ren, all-ren}
-use Rattle.laws.specs.Options.{OnO, absent, present, on-only, only-map}
+use Rattle.laws.specs.ListLaws.Lists.{All, done, more, all-filter, filter-ren, any-ren, all-ren}
+use Rattle.laws.specs.ListLaws.Options.{OnO, absent, present, on-only, only-map}
 use Rattle.island.specs.Frame.{ren, renP, ren-eqb}
 use Rattle.island.specs.RegionLists.{On, PairOn, contains-in, pairEq-in, any-contains-in, any-contains-split, distinctRegions-in, distinctRegions-on}
 

@@ -12,8 +12,8 @@ use Rattle.definitions.specs.Geometry.{center}
 use Rattle.definitions.specs.RegionRecord.{strictlyFlat, dominantElevation, bothSame}
 use Rattle.definitions.specs.Context.{Context, fullPair, holds}
 use Rattle.definitions.specs.Junctions.{Proposal, fitsUnion, exteriorOf, withinDistance, withinRadius, withinSpanRadius, maxPortDistancePixels, isUnionPort, isNewExterior, anchoredRegions, isNearPort, portsFit, isWidest, unionShape, unionRegions, unionFrom, unionProposal}
-use Rattle.laws.specs.Ranks.{rank, rank-eqb, any-rank}
-use Rattle.laws.specs.Options.{OnO, absent, present, on-only, only-map}
+use Rattle.laws.specs.OrderLaws.Ranks.{rank, rank-eqb, any-rank}
+use Rattle.laws.specs.ListLaws.Options.{OnO, absent, present, on-only, only-map}
 use Rattle.island.specs.Frame.{Frame, ren, renP, ren-eqb}
 use Rattle.island.specs.RegionLists.{PairOn, contains-in}
 use Rattle.island.specs.FrameLemmas.{isIncident-in, isIncident-split, fullPair-in, fullPair-on, holds-in, noRamp-in, width-in, all-in, count-in}

@@ -13,10 +13,10 @@ use Rattle.definitions.specs.Grid.{Map, Pair, noBoundary, spanCount, boundaryOf
 use Rattle.definitions.specs.Spans.{cutSteps}
 use Rattle.definitions.specs.Partition.{labels, labelPair, isSeparated, pairsOf, regionCount}
 use Rattle.definitions.specs.Context.{contextOf}
-use Rattle.laws.specs.Lists.{All, done, all-map, all-both, length-run, getD-tab}
-use Rattle.laws.specs.Ranks.{rank, rank-lt}
-use Rattle.laws.specs.Merging.{Within}
-use Rattle.laws.specs.Scans.{picked-at, all-every}
+use Rattle.laws.specs.ListLaws.Lists.{All, done, all-map, all-both, length-run, getD-tab}
+use Rattle.laws.specs.OrderLaws.Ranks.{rank, rank-lt}
+use Rattle.laws.specs.RegionLaws.Merging.{Within}
+use Rattle.laws.specs.ListLaws.Scans.{picked-at, all-every}
 use Rattle.island.specs.Premises.{cutsIsland, Island}
 use Rattle.island.specs.Frame.{Frame, Ids, renP, In, Out}
 use Rattle.island.specs.StepCells.{Sound, sound, cut-all}

@@ -11,8 +11,8 @@ use borrow.Author.Tests.{eqb-true, eq-eqb}
 use Rattle.definitions.specs.Scan.{anyBelow, countBelow, bit}
 use Rattle.definitions.specs.Grid.{Map, cellCount}
 use Rattle.definitions.specs.Partition.{walkableAt, labels, regionCount}
-use Rattle.laws.specs.Ranks.{rank, rank-shift}
-use Rattle.laws.specs.Scans.{count-ext, any-at, any-none}
+use Rattle.laws.specs.OrderLaws.Ranks.{rank, rank-shift}
+use Rattle.laws.specs.ListLaws.Scans.{count-ext, any-at, any-none}
 use Rattle.island.specs.Premises.{Island}
 use Rattle.island.specs.Frame.{ren}
 use Rattle.island.specs.Restrict.{restrict, walkable-at, root-side, root-same}

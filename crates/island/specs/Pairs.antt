@@ -9,9 +9,9 @@ use lib.Dec.{eqb}
 use Rattle.definitions.specs.Scan.{filter}
 use Rattle.definitions.specs.Grid.{Map, Pair, pairLt, pairEq}
 use Rattle.definitions.specs.Partition.{labels, labelPair, isSeparated, addPair, addPairs, pairsOf}
-use Rattle.laws.specs.Lists.{All, done, more, all-map, all-filter}
-use Rattle.laws.specs.MergingInside.{Keeps, min-ren, max-ren, pick-min, pick-max}
-use Rattle.laws.specs.Scans.{all-onto, filter-ext, map-ext}
+use Rattle.laws.specs.ListLaws.Lists.{All, done, more, all-map, all-filter}
+use Rattle.laws.specs.RegionLaws.MergingInside.{Keeps, min-ren, max-ren, pick-min, pick-max}
+use Rattle.laws.specs.ListLaws.Scans.{all-onto, filter-ext, map-ext}
 use Rattle.island.specs.Premises.{Island}
 use Rattle.island.specs.Frame.{ren, renP, In, Out, ren-eqb, ren-ltb}
 use Rattle.island.specs.StepCells.{Sound}

@@ -13,8 +13,8 @@ use Rattle.definitions.specs.Partition.{walkableAt, labels}
 use Rattle.definitions.specs.Geometry.{float}
 use Rattle.definitions.specs.RegionRecord.{least, most, maskOf, regionOf}
 use Rattle.definitions.specs.Context.{anchoredOf}
-use Rattle.laws.specs.Ranks.{rank}
-use Rattle.laws.specs.Scans.{any-ext, count-ext, any-below, any-picked}
+use Rattle.laws.specs.OrderLaws.Ranks.{rank}
+use Rattle.laws.specs.ListLaws.Scans.{any-ext, count-ext, any-below, any-picked}
 use Rattle.island.specs.Premises.{hasAnchor, Island}
 use Rattle.island.specs.Frame.{ren, ren-eqb, apart}
 use Rattle.island.specs.Restrict.{restrict, cells-at}

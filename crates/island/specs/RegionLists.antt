@@ -9,10 +9,10 @@ use Rattle.definitions.specs.Scan.{any, member, addAll}
 use Rattle.definitions.specs.Grid.{Pair, contains, pairEq}
 use Rattle.definitions.specs.Context.{otherRegion}
 use Rattle.definitions.specs.RampMouths.{regionsOf, distinctRegions, meet}
-use Rattle.laws.specs.Lists.{All, done, more, all-map, any-ren}
-use Rattle.laws.specs.Members.{any-fails}
-use Rattle.laws.specs.NumberLists.{all-addAll, member-ren, addAll-ren, meet-ren, split}
-use Rattle.laws.specs.ListOrder.{eqb-sym}
+use Rattle.laws.specs.ListLaws.Lists.{All, done, more, all-map, any-ren}
+use Rattle.laws.specs.ListLaws.Members.{any-fails}
+use Rattle.laws.specs.ListLaws.NumberLists.{all-addAll, member-ren, addAll-ren, meet-ren, split}
+use Rattle.laws.specs.OrderLaws.ListOrder.{eqb-sym}
 use Rattle.island.specs.Frame.{ren, renP, ren-eqb}
 
 module _ (inR : ℕ → Bool) where

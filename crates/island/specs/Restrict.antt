@@ -13,10 +13,10 @@ use Rattle.definitions.specs.Scan.{run, any, filter, concatMap, anyBelow}
 use Rattle.definitions.specs.Grid.{Map, Position, Segment, Pair, pairEq, noSegment, canonical, index, cellCount, cellAt, isWalkable, positionOf, toward, walkable, isStep, directions, neighbors, onward, edge, spanCount, spanOf, boundaryOf}
 use Rattle.definitions.specs.Spans.{cuts, candidatePositions, cutSteps}
 use Rattle.definitions.specs.Partition.{allSteps, cutAll, uncut, roots}
-use Rattle.laws.specs.Lists.{All, done, more, all-split, all-map, all-both, any-gather, getD-tab}
-use Rattle.laws.specs.Ranks.{rank, any-rank}
-use Rattle.laws.specs.Scans.{both, picked, picked-length, picked-at, all-not-any, filter-gather, filter-swap}
-use Rattle.laws.specs.MergingInside.{Keeps, Agree, Sided, merging-inside}
+use Rattle.laws.specs.ListLaws.Lists.{All, done, more, all-split, all-map, all-both, any-gather, getD-tab}
+use Rattle.laws.specs.OrderLaws.Ranks.{rank, any-rank}
+use Rattle.laws.specs.ListLaws.Scans.{both, picked, picked-length, picked-at, all-not-any, filter-gather, filter-swap}
+use Rattle.laws.specs.RegionLaws.MergingInside.{Keeps, Agree, Sided, merging-inside}
 use Rattle.island.specs.Premises.{cutsIsland, cutsRemainder, hasAnchor, Island}
 use Rattle.island.specs.Steps.{steps-in}
 use Rattle.island.specs.StepCells.{sound, uncut-all, cut-all}

@@ -6,7 +6,7 @@ use mathlib.Core.Bool.{Bool, true, false, _&&_, cond}
 use mathlib.Core.List.{map}
 use Rattle.definitions.specs.Scan.{run, collect, onlyIf}
 use Rattle.definitions.specs.Grid.{Map, cellCount, cellAt, spanCount, spanOf, boundaryOf}
-use Rattle.laws.specs.Scans.{picked, picked-map, tab-ext, collect-ext}
+use Rattle.laws.specs.ListLaws.Scans.{picked, picked-map, tab-ext, collect-ext}
 use Rattle.island.specs.Premises.{cutsIsland, hasAnchor, cutting, Island, Alike}
 use Rattle.island.specs.Restrict.{restrict}
 

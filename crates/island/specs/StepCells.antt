@@ -9,9 +9,9 @@ use borrow.Author.Tests.{ltb-true}
 use Rattle.definitions.specs.Grid.{Map, Position, Pair, canonical, toward, directions, index, positionOf, cellCount, walkable, isStep, neighbors, onward, edge, spanOf}
 use Rattle.definitions.specs.Spans.{cuts, candidatePositions, cutSteps}
 use Rattle.definitions.specs.Partition.{allSteps, uncut, walkableAt}
-use Rattle.laws.specs.Lists.{All, all-filter, all-map}
-use Rattle.laws.specs.Ranks.{gather-all}
-use Rattle.laws.specs.Scans.{all-onto, all-concatMap, filter-passes}
+use Rattle.laws.specs.ListLaws.Lists.{All, all-filter, all-map}
+use Rattle.laws.specs.OrderLaws.Ranks.{gather-all}
+use Rattle.laws.specs.ListLaws.Scans.{all-onto, all-concatMap, filter-passes}
 use Rattle.island.specs.Steps.{four}
 
 module _ (M : Map) where

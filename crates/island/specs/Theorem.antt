@@ -11,7 +11,7 @@ use Rattle.definitions.specs.Scan.{filter, member}
 use Rattle.definitions.specs.Grid.{Map, spanCount, boundaryOf}
 use Rattle.definitions.specs.Context.{Context, contextOf}
 use Rattle.definitions.specs.Rows.{Row, rowsFrom, rowsOf, removedBy, removedOf, isKept}
-use Rattle.laws.specs.Ranks.{rank}
+use Rattle.laws.specs.OrderLaws.Ranks.{rank}
 use Rattle.island.specs.Premises.{Island, Alike, cutsIsland, rankOf, ranked, islandRows}
 use Rattle.island.specs.Frame.{Frame, Ids}
 use Rattle.island.specs.Framed.{framed, ids}

@@ -1,0 +1,19 @@
+-- Doubles: bit patterns, rounding, the hypotenuse, what the passes ask of it.
+pub mod LeadingDigits
+pub mod WholeRoot
+pub mod Patterns
+pub mod PatternOrder
+pub mod NearestRoot
+pub mod Hypotenuse
+pub mod KeysAsBits
+pub mod Values
+pub mod Rounding
+pub mod WholeDoubles
+pub mod InRange
+pub mod Differences
+pub mod Clamped
+pub mod Pixels
+pub mod DistanceRange
+pub mod MapPixels
+pub mod PassRange
+pub mod SeparationKey

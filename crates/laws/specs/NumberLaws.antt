@@ -1,0 +1,3 @@
+-- Whole numbers: comparisons, squares, numbers of several words, signed numbers.
+pub mod Comparisons
+pub mod Squares

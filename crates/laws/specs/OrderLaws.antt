@@ -1,0 +1,9 @@
+-- Orders, the stable sort, the greedy selection, ranks, pairs in ascending order.
+pub mod StableSort
+pub mod Selection
+pub mod Choice
+pub mod ListOrder
+pub mod Orderings
+pub mod Ranks
+pub mod PairOrder
+pub mod PairInsertion

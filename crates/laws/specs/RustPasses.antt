@@ -1,0 +1,3 @@
+-- The three passes as the Rust writes them, from the map to the rows.
+pub mod RampRows
+pub mod JunctionRows
