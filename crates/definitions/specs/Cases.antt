@@ -12,7 +12,7 @@ use Rattle.definitions.specs.Hypotenuse.{hypotOf}
 use Rattle.definitions.specs.Geometry.{float}
 use Rattle.definitions.specs.RegionRecord.{Region, emptyRegion, dominantElevation}
 use Rattle.definitions.specs.Context.{Context}
-use Rattle.definitions.specs.RampMouths.{MouthShape, single, star, mouthShape}
+use Rattle.definitions.specs.MouthShapes.{MouthShape, single, star, mouthShape}
 use Rattle.definitions.specs.Junctions.{Proposal, isNearPort, pickBridge}
 use Rattle.definitions.specs.Rows.{removedOf}
 use Rattle.definitions.specs.CaseJ.{pair}

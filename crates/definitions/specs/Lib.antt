@@ -10,6 +10,7 @@ pub mod RampGeometry
 pub mod RegionRecord
 pub mod Context
 pub mod Junctions
+pub mod MouthShapes
 pub mod RampMouths
 pub mod RampInteriors
 pub mod Rows

@@ -14,7 +14,8 @@ use Rattle.definitions.specs.Partition.{mergeAll}
 use Rattle.definitions.specs.Geometry.{center, distance}
 use Rattle.definitions.specs.RegionRecord.{hasBit, corners}
 use Rattle.definitions.specs.Context.{Context, fullCut, isIncident, incidentCount, noRamp, endpointsKey}
-use Rattle.definitions.specs.RampMouths.{regionsOf, meet, maxApproachRadius}
+use Rattle.definitions.specs.MouthShapes.{regionsOf}
+use Rattle.definitions.specs.RampMouths.{meet, maxApproachRadius}
 
 abbrev pub maxInteriorEdges : ℕ
 maxInteriorEdges = 8

@@ -13,7 +13,8 @@ use Rattle.definitions.specs.Grid.{Pair, contains}
 use Rattle.definitions.specs.Geometry.{float}
 use Rattle.definitions.specs.RampGeometry.{segmentDistance, isNearbyParallelRepresentative, overlappingRampRepresentative, fmin, fmax}
 use Rattle.definitions.specs.Context.{Context, otherRegion, isIncident, incidentCount, noRamp}
-use Rattle.definitions.specs.RampMouths.{MouthShape, single, star, MouthProposal, maxOverlayWidthRatio, onlyIncidents, otherEndIncident, broadMouth, nearbyRepresentative, overlayRepresentative, overlayOnly, separationOf, approachFits, twoPortBroad, singleMouth, starMouth, shapedMouth, triangleMouth}
+use Rattle.definitions.specs.MouthShapes.{MouthShape, single, star}
+use Rattle.definitions.specs.RampMouths.{MouthProposal, maxOverlayWidthRatio, onlyIncidents, otherEndIncident, broadMouth, nearbyRepresentative, overlayRepresentative, overlayOnly, separationOf, approachFits, twoPortBroad, singleMouth, starMouth, shapedMouth, triangleMouth}
 use Rattle.laws.specs.ListLaws.Lists.{All, done, more, all-filter, filter-ren, all-ren}
 use Rattle.laws.specs.OrderLaws.Ranks.{rank}
 use Rattle.laws.specs.ListLaws.Options.{OnO, absent, present, only-map}

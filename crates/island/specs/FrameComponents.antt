@@ -10,7 +10,7 @@ use lib.Dec.{eqb, leb}
 use Rattle.definitions.specs.Scan.{any, all, filter, allBelow, gather, addAll}
 use Rattle.definitions.specs.Grid.{Pair}
 use Rattle.definitions.specs.Context.{Context}
-use Rattle.definitions.specs.RampMouths.{regionsOf}
+use Rattle.definitions.specs.MouthShapes.{regionsOf}
 use Rattle.definitions.specs.RampInteriors.{maxInteriorEdges, isOrdinary, links, components, isEdge, edgesOf, componentRegions, isCandidate, isPort, componentPorts}
 use Rattle.laws.specs.ListLaws.Lists.{All, done, more, all-map, all-both, filter-none, any-ren, all-ren}
 use Rattle.laws.specs.OrderLaws.Ranks.{rank, rank-lt, rank-shift, gather-rank, gather-map, gather-all}

@@ -13,7 +13,8 @@ use Rattle.definitions.specs.Grid.{Pair, contains}
 use Rattle.definitions.specs.Geometry.{center, distance}
 use Rattle.definitions.specs.RegionRecord.{corners}
 use Rattle.definitions.specs.Context.{Context, fullCut, fullPair, noRamp}
-use Rattle.definitions.specs.RampMouths.{MouthShape, single, star, MouthProposal, maxMouthDistance, maxApproachRadius, retain, mouthShape, triangleRepresentative, broadMouth, nearbyRepresentative, overlayRepresentative, approachFits, singleMouth, starMouth, shapedMouth, triangleMouth, triangle, triangleOr, cornersNear, isLocal, mouthProposal}
+use Rattle.definitions.specs.MouthShapes.{MouthShape, single, star, mouthShape, triangleRepresentative}
+use Rattle.definitions.specs.RampMouths.{MouthProposal, maxMouthDistance, maxApproachRadius, retain, broadMouth, nearbyRepresentative, overlayRepresentative, approachFits, singleMouth, starMouth, shapedMouth, triangleMouth, triangle, triangleOr, cornersNear, isLocal, mouthProposal}
 use Rattle.laws.specs.ListLaws.Lists.{All, done, more, all-filter, filter-none, all-ren}
 use Rattle.laws.specs.OrderLaws.Ranks.{rank}
 use Rattle.laws.specs.ListLaws.Options.{OnO, absent, present, on-only, on-cond, only-map, cond-map}

@@ -9,7 +9,7 @@ use lib.ListN.{length, length-map}
 use lib.Dec.{eqb}
 use Rattle.definitions.specs.Scan.{any, all, filter, onlyIf}
 use Rattle.definitions.specs.Grid.{Pair, contains, pairEq}
-use Rattle.definitions.specs.RampMouths.{MouthShape, single, star, distinctRegions, commonRegions, starFrom, mouthShape, triangleRepresentative}
+use Rattle.definitions.specs.MouthShapes.{MouthShape, single, star, distinctRegions, commonRegions, starFrom, mouthShape, triangleRepresentative}
 use Rattle.laws.specs.ListLaws.Lists.{All, done, more, all-filter, filter-ren, any-ren, all-ren}
 use Rattle.laws.specs.ListLaws.Options.{OnO, absent, present, on-only, only-map}
 use Rattle.island.specs.Frame.{ren, renP, ren-eqb}

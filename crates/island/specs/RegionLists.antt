@@ -8,7 +8,8 @@ use lib.Dec.{eqb}
 use Rattle.definitions.specs.Scan.{any, member, addAll}
 use Rattle.definitions.specs.Grid.{Pair, contains, pairEq}
 use Rattle.definitions.specs.Context.{otherRegion}
-use Rattle.definitions.specs.RampMouths.{regionsOf, distinctRegions, meet}
+use Rattle.definitions.specs.MouthShapes.{regionsOf, distinctRegions}
+use Rattle.definitions.specs.RampMouths.{meet}
 use Rattle.laws.specs.ListLaws.Lists.{All, done, more, all-map, any-ren}
 use Rattle.laws.specs.ListLaws.Members.{any-fails}
 use Rattle.laws.specs.ListLaws.NumberLists.{all-addAll, member-ren, addAll-ren, meet-ren, split}

@@ -12,7 +12,7 @@ use borrow.Author.Tests.{ltb-true, ltb-false, eqb-true, eq-eqb, leb-true, leb-fa
 use Rattle.definitions.specs.Scan.{any, all, member, anyBelow, allBelow, gather, run}
 use Rattle.definitions.specs.Grid.{Pair}
 use Rattle.definitions.specs.Context.{Context}
-use Rattle.definitions.specs.RampMouths.{regionsOf}
+use Rattle.definitions.specs.MouthShapes.{regionsOf}
 use Rattle.definitions.specs.RampInteriors.{isOrdinary, links, components, componentOf, isEdge, edgesOf, componentRegions}
 use Rattle.laws.specs.ListLaws.Lists.{All, done, more, all-map, any-gather, length-run}
 use Rattle.laws.specs.OrderLaws.ListOrder.{eqb-sym}

@@ -7,7 +7,7 @@ use lib.Dec.{eqb}
 use Rattle.definitions.specs.Scan.{member, gather, concatMap, toList, onlyIf}
 use Rattle.definitions.specs.Grid.{Pair}
 use Rattle.definitions.specs.Context.{Context}
-use Rattle.definitions.specs.RampMouths.{regionsOf}
+use Rattle.definitions.specs.MouthShapes.{regionsOf}
 use Rattle.laws.specs.SetLaws.Sets.{setInsert, setExtend}
 use Rattle.laws.specs.RustMouths.MouthLiteral.{isNone, fullCutAt, rampOf}
 

@@ -12,7 +12,7 @@ use borrow.Author.Tests.{ltb-true, ltb-false, lt-ltb, le-ltb, eqb-true, eqb-fals
 use Rattle.definitions.specs.Scan.{any, member, anyBelow, gather, toList, onlyIf}
 use Rattle.definitions.specs.Grid.{Pair}
 use Rattle.definitions.specs.Context.{Context}
-use Rattle.definitions.specs.RampMouths.{regionsOf}
+use Rattle.definitions.specs.MouthShapes.{regionsOf}
 use Rattle.definitions.specs.RampInteriors.{isOrdinary, links, components, isEdge}
 use Rattle.laws.specs.ListLaws.Lists.{All, done, more, all-map, all-both, any-gather}
 use Rattle.laws.specs.OrderLaws.ListOrder.{Three, less, same, over, three}

@@ -14,7 +14,7 @@ use Rattle.definitions.specs.Scan.{any, member, filter, collect, toList, onlyIf
 use Rattle.definitions.specs.Sort.{sort}
 use Rattle.definitions.specs.Grid.{Pair}
 use Rattle.definitions.specs.Context.{Context}
-use Rattle.definitions.specs.RampMouths.{regionsOf}
+use Rattle.definitions.specs.MouthShapes.{regionsOf}
 use Rattle.definitions.specs.RampInteriors.{InteriorProposal, components, isEdge, edgesOf, componentRegions, isCandidate, isPort, componentPorts, interiorFrom, interiorProposal, proposals, key, ranksBefore, taken, removed}
 use Rattle.laws.specs.ListLaws.Lists.{All, done, more, all-map, all-both}
 use Rattle.laws.specs.ListLaws.Scans.{both, all-every}

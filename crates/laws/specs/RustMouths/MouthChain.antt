@@ -12,7 +12,8 @@ use lib.Ieee.Scale.{finite}
 use Rattle.definitions.specs.Scan.{any, all, filter, collect, onlyIf}
 use Rattle.definitions.specs.Grid.{Pair, contains, pairEq}
 use Rattle.definitions.specs.Context.{Context, noRamp, fullCut, fullPair}
-use Rattle.definitions.specs.RampMouths.{MouthShape, MouthProposal, distinctRegions, mouthShape, triangleRepresentative, retain, broadMouth, nearbyRepresentative, overlayRepresentative, shapedMouth, triangleMouth, triangle, triangleOr, isLocal, mouthProposal, proposals}
+use Rattle.definitions.specs.MouthShapes.{MouthShape, distinctRegions, mouthShape, triangleRepresentative}
+use Rattle.definitions.specs.RampMouths.{MouthProposal, retain, broadMouth, nearbyRepresentative, overlayRepresentative, shapedMouth, triangleMouth, triangle, triangleOr, isLocal, mouthProposal, proposals}
 use Rattle.laws.specs.ListLaws.Lists.{All}
 use Rattle.laws.specs.RustContext.SoundContext.{Sound}
 use Rattle.laws.specs.RustContext.FullCut.{full-cut, full-pair}

@@ -14,7 +14,8 @@ use Rattle.definitions.specs.Scan.{any, all, filter, anyBelow, onlyIf, member}
 use Rattle.definitions.specs.Sort.{sort}
 use Rattle.definitions.specs.Grid.{Pair, contains}
 use Rattle.definitions.specs.Context.{Context, noRamp, isIncident, incidentCount, otherRegion}
-use Rattle.definitions.specs.RampMouths.{MouthShape, single, star, MouthProposal, unionOf, onlyIncidents, otherEndIncident, broadMouth, nearbyRepresentative, overlayRepresentative, overlayOnly, approachFits, twoPortBroad, singleMouth, starMouth, shapedMouth, separationOf, triangleMouth, triangleOr}
+use Rattle.definitions.specs.MouthShapes.{MouthShape, single, star}
+use Rattle.definitions.specs.RampMouths.{MouthProposal, unionOf, onlyIncidents, otherEndIncident, broadMouth, nearbyRepresentative, overlayRepresentative, overlayOnly, approachFits, twoPortBroad, singleMouth, starMouth, shapedMouth, separationOf, triangleMouth, triangleOr}
 use Rattle.laws.specs.OrderLaws.StableSort.{filter-sort}
 use Rattle.laws.specs.ListLaws.SortedMembers.{length-sort, sort-parts, number-order}
 use Rattle.laws.specs.RustContext.Incidents.{incidentsRust, isNoneOr, isSomeAnd, not-only-one, not-only-two, only-two}

@@ -16,7 +16,8 @@ use Rattle.definitions.specs.Grid.{Pair, contains}
 use Rattle.definitions.specs.Geometry.{Point, center, distance}
 use Rattle.definitions.specs.RegionRecord.{Region, corners}
 use Rattle.definitions.specs.Context.{Context, fullCut}
-use Rattle.definitions.specs.RampMouths.{MouthShape, single, star, MouthProposal, regionsOf, distinctRegions, commonRegions, starFrom, mouthShape, retain, maxMouthDistance, maxApproachRadius, separationOf, approachFits, singleMouth, starMouth, shapedMouth, triangleMouth, triangle, cornersNear, isLocal}
+use Rattle.definitions.specs.MouthShapes.{MouthShape, single, star, regionsOf, distinctRegions, commonRegions, starFrom, mouthShape}
+use Rattle.definitions.specs.RampMouths.{MouthProposal, retain, maxMouthDistance, maxApproachRadius, separationOf, approachFits, singleMouth, starMouth, shapedMouth, triangleMouth, triangle, cornersNear, isLocal}
 use Rattle.laws.specs.ListLaws.Lists.{All, done, more, all-filter}
 use Rattle.laws.specs.ListLaws.NumberLists.{all-addAll}
 use Rattle.laws.specs.ListLaws.SortedMembers.{all-tests-sort}

@@ -12,7 +12,8 @@ use Rattle.definitions.specs.Grid.{Pair, Boundary, contains}
 use Rattle.definitions.specs.Geometry.{float}
 use Rattle.definitions.specs.RampGeometry.{isNearbyParallelRepresentative, overlappingRampRepresentative, fmin, fmax}
 use Rattle.definitions.specs.Context.{Context, noRamp, width}
-use Rattle.definitions.specs.RampMouths.{MouthShape, single, star, maxOverlayWidthRatio}
+use Rattle.definitions.specs.MouthShapes.{MouthShape, single, star}
+use Rattle.definitions.specs.RampMouths.{maxOverlayWidthRatio}
 use Rattle.laws.specs.RustContext.FullCut.{fullCutRust, fullPairRust}
 use Rattle.laws.specs.RustContext.Incidents.{incidentsRust, isNoneOr, isSomeAnd}
 

@@ -15,7 +15,8 @@ use Rattle.definitions.specs.Scan.{any, filter, member, collect, onlyIf}
 use Rattle.definitions.specs.Sort.{sort}
 use Rattle.definitions.specs.Grid.{Pair, contains}
 use Rattle.definitions.specs.Context.{Context, noRamp, fullCut, fullPair, endpointsKey}
-use Rattle.definitions.specs.RampMouths.{MouthShape, single, star, MouthProposal, mouthShape, retain, broadMouth, nearbyRepresentative, overlayRepresentative, separationOf, approachFits, singleMouth, starMouth, shapedMouth, triangleMouth, triangle, triangleOr, isLocal, mouthProposal, proposals, key, ranksBefore, taken, removed}
+use Rattle.definitions.specs.MouthShapes.{MouthShape, single, star, mouthShape}
+use Rattle.definitions.specs.RampMouths.{MouthProposal, retain, broadMouth, nearbyRepresentative, overlayRepresentative, separationOf, approachFits, singleMouth, starMouth, shapedMouth, triangleMouth, triangle, triangleOr, isLocal, mouthProposal, proposals, key, ranksBefore, taken, removed}
 use Rattle.laws.specs.ListLaws.Lists.{All, all-map}
 use Rattle.laws.specs.ListLaws.Options.{OnO, absent, present, on-only, on-cond, on-list}
 use Rattle.laws.specs.OrderLaws.Ranks.{collect-all, gather-all}

@@ -12,7 +12,7 @@ use lib.Dec.{eqb}
 use borrow.Author.Tests.{ne-eqb}
 use Rattle.definitions.specs.Scan.{any, all, filter, onlyIf, member, addNew, addAll}
 use Rattle.definitions.specs.Grid.{Pair, contains}
-use Rattle.definitions.specs.RampMouths.{MouthShape, single, star, regionsOf, distinctRegions, commonRegions, starFrom, mouthShape}
+use Rattle.definitions.specs.MouthShapes.{MouthShape, single, star, regionsOf, distinctRegions, commonRegions, starFrom, mouthShape}
 use Rattle.laws.specs.RustContext.FullCut.{isEmpty}
 use Rattle.laws.specs.ListLaws.ListsAsSets.{empty-filter, any-addAll, filter-addAll}
 

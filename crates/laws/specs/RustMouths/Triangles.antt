@@ -13,7 +13,7 @@ use borrow.Author.Tests.{le-leb, ne-eqb}
 use Rattle.definitions.specs.Scan.{any, all, filter, onlyIf, addNew, addAll}
 use Rattle.definitions.specs.Sort.{sort}
 use Rattle.definitions.specs.Grid.{Pair, contains, pairEq, pairLt}
-use Rattle.definitions.specs.RampMouths.{regionsOf, distinctRegions, triangleRepresentative}
+use Rattle.definitions.specs.MouthShapes.{regionsOf, distinctRegions, triangleRepresentative}
 use Rattle.laws.specs.ListLaws.Lists.{All, done, more}
 use Rattle.laws.specs.OrderLaws.PairOrder.{pair-same, pairEq-sym, pair-differ, Ascending, next}
 
