@@ -17,3 +17,4 @@ pub mod DistanceRange
 pub mod MapPixels
 pub mod PassRange
 pub mod SeparationKey
+pub mod WidthCheck

@@ -3,6 +3,7 @@ pub mod NumberLaws
 pub mod OrderLaws
 pub mod SetLaws
 pub mod RegionLaws
+pub mod TableLaws
 pub mod FloatLaws
 pub mod RustContext
 pub mod RustMouths

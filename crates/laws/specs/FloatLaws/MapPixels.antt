@@ -5,22 +5,23 @@ use Prim.Native.Nat.{ℕ, zero, suc, _+_, _*_, _/_, _%_, _≤_, _<_, zero-le, mi
 use native.Mathlib.Nat.{le-trans, mul-le-mul-left, mod-lt, div-lt-iff-lt-mul}
 use native.Mathlib.Omega.{arith}
 use mathlib.Core.Bool.{Bool, true, false, _&&_, cond}
-use mathlib.Core.List.{List, map}
+use mathlib.Core.List.{List}
 use mathlib.Core.Option.{none}
-use lib.ListN.{length, getD}
+use lib.ListN.{getD}
 use lib.Dec.{eqb}
 use borrow.Author.Tests.{leb-true}
 use Rattle.definitions.specs.Limits.{isSide, maxSide}
-use Rattle.definitions.specs.Scan.{anyBelow, run}
-use Rattle.definitions.specs.Grid.{Position, Segment, Map, segmentAt, boundaryAt, mapOf, noBoundary, cellCount}
+use Rattle.definitions.specs.Scan.{anyBelow}
+use Rattle.definitions.specs.Grid.{Position, Segment, Map, mapOf, noBoundary, cellCount}
 use Rattle.definitions.specs.Spans.{pixelsPerWalkCell}
 use Rattle.definitions.specs.Partition.{labels}
 use Rattle.definitions.specs.RegionRecord.{least, most, regionOf}
 use Rattle.definitions.specs.Context.{contextOf}
-use Rattle.definitions.specs.Refusals.{sidesFault, isOnMap, bothOnMap, boundaryFits, boundariesFault}
+use Rattle.definitions.specs.Refusals.{sidesFault, isOnMap, bothOnMap, boundariesFault}
 use Rattle.laws.specs.ListLaws.Tests.{both}
 use Rattle.laws.specs.ListLaws.Lists.{All, done, more, all-map}
-use Rattle.laws.specs.ListLaws.NoFault.{no-fault, none-faulty}
+use Rattle.laws.specs.ListLaws.NoFault.{no-fault}
+use Rattle.laws.specs.TableLaws.AcceptedCalls.{boundaries-fit, fits-parts}
 use Rattle.laws.specs.FloatLaws.Pixels.{maxPixel, PixelPosition, PixelSegment, PixelRegion, PixelContext, float-pixel}
 
 -- what checks 1 and 7 say of sides and endpoints
@@ -31,27 +32,16 @@ pub record OnMap (M : Map) : Type 0 where
 
 -- ---- what the checks found
 
-all-run : {A : Type 0} {P : A → Type 0} (f : ℕ → A) (s n : ℕ) → ((i : ℕ) → i < s + n → P (f i)) → All P (map f (run s n))
-unfolding run
-all-run f s zero h = done
-all-run f s (suc n) h = more (h s (omega arith)) (all-run f (suc s) n (λ i l. h i (omega arith)))
-
 pub lent-on-map : (w h : ℕ) (cells spans boundaries anchors : List ℕ) → sidesFault w h ≡ none → boundariesFault w h boundaries ≡ none
     → OnMap (mapOf w h cells spans boundaries anchors)
 unfolding mapOf
 lent-on-map w h cells spans boundaries anchors s b =
     let sides = both (isSide w) (isSide h) (no-fault (isSide w && isSide h) 0 s) in
-    record { wide = sides .0; high = sides .1; ends = all-run (λ i. boundaryAt boundaries (9 * i)) 0 (length boundaries / 9) (λ i l. on i (passed i l)) }
-  where
-    passed : (i : ℕ) → i < 0 + length boundaries / 9 → boundaryFits w h (boundaryAt boundaries (9 * i)) ≡ true
-    passed i l = none-faulty (λ k. boundaryFits w h (boundaryAt boundaries (9 * k))) (length boundaries / 9) (unfold boundariesFault in b) i (omega (arith, l))
-
-    on : (i : ℕ) → boundaryFits w h (boundaryAt boundaries (9 * i)) ≡ true → bothOnMap w h (segmentAt boundaries (9 * i)) ≡ true
-    on i k = unfold boundaryFits in both _ _ (both _ _ k .0) .0
+    record { wide = sides .0; high = sides .1; ends = all-map (λ c k. fits-parts w h c k .0) (boundaries-fit w h boundaries b) }
 
 -- ---- endpoints
 
-side-bounds : (n : ℕ) → isSide n ≡ true → (1 ≤ n) × (n ≤ maxSide)
+pub side-bounds : (n : ℕ) → isSide n ≡ true → (1 ≤ n) × (n ≤ maxSide)
 side-bounds n h =
     let t = both _ _ h in
     (leb-true 1 n (t .0), leb-true n maxSide (t .1))

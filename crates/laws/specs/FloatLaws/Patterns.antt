@@ -122,7 +122,7 @@ no-nan b h = subst (λ (z : Bool). T (not z)) (sym (nanBits-above binary64 b)) (
 
 -- ---- from a pattern to the double
 
-ofBits-fields : (w : ℕ) → ofBits binary64 w ≡ ofFields binary64 (leb (2 ^ 63) w) (w % 2 ^ 63 / 2 ^ 52) (w % 2 ^ 63 % 2 ^ 52)
+pub ofBits-fields : (w : ℕ) → ofBits binary64 w ≡ ofFields binary64 (leb (2 ^ 63) w) (w % 2 ^ 63 / 2 ^ 52) (w % 2 ^ 63 % 2 ^ 52)
 unfolding ofBits
 ofBits-fields w = ap (λ (z : ℕ). ofFields binary64 (leb (2 ^ 63) w) (w % 2 ^ 63 / 2 ^ 52) z) (fraction w)
   where

@@ -117,3 +117,8 @@ getD-run-from f d s (suc n) (suc c) h = getD-run-from f d (suc s) n c (omega ari
 
 pub getD-tab : {A : Type 0} (f : ℕ → A) (d : A) (n c : ℕ) → c < n → getD (map f (run 0 n)) c d ≡ f c
 getD-tab f d n c h = getD-run-from f d 0 n c h ∙ ap f (zero-add c)
+
+pub all-run : {A : Type 0} {P : A → Type 0} (f : ℕ → A) (s n : ℕ) → ((i : ℕ) → i < s + n → P (f i)) → All P (map f (run s n))
+unfolding run
+all-run f s zero h = done
+all-run f s (suc n) h = more (h s (omega arith)) (all-run f (suc s) n (λ i l. h i (omega arith)))
