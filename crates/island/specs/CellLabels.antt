@@ -14,7 +14,7 @@ use Rattle.definitions.specs.Partition.{walkableAt, isRoot, roots, labels, regi
 use Rattle.laws.specs.ListLaws.Lists.{All, all-map, length-run, getD-tab}
 use Rattle.laws.specs.OrderLaws.Ranks.{rank-lt, rank-eqb}
 use Rattle.laws.specs.RegionLaws.Merging.{Rooted, rooted, Kept, kept-all}
-use Rattle.laws.specs.ListLaws.Scans.{both}
+use Rattle.laws.specs.ListLaws.Tests.{both}
 use Rattle.island.specs.StepCells.{Sound, sound, uncut-all}
 
 module _ (M : Map) where

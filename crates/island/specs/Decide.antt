@@ -1,7 +1,7 @@
 -- A test that computes, and the theorem that two maps and an island that pass it meet the premises of demand 3 (`Alike`). It is a tool to exhibit examples; the
 -- island theorem does not use it. The premises ask of every number, and the test within bounds: a step goes from a cell of the grid to one of nine places, what
 -- cuts a step has a number below the count of spans, and beyond the list of boundaries stands one of kind 0, which has no ramp. Assumes nothing.
-use Prim.Native.Nat.{ℕ, zero, suc, _<_}
+use Prim.Native.Nat.{ℕ, _<_}
 use native.Mathlib.Omega.{arith}
 use mathlib.Core.Path.{_≡_, refl, sym, ap, ap₂, _∙_}
 use mathlib.Core.Bool.{Bool, true, false, not, _&&_, _||_, Bool·beq, false≢true, true≢false, Bool·not-not}
@@ -11,7 +11,8 @@ use lib.Dec.{eqb, ltb}
 use borrow.Author.Tests.{ltb-true, ltb-false, leb-true, eqb-true}
 use Rattle.definitions.specs.Scan.{allBelow}
 use Rattle.definitions.specs.Grid.{Map, Position, at, Segment, Boundary, noBoundary, index, cellCount, cellAt, walkable, toward, isStep, spanCount, spanOf, boundaryOf}
-use Rattle.laws.specs.ListLaws.Tests.{both}
+use Rattle.laws.specs.ListLaws.Tests.{both, beq-same}
+use Rattle.laws.specs.ListLaws.Below.{all-below-at}
 use Rattle.island.specs.Premises.{cutsIsland, cutsRemainder, hasAnchor, cutting, Island, Alike}
 use Rattle.island.specs.Steps.{four}
 use Rattle.island.specs.Restrict.{cuts-lt}
@@ -96,24 +97,9 @@ implied false b h k = absurd (false≢true k)
 not-true : (b : Bool) → not b ≡ true → b ≡ false
 not-true b h = sym (Bool·not-not b) ∙ ap not h
 
-beq-true : (a b : Bool) → Bool·beq a b ≡ true → a ≡ b
-beq-true true true h = refl
-beq-true true false h = absurd (false≢true h)
-beq-true false true h = absurd (false≢true h)
-beq-true false false h = refl
-
-all-below : (n : ℕ) (f : ℕ → Bool) → allBelow n f ≡ true → (c : ℕ) → c < n → f c ≡ true
-unfolding allBelow
-all-below zero f h c l = absurd (omega arith)
-all-below (suc n) f h c l = go (ltb c n) refl (λ k. all-below n f (both (allBelow n f) (f n) h .0) c k)
-  where
-    go : (b : Bool) → ltb c n ≡ b → (c < n → f c ≡ true) → f c ≡ true
-    go true e ih = ih (ltb-true c n e)
-    go false e ih = ap f (omega (arith, ltb-false c n e)) ∙ both (allBelow n f) (f n) h .1
-
 all-places : (w h : ℕ) (f : Position → Bool) → allPlaces w h f ≡ true → (p : Position) → p .x < w → p .y < h → f p ≡ true
 unfolding allPlaces
-all-places w h f t p k l = all-below w _ (all-below h (λ y. allBelow w (λ x. f (at x y))) t (p .y) l) (p .x) k
+all-places w h f t p k l = all-below-at w _ (all-below-at h (λ y. allBelow w (λ x. f (at x y))) t (p .y) l) (p .x) k
 
 same-position : (p q : Position) → isSamePosition p q ≡ true → p ≡ q
 same-position p q h =
@@ -166,14 +152,14 @@ module _ (M : Map) (isl : ℕ → Bool) where
       let w = walkable-lt p (f .near) in
       let u : d .x < 3 = omega (arith, leb-true (d .x) 2 (f .nearX)) in
       let v : d .y < 3 = omega (arith, leb-true (d .y) 2 (f .nearY)) in
-      beq-true _ _ (implied (isStep M p d) _ (all-places 3 3 (staysOn M isl p) (all-places (M .width) (M .height) (λ p. allPlaces 3 3 (staysOn M isl p)) h p (w .0) (w .1)) d u v) s)
+      beq-same _ _ (implied (isStep M p d) _ (all-places 3 3 (staysOn M isl p) (all-places (M .width) (M .height) (λ p. allPlaces 3 3 (staysOn M isl p)) h p (w .0) (w .1)) d u v) s)
 
   one-sided : isOneSided M isl ≡ true → (i : ℕ) → (cutsIsland M isl i && cutsRemainder M isl i) ≡ false
   unfolding isOneSided
   one-sided h i = go (cutsIsland M isl i) refl
     where
       go : (b : Bool) → cutsIsland M isl i ≡ b → (cutsIsland M isl i && cutsRemainder M isl i) ≡ false
-      go true e = not-true _ (all-below (spanCount M) _ h i (cuts-lt M isl i e))
+      go true e = not-true _ (all-below-at (spanCount M) _ h i (cuts-lt M isl i e))
       go false e = ap (λ b. b && cutsRemainder M isl i) e
 
   -- a boundary with a ramp is one of the list
@@ -190,7 +176,7 @@ module _ (M : Map) (isl : ℕ → Bool) where
   ramp-ids h i j c d k l =
       not-true _
       (implied _ _
-      (implied (cutsIsland M isl i) _ (implied _ _ (implied _ _ (all-below (length (M .boundaries)) _ (all-below (spanCount M) _ h i (cuts-lt M isl i c)) j (ramp-lt j l)) (ap not k)) (ap not l)) c)
+      (implied (cutsIsland M isl i) _ (implied _ _ (implied _ _ (all-below-at (length (M .boundaries)) _ (all-below-at (spanCount M) _ h i (cuts-lt M isl i c)) j (ramp-lt j l)) (ap not k)) (ap not l)) c)
       (ap not d))
 
   pub island : isIsland M isl ≡ true → Island M isl
@@ -205,7 +191,7 @@ module _ (M : Map) (isl : ℕ → Bool) where
         oneSided = one-sided (k1 .1);
         rampIds = ramp-ids (k2 .1);
         equallyMany = eqb-true _ _ (k .0);
-        sameEndpoints = λ i l. same-segment _ _ (all-below (spanCount M) _ (k .1) i l);
+        sameEndpoints = λ i l. same-segment _ _ (all-below-at (spanCount M) _ (k .1) i l);
       }
 
 pub alike : (M M′ : Map) (isl : ℕ → Bool) → isAlike M M′ isl ≡ true → Alike M M′ isl
@@ -220,8 +206,8 @@ alike M M′ isl h =
     record {
       width = eqb-true _ _ (k1 .0);
       height = eqb-true _ _ (k1 .1);
-      cells = λ c l i. eqb-true _ _ (implied (isl c) _ (all-below (cellCount M) _ (k2 .1) c l) i);
-      anchors = λ c l i. beq-true _ _ (implied (isl c) _ (all-below (cellCount M) _ (k3 .1) c l) i);
+      cells = λ c l i. eqb-true _ _ (implied (isl c) _ (all-below-at (cellCount M) _ (k2 .1) c l) i);
+      anchors = λ c l i. beq-same _ _ (implied (isl c) _ (all-below-at (cellCount M) _ (k3 .1) c l) i);
       counterparts = same-list isSameBoundary same-boundary _ _ (k4 .1);
       island = island M isl (k5 .1);
       island′ = island M′ isl (k6 .1);

@@ -16,7 +16,7 @@ use Rattle.laws.specs.OrderLaws.ListOrder.{by-key, prefix-lt}
 use Rattle.laws.specs.OrderLaws.Ranks.{rank, rank-eqb, rank-shift, collect-rank, collect-all}
 use Rattle.laws.specs.ListLaws.Options.{on-list, on-map, option-in, option-out}
 use Rattle.laws.specs.ListLaws.NumberLists.{split}
-use Rattle.laws.specs.ListLaws.Scans.{any-none}
+use Rattle.laws.specs.ListLaws.Below.{below-none}
 use Rattle.laws.specs.OrderLaws.Choice.{Placed, placed, choice-in, named-in}
 use Rattle.island.specs.Frame.{Frame, ren, ren-eqb, ren-ltb}
 use Rattle.island.specs.FrameLemmas.{isIncident-in, isIncident-split, any-in}
@@ -151,7 +151,7 @@ module _ {L S : Context} {inB inR : ℕ → Bool} (F : Frame L S inB inR) where
   conflict-apart q p h k =
       λ t.
       isReservedPort-split true p (q .index) k (h .index) t || isReservedPort-split false q (p .index) h (k .index) t
-      || any-none (L .count) (λ j. isReservedPort L p j && isReservedPort L q j) (λ j l. each j (inB j) refl) t
+      || below-none (L .count) (λ j. isReservedPort L p j && isReservedPort L q j) (λ j l. each j (inB j) refl) t
       || regionConflict-apart inB inR (q .kind) (p .kind) q p h k t
     where
       each : (j : ℕ) (b : Bool) → inB j ≡ b → (isReservedPort L p j && isReservedPort L q j) ≡ false

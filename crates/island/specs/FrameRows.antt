@@ -15,7 +15,7 @@ use Rattle.laws.specs.OrderLaws.StableSort.{filter-sort, map-sort}
 use Rattle.laws.specs.OrderLaws.ListOrder.{by-key, prefix-lt}
 use Rattle.laws.specs.OrderLaws.Ranks.{rank, rank-ltb, rank-eqb, collect-rank}
 use Rattle.laws.specs.ListLaws.Options.{on-only, only-map, option-in, option-out}
-use Rattle.laws.specs.ListLaws.Scans.{filter-passes}
+use Rattle.laws.specs.ListLaws.Members.{filter-passes}
 use Rattle.island.specs.Frame.{Frame}
 
 module _ (inB : ℕ → Bool) where

@@ -12,7 +12,7 @@ use Rattle.definitions.specs.Scan.{anyBelow, countBelow, bit}
 use Rattle.definitions.specs.Grid.{Map, cellCount}
 use Rattle.definitions.specs.Partition.{walkableAt, labels, regionCount}
 use Rattle.laws.specs.OrderLaws.Ranks.{rank, rank-shift}
-use Rattle.laws.specs.ListLaws.Scans.{count-ext, any-at, any-none}
+use Rattle.laws.specs.ListLaws.Below.{count-ext, below-at, below-none}
 use Rattle.island.specs.Premises.{Island}
 use Rattle.island.specs.Frame.{ren}
 use Rattle.island.specs.Restrict.{restrict, walkable-at, root-side, root-same}
@@ -42,7 +42,7 @@ module _ (M : Map) (isl : ℕ → Bool) where
 
   pub in-zero : inR 0 ≡ false
   unfolding inR
-  in-zero = any-none (cellCount M) _ (λ c h. three-and (isl c) (walkableAt M c) _ (λ i w e. suc≢zero (sym (label-walkable M c h w) ∙ eqb-true _ _ e)))
+  in-zero = below-none (cellCount M) _ (λ c h. three-and (isl c) (walkableAt M c) _ (λ i w e. suc≢zero (sym (label-walkable M c h w) ∙ eqb-true _ _ e)))
     where
       suc≢zero : {n : ℕ} → suc n ≡ 0 → ⊥
       suc≢zero e = omega arith
@@ -84,8 +84,8 @@ module _ (M : Map) (isl : ℕ → Bool) where
             ∙ ap isl (root-one M (rootOf M d) c (root-is M d l w) r (same-count (sym (label-walkable M d l w) ∙ eqb-true _ _ q))) ∙ e))
 
         go : (b : Bool) → isl c ≡ b → anyBelow (cellCount M) (λ d. (isl d && walkableAt M d) && eqb (labelOf M d) (suc (countBelow c (isRootCell M)))) ≡ b
-        go true e = any-at (cellCount M) _ c h (rw (e, root-walkable M c r, mine) (eq-eqb (suc (countBelow c (isRootCell M))) (suc (countBelow c (isRootCell M))) refl))
-        go false e = any-none (cellCount M) _ (other e)
+        go true e = below-at (cellCount M) _ c h (rw (e, root-walkable M c r, mine) (eq-eqb (suc (countBelow c (isRootCell M))) (suc (countBelow c (isRootCell M))) refl))
+        go false e = below-none (cellCount M) _ (other e)
 
     pub in-label : (c : ℕ) → c < cellCount M → walkableAt M c ≡ true → inR (labelOf M c) ≡ isl c
     in-label c h w = ap inR (label-walkable M c h w) ∙ in-root (rootOf M c) (root-lt M c h) (root-is M c h w) ∙ root-side M isl I c h

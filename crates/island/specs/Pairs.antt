@@ -11,7 +11,8 @@ use Rattle.definitions.specs.Grid.{Map, Pair, pairLt, pairEq}
 use Rattle.definitions.specs.Partition.{labels, labelPair, isSeparated, addPair, addPairs, pairsOf}
 use Rattle.laws.specs.ListLaws.Lists.{All, done, more, all-map, all-filter}
 use Rattle.laws.specs.RegionLaws.MergingInside.{Keeps, min-ren, max-ren, pick-min, pick-max}
-use Rattle.laws.specs.ListLaws.Scans.{all-onto, filter-ext, map-ext}
+use Rattle.laws.specs.ListLaws.Scans.{filter-ext, map-ext}
+use Rattle.laws.specs.ListLaws.Members.{all-mapped}
 use Rattle.island.specs.Premises.{Island}
 use Rattle.island.specs.Frame.{ren, renP, In, Out, ren-eqb, ren-ltb}
 use Rattle.island.specs.StepCells.{Sound}
@@ -39,7 +40,7 @@ module _ (P : Pair → Type 0) where
 
   pub pairs-all : (ls : List ℕ) {es : List Pair} → All (λ e. P (labelPair ls e)) es → All P (pairsOf ls es)
   unfolding pairsOf
-  pairs-all ls a = all-addPairs done (all-onto (labelPair ls) (all-filter (isSeparated ls) a))
+  pairs-all ls a = all-addPairs done (all-mapped (labelPair ls) (all-filter (isSeparated ls) a))
 
   module _ (f : Pair → Pair) (lt-same : (p q : Pair) → P p → P q → pairLt p q ≡ pairLt (f p) (f q)) (eq-same : (p q : Pair) → P p → P q → pairEq p q ≡ pairEq (f p) (f q)) where
     addPair-in : (p : Pair) {l : List Pair} → P p → All P l → map f (addPair p l) ≡ addPair (f p) (map f l)
@@ -130,7 +131,7 @@ module _ (M : Map) (isl : ℕ → Bool) where
     pairs-same {es} a =
         ap (λ k. addPairs [] (map (labelPair (labels S)) k)) (separated-same a)
         ∙ ap (addPairs []) (map-ext (all-map (λ e l. renamed-in l) apart) ∙ sym (map-map (renP R) (labelPair (labels M)) kept))
-        ∙ sym (addPairs-in (In R) (renP R) (lt-same R) (eq-same R) done (all-onto (labelPair (labels M)) (all-map (λ e l. pair-in l) apart)))
+        ∙ sym (addPairs-in (In R) (renP R) (lt-same R) (eq-same R) done (all-mapped (labelPair (labels M)) (all-map (λ e l. pair-in l) apart)))
       where
         kept : List Pair
         kept = filter (isSeparated (labels M)) es

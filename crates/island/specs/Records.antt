@@ -14,7 +14,8 @@ use Rattle.definitions.specs.Geometry.{float}
 use Rattle.definitions.specs.RegionRecord.{least, most, maskOf, regionOf}
 use Rattle.definitions.specs.Context.{anchoredOf}
 use Rattle.laws.specs.OrderLaws.Ranks.{rank}
-use Rattle.laws.specs.ListLaws.Scans.{any-ext, count-ext, any-below, any-picked}
+use Rattle.laws.specs.ListLaws.Scans.{any-below, any-picked}
+use Rattle.laws.specs.ListLaws.Below.{below-ext, count-ext}
 use Rattle.island.specs.Premises.{hasAnchor, Island}
 use Rattle.island.specs.Frame.{ren, ren-eqb, apart}
 use Rattle.island.specs.Restrict.{restrict, cells-at}
@@ -27,7 +28,7 @@ least-ext zero p q f e = refl
 least-ext (suc n) p q f e = go (least-ext n p q f (λ c l. e c (omega arith)))
   where
     go : least n p f ≡ least n q f → cond (p n) (cond (anyBelow n p) (min (least n p f) (f n)) (f n)) (least n p f) ≡ cond (q n) (cond (anyBelow n q) (min (least n q f) (f n)) (f n)) (least n q f)
-    go ih = λ i. cond (e n (omega arith) i) (cond (any-ext n p q (λ c l. e c (omega arith)) i) (min (ih i) (f n)) (f n)) (ih i)
+    go ih = λ i. cond (e n (omega arith) i) (cond (below-ext n p q (λ c l. e c (omega arith)) i) (min (ih i) (f n)) (f n)) (ih i)
 
 most-ext : (n : ℕ) (p q : ℕ → Bool) (f : ℕ → ℕ) → ((c : ℕ) → c < n → p c ≡ q c) → most n p f ≡ most n q f
 unfolding most
@@ -84,8 +85,8 @@ module _ (M : Map) (isl : ℕ → Bool) (I : Island M isl) where
           minY = float (least-ext (cellCount M) _ _ (λ c. c / M .width * pixelsPerWalkCell) mine-in i);
           maxX = float (most-ext (cellCount M) _ _ (λ c. c % M .width * pixelsPerWalkCell + pixelsPerWalkCell) mine-in i);
           maxY = float (most-ext (cellCount M) _ _ (λ c. c / M .width * pixelsPerWalkCell + pixelsPerWalkCell) mine-in i);
-          hasRamp = any-ext (cellCount M) _ _ (mine-cell isRamp) i;
-          elevations = maskOf (λ e. any-ext (cellCount M) (mineAt M r e) (mineAt S (ren R r) e) (mine-cell (λ v. eqb (elevation v) e)) i);
+          hasRamp = below-ext (cellCount M) _ _ (mine-cell isRamp) i;
+          elevations = maskOf (λ e. below-ext (cellCount M) (mineAt M r e) (mineAt S (ren R r) e) (mine-cell (λ v. eqb (elevation v) e)) i);
           elevationCounts = map (λ e. count-ext (cellCount M) (mineAt M r e) (mineAt S (ren R r) e) (mine-cell (λ v. eqb (elevation v) e)) i) (0 ∷ 1 ∷ 2 ∷ 3 ∷ []);
         }
 
@@ -95,7 +96,7 @@ module _ (M : Map) (isl : ℕ → Bool) (I : Island M isl) where
     unfolding anchoredOf hasAnchor
     anchored-in =
         any-below (λ c. eqb (labelOf M c) r) (cellCount M) (M .anchors) (λ a l. ap (λ x. eqb x r) (label-past M a l) ∙ nonzero)
-        ∙ any-ext (cellCount M) _ _ (λ c l. go c l (isl c) refl)
+        ∙ below-ext (cellCount M) _ _ (λ c l. go c l (isl c) refl)
         ∙ sym (any-picked (λ c. isl c && hasAnchor M isl c) (λ c. c) (λ c. eqb (labelOf S c) (ren R r)) (cellCount M))
       where
         go : (c : ℕ) → c < cellCount M → (b : Bool) → isl c ≡ b → (any (eqb c) (M .anchors) && eqb (labelOf M c) r) ≡ ((b && any (eqb c) (M .anchors)) && eqb (labelOf S c) (ren R r))

@@ -15,7 +15,9 @@ use Rattle.definitions.specs.Spans.{cuts, candidatePositions, cutSteps}
 use Rattle.definitions.specs.Partition.{allSteps, cutAll, uncut, roots}
 use Rattle.laws.specs.ListLaws.Lists.{All, done, more, all-split, all-map, all-both, any-gather, getD-tab}
 use Rattle.laws.specs.OrderLaws.Ranks.{rank, any-rank}
-use Rattle.laws.specs.ListLaws.Scans.{both, picked, picked-length, picked-at, all-not-any, filter-gather, filter-swap}
+use Rattle.laws.specs.ListLaws.Scans.{picked, picked-length, picked-at, filter-gather, filter-swap}
+use Rattle.laws.specs.ListLaws.Tests.{both}
+use Rattle.laws.specs.ListLaws.Members.{any-failed}
 use Rattle.laws.specs.RegionLaws.MergingInside.{Keeps, Agree, Sided, merging-inside}
 use Rattle.island.specs.Premises.{cutsIsland, cutsRemainder, hasAnchor, Island}
 use Rattle.island.specs.Steps.{steps-in}
@@ -78,10 +80,10 @@ module _ (M : Map) (isl : ℕ → Bool) where
         go : (b : Bool) → cutsIsland M isl i ≡ b → All (λ e. isl (e .lo) ≡ b) (cutSteps M i)
         go true h =
             all-map (λ e k. inner (isl (e .lo)) (isl (e .hi)) (k .0) (k .1))
-            (all-both one (all-not-any _ (cutSteps M i) (sym (ap₂ _&&_ h (ap (λ b. b && any (λ e. not (isl (e .lo)) && not (isl (e .hi))) (cutSteps M i)) below)) ∙ I .oneSided i)))
+            (all-both one (any-failed _ (cutSteps M i) (sym (ap₂ _&&_ h (ap (λ b. b && any (λ e. not (isl (e .lo)) && not (isl (e .hi))) (cutSteps M i)) below)) ∙ I .oneSided i)))
         go false h =
             all-map (λ e k. outer (isl (e .lo)) (isl (e .hi)) (k .0) (k .1))
-            (all-both one (all-not-any _ (cutSteps M i) (sym (ap (λ b. b && any (λ e. isl (e .lo) && isl (e .hi)) (cutSteps M i)) below) ∙ h)))
+            (all-both one (any-failed _ (cutSteps M i) (sym (ap (λ b. b && any (λ e. isl (e .lo) && isl (e .hi)) (cutSteps M i)) below) ∙ h)))
 
     -- ---- steps
 

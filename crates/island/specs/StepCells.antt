@@ -11,7 +11,7 @@ use Rattle.definitions.specs.Spans.{cuts, candidatePositions, cutSteps}
 use Rattle.definitions.specs.Partition.{allSteps, uncut, walkableAt}
 use Rattle.laws.specs.ListLaws.Lists.{All, all-filter, all-map}
 use Rattle.laws.specs.OrderLaws.Ranks.{gather-all}
-use Rattle.laws.specs.ListLaws.Scans.{all-onto, all-concatMap, filter-passes}
+use Rattle.laws.specs.ListLaws.Members.{all-mapped, all-joined, filter-passes}
 use Rattle.island.specs.Steps.{four}
 
 module _ (M : Map) where
@@ -54,14 +54,14 @@ module _ (M : Map) where
   module _ (P : Pair → Type 0) (each : (p d : Position) → isStep M p d ≡ true → P (edge M p (toward p d))) where
     onward-all : (p : Position) → All (λ q. P (edge M p q)) (onward M p)
     unfolding onward neighbors
-    onward-all p = all-filter _ (all-onto (toward p) (all-map (each p) (filter-passes (isStep M p) directions)))
+    onward-all p = all-filter _ (all-mapped (toward p) (all-map (each p) (filter-passes (isStep M p) directions)))
 
     pub uncut-all : All P (uncut M)
     unfolding uncut allSteps
-    uncut-all = all-filter _ (gather-all P _ (cellCount M) (λ c. all-onto (edge M (positionOf M c)) (onward-all (positionOf M c))))
+    uncut-all = all-filter _ (gather-all P _ (cellCount M) (λ c. all-mapped (edge M (positionOf M c)) (onward-all (positionOf M c))))
 
     pub cut-all : (i : ℕ) → All P (cutSteps M i)
     unfolding cutSteps
     cut-all i =
-        all-concatMap _ (candidatePositions (M .width) (M .height) (canonical (spanOf M i)))
-        (λ p. all-onto (edge M p) (all-filter (cuts (canonical (spanOf M i)) p) (onward-all p)))
+        all-joined _ (candidatePositions (M .width) (M .height) (canonical (spanOf M i)))
+        (λ p. all-mapped (edge M p) (all-filter (cuts (canonical (spanOf M i)) p) (onward-all p)))

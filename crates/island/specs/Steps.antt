@@ -7,7 +7,7 @@ use mathlib.Core.Bool.{Bool, true, false, _&&_, false≢true}
 use lib.Dec.{leb}
 use borrow.Author.Tests.{le-leb}
 use Rattle.definitions.specs.Grid.{Map, Position, at, toward, walkable, isStep}
-use Rattle.laws.specs.ListLaws.Scans.{both}
+use Rattle.laws.specs.ListLaws.Tests.{both}
 
 -- what `isStep` tests, test by test
 pub record Four (M : Map) (p d : Position) : Type 0 where

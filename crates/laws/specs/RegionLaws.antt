@@ -7,3 +7,4 @@ pub mod Regions
 pub mod LabelsDetermined
 pub mod Components
 pub mod PairLaws
+pub mod Edges

@@ -1,26 +1,27 @@
 -- The coordinates of a map that passes checks 1 and 7 of document 01's table: its sides are 1 to 1,024 cells and its boundaries' endpoints are on it, so that
 -- endpoints are pixels up to 8,192. So are the edges of a region, the least and the most of coordinates of its cells. Assumes nothing.
 use mathlib.Core.Path.{_≡_}
-use Prim.Native.Nat.{ℕ, zero, suc, _+_, _*_, _/_, _%_, _≤_, _<_, zero-le, min, max}
+use Prim.Native.Nat.{ℕ, _+_, _*_, _/_, _%_, _≤_, _<_, zero-le}
 use native.Mathlib.Nat.{le-trans, mul-le-mul-left, mod-lt, div-lt-iff-lt-mul}
 use native.Mathlib.Omega.{arith}
-use mathlib.Core.Bool.{Bool, true, false, _&&_, cond}
+use mathlib.Core.Bool.{Bool, true, _&&_}
 use mathlib.Core.List.{List}
 use mathlib.Core.Option.{none}
 use lib.ListN.{getD}
 use lib.Dec.{eqb}
 use borrow.Author.Tests.{leb-true}
 use Rattle.definitions.specs.Limits.{isSide, maxSide}
-use Rattle.definitions.specs.Scan.{anyBelow}
 use Rattle.definitions.specs.Grid.{Position, Segment, Map, mapOf, noBoundary, cellCount}
 use Rattle.definitions.specs.Spans.{pixelsPerWalkCell}
 use Rattle.definitions.specs.Partition.{labels}
-use Rattle.definitions.specs.RegionRecord.{least, most, regionOf}
+use Rattle.definitions.specs.RegionRecord.{regionOf}
 use Rattle.definitions.specs.Context.{contextOf}
 use Rattle.definitions.specs.Refusals.{sidesFault, isOnMap, bothOnMap, boundariesFault}
 use Rattle.laws.specs.ListLaws.Tests.{both}
-use Rattle.laws.specs.ListLaws.Lists.{All, done, more, all-map}
+use Rattle.laws.specs.ListLaws.Lists.{All, all-map}
+use Rattle.laws.specs.ListLaws.Members.{all-default}
 use Rattle.laws.specs.ListLaws.NoFault.{no-fault}
+use Rattle.laws.specs.RegionLaws.Edges.{least-le, most-le}
 use Rattle.laws.specs.TableLaws.AcceptedCalls.{boundaries-fit, fits-parts}
 use Rattle.laws.specs.FloatLaws.Pixels.{maxPixel, PixelPosition, PixelSegment, PixelRegion, PixelContext, float-pixel}
 
@@ -62,26 +63,6 @@ module _ (w h : ℕ) (hw : isSide w ≡ true) (hh : isSide h ≡ true) where
 
 -- ---- regions
 
--- the least and the most of numbers up to B are up to B
-least-le : (n : ℕ) (p : ℕ → Bool) (f : ℕ → ℕ) (B : ℕ) → ((c : ℕ) → c < n → f c ≤ B) → least n p f ≤ B
-unfolding least
-least-le zero p f B h = zero-le
-least-le (suc n) p f B h = go (p n) (anyBelow n p) (least-le n p f B (λ c l. h c (omega arith))) (h n (omega arith))
-  where
-    go : (x y : Bool) {a b : ℕ} → a ≤ B → b ≤ B → cond x (cond y (min a b) b) a ≤ B
-    go true true u v = omega arith
-    go true false u v = v
-    go false y u v = u
-
-most-le : (n : ℕ) (p : ℕ → Bool) (f : ℕ → ℕ) (B : ℕ) → ((c : ℕ) → c < n → f c ≤ B) → most n p f ≤ B
-unfolding most
-most-le zero p f B h = zero-le
-most-le (suc n) p f B h = go (p n) (most-le n p f B (λ c l. h c (omega arith))) (h n (omega arith))
-  where
-    go : (x : Bool) {a b : ℕ} → a ≤ B → b ≤ B → cond x (max a b) a ≤ B
-    go true u v = omega arith
-    go false u v = u
-
 pub region-pixel : (M : Map) → isSide (M .width) ≡ true → isSide (M .height) ≡ true → (ls : List ℕ) (r : ℕ) → PixelRegion (regionOf M ls r)
 unfolding regionOf
 region-pixel M hw hh ls r =
@@ -110,11 +91,6 @@ region-pixel M hw hh ls r =
     row c l = le-trans (div-lt-iff-lt-mul (side-bounds (M .width) hw .0) .1 l) (side-bounds (M .height) hh .1)
 
 -- ---- the context
-
-all-default : {A : Type 0} {P : A → Type 0} {l : List A} (d : A) → P d → All P l → (i : ℕ) → P (getD l i d)
-all-default d k done i = k
-all-default d k (more h a) zero = h
-all-default d k (more h a) (suc i) = all-default d k a i
 
 pub map-pixel : {M : Map} → OnMap M → PixelContext (contextOf M)
 unfolding contextOf

@@ -1,7 +1,6 @@
 -- The check of a width (refusal 7: "width not finite, sign bit set, or over 65,536") leaves the patterns below the infinity's. The argument: with the sign clear, the patterns
 -- from there on are the infinity's and the NaNs', and neither is at most a finite double. Assumes nothing.
 use Prim.Native.Nat.{ℕ, _*_, _/_, _%_, _^_, _≤_, _<_}
-use native.Mathlib.Omega.{arith}
 use native.Mathlib.Nat.{lt-of-not-le, mod-eq-of-lt}
 use mathlib.Core.Path.{_≡_, refl, sym, ap, _∙_}
 use mathlib.Core.Bool.{Bool, true, false, cond, false≢true}
@@ -12,7 +11,7 @@ use borrow.Author.Tests.{ltb-true, lt-leb}
 use Rattle.definitions.specs.Geometry.{float}
 use Rattle.definitions.specs.Refusals.{widthFits}
 use Rattle.laws.specs.ListLaws.Tests.{both}
-use Rattle.laws.specs.FloatLaws.Patterns.{ofBits-fields}
+use Rattle.laws.specs.FloatLaws.Patterns.{ofBits-fields, top-field}
 
 -- from the infinity's pattern on, with the sign clear
 not-finite : (b : ℕ) → b < 2 ^ 63 → 2047 * 2 ^ 52 ≤ b → ofBits binary64 b ≡ cond (eqb (b % 2 ^ 52) 0) (inf false) nan
@@ -20,10 +19,7 @@ unfolding ofFields
 not-finite b h g =
     ofBits-fields b
     ∙ (λ i. ofFields binary64 (lt-leb (2 ^ 63) b h i) (mod-eq-of-lt h i / 2 ^ 52) (mod-eq-of-lt h i % 2 ^ 52))
-    ∙ ap (λ (x : ℕ). ofFields binary64 false x (b % 2 ^ 52)) (top b h g)
-  where
-    top : (b : ℕ) → b < 2 ^ 63 → 2047 * 2 ^ 52 ≤ b → b / 2 ^ 52 ≡ 2047
-    top b h g = omega arith
+    ∙ ap (λ (x : ℕ). ofFields binary64 false x (b % 2 ^ 52)) (top-field b h g)
 
 not-le : (t : Bool) (y : Float) → finite y ≡ true → le (cond t (inf false) nan) y ≡ true → ⊥
 unfolding le lt eq

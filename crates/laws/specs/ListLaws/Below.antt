@@ -1,4 +1,4 @@
--- Scans over the numbers below n, number by number: what is found somewhere has a first place, tests that agree below n have equal scans, every rank below
+-- Scans over the numbers below n, number by number: what is found somewhere has a first place, what all pass each passes, tests that agree below n have equal scans, every rank below
 -- the count is taken by a number inside, and what is gathered is what is gathered at each number. Assumes nothing.
 use Prim.Native.Nat.{ℕ, zero, suc, _+_, _≤_, _<_}
 use native.Mathlib.Omega.{arith}
@@ -7,7 +7,8 @@ use mathlib.Core.Bool.{Bool, true, false, _||_, false≢true, or-true}
 use mathlib.Core.List.{List}
 use lib.Dec.{ltb}
 use borrow.Author.Tests.{ltb-true, ltb-false}
-use Rattle.definitions.specs.Scan.{anyBelow, countBelow, gather, bit}
+use Rattle.definitions.specs.Scan.{anyBelow, allBelow, countBelow, gather, bit}
+use Rattle.laws.specs.ListLaws.Tests.{both}
 use Rattle.laws.specs.ListLaws.Lists.{All, done, all-append, all-split}
 use Rattle.laws.specs.OrderLaws.Ranks.{rank}
 
@@ -34,6 +35,16 @@ pub count-ext : (n : ℕ) (f g : ℕ → Bool) → ((c : ℕ) → c < n → f c 
 unfolding countBelow
 count-ext zero f g h = refl
 count-ext (suc n) f g h = ap₂ (λ m b. m + bit b) (count-ext n f g (λ c l. h c (omega arith))) (h n (omega arith))
+
+-- a test that all pass is passed at each place
+pub all-below-at : (n : ℕ) (f : ℕ → Bool) → allBelow n f ≡ true → (c : ℕ) → c < n → f c ≡ true
+unfolding allBelow
+all-below-at zero f h c l = absurd (omega arith)
+all-below-at (suc n) f h c l = go (ltb c n) refl (all-below-at n f (both (allBelow n f) (f n) h .0) c)
+  where
+    go : (b : Bool) → ltb c n ≡ b → (c < n → f c ≡ true) → f c ≡ true
+    go true e ih = ih (ltb-true c n e)
+    go false e ih = ap f (omega (arith, ltb-false c n e)) ∙ both (allBelow n f) (f n) h .1
 
 -- the first place where f holds
 pub record First (f : ℕ → Bool) (n : ℕ) : Type 0 where

@@ -9,3 +9,6 @@ or-left-comm false b c = refl
 
 -- for `simp`: both sides of an equation between disjunctions of the same tests come to one order
 pub ruleset disjunction = (or-assoc, or-comm, or-left-comm)
+
+pub or-middle : (a b c d : Bool) → (a || b || (c || d)) ≡ (a || c || (b || d))
+or-middle a b c d = simp disjunction

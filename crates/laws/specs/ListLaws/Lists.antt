@@ -6,7 +6,7 @@ use mathlib.Core.Path.{_≡_, refl, sym, ap, ap₂, _∙_}
 use mathlib.Core.Bool.{Bool, true, false, _&&_, _||_, cond, or-assoc}
 use mathlib.Core.List.{List, [], _∷_, _++_, map}
 use lib.ListN.{length, getD}
-use Rattle.definitions.specs.Scan.{any, all, filter, gather, anyBelow, run}
+use Rattle.definitions.specs.Scan.{any, all, filter, gather, anyBelow, run, bit}
 
 pub data All {A : Type 0} (P : A → Type 0) : List A → Type 0 where
   done : All P []
@@ -41,6 +41,17 @@ module _ {A : Type 0} where
   all-map f done = done
   all-map f (more {x = x} h a) = more (f x h) (all-map f a)
 
+  -- how many of two a filter leaves
+  pub filter-two : (f : A → Bool) (x y : A) → length (filter f (x ∷ y ∷ [])) ≡ bit (f x) + bit (f y)
+  unfolding filter
+  filter-two f x y = go (f x) (f y)
+    where
+      go : (a b : Bool) → length (cond a (x ∷ cond b (y ∷ []) []) (cond b (y ∷ []) [])) ≡ bit a + bit b
+      go true true = refl
+      go true false = refl
+      go false true = refl
+      go false false = refl
+
   pub all-both : {P Q : A → Type 0} {l : List A} → All P l → All Q l → All (λ x. P x × Q x) l
   all-both done b = done
   all-both (more h a) (more k b) = more (h, k) (all-both a b)
@@ -69,6 +80,11 @@ module _ {A : Type 0} where
   unfolding any
   any-append f [] m = refl
   any-append f (x ∷ l) m = ap (λ b. f x || b) (any-append f l m) ∙ sym (or-assoc (f x) (any f l) (any f m))
+
+  pub any-false : (l : List A) → any (λ x. false) l ≡ false
+  unfolding any
+  any-false [] = refl
+  any-false (x ∷ l) = any-false l
 
   pub any-gather : (f : A → Bool) (n : ℕ) (F : ℕ → List A) → any f (gather n F) ≡ anyBelow n (λ i. any f (F i))
   unfolding gather anyBelow any

@@ -19,6 +19,12 @@ module _ {A : Type 0} where
   all-place d (more k a) zero h = k
   all-place d (more k a) (suc i) h = all-place d a i (omega arith)
 
+  -- beyond the list stands d
+  pub all-default : {P : A → Type 0} {l : List A} (d : A) → P d → All P l → (i : ℕ) → P (getD l i d)
+  all-default d k done i = k
+  all-default d k (more h a) zero = h
+  all-default d k (more h a) (suc i) = all-default d k a i
+
   pub all-members : (l : List A) → All (λ x. List·Memᴰ x l) l
   all-members [] = done
   all-members (x ∷ l) = more (List·Memᴰ·head refl) (all-map (λ y m. List·Memᴰ·tail m) (all-members l))

@@ -3,7 +3,7 @@
 use Prim.Native.Nat.{ℕ, zero, suc, _+_, _≤_, _<_}
 use native.Mathlib.Omega.{arith}
 use mathlib.Core.Path.{_≡_, refl, sym, ap, ap₂, _∙_}
-use mathlib.Core.Bool.{Bool, true, false, _&&_, _||_, cond, false≢true, true≢false, or-true, or-false}
+use mathlib.Core.Bool.{Bool, true, false, _&&_, _||_, cond, or-false}
 use mathlib.Core.Option.{Option}
 use mathlib.Core.List.{List, [], _∷_, _++_, map}
 use lib.ListN.{length, getD, length-append, List·getD-append}
@@ -11,25 +11,12 @@ use lib.Seq.{getD-at}
 use lib.Arith.{lt-of-le-ne}
 use lib.Dec.{eqb, ltb}
 use borrow.Author.Tests.{ltb-true, ltb-false, eqb-true, eqb-false, ne-eqb}
-use Rattle.definitions.specs.Scan.{anyBelow, countBelow, bit, collect, gather, toList, onlyIf, run, any, filter, concatMap}
-use Rattle.laws.specs.ListLaws.Lists.{All, done, more, all-append, filter-append, filter-in, filter-out, any-append, map-append}
+use Rattle.definitions.specs.Scan.{anyBelow, countBelow, bit, collect, gather, toList, onlyIf, run, any, filter}
+use Rattle.laws.specs.ListLaws.Lists.{All, done, more, filter-append, filter-in, filter-out, any-append, map-append}
+use Rattle.laws.specs.ListLaws.Below.{below-none}
 use Rattle.laws.specs.OrderLaws.Ranks.{rank-lt}
 
-pub both : (a b : Bool) → (a && b) ≡ true → (a ≡ true) × (b ≡ true)
-both true b h = (refl, h)
-both false b h = absurd (false≢true h)
-
 -- ---- scans that agree at each place
-
-pub any-ext : (n : ℕ) (f g : ℕ → Bool) → ((c : ℕ) → c < n → f c ≡ g c) → anyBelow n f ≡ anyBelow n g
-unfolding anyBelow
-any-ext zero f g h = refl
-any-ext (suc n) f g h = ap₂ _||_ (any-ext n f g (λ c l. h c (omega arith))) (h n (omega arith))
-
-pub count-ext : (n : ℕ) (f g : ℕ → Bool) → ((c : ℕ) → c < n → f c ≡ g c) → countBelow n f ≡ countBelow n g
-unfolding countBelow
-count-ext zero f g h = refl
-count-ext (suc n) f g h = ap₂ (λ m b. m + bit b) (count-ext n f g (λ c l. h c (omega arith))) (h n (omega arith))
 
 module _ {A : Type 0} where
   pub collect-ext : (n : ℕ) (f g : ℕ → Option A) → ((c : ℕ) → c < n → f c ≡ g c) → collect n f ≡ collect n g
@@ -46,23 +33,6 @@ module _ {A : Type 0} where
   tab-ext f g n h = run-ext f g 0 n (λ c a b. h c (omega arith))
 
 -- ---- a test at one place
-
-pub any-at : (n : ℕ) (f : ℕ → Bool) (c : ℕ) → c < n → f c ≡ true → anyBelow n f ≡ true
-unfolding anyBelow
-any-at zero f c h k = absurd (omega arith)
-any-at (suc n) f c h k = go (ltb c n) refl (λ l. any-at n f c l k)
-  where
-    here : c ≡ n → (anyBelow n f || f n) ≡ true
-    here e = rw (← e, k) (or-true (anyBelow c f))
-
-    go : (b : Bool) → ltb c n ≡ b → (c < n → anyBelow n f ≡ true) → (anyBelow n f || f n) ≡ true
-    go true e ih = rw (ih (ltb-true c n e)) refl
-    go false e ih = here (omega (arith, ltb-false c n e))
-
-pub any-none : (n : ℕ) (f : ℕ → Bool) → ((c : ℕ) → c < n → f c ≡ false) → anyBelow n f ≡ false
-unfolding anyBelow
-any-none zero f h = refl
-any-none (suc n) f h = ap₂ _||_ (any-none n f (λ c l. h c (omega arith))) (h n (omega arith))
 
 below-or : (p q f : ℕ → Bool) (n : ℕ) → anyBelow n (λ c. (p c || q c) && f c) ≡ (anyBelow n (λ c. p c && f c) || anyBelow n (λ c. q c && f c))
 unfolding anyBelow
@@ -87,13 +57,13 @@ below-one a f zero o = sym (o (omega arith))
 below-one a f (suc n) o = go (eqb n a) refl (λ e. below-one a f n e)
   where
     go : (b : Bool) → eqb n a ≡ b → ((n ≤ a → f a ≡ false) → anyBelow n (λ c. eqb c a && f c) ≡ f a) → (anyBelow n (λ c. eqb c a && f c) || (b && f n)) ≡ f a
-    go true e ih = ap (λ b. b || f n) (any-none n _ (λ c l. ap (λ b. b && f c) (ne-eqb c a (λ q. omega (arith, eqb-true n a e))))) ∙ ap f (eqb-true n a e)
+    go true e ih = ap (λ b. b || f n) (below-none n _ (λ c l. ap (λ b. b && f c) (ne-eqb c a (λ q. omega (arith, eqb-true n a e))))) ∙ ap f (eqb-true n a e)
     go false e ih = or-false (anyBelow n (λ c. eqb c a && f c)) ∙ ih (λ l. o (lt-of-le-ne l (eqb-false n a e)))
 
 -- A test of a list's elements is a scan below n for one that is in the list, if it fails from n on.
 pub any-below : (f : ℕ → Bool) (n : ℕ) (xs : List ℕ) → ((a : ℕ) → n ≤ a → f a ≡ false) → any f xs ≡ anyBelow n (λ c. any (eqb c) xs && f c)
 unfolding any
-any-below f n [] o = sym (any-none n _ (λ c l. refl))
+any-below f n [] o = sym (below-none n _ (λ c l. refl))
 any-below f n (a ∷ xs) o = sym (below-or (λ c. eqb c a) (λ c. any (eqb c) xs) f n ∙ ap₂ _||_ (below-one a f n (o a)) (sym (any-below f n xs o)))
 
 -- ---- f at the numbers below n that pass p
@@ -149,15 +119,6 @@ module _ {A : Type 0} (p : ℕ → Bool) (f : ℕ → A) where
 -- ---- lists
 
 module _ {A : Type 0} where
-  pub all-not-any : (f : A → Bool) (l : List A) → any f l ≡ false → All (λ x. f x ≡ false) l
-  unfolding any
-  all-not-any f [] h = done
-  all-not-any f (x ∷ l) h = go (f x) refl h (λ e. all-not-any f l e)
-    where
-      go : (b : Bool) → f x ≡ b → (b || any f l) ≡ false → (any f l ≡ false → All (λ x. f x ≡ false) l) → All (λ x. f x ≡ false) (x ∷ l)
-      go true e h ih = absurd (true≢false h)
-      go false e h ih = more e (ih h)
-
   pub all-every : {P : A → Type 0} → ((x : A) → P x) → (l : List A) → All P l
   all-every h [] = done
   all-every h (x ∷ l) = more (h x) (all-every h l)
@@ -184,27 +145,7 @@ module _ {A : Type 0} where
       go false p true q ih = filter-out f x (filter g l) p ∙ ih
       go false p false q ih = ih
 
-  -- what a filter leaves passes it
-  pub filter-passes : (f : A → Bool) (l : List A) → All (λ x. f x ≡ true) (filter f l)
-  unfolding filter
-  filter-passes f [] = done
-  filter-passes f (x ∷ l) = go (f x) refl (filter-passes f l)
-    where
-      go : (b : Bool) → f x ≡ b → All (λ x. f x ≡ true) (filter f l) → All (λ x. f x ≡ true) (cond b (x ∷ filter f l) (filter f l))
-      go true e a = more e a
-      go false e a = a
-
 module _ {A B : Type 0} where
   pub map-ext : {f g : A → B} {l : List A} → All (λ x. f x ≡ g x) l → map f l ≡ map g l
   map-ext done = refl
   map-ext (more h a) = ap₂ {C = List B} (λ x r. x ∷ r) h (map-ext a)
-
-  module _ {P : B → Type 0} where
-    pub all-onto : (f : A → B) {l : List A} → All (λ x. P (f x)) l → All P (map f l)
-    all-onto f done = done
-    all-onto f (more h a) = more h (all-onto f a)
-
-    pub all-concatMap : (F : A → List B) (l : List A) → ((x : A) → All P (F x)) → All P (concatMap F l)
-    unfolding concatMap
-    all-concatMap F [] h = done
-    all-concatMap F (x ∷ l) h = all-append (h x) (all-concatMap F l h)

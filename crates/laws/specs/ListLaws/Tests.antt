@@ -1,8 +1,8 @@
--- Tests: both parts of a test by `&&` hold where it does, and two tests for equality agree where the equations are equivalent. Assumes nothing.
+-- Tests: both parts of a test by `&&` hold where it does, two tests for equality agree where the equations are equivalent, and laws of `Bool·beq` and `not`. Assumes nothing.
 use Prim.Native.Nat.{ℕ}
 use mathlib.Core.Path.{_≡_, refl, sym}
 use mathlib.Core.Logic.{_↔_}
-use mathlib.Core.Bool.{Bool, true, false, _&&_, false≢true}
+use mathlib.Core.Bool.{Bool, true, false, not, _&&_, _||_, Bool·beq, false≢true}
 use lib.Dec.{eqb}
 use borrow.Author.Tests.{eqb-true, eqb-false, eq-eqb, ne-eqb}
 
@@ -16,3 +16,13 @@ eqb-same a b c d f = go (eqb a b) refl
     go : (t : Bool) → eqb a b ≡ t → t ≡ eqb c d
     go true e = sym (eq-eqb c d (f .0 (eqb-true a b e)))
     go false e = sym (ne-eqb c d (λ q. eqb-false a b e (f .1 q)))
+
+pub beq-same : (a b : Bool) → Bool·beq a b ≡ true → a ≡ b
+beq-same true true h = refl
+beq-same true false h = absurd (false≢true h)
+beq-same false true h = absurd (false≢true h)
+beq-same false false h = refl
+
+pub not-and : (a b : Bool) → (not a || not b) ≡ not (a && b)
+not-and true b = refl
+not-and false b = refl

@@ -8,7 +8,7 @@ use lib.Dec.{eqb}
 use Rattle.definitions.specs.Scan.{any, filter, concatMap, member}
 use Rattle.definitions.specs.Sort.{sort, select}
 use Rattle.laws.specs.ListLaws.Lists.{All, done, more, all-map, all-both, all-filter}
-use Rattle.laws.specs.ListLaws.Scans.{filter-passes}
+use Rattle.laws.specs.ListLaws.Members.{filter-passes}
 use Rattle.laws.specs.OrderLaws.StableSort.{Weak, filter-sort, map-sort, all-sort}
 use Rattle.laws.specs.OrderLaws.Selection.{filter-select, map-select, all-select}
 use Rattle.laws.specs.OrderLaws.Ranks.{rank, rank-eqb}

@@ -8,6 +8,7 @@ use lib.ListN.{length}
 use Rattle.definitions.specs.Scan.{any}
 use Rattle.definitions.specs.Grid.{Pair, pairLt, pairEq}
 use Rattle.definitions.specs.Partition.{addPair, addPairs}
+use Rattle.laws.specs.ListLaws.Disjunction.{or-left-comm}
 use Rattle.laws.specs.ListLaws.Lists.{All, done, more, all-map}
 use Rattle.laws.specs.OrderLaws.PairOrder.{pair-same, pair-equal, pairEq-sym, pair-weak, pair-trans, pair-differ, pair-total, Ascending, none, next, before-absent}
 
@@ -45,15 +46,10 @@ unfolding addPair any
 any-addPair f p [] = refl
 any-addPair f p (q ∷ l) = go (pairLt p q) (pairEq p q) refl (any-addPair f p l)
   where
-    swap : (a b c : Bool) → (a || (b || c)) ≡ (b || (a || c))
-    swap true true c = refl
-    swap true false c = refl
-    swap false b c = refl
-
     go : (b c : Bool) → pairEq p q ≡ c → any f (addPair p l) ≡ (f p || any f l) → any f (cond b (p ∷ q ∷ l) (cond c (q ∷ l) (q ∷ addPair p l))) ≡ (f p || (f q || any f l))
     go true c e ih = refl
     go false true e ih = rw (pair-same p q e) (sym (or-self-left (f q) (any f l)))
-    go false false e ih = ap (λ b. f q || b) ih ∙ swap (f q) (f p) (any f l)
+    go false false e ih = ap (λ b. f q || b) ih ∙ or-left-comm (f q) (f p) (any f l)
 
 -- a pair that is there changes nothing, and one that is not makes the list longer by one
 pub addPair-there : (p : Pair) {l : List Pair} → Ascending l → any (pairEq p) l ≡ true → addPair p l ≡ l

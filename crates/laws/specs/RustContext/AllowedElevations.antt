@@ -2,12 +2,13 @@
 -- of a mask and of the ramp's two elevations, computed. Assumes nothing.
 use Prim.Native.Nat.{ℕ, _-_, _^_, _<_}
 use mathlib.Core.Path.{_≡_, refl}
-use mathlib.Core.Bool.{Bool, true, false, not, _||_, Bool·beq, false≢true}
+use mathlib.Core.Bool.{Bool, true, not, _||_, Bool·beq}
 use lib.Dec.{eqb}
 use lib.Bits.{bitAnd, bitOr}
 use Rattle.definitions.specs.Scan.{allBelow}
 use Rattle.definitions.specs.RegionRecord.{hasBit}
-use Rattle.laws.specs.RustInteriors.ComponentRegions.{all-below-at}
+use Rattle.laws.specs.ListLaws.Tests.{beq-same}
+use Rattle.laws.specs.ListLaws.Below.{all-below-at}
 
 --     let allowed_elevations = (1_u8 << ramp.lower_elevation) | (1_u8 << ramp.upper_elevation);
 --     ..
@@ -23,12 +24,6 @@ eachAllowed elevations lower upper = allBelow 8 (λ e. not (hasBit elevations e)
 table : allBelow 16 (λ n. allBelow 8 (λ l. allBelow 8 (λ u. Bool·beq (noneElse n l u) (eachAllowed n l u)))) ≡ true
 unfolding allBelow noneElse eachAllowed
 table = refl
-
-beq-same : (a b : Bool) → Bool·beq a b ≡ true → a ≡ b
-beq-same true true h = refl
-beq-same true false h = absurd (false≢true h)
-beq-same false true h = absurd (false≢true h)
-beq-same false false h = refl
 
 pub mask-is : (elevations lower upper : ℕ) → elevations < 16 → lower < 8 → upper < 8 → noneElse elevations lower upper ≡ eachAllowed elevations lower upper
 mask-is n l u hn hl hu =

@@ -1,13 +1,13 @@
 -- The context of a map is checked (CheckedContext), if the map is at most 1,024 cells wide and its boundaries have kinds up to 2 and elevations up to 7, as the table of
 -- refusals has it. The argument: a mask of four bits is below 16, and an edge of a region is a pixel of the map, which a double holds exactly. Assumes nothing.
-use Prim.Native.Nat.{ℕ, zero, suc, _+_, _*_, _%_, _^_, _<_, _≤_, min}
+use Prim.Native.Nat.{ℕ, _+_, _*_, _%_, _^_, _<_, _≤_}
 use native.Mathlib.Omega.{arith}
 use native.Mathlib.Nat.{mod-lt, mul-zero}
-use mathlib.Core.Path.{_≡_, refl, sym, subst}
-use mathlib.Core.Bool.{Bool, true, false, _&&_, cond}
+use mathlib.Core.Path.{_≡_, refl}
+use mathlib.Core.Bool.{Bool, true, false, _&&_}
 use lib.IntN.{pos}
 use lib.Dec.{T, eqb, ltb, le→leb}
-use lib.ListN.{length, getD, List·getD-eq-default}
+use lib.ListN.{getD}
 use lib.Ieee.{Float, nan, inf, fin, binary64, ofInt, inFloat, inUnsigned}
 use lib.Ieee.Scale.{finite}
 use lib.Ieee.Back.{unsigned-back}
@@ -20,7 +20,8 @@ use Rattle.definitions.specs.RegionRecord.{least, maskOf, regionOf}
 use Rattle.definitions.specs.Partition.{labels}
 use Rattle.definitions.specs.Context.{contextOf}
 use Rattle.laws.specs.ListLaws.Lists.{All}
-use Rattle.laws.specs.ListLaws.Members.{all-place}
+use Rattle.laws.specs.ListLaws.Members.{all-default}
+use Rattle.laws.specs.RegionLaws.Edges.{least-le}
 use Rattle.laws.specs.RustContext.CheckedContext.{Checked}
 
 -- `kind over 2`, `elevation over 7`: refusal 7
@@ -43,16 +44,6 @@ float-finite n h = finite-unsigned (ofInt binary64 (pos n)) 53 (unsigned-back bi
   where
     whole : (n : ℕ) → n < 2 ^ 53 → T (inFloat binary64 (pos n))
     whole n h = unfold inFloat in (le→leb n (2 ^ 53) (omega arith))
-
-least-within : (n b : ℕ) (p : ℕ → Bool) (f : ℕ → ℕ) → ((c : ℕ) → c < n → f c ≤ b) → least n p f ≤ b
-unfolding least
-least-within zero b p f h = omega arith
-least-within (suc n) b p f h = go (p n) (anyBelow n p) (least-within n b p f (λ c l. h c (omega arith)))
-  where
-    go : (s t : Bool) → least n p f ≤ b → cond s (cond t (min (least n p f) (f n)) (f n)) (least n p f) ≤ b
-    go true true ih = omega arith
-    go true false ih = h n (omega arith)
-    go false t ih = ih
 
 mask-below : (p : ℕ → Bool) → maskOf p < 16
 mask-below p = go (p 0) (p 1) (p 2) (p 3)
@@ -78,11 +69,7 @@ module _ (M : Map) where
 
   boundary-checked : All CheckedBoundary (M .boundaries) → (i : ℕ) → CheckedBoundary (boundaryOf M i)
   unfolding boundaryOf
-  boundary-checked a i = go (ltb i (length (M .boundaries))) refl
-    where
-      go : (b : Bool) → ltb i (length (M .boundaries)) ≡ b → CheckedBoundary (getD (M .boundaries) i noBoundary)
-      go true e = all-place noBoundary a i (ltb-true i (length (M .boundaries)) e)
-      go false e = subst CheckedBoundary (sym (List·getD-eq-default (M .boundaries) noBoundary (ltb-false i (length (M .boundaries)) e))) (record { kind = omega arith; lower = omega arith; upper = omega arith })
+  boundary-checked a i = all-default {P = CheckedBoundary} noBoundary (record { kind = omega arith; lower = omega arith; upper = omega arith }) a i
 
   pub map-checked : M .width ≤ 1024 → All CheckedBoundary (M .boundaries) → Checked (contextOf M)
   unfolding contextOf regionOf
@@ -92,5 +79,5 @@ module _ (M : Map) where
         lowers = λ i h. boundary-checked a i .lower;
         uppers = λ i h. boundary-checked a i .upper;
         masks = λ r. mask-below (λ e. anyBelow (cellCount M) (λ c. eqb (getD (labels M) c 0) r && eqb (elevation (cellAt M c)) e));
-        measured = λ r. float-finite (least (cellCount M) (λ c. eqb (getD (labels M) c 0) r) (λ c. c % M .width * pixelsPerWalkCell)) (omega (arith, least-within (cellCount M) 8192 (λ c. eqb (getD (labels M) c 0) r) (λ c. c % M .width * pixelsPerWalkCell) (column-within w)));
+        measured = λ r. float-finite (least (cellCount M) (λ c. eqb (getD (labels M) c 0) r) (λ c. c % M .width * pixelsPerWalkCell)) (omega (arith, least-le (cellCount M) (λ c. eqb (getD (labels M) c 0) r) (λ c. c % M .width * pixelsPerWalkCell) 8192 (column-within w)));
       }

@@ -15,7 +15,7 @@ use lib.Count.{onesIn}
 use borrow.Author.Tests.{eqb-true}
 use Rattle.definitions.specs.Scan.{countBelow, bit, onlyIf}
 use Rattle.definitions.specs.RegionRecord.{Region, elevationCount, mostCommonElevation, dominantElevation, hasBit, joinedOnes, strictlyFlat}
-use Rattle.laws.specs.ListLaws.Scans.{count-ext}
+use Rattle.laws.specs.ListLaws.Below.{count-ext}
 
 -- ---- as the Rust writes it
 

@@ -32,29 +32,24 @@ module _ (C : Context) where
 
 -- ---- what it holds
 
+-- put in for one reason and again for another
+insert-if : (j : ℕ) (l : List ℕ) (c d : Bool) → cond d (setInsert (cond c (setInsert l j) l) j) (cond c (setInsert l j) l) ≡ cond (c || d) (setInsert l j) l
+insert-if j l true true = insert-again j l
+insert-if j l true false = refl
+insert-if j l false true = refl
+insert-if j l false false = refl
+
 -- one region of a pair and the other
 at-two : (j x a b : ℕ) {es : List Entry} → Rising es → boundariesAt (insertAt (insertAt es a j) b j) x ≡ cond (eqb a x || eqb b x) (setInsert (boundariesAt es x) j) (boundariesAt es x)
 at-two j x a b {es} s =
-    at-insert b j x (insert-rising a j s) ∙ ap (λ l. cond (eqb x b) (setInsert l j) l) (at-insert a j x s) ∙ go (eqb x a) (eqb x b)
+    at-insert b j x (insert-rising a j s) ∙ ap (λ l. cond (eqb x b) (setInsert l j) l) (at-insert a j x s) ∙ insert-if j (boundariesAt es x) (eqb x a) (eqb x b)
     ∙ ap₂ (λ c d. cond (c || d) (setInsert (boundariesAt es x) j) (boundariesAt es x)) (eqb-sym x a) (eqb-sym x b)
-  where
-    go : (c d : Bool) → cond d (setInsert (cond c (setInsert (boundariesAt es x) j) (boundariesAt es x)) j) (cond c (setInsert (boundariesAt es x) j) (boundariesAt es x)) ≡ cond (c || d) (setInsert (boundariesAt es x) j) (boundariesAt es x)
-    go true true = insert-again j (boundariesAt es x)
-    go true false = refl
-    go false true = refl
-    go false false = refl
 
 at-pairs : (j x : ℕ) (ps : List Pair) {es : List Entry} → Rising es → boundariesAt (insertPairs es j ps) x ≡ cond (any (contains x) ps) (setInsert (boundariesAt es x) j) (boundariesAt es x)
 unfolding insertPairs any
 at-pairs j x [] s = refl
 at-pairs j x (p ∷ ps) {es} s =
-    at-pairs j x ps (insert-rising (p .hi) j (insert-rising (p .lo) j s)) ∙ ap (λ l. cond (any (contains x) ps) (setInsert l j) l) (at-two j x (p .lo) (p .hi) s) ∙ go (contains x p) (any (contains x) ps)
-  where
-    go : (c d : Bool) → cond d (setInsert (cond c (setInsert (boundariesAt es x) j) (boundariesAt es x)) j) (cond c (setInsert (boundariesAt es x) j) (boundariesAt es x)) ≡ cond (c || d) (setInsert (boundariesAt es x) j) (boundariesAt es x)
-    go true true = insert-again j (boundariesAt es x)
-    go true false = refl
-    go false true = refl
-    go false false = refl
+    at-pairs j x ps (insert-rising (p .hi) j (insert-rising (p .lo) j s)) ∙ ap (λ l. cond (any (contains x) ps) (setInsert l j) l) (at-two j x (p .lo) (p .hi) s) ∙ insert-if j (boundariesAt es x) (contains x p) (any (contains x) ps)
 
 pairs-rising : (j : ℕ) (ps : List Pair) {es : List Entry} → Rising es → Rising (insertPairs es j ps)
 unfolding insertPairs

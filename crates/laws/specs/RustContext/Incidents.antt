@@ -11,6 +11,7 @@ use borrow.Author.Tests.{lt-ltb}
 use Rattle.definitions.specs.Scan.{member}
 use Rattle.definitions.specs.Context.{Context, isIncident, incidentCount}
 use Rattle.definitions.specs.RampMouths.{onlyIncidents}
+use Rattle.laws.specs.ListLaws.Tests.{not-and}
 use Rattle.laws.specs.ListLaws.Lists.{done, more}
 use Rattle.laws.specs.SetLaws.Entries.{Entry, boundariesAt, isFilled, Filled}
 use Rattle.laws.specs.RustContext.IncidentMap.{incidents, incidents-below, incidents-filled, incidents-get}
@@ -65,10 +66,6 @@ entry-is r (more {x = e} {l = es} h a) = go (eqb r (e .region)) (entry-is r a)
     go : (b : Bool) → entryAt es r ≡ presentSet (boundariesAt es r) → cond b (some (e .boundaries)) (entryAt es r) ≡ presentSet (cond b (e .boundaries) (boundariesAt es r))
     go true ih = there (e .boundaries) h
     go false ih = ih
-
-not-and : (a b : Bool) → (not a || not b) ≡ not (a && b)
-not-and true b = refl
-not-and false b = refl
 
 module _ (C : Context) where
   pub incidents-are : (r : ℕ) → incidentsRust C r ≡ presentSet (numbersBelow (C .count) (λ j. isIncident C j r))

@@ -2,17 +2,17 @@
 -- label first (PairLaws), and every label has a cell (Regions). Assumes nothing.
 use Prim.Native.Nat.{ℕ, _*_, _^_, _<_, _≤_}
 use native.Mathlib.Omega.{arith}
-use mathlib.Core.Path.{_≡_, refl, sym, subst}
-use mathlib.Core.Bool.{Bool, true, false}
-use lib.Dec.{eqb, ltb}
-use lib.ListN.{length, getD, List·getD-eq-default}
-use borrow.Author.Tests.{ltb-true, ltb-false, eq-eqb}
+use mathlib.Core.Path.{_≡_}
+use mathlib.Core.Bool.{Bool, true}
+use lib.Dec.{eqb}
+use lib.ListN.{getD}
+use borrow.Author.Tests.{eq-eqb}
 use Rattle.definitions.specs.Scan.{countBelow}
 use Rattle.definitions.specs.Grid.{Map, Boundary, noBoundary, boundaryOf, cellCount}
 use Rattle.definitions.specs.Partition.{labels, regionCount}
 use Rattle.definitions.specs.Context.{contextOf}
 use Rattle.laws.specs.ListLaws.Lists.{All, all-map}
-use Rattle.laws.specs.ListLaws.Members.{all-place}
+use Rattle.laws.specs.ListLaws.Members.{all-default}
 use Rattle.laws.specs.OrderLaws.Ranks.{rank-lt}
 use Rattle.laws.specs.RegionLaws.Regions.{label-taken, FirstCell}
 use Rattle.laws.specs.RegionLaws.PairLaws.{pairs-named, pairs-empty}
@@ -35,11 +35,7 @@ module _ (M : Map) where
 
   boundary-finite : All FiniteWidth (M .boundaries) → (i : ℕ) → FiniteWidth (boundaryOf M i)
   unfolding boundaryOf
-  boundary-finite a i = go (ltb i (length (M .boundaries))) refl
-    where
-      go : (b : Bool) → ltb i (length (M .boundaries)) ≡ b → FiniteWidth (getD (M .boundaries) i noBoundary)
-      go true e = all-place noBoundary a i (ltb-true i (length (M .boundaries)) e)
-      go false e = subst FiniteWidth (sym (List·getD-eq-default (M .boundaries) noBoundary (ltb-false i (length (M .boundaries)) e))) (omega arith)
+  boundary-finite a i = all-default {P = FiniteWidth} noBoundary (omega arith) a i
 
   pub map-sound : All FiniteWidth (M .boundaries) → Sound (contextOf M)
   unfolding contextOf

@@ -8,17 +8,17 @@ use mathlib.Core.Bool.{Bool, true, false, not, _&&_, _||_, cond, or-self, true�
 use mathlib.Core.List.{List, [], _∷_}
 use lib.ListN.{length, List·getD-eq-default}
 use lib.Dec.{eqb, ltb, leb}
-use borrow.Author.Tests.{ltb-true, ltb-false, eqb-true, eq-eqb, leb-true, leb-false}
+use borrow.Author.Tests.{ltb-true, eqb-true, eq-eqb, leb-true, leb-false}
 use Rattle.definitions.specs.Scan.{any, all, member, anyBelow, allBelow, gather, run}
 use Rattle.definitions.specs.Grid.{Pair}
 use Rattle.definitions.specs.Context.{Context}
 use Rattle.definitions.specs.MouthShapes.{regionsOf}
 use Rattle.definitions.specs.RampInteriors.{isOrdinary, links, components, componentOf, isEdge, edgesOf, componentRegions}
-use Rattle.laws.specs.ListLaws.Lists.{All, done, more, all-map, any-gather, length-run}
+use Rattle.laws.specs.ListLaws.Lists.{All, done, more, all-map, any-false, any-gather, length-run}
 use Rattle.laws.specs.OrderLaws.ListOrder.{eqb-sym}
 use Rattle.laws.specs.ListLaws.ListsAsSets.{any-or, any-member, member-addAll}
-use Rattle.laws.specs.ListLaws.Scans.{both}
-use Rattle.laws.specs.ListLaws.Below.{below-at, below-first}
+use Rattle.laws.specs.ListLaws.Tests.{both, not-and}
+use Rattle.laws.specs.ListLaws.Below.{below-at, below-first, all-below-at}
 use Rattle.laws.specs.ListLaws.Members.{all-at, any-found}
 use Rattle.laws.specs.RustMouths.Triangles.{any-regions}
 use Rattle.laws.specs.RegionLaws.Merging.{Within, mergeAll-length}
@@ -30,30 +30,13 @@ use Rattle.laws.specs.RustInteriors.ComponentLiteral.{leavesComponent}
 
 pub any-swap : {A B : Type 0} (f : A → B → Bool) (l : List A) (m : List B) → any (λ x. any (f x) m) l ≡ any (λ y. any (λ x. f x y) l) m
 unfolding any
-any-swap f [] m = sym (none-in m)
-  where
-    none-in : {B : Type 0} (m : List B) → any (λ y. false) m ≡ false
-    none-in [] = refl
-    none-in (y ∷ m) = none-in m
+any-swap f [] m = sym (any-false m)
 any-swap f (x ∷ l) m = ap (λ b. any (f x) m || b) (any-swap f l m) ∙ sym (any-or (f x) (λ y. any (λ x. f x y) l) m)
 
 none-below : (n : ℕ) (f g : ℕ → Bool) → ((i : ℕ) → i < n → f i ≡ not (g i)) → anyBelow n f ≡ not (allBelow n g)
 unfolding anyBelow allBelow
 none-below zero f g h = refl
-none-below (suc n) f g h = ap₂ _||_ (none-below n f g (λ i l. h i (omega arith))) (h n (omega arith)) ∙ go (allBelow n g) (g n)
-  where
-    go : (a b : Bool) → (not a || not b) ≡ not (a && b)
-    go true b = refl
-    go false b = refl
-
-pub all-below-at : (n : ℕ) (g : ℕ → Bool) → allBelow n g ≡ true → (i : ℕ) → i < n → g i ≡ true
-unfolding allBelow
-all-below-at zero g h i l = absurd (omega arith)
-all-below-at (suc n) g h i l = go (ltb i n) refl (all-below-at n g (both (allBelow n g) (g n) h .0) i)
-  where
-    go : (b : Bool) → ltb i n ≡ b → (i < n → g i ≡ true) → g i ≡ true
-    go true e ih = ih (ltb-true i n e)
-    go false e ih = ap g (omega (arith, ltb-false i n e)) ∙ both (allBelow n g) (g n) h .1
+none-below (suc n) f g h = ap₂ _||_ (none-below n f g (λ i l. h i (omega arith))) (h n (omega arith)) ∙ not-and (allBelow n g) (g n)
 
 -- a number that no pair names is neither number of any pair
 regions-apart : (x : ℕ) (l : List Pair) → member x (regionsOf l) ≡ false → All (λ p. (not (eqb (p .lo) x) ≡ true) × (not (eqb (p .hi) x) ≡ true)) l

@@ -16,7 +16,7 @@ use Rattle.definitions.specs.RampInteriors.{components, componentOf, isEdge, ed
 use Rattle.laws.specs.ListLaws.Lists.{All}
 use Rattle.laws.specs.ListLaws.ListsAsSets.{any-or}
 use Rattle.laws.specs.RustContext.FullCut.{isEmpty}
-use Rattle.laws.specs.ListLaws.Scans.{both}
+use Rattle.laws.specs.ListLaws.Tests.{both}
 use Rattle.laws.specs.RegionLaws.Merging.{Within}
 use Rattle.laws.specs.SetLaws.Sets.{setInsert, setExtend, Ascending, none, numbersBelow, member-insert, member-below, member-extend, insert-ascending, extend-ascending, any-below, set-below, same-members}
 use Rattle.laws.specs.SetLaws.SetTests.{any-extend}

@@ -14,7 +14,7 @@ use Rattle.definitions.specs.Grid.{Pair}
 use Rattle.definitions.specs.Context.{Context}
 use Rattle.definitions.specs.RampInteriors.{isOrdinary}
 use Rattle.laws.specs.ListLaws.Lists.{All, all-map, all-both}
-use Rattle.laws.specs.ListLaws.Scans.{both}
+use Rattle.laws.specs.ListLaws.Tests.{both}
 use Rattle.laws.specs.ListLaws.Members.{all-at, all-members, any-found}
 use Rattle.laws.specs.RegionLaws.Merging.{Within}
 use Rattle.laws.specs.RegionLaws.Components.{component, links-all, component-set}

@@ -16,7 +16,7 @@ use Rattle.definitions.specs.MouthShapes.{regionsOf}
 use Rattle.definitions.specs.RampInteriors.{isOrdinary, links, components, isEdge}
 use Rattle.laws.specs.ListLaws.Lists.{All, done, more, all-map, all-both, any-gather}
 use Rattle.laws.specs.OrderLaws.ListOrder.{Three, less, same, over, three}
-use Rattle.laws.specs.ListLaws.Scans.{both}
+use Rattle.laws.specs.ListLaws.Tests.{both}
 use Rattle.laws.specs.ListLaws.Below.{below-at, below-first}
 use Rattle.laws.specs.RegionLaws.Merging.{Within}
 use Rattle.laws.specs.RegionLaws.Components.{component, links-all, links-at, component-closed, component-least, component-low, component-own}

@@ -17,7 +17,8 @@ use Rattle.definitions.specs.Context.{Context}
 use Rattle.definitions.specs.MouthShapes.{regionsOf}
 use Rattle.definitions.specs.RampInteriors.{InteriorProposal, components, isEdge, edgesOf, componentRegions, isCandidate, isPort, componentPorts, interiorFrom, interiorProposal, proposals, key, ranksBefore, taken, removed}
 use Rattle.laws.specs.ListLaws.Lists.{All, done, more, all-map, all-both}
-use Rattle.laws.specs.ListLaws.Scans.{both, all-every}
+use Rattle.laws.specs.ListLaws.Scans.{all-every}
+use Rattle.laws.specs.ListLaws.Tests.{both}
 use Rattle.laws.specs.OrderLaws.Ranks.{gather-all}
 use Rattle.laws.specs.ListLaws.NumberLists.{all-addAll}
 use Rattle.laws.specs.OrderLaws.StableSort.{map-sort}

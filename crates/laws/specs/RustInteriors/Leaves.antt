@@ -11,6 +11,7 @@ use Rattle.definitions.specs.Scan.{any, all, filter, member, concatMap, bit, ad
 use Rattle.definitions.specs.Grid.{Pair}
 use Rattle.definitions.specs.Context.{Context, incidentCount, isIncident}
 use Rattle.definitions.specs.RampInteriors.{Expansion, insideCount, pairExterior, exteriors, invalid, addLeaf, expandPair, expandPairs, expandPort}
+use Rattle.laws.specs.ListLaws.Lists.{filter-two}
 use Rattle.laws.specs.SetLaws.Sets.{setInsert, setExtend, member-extend}
 use Rattle.laws.specs.SetLaws.SetTests.{extend-append}
 use Rattle.laws.specs.RustContext.Incidents.{not-only-one}
@@ -48,14 +49,8 @@ module _ (set : List ℕ) (p : Pair) where
 
   -- `count`, `len`
   count-in : length (pairIn set p) ≡ insideCount set p
-  unfolding pairIn filter insideCount
-  count-in = go (member (p .lo) set) (member (p .hi) set)
-    where
-      go : (a b : Bool) → length (cond a (p .lo ∷ cond b (p .hi ∷ []) []) (cond b (p .hi ∷ []) [])) ≡ bit a + bit b
-      go true true = refl
-      go true false = refl
-      go false true = refl
-      go false false = refl
+  unfolding pairIn insideCount
+  count-in = filter-two (λ r. member r set) (p .lo) (p .hi)
 
   exterior-put : (es : List ℕ) → insertExterior (setExtend [] es) p (pairIn set p) ≡ setExtend [] (es ++ pairExterior set p)
   unfolding pairIn filter insertExterior pairExterior

@@ -12,7 +12,7 @@ use borrow.Author.Tests.{eqb-true, eqb-false, eq-eqb, ne-eqb}
 use Rattle.definitions.specs.Scan.{any, member, countBelow, bit}
 use Rattle.definitions.specs.Context.{Context}
 use Rattle.laws.specs.ListLaws.Lists.{All, done, more}
-use Rattle.laws.specs.ListLaws.Scans.{count-ext}
+use Rattle.laws.specs.ListLaws.Below.{count-ext}
 use Rattle.laws.specs.SetLaws.Sets.{Ascending, setInsert, member-insert, insert-ascending}
 use Rattle.laws.specs.RustInteriors.DepthFirstLiteral.{Link, Search, seenAgain, seenFirst, visitLink, visitLinks, withTodo, popped, graphAt, searchFor}
 

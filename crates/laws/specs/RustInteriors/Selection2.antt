@@ -10,7 +10,8 @@ use Rattle.definitions.specs.Sort.{select}
 use Rattle.definitions.specs.Context.{Context}
 use Rattle.definitions.specs.RampMouths.{meet}
 use Rattle.definitions.specs.RampInteriors.{InteriorProposal, conflict}
-use Rattle.laws.specs.ListLaws.Disjunction.{disjunction}
+use Rattle.laws.specs.ListLaws.Disjunction.{or-middle}
+use Rattle.laws.specs.ListLaws.Lists.{any-false}
 use Rattle.laws.specs.ListLaws.Scans.{all-every}
 use Rattle.laws.specs.SetLaws.Sets.{setExtend, member-extend}
 use Rattle.laws.specs.SetLaws.SetTests.{any-extend, extend-append, extended}
@@ -63,10 +64,7 @@ module _ (C : Context) where
       ap₂ _||_ (extended (s .removed) (q .edges) (p .edges))
       (extended (s .reservedRegions) (setExtend [] (q .regions)) (setExtend [] (p .regions))
       ∙ ap (λ b. any (λ r. member r (s .reservedRegions)) (setExtend [] (p .regions)) || b) (any-extend (λ r. member r (setExtend [] (q .regions))) [] (p .regions) ∙ (λ i. any (λ r. member-extend r [] (q .regions) i) (p .regions))))
-      ∙ order (any (λ i. member i (s .removed)) (p .edges)) (any (λ i. member i (q .edges)) (p .edges)) (any (λ r. member r (s .reservedRegions)) (setExtend [] (p .regions))) (any (λ r. member r (q .regions)) (p .regions))
-    where
-      order : (a b c d : Bool) → (a || b || (c || d)) ≡ (a || c || (b || d))
-      order a b c d = simp disjunction
+      ∙ or-middle (any (λ i. member i (s .removed)) (p .edges)) (any (λ i. member i (q .edges)) (p .edges)) (any (λ r. member r (s .reservedRegions)) (setExtend [] (p .regions))) (any (λ r. member r (q .regions)) (p .regions))
 
   -- ---- the loop
 
@@ -83,11 +81,7 @@ module _ (C : Context) where
 
   starts-free : (p : InteriorProposal) → refuses nothingReserved (rendered C p) ≡ false
   unfolding refuses member any
-  starts-free p = ap₂ _||_ (none-in (p .edges)) (none-in (setExtend [] (p .regions)))
-    where
-      none-in : (l : List ℕ) → any (λ r. false) l ≡ false
-      none-in [] = refl
-      none-in (x ∷ l) = none-in l
+  starts-free p = ap₂ _||_ (any-false (p .edges)) (any-false (setExtend [] (p .regions)))
 
   -- the boundaries removed, as the set that the Rust fills
   pub selection : (l : List InteriorProposal) → removedRust (map (rendered C) l) ≡ setExtend [] (concatMap (λ p. p .edges) (select (conflict C) [] l))

@@ -10,10 +10,11 @@ use Rattle.definitions.specs.Scan.{any, member, anyBelow}
 use Rattle.definitions.specs.Sort.{select}
 use Rattle.definitions.specs.Context.{Context}
 use Rattle.definitions.specs.Junctions.{Proposal, isReservedPort, namesRegion, regionConflict, conflict}
-use Rattle.laws.specs.ListLaws.Disjunction.{disjunction}
+use Rattle.laws.specs.ListLaws.Disjunction.{disjunction, or-middle}
+use Rattle.laws.specs.ListLaws.ListsAsSets.{any-or}
 use Rattle.laws.specs.ListLaws.Lists.{All}
 use Rattle.laws.specs.OrderLaws.ListOrder.{eqb-sym}
-use Rattle.laws.specs.ListLaws.Scans.{any-ext}
+use Rattle.laws.specs.ListLaws.Below.{below-ext}
 use Rattle.laws.specs.SetLaws.Sets.{setInsert, setExtend, member-insert, member-extend, member-below, any-below}
 use Rattle.laws.specs.SetLaws.SelectionBySets.{loop, growAll, takenBy, loop-taken, select-by-state}
 use Rattle.laws.specs.RustJunctions.JunctionProposals.{ProposalEnum, UnionStruct, BridgeStruct, union, bridge, portsOfEnum, reservedPorts, enumOf, asEnum}
@@ -97,11 +98,6 @@ selectProposals ranked = loop refuses grow nothingReserved ranked .removed
 
 -- ---- and that it is the same
 
-any-or : {A : Type 0} (f g : A → Bool) (l : List A) → any (λ x. f x || g x) l ≡ (any f l || any g l)
-unfolding any
-any-or f g [] = refl
-any-or f g (x ∷ l) = ap (λ b. f x || g x || b) (any-or f g l) ∙ simp disjunction
-
 any-cong : {A : Type 0} (f g : A → Bool) → ((x : A) → f x ≡ g x) → (l : List A) → any f l ≡ any g l
 unfolding any
 any-cong f g h [] = refl
@@ -127,7 +123,7 @@ module _ (C : Context) where
       each j = rw (member-insert j removed (q .index), member-extend j ports (reservedPorts C q), eqb-sym j (q .index)) (simp disjunction)
 
       theirs : any (λ j. member j (reservedPorts C q)) (reservedPorts C p) ≡ anyBelow (C .count) (λ j. isReservedPort C p j && isReservedPort C q j)
-      theirs = any-below (isReservedPort C p) (λ j. member j (reservedPorts C q)) (C .count) ∙ any-ext (C .count) (λ j. isReservedPort C p j && member j (reservedPorts C q)) (λ j. isReservedPort C p j && isReservedPort C q j) (λ j l. ap (λ b. isReservedPort C p j && b) (member-reserved q j l))
+      theirs = any-below (isReservedPort C p) (λ j. member j (reservedPorts C q)) (C .count) ∙ below-ext (C .count) (λ j. isReservedPort C p j && member j (reservedPorts C q)) (λ j. isReservedPort C p j && isReservedPort C q j) (λ j l. ap (λ b. isReservedPort C p j && b) (member-reserved q j l))
 
   -- the own boundary of p
   own-taken : (q p : Proposal) → p .index < C .count → (ports : List ℕ) → member (p .index) (setExtend ports (reservedPorts C q)) ≡ (member (p .index) ports || isReservedPort C q (p .index))
@@ -162,14 +158,8 @@ module _ (C : Context) where
   -- what q adds to the refusals that turn on the kinds of q and p
   match-taken : (s : Reserved) (q p : Proposal) → p .index < C .count → (m k : ℕ) → matchRefused (grow s (enumOf C m q)) (enumOf C k p) ≡ (matchRefused s (enumOf C k p) || (isReservedPort C q (p .index) || regionConflict m k q p))
   unfolding matchRefused unionRefused bridgeRefused grow
-  match-taken s q p h zero zero = ap₂ _||_ (own-taken q p h (s .ports)) (regions-taken s q zero (p .first) (p .second)) ∙ order (member (p .index) (s .ports)) (isReservedPort C q (p .index)) (any (regionTaken s) (p .first ∷ p .second ∷ [])) (namesRegion q (p .first) || namesRegion q (p .second))
-    where
-      order : (i b r c : Bool) → (i || b || (r || c)) ≡ (i || r || (b || c))
-      order i b r c = simp disjunction
-  match-taken s q p h (suc m) zero = ap₂ _||_ (own-taken q p h (s .ports)) (regions-taken s q (suc m) (p .first) (p .second)) ∙ order (member (p .index) (s .ports)) (isReservedPort C q (p .index)) (any (regionTaken s) (p .first ∷ p .second ∷ [])) (namesRegion q (p .first) || namesRegion q (p .second))
-    where
-      order : (i b r c : Bool) → (i || b || (r || c)) ≡ (i || r || (b || c))
-      order i b r c = simp disjunction
+  match-taken s q p h zero zero = ap₂ _||_ (own-taken q p h (s .ports)) (regions-taken s q zero (p .first) (p .second)) ∙ or-middle (member (p .index) (s .ports)) (isReservedPort C q (p .index)) (any (regionTaken s) (p .first ∷ p .second ∷ [])) (namesRegion q (p .first) || namesRegion q (p .second))
+  match-taken s q p h (suc m) zero = ap₂ _||_ (own-taken q p h (s .ports)) (regions-taken s q (suc m) (p .first) (p .second)) ∙ or-middle (member (p .index) (s .ports)) (isReservedPort C q (p .index)) (any (regionTaken s) (p .first ∷ p .second ∷ [])) (namesRegion q (p .first) || namesRegion q (p .second))
   match-taken s q p h zero (suc k) =
       rw (own-taken q p h (s .ports), pair-taken q (p .first) (s .unions), pair-taken q (p .second) (s .unions))
       (order (member (p .index) (s .ports)) (isReservedPort C q (p .index)) (member (p .first) (s .unions)) (namesRegion q (p .first)) (member (p .second) (s .unions)) (namesRegion q (p .second)) (member (p .first) (s .bridgePockets))

@@ -1,7 +1,7 @@
 -- The unions of junctions.rs as the Rust proposes them, boundary by boundary: its tests one after another, each with its `continue`, and the walk over the ports that
 -- fills the set of exteriors, keeps the widest and stops at the first port that is not near. They are those that pass `unionShape`. The argument: what the walk leaves
 -- is read only where it has gone through, and there each part is the definitions' scan (Ports, Exteriors, WidestPort). Assumes a sound context.
-use Prim.Native.Nat.{ℕ, _+_, _<_}
+use Prim.Native.Nat.{ℕ, _<_}
 use native.Mathlib.Omega.{arith}
 use mathlib.Core.Path.{_≡_, refl, sym, ap, _∙_}
 use mathlib.Core.Bool.{Bool, true, false, not, _&&_, _||_, cond, false≢true}
@@ -11,12 +11,13 @@ use lib.ListN.{length}
 use lib.Dec.{eqb, ltb, leb}
 use lib.Ieee.{Float, le}
 use borrow.Author.Tests.{ltb-true, ltb-false, lt-ltb, le-ltb, leb-true, leb-false}
-use Rattle.definitions.specs.Scan.{all, filter, allBelow, countBelow, onlyIf, bit}
+use Rattle.definitions.specs.Scan.{all, filter, allBelow, countBelow, onlyIf}
 use Rattle.definitions.specs.Grid.{Pair}
 use Rattle.definitions.specs.Geometry.{float}
 use Rattle.definitions.specs.RampGeometry.{fmax}
 use Rattle.definitions.specs.Context.{Context, fullPair, noRamp, width}
 use Rattle.definitions.specs.Junctions.{isUnionPort, isNewExterior, anchoredRegions, isNearPort, portsFit, isWidest, unionShape}
+use Rattle.laws.specs.ListLaws.Lists.{filter-two}
 use Rattle.laws.specs.RustContext.SoundContext.{Sound}
 use Rattle.laws.specs.SetLaws.Sets.{numbersBelow, length-below, all-below}
 use Rattle.laws.specs.RustContext.IncidentMap.{incidents}
@@ -87,14 +88,8 @@ over-one n = go (ltb n 2) refl
 
 module _ (C : Context) where
   anchored-is : (p : Pair) → anchoredCount C p ≡ anchoredRegions C p
-  unfolding anchoredCount filter
-  anchored-is p = go (C .anchored (p .lo)) (C .anchored (p .hi))
-    where
-      go : (a b : Bool) → length (cond a (p .lo ∷ cond b (p .hi ∷ []) []) (cond b (p .hi ∷ []) [])) ≡ bit a + bit b
-      go true true = refl
-      go true false = refl
-      go false true = refl
-      go false false = refl
+  unfolding anchoredCount
+  anchored-is p = filter-two (C .anchored) (p .lo) (p .hi)
 
   module _ (i : ℕ) (p : Pair) where
     survey-valid : (exteriors : List ℕ) (w : Float) (ports : List ℕ) → surveyPorts C (fullPair C) i p exteriors w ports .valid ≡ all (isNearPort C i) ports

@@ -16,7 +16,7 @@ use Rattle.definitions.specs.Partition.{addPair}
 use Rattle.definitions.specs.Context.{Context}
 use Rattle.definitions.specs.RampMouths.{MouthProposal, unionOf, meet, conflict}
 use Rattle.laws.specs.ListLaws.Disjunction.{disjunction}
-use Rattle.laws.specs.ListLaws.Lists.{All}
+use Rattle.laws.specs.ListLaws.Lists.{All, any-false}
 use Rattle.laws.specs.OrderLaws.ListOrder.{eqb-sym}
 use Rattle.laws.specs.ListLaws.ListsAsSets.{any-or}
 use Rattle.laws.specs.ListLaws.SortedMembers.{any-sort}
@@ -220,12 +220,8 @@ module _ (C : Context) where
 
   starts-free : (p : MouthProposal) → OneOuter p → refuses C nothingReserved (rendered C p) ≡ false
   unfolding refuses member any
-  starts-free p h = (λ i. outer-none (headOf (p .outer)) i || none-in (innerRust p) i || p .isTriangle && none-in (unionRust p) i || not (p .isTriangle) && none-in (unionRust p) i) ∙ go (p .isTriangle)
+  starts-free p h = (λ i. outer-none (headOf (p .outer)) i || any-false (innerRust p) i || p .isTriangle && any-false (unionRust p) i || not (p .isTriangle) && any-false (unionRust p) i) ∙ go (p .isTriangle)
     where
-      none-in : (l : List ℕ) → any (λ r. false) l ≡ false
-      none-in [] = refl
-      none-in (x ∷ l) = none-in l
-
       outer-none : (o : Option ℕ) → isSomeAnd o (λ r. false) ≡ false
       outer-none none = refl
       outer-none (some r) = refl

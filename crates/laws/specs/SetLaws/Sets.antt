@@ -3,12 +3,13 @@
 use Prim.Native.Nat.{ℕ, zero, suc, _+_, _<_}
 use native.Mathlib.Omega.{arith}
 use mathlib.Core.Path.{_≡_, refl, sym, ap, ap₂, _∙_}
-use mathlib.Core.Bool.{Bool, true, false, not, _&&_, _||_, cond, true≢false, false≢true, or-false, and-true, and-false}
+use mathlib.Core.Bool.{Bool, true, false, not, _&&_, _||_, cond, true≢false, false≢true, or-false, or-self-left, and-true, and-false}
 use mathlib.Core.List.{List, [], _∷_, _++_, append-nil}
 use lib.ListN.{length}
 use lib.Dec.{eqb, ltb}
 use borrow.Author.Tests.{ltb-true, ltb-false, lt-ltb, le-ltb, eqb-true, eqb-false, eq-eqb, ne-eqb}
 use Rattle.definitions.specs.Scan.{any, all, member, collect, toList, onlyIf, anyBelow, allBelow, countBelow, bit}
+use Rattle.laws.specs.ListLaws.Disjunction.{or-left-comm}
 use Rattle.laws.specs.ListLaws.Lists.{All, done, more, all-append, all-map}
 use Rattle.laws.specs.ListLaws.NumberLists.{member-append}
 use Rattle.laws.specs.ListLaws.Scans.{picked-length, any-picked}
@@ -56,19 +57,10 @@ unfolding setInsert member any
 member-insert x [] y = refl
 member-insert x (z ∷ l) y = go (ltb y z) (eqb y z) refl (member-insert x l y)
   where
-    swap : (a b c : Bool) → (a || (b || c)) ≡ (b || (a || c))
-    swap true true c = refl
-    swap true false c = refl
-    swap false b c = refl
-
-    twice : (a c : Bool) → (a || c) ≡ (a || (a || c))
-    twice true c = refl
-    twice false c = refl
-
     go : (b c : Bool) → eqb y z ≡ c → member x (setInsert l y) ≡ (eqb x y || member x l) → member x (cond b (y ∷ z ∷ l) (cond c (z ∷ l) (z ∷ setInsert l y))) ≡ (eqb x y || (eqb x z || member x l))
     go true c e ih = refl
-    go false true e ih = rw (eqb-true y z e) (twice (eqb x z) (member x l))
-    go false false e ih = ap (λ b. eqb x z || b) ih ∙ swap (eqb x z) (eqb x y) (member x l)
+    go false true e ih = rw (eqb-true y z e) (sym (or-self-left (eqb x z) (member x l)))
+    go false false e ih = ap (λ b. eqb x z || b) ih ∙ or-left-comm (eqb x z) (eqb x y) (member x l)
 
 pub member-extend : (x : ℕ) (l m : List ℕ) → member x (setExtend l m) ≡ (member x l || member x m)
 unfolding setExtend member any
