@@ -1,10 +1,11 @@
 -- Comparisons of whole numbers: of two one is not above the other, and pairs in the same order have the same results of `leb`, `ltb` and `eqb`. Assumes nothing.
-use mathlib.Core.Path.{_≡_, refl, sym, subst}
+use mathlib.Core.Path.{_≡_, refl, sym}
 use mathlib.Core.Logic.{_↔_, _⊎_, inl, inr}
 use Prim.Native.Nat.{ℕ, _≤_, _<_}
 use native.Mathlib.Nat.{le-antisymm, le-of-eq, lt-of-not-le, not-le-of-lt}
 use mathlib.Core.Bool.{Bool, true, false, not}
-use lib.Dec.{T, leb, ltb, eqb, leb→le, le→leb, nleb→lt, ltb→lt, lt→ltb, eqb→eq, eqb-refl}
+use lib.Dec.{T, leb, ltb, eqb, leb→le, le→leb, nleb→lt, ltb→lt, lt→ltb}
+use Rattle.laws.specs.ListLaws.Tests
 
 pub le-or-lt : (a b : ℕ) → (a ≤ b) ⊎ (b < a)
 le-or-lt a b = go (leb a b) (leb→le a b) (nleb→lt a b)
@@ -34,10 +35,4 @@ module _ {a b c d : ℕ} (h : SameOrder a b c d) where
       (λ t. lt→ltb a b (lt-of-not-le (λ (g : b ≤ a). not-le-of-lt (ltb→lt c d t) (h .1 .0 g))))
 
   pub eqb-same : eqb a b ≡ eqb c d
-  eqb-same =
-      same-test (eqb a b) (eqb c d)
-      (λ t. let e = eqb→eq a b t in equal c d (le-antisymm (h .0 .0 (le-of-eq e)) (h .1 .0 (le-of-eq (sym e)))))
-      (λ t. let e = eqb→eq c d t in equal a b (le-antisymm (h .0 .1 (le-of-eq e)) (h .1 .1 (le-of-eq (sym e)))))
-    where
-      equal : (x y : ℕ) → x ≡ y → T (eqb x y)
-      equal x y e = subst (λ (z : ℕ). T (eqb x z)) e (eqb-refl x)
+  eqb-same = Tests.eqb-same a b c d (λ e. le-antisymm (h .0 .0 (le-of-eq e)) (h .1 .0 (le-of-eq (sym e))), λ e. le-antisymm (h .0 .1 (le-of-eq e)) (h .1 .1 (le-of-eq (sym e))))
