@@ -13,8 +13,8 @@ use Rattle.definitions.specs.Scan.{allBelow}
 use Rattle.definitions.specs.Grid.{Map, Position, at, Segment, Boundary, noBoundary, index, cellCount, cellAt, walkable, toward, isStep, spanCount, spanOf, boundaryOf}
 use Rattle.laws.specs.ListLaws.Tests.{both, beq-same}
 use Rattle.laws.specs.ListLaws.Below.{all-below-at}
+use Rattle.laws.specs.RegionLaws.Steps.{four}
 use Rattle.island.specs.Premises.{cutsIsland, cutsRemainder, hasAnchor, cutting, Island, Alike}
-use Rattle.island.specs.Steps.{four}
 use Rattle.island.specs.Restrict.{cuts-lt}
 
 -- ---- the tests

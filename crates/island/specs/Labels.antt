@@ -6,17 +6,25 @@ use native.Mathlib.Nat.{add-zero}
 use native.Mathlib.Numerals.{add-one}
 use mathlib.Core.Path.{_≡_, refl, sym, ap, ap₂, _∙_}
 use mathlib.Core.Bool.{Bool, true, false, _&&_, true≢false, and-true, and-false}
+use lib.ListN.{getD}
 use lib.Dec.{eqb}
 use borrow.Author.Tests.{eqb-true, eq-eqb}
 use Rattle.definitions.specs.Scan.{anyBelow, countBelow, bit}
 use Rattle.definitions.specs.Grid.{Map, cellCount}
-use Rattle.definitions.specs.Partition.{walkableAt, labels, regionCount}
+use Rattle.definitions.specs.Partition.{walkableAt, isRoot, roots, labels, regionCount}
 use Rattle.laws.specs.OrderLaws.Ranks.{rank, rank-shift}
 use Rattle.laws.specs.ListLaws.Below.{count-ext, below-at, below-none}
+use Rattle.laws.specs.RegionLaws.Regions.{root, root-below, root-isRoot, isRoot-parts, root-one, label-walkable, label-blocked}
 use Rattle.island.specs.Premises.{Island}
 use Rattle.island.specs.Frame.{ren}
 use Rattle.island.specs.Restrict.{restrict, walkable-at, root-side, root-same}
-use Rattle.island.specs.CellLabels.{rootOf, isRootCell, labelOf, root-lt, root-is, root-own, root-walkable, root-one, label-walkable, label-blocked}
+
+-- whether a cell is a root, and the label of a cell
+abbrev isRootCell : Map → ℕ → Bool
+isRootCell M = isRoot M (roots M)
+
+abbrev pub labelOf : Map → ℕ → ℕ
+labelOf M c = getD (labels M) c 0
 
 -- regions inside, counted through by their labels, are counted through by their roots
 label-rank : (root isl inR : ℕ → Bool) → inR 0 ≡ false → (n : ℕ) → ((c : ℕ) → c < n → root c ≡ true → inR (suc (countBelow c root)) ≡ isl c) → rank inR (suc (countBelow n root)) ≡ countBelow n (λ c. root c && isl c)
@@ -51,7 +59,7 @@ module _ (M : Map) (isl : ℕ → Bool) where
     -- ---- roots of the restricted map
 
     is-root-in : (c : ℕ) → c < cellCount M → isRootCell (restrict M isl) c ≡ (isRootCell M c && isl c)
-    is-root-in c h = ap (λ b. b && eqb (rootOf (restrict M isl) c) c) (walkable-at M isl c h) ∙ go (isl c) refl
+    is-root-in c h = ap (λ b. b && eqb (root (restrict M isl) c) c) (walkable-at M isl c h) ∙ go (isl c) refl
       where
         swap : (a b : Bool) → ((a && true) && b) ≡ ((a && b) && true)
         swap a b = ap (λ x. x && b) (and-true a) ∙ sym (and-true (a && b))
@@ -59,9 +67,9 @@ module _ (M : Map) (isl : ℕ → Bool) where
         none : (a b d : Bool) → ((a && false) && b) ≡ ((a && d) && false)
         none a b d = ap (λ x. x && b) (and-false a) ∙ sym (and-false (a && d))
 
-        go : (b : Bool) → isl c ≡ b → ((walkableAt M c && b) && eqb (rootOf (restrict M isl) c) c) ≡ ((walkableAt M c && eqb (rootOf M c) c) && b)
-        go true e = ap (λ r. (walkableAt M c && true) && eqb r c) (sym (root-same M isl I c h e)) ∙ swap (walkableAt M c) (eqb (rootOf M c) c)
-        go false e = none (walkableAt M c) (eqb (rootOf (restrict M isl) c) c) (eqb (rootOf M c) c)
+        go : (b : Bool) → isl c ≡ b → ((walkableAt M c && b) && eqb (root (restrict M isl) c) c) ≡ ((walkableAt M c && eqb (root M c) c) && b)
+        go true e = ap (λ r. (walkableAt M c && true) && eqb r c) (sym (root-same M isl I c h e)) ∙ swap (walkableAt M c) (eqb (root M c) c)
+        go false e = none (walkableAt M c) (eqb (root (restrict M isl) c) c) (eqb (root M c) c)
 
     -- ---- a walkable cell's region lies where the cell does
 
@@ -70,7 +78,7 @@ module _ (M : Map) (isl : ℕ → Bool) where
     in-root c h r = go (isl c) refl
       where
         mine : labelOf M c ≡ suc (countBelow c (isRootCell M))
-        mine = label-walkable M c h (root-walkable M c r) ∙ ap (λ x. suc (countBelow x (isRootCell M))) (root-own M c r)
+        mine = label-walkable M c h (isRoot-parts M c r .0) ∙ ap (λ x. suc (countBelow x (isRootCell M))) (isRoot-parts M c r .1)
 
         same-count : {m n : ℕ} → suc m ≡ suc n → m ≡ n
         same-count e = omega arith
@@ -81,14 +89,14 @@ module _ (M : Map) (isl : ℕ → Bool) where
             (λ i w q.
             true≢false
             (sym i ∙ sym (root-side M isl I d l)
-            ∙ ap isl (root-one M (rootOf M d) c (root-is M d l w) r (same-count (sym (label-walkable M d l w) ∙ eqb-true _ _ q))) ∙ e))
+            ∙ ap isl (root-one M (root M d) c (root-isRoot M d l w) r (same-count (sym (label-walkable M d l w) ∙ eqb-true _ _ q))) ∙ e))
 
         go : (b : Bool) → isl c ≡ b → anyBelow (cellCount M) (λ d. (isl d && walkableAt M d) && eqb (labelOf M d) (suc (countBelow c (isRootCell M)))) ≡ b
-        go true e = below-at (cellCount M) _ c h (rw (e, root-walkable M c r, mine) (eq-eqb (suc (countBelow c (isRootCell M))) (suc (countBelow c (isRootCell M))) refl))
+        go true e = below-at (cellCount M) _ c h (rw (e, isRoot-parts M c r .0, mine) (eq-eqb (suc (countBelow c (isRootCell M))) (suc (countBelow c (isRootCell M))) refl))
         go false e = below-none (cellCount M) _ (other e)
 
     pub in-label : (c : ℕ) → c < cellCount M → walkableAt M c ≡ true → inR (labelOf M c) ≡ isl c
-    in-label c h w = ap inR (label-walkable M c h w) ∙ in-root (rootOf M c) (root-lt M c h) (root-is M c h w) ∙ root-side M isl I c h
+    in-label c h w = ap inR (label-walkable M c h w) ∙ in-root (root M c) (root-below M c h) (root-isRoot M c h w) ∙ root-side M isl I c h
 
     -- ---- labels of the restricted map
 
@@ -101,7 +109,7 @@ module _ (M : Map) (isl : ℕ → Bool) where
     label-in c h w i =
         label-walkable (restrict M isl) c h (walkable-at M isl c h ∙ ap₂ _&&_ w i)
         ∙ ap (λ x. suc (countBelow x (isRootCell (restrict M isl)))) (sym (root-same M isl I c h i))
-        ∙ ap suc (sym (counted (rootOf M c) (omega (arith, root-lt M c h))) ∙ ap (rank inR) (sym (label-walkable M c h w)))
+        ∙ ap suc (sym (counted (root M c) (omega (arith, root-below M c h))) ∙ ap (rank inR) (sym (label-walkable M c h w)))
 
     -- other cells have label 0
     pub label-out : (c : ℕ) → c < cellCount M → (walkableAt M c && isl c) ≡ false → labelOf (restrict M isl) c ≡ 0

@@ -1,9 +1,7 @@
 pub mod Premises
 pub mod Frame
 pub mod Steps
-pub mod StepCells
 pub mod Restrict
-pub mod CellLabels
 pub mod Labels
 pub mod Pairs
 pub mod Records

@@ -1,39 +1,26 @@
 -- A region inside the island has the same cells in the map and in the restricted map, so that its record and whether it is anchored are the same.
 -- The argument: cell by cell the two labels say alike whether the cell is the region's, and all of its cells are the island's. Assumes `Island`.
-use Prim.Native.Nat.{ℕ, zero, suc, _+_, _*_, _/_, _%_, _<_, min, max}
-use native.Mathlib.Omega.{arith}
+use Prim.Native.Nat.{ℕ, _+_, _*_, _/_, _%_, _<_}
 use mathlib.Core.Path.{_≡_, refl, sym, ap, ap₂, _∙_}
 use mathlib.Core.Bool.{Bool, true, false, _&&_, cond, and-false}
 use mathlib.Core.List.{[], _∷_, map}
 use lib.Dec.{eqb, eqb·zero-suc}
-use Rattle.definitions.specs.Scan.{any, anyBelow}
+use Rattle.definitions.specs.Scan.{any}
 use Rattle.definitions.specs.Grid.{Map, cellCount, cellAt, isRamp, elevation}
 use Rattle.definitions.specs.Spans.{pixelsPerWalkCell}
 use Rattle.definitions.specs.Partition.{walkableAt, labels}
 use Rattle.definitions.specs.Geometry.{float}
-use Rattle.definitions.specs.RegionRecord.{least, most, maskOf, regionOf}
+use Rattle.definitions.specs.RegionRecord.{maskOf, regionOf}
 use Rattle.definitions.specs.Context.{anchoredOf}
 use Rattle.laws.specs.OrderLaws.Ranks.{rank}
 use Rattle.laws.specs.ListLaws.Scans.{any-below, any-picked}
 use Rattle.laws.specs.ListLaws.Below.{below-ext, count-ext}
+use Rattle.laws.specs.RegionLaws.Edges.{least-ext, most-ext}
+use Rattle.laws.specs.RegionLaws.Regions.{label-blocked, label-beyond}
 use Rattle.island.specs.Premises.{hasAnchor, Island}
 use Rattle.island.specs.Frame.{ren, ren-eqb, apart}
 use Rattle.island.specs.Restrict.{restrict, cells-at}
-use Rattle.island.specs.CellLabels.{labelOf, label-blocked, label-past}
-use Rattle.island.specs.Labels.{inR, in-zero, in-label, label-in, label-out}
-
-least-ext : (n : ℕ) (p q : ℕ → Bool) (f : ℕ → ℕ) → ((c : ℕ) → c < n → p c ≡ q c) → least n p f ≡ least n q f
-unfolding least
-least-ext zero p q f e = refl
-least-ext (suc n) p q f e = go (least-ext n p q f (λ c l. e c (omega arith)))
-  where
-    go : least n p f ≡ least n q f → cond (p n) (cond (anyBelow n p) (min (least n p f) (f n)) (f n)) (least n p f) ≡ cond (q n) (cond (anyBelow n q) (min (least n q f) (f n)) (f n)) (least n q f)
-    go ih = λ i. cond (e n (omega arith) i) (cond (below-ext n p q (λ c l. e c (omega arith)) i) (min (ih i) (f n)) (f n)) (ih i)
-
-most-ext : (n : ℕ) (p q : ℕ → Bool) (f : ℕ → ℕ) → ((c : ℕ) → c < n → p c ≡ q c) → most n p f ≡ most n q f
-unfolding most
-most-ext zero p q f e = refl
-most-ext (suc n) p q f e = ap₂ (λ b m. cond b (max m (f n)) m) (e n (omega arith)) (most-ext n p q f (λ c l. e c (omega arith)))
+use Rattle.island.specs.Labels.{labelOf, inR, in-zero, in-label, label-in, label-out}
 
 module _ (M : Map) (isl : ℕ → Bool) (I : Island M isl) where
   abbrev R : ℕ → Bool
@@ -95,7 +82,7 @@ module _ (M : Map) (isl : ℕ → Bool) (I : Island M isl) where
     pub anchored-in : anchoredOf M (labels M) r ≡ anchoredOf S (labels S) (ren R r)
     unfolding anchoredOf hasAnchor
     anchored-in =
-        any-below (λ c. eqb (labelOf M c) r) (cellCount M) (M .anchors) (λ a l. ap (λ x. eqb x r) (label-past M a l) ∙ nonzero)
+        any-below (λ c. eqb (labelOf M c) r) (cellCount M) (M .anchors) (λ a l. ap (λ x. eqb x r) (label-beyond M a l) ∙ nonzero)
         ∙ below-ext (cellCount M) _ _ (λ c l. go c l (isl c) refl)
         ∙ sym (any-picked (λ c. isl c && hasAnchor M isl c) (λ c. c) (λ c. eqb (labelOf S c) (ren R r)) (cellCount M))
       where

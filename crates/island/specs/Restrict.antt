@@ -19,9 +19,9 @@ use Rattle.laws.specs.ListLaws.Scans.{picked, picked-length, picked-at, filter-
 use Rattle.laws.specs.ListLaws.Tests.{both}
 use Rattle.laws.specs.ListLaws.Members.{any-failed}
 use Rattle.laws.specs.RegionLaws.MergingInside.{Keeps, Agree, Sided, merging-inside}
+use Rattle.laws.specs.RegionLaws.Steps.{step-is, uncut-all, cut-all}
 use Rattle.island.specs.Premises.{cutsIsland, cutsRemainder, hasAnchor, Island}
 use Rattle.island.specs.Steps.{steps-in}
-use Rattle.island.specs.StepCells.{sound, uncut-all, cut-all}
 
 module _ (M : Map) (isl : ℕ → Bool) where
   -- The same sides; every cell outside the island 0; the boundaries that cut the island, and their spans; the island cells with an anchor, each once, ascending.
@@ -62,7 +62,7 @@ module _ (M : Map) (isl : ℕ → Bool) where
     cut-sided i l = go (cutsIsland M isl i) refl
       where
         one : All (λ e. isl (e .lo) ≡ isl (e .hi)) (cutSteps M i)
-        one = cut-all M (λ e. isl (e .lo) ≡ isl (e .hi)) (I .apart) i
+        one = cut-all M (λ e. isl (e .lo) ≡ isl (e .hi)) (λ p d h l. I .apart p d h) i
 
         below : ltb i (spanCount M) ≡ true
         below = lt-ltb i (spanCount M) l
@@ -201,9 +201,9 @@ module _ (M : Map) (isl : ℕ → Bool) where
         sided : All (Sided isl (λ c. c) (cellCount M) (cellCount M) unmoved) (uncut M)
         sided =
             uncut-all M (Sided isl (λ c. c) (cellCount M) (cellCount M) unmoved)
-            (λ p d h.
-            let s = sound M p d h in
-            record { lo = s .lo; hi = s .hi; one = I .apart p d h })
+            (λ p d h l.
+            let s = step-is M p d h l in
+            record { lo = s .within .lo; hi = s .within .hi; one = I .apart p d h })
 
     -- a root lies where its cell does, and an island cell has the same root in both maps
     pub root-side : (c : ℕ) → c < cellCount M → isl (getD (roots M) c 0) ≡ isl c

@@ -4,37 +4,10 @@ use Prim.Native.Nat.{ℕ, _+_, _-_}
 use native.Mathlib.Omega.{arith}
 use mathlib.Core.Path.{_≡_, refl, sym, ap, _∙_}
 use mathlib.Core.Bool.{Bool, true, false, _&&_, false≢true}
-use lib.Dec.{leb}
 use borrow.Author.Tests.{le-leb}
 use Rattle.definitions.specs.Grid.{Map, Position, at, toward, walkable, isStep}
 use Rattle.laws.specs.ListLaws.Tests.{both}
-
--- what `isStep` tests, test by test
-pub record Four (M : Map) (p d : Position) : Type 0 where
-  pub nearX : leb (d .x) 2 ≡ true
-  pub nearY : leb (d .y) 2 ≡ true
-  pub right : leb 1 (p .x + d .x) ≡ true
-  pub down : leb 1 (p .y + d .y) ≡ true
-  pub far : walkable M (toward p d) ≡ true
-  pub near : walkable M p ≡ true
-  pub side : walkable M (at (toward p d .x) (p .y)) ≡ true
-  pub under : walkable M (at (p .x) (toward p d .y)) ≡ true
-
-pub four : (M : Map) (p d : Position) → isStep M p d ≡ true → Four M p d
-unfolding isStep
-four M p d h =
-    let a = both _ (walkable M (at (p .x) (toward p d .y))) h in
-    let b = both _ (walkable M (at (toward p d .x) (p .y))) (a .0) in
-    let c = both _ (walkable M p) (b .0) in
-    let e = both _ (walkable M (toward p d)) (c .0) in
-    let f = both _ (leb 1 (p .y + d .y)) (e .0) in
-    let g = both _ (leb 1 (p .x + d .x)) (f .0) in
-    let k = both (leb (d .x) 2) (leb (d .y) 2) (g .0) in
-    record { nearX = k .0; nearY = k .1; right = g .1; down = f .1; far = e .1; near = c .1; side = b .1; under = a .1 }
-
-pub join4 : (M : Map) (p d : Position) → Four M p d → isStep M p d ≡ true
-unfolding isStep
-join4 M p d f = rw (f .nearX, f .nearY, f .right, f .down, f .far, f .near, f .side, f .under) refl
+use Rattle.laws.specs.RegionLaws.Steps.{Four, four, join4}
 
 module _
     (M M′ : Map) (isl : Position → Bool)

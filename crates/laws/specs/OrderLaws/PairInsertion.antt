@@ -3,7 +3,7 @@
 use Prim.Native.Nat.{suc}
 use mathlib.Core.Path.{_≡_, refl, sym, ap, _∙_}
 use mathlib.Core.Bool.{Bool, true, false, _||_, cond, true≢false, false≢true, or-assoc, or-comm, or-false, or-self-left}
-use mathlib.Core.List.{List, [], _∷_, _++_}
+use mathlib.Core.List.{List, [], _∷_, _++_, map}
 use lib.ListN.{length}
 use Rattle.definitions.specs.Scan.{any}
 use Rattle.definitions.specs.Grid.{Pair, pairLt, pairEq}
@@ -115,3 +115,21 @@ pub addPairs-append : (l ps qs : List Pair) → addPairs l (ps ++ qs) ≡ addPai
 unfolding addPairs
 addPairs-append l [] qs = refl
 addPairs-append l (p ∷ ps) qs = addPairs-append (addPair p l) ps qs
+
+-- ---- through a renaming f of pairs that keeps their order
+
+module _ (P : Pair → Type 0) (f : Pair → Pair) (lt-same : (p q : Pair) → P p → P q → pairLt p q ≡ pairLt (f p) (f q)) (eq-same : (p q : Pair) → P p → P q → pairEq p q ≡ pairEq (f p) (f q)) where
+  addPair-ren : (p : Pair) {l : List Pair} → P p → All P l → map f (addPair p l) ≡ addPair (f p) (map f l)
+  unfolding addPair
+  addPair-ren p h done = refl
+  addPair-ren p h (more {x = q} {l = l} k a) = rw (← (lt-same p q h k), ← (eq-same p q h k)) (go (pairLt p q) (pairEq p q) (addPair-ren p h a))
+    where
+      go : (b c : Bool) → map f (addPair p l) ≡ addPair (f p) (map f l) → map f (cond b (p ∷ q ∷ l) (cond c (q ∷ l) (q ∷ addPair p l))) ≡ cond b (f p ∷ f q ∷ map f l) (cond c (f q ∷ map f l) (f q ∷ addPair (f p) (map f l)))
+      go true c ih = refl
+      go false true ih = refl
+      go false false ih = ap {B = List Pair} (λ r. f q ∷ r) ih
+
+  pub addPairs-ren : {l ps : List Pair} → All P l → All P ps → map f (addPairs l ps) ≡ addPairs (map f l) (map f ps)
+  unfolding addPairs
+  addPairs-ren a done = refl
+  addPairs-ren a (more {x = p} {l = ps} h r) = addPairs-ren (all-addPair P p h a) r ∙ ap (λ l. addPairs l (map f ps)) (addPair-ren p h a)

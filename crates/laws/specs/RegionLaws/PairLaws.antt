@@ -67,6 +67,11 @@ module _ (ls : List ℕ) where
       back [] e = refl
       back (x ∷ l) e = absurd (omega arith)
 
+  -- what holds of the labels of each separated step holds of all pairs
+  pub pairsOf-all : (P : Pair → Type 0) {es : List Pair} → All (λ e. isSeparated ls e ≡ true → P (labelPair ls e)) es → All P (pairsOf ls es)
+  unfolding pairsOf
+  pairsOf-all P {es} a = all-addPairs P done (all-mapped (labelPair ls) (all-map (λ e h. h .0 (h .1)) (all-both (all-filter (isSeparated ls) a) (filter-passes (isSeparated ls) es))))
+
   -- one step more
   pub pairsOf-step : (es : List Pair) (e : Pair) → pairsOf ls (es ++ (e ∷ [])) ≡ cond (isSeparated ls e) (addPair (labelPair ls e) (pairsOf ls es)) (pairsOf ls es)
   unfolding pairsOf filter
@@ -100,31 +105,35 @@ module _ (M : Map) where
       record { low = omega (arith, a .0, b .0); ordered = omega (arith, n); high = omega (arith, a .1, b .1) }
 
   pub pairsOf-named : {es : List Pair} → All (Step M) es → All (Named M) (pairsOf (labels M) es)
-  unfolding pairsOf
-  pairsOf-named {es} a =
-      all-addPairs (Named M) done
-      (all-mapped (labelPair (labels M)) (all-map (λ e h. step-named e (h .0) (h .1)) (all-both (all-filter (isSeparated (labels M)) a) (filter-passes (isSeparated (labels M)) es))))
+  pairsOf-named a = pairsOf-all (labels M) (Named M) (all-map step-named a)
 
   -- ---- of the map's context, for every number, also one beyond the spans
 
-  abbrev cutOf : ℕ → List Pair
+  abbrev pub cutOf : ℕ → List Pair
   cutOf i = getD (map (cutSteps M) (run 0 (spanCount M))) i []
 
-  cutOf-steps : (i : ℕ) → All (Step M) (cutOf i)
-  cutOf-steps i = go (ltb i (spanCount M)) refl
+  pub cutOf-at : (i : ℕ) → i < spanCount M → cutOf i ≡ cutSteps M i
+  cutOf-at i h = getD-tab (cutSteps M) [] (spanCount M) i h
+
+  -- what holds of each span's steps
+  pub cutOf-all : (P : Pair → Type 0) (i : ℕ) → (i < spanCount M → All P (cutSteps M i)) → All P (cutOf i)
+  cutOf-all P i a = go (ltb i (spanCount M)) refl
     where
-      go : (b : Bool) → ltb i (spanCount M) ≡ b → All (Step M) (cutOf i)
-      go true e = subst (All (Step M)) (sym (getD-tab (cutSteps M) [] (spanCount M) i (ltb-true _ _ e))) (cutSteps-steps M i)
+      go : (b : Bool) → ltb i (spanCount M) ≡ b → All P (cutOf i)
+      go true e = subst (All P) (sym (cutOf-at i (ltb-true _ _ e))) (a (ltb-true _ _ e))
       go false e =
-          subst (All (Step M))
+          subst (All P)
           (sym (List·getD-eq-default (map (cutSteps M) (run 0 (spanCount M))) [] (omega (arith, ltb-false i (spanCount M) e, length-map (run 0 (spanCount M)) (cutSteps M), length-run 0 (spanCount M))))) done
 
-  pairs-cut : (i : ℕ) → contextOf M .pairs i ≡ pairsOf (labels M) (cutOf i)
+  cutOf-steps : (i : ℕ) → All (Step M) (cutOf i)
+  cutOf-steps i = cutOf-all (Step M) i (λ h. cutSteps-steps M i)
+
+  pub pairs-cut : (i : ℕ) → contextOf M .pairs i ≡ pairsOf (labels M) (cutOf i)
   unfolding contextOf pairsOf addPairs filter
   pairs-cut i = List·getD-map (pairsOf (labels M)) (map (cutSteps M) (run 0 (spanCount M))) i []
 
   pub pairs-at : (i : ℕ) → i < spanCount M → contextOf M .pairs i ≡ pairsOf (labels M) (cutSteps M i)
-  pairs-at i h = pairs-cut i ∙ ap (pairsOf (labels M)) (getD-tab (cutSteps M) [] (spanCount M) i h)
+  pairs-at i h = pairs-cut i ∙ ap (pairsOf (labels M)) (cutOf-at i h)
 
   pub pairs-named : (i : ℕ) → All (Named M) (contextOf M .pairs i)
   pairs-named i = subst (All (Named M)) (sym (pairs-cut i)) (pairsOf-named (cutOf-steps i))

@@ -62,6 +62,10 @@ module _ (M : Map) where
       let p = both (walkableAt M c) (eqb (root c) c) h in
       (p .0, eqb-true (root c) c (p .1))
 
+  -- roots with equally many before them are one
+  pub root-one : (c d : ℕ) → isRoot M (roots M) c ≡ true → isRoot M (roots M) d ≡ true → countBelow c (isRoot M (roots M)) ≡ countBelow d (isRoot M (roots M)) → c ≡ d
+  root-one c d h k e = eqb-true c d (rank-eqb (isRoot M (roots M)) c d h k ∙ eq-eqb _ _ e)
+
   -- ---- labels
 
   labelOf : ℕ → ℕ
@@ -97,7 +101,7 @@ module _ (M : Map) where
 
   pub root-label : (c d : ℕ) → c < cellCount M → d < cellCount M → walkableAt M c ≡ true → walkableAt M d ≡ true → (getD (labels M) c 0 ≡ getD (labels M) d 0) ↔ (root c ≡ root d)
   root-label c d h k w v = (
-    λ e. eqb-true (root c) (root d) (rank-eqb (isRoot M (roots M)) (root c) (root d) (root-isRoot c h w) (root-isRoot d k v) ∙ eq-eqb _ _ (ranks e)),
+    λ e. root-one (root c) (root d) (root-isRoot c h w) (root-isRoot d k v) (ranks e),
     λ e. label-walkable c h w ∙ ap (λ r. suc (countBelow r (isRoot M (roots M)))) e ∙ sym (label-walkable d k v),
   )
     where
