@@ -16,5 +16,5 @@ pub mod Pixels
 pub mod DistanceRange
 pub mod MapPixels
 pub mod PassRange
-pub mod SeparationKey
+pub mod FiniteSeparations
 pub mod WidthCheck

@@ -1,22 +1,24 @@
 -- A separation of two boundaries is a double that is no NaN and has its sign clear, since a hypotenuse is; so two of them compare, under `partial_cmp`, as their
--- bits. (Within a pass none is infinite either; that is not needed here.) Assumes nothing.
+-- bits. (Within a pass none is infinite either: FiniteSeparations. That is not needed here.) Assumes nothing.
 use Prim.Native.Nat.{ℕ, compare, Ordering, Ordering·lt, Ordering·eq, Ordering·gt, _*_, _^_, _<_}
 use native.Mathlib.Omega.{arith}
 use native.Mathlib.Nat.{le-of-eq, le-of-lt}
 use mathlib.Core.Path.{_≡_, refl, sym, ap, ap₂, _∙_, subst}
 use mathlib.Core.Logic.{_⊎_, inl, inr}
-use mathlib.Core.Bool.{Bool, true, false, cond}
+use mathlib.Core.Bool.{Bool, true, false}
 use mathlib.Core.Option.{Option, none, some}
 use lib.IntN.{ℤ, pos}
 use lib.Dec.{T, leb}
-use lib.Ieee.{Float, inf, fin, binary64, add, sub, mul, div, lt, le, eq, fits, toBits}
+use lib.Ieee.{Float, inf, fin, binary64, sub, le, fits, toBits}
 use borrow.Author.Tests.{le-leb, lt-leb}
 use Rattle.definitions.specs.Grid.{Segment}
-use Rattle.definitions.specs.Geometry.{Point, float, point, distance, clamp01, pointSegmentDistance}
-use Rattle.definitions.specs.RampGeometry.{fmin, intersects, segmentDistance}
+use Rattle.definitions.specs.Geometry.{Point, float, point, distance, pointSegmentDistance}
+use Rattle.definitions.specs.RampGeometry.{segmentDistance}
 use Rattle.laws.specs.FloatLaws.Hypotenuse.{hypotOf-fits, hypotOf-sign}
 use Rattle.laws.specs.FloatLaws.Patterns.{SignClear, toBits-below}
 use Rattle.laws.specs.FloatLaws.KeysAsBits.{le-toBits}
+use Rattle.laws.specs.FloatLaws.DistanceRange.{nearestPoint, point-segment-is}
+use Rattle.laws.specs.FloatLaws.FiniteSeparations.{separation-by}
 use Rattle.laws.specs.OrderLaws.ListOrder.{Three, less, same, over, three}
 use Rattle.laws.specs.OrderLaws.Orderings.{compare-less, compare-same, compare-over}
 
@@ -100,46 +102,13 @@ distance-apart p q =
     record { fit = hypotOf-fits dx dy; sign = hypotOf-sign dx dy }
 
 segment-apart : (p a b : Point) → Apart (pointSegmentDistance p a b)
-unfolding pointSegmentDistance
-segment-apart p a b =
-    let dx = sub binary64 (b .px) (a .px) in
-    let dy = sub binary64 (b .py) (a .py) in
-    let n = add binary64 (mul binary64 dx dx) (mul binary64 dy dy) in
-    let t =
-    cond (eq n (float 0)) (float 0)
-    (clamp01 (div binary64 (add binary64 (mul binary64 (sub binary64 (p .px) (a .px)) dx) (mul binary64 (sub binary64 (p .py) (a .py)) dy)) n)) in
-    distance-apart p (record { px = add binary64 (a .px) (mul binary64 t dx); py = add binary64 (a .py) (mul binary64 t dy) })
-
-pick-apart : (b : Bool) (x y : Float) → Apart x → Apart y → Apart (cond b x y)
-pick-apart true x y h k = h
-pick-apart false x y h k = k
-
-fmin-apart : (x y : Float) → Apart x → Apart y → Apart (fmin x y)
-unfolding fmin
-fmin-apart x y h k = pick-apart (lt y x) y x k h
+segment-apart p a b = subst Apart (sym (point-segment-is p a b)) (distance-apart p (nearestPoint p a b))
 
 zero-apart : Apart (float 0)
 unfolding float fits
 zero-apart = record { fit = tt; sign = inr (0, pos 0, refl) }
 
 pub separation-apart : (s t : Segment) → Apart (segmentDistance s t)
-unfolding segmentDistance
 separation-apart s t =
-    pick-apart (intersects s t) (float 0) (fmin (fmin (fmin first second) third) fourth) zero-apart
-    (fmin-apart (fmin (fmin first second) third) fourth
-    (fmin-apart (fmin first second) third
-    (fmin-apart first second (segment-apart (point (s .a)) (point (t .a)) (point (t .b))) (segment-apart (point (s .b)) (point (t .a)) (point (t .b))))
-    (segment-apart (point (t .a)) (point (s .a)) (point (s .b))))
-    (segment-apart (point (t .b)) (point (s .a)) (point (s .b))))
-  where
-    first : Float
-    first = pointSegmentDistance (point (s .a)) (point (t .a)) (point (t .b))
-
-    second : Float
-    second = pointSegmentDistance (point (s .b)) (point (t .a)) (point (t .b))
-
-    third : Float
-    third = pointSegmentDistance (point (t .a)) (point (s .a)) (point (s .b))
-
-    fourth : Float
-    fourth = pointSegmentDistance (point (t .b)) (point (s .a)) (point (s .b))
+    separation-by Apart s t zero-apart (segment-apart (point (s .a)) (point (t .a)) (point (t .b))) (segment-apart (point (s .b)) (point (t .a)) (point (t .b)))
+    (segment-apart (point (t .a)) (point (s .a)) (point (s .b))) (segment-apart (point (t .b)) (point (s .a)) (point (s .b)))
