@@ -18,8 +18,8 @@ use Rattle.definitions.specs.RampMouths.{MouthProposal, maxOverlayWidthRatio, o
 use Rattle.laws.specs.ListLaws.Lists.{All, done, more, all-filter, filter-ren, all-ren}
 use Rattle.laws.specs.OrderLaws.Ranks.{rank}
 use Rattle.laws.specs.ListLaws.Options.{OnO, absent, present, only-map}
-use Rattle.island.specs.Frame.{Frame, ren, renP, ren-eqb}
-use Rattle.island.specs.RegionLists.{On, PairOn, contains-in, otherRegion-in}
+use Rattle.island.specs.Frame.{Frame, ren, renP, ren-eqb, PairOn}
+use Rattle.island.specs.RegionLists.{On, contains-in, otherRegion-in}
 use Rattle.island.specs.FrameLemmas.{isIncident-in, isIncident-split, incidentCount-in, width-in, any-anchored-in, any-in}
 use Rattle.island.specs.FrameShapes.{renShape, ShapeOn}
 

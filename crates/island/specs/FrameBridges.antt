@@ -16,8 +16,8 @@ use Rattle.definitions.specs.Junctions.{Proposal, isSome, beyond, withinRadius,
 use Rattle.laws.specs.ListLaws.Lists.{All, done, more, all-ren}
 use Rattle.laws.specs.OrderLaws.Ranks.{rank}
 use Rattle.laws.specs.ListLaws.Options.{OnO, absent, present, on-only, on-cond, only-map, cond-map}
-use Rattle.island.specs.Frame.{Frame, ren, renP, ren-eqb}
-use Rattle.island.specs.RegionLists.{PairOn, otherRegion-in, otherRegion-on}
+use Rattle.island.specs.Frame.{Frame, ren, renP, ren-eqb, PairOn}
+use Rattle.island.specs.RegionLists.{otherRegion-in, otherRegion-on}
 use Rattle.island.specs.FrameLemmas.{isIncident-in, isIncident-split, fullPair-in, fullPair-on, holds-in, noRamp-in, width-in, chosen-in, chosen-on}
 use Rattle.island.specs.FrameUnions.{renProposal, ProposalOn, isNearPort-in}
 

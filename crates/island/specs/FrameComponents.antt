@@ -20,9 +20,9 @@ use Rattle.laws.specs.RegionLaws.Merging.{Within}
 use Rattle.laws.specs.RegionLaws.MergingInside.{Keeps, Agree, Sided, merging-inside}
 use Rattle.laws.specs.ListLaws.Members.{any-fails}
 use Rattle.laws.specs.ListLaws.NumberLists.{all-addAll, split}
-use Rattle.island.specs.Frame.{Frame, ren, renP, ren-eqb, ren-ltb}
-use Rattle.island.specs.RegionLists.{On, PairOn, addAll-in, regionsOf-on, regionsOf-in}
-use Rattle.island.specs.FrameLemmas.{pairs-on, fullCut-in, any-anchored-in, all-in, chosen-in, chosen-on}
+use Rattle.island.specs.Frame.{Frame, ren, renP, ren-eqb, ren-ltb, PairOn}
+use Rattle.island.specs.RegionLists.{On, addAll-in, regionsOf-on, regionsOf-in}
+use Rattle.island.specs.FrameLemmas.{fullCut-in, any-anchored-in, all-in, chosen-in, chosen-on}
 
 -- a filter that every element passes
 filter-every : {A : Type 0} (p : A → Bool) {l : List A} → All (λ x. p x ≡ true) l → filter p l ≡ l
@@ -42,7 +42,7 @@ module _ {L S : Context} {inB inR : ℕ → Bool} (F : Frame L S inB inR) where
   PairIn b p = PairOn inR b p × Within n p
 
   pairs-within : (b : Bool) (i : ℕ) → inB i ≡ b → All (PairIn b) (L .pairs i)
-  pairs-within b i h = all-both (pairs-on F b i h) (F .pairs-within i)
+  pairs-within b i h = all-both (F .pairs-on b i h) (F .pairs-within i)
 
   -- ---- the links
 
@@ -59,11 +59,11 @@ module _ {L S : Context} {inB inR : ℕ → Bool} (F : Frame L S inB inR) where
       ∙ ap (λ m. gather m (λ i. cond (isOrdinary S i) (S .pairs i) [])) (sym (F .count))
     where
       inside : (i : ℕ) → inB i ≡ true → (t : Bool) → map (renP inR) (filter (λ p. inR (p .lo)) (cond t (L .pairs i) [])) ≡ cond t (S .pairs (rank inB i)) []
-      inside i b true = ap (map (renP inR)) (filter-every (λ p. inR (p .lo)) (all-map (λ p k. k .lo) (pairs-on F true i b))) ∙ sym (F .pairs i b)
+      inside i b true = ap (map (renP inR)) (filter-every (λ p. inR (p .lo)) (all-map (λ p k. k .lo) (F .pairs-on true i b))) ∙ sym (F .pairs i b)
       inside i b false = refl
 
       outside : (i : ℕ) → inB i ≡ false → (t : Bool) → filter (λ p. inR (p .lo)) (cond t (L .pairs i) []) ≡ []
-      outside i b true = filter-none (λ p. inR (p .lo)) (λ p k. k .lo) (pairs-on F false i b)
+      outside i b true = filter-none (λ p. inR (p .lo)) (λ p k. k .lo) (F .pairs-on false i b)
       outside i b false = refl
 
   keeps : Keeps inR (ren inR) n n′
@@ -123,7 +123,7 @@ module _ {L S : Context} {inB inR : ℕ → Bool} (F : Frame L S inB inR) where
   edgeRegions-on b r i h = go (inB i) refl b h
     where
       here : (b : Bool) → inB i ≡ b → (t : Bool) → All (On inR b) (cond t (regionsOf (L .pairs i)) [])
-      here b e true = regionsOf-on inR b (pairs-on F b i e)
+      here b e true = regionsOf-on inR b (F .pairs-on b i e)
       here b e false = done
 
       elsewhere : (b : Bool) → isEdge L (components L) r i ≡ false → All (On inR b) (cond (isEdge L (components L) r i) (regionsOf (L .pairs i)) [])

@@ -11,9 +11,9 @@ use Rattle.definitions.specs.Context.{Context, isIncident, incidentCount}
 use Rattle.definitions.specs.RampInteriors.{Expansion, insideCount, pairExterior, exteriors, invalid, addLeaf, expandPair, expandPairs, expandPort}
 use Rattle.laws.specs.ListLaws.Lists.{All, done, more, all-append, map-append, all-ren}
 use Rattle.laws.specs.OrderLaws.Ranks.{rank}
-use Rattle.island.specs.Frame.{Frame, ren, renP}
-use Rattle.island.specs.RegionLists.{On, PairOn, member-in}
-use Rattle.island.specs.FrameLemmas.{pairs-on, isIncident-in, incidentCount-in}
+use Rattle.island.specs.Frame.{Frame, ren, renP, PairOn}
+use Rattle.island.specs.RegionLists.{On, member-in}
+use Rattle.island.specs.FrameLemmas.{isIncident-in, incidentCount-in}
 
 -- ---- with no context
 
@@ -89,7 +89,7 @@ module _ {L S : Context} {inB inR : ℕ → Bool} (F : Frame L S inB inR) where
 
     pub expandPort-on : (s : Expansion) (i : ℕ) → inB i ≡ b → All (On inR b) (s .regions) → All (On inR b) (expandPort L s i .regions)
     unfolding expandPort
-    expandPort-on s i h a = expandPairs-on i (exteriors (s .regions) (L .pairs i)) s a (pairs-on F b i h)
+    expandPort-on s i h a = expandPairs-on i (exteriors (s .regions) (L .pairs i)) s a (F .pairs-on b i h)
 
   -- ---- inside
 
@@ -136,7 +136,7 @@ module _ {L S : Context} {inB inR : ℕ → Bool} (F : Frame L S inB inR) where
     -- a test of how many regions of each pair stand in a list
     pairs-in : (f : ℕ → Bool) {rs : List ℕ} → All (On inR true) rs → all (λ p. f (insideCount rs p)) (L .pairs i) ≡ all (λ p. f (insideCount (map (ren inR) rs) p)) (S .pairs (rank inB i))
     pairs-in f {rs} a =
-        all-ren (renP inR) (PairOn inR true) (λ p. f (insideCount rs p)) (λ p. f (insideCount (map (ren inR) rs) p)) (λ p h. ap f (insideCount-in inR p a h)) (pairs-on F true i b)
+        all-ren (renP inR) (PairOn inR true) (λ p. f (insideCount rs p)) (λ p. f (insideCount (map (ren inR) rs) p)) (λ p h. ap f (insideCount-in inR p a h)) (F .pairs-on true i b)
         ∙ ap (all (λ p. f (insideCount (map (ren inR) rs) p))) (sym (F .pairs i b))
 
     pub expandPort-in : (s : Expansion) → All (On inR true) (s .regions) → renExpansion inR (expandPort L s i) ≡ expandPort S (renExpansion inR s) (rank inB i)
@@ -147,13 +147,13 @@ module _ {L S : Context} {inB inR : ℕ → Bool} (F : Frame L S inB inR) where
           regions = after t .regions;
           valid =
               after t .valid && pairs-in (λ m. leb m 1) a t
-              && (pairs-in (λ m. eqb m 1) (expandPairs-on true i (exteriors (s .regions) (L .pairs i)) s a (pairs-on F true i b))
+              && (pairs-in (λ m. eqb m 1) (expandPairs-on true i (exteriors (s .regions) (L .pairs i)) s a (F .pairs-on true i b))
               ∙ ap (λ u. all (λ p. eqb (insideCount (u .regions) p) 1) (S .pairs (rank inB i))) after)
               t;
         }
       where
         after : renExpansion inR (expandPairs L i (exteriors (s .regions) (L .pairs i)) s (L .pairs i)) ≡ expandPairs S (rank inB i) (exteriors (map (ren inR) (s .regions)) (S .pairs (rank inB i))) (renExpansion inR s) (S .pairs (rank inB i))
         after =
-            expandPairs-in (exteriors (s .regions) (L .pairs i)) s (exteriors-on inR true (s .regions) (pairs-on F true i b)) a (pairs-on F true i b)
-            ∙ ap (λ es. expandPairs S (rank inB i) es (renExpansion inR s) (map (renP inR) (L .pairs i))) (exteriors-in inR a (pairs-on F true i b))
+            expandPairs-in (exteriors (s .regions) (L .pairs i)) s (exteriors-on inR true (s .regions) (F .pairs-on true i b)) a (F .pairs-on true i b)
+            ∙ ap (λ es. expandPairs S (rank inB i) es (renExpansion inR s) (map (renP inR) (L .pairs i))) (exteriors-in inR a (F .pairs-on true i b))
             ∙ ap (λ l. expandPairs S (rank inB i) (exteriors (map (ren inR) (s .regions)) l) (renExpansion inR s) l) (sym (F .pairs i b))

@@ -10,11 +10,11 @@ use lib.Ieee.{binary64, ofBits}
 use Rattle.definitions.specs.Scan.{any, anyBelow, allBelow, countBelow, collect, toList, onlyIf}
 use Rattle.definitions.specs.Grid.{Pair, contains}
 use Rattle.definitions.specs.Context.{Context, onlyPair, holds, fullCut, fullPair, isIncident, incidentCount, noRamp, width}
-use Rattle.laws.specs.ListLaws.Lists.{All, done, more, all-map, any-ren}
+use Rattle.laws.specs.ListLaws.Lists.{All, done, more, any-ren}
 use Rattle.laws.specs.OrderLaws.Ranks.{rank, any-rank, all-rank, count-rank, collect-map, collect-all}
 use Rattle.laws.specs.ListLaws.Options.{OnO, absent, present, on-only, on-list}
-use Rattle.island.specs.Frame.{Frame, ren, renP}
-use Rattle.island.specs.RegionLists.{On, PairOn, any-contains-in, any-contains-split}
+use Rattle.island.specs.Frame.{Frame, ren, renP, PairOn}
+use Rattle.island.specs.RegionLists.{On, any-contains-in, any-contains-split}
 
 onlyPair-map : (e : Pair → Pair) (c : Bool) (l : List Pair) → onlyPair c (map e l) ≡ Option·map e (onlyPair c l)
 onlyPair-map e true [] = refl
@@ -29,20 +29,15 @@ onlyPair-on true (more k (more m a)) = absent
 onlyPair-on false a = absent
 
 module _ {L S : Context} {inB inR : ℕ → Bool} (F : Frame L S inB inR) where
-  -- a boundary's pairs lie where it does
-  pub pairs-on : (b : Bool) (i : ℕ) → inB i ≡ b → All (PairOn inR b) (L .pairs i)
-  pairs-on true i h = all-map (λ p k. record { lo = k .lo; hi = k .hi }) (F .pairs-in i h)
-  pairs-on false i h = all-map (λ p k. record { lo = k .lo; hi = k .hi }) (F .pairs-out i h)
-
   -- ---- incidents
 
   pub isIncident-in : (i r : ℕ) → inB i ≡ true → inR r ≡ true → isIncident L i r ≡ isIncident S (rank inB i) (ren inR r)
   unfolding isIncident
-  isIncident-in i r b h = any-contains-in inR r h (pairs-on true i b) ∙ ap (any (contains (ren inR r))) (sym (F .pairs i b))
+  isIncident-in i r b h = any-contains-in inR r h (F .pairs-on true i b) ∙ ap (any (contains (ren inR r))) (sym (F .pairs i b))
 
   pub isIncident-split : (b : Bool) (i r : ℕ) → inR r ≡ b → inB i ≡ not b → isIncident L i r ≡ false
   unfolding isIncident
-  isIncident-split b i r h k = any-contains-split inR b r h (pairs-on (not b) i k)
+  isIncident-split b i r h k = any-contains-split inR b r h (F .pairs-on (not b) i k)
 
   -- ---- full pairs
 
@@ -56,7 +51,7 @@ module _ {L S : Context} {inB inR : ℕ → Bool} (F : Frame L S inB inR) where
 
   pub fullPair-on : (b : Bool) (i : ℕ) → inB i ≡ b → OnO (PairOn inR b) (fullPair L i)
   unfolding fullPair
-  fullPair-on b i h = onlyPair-on (fullCut L i) (pairs-on b i h)
+  fullPair-on b i h = onlyPair-on (fullCut L i) (F .pairs-on b i h)
 
   pub holds-in : (j : ℕ) (f g : Pair → Bool) → inB j ≡ true → ((q : Pair) → PairOn inR true q → f q ≡ g (renP inR q)) → holds (fullPair L j) f ≡ holds (fullPair S (rank inB j)) g
   holds-in j f g b s = go (fullPair-on true j b) ∙ ap (λ o. holds o g) (sym (fullPair-in j b))

@@ -18,9 +18,9 @@ use Rattle.definitions.specs.RampMouths.{MouthProposal, maxMouthDistance, maxAp
 use Rattle.laws.specs.ListLaws.Lists.{All, done, more, all-filter, filter-none, all-ren}
 use Rattle.laws.specs.OrderLaws.Ranks.{rank}
 use Rattle.laws.specs.ListLaws.Options.{OnO, absent, present, on-only, on-cond, only-map, cond-map}
-use Rattle.island.specs.Frame.{Frame, ren}
-use Rattle.island.specs.RegionLists.{On, PairOn, contains-split, otherRegion-on}
-use Rattle.island.specs.FrameLemmas.{pairs-on, fullCut-in, fullPair-in, fullPair-on}
+use Rattle.island.specs.Frame.{Frame, ren, PairOn}
+use Rattle.island.specs.RegionLists.{On, contains-split, otherRegion-on}
+use Rattle.island.specs.FrameLemmas.{fullCut-in, fullPair-in, fullPair-on}
 use Rattle.island.specs.FrameShapes.{ShapeOn, mouthShape-in, mouthShape-on, triangleRepresentative-in, triangleRepresentative-on, triangleRepresentative-split}
 use Rattle.island.specs.FrameApproaches.{renMouth, broadMouth-in, nearbyRepresentative-in, overlayRepresentative-in, shapedMouth-in, triangleMouth-in}
 
@@ -45,10 +45,10 @@ module _ {L S : Context} {inB inR : ℕ → Bool} (F : Frame L S inB inR) where
 
   triangle-on : (m a : ℕ) (b : Bool) → inB m ≡ b → OnO (All (On inR b)) (triangle L m a)
   unfolding triangle
-  triangle-on m a b h = on-cond (nearbyRepresentative L m a && fullCut L m && fullCut L a) (triangleRepresentative-on inR b (L .pairs a) (pairs-on F b m h)) absent
+  triangle-on m a b h = on-cond (nearbyRepresentative L m a && fullCut L m && fullCut L a) (triangleRepresentative-on inR b (L .pairs a) (F .pairs-on b m h)) absent
 
   shape-on : (m : ℕ) (b : Bool) → inB m ≡ b → OnO (ShapeOn inR b) (mouthShape (fullCut L m) (L .pairs m))
-  shape-on m b h = mouthShape-on inR b (fullCut L m) (pairs-on F b m h)
+  shape-on m b h = mouthShape-on inR b (fullCut L m) (F .pairs-on b m h)
 
   module _ (m a : ℕ) (b : Bool) (hm : inB m ≡ b) (ha : inB a ≡ b) (isRamp : noRamp L a ≡ false) where
     singleMouth-on : (p : Pair) {l : List ℕ} → PairOn inR b p → All (On inR b) l → OnO (MouthOn L inB inR b) (singleMouth L m a p l)
@@ -122,7 +122,7 @@ module _ {L S : Context} {inB inR : ℕ → Bool} (F : Frame L S inB inR) where
     unfolding triangle
     triangle-in =
         cond-map (map (ren inR)) (nearbyRepresentative L m a && fullCut L m && fullCut L a) (triangleRepresentative (L .pairs m) (L .pairs a)) none
-        ∙ ap (λ o. cond (nearbyRepresentative L m a && fullCut L m && fullCut L a) o none) (triangleRepresentative-in inR (pairs-on F true m hm) (pairs-on F true a ha))
+        ∙ ap (λ o. cond (nearbyRepresentative L m a && fullCut L m && fullCut L a) o none) (triangleRepresentative-in inR (F .pairs-on true m hm) (F .pairs-on true a ha))
         ∙ (λ t.
         cond (nearbyRepresentative-in F m a hm ha t && fullCut-in F m hm t && fullCut-in F a ha t)
         (triangleRepresentative (sym (F .pairs m hm) t) (sym (F .pairs a ha) t))
@@ -132,7 +132,7 @@ module _ {L S : Context} {inB inR : ℕ → Bool} (F : Frame L S inB inR) where
     shaped-in =
         shapedMouth-in F m a hm ha (fullPair-on F true a ha) (shape-on m true hm)
         ∙ ap₂ (shapedMouth S (rank inB m) (rank inB a)) (sym (fullPair-in F a ha))
-        (mouthShape-in inR (fullCut L m) (pairs-on F true m hm) ∙ ap₂ mouthShape (fullCut-in F m hm) (sym (F .pairs m hm)))
+        (mouthShape-in inR (fullCut L m) (F .pairs-on true m hm) ∙ ap₂ mouthShape (fullCut-in F m hm) (sym (F .pairs m hm)))
 
     untested-in : Option·map (renMouth inB inR) (untested L a m) ≡ untested S (rank inB a) (rank inB m)
     unfolding triangleOr
@@ -178,7 +178,7 @@ module _ {L S : Context} {inB inR : ℕ → Bool} (F : Frame L S inB inR) where
     mouthProposal-split =
         ap (λ o. cond (isTried L a m (noRamp L a)) (retain (isLocal L) o) none)
         (ap₂ (λ o d. triangleOr L o m a d)
-        (ap (λ o. cond (nearbyRepresentative L m a && fullCut L m && fullCut L a) o none) (triangleRepresentative-split inR b (pairs-on F b m hm) (pairs-on F (not b) a ha))
+        (ap (λ o. cond (nearbyRepresentative L m a && fullCut L m && fullCut L a) o none) (triangleRepresentative-split inR b (F .pairs-on b m hm) (F .pairs-on (not b) a ha))
         ∙ neither (nearbyRepresentative L m a && fullCut L m && fullCut L a))
         (shapedMouth-split (fullPair-on F (not b) a ha) (shape-on m b hm)))
         ∙ neither (isTried L a m (noRamp L a))

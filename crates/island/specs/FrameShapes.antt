@@ -12,8 +12,8 @@ use Rattle.definitions.specs.Grid.{Pair, contains, pairEq}
 use Rattle.definitions.specs.MouthShapes.{MouthShape, single, star, distinctRegions, commonRegions, starFrom, mouthShape, triangleRepresentative}
 use Rattle.laws.specs.ListLaws.Lists.{All, done, more, all-filter, filter-ren, any-ren, all-ren}
 use Rattle.laws.specs.ListLaws.Options.{OnO, absent, present, on-only, only-map}
-use Rattle.island.specs.Frame.{ren, renP, ren-eqb}
-use Rattle.island.specs.RegionLists.{On, PairOn, contains-in, pairEq-in, any-contains-in, any-contains-split, distinctRegions-in, distinctRegions-on}
+use Rattle.island.specs.Frame.{ren, renP, ren-eqb, PairOn}
+use Rattle.island.specs.RegionLists.{On, contains-in, pairEq-in, any-contains-in, any-contains-split, distinctRegions-in, distinctRegions-on}
 
 module _ (inR : ℕ → Bool) where
   abbrev pub renShape : MouthShape → MouthShape

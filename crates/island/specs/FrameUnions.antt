@@ -14,8 +14,8 @@ use Rattle.definitions.specs.Context.{Context, fullPair, holds}
 use Rattle.definitions.specs.Junctions.{Proposal, fitsUnion, exteriorOf, withinDistance, withinRadius, withinSpanRadius, maxPortDistancePixels, isUnionPort, isNewExterior, anchoredRegions, isNearPort, portsFit, isWidest, unionShape, unionRegions, unionFrom, unionProposal}
 use Rattle.laws.specs.OrderLaws.Ranks.{rank, rank-eqb, any-rank}
 use Rattle.laws.specs.ListLaws.Options.{OnO, absent, present, on-only, only-map}
-use Rattle.island.specs.Frame.{Frame, ren, renP, ren-eqb}
-use Rattle.island.specs.RegionLists.{PairOn, contains-in}
+use Rattle.island.specs.Frame.{Frame, ren, renP, ren-eqb, PairOn}
+use Rattle.island.specs.RegionLists.{contains-in, pick-in, pick-on}
 use Rattle.island.specs.FrameLemmas.{isIncident-in, isIncident-split, fullPair-in, fullPair-on, holds-in, noRamp-in, width-in, all-in, count-in}
 
 module _ (inB inR : ℕ → Bool) where
@@ -41,18 +41,10 @@ module _ (inR : ℕ → Bool) (p q : Pair) (k : PairOn inR true p) (m : PairOn i
       h = contains-in inR (q .hi) p (m .hi) k
 
   exteriorOf-in : ren inR (exteriorOf p q) ≡ exteriorOf (renP inR p) (renP inR q)
-  exteriorOf-in = go (contains (q .lo) p) ∙ ap (λ t. cond t (ren inR (q .hi)) (ren inR (q .lo))) (contains-in inR (q .lo) p (m .lo) k)
-    where
-      go : (t : Bool) → ren inR (cond t (q .hi) (q .lo)) ≡ cond t (ren inR (q .hi)) (ren inR (q .lo))
-      go true = refl
-      go false = refl
+  exteriorOf-in = pick-in inR q (contains (q .lo) p) ∙ ap (λ t. cond t (ren inR (q .hi)) (ren inR (q .lo))) (contains-in inR (q .lo) p (m .lo) k)
 
   exteriorOf-on : inR (exteriorOf p q) ≡ true
-  exteriorOf-on = go (contains (q .lo) p)
-    where
-      go : (t : Bool) → inR (cond t (q .hi) (q .lo)) ≡ true
-      go true = m .hi
-      go false = m .lo
+  exteriorOf-on = pick-on inR true q m (contains (q .lo) p)
 
 module _ {L S : Context} {inB inR : ℕ → Bool} (F : Frame L S inB inR) where
   pub isNearPort-in : (i j : ℕ) → inB i ≡ true → inB j ≡ true → isNearPort L i j ≡ isNearPort S (rank inB i) (rank inB j)

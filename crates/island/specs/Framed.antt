@@ -3,7 +3,7 @@
 use Prim.Native.Nat.{ℕ, _<_}
 use native.Mathlib.Omega.{arith}
 use mathlib.Core.Path.{_≡_, sym, ap, _∙_}
-use mathlib.Core.Bool.{Bool, true, false}
+use mathlib.Core.Bool.{Bool, true}
 use mathlib.Core.List.{map}
 use lib.ListN.{length}
 use Rattle.definitions.specs.Scan.{filter}
@@ -17,10 +17,10 @@ use Rattle.laws.specs.ListLaws.Scans.{picked-at}
 use Rattle.laws.specs.RegionLaws.Steps.{Step, step-is, cut-all}
 use Rattle.laws.specs.RegionLaws.PairLaws.{pairsOf-all, cutOf, cutOf-at, cutOf-all, pairs-cut, pairs-within}
 use Rattle.island.specs.Premises.{cutsIsland, Island}
-use Rattle.island.specs.Frame.{Frame, Ids, renP, In, Out}
+use Rattle.island.specs.Frame.{Frame, Ids, renP, PairOn}
 use Rattle.island.specs.Restrict.{restrict, count-in, cuts-lt, cut-sided, cut-in}
 use Rattle.island.specs.Labels.{inR, in-zero, regions-in}
-use Rattle.island.specs.Pairs.{Lies, pair-in, pair-out, separated-same, pairs-same}
+use Rattle.island.specs.Pairs.{Lies, pair-on, separated-same, pairs-same}
 use Rattle.island.specs.Records.{region-in, anchored-in}
 
 module _ (M : Map) (isl : ℕ → Bool) (I : Island M isl) where
@@ -62,8 +62,7 @@ module _ (M : Map) (isl : ℕ → Bool) (I : Island M isl) where
         removedEdges = λ i b. ap length (sym (cut-steps-in i b));
         separatedEdges = λ i b. ap length (sym (ap (filter (isSeparated (labels S))) (cut-steps-in i b) ∙ separated-same M isl I (cut-lies i true b)));
         pairs = λ i b. pairs-cut S (rank B i) ∙ ap (pairsOf (labels S)) (cut-steps-in i b) ∙ pairs-same M isl I (cut-lies i true b) ∙ ap (map (renP R)) (sym (pairs-cut M i));
-        pairs-in = λ i b. rw (pairs-cut M i) (pairsOf-all (labels M) (In R) (all-map (λ e l t. pair-in M isl I l) (cut-lies i true b)));
-        pairs-out = λ i b. rw (pairs-cut M i) (pairsOf-all (labels M) (Out R) (all-map (λ e l t. pair-out M isl I l) (cut-lies i false b)));
+        pairs-on = λ b i h. rw (pairs-cut M i) (pairsOf-all (labels M) (PairOn R b) (all-map (λ e l t. pair-on M isl I l) (cut-lies i b h)));
         pairs-within = pairs-within M;
         anchored = anchored-in M isl I;
         region = region-in M isl I;

@@ -1,5 +1,6 @@
 pub mod Premises
 pub mod Frame
+pub mod RegionLists
 pub mod Steps
 pub mod Restrict
 pub mod Labels
@@ -7,7 +8,6 @@ pub mod Pairs
 pub mod Records
 pub mod Framed
 pub mod Same
-pub mod RegionLists
 pub mod FrameLemmas
 pub mod FrameUnions
 pub mod FrameBridges

@@ -3,11 +3,11 @@
 use Prim.Native.Nat.{ℕ, min, max}
 use native.Mathlib.Omega.{arith}
 use mathlib.Core.Path.{_≡_, sym, ap, ap₂, _∙_}
-use mathlib.Core.Bool.{Bool, true, false, not, _&&_, _||_}
+use mathlib.Core.Bool.{Bool, true, not, _&&_, _||_}
 use mathlib.Core.List.{List, [], map, map-map}
 use lib.Dec.{eqb}
 use Rattle.definitions.specs.Scan.{filter}
-use Rattle.definitions.specs.Grid.{Map, Pair, pairLt, pairEq}
+use Rattle.definitions.specs.Grid.{Map, Pair, pairLt}
 use Rattle.definitions.specs.Partition.{labels, labelPair, isSeparated, addPairs, pairsOf}
 use Rattle.laws.specs.ListLaws.Lists.{All, done, all-map, all-filter}
 use Rattle.laws.specs.RegionLaws.MergingInside.{Keeps, min-ren, max-ren, pick-min, pick-max}
@@ -16,18 +16,16 @@ use Rattle.laws.specs.ListLaws.Members.{all-mapped}
 use Rattle.laws.specs.OrderLaws.PairInsertion.{addPairs-ren}
 use Rattle.laws.specs.RegionLaws.Steps.{Step}
 use Rattle.island.specs.Premises.{Island}
-use Rattle.island.specs.Frame.{ren, renP, In, Out, ren-eqb, ren-ltb}
+use Rattle.island.specs.Frame.{ren, renP, PairOn, ren-eqb, ren-ltb}
+use Rattle.island.specs.RegionLists.{pairEq-in}
 use Rattle.island.specs.Restrict.{restrict}
 use Rattle.island.specs.Labels.{labelOf, inR, in-label, label-in}
 
 -- ---- of regions inside
 
 module _ (R : ℕ → Bool) where
-  lt-same : (p q : Pair) → In R p → In R q → pairLt p q ≡ pairLt (renP R p) (renP R q)
+  lt-same : (p q : Pair) → PairOn R true p → PairOn R true q → pairLt p q ≡ pairLt (renP R p) (renP R q)
   lt-same p q h k = ap₂ _||_ (ren-ltb R (p .lo) (q .lo) (h .lo)) (ap₂ _&&_ (ren-eqb R (p .lo) (q .lo) (h .lo) (k .lo)) (ren-ltb R (p .hi) (q .hi) (h .hi)))
-
-  eq-same : (p q : Pair) → In R p → In R q → pairEq p q ≡ pairEq (renP R p) (renP R q)
-  eq-same p q h k = ap₂ _&&_ (ren-eqb R (p .lo) (q .lo) (h .lo) (k .lo)) (ren-eqb R (p .hi) (q .hi) (h .hi) (k .hi))
 
   keeps : Keeps R (ren R) 0 0
   keeps = record { order = λ a b h k. ren-ltb R a b h; level = ren-eqb R; small = λ c l h. absurd (omega arith) }
@@ -61,11 +59,8 @@ module _ (M : Map) (isl : ℕ → Bool) where
       hi-side : R (labelOf M (e .hi)) ≡ b
       hi-side = in-label M isl I (e .hi) (l .step .within .hi) (l .step .highWalkable) ∙ l .hi
 
-    pub pair-in : {e : Pair} → Lies true e → In R (labelPair (labels M) e)
-    pair-in l = record { lo = pick-min R true _ _ (lo-side l) (hi-side l); hi = pick-max R true _ _ (lo-side l) (hi-side l) }
-
-    pub pair-out : {e : Pair} → Lies false e → Out R (labelPair (labels M) e)
-    pair-out l = record { lo = pick-min R false _ _ (lo-side l) (hi-side l); hi = pick-max R false _ _ (lo-side l) (hi-side l) }
+    pub pair-on : {b : Bool} {e : Pair} → Lies b e → PairOn R b (labelPair (labels M) e)
+    pair-on {b} l = record { lo = pick-min R b _ _ (lo-side l) (hi-side l); hi = pick-max R b _ _ (lo-side l) (hi-side l) }
 
     module _ {e : Pair} (l : Lies true e) where
       lo-in : labelOf S (e .lo) ≡ ren R (labelOf M (e .lo))
@@ -93,7 +88,7 @@ module _ (M : Map) (isl : ℕ → Bool) where
     pairs-same {es} a =
         ap (λ k. addPairs [] (map (labelPair (labels S)) k)) (separated-same a)
         ∙ ap (addPairs []) (map-ext (all-map (λ e l. renamed-in l) apart) ∙ sym (map-map (renP R) (labelPair (labels M)) kept))
-        ∙ sym (addPairs-ren (In R) (renP R) (lt-same R) (eq-same R) done (all-mapped (labelPair (labels M)) (all-map (λ e l. pair-in l) apart)))
+        ∙ sym (addPairs-ren (PairOn R true) (renP R) (lt-same R) (pairEq-in R) done (all-mapped (labelPair (labels M)) (all-map (λ e l. pair-on l) apart)))
       where
         kept : List Pair
         kept = filter (isSeparated (labels M)) es

@@ -14,11 +14,12 @@ use Rattle.definitions.specs.RegionRecord.{maskOf, regionOf}
 use Rattle.definitions.specs.Context.{anchoredOf}
 use Rattle.laws.specs.OrderLaws.Ranks.{rank}
 use Rattle.laws.specs.ListLaws.Scans.{any-below, any-picked}
+use Rattle.laws.specs.ListLaws.NumberLists.{split}
 use Rattle.laws.specs.ListLaws.Below.{below-ext, count-ext}
 use Rattle.laws.specs.RegionLaws.Edges.{least-ext, most-ext}
 use Rattle.laws.specs.RegionLaws.Regions.{label-blocked, label-beyond}
 use Rattle.island.specs.Premises.{hasAnchor, Island}
-use Rattle.island.specs.Frame.{ren, ren-eqb, apart}
+use Rattle.island.specs.Frame.{ren, ren-eqb}
 use Rattle.island.specs.Restrict.{restrict, cells-at}
 use Rattle.island.specs.Labels.{labelOf, inR, in-zero, in-label, label-in, label-out}
 
@@ -31,7 +32,7 @@ module _ (M : Map) (isl : ℕ → Bool) (I : Island M isl) where
 
   module _ (r : ℕ) (h : R r ≡ true) where
     nonzero : eqb 0 r ≡ false
-    nonzero = apart R 0 r (in-zero M isl) h
+    nonzero = split R false 0 r (in-zero M isl) h
 
     -- ---- cells
 
@@ -43,7 +44,7 @@ module _ (M : Map) (isl : ℕ → Bool) (I : Island M isl) where
 
         go : (b : Bool) → walkableAt M c ≡ b → (i : Bool) → isl c ≡ i → eqb (labelOf M c) r ≡ eqb (labelOf S c) (ren R r)
         go true w true i = ren-eqb R (labelOf M c) r (in-label M isl I c l w ∙ i) h ∙ ap (λ x. eqb x (ren R r)) (sym (label-in M isl I c l w i))
-        go true w false i = none (label-out M isl I c l (ap₂ _&&_ w i)) (apart R (labelOf M c) r (in-label M isl I c l w ∙ i) h)
+        go true w false i = none (label-out M isl I c l (ap₂ _&&_ w i)) (split R false (labelOf M c) r (in-label M isl I c l w ∙ i) h)
         go false w b i = none (label-out M isl I c l (ap₂ _&&_ w i)) (ap (λ x. eqb x r) (label-blocked M c l w) ∙ nonzero)
 
     mine-isl : (c : ℕ) → c < cellCount M → isl c ≡ false → eqb (labelOf M c) r ≡ false

@@ -1,4 +1,4 @@
--- Tests: both parts of a test by `&&` hold where it does, two tests for equality agree where the equations are equivalent, and laws of `Bool·beq` and `not`. Assumes nothing.
+-- Tests: both parts of a test by `&&` hold where it does, two tests for equality agree where the equations are equivalent, and laws of `Bool·beq`, `not` and `false`. Assumes nothing.
 use Prim.Native.Nat.{ℕ}
 use mathlib.Core.Path.{_≡_, refl, sym}
 use mathlib.Core.Logic.{_↔_}
@@ -26,3 +26,7 @@ beq-same false false h = refl
 pub not-and : (a b : Bool) → (not a || not b) ≡ not (a && b)
 not-and true b = refl
 not-and false b = refl
+
+pub and-fails : (a b : Bool) → false ≡ (a && false && b)
+and-fails true b = refl
+and-fails false b = refl

@@ -12,11 +12,10 @@ use lib.Dec.{eqb, leb}
 use borrow.Author.Tests.{le-ltb, eqb-true, eq-eqb}
 use Rattle.definitions.specs.Scan.{any, member, filter, collect, toList, onlyIf}
 use Rattle.definitions.specs.Sort.{sort}
-use Rattle.definitions.specs.Grid.{Pair}
 use Rattle.definitions.specs.Context.{Context}
 use Rattle.definitions.specs.MouthShapes.{regionsOf}
 use Rattle.definitions.specs.RampInteriors.{InteriorProposal, components, isEdge, edgesOf, componentRegions, isCandidate, isPort, componentPorts, interiorFrom, interiorProposal, proposals, key, ranksBefore, taken, removed}
-use Rattle.laws.specs.ListLaws.Lists.{All, done, more, all-map, all-both}
+use Rattle.laws.specs.ListLaws.Lists.{All, done, all-map, all-both}
 use Rattle.laws.specs.ListLaws.Scans.{all-every}
 use Rattle.laws.specs.ListLaws.Tests.{both}
 use Rattle.laws.specs.OrderLaws.Ranks.{gather-all}
@@ -31,7 +30,7 @@ use Rattle.laws.specs.SetLaws.Sets
 use Rattle.laws.specs.SetLaws.Sets.{setExtend, numbersBelow, below-all, member-extend}
 use Rattle.laws.specs.OrderLaws.Orderings.{isLess, thenWith, listCompare, list-compare}
 use Rattle.laws.specs.RustContext.CompareBoundaries.{endpoints-compare}
-use Rattle.laws.specs.RustMouths.MouthKept.{Inhabited}
+use Rattle.laws.specs.RustMouths.MouthKept.{Inhabited, regions-inhabited}
 use Rattle.laws.specs.ListLaws.KeptLists.{keepIf, filter-kept, filter-joined, collect-shift}
 use Rattle.laws.specs.RustInteriors.ComponentRegions.{inside, allInside, edges-are}
 use Rattle.laws.specs.RustInteriors.ComponentLiteral.{isPassedOver, leavesComponent, portsFrom}
@@ -56,16 +55,12 @@ module _ (C : Context) (sound : Sound C) (checked : Checked C) where
 
   -- ---- what is found at one start
 
-  regions-inhabited : (r : ℕ) → All (Inhabited C) (componentRegions C cs r)
+  component-inhabited : (r : ℕ) → All (Inhabited C) (componentRegions C cs r)
   unfolding componentRegions
-  regions-inhabited r = all-addAll done (gather-all (Inhabited C) (λ i. cond (isEdge C cs r i) (regionsOf (C .pairs i)) []) (C .count) (λ i. pick i (isEdge C cs r i)))
+  component-inhabited r = all-addAll done (gather-all (Inhabited C) (λ i. cond (isEdge C cs r i) (regionsOf (C .pairs i)) []) (C .count) (λ i. pick i (isEdge C cs r i)))
     where
-      named : {l : List Pair} → All (λ p. (0 < C .region (p .lo) .cells) × (0 < C .region (p .hi) .cells)) l → All (Inhabited C) (regionsOf l)
-      named done = done
-      named (more h a) = more (h .0) (more (h .1) (named a))
-
       pick : (i : ℕ) (b : Bool) → All (Inhabited C) (cond b (regionsOf (C .pairs i)) [])
-      pick i true = named (sound .inhabited i)
+      pick i true = regions-inhabited C (checked .measured) sound i
       pick i false = done
 
   ports-below : (r : ℕ) → All (λ i. i < C .count) (componentPorts C cs r)
@@ -94,7 +89,7 @@ module _ (C : Context) (sound : Sound C) (checked : Checked C) where
         go false hp true hl = refused false true hp hl refl
         go false hp false hl =
             (λ i. keepIf (isRetained C) (fromPorts C (regions-are C r within named (found .regions) (ordered .regions) regions (candidate false false hp hl) i) (edgesOf C cs r) (ports-are C r within named (found .regions) (ordered .regions) regions i)))
-            ∙ interior-is C sound checked (componentRegions C cs r) (edgesOf C cs r) (componentPorts C cs r) (regions-inhabited r) (ports-below r)
+            ∙ interior-is C sound checked (componentRegions C cs r) (edgesOf C cs r) (componentPorts C cs r) (component-inhabited r) (ports-below r)
             ∙ (λ i. Option·map (rendered C) (cond (sym (candidate false false hp hl) i) (interiorFrom C (componentRegions C cs r) (edgesOf C cs r) (componentPorts C cs r)) none))
 
   -- ---- where no search starts

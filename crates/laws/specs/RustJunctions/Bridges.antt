@@ -17,7 +17,7 @@ use Rattle.definitions.specs.RegionRecord.{Region, corners, strictlyFlat}
 use Rattle.definitions.specs.Context.{Context, holds, onlyPair, fullCut, fullPair, isIncident, noRamp}
 use Rattle.definitions.specs.Junctions.{Proposal, maxUnionRadiusPixels, withinDistance, beyond, isSome, withinRadius, portsOf, portExterior, isShared, isNearPort, isTwiceAsWide, bridgeFits, bridgeAt, pickBridge, bridgeOfPorts, bridgeProposal}
 use Rattle.laws.specs.ListLaws.Lists.{All, done, more}
-use Rattle.laws.specs.ListLaws.Tests.{both}
+use Rattle.laws.specs.ListLaws.Tests.{both, and-fails}
 use Rattle.laws.specs.SetLaws.Sets.{below-pass}
 use Rattle.laws.specs.RustContext.IncidentMap.{incidents-below}
 use Rattle.laws.specs.RustContext.ElevationMasks.{flat, flat-is}
@@ -63,14 +63,10 @@ module _ (C : Context) (r : ℕ) where
   local-is : (i : ℕ) → bridgeIsLocal C i (statsOf C r) ≡ (not (C .region r .hasRamp) && withinRadius (C .region r) (center (C .boundary i .endpoints)) && strictlyFlat (C .region r) (C .region r))
   local-is i = go (ltb 0 (C .region r .cells)) refl
     where
-      none-of : (a b : Bool) → false ≡ (a && false && b)
-      none-of true b = refl
-      none-of false b = refl
-
       go : (b : Bool) → ltb 0 (C .region r .cells) ≡ b → bridgeIsLocal C i (onlyIf b (C .region r)) ≡ (not (C .region r .hasRamp) && withinRadius (C .region r) (center (C .boundary i .endpoints)) && strictlyFlat (C .region r) (C .region r))
       go true e = ap (λ b. not (C .region r .hasRamp) && withinRadius (C .region r) (center (C .boundary i .endpoints)) && b) (flat-is (C .region r))
       go false e =
-          none-of (not (C .region r .hasRamp)) (strictlyFlat (C .region r) (C .region r))
+          and-fails (not (C .region r .hasRamp)) (strictlyFlat (C .region r) (C .region r))
           ∙ ap (λ b. not (C .region r .hasRamp) && b && strictlyFlat (C .region r) (C .region r)) (sym (radius-empty (C .region r) (center (C .boundary i .endpoints)) e))
 
   -- a port that is a full pair of the pocket

@@ -14,6 +14,7 @@ use Rattle.definitions.specs.Geometry.{point, center, pointSegmentDistance}
 use Rattle.definitions.specs.RegionRecord.{Region, corners, dominantElevation, bothSame, strictlyFlat}
 use Rattle.definitions.specs.Context.{Context}
 use Rattle.definitions.specs.Junctions.{maxUnionRadiusPixels, withinRadius, withinSpanRadius, anchoredRegions, unionRegions}
+use Rattle.laws.specs.ListLaws.Tests.{and-fails}
 use Rattle.laws.specs.RustJunctions.JunctionProposals.{UnionStruct}
 use Rattle.laws.specs.RustContext.ElevationMasks.{strictlyFlatMask, dominantFold, strictly-flat-is, dominant-is}
 use Rattle.laws.specs.RustJunctions.Bridges.{statsOf, radius-empty}
@@ -95,12 +96,8 @@ module _ (C : Context) (i : ℕ) (p : Pair) where
 
   not-local : local ≡ false → false ≡ unionRegions C i p
   not-local h =
-      none-of (not (first .hasRamp) && not (second .hasRamp)) (strictlyFlat first second || eqb (anchoredRegions C p) 1 && bothSame (dominantElevation first) (dominantElevation second))
+      and-fails (not (first .hasRamp) && not (second .hasRamp)) (strictlyFlat first second || eqb (anchoredRegions C p) 1 && bothSame (dominantElevation first) (dominantElevation second))
       ∙ ap (λ b. not (first .hasRamp) && not (second .hasRamp) && b && (strictlyFlat first second || eqb (anchoredRegions C p) 1 && bothSame (dominantElevation first) (dominantElevation second))) (sym h) ∙ sym regions-is
-    where
-      none-of : (a b : Bool) → false ≡ (a && false && b)
-      none-of true b = refl
-      none-of false b = refl
 
   pub passes-is : unionPasses C (proposed C i p) ≡ unionRegions C i p
   unfolding unionPasses

@@ -168,7 +168,7 @@ module _ (C : Context) (measured : (r : ℕ) → finite (C .region r .minX) ≡ 
   -- ---- the regions of a boundary
 
   module _ (sound : Sound C) where
-    regions-inhabited : (i : ℕ) → All (Inhabited C) (regionsOf (C .pairs i))
+    pub regions-inhabited : (i : ℕ) → All (Inhabited C) (regionsOf (C .pairs i))
     regions-inhabited i = go (sound .inhabited i)
       where
         go : {l : List Pair} → All (λ p. (0 < C .region (p .lo) .cells) × (0 < C .region (p .hi) .cells)) l → All (Inhabited C) (regionsOf l)

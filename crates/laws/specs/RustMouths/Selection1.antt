@@ -15,7 +15,7 @@ use Rattle.definitions.specs.Grid.{Pair, pairEq}
 use Rattle.definitions.specs.Partition.{addPair}
 use Rattle.definitions.specs.Context.{Context}
 use Rattle.definitions.specs.RampMouths.{MouthProposal, unionOf, meet, conflict}
-use Rattle.laws.specs.ListLaws.Disjunction.{disjunction}
+use Rattle.laws.specs.ListLaws.Disjunction.{disjunction, or-middle}
 use Rattle.laws.specs.ListLaws.Lists.{All, any-false}
 use Rattle.laws.specs.OrderLaws.ListOrder.{eqb-sym}
 use Rattle.laws.specs.ListLaws.ListsAsSets.{any-or}
@@ -174,12 +174,9 @@ module _ (C : Context) (s : Reserved) (q p : MouthProposal) (oq : OneOuter q) (o
   unfolding meet
   inner-taken =
       (λ i. any (λ r. (member-extend r (s .absorbed) (innerRust q) ∙ ap (λ b. member r (s .absorbed) || b) (inner-member r)) i || outer-put r (s .outers) (q .outer) oq i) (innerRust p))
-      ∙ (λ i. any (λ r. order (member r (s .absorbed)) (member r (q .inner)) (member r (s .outers)) (member r (q .outer)) i) (innerRust p))
+      ∙ (λ i. any (λ r. or-middle (member r (s .absorbed)) (member r (q .inner)) (member r (s .outers)) (member r (q .outer)) i) (innerRust p))
       ∙ any-or (λ r. member r (s .absorbed) || member r (s .outers)) (λ r. member r (q .inner) || member r (q .outer)) (innerRust p)
       ∙ ap (λ b. any (λ r. member r (s .absorbed) || member r (s .outers)) (innerRust p) || b) (any-inner (λ r. member r (q .inner) || member r (q .outer)) p ∙ any-or (λ r. member r (q .inner)) (λ r. member r (q .outer)) (p .inner))
-    where
-      order : (a b c d : Bool) → (a || b || (c || d)) ≡ (a || c || (b || d))
-      order a b c d = simp disjunction
 
   occupied-taken : any (λ r. member r (setExtend (s .occupied) (unionRust q))) (unionRust p) ≡ (any (λ r. member r (s .occupied)) (unionRust p) || meet (unionOf p) (unionOf q))
   unfolding meet
