@@ -1,6 +1,6 @@
 // The check of anchors: number 8.
 use crate::Fault;
-
+use crate::limits::NUMBERS_PER_ANCHOR;
 ghost use mathlib.Core.Path.{_≡_};
 ghost use mathlib.Core.Bool.{_&&_};
 ghost use Prim.Native.Nat.{_+_, _<_};
@@ -9,9 +9,7 @@ ghost use lib.ListN.{length, getD};
 ghost use Rattle.definitions.specs.Refusals.{anchorsFault};
 ghost use Rattle.checks.specs.Answers.{placeOf};
 
-pub const NUMBERS_PER_ANCHOR: usize = 2;
-
-// Of the two numbers from k on.
+// "anchor outside the grid", of the two numbers from k on.
 fn anchor_fits(width: u64, height: u64, anchors: &[u64], k: usize) -> bool
     requires { ⌜ k + 1 < length (now anchors) ⌝ }
     ensures { λ r. ⌜ r ≡ (ltb (getD (now (anchors .entry)) k 0) width && ltb (getD (now (anchors .entry)) (k + 1) 0) height) ⌝ }

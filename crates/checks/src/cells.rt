@@ -1,6 +1,5 @@
 // The check of cells: number 9.
 use crate::Fault;
-
 ghost use mathlib.Core.Path.{_≡_};
 ghost use mathlib.Core.Bool.{_&&_, not};
 ghost use lib.Dec.{leb};
@@ -8,6 +7,7 @@ ghost use Rattle.definitions.specs.Grid.{isWalkable, elevation};
 ghost use Rattle.definitions.specs.Refusals.{elevationsFault};
 ghost use Rattle.checks.specs.Answers.{placeOf};
 
+// "walkable cell of elevation 4 or more"
 fn elevation_fits(cell: u8) -> bool
     ensures { λ r. ⌜ r ≡ not (isWalkable cell && leb 4 (elevation cell)) ⌝ }
 {

@@ -3,6 +3,7 @@
 pub mod anchors;
 pub mod boundaries;
 pub mod cells;
+pub mod limits;
 pub mod sizes;
 pub mod spans;
 

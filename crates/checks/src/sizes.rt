@@ -1,4 +1,8 @@
 // The checks of sizes and lengths: numbers 1 to 4 and 10.
+use crate::limits::MAX_ENTRIES;
+use crate::limits::MAX_SIDE;
+use crate::limits::NUMBERS_PER_ROW;
+use crate::limits::TALLIES_PER_SPAN;
 ghost use mathlib.Core.Path.{_≡_};
 ghost use mathlib.Core.Bool.{_&&_};
 ghost use Prim.Native.Nat.{_≤_, _<_, _*_, _/_, _%_};
@@ -6,11 +10,6 @@ ghost use lib.Dec.{eqb, leb};
 ghost use lib.ListN.{length};
 ghost use Rattle.definitions.specs.Limits.{maxSide, isSide, maxEntries};
 ghost use Rattle.definitions.specs.Refusals.{partitionRoom, outputRoom};
-
-pub const MAX_SIDE: u64 = 1024;
-pub const MAX_ENTRIES: usize = 256;
-pub const TALLIES_PER_SPAN: usize = 2;
-pub const NUMBERS_PER_ROW: usize = 5;
 
 // 1: "a side is 0 or over 1,024"
 pub fn sides_fit(width: u64, height: u64) -> bool

@@ -1,4 +1,6 @@
 // The checks of spans: numbers 5 and 6.
+use crate::limits::NUMBERS_PER_SPAN;
+use crate::limits::PIXELS_PER_WALK_CELL;
 ghost use mathlib.Core.Path.{_≡_};
 ghost use Prim.Native.Nat.{_+_, _≤_, _<_};
 ghost use lib.ListN.{length};
@@ -7,9 +9,6 @@ ghost use Rattle.definitions.specs.Grid.{segmentAt};
 ghost use Rattle.definitions.specs.Refusals.{bothOnMap, endpointsDiffer, spansRefusal};
 ghost use Rattle.checks.specs.Answers.{refusalOf};
 
-pub const NUMBERS_PER_SPAN: usize = 4;
-pub const PIXELS_PER_WALK_CELL: u64 = 8;
-
 // The first faulty span; `refusalOf` of specs/Answers.antt gives its number.
 pub enum SpanFault {
     Nowhere,
@@ -17,16 +16,18 @@ pub enum SpanFault {
     Equal(usize),
 }
 
-// Of the four numbers from k on. A boundary's first four numbers are its endpoints too.
+// 5: "span endpoint above 8 × width or 8 × height", of the four numbers from k on, a span's or a boundary's.
 pub fn both_on_map(width: u64, height: u64, list: &[u64], k: usize) -> bool
     requires { ⌜ (width ≤ maxSide) × (height ≤ maxSide) × (k + 3 < length (now list)) ⌝ }
     ensures { λ r. ⌜ r ≡ bothOnMap width height (segmentAt (now (list .entry)) k) ⌝ }
 {
     let right = PIXELS_PER_WALK_CELL * width;
     let bottom = PIXELS_PER_WALK_CELL * height;
-    ((list[k] <= right) & (list[k + 1] <= bottom)) & ((list[k + 2] <= right) & (list[k + 3] <= bottom))
+    ((list[k] <= right) & (list[k + 1] <= bottom))
+        & ((list[k + 2] <= right) & (list[k + 3] <= bottom))
 }
 
+// 6: "span endpoints equal"
 fn endpoints_differ(spans: &[u64], k: usize) -> bool
     requires { ⌜ k + 3 < length (now spans) ⌝ }
     ensures { λ r. ⌜ r ≡ endpointsDiffer (segmentAt (now (spans .entry)) k) ⌝ }
