@@ -48,18 +48,18 @@ module _ (c : tie.After-shared-slice-known Inv-loop μ-loop) where
 
 -- of the present span, from what the two tests returned
 module _ (c : tie.After-endpoints-differ Inv-loop μ-loop) where
-  abbrev l : tie.At-loop Inv-loop μ-loop
-  l = c .before .before .before
+  abbrev head : tie.At-loop Inv-loop μ-loop
+  head = c .before .before .before
 
-  is-outside : not (c .before .both-on-map .result) ≡ true → at (l .before) (l .loop .i) ≡ some (refusal 5 (l .loop .i))
+  is-outside : not (c .before .both-on-map .result) ≡ true → at (head .before) (head .loop .i) ≡ some (refusal 5 (head .loop .i))
   is-outside =
-      let a = l .before .before .args in
-      outside (a .width) (a .height) (now (a .spans)) (l .loop .i) (c .before .both-on-map .ensures)
+      let a = head .before .before .args in
+      outside (a .width) (a .height) (now (a .spans)) (head .loop .i) (c .before .both-on-map .ensures)
 
-  is-inside : {t : Bool} → not (c .before .both-on-map .result) ≡ false → not (c .endpoints-differ .result) ≡ t → at (l .before) (l .loop .i) ≡ onlyIf t (refusal 6 (l .loop .i))
+  is-inside : {t : Bool} → not (c .before .both-on-map .result) ≡ false → not (c .endpoints-differ .result) ≡ t → at (head .before) (head .loop .i) ≡ onlyIf t (refusal 6 (head .loop .i))
   is-inside e d =
-      let a = l .before .before .args in
-      inside (a .width) (a .height) (now (a .spans)) (l .loop .i) (c .before .both-on-map .ensures) e (c .endpoints-differ .ensures) d
+      let a = head .before .before .args in
+      inside (a .width) (a .height) (now (a .spans)) (head .loop .i) (c .before .both-on-map .ensures) e (c .endpoints-differ .ensures) d
 
 loop-holds : tie.Need-loop-holds Inv-loop μ-loop
 loop-holds c = (search needs, none-below-zero (at c))
