@@ -6,7 +6,7 @@ use mathlib.Core.Path.{_≡_, refl, sym, ap, _∙_}
 use mathlib.Core.Logic.{inl, inr}
 use mathlib.Core.Bool.{Bool, true, false, _&&_, cond}
 use lib.Dec.{eqb, ltb, leb, lit<}
-use lib.Ieee.{Float, nan, inf, binary64, ofBits, ofFields, le}
+use lib.Ieee.{nan, inf, binary64, ofBits, ofFields, le}
 use borrow.Author.Tests.{lt-ltb, le-ltb, lt-leb}
 use Rattle.definitions.specs.Geometry.{float}
 use Rattle.definitions.specs.Refusals.{widthFits}
