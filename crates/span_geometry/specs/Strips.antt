@@ -1,0 +1,42 @@
+-- What `Range` and `Strip` stand for. Assumes nothing.
+use Prim.Native.Nat.{ℕ, _≤_, _<_}
+use mathlib.Core.Path.{_≡_}
+use mathlib.Core.Bool.{Bool, true, false, cond}
+use mathlib.Core.List.{List}
+use lib.Dec.{leb}
+use Rattle.definitions.specs.Grid.{Position, Segment}
+use Rattle.definitions.specs.Spans.{rangeInclusive, lineAt, middleOf, distanceBetween}
+use Rattle.span_geometry.specs.declared.strips.Range.{Range}
+use Rattle.span_geometry.specs.declared.strips.Strip.{Strip}
+
+-- the range's numbers are those of the list, and are below the limit
+pub record Walks (r : Range) (l : List ℕ) (limit : ℕ) : Type 0 where
+  pub numbers : rangeInclusive (r .first) (r .last) ≡ l
+  pub inside : r .last < limit
+
+-- x is the major axis
+abbrev pub byColumns : Segment → Bool
+byColumns s = leb (distanceBetween (s .a .y) (s .b .y)) (distanceBetween (s .a .x) (s .b .x))
+
+abbrev pub lowerOf : Segment → Position
+lowerOf s = cond (leb (s .a .y) (s .b .y)) (s .a) (s .b)
+
+abbrev pub upperOf : Segment → Position
+upperOf s = cond (leb (s .a .y) (s .b .y)) (s .b) (s .a)
+
+-- the endpoints of a canonical segment, in the order of their coordinates along the major axis
+abbrev pub stripOf : Segment → Strip
+stripOf s =
+    cond (byColumns s)
+    (record { columns = true; major0 = s .a .x; minor0 = s .a .y; major1 = s .b .x; minor1 = s .b .y })
+    (record { columns = false; major0 = lowerOf s .y; minor0 = lowerOf s .x; major1 = upperOf s .y; minor1 = upperOf s .x })
+
+abbrev pub lineOf : Strip → ℕ → ℕ
+lineOf t k = lineAt (t .major0) (t .minor0) (t .major1) (t .minor1) (middleOf k)
+
+-- what `Strip::new` makes of a span whose endpoints differ
+pub record Usable (t : Strip) : Type 0 where
+  pub forward : t .major0 < t .major1
+  pub major-in : t .major1 ≤ 8192
+  pub minor0-in : t .minor0 ≤ 8192
+  pub minor1-in : t .minor1 ≤ 8192
