@@ -1,15 +1,15 @@
--- Whole numbers of either sign: a difference of two naturals by their order, how large a difference, a product and a sum can be, and the quotient
--- that rounds down by one that rounds toward zero. By cases on the signs. Assumes nothing.
+-- Whole numbers of either sign: a difference of two naturals by their order, and how large a difference, a product and a sum can be.
+-- By cases on the signs. Assumes nothing.
 use mathlib.Core.Path.{_≡_, refl, sym, ap, _∙_, subst, subst⁻¹}
 use mathlib.Core.Logic.{⊎-elim}
-use mathlib.Core.Bool.{Bool, cond}
+use mathlib.Core.Bool.{Bool, true, false, cond, false≢true}
 use Prim.Native.Nat.{ℕ, zero, suc, _+_, _-_, _*_, _≤_, _<_}
 use native.Mathlib.Nat.{le-refl, le-suc, mul-le-mul}
 use native.Mathlib.Omega.{arith}
 use lib.Dec.{ltb}
 use lib.IntN.{ℤ, pos, negsuc, negℤ, natAbs, subℕ, _+ℤ_, _-ℤ_, _*ℤ_}
-use lib.Signed.{mag, quotZ, shrZ}
-use borrow.Author.Tests.{lt-ltb, le-ltb}
+use lib.Signed.{mag, ltZ}
+use borrow.Author.Tests.{lt-ltb, le-ltb, ltb-true}
 use Rattle.definitions.specs.Spans.{diff}
 use Rattle.laws.specs.Comparisons.{le-or-lt}
 
@@ -55,8 +55,9 @@ natAbs-product (pos a) (negsuc b) = natAbs-neg (pos (a * suc b))
 natAbs-product (negsuc a) (pos b) = natAbs-neg (pos (suc a * b))
 natAbs-product (negsuc a) (negsuc b) = refl
 
-pub natAbs-product-le : (x y : ℤ) {j k : ℕ} → natAbs x ≤ j → natAbs y ≤ k → natAbs (x *ℤ y) ≤ j * k
-natAbs-product-le x y {j} {k} hx hy = subst⁻¹ (λ (n : ℕ). n ≤ j * k) (natAbs-product x y) (mul-le-mul hx hy)
+-- of two differences of numbers up to b
+pub natAbs-diff-product : {j k m n b : ℕ} → j ≤ b → k ≤ b → m ≤ b → n ≤ b → natAbs (diff j k *ℤ diff m n) ≤ b * b
+natAbs-diff-product {j} {k} {m} {n} {b} hj hk hm hn = subst⁻¹ (λ (size : ℕ). size ≤ b * b) (natAbs-product (diff j k) (diff m n)) (mul-le-mul (natAbs-diff hj hk) (natAbs-diff hm hn))
 
 pub natAbs-sum : (x y : ℤ) → natAbs (x +ℤ y) ≤ natAbs x + natAbs y
 natAbs-sum (pos a) (pos b) = le-refl (a + b)
@@ -67,7 +68,20 @@ natAbs-sum (negsuc a) (negsuc b) = omega arith
 pub natAbs-difference : (x y : ℤ) → natAbs (x -ℤ y) ≤ natAbs x + natAbs y
 natAbs-difference x y = subst (λ (n : ℕ). natAbs (x -ℤ y) ≤ natAbs x + n) (natAbs-neg y) (natAbs-sum x (negℤ y))
 
--- ---- rounding down
+-- ---- signs
+
+pub negative-is : (z : ℤ) → ltZ z (pos 0) ≡ true → z ≡ negsuc (mag z)
+negative-is (pos n) h = absurd (below-zero (ltb-true n 0 h))
+  where
+    below-zero : {n : ℕ} → n < 0 → ⊥
+    below-zero h = omega arith
+negative-is (negsuc n) h = refl
+
+pub not-negative-is : (z : ℤ) → ltZ z (pos 0) ≡ false → z ≡ pos (mag z)
+not-negative-is (pos n) h = refl
+not-negative-is (negsuc n) h = absurd (false≢true (sym h))
+
+-- ---- -1 less a number, by which a quotient that rounds toward zero gives one that rounds down
 
 pub minus-one-minus-pos : (n : ℕ) → negsuc 0 -ℤ pos n ≡ negsuc n
 minus-one-minus-pos zero = refl
@@ -75,7 +89,3 @@ minus-one-minus-pos (suc n) = ap negsuc (omega arith)
 
 pub minus-one-minus-negsuc : (n : ℕ) → negsuc 0 -ℤ negsuc n ≡ pos n
 minus-one-minus-negsuc n = subℕ-pos {m = suc n} {n = 1} (omega arith) ∙ ap pos (omega arith)
-
--- for a negative number z, -1 - z is not negative, so that its quotient rounds down, and -1 less that quotient rounds down too
-pub shrZ-negative : (n d : ℕ) → negsuc 0 -ℤ quotZ (negsuc 0 -ℤ negsuc n) (pos d) ≡ shrZ (negsuc n) d
-shrZ-negative n d = ap (λ (z : ℤ). negsuc 0 -ℤ quotZ z (pos d)) (minus-one-minus-negsuc n) ∙ minus-one-minus-pos _

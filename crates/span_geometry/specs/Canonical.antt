@@ -4,7 +4,7 @@ use mathlib.Core.Bool.{Bool, true, false, not, _&&_, _||_, cond, false≢true}
 use Prim.Native.Nat.{ℕ, _≤_, _<_}
 use native.Mathlib.Nat.{le-of-lt, le-of-eq}
 use lib.Dec.{eqb, ltb}
-use borrow.Author.Tests.{ltb-true, ltb-false, eqb-true}
+use borrow.Author.Tests.{ltb-true, ltb-false, eqb-true, eq-eqb}
 use Rattle.definitions.specs.Grid.{Position, positionLt, Segment, canonical}
 use Rattle.definitions.specs.Refusals.{endpointsDiffer}
 use Rattle.laws.specs.Tests.{both, eqb-same}
@@ -40,3 +40,6 @@ canonical-differ s = go (positionLt (s .b) (s .a))
     go : (t : Bool) → endpointsDiffer (cond t (record { a = s .b; b = s .a }) s) ≡ endpointsDiffer s
     go true = λ i. not (turned (s .b .x) (s .a .x) i && turned (s .b .y) (s .a .y) i)
     go false = refl
+
+pub differ-apart : (s : Segment) → endpointsDiffer s ≡ true → s .a .x ≡ s .b .x → s .a .y ≡ s .b .y → ⊥
+differ-apart s h ex ey = false≢true (sym (λ i. not (eq-eqb (s .a .x) (s .b .x) ex i && eq-eqb (s .a .y) (s .b .y) ey i)) ∙ h)

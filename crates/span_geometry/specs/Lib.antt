@@ -1,3 +1,4 @@
 pub mod Shapes
-pub mod Strips
 pub mod Canonical
+pub mod Strips
+pub mod Lines

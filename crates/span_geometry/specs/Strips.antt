@@ -24,12 +24,15 @@ lowerOf s = cond (leb (s .a .y) (s .b .y)) (s .a) (s .b)
 abbrev pub upperOf : Segment → Position
 upperOf s = cond (leb (s .a .y) (s .b .y)) (s .b) (s .a)
 
--- the endpoints of a canonical segment, in the order of their coordinates along the major axis
+abbrev pub stripByColumns : Segment → Strip
+stripByColumns s = record { columns = true; major0 = s .a .x; minor0 = s .a .y; major1 = s .b .x; minor1 = s .b .y }
+
+abbrev pub stripByRows : Segment → Strip
+stripByRows s = record { columns = false; major0 = lowerOf s .y; minor0 = lowerOf s .x; major1 = upperOf s .y; minor1 = upperOf s .x }
+
+-- the endpoints of a canonical segment, the coordinate along the major axis first, in the order of that coordinate
 abbrev pub stripOf : Segment → Strip
-stripOf s =
-    cond (byColumns s)
-    (record { columns = true; major0 = s .a .x; minor0 = s .a .y; major1 = s .b .x; minor1 = s .b .y })
-    (record { columns = false; major0 = lowerOf s .y; minor0 = lowerOf s .x; major1 = upperOf s .y; minor1 = upperOf s .x })
+stripOf s = cond (byColumns s) (stripByColumns s) (stripByRows s)
 
 abbrev pub lineOf : Strip → ℕ → ℕ
 lineOf t k = lineAt (t .major0) (t .minor0) (t .major1) (t .minor1) (middleOf k)

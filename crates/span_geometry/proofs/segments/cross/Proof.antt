@@ -8,13 +8,10 @@ use mir.Syntax.{w64}
 use mir.Val.{SFits, toZ, ofZ}
 use mir.Facts.{toZ-ofZ}
 use Rattle.definitions.specs.Spans.{diff, cross}
-use Rattle.laws.specs.WholeNumbers.{natAbs-diff, natAbs-product-le, natAbs-difference}
+use Rattle.laws.specs.WholeNumbers.{natAbs-diff-product, natAbs-difference}
 use Rattle.span_geometry.proofs.Signed.{fits, given}
 use Rattle.span_geometry.proofs.segments.cross.Statement.{statement}
 use Rattle.span_geometry.proofs.segments.cross.Tie as tie
-
-product-in : {m n j k : ℕ} → m ≤ 8192 → n ≤ 8192 → j ≤ 8192 → k ≤ 8192 → natAbs (diff m n *ℤ diff j k) ≤ 67108864
-product-in {m} {n} {j} {k} hm hn hj hk = natAbs-product-le (diff m n) (diff j k) (natAbs-diff hm hn) (natAbs-diff hj hk)
 
 difference-requires : tie.Need-difference-requires
 difference-requires c κs = search needs
@@ -33,10 +30,10 @@ abbrev along : tie.Start → ℤ
 along s = diff (s .args .b .y) (s .args .a .y) *ℤ diff (s .args .point .x) (s .args .a .x)
 
 across-in : (s : tie.Start) → natAbs (across s) ≤ 67108864
-across-in s = product-in (s .pre .1 .x-in) (s .pre .0 .x-in) (s .pre .2 .y-in) (s .pre .0 .y-in)
+across-in s = natAbs-diff-product (s .pre .1 .x-in) (s .pre .0 .x-in) (s .pre .2 .y-in) (s .pre .0 .y-in)
 
 along-in : (s : tie.Start) → natAbs (along s) ≤ 67108864
-along-in s = product-in (s .pre .1 .y-in) (s .pre .0 .y-in) (s .pre .2 .x-in) (s .pre .0 .x-in)
+along-in s = natAbs-diff-product (s .pre .1 .y-in) (s .pre .0 .y-in) (s .pre .2 .x-in) (s .pre .0 .x-in)
 
 -- what the machine multiplies, as it reads the bits
 abbrev across-bits : tie.After-difference3 → ℤ
