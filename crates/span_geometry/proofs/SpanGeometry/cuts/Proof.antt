@@ -11,22 +11,22 @@ use Rattle.span_geometry.proofs.SpanGeometry.cuts.Statement.{statement}
 use Rattle.span_geometry.proofs.SpanGeometry.cuts.Tie as tie
 
 cell-center-requires : tie.Need-cell-center-requires
-cell-center-requires c κs = search needs
+cell-center-requires c κs = (c .pre .1, c .pre .2)
 
 cell-center-requires-2 : tie.Need-cell-center-requires-2
-cell-center-requires-2 c κs = search needs
+cell-center-requires-2 c κs = (c .before .pre .3, c .before .pre .4)
 
 cross-requires : tie.Need-cross-requires
-cross-requires c κs = search needs
+cross-requires c κs = (c .before .before .pre .0 .a-in, c .before .before .pre .0 .b-in, c .before .cell-center .ensures .1)
 
 cross-requires-2 : tie.Need-cross-requires-2
-cross-requires-2 c κs = search needs
+cross-requires-2 c κs = (c .before .before .before .pre .0 .a-in, c .before .before .before .pre .0 .b-in, c .before .cell-center2 .ensures .1)
 
 not-negative-requires : tie.Need-not-negative-requires
-not-negative-requires c κs = search needs
+not-negative-requires c κs = tt
 
 not-negative-requires-2 : tie.Need-not-negative-requires-2
-not-negative-requires-2 c κs = search needs
+not-negative-requires-2 c κs = tt
 
 -- the two sides, and whether they are the same
 module _ (c : tie.After-not-negative2) where

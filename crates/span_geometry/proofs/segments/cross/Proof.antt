@@ -14,13 +14,13 @@ use Rattle.span_geometry.proofs.segments.cross.Statement.{statement}
 use Rattle.span_geometry.proofs.segments.cross.Tie as tie
 
 difference-requires : tie.Need-difference-requires
-difference-requires c κs = search needs
+difference-requires c κs = (c .pre .1 .x-in, c .pre .0 .x-in)
 
 difference-requires-2 : tie.Need-difference-requires-2
-difference-requires-2 c κs = search needs
+difference-requires-2 c κs = (c .before .pre .1 .y-in, c .before .pre .0 .y-in)
 
 difference-requires-3 : tie.Need-difference-requires-3
-difference-requires-3 c κs = search needs
+difference-requires-3 c κs = (c .before .before .pre .2 .y-in, c .before .before .pre .0 .y-in)
 
 -- the two products, of the point's distances from a
 abbrev across : tie.Start → ℤ
@@ -49,7 +49,7 @@ mul-result : tie.Need-mul-result
 mul-result c = subst⁻¹ (SFits w64) (across-read c) (fits {k = 67108864} tt (across-in (c .before .before .before)))
 
 difference-requires-4 : tie.Need-difference-requires-4
-difference-requires-4 c κs = search needs
+difference-requires-4 c κs = (c .before .before .before .pre .2 .x-in, c .before .before .before .pre .0 .x-in)
 
 along-read : (c : tie.After-difference4) → along-bits c ≡ along (c .before .before .before .before)
 along-read c = λ i. given (c .before .before .difference2 .ok) (c .before .before .difference2 .ensures) i *ℤ given (c .difference4 .ok) (c .difference4 .ensures) i

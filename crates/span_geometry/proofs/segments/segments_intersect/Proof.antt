@@ -12,34 +12,34 @@ use Rattle.span_geometry.proofs.segments.segments_intersect.Statement.{
 use Rattle.span_geometry.proofs.segments.segments_intersect.Tie as tie
 
 cross-requires : tie.Need-cross-requires
-cross-requires c κs = search needs
+cross-requires c κs = (c .pre .0, c .pre .1, c .pre .2)
 
 cross-requires-2 : tie.Need-cross-requires-2
-cross-requires-2 c κs = search needs
+cross-requires-2 c κs = (c .before .pre .0, c .before .pre .1, c .before .pre .3)
 
 cross-requires-3 : tie.Need-cross-requires-3
-cross-requires-3 c κs = search needs
+cross-requires-3 c κs = (c .before .before .pre .2, c .before .before .pre .3, c .before .before .pre .0)
 
 cross-requires-4 : tie.Need-cross-requires-4
-cross-requires-4 c κs = search needs
+cross-requires-4 c κs = (c .before .before .before .pre .2, c .before .before .before .pre .3, c .before .before .before .pre .1)
 
 strictly-opposite-requires : tie.Need-strictly-opposite-requires
-strictly-opposite-requires c κs = search needs
+strictly-opposite-requires c κs = tt
 
 strictly-opposite-requires-2 : tie.Need-strictly-opposite-requires-2
-strictly-opposite-requires-2 c κs = search needs
+strictly-opposite-requires-2 c κs = tt
 
 touches-requires : tie.Need-touches-requires
-touches-requires c κs = search needs
+touches-requires c κs = tt
 
 touches-requires-2 : tie.Need-touches-requires-2
-touches-requires-2 c κs = search needs
+touches-requires-2 c κs = tt
 
 touches-requires-3 : tie.Need-touches-requires-3
-touches-requires-3 c κs = search needs
+touches-requires-3 c κs = tt
 
 touches-requires-4 : tie.Need-touches-requires-4
-touches-requires-4 c κs = search needs
+touches-requires-4 c κs = tt
 
 -- the four side values, as their bits are read
 module _ (c : tie.After-cross4) where

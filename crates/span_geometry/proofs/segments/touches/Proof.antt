@@ -8,10 +8,10 @@ use Rattle.span_geometry.proofs.segments.touches.Statement.{statement}
 use Rattle.span_geometry.proofs.segments.touches.Tie as tie
 
 is-zero-requires : tie.Need-is-zero-requires
-is-zero-requires c κs = search needs
+is-zero-requires c κs = tt
 
 on-segment-requires : tie.Need-on-segment-requires
-on-segment-requires c κs = search needs
+on-segment-requires c κs = tt
 
 returns : tie.Need-returns
 returns c = λ i. (c .before .is-zero .ensures ∙ ap isZero (toZ-ofZ (c .before .before .fits .side))) i && c .on-segment .ensures i
