@@ -1,15 +1,15 @@
--- Whole numbers of either sign: a difference of two naturals by their order, and how large a difference, a product and a sum can be.
--- By cases on the signs. Assumes nothing.
+-- Whole numbers of either sign: a difference of two naturals by their order, how large a difference, a product and a sum can be, and the quotient
+-- rounded down. By cases on the signs. Assumes nothing.
 use mathlib.Core.Path.{_≡_, refl, sym, ap, _∙_, subst, subst⁻¹}
 use mathlib.Core.Logic.{⊎-elim}
-use mathlib.Core.Bool.{Bool, true, false, cond, false≢true}
-use Prim.Native.Nat.{ℕ, zero, suc, _+_, _-_, _*_, _≤_, _<_}
-use native.Mathlib.Nat.{le-refl, le-suc, mul-le-mul}
+use mathlib.Core.Bool.{Bool, cond}
+use Prim.Native.Nat.{ℕ, zero, suc, _+_, _-_, _*_, _/_, _%_, _≤_, _<_, zero-le}
+use native.Mathlib.Nat.{le-refl, le-suc, le-of-suc-le-suc, mul-le-mul, zero-mul, suc-mul, div-add-mod', mod-lt, div-le-self}
 use native.Mathlib.Omega.{arith}
-use lib.Dec.{ltb}
+use lib.Arith.{digits-div}
 use lib.IntN.{ℤ, pos, negsuc, negℤ, natAbs, subℕ, _+ℤ_, _-ℤ_, _*ℤ_}
-use lib.Signed.{mag, ltZ}
-use borrow.Author.Tests.{lt-ltb, le-ltb, ltb-true}
+use lib.Signed.{mag, ltZ, quotZ, remZ, shrZ}
+use borrow.Author.Tests.{lt-ltb, le-ltb}
 use Rattle.definitions.specs.Spans.{diff}
 use Rattle.laws.specs.Comparisons.{le-or-lt}
 
@@ -68,24 +68,45 @@ natAbs-sum (negsuc a) (negsuc b) = omega arith
 pub natAbs-difference : (x y : ℤ) → natAbs (x -ℤ y) ≤ natAbs x + natAbs y
 natAbs-difference x y = subst (λ (n : ℕ). natAbs (x -ℤ y) ≤ natAbs x + n) (natAbs-neg y) (natAbs-sum x (negℤ y))
 
--- ---- signs
+-- ---- the quotient rounded down, by the quotient rounded toward zero
 
-pub negative-is : (z : ℤ) → ltZ z (pos 0) ≡ true → z ≡ negsuc (mag z)
-negative-is (pos n) h = absurd (below-zero (ltb-true n 0 h))
+-- the quotient of n by that of n + 1: the same where something remains of n + 1, else one less
+div-before : (n d r : ℕ) → suc n % d ≡ suc r → 0 < d → suc n / d ≡ n / d
+div-before n d r e h = sym (ap (λ (k : ℕ). k / d) split ∙ digits-div (suc n / d) less)
   where
-    below-zero : {n : ℕ} → n < 0 → ⊥
-    below-zero h = omega arith
-negative-is (negsuc n) h = refl
+    split : n ≡ suc n / d * d + r
+    split = omega (arith, div-add-mod' (suc n) d, e)
+    less : r < d
+    less = omega (arith, mod-lt (suc n) h, e)
 
-pub not-negative-is : (z : ℤ) → ltZ z (pos 0) ≡ false → z ≡ pos (mag z)
-not-negative-is (pos n) h = refl
-not-negative-is (negsuc n) h = absurd (false≢true (sym h))
+div-step : (n d : ℕ) → suc n % d ≡ 0 → 0 < d → suc n / d ≡ suc (n / d)
+div-step n d e h = go (suc n / d) (omega (arith, div-add-mod' (suc n) d, e))
+  where
+    go : (q : ℕ) → suc n ≡ q * d → q ≡ suc (n / d)
+    go zero f = omega (arith, f, zero-mul d)
+    go (suc q) f = ap suc (sym (ap (λ (k : ℕ). k / d) split ∙ digits-div q less))
+      where
+        split : n ≡ q * d + (d - 1)
+        split = omega (arith, f, suc-mul q d)
+        less : d - 1 < d
+        less = omega arith
 
--- ---- -1 less a number, by which a quotient that rounds toward zero gives one that rounds down
+pub quotZ-down : (z : ℤ) (d : ℕ) → 0 < d → cond (ltZ (remZ z (pos d)) (pos 0)) (quotZ z (pos d) -ℤ pos 1) (quotZ z (pos d)) ≡ shrZ z d
+quotZ-down (pos n) d h = ap (λ t. cond t (pos (n / d) -ℤ pos 1) (pos (n / d))) (le-ltb (n % d) 0 zero-le)
+quotZ-down (negsuc n) d h = go (suc n % d) refl
+  where
+    go : (r : ℕ) → suc n % d ≡ r → cond (ltZ (negℤ (pos r)) (pos 0)) (quotZ (negsuc n) (pos d) -ℤ pos 1) (quotZ (negsuc n) (pos d)) ≡ negsuc (n / d)
+    go zero e = ap (λ (k : ℕ). negℤ (pos k)) (div-step n d e h)
+    go (suc r) e = ap (λ (k : ℕ). negℤ (pos k) -ℤ pos 1) (div-before n d r e h) ∙ one-less (n / d)
+      where
+        one-less : (k : ℕ) → negℤ (pos k) -ℤ pos 1 ≡ negsuc k
+        one-less zero = refl
+        one-less (suc k) = ap negsuc (omega arith)
 
-pub minus-one-minus-pos : (n : ℕ) → negsuc 0 -ℤ pos n ≡ negsuc n
-minus-one-minus-pos zero = refl
-minus-one-minus-pos (suc n) = ap negsuc (omega arith)
-
-pub minus-one-minus-negsuc : (n : ℕ) → negsuc 0 -ℤ negsuc n ≡ pos n
-minus-one-minus-negsuc n = subℕ-pos {m = suc n} {n = 1} (omega arith) ∙ ap pos (omega arith)
+pub mag-quotZ : (z : ℤ) (d : ℕ) → mag (quotZ z (pos d)) ≤ mag z
+mag-quotZ (pos n) d = div-le-self n d
+mag-quotZ (negsuc n) d = go (suc n / d) (div-le-self (suc n) d)
+  where
+    go : (q : ℕ) → q ≤ suc n → mag (negℤ (pos q)) ≤ n
+    go zero h = zero-le
+    go (suc q) h = le-of-suc-le-suc h

@@ -9,6 +9,7 @@ use mir.Syntax.{w64}
 use mir.Val.{SFits, toZ, ofZ}
 use mir.Facts.{toZ-ofZ, toZ-pos}
 use Rattle.laws.specs.WholeNumbers.{mag≤natAbs}
+use Rattle.span_geometry.specs.Shapes.{maxPixel}
 
 -- a number of small magnitude fits
 pub fits : {z : ℤ} {k : ℕ} → T (ltb k (2 ^ 63)) → natAbs z ≤ k → SFits w64 z
@@ -19,5 +20,5 @@ pub given : {y z : ℤ} → mag z < 2 ^ 63 → z ≡ y → toZ w64 (ofZ w64 z) �
 given h e = toZ-ofZ (record { sfits = h }) ∙ e
 
 -- a natural within the limits, as its bits are read
-pub small : {n : ℕ} → n ≤ 8192 → toZ w64 n ≡ pos n
+pub small : {n : ℕ} → n ≤ maxPixel → toZ w64 n ≡ pos n
 small h = toZ-pos w64 (lt-of-le-of-lt h (lit< tt))

@@ -10,7 +10,7 @@ use borrow.Author.Tests.{leb-true, leb-false}
 use Rattle.definitions.specs.Scan.{concatMap}
 use Rattle.definitions.specs.Grid.{Position, at, Segment}
 use Rattle.definitions.specs.Spans.{rangeInclusive, candidateAxisRange, candidateMinorRange, candidatePositions}
-use Rattle.span_geometry.specs.declared.strips.Range.{Range}
+use Rattle.span_geometry.specs.declared.strips.RangeInclusive.{RangeInclusive}
 use Rattle.span_geometry.specs.declared.strips.Strip.{Strip}
 use Rattle.span_geometry.specs.Strips.{byColumns, lowerOf, upperOf, stripByColumns, stripByRows, stripOf, lineOf}
 
@@ -62,3 +62,11 @@ module _ (w h : ℕ) (s : Segment) where
       go : (t : Bool) → byColumns s ≡ t → candidatePositions w h s ≡ walked w h (cond t (stripByColumns s) (stripByRows s))
       go true e = candidates-by-columns o e
       go false e = candidates-by-rows e
+
+  -- the same in terms of ranges that hold these numbers, as `Strip::axis_range` and `Strip::minor_range` give them
+  pub candidates-by-ranges :
+      s .a .x ≤ s .b .x → (axis : RangeInclusive) (minor : ℕ → RangeInclusive)
+      → rangeInclusive (axis .first) (axis .last) ≡ candidateAxisRange (stripOf s .major0) (stripOf s .major1) (majorSide (stripOf s) w h)
+      → ((k : ℕ) → rangeInclusive (minor k .first) (minor k .last) ≡ candidateMinorRange (lineOf (stripOf s) k) (minorSide (stripOf s) w h))
+      → candidatePositions w h s ≡ concatMap (λ k. map (cellOf (stripOf s) k) (rangeInclusive (minor k .first) (minor k .last))) (rangeInclusive (axis .first) (axis .last))
+  candidates-by-ranges o axis minor e f = candidates-by-strip o ∙ sym (λ i. concatMap (λ k. map (cellOf (stripOf s) k) (f k i)) (e i))

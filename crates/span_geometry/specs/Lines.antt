@@ -9,6 +9,7 @@ use lib.IntN.{ℤ, pos, negsuc, natAbs, _+ℤ_, _-ℤ_, _*ℤ_}
 use lib.Signed.{mag}
 use Rattle.definitions.specs.Spans.{diff}
 use Rattle.laws.specs.Comparisons.{le-or-lt}
+use Rattle.span_geometry.specs.Shapes.{maxPixel}
 use Rattle.laws.specs.WholeNumbers.{diff-pos, diff-neg, natAbs-diff-product, natAbs-sum}
 
 -- what `lineAt p u q v` divides by q - p, at t within the segment
@@ -33,11 +34,11 @@ module _ (p u q v t : ℕ) (after : p ≤ t) (inside : t ≤ q) where
       known : {z : ℤ} {n : ℕ} → z ≡ pos n → z ≡ pos (mag z)
       known e = e ∙ ap (λ (z : ℤ). pos (mag z)) (sym e)
 
-pub start-in : (p : ℕ) {u q : ℕ} → u ≤ 8192 → q ≤ 8192 → u * (q - p) ≤ 67108864
+pub start-in : (p : ℕ) {u q : ℕ} → u ≤ maxPixel → q ≤ maxPixel → u * (q - p) ≤ maxPixel * maxPixel
 start-in p {u} {q} hu hq = mul-le-mul hu run
   where
-    run : q - p ≤ 8192
+    run : q - p ≤ maxPixel
     run = omega arith
 
-pub risen-in : {p u q v t : ℕ} → u ≤ 8192 → q ≤ 8192 → v ≤ 8192 → p ≤ 8192 → t ≤ 8192 → natAbs (risen p u q v t) ≤ 134217728
+pub risen-in : {p u q v t : ℕ} → u ≤ maxPixel → q ≤ maxPixel → v ≤ maxPixel → p ≤ maxPixel → t ≤ maxPixel → natAbs (risen p u q v t) ≤ maxPixel * maxPixel + maxPixel * maxPixel
 risen-in {p} {u} {q} {v} {t} hu hq hv hp ht = omega (arith, natAbs-sum (pos (u * (q - p))) (diff v u *ℤ diff t p), start-in p hu hq, natAbs-diff-product hv hu ht hp)

@@ -1,7 +1,9 @@
 -- What the crate's structs stand for, and what its functions ask of them. Assumes nothing.
-use Prim.Native.Nat.{ℕ, _≤_, min, max}
+use Prim.Native.Nat.{ℕ, _*_, _≤_, min, max}
 use mathlib.Core.Path.{_≡_}
+use Rattle.definitions.specs.Limits.{maxSide}
 use Rattle.definitions.specs.Grid.{Position, at, Segment, canonical}
+use Rattle.definitions.specs.Spans.{pixelsPerWalkCell}
 use Rattle.span_geometry.specs.declared.PixelPosition.{PixelPosition}
 use Rattle.span_geometry.specs.declared.SpanGeometry.{SpanGeometry}
 
@@ -14,10 +16,13 @@ segmentOf g = record { a = pointOf (g .a); b = pointOf (g .b) }
 abbrev pub segmentFrom : ℕ → ℕ → ℕ → ℕ → Segment
 segmentFrom x0 y0 x1 y1 = record { a = at x0 y0; b = at x1 y1 }
 
--- 8 pixels for each of at most 1,024 cells
+-- the greatest coordinate of a span's endpoint on the largest map
+abbrev pub maxPixel : ℕ
+maxPixel = pixelsPerWalkCell * maxSide
+
 pub record InLimits (p : PixelPosition) : Type 0 where
-  pub x-in : p .x ≤ 8192
-  pub y-in : p .y ≤ 8192
+  pub x-in : p .x ≤ maxPixel
+  pub y-in : p .y ≤ maxPixel
 
 -- what `new` makes
 pub record Sound (g : SpanGeometry) : Type 0 where

@@ -6,11 +6,12 @@ use mathlib.Core.List.{List}
 use lib.Dec.{leb}
 use Rattle.definitions.specs.Grid.{Position, Segment}
 use Rattle.definitions.specs.Spans.{rangeInclusive, lineAt, middleOf, distanceBetween}
-use Rattle.span_geometry.specs.declared.strips.Range.{Range}
+use Rattle.span_geometry.specs.declared.strips.RangeInclusive.{RangeInclusive}
 use Rattle.span_geometry.specs.declared.strips.Strip.{Strip}
+use Rattle.span_geometry.specs.Shapes.{maxPixel}
 
 -- the range's numbers are those of the list, and are below the limit
-pub record Walks (r : Range) (l : List ℕ) (limit : ℕ) : Type 0 where
+pub record Walks (r : RangeInclusive) (l : List ℕ) (limit : ℕ) : Type 0 where
   pub numbers : rangeInclusive (r .first) (r .last) ≡ l
   pub inside : r .last < limit
 
@@ -40,6 +41,6 @@ lineOf t k = lineAt (t .major0) (t .minor0) (t .major1) (t .minor1) (middleOf k)
 -- what `Strip::new` makes of a span whose endpoints differ
 pub record Usable (t : Strip) : Type 0 where
   pub forward : t .major0 < t .major1
-  pub major-in : t .major1 ≤ 8192
-  pub minor0-in : t .minor0 ≤ 8192
-  pub minor1-in : t .minor1 ≤ 8192
+  pub major-in : t .major1 ≤ maxPixel
+  pub minor0-in : t .minor0 ≤ maxPixel
+  pub minor1-in : t .minor1 ≤ maxPixel

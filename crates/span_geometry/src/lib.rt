@@ -1,29 +1,37 @@
 // The whole-number geometry of spans, from areas.rs: a span's endpoints in order, the steps that it cuts, and the cells near it.
+//
+// Coordinates are at most 8,192 pixels and cells below 1,024, so that every number here is at most 2^27 in size and nothing wraps.
+// Tests are joined by & and |, which evaluate both sides, so that an answer is one expression; only `cuts` stops early.
 pub mod numbers;
 pub mod segments;
 pub mod strips;
 
-use numbers::{greater, lesser, not_negative};
+use numbers::{max, min, not_negative};
 use segments::{cell_center, cross, segments_intersect};
 
 ghost use mathlib.Core.Path.{_≡_};
 ghost use Prim.Native.Nat.{_≤_, _<_};
+ghost use Rattle.definitions.specs.Limits.{maxSide};
 ghost use Rattle.definitions.specs.Grid.{at, positionLt};
 ghost use Rattle.definitions.specs.Spans.{cuts};
-ghost use Rattle.span_geometry.specs.Shapes.{Sound, Made, InLimits, pointOf, segmentOf, segmentFrom};
+ghost use Rattle.span_geometry.specs.Shapes.{maxPixel, InLimits, Sound, Made, pointOf, segmentOf, segmentFrom};
 
+pub const PIXELS_PER_WALK_CELL: u64 = 8;
+
+// A point in pixels.
 pub struct PixelPosition {
     pub x: u64,
     pub y: u64,
 }
 
-// positions compare by x, then y
+// Positions compare by x, then y.
 pub fn precedes(p: PixelPosition, q: PixelPosition) -> bool
     ensures { λ r. ⌜ r ≡ positionLt (pointOf p) (pointOf q) ⌝ }
 {
     (p.x < q.x) | ((p.x == q.x) & (p.y < q.y))
 }
 
+// A span: its endpoints, the lesser first, and the least and greatest of their coordinates.
 pub struct SpanGeometry {
     pub a: PixelPosition,
     pub b: PixelPosition,
@@ -35,7 +43,7 @@ pub struct SpanGeometry {
 
 impl SpanGeometry {
     pub fn new(x0: u64, y0: u64, x1: u64, y1: u64) -> Self
-        requires { ⌜ (x0 ≤ 8192) × (y0 ≤ 8192) × (x1 ≤ 8192) × (y1 ≤ 8192) ⌝ }
+        requires { ⌜ (x0 ≤ maxPixel) × (y0 ≤ maxPixel) × (x1 ≤ maxPixel) × (y1 ≤ maxPixel) ⌝ }
         ensures { λ r. ⌜ Made (segmentFrom x0 y0 x1 y1) r ⌝ }
     {
         let first = PixelPosition { x: x0, y: y0 };
@@ -47,9 +55,9 @@ impl SpanGeometry {
         }
     }
 
-    // Cells are below 1,024.
+    // Whether the span cuts the step between two cells. Most steps near a span lie on one side of it, and need no more than that test.
     pub fn cuts(self, from_x: u64, from_y: u64, to_x: u64, to_y: u64) -> bool
-        requires { ⌜ Sound self × («from_x» < 1024) × («from_y» < 1024) × («to_x» < 1024) × («to_y» < 1024) ⌝ }
+        requires { ⌜ Sound self × («from_x» < maxSide) × («from_y» < maxSide) × («to_x» < maxSide) × («to_y» < maxSide) ⌝ }
         ensures { λ r. ⌜ r ≡ cuts (segmentOf self) (at «from_x» «from_y») (at «to_x» «to_y») ⌝ }
     {
         let from = cell_center(from_x, from_y);
@@ -63,7 +71,7 @@ impl SpanGeometry {
     }
 }
 
-// The geometry of endpoints in order.
+// The span of two endpoints in order.
 fn between(a: PixelPosition, b: PixelPosition) -> SpanGeometry
     requires { ⌜ InLimits a × InLimits b × (a .x ≤ b .x) ⌝ }
     ensures { λ r. ⌜ (r .a ≡ a) × (r .b ≡ b) × Sound r ⌝ }
@@ -71,9 +79,9 @@ fn between(a: PixelPosition, b: PixelPosition) -> SpanGeometry
     SpanGeometry {
         a: a,
         b: b,
-        min_x: lesser(a.x, b.x),
-        max_x: greater(a.x, b.x),
-        min_y: lesser(a.y, b.y),
-        max_y: greater(a.y, b.y),
+        min_x: min(a.x, b.x),
+        max_x: max(a.x, b.x),
+        min_y: min(a.y, b.y),
+        max_y: max(a.y, b.y),
     }
 }

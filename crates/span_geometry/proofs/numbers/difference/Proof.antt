@@ -7,6 +7,7 @@ use mir.Val.{SFits, toZ}
 use mir.Facts.{toZ-ofZ}
 use Rattle.definitions.specs.Spans.{diff}
 use Rattle.laws.specs.WholeNumbers.{natAbs-diff}
+use Rattle.span_geometry.specs.Shapes.{maxPixel}
 use Rattle.span_geometry.proofs.Signed.{fits, small}
 use Rattle.span_geometry.proofs.numbers.difference.Statement.{statement}
 use Rattle.span_geometry.proofs.numbers.difference.Tie as tie
@@ -21,7 +22,7 @@ read : (c : tie.Start) → toZ w64 (c .args .m) -ℤ toZ w64 (c .args .n) ≡ di
 read c = λ i. small (c .pre .0) i -ℤ small (c .pre .1) i
 
 sub-result : tie.Need-sub-result
-sub-result c = subst (SFits w64) (sym (read c)) (fits {k = 8192} tt (natAbs-diff (c .pre .0) (c .pre .1)))
+sub-result c = subst (SFits w64) (sym (read c)) (fits {k = maxPixel} tt (natAbs-diff (c .pre .0) (c .pre .1)))
 
 returns : tie.Need-returns
 returns c = toZ-ofZ (sub-result c) ∙ read c

@@ -6,17 +6,17 @@ use Rattle.definitions.specs.Spans.{onSegment}
 use Rattle.span_geometry.proofs.segments.on_segment.Statement.{statement}
 use Rattle.span_geometry.proofs.segments.on_segment.Tie as tie
 
-lesser-requires : tie.Need-lesser-requires
-lesser-requires c κs = tt
+min-requires : tie.Need-min-requires
+min-requires c κs = tt
 
-greater-requires : tie.Need-greater-requires
-greater-requires c κs = tt
+max-requires : tie.Need-max-requires
+max-requires c κs = tt
 
-lesser-requires-2 : tie.Need-lesser-requires-2
-lesser-requires-2 c κs = tt
+min-requires-2 : tie.Need-min-requires-2
+min-requires-2 c κs = tt
 
-greater-requires-2 : tie.Need-greater-requires-2
-greater-requires-2 c κs = tt
+max-requires-2 : tie.Need-max-requires-2
+max-requires-2 c κs = tt
 
 returns : tie.Need-returns
 unfolding onSegment
@@ -25,10 +25,10 @@ returns c =
     let left = right .before .before in
     let point = left .before .args .point in
     λ i.
-    leb (left .lesser .ensures i) (point .x) && leb (point .x) (right .greater .ensures i) && leb (c .before .before .before .lesser2 .ensures i) (point .y)
-    && leb (point .y) (c .before .greater2 .ensures i)
+    leb (left .min .ensures i) (point .x) && leb (point .x) (right .max .ensures i) && leb (c .before .before .before .min2 .ensures i) (point .y)
+    && leb (point .y) (c .before .max2 .ensures i)
 
 pub on-segment-spec : {M : Type 1} → statement M
 on-segment-spec =
     tie.close
-    (tie.spec lesser-requires greater-requires lesser-requires-2 greater-requires-2 returns)
+    (tie.spec min-requires max-requires min-requires-2 max-requires-2 returns)

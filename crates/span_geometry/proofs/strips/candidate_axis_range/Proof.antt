@@ -6,26 +6,26 @@ use Rattle.definitions.specs.Spans.{rangeInclusive, candidateAxisRange}
 use Rattle.span_geometry.proofs.strips.candidate_axis_range.Statement.{statement}
 use Rattle.span_geometry.proofs.strips.candidate_axis_range.Tie as tie
 
-reduced-requires : tie.Need-reduced-requires
-reduced-requires c κs = search needs
+saturating-sub-requires : tie.Need-saturating-sub-requires
+saturating-sub-requires c κs = search needs
 
-add-lesser : tie.Need-add-lesser
-add-lesser c = search needs
+add-min : tie.Need-add-min
+add-min c = search needs
 
-sub-lesser : tie.Need-sub-lesser
-sub-lesser c = search needs
+sub-min : tie.Need-sub-min
+sub-min c = search needs
 
-lesser-requires : tie.Need-lesser-requires
-lesser-requires c κs = search needs
+min-requires : tie.Need-min-requires
+min-requires c κs = search needs
 
 returns : tie.Need-returns
 unfolding candidateAxisRange
 returns c =
     record {
-      numbers = λ i. rangeInclusive (c .before .reduced .ensures i / 8) (c .lesser .ensures i);
-      inside = omega (arith, c .lesser .ensures);
+      numbers = λ i. rangeInclusive (c .before .saturating-sub .ensures i / 8) (c .min .ensures i);
+      inside = omega (arith, c .min .ensures);
     }
 
 pub candidate-axis-range-spec : {M : Type 1} → statement M
 candidate-axis-range-spec =
-    tie.close (tie.spec reduced-requires add-lesser sub-lesser lesser-requires returns)
+    tie.close (tie.spec saturating-sub-requires add-min sub-min min-requires returns)

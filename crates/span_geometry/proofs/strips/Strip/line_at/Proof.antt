@@ -1,7 +1,7 @@
 -- `strips::Strip::line_at` meets its contract. The number that it divides is at most 2^27 in size and not negative (`Lines`), so that nothing wraps and the
 -- last cast loses nothing. Assumes nothing.
 use mathlib.Core.Path.{_≡_, sym, ap, _∙_, subst⁻¹}
-use Prim.Native.Nat.{ℕ, _-_, _*_, _/_, _≤_, _<_, _^_, min, max}
+use Prim.Native.Nat.{ℕ, _+_, _-_, _*_, _/_, _≤_, _<_, _^_, min, max}
 use native.Mathlib.Nat.{div-le-self, le-trans, lt-of-le-of-lt}
 use native.Mathlib.Omega.{arith}
 use borrow.Author.Needs.{needs}
@@ -13,6 +13,7 @@ use mir.Val.{Fits, SFits, toZ, ofZ}
 use mir.Facts.{toZ-ofZ, toZ-pos}
 use Rattle.definitions.specs.Spans.{diff, middleOf, natOf}
 use Rattle.laws.specs.WholeNumbers.{natAbs-diff-product, mag≤natAbs}
+use Rattle.span_geometry.specs.Shapes.{maxPixel}
 use Rattle.span_geometry.specs.Lines.{risen, risen-is, start-in, risen-in}
 use Rattle.span_geometry.proofs.Signed.{fits, given}
 use Rattle.span_geometry.proofs.strips.Strip.line_at.Statement.{statement}
@@ -28,13 +29,13 @@ line s = risen (s .args .self .major0) (s .args .self .minor0) (s .args .self .m
 reached-in : (s : tie.Start) → (s .args .self .major0 ≤ reached s) × (reached s ≤ s .args .self .major1)
 reached-in s = omega (arith, s .pre .0 .forward)
 
-reached-small : (s : tie.Start) → reached s ≤ 8192
+reached-small : (s : tie.Start) → reached s ≤ maxPixel
 reached-small s = omega (arith, reached-in s .1, s .pre .0 .major-in)
 
-major0-in : (s : tie.Start) → s .args .self .major0 ≤ 8192
+major0-in : (s : tie.Start) → s .args .self .major0 ≤ maxPixel
 major0-in s = omega (arith, s .pre .0 .forward, s .pre .0 .major-in)
 
-line-in : (s : tie.Start) → natAbs (line s) ≤ 134217728
+line-in : (s : tie.Start) → natAbs (line s) ≤ maxPixel * maxPixel + maxPixel * maxPixel
 line-in s = risen-in (s .pre .0 .minor0-in) (s .pre .0 .major-in) (s .pre .0 .minor1-in) (major0-in s) (reached-small s)
 
 line-is : (s : tie.Start) → line s ≡ pos (mag (line s))
@@ -43,26 +44,23 @@ line-is s = risen-is (s .args .self .major0) (s .args .self .minor0) (s .args .s
 sub-run : tie.Need-sub-run
 sub-run c = search needs
 
-mul-middle : tie.Need-mul-middle
-mul-middle c = search needs
+middle-of-requires : tie.Need-middle-of-requires
+middle-of-requires c κs = search needs
 
-add-middle : tie.Need-add-middle
-add-middle c = search needs
+min-requires : tie.Need-min-requires
+min-requires c κs = search needs
 
-lesser-requires : tie.Need-lesser-requires
-lesser-requires c κs = search needs
-
-greater-requires : tie.Need-greater-requires
-greater-requires c κs = search needs
+max-requires : tie.Need-max-requires
+max-requires c κs = search needs
 
 begins : (s : tie.Start) → s .args .self .minor0 * (s .args .self .major1 - s .args .self .major0) < 2 ^ 63
 begins s = lt-of-le-of-lt (start-in (s .args .self .major0) (s .pre .0 .minor0-in) (s .pre .0 .major-in)) (lit< tt)
 
 mul-start : tie.Need-mul-start
-mul-start c = record { fits = omega (arith, begins (c .before .before .before .before)) }
+mul-start c = record { fits = omega (arith, begins (c .before .before .before .before .before)) }
 
 cast-line : tie.Need-cast-line
-cast-line c = record { sfits = begins (c .before .before .before .before) }
+cast-line c = record { sfits = begins (c .before .before .before .before .before) }
 
 difference-requires : tie.Need-difference-requires
 difference-requires c κs = search needs
@@ -72,7 +70,7 @@ difference-requires-2 c κs = search needs
 
 module _ (c : tie.After-difference2) where
   abbrev entry : tie.Start
-  entry = c .before .before .before .before .before .before
+  entry = c .before .before .before .before .before .before .before
 
   abbrev productBits : ℤ
   productBits = toZ w64 (ofZ w64 (c .before .difference .result)) *ℤ toZ w64 (ofZ w64 (c .difference2 .result))
@@ -80,8 +78,10 @@ module _ (c : tie.After-difference2) where
   abbrev product : ℤ
   product = diff (entry .args .self .minor1) (entry .args .self .minor0) *ℤ diff (reached entry) (entry .args .self .major0)
 
-  reached-is : c .before .before .before .greater .result ≡ reached entry
-  reached-is = c .before .before .before .greater .ensures ∙ (λ i. max (entry .args .self .major0) (c .before .before .before .before .lesser .ensures i))
+  reached-is : c .before .before .before .max .result ≡ reached entry
+  reached-is =
+      c .before .before .before .max .ensures
+      ∙ (λ i. max (entry .args .self .major0) ((c .before .before .before .before .min .ensures ∙ (λ j. min (c .before .before .before .before .before .middle-of .ensures j) (entry .args .self .major1))) i))
 
   product-is : productBits ≡ product
   product-is =
@@ -89,11 +89,11 @@ module _ (c : tie.After-difference2) where
       given (c .before .difference .ok) (c .before .difference .ensures) i
       *ℤ given (c .difference2 .ok) (c .difference2 .ensures ∙ (λ j. diff (reached-is j) (entry .args .self .major0))) i
 
-  product-in : natAbs product ≤ 67108864
+  product-in : natAbs product ≤ maxPixel * maxPixel
   product-in = natAbs-diff-product (entry .pre .0 .minor1-in) (entry .pre .0 .minor0-in) (reached-small entry) (major0-in entry)
 
 mul-line : tie.Need-mul-line
-mul-line c = subst⁻¹ (SFits w64) (product-is c) (fits {k = 67108864} tt (product-in c))
+mul-line c = subst⁻¹ (SFits w64) (product-is c) (fits {k = maxPixel * maxPixel} tt (product-in c))
 
 lineBits : tie.After-difference2 → ℤ
 lineBits c = toZ w64 (entry c .args .self .minor0 * (entry c .args .self .major1 - entry c .args .self .major0)) +ℤ toZ w64 (ofZ w64 (productBits c))
@@ -104,7 +104,7 @@ lineBits-is c = λ i. toZ-pos w64 (begins (entry c)) i +ℤ (toZ-ofZ (mul-line c
 
 add-line : tie.Need-add-line
 unfolding lineBits
-add-line c = subst⁻¹ (SFits w64) (lineBits-is c) (fits {k = 134217728} tt (line-in (entry c)))
+add-line c = subst⁻¹ (SFits w64) (lineBits-is c) (fits {k = maxPixel * maxPixel + maxPixel * maxPixel} tt (line-in (entry c)))
 
 div-euclid-requires : tie.Need-div-euclid-requires
 div-euclid-requires c κs = search needs
@@ -133,10 +133,9 @@ line-at-spec =
     tie.close
     (tie.spec
     sub-run
-    mul-middle
-    add-middle
-    lesser-requires
-    greater-requires
+    middle-of-requires
+    min-requires
+    max-requires
     mul-start
     cast-line
     difference-requires

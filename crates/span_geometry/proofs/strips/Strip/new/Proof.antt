@@ -73,11 +73,11 @@ module _ (g : SpanGeometry) (sound : Sound g) (differ : endpointsDiffer (segment
       ((λ i. strip false (e₀ i) (g .b .x) (e₁ i) (g .a .x)) ∙ sym (by-rows h (lt-leb (g .a .y) (g .b .y) k)),
       record { forward = omega arith; major-in = omega (arith, sound .a-in); minor0-in = sound .b-in .x-in; minor1-in = sound .a-in .x-in })
 
-distance-requires : tie.Need-distance-requires
-distance-requires c κs = search needs
+abs-diff-requires : tie.Need-abs-diff-requires
+abs-diff-requires c κs = search needs
 
-distance-requires-2 : tie.Need-distance-requires-2
-distance-requires-2 c κs = search needs
+abs-diff-requires-2 : tie.Need-abs-diff-requires-2
+abs-diff-requires-2 c κs = search needs
 
 returns : tie.Need-returns
 returns c = let s = c .before .before .before in by-columns (s .args .g) (s .pre .0) (s .pre .1) (omega arith)
@@ -89,4 +89,4 @@ returns-3 : tie.Need-returns-3
 returns-3 c = let s = c .before .before .before .before .before in falling (s .args .g) (s .pre .0) (s .pre .1) (omega arith) (c .if2 .left)
 
 pub new-spec : {M : Type 1} → statement M
-new-spec = tie.close (tie.spec distance-requires distance-requires-2 returns returns-2 returns-3)
+new-spec = tie.close (tie.spec abs-diff-requires abs-diff-requires-2 returns returns-2 returns-3)
