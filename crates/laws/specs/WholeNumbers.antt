@@ -76,6 +76,7 @@ div-before n d r e h = sym (ap (λ (k : ℕ). k / d) split ∙ digits-div (suc n
   where
     split : n ≡ suc n / d * d + r
     split = omega (arith, div-add-mod' (suc n) d, e)
+
     less : r < d
     less = omega (arith, mod-lt (suc n) h, e)
 
@@ -88,6 +89,7 @@ div-step n d e h = go (suc n / d) (omega (arith, div-add-mod' (suc n) d, e))
       where
         split : n ≡ q * d + (d - 1)
         split = omega (arith, f, suc-mul q d)
+
         less : d - 1 < d
         less = omega arith
 

@@ -12,7 +12,7 @@ use Rattle.definitions.specs.Grid.{Position, at, Segment}
 use Rattle.definitions.specs.Spans.{rangeInclusive, candidateAxisRange, candidateMinorRange, candidatePositions}
 use Rattle.span_geometry.specs.declared.strips.RangeInclusive.{RangeInclusive}
 use Rattle.span_geometry.specs.declared.strips.Strip.{Strip}
-use Rattle.span_geometry.specs.Strips.{byColumns, lowerOf, upperOf, stripByColumns, stripByRows, stripOf, lineOf}
+use Rattle.span_geometry.specs.Strips.{byColumns, stripByColumns, stripByRows, stripOf, lineOf}
 
 -- the cell at k along the major axis and m across it
 abbrev pub cellOf : Strip → ℕ → ℕ → Position
@@ -35,15 +35,19 @@ walked w h t = walkedFrom w h t (t .major0) (t .major1)
 
 module _ (w h : ℕ) (s : Segment) where
   -- the definition's two cases
-  by-cases : {t : Bool} → byColumns s ≡ t → candidatePositions w h s ≡ cond t (walkedFrom w h (stripByColumns s) (min (s .a .x) (s .b .x)) (max (s .a .x) (s .b .x))) (walkedFrom w h (stripByRows s) (min (s .a .y) (s .b .y)) (max (s .a .y) (s .b .y)))
+  abbrev cases : Bool → List Position
+  cases t = cond t (walkedFrom w h (stripByColumns s) (min (s .a .x) (s .b .x)) (max (s .a .x) (s .b .x))) (walkedFrom w h (stripByRows s) (min (s .a .y) (s .b .y)) (max (s .a .y) (s .b .y)))
+
+  by-cases : {t : Bool} → byColumns s ≡ t → candidatePositions w h s ≡ cases t
   unfolding candidatePositions
-  by-cases e = ap (λ t. cond t (walkedFrom w h (stripByColumns s) (min (s .a .x) (s .b .x)) (max (s .a .x) (s .b .x))) (walkedFrom w h (stripByRows s) (min (s .a .y) (s .b .y)) (max (s .a .y) (s .b .y)))) e
+  by-cases e = ap cases e
 
   pub candidates-by-columns : s .a .x ≤ s .b .x → byColumns s ≡ true → candidatePositions w h s ≡ walked w h (stripByColumns s)
   candidates-by-columns o e = by-cases e ∙ (λ i. walkedFrom w h (stripByColumns s) (least i) (greatest i))
     where
       least : min (s .a .x) (s .b .x) ≡ s .a .x
       least = omega arith
+
       greatest : max (s .a .x) (s .b .x) ≡ s .b .x
       greatest = omega arith
 

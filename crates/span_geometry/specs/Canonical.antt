@@ -1,5 +1,5 @@
 -- The order of endpoints: of the segment with the lesser endpoint first, the first x is at most the second, and its endpoints differ where the segment's do. Assumes nothing.
-use mathlib.Core.Path.{_≡_, refl, sym, ap, _∙_, subst⁻¹}
+use mathlib.Core.Path.{_≡_, refl, sym, _∙_}
 use mathlib.Core.Bool.{Bool, true, false, not, _&&_, _||_, cond, false≢true}
 use Prim.Native.Nat.{ℕ, _≤_, _<_}
 use native.Mathlib.Nat.{le-of-lt, le-of-eq}
@@ -37,6 +37,7 @@ canonical-differ s = go (positionLt (s .b) (s .a))
   where
     turned : (m n : ℕ) → eqb m n ≡ eqb n m
     turned m n = eqb-same m n n m (sym, sym)
+
     go : (t : Bool) → endpointsDiffer (cond t (record { a = s .b; b = s .a }) s) ≡ endpointsDiffer s
     go true = λ i. not (turned (s .b .x) (s .a .x) i && turned (s .b .y) (s .a .y) i)
     go false = refl

@@ -1,11 +1,11 @@
 -- The line of a span between its endpoints: the number that `lineAt` divides is not negative, so that `natOf` cuts nothing off, and it is at most 2 ^ 27.
 -- Where the line falls, what it has fallen is at most its first coordinate times the run. Assumes nothing.
-use mathlib.Core.Path.{_≡_, refl, sym, ap, _∙_, subst⁻¹}
+use mathlib.Core.Path.{_≡_, sym, ap, _∙_}
 use mathlib.Core.Logic.{⊎-elim}
 use Prim.Native.Nat.{ℕ, suc, _+_, _-_, _*_, _≤_, _<_}
 use native.Mathlib.Nat.{mul-le-mul}
 use native.Mathlib.Omega.{arith}
-use lib.IntN.{ℤ, pos, negsuc, natAbs, _+ℤ_, _-ℤ_, _*ℤ_}
+use lib.IntN.{ℤ, pos, natAbs, _+ℤ_, _*ℤ_}
 use lib.Signed.{mag}
 use Rattle.definitions.specs.Spans.{diff}
 use Rattle.laws.specs.Comparisons.{le-or-lt}
@@ -25,6 +25,7 @@ module _ (p u q v t : ℕ) (after : p ≤ t) (inside : t ≤ q) where
     where
       fallen : suc (u - suc v) ≤ u
       fallen = omega arith
+
       part : t - p ≤ q - p
       part = omega arith
 

@@ -6,9 +6,12 @@ pub mod numbers;
 pub mod segments;
 pub mod strips;
 
-use numbers::{max, min, not_negative};
-use segments::{cell_center, cross, segments_intersect};
-
+use numbers::max;
+use numbers::min;
+use numbers::not_negative;
+use segments::cell_center;
+use segments::cross;
+use segments::segments_intersect;
 ghost use mathlib.Core.Path.{_≡_};
 ghost use Prim.Native.Nat.{_≤_, _<_};
 ghost use Rattle.definitions.specs.Limits.{maxSide};

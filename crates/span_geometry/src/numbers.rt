@@ -63,5 +63,9 @@ pub fn div_euclid(n: i64, d: u64) -> i64
 {
     let divisor = d as i64;
     let quotient = n / divisor;
-    if n % divisor < 0 { quotient - 1 } else { quotient }
+    if n % divisor < 0 {
+        quotient - 1
+    } else {
+        quotient
+    }
 }

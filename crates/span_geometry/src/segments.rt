@@ -1,7 +1,11 @@
 // A segment against a point and against another segment.
-use super::{PIXELS_PER_WALK_CELL, PixelPosition};
-use super::numbers::{difference, is_zero, max, min, strictly_opposite};
-
+use super::PIXELS_PER_WALK_CELL;
+use super::PixelPosition;
+use super::numbers::difference;
+use super::numbers::is_zero;
+use super::numbers::max;
+use super::numbers::min;
+use super::numbers::strictly_opposite;
 ghost use mathlib.Core.Path.{_≡_};
 ghost use mathlib.Core.Bool.{_&&_};
 ghost use Prim.Native.Nat.{_<_};

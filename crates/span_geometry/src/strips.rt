@@ -1,8 +1,13 @@
 // The cells near a span, in the order of candidate_positions: columns, or rows, along the span's major axis, and in each the cells near the span there.
-use super::{PIXELS_PER_WALK_CELL, SpanGeometry};
-use super::numbers::{abs_diff, difference, div_euclid, max, min, saturating_sub};
+use super::PIXELS_PER_WALK_CELL;
+use super::SpanGeometry;
+use super::numbers::abs_diff;
+use super::numbers::difference;
+use super::numbers::div_euclid;
+use super::numbers::max;
+use super::numbers::min;
+use super::numbers::saturating_sub;
 use super::segments::middle_of;
-
 ghost use mathlib.Core.Path.{_≡_};
 ghost use mathlib.Core.Bool.{true};
 ghost use Prim.Native.Nat.{_≤_, _<_};
@@ -13,6 +18,7 @@ ghost use Rattle.span_geometry.specs.Shapes.{maxPixel, Sound, segmentOf}
 ghost use Rattle.span_geometry.specs.Strips.{Walks, Usable, stripOf, lineOf};
 
 const CANDIDATE_MARGIN_PIXELS: u64 = 16;
+
 const CANDIDATE_MINOR_RADIUS_CELLS: u64 = 3;
 
 // first, .., last; nothing where last is below first.
@@ -27,7 +33,10 @@ pub fn candidate_axis_range(minimum: u64, maximum: u64, limit: u64) -> RangeIncl
 {
     RangeInclusive {
         first: saturating_sub(minimum, CANDIDATE_MARGIN_PIXELS) / PIXELS_PER_WALK_CELL,
-        last: min((maximum + CANDIDATE_MARGIN_PIXELS) / PIXELS_PER_WALK_CELL, limit - 1),
+        last: min(
+            (maximum + CANDIDATE_MARGIN_PIXELS) / PIXELS_PER_WALK_CELL,
+            limit - 1,
+        ),
     }
 }
 

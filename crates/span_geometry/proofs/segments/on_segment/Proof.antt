@@ -1,6 +1,5 @@
 -- `segments::on_segment` meets its contract: its four tests are those of the definition. Assumes nothing.
 use mathlib.Core.Bool.{_&&_}
-use borrow.Author.Needs.{needs}
 use lib.Dec.{leb}
 use Rattle.definitions.specs.Spans.{onSegment}
 use Rattle.span_geometry.proofs.segments.on_segment.Statement.{statement}

@@ -1,7 +1,6 @@
 -- `segments::segments_intersect` meets its contract: its five tests are those of the definition, each as its function ensures. Assumes nothing.
 use mathlib.Core.Path.{_≡_, _∙_}
 use mathlib.Core.Bool.{_&&_, _||_}
-use borrow.Author.Needs.{needs}
 use mir.Syntax.{w64}
 use mir.Val.{toZ, ofZ}
 use Rattle.definitions.specs.Grid.{Position}

@@ -1,7 +1,6 @@
 -- `segments::touches` meets its contract: both tests are what their functions ensure. Assumes nothing.
 use mathlib.Core.Path.{ap, _∙_}
 use mathlib.Core.Bool.{_&&_}
-use borrow.Author.Needs.{needs}
 use mir.Facts.{toZ-ofZ}
 use Rattle.definitions.specs.Spans.{isZero}
 use Rattle.span_geometry.proofs.segments.touches.Statement.{statement}
