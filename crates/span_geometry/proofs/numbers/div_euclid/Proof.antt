@@ -47,14 +47,18 @@ div-quotient c = (c .pre .0, quotient-fits c)
 rem-if1 : tie.Need-rem-if1
 rem-if1 c = (c .pre .0, quotient-fits c)
 
+-- the way on which something negative remains: what is computed is the quotient rounded down, and so it fits
+result-fits : (s : tie.Start) → SFits w64 (shrZ (s .args .n) (s .args .d))
+result-fits s = record { sfits = lt-of-le-of-lt (mag-shr (s .args .n) (s .args .d)) (s .fits .n .sfits) }
+
 one-less : (c : tie.Then1) → toZ w64 (ofZ w64 (quotientBits (c .before))) -ℤ pos 1 ≡ shrZ (c .before .args .n) (c .before .args .d)
 one-less c = ap (λ (z : ℤ). z -ℤ pos 1) (toZ-ofZ (quotient-fits (c .before)) ∙ quotient-is (c .before)) ∙ down (c .before) (c .if1 .taken)
 
-sub-result : tie.Need-sub-result
-sub-result c = subst⁻¹ (SFits w64) (one-less c) (record { sfits = lt-of-le-of-lt (mag-shr (c .before .args .n) (c .before .args .d)) (c .before .fits .n .sfits) })
-
 returns : tie.Need-returns
-returns c = toZ-ofZ (sub-result c) ∙ one-less c
+returns c = ap (λ (z : ℤ). toZ w64 (ofZ w64 z)) (one-less c) ∙ toZ-ofZ (result-fits (c .before))
+
+sub-result : tie.Need-sub-result
+sub-result c = subst⁻¹ (SFits w64) (one-less c) (result-fits (c .before))
 
 returns-2 : tie.Need-returns-2
 returns-2 c = toZ-ofZ (quotient-fits (c .before)) ∙ quotient-is (c .before) ∙ down (c .before) (c .if1 .left)
