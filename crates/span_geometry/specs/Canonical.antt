@@ -1,4 +1,5 @@
--- The order of endpoints: of the segment with the lesser endpoint first, the first x is at most the second, and its endpoints differ where the segment's do. Assumes nothing.
+-- Laws of a canonical segment, whose lesser endpoint is first: its first x is at most its second, and its endpoints differ where those of the segment
+-- that it was made of do. Assumes nothing.
 use mathlib.Core.Path.{_≡_, refl, sym, _∙_}
 use mathlib.Core.Bool.{Bool, true, false, not, _&&_, _||_, cond, false≢true}
 use Prim.Native.Nat.{ℕ, _≤_, _<_}

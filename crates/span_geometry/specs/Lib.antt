@@ -1,5 +1,4 @@
 pub mod Shapes
 pub mod Canonical
 pub mod Strips
-pub mod Lines
 pub mod Candidates

@@ -1,4 +1,4 @@
--- What `Range` and `Strip` stand for. Assumes nothing.
+-- What `RangeInclusive` and `Strip` stand for, and what the functions over them ask. Assumes nothing.
 use Prim.Native.Nat.{ℕ, _≤_, _<_}
 use mathlib.Core.Path.{_≡_}
 use mathlib.Core.Bool.{Bool, true, false, cond}

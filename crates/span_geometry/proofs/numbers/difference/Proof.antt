@@ -1,5 +1,5 @@
 -- `numbers::difference` meets its contract: two numbers up to 8,192 differ by no more. Assumes nothing.
-use mathlib.Core.Path.{_≡_, sym, subst, _∙_}
+use mathlib.Core.Path.{_≡_, _∙_, subst⁻¹}
 use borrow.Author.Needs.{needs}
 use lib.IntN.{_-ℤ_}
 use mir.Syntax.{w64}
@@ -22,7 +22,7 @@ read : (c : tie.Start) → toZ w64 (c .args .m) -ℤ toZ w64 (c .args .n) ≡ di
 read c = λ i. small (c .pre .0) i -ℤ small (c .pre .1) i
 
 sub-result : tie.Need-sub-result
-sub-result c = subst (SFits w64) (sym (read c)) (fits {k = maxPixel} tt (natAbs-diff (c .pre .0) (c .pre .1)))
+sub-result c = subst⁻¹ (SFits w64) (read c) (fits {k = maxPixel} tt (natAbs-diff (c .pre .0) (c .pre .1)))
 
 returns : tie.Need-returns
 returns c = toZ-ofZ (sub-result c) ∙ read c

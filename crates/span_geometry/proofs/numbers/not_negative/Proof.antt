@@ -1,4 +1,4 @@
--- `numbers::not_negative` meets its contract. Assumes nothing.
+-- `numbers::not_negative` meets its contract: a number from 0 on is not negative. Assumes nothing.
 use mathlib.Core.Path.{_≡_, refl, ap, _∙_}
 use lib.IntN.{ℤ, pos, negsuc}
 use lib.Signed.{leZ, nonNeg}

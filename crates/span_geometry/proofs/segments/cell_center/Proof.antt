@@ -1,4 +1,4 @@
--- `segments::cell_center` meets its contract. Assumes nothing.
+-- `segments::cell_center` meets its contract: the middle of a cell below 1,024 is below 8,192. Assumes nothing.
 use native.Mathlib.Omega.{arith}
 use borrow.Author.Needs.{needs}
 use Rattle.definitions.specs.Grid.{at}

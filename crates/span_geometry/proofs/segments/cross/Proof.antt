@@ -1,4 +1,5 @@
--- `segments::cross` meets its contract. A difference is at most 8,192 in size, so a product of two is at most 2^26 and the result at most 2^27. Assumes nothing.
+-- `segments::cross` meets its contract. A difference is at most 8,192 in size, so a product of two is at most 2^26 and the result at most 2^27.
+-- Assumes nothing.
 use mathlib.Core.Path.{_≡_, _∙_, subst⁻¹}
 use Prim.Native.Nat.{_+_, _*_, _≤_}
 use native.Mathlib.Omega.{arith}
@@ -22,7 +23,7 @@ difference-requires-2 c κs = (c .before .pre .1 .y-in, c .before .pre .0 .y-in)
 difference-requires-3 : tie.Need-difference-requires-3
 difference-requires-3 c κs = (c .before .before .pre .2 .y-in, c .before .before .pre .0 .y-in)
 
--- the two products, of the point's distances from a
+-- the two products
 abbrev across : tie.Start → ℤ
 across s = diff (s .args .b .x) (s .args .a .x) *ℤ diff (s .args .point .y) (s .args .a .y)
 

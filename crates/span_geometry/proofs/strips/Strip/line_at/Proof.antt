@@ -14,7 +14,7 @@ use mir.Facts.{toZ-ofZ, toZ-pos}
 use Rattle.definitions.specs.Spans.{diff, middleOf, natOf}
 use Rattle.laws.specs.WholeNumbers.{natAbs-diff-product, mag≤natAbs}
 use Rattle.span_geometry.specs.Shapes.{maxPixel}
-use Rattle.span_geometry.specs.Lines.{risen, risen-is, start-in, risen-in}
+use Rattle.span_geometry.proofs.Lines.{risen, risen-is, start-in, risen-in}
 use Rattle.span_geometry.proofs.Signed.{fits, given}
 use Rattle.span_geometry.proofs.strips.Strip.line_at.Statement.{statement}
 use Rattle.span_geometry.proofs.strips.Strip.line_at.Tie as tie
