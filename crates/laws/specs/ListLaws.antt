@@ -11,4 +11,5 @@ pub mod ListsAsSets
 pub mod KeptLists
 pub mod SortedMembers
 pub mod Disjunction
+pub mod FirstBelow
 pub mod NoFault

@@ -1,0 +1,3 @@
+pub mod Quotients
+pub mod SidesWithin
+pub mod WidthBits

@@ -1,0 +1,95 @@
+-- `segments::segments_intersect` meets its contract: its five tests are those of the definition, each as its function ensures. Assumes nothing.
+use mathlib.Core.Path.{_≡_, _∙_}
+use mathlib.Core.Bool.{_&&_, _||_}
+use mir.Syntax.{w64}
+use mir.Val.{toZ, ofZ}
+use Rattle.definitions.specs.Grid.{Position}
+use Rattle.definitions.specs.Spans.{cross, isZero, strictlyOpposite, onSegment, segmentsIntersect}
+use Rattle.span_geometry.specs.Shapes.{pointOf}
+use Rattle.span_geometry.proofs.Signed.{given}
+use Rattle.span_geometry.proofs.segments.segments_intersect.Statement.{statement}
+use Rattle.span_geometry.proofs.segments.segments_intersect.Tie as tie
+
+cross-requires : tie.Need-cross-requires
+cross-requires c κs = (c .pre .0, c .pre .1, c .pre .2)
+
+cross-requires-2 : tie.Need-cross-requires-2
+cross-requires-2 c κs = (c .before .pre .0, c .before .pre .1, c .before .pre .3)
+
+cross-requires-3 : tie.Need-cross-requires-3
+cross-requires-3 c κs = (c .before .before .pre .2, c .before .before .pre .3, c .before .before .pre .0)
+
+cross-requires-4 : tie.Need-cross-requires-4
+cross-requires-4 c κs = (c .before .before .before .pre .2, c .before .before .before .pre .3, c .before .before .before .pre .1)
+
+strictly-opposite-requires : tie.Need-strictly-opposite-requires
+strictly-opposite-requires c κs = tt
+
+strictly-opposite-requires-2 : tie.Need-strictly-opposite-requires-2
+strictly-opposite-requires-2 c κs = tt
+
+touches-requires : tie.Need-touches-requires
+touches-requires c κs = tt
+
+touches-requires-2 : tie.Need-touches-requires-2
+touches-requires-2 c κs = tt
+
+touches-requires-3 : tie.Need-touches-requires-3
+touches-requires-3 c κs = tt
+
+touches-requires-4 : tie.Need-touches-requires-4
+touches-requires-4 c κs = tt
+
+-- the four side values, as their bits are read
+module _ (c : tie.After-cross4) where
+  abbrev A : Position
+  A = pointOf (c .before .before .before .before .args .a)
+
+  abbrev B : Position
+  B = pointOf (c .before .before .before .before .args .b)
+
+  abbrev C : Position
+  C = pointOf (c .before .before .before .before .args .c)
+
+  abbrev D : Position
+  D = pointOf (c .before .before .before .before .args .d)
+
+  abc : toZ w64 (ofZ w64 (c .before .before .before .cross .result)) ≡ cross A B C
+  abc = given (c .before .before .before .cross .ok) (c .before .before .before .cross .ensures)
+
+  abd : toZ w64 (ofZ w64 (c .before .before .cross2 .result)) ≡ cross A B D
+  abd = given (c .before .before .cross2 .ok) (c .before .before .cross2 .ensures)
+
+  cda : toZ w64 (ofZ w64 (c .before .cross3 .result)) ≡ cross C D A
+  cda = given (c .before .cross3 .ok) (c .before .cross3 .ensures)
+
+  cdb : toZ w64 (ofZ w64 (c .cross4 .result)) ≡ cross C D B
+  cdb = given (c .cross4 .ok) (c .cross4 .ensures)
+
+returns : tie.Need-returns
+unfolding segmentsIntersect
+returns c =
+    let o = c .before .before .before .before .before in
+    let s = o .before in
+    λ i.
+    ((o .strictly-opposite .ensures ∙ (λ j. strictlyOpposite (abc s j) (abd s j))) i && (c .before .before .before .before .strictly-opposite2 .ensures ∙ (λ j. strictlyOpposite (cda s j) (cdb s j))) i)
+    || (c .before .before .before .touches .ensures ∙ (λ j. isZero (abc s j) && onSegment (A s) (B s) (C s))) i
+    || (c .before .before .touches2 .ensures ∙ (λ j. isZero (abd s j) && onSegment (A s) (B s) (D s))) i
+    || (c .before .touches3 .ensures ∙ (λ j. isZero (cda s j) && onSegment (C s) (D s) (A s))) i
+    || (c .touches4 .ensures ∙ (λ j. isZero (cdb s j) && onSegment (C s) (D s) (B s))) i
+
+pub segments-intersect-spec : {M : Type 1} → statement M
+segments-intersect-spec =
+    tie.close
+    (tie.spec
+    cross-requires
+    cross-requires-2
+    cross-requires-3
+    cross-requires-4
+    strictly-opposite-requires
+    strictly-opposite-requires-2
+    touches-requires
+    touches-requires-2
+    touches-requires-3
+    touches-requires-4
+    returns)

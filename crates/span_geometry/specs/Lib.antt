@@ -1,0 +1,4 @@
+pub mod Shapes
+pub mod Canonical
+pub mod Strips
+pub mod Candidates
