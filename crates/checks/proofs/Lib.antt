@@ -1,3 +1,2 @@
 pub mod Quotients
 pub mod SidesWithin
-pub mod WidthBits

@@ -17,4 +17,4 @@ pub mod DistanceRange
 pub mod MapPixels
 pub mod PassRange
 pub mod FiniteSeparations
-pub mod WidthCheck
+pub mod WidthBits

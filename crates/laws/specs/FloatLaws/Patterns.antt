@@ -122,7 +122,7 @@ no-nan b h = subst (λ (z : Bool). T (not z)) (sym (nanBits-above binary64 b)) (
 
 -- ---- from a pattern to the double
 
-pub ofBits-fields : (w : ℕ) → ofBits binary64 w ≡ ofFields binary64 (leb (2 ^ 63) w) (w % 2 ^ 63 / 2 ^ 52) (w % 2 ^ 63 % 2 ^ 52)
+ofBits-fields : (w : ℕ) → ofBits binary64 w ≡ ofFields binary64 (leb (2 ^ 63) w) (w % 2 ^ 63 / 2 ^ 52) (w % 2 ^ 63 % 2 ^ 52)
 unfolding ofBits
 ofBits-fields w = ap (λ (z : ℕ). ofFields binary64 (leb (2 ^ 63) w) (w % 2 ^ 63 / 2 ^ 52) z) (fraction w)
   where
@@ -160,14 +160,13 @@ ofBits-value w h =
     field : (b : ℕ) → b < 2047 * 2 ^ 52 → b / 2 ^ 52 < 2047
     field b h = omega arith
 
--- the exponent's field from the infinity's pattern on
-pub top-field : (b : ℕ) → b < 2 ^ 63 → 2047 * 2 ^ 52 ≤ b → b / 2 ^ 52 ≡ 2047
-top-field b h g = omega arith
-
 fields-finite : (s : Bool) (b : ℕ) → b < 2 ^ 63 → T (finite (ofFields binary64 s (b / 2 ^ 52) (b % 2 ^ 52))) → b < 2047 * 2 ^ 52
 unfolding ofFields
-fields-finite s b h f = lt-of-not-le (λ g. none (eqb (b % 2 ^ 52) 0) (subst (λ (x : ℕ). T (finite (ofFields binary64 s x (b % 2 ^ 52)))) (top-field b h g) f))
+fields-finite s b h f = lt-of-not-le (λ g. none (eqb (b % 2 ^ 52) 0) (subst (λ (x : ℕ). T (finite (ofFields binary64 s x (b % 2 ^ 52)))) (top b h g) f))
   where
+    top : (b : ℕ) → b < 2 ^ 63 → 2047 * 2 ^ 52 ≤ b → b / 2 ^ 52 ≡ 2047
+    top b h g = omega arith
+
     none : (t : Bool) → T (finite (cond t (inf s) nan)) → ⊥
     none true q = q
     none false q = q

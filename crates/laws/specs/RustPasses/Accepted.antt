@@ -16,7 +16,7 @@ use Rattle.laws.specs.ListLaws.Lists.{All, all-map}
 use Rattle.laws.specs.TableLaws.AcceptedCalls.{accepted, boundaries-fit, fits-parts}
 use Rattle.laws.specs.FloatLaws.MapPixels.{OnMap, lent-on-map, side-bounds}
 use Rattle.laws.specs.FloatLaws.PassRange.{PassInRange, pass-in-range}
-use Rattle.laws.specs.FloatLaws.WidthCheck.{width-finite}
+use Rattle.laws.specs.FloatLaws.WidthBits.{width-finite}
 use Rattle.laws.specs.RustContext.SoundMaps.{FiniteWidth}
 use Rattle.laws.specs.RustContext.CheckedMaps.{CheckedBoundary}
 use Rattle.laws.specs.RustPasses.RampRows.{replaceRampMouths, collapseRampInteriors, mouth-rows, interior-rows}

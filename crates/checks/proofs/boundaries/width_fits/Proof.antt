@@ -1,6 +1,6 @@
 -- `checks::boundaries::width_fits` meets its contract, by the law on the bits of a width. Assumes nothing.
 use mathlib.Core.Path.{sym}
-use Rattle.checks.proofs.WidthBits.{width-as-bits}
+use Rattle.laws.specs.FloatLaws.WidthBits.{width-as-bits}
 use Rattle.checks.proofs.boundaries.width_fits.Statement.{statement}
 use Rattle.checks.proofs.boundaries.width_fits.Tie as tie
 

@@ -1,5 +1,5 @@
 -- A width fits exactly where its bits, read as a whole number, are at most those of 65,536. Below the infinity's pattern doubles compare as their patterns. From there up to the
--- sign's bit stand the infinity and the NaNs, none of which is at most 65,536, and above is the sign. Assumes nothing.
+-- sign's bit stand the infinity and the NaNs, none of which is at most 65,536, and above is the sign. So a width that fits is finite. Assumes nothing.
 use Prim.Native.Nat.{ℕ, _*_, _/_, _%_, _^_, _≤_, _<_}
 use native.Mathlib.Omega.{arith}
 use mathlib.Core.Path.{_≡_, refl, sym, ap, _∙_}
@@ -7,11 +7,11 @@ use mathlib.Core.Logic.{inl, inr}
 use mathlib.Core.Bool.{Bool, true, false, _&&_, cond}
 use lib.Dec.{eqb, ltb, leb, lit<}
 use lib.Ieee.{nan, inf, binary64, ofBits, ofFields, le}
-use borrow.Author.Tests.{lt-ltb, le-ltb, lt-leb}
+use borrow.Author.Tests.{lt-ltb, le-ltb, lt-leb, leb-true}
 use Rattle.definitions.specs.Geometry.{float}
 use Rattle.definitions.specs.Refusals.{widthFits}
 use Rattle.laws.specs.NumberLaws.Comparisons.{le-or-lt}
 use Rattle.laws.specs.FloatLaws.KeysAsBits.{le-ofBits}
 
 -- the bits of 65,536
 abbrev pub maxWidthBits : ℕ
@@ -45,3 +45,9 @@ width-as-bits bits = elim (le-or-lt (2 ^ 63) bits) [
   | inl l ↦ ap (λ t. t && le (ofBits binary64 bits) (float 65536)) (le-ltb bits (2 ^ 63) l) ∙ sym (lt-leb bits maxWidthBits (omega arith))
   | inr h ↦ ap (λ t. t && le (ofBits binary64 bits) (float 65536)) (lt-ltb bits (2 ^ 63) h) ∙ finite-or-not bits h
 ]
+
+pub width-finite : (bits : ℕ) → widthFits bits ≡ true → bits < 2047 * 2 ^ 52
+width-finite bits h = below (leb-true bits maxWidthBits (sym (width-as-bits bits) ∙ h))
+  where
+    below : bits ≤ maxWidthBits → bits < 2047 * 2 ^ 52
+    below l = omega arith
