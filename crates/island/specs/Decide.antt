@@ -13,7 +13,7 @@ use Rattle.definitions.specs.Scan.{allBelow}
 use Rattle.definitions.specs.Grid.{Map, Position, at, Segment, Boundary, noBoundary, index, cellCount, cellAt, walkable, toward, isStep, spanCount, spanOf, boundaryOf}
 use Rattle.laws.specs.ListLaws.Tests.{both, beq-same}
 use Rattle.laws.specs.ListLaws.Below.{all-below-at}
-use Rattle.laws.specs.RegionLaws.Steps.{four}
+use Rattle.laws.specs.RegionLaws.Steps.{step-parts}
 use Rattle.island.specs.Premises.{cutsIsland, cutsRemainder, hasAnchor, cutting, Island, Alike}
 use Rattle.island.specs.Restrict.{cuts-lt}
 
@@ -148,7 +148,7 @@ module _ (M : Map) (isl : ℕ → Bool) where
   apart : isApart M isl ≡ true → (p d : Position) → isStep M p d ≡ true → isl (index M p) ≡ isl (index M (toward p d))
   unfolding isApart staysOn
   apart h p d s =
-      let f = four M p d s in
+      let f = step-parts M p d s in
       let w = walkable-lt p (f .near) in
       let u : d .x < 3 = omega (arith, leb-true (d .x) 2 (f .nearX)) in
       let v : d .y < 3 = omega (arith, leb-true (d .y) 2 (f .nearY)) in

@@ -7,7 +7,7 @@ use mathlib.Core.Bool.{Bool, true, false, _&&_, false≢true}
 use borrow.Author.Tests.{le-leb}
 use Rattle.definitions.specs.Grid.{Map, Position, at, toward, walkable, isStep}
 use Rattle.laws.specs.ListLaws.Tests.{both}
-use Rattle.laws.specs.RegionLaws.Steps.{Four, four, join4}
+use Rattle.laws.specs.RegionLaws.Steps.{StepParts, step-parts, step-whole}
 
 module _
     (M M′ : Map) (isl : Position → Bool)
@@ -26,10 +26,10 @@ module _
   one-back n = omega arith
 
   -- the straight step along the row to one side cell, and the one along the column to the other
-  leg-x : (p d : Position) → Four M p d → isl p ≡ isl (at (toward p d .x) (p .y))
-  leg-x p d f = apart p (at (d .x) 1) (join4 M p (at (d .x) 1) legs) ∙ ap (λ n. isl (at (p .x + d .x - 1) n)) (one-back (p .y))
+  leg-x : (p d : Position) → StepParts M p d → isl p ≡ isl (at (toward p d .x) (p .y))
+  leg-x p d f = apart p (at (d .x) 1) (step-whole M p (at (d .x) 1) legs) ∙ ap (λ n. isl (at (p .x + d .x - 1) n)) (one-back (p .y))
     where
-      legs : Four M p (at (d .x) 1)
+      legs : StepParts M p (at (d .x) 1)
       legs =
           record {
             nearX = f .nearX;
@@ -42,10 +42,10 @@ module _
             under = rw (one-back (p .y)) (f .near);
           }
 
-  leg-y : (p d : Position) → Four M p d → isl p ≡ isl (at (p .x) (toward p d .y))
-  leg-y p d f = apart p (at 1 (d .y)) (join4 M p (at 1 (d .y)) legs) ∙ ap (λ n. isl (at n (p .y + d .y - 1))) (one-back (p .x))
+  leg-y : (p d : Position) → StepParts M p d → isl p ≡ isl (at (p .x) (toward p d .y))
+  leg-y p d f = apart p (at 1 (d .y)) (step-whole M p (at 1 (d .y)) legs) ∙ ap (λ n. isl (at n (p .y + d .y - 1))) (one-back (p .x))
     where
-      legs : Four M p (at 1 (d .y))
+      legs : StepParts M p (at 1 (d .y))
       legs =
           record {
             nearX = refl;
@@ -61,30 +61,30 @@ module _
   pub steps-in : (p d : Position) → isStep M′ p d ≡ (isl p && isStep M p d)
   steps-in p d = go (isStep M p d) refl (isl p) refl (isStep M′ p d) refl
     where
-      whole : isl p ≡ true → Four M p d → Four M′ p d
+      whole : isl p ≡ true → StepParts M p d → StepParts M′ p d
       whole i f =
           record {
             nearX = f .nearX;
             nearY = f .nearY;
             right = f .right;
             down = f .down;
-            far = stays (toward p d) (f .far) (sym (apart p d (join4 M p d f)) ∙ i);
+            far = stays (toward p d) (f .far) (sym (apart p d (step-whole M p d f)) ∙ i);
             near = stays p (f .near) i;
             side = stays _ (f .side) (sym (leg-x p d f) ∙ i);
             under = stays _ (f .under) (sym (leg-y p d f) ∙ i);
           }
 
-      back : Four M′ p d → Four M p d
+      back : StepParts M′ p d → StepParts M p d
       back f =
           record
           { nearX = f .nearX; nearY = f .nearY; right = f .right; down = f .down; far = weaker _ (f .far); near = weaker _ (f .near); side = weaker _ (f .side); under = weaker _ (f .under) }
 
       go : (b : Bool) → isStep M p d ≡ b → (c : Bool) → isl p ≡ c → (e : Bool) → isStep M′ p d ≡ e → e ≡ (c && b)
       go true h true i true k = refl
-      go true h true i false k = absurd (false≢true (sym k ∙ join4 M′ p d (whole i (four M p d h))))
-      go true h false i true k = absurd (false≢true (sym i ∙ within p (four M′ p d k .near)))
+      go true h true i false k = absurd (false≢true (sym k ∙ step-whole M′ p d (whole i (step-parts M p d h))))
+      go true h false i true k = absurd (false≢true (sym i ∙ within p (step-parts M′ p d k .near)))
       go true h false i false k = refl
-      go false h true i true k = absurd (false≢true (sym h ∙ join4 M p d (back (four M′ p d k))))
+      go false h true i true k = absurd (false≢true (sym h ∙ step-whole M p d (back (step-parts M′ p d k))))
       go false h true i false k = refl
-      go false h false i true k = absurd (false≢true (sym i ∙ within p (four M′ p d k .near)))
+      go false h false i true k = absurd (false≢true (sym i ∙ within p (step-parts M′ p d k .near)))
       go false h false i false k = refl

@@ -5,7 +5,7 @@ use native.Mathlib.Omega.{arith}
 use mathlib.Core.Path.{_≡_, refl, sym, ap, _∙_}
 use mathlib.Core.Logic.{inl, inr}
 use mathlib.Core.Bool.{Bool, true, false, _&&_, cond}
-use lib.Dec.{eqb, ltb, leb, lit<}
+use lib.Dec.{eqb, leb, lit<}
 use lib.Ieee.{nan, inf, binary64, ofBits, ofFields, le}
 use borrow.Author.Tests.{lt-ltb, le-ltb, lt-leb, leb-true}
 use Rattle.definitions.specs.Geometry.{float}

@@ -10,7 +10,7 @@ use Rattle.definitions.specs.Scan.{onlyIf}
 use Rattle.definitions.specs.Refusals.{orElse, firstBelow, firstFaulty}
 
 module _ {A : Type 0} where
-  abbrev found : Option A → Bool
+  abbrev pub found : Option A → Bool
   found none = false
   found (some a) = true
 

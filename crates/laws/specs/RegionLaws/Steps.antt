@@ -24,7 +24,7 @@ pub record Step (M : Map) (e : Pair) : Type 0 where
   pub highWalkable : walkableAt M (e .hi) ≡ true
 
 -- what `isStep` tests, test by test
-pub record Four (M : Map) (p d : Position) : Type 0 where
+pub record StepParts (M : Map) (p d : Position) : Type 0 where
   pub nearX : leb (d .x) 2 ≡ true
   pub nearY : leb (d .y) 2 ≡ true
   pub right : leb 1 (p .x + d .x) ≡ true
@@ -34,9 +34,9 @@ pub record Four (M : Map) (p d : Position) : Type 0 where
   pub side : walkable M (at (toward p d .x) (p .y)) ≡ true
   pub under : walkable M (at (p .x) (toward p d .y)) ≡ true
 
-pub four : (M : Map) (p d : Position) → isStep M p d ≡ true → Four M p d
+pub step-parts : (M : Map) (p d : Position) → isStep M p d ≡ true → StepParts M p d
 unfolding isStep
-four M p d h =
+step-parts M p d h =
     let a = both _ (walkable M (at (p .x) (toward p d .y))) h in
     let b = both _ (walkable M (at (toward p d .x) (p .y))) (a .0) in
     let c = both _ (walkable M p) (b .0) in
@@ -46,9 +46,9 @@ four M p d h =
     let k = both (leb (d .x) 2) (leb (d .y) 2) (g .0) in
     record { nearX = k .0; nearY = k .1; right = g .1; down = f .1; far = e .1; near = c .1; side = b .1; under = a .1 }
 
-pub join4 : (M : Map) (p d : Position) → Four M p d → isStep M p d ≡ true
+pub step-whole : (M : Map) (p d : Position) → StepParts M p d → isStep M p d ≡ true
 unfolding isStep
-join4 M p d f = rw (f .nearX, f .nearY, f .right, f .down, f .far, f .near, f .side, f .under) refl
+step-whole M p d f = rw (f .nearX, f .nearY, f .right, f .down, f .far, f .near, f .side, f .under) refl
 
 module _ (M : Map) where
   -- a walkable position is a cell of the grid
@@ -88,7 +88,7 @@ module _ (M : Map) where
 
   pub step-is : (p d : Position) → isStep M p d ≡ true → index M p < index M (toward p d) → Step M (edge M p (toward p d))
   step-is p d h l =
-      let f = four M p d h in
+      let f = step-parts M p d h in
       let a = walkable-cell p (f .near) in
       let b = walkable-cell (toward p d) (f .far) in
       record { within = record { lo = a .0; hi = b .0 }; ordered = l; lowWalkable = a .1; highWalkable = b .1 }

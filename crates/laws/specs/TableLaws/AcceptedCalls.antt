@@ -15,7 +15,7 @@ use Rattle.definitions.specs.Rows.{rowsOf}
 use Rattle.definitions.specs.Verdict.{Lent, mapIn, refusal, firstRefusal, recordsFault, pairsFault, partitionHasRoom, verdict}
 use Rattle.laws.specs.ListLaws.Tests.{both}
 use Rattle.laws.specs.ListLaws.Lists.{All, done, more, all-run}
-use Rattle.laws.specs.ListLaws.NoFault.{no-fault, none-faulty}
+use Rattle.laws.specs.ListLaws.NoFault.{found, no-fault, none-faulty}
 
 -- ---- no refusal has number 0
 
@@ -53,11 +53,7 @@ spans-numbered w h spans = first-numbered (length spans / numbersPerSpan) (λ i.
 
 refusal-none : (number : ℕ) (place : Option ℕ) → refusal number place ≡ none → place ≡ none
 refusal-none number none h = refl
-refusal-none number (some place) h = absurd (true≢false (ap isRefused h))
-  where
-    isRefused : Option Refusal → Bool
-    isRefused none = false
-    isRefused (some r) = true
+refusal-none number (some place) h = absurd (true≢false (ap found h))
 
 none-refused : {l : List (Option Refusal)} (count : ℕ) → All Numbered l → firstRefusal l count .number ≡ 0 → All (λ r. r ≡ none) l
 none-refused count done h = done
