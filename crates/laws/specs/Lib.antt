@@ -3,10 +3,10 @@ pub mod NumberLaws
 pub mod OrderLaws
 pub mod SetLaws
 pub mod RegionLaws
-pub mod TableLaws
 pub mod FloatLaws
 pub mod RustContext
 pub mod RustMouths
 pub mod RustInteriors
 pub mod RustJunctions
 pub mod RustPasses
+pub mod TableLaws

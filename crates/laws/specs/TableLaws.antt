@@ -1,2 +1,2 @@
--- What the table of refusals says of the calls that it lets through.
+-- The table of refusals: what an accepted call has passed.
 pub mod AcceptedCalls
