@@ -1,0 +1,39 @@
+-- The eight directions by number, in the order of `directions`, and the number of each one's opposite. A fact on all of them is one equation of lists that
+-- computes, and holds at each number by what a map has there. Assumes nothing.
+use Prim.Native.Nat.{ℕ, suc, _<_}
+use native.Mathlib.Omega.{arith}
+use mathlib.Core.Path.{_≡_, refl, sym, ap, _∙_}
+use mathlib.Core.List.{List, [], _∷_, map}
+use lib.ListN.{length, getD, List·getD-map}
+use Rattle.definitions.specs.Grid.{Position, at, directions}
+use Rattle.laws.specs.Lists.{All, done, more}
+use Rattle.laws.specs.Members.{all-place}
+use Rattle.flood.specs.Masks.{opposite}
+
+-- direction d; beyond the eight, no move
+abbrev pub directionAt : ℕ → Position
+directionAt d = getD directions d (at 1 1)
+
+abbrev opposites : List ℕ
+opposites = 3 ∷ 2 ∷ 1 ∷ 0 ∷ 7 ∷ 6 ∷ 5 ∷ 4 ∷ []
+
+abbrev pub oppositeWay : ℕ → ℕ
+oppositeWay d = getD opposites d 8
+
+all-opposites : map opposite directions ≡ map directionAt opposites
+all-opposites = refl
+
+pub opposite-direction : (d : ℕ) → directionAt (oppositeWay d) ≡ opposite (directionAt d)
+opposite-direction d =
+    sym (List·getD-map directionAt opposites d 8) ∙ ap (λ l. getD l d (at 1 1)) (sym all-opposites) ∙ List·getD-map opposite directions d (at 1 1)
+
+pub opposite-below : (d : ℕ) → d < 8 → oppositeWay d < 8
+opposite-below d h =
+    all-place {A = ℕ} {P = λ e. e < 8} 8
+    (more (omega arith) (more (omega arith) (more (omega arith) (more (omega arith) (more (omega arith) (more (omega arith) (more (omega arith) (more (omega arith) done))))))))
+    d h
+
+-- what holds at each place holds of every element
+pub all-by-place : {A : Type 0} {P : A → Type 0} (x : A) (l : List A) → ((i : ℕ) → i < length l → P (getD l i x)) → All P l
+all-by-place x [] h = done
+all-by-place x (a ∷ l) h = more (h 0 (omega arith)) (all-by-place x l (λ i b. h (suc i) (omega arith)))
