@@ -5,3 +5,8 @@ pub mod GridGraph
 pub mod Used
 pub mod State
 pub mod Outer
+pub mod Contract
+pub mod Uncut
+pub mod Inner
+pub mod Toward
+pub mod Visit

@@ -1,0 +1,128 @@
+// The flood over cut masks: labels every region of the grid, as `components` of areas.rs. Steps are those of `neighbors` of lib.rs.
+ghost use mathlib.Core.Path.{_≡_};
+ghost use Prim.Native.Nat.{_+_, _*_, _<_};
+ghost use lib.ListN.{length};
+ghost use Rattle.definitions.specs.Grid.{Map, at, isStep};
+ghost use Rattle.flood.specs.Masks.{cutBit, withBit};
+ghost use Rattle.flood.specs.GridGraph.{graphOf, landing};
+ghost use Rattle.flood.specs.State.{Ran, Visited};
+ghost use Rattle.flood.specs.Contract.{Lent, CutMap, Masked, Flooded};
+ghost use Rattle.flood.specs.Inner.{gridOf, Nearby, cellToward, Stepping, Ready, Visiting};
+
+// A direction, each coordinate moved by 1 so that none is negative.
+pub struct Direction {
+    pub x: usize,
+    pub y: usize,
+}
+
+// The eight directions, in the order of `neighbors` of lib.rs.
+pub const DIRECTIONS: [Direction; 8] = [
+    Direction { x: 1, y: 0 },
+    Direction { x: 0, y: 1 },
+    Direction { x: 2, y: 1 },
+    Direction { x: 1, y: 2 },
+    Direction { x: 0, y: 0 },
+    Direction { x: 2, y: 0 },
+    Direction { x: 0, y: 2 },
+    Direction { x: 2, y: 2 },
+];
+
+fn wide(x: u32) -> usize
+    ensures { λ r. ⌜ r ≡ x ⌝ }
+{
+    x as usize
+}
+
+// The cell in a direction of (x, y), or the number of cells where that lies outside the grid.
+pub fn toward(width: usize, height: usize, x: usize, y: usize, dx: usize, dy: usize) -> usize
+    requires { ⌜ Nearby width height x y dx dy ⌝ }
+    ensures { λ r. ⌜ r ≡ cellToward width height (at x y) (at dx dy) ⌝ }
+{
+    let n = height * width;
+    let i = x + dx;
+    let j = y + dy;
+    if i < 1 {
+        return n;
+    }
+    if j < 1 {
+        return n;
+    }
+    if width < i {
+        return n;
+    }
+    if height < j {
+        return n;
+    }
+    (j - 1) * width + (i - 1)
+}
+
+// Whether a step joins the walkable (x, y) and its neighbour in a direction. Of a straight step the two side cells are the two cells themselves.
+pub fn is_step(width: usize, height: usize, cells: &[u8], x: usize, y: usize, dx: usize, dy: usize) -> bool
+    requires { ⌜ Stepping width height (now cells) x y dx dy ⌝ }
+    ensures { λ r. ⌜ r ≡ isStep (gridOf width height (now (cells .entry))) (at x y) (at dx dy) ⌝ }
+{
+    let i = x + dx - 1;
+    let j = y + dy - 1;
+    if cells[j * width + i] % 2 != 1 {
+        return false;
+    }
+    if cells[y * width + i] % 2 != 1 {
+        return false;
+    }
+    cells[j * width + x] % 2 == 1
+}
+
+// Whether bit k of cell c's mask is set.
+pub fn is_cut(masks: &[u16], c: usize, k: usize) -> bool
+    requires { ⌜ c < length (now masks) ⌝ }
+    requires { ⌜ k < 9 ⌝ }
+    ensures { λ r. ⌜ r ≡ cutBit (now (masks .entry)) c k ⌝ }
+{
+    (masks[c] >> k) % 2 == 1
+}
+
+// Sets bit k of cell c's mask.
+pub fn mark(masks: &mut [u16], c: usize, k: usize)
+    requires { ⌜ c < length (now masks) ⌝ }
+    requires { ⌜ k < 9 ⌝ }
+    ensures { λ r. ⌜ now (masks .exit) ≡ withBit (now (masks .entry)) c k ⌝ }
+{
+    masks[c] = masks[c] | (1 << k);
+}
+
+// One direction of the cell c at (x, y). The label is looked at first: most neighbours have one.
+fn visit(
+    width: usize,
+    height: usize,
+    cells: &[u8],
+    masks: &[u16],
+    labels: &mut [u32],
+    queue: &mut [u32],
+    id: u32,
+    c: usize,
+    x: usize,
+    y: usize,
+    dx: usize,
+    dy: usize,
+    tail: usize,
+) -> usize
+    requires { ⌜ Visiting width height (now cells) (now masks) (now labels) (now queue) c x y dx dy tail ⌝ }
+    ensures { λ r. ⌜ Visited (height * width) (landing (gridOf width height (now (cells .entry))) (now (masks .entry)) c (at dx dy)) id (now (labels .entry)) (now (queue .entry)) tail (now (labels .exit)) (now (queue .exit)) r ⌝ }
+{
+    let t = toward(width, height, x, y, dx, dy);
+    if height * width <= t {
+        return tail;
+    }
+    if labels[t] != 0 {
+        return tail;
+    }
+    if !is_step(width, height, cells, x, y, dx, dy) {
+        return tail;
+    }
+    if is_cut(masks, c, dy * 3 + dx) {
+        return tail;
+    }
+    labels[t] = id;
+    queue[tail] = t as u32;
+    tail + 1
+}

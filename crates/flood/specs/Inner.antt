@@ -1,0 +1,96 @@
+-- The words of the inner functions' contracts, over the grid of the lent bytes, and what they say of one another. Assumes nothing.
+use Prim.Native.Nat.{ℕ, _+_, _-_, _*_, _/_, _%_, _≤_, _<_}
+use native.Mathlib.Omega.{arith}
+use native.Mathlib.Nat.{mul-le-mul}
+use mathlib.Core.Path.{_≡_, refl, sym, subst}
+use mathlib.Core.Bool.{Bool, true, _&&_, cond}
+use mathlib.Core.List.{List, []}
+use lib.ListN.{length, getD}
+use lib.Dec.{leb}
+use Rattle.definitions.specs.Grid.{Map, Position, at, toward, isStep, walkable}
+use Rattle.definitions.specs.Partition.{walkableAt}
+use Rattle.flood.specs.Masks.{cutBit}
+use Rattle.flood.specs.GridGraph.{landing, graphOf, Mirrored}
+use Rattle.flood.specs.State.{State}
+use Rattle.flood.specs.Outer.{Outer}
+use Rattle.flood.specs.Contract.{Lent, CutMap, Masked, Flooded}
+use Rattle.flood.specs.Uncut.{marks-mirrored}
+
+-- the map of the lent bytes: steps and walkable cells depend on nothing else
+abbrev pub gridOf : ℕ → ℕ → List ℕ → Map
+gridOf w h cells = record { width = w; height = h; cells = cells; spans = []; boundaries = []; anchors = [] }
+
+-- ---- a direction of a position
+
+-- a position of the grid, and a direction
+pub record Nearby (w h x y dx dy : ℕ) : Type 0 where
+  pub narrow : w ≤ 1024
+  pub short : h ≤ 1024
+  pub inX : x < w
+  pub inY : y < h
+  pub nearX : dx ≤ 2
+  pub nearY : dy ≤ 2
+
+-- the position in that direction is in the grid
+pub record Inside (w h x y dx dy : ℕ) : Type 0 where
+  pub left : 1 ≤ x + dx
+  pub up : 1 ≤ y + dy
+  pub right : x + dx ≤ w
+  pub down : y + dy ≤ h
+
+-- the cell in that direction; the number of cells where it is outside
+unfoldable pub cellToward : ℕ → ℕ → Position → Position → ℕ
+cellToward w h p d =
+    cond (leb 1 (p .x + d .x) && leb 1 (p .y + d .y) && leb (p .x + d .x) w && leb (p .y + d .y) h) ((p .y + d .y - 1) * w + (p .x + d .x - 1)) (h * w)
+
+-- the position is walkable, and that in the direction is in the grid
+pub record Stepping (w h : ℕ) (cells : List ℕ) (x y dx dy : ℕ) : Type 0 where
+  pub nearby : Nearby w h x y dx dy
+  pub inside : Inside w h x y dx dy
+  pub cellsLong : length cells ≡ h * w
+  pub walks : walkable (gridOf w h cells) (at x y) ≡ true
+
+-- ---- lists that are lent throughout
+
+pub record Table (w h : ℕ) (cells masks : List ℕ) : Type 0 where
+  pub narrow : w ≤ 1024
+  pub short : h ≤ 1024
+  pub few : h * w ≤ 1048576
+  pub cellsLong : length cells ≡ h * w
+  pub masksLong : h * w ≤ length masks
+  pub mirrored : Mirrored (gridOf w h cells) masks
+
+-- a state with a cell that waits
+pub record Ready (w h : ℕ) (cells masks : List ℕ) (id : ℕ) (l q : List ℕ) (head tail : ℕ) : Type 0 where
+  pub table : Table w h cells masks
+  pub state : State (graphOf (gridOf w h cells) masks) id l q head 0 tail
+  pub busy : head < tail
+  pub some : 0 < id
+
+-- the cell c at (x, y), whose step in a direction is looked at
+pub record Visiting (w h : ℕ) (cells masks l q : List ℕ) (c x y dx dy tail : ℕ) : Type 0 where
+  pub table : Table w h cells masks
+  pub nearby : Nearby w h x y dx dy
+  pub isX : x ≡ c % w
+  pub isY : y ≡ c / w
+  pub inside : c < h * w
+  pub walks : walkable (gridOf w h cells) (at x y) ≡ true
+  pub labelsLong : h * w ≤ length l
+  pub queueLong : h * w ≤ length q
+  -- while a cell has no label the queue has room
+  pub room : (t : ℕ) → t < h * w → getD l t 0 ≡ 0 → tail < h * w
+
+pub table-of : {w h : ℕ} {cells masks l q : List ℕ} → Lent w h cells masks l q → Masked w h cells masks → Table w h cells masks
+unfolding isStep walkable
+table-of {w} {h} {cells} {masks} L (M, C) =
+    record {
+      narrow = L .narrow;
+      short = L .short;
+      few = mul-le-mul (L .short) (L .narrow);
+      cellsLong = L .cellsLong;
+      masksLong = L .masksLong;
+      mirrored =
+          subst (λ x. Mirrored (gridOf w h x) masks) (C .cells)
+          (subst (λ x. Mirrored (gridOf w x (M .cells)) masks) (C .height)
+          (subst (λ x. Mirrored (gridOf x (M .height) (M .cells)) masks) (C .width) (marks-mirrored M masks (C .marks))));
+    }
