@@ -10,3 +10,6 @@ pub mod Uncut
 pub mod Inner
 pub mod Toward
 pub mod Visit
+pub mod Table
+pub mod Mark
+pub mod Spread

@@ -72,7 +72,7 @@ not-step M p d n = go (isStep M p d) refl
     go false e = refl
 
 module _ (w h : ℕ) (cells : List ℕ) where
-  walkable-at : (x y : ℕ) → x < w → y < h → walkable (gridOf w h cells) (at x y) ≡ eqb (getD cells (y * w + x) 0 % 2) 1
+  pub walkable-at : (x y : ℕ) → x < w → y < h → walkable (gridOf w h cells) (at x y) ≡ eqb (getD cells (y * w + x) 0 % 2) 1
   unfolding walkable
   walkable-at x y a b = rw (lt-ltb x w a, lt-ltb y h b) refl
 

@@ -54,7 +54,7 @@ module _ (M : Map) where
     is : e ≡ record { lo = cell; hi = reached M cell (directionAt direction) }
 
   numbered : All (λ r. (d : ℕ) × ((d < 8) × (r ≡ directionAt d))) directions
-  numbered = all-by-place (at 1 1) directions (λ d h. (d, (h, refl)))
+  numbered = all-by-place (at 0 0) directions (λ d h. (d, (h, refl)))
 
   steps-found : All Found (allSteps M)
   unfolding allSteps onward neighbors
@@ -89,7 +89,7 @@ module _ (M : Map) where
       all-at (gather-at (λ c. map (edge M (positionOf M c)) (onward M (positionOf M c))) (cellCount M) (all-members (allSteps M)) c h)
       (Memᴰ·map (edge M (positionOf M c))
       (member-filter (λ q. ltb (index M (positionOf M c)) (index M q)) (neighbors M (positionOf M c))
-      (Memᴰ·map (toward (positionOf M c)) (member-filter (isStep M (positionOf M c)) directions (all-place (at 1 1) (all-members directions) d i) s))
+      (Memᴰ·map (toward (positionOf M c)) (member-filter (isStep M (positionOf M c)) directions (all-place (at 0 0) (all-members directions) d i) s))
       (lt-ltb (index M (positionOf M c)) (reached M c (directionAt d)) (omega (arith, index-position M c)))))
 
 -- ---- the masks say which steps are cut

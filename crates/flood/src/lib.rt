@@ -126,3 +126,57 @@ fn visit(
     queue[tail] = t as u32;
     tail + 1
 }
+
+// All directions of the cell at the queue's head.
+fn spread(width: usize, height: usize, cells: &[u8], masks: &[u16], labels: &mut [u32], queue: &mut [u32], id: u32, head: usize, tail: usize) -> usize
+    requires { ⌜ Ready width height (now cells) (now masks) id (now labels) (now queue) head tail ⌝ }
+    ensures { λ r. ⌜ Ran (graphOf (gridOf width height (now (cells .entry))) (now (masks .entry))) id (now (labels .entry)) (now (queue .entry)) tail (now (labels .exit)) (now (queue .exit)) (head + 1) 0 r ⌝ }
+{
+    let directions = DIRECTIONS;
+    let c = wide(queue[head]);
+    let x = c % width;
+    let y = c / width;
+    let mut end = tail;
+    for d in 0..8 {
+        end = visit(width, height, cells, masks, labels, queue, id, c, x, y, directions[d].x, directions[d].y, end);
+    }
+    end
+}
+
+// The queue from head on, until nothing waits.
+fn drain(width: usize, height: usize, cells: &[u8], masks: &[u16], labels: &mut [u32], queue: &mut [u32], id: u32, head: usize, tail: usize) -> usize
+    requires { ⌜ Ready width height (now cells) (now masks) id (now labels) (now queue) head tail ⌝ }
+    ensures { λ r. ⌜ Ran (graphOf (gridOf width height (now (cells .entry))) (now (masks .entry))) id (now (labels .entry)) (now (queue .entry)) tail (now (labels .exit)) (now (queue .exit)) r 0 r ⌝ }
+{
+    let mut end = tail;
+    let mut at = head;
+    while at < end {
+        end = spread(width, height, cells, masks, labels, queue, id, at, end);
+        at += 1;
+    }
+    end
+}
+
+// Labels every region and returns how many there are. The queue is left with the walkable cells, region by region.
+pub fn flood(width: usize, height: usize, cells: &[u8], masks: &[u16], labels: &mut [u32], queue: &mut [u32]) -> usize
+    requires { ⌜ Lent width height (now cells) (now masks) (now labels) (now queue) ⌝ }
+    requires { ⌜ Masked width height (now cells) (now masks) ⌝ }
+    ensures { λ r. ⌜ ((M : Map) → CutMap width height (now (cells .entry)) (now (masks .entry)) M → Flooded M (now (labels .entry)) (now (queue .entry)) (now (labels .exit)) (now (queue .exit)) r) ⌝ }
+{
+    let n = height * width;
+    let mut id: u32 = 0;
+    let mut tail = 0;
+    let mut start = 0;
+    while start < n {
+        if cells[start] % 2 == 1 {
+            if labels[start] == 0 {
+                id += 1;
+                labels[start] = id;
+                queue[tail] = start as u32;
+                tail = drain(width, height, cells, masks, labels, queue, id, tail, tail + 1);
+            }
+        }
+        start += 1;
+    }
+    wide(id)
+}

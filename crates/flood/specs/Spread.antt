@@ -1,0 +1,61 @@
+-- One turn of `spread`: what `visit` asks holds in the state, and what `visit` ensures leads to the state with one direction more. Assumes nothing.
+use Prim.Native.Nat.{ℕ, _+_, _*_, _/_, _%_, _≤_, _<_}
+use native.Mathlib.Omega.{arith}
+use native.Mathlib.Nat.{div-add-mod'}
+use mathlib.Core.Path.{_≡_, refl, sym, ap, ap₂, _∙_, subst}
+use mathlib.Core.Bool.{true}
+use mathlib.Core.List.{List}
+use lib.ListN.{getD}
+use lib.Dec.{eqb}
+use Rattle.definitions.specs.Grid.{Position, at, walkable}
+use Rattle.definitions.specs.Partition.{walkableAt}
+use Rattle.laws.specs.GraphLaws.{Laws}
+use Rattle.flood.specs.Ways.{directionAt, direction-near}
+use Rattle.flood.specs.GridGraph.{landing, graphOf, graph-laws}
+use Rattle.flood.specs.State.{used-walks, spare, Ran, ran-then, Visited, visited-ran}
+use Rattle.flood.specs.Inner.{gridOf, Table, Ready, Visiting}
+use Rattle.flood.specs.Toward.{walkable-at, cell-x, cell-y}
+
+pub table-laws : {w h : ℕ} {cells masks : List ℕ} → Table w h cells masks → Laws (graphOf (gridOf w h cells) masks)
+table-laws {w} {h} {cells} {masks} T = graph-laws (gridOf w h cells) masks (T .mirrored)
+
+module _ {w h : ℕ} {cells masks : List ℕ} {id : ℕ} {was waited l q : List ℕ} {head tail d end c dx dy : ℕ} (S : Ready w h cells masks id was waited head tail) (R : Ran (graphOf (gridOf w h cells) masks) id was waited tail l q head d end) (one : d < 8) (is-c : c ≡ getD waited head 0) (is-d : at dx dy ≡ directionAt d) where
+  at-head : c ≡ getD q head 0
+  at-head = is-c ∙ sym (R .stays head (S .busy))
+
+  busy : head < end
+  busy = omega (arith, S .busy, R .longer)
+
+  in-grid : c < h * w
+  in-grid = omega (arith, at-head, R .state .cell head busy)
+
+  walks : walkableAt (gridOf w h cells) c ≡ true
+  walks = ap (walkableAt (gridOf w h cells)) at-head ∙ used-walks (R .state) (getD q head 0) (R .state .cell head busy) (R .state .marked head busy)
+
+  pub visiting : Visiting w h cells masks l q c (c % w) (c / w) dx dy end
+  visiting =
+      record {
+        table = S .table;
+        nearby =
+            record {
+              narrow = S .table .narrow;
+              short = S .table .short;
+              inX = cell-x c w h in-grid;
+              inY = cell-y c w h in-grid;
+              nearX = omega (arith, ap (λ p. p .x) is-d, direction-near d one .0);
+              nearY = omega (arith, ap (λ p. p .y) is-d, direction-near d one .1);
+            };
+        isX = refl;
+        isY = refl;
+        inside = in-grid;
+        walks = walkable-at w h cells (c % w) (c / w) (cell-x c w h in-grid) (cell-y c w h in-grid) ∙ ap (walkableAt (gridOf w h cells)) (div-add-mod' c w) ∙ walks;
+        labelsLong = R .state .long;
+        queueLong = R .state .room;
+        room = spare (R .state);
+      }
+
+  pub spread-visited : {l2 q2 : List ℕ} {end2 : ℕ} → Visited (h * w) (landing (gridOf w h cells) masks c (at dx dy)) id l q end l2 q2 end2 → Ran (graphOf (gridOf w h cells) masks) id was waited tail l2 q2 head (d + 1) end2
+  spread-visited {l2} {q2} {end2} v =
+      ran-then R
+      (visited-ran (table-laws (S .table)) (R .state) busy one (S .some)
+      (subst (λ t. Visited (h * w) t id l q end l2 q2 end2) (ap₂ (landing (gridOf w h cells) masks) at-head is-d) v))
