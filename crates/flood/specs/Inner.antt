@@ -80,13 +80,16 @@ pub record Visiting (w h : ℕ) (cells masks l q : List ℕ) (c x y dx dy tail :
   -- while a cell has no label the queue has room
   pub room : (t : ℕ) → t < h * w → getD l t 0 ≡ 0 → tail < h * w
 
+pub few-of : {w h : ℕ} {cells masks l q : List ℕ} → Lent w h cells masks l q → h * w ≤ 1048576
+few-of L = mul-le-mul (L .short) (L .narrow)
+
 pub table-of : {w h : ℕ} {cells masks l q : List ℕ} → Lent w h cells masks l q → Masked w h cells masks → Table w h cells masks
 unfolding isStep walkable
 table-of {w} {h} {cells} {masks} L (M, C) =
     record {
       narrow = L .narrow;
       short = L .short;
-      few = mul-le-mul (L .short) (L .narrow);
+      few = few-of L;
       cellsLong = L .cellsLong;
       masksLong = L .masksLong;
       mirrored =

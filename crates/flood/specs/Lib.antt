@@ -13,3 +13,4 @@ pub mod Visit
 pub mod Table
 pub mod Mark
 pub mod Spread
+pub mod Flooding

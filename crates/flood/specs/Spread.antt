@@ -13,11 +13,15 @@ use Rattle.laws.specs.GraphLaws.{Laws}
 use Rattle.flood.specs.Ways.{directionAt, direction-near}
 use Rattle.flood.specs.GridGraph.{landing, graphOf, graph-laws}
 use Rattle.flood.specs.State.{used-walks, spare, Ran, ran-then, Visited, visited-ran}
-use Rattle.flood.specs.Inner.{gridOf, Table, Ready, Visiting}
+use Rattle.flood.specs.Contract.{Lent, Masked}
+use Rattle.flood.specs.Inner.{gridOf, Table, Ready, Visiting, table-of}
 use Rattle.flood.specs.Toward.{walkable-at, cell-x, cell-y}
 
 pub table-laws : {w h : ℕ} {cells masks : List ℕ} → Table w h cells masks → Laws (graphOf (gridOf w h cells) masks)
 table-laws {w} {h} {cells} {masks} T = graph-laws (gridOf w h cells) masks (T .mirrored)
+
+pub laws-of : {w h : ℕ} {cells masks l q : List ℕ} → Lent w h cells masks l q × Masked w h cells masks → Laws (graphOf (gridOf w h cells) masks)
+laws-of p = table-laws (table-of (p .0) (p .1))
 
 module _ {w h : ℕ} {cells masks : List ℕ} {id : ℕ} {was waited l q : List ℕ} {head tail d end c dx dy : ℕ} (S : Ready w h cells masks id was waited head tail) (R : Ran (graphOf (gridOf w h cells) masks) id was waited tail l q head d end) (one : d < 8) (is-c : c ≡ getD waited head 0) (is-d : at dx dy ≡ directionAt d) where
   at-head : c ≡ getD q head 0
