@@ -14,3 +14,4 @@ pub mod Table
 pub mod Mark
 pub mod Spread
 pub mod Flooding
+pub mod MarkStep

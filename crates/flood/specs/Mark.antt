@@ -1,12 +1,12 @@
--- A bit of a mask is set. Facts on the nine bits are tests that compute. Setting the two bits of a step adds exactly that step to the steps that the masks say
--- are cut (`mark-adds`): a step is known by either of its cells with the direction from there. Assumes nothing.
+-- A bit of a mask is set: what becomes of the bits (`mark-bit`), and that the code's shift sets it (`mark-code`). Facts on the nine bits are tests that compute.
+-- Assumes nothing.
 use Prim.Native.Nat.{ℕ, zero, suc, _+_, _-_, _*_, _/_, _%_, _^_, _≤_, _<_, min, max}
 use native.Mathlib.Omega.{arith}
 use mathlib.Core.Path.{_≡_, refl, sym, ap, ap₂, _∙_}
 use mathlib.Core.Bool.{Bool, true, false, _&&_, _||_, cond, true≢false, or-false}
 use mathlib.Core.Logic.{⊎-elim}
 use mathlib.Core.List.{List, [], _∷_}
-use lib.ListN.{length, getD, set}
+use lib.ListN.{length, getD, set, length-set}
 use lib.Seq.{getD-set-same, getD-set-other}
 use lib.Dec.{eqb}
 use lib.Bits.{bitOr, or-step, or-shr}
@@ -50,6 +50,15 @@ or-bit m j k h i = ap (λ x. eqb x 1) odd ∙ go (eqb j k) (m / 2 ^ j % 2) (omeg
     go false zero s = refl
     go false (suc zero) s = refl
     go b (suc (suc x)) s = absurd (omega arith)
+
+pub withBit-length : (masks : List ℕ) (c k : ℕ) → length (withBit masks c k) ≡ length masks
+unfolding withBit
+withBit-length masks c k = length-set masks c (bitOr (getD masks c 0) (2 ^ k))
+
+-- no other mask changes
+pub withBit-other : (masks : List ℕ) (c k b : ℕ) → (b ≡ c → ⊥) → getD (withBit masks c k) b 0 ≡ getD masks b 0
+unfolding withBit
+withBit-other masks c k b e = getD-set-other masks c b (bitOr (getD masks c 0) (2 ^ k)) 0 e
 
 -- the bits after one is set
 pub mark-bit : (masks : List ℕ) (c k : ℕ) → c < length masks → k < 9 → (b j : ℕ) → j < 9 → cutBit (withBit masks c k) b j ≡ (cutBit masks b j || (eqb b c && eqb j k))
