@@ -1,24 +1,13 @@
--- The words of the inner functions' contracts, over the grid of the lent bytes, and what they say of one another. Assumes nothing.
+-- The words of the other functions' contracts, over the grid of the lent bytes. Definitions only; assumes nothing.
 use Prim.Native.Nat.{ℕ, _+_, _-_, _*_, _/_, _%_, _≤_, _<_}
-use native.Mathlib.Omega.{arith}
-use native.Mathlib.Nat.{mul-le-mul}
-use mathlib.Core.Path.{_≡_, refl, sym, subst}
-use mathlib.Core.Bool.{Bool, true, _&&_, cond}
-use mathlib.Core.List.{List, []}
+use mathlib.Core.Path.{_≡_}
+use mathlib.Core.Bool.{true, _&&_, cond}
+use mathlib.Core.List.{List}
 use lib.ListN.{length, getD}
 use lib.Dec.{leb}
-use Rattle.definitions.specs.Grid.{Map, Position, at, toward, isStep, walkable}
-use Rattle.definitions.specs.Partition.{walkableAt}
-use Rattle.flood.specs.Masks.{cutBit}
-use Rattle.flood.specs.GridGraph.{landing, graphOf, Mirrored}
+use Rattle.definitions.specs.Grid.{Position, at, walkable}
+use Rattle.flood.specs.Walk.{gridOf, graphOf, Mirrored}
 use Rattle.flood.specs.State.{State}
-use Rattle.flood.specs.Outer.{Outer}
-use Rattle.flood.specs.Contract.{Lent, CutMap, Masked, Flooded}
-use Rattle.flood.specs.Uncut.{marks-mirrored}
-
--- the map of the lent bytes: steps and walkable cells depend on nothing else
-abbrev pub gridOf : ℕ → ℕ → List ℕ → Map
-gridOf w h cells = record { width = w; height = h; cells = cells; spans = []; boundaries = []; anchors = [] }
 
 -- ---- a direction of a position
 
@@ -79,21 +68,3 @@ pub record Visiting (w h : ℕ) (cells masks l q : List ℕ) (c x y dx dy tail :
   pub queueLong : h * w ≤ length q
   -- while a cell has no label the queue has room
   pub room : (t : ℕ) → t < h * w → getD l t 0 ≡ 0 → tail < h * w
-
-pub few-of : {w h : ℕ} {cells masks l q : List ℕ} → Lent w h cells masks l q → h * w ≤ 1048576
-few-of L = mul-le-mul (L .short) (L .narrow)
-
-pub table-of : {w h : ℕ} {cells masks l q : List ℕ} → Lent w h cells masks l q → Masked w h cells masks → Table w h cells masks
-unfolding isStep walkable
-table-of {w} {h} {cells} {masks} L (M, C) =
-    record {
-      narrow = L .narrow;
-      short = L .short;
-      few = few-of L;
-      cellsLong = L .cellsLong;
-      masksLong = L .masksLong;
-      mirrored =
-          subst (λ x. Mirrored (gridOf w h x) masks) (C .cells)
-          (subst (λ x. Mirrored (gridOf w x (M .cells)) masks) (C .height)
-          (subst (λ x. Mirrored (gridOf x (M .height) (M .cells)) masks) (C .width) (marks-mirrored M masks (C .marks))));
-    }

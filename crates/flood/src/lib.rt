@@ -4,10 +4,10 @@ ghost use Prim.Native.Nat.{_+_, _*_, _<_};
 ghost use lib.ListN.{length};
 ghost use Rattle.definitions.specs.Grid.{Map, at, isStep};
 ghost use Rattle.flood.specs.Masks.{cutBit, withBit};
-ghost use Rattle.flood.specs.GridGraph.{graphOf, landing};
+ghost use Rattle.flood.specs.Walk.{gridOf, graphOf, landing};
 ghost use Rattle.flood.specs.State.{Ran, Visited};
 ghost use Rattle.flood.specs.Contract.{Lent, CutMap, Masked, Flooded};
-ghost use Rattle.flood.specs.Inner.{gridOf, Nearby, cellToward, Stepping, Ready, Visiting};
+ghost use Rattle.flood.specs.Inner.{Nearby, cellToward, Stepping, Ready, Visiting};
 
 // A direction, each coordinate moved by 1 so that none is negative.
 pub struct Direction {

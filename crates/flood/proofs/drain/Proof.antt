@@ -2,9 +2,9 @@
 -- the queue holds no cell twice. Assumes nothing.
 use Prim.Native.Nat.{_-_, _*_}
 use native.Mathlib.Omega.{arith}
-use Rattle.flood.specs.GridGraph.{graphOf}
-use Rattle.flood.specs.State.{tail-le, Ran, ran-start, ran-then, ran-rest}
-use Rattle.flood.specs.Inner.{gridOf}
+use Rattle.flood.specs.Walk.{graphOf, gridOf}
+use Rattle.flood.specs.State.{Ran}
+use Rattle.flood.proofs.States.{tail-le, ran-start, ran-then, ran-rest}
 use Rattle.flood.proofs.drain.Statement.{statement}
 use Rattle.flood.proofs.drain.Tie as tie
 

@@ -4,11 +4,10 @@ use native.Mathlib.Omega.{arith}
 use mathlib.Core.Logic.{⊎-elim}
 use borrow.Author.Needs.{needs}
 use borrow.Author.Tests.{eq-eqb, ne-eqb}
-use Rattle.flood.specs.GridGraph.{graphOf}
-use Rattle.flood.specs.Outer.{Outer, outer-start, seed, seed-room, flooded, blocked, known, outer-by, ids-le, outer-end}
-use Rattle.flood.specs.Inner.{gridOf, few-of, table-of}
-use Rattle.flood.specs.Spread.{laws-of}
-use Rattle.flood.specs.Flooding.{flooded-all}
+use Rattle.flood.specs.Walk.{graphOf, gridOf}
+use Rattle.flood.proofs.Outer.{Outer, outer-start, seed, seed-room, flooded, blocked, known, outer-by, ids-le, outer-end}
+use Rattle.flood.proofs.Turns.{few-of, table-of, laws-of}
+use Rattle.flood.proofs.Ending.{flooded-all}
 use Rattle.flood.proofs.flood.Statement.{statement}
 use Rattle.flood.proofs.flood.Tie as tie
 

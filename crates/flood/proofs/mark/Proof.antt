@@ -1,6 +1,6 @@
 -- `flood::mark` meets its contract: a shift by k is a product with 2 ^ k. Assumes nothing.
 use borrow.Author.Needs.{needs}
-use Rattle.flood.specs.Mark.{mark-code}
+use Rattle.flood.proofs.Bits.{mark-code}
 use Rattle.flood.proofs.mark.Statement.{statement}
 use Rattle.flood.proofs.mark.Tie as tie
 

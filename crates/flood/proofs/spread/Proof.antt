@@ -3,12 +3,12 @@
 use Prim.Native.Nat.{_≤_, _-_}
 use native.Mathlib.Omega.{arith}
 use borrow.Author.Needs.{needs}
-use Rattle.flood.specs.GridGraph.{graphOf}
-use Rattle.flood.specs.State.{tail-le, Ran, ran-start, ran-turn}
-use Rattle.flood.specs.Inner.{gridOf}
-use Rattle.flood.specs.Table.{table-at}
-use Rattle.flood.specs.Toward.{cell-wide}
-use Rattle.flood.specs.Spread.{visiting, spread-visited}
+use Rattle.flood.specs.Walk.{graphOf, gridOf}
+use Rattle.flood.specs.State.{Ran}
+use Rattle.flood.proofs.States.{tail-le, ran-start, ran-turn}
+use Rattle.flood.proofs.Table.{table-at}
+use Rattle.flood.proofs.Tests.{cell-wide}
+use Rattle.flood.proofs.Turns.{visiting, spread-visited}
 use Rattle.flood.proofs.spread.Statement.{statement}
 use Rattle.flood.proofs.spread.Tie as tie
 

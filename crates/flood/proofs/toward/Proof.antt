@@ -2,7 +2,7 @@
 use native.Mathlib.Omega.{arith}
 use borrow.Author.Needs.{needs}
 use Rattle.flood.specs.Inner.{Inside}
-use Rattle.flood.specs.Toward.{few, far-below, toward-in, toward-out}
+use Rattle.flood.proofs.Tests.{toward-in, toward-out, grid-small, Cells, cells-in}
 use Rattle.flood.proofs.toward.Statement.{statement}
 use Rattle.flood.proofs.toward.Tie as tie
 
@@ -10,8 +10,11 @@ use Rattle.flood.proofs.toward.Tie as tie
 inside : (c : tie.Else4) → let a = c .before .before .before .before .args in Inside (a .width) (a .height) (a .x) (a .y) (a .dx) (a .dy)
 inside c = record { left = c .before .before .before .if1 .left; up = c .before .before .if2 .left; right = c .before .if3 .left; down = c .if4 .left }
 
+cells : (c : tie.Else4) → let a = c .before .before .before .before .args in Cells (a .width) (a .height) (a .x) (a .y) (a .dx) (a .dy)
+cells c = let a = c .before .before .before .before .args in cells-in (a .width) (a .height) (a .x) (a .y) (a .dx) (a .dy) (c .before .before .before .before .pre) (inside c)
+
 mul-n : tie.Need-mul-n
-mul-n c = let a = c .args in omega (arith, few (a .width) (a .height) (a .x) (a .y) (a .dx) (a .dy) (c .pre))
+mul-n c = let a = c .args in omega (arith, grid-small (a .width) (a .height) (a .x) (a .y) (a .dx) (a .dy) (c .pre))
 
 add-i : tie.Need-add-i
 add-i c = search needs
@@ -32,16 +35,10 @@ returns-4 : tie.Need-returns-4
 returns-4 c = let a = c .before .before .before .before .args in toward-out (a .width) (a .height) (a .x) (a .y) (a .dx) (a .dy) (λ i. omega (arith, c .if4 .taken, i .down))
 
 mul-result : tie.Need-mul-result
-mul-result c =
-    let s = c .before .before .before .before in
-    let a = s .args in
-    omega (arith, far-below (a .width) (a .height) (a .x) (a .y) (a .dx) (a .dy) (s .pre) (inside c), few (a .width) (a .height) (a .x) (a .y) (a .dx) (a .dy) (s .pre))
+mul-result c = omega (arith, cells c)
 
 add-result : tie.Need-add-result
-add-result c =
-    let s = c .before .before .before .before in
-    let a = s .args in
-    omega (arith, far-below (a .width) (a .height) (a .x) (a .y) (a .dx) (a .dy) (s .pre) (inside c), few (a .width) (a .height) (a .x) (a .y) (a .dx) (a .dy) (s .pre))
+add-result c = omega (arith, cells c)
 
 returns-5 : tie.Need-returns-5
 returns-5 c = let a = c .before .before .before .before .args in toward-in (a .width) (a .height) (a .x) (a .y) (a .dx) (a .dy) (inside c)

@@ -3,7 +3,7 @@ use native.Mathlib.Omega.{arith}
 use mathlib.Core.Path.{sym, _∙_}
 use borrow.Author.Needs.{needs}
 use borrow.Author.Tests.{not-true, not-false}
-use Rattle.flood.specs.Visit.{stepping, visit-outside, visit-labelled, visit-blocked, visit-cut, visit-taken}
+use Rattle.flood.proofs.Visits.{stepping, visit-outside, visit-labelled, visit-blocked, visit-cut, visit-taken}
 use Rattle.flood.proofs.visit.Statement.{statement}
 use Rattle.flood.proofs.visit.Tie as tie
 

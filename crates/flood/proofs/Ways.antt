@@ -5,14 +5,11 @@ use native.Mathlib.Omega.{arith}
 use mathlib.Core.Path.{_≡_, refl, sym, ap, _∙_}
 use mathlib.Core.List.{List, [], _∷_, map}
 use lib.ListN.{length, getD, List·getD-map}
-use Rattle.definitions.specs.Grid.{Position, at, directions}
+use Rattle.definitions.specs.Grid.{at, directions}
 use Rattle.laws.specs.Lists.{All, done, more}
 use Rattle.laws.specs.Members.{all-place}
 use Rattle.flood.specs.Masks.{opposite}
-
--- direction d, for d below 8
-abbrev pub directionAt : ℕ → Position
-directionAt d = getD directions d (at 0 0)
+use Rattle.flood.specs.Walk.{directionAt}
 
 abbrev opposites : List ℕ
 opposites = 3 ∷ 2 ∷ 1 ∷ 0 ∷ 7 ∷ 6 ∷ 5 ∷ 4 ∷ []

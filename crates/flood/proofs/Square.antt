@@ -1,10 +1,10 @@
 -- Steps of the grid, place by place of the square of nine about a cell: what `isStep` tests (`Four`), cells and positions, and the step back (`across`).
 -- Of a step's four cells the step back has the same four, so it is a step. Assumes nothing.
-use Prim.Native.Nat.{ℕ, _+_, _-_, _*_, _/_, _%_, _≤_, _<_}
+use Prim.Native.Nat.{ℕ, _+_, _-_, _*_, _≤_, _<_}
 use native.Mathlib.Omega.{arith}
 use native.Mathlib.Nat.{div-add-mod'}
 use mathlib.Core.Path.{_≡_, refl, sym, ap, ap₂, _∙_}
-use mathlib.Core.Bool.{Bool, true, false, _&&_}
+use mathlib.Core.Bool.{true, _&&_}
 use lib.Arith.{digits-lt, digits-div, digits-mod}
 use lib.Dec.{ltb, leb}
 use borrow.Author.Tests.{ltb-true, leb-true, le-leb}

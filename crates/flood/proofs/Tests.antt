@@ -10,10 +10,11 @@ use lib.ListN.{getD}
 use lib.Arith.{digits-lt}
 use lib.Dec.{eqb, leb}
 use borrow.Author.Tests.{leb-true, le-leb, lt-ltb, eqb-true, eq-eqb}
-use Rattle.definitions.specs.Grid.{Map, Position, at, index, walkable, isStep}
+use Rattle.definitions.specs.Grid.{Map, Position, at, walkable, isStep}
 use Rattle.laws.specs.Tests.{both}
-use Rattle.flood.specs.Square.{Four, four, walkable-in}
-use Rattle.flood.specs.Inner.{gridOf, Nearby, Inside, cellToward}
+use Rattle.flood.specs.Walk.{gridOf}
+use Rattle.flood.specs.Inner.{Nearby, Inside, cellToward}
+use Rattle.flood.proofs.Square.{Four, four, walkable-in}
 
 module _ (w h x y dx dy : ℕ) where
   abbrev test : Bool
@@ -47,20 +48,24 @@ module _ (w h x y dx dy : ℕ) where
       go true e = test-inside e
       go false e = absurd (omega (arith, ap (λ b. cond b ((y + dy - 1) * w + (x + dx - 1)) (h * w)) e))
 
-  module _ (N : Nearby w h x y dx dy) where
-    pub few : h * w ≤ 1048576
-    few = mul-le-mul (N .short) (N .narrow)
+  pub grid-small : Nearby w h x y dx dy → h * w ≤ 1048576
+  grid-small N = mul-le-mul (N .short) (N .narrow)
 
-    module _ (I : Inside w h x y dx dy) where
-      -- the three cells beside the first are in the grid
-      pub far-below : (y + dy - 1) * w + (x + dx - 1) < h * w
-      far-below = digits-lt (omega (arith, I .up, I .down)) (omega (arith, I .left, I .right))
+  -- the three cells beside the first are in the grid, which is small
+  pub record Cells : Type 0 where
+    pub small : h * w ≤ 1048576
+    pub far : (y + dy - 1) * w + (x + dx - 1) < h * w
+    pub side : y * w + (x + dx - 1) < h * w
+    pub under : (y + dy - 1) * w + x < h * w
 
-      pub side-below : y * w + (x + dx - 1) < h * w
-      side-below = digits-lt (N .inY) (omega (arith, I .left, I .right))
+  pub cells-in : Nearby w h x y dx dy → Inside w h x y dx dy → Cells
+  cells-in N I = record { small = grid-small N; far = digits-lt down right; side = digits-lt (N .inY) right; under = digits-lt down (N .inX) }
+    where
+      right : x + dx - 1 < w
+      right = omega (arith, I .left, I .right)
 
-      pub under-below : (y + dy - 1) * w + x < h * w
-      under-below = digits-lt (omega (arith, I .up, I .down)) (N .inX)
+      down : y + dy - 1 < h
+      down = omega (arith, I .up, I .down)
 
 -- ---- the four cells
 

@@ -5,7 +5,7 @@ use mathlib.Core.List.{List, [], _∷_, map}
 use lib.ListN.{getD, List·getD-map}
 use Rattle.definitions.specs.Grid.{Position, at, directions}
 use Rattle.flood.specs.declared.Direction.{Direction}
-use Rattle.flood.specs.Ways.{directionAt}
+use Rattle.flood.specs.Walk.{directionAt}
 
 abbrev pub direction : ℕ → ℕ → Direction
 direction x y = record { x = x; y = y }

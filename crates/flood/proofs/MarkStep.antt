@@ -1,7 +1,7 @@
 -- Setting the two bits of a step adds exactly that step to the steps that the masks say are cut (`mark-adds`), and masks of zeros say that none is
 -- (`marks-none`): a loop that marks every cut step both ways ends with masks as the flood asks. A step is known by either of its cells with the direction from
 -- there, since a cell reaches another in one direction only, and a direction is known by its bit. Assumes nothing.
-use Prim.Native.Nat.{ℕ, _+_, _-_, _*_, _/_, _%_, _^_, _≤_, _<_, min, max}
+use Prim.Native.Nat.{ℕ, _-_, _/_, _%_, _^_, _≤_, _<_, min, max}
 use native.Mathlib.Omega.{arith}
 use native.Mathlib.Nat.{zero-div}
 use mathlib.Core.Path.{_≡_, refl, sym, ap, ap₂, _∙_}
@@ -16,8 +16,8 @@ use Rattle.definitions.specs.Grid.{Map, Position, at, Pair, pairEq, cellCount, 
 use Rattle.laws.specs.Tests.{both}
 use Rattle.laws.specs.Lists.{any-append}
 use Rattle.flood.specs.Masks.{bitOf, opposite, cutBit, withBit, reached, stepPair, Marks}
-use Rattle.flood.specs.Square.{Four, four, position-index, walkable-in, Across, across}
-use Rattle.flood.specs.Mark.{withBit-length, mark-bit}
+use Rattle.flood.proofs.Square.{Four, four, Across, across}
+use Rattle.flood.proofs.Bits.{withBit-length, mark-bit}
 
 -- ---- tests by `||` and `&&`
 

@@ -1,28 +1,17 @@
--- The graph that the flood walks: the cells of a grid, from each the steps in the eight directions that the masks do not cut, and names by merging these
--- steps. It has the laws of a graph if the two bits of each step agree (`Mirrored`), since then each step has its step back. Assumes nothing.
-use Prim.Native.Nat.{ℕ, _+_, _-_, _*_, _≤_, _<_}
+-- The graph that the flood walks has the laws of a graph if the two bits of each step agree (`Mirrored`), since then each step has its step back.
+-- Assumes nothing.
+use Prim.Native.Nat.{ℕ, _*_, _<_}
 use native.Mathlib.Omega.{arith}
-use mathlib.Core.Path.{_≡_, refl, sym, ap, ap₂, _∙_}
+use mathlib.Core.Path.{_≡_, refl, ap, ap₂, _∙_}
 use mathlib.Core.Bool.{Bool, true, false, not, _&&_, cond}
-use mathlib.Core.List.{List, []}
-use Rattle.definitions.specs.Grid.{Map, Position, at, isStep, positionOf, cellCount}
+use mathlib.Core.List.{List}
+use Rattle.definitions.specs.Grid.{Map, Position, isStep, positionOf}
 use Rattle.definitions.specs.Partition.{walkableAt}
-use Rattle.laws.specs.GraphLaws.{Graph, Laws, Leads, graphBy, laws-by}
+use Rattle.laws.specs.GraphLaws.{Laws, Leads, laws-by}
 use Rattle.flood.specs.Masks.{bitOf, opposite, cutBit, reached}
-use Rattle.flood.specs.Ways.{directionAt, oppositeWay, opposite-direction, opposite-below}
-use Rattle.flood.specs.Square.{near-walkable, Across, across}
-
--- the cell that an uncut step in direction d of cell c leads to; the number of cells where there is none
-unfoldable pub landing : Map → List ℕ → ℕ → Position → ℕ
-unfolding isStep cutBit
-landing M masks c d = cond (isStep M (positionOf M c) d && not (cutBit masks c (bitOf d))) (reached M c d) (M .height * M .width)
-
-abbrev pub graphOf : Map → List ℕ → Graph
-graphOf M masks = graphBy (M .height * M .width) 8 (walkableAt M) (λ c d. landing M masks c (directionAt d))
-
--- the two bits of a step agree
-abbrev pub Mirrored : Map → List ℕ → Type 0
-Mirrored M masks = (c : ℕ) (d : Position) → c < M .height * M .width → isStep M (positionOf M c) d ≡ true → cutBit masks (reached M c d) (bitOf (opposite d)) ≡ cutBit masks c (bitOf d)
+use Rattle.flood.specs.Walk.{directionAt, landing, graphOf, Mirrored}
+use Rattle.flood.proofs.Square.{near-walkable, Across, across}
+use Rattle.flood.proofs.Ways.{oppositeWay, opposite-direction, opposite-below}
 
 module _ (M : Map) (masks : List ℕ) (c : ℕ) (d : Position) where
   pub landing-goes : isStep M (positionOf M c) d ≡ true → cutBit masks c (bitOf d) ≡ false → landing M masks c d ≡ reached M c d

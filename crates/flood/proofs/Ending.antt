@@ -2,23 +2,20 @@
 -- Assumes nothing.
 use Prim.Native.Nat.{ℕ, _*_, _<_}
 use native.Mathlib.Omega.{arith}
-use mathlib.Core.Path.{_≡_, refl, sym, ap, ap₂, _∙_, subst}
-use mathlib.Core.Bool.{Bool}
+use mathlib.Core.Path.{_≡_, sym, ap, ap₂, _∙_, subst}
 use mathlib.Core.List.{List, _++_}
 use lib.ListN.{length, getD, take, drop, take-append-drop}
 use lib.Seq.{length-take-le, getD-take, ext-getD}
-use Rattle.definitions.specs.Scan.{countBelow}
 use Rattle.definitions.specs.Grid.{Map, cellCount, isStep, walkable}
 use Rattle.definitions.specs.Lists.{overwrite}
 use Rattle.definitions.specs.Partition.{cutAll, labels}
 use Rattle.laws.specs.Regions.{labels-length}
 use Rattle.flood.specs.Masks.{Marks}
-use Rattle.flood.specs.GridGraph.{graphOf, landing}
-use Rattle.flood.specs.State.{label, used-walks}
-use Rattle.flood.specs.Outer.{Outer, used-is-walk, all-walkable, label-at-end}
+use Rattle.flood.specs.Walk.{graphOf, landing, gridOf}
 use Rattle.flood.specs.Contract.{CutMap, walkableCount, Grouped, Flooded}
-use Rattle.flood.specs.Uncut.{graph-label, graph-count}
-use Rattle.flood.specs.Inner.{gridOf}
+use Rattle.flood.proofs.States.{used-walks}
+use Rattle.flood.proofs.Outer.{Outer, used-is-walk, all-walkable, label-at-end}
+use Rattle.flood.proofs.Uncut.{graph-label, graph-count}
 
 module _ (M : Map) (masks : List ℕ) (marks : Marks M masks (cutAll M)) {was waited : List ℕ} {id : ℕ} {l q : List ℕ} {tail : ℕ} (O : Outer (graphOf M masks) was waited id l q tail (M .height * M .width)) where
   abbrev n : ℕ

@@ -1,26 +1,28 @@
 -- The uncut steps of a map, where the masks say which steps its spans cut: they are the ways of the masks' graph. So the names by merging the one are the
 -- names by merging the other (`same-root`), and the graph's labels and number of names are the map's. Assumes nothing.
-use Prim.Native.Nat.{ℕ, suc, _+_, _-_, _*_, _≤_, _<_, min, max}
+use Prim.Native.Nat.{ℕ, suc, _*_, _≤_, _<_}
 use native.Mathlib.Omega.{arith}
 use mathlib.Core.Path.{_≡_, refl, sym, ap, ap₂, _∙_, subst}
 use mathlib.Core.Bool.{Bool, true, false, not, _&&_, cond, false≢true}
-use mathlib.Core.List.{List, [], _∷_, map, List·Memᴰ, List·Memᴰ·head, List·Memᴰ·tail, Memᴰ·map}
+use mathlib.Core.List.{List, _∷_, map, List·Memᴰ, List·Memᴰ·head, List·Memᴰ·tail, Memᴰ·map}
 use lib.ListN.{getD}
 use lib.Dec.{eqb, ltb}
 use borrow.Author.Tests.{ltb-true, ltb-false, lt-ltb, not-true}
-use Rattle.definitions.specs.Scan.{run, countBelow, gather, filter, any}
+use Rattle.definitions.specs.Scan.{countBelow, filter, any}
 use Rattle.definitions.specs.Grid.{Map, Position, at, Pair, pairEq, edge, isStep, toward, index, positionOf, directions, neighbors, onward, cellCount}
-use Rattle.definitions.specs.Partition.{Joined, here, along, back, mergeAll, allSteps, cutAll, uncut, roots, labels, regionCount, walkableAt, isRoot}
-use Rattle.laws.specs.Lists.{All, done, more, all-map, all-both, all-filter}
+use Rattle.definitions.specs.Partition.{Joined, here, along, back, allSteps, cutAll, uncut, roots, labels, regionCount, walkableAt, isRoot}
+use Rattle.laws.specs.Lists.{All, all-map, all-both, all-filter}
 use Rattle.laws.specs.Members.{all-at, all-place, all-members, all-mapped, filter-passes}
 use Rattle.laws.specs.Below.{count-ext, gather-below, gather-at}
 use Rattle.laws.specs.Regions.{label-walkable}
-use Rattle.laws.specs.GraphLaws.{Graph, Laws, Way, Same, merged-laws, one-root, waysOf}
+use Rattle.laws.specs.GraphLaws.{Way, Same, merged-laws, one-root}
 use Rattle.flood.specs.Masks.{bitOf, opposite, cutBit, reached, stepPair, Marks}
-use Rattle.flood.specs.Ways.{directionAt, oppositeWay, opposite-direction, opposite-below, all-by-place}
-use Rattle.flood.specs.Square.{index-position, near-walkable, Across, across}
-use Rattle.flood.specs.GridGraph.{landing, graphOf, Mirrored, landing-goes, Goes, goes, graph-laws}
-use Rattle.flood.specs.State.{isName, label, label-walks, label-blocked}
+use Rattle.flood.specs.Walk.{directionAt, landing, graphOf, Mirrored}
+use Rattle.flood.specs.State.{isName, label}
+use Rattle.flood.proofs.Square.{index-position, near-walkable, Across, across}
+use Rattle.flood.proofs.Ways.{oppositeWay, opposite-direction, opposite-below, all-by-place}
+use Rattle.flood.proofs.Graph.{landing-goes, Goes, goes, graph-laws}
+use Rattle.flood.proofs.States.{label-walks, label-blocked}
 
 -- ---- members
 

@@ -1,21 +1,41 @@
 -- One turn of `spread`: what `visit` asks holds in the state, and what `visit` ensures leads to the state with one direction more. Assumes nothing.
 use Prim.Native.Nat.{ℕ, _+_, _*_, _/_, _%_, _≤_, _<_}
 use native.Mathlib.Omega.{arith}
-use native.Mathlib.Nat.{div-add-mod'}
+use native.Mathlib.Nat.{div-add-mod', mul-le-mul}
 use mathlib.Core.Path.{_≡_, refl, sym, ap, ap₂, _∙_, subst}
 use mathlib.Core.Bool.{true}
 use mathlib.Core.List.{List}
 use lib.ListN.{getD}
-use lib.Dec.{eqb}
-use Rattle.definitions.specs.Grid.{Position, at, walkable}
+use Rattle.definitions.specs.Grid.{at, walkable, isStep}
 use Rattle.definitions.specs.Partition.{walkableAt}
 use Rattle.laws.specs.GraphLaws.{Laws}
-use Rattle.flood.specs.Ways.{directionAt, direction-near}
-use Rattle.flood.specs.GridGraph.{landing, graphOf, graph-laws}
-use Rattle.flood.specs.State.{used-walks, spare, Ran, ran-then, Visited, visited-ran}
+use Rattle.flood.specs.Walk.{gridOf, directionAt, landing, graphOf, Mirrored}
+use Rattle.flood.specs.State.{Ran, Visited}
 use Rattle.flood.specs.Contract.{Lent, Masked}
-use Rattle.flood.specs.Inner.{gridOf, Table, Ready, Visiting, table-of}
-use Rattle.flood.specs.Toward.{walkable-at, cell-x, cell-y}
+use Rattle.flood.specs.Inner.{Table, Ready, Visiting}
+use Rattle.flood.proofs.Ways.{direction-near}
+use Rattle.flood.proofs.Graph.{graph-laws}
+use Rattle.flood.proofs.Uncut.{marks-mirrored}
+use Rattle.flood.proofs.States.{used-walks, spare, ran-then, visited-ran}
+use Rattle.flood.proofs.Tests.{walkable-at, cell-x, cell-y}
+
+pub few-of : {w h : ℕ} {cells masks l q : List ℕ} → Lent w h cells masks l q → h * w ≤ 1048576
+few-of L = mul-le-mul (L .short) (L .narrow)
+
+pub table-of : {w h : ℕ} {cells masks l q : List ℕ} → Lent w h cells masks l q → Masked w h cells masks → Table w h cells masks
+unfolding isStep walkable
+table-of {w} {h} {cells} {masks} L (M, C) =
+    record {
+      narrow = L .narrow;
+      short = L .short;
+      few = few-of L;
+      cellsLong = L .cellsLong;
+      masksLong = L .masksLong;
+      mirrored =
+          subst (λ x. Mirrored (gridOf w h x) masks) (C .cells)
+          (subst (λ x. Mirrored (gridOf w x (M .cells)) masks) (C .height)
+          (subst (λ x. Mirrored (gridOf x (M .height) (M .cells)) masks) (C .width) (marks-mirrored M masks (C .marks))));
+    }
 
 pub table-laws : {w h : ℕ} {cells masks : List ℕ} → Table w h cells masks → Laws (graphOf (gridOf w h cells) masks)
 table-laws {w} {h} {cells} {masks} T = graph-laws (gridOf w h cells) masks (T .mirrored)

@@ -1,19 +1,20 @@
 -- The ways through `visit`, for the cell t that `toward` gave: a step that lands in the grid lands on t, so that where t is outside or has a label there is
 -- nothing to do, and past the tests the step lands on t. Assumes nothing.
-use Prim.Native.Nat.{ℕ, _+_, _-_, _*_, _/_, _%_, _≤_, _<_}
+use Prim.Native.Nat.{ℕ, _+_, _-_, _*_, _≤_, _<_}
 use native.Mathlib.Omega.{arith}
-use mathlib.Core.Path.{_≡_, refl, sym, ap, ap₂, _∙_}
-use mathlib.Core.Bool.{Bool, true, false, true≢false}
+use mathlib.Core.Path.{_≡_, sym, ap, ap₂, _∙_}
+use mathlib.Core.Bool.{true, false, true≢false}
 use mathlib.Core.List.{List}
 use lib.ListN.{getD, set}
 use Rattle.definitions.specs.Grid.{Map, Position, at, toward, isStep, positionOf}
 use Rattle.flood.specs.Masks.{bitOf, cutBit, reached}
-use Rattle.flood.specs.Square.{Four, four, In, walkable-in}
-use Rattle.flood.specs.GridGraph.{landing, landing-goes, Goes, goes}
-use Rattle.flood.specs.Used.{used, used-some}
-use Rattle.flood.specs.State.{Visited, idle, taken}
-use Rattle.flood.specs.Inner.{gridOf, Inside, cellToward, Stepping, Visiting}
-use Rattle.flood.specs.Toward.{toward-in, toward-inside}
+use Rattle.flood.specs.Walk.{landing, gridOf}
+use Rattle.flood.specs.State.{used, Visited, idle, taken}
+use Rattle.flood.specs.Inner.{Inside, cellToward, Stepping, Visiting}
+use Rattle.flood.proofs.Square.{Four, four, In, walkable-in}
+use Rattle.flood.proofs.Graph.{landing-goes, goes}
+use Rattle.flood.proofs.Used.{used-some}
+use Rattle.flood.proofs.Tests.{toward-in, toward-inside}
 
 module _ {w h : ℕ} {cells masks l q : List ℕ} {c x y dx dy tail : ℕ} (S : Visiting w h cells masks l q c x y dx dy tail) where
   abbrev M : Map

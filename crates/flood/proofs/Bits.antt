@@ -1,11 +1,11 @@
 -- A bit of a mask is set: what becomes of the bits (`mark-bit`), and that the code's shift sets it (`mark-code`). Facts on the nine bits are tests that compute.
 -- Assumes nothing.
-use Prim.Native.Nat.{ℕ, zero, suc, _+_, _-_, _*_, _/_, _%_, _^_, _≤_, _<_, min, max}
+use Prim.Native.Nat.{ℕ, zero, suc, _+_, _*_, _/_, _%_, _^_, _<_, max}
 use native.Mathlib.Omega.{arith}
 use mathlib.Core.Path.{_≡_, refl, sym, ap, ap₂, _∙_}
-use mathlib.Core.Bool.{Bool, true, false, _&&_, _||_, cond, true≢false, or-false}
+use mathlib.Core.Bool.{Bool, true, false, _&&_, _||_, cond, or-false}
 use mathlib.Core.Logic.{⊎-elim}
-use mathlib.Core.List.{List, [], _∷_}
+use mathlib.Core.List.{List}
 use lib.ListN.{length, getD, set, length-set}
 use lib.Seq.{getD-set-same, getD-set-other}
 use lib.Dec.{eqb}
@@ -14,7 +14,7 @@ use borrow.Author.Tests.{eqb-true, eq-eqb, ne-eqb}
 use Rattle.definitions.specs.Scan.{allBelow}
 use Rattle.laws.specs.Tests.{both}
 use Rattle.flood.specs.Masks.{cutBit, withBit}
-use Rattle.flood.specs.Used.{same-or, last-or}
+use Rattle.flood.proofs.Used.{same-or, last-or}
 
 all-below : (f : ℕ → Bool) (n i : ℕ) → i < n → allBelow n f ≡ true → f i ≡ true
 unfolding allBelow

@@ -13,6 +13,7 @@ use lib.Arith.{lt-of-le-ne}
 use lib.Dec.{eqb, ltb}
 use borrow.Author.Tests.{ltb-true, ltb-false, lt-ltb, le-ltb, eqb-true, eqb-false}
 use Rattle.definitions.specs.Scan.{countBelow, bit}
+use Rattle.flood.specs.State.{used}
 
 -- ---- numbers below one more
 
@@ -65,9 +66,6 @@ module _ (f : ℕ → Bool) where
       more false k = omega arith
 
 -- ---- cells that have a label
-
-unfoldable pub used : List ℕ → ℕ → Bool
-used l c = ltb 0 (getD l c 0)
 
 module _ (l : List ℕ) (c : ℕ) where
   pub used-some : (getD l c 0 ≡ 0 → ⊥) → used l c ≡ true
