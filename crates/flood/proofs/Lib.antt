@@ -5,7 +5,6 @@ mod Used
 mod States
 mod Outer
 mod Uncut
-mod Table
 mod Tests
 mod Visits
 mod Turns

@@ -101,7 +101,7 @@ module _ {G : Graph} {id : ℕ} {l q : List ℕ} {head d tail : ℕ} (S : State 
           order = λ j k h i.
               ⊎-elim
               (λ e. rw (last k e)
-                  (each (λ c. label G c ≤ label G t) (λ m y. omega (arith, own, S .below _ (S .cell m y) (S .marked m y))) (omega arith) j (omega arith)))
+              (each (λ c. label G c ≤ label G t) (λ m y. omega (arith, own, S .below _ (S .cell m y) (S .marked m y))) (omega arith) j (omega arith)))
               (λ e. rw (old k e, old j (omega arith)) (S .order j k h e))
               (last-or k tail i);
           closed = λ k e h i. rw (old k (omega (arith, S .ends))) (λ r. keeps _ (S .closed k e h i r));
@@ -112,8 +112,19 @@ module _ {G : Graph} {id : ℕ} {l q : List ℕ} {head d tail : ℕ} (S : State 
   pub way : (G .to (getD q head 0) d < G .n → used l (G .to (getD q head 0) d) ≡ true) → State G id l q head (d + 1) tail
   way h =
       record {
-        long = S .long; room = S .room; ends = S .ends; count = S .count; cell = S .cell; marked = S .marked; found = S .found; apart = S .apart;
-        right = S .right; below = S .below; mine = S .mine; order = S .order; closed = S .closed;
+        long = S .long;
+        room = S .room;
+        ends = S .ends;
+        count = S .count;
+        cell = S .cell;
+        marked = S .marked;
+        found = S .found;
+        apart = S .apart;
+        right = S .right;
+        below = S .below;
+        mine = S .mine;
+        order = S .order;
+        closed = S .closed;
         part = λ e b. ⊎-elim (λ y. rw y h) (λ y. S .part e y) (last-or e d b);
       }
 
@@ -121,8 +132,18 @@ module _ {G : Graph} {id : ℕ} {l q : List ℕ} {head d tail : ℕ} (S : State 
   pub raise : head ≡ tail → State G (id + 1) l q head d tail
   raise e =
       record {
-        long = S .long; room = S .room; ends = S .ends; count = S .count; cell = S .cell; marked = S .marked; found = S .found; apart = S .apart;
-        right = S .right; order = S .order; closed = S .closed; part = S .part;
+        long = S .long;
+        room = S .room;
+        ends = S .ends;
+        count = S .count;
+        cell = S .cell;
+        marked = S .marked;
+        found = S .found;
+        apart = S .apart;
+        right = S .right;
+        order = S .order;
+        closed = S .closed;
+        part = S .part;
         below = λ c h u. omega (arith, S .below c h u);
         mine = λ k h i. absurd (omega arith);
       }
@@ -131,8 +152,17 @@ module _ {G : Graph} {id : ℕ} {l q : List ℕ} {head d tail : ℕ} (S : State 
   pub turn : G .ways ≤ d → head < tail → State G id l q (head + 1) 0 tail
   turn m h =
       record {
-        long = S .long; room = S .room; ends = omega arith; count = S .count; cell = S .cell; marked = S .marked; found = S .found; apart = S .apart;
-        right = S .right; below = S .below; order = S .order;
+        long = S .long;
+        room = S .room;
+        ends = omega arith;
+        count = S .count;
+        cell = S .cell;
+        marked = S .marked;
+        found = S .found;
+        apart = S .apart;
+        right = S .right;
+        below = S .below;
+        order = S .order;
         mine = λ k b i. S .mine k (omega arith) i;
         closed = λ k e b i. ⊎-elim (λ y. rw y (S .part e (omega arith))) (λ y. S .closed k e y i) (last-or k head b);
         part = λ e b. absurd (omega arith);

@@ -91,14 +91,15 @@ module _ (w h : ℕ) (cells : List ℕ) where
     pub under-decides : Nearby w h x y dx dy → Inside w h x y dx dy → walkable (gridOf w h cells) (at x y) ≡ true → getD cells ((y + dy - 1) * w + (x + dx - 1)) 0 % 2 ≡ 1 → getD cells (y * w + (x + dx - 1)) 0 % 2 ≡ 1 → eqb (getD cells ((y + dy - 1) * w + x) 0 % 2) 1 ≡ isStep (gridOf w h cells) (at x y) (at dx dy)
     unfolding isStep
     under-decides N I near far side =
-        rw
-        (le-leb dx 2 (N .nearX),
-        le-leb dy 2 (N .nearY),
-        le-leb 1 (x + dx) (I .left),
-        le-leb 1 (y + dy) (I .up),
-        walkable-at (x + dx - 1) (y + dy - 1) x-in y-in ∙ eq-eqb _ _ far,
-        near,
-        walkable-at (x + dx - 1) y x-in (N .inY) ∙ eq-eqb _ _ side)
+        rw (
+          le-leb dx 2 (N .nearX),
+          le-leb dy 2 (N .nearY),
+          le-leb 1 (x + dx) (I .left),
+          le-leb 1 (y + dy) (I .up),
+          walkable-at (x + dx - 1) (y + dy - 1) x-in y-in ∙ eq-eqb _ _ far,
+          near,
+          walkable-at (x + dx - 1) y x-in (N .inY) ∙ eq-eqb _ _ side,
+        )
         (sym (walkable-at x (y + dy - 1) (N .inX) y-in))
       where
         x-in : x + dx - 1 < w

@@ -121,11 +121,14 @@ module _ (M : Map) (masks : List ℕ) (marks : Marks M masks (cutAll M)) where
         lo = f .below;
         hi = x .inside;
         there = (d, (f .one, landing-goes M masks c (directionAt d) (f .step) free));
-        back =
-            (oppositeWay d,
-            (opposite-below d (f .one),
+        back = (
+          oppositeWay d,
+          (
+            opposite-below d (f .one),
             ap (landing M masks (reached M c (directionAt d))) (opposite-direction d)
-            ∙ landing-goes M masks (reached M c (directionAt d)) (opposite (directionAt d)) (x .step) (marks-mirrored c (directionAt d) (f .below) (f .step) ∙ free) ∙ x .home));
+                ∙ landing-goes M masks (reached M c (directionAt d)) (opposite (directionAt d)) (x .step) (marks-mirrored c (directionAt d) (f .below) (f .step) ∙ free) ∙ x .home,
+          ),
+        );
       })
     where
       c : ℕ

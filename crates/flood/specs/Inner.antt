@@ -6,10 +6,14 @@ use mathlib.Core.List.{List}
 use lib.ListN.{length, getD}
 use lib.Dec.{leb}
 use Rattle.definitions.specs.Grid.{Position, at, walkable}
+use Rattle.flood.specs.declared.Direction.{Direction}
 use Rattle.flood.specs.Walk.{gridOf, graphOf, Mirrored}
 use Rattle.flood.specs.State.{State}
 
 -- ---- a direction of a position
+
+abbrev pub positionAt : Direction → Position
+positionAt d = at (d .x) (d .y)
 
 -- a position of the grid, and a direction
 pub record Nearby (w h x y dx dy : ℕ) : Type 0 where

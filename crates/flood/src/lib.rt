@@ -1,13 +1,14 @@
 // The flood over cut masks: labels every region of the grid, as `components` of areas.rs. Steps are those of `neighbors` of lib.rs.
 ghost use mathlib.Core.Path.{_≡_};
+ghost use mathlib.Core.List.{map};
 ghost use Prim.Native.Nat.{_+_, _*_, _<_};
 ghost use lib.ListN.{length};
-ghost use Rattle.definitions.specs.Grid.{Map, at, isStep};
+ghost use Rattle.definitions.specs.Grid.{Map, at, directions, isStep};
 ghost use Rattle.flood.specs.Masks.{cutBit, withBit};
 ghost use Rattle.flood.specs.Walk.{gridOf, graphOf, landing};
 ghost use Rattle.flood.specs.State.{Ran, Visited};
 ghost use Rattle.flood.specs.Contract.{Lent, CutMap, Masked, Flooded};
-ghost use Rattle.flood.specs.Inner.{Nearby, cellToward, Stepping, Ready, Visiting};
+ghost use Rattle.flood.specs.Inner.{positionAt, Nearby, cellToward, Stepping, Ready, Visiting};
 
 // A direction, each coordinate moved by 1 so that none is negative.
 pub struct Direction {
@@ -26,6 +27,13 @@ pub const DIRECTIONS: [Direction; 8] = [
     Direction { x: 0, y: 2 },
     Direction { x: 2, y: 2 },
 ];
+
+// The table as one value, for a loop to read.
+pub fn direction_table() -> [Direction; 8]
+    ensures { λ r. ⌜ map positionAt r ≡ directions ⌝ }
+{
+    DIRECTIONS
+}
 
 fn wide(x: u32) -> usize
     ensures { λ r. ⌜ r ≡ x ⌝ }
@@ -57,7 +65,15 @@ pub fn toward(width: usize, height: usize, x: usize, y: usize, dx: usize, dy: us
 }
 
 // Whether a step joins the walkable (x, y) and its neighbour in a direction. Of a straight step the two side cells are the two cells themselves.
-pub fn is_step(width: usize, height: usize, cells: &[u8], x: usize, y: usize, dx: usize, dy: usize) -> bool
+pub fn is_step(
+    width: usize,
+    height: usize,
+    cells: &[u8],
+    x: usize,
+    y: usize,
+    dx: usize,
+    dy: usize,
+) -> bool
     requires { ⌜ Stepping width height (now cells) x y dx dy ⌝ }
     ensures { λ r. ⌜ r ≡ isStep (gridOf width height (now (cells .entry))) (at x y) (at dx dy) ⌝ }
 {
@@ -128,23 +144,57 @@ fn visit(
 }
 
 // All directions of the cell at the queue's head.
-fn spread(width: usize, height: usize, cells: &[u8], masks: &[u16], labels: &mut [u32], queue: &mut [u32], id: u32, head: usize, tail: usize) -> usize
+fn spread(
+    width: usize,
+    height: usize,
+    cells: &[u8],
+    masks: &[u16],
+    labels: &mut [u32],
+    queue: &mut [u32],
+    id: u32,
+    head: usize,
+    tail: usize,
+) -> usize
     requires { ⌜ Ready width height (now cells) (now masks) id (now labels) (now queue) head tail ⌝ }
     ensures { λ r. ⌜ Ran (graphOf (gridOf width height (now (cells .entry))) (now (masks .entry))) id (now (labels .entry)) (now (queue .entry)) tail (now (labels .exit)) (now (queue .exit)) (head + 1) 0 r ⌝ }
 {
-    let directions = DIRECTIONS;
+    let table = direction_table();
     let c = wide(queue[head]);
     let x = c % width;
     let y = c / width;
     let mut end = tail;
     for d in 0..8 {
-        end = visit(width, height, cells, masks, labels, queue, id, c, x, y, directions[d].x, directions[d].y, end);
+        end = visit(
+            width,
+            height,
+            cells,
+            masks,
+            labels,
+            queue,
+            id,
+            c,
+            x,
+            y,
+            table[d].x,
+            table[d].y,
+            end,
+        );
     }
     end
 }
 
 // The queue from head on, until nothing waits.
-fn drain(width: usize, height: usize, cells: &[u8], masks: &[u16], labels: &mut [u32], queue: &mut [u32], id: u32, head: usize, tail: usize) -> usize
+fn drain(
+    width: usize,
+    height: usize,
+    cells: &[u8],
+    masks: &[u16],
+    labels: &mut [u32],
+    queue: &mut [u32],
+    id: u32,
+    head: usize,
+    tail: usize,
+) -> usize
     requires { ⌜ Ready width height (now cells) (now masks) id (now labels) (now queue) head tail ⌝ }
     ensures { λ r. ⌜ Ran (graphOf (gridOf width height (now (cells .entry))) (now (masks .entry))) id (now (labels .entry)) (now (queue .entry)) tail (now (labels .exit)) (now (queue .exit)) r 0 r ⌝ }
 {
@@ -158,7 +208,14 @@ fn drain(width: usize, height: usize, cells: &[u8], masks: &[u16], labels: &mut 
 }
 
 // Labels every region and returns how many there are. The queue is left with the walkable cells, region by region.
-pub fn flood(width: usize, height: usize, cells: &[u8], masks: &[u16], labels: &mut [u32], queue: &mut [u32]) -> usize
+pub fn flood(
+    width: usize,
+    height: usize,
+    cells: &[u8],
+    masks: &[u16],
+    labels: &mut [u32],
+    queue: &mut [u32],
+) -> usize
     requires { ⌜ Lent width height (now cells) (now masks) (now labels) (now queue) ⌝ }
     requires { ⌜ Masked width height (now cells) (now masks) ⌝ }
     ensures { λ r. ⌜ ((M : Map) → CutMap width height (now (cells .entry)) (now (masks .entry)) M → Flooded M (now (labels .entry)) (now (queue .entry)) (now (labels .exit)) (now (queue .exit)) r) ⌝ }
@@ -173,7 +230,17 @@ pub fn flood(width: usize, height: usize, cells: &[u8], masks: &[u16], labels: &
                 id += 1;
                 labels[start] = id;
                 queue[tail] = start as u32;
-                tail = drain(width, height, cells, masks, labels, queue, id, tail, tail + 1);
+                tail = drain(
+                    width,
+                    height,
+                    cells,
+                    masks,
+                    labels,
+                    queue,
+                    id,
+                    tail,
+                    tail + 1,
+                );
             }
         }
         start += 1;

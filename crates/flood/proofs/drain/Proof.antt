@@ -19,7 +19,7 @@ loop-holds : tie.Need-loop-holds Inv-loop μ-loop
 loop-holds c = ran-start (c .before .before .before .before .pre .state)
 
 spread-requires : tie.Need-spread-requires Inv-loop μ-loop
-spread-requires c κs = 
+spread-requires c κs =
     record { table = c .before .before .before .before .before .before .before .before .pre .table; state = c .before .before .before .loop .inv .state; busy = c .before .before .loop-test .taken; some = c .before .before .before .before .before .before .before .before .pre .some }
 
 add-at : tie.Need-add-at Inv-loop μ-loop

@@ -22,10 +22,11 @@ mul-n : tie.Need-mul-n Inv-loop μ-loop
 mul-n c = omega (arith, few-of (c .before .before .before .before .pre .0))
 
 loop-holds : tie.Need-loop-holds Inv-loop μ-loop
-loop-holds c = 
-    let s = c .before .before .before .before in
-    (omega arith,
-    outer-start (graphOf (gridOf (s .args .width) (s .args .height) (s .args .cells .now)) (s .args .masks .now)) _ _ (s .pre .0 .labelsLong) (s .pre .0 .queueLong) (s .pre .0 .zeros))
+loop-holds c =
+    let s = c .before .before .before .before in (
+      omega arith,
+      outer-start (graphOf (gridOf (s .args .width) (s .args .height) (s .args .cells .now)) (s .args .masks .now)) _ _ (s .pre .0 .labelsLong) (s .pre .0 .queueLong) (s .pre .0 .zeros),
+    )
 
 shared-slice-read-if1 : tie.Need-shared-slice-read-if1 Inv-loop μ-loop
 shared-slice-read-if1 c = omega (arith, c .before .loop-test .taken, c .before .before .before .before .before .before .before .pre .0 .cellsLong)
@@ -58,7 +59,7 @@ add-drain : tie.Need-add-drain Inv-loop μ-loop
 add-drain c = omega (arith, seed-room (laws-of (c .before .before .before .before .before .before .before .before .before .before .before .before .pre)) (c .before .before .before .before .before .before .before .loop .inv .1) (c .before .before .before .before .before .before .loop-test .taken) (c .before .before .if2 .taken), few-of (c .before .before .before .before .before .before .before .before .before .before .before .before .pre .0))
 
 drain-requires : tie.Need-drain-requires Inv-loop μ-loop
-drain-requires c κs = 
+drain-requires c κs =
     record {
       table = table-of (c .before .before .before .before .before .before .before .before .before .before .before .before .pre .0) (c .before .before .before .before .before .before .before .before .before .before .before .before .pre .1);
       state = seed (laws-of (c .before .before .before .before .before .before .before .before .before .before .before .before .pre)) (c .before .before .before .before .before .before .before .loop .inv .1) (c .before .before .before .before .before .before .loop-test .taken) (eq-eqb _ _ (c .before .before .before .before .if1 .taken)) (c .before .before .if2 .taken);
@@ -73,15 +74,16 @@ loop-less : tie.Need-loop-less Inv-loop μ-loop
 loop-less c = omega (arith, c .before .before .loop-test .taken)
 
 loop-again : tie.Need-loop-again Inv-loop μ-loop
-loop-again c = 
+loop-again c =
     let laws = laws-of (c .before .before .before .before .before .before .before .before .pre) in
     let outer = c .before .before .before .loop .inv .1 in
-    let more = c .before .before .loop-test .taken in
-    (omega (arith, more),
-    ⊎-elim (λ w. outer-by (w .10) (w .11) (w .12) (w .13) (flooded laws outer more (eq-eqb _ _ (w .0 .taken)) (w .2 .taken) (w .5 .ensures)))
-    (⊎-elim (λ w. outer-by (w .3) (w .4) (w .5) (w .6) (known laws outer more (eq-eqb _ _ (w .0 .taken)) (w .2 .left)))
-    (λ w. outer-by (w .1) (w .2) (w .3) (w .4) (blocked laws outer more (ne-eqb _ _ (w .0 .left)))))
-    (c .if1 .came))
+    let more = c .before .before .loop-test .taken in (
+      omega (arith, more),
+      ⊎-elim (λ w. outer-by (w .10) (w .11) (w .12) (w .13) (flooded laws outer more (eq-eqb _ _ (w .0 .taken)) (w .2 .taken) (w .5 .ensures)))
+          (⊎-elim (λ w. outer-by (w .3) (w .4) (w .5) (w .6) (known laws outer more (eq-eqb _ _ (w .0 .taken)) (w .2 .left)))
+          (λ w. outer-by (w .1) (w .2) (w .3) (w .4) (blocked laws outer more (ne-eqb _ _ (w .0 .left)))))
+          (c .if1 .came),
+    )
 
 wide-requires : tie.Need-wide-requires Inv-loop μ-loop
 wide-requires c κs = search needs
