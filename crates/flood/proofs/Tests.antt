@@ -1,52 +1,36 @@
--- The code's tests of a direction, one by one: where `toward` stops, the position is outside, and where `is_step` stops, one of the four cells is not walkable.
+-- The code's tests of a direction, one by one: where `is_inside` stops, the position is outside or every neighbour is in the grid, and where `is_step` stops, one of the four cells is not walkable.
 -- Assumes nothing.
 use Prim.Native.Nat.{ℕ, zero, suc, _+_, _-_, _*_, _/_, _%_, _≤_, _<_}
 use native.Mathlib.Omega.{arith}
 use native.Mathlib.Nat.{mul-le-mul, mul-zero, mod-lt, div-lt-iff-lt-mul}
-use mathlib.Core.Path.{_≡_, refl, sym, ap, _∙_}
-use mathlib.Core.Bool.{Bool, true, false, _&&_, cond}
+use mathlib.Core.Path.{_≡_, refl, sym, _∙_}
+use mathlib.Core.Bool.{Bool, true, false, true≢false, false≢true}
 use mathlib.Core.List.{List}
 use lib.ListN.{getD}
 use lib.Arith.{digits-lt}
 use lib.Dec.{eqb, leb}
-use borrow.Author.Tests.{leb-true, le-leb, lt-ltb, eqb-true, eq-eqb}
+use borrow.Author.Tests.{leb-true, leb-false, le-leb, lt-ltb, eqb-true, eq-eqb}
 use Rattle.definitions.specs.Grid.{Map, Position, at, walkable, isStep}
-use Rattle.laws.specs.Tests.{both}
 use Rattle.flood.specs.Walk.{gridOf}
-use Rattle.flood.specs.Inner.{Nearby, Inside, cellToward}
+use Rattle.flood.specs.Inner.{Nearby, Inside, Inner, Says}
 use Rattle.flood.proofs.Square.{Four, four, walkable-in}
 
 module _ (w h x y dx dy : ℕ) where
-  abbrev test : Bool
-  test = leb 1 (x + dx) && leb 1 (y + dy) && leb (x + dx) w && leb (y + dy) h
+  -- ---- whether the position in the direction is in the grid
 
-  test-inside : test ≡ true → Inside w h x y dx dy
-  test-inside t =
-      let a = both (leb 1 (x + dx) && leb 1 (y + dy) && leb (x + dx) w) (leb (y + dy) h) t in
-      let b = both (leb 1 (x + dx) && leb 1 (y + dy)) (leb (x + dx) w) (a .0) in
-      let c = both (leb 1 (x + dx)) (leb 1 (y + dy)) (b .0) in
-      record { left = leb-true _ _ (c .0); up = leb-true _ _ (c .1); right = leb-true _ _ (b .1); down = leb-true _ _ (a .1) }
+  pub inner-inside : Nearby w h x y dx dy → Inner w h x y → Inside w h x y dx dy
+  inner-inside N i = record { left = omega (arith, i .left); up = omega (arith, i .up); right = omega (arith, i .right, N .nearX); down = omega (arith, i .down, N .nearY) }
 
-  pub toward-in : Inside w h x y dx dy → (y + dy - 1) * w + (x + dx - 1) ≡ cellToward w h (at x y) (at dx dy)
-  unfolding cellToward
-  toward-in i = rw (le-leb 1 (x + dx) (i .left), le-leb 1 (y + dy) (i .up), le-leb (x + dx) w (i .right), le-leb (y + dy) h (i .down)) refl
+  pub says-yes : Inside w h x y dx dy → Says true (Inside w h x y dx dy)
+  says-yes i = ((λ e. i), λ e. absurd (true≢false e))
 
-  pub toward-out : (Inside w h x y dx dy → ⊥) → h * w ≡ cellToward w h (at x y) (at dx dy)
-  unfolding cellToward
-  toward-out n = go test refl
-    where
-      go : (b : Bool) → test ≡ b → h * w ≡ cond b ((y + dy - 1) * w + (x + dx - 1)) (h * w)
-      go true e = absurd (n (test-inside e))
-      go false e = refl
+  pub says-no : (Inside w h x y dx dy → ⊥) → Says false (Inside w h x y dx dy)
+  says-no n = ((λ e. absurd (false≢true e)), λ e. n)
 
-  -- a cell of the grid is found inside
-  pub toward-inside : cellToward w h (at x y) (at dx dy) < h * w → Inside w h x y dx dy
-  unfolding cellToward
-  toward-inside l = go test refl
-    where
-      go : (b : Bool) → test ≡ b → Inside w h x y dx dy
-      go true e = test-inside e
-      go false e = absurd (omega (arith, ap (λ b. cond b ((y + dy - 1) * w + (x + dx - 1)) (h * w)) e))
+  pub says-last : 1 ≤ x + dx → 1 ≤ y + dy → x + dx ≤ w → Says (leb (y + dy) h) (Inside w h x y dx dy)
+  says-last a b c = ((λ e. record { left = a; up = b; right = c; down = leb-true _ _ e }), λ e i. omega (arith, leb-false (y + dy) h e, i .down))
+
+  -- ---- the cells about it
 
   pub grid-small : Nearby w h x y dx dy → h * w ≤ 1048576
   grid-small N = mul-le-mul (N .short) (N .narrow)

@@ -3,7 +3,7 @@ use Prim.Native.Nat.{ℕ, _+_, _*_, _/_, _%_, _≤_, _<_}
 use native.Mathlib.Omega.{arith}
 use native.Mathlib.Nat.{div-add-mod', mul-le-mul}
 use mathlib.Core.Path.{_≡_, refl, sym, ap, ap₂, _∙_, subst}
-use mathlib.Core.Bool.{true}
+use mathlib.Core.Bool.{Bool, true}
 use mathlib.Core.List.{List}
 use lib.ListN.{getD}
 use Rattle.definitions.specs.Grid.{at, walkable, isStep}
@@ -12,7 +12,7 @@ use Rattle.laws.specs.GraphLaws.{Laws}
 use Rattle.flood.specs.Walk.{gridOf, directionAt, landing, graphOf, Mirrored}
 use Rattle.flood.specs.State.{Ran, Visited}
 use Rattle.flood.specs.Contract.{Lent, Masked}
-use Rattle.flood.specs.Inner.{Table, Ready, Visiting}
+use Rattle.flood.specs.Inner.{Inner, Table, Ready, Visiting}
 use Rattle.flood.proofs.Ways.{direction-near}
 use Rattle.flood.proofs.Graph.{graph-laws}
 use Rattle.flood.proofs.Uncut.{marks-mirrored}
@@ -43,7 +43,7 @@ table-laws {w} {h} {cells} {masks} T = graph-laws (gridOf w h cells) masks (T .m
 pub laws-of : {w h : ℕ} {cells masks l q : List ℕ} → Lent w h cells masks l q × Masked w h cells masks → Laws (graphOf (gridOf w h cells) masks)
 laws-of p = table-laws (table-of (p .0) (p .1))
 
-module _ {w h : ℕ} {cells masks : List ℕ} {id : ℕ} {was waited l q : List ℕ} {head tail d end c dx dy : ℕ} (S : Ready w h cells masks id was waited head tail) (R : Ran (graphOf (gridOf w h cells) masks) id was waited tail l q head d end) (one : d < 8) (is-c : c ≡ getD waited head 0) (is-d : at dx dy ≡ directionAt d) where
+module _ {w h : ℕ} {cells masks : List ℕ} {id : ℕ} {was waited l q : List ℕ} {head tail d end c : ℕ} {inner : Bool} {dx dy : ℕ} (S : Ready w h cells masks id was waited head tail) (R : Ran (graphOf (gridOf w h cells) masks) id was waited tail l q head d end) (one : d < 8) (is-c : c ≡ getD waited head 0) (inner-is : inner ≡ true → Inner w h (c % w) (c / w)) (is-d : at dx dy ≡ directionAt d) where
   at-head : c ≡ getD q head 0
   at-head = is-c ∙ sym (R .stays head (S .busy))
 
@@ -56,7 +56,7 @@ module _ {w h : ℕ} {cells masks : List ℕ} {id : ℕ} {was waited l q : List 
   walks : walkableAt (gridOf w h cells) c ≡ true
   walks = ap (walkableAt (gridOf w h cells)) at-head ∙ used-walks (R .state) (getD q head 0) (R .state .cell head busy) (R .state .marked head busy)
 
-  pub visiting : Visiting w h cells masks l q c (c % w) (c / w) dx dy end
+  pub visiting : Visiting w h cells masks l q c (c % w) (c / w) inner dx dy end
   visiting =
       record {
         table = S .table;
@@ -69,6 +69,7 @@ module _ {w h : ℕ} {cells masks : List ℕ} {id : ℕ} {was waited l q : List 
               nearX = omega (arith, ap (λ p. p .x) is-d, direction-near d one .0);
               nearY = omega (arith, ap (λ p. p .y) is-d, direction-near d one .1);
             };
+        within = inner-is;
         isX = refl;
         isY = refl;
         inside = in-grid;

@@ -1,22 +1,22 @@
--- The ways through `visit`, for the cell t that `toward` gave: a step that lands in the grid lands on t, so that where t is outside or has a label there is
+-- The ways through `visit`: a step that lands in the grid lands on the cell t that the code computes, so that where t is outside or has a label there is
 -- nothing to do, and past the tests the step lands on t. Assumes nothing.
-use Prim.Native.Nat.{ℕ, _+_, _-_, _*_, _≤_, _<_}
+use Prim.Native.Nat.{ℕ, _+_, _-_, _*_, _<_}
 use native.Mathlib.Omega.{arith}
 use mathlib.Core.Path.{_≡_, sym, ap, ap₂, _∙_}
-use mathlib.Core.Bool.{true, false, true≢false}
+use mathlib.Core.Bool.{Bool, true, false, true≢false}
 use mathlib.Core.List.{List}
 use lib.ListN.{getD, set}
 use Rattle.definitions.specs.Grid.{Map, Position, at, toward, isStep, positionOf}
 use Rattle.flood.specs.Masks.{bitOf, cutBit, reached}
 use Rattle.flood.specs.Walk.{landing, gridOf}
 use Rattle.flood.specs.State.{used, Visited, idle, taken}
-use Rattle.flood.specs.Inner.{Inside, cellToward, Stepping, Visiting}
+use Rattle.flood.specs.Inner.{Inside, Stepping, Visiting}
 use Rattle.flood.proofs.Square.{Four, four, In, walkable-in}
 use Rattle.flood.proofs.Graph.{landing-goes, goes}
 use Rattle.flood.proofs.Used.{used-some}
-use Rattle.flood.proofs.Tests.{toward-in, toward-inside}
+use Rattle.flood.proofs.Tests.{cells-in}
 
-module _ {w h : ℕ} {cells masks l q : List ℕ} {c x y dx dy tail : ℕ} (S : Visiting w h cells masks l q c x y dx dy tail) where
+module _ {w h : ℕ} {cells masks l q : List ℕ} {c x y : ℕ} {inner : Bool} {dx dy tail : ℕ} (S : Visiting w h cells masks l q c x y inner dx dy tail) where
   abbrev M : Map
   M = gridOf w h cells
 
@@ -41,32 +41,32 @@ module _ {w h : ℕ} {cells masks l q : List ℕ} {c x y dx dy tail : ℕ} (S : 
       i : In M (toward (positionOf M c) d)
       i = walkable-in M (toward (positionOf M c) d) (f .far)
 
-  inside-reached : Inside w h x y dx dy → cellToward w h (at x y) d ≡ reached M c d
-  inside-reached i = sym (toward-in w h x y dx dy i) ∙ ap₂ (λ a b. (b + dy - 1) * w + (a + dx - 1)) (S .isX) (S .isY)
+  -- the cell that the code computes
+  abbrev t : ℕ
+  t = (y + dy - 1) * w + (x + dx - 1)
 
-  module _ (t : ℕ) (is-t : t ≡ cellToward w h (at x y) d) where
-    on-t : landing M masks c d < h * w → t ≡ landing M masks c d
-    on-t r = is-t ∙ inside-reached (lands-inside r) ∙ sym (goes M masks c d r .is)
+  is-reached : t ≡ reached M c d
+  is-reached = ap₂ (λ a b. (b + dy - 1) * w + (a + dx - 1)) (S .isX) (S .isY)
 
-    found-inside : t < h * w → Inside w h x y dx dy
-    found-inside b = toward-inside w h x y dx dy (omega (arith, is-t))
+  on-t : landing M masks c d < h * w → t ≡ landing M masks c d
+  on-t r = is-reached ∙ sym (goes M masks c d r .is)
 
-    pub stepping : t < h * w → Stepping w h cells x y dx dy
-    stepping b = record { nearby = S .nearby; inside = found-inside b; cellsLong = S .table .cellsLong; walks = S .walks }
+  pub stepping : Inside w h x y dx dy → Stepping w h cells x y dx dy
+  stepping i = record { nearby = S .nearby; inside = i; cellsLong = S .table .cellsLong; walks = S .walks }
 
-    module _ (id : ℕ) where
-      pub visit-outside : h * w ≤ t → Visited (h * w) (landing M masks c d) id l q tail l q tail
-      visit-outside b = idle (λ r. absurd (omega (arith, on-t r)))
+  module _ (id : ℕ) where
+    pub visit-outside : (Inside w h x y dx dy → ⊥) → Visited (h * w) (landing M masks c d) id l q tail l q tail
+    visit-outside n = idle (λ r. absurd (n (lands-inside r)))
 
-      pub visit-labelled : (getD l t 0 ≡ 0 → ⊥) → Visited (h * w) (landing M masks c d) id l q tail l q tail
-      visit-labelled u = idle (λ r. ap (used l) (sym (on-t r)) ∙ used-some l t u)
+    pub visit-labelled : (getD l t 0 ≡ 0 → ⊥) → Visited (h * w) (landing M masks c d) id l q tail l q tail
+    visit-labelled u = idle (λ r. ap (used l) (sym (on-t r)) ∙ used-some l t u)
 
-      pub visit-blocked : isStep M (at x y) d ≡ false → Visited (h * w) (landing M masks c d) id l q tail l q tail
-      visit-blocked s = idle (λ r. absurd (true≢false (sym (goes M masks c d r .step) ∙ ap (λ p. isStep M p d) (sym here) ∙ s)))
+    pub visit-blocked : isStep M (at x y) d ≡ false → Visited (h * w) (landing M masks c d) id l q tail l q tail
+    visit-blocked s = idle (λ r. absurd (true≢false (sym (goes M masks c d r .step) ∙ ap (λ p. isStep M p d) (sym here) ∙ s)))
 
-      pub visit-cut : cutBit masks c (bitOf d) ≡ true → Visited (h * w) (landing M masks c d) id l q tail l q tail
-      visit-cut s = idle (λ r. absurd (true≢false (sym s ∙ goes M masks c d r .free)))
+    pub visit-cut : cutBit masks c (bitOf d) ≡ true → Visited (h * w) (landing M masks c d) id l q tail l q tail
+    visit-cut s = idle (λ r. absurd (true≢false (sym s ∙ goes M masks c d r .free)))
 
-      pub visit-taken : t < h * w → getD l t 0 ≡ 0 → isStep M (at x y) d ≡ true → cutBit masks c (bitOf d) ≡ false → Visited (h * w) (landing M masks c d) id l q tail (set l t id) (set q tail t) (tail + 1)
-      visit-taken b u s f =
-          taken t (is-t ∙ inside-reached (found-inside b) ∙ sym (landing-goes M masks c d (ap (λ p. isStep M p d) (sym here) ∙ s) f)) b u
+    pub visit-taken : Inside w h x y dx dy → getD l t 0 ≡ 0 → isStep M (at x y) d ≡ true → cutBit masks c (bitOf d) ≡ false → Visited (h * w) (landing M masks c d) id l q tail (set l t id) (set q tail t) (tail + 1)
+    visit-taken i u s f =
+        taken t (is-reached ∙ sym (landing-goes M masks c d (ap (λ p. isStep M p d) (sym here) ∙ s) f)) (cells-in w h x y dx dy (S .nearby) i .far) u

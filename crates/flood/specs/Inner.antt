@@ -1,10 +1,9 @@
 -- The words of the other functions' contracts, over the grid of the lent bytes. Definitions only; assumes nothing.
-use Prim.Native.Nat.{ℕ, _+_, _-_, _*_, _/_, _%_, _≤_, _<_}
+use Prim.Native.Nat.{ℕ, _+_, _*_, _/_, _%_, _≤_, _<_}
 use mathlib.Core.Path.{_≡_}
-use mathlib.Core.Bool.{true, _&&_, cond}
+use mathlib.Core.Bool.{Bool, true, false}
 use mathlib.Core.List.{List}
 use lib.ListN.{length, getD}
-use lib.Dec.{leb}
 use Rattle.definitions.specs.Grid.{Position, at, walkable}
 use Rattle.flood.specs.declared.Direction.{Direction}
 use Rattle.flood.specs.Walk.{gridOf, graphOf, Mirrored}
@@ -31,10 +30,16 @@ pub record Inside (w h x y dx dy : ℕ) : Type 0 where
   pub right : x + dx ≤ w
   pub down : y + dy ≤ h
 
--- the cell in that direction; the number of cells where it is outside
-unfoldable pub cellToward : ℕ → ℕ → Position → Position → ℕ
-cellToward w h p d =
-    cond (leb 1 (p .x + d .x) && leb 1 (p .y + d .y) && leb (p .x + d .x) w && leb (p .y + d .y) h) ((p .y + d .y - 1) * w + (p .x + d .x - 1)) (h * w)
+-- every neighbour of the position is in the grid
+pub record Inner (w h x y : ℕ) : Type 0 where
+  pub left : 1 ≤ x
+  pub up : 1 ≤ y
+  pub right : x + 1 < w
+  pub down : y + 1 < h
+
+-- the answer r says whether P
+abbrev pub Says : Bool → Type 0 → Type 0
+Says r P = (r ≡ true → P) × (r ≡ false → P → ⊥)
 
 -- the position is walkable, and that in the direction is in the grid
 pub record Stepping (w h : ℕ) (cells : List ℕ) (x y dx dy : ℕ) : Type 0 where
@@ -61,9 +66,10 @@ pub record Ready (w h : ℕ) (cells masks : List ℕ) (id : ℕ) (l q : List ℕ
   pub some : 0 < id
 
 -- the cell c at (x, y), whose step in a direction is looked at
-pub record Visiting (w h : ℕ) (cells masks l q : List ℕ) (c x y dx dy tail : ℕ) : Type 0 where
+pub record Visiting (w h : ℕ) (cells masks l q : List ℕ) (c x y : ℕ) (inner : Bool) (dx dy tail : ℕ) : Type 0 where
   pub table : Table w h cells masks
   pub nearby : Nearby w h x y dx dy
+  pub within : inner ≡ true → Inner w h x y
   pub isX : x ≡ c % w
   pub isY : y ≡ c / w
   pub inside : c < h * w

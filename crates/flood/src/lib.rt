@@ -1,14 +1,15 @@
 // The flood over cut masks: labels every region of the grid, as `components` of areas.rs. Steps are those of `neighbors` of lib.rs.
 ghost use mathlib.Core.Path.{_≡_};
+ghost use mathlib.Core.Bool.{true};
 ghost use mathlib.Core.List.{map};
-ghost use Prim.Native.Nat.{_+_, _*_, _<_};
+ghost use Prim.Native.Nat.{_+_, _*_, _≤_, _<_};
 ghost use lib.ListN.{length};
 ghost use Rattle.definitions.specs.Grid.{Map, at, directions, isStep};
 ghost use Rattle.flood.specs.Masks.{cutBit, withBit};
 ghost use Rattle.flood.specs.Walk.{gridOf, graphOf, landing};
 ghost use Rattle.flood.specs.State.{Ran, Visited};
 ghost use Rattle.flood.specs.Contract.{Lent, CutMap, Masked, Flooded};
-ghost use Rattle.flood.specs.Inner.{positionAt, Nearby, cellToward, Stepping, Ready, Visiting};
+ghost use Rattle.flood.specs.Inner.{positionAt, Nearby, Inner, Inside, Says, Stepping, Ready, Visiting};
 
 // A direction, each coordinate moved by 1 so that none is negative.
 pub struct Direction {
@@ -41,27 +42,50 @@ fn wide(x: u32) -> usize
     x as usize
 }
 
-// The cell in a direction of (x, y), or the number of cells where that lies outside the grid.
-pub fn toward(width: usize, height: usize, x: usize, y: usize, dx: usize, dy: usize) -> usize
-    requires { ⌜ Nearby width height x y dx dy ⌝ }
-    ensures { λ r. ⌜ r ≡ cellToward width height (at x y) (at dx dy) ⌝ }
+// Whether every neighbour of (x, y) is in the grid.
+fn is_inner(width: usize, height: usize, x: usize, y: usize) -> bool
+    requires { ⌜ (width ≤ 1024) × (height ≤ 1024) × (x < width) × (y < height) ⌝ }
+    ensures { λ r. ⌜ (r ≡ true → Inner width height x y) ⌝ }
 {
-    let n = height * width;
-    let i = x + dx;
-    let j = y + dy;
-    if i < 1 {
-        return n;
+    if x < 1 {
+        return false;
     }
-    if j < 1 {
-        return n;
+    if y < 1 {
+        return false;
     }
-    if width < i {
-        return n;
+    if width <= x + 1 {
+        return false;
     }
-    if height < j {
-        return n;
+    y + 1 < height
+}
+
+// Whether the position in a direction of (x, y) is in the grid; it is where `inner` says that every neighbour is.
+pub fn is_inside(
+    inner: bool,
+    width: usize,
+    height: usize,
+    x: usize,
+    y: usize,
+    dx: usize,
+    dy: usize,
+) -> bool
+    requires { ⌜ Nearby width height x y dx dy ⌝ }
+    requires { ⌜ (inner ≡ true → Inner width height x y) ⌝ }
+    ensures { λ r. ⌜ Says r (Inside width height x y dx dy) ⌝ }
+{
+    if inner {
+        return true;
     }
-    (j - 1) * width + (i - 1)
+    if x + dx < 1 {
+        return false;
+    }
+    if y + dy < 1 {
+        return false;
+    }
+    if width < x + dx {
+        return false;
+    }
+    y + dy <= height
 }
 
 // Whether a step joins the walkable (x, y) and its neighbour in a direction. Of a straight step the two side cells are the two cells themselves.
@@ -118,17 +142,18 @@ fn visit(
     c: usize,
     x: usize,
     y: usize,
+    inner: bool,
     dx: usize,
     dy: usize,
     tail: usize,
 ) -> usize
-    requires { ⌜ Visiting width height (now cells) (now masks) (now labels) (now queue) c x y dx dy tail ⌝ }
+    requires { ⌜ Visiting width height (now cells) (now masks) (now labels) (now queue) c x y inner dx dy tail ⌝ }
     ensures { λ r. ⌜ Visited (height * width) (landing (gridOf width height (now (cells .entry))) (now (masks .entry)) c (at dx dy)) id (now (labels .entry)) (now (queue .entry)) tail (now (labels .exit)) (now (queue .exit)) r ⌝ }
 {
-    let t = toward(width, height, x, y, dx, dy);
-    if height * width <= t {
+    if !is_inside(inner, width, height, x, y, dx, dy) {
         return tail;
     }
+    let t = (y + dy - 1) * width + (x + dx - 1);
     if labels[t] != 0 {
         return tail;
     }
@@ -162,6 +187,7 @@ fn spread(
     let c = wide(queue[head]);
     let x = c % width;
     let y = c / width;
+    let inner = is_inner(width, height, x, y);
     let mut end = tail;
     for d in 0..8 {
         end = visit(
@@ -175,6 +201,7 @@ fn spread(
             c,
             x,
             y,
+            inner,
             table[d].x,
             table[d].y,
             end,

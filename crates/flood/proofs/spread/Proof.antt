@@ -1,6 +1,6 @@
 -- `flood::spread` meets its contract. The loop's invariant: the state holds with the directions below d done, of the cell at the queue's head, whose number
 -- does not change, since the queue only grows at its end. Assumes nothing.
-use Prim.Native.Nat.{_≤_, _<_, _-_}
+use Prim.Native.Nat.{_≤_, _<_, _-_, _*_}
 use native.Mathlib.Omega.{arith}
 use mathlib.Core.Path.{_≡_}
 use lib.ListN.{getD}
@@ -10,17 +10,17 @@ use Rattle.flood.specs.State.{Ran}
 use Rattle.flood.specs.Inner.{positionAt}
 use Rattle.flood.proofs.Ways.{table-at}
 use Rattle.flood.proofs.States.{tail-le, ran-start, ran-turn}
-use Rattle.flood.proofs.Tests.{cell-wide}
+use Rattle.flood.proofs.Tests.{cell-wide, cell-x, cell-y}
 use Rattle.flood.proofs.Turns.{visiting, spread-visited}
 use Rattle.flood.proofs.spread.Statement.{statement}
 use Rattle.flood.proofs.spread.Tie as tie
 
 abbrev Inv-loop : tie.InvT-loop
-Inv-loop width height cells masks labels₀ queue₀ id head tail table c x y end₀ d₀ labels queue end d =
+Inv-loop width height cells masks labels₀ queue₀ id head tail table c x y inner end₀ d₀ labels queue end d =
     (d ≤ 8) × Ran (graphOf (gridOf width height cells) masks) id labels₀ queue₀ tail labels queue head d end
 
 abbrev μ-loop : tie.MeasureT-loop
-μ-loop width height cells masks labels₀ queue₀ id head tail table c x y end₀ d₀ labels queue end d =
+μ-loop width height cells masks labels₀ queue₀ id head tail table c x y inner end₀ d₀ labels queue end d =
     8 - d
 
 direction-table-requires : tie.Need-direction-table-requires Inv-loop μ-loop
@@ -35,20 +35,23 @@ slice-read-wide c = omega (arith, tail-le (c .before .before .before .before .be
 wide-requires : tie.Need-wide-requires Inv-loop μ-loop
 wide-requires c κs = search needs
 
--- a cell of the grid: no side is 0
-positive : (c : tie.After-wide Inv-loop μ-loop) → 0 < c .before .before .before .before .before .before .before .args .width
-positive c =
-    let s = c .before .before .before .before .before .before .before in
-    cell-wide (c .wide .result) (s .args .width) (s .args .height) (omega (arith, c .wide .ensures, s .pre .state .cell (s .args .head) (s .pre .busy)))
+-- a cell of the grid
+in-grid : (c : tie.After-wide Inv-loop μ-loop) → c .wide .result < c .before .before .before .before .before .before .before .args .height * c .before .before .before .before .before .before .before .args .width
+in-grid c = omega (arith, c .wide .ensures, c .before .before .before .before .before .before .before .pre .state .cell (c .before .before .before .before .before .before .before .args .head) (c .before .before .before .before .before .before .before .pre .busy))
 
 rem-x : tie.Need-rem-x Inv-loop μ-loop
-rem-x c = omega (arith, positive c)
+rem-x c = omega (arith, cell-wide (c .wide .result) (c .before .before .before .before .before .before .before .args .width) (c .before .before .before .before .before .before .before .args .height) (in-grid c))
 
 div-y : tie.Need-div-y Inv-loop μ-loop
-div-y c = omega (arith, positive c)
+div-y c = omega (arith, cell-wide (c .wide .result) (c .before .before .before .before .before .before .before .args .width) (c .before .before .before .before .before .before .before .args .height) (in-grid c))
+
+is-inner-requires : tie.Need-is-inner-requires Inv-loop μ-loop
+is-inner-requires c κs =
+    let s = c .before .before .before .before .before .before .before in
+    (s .pre .table .narrow, s .pre .table .short, cell-x (c .wide .result) (s .args .width) (s .args .height) (in-grid c), cell-y (c .wide .result) (s .args .width) (s .args .height) (in-grid c))
 
 loop-holds : tie.Need-loop-holds Inv-loop μ-loop
-loop-holds c = (omega arith, ran-start (c .before .before .before .before .before .before .before .pre .state))
+loop-holds c = (omega arith, ran-start (c .before .before .before .before .before .before .before .before .pre .state))
 
 mul-visit : tie.Need-mul-visit Inv-loop μ-loop
 mul-visit c = omega (arith, c .before .before .loop-test .taken)
@@ -63,13 +66,12 @@ element-copy-out-visit-2 : tie.Need-element-copy-out-visit-2 Inv-loop μ-loop
 element-copy-out-visit-2 c = c .before .before .loop-test .taken
 
 -- what the table has at d
-direction : (c : tie.In-loop Inv-loop μ-loop) → positionAt (getD (c .before .before .before .before .direction-table .result) (c .before .loop .d) (record { x = 0; y = 0 })) ≡ directionAt (c .before .loop .d)
-direction c = table-at (c .before .before .before .before .direction-table .result) (c .before .before .before .before .direction-table .ensures) (c .before .loop .d)
+direction : (c : tie.In-loop Inv-loop μ-loop) → positionAt (getD (c .before .before .before .before .before .direction-table .result) (c .before .loop .d) (record { x = 0; y = 0 })) ≡ directionAt (c .before .loop .d)
+direction c = table-at (c .before .before .before .before .before .direction-table .result) (c .before .before .before .before .before .direction-table .ensures) (c .before .loop .d)
 
 visit-requires : tie.Need-visit-requires Inv-loop μ-loop
 visit-requires c κs =
-    let t = c .before .before in
-    visiting (t .before .before .before .before .before .before .before .before .before .pre) (t .before .loop .inv .1) (t .loop-test .taken) (t .before .before .wide .ensures) (direction t)
+    visiting (c .before .before .before .before .before .before .before .before .before .before .before .before .pre) (c .before .before .before .loop .inv .1) (c .before .before .loop-test .taken) (c .before .before .before .before .before .wide .ensures) (c .before .before .before .before .is-inner .ensures) (direction (c .before .before))
 
 add-d : tie.Need-add-d Inv-loop μ-loop
 add-d c = omega (arith, c .before .before .before .before .before .before .before .loop-test .taken)
@@ -80,7 +82,7 @@ loop-less c = omega (arith, c .before .before .before .before .before .before .b
 loop-again : tie.Need-loop-again Inv-loop μ-loop
 loop-again c = (
   omega (arith, c .before .before .before .before .before .before .before .loop-test .taken),
-  spread-visited (c .before .before .before .before .before .before .before .before .before .before .before .before .before .before .before .before .pre) (c .before .before .before .before .before .before .before .before .loop .inv .1) (c .before .before .before .before .before .before .before .loop-test .taken) (c .before .before .before .before .before .before .before .before .before .wide .ensures) (direction (c .before .before .before .before .before .before .before))
+  spread-visited (c .before .before .before .before .before .before .before .before .before .before .before .before .before .before .before .before .before .pre) (c .before .before .before .before .before .before .before .before .loop .inv .1) (c .before .before .before .before .before .before .before .loop-test .taken) (c .before .before .before .before .before .before .before .before .before .before .wide .ensures) (c .before .before .before .before .before .before .before .before .before .is-inner .ensures) (direction (c .before .before .before .before .before .before .before))
       (c .before .before .before .before .visit .ensures),
 )
 
@@ -91,7 +93,7 @@ same-length-2 : tie.Need-same-length-2 Inv-loop μ-loop
 same-length-2 c = c .before .loop .inv .1 .queue .long
 
 returns : tie.Need-returns Inv-loop μ-loop
-returns c = ran-turn (c .before .loop .inv .1) (c .loop-test .left) (omega (arith, c .before .loop .inv .1 .longer, c .before .before .before .before .before .before .before .before .before .pre .busy))
+returns c = ran-turn (c .before .loop .inv .1) (c .loop-test .left) (omega (arith, c .before .loop .inv .1 .longer, c .before .before .before .before .before .before .before .before .before .before .pre .busy))
 
 pub spread-spec : {M : Type 1} → statement M
 spread-spec =
@@ -105,6 +107,7 @@ spread-spec =
     wide-requires
     rem-x
     div-y
+    is-inner-requires
     loop-holds
     mul-visit
     element-copy-out-visit
