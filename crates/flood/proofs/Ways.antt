@@ -1,0 +1,48 @@
+-- The eight directions by number, in the order of `directions`, and the number of each one's opposite. A fact on all of them is one equation of lists that
+-- computes, and holds at each number by what a map has there. Assumes nothing.
+use Prim.Native.Nat.{ℕ, suc, _≤_, _<_}
+use native.Mathlib.Omega.{arith}
+use mathlib.Core.Path.{_≡_, refl, sym, ap, _∙_}
+use mathlib.Core.List.{List, [], _∷_, map}
+use lib.ListN.{length, getD, List·getD-map}
+use Rattle.definitions.specs.Grid.{at, directions}
+use Rattle.laws.specs.Lists.{All, done, more}
+use Rattle.laws.specs.Members.{all-place}
+use Rattle.flood.specs.Masks.{opposite}
+use Rattle.flood.specs.declared.Direction.{Direction}
+use Rattle.flood.specs.Walk.{directionAt}
+use Rattle.flood.specs.Inner.{positionAt}
+
+abbrev opposites : List ℕ
+opposites = 3 ∷ 2 ∷ 1 ∷ 0 ∷ 7 ∷ 6 ∷ 5 ∷ 4 ∷ []
+
+abbrev pub oppositeWay : ℕ → ℕ
+oppositeWay d = getD opposites d 7
+
+all-opposites : map opposite directions ≡ map directionAt opposites
+all-opposites = refl
+
+pub opposite-direction : (d : ℕ) → directionAt (oppositeWay d) ≡ opposite (directionAt d)
+opposite-direction d =
+    sym (List·getD-map directionAt opposites d 7) ∙ ap (λ l. getD l d (at 2 2)) (sym all-opposites) ∙ List·getD-map opposite directions d (at 0 0)
+
+pub opposite-below : (d : ℕ) → d < 8 → oppositeWay d < 8
+opposite-below d h =
+    all-place {A = ℕ} {P = λ e. e < 8} 7
+    (more (omega arith) (more (omega arith) (more (omega arith) (more (omega arith) (more (omega arith) (more (omega arith) (more (omega arith) (more (omega arith) done))))))))
+    d h
+
+pub direction-near : (d : ℕ) → d < 8 → (directionAt d .x ≤ 2) × (directionAt d .y ≤ 2)
+direction-near d h =
+    all-place {P = λ p. (p .x ≤ 2) × (p .y ≤ 2)} (at 0 0)
+    (more (omega arith) (more (omega arith) (more (omega arith) (more (omega arith) (more (omega arith) (more (omega arith) (more (omega arith) (more (omega arith) done))))))))
+    d h
+
+-- what holds at each place holds of every element
+pub all-by-place : {A : Type 0} {P : A → Type 0} (x : A) (l : List A) → ((i : ℕ) → i < length l → P (getD l i x)) → All P l
+all-by-place x [] h = done
+all-by-place x (a ∷ l) h = more (h 0 (omega arith)) (all-by-place x l (λ i b. h (suc i) (omega arith)))
+
+-- a table of the code that has the eight directions has each at its number
+pub table-at : (t : List Direction) → map positionAt t ≡ directions → (d : ℕ) → positionAt (getD t d (record { x = 0; y = 0 })) ≡ directionAt d
+table-at t e d = sym (List·getD-map positionAt t d (record { x = 0; y = 0 })) ∙ ap (λ l. getD l d (at 0 0)) e

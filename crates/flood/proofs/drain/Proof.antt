@@ -1,0 +1,56 @@
+-- `flood::drain` meets its contract. The loop's invariant is the state with the cells before `at` done; the measure is how many cells can still be done, since
+-- the queue holds no cell twice. Assumes nothing.
+use Prim.Native.Nat.{_-_, _*_}
+use native.Mathlib.Omega.{arith}
+use Rattle.flood.specs.Walk.{graphOf, gridOf}
+use Rattle.flood.specs.State.{Ran}
+use Rattle.flood.proofs.States.{tail-le, ran-start, ran-then, ran-rest}
+use Rattle.flood.proofs.drain.Statement.{statement}
+use Rattle.flood.proofs.drain.Tie as tie
+
+abbrev Inv-loop : tie.InvT-loop
+Inv-loop width height cells masks labels₀ queue₀ id head tail end₀ at₀ labels queue end at =
+    Ran (graphOf (gridOf width height cells) masks) id labels₀ queue₀ tail labels queue at 0 end
+
+abbrev μ-loop : tie.MeasureT-loop
+μ-loop width height cells masks labels₀ queue₀ id head tail end₀ at₀ labels queue end at = height * width - at
+
+loop-holds : tie.Need-loop-holds Inv-loop μ-loop
+loop-holds c = ran-start (c .before .before .before .before .pre .state)
+
+spread-requires : tie.Need-spread-requires Inv-loop μ-loop
+spread-requires c κs =
+    record { table = c .before .before .before .before .before .before .before .before .pre .table; state = c .before .before .before .loop .inv .state; busy = c .before .before .loop-test .taken; some = c .before .before .before .before .before .before .before .before .pre .some }
+
+add-at : tie.Need-add-at Inv-loop μ-loop
+add-at c = omega (arith, c .before .before .before .before .before .before .before .loop-test .taken, tail-le (c .before .before .before .before .before .before .before .before .loop .inv .state), c .before .before .before .before .before .before .before .before .before .before .before .before .before .pre .table .few)
+
+loop-less : tie.Need-loop-less Inv-loop μ-loop
+loop-less c = omega (arith, c .before .before .before .before .before .before .before .loop-test .taken, tail-le (c .before .before .before .before .before .before .before .before .loop .inv .state))
+
+loop-again : tie.Need-loop-again Inv-loop μ-loop
+loop-again c = ran-then (c .before .before .before .before .before .before .before .before .loop .inv) (c .before .before .before .before .spread .ensures)
+
+same-length : tie.Need-same-length Inv-loop μ-loop
+same-length c = c .before .loop .inv .labels .long
+
+same-length-2 : tie.Need-same-length-2 Inv-loop μ-loop
+same-length-2 c = c .before .loop .inv .queue .long
+
+returns : tie.Need-returns Inv-loop μ-loop
+returns c = ran-rest (c .before .loop .inv) (c .loop-test .left)
+
+pub drain-spec : {M : Type 1} → statement M
+drain-spec =
+    tie.close
+    (tie.spec
+    Inv-loop
+    μ-loop
+    loop-holds
+    spread-requires
+    add-at
+    loop-less
+    loop-again
+    same-length
+    same-length-2
+    returns)

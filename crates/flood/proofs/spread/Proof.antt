@@ -1,0 +1,122 @@
+-- `flood::spread` meets its contract. The loop's invariant: the state holds with the directions below d done, of the cell at the queue's head, whose number
+-- does not change, since the queue only grows at its end. Assumes nothing.
+use Prim.Native.Nat.{_≤_, _<_, _-_, _*_}
+use native.Mathlib.Omega.{arith}
+use mathlib.Core.Path.{_≡_}
+use lib.ListN.{getD}
+use borrow.Author.Needs.{needs}
+use Rattle.flood.specs.Walk.{gridOf, graphOf, directionAt}
+use Rattle.flood.specs.State.{Ran}
+use Rattle.flood.specs.Inner.{positionAt}
+use Rattle.flood.proofs.Ways.{table-at}
+use Rattle.flood.proofs.States.{tail-le, ran-start, ran-turn}
+use Rattle.flood.proofs.Tests.{cell-wide, cell-x, cell-y}
+use Rattle.flood.proofs.Turns.{visiting, spread-visited}
+use Rattle.flood.proofs.spread.Statement.{statement}
+use Rattle.flood.proofs.spread.Tie as tie
+
+abbrev Inv-loop : tie.InvT-loop
+Inv-loop width height cells masks labels₀ queue₀ id head tail table c x y inner end₀ d₀ labels queue end d =
+    (d ≤ 8) × Ran (graphOf (gridOf width height cells) masks) id labels₀ queue₀ tail labels queue head d end
+
+abbrev μ-loop : tie.MeasureT-loop
+μ-loop width height cells masks labels₀ queue₀ id head tail table c x y inner end₀ d₀ labels queue end d =
+    8 - d
+
+direction-table-requires : tie.Need-direction-table-requires Inv-loop μ-loop
+direction-table-requires c κs = search needs
+
+mul-wide : tie.Need-mul-wide Inv-loop μ-loop
+mul-wide c = omega (arith, tail-le (c .before .before .before .before .before .pre .state), c .before .before .before .before .before .pre .busy, c .before .before .before .before .before .pre .table .few)
+
+slice-read-wide : tie.Need-slice-read-wide Inv-loop μ-loop
+slice-read-wide c = omega (arith, tail-le (c .before .before .before .before .before .before .pre .state), c .before .before .before .before .before .before .pre .state .room, c .before .before .before .before .before .before .pre .busy)
+
+wide-requires : tie.Need-wide-requires Inv-loop μ-loop
+wide-requires c κs = search needs
+
+-- a cell of the grid
+in-grid : (c : tie.After-wide Inv-loop μ-loop) → c .wide .result < c .before .before .before .before .before .before .before .args .height * c .before .before .before .before .before .before .before .args .width
+in-grid c = omega (arith, c .wide .ensures, c .before .before .before .before .before .before .before .pre .state .cell (c .before .before .before .before .before .before .before .args .head) (c .before .before .before .before .before .before .before .pre .busy))
+
+rem-x : tie.Need-rem-x Inv-loop μ-loop
+rem-x c = omega (arith, cell-wide (c .wide .result) (c .before .before .before .before .before .before .before .args .width) (c .before .before .before .before .before .before .before .args .height) (in-grid c))
+
+div-y : tie.Need-div-y Inv-loop μ-loop
+div-y c = omega (arith, cell-wide (c .wide .result) (c .before .before .before .before .before .before .before .args .width) (c .before .before .before .before .before .before .before .args .height) (in-grid c))
+
+is-inner-requires : tie.Need-is-inner-requires Inv-loop μ-loop
+is-inner-requires c κs =
+    let s = c .before .before .before .before .before .before .before in
+    (s .pre .table .narrow, s .pre .table .short, cell-x (c .wide .result) (s .args .width) (s .args .height) (in-grid c), cell-y (c .wide .result) (s .args .width) (s .args .height) (in-grid c))
+
+loop-holds : tie.Need-loop-holds Inv-loop μ-loop
+loop-holds c = (omega arith, ran-start (c .before .before .before .before .before .before .before .before .pre .state))
+
+mul-visit : tie.Need-mul-visit Inv-loop μ-loop
+mul-visit c = omega (arith, c .before .before .loop-test .taken)
+
+element-copy-out-visit : tie.Need-element-copy-out-visit Inv-loop μ-loop
+element-copy-out-visit c = c .before .before .loop-test .taken
+
+mul-visit-2 : tie.Need-mul-visit-2 Inv-loop μ-loop
+mul-visit-2 c = omega (arith, c .before .before .loop-test .taken)
+
+element-copy-out-visit-2 : tie.Need-element-copy-out-visit-2 Inv-loop μ-loop
+element-copy-out-visit-2 c = c .before .before .loop-test .taken
+
+-- what the table has at d
+direction : (c : tie.In-loop Inv-loop μ-loop) → positionAt (getD (c .before .before .before .before .before .direction-table .result) (c .before .loop .d) (record { x = 0; y = 0 })) ≡ directionAt (c .before .loop .d)
+direction c = table-at (c .before .before .before .before .before .direction-table .result) (c .before .before .before .before .before .direction-table .ensures) (c .before .loop .d)
+
+visit-requires : tie.Need-visit-requires Inv-loop μ-loop
+visit-requires c κs =
+    visiting (c .before .before .before .before .before .before .before .before .before .before .before .before .pre) (c .before .before .before .loop .inv .1) (c .before .before .loop-test .taken) (c .before .before .before .before .before .wide .ensures) (c .before .before .before .before .is-inner .ensures) (direction (c .before .before))
+
+add-d : tie.Need-add-d Inv-loop μ-loop
+add-d c = omega (arith, c .before .before .before .before .before .before .before .loop-test .taken)
+
+loop-less : tie.Need-loop-less Inv-loop μ-loop
+loop-less c = omega (arith, c .before .before .before .before .before .before .before .loop-test .taken)
+
+loop-again : tie.Need-loop-again Inv-loop μ-loop
+loop-again c = (
+  omega (arith, c .before .before .before .before .before .before .before .loop-test .taken),
+  spread-visited (c .before .before .before .before .before .before .before .before .before .before .before .before .before .before .before .before .before .pre) (c .before .before .before .before .before .before .before .before .loop .inv .1) (c .before .before .before .before .before .before .before .loop-test .taken) (c .before .before .before .before .before .before .before .before .before .before .wide .ensures) (c .before .before .before .before .before .before .before .before .before .is-inner .ensures) (direction (c .before .before .before .before .before .before .before))
+      (c .before .before .before .before .visit .ensures),
+)
+
+same-length : tie.Need-same-length Inv-loop μ-loop
+same-length c = c .before .loop .inv .1 .labels .long
+
+same-length-2 : tie.Need-same-length-2 Inv-loop μ-loop
+same-length-2 c = c .before .loop .inv .1 .queue .long
+
+returns : tie.Need-returns Inv-loop μ-loop
+returns c = ran-turn (c .before .loop .inv .1) (c .loop-test .left) (omega (arith, c .before .loop .inv .1 .longer, c .before .before .before .before .before .before .before .before .before .before .pre .busy))
+
+pub spread-spec : {M : Type 1} → statement M
+spread-spec =
+    tie.close
+    (tie.spec
+    Inv-loop
+    μ-loop
+    direction-table-requires
+    mul-wide
+    slice-read-wide
+    wide-requires
+    rem-x
+    div-y
+    is-inner-requires
+    loop-holds
+    mul-visit
+    element-copy-out-visit
+    mul-visit-2
+    element-copy-out-visit-2
+    visit-requires
+    add-d
+    loop-less
+    loop-again
+    same-length
+    same-length-2
+    returns)

@@ -1,0 +1,5 @@
+pub mod Masks
+pub mod Walk
+pub mod State
+pub mod Contract
+pub mod Inner
