@@ -56,3 +56,4 @@ pub mod JunctionsAsRust
 pub mod SoundMaps
 pub mod CanonicalOutput
 pub mod JunctionRows
+pub mod SheetLaws
