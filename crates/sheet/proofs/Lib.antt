@@ -1,1 +1,4 @@
 pub mod Groups
+pub mod Items
+pub mod Judging
+pub mod Filling
