@@ -5,10 +5,11 @@ use mathlib.Core.Path.{_≡_, refl, sym, ap, _∙_}
 use mathlib.Core.List.{List, _∷_}
 use native.Mathlib.Omega.{arith}
 use lib.ListN.{length, drop}
-use Rattle.definitions.specs.SheetNumber.{Read, found, failed}
-use Rattle.definitions.specs.Sheet.{Reader, andThen, give, times}
+use Rattle.definitions.specs.SheetNumber.{Read, found, failed, number}
+use Rattle.definitions.specs.Sheet.{Reader, andThen, give, times, cell}
 use Rattle.laws.specs.SheetLaws.{Keeps, ends-inside, times-found, times-failed, then-found, then-failed}
-use Rattle.sheet.specs.Numbers.{itemsAt, valuesIn, Told}
+use Rattle.sheet.specs.Numbers.{upTo, itemsAt, valuesIn, isFound, Told, Held}
+use Rattle.sheet.proofs.Items.{upTo-all, upTo-cell}
 use Rattle.sheet.specs.declared.Judged.{Judged}
 use Rattle.sheet.specs.declared.Judged.the-variants.{Behind, Faulty}
 
@@ -52,3 +53,13 @@ module _ {item : Reader ℕ} {bytes : List ℕ} {at : ℕ} where
           more : (answer : Judged) → Told bytes (times (left - 1) item behind (drop behind bytes)) answer → Told bytes (times left item next (drop next bytes)) answer
           more (Behind last) t = told (begun ∙ then-found (λ values. give (value ∷ values)) t)
           more (Faulty place) t = begun ∙ then-failed (λ values. give (value ∷ values)) t
+
+pub told-numbers : (bytes : List ℕ) (at count : ℕ) (answer : Judged) → Told bytes (itemsAt (upTo 0xffff_ffff_ffff_ffff) bytes at count) answer → Told bytes (itemsAt number bytes at count) answer
+told-numbers bytes at count answer h = rw upTo-all at h
+
+pub told-cells : (bytes : List ℕ) (at count : ℕ) (answer : Judged) → Told bytes (itemsAt (upTo 255) bytes at count) answer → Told bytes (itemsAt cell bytes at count) answer
+told-cells bytes at count answer h = rw upTo-cell at h
+
+-- what was judged to stand there may be stored
+pub read-is-held : {item : Reader ℕ} {bytes : List ℕ} {at count next : ℕ} → at ≤ length bytes → Told bytes (itemsAt item bytes at count) (Behind next) → Held item bytes at count
+read-is-held h t = record { inside = h; all = ap isFound t }

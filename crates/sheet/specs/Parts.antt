@@ -140,3 +140,9 @@ SheetTold cellLimit bytes (NoSheet refusal place) = readSheet cellLimit bytes �
 abbrev pub roomIn : Parts → ℕ → ℕ → ℕ → ℕ → Bool
 roomIn parts cells spans boundaries anchors =
     leb (parts .cells .length) cells && leb (parts .spans .length) spans && leb (parts .boundaries .length) boundaries && leb (parts .anchors .length) anchors
+
+pub record Room (parts : Parts) (cells spans boundaries anchors : ℕ) : Type 0 where
+  pub for-cells : parts .cells .length ≤ cells
+  pub for-spans : parts .spans .length ≤ spans
+  pub for-boundaries : parts .boundaries .length ≤ boundaries
+  pub for-anchors : parts .anchors .length ≤ anchors

@@ -2,7 +2,7 @@
 // every lent list as it was.
 ghost use mathlib.Core.Path.{_≡_};
 ghost use Prim.Native.Nat.{_*_, _≤_, _<_};
-ghost use mathlib.Core.Bool.{true, _&&_};
+ghost use mathlib.Core.Bool.{_&&_};
 ghost use lib.Dec.{leb};
 ghost use lib.ListN.{length, drop};
 ghost use Rattle.definitions.specs.SheetNumber as grammar;
@@ -11,7 +11,7 @@ ghost use Rattle.definitions.specs.Limits.{isSide};
 ghost use Rattle.definitions.specs.Sheet.{cell};
 ghost use Rattle.sheet.specs.Numbers.{numberOf, upTo, itemOf, itemsAt, Told, Held, valuesAt};
 ghost use Rattle.sheet.specs.Parts as parts;
-ghost use Rattle.sheet.specs.Parts.{SidesTold, EntriesTold, ListsTold, SheetTold, PartsHeld, partOf, cellsIn, roomIn};
+ghost use Rattle.sheet.specs.Parts.{SidesTold, EntriesTold, ListsTold, SheetTold, PartsHeld, partOf, cellsIn, roomIn, Room};
 ghost use Rattle.sheet.specs.Answers.{headerIn, Answered, readingWithin};
 
 // ---- one number
@@ -363,7 +363,16 @@ fn fits(parts: Parts, cells: usize, spans: usize, boundaries: usize, anchors: us
     let b = parts.spans;
     let c = parts.boundaries;
     let d = parts.anchors;
-    a.length <= cells && b.length <= spans && c.length <= boundaries && d.length <= anchors
+    if cells < a.length {
+        return false;
+    }
+    if spans < b.length {
+        return false;
+    }
+    if boundaries < c.length {
+        return false;
+    }
+    d.length <= anchors
 }
 
 // Fills the lists with what was judged before.
@@ -376,7 +385,7 @@ fn fill(
     anchors: &mut [u64],
 )
     requires { ⌜ PartsHeld (now bytes) parts ⌝ }
-    requires { ⌜ roomIn parts (length (now cells)) (length (now spans)) (length (now boundaries)) (length (now anchors)) ≡ true ⌝ }
+    requires { ⌜ Room parts (length (now cells)) (length (now spans)) (length (now boundaries)) (length (now anchors)) ⌝ }
     ensures { λ r. ⌜ now (cells .exit) ≡ overwrite (cellsIn (now (bytes .entry)) parts) (now (cells .entry)) ⌝ }
     ensures { λ r. ⌜ now (spans .exit) ≡ overwrite (partOf (now (bytes .entry)) (parts .spans)) (now (spans .entry)) ⌝ }
     ensures { λ r. ⌜ now (boundaries .exit) ≡ overwrite (partOf (now (bytes .entry)) (parts .boundaries)) (now (boundaries .entry)) ⌝ }
