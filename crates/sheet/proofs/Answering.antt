@@ -46,7 +46,7 @@ module _ {limit : ℕ} {bytes : List ℕ} {plan : Plan} (S : SheetHeld limit byt
       anchors = held-length (S .held .anchors) i / numbersPerAnchor;
     }
 
-  module _ {cells spans boundaries anchors : List ℕ} where
+  module _ (cells spans boundaries anchors : List ℕ) where
     by-room : readingWithin limit bytes cells spans boundaries anchors
         ≡ cond (roomIn (plan .parts) (length cells) (length spans) (length boundaries) (length anchors)) (wellFormed (sheetOf bytes plan)) (refused 10 0)
     by-room =
@@ -73,6 +73,6 @@ module _ {limit : ℕ} {bytes : List ℕ} {plan : Plan} (S : SheetHeld limit byt
 
 -- ---- a sheet that was not
 
-pub answered-refused : {limit refusal place : ℕ} {bytes cells spans boundaries anchors : List ℕ} → readSheet limit bytes ≡ refused refusal place
+pub answered-refused : (limit : ℕ) (bytes : List ℕ) {refusal place : ℕ} {cells spans boundaries anchors : List ℕ} → readSheet limit bytes ≡ refused refusal place
     → Answered (readingWithin limit bytes cells spans boundaries anchors) cells spans boundaries anchors (Refused refusal place) cells spans boundaries anchors
-answered-refused h = rw h (record { said = refl; cells-left = refl; spans-left = refl; boundaries-left = refl; anchors-left = refl })
+answered-refused limit bytes h = rw h (record { said = refl; cells-left = refl; spans-left = refl; boundaries-left = refl; anchors-left = refl })

@@ -8,7 +8,7 @@ ghost use lib.ListN.{length, drop};
 ghost use Rattle.definitions.specs.SheetNumber as grammar;
 ghost use Rattle.definitions.specs.Lists.{overwrite};
 ghost use Rattle.definitions.specs.Limits.{isSide};
-ghost use Rattle.definitions.specs.Sheet.{cell};
+ghost use Rattle.definitions.specs.Sheet.{cell, readVerdict};
 ghost use Rattle.sheet.specs.Numbers.{numberOf, upTo, itemOf, itemsAt, Told, Held, valuesAt};
 ghost use Rattle.sheet.specs.Parts as parts;
 ghost use Rattle.sheet.specs.Parts.{SidesTold, EntriesTold, ListsTold, SheetTold, PartsHeld, partOf, cellsIn, roomIn, Room};
@@ -441,4 +441,19 @@ pub fn read_within(
         }
         SheetRead::Refused(refusal, place) => Answer::Refused(refusal, place),
     }
+}
+
+const PLAIN_CELL_LIMIT: u64 = 1_048_576;
+
+// Reads a sheet into the lists: document 01's reading alone.
+pub fn read_sheet(
+    bytes: &[u8],
+    cells: &mut [u8],
+    spans: &mut [u64],
+    boundaries: &mut [u64],
+    anchors: &mut [u64],
+) -> Answer
+    ensures { λ r. ⌜ Answered (readVerdict (now (bytes .entry)) (length (now (cells .entry))) (length (now (spans .entry))) (length (now (boundaries .entry))) (length (now (anchors .entry)))) (now (cells .entry)) (now (spans .entry)) (now (boundaries .entry)) (now (anchors .entry)) r (now (cells .exit)) (now (spans .exit)) (now (boundaries .exit)) (now (anchors .exit)) ⌝ }
+{
+    read_within(bytes, PLAIN_CELL_LIMIT, &mut *cells, &mut *spans, &mut *boundaries, &mut *anchors)
 }

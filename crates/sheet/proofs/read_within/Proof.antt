@@ -40,15 +40,15 @@ same-length-4 c = search needs
 
 returns : tie.Need-returns
 returns c =
-    answered-read (subst (SheetTold _ _) (c .before .before .before .before .before .before .before .before .before .before .before .before .before .before .before .before .before .before .plan .given .1) (c .before .before .before .before .before .before .before .before .before .before .before .before .before .before .before .before .before .before .before .before .judge-sheet .ensures))
+    answered-read (subst (SheetTold _ _) (c .before .before .before .before .before .before .before .before .before .before .before .before .before .before .before .before .before .before .plan .given .1) (c .before .before .before .before .before .before .before .before .before .before .before .before .before .before .before .before .before .before .before .before .judge-sheet .ensures)) _ _ _ _
     (sym (c .before .before .before .before .before .before .before .before .before .before .before .before .before .before .before .fits2 .ensures) ∙ c .before .before .before .before .before .before .before .before .before .before .before .before .before .before .if1 .taken) (c .header-of .ensures) (c .before .before .before .before .before .before .before .before .before .fill .ensures .0) (c .before .before .before .before .before .before .before .before .before .fill .ensures .1 .0)
     (c .before .before .before .before .before .before .before .before .before .fill .ensures .1 .1 .0) (c .before .before .before .before .before .before .before .before .before .fill .ensures .1 .1 .1)
 
 returns-2 : tie.Need-returns-2
-returns-2 c = answered-short (subst (SheetTold _ _) (c .before .before .before .before .plan .given .1) (c .before .before .before .before .before .before .judge-sheet .ensures)) (sym (c .before .fits2 .ensures) ∙ c .if1 .left)
+returns-2 c = answered-short (subst (SheetTold _ _) (c .before .before .before .before .plan .given .1) (c .before .before .before .before .before .before .judge-sheet .ensures)) _ _ _ _ (sym (c .before .fits2 .ensures) ∙ c .if1 .left)
 
 returns-3 : tie.Need-returns-3
-returns-3 c = answered-refused (subst (SheetTold _ _) (c .before .refusal .given .1) (c .before .before .before .judge-sheet .ensures))
+returns-3 c = answered-refused _ _ (subst (SheetTold _ _) (c .before .refusal .given .1) (c .before .before .before .judge-sheet .ensures))
 
 pub read-within-spec : {M : Type 1} → statement M
 read-within-spec =
