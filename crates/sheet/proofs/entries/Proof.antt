@@ -1,0 +1,65 @@
+-- `sheet::entries` meets its contract: the count is judged before its entries are. Assumes nothing.
+use mathlib.Core.Path.{ap, subst, _∙_}
+use native.Mathlib.Omega.{arith}
+use native.Mathlib.Nat.{mul-le-mul}
+use Rattle.sheet.specs.Numbers.{itemOf, Told}
+use Rattle.laws.specs.SheetLaws.{keeps-number, ends-inside}
+use Rattle.sheet.proofs.Items.{as-number}
+use Rattle.sheet.proofs.Chains.{count-fails, count-over}
+use Rattle.sheet.proofs.Found.{entries-found, entries-faulty}
+use borrow.Author.Needs.{needs}
+use Rattle.sheet.proofs.entries.Statement.{statement}
+use Rattle.sheet.proofs.entries.Tie as tie
+
+item-requires : tie.Need-item-requires
+item-requires c κs = search needs
+
+enum-known-written : tie.Need-enum-known-written
+enum-known-written c = search needs
+
+mul-length : tie.Need-mul-length
+mul-length c = omega (arith, mul-le-mul (c .if1 .taken) (c .before .before .before .before .before .before .pre .1))
+
+judge-requires : tie.Need-judge-requires
+judge-requires c κs = ends-inside keeps-number _ _ (c .before .before .before .before .before .before .pre .0) (as-number _ _ (c .before .before .before .before .item .ensures ∙ ap (itemOf _) (c .before .before .written .given .1)))
+
+enum-known-next : tie.Need-enum-known-next
+enum-known-next c = search needs
+
+enum-known-place : tie.Need-enum-known-place
+enum-known-place c = search needs
+
+enum-known-place-2 : tie.Need-enum-known-place-2
+enum-known-place-2 c = search needs
+
+returns : tie.Need-returns
+returns c =
+    entries-found _ _ _ (as-number _ _ (c .before .before .before .before .before .before .before .before .item .ensures ∙ ap (itemOf _) (c .before .before .before .before .before .before .written .given .1)))
+    (c .before .before .before .before .if1 .taken) (c .before .before .before .before .before .before .before .before .before .before .pre .0) (subst (Told _ _) (c .before .next .given .1) (c .before .before .before .judge .ensures))
+
+returns-2 : tie.Need-returns-2
+returns-2 c =
+    entries-faulty _ _ _ (as-number _ _ (c .before .before .before .before .before .before .before .before .item .ensures ∙ ap (itemOf _) (c .before .before .before .before .before .before .written .given .1)))
+    (c .before .before .before .before .if1 .taken) (subst (Told _ _) (c .before .place .given .1) (c .before .before .before .judge .ensures))
+
+returns-3 : tie.Need-returns-3
+returns-3 c = count-over _ _ _ (as-number _ _ (c .before .before .before .before .item .ensures ∙ ap (itemOf _) (c .before .before .written .given .1))) (c .if1 .left)
+
+returns-4 : tie.Need-returns-4
+returns-4 c = count-fails _ _ _ (as-number _ _ (c .before .before .before .item .ensures ∙ ap (itemOf _) (c .before .place2 .given .1)))
+
+pub entries-spec : {M : Type 1} → statement M
+entries-spec =
+    tie.close
+    (tie.spec
+    item-requires
+    enum-known-written
+    mul-length
+    judge-requires
+    enum-known-next
+    enum-known-place
+    enum-known-place-2
+    returns
+    returns-2
+    returns-3
+    returns-4)

@@ -1,0 +1,44 @@
+-- `sheet::item` meets its contract: each answer is what `upTo` gives after the outcome of `number`. Assumes nothing.
+use mathlib.Core.Path.{ap, _∙_}
+use borrow.Author.Needs.{needs}
+use Rattle.sheet.specs.Numbers.{numberOf}
+use Rattle.sheet.proofs.Items.{upTo-allowed, upTo-over, upTo-failed}
+use Rattle.sheet.proofs.item.Statement.{statement}
+use Rattle.sheet.proofs.item.Tie as tie
+
+number-requires : tie.Need-number-requires
+number-requires c κs = search needs
+
+enum-known-value : tie.Need-enum-known-value
+enum-known-value c = search needs
+
+enum-told : tie.Need-enum-told
+enum-told c = search needs
+
+enum-told-2 : tie.Need-enum-told-2
+enum-told-2 c = search needs
+
+returns : tie.Need-returns
+returns c = upTo-allowed _ _ _ (c .before .before .before .before .number .ensures ∙ ap (numberOf _ _) (c .before .before .value .given .1)) (c .if1 .taken)
+
+returns-2 : tie.Need-returns-2
+returns-2 c = upTo-over _ _ _ (c .before .before .before .before .number .ensures ∙ ap (numberOf _ _) (c .before .before .value .given .1)) (c .if1 .left)
+
+returns-3 : tie.Need-returns-3
+returns-3 c = upTo-failed _ _ _ (c .before .before .number .ensures ∙ ap (numberOf _ _) (c .enum-told .given .1))
+
+returns-4 : tie.Need-returns-4
+returns-4 c = upTo-failed _ _ _ (c .before .before .number .ensures ∙ ap (numberOf _ _) (c .enum-told2 .given .1))
+
+pub item-spec : {M : Type 1} → statement M
+item-spec =
+    tie.close
+    (tie.spec
+    number-requires
+    enum-known-value
+    enum-told
+    enum-told-2
+    returns
+    returns-2
+    returns-3
+    returns-4)

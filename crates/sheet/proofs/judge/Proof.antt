@@ -1,0 +1,65 @@
+-- `sheet::judge` meets its contract. The loop's invariant is `Judging`: how the numbers that are left are read tells how all of them are. The measure is how
+-- many are left. Assumes nothing.
+use mathlib.Core.Path.{ap, _∙_}
+use borrow.Author.Needs.{needs}
+use Rattle.sheet.specs.Numbers.{upTo, itemOf}
+use Rattle.sheet.proofs.Items.{keeps-upTo}
+use Rattle.sheet.proofs.Judging.{Judging, judging-starts, judging-ends, judging-stops, judging-goes-on}
+use Rattle.sheet.proofs.judge.Statement.{statement}
+use Rattle.sheet.proofs.judge.Tie as tie
+use Rattle.sheet.proofs.judge.Reads as reads
+use Rattle.sheet.proofs.judge.Lts as lts
+use Rattle.sheet.proofs.item.Reads as item-reads
+
+abbrev Inv-loop : tie.InvT-loop
+Inv-loop bytes at count most next₀ left₀ next left = Judging (upTo most) bytes at count next left
+
+abbrev μ-loop : tie.MeasureT-loop
+μ-loop bytes at count most next₀ left₀ next left = left
+
+loop-holds : tie.Need-loop-holds Inv-loop μ-loop
+loop-holds c = judging-starts (c .before .pre)
+
+sub-left : tie.Need-sub-left Inv-loop μ-loop
+sub-left c = search needs
+
+item-requires : tie.Need-item-requires Inv-loop μ-loop
+item-requires c κs = c .before .loop .inv .inside
+
+enum-known-behind : tie.Need-enum-known-behind Inv-loop μ-loop
+enum-known-behind c = search needs
+
+loop-less : tie.Need-loop-less Inv-loop μ-loop
+loop-less c = search needs
+
+loop-again : tie.Need-loop-again Inv-loop μ-loop
+loop-again c =
+    judging-goes-on (c .before .before .before .before .before .loop .inv) (c .before .before .before .before .loop-test .taken) (keeps-upTo _)
+    (c .before .before .before .item .ensures ∙ ap (itemOf _) (c .before .behind .given .1))
+
+enum-known-place : tie.Need-enum-known-place Inv-loop μ-loop
+enum-known-place c = search needs
+
+returns : tie.Need-returns Inv-loop μ-loop
+returns c =
+    judging-stops (c .before .before .before .before .before .loop .inv) (c .before .before .before .before .loop-test .taken)
+    (c .before .before .before .item .ensures ∙ ap (itemOf _) (c .before .place .given .1))
+
+returns-2 : tie.Need-returns-2 Inv-loop μ-loop
+returns-2 c = judging-ends (c .before .loop .inv) (c .loop-test .left)
+
+pub judge-spec : {M : Type 1} → statement M
+judge-spec =
+    tie.close
+    (tie.spec
+    Inv-loop
+    μ-loop
+    loop-holds
+    sub-left
+    item-requires
+    enum-known-behind
+    loop-less
+    loop-again
+    enum-known-place
+    returns
+    returns-2)

@@ -1,0 +1,79 @@
+-- `sheet::judge_sheet` meets its contract: the three parts follow one another, and the first that is refused is the answer. Assumes nothing.
+use mathlib.Core.Path.{ap, subst, _∙_}
+use native.Mathlib.Omega.{arith}
+use Rattle.sheet.specs.Numbers.{itemOf}
+use Rattle.sheet.specs.Parts.{SidesTold, ListsTold}
+use Rattle.sheet.proofs.Limits.{sides-product}
+use Rattle.sheet.proofs.Chains.{sheet-opening, sheet-sides, sheet-lists}
+use Rattle.sheet.proofs.Found.{opening-inside, sides-inside, sheet-found}
+use borrow.Author.Needs.{needs}
+use Rattle.sheet.proofs.judge_sheet.Statement.{statement}
+use Rattle.sheet.proofs.judge_sheet.Tie as tie
+
+opening-requires : tie.Need-opening-requires
+opening-requires c κs = search needs
+
+enum-known-pass : tie.Need-enum-known-pass
+enum-known-pass c = search needs
+
+sides-requires : tie.Need-sides-requires
+sides-requires c κs = opening-inside _ (c .before .before .before .opening .ensures ∙ ap (itemOf _) (c .before .pass .given .1))
+
+enum-known-width : tie.Need-enum-known-width
+enum-known-width c = search needs
+
+mul-lists : tie.Need-mul-lists
+mul-lists c = omega (arith, sides-product _ _ ((subst (SidesTold _ _ _) (c .before .width .given .1) (c .before .before .before .sides .ensures)) .wide) ((subst (SidesTold _ _ _) (c .before .width .given .1) (c .before .before .before .sides .ensures)) .high))
+
+lists-requires : tie.Need-lists-requires
+lists-requires c κs = sides-inside (opening-inside _ (c .before .before .before .before .before .before .before .opening .ensures ∙ ap (itemOf _) (c .before .before .before .before .before .pass .given .1))) (subst (SidesTold _ _ _) (c .before .width .given .1) (c .before .before .before .sides .ensures))
+
+enum-known-parts : tie.Need-enum-known-parts
+enum-known-parts c = search needs
+
+enum-known-refusal : tie.Need-enum-known-refusal
+enum-known-refusal c = search needs
+
+enum-known-refusal-2 : tie.Need-enum-known-refusal-2
+enum-known-refusal-2 c = search needs
+
+enum-known-place : tie.Need-enum-known-place
+enum-known-place c = search needs
+
+returns : tie.Need-returns
+returns c =
+    sheet-found _ _ (c .before .before .before .before .before .before .before .before .before .before .before .opening .ensures ∙ ap (itemOf _) (c .before .before .before .before .before .before .before .before .before .pass .given .1))
+    (subst (SidesTold _ _ _) (c .before .before .before .before .before .width .given .1) (c .before .before .before .before .before .before .before .sides .ensures))
+    (subst (ListsTold _ _ _) (c .before .parts .given .1) (c .before .before .before .lists .ensures))
+
+returns-2 : tie.Need-returns-2
+returns-2 c =
+    sheet-lists _ _ (c .before .before .before .before .before .before .before .before .before .before .before .opening .ensures ∙ ap (itemOf _) (c .before .before .before .before .before .before .before .before .before .pass .given .1))
+    ((subst (SidesTold _ _ _) (c .before .before .before .before .before .width .given .1) (c .before .before .before .before .before .before .before .sides .ensures)) .same)
+    (subst (ListsTold _ _ _) (c .before .refusal .given .1) (c .before .before .before .lists .ensures))
+
+returns-3 : tie.Need-returns-3
+returns-3 c =
+    sheet-sides _ _ (c .before .before .before .before .before .before .before .opening .ensures ∙ ap (itemOf _) (c .before .before .before .before .before .pass .given .1)) (subst (SidesTold _ _ _) (c .before .refusal2 .given .1) (c .before .before .before .sides .ensures))
+
+returns-4 : tie.Need-returns-4
+returns-4 c = sheet-opening _ _ (c .before .before .before .opening .ensures ∙ ap (itemOf _) (c .before .place .given .1))
+
+pub judge-sheet-spec : {M : Type 1} → statement M
+judge-sheet-spec =
+    tie.close
+    (tie.spec
+    opening-requires
+    enum-known-pass
+    sides-requires
+    enum-known-width
+    mul-lists
+    lists-requires
+    enum-known-parts
+    enum-known-refusal
+    enum-known-refusal-2
+    enum-known-place
+    returns
+    returns-2
+    returns-3
+    returns-4)

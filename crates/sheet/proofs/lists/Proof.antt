@@ -1,0 +1,101 @@
+-- `sheet::lists` meets its contract: the parts follow one another, the first that is refused is the answer, and behind the last the bytes end. Assumes nothing.
+use mathlib.Core.Path.{subst}
+use native.Mathlib.Omega.{arith}
+use Rattle.sheet.specs.Numbers.{Told}
+use Rattle.sheet.specs.Parts.{EntriesTold}
+use Rattle.sheet.proofs.Found.{entries-inside, cells-inside, cells-faulty, spans-faulty, boundaries-faulty, anchors-faulty, lists-too-long, lists-found}
+use borrow.Author.Needs.{needs}
+use Rattle.sheet.proofs.lists.Statement.{statement}
+use Rattle.sheet.proofs.lists.Tie as tie
+
+judge-requires : tie.Need-judge-requires
+judge-requires c κs = search needs
+
+enum-known-a : tie.Need-enum-known-a
+enum-known-a c = search needs
+
+entries-requires : tie.Need-entries-requires
+entries-requires c κs = ((cells-inside _ _ _ (c .before .before .before .before .before .pre) (subst (Told _ _) (c .before .a .given .1) (c .before .before .before .judge .ensures))), omega arith)
+
+enum-known-spans : tie.Need-enum-known-spans
+enum-known-spans c = search needs
+
+entries-requires-2 : tie.Need-entries-requires-2
+entries-requires-2 c κs = (entries-inside (cells-inside _ _ _ (c .before .before .before .before .before .before .before .before .before .pre) (subst (Told _ _) (c .before .before .before .before .before .a .given .1) (c .before .before .before .before .before .before .before .judge .ensures))) (subst (EntriesTold _ _ _) (c .before .spans .given .1) (c .before .before .before .entries .ensures)), omega arith)
+
+enum-known-boundaries : tie.Need-enum-known-boundaries
+enum-known-boundaries c = search needs
+
+entries-requires-3 : tie.Need-entries-requires-3
+entries-requires-3 c κs =
+    (entries-inside (entries-inside (cells-inside _ _ _ (c .before .before .before .before .before .before .before .before .before .before .before .before .before .pre) (subst (Told _ _) (c .before .before .before .before .before .before .before .before .before .a .given .1) (c .before .before .before .before .before .before .before .before .before .before .before .judge .ensures))) (subst (EntriesTold _ _ _) (c .before .before .before .before .before .spans .given .1) (c .before .before .before .before .before .before .before .entries .ensures))) (subst (EntriesTold _ _ _) (c .before .boundaries .given .1) (c .before .before .before .entries2 .ensures)), omega arith)
+
+enum-known-anchors : tie.Need-enum-known-anchors
+enum-known-anchors c = search needs
+
+enum-known-refusal : tie.Need-enum-known-refusal
+enum-known-refusal c = search needs
+
+enum-known-refusal-2 : tie.Need-enum-known-refusal-2
+enum-known-refusal-2 c = search needs
+
+enum-known-refusal-3 : tie.Need-enum-known-refusal-3
+enum-known-refusal-3 c = search needs
+
+enum-known-place : tie.Need-enum-known-place
+enum-known-place c = search needs
+
+returns : tie.Need-returns
+returns c =
+    lists-too-long _ _ _ (subst (Told _ _) (c .before .before .before .before .before .before .before .before .before .before .before .before .before .before .a .given .1) (c .before .before .before .before .before .before .before .before .before .before .before .before .before .before .before .before .judge .ensures))
+    (subst (EntriesTold _ _ _) (c .before .before .before .before .before .before .before .before .before .before .spans .given .1) (c .before .before .before .before .before .before .before .before .before .before .before .before .entries .ensures))
+    (subst (EntriesTold _ _ _) (c .before .before .before .before .before .before .boundaries .given .1) (c .before .before .before .before .before .before .before .before .entries2 .ensures))
+    (subst (EntriesTold _ _ _) (c .before .before .anchors .given .1) (c .before .before .before .before .entries3 .ensures)) (c .if1 .taken)
+
+returns-2 : tie.Need-returns-2
+returns-2 c =
+    lists-found _ _ _ (subst (Told _ _) (c .before .before .before .before .before .before .before .before .before .before .before .before .before .before .a .given .1) (c .before .before .before .before .before .before .before .before .before .before .before .before .before .before .before .before .judge .ensures))
+    (subst (EntriesTold _ _ _) (c .before .before .before .before .before .before .before .before .before .before .spans .given .1) (c .before .before .before .before .before .before .before .before .before .before .before .before .entries .ensures))
+    (subst (EntriesTold _ _ _) (c .before .before .before .before .before .before .boundaries .given .1) (c .before .before .before .before .before .before .before .before .entries2 .ensures))
+    (subst (EntriesTold _ _ _) (c .before .before .anchors .given .1) (c .before .before .before .before .entries3 .ensures)) (c .before .before .before .before .before .before .before .before .before .before .before .before .before .before .before .before .before .before .pre) (c .if1 .left)
+
+returns-3 : tie.Need-returns-3
+returns-3 c =
+    anchors-faulty _ _ _ (subst (Told _ _) (c .before .before .before .before .before .before .before .before .before .before .before .before .before .a .given .1) (c .before .before .before .before .before .before .before .before .before .before .before .before .before .before .before .judge .ensures))
+    (subst (EntriesTold _ _ _) (c .before .before .before .before .before .before .before .before .before .spans .given .1) (c .before .before .before .before .before .before .before .before .before .before .before .entries .ensures))
+    (subst (EntriesTold _ _ _) (c .before .before .before .before .before .boundaries .given .1) (c .before .before .before .before .before .before .before .entries2 .ensures))
+    (subst (EntriesTold _ _ _) (c .before .refusal .given .1) (c .before .before .before .entries3 .ensures))
+
+returns-4 : tie.Need-returns-4
+returns-4 c =
+    boundaries-faulty _ _ _ (subst (Told _ _) (c .before .before .before .before .before .before .before .before .before .a .given .1) (c .before .before .before .before .before .before .before .before .before .before .before .judge .ensures)) (subst (EntriesTold _ _ _) (c .before .before .before .before .before .spans .given .1) (c .before .before .before .before .before .before .before .entries .ensures))
+    (subst (EntriesTold _ _ _) (c .before .refusal2 .given .1) (c .before .before .before .entries2 .ensures))
+
+returns-5 : tie.Need-returns-5
+returns-5 c = spans-faulty _ _ _ (subst (Told _ _) (c .before .before .before .before .before .a .given .1) (c .before .before .before .before .before .before .before .judge .ensures)) (subst (EntriesTold _ _ _) (c .before .refusal3 .given .1) (c .before .before .before .entries .ensures))
+
+returns-6 : tie.Need-returns-6
+returns-6 c = cells-faulty _ _ _ (subst (Told _ _) (c .before .place .given .1) (c .before .before .before .judge .ensures))
+
+pub lists-spec : {M : Type 1} → statement M
+lists-spec =
+    tie.close
+    (tie.spec
+    judge-requires
+    enum-known-a
+    entries-requires
+    enum-known-spans
+    entries-requires-2
+    enum-known-boundaries
+    entries-requires-3
+    enum-known-anchors
+    enum-known-refusal
+    enum-known-refusal-2
+    enum-known-refusal-3
+    enum-known-place
+    returns
+    returns-2
+    returns-3
+    returns-4
+    returns-5
+    returns-6)

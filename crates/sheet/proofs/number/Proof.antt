@@ -1,0 +1,83 @@
+-- `sheet::number` meets its contract. The loop's invariant: the groups read so far have the value so far, below 2 ^ (7 * group), and reading on from here
+-- gives what the number is. The measure is the number of bytes left. Assumes nothing.
+use Prim.Native.Nat.{ℕ, _+_, _*_, _-_, _^_, _≤_, _<_}
+use mathlib.Core.Path.{_≡_, refl, sym, _∙_}
+use borrow.Author.Needs.{needs}
+use native.Mathlib.Omega.{arith}
+use lib.ListN.{length, drop, getD}
+use Rattle.sheet.proofs.Groups.{Groups, start, early-end, long, fits, last, more, scale-fits}
+use Rattle.sheet.proofs.number.Statement.{statement}
+use Rattle.sheet.proofs.number.Tie as tie
+use Rattle.sheet.proofs.number.Reads as reads
+use Rattle.sheet.proofs.number.Lts as lts
+use Rattle.sheet.proofs.too_long.Reads as too-long-reads
+use Rattle.sheet.proofs.wide.Reads as wide-reads
+
+abbrev Inv-loop : tie.InvT-loop
+Inv-loop bytes at value₀ scale₀ group₀ next₀ value scale group next = Groups bytes at value scale group next
+
+abbrev μ-loop : tie.MeasureT-loop
+μ-loop bytes at value₀ scale₀ group₀ next₀ value scale group next = length bytes - next
+
+loop-holds : tie.Need-loop-holds Inv-loop μ-loop
+loop-holds c = start _ _ (c .before .pre)
+
+shared-slice-read-wide : tie.Need-shared-slice-read-wide Inv-loop μ-loop
+shared-slice-read-wide c = search needs
+
+wide-requires : tie.Need-wide-requires Inv-loop μ-loop
+wide-requires c κs = search needs
+
+add-next : tie.Need-add-next Inv-loop μ-loop
+add-next c = search needs
+
+too-long-requires : tie.Need-too-long-requires Inv-loop μ-loop
+too-long-requires c κs = search needs
+
+returns : tie.Need-returns Inv-loop μ-loop
+returns c = long (c .before .before .before .before .before .loop .inv) (c .before .before .before .before .loop-test .taken) (c .before .before .wide .ensures) (sym (c .before .too-long .ensures) ∙ c .if1 .taken)
+
+mul-value : tie.Need-mul-value Inv-loop μ-loop
+mul-value c = omega (arith, fits (c .before .before .before .before .before .loop .inv) (c .before .before .before .before .loop-test .taken) (c .before .before .wide .ensures) (sym (c .before .too-long .ensures) ∙ c .if1 .left))
+
+add-value : tie.Need-add-value Inv-loop μ-loop
+add-value c = omega (arith, fits (c .before .before .before .before .before .loop .inv) (c .before .before .before .before .loop-test .taken) (c .before .before .wide .ensures) (sym (c .before .too-long .ensures) ∙ c .if1 .left))
+
+returns-2 : tie.Need-returns-2 Inv-loop μ-loop
+returns-2 c = last (c .before .before .before .before .before .before .loop .inv) (c .before .before .before .before .before .loop-test .taken) (c .before .before .before .wide .ensures) (sym (c .before .before .too-long .ensures) ∙ c .before .if1 .left) (c .if2 .taken)
+
+mul-scale : tie.Need-mul-scale Inv-loop μ-loop
+mul-scale c = omega (arith, scale-fits (c .before .before .before .before .before .before .loop .inv) (c .before .before .before .before .before .loop-test .taken) (c .before .before .before .wide .ensures) (sym (c .before .before .too-long .ensures) ∙ c .before .if1 .left) (c .if2 .left))
+
+add-group : tie.Need-add-group Inv-loop μ-loop
+add-group c = search needs
+
+loop-less : tie.Need-loop-less Inv-loop μ-loop
+loop-less c = search needs
+
+loop-again : tie.Need-loop-again Inv-loop μ-loop
+loop-again c = more (c .before .before .before .before .before .before .loop .inv) (c .before .before .before .before .before .loop-test .taken) (c .before .before .before .wide .ensures) (sym (c .before .before .too-long .ensures) ∙ c .before .if1 .left) (c .if2 .left)
+
+returns-3 : tie.Need-returns-3 Inv-loop μ-loop
+returns-3 c = early-end (c .before .loop .inv) (c .loop-test .left)
+
+pub number-spec : {M : Type 1} → statement M
+number-spec =
+    tie.close
+    (tie.spec
+    Inv-loop
+    μ-loop
+    loop-holds
+    shared-slice-read-wide
+    wide-requires
+    add-next
+    too-long-requires
+    returns
+    mul-value
+    add-value
+    returns-2
+    mul-scale
+    add-group
+    loop-less
+    loop-again
+    returns-3)

@@ -1,0 +1,459 @@
+// The reader of a sheet of kind 1: what the bytes hold, or why they are refused. All bytes are judged before a list is filled, so a refusal leaves
+// every lent list as it was.
+ghost use mathlib.Core.Path.{_≡_};
+ghost use Prim.Native.Nat.{_*_, _≤_, _<_};
+ghost use mathlib.Core.Bool.{_&&_};
+ghost use lib.Dec.{leb};
+ghost use lib.ListN.{length, drop};
+ghost use Rattle.definitions.specs.SheetNumber as grammar;
+ghost use Rattle.definitions.specs.Lists.{overwrite};
+ghost use Rattle.definitions.specs.Limits.{isSide};
+ghost use Rattle.definitions.specs.Sheet.{cell, readVerdict};
+ghost use Rattle.sheet.specs.Numbers.{numberOf, upTo, itemOf, itemsAt, Told, Held, valuesAt};
+ghost use Rattle.sheet.specs.Parts as parts;
+ghost use Rattle.sheet.specs.Parts.{SidesTold, EntriesTold, ListsTold, SheetTold, PartsHeld, partOf, cellsIn, roomIn, Room};
+ghost use Rattle.sheet.specs.Answers.{headerIn, Answered, readingWithin};
+
+// ---- one number
+
+// What stands at an offset: a number, with the offset behind it; or more than ten groups or 64 bits; or an early end.
+pub enum NumberRead {
+    Value(u64, usize),
+    Long,
+    Short,
+}
+
+fn wide(byte: u8) -> u64
+    ensures { λ r. ⌜ r ≡ byte ⌝ }
+{
+    byte as u64
+}
+
+// Nine groups have 63 bits, so the tenth byte has one bit to give, and none follows it.
+fn too_long(group: u64, byte: u64) -> bool
+    ensures { λ r. ⌜ r ≡ grammar.tooLong group byte ⌝ }
+{
+    group == 9 && 1 < byte
+}
+
+// The number at an offset, in groups of seven bits, least first.
+pub fn number(bytes: &[u8], at: usize) -> NumberRead
+    requires { ⌜ at ≤ length (now bytes) ⌝ }
+    ensures { λ r. ⌜ grammar.number at (drop at (now (bytes .entry))) ≡ numberOf (now (bytes .entry)) at r ⌝ }
+{
+    let mut value: u64 = 0;
+    let mut scale: u64 = 1;
+    let mut group: u64 = 0;
+    let mut next = at;
+    while next < bytes.len() {
+        let byte = wide(bytes[next]);
+        next += 1;
+        if too_long(group, byte) {
+            return NumberRead::Long;
+        }
+        value += byte % 128 * scale;
+        if byte < 128 {
+            return NumberRead::Value(value, next);
+        }
+        scale *= 128;
+        group += 1;
+    }
+    NumberRead::Short
+}
+
+// ---- numbers of at most so much, one after the other
+
+const MOST: u64 = 0xffff_ffff_ffff_ffff;
+const CELL_MOST: u64 = 255;
+
+// A number, with the offset behind it; or the place where the sheet is refused 14.
+enum ItemRead {
+    Item(u64, usize),
+    Fault(usize),
+}
+
+// The number at an offset, which is to be at most `most`.
+fn item(bytes: &[u8], at: usize, most: u64) -> ItemRead
+    requires { ⌜ at ≤ length (now bytes) ⌝ }
+    ensures { λ r. ⌜ upTo most at (drop at (now (bytes .entry))) ≡ itemOf (now (bytes .entry)) r ⌝ }
+{
+    match number(bytes, at) {
+        NumberRead::Value(value, next) => {
+            if value <= most {
+                ItemRead::Item(value, next)
+            } else {
+                ItemRead::Fault(at)
+            }
+        }
+        NumberRead::Long => ItemRead::Fault(at),
+        NumberRead::Short => ItemRead::Fault(bytes.len()),
+    }
+}
+
+// The offset behind some numbers; or the place where the sheet is refused 14.
+enum Judged {
+    Behind(usize),
+    Faulty(usize),
+}
+
+// Judges `count` numbers of at most `most` each.
+fn judge(bytes: &[u8], at: usize, count: usize, most: u64) -> Judged
+    requires { ⌜ at ≤ length (now bytes) ⌝ }
+    ensures { λ r. ⌜ Told (now (bytes .entry)) (itemsAt (upTo most) (now (bytes .entry)) at count) r ⌝ }
+{
+    let mut next = at;
+    let mut left = count;
+    while 0 < left {
+        left -= 1;
+        match item(bytes, next, most) {
+            ItemRead::Item(_, behind) => {
+                next = behind;
+            }
+            ItemRead::Fault(place) => {
+                return Judged::Faulty(place);
+            }
+        }
+    }
+    Judged::Behind(next)
+}
+
+// Stores `count` numbers that were judged before.
+fn fill_numbers(bytes: &[u8], at: usize, count: usize, out: &mut [u64])
+    requires { ⌜ (Held grammar.number (now bytes) at count) × (count ≤ length (now out)) ⌝ }
+    ensures { λ r. ⌜ now (out .exit) ≡ overwrite (valuesAt grammar.number (now (bytes .entry)) at count) (now (out .entry)) ⌝ }
+{
+    let mut next = at;
+    let mut i = 0;
+    while i < count {
+        let ItemRead::Item(value, behind) = item(bytes, next, MOST) else {
+            return;
+        };
+        out[i] = value;
+        next = behind;
+        i += 1;
+    }
+}
+
+// Stores `count` cells that were judged before.
+fn fill_cells(bytes: &[u8], at: usize, count: usize, out: &mut [u8])
+    requires { ⌜ (Held cell (now bytes) at count) × (count ≤ length (now out)) ⌝ }
+    ensures { λ r. ⌜ now (out .exit) ≡ overwrite (valuesAt cell (now (bytes .entry)) at count) (now (out .entry)) ⌝ }
+{
+    let mut next = at;
+    let mut i = 0;
+    while i < count {
+        let ItemRead::Item(value, behind) = item(bytes, next, CELL_MOST) else {
+            return;
+        };
+        out[i] = value as u8;
+        next = behind;
+        i += 1;
+    }
+}
+
+// ---- the parts of a sheet
+
+// The kind, which is to be 1, and the pass.
+fn opening(bytes: &[u8]) -> ItemRead
+    ensures { λ r. ⌜ parts.opening 0 (now (bytes .entry)) ≡ itemOf (now (bytes .entry)) r ⌝ }
+{
+    match item(bytes, 0, MOST) {
+        ItemRead::Item(kind, next) => {
+            if kind == 1 {
+                item(bytes, next, MOST)
+            } else {
+                ItemRead::Fault(0)
+            }
+        }
+        ItemRead::Fault(place) => ItemRead::Fault(place),
+    }
+}
+
+const SIDE_MOST: u64 = 1024;
+
+fn is_side(side: u64) -> bool
+    ensures { λ r. ⌜ r ≡ isSide side ⌝ }
+{
+    1 <= side && side <= SIDE_MOST
+}
+
+// Both sides are in range, and the cells are not too many.
+fn area_allowed(width: u64, height: u64, limit: u64) -> bool
+    ensures { λ r. ⌜ r ≡ (isSide width && isSide height && leb (width * height) limit) ⌝ }
+{
+    if !is_side(width) {
+        return false;
+    }
+    if !is_side(height) {
+        return false;
+    }
+    width * height <= limit
+}
+
+// The width, the height and the offset behind them; or the refusal, its number and its place.
+enum SidesRead {
+    Sides(usize, usize, usize),
+    Refused(u32, usize),
+}
+
+fn sides(bytes: &[u8], at: usize, limit: u64) -> SidesRead
+    requires { ⌜ at ≤ length (now bytes) ⌝ }
+    ensures { λ r. ⌜ SidesTold limit (now (bytes .entry)) at r ⌝ }
+{
+    match item(bytes, at, MOST) {
+        ItemRead::Item(width, then) => match item(bytes, then, MOST) {
+            ItemRead::Item(height, next) => {
+                if area_allowed(width, height, limit) {
+                    SidesRead::Sides(width as usize, height as usize, next)
+                } else {
+                    SidesRead::Refused(1, 0)
+                }
+            }
+            ItemRead::Fault(place) => SidesRead::Refused(14, place),
+        },
+        ItemRead::Fault(place) => SidesRead::Refused(14, place),
+    }
+}
+
+// Where the numbers of a list stand, and how many there are.
+struct Part {
+    first: usize,
+    length: usize,
+}
+
+// A list and the offset behind it; or the refusal.
+enum EntriesRead {
+    Entries(Part, usize),
+    Refused(u32, usize),
+}
+
+const ENTRIES_MOST: u64 = 256;
+
+// A count and so many entries, each of `size` numbers.
+fn entries(bytes: &[u8], at: usize, size: usize) -> EntriesRead
+    requires { ⌜ (at ≤ length (now bytes)) × (size ≤ 9) ⌝ }
+    ensures { λ r. ⌜ EntriesTold (now (bytes .entry)) at size r ⌝ }
+{
+    match item(bytes, at, MOST) {
+        ItemRead::Item(written, first) => {
+            if written <= ENTRIES_MOST {
+                let length = written as usize * size;
+                match judge(bytes, first, length, MOST) {
+                    Judged::Behind(next) => EntriesRead::Entries(Part { first, length }, next),
+                    Judged::Faulty(place) => EntriesRead::Refused(14, place),
+                }
+            } else {
+                EntriesRead::Refused(3, 0)
+            }
+        }
+        ItemRead::Fault(place) => EntriesRead::Refused(14, place),
+    }
+}
+
+const SPAN_SIZE: usize = 4;
+const BOUNDARY_SIZE: usize = 9;
+const ANCHOR_SIZE: usize = 2;
+
+struct Parts {
+    cells: Part,
+    spans: Part,
+    boundaries: Part,
+    anchors: Part,
+}
+
+// Where the lists stand; or the refusal.
+enum ListsRead {
+    Lists(Parts),
+    Refused(u32, usize),
+}
+
+// The cells, the three lists, and the end of the bytes behind them.
+fn lists(bytes: &[u8], at: usize, area: usize) -> ListsRead
+    requires { ⌜ at ≤ length (now bytes) ⌝ }
+    ensures { λ r. ⌜ ListsTold (now (bytes .entry)) at area r ⌝ }
+{
+    match judge(bytes, at, area, CELL_MOST) {
+        Judged::Behind(a) => match entries(bytes, a, SPAN_SIZE) {
+            EntriesRead::Entries(spans, b) => match entries(bytes, b, BOUNDARY_SIZE) {
+                EntriesRead::Entries(boundaries, c) => match entries(bytes, c, ANCHOR_SIZE) {
+                    EntriesRead::Entries(anchors, d) => {
+                        if d < bytes.len() {
+                            ListsRead::Refused(14, d)
+                        } else {
+                            ListsRead::Lists(Parts {
+                                cells: Part {
+                                    first: at,
+                                    length: area,
+                                },
+                                spans,
+                                boundaries,
+                                anchors,
+                            })
+                        }
+                    }
+                    EntriesRead::Refused(refusal, place) => ListsRead::Refused(refusal, place),
+                },
+                EntriesRead::Refused(refusal, place) => ListsRead::Refused(refusal, place),
+            },
+            EntriesRead::Refused(refusal, place) => ListsRead::Refused(refusal, place),
+        },
+        Judged::Faulty(place) => ListsRead::Refused(14, place),
+    }
+}
+
+// ---- the sheet
+
+// What was found by judging: the pass, both sides, and where the cells and the lists stand.
+struct Plan {
+    pass: u64,
+    width: usize,
+    height: usize,
+    parts: Parts,
+}
+
+// A plan; or the refusal.
+enum SheetRead {
+    Sound(Plan),
+    Refused(u32, usize),
+}
+
+// Judges the whole of the bytes, with at most `limit` cells.
+fn judge_sheet(bytes: &[u8], limit: u64) -> SheetRead
+    ensures { λ r. ⌜ SheetTold limit (now (bytes .entry)) r ⌝ }
+{
+    match opening(bytes) {
+        ItemRead::Item(pass, at) => match sides(bytes, at, limit) {
+            SidesRead::Sides(width, height, cells) => match lists(bytes, cells, width * height) {
+                ListsRead::Lists(parts) => SheetRead::Sound(Plan {
+                    pass,
+                    width,
+                    height,
+                    parts,
+                }),
+                ListsRead::Refused(refusal, place) => SheetRead::Refused(refusal, place),
+            },
+            SidesRead::Refused(refusal, place) => SheetRead::Refused(refusal, place),
+        },
+        ItemRead::Fault(place) => SheetRead::Refused(14, place),
+    }
+}
+
+// ---- reading
+
+pub struct Header {
+    pub pass: u64,
+    pub width: usize,
+    pub height: usize,
+    pub spans: usize,
+    pub boundaries: usize,
+    pub anchors: usize,
+}
+
+// The sheet was read into the lists; or the refusal, its number and its place, with the lists as they were.
+pub enum Answer {
+    Read(Header),
+    Refused(u32, usize),
+}
+
+// Lists of these lengths have room for the sheet.
+fn fits(parts: Parts, cells: usize, spans: usize, boundaries: usize, anchors: usize) -> bool
+    ensures { λ r. ⌜ r ≡ roomIn parts cells spans boundaries anchors ⌝ }
+{
+    let a = parts.cells;
+    let b = parts.spans;
+    let c = parts.boundaries;
+    let d = parts.anchors;
+    if cells < a.length {
+        return false;
+    }
+    if spans < b.length {
+        return false;
+    }
+    if boundaries < c.length {
+        return false;
+    }
+    d.length <= anchors
+}
+
+// Fills the lists with what was judged before.
+fn fill(
+    bytes: &[u8],
+    parts: Parts,
+    cells: &mut [u8],
+    spans: &mut [u64],
+    boundaries: &mut [u64],
+    anchors: &mut [u64],
+)
+    requires { ⌜ PartsHeld (now bytes) parts ⌝ }
+    requires { ⌜ Room parts (length (now cells)) (length (now spans)) (length (now boundaries)) (length (now anchors)) ⌝ }
+    ensures { λ r. ⌜ now (cells .exit) ≡ overwrite (cellsIn (now (bytes .entry)) parts) (now (cells .entry)) ⌝ }
+    ensures { λ r. ⌜ now (spans .exit) ≡ overwrite (partOf (now (bytes .entry)) (parts .spans)) (now (spans .entry)) ⌝ }
+    ensures { λ r. ⌜ now (boundaries .exit) ≡ overwrite (partOf (now (bytes .entry)) (parts .boundaries)) (now (boundaries .entry)) ⌝ }
+    ensures { λ r. ⌜ now (anchors .exit) ≡ overwrite (partOf (now (bytes .entry)) (parts .anchors)) (now (anchors .entry)) ⌝ }
+{
+    let a = parts.cells;
+    let b = parts.spans;
+    let c = parts.boundaries;
+    let d = parts.anchors;
+    fill_cells(bytes, a.first, a.length, &mut *cells);
+    fill_numbers(bytes, b.first, b.length, &mut *spans);
+    fill_numbers(bytes, c.first, c.length, &mut *boundaries);
+    fill_numbers(bytes, d.first, d.length, &mut *anchors);
+}
+
+fn header_of(plan: Plan) -> Header
+    ensures { λ r. ⌜ r ≡ headerIn plan ⌝ }
+{
+    let parts = plan.parts;
+    let b = parts.spans;
+    let c = parts.boundaries;
+    let d = parts.anchors;
+    Header {
+        pass: plan.pass,
+        width: plan.width,
+        height: plan.height,
+        spans: b.length / SPAN_SIZE,
+        boundaries: c.length / BOUNDARY_SIZE,
+        anchors: d.length / ANCHOR_SIZE,
+    }
+}
+
+// Reads a sheet of at most `limit` cells into the lists.
+pub fn read_within(
+    bytes: &[u8],
+    limit: u64,
+    cells: &mut [u8],
+    spans: &mut [u64],
+    boundaries: &mut [u64],
+    anchors: &mut [u64],
+) -> Answer
+    ensures { λ r. ⌜ Answered (readingWithin limit (now (bytes .entry)) (now (cells .entry)) (now (spans .entry)) (now (boundaries .entry)) (now (anchors .entry))) (now (cells .entry)) (now (spans .entry)) (now (boundaries .entry)) (now (anchors .entry)) r (now (cells .exit)) (now (spans .exit)) (now (boundaries .exit)) (now (anchors .exit)) ⌝ }
+{
+    match judge_sheet(bytes, limit) {
+        SheetRead::Sound(plan) => {
+            let parts = plan.parts;
+            if fits(parts, cells.len(), spans.len(), boundaries.len(), anchors.len()) {
+                fill(bytes, parts, &mut *cells, &mut *spans, &mut *boundaries, &mut *anchors);
+                Answer::Read(header_of(plan))
+            } else {
+                Answer::Refused(10, 0)
+            }
+        }
+        SheetRead::Refused(refusal, place) => Answer::Refused(refusal, place),
+    }
+}
+
+const PLAIN_CELL_LIMIT: u64 = 1_048_576;
+
+// Reads a sheet into the lists: document 01's reading alone.
+pub fn read_sheet(
+    bytes: &[u8],
+    cells: &mut [u8],
+    spans: &mut [u64],
+    boundaries: &mut [u64],
+    anchors: &mut [u64],
+) -> Answer
+    ensures { λ r. ⌜ Answered (readVerdict (now (bytes .entry)) (length (now (cells .entry))) (length (now (spans .entry))) (length (now (boundaries .entry))) (length (now (anchors .entry)))) (now (cells .entry)) (now (spans .entry)) (now (boundaries .entry)) (now (anchors .entry)) r (now (cells .exit)) (now (spans .exit)) (now (boundaries .exit)) (now (anchors .exit)) ⌝ }
+{
+    read_within(bytes, PLAIN_CELL_LIMIT, &mut *cells, &mut *spans, &mut *boundaries, &mut *anchors)
+}
