@@ -29,3 +29,4 @@ pub mod PairLaws
 pub mod Options
 pub mod NumberLists
 pub mod Choice
+pub mod Words

@@ -1,0 +1,2 @@
+mod root;
+mod wide;
