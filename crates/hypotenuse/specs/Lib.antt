@@ -1,2 +1,4 @@
 pub mod Wide
 pub mod Roots
+pub mod Rounding
+pub mod Answers

@@ -5,6 +5,7 @@ ghost use lib.Dec.{ltb};
 ghost use Rattle.hypotenuse.specs.Wide.{wide, LowWord};
 
 pub const WORD: u64 = 72057594037927936;
+
 pub const HALF_WORD: u64 = 268435456;
 
 // t * t, column by column in digits of 28 bits.
@@ -64,10 +65,7 @@ pub fn shifted(w: [u64; 2], n: u64) -> Cut
 {
     let mask = (1 << n) - 1;
     Cut {
-        kept: [
-            ((w[1] & mask) << (56 - n)) + (w[0] >> n),
-            w[1] >> n,
-        ],
+        kept: [((w[1] & mask) << (56 - n)) + (w[0] >> n), w[1] >> n],
         lost: w[0] & mask,
     }
 }
