@@ -2,3 +2,4 @@ pub mod Wide
 pub mod Roots
 pub mod Rounding
 pub mod Answers
+pub mod Examples

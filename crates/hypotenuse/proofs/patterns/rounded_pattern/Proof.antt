@@ -20,15 +20,15 @@ at-most-one : (extra more : ℕ) → Says extra more → more ≤ 1
 at-most-one extra more s = ⊎-elim (λ w. omega arith) (λ w. omega arith) s
 
 -- 54 digits: one goes
-short : (k t extra more : ℕ) → Says extra more → Rounded k (t / 2) (t % 2) 1 extra (k * 2 ^ 52 + (2 * t + more + 1 + t / 2 % 2) / 4)
-short k t extra more s = elim (le-or-lt 1 (t % 2)) [
+short : (k t extra more r : ℕ) → Says extra more → r ≡ k * 2 ^ 52 + (2 * t + more + 1 + t / 2 % 2) / 4 → Rounded k (t / 2) (t % 2) 1 extra r
+short k t extra more r s e = elim (le-or-lt 1 (t % 2)) [
   | inl h ↦ elim s [ inl m ↦ up (inr (omega arith, m .0)) (omega arith) | inr m ↦ tie (omega arith) (m .0) (omega arith) ]
   | inr h ↦ down h (omega (arith, at-most-one extra more s))
 ]
 
 -- 55 digits: two go
-long : (k t extra more : ℕ) → Says extra more → Rounded k (t / 4) (t % 4) 2 extra (k * 2 ^ 52 + (2 * t + more + 3 + t / 4 % 2) / 8)
-long k t extra more s = elim (le-or-lt 2 (t % 4)) [
+long : (k t extra more r : ℕ) → Says extra more → r ≡ k * 2 ^ 52 + (2 * t + more + 3 + t / 4 % 2) / 8 → Rounded k (t / 4) (t % 4) 2 extra r
+long k t extra more r s e = elim (le-or-lt 2 (t % 4)) [
   | inl h ↦ elim (le-or-lt (t % 4) 2) [
     | inl l ↦ elim s [ inl m ↦ up (inr (omega arith, m .0)) (omega arith) | inr m ↦ tie (omega arith) (m .0) (omega arith) ]
     | inr l ↦ up (inl l) (omega (arith, at-most-one extra more s))
@@ -70,10 +70,10 @@ add-result-7 : tie.Need-add-result-7
 add-result-7 c = search needs
 
 returns : tie.Need-returns
-returns c = (λ h. short _ _ _ _ (says (c .before .before)), λ h. absurd (omega arith))
+returns c = (λ h. short _ _ _ _ _ (says (c .before .before)) (omega arith), λ h. absurd (omega arith))
 
 returns-2 : tie.Need-returns-2
-returns-2 c = (λ h. absurd (omega arith), λ h. long _ _ _ _ (says (c .before .before)))
+returns-2 c = (λ h. absurd (omega arith), λ h. long _ _ _ _ _ (says (c .before .before)) (omega arith))
 
 pub rounded-pattern-spec : {M : Type 1} → statement M
 rounded-pattern-spec =
