@@ -4,7 +4,7 @@ use std::path::PathBuf;
 use std::{env, fs};
 
 /// The crates that export functions for other languages, as they come.
-const NAMES: [&str; 0] = [];
+const NAMES: [&str; 1] = ["jenwyllt_hypot"];
 
 fn main() {
     println!("cargo::rerun-if-changed=build.rs");

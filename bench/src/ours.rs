@@ -41,6 +41,15 @@ pub fn kept_boundaries() -> Option<fn(&Map, &mut Lent) -> Outcome> {
     None
 }
 
+#[cfg(not(ours = "jenwyllt_hypot"))]
 pub fn hypotenuse() -> Option<fn(f64, f64) -> f64> {
     None
+}
+
+#[cfg(ours = "jenwyllt_hypot")]
+pub fn hypotenuse() -> Option<fn(f64, f64) -> f64> {
+    unsafe extern "C" {
+        safe fn jenwyllt_hypot(x: f64, y: f64) -> f64;
+    }
+    Some(|x, y| jenwyllt_hypot(x, y))
 }

@@ -1,11 +1,20 @@
+<<<<<<< HEAD:crates/laws/specs/NumberLaws/Comparisons.antt
 -- Comparisons of whole numbers: of two one is not above the other, and pairs in the same order have the same results of `leb`, `ltb` and `eqb`. Assumes nothing.
 use mathlib.Core.Path.{_≡_, refl, sym}
+=======
+-- Comparisons of whole numbers: of two one is not above the other, pairs in the same order have the same results of `leb`, `ltb` and `eqb`, and what `compare` gives. Assumes nothing.
+use mathlib.Core.Path.{_≡_, refl, sym, subst}
+>>>>>>> hypcode:crates/laws/specs/Comparisons.antt
 use mathlib.Core.Logic.{_↔_, _⊎_, inl, inr}
-use Prim.Native.Nat.{ℕ, _≤_, _<_}
-use native.Mathlib.Nat.{le-antisymm, le-of-eq, lt-of-not-le, not-le-of-lt}
+use Prim.Native.Nat.{ℕ, _≤_, _<_, compare, Ordering, Ordering·lt, Ordering·eq, Ordering·gt}
+use native.Mathlib.Nat.{le-antisymm, le-of-eq, le-of-lt, lt-of-not-le, not-le-of-lt}
 use mathlib.Core.Bool.{Bool, true, false, not}
+<<<<<<< HEAD:crates/laws/specs/NumberLaws/Comparisons.antt
 use lib.Dec.{T, leb, ltb, eqb, leb→le, le→leb, nleb→lt, ltb→lt, lt→ltb}
 use Rattle.laws.specs.ListLaws.Tests
+=======
+use lib.Dec.{T, isLe, isEq, leb, ltb, eqb, leb→le, le→leb, nleb→lt, ltb→lt, lt→ltb, eqb→eq, eqb-refl}
+>>>>>>> hypcode:crates/laws/specs/Comparisons.antt
 
 pub le-or-lt : (a b : ℕ) → (a ≤ b) ⊎ (b < a)
 le-or-lt a b = go (leb a b) (leb→le a b) (nleb→lt a b)
@@ -35,4 +44,41 @@ module _ {a b c d : ℕ} (h : SameOrder a b c d) where
       (λ t. lt→ltb a b (lt-of-not-le (λ (g : b ≤ a). not-le-of-lt (ltb→lt c d t) (h .1 .0 g))))
 
   pub eqb-same : eqb a b ≡ eqb c d
+<<<<<<< HEAD:crates/laws/specs/NumberLaws/Comparisons.antt
   eqb-same = Tests.eqb-same a b c d (λ e. le-antisymm (h .0 .0 (le-of-eq e)) (h .1 .0 (le-of-eq (sym e))), λ e. le-antisymm (h .0 .1 (le-of-eq e)) (h .1 .1 (le-of-eq (sym e))))
+=======
+  eqb-same =
+      same-test (eqb a b) (eqb c d)
+      (λ t. let e = eqb→eq a b t in equal c d (le-antisymm (h .0 .0 (le-of-eq e)) (h .1 .0 (le-of-eq (sym e)))))
+      (λ t. let e = eqb→eq c d t in equal a b (le-antisymm (h .0 .1 (le-of-eq e)) (h .1 .1 (le-of-eq (sym e)))))
+    where
+      equal : (x y : ℕ) → x ≡ y → T (eqb x y)
+      equal x y e = subst (λ (z : ℕ). T (eqb x z)) e (eqb-refl x)
+
+-- ---- what `compare` gives
+
+module _ (a b : ℕ) where
+  pub compare-lt : a < b → compare a b ≡ Ordering·lt
+  compare-lt h = go (compare a b) (le→leb a b (le-of-lt h)) (λ t. not-le-of-lt h (le-of-eq (sym (eqb→eq a b t))))
+    where
+      go : (o : Ordering) → T (isLe o) → (T (isEq o) → ⊥) → o ≡ Ordering·lt
+      go Ordering·lt t n = refl
+      go Ordering·eq t n = absurd (n tt)
+      go Ordering·gt t n = absurd t
+
+  pub compare-eq : a ≡ b → compare a b ≡ Ordering·eq
+  compare-eq h = go (compare a b) (subst (λ (x : ℕ). T (eqb a x)) h (eqb-refl a))
+    where
+      go : (o : Ordering) → T (isEq o) → o ≡ Ordering·eq
+      go Ordering·lt t = absurd t
+      go Ordering·eq t = refl
+      go Ordering·gt t = absurd t
+
+  pub compare-gt : b < a → compare a b ≡ Ordering·gt
+  compare-gt h = go (compare a b) (λ t. not-le-of-lt h (leb→le a b t))
+    where
+      go : (o : Ordering) → (T (isLe o) → ⊥) → o ≡ Ordering·gt
+      go Ordering·lt n = absurd (n tt)
+      go Ordering·eq n = absurd (n tt)
+      go Ordering·gt n = refl
+>>>>>>> hypcode:crates/laws/specs/Comparisons.antt

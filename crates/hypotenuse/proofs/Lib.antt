@@ -1,0 +1,4 @@
+pub mod Rounds
+pub mod Close
+pub mod Apart
+pub mod Outcomes

@@ -1,0 +1,5 @@
+pub mod Wide
+pub mod Roots
+pub mod Rounding
+pub mod Answers
+pub mod Examples
