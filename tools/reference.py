@@ -558,6 +558,7 @@ def replace_ramp_mouths(boundaries, ctx):
         if causes:
             for cause in causes:
                 notes[f'pass 1 refused: {cause}{"" if len(causes) > 1 else " alone"}'] += 1
+            notes[f'pass 1 refused {p.kind}'] += 1
             continue
         notes[f'pass 1 taken {p.kind}'] += 1
         removed.add(p.mouth_index)
@@ -936,6 +937,7 @@ def select_proposals(boundaries, ranked, notes):
         if causes:
             for cause in causes:
                 notes[f'pass 3 refused: {cause}{"" if len(causes) > 1 else " alone"}'] += 1
+            notes[f'pass 3 refused {p.kind()}'] += 1
             continue
         notes[f'pass 3 taken {p.kind()}'] += 1
         removed.add(p.index)

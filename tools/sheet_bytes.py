@@ -23,6 +23,7 @@ class Refused(Exception):
 
 def number_bytes(value, extra=0):
     """groups of seven bits, least first; `extra` groups of zero may follow"""
+    assert 0 <= value < 1 << 64
     out = []
     while True:
         out.append(value & 127)
