@@ -17,20 +17,15 @@ unfolding digit
 wholeRoot zero n = 0
 wholeRoot (suc d) n = digit n (2 * wholeRoot d (n / 4))
 
--- The double nearest to the root of s, where n is the whole root; s counts squares of the smallest double, 2 ^ -2148.
--- It keeps the 53 leading digits q of the root and drops k of them. Whether it goes up to q + 1 is how s compares with the square of the middle
--- between the two, (q + 1/2) * 2 ^ k, both sides times 4; level, it goes to the even one.
-unfoldable pub roundedRoot : ℕ → ℕ → Float
-unfolding units size
-roundedRoot s n =
-    let k = size n - 53 in
-    let q = n / 2 ^ k in
-    units binary64 false (nearest q (compare (4 * s) ((2 * q + 1) * 2 ^ k * ((2 * q + 1) * 2 ^ k)))) k
-
--- s has `size s` binary digits, so it is below 4 ^ (size s / 2 + 1)
+-- The double nearest to the root of s, where s counts squares of the smallest double, 2 ^ -2148. The root has half as many binary digits as s, rounded up.
+-- The double keeps the 53 leading ones, q, which are the whole root of s / 4 ^ k, and drops k. Whether it goes up to q + 1 is how s compares with the square
+-- of the middle between the two, (q + 1/2) * 2 ^ k, both sides times 4; level, it goes to the even one.
 unfoldable pub rootOf : ℕ → Float
-unfolding wholeRoot roundedRoot size
-rootOf s = roundedRoot s (wholeRoot (size s / 2 + 1) s)
+unfolding wholeRoot units size
+rootOf s =
+    let k = (size s + 1) / 2 - 53 in
+    let q = wholeRoot 53 (s / 4 ^ k) in
+    units binary64 false (nearest q (compare (4 * s) ((2 * q + 1) * 2 ^ k * ((2 * q + 1) * 2 ^ k)))) k
 
 -- how many of the smallest double, 2 ^ -1074, the magnitude of a finite double is. (0 for the others, which are always refused.)
 unfoldable pub magnitude : Float → ℕ

@@ -19,5 +19,10 @@ pub mod SheetNumber
 pub mod Sheet
 pub mod Refusals
 pub mod Verdict
+pub mod AtExit
 pub mod Printed
 pub mod SheetExamples
+pub mod CaseJ
+pub mod Cases
+pub mod RefusalExamples
+pub mod Examples

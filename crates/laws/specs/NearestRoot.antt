@@ -1,6 +1,6 @@
 -- `Nearest s b` determines b: of two such patterns the middle above the lower is not above the middle below the higher one, so the two middles are equal, the patterns are neighbours,
 -- and s is at their tie, where both would be even. `rootOf s` meets it, for every s whose root is below the infinities: its 53 leading digits q stand in the pattern of a double,
--- q + 1 in the next one's, and the one comparison of `roundedRoot` is that with the middle of these two. Assumes nothing.
+-- q + 1 in the next one's, and the one comparison of `rootOf` is that with the middle of these two. Assumes nothing.
 use mathlib.Core.Path.{_≡_, refl, sym, ap, _∙_, subst}
 use mathlib.Core.Logic.{_⊎_, inl, inr}
 use Prim.Native.Nat.{ℕ, _+_, _-_, _*_, _%_, _^_, _≤_, _<_, Ordering, Ordering·lt, Ordering·eq, Ordering·gt}

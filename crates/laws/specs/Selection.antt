@@ -21,7 +21,7 @@ module _ {A : Type 0} (conflict : A → A → Bool) (p : A → Bool) (P : A → 
       go true e ih = ap (λ b. conflict q r || b) ih
       go false e ih = rw (apart q r k g h e) ih
 
-  -- what a filter leaves of the chosen is what is chosen of what it leaves, if nothing outside conflictes with anything inside
+  -- what a filter leaves of the chosen is what is chosen of what it leaves, if nothing outside conflicts with anything inside
   pub filter-select : {acc l : List A} → All P acc → All P l → filter p (select conflict acc l) ≡ select conflict (filter p acc) (filter p l)
   unfolding select filter any
   filter-select a done = refl
