@@ -18,7 +18,7 @@ def set_at(numbers, size, k, fields):
 
 def of_a_boundary(*choices):
     def damage(r, m):
-        if not m.boundaries:
+        if len(m.boundaries) < 9:
             m.boundaries = [0, 0, 8, 8, bits(8.0), 0, 0, 0, 0]
         set_at(m.boundaries, 9, r.choice(spots(m.boundaries, 9)), dict(r.choice(choices)))
     return damage
@@ -35,14 +35,14 @@ def too_many(r, m):
 
 
 def span_outside(r, m):
-    if not m.spans:
+    if len(m.spans) < 4:
         m.spans = [0, 0, 8, 8]
     far = r.choice(((0, 8 * m.width), (1, 8 * m.height), (2, 8 * m.width), (3, 8 * m.height)))
     set_at(m.spans, 4, r.choice(spots(m.spans, 4)), {far[0]: far[1] + r.choice((1, 1, 1 << 32, (1 << 64) - 9000))})
 
 
 def span_of_no_length(r, m):
-    if not m.spans:
+    if len(m.spans) < 4:
         m.spans = [0, 0, 8, 8]
     k = r.choice(spots(m.spans, 4))
     set_at(m.spans, 4, k, {2: m.spans[4 * k], 3: m.spans[4 * k + 1]})
@@ -152,9 +152,9 @@ BYTE_DAMAGE = {'cut short': cut_short, 'left over': left_over, 'kind': wrong_kin
                'zero groups': long_but_right, 'none': lambda r, parts: b''.join(parts)}
 
 
-def sheets(plan_of, count, seed=1):
+def sheets(plan_of, count, seed=1, first=0):
     """(number, what was done, bytes): each damage alone and in pairs, of plans that `plan_of` draws"""
-    for k in range(count):
+    for k in range(first, first + count):
         r = random.Random(f'damaged {seed}/{k}')
         m = spice(r, plan_of(r)).finished()
         m.pass_number = r.choice((1, 2, 3))

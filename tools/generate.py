@@ -552,7 +552,7 @@ def far_regions(r):
         p.cells[3][long - 2] = 1
         p.along(3, long - 2, long - 2)
         p.anchors.append((long - 2, 3))
-        if r.random() < 0.5:
+        if r.random() < 0.5 and long >= 64:
             p.cuts[1][1] = [511, 20, r.choice((511, 512, 510)), 20]
     else:                                                               # a union, its left room long
         p = Plan(long + 4, 3)
@@ -622,10 +622,10 @@ def small_plan(r):
     return r.choice([f for f, _ in FAMILIES if f not in (far_mouth, far_regions, near_flat, two_interiors)])(r)
 
 
-def maps(count, seed=1):
+def maps(count, seed=1, first=0):
     """(number, family, map): the same for the same seed, and each map by itself the same however many are drawn"""
     names = [f for f, weight in FAMILIES for _ in range(weight)]
-    for k in range(count):
+    for k in range(first, first + count):
         r = random.Random(f'{seed}/{k}')
         family = r.choice(names)
         p = family(r)

@@ -47,6 +47,7 @@ class Plan:
         return [(x, y) for y in range(self.height) for x in range(self.width) if self.cells[y][x] & 1]
 
     def finished(self):
+        assert all(n >= 0 for c in self.cuts for n in c[0] + c[1])
         spans = [n for c in self.cuts for n in c[0]]
         boundaries = [n for c in self.cuts for n in (*c[1], bits(c[2]), *c[3:])]
         return Map(1, self.width, self.height, [c for row in self.cells for c in row], spans, boundaries,
