@@ -51,6 +51,28 @@ def fuzz(r):
     return p
 
 
+def slants(r):
+    """an open field with long spans at any angle: the strip of cells about a span is narrower than the map"""
+    w, h = r.randint(8, 24), r.randint(8, 24)
+    p = Plan(w, h)
+    for y in range(h):
+        for x in range(w):
+            p.cells[y][x] = int(r.random() < 0.93)
+    step = r.choice((1, 4, 8))
+    for _ in range(r.randint(2, 9)):
+        side = r.randrange(2)
+        a = [r.randint(0, 8 * w), r.choice((0, r.randint(0, 8 * h)))]
+        b = [r.randint(0, 8 * w), r.choice((8 * h, r.randint(0, 8 * h)))]
+        if side:
+            a, b = [r.choice((0, 4)), r.randint(0, 8 * h)], [r.choice((8 * w, 8 * w - 4)), r.randint(0, 8 * h)]
+        a, b = [v // step * step for v in a], [v // step * step for v in b]
+        if a != b:
+            p.cut(a + b, r.choice(WIDTHS), r.choice((0, 0, 0, 1, 2)), r.choice((1, 2)), 0, 1)
+    ground = p.walkable()
+    p.anchors = [r.choice(ground) for _ in range(r.choice((0, 1, 2)))]
+    return p
+
+
 def rooms(r):
     """rooms in rows and columns, between them a wall, a gap, a door or two, a ramp"""
     nx, ny = r.choice(((2, 2), (3, 2), (3, 3), (4, 2), (4, 3)))
@@ -612,14 +634,14 @@ def nearby(r):
     return p
 
 
-FAMILIES = [(fuzz, 6), (rooms, 16), (single, 6), (rivals, 6), (star, 7), (triangle, 10), (overlay, 7), (interior, 10), (two_interiors, 2),
+FAMILIES = [(fuzz, 6), (slants, 2), (rooms, 16), (single, 6), (rivals, 6), (star, 7), (triangle, 10), (overlay, 7), (interior, 10), (two_interiors, 2),
             (union, 12), (near_flat, 5), (bridge, 8), (linked_bridges, 3), (mutual_bridges, 4), (bridge_and_union, 5), (far_mouth, 6),
             (far_regions, 7), (far_ports, 7), (nearby, 4)]
 
 
 def small_plan(r):
     """a plan of one of the families with few cells"""
-    return r.choice([f for f, _ in FAMILIES if f not in (far_mouth, far_regions, near_flat, two_interiors)])(r)
+    return r.choice([f for f, _ in FAMILIES if f not in (slants, far_mouth, far_regions, near_flat, two_interiors)])(r)
 
 
 def maps(count, seed=1, first=0):

@@ -1076,15 +1076,13 @@ def call(m, lent, whole=True, notes=None):
     return 0, len(rows)
 
 
-def lend(m, room=None, fill=0):
-    """lists that are long enough for a map, all entries `fill`"""
+def lend(m, fill=0):
+    """lists that are long enough for a small map, all entries `fill`"""
     n = len(m.cells)
     spans, boundaries = len(m.spans) // 4, len(m.boundaries) // 9
-    records = n if room is None else room
-    rows = 4 * n + 1 if room is None else room
+    rows = min(spans * 4 * n, 1 << 14)           # a step a row at most
     record = (fill,) * 7 + ((fill,) * 4,)
-    return Lent([fill] * n, [fill] * n, [fill] * n, [fill] * (2 * spans), [fill] * (3 * min(rows, 4096)),
-                [record] * records, [fill] * (5 * boundaries))
+    return Lent([fill] * n, [fill] * n, [fill] * n, [fill] * (2 * spans), [fill] * (3 * rows), [record] * n, [fill] * (5 * boundaries))
 
 
 def results(m, notes=None):
