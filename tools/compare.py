@@ -1,6 +1,6 @@
 """The rendering in Python, the definitions run from their own text, and the Rust, against one another.
 
-    python3 compare.py COUNT [--seed S] [--from K] [--oracle PROGRAM] [--no-definitions] [--literal]
+    python3 compare.py COUNT [--seed S] [--from K] [--oracle PROGRAM] [--large N] [--no-definitions] [--literal]
 
 COUNT maps of the generator, each for all three passes, compared in full: labels, region count, tallies, pairs, region records
 and rows; the answer and every lent list at exit, with lists that are long enough and with lists that may be too short; the
@@ -344,6 +344,15 @@ class Run:
             self.one_map(k, family, m)
             if self.counts['maps'] % 1000 == 0:
                 print(f'{self.counts["maps"]} maps, {self.differences} differences, {time.time() - started:.0f} s', flush=True)
+        for k, m in generate.large_maps(self.options.large, self.options.seed):
+            self.counts['large maps'] += 1
+            self.counts['large maps: cells'] += len(m.cells)
+            self.counts['large maps: boundaries'] += len(m.boundaries) // 9
+            for m.pass_number in (1, 2, 3):
+                if self.oracles:
+                    sheet = sheet_bytes.sheet_of(m)
+                    self.same('oracle: full, large', full_answer(m), self.oracles['full'].ask(sheet), f'large map {self.options.seed}/{k}')
+                reference.results(m, self.notes)
         for k, what, data in damage.sheets(generate.small_plan, self.options.count, self.options.seed, self.options.first):
             self.counts['damaged sheets'] += 1
             self.one_sheet(k, what, data)
@@ -364,6 +373,7 @@ def main():
     a.add_argument('--seed', default='1')
     a.add_argument('--from', dest='first', type=int, default=0)
     a.add_argument('--oracle')
+    a.add_argument('--large', type=int, default=0, help='so many large maps, with the oracle only')
     a.add_argument('--no-definitions', action='store_true')
     a.add_argument('--literal', action='store_true')
     return Run(a.parse_args()).run()

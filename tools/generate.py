@@ -73,10 +73,10 @@ def slants(r):
     return p
 
 
-def rooms(r):
+def rooms(r, counts=((2, 2), (3, 2), (3, 3), (4, 2), (4, 3)), sizes=(1, 2, 3)):
     """rooms in rows and columns, between them a wall, a gap, a door or two, a ramp"""
-    nx, ny = r.choice(((2, 2), (3, 2), (3, 3), (4, 2), (4, 3)))
-    size = r.choice((1, 2, 3))
+    nx, ny = r.choice(counts)
+    size = r.choice(sizes)
     wall = r.choice((0, 1))
     pitch = size + wall
     p = Plan(nx * pitch - wall, ny * pitch - wall, 0)
@@ -637,6 +637,17 @@ def nearby(r):
 FAMILIES = [(fuzz, 6), (slants, 2), (rooms, 16), (single, 6), (rivals, 6), (star, 7), (triangle, 10), (overlay, 7), (interior, 10), (two_interiors, 2),
             (union, 12), (near_flat, 5), (bridge, 8), (linked_bridges, 3), (mutual_bridges, 4), (bridge_and_union, 5), (far_mouth, 6),
             (far_regions, 7), (far_ports, 7), (nearby, 4)]
+
+
+def large_maps(count, seed=1):
+    """(number, map): many rooms or long slants, up to 256 boundaries"""
+    for k in range(count):
+        r = random.Random(f'large {seed}/{k}')
+        p = rooms(r, ((8, 8), (12, 9), (10, 14), (16, 6)), (3, 4, 6, 9)) if r.random() < 0.8 else beside(*(slants(r) for _ in range(8)))
+        p.anchors += r.choices(p.walkable(), k=r.choice((0, 4, 20)))
+        p = spice(r, p, calm=True)
+        del p.cuts[256:]
+        yield k, p.finished()
 
 
 def small_plan(r):

@@ -446,9 +446,10 @@ class Gen:
             entries = ', '.join(f'lambda: {self.ex(x, env, d)}' for x in self.listed(args[0]))
             return f'N.lazily({self.ref(self.find(d.module, n))}, [{entries}], lambda: {self.ex(args[1], env, d)})'
         a = [self.ex(x, env, d) for x in args]
-        if n == 'cond':
+        if n in ('cond', 'condTurned'):          # the latter is a mutant's
             assert len(a) >= 3
-            s = f'({a[1]} if {a[0]} else {a[2]})'
+            x, y = (1, 2) if n == 'cond' else (2, 1)
+            s = f'({a[x]} if {a[0]} else {a[y]})'
             for x in a[3:]:
                 s = f'{s}({x})'
             return s
