@@ -83,7 +83,7 @@ def generated(wanted):
             copy = Map(m.pass_number, m.width, m.height, list(m.cells), list(m.spans), list(m.boundaries), list(m.anchors))
             pool.append((f'{family}-{k}-{m.pass_number}', copy, features(copy)))
     pool.sort(key=lambda item: len(item[1].cells) + 12 * len(item[1].spans) // 4)
-    for least in (1, 3, 6, 10):
+    for least in (1, 3, 6, 10, 16, 24):
         for name, m, found in pool:
             if any(seen[f] < least for f in found) and len(out) < wanted:
                 out.append((name, m))
@@ -193,15 +193,15 @@ def pairs(r):
             yield 'refused', x | SIGN, y
     ones, top = (1 << 53) - 1, 1 << 52
     for gap in range(80):                        # every gap of exponents, with the ends of the significands
-        highs = {14, 14 - (79 - gap), r.randint(gap - 64, 14), r.randint(gap - 64, 14), min(14, gap)}
+        highs = {15, gap - 64, min(14, gap)} | {r.randint(gap - 64, 15) for _ in range(3)}
         for high in sorted(highs):
             low = high - gap
-            if not -64 <= low or high > 14:
-                continue
             for sx, sy in ((top, top), (ones, ones), (top, ones), (ones, top), (top + 1, top), (r.randrange(top, 2 * top), r.randrange(top, 2 * top)),
                            (r.randrange(top, 2 * top), top), (top, r.randrange(top, 2 * top)), (r.randrange(top, 2 * top), ones),
                            (r.randrange(top, 2 * top), r.randrange(top, 2 * top))):
-                x, y = at(high, sx), at(low, sy)
+                if high == 15:                   # 2^15 alone has this exponent
+                    sx = top
+                x, y = at(high, sx), at(low, top if low == 15 else sy)
                 yield (f'gap {gap}', x, y) if r.random() < 0.5 else (f'gap {gap}', y, x)
     for _ in range(5000):                        # what the passes ask: halves
         yield 'halves', bits(r.choice((-1, 1)) * r.randint(0, 16384) / 2), bits(r.choice((-1, 1)) * r.randint(0, 16384) / 2)
@@ -232,7 +232,7 @@ def main():
     options = a.parse_args()
     full, kept = compare.Oracle(options.oracle, 'full'), compare.Oracle(options.oracle, 'kept')
 
-    maps, seen = generated(330)
+    maps, seen = generated(560)
     maps = list(chosen_by_hand()) + maps
     texts = []
     for name, m in maps:
@@ -264,7 +264,8 @@ def main():
             f.write(text)
         print(f'{name}: {len(text)} bytes')
     print(f'{len(maps)} maps, {len(sheets)} sheets, {len(rows)} pairs:', ', '.join(f'{k} {n}' for k, n in Counter(w.split()[0] for w, _, _ in rows).items()))
-    print(f'{sum(code == 13 for code, _ in answers)} refused; gaps with pairs: {len({w for w, _, _ in rows if w.startswith("gap")})}')
+    up = sum(units(root) ** 2 > units(x) ** 2 + units(y) ** 2 for (w, x, y), (_, root) in zip(rows, answers) if w == 'tie')
+    print(f'ties up {up};', f'{sum(code == 13 for code, _ in answers)} refused; gaps with pairs: {len({w for w, _, _ in rows if w.startswith("gap")})}')
     for name in sorted(seen):
         if name.startswith('pass') or name.startswith('edge'):
             print(f'{seen[name]:5} {name}')
