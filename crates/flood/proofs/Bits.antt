@@ -12,7 +12,7 @@ use lib.Dec.{eqb}
 use lib.Bits.{bitOr, or-step, or-shr}
 use borrow.Author.Tests.{eqb-true, eq-eqb, ne-eqb}
 use Rattle.definitions.specs.Scan.{allBelow}
-use Rattle.laws.specs.Tests.{both}
+use Rattle.laws.specs.ListLaws.Tests.{both}
 use Rattle.flood.specs.Masks.{cutBit, withBit}
 use Rattle.flood.proofs.Used.{same-or, last-or}
 

@@ -9,7 +9,7 @@ use lib.Seq.{length-take-le, getD-take, ext-getD}
 use Rattle.definitions.specs.Grid.{Map, cellCount, isStep, walkable}
 use Rattle.definitions.specs.Lists.{overwrite}
 use Rattle.definitions.specs.Partition.{cutAll, labels}
-use Rattle.laws.specs.Regions.{labels-length}
+use Rattle.laws.specs.RegionLaws.Regions.{labels-length}
 use Rattle.flood.specs.Masks.{Marks}
 use Rattle.flood.specs.Walk.{graphOf, landing, gridOf}
 use Rattle.flood.specs.Contract.{CutMap, walkableCount, Grouped, Flooded}

@@ -7,7 +7,7 @@ use mathlib.Core.Bool.{Bool, true, false, not, _&&_, cond}
 use mathlib.Core.List.{List}
 use Rattle.definitions.specs.Grid.{Map, Position, isStep, positionOf}
 use Rattle.definitions.specs.Partition.{walkableAt}
-use Rattle.laws.specs.GraphLaws.{Laws, Leads, laws-by}
+use Rattle.laws.specs.RegionLaws.GraphLaws.{Laws, Leads, laws-by}
 use Rattle.flood.specs.Masks.{bitOf, opposite, cutBit, reached}
 use Rattle.flood.specs.Walk.{directionAt, landing, graphOf, Mirrored}
 use Rattle.flood.proofs.Square.{near-walkable, Across, across}

@@ -13,8 +13,8 @@ use lib.Dec.{eqb, ltb}
 use borrow.Author.Tests.{eqb-true, eq-eqb, ltb-true, ltb-false}
 use Rattle.definitions.specs.Scan.{any}
 use Rattle.definitions.specs.Grid.{Map, Position, at, Pair, pairEq, cellCount, toward, positionOf, isStep}
-use Rattle.laws.specs.Tests.{both}
-use Rattle.laws.specs.Lists.{any-append}
+use Rattle.laws.specs.ListLaws.Tests.{both}
+use Rattle.laws.specs.ListLaws.Lists.{any-append}
 use Rattle.flood.specs.Masks.{bitOf, opposite, cutBit, withBit, reached, stepPair, Marks}
 use Rattle.flood.proofs.Square.{Four, four, Across, across}
 use Rattle.flood.proofs.Bits.{withBit-length, mark-bit}

@@ -11,8 +11,8 @@ use lib.ListN.{length, getD, set}
 use lib.Dec.{eqb, ltb}
 use borrow.Author.Tests.{ltb-true, ltb-false, eq-eqb, ne-eqb}
 use Rattle.definitions.specs.Scan.{countBelow}
-use Rattle.laws.specs.GraphLaws.{Graph, Laws, root-walks}
-use Rattle.laws.specs.Below.{count-ext}
+use Rattle.laws.specs.RegionLaws.GraphLaws.{Graph, Laws, root-walks}
+use Rattle.laws.specs.ListLaws.Below.{count-ext}
 use Rattle.flood.specs.State.{used, isName, label, State, Beyond, Ran}
 use Rattle.flood.proofs.Used.{last-or, count-le, count-in, count-out, count-none, used-some, used-none, used-zero, used-same, used-keeps}
 use Rattle.flood.proofs.States.{label-walks, label-blocked, spare, used-walks, push, raise, beyond-same, beyond-set, beyond-then}

@@ -10,7 +10,7 @@ use lib.Dec.{ltb, leb}
 use borrow.Author.Tests.{ltb-true, leb-true, le-leb}
 use Rattle.definitions.specs.Grid.{Map, Position, at, toward, index, positionOf, cellCount, cellAt, isWalkable, walkable, isStep}
 use Rattle.definitions.specs.Partition.{walkableAt}
-use Rattle.laws.specs.Tests.{both}
+use Rattle.laws.specs.ListLaws.Tests.{both}
 use Rattle.flood.specs.Masks.{opposite, reached}
 
 -- what `isStep` tests, test by test

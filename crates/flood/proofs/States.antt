@@ -10,7 +10,7 @@ use mathlib.Core.List.{List}
 use lib.ListN.{length, getD, set, length-set}
 use lib.Seq.{getD-set-same, getD-set-other, drop-set-lt}
 use Rattle.definitions.specs.Scan.{countBelow}
-use Rattle.laws.specs.GraphLaws.{Graph, Laws}
+use Rattle.laws.specs.RegionLaws.GraphLaws.{Graph, Laws}
 use Rattle.flood.specs.State.{used, isName, label, State, Beyond, Ran, Visited, idle, taken}
 use Rattle.flood.proofs.Used.{last-or, count-le, count-lt, used-none, used-pos, used-same, used-keeps, used-new, count-set}
 

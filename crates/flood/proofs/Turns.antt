@@ -8,7 +8,7 @@ use mathlib.Core.List.{List}
 use lib.ListN.{getD}
 use Rattle.definitions.specs.Grid.{at, walkable, isStep}
 use Rattle.definitions.specs.Partition.{walkableAt}
-use Rattle.laws.specs.GraphLaws.{Laws}
+use Rattle.laws.specs.RegionLaws.GraphLaws.{Laws}
 use Rattle.flood.specs.Walk.{gridOf, directionAt, landing, graphOf, Mirrored}
 use Rattle.flood.specs.State.{Ran, Visited}
 use Rattle.flood.specs.Contract.{Lent, Masked}

@@ -6,8 +6,8 @@ use mathlib.Core.Path.{_≡_, refl, sym, ap, _∙_}
 use mathlib.Core.List.{List, [], _∷_, map}
 use lib.ListN.{length, getD, List·getD-map}
 use Rattle.definitions.specs.Grid.{at, directions}
-use Rattle.laws.specs.Lists.{All, done, more}
-use Rattle.laws.specs.Members.{all-place}
+use Rattle.laws.specs.ListLaws.Lists.{All, done, more}
+use Rattle.laws.specs.ListLaws.Members.{all-place}
 use Rattle.flood.specs.Masks.{opposite}
 use Rattle.flood.specs.declared.Direction.{Direction}
 use Rattle.flood.specs.Walk.{directionAt}

@@ -8,7 +8,7 @@ use mathlib.Core.List.{List}
 use lib.ListN.{length, getD, set, drop}
 use lib.Dec.{eqb, ltb}
 use Rattle.definitions.specs.Scan.{countBelow}
-use Rattle.laws.specs.GraphLaws.{Graph}
+use Rattle.laws.specs.RegionLaws.GraphLaws.{Graph}
 
 -- cell c has a label
 unfoldable pub used : List ℕ → ℕ → Bool

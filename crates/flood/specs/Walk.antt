@@ -7,7 +7,7 @@ use mathlib.Core.List.{List, []}
 use lib.ListN.{getD}
 use Rattle.definitions.specs.Grid.{Map, Position, at, directions, isStep, positionOf}
 use Rattle.definitions.specs.Partition.{walkableAt}
-use Rattle.laws.specs.GraphLaws.{Graph, graphBy}
+use Rattle.laws.specs.RegionLaws.GraphLaws.{Graph, graphBy}
 use Rattle.flood.specs.Masks.{bitOf, opposite, cutBit, reached}
 
 -- the map of the lent bytes: steps and walkable cells depend on nothing else

@@ -9,11 +9,11 @@ use lib.Pow.{pow-add, pow-pos}
 use lib.Ieee.{binary64, units, nearest, ofBits}
 use Rattle.definitions.specs.Hypotenuse.{rootOf}
 use Rattle.definitions.specs.Nearest.{patternMagnitude}
-use Rattle.laws.specs.Comparisons.{compare-lt}
-use Rattle.laws.specs.Squares.{square-le}
-use Rattle.laws.specs.WholeRoot.{rootOf-is}
-use Rattle.laws.specs.Patterns.{made, magnitude-normal}
-use Rattle.laws.specs.PatternOrder.{magnitude-le}
+use Rattle.laws.specs.NumberLaws.Comparisons.{compare-lt}
+use Rattle.laws.specs.NumberLaws.Squares.{square-le}
+use Rattle.laws.specs.FloatLaws.WholeRoot.{rootOf-is}
+use Rattle.laws.specs.FloatLaws.Patterns.{made, magnitude-normal}
+use Rattle.laws.specs.FloatLaws.PatternOrder.{magnitude-le}
 
 -- ---- the squares of q, of q + 1 and of twice the middle, in square units
 

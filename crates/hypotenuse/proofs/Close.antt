@@ -10,8 +10,8 @@ use mathlib.Core.Bool.{false}
 use lib.Pow.{pow-add, pow-pos}
 use lib.Ieee.{units, binary64, ofBits}
 use Rattle.definitions.specs.Hypotenuse.{rootOf}
-use Rattle.laws.specs.Patterns.{made}
-use Rattle.laws.specs.Squares.{square-le, square-next, square-twice, lt-of-squares}
+use Rattle.laws.specs.FloatLaws.Patterns.{made}
+use Rattle.laws.specs.NumberLaws.Squares.{square-le, square-next, square-twice, lt-of-squares}
 use Rattle.hypotenuse.specs.Rounding.{Rounded, down, up, tie}
 use Rattle.hypotenuse.proofs.Rounds.{Measured, went-down, went-up, tied}
 

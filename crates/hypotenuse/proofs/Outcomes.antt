@@ -8,8 +8,8 @@ use lib.IntN.{pos}
 use lib.Ieee.{Float, nan, inf, fin, binary64, fits}
 use Rattle.definitions.specs.Hypotenuse.{magnitude, rootOf, sumOfSquares, hypotOf, inRange, hypotNumber, hypotValue}
 use Rattle.definitions.specs.Nearest.{patternMagnitude}
-use Rattle.laws.specs.Patterns.{patternOf, read}
-use Rattle.laws.specs.PatternOrder.{patternInRange, in-range}
+use Rattle.laws.specs.FloatLaws.Patterns.{patternOf, read}
+use Rattle.laws.specs.FloatLaws.PatternOrder.{patternInRange, in-range}
 
 -- ---- the range of a pattern
 

@@ -9,9 +9,9 @@ use native.Mathlib.Numerals.{add-one}
 use native.Mathlib.Omega.{arith}
 use lib.Ieee.{nearest, units, binary64}
 use Rattle.definitions.specs.Hypotenuse.{rootOf}
-use Rattle.laws.specs.Comparisons.{compare-lt, compare-eq, compare-gt}
-use Rattle.laws.specs.Squares.{square-le, square-next, square-twice}
-use Rattle.laws.specs.WholeRoot.{rootAt, rootOf-is}
+use Rattle.laws.specs.NumberLaws.Comparisons.{compare-lt, compare-eq, compare-gt}
+use Rattle.laws.specs.NumberLaws.Squares.{square-le, square-next, square-twice}
+use Rattle.laws.specs.FloatLaws.WholeRoot.{rootAt, rootOf-is}
 
 -- ---- F * A + L against y * A, both times B
 

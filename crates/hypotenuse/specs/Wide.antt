@@ -2,7 +2,7 @@
 use Prim.Native.Nat.{ℕ, _^_, _<_}
 use mathlib.Core.List.{List, [], _∷_}
 use lib.ListN.{getD}
-use Rattle.laws.specs.Words.{wordsValue}
+use Rattle.laws.specs.NumberLaws.Words.{wordsValue}
 
 -- the two words of an array, the lower first, as a number
 abbrev pub wide : List ℕ → ℕ

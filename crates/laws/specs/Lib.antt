@@ -10,3 +10,4 @@ pub mod RustInteriors
 pub mod RustJunctions
 pub mod RustPasses
 pub mod TableLaws
+pub mod SheetReading

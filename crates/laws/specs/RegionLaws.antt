@@ -8,3 +8,4 @@ pub mod LabelsDetermined
 pub mod Components
 pub mod PairLaws
 pub mod Edges
+pub mod GraphLaws

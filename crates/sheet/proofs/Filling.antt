@@ -11,7 +11,7 @@ use lib.Seq.{sets, sets-eq}
 use Rattle.definitions.specs.SheetNumber.{Read, found, failed}
 use Rattle.definitions.specs.Sheet.{Reader, andThen, give, times}
 use Rattle.definitions.specs.Lists.{overwrite}
-use Rattle.laws.specs.SheetLaws.{Keeps, ends-inside, times-found, times-failed, times-length}
+use Rattle.laws.specs.SheetReading.SheetLaws.{Keeps, ends-inside, times-found, times-failed, times-length}
 use Rattle.sheet.specs.Numbers.{itemsAt, valuesIn, isFound, valuesAt, Held}
 
 pub held-length : {item : Reader ℕ} {bytes : List ℕ} {at count : ℕ} → Held item bytes at count → length (valuesAt item bytes at count) ≡ count

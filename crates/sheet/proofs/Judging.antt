@@ -7,7 +7,7 @@ use native.Mathlib.Omega.{arith}
 use lib.ListN.{length, drop}
 use Rattle.definitions.specs.SheetNumber.{Read, found, failed, number}
 use Rattle.definitions.specs.Sheet.{Reader, andThen, give, times, cell}
-use Rattle.laws.specs.SheetLaws.{Keeps, ends-inside, times-found, times-failed, then-found, then-failed}
+use Rattle.laws.specs.SheetReading.SheetLaws.{Keeps, ends-inside, times-found, times-failed, then-found, then-failed}
 use Rattle.sheet.specs.Numbers.{upTo, itemsAt, valuesIn, isFound, Told, Held}
 use Rattle.sheet.proofs.Items.{upTo-all, upTo-cell}
 use Rattle.sheet.specs.declared.Judged.{Judged}

@@ -6,7 +6,7 @@ use native.Mathlib.Nat.{mul-le-mul}
 use lib.Dec.{leb}
 use borrow.Author.Tests.{leb-true}
 use Rattle.definitions.specs.Limits.{isSide, maxSide}
-use Rattle.laws.specs.Tests.{both}
+use Rattle.laws.specs.ListLaws.Tests.{both}
 
 pub side-most : (side : ℕ) → isSide side ≡ true → side ≤ maxSide
 side-most side h = leb-true side maxSide (both (leb 1 side) (leb side maxSide) h .1)

@@ -9,8 +9,8 @@ use lib.IntN.{pos}
 use lib.Ieee.{Float, fin, binary64, fits}
 use Rattle.definitions.specs.Hypotenuse.{rootOf, hypotNumber, hypotValue}
 use Rattle.definitions.specs.Nearest.{patternMagnitude}
-use Rattle.laws.specs.Patterns.{no-nan}
-use Rattle.laws.specs.PatternOrder.{patternInRange}
+use Rattle.laws.specs.FloatLaws.Patterns.{no-nan}
+use Rattle.laws.specs.FloatLaws.PatternOrder.{patternInRange}
 use Rattle.hypotenuse.proofs.Outcomes.{answered, refused-x, refused-y}
 use Rattle.hypotenuse.proofs.hypotenuse.Statement.{statement}
 use Rattle.hypotenuse.proofs.hypotenuse.Tie as tie

@@ -1,20 +1,11 @@
-<<<<<<< HEAD:crates/laws/specs/NumberLaws/Comparisons.antt
--- Comparisons of whole numbers: of two one is not above the other, and pairs in the same order have the same results of `leb`, `ltb` and `eqb`. Assumes nothing.
-use mathlib.Core.Path.{_≡_, refl, sym}
-=======
 -- Comparisons of whole numbers: of two one is not above the other, pairs in the same order have the same results of `leb`, `ltb` and `eqb`, and what `compare` gives. Assumes nothing.
 use mathlib.Core.Path.{_≡_, refl, sym, subst}
->>>>>>> hypcode:crates/laws/specs/Comparisons.antt
 use mathlib.Core.Logic.{_↔_, _⊎_, inl, inr}
 use Prim.Native.Nat.{ℕ, _≤_, _<_, compare, Ordering, Ordering·lt, Ordering·eq, Ordering·gt}
 use native.Mathlib.Nat.{le-antisymm, le-of-eq, le-of-lt, lt-of-not-le, not-le-of-lt}
 use mathlib.Core.Bool.{Bool, true, false, not}
-<<<<<<< HEAD:crates/laws/specs/NumberLaws/Comparisons.antt
-use lib.Dec.{T, leb, ltb, eqb, leb→le, le→leb, nleb→lt, ltb→lt, lt→ltb}
-use Rattle.laws.specs.ListLaws.Tests
-=======
 use lib.Dec.{T, isLe, isEq, leb, ltb, eqb, leb→le, le→leb, nleb→lt, ltb→lt, lt→ltb, eqb→eq, eqb-refl}
->>>>>>> hypcode:crates/laws/specs/Comparisons.antt
+use Rattle.laws.specs.ListLaws.Tests
 
 pub le-or-lt : (a b : ℕ) → (a ≤ b) ⊎ (b < a)
 le-or-lt a b = go (leb a b) (leb→le a b) (nleb→lt a b)
@@ -44,9 +35,6 @@ module _ {a b c d : ℕ} (h : SameOrder a b c d) where
       (λ t. lt→ltb a b (lt-of-not-le (λ (g : b ≤ a). not-le-of-lt (ltb→lt c d t) (h .1 .0 g))))
 
   pub eqb-same : eqb a b ≡ eqb c d
-<<<<<<< HEAD:crates/laws/specs/NumberLaws/Comparisons.antt
-  eqb-same = Tests.eqb-same a b c d (λ e. le-antisymm (h .0 .0 (le-of-eq e)) (h .1 .0 (le-of-eq (sym e))), λ e. le-antisymm (h .0 .1 (le-of-eq e)) (h .1 .1 (le-of-eq (sym e))))
-=======
   eqb-same =
       same-test (eqb a b) (eqb c d)
       (λ t. let e = eqb→eq a b t in equal c d (le-antisymm (h .0 .0 (le-of-eq e)) (h .1 .0 (le-of-eq (sym e)))))
@@ -81,4 +69,3 @@ module _ (a b : ℕ) where
       go Ordering·lt n = absurd (n tt)
       go Ordering·eq n = absurd (n tt)
       go Ordering·gt n = refl
->>>>>>> hypcode:crates/laws/specs/Comparisons.antt

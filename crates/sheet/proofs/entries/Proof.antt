@@ -3,7 +3,7 @@ use mathlib.Core.Path.{ap, subst, _∙_}
 use native.Mathlib.Omega.{arith}
 use native.Mathlib.Nat.{mul-le-mul}
 use Rattle.sheet.specs.Numbers.{itemOf, Told}
-use Rattle.laws.specs.SheetLaws.{keeps-number, ends-inside}
+use Rattle.laws.specs.SheetReading.SheetLaws.{keeps-number, ends-inside}
 use Rattle.sheet.proofs.Items.{as-number}
 use Rattle.sheet.proofs.Chains.{count-fails, count-over}
 use Rattle.sheet.proofs.Found.{entries-found, entries-faulty}

@@ -8,7 +8,7 @@ use borrow.Author.Needs.{needs}
 use lib.ListN.{drop}
 use Rattle.definitions.specs.SheetNumber.{number}
 use Rattle.sheet.specs.Numbers.{itemOf}
-use Rattle.laws.specs.SheetLaws.{keeps-number}
+use Rattle.laws.specs.SheetReading.SheetLaws.{keeps-number}
 use Rattle.sheet.proofs.Items.{as-number}
 use Rattle.sheet.proofs.Filling.{Filling, filling-starts, filling-ends, filling-never-stops, filling-goes-on}
 use Rattle.sheet.proofs.fill_numbers.Statement.{statement}

@@ -1,7 +1,7 @@
 -- `sheet::opening` meets its contract: the kind is 1 and the pass follows, or the first of the two that is not so is the fault. Assumes nothing.
 use mathlib.Core.Path.{ap, _∙_}
 use Rattle.sheet.specs.Numbers.{itemOf}
-use Rattle.laws.specs.SheetLaws.{keeps-number, ends-inside}
+use Rattle.laws.specs.SheetReading.SheetLaws.{keeps-number, ends-inside}
 use Rattle.sheet.proofs.Items.{as-number}
 use Rattle.sheet.proofs.Chains.{opening-goes-on, opening-other, opening-fails}
 use borrow.Author.Needs.{needs}

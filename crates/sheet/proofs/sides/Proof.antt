@@ -1,7 +1,7 @@
 -- `sheet::sides` meets its contract: both sides are read before either is judged, and the first number that is not read is the fault. Assumes nothing.
 use mathlib.Core.Path.{sym, ap, _∙_}
 use Rattle.sheet.specs.Numbers.{itemOf}
-use Rattle.laws.specs.SheetLaws.{keeps-number, ends-inside}
+use Rattle.laws.specs.SheetReading.SheetLaws.{keeps-number, ends-inside}
 use Rattle.sheet.proofs.Items.{as-number}
 use Rattle.sheet.proofs.Chains.{width-fails, height-fails, area-fails}
 use Rattle.sheet.proofs.Found.{sides-found}

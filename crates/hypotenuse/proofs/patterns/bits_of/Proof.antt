@@ -5,7 +5,7 @@ use Prim.Native.Nat.{_%_, _^_}
 use lib.Dec.{T}
 use lib.Ieee.{Float, nan, inf, fin, binary64, isNan, ne, toBits}
 use lib.Ieee.Compare.{differs-from-itself, nan-differs}
-use Rattle.laws.specs.Patterns.{patternOf}
+use Rattle.laws.specs.FloatLaws.Patterns.{patternOf}
 use Rattle.hypotenuse.proofs.patterns.bits_of.Statement.{statement}
 use Rattle.hypotenuse.proofs.patterns.bits_of.Tie as tie
 

@@ -1,7 +1,7 @@
 -- `patterns::guess` meets its contract: the patterns are no NaN's, and each answer is two or four times a number of 53 digits. Assumes nothing.
 use borrow.Author.Needs.{needs}
 use native.Mathlib.Omega.{arith}
-use Rattle.laws.specs.Patterns.{no-nan}
+use Rattle.laws.specs.FloatLaws.Patterns.{no-nan}
 use Rattle.hypotenuse.proofs.patterns.guess.Statement.{statement}
 use Rattle.hypotenuse.proofs.patterns.guess.Tie as tie
 

@@ -7,7 +7,7 @@ use native.Mathlib.Omega.{arith}
 use lib.Dec.{T}
 use Rattle.definitions.specs.Hypotenuse.{rootOf}
 use Rattle.definitions.specs.Nearest.{patternMagnitude}
-use Rattle.laws.specs.PatternOrder.{patternInRange}
+use Rattle.laws.specs.FloatLaws.PatternOrder.{patternInRange}
 use Rattle.hypotenuse.proofs.patterns.hypotenuse_pattern.Statement.{statement}
 use Rattle.hypotenuse.proofs.patterns.hypotenuse_pattern.Tie as tie
 

@@ -9,7 +9,7 @@ use native.Mathlib.Omega.{arith}
 use lib.Ieee.{binary64, ofBits}
 use lib.Pow.{pow-mono}
 use Rattle.definitions.specs.Hypotenuse.{rootOf}
-use Rattle.laws.specs.Comparisons.{le-or-lt}
+use Rattle.laws.specs.NumberLaws.Comparisons.{le-or-lt}
 use Rattle.hypotenuse.specs.Rounding.{Rounded}
 use Rattle.hypotenuse.specs.Wide.{wide}
 use Rattle.hypotenuse.proofs.Close.{Near, total, double-le, high-le, powers, root-ge, root-lt, nearest-root}

@@ -9,8 +9,8 @@ use lib.Dec.{T}
 use lib.Ieee.{binary64, ofBits}
 use Rattle.definitions.specs.Hypotenuse.{rootOf}
 use Rattle.definitions.specs.Nearest.{patternMagnitude}
-use Rattle.laws.specs.Patterns.{magnitude-normal}
-use Rattle.laws.specs.PatternOrder.{patternInRange}
+use Rattle.laws.specs.FloatLaws.Patterns.{magnitude-normal}
+use Rattle.laws.specs.FloatLaws.PatternOrder.{patternInRange}
 use Rattle.hypotenuse.proofs.Apart.{apart}
 use Rattle.hypotenuse.proofs.Outcomes.{within}
 use Rattle.hypotenuse.proofs.patterns.root_pattern.Statement.{statement}

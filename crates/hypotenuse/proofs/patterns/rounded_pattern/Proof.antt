@@ -4,7 +4,7 @@ use mathlib.Core.Path.{_≡_}
 use mathlib.Core.Logic.{_⊎_, inl, inr, ⊎-elim}
 use Prim.Native.Nat.{ℕ, _+_, _*_, _/_, _%_, _^_, _≤_, _<_}
 use native.Mathlib.Omega.{arith}
-use Rattle.laws.specs.Comparisons.{le-or-lt}
+use Rattle.laws.specs.NumberLaws.Comparisons.{le-or-lt}
 use Rattle.hypotenuse.specs.Rounding.{Rounded, down, up, tie}
 use Rattle.hypotenuse.proofs.patterns.rounded_pattern.Statement.{statement}
 use Rattle.hypotenuse.proofs.patterns.rounded_pattern.Tie as tie

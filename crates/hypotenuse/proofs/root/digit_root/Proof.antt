@@ -7,7 +7,7 @@ use native.Mathlib.Nat.{pow-succ'}
 use native.Mathlib.Omega.{arith}
 use borrow.Author.Tests.{ltb-true, ltb-false, not-true, not-false}
 use lib.Pow.{pow-pos}
-use Rattle.laws.specs.Squares.{square-next}
+use Rattle.laws.specs.NumberLaws.Squares.{square-next}
 use Rattle.hypotenuse.specs.Wide.{wide}
 use Rattle.hypotenuse.proofs.root.digit_root.Statement.{statement}
 use Rattle.hypotenuse.proofs.root.digit_root.Tie as tie

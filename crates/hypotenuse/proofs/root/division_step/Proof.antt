@@ -5,7 +5,7 @@ use mathlib.Core.Path.{_≡_, refl, sym, ap, _∙_}
 use Prim.Native.Nat.{ℕ, _+_, _-_, _*_, _/_, _^_, _≤_, _<_}
 use native.Mathlib.Nat.{div-lt-iff-lt-mul, div-mul-le-self, two-mul, one-mul, add-assoc, add-comm, add-left-comm, mul-comm, mul-add, add-mul}
 use native.Mathlib.Omega.{arith}
-use Rattle.laws.specs.Squares.{square-le}
+use Rattle.laws.specs.NumberLaws.Squares.{square-le}
 use Rattle.hypotenuse.proofs.root.division_step.Statement.{statement}
 use Rattle.hypotenuse.proofs.root.division_step.Tie as tie
 

@@ -3,7 +3,7 @@
 use mathlib.Core.Path.{_≡_}
 use Prim.Native.Nat.{_+_, _-_, _*_, _≤_}
 use native.Mathlib.Omega.{arith}
-use Rattle.laws.specs.Squares.{square-next}
+use Rattle.laws.specs.NumberLaws.Squares.{square-next}
 use Rattle.hypotenuse.proofs.root.single_steps.Statement.{statement}
 use Rattle.hypotenuse.proofs.root.single_steps.Tie as tie
 

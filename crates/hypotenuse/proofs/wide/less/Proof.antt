@@ -5,8 +5,8 @@ use mathlib.Core.List.{[], _∷_}
 use Prim.Native.Nat.{ℕ, _+_, _^_, _<_}
 use native.Mathlib.Omega.{arith}
 use lib.Dec.{ltb}
-use Rattle.laws.specs.Comparisons.{ltb-same}
-use Rattle.laws.specs.Words.{wordsValue, lowest-decides, higher-decide}
+use Rattle.laws.specs.NumberLaws.Comparisons.{ltb-same}
+use Rattle.laws.specs.NumberLaws.Words.{wordsValue, lowest-decides, higher-decide}
 use Rattle.hypotenuse.proofs.wide.less.Statement.{statement}
 use Rattle.hypotenuse.proofs.wide.less.Tie as tie
 

@@ -10,7 +10,7 @@ use lib.Bits.{bitAnd, and-mask}
 use lib.Dec.{lit<}
 use lib.ListN.{getD}
 use lib.Pow.{pow-add, pow-pos, shl-exact, shr-lt}
-use Rattle.laws.specs.Words.{wordsValue, cut, cut-value, cut-lt}
+use Rattle.laws.specs.NumberLaws.Words.{wordsValue, cut, cut-value, cut-lt}
 use Rattle.hypotenuse.proofs.wide.shifted.Statement.{statement}
 use Rattle.hypotenuse.proofs.wide.shifted.Tie as tie
 

@@ -6,8 +6,8 @@ use mathlib.Core.List.{[], _∷_}
 use Prim.Native.Nat.{ℕ, _+_, _-_, _*_, _/_, _%_, _^_, _≤_, _<_}
 use native.Mathlib.Nat.{mul-le-mul, div-add-mod', zero-mul, zero-add, two-mul, add-assoc, add-comm, add-left-comm, mul-assoc, mul-comm, mul-left-comm, mul-add, add-mul}
 use native.Mathlib.Omega.{arith}
-use Rattle.laws.specs.Squares.{square-le}
-use Rattle.laws.specs.Words.{wordsValue, carried, carried-value, paired-value}
+use Rattle.laws.specs.NumberLaws.Squares.{square-le}
+use Rattle.laws.specs.NumberLaws.Words.{wordsValue, carried, carried-value, paired-value}
 use Rattle.hypotenuse.proofs.wide.square.Statement.{statement}
 use Rattle.hypotenuse.proofs.wide.square.Tie as tie
 

@@ -5,7 +5,7 @@ use mathlib.Core.List.{[], _∷_}
 use Prim.Native.Nat.{ℕ, _+_, _^_}
 use native.Mathlib.Omega.{arith}
 use lib.ListN.{getD}
-use Rattle.laws.specs.Words.{columns-value, carried-value}
+use Rattle.laws.specs.NumberLaws.Words.{columns-value, carried-value}
 use Rattle.hypotenuse.proofs.wide.sum.Statement.{statement}
 use Rattle.hypotenuse.proofs.wide.sum.Tie as tie
 

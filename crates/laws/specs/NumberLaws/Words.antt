@@ -9,8 +9,8 @@ use native.Mathlib.Nat.{pow-suc, pow-zero, lt-of-lt-of-le, le-of-lt, le-refl, no
 use native.Mathlib.Omega.{arith}
 use lib.Arith.{digits-lt}
 use lib.ListN.{length}
-use Rattle.laws.specs.Comparisons.{SameOrder, le-or-lt}
-use Rattle.laws.specs.Lists.{All, done, more}
+use Rattle.laws.specs.NumberLaws.Comparisons.{SameOrder, le-or-lt}
+use Rattle.laws.specs.ListLaws.Lists.{All, done, more}
 
 abbrev pub wordsValue : ℕ → List ℕ → ℕ
 wordsValue B [] = 0

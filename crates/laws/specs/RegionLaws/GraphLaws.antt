@@ -14,11 +14,11 @@ use borrow.Author.Tests.{ltb-true, lt-ltb, eqb-true, eq-eqb}
 use Rattle.definitions.specs.Scan.{run, gather, toList, onlyIf}
 use Rattle.definitions.specs.Grid.{Pair}
 use Rattle.definitions.specs.Partition.{Joined, here, along, mergeAll}
-use Rattle.laws.specs.Lists.{All, done, more, all-map}
-use Rattle.laws.specs.Members.{all-members}
-use Rattle.laws.specs.Below.{gather-below, gather-at}
-use Rattle.laws.specs.Merging.{Within, rooted, Level, kept-all}
-use Rattle.laws.specs.Chains.{joined-same, joined-name}
+use Rattle.laws.specs.ListLaws.Lists.{All, done, more, all-map}
+use Rattle.laws.specs.ListLaws.Members.{all-members}
+use Rattle.laws.specs.ListLaws.Below.{gather-below, gather-at}
+use Rattle.laws.specs.RegionLaws.Merging.{Within, rooted, Level, kept-all}
+use Rattle.laws.specs.RegionLaws.Chains.{joined-same, joined-name}
 
 pub record Graph : Type 0 where
   pub n : ℕ

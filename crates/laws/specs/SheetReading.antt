@@ -1,0 +1,2 @@
+-- The sheet's readers.
+pub mod SheetLaws
