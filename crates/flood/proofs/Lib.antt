@@ -5,7 +5,7 @@ mod Used
 mod States
 mod Outer
 mod Uncut
-mod Tests
+pub mod StepTests
 mod Visits
 mod Turns
 mod Ending

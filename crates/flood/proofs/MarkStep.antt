@@ -1,7 +1,7 @@
 -- Setting the two bits of a step adds exactly that step to the steps that the masks say are cut (`mark-adds`), and masks of zeros say that none is
 -- (`marks-none`): a loop that marks every cut step both ways ends with masks as the flood asks. A step is known by either of its cells with the direction from
 -- there, since a cell reaches another in one direction only, and a direction is known by its bit. Assumes nothing.
-use Prim.Native.Nat.{ℕ, _-_, _/_, _%_, _^_, _≤_, _<_, min, max}
+use Prim.Native.Nat.{ℕ, _-_, _*_, _/_, _%_, _^_, _≤_, _<_, min, max}
 use native.Mathlib.Omega.{arith}
 use native.Mathlib.Nat.{zero-div}
 use mathlib.Core.Path.{_≡_, refl, sym, ap, ap₂, _∙_}
@@ -11,11 +11,15 @@ use mathlib.Core.List.{List, [], _∷_, _++_}
 use lib.ListN.{length, getD}
 use lib.Dec.{eqb, ltb}
 use borrow.Author.Tests.{eqb-true, eq-eqb, ltb-true, ltb-false}
-use Rattle.definitions.specs.Scan.{any}
-use Rattle.definitions.specs.Grid.{Map, Position, at, Pair, pairEq, cellCount, toward, positionOf, isStep}
-use Rattle.laws.specs.ListLaws.Tests.{both}
-use Rattle.laws.specs.ListLaws.Lists.{any-append}
+use Rattle.definitions.specs.Scan.{any, gather}
+use Rattle.definitions.specs.Grid.{Map, Position, at, Pair, pairEq, spanCount, cellCount, toward, positionOf, isStep}
+use Rattle.definitions.specs.Partition.{cutAll}
+use Rattle.laws.specs.Tests.{both}
+use Rattle.laws.specs.Lists.{any-append}
+use Rattle.laws.specs.GraphLaws.{two-way}
 use Rattle.flood.specs.Masks.{bitOf, opposite, cutBit, withBit, reached, stepPair, Marks}
+use Rattle.flood.specs.Walk.{gridOf}
+use Rattle.flood.specs.Contract.{Masked}
 use Rattle.flood.proofs.Square.{Four, four, Across, across}
 use Rattle.flood.proofs.Bits.{withBit-length, mark-bit}
 
@@ -31,11 +35,6 @@ or-left a b h = ap (λ x. x || b) h
 or-right : (a b : Bool) → b ≡ true → (a || b) ≡ true
 or-right true b h = refl
 or-right false b h = h
-
-two-way : (a b : Bool) → (a ≡ true → b ≡ true) → (b ≡ true → a ≡ true) → a ≡ b
-two-way true b f g = sym (f refl)
-two-way false true f g = g refl
-two-way false false f g = refl
 
 eqs : (a b c d : ℕ) → a ≡ b → c ≡ d → (eqb a b && eqb c d) ≡ true
 eqs a b c d e f = ap₂ _&&_ (eq-eqb a b e) (eq-eqb c d f)
@@ -62,8 +61,8 @@ module _ (M : Map) where
       same = sym (across M c d s .here) ∙ ap (positionOf M) e ∙ across M c j t .here
 
   -- the step in direction d of c is the step in direction j of a, seen from a or from its other cell
-  pub same-step : (c : ℕ) (d : Position) (a : ℕ) (j : Position) → isStep M (positionOf M c) d ≡ true → isStep M (positionOf M a) j ≡ true → a < reached M a j → pairEq (stepPair M c d) (record { lo = a; hi = reached M a j }) ≡ ((eqb c a && eqb (bitOf d) (bitOf j)) || (eqb c (reached M a j) && eqb (bitOf d) (bitOf (opposite j))))
-  same-step c d a j s t l = two-way (eqb (min c r) a && eqb (max c r) b) (first || second) found said
+  pub mark-edge : (c : ℕ) (d : Position) (a : ℕ) (j : Position) → isStep M (positionOf M c) d ≡ true → isStep M (positionOf M a) j ≡ true → a < reached M a j → pairEq (stepPair M c d) (record { lo = a; hi = reached M a j }) ≡ ((eqb c a && eqb (bitOf d) (bitOf j)) || (eqb c (reached M a j) && eqb (bitOf d) (bitOf (opposite j))))
+  mark-edge c d a j s t l = two-way (eqb (min c r) a && eqb (max c r) b) (first || second) found said
     where
       b : ℕ
       b = reached M a j
@@ -167,4 +166,11 @@ mark-adds M masks E long m a j h t l c d i s =
     added : ((eqb c a && eqb (bitOf d) (bitOf j)) || (eqb c b && eqb (bitOf d) (8 - bitOf j))) ≡ (pairEq (stepPair M c d) (record { lo = a; hi = b }) || false)
     added =
         ap (λ k. (eqb c a && eqb (bitOf d) (bitOf j)) || (eqb c b && eqb (bitOf d) k)) (sym (bit-opposite j (g .nearX) (g .nearY)))
-        ∙ sym (same-step M c d a j s t l) ∙ sym (or-false _)
+        ∙ sym (mark-edge M c d a j s t l) ∙ sym (or-false _)
+
+-- ---- what the flood asks of the masks can be met: masks of zeros are those of the map with no spans
+
+pub masked-none : (w h : ℕ) (cells masks : List ℕ) → ((c : ℕ) → c < h * w → getD masks c 0 ≡ 0) → Masked w h cells masks
+unfolding cutAll spanCount gather cellCount
+masked-none w h cells masks z =
+    (gridOf w h cells, record { width = refl; height = refl; cells = refl; marks = marks-none (gridOf w h cells) masks z })

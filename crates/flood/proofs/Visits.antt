@@ -1,20 +1,18 @@
 -- The ways through `visit`: a step that lands in the grid lands on the cell t that the code computes, so that where t is outside or has a label there is
 -- nothing to do, and past the tests the step lands on t. Assumes nothing.
 use Prim.Native.Nat.{ℕ, _+_, _-_, _*_, _<_}
-use native.Mathlib.Omega.{arith}
 use mathlib.Core.Path.{_≡_, sym, ap, ap₂, _∙_}
 use mathlib.Core.Bool.{Bool, true, false, true≢false}
 use mathlib.Core.List.{List}
 use lib.ListN.{getD, set}
-use Rattle.definitions.specs.Grid.{Map, Position, at, toward, isStep, positionOf}
+use Rattle.definitions.specs.Grid.{Map, Position, at, isStep, positionOf}
 use Rattle.flood.specs.Masks.{bitOf, cutBit, reached}
 use Rattle.flood.specs.Walk.{landing, gridOf}
 use Rattle.flood.specs.State.{used, Visited, idle, taken}
 use Rattle.flood.specs.Inner.{Inside, Stepping, Visiting}
-use Rattle.flood.proofs.Square.{Four, four, In, walkable-in}
 use Rattle.flood.proofs.Graph.{landing-goes, goes}
 use Rattle.flood.proofs.Used.{used-some}
-use Rattle.flood.proofs.Tests.{cells-in}
+use Rattle.flood.proofs.StepTests.{step-inside, cells-in}
 
 module _ {w h : ℕ} {cells masks l q : List ℕ} {c x y : ℕ} {inner : Bool} {dx dy tail : ℕ} (S : Visiting w h cells masks l q c x y inner dx dy tail) where
   abbrev M : Map
@@ -27,19 +25,7 @@ module _ {w h : ℕ} {cells masks l q : List ℕ} {c x y : ℕ} {inner : Bool} {
   here = ap₂ at (S .isX) (S .isY)
 
   lands-inside : landing M masks c d < h * w → Inside w h x y dx dy
-  lands-inside r =
-      record {
-        left = omega (arith, f .right, S .isX);
-        up = omega (arith, f .down, S .isY);
-        right = omega (arith, f .right, i .x, S .isX);
-        down = omega (arith, f .down, i .y, S .isY);
-      }
-    where
-      f : Four M (positionOf M c) d
-      f = four M (positionOf M c) d (goes M masks c d r .step)
-
-      i : In M (toward (positionOf M c) d)
-      i = walkable-in M (toward (positionOf M c) d) (f .far)
+  lands-inside r = step-inside M x y dx dy (ap (λ p. isStep M p d) here ∙ goes M masks c d r .step)
 
   -- the cell that the code computes
   abbrev t : ℕ
@@ -52,7 +38,7 @@ module _ {w h : ℕ} {cells masks l q : List ℕ} {c x y : ℕ} {inner : Bool} {
   on-t r = is-reached ∙ sym (goes M masks c d r .is)
 
   pub stepping : Inside w h x y dx dy → Stepping w h cells x y dx dy
-  stepping i = record { nearby = S .nearby; inside = i; cellsLong = S .table .cellsLong; walks = S .walks }
+  stepping i = record { nearby = S .nearby; inside = i; cellsLong = S .grid .cellsLong; walks = S .walks }
 
   module _ (id : ℕ) where
     pub visit-outside : (Inside w h x y dx dy → ⊥) → Visited (h * w) (landing M masks c d) id l q tail l q tail

@@ -48,9 +48,9 @@ pub record Stepping (w h : ℕ) (cells : List ℕ) (x y dx dy : ℕ) : Type 0 wh
   pub cellsLong : length cells ≡ h * w
   pub walks : walkable (gridOf w h cells) (at x y) ≡ true
 
--- ---- lists that are lent throughout
+-- ---- what is lent and not written
 
-pub record Table (w h : ℕ) (cells masks : List ℕ) : Type 0 where
+pub record Grid (w h : ℕ) (cells masks : List ℕ) : Type 0 where
   pub narrow : w ≤ 1024
   pub short : h ≤ 1024
   pub few : h * w ≤ 1048576
@@ -60,14 +60,14 @@ pub record Table (w h : ℕ) (cells masks : List ℕ) : Type 0 where
 
 -- a state with a cell that waits
 pub record Ready (w h : ℕ) (cells masks : List ℕ) (id : ℕ) (l q : List ℕ) (head tail : ℕ) : Type 0 where
-  pub table : Table w h cells masks
+  pub grid : Grid w h cells masks
   pub state : State (graphOf (gridOf w h cells) masks) id l q head 0 tail
   pub busy : head < tail
   pub some : 0 < id
 
 -- the cell c at (x, y), whose step in a direction is looked at
 pub record Visiting (w h : ℕ) (cells masks l q : List ℕ) (c x y : ℕ) (inner : Bool) (dx dy tail : ℕ) : Type 0 where
-  pub table : Table w h cells masks
+  pub grid : Grid w h cells masks
   pub nearby : Nearby w h x y dx dy
   pub within : inner ≡ true → Inner w h x y
   pub isX : x ≡ c % w

@@ -36,6 +36,7 @@ pub fn direction_table() -> [Direction; 8]
     DIRECTIONS
 }
 
+// A number of a slice as an index: in a function of its own it asks for no proof that the element fits.
 fn wide(x: u32) -> usize
     ensures { λ r. ⌜ r ≡ x ⌝ }
 {
@@ -43,7 +44,7 @@ fn wide(x: u32) -> usize
 }
 
 // Whether every neighbour of (x, y) is in the grid.
-fn is_inner(width: usize, height: usize, x: usize, y: usize) -> bool
+pub fn is_inner(width: usize, height: usize, x: usize, y: usize) -> bool
     requires { ⌜ (width ≤ 1024) × (height ≤ 1024) × (x < width) × (y < height) ⌝ }
     ensures { λ r. ⌜ (r ≡ true → Inner width height x y) ⌝ }
 {

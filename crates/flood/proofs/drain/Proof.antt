@@ -20,10 +20,10 @@ loop-holds c = ran-start (c .before .before .before .before .pre .state)
 
 spread-requires : tie.Need-spread-requires Inv-loop μ-loop
 spread-requires c κs =
-    record { table = c .before .before .before .before .before .before .before .before .pre .table; state = c .before .before .before .loop .inv .state; busy = c .before .before .loop-test .taken; some = c .before .before .before .before .before .before .before .before .pre .some }
+    record { grid = c .before .before .before .before .before .before .before .before .pre .grid; state = c .before .before .before .loop .inv .state; busy = c .before .before .loop-test .taken; some = c .before .before .before .before .before .before .before .before .pre .some }
 
 add-at : tie.Need-add-at Inv-loop μ-loop
-add-at c = omega (arith, c .before .before .before .before .before .before .before .loop-test .taken, tail-le (c .before .before .before .before .before .before .before .before .loop .inv .state), c .before .before .before .before .before .before .before .before .before .before .before .before .before .pre .table .few)
+add-at c = omega (arith, c .before .before .before .before .before .before .before .loop-test .taken, tail-le (c .before .before .before .before .before .before .before .before .loop .inv .state), c .before .before .before .before .before .before .before .before .before .before .before .before .before .pre .grid .few)
 
 loop-less : tie.Need-loop-less Inv-loop μ-loop
 loop-less c = omega (arith, c .before .before .before .before .before .before .before .loop-test .taken, tail-le (c .before .before .before .before .before .before .before .before .loop .inv .state))

@@ -6,7 +6,7 @@ use borrow.Author.Needs.{needs}
 use borrow.Author.Tests.{eq-eqb, ne-eqb}
 use Rattle.flood.specs.Walk.{graphOf, gridOf}
 use Rattle.flood.proofs.Outer.{Outer, outer-start, seed, seed-room, flooded, blocked, known, outer-by, ids-le, outer-end}
-use Rattle.flood.proofs.Turns.{few-of, table-of, laws-of}
+use Rattle.flood.proofs.Turns.{few-of, grid-of, laws-of}
 use Rattle.flood.proofs.Ending.{flooded-all}
 use Rattle.flood.proofs.flood.Statement.{statement}
 use Rattle.flood.proofs.flood.Tie as tie
@@ -61,7 +61,7 @@ add-drain c = omega (arith, seed-room (laws-of (c .before .before .before .befor
 drain-requires : tie.Need-drain-requires Inv-loop μ-loop
 drain-requires c κs =
     record {
-      table = table-of (c .before .before .before .before .before .before .before .before .before .before .before .before .pre .0) (c .before .before .before .before .before .before .before .before .before .before .before .before .pre .1);
+      grid = grid-of (c .before .before .before .before .before .before .before .before .before .before .before .before .pre .0) (c .before .before .before .before .before .before .before .before .before .before .before .before .pre .1);
       state = seed (laws-of (c .before .before .before .before .before .before .before .before .before .before .before .before .pre)) (c .before .before .before .before .before .before .before .loop .inv .1) (c .before .before .before .before .before .before .loop-test .taken) (eq-eqb _ _ (c .before .before .before .before .if1 .taken)) (c .before .before .if2 .taken);
       busy = omega arith;
       some = omega arith;

@@ -1,7 +1,7 @@
 -- `flood::is_inside` meets its contract: each of the tests that answer `false` shows that the position is outside. Assumes nothing.
 use native.Mathlib.Omega.{arith}
 use borrow.Author.Needs.{needs}
-use Rattle.flood.proofs.Tests.{inner-inside, says-yes, says-no, says-last}
+use Rattle.flood.proofs.StepTests.{inner-inside, says-yes, says-no, says-last}
 use Rattle.flood.proofs.is_inside.Statement.{statement}
 use Rattle.flood.proofs.is_inside.Tie as tie
 

@@ -2,7 +2,7 @@
 -- Assumes nothing.
 use native.Mathlib.Omega.{arith}
 use borrow.Author.Needs.{needs}
-use Rattle.flood.proofs.Tests.{Cells, cells-in, far-blocked, side-blocked, under-decides}
+use Rattle.flood.proofs.StepTests.{Cells, cells-in, far-blocked, side-blocked, under-decides}
 use Rattle.flood.proofs.is_step.Statement.{statement}
 use Rattle.flood.proofs.is_step.Tie as tie
 

@@ -10,7 +10,7 @@ use Rattle.flood.specs.State.{Ran}
 use Rattle.flood.specs.Inner.{positionAt}
 use Rattle.flood.proofs.Ways.{table-at}
 use Rattle.flood.proofs.States.{tail-le, ran-start, ran-turn}
-use Rattle.flood.proofs.Tests.{cell-wide, cell-x, cell-y}
+use Rattle.flood.proofs.StepTests.{cell-wide, cell-x, cell-y}
 use Rattle.flood.proofs.Turns.{visiting, spread-visited}
 use Rattle.flood.proofs.spread.Statement.{statement}
 use Rattle.flood.proofs.spread.Tie as tie
@@ -27,7 +27,7 @@ direction-table-requires : tie.Need-direction-table-requires Inv-loop μ-loop
 direction-table-requires c κs = search needs
 
 mul-wide : tie.Need-mul-wide Inv-loop μ-loop
-mul-wide c = omega (arith, tail-le (c .before .before .before .before .before .pre .state), c .before .before .before .before .before .pre .busy, c .before .before .before .before .before .pre .table .few)
+mul-wide c = omega (arith, tail-le (c .before .before .before .before .before .pre .state), c .before .before .before .before .before .pre .busy, c .before .before .before .before .before .pre .grid .few)
 
 slice-read-wide : tie.Need-slice-read-wide Inv-loop μ-loop
 slice-read-wide c = omega (arith, tail-le (c .before .before .before .before .before .before .pre .state), c .before .before .before .before .before .before .pre .state .room, c .before .before .before .before .before .before .pre .busy)
@@ -48,7 +48,7 @@ div-y c = omega (arith, cell-wide (c .wide .result) (c .before .before .before .
 is-inner-requires : tie.Need-is-inner-requires Inv-loop μ-loop
 is-inner-requires c κs =
     let s = c .before .before .before .before .before .before .before in
-    (s .pre .table .narrow, s .pre .table .short, cell-x (c .wide .result) (s .args .width) (s .args .height) (in-grid c), cell-y (c .wide .result) (s .args .width) (s .args .height) (in-grid c))
+    (s .pre .grid .narrow, s .pre .grid .short, cell-x (c .wide .result) (s .args .width) (s .args .height) (in-grid c), cell-y (c .wide .result) (s .args .width) (s .args .height) (in-grid c))
 
 loop-holds : tie.Need-loop-holds Inv-loop μ-loop
 loop-holds c = (omega arith, ran-start (c .before .before .before .before .before .before .before .before .pre .state))

@@ -5,7 +5,7 @@ use mathlib.Core.Path.{sym, _∙_}
 use borrow.Author.Needs.{needs}
 use borrow.Author.Tests.{not-true, not-false}
 use Rattle.flood.specs.Inner.{Inside}
-use Rattle.flood.proofs.Tests.{Cells, cells-in}
+use Rattle.flood.proofs.StepTests.{Cells, cells-in}
 use Rattle.flood.proofs.Visits.{stepping, visit-outside, visit-labelled, visit-blocked, visit-cut, visit-taken}
 use Rattle.flood.proofs.visit.Statement.{statement}
 use Rattle.flood.proofs.visit.Tie as tie

@@ -20,6 +20,12 @@ use Rattle.laws.specs.ListLaws.Below.{gather-below, gather-at}
 use Rattle.laws.specs.RegionLaws.Merging.{Within, rooted, Level, kept-all}
 use Rattle.laws.specs.RegionLaws.Chains.{joined-same, joined-name}
 
+-- two tests, each of which holds where the other does
+pub two-way : (a b : Bool) → (a ≡ true → b ≡ true) → (b ≡ true → a ≡ true) → a ≡ b
+two-way true b f k = sym (f refl)
+two-way false true f k = k refl
+two-way false false f k = refl
+
 pub record Graph : Type 0 where
   pub n : ℕ
   pub ways : ℕ
@@ -45,10 +51,10 @@ root-walks {G} L = L .whole (G .walk) (λ c d h i u r. L .far c d h i r)
 -- ---- the laws leave one choice of names
 
 module _ (n ways : ℕ) (walk : ℕ → Bool) (to : ℕ → ℕ → ℕ) where
-  abbrev pub with-root : (ℕ → ℕ) → Graph
-  with-root r = record { n = n; ways = ways; walk = walk; to = to; root = r }
+  abbrev pub withRoot : (ℕ → ℕ) → Graph
+  withRoot r = record { n = n; ways = ways; walk = walk; to = to; root = r }
 
-  root-le : (r s : ℕ → ℕ) → Laws (with-root r) → Laws (with-root s) → (c : ℕ) → c < n → s c ≤ r c
+  root-le : (r s : ℕ → ℕ) → Laws (withRoot r) → Laws (withRoot s) → (c : ℕ) → c < n → s c ≤ r c
   root-le r s R S c h = omega (arith, same, S .low (r c) (omega (arith, R .low c h)))
     where
       shut : (a d : ℕ) → a < n → d < ways → eqb (s a) (s c) ≡ true → to a d < n → eqb (s (to a d)) (s c) ≡ true
@@ -57,7 +63,7 @@ module _ (n ways : ℕ) (walk : ℕ → Bool) (to : ℕ → ℕ → ℕ) where
       same : s (r c) ≡ s c
       same = eqb-true (s (r c)) (s c) (R .whole (λ x. eqb (s x) (s c)) shut c h ∙ eq-eqb (s c) (s c) refl)
 
-  pub one-root : (r s : ℕ → ℕ) → Laws (with-root r) → Laws (with-root s) → (c : ℕ) → c < n → r c ≡ s c
+  pub one-root : (r s : ℕ → ℕ) → Laws (withRoot r) → Laws (withRoot s) → (c : ℕ) → c < n → r c ≡ s c
   one-root r s R S c h = omega (arith, root-le r s R S c h, root-le s r S R c h)
 
   -- ---- names by merging, for any pairs that are the ways
@@ -93,11 +99,6 @@ module _ (n ways : ℕ) (walk : ℕ → Bool) (to : ℕ → ℕ → ℕ) where
       leads-set : (a b : ℕ) → a < n → b < n → Leads a b → g a ≡ true → g b ≡ true
       leads-set a b h k l u = rw (l .1 .1) at (shut a (l .0) h (l .1 .0) u (omega (arith, l .1 .1)))
 
-      two-way : (a b : Bool) → (a ≡ true → b ≡ true) → (b ≡ true → a ≡ true) → a ≡ b
-      two-way true b f k = sym (f refl)
-      two-way false true f k = k refl
-      two-way false false f k = refl
-
       level : (p : Pair) → Way p → Level g n p
       level p w =
           record {
@@ -106,7 +107,7 @@ module _ (n ways : ℕ) (walk : ℕ → Bool) (to : ℕ → ℕ → ℕ) where
             level = two-way (g (p .lo)) (g (p .hi)) (leads-set (p .lo) (p .hi) (w .lo) (w .hi) (w .there)) (leads-set (p .hi) (p .lo) (w .hi) (w .lo) (w .back));
           }
 
-    pub merged-laws : Laws (with-root (λ c. getD (mergeAll (run 0 n) E) c 0))
+    pub merged-laws : Laws (withRoot (λ c. getD (mergeAll (run 0 n) E) c 0))
     merged-laws =
         record {
           near = S .near;
@@ -130,7 +131,7 @@ module _ (n ways : ℕ) (walk : ℕ → Bool) (to : ℕ → ℕ → ℕ) where
 
   -- the graph with names by merging its ways
   abbrev pub graphBy : Graph
-  graphBy = with-root (λ c. getD (mergeAll (run 0 n) waysOf) c 0)
+  graphBy = withRoot (λ c. getD (mergeAll (run 0 n) waysOf) c 0)
 
   module _ (near : (c d : ℕ) → c < n → d < ways → to c d < n → walk c ≡ true) (back : (c d : ℕ) → c < n → d < ways → to c d < n → Leads (to c d) c) where
     way-at : (c d : ℕ) → c < n → d < ways → All Way (wayFrom c d)
