@@ -1,5 +1,5 @@
-// Replays stored answers of the hypotenuse. Each line of standard input is 'X Y NUMBER ROOT': the bits of two doubles, 0 or 13, and the bits of the answer's value. It writes how many of the
-// answers are ours, and the numbers of the first lines that are not.
+// Replays stored answers of the hypotenuse. Each line of standard input is 'X Y NUMBER ROOT': the bits of two doubles, 0 or 13, and the bits of the value. It writes how many of the answers are
+// ours, and before that the numbers of the first lines that have another.
 ghost use mathlib.Core.Path.{_≡_};
 ghost use Prim.Native.Nat.{_+_, _-_, _*_, _<_, _≤_, _^_};
 ghost use mathlib.Core.List.{[]};
@@ -10,6 +10,22 @@ use hypotenuse::Answer;
 use libc::STDIN_FILENO;
 use libc::STDOUT_FILENO;
 
+// 2^63: the place of the sign.
+const SIGN: u64 = 9223372036854775808;
+// The pattern of the infinity; larger ones are NaNs.
+const INFINITY: u64 = 9218868437227405312;
+// A line whose number has one digit.
+const SHORTEST_LINE: usize = 52;
+// A line whose number has nine.
+const LONGEST_LINE: usize = 60;
+// A line ends so.
+const NEWLINE: u8 = 10;
+// So many lines with another answer are listed.
+const LISTED: u64 = 8;
+// Reading ends after so many turns at the latest.
+const TURNS: u64 = 1048576;
+
+// A digit from 0 to 9 or a to f.
 fn digit(b: u8) -> u64
     ensures { λ r. ⌜ (r ≡ digitOf b) × (r < 16) ⌝ }
 {
@@ -28,6 +44,7 @@ fn digit(b: u8) -> u64
     0
 }
 
+// The number that up to sixteen digits stand for.
 fn number(s: &[u8], base: u64) -> u64
     requires { ⌜ (length (now s) ≤ 16) × (base ≤ 16) ⌝ }
     ensures { λ r. ⌜ r ≡ digitsAfter base 0 (now (s .entry)) ⌝ }
@@ -45,7 +62,7 @@ fn number(s: &[u8], base: u64) -> u64
 fn double(bits: u64) -> f64
     ensures { λ r. ⌜ r ≡ ofBits binary64 bits ⌝ }
 {
-    if bits % 9223372036854775808 > 9218868437227405312 {
+    if bits % SIGN > INFINITY {
         return 0.0 / 0.0;
     }
     f64::from_bits(bits)
@@ -72,14 +89,15 @@ fn answer_of(x: u64, y: u64) -> Stored
     }
 }
 
+// Whether a line has our answer.
 fn is_answer_line(s: &[u8]) -> bool
     ensures { λ r. ⌜ r ≡ isAnswerLine (now (s .entry)) ⌝ }
 {
     let n = s.len();
-    if n < 52 {
+    if n < SHORTEST_LINE {
         return false;
     }
-    if n > 60 {
+    if n > LONGEST_LINE {
         return false;
     }
     let x = number(&s[0..16], 16);
@@ -105,7 +123,7 @@ fn report(line: u64) {
     io::write_all(STDOUT_FILENO, b"\n");
 }
 
-// Counts the lines of s on top of those before, and writes the numbers of the first eight that have another answer.
+// Counts the lines of s on top of those before, and lists the first that have another answer.
 fn replay(s: &[u8], before: Tally) -> Tally
     requires { ⌜ (before .answers ≤ before .lines) × (before .lines + length (now s) < 2 ^ 64) ⌝ }
     ensures { λ r. ⌜ (r .lines ≡ before .lines + linesIn (now (s .entry))) × (r .answers ≡ before .answers + answersIn [] (now (s .entry))) × (r .answers ≤ r .lines) × (r .lines ≤ before .lines + length (now (s .entry))) × (r .used ≤ length (now (s .entry))) ⌝ }
@@ -115,12 +133,12 @@ fn replay(s: &[u8], before: Tally) -> Tally
     let mut start = 0;
     let mut i = 0;
     while i < s.len() {
-        if s[i] == 10 {
+        if s[i] == NEWLINE {
             lines += 1;
             if is_answer_line(&s[start..i]) {
                 answers += 1;
             } else {
-                if lines - answers <= 8 {
+                if lines - answers <= LISTED {
                     report(lines);
                 }
             }
@@ -146,7 +164,7 @@ fn move_down(s: &mut [u8], a: usize, e: usize)
     }
 }
 
-// Reads once, behind the `held` bytes of a line that has begun, and replays the lines that end.
+// What is known between two turns of reading: how many bytes of a line that has begun stand at the buffer's start, the counts, and whether more may come.
 struct Turn {
     held: usize,
     lines: u64,
@@ -154,6 +172,7 @@ struct Turn {
     more: bool,
 }
 
+// Reads once, behind those bytes, and replays the lines that end.
 fn replay_some(buffer: &mut [u8], before: Turn) -> Turn
     requires { ⌜ (before .held ≤ length (now buffer)) × (before .answers ≤ before .lines) × (before .lines + length (now buffer) < 2 ^ 64) ⌝ }
     ensures { λ r. ⌜ (r .held ≤ length (now (buffer .exit))) × (r .answers ≤ r .lines) × (r .lines ≤ before .lines + length (now (buffer .exit))) ⌝ }
@@ -188,9 +207,6 @@ fn replay_some(buffer: &mut [u8], before: Turn) -> Turn
         more: true,
     }
 }
-
-// At most so many turns: a file of as many bytes would be too large.
-const TURNS: u64 = 1048576;
 
 fn replay_all(buffer: &mut [u8]) -> Turn
     requires { ⌜ length (now buffer) ≤ 65536 ⌝ }

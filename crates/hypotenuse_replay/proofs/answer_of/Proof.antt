@@ -1,6 +1,6 @@
 -- `answer_of` meets its contract: what the answer is says its number and its value, and no value is a NaN. Assumes nothing.
 use borrow.Author.Needs.{needs}
-use mathlib.Core.Path.{_≡_, refl, sym, ap, _∙_, subst}
+use mathlib.Core.Path.{_≡_, sym, ap, _∙_, subst}
 use mathlib.Core.Bool.{not}
 use Prim.Native.Nat.{ℕ}
 use lib.Dec.{T}

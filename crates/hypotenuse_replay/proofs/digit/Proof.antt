@@ -1,6 +1,5 @@
 -- `digit` meets its contract: its tests are those of the definition, one after the other. Assumes nothing.
 use borrow.Author.Needs.{needs}
-use Prim.Native.Nat.{_≤_, _<_}
 use native.Mathlib.Omega.{arith}
 use borrow.Author.Tests.{lt-ltb, le-ltb}
 use Rattle.hypotenuse_replay.proofs.digit.Statement.{statement}

@@ -6,7 +6,7 @@ use mathlib.Core.List.{List}
 use Prim.Native.Nat.{ℕ, _-_, _≤_, _<_}
 use borrow.Author.Tests.{le-leb, lt-leb, eq-eqb, ne-eqb}
 use denote.Ref.{now}
-use lib.Dec.{leb, eqb}
+use lib.Dec.{eqb}
 use lib.ListN.{length}
 use Rattle.hypotenuse_replay.specs.Lines.{digitsAfter, numberOfBits, rootOfBits, part, isAnswerLine}
 use Rattle.hypotenuse_replay.proofs.is_answer_line.Statement.{statement}
