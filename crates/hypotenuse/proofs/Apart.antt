@@ -3,7 +3,7 @@
 use mathlib.Core.Path.{_≡_, refl, sym, ap, _∙_}
 use mathlib.Core.Bool.{false}
 use Prim.Native.Nat.{ℕ, _+_, _-_, _*_, _/_, _%_, _^_, _≤_, _<_}
-use native.Mathlib.Nat.{le-trans, le-of-eq, mul-one, one-mul, add-assoc, add-comm, add-left-comm, mul-assoc, mul-comm, mul-left-comm, mul-mul-mul-comm, mul-add, add-mul, mul-le-mul-right, mul-pos}
+use native.Mathlib.Nat.{le-trans, le-of-eq, one-mul, add-assoc, add-comm, add-left-comm, mul-assoc, mul-left-comm, mul-mul-mul-comm, mul-add, add-mul, mul-le-mul-right, mul-pos}
 use native.Mathlib.Omega.{arith}
 use lib.Pow.{pow-add, pow-pos}
 use lib.Ieee.{binary64, units, nearest, ofBits}
@@ -21,7 +21,7 @@ square-out : (q Z : ℕ) → q * Z * (q * Z) ≡ q * q * (Z * Z)
 square-out q Z = mul-mul-mul-comm q Z q Z
 
 next-square : (q Z : ℕ) → (q + 1) * Z * ((q + 1) * Z) ≡ q * q * (Z * Z) + (q * (Z * Z) + q * (Z * Z)) + Z * Z
-next-square q Z = simp (mul-add, add-mul, mul-one, one-mul, mul-assoc, mul-comm, mul-left-comm, add-assoc, add-comm, add-left-comm) refl
+next-square q Z = simp (mul-add, add-mul, one-mul, mul-assoc, mul-left-comm, add-assoc, add-comm, add-left-comm) refl
 
 middle-square : (q Z : ℕ) → (2 * q + 1) * Z * ((2 * q + 1) * Z) ≡ 4 * (q * q * (Z * Z)) + 4 * (q * (Z * Z)) + Z * Z
 middle-square q Z =

@@ -2,9 +2,8 @@
 -- With P = 2 ^ gap and U = 2 ^ (k - gap), the unit is P * U = 2 ^ k, and what was cut off counts squares of U. Assumes nothing.
 use mathlib.Core.Path.{_≡_, refl, sym, ap, _∙_, subst}
 use mathlib.Core.Logic.{_⊎_, inl, inr}
-use Prim.Native.Nat.{ℕ, _+_, _-_, _*_, _/_, _%_, _^_, _≤_, _<_}
-use native.Mathlib.Nat.{one-mul, two-mul, add-assoc, add-comm, add-left-comm, mul-assoc, mul-comm, mul-left-comm, mul-add, add-mul, mul-le-mul-left, mul-one, pow-succ'}
-use native.Mathlib.Numerals.{add-one}
+use Prim.Native.Nat.{ℕ, _+_, _-_, _*_, _%_, _^_, _≤_, _<_}
+use native.Mathlib.Nat.{one-mul, two-mul, add-assoc, add-comm, add-left-comm, mul-assoc, mul-left-comm, mul-mul-mul-comm, mul-add, add-mul, mul-le-mul-left}
 use native.Mathlib.Omega.{arith}
 use mathlib.Core.Bool.{false}
 use lib.Pow.{pow-add, pow-pos}
@@ -46,14 +45,14 @@ powers k gap h = ap (λ (z : ℕ). 2 ^ z) (back k gap h) ∙ pow-add 2 gap (k - 
     back k gap h = omega arith
 
 sorted : (a h l P U : ℕ) → a * (P * U) * (a * (P * U)) + (h * (P * P) + l) * (U * U) ≡ ((a * a + h) * (P * P) + l) * (U * U)
-sorted a h l P U = simp (mul-add, add-mul, mul-assoc, mul-comm, mul-left-comm, add-assoc, add-comm, add-left-comm) refl
+sorted a h l P U = simp (add-mul, mul-assoc, mul-left-comm, add-assoc, add-comm, add-left-comm) refl
 
 -- four squares of m units are one of 2 * m
 four : (m z : ℕ) → 4 * (m * z * (m * z)) ≡ 2 * m * z * (2 * m * z)
 four m z = sym (ap (λ (w : ℕ). w * w) (mul-assoc 2 m z) ∙ square-twice (m * z))
 
 factor : (m z : ℕ) → m * z * (m * z) ≡ m * m * (z * z)
-factor m z = simp (mul-assoc, mul-comm, mul-left-comm) refl
+factor m z = mul-mul-mul-comm m z m z
 
 module _ {k x y gap high lost F t rest : ℕ} (n : Near k x y gap high lost F t rest) where
   abbrev P : ℕ

@@ -1,5 +1,5 @@
 -- The answer to two doubles, by their patterns a and b: refused where one is out of range, and else the root of the patterns' squares. Assumes nothing.
-use mathlib.Core.Path.{_≡_, sym, ap, _∙_, subst}
+use mathlib.Core.Path.{_≡_, sym, ap, _∙_}
 use mathlib.Core.Logic.{_⊎_, inl, inr}
 use mathlib.Core.Bool.{Bool, true, false, cond, _&&_, _||_, true≢false}
 use Prim.Native.Nat.{ℕ, _+_, _*_, _^_, _≤_}

@@ -4,7 +4,7 @@ use mathlib.Core.Path.{_≡_, refl, sym, ap, _∙_, subst}
 use mathlib.Core.Logic.{_⊎_, inl, inr}
 use mathlib.Core.Bool.{false}
 use Prim.Native.Nat.{ℕ, suc, _+_, _*_, _%_, _^_, _≤_, _<_, Ordering}
-use native.Mathlib.Nat.{le-trans, le-of-eq, lt-of-le-of-lt, lt-of-lt-of-le, mul-assoc, mul-comm, mul-left-comm, mul-le-mul-right, mul-lt-mul-of-pos-right, mul-pos, le-add-right, add-zero, suc-mul, eq-zero-or-pos}
+use native.Mathlib.Nat.{le-trans, le-of-eq, lt-of-le-of-lt, lt-of-lt-of-le, mul-assoc, mul-left-comm, mul-le-mul-right, mul-lt-mul-of-pos-right, mul-pos, le-add-right, add-zero, suc-mul, eq-zero-or-pos}
 use native.Mathlib.Numerals.{add-one}
 use native.Mathlib.Omega.{arith}
 use lib.Ieee.{nearest, units, binary64}
@@ -38,7 +38,7 @@ module _ (F L A B y : ℕ) (few : L < A) (pos : 0 < B) where
 -- ---- squares of x units against 4 * S
 
 square-unit : (x P U : ℕ) → x * (P * U) * (x * (P * U)) ≡ x * x * (P * P) * (U * U)
-square-unit x P U = simp (mul-assoc, mul-comm, mul-left-comm) refl
+square-unit x P U = simp (mul-assoc, mul-left-comm) refl
 
 -- t is the whole root of F, and rest is what is left
 pub record Measured (S F L P U t rest : ℕ) : Type 0 where

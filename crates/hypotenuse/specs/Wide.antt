@@ -11,3 +11,7 @@ wide w = wordsValue (2 ^ 56) (getD w 0 0 ∷ getD w 1 0 ∷ [])
 -- the lower word has 56 bits. (The higher one may have more, up to what a u64 holds.)
 abbrev pub LowWord : List ℕ → Type 0
 LowWord w = getD w 0 0 < 2 ^ 56
+
+-- the two words of a number of 110 bits, whose root has 55
+abbrev pub Words110 : List ℕ → Type 0
+Words110 w = LowWord w × (getD w 1 0 < 2 ^ 54)

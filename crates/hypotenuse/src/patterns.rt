@@ -1,6 +1,6 @@
 // Doubles by their bit patterns without the sign: 52 bits of fraction, and above them the exponent. A larger pattern is that of a larger double.
 ghost use mathlib.Core.Path.{_≡_};
-ghost use Prim.Native.Nat.{ℕ, _+_, _-_, _*_, _/_, _%_, _<_, _≤_, _^_};
+ghost use Prim.Native.Nat.{_+_, _-_, _*_, _/_, _%_, _<_, _≤_, _^_};
 ghost use lib.Dec.{T};
 ghost use lib.Ieee.{binary64, ofBits};
 ghost use Rattle.definitions.specs.Hypotenuse.{rootOf};
@@ -17,12 +17,14 @@ use crate::wide::sum;
 const LEADING: u64 = 4503599627370496;
 // 2^63: the place of the sign.
 const SIGN: u64 = 9223372036854775808;
-// The patterns of 2^-64 and of 2^15.
+// The pattern of 2^-64.
 const LEAST: u64 = 4318952042648305664;
-
+// The pattern of 2^15.
 const MOST: u64 = 4674736413210574848;
-// 2^54
+// 2^54: from here on a root has 55 digits.
 const LONG_ROOT: u64 = 18014398509481984;
+// Exponents that are further apart leave the larger double as it is.
+const MAX_GAP: u64 = 27;
 
 // The pattern of x, and for a NaN a number above every pattern.
 pub fn bits_of(x: f64) -> u64
@@ -47,7 +49,7 @@ pub fn in_range(b: u64) -> bool
     b <= MOST
 }
 
-// Twice the root of the two doubles' squares, in units of the last place of the larger, from two of Halley's steps in floats. It is a guess: all that is claimed of it is its size.
+// A guess at twice the root of the two doubles' squares, in units of the last place of the larger, by two of Halley's steps in floats. All that is claimed of it is its size.
 fn guess(larger: u64, smaller: u64) -> u64
     requires { ⌜ (larger ≤ 1038 * 2 ^ 52) × (smaller ≤ 1038 * 2 ^ 52) ⌝ }
     ensures { λ r. ⌜ (2 ^ 53 ≤ r) × (r < 2 ^ 55) ⌝ }
@@ -76,12 +78,12 @@ fn guess(larger: u64, smaller: u64) -> u64
     if exponent == top + 1 {
         return 4 * digits;
     }
-    // Just below a power of two the last digits of `third` may be those of the exponent below.
+    // The root of a power of two and a far smaller number may come out a little below that power.
     2 * (larger % LEADING + LEADING)
 }
 
-// The pattern of a root of 54 or 55 digits, in half units of 2^k. `extra` is 0 where t is the root itself, and not just its whole part.
-// The last two or three digits of 2 * t, with one more that says whether anything is below, go: half of what they count is added before, less one where the digit in front is even.
+// The pattern of the double nearest to a root, ties to the even significand. The root is t halves of 2^k, and a little more where `extra` is not 0; t has 54 or 55 digits.
+// With one digit more for that little, the last two or three digits go. What is added before carries into the digit in front of them where they are above a half, or a half and that digit is odd.
 fn rounded_pattern(k: u64, t: u64, extra: u64) -> u64
     requires { ⌜ (2 ^ 53 ≤ t) × (t < 2 ^ 55) × (k < 1040) ⌝ }
     ensures { λ r. ⌜ (t < 2 ^ 54 → Rounded k (t / 2) (t % 2) 1 extra r) × (2 ^ 54 ≤ t → Rounded (k + 1) (t / 4) (t % 4) 2 extra r) ⌝ }
@@ -109,7 +111,7 @@ fn near_pattern(k: u64, x: u64, y: u64, gap: u64, start: u64) -> u64
     rounded_pattern(k, found.root, found.rest + cut.lost)
 }
 
-// The pattern of the double nearest to the root of two patterns' squares. Where the exponents are more than 27 apart it is the larger: the root is then less than half a unit above it.
+// The pattern of the double nearest to the root of two patterns' squares. Where the exponents are more than MAX_GAP apart it is the larger: the root is less than half a unit above it.
 fn root_pattern(larger: u64, smaller: u64) -> u64
     requires { ⌜ T (patternInRange larger) ⌝ }
     requires { ⌜ T (patternInRange smaller) ⌝ }
@@ -121,7 +123,7 @@ fn root_pattern(larger: u64, smaller: u64) -> u64
     }
     let top = larger / LEADING;
     let gap = top - smaller / LEADING;
-    if gap > 27 {
+    if gap > MAX_GAP {
         return larger;
     }
     let start = guess(larger, smaller);

@@ -1,8 +1,7 @@
-// Whole roots of numbers of two words. A good guess is made exact in a few steps, of which there are at most five; where
-// that does not find the root, it is worked out digit by digit, in 55 turns.
+// Whole roots of numbers of two words, in bounded time: a good guess is made exact by at most five steps, and where these do not reach the root it is worked out digit by digit, in 55 turns.
 ghost use mathlib.Core.Path.{_≡_};
-ghost use Prim.Native.Nat.{ℕ, _+_, _*_, _<_, _≤_, _^_};
-ghost use Rattle.hypotenuse.specs.Wide.{wide, LowWord};
+ghost use Prim.Native.Nat.{_+_, _*_, _<_, _≤_, _^_};
+ghost use Rattle.hypotenuse.specs.Wide.{wide, Words110};
 ghost use Rattle.hypotenuse.specs.Roots.{IsRoot};
 use crate::wide::difference;
 use crate::wide::less;
@@ -10,6 +9,10 @@ use crate::wide::square;
 
 // 2^55, above every root here.
 const ROOTS: u64 = 36028797018963968;
+// The steps start so far below the guess.
+const MARGIN: u64 = 32;
+// They are tried where the higher words of the number and of the start's square differ by this much at most.
+const MAX_DISTANCE: u64 = 64;
 
 // The number root * root + rest.
 pub struct Rooted {
@@ -17,10 +20,9 @@ pub struct Rooted {
     pub rest: u64,
 }
 
-// The whole root of f. Each turn settles one binary digit of it, the highest first: the root is from `root` up to below
-// `root + width`.
+// The whole root of f. Each turn settles one binary digit of it, the highest first: the root is from `root` up to below `root + width`.
 fn digit_root(f: [u64; 2]) -> Rooted
-    requires { ⌜ LowWord f × (wide f < 2 ^ 110) ⌝ }
+    requires { ⌜ Words110 f ⌝ }
     ensures { λ r. ⌜ IsRoot (wide f) (r .root) (r .rest) ⌝ }
 {
     let mut root = 0;
@@ -38,7 +40,7 @@ fn digit_root(f: [u64; 2]) -> Rooted
     }
 }
 
-// A step of Newton's method, in whole numbers, from a root that is too small. It goes one less than the quotient says, which may be one too many.
+// A step of Newton's method in whole numbers, from a root that is too small. It goes one less than the quotient says, which may be one too many.
 fn division_step(root: u64, rest: u64) -> Rooted
     requires { ⌜ (2 ^ 52 ≤ root) × (root < 2 ^ 55) × (rest < 2 ^ 63) ⌝ }
     ensures { λ r. ⌜ (r .root * r .root + r .rest ≡ root * root + rest) × (r .root < 2 ^ 56) ⌝ }
@@ -72,17 +74,17 @@ fn single_steps(from: Rooted) -> Rooted
     Rooted { root, rest }
 }
 
-// The whole root of f. A guess that is at most 32 away makes it quick.
+// The whole root of f, whatever the guess. One that is at most 32 away makes it quick.
 pub fn floor_root(f: [u64; 2], guess: u64) -> Rooted
-    requires { ⌜ LowWord f × (wide f < 2 ^ 110) × (2 ^ 53 ≤ guess) × (guess < 2 ^ 55) ⌝ }
+    requires { ⌜ Words110 f × (2 ^ 53 ≤ guess) × (guess < 2 ^ 55) ⌝ }
     ensures { λ r. ⌜ IsRoot (wide f) (r .root) (r .rest) ⌝ }
 {
-    let low = guess - 32;
+    let low = guess - MARGIN;
     let s = square(low);
     if less(f, s) {
         return digit_root(f);
     }
-    if f[1] - s[1] > 64 {
+    if f[1] - s[1] > MAX_DISTANCE {
         return digit_root(f);
     }
     let found = single_steps(division_step(low, difference(f, s)));

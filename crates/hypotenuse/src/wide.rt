@@ -1,12 +1,13 @@
 // Numbers of two words, the lower first. A word has 56 bits, so that sums of words and of their carries fit a u64.
 ghost use mathlib.Core.Path.{_≡_};
-ghost use Prim.Native.Nat.{ℕ, _+_, _*_, _<_, _≤_, _^_};
+ghost use Prim.Native.Nat.{_+_, _*_, _<_, _≤_, _^_};
 ghost use lib.Dec.{ltb};
 ghost use Rattle.hypotenuse.specs.Wide.{wide, LowWord};
 
-pub const WORD: u64 = 72057594037927936;
-
-pub const HALF_WORD: u64 = 268435456;
+// 2^56
+const WORD: u64 = 72057594037927936;
+// 2^28
+const HALF_WORD: u64 = 268435456;
 
 // t * t, column by column in digits of 28 bits.
 pub fn square(t: u64) -> [u64; 2]

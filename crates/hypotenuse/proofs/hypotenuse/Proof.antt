@@ -1,7 +1,7 @@
 -- `hypotenuse` meets its contract: what the patterns say of the two doubles is what the definition says. Assumes nothing.
 use borrow.Author.Needs.{needs}
 use mathlib.Core.Path.{_≡_, sym, _∙_, subst}
-use mathlib.Core.Bool.{Bool, true, false}
+use mathlib.Core.Bool.{true, false}
 use Prim.Native.Nat.{ℕ, _+_, _*_}
 use native.Mathlib.Nat.{le-of-lt}
 use lib.Dec.{T}

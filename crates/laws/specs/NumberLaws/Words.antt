@@ -2,10 +2,10 @@
 -- passed up, how words are joined in pairs, and how the lowest digits are cut off. Every law is over any number of words, and code cites it at the width that it uses.
 -- All go by induction on the list: a word more makes a number of two digits, the rest times B and the word. Assumes nothing.
 use mathlib.Core.Path.{_≡_, refl, sym, ap, _∙_}
-use mathlib.Core.Logic.{_⊎_, inl, inr}
-use mathlib.Core.List.{List, [], _∷_}
-use Prim.Native.Nat.{ℕ, zero, suc, _+_, _*_, _/_, _%_, _^_, _≤_, _<_}
-use native.Mathlib.Nat.{pow-suc, pow-zero, lt-of-lt-of-le, le-of-lt, le-refl, not-le-of-lt, le-add-right, zero-add, add-zero, zero-mul, div-add-mod', mod-lt, add-assoc, add-comm, add-left-comm, mul-assoc, mul-comm, mul-left-comm, mul-add, add-mul}
+use mathlib.Core.Logic.{inl, inr}
+use mathlib.Core.List.{List, [], _∷_, _++_}
+use Prim.Native.Nat.{ℕ, _+_, _*_, _/_, _%_, _^_, _≤_, _<_}
+use native.Mathlib.Nat.{pow-suc, pow-zero, lt-of-lt-of-le, le-add-right, zero-add, add-zero, zero-mul, mul-one, div-add-mod', mod-lt, add-assoc, add-comm, add-left-comm, mul-assoc, mul-comm, mul-left-comm, add-mul}
 use native.Mathlib.Omega.{arith}
 use lib.Arith.{digits-lt}
 use lib.ListN.{length}
@@ -18,9 +18,10 @@ wordsValue B (w ∷ ws) = wordsValue B ws * B + w
 
 -- ---- what a count of words can hold
 
-pub words-lt : (B : ℕ) (ws : List ℕ) → All (λ w. w < B) ws → wordsValue B ws < B ^ length ws
-words-lt B [] done = rw (pow-zero B) (le-refl 1)
-words-lt B (w ∷ ws) (more h hs) = rw (pow-suc B (length ws)) (digits-lt (words-lt B ws hs) h)
+-- the highest word may be shorter: it is below C
+pub words-lt : (B C top : ℕ) (ws : List ℕ) → All (λ w. w < B) ws → top < C → wordsValue B (ws ++ (top ∷ [])) < C * B ^ length ws
+words-lt B C top [] done h = simp (zero-mul, mul-one, zero-add, pow-zero, mul-one) h
+words-lt B C top (w ∷ ws) (more l ls) h = rw (pow-suc B (length ws), ← mul-assoc) (digits-lt (words-lt B C top ws ls h) l)
 
 -- ---- comparing
 
@@ -106,7 +107,7 @@ cut M N w [] = w / N ∷ []
 cut M N w (v ∷ vs) = (v % N * M + w / N) ∷ cut M N v vs
 
 pub cut-value : (M N w : ℕ) (vs : List ℕ) → wordsValue (M * N) (cut M N w vs) * N + w % N ≡ wordsValue (M * N) (w ∷ vs)
-cut-value M N w [] = simp (zero-mul, zero-add) (div-add-mod' w N)
+cut-value M N w [] = simp (zero-mul, mul-one, zero-add) (div-add-mod' w N)
 cut-value M N w (v ∷ vs) =
     e (wordsValue (M * N) (cut M N v vs)) (v % N) (w / N)
     ∙ ap (λ (x : ℕ). x * (M * N) + (w / N * N + w % N)) (cut-value M N v vs)

@@ -1,8 +1,8 @@
 -- `patterns::hypotenuse_pattern` meets its contract: the sum of the squares is the same in both orders. Assumes nothing.
 use mathlib.Core.Path.{_≡_, sym, ap, _∙_, subst}
-use mathlib.Core.Logic.{_⊎_, inl, inr, ⊎-elim}
+use mathlib.Core.Logic.{⊎-elim}
 use Prim.Native.Nat.{ℕ, _+_, _*_, _≤_, _<_}
-use native.Mathlib.Nat.{add-comm, le-of-lt}
+use native.Mathlib.Nat.{add-comm}
 use native.Mathlib.Omega.{arith}
 use lib.Dec.{T}
 use Rattle.definitions.specs.Hypotenuse.{rootOf}

@@ -1,6 +1,6 @@
 -- `patterns::near_pattern` meets its contract: its squares, its sum and its root are the numbers of `Close`, and its rounding is that of `rootOf`. Assumes nothing.
 use borrow.Author.Needs.{needs}
-use mathlib.Core.Path.{_≡_, refl, sym, ap, _∙_}
+use mathlib.Core.Path.{_≡_, sym, ap, _∙_}
 use mathlib.Core.Logic.{inl, inr}
 use Prim.Native.Nat.{ℕ, _+_, _-_, _*_, _/_, _%_, _^_, _≤_, _<_}
 use native.Mathlib.Nat.{one-mul, pow-succ', lt-of-lt-of-le}

@@ -1,13 +1,17 @@
 -- `root::digit_root` meets its contract. The invariant: the root of f is from `root` up to below `root + width`, and `width` is 2 ^ 55 halved once a turn, so it is 1 at the end.
 -- The measure is what is left of the 55 turns. Assumes nothing.
 use mathlib.Core.Path.{_≡_, sym, ap, _∙_, subst}
-use mathlib.Core.Logic.{_⊎_, inl, inr, ⊎-elim}
+use mathlib.Core.List.{[], _∷_}
+use mathlib.Core.Logic.{⊎-elim}
 use Prim.Native.Nat.{ℕ, suc, _+_, _-_, _*_, _/_, _^_, _≤_, _<_}
 use native.Mathlib.Nat.{pow-succ'}
 use native.Mathlib.Omega.{arith}
 use borrow.Author.Tests.{ltb-true, ltb-false, not-true, not-false}
+use lib.ListN.{getD}
 use lib.Pow.{pow-pos}
-use Rattle.laws.specs.NumberLaws.Squares.{square-next}
+use Rattle.laws.specs.Lists.{done, more}
+use Rattle.laws.specs.Squares.{square-next}
+use Rattle.laws.specs.Words.{words-lt}
 use Rattle.hypotenuse.specs.Wide.{wide}
 use Rattle.hypotenuse.proofs.root.digit_root.Statement.{statement}
 use Rattle.hypotenuse.proofs.root.digit_root.Tie as tie
@@ -42,7 +46,9 @@ module _ (F root width half new : ℕ) (even : width ≡ half + half) where
   lower lo l e = (subst (λ (x : ℕ). x * x ≤ F) (sym e) lo, subst (λ (x : ℕ). F < (x + half) * (x + half)) (sym e) l, omega arith)
 
 loop-holds : tie.Need-loop-holds Inv-loop μ-loop
-loop-holds c = omega arith
+loop-holds c =
+    let f = c .args .f in
+    omega (arith, words-lt (2 ^ 56) (2 ^ 54) (getD f 1 0) (getD f 0 0 ∷ []) (more (c .pre .0) done) (c .pre .1))
 
 add-next : tie.Need-add-next Inv-loop μ-loop
 add-next c = omega arith

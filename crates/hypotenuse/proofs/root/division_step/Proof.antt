@@ -3,14 +3,14 @@
 use borrow.Author.Needs.{needs}
 use mathlib.Core.Path.{_≡_, refl, sym, ap, _∙_}
 use Prim.Native.Nat.{ℕ, _+_, _-_, _*_, _/_, _^_, _≤_, _<_}
-use native.Mathlib.Nat.{div-lt-iff-lt-mul, div-mul-le-self, two-mul, one-mul, add-assoc, add-comm, add-left-comm, mul-comm, mul-add, add-mul}
+use native.Mathlib.Nat.{div-lt-iff-lt-mul, div-mul-le-self, two-mul, one-mul, add-assoc, mul-comm, mul-add, add-mul}
 use native.Mathlib.Omega.{arith}
 use Rattle.laws.specs.NumberLaws.Squares.{square-le}
 use Rattle.hypotenuse.proofs.root.division_step.Statement.{statement}
 use Rattle.hypotenuse.proofs.root.division_step.Tie as tie
 
 square-of-sum : (a n : ℕ) → (a + n) * (a + n) ≡ a * a + n * (2 * a + n)
-square-of-sum a n = simp (mul-add, add-mul, mul-comm, add-assoc, add-comm, add-left-comm) refl ∙ sym (ap (λ (x : ℕ). a * a + n * (x + n)) (two-mul a))
+square-of-sum a n = simp (mul-add, add-mul, mul-comm, add-assoc) refl ∙ sym (ap (λ (x : ℕ). a * a + n * (x + n)) (two-mul a))
 
 module _ (root rest : ℕ) (lo : 2 ^ 52 ≤ root) (small : rest < 2 ^ 63) where
   abbrev q : ℕ

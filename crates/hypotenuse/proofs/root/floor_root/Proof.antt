@@ -1,6 +1,6 @@
 -- `root::floor_root` meets its contract: a root and a rest that stand for f are the whole root once the rest is not above twice the root, and else the digits are worked out. Assumes nothing.
 use borrow.Author.Needs.{needs}
-use mathlib.Core.Path.{_≡_, sym, _∙_}
+use mathlib.Core.Path.{sym, _∙_}
 use Prim.Native.Nat.{_≤_}
 use native.Mathlib.Omega.{arith}
 use borrow.Author.Tests.{ltb-false}
