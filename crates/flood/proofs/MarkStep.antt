@@ -14,9 +14,9 @@ use borrow.Author.Tests.{eqb-true, eq-eqb, ltb-true, ltb-false}
 use Rattle.definitions.specs.Scan.{any, gather}
 use Rattle.definitions.specs.Grid.{Map, Position, at, Pair, pairEq, spanCount, cellCount, toward, positionOf, isStep}
 use Rattle.definitions.specs.Partition.{cutAll}
-use Rattle.laws.specs.Tests.{both}
-use Rattle.laws.specs.Lists.{any-append}
-use Rattle.laws.specs.GraphLaws.{two-way}
+use Rattle.laws.specs.ListLaws.Tests.{both}
+use Rattle.laws.specs.ListLaws.Lists.{any-append}
+use Rattle.laws.specs.RegionLaws.GraphLaws.{two-way}
 use Rattle.flood.specs.Masks.{bitOf, opposite, cutBit, withBit, reached, stepPair, Marks}
 use Rattle.flood.specs.Walk.{gridOf}
 use Rattle.flood.specs.Contract.{Masked}

@@ -4,7 +4,7 @@ use mathlib.Core.Bool.{Bool, false, _&&_, _||_}
 use Prim.Native.Nat.{ℕ, _*_, _^_, _≤_, _<_}
 use borrow.Author.Tests.{ne-eqb, le-leb, lt-leb}
 use lib.Dec.{leb}
-use Rattle.laws.specs.PatternOrder.{patternInRange}
+use Rattle.laws.specs.FloatLaws.PatternOrder.{patternInRange}
 use Rattle.hypotenuse.proofs.patterns.in_range.Statement.{statement}
 use Rattle.hypotenuse.proofs.patterns.in_range.Tie as tie
 

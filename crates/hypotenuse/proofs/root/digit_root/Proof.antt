@@ -9,9 +9,9 @@ use native.Mathlib.Omega.{arith}
 use borrow.Author.Tests.{ltb-true, ltb-false, not-true, not-false}
 use lib.ListN.{getD}
 use lib.Pow.{pow-pos}
-use Rattle.laws.specs.Lists.{done, more}
-use Rattle.laws.specs.Squares.{square-next}
-use Rattle.laws.specs.Words.{words-lt}
+use Rattle.laws.specs.ListLaws.Lists.{done, more}
+use Rattle.laws.specs.NumberLaws.Squares.{square-next}
+use Rattle.laws.specs.NumberLaws.Words.{words-lt}
 use Rattle.hypotenuse.specs.Wide.{wide}
 use Rattle.hypotenuse.proofs.root.digit_root.Statement.{statement}
 use Rattle.hypotenuse.proofs.root.digit_root.Tie as tie
