@@ -19,7 +19,7 @@ use Rattle.laws.specs.ListLaws.Lists.{any-append}
 use Rattle.laws.specs.RegionLaws.GraphLaws.{two-way}
 use Rattle.flood.specs.Masks.{bitOf, opposite, cutBit, withBit, reached, stepPair, Marks}
 use Rattle.flood.specs.Walk.{gridOf}
-use Rattle.flood.specs.Contract.{Masked}
+use Rattle.flood.specs.Contract.{CutMap}
 use Rattle.flood.proofs.Square.{Four, four, Across, across}
 use Rattle.flood.proofs.Bits.{withBit-length, mark-bit}
 
@@ -170,7 +170,6 @@ mark-adds M masks E long m a j h t l c d i s =
 
 -- ---- what the flood asks of the masks can be met: masks of zeros are those of the map with no spans
 
-pub masked-none : (w h : ℕ) (cells masks : List ℕ) → ((c : ℕ) → c < h * w → getD masks c 0 ≡ 0) → Masked w h cells masks
+pub cut-none : (w h : ℕ) (cells masks : List ℕ) → ((c : ℕ) → c < h * w → getD masks c 0 ≡ 0) → CutMap w h cells masks (gridOf w h cells)
 unfolding cutAll spanCount gather cellCount
-masked-none w h cells masks z =
-    (gridOf w h cells, record { width = refl; height = refl; cells = refl; marks = marks-none (gridOf w h cells) masks z })
+cut-none w h cells masks z = record { width = refl; height = refl; cells = refl; marks = marks-none (gridOf w h cells) masks z }

@@ -11,11 +11,12 @@ use borrow.Author.Tests.{ltb-true, ltb-false, lt-ltb, not-true}
 use Rattle.definitions.specs.Scan.{countBelow, filter, any}
 use Rattle.definitions.specs.Grid.{Map, Position, at, Pair, pairEq, edge, isStep, toward, index, positionOf, directions, neighbors, onward, cellCount}
 use Rattle.definitions.specs.Partition.{Joined, here, along, back, allSteps, cutAll, uncut, roots, labels, regionCount, walkableAt, isRoot}
-use Rattle.laws.specs.ListLaws.Lists.{All, all-map, all-both, all-filter}
-use Rattle.laws.specs.ListLaws.Members.{all-at, all-place, all-members, all-mapped, filter-passes}
-use Rattle.laws.specs.ListLaws.Below.{count-ext, gather-below, gather-at}
-use Rattle.laws.specs.RegionLaws.Regions.{label-walkable}
-use Rattle.laws.specs.RegionLaws.GraphLaws.{Way, Same, merged-laws, one-root}
+use Rattle.laws.specs.Lists.{All, all-map, all-both, all-filter}
+use Rattle.laws.specs.Members.{all-at, all-place, all-members, all-mapped, filter-passes}
+use Rattle.laws.specs.Below.{count-ext, gather-below, gather-at}
+use Rattle.laws.specs.Chains.{joined-sym}
+use Rattle.laws.specs.Regions.{label-walkable, label-blocked as map-label-blocked}
+use Rattle.laws.specs.GraphLaws.{Way, Same, merged-laws, one-root}
 use Rattle.flood.specs.Masks.{bitOf, opposite, cutBit, reached, stepPair, Marks}
 use Rattle.flood.specs.Walk.{directionAt, landing, graphOf, Mirrored}
 use Rattle.flood.specs.State.{isName, label}
@@ -42,9 +43,6 @@ member-filter f {x} (y ∷ l) (List·Memᴰ·tail m) h = go (f y) (member-filter
 -- ---- every step from its smaller cell
 
 module _ (M : Map) where
-  later : Position → Position → Bool
-  later p q = ltb (index M p) (index M q)
-
   -- the step from a cell c in one of the eight directions to a larger cell
   record Found (e : Pair) : Type 0 where
     cell : ℕ
@@ -179,7 +177,7 @@ module _ (M : Map) (masks : List ℕ) (marks : Marks M masks (cutAll M)) where
       go : (a : Bool) → ltb c t ≡ a → (b : Bool) → ltb t c ≡ b → Joined (uncut M) c t
       go true p b q = forward c d h i (g .step) (g .free) (ltb-true c t p)
       go false p true q =
-          Rattle.laws.specs.RegionLaws.Chains.joined-sym
+          joined-sym
           (subst (Joined (uncut M) t) home
           (forward t (oppositeWay d) (x .inside) (opposite-below d i) (ap (isStep M (positionOf M t)) turned ∙ x .step)
           (ap (λ r. cutBit masks t (bitOf r)) turned ∙ marks-mirrored c (directionAt d) h (g .step) ∙ g .free)
@@ -224,7 +222,7 @@ module _ (M : Map) (masks : List ℕ) (marks : Marks M masks (cutAll M)) where
           label-walks (graphOf M masks) c w
           ∙ ap suc (count-ext root (isName (graphOf M masks)) (isRoot M (roots M)) (λ j b. same-name j (omega (arith, low))) ∙ ap (λ r. countBelow r (isRoot M (roots M))) (same-root c h))
           ∙ sym (label-walkable M c h w)
-      go false w = label-blocked (graphOf M masks) c w ∙ sym (Rattle.laws.specs.RegionLaws.Regions.label-blocked M c h w)
+      go false w = label-blocked (graphOf M masks) c w ∙ sym (map-label-blocked M c h w)
 
   pub graph-count : countBelow (M .height * M .width) (isName (graphOf M masks)) ≡ regionCount M
   unfolding regionCount cellCount

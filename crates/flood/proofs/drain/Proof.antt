@@ -15,21 +15,29 @@ Inv-loop width height cells masks labels₀ queue₀ id head tail end₀ at₀ l
 abbrev μ-loop : tie.MeasureT-loop
 μ-loop width height cells masks labels₀ queue₀ id head tail end₀ at₀ labels queue end at = height * width - at
 
+-- the function's entry, from a turn's begin
+abbrev entry : tie.In-loop Inv-loop μ-loop → tie.Start Inv-loop μ-loop
+entry c = c .before .before .before .before .before .before
+
+-- the turn's begin, from its end
+abbrev turn : tie.After-slice-known4 Inv-loop μ-loop → tie.In-loop Inv-loop μ-loop
+turn c = c .before .before .before .before .before .before .before
+
 loop-holds : tie.Need-loop-holds Inv-loop μ-loop
 loop-holds c = ran-start (c .before .before .before .before .pre .state)
 
 spread-requires : tie.Need-spread-requires Inv-loop μ-loop
 spread-requires c κs =
-    record { grid = c .before .before .before .before .before .before .before .before .pre .grid; state = c .before .before .before .loop .inv .state; busy = c .before .before .loop-test .taken; some = c .before .before .before .before .before .before .before .before .pre .some }
+    record { grid = entry (c .before .before) .pre .grid; state = c .before .before .before .loop .inv .state; busy = c .before .before .loop-test .taken; some = entry (c .before .before) .pre .some }
 
 add-at : tie.Need-add-at Inv-loop μ-loop
-add-at c = omega (arith, c .before .before .before .before .before .before .before .loop-test .taken, tail-le (c .before .before .before .before .before .before .before .before .loop .inv .state), c .before .before .before .before .before .before .before .before .before .before .before .before .before .pre .grid .few)
+add-at c = omega (arith, turn c .loop-test .taken, tail-le (turn c .before .loop .inv .state), entry (turn c) .pre .grid .few)
 
 loop-less : tie.Need-loop-less Inv-loop μ-loop
-loop-less c = omega (arith, c .before .before .before .before .before .before .before .loop-test .taken, tail-le (c .before .before .before .before .before .before .before .before .loop .inv .state))
+loop-less c = omega (arith, turn c .loop-test .taken, tail-le (turn c .before .loop .inv .state))
 
 loop-again : tie.Need-loop-again Inv-loop μ-loop
-loop-again c = ran-then (c .before .before .before .before .before .before .before .before .loop .inv) (c .before .before .before .before .spread .ensures)
+loop-again c = ran-then (turn c .before .loop .inv) (c .before .before .before .before .spread .ensures)
 
 same-length : tie.Need-same-length Inv-loop μ-loop
 same-length c = c .before .loop .inv .labels .long

@@ -18,6 +18,10 @@ Inv-loop width height cells masks labels₀ queue₀ n id₀ tail₀ start₀ la
 abbrev μ-loop : tie.MeasureT-loop
 μ-loop width height cells masks labels₀ queue₀ n id₀ tail₀ start₀ labels queue id tail start = n - start
 
+-- the function's entry, from a turn's begin
+abbrev entry : tie.In-loop Inv-loop μ-loop → tie.Start Inv-loop μ-loop
+entry c = c .before .before .before .before .before .before
+
 mul-n : tie.Need-mul-n Inv-loop μ-loop
 mul-n c = omega (arith, few-of (c .before .before .before .before .pre .0))
 
@@ -29,53 +33,53 @@ loop-holds c =
     )
 
 shared-slice-read-if1 : tie.Need-shared-slice-read-if1 Inv-loop μ-loop
-shared-slice-read-if1 c = omega (arith, c .before .loop-test .taken, c .before .before .before .before .before .before .before .pre .0 .cellsLong)
+shared-slice-read-if1 c = omega (arith, c .before .loop-test .taken, entry (c .before) .pre .0 .cellsLong)
 
 mul-if2 : tie.Need-mul-if2 Inv-loop μ-loop
-mul-if2 c = omega (arith, c .before .before .loop-test .taken, few-of (c .before .before .before .before .before .before .before .before .pre .0))
+mul-if2 c = omega (arith, c .before .before .loop-test .taken, few-of (entry (c .before .before) .pre .0))
 
 slice-read-if2 : tie.Need-slice-read-if2 Inv-loop μ-loop
 slice-read-if2 c = omega (arith, c .before .before .before .loop-test .taken, c .before .before .before .before .loop .inv .1 .state .long)
 
 add-id : tie.Need-add-id Inv-loop μ-loop
-add-id c = omega (arith, ids-le (c .before .before .before .before .before .loop .inv .1), c .before .before .before .before .loop-test .taken, few-of (c .before .before .before .before .before .before .before .before .before .before .pre .0))
+add-id c = omega (arith, ids-le (c .before .before .before .before .before .loop .inv .1), c .before .before .before .before .loop-test .taken, few-of (entry (c .before .before .before .before) .pre .0))
 
 mul-labels : tie.Need-mul-labels Inv-loop μ-loop
-mul-labels c = omega (arith, c .before .before .before .before .loop-test .taken, few-of (c .before .before .before .before .before .before .before .before .before .before .pre .0))
+mul-labels c = omega (arith, c .before .before .before .before .loop-test .taken, few-of (entry (c .before .before .before .before) .pre .0))
 
 slice-write-labels : tie.Need-slice-write-labels Inv-loop μ-loop
 slice-write-labels c = omega (arith, c .before .before .before .before .loop-test .taken, c .before .before .before .before .before .loop .inv .1 .state .long)
 
 cast-queue : tie.Need-cast-queue Inv-loop μ-loop
-cast-queue c = omega (arith, c .before .before .before .before .loop-test .taken, few-of (c .before .before .before .before .before .before .before .before .before .before .pre .0))
+cast-queue c = omega (arith, c .before .before .before .before .loop-test .taken, few-of (entry (c .before .before .before .before) .pre .0))
 
 mul-queue : tie.Need-mul-queue Inv-loop μ-loop
-mul-queue c = omega (arith, seed-room (laws-of (c .before .before .before .before .before .before .before .before .before .before .pre)) (c .before .before .before .before .before .loop .inv .1) (c .before .before .before .before .loop-test .taken) (c .if2 .taken), few-of (c .before .before .before .before .before .before .before .before .before .before .pre .0))
+mul-queue c = omega (arith, seed-room (laws-of (entry (c .before .before .before .before) .pre)) (c .before .before .before .before .before .loop .inv .1) (c .before .before .before .before .loop-test .taken) (c .if2 .taken), few-of (entry (c .before .before .before .before) .pre .0))
 
 slice-write-queue : tie.Need-slice-write-queue Inv-loop μ-loop
-slice-write-queue c = omega (arith, seed-room (laws-of (c .before .before .before .before .before .before .before .before .before .before .pre)) (c .before .before .before .before .before .loop .inv .1) (c .before .before .before .before .loop-test .taken) (c .if2 .taken), c .before .before .before .before .before .loop .inv .1 .state .room)
+slice-write-queue c = omega (arith, seed-room (laws-of (entry (c .before .before .before .before) .pre)) (c .before .before .before .before .before .loop .inv .1) (c .before .before .before .before .loop-test .taken) (c .if2 .taken), c .before .before .before .before .before .loop .inv .1 .state .room)
 
 add-drain : tie.Need-add-drain Inv-loop μ-loop
-add-drain c = omega (arith, seed-room (laws-of (c .before .before .before .before .before .before .before .before .before .before .before .before .pre)) (c .before .before .before .before .before .before .before .loop .inv .1) (c .before .before .before .before .before .before .loop-test .taken) (c .before .before .if2 .taken), few-of (c .before .before .before .before .before .before .before .before .before .before .before .before .pre .0))
+add-drain c = omega (arith, seed-room (laws-of (entry (c .before .before .before .before .before .before) .pre)) (c .before .before .before .before .before .before .before .loop .inv .1) (c .before .before .before .before .before .before .loop-test .taken) (c .before .before .if2 .taken), few-of (entry (c .before .before .before .before .before .before) .pre .0))
 
 drain-requires : tie.Need-drain-requires Inv-loop μ-loop
 drain-requires c κs =
     record {
-      grid = grid-of (c .before .before .before .before .before .before .before .before .before .before .before .before .pre .0) (c .before .before .before .before .before .before .before .before .before .before .before .before .pre .1);
-      state = seed (laws-of (c .before .before .before .before .before .before .before .before .before .before .before .before .pre)) (c .before .before .before .before .before .before .before .loop .inv .1) (c .before .before .before .before .before .before .loop-test .taken) (eq-eqb _ _ (c .before .before .before .before .if1 .taken)) (c .before .before .if2 .taken);
+      grid = grid-of (entry (c .before .before .before .before .before .before) .pre .0) (entry (c .before .before .before .before .before .before) .pre .1);
+      state = seed (laws-of (entry (c .before .before .before .before .before .before) .pre)) (c .before .before .before .before .before .before .before .loop .inv .1) (c .before .before .before .before .before .before .loop-test .taken) (eq-eqb _ _ (c .before .before .before .before .if1 .taken)) (c .before .before .if2 .taken);
       busy = omega arith;
       some = omega arith;
     }
 
 add-start : tie.Need-add-start Inv-loop μ-loop
-add-start c = omega (arith, c .before .before .loop-test .taken, few-of (c .before .before .before .before .before .before .before .before .pre .0))
+add-start c = omega (arith, c .before .before .loop-test .taken, few-of (entry (c .before .before) .pre .0))
 
 loop-less : tie.Need-loop-less Inv-loop μ-loop
 loop-less c = omega (arith, c .before .before .loop-test .taken)
 
 loop-again : tie.Need-loop-again Inv-loop μ-loop
 loop-again c =
-    let laws = laws-of (c .before .before .before .before .before .before .before .before .pre) in
+    let laws = laws-of (entry (c .before .before) .pre) in
     let outer = c .before .before .before .loop .inv .1 in
     let more = c .before .before .loop-test .taken in (
       omega (arith, more),

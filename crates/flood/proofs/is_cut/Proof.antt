@@ -5,23 +5,18 @@ use Rattle.flood.specs.Masks.{cutBit}
 use Rattle.flood.proofs.is_cut.Statement.{statement}
 use Rattle.flood.proofs.is_cut.Tie as tie
 
--- src/lib.rt:84:6
 mul-result : tie.Need-mul-result
 mul-result c = search needs
 
--- src/lib.rt:84:6
 shared-slice-read-result : tie.Need-shared-slice-read-result
 shared-slice-read-result c = search needs
 
--- src/lib.rt:84:18
 cast-result : tie.Need-cast-result
 cast-result c = search needs
 
--- src/lib.rt:84:6
 shr-result : tie.Need-shr-result
 shr-result c = search needs
 
--- src/lib.rt:79:1
 returns : tie.Need-returns
 unfolding cutBit
 returns c = refl

@@ -23,6 +23,14 @@ abbrev μ-loop : tie.MeasureT-loop
 μ-loop width height cells masks labels₀ queue₀ id head tail table c x y inner end₀ d₀ labels queue end d =
     8 - d
 
+-- the function's entry, from its first call on
+abbrev entry : tie.After-direction-table Inv-loop μ-loop → tie.Start Inv-loop μ-loop
+entry c = c .before .before .before .before .before
+
+-- the turn's begin, from its end
+abbrev turn : tie.After-slice-known5 Inv-loop μ-loop → tie.In-loop Inv-loop μ-loop
+turn c = c .before .before .before .before .before .before .before
+
 direction-table-requires : tie.Need-direction-table-requires Inv-loop μ-loop
 direction-table-requires c κs = search needs
 
@@ -30,28 +38,28 @@ mul-wide : tie.Need-mul-wide Inv-loop μ-loop
 mul-wide c = omega (arith, tail-le (c .before .before .before .before .before .pre .state), c .before .before .before .before .before .pre .busy, c .before .before .before .before .before .pre .grid .few)
 
 slice-read-wide : tie.Need-slice-read-wide Inv-loop μ-loop
-slice-read-wide c = omega (arith, tail-le (c .before .before .before .before .before .before .pre .state), c .before .before .before .before .before .before .pre .state .room, c .before .before .before .before .before .before .pre .busy)
+slice-read-wide c = omega (arith, tail-le (entry (c .before) .pre .state), entry (c .before) .pre .state .room, entry (c .before) .pre .busy)
 
 wide-requires : tie.Need-wide-requires Inv-loop μ-loop
 wide-requires c κs = search needs
 
 -- a cell of the grid
-in-grid : (c : tie.After-wide Inv-loop μ-loop) → c .wide .result < c .before .before .before .before .before .before .before .args .height * c .before .before .before .before .before .before .before .args .width
-in-grid c = omega (arith, c .wide .ensures, c .before .before .before .before .before .before .before .pre .state .cell (c .before .before .before .before .before .before .before .args .head) (c .before .before .before .before .before .before .before .pre .busy))
+in-grid : (c : tie.After-wide Inv-loop μ-loop) → c .wide .result < entry (c .before .before) .args .height * entry (c .before .before) .args .width
+in-grid c = omega (arith, c .wide .ensures, entry (c .before .before) .pre .state .cell (entry (c .before .before) .args .head) (entry (c .before .before) .pre .busy))
 
 rem-x : tie.Need-rem-x Inv-loop μ-loop
-rem-x c = omega (arith, cell-wide (c .wide .result) (c .before .before .before .before .before .before .before .args .width) (c .before .before .before .before .before .before .before .args .height) (in-grid c))
+rem-x c = omega (arith, cell-wide (c .wide .result) (entry (c .before .before) .args .width) (entry (c .before .before) .args .height) (in-grid c))
 
 div-y : tie.Need-div-y Inv-loop μ-loop
-div-y c = omega (arith, cell-wide (c .wide .result) (c .before .before .before .before .before .before .before .args .width) (c .before .before .before .before .before .before .before .args .height) (in-grid c))
+div-y c = omega (arith, cell-wide (c .wide .result) (entry (c .before .before) .args .width) (entry (c .before .before) .args .height) (in-grid c))
 
 is-inner-requires : tie.Need-is-inner-requires Inv-loop μ-loop
 is-inner-requires c κs =
-    let s = c .before .before .before .before .before .before .before in
+    let s = entry (c .before .before) in
     (s .pre .grid .narrow, s .pre .grid .short, cell-x (c .wide .result) (s .args .width) (s .args .height) (in-grid c), cell-y (c .wide .result) (s .args .width) (s .args .height) (in-grid c))
 
 loop-holds : tie.Need-loop-holds Inv-loop μ-loop
-loop-holds c = (omega arith, ran-start (c .before .before .before .before .before .before .before .before .pre .state))
+loop-holds c = (omega arith, ran-start (entry (c .before .before .before) .pre .state))
 
 mul-visit : tie.Need-mul-visit Inv-loop μ-loop
 mul-visit c = omega (arith, c .before .before .loop-test .taken)
@@ -71,18 +79,18 @@ direction c = table-at (c .before .before .before .before .before .direction-tab
 
 visit-requires : tie.Need-visit-requires Inv-loop μ-loop
 visit-requires c κs =
-    visiting (c .before .before .before .before .before .before .before .before .before .before .before .before .pre) (c .before .before .before .loop .inv .1) (c .before .before .loop-test .taken) (c .before .before .before .before .before .wide .ensures) (c .before .before .before .before .is-inner .ensures) (direction (c .before .before))
+    visiting (entry (c .before .before .before .before .before .before .before) .pre) (c .before .before .before .loop .inv .1) (c .before .before .loop-test .taken) (c .before .before .before .before .before .wide .ensures) (c .before .before .before .before .is-inner .ensures) (direction (c .before .before))
 
 add-d : tie.Need-add-d Inv-loop μ-loop
-add-d c = omega (arith, c .before .before .before .before .before .before .before .loop-test .taken)
+add-d c = omega (arith, turn c .loop-test .taken)
 
 loop-less : tie.Need-loop-less Inv-loop μ-loop
-loop-less c = omega (arith, c .before .before .before .before .before .before .before .loop-test .taken)
+loop-less c = omega (arith, turn c .loop-test .taken)
 
 loop-again : tie.Need-loop-again Inv-loop μ-loop
 loop-again c = (
-  omega (arith, c .before .before .before .before .before .before .before .loop-test .taken),
-  spread-visited (c .before .before .before .before .before .before .before .before .before .before .before .before .before .before .before .before .before .pre) (c .before .before .before .before .before .before .before .before .loop .inv .1) (c .before .before .before .before .before .before .before .loop-test .taken) (c .before .before .before .before .before .before .before .before .before .before .wide .ensures) (c .before .before .before .before .before .before .before .before .before .is-inner .ensures) (direction (c .before .before .before .before .before .before .before))
+  omega (arith, turn c .loop-test .taken),
+  spread-visited (entry (turn c .before .before .before .before .before) .pre) (turn c .before .loop .inv .1) (turn c .loop-test .taken) (turn c .before .before .before .wide .ensures) (turn c .before .before .is-inner .ensures) (direction (turn c))
       (c .before .before .before .before .visit .ensures),
 )
 
@@ -93,7 +101,7 @@ same-length-2 : tie.Need-same-length-2 Inv-loop μ-loop
 same-length-2 c = c .before .loop .inv .1 .queue .long
 
 returns : tie.Need-returns Inv-loop μ-loop
-returns c = ran-turn (c .before .loop .inv .1) (c .loop-test .left) (omega (arith, c .before .loop .inv .1 .longer, c .before .before .before .before .before .before .before .before .before .before .pre .busy))
+returns c = ran-turn (c .before .loop .inv .1) (c .loop-test .left) (omega (arith, c .before .loop .inv .1 .longer, entry (c .before .before .before .before .before) .pre .busy))
 
 pub spread-spec : {M : Type 1} → statement M
 spread-spec =
