@@ -11,12 +11,12 @@ use borrow.Author.Tests.{ltb-true, ltb-false, lt-ltb, not-true}
 use Rattle.definitions.specs.Scan.{countBelow, filter, any}
 use Rattle.definitions.specs.Grid.{Map, Position, at, Pair, pairEq, edge, isStep, toward, index, positionOf, directions, neighbors, onward, cellCount}
 use Rattle.definitions.specs.Partition.{Joined, here, along, back, allSteps, cutAll, uncut, roots, labels, regionCount, walkableAt, isRoot}
-use Rattle.laws.specs.Lists.{All, all-map, all-both, all-filter}
-use Rattle.laws.specs.Members.{all-at, all-place, all-members, all-mapped, filter-passes}
-use Rattle.laws.specs.Below.{count-ext, gather-below, gather-at}
-use Rattle.laws.specs.Chains.{joined-sym}
-use Rattle.laws.specs.Regions.{label-walkable, label-blocked as map-label-blocked}
-use Rattle.laws.specs.GraphLaws.{Way, Same, merged-laws, one-root}
+use Rattle.laws.specs.ListLaws.Lists.{All, all-map, all-both, all-filter}
+use Rattle.laws.specs.ListLaws.Members.{all-at, all-place, all-members, all-mapped, filter-passes}
+use Rattle.laws.specs.ListLaws.Below.{count-ext, gather-below, gather-at}
+use Rattle.laws.specs.RegionLaws.Chains.{joined-sym}
+use Rattle.laws.specs.RegionLaws.Regions.{label-walkable, label-blocked as map-label-blocked}
+use Rattle.laws.specs.RegionLaws.GraphLaws.{Way, Same, merged-laws, one-root}
 use Rattle.flood.specs.Masks.{bitOf, opposite, cutBit, reached, stepPair, Marks}
 use Rattle.flood.specs.Walk.{directionAt, landing, graphOf, Mirrored}
 use Rattle.flood.specs.State.{isName, label}
