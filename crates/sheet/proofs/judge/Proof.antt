@@ -7,9 +7,6 @@ use Rattle.sheet.proofs.Items.{keeps-upTo}
 use Rattle.sheet.proofs.Judging.{Judging, judging-starts, judging-ends, judging-stops, judging-goes-on}
 use Rattle.sheet.proofs.judge.Statement.{statement}
 use Rattle.sheet.proofs.judge.Tie as tie
-use Rattle.sheet.proofs.judge.Reads as reads
-use Rattle.sheet.proofs.judge.Lts as lts
-use Rattle.sheet.proofs.item.Reads as item-reads
 
 abbrev Inv-loop : tie.InvT-loop
 Inv-loop bytes at count most next₀ left₀ next left = Judging (upTo most) bytes at count next left

@@ -16,9 +16,10 @@ fits-requires : tie.Need-fits-requires
 fits-requires c κs = search needs
 
 fill-requires : tie.Need-fill-requires
-fill-requires c κs =
-    ((subst (SheetTold _ _) (c .before .before .before .before .before .before .before .before .plan .given .1) (c .before .before .before .before .before .before .before .before .before .before .judge-sheet .ensures)) .held,
-    room-known (sym (c .before .before .before .before .before .fits2 .ensures) ∙ c .before .before .before .before .if1 .taken))
+fill-requires c κs = (
+  (subst (SheetTold _ _) (c .before .before .before .before .before .before .before .before .plan .given .1) (c .before .before .before .before .before .before .before .before .before .before .judge-sheet .ensures)) .held,
+  room-known (sym (c .before .before .before .before .before .fits2 .ensures) ∙ c .before .before .before .before .if1 .taken),
+)
 
 header-of-requires : tie.Need-header-of-requires
 header-of-requires c κs = search needs
