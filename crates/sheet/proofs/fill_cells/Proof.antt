@@ -24,10 +24,10 @@ item-requires : tie.Need-item-requires Inv-loop μ-loop
 item-requires c κs = c .before .loop .inv .held .inside
 
 enum-known-value : tie.Need-enum-known-value Inv-loop μ-loop
-enum-known-value c = search needs
+enum-known-value c = c .match .keys1
 
 enum-told : tie.Need-enum-told Inv-loop μ-loop
-enum-told c = search needs
+enum-told c = c .match .keys2
 
 same-length : tie.Need-same-length Inv-loop μ-loop
 same-length c = c .before .before .before .before .loop .inv .long

@@ -24,7 +24,7 @@ item-requires : tie.Need-item-requires Inv-loop μ-loop
 item-requires c κs = c .before .loop .inv .inside
 
 enum-known-behind : tie.Need-enum-known-behind Inv-loop μ-loop
-enum-known-behind c = search needs
+enum-known-behind c = c .match .keys1
 
 loop-less : tie.Need-loop-less Inv-loop μ-loop
 loop-less c = search needs
@@ -35,7 +35,7 @@ loop-again c =
     (c .before .before .before .item .ensures ∙ ap (itemOf _) (c .before .behind .given .1))
 
 enum-known-place : tie.Need-enum-known-place Inv-loop μ-loop
-enum-known-place c = search needs
+enum-known-place c = c .match .keys2
 
 returns : tie.Need-returns Inv-loop μ-loop
 returns c =

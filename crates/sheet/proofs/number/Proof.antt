@@ -22,13 +22,13 @@ shared-slice-read-wide : tie.Need-shared-slice-read-wide Inv-loop μ-loop
 shared-slice-read-wide c = search needs
 
 wide-requires : tie.Need-wide-requires Inv-loop μ-loop
-wide-requires c κs = search needs
+wide-requires c κs = tt
 
 add-next : tie.Need-add-next Inv-loop μ-loop
 add-next c = search needs
 
 too-long-requires : tie.Need-too-long-requires Inv-loop μ-loop
-too-long-requires c κs = search needs
+too-long-requires c κs = tt
 
 returns : tie.Need-returns Inv-loop μ-loop
 returns c = long (c .before .before .before .before .before .loop .inv) (c .before .before .before .before .loop-test .taken) (c .before .before .wide .ensures) (sym (c .before .too-long .ensures) ∙ c .if1 .taken)
