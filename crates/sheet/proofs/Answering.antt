@@ -1,17 +1,17 @@
 -- From what was judged to what is answered: the three ways in which a reading ends. Assumes nothing.
 use Prim.Native.Nat.{ℕ, _/_}
 use mathlib.Core.Path.{_≡_, refl, sym, ap, _∙_}
-use mathlib.Core.Bool.{Bool, true, false, _&&_, cond}
+use mathlib.Core.Bool.{true, false, _&&_, cond}
 use mathlib.Core.List.{List}
 use lib.ListN.{length}
 use lib.Dec.{leb}
 use borrow.Author.Tests.{leb-true}
 use Rattle.definitions.specs.Limits.{numbersPerSpan, numbersPerBoundary, numbersPerAnchor}
 use Rattle.definitions.specs.Lists.{overwrite}
-use Rattle.definitions.specs.Sheet.{Reading, wellFormed, refused, readSheet, roomFor}
-use Rattle.laws.specs.ListLaws.Tests.{both}
-use Rattle.sheet.specs.Parts.{partOf, cellsIn, sheetOf, PartsHeld, SheetHeld, roomIn, Room}
-use Rattle.sheet.specs.Answers.{headerOf, headerIn, answerOf, Answered, readingWithin}
+use Rattle.definitions.specs.Sheet.{wellFormed, refused, readSheet, roomFor}
+use Rattle.laws.specs.Tests.{both}
+use Rattle.sheet.specs.Parts.{partOf, cellsIn, sheetOf, SheetHeld, roomIn, Room}
+use Rattle.sheet.specs.Answers.{headerOf, headerIn, Answered, readingWithin}
 use Rattle.sheet.specs.declared.Parts.{Parts}
 use Rattle.sheet.specs.declared.Plan.{Plan}
 use Rattle.sheet.specs.declared.Header.{Header}
@@ -38,13 +38,13 @@ room-known {parts} {cells} {spans} {boundaries} {anchors} h =
 module _ {limit : ℕ} {bytes : List ℕ} {plan : Plan} (S : SheetHeld limit bytes plan) where
   header-same : headerOf (sheetOf bytes plan) ≡ headerIn plan
   header-same = λ i. record {
-      pass = plan .pass;
-      width = plan .width;
-      height = plan .height;
-      spans = held-length (S .held .spans) i / numbersPerSpan;
-      boundaries = held-length (S .held .boundaries) i / numbersPerBoundary;
-      anchors = held-length (S .held .anchors) i / numbersPerAnchor;
-    }
+    pass = plan .pass;
+    width = plan .width;
+    height = plan .height;
+    spans = held-length (S .held .spans) i / numbersPerSpan;
+    boundaries = held-length (S .held .boundaries) i / numbersPerBoundary;
+    anchors = held-length (S .held .anchors) i / numbersPerAnchor;
+  }
 
   module _ (cells spans boundaries anchors : List ℕ) where
     by-room : readingWithin limit bytes cells spans boundaries anchors
@@ -52,9 +52,9 @@ module _ {limit : ℕ} {bytes : List ℕ} {plan : Plan} (S : SheetHeld limit byt
     by-room =
         ap (λ r. roomFor r (length cells) (length spans) (length boundaries) (length anchors)) (S .same)
         ∙ (λ i. cond
-            (leb (held-length (S .held .cells) i) (length cells) && leb (held-length (S .held .spans) i) (length spans)
-            && leb (held-length (S .held .boundaries) i) (length boundaries) && leb (held-length (S .held .anchors) i) (length anchors))
-            (wellFormed (sheetOf bytes plan)) (refused 10 0))
+        (leb (held-length (S .held .cells) i) (length cells) && leb (held-length (S .held .spans) i) (length spans)
+        && leb (held-length (S .held .boundaries) i) (length boundaries) && leb (held-length (S .held .anchors) i) (length anchors))
+        (wellFormed (sheetOf bytes plan)) (refused 10 0))
 
     pub answered-short : roomIn (plan .parts) (length cells) (length spans) (length boundaries) (length anchors) ≡ false
         → Answered (readingWithin limit bytes cells spans boundaries anchors) cells spans boundaries anchors (Refused 10 0) cells spans boundaries anchors

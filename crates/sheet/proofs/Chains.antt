@@ -1,16 +1,14 @@
 -- The parts of a sheet, reader by reader: each chain fails as its first failing part and otherwise goes on with the next. Assumes nothing.
-use Prim.Native.Nat.{ℕ, suc, _+_, _*_, _≤_, _<_}
+use Prim.Native.Nat.{ℕ, _*_, _≤_, _<_}
 use mathlib.Core.Path.{_≡_, refl, sym, ap, _∙_}
-use mathlib.Core.Bool.{Bool, true, false, _&&_}
+use mathlib.Core.Bool.{true, false, _&&_}
 use mathlib.Core.List.{List, [], _∷_}
-use lib.ListN.{length, drop, getD, drop-of-length-le}
-use lib.Seq.{drop-cons}
 use lib.Dec.{leb, eqb}
 use borrow.Author.Tests.{le-leb, lt-leb, eq-eqb, ne-eqb}
 use Rattle.definitions.specs.Limits.{isSide, maxEntries, numbersPerSpan, numbersPerBoundary, numbersPerAnchor}
 use Rattle.definitions.specs.SheetNumber.{Read, found, failed, number}
-use Rattle.definitions.specs.Sheet.{Reader, andThen, give, check, times, judged, kind, cell, area, entries, end, Sheet, wellFormed, refused, reading, sheet, readSheet}
-use Rattle.laws.specs.SheetReading.SheetLaws.{Keeps, keeps-number, keeps-judged, keeps-then, keeps-check, then-found, then-failed}
+use Rattle.definitions.specs.Sheet.{Reader, andThen, give, times, judged, kind, cell, area, entries, end, Sheet, wellFormed, refused, reading, sheet, readSheet}
+use Rattle.laws.specs.SheetLaws.{Keeps, keeps-number, keeps-judged, keeps-then, keeps-check, then-found, then-failed}
 use Rattle.sheet.specs.Parts.{opening, Extent, sides, Content, lists}
 
 -- ---- the kind and the pass

@@ -67,6 +67,7 @@ module _ {item : Reader ℕ} {bytes out₀ : List ℕ} {at count : ℕ} where
         where
           begun : times (count - i) item next (drop next bytes) ≡ andThen (times (count - (i + 1)) item behind (drop behind bytes)) (λ values. give (value ∷ values))
           begun = ap (λ n. times n item next (drop next bytes)) (sym one-more) ∙ times-found item (count - (i + 1)) next (drop next bytes) e
+
           go : (r : Read (List ℕ)) → times (count - (i + 1)) item behind (drop behind bytes) ≡ r → Filling item bytes out₀ at count (set out i value) behind (i + 1)
           go (found values last rest) q =
               let v : valuesIn (times (count - i) item next (drop next bytes)) ≡ value ∷ values = ap valuesIn (begun ∙ ap (λ r. andThen r (λ values. give (value ∷ values))) q) in

@@ -1,19 +1,18 @@
 -- What is answered of a part of a sheet where it was found, from what is known of the numbers in it. Assumes nothing.
 use Prim.Native.Nat.{ℕ, _*_, _≤_, _<_}
-use mathlib.Core.Path.{_≡_, refl, sym, ap, _∙_}
-use mathlib.Core.Bool.{true, false, _&&_}
-use mathlib.Core.List.{List, [], _∷_}
+use mathlib.Core.Path.{_≡_, ap, _∙_}
+use mathlib.Core.Bool.{true, _&&_}
+use mathlib.Core.List.{List, []}
 use native.Mathlib.Omega.{arith}
-use native.Mathlib.Numerals.{add-one}
-use lib.ListN.{length, drop, getD, drop-of-length-le}
+use lib.ListN.{length, drop, drop-of-length-le}
 use lib.Seq.{drop-cons}
 use lib.Dec.{leb}
 use Rattle.definitions.specs.Limits.{isSide, maxEntries, numbersPerSpan, numbersPerBoundary, numbersPerAnchor}
 use Rattle.definitions.specs.SheetNumber.{found, failed, number}
-use Rattle.definitions.specs.Sheet.{times, cell, entries, wellFormed, refused, readSheet}
-use Rattle.laws.specs.SheetReading.SheetLaws.{keeps-number, keeps-entries, keeps-times, ends-inside}
-use Rattle.sheet.specs.Numbers.{upTo, itemsAt, Told, Held}
-use Rattle.sheet.specs.Parts.{opening, sides, lists, partOf, contentOf, PartsHeld, SidesHeld, EntriesHeld, ListsHeld, SheetHeld}
+use Rattle.definitions.specs.Sheet.{cell, entries}
+use Rattle.laws.specs.SheetLaws.{keeps-number, keeps-entries, keeps-times, ends-inside}
+use Rattle.sheet.specs.Numbers.{upTo, itemsAt, Told}
+use Rattle.sheet.specs.Parts.{opening, sides, lists, contentOf, SidesHeld, EntriesHeld, ListsHeld, SheetHeld}
 use Rattle.sheet.specs.declared.Part.{Part}
 use Rattle.sheet.specs.declared.Parts.{Parts}
 use Rattle.sheet.specs.declared.Judged.the-variants.{Behind, Faulty}

@@ -8,8 +8,8 @@ use native.Mathlib.Omega.{arith}
 use lib.Dec.{leb}
 use borrow.Author.Tests.{leb-true, le-leb, lt-leb}
 use Rattle.definitions.specs.SheetNumber.{Read, found, failed, number}
-use Rattle.definitions.specs.Sheet.{Reader, andThen, check, judged, cell}
-use Rattle.laws.specs.SheetReading.SheetLaws.{Keeps, not-found, judged-all, keeps-judged}
+use Rattle.definitions.specs.Sheet.{andThen, check, judged, cell}
+use Rattle.laws.specs.SheetLaws.{Keeps, not-found, judged-all, keeps-judged}
 use Rattle.sheet.specs.Numbers.{upTo}
 
 pub upTo-all : upTo 0xffff_ffff_ffff_ffff ≡ number
@@ -51,6 +51,7 @@ module _ (most at : ℕ) (bytes : List ℕ) where
       inner : (v o : ℕ) (r : List ℕ) (t : Bool) → leb v most ≡ t → check t 14 at v o r ≡ found value next rest → value ≤ most
       inner v o r true e q = omega (arith, leb-true v most e, (let s : v ≡ value = cc in s))
       inner v o r false e q = absurd (not-found q)
+
       outer : (r : Read ℕ) → andThen r (λ v. check (leb v most) 14 at v) ≡ found value next rest → value ≤ most
       outer (found v o r) q = inner v o r (leb v most) refl q
       outer (failed refusal place) q = absurd (not-found q)

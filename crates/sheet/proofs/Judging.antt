@@ -1,6 +1,6 @@
 -- What holds at each turn of the loop that judges a run of numbers (`Judging`): an answer that tells how reading the rest ends tells how reading all of
 -- them ends. Assumes nothing.
-use Prim.Native.Nat.{ℕ, zero, suc, _-_, _≤_, _<_}
+use Prim.Native.Nat.{ℕ, suc, _-_, _≤_, _<_}
 use mathlib.Core.Path.{_≡_, refl, sym, ap, _∙_}
 use mathlib.Core.List.{List, _∷_}
 use native.Mathlib.Omega.{arith}
@@ -44,12 +44,13 @@ module _ {item : Reader ℕ} {bytes : List ℕ} {at : ℕ} where
       pub judging-goes-on : Keeps item → {value behind : ℕ} → item next (drop next bytes) ≡ found value behind (drop behind bytes) → Judging item bytes at count behind (left - 1)
       unfolding itemsAt
       judging-goes-on k {value} {behind} e = record {
-          inside = ends-inside k bytes next (J .inside) e;
-          same = λ answer t. J .same answer (more answer t);
-        }
+        inside = ends-inside k bytes next (J .inside) e;
+        same = λ answer t. J .same answer (more answer t);
+      }
         where
           begun : times left item next (drop next bytes) ≡ andThen (times (left - 1) item behind (drop behind bytes)) (λ values. give (value ∷ values))
           begun = ap (λ n. times n item next (drop next bytes)) (sym one-more) ∙ times-found item (left - 1) next (drop next bytes) e
+
           more : (answer : Judged) → Told bytes (times (left - 1) item behind (drop behind bytes)) answer → Told bytes (times left item next (drop next bytes)) answer
           more (Behind last) t = told (begun ∙ then-found (λ values. give (value ∷ values)) t)
           more (Faulty place) t = begun ∙ then-failed (λ values. give (value ∷ values)) t

@@ -1,10 +1,10 @@
 -- What reading alone answers, and what it leaves in the lists that are lent to it. Assumes nothing.
 use Prim.Native.Nat.{ℕ, _/_}
-use mathlib.Core.Path.{_≡_}
+use mathlib.Core.Path.{_≡_, refl}
 use mathlib.Core.List.{List}
 use lib.ListN.{length}
 use Rattle.definitions.specs.Limits.{numbersPerSpan, numbersPerBoundary, numbersPerAnchor}
-use Rattle.definitions.specs.Sheet.{Sheet, Reading, wellFormed, refused, readSheet, roomFor, atExit}
+use Rattle.definitions.specs.Sheet.{Sheet, Reading, wellFormed, refused, readSheet, readingNumber, readingPlace, roomFor, atExit}
 use Rattle.sheet.specs.declared.Plan.{Plan}
 use Rattle.sheet.specs.declared.Header.{Header}
 use Rattle.sheet.specs.declared.Answer.{Answer}
@@ -26,7 +26,24 @@ abbrev pub answerOf : Reading → Answer
 answerOf (wellFormed s) = Read (headerOf s)
 answerOf (refused refusal place) = Refused refusal place
 
--- the same from where the lists stand
+-- document 01's number and place of an answer: "Success returns 0"
+abbrev pub answerNumber : Answer → ℕ
+answerNumber (Read header) = 0
+answerNumber (Refused refusal place) = refusal
+
+abbrev pub answerPlace : Answer → ℕ
+answerPlace (Read header) = 0
+answerPlace (Refused refusal place) = place
+
+pub answer-number : (reading : Reading) → answerNumber (answerOf reading) ≡ readingNumber reading
+answer-number (wellFormed s) = refl
+answer-number (refused refusal place) = refl
+
+pub answer-place : (reading : Reading) → answerPlace (answerOf reading) ≡ readingPlace reading
+answer-place (wellFormed s) = refl
+answer-place (refused refusal place) = refl
+
+-- the same header from where the lists stand
 abbrev pub headerIn : Plan → Header
 headerIn plan =
     let parts = plan .parts in

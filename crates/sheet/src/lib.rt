@@ -64,6 +64,7 @@ pub fn number(bytes: &[u8], at: usize) -> NumberRead
 // ---- numbers of at most so much, one after the other
 
 const MOST: u64 = 0xffff_ffff_ffff_ffff;
+
 const CELL_MOST: u64 = 255;
 
 // A number, with the offset behind it; or the place where the sheet is refused 14.
@@ -251,7 +252,9 @@ fn entries(bytes: &[u8], at: usize, size: usize) -> EntriesRead
 }
 
 const SPAN_SIZE: usize = 4;
+
 const BOUNDARY_SIZE: usize = 9;
+
 const ANCHOR_SIZE: usize = 2;
 
 struct Parts {
@@ -432,8 +435,21 @@ pub fn read_within(
     match judge_sheet(bytes, limit) {
         SheetRead::Sound(plan) => {
             let parts = plan.parts;
-            if fits(parts, cells.len(), spans.len(), boundaries.len(), anchors.len()) {
-                fill(bytes, parts, &mut *cells, &mut *spans, &mut *boundaries, &mut *anchors);
+            if fits(
+                parts,
+                cells.len(),
+                spans.len(),
+                boundaries.len(),
+                anchors.len(),
+            ) {
+                fill(
+                    bytes,
+                    parts,
+                    &mut *cells,
+                    &mut *spans,
+                    &mut *boundaries,
+                    &mut *anchors,
+                );
                 Answer::Read(header_of(plan))
             } else {
                 Answer::Refused(10, 0)
@@ -455,5 +471,12 @@ pub fn read_sheet(
 ) -> Answer
     ensures { λ r. ⌜ Answered (readVerdict (now (bytes .entry)) (length (now (cells .entry))) (length (now (spans .entry))) (length (now (boundaries .entry))) (length (now (anchors .entry)))) (now (cells .entry)) (now (spans .entry)) (now (boundaries .entry)) (now (anchors .entry)) r (now (cells .exit)) (now (spans .exit)) (now (boundaries .exit)) (now (anchors .exit)) ⌝ }
 {
-    read_within(bytes, PLAIN_CELL_LIMIT, &mut *cells, &mut *spans, &mut *boundaries, &mut *anchors)
+    read_within(
+        bytes,
+        PLAIN_CELL_LIMIT,
+        &mut *cells,
+        &mut *spans,
+        &mut *boundaries,
+        &mut *anchors,
+    )
 }

@@ -4,13 +4,13 @@ use Prim.Native.Nat.{ℕ, zero, suc, _+_, _*_, _%_, _^_, _<_, _≤_}
 use native.Mathlib.Omega.{arith}
 use native.Mathlib.Nat.{mul-le-mul-right}
 use mathlib.Core.Path.{_≡_, refl, sym, ap, _∙_}
-use mathlib.Core.Bool.{Bool, true, false, _&&_, cond, true≢false, false≢true}
+use mathlib.Core.Bool.{Bool, true, false}
 use mathlib.Core.List.{List, [], _∷_}
 use lib.Dec.{leb, ltb, eqb}
 use lib.Pow.{pow-add, pow-mono}
-use lib.ListN.{length, drop, getD, length-drop}
-use borrow.Author.Tests.{leb-true, leb-false, ltb-true, ltb-false, eqb-true, eqb-false, le-leb, lt-leb, lt-ltb, eq-eqb}
-use Rattle.definitions.specs.SheetNumber.{Read, found, failed, withGroup, continued, tooLong, groups, number}
+use lib.ListN.{length, drop, length-drop}
+use borrow.Author.Tests.{leb-true, leb-false, ltb-false, eqb-true, eqb-false, le-leb, lt-leb, eq-eqb}
+use Rattle.definitions.specs.SheetNumber.{Read, found, failed, withGroup, tooLong, groups, number}
 use Rattle.definitions.specs.Sheet.{Reader, give, check, andThen, times, judged, entries}
 use Rattle.definitions.specs.Limits.{maxEntries}
 
@@ -86,6 +86,7 @@ groups-sum first g value offset (b ∷ bytes) {v} {next} {rest} h =
         let x : next ≡ offset + 1 = cc in
         let y : length rest ≡ length bytes = cc in
         omega arith
+
     go : (t : Bool) → tooLong g b ≡ t → (u : Bool) → leb 128 b ≡ u
         → (groups first (g + 1) (withGroup value g b) (offset + 1) bytes ≡ found v next rest → next + length rest ≡ offset + 1 + length bytes)
         → next + length rest ≡ offset + suc (length bytes)
@@ -146,11 +147,6 @@ module _ {A B : Type 0} where
       go offset bytes (found v o m) e h = l v .sum o m h ∙ k .sum offset bytes e
       go offset bytes (failed refusal place) e h = absurd (not-found h)
 
--- a chain of three is one of two, whichever two are taken together first
-pub then-then : {A B C : Type 0} (r : Read A) (f : A → Reader B) (g : B → Reader C) → andThen (andThen r f) g ≡ andThen r (λ value offset rest. andThen (f value offset rest) g)
-then-then (found value offset rest) f g = refl
-then-then (failed refusal place) f g = refl
-
 module _ {A : Type 0} where
   pub keeps-check : (ok : Bool) (refusal place : ℕ) (value : A) → Keeps (check ok refusal place value)
   keeps-check true refusal place value = record { sum = λ offset bytes h. cc }
@@ -185,6 +181,7 @@ module _ (item : Reader ℕ) where
           let e : value ∷ vs ≡ values = cc in
           ap length (sym e) ∙ ap suc (ih vs o m refl)
       second value (failed refusal place) ih q = absurd (not-found q)
+
       first : (r : Read ℕ) → item offset bytes ≡ r → ((o : ℕ) (m vs : List ℕ) (p : ℕ) (q : List ℕ) → times n item o m ≡ found vs p q → length vs ≡ n) → length values ≡ suc n
       first (found value o m) e ih = second value (times n item o m) (λ vs p q g. ih o m vs p q g) (sym (times-found n offset bytes e) ∙ h)
       first (failed refusal place) e ih = absurd (not-found (sym (times-failed n offset bytes e) ∙ h))

@@ -15,7 +15,7 @@ item-requires : tie.Need-item-requires
 item-requires c κs = search needs
 
 enum-known-written : tie.Need-enum-known-written
-enum-known-written c = search needs
+enum-known-written c = c .match .keys1
 
 mul-length : tie.Need-mul-length
 mul-length c = omega (arith, mul-le-mul (c .if1 .taken) (c .before .before .before .before .before .before .pre .1))
@@ -24,13 +24,13 @@ judge-requires : tie.Need-judge-requires
 judge-requires c κs = ends-inside keeps-number _ _ (c .before .before .before .before .before .before .pre .0) (as-number _ _ (c .before .before .before .before .item .ensures ∙ ap (itemOf _) (c .before .before .written .given .1)))
 
 enum-known-next : tie.Need-enum-known-next
-enum-known-next c = search needs
+enum-known-next c = c .match2 .keys1
 
 enum-known-place : tie.Need-enum-known-place
-enum-known-place c = search needs
+enum-known-place c = c .match2 .keys2
 
 enum-known-place-2 : tie.Need-enum-known-place-2
-enum-known-place-2 c = search needs
+enum-known-place-2 c = c .match .keys2
 
 returns : tie.Need-returns
 returns c =

@@ -28,11 +28,16 @@ same-length-4 : tie.Need-same-length-4
 same-length-4 c = search needs
 
 returns : tie.Need-returns
-returns c =
-    (c .before .before .before .before .before .before .before .before .before .before .before .before .before .before .fill-cells .ensures,
-    (c .before .before .before .before .before .before .before .before .before .before .fill-numbers .ensures,
-    (c .before .before .before .before .before .before .fill-numbers2 .ensures,
-    c .before .before .fill-numbers3 .ensures)))
+returns c = (
+  c .before .before .before .before .before .before .before .before .before .before .before .before .before .before .fill-cells .ensures,
+  (
+    c .before .before .before .before .before .before .before .before .before .before .fill-numbers .ensures,
+    (
+      c .before .before .before .before .before .before .fill-numbers2 .ensures,
+      c .before .before .fill-numbers3 .ensures,
+    ),
+  ),
+)
 
 pub fill-spec : {M : Type 1} → statement M
 fill-spec =

@@ -1,20 +1,15 @@
 -- `sheet::fill_cells` meets its contract. The loop's invariant is `Filling`: storing the numbers that are left makes the list that is wanted. What was judged is
 -- not refused, so the loop is not left early. The measure is how many are left. Assumes nothing.
-use Prim.Native.Nat.{ℕ, _-_}
-use mathlib.Core.Path.{_≡_, sym, ap, _∙_}
-use mathlib.Core.List.{List}
+use Prim.Native.Nat.{_-_}
+use mathlib.Core.Path.{ap, _∙_}
 use native.Mathlib.Omega.{arith}
 use borrow.Author.Needs.{needs}
-use lib.ListN.{drop}
 use Rattle.definitions.specs.Sheet.{cell}
 use Rattle.sheet.specs.Numbers.{itemOf}
 use Rattle.sheet.proofs.Items.{as-cell, upTo-most, keeps-cell}
 use Rattle.sheet.proofs.Filling.{Filling, filling-starts, filling-ends, filling-never-stops, filling-goes-on}
 use Rattle.sheet.proofs.fill_cells.Statement.{statement}
 use Rattle.sheet.proofs.fill_cells.Tie as tie
-use Rattle.sheet.proofs.fill_cells.Reads as reads
-use Rattle.sheet.proofs.fill_cells.Lts as lts
-use Rattle.sheet.proofs.item.Reads as item-reads
 
 abbrev Inv-loop : tie.InvT-loop
 Inv-loop bytes at count out₀ next₀ i₀ out next i = Filling cell bytes out₀ at count out next i
@@ -29,10 +24,10 @@ item-requires : tie.Need-item-requires Inv-loop μ-loop
 item-requires c κs = c .before .loop .inv .held .inside
 
 enum-known-value : tie.Need-enum-known-value Inv-loop μ-loop
-enum-known-value c = search needs
+enum-known-value c = c .match .keys1
 
 enum-told : tie.Need-enum-told Inv-loop μ-loop
-enum-told c = search needs
+enum-told c = c .match .keys2
 
 same-length : tie.Need-same-length Inv-loop μ-loop
 same-length c = c .before .before .before .before .loop .inv .long

@@ -1,11 +1,8 @@
 -- `sheet::fill_numbers` meets its contract. The loop's invariant is `Filling`: storing the numbers that are left makes the list that is wanted. What was judged is
 -- not refused, so the loop is not left early. The measure is how many are left. Assumes nothing.
-use Prim.Native.Nat.{ℕ, _-_}
-use mathlib.Core.Path.{_≡_, sym, ap, _∙_}
-use mathlib.Core.List.{List}
-use native.Mathlib.Omega.{arith}
+use Prim.Native.Nat.{_-_}
+use mathlib.Core.Path.{ap, _∙_}
 use borrow.Author.Needs.{needs}
-use lib.ListN.{drop}
 use Rattle.definitions.specs.SheetNumber.{number}
 use Rattle.sheet.specs.Numbers.{itemOf}
 use Rattle.laws.specs.SheetReading.SheetLaws.{keeps-number}
@@ -13,9 +10,6 @@ use Rattle.sheet.proofs.Items.{as-number}
 use Rattle.sheet.proofs.Filling.{Filling, filling-starts, filling-ends, filling-never-stops, filling-goes-on}
 use Rattle.sheet.proofs.fill_numbers.Statement.{statement}
 use Rattle.sheet.proofs.fill_numbers.Tie as tie
-use Rattle.sheet.proofs.fill_numbers.Reads as reads
-use Rattle.sheet.proofs.fill_numbers.Lts as lts
-use Rattle.sheet.proofs.item.Reads as item-reads
 
 abbrev Inv-loop : tie.InvT-loop
 Inv-loop bytes at count out₀ next₀ i₀ out next i = Filling number bytes out₀ at count out next i
@@ -30,10 +24,10 @@ item-requires : tie.Need-item-requires Inv-loop μ-loop
 item-requires c κs = c .before .loop .inv .held .inside
 
 enum-known-value : tie.Need-enum-known-value Inv-loop μ-loop
-enum-known-value c = search needs
+enum-known-value c = c .match .keys1
 
 enum-told : tie.Need-enum-told Inv-loop μ-loop
-enum-told c = search needs
+enum-told c = c .match .keys2
 
 same-length : tie.Need-same-length Inv-loop μ-loop
 same-length c = c .before .before .before .before .loop .inv .long

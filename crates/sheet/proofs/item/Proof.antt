@@ -10,13 +10,13 @@ number-requires : tie.Need-number-requires
 number-requires c κs = search needs
 
 enum-known-value : tie.Need-enum-known-value
-enum-known-value c = search needs
+enum-known-value c = c .match .keys1
 
 enum-told : tie.Need-enum-told
-enum-told c = search needs
+enum-told c = c .match .keys2
 
 enum-told-2 : tie.Need-enum-told-2
-enum-told-2 c = search needs
+enum-told-2 c = c .match .keys3
 
 returns : tie.Need-returns
 returns c = upTo-allowed _ _ _ (c .before .before .before .before .number .ensures ∙ ap (numberOf _ _) (c .before .before .value .given .1)) (c .if1 .taken)

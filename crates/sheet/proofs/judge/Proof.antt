@@ -7,9 +7,6 @@ use Rattle.sheet.proofs.Items.{keeps-upTo}
 use Rattle.sheet.proofs.Judging.{Judging, judging-starts, judging-ends, judging-stops, judging-goes-on}
 use Rattle.sheet.proofs.judge.Statement.{statement}
 use Rattle.sheet.proofs.judge.Tie as tie
-use Rattle.sheet.proofs.judge.Reads as reads
-use Rattle.sheet.proofs.judge.Lts as lts
-use Rattle.sheet.proofs.item.Reads as item-reads
 
 abbrev Inv-loop : tie.InvT-loop
 Inv-loop bytes at count most next₀ left₀ next left = Judging (upTo most) bytes at count next left
@@ -27,7 +24,7 @@ item-requires : tie.Need-item-requires Inv-loop μ-loop
 item-requires c κs = c .before .loop .inv .inside
 
 enum-known-behind : tie.Need-enum-known-behind Inv-loop μ-loop
-enum-known-behind c = search needs
+enum-known-behind c = c .match .keys1
 
 loop-less : tie.Need-loop-less Inv-loop μ-loop
 loop-less c = search needs
@@ -38,7 +35,7 @@ loop-again c =
     (c .before .before .before .item .ensures ∙ ap (itemOf _) (c .before .behind .given .1))
 
 enum-known-place : tie.Need-enum-known-place Inv-loop μ-loop
-enum-known-place c = search needs
+enum-known-place c = c .match .keys2
 
 returns : tie.Need-returns Inv-loop μ-loop
 returns c =

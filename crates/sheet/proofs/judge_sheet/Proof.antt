@@ -6,21 +6,20 @@ use Rattle.sheet.specs.Parts.{SidesTold, ListsTold}
 use Rattle.sheet.proofs.Limits.{sides-product}
 use Rattle.sheet.proofs.Chains.{sheet-opening, sheet-sides, sheet-lists}
 use Rattle.sheet.proofs.Found.{opening-inside, sides-inside, sheet-found}
-use borrow.Author.Needs.{needs}
 use Rattle.sheet.proofs.judge_sheet.Statement.{statement}
 use Rattle.sheet.proofs.judge_sheet.Tie as tie
 
 opening-requires : tie.Need-opening-requires
-opening-requires c κs = search needs
+opening-requires c κs = tt
 
 enum-known-pass : tie.Need-enum-known-pass
-enum-known-pass c = search needs
+enum-known-pass c = c .match .keys1
 
 sides-requires : tie.Need-sides-requires
 sides-requires c κs = opening-inside _ (c .before .before .before .opening .ensures ∙ ap (itemOf _) (c .before .pass .given .1))
 
 enum-known-width : tie.Need-enum-known-width
-enum-known-width c = search needs
+enum-known-width c = c .match2 .keys1
 
 mul-lists : tie.Need-mul-lists
 mul-lists c = omega (arith, sides-product _ _ ((subst (SidesTold _ _ _) (c .before .width .given .1) (c .before .before .before .sides .ensures)) .wide) ((subst (SidesTold _ _ _) (c .before .width .given .1) (c .before .before .before .sides .ensures)) .high))
@@ -29,16 +28,16 @@ lists-requires : tie.Need-lists-requires
 lists-requires c κs = sides-inside (opening-inside _ (c .before .before .before .before .before .before .before .opening .ensures ∙ ap (itemOf _) (c .before .before .before .before .before .pass .given .1))) (subst (SidesTold _ _ _) (c .before .width .given .1) (c .before .before .before .sides .ensures))
 
 enum-known-parts : tie.Need-enum-known-parts
-enum-known-parts c = search needs
+enum-known-parts c = c .match3 .keys1
 
 enum-known-refusal : tie.Need-enum-known-refusal
-enum-known-refusal c = search needs
+enum-known-refusal c = c .match3 .keys2
 
 enum-known-refusal-2 : tie.Need-enum-known-refusal-2
-enum-known-refusal-2 c = search needs
+enum-known-refusal-2 c = c .match2 .keys2
 
 enum-known-place : tie.Need-enum-known-place
-enum-known-place c = search needs
+enum-known-place c = c .match .keys2
 
 returns : tie.Need-returns
 returns c =

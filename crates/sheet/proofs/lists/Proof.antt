@@ -12,38 +12,38 @@ judge-requires : tie.Need-judge-requires
 judge-requires c κs = search needs
 
 enum-known-a : tie.Need-enum-known-a
-enum-known-a c = search needs
+enum-known-a c = c .match .keys1
 
 entries-requires : tie.Need-entries-requires
 entries-requires c κs = ((cells-inside _ _ _ (c .before .before .before .before .before .pre) (subst (Told _ _) (c .before .a .given .1) (c .before .before .before .judge .ensures))), omega arith)
 
 enum-known-spans : tie.Need-enum-known-spans
-enum-known-spans c = search needs
+enum-known-spans c = c .match2 .keys1
 
 entries-requires-2 : tie.Need-entries-requires-2
 entries-requires-2 c κs = (entries-inside (cells-inside _ _ _ (c .before .before .before .before .before .before .before .before .before .pre) (subst (Told _ _) (c .before .before .before .before .before .a .given .1) (c .before .before .before .before .before .before .before .judge .ensures))) (subst (EntriesTold _ _ _) (c .before .spans .given .1) (c .before .before .before .entries .ensures)), omega arith)
 
 enum-known-boundaries : tie.Need-enum-known-boundaries
-enum-known-boundaries c = search needs
+enum-known-boundaries c = c .match3 .keys1
 
 entries-requires-3 : tie.Need-entries-requires-3
 entries-requires-3 c κs =
     (entries-inside (entries-inside (cells-inside _ _ _ (c .before .before .before .before .before .before .before .before .before .before .before .before .before .pre) (subst (Told _ _) (c .before .before .before .before .before .before .before .before .before .a .given .1) (c .before .before .before .before .before .before .before .before .before .before .before .judge .ensures))) (subst (EntriesTold _ _ _) (c .before .before .before .before .before .spans .given .1) (c .before .before .before .before .before .before .before .entries .ensures))) (subst (EntriesTold _ _ _) (c .before .boundaries .given .1) (c .before .before .before .entries2 .ensures)), omega arith)
 
 enum-known-anchors : tie.Need-enum-known-anchors
-enum-known-anchors c = search needs
+enum-known-anchors c = c .match4 .keys1
 
 enum-known-refusal : tie.Need-enum-known-refusal
-enum-known-refusal c = search needs
+enum-known-refusal c = c .match4 .keys2
 
 enum-known-refusal-2 : tie.Need-enum-known-refusal-2
-enum-known-refusal-2 c = search needs
+enum-known-refusal-2 c = c .match3 .keys2
 
 enum-known-refusal-3 : tie.Need-enum-known-refusal-3
-enum-known-refusal-3 c = search needs
+enum-known-refusal-3 c = c .match2 .keys2
 
 enum-known-place : tie.Need-enum-known-place
-enum-known-place c = search needs
+enum-known-place c = c .match .keys2
 
 returns : tie.Need-returns
 returns c =

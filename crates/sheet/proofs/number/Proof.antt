@@ -1,17 +1,13 @@
 -- `sheet::number` meets its contract. The loop's invariant: the groups read so far have the value so far, below 2 ^ (7 * group), and reading on from here
 -- gives what the number is. The measure is the number of bytes left. Assumes nothing.
-use Prim.Native.Nat.{ℕ, _+_, _*_, _-_, _^_, _≤_, _<_}
-use mathlib.Core.Path.{_≡_, refl, sym, _∙_}
+use Prim.Native.Nat.{_-_}
+use mathlib.Core.Path.{sym, _∙_}
 use borrow.Author.Needs.{needs}
 use native.Mathlib.Omega.{arith}
-use lib.ListN.{length, drop, getD}
+use lib.ListN.{length}
 use Rattle.sheet.proofs.Groups.{Groups, start, early-end, long, fits, last, more, scale-fits}
 use Rattle.sheet.proofs.number.Statement.{statement}
 use Rattle.sheet.proofs.number.Tie as tie
-use Rattle.sheet.proofs.number.Reads as reads
-use Rattle.sheet.proofs.number.Lts as lts
-use Rattle.sheet.proofs.too_long.Reads as too-long-reads
-use Rattle.sheet.proofs.wide.Reads as wide-reads
 
 abbrev Inv-loop : tie.InvT-loop
 Inv-loop bytes at value₀ scale₀ group₀ next₀ value scale group next = Groups bytes at value scale group next
@@ -26,13 +22,13 @@ shared-slice-read-wide : tie.Need-shared-slice-read-wide Inv-loop μ-loop
 shared-slice-read-wide c = search needs
 
 wide-requires : tie.Need-wide-requires Inv-loop μ-loop
-wide-requires c κs = search needs
+wide-requires c κs = tt
 
 add-next : tie.Need-add-next Inv-loop μ-loop
 add-next c = search needs
 
 too-long-requires : tie.Need-too-long-requires Inv-loop μ-loop
-too-long-requires c κs = search needs
+too-long-requires c κs = tt
 
 returns : tie.Need-returns Inv-loop μ-loop
 returns c = long (c .before .before .before .before .before .loop .inv) (c .before .before .before .before .loop-test .taken) (c .before .before .wide .ensures) (sym (c .before .too-long .ensures) ∙ c .if1 .taken)

@@ -12,14 +12,14 @@ item-requires : tie.Need-item-requires
 item-requires c κs = search needs
 
 enum-known-kind : tie.Need-enum-known-kind
-enum-known-kind c = search needs
+enum-known-kind c = c .match .keys1
 
 item-requires-2 : tie.Need-item-requires-2
 item-requires-2 c κs =
     ends-inside keeps-number _ 0 (search needs) (as-number _ _ (c .before .before .before .before .item .ensures ∙ ap (itemOf _) (c .before .before .kind .given .1)))
 
 enum-known-place : tie.Need-enum-known-place
-enum-known-place c = search needs
+enum-known-place c = c .match .keys2
 
 returns : tie.Need-returns
 returns c =

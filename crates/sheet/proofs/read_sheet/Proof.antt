@@ -5,7 +5,7 @@ use Rattle.sheet.proofs.read_sheet.Statement.{statement}
 use Rattle.sheet.proofs.read_sheet.Tie as tie
 
 read-within-requires : tie.Need-read-within-requires
-read-within-requires c κs = search needs
+read-within-requires c κs = tt
 
 same-length : tie.Need-same-length
 same-length c = search needs

@@ -7,24 +7,25 @@ use Rattle.sheet.proofs.read_within.Statement.{statement}
 use Rattle.sheet.proofs.read_within.Tie as tie
 
 judge-sheet-requires : tie.Need-judge-sheet-requires
-judge-sheet-requires c κs = search needs
+judge-sheet-requires c κs = tt
 
 enum-known-plan : tie.Need-enum-known-plan
-enum-known-plan c = search needs
+enum-known-plan c = c .match .keys1
 
 fits-requires : tie.Need-fits-requires
-fits-requires c κs = search needs
+fits-requires c κs = tt
 
 fill-requires : tie.Need-fill-requires
-fill-requires c κs =
-    ((subst (SheetTold _ _) (c .before .before .before .before .before .before .before .before .plan .given .1) (c .before .before .before .before .before .before .before .before .before .before .judge-sheet .ensures)) .held,
-    room-known (sym (c .before .before .before .before .before .fits2 .ensures) ∙ c .before .before .before .before .if1 .taken))
+fill-requires c κs = (
+  (subst (SheetTold _ _) (c .before .before .before .before .before .before .before .before .plan .given .1) (c .before .before .before .before .before .before .before .before .before .before .judge-sheet .ensures)) .held,
+  room-known (sym (c .before .before .before .before .before .fits2 .ensures) ∙ c .before .before .before .before .if1 .taken),
+)
 
 header-of-requires : tie.Need-header-of-requires
-header-of-requires c κs = search needs
+header-of-requires c κs = tt
 
 enum-known-refusal : tie.Need-enum-known-refusal
-enum-known-refusal c = search needs
+enum-known-refusal c = c .match .keys2
 
 same-length : tie.Need-same-length
 same-length c = search needs

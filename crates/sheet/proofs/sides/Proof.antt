@@ -13,23 +13,23 @@ item-requires : tie.Need-item-requires
 item-requires c κs = search needs
 
 enum-known-width : tie.Need-enum-known-width
-enum-known-width c = search needs
+enum-known-width c = c .match .keys1
 
 item-requires-2 : tie.Need-item-requires-2
 item-requires-2 c κs =
     ends-inside keeps-number _ _ (c .before .before .before .before .before .pre) (as-number _ _ (c .before .before .before .item .ensures ∙ ap (itemOf _) (c .before .width .given .1)))
 
 enum-known-height : tie.Need-enum-known-height
-enum-known-height c = search needs
+enum-known-height c = c .match2 .keys1
 
 area-allowed-requires : tie.Need-area-allowed-requires
-area-allowed-requires c κs = search needs
+area-allowed-requires c κs = tt
 
 enum-known-place : tie.Need-enum-known-place
-enum-known-place c = search needs
+enum-known-place c = c .match2 .keys2
 
 enum-known-place-2 : tie.Need-enum-known-place-2
-enum-known-place-2 c = search needs
+enum-known-place-2 c = c .match .keys2
 
 returns : tie.Need-returns
 returns c =
