@@ -9,7 +9,7 @@ use borrow.Author.Tests.{leb-true}
 use Rattle.definitions.specs.Limits.{numbersPerSpan, numbersPerBoundary, numbersPerAnchor}
 use Rattle.definitions.specs.Lists.{overwrite}
 use Rattle.definitions.specs.Sheet.{wellFormed, refused, readSheet, roomFor}
-use Rattle.laws.specs.Tests.{both}
+use Rattle.laws.specs.ListLaws.Tests.{both}
 use Rattle.sheet.specs.Parts.{partOf, cellsIn, sheetOf, SheetHeld, roomIn, Room}
 use Rattle.sheet.specs.Answers.{headerOf, headerIn, Answered, readingWithin}
 use Rattle.sheet.specs.declared.Parts.{Parts}

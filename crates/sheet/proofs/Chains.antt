@@ -8,7 +8,7 @@ use borrow.Author.Tests.{le-leb, lt-leb, eq-eqb, ne-eqb}
 use Rattle.definitions.specs.Limits.{isSide, maxEntries, numbersPerSpan, numbersPerBoundary, numbersPerAnchor}
 use Rattle.definitions.specs.SheetNumber.{Read, found, failed, number}
 use Rattle.definitions.specs.Sheet.{Reader, andThen, give, times, judged, kind, cell, area, entries, end, Sheet, wellFormed, refused, reading, sheet, readSheet}
-use Rattle.laws.specs.SheetLaws.{Keeps, keeps-number, keeps-judged, keeps-then, keeps-check, then-found, then-failed}
+use Rattle.laws.specs.SheetReading.SheetLaws.{Keeps, keeps-number, keeps-judged, keeps-then, keeps-check, then-found, then-failed}
 use Rattle.sheet.specs.Parts.{opening, Extent, sides, Content, lists}
 
 -- ---- the kind and the pass

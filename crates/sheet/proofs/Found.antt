@@ -10,7 +10,7 @@ use lib.Dec.{leb}
 use Rattle.definitions.specs.Limits.{isSide, maxEntries, numbersPerSpan, numbersPerBoundary, numbersPerAnchor}
 use Rattle.definitions.specs.SheetNumber.{found, failed, number}
 use Rattle.definitions.specs.Sheet.{cell, entries}
-use Rattle.laws.specs.SheetLaws.{keeps-number, keeps-entries, keeps-times, ends-inside}
+use Rattle.laws.specs.SheetReading.SheetLaws.{keeps-number, keeps-entries, keeps-times, ends-inside}
 use Rattle.sheet.specs.Numbers.{upTo, itemsAt, Told}
 use Rattle.sheet.specs.Parts.{opening, sides, lists, contentOf, SidesHeld, EntriesHeld, ListsHeld, SheetHeld}
 use Rattle.sheet.specs.declared.Part.{Part}

@@ -10,7 +10,7 @@ use lib.ListN.{length, drop, getD, drop-of-length-le}
 use lib.Seq.{drop-cons}
 use lib.Pow.{pow-add, pow-mono}
 use Rattle.definitions.specs.SheetNumber.{found, failed, withGroup, tooLong, groups, number}
-use Rattle.laws.specs.SheetLaws.{groups-long, groups-more, groups-last, not-tenth, below-next, within-64}
+use Rattle.laws.specs.SheetReading.SheetLaws.{groups-long, groups-more, groups-last, not-tenth, below-next, within-64}
 
 -- Of the number at `at`, the groups before `next` have this value, and reading on from there gives the number.
 pub record Groups (bytes : List ℕ) (at value scale group next : ℕ) : Type 0 where

@@ -9,7 +9,7 @@ use lib.Dec.{leb}
 use borrow.Author.Tests.{leb-true, le-leb, lt-leb}
 use Rattle.definitions.specs.SheetNumber.{Read, found, failed, number}
 use Rattle.definitions.specs.Sheet.{andThen, check, judged, cell}
-use Rattle.laws.specs.SheetLaws.{Keeps, not-found, judged-all, keeps-judged}
+use Rattle.laws.specs.SheetReading.SheetLaws.{Keeps, not-found, judged-all, keeps-judged}
 use Rattle.sheet.specs.Numbers.{upTo}
 
 pub upTo-all : upTo 0xffff_ffff_ffff_ffff ≡ number
