@@ -106,7 +106,7 @@ class Mutated:
 
 # ---- the corpus
 
-PASS_MODULES = {'RampMouths': (1,), 'RampGeometry': (1,), 'RampInteriors': (1, 2), 'Junctions': (3,), 'Geometry': (1, 2, 3), 'RegionRecord': (1, 2, 3), 'Context': (1, 2, 3)}
+PASS_MODULES = {'MouthShapes': (1,), 'RampMouths': (1,), 'RampGeometry': (1,), 'RampInteriors': (1, 2), 'Junctions': (3,), 'Geometry': (1, 2, 3), 'RegionRecord': (1, 2, 3), 'Context': (1, 2, 3)}
 SHEET_MODULES = ('SheetNumber', 'Sheet', 'Printed', 'Limits', 'Lists')
 CALL_MODULES = ('Refusals', 'Verdict', 'AtExit', 'Limits', 'Lists', 'Scan')
 

@@ -560,7 +560,7 @@ class Gen:
 
 
 SPEC_MODULES = ['Limits', 'Lists', 'Scan', 'Sort', 'Grid', 'Spans', 'Partition', 'Hypotenuse', 'Geometry', 'RampGeometry', 'RegionRecord', 'Context',
-                'RampMouths', 'RampInteriors', 'Junctions', 'Rows', 'Refusals', 'Verdict', 'AtExit', 'SheetNumber', 'Sheet', 'Printed']
+                'MouthShapes', 'RampMouths', 'RampInteriors', 'Junctions', 'Rows', 'Refusals', 'Verdict', 'AtExit', 'SheetNumber', 'Sheet', 'Printed']
 FAST = {'Scan': ['anyBelow', 'allBelow', 'countBelow', 'collect', 'gather', 'any', 'all', 'filter', 'concatMap', 'run', 'member', 'addNew', 'addAll'],
         'Sort': ['insert', 'sortOnto', 'sort', 'select', 'listLt'],
         'Partition': ['mergeAll', 'uncut', 'roots', 'labels', 'regionCount'],
@@ -569,7 +569,7 @@ ROOTS = ['Grid.mapOf', 'Grid.onward', 'Spans.cutSteps', 'Spans.candidatePosition
          'Partition.mergeAll', 'Partition.roots', 'Partition.labels', 'Partition.regionCount', 'Partition.pairsOf', 'Context.contextOf', 'RegionRecord.regionOf',
          'RegionRecord.emptyRegion', 'RegionRecord.least', 'RegionRecord.most', 'RegionRecord.dominantElevation', 'RegionRecord.strictlyFlat',
          'Geometry.pointSegmentDistance', 'RampGeometry.segmentDistance', 'RampGeometry.isNearbyParallelRepresentative',
-         'RampGeometry.overlappingRampRepresentative', 'RampMouths.mouthShape', 'RampMouths.proposals', 'RampMouths.taken', 'RampInteriors.proposals',
+         'RampGeometry.overlappingRampRepresentative', 'MouthShapes.mouthShape', 'RampMouths.proposals', 'RampMouths.taken', 'RampInteriors.proposals',
          'RampInteriors.taken', 'Junctions.proposals', 'Junctions.taken', 'Rows.rowsOf', 'Rows.flatRows', 'Verdict.verdict', 'Verdict.partitionVerdict',
          'Verdict.pairRowsOf', 'Verdict.firstRefusal', 'AtExit.talliesOf', 'AtExit.recordsOf', 'AtExit.callExit', 'AtExit.partitionExit', 'Refusals.firstBelow',
          'Sheet.readSheet', 'Sheet.readVerdict', 'Sheet.readingNumber', 'Sheet.readingPlace', 'Sheet.atExit', 'Printed.keptlist', 'Printed.decimal']
