@@ -1,0 +1,14 @@
+// What the passes read of a partitioned map: a region's record by value, and the context as plain lists.
+
+// The record of a region, as RegionStats of context.rs: document 01, 'Context'. Edges are in pixels; bit e of `elevations` says that a cell has elevation e.
+#[repr(C)]
+pub struct Region {
+    pub cells: usize,
+    pub min_x: f64,
+    pub min_y: f64,
+    pub max_x: f64,
+    pub max_y: f64,
+    pub has_ramp: bool,
+    pub elevations: u8,
+    pub elevation_counts: [usize; 4],
+}
