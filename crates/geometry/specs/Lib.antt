@@ -1,1 +1,3 @@
 pub mod Forms
+pub mod Representatives
+pub mod AtPoints
