@@ -1,4 +1,4 @@
-// Operations of Rust's doubles that Rattle lacks.
+// Operations of Rust's numbers that Rattle lacks, and the hypotenuse by its value.
 ghost use mathlib.Core.Path.{_≡_};
 ghost use Prim.Native.Nat.{_≤_};
 ghost use Rattle.definitions.specs.Geometry.{float, clamp01};

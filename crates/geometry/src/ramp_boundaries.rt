@@ -1,6 +1,6 @@
 // How far two boundaries are apart, and when one represents the other. Endpoints are at most 8,192, so that a product of two differences is at most 2^26, and i64 serves for the Rust's i128.
 ghost use mathlib.Core.Path.{_≡_};
-ghost use lib.Ieee.{binary64, add, sub, mul, div};
+ghost use lib.Ieee.{binary64, div};
 ghost use Rattle.definitions.specs.Geometry.{point, distance, pointSegmentDistance};
 ghost use Rattle.definitions.specs.RampGeometry.{fabs, intersects, segmentDistance, isNearbyParallelRepresentative, overlappingRampRepresentative};
 ghost use Rattle.laws.specs.FloatLaws.Pixels.{PixelSegment};
@@ -92,7 +92,8 @@ fn cosine(s: Segment, t: Segment, lengths: f64) -> f64
     fabs(
         difference(s.b.x, s.a.x) * difference(t.b.x, t.a.x)
             + difference(s.b.y, s.a.y) * difference(t.b.y, t.a.y),
-    ) / lengths
+    )
+        / lengths
 }
 
 // Whether canonical endpoints are near each other, one by one, and the boundaries nearly parallel.
@@ -120,7 +121,8 @@ fn normal_offset(ramp: Segment, ramp_length: f64, p: PixelPosition) -> f64
     fabs(
         difference(p.x, ramp.a.x) * difference(ramp.b.y, ramp.a.y)
             - difference(p.y, ramp.a.y) * difference(ramp.b.x, ramp.a.x),
-    ) / ramp_length
+    )
+        / ramp_length
 }
 
 // How far along the ramp a position lies, from its first endpoint.

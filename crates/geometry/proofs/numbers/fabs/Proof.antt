@@ -1,12 +1,12 @@
 -- `numbers::fabs` meets its contract. A double below 0 has its sign set; one that is 0 is written with 0 alone, whatever its sign; any other has its sign clear.
 -- Assumes nothing.
 use mathlib.Core.Path.{_≡_, refl, sym, _∙_, subst}
-use mathlib.Core.Bool.{Bool, true, false, true≢false, false≢true, _&&_}
+use mathlib.Core.Bool.{true, false, true≢false, false≢true, _&&_}
 use Prim.Native.Nat.{ℕ, zero, suc, _+_, _*_, _^_, _<_, _≤_}
 use native.Mathlib.Nat.{zero-mul, mul-pos, pow-suc, zero-lt-suc}
 use native.Mathlib.Omega.{arith}
 use lib.Dec.{T, eqb, eqb→eq}
-use lib.IntN.{ℤ, pos, negsuc}
+use lib.IntN.{pos, negsuc}
 use lib.Ieee.{Float, nan, inf, fin, binary64, up, down, neg, lt, eq, fits, ofBits}
 use lib.Ieee.Fits.{up-pos}
 use borrow.Author.Tests.{ltb-true, ltb-false, eqb-true, eq-eqb}

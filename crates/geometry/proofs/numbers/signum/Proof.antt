@@ -1,5 +1,4 @@
 -- `numbers::signum` meets its contract: by the two tests, whatever the number. Assumes nothing.
-use borrow.Author.Needs.{needs}
 use mathlib.Core.Path.{_≡_, refl, sym, ap, _∙_}
 use mathlib.Core.Bool.{Bool, false, cond}
 use Prim.Native.Nat.{zero, suc}
@@ -25,13 +24,13 @@ by-tests : (z : ℤ) {p q : Bool} → toZ w64 (ofZ w64 z) ≡ z → p ≡ isZero
 by-tests z r e f = (λ i. cond ((e ∙ ap isZero r) i) 1 (cond ((f ∙ ap nonNeg r) i) 2 0)) ∙ by-sign z
 
 is-zero-requires : tie.Need-is-zero-requires
-is-zero-requires c κs = search needs
+is-zero-requires c κs = tt
 
 returns : tie.Need-returns
 returns c = by-tests (c .before .before .args .z) (toZ-ofZ (c .before .before .fits .z)) (sym (c .if1 .taken) ∙ c .before .is-zero .ensures) refl
 
 not-negative-requires : tie.Need-not-negative-requires
-not-negative-requires c κs = search needs
+not-negative-requires c κs = tt
 
 -- what both ways have in common
 module _ (c : tie.After-not-negative) where

@@ -1,8 +1,7 @@
 -- `ramp_boundaries::cosine` meets its contract: the numbers are what `difference` ensures. Assumes nothing.
 use borrow.Author.Needs.{needs}
-use mathlib.Core.Path.{ap, _∙_}
-use lib.Ieee.{binary64, add, mul, div}
-use Rattle.definitions.specs.RampGeometry.{fabs}
+use lib.Ieee.{binary64, add}
+use Rattle.geometry.proofs.Quotients.{quotient-of}
 use Rattle.geometry.proofs.ramp_boundaries.cosine.Statement.{statement}
 use Rattle.geometry.proofs.ramp_boundaries.cosine.Tie as tie
 
@@ -19,14 +18,13 @@ difference-requires-4 : tie.Need-difference-requires-4
 difference-requires-4 c κs = search needs
 
 fabs-requires : tie.Need-fabs-requires
-fabs-requires c κs = search needs
+fabs-requires c κs = tt
 
 returns : tie.Need-returns
 returns c =
     let d = c .before in
-    ap (λ z. div binary64 z (d .before .before .before .before .args .lengths))
-    (c .fabs .ensures
-    ∙ (λ i. fabs (add binary64 (mul binary64 (d .before .before .before .difference .ensures i) (d .before .before .difference2 .ensures i)) (mul binary64 (d .before .difference3 .ensures i) (d .difference4 .ensures i)))))
+    quotient-of (add binary64) (d .before .before .before .before .args .lengths) (d .before .before .before .difference .ensures) (d .before .before .difference2 .ensures)
+    (d .before .difference3 .ensures) (d .difference4 .ensures) (c .fabs .ensures)
 
 pub cosine-spec : {M : Type 1} → statement M
 cosine-spec =

@@ -17,7 +17,7 @@ point-requires-3 : tie.Need-point-requires-3
 point-requires-3 c κs = search needs
 
 point-segment-distance-requires : tie.Need-point-segment-distance-requires
-point-segment-distance-requires c κs = search needs
+point-segment-distance-requires c κs = tt
 
 returns : tie.Need-returns
 returns c =

@@ -1,5 +1,4 @@
 -- `ramp_boundaries::intersects` meets its contract: its five tests are those of the definition, each as its function ensures. Assumes nothing.
-use borrow.Author.Needs.{needs}
 use mathlib.Core.Path.{_≡_, ap, _∙_}
 use mathlib.Core.Bool.{Bool, not, _&&_, _||_}
 use Prim.Native.Nat.{ℕ, _^_, _<_}
@@ -9,48 +8,49 @@ use lib.Signed.{mag}
 use mir.Syntax.{w64}
 use mir.Val.{toZ, ofZ}
 use mir.Facts.{toZ-ofZ}
-use Rattle.definitions.specs.Grid.{Segment, Position}
+use Rattle.definitions.specs.Grid.{Position}
 use Rattle.definitions.specs.Spans.{cross, isZero, onSegment}
 use Rattle.definitions.specs.RampGeometry.{signum, intersects}
 use Rattle.geometry.specs.Forms.{segmentForm}
+use Rattle.geometry.proofs.Ends.{limits}
 use Rattle.geometry.proofs.ramp_boundaries.intersects.Statement.{statement}
 use Rattle.geometry.proofs.ramp_boundaries.intersects.Tie as tie
 
 cross-requires : tie.Need-cross-requires
-cross-requires c κs = search needs
+cross-requires c κs = (limits (c .pre .0 .first), limits (c .pre .0 .second), limits (c .pre .1 .first))
 
 cross-requires-2 : tie.Need-cross-requires-2
-cross-requires-2 c κs = search needs
+cross-requires-2 c κs = (limits (c .before .pre .0 .first), limits (c .before .pre .0 .second), limits (c .before .pre .1 .second))
 
 cross-requires-3 : tie.Need-cross-requires-3
-cross-requires-3 c κs = search needs
+cross-requires-3 c κs = (limits (c .before .before .pre .1 .first), limits (c .before .before .pre .1 .second), limits (c .before .before .pre .0 .first))
 
 cross-requires-4 : tie.Need-cross-requires-4
-cross-requires-4 c κs = search needs
+cross-requires-4 c κs = (limits (c .before .before .before .pre .1 .first), limits (c .before .before .before .pre .1 .second), limits (c .before .before .before .pre .0 .second))
 
 touches-requires : tie.Need-touches-requires
-touches-requires c κs = search needs
+touches-requires c κs = tt
 
 touches-requires-2 : tie.Need-touches-requires-2
-touches-requires-2 c κs = search needs
+touches-requires-2 c κs = tt
 
 touches-requires-3 : tie.Need-touches-requires-3
-touches-requires-3 c κs = search needs
+touches-requires-3 c κs = tt
 
 touches-requires-4 : tie.Need-touches-requires-4
-touches-requires-4 c κs = search needs
+touches-requires-4 c κs = tt
 
 signum-requires : tie.Need-signum-requires
-signum-requires c κs = search needs
+signum-requires c κs = tt
 
 signum-requires-2 : tie.Need-signum-requires-2
-signum-requires-2 c κs = search needs
+signum-requires-2 c κs = tt
 
 signum-requires-3 : tie.Need-signum-requires-3
-signum-requires-3 c κs = search needs
+signum-requires-3 c κs = tt
 
 signum-requires-4 : tie.Need-signum-requires-4
-signum-requires-4 c κs = search needs
+signum-requires-4 c κs = tt
 
 -- A side value that a call gave, as its bits are read: z is the result, y what the call ensures of it. With it, what a test of that value answers.
 module _ {y z : ℤ} (fit : mag z < 2 ^ 63) (e : z ≡ y) where

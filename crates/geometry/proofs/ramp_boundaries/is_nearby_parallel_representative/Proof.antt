@@ -1,7 +1,6 @@
 -- `ramp_boundaries::is_nearby_parallel_representative` meets its contract: its four tests are the definition's, of canonical endpoints. Assumes nothing.
-use borrow.Author.Needs.{needs}
 use mathlib.Core.Path.{_≡_, refl, sym, _∙_}
-use mathlib.Core.Bool.{Bool, true, false, not, _&&_}
+use mathlib.Core.Bool.{Bool, false, not, _&&_}
 use lib.Ieee.{Float, binary64, mul, div, lt, le}
 use Rattle.definitions.specs.Grid.{Segment, canonical}
 use Rattle.definitions.specs.Geometry.{float, point, distance}
@@ -59,7 +58,7 @@ canonical-requires-2 : tie.Need-canonical-requires-2
 canonical-requires-2 c κs = tt
 
 offset-requires : tie.Need-offset-requires
-offset-requires c κs = (limits (c .before .canonical .result .a) (s-in c .first), limits (c .canonical2 .result .a) (t-in c .first))
+offset-requires c κs = (limits (s-in c .first), limits (t-in c .first))
 
 returns : tie.Need-returns
 returns c = answer (c .before .before) (sym (c .if1 .taken) ∙ (λ i. lt (max-representative-offset-is i) (c .before .offset .ensures i))) refl refl refl
@@ -71,7 +70,7 @@ near-starts c = sym (c .if1 .left) ∙ (λ i. lt (max-representative-offset-is i
 offset-requires-2 : tie.Need-offset-requires-2
 offset-requires-2 c κs =
     let d = c .before .before in
-    (limits (d .before .canonical .result .b) (s-in d .second), limits (d .canonical2 .result .b) (t-in d .second))
+    (limits (s-in d .second), limits (t-in d .second))
 
 returns-2 : tie.Need-returns-2
 returns-2 c =

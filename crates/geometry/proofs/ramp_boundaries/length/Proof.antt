@@ -16,7 +16,7 @@ difference-requires-2 : tie.Need-difference-requires-2
 difference-requires-2 c κs = search needs
 
 hypot-requires : tie.Need-hypot-requires
-hypot-requires c κs = search needs
+hypot-requires c κs = tt
 
 returns : tie.Need-returns
 returns c =

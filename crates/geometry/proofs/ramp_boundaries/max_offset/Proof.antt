@@ -12,7 +12,7 @@ normal-offset-requires-2 : tie.Need-normal-offset-requires-2
 normal-offset-requires-2 c κs = search needs
 
 fmax-requires : tie.Need-fmax-requires
-fmax-requires c κs = search needs
+fmax-requires c κs = tt
 
 returns : tie.Need-returns
 returns c = c .fmax .ensures ∙ (λ i. fmax (c .before .before .normal-offset .ensures i) (c .before .normal-offset2 .ensures i))

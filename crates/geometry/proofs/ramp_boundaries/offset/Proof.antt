@@ -13,7 +13,7 @@ point-requires-2 : tie.Need-point-requires-2
 point-requires-2 c κs = search needs
 
 distance-requires : tie.Need-distance-requires
-distance-requires c κs = search needs
+distance-requires c κs = tt
 
 returns : tie.Need-returns
 returns c =

@@ -1,7 +1,7 @@
 -- `ramp_boundaries::overlapping_ramp_representative` meets its contract: its five tests are the definition's, of canonical endpoints. Assumes nothing.
 use mathlib.Core.Path.{_≡_, refl, sym, _∙_}
 use mathlib.Core.Bool.{Bool, false, not, _&&_}
-use lib.Ieee.{Float, binary64, mul, div, lt, le, eq, ofBits}
+use lib.Ieee.{binary64, mul, div, lt, le, eq, ofBits}
 use Rattle.definitions.specs.Grid.{Segment, canonical}
 use Rattle.definitions.specs.Geometry.{float}
 use Rattle.definitions.specs.RampGeometry.{maxOverlayNormalOffset, minOverlayFraction, minParallelCosine, fabs, fmin, overlappingRampRepresentative}

@@ -23,6 +23,16 @@ leastOf s t =
     (pointSegmentDistance (point (t .a)) (point (s .a)) (point (s .b))))
     (pointSegmentDistance (point (t .b)) (point (s .a)) (point (s .b)))
 
+-- r is what the last `fmin` answers
+least : {p q u v a b c d m n r : Float} → p ≡ a → q ≡ b → u ≡ c → v ≡ d → m ≡ fmin p q → n ≡ fmin m u → r ≡ fmin n v → r ≡ fmin (fmin (fmin a b) c) d
+least {p} {q} {u} {v} {a} {b} {c} {d} {m} {n} e f g h k l o = o ∙ (λ i. fmin (three i) (h i))
+  where
+    two : m ≡ fmin a b
+    two = k ∙ (λ i. fmin (e i) (f i))
+
+    three : n ≡ fmin (fmin a b) c
+    three = l ∙ (λ i. fmin (two i) (g i))
+
 by-test : (s t : Segment) {b m : Bool} → m ≡ intersects s t → m ≡ b → cond b (float 0) (leastOf s t) ≡ segmentDistance s t
 unfolding segmentDistance
 by-test s t e h = ap (λ b. cond b (float 0) (leastOf s t)) (sym h ∙ e)
@@ -45,24 +55,21 @@ endpoint-distance-requires-4 : tie.Need-endpoint-distance-requires-4
 endpoint-distance-requires-4 c κs = search needs
 
 fmin-requires : tie.Need-fmin-requires
-fmin-requires c κs = search needs
+fmin-requires c κs = tt
 
 fmin-requires-2 : tie.Need-fmin-requires-2
-fmin-requires-2 c κs = search needs
+fmin-requires-2 c κs = tt
 
 fmin-requires-3 : tie.Need-fmin-requires-3
-fmin-requires-3 c κs = search needs
+fmin-requires-3 c κs = tt
 
 returns-2 : tie.Need-returns-2
 returns-2 c =
     let first = c .before .before .before .before .before .before in
     let test = first .before in
     let start = test .before .before .args in
-    c .fmin3 .ensures
-    ∙ (λ i.
-    fmin ((c .before .fmin2 .ensures ∙ (λ j. fmin ((c .before .before .fmin .ensures ∙ (λ k. fmin (first .endpoint-distance .ensures k) (c .before .before .before .before .before .endpoint-distance2 .ensures k))) j)
-    (c .before .before .before .before .endpoint-distance3 .ensures j))) i)
-    (c .before .before .before .endpoint-distance4 .ensures i))
+    least (first .endpoint-distance .ensures) (c .before .before .before .before .before .endpoint-distance2 .ensures) (c .before .before .before .before .endpoint-distance3 .ensures)
+    (c .before .before .before .endpoint-distance4 .ensures) (c .before .before .fmin .ensures) (c .before .fmin2 .ensures) (c .fmin3 .ensures)
     ∙ by-test (segmentForm (start .left)) (segmentForm (start .right)) (test .before .intersects .ensures) (test .if1 .left)
 
 pub segment-distance-spec : {M : Type 1} → statement M
