@@ -58,7 +58,8 @@ returns c =
     let left = ends .before .canonical in
     let right = ends .canonical2 in
     let s = ends .before .before .args in
-    by-keys (segmentForm (s .s)) (segmentForm (s .t)) (segmentForm (left .result)) (segmentForm (right .result)) (left .ensures) (right .ensures) (c .before .before .before .before .before .precedes .ensures) (c .precedes2 .ensures)
+    by-keys (segmentForm (s .s)) (segmentForm (s .t)) (segmentForm (left .result)) (segmentForm (right .result)) (left .ensures) (right .ensures)
+    (c .before .before .before .before .before .precedes .ensures) (c .precedes2 .ensures)
 
 pub precedes-spec : {M : Type 1} → statement M
 precedes-spec =

@@ -2,7 +2,7 @@
 use borrow.Author.Needs.{needs}
 use Rattle.laws.specs.FloatLaws.PassRange.{positions-in-range}
 use Rattle.geometry.specs.AtPoints.{distance-at}
-use Rattle.geometry.proofs.Ends.{pixel}
+use Rattle.geometry.specs.Ends.{pixel}
 use Rattle.geometry.proofs.ramp_boundaries.offset.Statement.{statement}
 use Rattle.geometry.proofs.ramp_boundaries.offset.Tie as tie
 
