@@ -14,3 +14,4 @@ pub mod Disjunction
 pub mod FirstBelow
 pub mod NoFault
 pub mod FlatRows
+pub mod Overwritten

@@ -1,0 +1,22 @@
+-- Stores behind what a list begins with. Assumes nothing.
+use Prim.Native.Nat.{ℕ, suc, _+_, _≤_, _<_}
+use native.Mathlib.Omega.{arith}
+use mathlib.Core.Path.{_≡_, sym, ap, ap₂, _∙_}
+use mathlib.Core.List.{List, [], _∷_, _++_}
+use lib.ListN.{length, drop, set, length-append}
+use lib.Seq.{sets, sets-eq, take-append-seam, drop-append-add, set-append-seam, drop-cons, append-snoc}
+use Rattle.definitions.specs.Lists.{overwrite}
+
+module _ {A : Type 0} where
+  pub sets-behind : (p q vs : List A) (n : ℕ) → n ≡ length p → length vs ≤ length q → sets (p ++ q) n vs ≡ (p ++ vs) ++ drop (length vs) q
+  sets-behind p q vs n e h =
+      rw e
+      (sets-eq vs (p ++ q) (length p) (simp length-append (omega arith))
+      ∙ ap₂ (λ l m. (l ++ vs) ++ m) (take-append-seam p q) (drop-append-add p q (length vs)))
+
+  -- one more entry is written
+  pub overwrite-more : (new old : List A) (v : A) (n : ℕ) → n ≡ length new → n < length old → set (overwrite new old) n v ≡ overwrite (new ++ (v ∷ [])) old
+  overwrite-more new old v n e h =
+      let one : suc (length new) ≡ length (new ++ (v ∷ [])) = simp length-append (omega arith) in
+      rw (e, drop-cons old (length new) v (omega arith))
+      (set-append-seam new _ (drop (suc (length new)) old) v ∙ sym (append-snoc new v (drop (suc (length new)) old)) ∙ ap (λ k. (new ++ (v ∷ [])) ++ drop k old) one)
