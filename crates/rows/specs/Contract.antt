@@ -25,6 +25,7 @@ pub record Opened (output : List ℕ) (rows : ℕ) (x : Row) (place : ℕ) (outp
   pub back : List Row
   pub inserted : insert before x (rowsIn rows output) ≡ front ++ (x ∷ back)
   pub length-is : place ≡ length front
+  pub below : place ≤ rows
   pub held : output′ ≡ flatRows (front ++ (hole ∷ back)) ++ drop (numbersPerRow * (rows + 1)) output
 
 -- the boundary was not removed

@@ -1,10 +1,10 @@
 -- Stores behind what a list begins with. Assumes nothing.
-use Prim.Native.Nat.{ℕ, suc, _+_, _≤_, _<_}
+use Prim.Native.Nat.{ℕ, suc, _+_, _-_, _≤_, _<_}
 use native.Mathlib.Omega.{arith}
 use mathlib.Core.Path.{_≡_, sym, ap, ap₂, _∙_}
 use mathlib.Core.List.{List, [], _∷_, _++_}
 use lib.ListN.{length, drop, set, length-append}
-use lib.Seq.{sets, sets-eq, take-append-seam, drop-append-add, set-append-seam, drop-cons, append-snoc}
+use lib.Seq.{sets, sets-eq, take-append-seam, drop-append-add, set-append-seam, drop-cons, drop-drop, append-snoc}
 use Rattle.definitions.specs.Lists.{overwrite}
 
 module _ {A : Type 0} where
@@ -20,3 +20,9 @@ module _ {A : Type 0} where
       let one : suc (length new) ≡ length (new ++ (v ∷ [])) = simp length-append (omega arith) in
       rw (e, drop-cons old (length new) v (omega arith))
       (set-append-seam new _ (drop (suc (length new)) old) v ∙ sym (append-snoc new v (drop (suc (length new)) old)) ∙ ap (λ k. (new ++ (v ∷ [])) ++ drop k old) one)
+
+  -- what is written again
+  pub overwrite-twice : (new mid old : List A) → length mid ≤ length new → overwrite new (overwrite mid old) ≡ overwrite new old
+  overwrite-twice new mid old h =
+      let e : length mid + (length new - length mid) ≡ length new = omega arith in
+      ap (λ l. new ++ l) (ap (λ n. drop n (overwrite mid old)) (sym e) ∙ drop-append-add mid (drop (length mid) old) (length new - length mid) ∙ drop-drop (length new - length mid) (length mid) old ∙ ap (λ n. drop n old) e)
