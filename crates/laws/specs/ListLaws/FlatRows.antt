@@ -4,7 +4,7 @@ use native.Mathlib.Omega.{arith}
 use mathlib.Core.Path.{_≡_, refl, sym, ap, _∙_}
 use mathlib.Core.List.{List, [], _∷_, _++_}
 use lib.ListN.{length, getD, drop, length-append}
-use lib.Seq.{getD-append-add}
+use lib.Seq.{getD-append-add, getD-drop}
 use Rattle.definitions.specs.Grid.{at}
 use Rattle.definitions.specs.Rows.{Row, flatRows}
 
@@ -31,6 +31,25 @@ pub rows-length : (k : ℕ) (l : List ℕ) → length (rowsIn k l) ≡ k
 unfolding rowsIn
 rows-length zero l = refl
 rows-length (suc k) l = ap suc (rows-length k (drop 5 l))
+
+-- one row more
+pub rows-next : (k : ℕ) (l : List ℕ) → rowsIn (suc k) l ≡ rowsIn k l ++ (rowAt l (5 * k) ∷ [])
+unfolding rowsIn
+rows-next zero l = refl
+rows-next (suc k) l = ap {B = List Row} (λ t. rowAt l 0 ∷ t) (rows-next k (drop 5 l) ∙ ap (λ r. rowsIn k (drop 5 l) ++ (r ∷ [])) later)
+  where
+    place : (j : ℕ) → getD (drop 5 l) (5 * k + j) 0 ≡ getD l (5 * suc k + j) 0
+    place j =
+        let e : 5 + (5 * k + j) ≡ 5 * suc k + j = omega arith in
+        getD-drop 5 l (5 * k + j) 0 ∙ ap (λ n. getD l n 0) e
+
+    first : getD (drop 5 l) (5 * k) 0 ≡ getD l (5 * suc k) 0
+    first =
+        let e : 5 + 5 * k ≡ 5 * suc k = omega arith in
+        getD-drop 5 l (5 * k) 0 ∙ ap (λ n. getD l n 0) e
+
+    later : rowAt (drop 5 l) (5 * k) ≡ rowAt l (5 * suc k)
+    later = λ i. record { number = first i; line = record { a = at (place 1 i) (place 2 i); b = at (place 3 i) (place 4 i) } }
 
 -- what rows were written is read
 pub rows-of-flat : (l : List Row) (rest : List ℕ) → rowsIn (length l) (flatRows l ++ rest) ≡ l
