@@ -28,14 +28,14 @@ pub record Opened (output : List ℕ) (rows : ℕ) (x : Row) (place : ℕ) (outp
   pub below : place ≤ rows
   pub held : output′ ≡ flatRows (front ++ (hole ∷ back)) ++ drop (numbersPerRow * (rows + 1)) output
 
--- the boundary was not removed
-abbrev pub isLeft : List Bool → ℕ → Bool
-isLeft removed i = not (getD removed i false)
+-- the mark of boundary i is not set
+abbrev pub notRemoved : List Bool → ℕ → Bool
+notRemoved removed i = not (getD removed i false)
 
 -- the rows with that of boundary i among them, if it is kept
 abbrev pub withBoundary : List ℕ → List Bool → ℕ → List Row → List Row
-withBoundary boundaries removed i rows = sortOnto before rows (toList (onlyIf (isLeft removed i) (canonicalRow boundaries i)))
+withBoundary boundaries removed i rows = sortOnto before rows (toList (onlyIf (notRemoved removed i) (canonicalRow boundaries i)))
 
 -- the kept boundaries' rows
 abbrev pub keptRows : List ℕ → ℕ → List Bool → List Row
-keptRows boundaries count removed = rowsFrom count (λ i. boundaryAt boundaries (numbersPerBoundary * i)) (isLeft removed)
+keptRows boundaries count removed = rowsFrom count (λ i. boundaryAt boundaries (numbersPerBoundary * i)) (notRemoved removed)

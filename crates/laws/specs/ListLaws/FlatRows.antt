@@ -1,9 +1,9 @@
 -- Rows as the output holds them, five numbers a row: reading them back. Assumes nothing.
 use Prim.Native.Nat.{ℕ, zero, suc, _+_, _*_, _≤_}
 use native.Mathlib.Omega.{arith}
-use mathlib.Core.Path.{_≡_, refl, sym, ap, _∙_}
+use mathlib.Core.Path.{_≡_, refl, ap, _∙_}
 use mathlib.Core.List.{List, [], _∷_, _++_}
-use lib.ListN.{length, getD, drop, length-append}
+use lib.ListN.{length, getD, drop}
 use lib.Seq.{getD-append-add, getD-drop}
 use Rattle.definitions.specs.Grid.{at}
 use Rattle.definitions.specs.Rows.{Row, flatRows}
