@@ -11,7 +11,7 @@ use lib.ListN.{length, set, length-append, length-set}
 use lib.Seq.{sets}
 use Rattle.definitions.specs.Printed.{digits, decimal}
 use Rattle.laws.specs.ListLaws.Overwritten.{sets-append, sets-later}
-use Rattle.printed.specs.Answers.{Put}
+use Rattle.printed.specs.Answers.{mostDigits, Put}
 
 digits-last : (most n : ℕ) → n < 10 → digits (suc most) n ≡ (48 + n) ∷ []
 unfolding digits
@@ -52,7 +52,7 @@ shorter left (suc less) f h =
 pub record Counting (n left count : ℕ) : Type 0 where
   pub more : ℕ
   pub few : left < 10 ^ suc more
-  pub fits : more + count ≡ 20
+  pub fits : more + count ≡ mostDigits
   pub same : length (digits (suc more) left) + count ≡ length (decimal n) + 1
 
 pub counting-starts : (n : ℕ) → n < 2 ^ 64 → Counting n n 1
@@ -70,7 +70,7 @@ module _ {n left count : ℕ} (C : Counting n left count) where
         same = omega (arith, C .same, simp length-append at (ap length (s .same)));
       }
 
-  pub counting-ends : left < 10 → (count ≡ length (decimal n)) × (1 ≤ count) × (count ≤ 20)
+  pub counting-ends : left < 10 → (count ≡ length (decimal n)) × (1 ≤ count) × (count ≤ mostDigits)
   unfolding decimal
   counting-ends h =
       let e : count ≡ length (decimal n) = omega (arith, C .same, ap length (digits-last (C .more) left h)) in
@@ -87,7 +87,7 @@ pub record Writing (old : List ℕ) (at n : ℕ) (new : List ℕ) (left place : 
   pub long : length new ≡ length old
   pub same : sets new at (digits (suc more) left) ≡ sets old at (decimal n)
 
-pub writing-starts : (old : List ℕ) (at n count : ℕ) → n < 2 ^ 64 → at + 20 ≤ length old → (count ≡ length (decimal n)) × (1 ≤ count) × (count ≤ 20) → Writing old at n old n (at + count - 1)
+pub writing-starts : (old : List ℕ) (at n count : ℕ) → n < 2 ^ 64 → at + mostDigits ≤ length old → (count ≡ length (decimal n)) × (1 ≤ count) × (count ≤ mostDigits) → Writing old at n old n (at + count - 1)
 unfolding decimal
 writing-starts old at n count f r c =
     record { more = 19; few = omega arith; place-is = omega (arith, c .0, c .1); inside = omega (arith, c .1, c .2); long = refl; same = refl }

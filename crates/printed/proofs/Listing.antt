@@ -12,7 +12,7 @@ use Rattle.definitions.specs.Scan.{concatMap}
 use Rattle.definitions.specs.Rows.{Row, flatRows}
 use Rattle.definitions.specs.Printed.{keptLine, rowLine}
 use Rattle.laws.specs.ListLaws.FlatRows.{flat-length, rowAt, rowsIn, rows-next, rows-of-flat}
-use Rattle.printed.specs.Answers.{Put, KeptPrinted}
+use Rattle.printed.specs.Answers.{rowRoom, Put, KeptPrinted}
 use Rattle.printed.proofs.Places.{put-then, printed}
 
 concat-last : (l : List Row) (r : Row) → concatMap rowLine (l ++ (r ∷ [])) ≡ concatMap rowLine l ++ rowLine r
@@ -22,19 +22,19 @@ concat-last (s ∷ l) r = ap (λ t. rowLine s ++ t) (concat-last l r) ∙ sym (a
 
 pub record Listing (old : List ℕ) (at : ℕ) (output : List ℕ) (kept : ℕ) (new : List ℕ) (next k : ℕ) : Type 0 where
   pub few : k ≤ kept
-  pub room : at + 105 * kept ≤ length old
+  pub room : at + rowRoom * kept ≤ length old
   pub rows-in : 5 * kept ≤ length output
-  pub next-few : next ≤ at + 105 * k
+  pub next-few : next ≤ at + rowRoom * k
   pub long : length new ≡ length old
   pub put : Put old at (concatMap rowLine (rowsIn k output)) new next
 
 module _ {old output : List ℕ} {at kept : ℕ} where
-  pub listing-starts : at + 105 * kept ≤ length old → 5 * kept ≤ length output → Listing old at output kept old at 0
+  pub listing-starts : at + rowRoom * kept ≤ length old → 5 * kept ≤ length output → Listing old at output kept old at 0
   unfolding concatMap rowsIn
   listing-starts r s = record { few = omega arith; room = r; rows-in = s; next-few = omega arith; long = refl; put = record { stored = refl; next-is = sym (add-zero at) } }
 
   module _ {new : List ℕ} {next k : ℕ} (L : Listing old at output kept new next k) where
-    pub listing-goes-on : k < kept → {new′ : List ℕ} {next′ : ℕ} → length new′ ≡ length new → Put new next (rowLine (rowAt output (5 * k))) new′ next′ → next′ ≤ next + 105
+    pub listing-goes-on : k < kept → {new′ : List ℕ} {next′ : ℕ} → length new′ ≡ length new → Put new next (rowLine (rowAt output (5 * k))) new′ next′ → next′ ≤ next + rowRoom
         → Listing old at output kept new′ next′ (k + 1)
     listing-goes-on h l P n =
         record {
@@ -46,7 +46,7 @@ module _ {old output : List ℕ} {at kept : ℕ} where
           put = rw (add-one k, rows-next k output, concat-last (rowsIn k output) (rowAt output (5 * k))) (put-then (L .put) P);
         }
 
-    pub listing-ends : kept ≤ k → Put old at (concatMap rowLine (rowsIn kept output)) new next × (next ≤ at + 105 * kept)
+    pub listing-ends : kept ≤ k → Put old at (concatMap rowLine (rowsIn kept output)) new next × (next ≤ at + rowRoom * kept)
     listing-ends h =
         let e : k ≡ kept = omega (arith, L .few) in
         (rw e at (L .put), omega (arith, L .next-few))

@@ -1,4 +1,4 @@
--- What the functions that write bytes promise. Definitions only; assumes nothing.
+-- How much room the functions that write bytes ask for, and what they promise. Definitions only; assumes nothing.
 use Prim.Native.Nat.{ℕ, _+_, _*_}
 use mathlib.Core.Path.{_≡_}
 use mathlib.Core.List.{List, _++_}
@@ -9,6 +9,18 @@ use Rattle.definitions.specs.Lists.{overwrite}
 use Rattle.definitions.specs.Scan.{concatMap}
 use Rattle.definitions.specs.Rows.{Row, flatRows}
 use Rattle.definitions.specs.Printed.{keptLine, rowLine}
+
+-- the digits of a number of 64 bits
+abbrev pub mostDigits : ℕ
+mostDigits = 20
+
+-- room for five numbers, each with a byte behind it
+abbrev pub rowRoom : ℕ
+rowRoom = 105
+
+-- room for a refusal, or for the first line of the kept list, with bytes to spare
+abbrev pub lineRoom : ℕ
+lineRoom = 64
 
 -- the bytes stand at a place, and the next place is behind them
 pub record Put (old : List ℕ) (at : ℕ) (bytes new : List ℕ) (next : ℕ) : Type 0 where

@@ -26,7 +26,7 @@ returns c =
     let p2 = c .before .before in
     let p1 = p2 .before .before .before .before in
     let s = p1 .before .before .before .before .before .before in
-    kept-printed (s .args .output .now) (s .args .kept) (s .args .count) (s .pre .1) (search needs) (p1 .put-line .ensures .0) (p2 .put-rows .ensures .0)
+    (kept-printed (s .args .output .now) (s .args .kept) (s .args .count) (s .pre .1) (search needs) (p1 .put-line .ensures .0) (p2 .put-rows .ensures .0), search needs)
 
 pub print-kept-spec : {M : Type 1} → statement M
 print-kept-spec =

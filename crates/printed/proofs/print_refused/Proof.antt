@@ -19,7 +19,7 @@ same-length c = search needs
 
 returns : tie.Need-returns
 unfolding text refusedLine
-returns c = printed (search needs) (c .before .before .put-line .ensures .0)
+returns c = (printed (search needs) (c .before .before .put-line .ensures .0), search needs)
 
 pub print-refused-spec : {M : Type 1} → statement M
 print-refused-spec =
