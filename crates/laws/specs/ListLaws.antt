@@ -13,3 +13,5 @@ pub mod SortedMembers
 pub mod Disjunction
 pub mod FirstBelow
 pub mod NoFault
+pub mod FlatRows
+pub mod Overwritten

@@ -7,3 +7,4 @@ pub mod Orderings
 pub mod Ranks
 pub mod PairOrder
 pub mod PairInsertion
+pub mod BackInsertion

@@ -1,0 +1,32 @@
+-- `printed::digit_count` meets its contract. The loop's invariant is `Counting`: the digits of what is left are still to be counted. The measure is what is left.
+-- Assumes nothing.
+use native.Mathlib.Omega.{arith}
+use borrow.Author.Needs.{needs}
+use Rattle.printed.proofs.Digits.{Counting, counting-starts, counting-goes-on, counting-ends}
+use Rattle.printed.proofs.digit_count.Statement.{statement}
+use Rattle.printed.proofs.digit_count.Tie as tie
+
+abbrev Inv-loop : tie.InvT-loop
+Inv-loop n left₀ count₀ left count = Counting n left count
+
+abbrev μ-loop : tie.MeasureT-loop
+μ-loop n left₀ count₀ left count = left
+
+loop-holds : tie.Need-loop-holds Inv-loop μ-loop
+loop-holds c = counting-starts _ (search needs)
+
+add-count : tie.Need-add-count Inv-loop μ-loop
+add-count c = omega (arith, c .before .loop .inv .fits)
+
+loop-less : tie.Need-loop-less Inv-loop μ-loop
+loop-less c = omega arith
+
+loop-again : tie.Need-loop-again Inv-loop μ-loop
+loop-again c = counting-goes-on (c .before .loop .inv) (c .loop-test .taken)
+
+returns : tie.Need-returns Inv-loop μ-loop
+returns c = counting-ends (c .before .loop .inv) (c .loop-test .left)
+
+pub digit-count-spec : {M : Type 1} → statement M
+digit-count-spec =
+    tie.close (tie.spec Inv-loop μ-loop loop-holds add-count loop-less loop-again returns)
