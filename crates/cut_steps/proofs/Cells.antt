@@ -8,14 +8,16 @@ use mathlib.Core.List.{List}
 use lib.ListN.{getD}
 use lib.Arith.{digits-lt}
 use borrow.Author.Tests.{eq-eqb, ne-eqb}
+use Rattle.definitions.specs.Limits.{maxSide}
 use Rattle.definitions.specs.Grid.{Segment, at, walkable, isStep}
 use Rattle.span_geometry.specs.declared.SpanGeometry.{SpanGeometry}
+use Rattle.span_geometry.specs.Shapes.{Sound}
 use Rattle.flood.specs.Walk.{gridOf}
 use Rattle.flood.specs.Inner.{Nearby, Inside, Stepping}
 use Rattle.flood.proofs.StepTests.{step-inside, walkable-at}
 use Rattle.cut_steps.specs.CutSteps.{isCutOnward}
-use Rattle.cut_steps.specs.Cell.{CellAsked, OnwardAsked, CutDirections, onwardMask}
-use Rattle.cut_steps.proofs.Onward.{blocked, no-step, no-bits, mask-bits, mask-small}
+use Rattle.cut_steps.specs.Cell.{CellAsked, OnwardAsked, CutDirections, Far, onwardMask}
+use Rattle.cut_steps.proofs.Onward.{blocked, no-step, none-far, no-bits, mask-bits, mask-small}
 
 -- ---- one direction
 
@@ -39,6 +41,9 @@ module _ {w h : ℕ} {cells : List ℕ} {g : SpanGeometry} {x y : ℕ} (A : Cell
   pub in-grid : (y * w + x < h * w) × (h * w ≤ 1048576)
   in-grid = (digits-lt (A .inY) (A .inX), mul-le-mul (A .short) (A .narrow))
 
+  pub in-limits : Sound g × (x < maxSide) × (y < maxSide)
+  in-limits = (A .sound, omega (arith, A .inX, A .narrow), omega (arith, A .inY, A .short))
+
   pub walks : getD cells (y * w + x) 0 % 2 ≡ 1 → walkable (gridOf w h cells) (at x y) ≡ true
   walks e = walkable-at w h cells x y (A .inX) (A .inY) ∙ eq-eqb _ _ e
 
@@ -48,6 +53,10 @@ module _ {w h : ℕ} {cells : List ℕ} {g : SpanGeometry} {x y : ℕ} (A : Cell
 
   pub onward-asked : (dx dy : ℕ) → dx ≤ 2 → dy ≤ 2 → 4 < dy * 3 + dx → getD cells (y * w + x) 0 % 2 ≡ 1 → OnwardAsked w h cells g x y dx dy
   onward-asked dx dy a b c e = record { cell = A; walks = walks e; nearX = a; nearY = b; onward = c }
+
+-- a cell that is far from the span
+pub far-directions : (w h : ℕ) (cells : List ℕ) (s : Segment) (x y : ℕ) → Far s (at x y) → CutDirections w h cells s x y 0
+far-directions w h cells s x y far = record { small = omega arith; bits = no-bits (gridOf w h cells) s (at x y) (none-far (gridOf w h cells) s (at x y) far) }
 
 -- the four directions decide
 pub four-directions :

@@ -1,2 +1,3 @@
 mod Onward
 mod Cells
+mod Sides

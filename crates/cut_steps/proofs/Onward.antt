@@ -4,7 +4,7 @@ use Prim.Native.Nat.{ℕ, zero, suc, _+_, _-_, _*_, _%_, _^_, _≤_, _<_}
 use native.Mathlib.Omega.{arith}
 use native.Mathlib.Nat.{suc-mul, zero-div}
 use mathlib.Core.Path.{_≡_, refl, sym, ap, _∙_}
-use mathlib.Core.Bool.{Bool, true, false, true≢false}
+use mathlib.Core.Bool.{Bool, true, false, _&&_, and-false, true≢false}
 use mathlib.Core.List.{[], _∷_, map}
 use lib.ListN.{getD}
 use lib.Dec.{eqb, ltb}
@@ -15,7 +15,7 @@ use Rattle.definitions.specs.Spans.{cuts}
 use Rattle.flood.specs.Masks.{bitOf}
 use Rattle.flood.proofs.Square.{Four, four, In, walkable-in}
 use Rattle.cut_steps.specs.CutSteps.{isCutOnward, isSet}
-use Rattle.cut_steps.specs.Cell.{CutBits, onwardMask}
+use Rattle.cut_steps.specs.Cell.{CutBits, Far, onwardMask}
 
 -- ---- the number of the cell in a direction
 
@@ -81,6 +81,17 @@ no-step M g p w d = go (isStep M p d) refl
     go : (t : Bool) → isStep M p d ≡ t → false ≡ isCutOnward M g p d
     go false e = blocked M g p d e
     go true e = absurd (true≢false (sym (four M p d e .near) ∙ w))
+
+-- a position far from the segment has no cut step
+pub none-far : (M : Map) (g : Segment) (p : Position) → Far g p → (d : Position) → false ≡ isCutOnward M g p d
+unfolding isCutOnward
+none-far M g p far d = go (isStep M p d) refl
+  where
+    go : (t : Bool) → isStep M p d ≡ t → false ≡ isCutOnward M g p d
+    go false e = rw e refl
+    go true e =
+        let f = four M p d e in
+        sym (ap (λ t. isStep M p d && ltb (index M p) (index M (toward p d)) && t) (far d (f .nearX) (f .nearY) (f .right) (f .down)) ∙ and-false (isStep M p d && ltb (index M p) (index M (toward p d))))
 
 -- ---- the mask
 

@@ -1,13 +1,14 @@
 -- The words of the contracts of one cell's functions, over the grid of the lent bytes. Definitions only; assumes nothing.
 use Prim.Native.Nat.{ℕ, _+_, _*_, _≤_, _<_}
 use mathlib.Core.Path.{_≡_}
-use mathlib.Core.Bool.{Bool, true, cond}
+use mathlib.Core.Bool.{Bool, true, false, cond}
 use mathlib.Core.List.{List}
 use lib.ListN.{length}
 use Rattle.definitions.specs.Limits.{maxSide}
-use Rattle.definitions.specs.Grid.{Map, Position, Segment, at, walkable}
+use Rattle.definitions.specs.Grid.{Map, Position, at, Segment, toward, walkable}
+use Rattle.definitions.specs.Spans.{pixelsPerWalkCell, cuts}
 use Rattle.span_geometry.specs.declared.SpanGeometry.{SpanGeometry}
-use Rattle.span_geometry.specs.Shapes.{Sound}
+use Rattle.span_geometry.specs.Shapes.{maxPixel, Sound}
 use Rattle.flood.specs.Masks.{bitOf}
 use Rattle.flood.specs.Walk.{gridOf}
 use Rattle.cut_steps.specs.CutSteps.{isCutOnward, isSet}
@@ -28,6 +29,14 @@ CutBits M g p mask = (d : Position) → d .x ≤ 2 → d .y ≤ 2 → isSet mask
 pub record CutDirections (w h : ℕ) (cells : List ℕ) (g : Segment) (x y mask : ℕ) : Type 0 where
   pub small : mask < 512
   pub bits : CutBits (gridOf w h cells) g (at x y) mask
+
+-- the segment cuts no step from p, whatever cells are walkable
+abbrev pub Far : Segment → Position → Type 0
+Far g p = (d : Position) → d .x ≤ 2 → d .y ≤ 2 → 1 ≤ p .x + d .x → 1 ≤ p .y + d .y → cuts g p (toward p d) ≡ false
+
+-- how much a step can change the side value of a cell's centre, at most: 8 pixels times both extents of a span
+abbrev pub maxReach : ℕ
+maxReach = pixelsPerWalkCell * (maxPixel + maxPixel)
 
 -- the mask of the four directions to cells of larger number, east, south-west, south and south-east: bits 5 to 8
 abbrev pub onwardMask : Bool → Bool → Bool → Bool → ℕ
