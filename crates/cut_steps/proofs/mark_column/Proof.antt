@@ -1,8 +1,8 @@
 -- `mark_column` meets its contract. The loop's invariant: the cut steps of the column's cells from the first to the one before m are marked (`Walking`).
 -- Assumes nothing.
-use Prim.Native.Nat.{_+_, _-_, _<_}
+use Prim.Native.Nat.{_+_, _-_}
 use native.Mathlib.Omega.{arith}
-use mathlib.Core.Path.{_≡_, ap, _∙_, subst}
+use mathlib.Core.Path.{ap}
 use borrow.Author.Needs.{needs}
 use Rattle.span_geometry.specs.Shapes.{segmentOf}
 use Rattle.flood.specs.Walk.{gridOf}

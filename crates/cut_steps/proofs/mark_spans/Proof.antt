@@ -1,7 +1,6 @@
 -- `mark_spans` meets its contract. The loop's invariant: the cut steps of the spans below i are marked. Assumes nothing.
 use Prim.Native.Nat.{_-_, _≤_}
 use native.Mathlib.Omega.{arith}
-use borrow.Author.Needs.{needs}
 use Rattle.definitions.specs.Scan.{gather}
 use Rattle.flood.specs.Walk.{gridOf}
 use Rattle.cut_steps.specs.Marking.{Marked}
