@@ -25,7 +25,7 @@ unfolding gather
 loop-holds c = (omega arith, marked-none)
 
 span-at-requires : tie.Need-span-at-requires Inv-loop μ-loop
-span-at-requires c κs = span-at-asked (entry (c .before) .pre .0) (c .loop-test .taken)
+span-at-requires c κs = span-at-asked (entry (c .before) .pre .0) (omega (arith, c .loop-test .taken))
 
 mark-span-requires : tie.Need-mark-span-requires Inv-loop μ-loop
 mark-span-requires c κs =
