@@ -1,0 +1,5 @@
+pub mod Places
+pub mod Shifts
+pub mod Rows
+pub mod Insertion
+pub mod Holding

@@ -1,0 +1,2 @@
+pub mod PairRows
+pub mod Held
