@@ -1,2 +1,4 @@
 pub mod CutSteps
 pub mod Contract
+pub mod Cell
+pub mod CutLaws
