@@ -3,3 +3,6 @@ pub mod Shifts
 pub mod Rows
 pub mod Insertion
 pub mod Holding
+pub mod Gathering
+pub mod Directions
+pub mod Turns

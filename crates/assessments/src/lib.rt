@@ -1,2 +1,182 @@
 // The second half of `partition_by_spans` of areas.rs: of each span how many edges it removes and separates, and its pairs of regions.
 pub mod region_pairs;
+
+use flood::direction_table;
+use cut_steps::cell::cut_directions;
+use span_geometry::SpanGeometry;
+use span_geometry::strips::Strip;
+use region_pairs::insert_pair;
+ghost use mathlib.Core.Path.{_≡_};
+ghost use mathlib.Core.Bool.{true, cond};
+ghost use mathlib.Core.List.{[], _∷_, map};
+ghost use Prim.Native.Nat.{ℕ, _+_, _-_, _*_, _≤_, _<_, min, max};
+ghost use lib.ListN.{length};
+ghost use Rattle.definitions.specs.Grid.{at, toward, edge};
+ghost use Rattle.flood.specs.Masks.{bitOf};
+ghost use Rattle.flood.specs.Walk.{gridOf};
+ghost use Rattle.flood.specs.Inner.{Inside};
+ghost use Rattle.span_geometry.specs.Shapes.{Sound, segmentOf};
+ghost use Rattle.cut_steps.specs.CutSteps.{isSet, cutFrom};
+ghost use Rattle.cut_steps.specs.Cell.{CellAsked};
+ghost use Rattle.assessments.specs.PairRows.{pairOf};
+ghost use Rattle.assessments.specs.Assess.{maxCellEdges, maxLineEdges, maxEdges, Counting, Assesses, stepsIn, Leads, Lent};
+
+// What is found of a span so far: the counts of its removed and separated edges, and the end of its rows in the list of pairs.
+pub struct BoundaryAssessment {
+    pub removed: u32,
+    pub separated: u32,
+    pub end: usize,
+}
+
+fn min(m: u32, n: u32) -> u32
+    ensures { λ r. ⌜ r ≡ min m n ⌝ }
+{
+    if m <= n { m } else { n }
+}
+
+fn max(m: u32, n: u32) -> u32
+    ensures { λ r. ⌜ r ≡ max m n ⌝ }
+{
+    if m <= n { n } else { m }
+}
+
+// Whether bit k of a mask is set.
+fn is_set(mask: u16, k: usize) -> bool
+    requires { ⌜ k < 9 ⌝ }
+    ensures { λ r. ⌜ r ≡ isSet mask k ⌝ }
+{
+    (mask >> k) % 2 == 1
+}
+
+// One cut step, between two cells.
+fn assess_step(
+    labels: &[u32],
+    pairs: &mut [u32],
+    span: u32,
+    first: usize,
+    start: BoundaryAssessment,
+    from: usize,
+    to: usize,
+) -> BoundaryAssessment
+    requires { ⌜ (from < length (now labels)) × (to < length (now labels)) ⌝ }
+    requires { ⌜ Counting (now pairs) first (maxEdges - 1) start ⌝ }
+    ensures { λ r. ⌜ Counting (now (pairs .exit)) first (start .removed + 1) r ⌝ }
+    ensures { λ r. ⌜ Assesses (now (labels .entry)) span first (pairOf from to ∷ []) start (now (pairs .entry)) r (now (pairs .exit)) ⌝ }
+{
+    let left = labels[from];
+    let right = labels[to];
+    if left == right {
+        return BoundaryAssessment {
+            removed: start.removed + 1,
+            separated: start.separated,
+            end: start.end,
+        };
+    }
+    let end = insert_pair(pairs, first, start.end, span, min(left, right), max(left, right));
+    BoundaryAssessment {
+        removed: start.removed + 1,
+        separated: start.separated + 1,
+        end: end,
+    }
+}
+
+// The step from (x, y) in a direction, if the mask has it.
+fn assess_direction(
+    width: usize,
+    height: usize,
+    labels: &[u32],
+    pairs: &mut [u32],
+    span: u32,
+    first: usize,
+    start: BoundaryAssessment,
+    x: usize,
+    y: usize,
+    mask: u16,
+    dx: usize,
+    dy: usize,
+) -> BoundaryAssessment
+    requires { ⌜ Leads width height x y mask × (dx ≤ 2) × (dy ≤ 2) × (height * width ≤ length (now labels)) ⌝ }
+    requires { ⌜ Counting (now pairs) first (maxEdges - 1) start ⌝ }
+    ensures { λ r. ⌜ Counting (now (pairs .exit)) first (start .removed + 1) r ⌝ }
+    ensures { λ r. ⌜ Assesses (now (labels .entry)) span first (cond (isSet mask (bitOf (at dx dy))) (edge (gridOf width 0 []) (at x y) (toward (at x y) (at dx dy)) ∷ []) []) start (now (pairs .entry)) r (now (pairs .exit)) ⌝ }
+{
+    if !is_set(mask, dy * 3 + dx) {
+        return start;
+    }
+    assess_step(
+        labels,
+        pairs,
+        span,
+        first,
+        start,
+        y * width + x,
+        (y + dy - 1) * width + (x + dx - 1),
+    )
+}
+
+// The steps from (x, y) in the directions of the mask.
+fn assess_directions(
+    width: usize,
+    height: usize,
+    labels: &[u32],
+    pairs: &mut [u32],
+    span: u32,
+    first: usize,
+    start: BoundaryAssessment,
+    x: usize,
+    y: usize,
+    mask: u16,
+) -> BoundaryAssessment
+    requires { ⌜ Leads width height x y mask × (height * width ≤ length (now labels)) ⌝ }
+    requires { ⌜ Counting (now pairs) first (maxEdges - maxCellEdges) start ⌝ }
+    ensures { λ r. ⌜ Counting (now (pairs .exit)) first (start .removed + maxCellEdges) r ⌝ }
+    ensures { λ r. ⌜ Assesses (now (labels .entry)) span first (stepsIn width x y mask) start (now (pairs .entry)) r (now (pairs .exit)) ⌝ }
+{
+    let table = direction_table();
+    let mut a = start;
+    for d in 0..8 {
+        a = assess_direction(
+            width,
+            height,
+            labels,
+            pairs,
+            span,
+            first,
+            a,
+            x,
+            y,
+            mask,
+            table[d].x,
+            table[d].y,
+        );
+    }
+    a
+}
+
+// The steps from (x, y) that the span cuts. Most cells near a span have none.
+fn assess_cell(
+    width: usize,
+    height: usize,
+    cells: &[u8],
+    labels: &[u32],
+    pairs: &mut [u32],
+    g: SpanGeometry,
+    span: u32,
+    first: usize,
+    start: BoundaryAssessment,
+    x: usize,
+    y: usize,
+) -> BoundaryAssessment
+    requires { ⌜ Lent width height (now cells) (now labels) × Sound g × (x < width) × (y < height) ⌝ }
+    requires { ⌜ Counting (now pairs) first (maxEdges - maxCellEdges) start ⌝ }
+    ensures { λ r. ⌜ Counting (now (pairs .exit)) first (start .removed + maxCellEdges) r ⌝ }
+    ensures { λ r. ⌜ Assesses (now (labels .entry)) span first (cutFrom (gridOf width height (now (cells .entry))) (segmentOf g) (at x y)) start (now (pairs .entry)) r (now (pairs .exit)) ⌝ }
+{
+    let mask = cut_directions(width, height, cells, g, x, y);
+    if mask == 0 {
+        return start;
+    }
+    assess_directions(
+        width, height, labels, pairs, span, first, start, x, y, mask,
+    )
+}
