@@ -1,11 +1,11 @@
 -- What the functions of one cell ask of one another, and their answers' meaning, from what is asked of the cell. Assumes nothing.
-use Prim.Native.Nat.{ℕ, _+_, _*_, _%_, _≤_, _<_}
+use Prim.Native.Nat.{ℕ, _+_, _-_, _*_, _%_, _≤_, _<_}
 use native.Mathlib.Omega.{arith}
 use native.Mathlib.Nat.{mul-le-mul}
 use mathlib.Core.Path.{_≡_, refl, sym, subst, _∙_}
 use mathlib.Core.Bool.{Bool, true, false}
 use mathlib.Core.List.{List}
-use lib.ListN.{getD}
+use lib.ListN.{length, getD}
 use lib.Arith.{digits-lt}
 use borrow.Author.Tests.{eq-eqb, ne-eqb}
 use Rattle.definitions.specs.Limits.{maxSide}
@@ -14,9 +14,10 @@ use Rattle.span_geometry.specs.declared.SpanGeometry.{SpanGeometry}
 use Rattle.span_geometry.specs.Shapes.{Sound}
 use Rattle.flood.specs.Walk.{gridOf}
 use Rattle.flood.specs.Inner.{Nearby, Inside, Stepping}
-use Rattle.flood.proofs.StepTests.{step-inside, walkable-at}
-use Rattle.cut_steps.specs.CutSteps.{isCutOnward}
+use Rattle.flood.proofs.StepTests.{cells-in, step-inside, walkable-at}
+use Rattle.cut_steps.specs.CutSteps.{isCutOnward, isSet}
 use Rattle.cut_steps.specs.Cell.{CellAsked, OnwardAsked, CutDirections, Far, onwardMask}
+use Rattle.cut_steps.specs.Marking.{DirectionAsked}
 use Rattle.cut_steps.proofs.Onward.{blocked, no-step, none-far, no-bits, mask-bits, mask-small}
 
 -- ---- one direction
@@ -65,3 +66,18 @@ pub four-directions :
     → r ≡ onwardMask a b c d → CutDirections w h cells s x y r
 four-directions w h cells s x y {a} {b} {c} {d} east southWest south southEast e =
     subst (CutDirections w h cells s x y) (sym e) (record { small = mask-small a b c d; bits = mask-bits (gridOf w h cells) s (at x y) east southWest south southEast })
+
+-- ---- both cells of a step
+
+pub record BothCells (w h : ℕ) (masks : List ℕ) (x y dx dy : ℕ) : Type 0 where
+  pub inside : Inside w h x y dx dy
+  pub small : h * w ≤ 1048576
+  pub near : y * w + x < h * w
+  pub far : (y + dy - 1) * w + (x + dx - 1) < h * w
+  pub long : h * w ≤ length masks
+
+pub both-cells : {w h : ℕ} {masks : List ℕ} {directions x y dx dy : ℕ} → DirectionAsked w h masks directions x y dx dy → isSet directions (dy * 3 + dx) ≡ true → BothCells w h masks x y dx dy
+both-cells {w} {h} {masks} {directions} {x} {y} {dx} {dy} A e =
+    let i = A .inside e in
+    let c = cells-in w h x y dx dy (A .nearby) i in
+    record { inside = i; small = c .small; near = digits-lt (A .nearby .inY) (A .nearby .inX); far = c .far; long = A .masksLong }

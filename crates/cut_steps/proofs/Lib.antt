@@ -1,3 +1,4 @@
-mod Onward
+pub mod Onward
 mod Cells
 mod Sides
+mod Marks

@@ -115,9 +115,12 @@ nine false false true false = refl
 nine false false false true = refl
 nine false false false false = refl
 
+pub zero-bit : (k : ℕ) → isSet 0 k ≡ false
+zero-bit k = ap (λ m. eqb (m % 2) 1) (zero-div (2 ^ k))
+
 module _ (M : Map) (g : Segment) (p : Position) where
   pub no-bits : ((d : Position) → false ≡ isCutOnward M g p d) → CutBits M g p 0
-  no-bits n d a b = ap (λ m. eqb (m % 2) 1) (zero-div (2 ^ bitOf d)) ∙ n d
+  no-bits n d a b = zero-bit (bitOf d) ∙ n d
 
   pub mask-bits : {a b c d : Bool} → a ≡ isCutOnward M g p (at 2 1) → b ≡ isCutOnward M g p (at 0 2) → c ≡ isCutOnward M g p (at 1 2) → d ≡ isCutOnward M g p (at 2 2) → CutBits M g p (onwardMask a b c d)
   unfolding run

@@ -3,14 +3,14 @@
 use Prim.Native.Nat.{ℕ, _+_, _*_}
 use mathlib.Core.Path.{_≡_, refl, ap, _∙_}
 use mathlib.Core.Bool.{Bool, true, false, _&&_, cond}
-use mathlib.Core.List.{List, [], _∷_, map}
+use mathlib.Core.List.{List, [], _∷_, _++_, map}
 use lib.Dec.{ltb}
 use Rattle.definitions.specs.Scan.{filter, concatMap}
 use Rattle.definitions.specs.Grid.{Map, Position, Segment, canonical, spanOf, index, edge, toward, directions, walkable, isStep, neighbors, onward}
 use Rattle.definitions.specs.Spans.{cuts, candidatePositions, cutSteps}
 use Rattle.flood.specs.Walk.{gridOf}
 use Rattle.cut_steps.specs.Contract.{SpanMap}
-use Rattle.cut_steps.specs.CutSteps.{isCutOnward, cutFrom}
+use Rattle.cut_steps.specs.CutSteps.{isCutOnward, cutFrom, cutToward}
 
 -- a map's own grid
 same-grid : (M : Map) (g : Segment) (p d : Position) → isCutOnward M g p d ≡ isCutOnward (gridOf (M .width) (M .height) (M .cells)) g p d
@@ -50,6 +50,20 @@ three-filters {A} {B} {C} t e first second third (a ∷ l) = go (first a) (secon
 pub cutFrom-is : (M : Map) (g : Segment) (p : Position) → map (edge M p) (filter (cuts g p) (onward M p)) ≡ cutFrom M g p
 unfolding cutFrom isCutOnward onward neighbors
 cutFrom-is M g p = three-filters (toward p) (edge M p) (isStep M p) (λ q. ltb (index M p) (index M q)) (cuts g p) directions
+
+-- a map of a filtered list, element by element
+filtered-joined : {A B : Type 0} (f : A → Bool) (e : A → B) (l : List A) → map e (filter f l) ≡ concatMap (λ a. cond (f a) (e a ∷ []) []) l
+unfolding filter concatMap
+filtered-joined f e [] = refl
+filtered-joined {A} {B} f e (a ∷ l) = go (f a) (filtered-joined f e l)
+  where
+    go : (t : Bool) → map e (filter f l) ≡ concatMap (λ a. cond (f a) (e a ∷ []) []) l → map e (cond t (a ∷ filter f l) (filter f l)) ≡ cond t (e a ∷ []) [] ++ concatMap (λ a. cond (f a) (e a ∷ []) []) l
+    go true ih = ap {B = List B} (λ r. e a ∷ r) ih
+    go false ih = ih
+
+pub cutFrom-directions : (M : Map) (g : Segment) (p : Position) → cutFrom M g p ≡ concatMap (cutToward M g p) directions
+unfolding cutFrom cutToward
+cutFrom-directions M g p = filtered-joined (isCutOnward M g p) (λ d. edge M p (toward p d)) directions
 
 pub cut-steps-cells : (M : Map) (s : ℕ) → cutSteps M s ≡ concatMap (cutFrom M (canonical (spanOf M s))) (candidatePositions (M .width) (M .height) (canonical (spanOf M s)))
 unfolding cutSteps

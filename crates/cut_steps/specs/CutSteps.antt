@@ -1,6 +1,6 @@
 -- The cut steps of one cell, direction by direction. Definitions only; assumes nothing.
-use mathlib.Core.Bool.{Bool, _&&_}
-use mathlib.Core.List.{List, map}
+use mathlib.Core.Bool.{Bool, _&&_, cond}
+use mathlib.Core.List.{List, [], _∷_, map}
 use Prim.Native.Nat.{ℕ, _/_, _%_, _^_}
 use lib.Dec.{eqb, ltb}
 use Rattle.definitions.specs.Scan.{filter}
@@ -16,6 +16,11 @@ isCutOnward M g p d = isStep M p d && ltb (index M p) (index M (toward p d)) && 
 unfoldable pub cutFrom : Map → Segment → Position → List Pair
 unfolding filter isCutOnward
 cutFrom M g p = map (λ d. edge M p (toward p d)) (filter (isCutOnward M g p) directions)
+
+-- the step from p in direction d, where g cuts it
+unfoldable pub cutToward : Map → Segment → Position → Position → List Pair
+unfolding isCutOnward
+cutToward M g p d = cond (isCutOnward M g p d) (edge M p (toward p d) ∷ []) []
 
 -- bit k of a mask
 abbrev pub isSet : ℕ → ℕ → Bool

@@ -16,7 +16,7 @@ ghost use Rattle.definitions.specs.Grid.{at};
 ghost use Rattle.span_geometry.specs.Shapes.{Sound, segmentOf};
 ghost use Rattle.flood.specs.Walk.{gridOf};
 ghost use Rattle.flood.specs.Inner.{Inner};
-ghost use Rattle.cut_steps.specs.CutSteps.{isCutOnward};
+ghost use Rattle.cut_steps.specs.CutSteps.{isCutOnward, isSet};
 ghost use Rattle.cut_steps.specs.Cell.{CellAsked, OnwardAsked, CutDirections, Far, maxReach, onwardMask};
 
 // Whether a number is larger in size than a bound.
@@ -102,4 +102,12 @@ pub fn cut_directions(
         is_cut_onward(width, height, cells, g, inner, x, y, 1, 2),
         is_cut_onward(width, height, cells, g, inner, x, y, 2, 2),
     )
+}
+
+// Whether bit k of a mask is set.
+pub fn is_set(mask: u16, k: usize) -> bool
+    requires { ⌜ k < 9 ⌝ }
+    ensures { λ r. ⌜ r ≡ isSet mask k ⌝ }
+{
+    (mask >> k) % 2 == 1
 }
