@@ -6,3 +6,4 @@ pub mod Holding
 pub mod Gathering
 pub mod Directions
 pub mod Turns
+pub mod Joining

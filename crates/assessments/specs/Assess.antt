@@ -6,13 +6,14 @@ use mathlib.Core.List.{List, [], _++_, map}
 use lib.ListN.{length}
 use Rattle.definitions.specs.Limits.{maxSide, numbersPerSpan, numbersPerPair}
 use Rattle.definitions.specs.Scan.{filter, concatMap}
-use Rattle.definitions.specs.Grid.{Position, at, Segment, canonical, segmentAt, Pair, directions, toward, edge}
+use Rattle.definitions.specs.Grid.{Position, at, canonical, segmentAt, Pair, directions, toward, edge}
 use Rattle.definitions.specs.Spans.{candidatePositions}
 use Rattle.definitions.specs.Partition.{isSeparated, pairsOf}
 use Rattle.flood.specs.Masks.{bitOf}
 use Rattle.flood.specs.Walk.{gridOf}
 use Rattle.flood.specs.Inner.{Inside}
 use Rattle.cut_steps.specs.CutSteps.{isSet, cutFrom}
+use Rattle.cut_steps.specs.Marking.{cutSpan}
 use Rattle.assessments.specs.PairRows.{rowsFor}
 use Rattle.assessments.specs.Held.{Held, Counted}
 use Rattle.assessments.specs.declared.BoundaryAssessment.{BoundaryAssessment}
@@ -73,9 +74,7 @@ pub record Lent (w h : ℕ) (cells labels : List ℕ) : Type 0 where
   pub cellsLong : length cells ≡ h * w
   pub labelsLong : h * w ≤ length labels
 
-abbrev pub lentSpan : List ℕ → ℕ → Segment
-lentSpan spans s = canonical (segmentAt spans (numbersPerSpan * s))
-
-unfoldable pub spanSteps : (w h : ℕ) (cells spans : List ℕ) → ℕ → List Pair
+-- the steps that span s of the list cuts
+unfoldable pub stepsOf : (w h : ℕ) (cells spans : List ℕ) → ℕ → List Pair
 unfolding concatMap canonical candidatePositions cutFrom
-spanSteps w h cells spans s = concatMap (cutFrom (gridOf w h cells) (lentSpan spans s)) (candidatePositions w h (lentSpan spans s))
+stepsOf w h cells spans s = cutSpan (gridOf w h cells) (canonical (segmentAt spans (numbersPerSpan * s)))

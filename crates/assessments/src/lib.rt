@@ -3,6 +3,7 @@ pub mod region_pairs;
 
 use flood::direction_table;
 use cut_steps::cell::cut_directions;
+use cut_steps::cell::is_set;
 use span_geometry::SpanGeometry;
 use span_geometry::strips::Strip;
 use region_pairs::insert_pair;
@@ -21,6 +22,12 @@ ghost use Rattle.cut_steps.specs.Cell.{CellAsked};
 ghost use Rattle.assessments.specs.PairRows.{pairOf};
 ghost use Rattle.assessments.specs.Assess.{maxCellEdges, maxLineEdges, maxEdges, Counting, Assesses, stepsIn, Leads, Lent};
 
+// How many rows of pairs there are, or that they are more than the list has room for.
+pub enum Assessed {
+    Rows(usize),
+    TooMany,
+}
+
 // What is found of a span so far: the counts of its removed and separated edges, and the end of its rows in the list of pairs.
 pub struct BoundaryAssessment {
     pub removed: u32,
@@ -38,14 +45,6 @@ fn max(m: u32, n: u32) -> u32
     ensures { λ r. ⌜ r ≡ max m n ⌝ }
 {
     if m <= n { n } else { m }
-}
-
-// Whether bit k of a mask is set.
-fn is_set(mask: u16, k: usize) -> bool
-    requires { ⌜ k < 9 ⌝ }
-    ensures { λ r. ⌜ r ≡ isSet mask k ⌝ }
-{
-    (mask >> k) % 2 == 1
 }
 
 // One cut step, between two cells.
