@@ -9,18 +9,19 @@ use span_geometry::strips::Strip;
 use region_pairs::insert_pair;
 ghost use mathlib.Core.Path.{_≡_};
 ghost use mathlib.Core.Bool.{true, cond};
-ghost use mathlib.Core.List.{[], _∷_, map};
-ghost use Prim.Native.Nat.{ℕ, _+_, _-_, _*_, _≤_, _<_, min, max};
+ghost use mathlib.Core.List.{[], _∷_};
+ghost use Prim.Native.Nat.{_+_, _-_, _*_, _≤_, _<_, min, max};
 ghost use lib.ListN.{length};
 ghost use Rattle.definitions.specs.Grid.{at, toward, edge};
+ghost use Rattle.definitions.specs.Refusals.{endpointsDiffer};
 ghost use Rattle.flood.specs.Masks.{bitOf};
 ghost use Rattle.flood.specs.Walk.{gridOf};
-ghost use Rattle.flood.specs.Inner.{Inside};
 ghost use Rattle.span_geometry.specs.Shapes.{Sound, segmentOf};
 ghost use Rattle.cut_steps.specs.CutSteps.{isSet, cutFrom};
-ghost use Rattle.cut_steps.specs.Cell.{CellAsked};
+ghost use Rattle.cut_steps.specs.Marking.{ColumnAsked, cutColumn, cutSpan};
 ghost use Rattle.assessments.specs.PairRows.{pairOf};
-ghost use Rattle.assessments.specs.Assess.{maxCellEdges, maxLineEdges, maxEdges, Counting, Assesses, stepsIn, Leads, Lent};
+ghost use Rattle.assessments.specs.Held.{roomOf};
+ghost use Rattle.assessments.specs.Assess.{nothing, maxCellEdges, maxLineEdges, maxEdges, Counting, Assesses, stepsIn, Leads, Lent};
 
 // How many rows of pairs there are, or that they are more than the list has room for.
 pub enum Assessed {
@@ -45,6 +46,13 @@ fn max(m: u32, n: u32) -> u32
     ensures { λ r. ⌜ r ≡ max m n ⌝ }
 {
     if m <= n { n } else { m }
+}
+
+// The first number where the test holds, else the second.
+pub fn pick(test: bool, first: usize, second: usize) -> usize
+    ensures { λ r. ⌜ r ≡ cond test first second ⌝ }
+{
+    if test { first } else { second }
 }
 
 // One cut step, between two cells.
@@ -178,4 +186,81 @@ fn assess_cell(
     assess_directions(
         width, height, labels, pairs, span, first, start, x, y, mask,
     )
+}
+
+// The steps that the span cuts from the candidates in column, or row, k.
+fn assess_column(
+    width: usize,
+    height: usize,
+    cells: &[u8],
+    labels: &[u32],
+    pairs: &mut [u32],
+    g: SpanGeometry,
+    strip: Strip,
+    span: u32,
+    first: usize,
+    start: BoundaryAssessment,
+    k: usize,
+) -> BoundaryAssessment
+    requires { ⌜ Lent width height (now cells) (now labels) × Sound g × ColumnAsked width height strip k ⌝ }
+    requires { ⌜ Counting (now pairs) first (maxEdges - maxLineEdges) start ⌝ }
+    ensures { λ r. ⌜ Counting (now (pairs .exit)) first (start .removed + maxLineEdges) r ⌝ }
+    ensures { λ r. ⌜ Assesses (now (labels .entry)) span first (cutColumn (gridOf width height (now (cells .entry))) (segmentOf g) strip k) start (now (pairs .entry)) r (now (pairs .exit)) ⌝ }
+{
+    let columns = strip.columns;
+    let range = strip.minor_range(k as u64, pick(columns, height, width) as u64);
+    let last = range.last as usize;
+    let mut a = start;
+    let mut m = range.first as usize;
+    while m <= last {
+        a = assess_cell(
+            width,
+            height,
+            cells,
+            labels,
+            pairs,
+            g,
+            span,
+            first,
+            a,
+            pick(columns, k, m),
+            pick(columns, m, k),
+        );
+        m += 1;
+    }
+    a
+}
+
+// The steps that the span cuts. Its rows begin at `first`.
+fn assess_span(
+    width: usize,
+    height: usize,
+    cells: &[u8],
+    labels: &[u32],
+    pairs: &mut [u32],
+    g: SpanGeometry,
+    span: u32,
+    first: usize,
+) -> BoundaryAssessment
+    requires { ⌜ Lent width height (now cells) (now labels) × Sound g × (endpointsDiffer (segmentOf g) ≡ true) ⌝ }
+    requires { ⌜ first ≤ roomOf (now pairs) + 1 ⌝ }
+    ensures { λ r. ⌜ Counting (now (pairs .exit)) first maxEdges r ⌝ }
+    ensures { λ r. ⌜ Assesses (now (labels .entry)) span first (cutSpan (gridOf width height (now (cells .entry))) (segmentOf g)) (nothing first) (now (pairs .entry)) r (now (pairs .exit)) ⌝ }
+{
+    let strip = Strip::new(g);
+    let axis = strip.axis_range(pick(strip.columns, width, height) as u64);
+    let last = axis.last as usize;
+    let mut a = BoundaryAssessment {
+        removed: 0,
+        separated: 0,
+        end: first,
+    };
+    let mut k = axis.first as usize;
+    while k <= last {
+        a = assess_column(
+            width, height, cells, labels, pairs, g, strip, span, first, a, k,
+        );
+        k += 1;
+    }
+    a
 }
