@@ -2,3 +2,5 @@ pub mod Onward
 mod Cells
 mod Sides
 mod Marks
+mod Walking
+mod Spans

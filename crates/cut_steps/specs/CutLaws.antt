@@ -1,16 +1,21 @@
 -- Which steps a span cuts, cell by cell: they depend on the map's sides and cells alone (`isCutOnward-grid`), and are those of the candidate positions, joined
 -- (`cut-steps-cells`). Assumes nothing.
-use Prim.Native.Nat.{ℕ, _+_, _*_}
+use Prim.Native.Nat.{ℕ, _+_, _*_, _/_, _<_}
 use mathlib.Core.Path.{_≡_, refl, ap, _∙_}
 use mathlib.Core.Bool.{Bool, true, false, _&&_, cond}
 use mathlib.Core.List.{List, [], _∷_, _++_, map}
+use lib.ListN.{length, getD, length-map}
 use lib.Dec.{ltb}
-use Rattle.definitions.specs.Scan.{filter, concatMap}
-use Rattle.definitions.specs.Grid.{Map, Position, Segment, canonical, spanOf, index, edge, toward, directions, walkable, isStep, neighbors, onward}
+use Rattle.definitions.specs.Limits.{numbersPerSpan}
+use Rattle.definitions.specs.Scan.{filter, concatMap, gather, run}
+use Rattle.definitions.specs.Grid.{Map, Position, Segment, canonical, segmentAt, noSegment, spanCount, spanOf, index, edge, toward, directions, walkable, isStep, neighbors, onward}
 use Rattle.definitions.specs.Spans.{cuts, candidatePositions, cutSteps}
+use Rattle.definitions.specs.Partition.{cutAll}
+use Rattle.laws.specs.ListLaws.Lists.{length-run, getD-tab}
 use Rattle.flood.specs.Walk.{gridOf}
 use Rattle.cut_steps.specs.Contract.{SpanMap}
-use Rattle.cut_steps.specs.CutSteps.{isCutOnward, cutFrom, cutToward}
+use Rattle.cut_steps.specs.CutSteps.{isCutOnward, cutFrom, cutSpan, cutToward}
+use Rattle.cut_steps.specs.Prefixes.{gather-ext}
 
 -- a map's own grid
 same-grid : (M : Map) (g : Segment) (p d : Position) → isCutOnward M g p d ≡ isCutOnward (gridOf (M .width) (M .height) (M .cells)) g p d
@@ -68,3 +73,25 @@ cutFrom-directions M g p = filtered-joined (isCutOnward M g p) (λ d. edge M p (
 pub cut-steps-cells : (M : Map) (s : ℕ) → cutSteps M s ≡ concatMap (cutFrom M (canonical (spanOf M s))) (candidatePositions (M .width) (M .height) (canonical (spanOf M s)))
 unfolding cutSteps
 cut-steps-cells M s = λ i. concatMap (λ p. cutFrom-is M (canonical (spanOf M s)) p i) (candidatePositions (M .width) (M .height) (canonical (spanOf M s)))
+
+-- ---- of the spans as lent
+
+module _ {w h : ℕ} {bytes list : List ℕ} {M : Map} (S : SpanMap w h bytes list M) where
+  pub span-count : spanCount M ≡ length list / numbersPerSpan
+  unfolding spanCount
+  span-count = ap length (S .spans) ∙ length-map (run 0 (length list / numbersPerSpan)) (λ i. segmentAt list (numbersPerSpan * i)) ∙ length-run 0 (length list / numbersPerSpan)
+
+  pub span-at : (i : ℕ) → i < length list / numbersPerSpan → spanOf M i ≡ segmentAt list (numbersPerSpan * i)
+  unfolding spanOf
+  span-at i l = ap (λ s. getD s i noSegment) (S .spans) ∙ getD-tab (λ i. segmentAt list (numbersPerSpan * i)) noSegment (length list / numbersPerSpan) i l
+
+  pub cutSpan-grid : (g : Segment) → cutSpan M g ≡ cutSpan (gridOf w h bytes) g
+  cutSpan-grid g = λ i. concatMap (λ p. cutFrom-grid S g p i) (candidatePositions (S .width i) (S .height i) g)
+
+  pub cut-steps-span : (i : ℕ) → i < length list / numbersPerSpan → cutSteps M i ≡ cutSpan (gridOf w h bytes) (canonical (segmentAt list (numbersPerSpan * i)))
+  cut-steps-span i l = cut-steps-cells M i ∙ cutSpan-grid (canonical (spanOf M i)) ∙ ap (λ s. cutSpan (gridOf w h bytes) (canonical s)) (span-at i l)
+
+  -- the steps that some span cuts
+  pub cut-all-spans : cutAll M ≡ gather (length list / numbersPerSpan) (λ i. cutSpan (gridOf w h bytes) (canonical (segmentAt list (numbersPerSpan * i))))
+  unfolding cutAll
+  cut-all-spans = ap (λ n. gather n (cutSteps M)) span-count ∙ gather-ext (length list / numbersPerSpan) (cutSteps M) _ cut-steps-span
