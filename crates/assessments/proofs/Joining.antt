@@ -5,28 +5,26 @@ use mathlib.Core.Path.{_≡_, refl, sym, ap, ap₂, _∙_}
 use mathlib.Core.Bool.{not}
 use mathlib.Core.List.{List, [], _∷_, map}
 use native.Mathlib.Omega.{arith}
-use lib.ListN.{length, getD, length-map}
+use lib.ListN.{length, getD}
 use lib.Dec.{eqb}
 use Rattle.definitions.specs.Limits.{numbersPerSpan}
-use Rattle.definitions.specs.Scan.{gather, concatMap, filter, run}
-use Rattle.definitions.specs.Grid.{Map, Segment, canonical, segmentAt, noSegment, spanOf, spanCount, cellCount, Pair}
-use Rattle.definitions.specs.Spans.{cutSteps, candidatePositions}
+use Rattle.definitions.specs.Scan.{gather, filter}
+use Rattle.definitions.specs.Grid.{Map, cellCount, Pair}
+use Rattle.definitions.specs.Spans.{cutSteps}
 use Rattle.definitions.specs.Partition as partition
 use Rattle.definitions.specs.Partition.{isSeparated, labelPair, addPairs, pairsOf}
 use Rattle.definitions.specs.Context.{contextOf}
 use Rattle.definitions.specs.Verdict.{pairRowsOf}
 use Rattle.definitions.specs.AtExit.{talliesOf}
-use Rattle.laws.specs.ListLaws.Lists.{All, all-map, all-filter, getD-tab, length-run}
+use Rattle.laws.specs.ListLaws.Lists.{All, all-map, all-filter}
 use Rattle.laws.specs.ListLaws.Scans.{filter-ext, map-ext}
 use Rattle.laws.specs.RegionLaws.Steps.{Step, cutSteps-steps}
 use Rattle.laws.specs.RegionLaws.PairLaws.{cutOf-at, pairs-at}
-use Rattle.flood.specs.Walk.{gridOf}
 use Rattle.cut_steps.specs.Contract.{SpanMap}
-use Rattle.cut_steps.specs.CutSteps.{cutFrom}
-use Rattle.cut_steps.specs.CutLaws.{cutFrom-grid, cut-steps-cells}
+use Rattle.cut_steps.specs.CutLaws.{span-count, cut-steps-span}
 use Rattle.cut_steps.specs.Prefixes.{gather-ext}
+use Rattle.cut_steps.proofs.Spans.{cutListed}
 use Rattle.assessments.specs.PairRows.{rowsFor}
-use Rattle.assessments.specs.Assess.{stepsOf}
 use Rattle.assessments.specs.Answer.{Labelled}
 
 -- ---- labels that agree at the cells of steps
@@ -48,21 +46,6 @@ module _ {l m : List ℕ} where
 -- ---- a map with these cells and spans
 
 module _ {w h : ℕ} {cells spans : List ℕ} {M : Map} (S : SpanMap w h cells spans M) where
-  pub span-count : spanCount M ≡ length spans / numbersPerSpan
-  unfolding spanCount
-  span-count = ap length (S .spans) ∙ length-map (run 0 (length spans / numbersPerSpan)) (λ i. segmentAt spans (numbersPerSpan * i)) ∙ length-run 0 (length spans / numbersPerSpan)
-
-  span-of : (s : ℕ) → s < length spans / numbersPerSpan → spanOf M s ≡ segmentAt spans (numbersPerSpan * s)
-  unfolding spanOf
-  span-of s l = ap (λ m. getD m s noSegment) (S .spans) ∙ getD-tab (λ i. segmentAt spans (numbersPerSpan * i)) noSegment (length spans / numbersPerSpan) s l
-
-  steps-of : (s : ℕ) → s < length spans / numbersPerSpan → cutSteps M s ≡ stepsOf w h cells spans s
-  unfolding stepsOf
-  steps-of s l =
-      let g = canonical (segmentAt spans (numbersPerSpan * s)) in
-      cut-steps-cells M s ∙ ap (λ t. concatMap (cutFrom M (canonical t)) (candidatePositions (M .width) (M .height) (canonical t))) (span-of s l)
-      ∙ (λ i. concatMap (λ p. cutFrom-grid S g p i) (candidatePositions (S .width i) (S .height i) g))
-
   module _ (labels : List ℕ) (L : Labelled (h * w) labels M) where
     steps-agree : (s : ℕ) → All (Agree labels (partition.labels M)) (cutSteps M s)
     unfolding cellCount
@@ -72,30 +55,30 @@ module _ {w h : ℕ} {cells spans : List ℕ} {M : Map} (S : SpanMap w h cells s
 
     -- ---- span by span
 
-    pairs-same : (s : ℕ) → s < length spans / numbersPerSpan → contextOf M .pairs s ≡ pairsOf labels (stepsOf w h cells spans s)
-    pairs-same s l = pairs-at M s (omega (arith, span-count)) ∙ sym (pairs-agree (steps-agree s)) ∙ ap (pairsOf labels) (steps-of s l)
+    pairs-same : (s : ℕ) → s < length spans / numbersPerSpan → contextOf M .pairs s ≡ pairsOf labels (cutListed w h cells spans s)
+    pairs-same s l = pairs-at M s (omega (arith, span-count S)) ∙ sym (pairs-agree (steps-agree s)) ∙ ap (pairsOf labels) (cut-steps-span S s l)
 
-    removed-same : (s : ℕ) → s < length spans / numbersPerSpan → contextOf M .removedEdges s ≡ length (stepsOf w h cells spans s)
+    removed-same : (s : ℕ) → s < length spans / numbersPerSpan → contextOf M .removedEdges s ≡ length (cutListed w h cells spans s)
     unfolding contextOf
-    removed-same s l = ap length (cutOf-at M s (omega (arith, span-count)) ∙ steps-of s l)
+    removed-same s l = ap length (cutOf-at M s (omega (arith, span-count S)) ∙ cut-steps-span S s l)
 
-    separated-same : (s : ℕ) → s < length spans / numbersPerSpan → contextOf M .separatedEdges s ≡ length (filter (isSeparated labels) (stepsOf w h cells spans s))
+    separated-same : (s : ℕ) → s < length spans / numbersPerSpan → contextOf M .separatedEdges s ≡ length (filter (isSeparated labels) (cutListed w h cells spans s))
     unfolding contextOf
     separated-same s l =
-        ap (λ es. length (filter (isSeparated (partition.labels M)) es)) (cutOf-at M s (omega (arith, span-count))) ∙ ap length (sym (separated-agree (steps-agree s)))
-        ∙ ap (λ es. length (filter (isSeparated labels) es)) (steps-of s l)
+        ap (λ es. length (filter (isSeparated (partition.labels M)) es)) (cutOf-at M s (omega (arith, span-count S))) ∙ ap length (sym (separated-agree (steps-agree s)))
+        ∙ ap (λ es. length (filter (isSeparated labels) es)) (cut-steps-span S s l)
 
     -- ---- all spans
 
-    pub rows-same : pairRowsOf (contextOf M) ≡ gather (length spans / numbersPerSpan) (λ s. rowsFor s (pairsOf labels (stepsOf w h cells spans s)))
+    pub rows-same : pairRowsOf (contextOf M) ≡ gather (length spans / numbersPerSpan) (λ s. rowsFor s (pairsOf labels (cutListed w h cells spans s)))
     unfolding pairRowsOf contextOf rowsFor
     rows-same =
-        ap (λ n. gather n (λ s. rowsFor s (contextOf M .pairs s))) span-count
-        ∙ gather-ext (length spans / numbersPerSpan) (λ s. rowsFor s (contextOf M .pairs s)) (λ s. rowsFor s (pairsOf labels (stepsOf w h cells spans s))) (λ s l. ap (rowsFor s) (pairs-same s l))
+        ap (λ n. gather n (λ s. rowsFor s (contextOf M .pairs s))) (span-count S)
+        ∙ gather-ext (length spans / numbersPerSpan) (λ s. rowsFor s (contextOf M .pairs s)) (λ s. rowsFor s (pairsOf labels (cutListed w h cells spans s))) (λ s l. ap (rowsFor s) (pairs-same s l))
 
-    pub tallies-same : talliesOf (contextOf M) ≡ gather (length spans / numbersPerSpan) (λ s. length (stepsOf w h cells spans s) ∷ length (filter (isSeparated labels) (stepsOf w h cells spans s)) ∷ [])
+    pub tallies-same : talliesOf (contextOf M) ≡ gather (length spans / numbersPerSpan) (λ s. length (cutListed w h cells spans s) ∷ length (filter (isSeparated labels) (cutListed w h cells spans s)) ∷ [])
     unfolding talliesOf contextOf
     tallies-same =
-        ap (λ n. gather n (λ s. contextOf M .removedEdges s ∷ contextOf M .separatedEdges s ∷ [])) span-count
-        ∙ gather-ext (length spans / numbersPerSpan) (λ s. contextOf M .removedEdges s ∷ contextOf M .separatedEdges s ∷ []) (λ s. length (stepsOf w h cells spans s) ∷ length (filter (isSeparated labels) (stepsOf w h cells spans s)) ∷ [])
+        ap (λ n. gather n (λ s. contextOf M .removedEdges s ∷ contextOf M .separatedEdges s ∷ [])) (span-count S)
+        ∙ gather-ext (length spans / numbersPerSpan) (λ s. contextOf M .removedEdges s ∷ contextOf M .separatedEdges s ∷ []) (λ s. length (cutListed w h cells spans s) ∷ length (filter (isSeparated labels) (cutListed w h cells spans s)) ∷ [])
             (λ s l. ap₂ (λ a b. a ∷ b ∷ []) (removed-same s l) (separated-same s l))

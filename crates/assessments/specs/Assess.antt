@@ -4,16 +4,14 @@ use mathlib.Core.Path.{_≡_}
 use mathlib.Core.Bool.{true}
 use mathlib.Core.List.{List, [], _++_, map}
 use lib.ListN.{length}
-use Rattle.definitions.specs.Limits.{maxSide, numbersPerSpan, numbersPerPair}
-use Rattle.definitions.specs.Scan.{filter, concatMap}
-use Rattle.definitions.specs.Grid.{Position, at, canonical, segmentAt, Pair, directions, toward, edge}
-use Rattle.definitions.specs.Spans.{candidatePositions}
+use Rattle.definitions.specs.Limits.{maxSide, numbersPerPair}
+use Rattle.definitions.specs.Scan.{filter}
+use Rattle.definitions.specs.Grid.{Position, at, Pair, directions, toward, edge}
 use Rattle.definitions.specs.Partition.{isSeparated, pairsOf}
 use Rattle.flood.specs.Masks.{bitOf}
 use Rattle.flood.specs.Walk.{gridOf}
 use Rattle.flood.specs.Inner.{Inside}
-use Rattle.cut_steps.specs.CutSteps.{isSet, cutFrom}
-use Rattle.cut_steps.specs.Marking.{cutSpan}
+use Rattle.cut_steps.specs.CutSteps.{isSet}
 use Rattle.assessments.specs.PairRows.{rowsFor}
 use Rattle.assessments.specs.Held.{Held, Counted}
 use Rattle.assessments.specs.declared.BoundaryAssessment.{BoundaryAssessment}
@@ -54,7 +52,7 @@ pub record Assesses (labels : List ℕ) (span first : ℕ) (es : List Pair) (a :
   pub each :
     (before old : List ℕ) (es₀ : List Pair) → Gathered labels span first before old es₀ a now → Gathered labels span first before old (es₀ ++ es) a′ now′
 
--- ---- the steps of a cell, and of a span, over the lists as lent
+-- ---- the steps of a cell
 
 -- from (x, y) in the directions of a mask
 unfoldable pub stepsIn : (w x y mask : ℕ) → List Pair
@@ -77,8 +75,3 @@ pub record Lent (w h : ℕ) (cells labels : List ℕ) : Type 0 where
   pub short : h ≤ maxSide
   pub cellsLong : length cells ≡ h * w
   pub labelsLong : h * w ≤ length labels
-
--- the steps that span s of the list cuts
-unfoldable pub stepsOf : (w h : ℕ) (cells spans : List ℕ) → ℕ → List Pair
-unfolding concatMap canonical candidatePositions cutFrom
-stepsOf w h cells spans s = cutSpan (gridOf w h cells) (canonical (segmentAt spans (numbersPerSpan * s)))

@@ -4,6 +4,7 @@ pub mod region_pairs;
 use flood::direction_table;
 use cut_steps::cell::cut_directions;
 use cut_steps::cell::is_set;
+use cut_steps::pick;
 use span_geometry::SpanGeometry;
 use span_geometry::strips::Strip;
 use region_pairs::insert_pair;
@@ -17,8 +18,8 @@ ghost use Rattle.definitions.specs.Refusals.{endpointsDiffer};
 ghost use Rattle.flood.specs.Masks.{bitOf};
 ghost use Rattle.flood.specs.Walk.{gridOf};
 ghost use Rattle.span_geometry.specs.Shapes.{Sound, segmentOf};
-ghost use Rattle.cut_steps.specs.CutSteps.{isSet, cutFrom};
-ghost use Rattle.cut_steps.specs.Marking.{ColumnAsked, cutColumn, cutSpan};
+ghost use Rattle.cut_steps.specs.CutSteps.{isSet, cutFrom, cutSpan};
+ghost use Rattle.cut_steps.specs.Columns.{ColumnAsked, cutColumn};
 ghost use Rattle.assessments.specs.PairRows.{pairOf};
 ghost use Rattle.assessments.specs.Held.{roomOf};
 ghost use Rattle.assessments.specs.Assess.{nothing, maxCellEdges, maxLineEdges, maxEdges, Counting, Assesses, stepsIn, Leads, Lent};
@@ -46,13 +47,6 @@ fn max(m: u32, n: u32) -> u32
     ensures { λ r. ⌜ r ≡ max m n ⌝ }
 {
     if m <= n { n } else { m }
-}
-
-// The first number where the test holds, else the second.
-pub fn pick(test: bool, first: usize, second: usize) -> usize
-    ensures { λ r. ⌜ r ≡ cond test first second ⌝ }
-{
-    if test { first } else { second }
 }
 
 // One cut step, between two cells.
