@@ -7,3 +7,4 @@ pub mod Gathering
 pub mod Directions
 pub mod Turns
 pub mod Joining
+pub mod Spans

@@ -1,9 +1,9 @@
 -- What the assessment of all spans answers, and leaves in the lent lists. Definitions only; assumes nothing.
-use Prim.Native.Nat.{ℕ, _*_, _≤_, _<_}
+use Prim.Native.Nat.{ℕ, _*_, _/_, _≤_, _<_}
 use mathlib.Core.Path.{_≡_}
 use mathlib.Core.List.{List}
 use lib.ListN.{length, getD}
-use Rattle.definitions.specs.Limits.{numbersPerPair}
+use Rattle.definitions.specs.Limits.{maxEntries, numbersPerSpan, talliesPerSpan, numbersPerPair}
 use Rattle.definitions.specs.Lists.{overwrite}
 use Rattle.definitions.specs.Grid.{Map}
 use Rattle.definitions.specs.Partition as partition
@@ -14,6 +14,12 @@ use Rattle.cut_steps.specs.Contract.{SpanMap}
 use Rattle.assessments.specs.Held.{roomOf}
 use Rattle.assessments.specs.declared.Assessed.{Assessed}
 use Rattle.assessments.specs.declared.Assessed.the-variants.{Rows, TooMany}
+
+-- "At most 256 spans"; a label for each cell; "tallies (2 per span)"
+pub record AssessAsked (w h : ℕ) (spans labels tallies : List ℕ) : Type 0 where
+  pub few : length spans / numbersPerSpan ≤ maxEntries
+  pub labelsLong : h * w ≤ length labels
+  pub talliesLong : talliesPerSpan * (length spans / numbersPerSpan) ≤ length tallies
 
 -- 12: "more pairs than rows". Else `old` as lent holds the rows, and the answer is their number. (Where they are too many, nothing but the length is said of the
 -- list: who calls has to clear it.)

@@ -4,9 +4,12 @@ pub mod region_pairs;
 use flood::direction_table;
 use cut_steps::cell::cut_directions;
 use cut_steps::cell::is_set;
+use cut_steps::NUMBERS_PER_SPAN;
 use cut_steps::pick;
+use cut_steps::span_at;
 use span_geometry::SpanGeometry;
 use span_geometry::strips::Strip;
+use region_pairs::NUMBERS_PER_PAIR;
 use region_pairs::insert_pair;
 ghost use mathlib.Core.Path.{_≡_};
 ghost use mathlib.Core.Bool.{true, cond};
@@ -18,11 +21,15 @@ ghost use Rattle.definitions.specs.Refusals.{endpointsDiffer};
 ghost use Rattle.flood.specs.Masks.{bitOf};
 ghost use Rattle.flood.specs.Walk.{gridOf};
 ghost use Rattle.span_geometry.specs.Shapes.{Sound, segmentOf};
+ghost use Rattle.cut_steps.specs.Contract.{Checked};
 ghost use Rattle.cut_steps.specs.CutSteps.{isSet, cutFrom, cutSpan};
 ghost use Rattle.cut_steps.specs.Columns.{ColumnAsked, cutColumn};
 ghost use Rattle.assessments.specs.PairRows.{pairOf};
 ghost use Rattle.assessments.specs.Held.{roomOf};
 ghost use Rattle.assessments.specs.Assess.{nothing, maxCellEdges, maxLineEdges, maxEdges, Counting, Assesses, stepsIn, Leads, Lent};
+ghost use Rattle.assessments.specs.Answer.{AssessAsked, SpansAssessed};
+
+pub const TALLIES_PER_SPAN: usize = 2;
 
 // How many rows of pairs there are, or that they are more than the list has room for.
 pub enum Assessed {
@@ -257,4 +264,37 @@ fn assess_span(
         k += 1;
     }
     a
+}
+
+// Assesses every span by the labels of the partition: two tallies a span, and the rows of pairs as far as there is room.
+pub fn assess_spans(
+    width: usize,
+    height: usize,
+    cells: &[u8],
+    spans: &[u64],
+    labels: &[u32],
+    tallies: &mut [u32],
+    pairs: &mut [u32],
+) -> Assessed
+    requires { ⌜ Checked width height (now cells) (now spans) ⌝ }
+    requires { ⌜ AssessAsked width height (now spans) (now labels) (now tallies) ⌝ }
+    ensures { λ r. ⌜ SpansAssessed width height (now (cells .entry)) (now (spans .entry)) (now (labels .entry)) (now (tallies .entry)) (now (pairs .entry)) (now (tallies .exit)) (now (pairs .exit)) r ⌝ }
+{
+    let count = spans.len() / NUMBERS_PER_SPAN;
+    let mut end = 0;
+    let mut s = 0;
+    while s < count {
+        let g = span_at(spans, s);
+        let a = assess_span(width, height, cells, labels, pairs, g, s as u32, end);
+        let at = TALLIES_PER_SPAN * s;
+        tallies[at] = a.removed;
+        tallies[at + 1] = a.separated;
+        end = a.end;
+        s += 1;
+    }
+    if end <= pairs.len() / NUMBERS_PER_PAIR {
+        Assessed::Rows(end)
+    } else {
+        Assessed::TooMany
+    }
 }
