@@ -5,7 +5,7 @@ use mathlib.Core.Bool.{Bool, true, false, _&&_, cond}
 use mathlib.Core.List.{List, [], _∷_, _++_, map}
 use native.Mathlib.Omega.{arith}
 use native.Mathlib.Numerals.{add-one}
-use lib.ListN.{take, getD}
+use lib.ListN.{take}
 use lib.Seq.{take-suc}
 use lib.Dec.{ltb}
 use borrow.Author.Tests.{ltb-true, leb-true}

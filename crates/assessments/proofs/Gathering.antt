@@ -11,8 +11,8 @@ use Rattle.definitions.specs.Grid.{Pair}
 use Rattle.definitions.specs.Partition.{isSeparated, labelPair, addPair, pairsOf}
 use Rattle.laws.specs.ListLaws.Lists.{filter-append}
 use Rattle.laws.specs.RegionLaws.PairLaws.{pairsOf-ascending, pairsOf-step}
-use Rattle.assessments.specs.PairRows.{pairOf, rowsFor}
-use Rattle.assessments.specs.Held.{Held, Adds}
+use Rattle.laws.specs.RegionLaws.PairRows.{rowsFor}
+use Rattle.assessments.specs.Held.{pairOf, Held, Adds}
 use Rattle.assessments.specs.Assess.{Gathered, Assesses}
 use Rattle.assessments.specs.declared.BoundaryAssessment.{BoundaryAssessment}
 

@@ -1,7 +1,7 @@
 -- The rows and tallies that the code makes of the lent lists are those of the context of every map with these cells, spans and labels. Labels are looked up
 -- at the cells of steps alone, which are cells of the grid. Assumes nothing.
 use Prim.Native.Nat.{ℕ, _*_, _/_, _<_, min, max}
-use mathlib.Core.Path.{_≡_, refl, sym, ap, ap₂, _∙_}
+use mathlib.Core.Path.{_≡_, sym, ap, ap₂, _∙_}
 use mathlib.Core.Bool.{not}
 use mathlib.Core.List.{List, [], _∷_, map}
 use native.Mathlib.Omega.{arith}
@@ -18,13 +18,13 @@ use Rattle.definitions.specs.Verdict.{pairRowsOf}
 use Rattle.definitions.specs.AtExit.{talliesOf}
 use Rattle.laws.specs.ListLaws.Lists.{All, all-map, all-filter}
 use Rattle.laws.specs.ListLaws.Scans.{filter-ext, map-ext}
-use Rattle.laws.specs.RegionLaws.Steps.{Step, cutSteps-steps}
+use Rattle.laws.specs.RegionLaws.Steps.{cutSteps-steps}
 use Rattle.laws.specs.RegionLaws.PairLaws.{cutOf-at, pairs-at}
 use Rattle.cut_steps.specs.Contract.{SpanMap}
 use Rattle.cut_steps.specs.CutLaws.{span-count, cut-steps-span}
 use Rattle.cut_steps.specs.Prefixes.{gather-ext}
 use Rattle.cut_steps.proofs.Spans.{cutListed}
-use Rattle.assessments.specs.PairRows.{rowsFor}
+use Rattle.laws.specs.RegionLaws.PairRows.{rowsFor}
 use Rattle.assessments.specs.Answer.{Labelled}
 
 -- ---- labels that agree at the cells of steps

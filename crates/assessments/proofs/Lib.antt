@@ -1,6 +1,4 @@
 pub mod Places
-pub mod Shifts
-pub mod Rows
 pub mod Insertion
 pub mod Holding
 pub mod Gathering

@@ -1,31 +1,29 @@
 -- The loop over the spans: what the call for one span asks, one span more, and what all spans come to, of every map with these cells, spans and labels. Assumes nothing.
 use Prim.Native.Nat.{ℕ, zero, suc, _+_, _*_, _/_, _≤_, _<_}
 use mathlib.Core.Path.{_≡_, refl, sym, ap, _∙_, subst}
-use mathlib.Core.List.{List, [], _∷_, _++_, append-nil}
+use mathlib.Core.List.{List, [], _∷_, append-nil}
 use native.Mathlib.Omega.{arith}
 use native.Mathlib.Numerals.{add-one}
 use lib.ListN.{length, set, length-append, length-set}
 use Rattle.definitions.specs.Limits.{numbersPerSpan}
 use Rattle.definitions.specs.Lists.{overwrite}
 use Rattle.definitions.specs.Scan.{gather, filter}
-use Rattle.definitions.specs.Grid.{Map, Pair, segmentAt}
+use Rattle.definitions.specs.Grid.{segmentAt}
 use Rattle.definitions.specs.Partition.{isSeparated, pairsOf}
-use Rattle.definitions.specs.Context.{contextOf}
-use Rattle.definitions.specs.Verdict.{pairRowsOf}
 use Rattle.span_geometry.specs.declared.SpanGeometry.{SpanGeometry}
 use Rattle.span_geometry.specs.Shapes.{segmentOf, Made}
 use Rattle.flood.specs.Walk.{gridOf}
-use Rattle.cut_steps.specs.Contract.{SpanMap, Checked}
+use Rattle.cut_steps.specs.Contract.{Checked}
 use Rattle.cut_steps.specs.CutSteps.{cutSpan}
 use Rattle.cut_steps.proofs.Spans.{cutListed}
-use Rattle.assessments.specs.PairRows.{rowsFor}
+use Rattle.laws.specs.RegionLaws.PairRows.{rowsFor}
 use Rattle.assessments.specs.Held.{roomOf, Held}
 use Rattle.assessments.specs.Assess.{nothing, maxEdges, Counting, Gathered, Assesses, Lent}
-use Rattle.assessments.specs.Answer.{AssessAsked, Answers, Labelled, AssessedAs, SpansAssessed}
+use Rattle.assessments.specs.Answer.{AssessAsked, Answers, SpansAssessed}
 use Rattle.assessments.specs.declared.BoundaryAssessment.{BoundaryAssessment}
 use Rattle.assessments.specs.declared.Assessed.{Assessed}
 use Rattle.assessments.specs.declared.Assessed.the-variants.{Rows, TooMany}
-use Rattle.assessments.proofs.Shifts.{overwrite-more}
+use Rattle.laws.specs.ListLaws.Overwrites.{overwrite-more}
 use Rattle.assessments.proofs.Holding.{held-fits, held-over}
 use Rattle.assessments.proofs.Joining.{rows-same, tallies-same}
 

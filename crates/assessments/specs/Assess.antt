@@ -1,5 +1,5 @@
 -- The words of the contracts of the walk along a span: what it has counted and collected. Definitions only; assumes nothing.
-use Prim.Native.Nat.{ℕ, _+_, _*_, _≤_, _<_}
+use Prim.Native.Nat.{ℕ, _*_, _≤_, _<_}
 use mathlib.Core.Path.{_≡_}
 use mathlib.Core.Bool.{true}
 use mathlib.Core.List.{List, [], _++_, map}
@@ -12,7 +12,7 @@ use Rattle.flood.specs.Masks.{bitOf}
 use Rattle.flood.specs.Walk.{gridOf}
 use Rattle.flood.specs.Inner.{Inside}
 use Rattle.cut_steps.specs.CutSteps.{isSet}
-use Rattle.assessments.specs.PairRows.{rowsFor}
+use Rattle.laws.specs.RegionLaws.PairRows.{rowsFor}
 use Rattle.assessments.specs.Held.{Held, Counted}
 use Rattle.assessments.specs.declared.BoundaryAssessment.{BoundaryAssessment}
 

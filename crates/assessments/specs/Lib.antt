@@ -1,4 +1,3 @@
-pub mod PairRows
 pub mod Held
 pub mod Assess
 pub mod Answer

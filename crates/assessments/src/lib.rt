@@ -24,8 +24,7 @@ ghost use Rattle.span_geometry.specs.Shapes.{Sound, segmentOf};
 ghost use Rattle.cut_steps.specs.Contract.{Checked};
 ghost use Rattle.cut_steps.specs.CutSteps.{isSet, cutFrom, cutSpan};
 ghost use Rattle.cut_steps.specs.Columns.{ColumnAsked, cutColumn};
-ghost use Rattle.assessments.specs.PairRows.{pairOf};
-ghost use Rattle.assessments.specs.Held.{roomOf};
+ghost use Rattle.assessments.specs.Held.{pairOf, roomOf};
 ghost use Rattle.assessments.specs.Assess.{nothing, maxCellEdges, maxLineEdges, maxEdges, Counting, Assesses, stepsIn, Leads, Lent};
 ghost use Rattle.assessments.specs.Answer.{AssessAsked, SpansAssessed};
 

@@ -13,3 +13,4 @@ pub mod SortedMembers
 pub mod Disjunction
 pub mod FirstBelow
 pub mod NoFault
+pub mod Overwrites

@@ -6,10 +6,6 @@ use Rattle.assessments.proofs.Directions.{steps-cut, steps-cut-none, le
 use Rattle.assessments.proofs.Turns.{counting-most}
 use Rattle.assessments.proofs.assess_cell.Statement.{statement}
 use Rattle.assessments.proofs.assess_cell.Tie as tie
-use Rattle.assessments.proofs.assess_cell.Reads as reads
-use Rattle.assessments.proofs.assess_cell.Lts as lts
-use Rattle.assessments.proofs.assess_directions.Reads as assess-directions-reads
-use Rattle.cut_steps.proofs.cell.cut_directions.Reads as cut-directions-reads
 
 cut-directions-requires : tie.Need-cut-directions-requires
 cut-directions-requires c κs = search needs

@@ -14,11 +14,6 @@ use Rattle.assessments.proofs.Turns.{counting-most, side-most, Walking,
 use borrow.Author.Needs.{needs}
 use Rattle.assessments.proofs.assess_column.Statement.{statement}
 use Rattle.assessments.proofs.assess_column.Tie as tie
-use Rattle.assessments.proofs.assess_column.Reads as reads
-use Rattle.assessments.proofs.assess_column.Lts as lts
-use Rattle.assessments.proofs.assess_cell.Reads as assess-cell-reads
-use Rattle.cut_steps.proofs.pick.Reads as pick-reads
-use Rattle.span_geometry.proofs.strips.Strip.minor_range.Reads as minor-range-reads
 
 abbrev Inv-loop : tie.InvT-loop
 Inv-loop width height cells labels pairs₀ g span first k columns last a₀ m₀ pairs a m =

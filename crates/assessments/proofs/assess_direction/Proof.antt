@@ -13,10 +13,6 @@ use Rattle.assessments.proofs.Gathering.{assesses-none}
 use borrow.Author.Needs.{needs}
 use Rattle.assessments.proofs.assess_direction.Statement.{statement}
 use Rattle.assessments.proofs.assess_direction.Tie as tie
-use Rattle.assessments.proofs.assess_direction.Reads as reads
-use Rattle.assessments.proofs.assess_direction.Lts as lts
-use Rattle.assessments.proofs.assess_step.Reads as assess-step-reads
-use Rattle.cut_steps.proofs.cell.is_set.Reads as is-set-reads
 
 mul-is-set : tie.Need-mul-is-set
 mul-is-set c = search needs

@@ -13,10 +13,6 @@ use Rattle.assessments.proofs.Turns.{Turns, counting-most, turns-none, 
 use borrow.Author.Needs.{needs}
 use Rattle.assessments.proofs.assess_directions.Statement.{statement}
 use Rattle.assessments.proofs.assess_directions.Tie as tie
-use Rattle.assessments.proofs.assess_directions.Reads as reads
-use Rattle.assessments.proofs.assess_directions.Lts as lts
-use Rattle.assessments.proofs.assess_direction.Reads as assess-direction-reads
-use Rattle.flood.proofs.direction_table.Reads as direction-table-reads
 
 abbrev Inv-loop : tie.InvT-loop
 Inv-loop width height labels pairs₀ span first x y mask table a₀ d₀ pairs a d = (d ≤ 8) × Turns labels span first (stepsTo width x y mask d) a₀ pairs₀ (a₀ .removed + d) a pairs

@@ -12,12 +12,6 @@ use Rattle.assessments.proofs.Turns.{counting-most, side-most, Walking,
 use borrow.Author.Needs.{needs}
 use Rattle.assessments.proofs.assess_span.Statement.{statement}
 use Rattle.assessments.proofs.assess_span.Tie as tie
-use Rattle.assessments.proofs.assess_span.Reads as reads
-use Rattle.assessments.proofs.assess_span.Lts as lts
-use Rattle.assessments.proofs.assess_column.Reads as assess-column-reads
-use Rattle.cut_steps.proofs.pick.Reads as pick-reads
-use Rattle.span_geometry.proofs.strips.Strip.axis_range.Reads as axis-range-reads
-use Rattle.span_geometry.proofs.strips.Strip.new.Reads as new-reads
 
 abbrev Inv-loop : tie.InvT-loop
 Inv-loop width height cells labels pairs₀ g span first strip last a₀ k₀ pairs a k =

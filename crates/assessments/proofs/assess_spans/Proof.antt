@@ -8,10 +8,6 @@ use Rattle.assessments.proofs.Spans.{lent, Before, before-first, before
 use borrow.Author.Needs.{needs}
 use Rattle.assessments.proofs.assess_spans.Statement.{statement}
 use Rattle.assessments.proofs.assess_spans.Tie as tie
-use Rattle.assessments.proofs.assess_spans.Reads as reads
-use Rattle.assessments.proofs.assess_spans.Lts as lts
-use Rattle.assessments.proofs.assess_span.Reads as assess-span-reads
-use Rattle.cut_steps.proofs.span_at.Reads as span-at-reads
 
 abbrev Inv-loop : tie.InvT-loop
 Inv-loop width height cells spans labels tallies₀ pairs₀ count end₀ s₀ tallies pairs end s = (s ≤ count) × Before width height cells spans labels tallies₀ pairs₀ s tallies pairs end

@@ -3,11 +3,6 @@ use borrow.Author.Needs.{needs}
 use Rattle.assessments.proofs.Gathering.{assesses-together, assesses-apart}
 use Rattle.assessments.proofs.assess_step.Statement.{statement}
 use Rattle.assessments.proofs.assess_step.Tie as tie
-use Rattle.assessments.proofs.assess_step.Reads as reads
-use Rattle.assessments.proofs.assess_step.Lts as lts
-use Rattle.assessments.proofs.max.Reads as max-reads
-use Rattle.assessments.proofs.min.Reads as min-reads
-use Rattle.assessments.proofs.region_pairs.insert_pair.Reads as insert-pair-reads
 
 mul-left : tie.Need-mul-left
 mul-left c = search needs
