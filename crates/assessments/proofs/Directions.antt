@@ -1,8 +1,8 @@
 -- The steps from a cell in the directions of a mask, direction by direction; and where the mask is that of a span, they are the steps that it cuts. Assumes nothing.
 use Prim.Native.Nat.{ℕ, _+_, _≤_, _<_}
-use mathlib.Core.Path.{_≡_, refl, sym, ap, _∙_}
-use mathlib.Core.Bool.{Bool, true, false, _&&_, cond}
-use mathlib.Core.List.{List, [], _∷_, _++_, map}
+use mathlib.Core.Path.{_≡_, refl, sym, ap, ap₂, _∙_}
+use mathlib.Core.Bool.{true, _&&_, cond}
+use mathlib.Core.List.{List, [], _∷_, _++_, append-nil}
 use native.Mathlib.Omega.{arith}
 use native.Mathlib.Numerals.{add-one}
 use lib.ListN.{take}
@@ -10,32 +10,27 @@ use lib.Seq.{take-suc}
 use lib.Dec.{ltb}
 use borrow.Author.Tests.{ltb-true, leb-true}
 use Rattle.definitions.specs.Limits.{maxSide}
-use Rattle.definitions.specs.Scan.{filter}
+use Rattle.definitions.specs.Scan.{concatMap}
 use Rattle.definitions.specs.Grid.{Map, Position, at, Segment, Pair, index, cellAt, isWalkable, directions, toward, edge, walkable, isStep}
 use Rattle.definitions.specs.Spans.{cuts}
-use Rattle.laws.specs.ListLaws.Lists.{All, all-map, filter-append, map-append}
+use Rattle.laws.specs.ListLaws.Lists.{All, done, more, all-map}
 use Rattle.laws.specs.ListLaws.Tests.{both}
-use Rattle.laws.specs.ListLaws.Scans.{filter-ext}
 use Rattle.laws.specs.RegionLaws.Steps.{step-parts}
 use Rattle.flood.specs.Masks.{bitOf}
 use Rattle.flood.specs.Walk.{gridOf, directionAt}
 use Rattle.flood.specs.Inner.{Inside}
 use Rattle.flood.proofs.Ways.{direction-near, all-by-place}
-use Rattle.cut_steps.specs.CutSteps.{isSet, isCutOnward, cutFrom}
+use Rattle.cut_steps.specs.CutSteps.{isSet, isCutOnward, cutFrom, cutToward}
+use Rattle.cut_steps.specs.CutLaws.{cutFrom-directions}
+use Rattle.cut_steps.specs.Prefixes.{concat-append}
 use Rattle.cut_steps.specs.Cell.{CutDirections}
-use Rattle.assessments.specs.Assess.{stepsIn, Leads}
+use Rattle.assessments.specs.Assess.{stepIn, stepsIn, Leads}
 
 module _ (w x y mask : ℕ) where
-  abbrev stepTo : Position → Pair
-  stepTo d = edge (gridOf w 0 []) (at x y) (toward (at x y) d)
-
-  abbrev has : Position → Bool
-  has d = isSet mask (bitOf d)
-
   -- in the first n directions
   unfoldable pub stepsTo : ℕ → List Pair
-  unfolding filter
-  stepsTo n = map stepTo (filter has (take n directions))
+  unfolding concatMap stepIn
+  stepsTo n = concatMap (stepIn w x y mask) (take n directions)
 
   pub steps-none : stepsTo 0 ≡ []
   unfolding stepsTo
@@ -45,35 +40,36 @@ module _ (w x y mask : ℕ) where
   unfolding stepsTo stepsIn
   steps-all = refl
 
-  steps-next : (n : ℕ) → n < 8 → stepsTo (n + 1) ≡ stepsTo n ++ cond (has (directionAt n)) (stepTo (directionAt n) ∷ []) []
-  unfolding stepsTo
-  steps-next n h =
-      ap (λ k. map stepTo (filter has (take k directions))) (add-one n)
-      ∙ ap (λ l. map stepTo (filter has l)) (take-suc directions n (at 0 0) h)
-      ∙ ap (map stepTo) (filter-append has (take n directions) (directionAt n ∷ []))
-      ∙ map-append stepTo (filter has (take n directions)) (filter has (directionAt n ∷ []))
-      ∙ ap (λ l. map stepTo (filter has (take n directions)) ++ l) (go (has (directionAt n)))
-    where
-      go : (t : Bool) → map stepTo (cond t (directionAt n ∷ []) []) ≡ cond t (stepTo (directionAt n) ∷ []) []
-      go true = refl
-      go false = refl
-
   -- and in q, the next
-  pub steps-more : (n : ℕ) {q : Position} → q ≡ directionAt n → n < 8 → stepsTo n ++ cond (isSet mask (bitOf q)) (edge (gridOf w 0 []) (at x y) (toward (at x y) q) ∷ []) [] ≡ stepsTo (n + 1)
-  steps-more n e h = ap (λ q. stepsTo n ++ cond (has q) (stepTo q ∷ []) []) e ∙ sym (steps-next n h)
+  pub steps-more : (n : ℕ) {q : Position} → q ≡ directionAt n → n < 8 → stepsTo n ++ stepIn w x y mask q ≡ stepsTo (n + 1)
+  unfolding stepsTo
+  steps-more n e h =
+      ap (λ r. stepsTo n ++ r) (ap (stepIn w x y mask) e ∙ sym (append-nil (stepIn w x y mask (directionAt n))))
+      ∙ sym (concat-append (stepIn w x y mask) (take n directions) (directionAt n ∷ []))
+      ∙ ap (concatMap (stepIn w x y mask)) (sym (take-suc directions n (at 0 0) h))
+      ∙ ap stepsTo (sym (add-one n))
 
 -- ---- the mask of a span
+
+concat-ext : {A B : Type 0} {f g : A → List B} {l : List A} → All (λ x. f x ≡ g x) l → concatMap f l ≡ concatMap g l
+unfolding concatMap
+concat-ext done = refl
+concat-ext (more h a) = ap₂ _++_ h (concat-ext a)
 
 all-near : All (λ d. (d .x ≤ 2) × (d .y ≤ 2)) directions
 all-near = all-by-place (at 0 0) directions direction-near
 
 module _ {w h : ℕ} {cells : List ℕ} {g : Segment} {x y mask : ℕ} (C : CutDirections w h cells g x y mask) where
+  step-cut : (d : Position) → (d .x ≤ 2) × (d .y ≤ 2) → stepIn w x y mask d ≡ cutToward (gridOf w h cells) g (at x y) d
+  unfolding stepIn cutToward
+  step-cut d n = ap (λ t. cond t (edge (gridOf w h cells) (at x y) (toward (at x y) d) ∷ []) []) (C .bits d (n .0) (n .1))
+
   pub steps-cut : stepsIn w x y mask ≡ cutFrom (gridOf w h cells) g (at x y)
-  unfolding stepsIn cutFrom
-  steps-cut = ap (map (λ d. edge (gridOf w h cells) (at x y) (toward (at x y) d))) (filter-ext (all-map (λ d n. C .bits d (n .0) (n .1)) all-near))
+  unfolding stepsIn
+  steps-cut = concat-ext (all-map step-cut all-near) ∙ sym (cutFrom-directions (gridOf w h cells) g (at x y))
 
   pub steps-cut-none : mask ≡ 0 → [] ≡ cutFrom (gridOf w h cells) g (at x y)
-  unfolding stepsIn filter
+  unfolding stepsIn concatMap stepIn
   steps-cut-none e = sym (ap (stepsIn w x y) e) ∙ steps-cut
 
   -- a direction of the mask has a step, so that it leads to a cell of the grid

@@ -81,4 +81,4 @@ module _ {w h : ℕ} {cells spans : List ℕ} {M : Map} (S : SpanMap w h cells s
     tallies-same =
         ap (λ n. gather n (λ s. contextOf M .removedEdges s ∷ contextOf M .separatedEdges s ∷ [])) (span-count S)
         ∙ gather-ext (length spans / numbersPerSpan) (λ s. contextOf M .removedEdges s ∷ contextOf M .separatedEdges s ∷ []) (λ s. length (cutListed w h cells spans s) ∷ length (filter (isSeparated labels) (cutListed w h cells spans s)) ∷ [])
-            (λ s l. ap₂ (λ a b. a ∷ b ∷ []) (removed-same s l) (separated-same s l))
+        (λ s l. ap₂ (λ a b. a ∷ b ∷ []) (removed-same s l) (separated-same s l))

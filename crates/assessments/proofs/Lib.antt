@@ -1,8 +1,8 @@
-pub mod Places
-pub mod Insertion
-pub mod Holding
-pub mod Gathering
-pub mod Directions
-pub mod Turns
-pub mod Joining
-pub mod Spans
+mod Places
+mod Insertion
+mod Holding
+mod Gathering
+mod Directions
+mod Turns
+mod Joining
+mod Spans

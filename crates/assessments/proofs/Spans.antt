@@ -98,7 +98,7 @@ module _ {w h : ℕ} {cells spans labels tallies₀ pairs₀ : List ℕ} where
           next : 2 * s + 1 ≡ suc (length (talliesBelow w h cells spans labels s))
           next = omega (arith, place)
 
--- ---- after the last span
+  -- ---- after the last span
 
   module _ {n : ℕ} {tallies pairs : List ℕ} {end : ℕ} (B : Before w h cells spans labels tallies₀ pairs₀ n tallies pairs end) where
     there : end ≤ roomOf pairs → Answers (Rows end) (rowsBelow w h cells spans labels n) pairs₀ pairs

@@ -21,8 +21,8 @@ pub record AssessAsked (w h : ℕ) (spans labels tallies : List ℕ) : Type 0 wh
   pub labelsLong : h * w ≤ length labels
   pub talliesLong : talliesPerSpan * (length spans / numbersPerSpan) ≤ length tallies
 
--- 12: "more pairs than rows". Else `old` as lent holds the rows, and the answer is their number. (Where they are too many, nothing but the length is said of the
--- list: who calls has to clear it.)
+-- What the answer says of the rows of all pairs: the list of pairs, lent as `old`, has room for them, holds them, and the answer is their number; or they are too
+-- many (12: "more pairs than rows"). In that case what the list holds is left free, and the caller clears it.
 abbrev pub Answers : Assessed → (rows old now : List ℕ) → Type 0
 Answers (Rows count) rows old now = (length rows ≤ roomOf old * numbersPerPair) × (numbersPerPair * count ≡ length rows) × (now ≡ overwrite rows old)
 Answers TooMany rows old now = (roomOf old * numbersPerPair < length rows) × (length now ≡ length old)

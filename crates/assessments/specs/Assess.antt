@@ -1,11 +1,11 @@
 -- The words of the contracts of the walk along a span: what it has counted and collected. Definitions only; assumes nothing.
 use Prim.Native.Nat.{ℕ, _*_, _≤_, _<_}
 use mathlib.Core.Path.{_≡_}
-use mathlib.Core.Bool.{true}
-use mathlib.Core.List.{List, [], _++_, map}
+use mathlib.Core.Bool.{true, cond}
+use mathlib.Core.List.{List, [], _∷_, _++_}
 use lib.ListN.{length}
 use Rattle.definitions.specs.Limits.{maxSide, numbersPerPair}
-use Rattle.definitions.specs.Scan.{filter}
+use Rattle.definitions.specs.Scan.{filter, concatMap}
 use Rattle.definitions.specs.Grid.{Position, at, Pair, directions, toward, edge}
 use Rattle.definitions.specs.Partition.{isSeparated, pairsOf}
 use Rattle.flood.specs.Masks.{bitOf}
@@ -50,14 +50,18 @@ nothing first = record { removed = 0; separated = 0; end = first }
 -- the steps es are assessed behind those that were before
 pub record Assesses (labels : List ℕ) (span first : ℕ) (es : List Pair) (a : BoundaryAssessment) (now : List ℕ) (a′ : BoundaryAssessment) (now′ : List ℕ) : Type 0 where
   pub each :
-    (before old : List ℕ) (es₀ : List Pair) → Gathered labels span first before old es₀ a now → Gathered labels span first before old (es₀ ++ es) a′ now′
+      (before old : List ℕ) (es₀ : List Pair) → Gathered labels span first before old es₀ a now → Gathered labels span first before old (es₀ ++ es) a′ now′
 
 -- ---- the steps of a cell
 
--- from (x, y) in the directions of a mask
+-- the step from (x, y) in direction d, if the mask has it
+unfoldable pub stepIn : (w x y mask : ℕ) → Position → List Pair
+stepIn w x y mask d = cond (isSet mask (bitOf d)) (edge (gridOf w 0 []) (at x y) (toward (at x y) d) ∷ []) []
+
+-- those in all its directions
 unfoldable pub stepsIn : (w x y mask : ℕ) → List Pair
-unfolding filter
-stepsIn w x y mask = map (λ d. edge (gridOf w 0 []) (at x y) (toward (at x y) d)) (filter (λ d. isSet mask (bitOf d)) directions)
+unfolding concatMap stepIn
+stepsIn w x y mask = concatMap (stepIn w x y mask) directions
 
 -- every direction of the mask leads to a cell of the grid
 pub record Leads (w h x y mask : ℕ) : Type 0 where

@@ -1,31 +1,30 @@
 // The second half of `partition_by_spans` of areas.rs: of each span how many edges it removes and separates, and its pairs of regions.
 pub mod region_pairs;
 
-use flood::direction_table;
+use cut_steps::NUMBERS_PER_SPAN;
 use cut_steps::cell::cut_directions;
 use cut_steps::cell::is_set;
-use cut_steps::NUMBERS_PER_SPAN;
 use cut_steps::pick;
 use cut_steps::span_at;
-use span_geometry::SpanGeometry;
-use span_geometry::strips::Strip;
+use flood::direction_table;
 use region_pairs::NUMBERS_PER_PAIR;
 use region_pairs::insert_pair;
+use span_geometry::SpanGeometry;
+use span_geometry::strips::Strip;
 ghost use mathlib.Core.Path.{_≡_};
-ghost use mathlib.Core.Bool.{true, cond};
+ghost use mathlib.Core.Bool.{true};
 ghost use mathlib.Core.List.{[], _∷_};
 ghost use Prim.Native.Nat.{_+_, _-_, _*_, _≤_, _<_, min, max};
 ghost use lib.ListN.{length};
-ghost use Rattle.definitions.specs.Grid.{at, toward, edge};
+ghost use Rattle.definitions.specs.Grid.{at};
 ghost use Rattle.definitions.specs.Refusals.{endpointsDiffer};
-ghost use Rattle.flood.specs.Masks.{bitOf};
 ghost use Rattle.flood.specs.Walk.{gridOf};
 ghost use Rattle.span_geometry.specs.Shapes.{Sound, segmentOf};
 ghost use Rattle.cut_steps.specs.Contract.{Checked};
-ghost use Rattle.cut_steps.specs.CutSteps.{isSet, cutFrom, cutSpan};
+ghost use Rattle.cut_steps.specs.CutSteps.{cutFrom, cutSpan};
 ghost use Rattle.cut_steps.specs.Columns.{ColumnAsked, cutColumn};
 ghost use Rattle.assessments.specs.Held.{pairOf, roomOf};
-ghost use Rattle.assessments.specs.Assess.{nothing, maxCellEdges, maxLineEdges, maxEdges, Counting, Assesses, stepsIn, Leads, Lent};
+ghost use Rattle.assessments.specs.Assess.{nothing, maxCellEdges, maxLineEdges, maxEdges, Counting, Assesses, stepIn, stepsIn, Leads, Lent};
 ghost use Rattle.assessments.specs.Answer.{AssessAsked, SpansAssessed};
 
 pub const TALLIES_PER_SPAN: usize = 2;
@@ -79,7 +78,14 @@ fn assess_step(
             end: start.end,
         };
     }
-    let end = insert_pair(pairs, first, start.end, span, min(left, right), max(left, right));
+    let end = insert_pair(
+        pairs,
+        first,
+        start.end,
+        span,
+        min(left, right),
+        max(left, right),
+    );
     BoundaryAssessment {
         removed: start.removed + 1,
         separated: start.separated + 1,
@@ -105,7 +111,7 @@ fn assess_direction(
     requires { ⌜ Leads width height x y mask × (dx ≤ 2) × (dy ≤ 2) × (height * width ≤ length (now labels)) ⌝ }
     requires { ⌜ Counting (now pairs) first (maxEdges - 1) start ⌝ }
     ensures { λ r. ⌜ Counting (now (pairs .exit)) first (start .removed + 1) r ⌝ }
-    ensures { λ r. ⌜ Assesses (now (labels .entry)) span first (cond (isSet mask (bitOf (at dx dy))) (edge (gridOf width 0 []) (at x y) (toward (at x y) (at dx dy)) ∷ []) []) start (now (pairs .entry)) r (now (pairs .exit)) ⌝ }
+    ensures { λ r. ⌜ Assesses (now (labels .entry)) span first (stepIn width x y mask (at dx dy)) start (now (pairs .entry)) r (now (pairs .exit)) ⌝ }
 {
     if !is_set(mask, dy * 3 + dx) {
         return start;
@@ -183,9 +189,7 @@ fn assess_cell(
     if mask == 0 {
         return start;
     }
-    assess_directions(
-        width, height, labels, pairs, span, first, start, x, y, mask,
-    )
+    assess_directions(width, height, labels, pairs, span, first, start, x, y, mask)
 }
 
 // The steps that the span cuts from the candidates in column, or row, k.
@@ -258,7 +262,17 @@ fn assess_span(
     let mut k = axis.first as usize;
     while k <= last {
         a = assess_column(
-            width, height, cells, labels, pairs, g, strip, span, first, a, k,
+            width,
+            height,
+            cells,
+            labels,
+            pairs,
+            g,
+            strip,
+            span,
+            first,
+            a,
+            k,
         );
         k += 1;
     }

@@ -89,8 +89,7 @@ returns : tie.Need-returns Inv-loop μ-loop
 returns c =
     let r = c .before .before in
     let a = entry (r .before) .args in
-    let T = walking-done (c .before .loop .inv) (c .loop-test .left) (last-in r) in
-    (
+    let T = walking-done (c .before .loop .inv) (c .loop-test .left) (last-in r) in (
       T .counting,
       assesses-same (column-joined (gridOf (a .width) (a .height) (a .cells .now)) (segmentOf (a .g)) (a .strip) (a .k) (r .before .pick .ensures) (r .minor-range .ensures)) (T .assessed),
     )

@@ -9,6 +9,7 @@ use Rattle.definitions.specs.Grid.{at}
 use Rattle.flood.specs.Masks.{bitOf}
 use Rattle.flood.specs.Inner.{Inside}
 use Rattle.cut_steps.specs.CutSteps.{isSet}
+use Rattle.assessments.specs.Assess.{stepIn}
 use Rattle.assessments.proofs.Gathering.{assesses-none}
 use borrow.Author.Needs.{needs}
 use Rattle.assessments.proofs.assess_direction.Statement.{statement}
@@ -41,6 +42,7 @@ is-set-requires : tie.Need-is-set-requires
 is-set-requires c κs = search needs
 
 returns : tie.Need-returns
+unfolding stepIn
 returns c =
     let e = sym (c .before .is-set .ensures) ∙ not-true _ (c .if1 .taken) in
     (search needs, rw e assesses-none)
@@ -76,6 +78,7 @@ same-length : tie.Need-same-length
 same-length c = search needs
 
 returns-2 : tie.Need-returns-2
+unfolding stepIn
 returns-2 c =
     let r = c .before .before in
     let e = is-in (r .before .before) in

@@ -72,8 +72,7 @@ returns : tie.Need-returns Inv-loop μ-loop
 returns c =
     let l = c .before in
     let s = l .before .before .before .before .args in
-    let e : l .loop .d ≡ 8 = omega arith in
-    (
+    let e : l .loop .d ≡ 8 = omega arith in (
       counting-most (l .loop .inv .1 .counting) (omega (arith, l .loop .inv .1 .counting .few)),
       assesses-same (ap (stepsTo (s .width) (s .x) (s .y) (s .mask)) e ∙ steps-all (s .width) (s .x) (s .y) (s .mask)) (l .loop .inv .1 .assessed),
     )

@@ -56,8 +56,7 @@ assess-column-requires c κs =
     let t = c .before in
     let r = axis t in
     let n = r .before .before in
-    let p = entry n .pre .0 in
-    (
+    let p = entry n .pre .0 in (
       (p .0, p .1, record { usable = n .new .ensures .1; column = omega (arith, t .loop-test .taken, r .axis-range .ensures .inside, r .before .pick .ensures); some = some-side (n .new .result .columns) (p .0 .tall) (p .0 .wide) }),
       counting-most (t .before .loop .inv .turns .counting) (omega (arith, t .before .loop .inv .turns .counting .few, t .loop-test .taken, last-in r)),
     )
@@ -86,8 +85,7 @@ returns c =
     let n = r .before .before in
     let s = entry n in
     let a = s .args in
-    let T = walking-done (c .before .loop .inv) (c .loop-test .left) (last-in r) in
-    (
+    let T = walking-done (c .before .loop .inv) (c .loop-test .left) (last-in r) in (
       T .counting,
       assesses-same (span-joined (gridOf (a .width) (a .height) (a .cells .now)) (segmentOf (a .g)) (s .pre .0 .1 .ordered) (n .new .ensures .0) (r .before .pick .ensures) (r .axis-range .ensures)) (T .assessed),
     )

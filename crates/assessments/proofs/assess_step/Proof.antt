@@ -42,8 +42,7 @@ same-length c = search needs
 
 returns-2 : tie.Need-returns-2
 returns-2 c =
-    let i = c .before .before .before .before in
-    (
+    let i = c .before .before .before .before in (
       record { rows = i .insert-pair .ensures .0; fewer = search needs; few = search needs },
       assesses-apart _ _ (i .before .before .before .before .if1 .left) (i .before .before .min .ensures) (i .before .max .ensures) (i .insert-pair .ensures .1),
     )
