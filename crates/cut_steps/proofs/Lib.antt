@@ -1,6 +1,6 @@
 pub mod Onward
-mod Cells
+pub mod Cells
 mod Sides
-mod Marks
+pub mod Marks
 mod Walking
 pub mod Spans

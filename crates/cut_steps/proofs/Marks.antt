@@ -5,11 +5,10 @@ use native.Mathlib.Omega.{arith}
 use mathlib.Core.Path.{_≡_, refl, sym, ap, _∙_, subst}
 use mathlib.Core.Bool.{Bool, true, false, cond}
 use mathlib.Core.List.{List, [], _∷_, _++_, append-assoc, append-nil}
-use lib.ListN.{length, getD, drop}
+use lib.ListN.{length, drop}
 use lib.Seq.{drop-set-lt}
 use lib.Arith.{digits-lt}
 use lib.Dec.{ltb}
-use lib.Bits.{bitOr}
 use borrow.Author.Tests.{ltb-true}
 use Rattle.definitions.specs.Scan.{concatMap}
 use Rattle.definitions.specs.Grid.{Map, Position, at, Pair, Segment, cellCount, toward, index, positionOf, isStep, edge}

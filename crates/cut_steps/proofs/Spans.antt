@@ -3,7 +3,7 @@
 use Prim.Native.Nat.{ℕ, _+_, _*_, _/_, _≤_, _<_}
 use native.Mathlib.Omega.{arith}
 use native.Mathlib.Numerals.{add-one}
-use mathlib.Core.Path.{_≡_, sym, ap, _∙_, subst, subst⁻¹}
+use mathlib.Core.Path.{_≡_, sym, ap, _∙_, subst}
 use mathlib.Core.Bool.{true}
 use mathlib.Core.List.{List, [], _++_}
 use lib.ListN.{length, getD}
@@ -11,17 +11,16 @@ use lib.Dec.{leb}
 use borrow.Author.Tests.{leb-true}
 use Rattle.definitions.specs.Limits.{maxSide, numbersPerSpan}
 use Rattle.definitions.specs.Scan.{gather}
-use Rattle.definitions.specs.Grid.{Map, Position, Pair, Segment, canonical, segmentAt, cellCount, isStep, walkable}
+use Rattle.definitions.specs.Grid.{Map, Position, Pair, canonical, segmentAt, cellCount, isStep, walkable}
 use Rattle.definitions.specs.Spans.{pixelsPerWalkCell}
 use Rattle.definitions.specs.Partition.{cutAll}
-use Rattle.definitions.specs.Refusals.{isOnMap, bothOnMap, endpointsDiffer}
+use Rattle.definitions.specs.Refusals.{isOnMap, endpointsDiffer}
 use Rattle.laws.specs.ListLaws.Tests.{both}
 use Rattle.span_geometry.specs.declared.SpanGeometry.{SpanGeometry}
 use Rattle.span_geometry.specs.Shapes.{maxPixel, segmentOf, Made}
 use Rattle.span_geometry.specs.Canonical.{canonical-differ}
 use Rattle.flood.specs.Masks.{Marks}
 use Rattle.flood.specs.Walk.{gridOf}
-use Rattle.flood.specs.Contract.{CutMap}
 use Rattle.flood.proofs.MarkStep.{marks-none}
 use Rattle.cut_steps.specs.CutSteps.{cutSpan}
 use Rattle.cut_steps.specs.Contract.{SpanMap, Checked}

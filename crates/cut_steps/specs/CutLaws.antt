@@ -8,7 +8,7 @@ use lib.ListN.{length, getD, length-map}
 use lib.Dec.{ltb}
 use Rattle.definitions.specs.Limits.{numbersPerSpan}
 use Rattle.definitions.specs.Scan.{filter, concatMap, gather, run}
-use Rattle.definitions.specs.Grid.{Map, Position, Segment, canonical, segmentAt, noSegment, spanCount, spanOf, index, edge, toward, directions, walkable, isStep, neighbors, onward}
+use Rattle.definitions.specs.Grid.{Map, Position, Segment, canonical, segmentAt, mapOf, noSegment, spanCount, spanOf, index, edge, toward, directions, walkable, isStep, neighbors, onward}
 use Rattle.definitions.specs.Spans.{cuts, candidatePositions, cutSteps}
 use Rattle.definitions.specs.Partition.{cutAll}
 use Rattle.laws.specs.ListLaws.Lists.{length-run, getD-tab}
@@ -95,3 +95,8 @@ module _ {w h : ℕ} {bytes list : List ℕ} {M : Map} (S : SpanMap w h bytes li
   pub cut-all-spans : cutAll M ≡ gather (length list / numbersPerSpan) (λ i. cutSpan (gridOf w h bytes) (canonical (segmentAt list (numbersPerSpan * i))))
   unfolding cutAll
   cut-all-spans = ap (λ n. gather n (cutSteps M)) span-count ∙ gather-ext (length list / numbersPerSpan) (cutSteps M) _ cut-steps-span
+
+-- the map that a call is lent is such a map
+pub span-map : (w h : ℕ) (bytes list boundaries anchors : List ℕ) → SpanMap w h bytes list (mapOf w h bytes list boundaries anchors)
+unfolding mapOf
+span-map w h bytes list boundaries anchors = record { width = refl; height = refl; cells = refl; spans = refl }

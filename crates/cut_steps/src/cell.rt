@@ -28,7 +28,7 @@ fn exceeds(z: i64, bound: u64) -> bool
     (z > limit) | (z < 0 - limit)
 }
 
-// Whether (x, y) is so far from the span's line that every neighbour's centre lies on the same side of it. Most cells near a span need no more than this test.
+// Whether (x, y) is so far from the span's line that every neighbour's centre lies on the same side of it. Many candidates need no more than this test.
 fn is_far(g: SpanGeometry, x: usize, y: usize) -> bool
     requires { ⌜ Sound g × (x < maxSide) × (y < maxSide) ⌝ }
     ensures { λ r. ⌜ (r ≡ true → Far (segmentOf g) (at x y)) ⌝ }

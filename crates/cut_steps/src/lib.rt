@@ -38,8 +38,10 @@ fn mark_direction(
 {
     let k = dy * 3 + dx;
     if is_set(directions, k) {
-        mark(masks, y * width + x, k);
-        mark(masks, (y + dy - 1) * width + (x + dx - 1), 8 - k);
+        let from = y * width + x;
+        let to = (y + dy - 1) * width + (x + dx - 1);
+        mark(masks, from, k);
+        mark(masks, to, 8 - k);
     }
 }
 

@@ -1,8 +1,8 @@
 -- `mark_column` meets its contract. The loop's invariant: the cut steps of the column's cells from the first to the one before m are marked (`Walking`).
 -- Assumes nothing.
-use Prim.Native.Nat.{_+_, _-_, _<_}
+use Prim.Native.Nat.{_+_, _-_}
 use native.Mathlib.Omega.{arith}
-use mathlib.Core.Path.{_≡_, ap, _∙_, subst}
+use mathlib.Core.Path.{ap}
 use borrow.Author.Needs.{needs}
 use Rattle.span_geometry.specs.Shapes.{segmentOf}
 use Rattle.flood.specs.Walk.{gridOf}
@@ -71,7 +71,7 @@ loop-again c =
     let t = turn (cell c .before) in
     let s = entry (range t .before) in
     let a = s .args in
-    walking-more (t .before .loop .inv) (t .loop-test .taken)
+    walking-more (t .before .loop .inv) (omega (arith, t .loop-test .taken))
     (marked-as (ap (cutFrom (gridOf (a .width) (a .height) (a .cells .now)) (segmentOf (a .g))) (cell-at (a .strip .columns) (a .k) (t .before .loop .m) (cell c .before .before .pick2 .ensures) (cell c .before .pick3 .ensures))) (cell c .mark-cell .ensures))
 
 same-length : tie.Need-same-length Inv-loop μ-loop

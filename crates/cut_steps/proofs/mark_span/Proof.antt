@@ -60,7 +60,7 @@ loop-less : tie.Need-loop-less Inv-loop μ-loop
 loop-less c = omega (arith, turn c .loop-test .taken)
 
 loop-again : tie.Need-loop-again Inv-loop μ-loop
-loop-again c = walking-more (turn c .before .loop .inv) (turn c .loop-test .taken) (c .before .before .mark-column .ensures)
+loop-again c = walking-more (turn c .before .loop .inv) (omega (arith, turn c .loop-test .taken)) (c .before .before .mark-column .ensures)
 
 same-length : tie.Need-same-length Inv-loop μ-loop
 same-length c = c .before .loop .inv .marked .long

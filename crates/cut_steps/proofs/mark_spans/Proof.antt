@@ -1,7 +1,6 @@
 -- `mark_spans` meets its contract. The loop's invariant: the cut steps of the spans below i are marked. Assumes nothing.
 use Prim.Native.Nat.{_-_, _≤_}
 use native.Mathlib.Omega.{arith}
-use borrow.Author.Needs.{needs}
 use Rattle.definitions.specs.Scan.{gather}
 use Rattle.flood.specs.Walk.{gridOf}
 use Rattle.cut_steps.specs.Marking.{Marked}
@@ -26,7 +25,7 @@ unfolding gather
 loop-holds c = (omega arith, marked-none)
 
 span-at-requires : tie.Need-span-at-requires Inv-loop μ-loop
-span-at-requires c κs = span-at-asked (entry (c .before) .pre .0) (c .loop-test .taken)
+span-at-requires c κs = span-at-asked (entry (c .before) .pre .0) (omega (arith, c .loop-test .taken))
 
 mark-span-requires : tie.Need-mark-span-requires Inv-loop μ-loop
 mark-span-requires c κs =
