@@ -4,25 +4,16 @@ use Prim.Native.Nat.{ℕ, _+_, _-_, _*_, _%_, _≤_, _<_}
 use mathlib.Core.Path.{_≡_}
 use mathlib.Core.Bool.{not}
 use mathlib.Core.Option.{Option}
-use mathlib.Core.List.{List, map}
+use mathlib.Core.List.{List}
 use lib.ListN.{length, getD}
 use lib.Dec.{eqb}
 use Rattle.definitions.specs.Limits.{maxEntries, numbersPerBoundary, talliesPerSpan, numbersPerPair}
-use Rattle.definitions.specs.Scan.{run, onlyIf}
+use Rattle.definitions.specs.Scan.{onlyIf}
 use Rattle.definitions.specs.Grid.{Pair, boundaryAt}
 use Rattle.definitions.specs.Context.{Context, incidentCount, fullPair}
 use Rattle.laws.specs.ListLaws.Lists.{All}
-
--- ---- the rows of pairs
-
--- row k, of a list of rows of span, smaller, larger
-abbrev pub pairAt : List ℕ → ℕ → Pair
-pairAt rows k = record { lo = getD rows (numbersPerPair * k + 1) 0; hi = getD rows (numbersPerPair * k + 2) 0 }
-
--- the pairs of the rows from `first` on, before `end`
-unfoldable pub pairsBetween : List ℕ → ℕ → ℕ → List Pair
-unfolding run
-pairsBetween rows first end = map (pairAt rows) (run first (end - first))
+pub use Rattle.laws.specs.RegionLaws.PairRows.{pairAt}
+unfoldable pub use Rattle.laws.specs.RegionLaws.PairRows.{pairsBetween}
 
 -- ---- what is shown
 

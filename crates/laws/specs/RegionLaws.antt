@@ -9,3 +9,4 @@ pub mod Components
 pub mod PairLaws
 pub mod Edges
 pub mod GraphLaws
+pub mod PairRows

@@ -1,0 +1,8 @@
+mod Places
+mod Insertion
+mod Holding
+mod Gathering
+mod Directions
+mod Turns
+mod Joining
+mod Spans
