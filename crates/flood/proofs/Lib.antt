@@ -1,7 +1,7 @@
 pub mod Square
 mod Ways
 mod Graph
-mod Used
+pub mod Used
 mod States
 mod Outer
 mod Uncut

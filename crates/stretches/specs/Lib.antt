@@ -1,3 +1,4 @@
 pub mod Queue
 pub mod RisingRows
 pub mod QueueLaws
+pub mod Made

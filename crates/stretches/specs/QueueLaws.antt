@@ -11,7 +11,7 @@ use Rattle.definitions.specs.Partition.{labels, regionCount, walkableAt}
 use Rattle.laws.specs.RegionLaws.Regions.{label-range, label-blocked}
 use Rattle.flood.specs.Contract.{walkableCount, Grouped}
 use Rattle.stretches.specs.Queue.{labelAt, stretchStart}
-use Rattle.stretches.specs.RisingRows.{smaller-most, smaller-before, smaller-from, smaller-place, smaller-past, smaller-none, smaller-all}
+use Rattle.stretches.specs.RisingRows.{smaller-most, smaller-before, smaller-from, smaller-place, smaller-past, smaller-none, smaller-all, smaller-rises}
 
 module _ (M : Map) (q : List ℕ) (g : Grouped M q) where
   -- ---- where the stretches lie
@@ -27,6 +27,10 @@ module _ (M : Map) (q : List ℕ) (g : Grouped M q) where
   pub start-most : (r : ℕ) → stretchStart M q r ≤ walkableCount M
   unfolding stretchStart
   start-most r = smaller-most (walkableCount M) (labelAt M q) (g .order) r
+
+  pub start-rises : (r : ℕ) → stretchStart M q r ≤ stretchStart M q (suc r)
+  unfolding stretchStart
+  start-rises r = smaller-rises (walkableCount M) (labelAt M q) (g .order) r
 
   -- ---- which places a stretch has
 

@@ -74,3 +74,12 @@ module _ (n : ℕ) (f : ℕ → ℕ) (rises : (j k : ℕ) → j ≤ k → k < n 
 
   pub smaller-all : (r : ℕ) → ((k : ℕ) → k < n → f k < r) → smaller r ≡ n
   smaller-all r high = count-all (λ k. ltb (f k) r) n (λ k l. lt-ltb (f k) r (high k l))
+
+  pub smaller-rises : (r : ℕ) → smaller r ≤ smaller (suc r)
+  smaller-rises r = go (ltb (smaller (suc r)) (smaller r)) refl
+    where
+      go : (b : Bool) → ltb (smaller (suc r)) (smaller r) ≡ b → smaller r ≤ smaller (suc r)
+      go true e =
+          let l : smaller (suc r) < smaller r = ltb-true (smaller (suc r)) (smaller r) e in
+          absurd (omega (arith, smaller-from (suc r) (smaller (suc r)) (omega (arith, l, part r .1)) (omega arith), smaller-before r (smaller (suc r)) l))
+      go false e = ltb-false (smaller (suc r)) (smaller r) e
