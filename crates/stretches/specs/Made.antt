@@ -7,8 +7,6 @@ use Rattle.definitions.specs.Partition.{labels}
 use Rattle.definitions.specs.RegionRecord.{regionOf}
 use Rattle.flood.specs.Contract.{walkableCount}
 use Rattle.context.specs.Records.{recordOf}
-use Rattle.context.specs.Cells.{recordFrom}
-use lib.Seq.{slice}
 use Rattle.stretches.specs.declared.Stretch.{Stretch}
 use Rattle.stretches.specs.Queue.{Shown, stretchStart}
 
@@ -20,5 +18,5 @@ pub record Begins (M : Map) (w : ℕ) (bytes l q : List ℕ) (from end id : ℕ)
   pub some : 1 ≤ id
 
 pub record Made (M : Map) (q : List ℕ) (id : ℕ) (s : Stretch) : Type 0 where
-  pub region : recordOf (s .region) ≡ recordFrom M (slice (stretchStart M q id) (stretchStart M q (suc id)) q)
+  pub region : recordOf (s .region) ≡ regionOf M (labels M) id
   pub next : s .next ≡ stretchStart M q (suc id)

@@ -5,6 +5,7 @@ use mathlib.Core.Bool.{true}
 use mathlib.Core.List.{List}
 use lib.ListN.{length, getD}
 use lib.Dec.{ltb}
+use Rattle.definitions.specs.Limits.{isSide}
 use Rattle.definitions.specs.Scan.{countBelow}
 use Rattle.definitions.specs.Grid.{Map, cellCount, cellAt, elevation}
 use Rattle.definitions.specs.Partition.{labels, walkableAt}
@@ -14,8 +15,8 @@ use Rattle.flood.specs.Contract.{walkableCount, Grouped}
 pub record Shown (M : Map) (w : ℕ) (bytes l q : List ℕ) : Type 0 where
   pub width : M .width ≡ w
   pub cells : M .cells ≡ bytes
-  pub narrow : M .width ≤ 1024
-  pub short : M .height ≤ 1024
+  pub wide : isSide (M .width) ≡ true
+  pub high : isSide (M .height) ≡ true
   pub bytesLong : length bytes ≡ cellCount M
   pub labelsLong : cellCount M ≤ length l
   pub labels : (c : ℕ) → c < cellCount M → getD l c 0 ≡ getD (labels M) c 0

@@ -7,7 +7,7 @@ use borrow.Author.Needs.{needs}
 use Rattle.definitions.specs.Grid.{Map}
 use Rattle.context.specs.Records.{recordOf}
 use Rattle.stretches.specs.Made.{Begins, Made}
-use Rattle.stretches.proofs.Reading.{Reading, Cell, cell-at, reading-start, reading-fits, reading-more, reading-stops, reading-ends, reading-made}
+use Rattle.stretches.proofs.Reading.{Reading, Cell, wide, cell-at, reading-start, reading-counted, reading-fits, reading-more, reading-stops, reading-ends, reading-made}
 use Rattle.stretches.proofs.region_from.Statement.{statement}
 use Rattle.stretches.proofs.region_from.Tie as tie
 use Rattle.stretches.proofs.region_from.Reads as reads
@@ -51,16 +51,16 @@ returns : tie.Need-returns Inv-loop μ-loop
 returns c = λ M b. let h = c .before .before .before .before .before .loop .inv M b in reading-made b _ h (reading-stops b h (c .before .before .before .before .loop-test .taken) (c .before .before .wide .ensures) (c .if1 .taken))
 
 rem-with-cell : tie.Need-rem-with-cell Inv-loop μ-loop
-rem-with-cell c = omega (arith, cell (c .before .before) .wide)
+rem-with-cell c = omega (arith, wide (entry (c .before .before .before .before) .pre .1))
 
 div-with-cell : tie.Need-div-with-cell Inv-loop μ-loop
-div-with-cell c = omega (arith, cell (c .before .before) .wide)
+div-with-cell c = omega (arith, wide (entry (c .before .before .before .before) .pre .1))
 
 shared-slice-read-with-cell : tie.Need-shared-slice-read-with-cell Inv-loop μ-loop
 shared-slice-read-with-cell c = omega (arith, cell (c .before .before .before) .byte)
 
 with-cell-requires : tie.Need-with-cell-requires Inv-loop μ-loop
-with-cell-requires c κs = let b = entry (c .before .before .before .before .before) .pre .1 in let h = c .before .before .before .before .before .before .loop .inv _ b in (h .counted, reading-fits b h (c .before .before .before .wide .result) (c .before .before .before .before .before .loop-test .taken) (c .before .before .before .wide .ensures))
+with-cell-requires c κs = let b = entry (c .before .before .before .before .before) .pre .1 in let h = c .before .before .before .before .before .before .loop .inv _ b in (reading-counted b h (c .before .before .before .before .before .loop-test .taken), reading-fits b h (c .before .before .before .wide .result) (c .before .before .before .before .before .loop-test .taken) (c .before .before .before .wide .ensures))
 
 add-at : tie.Need-add-at Inv-loop μ-loop
 add-at c = search needs
