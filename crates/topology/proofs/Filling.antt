@@ -5,7 +5,7 @@ use native.Mathlib.Nat.{mul-le-mul}
 use native.Mathlib.Numerals.{add-one}
 use mathlib.Core.Path.{_≡_, refl, sym, ap, ap₂, _∙_}
 use mathlib.Core.List.{List, [], _∷_, _++_, map}
-use lib.ListN.{length, getD, set, take, drop, length-set, take-append-drop}
+use lib.ListN.{length, getD, set, take, drop, length-set, length-map, take-append-drop}
 use lib.Seq.{take-suc-set, drop-set-lt, drop-drop}
 use Rattle.definitions.specs.Scan.{countBelow, run}
 use Rattle.definitions.specs.Grid.{Map, cellCount, isWalkable}
@@ -38,10 +38,6 @@ module _ {A B : Type 0} (f : A → B) where
   map-drop (suc n) [] = refl
   map-drop (suc n) (x ∷ l) = map-drop n l
 
-  map-length : (l : List A) → length (map f l) ≡ length l
-  map-length [] = refl
-  map-length (x ∷ l) = ap suc (map-length l)
-
 -- a run of one number more
 map-run-last : {A : Type 0} (f : ℕ → A) (n k : ℕ) → map f (run n (suc k)) ≡ map f (run n k) ++ (f (n + k) ∷ [])
 unfolding run
@@ -71,7 +67,7 @@ filling-more {M} {k = k} {was = was} {rs = rs} s f l m e =
     put : take (suc k) (map recordOf (set rs k (s .region))) ≡ map (contextOf M .region) (run 1 (suc k))
     put =
         ap (take (suc k)) (map-set recordOf rs k (s .region))
-        ∙ take-suc-set (map recordOf rs) k (recordOf (s .region)) (omega (arith, map-length recordOf rs))
+        ∙ take-suc-set (map recordOf rs) k (recordOf (s .region)) (omega (arith, length-map rs recordOf))
         ∙ ap₂ (λ a x. a ++ (x ∷ [])) (f .put) (m .region ∙ ap (regionOf M (labels M)) (omega arith))
         ∙ sym (map-run-last (contextOf M .region) 1 k)
 
@@ -109,4 +105,4 @@ module _ {M : Map} {room regions w : ℕ} {bytes l q : List ℕ} (h : Fills M ro
       all = e ∙ h .count
 
       long : length (map (contextOf M .region) (run 1 (regionCount M))) ≡ regionCount M
-      long = map-length (contextOf M .region) (run 1 (regionCount M)) ∙ length-run 1 (regionCount M)
+      long = length-map (run 1 (regionCount M)) (contextOf M .region) ∙ length-run 1 (regionCount M)

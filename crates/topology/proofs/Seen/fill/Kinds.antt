@@ -1,4 +1,4 @@
--- made by tools/twin.py: do not edit
+-- made by tools/twin: do not edit
 use Rattle.context.proofs.Region as twin-0
 use borrow.Fn.Kinds
 use borrow.Kind.MutSlice

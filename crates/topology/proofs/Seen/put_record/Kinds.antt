@@ -1,4 +1,4 @@
--- made by tools/twin.py: do not edit
+-- made by tools/twin: do not edit
 use Rattle.context.proofs.Region
 use Rattle.context.proofs.Region.Laws
 use borrow.Fn.Kinds

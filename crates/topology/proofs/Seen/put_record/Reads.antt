@@ -1,4 +1,4 @@
--- made by tools/twin.py: do not edit
+-- made by tools/twin: do not edit
 use Rattle.topology.proofs.put_record
 use Rattle.topology.proofs.Seen.put_record.Kinds
 use base.Logic

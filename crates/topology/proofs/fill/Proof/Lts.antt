@@ -1,4 +1,4 @@
--- made by tools/twin.py: do not edit
+-- made by tools/twin: do not edit
 use denote.Memory as twin-memory
 use Prim.Native.Nat
 use Rattle.context.proofs.Region

@@ -1,4 +1,4 @@
--- made by tools/twin.py: do not edit
+-- made by tools/twin: do not edit
 use Rattle.stretches.proofs.region_from.Met
 use Rattle.stretches.proofs.region_from.Reads
 use Rattle.stretches.proofs.region_from.Symbol
