@@ -6,15 +6,14 @@ use mathlib.Core.Path.{refl}
 use borrow.Author.Needs.{needs}
 use Rattle.definitions.specs.Grid.{Map}
 use Rattle.context.specs.Records.{recordOf}
-use Rattle.stretches.specs.Made.{Begins, Made}
+use Rattle.stretches.specs.Made.{Begins}
 use Rattle.stretches.proofs.Reading.{Reading, Cell, wide, cell-at, reading-start, reading-counted, reading-fits, reading-more, reading-stops, reading-ends, reading-made}
 use Rattle.stretches.proofs.region_from.Statement.{statement}
 use Rattle.stretches.proofs.region_from.Tie as tie
-use Rattle.stretches.proofs.region_from.Reads as reads
-use Rattle.stretches.proofs.region_from.Lts as lts
 
 abbrev Inv-loop : tie.InvT-loop
-Inv-loop width cells labels queue from end id region₀ at₀ region at = (M : Map) → Begins M width cells labels queue from end id → Reading M queue from id at (recordOf region)
+Inv-loop width cells labels queue from end id region₀ at₀ region at =
+    (M : Map) → Begins M width cells labels queue from end id → Reading M queue from id at (recordOf region)
 
 abbrev μ-loop : tie.MeasureT-loop
 μ-loop width cells labels queue from end id region₀ at₀ region at = end - at
@@ -48,7 +47,12 @@ shared-slice-read-if1 : tie.Need-shared-slice-read-if1 Inv-loop μ-loop
 shared-slice-read-if1 c = omega (arith, cell (c .before) .label)
 
 returns : tie.Need-returns Inv-loop μ-loop
-returns c = λ M b. let h = c .before .before .before .before .before .loop .inv M b in reading-made b _ h (reading-stops b h (c .before .before .before .before .loop-test .taken) (c .before .before .wide .ensures) (c .if1 .taken))
+returns c =
+    λ M b.
+    let read = c .before .before in
+    let turn = read .before .before in
+    let h = turn .before .loop .inv M b in
+    reading-made b _ h (reading-stops b h (turn .loop-test .taken) (read .wide .ensures) (c .if1 .taken))
 
 rem-with-cell : tie.Need-rem-with-cell Inv-loop μ-loop
 rem-with-cell c = omega (arith, wide (entry (c .before .before .before .before) .pre .1))
@@ -60,7 +64,12 @@ shared-slice-read-with-cell : tie.Need-shared-slice-read-with-cell Inv-loop μ-l
 shared-slice-read-with-cell c = omega (arith, cell (c .before .before .before) .byte)
 
 with-cell-requires : tie.Need-with-cell-requires Inv-loop μ-loop
-with-cell-requires c κs = let b = entry (c .before .before .before .before .before) .pre .1 in let h = c .before .before .before .before .before .before .loop .inv _ b in (reading-counted b h (c .before .before .before .before .before .loop-test .taken), reading-fits b h (c .before .before .before .wide .result) (c .before .before .before .before .before .loop-test .taken) (c .before .before .before .wide .ensures))
+with-cell-requires c κs =
+    let read = c .before .before .before in
+    let turn = read .before .before in
+    let b = entry turn .pre .1 in
+    let h = turn .before .loop .inv _ b in
+    (reading-counted b h (turn .loop-test .taken), reading-fits b h (read .wide .result) (turn .loop-test .taken) (read .wide .ensures))
 
 add-at : tie.Need-add-at Inv-loop μ-loop
 add-at c = search needs
@@ -69,10 +78,17 @@ loop-less : tie.Need-loop-less Inv-loop μ-loop
 loop-less c = search needs
 
 loop-again : tie.Need-loop-again Inv-loop μ-loop
-loop-again c = λ M b. reading-more b (c .before .before .before .before .before .before .before .loop .inv M b) (c .before .before .before .before .before .before .loop-test .taken) (c .before .before .before .before .wide .ensures) (c .before .before .if1 .left) (c .with-cell .ensures)
+loop-again c =
+    λ M b.
+    let read = c .before .before .before .before in
+    let turn = read .before .before in
+    reading-more b (turn .before .loop .inv M b) (turn .loop-test .taken) (read .wide .ensures) (c .before .before .if1 .left) (c .with-cell .ensures)
 
 returns-2 : tie.Need-returns-2 Inv-loop μ-loop
-returns-2 c = λ M b. let h = c .before .loop .inv M b in reading-made b _ h (reading-ends b h (c .loop-test .left))
+returns-2 c =
+    λ M b.
+    let h = c .before .loop .inv M b in
+    reading-made b _ h (reading-ends b h (c .loop-test .left))
 
 pub region-from-spec : {M : Type 1} → statement M
 region-from-spec =

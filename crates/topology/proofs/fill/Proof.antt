@@ -60,8 +60,8 @@ loop-again c =
       omega (arith, turn .loop-test .taken),
       search needs,
       λ M h.
-      let f = at .inv .2 M h in
-      filling-more (c .before .before .before .region-from .result) f (room turn) (c .before .before .before .region-from .ensures M (filling-begins h f (turn .before .before .walkable-count .ensures) refl)) (c .before .put-record .ensures),
+          let f = at .inv .2 M h in
+          filling-more (c .before .before .before .region-from .result) f (room turn) (c .before .before .before .region-from .ensures M (filling-begins h f (turn .before .before .walkable-count .ensures) refl)) (c .before .put-record .ensures),
     )
 
 same-length : tie.Need-same-length Inv-loop μ-loop
