@@ -2,6 +2,7 @@
 use Prim.Native.Nat.{ℕ, _+_, _*_, _%_, _^_, _<_}
 use mathlib.Core.Path.{_≡_, ap, _∙_}
 use mathlib.Core.Bool.{Bool, _||_}
+use mathlib.Core.List.{List}
 use lib.ListN.{getD, set}
 use lib.Dec.{eqb}
 use lib.Bits.{bitOr}
@@ -25,8 +26,8 @@ module _ {r new edge : Float} (first : Bool) (old : Float) (e : new ≡ edge) wh
   pub greater-is : r ≡ greaterEdge first old new → r ≡ greaterEdge first old edge
   greater-is h = h ∙ ap (greaterEdge first old) e
 
-module _ (s : Region) (x y cell : ℕ) {e mask : ℕ} {left top right bottom : Float} {ramp : Bool} where
-  pub cell-added : e ≡ elevation cell → mask ≡ 2 ^ elevation cell → ramp ≡ isRamp cell
+module _ (s : Region) (x y cell : ℕ) {e mask : ℕ} {counts : List ℕ} {left top right bottom : Float} {ramp : Bool} where
+  pub cell-added : e ≡ elevation cell → counts ≡ set (s .elevationCounts) e (getD (s .elevationCounts) e 0 + 1) → mask ≡ 2 ^ elevation cell → ramp ≡ isRamp cell
       → left ≡ lesserEdge (eqb (s .cells) 0) (s .minX) (float (x * pixelsPerWalkCell))
       → top ≡ lesserEdge (eqb (s .cells) 0) (s .minY) (float (y * pixelsPerWalkCell))
       → right ≡ greaterEdge (eqb (s .cells) 0) (s .maxX) (float ((x + 1) * pixelsPerWalkCell))
@@ -40,11 +41,11 @@ module _ (s : Region) (x y cell : ℕ) {e mask : ℕ} {left top right bottom : F
         maxY = bottom;
         hasRamp = s .hasRamp || ramp;
         elevations = bitOr (s .elevations) mask;
-        elevationCounts = set (s .elevationCounts) e (getD (s .elevationCounts) e 0 + 1);
+        elevationCounts = counts;
       })
       (addCell s x y cell)
   unfolding addCell
-  cell-added he hm hr hl ht hx hb =
+  cell-added he hc hm hr hl ht hx hb =
       λ i.
       record {
         cells = s .cells + 1;
@@ -54,5 +55,5 @@ module _ (s : Region) (x y cell : ℕ) {e mask : ℕ} {left top right bottom : F
         maxY = hb i;
         hasRamp = s .hasRamp || hr i;
         elevations = bitOr (s .elevations) (hm i);
-        elevationCounts = set (s .elevationCounts) (he i) (getD (s .elevationCounts) (he i) 0 + 1);
+        elevationCounts = (hc ∙ ap (λ e. set (s .elevationCounts) e (getD (s .elevationCounts) e 0 + 1)) he) i;
       }

@@ -101,7 +101,7 @@ countsOf f = map f (0 ∷ 1 ∷ 2 ∷ 3 ∷ [])
 kept : (m : ℕ) → m ≡ m + 0
 kept m = sym (add-zero m)
 
-counts-more : (f : ℕ → ℕ) (k : ℕ) → k < 4 → set (countsOf f) k (getD (countsOf f) k 0 + 1) ≡ countsOf (λ e. f e + bit (eqb k e))
+pub counts-more : (f : ℕ → ℕ) (k : ℕ) → k < 4 → set (countsOf f) k (getD (countsOf f) k 0 + 1) ≡ countsOf (λ e. f e + bit (eqb k e))
 counts-more f zero h = λ i. (f 0 + 1) ∷ kept (f 1) i ∷ kept (f 2) i ∷ kept (f 3) i ∷ []
 counts-more f (suc zero) h = λ i. kept (f 0) i ∷ (f 1 + 1) ∷ kept (f 2) i ∷ kept (f 3) i ∷ []
 counts-more f (suc (suc zero)) h = λ i. kept (f 0) i ∷ kept (f 1) i ∷ (f 2 + 1) ∷ kept (f 3) i ∷ []

@@ -1,13 +1,16 @@
 // A region's record by value: the empty record, one more cell, and what is asked of a record (RegionStats of context.rs; dominance and flatness of junctions.rs).
 use crate::Region;
 ghost use mathlib.Core.Path.{_≡_};
-ghost use Prim.Native.Nat.{_*_, _≤_, _<_};
+ghost use Prim.Native.Nat.{ℕ, _+_, _*_, _≤_, _<_};
+ghost use lib.ListN.{getD, set};
+ghost use lib.Dec.{eqb};
 ghost use Rattle.definitions.specs.Limits.{maxSide};
+ghost use Rattle.definitions.specs.Scan.{bit};
 ghost use Rattle.definitions.specs.Grid.{elevation, isRamp};
 ghost use Rattle.definitions.specs.Spans.{pixelsPerWalkCell};
 ghost use Rattle.definitions.specs.Geometry.{float};
 ghost use Rattle.definitions.specs.RegionRecord.{emptyRegion, better, mostCommonElevation, dominantElevation, strictlyFlat};
-ghost use Rattle.context.specs.Records.{recordOf, dominantOf, Counted, Fitting};
+ghost use Rattle.context.specs.Records.{recordOf, dominantOf, maxCells, Counted, Fitting};
 ghost use Rattle.context.specs.Cells.{lesserEdge, greaterEdge, addCell};
 
 const PIXELS_PER_WALK_CELL: u32 = 8;
@@ -57,6 +60,27 @@ fn is_ramp(cell: u8) -> bool
     cell / 2 % 2 == 1
 }
 
+// 1 at the place e.
+fn one_at(e: usize, place: usize) -> usize
+    ensures { λ r. ⌜ (r ≡ bit (eqb e place)) × (r ≤ 1) ⌝ }
+{
+    if e == place { 1 } else { 0 }
+}
+
+// One more at the place e. All four are added to: a store at a place that varies would have each cell copy the whole record in memory.
+fn one_more(counts: [usize; 4], e: usize) -> [usize; 4]
+    requires { ⌜ ((k : ℕ) → getD counts k 0 ≤ maxCells) ⌝ }
+    requires { ⌜ e < 4 ⌝ }
+    ensures { λ r. ⌜ r ≡ set counts e (getD counts e 0 + 1) ⌝ }
+{
+    [
+        counts[0] + one_at(e, 0),
+        counts[1] + one_at(e, 1),
+        counts[2] + one_at(e, 2),
+        counts[3] + one_at(e, 3),
+    ]
+}
+
 impl Region {
     pub fn empty() -> Self
         ensures { λ r. ⌜ recordOf r ≡ emptyRegion ⌝ }
@@ -81,8 +105,8 @@ impl Region {
     {
         let first = self.cells == 0;
         let e = elevation_of(cell);
-        let mut counts = self.elevation_counts;
-        counts[e] = counts[e] + 1;
+        let old = self.elevation_counts;
+        let counts = one_more(old, e);
         Self {
             cells: self.cells + 1,
             min_x: lesser_edge(first, self.min_x, edge(x)),

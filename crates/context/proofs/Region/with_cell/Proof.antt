@@ -10,24 +10,13 @@ use Rattle.context.proofs.Region.with_cell.Tie as tie
 elevation-of-requires : tie.Need-elevation-of-requires
 elevation-of-requires c κs = search needs
 
-mul-counts : tie.Need-mul-counts
-mul-counts c = search needs
+one-more-requires : tie.Need-one-more-requires
+one-more-requires c κs =
+    let pre = c .before .before .before .pre in
+    ((λ k. omega (arith, pre .0 .each k, pre .0 .few)), omega (arith, c .before .elevation-of .ensures, pre .1 .counted))
 
-array-read-counts : tie.Need-array-read-counts
-array-read-counts c = search needs
-
-add-counts : tie.Need-add-counts
-add-counts c =
-    omega (arith, c .before .before .before .pre .0 .each (c .before .elevation-of .result), c .before .before .before .pre .0 .few)
-
-mul-counts-2 : tie.Need-mul-counts-2
-mul-counts-2 c = search needs
-
-array-write-counts : tie.Need-array-write-counts
-array-write-counts c = search needs
-
-add-t8 : tie.Need-add-t8
-add-t8 c = search needs
+add-t9 : tie.Need-add-t9
+add-t9 c = search needs
 
 edge-requires : tie.Need-edge-requires
 edge-requires c κs = search needs
@@ -62,19 +51,23 @@ greater-edge-requires-2 c κs = search needs
 is-ramp-requires : tie.Need-is-ramp-requires
 is-ramp-requires c κs = search needs
 
-cast-t26 : tie.Need-cast-t26
-cast-t26 c = search needs
+cast-t22 : tie.Need-cast-t22
+cast-t22 c = search needs
 
-shl-t27 : tie.Need-shl-t27
-shl-t27 c = search needs
+shl-t23 : tie.Need-shl-t23
+shl-t23 c = search needs
 
 returns : tie.Need-returns
 returns c =
-    let s = recordOf (c .before .before .before .before .before .before .before .before .before .before .before .before .before .before .before .args .self) in
+    let edges = c .before .before .before .before .before .before .before .before .before .before in
+    let added = edges .before .before in
+    let raised = added .before .before in
+    let start = raised .before .before in
+    let s = recordOf (start .args .self) in
     let first = eqb (s .cells) 0 in
-    cell-added s (c .before .before .before .before .before .before .before .before .before .before .before .before .before .before .before .args .x) (c .before .before .before .before .before .before .before .before .before .before .before .before .before .before .before .args .y) (c .before .before .before .before .before .before .before .before .before .before .before .before .before .before .before .args .cell) (c .before .before .before .before .before .before .before .before .before .before .before .before .before .elevation-of .ensures)
-    (bit-is (c .before .before .before .before .before .before .before .before .before .before .before .before .before .before .before .args .cell) (c .before .before .before .before .before .before .before .before .before .before .before .before .before .elevation-of .ensures) (c .before .before .before .before .before .before .before .before .before .before .before .before .before .before .before .pre .1 .counted)) (c .before .before .is-ramp .ensures)
-    (lesser-is first (s .minX) (c .before .before .before .before .before .before .before .before .before .before .edge .ensures) (c .before .before .before .before .before .before .before .before .before .lesser-edge .ensures))
+    cell-added s (start .args .x) (start .args .y) (start .args .cell) (raised .elevation-of .ensures) (added .one-more .ensures)
+    (bit-is (start .args .cell) (raised .elevation-of .ensures) (start .pre .1 .counted)) (c .before .before .is-ramp .ensures)
+    (lesser-is first (s .minX) (edges .edge .ensures) (c .before .before .before .before .before .before .before .before .before .lesser-edge .ensures))
     (lesser-is first (s .minY) (c .before .before .before .before .before .before .before .before .edge2 .ensures) (c .before .before .before .before .before .before .before .lesser-edge2 .ensures))
     (greater-is first (s .maxX) (c .before .before .before .before .before .before .edge3 .ensures) (c .before .before .before .before .before .greater-edge .ensures))
     (greater-is first (s .maxY) (c .before .before .before .before .edge4 .ensures) (c .before .before .before .greater-edge2 .ensures))
@@ -84,12 +77,8 @@ with-cell-spec =
     tie.close
     (tie.spec
     elevation-of-requires
-    mul-counts
-    array-read-counts
-    add-counts
-    mul-counts-2
-    array-write-counts
-    add-t8
+    one-more-requires
+    add-t9
     edge-requires
     lesser-edge-requires
     edge-requires-2
@@ -101,6 +90,6 @@ with-cell-spec =
     edge-requires-4
     greater-edge-requires-2
     is-ramp-requires
-    cast-t26
-    shl-t27
+    cast-t22
+    shl-t23
     returns)
