@@ -2,3 +2,4 @@ pub mod Queue
 pub mod RisingRows
 pub mod QueueLaws
 pub mod Made
+pub mod AfterFlood
