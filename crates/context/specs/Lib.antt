@@ -1,5 +1,6 @@
 pub mod Cells
 pub mod OneMore
+pub mod Packed
 pub mod RecordFrom
 pub mod RecordLaws
 pub mod Records

@@ -3,7 +3,7 @@ use Prim.Native.Nat.{ℕ, _+_, _*_, _≤_, _<_}
 use mathlib.Core.Path.{_≡_}
 use mathlib.Core.Option.{Option, none, some}
 use mathlib.Core.List.{List}
-use lib.ListN.{length, getD}
+use lib.ListN.{length, getD, drop}
 use Rattle.definitions.specs.Limits.{maxEntries, numbersPerPair}
 use Rattle.definitions.specs.Grid.{Pair}
 use Rattle.definitions.specs.Lists.{overwrite}
@@ -33,6 +33,25 @@ pub record Stretch (pairs starts : List ℕ) (i : ℕ) : Type 0 where
   pub within : i < maxEntries
   pub rising : getD starts i 0 ≤ getD starts (i + 1) 0
   pub long : numbersPerPair * getD starts (i + 1) 0 ≤ length pairs
+
+-- row k is in the list, and its two regions are numbered from 1 to n
+pub record NamedRow (pairs : List ℕ) (n k : ℕ) : Type 0 where
+  pub inside : numbersPerPair * k + 2 < length pairs
+  pub lo-pos : 1 ≤ getD pairs (numbersPerPair * k + 1) 0
+  pub lo-le : getD pairs (numbersPerPair * k + 1) 0 ≤ n
+  pub hi-pos : 1 ≤ getD pairs (numbersPerPair * k + 2) 0
+  pub hi-le : getD pairs (numbersPerPair * k + 2) 0 ≤ n
+
+-- every row of the spans before `count`
+pub record NamedRows (pairs starts : List ℕ) (count n : ℕ) : Type 0 where
+  pub few : count ≤ maxEntries
+  pub stretch : (i : ℕ) → i < count → Stretch pairs starts i
+  pub named : (i : ℕ) → i < count → (k : ℕ) → getD starts i 0 ≤ k → k < getD starts (i + 1) 0 → NamedRow pairs n k
+
+-- a list of the same length, that is as it was from n on
+pub record Beyond (n : ℕ) (was l : List ℕ) : Type 0 where
+  pub long : length l ≡ length was
+  pub rest : drop n l ≡ drop n was
 
 -- ---- a full pair
 
