@@ -6,18 +6,12 @@ ghost use Rattle.definitions.specs.Scan.{countBelow, bit};
 ghost use Rattle.definitions.specs.Grid.{Map, isWalkable};
 ghost use Rattle.stretches.specs.Made.{Begins, Made};
 use context::Region;
+use context::pairs::wide;
 
 // A region's record, and the place of the queue after the region's stretch.
 pub struct Stretch {
     pub region: Region,
     pub next: usize,
-}
-
-// A number of a slice as an index: in a function of its own it asks for no proof that the element fits.
-fn wide(x: u32) -> usize
-    ensures { λ r. ⌜ r ≡ x ⌝ }
-{
-    x as usize
 }
 
 // The last bit of a byte: 1 of a walkable cell.
