@@ -63,7 +63,7 @@ fn is_ramp(cell: u8) -> bool
     cell / 2 % 2 == 1
 }
 
-// 1 at the place e.
+// 1 at the place e, else 0.
 fn one_at(e: usize, place: usize) -> usize
     ensures { λ r. ⌜ (r ≡ bit (eqb e place)) × (r ≤ 1) ⌝ }
 {
@@ -127,22 +127,10 @@ impl Region {
         ensures { λ r. ⌜ map pointForm r ≡ corners (recordOf self) ⌝ }
     {
         [
-            Point {
-                x: self.min_x,
-                y: self.min_y,
-            },
-            Point {
-                x: self.min_x,
-                y: self.max_y,
-            },
-            Point {
-                x: self.max_x,
-                y: self.min_y,
-            },
-            Point {
-                x: self.max_x,
-                y: self.max_y,
-            },
+            Point { x: self.min_x, y: self.min_y },
+            Point { x: self.min_x, y: self.max_y },
+            Point { x: self.max_x, y: self.min_y },
+            Point { x: self.max_x, y: self.max_y },
         ]
     }
 
