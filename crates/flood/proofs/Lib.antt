@@ -1,7 +1,7 @@
 pub mod Square
 pub mod Ways
 mod Graph
-mod Used
+pub mod Used
 mod States
 mod Outer
 mod Uncut

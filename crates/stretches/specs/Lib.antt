@@ -1,0 +1,5 @@
+pub mod Queue
+pub mod RisingRows
+pub mod QueueLaws
+pub mod Made
+pub mod AfterFlood

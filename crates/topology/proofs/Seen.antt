@@ -1,0 +1,3 @@
+pub mod fill
+pub mod put_record
+pub mod record_at
