@@ -23,7 +23,7 @@ use Rattle.context.specs.Packed.{packUnit, countedEntry, countRegion, co
 
 -- ---- rows in order
 
-run-last : (n k : ℕ) → run n (suc k) ≡ run n k ++ ((n + k) ∷ [])
+pub run-last : (n k : ℕ) → run n (suc k) ≡ run n k ++ ((n + k) ∷ [])
 unfolding run
 run-last n zero = ap (λ m. m ∷ []) (sym (add-zero n))
 run-last n (suc k) = ap (_∷_ n) (run-last (suc n) k ∙ ap (λ m. run (suc n) k ++ (m ∷ [])) (next n k))

@@ -1,3 +1,4 @@
+pub mod Anchors
 pub mod Cells
 pub mod OneMore
 pub mod Packed
