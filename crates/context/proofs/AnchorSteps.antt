@@ -9,7 +9,8 @@ use lib.ListN.{length, getD}
 use Rattle.definitions.specs.Limits.{maxSide}
 use Rattle.definitions.specs.Scan.{run}
 use Rattle.laws.specs.ListLaws.Lists.{map-append}
-use Rattle.context.specs.Anchors.{anchorCell, anchorCells, markLabel, markCells, marks-length}
+use Rattle.context.specs.AnchorLaws.{marks-length}
+use Rattle.context.specs.Anchors.{anchorCell, anchorCells, markLabel, markCells}
 use Rattle.context.proofs.Counting.{run-last}
 
 pub row-small : {y w : ℕ} (v : ℕ) → y ≡ v → v < maxSide → w ≤ maxSide → y * w ≤ maxSide * maxSide

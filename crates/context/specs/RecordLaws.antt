@@ -74,25 +74,27 @@ unfolding everyBool
 every-at f h true = both (f true) (f false) h .0
 every-at f h false = both (f true) (f false) h .1
 
+-- all sixteen cases, computed
+unfoldable pub everyFour : (Bool → Bool → Bool → Bool → Bool) → Bool
+unfolding everyBool
+everyFour f = everyBool (λ a. everyBool (λ b. everyBool (λ c. everyBool (λ d. f a b c d))))
+
+pub four-at : (f : Bool → Bool → Bool → Bool → Bool) → everyFour f ≡ true → (a b c d : Bool) → f a b c d ≡ true
+unfolding everyFour
+four-at f h a b c d =
+    every-at (λ d. f a b c d) (every-at (λ c. everyBool (λ d. f a b c d)) (every-at (λ b. everyBool (λ c. everyBool (λ d. f a b c d))) (every-at (λ a. everyBool (λ b. everyBool (λ c. everyBool (λ d. f a b c d)))) h a) b) c) d
+
 -- four digits, and a further one set
-abbrev maskOfBits : Bool → Bool → Bool → Bool → ℕ
+abbrev pub maskOfBits : Bool → Bool → Bool → Bool → ℕ
 maskOfBits a b c d = bit a + 2 * bit b + 4 * bit c + 8 * bit d
 
 abbrev setsBit : Bool → Bool → Bool → Bool → ℕ → Bool
 setsBit a b c d k = eqb (bitOr (maskOfBits a b c d) (2 ^ k)) (maskOfBits (a || eqb k 0) (b || eqb k 1) (c || eqb k 2) (d || eqb k 3))
 
-mask-table : everyBool (λ a. everyBool (λ b. everyBool (λ c. everyBool (λ d. allBelow 4 (setsBit a b c d))))) ≡ true
-unfolding everyBool allBelow
-mask-table = refl
-
 mask-more : (f : ℕ → Bool) (k : ℕ) → k < 4 → bitOr (maskOf f) (2 ^ k) ≡ maskOf (λ e. f e || eqb k e)
+unfolding everyFour everyBool allBelow
 mask-more f k h =
-    eqb-true _ _
-    (all-below-at 4 (setsBit (f 0) (f 1) (f 2) (f 3))
-    (every-at (λ d. allBelow 4 (setsBit (f 0) (f 1) (f 2) d))
-    (every-at (λ c. everyBool (λ d. allBelow 4 (setsBit (f 0) (f 1) c d)))
-    (every-at (λ b. everyBool (λ c. everyBool (λ d. allBelow 4 (setsBit (f 0) b c d))))
-    (every-at (λ a. everyBool (λ b. everyBool (λ c. everyBool (λ d. allBelow 4 (setsBit a b c d))))) mask-table (f 0)) (f 1)) (f 2)) (f 3)) k h)
+    eqb-true _ _ (all-below-at 4 (setsBit (f 0) (f 1) (f 2) (f 3)) (four-at (λ a b c d. allBelow 4 (setsBit a b c d)) refl (f 0) (f 1) (f 2) (f 3)) k h)
 
 -- the four counts of f
 abbrev countsOf : (ℕ → ℕ) → List ℕ
