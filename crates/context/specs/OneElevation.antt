@@ -124,11 +124,11 @@ module _ (M : Map) (ls : List ℕ) where
   set-cell q r e h t =
       ⊎-elim
       (λ u.
-        let (c, (l, (m, v))) = cell-of q e h u in
-        record { cell = c; below = l; mine = ap (λ b. b || eqb (getD ls c 0) r) m; high = v })
+      let (c, (l, (m, v))) = cell-of q e h u in
+      record { cell = c; below = l; mine = ap (λ b. b || eqb (getD ls c 0) r) m; high = v })
       (λ u.
-        let (c, (l, (m, v))) = cell-of r e h u in
-        record { cell = c; below = l; mine = ap (λ b. eqb (getD ls c 0) q || b) m ∙ or-true (eqb (getD ls c 0) q); high = v })
+      let (c, (l, (m, v))) = cell-of r e h u in
+      record { cell = c; below = l; mine = ap (λ b. eqb (getD ls c 0) q || b) m ∙ or-true (eqb (getD ls c 0) q); high = v })
       (either (hasBit (maskOf (hasElevation q)) e) (hasBit (maskOf (hasElevation r)) e) t)
 
   -- a cell sets the bit

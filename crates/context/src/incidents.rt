@@ -15,6 +15,7 @@ ghost use Rattle.context.specs.Rows.{Stretch, NamedRow, NamedRows, Beyon
 ghost use Rattle.context.specs.Packed.{packUnit, countedEntry, countRegion, countPair, countPairs, spanPairs, countSpans, unpacked, Packed};
 
 const NUMBERS_PER_PAIR: usize = 3;
+
 const PACK_UNIT: u32 = 512;
 
 // Whether row k names region r.

@@ -8,6 +8,7 @@ ghost use Rattle.context.specs.Shown.{ShownTallies, ShownPairs, ShownFul
 ghost use Rattle.context.specs.Rows.{PairRows, SpanEnd, Stretch, fullPairOf, smallerOf, largerOf};
 
 const NUMBERS_PER_PAIR: usize = 3;
+
 const TALLIES_PER_SPAN: usize = 2;
 
 // The full pair of a boundary, where there is one; `fullPairOf` of specs/Rows.antt gives what it says.
