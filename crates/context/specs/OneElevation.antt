@@ -3,7 +3,7 @@
 use Prim.Native.Nat.{ℕ, zero, suc, _+_, _<_}
 use native.Mathlib.Omega.{arith}
 use mathlib.Core.Path.{_≡_, refl, sym, ap, ap₂, _∙_, subst}
-use mathlib.Core.Bool.{Bool, true, false, not, _&&_, _||_, Bool·beq, or-true, or-false, true≢false}
+use mathlib.Core.Bool.{Bool, true, false, not, _&&_, _||_, Bool·beq, or-true, true≢false}
 use mathlib.Core.Logic.{_⊎_, inl, inr, ⊎-elim}
 use mathlib.Core.List.{List}
 use lib.ListN.{getD}
@@ -13,7 +13,7 @@ use Rattle.definitions.specs.Scan.{anyBelow, countBelow, bit}
 use Rattle.definitions.specs.Grid.{Map, cellCount, cellAt, elevation}
 use Rattle.definitions.specs.RegionRecord.{hasBit, maskOf, regionOf, joinedOnes, strictlyFlat}
 use Rattle.laws.specs.ListLaws.Tests.{both, beq-same}
-use Rattle.laws.specs.ListLaws.Below.{First, below-at, below-first, below-none, count-ext}
+use Rattle.laws.specs.ListLaws.Below.{below-at, below-first, below-none, count-ext}
 use Rattle.context.specs.OneMore.{OneMore, last-or, count-more, any-counted}
 use Rattle.context.specs.RecordLaws.{everyFour, four-at, maskOfBits}
 

@@ -1,18 +1,17 @@
 -- The definition's record of the cells that pass a test: with one cell more it is `addCell` of it, field by field, of no cell it is the empty record, and with the test of a
 -- label it is `regionOf`. Assumes nothing.
-use Prim.Native.Nat.{ℕ, zero, suc, _+_, _*_, _/_, _%_, _^_, _≤_, _<_, min, max, zero-le}
+use Prim.Native.Nat.{ℕ, zero, suc, _+_, _*_, _/_, _%_, _^_, _≤_, _<_, min, max}
 use native.Mathlib.Omega.{arith}
 use native.Mathlib.Nat.{le-trans, add-zero, mod-lt, div-lt-iff-lt-mul}
-use mathlib.Core.Path.{_≡_, refl, sym, ap, ap₂, _∙_, subst}
-use mathlib.Core.Bool.{Bool, true, false, not, _&&_, _||_, cond, or-assoc, or-false, true≢false}
-use mathlib.Core.Logic.{⊎-elim}
+use mathlib.Core.Path.{_≡_, refl, sym, ap, ap₂, _∙_}
+use mathlib.Core.Bool.{Bool, true, false, not, _&&_, _||_, cond}
 use mathlib.Core.List.{List, [], _∷_, map}
-use lib.ListN.{length, getD, set}
-use lib.Dec.{eqb, ltb, lit≤}
+use lib.ListN.{getD, set}
+use lib.Dec.{eqb, ltb}
 use lib.Bits.{bitOr}
-use lib.Ieee.{Float, lt}
-use borrow.Author.Tests.{eqb-true, eqb-false, eq-eqb, ne-eqb, ltb-true, ltb-false}
-use Rattle.definitions.specs.Scan.{anyBelow, allBelow, countBelow, bit, any, member}
+use lib.Ieee.{lt}
+use borrow.Author.Tests.{eqb-true, ltb-true, ltb-false}
+use Rattle.definitions.specs.Scan.{anyBelow, allBelow, countBelow, bit}
 use Rattle.definitions.specs.Limits.{isSide, maxSide}
 use Rattle.definitions.specs.Grid.{Map, cellCount, cellAt, isRamp, elevation}
 use Rattle.definitions.specs.Spans.{pixelsPerWalkCell}
@@ -23,7 +22,7 @@ use Rattle.laws.specs.ListLaws.Below.{below-ext, below-none, count-ext, all-bel
 use Rattle.laws.specs.RegionLaws.Edges.{least-le, most-le, least-ext, most-ext}
 use Rattle.laws.specs.FloatLaws.WholeDoubles.{lt-float}
 use Rattle.laws.specs.FloatLaws.MapPixels.{side-bounds}
-use Rattle.context.specs.Cells.{lesserEdge, greaterEdge, addCell, addCellOf, addCells, recordFrom}
+use Rattle.context.specs.Cells.{lesserEdge, greaterEdge, addCell, addCellOf}
 use Rattle.context.specs.OneMore.{OneMore, count-more, least-more, most-more, count-both, any-both, any-counted, most-none, least-none}
 
 -- ---- edges

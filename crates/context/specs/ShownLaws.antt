@@ -1,21 +1,25 @@
--- What the lists that show a context let a caller say: the rows of each span are in the list, and name regions. Assumes nothing.
+-- What a caller can say of the lists that show a context: the rows of a map's pairs, where they are filled in, are such rows; and the rows of each span are in the list and name
+-- regions. Assumes nothing.
 use Prim.Native.Nat.{ℕ, zero, suc, _+_, _-_, _*_, _≤_, _<_}
 use native.Mathlib.Omega.{arith}
 use native.Mathlib.Nat.{le-refl, le-trans}
 use native.Mathlib.Numerals.{add-one}
-use mathlib.Core.Path.{_≡_, sym, ap, subst}
+use mathlib.Core.Path.{_≡_, subst}
 use mathlib.Core.Logic.{_⊎_, inl, inr, ⊎-elim}
 use mathlib.Core.List.{List, map}
 use lib.Arith.{lt-of-le-ne}
 use lib.ListN.{length, getD}
-use Rattle.definitions.specs.Limits.{numbersPerPair}
 use Rattle.definitions.specs.Scan.{run}
-use Rattle.definitions.specs.Grid.{Pair}
-use Rattle.definitions.specs.Context.{Context}
-use Rattle.laws.specs.ListLaws.Lists.{All, more}
+use Rattle.definitions.specs.Limits.{numbersPerPair}
+use Rattle.definitions.specs.Grid.{Map, Pair}
+use Rattle.definitions.specs.Lists.{overwrite}
+use Rattle.definitions.specs.Context.{Context, contextOf}
+use Rattle.definitions.specs.Verdict.{pairRowsOf}
+use Rattle.laws.specs.ListLaws.Lists.{All, more, all-map}
+use Rattle.laws.specs.RegionLaws.PairLaws.{pairs-named}
 use Rattle.context.specs.OneMore.{same-or, last-or}
 use Rattle.context.specs.Shown.{pairAt, pairsBetween, ShownPairs}
-use Rattle.context.specs.Rows.{Stretch, NamedRows}
+use Rattle.context.specs.Rows.{PairRows, Stretch, NamedRows}
 
 all-from : {P : Pair → Type 0} (f : ℕ → Pair) (a n : ℕ) → All P (map f (run a n)) → (k : ℕ) → a ≤ k → k < a + n → P (f k)
 unfolding run
@@ -64,3 +68,10 @@ module _ {C : Context} {rows starts : List ℕ} (P : ShownPairs C rows starts) w
               hi-le = n .1 .1;
             };
       }
+
+-- the rows that the partition fills in
+pub map-rows : (M : Map) (pairs old : List ℕ) (rows count : ℕ) → contextOf M .count ≡ count → pairs ≡ overwrite (pairRowsOf (contextOf M)) old
+    → numbersPerPair * rows ≡ length (pairRowsOf (contextOf M)) → PairRows (contextOf M) pairs rows count
+unfolding contextOf
+map-rows M pairs old rows count e f a =
+    record { counted = e; old = old; filled = f; all = a; named = λ i l. all-map (λ p h. (h .low, (h .ordered, h .high))) (pairs-named M i) }
