@@ -1,6 +1,6 @@
 mod Clearing
-mod Chain
+pub mod Chain
 pub mod Leaving
-mod Early
+pub mod Early
 pub mod FirstRefusal
 mod Exits
