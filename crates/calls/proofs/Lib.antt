@@ -1,1 +1,3 @@
 mod SizesPassed
+mod EarlyLeaves
+pub mod Exits
