@@ -1,2 +1,7 @@
 pub mod CutSteps
 pub mod Contract
+pub mod Cell
+pub mod Prefixes
+pub mod Columns
+pub mod CutLaws
+pub mod Marking

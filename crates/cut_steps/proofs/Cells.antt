@@ -1,0 +1,83 @@
+-- What the functions of one cell ask of one another, and their answers' meaning, from what is asked of the cell. Assumes nothing.
+use Prim.Native.Nat.{ℕ, _+_, _-_, _*_, _%_, _≤_, _<_}
+use native.Mathlib.Omega.{arith}
+use native.Mathlib.Nat.{mul-le-mul}
+use mathlib.Core.Path.{_≡_, refl, sym, subst, _∙_}
+use mathlib.Core.Bool.{Bool, true, false}
+use mathlib.Core.List.{List}
+use lib.ListN.{length, getD}
+use lib.Arith.{digits-lt}
+use borrow.Author.Tests.{eq-eqb, ne-eqb}
+use Rattle.definitions.specs.Limits.{maxSide}
+use Rattle.definitions.specs.Grid.{Segment, at, walkable, isStep}
+use Rattle.span_geometry.specs.declared.SpanGeometry.{SpanGeometry}
+use Rattle.span_geometry.specs.Shapes.{Sound}
+use Rattle.flood.specs.Walk.{gridOf}
+use Rattle.flood.specs.Inner.{Nearby, Inside, Stepping}
+use Rattle.flood.proofs.StepTests.{cells-in, step-inside, walkable-at}
+use Rattle.cut_steps.specs.CutSteps.{isCutOnward, isSet}
+use Rattle.cut_steps.specs.Cell.{CellAsked, OnwardAsked, CutDirections, Far, onwardMask}
+use Rattle.cut_steps.specs.Marking.{DirectionAsked}
+use Rattle.cut_steps.proofs.Onward.{blocked, no-step, none-far, no-bits, mask-bits, mask-small}
+
+-- ---- one direction
+
+module _ {w h : ℕ} {cells : List ℕ} {g : SpanGeometry} {x y dx dy : ℕ} (A : OnwardAsked w h cells g x y dx dy) where
+  pub nearby : Nearby w h x y dx dy
+  nearby = record { narrow = A .cell .narrow; short = A .cell .short; inX = A .cell .inX; inY = A .cell .inY; nearX = A .nearX; nearY = A .nearY }
+
+  pub stepping : Inside w h x y dx dy → Stepping w h cells x y dx dy
+  stepping i = record { nearby = nearby; inside = i; cellsLong = A .cell .cellsLong; walks = A .walks }
+
+pub outside : (w h : ℕ) (cells : List ℕ) (s : Segment) (x y dx dy : ℕ) → (Inside w h x y dx dy → ⊥) → false ≡ isCutOnward (gridOf w h cells) s (at x y) (at dx dy)
+outside w h cells s x y dx dy n = go (isStep (gridOf w h cells) (at x y) (at dx dy)) refl
+  where
+    go : (t : Bool) → isStep (gridOf w h cells) (at x y) (at dx dy) ≡ t → false ≡ isCutOnward (gridOf w h cells) s (at x y) (at dx dy)
+    go true e = absurd (n (step-inside (gridOf w h cells) x y dx dy e))
+    go false e = blocked (gridOf w h cells) s (at x y) (at dx dy) e
+
+-- ---- the cell
+
+module _ {w h : ℕ} {cells : List ℕ} {g : SpanGeometry} {x y : ℕ} (A : CellAsked w h cells g x y) where
+  pub in-grid : (y * w + x < h * w) × (h * w ≤ 1048576)
+  in-grid = (digits-lt (A .inY) (A .inX), mul-le-mul (A .short) (A .narrow))
+
+  pub in-limits : Sound g × (x < maxSide) × (y < maxSide)
+  in-limits = (A .sound, omega (arith, A .inX, A .narrow), omega (arith, A .inY, A .short))
+
+  pub walks : getD cells (y * w + x) 0 % 2 ≡ 1 → walkable (gridOf w h cells) (at x y) ≡ true
+  walks e = walkable-at w h cells x y (A .inX) (A .inY) ∙ eq-eqb _ _ e
+
+  -- a cell that is not walkable
+  pub no-directions : (s : Segment) → (getD cells (y * w + x) 0 % 2 ≡ 1 → ⊥) → CutDirections w h cells s x y 0
+  no-directions s n = record { small = omega arith; bits = no-bits (gridOf w h cells) s (at x y) (no-step (gridOf w h cells) s (at x y) (walkable-at w h cells x y (A .inX) (A .inY) ∙ ne-eqb _ _ n)) }
+
+  pub onward-asked : (dx dy : ℕ) → dx ≤ 2 → dy ≤ 2 → 4 < dy * 3 + dx → getD cells (y * w + x) 0 % 2 ≡ 1 → OnwardAsked w h cells g x y dx dy
+  onward-asked dx dy a b c e = record { cell = A; walks = walks e; nearX = a; nearY = b; onward = c }
+
+-- a cell that is far from the span
+pub far-directions : (w h : ℕ) (cells : List ℕ) (s : Segment) (x y : ℕ) → Far s (at x y) → CutDirections w h cells s x y 0
+far-directions w h cells s x y far = record { small = omega arith; bits = no-bits (gridOf w h cells) s (at x y) (none-far (gridOf w h cells) s (at x y) far) }
+
+-- the four directions decide
+pub four-directions :
+    (w h : ℕ) (cells : List ℕ) (s : Segment) (x y : ℕ) {a b c d : Bool} {r : ℕ} → a ≡ isCutOnward (gridOf w h cells) s (at x y) (at 2 1)
+    → b ≡ isCutOnward (gridOf w h cells) s (at x y) (at 0 2) → c ≡ isCutOnward (gridOf w h cells) s (at x y) (at 1 2) → d ≡ isCutOnward (gridOf w h cells) s (at x y) (at 2 2)
+    → r ≡ onwardMask a b c d → CutDirections w h cells s x y r
+four-directions w h cells s x y {a} {b} {c} {d} east southWest south southEast e =
+    subst (CutDirections w h cells s x y) (sym e) (record { small = mask-small a b c d; bits = mask-bits (gridOf w h cells) s (at x y) east southWest south southEast })
+
+-- ---- both cells of a step
+
+pub record BothCells (w h : ℕ) (masks : List ℕ) (x y dx dy : ℕ) : Type 0 where
+  pub inside : Inside w h x y dx dy
+  pub small : h * w ≤ 1048576
+  pub near : y * w + x < h * w
+  pub far : (y + dy - 1) * w + (x + dx - 1) < h * w
+  pub long : h * w ≤ length masks
+
+pub both-cells : {w h : ℕ} {masks : List ℕ} {directions x y dx dy : ℕ} → DirectionAsked w h masks directions x y dx dy → isSet directions (dy * 3 + dx) ≡ true → BothCells w h masks x y dx dy
+both-cells {w} {h} {masks} {directions} {x} {y} {dx} {dy} A e =
+    let i = A .inside e in
+    let c = cells-in w h x y dx dy (A .nearby) i in
+    record { inside = i; small = c .small; near = digits-lt (A .nearby .inY) (A .nearby .inX); far = c .far; long = A .masksLong }

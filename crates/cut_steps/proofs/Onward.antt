@@ -1,0 +1,163 @@
+-- Which directions lead to cells of larger number: those whose bit is above 4, the bit of (1, 1), where there is a step (`onward-bit`). So four directions decide a
+-- cell's mask (`mask-bits`). Assumes nothing.
+use Prim.Native.Nat.{ℕ, zero, suc, _+_, _-_, _*_, _%_, _^_, _≤_, _<_}
+use native.Mathlib.Omega.{arith}
+use native.Mathlib.Nat.{suc-mul, zero-div}
+use mathlib.Core.Path.{_≡_, refl, sym, ap, _∙_}
+use mathlib.Core.Bool.{Bool, true, false, _&&_, and-false, true≢false}
+use mathlib.Core.List.{[], _∷_, map}
+use lib.ListN.{getD}
+use lib.Dec.{eqb, ltb}
+use borrow.Author.Tests.{ltb-true, ltb-false, lt-ltb, le-ltb}
+use Rattle.definitions.specs.Scan.{run}
+use Rattle.definitions.specs.Grid.{Map, Position, at, Segment, toward, index, isStep, walkable}
+use Rattle.definitions.specs.Spans.{cuts}
+use Rattle.flood.specs.Masks.{bitOf}
+use Rattle.flood.proofs.Square.{Four, four, In, walkable-in}
+use Rattle.cut_steps.specs.CutSteps.{isCutOnward, isSet}
+use Rattle.cut_steps.specs.Cell.{CutBits, Far, onwardMask}
+
+-- ---- the number of the cell in a direction
+
+row : (n w : ℕ) {k : ℕ} → k ≡ suc n → k * w ≡ n * w + w
+row n w e = ap (λ k. k * w) e ∙ suc-mul n w
+
+same-row : (n w : ℕ) {k : ℕ} → k ≡ n → k * w ≡ n * w
+same-row n w e = ap (λ k. k * w) e
+
+module _ (w x y : ℕ) (inX : x < w) where
+  later : (dx dy : ℕ) → dx ≤ 2 → dy ≤ 2 → 1 ≤ x + dx → 4 < dy * 3 + dx → y * w + x < (y + dy - 1) * w + (x + dx - 1)
+  later dx zero nx ny a b = absurd (omega arith)
+  later dx (suc zero) nx ny a b = omega (arith, same-row y w {k = y + 1 - 1} (omega arith))
+  later dx (suc (suc zero)) nx ny a b = omega (arith, row y w {k = y + 2 - 1} (omega arith))
+  later dx (suc (suc (suc dy))) nx ny a b = absurd (omega arith)
+
+  not-later : (dx dy : ℕ) → x + dx ≤ w → 1 ≤ y + dy → dy * 3 + dx ≤ 4 → (y + dy - 1) * w + (x + dx - 1) ≤ y * w + x
+  not-later dx zero r a b = omega (arith, row (y + 0 - 1) w {k = y} (omega arith))
+  not-later dx (suc zero) r a b = omega (arith, same-row y w {k = y + 1 - 1} (omega arith))
+  not-later dx (suc (suc dy)) r a b = absurd (omega arith)
+
+module _ (M : Map) (p d : Position) (s : isStep M p d ≡ true) where
+  f : Four M p d
+  f = four M p d s
+
+  here : In M p
+  here = walkable-in M p (f .near)
+
+  there : In M (toward p d)
+  there = walkable-in M (toward p d) (f .far)
+
+  pub onward-bit : ltb (index M p) (index M (toward p d)) ≡ ltb 4 (bitOf d)
+  onward-bit = go (ltb 4 (bitOf d)) refl
+    where
+      go : (b : Bool) → ltb 4 (bitOf d) ≡ b → ltb (index M p) (index M (toward p d)) ≡ b
+      go true e = lt-ltb _ _ (later (M .width) (p .x) (p .y) (here .x) (d .x) (d .y) (f .nearX) (f .nearY) (f .right) (ltb-true _ _ e))
+      go false e = le-ltb _ _ (not-later (M .width) (p .x) (p .y) (here .x) (d .x) (d .y) (omega (arith, f .right, there .x)) (f .down) (ltb-false _ _ e))
+
+-- ---- one direction
+
+module _ (M : Map) (g : Segment) (p d : Position) where
+  pub blocked : isStep M p d ≡ false → false ≡ isCutOnward M g p d
+  unfolding isCutOnward
+  blocked e = rw e refl
+
+  pub onward-cut : isStep M p d ≡ true → 4 < bitOf d → cuts g p (toward p d) ≡ isCutOnward M g p d
+  unfolding isCutOnward
+  onward-cut s b = rw (s, onward-bit M p d s ∙ lt-ltb 4 (bitOf d) b) refl
+
+  -- a direction to smaller numbers, and none
+  pub not-onward : bitOf d ≤ 4 → false ≡ isCutOnward M g p d
+  unfolding isCutOnward
+  not-onward b = go (isStep M p d) refl
+    where
+      go : (t : Bool) → isStep M p d ≡ t → false ≡ isCutOnward M g p d
+      go false e = rw e refl
+      go true e = rw (e, onward-bit M p d e ∙ le-ltb 4 (bitOf d) b) refl
+
+-- a position that is not walkable has no step
+pub no-step : (M : Map) (g : Segment) (p : Position) → walkable M p ≡ false → (d : Position) → false ≡ isCutOnward M g p d
+no-step M g p w d = go (isStep M p d) refl
+  where
+    go : (t : Bool) → isStep M p d ≡ t → false ≡ isCutOnward M g p d
+    go false e = blocked M g p d e
+    go true e = absurd (true≢false (sym (four M p d e .near) ∙ w))
+
+-- a position far from the segment has no cut step
+pub none-far : (M : Map) (g : Segment) (p : Position) → Far g p → (d : Position) → false ≡ isCutOnward M g p d
+unfolding isCutOnward
+none-far M g p far d = go (isStep M p d) refl
+  where
+    go : (t : Bool) → isStep M p d ≡ t → false ≡ isCutOnward M g p d
+    go false e = rw e refl
+    go true e =
+        let f = four M p d e in
+        sym (ap (λ t. isStep M p d && ltb (index M p) (index M (toward p d)) && t) (far d (f .nearX) (f .nearY) (f .right) (f .down)) ∙ and-false (isStep M p d && ltb (index M p) (index M (toward p d))))
+
+-- ---- the mask
+
+-- its nine bits
+nine : (a b c d : Bool) → map (isSet (onwardMask a b c d)) (run 0 9) ≡ false ∷ false ∷ false ∷ false ∷ false ∷ a ∷ b ∷ c ∷ d ∷ []
+unfolding run
+nine true true true true = refl
+nine true true true false = refl
+nine true true false true = refl
+nine true true false false = refl
+nine true false true true = refl
+nine true false true false = refl
+nine true false false true = refl
+nine true false false false = refl
+nine false true true true = refl
+nine false true true false = refl
+nine false true false true = refl
+nine false true false false = refl
+nine false false true true = refl
+nine false false true false = refl
+nine false false false true = refl
+nine false false false false = refl
+
+pub zero-bit : (k : ℕ) → isSet 0 k ≡ false
+zero-bit k = ap (λ m. eqb (m % 2) 1) (zero-div (2 ^ k))
+
+module _ (M : Map) (g : Segment) (p : Position) where
+  pub no-bits : ((d : Position) → false ≡ isCutOnward M g p d) → CutBits M g p 0
+  no-bits n d a b = zero-bit (bitOf d) ∙ n d
+
+  pub mask-bits : {a b c d : Bool} → a ≡ isCutOnward M g p (at 2 1) → b ≡ isCutOnward M g p (at 0 2) → c ≡ isCutOnward M g p (at 1 2) → d ≡ isCutOnward M g p (at 2 2) → CutBits M g p (onwardMask a b c d)
+  unfolding run
+  mask-bits {a} {b} {c} {d} east southWest south southEast e = go (e .x) (e .y)
+    where
+      bit : (k : ℕ) → getD (map (isSet (onwardMask a b c d)) (run 0 9)) k false ≡ getD (false ∷ false ∷ false ∷ false ∷ false ∷ a ∷ b ∷ c ∷ d ∷ []) k false
+      bit k = ap (λ l. getD l k false) (nine a b c d)
+
+      go : (x y : ℕ) → x ≤ 2 → y ≤ 2 → isSet (onwardMask a b c d) (y * 3 + x) ≡ isCutOnward M g p (at x y)
+      go zero zero i j = bit 0 ∙ not-onward M g p (at 0 0) (omega arith)
+      go (suc zero) zero i j = bit 1 ∙ not-onward M g p (at 1 0) (omega arith)
+      go (suc (suc zero)) zero i j = bit 2 ∙ not-onward M g p (at 2 0) (omega arith)
+      go zero (suc zero) i j = bit 3 ∙ not-onward M g p (at 0 1) (omega arith)
+      go (suc zero) (suc zero) i j = bit 4 ∙ not-onward M g p (at 1 1) (omega arith)
+      go (suc (suc zero)) (suc zero) i j = bit 5 ∙ east
+      go zero (suc (suc zero)) i j = bit 6 ∙ southWest
+      go (suc zero) (suc (suc zero)) i j = bit 7 ∙ south
+      go (suc (suc zero)) (suc (suc zero)) i j = bit 8 ∙ southEast
+      go (suc (suc (suc x))) y i j = absurd (omega arith)
+      go zero (suc (suc (suc y))) i j = absurd (omega arith)
+      go (suc zero) (suc (suc (suc y))) i j = absurd (omega arith)
+      go (suc (suc zero)) (suc (suc (suc y))) i j = absurd (omega arith)
+
+pub mask-small : (a b c d : Bool) → onwardMask a b c d < 512
+mask-small true true true true = omega arith
+mask-small true true true false = omega arith
+mask-small true true false true = omega arith
+mask-small true true false false = omega arith
+mask-small true false true true = omega arith
+mask-small true false true false = omega arith
+mask-small true false false true = omega arith
+mask-small true false false false = omega arith
+mask-small false true true true = omega arith
+mask-small false true true false = omega arith
+mask-small false true false true = omega arith
+mask-small false true false false = omega arith
+mask-small false false true true = omega arith
+mask-small false false true false = omega arith
+mask-small false false false true = omega arith
+mask-small false false false false = omega arith

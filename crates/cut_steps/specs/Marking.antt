@@ -1,0 +1,65 @@
+-- The words of the contracts of the functions that mark cut steps. Definitions only; assumes nothing.
+use Prim.Native.Nat.{ℕ, _+_, _-_, _*_, _/_, _≤_, _<_}
+use mathlib.Core.Path.{_≡_}
+use mathlib.Core.Bool.{true}
+use mathlib.Core.List.{List, _++_}
+use lib.ListN.{length, getD, drop}
+use Rattle.definitions.specs.Limits.{maxSide, numbersPerSpan}
+use Rattle.definitions.specs.Grid.{Map, Position, at, Pair, toward}
+use Rattle.definitions.specs.Refusals.{endpointsDiffer}
+use Rattle.span_geometry.specs.declared.SpanGeometry.{SpanGeometry}
+use Rattle.span_geometry.specs.Shapes.{maxPixel, Sound, segmentOf}
+use Rattle.flood.specs.Masks.{bitOf, withBit, Marks}
+use Rattle.flood.specs.Inner.{Nearby, Inside}
+use Rattle.flood.specs.Contract.{CutMap}
+use Rattle.cut_steps.specs.CutSteps.{isSet}
+use Rattle.cut_steps.specs.Contract.{SpanMap}
+
+-- ---- one direction of one cell
+
+-- the masks with both bits of the step from p in direction d set
+abbrev pub bothBits : ℕ → List ℕ → Position → Position → List ℕ
+bothBits w masks p d = withBit (withBit masks (p .y * w + p .x) (bitOf d)) (toward p d .y * w + toward p d .x) (8 - bitOf d)
+
+-- a direction of a position, which is in the grid where the direction's bit is set
+pub record DirectionAsked (w h : ℕ) (masks : List ℕ) (directions x y dx dy : ℕ) : Type 0 where
+  pub nearby : Nearby w h x y dx dy
+  pub inside : isSet directions (bitOf (at dx dy)) ≡ true → Inside w h x y dx dy
+  pub masksLong : h * w ≤ length masks
+
+-- ---- what is lent
+
+pub record MarkAsked (w h : ℕ) (cells masks : List ℕ) (g : SpanGeometry) : Type 0 where
+  pub narrow : w ≤ maxSide
+  pub short : h ≤ maxSide
+  pub cellsLong : length cells ≡ h * w
+  pub masksLong : h * w ≤ length masks
+  pub sound : Sound g
+
+-- a span whose endpoints differ, and a map that is not empty
+pub record SpanAsked (w h : ℕ) (g : SpanGeometry) : Type 0 where
+  pub wide : 1 ≤ w
+  pub tall : 1 ≤ h
+  pub differ : endpointsDiffer (segmentOf g) ≡ true
+
+-- a span of a list, with coordinates up to the greatest of a map
+pub record SpanAtAsked (spans : List ℕ) (i : ℕ) : Type 0 where
+  pub there : i < length spans / numbersPerSpan
+  pub x0 : getD spans (numbersPerSpan * i) 0 ≤ maxPixel
+  pub y0 : getD spans (numbersPerSpan * i + 1) 0 ≤ maxPixel
+  pub x1 : getD spans (numbersPerSpan * i + 2) 0 ≤ maxPixel
+  pub y1 : getD spans (numbersPerSpan * i + 3) 0 ≤ maxPixel
+
+-- ---- what is left of it
+
+-- Masks `was` have become `masks`: whichever steps were marked, those and the added ones are. What stands beyond the grid is as it was.
+pub record Marked (M : Map) (was masks : List ℕ) (added : List Pair) : Type 0 where
+  pub marks : (E : List Pair) → Marks M was E → Marks M masks (E ++ added)
+  pub long : length masks ≡ length was
+  pub rest : drop (M .height * M .width) masks ≡ drop (M .height * M .width) was
+
+-- of masks that were 0: they are as the flood asks, of every map with these cells and spans
+pub record SpansMarked (w h : ℕ) (cells spans was masks : List ℕ) : Type 0 where
+  pub maps : (M : Map) → SpanMap w h cells spans M → CutMap w h cells masks M
+  pub long : length masks ≡ length was
+  pub rest : drop (h * w) masks ≡ drop (h * w) was

@@ -1,0 +1,113 @@
+// The steps of one cell that a span cuts, as a mask of directions.
+use flood::is_inner;
+use flood::is_inside;
+use flood::is_step;
+use span_geometry::PIXELS_PER_WALK_CELL;
+use span_geometry::SpanGeometry;
+use span_geometry::segments::cell_center;
+use span_geometry::segments::cross;
+ghost use mathlib.Core.Path.{_≡_};
+ghost use mathlib.Core.Bool.{true, cond};
+ghost use Prim.Native.Nat.{_≤_, _<_};
+ghost use lib.Dec.{ltb};
+ghost use lib.IntN.{natAbs};
+ghost use Rattle.definitions.specs.Limits.{maxSide};
+ghost use Rattle.definitions.specs.Grid.{at};
+ghost use Rattle.span_geometry.specs.Shapes.{Sound, segmentOf};
+ghost use Rattle.flood.specs.Walk.{gridOf};
+ghost use Rattle.flood.specs.Inner.{Inner};
+ghost use Rattle.cut_steps.specs.CutSteps.{isCutOnward, isSet};
+ghost use Rattle.cut_steps.specs.Cell.{CellAsked, OnwardAsked, CutDirections, Far, maxReach, onwardMask};
+
+// Whether a number is larger in size than a bound.
+fn exceeds(z: i64, bound: u64) -> bool
+    requires { ⌜ bound ≤ maxReach ⌝ }
+    ensures { λ r. ⌜ r ≡ ltb bound (natAbs z) ⌝ }
+{
+    let limit = bound as i64;
+    (z > limit) | (z < 0 - limit)
+}
+
+// Whether (x, y) is so far from the span's line that every neighbour's centre lies on the same side of it. Most cells near a span need no more than this test.
+fn is_far(g: SpanGeometry, x: usize, y: usize) -> bool
+    requires { ⌜ Sound g × (x < maxSide) × (y < maxSide) ⌝ }
+    ensures { λ r. ⌜ (r ≡ true → Far (segmentOf g) (at x y)) ⌝ }
+{
+    let side = cross(g.a, g.b, cell_center(x as u64, y as u64));
+    let extents = g.max_x - g.min_x + (g.max_y - g.min_y);
+    exceeds(side, PIXELS_PER_WALK_CELL * extents)
+}
+
+// Whether the step from the walkable (x, y) in a direction to cells of larger number is there and is cut.
+fn is_cut_onward(
+    width: usize,
+    height: usize,
+    cells: &[u8],
+    g: SpanGeometry,
+    inner: bool,
+    x: usize,
+    y: usize,
+    dx: usize,
+    dy: usize,
+) -> bool
+    requires { ⌜ OnwardAsked width height (now cells) g x y dx dy ⌝ }
+    requires { ⌜ (inner ≡ true → Inner width height x y) ⌝ }
+    ensures { λ r. ⌜ r ≡ isCutOnward (gridOf width height (now (cells .entry))) (segmentOf g) (at x y) (at dx dy) ⌝ }
+{
+    if !is_inside(inner, width, height, x, y, dx, dy) {
+        return false;
+    }
+    if !is_step(width, height, cells, x, y, dx, dy) {
+        return false;
+    }
+    g.cuts(x as u64, y as u64, (x + dx - 1) as u64, (y + dy - 1) as u64)
+}
+
+// The value where the test holds, else 0.
+fn value_if(test: bool, value: u16) -> u16
+    ensures { λ r. ⌜ (r ≡ cond test value 0) × (r ≤ value) ⌝ }
+{
+    if test { value } else { 0 }
+}
+
+// A bit for each of the four directions that lead to larger numbers.
+fn onward_mask(east: bool, south_west: bool, south: bool, south_east: bool) -> u16
+    ensures { λ r. ⌜ r ≡ onwardMask east «south_west» south «south_east» ⌝ }
+{
+    value_if(east, 32) + value_if(south_west, 64) + value_if(south, 128) + value_if(south_east, 256)
+}
+
+// The directions of (x, y) in which a step leads to a cell of larger number and is cut, a bit for each.
+pub fn cut_directions(
+    width: usize,
+    height: usize,
+    cells: &[u8],
+    g: SpanGeometry,
+    x: usize,
+    y: usize,
+) -> u16
+    requires { ⌜ CellAsked width height (now cells) g x y ⌝ }
+    ensures { λ r. ⌜ CutDirections width height (now (cells .entry)) (segmentOf g) x y r ⌝ }
+{
+    if cells[y * width + x] % 2 != 1 {
+        return 0;
+    }
+    if is_far(g, x, y) {
+        return 0;
+    }
+    let inner = is_inner(width, height, x, y);
+    onward_mask(
+        is_cut_onward(width, height, cells, g, inner, x, y, 2, 1),
+        is_cut_onward(width, height, cells, g, inner, x, y, 0, 2),
+        is_cut_onward(width, height, cells, g, inner, x, y, 1, 2),
+        is_cut_onward(width, height, cells, g, inner, x, y, 2, 2),
+    )
+}
+
+// Whether bit k of a mask is set.
+pub fn is_set(mask: u16, k: usize) -> bool
+    requires { ⌜ k < 9 ⌝ }
+    ensures { λ r. ⌜ r ≡ isSet mask k ⌝ }
+{
+    (mask >> k) % 2 == 1
+}
