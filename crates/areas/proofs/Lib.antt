@@ -4,3 +4,4 @@ pub mod Leaving
 pub mod Early
 pub mod FirstRefusal
 mod Exits
+mod Labelling

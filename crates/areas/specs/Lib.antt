@@ -1,3 +1,4 @@
 pub mod Answers
 pub mod Contract
 pub mod Fit
+pub mod Labelled
