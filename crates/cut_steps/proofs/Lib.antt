@@ -3,4 +3,4 @@ mod Cells
 mod Sides
 mod Marks
 mod Walking
-mod Spans
+pub mod Spans

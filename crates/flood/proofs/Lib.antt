@@ -1,5 +1,5 @@
 pub mod Square
-mod Ways
+pub mod Ways
 mod Graph
 mod Used
 mod States

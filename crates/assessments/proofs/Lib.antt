@@ -1,0 +1,10 @@
+pub mod Places
+pub mod Shifts
+pub mod Rows
+pub mod Insertion
+pub mod Holding
+pub mod Gathering
+pub mod Directions
+pub mod Turns
+pub mod Joining
+pub mod Spans

@@ -1,0 +1,72 @@
+-- `assessments::assess_step` meets its contract, in the two cases of Gathering. Assumes nothing.
+use borrow.Author.Needs.{needs}
+use Rattle.assessments.proofs.Gathering.{assesses-together, assesses-apart}
+use Rattle.assessments.proofs.assess_step.Statement.{statement}
+use Rattle.assessments.proofs.assess_step.Tie as tie
+use Rattle.assessments.proofs.assess_step.Reads as reads
+use Rattle.assessments.proofs.assess_step.Lts as lts
+use Rattle.assessments.proofs.max.Reads as max-reads
+use Rattle.assessments.proofs.min.Reads as min-reads
+use Rattle.assessments.proofs.region_pairs.insert_pair.Reads as insert-pair-reads
+
+mul-left : tie.Need-mul-left
+mul-left c = search needs
+
+shared-slice-read-left : tie.Need-shared-slice-read-left
+shared-slice-read-left c = search needs
+
+mul-right : tie.Need-mul-right
+mul-right c = search needs
+
+shared-slice-read-right : tie.Need-shared-slice-read-right
+shared-slice-read-right c = search needs
+
+add-t16 : tie.Need-add-t16
+add-t16 c = search needs
+
+returns : tie.Need-returns
+returns c = (search needs, assesses-together _ _ (c .before .if1 .taken))
+
+min-requires : tie.Need-min-requires
+min-requires c κs = search needs
+
+max-requires : tie.Need-max-requires
+max-requires c κs = search needs
+
+insert-pair-requires : tie.Need-insert-pair-requires
+insert-pair-requires c κs = search needs
+
+add-t13 : tie.Need-add-t13
+add-t13 c = search needs
+
+add-t19 : tie.Need-add-t19
+add-t19 c = search needs
+
+same-length : tie.Need-same-length
+same-length c = search needs
+
+returns-2 : tie.Need-returns-2
+returns-2 c =
+    let i = c .before .before .before .before in
+    (
+      record { rows = i .insert-pair .ensures .0; fewer = search needs; few = search needs },
+      assesses-apart _ _ (i .before .before .before .before .if1 .left) (i .before .before .min .ensures) (i .before .max .ensures) (i .insert-pair .ensures .1),
+    )
+
+pub assess-step-spec : {M : Type 1} → statement M
+assess-step-spec =
+    tie.close
+    (tie.spec
+    mul-left
+    shared-slice-read-left
+    mul-right
+    shared-slice-read-right
+    add-t16
+    returns
+    min-requires
+    max-requires
+    insert-pair-requires
+    add-t13
+    add-t19
+    same-length
+    returns-2)

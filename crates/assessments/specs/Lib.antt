@@ -1,0 +1,4 @@
+pub mod PairRows
+pub mod Held
+pub mod Assess
+pub mod Answer
