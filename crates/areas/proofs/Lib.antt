@@ -4,4 +4,5 @@ pub mod Leaving
 pub mod Early
 pub mod FirstRefusal
 mod Exits
-mod Labelling
+pub mod Labelling
+mod Dividing

@@ -2,3 +2,4 @@ pub mod Answers
 pub mod Contract
 pub mod Fit
 pub mod Labelled
+pub mod Divided
