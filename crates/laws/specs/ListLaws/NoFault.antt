@@ -18,7 +18,7 @@ module _ {A : Type 0} where
   no-fault true a h = refl
   no-fault false a h = absurd (true≢false (ap found h))
 
-  or-else-none : (x y : Option A) → orElse x y ≡ none → (x ≡ none) × (y ≡ none)
+  pub or-else-none : (x y : Option A) → orElse x y ≡ none → (x ≡ none) × (y ≡ none)
   or-else-none none y h = (refl, h)
   or-else-none (some a) y h = absurd (true≢false (ap found h))
 

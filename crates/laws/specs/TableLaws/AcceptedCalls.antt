@@ -51,7 +51,7 @@ spans-numbered w h spans = first-numbered (length spans / numbersPerSpan) (λ i.
     at-numbered : (s : Segment) (i : ℕ) → Numbered (at s i)
     at-numbered s i = or-numbered (only-numbered (not (bothOnMap w h s)) 5 i (omega arith)) (only-numbered (not (endpointsDiffer s)) 6 i (omega arith))
 
-refusal-none : (number : ℕ) (place : Option ℕ) → refusal number place ≡ none → place ≡ none
+pub refusal-none : (number : ℕ) (place : Option ℕ) → refusal number place ≡ none → place ≡ none
 refusal-none number none h = refl
 refusal-none number (some place) h = absurd (true≢false (ap found h))
 

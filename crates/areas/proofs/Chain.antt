@@ -1,0 +1,23 @@
+-- Checks one after the other: the first refusal is that of the first check that refuses. Assumes nothing.
+use Prim.Native.Nat.{ℕ}
+use mathlib.Core.Path.{_≡_, sym, ap, _∙_}
+use mathlib.Core.Bool.{Bool, true, false, not}
+use mathlib.Core.Option.{Option, none, some}
+use Rattle.definitions.specs.Scan.{onlyIf}
+use Rattle.definitions.specs.Refusals.{Refusal, orElse, unless}
+use Rattle.definitions.specs.Verdict.{refusal}
+
+-- of a test with place 0, whose answer is r
+pub passes : (number : ℕ) {r ok : Bool} → r ≡ ok → not r ≡ false → refusal number (unless ok) ≡ none
+passes number e h = ap (λ b. refusal number (onlyIf b 0)) (ap not (sym e) ∙ h)
+
+pub refuses : (number : ℕ) {r ok : Bool} → r ≡ ok → not r ≡ true → refusal number (unless ok) ≡ some (record { number = number; place = 0 })
+refuses number e h = ap (λ b. refusal number (onlyIf b 0)) (ap not (sym e) ∙ h)
+
+-- a check that refuses, with those behind it
+pub here : {a : Option Refusal} (b : Option Refusal) {x : Refusal} → a ≡ some x → some x ≡ orElse a b
+here b p = sym (ap (λ o. orElse o b) p)
+
+-- a check that does not, and what those behind it say
+pub next : {a b o : Option Refusal} → a ≡ none → o ≡ b → o ≡ orElse a b
+next {b} p q = q ∙ sym (ap (λ o. orElse o b) p)

@@ -1,0 +1,8 @@
+mod Clearing
+pub mod Chain
+pub mod Leaving
+pub mod Early
+pub mod FirstRefusal
+mod Exits
+pub mod Labelling
+mod Dividing

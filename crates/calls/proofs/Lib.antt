@@ -1,0 +1,3 @@
+mod SizesPassed
+mod EarlyLeaves
+pub mod Exits
