@@ -1,0 +1,5 @@
+pub mod Outputs
+pub mod RowsAtExit
+pub mod Theorem
+pub mod RustRows
+

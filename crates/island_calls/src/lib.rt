@@ -1,0 +1,1 @@
+// Theorems on calls alone, in specs/: no function.
