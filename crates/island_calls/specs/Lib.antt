@@ -2,4 +2,5 @@ pub mod Outputs
 pub mod RowsAtExit
 pub mod Theorem
 pub mod RustRows
-
+pub mod CaseCalls
+pub mod Example
