@@ -3,7 +3,7 @@
 use Prim.Native.Nat.{ℕ, _*_, _/_, _%_}
 use mathlib.Core.Path.{_≡_, refl, ap, _∙_}
 use mathlib.Core.Bool.{Bool, true, false, not, Bool·beq}
-use mathlib.Core.List.{List, [], _∷_, _++_, map}
+use mathlib.Core.List.{List, [], _∷_, _++_}
 use lib.ListN.{length, getD, take, drop, replicate}
 use lib.Dec.{eqb, ltb, leb}
 use Rattle.definitions.specs.Limits.{numbersPerBoundary, numbersPerSpan}
@@ -16,7 +16,7 @@ use Rattle.definitions.specs.Verdict.{Lent, mapIn, verdict}
 use Rattle.definitions.specs.CaseJ.{row}
 use Rattle.definitions.specs.Cases.{width8}
 use Rattle.definitions.specs.SheetExamples.{sheetJ}
-use Rattle.island.specs.Premises.{cutsIsland, hasAnchor, rankOf, ranked, Alike, islandRows}
+use Rattle.island.specs.Premises.{cutsIsland, hasAnchor, rankOf, Alike, islandOnly, islandRows}
 use Rattle.island.specs.Decide.{isSameList, isAlike, alike}
 
 -- ---- what is shown
@@ -57,12 +57,9 @@ removed-from : (pass : ℕ) (M : Map) {gone : List ℕ} → removedOf pass M ≡
 unfolding isKept
 removed-from pass M e i h = ap (λ g. not (member i g)) e ∙ ap not h
 
-abbrev rowsWithout : Map → (ℕ → Bool) → List ℕ → List Row
-rowsWithout M isl gone = map (ranked M isl) (filter (λ r. cutsIsland M isl (r .number)) (rowsFrom (length (M .boundaries)) (boundaryOf M) (λ i. not (member i gone))))
-
-rows-from : (pass : ℕ) (M : Map) (isl : ℕ → Bool) {gone : List ℕ} → removedOf pass M ≡ gone → islandRows pass M isl ≡ rowsWithout M isl gone
+pub rows-without : (pass : ℕ) (M : Map) {gone : List ℕ} → removedOf pass M ≡ gone → rowsOf pass M ≡ rowsFrom (length (M .boundaries)) (boundaryOf M) (λ i. not (member i gone))
 unfolding rowsOf
-rows-from pass M isl e = ap (rowsWithout M isl) e
+rows-without pass M e = ap (λ gone. rowsFrom (length (M .boundaries)) (boundaryOf M) (λ i. not (member i gone))) e
 
 -- ---- how the inputs are written
 
@@ -137,8 +134,8 @@ mouth-shown =
       ranksAgree = refl;
       removed = removed-from 1 (mapIn mouth) mouth-removes _ refl;
       removed′ = removed-from 1 (mapIn mouth′) mouth′-removes _ refl;
-      rowsAre = rows-from 1 (mapIn mouth) behindFour mouth-removes;
-      rowsAre′ = rows-from 1 (mapIn mouth′) behindFour mouth′-removes;
+      rowsAre = ap (islandOnly (mapIn mouth) behindFour) (rows-without 1 (mapIn mouth) mouth-removes);
+      rowsAre′ = ap (islandOnly (mapIn mouth′) behindFour) (rows-without 1 (mapIn mouth′) mouth′-removes);
     }
 
 -- ---- pass 2
@@ -183,8 +180,8 @@ interior-shown =
       ranksAgree = refl;
       removed = removed-from 2 (mapIn interior) interior-removes _ refl;
       removed′ = removed-from 2 (mapIn interior′) interior′-removes _ refl;
-      rowsAre = rows-from 2 (mapIn interior) behindFour interior-removes;
-      rowsAre′ = rows-from 2 (mapIn interior′) behindFour interior′-removes;
+      rowsAre = ap (islandOnly (mapIn interior) behindFour) (rows-without 2 (mapIn interior) interior-removes);
+      rowsAre′ = ap (islandOnly (mapIn interior′) behindFour) (rows-without 2 (mapIn interior′) interior′-removes);
     }
 
 -- ---- pass 3
@@ -240,6 +237,6 @@ junction-shown =
       ranksAgree = refl;
       removed = removed-from 3 (mapIn junction) junction-removes _ refl;
       removed′ = removed-from 3 (mapIn junction′) junction′-removes _ refl;
-      rowsAre = rows-from 3 (mapIn junction) firstFour junction-removes;
-      rowsAre′ = rows-from 3 (mapIn junction′) firstFour junction′-removes;
+      rowsAre = ap (islandOnly (mapIn junction) firstFour) (rows-without 3 (mapIn junction) junction-removes);
+      rowsAre′ = ap (islandOnly (mapIn junction′) firstFour) (rows-without 3 (mapIn junction′) junction′-removes);
     }

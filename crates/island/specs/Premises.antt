@@ -71,6 +71,9 @@ pub record Alike (M M′ : Map) (isl : ℕ → Bool) : Type 0 where
 abbrev pub ranked : Map → (ℕ → Bool) → Row → Row
 ranked M isl r = record { number = rankOf M isl (r .number); line = r .line }
 
--- "With all other rows struck out": the rows of boundaries that cut the island, each with its rank
+-- "With all other rows struck out": of rows of this map those of boundaries that cut the island, in their order, each with its rank
+abbrev pub islandOnly : Map → (ℕ → Bool) → List Row → List Row
+islandOnly M isl rows = map (ranked M isl) (filter (λ r. cutsIsland M isl (r .number)) rows)
+
 abbrev pub islandRows : ℕ → Map → (ℕ → Bool) → List Row
-islandRows pass M isl = map (ranked M isl) (filter (λ r. cutsIsland M isl (r .number)) (rowsOf pass M))
+islandRows pass M isl = islandOnly M isl (rowsOf pass M)

@@ -4,15 +4,15 @@
 use Prim.Native.Nat.{ℕ, zero, suc}
 use mathlib.Core.Path.{_≡_, refl, sym, ap, ap₂, _∙_}
 use mathlib.Core.Bool.{Bool, true, not, cond}
-use mathlib.Core.List.{List, [], map}
+use mathlib.Core.List.{List, []}
 use lib.ListN.{length}
 use borrow.Author.Tests.{eq-eqb}
-use Rattle.definitions.specs.Scan.{filter, member}
+use Rattle.definitions.specs.Scan.{member}
 use Rattle.definitions.specs.Grid.{Map, spanCount, boundaryOf}
 use Rattle.definitions.specs.Context.{Context, contextOf}
 use Rattle.definitions.specs.Rows.{Row, rowsFrom, rowsOf, removedBy, removedOf, isKept}
 use Rattle.laws.specs.OrderLaws.Ranks.{rank}
-use Rattle.island.specs.Premises.{Island, Alike, cutsIsland, rankOf, ranked, islandRows}
+use Rattle.island.specs.Premises.{Island, Alike, cutsIsland, rankOf, islandOnly, islandRows}
 use Rattle.island.specs.Frame.{Frame, Ids}
 use Rattle.island.specs.Framed.{framed, ids}
 use Rattle.island.specs.Restrict.{restrict}
@@ -47,7 +47,7 @@ rows-run pass M e = ap₂ (λ n l. rowsFrom n (boundaryOf M) (λ i. not (member 
 rows-restricted : (pass : ℕ) (M : Map) (isl : ℕ → Bool) → Island M isl → islandRows pass M isl ≡ keptRows pass (contextOf (restrict M isl))
 unfolding rankOf contextOf
 rows-restricted pass M isl I =
-    ap (λ l. map (ranked M isl) (filter (λ r. cutsIsland M isl (r .number)) l)) (rows-run pass M (I .equallyMany))
+    ap (islandOnly M isl) (rows-run pass M (I .equallyMany))
     ∙ rows-in (framed M isl I) _ _ (λ i b. ap not (removed-in (framed M isl I) (ids M isl I) pass i b))
 
 kept-restricted : (pass : ℕ) (M : Map) (isl : ℕ → Bool) → Island M isl → (i : ℕ) → cutsIsland M isl i ≡ true → isKept pass M i ≡ not (member (rankOf M isl i) (removedBy pass (contextOf (restrict M isl))))

@@ -2,20 +2,19 @@
 -- fill than the first. Their outputs hold other rows, under other numbers; those of the island are alike. Computed; assumes nothing.
 use Prim.Native.Nat.{ℕ}
 use mathlib.Core.Path.{_≡_, refl, sym, ap, _∙_}
-use mathlib.Core.Bool.{Bool, not}
+use mathlib.Core.Bool.{Bool}
 use mathlib.Core.List.{List, [], _∷_}
-use lib.ListN.{length, replicate}
+use lib.ListN.{replicate}
 use Rattle.definitions.specs.Scan.{member}
-use Rattle.definitions.specs.Grid.{Map, boundaryOf}
-use Rattle.definitions.specs.Rows.{Row, removedOf, rowsFrom, rowsOf}
+use Rattle.definitions.specs.Rows.{Row, rowsFrom, rowsOf}
 use Rattle.definitions.specs.Verdict.{Lent, mapIn, verdict}
 use Rattle.definitions.specs.AtExit.{callExit}
 use Rattle.definitions.specs.CaseJ.{row}
 use Rattle.definitions.specs.Cases.{regionOfCounts}
-use Rattle.island.specs.Premises.{cutsIsland, rankOf, Alike}
+use Rattle.island.specs.Premises.{cutsIsland, rankOf, Alike, islandOnly}
 use Rattle.island.specs.Example as maps
 use Rattle.calls.specs.Contract.{Ran}
-use Rattle.island_calls.specs.Outputs.{rowsHeld, islandOnly}
+use Rattle.island_calls.specs.Outputs.{rowsHeld}
 use Rattle.island_calls.specs.RowsAtExit.{rows-held}
 use Rattle.island_calls.specs.Theorem.{island-outputs}
 
@@ -66,11 +65,6 @@ pub record Shown (L L′ : Lent) (isl : ℕ → Bool) (held held′ alike : List
   pub island : islandOnly (mapIn L) isl held ≡ alike
   pub island′ : islandOnly (mapIn L′) isl held′ ≡ alike
 
--- the rows, by what is removed, so that the pass is computed once
-rows-without : (pass : ℕ) (M : Map) {gone : List ℕ} → removedOf pass M ≡ gone → rowsOf pass M ≡ rowsFrom (length (M .boundaries)) (boundaryOf M) (λ i. not (member i gone))
-unfolding rowsOf
-rows-without pass M e = ap (λ gone. rowsFrom (length (M .boundaries)) (boundaryOf M) (λ i. not (member i gone))) e
-
 shown : (L L′ : Lent) (isl : ℕ → Bool) {held held′ alike : List Row} → verdict L .number ≡ 0 → verdict L′ .number ≡ 0 → L .pass ≡ L′ .pass → Alike (mapIn L) (mapIn L′) isl → rowsOf (L .pass) (mapIn L) ≡ held → rowsOf (L′ .pass) (mapIn L′) ≡ held′ → islandOnly (mapIn L) isl held ≡ alike → Shown L L′ isl held held′ alike
 shown L L′ isl {held} {held′} ok ok′ same premises rows rows′ left =
     let holds : rowsHeld (verdict L) (exit L .output) ≡ held = rows-held (met L) ok ∙ rows in
@@ -94,21 +88,21 @@ shown L L′ isl {held} {held′} ok ok′ same premises rows rows′ left =
 pub mouths : Shown maps.mouth (elsewhere maps.mouth′) maps.behindFour (row 3 16 0 16 8 ∷ row 1 48 0 48 8 ∷ []) (row 0 8 0 8 8 ∷ row 2 48 0 48 8 ∷ []) (row 1 48 0 48 8 ∷ [])
 unfolding elsewhere maps.mouth maps.mouth′ mapIn verdict rowsFrom member cutsIsland rankOf
 mouths =
-    shown maps.mouth (elsewhere maps.mouth′) maps.behindFour refl refl refl (maps.mouth-shown .premises) (rows-without 1 (mapIn maps.mouth) maps.mouth-removes)
-    (rows-without 1 (mapIn maps.mouth′) maps.mouth′-removes) refl
+    shown maps.mouth (elsewhere maps.mouth′) maps.behindFour refl refl refl (maps.mouth-shown .premises) (maps.rows-without 1 (mapIn maps.mouth) maps.mouth-removes)
+    (maps.rows-without 1 (mapIn maps.mouth′) maps.mouth′-removes) refl
 
 -- ---- pass 2
 
 pub interiors : Shown maps.interior (elsewhere maps.interior′) maps.behindFour (row 3 8 0 8 8 ∷ row 4 16 0 16 8 ∷ row 0 40 0 40 8 ∷ row 2 56 0 56 8 ∷ []) (row 1 8 0 8 8 ∷ row 0 40 0 40 8 ∷ row 3 56 0 56 8 ∷ []) (row 0 40 0 40 8 ∷ row 2 56 0 56 8 ∷ [])
 unfolding elsewhere maps.interior maps.interior′ mapIn verdict rowsFrom member cutsIsland rankOf
 interiors =
-    shown maps.interior (elsewhere maps.interior′) maps.behindFour refl refl refl (maps.interior-shown .premises) (rows-without 2 (mapIn maps.interior) maps.interior-removes)
-    (rows-without 2 (mapIn maps.interior′) maps.interior′-removes) refl
+    shown maps.interior (elsewhere maps.interior′) maps.behindFour refl refl refl (maps.interior-shown .premises) (maps.rows-without 2 (mapIn maps.interior) maps.interior-removes)
+    (maps.rows-without 2 (mapIn maps.interior′) maps.interior′-removes) refl
 
 -- ---- pass 3
 
 pub junctions : Shown maps.junction (elsewhere maps.junction′) maps.firstFour (row 1 8 8 8 16 ∷ row 2 8 8 16 8 ∷ row 4 16 16 24 16 ∷ row 3 24 8 24 16 ∷ row 5 40 8 48 8 ∷ []) (row 2 8 8 8 16 ∷ row 3 8 8 16 8 ∷ row 5 16 16 24 16 ∷ row 4 24 8 24 16 ∷ row 0 40 16 48 16 ∷ []) (row 1 8 8 8 16 ∷ row 2 8 8 16 8 ∷ row 4 16 16 24 16 ∷ row 3 24 8 24 16 ∷ [])
 unfolding elsewhere maps.junction maps.junction′ mapIn verdict rowsFrom member cutsIsland rankOf
 junctions =
-    shown maps.junction (elsewhere maps.junction′) maps.firstFour refl refl refl (maps.junction-shown .premises) (rows-without 3 (mapIn maps.junction) maps.junction-removes)
-    (rows-without 3 (mapIn maps.junction′) maps.junction′-removes) refl
+    shown maps.junction (elsewhere maps.junction′) maps.firstFour refl refl refl (maps.junction-shown .premises) (maps.rows-without 3 (mapIn maps.junction) maps.junction-removes)
+    (maps.rows-without 3 (mapIn maps.junction′) maps.junction′-removes) refl

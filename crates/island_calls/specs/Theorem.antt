@@ -14,11 +14,11 @@ use Rattle.definitions.specs.Grid.{Map}
 use Rattle.definitions.specs.RegionRecord.{Region}
 use Rattle.definitions.specs.Rows.{rowsOf, isKept}
 use Rattle.definitions.specs.Verdict.{Lent, Answer, mapIn}
-use Rattle.island.specs.Premises.{Island, Alike, cutsIsland, rankOf}
+use Rattle.island.specs.Premises.{Island, Alike, cutsIsland, rankOf, islandOnly}
 use Rattle.island.specs.Restrict.{cuts-lt}
 use Rattle.island.specs.Theorem.{island-rows, island-kept}
 use Rattle.calls.specs.Contract.{Ran}
-use Rattle.island_calls.specs.Outputs.{rowsHeld, islandOnly, hasRow}
+use Rattle.island_calls.specs.Outputs.{rowsHeld, hasRow}
 use Rattle.island_calls.specs.RowsAtExit.{rows-held, row-kept}
 
 -- spans and boundaries are one list, so that what cuts is a boundary of the list
