@@ -1,6 +1,6 @@
 -- DEMAND 3 over the definitions, for all three passes. Both maps, restricted to the island, are one map (`restrict-same`); and a pass over a map, seen inside
 -- the island, is the pass over the restricted map (`framed` and the lemmas on each pass). So what either keeps on the island is what that one map keeps.
--- Its form over two calls follows from this with the contract of the call.
+-- Its form over two calls stands in crates/island_calls.
 use Prim.Native.Nat.{ℕ, zero, suc}
 use mathlib.Core.Path.{_≡_, refl, sym, ap, ap₂, _∙_}
 use mathlib.Core.Bool.{Bool, true, not, cond}

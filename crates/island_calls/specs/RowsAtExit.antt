@@ -5,7 +5,7 @@ use mathlib.Core.Path.{_≡_, refl, sym, ap, _∙_}
 use mathlib.Core.Bool.{Bool, not, _&&_}
 use mathlib.Core.List.{List, _++_}
 use lib.ListN.{length, drop}
-use lib.Dec.{eqb, ltb}
+use lib.Dec.{eqb}
 use borrow.Author.Tests.{lt-ltb}
 use Rattle.definitions.specs.Scan.{member}
 use Rattle.definitions.specs.Sort.{listLt}
@@ -14,7 +14,7 @@ use Rattle.definitions.specs.RegionRecord.{Region}
 use Rattle.definitions.specs.Rows.{Row, removedOf, isKept, rowKey, rowsFrom, rowsOf, flatRows}
 use Rattle.definitions.specs.Verdict.{Lent, Answer, mapIn, verdict}
 use Rattle.definitions.specs.AtExit.{callExit, exitWith, stageOf}
-use Rattle.laws.specs.ListLaws.FlatRows.{rowsIn, rows-of-flat}
+use Rattle.laws.specs.ListLaws.FlatRows.{rows-of-flat}
 use Rattle.laws.specs.ListLaws.Scans.{picked, any-picked}
 use Rattle.laws.specs.ListLaws.SortedMembers.{any-sort}
 use Rattle.laws.specs.SetLaws.Sets.{numbersBelow, member-below}
