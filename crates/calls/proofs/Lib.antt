@@ -1,5 +1,5 @@
 mod SizesPassed
 mod EarlyLeaves
-mod EarlyFits
+pub mod EarlyFits
 pub mod Exits
 mod Preparing

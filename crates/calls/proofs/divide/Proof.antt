@@ -1,16 +1,4 @@
 -- `calls::divide` meets its contract: labels, scratch and assessed spans, put together in Preparing. Assumes nothing.
-use borrow.Author.Tests.{ltb-true, ltb-false}
-use Rattle.calls.proofs.Preparing.{refused-records, refused-pairs, all-ready}
--- `calls::divide` meets its contract: labels, scratch and assessed spans, put together in Preparing. Assumes nothing.
-use borrow.Author.Tests.{ltb-true, ltb-false}
-use Rattle.calls.proofs.Preparing.{refused-records, refused-pairs, all-ready}
--- `calls::divide` meets its contract: labels, scratch and assessed spans, put together in Preparing. Assumes nothing.
-use borrow.Author.Tests.{ltb-true, ltb-false}
-use Rattle.calls.proofs.Preparing.{refused-records, refused-pairs, all-ready}
--- `calls::divide` meets its contract: labels, scratch and assessed spans, put together in Preparing. Assumes nothing.
-use borrow.Author.Tests.{ltb-true, ltb-false}
-use Rattle.calls.proofs.Preparing.{refused-records, refused-pairs, all-ready}
--- `calls::divide` meets its contract: labels, scratch and assessed spans, put together in Preparing. Assumes nothing.
 use Rattle.calls.proofs.Preparing.{refused-records, refused-pairs, all-ready}
 use borrow.Author.Needs.{needs}
 use Rattle.calls.proofs.divide.Statement.{statement}
