@@ -131,14 +131,25 @@ pub fn checks_before(
 ) -> Check
     ensures { λ r. ⌜ refusalOf r ≡ earlyRefusal pass width height (now (cells .entry)) (now (spans .entry)) (now (boundaries .entry)) (now (anchors .entry)) labels masks queue tallies output ⌝ }
 {
-    if let Check::Refused(number, place) =
-        check_sizes(pass, width, height, cells, spans, boundaries, anchors)
-    {
+    if let Check::Refused(number, place) = check_sizes(
+        pass,
+        width,
+        height,
+        cells,
+        spans,
+        boundaries,
+        anchors,
+    ) {
         return Check::Refused(number, place);
     }
-    if let Check::Refused(number, place) =
-        check_entries(width, height, cells, spans, boundaries, anchors)
-    {
+    if let Check::Refused(number, place) = check_entries(
+        width,
+        height,
+        cells,
+        spans,
+        boundaries,
+        anchors,
+    ) {
         return Check::Refused(number, place);
     }
     check_room(

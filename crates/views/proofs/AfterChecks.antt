@@ -78,7 +78,7 @@ module _ {pass w h : ℕ} {cells spans boundaries anchors : List ℕ} {room outp
   unfolding anchorsFault
   anchor-within i k =
       let b = both (ltb (getD anchors (numbersPerAnchor * i) 0) w) (ltb (getD anchors (numbersPerAnchor * i + 1) 0) h)
-          (none-faulty (λ i. ltb (getD anchors (numbersPerAnchor * i) 0) w && ltb (getD anchors (numbersPerAnchor * i + 1) 0) h) (length anchors / numbersPerAnchor) (ready-accepted .anchors) i k) in
+      (none-faulty (λ i. ltb (getD anchors (numbersPerAnchor * i) 0) w && ltb (getD anchors (numbersPerAnchor * i + 1) 0) h) (length anchors / numbersPerAnchor) (ready-accepted .anchors) i k) in
       (ltb-true (getD anchors (numbersPerAnchor * i) 0) w (b .0), ltb-true (getD anchors (numbersPerAnchor * i + 1) 0) h (b .1))
 
   pub anchor-column : (i : ℕ) → i < length anchors / numbersPerAnchor → getD anchors (numbersPerAnchor * i) 0 < maxSide

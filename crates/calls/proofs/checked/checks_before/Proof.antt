@@ -58,7 +58,7 @@ check-room-requires c κs = search needs
 
 returns-3 : tie.Need-returns-3
 unfolding earlyRefusal
-returns-3 c = 
+returns-3 c =
     let a = c .before .before .before .before .before .before .before .before .before .before .before .args in
     next (says (c .before .before .before .before .before .before .check-sizes .ensures) (c .before .before .before .before .enum-told .given .1))
     (next (says (c .before .before .before .check-entries .ensures) (c .before .enum-told2 .given .1))
