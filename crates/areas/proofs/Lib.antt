@@ -5,4 +5,4 @@ pub mod Early
 pub mod FirstRefusal
 mod Exits
 pub mod Labelling
-mod Dividing
+pub mod Dividing

@@ -5,7 +5,7 @@ use mathlib.Core.Bool.{_&&_}
 use mathlib.Core.Option.{some}
 use mathlib.Core.List.{List}
 use Rattle.definitions.specs.Limits.{numbersPerSpan, numbersPerBoundary, numbersPerAnchor}
-use Rattle.definitions.specs.Refusals.{Refusal, unless, sidesFault, cellsFault, isWhole, passFault, spansRefusal, boundariesFault, anchorsFault, elevationsFault}
+use Rattle.definitions.specs.Refusals.{Refusal, unless, sidesFault, cellsFault, isWhole, passFault, boundariesFault, anchorsFault, elevationsFault}
 use Rattle.definitions.specs.AtExit.{stageOf, untouched}
 use Rattle.areas.proofs.Leaving.{Leaves, leaves-or, leaves-refusal}
 use Rattle.areas.proofs.Early.{spans-leave}

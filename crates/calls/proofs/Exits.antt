@@ -1,12 +1,11 @@
 -- The contract of the call from what its parts leave: where a check before it refuses, where there are more regions than records or more pairs than rows, and where
 -- all is filled. The answer follows the chain of checks, and each list at exit is what the table says for that number. Assumes nothing.
 use Prim.Native.Nat.{ℕ, _*_, _/_, _≤_, _<_}
-use mathlib.Core.Path.{_≡_, refl, sym, ap, ap₂, _∙_}
-use mathlib.Core.Bool.{true, false, not, _&&_}
+use mathlib.Core.Path.{_≡_, refl, sym, ap, _∙_}
+use mathlib.Core.Bool.{not, _&&_}
 use mathlib.Core.Option.{Option, none, some}
-use mathlib.Core.List.{List, [], _∷_, _++_}
+use mathlib.Core.List.{List, [], _∷_}
 use lib.ListN.{length}
-use lib.Dec.{leb}
 use borrow.Author.Tests.{le-leb, lt-leb}
 use Rattle.definitions.specs.Limits.{numbersPerSpan, numbersPerBoundary, numbersPerAnchor, numbersPerPair, talliesPerSpan}
 use Rattle.definitions.specs.Scan.{onlyIf}
@@ -18,7 +17,7 @@ use Rattle.definitions.specs.Context.{contextOf}
 use Rattle.definitions.specs.Rows.{rowsOf, flatRows}
 use Rattle.definitions.specs.Refusals.{Refusal, orElse, unless, sidesFault, cellsFault, isWhole, passFault, spansRefusal, boundariesFault, anchorsFault, elevationsFault}
 use Rattle.definitions.specs.Verdict.{Lent, mapIn, refusal, firstRefusal, pairRowsOf, recordsFault, pairsFault, verdict}
-use Rattle.definitions.specs.AtExit.{Stage, stageOf, untouched, talliesOf, recordsOf, recordsAtExit, outputAtExit, exitWith, callExit}
+use Rattle.definitions.specs.AtExit.{stageOf, untouched, talliesOf, recordsOf, recordsAtExit, outputAtExit, exitWith, callExit}
 use Rattle.areas.proofs.FirstRefusal.{first-joined}
 use Rattle.calls.specs.Contract.{given, Ran}
 use Rattle.calls.specs.Early.{sizesRefusal, entriesRefusal, hasRoom, earlyRefusal}

@@ -1,3 +1,5 @@
 mod SizesPassed
 mod EarlyLeaves
+pub mod EarlyFits
 pub mod Exits
+mod Preparing

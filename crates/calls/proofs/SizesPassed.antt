@@ -5,7 +5,6 @@ use mathlib.Core.Bool.{true, _&&_}
 use mathlib.Core.Option.{none}
 use mathlib.Core.List.{List}
 use lib.ListN.{length}
-use lib.Dec.{eqb}
 use borrow.Author.Tests.{eqb-true}
 use Rattle.definitions.specs.Limits.{maxSide, isSide, numbersPerSpan, numbersPerBoundary, numbersPerAnchor}
 use Rattle.definitions.specs.Refusals.{unless, sidesFault, cellsFault, isWhole, passFault}

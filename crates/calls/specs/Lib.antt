@@ -1,2 +1,3 @@
 pub mod Early
 pub mod Contract
+pub mod Prepared

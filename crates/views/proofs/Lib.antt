@@ -1,0 +1,5 @@
+mod Viewing
+mod Tallies
+pub mod AfterChecks
+pub mod AfterPartition
+pub mod Closing
