@@ -140,7 +140,7 @@ class Picture:
 
     def ground(self, look, **box):
         fill = GROUND[look >> 2] if look else BLOCKED
-        self.put('rect', **box, fill=fill, stroke=fill, stroke_width=0.5)
+        self.put('rect', **box, fill=fill, shape_rendering='crispEdges')
         if look & 2:
             self.put('rect', **box, fill='url(#ramp)', fill_opacity=0.55)
 

@@ -347,10 +347,10 @@ def turned(r, p):
     return p
 
 
-def edge_maps(count, seed=1, first=0):
+def edge_maps(count, seed=1, families=None):
     """(number, family, map): the same for the same seed, and each map by itself the same however many are drawn"""
-    families = [f for f, weight in FAMILIES for _ in range(weight)]
-    for k in range(first, first + count):
+    families = families or [f for f, weight in FAMILIES for _ in range(weight)]
+    for k in range(count):
         r = random.Random(f'edges {seed}/{k}')
         family = r.choice(families)
         m = turned(r, family(r)).finished()

@@ -27,6 +27,7 @@ import generate                                  # noqa: E402
 import native                                    # noqa: E402
 import reference                                 # noqa: E402
 import sheet_bytes                               # noqa: E402
+from hypotenuse import bits                      # noqa: E402
 
 SWAPS = [('&&', '||'), ('leb', 'ltb'), ('le', 'lt'), ('any', 'all'), ('anyBelow', 'allBelow'), ('min', 'max'), ('fmin', 'fmax'), ('.lo', '.hi'), ('.a', '.b'),
          ('.x', '.y'), ('.px', '.py'), ('.minX', '.maxX'), ('.minY', '.maxY'), ('.inner', '.outer'), ('.first', '.second'), ('.firstPort', '.secondPort'),
@@ -129,14 +130,17 @@ class Corpus:
         self.maps, self.contexts, self.calls, self.sheets = [], [], [], []
         self.add(generate.maps(count, 'mutants'), count)
         self.add(edges.edge_maps(of_edges, 'mutants'), of_edges // 2)
-        lengths = ((5000, 1024, 2304, 512), (20, 8, 18, 4), (400, 0, 90, 2), (400, 40, 90, 1), (400, 40, 8, 4))
+        self.add(edges.edge_maps(of_edges // 10, 'mutants', [edges.least_and_greatest]), of_edges // 2)
+        for m in self.ramps_at_limits():
+            lent = reference.lend(m)
+            self.calls.append((m, lent.copy(), True, (reference.call(m, lent), [getattr(lent, name) for name in reference.LENT])))
+        rooms = ((5000, 1024, 2304, 512), (20, 8, 18, 4), (400, 0, 90, 2), (400, 40, 90, 1), (400, 40, 8, 4))
         for k, what, data in damage.sheets(generate.small_plan, count, 'mutants'):
             if len(data) <= 400:
-                room = lengths[k % 5]
-                lists = [[9] * n for n in room]
-                answer, _ = sheet_bytes.read_sheet(data, *lists)
-                self.sheets.append((data, sheet_bytes.keptlist(data), room, (answer, lists)))
-        self.sheets += [(data, sheet_bytes.keptlist(data), None, None) for data in self.large_sheets()]
+                self.add_sheet(data, rooms[k % 5])
+        self.add_sheet(b''.join(map(sheet_bytes.number_bytes, (1, 1, 1024, 1024))), rooms[0])          # within the sides, and ends early
+        for data in self.large_sheets():
+            self.add_sheet(data)
         native.forget()
 
     def add(self, maps, count):
@@ -171,6 +175,23 @@ class Corpus:
             before = lent.copy()
             answer = reference.call(n, lent, whole)
             self.calls.append((n, before, whole, (answer, [getattr(lent, name) for name in reference.LENT])))
+
+    def add_sheet(self, data, room=None):
+        """what keptlist prints and, with lent lists of these lengths, what reading alone answers and fills"""
+        answer = None
+        if room:
+            lists = [[9] * n for n in room]
+            answer = sheet_bytes.read_sheet(data, *lists)[0], lists
+        self.sheets.append((data, sheet_bytes.keptlist(data), room, answer))
+
+    def ramps_at_limits(self):
+        """one boundary, of every kind, with one of its ramp's numbers at or beyond a limit"""
+        for kind in range(4):
+            for place, limits in ((6, (0, 1, (1 << 31) - 1, 1 << 31, (1 << 32) - 1, 1 << 32)), (7, (0, 1, 6, 7, 8)), (8, (0, 1, 6, 7, 8))):
+                for limit in limits:
+                    boundary = [8, 0, 8, 8, bits(8.0), kind, 0, 0, 0]
+                    boundary[place] = limit
+                    yield reference.Map(1, 2, 1, [1, 1], [8, 0, 8, 8], boundary, [])
 
     def large_sheets(self):
         """the ends of keptlist's limits"""

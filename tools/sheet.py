@@ -27,6 +27,7 @@ Every well-formed sheet can be printed, and what is printed gives the same sheet
 entries fit the map is not asked here: keptlist says so.
 """
 import argparse
+import math
 import re
 import sys
 
@@ -72,6 +73,8 @@ def width_bits(line, word):
         return number(line, word, 'the width')
     if not re.fullmatch(r'-?([0-9]+\.?[0-9]*|\.[0-9]+)([eE][-+]?[0-9]+)?', word):
         raise Wrong(line, f'the width must be a number, or 0x and the bits of a double, not {word!r}')
+    if math.isinf(float(word)):
+        raise Wrong(line, f'the width is beyond the doubles: {word}')
     return bits(float(word))
 
 
@@ -80,11 +83,12 @@ class Text:
 
     def __init__(self, text):
         self.lines = []                                                # (line number, words)
-        for k, line in enumerate(text.splitlines(), 1):
+        lines = text.split('\n')
+        for k, line in enumerate(lines, 1):
             words = line.split(';', 1)[0].split()
             if words:
                 self.lines.append((k, words))
-        self.last = text.count('\n') + 1
+        self.last = len(lines)
         self.at = 0
         self.pass_number = self.size = self.spans_line = None
         self.cells, self.boundaries, self.own_spans, self.anchors = [], [], [], []

@@ -56,7 +56,8 @@ def made_up(r):
         spans += [some() for _ in range(4)]
     elif r.random() < 0.2:
         spans = spans[4:]
-    return Map(some(3), w, h, [r.choice((0, 1, 3, 15, r.randrange(256))) for _ in range(w * h)], spans, boundaries, [some() for _ in range(2 * r.choice((0, 0, 1, 2)))])
+    cells = [r.choice((0, 1, 3, 15, r.randrange(256))) for _ in range(w * h)]
+    return Map(some(3), w, h, cells, spans, boundaries, [some() for _ in range(2 * r.choice((0, 0, 1, 2)))])
 
 
 class RoundTrips(unittest.TestCase):
@@ -142,6 +143,7 @@ class Errors(unittest.TestCase):
         self.check(start + '\n;\nboundary 1 2 3\n', 6, 'a boundary is x y x y width')
         self.check(start + 'boundary 1 2 3 4 wide\n', 4, "the width must be a number, or 0x and the bits of a double, not 'wide'")
         self.check(start + 'boundary 1 2 3 4 nan\n', 4, 'the width must be a number')
+        self.check(start + 'boundary 1 2 3 4 1e999\n', 4, 'beyond the doubles')
         self.check(start + 'boundary 1 2 3 4 8 middle 7 0 1\n', 4, "not 'middle'")
         self.check(start + 'boundary 1 2 3 4 8 lower 7 0 1 2\n', 4, '3 numbers are needed')
         self.check(start + 'boundary 1 2 3 4 8 kind 7 0 1\n', 4, '4 numbers are needed')
