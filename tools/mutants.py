@@ -89,10 +89,15 @@ class Mutated:
         for m in ('Context', 'RampMouths', 'RampInteriors', 'Junctions'):
             memo |= {f'{m}.{n}' for n, e in antt2py.MODULES[m].decls.items() if any(s[2] for s in e.section)}
         over = {k: v for k, v in self.overrides.items() if k != f'{module}.{name}'}
+        text_alone = {k: v for k, v in over.items() if not k.startswith(module + '.') or module == 'RampGeometry'}
         if f'{module}.{name}' in self.overrides:         # what is fast about it would hide the change
-            over = {k: v for k, v in over.items() if not k.startswith(module + '.') or module == 'RampGeometry'}
+            over = text_alone
         gen = antt2py.Gen('fast', over, memo)
         text = gen.run([r for r in antt2py.ROOTS if r not in over])
+        if f'{module}.{name}' not in gen.done:           # a fast form stands before it
+            over = text_alone
+            gen = antt2py.Gen('fast', over, memo)
+            text = gen.run([r for r in antt2py.ROOTS if r not in over])
         if f'{module}.{name}' not in gen.done:
             return None
         del native.CACHES[:]
@@ -286,6 +291,7 @@ def main():
             if made is None:
                 continue
         except (SyntaxError, AssertionError, KeyError, NameError, TypeError, IndexError):
+            tally['tried'] += 1
             tally['ill typed'] += 1
             continue
         tally['tried'] += 1
