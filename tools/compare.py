@@ -1,13 +1,14 @@
 """The rendering in Python, the definitions run from their own text, and the Rust, against one another.
 
-    python3 compare.py COUNT [--seed S] [--from K] [--oracle PROGRAM] [--large N] [--no-definitions] [--literal]
+    python3 compare.py COUNT [--seed S] [--from K] [--oracle PROGRAM] [--edges N] [--large N] [--no-definitions] [--literal]
 
-COUNT maps of the generator, each for all three passes, compared in full: labels, region count, tallies, pairs, region records
+COUNT maps of generate.py and N of edges.py, each for all three passes, compared in full: labels, region count, tallies, pairs, region records
 and rows; the answer and every lent list at exit, with lists that are long enough and with lists that may be too short; the
 printed list; and as many damaged sheets: the printed list, and what reading alone answers and fills. The first differences
 are printed and minimised. Exit code 0 if there is none.
 """
 import argparse
+import itertools
 import json
 import os
 import random
@@ -18,6 +19,7 @@ import time
 from collections import Counter
 
 import damage
+import edges
 import generate
 import reference
 import sheet_bytes
@@ -114,7 +116,7 @@ class Definitions:
                 'rows': [groups(d.Rows__flatRows(d.Rows__rowsOf(p, M)), 5) for p in (1, 2, 3)]}
 
     def call(self, m, lent, whole=True):
-        """the answer, and the lists at exit"""
+        """the answer, and the lists at exit; behind them the names of what was lent to be read only and is not as it was"""
         d = self.d
         L = d.R.Lent(m.pass_number if whole else 0, m.width, m.height, tuple(m.cells), tuple(m.spans), tuple(m.boundaries) if whole else (),
                      tuple(m.anchors) if whole else (), tuple(lent.labels), tuple(lent.masks), tuple(lent.queue), tuple(lent.tallies), tuple(lent.pairs),
@@ -123,7 +125,8 @@ class Definitions:
         after = (d.AtExit__callExit if whole else d.AtExit__partitionExit)(L, answer.number)
         lists = [list(getattr(after, name)) for name in LENT]
         lists[5] = [self.record(r) for r in lists[5]]
-        return (answer.number, answer.value), lists
+        changed = [name for name in ('pass_', 'width', 'height', 'cells', 'spans', 'boundaries', 'anchors') if getattr(after, name) != getattr(L, name)]
+        return (answer.number, answer.value), lists + changed
 
     def keptlist(self, data):
         self.d.forget()
@@ -336,7 +339,8 @@ class Run:
 
     def run(self):
         started = time.time()
-        for k, family, m in generate.maps(self.options.count, self.options.seed, self.options.first):
+        maps = generate.maps(self.options.count, self.options.seed, self.options.first), edges.edge_maps(self.options.edges, self.options.seed)
+        for k, family, m in itertools.chain(*maps):
             if reference.early_refusal(m, reference.lend(m), True):
                 self.counts['maps passed over'] += 1
                 continue
@@ -373,6 +377,7 @@ def main():
     a.add_argument('--seed', default='1')
     a.add_argument('--from', dest='first', type=int, default=0)
     a.add_argument('--oracle')
+    a.add_argument('--edges', type=int, default=0, help='so many maps of edges.py too')
     a.add_argument('--large', type=int, default=0, help='so many large maps, with the oracle only')
     a.add_argument('--no-definitions', action='store_true')
     a.add_argument('--literal', action='store_true')
