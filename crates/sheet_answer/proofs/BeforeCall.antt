@@ -14,7 +14,7 @@ use Rattle.sheet.specs.declared.Answer.the-variants.{Read, Refused}
 use Rattle.printed.specs.Answers.{Printed}
 use Rattle.sheet_answer.specs.Answers.{keptlistReading, ListsLong, Begun}
 use Rattle.sheet_answer.specs.declared.Before.the-variants.{Printed as WasPrinted, Ready}
-use Rattle.sheet_answer.proofs.Sizes.{room-enough}
+use Rattle.laws.specs.SheetReading.SheetSizes.{room-enough}
 
 -- ---- by what the reading is
 

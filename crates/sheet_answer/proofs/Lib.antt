@@ -1,3 +1,3 @@
-mod Sizes
 mod BeforeCall
 mod AfterCall
+pub mod Whole

@@ -1,0 +1,151 @@
+-- From the parts to the whole: what `read` printed is what `keptlist` prints, or else the lists begin with those of the sheet; and what `print` printed of
+-- the call's answer for that sheet is what `keptlist` prints. Assumes nothing.
+use Prim.Native.Nat.{ℕ, zero, suc, _*_, _/_, _≤_}
+use native.Mathlib.Omega.{arith}
+use mathlib.Core.Path.{_≡_, refl, sym, ap, ap₂, subst, _∙_}
+use mathlib.Core.Bool.{Bool, true, false, cond}
+use mathlib.Core.List.{List, _++_}
+use lib.ListN.{length, take, drop, length-append, length-drop, length-replicate}
+use lib.Seq.{take-at}
+use lib.Dec.{ltb}
+use Rattle.definitions.specs.Limits.{maxSide, maxEntries, numbersPerSpan, numbersPerBoundary, numbersPerAnchor, numbersPerRow}
+use Rattle.definitions.specs.Lists.{overwrite}
+use Rattle.definitions.specs.Scan.{concatMap}
+use Rattle.definitions.specs.Rows.{rowsOf, flatRows}
+use Rattle.definitions.specs.Sheet.{Sheet, Reading, wellFormed, refused, readSheet, keptlistCellLimit}
+use Rattle.definitions.specs.Verdict.{Lent, Answer, mapIn, verdict}
+use Rattle.definitions.specs.AtExit.{stageOf, exitWith, callExit}
+use Rattle.definitions.specs.Printed.{maxSheetBytes, refusedLine, keptLine, rowLine, lentFor, printedAnswer, printedReading, keptlist}
+use Rattle.laws.specs.ListLaws.FlatRows.{flat-length}
+use Rattle.laws.specs.SheetReading.SheetSizes.{Entries, Sized, sized}
+use Rattle.laws.specs.TableLaws.AcceptedCalls.{accepted-count}
+use Rattle.laws.specs.TableLaws.KeptRows.{boundary-count, rows-have-room}
+use Rattle.sheet.specs.Answers.{headerOf}
+use Rattle.sheet.specs.declared.Header.{Header}
+use Rattle.printed.specs.Answers.{Printed}
+use Rattle.sheet_answer.specs.Answers.{keptlistReading, ListsLong, Begun, RowsFit, AnswerPrinted}
+use Rattle.sheet_answer.specs.declared.Before.the-variants.{Printed as WasPrinted, Ready}
+
+pub keptlist-reading : (bytes : List ℕ) → keptlist bytes ≡ printedReading (keptlistReading bytes)
+unfolding keptlist keptlistReading printedReading
+keptlist-reading bytes = go (ltb maxSheetBytes (length bytes)) (readSheet keptlistCellLimit bytes)
+  where
+    go : (long : Bool) (r : Reading) → cond long (refusedLine 14 maxSheetBytes) (printedReading r) ≡ printedReading (cond long (refused 14 maxSheetBytes) r)
+    go true r = refl
+    go false r = refl
+
+-- ---- before the call
+
+-- what was printed
+pub begun-printed : (bytes : List ℕ) {cells spans boundaries anchors out cells′ spans′ boundaries′ anchors′ out′ : List ℕ} {n : ℕ}
+    → Begun (keptlistReading bytes) cells spans boundaries anchors out (WasPrinted n) cells′ spans′ boundaries′ anchors′ out′ → Printed (keptlist bytes) out out′ n
+unfolding printedReading
+begun-printed bytes {cells} {spans} {boundaries} {anchors} {out} {cells′} {spans′} {boundaries′} {anchors′} {out′} {n} B = rw (keptlist-reading bytes) (go (keptlistReading bytes) B)
+  where
+    go : (r : Reading) → Begun r cells spans boundaries anchors out (WasPrinted n) cells′ spans′ boundaries′ anchors′ out′ → Printed (printedReading r) out out′ n
+    go (wellFormed s) C = absurd (let z : _≡_ {A = ℕ} 0 1 = cc (C .said) in omega arith)
+    go (refused number place) C = record { stored = C .out-left; length-is = cc (C .said) }
+
+-- what was read: the lists begin with those of a sheet, as the header has it
+pub record SheetRead (bytes : List ℕ) (header : Header) (cells spans boundaries anchors : List ℕ) : Type 0 where
+  pub sheet : Sheet
+  pub is : keptlistReading bytes ≡ wellFormed sheet
+  pub header-is : header ≡ headerOf sheet
+  pub wide : header .width ≤ maxSide
+  pub high : header .height ≤ maxSide
+  pub cells-inside : header .width * header .height ≤ length cells
+  pub spans-inside : numbersPerSpan * header .spans ≤ length spans
+  pub boundaries-inside : numbersPerBoundary * header .boundaries ≤ length boundaries
+  pub anchors-inside : numbersPerAnchor * header .anchors ≤ length anchors
+  pub cells-are : take (header .width * header .height) cells ≡ sheet .cells
+  pub spans-are : take (numbersPerSpan * header .spans) spans ≡ sheet .spans
+  pub boundaries-are : take (numbersPerBoundary * header .boundaries) boundaries ≡ sheet .boundaries
+  pub anchors-are : take (numbersPerAnchor * header .anchors) anchors ≡ sheet .anchors
+
+-- a list behind which the old entries stand
+begins : (l old : List ℕ) {new : List ℕ} (n : ℕ) → length l ≡ n → new ≡ overwrite l old → (n ≤ length new) × (take n new ≡ l)
+begins l old n h e =
+    (omega (arith, h, ap length e, length-append l (drop (length l) old)), ap (take n) e ∙ take-at l (drop (length l) old) n h)
+
+-- a sheet that the program reads has at most so many cells
+reading-sized : (bytes : List ℕ) {s : Sheet} → keptlistReading bytes ≡ wellFormed s → Sized keptlistCellLimit s
+unfolding keptlistReading
+reading-sized bytes {s} h = go (ltb maxSheetBytes (length bytes)) h
+  where
+    go : (long : Bool) → cond long (refused 14 maxSheetBytes) (readSheet keptlistCellLimit bytes) ≡ wellFormed s → Sized keptlistCellLimit s
+    go true e = absurd (let z : _≡_ {A = ℕ} 0 1 = cc in omega arith)
+    go false e = sized keptlistCellLimit bytes e
+
+pub begun-ready : (bytes : List ℕ) {cells spans boundaries anchors out cells′ spans′ boundaries′ anchors′ out′ : List ℕ} {header : Header}
+    → Begun (keptlistReading bytes) cells spans boundaries anchors out (Ready header) cells′ spans′ boundaries′ anchors′ out′ → SheetRead bytes header cells′ spans′ boundaries′ anchors′
+begun-ready bytes {cells} {spans} {boundaries} {anchors} {out} {cells′} {spans′} {boundaries′} {anchors′} {out′} {header} B = go (keptlistReading bytes) refl B
+  where
+    go : (r : Reading) → keptlistReading bytes ≡ r → Begun r cells spans boundaries anchors out (Ready header) cells′ spans′ boundaries′ anchors′ out′ → SheetRead bytes header cells′ spans′ boundaries′ anchors′
+    go (refused number place) e C = absurd (let z : _≡_ {A = ℕ} 0 1 = cc (C .said) in omega arith)
+    go (wellFormed s) e C =
+        let same : headerOf s ≡ header = cc (C .said) in
+        let S : Sized keptlistCellLimit s = reading-sized bytes e in
+        let a = begins (s .cells) cells (s .width * s .height) (S .cells-long) (C .cells-left) in
+        let b = begins (s .spans) spans (numbersPerSpan * (length (s .spans) / numbersPerSpan)) (omega (arith, S .spans .long)) (C .spans-left) in
+        let c = begins (s .boundaries) boundaries (numbersPerBoundary * (length (s .boundaries) / numbersPerBoundary)) (omega (arith, S .boundaries .long)) (C .boundaries-left) in
+        let d = begins (s .anchors) anchors (numbersPerAnchor * (length (s .anchors) / numbersPerAnchor)) (omega (arith, S .anchors .long)) (C .anchors-left) in
+        subst (λ h. SheetRead bytes h cells′ spans′ boundaries′ anchors′) same
+        (record {
+          sheet = s;
+          is = e;
+          header-is = refl;
+          wide = S .wide;
+          high = S .high;
+          cells-inside = a .0;
+          spans-inside = b .0;
+          boundaries-inside = c .0;
+          anchors-inside = d .0;
+          cells-are = a .1;
+          spans-are = b .1;
+          boundaries-are = c .1;
+          anchors-are = d .1;
+        })
+
+-- ---- after the call
+
+module _ (L : Lent) {a : Answer} {o : List ℕ} (A : a ≡ verdict L) (O : o ≡ callExit L (a .number) .output) where
+  -- an answer of number 0
+  module _ (h : a .number ≡ 0) where
+    none-refused : verdict L .number ≡ 0
+    none-refused = ap (λ x. x .number) (sym A) ∙ h
+
+    counted : a .value ≡ length (rowsOf (L .pass) (mapIn L))
+    counted = ap (λ x. x .value) A ∙ accepted-count L none-refused
+
+    output-is : o ≡ overwrite (flatRows (rowsOf (L .pass) (mapIn L))) (L .output)
+    unfolding callExit exitWith stageOf
+    output-is = O ∙ ap (λ n. callExit L n .output) h
+
+    rows-written : (numbersPerRow * a .value ≤ length o) × (take (numbersPerRow * a .value) o ≡ flatRows (rowsOf (L .pass) (mapIn L)))
+    rows-written = begins (flatRows (rowsOf (L .pass) (mapIn L))) (L .output) (numbersPerRow * a .value) (omega (arith, flat-length (rowsOf (L .pass) (mapIn L)), counted)) output-is
+
+  -- what `print` requires
+  pub rows-fit : length (L .output) ≤ numbersPerRow * maxEntries → RowsFit (a .number) (a .value) (length o)
+  rows-fit few h = (omega (arith, counted h, rows-have-room L (none-refused h)), rows-written h .0)
+
+  -- what it printed
+  pub answer-printed : (count : ℕ) → count ≡ length (L .boundaries) / numbersPerBoundary → {old new : List ℕ} {n : ℕ} → AnswerPrinted (a .number) (a .value) o count old new n
+      → Printed (printedAnswer (verdict L .number) L (verdict L .value)) old new n
+  unfolding printedAnswer
+  answer-printed count e {old} {new} {n} P = subst (λ x. Printed (printedAnswer (x .number) L (x .value)) old new n) A (go (a .number) refl P)
+    where
+      go : (number : ℕ) → a .number ≡ number → AnswerPrinted number (a .value) o count old new n → Printed (printedAnswer number L (a .value)) old new n
+      go zero h Q =
+          subst (λ k. Printed (keptLine (a .value) k ++ concatMap rowLine (rowsOf (L .pass) (mapIn L))) old new n) (e ∙ sym (boundary-count L))
+          (Q (rowsOf (L .pass) (mapIn L)) (rows-written h .1))
+      go (suc number) h Q = Q
+
+-- ---- the whole
+
+-- The call was lent `lentFor s`, for the sheet s that was read; it answered a and left this output, which `print` printed: that is what `keptlist` prints.
+pub call-printed : (bytes : List ℕ) {s : Sheet} → keptlistReading bytes ≡ wellFormed s → {a : Answer} {o : List ℕ} → a ≡ verdict (lentFor s) → o ≡ callExit (lentFor s) (a .number) .output
+    → (count : ℕ) → count ≡ length (s .boundaries) / numbersPerBoundary → {old new : List ℕ} {n : ℕ} → AnswerPrinted (a .number) (a .value) o count old new n
+    → Printed (keptlist bytes) old new n
+unfolding printedReading lentFor
+call-printed bytes {s} r A O count e {old} {new} {n} P =
+    subst (λ l. Printed l old new n) (sym (keptlist-reading bytes ∙ ap printedReading r)) (answer-printed (lentFor s) A O count e P)
