@@ -140,12 +140,19 @@ module _ (L : Lent) {a : Answer} {o : List ℕ} (A : a ≡ verdict L) (O : o ≡
           (Q (rowsOf (L .pass) (mapIn L)) (rows-written h .1))
       go (suc number) h Q = Q
 
--- ---- the whole
+-- ---- the call was lent what the program lends for a sheet
 
--- The call was lent `lentFor s`, for the sheet s that was read; it answered a and left this output, which `print` printed: that is what `keptlist` prints.
-pub call-printed : (bytes : List ℕ) {s : Sheet} → keptlistReading bytes ≡ wellFormed s → {a : Answer} {o : List ℕ} → a ≡ verdict (lentFor s) → o ≡ callExit (lentFor s) (a .number) .output
-    → (count : ℕ) → count ≡ length (s .boundaries) / numbersPerBoundary → {old new : List ℕ} {n : ℕ} → AnswerPrinted (a .number) (a .value) o count old new n
+module _ (s : Sheet) {a : Answer} {o : List ℕ} (A : a ≡ verdict (lentFor s)) (O : o ≡ callExit (lentFor s) (a .number) .output) where
+  pub sheet-fits : RowsFit (a .number) (a .value) (length o)
+  unfolding lentFor
+  sheet-fits = rows-fit (lentFor s) A O (omega (arith, length-replicate {A = ℕ} (numbersPerRow * maxEntries) 0))
+
+  pub sheet-printed : (count : ℕ) → count ≡ length (s .boundaries) / numbersPerBoundary → {old new : List ℕ} {n : ℕ} → AnswerPrinted (a .number) (a .value) o count old new n
+      → Printed (printedReading (wellFormed s)) old new n
+  unfolding printedReading lentFor
+  sheet-printed count e P = answer-printed (lentFor s) A O count e P
+
+-- what is printed for the sheet that was read is what `keptlist` prints
+pub keptlist-printed : (bytes : List ℕ) {s : Sheet} → keptlistReading bytes ≡ wellFormed s → {old new : List ℕ} {n : ℕ} → Printed (printedReading (wellFormed s)) old new n
     → Printed (keptlist bytes) old new n
-unfolding printedReading lentFor
-call-printed bytes {s} r A O count e {old} {new} {n} P =
-    subst (λ l. Printed l old new n) (sym (keptlist-reading bytes ∙ ap printedReading r)) (answer-printed (lentFor s) A O count e P)
+keptlist-printed bytes {s} r {old} {new} {n} P = subst (λ l. Printed l old new n) (sym (keptlist-reading bytes ∙ ap printedReading r)) P
