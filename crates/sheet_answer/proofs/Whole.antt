@@ -8,7 +8,7 @@ use mathlib.Core.List.{List, _++_}
 use lib.ListN.{length, take, drop, length-append, length-drop, length-replicate}
 use lib.Seq.{take-at}
 use lib.Dec.{ltb}
-use Rattle.definitions.specs.Limits.{maxSide, maxEntries, numbersPerSpan, numbersPerBoundary, numbersPerAnchor, numbersPerRow}
+use Rattle.definitions.specs.Limits.{maxEntries, numbersPerSpan, numbersPerBoundary, numbersPerAnchor, numbersPerRow}
 use Rattle.definitions.specs.Lists.{overwrite}
 use Rattle.definitions.specs.Scan.{concatMap}
 use Rattle.definitions.specs.Rows.{rowsOf, flatRows}
@@ -24,6 +24,7 @@ use Rattle.sheet.specs.Answers.{headerOf}
 use Rattle.sheet.specs.declared.Header.{Header}
 use Rattle.printed.specs.Answers.{Printed}
 use Rattle.sheet_answer.specs.Answers.{keptlistReading, ListsLong, Begun, RowsFit, AnswerPrinted}
+use Rattle.sheet_answer.specs.declared.Before.{Before}
 use Rattle.sheet_answer.specs.declared.Before.the-variants.{Printed as WasPrinted, Ready}
 
 pub keptlist-reading : (bytes : List ℕ) → keptlist bytes ≡ printedReading (keptlistReading bytes)
@@ -36,23 +37,26 @@ keptlist-reading bytes = go (ltb maxSheetBytes (length bytes)) (readSheet keptli
 
 -- ---- before the call
 
--- what was printed
-pub begun-printed : (bytes : List ℕ) {cells spans boundaries anchors out cells′ spans′ boundaries′ anchors′ out′ : List ℕ} {n : ℕ}
-    → Begun (keptlistReading bytes) cells spans boundaries anchors out (WasPrinted n) cells′ spans′ boundaries′ anchors′ out′ → Printed (keptlist bytes) out out′ n
-unfolding printedReading
-begun-printed bytes {cells} {spans} {boundaries} {anchors} {out} {cells′} {spans′} {boundaries′} {anchors′} {out′} {n} B = rw (keptlist-reading bytes) (go (keptlistReading bytes) B)
-  where
-    go : (r : Reading) → Begun r cells spans boundaries anchors out (WasPrinted n) cells′ spans′ boundaries′ anchors′ out′ → Printed (printedReading r) out out′ n
-    go (wellFormed s) C = absurd (let z : _≡_ {A = ℕ} 0 1 = cc (C .said) in omega arith)
-    go (refused number place) C = record { stored = C .out-left; length-is = cc (C .said) }
+module _ (bytes : List ℕ) {cells spans boundaries anchors out cells′ spans′ boundaries′ anchors′ out′ : List ℕ} {answer : Before}
+    (B : Begun (keptlistReading bytes) cells spans boundaries anchors out answer cells′ spans′ boundaries′ anchors′ out′) where
+  -- what was printed
+  pub begun-printed : {n : ℕ} → answer ≡ WasPrinted n → Printed (keptlist bytes) out out′ n
+  unfolding printedReading
+  begun-printed {n} e = rw (keptlist-reading bytes) (go (keptlistReading bytes) B)
+    where
+      go : (r : Reading) → Begun r cells spans boundaries anchors out answer cells′ spans′ boundaries′ anchors′ out′ → Printed (printedReading r) out out′ n
+      go (wellFormed s) C = absurd (let z : _≡_ {A = ℕ} 0 1 = cc (C .said) in omega arith)
+      go (refused number place) C = record { stored = C .out-left; length-is = cc (C .said) }
 
--- what was read: the lists begin with those of a sheet, as the header has it
-pub record SheetRead (bytes : List ℕ) (header : Header) (cells spans boundaries anchors : List ℕ) : Type 0 where
+-- what was read: the lists begin with those of a sheet, as the header has it, and nothing is printed yet
+pub record SheetRead (bytes : List ℕ) (header : Header) (cells spans boundaries anchors out out′ : List ℕ) : Type 0 where
   pub sheet : Sheet
   pub is : keptlistReading bytes ≡ wellFormed sheet
   pub header-is : header ≡ headerOf sheet
-  pub wide : header .width ≤ maxSide
-  pub high : header .height ≤ maxSide
+  pub area-few : header .width * header .height ≤ keptlistCellLimit
+  pub spans-few : header .spans ≤ maxEntries
+  pub boundaries-few : header .boundaries ≤ maxEntries
+  pub anchors-few : header .anchors ≤ maxEntries
   pub cells-inside : header .width * header .height ≤ length cells
   pub spans-inside : numbersPerSpan * header .spans ≤ length spans
   pub boundaries-inside : numbersPerBoundary * header .boundaries ≤ length boundaries
@@ -61,6 +65,7 @@ pub record SheetRead (bytes : List ℕ) (header : Header) (cells spans boundarie
   pub spans-are : take (numbersPerSpan * header .spans) spans ≡ sheet .spans
   pub boundaries-are : take (numbersPerBoundary * header .boundaries) boundaries ≡ sheet .boundaries
   pub anchors-are : take (numbersPerAnchor * header .anchors) anchors ≡ sheet .anchors
+  pub out-same : out′ ≡ out
 
 -- a list behind which the old entries stand
 begins : (l old : List ℕ) {new : List ℕ} (n : ℕ) → length l ≡ n → new ≡ overwrite l old → (n ≤ length new) × (take n new ≡ l)
@@ -76,35 +81,40 @@ reading-sized bytes {s} h = go (ltb maxSheetBytes (length bytes)) h
     go true e = absurd (let z : _≡_ {A = ℕ} 0 1 = cc in omega arith)
     go false e = sized keptlistCellLimit bytes e
 
-pub begun-ready : (bytes : List ℕ) {cells spans boundaries anchors out cells′ spans′ boundaries′ anchors′ out′ : List ℕ} {header : Header}
-    → Begun (keptlistReading bytes) cells spans boundaries anchors out (Ready header) cells′ spans′ boundaries′ anchors′ out′ → SheetRead bytes header cells′ spans′ boundaries′ anchors′
-begun-ready bytes {cells} {spans} {boundaries} {anchors} {out} {cells′} {spans′} {boundaries′} {anchors′} {out′} {header} B = go (keptlistReading bytes) refl B
-  where
-    go : (r : Reading) → keptlistReading bytes ≡ r → Begun r cells spans boundaries anchors out (Ready header) cells′ spans′ boundaries′ anchors′ out′ → SheetRead bytes header cells′ spans′ boundaries′ anchors′
-    go (refused number place) e C = absurd (let z : _≡_ {A = ℕ} 0 1 = cc (C .said) in omega arith)
-    go (wellFormed s) e C =
-        let same : headerOf s ≡ header = cc (C .said) in
-        let S : Sized keptlistCellLimit s = reading-sized bytes e in
-        let a = begins (s .cells) cells (s .width * s .height) (S .cells-long) (C .cells-left) in
-        let b = begins (s .spans) spans (numbersPerSpan * (length (s .spans) / numbersPerSpan)) (omega (arith, S .spans .long)) (C .spans-left) in
-        let c = begins (s .boundaries) boundaries (numbersPerBoundary * (length (s .boundaries) / numbersPerBoundary)) (omega (arith, S .boundaries .long)) (C .boundaries-left) in
-        let d = begins (s .anchors) anchors (numbersPerAnchor * (length (s .anchors) / numbersPerAnchor)) (omega (arith, S .anchors .long)) (C .anchors-left) in
-        subst (λ h. SheetRead bytes h cells′ spans′ boundaries′ anchors′) same
-        (record {
-          sheet = s;
-          is = e;
-          header-is = refl;
-          wide = S .wide;
-          high = S .high;
-          cells-inside = a .0;
-          spans-inside = b .0;
-          boundaries-inside = c .0;
-          anchors-inside = d .0;
-          cells-are = a .1;
-          spans-are = b .1;
-          boundaries-are = c .1;
-          anchors-are = d .1;
-        })
+module _ (bytes : List ℕ) {cells spans boundaries anchors out cells′ spans′ boundaries′ anchors′ out′ : List ℕ} {answer : Before}
+    (B : Begun (keptlistReading bytes) cells spans boundaries anchors out answer cells′ spans′ boundaries′ anchors′ out′) where
+  pub begun-ready : {header : Header} → answer ≡ Ready header → SheetRead bytes header cells′ spans′ boundaries′ anchors′ out out′
+  begun-ready {header} f = go (keptlistReading bytes) refl B
+    where
+      go : (r : Reading) → keptlistReading bytes ≡ r → Begun r cells spans boundaries anchors out answer cells′ spans′ boundaries′ anchors′ out′
+          → SheetRead bytes header cells′ spans′ boundaries′ anchors′ out out′
+      go (refused number place) e C = absurd (let z : _≡_ {A = ℕ} 0 1 = cc (C .said) in omega arith)
+      go (wellFormed s) e C =
+          let same : headerOf s ≡ header = cc (C .said) in
+          let S : Sized keptlistCellLimit s = reading-sized bytes e in
+          let a = begins (s .cells) cells (s .width * s .height) (S .cells-long) (C .cells-left) in
+          let b = begins (s .spans) spans (numbersPerSpan * (length (s .spans) / numbersPerSpan)) (omega (arith, S .spans .long)) (C .spans-left) in
+          let c = begins (s .boundaries) boundaries (numbersPerBoundary * (length (s .boundaries) / numbersPerBoundary)) (omega (arith, S .boundaries .long)) (C .boundaries-left) in
+          let d = begins (s .anchors) anchors (numbersPerAnchor * (length (s .anchors) / numbersPerAnchor)) (omega (arith, S .anchors .long)) (C .anchors-left) in
+          subst (λ h. SheetRead bytes h cells′ spans′ boundaries′ anchors′ out out′) same
+          (record {
+            sheet = s;
+            is = e;
+            header-is = refl;
+            area-few = S .area-few;
+            spans-few = omega (arith, S .spans .long, S .spans .few);
+            boundaries-few = omega (arith, S .boundaries .long, S .boundaries .few);
+            anchors-few = omega (arith, S .anchors .long, S .anchors .few);
+            cells-inside = a .0;
+            spans-inside = b .0;
+            boundaries-inside = c .0;
+            anchors-inside = d .0;
+            cells-are = a .1;
+            spans-are = b .1;
+            boundaries-are = c .1;
+            anchors-are = d .1;
+            out-same = C .out-left;
+          })
 
 -- ---- after the call
 
@@ -152,7 +162,36 @@ module _ (s : Sheet) {a : Answer} {o : List ℕ} (A : a ≡ verdict (lentFor s))
   unfolding printedReading lentFor
   sheet-printed count e P = answer-printed (lentFor s) A O count e P
 
--- what is printed for the sheet that was read is what `keptlist` prints
-pub keptlist-printed : (bytes : List ℕ) {s : Sheet} → keptlistReading bytes ≡ wellFormed s → {old new : List ℕ} {n : ℕ} → Printed (printedReading (wellFormed s)) old new n
-    → Printed (keptlist bytes) old new n
-keptlist-printed bytes {s} r {old} {new} {n} P = subst (λ l. Printed l old new n) (sym (keptlist-reading bytes ∙ ap printedReading r)) P
+-- ---- the whole
+
+-- the sheet that was read, by the header and the lists
+abbrev pub sheetRead : Header → List ℕ → List ℕ → List ℕ → List ℕ → Sheet
+sheetRead header cells spans boundaries anchors =
+    record {
+      pass = header .pass;
+      width = header .width;
+      height = header .height;
+      cells = take (header .width * header .height) cells;
+      spans = take (numbersPerSpan * header .spans) spans;
+      boundaries = take (numbersPerBoundary * header .boundaries) boundaries;
+      anchors = take (numbersPerAnchor * header .anchors) anchors;
+    }
+
+-- what is printed for it is what `keptlist` prints
+pub keptlist-printed : {bytes : List ℕ} {header : Header} {cells spans boundaries anchors out out′ out″ : List ℕ} {n : ℕ} → SheetRead bytes header cells spans boundaries anchors out out′
+    → Printed (printedReading (wellFormed (sheetRead header cells spans boundaries anchors))) out′ out″ n → Printed (keptlist bytes) out out″ n
+keptlist-printed {bytes} {header} {cells} {spans} {boundaries} {anchors} {out} {out′} {out″} {n} S P =
+    subst (λ l. Printed l out out″ n) (sym (keptlist-reading bytes ∙ ap printedReading (S .is)))
+    (subst (λ o. Printed (printedReading (wellFormed (S .sheet))) o out″ n) (S .out-same)
+    (subst (λ s. Printed (printedReading (wellFormed s)) out′ out″ n) same P))
+  where
+    same : sheetRead header cells spans boundaries anchors ≡ S .sheet
+    same = λ i. record {
+      pass = S .header-is i .pass;
+      width = S .header-is i .width;
+      height = S .header-is i .height;
+      cells = S .cells-are i;
+      spans = S .spans-are i;
+      boundaries = S .boundaries-are i;
+      anchors = S .anchors-are i;
+    }
