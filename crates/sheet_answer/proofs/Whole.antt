@@ -6,7 +6,7 @@ use mathlib.Core.Path.{_≡_, refl, sym, ap, ap₂, subst, _∙_}
 use mathlib.Core.Bool.{Bool, true, false, cond}
 use mathlib.Core.List.{List, _++_}
 use lib.ListN.{length, take, drop, length-append, length-drop, length-replicate}
-use lib.Seq.{take-at}
+use lib.Seq.{take-at, length-take-le}
 use lib.Dec.{ltb}
 use Rattle.definitions.specs.Limits.{maxEntries, numbersPerSpan, numbersPerBoundary, numbersPerAnchor, numbersPerRow}
 use Rattle.definitions.specs.Lists.{overwrite}
@@ -23,7 +23,7 @@ use Rattle.laws.specs.TableLaws.KeptRows.{boundary-count, rows-have-room}
 use Rattle.sheet.specs.Answers.{headerOf}
 use Rattle.sheet.specs.declared.Header.{Header}
 use Rattle.printed.specs.Answers.{Printed}
-use Rattle.sheet_answer.specs.Answers.{keptlistReading, ListsLong, Begun, RowsFit, AnswerPrinted}
+use Rattle.sheet_answer.specs.Answers.{keptlistReading, ListsLong, Begun, RowsFit, AnswerPrinted, Inside}
 use Rattle.sheet_answer.specs.declared.Before.{Before}
 use Rattle.sheet_answer.specs.declared.Before.the-variants.{Printed as WasPrinted, Ready}
 
@@ -34,6 +34,12 @@ keptlist-reading bytes = go (ltb maxSheetBytes (length bytes)) (readSheet keptli
     go : (long : Bool) (r : Reading) → cond long (refusedLine 14 maxSheetBytes) (printedReading r) ≡ printedReading (cond long (refused 14 maxSheetBytes) r)
     go true r = refl
     go false r = refl
+
+-- what was printed stands inside the list
+pub printed-inside : {bytes old new : List ℕ} {n : ℕ} → Printed bytes old new n → Inside n new
+printed-inside {bytes} {old} {new} {n} P =
+    let few : n ≤ length new = omega (arith, P .length-is, ap length (P .stored), length-append bytes (drop (length bytes) old)) in
+    (few, sym (length-take-le n new few))
 
 -- ---- before the call
 

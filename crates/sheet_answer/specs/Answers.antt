@@ -3,7 +3,7 @@ use Prim.Native.Nat.{ℕ, zero, suc, _*_, _≤_}
 use mathlib.Core.Path.{_≡_}
 use mathlib.Core.Bool.{cond}
 use mathlib.Core.List.{List}
-use lib.ListN.{length}
+use lib.ListN.{length, take}
 use lib.Dec.{ltb}
 use Rattle.definitions.specs.Limits.{maxEntries, numbersPerSpan, numbersPerBoundary, numbersPerAnchor, numbersPerRow}
 use Rattle.definitions.specs.Lists.{overwrite}
@@ -60,3 +60,9 @@ RowsFit number value output = number ≡ 0 → (value ≤ maxEntries) × (number
 abbrev pub AnswerPrinted : ℕ → ℕ → List ℕ → ℕ → List ℕ → List ℕ → ℕ → Type 0
 AnswerPrinted zero value output count old new answer = KeptPrinted output value count old new answer
 AnswerPrinted (suc number) value output count old new answer = Printed (refusedLine (suc number) value) old new answer
+
+-- ---- the whole
+
+-- n counts bytes at the start of a list. The second part follows from the first; a caller that cuts the list there needs both.
+abbrev pub Inside : ℕ → List ℕ → Type 0
+Inside n l = (n ≤ length l) × (n ≡ length (take n l))
