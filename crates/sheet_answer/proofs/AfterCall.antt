@@ -1,7 +1,6 @@
 -- What is printed of an answer, by its number. Assumes nothing.
 use Prim.Native.Nat.{ℕ, zero, suc}
-use native.Mathlib.Omega.{arith}
-use mathlib.Core.Path.{_≡_, sym, refl}
+use mathlib.Core.Path.{_≡_, refl}
 use mathlib.Core.List.{List}
 use Rattle.definitions.specs.Printed.{refusedLine}
 use Rattle.printed.specs.Answers.{Printed, KeptPrinted}

@@ -5,7 +5,7 @@ use mathlib.Core.Path.{_≡_, refl, sym, ap, subst, _∙_}
 use mathlib.Core.List.{List}
 use lib.ListN.{length}
 use borrow.Author.Tests.{lt-ltb, le-ltb}
-use Rattle.definitions.specs.Sheet.{Reading, wellFormed, refused, readSheet, keptlistCellLimit}
+use Rattle.definitions.specs.Sheet.{Reading, wellFormed, refused, keptlistCellLimit}
 use Rattle.definitions.specs.Printed.{maxSheetBytes, refusedLine}
 use Rattle.sheet.specs.Answers.{Answered, readingWithin}
 use Rattle.sheet.specs.declared.Header.{Header}

@@ -2,10 +2,10 @@
 -- the call's answer for that sheet is what `keptlist` prints. Assumes nothing.
 use Prim.Native.Nat.{ℕ, zero, suc, _*_, _/_, _≤_}
 use native.Mathlib.Omega.{arith}
-use mathlib.Core.Path.{_≡_, refl, sym, ap, ap₂, subst, _∙_}
+use mathlib.Core.Path.{_≡_, refl, sym, ap, subst, _∙_}
 use mathlib.Core.Bool.{Bool, true, false, cond}
 use mathlib.Core.List.{List, _++_}
-use lib.ListN.{length, take, drop, length-append, length-drop, length-replicate}
+use lib.ListN.{length, take, drop, length-append, length-replicate}
 use lib.Seq.{take-at, length-take-le}
 use lib.Dec.{ltb}
 use Rattle.definitions.specs.Limits.{maxEntries, numbersPerSpan, numbersPerBoundary, numbersPerAnchor, numbersPerRow}
@@ -17,13 +17,13 @@ use Rattle.definitions.specs.Verdict.{Lent, Answer, mapIn, verdict}
 use Rattle.definitions.specs.AtExit.{stageOf, exitWith, callExit}
 use Rattle.definitions.specs.Printed.{maxSheetBytes, refusedLine, keptLine, rowLine, lentFor, printedAnswer, printedReading, keptlist}
 use Rattle.laws.specs.ListLaws.FlatRows.{flat-length}
-use Rattle.laws.specs.SheetReading.SheetSizes.{Entries, Sized, sized}
+use Rattle.laws.specs.SheetReading.SheetSizes.{Sized, sized}
 use Rattle.laws.specs.TableLaws.AcceptedCalls.{accepted-count}
 use Rattle.laws.specs.TableLaws.KeptRows.{boundary-count, rows-have-room}
 use Rattle.sheet.specs.Answers.{headerOf}
 use Rattle.sheet.specs.declared.Header.{Header}
 use Rattle.printed.specs.Answers.{Printed}
-use Rattle.sheet_answer.specs.Answers.{keptlistReading, ListsLong, Begun, RowsFit, AnswerPrinted, Inside}
+use Rattle.sheet_answer.specs.Answers.{keptlistReading, Begun, RowsFit, AnswerPrinted, Inside}
 use Rattle.sheet_answer.specs.declared.Before.{Before}
 use Rattle.sheet_answer.specs.declared.Before.the-variants.{Printed as WasPrinted, Ready}
 

@@ -1,6 +1,5 @@
 // From the bytes of a sheet to what `keptlist` prints, but for the call that runs a pass: what is read and answered before it, and what is printed of its
 // answer.
-ghost use mathlib.Core.Path.{_≡_};
 ghost use Prim.Native.Nat.{_≤_};
 ghost use lib.ListN.{length};
 ghost use Rattle.sheet_answer.specs.Answers.{outRoom, keptlistReading, ListsLong, Begun, RowsFit, AnswerPrinted};
@@ -45,7 +44,11 @@ pub fn read(
         &mut *anchors,
     ) {
         Answer::Read(header) => Before::Ready(header),
-        Answer::Refused(number, place) => Before::Printed(print_refused(&mut *out, number as u64, place as u64)),
+        Answer::Refused(number, place) => Before::Printed(print_refused(
+            &mut *out,
+            number as u64,
+            place as u64,
+        )),
     }
 }
 

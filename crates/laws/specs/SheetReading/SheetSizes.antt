@@ -122,7 +122,9 @@ room-enough limit bytes {cells} {spans} {boundaries} {anchors} a b c d = go (rea
     go (refused refusal place) e = refl
     go (wellFormed s) e =
         let S : Sized limit s = sized limit bytes e in
-        rw (le-leb (length (s .cells)) cells (omega (arith, S .cells-long, S .area-few)),
-        le-leb (length (s .spans)) spans (omega (arith, S .spans .long, S .spans .few)),
-        le-leb (length (s .boundaries)) boundaries (omega (arith, S .boundaries .long, S .boundaries .few)),
-        le-leb (length (s .anchors)) anchors (omega (arith, S .anchors .long, S .anchors .few)))
+        rw (
+          le-leb (length (s .cells)) cells (omega (arith, S .cells-long, S .area-few)),
+          le-leb (length (s .spans)) spans (omega (arith, S .spans .long, S .spans .few)),
+          le-leb (length (s .boundaries)) boundaries (omega (arith, S .boundaries .long, S .boundaries .few)),
+          le-leb (length (s .anchors)) anchors (omega (arith, S .anchors .long, S .anchors .few)),
+        )

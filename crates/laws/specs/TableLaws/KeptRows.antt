@@ -4,7 +4,6 @@ use native.Mathlib.Omega.{arith}
 use mathlib.Core.Path.{_≡_, _∙_}
 use mathlib.Core.Bool.{not}
 use mathlib.Core.Option.{Option, none, some}
-use mathlib.Core.List.{List}
 use lib.ListN.{length, length-map, length-append}
 use borrow.Author.Tests.{leb-true}
 use Rattle.definitions.specs.Limits.{numbersPerBoundary, numbersPerRow}
