@@ -23,7 +23,7 @@ use Rattle.laws.specs.TableLaws.KeptRows.{boundary-count, rows-have-room}
 use Rattle.sheet.specs.Answers.{headerOf}
 use Rattle.sheet.specs.declared.Header.{Header}
 use Rattle.printed.specs.Answers.{Printed}
-use Rattle.sheet_answer.specs.Answers.{keptlistReading, Begun, RowsFit, AnswerPrinted, Inside}
+use Rattle.sheet_answer.specs.Answers.{keptlistReading, Begun, RowsFit, AnswerPrinted, sheetFrom, sheetIn, Inside, SheetHeld}
 use Rattle.sheet_answer.specs.declared.Before.{Before}
 use Rattle.sheet_answer.specs.declared.Before.the-variants.{Printed as WasPrinted, Ready}
 
@@ -54,29 +54,17 @@ module _ (bytes : List ℕ) {cells spans boundaries anchors out cells′ spans�
       go (wellFormed s) C = absurd (let z : _≡_ {A = ℕ} 0 1 = cc (C .said) in omega arith)
       go (refused number place) C = record { stored = C .out-left; length-is = cc (C .said) }
 
--- what was read: the lists begin with those of a sheet, as the header has it, and nothing is printed yet
+-- what was read: the lists hold a sheet, as the header has it, and nothing is printed yet
 pub record SheetRead (bytes : List ℕ) (header : Header) (cells spans boundaries anchors out out′ : List ℕ) : Type 0 where
-  pub sheet : Sheet
-  pub is : keptlistReading bytes ≡ wellFormed sheet
-  pub header-is : header ≡ headerOf sheet
-  pub area-few : header .width * header .height ≤ keptlistCellLimit
-  pub spans-few : header .spans ≤ maxEntries
-  pub boundaries-few : header .boundaries ≤ maxEntries
-  pub anchors-few : header .anchors ≤ maxEntries
-  pub cells-inside : header .width * header .height ≤ length cells
-  pub spans-inside : numbersPerSpan * header .spans ≤ length spans
-  pub boundaries-inside : numbersPerBoundary * header .boundaries ≤ length boundaries
-  pub anchors-inside : numbersPerAnchor * header .anchors ≤ length anchors
-  pub cells-are : take (header .width * header .height) cells ≡ sheet .cells
-  pub spans-are : take (numbersPerSpan * header .spans) spans ≡ sheet .spans
-  pub boundaries-are : take (numbersPerBoundary * header .boundaries) boundaries ≡ sheet .boundaries
-  pub anchors-are : take (numbersPerAnchor * header .anchors) anchors ≡ sheet .anchors
+  pub is : keptlistReading bytes ≡ wellFormed (sheetIn header cells spans boundaries anchors)
+  pub held : SheetHeld header cells spans boundaries anchors
   pub out-same : out′ ≡ out
 
 -- a list behind which the old entries stand
-begins : (l old : List ℕ) {new : List ℕ} (n : ℕ) → length l ≡ n → new ≡ overwrite l old → (n ≤ length new) × (take n new ≡ l)
-begins l old n h e =
-    (omega (arith, h, ap length e, length-append l (drop (length l) old)), ap (take n) e ∙ take-at l (drop (length l) old) n h)
+begins : (l old : List ℕ) {new : List ℕ} (n : ℕ) → length l ≡ n → new ≡ overwrite l old → Inside n new × (take n new ≡ l)
+begins l old {new} n h e =
+    let few : n ≤ length new = omega (arith, h, ap length e, length-append l (drop (length l) old)) in
+    ((few, sym (length-take-le n new few)), ap (take n) e ∙ take-at l (drop (length l) old) n h)
 
 -- a sheet that the program reads has at most so many cells
 reading-sized : (bytes : List ℕ) {s : Sheet} → keptlistReading bytes ≡ wellFormed s → Sized keptlistCellLimit s
@@ -102,23 +90,20 @@ module _ (bytes : List ℕ) {cells spans boundaries anchors out cells′ spans�
           let b = begins (s .spans) spans (numbersPerSpan * (length (s .spans) / numbersPerSpan)) (omega (arith, S .spans .long)) (C .spans-left) in
           let c = begins (s .boundaries) boundaries (numbersPerBoundary * (length (s .boundaries) / numbersPerBoundary)) (omega (arith, S .boundaries .long)) (C .boundaries-left) in
           let d = begins (s .anchors) anchors (numbersPerAnchor * (length (s .anchors) / numbersPerAnchor)) (omega (arith, S .anchors .long)) (C .anchors-left) in
+          let whole : sheetIn (headerOf s) cells′ spans′ boundaries′ anchors′ ≡ s = λ i. sheetFrom (s .pass) (s .width) (s .height) (a .1 i) (b .1 i) (c .1 i) (d .1 i) in
           subst (λ h. SheetRead bytes h cells′ spans′ boundaries′ anchors′ out out′) same
           (record {
-            sheet = s;
-            is = e;
-            header-is = refl;
-            area-few = S .area-few;
-            spans-few = omega (arith, S .spans .long, S .spans .few);
-            boundaries-few = omega (arith, S .boundaries .long, S .boundaries .few);
-            anchors-few = omega (arith, S .anchors .long, S .anchors .few);
-            cells-inside = a .0;
-            spans-inside = b .0;
-            boundaries-inside = c .0;
-            anchors-inside = d .0;
-            cells-are = a .1;
-            spans-are = b .1;
-            boundaries-are = c .1;
-            anchors-are = d .1;
+            is = e ∙ ap wellFormed (sym whole);
+            held = record {
+              cells-few = S .area-few;
+              spans-few = omega (arith, S .spans .long, S .spans .few);
+              boundaries-few = omega (arith, S .boundaries .long, S .boundaries .few);
+              anchors-few = omega (arith, S .anchors .long, S .anchors .few);
+              cells-inside = a .0;
+              spans-inside = b .0;
+              boundaries-inside = c .0;
+              anchors-inside = d .0;
+            };
             out-same = C .out-left;
           })
 
@@ -137,12 +122,12 @@ module _ (L : Lent) {a : Answer} {o : List ℕ} (A : a ≡ verdict L) (O : o ≡
     unfolding callExit exitWith stageOf
     output-is = O ∙ ap (λ n. callExit L n .output) h
 
-    rows-written : (numbersPerRow * a .value ≤ length o) × (take (numbersPerRow * a .value) o ≡ flatRows (rowsOf (L .pass) (mapIn L)))
+    rows-written : Inside (numbersPerRow * a .value) o × (take (numbersPerRow * a .value) o ≡ flatRows (rowsOf (L .pass) (mapIn L)))
     rows-written = begins (flatRows (rowsOf (L .pass) (mapIn L))) (L .output) (numbersPerRow * a .value) (omega (arith, flat-length (rowsOf (L .pass) (mapIn L)), counted)) output-is
 
   -- what `print` requires
   pub rows-fit : length (L .output) ≤ numbersPerRow * maxEntries → RowsFit (a .number) (a .value) (length o)
-  rows-fit few h = (omega (arith, counted h, rows-have-room L (none-refused h)), rows-written h .0)
+  rows-fit few h = (omega (arith, counted h, rows-have-room L (none-refused h)), rows-written h .0 .0)
 
   -- what it printed
   pub answer-printed : (count : ℕ) → count ≡ length (L .boundaries) / numbersPerBoundary → {old new : List ℕ} {n : ℕ} → AnswerPrinted (a .number) (a .value) o count old new n
@@ -170,34 +155,8 @@ module _ (s : Sheet) {a : Answer} {o : List ℕ} (A : a ≡ verdict (lentFor s))
 
 -- ---- the whole
 
--- the sheet that was read, by the header and the lists
-abbrev pub sheetRead : Header → List ℕ → List ℕ → List ℕ → List ℕ → Sheet
-sheetRead header cells spans boundaries anchors =
-    record {
-      pass = header .pass;
-      width = header .width;
-      height = header .height;
-      cells = take (header .width * header .height) cells;
-      spans = take (numbersPerSpan * header .spans) spans;
-      boundaries = take (numbersPerBoundary * header .boundaries) boundaries;
-      anchors = take (numbersPerAnchor * header .anchors) anchors;
-    }
-
--- what is printed for it is what `keptlist` prints
+-- what is printed for the sheet that was read is what `keptlist` prints
 pub keptlist-printed : {bytes : List ℕ} {header : Header} {cells spans boundaries anchors out out′ out″ : List ℕ} {n : ℕ} → SheetRead bytes header cells spans boundaries anchors out out′
-    → Printed (printedReading (wellFormed (sheetRead header cells spans boundaries anchors))) out′ out″ n → Printed (keptlist bytes) out out″ n
+    → Printed (printedReading (wellFormed (sheetIn header cells spans boundaries anchors))) out′ out″ n → Printed (keptlist bytes) out out″ n
 keptlist-printed {bytes} {header} {cells} {spans} {boundaries} {anchors} {out} {out′} {out″} {n} S P =
-    subst (λ l. Printed l out out″ n) (sym (keptlist-reading bytes ∙ ap printedReading (S .is)))
-    (subst (λ o. Printed (printedReading (wellFormed (S .sheet))) o out″ n) (S .out-same)
-    (subst (λ s. Printed (printedReading (wellFormed s)) out′ out″ n) same P))
-  where
-    same : sheetRead header cells spans boundaries anchors ≡ S .sheet
-    same = λ i. record {
-      pass = S .header-is i .pass;
-      width = S .header-is i .width;
-      height = S .header-is i .height;
-      cells = S .cells-are i;
-      spans = S .spans-are i;
-      boundaries = S .boundaries-are i;
-      anchors = S .anchors-are i;
-    }
+    subst (λ o. Printed (keptlist bytes) o out″ n) (S .out-same) (subst (λ l. Printed l out′ out″ n) (sym (keptlist-reading bytes ∙ ap printedReading (S .is))) P)

@@ -1,5 +1,5 @@
 -- What is answered before the call that runs a pass and after it, and what the lent lists hold then. Definitions only; assumes nothing.
-use Prim.Native.Nat.{ℕ, zero, suc, _*_, _≤_}
+use Prim.Native.Nat.{ℕ, zero, suc, _+_, _*_, _≤_}
 use mathlib.Core.Path.{_≡_}
 use mathlib.Core.Bool.{cond}
 use mathlib.Core.List.{List}
@@ -7,10 +7,11 @@ use lib.ListN.{length, take}
 use lib.Dec.{ltb}
 use Rattle.definitions.specs.Limits.{maxEntries, numbersPerSpan, numbersPerBoundary, numbersPerAnchor, numbersPerRow}
 use Rattle.definitions.specs.Lists.{overwrite}
-use Rattle.definitions.specs.Sheet.{Reading, wellFormed, refused, readSheet, atExit, keptlistCellLimit}
+use Rattle.definitions.specs.Sheet.{Sheet, Reading, wellFormed, refused, readSheet, atExit, keptlistCellLimit}
 use Rattle.definitions.specs.Printed.{maxSheetBytes, refusedLine}
 use Rattle.sheet.specs.Answers.{headerOf}
-use Rattle.printed.specs.Answers.{Printed, KeptPrinted}
+use Rattle.sheet.specs.declared.Header.{Header}
+use Rattle.printed.specs.Answers.{lineRoom, rowRoom, Printed, KeptPrinted}
 use Rattle.sheet_answer.specs.declared.Before.{Before}
 use Rattle.sheet_answer.specs.declared.Before.the-variants.{Printed as WasPrinted, Ready}
 
@@ -28,9 +29,9 @@ pub record ListsLong (cells spans boundaries anchors : ℕ) : Type 0 where
   pub for-boundaries : numbersPerBoundary * maxEntries ≤ boundaries
   pub for-anchors : numbersPerAnchor * maxEntries ≤ anchors
 
--- room for the longest list that is printed: `lineRoom`, and `rowRoom` for each of `maxEntries` rows
+-- room for the longest list that is printed, 26,944 bytes
 abbrev pub outRoom : ℕ
-outRoom = 26_944
+outRoom = lineRoom + rowRoom * maxEntries
 
 abbrev pub beforeOf : Reading → Before
 beforeOf (wellFormed s) = Ready (headerOf s)
@@ -63,6 +64,28 @@ AnswerPrinted (suc number) value output count old new answer = Printed (refusedL
 
 -- ---- the whole
 
--- n counts bytes at the start of a list. The second part follows from the first; a caller that cuts the list there needs both.
+-- a sheet from its parts
+abbrev pub sheetFrom : ℕ → ℕ → ℕ → List ℕ → List ℕ → List ℕ → List ℕ → Sheet
+sheetFrom pass width height cells spans boundaries anchors =
+    record { pass = pass; width = width; height = height; cells = cells; spans = spans; boundaries = boundaries; anchors = anchors }
+
+-- the sheet that lists begin with, as its header says
+abbrev pub sheetIn : Header → List ℕ → List ℕ → List ℕ → List ℕ → Sheet
+sheetIn header cells spans boundaries anchors =
+    sheetFrom (header .pass) (header .width) (header .height) (take (header .width * header .height) cells) (take (numbersPerSpan * header .spans) spans)
+    (take (numbersPerBoundary * header .boundaries) boundaries) (take (numbersPerAnchor * header .anchors) anchors)
+
+-- n counts entries at the start of a list. The second part follows from the first; where a list is cut there, both are asked.
 abbrev pub Inside : ℕ → List ℕ → Type 0
 Inside n l = (n ≤ length l) × (n ≡ length (take n l))
+
+-- the lists are as long as the header says, and within the limits
+pub record SheetHeld (header : Header) (cells spans boundaries anchors : List ℕ) : Type 0 where
+  pub cells-few : header .width * header .height ≤ keptlistCellLimit
+  pub spans-few : header .spans ≤ maxEntries
+  pub boundaries-few : header .boundaries ≤ maxEntries
+  pub anchors-few : header .anchors ≤ maxEntries
+  pub cells-inside : Inside (header .width * header .height) cells
+  pub spans-inside : Inside (numbersPerSpan * header .spans) spans
+  pub boundaries-inside : Inside (numbersPerBoundary * header .boundaries) boundaries
+  pub anchors-inside : Inside (numbersPerAnchor * header .anchors) anchors
