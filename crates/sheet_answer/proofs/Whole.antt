@@ -43,17 +43,6 @@ printed-inside {bytes} {old} {new} {n} P =
 
 -- ---- before the call
 
-module _ (bytes : List ℕ) {cells spans boundaries anchors out cells′ spans′ boundaries′ anchors′ out′ : List ℕ} {answer : Before}
-    (B : Begun (keptlistReading bytes) cells spans boundaries anchors out answer cells′ spans′ boundaries′ anchors′ out′) where
-  -- what was printed
-  pub begun-printed : {n : ℕ} → answer ≡ WasPrinted n → Printed (keptlist bytes) out out′ n
-  unfolding printedReading
-  begun-printed {n} e = rw (keptlist-reading bytes) (go (keptlistReading bytes) B)
-    where
-      go : (r : Reading) → Begun r cells spans boundaries anchors out answer cells′ spans′ boundaries′ anchors′ out′ → Printed (printedReading r) out out′ n
-      go (wellFormed s) C = absurd (let z : _≡_ {A = ℕ} 0 1 = cc (C .said) in omega arith)
-      go (refused number place) C = record { stored = C .out-left; length-is = cc (C .said) }
-
 -- what was read: the lists hold a sheet, as the header has it, and nothing is printed yet
 pub record SheetRead (bytes : List ℕ) (header : Header) (cells spans boundaries anchors out out′ : List ℕ) : Type 0 where
   pub is : keptlistReading bytes ≡ wellFormed (sheetIn header cells spans boundaries anchors)
@@ -77,6 +66,15 @@ reading-sized bytes {s} h = go (ltb maxSheetBytes (length bytes)) h
 
 module _ (bytes : List ℕ) {cells spans boundaries anchors out cells′ spans′ boundaries′ anchors′ out′ : List ℕ} {answer : Before}
     (B : Begun (keptlistReading bytes) cells spans boundaries anchors out answer cells′ spans′ boundaries′ anchors′ out′) where
+  -- what was printed
+  pub begun-printed : {n : ℕ} → answer ≡ WasPrinted n → Printed (keptlist bytes) out out′ n
+  unfolding printedReading
+  begun-printed {n} e = rw (keptlist-reading bytes) (go (keptlistReading bytes) B)
+    where
+      go : (r : Reading) → Begun r cells spans boundaries anchors out answer cells′ spans′ boundaries′ anchors′ out′ → Printed (printedReading r) out out′ n
+      go (wellFormed s) C = absurd (let z : _≡_ {A = ℕ} 0 1 = cc (C .said) in omega arith)
+      go (refused number place) C = record { stored = C .out-left; length-is = cc (C .said) }
+
   pub begun-ready : {header : Header} → answer ≡ Ready header → SheetRead bytes header cells′ spans′ boundaries′ anchors′ out out′
   begun-ready {header} f = go (keptlistReading bytes) refl B
     where
@@ -126,11 +124,11 @@ module _ (L : Lent) {a : Answer} {o : List ℕ} (A : a ≡ verdict L) (O : o ≡
     rows-written = begins (flatRows (rowsOf (L .pass) (mapIn L))) (L .output) (numbersPerRow * a .value) (omega (arith, flat-length (rowsOf (L .pass) (mapIn L)), counted)) output-is
 
   -- what `print` requires
-  pub rows-fit : length (L .output) ≤ numbersPerRow * maxEntries → RowsFit (a .number) (a .value) (length o)
+  rows-fit : length (L .output) ≤ numbersPerRow * maxEntries → RowsFit (a .number) (a .value) (length o)
   rows-fit few h = (omega (arith, counted h, rows-have-room L (none-refused h)), rows-written h .0 .0)
 
   -- what it printed
-  pub answer-printed : (count : ℕ) → count ≡ length (L .boundaries) / numbersPerBoundary → {old new : List ℕ} {n : ℕ} → AnswerPrinted (a .number) (a .value) o count old new n
+  answer-printed : (count : ℕ) → count ≡ length (L .boundaries) / numbersPerBoundary → {old new : List ℕ} {n : ℕ} → AnswerPrinted (a .number) (a .value) o count old new n
       → Printed (printedAnswer (verdict L .number) L (verdict L .value)) old new n
   unfolding printedAnswer
   answer-printed count e {old} {new} {n} P = subst (λ x. Printed (printedAnswer (x .number) L (x .value)) old new n) A (go (a .number) refl P)
