@@ -1,2 +1,3 @@
 -- The sheet's readers.
 pub mod SheetLaws
+pub mod SheetSizes

@@ -60,6 +60,11 @@ none-refused count done h = done
 none-refused count (more nothing a) h = more refl (none-refused count a h)
 none-refused count (more (numbered k) a) h = absurd (omega (arith, k, h))
 
+counted : {l : List (Option Refusal)} (count : ℕ) → All Numbered l → firstRefusal l count .number ≡ 0 → firstRefusal l count .value ≡ count
+counted count done h = refl
+counted count (more nothing a) h = counted count a h
+counted count (more (numbered k) a) h = absurd (omega (arith, k, h))
+
 -- ---- what no check found
 
 pub record Accepted (L : Lent) : Type 0 where
@@ -123,6 +128,11 @@ checks-passed L (more one (more two (more three (more four (more five (more seve
 
 pub accepted : (L : Lent) → verdict L .number ≡ 0 → Accepted L
 accepted L h = checks-passed L (none-refused (length (rowsOf (L .pass) (mapIn L))) (checks-numbered L) (unfold verdict in h))
+
+-- "Success returns 0 and the count of rows kept"
+pub accepted-count : (L : Lent) → verdict L .number ≡ 0 → verdict L .value ≡ length (rowsOf (L .pass) (mapIn L))
+unfolding verdict
+accepted-count L h = counted (length (rowsOf (L .pass) (mapIn L))) (checks-numbered L) h
 
 -- ---- boundaries
 

@@ -1,0 +1,3 @@
+mod BeforeCall
+mod AfterCall
+pub mod Whole
