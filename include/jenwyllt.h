@@ -1,4 +1,4 @@
-/* Regions of a walk grid cut by spans, and the correctly rounded hypotenuse.
+/* Regions of a walk grid cut by spans, the reader of sheets, and the correctly rounded hypotenuse.
    The archive is target/staticlib/libjenwyllt.a, written by `rt staticlib jenwyllt`, for x86-64 Linux. Of other libraries it needs `memset` alone.
    Every function is proved to meet the definitions of crates/definitions for every input that keeps to what stands here. */
 #ifndef JENWYLLT_H
@@ -29,7 +29,8 @@ struct jenwyllt_answer {
      labels   width * height: the regions from 1, in the order of their first cells; 0 where a cell is not walkable
      masks    width * height, queue likewise: room to work in, zero afterwards
      tallies  2 a span: how many steps it removes, and how many of them join two regions
-     pairs    rows of 3: span, smaller and larger label; in this order ascending, each pair of a span once. Rows that are not needed stay as they were.
+     pairs    rows of 3: span, smaller and larger label; in this order ascending, each pair of a span once. Rows that are not needed stay as they were:
+              in a list that was zero, the first row whose labels are 0 stands behind the last pair.
 
    Number 0: the value is the count of regions. Otherwise the number says why not; the first of these causes that applies is given:
 
@@ -53,6 +54,48 @@ struct jenwyllt_answer jenwyllt_partition(
     uint32_t *queue, size_t queue_length,
     uint32_t *tallies, size_t tallies_length,
     uint32_t *pairs, size_t pairs_length);
+
+/* What a sheet opens with; the last three are counts of entries. Number 0: the place is 0. Otherwise a refusal's number and place, and the rest is 0. */
+struct jenwyllt_sheet {
+    uint64_t number;
+    uint64_t place;
+    uint64_t pass;
+    uint64_t width;
+    uint64_t height;
+    uint64_t spans;
+    uint64_t boundaries;
+    uint64_t anchors;
+};
+
+/* Reads a sheet of kind 1, a map as bytes: kind, pass, width, height, the cells, then spans, boundaries and anchors, each list behind its count. A number
+   stands in groups of seven bits, least first, the top bit set on all but its last byte.
+
+   Read:
+     bytes       the sheet
+   Filled; each may be longer than needed, and what it holds behind the last entry stays:
+     cells       width * height bytes, row by row: 1 for walkable, plus 2 for ramp, plus 4 times the elevation
+     spans       4 a span: x, y, x, y in pixels
+     boundaries  9 a boundary: x, y, x, y, the bits of its width as a double, kind (0 none, 1 lower, 2 upper), ramp id, lower and upper elevation
+     anchors     2 an anchor: x, y in cells
+   No sheet has more than 1048576 cells and 1024, 2304 and 512 numbers in the three lists. Nor has a list more entries than the sheet has bytes.
+
+   Number 0: the sheet was read. Otherwise the number says why not; reading stops at the first fault:
+
+     number  cause                                                                  place
+     14      the bytes end early                                                    their length
+     14      a number over ten groups or 64 bits, a kind not 1, a cell over 255     its first byte
+     14      bytes are left over                                                    the first of them
+     1       a side is 0 or over 1024                                               0
+     3       over 256 spans, boundaries or anchors                                  0
+     10      a list is too short, tested last                                       0
+
+   With any of these every list stays as it was. What else a pass asks of a map is not tested here: `jenwyllt_partition` tests the spans. */
+struct jenwyllt_sheet jenwyllt_read_sheet(
+    const uint8_t *bytes, size_t bytes_length,
+    uint8_t *cells, size_t cells_length,
+    uint64_t *spans, size_t spans_length,
+    uint64_t *boundaries, size_t boundaries_length,
+    uint64_t *anchors, size_t anchors_length);
 
 /* The hypotenuse: the double nearest to the root of x * x + y * y, ties to the even significand. */
 
