@@ -4,7 +4,7 @@ use std::path::PathBuf;
 use std::{env, fs};
 
 /// The crates that export functions for other languages, as they come.
-const NAMES: [&str; 1] = ["jenwyllt_hypot"];
+const NAMES: [&str; 1] = ["jenwyllt"];
 
 fn main() {
     println!("cargo::rerun-if-changed=build.rs");

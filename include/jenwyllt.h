@@ -1,13 +1,103 @@
-/* The hypotenuse, correctly rounded: the double nearest to the root of x * x + y * y, ties to the even significand.
-   The archive is target/staticlib/libjenwyllt_hypot.a, written by `rt staticlib jenwyllt_hypot`, for x86-64 Linux. It needs no other library. */
+/* Regions of a walk grid cut by spans, the reader of sheets, and the correctly rounded hypotenuse.
+   The archive is target/staticlib/libjenwyllt.a, written by `rt staticlib jenwyllt`, for x86-64 Linux. Of other libraries it needs `memset` alone.
+   Every function is proved to meet the definitions of crates/definitions for every input that keeps to what stands here. */
 #ifndef JENWYLLT_H
 #define JENWYLLT_H
 
+#include <stddef.h>
 #include <stdint.h>
 
 #ifdef __cplusplus
 extern "C" {
 #endif
+
+/* A list is lent as a pointer to its first entry and its length. The pointer is aligned and not null, even where the length is 0. Lists do not overlap,
+   and nothing else reads a list that is filled, or writes any list, before the call returns. */
+
+/* Number 0 and a count, or a refusal's number and place. */
+struct jenwyllt_answer {
+    uint64_t number;
+    uint64_t value;
+};
+
+/* The regions of a map cut by spans, as `partition_by_spans` of broodmap.
+
+   Read:
+     cells    width * height bytes, row by row; an odd byte is a walkable cell. The sides are 1 to 1024 cells of 8 by 8 pixels.
+     spans    x, y, x, y of each span in pixels, at most 256 spans
+   Filled; each may be longer than needed, and what it holds before does not matter:
+     labels   width * height: the regions from 1, in the order of their first cells; 0 where a cell is not walkable
+     masks    width * height, queue likewise: room to work in, zero afterwards
+     tallies  2 a span: how many steps it removes, and how many of them join two regions
+     pairs    rows of 3: span, smaller and larger label; in this order ascending, each pair of a span once. Rows that are not needed stay as they were:
+              in a list that was zero, the first row whose labels are 0 stands behind the last pair.
+
+   Number 0: the value is the count of regions. Otherwise the number says why not; the first of these causes that applies is given:
+
+     number  cause                                               value
+     1       a side is 0 or over 1024                            0
+     2       the cells are not width * height                    0
+     3       over 256 spans, or the last one is unfinished       0
+     5       an endpoint above 8 * width or 8 * height           the first faulty span
+     6       both endpoints of a span are equal                  the first faulty span
+     10      labels, masks, queue or tallies are too short       0
+     12      there are more pairs than rows                      0
+
+   5 and 6 are tested span by span, 5 first. With 1 to 10 every list stays as it was. With 12 labels and tallies are filled, masks and queue are zero, and
+   pairs are zero over the whole list. */
+struct jenwyllt_answer jenwyllt_partition(
+    uint64_t width, uint64_t height,
+    const uint8_t *cells, size_t cells_length,
+    const uint64_t *spans, size_t spans_length,
+    uint32_t *labels, size_t labels_length,
+    uint16_t *masks, size_t masks_length,
+    uint32_t *queue, size_t queue_length,
+    uint32_t *tallies, size_t tallies_length,
+    uint32_t *pairs, size_t pairs_length);
+
+/* What a sheet opens with; the last three are counts of entries. Number 0: the place is 0. Otherwise a refusal's number and place, and the rest is 0. */
+struct jenwyllt_sheet {
+    uint64_t number;
+    uint64_t place;
+    uint64_t pass;
+    uint64_t width;
+    uint64_t height;
+    uint64_t spans;
+    uint64_t boundaries;
+    uint64_t anchors;
+};
+
+/* Reads a sheet of kind 1, a map as bytes: kind, pass, width, height, the cells, then spans, boundaries and anchors, each list behind its count. A number
+   stands in groups of seven bits, least first, the top bit set on all but its last byte.
+
+   Read:
+     bytes       the sheet
+   Filled; each may be longer than needed, and what it holds behind the last entry stays:
+     cells       width * height bytes, row by row: 1 for walkable, plus 2 for ramp, plus 4 times the elevation
+     spans       4 a span: x, y, x, y in pixels
+     boundaries  9 a boundary: x, y, x, y, the bits of its width as a double, kind (0 none, 1 lower, 2 upper), ramp id, lower and upper elevation
+     anchors     2 an anchor: x, y in cells
+   No sheet has more than 1048576 cells and 1024, 2304 and 512 numbers in the three lists. Nor has a list more entries than the sheet has bytes.
+
+   Number 0: the sheet was read. Otherwise the number says why not; reading stops at the first fault:
+
+     number  cause                                                                  place
+     14      the bytes end early                                                    their length
+     14      a number over ten groups or 64 bits, a kind not 1, a cell over 255     its first byte
+     14      bytes are left over                                                    the first of them
+     1       a side is 0 or over 1024                                               0
+     3       over 256 spans, boundaries or anchors                                  0
+     10      a list is too short, tested last                                       0
+
+   With any of these every list stays as it was. What else a pass asks of a map is not tested here: `jenwyllt_partition` tests the spans. */
+struct jenwyllt_sheet jenwyllt_read_sheet(
+    const uint8_t *bytes, size_t bytes_length,
+    uint8_t *cells, size_t cells_length,
+    uint64_t *spans, size_t spans_length,
+    uint64_t *boundaries, size_t boundaries_length,
+    uint64_t *anchors, size_t anchors_length);
+
+/* The hypotenuse: the double nearest to the root of x * x + y * y, ties to the even significand. */
 
 /* Number 0: the value is the root. Number 13: refused, and the value is 0. */
 struct jenwyllt_outcome {

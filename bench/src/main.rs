@@ -8,7 +8,7 @@ mod timing;
 use maps::Named;
 use oracle::sheet::Map;
 use oracle::table::check_pass;
-use oracle::topology::harness::{Original, row};
+use oracle::topology::harness::{self, Answer, Original, Room, row};
 use std::time::Duration;
 use timing::{Timing, micros, time};
 
@@ -53,7 +53,14 @@ fn passes(Named { name, about, map }: &Named, budget: Duration) {
 
     let mut lent = ours::Lent::new(map, pairs);
     let rust = time(budget, || original.partition());
-    let own = ours::partition().map(|call| time(budget, || call(map, &mut lent)));
+    let own = ours::partition().map(|call| {
+        let timing = time(budget, || call(map, &mut lent));
+        let answer = call(map, &mut lent);
+        if !is_like(map, &lent, answer) {
+            println!("the regions, tallies or pairs below are unlike the Rust's:");
+        }
+        timing
+    });
     line("partition", &rust, own.as_ref());
     line("context", &time(budget, || original.context(&partition)), None);
     for pass in 1..=3 {
@@ -77,6 +84,19 @@ fn passes(Named { name, about, map }: &Named, budget: Duration) {
         });
         line(&format!("whole call, pass {pass}"), &rust, own.as_ref());
     }
+}
+
+/// Whether our partition is the Rust's: answer, labels, tallies and pairs, with masks and queue zero. The pairs are lent as many rows as there are.
+fn is_like(map: &Map, lent: &ours::Lent, answer: ours::Outcome) -> bool {
+    let Answer::Done(rust) = harness::partition(map, Room::UNLIMITED) else {
+        return false;
+    };
+    answer == (0, rust.regions as u64)
+        && lent.labels == rust.labels
+        && lent.tallies == rust.tallies.as_flattened()
+        && lent.pairs == rust.pairs.as_flattened()
+        && lent.masks.iter().all(|mask| *mask == 0)
+        && lent.queue.iter().all(|cell| *cell == 0)
 }
 
 fn line(step: &str, rust: &Timing, own: Option<&Timing>) {

@@ -45,6 +45,8 @@ pub fn all() -> Vec<Named> {
         Named { name: "large", about: "rooms and corridors", map: rooms(2, 1_024, 26, 256, 24) },
         Named { name: "open", about: "no wall, 256 spans across the whole map: the longest partition", map: open(3) },
         Named { name: "comb", about: "512 corridors cut by each of 256 spans: the longest pass 2", map: comb() },
+        Named { name: "checkered", about: "blocks of 2 by 2 cells, 256 spans along which the labels fall: pairs in the worst order", map: checkered(true) },
+        Named { name: "checkered-rising", about: "the same turned upside down: pairs in the best order", map: checkered(false) },
         Named { name: "mouths", about: "128 ramps and 128 mouths at one region: most proposals of pass 1", map: mouths(4) },
         Named { name: "stars", about: "128 ramps and 128 mouths, each with 512 pairs: the longest pass 1", map: stars() },
         Named { name: "interiors", about: "127 sealed interiors: most proposals of pass 2", map: interiors() },
@@ -171,6 +173,25 @@ fn comb() -> Map {
     for index in 0..MAX_ENTRIES as u64 {
         let x = 4 * PIXELS * index + 2 * PIXELS;
         sketch.cut([x, 0, x, PIXELS * side], 64, PLAIN);
+    }
+    sketch.map
+}
+
+/// Every second block of 2 by 2 cells is walkable, and every span goes from the left edge to the right one, up or down.
+fn checkered(up: bool) -> Map {
+    let mut random = Random(6);
+    let side = 1_024;
+    let mut sketch = Sketch::new(side, side, 0);
+    for row in 0..side / 2 {
+        for column in 0..side / 4 {
+            let x = 4 * column + 2 * (row % 2);
+            sketch.fill(x..x + 2, 2 * row..2 * row + 2, WALKABLE);
+        }
+    }
+    for _ in 0..MAX_ENTRIES {
+        let (low, high) = (random.below(PIXELS * side / 2), PIXELS * side - random.below(PIXELS * side / 2));
+        let span = if up { [0, high, PIXELS * side, low] } else { [0, low, PIXELS * side, high] };
+        sketch.cut(span, 64, PLAIN);
     }
     sketch.map
 }

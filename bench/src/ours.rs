@@ -32,8 +32,64 @@ impl Lent {
 /// Number and value, as in document 01.
 pub type Outcome = (u64, u64);
 
+#[cfg(not(ours = "jenwyllt"))]
 pub fn partition() -> Option<fn(&Map, &mut Lent) -> Outcome> {
     None
+}
+
+#[cfg(ours = "jenwyllt")]
+pub fn partition() -> Option<fn(&Map, &mut Lent) -> Outcome> {
+    #[repr(C)]
+    struct Answer {
+        number: u64,
+        value: u64,
+    }
+
+    unsafe extern "C" {
+        fn jenwyllt_partition(
+            width: u64,
+            height: u64,
+            cells: *const u8,
+            cells_length: usize,
+            spans: *const u64,
+            spans_length: usize,
+            labels: *mut u32,
+            labels_length: usize,
+            masks: *mut u16,
+            masks_length: usize,
+            queue: *mut u32,
+            queue_length: usize,
+            tallies: *mut u32,
+            tallies_length: usize,
+            pairs: *mut u32,
+            pairs_length: usize,
+        ) -> Answer;
+    }
+
+    Some(|map, lent| {
+        // SAFETY: each list is lent by its own vector, as pointer and length, and nothing else touches them during the call.
+        let answer = unsafe {
+            jenwyllt_partition(
+                map.width,
+                map.height,
+                map.cells.as_ptr(),
+                map.cells.len(),
+                map.spans.as_ptr(),
+                map.spans.len(),
+                lent.labels.as_mut_ptr(),
+                lent.labels.len(),
+                lent.masks.as_mut_ptr(),
+                lent.masks.len(),
+                lent.queue.as_mut_ptr(),
+                lent.queue.len(),
+                lent.tallies.as_mut_ptr(),
+                lent.tallies.len(),
+                lent.pairs.as_mut_ptr(),
+                lent.pairs.len(),
+            )
+        };
+        (answer.number, answer.value)
+    })
 }
 
 /// Runs the map's pass; the region records are the caller's too, in the layout of the library's header.
@@ -41,12 +97,12 @@ pub fn kept_boundaries() -> Option<fn(&Map, &mut Lent) -> Outcome> {
     None
 }
 
-#[cfg(not(ours = "jenwyllt_hypot"))]
+#[cfg(not(ours = "jenwyllt"))]
 pub fn hypotenuse() -> Option<fn(f64, f64) -> f64> {
     None
 }
 
-#[cfg(ours = "jenwyllt_hypot")]
+#[cfg(ours = "jenwyllt")]
 pub fn hypotenuse() -> Option<fn(f64, f64) -> f64> {
     unsafe extern "C" {
         safe fn jenwyllt_hypot(x: f64, y: f64) -> f64;

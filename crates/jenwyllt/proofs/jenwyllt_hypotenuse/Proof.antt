@@ -3,8 +3,8 @@ use borrow.Author.Needs.{needs}
 use mathlib.Core.Path.{sym, ap, _∙_}
 use lib.Ieee.{ofBits}
 use Rattle.hypotenuse.specs.Answers.{numberOf, valueOf}
-use Rattle.jenwyllt_hypot.proofs.jenwyllt_hypotenuse.Statement.{statement}
-use Rattle.jenwyllt_hypot.proofs.jenwyllt_hypotenuse.Tie as tie
+use Rattle.jenwyllt.proofs.jenwyllt_hypotenuse.Statement.{statement}
+use Rattle.jenwyllt.proofs.jenwyllt_hypotenuse.Tie as tie
 
 hypotenuse-requires : tie.Need-hypotenuse-requires
 hypotenuse-requires c κs = search needs

@@ -1,0 +1,68 @@
+//! The archive's functions, as include/jenwyllt.h declares them. A list goes as a pointer to its first entry and its length.
+
+/// Number 0 and a count, or a refusal's number and place.
+#[repr(C)]
+pub struct Answer {
+    pub number: u64,
+    pub value: u64,
+}
+
+/// What a sheet opens with, or a refusal's number and place.
+#[repr(C)]
+pub struct SheetAnswer {
+    pub number: u64,
+    pub place: u64,
+    pub pass: u64,
+    pub width: u64,
+    pub height: u64,
+    pub spans: u64,
+    pub boundaries: u64,
+    pub anchors: u64,
+}
+
+/// Number 0 and the root, or number 13 and 0.
+#[repr(C)]
+pub struct Outcome {
+    pub number: u64,
+    pub value: f64,
+}
+
+// SAFETY: names, arguments and results are those of include/jenwyllt.h. The two functions marked safe take numbers alone, and are
+// proved for all of them.
+unsafe extern "C" {
+    pub fn jenwyllt_partition(
+        width: u64,
+        height: u64,
+        cells: *const u8,
+        cells_length: usize,
+        spans: *const u64,
+        spans_length: usize,
+        labels: *mut u32,
+        labels_length: usize,
+        masks: *mut u16,
+        masks_length: usize,
+        queue: *mut u32,
+        queue_length: usize,
+        tallies: *mut u32,
+        tallies_length: usize,
+        pairs: *mut u32,
+        pairs_length: usize,
+    ) -> Answer;
+
+    pub fn jenwyllt_read_sheet(
+        bytes: *const u8,
+        bytes_length: usize,
+        cells: *mut u8,
+        cells_length: usize,
+        spans: *mut u64,
+        spans_length: usize,
+        boundaries: *mut u64,
+        boundaries_length: usize,
+        anchors: *mut u64,
+        anchors_length: usize,
+    ) -> SheetAnswer;
+
+    pub safe fn jenwyllt_hypotenuse(x: f64, y: f64) -> Outcome;
+
+    pub safe fn jenwyllt_hypot(x: f64, y: f64) -> f64;
+}

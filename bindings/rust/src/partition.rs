@@ -1,0 +1,133 @@
+//! The regions of a map cut by spans.
+
+use crate::Refusal;
+use crate::exported::jenwyllt_partition;
+
+/// What a map is cut into.
+#[derive(Debug, Clone, PartialEq, Eq)]
+pub struct Partition {
+    /// How many regions there are.
+    pub regions: u64,
+    /// The region of each cell, row by row, from 1 in the order of their first cells; 0 where a cell is not walkable.
+    pub labels: Vec<u32>,
+    /// For each span how many steps it removes, and how many of them join two regions.
+    pub tallies: Vec<[u32; 2]>,
+    /// Span, smaller and larger label; in this order ascending, each pair of a span once.
+    pub pairs: Vec<[u32; 3]>,
+}
+
+/// The lists that [`partition_into`] fills. What they hold before does not matter, and each may be longer than needed.
+#[derive(Debug)]
+pub struct PartitionLists<'a> {
+    /// One a cell.
+    pub labels: &'a mut [u32],
+    /// One a cell: room to work in, zero afterwards.
+    pub masks: &'a mut [u16],
+    /// One a cell: room to work in, zero afterwards.
+    pub queue: &'a mut [u32],
+    /// Two a span.
+    pub tallies: &'a mut [u32],
+    /// Rows of three. Rows that are not needed stay as they were.
+    pub pairs: &'a mut [u32],
+}
+
+/// Cuts a map by spans. A cell is one byte, odd where it is walkable, and 8 by 8 pixels; a span is x, y, x, y in pixels.
+///
+/// Refuses 1, 2, 3, 5 and 6.
+///
+/// ```
+/// // Three cells in a row, cut behind the first.
+/// let cut = jenwyllt::partition(3, 1, &[1, 1, 1], &[[8, 0, 8, 8]]).unwrap();
+/// assert_eq!(cut.regions, 2);
+/// assert_eq!(cut.labels, [1, 2, 2]);
+/// assert_eq!(cut.tallies, [[1, 1]]);
+/// assert_eq!(cut.pairs, [[0, 1, 2]]);
+///
+/// let refusal = jenwyllt::partition(3, 1, &[1, 1, 1], &[[8, 0, 8, 8], [8, 0, 8, 9]]).unwrap_err();
+/// assert_eq!((refusal.number, refusal.place), (5, 1));
+/// ```
+pub fn partition(width: u64, height: u64, cells: &[u8], spans: &[[u64; 4]]) -> Result<Partition, Refusal> {
+    const MORE_PAIRS_THAN_ROWS: u64 = 12;
+    let mut partition = Partition {
+        regions: 0,
+        labels: vec![0; cells.len()],
+        tallies: vec![[0; 2]; spans.len()],
+        pairs: vec![[0; 3]; 2 * spans.len()],
+    };
+    let mut masks = vec![0; cells.len()];
+    let mut queue = vec![0; cells.len()];
+    let mut call = |partition: &mut Partition| {
+        let lists = PartitionLists {
+            labels: &mut partition.labels,
+            masks: &mut masks,
+            queue: &mut queue,
+            tallies: partition.tallies.as_flattened_mut(),
+            pairs: partition.pairs.as_flattened_mut(),
+        };
+        partition_into(width, height, cells, spans.as_flattened(), lists)
+    };
+    let mut answer = call(&mut partition);
+    if answer.is_err_and(|refusal| refusal.number == MORE_PAIRS_THAN_ROWS) {
+        // The tallies are filled, and a span has at most one pair for each step that joins two regions.
+        let most = partition.tallies.iter().map(|[_, separated]| *separated as usize).sum();
+        partition.pairs = vec![[0; 3]; most];
+        answer = call(&mut partition);
+    }
+    partition.regions = answer?;
+    // No label of a pair is 0, so a row that stayed zero stands behind the last.
+    let rows = partition.pairs.partition_point(|[_, smaller, _]| *smaller != 0);
+    partition.pairs.truncate(rows);
+    Ok(partition)
+}
+
+/// The same with lists that the caller lends, four numbers a span; answers how many regions there are.
+///
+/// Refuses 10 and 12 too. With 12 the labels and tallies are filled, masks and queue are zero, and pairs are zero over the whole
+/// list; with any other refusal every list stays as it was.
+///
+/// ```
+/// use jenwyllt::{PartitionLists, partition_into};
+///
+/// let (mut labels, mut masks, mut queue) = ([0; 3], [0; 3], [0; 3]);
+/// let (mut tallies, mut pairs) = ([0; 2], [9; 6]);
+/// let lists = PartitionLists {
+///     labels: &mut labels,
+///     masks: &mut masks,
+///     queue: &mut queue,
+///     tallies: &mut tallies,
+///     pairs: &mut pairs,
+/// };
+/// assert_eq!(partition_into(3, 1, &[1, 1, 1], &[8, 0, 8, 8], lists), Ok(2));
+/// assert_eq!(labels, [1, 2, 2]);
+/// assert_eq!(pairs, [0, 1, 2, 9, 9, 9]);
+/// ```
+pub fn partition_into(width: u64, height: u64, cells: &[u8], spans: &[u64], lists: PartitionLists<'_>) -> Result<u64, Refusal> {
+    let PartitionLists { labels, masks, queue, tallies, pairs } = lists;
+    // SAFETY: each pointer and length is a slice's own, so it is aligned, not null, and valid for that length, for writes where the
+    // function fills; slices lent as `&mut` overlap no other, and nothing else uses them before the call returns. The function is
+    // proved for lists of any content and length, keeps no pointer and does not unwind.
+    let answer = unsafe {
+        jenwyllt_partition(
+            width,
+            height,
+            cells.as_ptr(),
+            cells.len(),
+            spans.as_ptr(),
+            spans.len(),
+            labels.as_mut_ptr(),
+            labels.len(),
+            masks.as_mut_ptr(),
+            masks.len(),
+            queue.as_mut_ptr(),
+            queue.len(),
+            tallies.as_mut_ptr(),
+            tallies.len(),
+            pairs.as_mut_ptr(),
+            pairs.len(),
+        )
+    };
+    match answer.number {
+        0 => Ok(answer.value),
+        number => Err(Refusal { number, place: answer.value }),
+    }
+}

@@ -1,0 +1,137 @@
+//! The reader of sheets of kind 1: a map as bytes.
+
+use crate::Refusal;
+use crate::exported::jenwyllt_read_sheet;
+
+const MOST_CELLS: usize = 1024 * 1024;
+const MOST_ENTRIES: usize = 256;
+
+/// What a sheet holds. Beyond its form nothing is tested: endpoints may lie outside the map.
+#[derive(Debug, Clone, PartialEq, Eq)]
+pub struct Sheet {
+    /// The pass to run.
+    pub pass: u64,
+    /// In cells.
+    pub width: u64,
+    /// In cells.
+    pub height: u64,
+    /// Row by row: 1 for walkable, plus 2 for ramp, plus 4 times the elevation.
+    pub cells: Vec<u8>,
+    /// x, y, x, y in pixels.
+    pub spans: Vec<[u64; 4]>,
+    /// x, y, x, y, the bits of the width as a double, kind (0 none, 1 lower, 2 upper), ramp id, lower and upper elevation.
+    pub boundaries: Vec<[u64; 9]>,
+    /// x, y in cells.
+    pub anchors: Vec<[u64; 2]>,
+}
+
+/// What a sheet opens with, and how many entries its lists have.
+#[derive(Debug, Clone, Copy, PartialEq, Eq)]
+pub struct Header {
+    /// The pass to run.
+    pub pass: u64,
+    /// In cells.
+    pub width: u64,
+    /// In cells.
+    pub height: u64,
+    /// Entries of four numbers.
+    pub spans: u64,
+    /// Entries of nine numbers.
+    pub boundaries: u64,
+    /// Entries of two numbers.
+    pub anchors: u64,
+}
+
+/// The lists that [`read_sheet_into`] fills. Each may be longer than needed; what it holds behind the last entry stays.
+#[derive(Debug)]
+pub struct SheetLists<'a> {
+    /// One a cell.
+    pub cells: &'a mut [u8],
+    /// Four a span.
+    pub spans: &'a mut [u64],
+    /// Nine a boundary.
+    pub boundaries: &'a mut [u64],
+    /// Two an anchor.
+    pub anchors: &'a mut [u64],
+}
+
+/// Reads a sheet.
+///
+/// Refuses 14, 1 and 3; reading stops at the first fault.
+///
+/// ```
+/// // Kind 1, pass 3, 2 by 1 cells, one span, no boundaries, no anchors.
+/// let sheet = jenwyllt::read_sheet(&[1, 3, 2, 1, 1, 1, 1, 8, 0, 8, 8, 0, 0]).unwrap();
+/// assert_eq!((sheet.pass, sheet.width, sheet.height), (3, 2, 1));
+/// assert_eq!(sheet.cells, [1, 1]);
+/// assert_eq!(sheet.spans, [[8, 0, 8, 8]]);
+///
+/// let refusal = jenwyllt::read_sheet(&[1, 3, 2]).unwrap_err();
+/// assert_eq!((refusal.number, refusal.place), (14, 3));
+/// ```
+pub fn read_sheet(bytes: &[u8]) -> Result<Sheet, Refusal> {
+    // Each number takes a byte or more, so no list is too short.
+    let entries = |numbers: usize| MOST_ENTRIES.min(bytes.len() / numbers);
+    let mut cells = vec![0; MOST_CELLS.min(bytes.len())];
+    let mut spans = vec![[0; 4]; entries(4)];
+    let mut boundaries = vec![[0; 9]; entries(9)];
+    let mut anchors = vec![[0; 2]; entries(2)];
+    let lists = SheetLists {
+        cells: &mut cells,
+        spans: spans.as_flattened_mut(),
+        boundaries: boundaries.as_flattened_mut(),
+        anchors: anchors.as_flattened_mut(),
+    };
+    let header = read_sheet_into(bytes, lists)?;
+    cells.truncate((header.width * header.height) as usize);
+    spans.truncate(header.spans as usize);
+    boundaries.truncate(header.boundaries as usize);
+    anchors.truncate(header.anchors as usize);
+    Ok(Sheet { pass: header.pass, width: header.width, height: header.height, cells, spans, boundaries, anchors })
+}
+
+/// The same with lists that the caller lends.
+///
+/// Refuses 10 too, where one of them is too short. With any refusal every list stays as it was.
+///
+/// ```
+/// use jenwyllt::{SheetLists, read_sheet_into};
+///
+/// let (mut cells, mut spans) = ([7; 3], [0; 4]);
+/// let lists = SheetLists { cells: &mut cells, spans: &mut spans, boundaries: &mut [], anchors: &mut [] };
+/// let header = read_sheet_into(&[1, 3, 2, 1, 1, 1, 1, 8, 0, 8, 8, 0, 0], lists).unwrap();
+/// assert_eq!((header.spans, header.boundaries), (1, 0));
+/// assert_eq!(cells, [1, 1, 7]);
+/// assert_eq!(spans, [8, 0, 8, 8]);
+/// ```
+pub fn read_sheet_into(bytes: &[u8], lists: SheetLists<'_>) -> Result<Header, Refusal> {
+    let SheetLists { cells, spans, boundaries, anchors } = lists;
+    // SAFETY: each pointer and length is a slice's own, so it is aligned, not null, and valid for that length, for writes where the
+    // function fills; slices lent as `&mut` overlap no other, and nothing else uses them before the call returns. The function is
+    // proved for lists of any content and length, keeps no pointer and does not unwind.
+    let answer = unsafe {
+        jenwyllt_read_sheet(
+            bytes.as_ptr(),
+            bytes.len(),
+            cells.as_mut_ptr(),
+            cells.len(),
+            spans.as_mut_ptr(),
+            spans.len(),
+            boundaries.as_mut_ptr(),
+            boundaries.len(),
+            anchors.as_mut_ptr(),
+            anchors.len(),
+        )
+    };
+    match answer.number {
+        0 => Ok(Header {
+            pass: answer.pass,
+            width: answer.width,
+            height: answer.height,
+            spans: answer.spans,
+            boundaries: answer.boundaries,
+            anchors: answer.anchors,
+        }),
+        number => Err(Refusal { number, place: answer.place }),
+    }
+}

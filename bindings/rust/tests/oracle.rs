@@ -1,0 +1,263 @@
+//! The Rust original judges generated maps, sheets and pairs of doubles: the program of oracle/, built and run here. Without
+//! `BROODMAP_SRC` (oracle/README.md) there is nothing to build it from, and these tests say so and pass.
+
+use jenwyllt::{PartitionLists, Refusal, Sheet, hypotenuse, partition, partition_into, read_sheet};
+use std::fmt::Write as _;
+use std::io::Write as _;
+use std::path::{Path, PathBuf};
+use std::process::{Command, Stdio};
+use std::sync::LazyLock;
+use std::{env, io, thread};
+
+// ---- the oracle's program
+
+static PROGRAM: LazyLock<Option<PathBuf>> = LazyLock::new(|| {
+    if env::var_os("BROODMAP_SRC").is_none_or(|root| root.is_empty()) {
+        // Not by `eprintln!`, which a test that passes does not show.
+        writeln!(io::stderr(), "BROODMAP_SRC is not set: the comparison with the oracle is skipped").expect("standard error");
+        return None;
+    }
+    let folder = Path::new(env!("CARGO_MANIFEST_DIR")).join("../../oracle");
+    let build = ["build", "--release", "--offline", "--target-dir", "target"];
+    let built = Command::new(env!("CARGO")).args(build).current_dir(&folder).status().expect("cargo starts");
+    assert!(built.success(), "the oracle is not built");
+    Some(folder.join("target/release/oracle"))
+});
+
+/// What the oracle prints, line by line; none where it cannot be built.
+fn judged(arguments: &[&str], input: Vec<u8>) -> Option<Vec<String>> {
+    let mut child = Command::new(PROGRAM.as_ref()?)
+        .args(arguments)
+        .stdin(Stdio::piped())
+        .stdout(Stdio::piped())
+        .spawn()
+        .expect("the oracle starts");
+    let mut stdin = child.stdin.take().expect("a pipe");
+    let writer = thread::spawn(move || stdin.write_all(&input));
+    let output = child.wait_with_output().expect("the oracle ends");
+    writer.join().expect("the writer ends").expect("all input is read");
+    assert!(output.status.success());
+    Some(String::from_utf8(output.stdout).expect("plain text").lines().map(String::from).collect())
+}
+
+/// Sheets one after the other, each behind its length, as `--many` reads them.
+fn framed(sheets: &[Vec<u8>]) -> Vec<u8> {
+    sheets.iter().flat_map(|sheet| [&(sheet.len() as u64).to_le_bytes(), sheet.as_slice()].concat()).collect()
+}
+
+/// The numbers under a key of a line of JSON, in their order.
+fn numbers(line: &str, key: &str) -> Vec<u64> {
+    let (_, behind) = line.split_once(&format!("\"{key}\":")).unwrap_or_else(|| panic!("no {key}: {line}"));
+    let value = behind.split('"').next().expect("a value");
+    value
+        .split(|c: char| !c.is_ascii_digit())
+        .filter(|digits| !digits.is_empty())
+        .map(|digits| digits.parse().expect("64 bits"))
+        .collect()
+}
+
+fn answer(line: &str) -> Result<u64, Refusal> {
+    match (numbers(line, "number")[0], numbers(line, "value")[0]) {
+        (0, value) => Ok(value),
+        (number, place) => Err(Refusal { number, place }),
+    }
+}
+
+fn widened(list: &[u32]) -> Vec<u64> {
+    list.iter().copied().map(u64::from).collect()
+}
+
+// ---- generated maps
+
+/// SplitMix64.
+struct Random(u64);
+
+impl Random {
+    fn number(&mut self) -> u64 {
+        self.0 = self.0.wrapping_add(0x9e37_79b9_7f4a_7c15);
+        let z = (self.0 ^ self.0 >> 30).wrapping_mul(0xbf58_476d_1ce4_e5b9);
+        let z = (z ^ z >> 27).wrapping_mul(0x94d0_49bb_1331_11eb);
+        z ^ z >> 31
+    }
+
+    fn below(&mut self, limit: u64) -> u64 {
+        self.number() % limit
+    }
+
+    fn once_in(&mut self, count: u64) -> bool {
+        self.below(count) == 0
+    }
+
+    /// Walkable in most of its cells or in few, cut by spans of which a few are faulty.
+    fn map(&mut self) -> Sheet {
+        let (width, height) = (1 + self.below(40), 1 + self.below(40));
+        let walkable = 3 + self.below(8);
+        let cells = (0..width * height).map(|_| 2 * self.below(128) as u8 + u8::from(self.below(10) < walkable)).collect();
+        let spans = if self.once_in(100) { 256 } else { self.below(12) };
+        let spans = (0..spans).map(|_| self.span(width, height)).collect();
+        Sheet { pass: self.below(5), width, height, cells, spans, boundaries: vec![], anchors: vec![] }
+    }
+
+    fn span(&mut self, width: u64, height: u64) -> [u64; 4] {
+        // On the corners of cells, or anywhere.
+        let unit = if self.once_in(2) { 8 } else { 1 };
+        let mut end = |side: u64| self.below(8 / unit * side + 1) * unit;
+        let [x, y] = [end(width), end(height)];
+        match self.below(300) {
+            0 => [x, y, x, y],
+            1 => [x, y, 8 * width + 1, y],
+            2 => [x, self.number(), x, y],
+            3..150 => [x, y, x, self.below(8 * height + 1)],
+            _ => [x, y, self.below(8 * width + 1), self.below(8 * height + 1)],
+        }
+    }
+
+    /// Numbers of all lengths.
+    fn wide(&mut self) -> u64 {
+        let shift = self.below(64);
+        self.number() >> shift
+    }
+}
+
+fn written(sheet: &Sheet) -> Vec<u8> {
+    let mut bytes = vec![];
+    let mut put = |mut number: u64| {
+        while number >= 0x80 {
+            bytes.push(number as u8 | 0x80);
+            number >>= 7;
+        }
+        bytes.push(number as u8);
+    };
+    [1, sheet.pass, sheet.width, sheet.height].into_iter().for_each(&mut put);
+    sheet.cells.iter().for_each(|cell| put(u64::from(*cell)));
+    let lists = [
+        (sheet.spans.len(), sheet.spans.as_flattened()),
+        (sheet.boundaries.len(), sheet.boundaries.as_flattened()),
+        (sheet.anchors.len(), sheet.anchors.as_flattened()),
+    ];
+    for (count, list) in lists {
+        put(count as u64);
+        list.iter().copied().for_each(&mut put);
+    }
+    bytes
+}
+
+// ---- comparisons
+
+#[test]
+fn partitions() {
+    let mut random = Random(1);
+    let maps: Vec<_> = (0..3000).map(|_| random.map()).collect();
+    let sheets: Vec<_> = maps.iter().map(written).collect();
+    let Some(lines) = judged(&["partition", "--many"], framed(&sheets)) else { return };
+    assert_eq!(lines.len(), maps.len());
+    let mut refused = 0;
+    for (map, line) in maps.iter().zip(&lines) {
+        let cut = partition(map.width, map.height, &map.cells, &map.spans);
+        assert_eq!(cut.as_ref().map(|cut| cut.regions).map_err(|refusal| *refusal), answer(line), "{map:?}");
+        let Ok(cut) = cut else {
+            refused += 1;
+            continue;
+        };
+        assert_eq!(widened(&cut.labels), numbers(line, "labels"), "{map:?}");
+        assert_eq!(widened(cut.tallies.as_flattened()), numbers(line, "tallies"), "{map:?}");
+        assert_eq!(widened(cut.pairs.as_flattened()), numbers(line, "pairs"), "{map:?}");
+    }
+    assert!((20..1000).contains(&refused), "{refused} refused");
+}
+
+#[test]
+fn partitions_with_few_rows() {
+    const ROWS: usize = 5;
+    let mut random = Random(2);
+    let maps: Vec<_> = (0..1000).map(|_| random.map()).collect();
+    let sheets: Vec<_> = maps.iter().map(written).collect();
+    let rows = ROWS.to_string();
+    let Some(lines) = judged(&["partition", "--many", "--pairs", &rows], framed(&sheets)) else { return };
+    assert_eq!(lines.len(), maps.len());
+    let mut short = 0;
+    for (map, line) in maps.iter().zip(&lines) {
+        let (mut labels, mut tallies, mut pairs) = (vec![9; map.cells.len()], vec![9; 2 * map.spans.len()], [9; 3 * ROWS]);
+        let lists = PartitionLists {
+            labels: &mut labels,
+            masks: &mut vec![9; map.cells.len()],
+            queue: &mut vec![9; map.cells.len()],
+            tallies: &mut tallies,
+            pairs: &mut pairs,
+        };
+        let result = partition_into(map.width, map.height, &map.cells, map.spans.as_flattened(), lists);
+        assert_eq!(result, answer(line), "{map:?}");
+        if let Err(Refusal { number: 12, .. }) = result {
+            short += 1;
+            assert_eq!(pairs, [0; 3 * ROWS]);
+            assert_eq!(widened(&labels), numbers(line, "labels"), "{map:?}");
+            assert_eq!(widened(&tallies), numbers(line, "tallies"), "{map:?}");
+        }
+    }
+    assert!((100..900).contains(&short), "{short} with too few rows");
+}
+
+#[test]
+fn sheets() {
+    let mut random = Random(3);
+    let mut sheet = || {
+        let mut map = random.map();
+        map.boundaries = (0..random.below(4)).map(|_| [(); 9].map(|()| random.wide())).collect();
+        map.anchors = (0..random.below(4)).map(|_| [(); 2].map(|()| random.wide())).collect();
+        let mut bytes = written(&map);
+        let place = random.below(bytes.len() as u64) as usize;
+        match random.below(5) {
+            0 => bytes.truncate(place),
+            1 => bytes[place] = random.number() as u8,
+            2 => bytes.insert(place, 0xff),
+            3 => bytes[random.below(4) as usize] = random.number() as u8,
+            _ => {}
+        }
+        bytes
+    };
+    let sheets: Vec<_> = (0..3000).map(|_| sheet()).collect();
+    let Some(lines) = judged(&["read", "--many"], framed(&sheets)) else { return };
+    assert_eq!(lines.len(), sheets.len());
+    let mut refused = 0;
+    for (bytes, line) in sheets.iter().zip(&lines) {
+        let read = read_sheet(bytes);
+        assert_eq!(read.as_ref().map(|_| 0).map_err(|refusal| *refusal), answer(line), "{bytes:?}");
+        let Ok(read) = read else {
+            refused += 1;
+            continue;
+        };
+        let opening = [read.pass, read.width, read.height];
+        assert_eq!(opening, ["pass", "width", "height"].map(|key| numbers(line, key)[0]));
+        assert_eq!(read.cells.iter().copied().map(u64::from).collect::<Vec<_>>(), numbers(line, "cells"));
+        assert_eq!(read.spans.as_flattened(), numbers(line, "spans"));
+        assert_eq!(read.boundaries.as_flattened(), numbers(line, "boundaries"));
+        assert_eq!(read.anchors.as_flattened(), numbers(line, "anchors"));
+    }
+    assert!((500..2500).contains(&refused), "{refused} refused");
+}
+
+#[test]
+fn hypotenuses() {
+    let mut random = Random(4);
+    let mut argument = |kind| match kind {
+        // Halves, as the passes have them.
+        0 => random.below(16384) as f64 / 2.0,
+        // In range, or a little outside.
+        1 => f64::from_bits(random.below(2) << 63 | (956 + random.below(84)) << 52 | random.number() >> 12),
+        _ => f64::from_bits(random.number()),
+    };
+    let pairs: Vec<_> = (0..30_000).map(|i| [argument(i % 3), argument(i % 3)]).collect();
+    let mut input = String::new();
+    for [x, y] in &pairs {
+        writeln!(input, "{:016x} {:016x}", x.to_bits(), y.to_bits()).expect("a string grows");
+    }
+    let Some(lines) = judged(&["hypot"], input.into_bytes()) else { return };
+    assert_eq!(lines.len(), pairs.len());
+    for ([x, y], line) in pairs.into_iter().zip(&lines) {
+        let printed = match hypotenuse(x, y) {
+            Ok(root) => format!("{:016x}", root.to_bits()),
+            Err(refusal) => format!("refused {}", refusal.number),
+        };
+        assert_eq!(printed, line.to_lowercase(), "{x} {y}");
+    }
+}
