@@ -23,7 +23,7 @@ use Rattle.assessments.specs.Answer.{AssessAsked, Answers, SpansAssessed
 use Rattle.assessments.specs.declared.BoundaryAssessment.{BoundaryAssessment}
 use Rattle.assessments.specs.declared.Assessed.{Assessed}
 use Rattle.assessments.specs.declared.Assessed.the-variants.{Rows, TooMany}
-use Rattle.laws.specs.ListLaws.Overwrites.{overwrite-more}
+use Rattle.laws.specs.ListLaws.Overwritten.{overwrite-more}
 use Rattle.assessments.proofs.Holding.{held-fits, held-over}
 use Rattle.assessments.proofs.Joining.{rows-same, tallies-same}
 

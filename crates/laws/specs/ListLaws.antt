@@ -15,4 +15,4 @@ pub mod FirstBelow
 pub mod NoFault
 pub mod FlatRows
 pub mod Overwritten
-pub mod Overwrites
+pub mod Shifts

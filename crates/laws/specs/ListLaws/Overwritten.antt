@@ -1,11 +1,11 @@
 -- Stores behind what a list begins with. Assumes nothing.
-use Prim.Native.Nat.{ℕ, suc, _+_, _-_, _≤_, _<_}
+use Prim.Native.Nat.{ℕ, suc, _+_, _-_, _≤_}
 use native.Mathlib.Omega.{arith}
 use native.Mathlib.Nat.{add-zero}
 use mathlib.Core.Path.{_≡_, refl, sym, ap, ap₂, _∙_}
 use mathlib.Core.List.{List, [], _∷_, _++_}
-use lib.ListN.{length, drop, set, length-append}
-use lib.Seq.{sets, sets-eq, take-append-seam, drop-append-add, set-append-seam, drop-cons, drop-drop, append-snoc, set-comm}
+use lib.ListN.{length, drop, set, length-append, length-drop}
+use lib.Seq.{sets, sets-eq, take-append-seam, drop-append-add, drop-drop, set-comm}
 use Rattle.definitions.specs.Lists.{overwrite}
 
 module _ {A : Type 0} where
@@ -15,12 +15,14 @@ module _ {A : Type 0} where
       (sets-eq vs (p ++ q) (length p) (simp length-append (omega arith))
       ∙ ap₂ (λ l m. (l ++ vs) ++ m) (take-append-seam p q) (drop-append-add p q (length vs)))
 
-  -- one more entry is written
-  pub overwrite-more : (new old : List A) (v : A) (n : ℕ) → n ≡ length new → n < length old → set (overwrite new old) n v ≡ overwrite (new ++ (v ∷ [])) old
-  overwrite-more new old v n e h =
-      let one : suc (length new) ≡ length (new ++ (v ∷ [])) = simp length-append (omega arith) in
-      rw (e, drop-cons old (length new) v (omega arith))
-      (set-append-seam new _ (drop (suc (length new)) old) v ∙ sym (append-snoc new v (drop (suc (length new)) old)) ∙ ap (λ k. (new ++ (v ∷ [])) ++ drop k old) one)
+  -- a list stored behind what was written
+  pub overwrite-more : (x vs old : List A) → length x + length vs ≤ length old → sets (overwrite x old) (length x) vs ≡ overwrite (x ++ vs) old
+  overwrite-more x vs old h =
+      sets-eq vs (overwrite x old) (length x) (omega (arith, length-append x (drop (length x) old), length-drop (length x) old))
+      ∙ ap₂ (λ u v. (u ++ vs) ++ v) (take-append-seam x (drop (length x) old)) back
+    where
+      back : drop (length x + length vs) (overwrite x old) ≡ drop (length (x ++ vs)) old
+      back = drop-append-add x (drop (length x) old) (length vs) ∙ drop-drop (length vs) (length x) old ∙ ap (λ k. drop k old) (sym (length-append x vs))
 
   -- what is written again
   pub overwrite-twice : (new mid old : List A) → length mid ≤ length new → overwrite new (overwrite mid old) ≡ overwrite new old
