@@ -1,12 +1,11 @@
 -- The contract of the partition from what its parts leave: where a check before it refuses, where there are more pairs than rows, and where all is filled. The answer
 -- follows the chain of checks, and each list at exit is what the table says for that number. Assumes nothing.
 use Prim.Native.Nat.{ℕ, _*_, _/_, _≤_, _<_}
-use native.Mathlib.Nat.{mul-comm}
-use mathlib.Core.Path.{_≡_, refl, sym, ap, ap₂, _∙_}
-use mathlib.Core.Bool.{true, false, not}
+use mathlib.Core.Path.{_≡_, sym, ap, _∙_}
+use mathlib.Core.Bool.{not}
 use mathlib.Core.Option.{Option, none, some}
-use mathlib.Core.List.{List, [], _∷_, _++_}
-use lib.ListN.{length, drop, replicate}
+use mathlib.Core.List.{List, [], _∷_}
+use lib.ListN.{length}
 use lib.Dec.{leb}
 use borrow.Author.Tests.{le-leb, lt-leb}
 use Rattle.definitions.specs.Limits.{numbersPerSpan, numbersPerPair}
@@ -16,8 +15,8 @@ use Rattle.definitions.specs.Lists.{overwrite, zeroed}
 use Rattle.definitions.specs.Partition.{labels, regionCount}
 use Rattle.definitions.specs.Context.{contextOf}
 use Rattle.definitions.specs.Refusals.{Refusal, unless, sidesFault, cellsFault, isWhole, spansRefusal}
-use Rattle.definitions.specs.Verdict.{Lent, mapIn, Answer, refusal, firstRefusal, partitionHasRoom, pairRowsOf, pairsFault, partitionVerdict}
-use Rattle.definitions.specs.AtExit.{Stage, stageOf, untouched, talliesOf, exitWith, partitionExit}
+use Rattle.definitions.specs.Verdict.{Lent, mapIn, refusal, firstRefusal, partitionHasRoom, pairRowsOf, pairsFault, partitionVerdict}
+use Rattle.definitions.specs.AtExit.{stageOf, untouched, talliesOf, exitWith, partitionExit}
 use Rattle.areas.specs.declared.Partitioned.the-variants.{Regions, Refused}
 use Rattle.areas.specs.Contract.{given, earlyRefusal, Ran}
 use Rattle.areas.proofs.FirstRefusal.{first-joined}

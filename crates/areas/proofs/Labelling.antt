@@ -2,12 +2,12 @@
 -- label of the grid. Assumes nothing.
 use Prim.Native.Nat.{ℕ, _*_, _≤_, _<_}
 use native.Mathlib.Omega.{arith}
-use mathlib.Core.Path.{_≡_, refl, sym, ap, _∙_, subst}
+use mathlib.Core.Path.{_≡_, refl, sym, ap, _∙_}
 use mathlib.Core.List.{List, [], _++_}
 use lib.ListN.{length, getD, drop, replicate, length-replicate, getD-replicate, List·getD-append}
 use lib.Seq.{drop-at}
 use Rattle.definitions.specs.Grid.{Map, mapOf, cellCount}
-use Rattle.definitions.specs.Lists.{overwrite, zeroed}
+use Rattle.definitions.specs.Lists.{zeroed}
 use Rattle.definitions.specs.Partition.{labels}
 use Rattle.laws.specs.RegionLaws.Regions.{labels-length}
 use Rattle.cut_steps.specs.Contract.{SpanMap, Checked}

@@ -1,5 +1,4 @@
 -- What the answers of this crate say: document 01's number and value of each case. Assumes nothing.
-use Prim.Native.Nat.{ℕ}
 use mathlib.Core.Option.{Option, none, some}
 use Rattle.definitions.specs.Refusals.{Refusal}
 use Rattle.definitions.specs.Verdict.{Answer}

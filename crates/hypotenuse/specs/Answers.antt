@@ -1,6 +1,6 @@
 -- The number and the value of each answer (document 01, 'Hypotenuse'), and what the contract of `hypotenuse` says in these words: it leaves one answer to each pair of doubles. Assumes nothing.
 use mathlib.Core.Path.{_≡_, refl, ap, _∙_}
-use mathlib.Core.Bool.{Bool, true, false, cond, _&&_}
+use mathlib.Core.Bool.{true, false, cond, _&&_}
 use Prim.Native.Nat.{ℕ}
 use native.Mathlib.Omega.{arith}
 use lib.Ieee.{Float, fin}

@@ -1,5 +1,4 @@
 -- `areas::labels::label_regions` meets its contract: what the spans marked in cleared masks is as the flood asks. Assumes nothing.
-use mathlib.Core.Path.{_∙_}
 use native.Mathlib.Omega.{arith}
 use Rattle.areas.proofs.Labelling.{cleared, masked, flood-lent, labelled}
 use borrow.Author.Needs.{needs}

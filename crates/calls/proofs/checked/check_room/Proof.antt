@@ -1,9 +1,7 @@
 -- `calls::checked::check_room` meets its contract: its test is the check's own. Assumes nothing.
 use mathlib.Core.Path.{_≡_, sym, ap, ap₂, _∙_}
 use mathlib.Core.Bool.{Bool, _&&_, not}
-use mathlib.Core.Option.{Option}
 use Rattle.definitions.specs.Scan.{onlyIf}
-use Rattle.definitions.specs.Refusals.{Refusal}
 use Rattle.definitions.specs.Verdict.{refusal}
 use borrow.Author.Needs.{needs}
 use Rattle.calls.proofs.checked.check_room.Statement.{statement}
