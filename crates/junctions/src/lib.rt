@@ -1,0 +1,2 @@
+// Pass 3, `remove_junction_boundaries` of junctions.rs, over plain lists and regions by value.
+pub mod ports;
