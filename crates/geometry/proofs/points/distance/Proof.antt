@@ -1,0 +1,18 @@
+-- `points::distance` meets its contract: in range the value of the hypotenuse is the distance. Assumes nothing.
+use borrow.Author.Needs.{needs}
+use mathlib.Core.Path.{_∙_}
+use Rattle.laws.specs.FloatLaws.DistanceRange.{distance-value}
+use Rattle.geometry.specs.Forms.{pointForm}
+use Rattle.geometry.proofs.points.distance.Statement.{statement}
+use Rattle.geometry.proofs.points.distance.Tie as tie
+
+hypot-requires : tie.Need-hypot-requires
+hypot-requires c κs = search needs
+
+returns : tie.Need-returns
+returns c =
+    let s = c .before .before .before .before .before in
+    λ h. c .hypot .ensures ∙ distance-value (pointForm (s .args .p)) (pointForm (s .args .q)) h
+
+pub distance-spec : {M : Type 1} → statement M
+distance-spec = tie.close (tie.spec hypot-requires returns)
