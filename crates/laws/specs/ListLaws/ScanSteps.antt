@@ -10,6 +10,7 @@ use mathlib.Core.List.{_++_}
 use lib.Dec.{ltb}
 use borrow.Author.Tests.{ltb-true, ltb-false}
 use Rattle.definitions.specs.Scan.{anyBelow, allBelow, countBelow, collect, toList, bit}
+use Rattle.laws.specs.ListLaws.Below.{below-at}
 
 -- ---- one number more
 
@@ -97,3 +98,18 @@ module _ (f g : ℕ → Bool) where
       go true p false q s m ih = absurd (true≢false (sym (h n (omega arith) p) ∙ q))
       go false p true q s m ih = absurd (omega arith)
       go false p false q s m ih = at false p q (ih (omega arith)) (ltb j n) refl
+
+-- ---- what all pass
+
+pub all-intro : (f : ℕ → Bool) (n : ℕ) → ((j : ℕ) → j < n → f j ≡ true) → allBelow n f ≡ true
+unfolding allBelow
+all-intro f zero h = refl
+all-intro f (suc n) h = ap₂ _&&_ (all-intro f n (λ j l. h j (omega arith))) (h n (omega arith))
+
+-- what nothing passes fails everywhere
+pub any-fails-at : (f : ℕ → Bool) (n : ℕ) → anyBelow n f ≡ false → (j : ℕ) → j < n → f j ≡ false
+any-fails-at f n h j l = go (f j) refl
+  where
+    go : (b : Bool) → f j ≡ b → b ≡ false
+    go true e = absurd (true≢false (sym (below-at n f j l e) ∙ h))
+    go false e = refl
