@@ -2,8 +2,9 @@
 -- the two regions. The argument: each full pair that names a region is an incident of it, so that where as many name it as it has incidents, every incident is
 -- such a full pair. Assumes that the lists show the full pairs and the counts of incidents.
 use Prim.Native.Nat.{ℕ, _-_, _<_, _≤_}
+use native.Mathlib.Omega.{arith}
 use mathlib.Core.Path.{_≡_, refl, sym, ap, ap₂, _∙_}
-use mathlib.Core.Bool.{Bool, true, false, not, _&&_, _||_, or-false, true≢false, false≢true}
+use mathlib.Core.Bool.{Bool, true, false, not, _&&_, _||_, or-false, or-true, true≢false, false≢true}
 use mathlib.Core.Option.{Option, none, some}
 use mathlib.Core.List.{List, [], _∷_}
 use lib.ListN.{getD}
@@ -137,3 +138,37 @@ module _ (C : Context) (smaller larger counts : List ℕ) (pairs : ShownFullPair
 
         region-is : fits r ≡ allBelow (C .count) (passes r)
         region-is = same-test fits-passes passes-fits
+
+    -- a boundary that is a full pair, and its two regions
+    module _ (low : 1 ≤ p .lo) (high : p .hi ≤ C .regions) (ordered : p .lo < p .hi) where
+      module _ (own : fullPair C i ≡ some p) where
+        -- what is asked of j as an incident of either region
+        asked : (j : ℕ) → (passes (p .lo) j && passes (p .hi) j) ≡ (not (isUnionPort C i p j) || holds (fullPair C j) (fitsUnion p))
+        unfolding isUnionPort
+        asked j = order (eqb j i) (isIncident C j (p .lo)) (isIncident C j (p .hi)) (holds (fullPair C j) (fitsUnion p))
+          where
+            order : (e a b u : Bool) → ((not a || (e || u)) && (not b || (e || u))) ≡ (not (not e && (a || b)) || u)
+            order true true true u = refl
+            order true true false u = refl
+            order true false true u = refl
+            order true false false u = refl
+            order false true true true = refl
+            order false true true false = refl
+            order false true false true = refl
+            order false true false false = refl
+            order false false true u = refl
+            order false false false u = refl
+
+        pub walk-is : walkFits smaller larger counts (C .count) i p ≡ portsFit C i p
+        unfolding walkFits portsFit allBelow
+        walk-is =
+            ap₂ _&&_ (region-is (p .lo) low (omega arith) own (ap (λ b. b || eqb (p .hi) (p .lo)) (eq-eqb (p .lo) (p .lo) refl))) (region-is (p .hi) (omega arith) high own (ap (λ b. eqb (p .lo) (p .hi) || b) (eq-eqb (p .hi) (p .hi) refl) ∙ or-true (eqb (p .lo) (p .hi))))
+            ∙ all-and (passes (p .lo)) (passes (p .hi)) (C .count)
+            ∙ all-ext (λ j. passes (p .lo) j && passes (p .hi) j) (λ j. not (isUnionPort C i p j) || holds (fullPair C j) (fitsUnion p)) (C .count) (λ j l. asked j)
+
+      -- where the walk goes through, the ports are full pairs that name a region of the union
+      pub port-is : walkFits smaller larger counts (C .count) i p ≡ true → (j : ℕ) → j < C .count → isUnionPort C i p j ≡ isPort smaller larger i p j
+      unfolding walkFits allBelow isUnionPort isPort
+      port-is h j l =
+          let tests = both (fits (p .lo)) (fits (p .hi)) h in
+          ap₂ (λ a b. not (eqb j i) && (a || b)) (fits-names (p .lo) low (omega arith) (tests .0) j l) (fits-names (p .hi) (omega arith) high (tests .1) j l)

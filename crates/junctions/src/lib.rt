@@ -1,2 +1,4 @@
 // Pass 3, `remove_junction_boundaries` of junctions.rs, over plain lists and regions by value.
+pub mod distances;
 pub mod ports;
+pub mod unions;
