@@ -5,3 +5,4 @@ pub mod Exteriors
 pub mod Near
 pub mod Literals
 pub mod Lists
+pub mod Shapes
