@@ -6,3 +6,4 @@ pub mod Near
 pub mod Literals
 pub mod Lists
 pub mod Shapes
+pub mod BridgeTests

@@ -1,3 +1,4 @@
 pub mod Ports
 pub mod Lent
 pub mod Unions
+pub mod Bridges

@@ -2,3 +2,4 @@
 pub mod distances;
 pub mod ports;
 pub mod unions;
+pub mod bridges;
