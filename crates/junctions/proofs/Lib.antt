@@ -7,3 +7,5 @@ pub mod Literals
 pub mod Lists
 pub mod Shapes
 pub mod BridgeTests
+pub mod FirstFound
+pub mod BridgeWalk

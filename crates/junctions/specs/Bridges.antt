@@ -1,6 +1,7 @@
 -- The bridge of a pocket, read off the lists: `bridgeProposal` of Junctions.antt but for what it asks of the pocket's record. Definitions only; assumes nothing.
 use Prim.Native.Nat.{ℕ, _-_, _≤_, _<_}
-use mathlib.Core.Bool.{Bool, not, _&&_, cond}
+use mathlib.Core.Path.{_≡_}
+use mathlib.Core.Bool.{Bool, true, false, not, _&&_, cond}
 use mathlib.Core.Option.{Option, none, some}
 use mathlib.Core.List.{List, [], _∷_}
 use lib.ListN.{getD}
@@ -49,6 +50,11 @@ module _ (smaller larger : List ℕ) (r : ℕ) where
   unfolding isTwiceAt nearAt
   pickAt boundaries i k t = cond (isTwiceAt boundaries i k) (nearAt boundaries i k t) (cond (isTwiceAt boundaries k i) (nearAt boundaries k i t) none)
 
+  -- a full pair without ramp that names the pocket
+  unfoldable pub isPocketPort : List ℕ → ℕ → Bool
+  unfolding names
+  isPocketPort boundaries j = names smaller larger r j && noRampAt boundaries j
+
 module _ (boundaries smaller larger marks : List ℕ) (r : ℕ) where
   unfoldable pub bridgeOfThree : ℕ → ℕ → ℕ → Option Proposal
   unfolding isSharedAt pickAt
@@ -64,13 +70,15 @@ module _ (boundaries smaller larger marks : List ℕ) (r : ℕ) where
   bridgeOfList (i ∷ j ∷ k ∷ []) = bridgeOfThree i j k
   bridgeOfList (i ∷ j ∷ k ∷ x ∷ l) = none
 
-  -- a full pair without ramp that names the pocket
-  unfoldable pub isPocketPort : ℕ → Bool
-  unfolding names
-  isPocketPort j = names smaller larger r j && noRampAt boundaries j
-
   -- the pocket is not anchored and has three incidents
   unfoldable pub isBridgeAt : List ℕ → ℕ → Option Proposal
   unfolding collect isPocketPort bridgeOfList
   isBridgeAt counts count =
-      cond (not (markAt marks r) && eqb (getD counts (r - 1) 0) 3) (bridgeOfList (collect count (λ j. onlyIf (isPocketPort j) j))) none
+      cond (not (markAt marks r) && eqb (getD counts (r - 1) 0) 3) (bridgeOfList (collect count (λ j. onlyIf (isPocketPort smaller larger r boundaries j) j))) none
+
+-- r is the first number from `from` on, below n, that passes f; n where there is none
+pub record FirstFrom (f : ℕ → Bool) (from n r : ℕ) : Type 0 where
+  pub within : r ≤ n
+  pub behind : r < n → from ≤ r
+  pub none : (j : ℕ) → from ≤ j → j < r → f j ≡ false
+  pub found : r < n → f r ≡ true

@@ -4,14 +4,11 @@ use crate::distances::is_near_port;
 use crate::ports::names_region;
 use crate::unions::anchored_bit;
 ghost use mathlib.Core.Path.{_≡_};
-ghost use mathlib.Core.List.{List, [], _∷_};
-ghost use mathlib.Core.Option.{none};
 ghost use Prim.Native.Nat.{_≤_, _<_};
-ghost use lib.ListN.{length, getD};
-ghost use Rattle.definitions.specs.Scan.{collect, onlyIf};
+ghost use lib.ListN.{length};
 ghost use Rattle.definitions.specs.Context.{otherRegion};
-ghost use Rattle.junctions.specs.Lent.{Placed, LentBoundaries, LentPairs, Lent};
-ghost use Rattle.junctions.specs.Bridges.{bridgeForm, PortAt, isTwiceAt, isSharedAt, nearAt, pickAt, bridgeOfThree, isPocketPort, isBridgeAt};
+ghost use Rattle.junctions.specs.Lent.{LentBoundaries, LentPairs, Lent};
+ghost use Rattle.junctions.specs.Bridges.{bridgeForm, PortAt, isTwiceAt, isSharedAt, nearAt, pickAt, bridgeOfThree, isPocketPort, isBridgeAt, FirstFrom};
 
 // The boundary that would go, and the region beyond it; `bridgeForm` of specs/Bridges.antt gives the proposal.
 pub enum Bridge {
@@ -142,4 +139,62 @@ pub fn bridge_of_three(
         return pick_bridge(boundaries, smaller, larger, count, r, j, k, i);
     }
     Bridge::None
+}
+
+// The first port of pocket r from number `from` on, or `count`: a full pair without ramp that names the pocket.
+pub fn next_port(
+    boundaries: &[u64],
+    smaller: &[u32; 256],
+    larger: &[u32; 256],
+    count: usize,
+    r: u32,
+    from: usize,
+) -> usize
+    requires { ⌜ LentBoundaries (now boundaries) count ⌝ }
+    ensures { λ x. ⌜ FirstFrom (isPocketPort (now (smaller .entry)) (now (larger .entry)) r (now (boundaries .entry))) «from» count x ⌝ }
+{
+    let mut j = from;
+    while j < count {
+        let plain = boundaries[NUMBERS_PER_BOUNDARY * j + 5] == 0;
+        if names_region(smaller[j], larger[j], r) & plain {
+            return j;
+        }
+        j += 1;
+    }
+    count
+}
+
+// The bridge of region r: it is not anchored, and its incidents are three full pairs without ramps.
+pub fn bridge_of(
+    boundaries: &[u64],
+    smaller: &[u32; 256],
+    larger: &[u32; 256],
+    counts: &[u32],
+    marks: &[u16],
+    count: usize,
+    regions: usize,
+    r: u32,
+) -> Bridge
+    requires { ⌜ Lent (now boundaries) (now smaller) (now larger) (now counts) (now marks) count regions ⌝ }
+    requires { ⌜ (1 ≤ r) × (r ≤ regions) ⌝ }
+    ensures { λ x. ⌜ bridgeForm r x ≡ isBridgeAt (now (boundaries .entry)) (now (smaller .entry)) (now (larger .entry)) (now (marks .entry)) r (now (counts .entry)) count ⌝ }
+{
+    if counts[r as usize - 1] != 3 {
+        return Bridge::None;
+    }
+    if anchored_bit(marks, r) == 1 {
+        return Bridge::None;
+    }
+    let i = next_port(boundaries, smaller, larger, count, r, 0);
+    let j = next_port(boundaries, smaller, larger, count, r, i + 1);
+    let k = next_port(boundaries, smaller, larger, count, r, j + 1);
+    if count <= k {
+        return Bridge::None;
+    }
+    if next_port(boundaries, smaller, larger, count, r, k + 1) < count {
+        return Bridge::None;
+    }
+    bridge_of_three(
+        boundaries, smaller, larger, marks, count, regions, r, i, j, k,
+    )
 }
