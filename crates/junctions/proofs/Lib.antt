@@ -9,3 +9,4 @@ pub mod Shapes
 pub mod BridgeTests
 pub mod FirstFound
 pub mod BridgeWalk
+pub mod RowLaws

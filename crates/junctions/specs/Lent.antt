@@ -3,7 +3,7 @@ use Prim.Native.Nat.{ℕ, _+_, _*_, _^_, _≤_, _<_}
 use mathlib.Core.Path.{_≡_}
 use mathlib.Core.List.{List}
 use lib.ListN.{length, getD}
-use Rattle.definitions.specs.Limits.{maxEntries, numbersPerBoundary}
+use Rattle.definitions.specs.Limits.{maxSide, maxEntries, numbersPerBoundary}
 use Rattle.definitions.specs.Grid.{segmentAt}
 use Rattle.definitions.specs.Context.{Context}
 use Rattle.laws.specs.FloatLaws.Pixels.{PixelSegment, PixelContext}
@@ -32,11 +32,13 @@ pub record Lent (boundaries smaller larger counts marks : List ℕ) (count regio
   pub pairs : LentPairs smaller larger count regions
   pub countsLong : regions ≤ length counts
   pub marksLong : regions ≤ length marks
+  pub labels : regions ≤ maxSide * maxSide
 
 -- the lists show the context C, which is one of a map
 pub record Shows (boundaries smaller larger counts marks : List ℕ) (count regions : ℕ) (C : Context) : Type 0 where
   pub counted : C .count ≡ count
   pub labelled : C .regions ≡ regions
+  pub labels : regions ≤ maxSide * maxSide
   pub bounds : ShownBoundaries C boundaries
   pub pairs : ShownFullPairs C smaller larger
   pub incidents : ShownIncidents C counts

@@ -3,3 +3,4 @@ pub mod distances;
 pub mod ports;
 pub mod unions;
 pub mod bridges;
+pub mod proposals;
