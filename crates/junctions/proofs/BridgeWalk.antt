@@ -3,7 +3,7 @@ use Prim.Native.Nat.{ℕ, suc, _-_, _≤_, _<_}
 use native.Mathlib.Omega.{arith}
 use mathlib.Core.Path.{_≡_, refl, sym, ap, ap₂, _∙_}
 use mathlib.Core.Bool.{Bool, true, false, not, _&&_, cond, false≢true, and-false}
-use mathlib.Core.Option.{Option, none}
+use mathlib.Core.Option.{Option, none, some}
 use mathlib.Core.List.{List, [], _∷_}
 use lib.ListN.{length, getD}
 use lib.Dec.{eqb}
@@ -17,6 +17,9 @@ use Rattle.junctions.specs.Ports.{names}
 use Rattle.junctions.specs.Unions.{markAt, noRampAt}
 use Rattle.junctions.specs.Bridges.{PortAt, isPocketPort, bridgeOfThree, bridgeOfList, isBridgeAt}
 use Rattle.junctions.proofs.FirstFound.{found}
+
+none≢some : {p : Proposal} → none ≡ some p → ⊥
+none≢some e = let z : _≡_ {A = ℕ} 0 1 = cc in omega arith
 
 pub bit-one : (b : Bool) → bit b ≡ 1 → b ≡ true
 bit-one true e = refl
@@ -70,3 +73,19 @@ module _ (boundaries smaller larger marks counts : List ℕ) (r count : ℕ) whe
     pub of-three : (i j k : ℕ) {o : Option Proposal} → ports ≡ i ∷ j ∷ k ∷ [] → o ≡ bridgeOfThree boundaries smaller larger marks r i j k → o ≡ whole
     unfolding bridgeOfList
     of-three i j k e h = h ∙ sym (ap (bridgeOfList boundaries smaller larger marks r) e) ∙ by-list
+
+  -- a bridge has three ports
+  pub bridge-ports : {p : Proposal} → whole ≡ some p → length ports ≡ 3
+  unfolding isBridgeAt bridgeOfList
+  bridge-ports {p} h = go (not (markAt marks r) && eqb (getD counts (r - 1) 0) 3) h
+    where
+      listed : (l : List ℕ) → bridgeOfList boundaries smaller larger marks r l ≡ some p → length l ≡ 3
+      listed [] e = absurd (none≢some e)
+      listed (i ∷ []) e = absurd (none≢some e)
+      listed (i ∷ j ∷ []) e = absurd (none≢some e)
+      listed (i ∷ j ∷ k ∷ []) e = refl
+      listed (i ∷ j ∷ k ∷ x ∷ l) e = absurd (none≢some e)
+
+      go : (b : Bool) → cond b (bridgeOfList boundaries smaller larger marks r ports) none ≡ some p → length ports ≡ 3
+      go true e = listed ports e
+      go false e = absurd (none≢some e)

@@ -10,3 +10,5 @@ pub mod BridgeTests
 pub mod FirstFound
 pub mod BridgeWalk
 pub mod RowLaws
+pub mod Counting
+pub mod BridgeIndex

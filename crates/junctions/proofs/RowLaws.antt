@@ -1,9 +1,9 @@
 -- Rows of proposals, put one behind the other. Assumes nothing.
-use Prim.Native.Nat.{ℕ, _+_, _*_, _<_}
+use Prim.Native.Nat.{ℕ, _+_, _*_, _≤_, _<_}
 use native.Mathlib.Omega.{arith}
 use mathlib.Core.Path.{_≡_, refl, sym, ap, ap₂, _∙_}
 use mathlib.Core.Bool.{Bool, true, false}
-use mathlib.Core.Option.{some}
+use mathlib.Core.Option.{Option, none, some}
 use mathlib.Core.List.{List, [], _∷_, _++_, append-nil}
 use lib.ListN.{length, getD, set, length-set}
 use lib.Seq.{getD-set-same, getD-set-other}
@@ -75,3 +75,20 @@ row-added l p h e t = h ∙ ap (λ x. l ++ toList (onlyIf x p)) (sym (sym e ∙ 
 
 pub row-left : (l : List Proposal) {a b : Bool} (p : Proposal) → b ≡ a → b ≡ false → l ≡ l ++ toList (onlyIf a p)
 row-left l p e t = sym (append-nil l) ∙ ap (λ x. l ++ toList (onlyIf x p)) (sym (sym e ∙ t))
+
+-- the same of a proposal that there may be
+pub proposal-added : (l : List Proposal) {m : List Proposal} (p : Proposal) {o : Option Proposal} → m ≡ l ++ (p ∷ []) → some p ≡ o → m ≡ l ++ toList o
+proposal-added l p h e = h ∙ ap (λ x. l ++ toList x) e
+
+pub proposal-left : (l : List Proposal) {o : Option Proposal} → none ≡ o → l ≡ l ++ toList o
+proposal-left l e = sym (append-nil l) ∙ ap (λ x. l ++ toList x) e
+
+-- room for it
+pub one-more : {p : Proposal} {o : Option Proposal} (n m : ℕ) → some p ≡ o → n + length (toList o) ≤ m → n < m
+one-more n m e h = omega (arith, h, ap (λ x. length (toList x)) e)
+
+pub one-longer : {p : Proposal} {o : Option Proposal} (n : ℕ) → some p ≡ o → n + 1 ≡ n + length (toList o)
+one-longer n e = ap (λ x. n + length (toList x)) e
+
+pub no-longer : {o : Option Proposal} (n : ℕ) → none ≡ o → n ≡ n + length (toList o)
+no-longer n e = omega (arith, ap (λ x. length (toList x)) e)

@@ -83,3 +83,68 @@ fn find_unions(
     }
     n
 }
+
+// The bridge of region r, if there is one.
+fn add_bridge(
+    boundaries: &[u64],
+    smaller: &[u32; 256],
+    larger: &[u32; 256],
+    counts: &[u32],
+    marks: &[u16],
+    count: usize,
+    regions: usize,
+    rows: &mut [u32],
+    n: usize,
+    r: u32,
+) -> usize
+    requires { ⌜ Lent (now boundaries) (now smaller) (now larger) (now counts) (now marks) count regions ⌝ }
+    requires { ⌜ (1 ≤ r) × (r ≤ regions) ⌝ }
+    requires { ⌜ n + length (toList (isBridgeAt (now boundaries) (now smaller) (now larger) (now marks) r (now counts) count)) ≤ maxProposals ⌝ }
+    requires { ⌜ numbersPerProposal * maxProposals ≤ length (now rows) ⌝ }
+    ensures { λ x. ⌜ rowsOf (now (rows .exit)) x ≡ rowsOf (now (rows .entry)) n ++ toList (isBridgeAt (now (boundaries .entry)) (now (smaller .entry)) (now (larger .entry)) (now (marks .entry)) r (now (counts .entry)) count) ⌝ }
+    ensures { λ x. ⌜ x ≡ n + length (toList (isBridgeAt (now (boundaries .entry)) (now (smaller .entry)) (now (larger .entry)) (now (marks .entry)) r (now (counts .entry)) count)) ⌝ }
+{
+    match bridge_of(boundaries, smaller, larger, counts, marks, count, regions, r) {
+        Bridge::At(index, exterior) => {
+            push_proposal(rows, n, index, 1, r, exterior);
+            n + 1
+        }
+        Bridge::None => n,
+    }
+}
+
+// All bridges, behind the first n rows.
+fn find_bridges(
+    boundaries: &[u64],
+    smaller: &[u32; 256],
+    larger: &[u32; 256],
+    counts: &[u32],
+    marks: &[u16],
+    count: usize,
+    regions: usize,
+    rows: &mut [u32],
+    unions: usize,
+) -> usize
+    requires { ⌜ Lent (now boundaries) (now smaller) (now larger) (now counts) (now marks) count regions ⌝ }
+    requires { ⌜ unions ≤ count ⌝ }
+    requires { ⌜ numbersPerProposal * maxProposals ≤ length (now rows) ⌝ }
+    ensures { λ x. ⌜ rowsOf (now (rows .exit)) x ≡ rowsOf (now (rows .entry)) unions ++ collect regions (λ k. isBridgeAt (now (boundaries .entry)) (now (smaller .entry)) (now (larger .entry)) (now (marks .entry)) (suc k) (now (counts .entry)) count) ⌝ }
+    ensures { λ x. ⌜ x ≤ maxProposals ⌝ }
+{
+    let mut n = unions;
+    for k in 0..regions {
+        n = add_bridge(
+            boundaries,
+            smaller,
+            larger,
+            counts,
+            marks,
+            count,
+            regions,
+            rows,
+            n,
+            (k + 1) as u32,
+        );
+    }
+    n
+}
