@@ -12,3 +12,4 @@ pub mod BridgeWalk
 pub mod RowLaws
 pub mod Counting
 pub mod BridgeIndex
+pub mod RankLaws

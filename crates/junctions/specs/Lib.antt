@@ -3,3 +3,4 @@ pub mod Lent
 pub mod Unions
 pub mod Bridges
 pub mod Rows
+pub mod Ranks

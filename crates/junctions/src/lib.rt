@@ -4,3 +4,4 @@ pub mod ports;
 pub mod unions;
 pub mod bridges;
 pub mod proposals;
+pub mod ranks;

@@ -9,7 +9,7 @@ ghost use Rattle.context.specs.Shown.{optionalPair};
 ghost use Rattle.junctions.specs.Ports.{sideOf, walkFits};
 
 // A number of a slice as an index: in a function of its own it asks for no proof that the element fits.
-fn wide(x: u32) -> usize
+pub fn wide(x: u32) -> usize
     ensures { λ r. ⌜ r ≡ x ⌝ }
 {
     x as usize

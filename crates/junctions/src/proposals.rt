@@ -11,7 +11,7 @@ ghost use Rattle.junctions.specs.Lent.{Lent};
 ghost use Rattle.junctions.specs.Bridges.{isBridgeAt};
 ghost use Rattle.junctions.specs.Rows.{maxProposals, numbersPerProposal, rowsOf, unionAt};
 
-const NUMBERS_PER_PROPOSAL: usize = 4;
+pub const NUMBERS_PER_PROPOSAL: usize = 4;
 
 // Puts a proposal behind the first n.
 fn push_proposal(
