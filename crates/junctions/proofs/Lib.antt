@@ -13,3 +13,5 @@ pub mod RowLaws
 pub mod Counting
 pub mod BridgeIndex
 pub mod RankLaws
+pub mod Insertion
+pub mod Sorting
