@@ -1,0 +1,17 @@
+pub mod Pairs
+pub mod Walk
+pub mod PortLaws
+pub mod Exteriors
+pub mod Near
+pub mod Literals
+pub mod Lists
+pub mod Shapes
+pub mod BridgeTests
+pub mod FirstFound
+pub mod BridgeWalk
+pub mod RowLaws
+pub mod Counting
+pub mod BridgeIndex
+pub mod RankLaws
+pub mod Insertion
+pub mod Sorting
