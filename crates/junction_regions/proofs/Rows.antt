@@ -1,10 +1,8 @@
 -- What `is_allowed` reads of a row and of the lists is what the context says. Assumes nothing.
-use Prim.Native.Nat.{ℕ, _+_, _*_, _<_}
-use native.Mathlib.Omega.{arith}
+use Prim.Native.Nat.{ℕ, _+_, _*_}
 use mathlib.Core.Path.{_≡_, sym, ap, ap₂, _∙_, subst⁻¹}
 use mathlib.Core.Bool.{Bool}
 use mathlib.Core.List.{List}
-use lib.ListN.{length}
 use lib.Dec.{eqb}
 use borrow.Author.Tests.{eq-eqb, ne-eqb}
 use Rattle.definitions.specs.Limits.{numbersPerBoundary}
@@ -28,17 +26,11 @@ module _ {C : Context} {boundaries marks rows : List ℕ} {k : ℕ} {first secon
   pub ends-are : {i : ℕ} {s : Segment} → i ≡ row .index → s ≡ segmentAt boundaries (numbersPerBoundary * i) → s ≡ C .boundary (row .index) .endpoints
   ends-are w e = e ∙ ap (λ i. segmentAt boundaries (numbersPerBoundary * i)) w ∙ sym (ap (λ b. b .endpoints) (h .told .bounds .at (row .index) (h .fits .index-in)))
 
-  pub row-long : {i : ℕ} → i ≡ row .index → numbersPerBoundary * i + 8 < length boundaries
-  row-long w = omega (arith, w, h .fits .index-in, h .told .bounds .long)
-
   pub row-pixels : {s : Segment} → s ≡ C .boundary (row .index) .endpoints → PixelSegment s
   row-pixels e = subst⁻¹ PixelSegment e (h .told .pixels .ends (row .index))
 
-  pub first-edges : PixelRegion (recordOf first)
-  first-edges = subst⁻¹ PixelRegion (h .first-is) (h .told .pixels .edges (row .first))
-
   pub first-on : OnMap (recordOf first)
-  first-on = record { edges = first-edges; counted = subst⁻¹ Counted (h .first-is) (h .told .counted (row .first)) }
+  first-on = record { edges = subst⁻¹ PixelRegion (h .first-is) (h .told .pixels .edges (row .first)); counted = subst⁻¹ Counted (h .first-is) (h .told .counted (row .first)) }
 
   pub second-on : OnMap (recordOf second)
   second-on =

@@ -3,9 +3,14 @@ ghost use mathlib.Core.Path.{_≡_};
 ghost use Prim.Native.Nat.{_<_};
 ghost use lib.ListN.{length, getD, set};
 ghost use Rattle.definitions.specs.Grid.{Map};
+ghost use Rattle.definitions.specs.Context.{Context};
 ghost use Rattle.context.specs.declared.Region.{Region};
 ghost use Rattle.topology.specs.Filled.{Fills, Filled};
+ghost use Rattle.topology.specs.Proposals.{Allows, Allowed};
 use context::Region;
+use junction_regions::first_place;
+use junction_regions::is_allowed;
+use junction_regions::second_place;
 use stretches::region_from;
 use stretches::walkable_count;
 
@@ -49,5 +54,26 @@ pub fn fill(
         put_record(records, i, s.region);
         from = s.next;
         i += 1;
+    }
+}
+
+// Which of the n proposals of pass 3 the records of their regions allow.
+pub fn allow_proposals(
+    records: &[Region],
+    boundaries: &[u64],
+    marks: &[u16],
+    rows: &[u32],
+    n: usize,
+    allowed: &mut [bool; 426],
+)
+    requires { ⌜ ((C : Context) × Allows C (now records) (now boundaries) (now marks) (now rows) n) ⌝ }
+    ensures { λ _. ⌜ ((C : Context) → Allows C (now (records .entry)) (now (boundaries .entry)) (now (marks .entry)) (now (rows .entry)) n → Allowed C (now (rows .entry)) n (now (allowed .exit))) ⌝ }
+{
+    let mut k = 0;
+    while k < n {
+        let first = record_at(records, first_place(rows, k));
+        let second = record_at(records, second_place(rows, k));
+        allowed[k] = is_allowed(boundaries, marks, rows, k, first, second);
+        k += 1;
     }
 }

@@ -1,0 +1,23 @@
+-- The words of the contract of `allow_proposals`. Definitions only; assumes nothing.
+use Prim.Native.Nat.{ℕ, _*_, _≤_, _<_}
+use mathlib.Core.Path.{_≡_}
+use mathlib.Core.Bool.{Bool, false}
+use mathlib.Core.List.{List}
+use lib.ListN.{length, getD}
+use Rattle.definitions.specs.Context.{Context}
+use Rattle.context.specs.declared.Region.{Region}
+use Rattle.junctions.specs.Rows.{maxProposals, numbersPerProposal, rowAt, RowFits, isAllowed}
+use Rattle.junction_regions.specs.Asked.{Told}
+use Rattle.topology.specs.Held.{HoldsRecords}
+
+-- n rows name boundaries and regions of C, which the lists and the records show
+pub record Allows (C : Context) (records : List Region) (boundaries marks rows : List ℕ) (n : ℕ) : Type 0 where
+  pub held : HoldsRecords C records
+  pub told : Told C boundaries marks
+  pub few : n ≤ maxProposals
+  pub whole : numbersPerProposal * n ≤ length rows
+  pub fits : (k : ℕ) → k < n → RowFits (C .count) (C .regions) (rowAt rows k)
+
+-- a mark for each of n rows says whether the records allow it
+abbrev pub Allowed : Context → List ℕ → ℕ → List Bool → Type 0
+Allowed C rows n allowed = (k : ℕ) → k < n → getD allowed k false ≡ isAllowed C (rowAt rows k)
