@@ -13,7 +13,7 @@ use junctions::proposals::NUMBERS_PER_PROPOSAL;
 use junctions::unions::anchored_bit;
 use span_geometry::PixelPosition;
 ghost use mathlib.Core.Path.{_≡_};
-ghost use Prim.Native.Nat.{_+_, _*_, _≤_, _<_};
+ghost use Prim.Native.Nat.{_+_, _-_, _*_, _≤_, _<_};
 ghost use lib.ListN.{length};
 ghost use Rattle.definitions.specs.Limits.{numbersPerBoundary};
 ghost use Rattle.definitions.specs.Grid.{segmentAt};
@@ -135,7 +135,7 @@ pub fn bridge_region(pocket: Region, a: PixelPosition, b: PixelPosition) -> bool
 pub fn first_place(rows: &[u32], k: usize) -> usize
     requires { ⌜ numbersPerProposal * k + 3 < length (now rows) ⌝ }
     requires { ⌜ 1 ≤ rowAt (now rows) k .first ⌝ }
-    ensures { λ r. ⌜ r + 1 ≡ rowAt (now (rows .entry)) k .first ⌝ }
+    ensures { λ r. ⌜ r ≡ rowAt (now (rows .entry)) k .first - 1 ⌝ }
 {
     wide(rows[NUMBERS_PER_PROPOSAL * k + 2]) - 1
 }
@@ -143,7 +143,7 @@ pub fn first_place(rows: &[u32], k: usize) -> usize
 pub fn second_place(rows: &[u32], k: usize) -> usize
     requires { ⌜ numbersPerProposal * k + 3 < length (now rows) ⌝ }
     requires { ⌜ 1 ≤ rowAt (now rows) k .second ⌝ }
-    ensures { λ r. ⌜ r + 1 ≡ rowAt (now (rows .entry)) k .second ⌝ }
+    ensures { λ r. ⌜ r ≡ rowAt (now (rows .entry)) k .second - 1 ⌝ }
 {
     wide(rows[NUMBERS_PER_PROPOSAL * k + 3]) - 1
 }

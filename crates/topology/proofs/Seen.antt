@@ -1,3 +1,4 @@
+pub mod allow_proposals
 pub mod fill
 pub mod put_record
 pub mod record_at

@@ -19,5 +19,6 @@ pub record Allows (C : Context) (records : List Region) (boundaries marks rows :
   pub fits : (k : ℕ) → k < n → RowFits (C .count) (C .regions) (rowAt rows k)
 
 -- a mark for each of n rows says whether the records allow it
-abbrev pub Allowed : Context → List ℕ → ℕ → List Bool → Type 0
-Allowed C rows n allowed = (k : ℕ) → k < n → getD allowed k false ≡ isAllowed C (rowAt rows k)
+pub record Allowed (C : Context) (rows : List ℕ) (n : ℕ) (allowed : List Bool) : Type 0 where
+  pub long : length allowed ≡ maxProposals
+  pub at : (k : ℕ) → k < n → getD allowed k false ≡ isAllowed C (rowAt rows k)

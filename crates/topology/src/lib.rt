@@ -5,6 +5,7 @@ ghost use lib.ListN.{length, getD, set};
 ghost use Rattle.definitions.specs.Grid.{Map};
 ghost use Rattle.definitions.specs.Context.{Context};
 ghost use Rattle.context.specs.declared.Region.{Region};
+ghost use Rattle.junctions.specs.Rows.{maxProposals};
 ghost use Rattle.topology.specs.Filled.{Fills, Filled};
 ghost use Rattle.topology.specs.Proposals.{Allows, Allowed};
 use context::Region;
@@ -67,6 +68,7 @@ pub fn allow_proposals(
     allowed: &mut [bool; 426],
 )
     requires { ⌜ ((C : Context) × Allows C (now records) (now boundaries) (now marks) (now rows) n) ⌝ }
+    requires { ⌜ length (now allowed) ≡ maxProposals ⌝ }
     ensures { λ _. ⌜ ((C : Context) → Allows C (now (records .entry)) (now (boundaries .entry)) (now (marks .entry)) (now (rows .entry)) n → Allowed C (now (rows .entry)) n (now (allowed .exit))) ⌝ }
 {
     let mut k = 0;
