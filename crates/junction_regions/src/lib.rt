@@ -75,13 +75,7 @@ pub fn within_span_radius(region: Region, a: PixelPosition, b: PixelPosition) ->
 // ---- the regions of a union and of a bridge; the boundary that would go runs from a to b
 
 // Whether both regions of a union are near: the boundary where exactly one of them is anchored, and else its center.
-fn is_local(
-    first: Region,
-    second: Region,
-    a: PixelPosition,
-    b: PixelPosition,
-    one: bool,
-) -> bool
+fn is_local(first: Region, second: Region, a: PixelPosition, b: PixelPosition, one: bool) -> bool
     requires { ⌜ PixelRegion (recordOf first) × (PixelRegion (recordOf second) × (InLimits a × InLimits b)) ⌝ }
     ensures { λ r. ⌜ r ≡ isLocal (recordOf first) (recordOf second) (segmentFrom a b) one ⌝ }
 {
