@@ -15,3 +15,4 @@ pub mod BridgeIndex
 pub mod RankLaws
 pub mod Insertion
 pub mod Sorting
+pub mod Conflicts

@@ -4,3 +4,4 @@ pub mod Unions
 pub mod Bridges
 pub mod Rows
 pub mod Ranks
+pub mod Taken
