@@ -16,3 +16,4 @@ pub mod RankLaws
 pub mod Insertion
 pub mod Sorting
 pub mod Conflicts
+pub mod Standings

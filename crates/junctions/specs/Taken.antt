@@ -7,8 +7,8 @@ use lib.ListN.{length, getD}
 use lib.Dec.{eqb}
 use Rattle.definitions.specs.Scan.{any}
 use Rattle.definitions.specs.Junctions.{Proposal}
-use Rattle.junctions.specs.Rows.{numbersPerProposal, rowAt}
-use Rattle.junctions.specs.Ranks.{orderOf, reservesAt}
+use Rattle.junctions.specs.Rows.{maxProposals, numbersPerProposal, rowAt}
+use Rattle.junctions.specs.Ranks.{orderOf, reservesAt, Rows}
 
 -- row p is whole, and there is a mark for each boundary
 pub record Within (rows : List ℕ) (removed reserved : List Bool) (count p : ℕ) : Type 0 where
@@ -17,3 +17,20 @@ pub record Within (rows : List ℕ) (removed reserved : List Bool) (count p : �
   pub removed-long : count ≤ length removed
   pub reserved-long : count ≤ length reserved
   pub index-in : rowAt rows p .index < count
+
+-- rows whose boundaries have marks, and room for those taken
+pub record Selecting (rows taken : List ℕ) (removed reserved : List Bool) (count n : ℕ) : Type 0 where
+  pub few : n ≤ maxProposals
+  pub whole : numbersPerProposal * n ≤ length rows
+  pub small : count ≤ 256
+  pub removed-long : count ≤ length removed
+  pub reserved-long : count ≤ length reserved
+  pub room : maxProposals ≤ length taken
+  pub below : (k : ℕ) → k < n → rowAt rows k .index < count
+
+-- the first t taken rows are `chosen`, and the marks are those of the boundaries that they remove and reserve
+pub record Standing (smaller larger rows taken : List ℕ) (removed reserved : List Bool) (count n t : ℕ) (chosen : List Proposal) : Type 0 where
+  pub are : orderOf rows taken t ≡ chosen
+  pub rows-in : Rows taken t n
+  pub removed-at : (j : ℕ) → j < count → getD removed j false ≡ any (λ q. eqb j (q .index)) chosen
+  pub reserved-at : (j : ℕ) → j < count → getD reserved j false ≡ any (λ q. reservesAt smaller larger q j) chosen

@@ -3,16 +3,16 @@ use crate::ports::names_region;
 use crate::ports::wide;
 use crate::proposals::NUMBERS_PER_PROPOSAL;
 ghost use mathlib.Core.Path.{_≡_};
-ghost use mathlib.Core.Bool.{true, false, _&&_, _||_, cond};
+ghost use mathlib.Core.Bool.{false, _&&_, _||_, cond};
 ghost use mathlib.Core.List.{List, [], _∷_, _++_};
 ghost use Prim.Native.Nat.{ℕ, _+_, _*_, _≤_, _<_};
 ghost use lib.ListN.{length, getD};
 ghost use lib.Dec.{eqb};
 ghost use Rattle.definitions.specs.Scan.{any, anyBelow};
-ghost use Rattle.definitions.specs.Junctions.{regionConflict};
+ghost use Rattle.definitions.specs.Junctions.{Proposal, regionConflict};
 ghost use Rattle.junctions.specs.Rows.{numbersPerProposal, rowAt};
-ghost use Rattle.junctions.specs.Ranks.{orderOf, reservesAt};
-ghost use Rattle.junctions.specs.Taken.{Within};
+ghost use Rattle.junctions.specs.Ranks.{orderOf, reservesAt, conflictAt, selectedOf, Rows};
+ghost use Rattle.junctions.specs.Taken.{Within, Selecting, Standing};
 
 // Whether row p reserves boundary j as a port.
 fn reserves(smaller: &[u32; 256], larger: &[u32; 256], rows: &[u32], p: usize, j: usize) -> bool
@@ -82,4 +82,105 @@ fn region_taken(rows: &[u32], taken: &[u32], n: usize, t: usize, p: usize) -> bo
         }
     }
     false
+}
+
+// Whether one of the first t taken rows conflicts with row p.
+fn is_refused(
+    smaller: &[u32; 256],
+    larger: &[u32; 256],
+    rows: &[u32],
+    removed: &[bool],
+    reserved: &[bool],
+    taken: &[u32],
+    count: usize,
+    n: usize,
+    t: usize,
+    p: usize,
+) -> bool
+    requires { ⌜ Selecting (now rows) (now taken) (now removed) (now reserved) count n ⌝ }
+    requires { ⌜ (t ≤ n) × (p < n) ⌝ }
+    requires { ⌜ Rows (now taken) t n ⌝ }
+    ensures { λ r. ⌜ ((chosen : List Proposal) → Standing (now (smaller .entry)) (now (larger .entry)) (now (rows .entry)) (now (taken .entry)) (now (removed .entry)) (now (reserved .entry)) count n t chosen → r ≡ any (λ q. conflictAt (now (smaller .entry)) (now (larger .entry)) count q (rowAt (now (rows .entry)) p)) chosen) ⌝ }
+{
+    let index = wide(rows[NUMBERS_PER_PROPOSAL * p]);
+    let own = reserved[index];
+    let ports = port_taken(smaller, larger, rows, removed, reserved, count, p);
+    ports | own | region_taken(rows, taken, n, t, p)
+}
+
+// Marks the ports of row p.
+fn reserve_ports(
+    smaller: &[u32; 256],
+    larger: &[u32; 256],
+    rows: &[u32],
+    reserved: &mut [bool],
+    count: usize,
+    p: usize,
+)
+    requires { ⌜ (numbersPerProposal * p + 3 < length (now rows)) × ((count ≤ 256) × (count ≤ length (now reserved))) ⌝ }
+    ensures { λ _. ⌜ ((j : ℕ) → j < count → getD (now (reserved .exit)) j false ≡ (getD (now (reserved .entry)) j false || reservesAt (now (smaller .entry)) (now (larger .entry)) (rowAt (now (rows .entry)) p) j)) ⌝ }
+{
+    for j in 0..count {
+        reserved[j] = reserved[j] | reserves(smaller, larger, rows, p, j);
+    }
+}
+
+// Takes row p, unless a taken row conflicts with it.
+fn take_if_free(
+    smaller: &[u32; 256],
+    larger: &[u32; 256],
+    rows: &[u32],
+    removed: &mut [bool],
+    reserved: &mut [bool],
+    taken: &mut [u32],
+    count: usize,
+    n: usize,
+    t: usize,
+    p: usize,
+) -> usize
+    requires { ⌜ Selecting (now rows) (now taken) (now removed) (now reserved) count n ⌝ }
+    requires { ⌜ (t < n) × (p < n) ⌝ }
+    requires { ⌜ Rows (now taken) t n ⌝ }
+    ensures { λ r. ⌜ ((chosen : List Proposal) → Standing (now (smaller .entry)) (now (larger .entry)) (now (rows .entry)) (now (taken .entry)) (now (removed .entry)) (now (reserved .entry)) count n t chosen → Standing (now (smaller .entry)) (now (larger .entry)) (now (rows .entry)) (now (taken .exit)) (now (removed .exit)) (now (reserved .exit)) count n r (cond (any (λ q. conflictAt (now (smaller .entry)) (now (larger .entry)) count q (rowAt (now (rows .entry)) p)) chosen) chosen (chosen ++ (rowAt (now (rows .entry)) p ∷ [])))) ⌝ }
+    ensures { λ r. ⌜ r ≤ t + 1 ⌝ }
+{
+    if is_refused(
+        smaller, larger, rows, removed, reserved, taken, count, n, t, p,
+    ) {
+        return t;
+    }
+    let index = wide(rows[NUMBERS_PER_PROPOSAL * p]);
+    removed[index] = true;
+    reserve_ports(smaller, larger, rows, reserved, count, p);
+    taken[t] = p as u32;
+    t + 1
+}
+
+// Takes the first m rows that the order names, one after the other, where they are free.
+fn select_ranked(
+    smaller: &[u32; 256],
+    larger: &[u32; 256],
+    rows: &[u32],
+    order: &[u32],
+    removed: &mut [bool],
+    reserved: &mut [bool],
+    taken: &mut [u32],
+    count: usize,
+    n: usize,
+    m: usize,
+)
+    requires { ⌜ Selecting (now rows) (now taken) (now removed) (now reserved) count n ⌝ }
+    requires { ⌜ (m ≤ n) × (m ≤ length (now order)) ⌝ }
+    requires { ⌜ Rows (now order) m n ⌝ }
+    requires { ⌜ ((j : ℕ) → j < count → getD (now removed) j false ≡ false) ⌝ }
+    requires { ⌜ ((j : ℕ) → j < count → getD (now reserved) j false ≡ false) ⌝ }
+    ensures { λ _. ⌜ ((j : ℕ) → j < count → getD (now (removed .exit)) j false ≡ any (λ q. eqb j (q .index)) (selectedOf (now (smaller .entry)) (now (larger .entry)) (now (rows .entry)) (now (order .entry)) count m)) ⌝ }
+{
+    let mut t = 0;
+    for k in 0..m {
+        let p = wide(order[k]);
+        t = take_if_free(
+            smaller, larger, rows, removed, reserved, taken, count, n, t, p,
+        );
+    }
 }
