@@ -1,7 +1,7 @@
 -- The state of the selection: what it refuses is what one of the chosen conflicts with, and what it becomes when one more is taken. Assumes nothing.
 use Prim.Native.Nat.{ℕ, _+_, _≤_, _<_}
 use native.Mathlib.Omega.{arith}
-use mathlib.Core.Path.{_≡_, refl, sym, ap, ap₂, _∙_}
+use mathlib.Core.Path.{_≡_, refl, sym, ap, ap₂, _∙_, subst}
 use mathlib.Core.Bool.{Bool, true, false, _&&_, _||_, cond, or-false, or-true}
 use mathlib.Core.Option.{some}
 use mathlib.Core.List.{List, [], _∷_, _++_}
@@ -21,6 +21,10 @@ use Rattle.junctions.specs.Rows.{rowAt}
 use Rattle.junctions.specs.Ranks.{orderOf, reservesAt, conflictAt, selectedOf, Rows}
 use Rattle.junctions.specs.Taken.{Standing}
 use Rattle.junctions.proofs.Conflicts.{removedBy, reservedBy, refused-is}
+
+-- what a selection has chosen, and one more
+abbrev pub grown : {A : Type 0} → (A → A → Bool) → List A → A → List A
+grown conflict l x = cond (any (λ q. conflict q x) l) l (l ++ (x ∷ []))
 
 -- ---- marks
 
@@ -78,7 +82,7 @@ module _ (smaller larger rows taken : List ℕ) (removed reserved : List Bool) (
       marks = below-ext count _ _ (λ j h. ap₂ (λ x y. reservesAt smaller larger (rowAt rows p) j && (x || y)) (st .removed-at j h) (st .reserved-at j h))
 
   -- row p is taken
-  pub standing-more : (p i : ℕ) (now : List Bool) → t < length taken → p < n → i ≡ rowAt rows p .index → i < length removed → ((j : ℕ) → j < count → getD now j false ≡ (getD reserved j false || reservesAt smaller larger (rowAt rows p) j)) → Standing smaller larger rows (set taken t p) (set removed i true) now count n (t + 1) (chosen ++ (rowAt rows p ∷ []))
+  standing-more : (p i : ℕ) (now : List Bool) → t < length taken → p < n → i ≡ rowAt rows p .index → i < length removed → ((j : ℕ) → j < count → getD now j false ≡ (getD reserved j false || reservesAt smaller larger (rowAt rows p) j)) → Standing smaller larger rows (set taken t p) (set removed i true) now count n (t + 1) (chosen ++ (rowAt rows p ∷ []))
   unfolding any
   standing-more p i now l lp e li m =
       record {
@@ -107,16 +111,22 @@ module _ (smaller larger rows taken : List ℕ) (removed reserved : List Bool) (
           getD-set-other removed i j true false (eqb-false j i q) ∙ st .removed-at j h
           ∙ sym (ap (λ b. any (λ q. eqb j (q .index)) chosen || b) q ∙ or-false (any (λ q. eqb j (q .index)) chosen)) ∙ found j
 
+  -- b is what `is_refused` returned of row p
+  pub standing-kept : (p : ℕ) {b : Bool} → b ≡ any (λ q. conflictAt smaller larger count q (rowAt rows p)) chosen → b ≡ true → Standing smaller larger rows taken removed reserved count n t (grown (conflictAt smaller larger count) chosen (rowAt rows p))
+  standing-kept p e h =
+      subst (λ (x : Bool). Standing smaller larger rows taken removed reserved count n t (cond x chosen (chosen ++ (rowAt rows p ∷ [])))) (sym h ∙ e) st
+
+  pub standing-taken : (p i : ℕ) (now : List Bool) {b : Bool} → b ≡ any (λ q. conflictAt smaller larger count q (rowAt rows p)) chosen → b ≡ false → t < length taken → p < n → i ≡ rowAt rows p .index → i < length removed → ((j : ℕ) → j < count → getD now j false ≡ (getD reserved j false || reservesAt smaller larger (rowAt rows p) j)) → Standing smaller larger rows (set taken t p) (set removed i true) now count n (t + 1) (grown (conflictAt smaller larger count) chosen (rowAt rows p))
+  standing-taken p i now e h l lp q li m =
+      subst (λ (x : Bool). Standing smaller larger rows (set taken t p) (set removed i true) now count n (t + 1) (cond x chosen (chosen ++ (rowAt rows p ∷ [])))) (sym h ∙ e) (standing-more p i now l lp q li m)
+
 -- ---- the selection, one after the other
 
 module _ {A : Type 0} (conflict : A → A → Bool) where
-  abbrev pub grown : List A → A → List A
-  grown l x = cond (any (λ q. conflict q x) l) l (l ++ (x ∷ []))
-
-  select-more : (acc l : List A) (x : A) → select conflict acc (l ++ (x ∷ [])) ≡ grown (select conflict acc l) x
+  select-more : (acc l : List A) (x : A) → select conflict acc (l ++ (x ∷ [])) ≡ grown conflict (select conflict acc l) x
   unfolding select
   select-more acc [] x = refl
-  select-more acc (y ∷ l) x = select-more (grown acc y) l x
+  select-more acc (y ∷ l) x = select-more (grown conflict acc y) l x
 
 pub selected-next : (smaller larger rows order : List ℕ) (count k : ℕ) → selectedOf smaller larger rows order count (k + 1) ≡ grown (conflictAt smaller larger count) (selectedOf smaller larger rows order count k) (rowAt rows (getD order k 0))
 unfolding selectedOf orderOf
