@@ -137,3 +137,6 @@ selected-next smaller larger rows order count k =
 pub standing-start : (smaller larger rows taken order : List ℕ) (removed reserved : List Bool) (count n : ℕ) → ((j : ℕ) → j < count → getD removed j false ≡ false) → ((j : ℕ) → j < count → getD reserved j false ≡ false) → Standing smaller larger rows taken removed reserved count n 0 (selectedOf smaller larger rows order count 0)
 unfolding selectedOf orderOf collect select any
 standing-start smaller larger rows taken order removed reserved count n a b = record { are = refl; rows-in = λ k h. absurd (omega arith); removed-at = a; reserved-at = b }
+
+pub standing-as : {smaller larger rows taken : List ℕ} {removed reserved : List Bool} {count n t : ℕ} {chosen others : List Proposal} → Standing smaller larger rows taken removed reserved count n t chosen → chosen ≡ others → Standing smaller larger rows taken removed reserved count n t others
+standing-as {smaller} {larger} {rows} {taken} {removed} {reserved} {count} {n} {t} st e = subst (λ (x : List Proposal). Standing smaller larger rows taken removed reserved count n t x) e st
