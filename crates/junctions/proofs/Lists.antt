@@ -1,10 +1,10 @@
 -- What the lists that are lent have at a boundary. Assumes nothing.
-use Prim.Native.Nat.{ℕ, _<_}
+use Prim.Native.Nat.{ℕ, zero, suc, _<_}
 use native.Mathlib.Omega.{arith}
-use mathlib.Core.Path.{_≡_}
-use mathlib.Core.Bool.{Bool}
+use mathlib.Core.Path.{_≡_, refl}
+use mathlib.Core.Bool.{Bool, false}
 use mathlib.Core.List.{List}
-use lib.ListN.{length}
+use lib.ListN.{length, getD, replicate}
 use Rattle.junctions.specs.Lent.{Placed, LentBoundaries}
 use Rattle.junctions.specs.Ranks.{Ranking}
 use Rattle.junctions.specs.Taken.{Selecting}
@@ -29,3 +29,9 @@ selecting-of taken removed reserved h a b c =
       room = omega (arith, h .room);
       below = h .below;
     }
+
+-- marks of which none is set
+pub none-set : (n j : ℕ) → getD (replicate n false) j false ≡ false
+none-set zero j = refl
+none-set (suc n) zero = refl
+none-set (suc n) (suc j) = none-set n j

@@ -1,7 +1,9 @@
 // `select_proposals`: a proposal is taken unless it conflicts with one taken before.
 use crate::ports::names_region;
 use crate::ports::wide;
+use crate::proposals::MAX_PROPOSALS;
 use crate::proposals::NUMBERS_PER_PROPOSAL;
+use crate::ranks::rank_proposals;
 ghost use mathlib.Core.Path.{_≡_};
 ghost use mathlib.Core.Bool.{false, _&&_, _||_, cond};
 ghost use mathlib.Core.List.{List, [], _∷_, _++_};
@@ -12,7 +14,7 @@ ghost use Rattle.definitions.specs.Scan.{any, anyBelow};
 ghost use Rattle.definitions.specs.Junctions.{Proposal, regionConflict};
 ghost use Rattle.junctions.specs.Rows.{numbersPerProposal, rowAt};
 ghost use Rattle.junctions.specs.Ranks.{orderOf, reservesAt, conflictAt, selectedOf, Rows};
-ghost use Rattle.junctions.specs.Taken.{Within, Selecting, Standing};
+ghost use Rattle.junctions.specs.Taken.{Within, Selecting, Standing, Judged, removedAt};
 
 // Whether row p reserves boundary j as a port.
 fn reserves(smaller: &[u32; 256], larger: &[u32; 256], rows: &[u32], p: usize, j: usize) -> bool
@@ -183,4 +185,36 @@ fn select_ranked(
             smaller, larger, rows, removed, reserved, taken, count, n, t, p,
         );
     }
+}
+
+// Marks the boundaries of the proposals that the greedy selection takes, of the rows that are allowed.
+pub fn select_proposals(
+    boundaries: &[u64],
+    smaller: &[u32; 256],
+    larger: &[u32; 256],
+    rows: &[u32],
+    verdicts: &[bool],
+    removed: &mut [bool],
+    count: usize,
+    n: usize,
+)
+    requires { ⌜ Judged (now boundaries) (now rows) (now verdicts) (now removed) count n ⌝ }
+    ensures { λ _. ⌜ ((j : ℕ) → j < count → getD (now (removed .exit)) j false ≡ removedAt (now (boundaries .entry)) (now (smaller .entry)) (now (larger .entry)) (now (rows .entry)) (now (verdicts .entry)) count n j) ⌝ }
+{
+    let mut order = [0u32; MAX_PROPOSALS];
+    let mut reserved = [false; 256];
+    let mut taken = [0u32; MAX_PROPOSALS];
+    let m = rank_proposals(boundaries, rows, verdicts, &mut order, count, n);
+    select_ranked(
+        smaller,
+        larger,
+        rows,
+        &order,
+        removed,
+        &mut reserved,
+        &mut taken,
+        count,
+        n,
+        m,
+    );
 }
