@@ -1,4 +1,11 @@
 -- The laws that the proofs of this crate share.
 pub mod Added
+pub mod AnchorSteps
+pub mod Counting
 pub mod Dominance
+pub mod FullPairs
+pub mod IncidentCounts
+pub mod IncidentWhole
 pub mod Ones
+pub mod PairStarts
+pub mod Rows

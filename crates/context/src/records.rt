@@ -1,12 +1,15 @@
 // A region's record by value: the empty record, one more cell, and what is asked of a record (RegionStats of context.rs; dominance and flatness of junctions.rs).
 use crate::Region;
+use geometry::Point;
 ghost use mathlib.Core.Path.{_≡_};
+ghost use mathlib.Core.List.{map};
 ghost use Prim.Native.Nat.{_*_, _≤_, _<_};
 ghost use Rattle.definitions.specs.Limits.{maxSide};
 ghost use Rattle.definitions.specs.Grid.{elevation, isRamp};
 ghost use Rattle.definitions.specs.Spans.{pixelsPerWalkCell};
 ghost use Rattle.definitions.specs.Geometry.{float};
-ghost use Rattle.definitions.specs.RegionRecord.{emptyRegion, better, mostCommonElevation, dominantElevation, strictlyFlat};
+ghost use Rattle.definitions.specs.RegionRecord.{emptyRegion, corners, better, mostCommonElevation, dominantElevation, strictlyFlat};
+ghost use Rattle.geometry.specs.Forms.{pointForm};
 ghost use Rattle.context.specs.Records.{recordOf, dominantOf, Counted, Fitting};
 ghost use Rattle.context.specs.Cells.{lesserEdge, greaterEdge, addCell};
 
@@ -93,6 +96,30 @@ impl Region {
             elevations: self.elevations | (1 << e),
             elevation_counts: counts,
         }
+    }
+
+    // In the Rust's order.
+    pub fn corners(self) -> [Point; 4]
+        ensures { λ r. ⌜ map pointForm r ≡ corners (recordOf self) ⌝ }
+    {
+        [
+            Point {
+                x: self.min_x,
+                y: self.min_y,
+            },
+            Point {
+                x: self.min_x,
+                y: self.max_y,
+            },
+            Point {
+                x: self.max_x,
+                y: self.min_y,
+            },
+            Point {
+                x: self.max_x,
+                y: self.max_y,
+            },
+        ]
     }
 
     // Which of two elevations has more cells; of equal counts the former.
