@@ -1,1 +1,4 @@
 pub mod Forms
+pub mod Representatives
+pub mod AtPoints
+pub mod Ends

@@ -6,7 +6,7 @@ ghost use Rattle.definitions.specs.Sort.{listLt};
 ghost use Rattle.geometry.specs.Forms.{segmentForm};
 use super::Segment;
 
-// The lesser endpoint first.
+// The lesser endpoint first. It serves for `canonical_boundary` too: what a boundary has besides endpoints stays in the lent list.
 pub fn canonical(s: Segment) -> Segment
     ensures { λ r. ⌜ segmentForm r ≡ canonical (segmentForm s) ⌝ }
 {

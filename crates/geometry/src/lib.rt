@@ -4,6 +4,7 @@
 pub mod endpoints;
 pub mod numbers;
 pub mod points;
+pub mod ramp_boundaries;
 
 use span_geometry::PixelPosition;
 

@@ -53,7 +53,7 @@ pub fn on_segment(a: PixelPosition, b: PixelPosition, point: PixelPosition) -> b
 }
 
 // Whether a point whose side is given lies on the segment.
-fn touches(side: i64, a: PixelPosition, b: PixelPosition, point: PixelPosition) -> bool
+pub fn touches(side: i64, a: PixelPosition, b: PixelPosition, point: PixelPosition) -> bool
     ensures { λ r. ⌜ r ≡ (isZero side && onSegment (pointOf a) (pointOf b) (pointOf point)) ⌝ }
 {
     is_zero(side) & on_segment(a, b, point)

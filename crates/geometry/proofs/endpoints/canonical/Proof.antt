@@ -1,5 +1,4 @@
 -- `endpoints::canonical` meets its contract: the two ways are the definition's two cases. Assumes nothing.
-use borrow.Author.Needs.{needs}
 use mathlib.Core.Path.{_≡_, sym, ap, _∙_}
 use mathlib.Core.Bool.{Bool, cond}
 use Rattle.definitions.specs.Grid.{Segment, positionLt, canonical}
@@ -8,7 +7,7 @@ use Rattle.geometry.proofs.endpoints.canonical.Statement.{statement}
 use Rattle.geometry.proofs.endpoints.canonical.Tie as tie
 
 precedes-requires : tie.Need-precedes-requires
-precedes-requires c κs = search needs
+precedes-requires c κs = tt
 
 by-test : (s : Segment) {t : Bool} → positionLt (s .b) (s .a) ≡ t → cond t (record { a = s .b; b = s .a }) s ≡ canonical s
 unfolding canonical

@@ -1,5 +1,4 @@
 -- `endpoints::precedes` meets its contract: two keys of four numbers compare as the positions in them do. Assumes nothing.
-use borrow.Author.Needs.{needs}
 use mathlib.Core.Path.{_≡_, refl, ap, _∙_}
 use mathlib.Core.Bool.{Bool, true, false, _&&_, _||_}
 use mathlib.Core.List.{[], _∷_}
@@ -12,16 +11,16 @@ use Rattle.geometry.proofs.endpoints.precedes.Statement.{statement}
 use Rattle.geometry.proofs.endpoints.precedes.Tie as tie
 
 canonical-requires : tie.Need-canonical-requires
-canonical-requires c κs = search needs
+canonical-requires c κs = tt
 
 canonical-requires-2 : tie.Need-canonical-requires-2
-canonical-requires-2 c κs = search needs
+canonical-requires-2 c κs = tt
 
 precedes-requires : tie.Need-precedes-requires
-precedes-requires c κs = search needs
+precedes-requires c κs = tt
 
 precedes-requires-2 : tie.Need-precedes-requires-2
-precedes-requires-2 c κs = search needs
+precedes-requires-2 c κs = tt
 
 -- the first endpoints of s are before those of t, or the same and the second are before
 abbrev before : Segment → Segment → Bool
@@ -59,7 +58,8 @@ returns c =
     let left = ends .before .canonical in
     let right = ends .canonical2 in
     let s = ends .before .before .args in
-    by-keys (segmentForm (s .s)) (segmentForm (s .t)) (segmentForm (left .result)) (segmentForm (right .result)) (left .ensures) (right .ensures) (c .before .before .before .before .before .precedes .ensures) (c .precedes2 .ensures)
+    by-keys (segmentForm (s .s)) (segmentForm (s .t)) (segmentForm (left .result)) (segmentForm (right .result)) (left .ensures) (right .ensures)
+    (c .before .before .before .before .before .precedes .ensures) (c .precedes2 .ensures)
 
 pub precedes-spec : {M : Type 1} → statement M
 precedes-spec =

@@ -7,7 +7,7 @@ use Rattle.geometry.proofs.numbers.hypot.Statement.{statement}
 use Rattle.geometry.proofs.numbers.hypot.Tie as tie
 
 hypotenuse-requires : tie.Need-hypotenuse-requires
-hypotenuse-requires c κs = search needs
+hypotenuse-requires c κs = tt
 
 enum-known-value : tie.Need-enum-known-value
 enum-known-value c = search needs

@@ -1,5 +1,4 @@
 -- `points::distance` meets its contract: in range the value of the hypotenuse is the distance. Assumes nothing.
-use borrow.Author.Needs.{needs}
 use mathlib.Core.Path.{_∙_}
 use Rattle.laws.specs.FloatLaws.DistanceRange.{distance-value}
 use Rattle.geometry.specs.Forms.{pointForm}
@@ -7,7 +6,7 @@ use Rattle.geometry.proofs.points.distance.Statement.{statement}
 use Rattle.geometry.proofs.points.distance.Tie as tie
 
 hypot-requires : tie.Need-hypot-requires
-hypot-requires c κs = search needs
+hypot-requires c κs = tt
 
 returns : tie.Need-returns
 returns c =

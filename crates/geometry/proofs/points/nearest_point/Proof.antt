@@ -1,11 +1,10 @@
 -- `points::nearest_point` meets its contract: the part is what `part_before` ensures. Assumes nothing.
-use borrow.Author.Needs.{needs}
 use lib.Ieee.{binary64, add, sub, mul}
 use Rattle.geometry.proofs.points.nearest_point.Statement.{statement}
 use Rattle.geometry.proofs.points.nearest_point.Tie as tie
 
 part-before-requires : tie.Need-part-before-requires
-part-before-requires c κs = search needs
+part-before-requires c κs = tt
 
 returns : tie.Need-returns
 returns c =

@@ -1,5 +1,4 @@
 -- `points::part_before` meets its contract: the test is the definition's. Assumes nothing.
-use borrow.Author.Needs.{needs}
 use mathlib.Core.Path.{_≡_, sym, ap, _∙_}
 use mathlib.Core.Bool.{Bool, cond}
 use lib.Ieee.{Float, binary64, eq, ofBits}
@@ -9,7 +8,7 @@ use Rattle.geometry.proofs.points.part_before.Statement.{statement}
 use Rattle.geometry.proofs.points.part_before.Tie as tie
 
 clamp01-requires : tie.Need-clamp01-requires
-clamp01-requires c κs = search needs
+clamp01-requires c κs = tt
 
 -- n is the square of the length, t the answer where that is not 0
 by-test : (n t : Float) {p : Bool} → eq n (ofBits binary64 0x0000000000000000) ≡ p → cond p (float 0) t ≡ cond (eq n (float 0)) (float 0) t

@@ -1,5 +1,4 @@
 -- `points::point_segment_distance` meets its contract: it is the distance to the nearest point. Assumes nothing.
-use borrow.Author.Needs.{needs}
 use mathlib.Core.Path.{_≡_, sym, ap, _∙_, subst⁻¹}
 use lib.Ieee.{Float}
 use Rattle.definitions.specs.Geometry.{Point, distance, pointSegmentDistance}
@@ -9,10 +8,10 @@ use Rattle.geometry.proofs.points.point_segment_distance.Statement.{sta
 use Rattle.geometry.proofs.points.point_segment_distance.Tie as tie
 
 nearest-point-requires : tie.Need-nearest-point-requires
-nearest-point-requires c κs = search needs
+nearest-point-requires c κs = tt
 
 distance-requires : tie.Need-distance-requires
-distance-requires c κs = search needs
+distance-requires c κs = tt
 
 -- q is the nearest point, d what `distance` answers
 from-nearest : (p a b q : Point) {d : Float} → q ≡ nearestPoint p a b → (DistanceInRange p q → d ≡ distance p q) → DistanceInRange p (nearestPoint p a b) → d ≡ pointSegmentDistance p a b

@@ -1,0 +1,38 @@
+-- `ramp_boundaries::normal_offset` meets its contract: the numbers are what `difference` ensures. Assumes nothing.
+use borrow.Author.Needs.{needs}
+use lib.Ieee.{binary64, sub}
+use Rattle.geometry.proofs.Quotients.{quotient-of}
+use Rattle.geometry.proofs.ramp_boundaries.normal_offset.Statement.{statement}
+use Rattle.geometry.proofs.ramp_boundaries.normal_offset.Tie as tie
+
+difference-requires : tie.Need-difference-requires
+difference-requires c κs = search needs
+
+difference-requires-2 : tie.Need-difference-requires-2
+difference-requires-2 c κs = search needs
+
+difference-requires-3 : tie.Need-difference-requires-3
+difference-requires-3 c κs = search needs
+
+difference-requires-4 : tie.Need-difference-requires-4
+difference-requires-4 c κs = search needs
+
+fabs-requires : tie.Need-fabs-requires
+fabs-requires c κs = tt
+
+returns : tie.Need-returns
+returns c =
+    let d = c .before in
+    quotient-of (sub binary64) (d .before .before .before .before .args .ramp-length) (d .before .before .before .difference .ensures) (d .before .before .difference2 .ensures)
+    (d .before .difference3 .ensures) (d .difference4 .ensures) (c .fabs .ensures)
+
+pub normal-offset-spec : {M : Type 1} → statement M
+normal-offset-spec =
+    tie.close
+    (tie.spec
+    difference-requires
+    difference-requires-2
+    difference-requires-3
+    difference-requires-4
+    fabs-requires
+    returns)
