@@ -17,3 +17,4 @@ pub mod Insertion
 pub mod Sorting
 pub mod Conflicts
 pub mod Standings
+pub mod Corners

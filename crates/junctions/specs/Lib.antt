@@ -5,3 +5,4 @@ pub mod Bridges
 pub mod Rows
 pub mod Ranks
 pub mod Taken
+pub mod Regions

@@ -6,3 +6,4 @@ pub mod bridges;
 pub mod proposals;
 pub mod ranks;
 pub mod selection;
+pub mod regions;
