@@ -18,3 +18,4 @@ pub mod Sorting
 pub mod Conflicts
 pub mod Standings
 pub mod Corners
+pub mod ShapeLaws
