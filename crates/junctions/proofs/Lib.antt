@@ -19,3 +19,5 @@ pub mod Conflicts
 pub mod Standings
 pub mod Corners
 pub mod ShapeLaws
+pub mod UnionRows
+pub mod BridgeRows
