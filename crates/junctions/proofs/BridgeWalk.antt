@@ -63,7 +63,7 @@ module _ (boundaries smaller larger marks counts : List ℕ) (r count : ℕ) whe
   is-anchored h = sym (ap (λ b. cond (not b && eqb (getD counts (r - 1) 0) 3) (bridgeOfList boundaries smaller larger marks r ports) none) h)
 
   module _ (three : getD counts (r - 1) 0 ≡ 3) (free : markAt marks r ≡ false) where
-    by-list : bridgeOfList boundaries smaller larger marks r ports ≡ whole
+    pub by-list : bridgeOfList boundaries smaller larger marks r ports ≡ whole
     unfolding isBridgeAt
     by-list = sym (ap₂ (λ a b. cond (not a && b) (bridgeOfList boundaries smaller larger marks r ports) none) free (eq-eqb (getD counts (r - 1) 0) 3 three))
 

@@ -15,3 +15,9 @@ pub mod BridgeIndex
 pub mod RankLaws
 pub mod Insertion
 pub mod Sorting
+pub mod Conflicts
+pub mod Standings
+pub mod Corners
+pub mod ShapeLaws
+pub mod UnionRows
+pub mod BridgeRows

@@ -4,3 +4,5 @@ pub mod Unions
 pub mod Bridges
 pub mod Rows
 pub mod Ranks
+pub mod Taken
+pub mod Regions

@@ -5,3 +5,5 @@ pub mod unions;
 pub mod bridges;
 pub mod proposals;
 pub mod ranks;
+pub mod selection;
+pub mod regions;

@@ -12,6 +12,8 @@ ghost use Rattle.junctions.specs.Bridges.{isBridgeAt};
 ghost use Rattle.junctions.specs.Rows.{maxProposals, numbersPerProposal, rowsOf, unionAt};
 
 pub const NUMBERS_PER_PROPOSAL: usize = 4;
+// 256 unions, and 170 bridges: a pocket has three full pairs, and a full pair names two regions.
+pub const MAX_PROPOSALS: usize = 426;
 
 // Puts a proposal behind the first n.
 fn push_proposal(
