@@ -21,3 +21,5 @@ pub mod Corners
 pub mod ShapeLaws
 pub mod UnionRows
 pub mod BridgeRows
+pub mod Proposing
+pub mod Removing

@@ -4,12 +4,14 @@ use crate::bridges::bridge_of;
 use crate::unions::is_union;
 ghost use mathlib.Core.Path.{_≡_};
 ghost use mathlib.Core.List.{[], _∷_, _++_};
-ghost use Prim.Native.Nat.{suc, _+_, _*_, _≤_, _<_};
+ghost use Prim.Native.Nat.{ℕ, suc, _+_, _*_, _≤_, _<_};
 ghost use lib.ListN.{length};
-ghost use Rattle.definitions.specs.Scan.{collect, toList};
-ghost use Rattle.junctions.specs.Lent.{Lent};
+ghost use Rattle.definitions.specs.Scan.{collect, toList, filter};
+ghost use Rattle.definitions.specs.Context.{Context};
+ghost use Rattle.definitions.specs.Junctions.{proposals};
+ghost use Rattle.junctions.specs.Lent.{Lent, Shows};
 ghost use Rattle.junctions.specs.Bridges.{isBridgeAt};
-ghost use Rattle.junctions.specs.Rows.{maxProposals, numbersPerProposal, rowsOf, unionAt};
+ghost use Rattle.junctions.specs.Rows.{maxProposals, numbersPerProposal, rowAt, rowsOf, unionAt, isAllowed, RowFits};
 
 pub const NUMBERS_PER_PROPOSAL: usize = 4;
 // 256 unions, and 170 bridges: a pocket has three full pairs, and a full pair names two regions.
@@ -149,4 +151,29 @@ fn find_bridges(
         );
     }
     n
+}
+
+// All rows: of them those that the records of their regions allow are the proposals.
+pub fn find_proposals(
+    boundaries: &[u64],
+    smaller: &[u32; 256],
+    larger: &[u32; 256],
+    counts: &[u32],
+    marks: &[u16],
+    count: usize,
+    regions: usize,
+    rows: &mut [u32],
+) -> usize
+    requires { ⌜ Lent (now boundaries) (now smaller) (now larger) (now counts) (now marks) count regions ⌝ }
+    requires { ⌜ numbersPerProposal * maxProposals ≤ length (now rows) ⌝ }
+    ensures { λ r. ⌜ r ≤ maxProposals ⌝ }
+    ensures { λ r. ⌜ ((k : ℕ) → k < r → RowFits count regions (rowAt (now (rows .exit)) k)) ⌝ }
+    ensures { λ r. ⌜ ((C : Context) → Shows (now (boundaries .entry)) (now (smaller .entry)) (now (larger .entry)) (now (counts .entry)) (now (marks .entry)) count regions C → filter (isAllowed C) (rowsOf (now (rows .exit)) r) ≡ proposals C) ⌝ }
+{
+    let unions = find_unions(
+        boundaries, smaller, larger, counts, marks, count, regions, rows,
+    );
+    find_bridges(
+        boundaries, smaller, larger, counts, marks, count, regions, rows, unions,
+    )
 }
