@@ -172,3 +172,10 @@ module _ (C : Context) (smaller larger counts : List ℕ) (pairs : ShownFullPair
       port-is h j l =
           let tests = both (fits (p .lo)) (fits (p .hi)) h in
           ap₂ (λ a b. not (eqb j i) && (a || b)) (fits-names (p .lo) low (omega arith) (tests .0) j l) (fits-names (p .hi) (omega arith) high (tests .1) j l)
+
+      -- and so for each of the two regions
+      pub region-ports : walkFits smaller larger counts (C .count) i p ≡ true → (j : ℕ) → j < C .count → (isIncident C j (p .lo) ≡ names smaller larger (p .lo) j) × (isIncident C j (p .hi) ≡ names smaller larger (p .hi) j)
+      unfolding walkFits allBelow
+      region-ports h j l =
+          let tests = both (fits (p .lo)) (fits (p .hi)) h in
+          (fits-names (p .lo) low (omega arith) (tests .0) j l, fits-names (p .hi) (omega arith) high (tests .1) j l)
