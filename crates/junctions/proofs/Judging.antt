@@ -1,24 +1,24 @@
 -- Verdicts: what is found of two records by value is what the definition asks of the context's records. Assumes nothing.
-use Prim.Native.Nat.{ℕ, _+_, _*_, _≤_, _<_}
+use Prim.Native.Nat.{ℕ, _+_, _*_}
 use native.Mathlib.Omega.{arith}
-use mathlib.Core.Path.{_≡_, refl, sym, ap, ap₂, _∙_, subst}
-use mathlib.Core.Bool.{Bool, true, false, cond}
+use mathlib.Core.Path.{_≡_, sym, ap, ap₂, _∙_, subst}
+use mathlib.Core.Bool.{Bool, cond}
 use mathlib.Core.List.{List}
 use lib.Dec.{eqb}
 use borrow.Author.Tests.{eq-eqb, ne-eqb}
 use Rattle.definitions.specs.Limits.{numbersPerBoundary}
 use Rattle.definitions.specs.Scan.{bit}
-use Rattle.definitions.specs.Grid.{Segment, Pair, segmentAt, boundaryAt}
+use Rattle.definitions.specs.Grid.{Segment, segmentAt}
 use Rattle.definitions.specs.RegionRecord.{Region}
 use Rattle.definitions.specs.Context.{Context}
 use Rattle.definitions.specs.Junctions.{Proposal, anchoredRegions, unionRegions}
 use Rattle.laws.specs.FloatLaws.Pixels.{PixelSegment}
-use Rattle.laws.specs.FloatLaws.PassRange.{PassInRange, context-in-range}
+use Rattle.laws.specs.FloatLaws.PassRange.{context-in-range}
 use Rattle.span_geometry.specs.Shapes.{InLimits}
 use Rattle.geometry.specs.declared.Segment as declared
 use Rattle.geometry.specs.Forms.{segmentForm}
 use Rattle.junctions.specs.Lent.{Seen}
-use Rattle.junctions.specs.Unions.{markAt, marksOf}
+use Rattle.junctions.specs.Unions.{marksOf}
 use Rattle.junctions.specs.Regions.{CornersInRange, areLocal, areFlat, unionOf, bridgeOf}
 use Rattle.junctions.specs.Rows.{RowFits, bridgeRegion, isAllowed}
 

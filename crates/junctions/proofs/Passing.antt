@@ -1,20 +1,17 @@
 -- The pass, put together from what its three parts ensure: the rows that are found, a verdict for each, and the marks that the selection leaves. Assumes nothing.
-use Prim.Native.Nat.{ℕ, _*_, _≤_, _<_}
+use Prim.Native.Nat.{ℕ, _≤_, _<_}
 use native.Mathlib.Omega.{arith}
-use mathlib.Core.Path.{_≡_, refl, sym, ap, ap₂, _∙_}
-use mathlib.Core.Bool.{Bool, true, false, not}
-use mathlib.Core.Option.{Option, some}
+use mathlib.Core.Path.{_≡_, sym, ap, _∙_}
+use mathlib.Core.Bool.{Bool, false, not}
+use mathlib.Core.Option.{some}
 use mathlib.Core.List.{List}
-use lib.ListN.{length, getD}
-use lib.Dec.{eqb}
+use lib.ListN.{getD}
 use borrow.Author.Tests.{ne-eqb}
-use Rattle.definitions.specs.Scan.{filter, member, toList, onlyIf}
-use Rattle.definitions.specs.Grid.{Pair, segmentAt, boundaryAt}
+use Rattle.definitions.specs.Scan.{filter, member, onlyIf}
 use Rattle.definitions.specs.Context.{Context, fullPair}
 use Rattle.definitions.specs.Junctions.{proposals, removed}
-use Rattle.laws.specs.ListLaws.Lists.{All, done, more}
 use Rattle.laws.specs.RustJunctions.FormedProposals.{full-all}
-use Rattle.junctions.specs.Lent.{LentBoundaries, LentPairs, Lent, Shows}
+use Rattle.junctions.specs.Lent.{Lent, Shows, Seen}
 use Rattle.junctions.specs.Rows.{rowAt, rowsOf, isAllowed}
 use Rattle.junctions.specs.Taken.{removedAt}
 use Rattle.junctions.proofs.UnionRows.{of-some}
@@ -54,3 +51,7 @@ shows-lent {boundaries} {smaller} {larger} {count} {regions} {C} S =
         let ordered = of-some (full-all C (λ q. q .lo < q .hi) i (S .sound .ordered i)) own in
         let labelled = of-some (full-all C (λ q. (1 ≤ q .lo) × (q .hi ≤ C .regions)) i (S .sound .labelled i)) own in
         (ordered, omega (arith, labelled .1, S .labelled))
+
+-- and the part of it that verdicts rest on
+pub shows-seen : {boundaries smaller larger counts marks : List ℕ} {count regions : ℕ} {C : Context} → Shows boundaries smaller larger counts marks count regions C → Seen boundaries marks count regions C
+shows-seen S = record { counted = S .counted; labelled = S .labelled; bounds = S .bounds; anchored = S .anchored; pixels = S .pixels }

@@ -19,7 +19,7 @@ use Rattle.laws.specs.ListLaws.Below.{count-ext, below-none, all-below-at}
 use Rattle.laws.specs.ListLaws.ScansOfAll.{all-ext, all-and}
 use Rattle.laws.specs.ListLaws.ScanSteps.{count-same, all-intro, any-fails-at}
 use Rattle.context.specs.Shown.{ShownFullPairs, ShownIncidents}
-use Rattle.junctions.specs.Ports.{sideOf, names, isFit, isUnfit, regionFits, walkFits, isPort}
+use Rattle.junctions.specs.Ports.{names, isFit, isUnfit, regionFits, walkFits, isPort}
 
 -- ---- full pairs and incidents
 

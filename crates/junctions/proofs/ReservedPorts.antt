@@ -1,16 +1,14 @@
 -- Every proposal of the definitions reserves, as its ports, full pairs that name its regions: the walk of a union went through, and the ports of a pocket are full pairs.
 -- Assumes that the lists show a context of a map.
 use Prim.Native.Nat.{ℕ, suc, _≤_, _<_}
-use native.Mathlib.Omega.{arith}
 use mathlib.Core.Path.{_≡_, refl, sym, ap, ap₂, _∙_}
-use mathlib.Core.Bool.{Bool, true, false, not, _&&_, _||_, cond, false≢true}
+use mathlib.Core.Bool.{Bool, true, false, not, _&&_, _||_, cond}
 use mathlib.Core.Option.{Option, none, some}
-use mathlib.Core.List.{List, [], _∷_}
-use lib.ListN.{getD}
+use mathlib.Core.List.{List}
 use lib.Dec.{eqb, ltb, leb}
-use Rattle.definitions.specs.Scan.{all, allBelow, countBelow, collect, toList, onlyIf}
-use Rattle.definitions.specs.Grid.{Pair, contains}
-use Rattle.definitions.specs.Context.{Context, fullPair, holds, isIncident, noRamp}
+use Rattle.definitions.specs.Scan.{all, allBelow, countBelow, onlyIf}
+use Rattle.definitions.specs.Grid.{Pair}
+use Rattle.definitions.specs.Context.{Context, fullPair, isIncident, noRamp}
 use Rattle.definitions.specs.Junctions.{Proposal, isSome, isUnionPort, isNewExterior, anchoredRegions, isNearPort, isWidest, portsFit, unionShape, unionRegions, unionFrom, unionProposal, portsOf, portExterior, bridgeFits, bridgeAt, isTwiceAsWide, isShared, pickBridge, bridgeOfPorts, bridgeProposal, isReservedPort, proposals}
 use Rattle.laws.specs.ListLaws.Lists.{All, done, more, all-append}
 use Rattle.laws.specs.ListLaws.Tests.{both, same-test}

@@ -13,16 +13,8 @@ use Rattle.junctions.specs.Unions.{markAt}
 use Rattle.junctions.specs.Rows.{rowAt}
 use Rattle.junctions.proofs.Judging.{limits, union-judged, bridge-judged}
 use borrow.Author.Needs.{needs}
-use borrow.Author.Needs.{needs}
 use Rattle.junctions.proofs.regions.proposal_fits.Statement.{statement}
 use Rattle.junctions.proofs.regions.proposal_fits.Tie as tie
-use Rattle.junctions.proofs.regions.proposal_fits.Reads as reads
-use Rattle.junctions.proofs.regions.proposal_fits.Lts as lts
-use Rattle.junctions.proofs.ports.wide.Reads as wide-reads
-use Rattle.junctions.proofs.ranks.segment_of.Reads as segment-of-reads
-use Rattle.junctions.proofs.regions.bridge_region.Reads as bridge-region-reads
-use Rattle.junctions.proofs.regions.union_regions.Reads as union-regions-reads
-use Rattle.junctions.proofs.unions.anchored_bit.Reads as anchored-bit-reads
 
 mul-at : tie.Need-mul-at
 mul-at c = search needs
