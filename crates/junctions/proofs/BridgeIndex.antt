@@ -3,11 +3,11 @@ use Prim.Native.Nat.{ℕ, _-_, _≤_, _<_}
 use native.Mathlib.Omega.{arith}
 use mathlib.Core.Path.{_≡_, refl, sym, subst}
 use mathlib.Core.Bool.{Bool, true, false, not, _&&_}
-use mathlib.Core.Option.{Option, none, some}
-use mathlib.Core.List.{List, [], _∷_}
+use mathlib.Core.Option.{Option, some}
+use mathlib.Core.List.{List}
 use lib.ListN.{getD}
 use lib.Dec.{eqb}
-use Rattle.definitions.specs.Scan.{collect, onlyIf, toList}
+use Rattle.definitions.specs.Scan.{onlyIf, toList}
 use Rattle.definitions.specs.Junctions.{Proposal}
 use Rattle.laws.specs.ListLaws.Lists.{All, done, more}
 use Rattle.laws.specs.ListLaws.ScansOfAll.{collect-below}

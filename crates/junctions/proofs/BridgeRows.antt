@@ -1,20 +1,19 @@
 -- The bridges that the code finds, of which the records allow some, are the definition's. The argument: as many full pairs without ramp name the pocket as it has
 -- incidents, three, exactly where all its three ports are such; then the ports, the regions beyond them and the tests are the same. Assumes that the lists show a context of a map.
-use Prim.Native.Nat.{ℕ, _-_, _*_, _+_, _≤_, _<_}
-use native.Mathlib.Omega.{arith}
+use Prim.Native.Nat.{ℕ, _-_, _≤_, _<_}
 use mathlib.Core.Path.{_≡_, refl, sym, ap, ap₂, _∙_}
-use mathlib.Core.Bool.{Bool, true, false, not, _&&_, _||_, cond, true≢false, false≢true, and-true}
+use mathlib.Core.Bool.{Bool, true, false, not, _&&_, _||_, cond, true≢false}
 use mathlib.Core.Option.{Option, none, some}
 use mathlib.Core.List.{List, [], _∷_}
 use lib.ListN.{length, getD}
 use lib.Dec.{eqb}
 use lib.Ieee.{binary64, le, mul, ofBits}
 use borrow.Author.Tests.{eqb-true, eqb-false}
-use Rattle.definitions.specs.Scan.{all, allBelow, countBelow, collect, filter, toList, onlyIf}
+use Rattle.definitions.specs.Scan.{all, allBelow, filter, toList, onlyIf}
 use Rattle.definitions.specs.Grid.{Pair, contains}
 use Rattle.definitions.specs.Geometry.{float, center}
 use Rattle.definitions.specs.RegionRecord.{strictlyFlat}
-use Rattle.definitions.specs.Context.{Context, fullPair, holds, otherRegion, isIncident, incidentCount, noRamp, width}
+use Rattle.definitions.specs.Context.{Context, fullPair, holds, isIncident, incidentCount, noRamp, width}
 use Rattle.definitions.specs.Junctions.{Proposal, isSome, beyond, isNearPort, withinRadius, portsOf, portExterior, isShared, isTwiceAsWide, bridgeFits, bridgeAt, pickBridge, bridgeOfPorts, bridgeProposal}
 use Rattle.laws.specs.ListLaws.Lists.{All, done, more}
 use Rattle.laws.specs.ListLaws.Tests.{both, same-test}
@@ -22,11 +21,11 @@ use Rattle.laws.specs.ListLaws.Below.{all-below-at}
 use Rattle.laws.specs.ListLaws.Scans.{collect-ext, picked-length}
 use Rattle.laws.specs.ListLaws.ScansOfAll.{collect-below}
 use Rattle.laws.specs.ListLaws.ScanSteps.{count-same, all-intro}
-use Rattle.laws.specs.SetLaws.Sets.{numbersBelow, below-all, below-pass, all-below}
+use Rattle.laws.specs.SetLaws.Sets.{numbersBelow, all-below}
 use Rattle.laws.specs.RustJunctions.FormedProposals.{full-all}
 use Rattle.junctions.specs.Lent.{Shows}
 use Rattle.junctions.specs.Ports.{names}
-use Rattle.junctions.specs.Unions.{widthAt, noRampAt, isNear, markAt}
+use Rattle.junctions.specs.Unions.{noRampAt, isNear, markAt}
 use Rattle.junctions.specs.Bridges.{beyondAt, isTwiceAt, isSharedAt, nearAt, pickAt, isPocketPort, bridgeOfThree, bridgeOfList, isBridgeAt}
 use Rattle.junctions.specs.Rows.{bridgeRegion, isAllowed}
 use Rattle.junctions.proofs.PortLaws.{full-incident, named-incident, names-is}

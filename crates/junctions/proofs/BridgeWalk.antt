@@ -1,5 +1,5 @@
 -- What `bridge_of` returns, by the tests that led there, is the bridge of the pocket. Assumes nothing.
-use Prim.Native.Nat.{ℕ, suc, _-_, _≤_, _<_}
+use Prim.Native.Nat.{ℕ, _-_, _≤_, _<_}
 use native.Mathlib.Omega.{arith}
 use mathlib.Core.Path.{_≡_, refl, sym, ap, ap₂, _∙_}
 use mathlib.Core.Bool.{Bool, true, false, not, _&&_, cond, false≢true, and-false}
@@ -9,7 +9,7 @@ use lib.ListN.{length, getD}
 use lib.Dec.{eqb}
 use borrow.Author.Tests.{eq-eqb, ne-eqb, eqb-false}
 use Rattle.definitions.specs.Scan.{bit, onlyIf}
-use Rattle.definitions.specs.Grid.{Pair, contains}
+use Rattle.definitions.specs.Grid.{contains}
 use Rattle.definitions.specs.Context.{holds}
 use Rattle.definitions.specs.Junctions.{Proposal}
 use Rattle.laws.specs.ListLaws.Tests.{both}

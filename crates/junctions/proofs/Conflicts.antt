@@ -1,13 +1,12 @@
 -- Conflicts of proposals as the code finds them: regions by the kinds of two proposals, one after the other among those taken, and ports by marks. Assumes nothing.
-use Prim.Native.Nat.{ℕ, zero, suc, _+_, _<_}
+use Prim.Native.Nat.{ℕ, zero, suc, _<_}
 use native.Mathlib.Omega.{arith}
-use mathlib.Core.Path.{_≡_, refl, sym, ap, ap₂, _∙_}
+use mathlib.Core.Path.{_≡_, refl, ap, _∙_}
 use mathlib.Core.Bool.{Bool, true, false, _&&_, _||_, and-false}
-use mathlib.Core.Option.{some}
-use mathlib.Core.List.{List, [], _∷_}
+use mathlib.Core.List.{List, _∷_}
 use lib.ListN.{getD}
 use lib.Dec.{eqb}
-use Rattle.definitions.specs.Scan.{any, anyBelow, collect}
+use Rattle.definitions.specs.Scan.{any, anyBelow}
 use Rattle.definitions.specs.Junctions.{Proposal, namesRegion, regionConflict}
 use Rattle.laws.specs.ListLaws.Disjunction.{disjunction, or-middle}
 use Rattle.laws.specs.ListLaws.Lists.{All, done, more}

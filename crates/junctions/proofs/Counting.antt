@@ -2,11 +2,11 @@
 -- boundaries. The count is one of pairs (region, boundary), made in both orders. Assumes nothing.
 use Prim.Native.Nat.{ℕ, zero, suc, _+_, _*_, _≤_, _<_}
 use native.Mathlib.Omega.{arith}
-use mathlib.Core.Path.{_≡_, refl, sym, ap, ap₂, _∙_}
-use mathlib.Core.Bool.{Bool, true, false, _&&_, _||_, true≢false}
+use mathlib.Core.Path.{_≡_, refl, sym, ap₂, _∙_}
+use mathlib.Core.Bool.{Bool, true, false, _||_, true≢false}
 use mathlib.Core.Option.{Option, none, some}
-use mathlib.Core.List.{List, []}
-use lib.ListN.{length, getD, length-append}
+use mathlib.Core.List.{List}
+use lib.ListN.{length, length-append}
 use lib.Dec.{eqb}
 use borrow.Author.Tests.{eqb-true}
 use Rattle.definitions.specs.Scan.{countBelow, collect, toList, bit}

@@ -6,12 +6,11 @@ use native.Mathlib.Nat.{le-antisymm}
 use mathlib.Core.Path.{_≡_, refl, sym, ap, ap₂, _∙_, subst}
 use mathlib.Core.Bool.{Bool, true, false, not, _&&_, _||_, true≢false, false≢true, or-false, or-true, and-false}
 use mathlib.Core.List.{List}
-use lib.ListN.{getD}
 use lib.Dec.{eqb, ltb, leb}
-use borrow.Author.Tests.{eq-eqb, ne-eqb, eqb-true, le-leb, lt-leb, ltb-true, ltb-false}
+use borrow.Author.Tests.{eq-eqb, ne-eqb, eqb-true, le-leb, ltb-true, ltb-false}
 use Rattle.definitions.specs.Scan.{anyBelow, countBelow}
 use Rattle.definitions.specs.Grid.{Pair}
-use Rattle.laws.specs.ListLaws.ScanSteps.{any-next, any-none, count-in, count-out}
+use Rattle.laws.specs.ListLaws.ScanSteps.{any-next, count-in, count-out}
 use Rattle.junctions.specs.Ports.{isPort}
 use Rattle.junctions.specs.Unions.{isFound, Found, exteriorAt, leadsTo, leadsAnew}
 use Rattle.junctions.specs.declared.unions.Exteriors.{Exteriors}

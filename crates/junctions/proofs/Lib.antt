@@ -23,3 +23,6 @@ pub mod UnionRows
 pub mod BridgeRows
 pub mod Proposing
 pub mod Removing
+pub mod ReservedPorts
+pub mod Passing
+pub mod Judging

@@ -1,5 +1,4 @@
 -- What is asked of a full pair that may be missing. Assumes nothing.
-use Prim.Native.Nat.{ℕ}
 use mathlib.Core.Path.{_≡_, refl}
 use mathlib.Core.Bool.{Bool, true, false, _&&_}
 use Rattle.definitions.specs.Scan.{onlyIf}

@@ -1,16 +1,16 @@
 -- The rows that are found, of which the records allow some, are the proposals of the context that the lists show. Assumes nothing.
-use Prim.Native.Nat.{ℕ, zero, suc, _+_, _≤_, _<_}
+use Prim.Native.Nat.{ℕ, zero, suc, _≤_, _<_}
 use native.Mathlib.Omega.{arith}
 use mathlib.Core.Path.{_≡_, refl, sym, ap, ap₂, _∙_}
-use mathlib.Core.Bool.{Bool, true, false, not, _&&_}
-use mathlib.Core.Option.{Option, none, some}
+use mathlib.Core.Bool.{Bool, true, false, not}
+use mathlib.Core.Option.{Option, some}
 use mathlib.Core.List.{List, _++_}
 use lib.ListN.{getD}
 use lib.Dec.{eqb, ltb}
 use borrow.Author.Tests.{ltb-true, ltb-false, eqb-false}
 use Rattle.definitions.specs.Scan.{collect, filter, toList, onlyIf}
 use Rattle.definitions.specs.Context.{Context}
-use Rattle.definitions.specs.Junctions.{Proposal, unionProposal, bridgeProposal, proposals}
+use Rattle.definitions.specs.Junctions.{unionProposal, bridgeProposal, proposals}
 use Rattle.laws.specs.ListLaws.Lists.{All, done, more, all-append, all-split, filter-append}
 use Rattle.laws.specs.ListLaws.ScansOfAll.{collect-below}
 use Rattle.laws.specs.ListLaws.Options.{on-list}

@@ -1,28 +1,21 @@
 -- What the selection over rows removes is what the definitions remove. The argument: every incident of a region whose ports a proposal reserves is a full pair, so
 -- that proposals reserve the same ports; keys are the same; so the ranks, the conflicts and the selection are. Assumes that the lists show a context of a map.
-use Prim.Native.Nat.{ℕ, suc, _+_, _*_, _≤_, _<_}
-use native.Mathlib.Omega.{arith}
+use Prim.Native.Nat.{ℕ, _<_}
 use mathlib.Core.Path.{_≡_, refl, sym, ap, ap₂, _∙_}
-use mathlib.Core.Bool.{Bool, true, false, not, _&&_, _||_, cond, true≢false, false≢true}
-use mathlib.Core.Option.{Option, none, some}
+use mathlib.Core.Bool.{Bool, true, false, _||_, _&&_}
+use mathlib.Core.Option.{some}
 use mathlib.Core.List.{List, [], _∷_, _++_, map}
 use lib.ListN.{getD}
 use lib.Dec.{eqb}
-use Rattle.definitions.specs.Limits.{numbersPerBoundary}
-use Rattle.definitions.specs.Scan.{any, all, anyBelow, allBelow, member, collect, filter, toList, onlyIf}
+use Rattle.definitions.specs.Scan.{any, member, filter, toList, onlyIf}
 use Rattle.definitions.specs.Sort.{sort, select, listLt}
-use Rattle.definitions.specs.Grid.{Pair, boundaryAt}
-use Rattle.definitions.specs.Context.{Context, fullPair, isIncident, noRamp}
-use Rattle.definitions.specs.Junctions.{Proposal, isSome, boundaryKey, tieKey, regionConflict, portsFit, unionShape, unionRegions, unionFrom, unionProposal, portsOf, portExterior, bridgeFits, bridgeAt, isTwiceAsWide, isShared, pickBridge, bridgeOfPorts, bridgeProposal, isReservedPort, key, ranksBefore, conflict, proposals, ranked, taken, removed}
-use Rattle.laws.specs.ListLaws.Lists.{All, done, more, all-append}
-use Rattle.laws.specs.ListLaws.Tests.{both}
+use Rattle.definitions.specs.Context.{Context}
+use Rattle.definitions.specs.Junctions.{Proposal, boundaryKey, tieKey, regionConflict, isReservedPort, key, ranksBefore, conflict, proposals, ranked, taken, removed}
+use Rattle.laws.specs.ListLaws.Lists.{All, done}
 use Rattle.laws.specs.ListLaws.Below.{below-ext}
-use Rattle.laws.specs.ListLaws.ScansOfAll.{collect-below}
-use Rattle.laws.specs.ListLaws.Options.{OnO, absent, present, on-only, on-cond, on-list}
 use Rattle.laws.specs.OrderLaws.StableSort.{all-sort, map-sort}
 use Rattle.laws.specs.OrderLaws.Selection.{map-select}
 use Rattle.junctions.specs.Lent.{Shows}
-use Rattle.junctions.specs.Ports.{names}
 use Rattle.junctions.specs.Rows.{rowAt, rowsOf, isAllowed}
 use Rattle.junctions.specs.Ranks.{keyAt, ranksAt, allowedOf, reservesAt, conflictAt}
 use Rattle.junctions.specs.Taken.{removedAt}

@@ -1,18 +1,17 @@
 -- The shape of a union read off the lists is `unionShape`. The argument: where the walk goes through, the ports are the full pairs that name one of the two regions
 -- (PortLaws), so that each scan over ports is the same scan; three exteriors make three ports; widths compare as their bits. Assumes that the lists show a context of a map.
-use Prim.Native.Nat.{ℕ, _+_, _*_, _≤_, _<_}
+use Prim.Native.Nat.{ℕ, _+_, _≤_, _<_}
 use native.Mathlib.Omega.{arith}
 use mathlib.Core.Path.{_≡_, refl, sym, ap, ap₂, _∙_}
-use mathlib.Core.Bool.{Bool, true, false, not, _&&_, _||_, and-true, and-false, false≢true}
-use mathlib.Core.Option.{Option, none, some}
+use mathlib.Core.Bool.{Bool, true, false, not, _&&_, _||_, and-true, false≢true}
+use mathlib.Core.Option.{some}
 use mathlib.Core.List.{List}
 use lib.ListN.{getD}
 use lib.Dec.{eqb, ltb, leb}
 use lib.Ieee.{le}
 use borrow.Author.Tests.{ne-eqb, leb-true, le-leb}
-use Rattle.definitions.specs.Limits.{numbersPerBoundary}
 use Rattle.definitions.specs.Scan.{anyBelow, allBelow, countBelow, bit, onlyIf}
-use Rattle.definitions.specs.Grid.{Pair, contains, boundaryAt, segmentAt}
+use Rattle.definitions.specs.Grid.{Pair, contains}
 use Rattle.definitions.specs.Geometry.{center}
 use Rattle.definitions.specs.Context.{Context, fullPair, holds, noRamp, width}
 use Rattle.definitions.specs.Junctions.{exteriorOf, withinDistance, maxPortDistancePixels, isUnionPort, isNewExterior, anchoredRegions, isNearPort, portsFit, isWidest, unionShape}
@@ -24,7 +23,7 @@ use Rattle.laws.specs.FloatLaws.KeysAsBits.{le-ofBits}
 use Rattle.context.specs.Shown.{optionalPair}
 use Rattle.junctions.specs.Lent.{Shows}
 use Rattle.junctions.specs.Ports.{pairOf, names, isPort, walkFits}
-use Rattle.junctions.specs.Unions.{exteriorAt, leadsTo, leadsAnew, widthAt, noRampAt, isNear, markAt, marksOf, passesAt, portsPass, shapeAt, isUnionAt}
+use Rattle.junctions.specs.Unions.{exteriorAt, leadsTo, leadsAnew, widthAt, noRampAt, isNear, markAt, marksOf, passesAt, portsPass, shapeAt}
 use Rattle.junctions.proofs.PortLaws.{walk-is, port-is}
 
 -- a pair that is there

@@ -1,6 +1,5 @@
 -- The shape of a union, as `is_union` finds it: test by test, each return says what the whole test says. Assumes nothing.
 use Prim.Native.Nat.{ℕ, _≤_, _<_}
-use native.Mathlib.Omega.{arith}
 use mathlib.Core.Path.{_≡_, refl, sym, ap, _∙_}
 use mathlib.Core.Bool.{Bool, true, false, not, _&&_, true≢false, false≢true}
 use mathlib.Core.List.{List}

@@ -7,8 +7,8 @@ use mathlib.Core.Option.{some}
 use mathlib.Core.List.{List, [], _∷_, _++_}
 use lib.ListN.{length, getD, set}
 use lib.Seq.{getD-set-same, getD-set-other}
-use lib.Dec.{eqb, ltb}
-use borrow.Author.Tests.{eqb-true, eqb-false, eq-eqb, ltb-true, ltb-false}
+use lib.Dec.{eqb}
+use borrow.Author.Tests.{eqb-true, eqb-false}
 use Rattle.definitions.specs.Scan.{any, anyBelow, collect}
 use Rattle.definitions.specs.Sort.{select}
 use Rattle.definitions.specs.Junctions.{Proposal, regionConflict}

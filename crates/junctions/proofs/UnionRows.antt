@@ -1,22 +1,20 @@
 -- The unions that the code finds, of which the records allow some, are the definition's. Assumes that the lists show a context of a map.
 use Prim.Native.Nat.{ℕ, _≤_, _<_}
-use mathlib.Core.Path.{_≡_, refl, sym, ap, ap₂, _∙_}
+use mathlib.Core.Path.{_≡_, refl, sym, ap, _∙_}
 use mathlib.Core.Bool.{Bool, true, false, not, _&&_, cond}
-use mathlib.Core.Option.{Option, none, some}
+use mathlib.Core.Option.{Option, some}
 use mathlib.Core.List.{List, [], _∷_}
 use lib.ListN.{getD}
 use lib.Dec.{eqb}
-use borrow.Author.Tests.{eqb-true, eqb-false}
 use Rattle.definitions.specs.Scan.{filter, toList, onlyIf}
 use Rattle.definitions.specs.Grid.{Pair}
 use Rattle.definitions.specs.Context.{Context, fullPair}
-use Rattle.definitions.specs.Junctions.{Proposal, unionShape, unionRegions, unionFrom, unionProposal}
+use Rattle.definitions.specs.Junctions.{Proposal, unionRegions, unionFrom, unionProposal}
 use Rattle.laws.specs.ListLaws.Lists.{All, done, more}
 use Rattle.laws.specs.RustJunctions.FormedProposals.{full-all}
-use Rattle.context.specs.Shown.{optionalPair}
 use Rattle.junctions.specs.Lent.{Shows}
 use Rattle.junctions.specs.Unions.{shapeAt, isUnionAt}
-use Rattle.junctions.specs.Rows.{unionAt, bridgeRegion, isAllowed}
+use Rattle.junctions.specs.Rows.{unionAt, isAllowed}
 use Rattle.junctions.proofs.ShapeLaws.{shape-is}
 
 pub filter-only : {A : Type 0} (f : A → Bool) (b : Bool) (x : A) → filter f (toList (onlyIf b x)) ≡ toList (onlyIf (b && f x) x)

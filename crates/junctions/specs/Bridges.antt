@@ -6,7 +6,7 @@ use mathlib.Core.Option.{Option, none, some}
 use mathlib.Core.List.{List, [], _∷_}
 use lib.ListN.{getD}
 use lib.Dec.{eqb}
-use lib.Ieee.{Float, binary64, le, mul, ofBits}
+use lib.Ieee.{binary64, le, mul, ofBits}
 use Rattle.definitions.specs.Scan.{collect, onlyIf}
 use Rattle.definitions.specs.Geometry.{float}
 use Rattle.definitions.specs.Context.{otherRegion}

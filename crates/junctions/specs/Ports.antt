@@ -1,15 +1,14 @@
 -- The ports of regions, read off the lists of full pairs. Definitions only; assumes nothing.
-use Prim.Native.Nat.{ℕ, _+_, _-_, _*_}
+use Prim.Native.Nat.{ℕ, _-_}
 use mathlib.Core.Bool.{Bool, not, _&&_, _||_, cond}
 use mathlib.Core.Option.{Option}
 use mathlib.Core.List.{List}
 use lib.ListN.{getD}
-use lib.Dec.{eqb, leb}
-use Rattle.definitions.specs.Limits.{numbersPerBoundary}
+use lib.Dec.{eqb}
 use Rattle.definitions.specs.Scan.{allBelow, anyBelow, countBelow}
 use Rattle.definitions.specs.Grid.{Pair, contains}
 use Rattle.definitions.specs.Context.{holds}
-use Rattle.definitions.specs.Junctions.{fitsUnion, exteriorOf}
+use Rattle.definitions.specs.Junctions.{fitsUnion}
 use Rattle.context.specs.Shown.{optionalPair}
 
 -- the first region of a union, then the second

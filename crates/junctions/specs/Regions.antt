@@ -1,7 +1,7 @@
 -- What a proposal asks of region records by value: `unionRegions` and the record's part of `bridgeFits` of Junctions.antt. Definitions only; assumes nothing.
 use mathlib.Core.Bool.{Bool, not, _&&_, _||_, cond}
 use Rattle.definitions.specs.Grid.{Segment}
-use Rattle.definitions.specs.Geometry.{Point, center}
+use Rattle.definitions.specs.Geometry.{center}
 use Rattle.definitions.specs.RegionRecord.{Region, corners, dominantElevation, bothSame, strictlyFlat}
 use Rattle.definitions.specs.Junctions.{withinRadius, withinSpanRadius}
 use Rattle.laws.specs.ListLaws.Lists.{All}

@@ -6,13 +6,12 @@ use mathlib.Core.Option.{Option, some}
 use mathlib.Core.List.{List}
 use lib.ListN.{getD}
 use lib.Dec.{eqb}
-use Rattle.definitions.specs.Scan.{collect, onlyIf, filter}
+use Rattle.definitions.specs.Scan.{collect, onlyIf}
 use Rattle.definitions.specs.Geometry.{center}
 use Rattle.definitions.specs.RegionRecord.{strictlyFlat}
 use Rattle.definitions.specs.Context.{Context}
-use Rattle.definitions.specs.Junctions.{Proposal, withinRadius, unionRegions, proposals}
+use Rattle.definitions.specs.Junctions.{Proposal, withinRadius, unionRegions}
 use Rattle.junctions.specs.Unions.{isUnionAt}
-use Rattle.junctions.specs.Bridges.{isBridgeAt}
 
 -- at most 256 unions, and 170 bridges: a pocket has three full pairs, and a full pair names two regions
 abbrev pub maxProposals : ℕ
@@ -60,9 +59,3 @@ pub record RowFits (count regions : ℕ) (p : Proposal) : Type 0 where
   pub first-to : p .first ≤ regions
   pub second-from : 1 ≤ p .second
   pub second-to : p .second ≤ regions
-
--- of n rows, those that the records allow are the proposals of C
-pub record Proposed (C : Context) (rows : List ℕ) (n : ℕ) : Type 0 where
-  pub few : n ≤ maxProposals
-  pub fits : (k : ℕ) → k < n → RowFits (C .count) (C .regions) (rowAt rows k)
-  pub are : filter (isAllowed C) (rowsOf rows n) ≡ proposals C

@@ -4,7 +4,7 @@ use geometry::points::center;
 use geometry::points::distance;
 use span_geometry::PixelPosition;
 ghost use mathlib.Core.Path.{_≡_};
-ghost use Prim.Native.Nat.{_*_, _<_};
+ghost use Prim.Native.Nat.{_*_};
 ghost use Rattle.definitions.specs.Limits.{numbersPerBoundary};
 ghost use Rattle.definitions.specs.Grid.{segmentAt};
 ghost use Rattle.definitions.specs.Geometry.{center};

@@ -1,5 +1,9 @@
 // What a proposal asks of region records, by value.
 use crate::distances::within_distance;
+use crate::ports::wide;
+use crate::proposals::NUMBERS_PER_PROPOSAL;
+use crate::ranks::segment_of;
+use crate::unions::anchored_bit;
 use context::Region;
 use context::records::Dominant;
 use geometry::Point;
@@ -8,6 +12,9 @@ use geometry::points::point;
 use geometry::points::point_segment_distance;
 use span_geometry::PixelPosition;
 ghost use mathlib.Core.Path.{_≡_};
+ghost use Prim.Native.Nat.{_+_, _*_, _≤_, _<_};
+ghost use lib.ListN.{length};
+ghost use Rattle.definitions.specs.Context.{Context};
 ghost use Rattle.definitions.specs.RegionRecord.{corners, dominantElevation, bothSame};
 ghost use Rattle.definitions.specs.Junctions.{withinRadius, withinSpanRadius};
 ghost use Rattle.laws.specs.ListLaws.Lists.{All};
@@ -16,6 +23,8 @@ ghost use Rattle.laws.specs.FloatLaws.PassRange.{SegmentInRange};
 ghost use Rattle.span_geometry.specs.Shapes.{InLimits};
 ghost use Rattle.geometry.specs.Forms.{pointForm, segmentFrom};
 ghost use Rattle.context.specs.Records.{recordOf, Counted};
+ghost use Rattle.junctions.specs.Lent.{LentBoundaries, Seen};
+ghost use Rattle.junctions.specs.Rows.{numbersPerProposal, rowAt, isAllowed, RowFits};
 ghost use Rattle.junctions.specs.Regions.{CornersInRange, areLocal, areFlat, unionOf, bridgeOf};
 
 const MAX_UNION_RADIUS_PIXELS: f64 = 512.0;
@@ -111,4 +120,32 @@ pub fn bridge_region(pocket: Region, a: PixelPosition, b: PixelPosition) -> bool
     let plain = !pocket.has_ramp;
     let near = within_radius(pocket, middle);
     plain & (near & pocket.is_strictly_flat(pocket))
+}
+
+// Whether the records of its regions allow row k. Of a bridge the second record is not asked.
+pub fn proposal_fits(
+    boundaries: &[u64],
+    rows: &[u32],
+    marks: &[u16],
+    count: usize,
+    regions: usize,
+    k: usize,
+    first: Region,
+    second: Region,
+) -> bool
+    requires { ⌜ LentBoundaries (now boundaries) count ⌝ }
+    requires { ⌜ (numbersPerProposal * k + 3 < length (now rows)) × (regions ≤ length (now marks)) ⌝ }
+    requires { ⌜ RowFits count regions (rowAt (now rows) k) ⌝ }
+    requires { ⌜ Counted (recordOf first) × Counted (recordOf second) ⌝ }
+    ensures { λ r. ⌜ ((C : Context) → Seen (now (boundaries .entry)) (now (marks .entry)) count regions C → recordOf first ≡ C .region (rowAt (now (rows .entry)) k .first) → recordOf second ≡ C .region (rowAt (now (rows .entry)) k .second) → r ≡ isAllowed C (rowAt (now (rows .entry)) k)) ⌝ }
+{
+    let at = NUMBERS_PER_PROPOSAL * k;
+    let ends = segment_of(boundaries, wide(rows[at]));
+    let a = ends.a;
+    let b = ends.b;
+    if rows[at + 1] == 0 {
+        let anchored = anchored_bit(marks, rows[at + 2]) + anchored_bit(marks, rows[at + 3]);
+        return union_regions(first, second, a, b, anchored == 1);
+    }
+    bridge_region(first, a, b)
 }

@@ -2,13 +2,8 @@
 use Rattle.junctions.proofs.BridgeTests.{all-near, not-near}
 use Rattle.junctions.proofs.Lists.{placed}
 use borrow.Author.Needs.{needs}
-use borrow.Author.Needs.{needs}
 use Rattle.junctions.proofs.bridges.bridge_if_near.Statement.{statement}
 use Rattle.junctions.proofs.bridges.bridge_if_near.Tie as tie
-use Rattle.junctions.proofs.bridges.bridge_if_near.Reads as reads
-use Rattle.junctions.proofs.bridges.bridge_if_near.Lts as lts
-use Rattle.junctions.proofs.bridges.region_beyond.Reads as region-beyond-reads
-use Rattle.junctions.proofs.distances.is_near_port.Reads as is-near-port-reads
 
 is-near-port-requires : tie.Need-is-near-port-requires
 is-near-port-requires c κs = (placed (c .before .pre .0) (c .before .pre .1 .0), placed (c .before .pre .0) (c .before .pre .1 .0))

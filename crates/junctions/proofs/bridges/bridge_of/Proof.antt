@@ -9,14 +9,8 @@ use Rattle.junctions.specs.Bridges.{isPocketPort}
 use Rattle.junctions.proofs.FirstFound.{in-order, three-found, less-found, more-found}
 use Rattle.junctions.proofs.BridgeWalk.{bit-one, bit-other, port-at, other-count, is-anchored, other-length, of-three}
 use borrow.Author.Needs.{needs}
-use borrow.Author.Needs.{needs}
 use Rattle.junctions.proofs.bridges.bridge_of.Statement.{statement}
 use Rattle.junctions.proofs.bridges.bridge_of.Tie as tie
-use Rattle.junctions.proofs.bridges.bridge_of.Reads as reads
-use Rattle.junctions.proofs.bridges.bridge_of.Lts as lts
-use Rattle.junctions.proofs.bridges.bridge_of_three.Reads as bridge-of-three-reads
-use Rattle.junctions.proofs.bridges.next_port.Reads as next-port-reads
-use Rattle.junctions.proofs.unions.anchored_bit.Reads as anchored-bit-reads
 
 -- the lists that are lent
 module _ (s : tie.Start) where

@@ -2,14 +2,8 @@
 use mathlib.Core.Path.{refl}
 use Rattle.junctions.specs.Bridges.{bridgeOfThree}
 use Rattle.junctions.proofs.BridgeTests.{chosen, passed}
-use borrow.Author.Needs.{needs}
-use borrow.Author.Needs.{needs}
 use Rattle.junctions.proofs.bridges.bridge_of_three.Statement.{statement}
 use Rattle.junctions.proofs.bridges.bridge_of_three.Tie as tie
-use Rattle.junctions.proofs.bridges.bridge_of_three.Reads as reads
-use Rattle.junctions.proofs.bridges.bridge_of_three.Lts as lts
-use Rattle.junctions.proofs.bridges.is_shared.Reads as is-shared-reads
-use Rattle.junctions.proofs.bridges.pick_bridge.Reads as pick-bridge-reads
 
 is-shared-requires : tie.Need-is-shared-requires
 is-shared-requires c κs = (((c .before .before .pre .0 .few, c .before .before .pre .1 .1 .0), (c .before .before .pre .1 .0, (c .before .before .pre .1 .1 .1 .0, (c .before .before .pre .1 .1 .1 .1 .0, c .before .before .pre .1 .1 .1 .1 .1)))))

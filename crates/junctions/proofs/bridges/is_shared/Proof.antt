@@ -8,13 +8,8 @@ use Rattle.junctions.specs.Unions.{markAt}
 use Rattle.junctions.specs.Bridges.{isSharedAt}
 use Rattle.junctions.proofs.BridgeTests.{bit-is-one, beyond-within}
 use borrow.Author.Needs.{needs}
-use borrow.Author.Needs.{needs}
 use Rattle.junctions.proofs.bridges.is_shared.Statement.{statement}
 use Rattle.junctions.proofs.bridges.is_shared.Tie as tie
-use Rattle.junctions.proofs.bridges.is_shared.Reads as reads
-use Rattle.junctions.proofs.bridges.is_shared.Lts as lts
-use Rattle.junctions.proofs.bridges.region_beyond.Reads as region-beyond-reads
-use Rattle.junctions.proofs.unions.anchored_bit.Reads as anchored-bit-reads
 
 mul-region-beyond : tie.Need-mul-region-beyond
 mul-region-beyond c = search needs

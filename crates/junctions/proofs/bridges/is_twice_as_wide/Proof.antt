@@ -7,11 +7,8 @@ use Rattle.junctions.specs.Unions.{widthAt}
 use Rattle.junctions.specs.Bridges.{isTwiceAt}
 use Rattle.junctions.proofs.Literals.{two-is}
 use borrow.Author.Needs.{needs}
-use borrow.Author.Needs.{needs}
 use Rattle.junctions.proofs.bridges.is_twice_as_wide.Statement.{statement}
 use Rattle.junctions.proofs.bridges.is_twice_as_wide.Tie as tie
-use Rattle.junctions.proofs.bridges.is_twice_as_wide.Reads as reads
-use Rattle.junctions.proofs.bridges.is_twice_as_wide.Lts as lts
 
 mul-width : tie.Need-mul-width
 mul-width c = search needs

@@ -11,9 +11,6 @@ use Rattle.junctions.proofs.FirstFound.{NoneFrom, none-more}
 use borrow.Author.Needs.{needs}
 use Rattle.junctions.proofs.bridges.next_port.Statement.{statement}
 use Rattle.junctions.proofs.bridges.next_port.Tie as tie
-use Rattle.junctions.proofs.bridges.next_port.Reads as reads
-use Rattle.junctions.proofs.bridges.next_port.Lts as lts
-use Rattle.junctions.proofs.ports.names_region.Reads as names-region-reads
 
 abbrev Inv-loop : tie.InvT-loop
 Inv-loop boundaries smaller larger count r from j₀ j =

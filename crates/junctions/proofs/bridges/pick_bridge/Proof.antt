@@ -2,14 +2,8 @@
 use mathlib.Core.Path.{refl}
 use Rattle.junctions.specs.Bridges.{pickAt}
 use Rattle.junctions.proofs.BridgeTests.{chosen, passed}
-use borrow.Author.Needs.{needs}
-use borrow.Author.Needs.{needs}
 use Rattle.junctions.proofs.bridges.pick_bridge.Statement.{statement}
 use Rattle.junctions.proofs.bridges.pick_bridge.Tie as tie
-use Rattle.junctions.proofs.bridges.pick_bridge.Reads as reads
-use Rattle.junctions.proofs.bridges.pick_bridge.Lts as lts
-use Rattle.junctions.proofs.bridges.bridge_if_near.Reads as bridge-if-near-reads
-use Rattle.junctions.proofs.bridges.is_twice_as_wide.Reads as is-twice-as-wide-reads
 
 is-twice-as-wide-requires : tie.Need-is-twice-as-wide-requires
 is-twice-as-wide-requires c κs = (c .before .pre .0, (c .before .pre .1 .0, c .before .pre .1 .1 .0))

@@ -1,5 +1,4 @@
 -- `junctions::distances::port_passes` meets its contract: the code is the test as it stands, with what `is_near_port` ensures. Assumes nothing.
-use Prim.Native.Nat.{_*_}
 use mathlib.Core.Path.{ap}
 use mathlib.Core.Bool.{not, _&&_, _||_}
 use lib.Dec.{leb}

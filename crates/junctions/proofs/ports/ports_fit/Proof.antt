@@ -1,3 +1,5 @@
+-- `junctions::ports::ports_fit` meets its contract. The outer loop's invariant: the regions of the sides below `side` fit. The inner loop's: `met` full pairs below j name
+-- the region, and none of them is unfit. The measures are how many sides and how many boundaries are left. Assumes nothing.
 use Prim.Native.Nat.{ℕ, _-_, _≤_, _<_}
 use native.Mathlib.Omega.{arith}
 use native.Mathlib.Nat.{le-antisymm}
@@ -14,12 +16,6 @@ use Rattle.junctions.proofs.Walk.{side-within, Met, met-start, met-few,
 use borrow.Author.Needs.{needs}
 use Rattle.junctions.proofs.ports.ports_fit.Statement.{statement}
 use Rattle.junctions.proofs.ports.ports_fit.Tie as tie
-use Rattle.junctions.proofs.ports.ports_fit.Reads as reads
-use Rattle.junctions.proofs.ports.ports_fit.Lts as lts
-use Rattle.junctions.proofs.ports.fits_union.Reads as fits-union-reads
-use Rattle.junctions.proofs.ports.names_region.Reads as names-region-reads
-use Rattle.junctions.proofs.ports.region_of.Reads as region-of-reads
-use Rattle.junctions.proofs.ports.wide.Reads as wide-reads
 
 abbrev pair : ℕ → ℕ → Pair
 pair lo hi = record { lo = lo; hi = hi }

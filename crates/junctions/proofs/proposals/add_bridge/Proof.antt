@@ -6,13 +6,8 @@ use Rattle.junctions.specs.Rows.{maxProposals, rowsOf}
 use Rattle.junctions.proofs.BridgeIndex.{bridge-found}
 use Rattle.junctions.proofs.RowLaws.{proposal-added, proposal-left, one-more, one-longer, no-longer}
 use borrow.Author.Needs.{needs}
-use borrow.Author.Needs.{needs}
 use Rattle.junctions.proofs.proposals.add_bridge.Statement.{statement}
 use Rattle.junctions.proofs.proposals.add_bridge.Tie as tie
-use Rattle.junctions.proofs.proposals.add_bridge.Reads as reads
-use Rattle.junctions.proofs.proposals.add_bridge.Lts as lts
-use Rattle.junctions.proofs.bridges.bridge_of.Reads as bridge-of-reads
-use Rattle.junctions.proofs.proposals.push_proposal.Reads as push-proposal-reads
 
 bridge-of-requires : tie.Need-bridge-of-requires
 bridge-of-requires c κs = search needs

@@ -1,16 +1,11 @@
+-- `junctions::proposals::add_union` meets its contract, from what its callees ensure. Assumes nothing.
 use lib.ListN.{getD}
 use Rattle.junctions.specs.Rows.{rowsOf}
--- `junctions::proposals::add_union` meets its contract, from what its callees ensure. Assumes nothing.
 use native.Mathlib.Omega.{arith}
 use Rattle.junctions.proofs.RowLaws.{row-added, row-left}
 use borrow.Author.Needs.{needs}
-use borrow.Author.Needs.{needs}
 use Rattle.junctions.proofs.proposals.add_union.Statement.{statement}
 use Rattle.junctions.proofs.proposals.add_union.Tie as tie
-use Rattle.junctions.proofs.proposals.add_union.Reads as reads
-use Rattle.junctions.proofs.proposals.add_union.Lts as lts
-use Rattle.junctions.proofs.proposals.push_proposal.Reads as push-proposal-reads
-use Rattle.junctions.proofs.unions.is_union.Reads as is-union-reads
 
 is-union-requires : tie.Need-is-union-requires
 is-union-requires c κs = search needs

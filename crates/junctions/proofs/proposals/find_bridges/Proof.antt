@@ -17,9 +17,6 @@ use Rattle.junctions.proofs.Counting.{bridges, bridges-few}
 use borrow.Author.Needs.{needs}
 use Rattle.junctions.proofs.proposals.find_bridges.Statement.{statement}
 use Rattle.junctions.proofs.proposals.find_bridges.Tie as tie
-use Rattle.junctions.proofs.proposals.find_bridges.Reads as reads
-use Rattle.junctions.proofs.proposals.find_bridges.Lts as lts
-use Rattle.junctions.proofs.proposals.add_bridge.Reads as add-bridge-reads
 
 abbrev Inv-loop : tie.InvT-loop
 Inv-loop boundaries smaller larger counts marks count regions rows₀ unions n₀ k₀ rows n k =

@@ -7,13 +7,8 @@ use Rattle.definitions.specs.Scan.{collect}
 use Rattle.junctions.specs.Bridges.{isBridgeAt}
 use Rattle.junctions.proofs.Proposing.{rows-fit, rows-proposed}
 use borrow.Author.Needs.{needs}
-use borrow.Author.Needs.{needs}
 use Rattle.junctions.proofs.proposals.find_proposals.Statement.{statement}
 use Rattle.junctions.proofs.proposals.find_proposals.Tie as tie
-use Rattle.junctions.proofs.proposals.find_proposals.Reads as reads
-use Rattle.junctions.proofs.proposals.find_proposals.Lts as lts
-use Rattle.junctions.proofs.proposals.find_bridges.Reads as find-bridges-reads
-use Rattle.junctions.proofs.proposals.find_unions.Reads as find-unions-reads
 
 find-unions-requires : tie.Need-find-unions-requires
 find-unions-requires c κs = search needs

@@ -1,26 +1,20 @@
-use Prim.Native.Nat.{ℕ}
-use native.Mathlib.Nat.{le-antisymm}
-use mathlib.Core.Path.{sym, ap, _∙_}
-use mathlib.Core.Option.{Option}
-use mathlib.Core.List.{_++_}
-use Rattle.definitions.specs.Scan.{toList}
-use Rattle.definitions.specs.Junctions.{Proposal}
-use Rattle.laws.specs.ListLaws.ScanSteps.{collect-next}
 -- `junctions::proposals::find_unions` meets its contract. The loop's invariant: the rows are the unions at the boundaries below i. The measure is how many
 -- boundaries are left. Assumes nothing.
-use Prim.Native.Nat.{_-_, _≤_}
+use Prim.Native.Nat.{ℕ, _-_, _≤_}
+use native.Mathlib.Nat.{le-antisymm}
+use mathlib.Core.Path.{sym, ap, _∙_, _≡_, refl}
+use mathlib.Core.Option.{Option}
+use mathlib.Core.List.{_++_}
+use Rattle.definitions.specs.Scan.{toList, collect}
+use Rattle.definitions.specs.Junctions.{Proposal}
+use Rattle.laws.specs.ListLaws.ScanSteps.{collect-next}
 use native.Mathlib.Omega.{arith}
-use mathlib.Core.Path.{_≡_, refl}
 use lib.ListN.{length}
-use Rattle.definitions.specs.Scan.{collect}
 use Rattle.junctions.specs.Rows.{rowsOf, unionAt}
 use Rattle.junctions.proofs.RowLaws.{rows-none}
 use borrow.Author.Needs.{needs}
 use Rattle.junctions.proofs.proposals.find_unions.Statement.{statement}
 use Rattle.junctions.proofs.proposals.find_unions.Tie as tie
-use Rattle.junctions.proofs.proposals.find_unions.Reads as reads
-use Rattle.junctions.proofs.proposals.find_unions.Lts as lts
-use Rattle.junctions.proofs.proposals.add_union.Reads as add-union-reads
 
 abbrev Inv-loop : tie.InvT-loop
 Inv-loop boundaries smaller larger counts marks count regions rows₀ n₀ i₀ rows n i =

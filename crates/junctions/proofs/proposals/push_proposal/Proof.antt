@@ -3,11 +3,8 @@ use native.Mathlib.Omega.{arith}
 use lib.ListN.{length-set}
 use Rattle.junctions.proofs.RowLaws.{rows-put}
 use borrow.Author.Needs.{needs}
-use borrow.Author.Needs.{needs}
 use Rattle.junctions.proofs.proposals.push_proposal.Statement.{statement}
 use Rattle.junctions.proofs.proposals.push_proposal.Tie as tie
-use Rattle.junctions.proofs.proposals.push_proposal.Reads as reads
-use Rattle.junctions.proofs.proposals.push_proposal.Lts as lts
 
 mul-k : tie.Need-mul-k
 mul-k c = search needs

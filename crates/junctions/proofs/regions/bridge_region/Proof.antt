@@ -4,14 +4,8 @@ use Rattle.context.specs.Records.{recordOf}
 use Rattle.junctions.specs.Regions.{bridgeOf}
 use Rattle.junctions.proofs.Corners.{radius-at}
 use borrow.Author.Needs.{needs}
-use borrow.Author.Needs.{needs}
 use Rattle.junctions.proofs.regions.bridge_region.Statement.{statement}
 use Rattle.junctions.proofs.regions.bridge_region.Tie as tie
-use Rattle.junctions.proofs.regions.bridge_region.Reads as reads
-use Rattle.junctions.proofs.regions.bridge_region.Lts as lts
-use Rattle.context.proofs.Region.is_strictly_flat.Reads as is-strictly-flat-reads
-use Rattle.geometry.proofs.points.center.Reads as center-reads
-use Rattle.junctions.proofs.regions.within_radius.Reads as within-radius-reads
 
 center-requires : tie.Need-center-requires
 center-requires c κs = search needs

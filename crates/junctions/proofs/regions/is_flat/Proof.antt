@@ -2,13 +2,8 @@
 use mathlib.Core.Bool.{_&&_, _||_}
 use Rattle.junctions.specs.Regions.{areFlat}
 use borrow.Author.Needs.{needs}
-use borrow.Author.Needs.{needs}
 use Rattle.junctions.proofs.regions.is_flat.Statement.{statement}
 use Rattle.junctions.proofs.regions.is_flat.Tie as tie
-use Rattle.junctions.proofs.regions.is_flat.Reads as reads
-use Rattle.junctions.proofs.regions.is_flat.Lts as lts
-use Rattle.context.proofs.Region.is_strictly_flat.Reads as is-strictly-flat-reads
-use Rattle.junctions.proofs.regions.same_dominant.Reads as same-dominant-reads
 
 is-strictly-flat-requires : tie.Need-is-strictly-flat-requires
 is-strictly-flat-requires c κs = search needs

@@ -10,14 +10,8 @@ use Rattle.context.specs.Records.{recordOf}
 use Rattle.junctions.specs.Regions.{areLocal}
 use Rattle.junctions.proofs.Corners.{radius-at}
 use borrow.Author.Needs.{needs}
-use borrow.Author.Needs.{needs}
 use Rattle.junctions.proofs.regions.is_local.Statement.{statement}
 use Rattle.junctions.proofs.regions.is_local.Tie as tie
-use Rattle.junctions.proofs.regions.is_local.Reads as reads
-use Rattle.junctions.proofs.regions.is_local.Lts as lts
-use Rattle.geometry.proofs.points.center.Reads as center-reads
-use Rattle.junctions.proofs.regions.within_radius.Reads as within-radius-reads
-use Rattle.junctions.proofs.regions.within_span_radius.Reads as within-span-radius-reads
 
 -- the two records and the segment
 abbrev first : tie.Start → Region

@@ -3,12 +3,8 @@ use mathlib.Core.Path.{sym, ap, ap₂, _∙_}
 use Rattle.definitions.specs.RegionRecord.{dominantElevation, bothSame}
 use Rattle.context.specs.Records.{recordOf, dominantOf}
 use borrow.Author.Needs.{needs}
-use borrow.Author.Needs.{needs}
 use Rattle.junctions.proofs.regions.same_dominant.Statement.{statement}
 use Rattle.junctions.proofs.regions.same_dominant.Tie as tie
-use Rattle.junctions.proofs.regions.same_dominant.Reads as reads
-use Rattle.junctions.proofs.regions.same_dominant.Lts as lts
-use Rattle.context.proofs.Region.dominant_elevation.Reads as dominant-elevation-reads
 
 dominant-elevation-requires : tie.Need-dominant-elevation-requires
 dominant-elevation-requires c κs = search needs

@@ -2,13 +2,8 @@
 use mathlib.Core.Bool.{not, _&&_}
 use Rattle.junctions.specs.Regions.{unionOf}
 use borrow.Author.Needs.{needs}
-use borrow.Author.Needs.{needs}
 use Rattle.junctions.proofs.regions.union_regions.Statement.{statement}
 use Rattle.junctions.proofs.regions.union_regions.Tie as tie
-use Rattle.junctions.proofs.regions.union_regions.Reads as reads
-use Rattle.junctions.proofs.regions.union_regions.Lts as lts
-use Rattle.junctions.proofs.regions.is_flat.Reads as is-flat-reads
-use Rattle.junctions.proofs.regions.is_local.Reads as is-local-reads
 
 is-local-requires : tie.Need-is-local-requires
 is-local-requires c κs = search needs

@@ -13,13 +13,8 @@ use Rattle.context.specs.Records.{recordOf}
 use Rattle.junctions.proofs.Literals.{radius-is}
 use Rattle.junctions.proofs.Corners.{corner-test, four-corners}
 use borrow.Author.Needs.{needs}
-use borrow.Author.Needs.{needs}
 use Rattle.junctions.proofs.regions.within_radius.Statement.{statement}
 use Rattle.junctions.proofs.regions.within_radius.Tie as tie
-use Rattle.junctions.proofs.regions.within_radius.Reads as reads
-use Rattle.junctions.proofs.regions.within_radius.Lts as lts
-use Rattle.context.proofs.Region.corners.Reads as corners-reads
-use Rattle.junctions.proofs.distances.within_distance.Reads as within-distance-reads
 
 -- the limit as the code has it
 abbrev limit : Float

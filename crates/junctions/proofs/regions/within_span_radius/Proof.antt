@@ -13,14 +13,8 @@ use Rattle.context.specs.Records.{recordOf}
 use Rattle.junctions.proofs.Literals.{radius-is}
 use Rattle.junctions.proofs.Corners.{corner-span, four-corners}
 use borrow.Author.Needs.{needs}
-use borrow.Author.Needs.{needs}
 use Rattle.junctions.proofs.regions.within_span_radius.Statement.{statement}
 use Rattle.junctions.proofs.regions.within_span_radius.Tie as tie
-use Rattle.junctions.proofs.regions.within_span_radius.Reads as reads
-use Rattle.junctions.proofs.regions.within_span_radius.Lts as lts
-use Rattle.context.proofs.Region.corners.Reads as corners-reads
-use Rattle.geometry.proofs.points.point.Reads as point-reads
-use Rattle.geometry.proofs.points.point_segment_distance.Reads as point-segment-distance-reads
 
 -- the limit as the code has it
 abbrev limit : Float

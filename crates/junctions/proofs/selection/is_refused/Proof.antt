@@ -5,14 +5,8 @@ use mathlib.Core.Bool.{false}
 use lib.ListN.{getD}
 use Rattle.junctions.proofs.Standings.{refused}
 use borrow.Author.Needs.{needs}
-use borrow.Author.Needs.{needs}
 use Rattle.junctions.proofs.selection.is_refused.Statement.{statement}
 use Rattle.junctions.proofs.selection.is_refused.Tie as tie
-use Rattle.junctions.proofs.selection.is_refused.Reads as reads
-use Rattle.junctions.proofs.selection.is_refused.Lts as lts
-use Rattle.junctions.proofs.ports.wide.Reads as wide-reads
-use Rattle.junctions.proofs.selection.port_taken.Reads as port-taken-reads
-use Rattle.junctions.proofs.selection.region_taken.Reads as region-taken-reads
 
 mul-wide : tie.Need-mul-wide
 mul-wide c = search needs

@@ -15,9 +15,6 @@ use Rattle.junctions.specs.Ranks.{reservesAt}
 use borrow.Author.Needs.{needs}
 use Rattle.junctions.proofs.selection.port_taken.Statement.{statement}
 use Rattle.junctions.proofs.selection.port_taken.Tie as tie
-use Rattle.junctions.proofs.selection.port_taken.Reads as reads
-use Rattle.junctions.proofs.selection.port_taken.Lts as lts
-use Rattle.junctions.proofs.selection.reserves.Reads as reserves-reads
 
 -- port j of row p is removed or reserved
 abbrev taken : List ℕ → List ℕ → List ℕ → List Bool → List Bool → ℕ → ℕ → Bool

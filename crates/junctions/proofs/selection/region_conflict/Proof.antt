@@ -2,11 +2,8 @@
 use Rattle.junctions.specs.Rows.{rowAt}
 use Rattle.junctions.proofs.Conflicts.{with-union-taken, with-union, two-bridges}
 use borrow.Author.Needs.{needs}
-use borrow.Author.Needs.{needs}
 use Rattle.junctions.proofs.selection.region_conflict.Statement.{statement}
 use Rattle.junctions.proofs.selection.region_conflict.Tie as tie
-use Rattle.junctions.proofs.selection.region_conflict.Reads as reads
-use Rattle.junctions.proofs.selection.region_conflict.Lts as lts
 
 mul-k : tie.Need-mul-k
 mul-k c = search needs

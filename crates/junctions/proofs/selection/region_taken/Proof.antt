@@ -16,10 +16,6 @@ use Rattle.junctions.proofs.Conflicts.{any-taken}
 use borrow.Author.Needs.{needs}
 use Rattle.junctions.proofs.selection.region_taken.Statement.{statement}
 use Rattle.junctions.proofs.selection.region_taken.Tie as tie
-use Rattle.junctions.proofs.selection.region_taken.Reads as reads
-use Rattle.junctions.proofs.selection.region_taken.Lts as lts
-use Rattle.junctions.proofs.ports.wide.Reads as wide-reads
-use Rattle.junctions.proofs.selection.region_conflict.Reads as region-conflict-reads
 
 -- what a taken proposal has against row p
 abbrev against : List ℕ → ℕ → Proposal → Bool

@@ -8,9 +8,6 @@ use Rattle.junctions.proofs.Standings.{Marked, marked-start, marked-mor
 use borrow.Author.Needs.{needs}
 use Rattle.junctions.proofs.selection.reserve_ports.Statement.{statement}
 use Rattle.junctions.proofs.selection.reserve_ports.Tie as tie
-use Rattle.junctions.proofs.selection.reserve_ports.Reads as reads
-use Rattle.junctions.proofs.selection.reserve_ports.Lts as lts
-use Rattle.junctions.proofs.selection.reserves.Reads as reserves-reads
 
 abbrev Inv-loop : tie.InvT-loop
 Inv-loop smaller larger rows reserved₀ count p j₀ reserved j =

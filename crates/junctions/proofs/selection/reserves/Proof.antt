@@ -5,13 +5,8 @@ use Rattle.junctions.specs.Ports.{names}
 use Rattle.junctions.specs.Rows.{rowAt}
 use Rattle.junctions.specs.Ranks.{reservesAt}
 use borrow.Author.Needs.{needs}
-use borrow.Author.Needs.{needs}
 use Rattle.junctions.proofs.selection.reserves.Statement.{statement}
 use Rattle.junctions.proofs.selection.reserves.Tie as tie
-use Rattle.junctions.proofs.selection.reserves.Reads as reads
-use Rattle.junctions.proofs.selection.reserves.Lts as lts
-use Rattle.junctions.proofs.ports.names_region.Reads as names-region-reads
-use Rattle.junctions.proofs.ports.wide.Reads as wide-reads
 
 mul-k : tie.Need-mul-k
 mul-k c = search needs

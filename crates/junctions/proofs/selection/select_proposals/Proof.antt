@@ -9,13 +9,8 @@ use Rattle.junctions.specs.Ranks.{conflictAt, selectedOf}
 use Rattle.junctions.specs.Taken.{removedAt}
 use Rattle.junctions.proofs.Lists.{none-set}
 use borrow.Author.Needs.{needs}
-use borrow.Author.Needs.{needs}
 use Rattle.junctions.proofs.selection.select_proposals.Statement.{statement}
 use Rattle.junctions.proofs.selection.select_proposals.Tie as tie
-use Rattle.junctions.proofs.selection.select_proposals.Reads as reads
-use Rattle.junctions.proofs.selection.select_proposals.Lts as lts
-use Rattle.junctions.proofs.ranks.rank_proposals.Reads as rank-proposals-reads
-use Rattle.junctions.proofs.selection.select_ranked.Reads as select-ranked-reads
 
 slice-aggregate-rank-proposals : tie.Need-slice-aggregate-rank-proposals
 slice-aggregate-rank-proposals c = search needs

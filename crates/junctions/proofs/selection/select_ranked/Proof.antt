@@ -15,10 +15,6 @@ use Rattle.junctions.proofs.Standings.{grown, selected-next, standing-s
 use borrow.Author.Needs.{needs}
 use Rattle.junctions.proofs.selection.select_ranked.Statement.{statement}
 use Rattle.junctions.proofs.selection.select_ranked.Tie as tie
-use Rattle.junctions.proofs.selection.select_ranked.Reads as reads
-use Rattle.junctions.proofs.selection.select_ranked.Lts as lts
-use Rattle.junctions.proofs.ports.wide.Reads as wide-reads
-use Rattle.junctions.proofs.selection.take_if_free.Reads as take-if-free-reads
 
 abbrev Inv-loop : tie.InvT-loop
 Inv-loop smaller larger rows order removed₀ reserved₀ taken₀ count n m t₀ k₀ removed reserved taken t k =

@@ -2,14 +2,8 @@
 use native.Mathlib.Omega.{arith}
 use Rattle.junctions.proofs.Standings.{standing-kept, standing-taken}
 use borrow.Author.Needs.{needs}
-use borrow.Author.Needs.{needs}
 use Rattle.junctions.proofs.selection.take_if_free.Statement.{statement}
 use Rattle.junctions.proofs.selection.take_if_free.Tie as tie
-use Rattle.junctions.proofs.selection.take_if_free.Reads as reads
-use Rattle.junctions.proofs.selection.take_if_free.Lts as lts
-use Rattle.junctions.proofs.ports.wide.Reads as wide-reads
-use Rattle.junctions.proofs.selection.is_refused.Reads as is-refused-reads
-use Rattle.junctions.proofs.selection.reserve_ports.Reads as reserve-ports-reads
 
 is-refused-requires : tie.Need-is-refused-requires
 is-refused-requires c κs = (c .before .before .before .before .before .before .before .pre .0, ((omega (arith, c .before .before .before .before .before .before .before .pre .1 .0), c .before .before .before .before .before .before .before .pre .1 .0 .1), c .before .before .before .before .before .before .before .pre .1 .1))

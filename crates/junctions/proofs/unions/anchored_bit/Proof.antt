@@ -1,5 +1,5 @@
 -- `junctions::unions::anchored_bit` meets its contract: a remainder by 2 is 0 or 1. Assumes nothing.
-use Prim.Native.Nat.{ℕ, _%_, _<_}
+use Prim.Native.Nat.{ℕ, _%_}
 use native.Mathlib.Omega.{arith}
 use mathlib.Core.Path.{_≡_, refl}
 use mathlib.Core.Bool.{Bool, true, false}

@@ -1,5 +1,6 @@
+-- `junctions::unions::has_three_exteriors` meets its contract. The loop's invariant: the exteriors of the ports below j are those found, or three and more. The measure
+-- is how many boundaries are left. Assumes nothing.
 use Prim.Native.Nat.{_-_, _≤_}
-use native.Mathlib.Omega.{arith}
 use mathlib.Core.Logic.{⊎-elim}
 use mathlib.Core.Path.{sym, _∙_}
 use Rattle.junctions.specs.Ports.{isPort, names}
@@ -7,11 +8,6 @@ use Rattle.junctions.proofs.Exteriors.{Surveyed, survey-start, survey-o
 use borrow.Author.Needs.{needs}
 use Rattle.junctions.proofs.unions.has_three_exteriors.Statement.{statement}
 use Rattle.junctions.proofs.unions.has_three_exteriors.Tie as tie
-use Rattle.junctions.proofs.unions.has_three_exteriors.Reads as reads
-use Rattle.junctions.proofs.unions.has_three_exteriors.Lts as lts
-use Rattle.junctions.proofs.unions.Exteriors.with.Reads as with-reads
-use Rattle.junctions.proofs.unions.exterior_of.Reads as exterior-of-reads
-use Rattle.junctions.proofs.unions.is_port.Reads as is-port-reads
 
 abbrev Inv-loop : tie.InvT-loop
 Inv-loop smaller larger count index lo hi exteriors₀ j₀ exteriors j =

@@ -1,5 +1,5 @@
 -- `junctions::unions::is_union` meets its contract, from what its callees ensure: each return by the tests that led there. Assumes nothing.
-use Prim.Native.Nat.{ℕ, _+_, _≤_, _<_}
+use Prim.Native.Nat.{ℕ, _≤_, _<_, _+_}
 use native.Mathlib.Omega.{arith}
 use mathlib.Core.Path.{_≡_, ap, ap₂, _∙_}
 use mathlib.Core.Bool.{Bool, true, false}
@@ -11,15 +11,8 @@ use Rattle.definitions.specs.Scan.{bit}
 use Rattle.junctions.specs.Unions.{markAt, portsPass}
 use Rattle.junctions.proofs.Shapes.{no-pair, has-ramp, both-anchored, is-unfit, too-few, by-ports}
 use borrow.Author.Needs.{needs}
-use borrow.Author.Needs.{needs}
 use Rattle.junctions.proofs.unions.is_union.Statement.{statement}
 use Rattle.junctions.proofs.unions.is_union.Tie as tie
-use Rattle.junctions.proofs.unions.is_union.Reads as reads
-use Rattle.junctions.proofs.unions.is_union.Lts as lts
-use Rattle.junctions.proofs.ports.ports_fit.Reads as ports-fit-reads
-use Rattle.junctions.proofs.unions.anchored_bit.Reads as anchored-bit-reads
-use Rattle.junctions.proofs.unions.has_three_exteriors.Reads as has-three-exteriors-reads
-use Rattle.junctions.proofs.unions.ports_pass.Reads as ports-pass-reads
 
 bit-le : (b : Bool) → bit b ≤ 1
 bit-le true = omega arith

@@ -1,12 +1,11 @@
+-- `junctions::unions::ports_pass` meets its contract. The loop's invariant: every port below j passes. The measure is how many boundaries are left. Assumes nothing.
 use native.Mathlib.Nat.{le-antisymm}
-use mathlib.Core.Bool.{false, true≢false, false≢true}
+use mathlib.Core.Bool.{false, true≢false, false≢true, Bool, true, not, _||_}
 use lib.ListN.{getD}
 use Rattle.junctions.proofs.Lists.{placed}
 use Prim.Native.Nat.{ℕ, _-_, _≤_}
-use native.Mathlib.Omega.{arith}
 use mathlib.Core.Logic.{⊎-elim}
 use mathlib.Core.Path.{_≡_, refl, sym, ap, ap₂, _∙_}
-use mathlib.Core.Bool.{Bool, true, not, _||_}
 use mathlib.Core.List.{List}
 use Rattle.definitions.specs.Scan.{allBelow}
 use Rattle.laws.specs.ListLaws.ScanSteps.{all-more, all-fails}
@@ -15,10 +14,6 @@ use Rattle.junctions.specs.Unions.{passesAt, portsPass}
 use borrow.Author.Needs.{needs}
 use Rattle.junctions.proofs.unions.ports_pass.Statement.{statement}
 use Rattle.junctions.proofs.unions.ports_pass.Tie as tie
-use Rattle.junctions.proofs.unions.ports_pass.Reads as reads
-use Rattle.junctions.proofs.unions.ports_pass.Lts as lts
-use Rattle.junctions.proofs.distances.port_passes.Reads as port-passes-reads
-use Rattle.junctions.proofs.unions.is_port.Reads as is-port-reads
 
 abbrev passing : List ℕ → List ℕ → List ℕ → ℕ → ℕ → ℕ → Bool → ℕ → Bool
 passing boundaries smaller larger index lo hi one j = not (isPort smaller larger index (record { lo = lo; hi = hi }) j) || passesAt boundaries one index j
