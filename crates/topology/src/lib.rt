@@ -103,8 +103,24 @@ pub fn remove_junction_boundaries(
     let mut rows = [0u32; NUMBERS_PER_PROPOSAL * MAX_PROPOSALS];
     let mut allowed = [false; MAX_PROPOSALS];
     let n = find_proposals(
-        boundaries, smaller, larger, counts, marks, count, regions, &mut rows,
+        boundaries,
+        smaller,
+        larger,
+        counts,
+        marks,
+        count,
+        regions,
+        &mut rows,
     );
     allow_proposals(records, boundaries, marks, &rows, n, &mut allowed);
-    select_proposals(boundaries, smaller, larger, &rows, &allowed, removed, count, n);
+    select_proposals(
+        boundaries,
+        smaller,
+        larger,
+        &rows,
+        &allowed,
+        removed,
+        count,
+        n,
+    );
 }
