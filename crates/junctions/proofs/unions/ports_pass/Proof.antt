@@ -99,12 +99,14 @@ loop-less c = search needs
 
 loop-again : tie.Need-loop-again Inv-loop μ-loop
 unfolding isPort names
-loop-again c =
-    (search needs, all-more (test (c .before .before .before .before .before .before .before .before .before)) (c .before .before .before .before .before .loop .j) (c .before .before .before .before .before .loop .inv .1)
-    (⊎-elim
-    (λ w. passing-port (sym (c .before .is-port .ensures) ∙ w .0 .taken) (w .1 .ensures) (w .2 .left))
-    (λ w. passing-other _ (sym (c .before .is-port .ensures) ∙ w .left))
-    (c .if1 .came)))
+loop-again c = (
+  search needs,
+  all-more (test (c .before .before .before .before .before .before .before .before .before)) (c .before .before .before .before .before .loop .j) (c .before .before .before .before .before .loop .inv .1)
+      (⊎-elim
+      (λ w. passing-port (sym (c .before .is-port .ensures) ∙ w .0 .taken) (w .1 .ensures) (w .2 .left))
+      (λ w. passing-other _ (sym (c .before .is-port .ensures) ∙ w .left))
+      (c .if1 .came)),
+)
 
 returns-2 : tie.Need-returns-2 Inv-loop μ-loop
 unfolding portsPass
