@@ -54,7 +54,14 @@ pub fn checks_before(
 }
 
 // Check 10 alone.
-fn room(cells: usize, spans: usize, labels: usize, masks: usize, queue: usize, tallies: usize) -> Check
+fn room(
+    cells: usize,
+    spans: usize,
+    labels: usize,
+    masks: usize,
+    queue: usize,
+    tallies: usize,
+) -> Check
     ensures { λ r. ⌜ refusalOf r ≡ refusal 10 (unless (partitionRoom cells spans labels masks queue tallies)) ⌝ }
 {
     if partition_has_room(cells, spans, labels, masks, queue, tallies) {

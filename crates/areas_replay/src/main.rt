@@ -172,7 +172,17 @@ fn run(
     tallies: &mut [u32],
     pairs: &mut [u32],
 ) {
-    let answer = partition(width, height, cells, spans, labels, masks, queue, tallies, pairs);
+    let answer = partition(
+        width,
+        height,
+        cells,
+        spans,
+        labels,
+        masks,
+        queue,
+        tallies,
+        pairs,
+    );
     write_answer(answer);
     write_lists(labels, masks, queue, tallies, pairs);
 }
@@ -230,13 +240,7 @@ fn replay(opening: &[u8; 20], bytes: &[u8]) {
     let mut spans = [0u64; 1028];
     let mut boundaries = [0u64; 2304];
     let mut anchors = [0u64; 512];
-    let answer = read_sheet(
-        bytes,
-        &mut cells,
-        &mut spans,
-        &mut boundaries,
-        &mut anchors,
-    );
+    let answer = read_sheet(bytes, &mut cells, &mut spans, &mut boundaries, &mut anchors);
     match answer {
         Answer::Read(_) => lend(opening, &cells, &spans),
         Answer::Refused(_, _) => write(b"no sheet\n"),

@@ -29,7 +29,17 @@ pub extern "C" fn jenwyllt_partition(
 ) -> JenwylltAnswer
     ensures { λ r. ⌜ Partitions (given width height (now (cells .entry)) (now (spans .entry)) (now (labels .entry)) (now (masks .entry)) (now (queue .entry)) (now (tallies .entry)) (now (pairs .entry))) r (now (labels .exit)) (now (masks .exit)) (now (queue .exit)) (now (tallies .exit)) (now (pairs .exit)) ⌝ }
 {
-    match partition(width, height, cells, spans, labels, masks, queue, tallies, pairs) {
+    match partition(
+        width,
+        height,
+        cells,
+        spans,
+        labels,
+        masks,
+        queue,
+        tallies,
+        pairs,
+    ) {
         Partitioned::Regions(count) => JenwylltAnswer {
             number: 0,
             value: count as u64,

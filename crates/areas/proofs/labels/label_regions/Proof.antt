@@ -19,8 +19,10 @@ mark-spans-requires : tie.Need-mark-spans-requires
 mark-spans-requires c κs = (c .before .before .before .before .before .before .before .before .before .before .before .before .before .before .pre .0, cleared _ _ (c .before .before .before .clear-masks .ensures) (c .before .before .before .clear-masks .kept .0) (c .before .before .before .before .before .before .before .before .before .before .before .before .before .before .pre .1 .1))
 
 flood-requires : tie.Need-flood-requires
-flood-requires c κs =     (flood-lent _ _ _ _ (c .before .before .before .before .before .before .before .before .before .before .before .before .before .before .before .before .before .before .before .before .pre .0) _ (c .before .before .before .before .before .before .before .before .before .before .before .before .before .clear-numbers .ensures) (c .before .before .before .before .before .before .before .before .before .before .before .before .before .clear-numbers .kept .0) (c .before .before .before .before .before .before .before .before .before .before .before .before .before .before .before .before .before .before .before .before .pre .1 .0) (omega (arith, c .before .before .before .before .before .mark-spans .kept, c .before .before .before .before .before .before .before .before .before .clear-masks .kept .0, c .before .before .before .before .before .before .before .before .before .before .before .before .before .before .before .before .before .before .before .before .pre .1 .1)) (c .before .before .before .before .before .before .before .before .before .before .before .before .before .before .before .before .before .before .before .before .pre .1 .2),
-    masked _ _ _ _ (c .before .before .before .before .before .mark-spans .ensures))
+flood-requires c κs = (
+  flood-lent _ _ _ _ (c .before .before .before .before .before .before .before .before .before .before .before .before .before .before .before .before .before .before .before .before .pre .0) _ (c .before .before .before .before .before .before .before .before .before .before .before .before .before .clear-numbers .ensures) (c .before .before .before .before .before .before .before .before .before .before .before .before .before .clear-numbers .kept .0) (c .before .before .before .before .before .before .before .before .before .before .before .before .before .before .before .before .before .before .before .before .pre .1 .0) (omega (arith, c .before .before .before .before .before .mark-spans .kept, c .before .before .before .before .before .before .before .before .before .clear-masks .kept .0, c .before .before .before .before .before .before .before .before .before .before .before .before .before .before .before .before .before .before .before .before .pre .1 .1)) (c .before .before .before .before .before .before .before .before .before .before .before .before .before .before .before .before .before .before .before .before .pre .1 .2),
+  masked _ _ _ _ (c .before .before .before .before .before .mark-spans .ensures),
+)
 
 same-length : tie.Need-same-length
 same-length c = search needs
