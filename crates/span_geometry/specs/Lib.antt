@@ -2,3 +2,4 @@ pub mod Shapes
 pub mod Canonical
 pub mod Strips
 pub mod Candidates
+pub mod Sides
