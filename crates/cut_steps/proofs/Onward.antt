@@ -11,8 +11,7 @@ use lib.Dec.{eqb, ltb}
 use borrow.Author.Tests.{ltb-true, ltb-false, lt-ltb, le-ltb}
 use Rattle.definitions.specs.Scan.{run}
 use Rattle.definitions.specs.Grid.{Map, Position, at, Segment, toward, index, isStep, walkable}
-use Rattle.definitions.specs.Spans.{cellCenter, segmentsIntersect, cuts}
-use Rattle.span_geometry.specs.Sides.{parts}
+use Rattle.definitions.specs.Spans.{cuts}
 use Rattle.flood.specs.Masks.{bitOf}
 use Rattle.flood.proofs.Square.{Four, four, In, walkable-in}
 use Rattle.cut_steps.specs.CutSteps.{isCutOnward, isSet}
@@ -65,13 +64,6 @@ module _ (M : Map) (g : Segment) (p d : Position) where
   pub onward-cut : isStep M p d ≡ true → 4 < bitOf d → cuts g p (toward p d) ≡ isCutOnward M g p d
   unfolding isCutOnward
   onward-cut s b = rw (s, onward-bit M p d s ∙ lt-ltb 4 (bitOf d) b) refl
-
-  -- both centres on one side
-  pub not-parted : parts g p (toward p d) ≡ false → false ≡ isCutOnward M g p d
-  unfolding isCutOnward cuts parts
-  not-parted e =
-      let meets = segmentsIntersect (g .a) (g .b) (cellCenter p) (cellCenter (toward p d)) in
-      sym (ap (λ t. isStep M p d && ltb (index M p) (index M (toward p d)) && (t && meets)) e ∙ and-false (isStep M p d && ltb (index M p) (index M (toward p d))))
 
   -- a direction to smaller numbers, and none
   pub not-onward : bitOf d ≤ 4 → false ≡ isCutOnward M g p d

@@ -34,10 +34,6 @@ pub record CutDirections (w h : ℕ) (cells : List ℕ) (g : Segment) (x y mask 
 abbrev pub Far : Segment → Position → Type 0
 Far g p = (d : Position) → d .x ≤ 2 → d .y ≤ 2 → 1 ≤ p .x + d .x → 1 ≤ p .y + d .y → cuts g p (toward p d) ≡ false
 
--- the segment does not cut the step from (x, y) in this direction, whatever cells are walkable
-abbrev pub Uncut : (w h : ℕ) → Segment → (x y dx dy : ℕ) → Type 0
-Uncut w h g x y dx dy = (cells : List ℕ) → false ≡ isCutOnward (gridOf w h cells) g (at x y) (at dx dy)
-
 -- how much a step can change the side value of a cell's centre, at most: 8 pixels times both extents of a span
 abbrev pub maxReach : ℕ
 maxReach = pixelsPerWalkCell * (maxPixel + maxPixel)

@@ -7,7 +7,7 @@ use span_geometry::SpanGeometry;
 use span_geometry::segments::cell_center;
 use span_geometry::segments::cross;
 ghost use mathlib.Core.Path.{_≡_};
-ghost use mathlib.Core.Bool.{true, false, cond};
+ghost use mathlib.Core.Bool.{true, cond};
 ghost use Prim.Native.Nat.{_≤_, _<_};
 ghost use lib.Dec.{ltb};
 ghost use lib.IntN.{natAbs};
@@ -15,9 +15,9 @@ ghost use Rattle.definitions.specs.Limits.{maxSide};
 ghost use Rattle.definitions.specs.Grid.{at};
 ghost use Rattle.span_geometry.specs.Shapes.{Sound, segmentOf};
 ghost use Rattle.flood.specs.Walk.{gridOf};
-ghost use Rattle.flood.specs.Inner.{Nearby, Inside, Inner};
+ghost use Rattle.flood.specs.Inner.{Inner};
 ghost use Rattle.cut_steps.specs.CutSteps.{isCutOnward, isSet};
-ghost use Rattle.cut_steps.specs.Cell.{CellAsked, OnwardAsked, CutDirections, Far, Uncut, maxReach, onwardMask};
+ghost use Rattle.cut_steps.specs.Cell.{CellAsked, OnwardAsked, CutDirections, Far, maxReach, onwardMask};
 
 // Whether a number is larger in size than a bound.
 fn exceeds(z: i64, bound: u64) -> bool
@@ -38,48 +38,6 @@ fn is_far(g: SpanGeometry, x: usize, y: usize) -> bool
     exceeds(side, PIXELS_PER_WALK_CELL * extents)
 }
 
-// Whether the cell in a direction is in the grid, and its centre on the other side of the span's line. Of most directions of a cell near a span no more is
-// looked at.
-fn is_across(
-    width: usize,
-    height: usize,
-    g: SpanGeometry,
-    inner: bool,
-    x: usize,
-    y: usize,
-    dx: usize,
-    dy: usize,
-) -> bool
-    requires { ⌜ Nearby width height x y dx dy × Sound g ⌝ }
-    requires { ⌜ (inner ≡ true → Inner width height x y) ⌝ }
-    ensures { λ r. ⌜ (r ≡ true → Inside width height x y dx dy) × (r ≡ false → Uncut width height (segmentOf g) x y dx dy) ⌝ }
-{
-    if !is_inside(inner, width, height, x, y, dx, dy) {
-        return false;
-    }
-    g.parts(x as u64, y as u64, (x + dx - 1) as u64, (y + dy - 1) as u64)
-}
-
-// Whether the step from the walkable (x, y) to a cell of the grid, in a direction to cells of larger number, is there and is cut.
-fn is_cut_across(
-    width: usize,
-    height: usize,
-    cells: &[u8],
-    g: SpanGeometry,
-    x: usize,
-    y: usize,
-    dx: usize,
-    dy: usize,
-) -> bool
-    requires { ⌜ OnwardAsked width height (now cells) g x y dx dy × Inside width height x y dx dy ⌝ }
-    ensures { λ r. ⌜ r ≡ isCutOnward (gridOf width height (now (cells .entry))) (segmentOf g) (at x y) (at dx dy) ⌝ }
-{
-    if !is_step(width, height, cells, x, y, dx, dy) {
-        return false;
-    }
-    g.cuts(x as u64, y as u64, (x + dx - 1) as u64, (y + dy - 1) as u64)
-}
-
 // Whether the step from the walkable (x, y) in a direction to cells of larger number is there and is cut.
 fn is_cut_onward(
     width: usize,
@@ -96,10 +54,13 @@ fn is_cut_onward(
     requires { ⌜ (inner ≡ true → Inner width height x y) ⌝ }
     ensures { λ r. ⌜ r ≡ isCutOnward (gridOf width height (now (cells .entry))) (segmentOf g) (at x y) (at dx dy) ⌝ }
 {
-    if !is_across(width, height, g, inner, x, y, dx, dy) {
+    if !is_inside(inner, width, height, x, y, dx, dy) {
         return false;
     }
-    is_cut_across(width, height, cells, g, x, y, dx, dy)
+    if !is_step(width, height, cells, x, y, dx, dy) {
+        return false;
+    }
+    g.cuts(x as u64, y as u64, (x + dx - 1) as u64, (y + dy - 1) as u64)
 }
 
 // The value where the test holds, else 0.

@@ -2,4 +2,3 @@ pub mod Shapes
 pub mod Canonical
 pub mod Strips
 pub mod Candidates
-pub mod Sides

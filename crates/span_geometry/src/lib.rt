@@ -18,7 +18,6 @@ ghost use Rattle.definitions.specs.Limits.{maxSide};
 ghost use Rattle.definitions.specs.Grid.{at, positionLt};
 ghost use Rattle.definitions.specs.Spans.{cuts};
 ghost use Rattle.span_geometry.specs.Shapes.{maxPixel, InLimits, Sound, Made, pointOf, segmentOf, segmentFrom};
-ghost use Rattle.span_geometry.specs.Sides.{parts};
 
 pub const PIXELS_PER_WALK_CELL: u64 = 8;
 
@@ -59,30 +58,19 @@ impl SpanGeometry {
         }
     }
 
-    // Whether the centres of two cells lie on different sides of the span's line.
-    pub fn parts(self, from_x: u64, from_y: u64, to_x: u64, to_y: u64) -> bool
-        requires { ⌜ Sound self × («from_x» < maxSide) × («from_y» < maxSide) × («to_x» < maxSide) × («to_y» < maxSide) ⌝ }
-        ensures { λ r. ⌜ r ≡ parts (segmentOf self) (at «from_x» «from_y») (at «to_x» «to_y») ⌝ }
-    {
-        let from_side = cross(self.a, self.b, cell_center(from_x, from_y));
-        let to_side = cross(self.a, self.b, cell_center(to_x, to_y));
-        !(not_negative(from_side) == not_negative(to_side))
-    }
-
     // Whether the span cuts the step between two cells. Most steps near a span lie on one side of it, and need no more than that test.
     pub fn cuts(self, from_x: u64, from_y: u64, to_x: u64, to_y: u64) -> bool
         requires { ⌜ Sound self × («from_x» < maxSide) × («from_y» < maxSide) × («to_x» < maxSide) × («to_y» < maxSide) ⌝ }
         ensures { λ r. ⌜ r ≡ cuts (segmentOf self) (at «from_x» «from_y») (at «to_x» «to_y») ⌝ }
     {
-        if !self.parts(from_x, from_y, to_x, to_y) {
+        let from = cell_center(from_x, from_y);
+        let to = cell_center(to_x, to_y);
+        let from_side = cross(self.a, self.b, from);
+        let to_side = cross(self.a, self.b, to);
+        if not_negative(from_side) == not_negative(to_side) {
             return false;
         }
-        segments_intersect(
-            self.a,
-            self.b,
-            cell_center(from_x, from_y),
-            cell_center(to_x, to_y),
-        )
+        segments_intersect(self.a, self.b, from, to)
     }
 }
 

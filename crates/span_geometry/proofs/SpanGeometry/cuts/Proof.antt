@@ -1,59 +1,87 @@
--- `SpanGeometry::cuts` meets its contract: the two tests are the definition's, the second at the centres of the two cells. Assumes nothing.
-use mathlib.Core.Path.{sym, _∙_}
-use mathlib.Core.Bool.{_&&_}
+-- `SpanGeometry::cuts` meets its contract: the tests are the definition's, at the centres of the two cells. Assumes nothing.
+use mathlib.Core.Path.{_≡_, sym, _∙_}
+use mathlib.Core.Bool.{Bool, not, _&&_, Bool·beq}
 use borrow.Author.Needs.{needs}
-use borrow.Author.Tests.{not-true, not-false}
+use lib.Signed.{nonNeg}
 use Rattle.definitions.specs.Grid.{Position, at, Segment}
-use Rattle.definitions.specs.Spans.{cellCenter, segmentsIntersect, cuts}
-use Rattle.span_geometry.specs.Shapes.{segmentOf}
-use Rattle.span_geometry.specs.Sides.{parts}
+use Rattle.definitions.specs.Spans.{cross, cellCenter, segmentsIntersect, cuts}
+use Rattle.span_geometry.specs.Shapes.{pointOf, segmentOf}
+use Rattle.span_geometry.proofs.Signed.{given}
 use Rattle.span_geometry.proofs.SpanGeometry.cuts.Statement.{statement}
 use Rattle.span_geometry.proofs.SpanGeometry.cuts.Tie as tie
 
-parts-requires : tie.Need-parts-requires
-parts-requires c κs = search needs
-
-module _ (s : tie.Start) where
-  abbrev S : Segment
-  S = segmentOf (s .args .self)
-
-  abbrev P : Position
-  P = at (s .args .from-x) (s .args .from-y)
-
-  abbrev Q : Position
-  Q = at (s .args .to-x) (s .args .to-y)
-
-returns : tie.Need-returns
-unfolding cuts parts
-returns c =
-    let s = c .before .before in
-    λ i. (sym (not-true _ (c .if1 .taken)) ∙ c .before .parts .ensures) i && segmentsIntersect (S s .a) (S s .b) (cellCenter (P s)) (cellCenter (Q s))
-
 cell-center-requires : tie.Need-cell-center-requires
-cell-center-requires c κs = search needs
+cell-center-requires c κs = (c .pre .1, c .pre .2)
 
 cell-center-requires-2 : tie.Need-cell-center-requires-2
-cell-center-requires-2 c κs = search needs
+cell-center-requires-2 c κs = (c .before .pre .3, c .before .pre .4)
+
+cross-requires : tie.Need-cross-requires
+cross-requires c κs = (c .before .before .pre .0 .a-in, c .before .before .pre .0 .b-in, c .before .cell-center .ensures .1)
+
+cross-requires-2 : tie.Need-cross-requires-2
+cross-requires-2 c κs = (c .before .before .before .pre .0 .a-in, c .before .before .before .pre .0 .b-in, c .before .cell-center2 .ensures .1)
+
+not-negative-requires : tie.Need-not-negative-requires
+not-negative-requires c κs = tt
+
+not-negative-requires-2 : tie.Need-not-negative-requires-2
+not-negative-requires-2 c κs = tt
+
+-- the two sides, and whether they are the same
+module _ (c : tie.After-not-negative2) where
+  abbrev S : Segment
+  S = segmentOf (c .before .before .before .before .before .before .args .self)
+
+  abbrev P : Position
+  P = at (c .before .before .before .before .before .before .args .from-x) (c .before .before .before .before .before .before .args .from-y)
+
+  abbrev Q : Position
+  Q = at (c .before .before .before .before .before .before .args .to-x) (c .before .before .before .before .before .before .args .to-y)
+
+  abbrev sameSide : Bool
+  sameSide = Bool·beq (nonNeg (cross (S .a) (S .b) (cellCenter P))) (nonNeg (cross (S .a) (S .b) (cellCenter Q)))
+
+  from-is : pointOf (c .before .before .before .before .before .cell-center .result) ≡ cellCenter P
+  from-is = c .before .before .before .before .before .cell-center .ensures .0
+
+  to-is : pointOf (c .before .before .before .before .cell-center2 .result) ≡ cellCenter Q
+  to-is = c .before .before .before .before .cell-center2 .ensures .0
+
+  side-is : Bool·beq (c .before .not-negative .result) (c .not-negative2 .result) ≡ sameSide
+  side-is =
+      λ i.
+      Bool·beq
+      ((c .before .not-negative .ensures ∙ (λ j. nonNeg (given (c .before .before .before .cross .ok) (c .before .before .before .cross .ensures ∙ (λ k. cross (S .a) (S .b) (from-is k))) j))) i)
+      ((c .not-negative2 .ensures ∙ (λ j. nonNeg (given (c .before .before .cross2 .ok) (c .before .before .cross2 .ensures ∙ (λ k. cross (S .a) (S .b) (to-is k))) j))) i)
+
+returns : tie.Need-returns
+unfolding cuts
+returns c =
+    let s = c .before in
+    λ i. not ((sym (c .if1 .taken) ∙ side-is s) i) && segmentsIntersect (S s .a) (S s .b) (cellCenter (P s)) (cellCenter (Q s))
 
 segments-intersect-requires : tie.Need-segments-intersect-requires
 segments-intersect-requires c κs = search needs
 
 returns-2 : tie.Need-returns-2
-unfolding cuts parts
+unfolding cuts
 returns-2 c =
-    let e = c .before .before .before in
-    let s = e .before .before in
+    let s = c .before .before in
     λ i.
-    (sym (not-false _ (e .if1 .left)) ∙ e .before .parts .ensures) i
-    && (c .segments-intersect .ensures ∙ (λ j. segmentsIntersect (S s .a) (S s .b) (c .before .before .cell-center .ensures .0 j) (c .before .cell-center2 .ensures .0 j))) i
+    not ((sym (c .before .if1 .left) ∙ side-is s) i)
+    && (c .segments-intersect .ensures ∙ (λ j. segmentsIntersect (S s .a) (S s .b) (from-is s j) (to-is s j))) i
 
 pub cuts-spec : {M : Type 1} → statement M
 cuts-spec =
     tie.close
     (tie.spec
-    parts-requires
-    returns
     cell-center-requires
     cell-center-requires-2
+    cross-requires
+    cross-requires-2
+    not-negative-requires
+    not-negative-requires-2
+    returns
     segments-intersect-requires
     returns-2)
