@@ -28,20 +28,20 @@ fn held_before(i: usize) -> u32
     60000 + (i % 5000) as u32
 }
 
-fn fill_numbers(list: &mut [u32]) {
-    let mut i = 0;
-    while i < list.len() {
+fn numbers_before() -> [u32; 4096] {
+    let mut list = [0u32; 4096];
+    for i in 0..4096 {
         list[i] = held_before(i);
-        i += 1;
     }
+    list
 }
 
-fn fill_masks(list: &mut [u16]) {
-    let mut i = 0;
-    while i < list.len() {
+fn masks_before() -> [u16; 4096] {
+    let mut list = [0u16; 4096];
+    for i in 0..4096 {
         list[i] = held_before(i) as u16;
-        i += 1;
     }
+    list
 }
 
 // How many entries there are up to the last one that is not as it was.
@@ -153,20 +153,6 @@ fn write_masks(masks: &[u16]) {
     write_zeros(b"masks ", &numbers[0..n]);
 }
 
-fn fill(
-    labels: &mut [u32],
-    masks: &mut [u16],
-    queue: &mut [u32],
-    tallies: &mut [u32],
-    pairs: &mut [u32],
-) {
-    fill_numbers(labels);
-    fill_masks(masks);
-    fill_numbers(queue);
-    fill_numbers(tallies);
-    fill_numbers(pairs);
-}
-
 fn write_lists(labels: &[u32], masks: &[u16], queue: &[u32], tallies: &[u32], pairs: &[u32]) {
     write_numbers(b"labels ", labels);
     write_numbers(b"tallies ", tallies);
@@ -186,70 +172,20 @@ fn run(
     tallies: &mut [u32],
     pairs: &mut [u32],
 ) {
-    fill(labels, masks, queue, tallies, pairs);
-    let answer = partition(width, height, cells, spans, labels, masks, queue, tallies, pairs);
+    let answer = partition(
+        width,
+        height,
+        cells,
+        spans,
+        labels,
+        masks,
+        queue,
+        tallies,
+        pairs,
+    );
     write_answer(answer);
     write_lists(labels, masks, queue, tallies, pairs);
 }
-
-struct Case {
-    width: u64,
-    height: u64,
-    cells: usize,
-    spans: usize,
-    labels: usize,
-    masks: usize,
-    queue: usize,
-    tallies: usize,
-    pairs: usize,
-    sheet: usize,
-}
-
-fn lend(case: Case, cells: &[u8], spans: &[u64]) {
-    let mut labels = [0u32; 4096];
-    let mut masks = [0u16; 4096];
-    let mut queue = [0u32; 4096];
-    let mut tallies = [0u32; 1024];
-    let mut pairs = [0u32; 4096];
-    let cells_end = least(case.cells, cells.len());
-    let spans_end = least(case.spans, spans.len());
-    let labels_end = least(case.labels, 4096);
-    let masks_end = least(case.masks, 4096);
-    let queue_end = least(case.queue, 4096);
-    let tallies_end = least(case.tallies, 1024);
-    let pairs_end = least(case.pairs, 4096);
-    run(
-        case.width,
-        case.height,
-        &cells[0..cells_end],
-        &spans[0..spans_end],
-        &mut labels[0..labels_end],
-        &mut masks[0..masks_end],
-        &mut queue[0..queue_end],
-        &mut tallies[0..tallies_end],
-        &mut pairs[0..pairs_end],
-    );
-}
-
-fn replay(case: Case, bytes: &[u8]) {
-    let mut cells = [0u8; 4097];
-    let mut spans = [0u64; 1028];
-    let mut boundaries = [0u64; 2304];
-    let mut anchors = [0u64; 512];
-    let answer = read_sheet(
-        bytes,
-        &mut cells,
-        &mut spans,
-        &mut boundaries,
-        &mut anchors,
-    );
-    match answer {
-        Answer::Read(_) => lend(case, &cells, &spans),
-        Answer::Refused(_, _) => write(b"no sheet\n"),
-    }
-}
-
-// ---- standard input
 
 fn byte(b: u8) -> usize
     ensures { λ r. ⌜ r < 256 ⌝ }
@@ -265,22 +201,53 @@ fn number(opening: &[u8; 20], k: usize) -> usize
     byte(opening[2 * k]) + 256 * byte(opening[2 * k + 1])
 }
 
-fn case_of(opening: &[u8; 20]) -> Case
-    ensures { λ r. ⌜ r .sheet < 65536 ⌝ }
+// Number k of an opening as the length of a list; the list has no more than `most` entries.
+fn number_within(opening: &[u8; 20], k: usize, most: usize) -> usize
+    requires { ⌜ k < 10 ⌝ }
+    ensures { λ r. ⌜ r ≤ most ⌝ }
 {
-    Case {
-        width: number(opening, 0) as u64,
-        height: number(opening, 1) as u64,
-        cells: number(opening, 2),
-        spans: number(opening, 3),
-        labels: number(opening, 4),
-        masks: number(opening, 5),
-        queue: number(opening, 6),
-        tallies: number(opening, 7),
-        pairs: number(opening, 8),
-        sheet: number(opening, 9),
+    least(number(opening, k), most)
+}
+
+fn lend(opening: &[u8; 20], cells: &[u8], spans: &[u64]) {
+    let mut labels = numbers_before();
+    let mut masks = masks_before();
+    let mut queue = numbers_before();
+    let mut tallies = numbers_before();
+    let mut pairs = numbers_before();
+    let cells_end = number_within(opening, 2, cells.len());
+    let spans_end = number_within(opening, 3, spans.len());
+    let labels_end = number_within(opening, 4, 4096);
+    let masks_end = number_within(opening, 5, 4096);
+    let queue_end = number_within(opening, 6, 4096);
+    let tallies_end = number_within(opening, 7, 4096);
+    let pairs_end = number_within(opening, 8, 4096);
+    run(
+        number(opening, 0) as u64,
+        number(opening, 1) as u64,
+        &cells[0..cells_end],
+        &spans[0..spans_end],
+        &mut labels[0..labels_end],
+        &mut masks[0..masks_end],
+        &mut queue[0..queue_end],
+        &mut tallies[0..tallies_end],
+        &mut pairs[0..pairs_end],
+    );
+}
+
+fn replay(opening: &[u8; 20], bytes: &[u8]) {
+    let mut cells = [0u8; 4097];
+    let mut spans = [0u64; 1028];
+    let mut boundaries = [0u64; 2304];
+    let mut anchors = [0u64; 512];
+    let answer = read_sheet(bytes, &mut cells, &mut spans, &mut boundaries, &mut anchors);
+    match answer {
+        Answer::Read(_) => lend(opening, &cells, &spans),
+        Answer::Refused(_, _) => write(b"no sheet\n"),
     }
 }
+
+// ---- standard input
 
 // Reads a case and replays it; false where there is none.
 fn replay_next(buffer: &mut [u8]) -> bool
@@ -290,10 +257,9 @@ fn replay_next(buffer: &mut [u8]) -> bool
     if read_full(STDIN_FILENO, &mut opening) < OPENING {
         return false;
     }
-    let case = case_of(&opening);
-    let size = case.sheet;
+    let size = number(&opening, 9);
     let got = read_full(STDIN_FILENO, &mut buffer[0..size]);
-    replay(case, &buffer[0..got]);
+    replay(&opening, &buffer[0..got]);
     true
 }
 

@@ -1,17 +1,14 @@
--- `fill_masks` is safe and ends. The invariant: the list keeps its length, and i is not beyond it. The measure is what is left of the list. Assumes nothing.
+-- `masks_before` is safe and ends. The invariant: i is not beyond the list. The measure is what is left of the list. Assumes nothing.
 use Prim.Native.Nat.{_-_, _≤_}
-use mathlib.Core.Path.{_≡_}
-use native.Mathlib.Omega.{arith}
-use lib.ListN.{length, length-set}
 use borrow.Author.Needs.{needs}
-use Rattle.areas_replay.proofs.fill_masks.Statement.{statement}
-use Rattle.areas_replay.proofs.fill_masks.Tie as tie
+use Rattle.areas_replay.proofs.masks_before.Statement.{statement}
+use Rattle.areas_replay.proofs.masks_before.Tie as tie
 
 abbrev Inv-loop : tie.InvT-loop
-Inv-loop list₀ i₀ list i = (length list ≡ length list₀) × (i ≤ length list)
+Inv-loop list₀ i₀ list i = i ≤ 4096
 
 abbrev μ-loop : tie.MeasureT-loop
-μ-loop list₀ i₀ list i = length list₀ - i
+μ-loop list₀ i₀ list i = 4096 - i
 
 loop-holds : tie.Need-loop-holds Inv-loop μ-loop
 loop-holds c = search needs
@@ -25,8 +22,8 @@ cast-list c = search needs
 mul-list : tie.Need-mul-list Inv-loop μ-loop
 mul-list c = search needs
 
-slice-write-list : tie.Need-slice-write-list Inv-loop μ-loop
-slice-write-list c = search needs
+array-write-list : tie.Need-array-write-list Inv-loop μ-loop
+array-write-list c = search needs
 
 add-i : tie.Need-add-i Inv-loop μ-loop
 add-i c = search needs
@@ -35,16 +32,13 @@ loop-less : tie.Need-loop-less Inv-loop μ-loop
 loop-less c = search needs
 
 loop-again : tie.Need-loop-again Inv-loop μ-loop
-loop-again c = simp length-set (omega arith)
-
-same-length : tie.Need-same-length Inv-loop μ-loop
-same-length c = search needs
+loop-again c = search needs
 
 returns : tie.Need-returns Inv-loop μ-loop
 returns c = search needs
 
-pub fill-masks-spec : {M : Type 1} → statement M
-fill-masks-spec =
+pub masks-before-spec : {M : Type 1} → statement M
+masks-before-spec =
     tie.close
     (tie.spec
     Inv-loop
@@ -53,9 +47,8 @@ fill-masks-spec =
     held-before-requires
     cast-list
     mul-list
-    slice-write-list
+    array-write-list
     add-i
     loop-less
     loop-again
-    same-length
     returns)
