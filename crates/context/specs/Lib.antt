@@ -1,2 +1,6 @@
+pub mod Cells
+pub mod OneMore
+pub mod RecordFrom
+pub mod RecordLaws
 pub mod Records
 pub mod Shown
