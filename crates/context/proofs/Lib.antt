@@ -1,4 +1,7 @@
 -- The laws that the proofs of this crate share.
 pub mod Added
 pub mod Dominance
+pub mod FullPairs
 pub mod Ones
+pub mod PairStarts
+pub mod Rows

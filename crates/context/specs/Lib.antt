@@ -3,4 +3,6 @@ pub mod OneMore
 pub mod RecordFrom
 pub mod RecordLaws
 pub mod Records
+pub mod Rows
 pub mod Shown
+pub mod ShownLaws

@@ -14,14 +14,14 @@ use Rattle.definitions.specs.RegionRecord.{least, most}
 use Rattle.laws.specs.ListLaws.Below.{below-at, below-ext, count-ext}
 use Rattle.laws.specs.RegionLaws.Edges.{least-ext, most-ext}
 
-same-or : (a b : ℕ) → (a ≡ b) ⊎ (a ≡ b → ⊥)
+pub same-or : (a b : ℕ) → (a ≡ b) ⊎ (a ≡ b → ⊥)
 same-or a b = go (eqb a b) refl
   where
     go : (t : Bool) → eqb a b ≡ t → (a ≡ b) ⊎ (a ≡ b → ⊥)
     go true e = inl (eqb-true a b e)
     go false e = inr (eqb-false a b e)
 
-last-or : (c n : ℕ) → c < suc n → (c ≡ n) ⊎ (c < n)
+pub last-or : (c n : ℕ) → c < suc n → (c ≡ n) ⊎ (c < n)
 last-or c n h = ⊎-elim (λ e. inl e) (λ e. inr (lt-of-le-ne (omega arith) e)) (same-or c n)
 
 -- q passes c, which p does not, and else what p passes
