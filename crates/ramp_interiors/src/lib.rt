@@ -1,0 +1,2 @@
+// Pass 2, `collapse_ramp_interiors` of ramp_boundaries.rs, over plain lists and regions by value.
+pub mod components;
