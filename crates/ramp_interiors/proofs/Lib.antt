@@ -1,1 +1,2 @@
+pub mod RowScans
 pub mod Forests

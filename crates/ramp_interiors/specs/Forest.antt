@@ -4,7 +4,8 @@ use mathlib.Core.Path.{_≡_}
 use mathlib.Core.List.{List}
 use lib.ListN.{length, getD, drop}
 use Rattle.definitions.specs.Grid.{Pair}
-use Rattle.definitions.specs.Partition.{merge}
+use Rattle.definitions.specs.Partition.{mergeAll}
+use Rattle.context.specs.Shown.{pairAt}
 
 -- a list of the same length, that is as it was from n on
 pub record Beyond (n : ℕ) (was l : List ℕ) : Type 0 where
@@ -32,14 +33,34 @@ pub record Found (cs was : List ℕ) (r : ℕ) (ps : List ℕ) (x : ℕ) : Type 
   pub upto : x ≤ r
   pub beyond : Beyond (length cs - 1) was ps
 
--- both regions of a pair have names
-pub record Placed (cs : List ℕ) (p : Pair) : Type 0 where
+-- both regions of a pair have names, of a list of n names
+pub record Placed (n : ℕ) (p : Pair) : Type 0 where
   pub lowFrom : 1 ≤ p .lo
-  pub lowUpto : p .lo < length cs
+  pub lowUpto : p .lo < n
   pub highFrom : 1 ≤ p .hi
-  pub highUpto : p .hi < length cs
+  pub highUpto : p .hi < n
 
--- the parents, once `was`, have the names of the list in which a pair is merged
-pub record Merged (cs was : List ℕ) (p : Pair) (ps : List ℕ) : Type 0 where
-  pub parented : Parented (merge cs p) ps
+-- the parents are those of some names, among which are those of p
+abbrev pub Joinable : List ℕ → Pair → Type 0
+Joinable ps p = (cs : List ℕ) × (Parented cs ps × Placed (length cs) p)
+
+-- the pairs of the rows from `first` on, before `end`, have names, of a list of n names
+abbrev pub Rows : ℕ → List ℕ → ℕ → ℕ → Type 0
+Rows n rows first end = (k : ℕ) → first ≤ k → k < end → Placed n (pairAt rows k)
+
+abbrev pub RowsJoinable : List ℕ → List ℕ → ℕ → ℕ → Type 0
+RowsJoinable ps rows first end = (cs : List ℕ) × (Parented cs ps × Rows (length cs) rows first end)
+
+-- the parents are those of the names of `regions` regions
+abbrev pub Forest : List ℕ → ℕ → Type 0
+Forest ps regions = (cs : List ℕ) × (Parented cs ps × (length cs ≡ suc regions))
+
+-- the parents, once `was`, have the names of the list in which pairs are merged
+pub record Merged (cs was : List ℕ) (l : List Pair) (ps : List ℕ) : Type 0 where
+  pub parented : Parented (mergeAll cs l) ps
   pub beyond : Beyond (length cs - 1) was ps
+
+-- the list has for each region its name
+pub record Names (cs ps : List ℕ) : Type 0 where
+  pub long : length cs ≤ suc (length ps)
+  pub at : (x : ℕ) → 1 ≤ x → x < length cs → getD ps (x - 1) 0 ≡ getD cs x 0
