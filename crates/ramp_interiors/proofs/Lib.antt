@@ -1,2 +1,4 @@
 pub mod RowScans
+pub mod Stored
 pub mod Forests
+pub mod Preparing

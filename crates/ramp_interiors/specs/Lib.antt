@@ -1,1 +1,2 @@
 pub mod Forest
+pub mod Given

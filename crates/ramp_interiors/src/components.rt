@@ -8,9 +8,10 @@ ghost use lib.ListN.{length, getD, set};
 ghost use mathlib.Core.Bool.{false};
 ghost use Rattle.definitions.specs.Limits.{numbersPerPair, numbersPerBoundary, talliesPerSpan};
 ghost use Rattle.definitions.specs.Context.{Context};
-ghost use Rattle.definitions.specs.RampInteriors.{isOrdinary};
-ghost use Rattle.context.specs.Shown.{ShownBoundaries, ShownTallies, pairAt, pairsBetween};
+ghost use Rattle.definitions.specs.RampInteriors.{isOrdinary, links};
+ghost use Rattle.context.specs.Shown.{ShownBoundaries, ShownTallies, ShownAnchored, ShownIncidents, pairAt, pairsBetween};
 ghost use Rattle.ramp_interiors.specs.Forest.{Beyond, Parented, Rooted, Found, Joinable, Placed, Merged, Rows, RowsJoinable, Forest, Names};
+ghost use Rattle.ramp_interiors.specs.Given.{Given, Lent, SomeLent, flagsOf, alone, linksOf, CutJoinable, CutsJoinable, Prepared, Known};
 
 pub const NUMBERS_PER_BOUNDARY: usize = 9;
 pub const NUMBERS_PER_PAIR: usize = 3;
@@ -105,6 +106,42 @@ pub fn is_ordinary(boundaries: &[u64], tallies: &[u32], i: usize) -> bool
     (boundaries[NUMBERS_PER_BOUNDARY * i + 5] == 0) & full_cut(tallies, i)
 }
 
+// Joins the regions of each pair of boundary i, if it is an ordinary full cut.
+fn join_cut(
+    parents: &mut [u32],
+    boundaries: &[u64],
+    tallies: &[u32],
+    pairs: &[u32],
+    starts: &[usize; 257],
+    i: usize,
+)
+    requires { ⌜ CutJoinable (now boundaries) (now tallies) (now pairs) (now starts) (now parents) i ⌝ }
+    ensures { λ x. ⌜ ((C : Context) (cs : List ℕ) → Given C (now (boundaries .entry)) (now (tallies .entry)) (now (pairs .entry)) (now (starts .entry)) → i < C .count → Parented cs (now (parents .entry)) → length cs ≡ suc (C .regions) → Merged cs (now (parents .entry)) (linksOf C i) (now (parents .exit))) ⌝ }
+{
+    if is_ordinary(boundaries, tallies, i) {
+        join_pairs(parents, pairs, starts[i], starts[i + 1]);
+    }
+}
+
+// Joins the regions of the pairs of all ordinary full cuts.
+fn join_cuts(
+    parents: &mut [u32],
+    boundaries: &[u64],
+    tallies: &[u32],
+    pairs: &[u32],
+    starts: &[usize; 257],
+    count: usize,
+)
+    requires { ⌜ CutsJoinable (now boundaries) (now tallies) (now pairs) (now starts) (now parents) count ⌝ }
+    ensures { λ x. ⌜ ((C : Context) → Given C (now (boundaries .entry)) (now (tallies .entry)) (now (pairs .entry)) (now (starts .entry)) → C .count ≡ count → Parented (alone C) (now (parents .entry)) → Merged (alone C) (now (parents .entry)) (links C) (now (parents .exit))) ⌝ }
+{
+    let mut i = 0;
+    while i < count {
+        join_cut(parents, boundaries, tallies, pairs, starts, i);
+        i += 1;
+    }
+}
+
 // Each region's parent becomes its name, in ascending order: the name of a parent stands there already.
 fn flatten(parents: &mut [u32], regions: usize)
     requires { ⌜ Forest (now parents) regions ⌝ }
@@ -118,4 +155,47 @@ fn flatten(parents: &mut [u32], regions: usize)
         parents[k] = q;
         k += 1;
     }
+}
+
+// The mark of a region that has `count` incidents: bit 0 says whether it is anchored, bit 1 whether it has exactly one incident.
+fn flags(mark: u16, count: u32) -> u16
+    ensures { λ r. ⌜ r ≡ flagsOf (eqb (mark % 2) 1) (eqb count 1) false ⌝ }
+{
+    let anchored = mark % 2;
+    if count == 1 { anchored + 2 } else { anchored }
+}
+
+// Moves what is needed of the counts of incidents into the marks, and makes each region its own parent in their place.
+fn prepare(marks: &mut [u16], counts: &mut [u32], regions: usize)
+    requires { ⌜ (regions ≤ length (now marks)) × (regions ≤ length (now counts)) × (regions < 2 ^ 32) ⌝ }
+    ensures { λ x. ⌜ ((C : Context) → C .regions ≡ regions → ShownAnchored C (now (marks .entry)) → ShownIncidents C (now (counts .entry)) → Prepared C (now (marks .exit)) (now (counts .exit))) ⌝ }
+    ensures { λ x. ⌜ Beyond regions (now (marks .entry)) (now (marks .exit)) × Beyond regions (now (counts .entry)) (now (counts .exit)) ⌝ }
+{
+    let mut k = 0;
+    while k < regions {
+        let mark = flags(marks[k], counts[k]);
+        marks[k] = mark;
+        counts[k] = k as u32 + 1;
+        k += 1;
+    }
+}
+
+// Names the component of each region by its least region, in the place of the counts of incidents.
+pub fn name_components(
+    boundaries: &[u64],
+    tallies: &[u32],
+    pairs: &[u32],
+    starts: &[usize; 257],
+    count: usize,
+    regions: usize,
+    marks: &mut [u16],
+    counts: &mut [u32],
+)
+    requires { ⌜ SomeLent (now boundaries) (now tallies) (now pairs) (now starts) count regions (now marks) (now counts) ⌝ }
+    ensures { λ x. ⌜ ((C : Context) → Lent C (now (boundaries .entry)) (now (tallies .entry)) (now (pairs .entry)) (now (starts .entry)) count regions (now (marks .entry)) (now (counts .entry)) → Known C (now (marks .exit)) (now (counts .exit))) ⌝ }
+    ensures { λ x. ⌜ Beyond regions (now (marks .entry)) (now (marks .exit)) × Beyond regions (now (counts .entry)) (now (counts .exit)) ⌝ }
+{
+    prepare(marks, counts, regions);
+    join_cuts(counts, boundaries, tallies, pairs, starts, count);
+    flatten(counts, regions);
 }
