@@ -262,7 +262,7 @@ module _ {cs ps : List ℕ} {k : ℕ} (F : Flat cs ps k) (l : k + 1 < length cs)
       up = e ∙ ap (λ i. getD ps (getD ps i 0 - 1) 0) (sym here)
 
 pub flat-end : {cs ps : List ℕ} {k n : ℕ} → Flat cs ps k → n ≤ k → length cs ≡ suc n → Names cs ps
-flat-end F a e = record { long = F .parented .long; at = λ x b l. F .flat x b (omega arith) }
+flat-end F a e = record { long = F .parented .long; low = F .parented .low; high = F .parented .high; at = λ x b l. F .flat x b (omega arith) }
 
 -- ---- row by row
 

@@ -2,3 +2,5 @@ pub mod RowScans
 pub mod Stored
 pub mod Forests
 pub mod Preparing
+pub mod Commons
+pub mod Walks

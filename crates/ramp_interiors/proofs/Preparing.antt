@@ -99,14 +99,14 @@ module _ (C : Context) {was : List ℕ} where
 
 -- ---- together
 
+pub components-size : (C : Context) → length (components C) ≡ suc (C .regions)
+unfolding components
+components-size C = mergeAll-length (alone C) (links C) ∙ size-alone C
+
 module _ (C : Context) {was ps : List ℕ} (m : Merged (alone C) was (links C) ps) where
   pub components-parented : Parented (components C) ps
   unfolding components
   components-parented = m .parented
-
-  pub components-size : length (components C) ≡ suc (C .regions)
-  unfolding components
-  components-size = mergeAll-length (alone C) (links C) ∙ size-alone C
 
   pub components-beyond : {regions : ℕ} → C .regions ≡ regions → Beyond regions was ps
   components-beyond {regions} e = subst (λ n. Beyond n was ps) same (m .beyond)

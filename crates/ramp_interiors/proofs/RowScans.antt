@@ -3,12 +3,15 @@ use Prim.Native.Nat.{ℕ, zero, suc, _+_, _-_, _≤_, _<_}
 use native.Mathlib.Omega.{arith}
 use native.Mathlib.Nat.{add-zero}
 use mathlib.Core.Path.{_≡_, refl, sym, ap, subst, _∙_}
+use mathlib.Core.Bool.{Bool, true, false, _&&_, _||_, or-false, and-true, true≢false}
 use mathlib.Core.List.{List, [], _∷_, _++_, map}
 use mathlib.Core.Logic.{⊎-elim}
 use lib.Arith.{lt-of-le-ne}
-use Rattle.definitions.specs.Scan.{run}
+use Rattle.definitions.specs.Scan.{run, any, all}
 use Rattle.definitions.specs.Grid.{Pair}
-use Rattle.laws.specs.ListLaws.Lists.{All, more, map-append}
+use Rattle.laws.specs.ListLaws.Lists.{All, more, map-append, any-append}
+use Rattle.laws.specs.ListLaws.ScansOfAll.{all-append-test}
+use Rattle.laws.specs.ListLaws.Members.{any-failed}
 use Rattle.context.specs.OneMore.{same-or}
 use Rattle.context.specs.Shown.{pairAt, pairsBetween}
 
@@ -52,3 +55,40 @@ run-all {P} rows s (suc n) (more p a) k h l = ⊎-elim (λ e. subst (λ x. P (pa
 pub between-at : {P : Pair → Type 0} (rows : List ℕ) (first end : ℕ) → All P (pairsBetween rows first end) → (k : ℕ) → first ≤ k → k < end → P (pairAt rows k)
 unfolding pairsBetween
 between-at rows first end a k h l = run-all rows first (end - first) a k h (omega arith)
+
+-- ---- tests of rows
+
+module _ (f : Pair → Bool) (rows : List ℕ) (first : ℕ) where
+  pub any-rows-none : any f (pairsBetween rows first first) ≡ false
+  unfolding any
+  any-rows-none = ap (any f) (between-none rows first)
+
+  pub all-rows-none : all f (pairsBetween rows first first) ≡ true
+  unfolding all
+  all-rows-none = ap (all f) (between-none rows first)
+
+  pub any-rows-next : (k : ℕ) → first ≤ k → any f (pairsBetween rows first (k + 1)) ≡ (any f (pairsBetween rows first k) || f (pairAt rows k))
+  unfolding any
+  any-rows-next k h =
+      ap (any f) (between-next rows first k h) ∙ any-append f (pairsBetween rows first k) (pairAt rows k ∷ [])
+      ∙ ap (λ b. any f (pairsBetween rows first k) || b) (or-false (f (pairAt rows k)))
+
+  pub all-rows-next : (k : ℕ) → first ≤ k → all f (pairsBetween rows first (k + 1)) ≡ (all f (pairsBetween rows first k) && f (pairAt rows k))
+  unfolding all
+  all-rows-next k h =
+      ap (all f) (between-next rows first k h) ∙ all-append-test f (pairsBetween rows first k) (pairAt rows k ∷ [])
+      ∙ ap (λ b. all f (pairsBetween rows first k) && b) (and-true (f (pairAt rows k)))
+
+  pub any-rows-end : {k end : ℕ} → k ≤ end → end ≤ k → any f (pairsBetween rows first k) ≡ any f (pairsBetween rows first end)
+  any-rows-end a b = ap (any f) (between-end rows first a b)
+
+  pub all-rows-end : {k end : ℕ} → k ≤ end → end ≤ k → all f (pairsBetween rows first k) ≡ all f (pairsBetween rows first end)
+  all-rows-end a b = ap (all f) (between-end rows first a b)
+
+  -- a row that passes
+  pub any-rows-at : (k end : ℕ) → first ≤ k → k < end → f (pairAt rows k) ≡ true → any f (pairsBetween rows first end) ≡ true
+  any-rows-at k end h l e = go (any f (pairsBetween rows first end)) refl
+    where
+      go : (b : Bool) → any f (pairsBetween rows first end) ≡ b → b ≡ true
+      go true q = refl
+      go false q = absurd (true≢false (sym e ∙ between-at rows first end (any-failed f (pairsBetween rows first end) q) k h l))

@@ -60,7 +60,9 @@ pub record Merged (cs was : List ℕ) (l : List Pair) (ps : List ℕ) : Type 0 w
   pub parented : Parented (mergeAll cs l) ps
   pub beyond : Beyond (length cs - 1) was ps
 
--- the list has for each region its name
+-- the list has for each region its name, which is no larger
 pub record Names (cs ps : List ℕ) : Type 0 where
   pub long : length cs ≤ suc (length ps)
+  pub low : (x : ℕ) → 1 ≤ x → x < length cs → 1 ≤ getD ps (x - 1) 0
+  pub high : (x : ℕ) → 1 ≤ x → x < length cs → getD ps (x - 1) 0 ≤ x
   pub at : (x : ℕ) → 1 ≤ x → x < length cs → getD ps (x - 1) 0 ≡ getD cs x 0

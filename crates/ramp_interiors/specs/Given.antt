@@ -1,10 +1,11 @@
 -- What pass 2 reads and what it keeps of regions: the lists that show a context, the marks of regions and the names of their components. Definitions only; assumes nothing.
-use Prim.Native.Nat.{ℕ, suc, _+_, _-_, _*_, _^_, _≤_, _<_}
+use Prim.Native.Nat.{ℕ, suc, _+_, _-_, _*_, _≤_, _<_}
 use mathlib.Core.Path.{_≡_}
 use mathlib.Core.Bool.{Bool, false, cond}
 use mathlib.Core.List.{List, []}
 use lib.ListN.{length, getD}
 use lib.Dec.{eqb}
+use Rattle.definitions.specs.Limits.{maxSide}
 use Rattle.definitions.specs.Scan.{bit, run}
 use Rattle.definitions.specs.Grid.{Pair}
 use Rattle.definitions.specs.Context.{Context, incidentCount}
@@ -27,7 +28,7 @@ pub record Lent (C : Context) (boundaries tallies pairs starts : List ℕ) (coun
   pub given : Given C boundaries tallies pairs starts
   pub counted : C .count ≡ count
   pub labelled : C .regions ≡ regions
-  pub few : regions < 2 ^ 32
+  pub few : regions ≤ maxSide * maxSide
   pub anchored : ShownAnchored C marks
   pub incidents : ShownIncidents C counts
 
@@ -69,3 +70,16 @@ module _ (boundaries tallies pairs starts parents : List ℕ) where
 pub record Known (C : Context) (marks names : List ℕ) : Type 0 where
   pub marked : Marked C (λ x. false) marks
   pub named : Names (components C) names
+
+-- what is read and not written once the components are named
+pub record Kept (C : Context) (boundaries tallies pairs starts names : List ℕ) : Type 0 where
+  pub given : Given C boundaries tallies pairs starts
+  pub named : Names (components C) names
+  pub few : C .regions ≤ maxSide * maxSide
+
+module _ (boundaries tallies pairs starts names : List ℕ) where
+  abbrev pub SomeKept : ℕ → Type 0
+  SomeKept i = (C : Context) × (Kept C boundaries tallies pairs starts names × (i < C .count))
+
+  abbrev pub AllKept : ℕ → Type 0
+  AllKept count = (C : Context) × (Kept C boundaries tallies pairs starts names × (C .count ≡ count))

@@ -2,11 +2,11 @@
 use context::pairs::full_cut;
 ghost use mathlib.Core.Path.{_≡_};
 ghost use mathlib.Core.List.{List, [], _∷_};
-ghost use Prim.Native.Nat.{ℕ, suc, _+_, _-_, _*_, _%_, _^_, _≤_, _<_, min, max};
+ghost use Prim.Native.Nat.{ℕ, suc, _+_, _-_, _*_, _%_, _≤_, _<_, min, max};
 ghost use lib.Dec.{eqb};
 ghost use lib.ListN.{length, getD, set};
 ghost use mathlib.Core.Bool.{false};
-ghost use Rattle.definitions.specs.Limits.{numbersPerPair, numbersPerBoundary, talliesPerSpan};
+ghost use Rattle.definitions.specs.Limits.{maxSide, numbersPerPair, numbersPerBoundary, talliesPerSpan};
 ghost use Rattle.definitions.specs.Context.{Context};
 ghost use Rattle.definitions.specs.RampInteriors.{isOrdinary, links};
 ghost use Rattle.context.specs.Shown.{ShownBoundaries, ShownTallies, ShownAnchored, ShownIncidents, pairAt, pairsBetween};
@@ -167,7 +167,7 @@ fn flags(mark: u16, count: u32) -> u16
 
 // Moves what is needed of the counts of incidents into the marks, and makes each region its own parent in their place.
 fn prepare(marks: &mut [u16], counts: &mut [u32], regions: usize)
-    requires { ⌜ (regions ≤ length (now marks)) × (regions ≤ length (now counts)) × (regions < 2 ^ 32) ⌝ }
+    requires { ⌜ (regions ≤ length (now marks)) × (regions ≤ length (now counts)) × (regions ≤ maxSide * maxSide) ⌝ }
     ensures { λ x. ⌜ ((C : Context) → C .regions ≡ regions → ShownAnchored C (now (marks .entry)) → ShownIncidents C (now (counts .entry)) → Prepared C (now (marks .exit)) (now (counts .exit))) ⌝ }
     ensures { λ x. ⌜ Beyond regions (now (marks .entry)) (now (marks .exit)) × Beyond regions (now (counts .entry)) (now (counts .exit)) ⌝ }
 {

@@ -1,2 +1,3 @@
 // Pass 2, `collapse_ramp_interiors` of ramp_boundaries.rs, over plain lists and regions by value.
 pub mod components;
+pub mod owners;

@@ -33,7 +33,7 @@ flatten-requires c κs =
     let C = s .pre .0 in
     let L = s .pre .1 in
     let m = j .join-cuts .ensures C (L .given) (L .counted) (p .prepare .ensures .0 C (L .labelled) (L .anchored) (L .incidents) .parented) in
-    (components C, (components-parented C m, components-size C m ∙ ap suc (L .labelled)))
+    (components C, (components-parented C m, components-size C ∙ ap suc (L .labelled)))
 
 same-length : tie.Need-same-length
 same-length c = search needs
@@ -52,7 +52,7 @@ returns c =
     (λ C M.
     let r = was .0 C (M .labelled) (M .anchored) (M .incidents) in
     let m = j .join-cuts .ensures C (M .given) (M .counted) (r .parented) in
-    record { marked = r .marked; named = f .flatten .ensures .0 (components C) (components-parented C m) (components-size C m ∙ ap suc (M .labelled)) },
+    record { marked = r .marked; named = f .flatten .ensures .0 (components C) (components-parented C m) (components-size C ∙ ap suc (M .labelled)) },
     (was .1 .0, beyond-then (was .1 .1) (beyond-then (components-beyond (s .pre .0) (j .join-cuts .ensures (s .pre .0) (L .given) (L .counted) (was .0 (s .pre .0) (L .labelled) (L .anchored) (L .incidents) .parented)) (L .labelled)) (f .flatten .ensures .1))))
 
 pub name-components-spec : {M : Type 1} → statement M
