@@ -22,7 +22,7 @@ use Rattle.ramp_interiors.specs.Owners.{lowNamed, several, Common, none,
 
 -- ---- tests of lists that agree on what stands there
 
-any-same : {A : Type 0} (f g : A → Bool) {l : List A} → All (λ x. f x ≡ g x) l → any f l ≡ any g l
+pub any-same : {A : Type 0} (f g : A → Bool) {l : List A} → All (λ x. f x ≡ g x) l → any f l ≡ any g l
 unfolding any
 any-same f g done = refl
 any-same f g (more h a) = ap₂ _||_ h (any-same f g a)

@@ -4,3 +4,5 @@ pub mod Forests
 pub mod Preparing
 pub mod Commons
 pub mod Walks
+pub mod CandidateLaws
+pub mod PortLaws

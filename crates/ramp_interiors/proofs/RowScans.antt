@@ -92,3 +92,7 @@ module _ (f : Pair → Bool) (rows : List ℕ) (first : ℕ) where
       go : (b : Bool) → any f (pairsBetween rows first end) ≡ b → b ≡ true
       go true q = refl
       go false q = absurd (true≢false (sym e ∙ between-at rows first end (any-failed f (pairsBetween rows first end) q) k h l))
+
+-- what holds from `first` on below k, and at k, holds below k + 1
+pub from-more : (P : ℕ → Type 0) (first k : ℕ) → ((j : ℕ) → first ≤ j → j < k → P j) → P k → (j : ℕ) → first ≤ j → j < k + 1 → P j
+from-more P first k h last j l m = ⊎-elim (λ e. subst P (sym e) last) (λ n. h j l (lt-of-le-ne (omega arith) n)) (same-or j k)

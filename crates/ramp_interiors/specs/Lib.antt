@@ -1,3 +1,4 @@
 pub mod Forest
 pub mod Given
 pub mod Owners
+pub mod Candidates

@@ -1,3 +1,5 @@
 // Pass 2, `collapse_ramp_interiors` of ramp_boundaries.rs, over plain lists and regions by value.
+pub mod candidates;
 pub mod components;
 pub mod owners;
+pub mod ports;
