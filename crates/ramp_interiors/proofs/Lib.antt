@@ -6,3 +6,4 @@ pub mod Commons
 pub mod Walks
 pub mod CandidateLaws
 pub mod PortLaws
+pub mod FitLaws

@@ -2,3 +2,4 @@ pub mod Forest
 pub mod Given
 pub mod Owners
 pub mod Candidates
+pub mod Fits
