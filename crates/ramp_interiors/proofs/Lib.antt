@@ -7,3 +7,5 @@ pub mod Walks
 pub mod CandidateLaws
 pub mod PortLaws
 pub mod FitLaws
+pub mod MarkLaws
+pub mod ExteriorLaws

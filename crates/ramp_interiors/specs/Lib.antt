@@ -3,3 +3,4 @@ pub mod Given
 pub mod Owners
 pub mod Candidates
 pub mod Fits
+pub mod Leaves

@@ -24,7 +24,7 @@ pub fn parent_of(parents: &[u32], r: u32) -> u32
     parents[r as usize - 1]
 }
 
-fn set_parent(parents: &mut [u32], r: u32, p: u32)
+pub fn set_parent(parents: &mut [u32], r: u32, p: u32)
     requires { ⌜ (1 ≤ r) × (r ≤ length (now parents)) ⌝ }
     ensures { λ x. ⌜ now (parents .exit) ≡ set (now (parents .entry)) (r - 1) p ⌝ }
 {

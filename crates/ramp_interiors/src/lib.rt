@@ -2,5 +2,6 @@
 pub mod candidates;
 pub mod components;
 pub mod fits;
+pub mod leaves;
 pub mod owners;
 pub mod ports;
