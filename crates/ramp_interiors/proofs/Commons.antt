@@ -14,10 +14,10 @@ use Rattle.definitions.specs.Grid.{Pair}
 use Rattle.definitions.specs.Context.{Context}
 use Rattle.definitions.specs.RampInteriors.{isOrdinary, components, componentOf, isEdge}
 use Rattle.laws.specs.ListLaws.Lists.{All, done, more, all-map}
-use Rattle.laws.specs.ListLaws.Tests.{both}
 use Rattle.laws.specs.ListLaws.Members.{all-at, any-found}
 use Rattle.context.specs.Shown.{pairsBetween, ShownPairs}
 use Rattle.ramp_interiors.specs.Forest.{Names}
+use Rattle.ramp_interiors.proofs.RowScans.{all-holds}
 use Rattle.ramp_interiors.specs.Owners.{lowNamed, several, Common, none, one, severalNames, allIn, edge, Owned}
 
 -- ---- tests of lists that agree on what stands there
@@ -31,14 +31,6 @@ all-same : {A : Type 0} (f g : A → Bool) {l : List A} → All (λ x. f x ≡ g
 unfolding all
 all-same f g done = refl
 all-same f g (more h a) = ap₂ _&&_ h (all-same f g a)
-
--- what all pass each passes
-pub all-holds : {A : Type 0} (f : A → Bool) (l : List A) → all f l ≡ true → All (λ x. f x ≡ true) l
-unfolding all
-all-holds f [] h = done
-all-holds f (x ∷ l) h =
-    let t = both (f x) (all f l) h in
-    more (t .0) (all-holds f l (t .1))
 
 -- ---- numbers f of the elements of a list
 

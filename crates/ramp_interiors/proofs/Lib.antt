@@ -9,3 +9,4 @@ pub mod PortLaws
 pub mod FitLaws
 pub mod MarkLaws
 pub mod ExteriorLaws
+pub mod LeafLaws

@@ -9,7 +9,8 @@ use mathlib.Core.Logic.{⊎-elim}
 use lib.Arith.{lt-of-le-ne}
 use Rattle.definitions.specs.Scan.{run, any, all}
 use Rattle.definitions.specs.Grid.{Pair}
-use Rattle.laws.specs.ListLaws.Lists.{All, more, map-append, any-append}
+use Rattle.laws.specs.ListLaws.Lists.{All, done, more, map-append, any-append}
+use Rattle.laws.specs.ListLaws.Tests.{both}
 use Rattle.laws.specs.ListLaws.ScansOfAll.{all-append-test}
 use Rattle.laws.specs.ListLaws.Members.{any-failed}
 use Rattle.context.specs.OneMore.{same-or}
@@ -56,6 +57,14 @@ pub between-at : {P : Pair → Type 0} (rows : List ℕ) (first end : ℕ) → A
 unfolding pairsBetween
 between-at rows first end a k h l = run-all rows first (end - first) a k h (omega arith)
 
+-- what all pass each passes
+pub all-holds : {A : Type 0} (f : A → Bool) (l : List A) → all f l ≡ true → All (λ x. f x ≡ true) l
+unfolding all
+all-holds f [] h = done
+all-holds f (x ∷ l) h =
+    let t = both (f x) (all f l) h in
+    more (t .0) (all-holds f l (t .1))
+
 -- ---- tests of rows
 
 module _ (f : Pair → Bool) (rows : List ℕ) (first : ℕ) where
@@ -96,3 +105,11 @@ module _ (f : Pair → Bool) (rows : List ℕ) (first : ℕ) where
 -- what holds from `first` on below k, and at k, holds below k + 1
 pub from-more : (P : ℕ → Type 0) (first k : ℕ) → ((j : ℕ) → first ≤ j → j < k → P j) → P k → (j : ℕ) → first ≤ j → j < k + 1 → P j
 from-more P first k h last j l m = ⊎-elim (λ e. subst P (sym e) last) (λ n. h j l (lt-of-le-ne (omega arith) n)) (same-or j k)
+
+-- a row that fails
+pub all-rows-fail : (f : Pair → Bool) (rows : List ℕ) (first k end : ℕ) → first ≤ k → k < end → f (pairAt rows k) ≡ false → all f (pairsBetween rows first end) ≡ false
+all-rows-fail f rows first k end h l e = go (all f (pairsBetween rows first end)) refl
+  where
+    go : (b : Bool) → all f (pairsBetween rows first end) ≡ b → b ≡ false
+    go true q = absurd (true≢false (sym (between-at rows first end (all-holds f (pairsBetween rows first end) q) k h l) ∙ e))
+    go false q = refl

@@ -1,15 +1,15 @@
 -- Leaves: what the walk over the rows of a port leaves of names and marks. Definitions only; assumes nothing.
-use Prim.Native.Nat.{ℕ, _+_, _-_, _*_, _%_, _≤_, _<_}
+use Prim.Native.Nat.{ℕ, _-_, _≤_}
 use mathlib.Core.Path.{_≡_}
-use mathlib.Core.Bool.{Bool, true, false, not, _&&_, cond}
+use mathlib.Core.Bool.{Bool, true, false, _&&_}
 use mathlib.Core.Logic.{_⊎_}
-use mathlib.Core.List.{List, List·Memᴰ}
+use mathlib.Core.List.{List}
 use lib.ListN.{length}
 use lib.Dec.{eqb, leb}
 use Rattle.definitions.specs.Scan.{all, member}
 use Rattle.definitions.specs.Grid.{Pair}
 use Rattle.definitions.specs.Context.{Context, isIncident, incidentCount}
-use Rattle.definitions.specs.RampInteriors.{Expansion, insideCount, exteriors, expandPair, expandPairs, expandPort}
+use Rattle.definitions.specs.RampInteriors.{Expansion, insideCount, exteriors, expandPort}
 use Rattle.context.specs.Shown.{pairsBetween}
 use Rattle.ramp_interiors.specs.Forest.{Beyond}
 use Rattle.ramp_interiors.specs.Given.{Marked}
@@ -65,8 +65,14 @@ pub record Ported (C : Context) (rows : List ℕ) (first end i : ℕ) : Type 0 w
 
 -- a pair of boundary i names the regions lo and hi
 pub record RowOf (C : Context) (i lo hi : ℕ) : Type 0 where
-  pub from : 1 ≤ lo
-  pub rising : lo < hi
-  pub upto : hi ≤ C .regions
+  pub lowFrom : 1 ≤ lo
+  pub lowUpto : lo ≤ C .regions
+  pub highFrom : 1 ≤ hi
+  pub highUpto : hi ≤ C .regions
   pub lowIncident : isIncident C i lo ≡ true
   pub highIncident : isIncident C i hi ≡ true
+
+-- a port was walked: the names hold the regions of the expansion, and no mark of an exterior is left
+pub record Walked (C : Context) (i r : ℕ) (rs : List ℕ) (v : Bool) (wasNames names wasMarks marks : List ℕ) (fit : Bool) : Type 0 where
+  pub held : Held C i r (expandPort C (from rs v) i) v wasNames names fit
+  pub cleared : Cleared C wasMarks marks

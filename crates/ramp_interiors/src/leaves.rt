@@ -12,11 +12,11 @@ ghost use lib.Dec.{eqb, leb};
 ghost use Rattle.definitions.specs.Scan.{all, member};
 ghost use Rattle.definitions.specs.Grid.{Pair};
 ghost use Rattle.definitions.specs.Context.{Context};
-ghost use Rattle.definitions.specs.RampInteriors.{insideCount, exteriors, expandPair, expandPairs, expandPort};
+ghost use Rattle.definitions.specs.RampInteriors.{insideCount, exteriors, expandPair, expandPairs};
 ghost use Rattle.context.specs.Shown.{pairsBetween};
 ghost use Rattle.ramp_interiors.specs.Given.{Marked};
 ghost use Rattle.ramp_interiors.specs.Owners.{Walkable, entryAt};
-ghost use Rattle.ramp_interiors.specs.Leaves.{Reachable, Inside, Exteriored, Cleared, from, Held, RowOf, Ported};
+ghost use Rattle.ramp_interiors.specs.Leaves.{Reachable, Inside, Exteriored, Cleared, from, Held, RowOf, Ported, Walked};
 
 // Whether region x is marked as an exterior.
 fn is_exterior(marks: &[u16], x: u32) -> bool
@@ -70,6 +70,7 @@ fn mark_exteriors(
 ) -> bool
     requires { ⌜ Reachable (now pairs) first end (now names) (now marks) ⌝ }
     ensures { λ x. ⌜ ((C : Context) (rs : List ℕ) → Walkable (now (pairs .entry)) first end (C .regions) → Inside C r rs (now (names .entry)) → Marked C (λ y. false) (now (marks .entry)) → Exteriored C rs (pairsBetween (now (pairs .entry)) first end) (now (marks .entry)) (now (marks .exit)) x) ⌝ }
+    ensures { λ x. ⌜ length (now (marks .exit)) ≡ length (now (marks .entry)) ⌝ }
 {
     let mut fit = true;
     let mut k = first;
@@ -90,6 +91,7 @@ fn mark_exteriors(
 fn clear_exteriors(marks: &mut [u16], pairs: &[u32], first: usize, end: usize)
     requires { ⌜ Walkable (now pairs) first end (length (now marks)) ⌝ }
     ensures { λ x. ⌜ ((C : Context) (rs : List ℕ) → Walkable (now (pairs .entry)) first end (C .regions) → Marked C (λ y. member y (exteriors rs (pairsBetween (now (pairs .entry)) first end))) (now (marks .entry)) → Cleared C (now (marks .entry)) (now (marks .exit))) ⌝ }
+    ensures { λ x. ⌜ length (now (marks .exit)) ≡ length (now (marks .entry)) ⌝ }
 {
     let mut k = first;
     while k < end {
@@ -143,4 +145,49 @@ fn expand_row(names: &mut [u32], marks: &[u16], lo: u32, hi: u32, r: u32) -> boo
     }
     set_parent(names, leaf, r);
     true
+}
+
+// The leaves beyond the rows, row by row. Whether each row has a region named r by then, or names a leaf.
+fn expand_rows(
+    names: &mut [u32],
+    marks: &[u16],
+    pairs: &[u32],
+    first: usize,
+    end: usize,
+    r: u32,
+) -> bool
+    requires { ⌜ Reachable (now pairs) first end (now names) (now marks) ⌝ }
+    ensures { λ x. ⌜ ((C : Context) (i : ℕ) (rs es : List ℕ) (v : Bool) → Ported C (now (pairs .entry)) first end i → Inside C r rs (now (names .entry)) → Marked C (λ y. member y es) (now (marks .entry)) → Held C i r (expandPairs C i es (from rs v) (pairsBetween (now (pairs .entry)) first end)) v (now (names .entry)) (now (names .exit)) x) ⌝ }
+    ensures { λ x. ⌜ length (now (names .exit)) ≡ length (now (names .entry)) ⌝ }
+{
+    let mut fit = true;
+    let mut k = first;
+    while k < end {
+        let lo = smaller_at(pairs, k);
+        let hi = larger_at(pairs, k);
+        let ok = expand_row(names, marks, lo, hi, r);
+        fit = fit & ok;
+        k += 1;
+    }
+    fit
+}
+
+// The leaves beyond a port, whose rows these are. Whether the port is valid: no row has two regions named r before, and each has exactly one after.
+pub fn expand_port(
+    names: &mut [u32],
+    marks: &mut [u16],
+    pairs: &[u32],
+    first: usize,
+    end: usize,
+    r: u32,
+) -> bool
+    requires { ⌜ Reachable (now pairs) first end (now names) (now marks) ⌝ }
+    ensures { λ x. ⌜ ((C : Context) (i : ℕ) (rs : List ℕ) (v : Bool) → Ported C (now (pairs .entry)) first end i → Inside C r rs (now (names .entry)) → Marked C (λ y. false) (now (marks .entry)) → Walked C i r rs v (now (names .entry)) (now (names .exit)) (now (marks .entry)) (now (marks .exit)) x) ⌝ }
+    ensures { λ x. ⌜ (length (now (names .exit)) ≡ length (now (names .entry))) × (length (now (marks .exit)) ≡ length (now (marks .entry))) ⌝ }
+{
+    let before = mark_exteriors(names, marks, pairs, first, end, r);
+    let grown = expand_rows(names, marks, pairs, first, end, r);
+    let after = rows_split(names, pairs, first, end, r);
+    clear_exteriors(marks, pairs, first, end);
+    before & grown & after
 }

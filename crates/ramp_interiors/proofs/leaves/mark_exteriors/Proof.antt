@@ -98,7 +98,7 @@ same-length : tie.Need-same-length Inv-loop μ-loop
 same-length c = c .before .loop .inv .2
 
 returns : tie.Need-returns Inv-loop μ-loop
-returns c = λ C rs w I M. marking-end C rs _ _ _ _ _ I w (c .before .loop .inv .3 C rs w I M) (c .before .loop .inv .1) (c .loop-test .left)
+returns c = (λ C rs w I M. marking-end C rs _ _ _ _ _ I w (c .before .loop .inv .3 C rs w I M) (c .before .loop .inv .1) (c .loop-test .left), c .before .loop .inv .2)
 
 pub mark-exteriors-spec : {M : Type 1} → statement M
 mark-exteriors-spec =
