@@ -32,15 +32,18 @@ module _ {rows : List ℕ} {first end n k : ℕ} (w : Walkable rows first end n)
 pub names-long : (C : Context) {names : List ℕ} → Names (components C) names → C .regions ≤ length names
 names-long C N = omega (arith, N .long, components-size C)
 
--- the rows of boundary i
-pub shown-walkable : {C : Context} {rows starts : List ℕ} {n : ℕ} → ShownPairs C rows starts → C .regions ≤ n → (i : ℕ) → i < C .count → Walkable rows (getD starts i 0) (getD starts (i + 1) 0) n
-shown-walkable {C} {n = n} P h i l =
-    let s = shown-stretch P i l in
-    let p = rows-placed P i l (suc (C .regions)) (omega arith) in
+pub walk-more : {rows : List ℕ} {first end m n : ℕ} → Walkable rows first end m → m ≤ n → Walkable rows first end n
+walk-more w h =
     record {
-      rising = s .rising;
-      long = s .long;
+      rising = w .rising;
+      long = w .long;
       placed = λ k a b.
-          let q = p k a b in
+          let q = w .placed k a b in
           record { lowFrom = q .lowFrom; lowUpto = omega (arith, q .lowUpto); highFrom = q .highFrom; highUpto = omega (arith, q .highUpto) };
     }
+
+-- the rows of boundary i
+pub shown-walkable : {C : Context} {rows starts : List ℕ} {n : ℕ} → ShownPairs C rows starts → C .regions ≤ n → (i : ℕ) → i < C .count → Walkable rows (getD starts i 0) (getD starts (i + 1) 0) n
+shown-walkable {C} P h i l =
+    let s = shown-stretch P i l in
+    walk-more (record { rising = s .rising; long = s .long; placed = rows-placed P i l (suc (C .regions)) (omega arith) }) h
