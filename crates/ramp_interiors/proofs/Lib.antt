@@ -10,3 +10,4 @@ pub mod FitLaws
 pub mod MarkLaws
 pub mod ExteriorLaws
 pub mod LeafLaws
+pub mod ProposalLaws

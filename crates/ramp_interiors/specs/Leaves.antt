@@ -1,11 +1,12 @@
 -- Leaves: what the walk over the rows of a port leaves of names and marks. Definitions only; assumes nothing.
-use Prim.Native.Nat.{ℕ, _-_, _≤_}
+use Prim.Native.Nat.{ℕ, _+_, _-_, _≤_, _<_}
 use mathlib.Core.Path.{_≡_}
 use mathlib.Core.Bool.{Bool, true, false, _&&_}
 use mathlib.Core.Logic.{_⊎_}
 use mathlib.Core.List.{List}
-use lib.ListN.{length}
+use lib.ListN.{length, getD}
 use lib.Dec.{eqb, leb}
+use Rattle.definitions.specs.Limits.{maxEntries}
 use Rattle.definitions.specs.Scan.{all, member}
 use Rattle.definitions.specs.Grid.{Pair}
 use Rattle.definitions.specs.Context.{Context, isIncident, incidentCount}
@@ -18,6 +19,11 @@ use Rattle.ramp_interiors.specs.Owners.{Walkable, entryAt}
 -- the rows name regions up to n, for which there are names and marks
 abbrev pub Reachable : List ℕ → ℕ → ℕ → List ℕ → List ℕ → Type 0
 Reachable rows first end names marks = (n : ℕ) × (Walkable rows first end n × ((n ≤ length names) × (n ≤ length marks)))
+
+-- of the rows of boundary i
+pub record PortReachable (rows starts names marks : List ℕ) (i : ℕ) : Type 0 where
+  pub few : i < maxEntries
+  pub reachable : Reachable rows (getD starts i 0) (getD starts (i + 1) 0) names marks
 
 -- the regions named r are those of rs
 pub record Inside (C : Context) (r : ℕ) (rs names : List ℕ) : Type 0 where
@@ -75,4 +81,12 @@ pub record RowOf (C : Context) (i lo hi : ℕ) : Type 0 where
 -- a port was walked: the names hold the regions of the expansion, and no mark of an exterior is left
 pub record Walked (C : Context) (i r : ℕ) (rs : List ℕ) (v : Bool) (wasNames names wasMarks marks : List ℕ) (fit : Bool) : Type 0 where
   pub held : Held C i r (expandPort C (from rs v) i) v wasNames names fit
+  pub cleared : Cleared C wasMarks marks
+
+-- two ports were walked, one after the other
+pub record BothWalked (C : Context) (a b r : ℕ) (rs wasNames names wasMarks marks : List ℕ) (fit : Bool) : Type 0 where
+  pub fits : fit ≡ expandPort C (expandPort C (from rs true) a) b .valid
+  pub inside : Inside C r (expandPort C (expandPort C (from rs true) a) b .regions) names
+  pub beyond : Beyond (C .regions) wasNames names
+  pub each : (x : ℕ) → 1 ≤ x → x ≤ C .regions → (entryAt names x ≡ entryAt wasNames x) ⊎ ((entryAt names x ≡ r) × (Single C a x ⊎ Single C b x))
   pub cleared : Cleared C wasMarks marks

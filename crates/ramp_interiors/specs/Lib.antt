@@ -4,3 +4,4 @@ pub mod Owners
 pub mod Candidates
 pub mod Fits
 pub mod Leaves
+pub mod Proposals

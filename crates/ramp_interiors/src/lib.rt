@@ -5,3 +5,4 @@ pub mod fits;
 pub mod leaves;
 pub mod owners;
 pub mod ports;
+pub mod proposals;
