@@ -11,3 +11,5 @@ pub mod MarkLaws
 pub mod ExteriorLaws
 pub mod LeafLaws
 pub mod ProposalLaws
+pub mod Apart
+pub mod NoConflict
