@@ -3,11 +3,11 @@
 use Prim.Native.Nat.{ℕ, zero, suc, _≤_, _<_}
 use native.Mathlib.Omega.{arith}
 use mathlib.Core.Path.{_≡_, refl, sym, ap, ap₂, subst, _∙_}
-use mathlib.Core.Bool.{Bool, true, false, not, _&&_, _||_, cond, or-false, true≢false, false≢true}
+use mathlib.Core.Bool.{Bool, true, false, not, _&&_, _||_, cond, false≢true}
 use mathlib.Core.Option.{Option, none, some}
 use mathlib.Core.List.{List, [], _∷_, _++_, append-nil, append-assoc}
 use lib.Dec.{eqb, ltb}
-use borrow.Author.Tests.{eqb-true, eq-eqb, lt-ltb, ltb-true}
+use borrow.Author.Tests.{eq-eqb, ltb-true}
 use Rattle.definitions.specs.Scan.{any, all, member, collect, toList, onlyIf, anyBelow, concatMap}
 use Rattle.definitions.specs.Sort.{insert, sortOnto, sort, select}
 use Rattle.definitions.specs.Context.{Context, noRamp, fullCut}
@@ -15,7 +15,6 @@ use Rattle.definitions.specs.RampMouths.{meet}
 use Rattle.definitions.specs.RampInteriors.{InteriorProposal, components, componentRegions, edgesOf, componentPorts, portsFit, regionFits, interiorFrom, interiorProposal, proposals, ranksBefore, conflict, taken, removed}
 use Rattle.laws.specs.ListLaws.Lists.{All, done, more, all-map, all-append, any-append}
 use Rattle.laws.specs.ListLaws.Tests.{both}
-use Rattle.laws.specs.ListLaws.Below.{below-ext}
 use Rattle.laws.specs.ListLaws.Members.{any-fails, any-found, any-member}
 use Rattle.laws.specs.ListLaws.SortedMembers.{any-sort}
 use Rattle.laws.specs.SetLaws.Sets.{Ascending, numbersBelow, member-below, below-all, below-ascending}

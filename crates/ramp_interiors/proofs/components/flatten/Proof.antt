@@ -9,9 +9,6 @@ use Rattle.ramp_interiors.specs.Forest.{Beyond, Parented}
 use Rattle.ramp_interiors.proofs.Forests.{Flat, beyond-same, beyond-set, beyond-then, flat-parent, flat-more, flat-end}
 use Rattle.ramp_interiors.proofs.components.flatten.Statement.{statement}
 use Rattle.ramp_interiors.proofs.components.flatten.Tie as tie
-use Rattle.ramp_interiors.proofs.components.flatten.Reads as reads
-use Rattle.ramp_interiors.proofs.components.flatten.Lts as lts
-use Rattle.ramp_interiors.proofs.components.parent_of.Reads as parent-of-reads
 
 abbrev Inv-loop : tie.InvT-loop
 Inv-loop parents₀ regions k₀ parents k = (k ≤ regions) × Beyond regions parents₀ parents × ((cs : List ℕ) → Parented cs parents₀ → length cs ≡ suc regions → Flat cs parents k)

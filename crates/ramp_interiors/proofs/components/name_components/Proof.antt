@@ -1,19 +1,12 @@
 -- `components::name_components` meets its contract, from what its three calls ensure. Assumes nothing.
 use Prim.Native.Nat.{suc}
-use mathlib.Core.Path.{_≡_, ap, _∙_}
-use lib.ListN.{length}
+use mathlib.Core.Path.{ap, _∙_}
 use Rattle.definitions.specs.RampInteriors.{components}
-use Rattle.ramp_interiors.specs.Forest.{Beyond}
 use Rattle.ramp_interiors.proofs.Forests.{beyond-then}
 use Rattle.ramp_interiors.proofs.Preparing.{components-parented, components-size, components-beyond}
 use borrow.Author.Needs.{needs}
 use Rattle.ramp_interiors.proofs.components.name_components.Statement.{statement}
 use Rattle.ramp_interiors.proofs.components.name_components.Tie as tie
-use Rattle.ramp_interiors.proofs.components.name_components.Reads as reads
-use Rattle.ramp_interiors.proofs.components.name_components.Lts as lts
-use Rattle.ramp_interiors.proofs.components.flatten.Reads as flatten-reads
-use Rattle.ramp_interiors.proofs.components.join_cuts.Reads as join-cuts-reads
-use Rattle.ramp_interiors.proofs.components.prepare.Reads as prepare-reads
 
 prepare-requires : tie.Need-prepare-requires
 prepare-requires c κs = search needs

@@ -1,7 +1,7 @@
 -- `components::prepare` meets its contract. The invariant: the marks and parents of the regions passed are stored. Assumes nothing.
-use Prim.Native.Nat.{ℕ, _+_, _-_, _%_, _≤_, _<_}
+use Prim.Native.Nat.{_-_, _%_, _≤_, _<_}
 use native.Mathlib.Omega.{arith}
-use mathlib.Core.Path.{_≡_, refl, ap₂, _∙_}
+use mathlib.Core.Path.{refl, ap₂, _∙_}
 use mathlib.Core.Bool.{false}
 use lib.Dec.{eqb}
 use lib.ListN.{length}
@@ -13,9 +13,6 @@ use Rattle.ramp_interiors.proofs.Stored.{Stored, stored-start, stored-m
 use Rattle.ramp_interiors.proofs.Preparing.{flagsAt, ownAt, prepared}
 use Rattle.ramp_interiors.proofs.components.prepare.Statement.{statement}
 use Rattle.ramp_interiors.proofs.components.prepare.Tie as tie
-use Rattle.ramp_interiors.proofs.components.prepare.Reads as reads
-use Rattle.ramp_interiors.proofs.components.prepare.Lts as lts
-use Rattle.ramp_interiors.proofs.components.flags.Reads as flags-reads
 
 abbrev Inv-loop : tie.InvT-loop
 Inv-loop marks₀ counts₀ regions k₀ marks counts k = (k ≤ regions) × Beyond regions marks₀ marks × Beyond regions counts₀ counts × Stored (flagsAt marks₀ counts₀) marks₀ marks k × Stored ownAt counts₀ counts k

@@ -1,5 +1,5 @@
 -- `leaves::mark_exteriors` meets its contract. The invariant: the exteriors of the rows passed are marked. Assumes nothing.
-use Prim.Native.Nat.{ℕ, _+_, _-_, _≤_, _<_}
+use Prim.Native.Nat.{ℕ, _-_, _≤_, _<_}
 use native.Mathlib.Omega.{arith}
 use mathlib.Core.Path.{_≡_, refl, _∙_}
 use mathlib.Core.Bool.{false}
@@ -15,12 +15,6 @@ use Rattle.ramp_interiors.proofs.Walks.{row-in, low-in, high-in}
 use Rattle.ramp_interiors.proofs.ExteriorLaws.{marking-start, marking-more, marking-end}
 use Rattle.ramp_interiors.proofs.leaves.mark_exteriors.Statement.{statement}
 use Rattle.ramp_interiors.proofs.leaves.mark_exteriors.Tie as tie
-use Rattle.ramp_interiors.proofs.leaves.mark_exteriors.Reads as reads
-use Rattle.ramp_interiors.proofs.leaves.mark_exteriors.Lts as lts
-use Rattle.ramp_interiors.proofs.components.larger_at.Reads as larger-at-reads
-use Rattle.ramp_interiors.proofs.components.parent_of.Reads as parent-of-reads
-use Rattle.ramp_interiors.proofs.components.smaller_at.Reads as smaller-at-reads
-use Rattle.ramp_interiors.proofs.leaves.mark_exterior.Reads as mark-exterior-reads
 
 abbrev Inv-loop : tie.InvT-loop
 Inv-loop names marks₀ pairs first end r fit₀ k₀ marks fit k =

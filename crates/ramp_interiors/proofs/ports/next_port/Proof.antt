@@ -10,9 +10,6 @@ use Rattle.ramp_interiors.specs.Candidates.{Mapped, candidate, port}
 use Rattle.ramp_interiors.proofs.RowScans.{from-more}
 use Rattle.ramp_interiors.proofs.ports.next_port.Statement.{statement}
 use Rattle.ramp_interiors.proofs.ports.next_port.Tie as tie
-use Rattle.ramp_interiors.proofs.ports.next_port.Reads as reads
-use Rattle.ramp_interiors.proofs.ports.next_port.Lts as lts
-use Rattle.ramp_interiors.proofs.ports.is_port.Reads as is-port-reads
 
 abbrev Inv-loop : tie.InvT-loop
 Inv-loop pairs starts names marks owners count r first i₀ i = (first ≤ i) × (i ≤ count) × ((C : Context) → Mapped C pairs starts names marks r → C .count ≡ count → Owners C owners → candidate C r ≡ true → (k : ℕ) → first ≤ k → k < i → port C r k ≡ false)

@@ -1,8 +1,7 @@
 -- `proposals::propose` meets its contract, from what its calls ensure. Assumes nothing.
-use Prim.Native.Nat.{ℕ, _<_}
-use mathlib.Core.Path.{_≡_, refl, sym, ap, _∙_}
+use Prim.Native.Nat.{_<_}
+use mathlib.Core.Path.{_≡_, refl, sym, _∙_}
 use mathlib.Core.Bool.{Bool, true, false, not, true≢false}
-use mathlib.Core.List.{List}
 use Rattle.definitions.specs.Context.{Context}
 use Rattle.definitions.specs.RampInteriors.{components, componentPorts}
 use Rattle.ramp_interiors.specs.Candidates.{candidate, twoPorts}
@@ -12,12 +11,6 @@ use Rattle.ramp_interiors.proofs.ProposalLaws.{no-candidate, no-ports, 
 use borrow.Author.Needs.{needs}
 use Rattle.ramp_interiors.proofs.proposals.propose.Statement.{statement}
 use Rattle.ramp_interiors.proofs.proposals.propose.Tie as tie
-use Rattle.ramp_interiors.proofs.proposals.propose.Reads as reads
-use Rattle.ramp_interiors.proofs.proposals.propose.Lts as lts
-use Rattle.ramp_interiors.proofs.candidates.is_candidate.Reads as is-candidate-reads
-use Rattle.ramp_interiors.proofs.fits.ports_fit.Reads as ports-fit-reads
-use Rattle.ramp_interiors.proofs.ports.find_ports.Reads as find-ports-reads
-use Rattle.ramp_interiors.proofs.proposals.expand_ports.Reads as expand-ports-reads
 
 passed : (b : Bool) → not b ≡ false → b ≡ true
 passed true e = refl
