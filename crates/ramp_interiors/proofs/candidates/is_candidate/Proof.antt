@@ -82,11 +82,14 @@ loop-less c = search needs
 loop-again : tie.Need-loop-again Inv-loop μ-loop
 loop-again c =
     let t = c .before .before .before .before in
-    let i = t .before .loop .i in
-    (omega (arith, t .loop-test .taken), omega (arith, t .before .loop .inv .1, c .one-if .ensures .1), λ C M e O.
-    let l : i < C .count = omega (arith, e, t .loop-test .taken) in
-    let w = t .before .loop .inv .2 C M e O in
-    survey-more C _ i (M .from) (M .upto) (O i l) (w .0) (w .1) (sym (c .before .before .spoils .ensures C M l (O i l)) ∙ c .before .if2 .left) (c .one-if .ensures .0))
+    let i = t .before .loop .i in (
+      omega (arith, t .loop-test .taken),
+      omega (arith, t .before .loop .inv .1, c .one-if .ensures .1),
+      λ C M e O.
+          let l : i < C .count = omega (arith, e, t .loop-test .taken) in
+          let w = t .before .loop .inv .2 C M e O in
+          survey-more C _ i (M .from) (M .upto) (O i l) (w .0) (w .1) (sym (c .before .before .spoils .ensures C M l (O i l)) ∙ c .before .if2 .left) (c .one-if .ensures .0),
+    )
 
 returns-3 : tie.Need-returns-3 Inv-loop μ-loop
 returns-3 c =

@@ -56,9 +56,11 @@ loop-less c = search needs
 
 loop-again : tie.Need-loop-again Inv-loop μ-loop
 loop-again c =
-    let t = c .before .before .before in
-    (omega (arith, t .loop-test .taken), beyond-then (t .before .loop .inv .1) (beyond-set _ _ _ _ (t .loop-test .taken)),
-    λ cs P e. flat-more (t .before .loop .inv .2 cs P e) (omega (arith, e, t .loop-test .taken)) (c .parent-of .result) (c .parent-of .ensures))
+    let t = c .before .before .before in (
+      omega (arith, t .loop-test .taken),
+      beyond-then (t .before .loop .inv .1) (beyond-set _ _ _ _ (t .loop-test .taken)),
+      λ cs P e. flat-more (t .before .loop .inv .2 cs P e) (omega (arith, e, t .loop-test .taken)) (c .parent-of .result) (c .parent-of .ensures),
+    )
 
 same-length : tie.Need-same-length Inv-loop μ-loop
 same-length c = c .before .loop .inv .1 .long

@@ -38,10 +38,12 @@ loop-less c = search needs
 loop-again : tie.Need-loop-again Inv-loop μ-loop
 loop-again c =
     let t = c .before .before .before .before in
-    let i = t .before .loop .i in
-    (search needs, λ C G e P.
-    let m = t .before .loop .inv .1 C G e P in
-    cuts-more C i m (c .before .before .join-cut .ensures C _ G (omega (arith, e, t .loop-test .taken)) (m .parented) (cuts-size C i m)))
+    let i = t .before .loop .i in (
+      search needs,
+      λ C G e P.
+          let m = t .before .loop .inv .1 C G e P in
+          cuts-more C i m (c .before .before .join-cut .ensures C _ G (omega (arith, e, t .loop-test .taken)) (m .parented) (cuts-size C i m)),
+    )
 
 same-length : tie.Need-same-length Inv-loop μ-loop
 same-length c =

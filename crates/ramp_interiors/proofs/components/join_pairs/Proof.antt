@@ -53,13 +53,16 @@ loop-again : tie.Need-loop-again Inv-loop μ-loop
 loop-again c =
     let l = c .before .before .before in
     let t = l .before .before .before in
-    let k = t .before .loop .k in
-    (search needs, search needs, λ cs P w.
-    let m = t .before .loop .inv .2 cs P w in
-    let d = l .before .smaller-at .ensures in
-    let e = l .larger-at .ensures in
-    let p = w k (t .before .loop .inv .0) (t .loop-test .taken) in
-    rows-more _ _ _ _ k m p d e (t .before .loop .inv .0) (c .before .before .join .ensures _ (m .parented) (row-placed _ _ _ _ k m p d e)))
+    let k = t .before .loop .k in (
+      search needs,
+      search needs,
+      λ cs P w.
+          let m = t .before .loop .inv .2 cs P w in
+          let d = l .before .smaller-at .ensures in
+          let e = l .larger-at .ensures in
+          let p = w k (t .before .loop .inv .0) (t .loop-test .taken) in
+          rows-more _ _ _ _ k m p d e (t .before .loop .inv .0) (c .before .before .join .ensures _ (m .parented) (row-placed _ _ _ _ k m p d e)),
+    )
 
 same-length : tie.Need-same-length Inv-loop μ-loop
 same-length c =

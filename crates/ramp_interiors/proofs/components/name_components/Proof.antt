@@ -41,12 +41,13 @@ returns c =
     let p = j .before .before .before .before .before .before in
     let s = p .before .before .before .before .before .before .before .before in
     let L = s .pre .1 in
-    let was = p .prepare .ensures in
-    (λ C M.
-    let r = was .0 C (M .labelled) (M .anchored) (M .incidents) in
-    let m = j .join-cuts .ensures C (M .given) (M .counted) (r .parented) in
-    record { marked = r .marked; named = f .flatten .ensures .0 (components C) (components-parented C m) (components-size C ∙ ap suc (M .labelled)) },
-    (was .1 .0, beyond-then (was .1 .1) (beyond-then (components-beyond (s .pre .0) (j .join-cuts .ensures (s .pre .0) (L .given) (L .counted) (was .0 (s .pre .0) (L .labelled) (L .anchored) (L .incidents) .parented)) (L .labelled)) (f .flatten .ensures .1))))
+    let was = p .prepare .ensures in (
+      λ C M.
+          let r = was .0 C (M .labelled) (M .anchored) (M .incidents) in
+          let m = j .join-cuts .ensures C (M .given) (M .counted) (r .parented) in
+          record { marked = r .marked; named = f .flatten .ensures .0 (components C) (components-parented C m) (components-size C ∙ ap suc (M .labelled)) },
+      (was .1 .0, beyond-then (was .1 .1) (beyond-then (components-beyond (s .pre .0) (j .join-cuts .ensures (s .pre .0) (L .given) (L .counted) (was .0 (s .pre .0) (L .labelled) (L .anchored) (L .incidents) .parented)) (L .labelled)) (f .flatten .ensures .1))),
+    )
 
 pub name-components-spec : {M : Type 1} → statement M
 name-components-spec =

@@ -71,10 +71,11 @@ loop-again : tie.Need-loop-again Inv-loop μ-loop
 loop-again c =
     let s = c .before .before .before .before in
     let f = s .before .before in
-    let a = f .before .before .before in
-    (c .parent-of3 .ensures,
-    λ cs P l. subst (λ ps. Way cs (start a .args .parents .now) (start a .args .r) ps (f .parent-of2 .result)) (sym (s .set-parent .ensures))
-    (way-step l (a .loop .inv .1 cs P l) (f .parent-of2 .result) (f .parent-of2 .ensures ∙ parent-is a)))
+    let a = f .before .before .before in (
+      c .parent-of3 .ensures,
+      λ cs P l. subst (λ ps. Way cs (start a .args .parents .now) (start a .args .r) ps (f .parent-of2 .result)) (sym (s .set-parent .ensures))
+          (way-step l (a .loop .inv .1 cs P l) (f .parent-of2 .result) (f .parent-of2 .ensures ∙ parent-is a)),
+    )
 
 same-length : tie.Need-same-length Inv-loop μ-loop
 same-length c = way (c .before) .beyond .long

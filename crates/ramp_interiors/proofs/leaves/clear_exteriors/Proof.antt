@@ -65,9 +65,13 @@ loop-again c =
     let n = c .before .before in
     let l = n .before in
     let m = l .before .before .before .before in
-    let t = m .before .before .before in
-    (omega (arith, t .before .loop .inv .0), omega (arith, t .loop-test .taken), n .clear-exterior2 .ensures .1 ∙ m .clear-exterior .ensures .1 ∙ t .before .loop .inv .2, λ C rs w M.
-    clearing-more C _ _ _ _ w (t .before .loop .k) (t .before .loop .inv .0) (t .loop-test .taken) (m .before .smaller-at .ensures) (l .larger-at .ensures) (t .before .loop .inv .3 C rs w M) (m .clear-exterior .ensures .0) (n .clear-exterior2 .ensures .0))
+    let t = m .before .before .before in (
+      omega (arith, t .before .loop .inv .0),
+      omega (arith, t .loop-test .taken),
+      n .clear-exterior2 .ensures .1 ∙ m .clear-exterior .ensures .1 ∙ t .before .loop .inv .2,
+      λ C rs w M.
+          clearing-more C _ _ _ _ w (t .before .loop .k) (t .before .loop .inv .0) (t .loop-test .taken) (m .before .smaller-at .ensures) (l .larger-at .ensures) (t .before .loop .inv .3 C rs w M) (m .clear-exterior .ensures .0) (n .clear-exterior2 .ensures .0),
+    )
 
 same-length : tie.Need-same-length Inv-loop μ-loop
 same-length c = c .before .loop .inv .2

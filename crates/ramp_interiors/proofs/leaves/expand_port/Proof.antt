@@ -43,12 +43,13 @@ returns c =
     let z = c .before .before in
     let y = z .before .before in
     let x = y .before .before .before .before in
-    let m = x .before .before .before .before .before in
-    (λ C i rs v P I M.
-    let E = m .mark-exteriors .ensures .0 C rs (P .walk) I M in
-    let H = x .expand-rows .ensures .0 C i rs (exteriors rs (pairsBetween _ _ _)) v P I (E .marked) in
-    port-walked C i _ rs v _ _ _ P E H (y .rows-split .ensures C _ (P .walk) (H .inside)) (z .clear-exteriors .ensures .0 C rs (P .walk) (E .marked)),
-    (x .expand-rows .ensures .1, z .clear-exteriors .ensures .1 ∙ m .mark-exteriors .ensures .1))
+    let m = x .before .before .before .before .before in (
+      λ C i rs v P I M.
+          let E = m .mark-exteriors .ensures .0 C rs (P .walk) I M in
+          let H = x .expand-rows .ensures .0 C i rs (exteriors rs (pairsBetween _ _ _)) v P I (E .marked) in
+          port-walked C i _ rs v _ _ _ P E H (y .rows-split .ensures C _ (P .walk) (H .inside)) (z .clear-exteriors .ensures .0 C rs (P .walk) (E .marked)),
+      (x .expand-rows .ensures .1, z .clear-exteriors .ensures .1 ∙ m .mark-exteriors .ensures .1),
+    )
 
 pub expand-port-spec : {M : Type 1} → statement M
 expand-port-spec =

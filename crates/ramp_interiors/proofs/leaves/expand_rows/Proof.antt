@@ -62,12 +62,16 @@ loop-again c =
     let l = x .before .before in
     let t = l .before .before in
     let k = t .before .loop .k in
-    let u = t .before .loop .inv .0 in
-    (omega arith, omega (arith, t .loop-test .taken), x .expand-row .ensures .1 ∙ t .before .loop .inv .2, λ C i rs es v P I M.
-    let H = t .before .loop .inv .3 C i rs es v P I M in
-    let s = upTo C i (start t .args .r) rs es v (start t .args .pairs .now) (start t .args .first) (start t .args .end) P k in
-    held-more C i _ rs es v _ _ _ P k u (t .loop-test .taken) (l .before .smaller-at .ensures) (l .larger-at .ensures) H
-    (x .expand-row .ensures .0 C i (s .regions) es (s .valid) (row-of C i (start t .args .r) rs es v _ _ _ P k u (t .loop-test .taken) (l .before .smaller-at .ensures) (l .larger-at .ensures)) (H .inside) M))
+    let u = t .before .loop .inv .0 in (
+      omega arith,
+      omega (arith, t .loop-test .taken),
+      x .expand-row .ensures .1 ∙ t .before .loop .inv .2,
+      λ C i rs es v P I M.
+          let H = t .before .loop .inv .3 C i rs es v P I M in
+          let s = upTo C i (start t .args .r) rs es v (start t .args .pairs .now) (start t .args .first) (start t .args .end) P k in
+          held-more C i _ rs es v _ _ _ P k u (t .loop-test .taken) (l .before .smaller-at .ensures) (l .larger-at .ensures) H
+          (x .expand-row .ensures .0 C i (s .regions) es (s .valid) (row-of C i (start t .args .r) rs es v _ _ _ P k u (t .loop-test .taken) (l .before .smaller-at .ensures) (l .larger-at .ensures)) (H .inside) M),
+    )
 
 same-length : tie.Need-same-length Inv-loop μ-loop
 same-length c = c .before .loop .inv .2

@@ -84,9 +84,13 @@ loop-again c =
     let m = n .before .before .before .before in
     let p = m .before .before in
     let l = p .before .before in
-    let t = l .before .before in
-    (omega (arith, up t), omega (arith, in-rows t), n .mark-exterior2 .ensures .1 ∙ m .mark-exterior .ensures .1 ∙ t .before .loop .inv .2, λ C rs w I M.
-    marking-more C rs _ _ _ _ _ I w (t .before .loop .k) (up t) (in-rows t) (l .before .smaller-at .ensures) (l .larger-at .ensures) (p .before .parent-of .ensures) (p .parent-of2 .ensures) (t .before .loop .inv .3 C rs w I M) (m .mark-exterior .ensures .0) (n .mark-exterior2 .ensures .0))
+    let t = l .before .before in (
+      omega (arith, up t),
+      omega (arith, in-rows t),
+      n .mark-exterior2 .ensures .1 ∙ m .mark-exterior .ensures .1 ∙ t .before .loop .inv .2,
+      λ C rs w I M.
+          marking-more C rs _ _ _ _ _ I w (t .before .loop .k) (up t) (in-rows t) (l .before .smaller-at .ensures) (l .larger-at .ensures) (p .before .parent-of .ensures) (p .parent-of2 .ensures) (t .before .loop .inv .3 C rs w I M) (m .mark-exterior .ensures .0) (n .mark-exterior2 .ensures .0),
+    )
 
 same-length : tie.Need-same-length Inv-loop μ-loop
 same-length c = c .before .loop .inv .2

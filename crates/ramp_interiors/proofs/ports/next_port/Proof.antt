@@ -36,15 +36,17 @@ is-port-requires c κs =
 returns : tie.Need-returns Inv-loop μ-loop
 returns c =
     let t = c .before .before .before in
-    let i = t .before .loop .i in
-    (λ C M e O h.
-    let l : i < C .count = omega (arith, e, t .loop-test .taken) in
-    record {
-      rising = t .before .loop .inv .0;
-      upto = t .before .loop .inv .1;
-      found = λ q. sym (c .before .is-port .ensures C M l (O i l) h) ∙ c .if1 .taken;
-      before = t .before .loop .inv .2 C M e O h;
-    }, (t .before .loop .inv .0, t .before .loop .inv .1))
+    let i = t .before .loop .i in (
+      λ C M e O h.
+          let l : i < C .count = omega (arith, e, t .loop-test .taken) in
+          record {
+            rising = t .before .loop .inv .0;
+            upto = t .before .loop .inv .1;
+            found = λ q. sym (c .before .is-port .ensures C M l (O i l) h) ∙ c .if1 .taken;
+            before = t .before .loop .inv .2 C M e O h;
+          },
+      (t .before .loop .inv .0, t .before .loop .inv .1),
+    )
 
 add-i : tie.Need-add-i Inv-loop μ-loop
 add-i c = search needs
@@ -55,10 +57,13 @@ loop-less c = search needs
 loop-again : tie.Need-loop-again Inv-loop μ-loop
 loop-again c =
     let t = c .before .before .before in
-    let i = t .before .loop .i in
-    (omega (arith, t .before .loop .inv .0), omega (arith, t .loop-test .taken), λ C M e O h.
-    let l : i < C .count = omega (arith, e, t .loop-test .taken) in
-    from-more (λ k. port C (t .before .before .before .before .before .args .r) k ≡ false) _ _ (t .before .loop .inv .2 C M e O h) (sym (c .before .is-port .ensures C M l (O i l) h) ∙ c .if1 .left))
+    let i = t .before .loop .i in (
+      omega (arith, t .before .loop .inv .0),
+      omega (arith, t .loop-test .taken),
+      λ C M e O h.
+          let l : i < C .count = omega (arith, e, t .loop-test .taken) in
+          from-more (λ k. port C (t .before .before .before .before .before .args .r) k ≡ false) _ _ (t .before .loop .inv .2 C M e O h) (sym (c .before .is-port .ensures C M l (O i l) h) ∙ c .if1 .left),
+    )
 
 returns-2 : tie.Need-returns-2 Inv-loop μ-loop
 returns-2 c =

@@ -56,11 +56,12 @@ same-length-2 c = search needs
 returns : tie.Need-returns
 returns c =
     let f = c .before .before .before .before in
-    let e = f .before .before .before .before .before .before .before .before .before in
-    (λ C rs P l m I M.
-    let A = e .expand-port .ensures .0 C _ rs true (shown-ported P _ l) I M in
-    both-walked A (f .expand-port2 .ensures .0 C _ _ _ (shown-ported P _ m) (A .held .inside) (A .cleared .marked)),
-    (f .expand-port2 .ensures .1 .0 ∙ e .expand-port .ensures .1 .0, f .expand-port2 .ensures .1 .1 ∙ e .expand-port .ensures .1 .1))
+    let e = f .before .before .before .before .before .before .before .before .before in (
+      λ C rs P l m I M.
+          let A = e .expand-port .ensures .0 C _ rs true (shown-ported P _ l) I M in
+          both-walked A (f .expand-port2 .ensures .0 C _ _ _ (shown-ported P _ m) (A .held .inside) (A .cleared .marked)),
+      (f .expand-port2 .ensures .1 .0 ∙ e .expand-port .ensures .1 .0, f .expand-port2 .ensures .1 .1 ∙ e .expand-port .ensures .1 .1),
+    )
 
 pub expand-ports-spec : {M : Type 1} → statement M
 expand-ports-spec =

@@ -81,10 +81,12 @@ same-length-4 c = search needs
 
 returns-2 : tie.Need-returns-2
 returns-2 c =
-    let k = c .before .before in
-    (λ C F.
-    let l = below k C F in
-    unfit F (is-candidate (asked k) C F) (two-found k C F) (c .before .ports-fit .ensures C (F .given .bounds) (F .given .tallied) (l .0) (l .1)) (c .if2 .taken), (refl, refl))
+    let k = c .before .before in (
+      λ C F.
+          let l = below k C F in
+          unfit F (is-candidate (asked k) C F) (two-found k C F) (c .before .ports-fit .ensures C (F .given .bounds) (F .given .tallied) (l .0) (l .1)) (c .if2 .taken),
+      (refl, refl),
+    )
 
 expand-ports-requires : tie.Need-expand-ports-requires
 expand-ports-requires c κs =
@@ -114,11 +116,13 @@ returns-4 : tie.Need-returns-4
 returns-4 c =
     let x = c .before .before .before .before .before in
     let o = x .before .before .before in
-    let k = o .before .before in
-    (λ C F.
-    let l = below k C F in
-    ports-valid F (is-candidate (asked k) C F) (two-found k C F) (o .before .ports-fit .ensures C (F .given .bounds) (F .given .tallied) (l .0) (l .1)) (o .if2 .left)
-    (x .expand-ports .ensures .0 C _ (F .given .paired) (l .0) (l .1) (component-inside F (is-candidate (asked k) C F)) (F .mapped .marked)) (c .if3 .taken), x .expand-ports .ensures .1)
+    let k = o .before .before in (
+      λ C F.
+          let l = below k C F in
+          ports-valid F (is-candidate (asked k) C F) (two-found k C F) (o .before .ports-fit .ensures C (F .given .bounds) (F .given .tallied) (l .0) (l .1)) (o .if2 .left)
+          (x .expand-ports .ensures .0 C _ (F .given .paired) (l .0) (l .1) (component-inside F (is-candidate (asked k) C F)) (F .mapped .marked)) (c .if3 .taken),
+      x .expand-ports .ensures .1,
+    )
 
 same-length-9 : tie.Need-same-length-9
 same-length-9 c = search needs
@@ -130,11 +134,13 @@ returns-5 : tie.Need-returns-5
 returns-5 c =
     let x = c .before .before .before .before .before in
     let o = x .before .before .before in
-    let k = o .before .before in
-    (λ C F.
-    let l = below k C F in
-    ports-invalid F (is-candidate (asked k) C F) (two-found k C F) (o .before .ports-fit .ensures C (F .given .bounds) (F .given .tallied) (l .0) (l .1)) (o .if2 .left)
-    (x .expand-ports .ensures .0 C _ (F .given .paired) (l .0) (l .1) (component-inside F (is-candidate (asked k) C F)) (F .mapped .marked)) (c .if3 .left), x .expand-ports .ensures .1)
+    let k = o .before .before in (
+      λ C F.
+          let l = below k C F in
+          ports-invalid F (is-candidate (asked k) C F) (two-found k C F) (o .before .ports-fit .ensures C (F .given .bounds) (F .given .tallied) (l .0) (l .1)) (o .if2 .left)
+          (x .expand-ports .ensures .0 C _ (F .given .paired) (l .0) (l .1) (component-inside F (is-candidate (asked k) C F)) (F .mapped .marked)) (c .if3 .left),
+      x .expand-ports .ensures .1,
+    )
 
 pub propose-spec : {M : Type 1} → statement M
 propose-spec =
