@@ -17,6 +17,7 @@ use Rattle.laws.specs.ListLaws.ScanSteps.{any-next, any-fails-at}
 use Rattle.laws.specs.RustContext.SoundContext.{Sound}
 use Rattle.laws.specs.RustInteriors.ComponentRegions.{inside}
 use Rattle.context.specs.OneMore.{last-or}
+use Rattle.ramp_interiors.specs.Given.{Known}
 use Rattle.ramp_interiors.specs.Owners.{entryAt, several, allIn, edge, Owned, Owners}
 use Rattle.ramp_interiors.specs.Candidates.{Told, Mapped, candidate}
 use Rattle.ramp_interiors.specs.Leaves.{Inside, Single, Cleared}
@@ -24,6 +25,8 @@ use Rattle.ramp_interiors.specs.Proposals.{expandedOf, fittingPorts, pro
 use Rattle.ramp_interiors.specs.declared.ports.Ports.{Ports}
 use Rattle.ramp_interiors.specs.declared.ports.Ports.the-variants as ports
 use Rattle.ramp_interiors.proofs.Forests.{beyond-same, beyond-then}
+use Rattle.ramp_interiors.proofs.Preparing.{components-size}
+use Rattle.ramp_interiors.proofs.Walks.{names-long}
 use Rattle.ramp_interiors.proofs.Stored.{filled-more}
 use Rattle.ramp_interiors.proofs.NoConflict.{Fit, regions-apart, loose-edge}
 use Rattle.ramp_interiors.proofs.Removed.{fit-of}
@@ -230,3 +233,15 @@ pub found-more : (C : Context) (owners firsts seconds : List ℕ) (i : ℕ) {a b
 found-more C owners firsts seconds i F k l d e q j m =
     ( filled-more (λ o n. n ≡ firstOf (foundPorts C owners o)) firsts (λ o h. F o h .0) k (d ∙ ap firstOf q) j m
     , filled-more (λ o n. n ≡ secondOf (foundPorts C owners o)) seconds (λ o h. F o h .1) l (e ∙ ap secondOf q) j m )
+
+-- ---- before the first boundary
+
+pub progress-start : {C : Context} {marks names : List ℕ} (owners : List ℕ) → Known C marks names → Progress C owners names names marks marks 0
+progress-start {C} {marks} {names} owners K =
+    record {
+      long = names-long C (K .named);
+      unmet = λ q a b e n. record { long = names-long C (K .named); at = λ x c d. ap (λ m. eqb m q) (K .named .at x c (omega (arith, components-size C))) };
+      settled = λ j l. absurd (omega arith);
+      beyond = beyond-same (C .regions) names;
+      cleared = record { marked = K .marked; beyond = beyond-same (C .regions) marks };
+    }
