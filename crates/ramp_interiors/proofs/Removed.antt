@@ -23,7 +23,9 @@ use Rattle.laws.specs.SetLaws.Sets as sets
 use Rattle.laws.specs.RustContext.SoundContext.{Sound}
 use Rattle.ramp_interiors.specs.Owners.{edge, Owned}
 use Rattle.ramp_interiors.specs.Candidates.{candidate, port}
-use Rattle.ramp_interiors.specs.Proposals.{expandedOf}
+use Rattle.ramp_interiors.specs.Proposals.{expandedOf, fittingPorts, proposedPorts, recordsFit}
+use Rattle.ramp_interiors.specs.declared.ports.Ports.{Ports}
+use Rattle.ramp_interiors.specs.declared.ports.Ports.the-variants as ports
 use Rattle.ramp_interiors.proofs.ExteriorLaws.{member-append}
 use Rattle.ramp_interiors.proofs.CandidateLaws.{candidate-unspoilt, edge-owned}
 use Rattle.ramp_interiors.proofs.NoConflict.{Fit, regions-apart, edges-apart}
@@ -288,3 +290,29 @@ module _ (C : Context) (S : Sound C) where
             at : (k : ℕ) (t : Bool) → eqb v (suc k) ≡ t → (isProposal (suc k) && t) ≡ false
             at k true d = ap (λ b. b && true) (ap isProposal (sym (eqb-true v (suc k) d)) ∙ e)
             at k false d = and-false (isProposal (suc k))
+
+  -- ---- a proposal is what was found, with records that fit
+
+  pub proposal-is : (r : ℕ) → isProposal r ≡ recordsFit C r (proposedPorts C r)
+  unfolding interiorProposal interiorFrom proposedPorts fittingPorts recordsFit any
+  proposal-is r = go (candidate C r)
+    where
+      found : ℕ → ℕ → InteriorProposal
+      found a b = record { regions = expandedOf C r a b .regions; edges = edgesOf C (components C) r; firstPort = a; secondPort = b }
+
+      only : (p : InteriorProposal) (f v x y : Bool) (d : Ports) → recordsFit C r d ≡ (x && y) → any (λ q. true) (toList (onlyIf (f && v && x && y) p)) ≡ recordsFit C r (cond (f && v) d ports.Other)
+      only p true true true true d e = sym e
+      only p true true true false d e = sym e
+      only p true true false y d e = sym e
+      only p true false x y d e = refl
+      only p false v x y d e = refl
+
+      listed : (l : List ℕ) → any (λ p. true) (toList (interiorFrom C (componentRegions C (components C) r) (edgesOf C (components C) r) l)) ≡ recordsFit C r (fittingPorts C r l)
+      listed [] = refl
+      listed (a ∷ []) = refl
+      listed (a ∷ b ∷ []) = only (found a b) (portsFit C a b) (expandedOf C r a b .valid) (any (λ q. C .region q .hasRamp) (expandedOf C r a b .regions)) (all (regionFits C a b) (expandedOf C r a b .regions)) (ports.Two a b) refl
+      listed (a ∷ b ∷ c ∷ l) = refl
+
+      go : (t : Bool) → any (λ p. true) (toList (cond t (interiorFrom C (componentRegions C (components C) r) (edgesOf C (components C) r) (componentPorts C (components C) r)) none)) ≡ recordsFit C r (cond t (fittingPorts C r (componentPorts C (components C) r)) ports.Other)
+      go true = listed (componentPorts C (components C) r)
+      go false = refl
