@@ -3,7 +3,7 @@
 use Prim.Native.Nat.{ℕ, zero, suc, _≤_, _<_}
 use native.Mathlib.Omega.{arith}
 use mathlib.Core.Path.{_≡_, refl, sym, ap, ap₂, subst, _∙_}
-use mathlib.Core.Bool.{Bool, true, false, not, _&&_, _||_, cond, false≢true, or-false, and-false}
+use mathlib.Core.Bool.{Bool, true, false, not, _&&_, _||_, cond, or-false, and-false}
 use mathlib.Core.Option.{Option, none, some}
 use mathlib.Core.List.{List, [], _∷_, _++_, append-nil, append-assoc}
 use lib.Dec.{eqb, ltb}
@@ -29,6 +29,7 @@ use Rattle.ramp_interiors.specs.declared.ports.Ports.the-variants as por
 use Rattle.ramp_interiors.proofs.ExteriorLaws.{member-append}
 use Rattle.ramp_interiors.proofs.CandidateLaws.{candidate-unspoilt, edge-owned}
 use Rattle.ramp_interiors.proofs.NoConflict.{Fit, regions-apart, edges-apart}
+use Rattle.ramp_interiors.proofs.Bools.{negated, first-two}
 
 -- ---- lists of which no two elements conflict
 
@@ -108,15 +109,6 @@ module _ (C : Context) (S : Sound C) where
     pub valid : expandedOf C name first second .valid ≡ true
     pub regions : p .regions ≡ expandedOf C name first second .regions
     pub edges : p .edges ≡ edgesOf C (components C) name
-
-  first-two : (p q s t u w : Bool) → (p && q && s && t && u && w) ≡ true → (p ≡ true) × (q ≡ true)
-  first-two true true s t u w e = (refl, refl)
-  first-two true false s t u w e = absurd (false≢true e)
-  first-two false q s t u w e = absurd (false≢true e)
-
-  negated : (b : Bool) → not b ≡ true → b ≡ false
-  negated true e = absurd (false≢true e)
-  negated false e = refl
 
   two-ports : (a b n : ℕ) (f : ℕ → Bool) → numbersBelow n f ≡ a ∷ b ∷ [] → ((a < n) × (b < n)) × (a < b)
   two-ports a b n f e = (below (subst (All (λ x. x < n)) e (below-all f n)), rising (subst Ascending e (below-ascending f n)))

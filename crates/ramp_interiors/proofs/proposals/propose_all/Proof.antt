@@ -1,7 +1,7 @@
 -- `proposals::propose_all` meets its contract. The invariant: the boundaries passed are done, and what was found is stored. Assumes nothing.
-use Prim.Native.Nat.{ℕ, _+_, _-_, _≤_, _<_}
+use Prim.Native.Nat.{ℕ, _-_, _≤_, _<_}
 use native.Mathlib.Omega.{arith}
-use mathlib.Core.Path.{_≡_, refl, sym, subst, _∙_}
+use mathlib.Core.Path.{_≡_, refl, subst, _∙_}
 use mathlib.Core.List.{List}
 use lib.ListN.{length, length-set}
 use borrow.Author.Needs.{needs}
@@ -11,11 +11,6 @@ use Rattle.ramp_interiors.specs.Proposals.{Progress, Owning, FoundAll}
 use Rattle.ramp_interiors.proofs.ProgressLaws.{progress-now, found-more}
 use Rattle.ramp_interiors.proofs.proposals.propose_all.Statement.{statement}
 use Rattle.ramp_interiors.proofs.proposals.propose_all.Tie as tie
-use Rattle.ramp_interiors.proofs.proposals.propose_all.Reads as reads
-use Rattle.ramp_interiors.proofs.proposals.propose_all.Lts as lts
-use Rattle.ramp_interiors.proofs.proposals.first_of.Reads as first-of-reads
-use Rattle.ramp_interiors.proofs.proposals.propose_at.Reads as propose-at-reads
-use Rattle.ramp_interiors.proofs.proposals.second_of.Reads as second-of-reads
 
 abbrev Inv-loop : tie.InvT-loop
 Inv-loop boundaries tallies pairs starts names₀ marks₀ owners count firsts₀ seconds₀ i₀ names marks firsts seconds i =

@@ -2,15 +2,10 @@
 use Prim.Native.Nat.{_<_}
 use native.Mathlib.Omega.{arith}
 use mathlib.Core.Path.{refl}
-use Rattle.definitions.specs.Context.{Context}
 use Rattle.ramp_interiors.proofs.ProgressLaws.{facing, found-proposed, found-nothing}
 use borrow.Author.Needs.{needs}
 use Rattle.ramp_interiors.proofs.proposals.propose_at.Statement.{statement}
 use Rattle.ramp_interiors.proofs.proposals.propose_at.Tie as tie
-use Rattle.ramp_interiors.proofs.proposals.propose_at.Reads as reads
-use Rattle.ramp_interiors.proofs.proposals.propose_at.Lts as lts
-use Rattle.ramp_interiors.proofs.proposals.is_first.Reads as is-first-reads
-use Rattle.ramp_interiors.proofs.proposals.propose.Reads as propose-reads
 
 is-first-requires : tie.Need-is-first-requires
 is-first-requires c κs = search needs
