@@ -227,9 +227,10 @@ module _ {C : Context} {boundaries tallies pairs starts names marks owners was w
 
 -- one boundary's ports are stored
 pub found-more : (C : Context) (owners firsts seconds : List ℕ) (i : ℕ) {a b : ℕ} {x : Ports} → FoundAll C owners firsts seconds i → i < length firsts → i < length seconds → a ≡ firstOf x → b ≡ secondOf x → x ≡ foundPorts C owners i → FoundAll C owners (set firsts i a) (set seconds i b) (i + 1)
-found-more C owners firsts seconds i F k l d e q j m =
-    ( filled-more (λ o n. n ≡ firstOf (foundPorts C owners o)) firsts (λ o h. F o h .0) k (d ∙ ap firstOf q) j m
-    , filled-more (λ o n. n ≡ secondOf (foundPorts C owners o)) seconds (λ o h. F o h .1) l (e ∙ ap secondOf q) j m )
+found-more C owners firsts seconds i F k l d e q j m = (
+  filled-more (λ o n. n ≡ firstOf (foundPorts C owners o)) firsts (λ o h. F o h .0) k (d ∙ ap firstOf q) j m,
+  filled-more (λ o n. n ≡ secondOf (foundPorts C owners o)) seconds (λ o h. F o h .1) l (e ∙ ap secondOf q) j m,
+)
 
 -- ---- before the first boundary
 
