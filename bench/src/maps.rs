@@ -45,7 +45,7 @@ pub fn all() -> Vec<Named> {
         Named { name: "large", about: "rooms and corridors", map: rooms(2, 1_024, 26, 256, 24) },
         Named { name: "open", about: "no wall, 256 spans across the whole map: the longest partition", map: open(3) },
         Named { name: "comb", about: "512 corridors cut by each of 256 spans: the longest pass 2", map: comb() },
-        Named { name: "checkered", about: "blocks of 2 by 2 cells, 256 spans along which the labels fall: pairs in the worst order", map: checkered(true) },
+        Named { name: "checkered", about: "blocks of 2 by 2 cells, 256 spans: pairs in the worst order", map: checkered(true) },
         Named { name: "checkered-rising", about: "the same turned upside down: pairs in the best order", map: checkered(false) },
         Named { name: "mouths", about: "128 ramps and 128 mouths at one region: most proposals of pass 1", map: mouths(4) },
         Named { name: "stars", about: "128 ramps and 128 mouths, each with 512 pairs: the longest pass 1", map: stars() },
