@@ -1,3 +1,4 @@
 mod Corners
 mod Regions
 mod Rows
+pub mod Literals

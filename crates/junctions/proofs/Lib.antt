@@ -12,17 +12,7 @@ pub mod BridgeWalk
 pub mod RowLaws
 pub mod Counting
 pub mod BridgeIndex
-pub mod RankLaws
-pub mod Insertion
-pub mod Sorting
-pub mod Conflicts
-pub mod Standings
-pub mod Corners
 pub mod ShapeLaws
 pub mod UnionRows
 pub mod BridgeRows
 pub mod Proposing
-pub mod Removing
-pub mod ReservedPorts
-pub mod Passing
-pub mod Judging

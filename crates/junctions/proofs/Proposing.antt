@@ -1,4 +1,4 @@
--- The rows that are found, of which the records allow some, are the proposals of the context that the lists show. Assumes nothing.
+-- The rows that are found, of which the records allow some, are the proposals of the context that the lists show; and what a caller has to show of those lists. Assumes nothing.
 use Prim.Native.Nat.{ℕ, zero, suc, _≤_, _<_}
 use native.Mathlib.Omega.{arith}
 use mathlib.Core.Path.{_≡_, refl, sym, ap, ap₂, _∙_}
@@ -7,20 +7,21 @@ use mathlib.Core.Option.{Option, some}
 use mathlib.Core.List.{List, _++_}
 use lib.ListN.{getD}
 use lib.Dec.{eqb, ltb}
-use borrow.Author.Tests.{ltb-true, ltb-false, eqb-false}
+use borrow.Author.Tests.{ltb-true, ltb-false, eqb-false, ne-eqb}
 use Rattle.definitions.specs.Scan.{collect, filter, toList, onlyIf}
-use Rattle.definitions.specs.Context.{Context}
+use Rattle.definitions.specs.Context.{Context, fullPair}
 use Rattle.definitions.specs.Junctions.{unionProposal, bridgeProposal, proposals}
 use Rattle.laws.specs.ListLaws.Lists.{All, done, more, all-append, all-split, filter-append}
 use Rattle.laws.specs.ListLaws.ScansOfAll.{collect-below}
 use Rattle.laws.specs.ListLaws.Options.{on-list}
 use Rattle.laws.specs.ListLaws.Tests.{both}
-use Rattle.junctions.specs.Lent.{LentPairs, Shows}
+use Rattle.laws.specs.RustJunctions.FormedProposals.{full-all}
+use Rattle.junctions.specs.Lent.{LentPairs, Lent, Shows}
 use Rattle.junctions.specs.Unions.{isUnionAt, shapeAt}
 use Rattle.junctions.specs.Bridges.{isBridgeAt}
 use Rattle.junctions.specs.Rows.{rowAt, rowsOf, unionAt, isAllowed, RowFits}
 use Rattle.junctions.proofs.Shapes.{negated-true}
-use Rattle.junctions.proofs.UnionRows.{union-row}
+use Rattle.junctions.proofs.UnionRows.{of-some, union-row}
 use Rattle.junctions.proofs.BridgeRows.{bridge-row}
 use Rattle.junctions.proofs.BridgeIndex.{bridge-fits}
 
@@ -90,3 +91,31 @@ module _ (boundaries smaller larger counts marks rows : List ℕ) (count regions
       collected-at {P = RowFits count regions} (rowAt rows) n
       (rw are (all-append (collect-below (RowFits count regions) (unionAt boundaries smaller larger counts marks count) count (union-fits pairs))
       (collect-below (RowFits count regions) (λ k. isBridgeAt boundaries smaller larger marks (suc k) counts count) regions (λ k l. on-list (bridge-fits boundaries smaller larger marks (suc k) count regions pairs (omega arith) (omega arith) counts)))))
+
+-- ---- what a caller has to show of the lists, from that they show a context
+
+pub shows-lent : {boundaries smaller larger counts marks : List ℕ} {count regions : ℕ} {C : Context} → Shows boundaries smaller larger counts marks count regions C → Lent boundaries smaller larger counts marks count regions
+shows-lent {boundaries} {smaller} {larger} {count} {regions} {C} S =
+    record {
+      bounds =
+          record {
+            few = omega (arith, S .bounds .few, S .counted);
+            long = omega (arith, S .bounds .long, S .counted);
+            pixels = λ i l. rw (ap (λ b. b .endpoints) (S .bounds .at i (within i l))) at (S .pixels .ends i);
+            finite = λ i l. omega (arith, ap (λ b. b .widthBits) (S .bounds .at i (within i l)), S .sound .finite i (within i l));
+          };
+      pairs = record { named = λ i l h. named i (within i l) h };
+      countsLong = omega (arith, S .incidents .long, S .labelled);
+      marksLong = omega (arith, S .anchored .long, S .labelled);
+      labels = S .labels;
+    }
+  where
+    within : (i : ℕ) → i < count → i < C .count
+    within i l = omega (arith, S .counted)
+
+    named : (i : ℕ) → i < C .count → 1 ≤ getD smaller i 0 → (getD smaller i 0 < getD larger i 0) × (getD larger i 0 ≤ regions)
+    named i l h =
+        let own : fullPair C i ≡ some (record { lo = getD smaller i 0; hi = getD larger i 0 }) = S .pairs .at i l ∙ ap (λ t. onlyIf (not t) (record { lo = getD smaller i 0; hi = getD larger i 0 })) (ne-eqb (getD smaller i 0) 0 (λ e. omega arith)) in
+        let ordered = of-some (full-all C (λ q. q .lo < q .hi) i (S .sound .ordered i)) own in
+        let labelled = of-some (full-all C (λ q. (1 ≤ q .lo) × (q .hi ≤ C .regions)) i (S .sound .labelled i)) own in
+        (ordered, omega (arith, labelled .1, S .labelled))

@@ -45,11 +45,3 @@ pub record Shows (boundaries smaller larger counts marks : List ℕ) (count regi
   pub anchored : ShownAnchored C marks
   pub sound : Sound C
   pub pixels : PixelContext C
-
--- the part of that which verdicts rest on
-pub record Seen (boundaries marks : List ℕ) (count regions : ℕ) (C : Context) : Type 0 where
-  pub counted : C .count ≡ count
-  pub labelled : C .regions ≡ regions
-  pub bounds : ShownBoundaries C boundaries
-  pub anchored : ShownAnchored C marks
-  pub pixels : PixelContext C

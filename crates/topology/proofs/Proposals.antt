@@ -13,8 +13,8 @@ use Rattle.definitions.specs.Junctions.{proposals}
 use Rattle.context.specs.declared.Region.{Region}
 use Rattle.context.specs.OneMore.{last-or}
 use Rattle.junctions.specs.Rows.{maxProposals, numbersPerProposal, rowAt, rowsOf, RowFits, isAllowed}
-use Rattle.junctions.specs.Taken.{Judged, removedAt}
-use Rattle.junctions.proofs.Passing.{pass-removed}
+use Rattle.junction_selection.specs.Taken.{Judged, removedAt}
+use Rattle.junction_selection.proofs.Passing.{pass-removed}
 use Rattle.junction_regions.specs.Asked.{Asked}
 use Rattle.topology.specs.Held.{record-is}
 use Rattle.topology.specs.Proposals.{Allows, Allowed, Passes, Unmarked, Removes}

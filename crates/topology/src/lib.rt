@@ -12,10 +12,10 @@ use context::Region;
 use junction_regions::first_place;
 use junction_regions::is_allowed;
 use junction_regions::second_place;
+use junction_selection::selection::select_proposals;
 use junctions::proposals::MAX_PROPOSALS;
 use junctions::proposals::NUMBERS_PER_PROPOSAL;
 use junctions::proposals::find_proposals;
-use junctions::selection::select_proposals;
 use stretches::region_from;
 use stretches::walkable_count;
 

@@ -3,7 +3,7 @@ use mathlib.Core.Path.{ap, _∙_}
 use borrow.Author.Needs.{needs}
 use Rattle.definitions.specs.Junctions.{withinDistance}
 use Rattle.geometry.specs.Forms.{pointForm}
-use Rattle.junctions.proofs.Literals.{radius-is}
+use Rattle.junction_regions.proofs.Literals.{radius-is}
 use Rattle.junction_regions.specs.Tests.{nearMiddle}
 use Rattle.junction_regions.proofs.near_middle.Statement.{statement}
 use Rattle.junction_regions.proofs.near_middle.Tie as tie

@@ -2,7 +2,7 @@
 use mathlib.Core.Path.{ap₂}
 use lib.Ieee.{le}
 use borrow.Author.Needs.{needs}
-use Rattle.junctions.proofs.Literals.{radius-is}
+use Rattle.junction_regions.proofs.Literals.{radius-is}
 use Rattle.junction_regions.specs.Tests.{nearSpan}
 use Rattle.junction_regions.proofs.near_span.Statement.{statement}
 use Rattle.junction_regions.proofs.near_span.Tie as tie

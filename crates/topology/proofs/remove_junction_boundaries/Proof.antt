@@ -1,10 +1,10 @@
 -- `topology::remove_junction_boundaries` meets its contract, from what its three parts ensure: the rows, a mark for each that the records allow, and the selection
--- (`pass-removed` of junctions). `Lts` and `Tie` are derived by tools/twin. Assumes nothing.
+-- (`pass-removed` of junction_selection). `Lts` and `Tie` are derived by tools/twin. Assumes nothing.
 mod Lts
 mod Tie
 use mathlib.Core.Path.{sym}
 use borrow.Author.Needs.{needs}
-use Rattle.junctions.proofs.Passing.{shows-lent}
+use Rattle.junctions.proofs.Proposing.{shows-lent}
 use Rattle.topology.proofs.Proposals.{pass-allows, pass-judged, pass-removes}
 use Rattle.topology.proofs.remove_junction_boundaries.Statement.{statement}
 use Rattle.topology.proofs.remove_junction_boundaries.Proof.Tie as tie

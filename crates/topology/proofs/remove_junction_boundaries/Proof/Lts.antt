@@ -357,7 +357,7 @@ b14 =
 abbrev b15 : Syntax.Body
 b15 =
     Syntax.call
-    "junctions::selection::select_proposals"
+    "junction_selection::selection::select_proposals"
     (List._∷_
     (Syntax.copy (Syntax.place 4 List.[]))
     (List._∷_
@@ -3432,7 +3432,7 @@ module _ (claims· : Claims) where
           𝓤 H) (known0 : Plain.Known 𝓤 H A W 𝓣 6 ps·0 r·0 (claims· .0) (claims· .1)
           "junctions::proposals::find_proposals") (known1 : Plain.Known 𝓤 H A W 𝓣 5 ps·1 r·1
           (claims· .2) (claims· .3) "topology::allow_proposals") (known2 : Plain.Known 𝓤 H A W 𝓣 6
-          ps·2 r·2 (claims· .4) (claims· .5) "junctions::selection::select_proposals") →
+          ps·2 r·2 (claims· .4) (claims· .5) "junction_selection::selection::select_proposals") →
           Statement.Triple 𝓤 (Wp.WpFn 𝓤 H (𝓣 .C) (𝓣 .Λ) (Function.fnOf 7 ps r xs m hs body))
           (Function.plainOf 𝓤 H A 7 ps r Pre· Post·)
 
@@ -3650,7 +3650,7 @@ module _ (claims· : Claims) where
             r·2
             (claims· .4)
             (claims· .5)
-            "junctions::selection::select_proposals"
+            "junction_selection::selection::select_proposals"
 
       module _ (κs : Lifetimes.Lfts 7) (qs : Lifetimes.Shares 7) where
         abbrev g26 : List.List Row.Entry
@@ -6224,7 +6224,7 @@ module _ (claims· : Claims) where
               r·2
               (claims· .4)
               (claims· .5)
-              "junctions::selection::select_proposals"
+              "junction_selection::selection::select_proposals"
               (known .2)
               E
               (λ pos β. β)
@@ -9924,7 +9924,7 @@ module _ (claims· : Claims) where
             r·2
             (claims· .4)
             (claims· .5)
-            "junctions::selection::select_proposals") where
+            "junction_selection::selection::select_proposals") where
           pub spec :
               Statement.Triple
               𝓤
