@@ -1,6 +1,13 @@
--- What the struct `Region` stands for. Assumes nothing.
+-- What the struct `Region` and the enum `Dominant` stand for, and what the code asks of a record so that no number wraps. Assumes nothing.
+use Prim.Native.Nat.{ℕ, _*_, _≤_, _<_}
+use mathlib.Core.Option.{Option, none, some}
+use Rattle.definitions.specs.Limits.{maxSide}
+use Rattle.definitions.specs.Grid.{elevation}
+use Rattle.definitions.specs.RegionRecord.{elevationCount}
 use Rattle.definitions.specs.RegionRecord as def
 use Rattle.context.specs.declared.Region.{Region}
+use Rattle.context.specs.declared.records.Dominant.{Dominant}
+use Rattle.context.specs.declared.records.Dominant.the-variants as dominant
 
 abbrev pub recordOf : Region → def.Region
 recordOf s =
@@ -14,3 +21,25 @@ recordOf s =
       elevations = s .elevations;
       elevationCounts = s .«elevation_counts»;
     }
+
+abbrev pub dominantOf : Dominant → Option ℕ
+dominantOf dominant.None = none
+dominantOf (dominant.Elevation e) = some e
+
+-- ---- what is asked of a record
+
+-- as many cells as the largest map has
+abbrev pub maxCells : ℕ
+maxCells = maxSide * maxSide
+
+-- it counts no more cells than a map has, and of each elevation no more than in all
+pub record Counted (s : def.Region) : Type 0 where
+  pub few : s .cells ≤ maxCells
+  pub each : (e : ℕ) → elevationCount s e ≤ s .cells
+
+-- a further cell at column x and row y of a map: check 9 of document 01's table keeps its elevation below 4
+pub record Fitting (s : def.Region) (x y cell : ℕ) : Type 0 where
+  pub room : s .cells < maxCells
+  pub column : x < maxSide
+  pub row : y < maxSide
+  pub counted : elevation cell < 4

@@ -1,4 +1,7 @@
 // What the passes read of a partitioned map: a region's record by value, and the context as plain lists.
+pub mod incidents;
+pub mod pairs;
+pub mod records;
 
 // The record of a region, as RegionStats of context.rs: document 01, 'Context'. Edges are in pixels; bit e of `elevations` says that a cell has elevation e.
 #[repr(C)]

@@ -1,0 +1,8 @@
+-- The laws that the proofs of this crate share.
+pub mod Added
+pub mod Counting
+pub mod Dominance
+pub mod FullPairs
+pub mod Ones
+pub mod PairStarts
+pub mod Rows

@@ -1,0 +1,26 @@
+-- Counting ones and setting a bit, as the code writes them on eight bits. Assumes nothing.
+use Prim.Native.Nat.{ℕ, zero, suc, _+_, _*_, _/_, _%_, _^_, _<_}
+use native.Mathlib.Omega.{arith}
+use native.Mathlib.Nat.{pow-succ'}
+use mathlib.Core.Path.{_≡_, refl, sym, ap, _∙_, subst}
+use lib.Count.{onesIn, ones, ones-step}
+
+-- the ones of a number of k digits are those among its lowest k
+pub ones-in : (k n : ℕ) → n < 2 ^ k → ones n ≡ onesIn k n
+unfolding onesIn ones
+ones-in zero n h = ap ones (small n h)
+  where
+    small : (n : ℕ) → n < 1 → n ≡ 0
+    small n h = omega arith
+ones-in (suc k) n h = ones-step n ∙ ap (λ m. n % 2 + m) (ones-in k (n / 2) (half (subst (λ m. n < m) (pow-succ' 2 k) h)))
+  where
+    half : n < 2 * 2 ^ k → n / 2 < 2 ^ k
+    half h = omega arith
+
+-- a shift of 1 by less than 4 loses nothing in eight bits
+pub shifted : (e : ℕ) → e < 4 → 1 * 2 ^ e % 256 ≡ 2 ^ e
+shifted zero h = refl
+shifted (suc zero) h = refl
+shifted (suc (suc zero)) h = refl
+shifted (suc (suc (suc zero))) h = refl
+shifted (suc (suc (suc (suc e)))) h = absurd (omega arith)

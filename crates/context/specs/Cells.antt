@@ -1,0 +1,55 @@
+-- A region's record made cell by cell, as PartitionContext::new of context.rs makes it: `addCell` adds one, `recordFrom` those of a list, from the first on.
+-- In the Rust an empty record's edges are infinite; ours are zero, and the first cell sets them. Assumes nothing.
+use Prim.Native.Nat.{ℕ, _+_, _*_, _/_, _%_, _^_}
+use mathlib.Core.Bool.{Bool, _||_, cond}
+use mathlib.Core.List.{List, [], _∷_}
+use lib.ListN.{getD, set}
+use lib.Dec.{eqb}
+use lib.Bits.{bitOr}
+use lib.Ieee.{Float, lt}
+use Rattle.definitions.specs.Grid.{Map, cellAt, isRamp, elevation}
+use Rattle.definitions.specs.Spans.{pixelsPerWalkCell}
+use Rattle.definitions.specs.Geometry.{float}
+use Rattle.definitions.specs.RegionRecord.{Region, emptyRegion, elevationCount}
+
+-- ---- one cell
+
+-- the edge after a cell whose own edge is `new`
+abbrev pub lesserEdge : Bool → Float → Float → Float
+lesserEdge first old new = cond first new (cond (lt new old) new old)
+
+abbrev pub greaterEdge : Bool → Float → Float → Float
+greaterEdge first old new = cond first new (cond (lt old new) new old)
+
+-- one cell more, at column x and row y
+unfoldable pub addCell : Region → ℕ → ℕ → ℕ → Region
+unfolding float
+addCell s x y cell =
+    let first = eqb (s .cells) 0 in
+    let e = elevation cell in
+    record {
+      cells = s .cells + 1;
+      minX = lesserEdge first (s .minX) (float (x * pixelsPerWalkCell));
+      minY = lesserEdge first (s .minY) (float (y * pixelsPerWalkCell));
+      maxX = greaterEdge first (s .maxX) (float ((x + 1) * pixelsPerWalkCell));
+      maxY = greaterEdge first (s .maxY) (float ((y + 1) * pixelsPerWalkCell));
+      hasRamp = s .hasRamp || isRamp cell;
+      elevations = bitOr (s .elevations) (2 ^ e);
+      elevationCounts = set (s .elevationCounts) e (elevationCount s e + 1);
+    }
+
+-- ---- the cells of a list
+
+-- cell c of the map
+unfoldable pub addCellOf : Map → Region → ℕ → Region
+unfolding addCell
+addCellOf M s c = addCell s (c % M .width) (c / M .width) (cellAt M c)
+
+unfoldable pub addCells : Map → Region → List ℕ → Region
+unfolding addCellOf
+addCells M s [] = s
+addCells M s (c ∷ cs) = addCells M (addCellOf M s c) cs
+
+unfoldable pub recordFrom : Map → List ℕ → Region
+unfolding emptyRegion addCells
+recordFrom M cs = addCells M emptyRegion cs

@@ -1,0 +1,149 @@
+// A region's record by value: the empty record, one more cell, and what is asked of a record (RegionStats of context.rs; dominance and flatness of junctions.rs).
+use crate::Region;
+use geometry::Point;
+ghost use mathlib.Core.Path.{_≡_};
+ghost use mathlib.Core.List.{map};
+ghost use Prim.Native.Nat.{_*_, _≤_, _<_};
+ghost use Rattle.definitions.specs.Limits.{maxSide};
+ghost use Rattle.definitions.specs.Grid.{elevation, isRamp};
+ghost use Rattle.definitions.specs.Spans.{pixelsPerWalkCell};
+ghost use Rattle.definitions.specs.Geometry.{float};
+ghost use Rattle.definitions.specs.RegionRecord.{emptyRegion, corners, better, mostCommonElevation, dominantElevation, strictlyFlat};
+ghost use Rattle.geometry.specs.Forms.{pointForm};
+ghost use Rattle.context.specs.Records.{recordOf, dominantOf, Counted, Fitting};
+ghost use Rattle.context.specs.Cells.{lesserEdge, greaterEdge, addCell};
+
+const PIXELS_PER_WALK_CELL: u32 = 8;
+
+// The elevation of 99 of 100 cells or more, where there is one; `dominantOf` of specs/Records.antt gives what it says.
+pub enum Dominant {
+    None,
+    Elevation(u8),
+}
+
+// An edge that lies `cells` cells from the map's left or upper edge, in pixels.
+fn edge(cells: usize) -> f64
+    requires { ⌜ cells ≤ maxSide ⌝ }
+    ensures { λ r. ⌜ r ≡ float (cells * pixelsPerWalkCell) ⌝ }
+{
+    (cells as u32 * PIXELS_PER_WALK_CELL) as f64
+}
+
+// The first cell sets an edge; each further one may move it out.
+fn lesser_edge(first: bool, old: f64, new: f64) -> f64
+    ensures { λ r. ⌜ r ≡ lesserEdge first old new ⌝ }
+{
+    if first {
+        return new;
+    }
+    if new < old { new } else { old }
+}
+
+fn greater_edge(first: bool, old: f64, new: f64) -> f64
+    ensures { λ r. ⌜ r ≡ greaterEdge first old new ⌝ }
+{
+    if first {
+        return new;
+    }
+    if old < new { new } else { old }
+}
+
+fn elevation_of(cell: u8) -> usize
+    ensures { λ r. ⌜ r ≡ elevation cell ⌝ }
+{
+    (cell / 4) as usize
+}
+
+fn is_ramp(cell: u8) -> bool
+    ensures { λ r. ⌜ r ≡ isRamp cell ⌝ }
+{
+    cell / 2 % 2 == 1
+}
+
+impl Region {
+    pub fn empty() -> Self
+        ensures { λ r. ⌜ recordOf r ≡ emptyRegion ⌝ }
+    {
+        Self {
+            cells: 0,
+            min_x: 0.0,
+            min_y: 0.0,
+            max_x: 0.0,
+            max_y: 0.0,
+            has_ramp: false,
+            elevations: 0,
+            elevation_counts: [0; 4],
+        }
+    }
+
+    // The record with one cell more, which stands at column x and row y.
+    pub fn with_cell(self, x: usize, y: usize, cell: u8) -> Self
+        requires { ⌜ Counted (recordOf self) ⌝ }
+        requires { ⌜ Fitting (recordOf self) x y cell ⌝ }
+        ensures { λ r. ⌜ recordOf r ≡ addCell (recordOf self) x y cell ⌝ }
+    {
+        let first = self.cells == 0;
+        let e = elevation_of(cell);
+        let mut counts = self.elevation_counts;
+        counts[e] = counts[e] + 1;
+        Self {
+            cells: self.cells + 1,
+            min_x: lesser_edge(first, self.min_x, edge(x)),
+            min_y: lesser_edge(first, self.min_y, edge(y)),
+            max_x: greater_edge(first, self.max_x, edge(x + 1)),
+            max_y: greater_edge(first, self.max_y, edge(y + 1)),
+            has_ramp: self.has_ramp | is_ramp(cell),
+            elevations: self.elevations | (1 << e),
+            elevation_counts: counts,
+        }
+    }
+
+    // In the Rust's order.
+    pub fn corners(self) -> [Point; 4]
+        ensures { λ r. ⌜ map pointForm r ≡ corners (recordOf self) ⌝ }
+    {
+        [
+            Point { x: self.min_x, y: self.min_y },
+            Point { x: self.min_x, y: self.max_y },
+            Point { x: self.max_x, y: self.min_y },
+            Point { x: self.max_x, y: self.max_y },
+        ]
+    }
+
+    // Which of two elevations has more cells; of equal counts the former.
+    fn better(self, best: usize, e: usize) -> usize
+        requires { ⌜ (best < 4) × (e < 4) ⌝ }
+        ensures { λ r. ⌜ r ≡ better (recordOf self) best e ⌝ }
+        ensures { λ r. ⌜ r < 4 ⌝ }
+    {
+        let counts = self.elevation_counts;
+        if counts[best] < counts[e] { e } else { best }
+    }
+
+    fn most_common_elevation(self) -> usize
+        ensures { λ r. ⌜ r ≡ mostCommonElevation (recordOf self) ⌝ }
+        ensures { λ r. ⌜ r < 4 ⌝ }
+    {
+        self.better(self.better(self.better(0, 1), 2), 3)
+    }
+
+    pub fn dominant_elevation(self) -> Dominant
+        requires { ⌜ Counted (recordOf self) ⌝ }
+        ensures { λ r. ⌜ dominantOf r ≡ dominantElevation (recordOf self) ⌝ }
+    {
+        let e = self.most_common_elevation();
+        let counts = self.elevation_counts;
+        if self.cells * 99 <= counts[e] * 100 {
+            Dominant::Elevation(e as u8)
+        } else {
+            Dominant::None
+        }
+    }
+
+    // Exactly one bit set in the joined elevation mask.
+    pub fn is_strictly_flat(self, other: Region) -> bool
+        ensures { λ r. ⌜ r ≡ strictlyFlat (recordOf self) (recordOf other) ⌝ }
+    {
+        u8::count_ones(self.elevations | other.elevations) == 1
+    }
+}
