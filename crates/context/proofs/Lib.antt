@@ -3,6 +3,8 @@ pub mod Added
 pub mod Counting
 pub mod Dominance
 pub mod FullPairs
+pub mod IncidentCounts
+pub mod IncidentWhole
 pub mod Ones
 pub mod PairStarts
 pub mod Rows

@@ -1,13 +1,13 @@
 -- The list in which incidents are counted: a region's entry is 512 times its incidents so far, plus one more than the number of the last span that counted.
 -- Definitions only; assumes nothing.
-use Prim.Native.Nat.{ℕ, zero, suc, _+_, _-_, _*_, _/_, _%_, _≤_, _<_}
-use mathlib.Core.Path.{_≡_}
+use Prim.Native.Nat.{ℕ, zero, suc, _+_, _-_, _*_, _/_, _%_, _≤_}
 use mathlib.Core.Bool.{cond}
 use mathlib.Core.List.{List, [], _∷_}
-use lib.ListN.{length, getD, set, drop}
+use lib.ListN.{getD, set}
 use lib.Dec.{eqb}
 use Rattle.definitions.specs.Scan.{bit}
 use Rattle.definitions.specs.Grid.{Pair}
+use Rattle.context.specs.Shown.{pairsBetween}
 
 -- more than a span's number plus one
 abbrev pub packUnit : ℕ
@@ -29,6 +29,10 @@ unfolding countPair
 countPairs span counts [] = counts
 countPairs span counts (p ∷ ps) = countPairs span (countPair span counts p) ps
 
+-- the pairs of a span, as its rows show them
+abbrev pub spanPairs : List ℕ → List ℕ → ℕ → List Pair
+spanPairs pairs starts s = pairsBetween pairs (getD starts s 0) (getD starts (s + 1) 0)
+
 -- the pairs that f gives at the spans before n
 unfoldable pub countSpans : (ℕ → List Pair) → ℕ → List ℕ → List ℕ
 unfolding countPairs
@@ -39,8 +43,6 @@ countSpans f (suc n) counts = countPairs n (countSpans f n counts) (f n)
 abbrev pub Packed : ℕ → List ℕ → Type 0
 Packed span counts = (k : ℕ) → getD counts k 0 / packUnit ≤ span + bit (eqb (getD counts k 0 % packUnit) (span + 1))
 
--- the counts of the first n entries, without the spans
-pub record Unpacked (n : ℕ) (packed counts : List ℕ) : Type 0 where
-  pub long : length counts ≡ length packed
-  pub at : (k : ℕ) → k < n → getD counts k 0 ≡ getD packed k 0 / packUnit
-  pub rest : drop n counts ≡ drop n packed
+-- the count of an entry
+abbrev pub unpacked : ℕ → ℕ
+unpacked v = v / packUnit

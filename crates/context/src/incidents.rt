@@ -4,14 +4,15 @@
 // the last span that counted: so one list serves, and each row is looked at once.
 use crate::pairs::wide;
 ghost use mathlib.Core.Path.{_≡_};
+ghost use mathlib.Core.List.{map};
 ghost use Prim.Native.Nat.{ℕ, _+_, _*_, _/_, _≤_, _<_};
-ghost use lib.ListN.{length, getD, drop};
+ghost use lib.ListN.{length, getD};
 ghost use Rattle.definitions.specs.Limits.{maxEntries, numbersPerPair};
 ghost use Rattle.definitions.specs.Grid.{contains};
 ghost use Rattle.definitions.specs.Context.{Context, isIncident};
 ghost use Rattle.context.specs.Shown.{pairAt, pairsBetween, ShownPairs, ShownIncidents};
 ghost use Rattle.context.specs.Rows.{Stretch, NamedRow, NamedRows, Beyond};
-ghost use Rattle.context.specs.Packed.{packUnit, countedEntry, countRegion, countPair, countPairs, Packed, Unpacked};
+ghost use Rattle.context.specs.Packed.{packUnit, countedEntry, countRegion, countPair, countPairs, spanPairs, countSpans, unpacked, Packed};
 
 const NUMBERS_PER_PAIR: usize = 3;
 const PACK_UNIT: u32 = 512;
@@ -82,4 +83,55 @@ fn count_rows(pairs: &[u32], first: usize, end: usize, span: u32, counts: &mut [
         count_pair(pairs, k, span, &mut *counts);
         k += 1;
     }
+}
+
+// Every span's rows, each span once for each region that it names.
+fn count_spans(pairs: &[u32], starts: &[usize; 257], count: usize, counts: &mut [u32])
+    requires { ⌜ NamedRows (now pairs) (now starts) count (length (now counts)) ⌝ }
+    requires { ⌜ ((k : ℕ) → getD (now counts) k 0 ≡ 0) ⌝ }
+    ensures { λ x. ⌜ now (counts .exit) ≡ countSpans (spanPairs (now (pairs .entry)) (now (starts .entry))) count (now (counts .entry)) ⌝ }
+{
+    let mut i = 0;
+    while i < count {
+        let first = starts[i];
+        let end = starts[i + 1];
+        count_rows(pairs, first, end, i as u32, &mut *counts);
+        i += 1;
+    }
+}
+
+// The counts alone, without the last spans.
+fn unpack(counts: &mut [u32])
+    ensures { λ x. ⌜ now (counts .exit) ≡ map unpacked (now (counts .entry)) ⌝ }
+{
+    let mut k = 0;
+    while k < counts.len() {
+        counts[k] = counts[k] / PACK_UNIT;
+        k += 1;
+    }
+}
+
+fn count_regions(pairs: &[u32], starts: &[usize; 257], count: usize, counts: &mut [u32])
+    requires { ⌜ NamedRows (now pairs) (now starts) count (length (now counts)) ⌝ }
+    requires { ⌜ ((k : ℕ) → getD (now counts) k 0 ≡ 0) ⌝ }
+    ensures { λ x. ⌜ now (counts .exit) ≡ map unpacked (countSpans (spanPairs (now (pairs .entry)) (now (starts .entry))) count (now (counts .entry))) ⌝ }
+{
+    count_spans(pairs, starts, count, &mut *counts);
+    unpack(counts);
+}
+
+// From zeros, how many incidents each of the regions has.
+pub fn count_incidents(
+    pairs: &[u32],
+    starts: &[usize; 257],
+    count: usize,
+    regions: usize,
+    counts: &mut [u32],
+)
+    requires { ⌜ NamedRows (now pairs) (now starts) count regions ⌝ }
+    requires { ⌜ (regions ≤ length (now counts)) × ((k : ℕ) → k < regions → getD (now counts) k 0 ≡ 0) ⌝ }
+    ensures { λ x. ⌜ ((C : Context) → C .count ≡ count → C .regions ≡ regions → ShownPairs C (now (pairs .entry)) (now (starts .entry)) → ShownIncidents C (now (counts .exit))) ⌝ }
+    ensures { λ x. ⌜ Beyond regions (now (counts .entry)) (now (counts .exit)) ⌝ }
+{
+    count_regions(pairs, starts, count, &mut counts[..regions]);
 }
