@@ -18,7 +18,7 @@ const NUMBERS_PER_PAIR: usize = 3;
 const PACK_UNIT: u32 = 512;
 
 // Whether row k names region r.
-pub fn names_region(pairs: &[u32], k: usize, r: u32) -> bool
+fn names_region(pairs: &[u32], k: usize, r: u32) -> bool
     requires { ⌜ numbersPerPair * k + 2 < length (now pairs) ⌝ }
     ensures { λ x. ⌜ x ≡ contains r (pairAt (now (pairs .entry)) k) ⌝ }
 {
