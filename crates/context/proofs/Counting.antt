@@ -4,26 +4,26 @@ use native.Mathlib.Omega.{arith}
 use native.Mathlib.Nat.{add-zero}
 use native.Mathlib.Numerals.{add-one}
 use mathlib.Core.Path.{_≡_, refl, sym, ap, ap₂, _∙_, subst}
-use mathlib.Core.Bool.{Bool, true, false, _||_, cond, or-false, or-true, or-assoc}
+use mathlib.Core.Bool.{Bool, true, false, _||_, cond, or-true}
 use mathlib.Core.Logic.{⊎-elim}
 use mathlib.Core.List.{List, [], _∷_, _++_, map}
 use lib.ListN.{length, getD, set, length-set}
 use lib.Seq.{getD-set-same, getD-set-other, set-out}
 use lib.Dec.{eqb}
-use borrow.Author.Tests.{eq-eqb, ne-eqb, eqb-true, eqb-false}
+use borrow.Author.Tests.{eq-eqb}
 use Rattle.definitions.specs.Limits.{maxEntries}
-use Rattle.definitions.specs.Scan.{run, any, countBelow, bit}
+use Rattle.definitions.specs.Scan.{run, any, bit}
 use Rattle.definitions.specs.Grid.{Pair, contains}
 use Rattle.definitions.specs.Context.{Context, isIncident}
 use Rattle.laws.specs.ListLaws.Lists.{any-append}
 use Rattle.laws.specs.NumberLaws.Comparisons.{le-or-lt}
 use Rattle.context.specs.OneMore.{same-or, last-or}
 use Rattle.context.specs.Shown.{pairAt, pairsBetween, ShownPairs}
-use Rattle.context.specs.Packed.{packUnit, countedEntry, countRegion, countPair, countPairs, countSpans, Packed}
+use Rattle.context.specs.Packed.{packUnit, countedEntry, countRegion, countPair, countPairs, Packed}
 
 -- ---- rows in order
 
-run-last : (n k : ℕ) → run n (suc k) ≡ run n k ++ ((n + k) ∷ [])
+pub run-last : (n k : ℕ) → run n (suc k) ≡ run n k ++ ((n + k) ∷ [])
 unfolding run
 run-last n zero = ap (λ m. m ∷ []) (sym (add-zero n))
 run-last n (suc k) = ap (_∷_ n) (run-last (suc n) k ∙ ap (λ m. run (suc n) k ++ (m ∷ [])) (next n k))
@@ -103,7 +103,7 @@ module _ (span : ℕ) (few : span < maxEntries) where
   pub packed-region : (counts : List ℕ) (r : ℕ) → Packed span counts → Packed span (countRegion span counts r)
   unfolding countRegion
   packed-region counts r h k =
-      ⊎-elim (λ e. ⊎-elim (λ l. subst small (sym (ap (getD (set counts (r - 1) new) k) refl ∙ out l)) (h k)) (λ l. subst small (sym (here e l)) (entry-small span (getD counts (r - 1) 0) few (h (r - 1)))) (le-or-lt (length counts) (r - 1)))
+      ⊎-elim (λ e. ⊎-elim (λ l. subst small (sym (out l)) (h k)) (λ l. subst small (sym (here e l)) (entry-small span (getD counts (r - 1) 0) few (h (r - 1)))) (le-or-lt (length counts) (r - 1)))
       (λ e. subst small (sym (getD-set-other counts (r - 1) k new 0 e)) (h k)) (same-or k (r - 1))
     where
       new : ℕ

@@ -1,6 +1,6 @@
 -- The dominant elevation, from the most common one and the comparison of its cells with all. Assumes nothing.
 use Prim.Native.Nat.{ℕ, _*_, _≤_, _<_}
-use mathlib.Core.Path.{_≡_, sym, ap, ap₂, _∙_}
+use mathlib.Core.Path.{_≡_, sym, ap, _∙_}
 use mathlib.Core.Option.{none, some}
 use lib.Dec.{leb}
 use borrow.Author.Tests.{le-leb, lt-leb}

@@ -1,20 +1,20 @@
 -- Full cuts and full pairs, read off the tallies and the rows of a span. Assumes nothing.
-use Prim.Native.Nat.{ℕ, zero, suc, _+_, _-_, _*_, _≤_, _<_}
+use Prim.Native.Nat.{ℕ, _+_, _-_, _*_, _≤_, _<_}
 use native.Mathlib.Omega.{arith}
 use mathlib.Core.Path.{_≡_, refl, sym, ap, ap₂, _∙_, subst}
 use mathlib.Core.Bool.{Bool, true, false, not, _&&_}
 use mathlib.Core.Logic.{⊎-elim}
-use mathlib.Core.Option.{Option, none, some}
+use mathlib.Core.Option.{none, some}
 use mathlib.Core.List.{List, [], _∷_, map}
 use lib.ListN.{length, getD, set, length-map}
 use lib.Seq.{getD-set-same, getD-set-other}
 use lib.Dec.{eqb, ltb}
 use borrow.Author.Tests.{ne-eqb}
-use Rattle.definitions.specs.Limits.{maxEntries, talliesPerSpan, numbersPerPair}
+use Rattle.definitions.specs.Limits.{talliesPerSpan}
 use Rattle.definitions.specs.Scan.{run, onlyIf}
 use Rattle.definitions.specs.Grid.{Pair}
 use Rattle.definitions.specs.Context.{Context, onlyPair, fullCut, fullPair}
-use Rattle.laws.specs.ListLaws.Lists.{All, done, more, length-run}
+use Rattle.laws.specs.ListLaws.Lists.{All, more, length-run}
 use Rattle.context.specs.declared.pairs.FullPair.{FullPair}
 use Rattle.context.specs.declared.pairs.FullPair.the-variants as full
 use Rattle.context.specs.OneMore.{last-or}

@@ -1,11 +1,11 @@
 -- The packed list counts every span once for each region that it names. The state between two rows: an entry has counted the spans before, and this one if a pair so far
 -- names the region, in which case it is the entry's last span. Assumes nothing.
-use Prim.Native.Nat.{ℕ, zero, suc, _+_, _-_, _*_, _/_, _%_, _≤_, _<_}
+use Prim.Native.Nat.{ℕ, zero, suc, _+_, _-_, _/_, _%_, _≤_, _<_}
 use native.Mathlib.Omega.{arith}
 use native.Mathlib.Nat.{le-refl}
 use native.Mathlib.Numerals.{add-one}
 use mathlib.Core.Path.{_≡_, refl, sym, ap, ap₂, _∙_, subst}
-use mathlib.Core.Bool.{Bool, true, false, _||_, cond, or-false, or-true, or-assoc}
+use mathlib.Core.Bool.{Bool, true, false, _||_, or-false, or-true, or-assoc}
 use mathlib.Core.Logic.{⊎-elim}
 use mathlib.Core.List.{List, [], _∷_, _++_, map}
 use lib.ListN.{length, getD, set, length-set, length-map, length-append, List·getD-map, List·getD-append}
@@ -19,7 +19,7 @@ use Rattle.definitions.specs.Grid.{Pair, contains}
 use Rattle.definitions.specs.Context.{Context, isIncident, incidentCount}
 use Rattle.laws.specs.ListLaws.Lists.{All, done, more}
 use Rattle.context.specs.OneMore.{same-or}
-use Rattle.context.specs.Shown.{pairsBetween, ShownPairs, ShownIncidents}
+use Rattle.context.specs.Shown.{ShownPairs, ShownIncidents}
 use Rattle.context.specs.Packed.{packUnit, countedEntry, countRegion, countPair, countPairs, spanPairs, countSpans, unpacked, Packed}
 use Rattle.context.proofs.Counting.{region-length, pair-length, pairs-length, packed-pairs, packed-next, packed-zero}
 

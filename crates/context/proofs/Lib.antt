@@ -1,5 +1,6 @@
 -- The laws that the proofs of this crate share.
 pub mod Added
+pub mod AnchorSteps
 pub mod Counting
 pub mod Dominance
 pub mod FullPairs

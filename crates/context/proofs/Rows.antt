@@ -1,7 +1,7 @@
 -- Rows of pairs: what the loops over them carry along. Assumes nothing.
 use Prim.Native.Nat.{ℕ, _+_, _≤_, _<_}
 use native.Mathlib.Omega.{arith}
-use mathlib.Core.Path.{_≡_, sym, subst}
+use mathlib.Core.Path.{sym, subst}
 use mathlib.Core.Logic.{⊎-elim}
 use Rattle.context.specs.OneMore.{last-or}
 

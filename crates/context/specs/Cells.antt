@@ -3,7 +3,7 @@
 use Prim.Native.Nat.{ℕ, _+_, _*_, _/_, _%_, _^_}
 use mathlib.Core.Bool.{Bool, _||_, cond}
 use mathlib.Core.List.{List, [], _∷_}
-use lib.ListN.{getD, set}
+use lib.ListN.{set}
 use lib.Dec.{eqb}
 use lib.Bits.{bitOr}
 use lib.Ieee.{Float, lt}

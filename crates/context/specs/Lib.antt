@@ -1,4 +1,7 @@
+pub mod AnchorLaws
+pub mod Anchors
 pub mod Cells
+pub mod OneElevation
 pub mod OneMore
 pub mod Packed
 pub mod RecordFrom

@@ -1,6 +1,6 @@
 -- Scans of the numbers below n where one number more passes: what becomes of a count, of whether there is one, of the least and of the most.
 -- Each by induction on n: past the number a step is the same of both, at it the scan takes it in, before it both scans are the same. Assumes nothing.
-use Prim.Native.Nat.{ℕ, zero, suc, _+_, _≤_, _<_, min, max}
+use Prim.Native.Nat.{ℕ, zero, suc, _+_, _<_, min, max}
 use native.Mathlib.Omega.{arith}
 use native.Mathlib.Nat.{add-zero}
 use lib.Arith.{lt-of-le-ne}

@@ -1,6 +1,6 @@
 -- A record made cell by cell is the definition's: of a list that holds each cell of a region once, in any order, `recordFrom` is `regionOf`. And what is known of the
 -- record on the way: one cell more of a stretch of the queue, and that no count exceeds the number of cells. Assumes nothing.
-use Prim.Native.Nat.{ℕ, zero, suc, _+_, _/_, _%_, _≤_, _<_, zero-le}
+use Prim.Native.Nat.{ℕ, zero, suc, _+_, _-_, _/_, _%_, _≤_, _<_, zero-le}
 use native.Mathlib.Omega.{arith}
 use native.Mathlib.Nat.{le-trans}
 use native.Mathlib.Numerals.{add-one}
@@ -8,9 +8,9 @@ use mathlib.Core.Path.{_≡_, refl, sym, ap, ap₂, _∙_, subst}
 use mathlib.Core.Bool.{Bool, true, false, _&&_, _||_, or-assoc, or-false, or-true, true≢false, false≢true}
 use mathlib.Core.List.{List, [], _∷_, _++_}
 use lib.ListN.{length, getD, set, take, drop}
-use lib.Seq.{slice, slice-empty, take-suc, drop-append-le, length-take-le}
+use lib.Seq.{slice, slice-empty, length-slice, take-suc, drop-append-le, length-take-le, getD-drop, getD-take}
 use lib.Dec.{eqb}
-use borrow.Author.Tests.{eqb-true, eqb-false, eq-eqb, ne-eqb}
+use borrow.Author.Tests.{eqb-true, eq-eqb, ne-eqb}
 use Rattle.definitions.specs.Scan.{any, member, countBelow, bit}
 use Rattle.definitions.specs.Limits.{isSide}
 use Rattle.definitions.specs.Grid.{Map, cellCount, cellAt, elevation}
@@ -121,6 +121,32 @@ module _ (M : Map) (queue : List ℕ) (a : ℕ) where
       ∙ ap (λ l. recordFrom M (drop a l)) (take-suc queue k 0 l)
       ∙ ap (recordFrom M) (drop-append-le a (take k queue) (getD queue k 0 ∷ []) (subst (λ n. a ≤ n) (sym (length-take-le k queue (omega arith))) h))
       ∙ record-more M (slice a k queue) (getD queue k 0)
+
+  -- a stretch that holds each cell of a region once, said of the places of the whole list
+  pub stretch-once : (ls : List ℕ) (r b : ℕ) → b ≤ length queue → ((k : ℕ) → a ≤ k → k < b → (getD queue k 0 < cellCount M) × (getD ls (getD queue k 0) 0 ≡ r))
+      → ((j k : ℕ) → a ≤ j → j < k → k < b → getD queue j 0 ≡ getD queue k 0 → ⊥)
+      → ((c : ℕ) → c < cellCount M → getD ls c 0 ≡ r → (k : ℕ) × ((a ≤ k) × ((k < b) × (getD queue k 0 ≡ c)))) → EachOnce M ls r (slice a b queue)
+  stretch-once ls r b h of apart found =
+      record {
+        cell = λ k l. subst (λ c. c < cellCount M) (sym (at k l)) (of (a + k) (omega arith) (within k l) .0);
+        mine = λ k l. ap (λ c. getD ls c 0) (at k l) ∙ of (a + k) (omega arith) (within k l) .1;
+        apart = λ j k l m e. apart (a + j) (a + k) (omega arith) (omega arith) (within k m) (sym (at j (omega (arith, l, m))) ∙ e ∙ at k m);
+        found = λ c l e.
+            let (k, (m, (n, same))) = found c l e in
+            (k - a, (omega (arith, size, m, n), at (k - a) (omega (arith, size, m, n)) ∙ ap (λ i. getD queue i 0) (back k m) ∙ same));
+      }
+    where
+      size : length (slice a b queue) ≡ b - a
+      size = length-slice a b queue h
+
+      within : (k : ℕ) → k < length (slice a b queue) → a + k < b
+      within k l = omega (arith, size)
+
+      at : (k : ℕ) → k < length (slice a b queue) → getD (slice a b queue) k 0 ≡ getD queue (a + k) 0
+      at k l = getD-drop a (take b queue) k 0 ∙ getD-take b queue (a + k) 0 (within k l)
+
+      back : (k : ℕ) → a ≤ k → a + (k - a) ≡ k
+      back k m = omega arith
 
 -- ---- counts
 

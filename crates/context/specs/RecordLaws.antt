@@ -1,18 +1,17 @@
 -- The definition's record of the cells that pass a test: with one cell more it is `addCell` of it, field by field, of no cell it is the empty record, and with the test of a
 -- label it is `regionOf`. Assumes nothing.
-use Prim.Native.Nat.{ℕ, zero, suc, _+_, _*_, _/_, _%_, _^_, _≤_, _<_, min, max, zero-le}
+use Prim.Native.Nat.{ℕ, zero, suc, _+_, _*_, _/_, _%_, _^_, _≤_, _<_, min, max}
 use native.Mathlib.Omega.{arith}
 use native.Mathlib.Nat.{le-trans, add-zero, mod-lt, div-lt-iff-lt-mul}
-use mathlib.Core.Path.{_≡_, refl, sym, ap, ap₂, _∙_, subst}
-use mathlib.Core.Bool.{Bool, true, false, not, _&&_, _||_, cond, or-assoc, or-false, true≢false}
-use mathlib.Core.Logic.{⊎-elim}
+use mathlib.Core.Path.{_≡_, refl, sym, ap, ap₂, _∙_}
+use mathlib.Core.Bool.{Bool, true, false, not, _&&_, _||_, cond}
 use mathlib.Core.List.{List, [], _∷_, map}
-use lib.ListN.{length, getD, set}
-use lib.Dec.{eqb, ltb, lit≤}
+use lib.ListN.{getD, set}
+use lib.Dec.{eqb, ltb}
 use lib.Bits.{bitOr}
-use lib.Ieee.{Float, lt}
-use borrow.Author.Tests.{eqb-true, eqb-false, eq-eqb, ne-eqb, ltb-true, ltb-false}
-use Rattle.definitions.specs.Scan.{anyBelow, allBelow, countBelow, bit, any, member}
+use lib.Ieee.{lt}
+use borrow.Author.Tests.{eqb-true, ltb-true, ltb-false}
+use Rattle.definitions.specs.Scan.{anyBelow, allBelow, countBelow, bit}
 use Rattle.definitions.specs.Limits.{isSide, maxSide}
 use Rattle.definitions.specs.Grid.{Map, cellCount, cellAt, isRamp, elevation}
 use Rattle.definitions.specs.Spans.{pixelsPerWalkCell}
@@ -23,7 +22,7 @@ use Rattle.laws.specs.ListLaws.Below.{below-ext, below-none, count-ext, all-bel
 use Rattle.laws.specs.RegionLaws.Edges.{least-le, most-le, least-ext, most-ext}
 use Rattle.laws.specs.FloatLaws.WholeDoubles.{lt-float}
 use Rattle.laws.specs.FloatLaws.MapPixels.{side-bounds}
-use Rattle.context.specs.Cells.{lesserEdge, greaterEdge, addCell, addCellOf, addCells, recordFrom}
+use Rattle.context.specs.Cells.{lesserEdge, greaterEdge, addCell, addCellOf}
 use Rattle.context.specs.OneMore.{OneMore, count-more, least-more, most-more, count-both, any-both, any-counted, most-none, least-none}
 
 -- ---- edges
@@ -74,25 +73,27 @@ unfolding everyBool
 every-at f h true = both (f true) (f false) h .0
 every-at f h false = both (f true) (f false) h .1
 
+-- all sixteen cases, computed
+unfoldable pub everyFour : (Bool → Bool → Bool → Bool → Bool) → Bool
+unfolding everyBool
+everyFour f = everyBool (λ a. everyBool (λ b. everyBool (λ c. everyBool (λ d. f a b c d))))
+
+pub four-at : (f : Bool → Bool → Bool → Bool → Bool) → everyFour f ≡ true → (a b c d : Bool) → f a b c d ≡ true
+unfolding everyFour
+four-at f h a b c d =
+    every-at (λ d. f a b c d) (every-at (λ c. everyBool (λ d. f a b c d)) (every-at (λ b. everyBool (λ c. everyBool (λ d. f a b c d))) (every-at (λ a. everyBool (λ b. everyBool (λ c. everyBool (λ d. f a b c d)))) h a) b) c) d
+
 -- four digits, and a further one set
-abbrev maskOfBits : Bool → Bool → Bool → Bool → ℕ
+abbrev pub maskOfBits : Bool → Bool → Bool → Bool → ℕ
 maskOfBits a b c d = bit a + 2 * bit b + 4 * bit c + 8 * bit d
 
 abbrev setsBit : Bool → Bool → Bool → Bool → ℕ → Bool
 setsBit a b c d k = eqb (bitOr (maskOfBits a b c d) (2 ^ k)) (maskOfBits (a || eqb k 0) (b || eqb k 1) (c || eqb k 2) (d || eqb k 3))
 
-mask-table : everyBool (λ a. everyBool (λ b. everyBool (λ c. everyBool (λ d. allBelow 4 (setsBit a b c d))))) ≡ true
-unfolding everyBool allBelow
-mask-table = refl
-
 mask-more : (f : ℕ → Bool) (k : ℕ) → k < 4 → bitOr (maskOf f) (2 ^ k) ≡ maskOf (λ e. f e || eqb k e)
+unfolding everyFour everyBool allBelow
 mask-more f k h =
-    eqb-true _ _
-    (all-below-at 4 (setsBit (f 0) (f 1) (f 2) (f 3))
-    (every-at (λ d. allBelow 4 (setsBit (f 0) (f 1) (f 2) d))
-    (every-at (λ c. everyBool (λ d. allBelow 4 (setsBit (f 0) (f 1) c d)))
-    (every-at (λ b. everyBool (λ c. everyBool (λ d. allBelow 4 (setsBit (f 0) b c d))))
-    (every-at (λ a. everyBool (λ b. everyBool (λ c. everyBool (λ d. allBelow 4 (setsBit a b c d))))) mask-table (f 0)) (f 1)) (f 2)) (f 3)) k h)
+    eqb-true _ _ (all-below-at 4 (setsBit (f 0) (f 1) (f 2) (f 3)) (four-at (λ a b c d. allBelow 4 (setsBit a b c d)) refl (f 0) (f 1) (f 2) (f 3)) k h)
 
 -- the four counts of f
 abbrev countsOf : (ℕ → ℕ) → List ℕ

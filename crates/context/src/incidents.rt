@@ -2,6 +2,7 @@
 //
 // A span that names a region in several pairs counts once. While counting, a region's entry is 512 times its incidents so far, plus one more than the number of
 // the last span that counted: so one list serves, and each row is looked at once.
+use crate::pairs::NUMBERS_PER_PAIR;
 use crate::pairs::wide;
 ghost use mathlib.Core.Path.{_≡_};
 ghost use mathlib.Core.List.{map};
@@ -14,7 +15,6 @@ ghost use Rattle.context.specs.Shown.{pairAt, pairsBetween, ShownPairs, 
 ghost use Rattle.context.specs.Rows.{Stretch, NamedRow, NamedRows, Beyond};
 ghost use Rattle.context.specs.Packed.{packUnit, countedEntry, countRegion, countPair, countPairs, spanPairs, countSpans, unpacked, Packed};
 
-const NUMBERS_PER_PAIR: usize = 3;
 const PACK_UNIT: u32 = 512;
 
 // Whether row k names region r.

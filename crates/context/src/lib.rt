@@ -1,4 +1,5 @@
 // What the passes read of a partitioned map: a region's record by value, and the context as plain lists.
+pub mod anchored;
 pub mod incidents;
 pub mod pairs;
 pub mod records;

@@ -1,13 +1,14 @@
 // The rows of pairs by span, and the full cuts and full pairs of boundaries (`full_cut` and `full_pair` of context.rs).
 ghost use mathlib.Core.Path.{_≡_};
 ghost use Prim.Native.Nat.{ℕ, _+_, _*_, _≤_, _<_};
-ghost use lib.ListN.{length, getD};
+ghost use lib.ListN.{length};
 ghost use Rattle.definitions.specs.Limits.{maxEntries, talliesPerSpan, numbersPerPair};
 ghost use Rattle.definitions.specs.Context.{Context, fullCut, fullPair};
 ghost use Rattle.context.specs.Shown.{ShownTallies, ShownPairs, ShownFullPairs};
 ghost use Rattle.context.specs.Rows.{PairRows, SpanEnd, Stretch, fullPairOf, smallerOf, largerOf};
 
-const NUMBERS_PER_PAIR: usize = 3;
+pub const NUMBERS_PER_PAIR: usize = 3;
+
 const TALLIES_PER_SPAN: usize = 2;
 
 // The full pair of a boundary, where there is one; `fullPairOf` of specs/Rows.antt gives what it says.

@@ -103,10 +103,22 @@ impl Region {
         ensures { λ r. ⌜ map pointForm r ≡ corners (recordOf self) ⌝ }
     {
         [
-            Point { x: self.min_x, y: self.min_y },
-            Point { x: self.min_x, y: self.max_y },
-            Point { x: self.max_x, y: self.min_y },
-            Point { x: self.max_x, y: self.max_y },
+            Point {
+                x: self.min_x,
+                y: self.min_y,
+            },
+            Point {
+                x: self.min_x,
+                y: self.max_y,
+            },
+            Point {
+                x: self.max_x,
+                y: self.min_y,
+            },
+            Point {
+                x: self.max_x,
+                y: self.max_y,
+            },
         ]
     }
 

@@ -1,8 +1,6 @@
 -- `Region::dominant_elevation` meets its contract: the test is the definition's at the most common elevation. Assumes nothing.
-use mathlib.Core.Path.{ap, sym, _∙_}
 use native.Mathlib.Omega.{arith}
 use borrow.Author.Needs.{needs}
-use borrow.Author.Tests.{le-leb, lt-leb}
 use Rattle.context.proofs.Dominance.{dominant-some, dominant-none}
 use Rattle.context.proofs.Region.dominant_elevation.Statement.{statement}
 use Rattle.context.proofs.Region.dominant_elevation.Tie as tie

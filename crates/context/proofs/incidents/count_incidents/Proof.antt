@@ -14,9 +14,10 @@ slice-aggregate-count-regions c = sym (length-take-le _ _ (c .before .before .be
 
 count-regions-requires : tie.Need-count-regions-requires
 count-regions-requires c κs =
-    let start = c .before .before .before in
-    ( part-named (start .args .pairs .now) (start .args .starts .now) (start .args .count) (start .args .regions) (start .args .counts .now) (start .pre .1 .0) (start .pre .0)
-    , part-zero (start .args .pairs .now) (start .args .starts .now) (start .args .count) (start .args .regions) (start .args .counts .now) (start .pre .1 .0) (start .pre .1 .1))
+    let start = c .before .before .before in (
+      part-named (start .args .pairs .now) (start .args .starts .now) (start .args .count) (start .args .regions) (start .args .counts .now) (start .pre .1 .0) (start .pre .0),
+      part-zero (start .args .pairs .now) (start .args .starts .now) (start .args .count) (start .args .regions) (start .args .counts .now) (start .pre .1 .0) (start .pre .1 .1),
+    )
 
 same-length : tie.Need-same-length
 same-length c = search needs
@@ -24,9 +25,10 @@ same-length c = search needs
 returns : tie.Need-returns
 returns c =
     let start = c .before .before .before .before .before .before in
-    let counted = c .before .before .count-regions .ensures in
-    ( (λ C e r P. whole-shown (start .args .pairs .now) (start .args .starts .now) (start .args .count) (start .args .regions) (start .args .counts .now) (start .pre .1 .0) counted C e r P (start .pre .1 .1))
-    , whole-beyond (start .args .pairs .now) (start .args .starts .now) (start .args .count) (start .args .regions) (start .args .counts .now) (start .pre .1 .0) counted)
+    let counted = c .before .before .count-regions .ensures in (
+      (λ C e r P. whole-shown (start .args .pairs .now) (start .args .starts .now) (start .args .count) (start .args .regions) (start .args .counts .now) (start .pre .1 .0) counted C e r P (start .pre .1 .1)),
+      whole-beyond (start .args .pairs .now) (start .args .starts .now) (start .args .count) (start .args .regions) (start .args .counts .now) (start .pre .1 .0) counted,
+    )
 
 pub count-incidents-spec : {M : Type 1} → statement M
 count-incidents-spec =

@@ -40,11 +40,14 @@ count-region-requires-2 : tie.Need-count-region-requires-2
 count-region-requires-2 c κs =
     let start = c .before .before .before .before .before .before .before .before .before in
     let done = c .before .before .before .before .count-region in
-    let few = start .pre .1 .0 in
-    ( ( start .pre .0 .hi-pos
-      , subst (λ l. getD (start .args .pairs .now) (numbersPerPair * start .args .k + 2) 0 ≤ length l) (sym (done .ensures))
-        (subst (λ n. getD (start .args .pairs .now) (numbersPerPair * start .args .k + 2) 0 ≤ n) (sym (region-length _ _ _)) (start .pre .0 .hi-le)))
-    , (few, subst (Packed (start .args .span)) (sym (done .ensures)) (packed-region (start .args .span) few _ _ (start .pre .1 .1))))
+    let few = start .pre .1 .0 in (
+      (
+        start .pre .0 .hi-pos,
+        subst (λ l. getD (start .args .pairs .now) (numbersPerPair * start .args .k + 2) 0 ≤ length l) (sym (done .ensures))
+            (subst (λ n. getD (start .args .pairs .now) (numbersPerPair * start .args .k + 2) 0 ≤ n) (sym (region-length _ _ _)) (start .pre .0 .hi-le)),
+      ),
+      (few, subst (Packed (start .args .span)) (sym (done .ensures)) (packed-region (start .args .span) few _ _ (start .pre .1 .1))),
+    )
 
 same-length : tie.Need-same-length
 same-length c = search needs

@@ -24,9 +24,10 @@ count-pair-requires c κs =
     let start = c .before .before .before .before .before in
     let at = c .before .before .loop in
     let few = start .pre .1 .1 .0 in
-    let named = start .pre .1 .0 (at .k) (at .inv .0) (c .before .loop-test .taken) in
-    ( subst (λ n. NamedRow (start .args .pairs .now) n (at .k)) (sym (rows-length _ _ _ _ (at .k) (at .inv .2))) named
-    , (few, rows-packed _ _ _ _ (at .k) few (at .inv .2) (start .pre .1 .1 .1)))
+    let named = start .pre .1 .0 (at .k) (at .inv .0) (c .before .loop-test .taken) in (
+      subst (λ n. NamedRow (start .args .pairs .now) n (at .k)) (sym (rows-length _ _ _ _ (at .k) (at .inv .2))) named,
+      (few, rows-packed _ _ _ _ (at .k) few (at .inv .2) (start .pre .1 .1 .1)),
+    )
 
 add-k : tie.Need-add-k Inv-loop μ-loop
 add-k c = search needs

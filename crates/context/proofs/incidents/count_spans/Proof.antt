@@ -44,10 +44,13 @@ count-rows-requires c κs =
     let at = c .before .before .before .before .loop in
     let rows = start .pre .0 in
     let l = c .before .before .before .loop-test .taken in
-    let same = ap length (at .inv .1) ∙ spans-length _ (at .i) _ in
-    ( rows .stretch (at .i) l .rising
-    , ( (λ k h m. subst (λ n. NamedRow (start .args .pairs .now) n k) (sym same) (rows .named (at .i) l k h m))
-      , (search needs, subst (Packed (at .i)) (sym (at .inv .1)) (spans-packed _ (at .i) _ (search needs) (start .pre .1)))))
+    let same = ap length (at .inv .1) ∙ spans-length _ (at .i) _ in (
+      rows .stretch (at .i) l .rising,
+      (
+        (λ k h m. subst (λ n. NamedRow (start .args .pairs .now) n k) (sym same) (rows .named (at .i) l k h m)),
+        (search needs, subst (Packed (at .i)) (sym (at .inv .1)) (spans-packed _ (at .i) _ (search needs) (start .pre .1))),
+      ),
+    )
 
 add-i : tie.Need-add-i Inv-loop μ-loop
 add-i c = search needs

@@ -59,10 +59,11 @@ loop-less c = search needs
 loop-again : tie.Need-loop-again Inv-loop μ-loop
 loop-again c =
     let start = c .before .before .before .before .before .before .before in
-    let at = c .before .before .before .loop in
-    ( search needs
-    , search needs
-    , none-more (contains (start .args .r)) (start .args .pairs .now) _ (at .k) (at .inv .0) (at .inv .2) (sym (c .before .names-region .ensures) ∙ c .if1 .left))
+    let at = c .before .before .before .loop in (
+      search needs,
+      search needs,
+      none-more (contains (start .args .r)) (start .args .pairs .now) _ (at .k) (at .inv .0) (at .inv .2) (sym (c .before .names-region .ensures) ∙ c .if1 .left),
+    )
 
 returns-2 : tie.Need-returns-2 Inv-loop μ-loop
 returns-2 c =

@@ -52,17 +52,18 @@ loop-less c = search needs
 loop-again : tie.Need-loop-again Inv-loop μ-loop
 loop-again c =
     let at = c .before .before .before .before .loop in
-    let inv = at .inv in
-    ( search needs
-    , simp length-set (inv .1)
-    , simp length-set (inv .2)
-    , λ C e T P.
-      let l : at .i < C .count = omega (arith, e, c .before .before .before .loop-test .taken) in
-      let m : at .i < length (at .smaller) = omega (arith, inv .1, e, T .few) in
-      let n : at .i < length (at .larger) = omega (arith, inv .2, e, T .few) in
-      stored-more C (at .smaller) (at .larger) (at .i) (c .before .smaller-of .result) (c .larger-of .result) m n (inv .3 C e T P)
-      (pair-stored C P l (c .before .before .full-pair .result) (c .before .before .full-pair .ensures C T P l)
-      ∙ ap₂ optionalPair (sym (c .before .smaller-of .ensures)) (sym (c .larger-of .ensures))))
+    let inv = at .inv in (
+      search needs,
+      simp length-set (inv .1),
+      simp length-set (inv .2),
+      λ C e T P.
+          let l : at .i < C .count = omega (arith, e, c .before .before .before .loop-test .taken) in
+          let m : at .i < length (at .smaller) = omega (arith, inv .1, e, T .few) in
+          let n : at .i < length (at .larger) = omega (arith, inv .2, e, T .few) in
+          stored-more C (at .smaller) (at .larger) (at .i) (c .before .smaller-of .result) (c .larger-of .result) m n (inv .3 C e T P)
+          (pair-stored C P l (c .before .before .full-pair .result) (c .before .before .full-pair .ensures C T P l)
+          ∙ ap₂ optionalPair (sym (c .before .smaller-of .ensures)) (sym (c .larger-of .ensures))),
+    )
 
 returns : tie.Need-returns Inv-loop μ-loop
 returns c =
