@@ -1,1 +1,3 @@
 pub mod Lent
+pub mod Near
+pub mod Rows

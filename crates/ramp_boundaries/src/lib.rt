@@ -1,2 +1,4 @@
 // Pass 1, `replace_ramp_mouths` of ramp_boundaries.rs, over plain lists and regions by value.
 pub mod measures;
+pub mod near;
+pub mod shapes;
