@@ -49,7 +49,7 @@ corner-near-requires-4 : tie.Need-corner-near-requires-4
 corner-near-requires-4 c κs = search needs
 
 returns : tie.Need-returns
-unfolding regionNear
+unfolding regionNear corners
 returns c =
     let s = c .before .before .before .before .before .before .before .before .before .before .before .before in
     let R = recordOf (s .args .region) in
@@ -58,11 +58,11 @@ returns c =
     let mouth = segmentAt l (numbersPerBoundary * s .args .m) in
     let at = corner-is pointForm (c .before .before .before .before .before .before .before .before .corners .result) R (c .before .before .before .before .before .before .before .before .corners .ensures) in
     λ C S hm ha h.
-    all-corners (cornerNear (center ramp) (center mouth) (s .args .broad)) R _ _ _ _
-    (near-at (s .args .broad) (at 0 _) (c .before .before .before .before .before .before .before .before .before .before .center-of .ensures) (c .before .before .before .before .before .before .before .before .before .center-of2 .ensures) (corner-pixel R h 0 (lit< tt) _) (s .pre .1 .pixels) (s .pre .0 .pixels) (c .before .before .before .before .before .before .corner-near .ensures))
-    (near-at (s .args .broad) (at 1 _) (c .before .before .before .before .before .before .before .before .before .before .center-of .ensures) (c .before .before .before .before .before .before .before .before .before .center-of2 .ensures) (corner-pixel R h 1 (lit< tt) _) (s .pre .1 .pixels) (s .pre .0 .pixels) (c .before .before .before .before .corner-near2 .ensures))
-    (near-at (s .args .broad) (at 2 _) (c .before .before .before .before .before .before .before .before .before .before .center-of .ensures) (c .before .before .before .before .before .before .before .before .before .center-of2 .ensures) (corner-pixel R h 2 (lit< tt) _) (s .pre .1 .pixels) (s .pre .0 .pixels) (c .before .before .corner-near3 .ensures))
-    (near-at (s .args .broad) (at 3 _) (c .before .before .before .before .before .before .before .before .before .before .center-of .ensures) (c .before .before .before .before .before .before .before .before .before .center-of2 .ensures) (corner-pixel R h 3 (lit< tt) _) (s .pre .1 .pixels) (s .pre .0 .pixels) (c .corner-near4 .ensures))
+    all-corners (cornerNear (center ramp) (center mouth) (s .args .broad)) R (center ramp) (center ramp) (center ramp) (center ramp)
+    (near-at (s .args .broad) (at 0 _) (c .before .before .before .before .before .before .before .before .before .before .center-of .ensures) (c .before .before .before .before .before .before .before .before .before .center-of2 .ensures) (corner-pixel R h 0 (lit< tt) (center ramp)) (s .pre .1 .pixels) (s .pre .0 .pixels) (c .before .before .before .before .before .before .corner-near .ensures))
+    (near-at (s .args .broad) (at 1 _) (c .before .before .before .before .before .before .before .before .before .before .center-of .ensures) (c .before .before .before .before .before .before .before .before .before .center-of2 .ensures) (corner-pixel R h 1 (lit< tt) (center ramp)) (s .pre .1 .pixels) (s .pre .0 .pixels) (c .before .before .before .before .corner-near2 .ensures))
+    (near-at (s .args .broad) (at 2 _) (c .before .before .before .before .before .before .before .before .before .before .center-of .ensures) (c .before .before .before .before .before .before .before .before .before .center-of2 .ensures) (corner-pixel R h 2 (lit< tt) (center ramp)) (s .pre .1 .pixels) (s .pre .0 .pixels) (c .before .before .corner-near3 .ensures))
+    (near-at (s .args .broad) (at 3 _) (c .before .before .before .before .before .before .before .before .before .before .center-of .ensures) (c .before .before .before .before .before .before .before .before .before .center-of2 .ensures) (corner-pixel R h 3 (lit< tt) (center ramp)) (s .pre .1 .pixels) (s .pre .0 .pixels) (c .corner-near4 .ensures))
     ∙ sym (λ i. all (cornerNear (center (S .at (s .args .a) ha i .endpoints)) (center (S .at (s .args .m) hm i .endpoints)) (s .args .broad)) (corners R))
 
 pub region-near-spec : {M : Type 1} → statement M
