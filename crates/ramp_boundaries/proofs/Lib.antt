@@ -1,6 +1,9 @@
 -- What the proofs of several functions use.
+mod ApproachLaws
+mod Distinct
 mod Literals
 mod Measured
+mod Nearness
+mod OtherEnds
 mod RowLists
 mod ShapeTests
-mod Nearness

@@ -2,14 +2,16 @@
 use Prim.Native.Nat.{ℕ, zero, suc, _+_, _-_, _≤_, _<_}
 use native.Mathlib.Omega.{arith}
 use native.Mathlib.Numerals.{add-one}
-use mathlib.Core.Path.{_≡_, refl, sym, ap, ap₂, _∙_}
+use mathlib.Core.Path.{_≡_, refl, sym, ap, ap₂, _∙_, subst⁻¹}
 use mathlib.Core.Bool.{Bool, true, false, not, _&&_, _||_, true≢false, false≢true}
 use mathlib.Core.List.{List, [], _∷_, _++_, map}
 use lib.ListN.{length}
 use Rattle.definitions.specs.Scan.{run, any, all}
 use Rattle.definitions.specs.Grid.{Pair}
+use Rattle.definitions.specs.MouthShapes.{regionsOf}
 use Rattle.laws.specs.ListLaws.ScansOfAll.{all-append-test}
 use Rattle.context.specs.Shown.{pairAt, pairsBetween}
+use Rattle.context.specs.Rows.{NamedRow}
 use Rattle.context.proofs.Counting.{between-none, between-more, between-any}
 
 pub all-as-any : {A : Type 0} (g : A → Bool) (l : List A) → all g l ≡ not (any (λ x. not (g x)) l)
@@ -76,3 +78,21 @@ negated-true false e = refl
 pub negated-false : (b : Bool) → not b ≡ false → b ≡ true
 negated-false true e = refl
 negated-false false e = absurd (true≢false e)
+
+-- ---- of the regions that the rows name
+
+pub all-regions : (f : ℕ → Bool) (l : List Pair) → all f (regionsOf l) ≡ all (λ p. f (p .lo) && f (p .hi)) l
+unfolding all
+all-regions f [] = refl
+all-regions f (p ∷ l) = ap (λ b. f (p .lo) && (f (p .hi) && b)) (all-regions f l) ∙ go (f (p .lo)) (f (p .hi)) (all (λ p. f (p .lo) && f (p .hi)) l)
+  where
+    go : (a b c : Bool) → (a && (b && c)) ≡ ((a && b) && c)
+    go true b c = refl
+    go false b c = refl
+
+-- a row whose regions two lists number
+pub named-lo : {p : Pair} {rows : List ℕ} {a b k : ℕ} → p ≡ pairAt rows k → NamedRow rows a k → NamedRow rows b k → (1 ≤ p .lo) × ((p .lo ≤ a) × (p .lo ≤ b))
+named-lo {a} {b} e g h = subst⁻¹ (λ p. (1 ≤ p .lo) × ((p .lo ≤ a) × (p .lo ≤ b))) e (g .lo-pos, (g .lo-le, h .lo-le))
+
+pub named-hi : {p : Pair} {rows : List ℕ} {a b k : ℕ} → p ≡ pairAt rows k → NamedRow rows a k → NamedRow rows b k → (1 ≤ p .hi) × ((p .hi ≤ a) × (p .hi ≤ b))
+named-hi {a} {b} e g h = subst⁻¹ (λ p. (1 ≤ p .hi) × ((p .hi ≤ a) × (p .hi ≤ b))) e (g .hi-pos, (g .hi-le, h .hi-le))

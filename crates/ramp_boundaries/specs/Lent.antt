@@ -15,17 +15,17 @@ pub record Placed (boundaries : List ℕ) (i : ℕ) : Type 0 where
   pub pixels : PixelSegment (segmentAt boundaries (numbersPerBoundary * i))
   pub finite : getD boundaries (numbersPerBoundary * i + 4) 0 < 2047 * 2 ^ 52
 
--- the lists show the context C
-pub record Shows (boundaries tallies pairs starts counts marks : List ℕ) (count : ℕ) (C : Context) : Type 0 where
+-- the lists show the context C, but for its tallies
+pub record Shows (boundaries pairs starts counts marks : List ℕ) (count : ℕ) (C : Context) : Type 0 where
   pub counted : C .count ≡ count
   pub bounds : ShownBoundaries C boundaries
   pub placed : (i : ℕ) → i < count → Placed boundaries i
-  pub cuts : ShownTallies C tallies
   pub rows : ShownPairs C pairs starts
   pub incidents : ShownIncidents C counts
   pub anchored : ShownAnchored C marks
 
--- they show some context
+-- they show some context, with its tallies
 pub record Shown (boundaries tallies pairs starts counts marks : List ℕ) (count : ℕ) : Type 0 where
   pub context : Context
-  pub shows : Shows boundaries tallies pairs starts counts marks count context
+  pub shows : Shows boundaries pairs starts counts marks count context
+  pub cuts : ShownTallies context tallies
