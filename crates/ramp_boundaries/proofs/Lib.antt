@@ -8,6 +8,7 @@ mod Nearness
 mod OtherEnds
 mod RowLists
 mod ShapeTests
+mod ShapedMouths
 mod StarShapes
 mod TriangleFound
 mod TriangleMouths

@@ -10,7 +10,7 @@ use crate::shapes::triangle_representative;
 use context::incidents::is_incident;
 use context::pairs::full_cut;
 ghost use mathlib.Core.Path.{_≡_};
-ghost use mathlib.Core.Bool.{true, false, not, _&&_};
+ghost use mathlib.Core.Bool.{true, false, not, _&&_, cond};
 ghost use Prim.Native.Nat.{ℕ, _+_, _-_, _*_, _≤_, _<_};
 ghost use lib.ListN.{length, getD};
 ghost use lib.Dec.{eqb};
@@ -19,12 +19,12 @@ ghost use Rattle.definitions.specs.Scan.{all};
 ghost use Rattle.definitions.specs.MouthShapes.{regionsOf, distinctRegions};
 ghost use Rattle.definitions.specs.Context.{Context, fullCut, noRamp};
 ghost use Rattle.definitions.specs.RampMouths.{otherEndIncident, broadMouth, overlayOnly, triangleMouth};
-ghost use Rattle.context.specs.Shown.{pairsBetween, ShownBoundaries, ShownPairs, ShownAnchored};
+ghost use Rattle.context.specs.Shown.{pairsBetween, ShownBoundaries, ShownTallies, ShownPairs, ShownAnchored};
 ghost use Rattle.context.specs.Rows.{Stretch, NamedRow};
 ghost use Rattle.ramp_boundaries.specs.Lent.{Shows, Shown};
 ghost use Rattle.ramp_boundaries.specs.Outers.{markAt, innerFits, withRegion};
-ghost use Rattle.ramp_boundaries.specs.Candidates.{Within, candidateForm, foundMouth, approachMouth, singleFits, starFits};
-ghost use mathlib.Core.Bool.{cond};
+ghost use Rattle.ramp_boundaries.specs.Candidates.{Within, candidateForm, foundMouth, approachMouth};
+
 
 pub const PLAIN: u8 = 0;
 pub const TRIANGULAR: u8 = 1;
@@ -231,4 +231,96 @@ fn triangle_mouth(pairs: &[u32], starts: &[usize; 257], marks: &[u16], m: usize)
         Outers::One(r) => Candidate::Mouth(r, TRIANGULAR),
         Outers::Several => Candidate::None,
     }
+}
+
+// The proposal of an approach of mouth m and ramp a.
+fn approach_mouth(
+    boundaries: &[u64],
+    pairs: &[u32],
+    starts: &[usize; 257],
+    counts: &[u32],
+    marks: &[u16],
+    count: usize,
+    m: usize,
+    a: usize,
+    approach: Approach,
+    wide: bool,
+    overlay: bool,
+) -> Candidate
+    requires { ⌜ (numbersPerBoundary * count ≤ length (now boundaries)) × ((a < count) × (m < count)) ⌝ }
+    requires { ⌜ ((i : ℕ) → i < count → Stretch (now pairs) (now starts) i) ⌝ }
+    requires { ⌜ ((k : ℕ) → getD (now starts) m 0 ≤ k → k < getD (now starts) (m + 1) 0 → NamedRow (now pairs) (length (now counts)) k × NamedRow (now pairs) (length (now marks)) k) ⌝ }
+    requires { ⌜ Within (length (now counts)) approach × Within (length (now marks)) approach ⌝ }
+    ensures { λ x. ⌜ ((C : Context) → Shows (now (boundaries .entry)) (now (pairs .entry)) (now (starts .entry)) (now (counts .entry)) (now (marks .entry)) count C → Within (C .regions) approach → wide ≡ broadMouth C m a → overlay ≡ overlayOnly C m a → candidateForm C m a x ≡ approachMouth C m a approach) ⌝ }
+{
+    match approach {
+        Approach::None => Candidate::None,
+        Approach::Single(outer, r) => single_mouth(
+            boundaries, pairs, starts, counts, marks, count, a, outer, r, wide, overlay,
+        ),
+        Approach::Star(outer, r) => star_mouth(
+            boundaries, pairs, starts, counts, marks, count, m, a, outer, r, wide, overlay,
+        ),
+    }
+}
+
+fn is_none(approach: Approach) -> bool
+    ensures { λ r. ⌜ (r ≡ true → approach ≡ Approach.None) ⌝ }
+{
+    match approach {
+        Approach::None => true,
+        Approach::Single(_, _) => false,
+        Approach::Star(_, _) => false,
+    }
+}
+
+// What mouth m proposes to ramp a, a full cut with a ramp; its shape is looked at before anything is measured.
+pub fn mouth_candidate(
+    boundaries: &[u64],
+    tallies: &[u32],
+    pairs: &[u32],
+    starts: &[usize; 257],
+    counts: &[u32],
+    marks: &[u16],
+    count: usize,
+    m: usize,
+    a: usize,
+) -> Candidate
+    requires { ⌜ Shown (now boundaries) (now tallies) (now pairs) (now starts) (now counts) (now marks) count ⌝ }
+    requires { ⌜ (m < count) × (a < count) ⌝ }
+    ensures { λ x. ⌜ ((C : Context) → Shows (now (boundaries .entry)) (now (pairs .entry)) (now (starts .entry)) (now (counts .entry)) (now (marks .entry)) count C → ShownTallies C (now (tallies .entry)) → noRamp C a ≡ false → fullCut C a ≡ true → candidateForm C m a x ≡ foundMouth C a m) ⌝ }
+{
+    if boundaries[NUMBERS_PER_BOUNDARY * m + 5] != 0 {
+        return Candidate::None;
+    }
+    if !full_cut(tallies, m) {
+        return Candidate::None;
+    }
+    let triangle = triangle_representative(pairs, starts, m, a);
+    let approach = approach_of(tallies, pairs, starts, m, a);
+    if !triangle & is_none(approach) {
+        return Candidate::None;
+    }
+    let wide = broad_mouth(boundaries, m, a);
+    let nearby = nearby_representative(boundaries, m, a);
+    let overlay = overlay_representative(boundaries, m, a);
+    if !(wide | nearby | overlay) {
+        return Candidate::None;
+    }
+    if nearby & triangle {
+        return triangle_mouth(pairs, starts, marks, m);
+    }
+    approach_mouth(
+        boundaries,
+        pairs,
+        starts,
+        counts,
+        marks,
+        count,
+        m,
+        a,
+        approach,
+        wide,
+        overlay & !nearby & !wide,
+    )
 }
