@@ -228,7 +228,7 @@ module _ (C : Context) (m a : ℕ) where
     unfolding starMouth
     star-left done = empty-star
     star-left (more {x = r} h done) =
-        star-made outer r inner (S .outside) (S .inside) (S .several) (all-map (λ s k. k .1) mine) (h .0 .1) (at-ramp r (h .1))
+        star-made outer r inner (S .outside .0) (S .inside) (S .several) (all-map (λ s k. k .1) mine) (h .0 .1) (at-ramp r (h .1))
         ∙ ap (approachMouth C m a) (star-found outer r (λ k. omega (arith, k, h)))
     star-left (more h (more k t)) = empty-star
 

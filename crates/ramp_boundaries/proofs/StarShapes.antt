@@ -20,7 +20,7 @@ use Rattle.ramp_boundaries.proofs.Distinct.{neither, member-inner, two-
 use Rattle.ramp_boundaries.proofs.ApproachLaws.{Named}
 
 pub record Star (n : ℕ) (l : List Pair) (outer : ℕ) (inner : List ℕ) : Type 0 where
-  pub outside : 1 ≤ outer
+  pub outside : (1 ≤ outer) × (outer ≤ n)
   pub inside : inner ≡ innerOf outer l
   pub several : leb (length inner) 1 ≡ false
 
@@ -67,25 +67,25 @@ module _ {n : ℕ} (l : List Pair) (a : All (Named n) l) where
               (in-inner x apart has) (in-inner (t .region) (t .apart) (any-member (contains (t .region)) i (t .named)))
 
 module _ {n : ℕ} (p q : Pair) (l : List Pair) (a : All (Named n) (p ∷ q ∷ l)) where
-  common-one : (o : ℕ) → commonRegions (p ∷ q ∷ l) ≡ o ∷ [] → (1 ≤ o) × (leb (length (innerOf o (p ∷ q ∷ l))) 1 ≡ false)
+  common-one : (o : ℕ) → commonRegions (p ∷ q ∷ l) ≡ o ∷ [] → ((1 ≤ o) × (o ≤ n)) × (leb (length (innerOf o (p ∷ q ∷ l))) 1 ≡ false)
   unfolding commonRegions filter any
   common-one o e = go a (all (contains (p .lo)) (p ∷ q ∷ l)) refl (all (contains (p .hi)) (p ∷ q ∷ l)) refl e
     where
       go : All (Named n) (p ∷ q ∷ l) → (b : Bool) → all (contains (p .lo)) (p ∷ q ∷ l) ≡ b → (c : Bool) → all (contains (p .hi)) (p ∷ q ∷ l) ≡ c
-          → cond b (p .lo ∷ cond c (p .hi ∷ []) []) (cond c (p .hi ∷ []) []) ≡ o ∷ [] → (1 ≤ o) × (leb (length (innerOf o (p ∷ q ∷ l))) 1 ≡ false)
+          → cond b (p .lo ∷ cond c (p .hi ∷ []) []) (cond c (p .hi ∷ []) []) ≡ o ∷ [] → ((1 ≤ o) × (o ≤ n)) × (leb (length (innerOf o (p ∷ q ∷ l))) 1 ≡ false)
       go (more h t) true f true g e = absurd (let z : _≡_ {A = ℕ} 0 1 = cc in omega arith)
       go (more h t) true f false g e =
           let same : p .lo ≡ o = cc in
-          subst (λ o. (1 ≤ o) × (leb (length (innerOf o (p ∷ q ∷ l))) 1 ≡ false)) same
-          (h .0, two-inner (p ∷ q ∷ l) a (p .lo) (p .hi) f g (λ k. omega (arith, k)) (ap (λ b. eqb (p .lo) (p .hi) || b || any (contains (p .hi)) (q ∷ l)) (eq-eqb (p .hi) (p .hi) refl) ∙ first (eqb (p .lo) (p .hi))))
+          subst (λ o. ((1 ≤ o) × (o ≤ n)) × (leb (length (innerOf o (p ∷ q ∷ l))) 1 ≡ false)) same
+          ((h .0, omega arith), two-inner (p ∷ q ∷ l) a (p .lo) (p .hi) f g (λ k. omega (arith, k)) (ap (λ b. eqb (p .lo) (p .hi) || b || any (contains (p .hi)) (q ∷ l)) (eq-eqb (p .hi) (p .hi) refl) ∙ first (eqb (p .lo) (p .hi))))
         where
           first : (b : Bool) → (b || true || any (contains (p .hi)) (q ∷ l)) ≡ true
           first true = refl
           first false = refl
       go (more h t) false f true g e =
           let same : p .hi ≡ o = cc in
-          subst (λ o. (1 ≤ o) × (leb (length (innerOf o (p ∷ q ∷ l))) 1 ≡ false)) same
-          (omega arith, two-inner (p ∷ q ∷ l) a (p .hi) (p .lo) g f (λ k. omega (arith, k)) (ap (λ b. b || eqb (p .hi) (p .lo) || any (contains (p .lo)) (q ∷ l)) (eq-eqb (p .lo) (p .lo) refl)))
+          subst (λ o. ((1 ≤ o) × (o ≤ n)) × (leb (length (innerOf o (p ∷ q ∷ l))) 1 ≡ false)) same
+          ((omega arith, h .1 .1), two-inner (p ∷ q ∷ l) a (p .hi) (p .lo) g f (λ k. omega (arith, k)) (ap (λ b. b || eqb (p .hi) (p .lo) || any (contains (p .lo)) (q ∷ l)) (eq-eqb (p .lo) (p .lo) refl)))
       go (more h t) false f false g e = absurd (let z : _≡_ {A = ℕ} 0 1 = cc in omega arith)
 
 pub star-is : {n : ℕ} (l : List Pair) → All (Named n) l → (outer : ℕ) (inner : List ℕ) → mouthShape true l ≡ some (star outer inner) → Star n l outer inner
@@ -104,10 +104,10 @@ star-is {n} (p ∷ q ∷ l) a outer inner e = go (commonRegions (p ∷ q ∷ l))
         is : filter (λ r. not (eqb r o)) (distinctRegions (p ∷ q ∷ l)) ≡ inner
         is = cc
 
-        from : (1 ≤ o) × (leb (length (innerOf o (p ∷ q ∷ l))) 1 ≡ false) → Star n (p ∷ q ∷ l) outer inner
+        from : ((1 ≤ o) × (o ≤ n)) × (leb (length (innerOf o (p ∷ q ∷ l))) 1 ≡ false) → Star n (p ∷ q ∷ l) outer inner
         from (h, s) =
             record {
-              outside = subst (λ o. 1 ≤ o) same h;
+              outside = subst (λ o. (1 ≤ o) × (o ≤ n)) same h;
               inside = sym is ∙ ap (λ o. innerOf o (p ∷ q ∷ l)) same;
               several = ap (λ i. leb (length i) 1) (sym is) ∙ s;
             }

@@ -1,8 +1,8 @@
+-- `mouths::is_none` meets its contract. Assumes nothing.
+use mathlib.Core.Bool.{false≢true}
 use borrow.Author.Needs.{needs}
 use Rattle.ramp_boundaries.proofs.mouths.is_none.Statement.{statement}
 use Rattle.ramp_boundaries.proofs.mouths.is_none.Tie as tie
-use Rattle.ramp_boundaries.proofs.mouths.is_none.Reads as reads
-use Rattle.ramp_boundaries.proofs.mouths.is_none.Lts as lts
 
 enum-told : tie.Need-enum-told
 enum-told c = search needs
@@ -17,10 +17,10 @@ returns : tie.Need-returns
 returns c = search needs
 
 returns-2 : tie.Need-returns-2
-returns-2 c = ?
+returns-2 c = λ e. absurd (false≢true e)
 
 returns-3 : tie.Need-returns-3
-returns-3 c = ?
+returns-3 c = λ e. absurd (false≢true e)
 
 pub is-none-spec : {M : Type 1} → statement M
 is-none-spec = tie.close (tie.spec enum-told enum-told-2 enum-told-3 returns returns-2 returns-3)
