@@ -1,8 +1,11 @@
 -- What the proofs of several functions use.
 mod ApproachLaws
+mod Conflicts
 mod Distinct
 mod Fitting
 mod FoundMouths
+mod Greedy
+mod KeyOrder
 mod Literals
 mod Measured
 mod Nearness
