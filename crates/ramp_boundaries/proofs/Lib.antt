@@ -5,8 +5,10 @@ mod Distinct
 mod Fitting
 mod FoundMouths
 mod Greedy
+pub mod InnerWalk
 mod KeyOrder
 mod Literals
+mod Marks
 mod Measured
 mod Nearness
 mod OtherEnds

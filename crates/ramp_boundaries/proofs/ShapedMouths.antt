@@ -28,7 +28,7 @@ use Rattle.ramp_boundaries.proofs.Fitting.{fitsIn}
 
 -- ---- lists
 
-all-of-filter : (e g : ℕ → Bool) (l : List ℕ) → all g (filter (λ s. not (e s)) l) ≡ all (λ s. e s || g s) l
+pub all-of-filter : (e g : ℕ → Bool) (l : List ℕ) → all g (filter (λ s. not (e s)) l) ≡ all (λ s. e s || g s) l
 unfolding all filter
 all-of-filter e g [] = refl
 all-of-filter e g (x ∷ l) = go (e x) (all-of-filter e g l)

@@ -1,4 +1,4 @@
-// The inner regions of a proposal, one by one: `inner-all` of specs/InnerLaws.antt says that a walk over the places asks all of them.
+// The inner regions of a proposal, one by one: `inner-all` of proofs/InnerWalk.antt says that a walk over the places asks all of them.
 use crate::shapes::Pair;
 use crate::shapes::row_at;
 ghost use mathlib.Core.Path.{_≡_};

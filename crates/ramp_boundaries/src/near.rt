@@ -5,11 +5,14 @@ use geometry::Point;
 use geometry::points::center;
 use geometry::points::distance;
 ghost use mathlib.Core.Path.{_≡_};
+ghost use mathlib.Core.Bool.{not};
 ghost use Prim.Native.Nat.{_*_, _<_};
+ghost use lib.Ieee.{lt};
 ghost use Rattle.definitions.specs.Limits.{numbersPerBoundary};
 ghost use Rattle.definitions.specs.Grid.{segmentAt};
 ghost use Rattle.definitions.specs.Geometry.{center};
 ghost use Rattle.definitions.specs.Context.{Context};
+ghost use Rattle.definitions.specs.RampMouths.{maxMouthDistance};
 ghost use Rattle.laws.specs.FloatLaws.Pixels.{PixelRegion};
 ghost use Rattle.laws.specs.FloatLaws.DistanceRange.{DistanceInRange};
 ghost use Rattle.context.specs.Shown.{ShownBoundaries};
@@ -18,6 +21,7 @@ ghost use Rattle.geometry.specs.Forms.{pointForm};
 ghost use Rattle.ramp_boundaries.specs.Lent.{Placed};
 ghost use Rattle.ramp_boundaries.specs.Near.{cornerNear, regionNear};
 
+const MAX_MOUTH_DISTANCE: f64 = 224.0;
 const MAX_APPROACH_RADIUS: f64 = 512.0;
 
 fn center_of(boundaries: &[u64], i: usize) -> Point
@@ -53,4 +57,11 @@ pub fn region_near(region: Region, boundaries: &[u64], m: usize, a: usize, broad
         & corner_near(ramp, mouth, broad, corners[1])
         & corner_near(ramp, mouth, broad, corners[2])
         & corner_near(ramp, mouth, broad, corners[3])
+}
+
+// Whether a separation is that of a mouth of the ramp.
+pub fn is_close(separation: f64) -> bool
+    ensures { λ r. ⌜ r ≡ not (lt maxMouthDistance separation) ⌝ }
+{
+    !(separation > MAX_MOUTH_DISTANCE)
 }

@@ -8,12 +8,12 @@ use Rattle.ramp_boundaries.proofs.inner.side_of.Tie as tie
 
 returns : tie.Need-returns
 returns c =
-    let s = c .before .before .args in
+    let s = c .before .args in
     sym (ap (λ b. cond b (s .p .lo) (s .p .hi)) (eq-eqb _ 0 (c .if1 .taken)))
 
 returns-2 : tie.Need-returns-2
 returns-2 c =
-    let s = c .before .before .args in
+    let s = c .before .args in
     sym (ap (λ b. cond b (s .p .lo) (s .p .hi)) (ne-eqb _ 0 (c .if1 .left)))
 
 pub side-of-spec : {M : Type 1} → statement M
