@@ -17,6 +17,7 @@ mod SafeLists
 mod ShapeTests
 mod ShapedMouths
 mod StarShapes
+mod TakenLaws
 mod TriangleFound
 mod TriangleMouths
 mod Within

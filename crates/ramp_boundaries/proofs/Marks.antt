@@ -26,7 +26,7 @@ use Rattle.ramp_boundaries.proofs.Fitting.{all-named-regions}
 
 -- ---- lengths, and one row more
 
-held-length : (hold : ℕ) (marks : List ℕ) (r : ℕ) → length (markHeld hold marks r) ≡ length marks
+pub held-length : (hold : ℕ) (marks : List ℕ) (r : ℕ) → length (markHeld hold marks r) ≡ length marks
 unfolding markHeld
 held-length hold marks r = length-set marks (r - 1) (getD marks (r - 1) 0 % 2 + 2 * hold)
 

@@ -3,6 +3,7 @@ pub mod Held
 pub mod Inner
 pub mod Keys
 pub mod Lent
+pub mod Listed
 pub mod Near
 pub mod Outers
 pub mod Rows

@@ -1,0 +1,37 @@
+-- The candidates as compact lists: entry k has a mouth, a ramp, a region outside (0 for none), a kind and the bits of a separation. Definitions only; assumes nothing.
+use Prim.Native.Nat.{ℕ, _≤_, _<_}
+use mathlib.Core.Path.{_≡_}
+use mathlib.Core.Bool.{Bool, false}
+use mathlib.Core.Option.{Option}
+use mathlib.Core.List.{List}
+use lib.ListN.{getD}
+use lib.Dec.{ltb}
+use lib.Ieee.{binary64, toBits}
+use Rattle.definitions.specs.Scan.{collect, onlyIf}
+use Rattle.definitions.specs.Context.{Context}
+use Rattle.definitions.specs.RampMouths.{MouthProposal, separationOf}
+use Rattle.ramp_boundaries.specs.Candidates.{proposalOf}
+
+-- 128 ramps and 128 mouths at most, of 256 boundaries
+abbrev pub maxCandidates : ℕ
+maxCandidates = 16384
+
+module _ (C : Context) (mouths ramps outers kinds : List ℕ) where
+  abbrev pub entryAt : ℕ → MouthProposal
+  entryAt k = proposalOf C (getD mouths k 0) (getD ramps k 0) (getD outers k 0) (getD kinds k 0)
+
+  -- those of the first n that are near
+  unfoldable pub nearEntries : List Bool → ℕ → List MouthProposal
+  unfolding collect
+  nearEntries near n = collect n (λ k. onlyIf (getD near k false) (entryAt k))
+
+  -- entry k, none where k is n
+  abbrev pub entryIf : ℕ → ℕ → Option MouthProposal
+  entryIf n k = onlyIf (ltb k n) (entryAt k)
+
+pub record Listed (C : Context) (mouths ramps outers separations : List ℕ) (n : ℕ) : Type 0 where
+  pub few : n ≤ maxCandidates
+  pub mouth : (k : ℕ) → k < n → getD mouths k 0 < C .count
+  pub ramp : (k : ℕ) → k < n → getD ramps k 0 < C .count
+  pub outer : (k : ℕ) → k < n → getD outers k 0 ≤ C .regions
+  pub bits : (k : ℕ) → k < n → getD separations k 0 ≡ toBits binary64 (separationOf C (getD mouths k 0) (getD ramps k 0))
