@@ -1,13 +1,14 @@
 -- The greedy selection by rounds: each takes the first least of what conflicts with none taken, until nothing is left. It is the selection over the sorted list: what
 -- conflicts with a taken element does so for good, and the least of what is left is the next of the sorted list that is taken. Assumes nothing.
-use mathlib.Core.Path.{_≡_, refl, sym, ap, ap₂, _∙_}
-use mathlib.Core.Bool.{Bool, true, false, not, _||_, cond, or-true, or-false, true≢false, false≢true}
+use mathlib.Core.Path.{_≡_, refl, sym, ap, _∙_}
+use mathlib.Core.Bool.{Bool, true, false, not, _||_, cond, or-true, true≢false, false≢true}
 use mathlib.Core.Option.{Option, none, some}
 use mathlib.Core.List.{List, [], _∷_, _++_}
 use Rattle.definitions.specs.Scan.{any, filter}
 use Rattle.definitions.specs.Sort.{insert, sortOnto, sort, select}
-use Rattle.laws.specs.ListLaws.Lists.{any-append, filter-in, filter-out}
+use Rattle.laws.specs.ListLaws.Lists.{any-append}
 use Rattle.laws.specs.OrderLaws.StableSort.{Weak, filter-sort}
+use Rattle.ramp_boundaries.specs.Rounds.{better, leastFrom}
 
 module _ {A : Type 0} where
   abbrev headOf : List A → Option A
@@ -15,17 +16,7 @@ module _ {A : Type 0} where
   headOf (x ∷ l) = some x
 
   module _ (lt : A → A → Bool) where
-    -- of two elements that are level the earlier
-    abbrev pub better : Option A → A → Option A
-    better none x = some x
-    better (some b) x = some (cond (lt x b) x b)
-
-    -- the first least, b being that of what stands before
-    unfoldable pub leastFrom : Option A → List A → Option A
-    leastFrom b [] = b
-    leastFrom b (x ∷ l) = leastFrom (better b x) l
-
-    head-insert : (x : A) (l : List A) → headOf (insert lt x l) ≡ better (headOf l) x
+    head-insert : (x : A) (l : List A) → headOf (insert lt x l) ≡ better lt (headOf l) x
     unfolding insert
     head-insert x [] = refl
     head-insert x (y ∷ l) = go (lt x y)
@@ -34,19 +25,19 @@ module _ {A : Type 0} where
         go true = refl
         go false = refl
 
-    head-sortOnto : (acc l : List A) → headOf (sortOnto lt acc l) ≡ leastFrom (headOf acc) l
+    head-sortOnto : (acc l : List A) → headOf (sortOnto lt acc l) ≡ leastFrom lt (headOf acc) l
     unfolding sortOnto leastFrom
     head-sortOnto acc [] = refl
-    head-sortOnto acc (x ∷ l) = head-sortOnto (insert lt x acc) l ∙ ap (λ b. leastFrom b l) (head-insert x acc)
+    head-sortOnto acc (x ∷ l) = head-sortOnto (insert lt x acc) l ∙ ap (λ b. leastFrom lt b l) (head-insert x acc)
 
-    pub head-sort : (l : List A) → headOf (sort lt l) ≡ leastFrom none l
+    pub head-sort : (l : List A) → headOf (sort lt l) ≡ leastFrom lt none l
     unfolding sort
     head-sort l = head-sortOnto [] l
 
-    pub least-last : (b : Option A) (l : List A) (x : A) → leastFrom b (l ++ (x ∷ [])) ≡ better (leastFrom b l) x
+    pub least-last : (b : Option A) (l : List A) (x : A) → leastFrom lt b (l ++ (x ∷ [])) ≡ better lt (leastFrom lt b l) x
     unfolding leastFrom
     least-last b [] x = refl
-    least-last b (y ∷ l) x = least-last (better b y) l x
+    least-last b (y ∷ l) x = least-last (better lt b y) l x
 
   module _ (conflict : A → A → Bool) where
     -- p conflicts with none of those taken

@@ -12,6 +12,7 @@ mod Marks
 mod Measured
 mod Nearness
 mod OtherEnds
+mod RoundLaws
 mod RowLists
 mod SafeLists
 mod ShapeTests

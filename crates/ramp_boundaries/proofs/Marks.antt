@@ -39,6 +39,10 @@ inner-length outer marks (r ∷ l) = inner-length outer (cond (eqb r outer) mark
     go true = refl
     go false = held-length 2 marks r
 
+pub outer-length : (b : Bool) (marks : List ℕ) (hold r : ℕ) → length (cond b marks (markHeld hold marks r)) ≡ length marks
+outer-length true marks hold r = refl
+outer-length false marks hold r = held-length hold marks r
+
 inner-append : (outer : ℕ) (marks l k : List ℕ) → markInner outer marks (l ++ k) ≡ markInner outer (markInner outer marks l) k
 unfolding markInner
 inner-append outer marks [] k = refl

@@ -41,7 +41,7 @@ module _ (C : Context) (taken : List MouthProposal) (m a outer kind : ℕ) where
 
   pub refused-parts : isRefused C taken p ≡ false → isHeld taken p ≡ false
   unfolding isRefused
-  refused-parts e = neither _ _ (neither _ _ e .1) .1
+  refused-parts e = neither (isUsed C taken (p .rampIndex)) (isHeld taken p) (neither (member (p .mouthIndex) (map (λ q. q .mouthIndex) taken)) (isUsed C taken (p .rampIndex) || isHeld taken p) e .1) .1
 
 -- ---- ramp ends
 

@@ -6,4 +6,5 @@ pub mod Lent
 pub mod Listed
 pub mod Near
 pub mod Outers
+pub mod Rounds
 pub mod Rows

@@ -1,19 +1,24 @@
 // The choice among proposals: each round takes the least that conflicts with none taken.
 use crate::held::hold_proposal;
 use crate::held::proposal_held;
+use crate::keys::ranks_before;
 use crate::measures::NUMBERS_PER_BOUNDARY;
 ghost use mathlib.Core.Path.{_≡_};
-ghost use mathlib.Core.Bool.{false, not};
+ghost use mathlib.Core.Bool.{false, not, _&&_};
 ghost use mathlib.Core.List.{List, [], _∷_, _++_};
 ghost use Prim.Native.Nat.{ℕ, _+_, _*_, _≤_, _<_};
 ghost use lib.ListN.{length, getD};
 ghost use Rattle.definitions.specs.Limits.{numbersPerBoundary};
+ghost use Rattle.definitions.specs.Sort.{listLt};
 ghost use Rattle.definitions.specs.Context.{Context};
 ghost use Rattle.definitions.specs.RampMouths.{MouthProposal};
 ghost use Rattle.context.specs.Shown.{ShownBoundaries, ShownPairs};
 ghost use Rattle.context.specs.Rows.{Stretch, NamedRow};
 ghost use Rattle.ramp_boundaries.specs.Candidates.{proposalOf};
 ghost use Rattle.ramp_boundaries.specs.Held.{TakenState, isRefused, sameEnd, endMark};
+ghost use Rattle.ramp_boundaries.specs.Keys.{keyAt};
+ghost use Rattle.ramp_boundaries.specs.Listed.{maxCandidates, SafeEntry, SafeEntries, Listed, entryAt, entryIf, nearEntries};
+ghost use Rattle.ramp_boundaries.specs.Rounds.{betterOf, leastAmong};
 
 // Whether boundaries i and j are the same end of the same ramp.
 fn same_end(boundaries: &[u64], i: usize, j: usize) -> bool
@@ -89,4 +94,129 @@ fn take(
     removed[m] = true;
     use_end(boundaries, &mut *used, count, a);
     hold_proposal(pairs, starts, &mut *marks, m, outer, kind);
+}
+
+// Whether entry k is near and conflicts with none taken.
+fn entry_left(
+    pairs: &[u32],
+    starts: &[usize; 257],
+    marks: &[u16],
+    removed: &[bool; 256],
+    used: &[bool; 256],
+    mouths: &[u8; 16384],
+    ramps: &[u8; 16384],
+    outers: &[u32; 16384],
+    kinds: &[u8; 16384],
+    near: &[bool; 16384],
+    k: usize,
+) -> bool
+    requires { ⌜ k < maxCandidates ⌝ }
+    requires { ⌜ SafeEntry (now pairs) (now starts) (now marks) (getD (now mouths) k 0) (getD (now outers) k 0) ⌝ }
+    ensures { λ x. ⌜ ((C : Context) (taken : List MouthProposal) → ShownPairs C (now (pairs .entry)) (now (starts .entry)) → TakenState C taken (now (removed .entry)) (now (used .entry)) (now (marks .entry)) → getD (now (mouths .entry)) k 0 < C .count → getD (now (ramps .entry)) k 0 < C .count → getD (now (outers .entry)) k 0 ≤ C .regions → x ≡ (getD (now (near .entry)) k false && not (isRefused C taken (entryAt C (now (mouths .entry)) (now (ramps .entry)) (now (outers .entry)) (now (kinds .entry)) k)))) ⌝ }
+{
+    if !near[k] {
+        return false;
+    }
+    let m = index(mouths[k]);
+    let a = index(ramps[k]);
+    is_left(pairs, starts, marks, removed, used, m, a, outers[k], kinds[k])
+}
+
+// A byte as a number.
+fn index(x: u8) -> usize
+    ensures { λ r. ⌜ (r ≡ x) × (r < 256) ⌝ }
+{
+    x as usize
+}
+
+// Whether entry k ranks before entry j.
+fn entry_before(
+    boundaries: &[u64],
+    mouths: &[u8; 16384],
+    ramps: &[u8; 16384],
+    separations: &[u64; 16384],
+    k: usize,
+    j: usize,
+) -> bool
+    requires { ⌜ (k < maxCandidates) × (j < maxCandidates) ⌝ }
+    requires { ⌜ (numbersPerBoundary * getD (now mouths) k 0 + 8 < length (now boundaries)) × (numbersPerBoundary * getD (now ramps) k 0 + 8 < length (now boundaries)) ⌝ }
+    requires { ⌜ (numbersPerBoundary * getD (now mouths) j 0 + 8 < length (now boundaries)) × (numbersPerBoundary * getD (now ramps) j 0 + 8 < length (now boundaries)) ⌝ }
+    ensures { λ r. ⌜ r ≡ listLt (keyAt (now (boundaries .entry)) (getD (now (separations .entry)) k 0) (getD (now (mouths .entry)) k 0) (getD (now (ramps .entry)) k 0)) (keyAt (now (boundaries .entry)) (getD (now (separations .entry)) j 0) (getD (now (mouths .entry)) j 0) (getD (now (ramps .entry)) j 0)) ⌝ }
+{
+    ranks_before(
+        boundaries,
+        separations[k],
+        index(mouths[k]),
+        index(ramps[k]),
+        separations[j],
+        index(mouths[j]),
+        index(ramps[j]),
+    )
+}
+
+// The better of entry `best`, none where it is n, and entry k, if that is near and left.
+fn better_entry(
+    boundaries: &[u64],
+    pairs: &[u32],
+    starts: &[usize; 257],
+    marks: &[u16],
+    removed: &[bool; 256],
+    used: &[bool; 256],
+    mouths: &[u8; 16384],
+    ramps: &[u8; 16384],
+    outers: &[u32; 16384],
+    kinds: &[u8; 16384],
+    separations: &[u64; 16384],
+    near: &[bool; 16384],
+    n: usize,
+    best: usize,
+    k: usize,
+) -> usize
+    requires { ⌜ SafeEntries (now boundaries) (now pairs) (now starts) (now marks) (now mouths) (now ramps) (now outers) n ⌝ }
+    requires { ⌜ (k < n) × (best ≤ n) ⌝ }
+    ensures { λ r. ⌜ r ≤ n ⌝ }
+    ensures { λ r. ⌜ ((C : Context) (taken : List MouthProposal) → ShownBoundaries C (now (boundaries .entry)) → ShownPairs C (now (pairs .entry)) (now (starts .entry)) → Listed C (now (mouths .entry)) (now (ramps .entry)) (now (outers .entry)) (now (separations .entry)) n → TakenState C taken (now (removed .entry)) (now (used .entry)) (now (marks .entry)) → entryIf C (now (mouths .entry)) (now (ramps .entry)) (now (outers .entry)) (now (kinds .entry)) n r ≡ betterOf C taken (now (mouths .entry)) (now (ramps .entry)) (now (outers .entry)) (now (kinds .entry)) (now (near .entry)) k (entryIf C (now (mouths .entry)) (now (ramps .entry)) (now (outers .entry)) (now (kinds .entry)) n best)) ⌝ }
+{
+    if !entry_left(pairs, starts, marks, removed, used, mouths, ramps, outers, kinds, near, k) {
+        return best;
+    }
+    if best == n {
+        return k;
+    }
+    if entry_before(boundaries, mouths, ramps, separations, k, best) {
+        return k;
+    }
+    best
+}
+
+// The least entry that is near and left, the first of level ones; n where there is none.
+fn least_left(
+    boundaries: &[u64],
+    pairs: &[u32],
+    starts: &[usize; 257],
+    marks: &[u16],
+    removed: &[bool; 256],
+    used: &[bool; 256],
+    mouths: &[u8; 16384],
+    ramps: &[u8; 16384],
+    outers: &[u32; 16384],
+    kinds: &[u8; 16384],
+    separations: &[u64; 16384],
+    near: &[bool; 16384],
+    n: usize,
+) -> usize
+    requires { ⌜ SafeEntries (now boundaries) (now pairs) (now starts) (now marks) (now mouths) (now ramps) (now outers) n ⌝ }
+    ensures { λ r. ⌜ r ≤ n ⌝ }
+    ensures { λ r. ⌜ ((C : Context) (taken : List MouthProposal) → ShownBoundaries C (now (boundaries .entry)) → ShownPairs C (now (pairs .entry)) (now (starts .entry)) → Listed C (now (mouths .entry)) (now (ramps .entry)) (now (outers .entry)) (now (separations .entry)) n → TakenState C taken (now (removed .entry)) (now (used .entry)) (now (marks .entry)) → entryIf C (now (mouths .entry)) (now (ramps .entry)) (now (outers .entry)) (now (kinds .entry)) n r ≡ leastAmong C taken (nearEntries C (now (mouths .entry)) (now (ramps .entry)) (now (outers .entry)) (now (kinds .entry)) (now (near .entry)) n)) ⌝ }
+{
+    let mut best = n;
+    let mut k = 0;
+    while k < n {
+        best = better_entry(
+            boundaries, pairs, starts, marks, removed, used, mouths, ramps, outers, kinds,
+            separations, near, n, best, k,
+        );
+        k += 1;
+    }
+    best
 }
