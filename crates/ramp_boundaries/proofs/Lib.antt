@@ -15,6 +15,7 @@ mod OtherEnds
 mod RoundLaws
 mod RowLists
 mod SafeLists
+mod SelectionLaws
 mod ShapeTests
 mod ShapedMouths
 mod StarShapes

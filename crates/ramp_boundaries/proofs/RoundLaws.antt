@@ -29,10 +29,10 @@ module _ (C : Context) (mouths ramps outers kinds : List ℕ) where
   abbrev at : ℕ → MouthProposal
   at = entryAt C mouths ramps outers kinds
 
-  entry-in : (n k : ℕ) → k < n → entryIf C mouths ramps outers kinds n k ≡ some (at k)
+  pub entry-in : (n k : ℕ) → k < n → entryIf C mouths ramps outers kinds n k ≡ some (at k)
   entry-in n k h = ap (λ b. onlyIf b (at k)) (lt-ltb k n h)
 
-  entry-none : (n k : ℕ) → k ≡ n → entryIf C mouths ramps outers kinds n k ≡ none
+  pub entry-none : (n k : ℕ) → k ≡ n → entryIf C mouths ramps outers kinds n k ≡ none
   entry-none n k e = ap (λ b. onlyIf b (at k)) (le-ltb k n (omega (arith, e)))
 
   key-shown : {boundaries separations : List ℕ} {n : ℕ} → ShownBoundaries C boundaries → Listed C mouths ramps outers separations n → (k : ℕ) → k < n

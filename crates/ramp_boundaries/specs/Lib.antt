@@ -8,3 +8,4 @@ pub mod Near
 pub mod Outers
 pub mod Rounds
 pub mod Rows
+pub mod Selecting

@@ -11,7 +11,7 @@ ghost use lib.ListN.{length, getD};
 ghost use Rattle.definitions.specs.Limits.{numbersPerBoundary};
 ghost use Rattle.definitions.specs.Sort.{listLt};
 ghost use Rattle.definitions.specs.Context.{Context};
-ghost use Rattle.definitions.specs.RampMouths.{MouthProposal};
+ghost use Rattle.definitions.specs.RampMouths.{MouthProposal, proposals};
 ghost use Rattle.context.specs.Shown.{ShownBoundaries, ShownPairs};
 ghost use Rattle.context.specs.Rows.{Stretch, NamedRow};
 ghost use Rattle.ramp_boundaries.specs.Candidates.{proposalOf};
@@ -19,6 +19,7 @@ ghost use Rattle.ramp_boundaries.specs.Held.{TakenState, isRefused, same
 ghost use Rattle.ramp_boundaries.specs.Keys.{keyAt};
 ghost use Rattle.ramp_boundaries.specs.Listed.{maxCandidates, SafeEntry, SafeEntries, Listed, entryAt, entryIf, nearEntries};
 ghost use Rattle.ramp_boundaries.specs.Rounds.{betterOf, leastAmong};
+ghost use Rattle.ramp_boundaries.specs.Selecting.{isRemoved, Selects, Selecting};
 
 // Whether boundaries i and j are the same end of the same ramp.
 fn same_end(boundaries: &[u64], i: usize, j: usize) -> bool
@@ -34,6 +35,7 @@ fn use_end(boundaries: &[u64], used: &mut [bool; 256], count: usize, a: usize)
     requires { ⌜ (count ≤ 256) × (numbersPerBoundary * count ≤ length (now boundaries)) ⌝ }
     requires { ⌜ (a < count) × (length (now used) ≡ 256) ⌝ }
     ensures { λ x. ⌜ ((j : ℕ) → getD (now (used .exit)) j false ≡ endMark (now (boundaries .entry)) a count (now (used .entry)) j) ⌝ }
+    ensures { λ x. ⌜ length (now (used .exit)) ≡ 256 ⌝ }
 {
     let mut j = 0;
     while j < count {
@@ -89,7 +91,7 @@ fn take(
     requires { ⌜ ((k : ℕ) → getD (now starts) m 0 ≤ k → k < getD (now starts) (m + 1) 0 → NamedRow (now pairs) (length (now marks)) k) ⌝ }
     requires { ⌜ outer ≤ length (now marks) ⌝ }
     ensures { λ x. ⌜ ((C : Context) (taken : List MouthProposal) → C .count ≡ count → ShownBoundaries C (now (boundaries .entry)) → ShownPairs C (now (pairs .entry)) (now (starts .entry)) → C .regions ≤ length (now (marks .entry)) → TakenState C taken (now (removed .entry)) (now (used .entry)) (now (marks .entry)) → m < C .count → outer ≤ C .regions → isRefused C taken (proposalOf C m a outer kind) ≡ false → TakenState C (taken ++ (proposalOf C m a outer kind ∷ [])) (now (removed .exit)) (now (used .exit)) (now (marks .exit))) ⌝ }
-    ensures { λ x. ⌜ (length (now (marks .exit)) ≡ length (now (marks .entry))) ⌝ }
+    ensures { λ x. ⌜ (length (now (marks .exit)) ≡ length (now (marks .entry))) × ((length (now (used .exit)) ≡ 256) × (length (now (removed .exit)) ≡ 256)) ⌝ }
 {
     removed[m] = true;
     use_end(boundaries, &mut *used, count, a);
@@ -219,4 +221,82 @@ fn least_left(
         k += 1;
     }
     best
+}
+
+// Takes entry k.
+fn take_entry(
+    boundaries: &[u64],
+    pairs: &[u32],
+    starts: &[usize; 257],
+    marks: &mut [u16],
+    removed: &mut [bool; 256],
+    used: &mut [bool; 256],
+    mouths: &[u8; 16384],
+    ramps: &[u8; 16384],
+    outers: &[u32; 16384],
+    kinds: &[u8; 16384],
+    count: usize,
+    k: usize,
+)
+    requires { ⌜ (k < maxCandidates) × ((count ≤ 256) × (numbersPerBoundary * count ≤ length (now boundaries))) ⌝ }
+    requires { ⌜ (getD (now ramps) k 0 < count) × ((length (now used) ≡ 256) × (length (now removed) ≡ 256)) ⌝ }
+    requires { ⌜ SafeEntry (now pairs) (now starts) (now marks) (getD (now mouths) k 0) (getD (now outers) k 0) ⌝ }
+    ensures { λ x. ⌜ ((C : Context) (taken : List MouthProposal) → C .count ≡ count → ShownBoundaries C (now (boundaries .entry)) → ShownPairs C (now (pairs .entry)) (now (starts .entry)) → C .regions ≤ length (now (marks .entry)) → TakenState C taken (now (removed .entry)) (now (used .entry)) (now (marks .entry)) → getD (now (mouths .entry)) k 0 < C .count → getD (now (outers .entry)) k 0 ≤ C .regions → isRefused C taken (entryAt C (now (mouths .entry)) (now (ramps .entry)) (now (outers .entry)) (now (kinds .entry)) k) ≡ false → TakenState C (taken ++ (entryAt C (now (mouths .entry)) (now (ramps .entry)) (now (outers .entry)) (now (kinds .entry)) k ∷ [])) (now (removed .exit)) (now (used .exit)) (now (marks .exit))) ⌝ }
+    ensures { λ x. ⌜ (length (now (marks .exit)) ≡ length (now (marks .entry))) × ((length (now (used .exit)) ≡ 256) × (length (now (removed .exit)) ≡ 256)) ⌝ }
+{
+    let m = index(mouths[k]);
+    let a = index(ramps[k]);
+    take(
+        boundaries,
+        pairs,
+        starts,
+        &mut *marks,
+        &mut *removed,
+        &mut *used,
+        count,
+        m,
+        a,
+        outers[k],
+        kinds[k],
+    );
+}
+
+// Takes entries until none is left; `removed` and `used` mark nothing before.
+fn take_all(
+    boundaries: &[u64],
+    pairs: &[u32],
+    starts: &[usize; 257],
+    marks: &mut [u16],
+    removed: &mut [bool; 256],
+    used: &mut [bool; 256],
+    mouths: &[u8; 16384],
+    ramps: &[u8; 16384],
+    outers: &[u32; 16384],
+    kinds: &[u8; 16384],
+    separations: &[u64; 16384],
+    near: &[bool; 16384],
+    count: usize,
+    n: usize,
+)
+    requires { ⌜ Selecting (now boundaries) (now pairs) (now starts) (now marks) (now mouths) (now ramps) (now outers) (now separations) count n ⌝ }
+    requires { ⌜ (length (now used) ≡ 256) × (length (now removed) ≡ 256) ⌝ }
+    requires { ⌜ ((i : ℕ) → getD (now removed) i false ≡ false) ⌝ }
+    requires { ⌜ ((i : ℕ) → getD (now used) i false ≡ false) ⌝ }
+    ensures { λ x. ⌜ ((C : Context) → Selects (now (boundaries .entry)) (now (pairs .entry)) (now (starts .entry)) (now (marks .entry)) (now (mouths .entry)) (now (ramps .entry)) (now (outers .entry)) (now (separations .entry)) count n C → proposals C ≡ nearEntries C (now (mouths .entry)) (now (ramps .entry)) (now (outers .entry)) (now (kinds .entry)) (now (near .entry)) n → (i : ℕ) → i < C .count → getD (now (removed .exit)) i false ≡ isRemoved C i) ⌝ }
+    ensures { λ x. ⌜ (length (now (marks .exit)) ≡ length (now (marks .entry))) ⌝ }
+{
+    let mut k = least_left(
+        boundaries, pairs, starts, &*marks, &*removed, &*used, mouths, ramps, outers, kinds,
+        separations, near, n,
+    );
+    while k < n {
+        take_entry(
+            boundaries, pairs, starts, &mut *marks, &mut *removed, &mut *used, mouths, ramps,
+            outers, kinds, count, k,
+        );
+        k = least_left(
+            boundaries, pairs, starts, &*marks, &*removed, &*used, mouths, ramps, outers, kinds,
+            separations, near, n,
+        );
+    }
 }

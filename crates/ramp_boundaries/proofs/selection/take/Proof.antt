@@ -2,9 +2,9 @@
 use Prim.Native.Nat.{ℕ, _<_}
 use native.Mathlib.Omega.{arith}
 use mathlib.Core.Path.{_≡_, refl, sym, ap, _∙_, subst}
-use mathlib.Core.Bool.{Bool, false, _&&_, _||_, cond}
+use mathlib.Core.Bool.{true, false, _&&_, _||_, cond}
 use mathlib.Core.List.{[], _∷_, _++_}
-use lib.ListN.{length, getD}
+use lib.ListN.{length, getD, length-set}
 use lib.Dec.{eqb}
 use borrow.Author.Tests.{lt-ltb}
 use Rattle.definitions.specs.MouthShapes.{regionsOf}
@@ -44,7 +44,7 @@ returns c =
     record {
       gone = λ i hi. mouth-taken T p (s .args .removed .now) m i refl (omega (arith, s .pre .1 .0 .1, s .pre .1 .1 .0 .within)) (S .gone i hi);
       ends = λ j hj.
-          c .before .before .before .before .use-end .ensures j
+          c .before .before .before .before .use-end .ensures .0 j
           ∙ ap (λ b. getD (s .args .used .now) j false || b && sameEnd (s .args .boundaries .now) a j) (lt-ltb j (s .args .count) (subst (λ k. j < k) n hj))
           ∙ end-taken B T p a j refl ha hj (S .ends j hj);
       holds =
@@ -53,7 +53,8 @@ returns c =
           ∙ ap (λ l. markInner outer (cond (eqb outer 0) marks (markHeld (cond (eqb kind triangular) 2 1) marks outer)) (regionsOf l)) (sym (P .at m hm))))
           (held-taken C T m a outer kind marks (S .holds) long (P .named m hm) ho (refused-parts C T m a outer kind free));
     }
-    , ap length (c .before .before .hold-proposal .ensures) ∙ inner-length _ _ _ ∙ outer-length (eqb outer 0) marks _ outer)
+    , (ap length (c .before .before .hold-proposal .ensures) ∙ inner-length _ _ _ ∙ outer-length (eqb outer 0) marks _ outer
+    , (c .before .before .before .before .use-end .ensures .1, length-set (s .args .removed .now) m true ∙ s .pre .1 .0 .1)))
 
 pub take-spec : {M : Type 1} → statement M
 take-spec =

@@ -45,7 +45,7 @@ returns : tie.Need-returns Inv-loop μ-loop
 returns c =
     let s = c .before .before .before .args in
     let at = c .before .loop in
-    λ i. at .inv .1 .1 i ∙ ap (λ k. endMark (s .boundaries .now) (s .a) k (s .used .now) i) (le-antisymm (at .inv .0) (c .loop-test .left))
+    (λ i. at .inv .1 .1 i ∙ ap (λ k. endMark (s .boundaries .now) (s .a) k (s .used .now) i) (le-antisymm (at .inv .0) (c .loop-test .left)), at .inv .1 .0)
 
 pub use-end-spec : {M : Type 1} → statement M
 use-end-spec =
