@@ -1,12 +1,12 @@
 -- The rounds of the selection: what is known between them, that each leaves a mouth less, and that what was taken at the end is the definitions' choice. Assumes nothing.
-use Prim.Native.Nat.{ℕ, _+_, _*_, _≤_, _<_}
+use Prim.Native.Nat.{ℕ, zero, suc, _≤_, _<_}
 use native.Mathlib.Omega.{arith}
 use native.Mathlib.Nat.{le-trans}
 use mathlib.Core.Path.{_≡_, refl, sym, ap, ap₂, _∙_, subst}
 use mathlib.Core.Bool.{Bool, true, false, not, _&&_, _||_, cond, or-false, or-true, true≢false, false≢true}
 use mathlib.Core.Option.{Option, none, some}
 use mathlib.Core.List.{List, [], _∷_, _++_, map}
-use lib.ListN.{length, getD}
+use lib.ListN.{length, getD, replicate}
 use lib.Dec.{eqb, ltb}
 use borrow.Author.Tests.{eqb-false, eq-eqb, ne-eqb, lt-ltb, le-ltb}
 use Rattle.definitions.specs.Limits.{numbersPerBoundary}
@@ -170,3 +170,8 @@ fewer-left {C} same T p {was} {now} S U h e =
 
 pub taken-at : {C : Context} (T : List MouthProposal) {p q : MouthProposal} {removed used : List Bool} {marks : List ℕ} → p ≡ q → TakenState C (T ++ (p ∷ [])) removed used marks → TakenState C (T ++ (q ∷ [])) removed used marks
 taken-at {C} T {removed = removed} {used = used} {marks = marks} e S = subst (λ p. TakenState C (T ++ (p ∷ [])) removed used marks) e S
+
+pub none-used : (n i : ℕ) → getD (replicate n false) i false ≡ false
+none-used zero i = refl
+none-used (suc n) zero = refl
+none-used (suc n) (suc i) = none-used n i

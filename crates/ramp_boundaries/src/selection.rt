@@ -300,3 +300,31 @@ fn take_all(
         );
     }
 }
+
+// Marks the boundaries that the pass removes, from its candidates and which of them are near.
+pub fn select_mouths(
+    boundaries: &[u64],
+    pairs: &[u32],
+    starts: &[usize; 257],
+    marks: &mut [u16],
+    removed: &mut [bool; 256],
+    mouths: &[u8; 16384],
+    ramps: &[u8; 16384],
+    outers: &[u32; 16384],
+    kinds: &[u8; 16384],
+    separations: &[u64; 16384],
+    near: &[bool; 16384],
+    count: usize,
+    n: usize,
+)
+    requires { ⌜ Selecting (now boundaries) (now pairs) (now starts) (now marks) (now mouths) (now ramps) (now outers) (now separations) count n ⌝ }
+    requires { ⌜ length (now removed) ≡ 256 ⌝ }
+    requires { ⌜ ((i : ℕ) → getD (now removed) i false ≡ false) ⌝ }
+    ensures { λ x. ⌜ ((C : Context) → Selects (now (boundaries .entry)) (now (pairs .entry)) (now (starts .entry)) (now (marks .entry)) (now (mouths .entry)) (now (ramps .entry)) (now (outers .entry)) (now (separations .entry)) count n C → proposals C ≡ nearEntries C (now (mouths .entry)) (now (ramps .entry)) (now (outers .entry)) (now (kinds .entry)) (now (near .entry)) n → (i : ℕ) → i < C .count → getD (now (removed .exit)) i false ≡ isRemoved C i) ⌝ }
+{
+    let mut used = [false; 256];
+    take_all(
+        boundaries, pairs, starts, &mut *marks, &mut *removed, &mut used, mouths, ramps, outers,
+        kinds, separations, near, count, n,
+    );
+}
