@@ -1,0 +1,25 @@
+-- What the proofs of several functions use.
+mod ApproachLaws
+mod Conflicts
+mod Distinct
+mod Fitting
+mod FoundMouths
+mod Greedy
+pub mod InnerWalk
+mod KeyOrder
+mod Literals
+mod Marks
+mod Measured
+mod Nearness
+mod OtherEnds
+mod RoundLaws
+mod RowLists
+mod SafeLists
+mod SelectionLaws
+mod ShapeTests
+mod ShapedMouths
+mod StarShapes
+mod TakenLaws
+mod TriangleFound
+mod TriangleMouths
+mod Within

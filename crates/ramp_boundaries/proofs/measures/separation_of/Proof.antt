@@ -1,0 +1,32 @@
+-- `measures::separation_of` meets its contract, from what its callees ensure. Assumes nothing.
+use mathlib.Core.Path.{ap₂, _∙_}
+use Rattle.definitions.specs.RampGeometry.{segmentDistance}
+use Rattle.definitions.specs.RampMouths.{separationOf}
+use Rattle.ramp_boundaries.proofs.Measured.{pixels-at, endpoints-shown}
+use borrow.Author.Needs.{needs}
+use Rattle.ramp_boundaries.proofs.measures.separation_of.Statement.{statement}
+use Rattle.ramp_boundaries.proofs.measures.separation_of.Tie as tie
+
+segment-of-requires : tie.Need-segment-of-requires
+segment-of-requires c κs = search needs
+
+segment-of-requires-2 : tie.Need-segment-of-requires-2
+segment-of-requires-2 c κs = search needs
+
+segment-distance-requires : tie.Need-segment-distance-requires
+segment-distance-requires c κs =
+    let s = c .before .before .before in
+    (pixels-at (c .before .segment-of .ensures) (s .pre .0 .pixels), pixels-at (c .segment-of2 .ensures) (s .pre .1 .pixels))
+
+returns : tie.Need-returns
+unfolding separationOf
+returns c =
+    let s = c .before .before .before .before in
+    λ C S hm ha.
+    c .segment-distance .ensures
+    ∙ ap₂ segmentDistance (endpoints-shown S (s .args .m) hm (c .before .before .segment-of .ensures)) (endpoints-shown S (s .args .a) ha (c .before .segment-of2 .ensures))
+
+pub separation-of-spec : {M : Type 1} → statement M
+separation-of-spec =
+    tie.close
+    (tie.spec segment-of-requires segment-of-requires-2 segment-distance-requires returns)

@@ -1,0 +1,63 @@
+-- `mouths::approach_mouth` meets its contract, by the approach. Assumes nothing.
+use mathlib.Core.Path.{sym, ap, _∙_, subst}
+use lib.ListN.{length}
+use Rattle.ramp_boundaries.specs.Candidates.{Within, approachMouth}
+use borrow.Author.Needs.{needs}
+use Rattle.ramp_boundaries.proofs.mouths.approach_mouth.Statement.{statement}
+use Rattle.ramp_boundaries.proofs.mouths.approach_mouth.Tie as tie
+
+enum-told : tie.Need-enum-told
+enum-told c = search needs
+
+enum-known-approach : tie.Need-enum-known-approach
+enum-known-approach c = search needs
+
+single-mouth-requires : tie.Need-single-mouth-requires
+single-mouth-requires c κs =
+    let s = c .before .before .before .before .before .before .before in
+    let k = c .before .approach .given .1 in
+    let n = subst (Within (length (s .args .counts .now))) k (s .pre .1 .1 .1 .0) in
+    let t = subst (Within (length (s .args .marks .now))) k (s .pre .1 .1 .1 .1) in
+    ((s .pre .0 .0, s .pre .0 .1 .0), (s .pre .1 .0, (t .0, (t .1 .0, (t .1 .1, n .1 .1)))))
+
+enum-known-approach-2 : tie.Need-enum-known-approach-2
+enum-known-approach-2 c = search needs
+
+star-mouth-requires : tie.Need-star-mouth-requires
+star-mouth-requires c κs =
+    let s = c .before .before .before .before .before .before .before in
+    let n = subst (Within (length (s .args .counts .now))) (c .before .approach2 .given .1) (s .pre .1 .1 .1 .0) in
+    (s .pre .0, (s .pre .1 .0, (s .pre .1 .1 .0, n .1)))
+
+returns : tie.Need-returns
+unfolding approachMouth
+returns c =
+    let s = c .before .before .before .before .before .before .args in
+    λ C S n w o. ap (approachMouth C (s .m) (s .a)) (sym (c .enum-told .given .1))
+
+returns-2 : tie.Need-returns-2
+returns-2 c =
+    let s = c .before .before .before .before .before .before .before .before .args in
+    let k = c .before .before .approach .given .1 in
+    λ C S n w o.
+    let h = subst (Within (C .regions)) k n in
+    c .single-mouth .ensures C (s .m) S (h .0 .1, h .1 .1) w o ∙ ap (approachMouth C (s .m) (s .a)) (sym k)
+
+returns-3 : tie.Need-returns-3
+returns-3 c =
+    let s = c .before .before .before .before .before .before .before .before .args in
+    let k = c .before .before .approach2 .given .1 in
+    λ C S n w o. c .star-mouth .ensures C S (subst (Within (C .regions)) k n .1 .1) w o ∙ ap (approachMouth C (s .m) (s .a)) (sym k)
+
+pub approach-mouth-spec : {M : Type 1} → statement M
+approach-mouth-spec =
+    tie.close
+    (tie.spec
+    enum-told
+    enum-known-approach
+    single-mouth-requires
+    enum-known-approach-2
+    star-mouth-requires
+    returns
+    returns-2
+    returns-3)

@@ -1,0 +1,84 @@
+-- `mouths::single_mouth` meets its contract: each return by the tests that led there. Assumes nothing.
+use mathlib.Core.Path.{_≡_, refl, sym, ap, _∙_}
+use mathlib.Core.Bool.{not, _&&_, _||_}
+use lib.Dec.{eqb}
+use Rattle.ramp_boundaries.proofs.Fitting.{single-by, two-shown, anchored-shown}
+use borrow.Author.Needs.{needs}
+use Rattle.ramp_boundaries.proofs.mouths.single_mouth.Statement.{statement}
+use Rattle.ramp_boundaries.proofs.mouths.single_mouth.Tie as tie
+
+is-anchored-requires : tie.Need-is-anchored-requires
+is-anchored-requires c κs = search needs
+
+returns : tie.Need-returns
+returns c =
+    let s = c .before .before .before .before .before .before in
+    λ C m S n w o.
+    single-by C m (s .args .a) (s .args .outer) (s .args .r)
+    (anchored-shown (S .anchored) (s .args .r) (s .pre .1 .1 .1 .0) (n .1) (c .before .is-anchored .ensures) ∙ c .if1 .taken)
+    (refl)
+    (refl)
+    (refl)
+
+incident-count-requires : tie.Need-incident-count-requires
+incident-count-requires c κs = search needs
+
+is-anchored-requires-2 : tie.Need-is-anchored-requires-2
+is-anchored-requires-2 c κs = search needs
+
+returns-2 : tie.Need-returns-2
+returns-2 c =
+    let s = c .before .before .before .before .before .before .before .before .before in
+    λ C m S n w o.
+    single-by C m (s .args .a) (s .args .outer) (s .args .r)
+    (anchored-shown (S .anchored) (s .args .r) (s .pre .1 .1 .1 .0) (n .1) (c .before .before .before .before .is-anchored .ensures) ∙ c .before .before .before .if1 .left)
+    ((λ i. sym o i && ((anchored-shown (S .anchored) (s .args .outer) (s .pre .1 .1 .0 .0) (n .0) (c .before .is-anchored2 .ensures)) i || not ((two-shown (S .anchored) (S .incidents) (s .args .r) (s .pre .1 .1 .1 .0) (n .1) (c .before .before .incident-count .ensures)) i))) ∙ c .if2 .taken)
+    (refl)
+    (refl)
+
+other-end-incident-requires : tie.Need-other-end-incident-requires
+other-end-incident-requires c κs = search needs
+
+returns-3 : tie.Need-returns-3
+returns-3 c =
+    let s = c .before .before .before .before .before .before .before .before .before .before .before in
+    λ C m S n w o.
+    single-by C m (s .args .a) (s .args .outer) (s .args .r)
+    (anchored-shown (S .anchored) (s .args .r) (s .pre .1 .1 .1 .0) (n .1) (c .before .before .before .before .before .before .is-anchored .ensures) ∙ c .before .before .before .before .before .if1 .left)
+    ((λ i. sym o i && ((anchored-shown (S .anchored) (s .args .outer) (s .pre .1 .1 .0 .0) (n .0) (c .before .before .before .is-anchored2 .ensures)) i || not ((two-shown (S .anchored) (S .incidents) (s .args .r) (s .pre .1 .1 .1 .0) (n .1) (c .before .before .before .before .incident-count .ensures)) i))) ∙ c .before .before .if2 .left)
+    (sym (c .before .other-end-incident .ensures C (S .counted) (S .bounds) (S .rows)) ∙ c .if3 .taken)
+    (refl)
+
+returns-4 : tie.Need-returns-4
+returns-4 c =
+    let s = c .before .before .before .before .before .before .before .before .before .before .before .before in
+    λ C m S n w o.
+    single-by C m (s .args .a) (s .args .outer) (s .args .r)
+    (anchored-shown (S .anchored) (s .args .r) (s .pre .1 .1 .1 .0) (n .1) (c .before .before .before .before .before .before .before .is-anchored .ensures) ∙ c .before .before .before .before .before .before .if1 .left)
+    ((λ i. sym o i && ((anchored-shown (S .anchored) (s .args .outer) (s .pre .1 .1 .0 .0) (n .0) (c .before .before .before .before .is-anchored2 .ensures)) i || not ((two-shown (S .anchored) (S .incidents) (s .args .r) (s .pre .1 .1 .1 .0) (n .1) (c .before .before .before .before .before .incident-count .ensures)) i))) ∙ c .before .before .before .if2 .left)
+    (sym (c .before .before .other-end-incident .ensures C (S .counted) (S .bounds) (S .rows)) ∙ c .before .if3 .left)
+    ((λ i. (sym w i || sym o i) && (two-shown (S .anchored) (S .incidents) (s .args .r) (s .pre .1 .1 .1 .0) (n .1) (c .before .before .before .before .before .incident-count .ensures)) i) ∙ c .if4 .taken)
+
+returns-5 : tie.Need-returns-5
+returns-5 c =
+    let s = c .before .before .before .before .before .before .before .before .before .before .before .before in
+    λ C m S n w o.
+    single-by C m (s .args .a) (s .args .outer) (s .args .r)
+    (anchored-shown (S .anchored) (s .args .r) (s .pre .1 .1 .1 .0) (n .1) (c .before .before .before .before .before .before .before .is-anchored .ensures) ∙ c .before .before .before .before .before .before .if1 .left)
+    ((λ i. sym o i && ((anchored-shown (S .anchored) (s .args .outer) (s .pre .1 .1 .0 .0) (n .0) (c .before .before .before .before .is-anchored2 .ensures)) i || not ((two-shown (S .anchored) (S .incidents) (s .args .r) (s .pre .1 .1 .1 .0) (n .1) (c .before .before .before .before .before .incident-count .ensures)) i))) ∙ c .before .before .before .if2 .left)
+    (sym (c .before .before .other-end-incident .ensures C (S .counted) (S .bounds) (S .rows)) ∙ c .before .if3 .left)
+    ((λ i. (sym w i || sym o i) && (two-shown (S .anchored) (S .incidents) (s .args .r) (s .pre .1 .1 .1 .0) (n .1) (c .before .before .before .before .before .incident-count .ensures)) i) ∙ c .if4 .left)
+
+pub single-mouth-spec : {M : Type 1} → statement M
+single-mouth-spec =
+    tie.close
+    (tie.spec
+    is-anchored-requires
+    returns
+    incident-count-requires
+    is-anchored-requires-2
+    returns-2
+    other-end-incident-requires
+    returns-3
+    returns-4
+    returns-5)

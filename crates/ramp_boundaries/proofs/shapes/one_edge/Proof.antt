@@ -1,0 +1,30 @@
+-- `shapes::one_edge` meets its contract: just one of the two rows is found. Assumes nothing.
+use mathlib.Core.Bool.{_||_}
+use Rattle.ramp_boundaries.specs.Rows.{pairForm}
+use Rattle.ramp_boundaries.proofs.ShapeTests.{one-common}
+use borrow.Author.Needs.{needs}
+use Rattle.ramp_boundaries.proofs.shapes.one_edge.Statement.{statement}
+use Rattle.ramp_boundaries.proofs.shapes.one_edge.Tie as tie
+
+pair-eq-requires : tie.Need-pair-eq-requires
+pair-eq-requires c κs = search needs
+
+pair-eq-requires-2 : tie.Need-pair-eq-requires-2
+pair-eq-requires-2 c κs = search needs
+
+pair-eq-requires-3 : tie.Need-pair-eq-requires-3
+pair-eq-requires-3 c κs = search needs
+
+pair-eq-requires-4 : tie.Need-pair-eq-requires-4
+pair-eq-requires-4 c κs = search needs
+
+returns : tie.Need-returns
+returns c =
+    let s = c .before .before .before .before .args in
+    one-common (pairForm (s .p)) (pairForm (s .q)) (pairForm (s .s)) (pairForm (s .t))
+    (λ i. c .before .before .before .pair-eq .ensures i || c .before .before .pair-eq2 .ensures i) (λ i. c .before .pair-eq3 .ensures i || c .pair-eq4 .ensures i)
+
+pub one-edge-spec : {M : Type 1} → statement M
+one-edge-spec =
+    tie.close
+    (tie.spec pair-eq-requires pair-eq-requires-2 pair-eq-requires-3 pair-eq-requires-4 returns)

@@ -1,0 +1,11 @@
+pub mod Candidates
+pub mod Held
+pub mod Inner
+pub mod Keys
+pub mod Lent
+pub mod Listed
+pub mod Near
+pub mod Outers
+pub mod Rounds
+pub mod Rows
+pub mod Selecting
