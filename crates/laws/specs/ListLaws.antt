@@ -1,6 +1,7 @@
 -- Lists and scans over them and below a number.
 pub mod Lists
 pub mod Scans
+pub mod ScanSteps
 pub mod ScansOfAll
 pub mod Below
 pub mod Members

@@ -30,3 +30,12 @@ not-and false b = refl
 pub and-fails : (a b : Bool) → false ≡ (a && false && b)
 and-fails true b = refl
 and-fails false b = refl
+
+-- two tests that hold together
+pub same-test : {a b : Bool} → (a ≡ true → b ≡ true) → (b ≡ true → a ≡ true) → a ≡ b
+same-test {a} {b} f g = go a b f g
+  where
+    go : (a b : Bool) → (a ≡ true → b ≡ true) → (b ≡ true → a ≡ true) → a ≡ b
+    go true b f g = sym (f refl)
+    go false true f g = g refl
+    go false false f g = refl

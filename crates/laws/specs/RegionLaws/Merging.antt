@@ -167,7 +167,7 @@ module _ {X : Type 0} (g : ℕ → X) (n : ℕ) where
 
 -- ---- the two numbers of a pair have one name at the end
 
-merged-one : (a b : ℕ) → merged a b a ≡ merged a b b
+pub merged-one : (a b : ℕ) → merged a b a ≡ merged a b b
 unfolding merged
 merged-one a b = go (eqb a (max a b)) refl (eqb b (max a b)) refl
   where

@@ -75,7 +75,7 @@ module _ (C : Context) (within : (i : ℕ) → All (Within (suc (C .regions))) (
 
   -- ---- edges
 
-  edge-is : (i : ℕ) → i < C .count → (isOrdinary C i && any (λ p. inside C r (p .lo) || inside C r (p .hi)) (C .pairs i)) ≡ isEdge C (components C) r i
+  pub edge-is : (i : ℕ) → i < C .count → (isOrdinary C i && any (λ p. inside C r (p .lo) || inside C r (p .hi)) (C .pairs i)) ≡ isEdge C (components C) r i
   unfolding isEdge
   edge-is i h = go (isOrdinary C i) refl
     where

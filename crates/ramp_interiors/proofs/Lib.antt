@@ -1,0 +1,15 @@
+pub mod RowScans
+pub mod Stored
+pub mod Forests
+pub mod Preparing
+pub mod Commons
+pub mod Walks
+pub mod CandidateLaws
+pub mod PortLaws
+pub mod FitLaws
+pub mod MarkLaws
+pub mod ExteriorLaws
+pub mod LeafLaws
+pub mod ProposalLaws
+pub mod Apart
+pub mod NoConflict

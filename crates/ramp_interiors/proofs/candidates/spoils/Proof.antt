@@ -1,0 +1,84 @@
+-- `candidates::spoils` meets its contract: by the owner, an edge has all its pairs in the component, or some elsewhere. Assumes nothing.
+use mathlib.Core.Path.{_≡_, sym, _∙_}
+use Rattle.ramp_interiors.proofs.Walks.{shown-walkable}
+use Rattle.ramp_interiors.proofs.CandidateLaws.{spoils-own, spoils-other, spoils-several, anchored-is, touches-edge}
+use borrow.Author.Needs.{needs}
+use Rattle.ramp_interiors.proofs.candidates.spoils.Statement.{statement}
+use Rattle.ramp_interiors.proofs.candidates.spoils.Tie as tie
+use Rattle.ramp_interiors.proofs.candidates.spoils.Reads as reads
+use Rattle.ramp_interiors.proofs.candidates.spoils.Lts as lts
+use Rattle.ramp_interiors.proofs.candidates.any_anchored.Reads as any-anchored-reads
+use Rattle.ramp_interiors.proofs.owners.touches.Reads as touches-reads
+
+mul-any-anchored : tie.Need-mul-any-anchored
+mul-any-anchored c = search needs
+
+element-copy-out-any-anchored : tie.Need-element-copy-out-any-anchored
+element-copy-out-any-anchored c = search needs
+
+add-any-anchored : tie.Need-add-any-anchored
+add-any-anchored c = search needs
+
+mul-any-anchored-2 : tie.Need-mul-any-anchored-2
+mul-any-anchored-2 c = search needs
+
+element-copy-out-any-anchored-2 : tie.Need-element-copy-out-any-anchored-2
+element-copy-out-any-anchored-2 c = search needs
+
+any-anchored-requires : tie.Need-any-anchored-requires
+any-anchored-requires c κs =
+    let s = c .before .before .before .before .before .before in
+    shown-walkable (s .pre .1 .0 .paired) (s .pre .1 .0 .marked .long) (s .args .i) (s .pre .1 .1)
+
+returns : tie.Need-returns
+returns c =
+    let t = c .before .before .before in
+    λ C M l o. c .any-anchored .ensures ∙ anchored-is M _ l ∙ sym (spoils-own C _ _ (M .from) (M .upto) o (t .if1 .taken))
+
+mul-touches : tie.Need-mul-touches
+mul-touches c = search needs
+
+element-copy-out-touches : tie.Need-element-copy-out-touches
+element-copy-out-touches c = search needs
+
+add-touches : tie.Need-add-touches
+add-touches c = search needs
+
+mul-touches-2 : tie.Need-mul-touches-2
+mul-touches-2 c = search needs
+
+element-copy-out-touches-2 : tie.Need-element-copy-out-touches-2
+element-copy-out-touches-2 c = search needs
+
+touches-requires : tie.Need-touches-requires
+touches-requires c κs =
+    let s = c .before .before .before .before .before .before .before in
+    shown-walkable (s .pre .1 .0 .paired) (s .pre .1 .0 .told .long) (s .args .i) (s .pre .1 .1)
+
+returns-2 : tie.Need-returns-2
+returns-2 c =
+    let t = c .before .before .before in
+    λ C M l o. c .touches .ensures ∙ touches-edge M _ l (o .ordinary (t .if2 .taken)) ∙ sym (spoils-several C _ _ (M .from) (M .upto) o (t .if2 .taken) (t .before .if1 .left))
+
+returns-3 : tie.Need-returns-3
+returns-3 c = λ C M l o. sym (spoils-other C _ _ (M .from) (M .upto) o (c .before .if1 .left) (c .if2 .left))
+
+pub spoils-spec : {M : Type 1} → statement M
+spoils-spec =
+    tie.close
+    (tie.spec
+    mul-any-anchored
+    element-copy-out-any-anchored
+    add-any-anchored
+    mul-any-anchored-2
+    element-copy-out-any-anchored-2
+    any-anchored-requires
+    returns
+    mul-touches
+    element-copy-out-touches
+    add-touches
+    mul-touches-2
+    element-copy-out-touches-2
+    touches-requires
+    returns-2
+    returns-3)

@@ -1,0 +1,70 @@
+use lib.ListN.{length}
+use Rattle.definitions.specs.Partition.{mergeAll}
+use Rattle.ramp_interiors.proofs.Preparing.{cuts-start, cuts-size, cuts-more, cuts-end}
+-- `components::join_cuts` meets its contract. The invariant: the links of the boundaries passed are merged. Assumes nothing.
+use Prim.Native.Nat.{ℕ, _+_, _-_, _≤_, _<_}
+use native.Mathlib.Omega.{arith}
+use mathlib.Core.Path.{_≡_}
+use borrow.Author.Needs.{needs}
+use Rattle.definitions.specs.Scan.{gather}
+use Rattle.definitions.specs.Context.{Context}
+use Rattle.ramp_interiors.specs.Forest.{Parented, Merged}
+use Rattle.ramp_interiors.specs.Given.{Given, alone, linksOf}
+use Rattle.ramp_interiors.proofs.components.join_cuts.Statement.{statement}
+use Rattle.ramp_interiors.proofs.components.join_cuts.Tie as tie
+use Rattle.ramp_interiors.proofs.components.join_cuts.Reads as reads
+use Rattle.ramp_interiors.proofs.components.join_cuts.Lts as lts
+use Rattle.ramp_interiors.proofs.components.join_cut.Reads as join-cut-reads
+
+abbrev Inv-loop : tie.InvT-loop
+Inv-loop parents₀ boundaries tallies pairs starts count i₀ parents i = (i ≤ count) × ((C : Context) → Given C boundaries tallies pairs starts → C .count ≡ count → Parented (alone C) parents₀ → Merged (alone C) parents₀ (gather i (linksOf C)) parents)
+
+abbrev μ-loop : tie.MeasureT-loop
+μ-loop parents₀ boundaries tallies pairs starts count i₀ parents i = count - i
+
+loop-holds : tie.Need-loop-holds Inv-loop μ-loop
+loop-holds c = (search needs, λ C G e P. cuts-start C P)
+
+join-cut-requires : tie.Need-join-cut-requires Inv-loop μ-loop
+join-cut-requires c κs =
+    let t = c .before in
+    let s = t .before .before .before .before .before .before in
+    let C = s .pre .0 in
+    let m = t .before .loop .inv .1 C (s .pre .1 .0) (s .pre .1 .1 .0) (s .pre .1 .1 .1) in
+    (C, (s .pre .1 .0, (omega (arith, s .pre .1 .1 .0, t .loop-test .taken), (mergeAll (alone C) (gather (t .before .loop .i) (linksOf C)), (m .parented, cuts-size C _ m)))))
+
+add-i : tie.Need-add-i Inv-loop μ-loop
+add-i c = search needs
+
+loop-less : tie.Need-loop-less Inv-loop μ-loop
+loop-less c = search needs
+
+loop-again : tie.Need-loop-again Inv-loop μ-loop
+loop-again c =
+    let t = c .before .before .before .before in
+    let i = t .before .loop .i in
+    (search needs, λ C G e P.
+    let m = t .before .loop .inv .1 C G e P in
+    cuts-more C i m (c .before .before .join-cut .ensures C _ G (omega (arith, e, t .loop-test .taken)) (m .parented) (cuts-size C i m)))
+
+same-length : tie.Need-same-length Inv-loop μ-loop
+same-length c =
+    let s = c .before .before .before .before .before .before in
+    c .before .loop .inv .1 (s .pre .0) (s .pre .1 .0) (s .pre .1 .1 .0) (s .pre .1 .1 .1) .beyond .long
+
+returns : tie.Need-returns Inv-loop μ-loop
+returns c = λ C G e P. cuts-end C _ (c .before .loop .inv .1 C G e P) e (c .before .loop .inv .0) (c .loop-test .left)
+
+pub join-cuts-spec : {M : Type 1} → statement M
+join-cuts-spec =
+    tie.close
+    (tie.spec
+    Inv-loop
+    μ-loop
+    loop-holds
+    join-cut-requires
+    add-i
+    loop-less
+    loop-again
+    same-length
+    returns)

@@ -1,0 +1,120 @@
+-- `leaves::mark_exteriors` meets its contract. The invariant: the exteriors of the rows passed are marked. Assumes nothing.
+use Prim.Native.Nat.{ℕ, _+_, _-_, _≤_, _<_}
+use native.Mathlib.Omega.{arith}
+use mathlib.Core.Path.{_≡_, refl, _∙_}
+use mathlib.Core.Bool.{false}
+use mathlib.Core.List.{List}
+use lib.ListN.{length}
+use borrow.Author.Needs.{needs}
+use Rattle.definitions.specs.Context.{Context}
+use Rattle.context.specs.Shown.{pairsBetween}
+use Rattle.ramp_interiors.specs.Given.{Marked}
+use Rattle.ramp_interiors.specs.Owners.{Walkable}
+use Rattle.ramp_interiors.specs.Leaves.{Inside, Exteriored}
+use Rattle.ramp_interiors.proofs.Walks.{row-in, low-in, high-in}
+use Rattle.ramp_interiors.proofs.ExteriorLaws.{marking-start, marking-more, marking-end}
+use Rattle.ramp_interiors.proofs.leaves.mark_exteriors.Statement.{statement}
+use Rattle.ramp_interiors.proofs.leaves.mark_exteriors.Tie as tie
+use Rattle.ramp_interiors.proofs.leaves.mark_exteriors.Reads as reads
+use Rattle.ramp_interiors.proofs.leaves.mark_exteriors.Lts as lts
+use Rattle.ramp_interiors.proofs.components.larger_at.Reads as larger-at-reads
+use Rattle.ramp_interiors.proofs.components.parent_of.Reads as parent-of-reads
+use Rattle.ramp_interiors.proofs.components.smaller_at.Reads as smaller-at-reads
+use Rattle.ramp_interiors.proofs.leaves.mark_exterior.Reads as mark-exterior-reads
+
+abbrev Inv-loop : tie.InvT-loop
+Inv-loop names marks₀ pairs first end r fit₀ k₀ marks fit k =
+    (first ≤ k) × (k ≤ end) × (length marks ≡ length marks₀)
+    × ((C : Context) (rs : List ℕ) → Walkable pairs first end (C .regions) → Inside C r rs names → Marked C (λ y. false) marks₀ → Exteriored C rs (pairsBetween pairs first k) marks₀ marks fit)
+
+abbrev μ-loop : tie.MeasureT-loop
+μ-loop names marks₀ pairs first end r fit₀ k₀ marks fit k = end - k
+
+-- at a turn: what the row names has a name and a mark
+module _ (c : tie.In-loop Inv-loop μ-loop) where
+  abbrev start : tie.Start Inv-loop μ-loop
+  start = c .before .before .before .before .before
+
+  abbrev walk : Walkable (start .args .pairs .now) (start .args .first) (start .args .end) (start .pre .0)
+  walk = start .pre .1 .0
+
+  abbrev up : start .args .first ≤ c .before .loop .k
+  up = c .before .loop .inv .0
+
+  abbrev in-rows : c .before .loop .k < start .args .end
+  in-rows = c .loop-test .taken
+
+  longer : {x n : ℕ} → (1 ≤ x) × (x ≤ start .pre .0) → start .pre .0 ≤ n → (1 ≤ x) × (x ≤ n)
+  longer h l = (h .0, omega (arith, h .1))
+
+loop-holds : tie.Need-loop-holds Inv-loop μ-loop
+loop-holds c = (search needs, c .before .before .before .pre .1 .0 .rising, refl, λ C rs w I M. marking-start C rs _ _ _ _ _ I w M)
+
+smaller-at-requires : tie.Need-smaller-at-requires Inv-loop μ-loop
+smaller-at-requires c κs = row-in (walk c) (up c) (in-rows c)
+
+larger-at-requires : tie.Need-larger-at-requires Inv-loop μ-loop
+larger-at-requires c κs = row-in (walk (c .before)) (up (c .before)) (in-rows (c .before))
+
+parent-of-requires : tie.Need-parent-of-requires Inv-loop μ-loop
+parent-of-requires c κs =
+    let t = c .before .before in
+    longer t (low-in (walk t) (up t) (in-rows t) (c .before .smaller-at .ensures)) (start t .pre .1 .1 .0)
+
+parent-of-requires-2 : tie.Need-parent-of-requires-2 Inv-loop μ-loop
+parent-of-requires-2 c κs =
+    let t = c .before .before .before in
+    longer t (high-in (walk t) (up t) (in-rows t) (c .before .larger-at .ensures)) (start t .pre .1 .1 .0)
+
+mark-exterior-requires : tie.Need-mark-exterior-requires Inv-loop μ-loop
+mark-exterior-requires c κs =
+    let t = c .before .before .before .before .before in
+    longer t (high-in (walk t) (up t) (in-rows t) (c .before .before .before .larger-at .ensures)) (omega (arith, t .before .loop .inv .2, start t .pre .1 .1 .1))
+
+mark-exterior-requires-2 : tie.Need-mark-exterior-requires-2 Inv-loop μ-loop
+mark-exterior-requires-2 c κs =
+    let m = c .before .before .before in
+    let s = m .before .before .before .before .before in
+    let t = s .before in
+    longer t (low-in (walk t) (up t) (in-rows t) (s .smaller-at .ensures)) (omega (arith, m .mark-exterior .ensures .1, t .before .loop .inv .2, start t .pre .1 .1 .1))
+
+add-k : tie.Need-add-k Inv-loop μ-loop
+add-k c = search needs
+
+loop-less : tie.Need-loop-less Inv-loop μ-loop
+loop-less c = search needs
+
+loop-again : tie.Need-loop-again Inv-loop μ-loop
+loop-again c =
+    let n = c .before .before in
+    let m = n .before .before .before .before in
+    let p = m .before .before in
+    let l = p .before .before in
+    let t = l .before .before in
+    (omega (arith, up t), omega (arith, in-rows t), n .mark-exterior2 .ensures .1 ∙ m .mark-exterior .ensures .1 ∙ t .before .loop .inv .2, λ C rs w I M.
+    marking-more C rs _ _ _ _ _ I w (t .before .loop .k) (up t) (in-rows t) (l .before .smaller-at .ensures) (l .larger-at .ensures) (p .before .parent-of .ensures) (p .parent-of2 .ensures) (t .before .loop .inv .3 C rs w I M) (m .mark-exterior .ensures .0) (n .mark-exterior2 .ensures .0))
+
+same-length : tie.Need-same-length Inv-loop μ-loop
+same-length c = c .before .loop .inv .2
+
+returns : tie.Need-returns Inv-loop μ-loop
+returns c = (λ C rs w I M. marking-end C rs _ _ _ _ _ I w (c .before .loop .inv .3 C rs w I M) (c .before .loop .inv .1) (c .loop-test .left), c .before .loop .inv .2)
+
+pub mark-exteriors-spec : {M : Type 1} → statement M
+mark-exteriors-spec =
+    tie.close
+    (tie.spec
+    Inv-loop
+    μ-loop
+    loop-holds
+    smaller-at-requires
+    larger-at-requires
+    parent-of-requires
+    parent-of-requires-2
+    mark-exterior-requires
+    mark-exterior-requires-2
+    add-k
+    loop-less
+    loop-again
+    same-length
+    returns)

@@ -1,0 +1,118 @@
+use Rattle.ramp_interiors.proofs.Walks.{row-in, low-in}
+-- `owners::common_name` meets its contract. The invariant: the rows passed have the name of the first. Assumes nothing.
+use Prim.Native.Nat.{ℕ, _+_, _-_, _*_, _≤_, _<_}
+use native.Mathlib.Omega.{arith}
+use mathlib.Core.Path.{_≡_, sym, ap, ap₂, _∙_}
+use mathlib.Core.Bool.{Bool, true, false, _&&_}
+use lib.ListN.{getD}
+use lib.Arith.{lt-of-le-ne}
+use borrow.Author.Tests.{eq-eqb}
+use lib.Dec.{eqb}
+use borrow.Author.Needs.{needs}
+use Rattle.definitions.specs.Scan.{all}
+use Rattle.context.specs.Shown.{pairAt, pairsBetween}
+use Rattle.ramp_interiors.specs.Owners.{lowNamed, Common, none, one, severalNames}
+use Rattle.ramp_interiors.proofs.RowScans.{between-none, all-rows-none, all-rows-next, all-rows-end, any-rows-at}
+use Rattle.ramp_interiors.proofs.owners.common_name.Statement.{statement}
+use Rattle.ramp_interiors.proofs.owners.common_name.Tie as tie
+use Rattle.ramp_interiors.proofs.owners.common_name.Reads as reads
+use Rattle.ramp_interiors.proofs.owners.common_name.Lts as lts
+use Rattle.ramp_interiors.proofs.components.parent_of.Reads as parent-of-reads
+use Rattle.ramp_interiors.proofs.components.smaller_at.Reads as smaller-at-reads
+
+abbrev Inv-loop : tie.InvT-loop
+Inv-loop names pairs first end name k₀ k = (first + 1 ≤ k) × (k ≤ end) × (all (lowNamed names name) (pairsBetween pairs first k) ≡ true)
+
+abbrev μ-loop : tie.MeasureT-loop
+μ-loop names pairs first end name k₀ k = end - k
+
+-- at the loop's test
+module _ (c : tie.At-loop Inv-loop μ-loop) where
+  abbrev first-row : tie.After-parent-of Inv-loop μ-loop
+  first-row = c .before
+
+  abbrev start : tie.Start Inv-loop μ-loop
+  start = c .before .before .before .before .before .before
+
+-- the name of the first row
+first-named : (c : tie.After-parent-of Inv-loop μ-loop) → lowNamed (c .before .before .before .before .before .args .names .now) (c .parent-of .result) (pairAt (c .before .before .before .before .before .args .pairs .now) (c .before .before .before .before .before .args .first)) ≡ true
+first-named c = eq-eqb _ _ (sym (c .parent-of .ensures ∙ ap (λ x. getD (c .before .before .before .before .before .args .names .now) (x - 1) 0) (c .before .smaller-at .ensures)))
+
+-- there is a row
+some-row : (c : tie.Else1 Inv-loop μ-loop) → c .before .before .before .args .first < c .before .before .before .args .end
+some-row c = lt-of-le-ne (c .before .before .before .pre .rising) (c .if1 .left)
+
+-- the name of row k
+row-name : (c : tie.After-parent-of2 Inv-loop μ-loop) → c .parent-of2 .result ≡ getD (start (c .before .before .before) .args .names .now) (pairAt (start (c .before .before .before) .args .pairs .now) (c .before .before .before .loop .k) .lo - 1) 0
+row-name c = c .parent-of2 .ensures ∙ ap (λ x. getD (start (c .before .before .before) .args .names .now) (x - 1) 0) (c .before .smaller-at2 .ensures)
+
+returns : tie.Need-returns Inv-loop μ-loop
+returns c =
+    let s = c .before .before .before in
+    none (sym (ap (pairsBetween (s .args .pairs .now) (s .args .first)) (c .if1 .taken)) ∙ between-none (s .args .pairs .now) (s .args .first))
+
+smaller-at-requires : tie.Need-smaller-at-requires Inv-loop μ-loop
+smaller-at-requires c κs = row-in (c .before .before .before .pre) (omega arith) (some-row c)
+
+parent-of-requires : tie.Need-parent-of-requires Inv-loop μ-loop
+parent-of-requires c κs = low-in (c .before .before .before .before .pre) (omega arith) (some-row (c .before)) (c .smaller-at .ensures)
+
+add-k : tie.Need-add-k Inv-loop μ-loop
+add-k c = search needs
+
+loop-holds : tie.Need-loop-holds Inv-loop μ-loop
+loop-holds c =
+    let s = c .before .before .before .before .before in
+    (omega arith, omega (arith, some-row (c .before .before)), all-rows-next _ _ _ _ (omega arith) ∙ ap₂ _&&_ (all-rows-none _ _ _) (first-named c))
+
+smaller-at-requires-2 : tie.Need-smaller-at-requires-2 Inv-loop μ-loop
+smaller-at-requires-2 c κs = row-in (start (c .before) .pre) (omega (arith, c .before .loop .inv .0)) (c .loop-test .taken)
+
+parent-of-requires-2 : tie.Need-parent-of-requires-2 Inv-loop μ-loop
+parent-of-requires-2 c κs = low-in (start (c .before .before) .pre) (omega (arith, c .before .before .loop .inv .0)) (c .before .loop-test .taken) (c .smaller-at2 .ensures)
+
+returns-2 : tie.Need-returns-2 Inv-loop μ-loop
+returns-2 c =
+    let p = c .before in
+    let t = p .before .before in
+    let f = first-row (t .before) in
+    severalNames (f .parent-of .result) (p .parent-of2 .result) (λ e. c .if2 .taken (sym e))
+    (any-rows-at _ _ _ _ _ (omega arith) (some-row (f .before .before)) (first-named f))
+    (any-rows-at _ _ _ _ _ (omega (arith, t .before .loop .inv .0)) (t .loop-test .taken) (eq-eqb _ _ (sym (row-name p))))
+
+add-k-2 : tie.Need-add-k-2 Inv-loop μ-loop
+add-k-2 c = search needs
+
+loop-less : tie.Need-loop-less Inv-loop μ-loop
+loop-less c = search needs
+
+loop-again : tie.Need-loop-again Inv-loop μ-loop
+loop-again c =
+    let p = c .before in
+    let t = p .before .before in
+    (omega (arith, t .before .loop .inv .0), omega (arith, t .loop-test .taken), all-rows-next _ _ _ _ (omega (arith, t .before .loop .inv .0)) ∙ ap₂ _&&_ (t .before .loop .inv .2) (eq-eqb _ _ (sym (row-name p) ∙ c .if2 .left)))
+
+returns-3 : tie.Need-returns-3 Inv-loop μ-loop
+returns-3 c =
+    let f = first-row (c .before) in
+    one (f .parent-of .result) (sym (all-rows-end _ _ _ (c .before .loop .inv .1) (c .loop-test .left)) ∙ c .before .loop .inv .2)
+    (any-rows-at _ _ _ _ _ (omega arith) (some-row (f .before .before)) (first-named f))
+
+pub common-name-spec : {M : Type 1} → statement M
+common-name-spec =
+    tie.close
+    (tie.spec
+    Inv-loop
+    μ-loop
+    returns
+    smaller-at-requires
+    parent-of-requires
+    add-k
+    loop-holds
+    smaller-at-requires-2
+    parent-of-requires-2
+    returns-2
+    add-k-2
+    loop-less
+    loop-again
+    returns-3)

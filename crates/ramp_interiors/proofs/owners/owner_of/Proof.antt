@@ -1,0 +1,60 @@
+-- `owners::owner_of` meets its contract, by the test. Assumes nothing.
+use mathlib.Core.Path.{sym, _∙_}
+use Rattle.ramp_interiors.proofs.Preparing.{components-size}
+use Rattle.ramp_interiors.proofs.Walks.{names-long, shown-walkable}
+use Rattle.ramp_interiors.proofs.Commons.{owned-none, owned}
+use borrow.Author.Needs.{needs}
+use Rattle.ramp_interiors.proofs.owners.owner_of.Statement.{statement}
+use Rattle.ramp_interiors.proofs.owners.owner_of.Tie as tie
+use Rattle.ramp_interiors.proofs.owners.owner_of.Reads as reads
+use Rattle.ramp_interiors.proofs.owners.owner_of.Lts as lts
+use Rattle.ramp_interiors.proofs.components.is_ordinary.Reads as is-ordinary-reads
+use Rattle.ramp_interiors.proofs.owners.common_name.Reads as common-name-reads
+
+is-ordinary-requires : tie.Need-is-ordinary-requires
+is-ordinary-requires c κs = search needs
+
+mul-common-name : tie.Need-mul-common-name
+mul-common-name c = search needs
+
+element-copy-out-common-name : tie.Need-element-copy-out-common-name
+element-copy-out-common-name c = search needs
+
+add-common-name : tie.Need-add-common-name
+add-common-name c = search needs
+
+mul-common-name-2 : tie.Need-mul-common-name-2
+mul-common-name-2 c = search needs
+
+element-copy-out-common-name-2 : tie.Need-element-copy-out-common-name-2
+element-copy-out-common-name-2 c = search needs
+
+common-name-requires : tie.Need-common-name-requires
+common-name-requires c κs =
+    let s = c .before .before .before .before .before .before .before .before in
+    let K = s .pre .1 .0 in
+    shown-walkable (K .given .paired) (names-long (s .pre .0) (K .named)) (s .args .i) (s .pre .1 .1)
+
+returns : tie.Need-returns
+returns c =
+    let o = c .before .before .before in
+    λ C K l.
+    owned C _ (K .named) (components-size C) (K .given .paired) l (sym (o .before .is-ordinary .ensures C (K .given .bounds) (K .given .tallied) l) ∙ o .if1 .taken) (K .few) (c .common-name .ensures)
+
+returns-2 : tie.Need-returns-2
+returns-2 c =
+    λ C K l. owned-none C _ (sym (c .before .is-ordinary .ensures C (K .given .bounds) (K .given .tallied) l) ∙ c .if1 .left)
+
+pub owner-of-spec : {M : Type 1} → statement M
+owner-of-spec =
+    tie.close
+    (tie.spec
+    is-ordinary-requires
+    mul-common-name
+    element-copy-out-common-name
+    add-common-name
+    mul-common-name-2
+    element-copy-out-common-name-2
+    common-name-requires
+    returns
+    returns-2)

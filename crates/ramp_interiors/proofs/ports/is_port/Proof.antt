@@ -1,0 +1,49 @@
+-- `ports::is_port` meets its contract: of a candidate, the edges are the boundaries that it owns. Assumes nothing.
+use mathlib.Core.Path.{_∙_}
+use Rattle.ramp_interiors.proofs.Walks.{shown-walkable}
+use Rattle.ramp_interiors.proofs.CandidateLaws.{port-own, port-other, touches-is}
+use borrow.Author.Needs.{needs}
+use Rattle.ramp_interiors.proofs.ports.is_port.Statement.{statement}
+use Rattle.ramp_interiors.proofs.ports.is_port.Tie as tie
+use Rattle.ramp_interiors.proofs.ports.is_port.Reads as reads
+use Rattle.ramp_interiors.proofs.ports.is_port.Lts as lts
+use Rattle.ramp_interiors.proofs.owners.touches.Reads as touches-reads
+
+returns : tie.Need-returns
+returns c = λ C M l o h. port-own C _ _ (M .from) (M .upto) o l h (c .if1 .taken)
+
+mul-touches : tie.Need-mul-touches
+mul-touches c = search needs
+
+element-copy-out-touches : tie.Need-element-copy-out-touches
+element-copy-out-touches c = search needs
+
+add-touches : tie.Need-add-touches
+add-touches c = search needs
+
+mul-touches-2 : tie.Need-mul-touches-2
+mul-touches-2 c = search needs
+
+element-copy-out-touches-2 : tie.Need-element-copy-out-touches-2
+element-copy-out-touches-2 c = search needs
+
+touches-requires : tie.Need-touches-requires
+touches-requires c κs =
+    let s = c .before .before .before .before .before .before in
+    shown-walkable (s .pre .1 .0 .paired) (s .pre .1 .0 .told .long) (s .args .i) (s .pre .1 .1)
+
+returns-2 : tie.Need-returns-2
+returns-2 c = λ C M l o h. c .touches .ensures ∙ touches-is M _ l ∙ port-other C _ _ (M .from) (M .upto) o l h (c .before .before .before .if1 .left)
+
+pub is-port-spec : {M : Type 1} → statement M
+is-port-spec =
+    tie.close
+    (tie.spec
+    returns
+    mul-touches
+    element-copy-out-touches
+    add-touches
+    mul-touches-2
+    element-copy-out-touches-2
+    touches-requires
+    returns-2)

@@ -1,0 +1,90 @@
+-- `proposals::expand_ports` meets its contract, from what the two walks ensure. Assumes nothing.
+use Prim.Native.Nat.{_≤_}
+use native.Mathlib.Omega.{arith}
+use mathlib.Core.Path.{_≡_, _∙_}
+use mathlib.Core.Bool.{true}
+use lib.ListN.{length}
+use Rattle.definitions.specs.RampInteriors.{expandPort}
+use Rattle.ramp_interiors.specs.Leaves.{from}
+use Rattle.ramp_interiors.proofs.ProposalLaws.{shown-ported, both-walked}
+use borrow.Author.Needs.{needs}
+use Rattle.ramp_interiors.proofs.proposals.expand_ports.Statement.{statement}
+use Rattle.ramp_interiors.proofs.proposals.expand_ports.Tie as tie
+use Rattle.ramp_interiors.proofs.proposals.expand_ports.Reads as reads
+use Rattle.ramp_interiors.proofs.proposals.expand_ports.Lts as lts
+use Rattle.ramp_interiors.proofs.leaves.expand_port.Reads as expand-port-reads
+
+mul-expand-port : tie.Need-mul-expand-port
+mul-expand-port c = search needs
+
+element-copy-out-expand-port : tie.Need-element-copy-out-expand-port
+element-copy-out-expand-port c = search needs
+
+add-expand-port : tie.Need-add-expand-port
+add-expand-port c = search needs
+
+mul-expand-port-2 : tie.Need-mul-expand-port-2
+mul-expand-port-2 c = search needs
+
+element-copy-out-expand-port-2 : tie.Need-element-copy-out-expand-port-2
+element-copy-out-expand-port-2 c = search needs
+
+expand-port-requires : tie.Need-expand-port-requires
+expand-port-requires c κs = search needs
+
+mul-expand-port-3 : tie.Need-mul-expand-port-3
+mul-expand-port-3 c = search needs
+
+element-copy-out-expand-port-3 : tie.Need-element-copy-out-expand-port-3
+element-copy-out-expand-port-3 c = search needs
+
+add-expand-port-2 : tie.Need-add-expand-port-2
+add-expand-port-2 c = search needs
+
+mul-expand-port-4 : tie.Need-mul-expand-port-4
+mul-expand-port-4 c = search needs
+
+element-copy-out-expand-port-4 : tie.Need-element-copy-out-expand-port-4
+element-copy-out-expand-port-4 c = search needs
+
+expand-port-requires-2 : tie.Need-expand-port-requires-2
+expand-port-requires-2 c κs =
+    let e = c .before .before .before .before .before .before .before .before in
+    let s = e .before .before .before .before .before .before .before .before in
+    let w = s .pre .1 .reachable in
+    (w .0, (w .1 .0, (omega (arith, w .1 .1 .0, e .expand-port .ensures .1 .0), omega (arith, w .1 .1 .1, e .expand-port .ensures .1 .1))))
+
+same-length : tie.Need-same-length
+same-length c = search needs
+
+same-length-2 : tie.Need-same-length-2
+same-length-2 c = search needs
+
+returns : tie.Need-returns
+returns c =
+    let f = c .before .before .before .before in
+    let e = f .before .before .before .before .before .before .before .before .before in
+    (λ C rs P l m I M.
+    let A = e .expand-port .ensures .0 C _ rs true (shown-ported P _ l) I M in
+    both-walked A (f .expand-port2 .ensures .0 C _ _ _ (shown-ported P _ m) (A .held .inside) (A .cleared .marked)),
+    (f .expand-port2 .ensures .1 .0 ∙ e .expand-port .ensures .1 .0, f .expand-port2 .ensures .1 .1 ∙ e .expand-port .ensures .1 .1))
+
+pub expand-ports-spec : {M : Type 1} → statement M
+expand-ports-spec =
+    tie.close
+    (tie.spec
+    mul-expand-port
+    element-copy-out-expand-port
+    add-expand-port
+    mul-expand-port-2
+    element-copy-out-expand-port-2
+    expand-port-requires
+    mul-expand-port-3
+    element-copy-out-expand-port-3
+    add-expand-port-2
+    mul-expand-port-4
+    element-copy-out-expand-port-4
+    expand-port-requires-2
+    same-length
+    same-length-2
+    returns)

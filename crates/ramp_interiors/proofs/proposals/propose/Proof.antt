@@ -1,0 +1,170 @@
+-- `proposals::propose` meets its contract, from what its calls ensure. Assumes nothing.
+use Prim.Native.Nat.{ℕ, _<_}
+use mathlib.Core.Path.{_≡_, refl, sym, ap, _∙_}
+use mathlib.Core.Bool.{Bool, true, false, not, true≢false}
+use mathlib.Core.List.{List}
+use Rattle.definitions.specs.Context.{Context}
+use Rattle.definitions.specs.RampInteriors.{components, componentPorts}
+use Rattle.ramp_interiors.specs.Candidates.{candidate, twoPorts}
+use Rattle.ramp_interiors.specs.Proposals.{Facing}
+use Rattle.ramp_interiors.specs.declared.ports.Ports.the-variants as ports
+use Rattle.ramp_interiors.proofs.ProposalLaws.{no-candidate, no-ports, component-inside, ports-below, unfit, ports-valid, ports-invalid, facing-listed, facing-reachable}
+use borrow.Author.Needs.{needs}
+use Rattle.ramp_interiors.proofs.proposals.propose.Statement.{statement}
+use Rattle.ramp_interiors.proofs.proposals.propose.Tie as tie
+use Rattle.ramp_interiors.proofs.proposals.propose.Reads as reads
+use Rattle.ramp_interiors.proofs.proposals.propose.Lts as lts
+use Rattle.ramp_interiors.proofs.candidates.is_candidate.Reads as is-candidate-reads
+use Rattle.ramp_interiors.proofs.fits.ports_fit.Reads as ports-fit-reads
+use Rattle.ramp_interiors.proofs.ports.find_ports.Reads as find-ports-reads
+use Rattle.ramp_interiors.proofs.proposals.expand_ports.Reads as expand-ports-reads
+
+passed : (b : Bool) → not b ≡ false → b ≡ true
+passed true e = refl
+passed false e = absurd (true≢false e)
+
+-- the lists as they were handed in, for a context
+abbrev Shown : tie.Start → Context → Type 0
+Shown s C = Facing C (s .args .boundaries .now) (s .args .tallies .now) (s .args .pairs .now) (s .args .starts .now) (s .args .names .now) (s .args .marks .now) (s .args .owners .now) (s .args .count) (s .args .r)
+
+-- after `find_ports`
+module _ (c : tie.After-find-ports) where
+  abbrev start : tie.Start
+  start = c .before .before .before .before .before .before .before .before .before .before .before .before
+
+  is-candidate : (C : Context) → Shown start C → candidate C (start .args .r) ≡ true
+  is-candidate C F = sym (c .before .before .before .before .is-candidate .ensures C (F .mapped) (F .counted) (F .owned)) ∙ passed _ (c .before .before .before .if1 .left)
+
+  found-ports : (C : Context) → Shown start C → c .find-ports .result ≡ twoPorts (componentPorts C (components C) (start .args .r))
+  found-ports C F = c .find-ports .ensures C (F .mapped) (F .counted) (F .owned) (is-candidate C F)
+
+-- in the arm with two ports
+module _ (c : tie.After-known-told) where
+  abbrev asked : tie.After-find-ports
+  asked = c .before .before .before
+
+  two-found : (C : Context) → Shown (start asked) C → ports.Two (c .before .found .given .0 .0) (c .before .found .given .0 .1 .0) ≡ twoPorts (componentPorts C (components C) (start asked .args .r))
+  two-found C F = sym (c .before .found .given .1) ∙ found-ports asked C F
+
+  below : (C : Context) (F : Shown (start asked) C) → (c .before .found .given .0 .0 < C .count) × (c .before .found .given .0 .1 .0 < C .count)
+  below C F = ports-below F (is-candidate asked C F) (two-found C F)
+
+is-candidate-requires : tie.Need-is-candidate-requires
+is-candidate-requires c κs =
+    let s = c .before .before .before .before .before .before .before in
+    (s .pre .0, (s .pre .1 .mapped, s .pre .1 .counted))
+
+same-length : tie.Need-same-length
+same-length c = search needs
+
+same-length-2 : tie.Need-same-length-2
+same-length-2 c = search needs
+
+returns : tie.Need-returns
+returns c = (λ C F. no-candidate F (c .before .is-candidate .ensures C (F .mapped) (F .counted) (F .owned)) (c .if1 .taken), (refl, refl))
+
+find-ports-requires : tie.Need-find-ports-requires
+find-ports-requires c κs =
+    let s = c .before .before .before .before .before .before .before .before .before .before .before in
+    (s .pre .0, (s .pre .1 .mapped, s .pre .1 .counted))
+
+enum-told : tie.Need-enum-told
+enum-told c = search needs
+
+enum-known-found : tie.Need-enum-known-found
+enum-known-found c = search needs
+
+ports-fit-requires : tie.Need-ports-fit-requires
+ports-fit-requires c κs =
+    let s = start (asked c) in
+    let l = below c (s .pre .0) (s .pre .1) in
+    (facing-listed (s .pre .1) _ (l .0), facing-listed (s .pre .1) _ (l .1))
+
+same-length-3 : tie.Need-same-length-3
+same-length-3 c = search needs
+
+same-length-4 : tie.Need-same-length-4
+same-length-4 c = search needs
+
+returns-2 : tie.Need-returns-2
+returns-2 c =
+    let k = c .before .before in
+    (λ C F.
+    let l = below k C F in
+    unfit F (is-candidate (asked k) C F) (two-found k C F) (c .before .ports-fit .ensures C (F .given .bounds) (F .given .tallied) (l .0) (l .1)) (c .if2 .taken), (refl, refl))
+
+expand-ports-requires : tie.Need-expand-ports-requires
+expand-ports-requires c κs =
+    let k = c .before .before .before .before in
+    let s = start (asked k) in
+    let l = below k (s .pre .0) (s .pre .1) in
+    (facing-reachable (s .pre .1) _ (l .0), facing-reachable (s .pre .1) _ (l .1))
+
+same-length-5 : tie.Need-same-length-5
+same-length-5 c = search needs
+
+same-length-6 : tie.Need-same-length-6
+same-length-6 c = search needs
+
+returns-3 : tie.Need-returns-3
+returns-3 c =
+    let f = c .before .before in
+    (λ C F. no-ports F (is-candidate f C F) (sym (c .enum-told .given .1) ∙ found-ports f C F), (refl, refl))
+
+same-length-7 : tie.Need-same-length-7
+same-length-7 c = search needs
+
+same-length-8 : tie.Need-same-length-8
+same-length-8 c = search needs
+
+returns-4 : tie.Need-returns-4
+returns-4 c =
+    let x = c .before .before .before .before .before in
+    let o = x .before .before .before in
+    let k = o .before .before in
+    (λ C F.
+    let l = below k C F in
+    ports-valid F (is-candidate (asked k) C F) (two-found k C F) (o .before .ports-fit .ensures C (F .given .bounds) (F .given .tallied) (l .0) (l .1)) (o .if2 .left)
+    (x .expand-ports .ensures .0 C _ (F .given .paired) (l .0) (l .1) (component-inside F (is-candidate (asked k) C F)) (F .mapped .marked)) (c .if3 .taken), x .expand-ports .ensures .1)
+
+same-length-9 : tie.Need-same-length-9
+same-length-9 c = search needs
+
+same-length-10 : tie.Need-same-length-10
+same-length-10 c = search needs
+
+returns-5 : tie.Need-returns-5
+returns-5 c =
+    let x = c .before .before .before .before .before in
+    let o = x .before .before .before in
+    let k = o .before .before in
+    (λ C F.
+    let l = below k C F in
+    ports-invalid F (is-candidate (asked k) C F) (two-found k C F) (o .before .ports-fit .ensures C (F .given .bounds) (F .given .tallied) (l .0) (l .1)) (o .if2 .left)
+    (x .expand-ports .ensures .0 C _ (F .given .paired) (l .0) (l .1) (component-inside F (is-candidate (asked k) C F)) (F .mapped .marked)) (c .if3 .left), x .expand-ports .ensures .1)
+
+pub propose-spec : {M : Type 1} → statement M
+propose-spec =
+    tie.close
+    (tie.spec
+    is-candidate-requires
+    same-length
+    same-length-2
+    returns
+    find-ports-requires
+    enum-told
+    enum-known-found
+    ports-fit-requires
+    same-length-3
+    same-length-4
+    returns-2
+    expand-ports-requires
+    same-length-5
+    same-length-6
+    returns-3
+    same-length-7
+    same-length-8
+    returns-4
+    same-length-9
+    same-length-10
+    returns-5)

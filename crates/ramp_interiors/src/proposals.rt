@@ -1,0 +1,70 @@
+// What is found of a component before its records are looked at.
+use crate::candidates::is_candidate;
+use crate::fits::ports_fit;
+use crate::leaves::expand_port;
+use crate::ports::Ports;
+use crate::ports::find_ports;
+ghost use mathlib.Core.Path.{_≡_};
+ghost use mathlib.Core.Bool.{false};
+ghost use mathlib.Core.List.{List};
+ghost use Prim.Native.Nat.{ℕ, _<_};
+ghost use lib.ListN.{length};
+ghost use Rattle.definitions.specs.Context.{Context};
+ghost use Rattle.context.specs.Shown.{ShownPairs};
+ghost use Rattle.ramp_interiors.specs.Given.{Marked};
+ghost use Rattle.ramp_interiors.specs.Leaves.{Inside, PortReachable, BothWalked};
+ghost use Rattle.ramp_interiors.specs.Proposals.{Facing, SomeFacing, Proposed};
+
+// The leaves beyond the ports a and b. Whether both are valid.
+fn expand_ports(
+    names: &mut [u32],
+    marks: &mut [u16],
+    pairs: &[u32],
+    starts: &[usize; 257],
+    a: usize,
+    b: usize,
+    r: u32,
+) -> bool
+    requires { ⌜ PortReachable (now pairs) (now starts) (now names) (now marks) a × PortReachable (now pairs) (now starts) (now names) (now marks) b ⌝ }
+    ensures { λ x. ⌜ ((C : Context) (rs : List ℕ) → ShownPairs C (now (pairs .entry)) (now (starts .entry)) → a < C .count → b < C .count → Inside C r rs (now (names .entry)) → Marked C (λ y. false) (now (marks .entry)) → BothWalked C a b r rs (now (names .entry)) (now (names .exit)) (now (marks .entry)) (now (marks .exit)) x) ⌝ }
+    ensures { λ x. ⌜ (length (now (names .exit)) ≡ length (now (names .entry))) × (length (now (marks .exit)) ≡ length (now (marks .entry))) ⌝ }
+{
+    let first = expand_port(names, marks, pairs, starts[a], starts[a + 1], r);
+    let second = expand_port(names, marks, pairs, starts[b], starts[b + 1], r);
+    first & second
+}
+
+// The two ports of the component r, if it is a candidate with two ports that fit and are valid. The names then hold r for each of its regions and leaves.
+pub fn propose(
+    boundaries: &[u64],
+    tallies: &[u32],
+    pairs: &[u32],
+    starts: &[usize; 257],
+    names: &mut [u32],
+    marks: &mut [u16],
+    owners: &[u32; 256],
+    count: usize,
+    r: u32,
+) -> Ports
+    requires { ⌜ SomeFacing (now boundaries) (now tallies) (now pairs) (now starts) (now names) (now marks) (now owners) count r ⌝ }
+    ensures { λ x. ⌜ ((C : Context) → Facing C (now (boundaries .entry)) (now (tallies .entry)) (now (pairs .entry)) (now (starts .entry)) (now (names .entry)) (now (marks .entry)) (now (owners .entry)) count r → Proposed C r (now (names .entry)) (now (names .exit)) (now (marks .entry)) (now (marks .exit)) x) ⌝ }
+    ensures { λ x. ⌜ (length (now (names .exit)) ≡ length (now (names .entry))) × (length (now (marks .exit)) ≡ length (now (marks .entry))) ⌝ }
+{
+    if !is_candidate(pairs, starts, names, marks, owners, count, r) {
+        return Ports::Other;
+    }
+    let found = find_ports(pairs, starts, names, marks, owners, count, r);
+    match found {
+        Ports::Other => Ports::Other,
+        Ports::Two(a, b) => {
+            if !ports_fit(boundaries, tallies, a, b) {
+                return Ports::Other;
+            }
+            if expand_ports(names, marks, pairs, starts, a, b, r) {
+                Ports::Two(a, b)
+            } else {
+                Ports::Other
+            }
+        }
+    }
+}
