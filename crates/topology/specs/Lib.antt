@@ -1,1 +1,3 @@
 pub mod Filled
+pub mod Held
+pub mod Proposals

@@ -4,13 +4,14 @@ use native.Mathlib.Numerals.{add-one}
 use native.Mathlib.Nat.{add-zero}
 use native.Mathlib.Omega.{arith}
 use mathlib.Core.Path.{_≡_, refl, sym, ap, ap₂, _∙_}
-use mathlib.Core.Bool.{Bool, true, false, not, _&&_, _||_, true≢false, false≢true}
+use mathlib.Core.Bool.{Bool, true, false, not, _&&_, _||_, true≢false, false≢true, and-false}
 use mathlib.Core.Option.{Option}
 use mathlib.Core.List.{_++_}
-use lib.Dec.{ltb}
-use borrow.Author.Tests.{ltb-true, ltb-false}
+use lib.Dec.{eqb, ltb}
+use borrow.Author.Tests.{ltb-true, ltb-false, eqb-true, eq-eqb}
 use Rattle.definitions.specs.Scan.{anyBelow, allBelow, countBelow, collect, toList, bit}
-use Rattle.laws.specs.ListLaws.Below.{below-at}
+use Rattle.laws.specs.ListLaws.Below.{below-at, below-none}
+use Rattle.laws.specs.ListLaws.Disjunction.{or-middle}
 
 -- ---- one number more
 
@@ -113,3 +114,21 @@ any-fails-at f n h j l = go (f j) refl
     go : (b : Bool) → f j ≡ b → b ≡ false
     go true e = absurd (true≢false (sym (below-at n f j l e) ∙ h))
     go false e = refl
+
+-- ---- alternatives, and one place
+
+pub any-either : (f g : ℕ → Bool) (n : ℕ) → anyBelow n (λ j. f j || g j) ≡ (anyBelow n f || anyBelow n g)
+unfolding anyBelow
+any-either f g zero = refl
+any-either f g (suc n) = ap (λ b. b || (f n || g n)) (any-either f g n) ∙ or-middle (anyBelow n f) (anyBelow n g) (f n) (g n)
+
+pub any-one : (f : ℕ → Bool) (n a : ℕ) → a < n → anyBelow n (λ j. f j && eqb j a) ≡ f a
+any-one f n a l = go (f a) refl
+  where
+    at : (j : ℕ) → f a ≡ false → (b : Bool) → eqb j a ≡ b → (f j && b) ≡ false
+    at j h true e = ap (λ x. x && true) (ap f (eqb-true j a e) ∙ h)
+    at j h false e = and-false (f j)
+
+    go : (b : Bool) → f a ≡ b → anyBelow n (λ j. f j && eqb j a) ≡ b
+    go true e = below-at n (λ j. f j && eqb j a) a l (ap₂ _&&_ e (eq-eqb a a refl))
+    go false e = below-none n (λ j. f j && eqb j a) (λ j h. at j e (eqb j a) refl)

@@ -1,0 +1,3 @@
+mod Corners
+mod Regions
+mod Rows

@@ -1,0 +1,54 @@
+-- `is_allowed` meets its contract: what it reads of the row and of the lists is what the context says. Assumes nothing.
+use Prim.Native.Nat.{_+_, _≤_}
+use native.Mathlib.Omega.{arith}
+use mathlib.Core.Path.{ap₂}
+use mathlib.Core.Bool.{Bool, true, false}
+use borrow.Author.Needs.{needs}
+use Rattle.definitions.specs.Scan.{bit}
+use Rattle.geometry.specs.Ends.{limits}
+use Rattle.junctions.specs.Unions.{markAt}
+use Rattle.junctions.specs.Rows.{rowAt}
+use Rattle.junction_regions.proofs.Rows.{ends-are, row-pixels, first-on, second-on, allowed-bridge, allowed-union}
+use Rattle.junction_regions.proofs.is_allowed.Statement.{statement}
+use Rattle.junction_regions.proofs.is_allowed.Tie as tie
+
+bit-le : (b : Bool) → bit b ≤ 1
+bit-le true = omega arith
+bit-le false = omega arith
+
+bridge-region-requires : tie.Need-bridge-region-requires
+bridge-region-requires c κs =
+    let (C, h) = c .before .before .before .before .before .before .before .before .pre in
+    let ends = row-pixels h (ends-are h (c .before .before .before .wide .ensures) (c .before .before .endpoints-of .ensures)) in
+    (first-on h .edges, (limits (ends .first), limits (ends .second)))
+
+returns : tie.Need-returns
+returns c = λ C h. allowed-bridge h (ends-are h (c .before .before .before .before .wide .ensures) (c .before .before .before .endpoints-of .ensures)) (c .before .if1 .taken) (c .bridge-region .ensures)
+
+add-anchored : tie.Need-add-anchored
+add-anchored c =
+    let a = c .before .before .before .before .before .before .before .before .before .before .before .before .args in
+    omega (arith, c .before .before .anchored-bit .ensures, c .anchored-bit2 .ensures, bit-le (markAt (a .marks .now) (rowAt (a .rows .now) (a .k) .first)), bit-le (markAt (a .marks .now) (rowAt (a .rows .now) (a .k) .second)))
+
+union-regions-requires : tie.Need-union-regions-requires
+union-regions-requires c κs =
+    let (C, h) = c .before .before .before .before .before .before .before .before .before .before .before .before .pre in
+    let ends = row-pixels h (ends-are h (c .before .before .before .before .before .before .before .wide .ensures) (c .before .before .before .before .before .before .endpoints-of .ensures)) in
+    (first-on h, (second-on h, (limits (ends .first), limits (ends .second))))
+
+returns-2 : tie.Need-returns-2
+returns-2 c = λ C h. allowed-union h (ends-are h (c .before .before .before .before .before .before .before .before .wide .ensures) (c .before .before .before .before .before .before .before .endpoints-of .ensures)) (c .before .before .before .before .before .if1 .left) (ap₂ _+_ (c .before .before .before .anchored-bit .ensures) (c .before .anchored-bit2 .ensures)) (c .union-regions .ensures)
+
+pub is-allowed-spec : {M : Type 1} → statement M
+is-allowed-spec =
+    tie.close
+    (tie.spec
+    (λ c. search needs) (λ c. search needs) (λ c. search needs) (λ c κs. search needs)
+    (λ c κs. search needs) (λ c. search needs) (λ c. search needs) (λ c. search needs)
+    bridge-region-requires
+    returns
+    (λ c. search needs) (λ c. search needs) (λ c. search needs) (λ c κs. search needs)
+    (λ c. search needs) (λ c. search needs) (λ c. search needs) (λ c κs. search needs)
+    add-anchored
+    union-regions-requires
+    returns-2)

@@ -1,0 +1,92 @@
+-- The rows that are found, of which the records allow some, are the proposals of the context that the lists show. Assumes nothing.
+use Prim.Native.Nat.{ℕ, zero, suc, _≤_, _<_}
+use native.Mathlib.Omega.{arith}
+use mathlib.Core.Path.{_≡_, refl, sym, ap, ap₂, _∙_}
+use mathlib.Core.Bool.{Bool, true, false, not}
+use mathlib.Core.Option.{Option, some}
+use mathlib.Core.List.{List, _++_}
+use lib.ListN.{getD}
+use lib.Dec.{eqb, ltb}
+use borrow.Author.Tests.{ltb-true, ltb-false, eqb-false}
+use Rattle.definitions.specs.Scan.{collect, filter, toList, onlyIf}
+use Rattle.definitions.specs.Context.{Context}
+use Rattle.definitions.specs.Junctions.{unionProposal, bridgeProposal, proposals}
+use Rattle.laws.specs.ListLaws.Lists.{All, done, more, all-append, all-split, filter-append}
+use Rattle.laws.specs.ListLaws.ScansOfAll.{collect-below}
+use Rattle.laws.specs.ListLaws.Options.{on-list}
+use Rattle.laws.specs.ListLaws.Tests.{both}
+use Rattle.junctions.specs.Lent.{LentPairs, Shows}
+use Rattle.junctions.specs.Unions.{isUnionAt, shapeAt}
+use Rattle.junctions.specs.Bridges.{isBridgeAt}
+use Rattle.junctions.specs.Rows.{rowAt, rowsOf, unionAt, isAllowed, RowFits}
+use Rattle.junctions.proofs.Shapes.{negated-true}
+use Rattle.junctions.proofs.UnionRows.{union-row}
+use Rattle.junctions.proofs.BridgeRows.{bridge-row}
+use Rattle.junctions.proofs.BridgeIndex.{bridge-fits}
+
+-- ---- what is collected
+
+pub collect-filter : {A : Type 0} (f : A → Bool) (n : ℕ) (g h : ℕ → Option A) → ((i : ℕ) → i < n → filter f (toList (g i)) ≡ toList (h i)) → filter f (collect n g) ≡ collect n h
+unfolding collect filter
+collect-filter f zero g h e = refl
+collect-filter f (suc n) g h e = filter-append f (collect n g) (toList (g n)) ∙ ap₂ _++_ (collect-filter f n g h (λ i l. e i (omega arith))) (e n (omega arith))
+
+collected-at : {A : Type 0} {P : A → Type 0} (g : ℕ → A) (n : ℕ) → All P (collect n (λ k. some (g k))) → (k : ℕ) → k < n → P (g k)
+unfolding collect
+collected-at g zero a k l = absurd (omega arith)
+collected-at {A} {P} g (suc n) a k l = go (all-split (collect n (λ k. some (g k))) a) (ltb k n) refl (λ b. collected-at g n b k)
+  where
+    one : {x : A} → All P (toList (some x)) → P x
+    one (more h done) = h
+
+    go : All P (collect n (λ k. some (g k))) × All P (toList (some (g n))) → (b : Bool) → ltb k n ≡ b → (All P (collect n (λ k. some (g k))) → k < n → P (g k)) → P (g k)
+    go s true e ih = ih (s .0) (ltb-true k n e)
+    go s false e ih = rw last (one (s .1))
+      where
+        last : k ≡ n
+        last = omega (arith, ltb-false k n e)
+
+-- ---- the rows
+
+-- the lists, at the context's own counts
+pub shows-own : {boundaries smaller larger counts marks : List ℕ} {count regions : ℕ} {C : Context} → Shows boundaries smaller larger counts marks count regions C → Shows boundaries smaller larger counts marks (C .count) (C .regions) C
+shows-own s =
+    record {
+      counted = refl;
+      labelled = refl;
+      labels = omega (arith, s .labels, s .labelled);
+      bounds = s .bounds;
+      pairs = s .pairs;
+      incidents = s .incidents;
+      anchored = s .anchored;
+      sound = s .sound;
+      pixels = s .pixels;
+    }
+
+module _ (boundaries smaller larger counts marks rows : List ℕ) (count regions n : ℕ) (are : rowsOf rows n ≡ collect count (unionAt boundaries smaller larger counts marks count) ++ collect regions (λ k. isBridgeAt boundaries smaller larger marks (suc k) counts count)) where
+  pub rows-proposed : (C : Context) → Shows boundaries smaller larger counts marks count regions C → filter (isAllowed C) (rowsOf rows n) ≡ proposals C
+  unfolding proposals
+  rows-proposed C s =
+      ap (filter (isAllowed C)) (are ∙ (λ t. collect (sym (s .counted) t) (unionAt boundaries smaller larger counts marks (sym (s .counted) t)) ++ collect (sym (s .labelled) t) (λ k. isBridgeAt boundaries smaller larger marks (suc k) counts (sym (s .counted) t))))
+      ∙ filter-append (isAllowed C) (collect (C .count) (unionAt boundaries smaller larger counts marks (C .count))) (collect (C .regions) (λ k. isBridgeAt boundaries smaller larger marks (suc k) counts (C .count)))
+      ∙ ap₂ _++_ (collect-filter (isAllowed C) (C .count) _ (unionProposal C) (union-row boundaries smaller larger counts marks C (shows-own s)))
+      (collect-filter (isAllowed C) (C .regions) _ (λ k. bridgeProposal C (suc k)) (λ k l. bridge-row boundaries smaller larger counts marks C (shows-own s) (suc k) (omega arith) (omega arith)))
+
+  union-fits : LentPairs smaller larger count regions → (i : ℕ) → i < count → All (RowFits count regions) (toList (unionAt boundaries smaller larger counts marks count i))
+  unfolding isUnionAt
+  union-fits pairs i l = go (isUnionAt boundaries smaller larger counts marks count i) refl
+    where
+      go : (b : Bool) → isUnionAt boundaries smaller larger counts marks count i ≡ b → All (RowFits count regions) (toList (onlyIf b (record { index = i; kind = 0; first = getD smaller i 0; second = getD larger i 0 })))
+      go false e = done
+      go true e =
+          let full = eqb-false (getD smaller i 0) 0 (negated-true (eqb (getD smaller i 0) 0) (both (not (eqb (getD smaller i 0) 0)) (shapeAt boundaries smaller larger count i (record { lo = getD smaller i 0; hi = getD larger i 0 }) counts marks) e .0)) in
+          let low : 1 ≤ getD smaller i 0 = omega (arith, full) in
+          let named = pairs .named i l low in
+          more {x = record { index = i; kind = 0; first = getD smaller i 0; second = getD larger i 0 }} (record { index-in = l; kind-in = omega arith; first-from = low; first-to = omega (arith, named); second-from = omega (arith, named); second-to = named .1 }) done
+
+  pub rows-fit : LentPairs smaller larger count regions → (k : ℕ) → k < n → RowFits count regions (rowAt rows k)
+  unfolding rowsOf
+  rows-fit pairs =
+      collected-at {P = RowFits count regions} (rowAt rows) n
+      (rw are (all-append (collect-below (RowFits count regions) (unionAt boundaries smaller larger counts marks count) count (union-fits pairs))
+      (collect-below (RowFits count regions) (λ k. isBridgeAt boundaries smaller larger marks (suc k) counts count) regions (λ k l. on-list (bridge-fits boundaries smaller larger marks (suc k) count regions pairs (omega arith) (omega arith) counts)))))

@@ -1,0 +1,92 @@
+-- `junctions::bridges::is_shared` meets its contract, from what its callees ensure; the regions of a full pair are labelled. Assumes nothing.
+use native.Mathlib.Omega.{arith}
+use mathlib.Core.Path.{ap, _∙_}
+use mathlib.Core.Bool.{not, _&&_}
+use lib.ListN.{length, getD}
+use lib.Dec.{eqb}
+use Rattle.junctions.specs.Unions.{markAt}
+use Rattle.junctions.specs.Bridges.{isSharedAt}
+use Rattle.junctions.proofs.BridgeTests.{bit-is-one, beyond-within}
+use borrow.Author.Needs.{needs}
+use Rattle.junctions.proofs.bridges.is_shared.Statement.{statement}
+use Rattle.junctions.proofs.bridges.is_shared.Tie as tie
+
+mul-region-beyond : tie.Need-mul-region-beyond
+mul-region-beyond c = search needs
+
+element-copy-out-region-beyond : tie.Need-element-copy-out-region-beyond
+element-copy-out-region-beyond c = search needs
+
+mul-region-beyond-2 : tie.Need-mul-region-beyond-2
+mul-region-beyond-2 c = search needs
+
+element-copy-out-region-beyond-2 : tie.Need-element-copy-out-region-beyond-2
+element-copy-out-region-beyond-2 c = search needs
+
+region-beyond-requires : tie.Need-region-beyond-requires
+region-beyond-requires c κs = search needs
+
+mul-region-beyond-3 : tie.Need-mul-region-beyond-3
+mul-region-beyond-3 c = search needs
+
+element-copy-out-region-beyond-3 : tie.Need-element-copy-out-region-beyond-3
+element-copy-out-region-beyond-3 c = search needs
+
+mul-region-beyond-4 : tie.Need-mul-region-beyond-4
+mul-region-beyond-4 c = search needs
+
+element-copy-out-region-beyond-4 : tie.Need-element-copy-out-region-beyond-4
+element-copy-out-region-beyond-4 c = search needs
+
+region-beyond-requires-2 : tie.Need-region-beyond-requires-2
+region-beyond-requires-2 c κs = search needs
+
+mul-region-beyond-5 : tie.Need-mul-region-beyond-5
+mul-region-beyond-5 c = search needs
+
+element-copy-out-region-beyond-5 : tie.Need-element-copy-out-region-beyond-5
+element-copy-out-region-beyond-5 c = search needs
+
+mul-region-beyond-6 : tie.Need-mul-region-beyond-6
+mul-region-beyond-6 c = search needs
+
+element-copy-out-region-beyond-6 : tie.Need-element-copy-out-region-beyond-6
+element-copy-out-region-beyond-6 c = search needs
+
+region-beyond-requires-3 : tie.Need-region-beyond-requires-3
+region-beyond-requires-3 c κs = search needs
+
+anchored-bit-requires : tie.Need-anchored-bit-requires
+anchored-bit-requires c κs =
+    let s = c .before .before .before .before .before .before .before .before .before .before in
+    let t = s .pre .1 .1 .1 .1 in
+    let n = s .pre .1 .0 .named (s .args .t) (t .below) (t .full) in
+    beyond-within (s .args .r) (length (s .args .marks .now)) (record { lo = getD (s .args .smaller .now) (s .args .t) 0; hi = getD (s .args .larger .now) (s .args .t) 0 }) (c .region-beyond3 .ensures) (t .full) (n .0) (omega (arith, n, s .pre .0))
+
+returns : tie.Need-returns
+unfolding isSharedAt
+returns c =
+    λ x. eqb (c .before .before .before .before .before .before .before .region-beyond .ensures x) (c .before .before .before .before .region-beyond2 .ensures x) && not (eqb (c .before .region-beyond3 .ensures x) (c .before .before .before .before .before .before .before .region-beyond .ensures x))
+    && (ap (λ n. eqb n 1) (c .anchored-bit .ensures) ∙ bit-is-one (markAt (c .before .before .before .before .before .before .before .before .before .before .before .args .marks .now) (c .before .region-beyond3 .result)) ∙ ap (markAt (c .before .before .before .before .before .before .before .before .before .before .before .args .marks .now)) (c .before .region-beyond3 .ensures)) x
+
+pub is-shared-spec : {M : Type 1} → statement M
+is-shared-spec =
+    tie.close
+    (tie.spec
+    mul-region-beyond
+    element-copy-out-region-beyond
+    mul-region-beyond-2
+    element-copy-out-region-beyond-2
+    region-beyond-requires
+    mul-region-beyond-3
+    element-copy-out-region-beyond-3
+    mul-region-beyond-4
+    element-copy-out-region-beyond-4
+    region-beyond-requires-2
+    mul-region-beyond-5
+    element-copy-out-region-beyond-5
+    mul-region-beyond-6
+    element-copy-out-region-beyond-6
+    region-beyond-requires-3
+    anchored-bit-requires
+    returns)

@@ -1,0 +1,25 @@
+-- `junctions::distances::is_near_port` meets its contract, from what its callees ensure. Assumes nothing.
+use Prim.Native.Nat.{_*_}
+use mathlib.Core.Path.{ap, _∙_}
+use lib.Ieee.{binary64, ofBits}
+use borrow.Author.Needs.{needs}
+use Rattle.definitions.specs.Limits.{numbersPerBoundary}
+use Rattle.definitions.specs.Grid.{segmentAt}
+use Rattle.definitions.specs.Geometry.{center}
+use Rattle.definitions.specs.Junctions.{withinDistance}
+use Rattle.junctions.specs.Unions.{isNear}
+use Rattle.junctions.proofs.Literals.{port-limit-is}
+use Rattle.junctions.proofs.Near.{centers-within}
+use Rattle.junctions.proofs.distances.is_near_port.Statement.{statement}
+use Rattle.junctions.proofs.distances.is_near_port.Tie as tie
+
+returns : tie.Need-returns
+unfolding isNear
+returns c =
+    let s = c .before .before .before .before in
+    let l = s .args .boundaries .now in
+    centers-within (ofBits binary64 0x4078000000000000) (s .pre .0 .pixels) (s .pre .1 .pixels) (c .before .before .center-of .ensures) (c .before .center-of2 .ensures) (c .within-distance .ensures)
+    ∙ ap (withinDistance (center (segmentAt l (numbersPerBoundary * s .args .i))) (center (segmentAt l (numbersPerBoundary * s .args .j)))) port-limit-is
+
+pub is-near-port-spec : {M : Type 1} → statement M
+is-near-port-spec = tie.close (tie.spec (λ c κs. search needs) (λ c κs. search needs) (λ c κs. search needs) returns)

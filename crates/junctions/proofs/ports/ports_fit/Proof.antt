@@ -1,0 +1,232 @@
+-- `junctions::ports::ports_fit` meets its contract. The outer loop's invariant: the regions of the sides below `side` fit. The inner loop's: `met` full pairs below j name
+-- the region, and none of them is unfit. The measures are how many sides and how many boundaries are left. Assumes nothing.
+use Prim.Native.Nat.{ℕ, _-_, _≤_, _<_}
+use native.Mathlib.Omega.{arith}
+use native.Mathlib.Nat.{le-antisymm}
+use mathlib.Core.Path.{_≡_, refl, sym, ap, _∙_}
+use mathlib.Core.Bool.{Bool, true, false}
+use mathlib.Core.List.{List}
+use mathlib.Core.Logic.{⊎-elim}
+use lib.ListN.{length, getD}
+use Rattle.definitions.specs.Scan.{allBelow}
+use Rattle.definitions.specs.Grid.{Pair}
+use Rattle.laws.specs.ListLaws.ScanSteps.{all-more, all-fails}
+use Rattle.junctions.specs.Ports.{sideOf, regionFits, walkFits}
+use Rattle.junctions.proofs.Walk.{side-within, Met, met-start, met-few, met-other, met-named, region-stops, region-passes, region-short}
+use borrow.Author.Needs.{needs}
+use Rattle.junctions.proofs.ports.ports_fit.Statement.{statement}
+use Rattle.junctions.proofs.ports.ports_fit.Tie as tie
+
+abbrev pair : ℕ → ℕ → Pair
+pair lo hi = record { lo = lo; hi = hi }
+
+abbrev Inv-loop : tie.InvT-loop
+Inv-loop smaller larger counts count index lo hi fit₀ side region met₀ j₀ fit met j =
+    (j ≤ count) × ((fit ≡ true) × Met smaller larger index (pair lo hi) region j met)
+
+abbrev μ-loop : tie.MeasureT-loop
+μ-loop smaller larger counts count index lo hi fit₀ side region met₀ j₀ fit met j =
+    count - j
+
+abbrev Inv-regions : tie.InvT-regions
+Inv-regions smaller larger counts count index lo hi fit₀ side₀ fit side =
+    (side ≤ 2) × ((fit ≡ true) × (allBelow side (λ s. regionFits smaller larger counts count index (pair lo hi) (sideOf (pair lo hi) s)) ≡ true))
+
+abbrev μ-regions : tie.MeasureT-regions
+μ-regions smaller larger counts count index lo hi fit₀ side₀ fit side =
+    2 - side
+
+-- from the function's entry: the union, and what is said of the region that a side stands for
+module _ (s : tie.Start Inv-loop μ-loop Inv-regions μ-regions) where
+  abbrev smaller : List ℕ
+  smaller = s .args .smaller .now
+
+  abbrev larger : List ℕ
+  larger = s .args .larger .now
+
+  abbrev counts : List ℕ
+  counts = s .args .counts .now
+
+  abbrev union : Pair
+  union = pair (getD smaller (s .args .index) 0) (getD larger (s .args .index) 0)
+
+  abbrev fitting : ℕ → Bool
+  fitting = regionFits smaller larger counts (s .args .count) (s .args .index) union
+
+  abbrev fits : ℕ → Bool
+  fits side = fitting (sideOf union side)
+
+  walked : {side : ℕ} {b : Bool} → side ≤ 2 → 2 ≤ side → b ≡ true → allBelow side fits ≡ true → b ≡ walkFits smaller larger counts (s .args .count) (s .args .index) union
+  unfolding walkFits
+  walked a b e h = e ∙ sym (ap (λ n. allBelow n fits) (le-antisymm b a) ∙ h)
+
+  stopped : {side : ℕ} → side < 2 → fits side ≡ false → false ≡ walkFits smaller larger counts (s .args .count) (s .args .index) union
+  unfolding walkFits
+  stopped {side} a h = sym (all-fails fits 2 side a h)
+
+-- at a turn over one region
+module _ (c : tie.After-region-of Inv-loop μ-loop Inv-regions μ-regions) where
+  abbrev start : tie.Start Inv-loop μ-loop Inv-regions μ-regions
+  start = c .before .before .before .before .before .before
+
+  abbrev side : ℕ
+  side = c .before .before .regions .side
+
+  abbrev region : ℕ
+  region = c .region-of .result
+
+  -- this region has a count
+  counted : (1 ≤ region) × (region ≤ length (counts start))
+  counted = side-within (λ r. (1 ≤ r) × (r ≤ length (counts start))) (union start) side (c .region-of .ensures) (start .pre .1 .0) (start .pre .1 .1)
+
+  -- what is found of this region is found of its side
+  sided : {b : Bool} → fitting start region ≡ b → fits start side ≡ b
+  sided e = sym (ap (fitting start) (c .region-of .ensures)) ∙ e
+
+-- what the region's count was compared with
+compared : (c : tie.After-wide2 Inv-loop μ-loop Inv-regions μ-regions) → c .wide2 .result ≡ getD (counts (start (c .before .before .before .before .before))) (region (c .before .before .before .before .before) - 1) 0
+compared c = c .wide2 .ensures ∙ ap (λ r. getD (counts (start (c .before .before .before .before .before))) (r - 1) 0) (c .before .before .wide .ensures)
+
+mul-lo : tie.Need-mul-lo Inv-loop μ-loop Inv-regions μ-regions
+mul-lo c = search needs
+
+element-copy-out-lo : tie.Need-element-copy-out-lo Inv-loop μ-loop Inv-regions μ-regions
+element-copy-out-lo c = search needs
+
+mul-hi : tie.Need-mul-hi Inv-loop μ-loop Inv-regions μ-regions
+mul-hi c = search needs
+
+element-copy-out-hi : tie.Need-element-copy-out-hi Inv-loop μ-loop Inv-regions μ-regions
+element-copy-out-hi c = search needs
+
+regions-holds : tie.Need-regions-holds Inv-loop μ-loop Inv-regions μ-regions
+unfolding allBelow
+regions-holds c = (search needs, (refl, refl))
+
+region-of-requires : tie.Need-region-of-requires Inv-loop μ-loop Inv-regions μ-regions
+region-of-requires c κs = search needs
+
+loop-holds : tie.Need-loop-holds Inv-loop μ-loop Inv-regions μ-regions
+loop-holds c = (search needs, (c .before .before .regions .inv .1 .0, met-start _ _ _ _ _))
+
+mul-a : tie.Need-mul-a Inv-loop μ-loop Inv-regions μ-regions
+mul-a c = search needs
+
+element-copy-out-a : tie.Need-element-copy-out-a Inv-loop μ-loop Inv-regions μ-regions
+element-copy-out-a c = search needs
+
+mul-b : tie.Need-mul-b Inv-loop μ-loop Inv-regions μ-regions
+mul-b c = search needs
+
+element-copy-out-b : tie.Need-element-copy-out-b Inv-loop μ-loop Inv-regions μ-regions
+element-copy-out-b c = search needs
+
+names-region-requires : tie.Need-names-region-requires Inv-loop μ-loop Inv-regions μ-regions
+names-region-requires c κs = search needs
+
+fits-union-requires : tie.Need-fits-union-requires Inv-loop μ-loop Inv-regions μ-regions
+fits-union-requires c κs = search needs
+
+add-met : tie.Need-add-met Inv-loop μ-loop Inv-regions μ-regions
+add-met c = omega (arith, met-few _ _ _ _ _ (c .before .before .before .before .before .before .before .loop .inv .1 .1))
+
+add-j : tie.Need-add-j Inv-loop μ-loop Inv-regions μ-regions
+add-j c = search needs
+
+loop-less : tie.Need-loop-less Inv-loop μ-loop Inv-regions μ-regions
+loop-less c = search needs
+
+loop-again : tie.Need-loop-again Inv-loop μ-loop Inv-regions μ-regions
+loop-again c =
+    let n = c .before in
+    let l = n .before .before .before .before in
+    (search needs, (l .loop .inv .1 .0, ⊎-elim
+    (λ w. met-named _ _ _ _ _ (l .loop .inv .1 .1) (n .names-region .ensures) (w .0 .taken) (w .1 .ensures) (w .2 .left) (w .3))
+    (λ w. met-other _ _ _ _ _ (l .loop .inv .1 .1) (n .names-region .ensures) (w .0 .left) (w .1))
+    (c .if1 .came)))
+
+wide-requires : tie.Need-wide-requires Inv-loop μ-loop Inv-regions μ-regions
+wide-requires c κs = search needs
+
+sub-wide : tie.Need-sub-wide Inv-loop μ-loop Inv-regions μ-regions
+sub-wide c = omega (arith, counted (c .before .before .before), c .wide .ensures)
+
+mul-wide : tie.Need-mul-wide Inv-loop μ-loop Inv-regions μ-regions
+mul-wide c = search needs
+
+shared-slice-read-wide : tie.Need-shared-slice-read-wide Inv-loop μ-loop Inv-regions μ-regions
+shared-slice-read-wide c = omega (arith, counted (c .before .before .before .before), c .before .wide .ensures)
+
+wide-requires-2 : tie.Need-wide-requires-2 Inv-loop μ-loop Inv-regions μ-regions
+wide-requires-2 c κs = search needs
+
+add-side : tie.Need-add-side Inv-loop μ-loop Inv-regions μ-regions
+add-side c = search needs
+
+regions-less : tie.Need-regions-less Inv-loop μ-loop Inv-regions μ-regions
+regions-less c = search needs
+
+regions-again : tie.Need-regions-again Inv-loop μ-loop Inv-regions μ-regions
+regions-again c =
+    let l = c .before .before .before .before .before in
+    let r = l .before in
+    (search needs, (l .loop .inv .1 .0, all-more (fits (start r)) (side r) (r .before .before .regions .inv .1 .1)
+    (sided r (region-passes _ _ _ _ _ _ _ (l .loop .inv .1 .1) (l .loop .inv .0) (c .before .before .before .before .loop-test .left) (c .if3 .left ∙ compared (c .before))))))
+
+returns : tie.Need-returns Inv-loop μ-loop Inv-regions μ-regions
+returns c =
+    let r = c .before in
+    walked (r .before .before .before .before) (r .regions .inv .0) (c .regions-test .left) (r .regions .inv .1 .0) (r .regions .inv .1 .1)
+
+returns-2 : tie.Need-returns-2 Inv-loop μ-loop Inv-regions μ-regions
+returns-2 c =
+    let n = c .before .before .before in
+    let r = n .before .before .before .before .before in
+    let s = start r in
+    stopped s (r .before .regions-test .taken)
+    (sided r (region-stops (smaller s) (larger s) (s .args .index) (union s) (region r) (counts s) (s .args .count) (n .before .before .before .loop-test .taken) (n .names-region .ensures) (c .before .before .if1 .taken) (c .before .fits-union .ensures) (c .if2 .taken)))
+
+returns-3 : tie.Need-returns-3 Inv-loop μ-loop Inv-regions μ-regions
+returns-3 c =
+    let l = c .before .before .before .before .before in
+    let r = l .before in
+    let s = start r in
+    stopped s (r .before .regions-test .taken)
+    (sided r (region-short (smaller s) (larger s) (s .args .index) (union s) (region r) (counts s) (s .args .count) (l .loop .inv .1 .1) (l .loop .inv .0) (c .before .before .before .before .loop-test .left) (λ e. c .if3 .taken (e ∙ sym (compared (c .before))))))
+
+pub ports-fit-spec : {M : Type 1} → statement M
+ports-fit-spec =
+    tie.close
+    (tie.spec
+    Inv-loop
+    μ-loop
+    Inv-regions
+    μ-regions
+    mul-lo
+    element-copy-out-lo
+    mul-hi
+    element-copy-out-hi
+    regions-holds
+    region-of-requires
+    loop-holds
+    mul-a
+    element-copy-out-a
+    mul-b
+    element-copy-out-b
+    names-region-requires
+    fits-union-requires
+    add-met
+    add-j
+    loop-less
+    loop-again
+    wide-requires
+    sub-wide
+    mul-wide
+    shared-slice-read-wide
+    wide-requires-2
+    add-side
+    regions-less
+    regions-again
+    returns
+    returns-2
+    returns-3)

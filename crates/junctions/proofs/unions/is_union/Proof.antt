@@ -1,0 +1,147 @@
+-- `junctions::unions::is_union` meets its contract, from what its callees ensure: each return by the tests that led there. Assumes nothing.
+use Prim.Native.Nat.{ℕ, _≤_, _<_, _+_}
+use native.Mathlib.Omega.{arith}
+use mathlib.Core.Path.{_≡_, ap, ap₂, _∙_}
+use mathlib.Core.Bool.{Bool, true, false}
+use mathlib.Core.List.{List}
+use lib.ListN.{getD}
+use lib.Dec.{eqb}
+use borrow.Author.Tests.{eq-eqb, ne-eqb}
+use Rattle.definitions.specs.Scan.{bit}
+use Rattle.junctions.specs.Unions.{markAt, portsPass}
+use Rattle.junctions.proofs.Shapes.{no-pair, has-ramp, both-anchored, is-unfit, too-few, by-ports}
+use borrow.Author.Needs.{needs}
+use Rattle.junctions.proofs.unions.is_union.Statement.{statement}
+use Rattle.junctions.proofs.unions.is_union.Tie as tie
+
+bit-le : (b : Bool) → bit b ≤ 1
+bit-le true = omega arith
+bit-le false = omega arith
+
+-- the lists that are lent
+module _ (s : tie.Start) where
+  abbrev boundaries : List ℕ
+  boundaries = s .args .boundaries .now
+
+  abbrev smaller : List ℕ
+  smaller = s .args .smaller .now
+
+  abbrev larger : List ℕ
+  larger = s .args .larger .now
+
+  abbrev counts : List ℕ
+  counts = s .args .counts .now
+
+  abbrev marks : List ℕ
+  marks = s .args .marks .now
+
+  abbrev lo : ℕ
+  lo = getD smaller (s .args .index) 0
+
+  abbrev hi : ℕ
+  hi = getD larger (s .args .index) 0
+
+  -- both regions are labelled
+  named : (lo ≡ 0 → ⊥) → (1 ≤ lo) × ((lo < hi) × (hi ≤ s .args .regions))
+  named e = (omega arith, s .pre .0 .pairs .named (s .args .index) (s .pre .1) (omega arith))
+
+mul-lo : tie.Need-mul-lo
+mul-lo c = search needs
+
+element-copy-out-lo : tie.Need-element-copy-out-lo
+element-copy-out-lo c = search needs
+
+mul-hi : tie.Need-mul-hi
+mul-hi c = search needs
+
+element-copy-out-hi : tie.Need-element-copy-out-hi
+element-copy-out-hi c = search needs
+
+returns : tie.Need-returns
+returns c =
+    let s = c .before .before .before .before .before .before in
+    no-pair (boundaries s) (smaller s) (larger s) (counts s) (marks s) (s .args .count) (s .args .index) (c .if1 .taken)
+
+mul-if2 : tie.Need-mul-if2
+mul-if2 c = search needs
+
+add-if2 : tie.Need-add-if2
+add-if2 c = search needs
+
+mul-if2-2 : tie.Need-mul-if2-2
+mul-if2-2 c = search needs
+
+shared-slice-read-if2 : tie.Need-shared-slice-read-if2
+shared-slice-read-if2 c = search needs
+
+returns-2 : tie.Need-returns-2
+returns-2 c =
+    let s = c .before .before .before .before .before .before .before .before in
+    has-ramp (boundaries s) (smaller s) (larger s) (counts s) (marks s) (s .args .count) (s .args .index) (c .before .before .if1 .left) (ne-eqb _ 0 (c .if2 .taken))
+
+anchored-bit-requires : tie.Need-anchored-bit-requires
+anchored-bit-requires c κs = omega (arith, named (c .before .before .before .before .before .before .before .before) (c .before .before .if1 .left), c .before .before .before .before .before .before .before .before .pre .0 .marksLong)
+
+anchored-bit-requires-2 : tie.Need-anchored-bit-requires-2
+anchored-bit-requires-2 c κs = omega (arith, named (c .before .before .before .before .before .before .before .before .before) (c .before .before .before .if1 .left), c .before .before .before .before .before .before .before .before .before .pre .0 .marksLong)
+
+add-anchored : tie.Need-add-anchored
+add-anchored c = omega (arith, c .anchored-bit2 .ensures, c .before .anchored-bit .ensures, bit-le (markAt (marks (c .before .before .before .before .before .before .before .before .before .before)) (lo (c .before .before .before .before .before .before .before .before .before .before))), bit-le (markAt (marks (c .before .before .before .before .before .before .before .before .before .before)) (hi (c .before .before .before .before .before .before .before .before .before .before))))
+
+returns-3 : tie.Need-returns-3
+returns-3 c =
+    let s = c .before .before .before .before .before .before .before .before .before .before .before in
+    both-anchored (boundaries s) (smaller s) (larger s) (counts s) (marks s) (s .args .count) (s .args .index) (c .before .before .before .before .before .if1 .left) (eq-eqb _ 0 (c .before .before .before .if2 .left)) (omega (arith, c .if3 .taken, c .before .anchored-bit2 .ensures, c .before .before .anchored-bit .ensures))
+
+ports-fit-requires : tie.Need-ports-fit-requires
+ports-fit-requires c κs =
+    let s = c .before .before .before .before .before .before .before .before .before .before .before in
+    let n = named s (c .before .before .before .before .before .if1 .left) in
+    ((s .pre .0 .bounds .few, s .pre .1), ((n .0, omega (arith, n, s .pre .0 .countsLong)), (omega (arith, n), omega (arith, n, s .pre .0 .countsLong))))
+
+returns-4 : tie.Need-returns-4
+returns-4 c =
+    let s = c .before .before .before .before .before .before .before .before .before .before .before .before .before in
+    is-unfit (boundaries s) (smaller s) (larger s) (counts s) (marks s) (s .args .count) (s .args .index) (c .before .before .before .before .before .before .before .if1 .left) (eq-eqb _ 0 (c .before .before .before .before .before .if2 .left)) (omega (arith, c .before .before .if3 .left, c .before .before .before .anchored-bit2 .ensures, c .before .before .before .before .anchored-bit .ensures)) (c .before .ports-fit .ensures) (c .if4 .taken)
+
+has-three-exteriors-requires : tie.Need-has-three-exteriors-requires
+has-three-exteriors-requires c κs = (c .before .before .before .before .before .before .before .before .before .before .before .before .before .pre .0 .bounds .few, c .before .before .before .before .before .before .before .before .before .before .before .before .before .pre .1)
+
+returns-5 : tie.Need-returns-5
+returns-5 c =
+    let s = c .before .before .before .before .before .before .before .before .before .before .before .before .before .before .before in
+    too-few (boundaries s) (smaller s) (larger s) (counts s) (marks s) (s .args .count) (s .args .index) (c .before .before .before .before .before .before .before .before .before .if1 .left) (eq-eqb _ 0 (c .before .before .before .before .before .before .before .if2 .left)) (omega (arith, c .before .before .before .before .if3 .left, c .before .before .before .before .before .anchored-bit2 .ensures, c .before .before .before .before .before .before .anchored-bit .ensures)) (c .before .before .before .ports-fit .ensures) (c .before .before .if4 .left) (c .before .has-three-exteriors .ensures) (c .if5 .taken)
+
+ports-pass-requires : tie.Need-ports-pass-requires
+ports-pass-requires c κs = (c .before .before .before .before .before .before .before .before .before .before .before .before .before .before .before .pre .0 .bounds, c .before .before .before .before .before .before .before .before .before .before .before .before .before .before .before .pre .1)
+
+returns-6 : tie.Need-returns-6
+returns-6 c =
+    let s = c .before .before .before .before .before .before .before .before .before .before .before .before .before .before .before .before in
+    by-ports (boundaries s) (smaller s) (larger s) (counts s) (marks s) (s .args .count) (s .args .index) (c .before .before .before .before .before .before .before .before .before .before .if1 .left) (eq-eqb _ 0 (c .before .before .before .before .before .before .before .before .if2 .left)) (omega (arith, c .before .before .before .before .before .if3 .left, c .before .before .before .before .before .before .anchored-bit2 .ensures, c .before .before .before .before .before .before .before .anchored-bit .ensures)) (c .before .before .before .before .ports-fit .ensures) (c .before .before .before .if4 .left) (c .before .before .has-three-exteriors .ensures) (c .before .if5 .left)
+    (c .ports-pass .ensures ∙ ap (λ n. portsPass (boundaries s) (smaller s) (larger s) (s .args .count) (s .args .index) (record { lo = lo s; hi = hi s }) (eqb n 1)) (ap₂ _+_ (c .before .before .before .before .before .before .before .anchored-bit .ensures) (c .before .before .before .before .before .before .anchored-bit2 .ensures)))
+
+pub is-union-spec : {M : Type 1} → statement M
+is-union-spec =
+    tie.close
+    (tie.spec
+    mul-lo
+    element-copy-out-lo
+    mul-hi
+    element-copy-out-hi
+    returns
+    mul-if2
+    add-if2
+    mul-if2-2
+    shared-slice-read-if2
+    returns-2
+    anchored-bit-requires
+    anchored-bit-requires-2
+    add-anchored
+    returns-3
+    ports-fit-requires
+    returns-4
+    has-three-exteriors-requires
+    returns-5
+    ports-pass-requires
+    returns-6)

@@ -1,0 +1,39 @@
+-- The loop of `allow_proposals`: what `is_allowed` asks is at hand, and one mark more. Assumes nothing.
+use Prim.Native.Nat.{ℕ, _+_, _-_, _<_}
+use native.Mathlib.Omega.{arith}
+use mathlib.Core.Path.{_≡_, _∙_}
+use mathlib.Core.Logic.{⊎-elim}
+use mathlib.Core.Bool.{Bool, false}
+use mathlib.Core.List.{List}
+use lib.ListN.{length, getD, set, length-set}
+use lib.Seq.{getD-set-same, getD-set-other}
+use Rattle.definitions.specs.Context.{Context}
+use Rattle.context.specs.declared.Region.{Region}
+use Rattle.context.specs.OneMore.{last-or}
+use Rattle.junctions.specs.Rows.{rowAt, isAllowed}
+use Rattle.junction_regions.specs.Asked.{Asked}
+use Rattle.topology.specs.Held.{record-is}
+use Rattle.topology.specs.Proposals.{Allows, Allowed}
+
+-- the records of row k's regions were read at i and j
+pub asked : {C : Context} {records : List Region} {boundaries marks rows : List ℕ} {n k i j : ℕ} {first second : Region} → Allows C records boundaries marks rows n → k < n
+    → i ≡ rowAt rows k .first - 1 → ((d : Region) → first ≡ getD records i d) → j ≡ rowAt rows k .second - 1 → ((d : Region) → second ≡ getD records j d)
+    → Asked C boundaries marks rows k first second
+asked {k = k} h l p a q b =
+    record {
+      told = h .told;
+      whole = omega (arith, h .whole);
+      fits = h .fits k l;
+      first-is = record-is (h .held) p (h .fits k l .first-from) (h .fits k l .first-to) a;
+      second-is = record-is (h .held) q (h .fits k l .second-from) (h .fits k l .second-to) b;
+    }
+
+pub allowed-more : {C : Context} {rows : List ℕ} {k : ℕ} {allowed : List Bool} (r : Bool) → k < length allowed → Allowed C rows k allowed → r ≡ isAllowed C (rowAt rows k)
+    → Allowed C rows (k + 1) (set allowed k r)
+allowed-more {C} {rows} {k} {allowed} r l h e = record { long = length-set allowed k r ∙ h .long; at = λ j m. ⊎-elim (here j) (there j) (last-or j k (omega arith)) }
+  where
+    here : (j : ℕ) → j ≡ k → getD (set allowed k r) j false ≡ isAllowed C (rowAt rows j)
+    here j s = rw s (getD-set-same allowed k r false l ∙ e)
+
+    there : (j : ℕ) → j < k → getD (set allowed k r) j false ≡ isAllowed C (rowAt rows j)
+    there j b = getD-set-other allowed k j r false (λ s. omega (arith, s)) ∙ h .at j b

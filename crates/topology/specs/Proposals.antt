@@ -1,0 +1,37 @@
+-- The words of the contracts of `allow_proposals` and `remove_junction_boundaries`. Definitions only; assumes nothing.
+use Prim.Native.Nat.{ℕ, _*_, _≤_, _<_}
+use mathlib.Core.Path.{_≡_}
+use mathlib.Core.Bool.{Bool, false}
+use mathlib.Core.List.{List}
+use lib.ListN.{length, getD}
+use Rattle.definitions.specs.Context.{Context}
+use Rattle.context.specs.declared.Region.{Region}
+use Rattle.context.specs.Records.{Counted}
+use Rattle.junctions.specs.Lent.{Shows}
+use Rattle.junctions.specs.Rows.{maxProposals, numbersPerProposal, rowAt, RowFits, isAllowed}
+use Rattle.junction_regions.specs.Asked.{Told}
+use Rattle.topology.specs.Held.{HoldsRecords}
+
+-- n rows name boundaries and regions of C, which the lists and the records show
+pub record Allows (C : Context) (records : List Region) (boundaries marks rows : List ℕ) (n : ℕ) : Type 0 where
+  pub held : HoldsRecords C records
+  pub told : Told C boundaries marks
+  pub few : n ≤ maxProposals
+  pub whole : numbersPerProposal * n ≤ length rows
+  pub fits : (k : ℕ) → k < n → RowFits (C .count) (C .regions) (rowAt rows k)
+
+-- a mark for each of n rows says whether the records allow it
+pub record Allowed (C : Context) (rows : List ℕ) (n : ℕ) (allowed : List Bool) : Type 0 where
+  pub long : length allowed ≡ maxProposals
+  pub at : (k : ℕ) → k < n → getD allowed k false ≡ isAllowed C (rowAt rows k)
+
+-- the lists and the records show C, a context of a map
+pub record Passes (C : Context) (records : List Region) (boundaries smaller larger counts marks : List ℕ) (count regions : ℕ) : Type 0 where
+  pub shown : Shows boundaries smaller larger counts marks count regions C
+  pub held : HoldsRecords C records
+  pub counted : (r : ℕ) → Counted (C .region r)
+
+-- room for a mark of each boundary, and none is marked
+pub record Unmarked (marked : List Bool) (count : ℕ) : Type 0 where
+  pub long : count ≤ length marked
+  pub clear : (j : ℕ) → j < count → getD marked j false ≡ false
