@@ -2,7 +2,7 @@
 -- an edge; and where two components have a port in common, a leaf of both beyond it would give a pair of that port two regions inside. Assumes Sound.
 use Prim.Native.Nat.{ℕ, zero, suc, _+_, _≤_, _<_}
 use native.Mathlib.Omega.{arith}
-use mathlib.Core.Path.{_≡_, refl, sym, ap, ap₂, subst, _∙_}
+use mathlib.Core.Path.{_≡_, refl, sym, ap, subst, _∙_}
 use mathlib.Core.Bool.{Bool, true, false, not, _&&_, _||_, cond, or-false, or-true, true≢false, false≢true}
 use mathlib.Core.Logic.{_⊎_, inl, inr, ⊎-elim}
 use mathlib.Core.List.{List, [], _∷_, _++_, List·Memᴰ, List·Memᴰ·head, List·Memᴰ·tail, List·Memᴰ·not-nil}
@@ -11,7 +11,7 @@ use borrow.Author.Tests.{eq-eqb, eqb-true, eqb-false}
 use lib.Arith.{lt-of-le-ne}
 use Rattle.definitions.specs.Scan.{any, all, member, countBelow, anyBelow, bit, concatMap}
 use Rattle.definitions.specs.Grid.{Pair, contains}
-use Rattle.definitions.specs.Context.{Context, isIncident, incidentCount, noRamp}
+use Rattle.definitions.specs.Context.{Context, isIncident, incidentCount}
 use Rattle.definitions.specs.RampInteriors.{Expansion, insideCount, pairExterior, exteriors, invalid, addLeaf, expandPair, expandPairs, expandPort}
 use Rattle.laws.specs.ListLaws.Tests.{both}
 use Rattle.laws.specs.ListLaws.Members.{all-at, any-member}

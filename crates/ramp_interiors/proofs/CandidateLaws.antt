@@ -1,32 +1,30 @@
 -- Candidates, from the owners of boundaries: an edge whose owner is the component has all its pairs there, and every other edge of it spoils it. Assumes nothing.
-use Prim.Native.Nat.{ℕ, zero, suc, _+_, _-_, _*_, _%_, _≤_, _<_}
+use Prim.Native.Nat.{ℕ, zero, suc, _+_, _-_, _%_, _≤_, _<_}
 use native.Mathlib.Omega.{arith}
-use mathlib.Core.Path.{_≡_, refl, sym, ap, ap₂, subst, _∙_}
-use mathlib.Core.Bool.{Bool, true, false, not, _&&_, _||_, cond, and-true, and-false, and-assoc, true≢false, false≢true}
-use mathlib.Core.List.{List, [], _∷_}
+use mathlib.Core.Path.{_≡_, refl, sym, ap, ap₂, _∙_}
+use mathlib.Core.Bool.{Bool, true, false, not, _&&_, _||_, cond, and-true, and-false, true≢false, false≢true}
+use mathlib.Core.List.{List, []}
 use lib.ListN.{length, getD}
 use lib.Dec.{eqb, leb}
 use borrow.Author.Tests.{eq-eqb, ne-eqb, eqb-true}
-use Rattle.definitions.specs.Limits.{maxSide}
-use Rattle.definitions.specs.Scan.{any, all, anyBelow, allBelow, countBelow, gather, bit}
-use Rattle.definitions.specs.Grid.{Pair}
+use Rattle.definitions.specs.Scan.{any, anyBelow, allBelow, countBelow, gather, bit}
 use Rattle.definitions.specs.Context.{Context, incidentCount}
 use Rattle.definitions.specs.MouthShapes.{regionsOf}
-use Rattle.definitions.specs.RampInteriors.{isOrdinary, components, componentOf, isEdge, edgesOf, componentRegions, isCandidate, isPort, maxInteriorEdges}
-use Rattle.laws.specs.ListLaws.Lists.{All, done, more, all-map, all-both, any-gather}
+use Rattle.definitions.specs.RampInteriors.{isOrdinary, components, componentOf, edgesOf, componentRegions, isCandidate, isPort, maxInteriorEdges}
+use Rattle.laws.specs.ListLaws.Lists.{All, all-map, all-both, any-gather}
 use Rattle.laws.specs.ListLaws.ListsAsSets.{any-addAll}
 use Rattle.laws.specs.ListLaws.Tests.{both}
-use Rattle.laws.specs.ListLaws.Below.{below-at, below-none}
+use Rattle.laws.specs.ListLaws.Below.{below-at}
 use Rattle.laws.specs.ListLaws.ScanSteps.{any-fails-at, any-none, count-next}
 use Rattle.laws.specs.SetLaws.Sets.{numbersBelow, length-below}
 use Rattle.laws.specs.RegionLaws.Merging.{Within}
 use Rattle.laws.specs.RustMouths.Triangles.{any-regions}
 use Rattle.laws.specs.RustContext.SoundContext.{Sound}
 use Rattle.laws.specs.RustInteriors.ComponentRegions.{inside, edge-is}
-use Rattle.context.specs.Shown.{ShownPairs, pairsBetween}
+use Rattle.context.specs.Shown.{pairsBetween}
 use Rattle.ramp_interiors.specs.Given.{flagsOf, Marked}
-use Rattle.ramp_interiors.specs.Owners.{pairNamed, several, allIn, edge, Owned, Owners}
-use Rattle.ramp_interiors.specs.Candidates.{Told, Mapped, isMarked, pairMarked, spoilsAt, candidate, port}
+use Rattle.ramp_interiors.specs.Owners.{pairNamed, several, allIn, edge, Owned}
+use Rattle.ramp_interiors.specs.Candidates.{Mapped, isMarked, pairMarked, spoilsAt, candidate, port}
 use Rattle.ramp_interiors.proofs.Commons.{any-same}
 
 -- ---- tests

@@ -1,12 +1,11 @@
 -- Exteriors of the rows of a port, row by row. Assumes nothing.
 use Prim.Native.Nat.{ℕ, _+_, _-_, _%_, _≤_, _<_}
-use native.Mathlib.Omega.{arith}
 use mathlib.Core.Path.{_≡_, refl, sym, ap, ap₂, subst, _∙_}
 use mathlib.Core.Bool.{Bool, true, false, not, _&&_, _||_, cond, or-false, or-true, or-assoc, and-true, false≢true}
 use mathlib.Core.List.{List, [], _∷_, _++_, append-nil, append-assoc}
-use lib.ListN.{length, set}
+use lib.ListN.{set}
 use lib.Dec.{eqb, leb}
-use Rattle.definitions.specs.Scan.{any, all, member, concatMap, bit}
+use Rattle.definitions.specs.Scan.{any, member, concatMap, bit}
 use Rattle.definitions.specs.Grid.{Pair, contains}
 use Rattle.definitions.specs.Context.{Context}
 use Rattle.definitions.specs.RampInteriors.{insideCount, pairExterior, exteriors}

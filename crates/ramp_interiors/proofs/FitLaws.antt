@@ -1,20 +1,19 @@
 -- What the fields of ports and the corners of a region say, by the definitions. Assumes nothing.
-use Prim.Native.Nat.{ℕ, _+_, _*_, _<_}
-use mathlib.Core.Path.{_≡_, refl, sym, ap, ap₂, subst, _∙_}
-use mathlib.Core.Bool.{Bool, true, false, not, _&&_, _||_, and-true, and-assoc, true≢false, false≢true}
-use mathlib.Core.List.{List, [], _∷_, map}
+use Prim.Native.Nat.{ℕ, _*_, _<_}
+use mathlib.Core.Path.{_≡_, refl, sym, ap, subst, _∙_}
+use mathlib.Core.Bool.{Bool, true, false, not, _&&_, _||_, and-true, true≢false, false≢true}
+use mathlib.Core.List.{List, map}
 use lib.ListN.{getD, List·getD-map}
 use lib.Dec.{eqb}
 use lib.Ieee.{Float, nan, binary64, ofBits, ofInt, le}
 use Rattle.definitions.specs.Limits.{numbersPerBoundary}
 use Rattle.definitions.specs.Scan.{all, allBelow}
-use Rattle.definitions.specs.Grid.{Boundary, boundaryAt}
+use Rattle.definitions.specs.Grid.{boundaryAt}
 use Rattle.definitions.specs.Geometry.{Point, float, center, distance}
 use Rattle.definitions.specs.RegionRecord.{Region, corners}
 use Rattle.definitions.specs.Context.{Context, fullCut}
 use Rattle.definitions.specs.RampMouths.{maxApproachRadius}
 use Rattle.definitions.specs.RampInteriors.{portsFit, isAllowedElevation, regionFits}
-use Rattle.laws.specs.ListLaws.Lists.{All}
 use Rattle.laws.specs.ListLaws.Members.{all-place}
 use Rattle.laws.specs.FloatLaws.DistanceRange.{DistanceInRange}
 use Rattle.laws.specs.FloatLaws.PassRange.{PassInRange}

@@ -2,10 +2,10 @@
 use Prim.Native.Nat.{ℕ, _+_, _-_, _%_, _≤_, _<_}
 use native.Mathlib.Omega.{arith}
 use mathlib.Core.Path.{_≡_, refl, sym, ap, ap₂, subst, _∙_}
-use mathlib.Core.Bool.{Bool, true, false, not, _&&_, _||_, cond, or-false, or-true, and-true, and-false, and-assoc, true≢false, false≢true}
+use mathlib.Core.Bool.{Bool, true, false, not, _&&_, _||_, cond, or-false, or-true, and-true, and-false, and-assoc, true≢false}
 use mathlib.Core.Logic.{_⊎_, inl, inr, ⊎-elim}
 use mathlib.Core.List.{List, [], _∷_, _++_}
-use lib.ListN.{length, getD, set, length-set}
+use lib.ListN.{length, set, length-set}
 use lib.Dec.{eqb, ltb, leb}
 use borrow.Author.Tests.{eq-eqb, ne-eqb, eqb-true}
 use Rattle.definitions.specs.Scan.{any, all, member, bit}
@@ -13,7 +13,6 @@ use Rattle.definitions.specs.Grid.{Pair, contains}
 use Rattle.definitions.specs.Context.{Context, isIncident, incidentCount}
 use Rattle.definitions.specs.RampInteriors.{Expansion, insideCount, exteriors, invalid, addLeaf, expandPair, expandPairs, expandPort}
 use Rattle.laws.specs.ListLaws.Tests.{both}
-use Rattle.ramp_interiors.specs.Forest.{Beyond}
 use Rattle.ramp_interiors.specs.Given.{Marked}
 use Rattle.context.specs.Shown.{pairAt, pairsBetween}
 use Rattle.ramp_interiors.specs.Owners.{Walkable, entryAt}

@@ -13,3 +13,4 @@ pub mod LeafLaws
 pub mod ProposalLaws
 pub mod Apart
 pub mod NoConflict
+pub mod Removed

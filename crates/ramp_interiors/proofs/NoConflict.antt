@@ -1,14 +1,13 @@
 -- Two components that are proposed have no region in common (`regions-apart`), and no edge (`edges-apart`), so that the choice among proposals takes all of them.
 -- Assumes Sound.
 use Prim.Native.Nat.{ℕ, _≤_, _<_}
-use mathlib.Core.Path.{_≡_, refl, sym, ap, ap₂, subst, _∙_}
-use mathlib.Core.Bool.{Bool, true, false, not, _&&_, _||_, true≢false, false≢true}
+use mathlib.Core.Path.{_≡_, refl, sym, ap, subst, _∙_}
+use mathlib.Core.Bool.{Bool, true, false, not, _&&_, _||_, true≢false}
 use mathlib.Core.Logic.{_⊎_, inl, inr, ⊎-elim}
 use mathlib.Core.List.{List}
 use lib.Dec.{eqb}
-use borrow.Author.Tests.{eqb-true, eq-eqb}
-use Rattle.definitions.specs.Scan.{any, all, member, anyBelow}
-use Rattle.definitions.specs.Grid.{Pair, contains}
+use borrow.Author.Tests.{eqb-true}
+use Rattle.definitions.specs.Scan.{any, member}
 use Rattle.definitions.specs.Context.{Context, isIncident, noRamp, fullCut}
 use Rattle.definitions.specs.MouthShapes.{regionsOf}
 use Rattle.definitions.specs.RampInteriors.{Expansion, isOrdinary, components, componentOf, isEdge, componentRegions, expandPort}

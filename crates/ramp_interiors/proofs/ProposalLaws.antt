@@ -5,29 +5,24 @@ use mathlib.Core.Path.{_≡_, refl, sym, ap, ap₂, subst, _∙_}
 use mathlib.Core.Bool.{Bool, true, false, not, _&&_, _||_, cond, true≢false, false≢true}
 use mathlib.Core.Logic.{_⊎_, inl, inr, ⊎-elim}
 use mathlib.Core.List.{List, [], _∷_}
-use lib.ListN.{length, getD}
+use lib.ListN.{getD}
 use lib.Dec.{eqb, leb}
-use borrow.Author.Tests.{eq-eqb, ne-eqb, eqb-true, leb-true}
-use Rattle.definitions.specs.Limits.{maxEntries}
-use Rattle.definitions.specs.Scan.{any, anyBelow, allBelow, countBelow, member}
+use borrow.Author.Tests.{eq-eqb, eqb-true, leb-true}
+use Rattle.definitions.specs.Scan.{any, anyBelow, countBelow}
 use Rattle.definitions.specs.Context.{Context, noRamp, fullCut}
 use Rattle.definitions.specs.MouthShapes.{regionsOf}
-use Rattle.definitions.specs.RampInteriors.{Expansion, isEdge, components, componentRegions, componentPorts, portsFit, expandPort}
+use Rattle.definitions.specs.RampInteriors.{components, componentRegions, componentPorts, portsFit, expandPort}
 use Rattle.laws.specs.ListLaws.Lists.{All, done, more}
-use Rattle.laws.specs.ListLaws.Tests.{both}
 use Rattle.laws.specs.ListLaws.ScanSteps.{all-intro}
 use Rattle.laws.specs.SetLaws.Sets.{numbersBelow, below-all}
 use Rattle.laws.specs.RustInteriors.ComponentRegions.{allInside, region-members}
 use Rattle.context.specs.OneMore.{any-counted}
-use Rattle.context.specs.Shown.{ShownPairs, ShownBoundaries, ShownTallies}
-use Rattle.context.specs.ShownLaws.{shown-stretch}
-use Rattle.ramp_interiors.specs.Owners.{entryAt, allIn, edge, Owners}
-use Rattle.ramp_interiors.specs.Given.{Marked}
-use Rattle.ramp_interiors.specs.Candidates.{Mapped, spoilsAt, candidate, port, twoPorts}
+use Rattle.context.specs.Shown.{ShownPairs}
+use Rattle.ramp_interiors.specs.Owners.{entryAt, allIn, edge}
+use Rattle.ramp_interiors.specs.Candidates.{spoilsAt, candidate, port, twoPorts}
 use Rattle.ramp_interiors.specs.Fits.{Listed}
-use Rattle.ramp_interiors.specs.Leaves.{Inside, PortReachable, Single, Grown, from, Held, Ported, Walked, BothWalked, Cleared}
-use Rattle.ramp_interiors.specs.Proposals.{own, expandedOf, fittingPorts, proposedPorts, Facing, Leafed, Spread, Proposed}
-use Rattle.ramp_interiors.specs.declared.ports.Ports.{Ports}
+use Rattle.ramp_interiors.specs.Leaves.{Inside, PortReachable, Single, from, Ported, Walked, BothWalked}
+use Rattle.ramp_interiors.specs.Proposals.{expandedOf, fittingPorts, proposedPorts, Facing, Leafed, Spread, Proposed}
 use Rattle.ramp_interiors.specs.declared.ports.Ports.the-variants as ports
 use Rattle.ramp_interiors.proofs.Forests.{beyond-same, beyond-then}
 use Rattle.ramp_interiors.proofs.Walks.{shown-walkable}

@@ -1,9 +1,9 @@
 -- What is read of the lists to tell whether a component is a candidate, and which are its ports. Definitions only; assumes nothing.
-use Prim.Native.Nat.{ℕ, _-_, _%_, _≤_, _<_}
+use Prim.Native.Nat.{ℕ, _%_, _≤_, _<_}
 use mathlib.Core.Path.{_≡_}
 use mathlib.Core.Bool.{Bool, true, false, not, _&&_, _||_}
 use mathlib.Core.List.{List, [], _∷_}
-use lib.ListN.{length, getD}
+use lib.ListN.{length}
 use lib.Dec.{eqb}
 use Rattle.definitions.specs.Scan.{any}
 use Rattle.definitions.specs.Grid.{Pair}
@@ -13,7 +13,7 @@ use Rattle.definitions.specs.RampInteriors.{components, componentOf, isCandidat
 use Rattle.laws.specs.RustContext.SoundContext.{Sound}
 use Rattle.context.specs.Shown.{ShownPairs}
 use Rattle.ramp_interiors.specs.Given.{Marked}
-use Rattle.ramp_interiors.specs.Owners.{entryAt, allIn, edge, Owned, Owners}
+use Rattle.ramp_interiors.specs.Owners.{entryAt, allIn, edge}
 use Rattle.ramp_interiors.specs.declared.ports.Ports.{Ports}
 use Rattle.ramp_interiors.specs.declared.ports.Ports.the-variants as ports
 

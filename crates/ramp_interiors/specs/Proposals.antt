@@ -1,10 +1,9 @@
 -- A component and what is found about it before its records are looked at. Definitions only; assumes nothing.
-use Prim.Native.Nat.{ℕ, _≤_, _<_}
+use Prim.Native.Nat.{ℕ, _≤_}
 use mathlib.Core.Path.{_≡_}
-use mathlib.Core.Bool.{Bool, true, false, _&&_, cond}
+use mathlib.Core.Bool.{true, false, _&&_, cond}
 use mathlib.Core.Logic.{_⊎_}
 use mathlib.Core.List.{List, [], _∷_}
-use lib.ListN.{length}
 use Rattle.definitions.specs.Scan.{member}
 use Rattle.definitions.specs.Context.{Context, noRamp}
 use Rattle.definitions.specs.RampInteriors.{Expansion, components, componentRegions, componentPorts, portsFit, expandPort}

@@ -14,6 +14,7 @@ ghost use Rattle.ramp_interiors.specs.Forest.{Beyond, Parented, Rooted, 
 ghost use Rattle.ramp_interiors.specs.Given.{Given, Lent, SomeLent, flagsOf, alone, linksOf, CutJoinable, CutsJoinable, Prepared, Known};
 
 pub const NUMBERS_PER_BOUNDARY: usize = 9;
+
 pub const NUMBERS_PER_PAIR: usize = 3;
 
 // The parent of region r.

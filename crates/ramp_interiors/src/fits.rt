@@ -1,7 +1,7 @@
 // What is asked of the two ports of a candidate, and of the record of each region about it.
+use crate::components::NUMBERS_PER_BOUNDARY;
 use context::Region;
 use context::pairs::full_cut;
-use crate::components::NUMBERS_PER_BOUNDARY;
 use geometry::Point;
 use geometry::points::center;
 use geometry::points::distance;
@@ -22,6 +22,7 @@ ghost use Rattle.context.specs.Records.{recordOf};
 ghost use Rattle.ramp_interiors.specs.Fits.{Placed, Listed, Aimed, elevationFits, isWithin};
 
 const MAX_APPROACH_RADIUS: f64 = 512.0;
+
 const ELEVATIONS: u32 = 8;
 
 // What the regions of a candidate have to keep to: the elevations of its ramp, and a distance from the centers of its two ports.

@@ -10,11 +10,6 @@ use Rattle.ramp_interiors.proofs.RowScans.{any-rows-none, any-rows-next
 use Rattle.ramp_interiors.proofs.Walks.{row-in, low-in, high-in}
 use Rattle.ramp_interiors.proofs.candidates.any_anchored.Statement.{statement}
 use Rattle.ramp_interiors.proofs.candidates.any_anchored.Tie as tie
-use Rattle.ramp_interiors.proofs.candidates.any_anchored.Reads as reads
-use Rattle.ramp_interiors.proofs.candidates.any_anchored.Lts as lts
-use Rattle.ramp_interiors.proofs.candidates.is_anchored.Reads as is-anchored-reads
-use Rattle.ramp_interiors.proofs.components.larger_at.Reads as larger-at-reads
-use Rattle.ramp_interiors.proofs.components.smaller_at.Reads as smaller-at-reads
 
 abbrev Inv-loop : tie.InvT-loop
 Inv-loop marks pairs first end k₀ k = (first ≤ k) × (k ≤ end) × (any (pairMarked marks) (pairsBetween pairs first k) ≡ false)

@@ -1,9 +1,8 @@
 -- `candidates::is_candidate` meets its contract. The invariant: no boundary passed spoils the component, and so many of them are its edges. Assumes nothing.
-use Prim.Native.Nat.{ℕ, _+_, _-_, _≤_, _<_}
+use Prim.Native.Nat.{_-_, _≤_, _<_}
 use native.Mathlib.Omega.{arith}
 use mathlib.Core.Path.{_≡_, refl, sym, ap, _∙_}
 use mathlib.Core.Bool.{false}
-use lib.ListN.{getD}
 use lib.Dec.{eqb}
 use borrow.Author.Needs.{needs}
 use borrow.Author.Tests.{eq-eqb, ne-eqb}
@@ -15,11 +14,6 @@ use Rattle.ramp_interiors.specs.Candidates.{Mapped, spoilsAt}
 use Rattle.ramp_interiors.proofs.CandidateLaws.{spoilt, unnamed, survey-more, survey-end}
 use Rattle.ramp_interiors.proofs.candidates.is_candidate.Statement.{statement}
 use Rattle.ramp_interiors.proofs.candidates.is_candidate.Tie as tie
-use Rattle.ramp_interiors.proofs.candidates.is_candidate.Reads as reads
-use Rattle.ramp_interiors.proofs.candidates.is_candidate.Lts as lts
-use Rattle.ramp_interiors.proofs.candidates.one_if.Reads as one-if-reads
-use Rattle.ramp_interiors.proofs.candidates.spoils.Reads as spoils-reads
-use Rattle.ramp_interiors.proofs.components.parent_of.Reads as parent-of-reads
 
 abbrev Inv-loop : tie.InvT-loop
 Inv-loop pairs starts names marks owners count r edges₀ i₀ edges i = (i ≤ count) × (edges ≤ i) × ((C : Context) → Mapped C pairs starts names marks r → C .count ≡ count → Owners C owners → (edges ≡ countBelow i (edge C r)) × (anyBelow i (spoilsAt C r) ≡ false))
@@ -88,11 +82,14 @@ loop-less c = search needs
 loop-again : tie.Need-loop-again Inv-loop μ-loop
 loop-again c =
     let t = c .before .before .before .before in
-    let i = t .before .loop .i in
-    (omega (arith, t .loop-test .taken), omega (arith, t .before .loop .inv .1, c .one-if .ensures .1), λ C M e O.
-    let l : i < C .count = omega (arith, e, t .loop-test .taken) in
-    let w = t .before .loop .inv .2 C M e O in
-    survey-more C _ i (M .from) (M .upto) (O i l) (w .0) (w .1) (sym (c .before .before .spoils .ensures C M l (O i l)) ∙ c .before .if2 .left) (c .one-if .ensures .0))
+    let i = t .before .loop .i in (
+      omega (arith, t .loop-test .taken),
+      omega (arith, t .before .loop .inv .1, c .one-if .ensures .1),
+      λ C M e O.
+          let l : i < C .count = omega (arith, e, t .loop-test .taken) in
+          let w = t .before .loop .inv .2 C M e O in
+          survey-more C _ i (M .from) (M .upto) (O i l) (w .0) (w .1) (sym (c .before .before .spoils .ensures C M l (O i l)) ∙ c .before .if2 .left) (c .one-if .ensures .0),
+    )
 
 returns-3 : tie.Need-returns-3 Inv-loop μ-loop
 returns-3 c =

@@ -1,14 +1,10 @@
 -- `candidates::spoils` meets its contract: by the owner, an edge has all its pairs in the component, or some elsewhere. Assumes nothing.
-use mathlib.Core.Path.{_≡_, sym, _∙_}
+use mathlib.Core.Path.{sym, _∙_}
 use Rattle.ramp_interiors.proofs.Walks.{shown-walkable}
 use Rattle.ramp_interiors.proofs.CandidateLaws.{spoils-own, spoils-other, spoils-several, anchored-is, touches-edge}
 use borrow.Author.Needs.{needs}
 use Rattle.ramp_interiors.proofs.candidates.spoils.Statement.{statement}
 use Rattle.ramp_interiors.proofs.candidates.spoils.Tie as tie
-use Rattle.ramp_interiors.proofs.candidates.spoils.Reads as reads
-use Rattle.ramp_interiors.proofs.candidates.spoils.Lts as lts
-use Rattle.ramp_interiors.proofs.candidates.any_anchored.Reads as any-anchored-reads
-use Rattle.ramp_interiors.proofs.owners.touches.Reads as touches-reads
 
 mul-any-anchored : tie.Need-mul-any-anchored
 mul-any-anchored c = search needs

@@ -1,7 +1,7 @@
 -- `components::flags` meets its contract: a remainder by 2 is 0 or 1. Assumes nothing.
 use Prim.Native.Nat.{ℕ, _+_, _%_}
 use native.Mathlib.Omega.{arith}
-use mathlib.Core.Path.{_≡_, refl, sym, ap, ap₂, _∙_}
+use mathlib.Core.Path.{_≡_, refl}
 use mathlib.Core.Bool.{Bool, true, false}
 use lib.Dec.{eqb}
 use borrow.Author.Tests.{eqb-true, eqb-false, eq-eqb, ne-eqb}
@@ -10,8 +10,6 @@ use Rattle.ramp_interiors.specs.Given.{flagsOf}
 use borrow.Author.Needs.{needs}
 use Rattle.ramp_interiors.proofs.components.flags.Statement.{statement}
 use Rattle.ramp_interiors.proofs.components.flags.Tie as tie
-use Rattle.ramp_interiors.proofs.components.flags.Reads as reads
-use Rattle.ramp_interiors.proofs.components.flags.Lts as lts
 
 odd-bit : (n : ℕ) → n % 2 ≡ bit (eqb (n % 2) 1)
 odd-bit n = go (eqb (n % 2) 1) refl

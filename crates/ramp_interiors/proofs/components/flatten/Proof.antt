@@ -9,9 +9,6 @@ use Rattle.ramp_interiors.specs.Forest.{Beyond, Parented}
 use Rattle.ramp_interiors.proofs.Forests.{Flat, beyond-same, beyond-set, beyond-then, flat-parent, flat-more, flat-end}
 use Rattle.ramp_interiors.proofs.components.flatten.Statement.{statement}
 use Rattle.ramp_interiors.proofs.components.flatten.Tie as tie
-use Rattle.ramp_interiors.proofs.components.flatten.Reads as reads
-use Rattle.ramp_interiors.proofs.components.flatten.Lts as lts
-use Rattle.ramp_interiors.proofs.components.parent_of.Reads as parent-of-reads
 
 abbrev Inv-loop : tie.InvT-loop
 Inv-loop parents₀ regions k₀ parents k = (k ≤ regions) × Beyond regions parents₀ parents × ((cs : List ℕ) → Parented cs parents₀ → length cs ≡ suc regions → Flat cs parents k)
@@ -59,9 +56,11 @@ loop-less c = search needs
 
 loop-again : tie.Need-loop-again Inv-loop μ-loop
 loop-again c =
-    let t = c .before .before .before in
-    (omega (arith, t .loop-test .taken), beyond-then (t .before .loop .inv .1) (beyond-set _ _ _ _ (t .loop-test .taken)),
-    λ cs P e. flat-more (t .before .loop .inv .2 cs P e) (omega (arith, e, t .loop-test .taken)) (c .parent-of .result) (c .parent-of .ensures))
+    let t = c .before .before .before in (
+      omega (arith, t .loop-test .taken),
+      beyond-then (t .before .loop .inv .1) (beyond-set _ _ _ _ (t .loop-test .taken)),
+      λ cs P e. flat-more (t .before .loop .inv .2 cs P e) (omega (arith, e, t .loop-test .taken)) (c .parent-of .result) (c .parent-of .ensures),
+    )
 
 same-length : tie.Need-same-length Inv-loop μ-loop
 same-length c = c .before .loop .inv .1 .long

@@ -1,14 +1,11 @@
 -- `components::is_ordinary` meets its contract: the lists show the boundary's kind and its tallies. Assumes nothing.
-use mathlib.Core.Path.{_≡_, sym, ap, ap₂}
+use mathlib.Core.Path.{sym, ap, ap₂}
 use mathlib.Core.Bool.{_&&_}
 use lib.Dec.{eqb}
 use Rattle.definitions.specs.RampInteriors.{isOrdinary}
 use borrow.Author.Needs.{needs}
 use Rattle.ramp_interiors.proofs.components.is_ordinary.Statement.{statement}
 use Rattle.ramp_interiors.proofs.components.is_ordinary.Tie as tie
-use Rattle.ramp_interiors.proofs.components.is_ordinary.Reads as reads
-use Rattle.ramp_interiors.proofs.components.is_ordinary.Lts as lts
-use Rattle.context.proofs.pairs.full_cut.Reads as full-cut-reads
 
 mul-result : tie.Need-mul-result
 mul-result c = search needs

@@ -1,18 +1,8 @@
 -- `components::join` meets its contract: the roots of the two regions are their names, and the parent of the larger becomes the smaller. Assumes nothing.
-use mathlib.Core.Path.{_≡_}
-use mathlib.Core.List.{List}
-use lib.ListN.{length}
-use Rattle.ramp_interiors.specs.Forest.{Parented, Placed}
 use Rattle.ramp_interiors.proofs.Forests.{joined, greatest-placed}
 use borrow.Author.Needs.{needs}
 use Rattle.ramp_interiors.proofs.components.join.Statement.{statement}
 use Rattle.ramp_interiors.proofs.components.join.Tie as tie
-use Rattle.ramp_interiors.proofs.components.join.Reads as reads
-use Rattle.ramp_interiors.proofs.components.join.Lts as lts
-use Rattle.ramp_interiors.proofs.components.greater.Reads as greater-reads
-use Rattle.ramp_interiors.proofs.components.lesser.Reads as lesser-reads
-use Rattle.ramp_interiors.proofs.components.root_of.Reads as root-of-reads
-use Rattle.ramp_interiors.proofs.components.set_parent.Reads as set-parent-reads
 
 root-of-requires : tie.Need-root-of-requires
 root-of-requires c κs =

@@ -1,5 +1,4 @@
 -- `components::join_cut` meets its contract, by the test. Assumes nothing.
-use mathlib.Core.Path.{_≡_, ap, sym}
 use lib.ListN.{length}
 use Rattle.context.specs.ShownLaws.{shown-stretch}
 use Rattle.ramp_interiors.proofs.Forests.{merged-start}
@@ -7,10 +6,6 @@ use Rattle.ramp_interiors.proofs.Preparing.{rows-placed, cut-joins, cut
 use borrow.Author.Needs.{needs}
 use Rattle.ramp_interiors.proofs.components.join_cut.Statement.{statement}
 use Rattle.ramp_interiors.proofs.components.join_cut.Tie as tie
-use Rattle.ramp_interiors.proofs.components.join_cut.Reads as reads
-use Rattle.ramp_interiors.proofs.components.join_cut.Lts as lts
-use Rattle.ramp_interiors.proofs.components.is_ordinary.Reads as is-ordinary-reads
-use Rattle.ramp_interiors.proofs.components.join_pairs.Reads as join-pairs-reads
 
 is-ordinary-requires : tie.Need-is-ordinary-requires
 is-ordinary-requires c κs = search needs

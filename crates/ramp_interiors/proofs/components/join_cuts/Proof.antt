@@ -1,8 +1,7 @@
-use lib.ListN.{length}
+-- `components::join_cuts` meets its contract. The invariant: the links of the boundaries passed are merged. Assumes nothing.
 use Rattle.definitions.specs.Partition.{mergeAll}
 use Rattle.ramp_interiors.proofs.Preparing.{cuts-start, cuts-size, cuts-more, cuts-end}
--- `components::join_cuts` meets its contract. The invariant: the links of the boundaries passed are merged. Assumes nothing.
-use Prim.Native.Nat.{ℕ, _+_, _-_, _≤_, _<_}
+use Prim.Native.Nat.{_-_, _≤_}
 use native.Mathlib.Omega.{arith}
 use mathlib.Core.Path.{_≡_}
 use borrow.Author.Needs.{needs}
@@ -12,9 +11,6 @@ use Rattle.ramp_interiors.specs.Forest.{Parented, Merged}
 use Rattle.ramp_interiors.specs.Given.{Given, alone, linksOf}
 use Rattle.ramp_interiors.proofs.components.join_cuts.Statement.{statement}
 use Rattle.ramp_interiors.proofs.components.join_cuts.Tie as tie
-use Rattle.ramp_interiors.proofs.components.join_cuts.Reads as reads
-use Rattle.ramp_interiors.proofs.components.join_cuts.Lts as lts
-use Rattle.ramp_interiors.proofs.components.join_cut.Reads as join-cut-reads
 
 abbrev Inv-loop : tie.InvT-loop
 Inv-loop parents₀ boundaries tallies pairs starts count i₀ parents i = (i ≤ count) × ((C : Context) → Given C boundaries tallies pairs starts → C .count ≡ count → Parented (alone C) parents₀ → Merged (alone C) parents₀ (gather i (linksOf C)) parents)
@@ -42,10 +38,12 @@ loop-less c = search needs
 loop-again : tie.Need-loop-again Inv-loop μ-loop
 loop-again c =
     let t = c .before .before .before .before in
-    let i = t .before .loop .i in
-    (search needs, λ C G e P.
-    let m = t .before .loop .inv .1 C G e P in
-    cuts-more C i m (c .before .before .join-cut .ensures C _ G (omega (arith, e, t .loop-test .taken)) (m .parented) (cuts-size C i m)))
+    let i = t .before .loop .i in (
+      search needs,
+      λ C G e P.
+          let m = t .before .loop .inv .1 C G e P in
+          cuts-more C i m (c .before .before .join-cut .ensures C _ G (omega (arith, e, t .loop-test .taken)) (m .parented) (cuts-size C i m)),
+    )
 
 same-length : tie.Need-same-length Inv-loop μ-loop
 same-length c =

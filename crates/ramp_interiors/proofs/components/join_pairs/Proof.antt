@@ -1,7 +1,5 @@
 -- `components::join_pairs` meets its contract. The invariant: the rows passed are merged. Assumes nothing.
-use Prim.Native.Nat.{ℕ, _+_, _-_, _*_, _≤_, _<_}
-use native.Mathlib.Omega.{arith}
-use mathlib.Core.Path.{_≡_}
+use Prim.Native.Nat.{ℕ, _-_, _≤_}
 use mathlib.Core.List.{List}
 use lib.ListN.{length}
 use borrow.Author.Needs.{needs}
@@ -11,11 +9,6 @@ use Rattle.ramp_interiors.specs.Forest.{Parented, Rows, Merged}
 use Rattle.ramp_interiors.proofs.Forests.{rows-start, row-placed, rows-more, rows-end}
 use Rattle.ramp_interiors.proofs.components.join_pairs.Statement.{statement}
 use Rattle.ramp_interiors.proofs.components.join_pairs.Tie as tie
-use Rattle.ramp_interiors.proofs.components.join_pairs.Reads as reads
-use Rattle.ramp_interiors.proofs.components.join_pairs.Lts as lts
-use Rattle.ramp_interiors.proofs.components.join.Reads as join-reads
-use Rattle.ramp_interiors.proofs.components.larger_at.Reads as larger-at-reads
-use Rattle.ramp_interiors.proofs.components.smaller_at.Reads as smaller-at-reads
 
 abbrev Inv-loop : tie.InvT-loop
 Inv-loop parents₀ pairs first end k₀ parents k = (first ≤ k) × (k ≤ end) × ((cs : List ℕ) → Parented cs parents₀ → Rows (length cs) pairs first end → Merged cs parents₀ (pairsBetween pairs first k) parents)
@@ -60,13 +53,16 @@ loop-again : tie.Need-loop-again Inv-loop μ-loop
 loop-again c =
     let l = c .before .before .before in
     let t = l .before .before .before in
-    let k = t .before .loop .k in
-    (search needs, search needs, λ cs P w.
-    let m = t .before .loop .inv .2 cs P w in
-    let d = l .before .smaller-at .ensures in
-    let e = l .larger-at .ensures in
-    let p = w k (t .before .loop .inv .0) (t .loop-test .taken) in
-    rows-more _ _ _ _ k m p d e (t .before .loop .inv .0) (c .before .before .join .ensures _ (m .parented) (row-placed _ _ _ _ k m p d e)))
+    let k = t .before .loop .k in (
+      search needs,
+      search needs,
+      λ cs P w.
+          let m = t .before .loop .inv .2 cs P w in
+          let d = l .before .smaller-at .ensures in
+          let e = l .larger-at .ensures in
+          let p = w k (t .before .loop .inv .0) (t .loop-test .taken) in
+          rows-more _ _ _ _ k m p d e (t .before .loop .inv .0) (c .before .before .join .ensures _ (m .parented) (row-placed _ _ _ _ k m p d e)),
+    )
 
 same-length : tie.Need-same-length Inv-loop μ-loop
 same-length c =

@@ -1,7 +1,7 @@
 -- `components::prepare` meets its contract. The invariant: the marks and parents of the regions passed are stored. Assumes nothing.
-use Prim.Native.Nat.{ℕ, _+_, _-_, _%_, _≤_, _<_}
+use Prim.Native.Nat.{_-_, _%_, _≤_, _<_}
 use native.Mathlib.Omega.{arith}
-use mathlib.Core.Path.{_≡_, refl, ap₂, _∙_}
+use mathlib.Core.Path.{refl, ap₂, _∙_}
 use mathlib.Core.Bool.{false}
 use lib.Dec.{eqb}
 use lib.ListN.{length}
@@ -13,9 +13,6 @@ use Rattle.ramp_interiors.proofs.Stored.{Stored, stored-start, stored-m
 use Rattle.ramp_interiors.proofs.Preparing.{flagsAt, ownAt, prepared}
 use Rattle.ramp_interiors.proofs.components.prepare.Statement.{statement}
 use Rattle.ramp_interiors.proofs.components.prepare.Tie as tie
-use Rattle.ramp_interiors.proofs.components.prepare.Reads as reads
-use Rattle.ramp_interiors.proofs.components.prepare.Lts as lts
-use Rattle.ramp_interiors.proofs.components.flags.Reads as flags-reads
 
 abbrev Inv-loop : tie.InvT-loop
 Inv-loop marks₀ counts₀ regions k₀ marks counts k = (k ≤ regions) × Beyond regions marks₀ marks × Beyond regions counts₀ counts × Stored (flagsAt marks₀ counts₀) marks₀ marks k × Stored ownAt counts₀ counts k
@@ -73,10 +70,13 @@ loop-again c =
     let k = t .before .loop .k in
     let within : k < s .args .regions = t .loop-test .taken in
     let in-marks : k < length (t .before .loop .marks) = omega (arith, inv .1 .long, s .pre .0) in
-    let in-counts : k < length (t .before .loop .counts) = omega (arith, inv .2 .long, s .pre .1) in
-    (omega arith, beyond-then (inv .1) (beyond-set _ _ _ _ within), beyond-then (inv .2) (beyond-set _ _ _ _ within),
-    stored-more (inv .3) in-marks (c .flags .ensures ∙ ap₂ (λ m n. flagsOf (eqb (m % 2) 1) (eqb n 1) false) (inv .3 .rest k (omega arith)) (inv .4 .rest k (omega arith))),
-    stored-more (inv .4) in-counts refl)
+    let in-counts : k < length (t .before .loop .counts) = omega (arith, inv .2 .long, s .pre .1) in (
+      omega arith,
+      beyond-then (inv .1) (beyond-set _ _ _ _ within),
+      beyond-then (inv .2) (beyond-set _ _ _ _ within),
+      stored-more (inv .3) in-marks (c .flags .ensures ∙ ap₂ (λ m n. flagsOf (eqb (m % 2) 1) (eqb n 1) false) (inv .3 .rest k (omega arith)) (inv .4 .rest k (omega arith))),
+      stored-more (inv .4) in-counts refl,
+    )
 
 same-length : tie.Need-same-length Inv-loop μ-loop
 same-length c = search needs
@@ -87,9 +87,10 @@ same-length-2 c = search needs
 returns : tie.Need-returns Inv-loop μ-loop
 returns c =
     let inv = c .before .loop .inv in
-    let pre = c .before .before .before .before .pre in
-    (λ C e A I. prepared C (inv .3) (inv .4) (omega (arith, e, c .loop-test .left)) (omega (arith, e, pre .0, inv .1 .long)) (omega (arith, e, pre .1, inv .2 .long)) A I,
-    (inv .1, inv .2))
+    let pre = c .before .before .before .before .pre in (
+      λ C e A I. prepared C (inv .3) (inv .4) (omega (arith, e, c .loop-test .left)) (omega (arith, e, pre .0, inv .1 .long)) (omega (arith, e, pre .1, inv .2 .long)) A I,
+      (inv .1, inv .2),
+    )
 
 pub prepare-spec : {M : Type 1} → statement M
 prepare-spec =

@@ -5,15 +5,10 @@ use lib.Arith.{lt-of-le-ne}
 use mathlib.Core.Path.{_≡_, sym, ap, subst, _∙_}
 use mathlib.Core.List.{List}
 use lib.ListN.{length, getD}
-use borrow.Author.Needs.{needs}
 use Rattle.ramp_interiors.specs.Forest.{Parented}
 use Rattle.ramp_interiors.proofs.Forests.{Way, way-start, way-in, parent-in, parent-le, above-in, way-step, way-end}
 use Rattle.ramp_interiors.proofs.components.root_of.Statement.{statement}
 use Rattle.ramp_interiors.proofs.components.root_of.Tie as tie
-use Rattle.ramp_interiors.proofs.components.root_of.Reads as reads
-use Rattle.ramp_interiors.proofs.components.root_of.Lts as lts
-use Rattle.ramp_interiors.proofs.components.parent_of.Reads as parent-of-reads
-use Rattle.ramp_interiors.proofs.components.set_parent.Reads as set-parent-reads
 
 abbrev Inv-loop : tie.InvT-loop
 Inv-loop parents₀ r x₀ p₀ parents x p = (p ≡ getD parents (x - 1) 0) × ((cs : List ℕ) → Parented cs parents₀ → r < length cs → Way cs parents₀ r parents x)
@@ -76,10 +71,11 @@ loop-again : tie.Need-loop-again Inv-loop μ-loop
 loop-again c =
     let s = c .before .before .before .before in
     let f = s .before .before in
-    let a = f .before .before .before in
-    (c .parent-of3 .ensures,
-    λ cs P l. subst (λ ps. Way cs (start a .args .parents .now) (start a .args .r) ps (f .parent-of2 .result)) (sym (s .set-parent .ensures))
-    (way-step l (a .loop .inv .1 cs P l) (f .parent-of2 .result) (f .parent-of2 .ensures ∙ parent-is a)))
+    let a = f .before .before .before in (
+      c .parent-of3 .ensures,
+      λ cs P l. subst (λ ps. Way cs (start a .args .parents .now) (start a .args .r) ps (f .parent-of2 .result)) (sym (s .set-parent .ensures))
+          (way-step l (a .loop .inv .1 cs P l) (f .parent-of2 .result) (f .parent-of2 .ensures ∙ parent-is a)),
+    )
 
 same-length : tie.Need-same-length Inv-loop μ-loop
 same-length c = way (c .before) .beyond .long

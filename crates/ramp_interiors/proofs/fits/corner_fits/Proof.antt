@@ -3,9 +3,6 @@ use Rattle.ramp_interiors.proofs.FitLaws.{corner-is}
 use borrow.Author.Needs.{needs}
 use Rattle.ramp_interiors.proofs.fits.corner_fits.Statement.{statement}
 use Rattle.ramp_interiors.proofs.fits.corner_fits.Tie as tie
-use Rattle.ramp_interiors.proofs.fits.corner_fits.Reads as reads
-use Rattle.ramp_interiors.proofs.fits.corner_fits.Lts as lts
-use Rattle.geometry.proofs.points.distance.Reads as distance-reads
 
 distance-requires : tie.Need-distance-requires
 distance-requires c κs = search needs

@@ -9,9 +9,6 @@ use Rattle.laws.specs.ListLaws.ScanSteps.{all-more, all-fails}
 use Rattle.ramp_interiors.specs.Fits.{elevationFits}
 use Rattle.ramp_interiors.proofs.fits.elevations_fit.Statement.{statement}
 use Rattle.ramp_interiors.proofs.fits.elevations_fit.Tie as tie
-use Rattle.ramp_interiors.proofs.fits.elevations_fit.Reads as reads
-use Rattle.ramp_interiors.proofs.fits.elevations_fit.Lts as lts
-use Rattle.ramp_interiors.proofs.fits.elevation_fits.Reads as elevation-fits-reads
 
 abbrev Inv-loop : tie.InvT-loop
 Inv-loop mask lower upper e₀ e = (e ≤ 8) × (allBelow e (elevationFits mask lower upper) ≡ true)

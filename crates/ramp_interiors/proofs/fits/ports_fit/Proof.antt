@@ -3,9 +3,6 @@ use Rattle.ramp_interiors.proofs.FitLaws.{ports-fit-is}
 use borrow.Author.Needs.{needs}
 use Rattle.ramp_interiors.proofs.fits.ports_fit.Statement.{statement}
 use Rattle.ramp_interiors.proofs.fits.ports_fit.Tie as tie
-use Rattle.ramp_interiors.proofs.fits.ports_fit.Reads as reads
-use Rattle.ramp_interiors.proofs.fits.ports_fit.Lts as lts
-use Rattle.context.proofs.pairs.full_cut.Reads as full-cut-reads
 
 mul-j : tie.Need-mul-j
 mul-j c = search needs

@@ -4,9 +4,6 @@ use Rattle.ramp_interiors.proofs.FitLaws.{aimed}
 use borrow.Author.Needs.{needs}
 use Rattle.ramp_interiors.proofs.fits.reach_of.Statement.{statement}
 use Rattle.ramp_interiors.proofs.fits.reach_of.Tie as tie
-use Rattle.ramp_interiors.proofs.fits.reach_of.Reads as reads
-use Rattle.ramp_interiors.proofs.fits.reach_of.Lts as lts
-use Rattle.ramp_interiors.proofs.fits.center_of.Reads as center-of-reads
 
 mul-k : tie.Need-mul-k
 mul-k c = search needs

@@ -5,11 +5,6 @@ use Rattle.ramp_interiors.proofs.FitLaws.{fits-fails, corner-near, fits
 use borrow.Author.Needs.{needs}
 use Rattle.ramp_interiors.proofs.fits.region_fits.Statement.{statement}
 use Rattle.ramp_interiors.proofs.fits.region_fits.Tie as tie
-use Rattle.ramp_interiors.proofs.fits.region_fits.Reads as reads
-use Rattle.ramp_interiors.proofs.fits.region_fits.Lts as lts
-use Rattle.context.proofs.Region.corners.Reads as corners-reads
-use Rattle.ramp_interiors.proofs.fits.corner_fits.Reads as corner-fits-reads
-use Rattle.ramp_interiors.proofs.fits.elevations_fit.Reads as elevations-fit-reads
 
 elevations-fit-requires : tie.Need-elevations-fit-requires
 elevations-fit-requires c κs = search needs

@@ -1,5 +1,5 @@
 -- `leaves::clear_exteriors` meets its contract. The invariant: what the rows passed name is no more marked. Assumes nothing.
-use Prim.Native.Nat.{ℕ, _+_, _-_, _≤_, _<_}
+use Prim.Native.Nat.{ℕ, _-_, _≤_}
 use native.Mathlib.Omega.{arith}
 use mathlib.Core.Path.{_≡_, refl, _∙_}
 use mathlib.Core.List.{List}
@@ -15,11 +15,6 @@ use Rattle.ramp_interiors.proofs.Walks.{row-in, low-in, high-in}
 use Rattle.ramp_interiors.proofs.ExteriorLaws.{Clearing, clearing-start, clearing-more, clearing-end}
 use Rattle.ramp_interiors.proofs.leaves.clear_exteriors.Statement.{statement}
 use Rattle.ramp_interiors.proofs.leaves.clear_exteriors.Tie as tie
-use Rattle.ramp_interiors.proofs.leaves.clear_exteriors.Reads as reads
-use Rattle.ramp_interiors.proofs.leaves.clear_exteriors.Lts as lts
-use Rattle.ramp_interiors.proofs.components.larger_at.Reads as larger-at-reads
-use Rattle.ramp_interiors.proofs.components.smaller_at.Reads as smaller-at-reads
-use Rattle.ramp_interiors.proofs.leaves.clear_exterior.Reads as clear-exterior-reads
 
 abbrev Inv-loop : tie.InvT-loop
 Inv-loop marks₀ pairs first end k₀ marks k =
@@ -70,9 +65,13 @@ loop-again c =
     let n = c .before .before in
     let l = n .before in
     let m = l .before .before .before .before in
-    let t = m .before .before .before in
-    (omega (arith, t .before .loop .inv .0), omega (arith, t .loop-test .taken), n .clear-exterior2 .ensures .1 ∙ m .clear-exterior .ensures .1 ∙ t .before .loop .inv .2, λ C rs w M.
-    clearing-more C _ _ _ _ w (t .before .loop .k) (t .before .loop .inv .0) (t .loop-test .taken) (m .before .smaller-at .ensures) (l .larger-at .ensures) (t .before .loop .inv .3 C rs w M) (m .clear-exterior .ensures .0) (n .clear-exterior2 .ensures .0))
+    let t = m .before .before .before in (
+      omega (arith, t .before .loop .inv .0),
+      omega (arith, t .loop-test .taken),
+      n .clear-exterior2 .ensures .1 ∙ m .clear-exterior .ensures .1 ∙ t .before .loop .inv .2,
+      λ C rs w M.
+          clearing-more C _ _ _ _ w (t .before .loop .k) (t .before .loop .inv .0) (t .loop-test .taken) (m .before .smaller-at .ensures) (l .larger-at .ensures) (t .before .loop .inv .3 C rs w M) (m .clear-exterior .ensures .0) (n .clear-exterior2 .ensures .0),
+    )
 
 same-length : tie.Need-same-length Inv-loop μ-loop
 same-length c = c .before .loop .inv .2

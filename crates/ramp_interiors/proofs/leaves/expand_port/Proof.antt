@@ -1,8 +1,6 @@
 -- `leaves::expand_port` meets its contract, from what its four walks ensure. Assumes nothing.
-use Prim.Native.Nat.{_≤_}
 use native.Mathlib.Omega.{arith}
-use mathlib.Core.Path.{_≡_, _∙_}
-use lib.ListN.{length}
+use mathlib.Core.Path.{_∙_}
 use Rattle.definitions.specs.RampInteriors.{exteriors}
 use Rattle.context.specs.Shown.{pairsBetween}
 use Rattle.ramp_interiors.proofs.Walks.{walk-more}
@@ -10,12 +8,6 @@ use Rattle.ramp_interiors.proofs.LeafLaws.{port-walked}
 use borrow.Author.Needs.{needs}
 use Rattle.ramp_interiors.proofs.leaves.expand_port.Statement.{statement}
 use Rattle.ramp_interiors.proofs.leaves.expand_port.Tie as tie
-use Rattle.ramp_interiors.proofs.leaves.expand_port.Reads as reads
-use Rattle.ramp_interiors.proofs.leaves.expand_port.Lts as lts
-use Rattle.ramp_interiors.proofs.leaves.clear_exteriors.Reads as clear-exteriors-reads
-use Rattle.ramp_interiors.proofs.leaves.expand_rows.Reads as expand-rows-reads
-use Rattle.ramp_interiors.proofs.leaves.mark_exteriors.Reads as mark-exteriors-reads
-use Rattle.ramp_interiors.proofs.leaves.rows_split.Reads as rows-split-reads
 
 mark-exteriors-requires : tie.Need-mark-exteriors-requires
 mark-exteriors-requires c κs = search needs
@@ -51,12 +43,13 @@ returns c =
     let z = c .before .before in
     let y = z .before .before in
     let x = y .before .before .before .before in
-    let m = x .before .before .before .before .before in
-    (λ C i rs v P I M.
-    let E = m .mark-exteriors .ensures .0 C rs (P .walk) I M in
-    let H = x .expand-rows .ensures .0 C i rs (exteriors rs (pairsBetween _ _ _)) v P I (E .marked) in
-    port-walked C i _ rs v _ _ _ P E H (y .rows-split .ensures C _ (P .walk) (H .inside)) (z .clear-exteriors .ensures .0 C rs (P .walk) (E .marked)),
-    (x .expand-rows .ensures .1, z .clear-exteriors .ensures .1 ∙ m .mark-exteriors .ensures .1))
+    let m = x .before .before .before .before .before in (
+      λ C i rs v P I M.
+          let E = m .mark-exteriors .ensures .0 C rs (P .walk) I M in
+          let H = x .expand-rows .ensures .0 C i rs (exteriors rs (pairsBetween _ _ _)) v P I (E .marked) in
+          port-walked C i _ rs v _ _ _ P E H (y .rows-split .ensures C _ (P .walk) (H .inside)) (z .clear-exteriors .ensures .0 C rs (P .walk) (E .marked)),
+      (x .expand-rows .ensures .1, z .clear-exteriors .ensures .1 ∙ m .mark-exteriors .ensures .1),
+    )
 
 pub expand-port-spec : {M : Type 1} → statement M
 expand-port-spec =

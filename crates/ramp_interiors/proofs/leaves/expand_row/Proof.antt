@@ -1,5 +1,4 @@
 -- `leaves::expand_row` meets its contract, by its tests. Assumes nothing.
-use native.Mathlib.Omega.{arith}
 use mathlib.Core.Path.{_≡_, refl, ap, subst, sym, _∙_}
 use mathlib.Core.Bool.{Bool, true, false, cond}
 use lib.ListN.{length, length-set}
@@ -8,13 +7,6 @@ use Rattle.ramp_interiors.proofs.LeafLaws.{row-inside, row-unclear, row
 use borrow.Author.Needs.{needs}
 use Rattle.ramp_interiors.proofs.leaves.expand_row.Statement.{statement}
 use Rattle.ramp_interiors.proofs.leaves.expand_row.Tie as tie
-use Rattle.ramp_interiors.proofs.leaves.expand_row.Reads as reads
-use Rattle.ramp_interiors.proofs.leaves.expand_row.Lts as lts
-use Rattle.ramp_interiors.proofs.components.parent_of.Reads as parent-of-reads
-use Rattle.ramp_interiors.proofs.components.set_parent.Reads as set-parent-reads
-use Rattle.ramp_interiors.proofs.leaves.choose.Reads as choose-reads
-use Rattle.ramp_interiors.proofs.leaves.is_exterior.Reads as is-exterior-reads
-use Rattle.ramp_interiors.proofs.leaves.is_leaf.Reads as is-leaf-reads
 
 -- the region that was chosen is one of the row's
 chosen-in : {x n lo hi : ℕ} (a : Bool) → x ≡ cond a hi lo → (1 ≤ lo) × (lo ≤ n) → (1 ≤ hi) × (hi ≤ n) → (1 ≤ x) × (x ≤ n)

@@ -1,5 +1,5 @@
 -- `leaves::expand_rows` meets its contract. The invariant: the names hold what the rows passed expand the regions to. Assumes nothing.
-use Prim.Native.Nat.{ℕ, _+_, _-_, _≤_, _<_}
+use Prim.Native.Nat.{ℕ, _-_, _≤_}
 use native.Mathlib.Omega.{arith}
 use mathlib.Core.Path.{_≡_, refl, _∙_}
 use mathlib.Core.Bool.{Bool}
@@ -11,17 +11,11 @@ use Rattle.definitions.specs.Context.{Context}
 use Rattle.definitions.specs.RampInteriors.{expandPairs}
 use Rattle.context.specs.Shown.{pairsBetween}
 use Rattle.ramp_interiors.specs.Given.{Marked}
-use Rattle.ramp_interiors.specs.Owners.{Walkable}
 use Rattle.ramp_interiors.specs.Leaves.{Inside, from, Held, Ported}
 use Rattle.ramp_interiors.proofs.Walks.{row-in, low-in, high-in}
 use Rattle.ramp_interiors.proofs.LeafLaws.{upTo, held-start, row-of, held-more, held-end}
 use Rattle.ramp_interiors.proofs.leaves.expand_rows.Statement.{statement}
 use Rattle.ramp_interiors.proofs.leaves.expand_rows.Tie as tie
-use Rattle.ramp_interiors.proofs.leaves.expand_rows.Reads as reads
-use Rattle.ramp_interiors.proofs.leaves.expand_rows.Lts as lts
-use Rattle.ramp_interiors.proofs.components.larger_at.Reads as larger-at-reads
-use Rattle.ramp_interiors.proofs.components.smaller_at.Reads as smaller-at-reads
-use Rattle.ramp_interiors.proofs.leaves.expand_row.Reads as expand-row-reads
 
 abbrev Inv-loop : tie.InvT-loop
 Inv-loop names₀ marks pairs first end r fit₀ k₀ names fit k =
@@ -68,12 +62,16 @@ loop-again c =
     let l = x .before .before in
     let t = l .before .before in
     let k = t .before .loop .k in
-    let u = t .before .loop .inv .0 in
-    (omega arith, omega (arith, t .loop-test .taken), x .expand-row .ensures .1 ∙ t .before .loop .inv .2, λ C i rs es v P I M.
-    let H = t .before .loop .inv .3 C i rs es v P I M in
-    let s = upTo C i (start t .args .r) rs es v (start t .args .pairs .now) (start t .args .first) (start t .args .end) P k in
-    held-more C i _ rs es v _ _ _ P k u (t .loop-test .taken) (l .before .smaller-at .ensures) (l .larger-at .ensures) H
-    (x .expand-row .ensures .0 C i (s .regions) es (s .valid) (row-of C i (start t .args .r) rs es v _ _ _ P k u (t .loop-test .taken) (l .before .smaller-at .ensures) (l .larger-at .ensures)) (H .inside) M))
+    let u = t .before .loop .inv .0 in (
+      omega arith,
+      omega (arith, t .loop-test .taken),
+      x .expand-row .ensures .1 ∙ t .before .loop .inv .2,
+      λ C i rs es v P I M.
+          let H = t .before .loop .inv .3 C i rs es v P I M in
+          let s = upTo C i (start t .args .r) rs es v (start t .args .pairs .now) (start t .args .first) (start t .args .end) P k in
+          held-more C i _ rs es v _ _ _ P k u (t .loop-test .taken) (l .before .smaller-at .ensures) (l .larger-at .ensures) H
+          (x .expand-row .ensures .0 C i (s .regions) es (s .valid) (row-of C i (start t .args .r) rs es v _ _ _ P k u (t .loop-test .taken) (l .before .smaller-at .ensures) (l .larger-at .ensures)) (H .inside) M),
+    )
 
 same-length : tie.Need-same-length Inv-loop μ-loop
 same-length c = c .before .loop .inv .2

@@ -5,9 +5,6 @@ use lib.ListN.{set, length-set}
 use borrow.Author.Needs.{needs}
 use Rattle.ramp_interiors.proofs.leaves.mark_exterior.Statement.{statement}
 use Rattle.ramp_interiors.proofs.leaves.mark_exterior.Tie as tie
-use Rattle.ramp_interiors.proofs.leaves.mark_exterior.Reads as reads
-use Rattle.ramp_interiors.proofs.leaves.mark_exterior.Lts as lts
-use Rattle.ramp_interiors.proofs.leaves.with_exterior.Reads as with-exterior-reads
 
 sub-with-exterior : tie.Need-sub-with-exterior
 sub-with-exterior c = search needs

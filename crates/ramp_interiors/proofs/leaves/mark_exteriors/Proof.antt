@@ -1,5 +1,5 @@
 -- `leaves::mark_exteriors` meets its contract. The invariant: the exteriors of the rows passed are marked. Assumes nothing.
-use Prim.Native.Nat.{ℕ, _+_, _-_, _≤_, _<_}
+use Prim.Native.Nat.{ℕ, _-_, _≤_, _<_}
 use native.Mathlib.Omega.{arith}
 use mathlib.Core.Path.{_≡_, refl, _∙_}
 use mathlib.Core.Bool.{false}
@@ -15,12 +15,6 @@ use Rattle.ramp_interiors.proofs.Walks.{row-in, low-in, high-in}
 use Rattle.ramp_interiors.proofs.ExteriorLaws.{marking-start, marking-more, marking-end}
 use Rattle.ramp_interiors.proofs.leaves.mark_exteriors.Statement.{statement}
 use Rattle.ramp_interiors.proofs.leaves.mark_exteriors.Tie as tie
-use Rattle.ramp_interiors.proofs.leaves.mark_exteriors.Reads as reads
-use Rattle.ramp_interiors.proofs.leaves.mark_exteriors.Lts as lts
-use Rattle.ramp_interiors.proofs.components.larger_at.Reads as larger-at-reads
-use Rattle.ramp_interiors.proofs.components.parent_of.Reads as parent-of-reads
-use Rattle.ramp_interiors.proofs.components.smaller_at.Reads as smaller-at-reads
-use Rattle.ramp_interiors.proofs.leaves.mark_exterior.Reads as mark-exterior-reads
 
 abbrev Inv-loop : tie.InvT-loop
 Inv-loop names marks₀ pairs first end r fit₀ k₀ marks fit k =
@@ -90,9 +84,13 @@ loop-again c =
     let m = n .before .before .before .before in
     let p = m .before .before in
     let l = p .before .before in
-    let t = l .before .before in
-    (omega (arith, up t), omega (arith, in-rows t), n .mark-exterior2 .ensures .1 ∙ m .mark-exterior .ensures .1 ∙ t .before .loop .inv .2, λ C rs w I M.
-    marking-more C rs _ _ _ _ _ I w (t .before .loop .k) (up t) (in-rows t) (l .before .smaller-at .ensures) (l .larger-at .ensures) (p .before .parent-of .ensures) (p .parent-of2 .ensures) (t .before .loop .inv .3 C rs w I M) (m .mark-exterior .ensures .0) (n .mark-exterior2 .ensures .0))
+    let t = l .before .before in (
+      omega (arith, up t),
+      omega (arith, in-rows t),
+      n .mark-exterior2 .ensures .1 ∙ m .mark-exterior .ensures .1 ∙ t .before .loop .inv .2,
+      λ C rs w I M.
+          marking-more C rs _ _ _ _ _ I w (t .before .loop .k) (up t) (in-rows t) (l .before .smaller-at .ensures) (l .larger-at .ensures) (p .before .parent-of .ensures) (p .parent-of2 .ensures) (t .before .loop .inv .3 C rs w I M) (m .mark-exterior .ensures .0) (n .mark-exterior2 .ensures .0),
+    )
 
 same-length : tie.Need-same-length Inv-loop μ-loop
 same-length c = c .before .loop .inv .2

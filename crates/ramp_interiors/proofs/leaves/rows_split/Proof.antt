@@ -1,8 +1,7 @@
 -- `leaves::rows_split` meets its contract. The invariant: the rows passed have exactly one region of that name. Assumes nothing.
-use Prim.Native.Nat.{ℕ, _+_, _-_, _≤_, _<_}
-use native.Mathlib.Omega.{arith}
+use Prim.Native.Nat.{ℕ, _-_, _≤_}
 use mathlib.Core.Path.{_≡_, sym, ap, ap₂, _∙_}
-use mathlib.Core.Bool.{Bool, true, false, not, _&&_, and-false}
+use mathlib.Core.Bool.{true, not, _&&_}
 use mathlib.Core.List.{List}
 use lib.Dec.{eqb}
 use borrow.Author.Needs.{needs}
@@ -17,11 +16,6 @@ use Rattle.ramp_interiors.proofs.Walks.{row-in, low-in, high-in}
 use Rattle.ramp_interiors.proofs.LeafLaws.{split-is}
 use Rattle.ramp_interiors.proofs.leaves.rows_split.Statement.{statement}
 use Rattle.ramp_interiors.proofs.leaves.rows_split.Tie as tie
-use Rattle.ramp_interiors.proofs.leaves.rows_split.Reads as reads
-use Rattle.ramp_interiors.proofs.leaves.rows_split.Lts as lts
-use Rattle.ramp_interiors.proofs.components.larger_at.Reads as larger-at-reads
-use Rattle.ramp_interiors.proofs.components.parent_of.Reads as parent-of-reads
-use Rattle.ramp_interiors.proofs.components.smaller_at.Reads as smaller-at-reads
 
 abbrev Inv-loop : tie.InvT-loop
 Inv-loop names pairs first end r k₀ k = (first ≤ k) × (k ≤ end) × ((C : Context) (rs : List ℕ) → Walkable pairs first end (C .regions) → Inside C r rs names → all (λ p. eqb (insideCount rs p) 1) (pairsBetween pairs first k) ≡ true)

@@ -5,8 +5,6 @@ use mathlib.Core.Bool.{cond}
 use borrow.Author.Needs.{needs}
 use Rattle.ramp_interiors.proofs.leaves.with_exterior.Statement.{statement}
 use Rattle.ramp_interiors.proofs.leaves.with_exterior.Tie as tie
-use Rattle.ramp_interiors.proofs.leaves.with_exterior.Reads as reads
-use Rattle.ramp_interiors.proofs.leaves.with_exterior.Lts as lts
 
 add-result : tie.Need-add-result
 add-result c = search needs

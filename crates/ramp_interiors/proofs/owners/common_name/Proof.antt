@@ -1,24 +1,19 @@
-use Rattle.ramp_interiors.proofs.Walks.{row-in, low-in}
 -- `owners::common_name` meets its contract. The invariant: the rows passed have the name of the first. Assumes nothing.
-use Prim.Native.Nat.{ℕ, _+_, _-_, _*_, _≤_, _<_}
+use Rattle.ramp_interiors.proofs.Walks.{row-in, low-in}
+use Prim.Native.Nat.{_+_, _-_, _≤_, _<_}
 use native.Mathlib.Omega.{arith}
 use mathlib.Core.Path.{_≡_, sym, ap, ap₂, _∙_}
-use mathlib.Core.Bool.{Bool, true, false, _&&_}
+use mathlib.Core.Bool.{true, _&&_}
 use lib.ListN.{getD}
 use lib.Arith.{lt-of-le-ne}
 use borrow.Author.Tests.{eq-eqb}
-use lib.Dec.{eqb}
 use borrow.Author.Needs.{needs}
 use Rattle.definitions.specs.Scan.{all}
 use Rattle.context.specs.Shown.{pairAt, pairsBetween}
-use Rattle.ramp_interiors.specs.Owners.{lowNamed, Common, none, one, severalNames}
+use Rattle.ramp_interiors.specs.Owners.{lowNamed, none, one, severalNames}
 use Rattle.ramp_interiors.proofs.RowScans.{between-none, all-rows-none, all-rows-next, all-rows-end, any-rows-at}
 use Rattle.ramp_interiors.proofs.owners.common_name.Statement.{statement}
 use Rattle.ramp_interiors.proofs.owners.common_name.Tie as tie
-use Rattle.ramp_interiors.proofs.owners.common_name.Reads as reads
-use Rattle.ramp_interiors.proofs.owners.common_name.Lts as lts
-use Rattle.ramp_interiors.proofs.components.parent_of.Reads as parent-of-reads
-use Rattle.ramp_interiors.proofs.components.smaller_at.Reads as smaller-at-reads
 
 abbrev Inv-loop : tie.InvT-loop
 Inv-loop names pairs first end name k₀ k = (first + 1 ≤ k) × (k ≤ end) × (all (lowNamed names name) (pairsBetween pairs first k) ≡ true)

@@ -1,5 +1,5 @@
 -- `owners::find_owners` meets its contract. The invariant: the owners of the boundaries passed are stored. Assumes nothing.
-use Prim.Native.Nat.{ℕ, _-_, _≤_, _<_}
+use Prim.Native.Nat.{_-_, _≤_, _<_}
 use native.Mathlib.Omega.{arith}
 use mathlib.Core.Path.{_≡_}
 use lib.ListN.{length, length-set}
@@ -11,9 +11,6 @@ use Rattle.ramp_interiors.specs.Owners.{Owned}
 use Rattle.ramp_interiors.proofs.Stored.{Filled, filled-more}
 use Rattle.ramp_interiors.proofs.owners.find_owners.Statement.{statement}
 use Rattle.ramp_interiors.proofs.owners.find_owners.Tie as tie
-use Rattle.ramp_interiors.proofs.owners.find_owners.Reads as reads
-use Rattle.ramp_interiors.proofs.owners.find_owners.Lts as lts
-use Rattle.ramp_interiors.proofs.owners.owner_of.Reads as owner-of-reads
 
 abbrev Inv-loop : tie.InvT-loop
 Inv-loop boundaries tallies pairs starts names count owners₀ i₀ owners i = (i ≤ count) × (length owners ≡ maxEntries) × ((C : Context) → Kept C boundaries tallies pairs starts names → C .count ≡ count → Filled (Owned C) owners i)

@@ -6,10 +6,6 @@ use Rattle.ramp_interiors.proofs.Commons.{owned-none, owned}
 use borrow.Author.Needs.{needs}
 use Rattle.ramp_interiors.proofs.owners.owner_of.Statement.{statement}
 use Rattle.ramp_interiors.proofs.owners.owner_of.Tie as tie
-use Rattle.ramp_interiors.proofs.owners.owner_of.Reads as reads
-use Rattle.ramp_interiors.proofs.owners.owner_of.Lts as lts
-use Rattle.ramp_interiors.proofs.components.is_ordinary.Reads as is-ordinary-reads
-use Rattle.ramp_interiors.proofs.owners.common_name.Reads as common-name-reads
 
 is-ordinary-requires : tie.Need-is-ordinary-requires
 is-ordinary-requires c κs = search needs

@@ -1,7 +1,6 @@
-use Rattle.ramp_interiors.proofs.Walks.{row-in, low-in, high-in}
 -- `owners::touches` meets its contract. The invariant: no row passed has a region of that name. Assumes nothing.
-use Prim.Native.Nat.{ℕ, _+_, _-_, _*_, _≤_, _<_}
-use native.Mathlib.Omega.{arith}
+use Rattle.ramp_interiors.proofs.Walks.{row-in, low-in, high-in}
+use Prim.Native.Nat.{_-_, _≤_}
 use mathlib.Core.Path.{_≡_, sym, ap, ap₂, _∙_}
 use mathlib.Core.Bool.{Bool, false, _||_}
 use lib.ListN.{getD}
@@ -13,11 +12,6 @@ use Rattle.ramp_interiors.specs.Owners.{pairNamed}
 use Rattle.ramp_interiors.proofs.RowScans.{any-rows-none, any-rows-next, any-rows-end, any-rows-at}
 use Rattle.ramp_interiors.proofs.owners.touches.Statement.{statement}
 use Rattle.ramp_interiors.proofs.owners.touches.Tie as tie
-use Rattle.ramp_interiors.proofs.owners.touches.Reads as reads
-use Rattle.ramp_interiors.proofs.owners.touches.Lts as lts
-use Rattle.ramp_interiors.proofs.components.larger_at.Reads as larger-at-reads
-use Rattle.ramp_interiors.proofs.components.parent_of.Reads as parent-of-reads
-use Rattle.ramp_interiors.proofs.components.smaller_at.Reads as smaller-at-reads
 
 abbrev Inv-loop : tie.InvT-loop
 Inv-loop names pairs first end r k₀ k = (first ≤ k) × (k ≤ end) × (any (pairNamed names r) (pairsBetween pairs first k) ≡ false)

@@ -3,9 +3,6 @@ use Rattle.ramp_interiors.proofs.PortLaws.{ports-none, ports-one, ports
 use borrow.Author.Needs.{needs}
 use Rattle.ramp_interiors.proofs.ports.find_ports.Statement.{statement}
 use Rattle.ramp_interiors.proofs.ports.find_ports.Tie as tie
-use Rattle.ramp_interiors.proofs.ports.find_ports.Reads as reads
-use Rattle.ramp_interiors.proofs.ports.find_ports.Lts as lts
-use Rattle.ramp_interiors.proofs.ports.next_port.Reads as next-port-reads
 
 next-port-requires : tie.Need-next-port-requires
 next-port-requires c κs = search needs

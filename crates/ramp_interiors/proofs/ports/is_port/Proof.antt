@@ -5,9 +5,6 @@ use Rattle.ramp_interiors.proofs.CandidateLaws.{port-own, port-other, t
 use borrow.Author.Needs.{needs}
 use Rattle.ramp_interiors.proofs.ports.is_port.Statement.{statement}
 use Rattle.ramp_interiors.proofs.ports.is_port.Tie as tie
-use Rattle.ramp_interiors.proofs.ports.is_port.Reads as reads
-use Rattle.ramp_interiors.proofs.ports.is_port.Lts as lts
-use Rattle.ramp_interiors.proofs.owners.touches.Reads as touches-reads
 
 returns : tie.Need-returns
 returns c = λ C M l o h. port-own C _ _ (M .from) (M .upto) o l h (c .if1 .taken)

@@ -10,9 +10,6 @@ use Rattle.ramp_interiors.specs.Candidates.{Mapped, candidate, port}
 use Rattle.ramp_interiors.proofs.RowScans.{from-more}
 use Rattle.ramp_interiors.proofs.ports.next_port.Statement.{statement}
 use Rattle.ramp_interiors.proofs.ports.next_port.Tie as tie
-use Rattle.ramp_interiors.proofs.ports.next_port.Reads as reads
-use Rattle.ramp_interiors.proofs.ports.next_port.Lts as lts
-use Rattle.ramp_interiors.proofs.ports.is_port.Reads as is-port-reads
 
 abbrev Inv-loop : tie.InvT-loop
 Inv-loop pairs starts names marks owners count r first i₀ i = (first ≤ i) × (i ≤ count) × ((C : Context) → Mapped C pairs starts names marks r → C .count ≡ count → Owners C owners → candidate C r ≡ true → (k : ℕ) → first ≤ k → k < i → port C r k ≡ false)
@@ -39,15 +36,17 @@ is-port-requires c κs =
 returns : tie.Need-returns Inv-loop μ-loop
 returns c =
     let t = c .before .before .before in
-    let i = t .before .loop .i in
-    (λ C M e O h.
-    let l : i < C .count = omega (arith, e, t .loop-test .taken) in
-    record {
-      rising = t .before .loop .inv .0;
-      upto = t .before .loop .inv .1;
-      found = λ q. sym (c .before .is-port .ensures C M l (O i l) h) ∙ c .if1 .taken;
-      before = t .before .loop .inv .2 C M e O h;
-    }, (t .before .loop .inv .0, t .before .loop .inv .1))
+    let i = t .before .loop .i in (
+      λ C M e O h.
+          let l : i < C .count = omega (arith, e, t .loop-test .taken) in
+          record {
+            rising = t .before .loop .inv .0;
+            upto = t .before .loop .inv .1;
+            found = λ q. sym (c .before .is-port .ensures C M l (O i l) h) ∙ c .if1 .taken;
+            before = t .before .loop .inv .2 C M e O h;
+          },
+      (t .before .loop .inv .0, t .before .loop .inv .1),
+    )
 
 add-i : tie.Need-add-i Inv-loop μ-loop
 add-i c = search needs
@@ -58,10 +57,13 @@ loop-less c = search needs
 loop-again : tie.Need-loop-again Inv-loop μ-loop
 loop-again c =
     let t = c .before .before .before in
-    let i = t .before .loop .i in
-    (omega (arith, t .before .loop .inv .0), omega (arith, t .loop-test .taken), λ C M e O h.
-    let l : i < C .count = omega (arith, e, t .loop-test .taken) in
-    from-more (λ k. port C (t .before .before .before .before .before .args .r) k ≡ false) _ _ (t .before .loop .inv .2 C M e O h) (sym (c .before .is-port .ensures C M l (O i l) h) ∙ c .if1 .left))
+    let i = t .before .loop .i in (
+      omega (arith, t .before .loop .inv .0),
+      omega (arith, t .loop-test .taken),
+      λ C M e O h.
+          let l : i < C .count = omega (arith, e, t .loop-test .taken) in
+          from-more (λ k. port C (t .before .before .before .before .before .args .r) k ≡ false) _ _ (t .before .loop .inv .2 C M e O h) (sym (c .before .is-port .ensures C M l (O i l) h) ∙ c .if1 .left),
+    )
 
 returns-2 : tie.Need-returns-2 Inv-loop μ-loop
 returns-2 c =

@@ -1,18 +1,11 @@
 -- `proposals::expand_ports` meets its contract, from what the two walks ensure. Assumes nothing.
-use Prim.Native.Nat.{_≤_}
 use native.Mathlib.Omega.{arith}
-use mathlib.Core.Path.{_≡_, _∙_}
+use mathlib.Core.Path.{_∙_}
 use mathlib.Core.Bool.{true}
-use lib.ListN.{length}
-use Rattle.definitions.specs.RampInteriors.{expandPort}
-use Rattle.ramp_interiors.specs.Leaves.{from}
 use Rattle.ramp_interiors.proofs.ProposalLaws.{shown-ported, both-walked}
 use borrow.Author.Needs.{needs}
 use Rattle.ramp_interiors.proofs.proposals.expand_ports.Statement.{statement}
 use Rattle.ramp_interiors.proofs.proposals.expand_ports.Tie as tie
-use Rattle.ramp_interiors.proofs.proposals.expand_ports.Reads as reads
-use Rattle.ramp_interiors.proofs.proposals.expand_ports.Lts as lts
-use Rattle.ramp_interiors.proofs.leaves.expand_port.Reads as expand-port-reads
 
 mul-expand-port : tie.Need-mul-expand-port
 mul-expand-port c = search needs
@@ -63,11 +56,12 @@ same-length-2 c = search needs
 returns : tie.Need-returns
 returns c =
     let f = c .before .before .before .before in
-    let e = f .before .before .before .before .before .before .before .before .before in
-    (λ C rs P l m I M.
-    let A = e .expand-port .ensures .0 C _ rs true (shown-ported P _ l) I M in
-    both-walked A (f .expand-port2 .ensures .0 C _ _ _ (shown-ported P _ m) (A .held .inside) (A .cleared .marked)),
-    (f .expand-port2 .ensures .1 .0 ∙ e .expand-port .ensures .1 .0, f .expand-port2 .ensures .1 .1 ∙ e .expand-port .ensures .1 .1))
+    let e = f .before .before .before .before .before .before .before .before .before in (
+      λ C rs P l m I M.
+          let A = e .expand-port .ensures .0 C _ rs true (shown-ported P _ l) I M in
+          both-walked A (f .expand-port2 .ensures .0 C _ _ _ (shown-ported P _ m) (A .held .inside) (A .cleared .marked)),
+      (f .expand-port2 .ensures .1 .0 ∙ e .expand-port .ensures .1 .0, f .expand-port2 .ensures .1 .1 ∙ e .expand-port .ensures .1 .1),
+    )
 
 pub expand-ports-spec : {M : Type 1} → statement M
 expand-ports-spec =
