@@ -14,3 +14,4 @@ pub mod ProposalLaws
 pub mod Apart
 pub mod NoConflict
 pub mod Removed
+pub mod ProgressLaws

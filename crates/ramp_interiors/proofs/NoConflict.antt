@@ -7,7 +7,7 @@ use mathlib.Core.Logic.{_⊎_, inl, inr, ⊎-elim}
 use mathlib.Core.List.{List}
 use lib.Dec.{eqb}
 use borrow.Author.Tests.{eqb-true}
-use Rattle.definitions.specs.Scan.{any, member}
+use Rattle.definitions.specs.Scan.{any, member, anyBelow}
 use Rattle.definitions.specs.Context.{Context, isIncident, noRamp, fullCut}
 use Rattle.definitions.specs.MouthShapes.{regionsOf}
 use Rattle.definitions.specs.RampInteriors.{Expansion, isOrdinary, components, componentOf, isEdge, componentRegions, expandPort}
@@ -39,16 +39,19 @@ module _ (C : Context) (S : Sound C) where
   unfolding isEdge isOrdinary
   edge-ordinary q j h = both (noRamp C j) (fullCut C j) (both (isOrdinary C j) (any (λ p. eqb (componentOf C (components C) (p .lo)) q) (C .pairs j)) h .0) .0
 
+  -- a region whose only incident has a ramp is in no component with an edge
+  pub loose-edge : (q : ℕ) → 1 ≤ q → anyBelow (C .count) (edge C q) ≡ true → (x i : ℕ) → i < C .count → Single C i x → noRamp C i ≡ false → inside C q x ≡ true → ⊥
+  loose-edge q from some x i l s w h =
+      let f = below-first (λ j. edge C q j && named C (within S) q x j) (C .count) (inside-named C (within S) q x from some h) in
+      let t = both (edge C q (f .place)) (named C (within S) q x (f .place)) (f .found) in
+      true≢false (sym (edge-ordinary q (f .place) (t .0)) ∙ ap (noRamp C) (sym (single-same C s l (f .below) (named-incident x (f .place) (t .1)))) ∙ w)
+
   module _ (q : ℕ) (from : 1 ≤ q) (cand : candidate C q ≡ true) where
     pub region-inside : (x : ℕ) → member x (regionsIn q) ≡ true → inside C q x ≡ true
     region-inside x h = sym (region-members C (within S) q from (candidate-edge C q cand) (candidate-inside C q cand) x) ∙ h
 
-    -- a region whose only incident has a ramp is in no component
     pub loose-outside : (x i : ℕ) → i < C .count → Single C i x → noRamp C i ≡ false → inside C q x ≡ true → ⊥
-    loose-outside x i l s w h =
-        let f = below-first (λ j. edge C q j && named C (within S) q x j) (C .count) (inside-named C (within S) q x from (candidate-edge C q cand) h) in
-        let t = both (edge C q (f .place)) (named C (within S) q x (f .place)) (f .found) in
-        true≢false (sym (edge-ordinary q (f .place) (t .0)) ∙ ap (noRamp C) (sym (single-same C s l (f .below) (named-incident x (f .place) (t .1)))) ∙ w)
+    loose-outside x i l s w h = loose-edge q from (candidate-edge C q cand) x i l s w h
 
   -- a candidate and its two ports
   pub record Fit (q a b : ℕ) : Type 0 where

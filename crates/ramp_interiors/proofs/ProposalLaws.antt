@@ -169,8 +169,8 @@ module _ {C : Context} {boundaries tallies pairs starts names marks owners : Lis
         unfolding portsFit
         ramps = first-two (not (noRamp C a)) (not (noRamp C b)) (fullCut C a) (fullCut C b) (eqb (C .boundary a .rampId) (C .boundary b .rampId)) (not (eqb (C .boundary a .kind) (C .boundary b .kind))) fit
 
-        leafed : (x : ℕ) → 1 ≤ x → x ≤ C .regions → entryAt now x ≡ r → (i : ℕ) → Single C i x → noRamp C i ≡ false → Leafed C r x
-        leafed x l m n i S w =
+        leafed : (x : ℕ) → 1 ≤ x → x ≤ C .regions → entryAt now x ≡ r → (i : ℕ) → i < C .count → Single C i x → noRamp C i ≡ false → Leafed C r x
+        leafed x l m n i u S w =
             record {
               first = a;
               second = b;
@@ -178,6 +178,7 @@ module _ {C : Context} {boundaries tallies pairs starts names marks owners : Lis
               two = listed;
               fit = fit;
               one = i;
+              below = u;
               single = S;
               ramp = w;
               found = sym (B .inside .at x l m) ∙ eq-eqb (entryAt now x) r n;
@@ -187,7 +188,7 @@ module _ {C : Context} {boundaries tallies pairs starts names marks owners : Lis
         spread =
             record {
               beyond = B .beyond;
-              each = λ x l m. ⊎-elim (λ n. inl n) (λ n. inr (n .0, ⊎-elim (λ S. leafed x l m (n .0) a S (negated (noRamp C a) (ramps .0))) (λ S. leafed x l m (n .0) b S (negated (noRamp C b) (ramps .1))) (n .1))) (B .each x l m);
+              each = λ x l m. ⊎-elim (λ n. inl n) (λ n. inr (n .0, ⊎-elim (λ S. leafed x l m (n .0) a (ports-below .0) S (negated (noRamp C a) (ramps .0))) (λ S. leafed x l m (n .0) b (ports-below .1) S (negated (noRamp C b) (ramps .1))) (n .1))) (B .each x l m);
             }
 
         pub ports-valid : t ≡ true → Proposed C r names now marks nowMarks (ports.Two a b)

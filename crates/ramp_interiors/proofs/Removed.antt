@@ -123,9 +123,16 @@ module _ (C : Context) (S : Sound C) where
       rising : Ascending (a ∷ b ∷ []) → a < b
       rising (sets.some (more h k) r) = h
 
-  ports-two : (r : ℕ) {a b : ℕ} → componentPorts C (components C) r ≡ a ∷ b ∷ [] → ((a < C .count) × (b < C .count)) × (a < b)
+  pub ports-two : (r : ℕ) {a b : ℕ} → componentPorts C (components C) r ≡ a ∷ b ∷ [] → ((a < C .count) × (b < C .count)) × (a < b)
   unfolding componentPorts numbersBelow
   ports-two r {a} {b} e = two-ports a b (C .count) (port C r) e
+
+  pub fit-of : (r : ℕ) {a b : ℕ} → 1 ≤ r → candidate C r ≡ true → componentPorts C (components C) r ≡ a ∷ b ∷ [] → portsFit C a b ≡ true → Fit C S r a b
+  unfolding portsFit
+  fit-of r {a} {b} from c e q =
+      let w = ports-two r e in
+      let g = first-two (not (noRamp C a)) (not (noRamp C b)) (fullCut C a) (fullCut C b) (eqb (C .boundary a .rampId) (C .boundary b .rampId)) (not (eqb (C .boundary a .kind) (C .boundary b .kind))) q in
+      record { from = from; cand = c; first = w .0 .0; second = w .0 .1; differ = λ z. omega (arith, w .1); firstRamp = negated (noRamp C a) (g .0); secondRamp = negated (noRamp C b) (g .1) }
 
   no-some : {p : InteriorProposal} → none ≡ some p → ⊥
   no-some e =
@@ -133,7 +140,7 @@ module _ (C : Context) (S : Sound C) where
       omega arith
 
   made : (n : ℕ) (p : InteriorProposal) → interiorProposal C (components C) (suc n) ≡ some p → Made (suc n) p
-  unfolding interiorProposal interiorFrom portsFit
+  unfolding interiorProposal interiorFrom
   made n p h = go (candidate C (suc n)) refl h
     where
       r : ℕ
@@ -154,13 +161,11 @@ module _ (C : Context) (S : Sound C) where
           pick true q true u false y m = absurd (no-some m)
           pick true q true u true false m = absurd (no-some m)
           pick true q true u true true m =
-              let w = ports-two r e in
-              let g = first-two (not (noRamp C a)) (not (noRamp C b)) (fullCut C a) (fullCut C b) (eqb (C .boundary a .rampId) (C .boundary b .rampId)) (not (eqb (C .boundary a .kind) (C .boundary b .kind))) q in
               let same : found ≡ p = cc in
               record {
                 first = a;
                 second = b;
-                fit = record { from = omega arith; cand = c; first = w .0 .0; second = w .0 .1; differ = λ z. omega (arith, w .1); firstRamp = negated (noRamp C a) (g .0); secondRamp = negated (noRamp C b) (g .1) };
+                fit = fit-of r (omega arith) c e q;
                 valid = u;
                 regions = sym (ap (λ z. z .regions) same);
                 edges = sym (ap (λ z. z .edges) same);

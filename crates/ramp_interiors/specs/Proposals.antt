@@ -1,16 +1,19 @@
 -- A component and what is found about it before its records are looked at. Definitions only; assumes nothing.
-use Prim.Native.Nat.{ℕ, _≤_}
+use Prim.Native.Nat.{ℕ, _≤_, _<_}
 use mathlib.Core.Path.{_≡_}
-use mathlib.Core.Bool.{true, false, _&&_, cond}
+use mathlib.Core.Bool.{Bool, true, false, not, _&&_, _||_, cond}
 use mathlib.Core.Logic.{_⊎_}
 use mathlib.Core.List.{List, [], _∷_}
-use Rattle.definitions.specs.Scan.{member}
+use lib.Dec.{eqb}
+use lib.ListN.{length, getD}
+use Rattle.definitions.specs.Limits.{maxEntries}
+use Rattle.definitions.specs.Scan.{member, anyBelow}
 use Rattle.definitions.specs.Context.{Context, noRamp}
 use Rattle.definitions.specs.RampInteriors.{Expansion, components, componentRegions, componentPorts, portsFit, expandPort}
 use Rattle.ramp_interiors.specs.Forest.{Beyond}
 use Rattle.ramp_interiors.specs.Given.{Given}
-use Rattle.ramp_interiors.specs.Owners.{entryAt, Owners}
-use Rattle.ramp_interiors.specs.Candidates.{Mapped, candidate}
+use Rattle.ramp_interiors.specs.Owners.{entryAt, several, edge, Owners}
+use Rattle.ramp_interiors.specs.Candidates.{Told, Mapped, candidate}
 use Rattle.ramp_interiors.specs.Leaves.{Inside, Single, Cleared, from}
 use Rattle.ramp_interiors.specs.declared.ports.Ports.{Ports}
 use Rattle.ramp_interiors.specs.declared.ports.Ports.the-variants as ports
@@ -53,6 +56,7 @@ module _ (C : Context) (r : ℕ) where
     pub two : componentPorts C (components C) r ≡ first ∷ second ∷ []
     pub fit : portsFit C first second ≡ true
     pub one : ℕ
+    pub below : one < C .count
     pub single : Single C one x
     pub ramp : noRamp C one ≡ false
     pub found : member x (expandedOf first second .regions) ≡ true
@@ -68,3 +72,60 @@ module _ (C : Context) (r : ℕ) where
     pub holds : (a b : ℕ) → x ≡ ports.Two a b → Inside C r (expandedOf a b .regions) names
     pub spread : Spread was names
     pub cleared : Cleared C wasMarks marks
+
+-- ---- all components
+
+-- in the place of a port, where there is none
+abbrev pub noPort : ℕ
+noPort = maxEntries
+
+-- boundary i is the first that its owner, a component, has
+unfoldable pub isFirst : List ℕ → ℕ → Bool
+unfolding anyBelow
+isFirst owners i = not (eqb (getD owners i 0) 0 || eqb (getD owners i 0) several) && not (anyBelow i (λ j. eqb (getD owners j 0) (getD owners i 0)))
+
+abbrev pub firstOf : Ports → ℕ
+firstOf ports.Other = noPort
+firstOf (ports.Two a b) = a
+
+abbrev pub secondOf : Ports → ℕ
+secondOf ports.Other = noPort
+secondOf (ports.Two a b) = b
+
+-- what is found at boundary i
+unfoldable pub foundPorts : Context → List ℕ → ℕ → Ports
+unfolding isFirst proposedPorts
+foundPorts C owners i = cond (isFirst owners i) (proposedPorts C (getD owners i 0)) ports.Other
+
+module _ (C : Context) (owners names : List ℕ) where
+  -- a component that no boundary before i has, and has an edge, is told by the names
+  abbrev pub Unmet : ℕ → Type 0
+  Unmet i = (q : ℕ) → 1 ≤ q → q ≤ C .regions → anyBelow (C .count) (edge C q) ≡ true → anyBelow i (λ j. eqb (getD owners j 0) q) ≡ false → Told C q names
+
+  -- what is found at boundary j expands to the regions that have the owner's name
+  abbrev pub Settled : ℕ → Type 0
+  Settled j = (a b : ℕ) → foundPorts C owners j ≡ ports.Two a b → Inside C (getD owners j 0) (expandedOf C (getD owners j 0) a b .regions) names
+
+-- the boundaries before i are done
+pub record Progress (C : Context) (owners was names wasMarks marks : List ℕ) (i : ℕ) : Type 0 where
+  pub long : C .regions ≤ length names
+  pub unmet : Unmet C owners names i
+  pub settled : (j : ℕ) → j < i → Settled C owners names j
+  pub beyond : Beyond (C .regions) was names
+  pub cleared : Cleared C wasMarks marks
+
+-- the lists show C, and the owners are known
+pub record Owning (C : Context) (boundaries tallies pairs starts owners : List ℕ) (count : ℕ) : Type 0 where
+  pub given : Given C boundaries tallies pairs starts
+  pub counted : C .count ≡ count
+  pub owned : Owners C owners
+
+-- some context is so, of which the boundaries before i are done
+abbrev pub SomeProgress : List ℕ → List ℕ → List ℕ → List ℕ → List ℕ → List ℕ → List ℕ → ℕ → ℕ → Type 0
+SomeProgress boundaries tallies pairs starts names marks owners count i =
+    (C : Context) × (Owning C boundaries tallies pairs starts owners count × Progress C owners names names marks marks i)
+
+-- the ports found at the boundaries before i are stored
+abbrev pub FoundAll : Context → List ℕ → List ℕ → List ℕ → ℕ → Type 0
+FoundAll C owners firsts seconds i =
+    (j : ℕ) → j < i → (getD firsts j 0 ≡ firstOf (foundPorts C owners j)) × (getD seconds j 0 ≡ secondOf (foundPorts C owners j))

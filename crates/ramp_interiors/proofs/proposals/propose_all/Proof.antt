@@ -1,0 +1,118 @@
+-- `proposals::propose_all` meets its contract. The invariant: the boundaries passed are done, and what was found is stored. Assumes nothing.
+use Prim.Native.Nat.{ℕ, _+_, _-_, _≤_, _<_}
+use native.Mathlib.Omega.{arith}
+use mathlib.Core.Path.{_≡_, refl, sym, subst, _∙_}
+use mathlib.Core.List.{List}
+use lib.ListN.{length, length-set}
+use borrow.Author.Needs.{needs}
+use Rattle.definitions.specs.Limits.{maxEntries}
+use Rattle.definitions.specs.Context.{Context}
+use Rattle.ramp_interiors.specs.Proposals.{Progress, Owning, FoundAll}
+use Rattle.ramp_interiors.proofs.ProgressLaws.{progress-now, found-more}
+use Rattle.ramp_interiors.proofs.proposals.propose_all.Statement.{statement}
+use Rattle.ramp_interiors.proofs.proposals.propose_all.Tie as tie
+use Rattle.ramp_interiors.proofs.proposals.propose_all.Reads as reads
+use Rattle.ramp_interiors.proofs.proposals.propose_all.Lts as lts
+use Rattle.ramp_interiors.proofs.proposals.first_of.Reads as first-of-reads
+use Rattle.ramp_interiors.proofs.proposals.propose_at.Reads as propose-at-reads
+use Rattle.ramp_interiors.proofs.proposals.second_of.Reads as second-of-reads
+
+abbrev Inv-loop : tie.InvT-loop
+Inv-loop boundaries tallies pairs starts names₀ marks₀ owners count firsts₀ seconds₀ i₀ names marks firsts seconds i =
+    (i ≤ count) × (length names ≡ length names₀) × (length marks ≡ length marks₀) × (length firsts ≡ maxEntries) × (length seconds ≡ maxEntries)
+    × ((C : Context) (was wasMarks : List ℕ) → Owning C boundaries tallies pairs starts owners count → Progress C owners was names₀ wasMarks marks₀ 0 → Progress C owners was names wasMarks marks i × FoundAll C owners firsts seconds i)
+
+abbrev μ-loop : tie.MeasureT-loop
+μ-loop boundaries tallies pairs starts names₀ marks₀ owners count firsts₀ seconds₀ i₀ names marks firsts seconds i = count - i
+
+-- at a turn
+module _ (c : tie.In-loop Inv-loop μ-loop) where
+  abbrev start : tie.Start Inv-loop μ-loop
+  start = c .before .before .before .before .before .before .before
+
+  few : c .before .loop .i < maxEntries
+  few = omega (arith, c .loop-test .taken, start .pre .0 .1 .0 .counted, start .pre .0 .1 .0 .given .bounds .few)
+
+loop-holds : tie.Need-loop-holds Inv-loop μ-loop
+loop-holds c =
+    let s = c .before .before .before .before .before in
+    (search needs, refl, refl, s .pre .1 .0, s .pre .1 .1, λ C was wasMarks W P. (P, λ j l. absurd (omega arith)))
+
+propose-at-requires : tie.Need-propose-at-requires Inv-loop μ-loop
+propose-at-requires c κs =
+    let t = c .before .before in
+    let w = start t .pre .0 in
+    (t .loop-test .taken, (w .0, (w .1 .0, progress-now (t .before .loop .inv .5 (w .0) _ _ (w .1 .0) (w .1 .1) .0))))
+
+first-of-requires : tie.Need-first-of-requires Inv-loop μ-loop
+first-of-requires c κs = search needs
+
+second-of-requires : tie.Need-second-of-requires Inv-loop μ-loop
+second-of-requires c κs = search needs
+
+mul-firsts : tie.Need-mul-firsts Inv-loop μ-loop
+mul-firsts c = search needs
+
+element-write-firsts : tie.Need-element-write-firsts Inv-loop μ-loop
+element-write-firsts c = few (c .before .before .before .before .before .before .before .before .before)
+
+mul-seconds : tie.Need-mul-seconds Inv-loop μ-loop
+mul-seconds c = search needs
+
+element-write-seconds : tie.Need-element-write-seconds Inv-loop μ-loop
+element-write-seconds c = few (c .before .before .before .before .before .before .before .before .before)
+
+add-i : tie.Need-add-i Inv-loop μ-loop
+add-i c = search needs
+
+loop-less : tie.Need-loop-less Inv-loop μ-loop
+loop-less c = search needs
+
+loop-again : tie.Need-loop-again Inv-loop μ-loop
+loop-again c =
+    let f = c .before in
+    let p = f .before .before .before .before .before in
+    let t = p .before .before .before in
+    let inv = t .before .loop .inv in
+    let i = t .before .loop .i in
+    (omega (arith, t .loop-test .taken), p .propose-at .ensures .1 .0 ∙ inv .1, p .propose-at .ensures .1 .1 ∙ inv .2, simp length-set (inv .3), simp length-set (inv .4), λ C was wasMarks W P.
+    let w = inv .5 C was wasMarks W P in
+    let n = p .propose-at .ensures .0 C was wasMarks W (w .0) in
+    (n .0, found-more C _ (t .before .loop .firsts) (t .before .loop .seconds) i (w .1) (omega (arith, few t, inv .3)) (omega (arith, few t, inv .4)) (f .first-of .ensures) (c .second-of .ensures) (n .1)))
+
+same-length : tie.Need-same-length Inv-loop μ-loop
+same-length c = c .before .loop .inv .1
+
+same-length-2 : tie.Need-same-length-2 Inv-loop μ-loop
+same-length-2 c = c .before .loop .inv .2
+
+returns : tie.Need-returns Inv-loop μ-loop
+returns c =
+    let a = c .before in
+    let s = a .before .before .before .before .before .before in
+    (λ C was wasMarks W P.
+    let w = a .loop .inv .5 C was wasMarks W P in
+    let same : a .loop .i ≡ C .count = omega (arith, a .loop .inv .0, c .loop-test .left, W .counted) in
+    (subst (λ n. Progress C (s .args .owners .now) was (a .loop .names) wasMarks (a .loop .marks) n) same (w .0), subst (λ n. FoundAll C (s .args .owners .now) (a .loop .firsts) (a .loop .seconds) n) same (w .1)),
+    (a .loop .inv .1, a .loop .inv .2))
+
+pub propose-all-spec : {M : Type 1} → statement M
+propose-all-spec =
+    tie.close
+    (tie.spec
+    Inv-loop
+    μ-loop
+    loop-holds
+    propose-at-requires
+    first-of-requires
+    second-of-requires
+    mul-firsts
+    element-write-firsts
+    mul-seconds
+    element-write-seconds
+    add-i
+    loop-less
+    loop-again
+    same-length
+    same-length-2
+    returns)
