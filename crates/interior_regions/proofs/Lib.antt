@@ -1,1 +1,2 @@
 mod Marking
+pub mod PlaceLaws
