@@ -26,6 +26,7 @@ use Rattle.ramp_interiors.specs.Given.{flagsOf, Marked}
 use Rattle.ramp_interiors.specs.Owners.{pairNamed, several, allIn, edge, Owned}
 use Rattle.ramp_interiors.specs.Candidates.{Mapped, isMarked, pairMarked, spoilsAt, candidate, port}
 use Rattle.ramp_interiors.proofs.Commons.{any-same}
+use Rattle.ramp_interiors.proofs.Bools.{negated}
 
 -- ---- tests
 
@@ -121,10 +122,6 @@ module _ (C : Context) (r : ℕ) where
 
     pub candidate-unspoilt : (i : ℕ) → i < C .count → spoilsAt C r i ≡ false
     candidate-unspoilt = any-fails-at (spoilsAt C r) (C .count) (negated spoiltAny (parts .1))
-      where
-        negated : (b : Bool) → not b ≡ true → b ≡ false
-        negated true e = absurd (false≢true e)
-        negated false e = refl
 
   pub spoilt : (i : ℕ) → i < C .count → spoilsAt C r i ≡ true → candidate C r ≡ false
   spoilt i l e = candidate-is ∙ ap (λ t. named && (some && few) && not t) (below-at (C .count) (spoilsAt C r) i l e) ∙ and-false (named && (some && few))

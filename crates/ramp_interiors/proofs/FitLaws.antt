@@ -1,7 +1,7 @@
 -- What the fields of ports and the corners of a region say, by the definitions. Assumes nothing.
 use Prim.Native.Nat.{ℕ, _*_, _<_}
 use mathlib.Core.Path.{_≡_, refl, sym, ap, subst, _∙_}
-use mathlib.Core.Bool.{Bool, true, false, not, _&&_, _||_, and-true, true≢false, false≢true}
+use mathlib.Core.Bool.{Bool, true, false, not, _&&_, _||_, and-true}
 use mathlib.Core.List.{List, map}
 use lib.ListN.{getD, List·getD-map}
 use lib.Dec.{eqb}
@@ -22,6 +22,7 @@ use Rattle.geometry.specs.Forms.{pointForm}
 use Rattle.context.specs.Shown.{ShownBoundaries}
 use Rattle.ramp_interiors.specs.declared.fits.Reach.{Reach}
 use Rattle.ramp_interiors.specs.Fits.{Aimed, elevationFits, isWithin}
+use Rattle.ramp_interiors.proofs.Bools.{negated, passed}
 
 pub radius-is : ofBits binary64 0x4080000000000000 ≡ maxApproachRadius
 unfolding maxApproachRadius float ofInt ofBits
@@ -78,10 +79,6 @@ module _ (C : Context) (a b q : ℕ) {t : Reach} (A : Aimed C a b t) where
 
   pub fits-fails : {mask : ℕ} {f : Bool} → mask ≡ C .region q .elevations → f ≡ allBelow 8 (elevationFits mask (t .lower) (t .upper)) → not f ≡ true → false ≡ regionFits C a b q
   fits-fails {f = f} e d h = sym (fits-is ∙ ap (λ x. x && all near (corners (C .region q))) (sym (elevations-is e) ∙ sym d ∙ negated f h))
-    where
-      negated : (x : Bool) → not x ≡ true → x ≡ false
-      negated true k = absurd (false≢true k)
-      negated false k = refl
 
   module _ (R : PassInRange C) (l : List geometry.Point) {s : Region} (same : s ≡ C .region q) (c : map pointForm l ≡ corners s) where
     abbrev corner : ℕ → Point
@@ -106,12 +103,8 @@ module _ (C : Context) (a b q : ℕ) {t : Reach} (A : Aimed C a b t) where
     unfolding all corners
     fits-corners {f = f} e d h k0 k1 k2 k3 =
         (λ j. k0 j && k1 j && k2 j && k3 j) ∙ order (near (corner 0)) (near (corner 1)) (near (corner 2)) (near (corner 3))
-        ∙ sym (fits-is ∙ ap (λ z. z && all near (corners (C .region q))) (sym (elevations-is e) ∙ sym d ∙ negated f h))
+        ∙ sym (fits-is ∙ ap (λ z. z && all near (corners (C .region q))) (sym (elevations-is e) ∙ sym d ∙ passed f h))
       where
-        negated : (z : Bool) → not z ≡ false → z ≡ true
-        negated true k = refl
-        negated false k = absurd (true≢false k)
-
         order : (z0 z1 z2 z3 : Bool) → (z0 && z1 && z2 && z3) ≡ (z0 && (z1 && (z2 && (z3 && true))))
         order true true true z3 = sym (and-true z3)
         order true true false z3 = refl

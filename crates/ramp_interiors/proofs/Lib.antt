@@ -1,3 +1,4 @@
+pub mod Bools
 pub mod RowScans
 pub mod Stored
 pub mod Forests

@@ -2,31 +2,35 @@
 use Prim.Native.Nat.{ℕ, _+_, _-_, _≤_, _<_}
 use native.Mathlib.Omega.{arith}
 use mathlib.Core.Path.{_≡_, refl, sym, ap, ap₂, subst, _∙_}
-use mathlib.Core.Bool.{Bool, true, false, not, _&&_, _||_, cond, and-false, true≢false, false≢true}
-use mathlib.Core.Logic.{_⊎_, inl, inr, ⊎-elim}
+use mathlib.Core.Bool.{Bool, true, false, not, _&&_, _||_, cond, and-false, true≢false}
+use mathlib.Core.Logic.{_⊎_, ⊎-elim}
 use mathlib.Core.List.{List, [], _∷_}
 use lib.ListN.{length, getD, set}
 use lib.Dec.{eqb}
-use borrow.Author.Tests.{eq-eqb, ne-eqb, eqb-true, eqb-false}
+use borrow.Author.Tests.{eq-eqb, ne-eqb, eqb-false}
 use Rattle.definitions.specs.Scan.{anyBelow, member}
-use Rattle.definitions.specs.Context.{Context, noRamp, fullCut}
-use Rattle.definitions.specs.RampInteriors.{components, componentOf, componentPorts, portsFit}
+use Rattle.definitions.specs.Context.{Context}
+use Rattle.definitions.specs.RampInteriors.{components, componentPorts, portsFit}
 use Rattle.laws.specs.ListLaws.Tests.{both}
 use Rattle.laws.specs.ListLaws.Below.{below-at}
 use Rattle.laws.specs.ListLaws.ScanSteps.{any-next, any-fails-at}
 use Rattle.laws.specs.RustContext.SoundContext.{Sound}
 use Rattle.laws.specs.RustInteriors.ComponentRegions.{inside}
 use Rattle.context.specs.OneMore.{last-or}
-use Rattle.ramp_interiors.specs.Owners.{entryAt, several, allIn, edge, Owned, Owners}
-use Rattle.ramp_interiors.specs.Candidates.{Told, Mapped, candidate}
-use Rattle.ramp_interiors.specs.Leaves.{Inside, Single, Cleared}
-use Rattle.ramp_interiors.specs.Proposals.{expandedOf, fittingPorts, proposedPorts, Facing, Leafed, Spread, Proposed, isFirst, firstOf, secondOf, foundPorts, Progress, Owning, FoundAll}
+use Rattle.ramp_interiors.specs.Given.{Known}
+use Rattle.ramp_interiors.specs.Owners.{several, allIn, edge, Owners}
+use Rattle.ramp_interiors.specs.Candidates.{Told, candidate}
+use Rattle.ramp_interiors.specs.Leaves.{Inside}
+use Rattle.ramp_interiors.specs.Proposals.{expandedOf, fittingPorts, proposedPorts, Facing, Leafed, Proposed, isFirst, firstOf, secondOf, foundPorts, Progress, Owning, FoundAll}
 use Rattle.ramp_interiors.specs.declared.ports.Ports.{Ports}
 use Rattle.ramp_interiors.specs.declared.ports.Ports.the-variants as ports
 use Rattle.ramp_interiors.proofs.Forests.{beyond-same, beyond-then}
+use Rattle.ramp_interiors.proofs.Preparing.{components-size}
+use Rattle.ramp_interiors.proofs.Walks.{names-long}
 use Rattle.ramp_interiors.proofs.Stored.{filled-more}
 use Rattle.ramp_interiors.proofs.NoConflict.{Fit, regions-apart, loose-edge}
 use Rattle.ramp_interiors.proofs.Removed.{fit-of}
+use Rattle.ramp_interiors.proofs.Bools.{negated}
 
 -- ---- a boundary that comes first
 
@@ -39,10 +43,6 @@ module _ {C : Context} (owners : List ℕ) (O : Owners C owners) (i : ℕ) (l : 
   first-parts =
       let t = both (not (eqb owner 0 || eqb owner several)) (not (anyBelow i (λ j. eqb (getD owners j 0) owner))) h in
       (negated (eqb owner 0 || eqb owner several) (t .0), negated (anyBelow i (λ j. eqb (getD owners j 0) owner)) (t .1))
-    where
-      negated : (b : Bool) → not b ≡ true → b ≡ false
-      negated true e = absurd (false≢true e)
-      negated false e = refl
 
   pub first-region : (1 ≤ owner) × (owner ≤ C .regions)
   first-region = ⊎-elim (λ e. absurd (clash (eq-eqb owner 0 e))) (λ e. ⊎-elim (λ d. absurd (clash' (eq-eqb owner several d))) (λ d. d) e) (O i l .range)
@@ -227,6 +227,19 @@ module _ {C : Context} {boundaries tallies pairs starts names marks owners was w
 
 -- one boundary's ports are stored
 pub found-more : (C : Context) (owners firsts seconds : List ℕ) (i : ℕ) {a b : ℕ} {x : Ports} → FoundAll C owners firsts seconds i → i < length firsts → i < length seconds → a ≡ firstOf x → b ≡ secondOf x → x ≡ foundPorts C owners i → FoundAll C owners (set firsts i a) (set seconds i b) (i + 1)
-found-more C owners firsts seconds i F k l d e q j m =
-    ( filled-more (λ o n. n ≡ firstOf (foundPorts C owners o)) firsts (λ o h. F o h .0) k (d ∙ ap firstOf q) j m
-    , filled-more (λ o n. n ≡ secondOf (foundPorts C owners o)) seconds (λ o h. F o h .1) l (e ∙ ap secondOf q) j m )
+found-more C owners firsts seconds i F k l d e q j m = (
+  filled-more (λ o n. n ≡ firstOf (foundPorts C owners o)) firsts (λ o h. F o h .0) k (d ∙ ap firstOf q) j m,
+  filled-more (λ o n. n ≡ secondOf (foundPorts C owners o)) seconds (λ o h. F o h .1) l (e ∙ ap secondOf q) j m,
+)
+
+-- ---- before the first boundary
+
+pub progress-start : {C : Context} {marks names : List ℕ} (owners : List ℕ) → Known C marks names → Progress C owners names names marks marks 0
+progress-start {C} {marks} {names} owners K =
+    record {
+      long = names-long C (K .named);
+      unmet = λ q a b e n. record { long = names-long C (K .named); at = λ x c d. ap (λ m. eqb m q) (K .named .at x c (omega (arith, components-size C))) };
+      settled = λ j l. absurd (omega arith);
+      beyond = beyond-same (C .regions) names;
+      cleared = record { marked = K .marked; beyond = beyond-same (C .regions) marks };
+    }

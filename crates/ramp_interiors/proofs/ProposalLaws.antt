@@ -2,7 +2,7 @@
 use Prim.Native.Nat.{ℕ, _+_, _-_, _≤_, _<_}
 use native.Mathlib.Omega.{arith}
 use mathlib.Core.Path.{_≡_, refl, sym, ap, ap₂, subst, _∙_}
-use mathlib.Core.Bool.{Bool, true, false, not, _&&_, _||_, cond, true≢false, false≢true}
+use mathlib.Core.Bool.{Bool, true, false, not, _&&_, _||_, cond, true≢false}
 use mathlib.Core.Logic.{_⊎_, inl, inr, ⊎-elim}
 use mathlib.Core.List.{List, [], _∷_}
 use lib.ListN.{getD}
@@ -27,6 +27,7 @@ use Rattle.ramp_interiors.specs.declared.ports.Ports.the-variants as por
 use Rattle.ramp_interiors.proofs.Forests.{beyond-same, beyond-then}
 use Rattle.ramp_interiors.proofs.Walks.{shown-walkable}
 use Rattle.ramp_interiors.proofs.CandidateLaws.{within, candidate-some, candidate-unspoilt}
+use Rattle.ramp_interiors.proofs.Bools.{negated, passed, first-two}
 
 -- ---- two walks
 
@@ -91,20 +92,6 @@ other-is C r [] e = refl
 other-is C r (x ∷ []) e = refl
 other-is C r (x ∷ y ∷ []) e = absurd (other (sym e))
 other-is C r (x ∷ y ∷ z ∷ l) e = refl
-
-negated : (b : Bool) → not b ≡ true → b ≡ false
-negated true e = absurd (false≢true e)
-negated false e = refl
-
-passed : (b : Bool) → not b ≡ false → b ≡ true
-passed true e = refl
-passed false e = absurd (true≢false e)
-
--- the first two of six tests
-first-two : (p q s t u w : Bool) → (p && q && s && t && u && w) ≡ true → (p ≡ true) × (q ≡ true)
-first-two true true s t u w e = (refl, refl)
-first-two true false s t u w e = absurd (false≢true e)
-first-two false q s t u w e = absurd (false≢true e)
 
 -- ---- what was found
 

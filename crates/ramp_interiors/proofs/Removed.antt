@@ -3,11 +3,11 @@
 use Prim.Native.Nat.{ℕ, zero, suc, _≤_, _<_}
 use native.Mathlib.Omega.{arith}
 use mathlib.Core.Path.{_≡_, refl, sym, ap, ap₂, subst, _∙_}
-use mathlib.Core.Bool.{Bool, true, false, not, _&&_, _||_, cond, false≢true}
+use mathlib.Core.Bool.{Bool, true, false, not, _&&_, _||_, cond, or-false, and-false}
 use mathlib.Core.Option.{Option, none, some}
 use mathlib.Core.List.{List, [], _∷_, _++_, append-nil, append-assoc}
 use lib.Dec.{eqb, ltb}
-use borrow.Author.Tests.{eq-eqb, ltb-true}
+use borrow.Author.Tests.{eq-eqb, ltb-true, ne-eqb, eqb-true, lt-ltb}
 use Rattle.definitions.specs.Scan.{any, all, member, collect, toList, onlyIf, anyBelow, concatMap}
 use Rattle.definitions.specs.Sort.{insert, sortOnto, sort, select}
 use Rattle.definitions.specs.Context.{Context, noRamp, fullCut}
@@ -15,16 +15,21 @@ use Rattle.definitions.specs.RampMouths.{meet}
 use Rattle.definitions.specs.RampInteriors.{InteriorProposal, components, componentRegions, edgesOf, componentPorts, portsFit, regionFits, interiorFrom, interiorProposal, proposals, ranksBefore, conflict, taken, removed}
 use Rattle.laws.specs.ListLaws.Lists.{All, done, more, all-map, all-append, any-append}
 use Rattle.laws.specs.ListLaws.Tests.{both}
+use Rattle.laws.specs.ListLaws.Below.{below-ext, below-none, below-at}
 use Rattle.laws.specs.ListLaws.Members.{any-fails, any-found, any-member}
 use Rattle.laws.specs.ListLaws.SortedMembers.{any-sort}
 use Rattle.laws.specs.SetLaws.Sets.{Ascending, numbersBelow, member-below, below-all, below-ascending}
 use Rattle.laws.specs.SetLaws.Sets as sets
 use Rattle.laws.specs.RustContext.SoundContext.{Sound}
-use Rattle.ramp_interiors.specs.Owners.{edge}
+use Rattle.ramp_interiors.specs.Owners.{edge, Owned}
 use Rattle.ramp_interiors.specs.Candidates.{candidate, port}
-use Rattle.ramp_interiors.specs.Proposals.{expandedOf}
+use Rattle.ramp_interiors.specs.Proposals.{expandedOf, fittingPorts, proposedPorts, recordsFit}
+use Rattle.ramp_interiors.specs.declared.ports.Ports.{Ports}
+use Rattle.ramp_interiors.specs.declared.ports.Ports.the-variants as ports
 use Rattle.ramp_interiors.proofs.ExteriorLaws.{member-append}
+use Rattle.ramp_interiors.proofs.CandidateLaws.{candidate-unspoilt, edge-owned}
 use Rattle.ramp_interiors.proofs.NoConflict.{Fit, regions-apart, edges-apart}
+use Rattle.ramp_interiors.proofs.Bools.{negated, first-two}
 
 -- ---- lists of which no two elements conflict
 
@@ -104,15 +109,6 @@ module _ (C : Context) (S : Sound C) where
     pub valid : expandedOf C name first second .valid ≡ true
     pub regions : p .regions ≡ expandedOf C name first second .regions
     pub edges : p .edges ≡ edgesOf C (components C) name
-
-  first-two : (p q s t u w : Bool) → (p && q && s && t && u && w) ≡ true → (p ≡ true) × (q ≡ true)
-  first-two true true s t u w e = (refl, refl)
-  first-two true false s t u w e = absurd (false≢true e)
-  first-two false q s t u w e = absurd (false≢true e)
-
-  negated : (b : Bool) → not b ≡ true → b ≡ false
-  negated true e = absurd (false≢true e)
-  negated false e = refl
 
   two-ports : (a b n : ℕ) (f : ℕ → Bool) → numbersBelow n f ≡ a ∷ b ∷ [] → ((a < n) × (b < n)) × (a < b)
   two-ports a b n f e = (below (subst (All (λ x. x < n)) e (below-all f n)), rising (subst Ascending e (below-ascending f n)))
@@ -249,3 +245,66 @@ module _ (C : Context) (S : Sound C) where
   removed-is i =
       ap (λ l. member i (concatMap (λ p. p .edges) l)) taken-is ∙ joined-member (λ p. p .edges) i (sort (ranksBefore C) (proposals C))
       ∙ any-sort (ranksBefore C) (λ p. member i (p .edges)) (proposals C) ∙ collected (λ p. member i (p .edges)) foundAt (C .regions)
+
+  -- ---- by owners
+
+  -- r names a proposal
+  abbrev pub isProposal : ℕ → Bool
+  isProposal r = any (λ p. true) (toList (interiorProposal C (components C) r))
+
+  module _ (i : ℕ) (l : i < C .count) {v : ℕ} (o : Owned C i v) where
+    owned-edge : (k : ℕ) → k < C .regions → any (λ p. member i (p .edges)) (toList (foundAt k)) ≡ (isProposal (suc k) && eqb v (suc k))
+    unfolding any
+    owned-edge k m = go (foundAt k) refl
+      where
+        go : (x : Option InteriorProposal) → foundAt k ≡ x → any (λ p. member i (p .edges)) (toList x) ≡ (any (λ p. true) (toList x) && eqb v (suc k))
+        go none e = refl
+        go (some p) e =
+            let w = made k p e in
+            or-false (member i (p .edges)) ∙ ap (member i) (w .edges) ∙ edge-of (suc k) i ∙ ap (λ b. b && edge C (suc k) i) (lt-ltb i (C .count) l)
+            ∙ sym (edge-owned C (suc k) i (omega arith) (omega arith) o (candidate-unspoilt C (suc k) (w .fit .cand) i l))
+
+    owned-scan : member i (removed C) ≡ anyBelow (C .regions) (λ k. isProposal (suc k) && eqb v (suc k))
+    owned-scan = removed-is i ∙ below-ext (C .regions) (λ k. any (λ p. member i (p .edges)) (toList (foundAt k))) (λ k. isProposal (suc k) && eqb v (suc k)) owned-edge
+
+    -- a boundary whose owner is no region stays
+    pub removed-none : ((k : ℕ) → k < C .regions → v ≡ suc k → ⊥) → member i (removed C) ≡ false
+    removed-none h = owned-scan ∙ below-none (C .regions) (λ k. isProposal (suc k) && eqb v (suc k)) (λ k m. ap (λ b. isProposal (suc k) && b) (ne-eqb v (suc k) (h k m)) ∙ and-false (isProposal (suc k)))
+
+    -- a boundary goes exactly when its owner is proposed
+    pub removed-owned : (n : ℕ) → n < C .regions → v ≡ suc n → member i (removed C) ≡ isProposal v
+    removed-owned n m q = owned-scan ∙ go (isProposal v) refl
+      where
+        go : (b : Bool) → isProposal v ≡ b → anyBelow (C .regions) (λ k. isProposal (suc k) && eqb v (suc k)) ≡ b
+        go true e = below-at (C .regions) (λ k. isProposal (suc k) && eqb v (suc k)) n m (ap₂ _&&_ (ap isProposal (sym q) ∙ e) (eq-eqb v (suc n) q))
+        go false e = below-none (C .regions) (λ k. isProposal (suc k) && eqb v (suc k)) (λ k u. at k (eqb v (suc k)) refl)
+          where
+            at : (k : ℕ) (t : Bool) → eqb v (suc k) ≡ t → (isProposal (suc k) && t) ≡ false
+            at k true d = ap (λ b. b && true) (ap isProposal (sym (eqb-true v (suc k) d)) ∙ e)
+            at k false d = and-false (isProposal (suc k))
+
+  -- ---- a proposal is what was found, with records that fit
+
+  pub proposal-is : (r : ℕ) → isProposal r ≡ recordsFit C r (proposedPorts C r)
+  unfolding interiorProposal interiorFrom proposedPorts fittingPorts recordsFit any
+  proposal-is r = go (candidate C r)
+    where
+      found : ℕ → ℕ → InteriorProposal
+      found a b = record { regions = expandedOf C r a b .regions; edges = edgesOf C (components C) r; firstPort = a; secondPort = b }
+
+      only : (p : InteriorProposal) (f v x y : Bool) (d : Ports) → recordsFit C r d ≡ (x && y) → any (λ q. true) (toList (onlyIf (f && v && x && y) p)) ≡ recordsFit C r (cond (f && v) d ports.Other)
+      only p true true true true d e = sym e
+      only p true true true false d e = sym e
+      only p true true false y d e = sym e
+      only p true false x y d e = refl
+      only p false v x y d e = refl
+
+      listed : (l : List ℕ) → any (λ p. true) (toList (interiorFrom C (componentRegions C (components C) r) (edgesOf C (components C) r) l)) ≡ recordsFit C r (fittingPorts C r l)
+      listed [] = refl
+      listed (a ∷ []) = refl
+      listed (a ∷ b ∷ []) = only (found a b) (portsFit C a b) (expandedOf C r a b .valid) (any (λ q. C .region q .hasRamp) (expandedOf C r a b .regions)) (all (regionFits C a b) (expandedOf C r a b .regions)) (ports.Two a b) refl
+      listed (a ∷ b ∷ c ∷ l) = refl
+
+      go : (t : Bool) → any (λ p. true) (toList (cond t (interiorFrom C (componentRegions C (components C) r) (edgesOf C (components C) r) (componentPorts C (components C) r)) none)) ≡ recordsFit C r (cond t (fittingPorts C r (componentPorts C (components C) r)) ports.Other)
+      go true = listed (componentPorts C (components C) r)
+      go false = refl

@@ -7,9 +7,9 @@ use mathlib.Core.List.{List, [], _∷_}
 use lib.Dec.{eqb}
 use lib.ListN.{length, getD}
 use Rattle.definitions.specs.Limits.{maxEntries}
-use Rattle.definitions.specs.Scan.{member, anyBelow}
+use Rattle.definitions.specs.Scan.{any, all, member, anyBelow}
 use Rattle.definitions.specs.Context.{Context, noRamp}
-use Rattle.definitions.specs.RampInteriors.{Expansion, components, componentRegions, componentPorts, portsFit, expandPort}
+use Rattle.definitions.specs.RampInteriors.{Expansion, components, componentRegions, componentPorts, portsFit, regionFits, expandPort}
 use Rattle.ramp_interiors.specs.Forest.{Beyond}
 use Rattle.ramp_interiors.specs.Given.{Given}
 use Rattle.ramp_interiors.specs.Owners.{entryAt, several, edge, Owners}
@@ -129,3 +129,9 @@ SomeProgress boundaries tallies pairs starts names marks owners count i =
 abbrev pub FoundAll : Context → List ℕ → List ℕ → List ℕ → ℕ → Type 0
 FoundAll C owners firsts seconds i =
     (j : ℕ) → j < i → (getD firsts j 0 ≡ firstOf (foundPorts C owners j)) × (getD seconds j 0 ≡ secondOf (foundPorts C owners j))
+
+-- what is asked of the records of the regions that a component with these ports expands to
+unfoldable pub recordsFit : Context → ℕ → Ports → Bool
+unfolding any all regionFits
+recordsFit C r ports.Other = false
+recordsFit C r (ports.Two a b) = any (λ q. C .region q .hasRamp) (expandedOf C r a b .regions) && all (regionFits C a b) (expandedOf C r a b .regions)

@@ -1,5 +1,5 @@
 -- `proposals::is_first` meets its contract. The invariant: no boundary passed has that owner. Assumes nothing.
-use Prim.Native.Nat.{_+_, _-_, _≤_, _<_}
+use Prim.Native.Nat.{_-_, _≤_}
 use native.Mathlib.Omega.{arith}
 use mathlib.Core.Path.{_≡_, refl}
 use mathlib.Core.Bool.{false}
@@ -12,8 +12,6 @@ use Rattle.laws.specs.ListLaws.ScanSteps.{any-none}
 use Rattle.ramp_interiors.proofs.ProgressLaws.{not-region, not-first, is-first}
 use Rattle.ramp_interiors.proofs.proposals.is_first.Statement.{statement}
 use Rattle.ramp_interiors.proofs.proposals.is_first.Tie as tie
-use Rattle.ramp_interiors.proofs.proposals.is_first.Reads as reads
-use Rattle.ramp_interiors.proofs.proposals.is_first.Lts as lts
 
 abbrev Inv-loop : tie.InvT-loop
 Inv-loop owners i owner j₀ j = (j ≤ i) × (anyBelow j (λ k. eqb (getD owners k 0) owner) ≡ false)

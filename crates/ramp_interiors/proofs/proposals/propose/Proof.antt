@@ -1,7 +1,7 @@
 -- `proposals::propose` meets its contract, from what its calls ensure. Assumes nothing.
 use Prim.Native.Nat.{_<_}
 use mathlib.Core.Path.{_≡_, refl, sym, _∙_}
-use mathlib.Core.Bool.{Bool, true, false, not, true≢false}
+use mathlib.Core.Bool.{true}
 use Rattle.definitions.specs.Context.{Context}
 use Rattle.definitions.specs.RampInteriors.{components, componentPorts}
 use Rattle.ramp_interiors.specs.Candidates.{candidate, twoPorts}
@@ -11,10 +11,7 @@ use Rattle.ramp_interiors.proofs.ProposalLaws.{no-candidate, no-ports, 
 use borrow.Author.Needs.{needs}
 use Rattle.ramp_interiors.proofs.proposals.propose.Statement.{statement}
 use Rattle.ramp_interiors.proofs.proposals.propose.Tie as tie
-
-passed : (b : Bool) → not b ≡ false → b ≡ true
-passed true e = refl
-passed false e = absurd (true≢false e)
+use Rattle.ramp_interiors.proofs.Bools.{passed}
 
 -- the lists as they were handed in, for a context
 abbrev Shown : tie.Start → Context → Type 0

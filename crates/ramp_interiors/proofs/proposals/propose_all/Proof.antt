@@ -1,7 +1,7 @@
 -- `proposals::propose_all` meets its contract. The invariant: the boundaries passed are done, and what was found is stored. Assumes nothing.
-use Prim.Native.Nat.{ℕ, _+_, _-_, _≤_, _<_}
+use Prim.Native.Nat.{ℕ, _-_, _≤_, _<_}
 use native.Mathlib.Omega.{arith}
-use mathlib.Core.Path.{_≡_, refl, sym, subst, _∙_}
+use mathlib.Core.Path.{_≡_, refl, subst, _∙_}
 use mathlib.Core.List.{List}
 use lib.ListN.{length, length-set}
 use borrow.Author.Needs.{needs}
@@ -11,11 +11,6 @@ use Rattle.ramp_interiors.specs.Proposals.{Progress, Owning, FoundAll}
 use Rattle.ramp_interiors.proofs.ProgressLaws.{progress-now, found-more}
 use Rattle.ramp_interiors.proofs.proposals.propose_all.Statement.{statement}
 use Rattle.ramp_interiors.proofs.proposals.propose_all.Tie as tie
-use Rattle.ramp_interiors.proofs.proposals.propose_all.Reads as reads
-use Rattle.ramp_interiors.proofs.proposals.propose_all.Lts as lts
-use Rattle.ramp_interiors.proofs.proposals.first_of.Reads as first-of-reads
-use Rattle.ramp_interiors.proofs.proposals.propose_at.Reads as propose-at-reads
-use Rattle.ramp_interiors.proofs.proposals.second_of.Reads as second-of-reads
 
 abbrev Inv-loop : tie.InvT-loop
 Inv-loop boundaries tallies pairs starts names₀ marks₀ owners count firsts₀ seconds₀ i₀ names marks firsts seconds i =
@@ -74,11 +69,17 @@ loop-again c =
     let p = f .before .before .before .before .before in
     let t = p .before .before .before in
     let inv = t .before .loop .inv in
-    let i = t .before .loop .i in
-    (omega (arith, t .loop-test .taken), p .propose-at .ensures .1 .0 ∙ inv .1, p .propose-at .ensures .1 .1 ∙ inv .2, simp length-set (inv .3), simp length-set (inv .4), λ C was wasMarks W P.
-    let w = inv .5 C was wasMarks W P in
-    let n = p .propose-at .ensures .0 C was wasMarks W (w .0) in
-    (n .0, found-more C _ (t .before .loop .firsts) (t .before .loop .seconds) i (w .1) (omega (arith, few t, inv .3)) (omega (arith, few t, inv .4)) (f .first-of .ensures) (c .second-of .ensures) (n .1)))
+    let i = t .before .loop .i in (
+      omega (arith, t .loop-test .taken),
+      p .propose-at .ensures .1 .0 ∙ inv .1,
+      p .propose-at .ensures .1 .1 ∙ inv .2,
+      simp length-set (inv .3),
+      simp length-set (inv .4),
+      λ C was wasMarks W P.
+          let w = inv .5 C was wasMarks W P in
+          let n = p .propose-at .ensures .0 C was wasMarks W (w .0) in
+          (n .0, found-more C _ (t .before .loop .firsts) (t .before .loop .seconds) i (w .1) (omega (arith, few t, inv .3)) (omega (arith, few t, inv .4)) (f .first-of .ensures) (c .second-of .ensures) (n .1)),
+    )
 
 same-length : tie.Need-same-length Inv-loop μ-loop
 same-length c = c .before .loop .inv .1
@@ -89,12 +90,13 @@ same-length-2 c = c .before .loop .inv .2
 returns : tie.Need-returns Inv-loop μ-loop
 returns c =
     let a = c .before in
-    let s = a .before .before .before .before .before .before in
-    (λ C was wasMarks W P.
-    let w = a .loop .inv .5 C was wasMarks W P in
-    let same : a .loop .i ≡ C .count = omega (arith, a .loop .inv .0, c .loop-test .left, W .counted) in
-    (subst (λ n. Progress C (s .args .owners .now) was (a .loop .names) wasMarks (a .loop .marks) n) same (w .0), subst (λ n. FoundAll C (s .args .owners .now) (a .loop .firsts) (a .loop .seconds) n) same (w .1)),
-    (a .loop .inv .1, a .loop .inv .2))
+    let s = a .before .before .before .before .before .before in (
+      λ C was wasMarks W P.
+          let w = a .loop .inv .5 C was wasMarks W P in
+          let same : a .loop .i ≡ C .count = omega (arith, a .loop .inv .0, c .loop-test .left, W .counted) in
+          (subst (λ n. Progress C (s .args .owners .now) was (a .loop .names) wasMarks (a .loop .marks) n) same (w .0), subst (λ n. FoundAll C (s .args .owners .now) (a .loop .firsts) (a .loop .seconds) n) same (w .1)),
+      (a .loop .inv .1, a .loop .inv .2),
+    )
 
 pub propose-all-spec : {M : Type 1} → statement M
 propose-all-spec =

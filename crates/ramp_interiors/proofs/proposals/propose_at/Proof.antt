@@ -2,15 +2,10 @@
 use Prim.Native.Nat.{_<_}
 use native.Mathlib.Omega.{arith}
 use mathlib.Core.Path.{refl}
-use Rattle.definitions.specs.Context.{Context}
 use Rattle.ramp_interiors.proofs.ProgressLaws.{facing, found-proposed, found-nothing}
 use borrow.Author.Needs.{needs}
 use Rattle.ramp_interiors.proofs.proposals.propose_at.Statement.{statement}
 use Rattle.ramp_interiors.proofs.proposals.propose_at.Tie as tie
-use Rattle.ramp_interiors.proofs.proposals.propose_at.Reads as reads
-use Rattle.ramp_interiors.proofs.proposals.propose_at.Lts as lts
-use Rattle.ramp_interiors.proofs.proposals.is_first.Reads as is-first-reads
-use Rattle.ramp_interiors.proofs.proposals.propose.Reads as propose-reads
 
 is-first-requires : tie.Need-is-first-requires
 is-first-requires c κs = search needs
@@ -40,18 +35,22 @@ returns c =
     let p = c .before .before .before .before in
     let t = p .before .before .before .before in
     let f = t .before in
-    let s = f .before .before .before .before .before .before in
-    (λ C was wasMarks W P.
-    let l : s .args .i < C .count = omega (arith, s .pre .0, W .counted) in
-    found-proposed W (s .args .i) l P (f .is-first .ensures) (t .if1 .taken) (p .propose .ensures .0 C (facing W (s .args .i) l P (f .is-first .ensures) (t .if1 .taken))), p .propose .ensures .1)
+    let s = f .before .before .before .before .before .before in (
+      λ C was wasMarks W P.
+          let l : s .args .i < C .count = omega (arith, s .pre .0, W .counted) in
+          found-proposed W (s .args .i) l P (f .is-first .ensures) (t .if1 .taken) (p .propose .ensures .0 C (facing W (s .args .i) l P (f .is-first .ensures) (t .if1 .taken))),
+      p .propose .ensures .1,
+    )
 
 returns-2 : tie.Need-returns-2
 returns-2 c =
     let f = c .before in
-    let s = f .before .before .before .before .before .before in
-    (λ C was wasMarks W P.
-    let l : s .args .i < C .count = omega (arith, s .pre .0, W .counted) in
-    found-nothing W (s .args .i) l P (f .is-first .ensures) (c .if1 .left), (refl, refl))
+    let s = f .before .before .before .before .before .before in (
+      λ C was wasMarks W P.
+          let l : s .args .i < C .count = omega (arith, s .pre .0, W .counted) in
+          found-nothing W (s .args .i) l P (f .is-first .ensures) (c .if1 .left),
+      (refl, refl),
+    )
 
 pub propose-at-spec : {M : Type 1} → statement M
 propose-at-spec =
