@@ -71,6 +71,12 @@ module _ {C : Context} {rows starts : List ℕ} (S : ShownPairs C rows starts) w
       same : i + (j - i) ≡ j
       same = omega arith
 
+  pub starts-fit : (i : ℕ) → i ≤ C .count → 2 * startAt i ≤ length rows
+  starts-fit i h = omega (arith, between i (C .count) h (omega arith), S .long)
+
+  pub starts-rise : 2 * startAt 0 ≤ 2 * startAt (C .count)
+  starts-rise = omega (arith, between 0 (C .count) (omega arith) (omega arith))
+
   -- the boundary whose row it is
   record Holder (n row : ℕ) : Type 0 where
     boundary : ℕ

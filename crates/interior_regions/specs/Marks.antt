@@ -1,15 +1,14 @@
 -- What is known once the components are proposed, and which of them the pass takes. Definitions only; assumes nothing.
 use Prim.Native.Nat.{ℕ, _≤_, _<_}
 use mathlib.Core.Path.{_≡_}
-use mathlib.Core.Bool.{Bool, true, false, _&&_}
+use mathlib.Core.Bool.{Bool, _&&_}
 use mathlib.Core.List.{List}
 use lib.ListN.{length, getD}
 use lib.Dec.{eqb}
-use Rattle.definitions.specs.Scan.{any, anyBelow, toList}
+use Rattle.definitions.specs.Scan.{anyBelow}
 use Rattle.definitions.specs.Context.{Context}
-use Rattle.definitions.specs.RampInteriors.{components, interiorProposal}
 use Rattle.laws.specs.FloatLaws.Pixels.{PixelContext}
-use Rattle.ramp_interiors.specs.Proposals.{isFirst, Settled, Owning, FoundAll}
+use Rattle.ramp_interiors.specs.Proposals.{foundPorts, Settled, Owning, FoundAll, recordsFit}
 use Rattle.interior_regions.specs.Places.{AllReadable, interiorFits}
 use Rattle.interior_regions.specs.declared.Interior.{Interior}
 
@@ -26,15 +25,10 @@ abbrev pub SomeInteriors : List ℕ → List ℕ → List ℕ → List ℕ → L
 SomeInteriors pairs starts owners firsts seconds count =
     (C : Context) × ((boundaries : List ℕ) × ((tallies : List ℕ) × ((names : List ℕ) × Interiors C boundaries tallies pairs starts names owners firsts seconds count)))
 
--- there is a proposal named r
-unfoldable pub proposes : Context → ℕ → Bool
-unfolding any interiorProposal components
-proposes C r = any (λ p. true) (toList (interiorProposal C (components C) r))
-
--- boundary i is the first of a component that is proposed
+-- the component whose first boundary is i is proposed: two ports were found there, and the records fit
 unfoldable pub accepted : Context → List ℕ → ℕ → Bool
-unfolding isFirst proposes
-accepted C owners i = isFirst owners i && proposes C (getD owners i 0)
+unfolding foundPorts recordsFit
+accepted C owners i = recordsFit C (getD owners i 0) (foundPorts C owners i)
 
 -- boundary j is an edge of one of which the first boundary is before i
 abbrev pub markedBefore : Context → List ℕ → ℕ → ℕ → Bool

@@ -44,7 +44,7 @@ module _ (C : Context) (rows names : List ℕ) (name first a b : ℕ) where
   abbrev pub rampAt : ℕ → Bool
   rampAt k = (leb first k && isNamed rows names name k) && C .region (regionAt rows k) .hasRamp
 
-  -- the regions with the name, at the places from `first` on, fit the ports a and b, and one has a ramp
+  -- the regions with the name, at the places from `first` on, fit the ports a and b, and one has a ramp; as `recordsFit` asks it of a list
   unfoldable pub interiorFits : ℕ → Bool
   unfolding allBelow anyBelow regionFits
-  interiorFits end = allBelow end fitsAt && anyBelow end rampAt
+  interiorFits end = anyBelow end rampAt && allBelow end fitsAt
