@@ -31,7 +31,7 @@ module _ (C : Context) (S : Sound C) where
   abbrev regionsIn : ℕ → List ℕ
   regionsIn q = componentRegions C (components C) q
 
-  named-incident : (x j : ℕ) → member x (regionsOf (C .pairs j)) ≡ true → isIncident C j x ≡ true
+  pub named-incident : (x j : ℕ) → member x (regionsOf (C .pairs j)) ≡ true → isIncident C j x ≡ true
   unfolding isIncident member
   named-incident x j h = sym (any-regions (eqb x) (C .pairs j) ∙ (λ t. any (λ p. eqb-sym x (p .lo) t || eqb-sym x (p .hi) t) (C .pairs j))) ∙ h
 

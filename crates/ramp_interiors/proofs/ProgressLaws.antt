@@ -85,7 +85,7 @@ two-found C r {a} {b} (x ∷ y ∷ []) e = go (portsFit C x y) refl (expandedOf 
         let c : y ≡ b = cc in
         (cc, (sym (ap₂ (portsFit C) d c) ∙ q, sym (ap₂ (λ m n. expandedOf C r m n .valid) d c) ∙ u))
 
-proposed-two : (C : Context) (r : ℕ) {a b : ℕ} → proposedPorts C r ≡ ports.Two a b → (candidate C r ≡ true) × ((componentPorts C (components C) r ≡ a ∷ b ∷ []) × ((portsFit C a b ≡ true) × (expandedOf C r a b .valid ≡ true)))
+pub proposed-two : (C : Context) (r : ℕ) {a b : ℕ} → proposedPorts C r ≡ ports.Two a b → (candidate C r ≡ true) × ((componentPorts C (components C) r ≡ a ∷ b ∷ []) × ((portsFit C a b ≡ true) × (expandedOf C r a b .valid ≡ true)))
 unfolding proposedPorts
 proposed-two C r {a} {b} e = go (candidate C r) refl e
   where
@@ -93,7 +93,7 @@ proposed-two C r {a} {b} e = go (candidate C r) refl e
     go true c k = (c, two-found C r (componentPorts C (components C) r) k)
     go false c k = absurd (other-two k)
 
-found-first : (C : Context) (owners : List ℕ) (i : ℕ) {a b : ℕ} → foundPorts C owners i ≡ ports.Two a b → (isFirst owners i ≡ true) × (proposedPorts C (getD owners i 0) ≡ ports.Two a b)
+pub found-first : (C : Context) (owners : List ℕ) (i : ℕ) {a b : ℕ} → foundPorts C owners i ≡ ports.Two a b → (isFirst owners i ≡ true) × (proposedPorts C (getD owners i 0) ≡ ports.Two a b)
 unfolding foundPorts
 found-first C owners i {a} {b} e = go (isFirst owners i) refl e
   where

@@ -1,0 +1,5 @@
+mod Marking
+mod Starting
+mod Stretches
+pub mod PlaceLaws
+pub mod JudgeLaws

@@ -1,0 +1,51 @@
+-- What stands at a boundary, by whether ports were found there. Assumes nothing.
+use Prim.Native.Nat.{ℕ, _*_, _≤_, _<_}
+use native.Mathlib.Omega.{arith}
+use mathlib.Core.Path.{_≡_, refl, sym, ap, ap₂, subst, _∙_}
+use mathlib.Core.List.{List}
+use lib.ListN.{length, getD}
+use Rattle.definitions.specs.Context.{Context}
+use Rattle.ramp_interiors.specs.Proposals.{noPort, firstOf, secondOf, foundPorts}
+use Rattle.ramp_interiors.specs.declared.ports.Ports.{Ports}
+use Rattle.ramp_interiors.specs.declared.ports.Ports.the-variants as ports
+use Rattle.interior_regions.specs.Places.{interiorFits, AllReadable}
+use Rattle.interior_regions.specs.Marks.{Interiors, Stretched}
+use Rattle.interior_regions.proofs.PlaceLaws.{place-readable, starts-rise}
+use Rattle.interior_regions.proofs.JudgeLaws.{found-fit, judged-two, judged-other}
+
+module _ {C : Context} {boundaries tallies pairs starts names owners firsts seconds : List ℕ} {count : ℕ} (I : Interiors C boundaries tallies pairs starts names owners firsts seconds count) (i : ℕ) (l : i < C .count) where
+  pub stretched-none : getD firsts i 0 ≡ noPort → Stretched C pairs names owners i (record { name = getD owners i 0; begin = 0; end = 0; first = i; second = i })
+  stretched-none e = go (foundPorts C owners i) refl
+    where
+      go : (x : Ports) → foundPorts C owners i ≡ x → Stretched C pairs names owners i (record { name = getD owners i 0; begin = 0; end = 0; first = i; second = i })
+      go ports.Other d =
+          record {
+            name = refl;
+            rising = omega arith;
+            readable = λ k a b. absurd (omega arith);
+            first = l;
+            second = l;
+            judged = judged-other (I .owning .given .sound) owners (I .owning .owned) i l pairs names (getD owners i 0) 0 i i d;
+          }
+      go (ports.Two a b) d = absurd (omega (arith, e, I .found i l .0 ∙ ap firstOf d, found-fit (I .owning .given .sound) owners (I .owning .owned) i l d .first, I .owning .given .paired .few))
+
+  pub stretched-two : (getD firsts i 0 ≡ noPort → ⊥) → Stretched C pairs names owners i (record { name = getD owners i 0; begin = 2 * getD starts 0 0; end = 2 * getD starts count 0; first = getD firsts i 0; second = getD seconds i 0 })
+  stretched-two n = go (foundPorts C owners i) refl
+    where
+      go : (x : Ports) → foundPorts C owners i ≡ x → Stretched C pairs names owners i (record { name = getD owners i 0; begin = 2 * getD starts 0 0; end = 2 * getD starts count 0; first = getD firsts i 0; second = getD seconds i 0 })
+      go ports.Other d = absurd (n (I .found i l .0 ∙ ap firstOf d))
+      go (ports.Two a b) d =
+          let f : getD firsts i 0 ≡ a = I .found i l .0 ∙ ap firstOf d in
+          let g : getD seconds i 0 ≡ b = I .found i l .1 ∙ ap secondOf d in
+          let F = found-fit (I .owning .given .sound) owners (I .owning .owned) i l d in
+          record {
+            name = refl;
+            rising = subst (λ m. 2 * getD starts 0 0 ≤ 2 * getD starts m 0) (I .owning .counted) (starts-rise (I .owning .given .paired));
+            readable = subst (λ m. AllReadable pairs (C .regions) (2 * getD starts 0 0) (2 * getD starts m 0)) (I .owning .counted) (place-readable (I .owning .given .paired));
+            first = subst (λ m. m < C .count) (sym f) (F .first);
+            second = subst (λ m. m < C .count) (sym g) (F .second);
+            judged =
+                ap₂ (λ m t. interiorFits C pairs names (getD owners i 0) (2 * getD starts 0 0) m t (2 * getD starts count 0)) f g
+                ∙ ap (λ m. interiorFits C pairs names (getD owners i 0) (2 * getD starts 0 0) a b (2 * getD starts m 0)) (sym (I .owning .counted))
+                ∙ judged-two (I .owning .given .sound) owners (I .owning .owned) i l (I .owning .given .paired) d (I .settled i l a b d);
+          }
