@@ -134,12 +134,12 @@ module _ (C : Context) (pairs names : List ℕ) (x : Interior) where
 
 pub judges-asks : {C : Context} {records : List Region} {boundaries pairs starts names owners firsts seconds : List ℕ} {count i : ℕ} {x : Interior} → Judges C records boundaries pairs starts names owners firsts seconds count → Stretched C pairs names owners i x
     → Asks C records boundaries pairs names x
-judges-asks J T =
+judges-asks h T =
     record {
-      held = J .held;
-      bounds = J .interiors .owning .given .bounds;
-      pixels = J .interiors .pixels;
-      long = J .interiors .long;
+      held = h .held;
+      bounds = h .interiors .owning .given .bounds;
+      pixels = h .interiors .pixels;
+      long = h .interiors .long;
       rising = T .rising;
       readable = T .readable;
       first = T .first;
@@ -147,23 +147,27 @@ judges-asks J T =
     }
 
 -- the edges of what is accepted at the boundaries before i are marked
-abbrev pub Judging : Context → List ℕ → List Bool → ℕ → ℕ → Type 0
-Judging C owners marked count i = (j : ℕ) → j < count → getD marked j false ≡ markedBefore C owners i j
+pub record Judging (C : Context) (owners : List ℕ) (marked : List Bool) (count i : ℕ) : Type 0 where
+  pub at : (j : ℕ) → j < count → getD marked j false ≡ markedBefore C owners i j
 
 pub judging-start : (C : Context) (owners : List ℕ) {marked : List Bool} {count : ℕ} → Unmarked marked count → Judging C owners marked count 0
 unfolding anyBelow
-judging-start C owners U j l = U .clear j l
+judging-start C owners u = record { at = u .clear }
 
 pub judging-more : {C : Context} {pairs names owners : List ℕ} {was marked : List Bool} {count i : ℕ} {x : Interior} {fits : Bool} → Stretched C pairs names owners i x
     → fits ≡ interiorFits C pairs names (x .name) (x .begin) (x .first) (x .second) (x .end)
     → Judging C owners was count i → ((j : ℕ) → j < count → getD marked j false ≡ (getD was j false || (fits && eqb (getD owners j 0) (x .name)))) → Judging C owners marked count (i + 1)
-judging-more {C} {owners = owners} {i = i} {x = x} {fits = fits} T e J m j l =
-    m j l ∙ ap₂ _||_ (J j l) (ap₂ (λ t n. t && eqb (getD owners j 0) n) (e ∙ T .judged) (T .name)) ∙ sym (any-next (λ k. accepted C owners k && eqb (getD owners j 0) (getD owners k 0)) i)
+judging-more {C} {owners = owners} {i = i} T e h m =
+    record {
+      at = λ j l.
+          m j l ∙ ap₂ _||_ (h .at j l) (ap₂ (λ t n. t && eqb (getD owners j 0) n) (e ∙ T .judged) (T .name))
+          ∙ sym (any-next (λ k. accepted C owners k && eqb (getD owners j 0) (getD owners k 0)) i);
+    }
 
 pub judging-ends : {C : Context} {records : List Region} {boundaries pairs starts names owners firsts seconds : List ℕ} {marked : List Bool} {count i : ℕ} → Judges C records boundaries pairs starts names owners firsts seconds count → i ≡ count
     → Judging C owners marked count i → (j : ℕ) → j < count → getD marked j false ≡ member j (removed C)
-judging-ends {C} {owners = owners} {i = i} J e h j l =
-    h j l ∙ ap (λ n. markedBefore C owners n j) (e ∙ sym counted) ∙ marked-removed (J .interiors .owning .given .sound) (omega (arith, J .interiors .few)) owners (J .interiors .owning .owned) j (omega (arith, counted))
+judging-ends {C} {owners = owners} {count = count} {i = i} g e h j l =
+    h .at j l ∙ ap (λ n. markedBefore C owners n j) (e ∙ sym counted) ∙ marked-removed (g .interiors .owning .given .sound) (omega (arith, g .interiors .few)) owners (g .interiors .owning .owned) j (omega (arith, counted))
   where
-    counted : C .count ≡ _
-    counted = J .interiors .owning .counted
+    counted : C .count ≡ count
+    counted = g .interiors .owning .counted
