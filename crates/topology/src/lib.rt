@@ -208,6 +208,15 @@ pub fn collapse_ramp_interiors(
         &mut seconds,
     );
     judge_interiors(
-        records, boundaries, pairs, starts, counts, &owners, &firsts, &seconds, count, removed,
+        records,
+        boundaries,
+        pairs,
+        starts,
+        counts,
+        &owners,
+        &firsts,
+        &seconds,
+        count,
+        removed,
     );
 }

@@ -46,10 +46,13 @@ loop-less : tie.Need-loop-less Inv-loop μ-loop
 loop-less c = search needs
 
 loop-again : tie.Need-loop-again Inv-loop μ-loop
-loop-again c =
-    (omega (arith, c .before .before .before .before .loop-test .taken), c .mark-edges .ensures .1, λ C J.
-    let T = c .before .before .before .interior-at .ensures C _ _ _ (J .interiors) in
-    judging-more T (c .before .before .interior-fits .ensures C (judges-asks J T)) (c .before .before .before .before .before .loop .inv .2 C J) (c .mark-edges .ensures .0))
+loop-again c = (
+  omega (arith, c .before .before .before .before .loop-test .taken),
+  c .mark-edges .ensures .1,
+  λ C J.
+      let T = c .before .before .before .interior-at .ensures C _ _ _ (J .interiors) in
+      judging-more T (c .before .before .interior-fits .ensures C (judges-asks J T)) (c .before .before .before .before .before .loop .inv .2 C J) (c .mark-edges .ensures .0),
+)
 
 returns : tie.Need-returns Inv-loop μ-loop
 returns c = λ C J. judging-ends J (omega (arith, c .loop-test .left, c .before .loop .inv .0)) (c .before .loop .inv .2 C J)
