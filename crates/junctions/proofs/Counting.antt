@@ -124,5 +124,9 @@ module _ (boundaries smaller larger marks counts : List ℕ) (count : ℕ) where
   pub bridges-few : (m : ℕ) → 3 * length (collect m bridges) ≤ 2 * count
   unfolding names
   bridges-few m =
-      omega (arith, collect-present bridges m, rows (λ k j. names smaller larger (suc k) j) (λ k. present (bridges k)) m count three-named,
-      columns (λ k j. names smaller larger (suc k) j) m count (λ j. named-twice (pairOf smaller larger j) m))
+      omega (
+        arith,
+        collect-present bridges m,
+        rows (λ k j. names smaller larger (suc k) j) (λ k. present (bridges k)) m count three-named,
+        columns (λ k j. names smaller larger (suc k) j) m count (λ j. named-twice (pairOf smaller larger j) m),
+      )

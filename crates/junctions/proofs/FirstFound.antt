@@ -25,6 +25,13 @@ module _ (f : ℕ → Bool) (from : ℕ) where
       go true q = h l a (ltb-true l j q)
       go false q = ap f (omega (arith, ltb-false l j q)) ∙ e
 
+  -- j passes, or the search has come to the end
+  pub first-here : {n j : ℕ} → NoneFrom j → from ≤ j → j < n → f j ≡ true → FirstFrom f from n j
+  first-here h a l e = record { within = omega arith; behind = λ b. a; none = h; found = λ b. e }
+
+  pub first-nowhere : {n j : ℕ} → NoneFrom j → n ≤ j → FirstFrom f from n n
+  first-nowhere h l = record { within = omega arith; behind = λ b. absurd (omega arith); none = λ k a b. h k a (omega arith); found = λ b. absurd (omega arith) }
+
 abbrev pub found : (ℕ → Bool) → ℕ → List ℕ
 found f n = collect n (λ j. onlyIf (f j) j)
 

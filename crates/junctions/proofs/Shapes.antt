@@ -1,15 +1,20 @@
 -- The shape of a union, as `is_union` finds it: test by test, each return says what the whole test says. Assumes nothing.
 use Prim.Native.Nat.{ℕ, _≤_, _<_}
+use native.Mathlib.Omega.{arith}
 use mathlib.Core.Path.{_≡_, refl, sym, ap, _∙_}
 use mathlib.Core.Bool.{Bool, true, false, not, _&&_, true≢false, false≢true}
 use mathlib.Core.List.{List}
 use lib.ListN.{getD}
 use lib.Dec.{eqb, ltb, leb}
 use borrow.Author.Tests.{eq-eqb, ne-eqb, lt-ltb, le-ltb}
-use Rattle.definitions.specs.Scan.{countBelow}
+use Rattle.definitions.specs.Scan.{countBelow, bit}
 use Rattle.definitions.specs.Grid.{Pair}
 use Rattle.junctions.specs.Ports.{walkFits}
 use Rattle.junctions.specs.Unions.{noRampAt, marksOf, leadsAnew, portsPass, shapeAt, isUnionAt}
+
+pub bit-le : (b : Bool) → bit b ≤ 1
+bit-le true = omega arith
+bit-le false = omega arith
 
 pub negated-true : (b : Bool) → not b ≡ true → b ≡ false
 negated-true true e = absurd (false≢true e)

@@ -1,6 +1,5 @@
 -- Proposals as rows of four numbers: boundary, kind, first and second region. Definitions only; assumes nothing.
 use Prim.Native.Nat.{ℕ, _+_, _*_, _≤_, _<_}
-use mathlib.Core.Path.{_≡_}
 use mathlib.Core.Bool.{Bool, not, _&&_, cond}
 use mathlib.Core.Option.{Option, some}
 use mathlib.Core.List.{List}

@@ -195,6 +195,15 @@ pub fn bridge_of(
         return Bridge::None;
     }
     bridge_of_three(
-        boundaries, smaller, larger, marks, count, regions, r, i, j, k,
+        boundaries,
+        smaller,
+        larger,
+        marks,
+        count,
+        regions,
+        r,
+        i,
+        j,
+        k,
     )
 }

@@ -15,6 +15,7 @@ ghost use Rattle.junctions.specs.Lent.{Placed};
 ghost use Rattle.junctions.specs.Unions.{isNear, passesAt};
 
 pub const NUMBERS_PER_BOUNDARY: usize = 9;
+
 const MAX_PORT_DISTANCE_PIXELS: f64 = 384.0;
 
 pub fn within_distance(left: Point, right: Point, limit: f64) -> bool

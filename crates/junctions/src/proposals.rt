@@ -18,14 +18,7 @@ pub const NUMBERS_PER_PROPOSAL: usize = 4;
 pub const MAX_PROPOSALS: usize = 426;
 
 // Puts a proposal behind the first n.
-fn push_proposal(
-    rows: &mut [u32],
-    n: usize,
-    index: usize,
-    kind: u32,
-    first: u32,
-    second: u32,
-)
+fn push_proposal(rows: &mut [u32], n: usize, index: usize, kind: u32, first: u32, second: u32)
     requires { ⌜ (n < maxProposals) × (index < 256) ⌝ }
     requires { ⌜ numbersPerProposal * maxProposals ≤ length (now rows) ⌝ }
     ensures { λ _. ⌜ rowsOf (now (rows .exit)) (n + 1) ≡ rowsOf (now (rows .entry)) n ++ (record { index = index; kind = kind; first = first; second = second } ∷ []) ⌝ }
@@ -56,7 +49,16 @@ fn add_union(
     ensures { λ r. ⌜ rowsOf (now (rows .exit)) r ≡ rowsOf (now (rows .entry)) n ++ toList (unionAt (now (boundaries .entry)) (now (smaller .entry)) (now (larger .entry)) (now (counts .entry)) (now (marks .entry)) count i) ⌝ }
     ensures { λ r. ⌜ r ≤ n + 1 ⌝ }
 {
-    if is_union(boundaries, smaller, larger, counts, marks, count, regions, i) {
+    if is_union(
+        boundaries,
+        smaller,
+        larger,
+        counts,
+        marks,
+        count,
+        regions,
+        i,
+    ) {
         push_proposal(rows, n, i, 0, smaller[i], larger[i]);
         return n + 1;
     }
@@ -82,7 +84,16 @@ fn find_unions(
     let mut n = 0;
     for i in 0..count {
         n = add_union(
-            boundaries, smaller, larger, counts, marks, count, regions, rows, n, i,
+            boundaries,
+            smaller,
+            larger,
+            counts,
+            marks,
+            count,
+            regions,
+            rows,
+            n,
+            i,
         );
     }
     n
@@ -108,7 +119,16 @@ fn add_bridge(
     ensures { λ x. ⌜ rowsOf (now (rows .exit)) x ≡ rowsOf (now (rows .entry)) n ++ toList (isBridgeAt (now (boundaries .entry)) (now (smaller .entry)) (now (larger .entry)) (now (marks .entry)) r (now (counts .entry)) count) ⌝ }
     ensures { λ x. ⌜ x ≡ n + length (toList (isBridgeAt (now (boundaries .entry)) (now (smaller .entry)) (now (larger .entry)) (now (marks .entry)) r (now (counts .entry)) count)) ⌝ }
 {
-    match bridge_of(boundaries, smaller, larger, counts, marks, count, regions, r) {
+    match bridge_of(
+        boundaries,
+        smaller,
+        larger,
+        counts,
+        marks,
+        count,
+        regions,
+        r,
+    ) {
         Bridge::At(index, exterior) => {
             push_proposal(rows, n, index, 1, r, exterior);
             n + 1
@@ -171,9 +191,24 @@ pub fn find_proposals(
     ensures { λ r. ⌜ ((C : Context) → Shows (now (boundaries .entry)) (now (smaller .entry)) (now (larger .entry)) (now (counts .entry)) (now (marks .entry)) count regions C → filter (isAllowed C) (rowsOf (now (rows .exit)) r) ≡ proposals C) ⌝ }
 {
     let unions = find_unions(
-        boundaries, smaller, larger, counts, marks, count, regions, rows,
+        boundaries,
+        smaller,
+        larger,
+        counts,
+        marks,
+        count,
+        regions,
+        rows,
     );
     find_bridges(
-        boundaries, smaller, larger, counts, marks, count, regions, rows, unions,
+        boundaries,
+        smaller,
+        larger,
+        counts,
+        marks,
+        count,
+        regions,
+        rows,
+        unions,
     )
 }

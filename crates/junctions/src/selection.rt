@@ -147,7 +147,16 @@ fn take_if_free(
     ensures { λ r. ⌜ r ≤ t + 1 ⌝ }
 {
     if is_refused(
-        smaller, larger, rows, removed, reserved, taken, count, n, t, p,
+        smaller,
+        larger,
+        rows,
+        removed,
+        reserved,
+        taken,
+        count,
+        n,
+        t,
+        p,
     ) {
         return t;
     }
@@ -182,7 +191,16 @@ fn select_ranked(
     for k in 0..m {
         let p = wide(order[k]);
         t = take_if_free(
-            smaller, larger, rows, removed, reserved, taken, count, n, t, p,
+            smaller,
+            larger,
+            rows,
+            removed,
+            reserved,
+            taken,
+            count,
+            n,
+            t,
+            p,
         );
     }
 }

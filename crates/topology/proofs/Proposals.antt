@@ -1,5 +1,5 @@
--- The loop of `allow_proposals`: what `is_allowed` asks is at hand, and one mark more. Assumes nothing.
-use Prim.Native.Nat.{ℕ, _+_, _-_, _<_}
+-- The loop of `allow_proposals`: what `is_allowed` asks is at hand, and one mark more. And what the parts of pass 3 ask of one another. Assumes nothing.
+use Prim.Native.Nat.{ℕ, _+_, _-_, _*_, _≤_, _<_}
 use native.Mathlib.Omega.{arith}
 use mathlib.Core.Path.{_≡_, _∙_}
 use mathlib.Core.Logic.{⊎-elim}
@@ -7,13 +7,17 @@ use mathlib.Core.Bool.{Bool, false}
 use mathlib.Core.List.{List}
 use lib.ListN.{length, getD, set, length-set}
 use lib.Seq.{getD-set-same, getD-set-other}
+use Rattle.definitions.specs.Scan.{filter}
 use Rattle.definitions.specs.Context.{Context}
+use Rattle.definitions.specs.Junctions.{proposals}
 use Rattle.context.specs.declared.Region.{Region}
 use Rattle.context.specs.OneMore.{last-or}
-use Rattle.junctions.specs.Rows.{rowAt, isAllowed}
+use Rattle.junctions.specs.Rows.{maxProposals, numbersPerProposal, rowAt, rowsOf, RowFits, isAllowed}
+use Rattle.junctions.specs.Taken.{Judged, removedAt}
+use Rattle.junctions.proofs.Passing.{pass-removed}
 use Rattle.junction_regions.specs.Asked.{Asked}
 use Rattle.topology.specs.Held.{record-is}
-use Rattle.topology.specs.Proposals.{Allows, Allowed}
+use Rattle.topology.specs.Proposals.{Allows, Allowed, Passes, Unmarked, Removes}
 
 -- the records of row k's regions were read at i and j
 pub asked : {C : Context} {records : List Region} {boundaries marks rows : List ℕ} {n k i j : ℕ} {first second : Region} → Allows C records boundaries marks rows n → k < n
@@ -37,3 +41,32 @@ allowed-more {C} {rows} {k} {allowed} r l h e = record { long = length-set allow
 
     there : (j : ℕ) → j < k → getD (set allowed k r) j false ≡ isAllowed C (rowAt rows j)
     there j b = getD-set-other allowed k j r false (λ s. omega (arith, s)) ∙ h .at j b
+
+module _ {C : Context} {records : List Region} {boundaries smaller larger counts marks rows : List ℕ} {count regions n : ℕ} (h : Passes C records boundaries smaller larger counts marks count regions)
+    (few : n ≤ maxProposals) (room : numbersPerProposal * maxProposals ≤ length rows) (fits : (k : ℕ) → k < n → RowFits count regions (rowAt rows k)) where
+  pub pass-allows : Allows C records boundaries marks rows n
+  pass-allows =
+      record {
+        held = h .held;
+        told = record { bounds = h .shown .bounds; anchored = h .shown .anchored; pixels = h .shown .pixels; counted = h .counted };
+        few = few;
+        whole = omega arith;
+        fits = λ k l. rw (h .shown .counted, h .shown .labelled) (fits k l);
+      }
+
+  pub pass-judged : {allowed marked : List Bool} → length allowed ≡ maxProposals → Unmarked marked count → Judged boundaries rows allowed marked count n
+  pass-judged e u =
+      record {
+        few = few;
+        whole = omega arith;
+        long = omega (arith, h .shown .bounds .long, h .shown .counted);
+        small = omega (arith, h .shown .bounds .few, h .shown .counted);
+        below = λ k l. fits k l .index-in;
+        judged = omega (arith, e);
+        removed-long = u .long;
+        clear = u .clear;
+      }
+
+  pub pass-removes : {allowed marked : List Bool} → filter (isAllowed C) (rowsOf rows n) ≡ proposals C → Allowed C rows n allowed
+      → ((j : ℕ) → j < count → getD marked j false ≡ removedAt boundaries smaller larger rows allowed count n j) → Removes C count marked
+  pass-removes {allowed} {marked} are a selected = record { at = pass-removed boundaries smaller larger counts marks rows allowed marked count regions n C (h .shown) are (a .at) selected }

@@ -1,17 +1,19 @@
--- The records of a context in the lent slice, as the loops over it ask for them, and that `fill` puts them there. Assumes nothing.
+-- The records of a context in the lent slice, as the loops over it ask for them, and that `fill` puts them there; that a map's records are counted. Assumes nothing.
 use Prim.Native.Nat.{ℕ, suc, _-_, _≤_, _<_}
 use native.Mathlib.Omega.{arith}
 use mathlib.Core.Path.{_≡_, sym, ap, _∙_}
 use mathlib.Core.List.{List, _++_, map}
 use lib.ListN.{length, getD, length-map, length-append, List·getD-map, List·getD-append}
 use Rattle.definitions.specs.Scan.{run}
-use Rattle.definitions.specs.Grid.{Map}
+use Rattle.definitions.specs.Grid.{Map, cellCount}
+use Rattle.definitions.specs.Partition.{labels}
 use Rattle.definitions.specs.RegionRecord as def
 use Rattle.definitions.specs.Context.{Context, contextOf}
 use Rattle.definitions.specs.AtExit.{recordsOf}
 use Rattle.laws.specs.ListLaws.Lists.{length-run, getD-tab}
 use Rattle.context.specs.declared.Region.{Region}
-use Rattle.context.specs.Records.{recordOf}
+use Rattle.context.specs.Records.{recordOf, maxCells, Counted}
+use Rattle.context.specs.RecordFrom.{region-counted}
 use Rattle.topology.specs.Filled.{Filled}
 
 -- the record of region r stands at r - 1
@@ -46,3 +48,8 @@ held-first C records rest e =
 
 pub filled-held : {M : Map} {was records : List Region} → Filled M was records → HoldsRecords (contextOf M) records
 filled-held {M} {records = records} f = held-first (contextOf M) records _ (f .records)
+
+-- what the loops ask besides
+pub map-counted : (M : Map) → cellCount M ≤ maxCells → (r : ℕ) → Counted (contextOf M .region r)
+unfolding contextOf
+map-counted M h r = region-counted M (labels M) r h

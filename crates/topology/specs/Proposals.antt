@@ -4,7 +4,9 @@ use mathlib.Core.Path.{_≡_}
 use mathlib.Core.Bool.{Bool, false}
 use mathlib.Core.List.{List}
 use lib.ListN.{length, getD}
+use Rattle.definitions.specs.Scan.{member}
 use Rattle.definitions.specs.Context.{Context}
+use Rattle.definitions.specs.Junctions.{removed}
 use Rattle.context.specs.declared.Region.{Region}
 use Rattle.context.specs.Records.{Counted}
 use Rattle.junctions.specs.Lent.{Shows}
@@ -35,3 +37,7 @@ pub record Passes (C : Context) (records : List Region) (boundaries smaller larg
 pub record Unmarked (marked : List Bool) (count : ℕ) : Type 0 where
   pub long : count ≤ length marked
   pub clear : (j : ℕ) → j < count → getD marked j false ≡ false
+
+-- the marked boundaries are those that pass 3 removes
+pub record Removes (C : Context) (count : ℕ) (marked : List Bool) : Type 0 where
+  pub at : (j : ℕ) → j < count → getD marked j false ≡ member j (removed C)

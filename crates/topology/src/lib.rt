@@ -1,12 +1,9 @@
 // The functions that see the lent slice of region records. All other work on records is done on them by value.
 ghost use mathlib.Core.Path.{_≡_};
-ghost use mathlib.Core.Bool.{false};
-ghost use Prim.Native.Nat.{ℕ, _<_};
+ghost use Prim.Native.Nat.{_<_};
 ghost use lib.ListN.{length, getD, set};
-ghost use Rattle.definitions.specs.Scan.{member};
 ghost use Rattle.definitions.specs.Grid.{Map};
 ghost use Rattle.definitions.specs.Context.{Context};
-ghost use Rattle.definitions.specs.Junctions.{removed};
 ghost use Rattle.context.specs.declared.Region.{Region};
 ghost use Rattle.junctions.specs.Rows.{maxProposals};
 ghost use Rattle.definitions.specs.Limits.{maxEntries};
@@ -14,7 +11,7 @@ ghost use Rattle.definitions.specs.RampInteriors as ramp-interiors;
 ghost use Rattle.interior_regions.specs.Places.{interiorFits};
 ghost use Rattle.topology.specs.Interiors.{Asks, Judges, Collapses};
 ghost use Rattle.topology.specs.Filled.{Fills, Filled};
-ghost use Rattle.topology.specs.Proposals.{Allows, Allowed, Passes, Unmarked};
+ghost use Rattle.topology.specs.Proposals.{Allows, Allowed, Passes, Unmarked, Removes};
 use context::Region;
 use interior_regions::Interior;
 use interior_regions::find_interiors;
@@ -113,15 +110,31 @@ pub fn remove_junction_boundaries(
 )
     requires { ⌜ ((C : Context) × Passes C (now records) (now boundaries) (now smaller) (now larger) (now counts) (now marks) count regions) ⌝ }
     requires { ⌜ Unmarked (now removed) count ⌝ }
-    ensures { λ _. ⌜ ((C : Context) → Passes C (now (records .entry)) (now (boundaries .entry)) (now (smaller .entry)) (now (larger .entry)) (now (counts .entry)) (now (marks .entry)) count regions → (j : ℕ) → j < count → getD (now (removed .exit)) j false ≡ member j (removed C)) ⌝ }
+    ensures { λ _. ⌜ ((C : Context) → Passes C (now (records .entry)) (now (boundaries .entry)) (now (smaller .entry)) (now (larger .entry)) (now (counts .entry)) (now (marks .entry)) count regions → Removes C count (now (removed .exit))) ⌝ }
 {
     let mut rows = [0u32; NUMBERS_PER_PROPOSAL * MAX_PROPOSALS];
     let mut allowed = [false; MAX_PROPOSALS];
     let n = find_proposals(
-        boundaries, smaller, larger, counts, marks, count, regions, &mut rows,
+        boundaries,
+        smaller,
+        larger,
+        counts,
+        marks,
+        count,
+        regions,
+        &mut rows,
     );
     allow_proposals(records, boundaries, marks, &rows, n, &mut allowed);
-    select_proposals(boundaries, smaller, larger, &rows, &allowed, removed, count, n);
+    select_proposals(
+        boundaries,
+        smaller,
+        larger,
+        &rows,
+        &allowed,
+        removed,
+        count,
+        n,
+    );
 }
 
 // Whether every region of an interior fits its ports, and one has a ramp.

@@ -2,7 +2,7 @@
 -- `Lts` and `Tie` are derived by tools/twin. Assumes nothing.
 mod Lts
 mod Tie
-use Prim.Native.Nat.{_-_, _≤_, _<_}
+use Prim.Native.Nat.{_-_, _≤_}
 use native.Mathlib.Omega.{arith}
 use mathlib.Core.Path.{_≡_}
 use lib.ListN.{length, length-set}

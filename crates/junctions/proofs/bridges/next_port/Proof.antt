@@ -7,7 +7,7 @@ use mathlib.Core.Bool.{_&&_}
 use Rattle.junctions.specs.Ports.{names}
 use Rattle.junctions.specs.Unions.{noRampAt}
 use Rattle.junctions.specs.Bridges.{isPocketPort}
-use Rattle.junctions.proofs.FirstFound.{NoneFrom, none-more}
+use Rattle.junctions.proofs.FirstFound.{NoneFrom, none-more, first-here, first-nowhere}
 use borrow.Author.Needs.{needs}
 use Rattle.junctions.proofs.bridges.next_port.Statement.{statement}
 use Rattle.junctions.proofs.bridges.next_port.Tie as tie
@@ -56,13 +56,7 @@ names-region-requires : tie.Need-names-region-requires Inv-loop μ-loop
 names-region-requires c κs = search needs
 
 returns : tie.Need-returns Inv-loop μ-loop
-returns c =
-    record {
-      within = omega (arith, c .before .before .before .before .before .loop-test .taken);
-      behind = λ l. c .before .before .before .before .before .before .loop .inv .0;
-      none = c .before .before .before .before .before .before .loop .inv .1;
-      found = λ l. tested (c .before) ∙ c .if1 .taken;
-    }
+returns c = first-here _ _ (c .before .before .before .before .before .before .loop .inv .1) (c .before .before .before .before .before .before .loop .inv .0) (c .before .before .before .before .before .loop-test .taken) (tested (c .before) ∙ c .if1 .taken)
 
 add-j : tie.Need-add-j Inv-loop μ-loop
 add-j c = search needs
@@ -74,13 +68,7 @@ loop-again : tie.Need-loop-again Inv-loop μ-loop
 loop-again c = (omega (arith, c .before .before .before .before .before .before .loop .inv .0), none-more _ _ (c .before .before .before .before .before .before .loop .inv .1) (tested (c .before) ∙ c .if1 .left))
 
 returns-2 : tie.Need-returns-2 Inv-loop μ-loop
-returns-2 c =
-    record {
-      within = omega arith;
-      behind = λ l. absurd (omega arith);
-      none = λ l a b. c .before .loop .inv .1 l a (omega (arith, c .loop-test .left));
-      found = λ l. absurd (omega arith);
-    }
+returns-2 c = first-nowhere _ _ (c .before .loop .inv .1) (c .loop-test .left)
 
 pub next-port-spec : {M : Type 1} → statement M
 next-port-spec =

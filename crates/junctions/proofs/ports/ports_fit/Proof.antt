@@ -139,11 +139,16 @@ loop-less c = search needs
 loop-again : tie.Need-loop-again Inv-loop μ-loop Inv-regions μ-regions
 loop-again c =
     let n = c .before in
-    let l = n .before .before .before .before in
-    (search needs, (l .loop .inv .1 .0, ⊎-elim
-    (λ w. met-named _ _ _ _ _ (l .loop .inv .1 .1) (n .names-region .ensures) (w .0 .taken) (w .1 .ensures) (w .2 .left) (w .3))
-    (λ w. met-other _ _ _ _ _ (l .loop .inv .1 .1) (n .names-region .ensures) (w .0 .left) (w .1))
-    (c .if1 .came)))
+    let l = n .before .before .before .before in (
+      search needs,
+      (
+        l .loop .inv .1 .0,
+        ⊎-elim
+            (λ w. met-named _ _ _ _ _ (l .loop .inv .1 .1) (n .names-region .ensures) (w .0 .taken) (w .1 .ensures) (w .2 .left) (w .3))
+            (λ w. met-other _ _ _ _ _ (l .loop .inv .1 .1) (n .names-region .ensures) (w .0 .left) (w .1))
+            (c .if1 .came),
+      ),
+    )
 
 wide-requires : tie.Need-wide-requires Inv-loop μ-loop Inv-regions μ-regions
 wide-requires c κs = search needs
@@ -169,9 +174,14 @@ regions-less c = search needs
 regions-again : tie.Need-regions-again Inv-loop μ-loop Inv-regions μ-regions
 regions-again c =
     let l = c .before .before .before .before .before in
-    let r = l .before in
-    (search needs, (l .loop .inv .1 .0, all-more (fits (start r)) (side r) (r .before .before .regions .inv .1 .1)
-    (sided r (region-passes _ _ _ _ _ _ _ (l .loop .inv .1 .1) (l .loop .inv .0) (c .before .before .before .before .loop-test .left) (c .if3 .left ∙ compared (c .before))))))
+    let r = l .before in (
+      search needs,
+      (
+        l .loop .inv .1 .0,
+        all-more (fits (start r)) (side r) (r .before .before .regions .inv .1 .1)
+            (sided r (region-passes _ _ _ _ _ _ _ (l .loop .inv .1 .1) (l .loop .inv .0) (c .before .before .before .before .loop-test .left) (c .if3 .left ∙ compared (c .before)))),
+      ),
+    )
 
 returns : tie.Need-returns Inv-loop μ-loop Inv-regions μ-regions
 returns c =

@@ -33,10 +33,9 @@ same-length c = search needs
 
 returns : tie.Need-returns
 returns c =
-    let s = c .before .before .before .before .before .before .before .before .before .before .before .before .args in
-    (
-    row-added (rowsOf (s .rows .now) (s .n)) (record { index = s .i; kind = 0; first = getD (s .smaller .now) (s .i) 0; second = getD (s .larger .now) (s .i) 0 }) (c .before .before .push-proposal .ensures) (c .before .before .before .before .before .before .before .is-union .ensures) (c .before .before .before .before .before .before .if1 .taken),
-    omega arith,
+    let s = c .before .before .before .before .before .before .before .before .before .before .before .before .args in (
+      row-added (rowsOf (s .rows .now) (s .n)) (record { index = s .i; kind = 0; first = getD (s .smaller .now) (s .i) 0; second = getD (s .larger .now) (s .i) 0 }) (c .before .before .push-proposal .ensures) (c .before .before .before .before .before .before .before .is-union .ensures) (c .before .before .before .before .before .before .if1 .taken),
+      omega arith,
     )
 
 returns-2 : tie.Need-returns-2

@@ -38,8 +38,14 @@ found-at s k = ap (λ r. isBridgeAt (s .args .boundaries .now) (s .args .smaller
 -- one bridge more is still few
 few : (s : tie.Start Inv-loop μ-loop) (k : ℕ) → s .args .unions + length (collect k (found s)) + length (toList (found s k)) ≤ maxProposals
 few s k =
-    omega (arith, s .pre .1 .0, s .pre .0 .bounds .few, bridges-few (s .args .boundaries .now) (s .args .smaller .now) (s .args .larger .now) (s .args .marks .now) (s .args .counts .now) (s .args .count) (k + 1),
-    ap length (collect-next (found s) k), length-append (collect k (found s)) (toList (found s k)))
+    omega (
+      arith,
+      s .pre .1 .0,
+      s .pre .0 .bounds .few,
+      bridges-few (s .args .boundaries .now) (s .args .smaller .now) (s .args .larger .now) (s .args .marks .now) (s .args .counts .now) (s .args .count) (k + 1),
+      ap length (collect-next (found s) k),
+      length-append (collect k (found s)) (toList (found s k)),
+    )
 
 loop-holds : tie.Need-loop-holds Inv-loop μ-loop
 unfolding collect
@@ -67,11 +73,17 @@ loop-again : tie.Need-loop-again Inv-loop μ-loop
 loop-again c =
     let s = c .before .before .before .before .before .before .before .before .before .before in
     let l = c .before .before .before .before .before in
-    let a = c .before .before .add-bridge in
-    (search needs, (a .kept .1 .1 .1 .1 .1 .1 .1 .0 ∙ l .loop .inv .1 .0,
-    (omega (arith, a .ensures .1, l .loop .inv .1 .1 .0, ap (λ o. length (toList o)) (found-at s (l .loop .k)), ap length (collect-next (found s) (l .loop .k)), length-append (collect (l .loop .k) (found s)) (toList (found s (l .loop .k)))),
-    a .ensures .0 ∙ ap₂ (λ m o. m ++ toList o) (l .loop .inv .1 .1 .1) (found-at s (l .loop .k)) ∙ append-assoc (rowsOf (s .args .rows .now) (s .args .unions)) (collect (l .loop .k) (found s)) (toList (found s (l .loop .k)))
-    ∙ ap (λ m. rowsOf (s .args .rows .now) (s .args .unions) ++ m) (sym (collect-next (found s) (l .loop .k))))))
+    let a = c .before .before .add-bridge in (
+      search needs,
+      (
+        a .kept .1 .1 .1 .1 .1 .1 .1 .0 ∙ l .loop .inv .1 .0,
+        (
+          omega (arith, a .ensures .1, l .loop .inv .1 .1 .0, ap (λ o. length (toList o)) (found-at s (l .loop .k)), ap length (collect-next (found s) (l .loop .k)), length-append (collect (l .loop .k) (found s)) (toList (found s (l .loop .k)))),
+          a .ensures .0 ∙ ap₂ (λ m o. m ++ toList o) (l .loop .inv .1 .1 .1) (found-at s (l .loop .k)) ∙ append-assoc (rowsOf (s .args .rows .now) (s .args .unions)) (collect (l .loop .k) (found s)) (toList (found s (l .loop .k)))
+              ∙ ap (λ m. rowsOf (s .args .rows .now) (s .args .unions) ++ m) (sym (collect-next (found s) (l .loop .k))),
+        ),
+      ),
+    )
 
 same-length : tie.Need-same-length Inv-loop μ-loop
 same-length c = c .before .loop .inv .1 .0
@@ -79,9 +91,10 @@ same-length c = c .before .loop .inv .1 .0
 returns : tie.Need-returns Inv-loop μ-loop
 returns c =
     let s = c .before .before .before .before .before .before in
-    let l = c .before in
-    (l .loop .inv .1 .1 .1 ∙ ap (λ k. rowsOf (s .args .rows .now) (s .args .unions) ++ collect k (found s)) (le-antisymm (l .loop .inv .0) (c .loop-test .left)),
-    omega (arith, l .loop .inv .1 .1 .0, few s (l .loop .k)))
+    let l = c .before in (
+      l .loop .inv .1 .1 .1 ∙ ap (λ k. rowsOf (s .args .rows .now) (s .args .unions) ++ collect k (found s)) (le-antisymm (l .loop .inv .0) (c .loop-test .left)),
+      omega (arith, l .loop .inv .1 .1 .0, few s (l .loop .k)),
+    )
 
 pub find-bridges-spec : {M : Type 1} → statement M
 find-bridges-spec =

@@ -23,10 +23,13 @@ returns : tie.Need-returns
 returns c =
     let s = c .before .before .before .before .before .before .before .before .before .before .before .before in
     let a = s .args in
-    let e = c .before .before .find-bridges .ensures .0 ∙ ap (λ l. l ++ collect (a .regions) (λ k. isBridgeAt (a .boundaries .now) (a .smaller .now) (a .larger .now) (a .marks .now) (suc k) (a .counts .now) (a .count))) (c .before .before .before .before .before .before .find-unions .ensures .0) in
-    (c .before .before .find-bridges .ensures .1,
-    (rows-fit (a .boundaries .now) (a .smaller .now) (a .larger .now) (a .counts .now) (a .marks .now) _ (a .count) (a .regions) _ e (s .pre .0 .pairs),
-    rows-proposed (a .boundaries .now) (a .smaller .now) (a .larger .now) (a .counts .now) (a .marks .now) _ (a .count) (a .regions) _ e))
+    let e = c .before .before .find-bridges .ensures .0 ∙ ap (λ l. l ++ collect (a .regions) (λ k. isBridgeAt (a .boundaries .now) (a .smaller .now) (a .larger .now) (a .marks .now) (suc k) (a .counts .now) (a .count))) (c .before .before .before .before .before .before .find-unions .ensures .0) in (
+      c .before .before .find-bridges .ensures .1,
+      (
+        rows-fit (a .boundaries .now) (a .smaller .now) (a .larger .now) (a .counts .now) (a .marks .now) _ (a .count) (a .regions) _ e (s .pre .0 .pairs),
+        rows-proposed (a .boundaries .now) (a .smaller .now) (a .larger .now) (a .counts .now) (a .marks .now) _ (a .count) (a .regions) _ e,
+      ),
+    )
 
 pub find-proposals-spec : {M : Type 1} → statement M
 find-proposals-spec =

@@ -44,9 +44,16 @@ loop-less c = search needs
 loop-again : tie.Need-loop-again Inv-loop μ-loop
 loop-again c =
     let l = c .before .before .before .before .before in
-    let f = unions (c .before .before .before .before .before .before .before .before .before .before) in
-    (search needs, (omega (arith, c .before .before .add-union .ensures .1, l .loop .inv .1 .0), (c .before .before .add-union .kept .1 .1 .1 .1 .1 .1 .1 .0 ∙ l .loop .inv .1 .1 .0,
-    c .before .before .add-union .ensures .0 ∙ ap (λ m. m ++ toList (f (l .loop .i))) (l .loop .inv .1 .1 .1) ∙ sym (collect-next f (l .loop .i)))))
+    let f = unions (c .before .before .before .before .before .before .before .before .before .before) in (
+      search needs,
+      (
+        omega (arith, c .before .before .add-union .ensures .1, l .loop .inv .1 .0),
+        (
+          c .before .before .add-union .kept .1 .1 .1 .1 .1 .1 .1 .0 ∙ l .loop .inv .1 .1 .0,
+          c .before .before .add-union .ensures .0 ∙ ap (λ m. m ++ toList (f (l .loop .i))) (l .loop .inv .1 .1 .1) ∙ sym (collect-next f (l .loop .i)),
+        ),
+      ),
+    )
 
 same-length : tie.Need-same-length Inv-loop μ-loop
 same-length c = c .before .loop .inv .1 .1 .0

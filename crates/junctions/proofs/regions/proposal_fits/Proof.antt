@@ -1,16 +1,15 @@
 -- `junctions::regions::proposal_fits` meets its contract, from what its callees ensure. Assumes nothing.
-use Prim.Native.Nat.{_+_, _*_, _≤_}
+use Prim.Native.Nat.{_+_, _*_}
 use native.Mathlib.Omega.{arith}
 use mathlib.Core.Path.{_≡_, ap, ap₂, _∙_}
-use mathlib.Core.Bool.{Bool, true, false}
 use lib.Dec.{eqb}
 use Rattle.definitions.specs.Limits.{numbersPerBoundary}
-use Rattle.definitions.specs.Scan.{bit}
 use Rattle.definitions.specs.Grid.{segmentAt}
 use Rattle.span_geometry.specs.Shapes.{InLimits}
 use Rattle.geometry.specs.Forms.{segmentForm}
 use Rattle.junctions.specs.Unions.{markAt}
 use Rattle.junctions.specs.Rows.{rowAt}
+use Rattle.junctions.proofs.Shapes.{bit-le}
 use Rattle.junctions.proofs.Judging.{limits, union-judged, bridge-judged}
 use borrow.Author.Needs.{needs}
 use Rattle.junctions.proofs.regions.proposal_fits.Statement.{statement}
@@ -25,10 +24,6 @@ read c = c .segment-of .ensures ∙ ap (λ i. segmentAt (c .before .before .befo
 
 on-map : (c : tie.After-segment-of) → InLimits (c .segment-of .result .a) × InLimits (c .segment-of .result .b)
 on-map c = limits (c .segment-of .result) _ (read c) (c .before .before .before .before .before .before .pre .0 .pixels (rowAt (c .before .before .before .before .before .before .args .rows .now) (c .before .before .before .before .before .before .args .k) .index) (c .before .before .before .before .before .before .pre .1 .1 .0 .index-in))
-
-bit-le : (b : Bool) → bit b ≤ 1
-bit-le true = omega arith
-bit-le false = omega arith
 
 mul-wide : tie.Need-mul-wide
 mul-wide c = search needs

@@ -30,9 +30,10 @@ slice-aggregate-select-ranked-3 c = search needs
 select-ranked-requires : tie.Need-select-ranked-requires
 select-ranked-requires c κs =
     let h = c .before .before .before .before .before .before .before .before .before .before .before .pre in
-    let r = c .before .before .before .before .before .rank-proposals .ensures in
-    (record { few = h .few; whole = h .whole; small = h .small; removed-long = h .removed-long; reserved-long = h .small; room = omega arith; below = h .below },
-    ((r .0 .1, omega (arith, r .0 .1, h .few, c .before .before .before .before .before .rank-proposals .kept .1 .1 .1 .0)), (r .0 .0, (h .clear, λ j l. none-set 256 j))))
+    let r = c .before .before .before .before .before .rank-proposals .ensures in (
+      record { few = h .few; whole = h .whole; small = h .small; removed-long = h .removed-long; reserved-long = h .small; room = omega arith; below = h .below },
+      ((r .0 .1, omega (arith, r .0 .1, h .few, c .before .before .before .before .before .rank-proposals .kept .1 .1 .1 .0)), (r .0 .0, (h .clear, λ j l. none-set 256 j))),
+    )
 
 same-length : tie.Need-same-length
 same-length c = search needs

@@ -41,9 +41,10 @@ wide-requires c κs = search needs
 take-if-free-requires : tie.Need-take-if-free-requires Inv-loop μ-loop
 take-if-free-requires c κs =
     let s = c .before .before .before .before .before .before .before .before .before .before .before .before in
-    let i = c .before .before .before .before .before .before .loop .inv in
-    (selecting-of _ _ _ (s .pre .0) (i .1 .1 .0) (i .1 .1 .1 .0) (i .1 .1 .1 .1 .0),
-    ((omega (arith, i .1 .0, c .before .before .before .before .before .loop-test .taken, s .pre .1 .0), omega (arith, c .before .before .before .wide .ensures, s .pre .1 .1 .0 (c .before .before .before .before .before .before .loop .k) (c .before .before .before .before .before .loop-test .taken))), i .1 .1 .1 .1 .1 .rows-in))
+    let i = c .before .before .before .before .before .before .loop .inv in (
+      selecting-of _ _ _ (s .pre .0) (i .1 .1 .0) (i .1 .1 .1 .0) (i .1 .1 .1 .1 .0),
+      ((omega (arith, i .1 .0, c .before .before .before .before .before .loop-test .taken, s .pre .1 .0), omega (arith, c .before .before .before .wide .ensures, s .pre .1 .1 .0 (c .before .before .before .before .before .before .loop .k) (c .before .before .before .before .before .loop-test .taken))), i .1 .1 .1 .1 .1 .rows-in),
+    )
 
 add-k : tie.Need-add-k Inv-loop μ-loop
 add-k c = search needs
@@ -56,11 +57,24 @@ loop-again c =
     let s = c .before .before .before .before .before .before .before .before .before .before .before .before .before .before .before .before .before .before .before in
     let l = c .before .before .before .before .before .before .before .before .before .before .before .before .before in
     let i = l .loop .inv in
-    let a = c .before .before .before .before .before .before .take-if-free in
-    (omega (arith, c .before .before .before .before .before .before .before .before .before .before .before .before .loop-test .taken), (omega (arith, a .ensures .1, i .1 .0), (a .kept .1 .1 .1 .0 ∙ i .1 .1 .0, (a .kept .1 .1 .1 .1 .0 ∙ i .1 .1 .1 .0, (a .kept .1 .1 .1 .1 .1 .0 ∙ i .1 .1 .1 .1 .0,
-    standing-as (a .ensures .0 _ (i .1 .1 .1 .1 .1))
-    (ap (λ p. grown (conflictAt (s .args .smaller .now) (s .args .larger .now) (s .args .count)) (selectedOf (s .args .smaller .now) (s .args .larger .now) (s .args .rows .now) (s .args .order .now) (s .args .count) (l .loop .k)) (rowAt (s .args .rows .now) p)) (c .before .before .before .before .before .before .before .before .before .before .wide .ensures)
-    ∙ sym (selected-next (s .args .smaller .now) (s .args .larger .now) (s .args .rows .now) (s .args .order .now) (s .args .count) (l .loop .k))))))))
+    let a = c .before .before .before .before .before .before .take-if-free in (
+      omega (arith, c .before .before .before .before .before .before .before .before .before .before .before .before .loop-test .taken),
+      (
+        omega (arith, a .ensures .1, i .1 .0),
+        (
+          a .kept .1 .1 .1 .0 ∙ i .1 .1 .0,
+          (
+            a .kept .1 .1 .1 .1 .0 ∙ i .1 .1 .1 .0,
+            (
+              a .kept .1 .1 .1 .1 .1 .0 ∙ i .1 .1 .1 .1 .0,
+              standing-as (a .ensures .0 _ (i .1 .1 .1 .1 .1))
+                  (ap (λ p. grown (conflictAt (s .args .smaller .now) (s .args .larger .now) (s .args .count)) (selectedOf (s .args .smaller .now) (s .args .larger .now) (s .args .rows .now) (s .args .order .now) (s .args .count) (l .loop .k)) (rowAt (s .args .rows .now) p)) (c .before .before .before .before .before .before .before .before .before .before .wide .ensures)
+                  ∙ sym (selected-next (s .args .smaller .now) (s .args .larger .now) (s .args .rows .now) (s .args .order .now) (s .args .count) (l .loop .k))),
+            ),
+          ),
+        ),
+      ),
+    )
 
 same-length : tie.Need-same-length Inv-loop μ-loop
 same-length c = c .before .loop .inv .1 .1 .0

@@ -63,10 +63,12 @@ same-length-6 c = search needs
 
 returns-2 : tie.Need-returns-2
 returns-2 c =
-    let s = c .before .before .before .before .before .before .before .before .before .before .before .before .before .before .before in
-    (λ chosen st.
-    standing-taken (s .args .smaller .now) (s .args .larger .now) (s .args .rows .now) (s .args .taken .now) (s .args .removed .now) (s .args .reserved .now) (s .args .count) (s .args .n) (s .args .t) chosen st (s .args .p) (c .before .before .before .before .wide .result) _ (c .before .before .before .before .before .before .before .is-refused .ensures chosen st) (c .before .before .before .before .before .before .if1 .left) (omega (arith, s .pre .0 .few, s .pre .0 .room, s .pre .1 .0)) (s .pre .1 .0 .1) (c .before .before .before .before .wide .ensures)
-    (omega (arith, c .before .before .before .before .wide .ensures, s .pre .0 .below (s .args .p) (s .pre .1 .0 .1), s .pre .0 .removed-long)) (c .before .before .reserve-ports .ensures), omega arith)
+    let s = c .before .before .before .before .before .before .before .before .before .before .before .before .before .before .before in (
+      λ chosen st.
+          standing-taken (s .args .smaller .now) (s .args .larger .now) (s .args .rows .now) (s .args .taken .now) (s .args .removed .now) (s .args .reserved .now) (s .args .count) (s .args .n) (s .args .t) chosen st (s .args .p) (c .before .before .before .before .wide .result) _ (c .before .before .before .before .before .before .before .is-refused .ensures chosen st) (c .before .before .before .before .before .before .if1 .left) (omega (arith, s .pre .0 .few, s .pre .0 .room, s .pre .1 .0)) (s .pre .1 .0 .1) (c .before .before .before .before .wide .ensures)
+          (omega (arith, c .before .before .before .before .wide .ensures, s .pre .0 .below (s .args .p) (s .pre .1 .0 .1), s .pre .0 .removed-long)) (c .before .before .reserve-ports .ensures),
+      omega arith,
+    )
 
 pub take-if-free-spec : {M : Type 1} → statement M
 take-if-free-spec =

@@ -62,11 +62,13 @@ loop-again : tie.Need-loop-again Inv-loop μ-loop
 unfolding isPort names
 loop-again c =
     let q = c .before in
-    let l = q .before .before .before .before in
-    (search needs, ⊎-elim
-    (λ w. survey-with _ _ _ _ (l .loop .inv .1) (sym (q .is-port .ensures) ∙ w .0 .taken) (w .1 .ensures) (w .2 .ensures) (w .3))
-    (λ w. survey-other _ _ _ _ (l .loop .inv .1) (sym (q .is-port .ensures) ∙ w .0 .left) (w .1))
-    (c .if1 .came))
+    let l = q .before .before .before .before in (
+      search needs,
+      ⊎-elim
+          (λ w. survey-with _ _ _ _ (l .loop .inv .1) (sym (q .is-port .ensures) ∙ w .0 .taken) (w .1 .ensures) (w .2 .ensures) (w .3))
+          (λ w. survey-other _ _ _ _ (l .loop .inv .1) (sym (q .is-port .ensures) ∙ w .0 .left) (w .1))
+          (c .if1 .came),
+    )
 
 returns : tie.Need-returns Inv-loop μ-loop
 returns c = survey-end _ _ _ _ (c .before .before .loop .inv .1) (c .before .before .loop .inv .0) (c .before .loop-test .left)

@@ -2,21 +2,15 @@
 use Prim.Native.Nat.{ℕ, _≤_, _<_, _+_}
 use native.Mathlib.Omega.{arith}
 use mathlib.Core.Path.{_≡_, ap, ap₂, _∙_}
-use mathlib.Core.Bool.{Bool, true, false}
 use mathlib.Core.List.{List}
 use lib.ListN.{getD}
 use lib.Dec.{eqb}
 use borrow.Author.Tests.{eq-eqb, ne-eqb}
-use Rattle.definitions.specs.Scan.{bit}
 use Rattle.junctions.specs.Unions.{markAt, portsPass}
-use Rattle.junctions.proofs.Shapes.{no-pair, has-ramp, both-anchored, is-unfit, too-few, by-ports}
+use Rattle.junctions.proofs.Shapes.{bit-le, no-pair, has-ramp, both-anchored, is-unfit, too-few, by-ports}
 use borrow.Author.Needs.{needs}
 use Rattle.junctions.proofs.unions.is_union.Statement.{statement}
 use Rattle.junctions.proofs.unions.is_union.Tie as tie
-
-bit-le : (b : Bool) → bit b ≤ 1
-bit-le true = omega arith
-bit-le false = omega arith
 
 -- the lists that are lent
 module _ (s : tie.Start) where

@@ -1,8 +1,9 @@
 -- `junctions::unions::ports_pass` meets its contract. The loop's invariant: every port below j passes. The measure is how many boundaries are left. Assumes nothing.
 use native.Mathlib.Nat.{le-antisymm}
-use mathlib.Core.Bool.{false, true≢false, false≢true, Bool, true, not, _||_}
+use mathlib.Core.Bool.{false, Bool, true, not, _||_}
 use lib.ListN.{getD}
 use Rattle.junctions.proofs.Lists.{placed}
+use Rattle.junctions.proofs.Shapes.{negated-true, negated-false}
 use Prim.Native.Nat.{ℕ, _-_, _≤_}
 use mathlib.Core.Logic.{⊎-elim}
 use mathlib.Core.Path.{_≡_, refl, sym, ap, ap₂, _∙_}
@@ -20,18 +21,10 @@ passing boundaries smaller larger index lo hi one j = not (isPort smaller larger
 
 -- of a boundary, by what the two tests returned
 passing-fails : {a b t : Bool} → a ≡ true → t ≡ b → not t ≡ true → (not a || b) ≡ false
-passing-fails {b} {t} e q h = ap₂ (λ x y. not x || y) e (sym q ∙ negated t h)
-  where
-    negated : (x : Bool) → not x ≡ true → x ≡ false
-    negated true k = absurd (false≢true k)
-    negated false k = refl
+passing-fails {b} {t} e q h = ap₂ (λ x y. not x || y) e (sym q ∙ negated-true t h)
 
 passing-port : {a b t : Bool} → a ≡ true → t ≡ b → not t ≡ false → (not a || b) ≡ true
-passing-port {b} {t} e q h = ap₂ (λ x y. not x || y) e (sym q ∙ negated t h)
-  where
-    negated : (x : Bool) → not x ≡ false → x ≡ true
-    negated true k = refl
-    negated false k = absurd (true≢false k)
+passing-port {b} {t} e q h = ap₂ (λ x y. not x || y) e (sym q ∙ negated-false t h)
 
 passing-other : {a : Bool} (b : Bool) → a ≡ false → (not a || b) ≡ true
 passing-other b e = ap (λ x. not x || b) e
@@ -99,12 +92,14 @@ loop-less c = search needs
 
 loop-again : tie.Need-loop-again Inv-loop μ-loop
 unfolding isPort names
-loop-again c =
-    (search needs, all-more (test (c .before .before .before .before .before .before .before .before .before)) (c .before .before .before .before .before .loop .j) (c .before .before .before .before .before .loop .inv .1)
-    (⊎-elim
-    (λ w. passing-port (sym (c .before .is-port .ensures) ∙ w .0 .taken) (w .1 .ensures) (w .2 .left))
-    (λ w. passing-other _ (sym (c .before .is-port .ensures) ∙ w .left))
-    (c .if1 .came)))
+loop-again c = (
+  search needs,
+  all-more (test (c .before .before .before .before .before .before .before .before .before)) (c .before .before .before .before .before .loop .j) (c .before .before .before .before .before .loop .inv .1)
+      (⊎-elim
+      (λ w. passing-port (sym (c .before .is-port .ensures) ∙ w .0 .taken) (w .1 .ensures) (w .2 .left))
+      (λ w. passing-other _ (sym (c .before .is-port .ensures) ∙ w .left))
+      (c .if1 .came)),
+)
 
 returns-2 : tie.Need-returns-2 Inv-loop μ-loop
 unfolding portsPass
