@@ -1,5 +1,5 @@
 -- The loops of `interior_fits` and `judge_interiors`: what is known when so many places or boundaries are passed, one more, and the end. Assumes nothing.
-use Prim.Native.Nat.{ℕ, zero, suc, _+_, _-_, _*_, _≤_, _<_}
+use Prim.Native.Nat.{ℕ, zero, suc, _+_, _-_, _≤_, _<_}
 use native.Mathlib.Omega.{arith}
 use native.Mathlib.Nat.{add-zero}
 use mathlib.Core.Path.{_≡_, refl, sym, ap, ap₂, subst, _∙_}
@@ -8,19 +8,19 @@ use mathlib.Core.List.{List}
 use lib.ListN.{length, getD}
 use lib.Dec.{eqb, leb}
 use borrow.Author.Tests.{leb-true, le-leb}
-use Rattle.definitions.specs.Scan.{anyBelow, allBelow, member}
+use Rattle.definitions.specs.Scan.{anyBelow, allBelow}
 use Rattle.definitions.specs.Context.{Context}
-use Rattle.definitions.specs.RampInteriors.{regionFits, removed}
+use Rattle.definitions.specs.RampInteriors.{regionFits}
 use Rattle.laws.specs.ListLaws.Below.{below-none}
 use Rattle.laws.specs.ListLaws.ScanSteps.{any-next, all-next, all-intro}
 use Rattle.laws.specs.FloatLaws.Pixels.{PixelSegment}
 use Rattle.context.specs.declared.Region.{Region}
 use Rattle.ramp_interiors.specs.Fits.{Placed}
 use Rattle.interior_regions.specs.declared.Interior.{Interior}
-use Rattle.interior_regions.specs.Places.{regionAt, Readable, AllReadable, isNamed, NextInside, fitsAt, rampAt, interiorFits}
+use Rattle.interior_regions.specs.Places.{regionAt, AllReadable, isNamed, NextInside, fitsAt, rampAt, interiorFits}
 use Rattle.interior_regions.specs.Marks.{accepted, markedBefore, Stretched}
 use Rattle.interior_regions.proofs.JudgeLaws.{marked-removed}
-use Rattle.topology.specs.Interiors.{Asks, Judges}
+use Rattle.topology.specs.Interiors.{Asks, Judges, Collapsed}
 use Rattle.topology.specs.Proposals.{Unmarked}
 
 -- ---- scans past numbers that change nothing
@@ -165,9 +165,13 @@ judging-more {C} {owners = owners} {i = i} T e h m =
     }
 
 pub judging-ends : {C : Context} {records : List Region} {boundaries pairs starts names owners firsts seconds : List ℕ} {marked : List Bool} {count i : ℕ} → Judges C records boundaries pairs starts names owners firsts seconds count → i ≡ count
-    → Judging C owners marked count i → (j : ℕ) → j < count → getD marked j false ≡ member j (removed C)
-judging-ends {C} {owners = owners} {count = count} {i = i} g e h j l =
-    h .at j l ∙ ap (λ n. markedBefore C owners n j) (e ∙ sym counted) ∙ marked-removed (g .interiors .owning .given .sound) (omega (arith, g .interiors .few)) owners (g .interiors .owning .owned) j (omega (arith, counted))
+    → Judging C owners marked count i → Collapsed C count marked
+judging-ends {C} {owners = owners} {count = count} {i = i} g e h =
+    record {
+      at = λ j l.
+          h .at j l ∙ ap (λ n. markedBefore C owners n j) (e ∙ sym counted)
+          ∙ marked-removed (g .interiors .owning .given .sound) (omega (arith, g .interiors .few)) owners (g .interiors .owning .owned) j (omega (arith, counted));
+    }
   where
     counted : C .count ≡ count
     counted = g .interiors .owning .counted

@@ -1,8 +1,12 @@
 -- The words of the contracts of `interior_fits`, `judge_interiors` and `collapse_ramp_interiors`. Definitions only; assumes nothing.
 use Prim.Native.Nat.{ℕ, _≤_, _<_}
+use mathlib.Core.Path.{_≡_}
+use mathlib.Core.Bool.{Bool, false}
 use mathlib.Core.List.{List}
-use lib.ListN.{length}
+use lib.ListN.{length, getD}
+use Rattle.definitions.specs.Scan.{member}
 use Rattle.definitions.specs.Context.{Context}
+use Rattle.definitions.specs.RampInteriors.{removed}
 use Rattle.laws.specs.FloatLaws.Pixels.{PixelContext}
 use Rattle.context.specs.declared.Region.{Region}
 use Rattle.context.specs.Shown.{ShownBoundaries}
@@ -34,3 +38,7 @@ pub record Collapses (C : Context) (records : List Region) (boundaries tallies p
   pub lent : Lent C boundaries tallies pairs starts count regions marks counts
   pub held : HoldsRecords C records
   pub pixels : PixelContext C
+
+-- the marked boundaries are those that pass 2 removes
+pub record Collapsed (C : Context) (count : ℕ) (marked : List Bool) : Type 0 where
+  pub at : (j : ℕ) → j < count → getD marked j false ≡ member j (removed C)

@@ -2,15 +2,14 @@
 ghost use mathlib.Core.Path.{_≡_};
 ghost use Prim.Native.Nat.{_<_};
 ghost use lib.ListN.{length, getD, set};
+ghost use Rattle.definitions.specs.Limits.{maxEntries};
 ghost use Rattle.definitions.specs.Grid.{Map};
 ghost use Rattle.definitions.specs.Context.{Context};
 ghost use Rattle.context.specs.declared.Region.{Region};
 ghost use Rattle.junctions.specs.Rows.{maxProposals};
-ghost use Rattle.definitions.specs.Limits.{maxEntries};
-ghost use Rattle.definitions.specs.RampInteriors as ramp-interiors;
 ghost use Rattle.interior_regions.specs.Places.{interiorFits};
-ghost use Rattle.topology.specs.Interiors.{Asks, Judges, Collapses};
 ghost use Rattle.topology.specs.Filled.{Fills, Filled};
+ghost use Rattle.topology.specs.Interiors.{Asks, Judges, Collapses, Collapsed};
 ghost use Rattle.topology.specs.Proposals.{Allows, Allowed, Passes, Unmarked, Removes};
 use context::Region;
 use interior_regions::Interior;
@@ -176,7 +175,7 @@ pub fn judge_interiors(
 )
     requires { ⌜ ((C : Context) × Judges C (now records) (now boundaries) (now pairs) (now starts) (now names) (now owners) (now firsts) (now seconds) count) ⌝ }
     requires { ⌜ (length (now removed) ≡ maxEntries) × Unmarked (now removed) count ⌝ }
-    ensures { λ _. ⌜ ((C : Context) → Judges C (now (records .entry)) (now (boundaries .entry)) (now (pairs .entry)) (now (starts .entry)) (now (names .entry)) (now (owners .entry)) (now (firsts .entry)) (now (seconds .entry)) count → (j : ℕ) → j < count → getD (now (removed .exit)) j false ≡ member j (ramp-interiors.removed C)) ⌝ }
+    ensures { λ _. ⌜ ((C : Context) → Judges C (now (records .entry)) (now (boundaries .entry)) (now (pairs .entry)) (now (starts .entry)) (now (names .entry)) (now (owners .entry)) (now (firsts .entry)) (now (seconds .entry)) count → Collapsed C count (now (removed .exit))) ⌝ }
 {
     let mut i = 0;
     while i < count {
@@ -202,7 +201,7 @@ pub fn collapse_ramp_interiors(
 )
     requires { ⌜ ((C : Context) × Collapses C (now records) (now boundaries) (now tallies) (now pairs) (now starts) count regions (now marks) (now counts)) ⌝ }
     requires { ⌜ (length (now removed) ≡ maxEntries) × Unmarked (now removed) count ⌝ }
-    ensures { λ _. ⌜ ((C : Context) → Collapses C (now (records .entry)) (now (boundaries .entry)) (now (tallies .entry)) (now (pairs .entry)) (now (starts .entry)) count regions (now (marks .entry)) (now (counts .entry)) → (j : ℕ) → j < count → getD (now (removed .exit)) j false ≡ member j (ramp-interiors.removed C)) ⌝ }
+    ensures { λ _. ⌜ ((C : Context) → Collapses C (now (records .entry)) (now (boundaries .entry)) (now (tallies .entry)) (now (pairs .entry)) (now (starts .entry)) count regions (now (marks .entry)) (now (counts .entry)) → Collapsed C count (now (removed .exit))) ⌝ }
 {
     let mut owners = [0u32; 256];
     let mut firsts = [0usize; 256];
