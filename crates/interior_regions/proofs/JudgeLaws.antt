@@ -1,18 +1,17 @@
 -- What is found at the places of rows is what is asked of the regions that a component expands to (`judged-two`), and where nothing was found, nothing is
 -- (`judged-other`). The boundaries whose owners are accepted are those that the pass removes (`marked-removed`). Assumes Sound.
-use Prim.Native.Nat.{ℕ, suc, _-_, _*_, _≤_, _<_}
+use Prim.Native.Nat.{ℕ, _-_, _*_, _≤_, _<_}
 use native.Mathlib.Omega.{arith}
 use mathlib.Core.Path.{_≡_, refl, sym, ap, ap₂, subst, _∙_}
-use mathlib.Core.Bool.{Bool, true, false, not, _&&_, _||_, cond, and-false, true≢false, false≢true}
-use mathlib.Core.Logic.{_⊎_, inl, inr, ⊎-elim}
+use mathlib.Core.Bool.{Bool, true, false, not, _&&_, _||_, cond, false≢true}
+use mathlib.Core.Logic.{⊎-elim}
 use mathlib.Core.List.{List, [], _∷_}
-use lib.ListN.{length, getD}
+use lib.ListN.{getD}
 use lib.Dec.{eqb, leb}
 use borrow.Author.Tests.{eq-eqb, eqb-true, leb-true, le-leb}
 use Rattle.definitions.specs.Scan.{any, all, member, anyBelow, allBelow}
 use Rattle.definitions.specs.Context.{Context}
 use Rattle.definitions.specs.RampInteriors.{regionFits, removed}
-use Rattle.laws.specs.ListLaws.Lists.{All, done, more}
 use Rattle.laws.specs.ListLaws.Tests.{both, same-test}
 use Rattle.laws.specs.ListLaws.Below.{below-at, below-first, below-none, all-below-at}
 use Rattle.laws.specs.ListLaws.ListsAsSets.{any-member}
@@ -20,14 +19,13 @@ use Rattle.laws.specs.ListLaws.ScanSteps.{all-intro}
 use Rattle.laws.specs.SetLaws.Sets.{member-all}
 use Rattle.laws.specs.RustContext.SoundContext.{Sound}
 use Rattle.context.specs.Shown.{ShownPairs}
-use Rattle.ramp_interiors.specs.Owners.{entryAt, several, Owned, Owners}
+use Rattle.ramp_interiors.specs.Owners.{several, Owners}
 use Rattle.ramp_interiors.specs.Leaves.{Inside}
 use Rattle.ramp_interiors.specs.Proposals.{expandedOf, proposedPorts, isFirst, foundPorts, recordsFit}
-use Rattle.ramp_interiors.specs.declared.ports.Ports.{Ports}
 use Rattle.ramp_interiors.specs.declared.ports.Ports.the-variants as ports
 use Rattle.ramp_interiors.proofs.RowScans.{all-holds}
 use Rattle.ramp_interiors.proofs.NoConflict.{Fit}
-use Rattle.ramp_interiors.proofs.Removed.{fit-of, isProposal, removed-none, removed-owned, proposal-is}
+use Rattle.ramp_interiors.proofs.Removed.{fit-of, removed-none, removed-owned, proposal-is}
 use Rattle.ramp_interiors.proofs.ProgressLaws.{first-region, proposed-two, found-first, is-first}
 use Rattle.interior_regions.specs.Places.{regionAt, isNamed, fitsAt, rampAt, interiorFits}
 use Rattle.interior_regions.specs.Marks.{accepted, markedBefore}
@@ -35,15 +33,15 @@ use Rattle.interior_regions.proofs.PlaceLaws.{place-readable, Placed, i
 
 -- ---- tests of the members of a list
 
+or-right : (a b : Bool) → b ≡ true → (a || b) ≡ true
+or-right true b e = refl
+or-right false b e = e
+
 member-found : (f : ℕ → Bool) (l : List ℕ) → any f l ≡ true → (x : ℕ) × ((member x l ≡ true) × (f x ≡ true))
 unfolding any member
 member-found f [] h = absurd (false≢true h)
 member-found f (y ∷ l) h = go (f y) refl h (member-found f l)
   where
-    or-right : (a b : Bool) → b ≡ true → (a || b) ≡ true
-    or-right true b e = refl
-    or-right false b e = e
-
     go : (t : Bool) → f y ≡ t → (t || any f l) ≡ true → (any f l ≡ true → (x : ℕ) × ((member x l ≡ true) × (f x ≡ true))) → (x : ℕ) × ((member x (y ∷ l) ≡ true) × (f x ≡ true))
     go true e k ih = (y, (ap (λ b. b || member y l) (eq-eqb y y refl), e))
     go false e k ih =
@@ -54,10 +52,6 @@ all-members-pass : (f : ℕ → Bool) (l : List ℕ) → ((x : ℕ) → member x
 unfolding all member any
 all-members-pass f [] h = refl
 all-members-pass f (y ∷ l) h = ap₂ _&&_ (h y (ap (λ b. b || member y l) (eq-eqb y y refl))) (all-members-pass f l (λ x m. h x (or-right (eqb x y) (member x l) m)))
-  where
-    or-right : (a b : Bool) → b ≡ true → (a || b) ≡ true
-    or-right true b e = refl
-    or-right false b e = e
 
 -- ---- one component
 

@@ -3,7 +3,7 @@ use Prim.Native.Nat.{ℕ, _*_, _≤_, _<_}
 use native.Mathlib.Omega.{arith}
 use mathlib.Core.Path.{_≡_, refl, sym, ap, ap₂, subst, _∙_}
 use mathlib.Core.List.{List}
-use lib.ListN.{length, getD}
+use lib.ListN.{getD}
 use Rattle.definitions.specs.Context.{Context}
 use Rattle.ramp_interiors.specs.Proposals.{noPort, firstOf, secondOf, foundPorts}
 use Rattle.ramp_interiors.specs.declared.ports.Ports.{Ports}

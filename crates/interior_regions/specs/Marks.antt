@@ -1,10 +1,11 @@
 -- What is known once the components are proposed, and which of them the pass takes. Definitions only; assumes nothing.
-use Prim.Native.Nat.{ℕ, _≤_, _<_}
+use Prim.Native.Nat.{ℕ, _*_, _≤_, _<_}
 use mathlib.Core.Path.{_≡_}
 use mathlib.Core.Bool.{Bool, _&&_}
 use mathlib.Core.List.{List}
 use lib.ListN.{length, getD}
 use lib.Dec.{eqb}
+use Rattle.definitions.specs.Limits.{maxSide}
 use Rattle.definitions.specs.Scan.{anyBelow}
 use Rattle.definitions.specs.Context.{Context}
 use Rattle.laws.specs.FloatLaws.Pixels.{PixelContext}
@@ -18,6 +19,7 @@ pub record Interiors (C : Context) (boundaries tallies pairs starts names owners
   pub found : FoundAll C owners firsts seconds (C .count)
   pub settled : (j : ℕ) → j < C .count → Settled C owners names j
   pub long : C .regions ≤ length names
+  pub few : C .regions ≤ maxSide * maxSide
   pub pixels : PixelContext C
 
 -- some context and lists are so

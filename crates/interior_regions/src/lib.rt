@@ -19,6 +19,7 @@ ghost use Rattle.interior_regions.specs.Marks.{Interiors, SomeInteriors,
 ghost use Rattle.interior_regions.specs.Places.{regionAt, Readable, AllReadable, NextInside};
 
 const NUMBERS_PER_PAIR: usize = 3;
+
 const REGIONS_PER_PAIR: usize = 2;
 
 // The component at a boundary, the places of rows among which its regions stand, and its ports. Where nothing was found, there is no place.
@@ -128,9 +129,27 @@ pub fn find_interiors(
     ensures { λ _. ⌜ ((C : Context) → Lent C (now (boundaries .entry)) (now (tallies .entry)) (now (pairs .entry)) (now (starts .entry)) count regions (now (marks .entry)) (now (counts .entry)) → PixelContext C → Interiors C (now (boundaries .entry)) (now (tallies .entry)) (now (pairs .entry)) (now (starts .entry)) (now (counts .exit)) (now (owners .exit)) (now (firsts .exit)) (now (seconds .exit)) count) ⌝ }
     ensures { λ _. ⌜ (length (now (marks .exit)) ≡ length (now (marks .entry))) × (length (now (counts .exit)) ≡ length (now (counts .entry))) ⌝ }
 {
-    name_components(boundaries, tallies, pairs, starts, count, regions, marks, counts);
+    name_components(
+        boundaries,
+        tallies,
+        pairs,
+        starts,
+        count,
+        regions,
+        marks,
+        counts,
+    );
     find_owners(boundaries, tallies, pairs, starts, counts, count, owners);
     propose_all(
-        boundaries, tallies, pairs, starts, counts, marks, owners, count, firsts, seconds,
+        boundaries,
+        tallies,
+        pairs,
+        starts,
+        counts,
+        marks,
+        owners,
+        count,
+        firsts,
+        seconds,
     );
 }

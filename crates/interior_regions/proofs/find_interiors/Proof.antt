@@ -36,12 +36,14 @@ same-length-2 c = search needs
 returns : tie.Need-returns
 returns c =
     let p = c .before .before .before .before .before in
-    let n = p .before .before .before .before .before .before .before .before .before .before .before .before in
-    (λ C L P.
-    let K = n .name-components .ensures .0 C L in
-    let W = lent-owning L (p .before .before .before .before .before .find-owners .ensures C (lent-kept L K) (L .counted)) in
-    let g = c .before .before .before .before .propose-all .ensures .0 C _ _ W (known-progress _ K) in
-    record { owning = W; found = g .1; settled = g .0 .settled; long = g .0 .long; pixels = P }, (c .before .before .before .before .propose-all .ensures .1 .1 ∙ n .name-components .ensures .1 .0 .long, c .before .before .before .before .propose-all .ensures .1 .0 ∙ n .name-components .ensures .1 .1 .long))
+    let n = p .before .before .before .before .before .before .before .before .before .before .before .before in (
+      λ C L P.
+          let K = n .name-components .ensures .0 C L in
+          let W = lent-owning L (p .before .before .before .before .before .find-owners .ensures C (lent-kept L K) (L .counted)) in
+          let g = c .before .before .before .before .propose-all .ensures .0 C _ _ W (known-progress _ K) in
+          record { owning = W; found = g .1; settled = g .0 .settled; long = g .0 .long; few = lent-kept L K .few; pixels = P },
+      (c .before .before .before .before .propose-all .ensures .1 .1 ∙ n .name-components .ensures .1 .0 .long, c .before .before .before .before .propose-all .ensures .1 .0 ∙ n .name-components .ensures .1 .1 .long),
+    )
 
 pub find-interiors-spec : {M : Type 1} → statement M
 find-interiors-spec =

@@ -1,10 +1,8 @@
 -- `mark_edges` meets its contract. The invariant: the boundaries passed are marked as they shall be, and the others as they were. Assumes nothing.
-use Prim.Native.Nat.{ℕ, _-_, _≤_, _<_}
+use Prim.Native.Nat.{_-_, _≤_}
 use native.Mathlib.Omega.{arith}
 use mathlib.Core.Path.{_≡_, refl}
-use mathlib.Core.Bool.{false, _&&_, _||_}
-use lib.ListN.{length, getD, length-set}
-use lib.Dec.{eqb}
+use lib.ListN.{length, length-set}
 use borrow.Author.Needs.{needs}
 use Rattle.definitions.specs.Limits.{maxEntries}
 use Rattle.interior_regions.proofs.Marking.{Marking, marking-more}

@@ -3,7 +3,6 @@ use Prim.Native.Nat.{ℕ, _-_, _≤_, _<_}
 use native.Mathlib.Omega.{arith}
 use mathlib.Core.Path.{_≡_, sym, ap, _∙_}
 use mathlib.Core.Bool.{false}
-use lib.Dec.{eqb}
 use borrow.Author.Needs.{needs}
 use borrow.Author.Tests.{eq-eqb, ne-eqb}
 use Rattle.ramp_interiors.specs.Owners.{entryAt}
@@ -52,9 +51,12 @@ loop-less c = search needs
 loop-again : tie.Need-loop-again Inv-loop μ-loop
 loop-again c =
     let a = c .before .before .before .before in
-    let s = a .before .before .before in
-    (omega (arith, a .loop .inv .0), omega (arith, c .before .before .before .loop-test .taken), from-more (λ k. isNamed (s .args .pairs .now) (s .args .names .now) (s .args .name) k ≡ false) _ _ (a .loop .inv .2)
-    (ne-eqb _ _ (λ e. c .if1 .left (c .before .parent-of .ensures ∙ ap (entryAt (s .args .names .now)) (c .before .before .region-at .ensures) ∙ e))))
+    let s = a .before .before .before in (
+      omega (arith, a .loop .inv .0),
+      omega (arith, c .before .before .before .loop-test .taken),
+      from-more (λ k. isNamed (s .args .pairs .now) (s .args .names .now) (s .args .name) k ≡ false) _ _ (a .loop .inv .2)
+          (ne-eqb _ _ (λ e. c .if1 .left (c .before .parent-of .ensures ∙ ap (entryAt (s .args .names .now)) (c .before .before .region-at .ensures) ∙ e))),
+    )
 
 returns-2 : tie.Need-returns-2 Inv-loop μ-loop
 returns-2 c =

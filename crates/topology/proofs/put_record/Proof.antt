@@ -1,6 +1,6 @@
 -- `topology::put_record` meets its contract: a walk of its MIR, by hand. The place of `records[i]` is 80 · i past the slice's pointer, the borrow is opened, the struct is stored there whole, and the borrow is closed at the list with r at i.
 -- Assumes nothing.
-use mathlib.Core.Path.{refl, sym, ap, subst}
+use mathlib.Core.Path.{_≡_, refl, sym, ap, subst}
 use Prim.Native.Nat.{ℕ, _<_, _*_, _^_}
 use native.Mathlib.Omega.{arith}
 use mathlib.Core.List.{List, [], _∷_}
