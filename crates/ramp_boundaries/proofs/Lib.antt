@@ -1,5 +1,6 @@
 -- What the proofs of several functions use.
 mod ApproachLaws
+mod CandidateLaws
 mod Conflicts
 mod Distinct
 mod Fitting
@@ -12,6 +13,7 @@ mod Marks
 mod Measured
 mod Nearness
 mod OtherEnds
+mod OuterWithin
 mod RoundLaws
 mod RowLists
 mod SafeLists
