@@ -9,7 +9,7 @@ use mathlib.Core.List.{List, [], _∷_, _++_, append-nil}
 use lib.ListN.{length, getD, length-set}
 use lib.Seq.{getD-set-same, getD-set-other}
 use lib.Ieee.{Float, binary64, isNan, lt, toBits}
-use Rattle.definitions.specs.Scan.{collect, toList, onlyIf}
+use Rattle.definitions.specs.Scan.{toList, onlyIf}
 use Rattle.definitions.specs.Context.{Context}
 use Rattle.definitions.specs.RampMouths.{MouthProposal, maxMouthDistance, retain, separationOf}
 use Rattle.laws.specs.ListLaws.ScanSteps.{collect-next}
@@ -17,7 +17,7 @@ use Rattle.laws.specs.ListLaws.Scans.{collect-ext}
 use Rattle.laws.specs.RustMouths.Separations.{Apart, separation-apart}
 use Rattle.context.specs.OneMore.{last-or}
 use Rattle.ramp_boundaries.specs.Candidates.{proposalOf, foundMouth, mouthCandidate}
-use Rattle.ramp_boundaries.specs.Listed.{maxCandidates, entryAt, Listed, Filled, Roomy, Wrote, Put}
+use Rattle.ramp_boundaries.specs.Listed.{maxCandidates, entryAt, Filled, Roomy, Wrote, Put}
 
 -- ---- a separation is a number
 

@@ -14,7 +14,7 @@ ghost use mathlib.Core.Bool.{true, false, not, _&&_, cond};
 ghost use Prim.Native.Nat.{ℕ, _+_, _-_, _*_, _≤_, _<_};
 ghost use lib.ListN.{length, getD};
 ghost use lib.Dec.{eqb};
-ghost use Rattle.definitions.specs.Limits.{numbersPerBoundary, numbersPerPair};
+ghost use Rattle.definitions.specs.Limits.{numbersPerBoundary};
 ghost use Rattle.definitions.specs.Scan.{all};
 ghost use Rattle.definitions.specs.MouthShapes.{regionsOf, distinctRegions};
 ghost use Rattle.definitions.specs.Context.{Context, fullCut, noRamp};

@@ -1,8 +1,8 @@
 -- `candidates::push_candidates` meets its contract. The invariant: the entries are the candidates of the ramps passed. Assumes nothing.
-use Prim.Native.Nat.{ℕ, _+_, _-_, _*_, _≤_, _<_}
+use Prim.Native.Nat.{ℕ, _-_, _*_, _≤_}
 use native.Mathlib.Omega.{arith}
 use native.Mathlib.Nat.{le-antisymm, le-trans}
-use mathlib.Core.Path.{_≡_, refl, sym, ap, _∙_, subst}
+use mathlib.Core.Path.{sym, ap, _∙_, subst}
 use mathlib.Core.List.{List}
 use Rattle.definitions.specs.Scan.{countBelow, collect, gather}
 use Rattle.definitions.specs.Context.{Context}

@@ -1,10 +1,8 @@
 -- `candidates::push_mouth` meets its contract: what is found, if it is near enough, is the next entry. Assumes nothing.
-use Prim.Native.Nat.{_+_, _≤_, _<_}
 use native.Mathlib.Omega.{arith}
-use mathlib.Core.Path.{_≡_, sym, ap, _∙_}
-use mathlib.Core.Bool.{Bool, not}
+use mathlib.Core.Path.{sym, ap, _∙_}
+use mathlib.Core.Bool.{not}
 use lib.Ieee.{binary64, lt, toBits}
-use Rattle.definitions.specs.Context.{Context}
 use Rattle.definitions.specs.RampMouths.{maxMouthDistance}
 use Rattle.ramp_boundaries.specs.Candidates.{candidateForm}
 use Rattle.ramp_boundaries.proofs.SafeLists.{below, placed-at}

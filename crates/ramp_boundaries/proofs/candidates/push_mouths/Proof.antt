@@ -1,11 +1,11 @@
 -- `candidates::push_mouths` meets its contract. The invariant: behind the first entries stand the candidates of the mouths passed. Assumes nothing.
-use Prim.Native.Nat.{ℕ, _+_, _-_, _≤_, _<_}
+use Prim.Native.Nat.{_+_, _-_, _≤_}
 use native.Mathlib.Omega.{arith}
 use native.Mathlib.Nat.{le-antisymm}
-use mathlib.Core.Path.{_≡_, refl, sym, ap, _∙_, subst}
+use mathlib.Core.Path.{_≡_, ap, subst}
 use mathlib.Core.Bool.{true, false}
 use mathlib.Core.List.{List, _++_}
-use Rattle.definitions.specs.Scan.{bit, countBelow, collect}
+use Rattle.definitions.specs.Scan.{countBelow, collect}
 use Rattle.definitions.specs.Context.{Context, fullCut, noRamp}
 use Rattle.definitions.specs.RampMouths.{MouthProposal}
 use Rattle.laws.specs.ListLaws.ScanSteps.{count-next}

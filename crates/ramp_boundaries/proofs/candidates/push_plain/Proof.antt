@@ -1,7 +1,6 @@
 -- `candidates::push_plain` meets its contract, by its test. Assumes nothing.
-use Prim.Native.Nat.{_+_, _≤_, _<_}
 use native.Mathlib.Omega.{arith}
-use mathlib.Core.Path.{_≡_, ap, _∙_}
+use mathlib.Core.Path.{ap, _∙_}
 use borrow.Author.Tests.{eq-eqb, ne-eqb}
 use Rattle.definitions.specs.Scan.{bit}
 use Rattle.ramp_boundaries.proofs.SafeLists.{below, kind-shown}

@@ -1,7 +1,6 @@
 -- `candidates::push_ramp` meets its contract, by its tests. Assumes nothing.
-use Prim.Native.Nat.{_+_, _*_, _≤_, _<_}
 use native.Mathlib.Omega.{arith}
-use mathlib.Core.Path.{_≡_, sym, _∙_}
+use mathlib.Core.Path.{sym, _∙_}
 use borrow.Author.Tests.{eq-eqb, ne-eqb}
 use Rattle.ramp_boundaries.specs.Candidates.{mouthCandidate}
 use Rattle.ramp_boundaries.specs.Listed.{plainAt}

@@ -1,23 +1,10 @@
 -- `mouths::mouth_candidate` meets its contract: each return by the tests that led there. Assumes nothing.
-use Prim.Native.Nat.{ℕ, _+_, _*_, _≤_, _<_}
-use native.Mathlib.Omega.{arith}
-use mathlib.Core.Path.{_≡_, sym, ap, _∙_, subst}
-use mathlib.Core.Bool.{Bool, true, false, not, _&&_, _||_}
-use lib.ListN.{length, getD}
-use lib.Dec.{eqb}
+use mathlib.Core.Path.{sym, _∙_}
+use mathlib.Core.Bool.{not}
 use borrow.Author.Tests.{eq-eqb, ne-eqb}
-use Rattle.definitions.specs.Limits.{numbersPerBoundary}
-use Rattle.definitions.specs.Scan.{onlyIf}
-use Rattle.definitions.specs.MouthShapes.{distinctRegions, triangleRepresentative}
-use Rattle.definitions.specs.Context.{Context, fullPair, noRamp}
-use Rattle.definitions.specs.RampMouths.{overlayOnly}
+use Rattle.definitions.specs.Context.{fullPair}
 use Rattle.laws.specs.ListLaws.Tests.{both}
-use Rattle.context.specs.Shown.{ShownPairs}
-use Rattle.context.specs.Rows.{Stretch, NamedRow}
-use Rattle.context.specs.ShownLaws.{shown-stretch, shown-rows}
-use Rattle.ramp_boundaries.specs.Lent.{Placed, Shows}
 use Rattle.ramp_boundaries.proofs.RowLists.{between-length, negated-true, negated-false}
-use Rattle.ramp_boundaries.proofs.Within.{within-more, approach-within}
 use Rattle.ramp_boundaries.proofs.FoundMouths.{triangle-two, has-ramp, not-full, no-shape, too-far, by-triangle, by-approach}
 use Rattle.ramp_boundaries.proofs.SafeLists.{below, placed-at, stretch-at, tallies-at, rows-counted, named-both, kind-shown, triangle-shown, overlay-only, named-in, approach-named}
 use borrow.Author.Needs.{needs}

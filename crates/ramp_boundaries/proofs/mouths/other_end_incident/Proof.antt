@@ -1,9 +1,8 @@
 -- `mouths::other_end_incident` meets its contract. The invariant: no boundary passed is the other end and an incident. Assumes nothing.
 use Prim.Native.Nat.{_-_, _≤_, _<_}
-use native.Mathlib.Omega.{arith}
 use native.Mathlib.Nat.{le-antisymm}
 use mathlib.Core.Path.{_≡_, refl, sym, ap, ap₂, _∙_, subst}
-use mathlib.Core.Bool.{Bool, true, false, _&&_}
+use mathlib.Core.Bool.{false, _&&_}
 use mathlib.Core.Logic.{⊎-elim}
 use Rattle.definitions.specs.Scan.{anyBelow}
 use Rattle.definitions.specs.Context.{Context, isIncident}

@@ -1,11 +1,10 @@
 -- `selection::better_entry` meets its contract, by its tests. Assumes nothing.
-use Prim.Native.Nat.{_≤_, _<_}
+use Prim.Native.Nat.{_<_}
 use native.Mathlib.Omega.{arith}
 use mathlib.Core.Path.{refl, sym, _∙_}
 use lib.Arith.{lt-of-le-ne}
 use Rattle.ramp_boundaries.proofs.RowLists.{negated-true, negated-false}
 use Rattle.ramp_boundaries.proofs.RoundLaws.{passed-over, first-found, one-better}
-use borrow.Author.Needs.{needs}
 use Rattle.ramp_boundaries.proofs.selection.better_entry.Statement.{statement}
 use Rattle.ramp_boundaries.proofs.selection.better_entry.Tie as tie
 

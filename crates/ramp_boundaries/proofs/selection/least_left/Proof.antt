@@ -1,5 +1,5 @@
 -- `selection::least_left` meets its contract. The invariant: `best` is the least of the entries passed. Assumes nothing.
-use Prim.Native.Nat.{ℕ, _-_, _≤_, _<_}
+use Prim.Native.Nat.{_-_, _≤_}
 use native.Mathlib.Omega.{arith}
 use native.Mathlib.Nat.{le-antisymm}
 use mathlib.Core.Path.{_≡_, ap, _∙_}

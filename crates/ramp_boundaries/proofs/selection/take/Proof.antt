@@ -1,14 +1,13 @@
 -- `selection::take` meets its contract: its mouth, its ramp end and its regions are marked. Assumes nothing.
-use Prim.Native.Nat.{ℕ, _<_}
+use Prim.Native.Nat.{_<_}
 use native.Mathlib.Omega.{arith}
-use mathlib.Core.Path.{_≡_, refl, sym, ap, _∙_, subst}
+use mathlib.Core.Path.{refl, sym, ap, _∙_, subst}
 use mathlib.Core.Bool.{true, false, _&&_, _||_, cond}
 use mathlib.Core.List.{[], _∷_, _++_}
 use lib.ListN.{length, getD, length-set}
 use lib.Dec.{eqb}
 use borrow.Author.Tests.{lt-ltb}
 use Rattle.definitions.specs.MouthShapes.{regionsOf}
-use Rattle.definitions.specs.RampMouths.{MouthProposal}
 use Rattle.ramp_boundaries.specs.Candidates.{triangular, proposalOf}
 use Rattle.ramp_boundaries.specs.Held.{HeldMarks, sameEnd, markHeld, markInner}
 use Rattle.ramp_boundaries.proofs.Marks.{inner-length, outer-length}

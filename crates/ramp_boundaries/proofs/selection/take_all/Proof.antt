@@ -1,10 +1,10 @@
 -- `selection::take_all` meets its contract. The invariant: what was taken so far, and the entry that is next; the measure is how many mouths are not removed.
 -- Assumes nothing.
-use Prim.Native.Nat.{ℕ, _*_, _≤_, _<_}
+use Prim.Native.Nat.{ℕ, _≤_, _<_}
 use native.Mathlib.Omega.{arith}
 use native.Mathlib.Nat.{le-antisymm}
-use mathlib.Core.Path.{_≡_, refl, sym, ap, _∙_, subst}
-use mathlib.Core.Bool.{Bool, false, not}
+use mathlib.Core.Path.{_≡_, refl, sym, _∙_, subst}
+use mathlib.Core.Bool.{false, not}
 use mathlib.Core.Option.{some}
 use mathlib.Core.List.{List, [], _∷_, _++_}
 use lib.ListN.{length, getD}
@@ -18,7 +18,6 @@ use Rattle.ramp_boundaries.specs.Rounds.{leastAmong}
 use Rattle.ramp_boundaries.specs.Selecting.{Selects}
 use Rattle.ramp_boundaries.proofs.RoundLaws.{entry-in, entry-none}
 use Rattle.ramp_boundaries.proofs.SelectionLaws.{safe-entries, least-left-over, one-round, Round, round-first, round-last, mouth-left, fewer-left}
-use borrow.Author.Needs.{needs}
 use Rattle.ramp_boundaries.proofs.selection.take_all.Statement.{statement}
 use Rattle.ramp_boundaries.proofs.selection.take_all.Tie as tie
 
