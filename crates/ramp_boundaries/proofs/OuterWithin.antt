@@ -53,7 +53,7 @@ module _ (C : Context) (a m : ℕ) (named : All (Named (C .regions)) (C .pairs m
   unfolding triangleMouth distinctRegions
   triangle-inside = go (leb (length (filter (C .anchored) (distinctRegions (C .pairs m)))) 1)
     where
-      go : (b : Bool) → OnO Inside (onlyIf b (record { mouthIndex = m; rampIndex = a; outer = filter (C .anchored) (distinctRegions (C .pairs m)); inner = filter (λ r. not (C .anchored r)) (distinctRegions (C .pairs m)); isTriangle = true; twoPortBroadApproach = false; separation = separationOf C m a; }))
+      go : (b : Bool) → OnO Inside (onlyIf b (record { mouthIndex = m; rampIndex = a; outer = filter (C .anchored) (distinctRegions (C .pairs m)); inner = filter (λ r. not (C .anchored r)) (distinctRegions (C .pairs m)); isTriangle = true; twoPortBroadApproach = false; separation = separationOf C m a }))
       go true = present (all-filter (C .anchored) (all-map (λ s h. h .1) (all-addAll done (all-named-regions named))))
       go false = absent
 

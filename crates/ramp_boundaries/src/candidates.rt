@@ -75,7 +75,17 @@ fn push_mouth(
     ensures { λ r. ⌜ Roomy (now (mouths .exit)) (now (ramps .exit)) (now (outers .exit)) (now (kinds .exit)) (now (separations .exit)) ⌝ }
     ensures { λ r. ⌜ ((C : Context) (l : List MouthProposal) → Shows (now (boundaries .entry)) (now (pairs .entry)) (now (starts .entry)) (now (counts .entry)) (now (marks .entry)) count C → ShownTallies C (now (tallies .entry)) → noRamp C a ≡ false → fullCut C a ≡ true → Filled C (now (mouths .entry)) (now (ramps .entry)) (now (outers .entry)) (now (kinds .entry)) (now (separations .entry)) n l → Filled C (now (mouths .exit)) (now (ramps .exit)) (now (outers .exit)) (now (kinds .exit)) (now (separations .exit)) r (l ++ toList (mouthCandidate C a m))) ⌝ }
 {
-    match mouth_candidate(boundaries, tallies, pairs, starts, counts, marks, count, m, a) {
+    match mouth_candidate(
+        boundaries,
+        tallies,
+        pairs,
+        starts,
+        counts,
+        marks,
+        count,
+        m,
+        a,
+    ) {
         Candidate::None => n,
         Candidate::Mouth(outer, kind) => {
             let separation = separation_of(boundaries, m, a);

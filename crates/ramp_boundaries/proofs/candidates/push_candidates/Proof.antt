@@ -45,11 +45,16 @@ loop-less c = search needs
 loop-again : tie.Need-loop-again Inv-loop μ-loop
 loop-again c =
     let s = c .before .before .before .before .before .before .before .before .before .before .before .before .before in
-    let at = c .before .before .before .before .before .before .before .loop in
-    ( search needs
-    , ( c .push-ramp .ensures .0
-    , ( c .push-ramp .ensures .1 .0
-    , λ C S T. filled-as (c .push-ramp .ensures .1 .1 C (gather (at .a) (of C (s .args .count))) S T (at .inv .1 .1 .1 C S T)) (ramp-list (of C (s .args .count)) (at .a)))))
+    let at = c .before .before .before .before .before .before .before .loop in (
+      search needs,
+      (
+        c .push-ramp .ensures .0,
+        (
+          c .push-ramp .ensures .1 .0,
+          λ C S T. filled-as (c .push-ramp .ensures .1 .1 C (gather (at .a) (of C (s .args .count))) S T (at .inv .1 .1 .1 C S T)) (ramp-list (of C (s .args .count)) (at .a)),
+        ),
+      ),
+    )
 
 returns : tie.Need-returns Inv-loop μ-loop
 unfolding candidates
@@ -57,10 +62,13 @@ returns c =
     let s = c .before .before .before .before .before .before .before in
     let at = c .before .loop in
     let same = le-antisymm (at .inv .0) (c .loop-test .left) in
-    let f = plainAt (s .args .boundaries .now) in
-    ( le-trans (subst (λ a. at .n ≤ countBelow a (rampAt (s .args .boundaries .now)) * countBelow (s .args .count) f) same (at .inv .1 .0)) (all-fit f (s .args .count) (omega (arith, s .pre .0 .shows .bounds .few, s .pre .0 .shows .counted)))
-    , ( at .inv .1 .1 .0
-    , λ C S T. filled-as (at .inv .1 .1 .1 C S T) (ap (λ a. gather a (of C (s .args .count))) same ∙ ap (λ n. gather n (of C n)) (sym (S .counted)))))
+    let f = plainAt (s .args .boundaries .now) in (
+      le-trans (subst (λ a. at .n ≤ countBelow a (rampAt (s .args .boundaries .now)) * countBelow (s .args .count) f) same (at .inv .1 .0)) (all-fit f (s .args .count) (omega (arith, s .pre .0 .shows .bounds .few, s .pre .0 .shows .counted))),
+      (
+        at .inv .1 .1 .0,
+        λ C S T. filled-as (at .inv .1 .1 .1 C S T) (ap (λ a. gather a (of C (s .args .count))) same ∙ ap (λ n. gather n (of C n)) (sym (S .counted))),
+      ),
+    )
 
 pub push-candidates-spec : {M : Type 1} → statement M
 push-candidates-spec =

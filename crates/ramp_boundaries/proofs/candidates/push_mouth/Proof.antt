@@ -48,31 +48,46 @@ add-result c = omega (arith, c .before .before .before .before .before .before .
 returns : tie.Need-returns
 returns c =
     let s = c .before .before .before .before .before .before .before .before in
-    let L = s .pre .0 in
-    ((omega arith, omega arith), (s .pre .1 .0, λ C l S T ramp cut F.
-    filled-none F (none-found C (s .args .a) (s .args .m) (sym (ap (candidateForm C (s .args .m) (s .args .a)) (c .enum-told .given .1)) ∙ c .before .before .mouth-candidate .ensures C S T ramp cut))))
+    let L = s .pre .0 in (
+      (omega arith, omega arith),
+      (
+        s .pre .1 .0,
+        λ C l S T ramp cut F.
+            filled-none F (none-found C (s .args .a) (s .args .m) (sym (ap (candidateForm C (s .args .m) (s .args .a)) (c .enum-told .given .1)) ∙ c .before .before .mouth-candidate .ensures C S T ramp cut)),
+      ),
+    )
 
 returns-2 : tie.Need-returns-2
 returns-2 c =
     let s = c .before .before .before .before .before .before .before .before .before .before .before .before .before .before .before .before .before .before .before in
-    let L = s .pre .0 in
-    ((omega arith, omega arith), (roomy-put (s .pre .1 .0) (c .put-candidate .ensures), λ C l S T ramp cut F.
-    let lm = below (S .counted) (s .pre .1 .1 .1 .0) in
-    let la = below (S .counted) (s .pre .1 .1 .1 .1) in
-    let e = sym (ap (candidateForm C (s .args .m) (s .args .a)) (c .before .before .before .before .before .before .before .before .before .before .before .outer .given .1)) ∙ c .before .before .before .before .before .before .before .before .before .before .before .before .before .mouth-candidate .ensures C S T ramp cut in
-    let d = c .before .before .before .before .before .before .before .before .before .separation-of .ensures C (S .bounds) lm la in
-    filled-more C (s .args .m) (s .args .a) F (s .pre .1 .0) (c .put-candidate .ensures) (s .pre .1 .1 .0) lm la (outer-inside C (s .args .a) (s .args .m) (S .rows .named (s .args .m) lm) _ _ e)
-    (c .before .bits-of .ensures ∙ ap (toBits binary64) d) (near-found C (s .args .a) (s .args .m) _ _ e (sym (ap (λ x. not (lt maxMouthDistance x)) d) ∙ sym (c .before .before .before .before .before .before .before .before .is-close .ensures) ∙ c .before .before .before .before .before .before .before .if1 .taken))))
+    let L = s .pre .0 in (
+      (omega arith, omega arith),
+      (
+        roomy-put (s .pre .1 .0) (c .put-candidate .ensures),
+        λ C l S T ramp cut F.
+            let lm = below (S .counted) (s .pre .1 .1 .1 .0) in
+            let la = below (S .counted) (s .pre .1 .1 .1 .1) in
+            let e = sym (ap (candidateForm C (s .args .m) (s .args .a)) (c .before .before .before .before .before .before .before .before .before .before .before .outer .given .1)) ∙ c .before .before .before .before .before .before .before .before .before .before .before .before .before .mouth-candidate .ensures C S T ramp cut in
+            let d = c .before .before .before .before .before .before .before .before .before .separation-of .ensures C (S .bounds) lm la in
+            filled-more C (s .args .m) (s .args .a) F (s .pre .1 .0) (c .put-candidate .ensures) (s .pre .1 .1 .0) lm la (outer-inside C (s .args .a) (s .args .m) (S .rows .named (s .args .m) lm) _ _ e)
+            (c .before .bits-of .ensures ∙ ap (toBits binary64) d) (near-found C (s .args .a) (s .args .m) _ _ e (sym (ap (λ x. not (lt maxMouthDistance x)) d) ∙ sym (c .before .before .before .before .before .before .before .before .is-close .ensures) ∙ c .before .before .before .before .before .before .before .if1 .taken)),
+      ),
+    )
 
 returns-3 : tie.Need-returns-3
 returns-3 c =
     let s = c .before .before .before .before .before .before .before .before .before .before .before .before in
-    let L = s .pre .0 in
-    ((omega arith, omega arith), (s .pre .1 .0, λ C l S T ramp cut F.
-    let lm = below (S .counted) (s .pre .1 .1 .1 .0) in
-    let la = below (S .counted) (s .pre .1 .1 .1 .1) in
-    let e = sym (ap (candidateForm C (s .args .m) (s .args .a)) (c .before .before .before .before .outer .given .1)) ∙ c .before .before .before .before .before .before .mouth-candidate .ensures C S T ramp cut in
-    filled-none F (far-found C (s .args .a) (s .args .m) _ _ e (sym (ap (λ x. not (lt maxMouthDistance x)) (c .before .before .separation-of .ensures C (S .bounds) lm la)) ∙ sym (c .before .is-close .ensures) ∙ c .if1 .left))))
+    let L = s .pre .0 in (
+      (omega arith, omega arith),
+      (
+        s .pre .1 .0,
+        λ C l S T ramp cut F.
+            let lm = below (S .counted) (s .pre .1 .1 .1 .0) in
+            let la = below (S .counted) (s .pre .1 .1 .1 .1) in
+            let e = sym (ap (candidateForm C (s .args .m) (s .args .a)) (c .before .before .before .before .outer .given .1)) ∙ c .before .before .before .before .before .before .mouth-candidate .ensures C S T ramp cut in
+            filled-none F (far-found C (s .args .a) (s .args .m) _ _ e (sym (ap (λ x. not (lt maxMouthDistance x)) (c .before .before .separation-of .ensures C (S .bounds) lm la)) ∙ sym (c .before .is-close .ensures) ∙ c .if1 .left)),
+      ),
+    )
 
 pub push-mouth-spec : {M : Type 1} → statement M
 push-mouth-spec =

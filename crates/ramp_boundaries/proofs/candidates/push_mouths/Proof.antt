@@ -45,20 +45,28 @@ loop-less c = search needs
 loop-again : tie.Need-loop-again Inv-loop μ-loop
 loop-again c =
     let s = c .before .before .before .before .before .before .before .before .before .before .before .before .before in
-    let at = c .before .before .before .before .before .before .before .loop in
-    ( search needs
-    , ( omega (arith, c .push-plain .ensures .0, at .inv .1 .0, count-next (plainAt (s .args .boundaries .now)) (at .m))
-    , ( c .push-plain .ensures .1 .0
-    , λ C l S T ramp cut F. filled-as (c .push-plain .ensures .1 .1 C (l ++ collect (at .m) (mouthCandidate C (s .args .a))) S T ramp cut (at .inv .1 .1 .1 C l S T ramp cut F)) (next-list l (mouthCandidate C (s .args .a)) (at .m)))))
+    let at = c .before .before .before .before .before .before .before .loop in (
+      search needs,
+      (
+        omega (arith, c .push-plain .ensures .0, at .inv .1 .0, count-next (plainAt (s .args .boundaries .now)) (at .m)),
+        (
+          c .push-plain .ensures .1 .0,
+          λ C l S T ramp cut F. filled-as (c .push-plain .ensures .1 .1 C (l ++ collect (at .m) (mouthCandidate C (s .args .a))) S T ramp cut (at .inv .1 .1 .1 C l S T ramp cut F)) (next-list l (mouthCandidate C (s .args .a)) (at .m)),
+        ),
+      ),
+    )
 
 returns : tie.Need-returns Inv-loop μ-loop
 returns c =
     let s = c .before .before .before .before .before .before .before in
     let at = c .before .loop in
-    let same = le-antisymm (at .inv .0) (c .loop-test .left) in
-    ( subst (λ m. at .n ≤ s .args .first + countBelow m (plainAt (s .args .boundaries .now))) same (at .inv .1 .0)
-    , ( at .inv .1 .1 .0
-    , λ C l S T ramp cut F. filled-as (at .inv .1 .1 .1 C l S T ramp cut F) (ap (λ m. l ++ collect m (mouthCandidate C (s .args .a))) same)))
+    let same = le-antisymm (at .inv .0) (c .loop-test .left) in (
+      subst (λ m. at .n ≤ s .args .first + countBelow m (plainAt (s .args .boundaries .now))) same (at .inv .1 .0),
+      (
+        at .inv .1 .1 .0,
+        λ C l S T ramp cut F. filled-as (at .inv .1 .1 .1 C l S T ramp cut F) (ap (λ m. l ++ collect m (mouthCandidate C (s .args .a))) same),
+      ),
+    )
 
 pub push-mouths-spec : {M : Type 1} → statement M
 push-mouths-spec =

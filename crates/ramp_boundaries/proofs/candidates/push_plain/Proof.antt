@@ -24,10 +24,15 @@ shared-slice-read-if1 c = search needs
 
 returns : tie.Need-returns
 returns c =
-    let s = c .before .before .before .before .before .before .before in
-    (omega arith, (s .pre .1 .0, λ C l S T ramp cut F.
-    let lm = below (S .counted) (s .pre .1 .1 .1 .0) in
-    filled-none F (none-found C (s .args .a) (s .args .m) (has-ramp C (s .args .a) (s .args .m) ramp cut (kind-shown (S .bounds) (s .args .m) lm ∙ ne-eqb _ 0 (c .if1 .taken))))))
+    let s = c .before .before .before .before .before .before .before in (
+      omega arith,
+      (
+        s .pre .1 .0,
+        λ C l S T ramp cut F.
+            let lm = below (S .counted) (s .pre .1 .1 .1 .0) in
+            filled-none F (none-found C (s .args .a) (s .args .m) (has-ramp C (s .args .a) (s .args .m) ramp cut (kind-shown (S .bounds) (s .args .m) lm ∙ ne-eqb _ 0 (c .if1 .taken)))),
+      ),
+    )
 
 push-mouth-requires : tie.Need-push-mouth-requires
 push-mouth-requires c κs =

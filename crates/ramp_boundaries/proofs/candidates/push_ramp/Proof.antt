@@ -25,20 +25,26 @@ shared-slice-read-if1 c = search needs
 
 returns : tie.Need-returns
 returns c =
-    let s = c .before .before .before .before .before .before .before in
-    ( none-counted (plainAt (s .args .boundaries .now)) (s .args .count) (omega (arith, s .pre .0 .shows .bounds .few, s .pre .0 .shows .counted)) (s .args .a) (s .args .n) (s .pre .1 .1 .0)
-    , ( s .pre .1 .0
-    , λ C l S T F. filled-as F (same-list l (mouthCandidate C (s .args .a)) (s .args .count) (λ m. no-ramp-none C (s .args .a) m (kind-shown (S .bounds) (s .args .a) (below (S .counted) (s .pre .1 .1 .1)) ∙ eq-eqb _ 0 (c .if1 .taken))))))
+    let s = c .before .before .before .before .before .before .before in (
+      none-counted (plainAt (s .args .boundaries .now)) (s .args .count) (omega (arith, s .pre .0 .shows .bounds .few, s .pre .0 .shows .counted)) (s .args .a) (s .args .n) (s .pre .1 .1 .0),
+      (
+        s .pre .1 .0,
+        λ C l S T F. filled-as F (same-list l (mouthCandidate C (s .args .a)) (s .args .count) (λ m. no-ramp-none C (s .args .a) m (kind-shown (S .bounds) (s .args .a) (below (S .counted) (s .pre .1 .1 .1)) ∙ eq-eqb _ 0 (c .if1 .taken)))),
+      ),
+    )
 
 full-cut-requires : tie.Need-full-cut-requires
 full-cut-requires c κs = tallies-at (c .before .before .before .before .before .before .before .pre .0) (c .before .before .before .before .before .before .before .pre .1 .1 .1)
 
 returns-2 : tie.Need-returns-2
 returns-2 c =
-    let s = c .before .before .before .before .before .before .before .before .before in
-    ( none-counted (plainAt (s .args .boundaries .now)) (s .args .count) (omega (arith, s .pre .0 .shows .bounds .few, s .pre .0 .shows .counted)) (s .args .a) (s .args .n) (s .pre .1 .1 .0)
-    , ( s .pre .1 .0
-    , λ C l S T F. filled-as F (same-list l (mouthCandidate C (s .args .a)) (s .args .count) (λ m. no-cut-none C (s .args .a) m (sym (c .before .full-cut .ensures C T (below (S .counted) (s .pre .1 .1 .1))) ∙ negated-true _ (c .if2 .taken))))))
+    let s = c .before .before .before .before .before .before .before .before .before in (
+      none-counted (plainAt (s .args .boundaries .now)) (s .args .count) (omega (arith, s .pre .0 .shows .bounds .few, s .pre .0 .shows .counted)) (s .args .a) (s .args .n) (s .pre .1 .1 .0),
+      (
+        s .pre .1 .0,
+        λ C l S T F. filled-as F (same-list l (mouthCandidate C (s .args .a)) (s .args .count) (λ m. no-cut-none C (s .args .a) m (sym (c .before .full-cut .ensures C T (below (S .counted) (s .pre .1 .1 .1))) ∙ negated-true _ (c .if2 .taken)))),
+      ),
+    )
 
 push-mouths-requires : tie.Need-push-mouths-requires
 push-mouths-requires c κs =
@@ -47,12 +53,15 @@ push-mouths-requires c κs =
 
 returns-3 : tie.Need-returns-3
 returns-3 c =
-    let s = c .before .before .before .before .before .before .before .before .before .before .before .before .before .before .before in
-    ( ramp-counted (plainAt (s .args .boundaries .now)) (s .args .count) (omega (arith, s .pre .0 .shows .bounds .few, s .pre .0 .shows .counted)) (s .args .a) (s .args .n) _ (ne-eqb _ 0 (c .before .before .before .before .before .before .before .before .if1 .left)) (s .pre .1 .1 .0) (c .push-mouths .ensures .0)
-    , ( c .push-mouths .ensures .1 .0
-    , λ C l S T F.
-    let la = below (S .counted) (s .pre .1 .1 .1) in
-    c .push-mouths .ensures .1 .1 C l S T (kind-shown (S .bounds) (s .args .a) la ∙ ne-eqb _ 0 (c .before .before .before .before .before .before .before .before .if1 .left)) (sym (c .before .before .before .before .before .before .before .full-cut .ensures C T la) ∙ negated-false _ (c .before .before .before .before .before .before .if2 .left)) F))
+    let s = c .before .before .before .before .before .before .before .before .before .before .before .before .before .before .before in (
+      ramp-counted (plainAt (s .args .boundaries .now)) (s .args .count) (omega (arith, s .pre .0 .shows .bounds .few, s .pre .0 .shows .counted)) (s .args .a) (s .args .n) _ (ne-eqb _ 0 (c .before .before .before .before .before .before .before .before .if1 .left)) (s .pre .1 .1 .0) (c .push-mouths .ensures .0),
+      (
+        c .push-mouths .ensures .1 .0,
+        λ C l S T F.
+            let la = below (S .counted) (s .pre .1 .1 .1) in
+            c .push-mouths .ensures .1 .1 C l S T (kind-shown (S .bounds) (s .args .a) la ∙ ne-eqb _ 0 (c .before .before .before .before .before .before .before .before .if1 .left)) (sym (c .before .before .before .before .before .before .before .full-cut .ensures C T la) ∙ negated-false _ (c .before .before .before .before .before .before .if2 .left)) F,
+      ),
+    )
 
 pub push-ramp-spec : {M : Type 1} → statement M
 push-ramp-spec =

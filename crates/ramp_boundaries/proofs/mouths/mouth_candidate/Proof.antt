@@ -96,10 +96,14 @@ returns-4 c =
 triangle-mouth-requires : tie.Need-triangle-mouth-requires
 triangle-mouth-requires c κs =
     let s = c .before .before .before .before .before .before .before .before .before .before .before .before .before .before .before .before .before .before in
-    let h = both (c .before .before .before .nearby-representative .result) (c .before .before .before .before .before .before .before .before .triangle-representative .result) (c .if5 .taken) in
-    ((stretch-at (s .pre .0) (s .pre .1 .0) .within, sym (between-length (s .args .pairs .now) _ _)
-    ∙ triangle-two _ _ _ _ (c .before .before .before .before .before .before .before .before .triangle-representative .ensures) (h .1))
-    , λ k l u. named-both (s .pre .0) (s .pre .1 .0) k l u .1)
+    let h = both (c .before .before .before .nearby-representative .result) (c .before .before .before .before .before .before .before .before .triangle-representative .result) (c .if5 .taken) in (
+      (
+        stretch-at (s .pre .0) (s .pre .1 .0) .within,
+        sym (between-length (s .args .pairs .now) _ _)
+            ∙ triangle-two _ _ _ _ (c .before .before .before .before .before .before .before .before .triangle-representative .ensures) (h .1),
+      ),
+      λ k l u. named-both (s .pre .0) (s .pre .1 .0) k l u .1,
+    )
 
 returns-5 : tie.Need-returns-5
 returns-5 c =
@@ -117,10 +121,17 @@ returns-5 c =
 
 approach-mouth-requires : tie.Need-approach-mouth-requires
 approach-mouth-requires c κs =
-    let s = c .before .before .before .before .before .before .before .before .before .before .before .before .before .before .before .before .before .before in
-    ((rows-counted (s .pre .0), (s .pre .1 .1, s .pre .1 .0)), (λ i l. stretch-at (s .pre .0) l, (named-both (s .pre .0) (s .pre .1 .0)
-    , named-in (s .pre .0) (s .pre .1 .0) (fullPair (s .pre .0 .context) (s .args .a))
-    (c .before .before .before .before .before .before .before .approach-of .ensures (s .pre .0 .context) (s .pre .0 .cuts) (s .pre .0 .shows .rows) (below (s .pre .0 .shows .counted) (s .pre .1 .0)) (below (s .pre .0 .shows .counted) (s .pre .1 .1))))))
+    let s = c .before .before .before .before .before .before .before .before .before .before .before .before .before .before .before .before .before .before in (
+      (rows-counted (s .pre .0), (s .pre .1 .1, s .pre .1 .0)),
+      (
+        λ i l. stretch-at (s .pre .0) l,
+        (
+          named-both (s .pre .0) (s .pre .1 .0),
+          named-in (s .pre .0) (s .pre .1 .0) (fullPair (s .pre .0 .context) (s .args .a))
+              (c .before .before .before .before .before .before .before .approach-of .ensures (s .pre .0 .context) (s .pre .0 .cuts) (s .pre .0 .shows .rows) (below (s .pre .0 .shows .counted) (s .pre .1 .0)) (below (s .pre .0 .shows .counted) (s .pre .1 .1))),
+        ),
+      ),
+    )
 
 returns-6 : tie.Need-returns-6
 returns-6 c =
