@@ -1,5 +1,5 @@
 -- The proposals of the pass, from its candidates and which of them are near: what a caller needs to go from `push_candidates` to `select_mouths`. Assumes nothing.
-use Prim.Native.Nat.{ℕ, zero, suc, _<_}
+use Prim.Native.Nat.{ℕ, zero, suc, _-_, _/_, _≤_, _<_}
 use native.Mathlib.Omega.{arith}
 use mathlib.Core.Path.{_≡_, refl, sym, ap, ap₂, _∙_}
 use mathlib.Core.Bool.{Bool, true, false, not, _&&_, _||_, cond}
@@ -7,12 +7,15 @@ use mathlib.Core.Option.{Option, none, some}
 use mathlib.Core.List.{List, [], _∷_, _++_}
 use lib.ListN.{getD}
 use lib.Ieee.{lt}
-use Rattle.definitions.specs.Scan.{filter, collect, gather, toList, onlyIf}
+use Rattle.definitions.specs.Scan.{any, filter, collect, gather, toList, onlyIf}
 use Rattle.definitions.specs.MouthShapes.{mouthShape}
 use Rattle.definitions.specs.Context.{Context, fullCut, fullPair, noRamp}
 use Rattle.definitions.specs.RampMouths.{MouthProposal, maxMouthDistance, retain, broadMouth, nearbyRepresentative, overlayRepresentative, shapedMouth, triangle, triangleOr, cornersNear, isLocal, mouthProposal, proposals}
 use Rattle.laws.specs.ListLaws.Lists.{filter-append}
 use Rattle.ramp_boundaries.specs.Candidates.{foundMouth, mouthCandidate, candidates}
+use Rattle.ramp_boundaries.specs.Held.{held, HeldMarks}
+use Rattle.ramp_boundaries.specs.Lent.{Shows}
+use Rattle.ramp_boundaries.specs.Selecting.{Selects}
 use Rattle.ramp_boundaries.specs.Listed.{entryAt, nearEntries, Filled}
 
 module _ (C : Context) where
@@ -74,3 +77,19 @@ module _ (C : Context) where
     pub proposals-near : {separations : List ℕ} (n : ℕ) → Filled C mouths ramps outers kinds separations n (candidates C)
         → ((k : ℕ) → k < n → getD near k false ≡ cornersNear C (entryAt C mouths ramps outers kinds k)) → proposals C ≡ nearEntries C mouths ramps outers kinds near n
     proposals-near n F h = proposals-filtered ∙ ap (filter (cornersNear C)) (sym (F .entries)) ∙ near-kept n h
+
+-- ---- what `select_mouths` asks
+
+-- nothing is held where marks say no more than that a region is anchored
+pub fresh-marks : (C : Context) (marks : List ℕ) → ((r : ℕ) → 1 ≤ r → r ≤ C .regions → getD marks (r - 1) 0 < 2) → HeldMarks C [] marks
+fresh-marks C marks h = record { at = λ r a b. half (getD marks (r - 1) 0) (h r a b) ∙ sym (nothing r) }
+  where
+    half : (n : ℕ) → n < 2 → n / 2 ≡ 0
+    half n l = omega arith
+
+    nothing : (r : ℕ) → held [] r ≡ 0
+    nothing r = unfold held in (unfold any in refl)
+
+pub selects : {boundaries pairs starts counts marks mouths ramps outers kinds separations : List ℕ} {count n : ℕ} {C : Context} {l : List MouthProposal} → Shows boundaries pairs starts counts marks count C
+    → Filled C mouths ramps outers kinds separations n l → HeldMarks C [] marks → Selects boundaries pairs starts marks mouths ramps outers separations count n C
+selects S F h = record { counted = S .counted; bounds = S .bounds; rows = S .rows; listed = F .listed; long = S .anchored .long; fresh = h }
