@@ -3,18 +3,17 @@ use Prim.Native.Nat.{ℕ, zero, suc, _≤_, _<_}
 use native.Mathlib.Omega.{arith}
 use mathlib.Core.Path.{_≡_, refl, sym, ap, _∙_, subst}
 use mathlib.Core.Bool.{Bool, true, false, not, _&&_, _||_, cond}
-use mathlib.Core.Option.{Option, none, some}
+use mathlib.Core.Option.{none, some}
 use mathlib.Core.List.{List, [], _∷_}
 use lib.Dec.{eqb}
 use borrow.Author.Tests.{ne-eqb}
 use Rattle.definitions.specs.Scan.{any, filter, member, addNew, addAll}
 use Rattle.definitions.specs.Grid.{Pair, contains}
-use Rattle.definitions.specs.MouthShapes.{MouthShape, single, star, distinctRegions, commonRegions, starFrom, mouthShape}
+use Rattle.definitions.specs.MouthShapes.{single, distinctRegions, commonRegions, starFrom, mouthShape}
 use Rattle.definitions.specs.Context.{Context, fullCut, onlyPair, fullPair, isIncident, otherRegion}
-use Rattle.laws.specs.ListLaws.Lists.{All, done, more}
+use Rattle.laws.specs.ListLaws.Lists.{All, more}
 use Rattle.ramp_boundaries.specs.Rows.{pairForm, innerOf, shapeForm, oneOf}
 use Rattle.ramp_boundaries.specs.Candidates.{singleAt, starAt, approachOf}
-use Rattle.ramp_boundaries.specs.declared.approaches.Approach.{Approach}
 use Rattle.ramp_boundaries.specs.declared.approaches.Approach.the-variants as approach
 use Rattle.ramp_boundaries.specs.declared.shapes.Pair as shape-pair
 use Rattle.ramp_boundaries.specs.declared.shapes.Shape.{Shape}

@@ -1,13 +1,13 @@
 -- Lists that hold no number twice, as `addAll` makes them: which of two numbers a filter leaves, and that two members make two elements. Assumes nothing.
-use Prim.Native.Nat.{ℕ, zero, suc}
+use Prim.Native.Nat.{ℕ, suc}
 use native.Mathlib.Omega.{arith}
 use mathlib.Core.Path.{_≡_, refl, sym, ap, ap₂, _∙_}
 use mathlib.Core.Bool.{Bool, true, false, not, _&&_, _||_, cond, or-false, or-comm, true≢false, false≢true}
 use mathlib.Core.List.{List, [], _∷_, _++_}
 use lib.ListN.{length}
 use lib.Dec.{eqb, leb}
-use borrow.Author.Tests.{eqb-true, eq-eqb, lt-leb}
-use Rattle.definitions.specs.Scan.{any, all, filter, member, addNew, addAll}
+use borrow.Author.Tests.{eqb-true, lt-leb}
+use Rattle.definitions.specs.Scan.{any, filter, member, addNew, addAll}
 use Rattle.definitions.specs.Grid.{Pair, contains}
 use Rattle.definitions.specs.MouthShapes.{regionsOf, distinctRegions}
 use Rattle.laws.specs.ListLaws.NumberLists.{member-append}

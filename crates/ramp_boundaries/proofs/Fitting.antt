@@ -1,9 +1,9 @@
 -- A proposal of an approach by the tests that the code makes, and what the lists show of anchors and incidents. Assumes nothing.
-use Prim.Native.Nat.{ℕ, _-_, _≤_, _<_}
+use Prim.Native.Nat.{ℕ, _-_, _≤_}
 use native.Mathlib.Omega.{arith}
-use mathlib.Core.Path.{_≡_, refl, sym, ap, _∙_}
-use mathlib.Core.Bool.{Bool, true, false, not, _&&_, _||_, cond}
-use mathlib.Core.List.{List, [], _∷_}
+use mathlib.Core.Path.{_≡_, sym, ap, _∙_}
+use mathlib.Core.Bool.{Bool, not, _&&_, _||_, cond}
+use mathlib.Core.List.{List}
 use lib.ListN.{getD}
 use lib.Dec.{eqb}
 use Rattle.definitions.specs.Scan.{all, onlyIf}
@@ -13,8 +13,7 @@ use Rattle.definitions.specs.Context.{Context, incidentCount}
 use Rattle.definitions.specs.RampMouths.{broadMouth, overlayOnly, otherEndIncident}
 use Rattle.laws.specs.ListLaws.Lists.{All, done, more}
 use Rattle.laws.specs.RustMouths.MouthKept.{all-agree}
-use Rattle.context.specs.Shown.{ShownPairs, ShownIncidents, ShownAnchored}
-use Rattle.ramp_boundaries.specs.Rows.{rowsOf}
+use Rattle.context.specs.Shown.{ShownIncidents, ShownAnchored}
 use Rattle.ramp_boundaries.specs.Outers.{markAt, innerFits}
 use Rattle.ramp_boundaries.specs.Candidates.{proposalOf, broad, plain, singleFits, starFits, approachMouth}
 use Rattle.ramp_boundaries.specs.declared.approaches.Approach.the-variants as approach

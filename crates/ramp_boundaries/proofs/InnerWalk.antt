@@ -1,16 +1,15 @@
 -- A walk over the places of a mouth's rows asks every inner region of its proposal, and so whether their corners are near. Assumes nothing.
 use Prim.Native.Nat.{ℕ, zero, suc, _+_, _-_, _*_, _/_, _%_, _≤_, _<_}
 use native.Mathlib.Omega.{arith}
-use native.Mathlib.Numerals.{add-one}
 use mathlib.Core.Path.{_≡_, refl, sym, ap, ap₂, _∙_}
 use mathlib.Core.Bool.{Bool, true, false, _&&_, _||_, cond}
 use mathlib.Core.List.{List, [], _∷_}
 use lib.ListN.{getD}
 use lib.Dec.{eqb}
-use borrow.Author.Tests.{eq-eqb, ne-eqb}
+use borrow.Author.Tests.{ne-eqb}
 use Rattle.definitions.specs.Scan.{allBelow, all}
 use Rattle.definitions.specs.Grid.{Pair}
-use Rattle.definitions.specs.MouthShapes.{regionsOf, distinctRegions}
+use Rattle.definitions.specs.MouthShapes.{distinctRegions}
 use Rattle.definitions.specs.Context.{Context}
 use Rattle.definitions.specs.RampMouths.{cornersNear}
 use Rattle.laws.specs.ListLaws.ScansOfAll.{all-append-test, all-ext}

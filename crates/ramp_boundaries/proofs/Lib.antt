@@ -1,5 +1,7 @@
 -- What the proofs of several functions use.
 mod ApproachLaws
+mod CandidateLaws
+mod CandidateRoom
 mod Conflicts
 mod Distinct
 mod Fitting
@@ -12,6 +14,8 @@ mod Marks
 mod Measured
 mod Nearness
 mod OtherEnds
+mod OuterWithin
+pub mod ProposalLists
 mod RoundLaws
 mod RowLists
 mod SafeLists

@@ -1,18 +1,14 @@
 -- One round over the entries: the better of two, and one entry more. Keys read off the lists are those of the definitions. Assumes nothing.
-use Prim.Native.Nat.{ℕ, zero, suc, _+_, _*_, _≤_, _<_}
+use Prim.Native.Nat.{ℕ, _+_, _<_}
 use native.Mathlib.Omega.{arith}
 use mathlib.Core.Path.{_≡_, refl, sym, ap, ap₂, _∙_}
 use mathlib.Core.Bool.{Bool, true, false, not, _&&_, cond}
 use mathlib.Core.Option.{Option, none, some}
 use mathlib.Core.List.{List, [], _∷_, _++_, append-nil}
 use lib.ListN.{getD}
-use lib.Dec.{ltb}
-use lib.Ieee.{binary64, toBits}
 use borrow.Author.Tests.{lt-ltb, le-ltb}
-use Rattle.definitions.specs.Limits.{numbersPerBoundary}
 use Rattle.definitions.specs.Scan.{filter, collect, toList, onlyIf}
 use Rattle.definitions.specs.Sort.{listLt}
-use Rattle.definitions.specs.Grid.{segmentAt}
 use Rattle.definitions.specs.Context.{Context, endpointsKey}
 use Rattle.definitions.specs.RampMouths.{MouthProposal, key, ranksBefore}
 use Rattle.laws.specs.ListLaws.Lists.{filter-append}

@@ -2,15 +2,14 @@
 use Prim.Native.Nat.{ℕ, zero, suc, _≤_, _<_}
 use native.Mathlib.Omega.{arith}
 use native.Mathlib.Nat.{le-trans}
-use mathlib.Core.Path.{_≡_, refl, sym, ap, ap₂, _∙_, subst}
-use mathlib.Core.Bool.{Bool, true, false, not, _&&_, _||_, cond, or-false, or-true, true≢false, false≢true}
+use mathlib.Core.Path.{_≡_, refl, sym, ap, _∙_, subst}
+use mathlib.Core.Bool.{Bool, true, false, not, _||_, cond, or-false, or-true, false≢true}
 use mathlib.Core.Option.{Option, none, some}
 use mathlib.Core.List.{List, [], _∷_, _++_, map}
 use lib.ListN.{length, getD, replicate}
-use lib.Dec.{eqb, ltb}
-use borrow.Author.Tests.{eqb-false, eq-eqb, ne-eqb, lt-ltb, le-ltb}
-use Rattle.definitions.specs.Limits.{numbersPerBoundary}
-use Rattle.definitions.specs.Scan.{any, filter, member, countBelow, onlyIf}
+use lib.Dec.{eqb}
+use borrow.Author.Tests.{eq-eqb, ne-eqb}
+use Rattle.definitions.specs.Scan.{any, filter, member, countBelow}
 use Rattle.definitions.specs.Sort.{sort, select}
 use Rattle.definitions.specs.Context.{Context}
 use Rattle.definitions.specs.RampMouths.{MouthProposal, conflict, key, ranksBefore, proposals}
@@ -24,9 +23,8 @@ use Rattle.laws.specs.OrderLaws.StableSort.{Weak}
 use Rattle.context.specs.OneMore.{OneMore, count-more}
 use Rattle.context.specs.ShownLaws.{shown-stretch, shown-rows}
 use Rattle.context.specs.Rows.{NamedRow}
-use Rattle.ramp_boundaries.specs.Candidates.{proposalOf}
-use Rattle.ramp_boundaries.specs.Held.{held, isUsed, isRefused, HeldMarks, TakenState}
-use Rattle.ramp_boundaries.specs.Listed.{SafeEntry, SafeEntries, entryAt, entryIf, nearEntries}
+use Rattle.ramp_boundaries.specs.Held.{isUsed, isRefused, HeldMarks, TakenState}
+use Rattle.ramp_boundaries.specs.Listed.{SafeEntries}
 use Rattle.ramp_boundaries.specs.Rounds.{better, leastFrom, leastAmong}
 use Rattle.ramp_boundaries.specs.Selecting.{isRemoved, Selects}
 use Rattle.ramp_boundaries.proofs.Distinct.{neither}

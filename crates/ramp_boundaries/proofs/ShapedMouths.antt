@@ -208,9 +208,10 @@ module _ (C : Context) (m a : ℕ) where
   inner-incident {n} named outer = all-filter (λ r. not (eqb r outer)) (all-addAll done (all-two both (all-both named (all-members (C .pairs m)))))
     where
       both : (p : Pair) → Named n p × List·Memᴰ p (C .pairs m) → ((1 ≤ p .lo) × (any (contains (p .lo)) (C .pairs m) ≡ true)) × ((1 ≤ p .hi) × (any (contains (p .hi)) (C .pairs m) ≡ true))
-      both p (h, i) =
-          ( (h .0, any-member (contains (p .lo)) i (ap (λ b. b || eqb (p .hi) (p .lo)) (eq-eqb (p .lo) (p .lo) refl)))
-          , (omega arith, any-member (contains (p .hi)) i (ap (λ b. eqb (p .lo) (p .hi) || b) (eq-eqb (p .hi) (p .hi) refl) ∙ or-true (eqb (p .lo) (p .hi)))))
+      both p (h, i) = (
+        (h .0, any-member (contains (p .lo)) i (ap (λ b. b || eqb (p .hi) (p .lo)) (eq-eqb (p .lo) (p .lo) refl))),
+        (omega arith, any-member (contains (p .hi)) i (ap (λ b. eqb (p .lo) (p .hi) || b) (eq-eqb (p .hi) (p .hi) refl) ∙ or-true (eqb (p .lo) (p .hi)))),
+      )
 
   module _ (q : Pair) {n : ℕ} (named : All (Named n) (C .pairs m)) (ramp : C .pairs a ≡ q ∷ []) (outer : ℕ) (inner : List ℕ) (S : Star n (C .pairs m) outer inner) where
     mine : All (λ s. (1 ≤ s) × (isIncident C m s ≡ true)) inner

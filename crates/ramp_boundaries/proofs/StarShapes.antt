@@ -4,19 +4,19 @@ use Prim.Native.Nat.{ℕ, _≤_, _<_}
 use native.Mathlib.Omega.{arith}
 use mathlib.Core.Path.{_≡_, refl, sym, ap, ap₂, _∙_, subst}
 use mathlib.Core.Bool.{Bool, true, false, not, _&&_, _||_, cond, or-true, true≢false, false≢true}
-use mathlib.Core.Option.{Option, none, some}
+use mathlib.Core.Option.{some}
 use mathlib.Core.List.{List, [], _∷_, List·Memᴰ}
 use lib.ListN.{length}
 use lib.Dec.{eqb, leb}
 use borrow.Author.Tests.{eqb-true, eq-eqb, ne-eqb}
 use Rattle.definitions.specs.Scan.{any, all, filter, member}
 use Rattle.definitions.specs.Grid.{Pair, contains}
-use Rattle.definitions.specs.MouthShapes.{MouthShape, single, star, distinctRegions, commonRegions, starFrom, mouthShape}
-use Rattle.laws.specs.ListLaws.Lists.{All, done, more}
+use Rattle.definitions.specs.MouthShapes.{star, distinctRegions, commonRegions, starFrom, mouthShape}
+use Rattle.laws.specs.ListLaws.Lists.{All, more}
 use Rattle.laws.specs.ListLaws.Members.{all-at, any-member, any-found, any-failed}
 use Rattle.ramp_boundaries.specs.Rows.{innerOf}
 use Rattle.ramp_boundaries.proofs.RowLists.{all-as-any, negated-true, negated-false}
-use Rattle.ramp_boundaries.proofs.Distinct.{neither, member-inner, two-members}
+use Rattle.ramp_boundaries.proofs.Distinct.{member-inner, two-members}
 use Rattle.ramp_boundaries.proofs.ApproachLaws.{Named}
 
 pub record Star (n : ℕ) (l : List Pair) (outer : ℕ) (inner : List ℕ) : Type 0 where

@@ -1,16 +1,15 @@
 -- One proposal more is taken: what its mouth, its ramp end and its regions add to what is refused is what the code marks. A region outside it was held by no inner
 -- region and no triangle, or the proposal would have been refused. Assumes nothing.
-use Prim.Native.Nat.{ℕ, zero, suc, _+_, _-_, _*_, _/_, _%_, _≤_, _<_, zero-le}
+use Prim.Native.Nat.{ℕ, _+_, _-_, _*_, _/_, _%_, _≤_, _<_, zero-le}
 use native.Mathlib.Omega.{arith}
 use native.Mathlib.Nat.{le-trans}
 use mathlib.Core.Path.{_≡_, refl, sym, ap, ap₂, _∙_, subst}
-use mathlib.Core.Bool.{Bool, true, false, not, _&&_, _||_, cond, or-false, true≢false, false≢true}
+use mathlib.Core.Bool.{Bool, true, false, not, _&&_, _||_, cond, or-false, true≢false}
 use mathlib.Core.List.{List, [], _∷_, _++_, map}
-use lib.ListN.{length, getD, set, length-set}
+use lib.ListN.{length, getD, set}
 use lib.Seq.{getD-set-same, getD-set-other}
 use lib.Dec.{eqb, ltb, leb}
 use borrow.Author.Tests.{eqb-true, eqb-false, eq-eqb, ne-eqb, ltb-true, ltb-false, lt-ltb, le-ltb}
-use Rattle.definitions.specs.Limits.{numbersPerBoundary}
 use Rattle.definitions.specs.Scan.{any, filter, member}
 use Rattle.definitions.specs.Grid.{Pair, Boundary, contains}
 use Rattle.definitions.specs.MouthShapes.{regionsOf}
@@ -21,13 +20,12 @@ use Rattle.laws.specs.ListLaws.NumberLists.{member-append}
 use Rattle.laws.specs.OrderLaws.ListOrder.{eqb-sym}
 use Rattle.laws.specs.RustMouths.Triangles.{any-regions}
 use Rattle.context.specs.Shown.{ShownBoundaries}
-use Rattle.ramp_boundaries.specs.Rows.{innerOf}
 use Rattle.ramp_boundaries.specs.Candidates.{triangular, proposalOf}
-use Rattle.ramp_boundaries.specs.Held.{held, isUsed, isHeld, isRefused, holdAt, markHeld, markInner, HeldMarks, TakenState, sameEnd, endMark}
+use Rattle.ramp_boundaries.specs.Held.{held, isUsed, isHeld, isRefused, holdAt, markHeld, markInner, HeldMarks, sameEnd, endMark}
 use Rattle.ramp_boundaries.proofs.Distinct.{neither, member-inner}
 use Rattle.ramp_boundaries.proofs.ApproachLaws.{Named}
 use Rattle.ramp_boundaries.proofs.Fitting.{all-named-regions}
-use Rattle.ramp_boundaries.proofs.Marks.{held-length, inner-length}
+use Rattle.ramp_boundaries.proofs.Marks.{held-length}
 
 -- ---- what is left
 

@@ -6,7 +6,7 @@ use mathlib.Core.Bool.{Bool, cond}
 use mathlib.Core.List.{List, [], _∷_}
 use Rattle.definitions.specs.Scan.{filter}
 use Rattle.definitions.specs.Grid.{Pair}
-use Rattle.definitions.specs.MouthShapes.{regionsOf, distinctRegions}
+use Rattle.definitions.specs.MouthShapes.{distinctRegions}
 use Rattle.definitions.specs.Context.{Context}
 use Rattle.laws.specs.ListLaws.Lists.{All, done, more, all-map}
 use Rattle.laws.specs.ListLaws.NumberLists.{all-addAll}

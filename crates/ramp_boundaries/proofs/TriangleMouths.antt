@@ -1,9 +1,9 @@
 -- The proposal of a triangle, by how many of its regions are anchored. Assumes nothing.
-use Prim.Native.Nat.{ℕ, zero, suc, _≤_}
+use Prim.Native.Nat.{ℕ, suc, _≤_}
 use native.Mathlib.Omega.{arith}
 use mathlib.Core.Path.{_≡_, refl, sym, ap, _∙_, subst}
-use mathlib.Core.Bool.{Bool, true, false, not, _&&_, _||_, cond, or-false, true≢false}
-use mathlib.Core.Option.{Option, none, some}
+use mathlib.Core.Bool.{Bool, true, false, not, _||_, cond, or-false, true≢false}
+use mathlib.Core.Option.{none, some}
 use mathlib.Core.List.{List, [], _∷_, _++_}
 use lib.ListN.{length}
 use lib.Dec.{eqb, leb}

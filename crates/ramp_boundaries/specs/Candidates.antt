@@ -2,13 +2,14 @@
 use Prim.Native.Nat.{ℕ, zero, suc, _≤_}
 use mathlib.Core.Bool.{Bool, not, _&&_, _||_, cond}
 use mathlib.Core.Option.{Option, none, some}
-use mathlib.Core.List.{[], _∷_}
+use mathlib.Core.List.{List, [], _∷_}
 use lib.Dec.{eqb}
-use Rattle.definitions.specs.Scan.{all, filter, onlyIf}
+use lib.Ieee.{lt}
+use Rattle.definitions.specs.Scan.{all, filter, onlyIf, collect, gather}
 use Rattle.definitions.specs.Grid.{Pair, contains}
 use Rattle.definitions.specs.MouthShapes.{MouthShape, single, star, regionsOf, mouthShape}
 use Rattle.definitions.specs.Context.{Context, fullCut, fullPair, otherRegion, incidentCount, noRamp}
-use Rattle.definitions.specs.RampMouths.{MouthProposal, otherEndIncident, broadMouth, nearbyRepresentative, overlayRepresentative, overlayOnly, separationOf, shapedMouth, triangle, triangleOr}
+use Rattle.definitions.specs.RampMouths.{MouthProposal, maxMouthDistance, retain, otherEndIncident, broadMouth, nearbyRepresentative, overlayRepresentative, overlayOnly, separationOf, shapedMouth, triangle, triangleOr}
 use Rattle.ramp_boundaries.specs.Rows.{innerOf, oneOf}
 use Rattle.ramp_boundaries.specs.declared.approaches.Approach.{Approach}
 use Rattle.ramp_boundaries.specs.declared.approaches.Approach.the-variants as approach
@@ -74,6 +75,16 @@ module _ (C : Context) where
   foundMouth a m =
       cond (not (noRamp C a) && fullCut C a && noRamp C m && (broadMouth C m a || nearbyRepresentative C m a || overlayRepresentative C m a))
       (triangleOr C (triangle C m a) m a (shapedMouth C m a (fullPair C a) (mouthShape (fullCut C m) (C .pairs m)))) none
+
+  -- `mouthProposal`, but for `cornersNear`
+  unfoldable pub mouthCandidate : ℕ → ℕ → Option MouthProposal
+  unfolding lt maxMouthDistance foundMouth
+  mouthCandidate a m = retain (λ p. not (lt maxMouthDistance (p .separation))) (foundMouth a m)
+
+  -- by ramp, then by mouth
+  unfoldable pub candidates : List MouthProposal
+  unfolding gather collect mouthCandidate
+  candidates = gather (C .count) (λ a. collect (C .count) (mouthCandidate a))
 
   -- ---- `approachFits` and `twoPortBroad` of a mouth of one pair and of a star, as the code asks them
 

@@ -1,11 +1,11 @@
 -- The candidates as compact lists: entry k has a mouth, a ramp, a region outside (0 for none), a kind and the bits of a separation. Definitions only; assumes nothing.
 use Prim.Native.Nat.{ℕ, _+_, _*_, _≤_, _<_}
 use mathlib.Core.Path.{_≡_}
-use mathlib.Core.Bool.{Bool, false}
-use mathlib.Core.Option.{Option}
+use mathlib.Core.Bool.{Bool, false, not}
+use mathlib.Core.Option.{Option, some}
 use mathlib.Core.List.{List}
-use lib.ListN.{length, getD}
-use lib.Dec.{ltb}
+use lib.ListN.{length, getD, set}
+use lib.Dec.{eqb, ltb}
 use lib.Ieee.{binary64, toBits}
 use Rattle.definitions.specs.Limits.{numbersPerBoundary}
 use Rattle.definitions.specs.Scan.{collect, onlyIf}
@@ -50,3 +50,35 @@ pub record SafeEntries (boundaries pairs starts marks mouths ramps outers : List
   pub safe : (k : ℕ) → k < n → SafeEntry pairs starts marks (getD mouths k 0) (getD outers k 0)
   pub mouth : (k : ℕ) → k < n → numbersPerBoundary * getD mouths k 0 + 8 < length boundaries
   pub ramp : (k : ℕ) → k < n → numbersPerBoundary * getD ramps k 0 + 8 < length boundaries
+
+-- the first n entries are l
+pub record Filled (C : Context) (mouths ramps outers kinds separations : List ℕ) (n : ℕ) (l : List MouthProposal) : Type 0 where
+  pub listed : Listed C mouths ramps outers separations n
+  pub entries : collect n (λ k. some (entryAt C mouths ramps outers kinds k)) ≡ l
+
+-- five lists with room for every candidate
+pub record Roomy (mouths ramps outers kinds separations : List ℕ) : Type 0 where
+  pub mouthsLong : length mouths ≡ maxCandidates
+  pub rampsLong : length ramps ≡ maxCandidates
+  pub outersLong : length outers ≡ maxCandidates
+  pub kindsLong : length kinds ≡ maxCandidates
+  pub separationsLong : length separations ≡ maxCandidates
+
+-- boundary i has no ramp
+abbrev pub plainAt : List ℕ → ℕ → Bool
+plainAt boundaries i = eqb (getD boundaries (numbersPerBoundary * i + 5) 0) 0
+
+abbrev pub rampAt : List ℕ → ℕ → Bool
+rampAt boundaries i = not (plainAt boundaries i)
+
+-- k is l with v at n
+pub record Wrote (l : List ℕ) (n v : ℕ) (k : List ℕ) : Type 0 where
+  pub is : k ≡ set l n v
+
+-- the lists with entry n written
+pub record Put (mouths ramps outers kinds separations : List ℕ) (n m a outer kind bits : ℕ) (mouths′ ramps′ outers′ kinds′ separations′ : List ℕ) : Type 0 where
+  pub mouthsPut : Wrote mouths n m mouths′
+  pub rampsPut : Wrote ramps n a ramps′
+  pub outersPut : Wrote outers n outer outers′
+  pub kindsPut : Wrote kinds n kind kinds′
+  pub separationsPut : Wrote separations n bits separations′

@@ -76,7 +76,13 @@ fn approach_from(pairs: &[u32], starts: &[usize; 257], m: usize, s: Shape, q: Pa
 }
 
 // The approach of mouth m, a full cut, from ramp a.
-pub fn approach_of(tallies: &[u32], pairs: &[u32], starts: &[usize; 257], m: usize, a: usize) -> Approach
+pub fn approach_of(
+    tallies: &[u32],
+    pairs: &[u32],
+    starts: &[usize; 257],
+    m: usize,
+    a: usize,
+) -> Approach
     requires { ⌜ talliesPerSpan * a + 1 < length (now tallies) ⌝ }
     requires { ⌜ Stretch (now pairs) (now starts) m × Stretch (now pairs) (now starts) a ⌝ }
     ensures { λ x. ⌜ ((C : Context) → ShownTallies C (now (tallies .entry)) → ShownPairs C (now (pairs .entry)) (now (starts .entry)) → m < C .count → a < C .count → x ≡ approachOf (fullPair C a) (mouthShape true (C .pairs m))) ⌝ }

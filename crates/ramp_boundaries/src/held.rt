@@ -54,7 +54,14 @@ fn inner_held(pairs: &[u32], marks: &[u16], first: usize, end: usize, outer: u32
 }
 
 // Whether taken proposals hold a region of the proposal of mouth m.
-pub fn proposal_held(pairs: &[u32], starts: &[usize; 257], marks: &[u16], m: usize, outer: u32, kind: u8) -> bool
+pub fn proposal_held(
+    pairs: &[u32],
+    starts: &[usize; 257],
+    marks: &[u16],
+    m: usize,
+    outer: u32,
+    kind: u8,
+) -> bool
     requires { ⌜ Stretch (now pairs) (now starts) m ⌝ }
     requires { ⌜ ((k : ℕ) → getD (now starts) m 0 ≤ k → k < getD (now starts) (m + 1) 0 → NamedRow (now pairs) (length (now marks)) k) ⌝ }
     requires { ⌜ outer ≤ length (now marks) ⌝ }
@@ -110,7 +117,14 @@ fn hold_inner(pairs: &[u32], marks: &mut [u16], first: usize, end: usize, outer:
 }
 
 // Holds the regions of the proposal of mouth m.
-pub fn hold_proposal(pairs: &[u32], starts: &[usize; 257], marks: &mut [u16], m: usize, outer: u32, kind: u8)
+pub fn hold_proposal(
+    pairs: &[u32],
+    starts: &[usize; 257],
+    marks: &mut [u16],
+    m: usize,
+    outer: u32,
+    kind: u8,
+)
     requires { ⌜ Stretch (now pairs) (now starts) m ⌝ }
     requires { ⌜ ((k : ℕ) → getD (now starts) m 0 ≤ k → k < getD (now starts) (m + 1) 0 → NamedRow (now pairs) (length (now marks)) k) ⌝ }
     requires { ⌜ outer ≤ length (now marks) ⌝ }

@@ -9,7 +9,15 @@ ghost use Rattle.definitions.specs.Sort.{listLt};
 ghost use Rattle.ramp_boundaries.specs.Keys.{keyAt};
 
 // Whether the proposal of separation `left`, mouth m and ramp a ranks before that of `right`, k and b.
-pub fn ranks_before(boundaries: &[u64], left: u64, m: usize, a: usize, right: u64, k: usize, b: usize) -> bool
+pub fn ranks_before(
+    boundaries: &[u64],
+    left: u64,
+    m: usize,
+    a: usize,
+    right: u64,
+    k: usize,
+    b: usize,
+) -> bool
     requires { ⌜ (numbersPerBoundary * m + 8 < length (now boundaries)) × (numbersPerBoundary * a + 8 < length (now boundaries)) ⌝ }
     requires { ⌜ (numbersPerBoundary * k + 8 < length (now boundaries)) × (numbersPerBoundary * b + 8 < length (now boundaries)) ⌝ }
     ensures { λ r. ⌜ r ≡ listLt (keyAt (now (boundaries .entry)) left m a) (keyAt (now (boundaries .entry)) right k b) ⌝ }

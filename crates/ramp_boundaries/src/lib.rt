@@ -1,5 +1,6 @@
 // Pass 1, `replace_ramp_mouths` of ramp_boundaries.rs, over plain lists and regions by value.
 pub mod approaches;
+pub mod candidates;
 pub mod held;
 pub mod inner;
 pub mod keys;

@@ -19,6 +19,7 @@ ghost use Rattle.geometry.specs.Forms.{segmentForm};
 ghost use Rattle.ramp_boundaries.specs.Lent.{Placed};
 
 pub const NUMBERS_PER_BOUNDARY: usize = 9;
+
 const MAX_OVERLAY_WIDTH_RATIO: f64 = 1.5;
 
 // The endpoints of boundary i as written.

@@ -14,7 +14,7 @@ ghost use mathlib.Core.Bool.{true, false, not, _&&_, cond};
 ghost use Prim.Native.Nat.{ℕ, _+_, _-_, _*_, _≤_, _<_};
 ghost use lib.ListN.{length, getD};
 ghost use lib.Dec.{eqb};
-ghost use Rattle.definitions.specs.Limits.{numbersPerBoundary, numbersPerPair};
+ghost use Rattle.definitions.specs.Limits.{numbersPerBoundary};
 ghost use Rattle.definitions.specs.Scan.{all};
 ghost use Rattle.definitions.specs.MouthShapes.{regionsOf, distinctRegions};
 ghost use Rattle.definitions.specs.Context.{Context, fullCut, noRamp};
@@ -25,9 +25,10 @@ ghost use Rattle.ramp_boundaries.specs.Lent.{Shows, Shown};
 ghost use Rattle.ramp_boundaries.specs.Outers.{markAt, innerFits, withRegion};
 ghost use Rattle.ramp_boundaries.specs.Candidates.{Within, candidateForm, foundMouth, approachMouth};
 
-
 pub const PLAIN: u8 = 0;
+
 pub const TRIANGULAR: u8 = 1;
+
 pub const BROAD: u8 = 2;
 
 // The region outside, 0 for none, and the kind; `candidateForm` of specs/Candidates.antt gives the proposal.
@@ -70,7 +71,14 @@ fn is_other_end(boundaries: &[u64], j: usize, a: usize) -> bool
 }
 
 // Whether the other end of the ramp of boundary a is an incident of region r.
-fn other_end_incident(boundaries: &[u64], pairs: &[u32], starts: &[usize; 257], count: usize, a: usize, r: u32) -> bool
+fn other_end_incident(
+    boundaries: &[u64],
+    pairs: &[u32],
+    starts: &[usize; 257],
+    count: usize,
+    a: usize,
+    r: u32,
+) -> bool
     requires { ⌜ (numbersPerBoundary * count ≤ length (now boundaries)) × (a < count) ⌝ }
     requires { ⌜ ((i : ℕ) → i < count → Stretch (now pairs) (now starts) i) ⌝ }
     ensures { λ x. ⌜ ((C : Context) → C .count ≡ count → ShownBoundaries C (now (boundaries .entry)) → ShownPairs C (now (pairs .entry)) (now (starts .entry)) → x ≡ otherEndIncident C a r) ⌝ }
@@ -96,7 +104,15 @@ fn region_fits(counts: &[u32], marks: &[u16], outer: u32, r: u32, s: u32) -> boo
 }
 
 // Whether every inner region of the star of these rows fits.
-fn inner_fit(pairs: &[u32], counts: &[u32], marks: &[u16], first: usize, end: usize, outer: u32, r: u32) -> bool
+fn inner_fit(
+    pairs: &[u32],
+    counts: &[u32],
+    marks: &[u16],
+    first: usize,
+    end: usize,
+    outer: u32,
+    r: u32,
+) -> bool
     requires { ⌜ first ≤ end ⌝ }
     requires { ⌜ ((k : ℕ) → first ≤ k → k < end → NamedRow (now pairs) (length (now counts)) k × NamedRow (now pairs) (length (now marks)) k) ⌝ }
     ensures { λ x. ⌜ x ≡ all (innerFits (now (marks .entry)) (now (counts .entry)) outer r) (regionsOf (pairsBetween (now (pairs .entry)) first end)) ⌝ }
@@ -256,10 +272,31 @@ fn approach_mouth(
     match approach {
         Approach::None => Candidate::None,
         Approach::Single(outer, r) => single_mouth(
-            boundaries, pairs, starts, counts, marks, count, a, outer, r, wide, overlay,
+            boundaries,
+            pairs,
+            starts,
+            counts,
+            marks,
+            count,
+            a,
+            outer,
+            r,
+            wide,
+            overlay,
         ),
         Approach::Star(outer, r) => star_mouth(
-            boundaries, pairs, starts, counts, marks, count, m, a, outer, r, wide, overlay,
+            boundaries,
+            pairs,
+            starts,
+            counts,
+            marks,
+            count,
+            m,
+            a,
+            outer,
+            r,
+            wide,
+            overlay,
         ),
     }
 }

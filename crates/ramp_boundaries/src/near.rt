@@ -22,6 +22,7 @@ ghost use Rattle.ramp_boundaries.specs.Lent.{Placed};
 ghost use Rattle.ramp_boundaries.specs.Near.{cornerNear, regionNear};
 
 const MAX_MOUTH_DISTANCE: f64 = 224.0;
+
 const MAX_APPROACH_RADIUS: f64 = 512.0;
 
 fn center_of(boundaries: &[u64], i: usize) -> Point

@@ -121,7 +121,17 @@ fn entry_left(
     }
     let m = index(mouths[k]);
     let a = index(ramps[k]);
-    is_left(pairs, starts, marks, removed, used, m, a, outers[k], kinds[k])
+    is_left(
+        pairs,
+        starts,
+        marks,
+        removed,
+        used,
+        m,
+        a,
+        outers[k],
+        kinds[k],
+    )
 }
 
 // A byte as a number.
@@ -179,7 +189,19 @@ fn better_entry(
     ensures { λ r. ⌜ r ≤ n ⌝ }
     ensures { λ r. ⌜ ((C : Context) (taken : List MouthProposal) → ShownBoundaries C (now (boundaries .entry)) → ShownPairs C (now (pairs .entry)) (now (starts .entry)) → Listed C (now (mouths .entry)) (now (ramps .entry)) (now (outers .entry)) (now (separations .entry)) n → TakenState C taken (now (removed .entry)) (now (used .entry)) (now (marks .entry)) → entryIf C (now (mouths .entry)) (now (ramps .entry)) (now (outers .entry)) (now (kinds .entry)) n r ≡ betterOf C taken (now (mouths .entry)) (now (ramps .entry)) (now (outers .entry)) (now (kinds .entry)) (now (near .entry)) k (entryIf C (now (mouths .entry)) (now (ramps .entry)) (now (outers .entry)) (now (kinds .entry)) n best)) ⌝ }
 {
-    if !entry_left(pairs, starts, marks, removed, used, mouths, ramps, outers, kinds, near, k) {
+    if !entry_left(
+        pairs,
+        starts,
+        marks,
+        removed,
+        used,
+        mouths,
+        ramps,
+        outers,
+        kinds,
+        near,
+        k,
+    ) {
         return best;
     }
     if best == n {
@@ -215,8 +237,21 @@ fn least_left(
     let mut k = 0;
     while k < n {
         best = better_entry(
-            boundaries, pairs, starts, marks, removed, used, mouths, ramps, outers, kinds,
-            separations, near, n, best, k,
+            boundaries,
+            pairs,
+            starts,
+            marks,
+            removed,
+            used,
+            mouths,
+            ramps,
+            outers,
+            kinds,
+            separations,
+            near,
+            n,
+            best,
+            k,
         );
         k += 1;
     }
@@ -286,17 +321,49 @@ fn take_all(
     ensures { λ x. ⌜ (length (now (marks .exit)) ≡ length (now (marks .entry))) ⌝ }
 {
     let mut k = least_left(
-        boundaries, pairs, starts, &*marks, &*removed, &*used, mouths, ramps, outers, kinds,
-        separations, near, n,
+        boundaries,
+        pairs,
+        starts,
+        &*marks,
+        &*removed,
+        &*used,
+        mouths,
+        ramps,
+        outers,
+        kinds,
+        separations,
+        near,
+        n,
     );
     while k < n {
         take_entry(
-            boundaries, pairs, starts, &mut *marks, &mut *removed, &mut *used, mouths, ramps,
-            outers, kinds, count, k,
+            boundaries,
+            pairs,
+            starts,
+            &mut *marks,
+            &mut *removed,
+            &mut *used,
+            mouths,
+            ramps,
+            outers,
+            kinds,
+            count,
+            k,
         );
         k = least_left(
-            boundaries, pairs, starts, &*marks, &*removed, &*used, mouths, ramps, outers, kinds,
-            separations, near, n,
+            boundaries,
+            pairs,
+            starts,
+            &*marks,
+            &*removed,
+            &*used,
+            mouths,
+            ramps,
+            outers,
+            kinds,
+            separations,
+            near,
+            n,
         );
     }
 }
@@ -324,7 +391,19 @@ pub fn select_mouths(
 {
     let mut used = [false; 256];
     take_all(
-        boundaries, pairs, starts, &mut *marks, &mut *removed, &mut used, mouths, ramps, outers,
-        kinds, separations, near, count, n,
+        boundaries,
+        pairs,
+        starts,
+        &mut *marks,
+        &mut *removed,
+        &mut used,
+        mouths,
+        ramps,
+        outers,
+        kinds,
+        separations,
+        near,
+        count,
+        n,
     );
 }

@@ -3,7 +3,7 @@ ghost use mathlib.Core.Path.{_≡_};
 ghost use mathlib.Core.Bool.{true};
 ghost use mathlib.Core.List.{[], _∷_};
 ghost use Prim.Native.Nat.{_+_, _*_, _≤_, _<_};
-ghost use lib.ListN.{length, getD};
+ghost use lib.ListN.{length};
 ghost use lib.Dec.{eqb};
 ghost use Rattle.definitions.specs.Limits.{numbersPerPair};
 ghost use Rattle.definitions.specs.Scan.{any, all, filter, onlyIf};

@@ -1,7 +1,7 @@
 -- `held::inner_held` meets its contract. The invariant: no row passed names such a region. Assumes nothing.
 use Prim.Native.Nat.{ℕ, _+_, _-_, _≤_}
 use native.Mathlib.Nat.{le-antisymm}
-use mathlib.Core.Path.{_≡_, sym, ap, ap₂, _∙_}
+use mathlib.Core.Path.{_≡_, sym, ap, _∙_}
 use mathlib.Core.Bool.{Bool, false, not, _&&_, _||_}
 use mathlib.Core.List.{List}
 use lib.Dec.{eqb, leb, lit≤}
@@ -68,11 +68,14 @@ loop-again c =
     let s = c .before .before .before .before .before .before .before .before .before .before .args in
     let at = c .before .before .before .before .before .before .before .loop in
     let f = rowHeld (s .marks .now) (s .outer) in
-    let p = c .before .before .before .before .before .row-at .result in
-    ( search needs
-    , ( search needs
-    , none-more f (s .pairs .now) (s .first) (at .k) (at .inv .0) (at .inv .1 .1)
-    (sym (ap f (c .before .before .before .before .before .row-at .ensures)) ∙ sym (λ i. not (eqb (p .lo) (s .outer)) && c .before .before .before .is-held .ensures i || not (eqb (p .hi) (s .outer)) && c .before .is-held2 .ensures i) ∙ c .if1 .left)))
+    let p = c .before .before .before .before .before .row-at .result in (
+      search needs,
+      (
+        search needs,
+        none-more f (s .pairs .now) (s .first) (at .k) (at .inv .0) (at .inv .1 .1)
+            (sym (ap f (c .before .before .before .before .before .row-at .ensures)) ∙ sym (λ i. not (eqb (p .lo) (s .outer)) && c .before .before .before .is-held .ensures i || not (eqb (p .hi) (s .outer)) && c .before .is-held2 .ensures i) ∙ c .if1 .left),
+      ),
+    )
 
 returns-2 : tie.Need-returns-2 Inv-loop μ-loop
 returns-2 c =

@@ -2,7 +2,6 @@
 use mathlib.Core.Path.{sym, ap}
 use mathlib.Core.Bool.{cond}
 use borrow.Author.Tests.{eq-eqb, ne-eqb}
-use borrow.Author.Needs.{needs}
 use Rattle.ramp_boundaries.proofs.inner.side_of.Statement.{statement}
 use Rattle.ramp_boundaries.proofs.inner.side_of.Tie as tie
 

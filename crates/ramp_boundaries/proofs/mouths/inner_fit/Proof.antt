@@ -57,11 +57,14 @@ loop-again : tie.Need-loop-again Inv-loop μ-loop
 loop-again c =
     let s = c .before .before .before .before .before .before .before .before .before .args in
     let at = c .before .before .before .before .before .loop in
-    let f = rowFits (s .marks .now) (s .counts .now) (s .outer) (s .r) in
-    ( search needs
-    , ( search needs
-    , all-one-more f (s .pairs .now) (s .first) (at .k) (at .inv .0) (at .inv .1 .1)
-    (sym (ap f (c .before .before .before .row-at .ensures)) ∙ sym (ap₂ _&&_ (c .before .before .region-fits .ensures) (c .before .region-fits2 .ensures)) ∙ negated-false _ (c .if1 .left))))
+    let f = rowFits (s .marks .now) (s .counts .now) (s .outer) (s .r) in (
+      search needs,
+      (
+        search needs,
+        all-one-more f (s .pairs .now) (s .first) (at .k) (at .inv .0) (at .inv .1 .1)
+            (sym (ap f (c .before .before .before .row-at .ensures)) ∙ sym (ap₂ _&&_ (c .before .before .region-fits .ensures) (c .before .region-fits2 .ensures)) ∙ negated-false _ (c .if1 .left)),
+      ),
+    )
 
 returns-2 : tie.Need-returns-2 Inv-loop μ-loop
 returns-2 c =

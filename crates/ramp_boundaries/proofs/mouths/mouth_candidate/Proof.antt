@@ -1,23 +1,10 @@
 -- `mouths::mouth_candidate` meets its contract: each return by the tests that led there. Assumes nothing.
-use Prim.Native.Nat.{ℕ, _+_, _*_, _≤_, _<_}
-use native.Mathlib.Omega.{arith}
-use mathlib.Core.Path.{_≡_, sym, ap, _∙_, subst}
-use mathlib.Core.Bool.{Bool, true, false, not, _&&_, _||_}
-use lib.ListN.{length, getD}
-use lib.Dec.{eqb}
+use mathlib.Core.Path.{sym, _∙_}
+use mathlib.Core.Bool.{not}
 use borrow.Author.Tests.{eq-eqb, ne-eqb}
-use Rattle.definitions.specs.Limits.{numbersPerBoundary}
-use Rattle.definitions.specs.Scan.{onlyIf}
-use Rattle.definitions.specs.MouthShapes.{distinctRegions, triangleRepresentative}
-use Rattle.definitions.specs.Context.{Context, fullPair, noRamp}
-use Rattle.definitions.specs.RampMouths.{overlayOnly}
+use Rattle.definitions.specs.Context.{fullPair}
 use Rattle.laws.specs.ListLaws.Tests.{both}
-use Rattle.context.specs.Shown.{ShownPairs}
-use Rattle.context.specs.Rows.{Stretch, NamedRow}
-use Rattle.context.specs.ShownLaws.{shown-stretch, shown-rows}
-use Rattle.ramp_boundaries.specs.Lent.{Placed, Shows}
 use Rattle.ramp_boundaries.proofs.RowLists.{between-length, negated-true, negated-false}
-use Rattle.ramp_boundaries.proofs.Within.{within-more, approach-within}
 use Rattle.ramp_boundaries.proofs.FoundMouths.{triangle-two, has-ramp, not-full, no-shape, too-far, by-triangle, by-approach}
 use Rattle.ramp_boundaries.proofs.SafeLists.{below, placed-at, stretch-at, tallies-at, rows-counted, named-both, kind-shown, triangle-shown, overlay-only, named-in, approach-named}
 use borrow.Author.Needs.{needs}
@@ -109,10 +96,14 @@ returns-4 c =
 triangle-mouth-requires : tie.Need-triangle-mouth-requires
 triangle-mouth-requires c κs =
     let s = c .before .before .before .before .before .before .before .before .before .before .before .before .before .before .before .before .before .before in
-    let h = both (c .before .before .before .nearby-representative .result) (c .before .before .before .before .before .before .before .before .triangle-representative .result) (c .if5 .taken) in
-    ((stretch-at (s .pre .0) (s .pre .1 .0) .within, sym (between-length (s .args .pairs .now) _ _)
-    ∙ triangle-two _ _ _ _ (c .before .before .before .before .before .before .before .before .triangle-representative .ensures) (h .1))
-    , λ k l u. named-both (s .pre .0) (s .pre .1 .0) k l u .1)
+    let h = both (c .before .before .before .nearby-representative .result) (c .before .before .before .before .before .before .before .before .triangle-representative .result) (c .if5 .taken) in (
+      (
+        stretch-at (s .pre .0) (s .pre .1 .0) .within,
+        sym (between-length (s .args .pairs .now) _ _)
+            ∙ triangle-two _ _ _ _ (c .before .before .before .before .before .before .before .before .triangle-representative .ensures) (h .1),
+      ),
+      λ k l u. named-both (s .pre .0) (s .pre .1 .0) k l u .1,
+    )
 
 returns-5 : tie.Need-returns-5
 returns-5 c =
@@ -130,10 +121,17 @@ returns-5 c =
 
 approach-mouth-requires : tie.Need-approach-mouth-requires
 approach-mouth-requires c κs =
-    let s = c .before .before .before .before .before .before .before .before .before .before .before .before .before .before .before .before .before .before in
-    ((rows-counted (s .pre .0), (s .pre .1 .1, s .pre .1 .0)), (λ i l. stretch-at (s .pre .0) l, (named-both (s .pre .0) (s .pre .1 .0)
-    , named-in (s .pre .0) (s .pre .1 .0) (fullPair (s .pre .0 .context) (s .args .a))
-    (c .before .before .before .before .before .before .before .approach-of .ensures (s .pre .0 .context) (s .pre .0 .cuts) (s .pre .0 .shows .rows) (below (s .pre .0 .shows .counted) (s .pre .1 .0)) (below (s .pre .0 .shows .counted) (s .pre .1 .1))))))
+    let s = c .before .before .before .before .before .before .before .before .before .before .before .before .before .before .before .before .before .before in (
+      (rows-counted (s .pre .0), (s .pre .1 .1, s .pre .1 .0)),
+      (
+        λ i l. stretch-at (s .pre .0) l,
+        (
+          named-both (s .pre .0) (s .pre .1 .0),
+          named-in (s .pre .0) (s .pre .1 .0) (fullPair (s .pre .0 .context) (s .args .a))
+              (c .before .before .before .before .before .before .before .approach-of .ensures (s .pre .0 .context) (s .pre .0 .cuts) (s .pre .0 .shows .rows) (below (s .pre .0 .shows .counted) (s .pre .1 .0)) (below (s .pre .0 .shows .counted) (s .pre .1 .1))),
+        ),
+      ),
+    )
 
 returns-6 : tie.Need-returns-6
 returns-6 c =

@@ -1,9 +1,8 @@
 -- `mouths::other_end_incident` meets its contract. The invariant: no boundary passed is the other end and an incident. Assumes nothing.
 use Prim.Native.Nat.{_-_, _≤_, _<_}
-use native.Mathlib.Omega.{arith}
 use native.Mathlib.Nat.{le-antisymm}
 use mathlib.Core.Path.{_≡_, refl, sym, ap, ap₂, _∙_, subst}
-use mathlib.Core.Bool.{Bool, true, false, _&&_}
+use mathlib.Core.Bool.{false, _&&_}
 use mathlib.Core.Logic.{⊎-elim}
 use Rattle.definitions.specs.Scan.{anyBelow}
 use Rattle.definitions.specs.Context.{Context, isIncident}
@@ -54,14 +53,16 @@ loop-less c = search needs
 loop-again : tie.Need-loop-again Inv-loop μ-loop
 loop-again c =
     let s = c .before .before .before .before .before .before in
-    let j = c .before .before .before .loop .j in
-    (search needs, λ C n S P.
-    let hj : j < C .count = subst (λ k. j < k) (sym n) (c .before .before .loop-test .taken) in
-    let ha : s .args .a < C .count = subst (λ k. s .args .a < k) (sym n) (s .pre .0 .1) in
-    any-none (isOtherEnd C (s .args .a) (s .args .r)) j (c .before .before .before .loop .inv .1 C n S P)
-    (sym (other-end-is S j (s .args .a) (s .args .r) hj ha)
-    ∙ ⊎-elim (λ w. ap₂ _&&_ (sym (c .before .is-other-end .ensures) ∙ w .0 .taken) (sym (w .1 .ensures C P hj) ∙ w .2 .left))
-    (λ w. ap (λ b. b && isIncident C j (s .args .r)) (sym (c .before .is-other-end .ensures) ∙ w .left)) (c .if1 .came)))
+    let j = c .before .before .before .loop .j in (
+      search needs,
+      λ C n S P.
+          let hj : j < C .count = subst (λ k. j < k) (sym n) (c .before .before .loop-test .taken) in
+          let ha : s .args .a < C .count = subst (λ k. s .args .a < k) (sym n) (s .pre .0 .1) in
+          any-none (isOtherEnd C (s .args .a) (s .args .r)) j (c .before .before .before .loop .inv .1 C n S P)
+          (sym (other-end-is S j (s .args .a) (s .args .r) hj ha)
+          ∙ ⊎-elim (λ w. ap₂ _&&_ (sym (c .before .is-other-end .ensures) ∙ w .0 .taken) (sym (w .1 .ensures C P hj) ∙ w .2 .left))
+          (λ w. ap (λ b. b && isIncident C j (s .args .r)) (sym (c .before .is-other-end .ensures) ∙ w .left)) (c .if1 .came)),
+    )
 
 returns-2 : tie.Need-returns-2 Inv-loop μ-loop
 unfolding otherEndIncident

@@ -1,7 +1,6 @@
 -- `mouths::single_mouth` meets its contract: each return by the tests that led there. Assumes nothing.
-use mathlib.Core.Path.{_≡_, refl, sym, ap, _∙_}
+use mathlib.Core.Path.{refl, sym, _∙_}
 use mathlib.Core.Bool.{not, _&&_, _||_}
-use lib.Dec.{eqb}
 use Rattle.ramp_boundaries.proofs.Fitting.{single-by, two-shown, anchored-shown}
 use borrow.Author.Needs.{needs}
 use Rattle.ramp_boundaries.proofs.mouths.single_mouth.Statement.{statement}

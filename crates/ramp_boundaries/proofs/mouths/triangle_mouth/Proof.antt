@@ -1,7 +1,7 @@
 -- `mouths::triangle_mouth` meets its contract, by how many of the regions that two rows name are anchored. Assumes nothing.
-use Prim.Native.Nat.{_+_, _≤_, _<_}
+use Prim.Native.Nat.{_+_}
 use native.Mathlib.Omega.{arith}
-use mathlib.Core.Path.{_≡_, sym, ap, _∙_, subst}
+use mathlib.Core.Path.{sym, ap, _∙_, subst}
 use lib.ListN.{getD, length}
 use Rattle.definitions.specs.Scan.{filter}
 use Rattle.definitions.specs.MouthShapes.{distinctRegions}

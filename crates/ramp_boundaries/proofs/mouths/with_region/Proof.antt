@@ -1,5 +1,5 @@
 -- `mouths::with_region` meets its contract, by what was found before. Assumes nothing.
-use mathlib.Core.Path.{_≡_, sym, ap, ap₂, _∙_}
+use mathlib.Core.Path.{sym, ap, ap₂, _∙_}
 use mathlib.Core.Bool.{cond}
 use borrow.Author.Tests.{eq-eqb, ne-eqb}
 use Rattle.ramp_boundaries.specs.Outers.{withRegion}

@@ -3,7 +3,6 @@ use mathlib.Core.Path.{ap}
 use mathlib.Core.Bool.{not}
 use lib.Ieee.{lt}
 use Rattle.ramp_boundaries.proofs.Literals.{mouth-distance-is}
-use borrow.Author.Needs.{needs}
 use Rattle.ramp_boundaries.proofs.near.is_close.Statement.{statement}
 use Rattle.ramp_boundaries.proofs.near.is_close.Tie as tie
 

@@ -1,9 +1,8 @@
 -- `selection::entry_left` meets its contract: what is left of a near entry is what `is_left` says. Assumes nothing.
-use Prim.Native.Nat.{ℕ, _+_, _≤_, _<_}
+use Prim.Native.Nat.{_<_}
 use mathlib.Core.Path.{sym, ap, _∙_, subst}
 use mathlib.Core.Bool.{false, not, _&&_}
-use lib.ListN.{length, getD}
-use Rattle.context.specs.Rows.{Stretch, NamedRow}
+use lib.ListN.{getD}
 use Rattle.ramp_boundaries.specs.Candidates.{proposalOf}
 use Rattle.ramp_boundaries.specs.Held.{isRefused}
 use Rattle.ramp_boundaries.specs.Listed.{SafeEntry}

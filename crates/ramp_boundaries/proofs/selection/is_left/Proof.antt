@@ -1,6 +1,5 @@
 -- `selection::is_left` meets its contract: its mouth, its ramp end, its regions. Assumes nothing.
-use mathlib.Core.Path.{refl, sym, ap, _∙_}
-use mathlib.Core.Bool.{not}
+use mathlib.Core.Path.{refl, sym, _∙_}
 use Rattle.ramp_boundaries.proofs.TakenLaws.{left-by}
 use borrow.Author.Needs.{needs}
 use Rattle.ramp_boundaries.proofs.selection.is_left.Statement.{statement}

@@ -1,5 +1,5 @@
 -- `selection::least_left` meets its contract. The invariant: `best` is the least of the entries passed. Assumes nothing.
-use Prim.Native.Nat.{ℕ, _-_, _≤_, _<_}
+use Prim.Native.Nat.{_-_, _≤_}
 use native.Mathlib.Omega.{arith}
 use native.Mathlib.Nat.{le-antisymm}
 use mathlib.Core.Path.{_≡_, ap, _∙_}
@@ -40,9 +40,14 @@ loop-less c = search needs
 loop-again : tie.Need-loop-again Inv-loop μ-loop
 loop-again c =
     let s = c .before .before .before .before .before .before .args in
-    let at = c .before .before .loop in
-    (c .better-entry .ensures .0, (search needs, λ C T B P L S.
-    round-more C (s .mouths .now) (s .ramps .now) (s .outers .now) (s .kinds .now) T (s .near .now) (s .n) (at .k) (at .inv .1 .1 C T B P L S) (c .better-entry .ensures .1 C T B P L S)))
+    let at = c .before .before .loop in (
+      c .better-entry .ensures .0,
+      (
+        search needs,
+        λ C T B P L S.
+            round-more C (s .mouths .now) (s .ramps .now) (s .outers .now) (s .kinds .now) T (s .near .now) (s .n) (at .k) (at .inv .1 .1 C T B P L S) (c .better-entry .ensures .1 C T B P L S),
+      ),
+    )
 
 returns : tie.Need-returns Inv-loop μ-loop
 returns c =

@@ -1,10 +1,10 @@
 -- `selection::take_all` meets its contract. The invariant: what was taken so far, and the entry that is next; the measure is how many mouths are not removed.
 -- Assumes nothing.
-use Prim.Native.Nat.{ℕ, _*_, _≤_, _<_}
+use Prim.Native.Nat.{ℕ, _≤_, _<_}
 use native.Mathlib.Omega.{arith}
 use native.Mathlib.Nat.{le-antisymm}
-use mathlib.Core.Path.{_≡_, refl, sym, ap, _∙_, subst}
-use mathlib.Core.Bool.{Bool, false, not}
+use mathlib.Core.Path.{_≡_, refl, sym, _∙_, subst}
+use mathlib.Core.Bool.{false, not}
 use mathlib.Core.Option.{some}
 use mathlib.Core.List.{List, [], _∷_, _++_}
 use lib.ListN.{length, getD}
@@ -18,7 +18,6 @@ use Rattle.ramp_boundaries.specs.Rounds.{leastAmong}
 use Rattle.ramp_boundaries.specs.Selecting.{Selects}
 use Rattle.ramp_boundaries.proofs.RoundLaws.{entry-in, entry-none}
 use Rattle.ramp_boundaries.proofs.SelectionLaws.{safe-entries, least-left-over, one-round, Round, round-first, round-last, mouth-left, fewer-left}
-use borrow.Author.Needs.{needs}
 use Rattle.ramp_boundaries.proofs.selection.take_all.Statement.{statement}
 use Rattle.ramp_boundaries.proofs.selection.take_all.Tie as tie
 
@@ -62,20 +61,31 @@ least-left-requires c κs = safe-entries (c .before .before .before .before .bef
 
 loop-holds : tie.Need-loop-holds Inv-loop μ-loop
 loop-holds c =
-    let s = c .before .before .before .before .before .before .before in
-    (c .least-left .ensures .0, (refl, (s .pre .1 .0, λ C S.
-    let start = round-first (s .pre .1 .1 .0) (s .pre .1 .1 .1) (S .fresh) in
-    record { chosen = []; state = start; same = refl; least = c .least-left .ensures .1 C [] (S .bounds) (S .rows) (S .listed) start })))
+    let s = c .before .before .before .before .before .before .before in (
+      c .least-left .ensures .0,
+      (
+        refl,
+        (
+          s .pre .1 .0,
+          λ C S.
+              let start = round-first (s .pre .1 .1 .0) (s .pre .1 .1 .1) (S .fresh) in
+              record { chosen = []; state = start; same = refl; least = c .least-left .ensures .1 C [] (S .bounds) (S .rows) (S .listed) start },
+        ),
+      ),
+    )
 
 take-entry-requires : tie.Need-take-entry-requires Inv-loop μ-loop
 take-entry-requires c κs =
     let s = c .before .before .before .before .before .before .before .before .before .before .before .before in
     let S = s .pre .0 .selects in
     let at = c .before .before .before .before .loop in
-    let h = c .before .before .before .loop-test .taken in
-    ( (omega (arith, S .listed .few, h), (omega (arith, S .bounds .few, S .counted), omega (arith, S .bounds .long, S .counted)))
-    , ( (subst (λ n. getD (s .args .ramps .now) (at .k) 0 < n) (S .counted) (S .listed .ramp (at .k) h), at .inv .1 .1 .0)
-    , safe-entries S (at .inv .1 .0) .safe (at .k) h))
+    let h = c .before .before .before .loop-test .taken in (
+      (omega (arith, S .listed .few, h), (omega (arith, S .bounds .few, S .counted), omega (arith, S .bounds .long, S .counted))),
+      (
+        (subst (λ n. getD (s .args .ramps .now) (at .k) 0 < n) (S .counted) (S .listed .ramp (at .k) h), at .inv .1 .1 .0),
+        safe-entries S (at .inv .1 .0) .safe (at .k) h,
+      ),
+    )
 
 least-left-requires-2 : tie.Need-least-left-requires-2 Inv-loop μ-loop
 least-left-requires-2 c κs = safe-entries (c .before .before .before .before .before .before .before .before .before .before .before .before .before .before .before .before .before .before .pre .0 .selects) (c .before .before .before .before .before .take-entry .ensures .1 .0 ∙ c .before .before .before .before .before .before .before .before .before .before .loop .inv .1 .0)
@@ -92,17 +102,25 @@ loop-less c =
     (mouth-left C (round c C S .chosen) (entry c C) (free c C S))
 
 loop-again : tie.Need-loop-again Inv-loop μ-loop
-loop-again c =
-    (c .least-left2 .ensures .0, (c .before .before .before .before .before .before .take-entry .ensures .1 .0 ∙ c .before .before .before .before .before .before .before .before .before .before .before .loop .inv .1 .0, (c .before .before .before .before .before .before .take-entry .ensures .1 .1, λ C S.
-    let state =
-    c .before .before .before .before .before .before .take-entry .ensures .0 C (round c C S .chosen) (S .counted) (S .bounds) (S .rows) (still-long c C S) (round c C S .state)
-    (S .listed .mouth (k c C) (c .before .before .before .before .before .before .before .before .before .before .loop-test .taken)) (S .listed .outer (k c C) (c .before .before .before .before .before .before .before .before .before .before .loop-test .taken)) (free c C S) in
-    record {
-      chosen = round c C S .chosen ++ (entry c C ∷ []);
-      state = state;
-      same = sym (one-round C (all c C) (round c C S .chosen) (entry c C) (least c C S)) ∙ round c C S .same;
-      least = c .least-left2 .ensures .1 C (round c C S .chosen ++ (entry c C ∷ [])) (S .bounds) (S .rows) (S .listed) state;
-    })))
+loop-again c = (
+  c .least-left2 .ensures .0,
+  (
+    c .before .before .before .before .before .before .take-entry .ensures .1 .0 ∙ c .before .before .before .before .before .before .before .before .before .before .before .loop .inv .1 .0,
+    (
+      c .before .before .before .before .before .before .take-entry .ensures .1 .1,
+      λ C S.
+          let state =
+          c .before .before .before .before .before .before .take-entry .ensures .0 C (round c C S .chosen) (S .counted) (S .bounds) (S .rows) (still-long c C S) (round c C S .state)
+          (S .listed .mouth (k c C) (c .before .before .before .before .before .before .before .before .before .before .loop-test .taken)) (S .listed .outer (k c C) (c .before .before .before .before .before .before .before .before .before .before .loop-test .taken)) (free c C S) in
+          record {
+            chosen = round c C S .chosen ++ (entry c C ∷ []);
+            state = state;
+            same = sym (one-round C (all c C) (round c C S .chosen) (entry c C) (least c C S)) ∙ round c C S .same;
+            least = c .least-left2 .ensures .1 C (round c C S .chosen ++ (entry c C ∷ [])) (S .bounds) (S .rows) (S .listed) state;
+          },
+    ),
+  ),
+)
 
 same-length : tie.Need-same-length Inv-loop μ-loop
 same-length c = c .before .loop .inv .1 .0
@@ -110,10 +128,11 @@ same-length c = c .before .loop .inv .1 .0
 returns : tie.Need-returns Inv-loop μ-loop
 returns c =
     let s = c .before .before .before .before .before .before .before .before .before in
-    let at = c .before .loop in
-    ( λ C S f i h.
-    round-last (at .inv .1 .1 .1 C S) (sym (entry-none C (s .args .mouths .now) (s .args .ramps .now) (s .args .outers .now) (s .args .kinds .now) (s .args .n) (at .k) (le-antisymm (at .inv .0) (c .loop-test .left)))) f i h
-    , at .inv .1 .0)
+    let at = c .before .loop in (
+      λ C S f i h.
+          round-last (at .inv .1 .1 .1 C S) (sym (entry-none C (s .args .mouths .now) (s .args .ramps .now) (s .args .outers .now) (s .args .kinds .now) (s .args .n) (at .k) (le-antisymm (at .inv .0) (c .loop-test .left)))) f i h,
+      at .inv .1 .0,
+    )
 
 pub take-all-spec : {M : Type 1} → statement M
 take-all-spec =

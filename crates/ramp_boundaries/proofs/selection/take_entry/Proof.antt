@@ -44,12 +44,13 @@ returns : tie.Need-returns
 returns c =
     let s = c .before .before .before .before .before .before .before .before .before .before .before .before .before .before .before .args in
     let em = c .before .before .before .before .before .before .before .before .before .before .index .ensures .0 in
-    let ea = c .before .before .before .before .before .before .before .before .index2 .ensures .0 in
-    ( λ C T n B P long S hm ho free.
-    taken-at T (λ i. proposalOf C (em i) (ea i) (getD (s .outers .now) (s .k) 0) (getD (s .kinds .now) (s .k) 0))
-    (c .before .before .take .ensures .0 C T n B P long S (subst (λ m. m < C .count) (sym em) hm) ho
-    ((λ i. isRefused C T (proposalOf C (em i) (ea i) (getD (s .outers .now) (s .k) 0) (getD (s .kinds .now) (s .k) 0))) ∙ free))
-    , c .before .before .take .ensures .1)
+    let ea = c .before .before .before .before .before .before .before .before .index2 .ensures .0 in (
+      λ C T n B P long S hm ho free.
+          taken-at T (λ i. proposalOf C (em i) (ea i) (getD (s .outers .now) (s .k) 0) (getD (s .kinds .now) (s .k) 0))
+          (c .before .before .take .ensures .0 C T n B P long S (subst (λ m. m < C .count) (sym em) hm) ho
+          ((λ i. isRefused C T (proposalOf C (em i) (ea i) (getD (s .outers .now) (s .k) 0) (getD (s .kinds .now) (s .k) 0))) ∙ free)),
+      c .before .before .take .ensures .1,
+    )
 
 pub take-entry-spec : {M : Type 1} → statement M
 take-entry-spec =

@@ -1,5 +1,5 @@
 -- `selection::use_end` meets its contract. The invariant: the boundaries passed are marked where they are the end. Assumes nothing.
-use Prim.Native.Nat.{ℕ, _-_, _≤_, _<_}
+use Prim.Native.Nat.{ℕ, _-_, _≤_}
 use native.Mathlib.Omega.{arith}
 use native.Mathlib.Nat.{le-antisymm}
 use mathlib.Core.Path.{_≡_, ap, _∙_}

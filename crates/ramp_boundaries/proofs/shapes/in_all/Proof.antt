@@ -42,11 +42,14 @@ loop-less c = search needs
 loop-again : tie.Need-loop-again Inv-loop μ-loop
 loop-again c =
     let s = c .before .before .before .before .before .before .args in
-    let at = c .before .before .before .before .loop in
-    ( search needs
-    , ( search needs
-    , all-one-more (contains (s .r)) (s .pairs .now) (s .first) (at .k) (at .inv .0) (at .inv .1 .1)
-    (sym (c .before .contains .ensures ∙ ap (contains (s .r)) (c .before .before .row-at .ensures)) ∙ negated-false _ (c .if1 .left))))
+    let at = c .before .before .before .before .loop in (
+      search needs,
+      (
+        search needs,
+        all-one-more (contains (s .r)) (s .pairs .now) (s .first) (at .k) (at .inv .0) (at .inv .1 .1)
+            (sym (c .before .contains .ensures ∙ ap (contains (s .r)) (c .before .before .row-at .ensures)) ∙ negated-false _ (c .if1 .left)),
+      ),
+    )
 
 returns-2 : tie.Need-returns-2 Inv-loop μ-loop
 returns-2 c =

@@ -1,10 +1,8 @@
 -- `shapes::star` meets its contract, by the number of rows. Assumes nothing.
-use native.Mathlib.Omega.{arith}
 use mathlib.Core.Path.{sym, ap, _∙_}
 use mathlib.Core.Bool.{true}
 use mathlib.Core.List.{[], _∷_}
-use mathlib.Core.Option.{some}
-use Rattle.definitions.specs.MouthShapes.{mouthShape, single}
+use Rattle.definitions.specs.MouthShapes.{mouthShape}
 use Rattle.ramp_boundaries.proofs.RowLists.{between-zero, between-one}
 use borrow.Author.Needs.{needs}
 use Rattle.ramp_boundaries.proofs.shapes.star.Statement.{statement}

@@ -1,6 +1,5 @@
 -- `shapes::triangle_representative` meets its contract: two rows each, or no triangle. Assumes nothing.
 use Prim.Native.Nat.{_+_}
-use native.Mathlib.Omega.{arith}
 use mathlib.Core.Path.{sym, ap, ap₂, _∙_}
 use lib.ListN.{getD}
 use Rattle.definitions.specs.Scan.{onlyIf}

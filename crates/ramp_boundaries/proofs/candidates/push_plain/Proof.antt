@@ -1,0 +1,57 @@
+-- `candidates::push_plain` meets its contract, by its test. Assumes nothing.
+use native.Mathlib.Omega.{arith}
+use mathlib.Core.Path.{ap, _∙_}
+use borrow.Author.Tests.{eq-eqb, ne-eqb}
+use Rattle.definitions.specs.Scan.{bit}
+use Rattle.ramp_boundaries.proofs.SafeLists.{below, kind-shown}
+use Rattle.ramp_boundaries.proofs.FoundMouths.{has-ramp}
+use Rattle.ramp_boundaries.proofs.CandidateLaws.{none-found, filled-none}
+use borrow.Author.Needs.{needs}
+use Rattle.ramp_boundaries.proofs.candidates.push_plain.Statement.{statement}
+use Rattle.ramp_boundaries.proofs.candidates.push_plain.Tie as tie
+
+mul-if1 : tie.Need-mul-if1
+mul-if1 c = search needs
+
+add-if1 : tie.Need-add-if1
+add-if1 c = search needs
+
+mul-if1-2 : tie.Need-mul-if1-2
+mul-if1-2 c = search needs
+
+shared-slice-read-if1 : tie.Need-shared-slice-read-if1
+shared-slice-read-if1 c = search needs
+
+returns : tie.Need-returns
+returns c =
+    let s = c .before .before .before .before .before .before .before in (
+      omega arith,
+      (
+        s .pre .1 .0,
+        λ C l S T ramp cut F.
+            let lm = below (S .counted) (s .pre .1 .1 .1 .0) in
+            filled-none F (none-found C (s .args .a) (s .args .m) (has-ramp C (s .args .a) (s .args .m) ramp cut (kind-shown (S .bounds) (s .args .m) lm ∙ ne-eqb _ 0 (c .if1 .taken)))),
+      ),
+    )
+
+push-mouth-requires : tie.Need-push-mouth-requires
+push-mouth-requires c κs =
+    let s = c .before .before .before .before .before .before .before .before .before .before .before .before in
+    (s .pre .0, (s .pre .1 .0, (omega (arith, s .pre .1 .1 .0, ap bit (eq-eqb _ 0 (c .before .before .before .before .before .if1 .left))), s .pre .1 .1 .1)))
+
+returns-2 : tie.Need-returns-2
+returns-2 c =
+    let s = c .before .before .before .before .before .before .before .before .before .before .before .before .before in
+    (omega (arith, c .push-mouth .ensures .0 .1, ap bit (eq-eqb _ 0 (c .before .before .before .before .before .before .if1 .left))), (c .push-mouth .ensures .1 .0, c .push-mouth .ensures .1 .1))
+
+pub push-plain-spec : {M : Type 1} → statement M
+push-plain-spec =
+    tie.close
+    (tie.spec
+    mul-if1
+    add-if1
+    mul-if1-2
+    shared-slice-read-if1
+    returns
+    push-mouth-requires
+    returns-2)

@@ -1,0 +1,78 @@
+-- `candidates::push_ramp` meets its contract, by its tests. Assumes nothing.
+use native.Mathlib.Omega.{arith}
+use mathlib.Core.Path.{sym, _∙_}
+use borrow.Author.Tests.{eq-eqb, ne-eqb}
+use Rattle.ramp_boundaries.specs.Candidates.{mouthCandidate}
+use Rattle.ramp_boundaries.specs.Listed.{plainAt}
+use Rattle.ramp_boundaries.proofs.RowLists.{negated-true, negated-false}
+use Rattle.ramp_boundaries.proofs.SafeLists.{below, kind-shown, tallies-at}
+use Rattle.ramp_boundaries.proofs.CandidateRoom.{ramp-fits, ramp-counted, none-counted, filled-as, same-list, no-ramp-none, no-cut-none}
+use borrow.Author.Needs.{needs}
+use Rattle.ramp_boundaries.proofs.candidates.push_ramp.Statement.{statement}
+use Rattle.ramp_boundaries.proofs.candidates.push_ramp.Tie as tie
+
+mul-if1 : tie.Need-mul-if1
+mul-if1 c = search needs
+
+add-if1 : tie.Need-add-if1
+add-if1 c = search needs
+
+mul-if1-2 : tie.Need-mul-if1-2
+mul-if1-2 c = search needs
+
+shared-slice-read-if1 : tie.Need-shared-slice-read-if1
+shared-slice-read-if1 c = search needs
+
+returns : tie.Need-returns
+returns c =
+    let s = c .before .before .before .before .before .before .before in (
+      none-counted (plainAt (s .args .boundaries .now)) (s .args .count) (omega (arith, s .pre .0 .shows .bounds .few, s .pre .0 .shows .counted)) (s .args .a) (s .args .n) (s .pre .1 .1 .0),
+      (
+        s .pre .1 .0,
+        λ C l S T F. filled-as F (same-list l (mouthCandidate C (s .args .a)) (s .args .count) (λ m. no-ramp-none C (s .args .a) m (kind-shown (S .bounds) (s .args .a) (below (S .counted) (s .pre .1 .1 .1)) ∙ eq-eqb _ 0 (c .if1 .taken)))),
+      ),
+    )
+
+full-cut-requires : tie.Need-full-cut-requires
+full-cut-requires c κs = tallies-at (c .before .before .before .before .before .before .before .pre .0) (c .before .before .before .before .before .before .before .pre .1 .1 .1)
+
+returns-2 : tie.Need-returns-2
+returns-2 c =
+    let s = c .before .before .before .before .before .before .before .before .before in (
+      none-counted (plainAt (s .args .boundaries .now)) (s .args .count) (omega (arith, s .pre .0 .shows .bounds .few, s .pre .0 .shows .counted)) (s .args .a) (s .args .n) (s .pre .1 .1 .0),
+      (
+        s .pre .1 .0,
+        λ C l S T F. filled-as F (same-list l (mouthCandidate C (s .args .a)) (s .args .count) (λ m. no-cut-none C (s .args .a) m (sym (c .before .full-cut .ensures C T (below (S .counted) (s .pre .1 .1 .1))) ∙ negated-true _ (c .if2 .taken)))),
+      ),
+    )
+
+push-mouths-requires : tie.Need-push-mouths-requires
+push-mouths-requires c κs =
+    let s = c .before .before .before .before .before .before .before .before .before .before .before .before .before .before in
+    (s .pre .0, (s .pre .1 .0, (ramp-fits (plainAt (s .args .boundaries .now)) (s .args .count) (omega (arith, s .pre .0 .shows .bounds .few, s .pre .0 .shows .counted)) (s .args .a) (s .args .n) (s .pre .1 .1 .1) (ne-eqb _ 0 (c .before .before .before .before .before .before .before .if1 .left)) (s .pre .1 .1 .0), s .pre .1 .1 .1)))
+
+returns-3 : tie.Need-returns-3
+returns-3 c =
+    let s = c .before .before .before .before .before .before .before .before .before .before .before .before .before .before .before in (
+      ramp-counted (plainAt (s .args .boundaries .now)) (s .args .count) (omega (arith, s .pre .0 .shows .bounds .few, s .pre .0 .shows .counted)) (s .args .a) (s .args .n) _ (ne-eqb _ 0 (c .before .before .before .before .before .before .before .before .if1 .left)) (s .pre .1 .1 .0) (c .push-mouths .ensures .0),
+      (
+        c .push-mouths .ensures .1 .0,
+        λ C l S T F.
+            let la = below (S .counted) (s .pre .1 .1 .1) in
+            c .push-mouths .ensures .1 .1 C l S T (kind-shown (S .bounds) (s .args .a) la ∙ ne-eqb _ 0 (c .before .before .before .before .before .before .before .before .if1 .left)) (sym (c .before .before .before .before .before .before .before .full-cut .ensures C T la) ∙ negated-false _ (c .before .before .before .before .before .before .if2 .left)) F,
+      ),
+    )
+
+pub push-ramp-spec : {M : Type 1} → statement M
+push-ramp-spec =
+    tie.close
+    (tie.spec
+    mul-if1
+    add-if1
+    mul-if1-2
+    shared-slice-read-if1
+    returns
+    full-cut-requires
+    returns-2
+    push-mouths-requires
+    returns-3)

@@ -1,0 +1,301 @@
+// The candidates of all ramps and mouths, as compact lists: ramp by ramp, then mouth by mouth.
+use crate::measures::NUMBERS_PER_BOUNDARY;
+use crate::measures::separation_of;
+use crate::mouths::Candidate;
+use crate::mouths::mouth_candidate;
+use crate::near::is_close;
+use context::pairs::full_cut;
+ghost use mathlib.Core.Path.{_≡_};
+ghost use mathlib.Core.Bool.{false, true};
+ghost use mathlib.Core.List.{List, _++_};
+ghost use Prim.Native.Nat.{_+_, _*_, _≤_, _<_};
+ghost use lib.Ieee.{binary64, isNan, toBits};
+ghost use Rattle.definitions.specs.Scan.{bit, countBelow, collect, toList};
+ghost use Rattle.definitions.specs.Context.{Context, fullCut, noRamp};
+ghost use Rattle.definitions.specs.RampMouths.{MouthProposal};
+ghost use Rattle.context.specs.Shown.{ShownTallies};
+ghost use Rattle.ramp_boundaries.specs.Lent.{Shows, Shown};
+ghost use Rattle.ramp_boundaries.specs.Candidates.{mouthCandidate, candidates};
+ghost use Rattle.ramp_boundaries.specs.Listed.{maxCandidates, Filled, Roomy, Put, plainAt, rampAt};
+
+// Writes entry n.
+fn put_candidate(
+    mouths: &mut [u8; 16384],
+    ramps: &mut [u8; 16384],
+    outers: &mut [u32; 16384],
+    kinds: &mut [u8; 16384],
+    separations: &mut [u64; 16384],
+    n: usize,
+    m: usize,
+    a: usize,
+    outer: u32,
+    kind: u8,
+    bits: u64,
+)
+    requires { ⌜ (n < maxCandidates) × ((m < 256) × (a < 256)) ⌝ }
+    ensures { λ x. ⌜ Put (now (mouths .entry)) (now (ramps .entry)) (now (outers .entry)) (now (kinds .entry)) (now (separations .entry)) n m a outer kind bits (now (mouths .exit)) (now (ramps .exit)) (now (outers .exit)) (now (kinds .exit)) (now (separations .exit)) ⌝ }
+{
+    mouths[n] = m as u8;
+    ramps[n] = a as u8;
+    outers[n] = outer;
+    kinds[n] = kind;
+    separations[n] = bits;
+}
+
+// The bits of a separation.
+fn bits_of(separation: f64) -> u64
+    requires { ⌜ isNan separation ≡ false ⌝ }
+    ensures { λ r. ⌜ r ≡ toBits binary64 separation ⌝ }
+{
+    f64::to_bits(separation)
+}
+
+// What mouth m proposes to ramp a within the distance: entry n, if there is one. Gives the number of entries.
+fn push_mouth(
+    boundaries: &[u64],
+    tallies: &[u32],
+    pairs: &[u32],
+    starts: &[usize; 257],
+    counts: &[u32],
+    marks: &[u16],
+    count: usize,
+    mouths: &mut [u8; 16384],
+    ramps: &mut [u8; 16384],
+    outers: &mut [u32; 16384],
+    kinds: &mut [u8; 16384],
+    separations: &mut [u64; 16384],
+    n: usize,
+    m: usize,
+    a: usize,
+) -> usize
+    requires { ⌜ Shown (now boundaries) (now tallies) (now pairs) (now starts) (now counts) (now marks) count ⌝ }
+    requires { ⌜ Roomy (now mouths) (now ramps) (now outers) (now kinds) (now separations) ⌝ }
+    requires { ⌜ (n < maxCandidates) × ((m < count) × (a < count)) ⌝ }
+    ensures { λ r. ⌜ (n ≤ r) × (r ≤ n + 1) ⌝ }
+    ensures { λ r. ⌜ Roomy (now (mouths .exit)) (now (ramps .exit)) (now (outers .exit)) (now (kinds .exit)) (now (separations .exit)) ⌝ }
+    ensures { λ r. ⌜ ((C : Context) (l : List MouthProposal) → Shows (now (boundaries .entry)) (now (pairs .entry)) (now (starts .entry)) (now (counts .entry)) (now (marks .entry)) count C → ShownTallies C (now (tallies .entry)) → noRamp C a ≡ false → fullCut C a ≡ true → Filled C (now (mouths .entry)) (now (ramps .entry)) (now (outers .entry)) (now (kinds .entry)) (now (separations .entry)) n l → Filled C (now (mouths .exit)) (now (ramps .exit)) (now (outers .exit)) (now (kinds .exit)) (now (separations .exit)) r (l ++ toList (mouthCandidate C a m))) ⌝ }
+{
+    match mouth_candidate(
+        boundaries,
+        tallies,
+        pairs,
+        starts,
+        counts,
+        marks,
+        count,
+        m,
+        a,
+    ) {
+        Candidate::None => n,
+        Candidate::Mouth(outer, kind) => {
+            let separation = separation_of(boundaries, m, a);
+            if is_close(separation) {
+                put_candidate(
+                    &mut *mouths,
+                    &mut *ramps,
+                    &mut *outers,
+                    &mut *kinds,
+                    &mut *separations,
+                    n,
+                    m,
+                    a,
+                    outer,
+                    kind,
+                    bits_of(separation),
+                );
+                n + 1
+            } else {
+                n
+            }
+        }
+    }
+}
+
+// The same of a boundary that may have a ramp, which then is no mouth.
+fn push_plain(
+    boundaries: &[u64],
+    tallies: &[u32],
+    pairs: &[u32],
+    starts: &[usize; 257],
+    counts: &[u32],
+    marks: &[u16],
+    count: usize,
+    mouths: &mut [u8; 16384],
+    ramps: &mut [u8; 16384],
+    outers: &mut [u32; 16384],
+    kinds: &mut [u8; 16384],
+    separations: &mut [u64; 16384],
+    n: usize,
+    m: usize,
+    a: usize,
+) -> usize
+    requires { ⌜ Shown (now boundaries) (now tallies) (now pairs) (now starts) (now counts) (now marks) count ⌝ }
+    requires { ⌜ Roomy (now mouths) (now ramps) (now outers) (now kinds) (now separations) ⌝ }
+    requires { ⌜ (n + bit (plainAt (now boundaries) m) ≤ maxCandidates) × ((m < count) × (a < count)) ⌝ }
+    ensures { λ r. ⌜ r ≤ n + bit (plainAt (now (boundaries .entry)) m) ⌝ }
+    ensures { λ r. ⌜ Roomy (now (mouths .exit)) (now (ramps .exit)) (now (outers .exit)) (now (kinds .exit)) (now (separations .exit)) ⌝ }
+    ensures { λ r. ⌜ ((C : Context) (l : List MouthProposal) → Shows (now (boundaries .entry)) (now (pairs .entry)) (now (starts .entry)) (now (counts .entry)) (now (marks .entry)) count C → ShownTallies C (now (tallies .entry)) → noRamp C a ≡ false → fullCut C a ≡ true → Filled C (now (mouths .entry)) (now (ramps .entry)) (now (outers .entry)) (now (kinds .entry)) (now (separations .entry)) n l → Filled C (now (mouths .exit)) (now (ramps .exit)) (now (outers .exit)) (now (kinds .exit)) (now (separations .exit)) r (l ++ toList (mouthCandidate C a m))) ⌝ }
+{
+    if boundaries[NUMBERS_PER_BOUNDARY * m + 5] != 0 {
+        return n;
+    }
+    push_mouth(
+        boundaries,
+        tallies,
+        pairs,
+        starts,
+        counts,
+        marks,
+        count,
+        &mut *mouths,
+        &mut *ramps,
+        &mut *outers,
+        &mut *kinds,
+        &mut *separations,
+        n,
+        m,
+        a,
+    )
+}
+
+// The candidates of ramp a, behind the first entries.
+fn push_mouths(
+    boundaries: &[u64],
+    tallies: &[u32],
+    pairs: &[u32],
+    starts: &[usize; 257],
+    counts: &[u32],
+    marks: &[u16],
+    count: usize,
+    mouths: &mut [u8; 16384],
+    ramps: &mut [u8; 16384],
+    outers: &mut [u32; 16384],
+    kinds: &mut [u8; 16384],
+    separations: &mut [u64; 16384],
+    first: usize,
+    a: usize,
+) -> usize
+    requires { ⌜ Shown (now boundaries) (now tallies) (now pairs) (now starts) (now counts) (now marks) count ⌝ }
+    requires { ⌜ Roomy (now mouths) (now ramps) (now outers) (now kinds) (now separations) ⌝ }
+    requires { ⌜ (first + countBelow count (plainAt (now boundaries)) ≤ maxCandidates) × (a < count) ⌝ }
+    ensures { λ r. ⌜ r ≤ first + countBelow count (plainAt (now (boundaries .entry))) ⌝ }
+    ensures { λ r. ⌜ Roomy (now (mouths .exit)) (now (ramps .exit)) (now (outers .exit)) (now (kinds .exit)) (now (separations .exit)) ⌝ }
+    ensures { λ r. ⌜ ((C : Context) (l : List MouthProposal) → Shows (now (boundaries .entry)) (now (pairs .entry)) (now (starts .entry)) (now (counts .entry)) (now (marks .entry)) count C → ShownTallies C (now (tallies .entry)) → noRamp C a ≡ false → fullCut C a ≡ true → Filled C (now (mouths .entry)) (now (ramps .entry)) (now (outers .entry)) (now (kinds .entry)) (now (separations .entry)) first l → Filled C (now (mouths .exit)) (now (ramps .exit)) (now (outers .exit)) (now (kinds .exit)) (now (separations .exit)) r (l ++ collect count (mouthCandidate C a))) ⌝ }
+{
+    let mut n = first;
+    let mut m = 0;
+    while m < count {
+        n = push_plain(
+            boundaries,
+            tallies,
+            pairs,
+            starts,
+            counts,
+            marks,
+            count,
+            &mut *mouths,
+            &mut *ramps,
+            &mut *outers,
+            &mut *kinds,
+            &mut *separations,
+            n,
+            m,
+            a,
+        );
+        m += 1;
+    }
+    n
+}
+
+// The same of a boundary that may be no ramp, or no full cut.
+fn push_ramp(
+    boundaries: &[u64],
+    tallies: &[u32],
+    pairs: &[u32],
+    starts: &[usize; 257],
+    counts: &[u32],
+    marks: &[u16],
+    count: usize,
+    mouths: &mut [u8; 16384],
+    ramps: &mut [u8; 16384],
+    outers: &mut [u32; 16384],
+    kinds: &mut [u8; 16384],
+    separations: &mut [u64; 16384],
+    n: usize,
+    a: usize,
+) -> usize
+    requires { ⌜ Shown (now boundaries) (now tallies) (now pairs) (now starts) (now counts) (now marks) count ⌝ }
+    requires { ⌜ Roomy (now mouths) (now ramps) (now outers) (now kinds) (now separations) ⌝ }
+    requires { ⌜ (n ≤ countBelow a (rampAt (now boundaries)) * countBelow count (plainAt (now boundaries))) × (a < count) ⌝ }
+    ensures { λ r. ⌜ r ≤ countBelow (a + 1) (rampAt (now (boundaries .entry))) * countBelow count (plainAt (now (boundaries .entry))) ⌝ }
+    ensures { λ r. ⌜ Roomy (now (mouths .exit)) (now (ramps .exit)) (now (outers .exit)) (now (kinds .exit)) (now (separations .exit)) ⌝ }
+    ensures { λ r. ⌜ ((C : Context) (l : List MouthProposal) → Shows (now (boundaries .entry)) (now (pairs .entry)) (now (starts .entry)) (now (counts .entry)) (now (marks .entry)) count C → ShownTallies C (now (tallies .entry)) → Filled C (now (mouths .entry)) (now (ramps .entry)) (now (outers .entry)) (now (kinds .entry)) (now (separations .entry)) n l → Filled C (now (mouths .exit)) (now (ramps .exit)) (now (outers .exit)) (now (kinds .exit)) (now (separations .exit)) r (l ++ collect count (mouthCandidate C a))) ⌝ }
+{
+    if boundaries[NUMBERS_PER_BOUNDARY * a + 5] == 0 {
+        return n;
+    }
+    if !full_cut(tallies, a) {
+        return n;
+    }
+    push_mouths(
+        boundaries,
+        tallies,
+        pairs,
+        starts,
+        counts,
+        marks,
+        count,
+        &mut *mouths,
+        &mut *ramps,
+        &mut *outers,
+        &mut *kinds,
+        &mut *separations,
+        n,
+        a,
+    )
+}
+
+// All candidates, by ramp, then by mouth; gives their number.
+pub fn push_candidates(
+    boundaries: &[u64],
+    tallies: &[u32],
+    pairs: &[u32],
+    starts: &[usize; 257],
+    counts: &[u32],
+    marks: &[u16],
+    count: usize,
+    mouths: &mut [u8; 16384],
+    ramps: &mut [u8; 16384],
+    outers: &mut [u32; 16384],
+    kinds: &mut [u8; 16384],
+    separations: &mut [u64; 16384],
+) -> usize
+    requires { ⌜ Shown (now boundaries) (now tallies) (now pairs) (now starts) (now counts) (now marks) count ⌝ }
+    requires { ⌜ Roomy (now mouths) (now ramps) (now outers) (now kinds) (now separations) ⌝ }
+    ensures { λ r. ⌜ r ≤ maxCandidates ⌝ }
+    ensures { λ r. ⌜ Roomy (now (mouths .exit)) (now (ramps .exit)) (now (outers .exit)) (now (kinds .exit)) (now (separations .exit)) ⌝ }
+    ensures { λ r. ⌜ ((C : Context) → Shows (now (boundaries .entry)) (now (pairs .entry)) (now (starts .entry)) (now (counts .entry)) (now (marks .entry)) count C → ShownTallies C (now (tallies .entry)) → Filled C (now (mouths .exit)) (now (ramps .exit)) (now (outers .exit)) (now (kinds .exit)) (now (separations .exit)) r (candidates C)) ⌝ }
+{
+    let mut n = 0;
+    let mut a = 0;
+    while a < count {
+        n = push_ramp(
+            boundaries,
+            tallies,
+            pairs,
+            starts,
+            counts,
+            marks,
+            count,
+            &mut *mouths,
+            &mut *ramps,
+            &mut *outers,
+            &mut *kinds,
+            &mut *separations,
+            n,
+            a,
+        );
+        a += 1;
+    }
+    n
+}
