@@ -1,8 +1,11 @@
 pub mod allow_proposals
 pub mod collapse_ramp_interiors
+pub mod corners_near
 pub mod fill
 pub mod interior_fits
 pub mod judge_interiors
+pub mod mark_near
 pub mod put_record
 pub mod record_at
 pub mod remove_junction_boundaries
+pub mod replace_ramp_mouths

@@ -1,4 +1,5 @@
 pub mod Filled
 pub mod Held
 pub mod Interiors
+pub mod Mouths
 pub mod Proposals
