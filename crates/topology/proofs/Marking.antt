@@ -18,8 +18,8 @@ use Rattle.views.proofs.Viewing.{regions-within}
 use Rattle.topology.specs.Marks.{Shows, Removed, Lent, MarkedFor}
 
 -- a change up to n, and then one of the first k, which have become l
-beyond-both : {n k : ℕ} {a b l : List ℕ} → Beyond n a b → length l ≡ length (take k b) → k ≤ n → k ≤ length b → Beyond n a (l ++ drop k b)
-beyond-both {n} {k} {a} {b} {l} f same h room =
+beyond-both : {n k : ℕ} {a b : List ℕ} (l : List ℕ) → Beyond n a b → length l ≡ length (take k b) → k ≤ n → k ≤ length b → Beyond n a (l ++ drop k b)
+beyond-both {n} {k} {a} {b} l f same h room =
     let s : k + (n - k) ≡ n = omega arith in
     let first : drop k (l ++ drop k b) ≡ drop k b = drop-at l (drop k b) k (same ∙ length-take-le k b room) in
     record {
@@ -75,12 +75,12 @@ module _ (M : Map) {records : List Region} {w needed : ℕ} {labels anchors : Li
         first l r from upto = getD-take regions l (r - 1) 0 (omega (arith, labelled))
 
     -- the pass leaves m″ and q″ of what it is lent
-    pub marked-lent : {pass : ℕ} {m″ q″ : List ℕ} {was removed : List Bool} → length m″ ≡ length (take regions m′) → length q″ ≡ length (take regions q′) → Removed pass C removed
+    pub marked-lent : {pass : ℕ} (m″ q″ : List ℕ) {was removed : List Bool} → length m″ ≡ length (take regions m′) → length q″ ≡ length (take regions q′) → Removed pass C removed
         → MarkedFor pass M needed count boundaries m q (m″ ++ drop regions m′) (q″ ++ drop regions q′) was removed
-    marked-lent lm lq r =
+    marked-lent m″ q″ lm lq r =
         record {
           equal = λ _. r .marked;
           differ = λ d. absurd (d same);
-          masks = beyond-both (S .masks) lm (regions-within M (L .partitioned)) marks-long;
-          queue = beyond-both (S .queue) lq (regions-within M (L .partitioned)) counts-long;
+          masks = beyond-both m″ (S .masks) lm (regions-within M (L .partitioned)) marks-long;
+          queue = beyond-both q″ (S .queue) lq (regions-within M (L .partitioned)) counts-long;
         }
