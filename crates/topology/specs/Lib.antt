@@ -3,3 +3,5 @@ pub mod Held
 pub mod Interiors
 pub mod Mouths
 pub mod Proposals
+pub mod Marks
+pub mod Answers
