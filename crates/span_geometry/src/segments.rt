@@ -76,8 +76,5 @@ pub fn segments_intersect(
     if strictly_opposite(abc, abd) & strictly_opposite(cda, cdb) {
         return true;
     }
-    touches(abc, a, b, c)
-        | touches(abd, a, b, d)
-        | touches(cda, c, d, a)
-        | touches(cdb, c, d, b)
+    touches(abc, a, b, c) | touches(abd, a, b, d) | touches(cda, c, d, a) | touches(cdb, c, d, b)
 }
