@@ -1,5 +1,4 @@
 -- `cell::is_cut_east` meets its contract: of a cell that is far the step is not cut, and else `is_cut_onward` decides. Assumes nothing.
-use borrow.Author.Needs.{needs}
 use Rattle.definitions.specs.Grid.{at}
 use Rattle.span_geometry.specs.Shapes.{segmentOf}
 use Rattle.flood.specs.Walk.{gridOf}
