@@ -38,9 +38,9 @@ fn side_of(g: SpanGeometry, x: usize, y: usize) -> i64
     cross(g.a, g.b, cell_center(x as u64, y as u64))
 }
 
-// Whether (x, y) is so far from the span's line that the centre of every neighbour of larger number lies on the same side of it. A step changes the side value by at
-// most 8 pixels times the span's extents, a straight step to the east by its extent along y alone, and a step to the south never lowers it by more.
-// Most candidates need no more than this test.
+// Whether (x, y) is so far from the span's line that the centre of every neighbour of larger number lies on the same side of it: a step changes the side value by at
+// most 8 pixels times both extents of the span. On the positive side its extent along y is enough: the first endpoint is not to the right of the second, so that a
+// step to the south never lowers the value.
 fn is_far(g: SpanGeometry, x: usize, y: usize) -> bool
     requires { ⌜ Sound g × (x < maxSide) × (y < maxSide) ⌝ }
     ensures { λ r. ⌜ (r ≡ true → Far (segmentOf g) (at x y)) ⌝ }
@@ -121,7 +121,7 @@ fn is_cut_onward(
     g.cuts(x as u64, y as u64, (x + dx - 1) as u64, (y + dy - 1) as u64)
 }
 
-// Whether the step east from the walkable (x, y) is there and is cut.
+// Whether the step east from the walkable (x, y) is there and is cut. Beside a flat span most are ruled out by the first test.
 fn is_cut_east(
     width: usize,
     height: usize,
