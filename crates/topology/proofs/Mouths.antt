@@ -22,12 +22,12 @@ use Rattle.context.specs.Shown.{ShownBoundaries}
 use Rattle.context.specs.Rows.{NamedRow}
 use Rattle.context.specs.ShownLaws.{shown-rows}
 use Rattle.ramp_boundaries.specs.Candidates.{broad, proposalOf, candidates}
-use Rattle.ramp_boundaries.specs.Inner.{placesOf, regionAt, innerAt}
-use Rattle.ramp_boundaries.specs.Near.{regionNear}
+use Rattle.mouth_regions.specs.Inner.{placesOf, regionAt, innerAt}
+use Rattle.mouth_regions.specs.Near.{regionNear}
 use Rattle.ramp_boundaries.specs.Listed.{entryAt, Filled}
-use Rattle.ramp_boundaries.specs.Selecting.{Selects}
-use Rattle.ramp_boundaries.proofs.InnerWalk.{corners-near}
-use Rattle.ramp_boundaries.proofs.ProposalLists.{fresh-marks, selects}
+use Rattle.mouth_selection.specs.Selecting.{Selects}
+use Rattle.mouth_regions.proofs.InnerWalk.{corners-near}
+use Rattle.mouth_selection.proofs.ProposalLists.{fresh-marks, selects}
 use Rattle.topology.specs.Held.{place-in, record-is}
 use Rattle.topology.specs.Mouths.{Locates, NearAsked, NearMarked, Replaces}
 

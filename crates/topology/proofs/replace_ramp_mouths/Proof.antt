@@ -3,7 +3,7 @@ mod Lts
 mod Tie
 use native.Mathlib.Omega.{arith}
 use borrow.Author.Needs.{needs}
-use Rattle.ramp_boundaries.proofs.ProposalLists.{proposals-near}
+use Rattle.mouth_selection.proofs.ProposalLists.{proposals-near}
 use Rattle.topology.proofs.Mouths.{pass-near, pass-selects}
 use Rattle.topology.proofs.replace_ramp_mouths.Statement.{statement}
 use Rattle.topology.proofs.replace_ramp_mouths.Proof.Tie as tie

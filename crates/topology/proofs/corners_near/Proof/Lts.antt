@@ -246,7 +246,7 @@ hs =
 abbrev b0 : Syntax.Body
 b0 =
     Syntax.call
-    "ramp_boundaries::inner::places"
+    "mouth_regions::inner::places"
     (List._∷_
     (Syntax.copy (Syntax.place 3 List.[]))
     (List._∷_
@@ -278,7 +278,7 @@ b5 = Syntax.cond (Syntax.copy (Syntax.place 13 List.[])) b3 b4
 abbrev b6 : Syntax.Body
 b6 =
     Syntax.call
-    "ramp_boundaries::inner::inner_region"
+    "mouth_regions::inner::inner_region"
     (List._∷_
     (Syntax.copy (Syntax.place 3 List.[]))
     (List._∷_
@@ -330,7 +330,7 @@ b11 =
 abbrev b12 : Syntax.Body
 b12 =
     Syntax.call
-    "ramp_boundaries::near::region_near"
+    "mouth_regions::near::region_near"
     (List._∷_
     (Syntax.copy (Syntax.place 12 List.[]))
     (List._∷_
@@ -2928,11 +2928,11 @@ module _ (claims· : Claims) where
       Closed =
           (𝓤 : URA.URA M) (H : Wp.Heap 𝓤) (A : Atoms.Atoms 𝓤) (W : Kit.Given 𝓤 H A) (𝓣 : Wp.Tables
           𝓤 H) (known0 : Plain.Known 𝓤 H A W 𝓣 2 ps·0 r·0 (claims· .0) (claims· .1)
-          "ramp_boundaries::inner::places") (known1 : Plain.Known 𝓤 H A W 𝓣 2 ps·1 r·1 (claims· .2)
-          (claims· .3) "ramp_boundaries::inner::inner_region") (known2 : Plain.Known 𝓤 H A W 𝓣 0
-          ps·2 r·2 (claims· .4) (claims· .5) "context::pairs::wide") (known3 : Plain.Known 𝓤 H A W
-          𝓣 1 ps·3 r·3 (claims· .6) (claims· .7) "topology::record_at") (known4 : Plain.Known 𝓤 H A
-          W 𝓣 1 ps·4 r·4 (claims· .8) (claims· .9) "ramp_boundaries::near::region_near") →
+          "mouth_regions::inner::places") (known1 : Plain.Known 𝓤 H A W 𝓣 2 ps·1 r·1 (claims· .2)
+          (claims· .3) "mouth_regions::inner::inner_region") (known2 : Plain.Known 𝓤 H A W 𝓣 0 ps·2
+          r·2 (claims· .4) (claims· .5) "context::pairs::wide") (known3 : Plain.Known 𝓤 H A W 𝓣 1
+          ps·3 r·3 (claims· .6) (claims· .7) "topology::record_at") (known4 : Plain.Known 𝓤 H A W 𝓣
+          1 ps·4 r·4 (claims· .8) (claims· .9) "mouth_regions::near::region_near") →
           Statement.Triple 𝓤 (Wp.WpFn 𝓤 H (𝓣 .C) (𝓣 .Λ) (Function.fnOf 4 ps r xs m hs body))
           (Function.plainOf 𝓤 H A 4 ps r Pre· Post·)
 
@@ -3146,7 +3146,7 @@ module _ (claims· : Claims) where
             r·0
             (claims· .0)
             (claims· .1)
-            "ramp_boundaries::inner::places" ×
+            "mouth_regions::inner::places" ×
             Plain.Known
             𝓤
             H
@@ -3158,7 +3158,7 @@ module _ (claims· : Claims) where
             r·1
             (claims· .2)
             (claims· .3)
-            "ramp_boundaries::inner::inner_region" ×
+            "mouth_regions::inner::inner_region" ×
             Plain.Known 𝓤 H A W 𝓣 0 ps·2 r·2 (claims· .4) (claims· .5) "context::pairs::wide" ×
             Plain.Known 𝓤 H A W 𝓣 1 ps·3 r·3 (claims· .6) (claims· .7) "topology::record_at" ×
             Plain.Known
@@ -3172,7 +3172,7 @@ module _ (claims· : Claims) where
             r·4
             (claims· .8)
             (claims· .9)
-            "ramp_boundaries::near::region_near"
+            "mouth_regions::near::region_near"
 
       module _ (κs : Lifetimes.Lfts 4) (qs : Lifetimes.Shares 4) where
         abbrev G0 : Row.Cx
@@ -4318,7 +4318,7 @@ module _ (claims· : Claims) where
               r·4
               (claims· .8)
               (claims· .9)
-              "ramp_boundaries::near::region_near"
+              "mouth_regions::near::region_near"
               (known .4)
               E
               (λ pos β. β)
@@ -4877,7 +4877,7 @@ module _ (claims· : Claims) where
               r·1
               (claims· .2)
               (claims· .3)
-              "ramp_boundaries::inner::inner_region"
+              "mouth_regions::inner::inner_region"
               (known .1)
               E
               (λ pos β. β)
@@ -5315,7 +5315,7 @@ module _ (claims· : Claims) where
               r·0
               (claims· .0)
               (claims· .1)
-              "ramp_boundaries::inner::places"
+              "mouth_regions::inner::places"
               (known .0)
               E
               (λ pos β. β)
@@ -7128,7 +7128,7 @@ module _ (claims· : Claims) where
             r·0
             (claims· .0)
             (claims· .1)
-            "ramp_boundaries::inner::places")
+            "mouth_regions::inner::places")
             (known1 : Plain.Known
             𝓤
             H
@@ -7140,7 +7140,7 @@ module _ (claims· : Claims) where
             r·1
             (claims· .2)
             (claims· .3)
-            "ramp_boundaries::inner::inner_region")
+            "mouth_regions::inner::inner_region")
             (known2 : Plain.Known
             𝓤
             H
@@ -7176,7 +7176,7 @@ module _ (claims· : Claims) where
             r·4
             (claims· .8)
             (claims· .9)
-            "ramp_boundaries::near::region_near") where
+            "mouth_regions::near::region_near") where
           pub spec :
               Statement.Triple
               𝓤

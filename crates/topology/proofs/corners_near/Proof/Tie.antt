@@ -2,15 +2,15 @@
 use Rattle.context.proofs.pairs.wide.Met
 use Rattle.context.proofs.pairs.wide.Reads
 use Rattle.context.proofs.pairs.wide.Symbol
-use Rattle.ramp_boundaries.proofs.inner.inner_region.Met as Met'
-use Rattle.ramp_boundaries.proofs.inner.inner_region.Reads as Reads'
-use Rattle.ramp_boundaries.proofs.inner.inner_region.Symbol as Symbol'
-use Rattle.ramp_boundaries.proofs.inner.places.Met as Met''
-use Rattle.ramp_boundaries.proofs.inner.places.Reads as Reads''
-use Rattle.ramp_boundaries.proofs.inner.places.Symbol as Symbol''
-use Rattle.ramp_boundaries.proofs.near.region_near.Met as Met'3
-use Rattle.ramp_boundaries.proofs.near.region_near.Reads as Reads'3
-use Rattle.ramp_boundaries.proofs.near.region_near.Symbol as Symbol'3
+use Rattle.mouth_regions.proofs.inner.inner_region.Met as Met'
+use Rattle.mouth_regions.proofs.inner.inner_region.Reads as Reads'
+use Rattle.mouth_regions.proofs.inner.inner_region.Symbol as Symbol'
+use Rattle.mouth_regions.proofs.inner.places.Met as Met''
+use Rattle.mouth_regions.proofs.inner.places.Reads as Reads''
+use Rattle.mouth_regions.proofs.inner.places.Symbol as Symbol''
+use Rattle.mouth_regions.proofs.near.region_near.Met as Met'3
+use Rattle.mouth_regions.proofs.near.region_near.Reads as Reads'3
+use Rattle.mouth_regions.proofs.near.region_near.Symbol as Symbol'3
 use Rattle.topology.proofs.corners_near.Code
 use Rattle.topology.proofs.corners_near.Key
 use Rattle.topology.proofs.Seen.corners_near.Kinds
@@ -525,14 +525,14 @@ module _ {M : Type 1} where
       Code.env
       Symbol''.name
       Symbol''.routine
-      Code.calls-ramp-boundaries·inner·places
+      Code.calls-mouth-regions·inner·places
       (Met''.met 𝓤 H 𝓜 𝓖 𝓡))
       (Reads'.known
       record { M = M; 𝓤 = 𝓤; H = H; 𝓜 = 𝓜; 𝓖 = 𝓖; 𝓡 = 𝓡 }
       Code.env
       Symbol'.name
       Symbol'.routine
-      Code.calls-ramp-boundaries·inner·inner-region
+      Code.calls-mouth-regions·inner·inner-region
       (Met'.met 𝓤 H 𝓜 𝓖 𝓡))
       (Reads.known
       record { M = M; 𝓤 = 𝓤; H = H; 𝓜 = 𝓜; 𝓖 = 𝓖; 𝓡 = 𝓡 }
@@ -553,5 +553,5 @@ module _ {M : Type 1} where
       Code.env
       Symbol'3.name
       Symbol'3.routine
-      Code.calls-ramp-boundaries·near·region-near
+      Code.calls-mouth-regions·near·region-near
       (Met'3.met 𝓤 H 𝓜 𝓖 𝓡))

@@ -254,7 +254,7 @@ b7 =
 abbrev b8 : Syntax.Body
 b8 =
     Syntax.call
-    "ramp_boundaries::selection::index"
+    "mouth_selection::selection::index"
     (List._∷_ (Syntax.copy (Syntax.place 16 List.[])) List.[])
     (Syntax.place 13 List.[])
 
@@ -286,7 +286,7 @@ b11 =
 abbrev b12 : Syntax.Body
 b12 =
     Syntax.call
-    "ramp_boundaries::selection::index"
+    "mouth_selection::selection::index"
     (List._∷_ (Syntax.copy (Syntax.place 20 List.[])) List.[])
     (Syntax.place 17 List.[])
 
@@ -2604,7 +2604,7 @@ module _ (claims· : Claims) where
       Closed =
           (𝓤 : URA.URA M) (H : Wp.Heap 𝓤) (A : Atoms.Atoms 𝓤) (W : Kit.Given 𝓤 H A) (𝓣 : Wp.Tables
           𝓤 H) (known0 : Plain.Known 𝓤 H A W 𝓣 0 ps·0 r·0 (claims· .0) (claims· .1)
-          "ramp_boundaries::selection::index") (known1 : Plain.Known 𝓤 H A W 𝓣 4 ps·1 r·1
+          "mouth_selection::selection::index") (known1 : Plain.Known 𝓤 H A W 𝓣 4 ps·1 r·1
           (claims· .2) (claims· .3) "topology::corners_near") → Statement.Triple 𝓤 (Wp.WpFn 𝓤 H
           (𝓣 .C) (𝓣 .Λ) (Function.fnOf 9 ps r xs m hs body)) (Function.plainOf 𝓤 H A 9 ps r Pre·
           Post·)
@@ -2826,7 +2826,7 @@ module _ (claims· : Claims) where
             r·0
             (claims· .0)
             (claims· .1)
-            "ramp_boundaries::selection::index" ×
+            "mouth_selection::selection::index" ×
             Plain.Known 𝓤 H A W 𝓣 4 ps·1 r·1 (claims· .2) (claims· .3) "topology::corners_near"
 
       module _ (κs : Lifetimes.Lfts 9) (qs : Lifetimes.Shares 9) where
@@ -5408,7 +5408,7 @@ module _ (claims· : Claims) where
               r·0
               (claims· .0)
               (claims· .1)
-              "ramp_boundaries::selection::index"
+              "mouth_selection::selection::index"
               (known .0)
               E
               (λ pos β. β)
@@ -5833,7 +5833,7 @@ module _ (claims· : Claims) where
               r·0
               (claims· .0)
               (claims· .1)
-              "ramp_boundaries::selection::index"
+              "mouth_selection::selection::index"
               (known .0)
               E
               (λ pos β. β)
@@ -7891,7 +7891,7 @@ module _ (claims· : Claims) where
             r·0
             (claims· .0)
             (claims· .1)
-            "ramp_boundaries::selection::index")
+            "mouth_selection::selection::index")
             (known1 : Plain.Known
             𝓤
             H

@@ -1,7 +1,7 @@
 -- made by tools/twin: do not edit
-use Rattle.ramp_boundaries.proofs.selection.index.Met
-use Rattle.ramp_boundaries.proofs.selection.index.Reads
-use Rattle.ramp_boundaries.proofs.selection.index.Symbol
+use Rattle.mouth_selection.proofs.selection.index.Met
+use Rattle.mouth_selection.proofs.selection.index.Reads
+use Rattle.mouth_selection.proofs.selection.index.Symbol
 use Rattle.topology.proofs.corners_near.Met as Met'
 use Rattle.topology.proofs.Seen.corners_near.Reads as Reads'
 use Rattle.topology.proofs.corners_near.Symbol as Symbol'
@@ -314,7 +314,7 @@ module _ {M : Type 1} where
       Code.env
       Symbol.name
       Symbol.routine
-      Code.calls-ramp-boundaries·selection·index
+      Code.calls-mouth-selection·selection·index
       (Met.met 𝓤 H 𝓜 𝓖 𝓡))
       (Reads'.known
       record { M = M; 𝓤 = 𝓤; H = H; 𝓜 = 𝓜; 𝓖 = 𝓖; 𝓡 = 𝓡 }

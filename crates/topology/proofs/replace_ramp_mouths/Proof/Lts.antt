@@ -480,7 +480,7 @@ b28 = Syntax.assign (Syntax.place 38 List.[]) (Syntax.addrOf (Syntax.place 15 Li
 abbrev b29 : Syntax.Body
 b29 =
     Syntax.call
-    "ramp_boundaries::selection::select_mouths"
+    "mouth_selection::selection::select_mouths"
     (List._∷_
     (Syntax.copy (Syntax.place 3 List.[]))
     (List._∷_
@@ -8365,7 +8365,7 @@ module _ (claims· : Claims) where
           𝓤 H) (known0 : Plain.Known 𝓤 H A W 𝓣 11 ps·0 r·0 (claims· .0) (claims· .1)
           "ramp_boundaries::candidates::push_candidates") (known1 : Plain.Known 𝓤 H A W 𝓣 9 ps·1
           r·1 (claims· .2) (claims· .3) "topology::mark_near") (known2 : Plain.Known 𝓤 H A W 𝓣 11
-          ps·2 r·2 (claims· .4) (claims· .5) "ramp_boundaries::selection::select_mouths") →
+          ps·2 r·2 (claims· .4) (claims· .5) "mouth_selection::selection::select_mouths") →
           Statement.Triple 𝓤 (Wp.WpFn 𝓤 H (𝓣 .C) (𝓣 .Λ) (Function.fnOf 8 ps r xs m hs body))
           (Function.plainOf 𝓤 H A 8 ps r Pre· Post·)
 
@@ -8824,7 +8824,7 @@ module _ (claims· : Claims) where
             r·2
             (claims· .4)
             (claims· .5)
-            "ramp_boundaries::selection::select_mouths"
+            "mouth_selection::selection::select_mouths"
 
       module _ (κs : Lifetimes.Lfts 8) (qs : Lifetimes.Shares 8) where
         abbrev g16 : List.List Row.Entry
@@ -19304,7 +19304,7 @@ module _ (claims· : Claims) where
               r·2
               (claims· .4)
               (claims· .5)
-              "ramp_boundaries::selection::select_mouths"
+              "mouth_selection::selection::select_mouths"
               (known .2)
               E
               (λ pos β. β)
@@ -27993,7 +27993,7 @@ module _ (claims· : Claims) where
             r·2
             (claims· .4)
             (claims· .5)
-            "ramp_boundaries::selection::select_mouths") where
+            "mouth_selection::selection::select_mouths") where
           pub spec :
               Statement.Triple
               𝓤
