@@ -179,20 +179,35 @@ fn write_cleared_queue(queue: &[u32]) {
 // Fifteen numbers of two bytes each, the lesser byte first, stand before a case's sheet: pass, width and height; how many cells, and how many numbers of spans,
 // boundaries and anchors are passed on; the lengths of the lists that are lent (labels, masks, queue, tallies, pairs, records, output); the length of the sheet.
 pub const PASS: usize = 0;
+
 pub const WIDTH: usize = 1;
+
 pub const HEIGHT: usize = 2;
+
 pub const CELLS: usize = 3;
+
 pub const SPANS: usize = 4;
+
 pub const BOUNDARIES: usize = 5;
+
 pub const ANCHORS: usize = 6;
+
 pub const LABELS: usize = 7;
+
 pub const MASKS: usize = 8;
+
 pub const QUEUE: usize = 9;
+
 pub const TALLIES: usize = 10;
+
 pub const PAIRS: usize = 11;
+
 pub const RECORDS: usize = 12;
+
 pub const OUTPUT: usize = 13;
+
 const SHEET: usize = 14;
+
 const OPENING: usize = 30;
 
 fn byte(b: u8) -> usize
