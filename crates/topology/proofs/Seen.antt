@@ -3,6 +3,13 @@ pub mod collapse_ramp_interiors
 pub mod fill
 pub mod interior_fits
 pub mod judge_interiors
+pub mod kept_boundaries
+pub mod kept_boundaries_here
+pub mod mark_removed
 pub mod put_record
+pub mod put_records
 pub mod record_at
 pub mod remove_junction_boundaries
+pub mod removed_marks
+pub mod replace_ramp_mouths
+pub mod topology_kept_boundaries

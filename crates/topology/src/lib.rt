@@ -1,16 +1,10 @@
 // The functions that see the lent slice of region records. All other work on records is done on them by value.
-ghost use mathlib.Core.Path.{_≡_};
-ghost use Prim.Native.Nat.{_<_};
-ghost use lib.ListN.{length, getD, set};
-ghost use Rattle.definitions.specs.Limits.{maxEntries};
-ghost use Rattle.definitions.specs.Grid.{Map};
-ghost use Rattle.definitions.specs.Context.{Context};
-ghost use Rattle.context.specs.declared.Region.{Region};
-ghost use Rattle.junctions.specs.Rows.{maxProposals};
-ghost use Rattle.interior_regions.specs.Places.{interiorFits};
-ghost use Rattle.topology.specs.Filled.{Fills, Filled};
-ghost use Rattle.topology.specs.Interiors.{Asks, Judges, Collapses, Collapsed};
-ghost use Rattle.topology.specs.Proposals.{Allows, Allowed, Passes, Unmarked, Removes};
+pub mod numbers;
+
+use calls::Prepared;
+use calls::prepare;
+use checks::limits::NUMBERS_PER_BOUNDARY;
+use checks::limits::NUMBERS_PER_SPAN;
 use context::Region;
 use interior_regions::Interior;
 use interior_regions::find_interiors;
@@ -25,10 +19,33 @@ use junction_selection::selection::select_proposals;
 use junctions::proposals::MAX_PROPOSALS;
 use junctions::proposals::NUMBERS_PER_PROPOSAL;
 use junctions::proposals::find_proposals;
+use numbers::NUMBERS_PER_RECORD;
+use numbers::least;
+use numbers::put_numbers;
 use ramp_interiors::fits::reach_of;
 use ramp_interiors::fits::region_fits;
 use stretches::region_from;
 use stretches::walkable_count;
+use views::finish;
+use views::view;
+ghost use mathlib.Core.Path.{_≡_};
+ghost use Prim.Native.Nat.{_≤_, _<_};
+ghost use mathlib.Core.List.{map};
+ghost use lib.ListN.{length, getD, set, replicate};
+ghost use Rattle.definitions.specs.Limits.{maxEntries};
+ghost use Rattle.definitions.specs.Grid.{Map};
+ghost use Rattle.definitions.specs.RegionRecord.{emptyRegion};
+ghost use Rattle.definitions.specs.Context.{Context};
+ghost use Rattle.context.specs.declared.Region.{Region};
+ghost use Rattle.context.specs.Records.{recordOf};
+ghost use Rattle.junctions.specs.Rows.{maxProposals};
+ghost use Rattle.interior_regions.specs.Places.{interiorFits};
+ghost use Rattle.topology.specs.Filled.{Fills, Filled};
+ghost use Rattle.topology.specs.Interiors.{Asks, Judges, Collapses, Collapsed};
+ghost use Rattle.topology.specs.Mouths.{Replaces, NoMarks, Replaced};
+ghost use Rattle.topology.specs.Proposals.{Allows, Allowed, Passes, Unmarked, Removes};
+ghost use Rattle.topology.specs.Marks.{IsPass, Shows, Removed, Lent, MarkedFor};
+ghost use Rattle.topology.specs.Answers.{answerOf, exported, RanOver, RanHere};
 
 // ---- into the slice: no other function reads or stores a record there
 
@@ -72,6 +89,25 @@ pub fn fill(
         i += 1;
     }
 }
+
+// ---- the passes
+
+// Pass 1: marks the boundaries that it removes. No boundary is marked before.
+pub fn replace_ramp_mouths(
+    records: &[Region],
+    count: usize,
+    boundaries: &[u64],
+    tallies: &[u32],
+    pairs: &[u32],
+    starts: &[usize; 257],
+    marks: &mut [u16],
+    counts: &[u32],
+    removed: &mut [bool; 256],
+)
+    requires { ⌜ ((C : Context) × Replaces C (now records) (now boundaries) (now tallies) (now pairs) (now starts) count (now marks) (now counts)) ⌝ }
+    requires { ⌜ NoMarks (now removed) ⌝ }
+    ensures { λ _. ⌜ ((C : Context) → Replaces C (now (records .entry)) (now (boundaries .entry)) (now (tallies .entry)) (now (pairs .entry)) (now (starts .entry)) count (now (marks .entry)) (now (counts .entry)) → Replaced C count (now (removed .exit))) ⌝ }
+{}
 
 // Which of the n proposals of pass 3 the records of their regions allow.
 pub fn allow_proposals(
@@ -231,4 +267,329 @@ pub fn collapse_ramp_interiors(
         count,
         removed,
     );
+}
+
+// Marks the boundaries that the pass removes. Marks and counts, which show anchored regions and incidents, are its to work in.
+pub fn removed_marks(
+    pass: u64,
+    records: &[Region],
+    regions: usize,
+    count: usize,
+    boundaries: &[u64],
+    tallies: &[u32],
+    pairs: &[u32],
+    starts: &[usize; 257],
+    smaller: &[u32; 256],
+    larger: &[u32; 256],
+    marks: &mut [u16],
+    counts: &mut [u32],
+    removed: &mut [bool; 256],
+)
+    requires { ⌜ ((C : Context) × Shows C (now records) regions count (now boundaries) (now tallies) (now pairs) (now starts) (now smaller) (now larger) (now marks) (now counts)) ⌝ }
+    requires { ⌜ IsPass pass × NoMarks (now removed) ⌝ }
+    ensures { λ _. ⌜ ((C : Context) → Shows C (now (records .entry)) regions count (now (boundaries .entry)) (now (tallies .entry)) (now (pairs .entry)) (now (starts .entry)) (now (smaller .entry)) (now (larger .entry)) (now (marks .entry)) (now (counts .entry)) → Removed pass C (now (removed .exit))) ⌝ }
+{
+    if pass == 1 {
+        replace_ramp_mouths(
+            records,
+            count,
+            boundaries,
+            tallies,
+            pairs,
+            starts,
+            marks,
+            counts,
+            removed,
+        );
+        return;
+    }
+    if pass == 2 {
+        collapse_ramp_interiors(
+            records,
+            regions,
+            count,
+            boundaries,
+            tallies,
+            pairs,
+            starts,
+            marks,
+            counts,
+            removed,
+        );
+        return;
+    }
+    remove_junction_boundaries(
+        records,
+        regions,
+        count,
+        boundaries,
+        smaller,
+        larger,
+        counts,
+        marks,
+        removed,
+    );
+}
+
+// Views the partitioned map and marks what the pass removes, where there are as many boundaries as spans, of which there are `count`. The pass is lent as much of masks
+// and queue as there are regions.
+pub fn mark_removed(
+    pass: u64,
+    records: &[Region],
+    width: usize,
+    needed: usize,
+    labels: &[u32],
+    anchors: &[u64],
+    regions: usize,
+    rows: usize,
+    count: usize,
+    boundaries: &[u64],
+    tallies: &[u32],
+    pairs: &[u32],
+    masks: &mut [u16],
+    queue: &mut [u32],
+    removed: &mut [bool; 256],
+)
+    requires { ⌜ ((M : Map) × Lent M (now records) width needed (now labels) (now anchors) regions rows count (now boundaries) (now tallies) (now pairs) (length (now masks)) (length (now queue))) ⌝ }
+    requires { ⌜ IsPass pass × NoMarks (now removed) ⌝ }
+    ensures { λ _. ⌜ ((M : Map) → Lent M (now (records .entry)) width needed (now (labels .entry)) (now (anchors .entry)) regions rows count (now (boundaries .entry)) (now (tallies .entry)) (now (pairs .entry)) (length (now (masks .entry))) (length (now (queue .entry))) → MarkedFor pass M needed count (now (boundaries .entry)) (now (masks .entry)) (now (queue .entry)) (now (masks .exit)) (now (queue .exit)) (now (removed .entry)) (now (removed .exit))) ⌝ }
+{
+    if boundaries.len() / NUMBERS_PER_BOUNDARY != count {
+        return;
+    }
+    let mut starts = [0usize; 257];
+    let mut smaller = [0u32; 256];
+    let mut larger = [0u32; 256];
+    view(
+        width,
+        needed,
+        labels,
+        anchors,
+        regions,
+        rows,
+        count,
+        tallies,
+        pairs,
+        masks,
+        queue,
+        &mut starts,
+        &mut smaller,
+        &mut larger,
+    );
+    removed_marks(
+        pass,
+        records,
+        regions,
+        count,
+        boundaries,
+        tallies,
+        pairs,
+        &starts,
+        &smaller,
+        &larger,
+        &mut masks[..regions],
+        &mut queue[..regions],
+        removed,
+    );
+}
+
+// ---- the call
+
+// How many rows are kept, or a refusal with its number and place.
+pub enum Answer {
+    Kept(usize),
+    Refused(u64, usize),
+}
+
+// The call that runs a pass, as document 01 has it.
+pub fn kept_boundaries(
+    pass: u64,
+    width: u64,
+    height: u64,
+    cells: &[u8],
+    spans: &[u64],
+    boundaries: &[u64],
+    anchors: &[u64],
+    labels: &mut [u32],
+    masks: &mut [u16],
+    queue: &mut [u32],
+    tallies: &mut [u32],
+    pairs: &mut [u32],
+    records: &mut [Region],
+    output: &mut [u64],
+) -> Answer
+    ensures { λ r. ⌜ RanOver pass width height (now (cells .entry)) (now (spans .entry)) (now (boundaries .entry)) (now (anchors .entry)) (now (labels .entry)) (now (masks .entry)) (now (queue .entry)) (now (tallies .entry)) (now (pairs .entry)) (now (records .entry)) (now (output .entry)) (answerOf r) (now (labels .exit)) (now (masks .exit)) (now (queue .exit)) (now (tallies .exit)) (now (pairs .exit)) (now (records .exit)) (now (output .exit)) ⌝ }
+{
+    let room = records.len();
+    let lent = output.len();
+    let prepared = prepare(
+        pass,
+        width,
+        height,
+        cells,
+        spans,
+        boundaries,
+        anchors,
+        room,
+        lent,
+        labels,
+        masks,
+        queue,
+        tallies,
+        pairs,
+    );
+    match prepared {
+        Prepared::Refused(number, place) => Answer::Refused(number, place),
+        Prepared::Ready(regions, rows) => {
+            let columns = width as usize;
+            let needed = height as usize * columns;
+            let mut removed = [false; 256];
+            fill(records, regions, columns, cells, labels, queue);
+            mark_removed(
+                pass,
+                records,
+                columns,
+                needed,
+                labels,
+                anchors,
+                regions,
+                rows,
+                spans.len() / NUMBERS_PER_SPAN,
+                boundaries,
+                tallies,
+                pairs,
+                masks,
+                queue,
+                &mut removed,
+            );
+            let kept = finish(
+                needed,
+                boundaries.len() / NUMBERS_PER_BOUNDARY,
+                boundaries,
+                &removed,
+                masks,
+                queue,
+                output,
+            );
+            Answer::Kept(kept)
+        }
+    }
+}
+
+// The number is 0 and the value how many rows are kept, or they are a refusal's number and place.
+#[repr(C)]
+pub struct TopologyAnswer {
+    pub number: u64,
+    pub value: u64,
+}
+
+// The call, for C and Rust.
+#[no_mangle]
+pub extern "C" fn topology_kept_boundaries(
+    pass: u64,
+    width: u64,
+    height: u64,
+    cells: &[u8],
+    spans: &[u64],
+    boundaries: &[u64],
+    anchors: &[u64],
+    labels: &mut [u32],
+    masks: &mut [u16],
+    queue: &mut [u32],
+    tallies: &mut [u32],
+    pairs: &mut [u32],
+    records: &mut [Region],
+    output: &mut [u64],
+) -> TopologyAnswer
+    ensures { λ r. ⌜ RanOver pass width height (now (cells .entry)) (now (spans .entry)) (now (boundaries .entry)) (now (anchors .entry)) (now (labels .entry)) (now (masks .entry)) (now (queue .entry)) (now (tallies .entry)) (now (pairs .entry)) (now (records .entry)) (now (output .entry)) (exported r) (now (labels .exit)) (now (masks .exit)) (now (queue .exit)) (now (tallies .exit)) (now (pairs .exit)) (now (records .exit)) (now (output .exit)) ⌝ }
+{
+    let answer = kept_boundaries(
+        pass,
+        width,
+        height,
+        cells,
+        spans,
+        boundaries,
+        anchors,
+        labels,
+        masks,
+        queue,
+        tallies,
+        pairs,
+        records,
+        output,
+    );
+    match answer {
+        Answer::Kept(rows) => TopologyAnswer {
+            number: 0,
+            value: rows as u64,
+        },
+        Answer::Refused(number, place) => TopologyAnswer {
+            number,
+            value: place as u64,
+        },
+    }
+}
+
+// ---- the call with records of its own
+
+// Records for 512 regions.
+fn empty_records() -> [Region; 512]
+    ensures { λ r. ⌜ map recordOf r ≡ replicate 512 emptyRegion ⌝ }
+{
+    let empty = Region::empty();
+    [empty; 512]
+}
+
+// Writes the records in numbers, as many as there is room for.
+fn put_records(records: &[Region], numbers: &mut [u64]) {
+    let count = least(records.len(), numbers.len() / NUMBERS_PER_RECORD);
+    let mut i = 0;
+    while i < count {
+        let r = record_at(records, i);
+        put_numbers(numbers, NUMBERS_PER_RECORD * i, r);
+        i += 1;
+    }
+}
+
+// The call with `room` records, which are empty at entry and, as far as there is room, written in numbers at the end: for callers that lend plain lists alone.
+pub fn kept_boundaries_here(
+    pass: u64,
+    width: u64,
+    height: u64,
+    cells: &[u8],
+    spans: &[u64],
+    boundaries: &[u64],
+    anchors: &[u64],
+    labels: &mut [u32],
+    masks: &mut [u16],
+    queue: &mut [u32],
+    tallies: &mut [u32],
+    pairs: &mut [u32],
+    room: usize,
+    output: &mut [u64],
+    numbers: &mut [u64],
+) -> Answer
+    requires { ⌜ room ≤ 512 ⌝ }
+    ensures { λ r. ⌜ RanHere pass width height (now (cells .entry)) (now (spans .entry)) (now (boundaries .entry)) (now (anchors .entry)) room (now (labels .entry)) (now (masks .entry)) (now (queue .entry)) (now (tallies .entry)) (now (pairs .entry)) (now (output .entry)) (answerOf r) (now (labels .exit)) (now (masks .exit)) (now (queue .exit)) (now (tallies .exit)) (now (pairs .exit)) (now (output .exit)) ⌝ }
+{
+    let mut records: [Region; 512] = empty_records();
+    let answer = kept_boundaries(
+        pass,
+        width,
+        height,
+        cells,
+        spans,
+        boundaries,
+        anchors,
+        labels,
+        masks,
+        queue,
+        tallies,
+        pairs,
+        &mut records[..room],
+        output,
+    );
+    put_records(&records[..room], numbers);
+    answer
 }

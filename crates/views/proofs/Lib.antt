@@ -1,4 +1,4 @@
-mod Viewing
+pub mod Viewing
 mod Tallies
 pub mod AfterChecks
 pub mod AfterPartition

@@ -1,12 +1,13 @@
--- What the parts of `view` ask holds of the partitioned lists, and what they leave shows the context: marks and counts are made from zeros, and reach no further than there
--- are regions, of which a map has no more than cells. Assumes nothing.
-use Prim.Native.Nat.{ℕ, _+_, _-_, _*_, _/_, _≤_, _<_}
+-- What the parts of `view` ask holds of the partitioned lists, and what they leave shows the context: marks and counts are made from zeros, by ones alone in the marks, and
+-- reach no further than there are regions, of which a map has no more than cells. Assumes nothing.
+use Prim.Native.Nat.{ℕ, zero, suc, _+_, _-_, _*_, _/_, _≤_, _<_}
 use native.Mathlib.Omega.{arith}
 use mathlib.Core.Path.{_≡_, refl, sym, ap, _∙_, subst}
-use mathlib.Core.Bool.{Bool, true, false}
-use mathlib.Core.List.{List}
-use lib.ListN.{length, getD, drop, length-append}
+use mathlib.Core.Bool.{Bool, true, false, cond}
+use mathlib.Core.List.{List, [], _∷_}
+use lib.ListN.{length, getD, set, drop, length-append}
 use lib.Seq.{drop-drop}
+use lib.Dec.{eqb}
 use Rattle.definitions.specs.Limits.{maxEntries, numbersPerAnchor, numbersPerPair, talliesPerSpan}
 use Rattle.definitions.specs.Lists.{zeroed}
 use Rattle.definitions.specs.Grid.{Map, cellCount}
@@ -17,12 +18,12 @@ use Rattle.laws.specs.ListLaws.Lists.{All, all-run}
 use Rattle.laws.specs.RegionLaws.Regions.{label-range, label-blocked}
 use Rattle.flood.proofs.Used.{count-le}
 use Rattle.areas.proofs.Labelling.{zeroed-at, zeroed-rest}
-use Rattle.context.specs.Anchors.{anchorCell, anchorCells, markCells, AnchorsFit}
+use Rattle.context.specs.Anchors.{anchorCell, anchorCells, markLabel, markCells, AnchorsFit}
 use Rattle.context.specs.AnchorLaws.{marked-beyond, marked-shown}
 use Rattle.context.specs.Rows.{Stretch, NamedRows, Beyond}
 use Rattle.context.specs.Shown.{ShownTallies, ShownPairs, ShownFullPairs, ShownAnchored, ShownIncidents}
 use Rattle.context.specs.ShownLaws.{shown-stretch, shown-rows}
-use Rattle.views.specs.Viewed.{Partitioned, Viewed}
+use Rattle.views.specs.Viewed.{Partitioned, FreshMarks, Viewed}
 
 module _ (M : Map) where
   -- no more regions than cells
@@ -36,6 +37,23 @@ module _ (M : Map) where
       go : (b : Bool) → walkableAt M c ≡ b → getD (labels M) c 0 ≤ regionCount M
       go true e = label-range M c l e .1
       go false e = omega (arith, label-blocked M c l e)
+
+-- marking an entry leaves all below 2
+set-fresh : (marks : List ℕ) (i k : ℕ) → getD marks k 0 < 2 → getD (set marks i 1) k 0 < 2
+set-fresh [] i k h = h
+set-fresh (x ∷ l) zero zero h = omega arith
+set-fresh (x ∷ l) zero (suc k) h = h
+set-fresh (x ∷ l) (suc i) zero h = h
+set-fresh (x ∷ l) (suc i) (suc k) h = set-fresh l i k h
+
+cells-fresh : (ls marks cs : List ℕ) (k : ℕ) → getD marks k 0 < 2 → getD (markCells ls marks cs) k 0 < 2
+unfolding markCells
+cells-fresh ls marks [] k h = h
+cells-fresh ls marks (c ∷ cs) k h = cells-fresh ls (markLabel marks (getD ls c 0)) cs k (one (eqb (getD ls c 0) 0))
+  where
+    one : (b : Bool) → getD (cond b marks (set marks (getD ls c 0 - 1) 1)) k 0 < 2
+    one true = h
+    one false = set-fresh marks (getD ls c 0 - 1) k h
 
 module _ (M : Map) {w needed : ℕ} {ls anchors : List ℕ} {regions rows count : ℕ} {tallies pairs : List ℕ} {masks queue : ℕ} (P : Partitioned M w needed ls anchors regions rows count tallies pairs masks queue) where
   abbrev C : Context
@@ -106,6 +124,12 @@ module _ (M : Map) {w needed : ℕ} {ls anchors : List ℕ} {regions rows count 
         kept : Beyond needed m₁ (markCells ls m₁ (anchorCells w anchors (length anchors / numbersPerAnchor)))
         kept = marked-beyond ls needed m₁ (anchorCells w anchors (length anchors / numbersPerAnchor)) (cells-all (λ i l. omega (arith, anchor-label i l, P .cells)))
 
+    marks-fresh : m′ ≡ markCells ls m₁ (anchorCells w anchors (length anchors / numbersPerAnchor)) → FreshMarks C m′
+    unfolding contextOf
+    marks-fresh e r a l =
+        subst (λ z. getD z (r - 1) 0 < 2) (sym e)
+        (cells-fresh ls m₁ (anchorCells w anchors (length anchors / numbersPerAnchor)) (r - 1) (omega (arith, zeros m em (r - 1) (omega (arith, a, l, P .regionsAre)))))
+
     pub viewed : (q : List ℕ) {q₁ q′ starts smaller larger : List ℕ} → q₁ ≡ zeroed needed q → length q₁ ≡ length q →
         ShownPairs C pairs starts → (C .count ≡ count → ShownTallies C tallies → ShownPairs C pairs starts → ShownFullPairs C smaller larger) → m′ ≡ markCells ls m₁ (anchorCells w anchors (length anchors / numbersPerAnchor))
         → (C .count ≡ count → C .regions ≡ regions → ShownPairs C pairs starts → ShownIncidents C q′) → Beyond regions q₁ q′ → Viewed M needed pairs m q m′ q′ starts smaller larger
@@ -115,6 +139,7 @@ module _ (M : Map) {w needed : ℕ} {ls anchors : List ℕ} {regions rows count 
           shownPairs = S;
           shownFull = F (P .paired .counted) (P .tallied) S;
           shownAnchored = marks-are e .0;
+          fresh = marks-fresh e;
           shownIncidents = I (P .paired .counted) (sym (P .regionsAre)) S;
           masks = marks-are e .1;
           queue = record { long = B .long ∙ lq; rest = further regions q₁ q′ regions-within (B .rest) ∙ ap (drop needed) eq ∙ zeroed-rest needed q };

@@ -1,5 +1,5 @@
 -- The words of the contract of `view`. Definitions only; assumes nothing.
-use Prim.Native.Nat.{ℕ, _+_, _*_, _/_, _≤_, _<_}
+use Prim.Native.Nat.{ℕ, _+_, _-_, _*_, _/_, _≤_, _<_}
 use mathlib.Core.Path.{_≡_}
 use mathlib.Core.List.{List}
 use lib.ListN.{length, getD}
@@ -7,7 +7,7 @@ use Rattle.definitions.specs.Limits.{maxSide, numbersPerAnchor}
 use Rattle.definitions.specs.Grid.{Map, cellCount}
 use Rattle.definitions.specs.Partition.{regionCount}
 use Rattle.definitions.specs.Partition as partition
-use Rattle.definitions.specs.Context.{contextOf}
+use Rattle.definitions.specs.Context.{Context, contextOf}
 use Rattle.context.specs.Anchors.{anchorCell, anchorCells}
 use Rattle.context.specs.Rows.{PairRows, Beyond}
 use Rattle.context.specs.Shown.{ShownTallies, ShownPairs, ShownFullPairs, ShownAnchored, ShownIncidents}
@@ -29,11 +29,16 @@ pub record Partitioned (M : Map) (w needed : ℕ) (labels anchors : List ℕ) (r
   pub masksLong : cellCount M ≤ masks
   pub queueLong : cellCount M ≤ queue
 
+-- a region's mark says no more than that it is anchored
+abbrev pub FreshMarks : Context → List ℕ → Type 0
+FreshMarks C marks = (r : ℕ) → 1 ≤ r → r ≤ C .regions → getD marks (r - 1) 0 < 2
+
 -- the context of M as lists: masks m and queue q have become m′ and q′, which are as they were beyond the needed length
 pub record Viewed (M : Map) (needed : ℕ) (pairs m q m′ q′ starts smaller larger : List ℕ) : Type 0 where
   pub shownPairs : ShownPairs (contextOf M) pairs starts
   pub shownFull : ShownFullPairs (contextOf M) smaller larger
   pub shownAnchored : ShownAnchored (contextOf M) m′
+  pub fresh : FreshMarks (contextOf M) m′
   pub shownIncidents : ShownIncidents (contextOf M) q′
   pub masks : Beyond needed m m′
   pub queue : Beyond needed q q′

@@ -1,0 +1,54 @@
+-- The contract of the call, as the exported call and the call with records of its own have it. Assumes nothing.
+use Prim.Native.Nat.{ℕ, zero, suc, _≤_}
+use native.Mathlib.Omega.{arith}
+use mathlib.Core.Path.{_≡_, refl, sym, ap, _∙_, subst}
+use mathlib.Core.List.{List, [], _∷_, _++_, map}
+use lib.ListN.{length, take, replicate, length-replicate, length-map, length-append}
+use lib.Seq.{length-take-le}
+use Rattle.definitions.specs.RegionRecord.{emptyRegion}
+use Rattle.definitions.specs.Verdict as verdict
+use Rattle.context.specs.declared.Region.{Region}
+use Rattle.context.specs.Records.{recordOf}
+use Rattle.calls.specs.Contract.{given, Ran}
+use Rattle.topology.specs.declared.Answer.{Answer}
+use Rattle.topology.specs.Answers.{answerOf, RanOver, RanHere}
+
+-- ---- records that are all alike
+
+module _ {A B : Type 0} (f : A → B) where
+  pub map-replicate : (n : ℕ) (a : A) → map f (replicate n a) ≡ replicate n (f a)
+  map-replicate zero a = refl
+  map-replicate (suc n) a = ap {B = List B} (λ l. f a ∷ l) (map-replicate n a)
+
+  map-take : (n : ℕ) (l : List A) → map f (take n l) ≡ take n (map f l)
+  map-take zero l = refl
+  map-take (suc n) [] = refl
+  map-take (suc n) (x ∷ l) = ap {B = List B} (λ r. f x ∷ r) (map-take n l)
+
+take-replicate : {A : Type 0} (n k : ℕ) (a : A) → n ≤ k → take n (replicate k a) ≡ replicate n a
+take-replicate zero k a h = refl
+take-replicate (suc n) zero a h = absurd (omega arith)
+take-replicate {A} (suc n) (suc k) a h = ap {B = List A} (λ l. a ∷ l) (take-replicate n k a (omega arith))
+
+pub first-empty : (n k : ℕ) (s : List Region) → n ≤ k → map recordOf s ≡ replicate k emptyRegion → map recordOf (take n s) ≡ replicate n emptyRegion
+first-empty n k s h e = map-take recordOf n s ∙ ap (take n) e ∙ take-replicate n k emptyRegion h
+
+pub lent-long : (n k : ℕ) (s : List Region) → n ≤ k → map recordOf s ≡ replicate k emptyRegion → n ≡ length (take n s)
+lent-long n k s h e = sym (length-replicate n emptyRegion) ∙ ap length (sym (first-empty n k s h e)) ∙ length-map (take n s) recordOf
+
+-- the part that was lent, with what stands behind it
+pub behind-long : (n : ℕ) (a b : List Region) → n ≡ length a → n ≤ length (a ++ b)
+behind-long n a b e = omega (arith, e, length-append a b)
+
+pub still-long : (n : ℕ) (a b : List Region) → n ≡ length a → n ≡ length (take n (a ++ b))
+still-long n a b e = sym (length-take-le n (a ++ b) (behind-long n a b e))
+
+-- ---- the contract
+
+module _ {pass w h : ℕ} {cells spans boundaries anchors l m q t p : List ℕ} {s : List Region} {o l′ m′ q′ t′ p′ : List ℕ} {s′ : List Region} {o′ : List ℕ} where
+  -- by the case of the answer
+  pub answered : {r v : Answer} → RanOver pass w h cells spans boundaries anchors l m q t p s o (answerOf r) l′ m′ q′ t′ p′ s′ o′ → r ≡ v → RanOver pass w h cells spans boundaries anchors l m q t p s o (answerOf v) l′ m′ q′ t′ p′ s′ o′
+  answered a e = subst (λ r. RanOver pass w h cells spans boundaries anchors l m q t p s o (answerOf r) l′ m′ q′ t′ p′ s′ o′) e a
+
+  pub ran-here : {a : verdict.Answer} (room : ℕ) → RanOver pass w h cells spans boundaries anchors l m q t p s o a l′ m′ q′ t′ p′ s′ o′ → map recordOf s ≡ replicate room emptyRegion → RanHere pass w h cells spans boundaries anchors room l m q t p o a l′ m′ q′ t′ p′ o′
+  ran-here {a} room r e = (map recordOf s′, subst (λ k. Ran (given pass w h cells spans boundaries anchors l m q t p k o) a l′ m′ q′ t′ p′ (map recordOf s′) o′) e (r .ran))

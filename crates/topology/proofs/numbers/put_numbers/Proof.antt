@@ -1,0 +1,52 @@
+-- `topology::numbers::put_numbers` meets its contract. The loop's invariant: the list is as long as it was. Assumes nothing.
+use Prim.Native.Nat.{_-_, _≤_}
+use mathlib.Core.Path.{_≡_}
+use lib.ListN.{length}
+use borrow.Author.Needs.{needs}
+use Rattle.topology.proofs.numbers.put_numbers.Statement.{statement}
+use Rattle.topology.proofs.numbers.put_numbers.Tie as tie
+
+abbrev Inv-loop : tie.InvT-loop
+Inv-loop numbers₀ at n i₀ numbers i = (i ≤ 11) × (length numbers ≡ length numbers₀)
+
+abbrev μ-loop : tie.MeasureT-loop
+μ-loop numbers₀ at n i₀ numbers i = 11 - i
+
+numbers-of-requires : tie.Need-numbers-of-requires Inv-loop μ-loop
+numbers-of-requires c κs = search needs
+
+loop-holds : tie.Need-loop-holds Inv-loop μ-loop
+loop-holds c = search needs
+
+mul-numbers : tie.Need-mul-numbers Inv-loop μ-loop
+mul-numbers c = search needs
+
+array-read-numbers : tie.Need-array-read-numbers Inv-loop μ-loop
+array-read-numbers c = search needs
+
+add-numbers : tie.Need-add-numbers Inv-loop μ-loop
+add-numbers c = search needs
+
+mul-numbers-2 : tie.Need-mul-numbers-2 Inv-loop μ-loop
+mul-numbers-2 c = search needs
+
+slice-write-numbers : tie.Need-slice-write-numbers Inv-loop μ-loop
+slice-write-numbers c = search needs
+
+add-i : tie.Need-add-i Inv-loop μ-loop
+add-i c = search needs
+
+loop-less : tie.Need-loop-less Inv-loop μ-loop
+loop-less c = search needs
+
+loop-again : tie.Need-loop-again Inv-loop μ-loop
+loop-again c = search needs
+
+same-length : tie.Need-same-length Inv-loop μ-loop
+same-length c = search needs
+
+returns : tie.Need-returns Inv-loop μ-loop
+returns c = search needs
+
+pub put-numbers-spec : {M : Type 1} → statement M
+put-numbers-spec = tie.close (tie.spec Inv-loop μ-loop numbers-of-requires loop-holds mul-numbers array-read-numbers add-numbers mul-numbers-2 slice-write-numbers add-i loop-less loop-again same-length returns)
