@@ -3,8 +3,8 @@
 use std::path::PathBuf;
 use std::{env, fs};
 
-/// The crates that export functions for other languages, as they come.
-const NAMES: [&str; 1] = ["jenwyllt"];
+/// The crates that export functions for other languages.
+const NAMES: [&str; 2] = ["jenwyllt", "topology"];
 
 fn main() {
     println!("cargo::rerun-if-changed=build.rs");

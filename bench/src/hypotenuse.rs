@@ -2,7 +2,7 @@
 
 use crate::maps::Random;
 use crate::ours;
-use crate::timing::time;
+use crate::timing::{time, timed};
 use oracle::hypotenuse::rounded;
 use std::ffi::{CStr, c_char, c_int, c_long, c_ulong, c_void};
 use std::hint::black_box;
@@ -16,8 +16,8 @@ pub fn run(budget: Duration) {
     let mpfr = Mpfr::load();
     for (name, pairs) in [("half pixels, as in the passes", pixels()), ("any in range", doubles())] {
         let each = |call: &dyn Fn(f64, f64) -> f64| {
-            let least = time(budget, || pairs.iter().map(|(x, y)| call(black_box(*x), black_box(*y))).sum::<f64>()).least;
-            least.as_secs_f64() * 1e9 / PAIRS as f64
+            let sum = || pairs.iter().map(|(x, y)| call(black_box(*x), black_box(*y))).sum::<f64>();
+            time(budget, &mut [timed(sum)])[0].least.as_secs_f64() * 1e9 / PAIRS as f64
         };
         let differing = |call: &dyn Fn(f64, f64) -> f64| {
             pairs.iter().filter(|(x, y)| call(*x, *y).to_bits() != rounded(*x, *y).to_bits()).count()

@@ -3,14 +3,19 @@
 mod hypotenuse;
 mod maps;
 mod ours;
+mod stack;
 mod timing;
 
 use maps::Named;
+use oracle::SpanPartition;
 use oracle::sheet::Map;
 use oracle::table::check_pass;
-use oracle::topology::harness::{self, Answer, Original, Room, row};
+use oracle::topology::harness::{self, Answer, Context, Original, Room, row};
+use std::cell::RefCell;
 use std::time::Duration;
-use timing::{Timing, micros, time};
+use timing::{Timed, Timing, micros, time, timed};
+
+const PASSES: [u64; 3] = [1, 2, 3];
 
 fn main() {
     let arguments: Vec<String> = std::env::args().skip(1).collect();
@@ -30,6 +35,9 @@ fn main() {
     if wanted("hypotenuse") {
         hypotenuse::run(budget);
     }
+    if wanted("stack") {
+        stack::run();
+    }
 }
 
 fn passes(Named { name, about, map }: &Named, budget: Duration) {
@@ -37,52 +45,83 @@ fn passes(Named { name, about, map }: &Named, budget: Duration) {
     let original = Original::new(map);
     let partition = original.partition();
     let context = original.context(&partition);
+    let regions = partition.areas().len();
     let pairs: usize = partition.boundaries().iter().map(|entry| entry.region_pairs.len()).sum();
     let count = map.boundaries.len() / 9;
-    let kept = [1, 2, 3].map(|pass| original.pass(pass, &context).len());
+    let kept = PASSES.map(|pass| original.pass(pass, &context).len());
     println!(
-        "\n{name}: {about}; {} by {} cells, {} regions, {pairs} pair rows, {count} boundaries, kept by pass {} {} {}\n",
-        map.width,
-        map.height,
-        partition.areas().len(),
-        kept[0],
-        kept[1],
-        kept[2],
+        "\n{name}: {about}; {} by {} cells, {regions} regions, {pairs} pair rows, {count} boundaries, kept by pass {} {} {}\n",
+        map.width, map.height, kept[0], kept[1], kept[2],
     );
     println!("{:<22} {:>12} {:>12} {:>12} {:>12} {:>7}", "", "Rust least", "middle", "ours least", "middle", "ratio");
 
-    let mut lent = ours::Lent::new(map, pairs);
-    let rust = time(budget, || original.partition());
-    let own = ours::partition().map(|call| {
-        let timing = time(budget, || call(map, &mut lent));
-        let answer = call(map, &mut lent);
-        if !is_like(map, &lent, answer) {
-            println!("the regions, tallies or pairs below are unlike the Rust's:");
-        }
-        timing
-    });
-    line("partition", &rust, own.as_ref());
-    line("context", &time(budget, || original.context(&partition)), None);
-    for pass in 1..=3 {
-        line(&format!("pass {pass} alone"), &time(budget, || original.pass(pass, &context)), None);
+    // Without boundaries a call is the partition and the records: no pass runs where there are not as many boundaries as spans.
+    let bare = Map { boundaries: vec![], ..map.clone() };
+    let maps = PASSES.map(|pass| Map { pass, ..map.clone() });
+    let lent = RefCell::new(ours::Lent::new(map, regions, pairs));
+    let mut calls = rust_calls(&original, &partition, &context);
+    let steps = calls.len();
+    calls.extend(own_call(ours::partition(), map, &lent));
+    calls.extend([&bare].into_iter().chain(&maps).filter_map(|map| own_call(ours::kept_boundaries(), map, &lent)));
+    let times = time(budget, &mut calls);
+    drop(calls);
+
+    compare(map, &mut lent.into_inner(), &original, &context);
+    let (rust, own) = times.split_at(steps);
+    print(rust, own);
+}
+
+/// The partition, the context, each pass alone, and with each the whole call.
+fn rust_calls<'a>(original: &'a Original, partition: &'a SpanPartition, context: &'a Context) -> Vec<Timed<'a>> {
+    let mut calls = vec![timed(|| original.partition()), timed(|| original.context(partition))];
+    calls.extend(PASSES.map(|pass| timed(move || original.pass(pass, context))));
+    calls.extend(PASSES.map(|pass| timed(move || whole(original, pass))));
+    calls
+}
+
+fn own_call<'a>(call: Option<ours::Call>, map: &'a Map, lent: &'a RefCell<ours::Lent>) -> Option<Timed<'a>> {
+    call.map(|call| timed(move || call(map, &mut lent.borrow_mut())))
+}
+
+/// The Rust's steps of a call that runs a pass.
+fn whole(original: &Original, pass: u64) -> usize {
+    let partition = original.partition();
+    let context = original.context(&partition);
+    original.pass(pass, &context).len()
+}
+
+/// The lines of a map. Our records and passes alone are what a call takes more with them than without: the partition, the call without
+/// boundaries and the call with each pass stand in this order.
+fn print(rust: &[Timing], own: &[Timing]) {
+    let more = |call: usize, than: usize| own.get(call).map(|call| call.less(own[than]));
+    line("partition", &rust[0], own.first());
+    line("context", &rust[1], more(1, 0).as_ref());
+    for pass in 0..PASSES.len() {
+        line(&format!("pass {} alone", pass + 1), &rust[2 + pass], more(2 + pass, 1).as_ref());
     }
-    for pass in 1..=3 {
-        let rust = time(budget, || {
-            let partition = original.partition();
-            let context = original.context(&partition);
-            original.pass(pass, &context)
-        });
-        let map = Map { pass, ..map.clone() };
-        let own = ours::kept_boundaries().map(|call| {
-            let timing = time(budget, || call(&map, &mut lent));
-            let rows: Vec<u64> = original.pass(pass, &context).iter().flat_map(row).collect();
-            let kept = call(&map, &mut lent) == (0, rows.len() as u64 / 5) && lent.output.starts_with(&rows);
-            if !kept {
-                println!("the rows below are unlike the Rust's with the C library's hypot:");
-            }
-            timing
-        });
-        line(&format!("whole call, pass {pass}"), &rust, own.as_ref());
+    for pass in 0..PASSES.len() {
+        line(&format!("whole call, pass {}", pass + 1), &rust[2 + PASSES.len() + pass], own.get(2 + pass));
+    }
+}
+
+/// Says what of ours is unlike the Rust's.
+fn compare(map: &Map, lent: &mut ours::Lent, original: &Original, context: &Context) {
+    if let Some(call) = ours::partition() {
+        let answer = call(map, lent);
+        if !is_like(map, lent, answer) {
+            println!("the regions, tallies or pairs are unlike the Rust's");
+        }
+    }
+    let Some(call) = ours::kept_boundaries() else { return };
+    for pass in PASSES {
+        let rows: Vec<u64> = original.pass(pass, context).iter().flat_map(row).collect();
+        let answer = call(&Map { pass, ..map.clone() }, lent);
+        if answer != (0, rows.len() as u64 / 5) || !lent.output.starts_with(&rows) {
+            println!("the rows of pass {pass} are unlike the Rust's with the C library's hypot");
+        }
+    }
+    if harness::records(context) != lent.records.iter().map(ours::Region::record).collect::<Vec<_>>() {
+        println!("the records are unlike the Rust's");
     }
 }
 

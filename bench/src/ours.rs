@@ -4,8 +4,32 @@
 //! plain function that calls it. A lent slice goes as a pointer and a length.
 
 use oracle::sheet::Map;
+use oracle::topology::harness::Record;
 
-#[allow(dead_code)] // Read by the calls that are to come.
+/// The record of a region, as the library's header lays it out.
+#[repr(C)]
+#[derive(Clone, Copy, Default)]
+pub struct Region {
+    pub cells: usize,
+    pub edges: [f64; 4],
+    pub has_ramp: bool,
+    pub elevations: u8,
+    pub elevation_counts: [usize; 4],
+}
+
+impl Region {
+    /// As the oracle has it.
+    pub fn record(&self) -> Record {
+        Record {
+            cells: self.cells as u64,
+            edges: self.edges.map(f64::to_bits),
+            ramp: self.has_ramp,
+            mask: self.elevations,
+            counts: self.elevation_counts.map(|count| count as u64),
+        }
+    }
+}
+
 /// The lists that the caller of a pass lends, made once and used again at each call.
 pub struct Lent {
     pub labels: Vec<u32>,
@@ -13,38 +37,45 @@ pub struct Lent {
     pub queue: Vec<u32>,
     pub tallies: Vec<u32>,
     pub pairs: Vec<u32>,
+    pub records: Vec<Region>,
     pub output: Vec<u64>,
 }
 
 impl Lent {
-    pub fn new(map: &Map, pair_rows: usize) -> Self {
+    pub fn new(map: &Map, regions: usize, pair_rows: usize) -> Self {
         Self {
             labels: vec![0; map.cells.len()],
             masks: vec![0; map.cells.len()],
             queue: vec![0; map.cells.len()],
             tallies: vec![0; map.spans.len() / 2],
             pairs: vec![0; 3 * pair_rows],
+            records: vec![Region::default(); regions],
             output: vec![0; 5 * 256],
         }
     }
+}
+
+/// A call of ours on a map, with lists lent to it.
+pub type Call = fn(&Map, &mut Lent) -> Outcome;
+
+/// As both libraries answer.
+#[cfg(any(ours = "jenwyllt", ours = "topology"))]
+#[repr(C)]
+struct Answer {
+    number: u64,
+    value: u64,
 }
 
 /// Number and value, as in document 01.
 pub type Outcome = (u64, u64);
 
 #[cfg(not(ours = "jenwyllt"))]
-pub fn partition() -> Option<fn(&Map, &mut Lent) -> Outcome> {
+pub fn partition() -> Option<Call> {
     None
 }
 
 #[cfg(ours = "jenwyllt")]
-pub fn partition() -> Option<fn(&Map, &mut Lent) -> Outcome> {
-    #[repr(C)]
-    struct Answer {
-        number: u64,
-        value: u64,
-    }
-
+pub fn partition() -> Option<Call> {
     unsafe extern "C" {
         fn jenwyllt_partition(
             width: u64,
@@ -92,9 +123,77 @@ pub fn partition() -> Option<fn(&Map, &mut Lent) -> Outcome> {
     })
 }
 
-/// Runs the map's pass; the region records are the caller's too, in the layout of the library's header.
-pub fn kept_boundaries() -> Option<fn(&Map, &mut Lent) -> Outcome> {
+#[cfg(not(ours = "topology"))]
+pub fn kept_boundaries() -> Option<Call> {
     None
+}
+
+/// Runs the map's pass.
+#[cfg(ours = "topology")]
+pub fn kept_boundaries() -> Option<Call> {
+    unsafe extern "C" {
+        fn topology_kept_boundaries(
+            pass: u64,
+            width: u64,
+            height: u64,
+            cells: *const u8,
+            cells_length: usize,
+            spans: *const u64,
+            spans_length: usize,
+            boundaries: *const u64,
+            boundaries_length: usize,
+            anchors: *const u64,
+            anchors_length: usize,
+            labels: *mut u32,
+            labels_length: usize,
+            masks: *mut u16,
+            masks_length: usize,
+            queue: *mut u32,
+            queue_length: usize,
+            tallies: *mut u32,
+            tallies_length: usize,
+            pairs: *mut u32,
+            pairs_length: usize,
+            records: *mut Region,
+            records_length: usize,
+            output: *mut u64,
+            output_length: usize,
+        ) -> Answer;
+    }
+
+    Some(|map, lent| {
+        // SAFETY: each list is lent by its own vector, as pointer and length, and nothing else touches them during the call.
+        let answer = unsafe {
+            topology_kept_boundaries(
+                map.pass,
+                map.width,
+                map.height,
+                map.cells.as_ptr(),
+                map.cells.len(),
+                map.spans.as_ptr(),
+                map.spans.len(),
+                map.boundaries.as_ptr(),
+                map.boundaries.len(),
+                map.anchors.as_ptr(),
+                map.anchors.len(),
+                lent.labels.as_mut_ptr(),
+                lent.labels.len(),
+                lent.masks.as_mut_ptr(),
+                lent.masks.len(),
+                lent.queue.as_mut_ptr(),
+                lent.queue.len(),
+                lent.tallies.as_mut_ptr(),
+                lent.tallies.len(),
+                lent.pairs.as_mut_ptr(),
+                lent.pairs.len(),
+                lent.records.as_mut_ptr(),
+                lent.records.len(),
+                lent.output.as_mut_ptr(),
+                lent.output.len(),
+            )
+        };
+        (answer.number, answer.value)
+    })
 }
 
 #[cfg(not(ours = "jenwyllt"))]
