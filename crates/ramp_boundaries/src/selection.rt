@@ -135,7 +135,7 @@ fn entry_left(
 }
 
 // A byte as a number.
-fn index(x: u8) -> usize
+pub fn index(x: u8) -> usize
     ensures { λ r. ⌜ (r ≡ x) × (r < 256) ⌝ }
 {
     x as usize

@@ -1,3 +1,4 @@
 mod BeforeCall
 mod AfterCall
-pub mod Whole
+mod Whole
+mod Ran

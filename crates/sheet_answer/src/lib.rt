@@ -1,13 +1,18 @@
-// From the bytes of a sheet to what `keptlist` prints, but for the call that runs a pass: what is read and answered before it, and what is printed of its
-// answer.
+// From the bytes of a sheet to what `keptlist` prints: what is read and answered before the call that runs a pass, what is printed of its answer, and the
+// whole. The lists that are lent to the call are local arrays of zeros.
+ghost use mathlib.Core.Path.{_≡_};
 ghost use Prim.Native.Nat.{_≤_};
 ghost use lib.ListN.{length};
-ghost use Rattle.sheet_answer.specs.Answers.{outRoom, keptlistReading, ListsLong, Begun, RowsFit, AnswerPrinted};
+ghost use Rattle.definitions.specs.Sheet.{wellFormed};
+ghost use Rattle.definitions.specs.Printed as printing;
+ghost use Rattle.printed.specs.Answers.{Printed};
+ghost use Rattle.sheet_answer.specs.Answers.{outRoom, keptlistReading, ListsLong, Begun, RowsFit, AnswerPrinted, sheetFrom, sheetIn, Inside, SheetHeld};
 use printed::print_kept;
 use printed::print_refused;
 use sheet::Answer;
 use sheet::Header;
 use sheet::read_within;
+use topology::kept_boundaries_here;
 
 const SHEET_BYTES_MOST: usize = 65_536;
 
@@ -63,4 +68,137 @@ pub fn print(number: u64, value: u64, output: &[u64], count: usize, out: &mut [u
     } else {
         print_refused(&mut *out, number, value)
     }
+}
+
+// ---- the whole
+
+const REGIONS_MOST: usize = 512;
+
+const SPAN_SIZE: usize = 4;
+
+const BOUNDARY_SIZE: usize = 9;
+
+const ANCHOR_SIZE: usize = 2;
+
+// Runs the pass on a sheet and prints what it keeps, or why it is refused. There is no room for a record in `numbers`: none is printed.
+fn answer(
+    pass: u64,
+    width: u64,
+    height: u64,
+    cells: &[u8],
+    spans: &[u64],
+    boundaries: &[u64],
+    anchors: &[u64],
+    out: &mut [u8],
+) -> usize
+    requires { ⌜ outRoom ≤ length (now out) ⌝ }
+    ensures { λ r. ⌜ Printed (printing.printedReading (wellFormed (sheetFrom pass width height (now (cells .entry)) (now (spans .entry)) (now (boundaries .entry)) (now (anchors .entry))))) (now (out .entry)) (now (out .exit)) r ⌝ }
+{
+    let mut labels = [0u32; 4096];
+    let mut masks = [0u16; 4096];
+    let mut queue = [0u32; 4096];
+    let mut tallies = [0u32; 512];
+    let mut pairs = [0u32; 6144];
+    let mut output = [0u64; 1280];
+    let mut numbers = [0u64; 1];
+    let count = boundaries.len() / BOUNDARY_SIZE;
+    match kept_boundaries_here(
+        pass,
+        width,
+        height,
+        cells,
+        spans,
+        boundaries,
+        anchors,
+        &mut labels,
+        &mut masks,
+        &mut queue,
+        &mut tallies,
+        &mut pairs,
+        REGIONS_MOST,
+        &mut output,
+        &mut numbers,
+    ) {
+        topology::Answer::Kept(kept) => print(0, kept as u64, &output, count, &mut *out),
+        topology::Answer::Refused(number, place) => print(
+            number,
+            place as u64,
+            &output,
+            count,
+            &mut *out,
+        ),
+    }
+}
+
+// The same for the sheet that the lists begin with.
+fn answer_held(
+    header: Header,
+    cells: &[u8],
+    spans: &[u64],
+    boundaries: &[u64],
+    anchors: &[u64],
+    out: &mut [u8],
+) -> usize
+    requires { ⌜ SheetHeld header (now cells) (now spans) (now boundaries) (now anchors) ⌝ }
+    requires { ⌜ outRoom ≤ length (now out) ⌝ }
+    ensures { λ r. ⌜ Printed (printing.printedReading (wellFormed (sheetIn header (now (cells .entry)) (now (spans .entry)) (now (boundaries .entry)) (now (anchors .entry))))) (now (out .entry)) (now (out .exit)) r ⌝ }
+{
+    let area = header.width * header.height;
+    let spans_end = SPAN_SIZE * header.spans;
+    let boundaries_end = BOUNDARY_SIZE * header.boundaries;
+    let anchors_end = ANCHOR_SIZE * header.anchors;
+    answer(
+        header.pass,
+        header.width as u64,
+        header.height as u64,
+        &cells[..area],
+        &spans[..spans_end],
+        &boundaries[..boundaries_end],
+        &anchors[..anchors_end],
+        &mut *out,
+    )
+}
+
+// What `keptlist` prints for these bytes, and how many they are.
+pub fn keptlist(bytes: &[u8], out: &mut [u8]) -> usize
+    requires { ⌜ outRoom ≤ length (now out) ⌝ }
+    ensures { λ r. ⌜ Printed (printing.keptlist (now (bytes .entry))) (now (out .entry)) (now (out .exit)) r ⌝ }
+    ensures { λ r. ⌜ Inside r (now (out .exit)) ⌝ }
+{
+    let mut cells = [0u8; 4096];
+    let mut spans = [0u64; 1024];
+    let mut boundaries = [0u64; 2304];
+    let mut anchors = [0u64; 512];
+    match read(
+        bytes,
+        &mut cells,
+        &mut spans,
+        &mut boundaries,
+        &mut anchors,
+        &mut *out,
+    ) {
+        Before::Printed(count) => count,
+        Before::Ready(header) => answer_held(
+            header,
+            &cells,
+            &spans,
+            &boundaries,
+            &anchors,
+            &mut *out,
+        ),
+    }
+}
+
+// One byte more than a sheet may have: it shows that there are too many, so that no more need be read.
+pub fn input_room() -> [u8; 65537]
+    ensures { λ r. ⌜ 65537 ≡ length r ⌝ }
+{
+    [0; 65537]
+}
+
+// Room for the longest list that is printed.
+pub fn output_room() -> [u8; 26944]
+    ensures { λ r. ⌜ 26944 ≡ length r ⌝ }
+{
+    [0; 26944]
 }

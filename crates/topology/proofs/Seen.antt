@@ -1,10 +1,12 @@
 pub mod allow_proposals
 pub mod collapse_ramp_interiors
+pub mod corners_near
 pub mod fill
 pub mod interior_fits
 pub mod judge_interiors
 pub mod kept_boundaries
 pub mod kept_boundaries_here
+pub mod mark_near
 pub mod mark_removed
 pub mod put_record
 pub mod put_records

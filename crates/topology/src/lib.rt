@@ -6,6 +6,7 @@ use calls::prepare;
 use checks::limits::NUMBERS_PER_BOUNDARY;
 use checks::limits::NUMBERS_PER_SPAN;
 use context::Region;
+use context::pairs::wide;
 use interior_regions::Interior;
 use interior_regions::find_interiors;
 use interior_regions::interior_at;
@@ -22,6 +23,12 @@ use junctions::proposals::find_proposals;
 use numbers::NUMBERS_PER_RECORD;
 use numbers::least;
 use numbers::put_numbers;
+use ramp_boundaries::candidates::push_candidates;
+use ramp_boundaries::inner::inner_region;
+use ramp_boundaries::inner::places;
+use ramp_boundaries::near::region_near;
+use ramp_boundaries::selection::index;
+use ramp_boundaries::selection::select_mouths;
 use ramp_interiors::fits::reach_of;
 use ramp_interiors::fits::region_fits;
 use stretches::region_from;
@@ -38,11 +45,14 @@ ghost use Rattle.definitions.specs.RegionRecord.{emptyRegion};
 ghost use Rattle.definitions.specs.Context.{Context};
 ghost use Rattle.context.specs.declared.Region.{Region};
 ghost use Rattle.context.specs.Records.{recordOf};
+ghost use Rattle.definitions.specs.RampMouths.{cornersNear};
+ghost use Rattle.ramp_boundaries.specs.Candidates.{proposalOf};
+ghost use Rattle.ramp_boundaries.specs.Listed.{maxCandidates};
 ghost use Rattle.junctions.specs.Rows.{maxProposals};
 ghost use Rattle.interior_regions.specs.Places.{interiorFits};
 ghost use Rattle.topology.specs.Filled.{Fills, Filled};
 ghost use Rattle.topology.specs.Interiors.{Asks, Judges, Collapses, Collapsed};
-ghost use Rattle.topology.specs.Mouths.{Replaces, NoMarks, Replaced};
+ghost use Rattle.topology.specs.Mouths.{Locates, NearAsked, NearMarked, Replaces, NoMarks, Replaced};
 ghost use Rattle.topology.specs.Proposals.{Allows, Allowed, Passes, Unmarked, Removes};
 ghost use Rattle.topology.specs.Marks.{IsPass, Shows, Removed, Lent, MarkedFor};
 ghost use Rattle.topology.specs.Answers.{answerOf, exported, RanOver, RanHere};
@@ -92,7 +102,69 @@ pub fn fill(
 
 // ---- the passes
 
-// Pass 1: marks the boundaries that it removes. No boundary is marked before.
+// Whether each corner of each inner region of a proposal of pass 1 is near.
+pub fn corners_near(
+    records: &[Region],
+    boundaries: &[u64],
+    pairs: &[u32],
+    starts: &[usize; 257],
+    m: usize,
+    a: usize,
+    outer: u32,
+    kind: u8,
+) -> bool
+    requires { ⌜ ((C : Context) × Locates C (now records) (now boundaries) (now pairs) (now starts) m a) ⌝ }
+    ensures { λ r. ⌜ ((C : Context) → Locates C (now (records .entry)) (now (boundaries .entry)) (now (pairs .entry)) (now (starts .entry)) m a → r ≡ cornersNear C (proposalOf C m a outer kind)) ⌝ }
+{
+    let count = places(pairs, starts, m);
+    let mut k = 0;
+    while k < count {
+        let r = wide(inner_region(pairs, starts, m, outer, k));
+        if r != 0 {
+            let region = record_at(records, r - 1);
+            if !region_near(region, boundaries, m, a, kind == 2) {
+                return false;
+            }
+        }
+        k += 1;
+    }
+    true
+}
+
+// Which of the n candidates of pass 1 have their inner regions near.
+pub fn mark_near(
+    records: &[Region],
+    boundaries: &[u64],
+    pairs: &[u32],
+    starts: &[usize; 257],
+    mouths: &[u8; 16384],
+    ramps: &[u8; 16384],
+    outers: &[u32; 16384],
+    kinds: &[u8; 16384],
+    n: usize,
+    near: &mut [bool; 16384],
+)
+    requires { ⌜ ((C : Context) × NearAsked C (now records) (now boundaries) (now pairs) (now starts) (now mouths) (now ramps) n) ⌝ }
+    requires { ⌜ length (now near) ≡ maxCandidates ⌝ }
+    ensures { λ _. ⌜ ((C : Context) → NearAsked C (now (records .entry)) (now (boundaries .entry)) (now (pairs .entry)) (now (starts .entry)) (now (mouths .entry)) (now (ramps .entry)) n → NearMarked C (now (mouths .entry)) (now (ramps .entry)) (now (outers .entry)) (now (kinds .entry)) n (now (near .exit))) ⌝ }
+{
+    let mut k = 0;
+    while k < n {
+        near[k] = corners_near(
+            records,
+            boundaries,
+            pairs,
+            starts,
+            index(mouths[k]),
+            index(ramps[k]),
+            outers[k],
+            kinds[k],
+        );
+        k += 1;
+    }
+}
+
+// Pass 1: marks the boundaries that it removes. No boundary is marked before, and marks say no more than that a region is anchored.
 pub fn replace_ramp_mouths(
     records: &[Region],
     count: usize,
@@ -107,7 +179,55 @@ pub fn replace_ramp_mouths(
     requires { ⌜ ((C : Context) × Replaces C (now records) (now boundaries) (now tallies) (now pairs) (now starts) count (now marks) (now counts)) ⌝ }
     requires { ⌜ NoMarks (now removed) ⌝ }
     ensures { λ _. ⌜ ((C : Context) → Replaces C (now (records .entry)) (now (boundaries .entry)) (now (tallies .entry)) (now (pairs .entry)) (now (starts .entry)) count (now (marks .entry)) (now (counts .entry)) → Replaced C count (now (removed .exit))) ⌝ }
-{}
+{
+    let mut mouths = [0u8; 16384];
+    let mut ramps = [0u8; 16384];
+    let mut outers = [0u32; 16384];
+    let mut kinds = [0u8; 16384];
+    let mut separations = [0u64; 16384];
+    let mut near = [false; 16384];
+    let n = push_candidates(
+        boundaries,
+        tallies,
+        pairs,
+        starts,
+        counts,
+        &*marks,
+        count,
+        &mut mouths,
+        &mut ramps,
+        &mut outers,
+        &mut kinds,
+        &mut separations,
+    );
+    mark_near(
+        records,
+        boundaries,
+        pairs,
+        starts,
+        &mouths,
+        &ramps,
+        &outers,
+        &kinds,
+        n,
+        &mut near,
+    );
+    select_mouths(
+        boundaries,
+        pairs,
+        starts,
+        marks,
+        removed,
+        &mouths,
+        &ramps,
+        &outers,
+        &kinds,
+        &separations,
+        &near,
+        count,
+        n,
+    );
+}
 
 // Which of the n proposals of pass 3 the records of their regions allow.
 pub fn allow_proposals(
