@@ -16,7 +16,7 @@ returns c = λ C M l o h. port-own C _ _ (M .from) (M .upto) o l h (c .if1 .take
 
 returns-2 : tie.Need-returns-2
 returns-2 c =
-    let v = c .before .before .args .owner in
+    let v = c .before .before .before .before .before .args .owner in
     let t = both (not (eqb v 0)) (not (eqb v several)) (c .if2 .taken) in
     λ C M l o h. port-elsewhere M _ l o h (c .before .if1 .left) (eqb-false v 0 (not-true (eqb v 0) (t .0))) (eqb-false v several (not-true (eqb v several) (t .1)))
 
