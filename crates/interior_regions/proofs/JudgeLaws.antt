@@ -134,9 +134,9 @@ module _ {C : Context} (S : Sound C) (owners : List ℕ) (O : Owners C owners) (
   -- the edges of what was found are from i on, and before the number after the last that has the owner
   pub found-spanned : {a b low high n count : ℕ} → foundPorts C owners i ≡ ports.Two a b → C .count ≡ count → EndOf owners count owner n → n ≤ high → high ≤ count → low ≤ i → (low ≤ a) × (a < high) → (low ≤ b) × (b < high) → Spanned C owner a b low high
   unfolding isFirst
-  found-spanned {low = low} {high = high} {n = n} e c E u v s t w = record { upto = omega arith; edges = edges; first = t; second = w }
+  found-spanned {a = a} {b = b} {low = low} {high = high} {n = n} e c E u v s t w = record { upto = omega arith; edges = edges; first = t; second = w }
     where
-      F : Fit C S owner _ _
+      F : Fit C S owner a b
       F = found-fit e
 
       alone : anyBelow i (λ j. eqb (getD owners j 0) owner) ≡ false

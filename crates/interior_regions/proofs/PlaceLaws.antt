@@ -123,9 +123,9 @@ module _ {C : Context} {rows starts : List ℕ} (S : ShownPairs C rows starts) w
       }
 
   -- the places of the rows from one boundary up to another
-  module _ (low high : ℕ) (upto : high ≤ C .count) (rising : low ≤ high) where
+  module _ (low high : ℕ) (short : high ≤ C .count) (rising : low ≤ high) where
     pub place-readable : (k : ℕ) → 2 * startAt low ≤ k → k < 2 * startAt high → Readable rows (C .regions) k
-    place-readable k l m = readable k (omega (arith, between 0 low (omega arith) (omega arith))) (omega (arith, between high (C .count) upto (omega arith)))
+    place-readable k l m = readable k (omega (arith, between 0 low (omega arith) (omega arith))) (omega (arith, between high (C .count) short (omega arith)))
 
     -- one of region x
     pub record Placed (x : ℕ) : Type 0 where
@@ -138,7 +138,7 @@ module _ {C : Context} {rows starts : List ℕ} (S : ShownPairs C rows starts) w
     unfolding isIncident
     incident-placed j x a b h =
         let r = rows-found (contains x) rows (startAt j) (startAt (j + 1) - startAt j) (subst (λ ps. any (contains x) ps ≡ true) (S .at j (omega arith) ∙ ap (pairsBetween rows (startAt j)) (sym same)) h) in
-        go (r .row) (omega (arith, r .from, between low j a (omega arith))) (omega (arith, r .upto, same, between (j + 1) high (omega arith) upto))
+        go (r .row) (omega (arith, r .from, between low j a (omega arith))) (omega (arith, r .upto, same, between (j + 1) high (omega arith) short))
         (eqb (pairAt rows (r .row) .lo) x) refl (eqb (pairAt rows (r .row) .hi) x) refl (r .passes)
       where
         same : startAt j + (startAt (j + 1) - startAt j) ≡ startAt (j + 1)

@@ -29,6 +29,15 @@ module _ {C : Context} {boundaries tallies pairs starts names owners firsts seco
           }
       go (ports.Two a b) d = absurd (omega (arith, e, I .found i l .0 ∙ ap firstOf d, found-fit (I .owning .given .sound) owners (I .owning .owned) i l d .first, I .owning .given .paired .few))
 
+  pub ports-below : (getD firsts i 0 ≡ noPort → ⊥) → (getD firsts i 0 < count) × (getD seconds i 0 < count)
+  ports-below none = go (foundPorts C owners i) refl
+    where
+      go : (x : Ports) → foundPorts C owners i ≡ x → (getD firsts i 0 < count) × (getD seconds i 0 < count)
+      go ports.Other d = absurd (none (I .found i l .0 ∙ ap firstOf d))
+      go (ports.Two a b) d =
+          let F = found-fit (I .owning .given .sound) owners (I .owning .owned) i l d in
+          (omega (arith, I .found i l .0 ∙ ap firstOf d, F .first, I .owning .counted), omega (arith, I .found i l .1 ∙ ap secondOf d, F .second, I .owning .counted))
+
   -- n is the number after the last boundary that has the owner
   module _ {low high n : ℕ} (E : EndOf owners count (getD owners i 0) n) (low-is : low ≡ min i (min (getD firsts i 0) (getD seconds i 0))) (high-is : high ≡ max n (max (getD firsts i 0) (getD seconds i 0) + 1)) where
     pub stretched-two : (getD firsts i 0 ≡ noPort → ⊥) → Stretched C pairs names owners i (record { name = getD owners i 0; begin = 2 * getD starts low 0; end = 2 * getD starts high 0; first = getD firsts i 0; second = getD seconds i 0 })
