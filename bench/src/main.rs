@@ -13,7 +13,7 @@ use oracle::table::check_pass;
 use oracle::topology::harness::{self, Answer, Context, Original, Room, row};
 use std::cell::RefCell;
 use std::time::Duration;
-use timing::{Timed, Timing, micros, time, timed};
+use timing::{Timed, Timing, time, timed};
 
 const PASSES: [u64; 3] = [1, 2, 3];
 
@@ -28,7 +28,9 @@ fn main() {
         }
     };
     let wanted = |name: &str| arguments.len() < 2 || arguments[1..].iter().any(|word| word == name);
-    println!("microseconds, least and middle of many runs; ratio: ours to the Rust, least to least");
+    println!(
+        "microseconds of processor time, least and middle of many runs; ratio: ours to the Rust, least to least, or of differences middle to middle"
+    );
     for named in maps::all().iter().filter(|named| wanted(named.name)) {
         passes(named, budget);
     }
@@ -90,17 +92,22 @@ fn whole(original: &Original, pass: u64) -> usize {
     original.pass(pass, &context).len()
 }
 
-/// The lines of a map. Our records and passes alone are what a call takes more with them than without: the partition, the call without
-/// boundaries and the call with each pass stand in this order.
+/// The lines of a map. Of ours there are the partition, the call without boundaries and the call with each pass, in this order; what lies
+/// between the partition and the rows is what a call takes more than another.
 fn print(rust: &[Timing], own: &[Timing]) {
-    let more = |call: usize, than: usize| own.get(call).map(|call| call.less(own[than]));
-    line("partition", &rust[0], own.first());
-    line("context", &rust[1], more(1, 0).as_ref());
-    for pass in 0..PASSES.len() {
-        line(&format!("pass {} alone", pass + 1), &rust[2 + pass], more(2 + pass, 1).as_ref());
+    let more = |call: usize, than: usize| own.get(call).map(|call| call.less(&own[than]));
+    let (partition, context) = (&rust[0], &rust[1]);
+    let (alone, whole) = rust[2..].split_at(PASSES.len());
+    line("partition", partition, own.first());
+    difference("context", context, more(1, 0));
+    for (pass, rust) in alone.iter().enumerate() {
+        difference(&format!("pass {}", pass + 1), rust, more(2 + pass, 1));
     }
-    for pass in 0..PASSES.len() {
-        line(&format!("whole call, pass {}", pass + 1), &rust[2 + PASSES.len() + pass], own.get(2 + pass));
+    for (pass, rust) in alone.iter().enumerate() {
+        difference(&format!("context and pass {}", pass + 1), &context.and(rust), more(2 + pass, 0));
+    }
+    for (pass, rust) in whole.iter().enumerate() {
+        line(&format!("whole call, pass {}", pass + 1), rust, own.get(2 + pass));
     }
 }
 
@@ -139,14 +146,19 @@ fn is_like(map: &Map, lent: &ours::Lent, answer: ours::Outcome) -> bool {
 }
 
 fn line(step: &str, rust: &Timing, own: Option<&Timing>) {
-    let mut columns = vec![format!("{:.1}", micros(rust.least)), format!("{:.1}", micros(rust.middle))];
-    match own {
-        None => columns.extend(["-", "-", "-"].map(String::from)),
-        Some(own) => columns.extend([
-            format!("{:.1}", micros(own.least)),
-            format!("{:.1}", micros(own.middle)),
-            format!("{:.2}", micros(own.least) / micros(rust.least)),
-        ]),
-    }
-    println!("{:<22} {:>12} {:>12} {:>12} {:>12} {:>7}", step, columns[0], columns[1], columns[2], columns[3], columns[4]);
+    row_of(step, rust, own.map(|own| (format!("{:.1}", own.least()), own.middle(), own.least() / rust.least())));
+}
+
+/// Of differences the least says nothing.
+fn difference(step: &str, rust: &Timing, own: Option<Timing>) {
+    row_of(step, rust, own.map(|own| ("-".into(), own.middle(), own.middle() / rust.middle())));
+}
+
+fn row_of(step: &str, rust: &Timing, own: Option<(String, f64, f64)>) {
+    let columns = match own {
+        None => ["-", "-", "-"].map(String::from),
+        Some((least, middle, ratio)) => [least, format!("{middle:.1}"), format!("{ratio:.2}")],
+    };
+    let [least, middle, ratio] = columns;
+    println!("{step:<22} {:>12.1} {:>12.1} {least:>12} {middle:>12} {ratio:>7}", rust.least(), rust.middle());
 }
