@@ -1,6 +1,7 @@
 //! Repeats calls in turn for a while and keeps the least and the middle time of each: time of the processor, so that what else runs on the
 //! machine counts as little as it can.
 
+use crate::maps::Random;
 use std::ffi::c_int;
 use std::hint::black_box;
 use std::time::{Duration, Instant};
@@ -62,14 +63,18 @@ fn processor_time() -> Duration {
     Duration::new(time.seconds as u64, time.nanoseconds as u32)
 }
 
-/// Runs the calls in turn, so that all of them meet the same load, until `budget` is spent for each, and at least five times.
+/// Runs each of the calls once a round, in an order of its own, so that all of them meet the same load and the same neighbours, until
+/// `budget` is spent for each, and at least five times.
 pub fn time(budget: Duration, calls: &mut [Timed]) -> Vec<Timing> {
     let begin = Instant::now();
+    let mut random = Random(7);
+    let mut order: Vec<_> = (0..calls.len()).collect();
     let mut times: Vec<_> = calls.iter().map(|_| Timing(vec![])).collect();
     let mut rounds = 0;
     while rounds < 5 || begin.elapsed() < budget * calls.len() as u32 {
-        for (call, Timing(times)) in calls.iter_mut().zip(&mut times) {
-            times.push(call().as_secs_f64() * 1e6);
+        random.shuffle(&mut order);
+        for &call in &order {
+            times[call].0.push(calls[call]().as_secs_f64() * 1e6);
         }
         rounds += 1;
     }
