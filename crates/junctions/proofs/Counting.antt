@@ -73,7 +73,7 @@ count-once f (suc n) h = go (f n) refl (count-once f n h)
     go true e ih = omega (arith, count-none f n (λ j l k. absurd (omega (arith, h j n k e))))
     go false e ih = omega arith
 
-pub count-or : (f g : ℕ → Bool) (n : ℕ) → countBelow n (λ j. f j || g j) ≤ countBelow n f + countBelow n g
+count-or : (f g : ℕ → Bool) (n : ℕ) → countBelow n (λ j. f j || g j) ≤ countBelow n f + countBelow n g
 unfolding countBelow
 count-or f g zero = omega arith
 count-or f g (suc n) = go (f n) (g n) (count-or f g n)

@@ -11,7 +11,6 @@ pub mod FirstFound
 pub mod BridgeWalk
 pub mod RowLaws
 pub mod Counting
-pub mod FewPorts
 pub mod BridgeIndex
 pub mod ShapeLaws
 pub mod UnionRows

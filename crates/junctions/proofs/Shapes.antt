@@ -1,5 +1,5 @@
 -- The shape of a union, as `is_union` finds it: test by test, each return says what the whole test says. Assumes nothing.
-use Prim.Native.Nat.{ℕ, _+_, _-_, _≤_, _<_}
+use Prim.Native.Nat.{ℕ, _≤_, _<_}
 use native.Mathlib.Omega.{arith}
 use mathlib.Core.Path.{_≡_, refl, sym, ap, _∙_}
 use mathlib.Core.Bool.{Bool, true, false, not, _&&_, true≢false, false≢true}
@@ -10,7 +10,6 @@ use borrow.Author.Tests.{eq-eqb, ne-eqb, lt-ltb, le-ltb}
 use Rattle.definitions.specs.Scan.{countBelow, bit}
 use Rattle.definitions.specs.Grid.{Pair}
 use Rattle.junctions.specs.Ports.{walkFits}
-use Rattle.junctions.proofs.FewPorts.{few-ports}
 use Rattle.junctions.specs.Unions.{noRampAt, marksOf, leadsAnew, portsPass, shapeAt, isUnionAt}
 
 pub bit-le : (b : Bool) → bit b ≤ 1
@@ -65,13 +64,6 @@ module _ (boundaries smaller larger counts marks : List ℕ) (count i : ℕ) whe
       module _ (anchored : marksOf marks union < 2) where
         pub is-unfit : {r : Bool} → r ≡ fit → not r ≡ true → false ≡ whole
         is-unfit {r} e h = from plain (lt-ltb (marksOf marks union) 2 anchored) (sym e ∙ negated-true r h) refl refl
-
-        pub few-incidents : i < count → getD counts (union .lo - 1) 0 + getD counts (union .hi - 1) 0 < 5 → false ≡ whole
-        few-incidents l few = go fit refl
-          where
-            go : (b : Bool) → fit ≡ b → false ≡ whole
-            go true e = from plain (lt-ltb (marksOf marks union) 2 anchored) e (few-ports smaller larger counts count i l pair e few) refl
-            go false e = from plain (lt-ltb (marksOf marks union) 2 anchored) e refl refl
 
         module _ {r : Bool} (e : r ≡ fit) (h : not r ≡ false) where
           pub too-few : {s : Bool} → s ≡ three → not s ≡ true → false ≡ whole

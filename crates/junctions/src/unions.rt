@@ -5,9 +5,9 @@ use crate::ports::names_region;
 use crate::ports::ports_fit;
 ghost use mathlib.Core.Path.{_≡_};
 ghost use mathlib.Core.Bool.{not, _&&_, _||_};
-ghost use Prim.Native.Nat.{_*_, _+_, _-_, _≤_, _<_};
+ghost use Prim.Native.Nat.{_*_, _+_, _≤_, _<_};
 ghost use lib.ListN.{length, getD};
-ghost use lib.Dec.{eqb, ltb, leb};
+ghost use lib.Dec.{eqb, leb};
 ghost use Rattle.definitions.specs.Scan.{countBelow, bit};
 ghost use Rattle.definitions.specs.Grid.{contains};
 ghost use Rattle.definitions.specs.Context.{holds};
@@ -130,21 +130,6 @@ pub fn anchored_bit(marks: &[u16], r: u32) -> u16
     marks[r as usize - 1] % 2
 }
 
-fn are_few(first: u32, second: u32) -> bool
-    ensures { λ r. ⌜ r ≡ ltb (first + second) 5 ⌝ }
-{
-    (first as u64 + second as u64) < 5
-}
-
-// Whether two regions have too few incidents for a union: three ports, and its boundary for either. Most boundaries then need no walk over the others.
-fn few_incidents(counts: &[u32], lo: u32, hi: u32) -> bool
-    requires { ⌜ (1 ≤ lo) × (lo ≤ length (now counts)) ⌝ }
-    requires { ⌜ (1 ≤ hi) × (hi ≤ length (now counts)) ⌝ }
-    ensures { λ r. ⌜ r ≡ ltb (getD (now (counts .entry)) (lo - 1) 0 + getD (now (counts .entry)) (hi - 1) 0) 5 ⌝ }
-{
-    are_few(counts[lo as usize - 1], counts[hi as usize - 1])
-}
-
 // Whether the regions of boundary `index` and their ports have the shape of a union.
 pub fn is_union(
     boundaries: &[u64],
@@ -170,9 +155,6 @@ pub fn is_union(
     }
     let anchored = anchored_bit(marks, lo) + anchored_bit(marks, hi);
     if 2 <= anchored {
-        return false;
-    }
-    if few_incidents(counts, lo, hi) {
         return false;
     }
     if !ports_fit(smaller, larger, counts, count, index) {
