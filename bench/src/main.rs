@@ -64,7 +64,7 @@ fn passes(Named { name, about, map }: &Named, budget: Duration) {
     let lent = RefCell::new(ours::Lent::new(map, regions, pairs));
     let mut calls = rust_calls(&original, &partition, &context);
     let steps = calls.len();
-    calls.push(own_call(ours::partition, map, &lent));
+    calls.extend([ours::partition, ours::refused].map(|call| own_call(call, map, &lent)));
     calls.extend([&bare].into_iter().chain(&maps).map(|map| own_call(ours::kept_boundaries, map, &lent)));
     let times = time(budget, &mut calls);
     drop(calls);
@@ -93,26 +93,28 @@ fn whole(original: &Original, pass: u64) -> usize {
     original.pass(pass, &context).len()
 }
 
-/// The lines of a map. Of ours there are the partition, the call without boundaries and the call with each pass, in this order; what lies
-/// between the partition and the rows is what a call takes more than another.
+/// The lines of a map. Of ours there are the partition, the call that is refused after it, the call without boundaries and the call with
+/// each pass, in this order; what lies between the partition and the rows is what a call takes more than another.
 fn print(rust: &[Timing], own: &[Timing]) {
     let (partition, context) = (&rust[0], &rust[1]);
     let (alone, whole) = rust[2..].split_at(PASSES.len());
-    line("partition", partition, &own[0]);
-    difference("context", context, &own[1].less(&own[0]));
-    for (pass, rust) in alone.iter().enumerate() {
-        difference(&format!("pass {}", pass + 1), rust, &own[2 + pass].less(&own[1]));
+    let [cut, refused, bare, calls @ ..] = own else { panic!("three calls and one for each pass") };
+    line("partition", partition, cut);
+    difference("context", context, &bare.less(refused));
+    for (pass, (rust, call)) in alone.iter().zip(calls).enumerate() {
+        difference(&format!("pass {}", pass + 1), rust, &call.less(bare));
     }
-    for (pass, rust) in alone.iter().enumerate() {
-        difference(&format!("context and pass {}", pass + 1), &context.and(rust), &own[2 + pass].less(&own[0]));
+    for (pass, (rust, call)) in alone.iter().zip(calls).enumerate() {
+        difference(&format!("context and pass {}", pass + 1), &context.and(rust), &call.less(refused));
     }
-    for (pass, rust) in whole.iter().enumerate() {
-        line(&format!("whole call, pass {}", pass + 1), rust, &own[2 + pass]);
+    for (pass, (rust, call)) in whole.iter().zip(calls).enumerate() {
+        line(&format!("whole call, pass {}", pass + 1), rust, call);
     }
 }
 
 /// Says what of ours is unlike the Rust's.
 fn compare(map: &Map, lent: &mut ours::Lent, original: &Original, context: &Context) {
+    assert_eq!(ours::refused(map, lent), Err(Refusal { number: 12, place: 0 }));
     let answer = ours::partition(map, lent);
     if !is_like(map, lent, answer) {
         println!("the regions, tallies or pairs are unlike the Rust's");

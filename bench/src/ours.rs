@@ -49,6 +49,18 @@ pub fn partition(map: &Map, lent: &mut Lent) -> Result<u64, Refusal> {
 
 /// Runs the map's pass.
 pub fn kept_boundaries(map: &Map, lent: &mut Lent) -> Result<u64, Refusal> {
+    call(map, lent.lists())
+}
+
+/// The same call with one pair row too few: it partitions the map and is refused 12.
+pub fn refused(map: &Map, lent: &mut Lent) -> Result<u64, Refusal> {
+    let KeptLists { partition, records, output } = lent.lists();
+    let short = partition.pairs.len() - 3;
+    let partition = PartitionLists { pairs: &mut partition.pairs[..short], ..partition };
+    call(map, KeptLists { partition, records, output })
+}
+
+fn call(map: &Map, lists: KeptLists) -> Result<u64, Refusal> {
     let map = jenwyllt::Map {
         pass: map.pass,
         width: map.width,
@@ -58,7 +70,7 @@ pub fn kept_boundaries(map: &Map, lent: &mut Lent) -> Result<u64, Refusal> {
         boundaries: &map.boundaries,
         anchors: &map.anchors,
     };
-    jenwyllt::kept_boundaries_into(map, lent.lists())
+    jenwyllt::kept_boundaries_into(map, lists)
 }
 
 /// A record as the oracle has it.
