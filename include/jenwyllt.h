@@ -1,6 +1,6 @@
 /* Regions of a walk grid cut by spans, the boundaries that a pass keeps, the reader of sheets, and the correctly rounded hypotenuse.
    The archives are for x86-64 Linux: target/staticlib/libjenwyllt.a, written by `rt staticlib jenwyllt`, and for `topology_kept_boundaries` alone
-   target/staticlib/libtopology.a, written by `rt staticlib topology`. Of other libraries they need `memset` and `memcpy` alone.
+   target/staticlib/libtopology.a, written by `rt staticlib topology`. Of other libraries they need `memset` alone.
    Every function is proved to meet the definitions of crates/definitions for every input that keeps to what stands here. */
 #ifndef JENWYLLT_H
 #define JENWYLLT_H

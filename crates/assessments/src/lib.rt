@@ -3,6 +3,7 @@ pub mod region_pairs;
 
 use cut_steps::NUMBERS_PER_SPAN;
 use cut_steps::cell::cut_directions;
+use cut_steps::cell::is_near;
 use cut_steps::cell::is_set;
 use cut_steps::pick;
 use cut_steps::span_at;
@@ -185,6 +186,9 @@ fn assess_cell(
     ensures { λ r. ⌜ Counting (now (pairs .exit)) first (start .removed + maxCellEdges) r ⌝ }
     ensures { λ r. ⌜ Assesses (now (labels .entry)) span first (cutFrom (gridOf width height (now (cells .entry))) (segmentOf g) (at x y)) start (now (pairs .entry)) r (now (pairs .exit)) ⌝ }
 {
+    if !is_near(width, height, cells, g, x, y) {
+        return start;
+    }
     let mask = cut_directions(width, height, cells, g, x, y);
     if mask == 0 {
         return start;

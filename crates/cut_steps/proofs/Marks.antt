@@ -24,7 +24,7 @@ use Rattle.flood.proofs.Bits.{withBit-length}
 use Rattle.flood.proofs.MarkStep.{mark-adds}
 use Rattle.cut_steps.specs.CutSteps.{isCutOnward, cutFrom, cutToward, isSet}
 use Rattle.cut_steps.specs.CutLaws.{cutFrom-directions}
-use Rattle.cut_steps.specs.Cell.{CutBits, CutDirections}
+use Rattle.cut_steps.specs.Cell.{CellAsked, CutBits, CutDirections}
 use Rattle.cut_steps.specs.Marking.{bothBits, DirectionAsked, MarkAsked, Marked}
 use Rattle.cut_steps.proofs.Onward.{not-onward, zero-bit}
 
@@ -128,6 +128,9 @@ module _ (M : Map) (g : Segment) (p : Position) where
       none x y h k = toward-none (at x y) (sym (bits (at x y) h k) ∙ zero-bit (y * 3 + x))
 
 -- ---- the code's calls for one cell
+
+pub cell-asked : {w h : ℕ} {cells was : List ℕ} {g : SpanGeometry} {x y : ℕ} → MarkAsked w h cells was g × (x < w) × (y < h) → CellAsked w h cells g x y
+cell-asked A = record { narrow = A .0 .narrow; short = A .0 .short; cellsLong = A .0 .cellsLong; sound = A .0 .sound; inX = A .1; inY = A .2 }
 
 module _ {w h : ℕ} {cells was : List ℕ} {g : SpanGeometry} {x y r : ℕ} (A : MarkAsked w h cells was g × (x < w) × (y < h)) (D : CutDirections w h cells (segmentOf g) x y r) where
   abbrev G : Map

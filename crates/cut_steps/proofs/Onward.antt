@@ -15,7 +15,7 @@ use Rattle.definitions.specs.Spans.{cuts}
 use Rattle.flood.specs.Masks.{bitOf}
 use Rattle.flood.proofs.Square.{Four, four, In, walkable-in}
 use Rattle.cut_steps.specs.CutSteps.{isCutOnward, isSet}
-use Rattle.cut_steps.specs.Cell.{CutBits, Far, onwardMask}
+use Rattle.cut_steps.specs.Cell.{CutBits, Uncut, onwardMask}
 
 -- ---- the number of the cell in a direction
 
@@ -82,16 +82,24 @@ no-step M g p w d = go (isStep M p d) refl
     go false e = blocked M g p d e
     go true e = absurd (true≢false (sym (four M p d e .near) ∙ w))
 
--- a position far from the segment has no cut step
-pub none-far : (M : Map) (g : Segment) (p : Position) → Far g p → (d : Position) → false ≡ isCutOnward M g p d
+-- a step that the segment does not cut, walkable or not
+pub clear-of : (M : Map) (g : Segment) (p d : Position) → Uncut g p d → false ≡ isCutOnward M g p d
 unfolding isCutOnward
-none-far M g p far d = go (isStep M p d) refl
+clear-of M g p d n = go (isStep M p d) refl
   where
     go : (t : Bool) → isStep M p d ≡ t → false ≡ isCutOnward M g p d
     go false e = rw e refl
     go true e =
         let f = four M p d e in
-        sym (ap (λ t. isStep M p d && ltb (index M p) (index M (toward p d)) && t) (far d (f .nearX) (f .nearY) (f .right) (f .down)) ∙ and-false (isStep M p d && ltb (index M p) (index M (toward p d))))
+        sym (ap (λ t. isStep M p d && ltb (index M p) (index M (toward p d)) && t) (n (f .right) (f .down)) ∙ and-false (isStep M p d && ltb (index M p) (index M (toward p d))))
+
+-- a step to the next row asks for the cell to the south
+pub no-south : (M : Map) (g : Segment) (p : Position) → walkable M (at (p .x) (p .y + 1)) ≡ false → (dx : ℕ) → false ≡ isCutOnward M g p (at dx 2)
+no-south M g p w dx = go (isStep M p (at dx 2)) refl
+  where
+    go : (t : Bool) → isStep M p (at dx 2) ≡ t → false ≡ isCutOnward M g p (at dx 2)
+    go false e = blocked M g p (at dx 2) e
+    go true e = absurd (true≢false (sym (four M p (at dx 2) e .under) ∙ ap (λ y. walkable M (at (p .x) y)) (omega arith) ∙ w))
 
 -- ---- the mask
 

@@ -1,8 +1,9 @@
 -- A cell far from a span's line: a step moves a centre by at most 8 pixels each way, so it moves the side value by at most 8 times the sum of the span's extents
--- (`moved`), and where the side value is larger in size its sign stays (`far-off`). Assumes nothing.
-use mathlib.Core.Path.{_≡_, refl, sym, ap, _∙_, subst⁻¹}
+-- (`moved`), and where the side value is larger in size its sign stays (`off-both`). A step within a row moves it by the extent along y alone (`off-row`), and one to
+-- the south does not lower it by more, since the first endpoint is not to the right of the second (`off-south`). Assumes nothing.
+use mathlib.Core.Path.{_≡_, refl, sym, ap, _∙_, subst, subst⁻¹}
 use mathlib.Core.Logic.{⊎-elim}
-use mathlib.Core.Bool.{Bool, true, false, not, _&&_, _||_, Bool·beq, or-false}
+use mathlib.Core.Bool.{Bool, true, false, not, _&&_, _||_, Bool·beq, or-false, false≢true}
 use Prim.Native.Nat.{ℕ, zero, suc, _+_, _-_, _*_, _≤_, _<_, min, max}
 use native.Mathlib.Nat.{mul-le-mul, le-refl}
 use native.Mathlib.Omega.{arith}
@@ -10,13 +11,13 @@ use lib.Dec.{ltb, leb·suc-suc}
 use lib.IntN.{ℤ, pos, negsuc, negℤ, natAbs, _+ℤ_, _-ℤ_, _*ℤ_, +ℤ-idl, +ℤ-idr, +ℤ-assoc, +ℤ-comm, +ℤ-sucℤ, +ℤ-predℤ, -ℤ-one, -ℤ-+ℤ-cancel, negℤ-+ℤ, zero-*ℤ, sucℤ-*ℤ, predℤ-*ℤ, *ℤ-comm}
 use lib.Signed.{mag, ltZ, nonNeg}
 use borrow.Author.Tests.{ltb-true, lt-ltb, le-ltb}
-use Rattle.definitions.specs.Grid.{Position, Segment, toward}
+use Rattle.definitions.specs.Grid.{Position, at, Segment, toward}
 use Rattle.definitions.specs.Spans.{pixelsPerWalkCell, diff, cross, middleOf, cellCenter, segmentsIntersect, cuts}
 use Rattle.span_geometry.specs.declared.SpanGeometry.{SpanGeometry}
-use Rattle.span_geometry.specs.Shapes.{Sound, pointOf, segmentOf}
+use Rattle.span_geometry.specs.Shapes.{Sound, segmentOf}
 use Rattle.laws.specs.NumberLaws.Comparisons.{le-or-lt}
-use Rattle.laws.specs.NumberLaws.WholeNumbers.{subℕ-pos, subℕ-neg, diff-pos, diff-neg, natAbs-product, natAbs-difference}
-use Rattle.cut_steps.specs.Cell.{Far}
+use Rattle.laws.specs.NumberLaws.WholeNumbers.{subℕ-pos, subℕ-neg, diff-pos, diff-neg, natAbs-neg, natAbs-product, natAbs-difference}
+use Rattle.cut_steps.specs.Cell.{sideOf, Uncut, Far}
 
 -- ---- sums and products of whole numbers of either sign
 
@@ -53,6 +54,16 @@ sign-stays (pos a) (negsuc b) h = ap nonNeg (subℕ-pos {m = a} {n = suc b} (ome
 sign-stays (negsuc a) (pos b) h = ap nonNeg (subℕ-neg {m = b} {n = suc a} h)
 sign-stays (negsuc a) (negsuc b) h = refl
 
+-- nor does it where something positive is added
+raised : (z v : ℤ) {u : ℤ} {n : ℕ} → nonNeg z ≡ true → natAbs v < natAbs z → u ≡ pos n → nonNeg (z +ℤ (u -ℤ v)) ≡ true
+raised z v {u} {n} e h f =
+    ap nonNeg (ap (λ x. z +ℤ x) (+ℤ-comm u (negℤ v)) ∙ sym (+ℤ-assoc z (negℤ v) u)) ∙ ap (λ x. nonNeg (z -ℤ v +ℤ x)) f
+    ∙ go (z -ℤ v) (sign-stays z (negℤ v) (subst⁻¹ (λ k. k < natAbs z) (natAbs-neg v) h) ∙ e)
+  where
+    go : (w : ℤ) → nonNeg w ≡ true → nonNeg (w +ℤ pos n) ≡ true
+    go (pos m) k = refl
+    go (negsuc m) k = absurd (false≢true k)
+
 -- larger in size than b
 pub exceeding : (z : ℤ) (b : ℕ) → (ltZ (pos b) z || ltZ z (pos 0 -ℤ pos b)) ≡ ltb b (natAbs z)
 exceeding z b = ap (λ x. ltZ (pos b) z || ltZ z x) (+ℤ-idl (negℤ (pos b))) ∙ go z b
@@ -87,40 +98,80 @@ moved a b p q =
 beside : (x d : ℕ) → d ≤ 2 → 1 ≤ x + d → natAbs (diff (middleOf (x + d - 1)) (middleOf x)) ≤ pixelsPerWalkCell
 beside x d h k = omega (arith, natAbs-gap (middleOf (x + d - 1)) (middleOf x))
 
-pub far-off : (s : Segment) (p : Position) → pixelsPerWalkCell * (natAbs (diff (s .b .x) (s .a .x)) + natAbs (diff (s .b .y) (s .a .y))) < natAbs (cross (s .a) (s .b) (cellCenter p)) → Far s p
+-- a step between two centres on the same side is not cut
+same-side : (s : Segment) (p q : Position) → nonNeg (sideOf s q) ≡ nonNeg (sideOf s p) → cuts s p q ≡ false
 unfolding cuts
-far-off s p h d hx hy kx ky = ap (λ t. not t && segmentsIntersect (s .a) (s .b) (cellCenter p) (cellCenter (toward p d))) same
+same-side s p q e =
+    ap (λ t. not t && segmentsIntersect (s .a) (s .b) (cellCenter p) (cellCenter q)) (ap (Bool·beq (nonNeg (sideOf s p))) e ∙ alike (nonNeg (sideOf s p)))
   where
-    dx : ℤ
-    dx = diff (s .b .x) (s .a .x)
-
-    dy : ℤ
-    dy = diff (s .b .y) (s .a .y)
-
-    ex : ℤ
-    ex = diff (middleOf (p .x + d .x - 1)) (middleOf (p .x))
-
-    ey : ℤ
-    ey = diff (middleOf (p .y + d .y - 1)) (middleOf (p .y))
-
-    small : natAbs (dx *ℤ ey -ℤ dy *ℤ ex) ≤ pixelsPerWalkCell * (natAbs dx + natAbs dy)
-    small =
-        omega (arith, natAbs-difference (dx *ℤ ey) (dy *ℤ ex), natAbs-product dx ey, natAbs-product dy ex, mul-le-mul (le-refl (natAbs dx)) (beside (p .y) (d .y) hy ky), mul-le-mul (le-refl (natAbs dy)) (beside (p .x) (d .x) hx kx))
-
-    stays : nonNeg (cross (s .a) (s .b) (cellCenter (toward p d))) ≡ nonNeg (cross (s .a) (s .b) (cellCenter p))
-    stays = ap nonNeg (moved (s .a) (s .b) (cellCenter p) (cellCenter (toward p d))) ∙ sign-stays (cross (s .a) (s .b) (cellCenter p)) (dx *ℤ ey -ℤ dy *ℤ ex) (omega (arith, small))
-
     alike : (t : Bool) → Bool·beq t t ≡ true
     alike true = refl
     alike false = refl
 
-    same : Bool·beq (nonNeg (cross (s .a) (s .b) (cellCenter p))) (nonNeg (cross (s .a) (s .b) (cellCenter (toward p d)))) ≡ true
-    same = ap (Bool·beq (nonNeg (cross (s .a) (s .b) (cellCenter p)))) stays ∙ alike (nonNeg (cross (s .a) (s .b) (cellCenter p)))
+module _ (s : Segment) (p d : Position) (hx : d .x ≤ 2) (hy : d .y ≤ 2) (kx : 1 ≤ p .x + d .x) (ky : 1 ≤ p .y + d .y) where
+  abbrev run : ℤ
+  run = diff (s .b .x) (s .a .x)
 
--- of a span as the code has it
-pub far-span : {g : SpanGeometry} → Sound g → (p : Position) {b : ℕ} {z : ℤ} → b ≡ pixelsPerWalkCell * (g .«max_x» - g .«min_x» + (g .«max_y» - g .«min_y»)) → z ≡ cross (pointOf (g .a)) (pointOf (g .b)) (cellCenter p) → ltb b (natAbs z) ≡ true → Far (segmentOf g) p
-far-span {g} G p {b} {z} e f t =
-    far-off (segmentOf g) p (joined (natAbs-gap (g .b .x) (g .a .x) ∙ sym (λ i. G .max-x i - G .min-x i)) (natAbs-gap (g .b .y) (g .a .y) ∙ sym (λ i. G .max-y i - G .min-y i)) e (ap natAbs f) (ltb-true b (natAbs z) t))
-  where
-    joined : {u v m n b c k : ℕ} → u ≡ m → v ≡ n → b ≡ pixelsPerWalkCell * (m + n) → c ≡ k → b < c → pixelsPerWalkCell * (u + v) < k
-    joined h i j k l = omega arith
+  abbrev rise : ℤ
+  rise = diff (s .b .y) (s .a .y)
+
+  abbrev eastward : ℤ
+  eastward = diff (middleOf (p .x + d .x - 1)) (middleOf (p .x))
+
+  abbrev southward : ℤ
+  southward = diff (middleOf (p .y + d .y - 1)) (middleOf (p .y))
+
+  along-x : natAbs (rise *ℤ eastward) ≤ pixelsPerWalkCell * natAbs rise
+  along-x = omega (arith, natAbs-product rise eastward, mul-le-mul (le-refl (natAbs rise)) (beside (p .x) (d .x) hx kx))
+
+  stays : nonNeg (sideOf s p +ℤ (run *ℤ southward -ℤ rise *ℤ eastward)) ≡ nonNeg (sideOf s p) → cuts s p (toward p d) ≡ false
+  stays e = same-side s p (toward p d) (ap nonNeg (moved (s .a) (s .b) (cellCenter p) (cellCenter (toward p d))) ∙ e)
+
+  pub off-both : pixelsPerWalkCell * (natAbs run + natAbs rise) < natAbs (sideOf s p) → cuts s p (toward p d) ≡ false
+  off-both h =
+      stays (sign-stays (sideOf s p) (run *ℤ southward -ℤ rise *ℤ eastward) (omega (arith, small, h)))
+    where
+      small : natAbs (run *ℤ southward -ℤ rise *ℤ eastward) ≤ pixelsPerWalkCell * (natAbs run + natAbs rise)
+      small = omega (arith, natAbs-difference (run *ℤ southward) (rise *ℤ eastward), natAbs-product run southward, mul-le-mul (le-refl (natAbs run)) (beside (p .y) (d .y) hy ky), along-x)
+
+  pub off-row : d .y ≡ 1 → pixelsPerWalkCell * natAbs rise < natAbs (sideOf s p) → cuts s p (toward p d) ≡ false
+  off-row e h =
+      stays (sign-stays (sideOf s p) (run *ℤ southward -ℤ rise *ℤ eastward) (omega (arith, small, h)))
+    where
+      still : natAbs southward ≤ 0
+      still = omega (arith, natAbs-gap (middleOf (p .y + d .y - 1)) (middleOf (p .y)), e)
+
+      small : natAbs (run *ℤ southward -ℤ rise *ℤ eastward) ≤ pixelsPerWalkCell * natAbs rise
+      small = omega (arith, natAbs-difference (run *ℤ southward) (rise *ℤ eastward), natAbs-product run southward, mul-le-mul (le-refl (natAbs run)) still, along-x)
+
+  pub off-south : s .a .x ≤ s .b .x → 1 ≤ d .y → nonNeg (sideOf s p) ≡ true → pixelsPerWalkCell * natAbs rise < natAbs (sideOf s p) → cuts s p (toward p d) ≡ false
+  off-south o j n h =
+      stays (raised (sideOf s p) (rise *ℤ eastward) n (omega (arith, along-x, h)) grown ∙ sym n)
+    where
+      grown : run *ℤ southward ≡ pos ((s .b .x - s .a .x) * (middleOf (p .y + d .y - 1) - middleOf (p .y)))
+      grown = λ i. diff-pos o i *ℤ diff-pos {m = middleOf (p .y + d .y - 1)} {n = middleOf (p .y)} (omega (arith, j)) i
+
+-- ---- of a span as the code has it
+
+module _ {g : SpanGeometry} (G : Sound g) (p : Position) {z : ℤ} (f : z ≡ sideOf (segmentOf g) p) where
+  run-is : natAbs (diff (g .b .x) (g .a .x)) ≡ g .«max_x» - g .«min_x»
+  run-is = natAbs-gap (g .b .x) (g .a .x) ∙ sym (λ i. G .max-x i - G .min-x i)
+
+  rise-is : natAbs (diff (g .b .y) (g .a .y)) ≡ g .«max_y» - g .«min_y»
+  rise-is = natAbs-gap (g .b .y) (g .a .y) ∙ sym (λ i. G .max-y i - G .min-y i)
+
+  over : {b : ℕ} → ltb b (natAbs z) ≡ true → b < natAbs (sideOf (segmentOf g) p)
+  over {b} t = subst (λ n. b < n) (ap natAbs f) (ltb-true b (natAbs z) t)
+
+  pub far-span :
+      {b c : ℕ} {t u v : Bool} → b ≡ pixelsPerWalkCell * (g .«max_x» - g .«min_x» + (g .«max_y» - g .«min_y»)) → c ≡ pixelsPerWalkCell * (g .«max_y» - g .«min_y»)
+      → t ≡ ltb b (natAbs z) → u ≡ nonNeg z → v ≡ ltb c (natAbs z) → (t || (u && v)) ≡ true → Far (segmentOf g) p
+  far-span {t = true} i j k l m e d hx hy o kx ky =
+      off-both (segmentOf g) p d hx hy kx ky (omega (arith, over (sym k), i, run-is, rise-is))
+  far-span {t = false} {u = true} {v = true} i j k l m e d hx hy o kx ky =
+      off-south (segmentOf g) p d hx hy kx ky (G .ordered) (omega (arith, o)) (sym (l ∙ ap nonNeg f)) (omega (arith, over (sym m), j, rise-is))
+  far-span {t = false} {u = true} {v = false} i j k l m e d hx hy o kx ky = absurd (false≢true e)
+  far-span {t = false} {u = false} i j k l m e d hx hy o kx ky = absurd (false≢true e)
+
+  pub far-east : {c : ℕ} → c ≡ pixelsPerWalkCell * (g .«max_y» - g .«min_y») → ltb c (natAbs z) ≡ true → Uncut (segmentOf g) p (at 2 1)
+  far-east j e kx ky = off-row (segmentOf g) p (at 2 1) (omega arith) (omega arith) kx ky refl (omega (arith, over e, j, rise-is))

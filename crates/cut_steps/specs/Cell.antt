@@ -4,9 +4,10 @@ use mathlib.Core.Path.{_≡_}
 use mathlib.Core.Bool.{Bool, true, false, cond}
 use mathlib.Core.List.{List}
 use lib.ListN.{length}
+use lib.IntN.{ℤ}
 use Rattle.definitions.specs.Limits.{maxSide}
 use Rattle.definitions.specs.Grid.{Map, Position, at, Segment, toward, walkable}
-use Rattle.definitions.specs.Spans.{pixelsPerWalkCell, cuts}
+use Rattle.definitions.specs.Spans.{pixelsPerWalkCell, cross, cellCenter, cuts}
 use Rattle.span_geometry.specs.declared.SpanGeometry.{SpanGeometry}
 use Rattle.span_geometry.specs.Shapes.{maxPixel, Sound}
 use Rattle.flood.specs.Masks.{bitOf}
@@ -30,9 +31,17 @@ pub record CutDirections (w h : ℕ) (cells : List ℕ) (g : Segment) (x y mask 
   pub small : mask < 512
   pub bits : CutBits (gridOf w h cells) g (at x y) mask
 
--- the segment cuts no step from p, whatever cells are walkable
+-- the side value of a cell's centre
+abbrev pub sideOf : Segment → Position → ℤ
+sideOf g p = cross (g .a) (g .b) (cellCenter p)
+
+-- the segment does not cut the step from p in direction d, whatever cells are walkable
+abbrev pub Uncut : Segment → Position → Position → Type 0
+Uncut g p d = 1 ≤ p .x + d .x → 1 ≤ p .y + d .y → cuts g p (toward p d) ≡ false
+
+-- nor any step from p to a cell of larger number
 abbrev pub Far : Segment → Position → Type 0
-Far g p = (d : Position) → d .x ≤ 2 → d .y ≤ 2 → 1 ≤ p .x + d .x → 1 ≤ p .y + d .y → cuts g p (toward p d) ≡ false
+Far g p = (d : Position) → d .x ≤ 2 → d .y ≤ 2 → 4 < bitOf d → Uncut g p d
 
 -- how much a step can change the side value of a cell's centre, at most: 8 pixels times both extents of a span
 abbrev pub maxReach : ℕ

@@ -4,20 +4,22 @@ use flood::is_inside;
 use flood::is_step;
 use span_geometry::PIXELS_PER_WALK_CELL;
 use span_geometry::SpanGeometry;
+use span_geometry::numbers::not_negative;
 use span_geometry::segments::cell_center;
 use span_geometry::segments::cross;
 ghost use mathlib.Core.Path.{_≡_};
-ghost use mathlib.Core.Bool.{true, cond};
-ghost use Prim.Native.Nat.{_≤_, _<_};
+ghost use mathlib.Core.Bool.{true, false, cond};
+ghost use Prim.Native.Nat.{_+_, _*_, _≤_, _<_};
+ghost use lib.ListN.{length};
 ghost use lib.Dec.{ltb};
 ghost use lib.IntN.{natAbs};
 ghost use Rattle.definitions.specs.Limits.{maxSide};
-ghost use Rattle.definitions.specs.Grid.{at};
+ghost use Rattle.definitions.specs.Grid.{at, walkable};
 ghost use Rattle.span_geometry.specs.Shapes.{Sound, segmentOf};
 ghost use Rattle.flood.specs.Walk.{gridOf};
 ghost use Rattle.flood.specs.Inner.{Inner};
 ghost use Rattle.cut_steps.specs.CutSteps.{isCutOnward, isSet};
-ghost use Rattle.cut_steps.specs.Cell.{CellAsked, OnwardAsked, CutDirections, Far, maxReach, onwardMask};
+ghost use Rattle.cut_steps.specs.Cell.{CellAsked, OnwardAsked, CutDirections, sideOf, Uncut, Far, maxReach, onwardMask};
 
 // Whether a number is larger in size than a bound.
 fn exceeds(z: i64, bound: u64) -> bool
@@ -28,14 +30,70 @@ fn exceeds(z: i64, bound: u64) -> bool
     (z > limit) | (z < 0 - limit)
 }
 
-// Whether (x, y) is so far from the span's line that every neighbour's centre lies on the same side of it. Many candidates need no more than this test.
+// The side of the span's line on which the centre of (x, y) lies, as `cross` gives it.
+fn side_of(g: SpanGeometry, x: usize, y: usize) -> i64
+    requires { ⌜ Sound g × (x < maxSide) × (y < maxSide) ⌝ }
+    ensures { λ r. ⌜ r ≡ sideOf (segmentOf g) (at x y) ⌝ }
+{
+    cross(g.a, g.b, cell_center(x as u64, y as u64))
+}
+
+// Whether (x, y) is so far from the span's line that the centre of every neighbour of larger number lies on the same side of it: a step changes the side value by at
+// most 8 pixels times both extents of the span. On the positive side its extent along y is enough: the first endpoint is not to the right of the second, so that a
+// step to the south never lowers the value.
 fn is_far(g: SpanGeometry, x: usize, y: usize) -> bool
     requires { ⌜ Sound g × (x < maxSide) × (y < maxSide) ⌝ }
     ensures { λ r. ⌜ (r ≡ true → Far (segmentOf g) (at x y)) ⌝ }
 {
-    let side = cross(g.a, g.b, cell_center(x as u64, y as u64));
-    let extents = g.max_x - g.min_x + (g.max_y - g.min_y);
-    exceeds(side, PIXELS_PER_WALK_CELL * extents)
+    let side = side_of(g, x, y);
+    let run = g.max_x - g.min_x;
+    let rise = g.max_y - g.min_y;
+    exceeds(side, PIXELS_PER_WALK_CELL * (run + rise))
+        | (not_negative(side) & exceeds(side, PIXELS_PER_WALK_CELL * rise))
+}
+
+// Whether (x, y) is so far from the span's line that the centre of its neighbour to the east lies on the same side of it.
+fn is_far_eastward(g: SpanGeometry, x: usize, y: usize) -> bool
+    requires { ⌜ Sound g × (x < maxSide) × (y < maxSide) ⌝ }
+    ensures { λ r. ⌜ (r ≡ true → Uncut (segmentOf g) (at x y) (at 2 1)) ⌝ }
+{
+    exceeds(side_of(g, x, y), PIXELS_PER_WALK_CELL * (g.max_y - g.min_y))
+}
+
+// Whether the cell south of (x, y) is there and walkable. Every step to the next row asks for it.
+fn walks_south(width: usize, height: usize, cells: &[u8], x: usize, y: usize) -> bool
+    requires { ⌜ (width ≤ maxSide) × (height ≤ maxSide) × (length (now cells) ≡ height * width) × (x < width) × (y < height) ⌝ }
+    ensures { λ r. ⌜ r ≡ walkable (gridOf width height (now (cells .entry))) (at x (y + 1)) ⌝ }
+{
+    if height <= y + 1 {
+        return false;
+    }
+    cells[(y + 1) * width + x] % 2 == 1
+}
+
+// Whether (x, y) is walkable and may have a cut step to a cell of larger number: of most candidates these tests say that it has none.
+pub fn is_near(
+    width: usize,
+    height: usize,
+    cells: &[u8],
+    g: SpanGeometry,
+    x: usize,
+    y: usize,
+) -> bool
+    requires { ⌜ CellAsked width height (now cells) g x y ⌝ }
+    ensures { λ r. ⌜ (r ≡ true → walkable (gridOf width height (now (cells .entry))) (at x y) ≡ true) ⌝ }
+    ensures { λ r. ⌜ (r ≡ false → CutDirections width height (now (cells .entry)) (segmentOf g) x y 0) ⌝ }
+{
+    if cells[y * width + x] % 2 != 1 {
+        return false;
+    }
+    if is_far(g, x, y) {
+        return false;
+    }
+    if walks_south(width, height, cells, x, y) {
+        return true;
+    }
+    !is_far_eastward(g, x, y)
 }
 
 // Whether the step from the walkable (x, y) in a direction to cells of larger number is there and is cut.
@@ -63,6 +121,26 @@ fn is_cut_onward(
     g.cuts(x as u64, y as u64, (x + dx - 1) as u64, (y + dy - 1) as u64)
 }
 
+// Whether the step east from the walkable (x, y) is there and is cut. Beside a flat span most are ruled out by the first test.
+fn is_cut_east(
+    width: usize,
+    height: usize,
+    cells: &[u8],
+    g: SpanGeometry,
+    inner: bool,
+    x: usize,
+    y: usize,
+) -> bool
+    requires { ⌜ OnwardAsked width height (now cells) g x y 2 1 ⌝ }
+    requires { ⌜ (inner ≡ true → Inner width height x y) ⌝ }
+    ensures { λ r. ⌜ r ≡ isCutOnward (gridOf width height (now (cells .entry))) (segmentOf g) (at x y) (at 2 1) ⌝ }
+{
+    if is_far_eastward(g, x, y) {
+        return false;
+    }
+    is_cut_onward(width, height, cells, g, inner, x, y, 2, 1)
+}
+
 // The value where the test holds, else 0.
 fn value_if(test: bool, value: u16) -> u16
     ensures { λ r. ⌜ (r ≡ cond test value 0) × (r ≤ value) ⌝ }
@@ -77,7 +155,7 @@ fn onward_mask(east: bool, south_west: bool, south: bool, south_east: bool) -> u
     value_if(east, 32) + value_if(south_west, 64) + value_if(south, 128) + value_if(south_east, 256)
 }
 
-// The directions of (x, y) in which a step leads to a cell of larger number and is cut, a bit for each.
+// The directions of the walkable (x, y) in which a step leads to a cell of larger number and is cut, a bit for each.
 pub fn cut_directions(
     width: usize,
     height: usize,
@@ -87,17 +165,12 @@ pub fn cut_directions(
     y: usize,
 ) -> u16
     requires { ⌜ CellAsked width height (now cells) g x y ⌝ }
+    requires { ⌜ walkable (gridOf width height (now cells)) (at x y) ≡ true ⌝ }
     ensures { λ r. ⌜ CutDirections width height (now (cells .entry)) (segmentOf g) x y r ⌝ }
 {
-    if cells[y * width + x] % 2 != 1 {
-        return 0;
-    }
-    if is_far(g, x, y) {
-        return 0;
-    }
     let inner = is_inner(width, height, x, y);
     onward_mask(
-        is_cut_onward(width, height, cells, g, inner, x, y, 2, 1),
+        is_cut_east(width, height, cells, g, inner, x, y),
         is_cut_onward(width, height, cells, g, inner, x, y, 0, 2),
         is_cut_onward(width, height, cells, g, inner, x, y, 1, 2),
         is_cut_onward(width, height, cells, g, inner, x, y, 2, 2),

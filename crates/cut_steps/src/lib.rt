@@ -2,6 +2,7 @@
 pub mod cell;
 
 use cell::cut_directions;
+use cell::is_near;
 use cell::is_set;
 use flood::mark;
 use span_geometry::SpanGeometry;
@@ -58,6 +59,9 @@ fn mark_cell(
     requires { ⌜ MarkAsked width height (now cells) (now masks) g × (x < width) × (y < height) ⌝ }
     ensures { λ r. ⌜ Marked (gridOf width height (now (cells .entry))) (now (masks .entry)) (now (masks .exit)) (cutFrom (gridOf width height (now (cells .entry))) (segmentOf g) (at x y)) ⌝ }
 {
+    if !is_near(width, height, cells, g, x, y) {
+        return;
+    }
     let directions = cut_directions(width, height, cells, g, x, y);
     if directions == 0 {
         return;

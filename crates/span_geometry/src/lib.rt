@@ -1,7 +1,7 @@
 // The whole-number geometry of spans, from areas.rs: a span's endpoints in order, the steps that it cuts, and the cells near it.
 //
 // Coordinates are at most 8,192 pixels and cells below 1,024, so that every number here is at most 2^27 in size and nothing wraps.
-// Tests are joined by & and |, which evaluate both sides, so that an answer is one expression; only `cuts` stops early.
+// Tests are joined by & and |, which evaluate both sides, so that an answer is one expression; only `cuts` and `segments_intersect` stop early.
 pub mod numbers;
 pub mod segments;
 pub mod strips;

@@ -59,7 +59,7 @@ pub fn touches(side: i64, a: PixelPosition, b: PixelPosition, point: PixelPositi
     is_zero(side) & on_segment(a, b, point)
 }
 
-// Whether the segments from a to b and from c to d meet.
+// Whether the segments from a to b and from c to d meet. Most that do cross each other, and need no more than the first test.
 pub fn segments_intersect(
     a: PixelPosition,
     b: PixelPosition,
@@ -73,9 +73,8 @@ pub fn segments_intersect(
     let abd = cross(a, b, d);
     let cda = cross(c, d, a);
     let cdb = cross(c, d, b);
-    (strictly_opposite(abc, abd) & strictly_opposite(cda, cdb))
-        | touches(abc, a, b, c)
-        | touches(abd, a, b, d)
-        | touches(cda, c, d, a)
-        | touches(cdb, c, d, b)
+    if strictly_opposite(abc, abd) & strictly_opposite(cda, cdb) {
+        return true;
+    }
+    touches(abc, a, b, c) | touches(abd, a, b, d) | touches(cda, c, d, a) | touches(cdb, c, d, b)
 }

@@ -1,35 +1,57 @@
--- `assessments::assess_cell` meets its contract: the steps in the mask's directions are those that the span cuts. Assumes nothing.
+-- `assessments::assess_cell` meets its contract: a cell that is not near has no cut step, and else the steps in the mask's directions are those that the span cuts.
+-- Assumes nothing.
 use native.Mathlib.Omega.{arith}
+use mathlib.Core.Path.{refl}
 use borrow.Author.Needs.{needs}
+use borrow.Author.Tests.{not-true, not-false}
+use Rattle.cut_steps.specs.Cell.{CellAsked}
 use Rattle.assessments.proofs.Gathering.{assesses-none, assesses-same}
 use Rattle.assessments.proofs.Directions.{steps-cut, steps-cut-none, leads-cut}
 use Rattle.assessments.proofs.Turns.{counting-most}
 use Rattle.assessments.proofs.assess_cell.Statement.{statement}
 use Rattle.assessments.proofs.assess_cell.Tie as tie
 
-cut-directions-requires : tie.Need-cut-directions-requires
-cut-directions-requires c κs = search needs
+-- the function's entry, from its first call on
+abbrev entry : tie.After-is-near → tie.Start
+entry c = c .before .before .before .before
+
+asked : (s : tie.Start) → let a = s .args in CellAsked (a .width) (a .height) (a .cells .now) (a .g) (a .x) (a .y)
+asked s = let p = s .pre .0 in record { narrow = p .0 .narrow; short = p .0 .short; cellsLong = p .0 .cellsLong; sound = p .1; inX = p .2; inY = p .3 }
+
+is-near-requires : tie.Need-is-near-requires
+is-near-requires c κs = asked (c .before .before .before)
 
 returns : tie.Need-returns
-returns c =
-    let s = c .before .before .before .before .before in
-    (counting-most (s .pre .1) (omega arith), assesses-same (steps-cut-none (c .before .cut-directions .ensures) (c .if1 .taken)) assesses-none)
+returns c = (counting-most (entry (c .before) .pre .1) (omega arith), assesses-same (steps-cut-none (c .before .is-near .ensures .1 (not-true _ (c .if1 .taken))) refl) assesses-none)
+
+cut-directions-requires : tie.Need-cut-directions-requires
+cut-directions-requires c κs = (asked (entry (c .before)), c .before .is-near .ensures .0 (not-false _ (c .if1 .left)))
+
+returns-2 : tie.Need-returns-2
+returns-2 c = (counting-most (entry (c .before .before .before) .pre .1) (omega arith), assesses-same (steps-cut-none (c .before .cut-directions .ensures) (c .if2 .taken)) assesses-none)
 
 assess-directions-requires : tie.Need-assess-directions-requires
 assess-directions-requires c κs =
     let d = c .before .before in
-    let s = d .before .before .before .before in
+    let s = entry (d .before .before) in
     ((leads-cut (d .cut-directions .ensures) (s .pre .0 .0 .narrow) (s .pre .0 .0 .short) (s .pre .0 .2) (s .pre .0 .3), s .pre .0 .0 .labelsLong), s .pre .1)
 
 same-length : tie.Need-same-length
 same-length c = search needs
 
-returns-2 : tie.Need-returns-2
-returns-2 c =
+returns-3 : tie.Need-returns-3
+returns-3 c =
     let r = c .before .before in
     (r .assess-directions .ensures .0, assesses-same (steps-cut (r .before .before .before .cut-directions .ensures)) (r .assess-directions .ensures .1))
 
 pub assess-cell-spec : {M : Type 1} → statement M
 assess-cell-spec =
     tie.close
-    (tie.spec cut-directions-requires returns assess-directions-requires same-length returns-2)
+    (tie.spec
+    is-near-requires
+    returns
+    cut-directions-requires
+    returns-2
+    assess-directions-requires
+    same-length
+    returns-3)

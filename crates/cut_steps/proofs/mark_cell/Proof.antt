@@ -1,27 +1,35 @@
--- `mark_cell` meets its contract: where no direction is cut there is nothing to mark, and else the four calls add the cell's cut steps one after another.
+-- `mark_cell` meets its contract: where the cell is not near or no direction is cut there is nothing to mark, and else the four calls add the cell's cut steps one after another.
 -- Assumes nothing.
 use Prim.Native.Nat.{ℕ}
 use native.Mathlib.Omega.{arith}
+use mathlib.Core.Path.{refl}
 use mathlib.Core.List.{List, _++_}
 use borrow.Author.Needs.{needs}
+use borrow.Author.Tests.{not-true, not-false}
 use Rattle.definitions.specs.Grid.{at, Pair}
 use Rattle.span_geometry.specs.Shapes.{segmentOf}
 use Rattle.flood.specs.Walk.{gridOf}
 use Rattle.cut_steps.specs.CutSteps.{cutToward}
 use Rattle.cut_steps.specs.Marking.{Marked}
-use Rattle.cut_steps.proofs.Marks.{marked-none, direction-asked, direction-then, cell-none, cell-marked}
+use Rattle.cut_steps.proofs.Marks.{marked-none, cell-asked, direction-asked, direction-then, cell-none, cell-marked}
 use Rattle.cut_steps.proofs.mark_cell.Statement.{statement}
 use Rattle.cut_steps.proofs.mark_cell.Tie as tie
 
 -- the function's entry, from its call of `cut_directions` on
 abbrev entry : tie.After-cut-directions → tie.Start
-entry c = c .before .before .before
+entry c = c .before .before .before .before .before
 
-cut-directions-requires : tie.Need-cut-directions-requires
-cut-directions-requires c κs = search needs
+is-near-requires : tie.Need-is-near-requires
+is-near-requires c κs = search needs
 
 returns : tie.Need-returns
-returns c = cell-none (entry (c .before) .pre) (c .before .cut-directions .ensures) (c .if1 .taken)
+returns c = cell-none (c .before .before .before .before .pre) (c .before .is-near .ensures .1 (not-true _ (c .if1 .taken))) refl
+
+cut-directions-requires : tie.Need-cut-directions-requires
+cut-directions-requires c κs = let k = c .before in (cell-asked (k .before .before .before .pre), k .is-near .ensures .0 (not-false _ (c .if1 .left)))
+
+returns-2 : tie.Need-returns-2
+returns-2 c = cell-none (entry (c .before) .pre) (c .before .cut-directions .ensures) (c .if2 .taken)
 
 -- the call of `cut_directions`, from the calls of `mark_direction`
 abbrev first : tie.After-mark-direction-arg → tie.After-cut-directions
@@ -65,8 +73,8 @@ mark-direction-requires-4 c κs = let k = first (second (third (fourth c .before
 same-length : tie.Need-same-length
 same-length c = search needs
 
-returns-2 : tie.Need-returns-2
-returns-2 c =
+returns-3 : tie.Need-returns-3
+returns-3 c =
     let f = c .before .before in
     let k = first (second (third (fourth (f .before) .before) .before) .before) in
     cell-marked (entry k .pre) (k .cut-directions .ensures) (direction-then (entry k .pre) (k .cut-directions .ensures) (south-west (fourth (f .before))) 2 2 (omega arith) (omega arith) (f .mark-direction4 .ensures))
@@ -75,11 +83,13 @@ pub mark-cell-spec : {M : Type 1} → statement M
 mark-cell-spec =
     tie.close
     (tie.spec
-    cut-directions-requires
+    is-near-requires
     returns
+    cut-directions-requires
+    returns-2
     mark-direction-requires
     mark-direction-requires-2
     mark-direction-requires-3
     mark-direction-requires-4
     same-length
-    returns-2)
+    returns-3)

@@ -1,6 +1,6 @@
--- `segments::segments_intersect` meets its contract: its five tests are those of the definition, each as its function ensures. Assumes nothing.
-use mathlib.Core.Path.{_≡_, _∙_}
-use mathlib.Core.Bool.{_&&_, _||_}
+-- `segments::segments_intersect` meets its contract: its five tests are those of the definition, each as its function ensures; where the first holds the others do not matter. Assumes nothing.
+use mathlib.Core.Path.{_≡_, sym, _∙_}
+use mathlib.Core.Bool.{Bool, _&&_, _||_}
 use mir.Syntax.{w64}
 use mir.Val.{toZ, ofZ}
 use Rattle.definitions.specs.Grid.{Position}
@@ -66,17 +66,34 @@ module _ (c : tie.After-cross4) where
   cdb : toZ w64 (ofZ w64 (c .cross4 .result)) ≡ cross C D B
   cdb = given (c .cross4 .ok) (c .cross4 .ensures)
 
+-- whether they cross
+crossing : (c : tie.After-strictly-opposite2) → let s = c .before .before in (c .before .strictly-opposite .result && c .strictly-opposite2 .result) ≡ (strictlyOpposite (cross (A s) (B s) (C s)) (cross (A s) (B s) (D s)) && strictlyOpposite (cross (C s) (D s) (A s)) (cross (C s) (D s) (B s)))
+crossing c =
+    let s = c .before .before in
+    λ i.
+    (c .before .strictly-opposite .ensures ∙ (λ j. strictlyOpposite (abc s j) (abd s j))) i && (c .strictly-opposite2 .ensures ∙ (λ j. strictlyOpposite (cda s j) (cdb s j))) i
+
+-- the answer by the first test, and where an end of one segment lies on the other
+abbrev answer : tie.After-cross4 → Bool → Bool
+answer s first =
+    first || (isZero (cross (A s) (B s) (C s)) && onSegment (A s) (B s) (C s)) || (isZero (cross (A s) (B s) (D s)) && onSegment (A s) (B s) (D s))
+    || (isZero (cross (C s) (D s) (A s)) && onSegment (C s) (D s) (A s)) || (isZero (cross (C s) (D s) (B s)) && onSegment (C s) (D s) (B s))
+
 returns : tie.Need-returns
 unfolding segmentsIntersect
-returns c =
-    let o = c .before .before .before .before .before in
-    let s = o .before in
-    λ i.
-    ((o .strictly-opposite .ensures ∙ (λ j. strictlyOpposite (abc s j) (abd s j))) i && (c .before .before .before .before .strictly-opposite2 .ensures ∙ (λ j. strictlyOpposite (cda s j) (cdb s j))) i)
-    || (c .before .before .before .touches .ensures ∙ (λ j. isZero (abc s j) && onSegment (A s) (B s) (C s))) i
+returns c = let k = c .before in λ i. answer (k .before .before) ((sym (c .if1 .taken) ∙ crossing k) i)
+
+returns-2 : tie.Need-returns-2
+unfolding segmentsIntersect
+returns-2 c =
+    let k = c .before .before .before .before in
+    let s = k .before .before .before in
+    (λ i.
+    (c .before .before .before .touches .ensures ∙ (λ j. isZero (abc s j) && onSegment (A s) (B s) (C s))) i
     || (c .before .before .touches2 .ensures ∙ (λ j. isZero (abd s j) && onSegment (A s) (B s) (D s))) i
     || (c .before .touches3 .ensures ∙ (λ j. isZero (cda s j) && onSegment (C s) (D s) (A s))) i
-    || (c .touches4 .ensures ∙ (λ j. isZero (cdb s j) && onSegment (C s) (D s) (B s))) i
+    || (c .touches4 .ensures ∙ (λ j. isZero (cdb s j) && onSegment (C s) (D s) (B s))) i)
+    ∙ (λ i. answer s ((sym (k .if1 .left) ∙ crossing (k .before)) i))
 
 pub segments-intersect-spec : {M : Type 1} → statement M
 segments-intersect-spec =
@@ -88,8 +105,9 @@ segments-intersect-spec =
     cross-requires-4
     strictly-opposite-requires
     strictly-opposite-requires-2
+    returns
     touches-requires
     touches-requires-2
     touches-requires-3
     touches-requires-4
-    returns)
+    returns-2)
