@@ -1,9 +1,11 @@
-/* Regions of a walk grid cut by spans, the reader of sheets, and the correctly rounded hypotenuse.
-   The archive is target/staticlib/libjenwyllt.a, written by `rt staticlib jenwyllt`, for x86-64 Linux. Of other libraries it needs `memset` alone.
+/* Regions of a walk grid cut by spans, the boundaries that a pass keeps, the reader of sheets, and the correctly rounded hypotenuse.
+   The archives are for x86-64 Linux: target/staticlib/libjenwyllt.a, written by `rt staticlib jenwyllt`, and for `topology_kept_boundaries` alone
+   target/staticlib/libtopology.a, written by `rt staticlib topology`. Of other libraries they need `memset` alone.
    Every function is proved to meet the definitions of crates/definitions for every input that keeps to what stands here. */
 #ifndef JENWYLLT_H
 #define JENWYLLT_H
 
+#include <stdbool.h>
 #include <stddef.h>
 #include <stdint.h>
 
@@ -55,6 +57,64 @@ struct jenwyllt_answer jenwyllt_partition(
     uint32_t *tallies, size_t tallies_length,
     uint32_t *pairs, size_t pairs_length);
 
+/* The record of a region: how many cells it has, its edges in pixels, whether a cell is a ramp, which elevations occur (bit e stands for elevation e), and
+   how many cells have elevation 0, 1, 2 and 3. */
+struct jenwyllt_region {
+    size_t cells;
+    double min_x, min_y, max_x, max_y;
+    bool has_ramp;
+    uint8_t elevations;
+    size_t elevation_counts[4];
+};
+
+/* Cuts a map by its spans and runs a pass on its boundaries, as `replace_ramp_mouths` (pass 1), `collapse_ramp_interiors` (2) and
+   `remove_junction_boundaries` (3) of broodmap, with the hypotenuse below.
+
+   Read:
+     cells       width * height bytes, row by row: 1 for walkable, plus 2 for ramp, plus 4 times the elevation
+     spans       4 a span: x, y, x, y in pixels
+     boundaries  9 a boundary: x, y, x, y, the bits of its width as a double, kind (0 none, 1 lower, 2 upper), ramp id, lower and upper elevation
+     anchors     2 an anchor: x, y in cells
+   Filled; each may be longer than needed, and what it holds before does not matter:
+     labels, masks, queue, tallies, pairs   as for `jenwyllt_partition`
+     records     one a region, that of label 1 first
+     output      rows of 5: a boundary's number from 0, and x, y, x, y, the smaller endpoint first; ascending by endpoints, then by number
+
+   Number 0: the value is the count of rows, one for each boundary that is kept. Where there are not as many boundaries as spans, all are kept. Otherwise
+   the number says why not; the first of these causes that applies is given:
+
+     number  cause                                                                            value
+     1       a side is 0 or over 1024                                                         0
+     2       the cells are not width * height                                                 0
+     3       over 256 spans, boundaries or anchors, or the last one is unfinished             0
+     4       the pass is not 1, 2 or 3                                                        0
+     5       an endpoint above 8 * width or 8 * height                                        the first faulty span
+     6       both endpoints of a span are equal                                               the first faulty span
+     7       an endpoint as in 5; a width that is not finite, has its sign set or is over     the first faulty boundary
+             65536; a kind over 2, a ramp id over 32 bits, an elevation over 7, or any of
+             the last three not 0 with kind 0
+     8       an anchor outside the map                                                        the first faulty anchor
+     9       a walkable cell of elevation 4 or more                                           the first faulty cell
+     10      labels, masks, queue, tallies or output are too short                            0
+     11      there are more regions than records                                              0
+     12      there are more pairs than rows                                                   0
+
+   5 and 6 are tested span by span, 5 first. With 1 to 10 every list stays as it was. With 11 labels are filled, and masks, queue and tallies are zero; with
+   12 labels and tallies are filled, masks and queue are zero, and pairs are zero over the whole list; the other lists stay as they were. */
+struct jenwyllt_answer topology_kept_boundaries(
+    uint64_t pass, uint64_t width, uint64_t height,
+    const uint8_t *cells, size_t cells_length,
+    const uint64_t *spans, size_t spans_length,
+    const uint64_t *boundaries, size_t boundaries_length,
+    const uint64_t *anchors, size_t anchors_length,
+    uint32_t *labels, size_t labels_length,
+    uint16_t *masks, size_t masks_length,
+    uint32_t *queue, size_t queue_length,
+    uint32_t *tallies, size_t tallies_length,
+    uint32_t *pairs, size_t pairs_length,
+    struct jenwyllt_region *records, size_t records_length,
+    uint64_t *output, size_t output_length);
+
 /* What a sheet opens with; the last three are counts of entries. Number 0: the place is 0. Otherwise a refusal's number and place, and the rest is 0. */
 struct jenwyllt_sheet {
     uint64_t number;
@@ -89,7 +149,8 @@ struct jenwyllt_sheet {
      3       over 256 spans, boundaries or anchors                                  0
      10      a list is too short, tested last                                       0
 
-   With any of these every list stays as it was. What else a pass asks of a map is not tested here: `jenwyllt_partition` tests the spans. */
+   With any of these every list stays as it was. What else a pass asks of a map is not tested here, but by the
+   functions above. */
 struct jenwyllt_sheet jenwyllt_read_sheet(
     const uint8_t *bytes, size_t bytes_length,
     uint8_t *cells, size_t cells_length,

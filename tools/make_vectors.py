@@ -21,6 +21,8 @@ from hypotenuse import GREATEST, LEAST, SIGN, answer, bits, units
 from reference import Map, groups
 
 HERE = os.path.dirname(os.path.abspath(__file__))
+TAKEN = ' taken '                                # stands in the notes on proposals that are taken
+LEAST_TAKEN = 24
 
 
 # ---- maps
@@ -72,23 +74,24 @@ def features(m):
     return {name for name in notes if not name.startswith(('nearby: parallel', 'overlay: over'))}
 
 
-def generated(wanted):
-    """small maps, so chosen that each thing that can be noted is noted by several"""
+def generated():
+    """small maps, so chosen that each thing that can be noted is noted by several, and each kind of proposal is taken by two dozen"""
     seen, out = Counter(), []
     pool = []
-    for k, family, m in generate.maps(9000, 'vectors'):
+    for k, family, m in generate.maps(12000, 'vectors'):
         for m.pass_number in (1, 2, 3):
             if reference.early_refusal(m, reference.lend(m), True):
                 break
             copy = Map(m.pass_number, m.width, m.height, list(m.cells), list(m.spans), list(m.boundaries), list(m.anchors))
             pool.append((f'{family}-{k}-{m.pass_number}', copy, features(copy)))
     pool.sort(key=lambda item: len(item[1].cells) + 12 * len(item[1].spans) // 4)
-    for least in (1, 3, 6, 10, 16, 24):
+    for least, among in ((1, ''), (3, ''), (6, ''), (10, ''), (16, TAKEN), (LEAST_TAKEN, TAKEN)):
         for name, m, found in pool:
-            if any(seen[f] < least for f in found) and len(out) < wanted:
+            if any(among in f and seen[f] < least for f in found):
                 out.append((name, m))
                 seen.update(found)
                 found.clear()
+    assert min(seen[f] for f in seen if TAKEN in f) >= LEAST_TAKEN
     return out, seen
 
 
@@ -110,18 +113,49 @@ def map_text(name, m, full):
 
 # ---- sheets
 
-def chosen_sheets(wanted):
-    """damaged sheets, each kind of damage and each answer several times, the short ones first"""
+def damaged_sheets(wanted):
+    """each kind of damage and each answer several times, the short ones first"""
     pool = sorted(((what, data) for _, what, data in damage.sheets(generate.small_plan, 6000, 'vectors')), key=lambda item: len(item[1]))
     seen, out = Counter(), []
     for most in (1, 2, 4, 8):
         for what, data in pool:
             printed = sheet_bytes.keptlist(data).split()
-            keys = [what, ' '.join(printed[:2]) if printed[0] == 'refused' else 'kept']
+            keys = [what, ' '.join(printed[:2] + ['later'] * (printed[3] != '0')) if printed[0] == 'refused' else 'kept']
             if len(data) <= 2500 and len(out) < wanted and all(seen[k] < (most if k == what else 8 * most) for k in keys):
                 out.append((what, data))
                 seen.update(keys)
     return out
+
+
+LONG_NUMBERS = {                                 # in the place of a number, whose value some of them keep
+    'tenth byte above 1': lambda n: bytes([0x80] * 9 + [2]),
+    'eleven groups': lambda n: bytes([0x81] + [0x80] * 9 + [0]),
+    'ends in the tenth': lambda n: bytes([0xFF] * 9 + [0x80]),
+    'zero groups': lambda n: sheet_bytes.number_bytes(n, 9 - len(sheet_bytes.number_bytes(n))),
+}
+
+
+def sheets_of(m):
+    """a map's sheet cut short at each byte, with bytes left over, and with each of its numbers written long"""
+    numbers = sheet_bytes.sheet_numbers(m)
+    parts = [sheet_bytes.number_bytes(n) for n in numbers]
+    data = b''.join(parts)
+    for end in range(len(data) + 1):
+        yield 'cut short', data[:end]
+    for tail in (b'\0', b'\x80', bytes(20), data):
+        yield 'left over', data + tail
+    for k, n in enumerate(numbers):
+        for what, long in LONG_NUMBERS.items():
+            yield what, b''.join(parts[:k]) + long(n) + b''.join(parts[k + 1:])
+            if what == 'ends in the tenth':
+                yield what, b''.join(parts[:k]) + long(n)[:9]
+
+
+def chosen_sheets(maps):
+    """sheets of one map in all ways, damaged ones, and every tenth map as it is"""
+    yield from sheets_of(maps[0][1])
+    yield from damaged_sheets(280)
+    yield from ((name, sheet_bytes.sheet_of(m)) for name, m in maps[::10])
 
 
 # ---- the hypotenuse
@@ -232,7 +266,7 @@ def main():
     options = a.parse_args()
     full, kept = compare.Oracle(options.oracle, 'full'), compare.Oracle(options.oracle, 'kept')
 
-    maps, seen = generated(560)
+    maps, seen = generated()
     maps = list(chosen_by_hand()) + maps
     texts = []
     for name, m in maps:
@@ -241,7 +275,7 @@ def main():
         texts.append(map_text(name, m, theirs))
 
     sheets = []
-    for what, data in chosen_sheets(240):
+    for what, data in chosen_sheets(maps):
         theirs = kept.ask(data)
         assert theirs == sheet_bytes.keptlist(data), what
         lines = theirs.split('\n')[:-1]

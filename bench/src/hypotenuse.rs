@@ -1,8 +1,7 @@
 //! The hypotenuse: the C library's, wide whole numbers (the oracle's), MPFR's at 53 bits where it is installed, and ours.
 
 use crate::maps::Random;
-use crate::ours;
-use crate::timing::time;
+use crate::timing::{time, timed};
 use oracle::hypotenuse::rounded;
 use std::ffi::{CStr, c_char, c_int, c_long, c_ulong, c_void};
 use std::hint::black_box;
@@ -16,8 +15,8 @@ pub fn run(budget: Duration) {
     let mpfr = Mpfr::load();
     for (name, pairs) in [("half pixels, as in the passes", pixels()), ("any in range", doubles())] {
         let each = |call: &dyn Fn(f64, f64) -> f64| {
-            let least = time(budget, || pairs.iter().map(|(x, y)| call(black_box(*x), black_box(*y))).sum::<f64>()).least;
-            least.as_secs_f64() * 1e9 / PAIRS as f64
+            let sum = || pairs.iter().map(|(x, y)| call(black_box(*x), black_box(*y))).sum::<f64>();
+            time(budget, &mut [timed(sum)])[0].least() * 1e3 / PAIRS as f64
         };
         let differing = |call: &dyn Fn(f64, f64) -> f64| {
             pairs.iter().filter(|(x, y)| call(*x, *y).to_bits() != rounded(*x, *y).to_bits()).count()
@@ -31,7 +30,7 @@ pub fn run(budget: Duration) {
             shown(Some(each(&c_library))),
             shown(by_mpfr.as_ref().map(|call| each(call))),
             shown(Some(each(&rounded))),
-            shown(ours::hypotenuse().map(|call| each(&call))),
+            shown(Some(each(&jenwyllt::hypot))),
         );
         println!(
             "{:<34} {:>10} {:>10} {:>10} {:>10}",
@@ -39,7 +38,7 @@ pub fn run(budget: Duration) {
             differing(&c_library),
             by_mpfr.as_ref().map_or("-".into(), |call| differing(call).to_string()),
             "",
-            ours::hypotenuse().map_or("-".into(), |call| differing(&call).to_string()),
+            differing(&jenwyllt::hypot),
         );
     }
     println!("\nMPFR's time has the conversions from and to doubles.");

@@ -17,7 +17,7 @@ impl Random {
         self.next() % bound
     }
 
-    fn shuffle<T>(&mut self, list: &mut [T]) {
+    pub fn shuffle<T>(&mut self, list: &mut [T]) {
         for index in (1..list.len()).rev() {
             list.swap(index, self.below(index as u64 + 1) as usize);
         }

@@ -1,11 +1,9 @@
-//! Our static libraries. Each function here gives the call to time, or none while the library is not linked.
-//!
-//! To add one: put its name in `NAMES` of build.rs, declare its exported function here under `#[cfg(ours = "NAME")]`, and return a
-//! plain function that calls it. A lent slice goes as a pointer and a length.
+//! Our libraries on the oracle's maps, through the safe calls of ../bindings/rust.
 
+use jenwyllt::{KeptLists, PartitionLists, Refusal, Region};
 use oracle::sheet::Map;
+use oracle::topology::harness::Record;
 
-#[allow(dead_code)] // Read by the calls that are to come.
 /// The lists that the caller of a pass lends, made once and used again at each call.
 pub struct Lent {
     pub labels: Vec<u32>,
@@ -13,99 +11,75 @@ pub struct Lent {
     pub queue: Vec<u32>,
     pub tallies: Vec<u32>,
     pub pairs: Vec<u32>,
+    pub records: Vec<Region>,
     pub output: Vec<u64>,
 }
 
 impl Lent {
-    pub fn new(map: &Map, pair_rows: usize) -> Self {
+    pub fn new(map: &Map, regions: usize, pair_rows: usize) -> Self {
         Self {
             labels: vec![0; map.cells.len()],
             masks: vec![0; map.cells.len()],
             queue: vec![0; map.cells.len()],
             tallies: vec![0; map.spans.len() / 2],
             pairs: vec![0; 3 * pair_rows],
+            records: vec![Region::default(); regions],
             output: vec![0; 5 * 256],
         }
     }
-}
 
-/// Number and value, as in document 01.
-pub type Outcome = (u64, u64);
-
-#[cfg(not(ours = "jenwyllt"))]
-pub fn partition() -> Option<fn(&Map, &mut Lent) -> Outcome> {
-    None
-}
-
-#[cfg(ours = "jenwyllt")]
-pub fn partition() -> Option<fn(&Map, &mut Lent) -> Outcome> {
-    #[repr(C)]
-    struct Answer {
-        number: u64,
-        value: u64,
-    }
-
-    unsafe extern "C" {
-        fn jenwyllt_partition(
-            width: u64,
-            height: u64,
-            cells: *const u8,
-            cells_length: usize,
-            spans: *const u64,
-            spans_length: usize,
-            labels: *mut u32,
-            labels_length: usize,
-            masks: *mut u16,
-            masks_length: usize,
-            queue: *mut u32,
-            queue_length: usize,
-            tallies: *mut u32,
-            tallies_length: usize,
-            pairs: *mut u32,
-            pairs_length: usize,
-        ) -> Answer;
-    }
-
-    Some(|map, lent| {
-        // SAFETY: each list is lent by its own vector, as pointer and length, and nothing else touches them during the call.
-        let answer = unsafe {
-            jenwyllt_partition(
-                map.width,
-                map.height,
-                map.cells.as_ptr(),
-                map.cells.len(),
-                map.spans.as_ptr(),
-                map.spans.len(),
-                lent.labels.as_mut_ptr(),
-                lent.labels.len(),
-                lent.masks.as_mut_ptr(),
-                lent.masks.len(),
-                lent.queue.as_mut_ptr(),
-                lent.queue.len(),
-                lent.tallies.as_mut_ptr(),
-                lent.tallies.len(),
-                lent.pairs.as_mut_ptr(),
-                lent.pairs.len(),
-            )
+    fn lists(&mut self) -> KeptLists<'_> {
+        let partition = PartitionLists {
+            labels: &mut self.labels,
+            masks: &mut self.masks,
+            queue: &mut self.queue,
+            tallies: &mut self.tallies,
+            pairs: &mut self.pairs,
         };
-        (answer.number, answer.value)
-    })
-}
-
-/// Runs the map's pass; the region records are the caller's too, in the layout of the library's header.
-pub fn kept_boundaries() -> Option<fn(&Map, &mut Lent) -> Outcome> {
-    None
-}
-
-#[cfg(not(ours = "jenwyllt"))]
-pub fn hypotenuse() -> Option<fn(f64, f64) -> f64> {
-    None
-}
-
-#[cfg(ours = "jenwyllt")]
-pub fn hypotenuse() -> Option<fn(f64, f64) -> f64> {
-    unsafe extern "C" {
-        safe fn jenwyllt_hypot(x: f64, y: f64) -> f64;
+        KeptLists { partition, records: &mut self.records, output: &mut self.output }
     }
-    Some(|x, y| jenwyllt_hypot(x, y))
+}
+
+/// A call on a map, with lists lent to it.
+pub type Call = fn(&Map, &mut Lent) -> Result<u64, Refusal>;
+
+pub fn partition(map: &Map, lent: &mut Lent) -> Result<u64, Refusal> {
+    jenwyllt::partition_into(map.width, map.height, &map.cells, &map.spans, lent.lists().partition)
+}
+
+/// Runs the map's pass.
+pub fn kept_boundaries(map: &Map, lent: &mut Lent) -> Result<u64, Refusal> {
+    call(map, lent.lists())
+}
+
+/// The same call with one pair row too few: it partitions the map and is refused 12.
+pub fn refused(map: &Map, lent: &mut Lent) -> Result<u64, Refusal> {
+    let KeptLists { partition, records, output } = lent.lists();
+    let short = partition.pairs.len() - 3;
+    let partition = PartitionLists { pairs: &mut partition.pairs[..short], ..partition };
+    call(map, KeptLists { partition, records, output })
+}
+
+fn call(map: &Map, lists: KeptLists) -> Result<u64, Refusal> {
+    let map = jenwyllt::Map {
+        pass: map.pass,
+        width: map.width,
+        height: map.height,
+        cells: &map.cells,
+        spans: &map.spans,
+        boundaries: &map.boundaries,
+        anchors: &map.anchors,
+    };
+    jenwyllt::kept_boundaries_into(map, lists)
+}
+
+/// A record as the oracle has it.
+pub fn record(region: &Region) -> Record {
+    Record {
+        cells: region.cells as u64,
+        edges: [region.min_x, region.min_y, region.max_x, region.max_y].map(f64::to_bits),
+        ramp: region.has_ramp,
+        mask: region.elevations,
+        counts: region.elevation_counts.map(|count| count as u64),
+    }
 }

@@ -1,27 +1,82 @@
-//! Repeats a call for a while and keeps the least and the middle time.
+//! Repeats calls in turn for a while and keeps the least and the middle time of each: time of the processor, so that what else runs on the
+//! machine counts as little as it can.
 
+use crate::maps::Random;
+use std::ffi::c_int;
 use std::hint::black_box;
 use std::time::{Duration, Instant};
 
-pub struct Timing {
-    pub least: Duration,
-    pub middle: Duration,
-}
+/// The times of a call in microseconds, round by round.
+pub struct Timing(Vec<f64>);
 
-/// Runs until `budget` is spent, and at least five times.
-pub fn time<T>(budget: Duration, mut call: impl FnMut() -> T) -> Timing {
-    let begin = Instant::now();
-    let mut times = Vec::new();
-    while times.len() < 5 || begin.elapsed() < budget {
-        let start = Instant::now();
-        let result = black_box(call());
-        times.push(start.elapsed());
-        drop(result);
+impl Timing {
+    pub fn least(&self) -> f64 {
+        self.0.iter().copied().fold(f64::INFINITY, f64::min)
     }
-    times.sort_unstable();
-    Timing { least: times[0], middle: times[times.len() / 2] }
+
+    pub fn middle(&self) -> f64 {
+        let mut sorted = self.0.clone();
+        sorted.sort_unstable_by(f64::total_cmp);
+        sorted[sorted.len() / 2]
+    }
+
+    /// What this takes more than another, round by round.
+    pub fn less(&self, other: &Self) -> Self {
+        Self(self.0.iter().zip(&other.0).map(|(this, other)| this - other).collect())
+    }
+
+    /// Both one after the other.
+    pub fn and(&self, other: &Self) -> Self {
+        Self(self.0.iter().zip(&other.0).map(|(this, other)| this + other).collect())
+    }
 }
 
-pub fn micros(duration: Duration) -> f64 {
-    duration.as_secs_f64() * 1e6
+/// A call that says how long it took.
+pub type Timed<'a> = Box<dyn FnMut() -> Duration + 'a>;
+
+/// What the call makes is dropped after the clock is read.
+pub fn timed<'a, T>(mut call: impl FnMut() -> T + 'a) -> Timed<'a> {
+    Box::new(move || {
+        let start = processor_time();
+        let result = black_box(call());
+        let took = processor_time() - start;
+        drop(result);
+        took
+    })
+}
+
+/// What this thread has had.
+fn processor_time() -> Duration {
+    #[repr(C)]
+    struct Time {
+        seconds: i64,
+        nanoseconds: i64,
+    }
+    unsafe extern "C" {
+        fn clock_gettime(clock: c_int, time: *mut Time) -> c_int;
+    }
+    const THREAD: c_int = 3;
+    let mut time = Time { seconds: 0, nanoseconds: 0 };
+    // SAFETY: the layout is that of `timespec` on x86-64 Linux, and the clock is one that it has.
+    let failed = unsafe { clock_gettime(THREAD, &mut time) };
+    assert_eq!(failed, 0);
+    Duration::new(time.seconds as u64, time.nanoseconds as u32)
+}
+
+/// Runs each of the calls once a round, in an order of its own, so that all of them meet the same load and the same neighbours, until
+/// `budget` is spent for each, and at least five times.
+pub fn time(budget: Duration, calls: &mut [Timed]) -> Vec<Timing> {
+    let begin = Instant::now();
+    let mut random = Random(7);
+    let mut order: Vec<_> = (0..calls.len()).collect();
+    let mut times: Vec<_> = calls.iter().map(|_| Timing(vec![])).collect();
+    let mut rounds = 0;
+    while rounds < 5 || begin.elapsed() < budget * calls.len() as u32 {
+        random.shuffle(&mut order);
+        for &call in &order {
+            times[call].0.push(calls[call]().as_secs_f64() * 1e6);
+        }
+        rounds += 1;
+    }
+    times
 }

@@ -1,10 +1,10 @@
-//! Links the archive, from target/staticlib at the repository's root or from the folder that `RATTLE_STATICLIB` names.
+//! Links the archives, from target/staticlib at the repository's root or from the folder that `RATTLE_STATICLIB` names.
 
 use std::path::{Path, PathBuf};
 use std::{env, fs};
 
 /// Crates whose exported functions src/exported.rs declares. `rt staticlib NAME` writes libNAME.a.
-const ARCHIVES: [&str; 1] = ["jenwyllt"];
+const ARCHIVES: [&str; 2] = ["jenwyllt", "topology"];
 
 fn main() {
     println!("cargo::rerun-if-changed=build.rs");

@@ -1,10 +1,21 @@
-//! The archive's functions, as include/jenwyllt.h declares them. A list goes as a pointer to its first entry and its length.
+//! The functions of both archives, as include/jenwyllt.h declares them. A list goes as a pointer to its first entry and its length.
+
+use crate::{Refusal, Region};
 
 /// Number 0 and a count, or a refusal's number and place.
 #[repr(C)]
 pub struct Answer {
     pub number: u64,
     pub value: u64,
+}
+
+impl Answer {
+    pub fn result(self) -> Result<u64, Refusal> {
+        match self.number {
+            0 => Ok(self.value),
+            number => Err(Refusal { number, place: self.value }),
+        }
+    }
 }
 
 /// What a sheet opens with, or a refusal's number and place.
@@ -47,6 +58,34 @@ unsafe extern "C" {
         tallies_length: usize,
         pairs: *mut u32,
         pairs_length: usize,
+    ) -> Answer;
+
+    pub fn topology_kept_boundaries(
+        pass: u64,
+        width: u64,
+        height: u64,
+        cells: *const u8,
+        cells_length: usize,
+        spans: *const u64,
+        spans_length: usize,
+        boundaries: *const u64,
+        boundaries_length: usize,
+        anchors: *const u64,
+        anchors_length: usize,
+        labels: *mut u32,
+        labels_length: usize,
+        masks: *mut u16,
+        masks_length: usize,
+        queue: *mut u32,
+        queue_length: usize,
+        tallies: *mut u32,
+        tallies_length: usize,
+        pairs: *mut u32,
+        pairs_length: usize,
+        records: *mut Region,
+        records_length: usize,
+        output: *mut u64,
+        output_length: usize,
     ) -> Answer;
 
     pub fn jenwyllt_read_sheet(

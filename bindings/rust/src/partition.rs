@@ -47,37 +47,64 @@ pub struct PartitionLists<'a> {
 /// assert_eq!((refusal.number, refusal.place), (5, 1));
 /// ```
 pub fn partition(width: u64, height: u64, cells: &[u8], spans: &[[u64; 4]]) -> Result<Partition, Refusal> {
-    const MORE_PAIRS_THAN_ROWS: u64 = 12;
-    let mut partition = Partition {
-        regions: 0,
-        labels: vec![0; cells.len()],
-        tallies: vec![[0; 2]; spans.len()],
-        pairs: vec![[0; 3]; 2 * spans.len()],
-    };
-    let mut masks = vec![0; cells.len()];
-    let mut queue = vec![0; cells.len()];
-    let mut call = |partition: &mut Partition| {
-        let lists = PartitionLists {
-            labels: &mut partition.labels,
-            masks: &mut masks,
-            queue: &mut queue,
-            tallies: partition.tallies.as_flattened_mut(),
-            pairs: partition.pairs.as_flattened_mut(),
-        };
-        partition_into(width, height, cells, spans.as_flattened(), lists)
-    };
-    let mut answer = call(&mut partition);
-    if answer.is_err_and(|refusal| refusal.number == MORE_PAIRS_THAN_ROWS) {
-        // The tallies are filled, and a span has at most one pair for each step that joins two regions.
-        let most = partition.tallies.iter().map(|[_, separated]| *separated as usize).sum();
-        partition.pairs = vec![[0; 3]; most];
-        answer = call(&mut partition);
+    let mut room = Room::new(cells.len(), spans.len());
+    loop {
+        let answer = partition_into(width, height, cells, spans.as_flattened(), room.lists());
+        if !room.grown_for(answer) {
+            return answer.map(|regions| room.filled(regions));
+        }
     }
-    partition.regions = answer?;
-    // No label of a pair is 0, so a row that stayed zero stands behind the last.
-    let rows = partition.pairs.partition_point(|[_, smaller, _]| *smaller != 0);
-    partition.pairs.truncate(rows);
-    Ok(partition)
+}
+
+/// A partition to be filled, and the lists to work in.
+pub(crate) struct Room {
+    partition: Partition,
+    masks: Vec<u16>,
+    queue: Vec<u32>,
+}
+
+impl Room {
+    /// As much as a map of so many cells and spans needs, but for pairs: of these there is room for two a span.
+    pub(crate) fn new(cells: usize, spans: usize) -> Self {
+        let partition =
+            Partition { regions: 0, labels: vec![0; cells], tallies: vec![[0; 2]; spans], pairs: vec![[0; 3]; 2 * spans] };
+        Self { partition, masks: vec![0; cells], queue: vec![0; cells] }
+    }
+
+    pub(crate) fn lists(&mut self) -> PartitionLists<'_> {
+        PartitionLists {
+            labels: &mut self.partition.labels,
+            masks: &mut self.masks,
+            queue: &mut self.queue,
+            tallies: self.partition.tallies.as_flattened_mut(),
+            pairs: self.partition.pairs.as_flattened_mut(),
+        }
+    }
+
+    /// Whether it was for want of pair rows that a call was refused, of which there are enough now.
+    pub(crate) fn grown_for(&mut self, answer: Result<u64, Refusal>) -> bool {
+        const MORE_PAIRS_THAN_ROWS: u64 = 12;
+        let short = answer.is_err_and(|refusal| refusal.number == MORE_PAIRS_THAN_ROWS);
+        if short {
+            // The tallies are filled, and a span has at most one pair for each step that joins two regions.
+            let most = self.partition.tallies.iter().map(|[_, separated]| *separated as usize).sum();
+            self.partition.pairs = vec![[0; 3]; most];
+        }
+        short
+    }
+
+    /// The highest label.
+    pub(crate) fn regions(&self) -> u64 {
+        self.partition.labels.iter().copied().max().unwrap_or(0).into()
+    }
+
+    pub(crate) fn filled(mut self, regions: u64) -> Partition {
+        self.partition.regions = regions;
+        // No label of a pair is 0, so a row that stayed zero stands behind the last.
+        let rows = self.partition.pairs.partition_point(|[_, smaller, _]| *smaller != 0);
+        self.partition.pairs.truncate(rows);
+        self.partition
+    }
 }
 
 /// The same with lists that the caller lends, four numbers a span; answers how many regions there are.
@@ -126,8 +153,5 @@ pub fn partition_into(width: u64, height: u64, cells: &[u8], spans: &[u64], list
             pairs.len(),
         )
     };
-    match answer.number {
-        0 => Ok(answer.value),
-        number => Err(Refusal { number, place: answer.value }),
-    }
+    answer.result()
 }

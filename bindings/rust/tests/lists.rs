@@ -1,6 +1,9 @@
 //! What the lent lists hold when a call returns: room beyond the data, refusals, lists without entries.
 
-use jenwyllt::{PartitionLists, Refusal, SheetLists, partition, partition_into, read_sheet, read_sheet_into};
+use jenwyllt::{
+    KeptLists, Map, PartitionLists, Refusal, Region, SheetLists, kept_boundaries_into, partition, partition_into, read_sheet,
+    read_sheet_into,
+};
 
 const CELLS: [u8; 4] = [1, 1, 0, 1];
 const SPANS: [u64; 4] = [8, 0, 8, 8];
@@ -25,15 +28,18 @@ impl Lists {
         }
     }
 
-    fn partition(&mut self, width: u64, height: u64, cells: &[u8], spans: &[u64]) -> Result<u64, Refusal> {
-        let lists = PartitionLists {
+    fn lent(&mut self) -> PartitionLists<'_> {
+        PartitionLists {
             labels: &mut self.labels,
             masks: &mut self.masks,
             queue: &mut self.queue,
             tallies: &mut self.tallies,
             pairs: &mut self.pairs,
-        };
-        partition_into(width, height, cells, spans, lists)
+        }
+    }
+
+    fn partition(&mut self, width: u64, height: u64, cells: &[u8], spans: &[u64]) -> Result<u64, Refusal> {
+        partition_into(width, height, cells, spans, self.lent())
     }
 
     fn as_they_were(&self) -> bool {
@@ -89,6 +95,144 @@ fn too_few_pair_rows() {
         assert_eq!(lists.pairs, vec![0; length]);
         assert!(lists.masks.iter().all(|mask| *mask == 0) && lists.queue.iter().all(|cell| *cell == 0));
     }
+}
+
+// ---- the call that runs a pass: four cells, of which two are a ramp, cut into three regions; pass 1 removes the first boundary
+
+const WIDTH_BITS: u64 = 0x4020_0000_0000_0000;
+const RAMP_CELLS: [u8; 4] = [1, 5, 7, 7];
+const TWO_SPANS: [u64; 8] = [8, 0, 8, 8, 16, 0, 16, 8];
+const TWO_BOUNDARIES: [u64; 18] = [8, 8, 8, 0, WIDTH_BITS, 0, 0, 0, 0, 16, 0, 16, 8, WIDTH_BITS, 1, 7, 0, 1];
+const MAP: Map =
+    Map { pass: 1, width: 4, height: 1, cells: &RAMP_CELLS, spans: &TWO_SPANS, boundaries: &TWO_BOUNDARIES, anchors: &[] };
+/// No record that a map has: cells of all counts, and edges that are no numbers.
+const HELD_RECORD: Region = Region {
+    cells: usize::MAX,
+    min_x: f64::NAN,
+    min_y: f64::NEG_INFINITY,
+    max_x: -0.0,
+    max_y: 1e300,
+    has_ramp: true,
+    elevations: 0xff,
+    elevation_counts: [usize::MAX; 4],
+};
+
+struct Call {
+    lists: Lists,
+    records: Vec<Region>,
+    output: Vec<u64>,
+}
+
+impl Call {
+    fn new(lengths: [usize; 5], records: usize, output: usize) -> Self {
+        Self { lists: Lists::new(lengths), records: vec![HELD_RECORD; records], output: vec![HELD.into(); output] }
+    }
+
+    fn run(&mut self, map: Map) -> Result<u64, Refusal> {
+        let lists = KeptLists { partition: self.lists.lent(), records: &mut self.records, output: &mut self.output };
+        kept_boundaries_into(map, lists)
+    }
+
+    /// Records bit by bit: an edge that is no number is unlike itself.
+    fn records_as_they_were(&self, from: usize) -> bool {
+        self.records[from..].iter().all(|record| format!("{record:?}") == format!("{HELD_RECORD:?}"))
+    }
+
+    fn as_they_were(&self) -> bool {
+        self.lists.as_they_were() && self.records_as_they_were(0) && self.output.iter().all(|entry| *entry == u64::from(HELD))
+    }
+}
+
+#[test]
+fn a_pass_keeps_what_is_beyond() {
+    let mut call = Call::new([5, 6, 7, 6, 10], 5, 12);
+    assert_eq!(call.run(MAP), Ok(1));
+    assert_eq!(call.lists.labels, [1, 2, 3, 3, HELD]);
+    assert_eq!(call.lists.masks, [0, 0, 0, 0, HELD as u16, HELD as u16]);
+    assert_eq!(call.lists.queue, [0, 0, 0, 0, HELD, HELD, HELD]);
+    assert_eq!(call.lists.tallies, [1, 1, 1, 1, HELD, HELD]);
+    assert_eq!(call.lists.pairs, [0, 1, 2, 1, 2, 3, HELD, HELD, HELD, HELD]);
+    let region = |cells, min_x, max_x, has_ramp, elevation: usize| {
+        let mut elevation_counts = [0; 4];
+        elevation_counts[elevation] = cells;
+        Region { cells, min_x, min_y: 0.0, max_x, max_y: 8.0, has_ramp, elevations: 1 << elevation, elevation_counts }
+    };
+    assert_eq!(
+        call.records[..3],
+        [region(1, 0.0, 8.0, false, 0), region(1, 8.0, 16.0, false, 1), region(2, 16.0, 32.0, true, 1)]
+    );
+    assert!(call.records_as_they_were(3));
+    assert_eq!(call.output[..5], [1, 16, 0, 16, 8]);
+    assert!(call.output[5..].iter().all(|entry| *entry == u64::from(HELD)));
+}
+
+#[test]
+fn a_pass_refused_leaves_every_list() {
+    let mut call = Call::new([4, 4, 4, 4, 6], 3, 10);
+    let changed = |place: usize, number: u64| {
+        let mut boundaries = TWO_BOUNDARIES;
+        boundaries[place] = number;
+        boundaries
+    };
+    let faulty = [
+        (changed(2, 33), refusal(7, 0)),
+        (changed(13, f64::NAN.to_bits()), refusal(7, 1)),
+        (changed(4, 1 << 63), refusal(7, 0)),
+        (changed(5, 3), refusal(7, 0)),
+        (changed(15, 1 << 32), refusal(7, 1)),
+        (changed(17, 8), refusal(7, 1)),
+        (changed(8, 1), refusal(7, 0)),
+    ];
+    for (boundaries, refused) in &faulty {
+        assert_eq!(call.run(Map { boundaries, ..MAP }), Err(*refused));
+        assert!(call.as_they_were(), "{refused}");
+    }
+    for (map, refused) in [
+        (Map { width: 1025, ..MAP }, refusal(1, 0)),
+        (Map { height: 2, ..MAP }, refusal(2, 0)),
+        (Map { boundaries: &TWO_BOUNDARIES[1..], ..MAP }, refusal(3, 0)),
+        (Map { anchors: &[0; 514], ..MAP }, refusal(3, 0)),
+        (Map { pass: 0, ..MAP }, refusal(4, 0)),
+        (Map { pass: u64::MAX, spans: &[9; 4], ..MAP }, refusal(4, 0)),
+        (Map { spans: &[33, 0, 8, 8], ..MAP }, refusal(5, 0)),
+        (Map { spans: &[1, 2, 1, 2], ..MAP }, refusal(6, 0)),
+        (Map { anchors: &[0, 0, 4, 0], ..MAP }, refusal(8, 1)),
+        (Map { anchors: &[0, u64::MAX], ..MAP }, refusal(8, 0)),
+        (Map { cells: &[1, 5, 16, 17], ..MAP }, refusal(9, 3)),
+    ] {
+        assert_eq!(call.run(map), Err(refused));
+        assert!(call.as_they_were(), "{refused}");
+    }
+    for short in 0..5 {
+        let mut lengths = [4, 4, 4, 4, 6];
+        lengths[short] -= 1;
+        let mut call = Call::new(lengths, 3, if short == 4 { 9 } else { 10 });
+        assert_eq!(call.run(MAP), Err(refusal(10, 0)));
+        assert!(call.as_they_were(), "{lengths:?}");
+    }
+}
+
+#[test]
+fn too_few_records_or_rows() {
+    for (records, pairs, number) in [(2, 6, 11), (0, 0, 11), (3, 5, 12), (4, 0, 12)] {
+        let mut call = Call::new([5, 4, 5, 5, pairs], records, 11);
+        assert_eq!(call.run(MAP), Err(refusal(number, 0)));
+        assert_eq!(call.lists.labels, [1, 2, 3, 3, HELD]);
+        assert_eq!((&call.lists.masks[..], &call.lists.queue[..]), (&[0; 4][..], &[0, 0, 0, 0, HELD][..]));
+        assert_eq!(call.lists.tallies, if number == 11 { [0, 0, 0, 0, HELD] } else { [1, 1, 1, 1, HELD] });
+        assert_eq!(call.lists.pairs, vec![if number == 11 { HELD } else { 0 }; pairs]);
+        assert!(call.records_as_they_were(0) && call.output.iter().all(|entry| *entry == u64::from(HELD)));
+    }
+}
+
+#[test]
+fn unequal_counts_keep_all() {
+    let mut call = Call::new([4, 4, 4, 4, 6], 3, 10);
+    assert_eq!(call.run(Map { boundaries: &[], ..MAP }), Ok(0));
+    assert!(call.output.iter().all(|entry| *entry == u64::from(HELD)));
+    assert_eq!(call.run(Map { spans: &TWO_SPANS[..4], ..MAP }), Ok(2));
+    assert_eq!(call.output, [0, 8, 0, 8, 8, 1, 16, 0, 16, 8]);
+    assert_eq!(call.lists.labels, [1, 2, 2, 2]);
 }
 
 #[test]

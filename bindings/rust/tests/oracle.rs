@@ -1,7 +1,10 @@
 //! The Rust original judges generated maps, sheets and pairs of doubles: the program of oracle/, built and run here. Without
 //! `BROODMAP_SRC` (oracle/README.md) there is nothing to build it from, and these tests say so and pass.
 
-use jenwyllt::{PartitionLists, Refusal, Sheet, hypotenuse, partition, partition_into, read_sheet};
+use jenwyllt::{
+    KeptLists, PartitionLists, Refusal, Region, Sheet, hypotenuse, kept_boundaries, kept_boundaries_into, partition,
+    partition_into, read_sheet,
+};
 use std::fmt::Write as _;
 use std::io::Write as _;
 use std::path::{Path, PathBuf};
@@ -112,6 +115,59 @@ impl Random {
         }
     }
 
+    /// A corridor, or rooms of one cell each, cut at borders of cells, with ramps and anchors; a few have a fault.
+    fn pass(&mut self) -> Sheet {
+        let pass = 1 + self.below(3);
+        let (width, height) = if pass == 3 { (3 + self.below(4), 3) } else { (3 + self.below(20), 1 + self.below(2)) };
+        let cell = |random: &mut Self| match random.below(12) {
+            kind if pass == 3 => u8::from(kind < 7),
+            0 => 0,
+            kind => 1 + 2 * u8::from(kind < 4) + 4 * u8::from(random.once_in(8)),
+        };
+        let cells = (0..width * height).map(|_| cell(self)).collect();
+        let borders: Vec<_> = if pass == 3 {
+            let beside = (1..width).flat_map(|x| (0..height).map(move |y| [x, y, x, y + 1]));
+            let below = (0..width).flat_map(|x| (1..height).map(move |y| [x, y, x + 1, y]));
+            beside.chain(below).collect()
+        } else {
+            (1..width).map(|x| [x, 0, x, height]).collect()
+        };
+        let spans: Vec<_> = borders.into_iter().filter(|_| !self.once_in(3)).map(|border| border.map(|side| 8 * side)).collect();
+        let boundaries = spans.iter().map(|span| self.boundary(*span, pass < 3)).collect();
+        let anchors = (0..self.below(3)).map(|_| [self.below(width), self.below(height)]).collect();
+        let mut sheet = Sheet { pass, width, height, cells, spans, boundaries, anchors };
+        if self.once_in(10) {
+            self.damage(&mut sheet);
+        }
+        sheet
+    }
+
+    /// On a span, either way round.
+    fn boundary(&mut self, [ax, ay, bx, by]: [u64; 4], ramps: bool) -> [u64; 9] {
+        let [ax, ay, bx, by] = if self.once_in(2) { [ax, ay, bx, by] } else { [bx, by, ax, ay] };
+        let width = (4 * (1 + self.below(6))) as f64;
+        let [kind, id, lower, upper] =
+            if !ramps || self.once_in(2) { [0; 4] } else { [1 + self.below(2), self.below(2), 0, self.below(2)] };
+        [ax, ay, bx, by, width.to_bits(), kind, id, lower, upper]
+    }
+
+    /// What numbers 4 to 9 refuse.
+    fn damage(&mut self, sheet: &mut Sheet) {
+        let place = |random: &mut Self, length: usize| random.below(length.max(1) as u64) as usize;
+        let (span, boundary, cell) =
+            (place(self, sheet.spans.len()), place(self, sheet.boundaries.len()), place(self, sheet.cells.len()));
+        let fault = self.below(10) as usize;
+        let changed = [f64::INFINITY.to_bits(), 3, 1 << 32, 8, 8][fault % 5];
+        match fault {
+            0..5 => sheet.boundaries.iter_mut().skip(boundary).take(1).for_each(|entry| entry[4 + fault] = changed),
+            5 => sheet.pass = self.below(5),
+            6 => sheet.spans.iter_mut().skip(span).take(1).for_each(|entry| entry[self.below(4) as usize] += 500),
+            7 => sheet.spans.iter_mut().skip(span).take(1).for_each(|entry| entry.copy_within(..2, 2)),
+            8 => sheet.anchors.push([self.below(2) * sheet.width, sheet.height]),
+            _ => sheet.cells[cell] = self.number() as u8,
+        }
+    }
+
     /// Numbers of all lengths.
     fn wide(&mut self) -> u64 {
         let shift = self.below(64);
@@ -195,6 +251,76 @@ fn partitions_with_few_rows() {
         }
     }
     assert!((100..900).contains(&short), "{short} with too few rows");
+}
+
+/// A record's numbers as the oracle prints them: the four edges as bits.
+fn record_numbers(record: &Region) -> Vec<u64> {
+    let edges = [record.min_x, record.min_y, record.max_x, record.max_y].map(f64::to_bits);
+    let shape = [record.has_ramp.into(), record.elevations.into()];
+    let counts = record.elevation_counts.map(|count| count as u64);
+    [&[record.cells as u64][..], &edges, &shape, &counts].concat()
+}
+
+#[test]
+fn kept() {
+    let mut random = Random(5);
+    let maps: Vec<_> = (0..6000).map(|_| random.pass()).collect();
+    let sheets: Vec<_> = maps.iter().map(written).collect();
+    let Some(lines) = judged(&["full", "--many"], framed(&sheets)) else { return };
+    assert_eq!(lines.len(), maps.len());
+    let mut refused = [0; 10];
+    let mut removed = [0; 3];
+    for (map, line) in maps.iter().zip(&lines) {
+        match answer(line) {
+            Ok(rows) => removed[map.pass as usize - 1] += map.boundaries.len() - rows as usize,
+            Err(refusal) => refused[refusal.number as usize] += 1,
+        }
+    }
+    assert!(removed.iter().all(|count| *count > 100) && refused[4..].iter().all(|count| *count > 15), "{removed:?} {refused:?}");
+    for (map, line) in maps.iter().zip(&lines) {
+        let kept = kept_boundaries(map);
+        assert_eq!(kept.as_ref().map(|kept| kept.rows.len() as u64).map_err(|refusal| *refusal), answer(line), "{map:?}");
+        let Ok(kept) = kept else { continue };
+        assert_eq!(kept.rows.as_flattened(), numbers(line, "rows"), "{map:?}");
+        assert_eq!(kept.records.iter().flat_map(record_numbers).collect::<Vec<_>>(), numbers(line, "records"), "{map:?}");
+        assert_eq!(widened(&kept.partition.labels), numbers(line, "labels"), "{map:?}");
+        assert_eq!(widened(kept.partition.tallies.as_flattened()), numbers(line, "tallies"), "{map:?}");
+        assert_eq!(widened(kept.partition.pairs.as_flattened()), numbers(line, "pairs"), "{map:?}");
+    }
+}
+
+#[test]
+fn kept_with_little_room() {
+    const RECORDS: usize = 8;
+    const ROWS: usize = 6;
+    let mut random = Random(6);
+    let maps: Vec<_> = (0..1000).map(|_| random.pass()).collect();
+    let sheets: Vec<_> = maps.iter().map(written).collect();
+    let options = ["full", "--many", "--records", &RECORDS.to_string(), "--pairs", &ROWS.to_string()];
+    let Some(lines) = judged(&options, framed(&sheets)) else { return };
+    assert_eq!(lines.len(), maps.len());
+    let mut short = [0; 2];
+    for (map, line) in maps.iter().zip(&lines) {
+        let (mut labels, mut tallies, mut pairs) = (vec![9; map.cells.len()], vec![9; 2 * map.spans.len()], [9; 3 * ROWS]);
+        let partition = PartitionLists {
+            labels: &mut labels,
+            masks: &mut vec![9; map.cells.len()],
+            queue: &mut vec![9; map.cells.len()],
+            tallies: &mut tallies,
+            pairs: &mut pairs,
+        };
+        let lists =
+            KeptLists { partition, records: &mut [Region::default(); RECORDS], output: &mut vec![9; 5 * map.boundaries.len()] };
+        let result = kept_boundaries_into(map.into(), lists);
+        assert_eq!(result, answer(line), "{map:?}");
+        let Err(Refusal { number: number @ 11..13, .. }) = result else { continue };
+        short[number as usize - 11] += 1;
+        assert_eq!(widened(&labels), numbers(line, "labels"), "{map:?}");
+        let (count, filled) = if number == 12 { (0, numbers(line, "tallies")) } else { (9, vec![0; tallies.len()]) };
+        assert_eq!(widened(&tallies), filled, "{map:?}");
+        assert_eq!(pairs, [count; 3 * ROWS]);
+    }
+    assert!(short.iter().all(|count| *count > 50), "{short:?} refused 11 and 12");
 }
 
 #[test]

@@ -1,6 +1,6 @@
 //! The stored answers of vectors/, replayed through the safe calls. vectors/README.md has the format.
 
-use jenwyllt::{Refusal, hypot, hypotenuse, partition, read_sheet};
+use jenwyllt::{Refusal, Region, hypot, hypotenuse, kept_boundaries, partition, read_sheet};
 use std::fs;
 use std::path::Path;
 
@@ -15,8 +15,15 @@ fn content<'a>(line: &'a str, word: &str) -> &'a str {
     behind.split_once(' ').map_or("", |(_, content)| content)
 }
 
-fn numbers(line: &str, word: &str) -> Vec<u32> {
-    content(line, word).split_whitespace().map(|number| number.parse().expect("a number")).collect()
+fn numbers<N: std::str::FromStr>(line: &str, word: &str) -> Vec<N> {
+    content(line, word).split_whitespace().map(|number| number.parse().ok().expect("a number")).collect()
+}
+
+fn record(numbers: &[u32]) -> Region {
+    let [cells, min_x, min_y, max_x, max_y, ramp, mask, counts @ ..] = numbers else { panic!("eleven numbers") };
+    let [min_x, min_y, max_x, max_y] = [min_x, min_y, max_x, max_y].map(|edge| f64::from(*edge));
+    let elevation_counts = std::array::from_fn(|elevation| counts[elevation] as usize);
+    Region { cells: *cells as usize, min_x, min_y, max_x, max_y, has_ramp: *ramp == 1, elevations: *mask as u8, elevation_counts }
 }
 
 fn sheet(line: &str) -> Vec<u8> {
@@ -33,11 +40,16 @@ fn maps() {
     for map in lines.chunks(8) {
         let name = map[0];
         let read = read_sheet(&sheet(map[1])).expect(name);
+        let kept = kept_boundaries(&read).expect(name);
         let cut = partition(read.width, read.height, &read.cells, &read.spans).expect(name);
+        assert_eq!(kept.partition, cut, "{name}");
         assert_eq!(cut.labels, numbers(map[3], "labels"), "{name}");
         assert_eq!(cut.tallies.as_flattened(), numbers(map[4], "tallies"), "{name}");
         assert_eq!(cut.pairs.as_flattened(), numbers(map[5], "pairs"), "{name}");
-        assert_eq!(cut.regions as usize, numbers(map[6], "records").len() / RECORD_NUMBERS, "{name}");
+        let records: Vec<_> = numbers(map[6], "records").chunks(RECORD_NUMBERS).map(record).collect();
+        assert_eq!(cut.regions as usize, records.len(), "{name}");
+        assert_eq!(kept.records, records, "{name}");
+        assert_eq!(kept.rows.as_flattened(), numbers(map[7], "rows"), "{name}");
     }
 }
 

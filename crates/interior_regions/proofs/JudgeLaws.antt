@@ -3,33 +3,35 @@
 use Prim.Native.Nat.{ℕ, _-_, _*_, _≤_, _<_}
 use native.Mathlib.Omega.{arith}
 use mathlib.Core.Path.{_≡_, refl, sym, ap, ap₂, subst, _∙_}
-use mathlib.Core.Bool.{Bool, true, false, not, _&&_, _||_, cond, false≢true}
+use mathlib.Core.Bool.{Bool, true, false, not, _&&_, _||_, cond, true≢false, false≢true}
 use mathlib.Core.Logic.{⊎-elim}
 use mathlib.Core.List.{List, [], _∷_}
 use lib.ListN.{getD}
-use lib.Dec.{eqb, leb}
-use borrow.Author.Tests.{eq-eqb, eqb-true, leb-true, le-leb}
+use lib.Dec.{eqb, ltb, leb}
+use borrow.Author.Tests.{eq-eqb, eqb-true, leb-true, ltb-true, ltb-false, le-leb}
 use Rattle.definitions.specs.Scan.{any, all, member, anyBelow, allBelow}
 use Rattle.definitions.specs.Context.{Context}
 use Rattle.definitions.specs.RampInteriors.{regionFits, removed}
 use Rattle.laws.specs.ListLaws.Tests.{both, same-test}
 use Rattle.laws.specs.ListLaws.Below.{below-at, below-first, below-none, all-below-at}
 use Rattle.laws.specs.ListLaws.ListsAsSets.{any-member}
-use Rattle.laws.specs.ListLaws.ScanSteps.{all-intro}
+use Rattle.laws.specs.ListLaws.ScanSteps.{all-intro, any-fails-at}
 use Rattle.laws.specs.SetLaws.Sets.{member-all}
 use Rattle.laws.specs.RustContext.SoundContext.{Sound}
 use Rattle.context.specs.Shown.{ShownPairs}
-use Rattle.ramp_interiors.specs.Owners.{several, Owners}
+use Rattle.ramp_interiors.specs.Owners.{several, edge, Owners}
 use Rattle.ramp_interiors.specs.Leaves.{Inside}
 use Rattle.ramp_interiors.specs.Proposals.{expandedOf, proposedPorts, isFirst, foundPorts, recordsFit}
 use Rattle.ramp_interiors.specs.declared.ports.Ports.the-variants as ports
+use Rattle.ramp_interiors.proofs.Bools.{negated}
 use Rattle.ramp_interiors.proofs.RowScans.{all-holds}
+use Rattle.ramp_interiors.proofs.CandidateLaws.{edge-owned, candidate-unspoilt}
 use Rattle.ramp_interiors.proofs.NoConflict.{Fit}
 use Rattle.ramp_interiors.proofs.Removed.{fit-of, removed-none, removed-owned, proposal-is}
 use Rattle.ramp_interiors.proofs.ProgressLaws.{first-region, proposed-two, found-first, is-first}
 use Rattle.interior_regions.specs.Places.{regionAt, isNamed, fitsAt, rampAt, interiorFits}
-use Rattle.interior_regions.specs.Marks.{accepted, markedBefore}
-use Rattle.interior_regions.proofs.PlaceLaws.{place-readable, Placed, incident-placed, expanded-incident}
+use Rattle.interior_regions.specs.Marks.{accepted, markedBefore, EndOf}
+use Rattle.interior_regions.proofs.PlaceLaws.{place-readable, Placed, incident-placed, Spanned, expanded-incident}
 
 -- ---- tests of the members of a list
 
@@ -55,32 +57,35 @@ all-members-pass f (y ∷ l) h = ap₂ _&&_ (h y (ap (λ b. b || member y l) (eq
 
 -- ---- one component
 
-module _ {C : Context} (S : Sound C) {rows starts names : List ℕ} (P : ShownPairs C rows starts) {r a b : ℕ} (F : Fit C S r a b) (I : Inside C r (expandedOf C r a b .regions) names) where
+module _ {C : Context} (S : Sound C) {rows starts names : List ℕ} (P : ShownPairs C rows starts) {r a b low high : ℕ} (F : Fit C S r a b) (N : Spanned C r a b low high) (I : Inside C r (expandedOf C r a b .regions) names) where
+  rising : low ≤ high
+  rising = omega (arith, N .first .0, N .first .1)
+
   abbrev regions : List ℕ
   regions = expandedOf C r a b .regions
 
   abbrev begin : ℕ
-  begin = 2 * getD starts 0 0
+  begin = 2 * getD starts low 0
 
   abbrev end : ℕ
-  end = 2 * getD starts (C .count) 0
+  end = 2 * getD starts high 0
 
   -- at a place that is asked stands a region of the expansion
   place-member : (k : ℕ) → k < end → (leb begin k && isNamed rows names r k) ≡ true → member (regionAt rows k) regions ≡ true
   place-member k l h =
       let t = both (leb begin k) (isNamed rows names r k) h in
-      let w = place-readable P k (leb-true begin k (t .0)) l in
+      let w = place-readable P low high (N .upto) rising k (leb-true begin k (t .0)) l in
       sym (I .at (regionAt rows k) (w .from) (w .upto)) ∙ t .1
 
   -- each of these stands at such a place
-  member-placed : (x : ℕ) → member x regions ≡ true → Placed P x
+  member-placed : (x : ℕ) → member x regions ≡ true → Placed P low high (N .upto) rising x
   member-placed x h =
-      let w = expanded-incident S F x h in
-      incident-placed P (w .0) x (w .1 .0) (w .1 .1)
+      let w = expanded-incident S F N x h in
+      incident-placed P low high (N .upto) rising (w .0) x (w .1 .0) (w .1 .1 .0) (w .1 .1 .1)
 
-  member-asked : {x : ℕ} → member x regions ≡ true → (p : Placed P x) → (leb begin (p .place) && isNamed rows names r (p .place)) ≡ true
+  member-asked : {x : ℕ} → member x regions ≡ true → (p : Placed P low high (N .upto) rising x) → (leb begin (p .place) && isNamed rows names r (p .place)) ≡ true
   member-asked {x} h p =
-      let w = place-readable P (p .place) (p .from) (p .upto) in
+      let w = place-readable P low high (N .upto) rising (p .place) (p .from) (p .upto) in
       ap₂ _&&_ (le-leb begin (p .place) (p .from)) (I .at (regionAt rows (p .place)) (w .from) (w .upto) ∙ ap (λ y. member y regions) (p .region) ∙ h)
 
   ramp-is : anyBelow end (rampAt C rows names r begin a b) ≡ any (λ q. C .region q .hasRamp) regions
@@ -121,10 +126,35 @@ module _ {C : Context} (S : Sound C) (owners : List ℕ) (O : Owners C owners) (
       let t = proposed-two C owner (w .1) in
       fit-of C S owner (first-region owners O i l (w .0) .0) (t .0) (t .1 .0) (t .1 .1 .0)
 
-  pub judged-two : {rows starts names : List ℕ} → ShownPairs C rows starts → {a b : ℕ} → (e : foundPorts C owners i ≡ ports.Two a b) → Inside C owner (expandedOf C owner a b .regions) names
-      → interiorFits C rows names owner (2 * getD starts 0 0) a b (2 * getD starts (C .count) 0) ≡ accepted C owners i
+  pub judged-two : {rows starts names : List ℕ} → ShownPairs C rows starts → {a b low high : ℕ} → (e : foundPorts C owners i ≡ ports.Two a b) → Spanned C owner a b low high → Inside C owner (expandedOf C owner a b .regions) names
+      → interiorFits C rows names owner (2 * getD starts low 0) a b (2 * getD starts high 0) ≡ accepted C owners i
   unfolding accepted
-  judged-two P e I = interior-is S P (found-fit e) I ∙ ap (recordsFit C owner) (sym e)
+  judged-two P e N I = interior-is S P (found-fit e) N I ∙ ap (recordsFit C owner) (sym e)
+
+  -- the edges of what was found are from i on, and before the number after the last that has the owner
+  pub found-spanned : {a b low high n count : ℕ} → foundPorts C owners i ≡ ports.Two a b → C .count ≡ count → EndOf owners count owner n → n ≤ high → high ≤ count → low ≤ i → (low ≤ a) × (a < high) → (low ≤ b) × (b < high) → Spanned C owner a b low high
+  unfolding isFirst
+  found-spanned {a = a} {b = b} {low = low} {high = high} {n = n} e c E u v s t w = record { upto = omega arith; edges = edges; first = t; second = w }
+    where
+      F : Fit C S owner a b
+      F = found-fit e
+
+      alone : anyBelow i (λ j. eqb (getD owners j 0) owner) ≡ false
+      alone = negated (anyBelow i (λ j. eqb (getD owners j 0) owner)) (both (not (eqb owner 0 || eqb owner several)) (not (anyBelow i (λ j. eqb (getD owners j 0) owner))) (found-first C owners i e .0) .1)
+
+      edges : (j : ℕ) → j < C .count → edge C owner j ≡ true → (low ≤ j) × (j < high)
+      edges j m d = (after (ltb j i) refl, before (ltb j n) refl)
+        where
+          same : eqb (getD owners j 0) owner ≡ true
+          same = edge-owned C owner j (F .from) (first-region owners O i l (found-first C owners i e .0) .1) (O j m) (candidate-unspoilt C owner (F .cand) j m) ∙ d
+
+          after : (t : Bool) → ltb j i ≡ t → low ≤ j
+          after true q = absurd (true≢false (sym same ∙ any-fails-at (λ k. eqb (getD owners k 0) owner) i alone j (ltb-true j i q)))
+          after false q = omega (arith, ltb-false j i q)
+
+          before : (t : Bool) → ltb j n ≡ t → j < high
+          before true q = omega (arith, ltb-true j n q)
+          before false q = absurd (true≢false (sym same ∙ E .none j (ltb-false j n q) (omega arith)))
 
   pub judged-other : (rows names : List ℕ) (name begin a b : ℕ) → foundPorts C owners i ≡ ports.Other → interiorFits C rows names name begin a b 0 ≡ accepted C owners i
   unfolding accepted interiorFits recordsFit anyBelow

@@ -74,8 +74,8 @@ module _ {C : Context} {rows starts : List ℕ} (S : ShownPairs C rows starts) w
   pub starts-fit : (i : ℕ) → i ≤ C .count → 2 * startAt i ≤ length rows
   starts-fit i h = omega (arith, between i (C .count) h (omega arith), S .long)
 
-  pub starts-rise : 2 * startAt 0 ≤ 2 * startAt (C .count)
-  starts-rise = omega (arith, between 0 (C .count) (omega arith) (omega arith))
+  pub starts-rise : (i j : ℕ) → i ≤ j → j ≤ C .count → 2 * startAt i ≤ 2 * startAt j
+  starts-rise i j h l = omega (arith, between i j h l)
 
   -- the boundary whose row it is
   record Holder (n row : ℕ) : Type 0 where
@@ -112,8 +112,8 @@ module _ {C : Context} {rows starts : List ℕ} (S : ShownPairs C rows starts) w
   odd-is : (k m : ℕ) → k ≡ 2 * m + 1 → regionAt rows k ≡ pairAt rows m .hi
   odd-is k m e = ap (λ i. getD rows i 0) (omega (arith, e))
 
-  pub place-readable : (k : ℕ) → 2 * startAt 0 ≤ k → k < 2 * startAt (C .count) → Readable rows (C .regions) k
-  place-readable k l m =
+  readable : (k : ℕ) → 2 * startAt 0 ≤ k → k < 2 * startAt (C .count) → Readable rows (C .regions) k
+  readable k l m =
       let w = holder (C .count) (omega arith) (k / 2) (omega arith) (omega arith) in
       let n = between-at {P = λ p. (1 ≤ p .lo) × ((p .lo < p .hi) × (p .hi ≤ C .regions))} rows (startAt (w .boundary)) (startAt (w .boundary + 1)) (subst (All (λ p. (1 ≤ p .lo) × ((p .lo < p .hi) × (p .hi ≤ C .regions)))) (S .at (w .boundary) (w .below)) (S .named (w .boundary) (w .below))) (k / 2) (w .from) (w .upto) in
       record {
@@ -122,37 +122,54 @@ module _ {C : Context} {rows starts : List ℕ} (S : ShownPairs C rows starts) w
         upto = ⊎-elim (λ e. omega (arith, n .1 .0, n .1 .1, even-is k (k / 2) (omega (arith, e)))) (λ e. omega (arith, n .1 .1, odd-is k (k / 2) (omega (arith, e)))) (parity k);
       }
 
-  -- a place of region x
-  pub record Placed (x : ℕ) : Type 0 where
-    pub place : ℕ
-    pub from : 2 * startAt 0 ≤ place
-    pub upto : place < 2 * startAt (C .count)
-    pub region : regionAt rows place ≡ x
+  -- the places of the rows from one boundary up to another
+  module _ (low high : ℕ) (short : high ≤ C .count) (rising : low ≤ high) where
+    pub place-readable : (k : ℕ) → 2 * startAt low ≤ k → k < 2 * startAt high → Readable rows (C .regions) k
+    place-readable k l m = readable k (omega (arith, between 0 low (omega arith) (omega arith))) (omega (arith, between high (C .count) short (omega arith)))
 
-  pub incident-placed : (j x : ℕ) → j < C .count → isIncident C j x ≡ true → Placed x
-  unfolding isIncident
-  incident-placed j x l h =
-      let r = rows-found (contains x) rows (startAt j) (startAt (j + 1) - startAt j) (subst (λ ps. any (contains x) ps ≡ true) (S .at j l ∙ ap (pairsBetween rows (startAt j)) (sym same)) h) in
-      go (r .row) (omega (arith, r .from, between 0 j (omega arith) (omega arith))) (omega (arith, r .upto, same, between (j + 1) (C .count) (omega arith) (omega arith)))
-      (eqb (pairAt rows (r .row) .lo) x) refl (eqb (pairAt rows (r .row) .hi) x) refl (r .passes)
-    where
-      same : startAt j + (startAt (j + 1) - startAt j) ≡ startAt (j + 1)
-      same = omega (arith, S .rising j l)
+    -- one of region x
+    pub record Placed (x : ℕ) : Type 0 where
+      pub place : ℕ
+      pub from : 2 * startAt low ≤ place
+      pub upto : place < 2 * startAt high
+      pub region : regionAt rows place ≡ x
 
-      go : (m : ℕ) → startAt 0 ≤ m → m < startAt (C .count) → (a : Bool) → eqb (pairAt rows m .lo) x ≡ a → (b : Bool) → eqb (pairAt rows m .hi) x ≡ b → (a || b) ≡ true → Placed x
-      go m u v true e b d k = record { place = 2 * m; from = omega arith; upto = omega arith; region = even-is (2 * m) m refl ∙ eqb-true _ x e }
-      go m u v false e true d k = record { place = 2 * m + 1; from = omega arith; upto = omega arith; region = odd-is (2 * m + 1) m refl ∙ eqb-true _ x d }
-      go m u v false e false d k = absurd (false≢true k)
+    pub incident-placed : (j x : ℕ) → low ≤ j → j < high → isIncident C j x ≡ true → Placed x
+    unfolding isIncident
+    incident-placed j x a b h =
+        let r = rows-found (contains x) rows (startAt j) (startAt (j + 1) - startAt j) (subst (λ ps. any (contains x) ps ≡ true) (S .at j (omega arith) ∙ ap (pairsBetween rows (startAt j)) (sym same)) h) in
+        go (r .row) (omega (arith, r .from, between low j a (omega arith))) (omega (arith, r .upto, same, between (j + 1) high (omega arith) short))
+        (eqb (pairAt rows (r .row) .lo) x) refl (eqb (pairAt rows (r .row) .hi) x) refl (r .passes)
+      where
+        same : startAt j + (startAt (j + 1) - startAt j) ≡ startAt (j + 1)
+        same = omega (arith, S .rising j (omega arith))
+
+        go : (m : ℕ) → startAt low ≤ m → m < startAt high → (a : Bool) → eqb (pairAt rows m .lo) x ≡ a → (b : Bool) → eqb (pairAt rows m .hi) x ≡ b → (a || b) ≡ true → Placed x
+        go m u v true e b d k = record { place = 2 * m; from = omega arith; upto = omega arith; region = even-is (2 * m) m refl ∙ eqb-true _ x e }
+        go m u v false e true d k = record { place = 2 * m + 1; from = omega arith; upto = omega arith; region = odd-is (2 * m + 1) m refl ∙ eqb-true _ x d }
+        go m u v false e false d k = absurd (false≢true k)
 
 -- ---- the regions of an interior
 
-module _ {C : Context} (S : Sound C) {r a b : ℕ} (F : Fit C S r a b) where
-  own-incident : (x : ℕ) → member x (own C r .regions) ≡ true → (j : ℕ) × ((j < C .count) × (isIncident C j x ≡ true))
+-- the edges of a component and its ports are among the boundaries from `low` on, before `high`
+pub record Spanned (C : Context) (r a b low high : ℕ) : Type 0 where
+  pub upto : high ≤ C .count
+  pub edges : (j : ℕ) → j < C .count → edge C r j ≡ true → (low ≤ j) × (j < high)
+  pub first : (low ≤ a) × (a < high)
+  pub second : (low ≤ b) × (b < high)
+
+module _ {C : Context} (S : Sound C) {r a b low high : ℕ} (F : Fit C S r a b) (N : Spanned C r a b low high) where
+  abbrev Incident : ℕ → Type 0
+  Incident x = (j : ℕ) × ((low ≤ j) × ((j < high) × (isIncident C j x ≡ true)))
+
+  own-incident : (x : ℕ) → member x (own C r .regions) ≡ true → Incident x
   own-incident x h =
       let f = below-first (λ j. edge C r j && named C (within S) r x j) (C .count) (inside-named C (within S) r x (F .from) (candidate-edge C r (F .cand)) (region-inside C S r (F .from) (F .cand) x h)) in
-      (f .place, (f .below, named-incident C S x (f .place) (both (edge C r (f .place)) (named C (within S) r x (f .place)) (f .found) .1)))
+      let t = both (edge C r (f .place)) (named C (within S) r x (f .place)) (f .found) in
+      let e = N .edges (f .place) (f .below) (t .0) in
+      (f .place, (e .0, (e .1, named-incident C S x (f .place) (t .1))))
 
-  pub expanded-incident : (x : ℕ) → member x (expandedOf C r a b .regions) ≡ true → (j : ℕ) × ((j < C .count) × (isIncident C j x ≡ true))
+  pub expanded-incident : (x : ℕ) → member x (expandedOf C r a b .regions) ≡ true → Incident x
   expanded-incident x h = ⊎-elim
-      (λ m. ⊎-elim (own-incident x) (λ e. (a, (F .first, e .single .mine))) (port-leaf C a (own C r) x m))
-      (λ e. (b, (F .second, e .single .mine))) (port-leaf C b (expandPort C (own C r) a) x h)
+      (λ m. ⊎-elim (own-incident x) (λ e. (a, (N .first .0, (N .first .1, e .single .mine)))) (port-leaf C a (own C r) x m))
+      (λ e. (b, (N .second .0, (N .second .1, e .single .mine)))) (port-leaf C b (expandPort C (own C r) a) x h)

@@ -1,7 +1,7 @@
 -- What is known once the components are proposed, and which of them the pass takes. Definitions only; assumes nothing.
 use Prim.Native.Nat.{ℕ, _*_, _≤_, _<_}
 use mathlib.Core.Path.{_≡_}
-use mathlib.Core.Bool.{Bool, _&&_}
+use mathlib.Core.Bool.{Bool, false, _&&_}
 use mathlib.Core.List.{List}
 use lib.ListN.{length, getD}
 use lib.Dec.{eqb}
@@ -36,7 +36,14 @@ accepted C owners i = recordsFit C (getD owners i 0) (foundPorts C owners i)
 abbrev pub markedBefore : Context → List ℕ → ℕ → ℕ → Bool
 markedBefore C owners i j = anyBelow i (λ k. accepted C owners k && eqb (getD owners j 0) (getD owners k 0))
 
--- what stands at boundary i
+-- ---- what stands at boundary i
+
+-- no boundary from n on has an owner of that name
+pub record EndOf (owners : List ℕ) (count name n : ℕ) : Type 0 where
+  pub upto : n ≤ count
+  pub none : (j : ℕ) → n ≤ j → j < count → eqb (getD owners j 0) name ≡ false
+
+-- the component, the places of its regions, and its ports
 pub record Stretched (C : Context) (pairs names owners : List ℕ) (i : ℕ) (x : Interior) : Type 0 where
   pub name : x .name ≡ getD owners i 0
   pub rising : x .begin ≤ x .end

@@ -7,7 +7,7 @@ use ramp_interiors::proposals::NO_PORT;
 use ramp_interiors::proposals::propose_all;
 ghost use mathlib.Core.Path.{_≡_};
 ghost use mathlib.Core.Bool.{false, _&&_, _||_};
-ghost use Prim.Native.Nat.{ℕ, _-_, _≤_, _<_};
+ghost use Prim.Native.Nat.{ℕ, _-_, _≤_, _<_, min, max};
 ghost use lib.ListN.{length, getD};
 ghost use lib.Dec.{eqb};
 ghost use Rattle.definitions.specs.Limits.{maxEntries};
@@ -15,7 +15,7 @@ ghost use Rattle.definitions.specs.Context.{Context};
 ghost use mathlib.Core.List.{List};
 ghost use Rattle.laws.specs.FloatLaws.Pixels.{PixelContext};
 ghost use Rattle.ramp_interiors.specs.Given.{Lent, SomeLent};
-ghost use Rattle.interior_regions.specs.Marks.{Interiors, SomeInteriors, Stretched};
+ghost use Rattle.interior_regions.specs.Marks.{Interiors, SomeInteriors, Stretched, EndOf};
 ghost use Rattle.interior_regions.specs.Places.{regionAt, Readable, AllReadable, NextInside};
 
 const NUMBERS_PER_PAIR: usize = 3;
@@ -77,7 +77,34 @@ pub fn mark_edges(owners: &[u32; 256], count: usize, name: u32, on: bool, remove
     }
 }
 
-// What stands at boundary i.
+fn least(a: usize, b: usize) -> usize
+    ensures { λ r. ⌜ r ≡ min a b ⌝ }
+{
+    if a < b { a } else { b }
+}
+
+fn most(a: usize, b: usize) -> usize
+    ensures { λ r. ⌜ r ≡ max a b ⌝ }
+{
+    if a < b { b } else { a }
+}
+
+// The number after the last boundary whose owner has the name; 0 where there is none.
+fn end_of(owners: &[u32; 256], count: usize, name: u32) -> usize
+    requires { ⌜ count ≤ maxEntries ⌝ }
+    ensures { λ r. ⌜ EndOf (now (owners .entry)) count name r ⌝ }
+{
+    let mut j = count;
+    while 0 < j {
+        if owners[j - 1] == name {
+            return j;
+        }
+        j -= 1;
+    }
+    j
+}
+
+// What stands at boundary i. Where ports were found, it is the first edge, and each region of the interior stands in a row of an edge or of a port.
 pub fn interior_at(
     pairs: &[u32],
     starts: &[usize; 257],
@@ -92,7 +119,9 @@ pub fn interior_at(
     ensures { λ x. ⌜ ((C : Context) (boundaries tallies names : List ℕ) → Interiors C boundaries tallies (now (pairs .entry)) (now (starts .entry)) names (now (owners .entry)) (now (firsts .entry)) (now (seconds .entry)) count → Stretched C (now (pairs .entry)) names (now (owners .entry)) i x) ⌝ }
 {
     let name = owners[i];
-    if firsts[i] == NO_PORT {
+    let a = firsts[i];
+    let b = seconds[i];
+    if a == NO_PORT {
         return Interior {
             name,
             begin: 0,
@@ -101,12 +130,14 @@ pub fn interior_at(
             second: i,
         };
     }
+    let low = least(i, least(a, b));
+    let high = most(end_of(owners, count, name), most(a, b) + 1);
     Interior {
         name,
-        begin: REGIONS_PER_PAIR * starts[0],
-        end: REGIONS_PER_PAIR * starts[count],
-        first: firsts[i],
-        second: seconds[i],
+        begin: REGIONS_PER_PAIR * starts[low],
+        end: REGIONS_PER_PAIR * starts[high],
+        first: a,
+        second: b,
     }
 }
 

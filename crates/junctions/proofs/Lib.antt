@@ -5,6 +5,7 @@ pub mod Exteriors
 pub mod Near
 pub mod Literals
 pub mod Lists
+pub mod FewPorts
 pub mod Shapes
 pub mod BridgeTests
 pub mod FirstFound

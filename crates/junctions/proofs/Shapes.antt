@@ -1,5 +1,5 @@
 -- The shape of a union, as `is_union` finds it: test by test, each return says what the whole test says. Assumes nothing.
-use Prim.Native.Nat.{ℕ, _≤_, _<_}
+use Prim.Native.Nat.{ℕ, _+_, _-_, _≤_, _<_}
 use native.Mathlib.Omega.{arith}
 use mathlib.Core.Path.{_≡_, refl, sym, ap, _∙_}
 use mathlib.Core.Bool.{Bool, true, false, not, _&&_, true≢false, false≢true}
@@ -11,6 +11,7 @@ use Rattle.definitions.specs.Scan.{countBelow, bit}
 use Rattle.definitions.specs.Grid.{Pair}
 use Rattle.junctions.specs.Ports.{walkFits}
 use Rattle.junctions.specs.Unions.{noRampAt, marksOf, leadsAnew, portsPass, shapeAt, isUnionAt}
+use Rattle.junctions.proofs.FewPorts.{few-ports}
 
 pub bit-le : (b : Bool) → bit b ≤ 1
 bit-le true = omega arith
@@ -62,6 +63,14 @@ module _ (boundaries smaller larger counts marks : List ℕ) (count i : ℕ) whe
       both-anchored e = from plain (le-ltb (marksOf marks union) 2 e) refl refl refl
 
       module _ (anchored : marksOf marks union < 2) where
+        -- few incidents: the walk stops, or the ports are few
+        pub few-incidents : i < count → getD counts (union .lo - 1) 0 + getD counts (union .hi - 1) 0 < 5 → false ≡ whole
+        few-incidents l s = go fit refl
+          where
+            go : (w : Bool) → fit ≡ w → false ≡ whole
+            go true e = from plain (lt-ltb (marksOf marks union) 2 anchored) e (few-ports smaller larger counts count i pair l e s) refl
+            go false e = from plain (lt-ltb (marksOf marks union) 2 anchored) e refl refl
+
         pub is-unfit : {r : Bool} → r ≡ fit → not r ≡ true → false ≡ whole
         is-unfit {r} e h = from plain (lt-ltb (marksOf marks union) 2 anchored) (sym e ∙ negated-true r h) refl refl
 

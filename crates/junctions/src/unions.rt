@@ -3,11 +3,12 @@ use crate::distances::NUMBERS_PER_BOUNDARY;
 use crate::distances::port_passes;
 use crate::ports::names_region;
 use crate::ports::ports_fit;
+use crate::ports::wide;
 ghost use mathlib.Core.Path.{_≡_};
 ghost use mathlib.Core.Bool.{not, _&&_, _||_};
-ghost use Prim.Native.Nat.{_*_, _+_, _≤_, _<_};
+ghost use Prim.Native.Nat.{_*_, _+_, _-_, _≤_, _<_};
 ghost use lib.ListN.{length, getD};
-ghost use lib.Dec.{eqb, leb};
+ghost use lib.Dec.{eqb, ltb, leb};
 ghost use Rattle.definitions.specs.Scan.{countBelow, bit};
 ghost use Rattle.definitions.specs.Grid.{contains};
 ghost use Rattle.definitions.specs.Context.{holds};
@@ -130,6 +131,21 @@ pub fn anchored_bit(marks: &[u16], r: u32) -> u16
     marks[r as usize - 1] % 2
 }
 
+fn is_below_five(a: u32, b: u32) -> bool
+    ensures { λ r. ⌜ r ≡ ltb (a + b) 5 ⌝ }
+{
+    wide(a) + wide(b) < 5
+}
+
+// Whether regions lo and hi have too few incidents for three ports: a port is an incident of one of the two, and the boundary between them is one of both.
+pub fn has_few_incidents(counts: &[u32], lo: u32, hi: u32) -> bool
+    requires { ⌜ (1 ≤ lo) × (lo ≤ length (now counts)) ⌝ }
+    requires { ⌜ (1 ≤ hi) × (hi ≤ length (now counts)) ⌝ }
+    ensures { λ r. ⌜ r ≡ ltb (getD (now (counts .entry)) (lo - 1) 0 + getD (now (counts .entry)) (hi - 1) 0) 5 ⌝ }
+{
+    is_below_five(counts[wide(lo) - 1], counts[wide(hi) - 1])
+}
+
 // Whether the regions of boundary `index` and their ports have the shape of a union.
 pub fn is_union(
     boundaries: &[u64],
@@ -155,6 +171,10 @@ pub fn is_union(
     }
     let anchored = anchored_bit(marks, lo) + anchored_bit(marks, hi);
     if 2 <= anchored {
+        return false;
+    }
+    // Tested first: the walks below it go over all boundaries.
+    if has_few_incidents(counts, lo, hi) {
         return false;
     }
     if !ports_fit(smaller, larger, counts, count, index) {

@@ -1,23 +1,33 @@
-// Replays stored sheets. Standard input is one sheet after the other, each behind its length in two bytes, the lesser first. For each it writes what `keptlist`
-// prints.
-ghost use Prim.Native.Nat.{_≤_, _<_};
+// Replays stored sheets. Standard input is one sheet after the other, each behind its length in three bytes, the lesser first. For each it writes what
+// `keptlist` prints.
+ghost use Prim.Native.Nat.{_≤_};
 ghost use lib.ListN.{length};
 ghost use Rattle.sheet_answer.specs.Answers.{outRoom};
-use io::large_buffer;
 use io::read_full;
 use io::write_all;
 use libc::STDIN_FILENO;
 use libc::STDOUT_FILENO;
+use sheet_answer::input_room;
 use sheet_answer::keptlist;
 use sheet_answer::output_room;
 
 // Reading ends after so many sheets at the latest.
 const SHEETS: u64 = 65536;
 
-fn length_of(lesser: u8, greater: u8) -> usize
-    ensures { λ r. ⌜ r < 65536 ⌝ }
+// As many bytes as `keptlist` reads.
+const BYTES: usize = 65537;
+
+fn byte(b: u8) -> usize
+    ensures { λ r. ⌜ r ≤ 255 ⌝ }
 {
-    lesser as usize + 256 * greater as usize
+    b as usize
+}
+
+fn length_of(opening: &[u8; 3]) -> usize
+    ensures { λ r. ⌜ r ≤ 65537 ⌝ }
+{
+    let length = byte(opening[0]) + 256 * byte(opening[1]) + 65536 * byte(opening[2]);
+    if length <= BYTES { length } else { BYTES }
 }
 
 // Reads a sheet as long as the list, and writes what is printed for it.
@@ -25,25 +35,25 @@ fn answer_to(sheet: &mut [u8], out: &mut [u8])
     requires { ⌜ outRoom ≤ length (now out) ⌝ }
 {
     let count = read_full(STDIN_FILENO, &mut *sheet);
-    let end = keptlist(&sheet[..count], &mut *out);
-    write_all(STDOUT_FILENO, &out[..end]);
+    let end = keptlist(&sheet[0..count], &mut *out);
+    write_all(STDOUT_FILENO, &out[0..end]);
 }
 
 // Replays the next sheet, if there is one.
 fn replay(sheet: &mut [u8], out: &mut [u8]) -> bool
-    requires { ⌜ (65536 ≤ length (now sheet)) × (outRoom ≤ length (now out)) ⌝ }
+    requires { ⌜ (65537 ≤ length (now sheet)) × (outRoom ≤ length (now out)) ⌝ }
 {
-    let mut opening = [0u8; 2];
-    if read_full(STDIN_FILENO, &mut opening) < 2 {
+    let mut opening = [0u8; 3];
+    if read_full(STDIN_FILENO, &mut opening) < 3 {
         return false;
     }
-    let written = length_of(opening[0], opening[1]);
-    answer_to(&mut sheet[..written], &mut *out);
+    let written = length_of(&opening);
+    answer_to(&mut sheet[0..written], &mut *out);
     true
 }
 
 fn replay_all(sheet: &mut [u8], out: &mut [u8])
-    requires { ⌜ (65536 ≤ length (now sheet)) × (outRoom ≤ length (now out)) ⌝ }
+    requires { ⌜ (65537 ≤ length (now sheet)) × (outRoom ≤ length (now out)) ⌝ }
 {
     for _ in 0..SHEETS {
         if !replay(&mut *sheet, &mut *out) {
@@ -53,7 +63,7 @@ fn replay_all(sheet: &mut [u8], out: &mut [u8])
 }
 
 fn main() {
-    let mut sheet = large_buffer();
+    let mut sheet = input_room();
     let mut out = output_room();
     replay_all(&mut sheet, &mut out);
 }

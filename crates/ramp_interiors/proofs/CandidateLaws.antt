@@ -3,6 +3,7 @@ use Prim.Native.Nat.{ℕ, zero, suc, _+_, _-_, _%_, _≤_, _<_}
 use native.Mathlib.Omega.{arith}
 use mathlib.Core.Path.{_≡_, refl, sym, ap, ap₂, _∙_}
 use mathlib.Core.Bool.{Bool, true, false, not, _&&_, _||_, cond, and-true, and-false, true≢false, false≢true}
+use mathlib.Core.Logic.{⊎-elim}
 use mathlib.Core.List.{List, []}
 use lib.ListN.{length, getD}
 use lib.Dec.{eqb, leb}
@@ -10,7 +11,7 @@ use borrow.Author.Tests.{eq-eqb, ne-eqb, eqb-true}
 use Rattle.definitions.specs.Scan.{any, anyBelow, allBelow, countBelow, gather, bit}
 use Rattle.definitions.specs.Context.{Context, incidentCount}
 use Rattle.definitions.specs.MouthShapes.{regionsOf}
-use Rattle.definitions.specs.RampInteriors.{isOrdinary, components, componentOf, edgesOf, componentRegions, isCandidate, isPort, maxInteriorEdges}
+use Rattle.definitions.specs.RampInteriors.{isOrdinary, components, componentOf, isEdge, edgesOf, componentRegions, isCandidate, isPort, maxInteriorEdges}
 use Rattle.laws.specs.ListLaws.Lists.{All, all-map, all-both, any-gather}
 use Rattle.laws.specs.ListLaws.ListsAsSets.{any-addAll}
 use Rattle.laws.specs.ListLaws.Tests.{both}
@@ -157,13 +158,16 @@ module _ (C : Context) (r i : ℕ) {v : ℕ} (from : 1 ≤ r) (upto : r ≤ C .r
       let t = both (edge C r i) (allIn C r i) (sym (o .whole r from upto) ∙ eq-eqb v r e) in
       ap₂ (λ x y. x && (not y || any (C .anchored) (regionsOf (C .pairs i)))) (t .0) (t .1)
 
-  pub spoils-other : (v ≡ r → ⊥) → (v ≡ several → ⊥) → spoilsAt C r i ≡ false
-  unfolding spoilsAt
-  spoils-other n m = ap (λ x. x && (not (allIn C r i) || any (C .anchored) (regionsOf (C .pairs i)))) (go (edge C r i) refl)
+  edge-other : (v ≡ r → ⊥) → (v ≡ several → ⊥) → edge C r i ≡ false
+  edge-other n m = go (edge C r i) refl
     where
       go : (b : Bool) → edge C r i ≡ b → b ≡ false
       go true e = absurd (n (eqb-true v r (o .whole r from upto ∙ ap₂ _&&_ e (o .part r from upto e m))))
       go false e = refl
+
+  pub spoils-other : (v ≡ r → ⊥) → (v ≡ several → ⊥) → spoilsAt C r i ≡ false
+  unfolding spoilsAt
+  spoils-other n m = ap (λ x. x && (not (allIn C r i) || any (C .anchored) (regionsOf (C .pairs i)))) (edge-other n m)
 
   pub spoils-several : v ≡ several → (v ≡ r → ⊥) → spoilsAt C r i ≡ edge C r i
   unfolding spoilsAt
@@ -219,3 +223,14 @@ module _ {C : Context} {rows starts names marks : List ℕ} {r : ℕ} (M : Mappe
 
   pub touches-edge : isOrdinary C i ≡ true → any (pairNamed names r) (pairsBetween rows (getD starts i 0) (getD starts (i + 1) 0)) ≡ edge C r i
   touches-edge o = touches-is ∙ sym (ap (λ t. t && any (λ p. inside C r (p .lo) || inside C r (p .hi)) (C .pairs i)) o) ∙ edge-is C (within (M .sound)) r i l
+
+  -- a boundary that another component owns lies there whole
+  pub port-elsewhere : {v : ℕ} → Owned C i v → candidate C r ≡ true → (v ≡ r → ⊥) → (v ≡ 0 → ⊥) → (v ≡ several → ⊥) → false ≡ port C r i
+  unfolding isEdge
+  port-elsewhere {v} o h n z m = ⊎-elim (λ e. absurd (z e)) (λ e. ⊎-elim (λ d. absurd (m d)) owned e) (o .range)
+    where
+      owned : (1 ≤ v) × (v ≤ C .regions) → false ≡ port C r i
+      owned w =
+          let own = both (edge C v i) (allIn C v i) (sym (o .whole v (w .0) (w .1)) ∙ eq-eqb v v refl) .0 in
+          let plain = both (isOrdinary C i) (any (λ p. eqb (componentOf C (components C) (p .lo)) v) (C .pairs i)) own .0 in
+          sym (edge-other C r i (M .from) (M .upto) o n m) ∙ sym (touches-edge plain) ∙ touches-is ∙ port-other C r i (M .from) (M .upto) o l h n

@@ -54,10 +54,19 @@ aimed {a = a} {b = b} B l m d e p q =
 
 -- ---- a corner
 
--- d and e are the distances that were found
-pub corner-is : (c p q : Point) {d e : Float} → (DistanceInRange c p → d ≡ distance c p) → (DistanceInRange c q → e ≡ distance c q) → DistanceInRange c p → DistanceInRange c q → (le d (ofBits binary64 0x4080000000000000) || le e (ofBits binary64 0x4080000000000000)) ≡ isWithin p q c
+module _ (c p q : Point) {d : Float} (f : DistanceInRange c p → d ≡ distance c p) where
+  -- d is the distance that was found
+  within-is : DistanceInRange c p → le d (ofBits binary64 0x4080000000000000) ≡ le (distance c p) maxApproachRadius
+  within-is m = λ j. le (f m j) (radius-is j)
+
+  pub corner-first : DistanceInRange c p → le d (ofBits binary64 0x4080000000000000) ≡ true → true ≡ isWithin p q c
+  unfolding isWithin
+  corner-first m h = sym (ap (λ b. b || le (distance c q) maxApproachRadius) (sym (within-is m) ∙ h))
+
+-- and e that from the second
+pub corner-second : (c p q : Point) {d e : Float} → (DistanceInRange c p → d ≡ distance c p) → (DistanceInRange c q → e ≡ distance c q) → DistanceInRange c p → DistanceInRange c q → le d (ofBits binary64 0x4080000000000000) ≡ false → le e (ofBits binary64 0x4080000000000000) ≡ isWithin p q c
 unfolding isWithin
-corner-is c p q f g m n = λ j. le (f m j) (radius-is j) || le (g n j) (radius-is j)
+corner-second c p q f g m n h = within-is c q p g n ∙ sym (ap (λ b. b || le (distance c q) maxApproachRadius) (sym (within-is c p q f m) ∙ h))
 
 -- ---- a region
 

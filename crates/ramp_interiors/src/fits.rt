@@ -106,8 +106,11 @@ fn elevations_fit(mask: u8, lower: u64, upper: u64) -> bool
 fn corner_fits(first: Point, second: Point, corner: Point) -> bool
     ensures { λ r. ⌜ (DistanceInRange (pointForm corner) (pointForm first) → DistanceInRange (pointForm corner) (pointForm second) → r ≡ isWithin (pointForm first) (pointForm second) (pointForm corner)) ⌝ }
 {
-    (distance(corner, first) <= MAX_APPROACH_RADIUS)
-        | (distance(corner, second) <= MAX_APPROACH_RADIUS)
+    // Most corners are near the first, and a distance takes long.
+    if distance(corner, first) <= MAX_APPROACH_RADIUS {
+        return true;
+    }
+    distance(corner, second) <= MAX_APPROACH_RADIUS
 }
 
 // Whether a region has the elevations of the ramp, and each corner near one of the ports.

@@ -1,4 +1,5 @@
 // The ports of a candidate: the boundaries about it that are no edges of it.
+use crate::owners::SEVERAL;
 use crate::owners::touches;
 ghost use mathlib.Core.Path.{_≡_};
 ghost use mathlib.Core.Bool.{true};
@@ -28,6 +29,10 @@ fn is_port(
     ensures { λ x. ⌜ ((C : Context) → Mapped C (now (pairs .entry)) (now (starts .entry)) (now (names .entry)) (now (marks .entry)) r → i < C .count → Owned C i owner → candidate C r ≡ true → x ≡ port C r i) ⌝ }
 {
     if owner == r {
+        return false;
+    }
+    // All pairs of such a boundary lie in its owner.
+    if (owner != 0) & (owner != SEVERAL) {
         return false;
     }
     touches(names, pairs, starts[i], starts[i + 1], r)

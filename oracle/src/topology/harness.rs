@@ -188,7 +188,8 @@ fn flattened(partition: &SpanPartition) -> Partition {
     }
 }
 
-fn records(Context(context): &Context<'_>) -> Vec<Record> {
+/// The record of each region, that of label 1 first.
+pub fn records(Context(context): &Context<'_>) -> Vec<Record> {
     let labels = context.stats.keys().copied();
     assert!(labels.eq(1..=context.partition.areas().len() as u32), "every region has cells");
     let record = |stats: &super::context::RegionStats| Record {

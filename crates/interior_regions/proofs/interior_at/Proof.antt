@@ -1,12 +1,37 @@
 -- `interior_at` meets its contract. Assumes nothing.
+use Prim.Native.Nat.{ℕ, _+_, _*_, _≤_, _<_, min, max}
 use native.Mathlib.Omega.{arith}
+use mathlib.Core.Path.{_≡_, ap, _∙_}
+use lib.ListN.{length, getD}
+use Rattle.definitions.specs.Limits.{maxEntries}
+use Rattle.ramp_interiors.specs.Proposals.{noPort}
 use Rattle.interior_regions.proofs.PlaceLaws.{starts-fit}
-use Rattle.interior_regions.proofs.Stretches.{stretched-none, stretched-two}
+use Rattle.interior_regions.proofs.Stretches.{stretched-none, ports-below, stretched-two}
 use borrow.Author.Needs.{needs}
 use Rattle.interior_regions.proofs.interior_at.Statement.{statement}
 use Rattle.interior_regions.proofs.interior_at.Tie as tie
-use Rattle.interior_regions.proofs.interior_at.Reads as reads
-use Rattle.interior_regions.proofs.interior_at.Lts as lts
+
+module _ (s : tie.Start) where
+  abbrev first : ℕ
+  first = getD (s .args .firsts .now) (s .args .i) 0
+
+  abbrev second : ℕ
+  second = getD (s .args .seconds .now) (s .args .i) 0
+
+  few : s .args .count ≤ maxEntries
+  few =
+      let I = s .pre .1 .1 .1 .1 .1 in
+      omega (arith, I .owning .counted, I .owning .given .paired .few)
+
+  below : (first ≡ noPort → ⊥) → (first < s .args .count) × (second < s .args .count)
+  below e =
+      let I = s .pre .1 .1 .1 .1 .1 in
+      ports-below I (s .args .i) (omega (arith, I .owning .counted, s .pre .0)) e
+
+  short : (j : ℕ) → j ≤ s .args .count → 2 * getD (s .args .starts .now) j 0 ≤ length (s .args .pairs .now)
+  short j h =
+      let I = s .pre .1 .1 .1 .1 .1 in
+      starts-fit (I .owning .given .paired) j (omega (arith, I .owning .counted))
 
 mul-name : tie.Need-mul-name
 mul-name c = search needs
@@ -14,50 +39,79 @@ mul-name c = search needs
 element-copy-out-name : tie.Need-element-copy-out-name
 element-copy-out-name c = search needs
 
-mul-if1 : tie.Need-mul-if1
-mul-if1 c = search needs
+mul-a : tie.Need-mul-a
+mul-a c = search needs
 
-element-copy-out-if1 : tie.Need-element-copy-out-if1
-element-copy-out-if1 c = search needs
+element-copy-out-a : tie.Need-element-copy-out-a
+element-copy-out-a c = search needs
+
+mul-b : tie.Need-mul-b
+mul-b c = search needs
+
+element-copy-out-b : tie.Need-element-copy-out-b
+element-copy-out-b c = search needs
 
 returns : tie.Need-returns
-returns c = λ C b t n I. stretched-none I _ (omega (arith, I .owning .counted, c .before .before .before .pre .0)) (c .if1 .taken)
+returns c = λ C b t n I. stretched-none I _ (omega (arith, I .owning .counted, c .before .before .before .before .before .pre .0)) (c .if1 .taken)
 
-element-copy-out-t9 : tie.Need-element-copy-out-t9
-element-copy-out-t9 c = search needs
+least-requires : tie.Need-least-requires
+least-requires c κs = search needs
 
-mul-t15 : tie.Need-mul-t15
-mul-t15 c =
-    let s = c .before .before .before .before in
-    let I = s .pre .1 .1 .1 .1 .1 in
-    search (needs, starts-fit (I .owning .given .paired) 0 (omega arith))
+least-requires-2 : tie.Need-least-requires-2
+least-requires-2 c κs = search needs
+
+end-of-requires : tie.Need-end-of-requires
+end-of-requires c κs = few (c .before .before .before .before .before .before .before)
+
+most-requires : tie.Need-most-requires
+most-requires c κs = search needs
+
+-- the number after the larger port is that of a boundary, or the count
+after : (c : tie.After-most) → c .most .result < c .before .before .before .before .before .before .before .before .before .args .count
+after c = omega (arith, c .most .ensures, below (c .before .before .before .before .before .before .before .before .before) (c .before .before .before .before .if1 .left))
+
+add-most : tie.Need-add-most
+add-most c = omega (arith, after c, few (c .before .before .before .before .before .before .before .before .before))
+
+most-requires-2 : tie.Need-most-requires-2
+most-requires-2 c κs = search needs
+
+-- the rows are those from a boundary up to another
+low : (c : tie.After-most2) → c .before .before .before .least2 .result ≤ c .before .before .before .before .before .before .before .before .before .before .args .count
+low c = omega (arith, c .before .before .before .least2 .ensures, c .before .before .before .before .before .before .before .before .before .before .pre .0)
+
+high : (c : tie.After-most2) → c .most2 .result ≤ c .before .before .before .before .before .before .before .before .before .before .args .count
+high c = omega (arith, c .most2 .ensures, after (c .before), c .before .before .end-of .ensures .upto)
 
 mul-t19 : tie.Need-mul-t19
 mul-t19 c = search needs
 
-element-copy-out-t22 : tie.Need-element-copy-out-t22
-element-copy-out-t22 c = search needs
+element-copy-out-t23 : tie.Need-element-copy-out-t23
+element-copy-out-t23 c = search needs
 
-mul-t23 : tie.Need-mul-t23
-mul-t23 c =
-    let s = c .before .before .before .before .before in
-    let I = s .pre .1 .1 .1 .1 .1 in
-    search (needs, starts-fit (I .owning .given .paired) (s .args .count) (omega (arith, I .owning .counted)))
+mul-t13 : tie.Need-mul-t13
+mul-t13 c = search (needs, short (c .before .before .before .before .before .before .before .before .before .before .before) (c .before .before .before .before .least2 .result) (low (c .before)))
 
-mul-t24 : tie.Need-mul-t24
-mul-t24 c = search needs
+mul-t26 : tie.Need-mul-t26
+mul-t26 c = omega (arith, high (c .before), few (c .before .before .before .before .before .before .before .before .before .before .before))
 
-element-copy-out-t27 : tie.Need-element-copy-out-t27
-element-copy-out-t27 c = search needs
+element-copy-out-t29 : tie.Need-element-copy-out-t29
+element-copy-out-t29 c = omega (arith, high (c .before), few (c .before .before .before .before .before .before .before .before .before .before .before))
 
-mul-t28 : tie.Need-mul-t28
-mul-t28 c = search needs
-
-element-copy-out-t31 : tie.Need-element-copy-out-t31
-element-copy-out-t31 c = search needs
+mul-t30 : tie.Need-mul-t30
+mul-t30 c = search (needs, short (c .before .before .before .before .before .before .before .before .before .before .before .before) (c .before .before .most2 .result) (high (c .before .before)))
 
 returns-2 : tie.Need-returns-2
-returns-2 c = λ C b t n I. stretched-two I _ (omega (arith, I .owning .counted, c .before .before .before .before .before .before .before .pre .0)) (c .before .before .before .before .if1 .left)
+returns-2 c =
+    let s = c .before .before .before .before .before .before .before .before .before .before .before .before in
+    let n = c .before .before .before .before .end-of .result in
+    let a = c .before .before .before .before .before .before .least in
+    let b = c .before .before .before .before .before .least2 in
+    let d = c .before .before .before .most in
+    let e = c .before .before .most2 in
+    λ C bs t ns I.
+    stretched-two I (s .args .i) (omega (arith, I .owning .counted, s .pre .0)) (c .before .before .before .before .end-of .ensures) (b .ensures ∙ ap (λ m. min (s .args .i) m) (a .ensures)) (e .ensures ∙ ap (λ m. max n (m + 1)) (d .ensures))
+    (c .before .before .before .before .before .before .before .if1 .left)
 
 pub interior-at-spec : {M : Type 1} → statement M
 interior-at-spec =
@@ -65,16 +119,21 @@ interior-at-spec =
     (tie.spec
     mul-name
     element-copy-out-name
-    mul-if1
-    element-copy-out-if1
+    mul-a
+    element-copy-out-a
+    mul-b
+    element-copy-out-b
     returns
-    element-copy-out-t9
-    mul-t15
+    least-requires
+    least-requires-2
+    end-of-requires
+    most-requires
+    add-most
+    most-requires-2
     mul-t19
-    element-copy-out-t22
-    mul-t23
-    mul-t24
-    element-copy-out-t27
-    mul-t28
-    element-copy-out-t31
+    element-copy-out-t23
+    mul-t13
+    mul-t26
+    element-copy-out-t29
+    mul-t30
     returns-2)

@@ -1,13 +1,13 @@
 -- `junctions::unions::is_union` meets its contract, from what its callees ensure: each return by the tests that led there. Assumes nothing.
 use Prim.Native.Nat.{ℕ, _≤_, _<_, _+_}
 use native.Mathlib.Omega.{arith}
-use mathlib.Core.Path.{_≡_, ap, ap₂, _∙_}
+use mathlib.Core.Path.{_≡_, sym, ap, ap₂, _∙_}
 use mathlib.Core.List.{List}
 use lib.ListN.{getD}
 use lib.Dec.{eqb}
-use borrow.Author.Tests.{eq-eqb, ne-eqb}
+use borrow.Author.Tests.{eq-eqb, ne-eqb, ltb-true}
 use Rattle.junctions.specs.Unions.{markAt, portsPass}
-use Rattle.junctions.proofs.Shapes.{bit-le, no-pair, has-ramp, both-anchored, is-unfit, too-few, by-ports}
+use Rattle.junctions.proofs.Shapes.{bit-le, no-pair, has-ramp, both-anchored, few-incidents, is-unfit, too-few, by-ports}
 use borrow.Author.Needs.{needs}
 use Rattle.junctions.proofs.unions.is_union.Statement.{statement}
 use Rattle.junctions.proofs.unions.is_union.Tie as tie
@@ -87,33 +87,45 @@ returns-3 c =
     let s = c .before .before .before .before .before .before .before .before .before .before .before in
     both-anchored (boundaries s) (smaller s) (larger s) (counts s) (marks s) (s .args .count) (s .args .index) (c .before .before .before .before .before .if1 .left) (eq-eqb _ 0 (c .before .before .before .if2 .left)) (omega (arith, c .if3 .taken, c .before .anchored-bit2 .ensures, c .before .before .anchored-bit .ensures))
 
-ports-fit-requires : tie.Need-ports-fit-requires
-ports-fit-requires c κs =
+has-few-incidents-requires : tie.Need-has-few-incidents-requires
+has-few-incidents-requires c κs =
     let s = c .before .before .before .before .before .before .before .before .before .before .before in
     let n = named s (c .before .before .before .before .before .if1 .left) in
-    ((s .pre .0 .bounds .few, s .pre .1), ((n .0, omega (arith, n, s .pre .0 .countsLong)), (omega (arith, n), omega (arith, n, s .pre .0 .countsLong))))
+    ((n .0, omega (arith, n, s .pre .0 .countsLong)), (omega (arith, n), omega (arith, n, s .pre .0 .countsLong)))
 
 returns-4 : tie.Need-returns-4
 returns-4 c =
     let s = c .before .before .before .before .before .before .before .before .before .before .before .before .before in
-    is-unfit (boundaries s) (smaller s) (larger s) (counts s) (marks s) (s .args .count) (s .args .index) (c .before .before .before .before .before .before .before .if1 .left) (eq-eqb _ 0 (c .before .before .before .before .before .if2 .left)) (omega (arith, c .before .before .if3 .left, c .before .before .before .anchored-bit2 .ensures, c .before .before .before .before .anchored-bit .ensures)) (c .before .ports-fit .ensures) (c .if4 .taken)
+    few-incidents (boundaries s) (smaller s) (larger s) (counts s) (marks s) (s .args .count) (s .args .index) (c .before .before .before .before .before .before .before .if1 .left) (eq-eqb _ 0 (c .before .before .before .before .before .if2 .left)) (omega (arith, c .before .before .if3 .left, c .before .before .before .anchored-bit2 .ensures, c .before .before .before .before .anchored-bit .ensures)) (s .pre .1)
+    (ltb-true _ 5 (sym (c .before .has-few-incidents .ensures) ∙ c .if4 .taken))
 
-has-three-exteriors-requires : tie.Need-has-three-exteriors-requires
-has-three-exteriors-requires c κs = (c .before .before .before .before .before .before .before .before .before .before .before .before .before .pre .0 .bounds .few, c .before .before .before .before .before .before .before .before .before .before .before .before .before .pre .1)
+ports-fit-requires : tie.Need-ports-fit-requires
+ports-fit-requires c κs =
+    let s = c .before .before .before .before .before .before .before .before .before .before .before .before .before in
+    let n = named s (c .before .before .before .before .before .before .before .if1 .left) in
+    ((s .pre .0 .bounds .few, s .pre .1), ((n .0, omega (arith, n, s .pre .0 .countsLong)), (omega (arith, n), omega (arith, n, s .pre .0 .countsLong))))
 
 returns-5 : tie.Need-returns-5
 returns-5 c =
     let s = c .before .before .before .before .before .before .before .before .before .before .before .before .before .before .before in
-    too-few (boundaries s) (smaller s) (larger s) (counts s) (marks s) (s .args .count) (s .args .index) (c .before .before .before .before .before .before .before .before .before .if1 .left) (eq-eqb _ 0 (c .before .before .before .before .before .before .before .if2 .left)) (omega (arith, c .before .before .before .before .if3 .left, c .before .before .before .before .before .anchored-bit2 .ensures, c .before .before .before .before .before .before .anchored-bit .ensures)) (c .before .before .before .ports-fit .ensures) (c .before .before .if4 .left) (c .before .has-three-exteriors .ensures) (c .if5 .taken)
+    is-unfit (boundaries s) (smaller s) (larger s) (counts s) (marks s) (s .args .count) (s .args .index) (c .before .before .before .before .before .before .before .before .before .if1 .left) (eq-eqb _ 0 (c .before .before .before .before .before .before .before .if2 .left)) (omega (arith, c .before .before .before .before .if3 .left, c .before .before .before .before .before .anchored-bit2 .ensures, c .before .before .before .before .before .before .anchored-bit .ensures)) (c .before .ports-fit .ensures) (c .if5 .taken)
 
-ports-pass-requires : tie.Need-ports-pass-requires
-ports-pass-requires c κs = (c .before .before .before .before .before .before .before .before .before .before .before .before .before .before .before .pre .0 .bounds, c .before .before .before .before .before .before .before .before .before .before .before .before .before .before .before .pre .1)
+has-three-exteriors-requires : tie.Need-has-three-exteriors-requires
+has-three-exteriors-requires c κs = (c .before .before .before .before .before .before .before .before .before .before .before .before .before .before .before .pre .0 .bounds .few, c .before .before .before .before .before .before .before .before .before .before .before .before .before .before .before .pre .1)
 
 returns-6 : tie.Need-returns-6
 returns-6 c =
-    let s = c .before .before .before .before .before .before .before .before .before .before .before .before .before .before .before .before in
-    by-ports (boundaries s) (smaller s) (larger s) (counts s) (marks s) (s .args .count) (s .args .index) (c .before .before .before .before .before .before .before .before .before .before .if1 .left) (eq-eqb _ 0 (c .before .before .before .before .before .before .before .before .if2 .left)) (omega (arith, c .before .before .before .before .before .if3 .left, c .before .before .before .before .before .before .anchored-bit2 .ensures, c .before .before .before .before .before .before .before .anchored-bit .ensures)) (c .before .before .before .before .ports-fit .ensures) (c .before .before .before .if4 .left) (c .before .before .has-three-exteriors .ensures) (c .before .if5 .left)
-    (c .ports-pass .ensures ∙ ap (λ n. portsPass (boundaries s) (smaller s) (larger s) (s .args .count) (s .args .index) (record { lo = lo s; hi = hi s }) (eqb n 1)) (ap₂ _+_ (c .before .before .before .before .before .before .before .anchored-bit .ensures) (c .before .before .before .before .before .before .anchored-bit2 .ensures)))
+    let s = c .before .before .before .before .before .before .before .before .before .before .before .before .before .before .before .before .before in
+    too-few (boundaries s) (smaller s) (larger s) (counts s) (marks s) (s .args .count) (s .args .index) (c .before .before .before .before .before .before .before .before .before .before .before .if1 .left) (eq-eqb _ 0 (c .before .before .before .before .before .before .before .before .before .if2 .left)) (omega (arith, c .before .before .before .before .before .before .if3 .left, c .before .before .before .before .before .before .before .anchored-bit2 .ensures, c .before .before .before .before .before .before .before .before .anchored-bit .ensures)) (c .before .before .before .ports-fit .ensures) (c .before .before .if5 .left) (c .before .has-three-exteriors .ensures) (c .if6 .taken)
+
+ports-pass-requires : tie.Need-ports-pass-requires
+ports-pass-requires c κs = (c .before .before .before .before .before .before .before .before .before .before .before .before .before .before .before .before .before .pre .0 .bounds, c .before .before .before .before .before .before .before .before .before .before .before .before .before .before .before .before .before .pre .1)
+
+returns-7 : tie.Need-returns-7
+returns-7 c =
+    let s = c .before .before .before .before .before .before .before .before .before .before .before .before .before .before .before .before .before .before in
+    by-ports (boundaries s) (smaller s) (larger s) (counts s) (marks s) (s .args .count) (s .args .index) (c .before .before .before .before .before .before .before .before .before .before .before .before .if1 .left) (eq-eqb _ 0 (c .before .before .before .before .before .before .before .before .before .before .if2 .left)) (omega (arith, c .before .before .before .before .before .before .before .if3 .left, c .before .before .before .before .before .before .before .before .anchored-bit2 .ensures, c .before .before .before .before .before .before .before .before .before .anchored-bit .ensures)) (c .before .before .before .before .ports-fit .ensures) (c .before .before .before .if5 .left) (c .before .before .has-three-exteriors .ensures) (c .before .if6 .left)
+    (c .ports-pass .ensures ∙ ap (λ n. portsPass (boundaries s) (smaller s) (larger s) (s .args .count) (s .args .index) (record { lo = lo s; hi = hi s }) (eqb n 1)) (ap₂ _+_ (c .before .before .before .before .before .before .before .before .before .anchored-bit .ensures) (c .before .before .before .before .before .before .before .before .anchored-bit2 .ensures)))
 
 pub is-union-spec : {M : Type 1} → statement M
 is-union-spec =
@@ -133,9 +145,11 @@ is-union-spec =
     anchored-bit-requires-2
     add-anchored
     returns-3
-    ports-fit-requires
+    has-few-incidents-requires
     returns-4
-    has-three-exteriors-requires
+    ports-fit-requires
     returns-5
+    has-three-exteriors-requires
+    returns-6
     ports-pass-requires
-    returns-6)
+    returns-7)

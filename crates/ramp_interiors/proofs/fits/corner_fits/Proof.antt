@@ -1,5 +1,5 @@
 -- `fits::corner_fits` meets its contract, from what `distance` ensures. Assumes nothing.
-use Rattle.ramp_interiors.proofs.FitLaws.{corner-is}
+use Rattle.ramp_interiors.proofs.FitLaws.{corner-first, corner-second}
 use borrow.Author.Needs.{needs}
 use Rattle.ramp_interiors.proofs.fits.corner_fits.Statement.{statement}
 use Rattle.ramp_interiors.proofs.fits.corner_fits.Tie as tie
@@ -7,11 +7,14 @@ use Rattle.ramp_interiors.proofs.fits.corner_fits.Tie as tie
 distance-requires : tie.Need-distance-requires
 distance-requires c κs = search needs
 
+returns : tie.Need-returns
+returns c = λ m n. corner-first _ _ _ (c .before .distance .ensures) m (c .if1 .taken)
+
 distance-requires-2 : tie.Need-distance-requires-2
 distance-requires-2 c κs = search needs
 
-returns : tie.Need-returns
-returns c = λ m n. corner-is _ _ _ (c .before .distance .ensures) (c .distance2 .ensures) m n
+returns-2 : tie.Need-returns-2
+returns-2 c = λ m n. corner-second _ _ _ (c .before .before .distance .ensures) (c .distance2 .ensures) m n (c .before .if1 .left)
 
 pub corner-fits-spec : {M : Type 1} → statement M
-corner-fits-spec = tie.close (tie.spec distance-requires distance-requires-2 returns)
+corner-fits-spec = tie.close (tie.spec distance-requires returns distance-requires-2 returns-2)

@@ -1,13 +1,24 @@
 -- `ports::is_port` meets its contract: of a candidate, the edges are the boundaries that it owns. Assumes nothing.
 use mathlib.Core.Path.{_∙_}
+use mathlib.Core.Bool.{not}
+use lib.Dec.{eqb}
+use borrow.Author.Tests.{eqb-false, not-true}
+use Rattle.laws.specs.ListLaws.Tests.{both}
+use Rattle.ramp_interiors.specs.Owners.{several}
 use Rattle.ramp_interiors.proofs.Walks.{shown-walkable}
-use Rattle.ramp_interiors.proofs.CandidateLaws.{port-own, port-other, touches-is}
+use Rattle.ramp_interiors.proofs.CandidateLaws.{port-own, port-other, port-elsewhere, touches-is}
 use borrow.Author.Needs.{needs}
 use Rattle.ramp_interiors.proofs.ports.is_port.Statement.{statement}
 use Rattle.ramp_interiors.proofs.ports.is_port.Tie as tie
 
 returns : tie.Need-returns
 returns c = λ C M l o h. port-own C _ _ (M .from) (M .upto) o l h (c .if1 .taken)
+
+returns-2 : tie.Need-returns-2
+returns-2 c =
+    let v = c .before .before .before .before .before .args .owner in
+    let t = both (not (eqb v 0)) (not (eqb v several)) (c .if2 .taken) in
+    λ C M l o h. port-elsewhere M _ l o h (c .before .if1 .left) (eqb-false v 0 (not-true (eqb v 0) (t .0))) (eqb-false v several (not-true (eqb v several) (t .1)))
 
 mul-touches : tie.Need-mul-touches
 mul-touches c = search needs
@@ -26,21 +37,22 @@ element-copy-out-touches-2 c = search needs
 
 touches-requires : tie.Need-touches-requires
 touches-requires c κs =
-    let s = c .before .before .before .before .before .before in
+    let s = c .before .before .before .before .before .before .before in
     shown-walkable (s .pre .1 .0 .paired) (s .pre .1 .0 .told .long) (s .args .i) (s .pre .1 .1)
 
-returns-2 : tie.Need-returns-2
-returns-2 c = λ C M l o h. c .touches .ensures ∙ touches-is M _ l ∙ port-other C _ _ (M .from) (M .upto) o l h (c .before .before .before .if1 .left)
+returns-3 : tie.Need-returns-3
+returns-3 c = λ C M l o h. c .touches .ensures ∙ touches-is M _ l ∙ port-other C _ _ (M .from) (M .upto) o l h (c .before .before .before .before .if1 .left)
 
 pub is-port-spec : {M : Type 1} → statement M
 is-port-spec =
     tie.close
     (tie.spec
     returns
+    returns-2
     mul-touches
     element-copy-out-touches
     add-touches
     mul-touches-2
     element-copy-out-touches-2
     touches-requires
-    returns-2)
+    returns-3)

@@ -4,14 +4,14 @@ use mathlib.Core.Path.{_≡_}
 use native.Mathlib.Omega.{arith}
 use lib.ListN.{length, length-set}
 use borrow.Author.Needs.{needs}
-use Rattle.areas_replay.proofs.widen.Statement.{statement}
-use Rattle.areas_replay.proofs.widen.Tie as tie
+use Rattle.lent_lists.proofs.widen.Statement.{statement}
+use Rattle.lent_lists.proofs.widen.Tie as tie
 
 abbrev Inv-loop : tie.InvT-loop
-Inv-loop masks out₀ n i₀ out i = (length out ≡ length out₀) × (n ≤ length masks) × (n ≤ length out) × (i ≤ n)
+Inv-loop list out₀ n i₀ out i = (length out ≡ length out₀) × (n ≤ length list) × (n ≤ length out) × (i ≤ n)
 
 abbrev μ-loop : tie.MeasureT-loop
-μ-loop masks out₀ n i₀ out i = n - i
+μ-loop list out₀ n i₀ out i = n - i
 
 least-requires : tie.Need-least-requires Inv-loop μ-loop
 least-requires c κs = search needs
@@ -19,14 +19,14 @@ least-requires c κs = search needs
 loop-holds : tie.Need-loop-holds Inv-loop μ-loop
 loop-holds c = search needs
 
-mul-wide-mask : tie.Need-mul-wide-mask Inv-loop μ-loop
-mul-wide-mask c = search needs
+mul-wide : tie.Need-mul-wide Inv-loop μ-loop
+mul-wide c = search needs
 
-shared-slice-read-wide-mask : tie.Need-shared-slice-read-wide-mask Inv-loop μ-loop
-shared-slice-read-wide-mask c = search needs
+shared-slice-read-wide : tie.Need-shared-slice-read-wide Inv-loop μ-loop
+shared-slice-read-wide c = search needs
 
-wide-mask-requires : tie.Need-wide-mask-requires Inv-loop μ-loop
-wide-mask-requires c κs = search needs
+wide-requires : tie.Need-wide-requires Inv-loop μ-loop
+wide-requires c κs = search needs
 
 mul-out : tie.Need-mul-out Inv-loop μ-loop
 mul-out c = search needs
@@ -57,9 +57,9 @@ widen-spec =
     μ-loop
     least-requires
     loop-holds
-    mul-wide-mask
-    shared-slice-read-wide-mask
-    wide-mask-requires
+    mul-wide
+    shared-slice-read-wide
+    wide-requires
     mul-out
     slice-write-out
     add-i

@@ -1,9 +1,9 @@
--- `write_numbers` is safe and ends. The invariant: n is not beyond the list, and i is not beyond n. The measure is what is left up to n. Assumes nothing.
+-- `write_wide_numbers` is safe and ends. The invariant: n is not beyond the list, and i is not beyond n. The measure is what is left up to n. Assumes nothing.
 use Prim.Native.Nat.{_-_, _≤_}
 use lib.ListN.{length}
 use borrow.Author.Needs.{needs}
-use Rattle.areas_replay.proofs.write_numbers.Statement.{statement}
-use Rattle.areas_replay.proofs.write_numbers.Tie as tie
+use Rattle.lent_lists.proofs.write_wide_numbers.Statement.{statement}
+use Rattle.lent_lists.proofs.write_wide_numbers.Tie as tie
 
 abbrev Inv-loop : tie.InvT-loop
 Inv-loop word list n i₀ t5 t6 t7 i = (n ≤ length list) × (i ≤ n)
@@ -23,14 +23,11 @@ loop-holds c = search needs
 slice-aggregate-write-number : tie.Need-slice-aggregate-write-number Inv-loop μ-loop
 slice-aggregate-write-number c = search needs
 
-mul-wide : tie.Need-mul-wide Inv-loop μ-loop
-mul-wide c = search needs
+mul-write-number : tie.Need-mul-write-number Inv-loop μ-loop
+mul-write-number c = search needs
 
-shared-slice-read-wide : tie.Need-shared-slice-read-wide Inv-loop μ-loop
-shared-slice-read-wide c = search needs
-
-wide-requires : tie.Need-wide-requires Inv-loop μ-loop
-wide-requires c κs = search needs
+shared-slice-read-write-number : tie.Need-shared-slice-read-write-number Inv-loop μ-loop
+shared-slice-read-write-number c = search needs
 
 write-number-requires-2 : tie.Need-write-number-requires-2 Inv-loop μ-loop
 write-number-requires-2 c κs = search needs
@@ -62,8 +59,8 @@ write-requires c κs = search needs
 returns : tie.Need-returns Inv-loop μ-loop
 returns c = search needs
 
-pub write-numbers-spec : {M : Type 1} → statement M
-write-numbers-spec =
+pub write-wide-numbers-spec : {M : Type 1} → statement M
+write-wide-numbers-spec =
     tie.close
     (tie.spec
     Inv-loop
@@ -72,9 +69,8 @@ write-numbers-spec =
     write-number-requires
     loop-holds
     slice-aggregate-write-number
-    mul-wide
-    shared-slice-read-wide
-    wide-requires
+    mul-write-number
+    shared-slice-read-write-number
     write-number-requires-2
     add-i
     loop-less

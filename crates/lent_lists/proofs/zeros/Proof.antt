@@ -2,8 +2,8 @@
 use Prim.Native.Nat.{_-_, _≤_}
 use lib.ListN.{length}
 use borrow.Author.Needs.{needs}
-use Rattle.areas_replay.proofs.zeros.Statement.{statement}
-use Rattle.areas_replay.proofs.zeros.Tie as tie
+use Rattle.lent_lists.proofs.zeros.Statement.{statement}
+use Rattle.lent_lists.proofs.zeros.Tie as tie
 
 abbrev Inv-loop : tie.InvT-loop
 Inv-loop list n₀ n = n ≤ length list

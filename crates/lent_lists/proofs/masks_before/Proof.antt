@@ -1,8 +1,8 @@
 -- `masks_before` is safe and ends. The invariant: i is not beyond the list. The measure is what is left of the list. Assumes nothing.
 use Prim.Native.Nat.{_-_, _≤_}
 use borrow.Author.Needs.{needs}
-use Rattle.areas_replay.proofs.masks_before.Statement.{statement}
-use Rattle.areas_replay.proofs.masks_before.Tie as tie
+use Rattle.lent_lists.proofs.masks_before.Statement.{statement}
+use Rattle.lent_lists.proofs.masks_before.Tie as tie
 
 abbrev Inv-loop : tie.InvT-loop
 Inv-loop list₀ i₀ list i = i ≤ 4096

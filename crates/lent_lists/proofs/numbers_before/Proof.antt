@@ -1,8 +1,8 @@
 -- `numbers_before` is safe and ends. The invariant: i is not beyond the list. The measure is what is left of the list. Assumes nothing.
 use Prim.Native.Nat.{_-_, _≤_}
 use borrow.Author.Needs.{needs}
-use Rattle.areas_replay.proofs.numbers_before.Statement.{statement}
-use Rattle.areas_replay.proofs.numbers_before.Tie as tie
+use Rattle.lent_lists.proofs.numbers_before.Statement.{statement}
+use Rattle.lent_lists.proofs.numbers_before.Tie as tie
 
 abbrev Inv-loop : tie.InvT-loop
 Inv-loop list₀ i₀ list i = i ≤ 4096
@@ -15,6 +15,9 @@ loop-holds c = search needs
 
 held-before-requires : tie.Need-held-before-requires Inv-loop μ-loop
 held-before-requires c κs = search needs
+
+cast-list : tie.Need-cast-list Inv-loop μ-loop
+cast-list c = search needs
 
 mul-list : tie.Need-mul-list Inv-loop μ-loop
 mul-list c = search needs
@@ -42,6 +45,7 @@ numbers-before-spec =
     μ-loop
     loop-holds
     held-before-requires
+    cast-list
     mul-list
     array-write-list
     add-i

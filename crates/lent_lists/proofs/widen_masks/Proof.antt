@@ -1,0 +1,69 @@
+-- `widen_masks` is safe and ends. The invariant: the list keeps its length, n is not beyond either list, and i is not beyond n. The measure is what is left up to n. Assumes nothing.
+use Prim.Native.Nat.{_-_, _≤_}
+use mathlib.Core.Path.{_≡_}
+use native.Mathlib.Omega.{arith}
+use lib.ListN.{length, length-set}
+use borrow.Author.Needs.{needs}
+use Rattle.lent_lists.proofs.widen_masks.Statement.{statement}
+use Rattle.lent_lists.proofs.widen_masks.Tie as tie
+
+abbrev Inv-loop : tie.InvT-loop
+Inv-loop masks out₀ n i₀ out i = (length out ≡ length out₀) × (n ≤ length masks) × (n ≤ length out) × (i ≤ n)
+
+abbrev μ-loop : tie.MeasureT-loop
+μ-loop masks out₀ n i₀ out i = n - i
+
+least-requires : tie.Need-least-requires Inv-loop μ-loop
+least-requires c κs = search needs
+
+loop-holds : tie.Need-loop-holds Inv-loop μ-loop
+loop-holds c = search needs
+
+mul-wide-mask : tie.Need-mul-wide-mask Inv-loop μ-loop
+mul-wide-mask c = search needs
+
+shared-slice-read-wide-mask : tie.Need-shared-slice-read-wide-mask Inv-loop μ-loop
+shared-slice-read-wide-mask c = search needs
+
+wide-mask-requires : tie.Need-wide-mask-requires Inv-loop μ-loop
+wide-mask-requires c κs = search needs
+
+mul-out : tie.Need-mul-out Inv-loop μ-loop
+mul-out c = search needs
+
+slice-write-out : tie.Need-slice-write-out Inv-loop μ-loop
+slice-write-out c = search needs
+
+add-i : tie.Need-add-i Inv-loop μ-loop
+add-i c = search needs
+
+loop-less : tie.Need-loop-less Inv-loop μ-loop
+loop-less c = search needs
+
+loop-again : tie.Need-loop-again Inv-loop μ-loop
+loop-again c = simp length-set (omega arith)
+
+same-length : tie.Need-same-length Inv-loop μ-loop
+same-length c = search needs
+
+returns : tie.Need-returns Inv-loop μ-loop
+returns c = search needs
+
+pub widen-masks-spec : {M : Type 1} → statement M
+widen-masks-spec =
+    tie.close
+    (tie.spec
+    Inv-loop
+    μ-loop
+    least-requires
+    loop-holds
+    mul-wide-mask
+    shared-slice-read-wide-mask
+    wide-mask-requires
+    mul-out
+    slice-write-out
+    add-i
+    loop-less
+    loop-again
+    same-length
+    returns)
