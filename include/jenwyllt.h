@@ -100,7 +100,9 @@ struct jenwyllt_region {
      12      there are more pairs than rows                                                   0
 
    5 and 6 are tested span by span, 5 first. With 1 to 10 every list stays as it was. With 11 labels are filled, and masks, queue and tallies are zero; with
-   12 labels and tallies are filled, masks and queue are zero, and pairs are zero over the whole list; the other lists stay as they were. */
+   12 labels and tallies are filled, masks and queue are zero, and pairs are zero over the whole list; the other lists stay as they were.
+
+   A call needs 263 KiB of stack. */
 struct jenwyllt_answer topology_kept_boundaries(
     uint64_t pass, uint64_t width, uint64_t height,
     const uint8_t *cells, size_t cells_length,
