@@ -1,29 +1,19 @@
--- What the proofs of several functions use.
-mod ApproachLaws
+-- What the proofs of several functions use, here and, where public, in the crates above.
+pub mod ApproachLaws
 mod CandidateLaws
 mod CandidateRoom
-mod Conflicts
-mod Distinct
-mod Fitting
+pub mod Distinct
+pub mod Fitting
 mod FoundMouths
-mod Greedy
-pub mod InnerWalk
-mod KeyOrder
 mod Literals
-mod Marks
-mod Measured
-mod Nearness
+pub mod Measured
 mod OtherEnds
 mod OuterWithin
-pub mod ProposalLists
-mod RoundLaws
-mod RowLists
+pub mod RowLists
 mod SafeLists
-mod SelectionLaws
-mod ShapeTests
-mod ShapedMouths
+pub mod ShapeTests
+pub mod ShapedMouths
 mod StarShapes
-mod TakenLaws
 mod TriangleFound
 mod TriangleMouths
 mod Within

@@ -2,7 +2,7 @@
 use mathlib.Core.Path.{_≡_, refl}
 use lib.Ieee.{binary64, ofBits, ofInt, div}
 use Rattle.definitions.specs.Geometry.{float}
-use Rattle.definitions.specs.RampMouths.{maxMouthDistance, maxApproachRadius, maxOverlayWidthRatio}
+use Rattle.definitions.specs.RampMouths.{maxMouthDistance, maxOverlayWidthRatio}
 
 pub two-is : ofBits binary64 0x4000000000000000 ≡ float 2
 unfolding float ofInt ofBits
@@ -15,7 +15,3 @@ ratio-is = refl
 pub mouth-distance-is : ofBits binary64 0x406C000000000000 ≡ maxMouthDistance
 unfolding maxMouthDistance float ofInt ofBits
 mouth-distance-is = refl
-
-pub radius-is : ofBits binary64 0x4080000000000000 ≡ maxApproachRadius
-unfolding maxApproachRadius float ofInt ofBits
-radius-is = refl

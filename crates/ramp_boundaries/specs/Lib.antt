@@ -1,11 +1,6 @@
+-- The words of the contracts of what a mouth and a ramp propose.
 pub mod Candidates
-pub mod Held
-pub mod Inner
-pub mod Keys
 pub mod Lent
 pub mod Listed
-pub mod Near
 pub mod Outers
-pub mod Rounds
 pub mod Rows
-pub mod Selecting

@@ -1,17 +1,16 @@
 -- The candidates as compact lists: entry k has a mouth, a ramp, a region outside (0 for none), a kind and the bits of a separation. Definitions only; assumes nothing.
 use Prim.Native.Nat.{ℕ, _+_, _*_, _≤_, _<_}
 use mathlib.Core.Path.{_≡_}
-use mathlib.Core.Bool.{Bool, false, not}
-use mathlib.Core.Option.{Option, some}
+use mathlib.Core.Bool.{Bool, not}
+use mathlib.Core.Option.{some}
 use mathlib.Core.List.{List}
 use lib.ListN.{length, getD, set}
-use lib.Dec.{eqb, ltb}
+use lib.Dec.{eqb}
 use lib.Ieee.{binary64, toBits}
 use Rattle.definitions.specs.Limits.{numbersPerBoundary}
-use Rattle.definitions.specs.Scan.{collect, onlyIf}
+use Rattle.definitions.specs.Scan.{collect}
 use Rattle.definitions.specs.Context.{Context}
 use Rattle.definitions.specs.RampMouths.{MouthProposal, separationOf}
-use Rattle.context.specs.Rows.{Stretch, NamedRow}
 use Rattle.ramp_boundaries.specs.Candidates.{proposalOf}
 
 -- 128 ramps and 128 mouths at most, of 256 boundaries
@@ -22,34 +21,12 @@ module _ (C : Context) (mouths ramps outers kinds : List ℕ) where
   abbrev pub entryAt : ℕ → MouthProposal
   entryAt k = proposalOf C (getD mouths k 0) (getD ramps k 0) (getD outers k 0) (getD kinds k 0)
 
-  -- those of the first n that are near
-  unfoldable pub nearEntries : List Bool → ℕ → List MouthProposal
-  unfolding collect
-  nearEntries near n = collect n (λ k. onlyIf (getD near k false) (entryAt k))
-
-  -- entry k, none where k is n
-  abbrev pub entryIf : ℕ → ℕ → Option MouthProposal
-  entryIf n k = onlyIf (ltb k n) (entryAt k)
-
 pub record Listed (C : Context) (mouths ramps outers separations : List ℕ) (n : ℕ) : Type 0 where
   pub few : n ≤ maxCandidates
   pub mouth : (k : ℕ) → k < n → getD mouths k 0 < C .count
   pub ramp : (k : ℕ) → k < n → getD ramps k 0 < C .count
   pub outer : (k : ℕ) → k < n → getD outers k 0 ≤ C .regions
   pub bits : (k : ℕ) → k < n → getD separations k 0 ≡ toBits binary64 (separationOf C (getD mouths k 0) (getD ramps k 0))
-
--- what the code needs of a mouth and a region outside
-pub record SafeEntry (pairs starts marks : List ℕ) (m outer : ℕ) : Type 0 where
-  pub stretch : Stretch pairs starts m
-  pub rows : (k : ℕ) → getD starts m 0 ≤ k → k < getD starts (m + 1) 0 → NamedRow pairs (length marks) k
-  pub marked : outer ≤ length marks
-
--- of every entry
-pub record SafeEntries (boundaries pairs starts marks mouths ramps outers : List ℕ) (n : ℕ) : Type 0 where
-  pub few : n ≤ maxCandidates
-  pub safe : (k : ℕ) → k < n → SafeEntry pairs starts marks (getD mouths k 0) (getD outers k 0)
-  pub mouth : (k : ℕ) → k < n → numbersPerBoundary * getD mouths k 0 + 8 < length boundaries
-  pub ramp : (k : ℕ) → k < n → numbersPerBoundary * getD ramps k 0 + 8 < length boundaries
 
 -- the first n entries are l
 pub record Filled (C : Context) (mouths ramps outers kinds separations : List ℕ) (n : ℕ) (l : List MouthProposal) : Type 0 where

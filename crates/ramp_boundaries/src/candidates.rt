@@ -1,9 +1,9 @@
 // The candidates of all ramps and mouths, as compact lists: ramp by ramp, then mouth by mouth.
 use crate::measures::NUMBERS_PER_BOUNDARY;
+use crate::measures::is_close;
 use crate::measures::separation_of;
 use crate::mouths::Candidate;
 use crate::mouths::mouth_candidate;
-use crate::near::is_close;
 use context::pairs::full_cut;
 ghost use mathlib.Core.Path.{_≡_};
 ghost use mathlib.Core.Bool.{false, true};

@@ -7,18 +7,21 @@ use geometry::ramp_boundaries::overlapping_ramp_representative;
 use geometry::ramp_boundaries::segment_distance;
 use span_geometry::PixelPosition;
 ghost use mathlib.Core.Path.{_≡_};
+ghost use mathlib.Core.Bool.{not};
 ghost use Prim.Native.Nat.{_*_, _+_, _<_};
 ghost use lib.ListN.{length, getD};
-ghost use lib.Ieee.{binary64, ofBits};
+ghost use lib.Ieee.{binary64, lt, ofBits};
 ghost use Rattle.definitions.specs.Limits.{numbersPerBoundary};
 ghost use Rattle.definitions.specs.Grid.{segmentAt};
 ghost use Rattle.definitions.specs.Context.{Context};
-ghost use Rattle.definitions.specs.RampMouths.{broadMouth, nearbyRepresentative, overlayRepresentative, separationOf};
+ghost use Rattle.definitions.specs.RampMouths.{maxMouthDistance, broadMouth, nearbyRepresentative, overlayRepresentative, separationOf};
 ghost use Rattle.context.specs.Shown.{ShownBoundaries};
 ghost use Rattle.geometry.specs.Forms.{segmentForm};
 ghost use Rattle.ramp_boundaries.specs.Lent.{Placed};
 
 pub const NUMBERS_PER_BOUNDARY: usize = 9;
+
+const MAX_MOUTH_DISTANCE: f64 = 224.0;
 
 const MAX_OVERLAY_WIDTH_RATIO: f64 = 1.5;
 
@@ -81,4 +84,11 @@ pub fn separation_of(boundaries: &[u64], m: usize, a: usize) -> f64
     ensures { λ r. ⌜ ((C : Context) → ShownBoundaries C (now (boundaries .entry)) → m < C .count → a < C .count → r ≡ separationOf C m a) ⌝ }
 {
     segment_distance(segment_of(boundaries, m), segment_of(boundaries, a))
+}
+
+// Whether a separation is that of a mouth of the ramp.
+pub fn is_close(separation: f64) -> bool
+    ensures { λ r. ⌜ r ≡ not (lt maxMouthDistance separation) ⌝ }
+{
+    !(separation > MAX_MOUTH_DISTANCE)
 }

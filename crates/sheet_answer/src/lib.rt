@@ -12,7 +12,7 @@ use printed::print_refused;
 use sheet::Answer;
 use sheet::Header;
 use sheet::read_within;
-use topology::kept_boundaries_here;
+use topology::here::kept_boundaries_here;
 
 const SHEET_BYTES_MOST: usize = 65_536;
 

@@ -1,5 +1,5 @@
 -- The contract of the call, as the exported call and the call with records of its own have it. Assumes nothing.
-use Prim.Native.Nat.{ℕ, zero, suc, _≤_}
+use Prim.Native.Nat.{ℕ, zero, suc, _≤_, min}
 use native.Mathlib.Omega.{arith}
 use mathlib.Core.Path.{_≡_, refl, sym, ap, _∙_, subst}
 use mathlib.Core.List.{List, [], _∷_, _++_, map}
@@ -11,7 +11,7 @@ use Rattle.context.specs.declared.Region.{Region}
 use Rattle.context.specs.Records.{recordOf}
 use Rattle.calls.specs.Contract.{given, Ran}
 use Rattle.topology.specs.declared.Answer.{Answer}
-use Rattle.topology.specs.Answers.{answerOf, RanOver, RanHere}
+use Rattle.topology.specs.Answers.{answerOf, RanOver, recordsHere, RanHere}
 
 -- ---- records that are all alike
 
@@ -30,11 +30,13 @@ take-replicate zero k a h = refl
 take-replicate (suc n) zero a h = absurd (omega arith)
 take-replicate {A} (suc n) (suc k) a h = ap {B = List A} (λ l. a ∷ l) (take-replicate n k a (omega arith))
 
-pub first-empty : (n k : ℕ) (s : List Region) → n ≤ k → map recordOf s ≡ replicate k emptyRegion → map recordOf (take n s) ≡ replicate n emptyRegion
-first-empty n k s h e = map-take recordOf n s ∙ ap (take n) e ∙ take-replicate n k emptyRegion h
+-- n records are lent, the first of the call's own
+module _ (room : ℕ) {n : ℕ} (s : List Region) (f : n ≡ min room recordsHere) (e : map recordOf s ≡ replicate recordsHere emptyRegion) where
+  pub first-empty : map recordOf (take n s) ≡ replicate n emptyRegion
+  first-empty = map-take recordOf n s ∙ ap (take n) e ∙ take-replicate n recordsHere emptyRegion (omega (arith, f))
 
-pub lent-long : (n k : ℕ) (s : List Region) → n ≤ k → map recordOf s ≡ replicate k emptyRegion → n ≡ length (take n s)
-lent-long n k s h e = sym (length-replicate n emptyRegion) ∙ ap length (sym (first-empty n k s h e)) ∙ length-map (take n s) recordOf
+  pub lent-long : n ≡ length (take n s)
+  lent-long = sym (length-replicate n emptyRegion) ∙ ap length (sym first-empty) ∙ length-map (take n s) recordOf
 
 -- the part that was lent, with what stands behind it
 pub behind-long : (n : ℕ) (a b : List Region) → n ≡ length a → n ≤ length (a ++ b)
@@ -50,5 +52,5 @@ module _ {pass w h : ℕ} {cells spans boundaries anchors l m q t p : List ℕ} 
   pub answered : {r v : Answer} → RanOver pass w h cells spans boundaries anchors l m q t p s o (answerOf r) l′ m′ q′ t′ p′ s′ o′ → r ≡ v → RanOver pass w h cells spans boundaries anchors l m q t p s o (answerOf v) l′ m′ q′ t′ p′ s′ o′
   answered a e = subst (λ r. RanOver pass w h cells spans boundaries anchors l m q t p s o (answerOf r) l′ m′ q′ t′ p′ s′ o′) e a
 
-  pub ran-here : {a : verdict.Answer} (room : ℕ) → RanOver pass w h cells spans boundaries anchors l m q t p s o a l′ m′ q′ t′ p′ s′ o′ → map recordOf s ≡ replicate room emptyRegion → RanHere pass w h cells spans boundaries anchors room l m q t p o a l′ m′ q′ t′ p′ o′
-  ran-here {a} room r e = (map recordOf s′, subst (λ k. Ran (given pass w h cells spans boundaries anchors l m q t p k o) a l′ m′ q′ t′ p′ (map recordOf s′) o′) e (r .ran))
+  pub ran-here : {a : verdict.Answer} {n : ℕ} (room : ℕ) → n ≡ min room recordsHere → RanOver pass w h cells spans boundaries anchors l m q t p s o a l′ m′ q′ t′ p′ s′ o′ → map recordOf s ≡ replicate n emptyRegion → RanHere pass w h cells spans boundaries anchors room l m q t p o a l′ m′ q′ t′ p′ o′
+  ran-here {a} room f r e = (map recordOf s′, subst (λ k. Ran (given pass w h cells spans boundaries anchors l m q t p k o) a l′ m′ q′ t′ p′ (map recordOf s′) o′) (e ∙ ap (λ n. replicate n emptyRegion) f) (r .ran))

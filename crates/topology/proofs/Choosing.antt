@@ -4,8 +4,7 @@ use native.Mathlib.Omega.{arith}
 use mathlib.Core.Path.{_≡_, refl, sym, ap, _∙_}
 use mathlib.Core.Bool.{Bool, false}
 use mathlib.Core.List.{List}
-use lib.ListN.{length, getD}
-use Rattle.definitions.specs.Limits.{maxEntries}
+use lib.ListN.{getD}
 use Rattle.definitions.specs.Scan.{member}
 use Rattle.definitions.specs.Context.{Context}
 use Rattle.definitions.specs.Rows.{removedBy}

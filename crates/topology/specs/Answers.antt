@@ -1,5 +1,5 @@
 -- The contract of the call that runs a pass, over the lent records as they are declared, and what an answer stands for. Definitions only; assumes nothing.
-use Prim.Native.Nat.{ℕ, zero, suc}
+use Prim.Native.Nat.{ℕ, zero, suc, min}
 use mathlib.Core.Path.{_≡_}
 use mathlib.Core.List.{List, map}
 use lib.ListN.{drop, replicate}
@@ -34,7 +34,11 @@ pub record RanOver (pass w h : ℕ) (cells spans boundaries anchors l m q t p : 
   pub ran : Ran (given pass w h cells spans boundaries anchors l m q t p (map recordOf s) o) a l′ m′ q′ t′ p′ (map recordOf s′) o′
   pub beyond : drop (written (a .number) (regionCount (mapOf w h cells spans boundaries anchors))) s′ ≡ drop (written (a .number) (regionCount (mapOf w h cells spans boundaries anchors))) s
 
--- with `room` records that are empty at entry
+-- the call with records of its own has so many
+abbrev pub recordsHere : ℕ
+recordsHere = 512
+
+-- with `room` of its records, or all where it has no more, that are empty at entry
 abbrev pub RanHere : (pass w h : ℕ) (cells spans boundaries anchors : List ℕ) (room : ℕ) (l m q t p o : List ℕ) → verdict.Answer → (l′ m′ q′ t′ p′ o′ : List ℕ) → Type 0
 RanHere pass w h cells spans boundaries anchors room l m q t p o a l′ m′ q′ t′ p′ o′ =
-    (s : List def.Region) × Ran (given pass w h cells spans boundaries anchors l m q t p (replicate room emptyRegion) o) a l′ m′ q′ t′ p′ s o′
+    (s : List def.Region) × Ran (given pass w h cells spans boundaries anchors l m q t p (replicate (min room recordsHere) emptyRegion) o) a l′ m′ q′ t′ p′ s o′

@@ -1,7 +1,8 @@
+-- The words of the contracts of the functions that see the lent slice of region records.
+pub mod Answers
 pub mod Filled
 pub mod Held
 pub mod Interiors
+pub mod Marks
 pub mod Mouths
 pub mod Proposals
-pub mod Marks
-pub mod Answers

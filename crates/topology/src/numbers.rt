@@ -1,6 +1,7 @@
 // A region's record in plain numbers, for programs that print it.
 use context::Region;
-ghost use Prim.Native.Nat.{_+_, _≤_};
+ghost use mathlib.Core.Path.{_≡_};
+ghost use Prim.Native.Nat.{_+_, _≤_, min};
 ghost use lib.ListN.{length};
 
 pub const NUMBERS_PER_RECORD: usize = 11;
@@ -64,10 +65,7 @@ pub fn put_numbers(numbers: &mut [u64], at: usize, r: Region)
 }
 
 pub fn least(a: usize, b: usize) -> usize
-    ensures { λ r. ⌜ (r ≤ a) × (r ≤ b) ⌝ }
+    ensures { λ r. ⌜ r ≡ min a b ⌝ }
 {
-    if a < b {
-        return a;
-    }
-    b
+    if a < b { a } else { b }
 }

@@ -27,7 +27,7 @@ use lent_lists::write;
 use lent_lists::write_answer;
 use lent_lists::write_lists;
 use lent_lists::write_wide_numbers;
-use topology::kept_boundaries_here;
+use topology::here::kept_boundaries_here;
 ghost use Prim.Native.Nat.{_≤_};
 ghost use lib.ListN.{length};
 

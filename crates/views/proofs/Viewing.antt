@@ -1,5 +1,5 @@
--- What the parts of `view` ask holds of the partitioned lists, and what they leave shows the context: marks and counts are made from zeros, by ones alone in the marks, and
--- reach no further than there are regions, of which a map has no more than cells. Assumes nothing.
+-- What the parts of `view` ask holds of the partitioned lists, and what they leave shows the context: marks and counts are made from zeros, by ones alone in the marks. Both,
+-- and the zeros, reach no further than there are regions, of which a map has no more than cells. Assumes nothing.
 use Prim.Native.Nat.{ℕ, zero, suc, _+_, _-_, _*_, _/_, _≤_, _<_}
 use native.Mathlib.Omega.{arith}
 use mathlib.Core.Path.{_≡_, refl, sym, ap, _∙_, subst}
@@ -61,8 +61,8 @@ module _ (M : Map) {w needed : ℕ} {ls anchors : List ℕ} {regions rows count 
 
   -- ---- what the parts ask
 
-  pub scratch-long : (needed ≤ masks) × (needed ≤ queue)
-  scratch-long = (omega (arith, P .cells, P .masksLong), omega (arith, P .cells, P .queueLong))
+  pub scratch-long : (regions ≤ masks) × (regions ≤ queue)
+  scratch-long = (omega (arith, P .regionsAre, regions-few M, P .masksLong), omega (arith, P .regionsAre, regions-few M, P .queueLong))
 
   pub pairs-long : numbersPerPair * rows ≤ length pairs
   pairs-long = omega (arith, P .paired .all, ap length (P .paired .filled), length-append (pairRowsOf C) (drop (length (pairRowsOf C)) (P .paired .old)))
@@ -100,8 +100,8 @@ module _ (M : Map) {w needed : ℕ} {ls anchors : List ℕ} {regions rows count 
     rows-named = subst (NamedRows pairs starts count) (sym (P .regionsAre)) (subst (λ n. NamedRows pairs starts n (regionCount M)) (P .paired .counted) (shown-rows S))
 
   -- from a cleared list
-  pub zeros : (q : List ℕ) {q₁ : List ℕ} → q₁ ≡ zeroed needed q → (k : ℕ) → k < regions → getD q₁ k 0 ≡ 0
-  zeros q e k l = ap (λ z. getD z k 0) e ∙ zeroed-at needed q k (omega (arith, l, regions-within))
+  pub zeros : (q : List ℕ) {q₁ : List ℕ} → q₁ ≡ zeroed regions q → (k : ℕ) → k < regions → getD q₁ k 0 ≡ 0
+  zeros q e k l = ap (λ z. getD z k 0) e ∙ zeroed-at regions q k l
 
   -- ---- what they leave
 
@@ -114,11 +114,15 @@ module _ (M : Map) {w needed : ℕ} {ls anchors : List ℕ} {regions rows count 
       let s : n + (needed - n) ≡ needed = omega arith in
       ap (λ k. drop k l) (sym s) ∙ sym (drop-drop (needed - n) n l) ∙ ap (drop (needed - n)) e ∙ drop-drop (needed - n) n was ∙ ap (λ k. drop k was) s
 
-  module _ (m : List ℕ) {m₁ m′ : List ℕ} (em : m₁ ≡ zeroed needed m) (lm : length m₁ ≡ length m) (room : length m ≡ masks) where
+  -- clearing reaches no further than there are regions
+  cleared-rest : (q : List ℕ) {q₁ : List ℕ} → q₁ ≡ zeroed regions q → drop needed q₁ ≡ drop needed q
+  cleared-rest q {q₁} e = further regions q q₁ regions-within (ap (drop regions) e ∙ zeroed-rest regions q)
+
+  module _ (m : List ℕ) {m₁ m′ : List ℕ} (em : m₁ ≡ zeroed regions m) (lm : length m₁ ≡ length m) (room : length m ≡ masks) where
     marks-are : m′ ≡ markCells ls m₁ (anchorCells w anchors (length anchors / numbersPerAnchor)) → ShownAnchored C m′ × Beyond needed m m′
     marks-are e = (
       subst (ShownAnchored C) (sym e) (marked-shown M ls m₁ (anchorCells w anchors (length anchors / numbersPerAnchor)) (P .anchored) (cells-all (λ i l. P .labelled (anchorCell w anchors i) (P .onGrid i l))) (omega (arith, regions-few M, P .masksLong, lm, room)) (λ k l. zeros m em k (omega (arith, l, P .regionsAre)))),
-      record { long = ap length e ∙ kept .long ∙ lm; rest = ap (drop needed) e ∙ kept .rest ∙ ap (drop needed) em ∙ zeroed-rest needed m },
+      record { long = ap length e ∙ kept .long ∙ lm; rest = ap (drop needed) e ∙ kept .rest ∙ cleared-rest m em },
     )
       where
         kept : Beyond needed m₁ (markCells ls m₁ (anchorCells w anchors (length anchors / numbersPerAnchor)))
@@ -130,7 +134,7 @@ module _ (M : Map) {w needed : ℕ} {ls anchors : List ℕ} {regions rows count 
         subst (λ z. getD z (r - 1) 0 < 2) (sym e)
         (cells-fresh ls m₁ (anchorCells w anchors (length anchors / numbersPerAnchor)) (r - 1) (omega (arith, zeros m em (r - 1) (omega (arith, a, l, P .regionsAre)))))
 
-    pub viewed : (q : List ℕ) {q₁ q′ starts smaller larger : List ℕ} → q₁ ≡ zeroed needed q → length q₁ ≡ length q →
+    pub viewed : (q : List ℕ) {q₁ q′ starts smaller larger : List ℕ} → q₁ ≡ zeroed regions q → length q₁ ≡ length q →
         ShownPairs C pairs starts → (C .count ≡ count → ShownTallies C tallies → ShownPairs C pairs starts → ShownFullPairs C smaller larger) → m′ ≡ markCells ls m₁ (anchorCells w anchors (length anchors / numbersPerAnchor))
         → (C .count ≡ count → C .regions ≡ regions → ShownPairs C pairs starts → ShownIncidents C q′) → Beyond regions q₁ q′ → Viewed M needed pairs m q m′ q′ starts smaller larger
     unfolding contextOf
@@ -142,5 +146,5 @@ module _ (M : Map) {w needed : ℕ} {ls anchors : List ℕ} {regions rows count 
           fresh = marks-fresh e;
           shownIncidents = I (P .paired .counted) (sym (P .regionsAre)) S;
           masks = marks-are e .1;
-          queue = record { long = B .long ∙ lq; rest = further regions q₁ q′ regions-within (B .rest) ∙ ap (drop needed) eq ∙ zeroed-rest needed q };
+          queue = record { long = B .long ∙ lq; rest = further regions q₁ q′ regions-within (B .rest) ∙ cleared-rest q eq };
         }

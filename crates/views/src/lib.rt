@@ -35,7 +35,7 @@ pub fn view(
     requires { ⌜ (length (now starts) ≡ maxEntries + 1) × (length (now smaller) ≡ maxEntries) × (length (now larger) ≡ maxEntries) ⌝ }
     ensures { λ r. ⌜ ((M : Map) → Partitioned M width needed (now (labels .entry)) (now (anchors .entry)) regions rows count (now (tallies .entry)) (now (pairs .entry)) (length (now (masks .entry))) (length (now (queue .entry))) → Viewed M needed (now (pairs .entry)) (now (masks .entry)) (now (queue .entry)) (now (masks .exit)) (now (queue .exit)) (now (starts .exit)) (now (smaller .exit)) (now (larger .exit))) ⌝ }
 {
-    clear_scratch(masks, queue, needed);
+    clear_scratch(masks, queue, regions);
     pair_starts(pairs, rows, count, starts);
     full_pairs(tallies, pairs, starts, count, smaller, larger);
     mark_anchored(width, labels, anchors, masks);

@@ -870,7 +870,7 @@ b29 =
 abbrev b30 : Syntax.Body
 b30 =
     Syntax.call
-    "topology::fill"
+    "topology::records::fill"
     (List._∷_
     (Syntax.copy (Syntax.place 40 List.[]))
     (List._∷_
@@ -1015,7 +1015,7 @@ b45 = Syntax.assign (Syntax.place 58 List.[]) (Syntax.addrOf (Syntax.place 24 Li
 abbrev b46 : Syntax.Body
 b46 =
     Syntax.call
-    "topology::mark_removed"
+    "topology::marks::mark_removed"
     (List._∷_
     (Syntax.copy (Syntax.place 1 List.[]))
     (List._∷_
@@ -15406,10 +15406,10 @@ module _ (claims· : Claims) where
           (𝓤 : URA.URA M) (H : Wp.Heap 𝓤) (A : Atoms.Atoms 𝓤) (W : Kit.Given 𝓤 H A) (𝓣 : Wp.Tables
           𝓤 H) (known0 : Plain.Known 𝓤 H A W 𝓣 9 ps·0 r·0 (claims· .0) (claims· .1)
           "calls::prepare") (known1 : Plain.Known 𝓤 H A W 𝓣 4 ps·1 r·1 (claims· .2) (claims· .3)
-          "topology::fill") (known2 : Plain.Known 𝓤 H A W 𝓣 9 ps·2 r·2 (claims· .4) (claims· .5)
-          "topology::mark_removed") (known3 : Plain.Known 𝓤 H A W 𝓣 5 ps·3 r·3 (claims· .6)
-          (claims· .7) "views::finish") → Statement.Triple 𝓤 (Wp.WpFn 𝓤 H (𝓣 .C) (𝓣 .Λ)
-          (Function.fnOf 11 ps r xs m hs body)) (Function.plainOf 𝓤 H A 11 ps r Pre· Post·)
+          "topology::records::fill") (known2 : Plain.Known 𝓤 H A W 𝓣 9 ps·2 r·2 (claims· .4)
+          (claims· .5) "topology::marks::mark_removed") (known3 : Plain.Known 𝓤 H A W 𝓣 5 ps·3 r·3
+          (claims· .6) (claims· .7) "views::finish") → Statement.Triple 𝓤 (Wp.WpFn 𝓤 H (𝓣 .C)
+          (𝓣 .Λ) (Function.fnOf 11 ps r xs m hs body)) (Function.plainOf 𝓤 H A 11 ps r Pre· Post·)
 
     module _ where
       abbrev at0 : Typed.TF T55 O1
@@ -16004,8 +16004,19 @@ module _ (claims· : Claims) where
         abbrev Knowns : Type 1
         Knowns =
             Plain.Known 𝓤 H A W 𝓣 9 ps·0 r·0 (claims· .0) (claims· .1) "calls::prepare" ×
-            Plain.Known 𝓤 H A W 𝓣 4 ps·1 r·1 (claims· .2) (claims· .3) "topology::fill" ×
-            Plain.Known 𝓤 H A W 𝓣 9 ps·2 r·2 (claims· .4) (claims· .5) "topology::mark_removed" ×
+            Plain.Known 𝓤 H A W 𝓣 4 ps·1 r·1 (claims· .2) (claims· .3) "topology::records::fill" ×
+            Plain.Known
+            𝓤
+            H
+            A
+            W
+            𝓣
+            9
+            ps·2
+            r·2
+            (claims· .4)
+            (claims· .5)
+            "topology::marks::mark_removed" ×
             Plain.Known 𝓤 H A W 𝓣 5 ps·3 r·3 (claims· .6) (claims· .7) "views::finish"
 
       module _ (κs : Lifetimes.Lfts 11) (qs : Lifetimes.Shares 11) where
@@ -35370,7 +35381,7 @@ module _ (claims· : Claims) where
               r·2
               (claims· .4)
               (claims· .5)
-              "topology::mark_removed"
+              "topology::marks::mark_removed"
               (known .2)
               E
               (λ pos β. β)
@@ -38562,7 +38573,7 @@ module _ (claims· : Claims) where
               r·1
               (claims· .2)
               (claims· .3)
-              "topology::fill"
+              "topology::records::fill"
               (known .1)
               E
               (λ pos β. β)
@@ -47790,7 +47801,18 @@ module _ (claims· : Claims) where
         module _ {M : Type 1} (𝓤 : URA.URA M) (H : Wp.Heap 𝓤) (A : Atoms.Atoms 𝓤)
             (W : Kit.Given 𝓤 H A) (𝓣 : Wp.Tables 𝓤 H)
             (known0 : Plain.Known 𝓤 H A W 𝓣 9 ps·0 r·0 (claims· .0) (claims· .1) "calls::prepare")
-            (known1 : Plain.Known 𝓤 H A W 𝓣 4 ps·1 r·1 (claims· .2) (claims· .3) "topology::fill")
+            (known1 : Plain.Known
+            𝓤
+            H
+            A
+            W
+            𝓣
+            4
+            ps·1
+            r·1
+            (claims· .2)
+            (claims· .3)
+            "topology::records::fill")
             (known2 : Plain.Known
             𝓤
             H
@@ -47802,7 +47824,7 @@ module _ (claims· : Claims) where
             r·2
             (claims· .4)
             (claims· .5)
-            "topology::mark_removed")
+            "topology::marks::mark_removed")
             (known3 : Plain.Known
             𝓤
             H

@@ -1,0 +1,20 @@
+-- `selection::select_mouths` meets its contract: no ramp end is used before. Assumes nothing.
+use mathlib.Core.Path.{refl}
+use Rattle.mouth_selection.proofs.SelectionLaws.{none-used}
+use borrow.Author.Needs.{needs}
+use Rattle.mouth_selection.proofs.selection.select_mouths.Statement.{statement}
+use Rattle.mouth_selection.proofs.selection.select_mouths.Tie as tie
+
+take-all-requires : tie.Need-take-all-requires
+take-all-requires c κs =
+    let s = c .before .before .before .before .before .before in
+    (s .pre .0, ((refl, s .pre .1 .0), (s .pre .1 .1, none-used 256)))
+
+same-length : tie.Need-same-length
+same-length c = search needs
+
+returns : tie.Need-returns
+returns c = search needs
+
+pub select-mouths-spec : {M : Type 1} → statement M
+select-mouths-spec = tie.close (tie.spec take-all-requires same-length returns)

@@ -1,0 +1,64 @@
+-- `selection::take` meets its contract: its mouth, its ramp end and its regions are marked. Assumes nothing.
+use Prim.Native.Nat.{_<_}
+use native.Mathlib.Omega.{arith}
+use mathlib.Core.Path.{refl, sym, ap, _∙_, subst}
+use mathlib.Core.Bool.{true, false, _&&_, _||_, cond}
+use mathlib.Core.List.{[], _∷_, _++_}
+use lib.ListN.{length, getD, length-set}
+use lib.Dec.{eqb}
+use borrow.Author.Tests.{lt-ltb}
+use Rattle.definitions.specs.MouthShapes.{regionsOf}
+use Rattle.ramp_boundaries.specs.Candidates.{triangular, proposalOf}
+use Rattle.mouth_selection.specs.Held.{HeldMarks, sameEnd, markHeld, markInner}
+use Rattle.mouth_selection.proofs.Marks.{inner-length, outer-length}
+use Rattle.mouth_selection.proofs.TakenLaws.{refused-parts, mouth-taken, end-taken, held-taken}
+use borrow.Author.Needs.{needs}
+use Rattle.mouth_selection.proofs.selection.take.Statement.{statement}
+use Rattle.mouth_selection.proofs.selection.take.Tie as tie
+
+element-write-removed : tie.Need-element-write-removed
+element-write-removed c = search needs
+
+use-end-requires : tie.Need-use-end-requires
+use-end-requires c κs = search needs
+
+hold-proposal-requires : tie.Need-hold-proposal-requires
+hold-proposal-requires c κs = search needs
+
+same-length : tie.Need-same-length
+same-length c = search needs
+
+returns : tie.Need-returns
+unfolding proposalOf
+returns c =
+    let s = c .before .before .before .before .before .before .before .before .before in
+    let m = s .args .m in
+    let a = s .args .a in
+    let outer = s .args .outer in
+    let kind = s .args .kind in
+    let marks = s .args .marks .now in (
+      λ C T n B P long S hm ho free.
+          let p = proposalOf C m a outer kind in
+          let ha : a < C .count = subst (λ k. a < k) (sym n) (s .pre .1 .0 .0 .0) in
+          record {
+            gone = λ i hi. mouth-taken T p (s .args .removed .now) m i refl (omega (arith, s .pre .1 .0 .1, s .pre .1 .1 .0 .within)) (S .gone i hi);
+            ends = λ j hj.
+                c .before .before .before .before .use-end .ensures .0 j
+                ∙ ap (λ b. getD (s .args .used .now) j false || b && sameEnd (s .args .boundaries .now) a j) (lt-ltb j (s .args .count) (subst (λ k. j < k) n hj))
+                ∙ end-taken B T p a j refl ha hj (S .ends j hj);
+            holds =
+                subst (HeldMarks C (T ++ (p ∷ [])))
+                (sym (c .before .before .hold-proposal .ensures
+                ∙ ap (λ l. markInner outer (cond (eqb outer 0) marks (markHeld (cond (eqb kind triangular) 2 1) marks outer)) (regionsOf l)) (sym (P .at m hm))))
+                (held-taken C T m a outer kind marks (S .holds) long (P .named m hm) ho (refused-parts C T m a outer kind free));
+          },
+      (
+        ap length (c .before .before .hold-proposal .ensures) ∙ inner-length _ _ _ ∙ outer-length (eqb outer 0) marks _ outer,
+        (c .before .before .before .before .use-end .ensures .1, length-set (s .args .removed .now) m true ∙ s .pre .1 .0 .1),
+      ),
+    )
+
+pub take-spec : {M : Type 1} → statement M
+take-spec =
+    tie.close
+    (tie.spec element-write-removed use-end-requires hold-proposal-requires same-length returns)

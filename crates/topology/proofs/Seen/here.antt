@@ -1,0 +1,2 @@
+pub mod kept_boundaries_here
+pub mod put_records

@@ -1,0 +1,2 @@
+pub mod mark_removed
+pub mod removed_marks

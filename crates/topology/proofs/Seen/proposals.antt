@@ -1,0 +1,2 @@
+pub mod allow_proposals
+pub mod remove_junction_boundaries

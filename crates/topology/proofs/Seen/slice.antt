@@ -1,0 +1,2 @@
+pub mod put_record
+pub mod record_at
