@@ -1,7 +1,7 @@
 -- What `earlyRefusal` says: none, and the lists fit; or a refusal whose number leaves every list as it was. Assumes nothing.
 use Prim.Native.Nat.{ℕ, _*_, _/_, _%_, _≤_, _<_}
 use native.Mathlib.Nat.{mul-comm}
-use mathlib.Core.Path.{_≡_, refl, ap, _∙_, subst}
+use mathlib.Core.Path.{_≡_, refl, _∙_, subst}
 use mathlib.Core.Bool.{true, not, _&&_}
 use mathlib.Core.Option.{none, some}
 use mathlib.Core.List.{List}

@@ -6,7 +6,6 @@ use mathlib.Core.Bool.{not}
 use mathlib.Core.Option.{Option, none, some}
 use mathlib.Core.List.{List, [], _∷_}
 use lib.ListN.{length}
-use lib.Dec.{leb}
 use borrow.Author.Tests.{le-leb, lt-leb}
 use Rattle.definitions.specs.Limits.{numbersPerSpan, numbersPerPair}
 use Rattle.definitions.specs.Scan.{onlyIf}

@@ -4,11 +4,6 @@ use borrow.Author.Needs.{needs}
 use Rattle.interior_regions.proofs.Starting.{lent-kept, lent-owning, known-progress}
 use Rattle.interior_regions.proofs.find_interiors.Statement.{statement}
 use Rattle.interior_regions.proofs.find_interiors.Tie as tie
-use Rattle.interior_regions.proofs.find_interiors.Reads as reads
-use Rattle.interior_regions.proofs.find_interiors.Lts as lts
-use Rattle.ramp_interiors.proofs.components.name_components.Reads as name-components-reads
-use Rattle.ramp_interiors.proofs.owners.find_owners.Reads as find-owners-reads
-use Rattle.ramp_interiors.proofs.proposals.propose_all.Reads as propose-all-reads
 
 name-components-requires : tie.Need-name-components-requires
 name-components-requires c κs = search needs

@@ -8,8 +8,6 @@ use Rattle.definitions.specs.Limits.{maxEntries}
 use Rattle.interior_regions.proofs.Marking.{Marking, marking-more}
 use Rattle.interior_regions.proofs.mark_edges.Statement.{statement}
 use Rattle.interior_regions.proofs.mark_edges.Tie as tie
-use Rattle.interior_regions.proofs.mark_edges.Reads as reads
-use Rattle.interior_regions.proofs.mark_edges.Lts as lts
 
 abbrev Inv-loop : tie.InvT-loop
 Inv-loop owners count name on removed₀ j₀ removed j = (j ≤ count) × (length removed ≡ maxEntries) × Marking owners name on removed₀ removed j

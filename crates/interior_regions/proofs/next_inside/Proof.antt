@@ -10,10 +10,6 @@ use Rattle.interior_regions.specs.Places.{isNamed}
 use Rattle.ramp_interiors.proofs.RowScans.{from-more}
 use Rattle.interior_regions.proofs.next_inside.Statement.{statement}
 use Rattle.interior_regions.proofs.next_inside.Tie as tie
-use Rattle.interior_regions.proofs.next_inside.Reads as reads
-use Rattle.interior_regions.proofs.next_inside.Lts as lts
-use Rattle.interior_regions.proofs.region_at.Reads as region-at-reads
-use Rattle.ramp_interiors.proofs.components.parent_of.Reads as parent-of-reads
 
 abbrev Inv-loop : tie.InvT-loop
 Inv-loop pairs names name first end k₀ k = (first ≤ k) × (k ≤ end) × ((j : ℕ) → first ≤ j → j < k → isNamed pairs names name j ≡ false)

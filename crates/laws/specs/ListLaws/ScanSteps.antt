@@ -4,7 +4,7 @@ use native.Mathlib.Numerals.{add-one}
 use native.Mathlib.Nat.{add-zero}
 use native.Mathlib.Omega.{arith}
 use mathlib.Core.Path.{_≡_, refl, sym, ap, ap₂, _∙_}
-use mathlib.Core.Bool.{Bool, true, false, not, _&&_, _||_, true≢false, false≢true, and-false}
+use mathlib.Core.Bool.{Bool, true, false, _&&_, _||_, true≢false, and-false}
 use mathlib.Core.Option.{Option}
 use mathlib.Core.List.{_++_}
 use lib.Dec.{eqb, ltb}
