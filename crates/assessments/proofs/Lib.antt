@@ -1,4 +1,3 @@
-mod Places
 mod Insertion
 mod Holding
 mod Gathering

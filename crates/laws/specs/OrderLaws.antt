@@ -7,4 +7,5 @@ pub mod Orderings
 pub mod Ranks
 pub mod PairOrder
 pub mod PairInsertion
-pub mod BackInsertion
+pub mod Halving
+pub mod PlacedInsertion

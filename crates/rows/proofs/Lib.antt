@@ -1,5 +1,5 @@
 pub mod Comparing
 pub mod Storing
-pub mod Shifting
+pub mod Inserting
 pub mod Keys
 pub mod Collecting

@@ -1,10 +1,10 @@
 -- Rows as the output holds them, five numbers a row: reading them back. Assumes nothing.
-use Prim.Native.Nat.{ℕ, zero, suc, _+_, _*_, _≤_}
+use Prim.Native.Nat.{ℕ, zero, suc, _+_, _*_, _≤_, _<_}
 use native.Mathlib.Omega.{arith}
 use mathlib.Core.Path.{_≡_, refl, ap, _∙_}
 use mathlib.Core.List.{List, [], _∷_, _++_}
 use lib.ListN.{length, getD, drop}
-use lib.Seq.{getD-append-add, getD-drop}
+use lib.Seq.{getD-drop}
 use Rattle.definitions.specs.Grid.{at}
 use Rattle.definitions.specs.Rows.{Row, flatRows}
 
@@ -32,11 +32,9 @@ unfolding rowsIn
 rows-length zero l = refl
 rows-length (suc k) l = ap suc (rows-length k (drop 5 l))
 
--- one row more
-pub rows-next : (k : ℕ) (l : List ℕ) → rowsIn (suc k) l ≡ rowsIn k l ++ (rowAt l (5 * k) ∷ [])
-unfolding rowsIn
-rows-next zero l = refl
-rows-next (suc k) l = ap {B = List Row} (λ t. rowAt l 0 ∷ t) (rows-next k (drop 5 l) ∙ ap (λ r. rowsIn k (drop 5 l) ++ (r ∷ [])) later)
+-- a row behind the first
+row-further : (l : List ℕ) (k : ℕ) → rowAt (drop 5 l) (5 * k) ≡ rowAt l (5 * suc k)
+row-further l k = λ i. record { number = first i; line = record { a = at (place 1 i) (place 2 i); b = at (place 3 i) (place 4 i) } }
   where
     place : (j : ℕ) → getD (drop 5 l) (5 * k + j) 0 ≡ getD l (5 * suc k + j) 0
     place j =
@@ -48,8 +46,11 @@ rows-next (suc k) l = ap {B = List Row} (λ t. rowAt l 0 ∷ t) (rows-next k (dr
         let e : 5 + 5 * k ≡ 5 * suc k = omega arith in
         getD-drop 5 l (5 * k) 0 ∙ ap (λ n. getD l n 0) e
 
-    later : rowAt (drop 5 l) (5 * k) ≡ rowAt l (5 * suc k)
-    later = λ i. record { number = first i; line = record { a = at (place 1 i) (place 2 i); b = at (place 3 i) (place 4 i) } }
+-- one row more
+pub rows-next : (k : ℕ) (l : List ℕ) → rowsIn (suc k) l ≡ rowsIn k l ++ (rowAt l (5 * k) ∷ [])
+unfolding rowsIn
+rows-next zero l = refl
+rows-next (suc k) l = ap {B = List Row} (λ t. rowAt l 0 ∷ t) (rows-next k (drop 5 l) ∙ ap (λ r. rowsIn k (drop 5 l) ++ (r ∷ [])) (row-further l k))
 
 -- what rows were written is read
 pub rows-of-flat : (l : List Row) (rest : List ℕ) → rowsIn (length l) (flatRows l ++ rest) ≡ l
@@ -70,12 +71,9 @@ flat-of-rows (suc k) (a ∷ b ∷ c ∷ d ∷ e ∷ l) h =
     let five : 5 * suc k ≡ suc (suc (suc (suc (suc (5 * k))))) = omega arith in
     rw five (ap {B = List ℕ} (λ t. a ∷ b ∷ c ∷ d ∷ e ∷ t) (flat-of-rows k l (omega arith)))
 
--- the row behind others
-pub row-behind : (l : List Row) (m : List ℕ) (n : ℕ) → n ≡ length l → rowAt (flatRows l ++ m) (5 * n) ≡ rowAt m 0
-row-behind l m n e = rw (e, ← flat-length l) (λ i. record { number = first i; line = record { a = at (place 1 i) (place 2 i); b = at (place 3 i) (place 4 i) } })
-  where
-    place : (j : ℕ) → getD (flatRows l ++ m) (length (flatRows l) + j) 0 ≡ getD m j 0
-    place j = getD-append-add (flatRows l) m j 0
-
-    first : getD (flatRows l ++ m) (length (flatRows l)) 0 ≡ getD m 0 0
-    first = ap (λ k. getD (flatRows l ++ m) k 0) (omega arith) ∙ place 0
+-- row i of them
+pub row-in : (k : ℕ) (l : List ℕ) (d : Row) (i : ℕ) → i < k → getD (rowsIn k l) i d ≡ rowAt l (5 * i)
+unfolding rowsIn
+row-in zero l d i h = absurd (omega arith)
+row-in (suc k) l d zero h = refl
+row-in (suc k) l d (suc i) h = row-in k (drop 5 l) d i (omega arith) ∙ row-further l i

@@ -9,12 +9,6 @@ use lib.Seq.{sets, sets-eq, take-append-seam, drop-append-add, drop-drop, set-co
 use Rattle.definitions.specs.Lists.{overwrite}
 
 module _ {A : Type 0} where
-  pub sets-behind : (p q vs : List A) (n : ℕ) → n ≡ length p → length vs ≤ length q → sets (p ++ q) n vs ≡ (p ++ vs) ++ drop (length vs) q
-  sets-behind p q vs n e h =
-      rw e
-      (sets-eq vs (p ++ q) (length p) (simp length-append (omega arith))
-      ∙ ap₂ (λ l m. (l ++ vs) ++ m) (take-append-seam p q) (drop-append-add p q (length vs)))
-
   -- a list stored behind what was written
   pub overwrite-more : (x vs old : List A) → length x + length vs ≤ length old → sets (overwrite x old) (length x) vs ≡ overwrite (x ++ vs) old
   overwrite-more x vs old h =
