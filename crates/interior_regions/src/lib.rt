@@ -69,9 +69,12 @@ pub fn mark_edges(owners: &[u32; 256], count: usize, name: u32, on: bool, remove
     ensures { λ _. ⌜ ((j : ℕ) → j < count → getD (now (removed .exit)) j false ≡ (getD (now (removed .entry)) j false || (on && eqb (getD (now (owners .entry)) j 0) name))) ⌝ }
     ensures { λ _. ⌜ length (now (removed .exit)) ≡ maxEntries ⌝ }
 {
+    if !on {
+        return;
+    }
     let mut j = 0;
     while j < count {
-        let mark = removed[j] | (on & (owners[j] == name));
+        let mark = removed[j] | (owners[j] == name);
         removed[j] = mark;
         j += 1;
     }
