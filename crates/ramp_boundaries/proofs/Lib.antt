@@ -9,6 +9,7 @@ mod Literals
 pub mod Measured
 mod OtherEnds
 mod OuterWithin
+pub mod NoRamps
 pub mod RowLists
 mod SafeLists
 pub mod ShapeTests

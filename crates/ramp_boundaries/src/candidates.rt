@@ -10,13 +10,30 @@ ghost use mathlib.Core.Bool.{false, true};
 ghost use mathlib.Core.List.{List, _++_};
 ghost use Prim.Native.Nat.{_+_, _*_, _≤_, _<_};
 ghost use lib.Ieee.{binary64, isNan, toBits};
-ghost use Rattle.definitions.specs.Scan.{bit, countBelow, collect, toList};
+ghost use lib.ListN.{length};
+ghost use Rattle.definitions.specs.Limits.{numbersPerBoundary};
+ghost use Rattle.definitions.specs.Scan.{bit, anyBelow, countBelow, collect, toList};
 ghost use Rattle.definitions.specs.Context.{Context, fullCut, noRamp};
 ghost use Rattle.definitions.specs.RampMouths.{MouthProposal};
 ghost use Rattle.context.specs.Shown.{ShownTallies};
 ghost use Rattle.ramp_boundaries.specs.Lent.{Shows, Shown};
 ghost use Rattle.ramp_boundaries.specs.Candidates.{mouthCandidate, candidates};
 ghost use Rattle.ramp_boundaries.specs.Listed.{maxCandidates, Filled, Roomy, Put, plainAt, rampAt};
+
+// Whether a boundary has a ramp: without one there is no candidate.
+pub fn any_ramp(boundaries: &[u64], count: usize) -> bool
+    requires { ⌜ numbersPerBoundary * count ≤ length (now boundaries) ⌝ }
+    ensures { λ r. ⌜ r ≡ anyBelow count (rampAt (now (boundaries .entry))) ⌝ }
+{
+    let mut i = 0;
+    while i < count {
+        if boundaries[NUMBERS_PER_BOUNDARY * i + 5] != 0 {
+            return true;
+        }
+        i += 1;
+    }
+    false
+}
 
 // Writes entry n.
 fn put_candidate(

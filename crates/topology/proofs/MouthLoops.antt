@@ -9,8 +9,8 @@ use mathlib.Core.List.{List}
 use lib.ListN.{length, getD, set, length-set}
 use lib.Seq.{getD-set-same, getD-set-other}
 use lib.Dec.{eqb}
-use borrow.Author.Tests.{ne-eqb}
-use Rattle.definitions.specs.Scan.{allBelow}
+use borrow.Author.Tests.{ne-eqb, not-true}
+use Rattle.definitions.specs.Scan.{any, anyBelow, allBelow, member}
 use Rattle.definitions.specs.Context.{Context}
 use Rattle.definitions.specs.RampMouths.{cornersNear}
 use Rattle.laws.specs.ListLaws.ScanSteps.{all-more, all-fails}
@@ -24,12 +24,13 @@ use Rattle.context.specs.ShownLaws.{shown-rows}
 use Rattle.ramp_boundaries.specs.Candidates.{broad, proposalOf, candidates}
 use Rattle.mouth_regions.specs.Inner.{placesOf, regionAt, innerAt}
 use Rattle.mouth_regions.specs.Near.{regionNear}
-use Rattle.ramp_boundaries.specs.Listed.{entryAt, Filled}
+use Rattle.ramp_boundaries.specs.Listed.{rampAt, entryAt, Filled}
+use Rattle.ramp_boundaries.proofs.NoRamps.{nothing-removed}
 use Rattle.mouth_selection.specs.Selecting.{Selects}
 use Rattle.mouth_regions.proofs.InnerWalk.{corners-near}
 use Rattle.mouth_selection.proofs.ProposalLists.{fresh-marks, selects}
 use Rattle.topology.specs.Held.{place-in, record-is}
-use Rattle.topology.specs.Mouths.{Locates, NearAsked, NearMarked, Replaces}
+use Rattle.topology.specs.Mouths.{Locates, NearAsked, NearMarked, Replaces, NoMarks, Replaced}
 
 negated : {x t : Bool} → not x ≡ t → x ≡ not t
 negated {x} {t} e = sym (Bool·not-not x) ∙ ap not e
@@ -111,6 +112,14 @@ marked-more {C} {mouths} {ramps} {outers} {kinds} {k} {near = near} r l h p q e 
     there j b = getD-set-other near k j r false (λ s. omega (arith, s)) ∙ h .at j b
 
 -- ---- the parts of the pass
+
+-- without a ramp nothing is removed, and nothing is marked before
+pub pass-none : {C : Context} {records : List Region} {boundaries tallies pairs starts : List ℕ} {count : ℕ} {marks counts : List ℕ} → Replaces C records boundaries tallies pairs starts count marks counts
+    → {marked : List Bool} → NoMarks marked → {ramp : Bool} → ramp ≡ anyBelow count (rampAt boundaries) → not ramp ≡ true → Replaced C count marked
+unfolding member any
+pass-none {C} {boundaries} {count} R N {ramp} e n =
+    let none : anyBelow (C .count) (rampAt boundaries) ≡ false = ap (λ k. anyBelow k (rampAt boundaries)) (R .shows .counted) ∙ sym e ∙ not-true ramp n in
+    record { at = λ j l. N .clear j ∙ sym (ap (member j) (nothing-removed C (R .shows .bounds) none)) }
 
 module _ {C : Context} {records : List Region} {boundaries tallies pairs starts : List ℕ} {count : ℕ} {marks counts : List ℕ} (R : Replaces C records boundaries tallies pairs starts count marks counts)
     {mouths ramps outers kinds separations : List ℕ} {n : ℕ} (F : Filled C mouths ramps outers kinds separations n (candidates C)) where

@@ -7,6 +7,7 @@ use mouth_regions::inner::places;
 use mouth_regions::near::region_near;
 use mouth_selection::selection::index;
 use mouth_selection::selection::select_mouths;
+use ramp_boundaries::candidates::any_ramp;
 use ramp_boundaries::candidates::push_candidates;
 use ramp_boundaries::mouths::BROAD;
 ghost use mathlib.Core.Path.{_≡_};
@@ -95,6 +96,10 @@ pub fn replace_ramp_mouths(
     requires { ⌜ NoMarks (now removed) ⌝ }
     ensures { λ _. ⌜ ((C : Context) → Replaces C (now (records .entry)) (now (boundaries .entry)) (now (tallies .entry)) (now (pairs .entry)) (now (starts .entry)) count (now (marks .entry)) (now (counts .entry)) → Replaced C count (now (removed .exit))) ⌝ }
 {
+    // Tested first: the lists below are a quarter of a megabyte.
+    if !any_ramp(boundaries, count) {
+        return;
+    }
     let mut mouths = [0u8; 16384];
     let mut ramps = [0u8; 16384];
     let mut outers = [0u32; 16384];
