@@ -2,7 +2,6 @@
 -- lead anew, as long as it is below three, and which they are. Assumes nothing.
 use Prim.Native.Nat.{ℕ, _+_, _≤_, _<_}
 use native.Mathlib.Omega.{arith}
-use native.Mathlib.Nat.{le-antisymm}
 use mathlib.Core.Path.{_≡_, refl, sym, ap, ap₂, _∙_, subst}
 use mathlib.Core.Bool.{Bool, true, false, not, _&&_, _||_, true≢false, false≢true, or-false, or-true, and-false}
 use mathlib.Core.List.{List}
@@ -11,9 +10,10 @@ use borrow.Author.Tests.{eq-eqb, ne-eqb, eqb-true, le-leb, ltb-true, ltb-false}
 use Rattle.definitions.specs.Scan.{anyBelow, countBelow}
 use Rattle.definitions.specs.Grid.{Pair}
 use Rattle.laws.specs.ListLaws.ScanSteps.{any-next, count-in, count-out}
-use Rattle.junctions.specs.Ports.{isPort}
+use Rattle.junctions.specs.Ports.{namesEither, isPort}
 use Rattle.junctions.specs.Unions.{isFound, Found, exteriorAt, leadsTo, leadsAnew}
 use Rattle.junctions.specs.declared.unions.Exteriors.{Exteriors}
+use Rattle.junctions.proofs.Incidents.{no-port}
 
 -- ---- one exterior more
 
@@ -105,6 +105,10 @@ module _ (smaller larger : List ℕ) (i : ℕ) (p : Pair) where
         full = λ l. omega (arith, v .full l, count-out (leadsAnew smaller larger i p) j (ap (λ b. b && not (anyBelow j (leadsTo smaller larger i p (exterior j)))) h));
       }
 
+  -- one that names neither region of the union
+  pub survey-skip : {s : Exteriors} (j : ℕ) → namesEither smaller larger p j ≡ false → Surveyed j s → Surveyed (j + 1) s
+  survey-skip j h v = survey-other v (no-port smaller larger p i j h) refl
+
   -- a port
   module _ {j : ℕ} {s t : Exteriors} (v : Surveyed j s) (h : isPort smaller larger i p j ≡ true) (f : Found s (exterior j) t) where
     grows : countBelow j (leadsAnew smaller larger i p) ≤ countBelow (j + 1) (leadsAnew smaller larger i p)
@@ -168,9 +172,9 @@ module _ (smaller larger : List ℕ) (i : ℕ) (p : Pair) where
   pub survey-with : {j e : ℕ} {s t u : Exteriors} → Surveyed j s → isPort smaller larger i p j ≡ true → e ≡ exterior j → Found s e u → t ≡ u → Surveyed (j + 1) t
   survey-with {j} {s} {u} v h q f d = rw d (survey-port v h (subst (λ (x : ℕ). Found s x u) q f))
 
-  pub survey-end : {n j : ℕ} {s : Exteriors} → Surveyed j s → j ≤ n → n ≤ j → leb 3 (s .found) ≡ leb 3 (countBelow n (leadsAnew smaller larger i p))
-  survey-end {n} {j} {s} v a b = rw (le-antisymm b a) (go (ltb (s .found) 3) refl)
+  pub survey-end : {n : ℕ} {s : Exteriors} → Surveyed n s → leb 3 (s .found) ≡ leb 3 (countBelow n (leadsAnew smaller larger i p))
+  survey-end {n} {s} v = go (ltb (s .found) 3) refl
     where
-      go : (b : Bool) → ltb (s .found) 3 ≡ b → leb 3 (s .found) ≡ leb 3 (countBelow j (leadsAnew smaller larger i p))
+      go : (b : Bool) → ltb (s .found) 3 ≡ b → leb 3 (s .found) ≡ leb 3 (countBelow n (leadsAnew smaller larger i p))
       go true e = ap (leb 3) (sym (v .many (ltb-true (s .found) 3 e)))
-      go false e = le-leb 3 (s .found) (ltb-false (s .found) 3 e) ∙ sym (le-leb 3 (countBelow j (leadsAnew smaller larger i p)) (v .full (ltb-false (s .found) 3 e)))
+      go false e = le-leb 3 (s .found) (ltb-false (s .found) 3 e) ∙ sym (le-leb 3 (countBelow n (leadsAnew smaller larger i p)) (v .full (ltb-false (s .found) 3 e)))

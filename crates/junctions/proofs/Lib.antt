@@ -1,4 +1,5 @@
 pub mod Pairs
+pub mod Incidents
 pub mod Walk
 pub mod PortLaws
 pub mod Exteriors

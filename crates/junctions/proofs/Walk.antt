@@ -2,9 +2,8 @@
 -- region fits exactly where as many were met as it has incidents. Assumes nothing.
 use Prim.Native.Nat.{ℕ, _+_, _-_, _<_, _≤_}
 use native.Mathlib.Omega.{arith}
-use native.Mathlib.Nat.{le-antisymm}
 use mathlib.Core.Path.{_≡_, refl, sym, ap, ap₂, _∙_}
-use mathlib.Core.Bool.{Bool, true, false, not, _&&_, cond}
+use mathlib.Core.Bool.{Bool, true, false, not, _&&_, _||_, cond, true≢false}
 use mathlib.Core.List.{List}
 use lib.ListN.{getD}
 use lib.Dec.{eqb}
@@ -15,7 +14,7 @@ use Rattle.definitions.specs.Context.{holds}
 use Rattle.definitions.specs.Junctions.{fitsUnion}
 use Rattle.laws.specs.ListLaws.Below.{below-at}
 use Rattle.laws.specs.ListLaws.ScanSteps.{any-none, count-in, count-out, count-le}
-use Rattle.junctions.specs.Ports.{pairOf, sideOf, names, isFit, isUnfit, regionFits}
+use Rattle.junctions.specs.Ports.{pairOf, sideOf, names, namesEither, isFit, isUnfit, regionFits}
 
 module _ (smaller larger : List ℕ) (i : ℕ) (p : Pair) (r : ℕ) where
   -- `met` full pairs below j name r, and none of them is unfit
@@ -47,6 +46,11 @@ module _ (smaller larger : List ℕ) (i : ℕ) (p : Pair) (r : ℕ) where
         fit = any-none (isUnfit smaller larger i p r) j (m .fit) (ap₂ (λ a b. a && (not (eqb j i) && not b)) (sym e ∙ h) (sym d) ∙ g);
       }
 
+  -- one that no turn of the walk looks at
+  pub met-skip : {met : ℕ} (j : ℕ) → names smaller larger r j ≡ false → Met j met → Met (j + 1) met
+  unfolding names
+  met-skip j h m = met-other m refl h refl
+
   module _ (counts : List ℕ) (count : ℕ) where
     pub region-stops : {j : ℕ} {t f : Bool} → j < count → t ≡ holds (pairOf smaller larger j) (contains r) → t ≡ true → f ≡ holds (pairOf smaller larger j) (fitsUnion p) → (not (eqb j i) && not f) ≡ true → regionFits smaller larger counts count i p r ≡ false
     unfolding names isUnfit isFit regionFits
@@ -59,11 +63,11 @@ module _ (smaller larger : List ℕ) (i : ℕ) (p : Pair) (r : ℕ) where
     unfolding regionFits
     region-counted m = ap₂ (λ b n. not b && eqb n (getD counts (r - 1) 0)) (m .fit) (sym (m .many))
 
-    pub region-passes : {j met : ℕ} → Met j met → j ≤ count → count ≤ j → met ≡ getD counts (r - 1) 0 → regionFits smaller larger counts count i p r ≡ true
-    region-passes {met} m a b h = region-counted (rw (le-antisymm a b) at m) ∙ eq-eqb met (getD counts (r - 1) 0) h
+    pub region-passes : {met : ℕ} → Met count met → met ≡ getD counts (r - 1) 0 → regionFits smaller larger counts count i p r ≡ true
+    region-passes {met} m h = region-counted m ∙ eq-eqb met (getD counts (r - 1) 0) h
 
-    pub region-short : {j met : ℕ} → Met j met → j ≤ count → count ≤ j → (met ≡ getD counts (r - 1) 0 → ⊥) → regionFits smaller larger counts count i p r ≡ false
-    region-short {met} m a b h = region-counted (rw (le-antisymm a b) at m) ∙ ne-eqb met (getD counts (r - 1) 0) h
+    pub region-short : {met : ℕ} → Met count met → (met ≡ getD counts (r - 1) 0 → ⊥) → regionFits smaller larger counts count i p r ≡ false
+    region-short {met} m h = region-counted m ∙ ne-eqb met (getD counts (r - 1) 0) h
 
 -- what holds of both regions of a union holds of either
 pub side-within : (P : ℕ → Type 0) (p : Pair) (side : ℕ) {r : ℕ} → r ≡ sideOf p side → P (p .lo) → P (p .hi) → P r
@@ -72,3 +76,13 @@ side-within P p side e a b = rw e (go (eqb side 0))
     go : (t : Bool) → P (cond t (p .lo) (p .hi))
     go true = a
     go false = b
+
+-- what names neither region does not name the one of a side
+pub side-unnamed : (smaller larger : List ℕ) (p : Pair) (side : ℕ) {r : ℕ} → r ≡ sideOf p side → (j : ℕ) → namesEither smaller larger p j ≡ false → names smaller larger r j ≡ false
+side-unnamed smaller larger p side e j h =
+    let n = neither (names smaller larger (p .lo) j) (names smaller larger (p .hi) j) h in
+    side-within (λ r. names smaller larger r j ≡ false) p side e (n .0) (n .1)
+  where
+    neither : (a b : Bool) → (a || b) ≡ false → (a ≡ false) × (b ≡ false)
+    neither true b e = absurd (true≢false e)
+    neither false b e = (refl, e)

@@ -1,11 +1,12 @@
 -- The ports of regions, read off the lists of full pairs. Definitions only; assumes nothing.
-use Prim.Native.Nat.{ℕ, _-_}
+use Prim.Native.Nat.{ℕ, _-_, _≤_}
+use mathlib.Core.Path.{_≡_}
 use mathlib.Core.Bool.{Bool, not, _&&_, _||_, cond}
 use mathlib.Core.Option.{Option}
 use mathlib.Core.List.{List}
-use lib.ListN.{getD}
+use lib.ListN.{length, take, getD}
 use lib.Dec.{eqb}
-use Rattle.definitions.specs.Scan.{allBelow, anyBelow, countBelow}
+use Rattle.definitions.specs.Scan.{allBelow, anyBelow, countBelow, collect, onlyIf}
 use Rattle.definitions.specs.Grid.{Pair, contains}
 use Rattle.definitions.specs.Context.{holds}
 use Rattle.definitions.specs.Junctions.{fitsUnion}
@@ -41,6 +42,16 @@ module _ (smaller larger : List ℕ) where
   unfolding allBelow regionFits
   walkFits counts count i p = allBelow 2 (λ side. regionFits counts count i p (sideOf p side))
 
+  -- a full pair that names a region of p
+  abbrev pub namesEither : Pair → ℕ → Bool
+  namesEither p j = names (p .lo) j || names (p .hi) j
+
   unfoldable pub isPort : ℕ → Pair → ℕ → Bool
   unfolding names
-  isPort i p j = not (eqb j i) && (names (p .lo) j || names (p .hi) j)
+  isPort i p j = not (eqb j i) && namesEither p j
+
+  -- the first n numbers of the list are the boundaries below `count` whose full pair names a region of p, in ascending order
+  pub record Listed (count : ℕ) (p : Pair) (incidents : List ℕ) (n : ℕ) : Type 0 where
+    pub few : n ≤ count
+    pub long : n ≤ length incidents
+    pub each : take n incidents ≡ collect count (λ j. onlyIf (namesEither p j) j)

@@ -6,10 +6,17 @@ ghost use Rattle.definitions.specs.Grid.{contains};
 ghost use Rattle.definitions.specs.Context.{holds};
 ghost use Rattle.definitions.specs.Junctions.{fitsUnion};
 ghost use Rattle.context.specs.Shown.{optionalPair};
-ghost use Rattle.junctions.specs.Ports.{sideOf, walkFits};
+ghost use Rattle.junctions.specs.Ports.{Listed, sideOf, walkFits};
 
 // A number of a slice as an index: in a function of its own it asks for no proof that the element fits.
 pub fn wide(x: u32) -> usize
+    ensures { λ r. ⌜ r ≡ x ⌝ }
+{
+    x as usize
+}
+
+// The same of a byte.
+pub fn wide8(x: u8) -> usize
     ensures { λ r. ⌜ r ≡ x ⌝ }
 {
     x as usize
@@ -31,6 +38,30 @@ pub fn fits_union(lo: u32, hi: u32, a: u32, b: u32) -> bool
     (a != 0) & ((!first & second) | (first & !second))
 }
 
+// The boundaries whose full pair names lo or hi, in ascending order; gives how many there are.
+pub fn find_incidents(
+    smaller: &[u32; 256],
+    larger: &[u32; 256],
+    count: usize,
+    lo: u32,
+    hi: u32,
+    incidents: &mut [u8; 256],
+) -> usize
+    requires { ⌜ (count ≤ 256) × (length (now incidents) ≡ 256) ⌝ }
+    ensures { λ r. ⌜ Listed (now (smaller .entry)) (now (larger .entry)) count (record { lo = lo; hi = hi }) (now (incidents .exit)) r ⌝ }
+{
+    let mut n = 0;
+    for j in 0..count {
+        let a = smaller[j];
+        let b = larger[j];
+        if names_region(a, b, lo) | names_region(a, b, hi) {
+            incidents[n] = j as u8;
+            n += 1;
+        }
+    }
+    n
+}
+
 // The first region of the union, then the second.
 fn region_of(lo: u32, hi: u32, side: usize) -> u32
     ensures { λ r. ⌜ r ≡ sideOf (record { lo = lo; hi = hi }) side ⌝ }
@@ -38,18 +69,21 @@ fn region_of(lo: u32, hi: u32, side: usize) -> u32
     if side == 0 { lo } else { hi }
 }
 
-// Whether every incident of the two regions of boundary `index`, other than it, is a full pair with one side in their union. An incident that is no full
-// pair is not met here: it shows in the region's count.
+// Whether every incident of the two regions of boundary `index`, other than it, is a full pair with one side in their union. Walks over the n boundaries
+// below `count` whose full pair names one of the two; an incident that is no full pair is not met here: it shows in the region's count.
 pub fn ports_fit(
     smaller: &[u32; 256],
     larger: &[u32; 256],
     counts: &[u32],
     count: usize,
     index: usize,
+    incidents: &[u8; 256],
+    n: usize,
 ) -> bool
     requires { ⌜ (count ≤ 256) × (index < count) ⌝ }
     requires { ⌜ (1 ≤ getD (now smaller) index 0) × (getD (now smaller) index 0 ≤ length (now counts)) ⌝ }
     requires { ⌜ (1 ≤ getD (now larger) index 0) × (getD (now larger) index 0 ≤ length (now counts)) ⌝ }
+    requires { ⌜ Listed (now smaller) (now larger) count (record { lo = getD (now smaller) index 0; hi = getD (now larger) index 0 }) (now incidents) n ⌝ }
     ensures { λ r. ⌜ r ≡ walkFits (now (smaller .entry)) (now (larger .entry)) (now (counts .entry)) count index (record { lo = getD (now (smaller .entry)) index 0; hi = getD (now (larger .entry)) index 0 }) ⌝ }
 {
     let lo = smaller[index];
@@ -58,7 +92,8 @@ pub fn ports_fit(
     'regions: for side in 0..2 {
         let region = region_of(lo, hi, side);
         let mut met = 0;
-        for j in 0..count {
+        for k in 0..n {
+            let j = wide8(incidents[k]);
             let a = smaller[j];
             let b = larger[j];
             if names_region(a, b, region) {

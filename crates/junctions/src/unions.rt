@@ -1,9 +1,11 @@
 // Unions of two regions, before their records are looked at.
 use crate::distances::NUMBERS_PER_BOUNDARY;
 use crate::distances::port_passes;
+use crate::ports::find_incidents;
 use crate::ports::names_region;
 use crate::ports::ports_fit;
 use crate::ports::wide;
+use crate::ports::wide8;
 ghost use mathlib.Core.Path.{_≡_};
 ghost use mathlib.Core.Bool.{not, _&&_, _||_};
 ghost use Prim.Native.Nat.{_*_, _+_, _-_, _≤_, _<_};
@@ -15,6 +17,7 @@ ghost use Rattle.definitions.specs.Context.{holds};
 ghost use Rattle.definitions.specs.Junctions.{exteriorOf};
 ghost use Rattle.context.specs.Shown.{optionalPair};
 ghost use Rattle.junctions.specs.Lent.{Lent, LentBoundaries};
+ghost use Rattle.junctions.specs.Ports.{Listed};
 ghost use Rattle.junctions.specs.Unions.{Found, leadsAnew, portsPass, markAt, isUnionAt};
 
 // The first two of the exteriors found, and how many there are, up to three.
@@ -71,14 +74,17 @@ pub fn exterior_of(lo: u32, hi: u32, a: u32, b: u32) -> u32
     if (lo == a) | (hi == a) { b } else { a }
 }
 
-// Whether the ports lead to three regions or more.
+// Whether the ports lead to three regions or more. All ports are among the n boundaries listed.
 pub fn has_three_exteriors(
     smaller: &[u32; 256],
     larger: &[u32; 256],
     count: usize,
     index: usize,
+    incidents: &[u8; 256],
+    n: usize,
 ) -> bool
     requires { ⌜ (count ≤ 256) × (index < count) ⌝ }
+    requires { ⌜ Listed (now smaller) (now larger) count (record { lo = getD (now smaller) index 0; hi = getD (now larger) index 0 }) (now incidents) n ⌝ }
     ensures { λ r. ⌜ r ≡ leb 3 (countBelow count (leadsAnew (now (smaller .entry)) (now (larger .entry)) index (record { lo = getD (now (smaller .entry)) index 0; hi = getD (now (larger .entry)) index 0 }))) ⌝ }
 {
     let lo = smaller[index];
@@ -88,7 +94,8 @@ pub fn has_three_exteriors(
         first: 0,
         second: 0,
     };
-    for j in 0..count {
+    for k in 0..n {
+        let j = wide8(incidents[k]);
         let a = smaller[j];
         let b = larger[j];
         if is_port(j, index, lo, hi, a, b) {
@@ -98,7 +105,7 @@ pub fn has_three_exteriors(
     3 <= exteriors.found
 }
 
-// Whether every port passes.
+// Whether every port passes. All ports are among the n boundaries listed.
 pub fn ports_pass(
     boundaries: &[u64],
     smaller: &[u32; 256],
@@ -106,14 +113,18 @@ pub fn ports_pass(
     count: usize,
     index: usize,
     one: bool,
+    incidents: &[u8; 256],
+    n: usize,
 ) -> bool
     requires { ⌜ LentBoundaries (now boundaries) count ⌝ }
     requires { ⌜ index < count ⌝ }
+    requires { ⌜ Listed (now smaller) (now larger) count (record { lo = getD (now smaller) index 0; hi = getD (now larger) index 0 }) (now incidents) n ⌝ }
     ensures { λ r. ⌜ r ≡ portsPass (now (boundaries .entry)) (now (smaller .entry)) (now (larger .entry)) count index (record { lo = getD (now (smaller .entry)) index 0; hi = getD (now (larger .entry)) index 0 }) one ⌝ }
 {
     let lo = smaller[index];
     let hi = larger[index];
-    for j in 0..count {
+    for k in 0..n {
+        let j = wide8(incidents[k]);
         if is_port(j, index, lo, hi, smaller[j], larger[j]) {
             if !port_passes(boundaries, one, index, j) {
                 return false;
@@ -173,15 +184,26 @@ pub fn is_union(
     if 2 <= anchored {
         return false;
     }
-    // Tested first: the walks below it go over all boundaries.
+    // Tested first: the walk below it goes over all boundaries.
     if has_few_incidents(counts, lo, hi) {
         return false;
     }
-    if !ports_fit(smaller, larger, counts, count, index) {
+    let mut incidents = [0u8; 256];
+    let n = find_incidents(smaller, larger, count, lo, hi, &mut incidents);
+    if !ports_fit(smaller, larger, counts, count, index, &incidents, n) {
         return false;
     }
-    if !has_three_exteriors(smaller, larger, count, index) {
+    if !has_three_exteriors(smaller, larger, count, index, &incidents, n) {
         return false;
     }
-    ports_pass(boundaries, smaller, larger, count, index, anchored == 1)
+    ports_pass(
+        boundaries,
+        smaller,
+        larger,
+        count,
+        index,
+        anchored == 1,
+        &incidents,
+        n,
+    )
 }

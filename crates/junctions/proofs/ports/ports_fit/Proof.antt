@@ -1,6 +1,6 @@
--- `junctions::ports::ports_fit` meets its contract. The outer loop's invariant: the regions of the sides below `side` fit. The inner loop's: `met` full pairs below j name
--- the region, and none of them is unfit. The measures are how many sides and how many boundaries are left. Assumes nothing.
-use Prim.Native.Nat.{ℕ, _-_, _≤_, _<_}
+-- `junctions::ports::ports_fit` meets its contract. The outer loop's invariant: the regions of the sides below `side` fit. The inner loop's: `met` full pairs below
+-- entry k name the region, and none of them is unfit. The measures are how many sides and how many entries are left. Assumes nothing.
+use Prim.Native.Nat.{ℕ, _+_, _-_, _≤_, _<_}
 use native.Mathlib.Omega.{arith}
 use native.Mathlib.Nat.{le-antisymm}
 use mathlib.Core.Path.{_≡_, refl, sym, ap, _∙_}
@@ -11,8 +11,9 @@ use lib.ListN.{length, getD}
 use Rattle.definitions.specs.Scan.{allBelow}
 use Rattle.definitions.specs.Grid.{Pair}
 use Rattle.laws.specs.ListLaws.ScanSteps.{all-more, all-fails}
-use Rattle.junctions.specs.Ports.{sideOf, regionFits, walkFits}
-use Rattle.junctions.proofs.Walk.{side-within, Met, met-start, met-few, met-other, met-named, region-stops, region-passes, region-short}
+use Rattle.junctions.specs.Ports.{sideOf, namesEither, regionFits, walkFits}
+use Rattle.junctions.proofs.Incidents.{Passed, passed-start, passed-next, passed-all, Entry, entry-at}
+use Rattle.junctions.proofs.Walk.{side-within, side-unnamed, Met, met-start, met-few, met-other, met-skip, met-named, region-stops, region-passes, region-short}
 use borrow.Author.Needs.{needs}
 use Rattle.junctions.proofs.ports.ports_fit.Statement.{statement}
 use Rattle.junctions.proofs.ports.ports_fit.Tie as tie
@@ -21,19 +22,19 @@ abbrev pair : ℕ → ℕ → Pair
 pair lo hi = record { lo = lo; hi = hi }
 
 abbrev Inv-loop : tie.InvT-loop
-Inv-loop smaller larger counts count index lo hi fit₀ side region met₀ j₀ fit met j =
-    (j ≤ count) × ((fit ≡ true) × Met smaller larger index (pair lo hi) region j met)
+Inv-loop smaller larger counts count index incidents n lo hi fit₀ side region met₀ k₀ fit met k =
+    (k ≤ n) × ((fit ≡ true) × Passed (namesEither smaller larger (pair lo hi)) (λ j. Met smaller larger index (pair lo hi) region j met) k)
 
 abbrev μ-loop : tie.MeasureT-loop
-μ-loop smaller larger counts count index lo hi fit₀ side region met₀ j₀ fit met j =
-    count - j
+μ-loop smaller larger counts count index incidents n lo hi fit₀ side region met₀ k₀ fit met k =
+    n - k
 
 abbrev Inv-regions : tie.InvT-regions
-Inv-regions smaller larger counts count index lo hi fit₀ side₀ fit side =
+Inv-regions smaller larger counts count index incidents n lo hi fit₀ side₀ fit side =
     (side ≤ 2) × ((fit ≡ true) × (allBelow side (λ s. regionFits smaller larger counts count index (pair lo hi) (sideOf (pair lo hi) s)) ≡ true))
 
 abbrev μ-regions : tie.MeasureT-regions
-μ-regions smaller larger counts count index lo hi fit₀ side₀ fit side =
+μ-regions smaller larger counts count index incidents n lo hi fit₀ side₀ fit side =
     2 - side
 
 -- from the function's entry: the union, and what is said of the region that a side stands for
@@ -77,11 +78,32 @@ module _ (c : tie.After-region-of Inv-loop μ-loop Inv-regions μ-regions) where
 
   -- this region has a count
   counted : (1 ≤ region) × (region ≤ length (counts start))
-  counted = side-within (λ r. (1 ≤ r) × (r ≤ length (counts start))) (union start) side (c .region-of .ensures) (start .pre .1 .0) (start .pre .1 .1)
+  counted = side-within (λ r. (1 ≤ r) × (r ≤ length (counts start))) (union start) side (c .region-of .ensures) (start .pre .1 .0) (start .pre .1 .1 .0)
 
   -- what is found of this region is found of its side
   sided : {b : Bool} → fitting start region ≡ b → fits start side ≡ b
   sided e = sym (ap (fitting start) (c .region-of .ensures)) ∙ e
+
+  -- a boundary that names neither region of the union
+  skipped : {met : ℕ} (j : ℕ) → namesEither (smaller start) (larger start) (union start) j ≡ false → Met (smaller start) (larger start) (start .args .index) (union start) region j met → Met (smaller start) (larger start) (start .args .index) (union start) region (j + 1) met
+  skipped j h = met-skip _ _ _ _ _ j (side-unnamed (smaller start) (larger start) (union start) side (c .region-of .ensures) j h)
+
+-- at a turn over one entry
+module _ (w : tie.After-wide8 Inv-loop μ-loop Inv-regions μ-regions) where
+  abbrev turn : tie.At-loop Inv-loop μ-loop Inv-regions μ-regions
+  turn = w .before .before .before
+
+  abbrev from : tie.Start Inv-loop μ-loop Inv-regions μ-regions
+  from = start (turn .before)
+
+  entry : Entry (smaller from) (larger from) (union from) (from .args .count) (turn .loop .k) (w .wide8 .result)
+  entry = entry-at _ _ _ (from .pre .1 .1 .1) (w .before .before .loop-test .taken) (w .wide8 .ensures)
+
+-- at the end of the list
+all-met : (l : tie.At-loop Inv-loop μ-loop Inv-regions μ-regions) →
+    let s = start (l .before) in
+    s .args .n ≤ l .loop .k → Met (smaller s) (larger s) (s .args .index) (union s) (region (l .before)) (s .args .count) (l .loop .met)
+all-met l = passed-all _ _ _ (start (l .before) .pre .1 .1 .1) (l .loop .inv .1 .1) (l .loop .inv .0)
 
 -- what the region's count was compared with
 compared : (c : tie.After-wide2 Inv-loop μ-loop Inv-regions μ-regions) → c .wide2 .result ≡ getD (counts (start (c .before .before .before .before .before))) (region (c .before .before .before .before .before) - 1) 0
@@ -107,19 +129,25 @@ region-of-requires : tie.Need-region-of-requires Inv-loop μ-loop Inv-regions μ
 region-of-requires c κs = search needs
 
 loop-holds : tie.Need-loop-holds Inv-loop μ-loop Inv-regions μ-regions
-loop-holds c = (search needs, (c .before .before .regions .inv .1 .0, met-start _ _ _ _ _))
+loop-holds c = (search needs, (c .before .before .regions .inv .1 .0, passed-start (skipped c) (met-start _ _ _ _ _)))
+
+element-copy-out-wide8 : tie.Need-element-copy-out-wide8 Inv-loop μ-loop Inv-regions μ-regions
+element-copy-out-wide8 c = search needs
+
+wide8-requires : tie.Need-wide8-requires Inv-loop μ-loop Inv-regions μ-regions
+wide8-requires c κs = search needs
 
 mul-a : tie.Need-mul-a Inv-loop μ-loop Inv-regions μ-regions
-mul-a c = search needs
+mul-a c = omega (arith, entry c .below)
 
 element-copy-out-a : tie.Need-element-copy-out-a Inv-loop μ-loop Inv-regions μ-regions
-element-copy-out-a c = search needs
+element-copy-out-a c = omega (arith, entry c .below)
 
 mul-b : tie.Need-mul-b Inv-loop μ-loop Inv-regions μ-regions
-mul-b c = search needs
+mul-b c = omega (arith, entry (c .before) .below)
 
 element-copy-out-b : tie.Need-element-copy-out-b Inv-loop μ-loop Inv-regions μ-regions
-element-copy-out-b c = search needs
+element-copy-out-b c = omega (arith, entry (c .before) .below)
 
 names-region-requires : tie.Need-names-region-requires Inv-loop μ-loop Inv-regions μ-regions
 names-region-requires c κs = search needs
@@ -128,10 +156,12 @@ fits-union-requires : tie.Need-fits-union-requires Inv-loop μ-loop Inv-regions 
 fits-union-requires c κs = search needs
 
 add-met : tie.Need-add-met Inv-loop μ-loop Inv-regions μ-regions
-add-met c = omega (arith, met-few _ _ _ _ _ (c .before .before .before .before .before .before .before .loop .inv .1 .1))
+add-met c =
+    let w = c .before .before .before .before .before .before in
+    omega (arith, entry w .below, met-few _ _ _ _ _ (turn w .loop .inv .1 .1 .upTo _ (entry w .rank-is)))
 
-add-j : tie.Need-add-j Inv-loop μ-loop Inv-regions μ-regions
-add-j c = search needs
+add-k : tie.Need-add-k Inv-loop μ-loop Inv-regions μ-regions
+add-k c = search needs
 
 loop-less : tie.Need-loop-less Inv-loop μ-loop Inv-regions μ-regions
 loop-less c = search needs
@@ -139,14 +169,16 @@ loop-less c = search needs
 loop-again : tie.Need-loop-again Inv-loop μ-loop Inv-regions μ-regions
 loop-again c =
     let n = c .before in
-    let l = n .before .before .before .before in (
+    let w = n .before .before .before in
+    let m = turn w .loop .inv .1 .1 .upTo _ (entry w .rank-is) in (
       search needs,
       (
-        l .loop .inv .1 .0,
-        ⊎-elim
-            (λ w. met-named _ _ _ _ _ (l .loop .inv .1 .1) (n .names-region .ensures) (w .0 .taken) (w .1 .ensures) (w .2 .left) (w .3))
-            (λ w. met-other _ _ _ _ _ (l .loop .inv .1 .1) (n .names-region .ensures) (w .0 .left) (w .1))
-            (c .if1 .came),
+        turn w .loop .inv .1 .0,
+        passed-next (skipped (turn w .before)) (entry w .isNamed) (entry w .rank-is)
+            (⊎-elim
+            (λ t. met-named _ _ _ _ _ m (n .names-region .ensures) (t .0 .taken) (t .1 .ensures) (t .2 .left) (t .3))
+            (λ t. met-other _ _ _ _ _ m (n .names-region .ensures) (t .0 .left) (t .1))
+            (c .if1 .came)),
       ),
     )
 
@@ -179,7 +211,7 @@ regions-again c =
       (
         l .loop .inv .1 .0,
         all-more (fits (start r)) (side r) (r .before .before .regions .inv .1 .1)
-            (sided r (region-passes _ _ _ _ _ _ _ (l .loop .inv .1 .1) (l .loop .inv .0) (c .before .before .before .before .loop-test .left) (c .if3 .left ∙ compared (c .before)))),
+            (sided r (region-passes _ _ _ _ _ _ _ (all-met l (c .before .before .before .before .loop-test .left)) (c .if3 .left ∙ compared (c .before)))),
       ),
     )
 
@@ -191,10 +223,11 @@ returns c =
 returns-2 : tie.Need-returns-2 Inv-loop μ-loop Inv-regions μ-regions
 returns-2 c =
     let n = c .before .before .before in
-    let r = n .before .before .before .before .before in
+    let w = n .before .before .before in
+    let r = turn w .before in
     let s = start r in
     stopped s (r .before .regions-test .taken)
-    (sided r (region-stops (smaller s) (larger s) (s .args .index) (union s) (region r) (counts s) (s .args .count) (n .before .before .before .loop-test .taken) (n .names-region .ensures) (c .before .before .if1 .taken) (c .before .fits-union .ensures) (c .if2 .taken)))
+    (sided r (region-stops (smaller s) (larger s) (s .args .index) (union s) (region r) (counts s) (s .args .count) (entry w .below) (n .names-region .ensures) (c .before .before .if1 .taken) (c .before .fits-union .ensures) (c .if2 .taken)))
 
 returns-3 : tie.Need-returns-3 Inv-loop μ-loop Inv-regions μ-regions
 returns-3 c =
@@ -202,7 +235,7 @@ returns-3 c =
     let r = l .before in
     let s = start r in
     stopped s (r .before .regions-test .taken)
-    (sided r (region-short (smaller s) (larger s) (s .args .index) (union s) (region r) (counts s) (s .args .count) (l .loop .inv .1 .1) (l .loop .inv .0) (c .before .before .before .before .loop-test .left) (λ e. c .if3 .taken (e ∙ sym (compared (c .before))))))
+    (sided r (region-short (smaller s) (larger s) (s .args .index) (union s) (region r) (counts s) (s .args .count) (all-met l (c .before .before .before .before .loop-test .left)) (λ e. c .if3 .taken (e ∙ sym (compared (c .before))))))
 
 pub ports-fit-spec : {M : Type 1} → statement M
 ports-fit-spec =
@@ -219,6 +252,8 @@ ports-fit-spec =
     regions-holds
     region-of-requires
     loop-holds
+    element-copy-out-wide8
+    wide8-requires
     mul-a
     element-copy-out-a
     mul-b
@@ -226,7 +261,7 @@ ports-fit-spec =
     names-region-requires
     fits-union-requires
     add-met
-    add-j
+    add-k
     loop-less
     loop-again
     wide-requires

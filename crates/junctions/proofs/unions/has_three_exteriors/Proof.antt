@@ -1,20 +1,55 @@
--- `junctions::unions::has_three_exteriors` meets its contract. The loop's invariant: the exteriors of the ports below j are those found, or three and more. The measure
--- is how many boundaries are left. Assumes nothing.
-use Prim.Native.Nat.{_-_, _≤_}
+-- `junctions::unions::has_three_exteriors` meets its contract. The loop's invariant: the exteriors of the ports below entry k are those found, or three and more. The
+-- measure is how many entries are left. Assumes nothing.
+use Prim.Native.Nat.{ℕ, _-_, _≤_}
+use native.Mathlib.Omega.{arith}
 use mathlib.Core.Logic.{⊎-elim}
-use mathlib.Core.Path.{sym, _∙_}
-use Rattle.junctions.specs.Ports.{isPort, names}
-use Rattle.junctions.proofs.Exteriors.{Surveyed, survey-start, survey-other, survey-with, survey-end}
+use mathlib.Core.Path.{_≡_, sym, _∙_}
+use mathlib.Core.List.{List}
+use lib.ListN.{getD}
+use Rattle.definitions.specs.Grid.{Pair}
+use Rattle.junctions.specs.Ports.{isPort, names, namesEither}
+use Rattle.junctions.proofs.Incidents.{Passed, passed-start, passed-next, passed-all, Entry, entry-at}
+use Rattle.junctions.proofs.Exteriors.{Surveyed, survey-start, survey-other, survey-skip, survey-with, survey-end}
 use borrow.Author.Needs.{needs}
 use Rattle.junctions.proofs.unions.has_three_exteriors.Statement.{statement}
 use Rattle.junctions.proofs.unions.has_three_exteriors.Tie as tie
 
 abbrev Inv-loop : tie.InvT-loop
-Inv-loop smaller larger count index lo hi exteriors₀ j₀ exteriors j =
-    (j ≤ count) × Surveyed smaller larger index (record { lo = lo; hi = hi }) j exteriors
+Inv-loop smaller larger count index incidents n lo hi exteriors₀ k₀ exteriors k =
+    (k ≤ n) × Passed (namesEither smaller larger (record { lo = lo; hi = hi })) (λ j. Surveyed smaller larger index (record { lo = lo; hi = hi }) j exteriors) k
 
 abbrev μ-loop : tie.MeasureT-loop
-μ-loop smaller larger count index lo hi exteriors₀ j₀ exteriors j = count - j
+μ-loop smaller larger count index incidents n lo hi exteriors₀ k₀ exteriors k = n - k
+
+-- at a turn over one entry
+module _ (w : tie.After-wide8 Inv-loop μ-loop) where
+  abbrev smaller : List ℕ
+  smaller = w .before .before .before .before .before .before .args .smaller .now
+
+  abbrev larger : List ℕ
+  larger = w .before .before .before .before .before .before .args .larger .now
+
+  abbrev index : ℕ
+  index = w .before .before .before .before .before .before .args .index
+
+  abbrev union : Pair
+  union = record { lo = getD smaller index 0; hi = getD larger index 0 }
+
+  abbrev j : ℕ
+  j = w .wide8 .result
+
+  entry : Entry smaller larger union (w .before .before .before .before .before .before .args .count) (w .before .before .before .loop .k) j
+  entry = entry-at _ _ _ (w .before .before .before .before .before .before .pre .1) (w .before .before .loop-test .taken) (w .wide8 .ensures)
+
+  surveyed : Surveyed smaller larger index union j (w .before .before .before .loop .exteriors)
+  surveyed = w .before .before .before .loop .inv .1 .upTo j (entry .rank-is)
+
+-- what its test found
+tested : (q : tie.After-is-port Inv-loop μ-loop) →
+    let w = q .before .before .before in
+    isPort (smaller w) (larger w) (index w) (union w) (j w) ≡ q .is-port .result
+unfolding isPort names
+tested q = sym (q .is-port .ensures)
 
 mul-lo : tie.Need-mul-lo Inv-loop μ-loop
 mul-lo c = search needs
@@ -29,19 +64,25 @@ element-copy-out-hi : tie.Need-element-copy-out-hi Inv-loop μ-loop
 element-copy-out-hi c = search needs
 
 loop-holds : tie.Need-loop-holds Inv-loop μ-loop
-loop-holds c = (search needs, survey-start _ _ _ _)
+loop-holds c = (search needs, passed-start (survey-skip _ _ _ _) (survey-start _ _ _ _))
+
+element-copy-out-wide8 : tie.Need-element-copy-out-wide8 Inv-loop μ-loop
+element-copy-out-wide8 c = search needs
+
+wide8-requires : tie.Need-wide8-requires Inv-loop μ-loop
+wide8-requires c κs = search needs
 
 mul-a : tie.Need-mul-a Inv-loop μ-loop
-mul-a c = search needs
+mul-a c = omega (arith, entry c .below)
 
 element-copy-out-a : tie.Need-element-copy-out-a Inv-loop μ-loop
-element-copy-out-a c = search needs
+element-copy-out-a c = omega (arith, entry c .below)
 
 mul-b : tie.Need-mul-b Inv-loop μ-loop
-mul-b c = search needs
+mul-b c = omega (arith, entry (c .before) .below)
 
 element-copy-out-b : tie.Need-element-copy-out-b Inv-loop μ-loop
-element-copy-out-b c = search needs
+element-copy-out-b c = omega (arith, entry (c .before) .below)
 
 is-port-requires : tie.Need-is-port-requires Inv-loop μ-loop
 is-port-requires c κs = search needs
@@ -50,28 +91,30 @@ exterior-of-requires : tie.Need-exterior-of-requires Inv-loop μ-loop
 exterior-of-requires c κs = search needs
 
 with-requires : tie.Need-with-requires Inv-loop μ-loop
-with-requires c κs = c .before .before .before .before .before .before .loop .inv .1 .few
+with-requires c κs = surveyed (c .before .before .before .before .before) .few
 
-add-j : tie.Need-add-j Inv-loop μ-loop
-add-j c = search needs
+add-k : tie.Need-add-k Inv-loop μ-loop
+add-k c = search needs
 
 loop-less : tie.Need-loop-less Inv-loop μ-loop
 loop-less c = search needs
 
 loop-again : tie.Need-loop-again Inv-loop μ-loop
-unfolding isPort names
 loop-again c =
     let q = c .before in
-    let l = q .before .before .before .before in (
+    let w = q .before .before .before in (
       search needs,
-      ⊎-elim
-          (λ w. survey-with _ _ _ _ (l .loop .inv .1) (sym (q .is-port .ensures) ∙ w .0 .taken) (w .1 .ensures) (w .2 .ensures) (w .3))
-          (λ w. survey-other _ _ _ _ (l .loop .inv .1) (sym (q .is-port .ensures) ∙ w .0 .left) (w .1))
-          (c .if1 .came),
+      passed-next (survey-skip (smaller w) (larger w) (index w) (union w)) (entry w .isNamed) (entry w .rank-is)
+          (⊎-elim
+          (λ t. survey-with _ _ _ _ (surveyed w) (tested q ∙ t .0 .taken) (t .1 .ensures) (t .2 .ensures) (t .3))
+          (λ t. survey-other _ _ _ _ (surveyed w) (tested q ∙ t .0 .left) (t .1))
+          (c .if1 .came)),
     )
 
 returns : tie.Need-returns Inv-loop μ-loop
-returns c = survey-end _ _ _ _ (c .before .before .loop .inv .1) (c .before .before .loop .inv .0) (c .before .loop-test .left)
+returns c =
+    let l = c .before .before in
+    survey-end _ _ _ _ (passed-all _ _ _ (l .before .before .before .pre .1) (l .loop .inv .1) (l .loop .inv .0) (c .before .loop-test .left))
 
 pub has-three-exteriors-spec : {M : Type 1} → statement M
 has-three-exteriors-spec =
@@ -84,6 +127,8 @@ has-three-exteriors-spec =
     mul-hi
     element-copy-out-hi
     loop-holds
+    element-copy-out-wide8
+    wide8-requires
     mul-a
     element-copy-out-a
     mul-b
@@ -91,7 +136,7 @@ has-three-exteriors-spec =
     is-port-requires
     exterior-of-requires
     with-requires
-    add-j
+    add-k
     loop-less
     loop-again
     returns)

@@ -3,10 +3,12 @@ use Prim.Native.Nat.{ℕ, _≤_, _<_, _+_}
 use native.Mathlib.Omega.{arith}
 use mathlib.Core.Path.{_≡_, sym, ap, ap₂, _∙_}
 use mathlib.Core.List.{List}
-use lib.ListN.{getD}
+use mathlib.Core.Bool.{true}
+use lib.ListN.{length, getD}
 use lib.Dec.{eqb}
 use borrow.Author.Tests.{eq-eqb, ne-eqb, ltb-true}
-use Rattle.junctions.specs.Unions.{markAt, portsPass}
+use Rattle.definitions.specs.Grid.{Pair}
+use Rattle.junctions.specs.Unions.{markAt, marksOf, noRampAt, portsPass}
 use Rattle.junctions.proofs.Shapes.{bit-le, no-pair, has-ramp, both-anchored, few-incidents, is-unfit, too-few, by-ports}
 use borrow.Author.Needs.{needs}
 use Rattle.junctions.proofs.unions.is_union.Statement.{statement}
@@ -34,6 +36,9 @@ module _ (s : tie.Start) where
 
   abbrev hi : ℕ
   hi = getD larger (s .args .index) 0
+
+  abbrev union : Pair
+  union = record { lo = lo; hi = hi }
 
   -- both regions are labelled
   named : (lo ≡ 0 → ⊥) → (1 ≤ lo) × ((lo < hi) × (hi ≤ s .args .regions))
@@ -87,45 +92,75 @@ returns-3 c =
     let s = c .before .before .before .before .before .before .before .before .before .before .before in
     both-anchored (boundaries s) (smaller s) (larger s) (counts s) (marks s) (s .args .count) (s .args .index) (c .before .before .before .before .before .if1 .left) (eq-eqb _ 0 (c .before .before .before .if2 .left)) (omega (arith, c .if3 .taken, c .before .anchored-bit2 .ensures, c .before .before .anchored-bit .ensures))
 
+-- past the first three tests: a full pair with no ramp, at most one of whose regions is anchored
+module _ (e : tie.Else3) where
+  abbrev start : tie.Start
+  start = e .before .before .before .before .before .before .before .before .before .before .before
+
+  abbrev pair : lo start ≡ 0 → ⊥
+  pair = e .before .before .before .before .before .if1 .left
+
+  abbrev plain : noRampAt (boundaries start) (start .args .index) ≡ true
+  plain = eq-eqb _ 0 (e .before .before .before .if2 .left)
+
+  -- the sum of the two marks
+  marked : e .before .before .anchored-bit .result + e .before .anchored-bit2 .result ≡ marksOf (marks start) (union start)
+  marked = ap₂ _+_ (e .before .before .anchored-bit .ensures) (e .before .anchored-bit2 .ensures)
+
+  anchored : marksOf (marks start) (union start) < 2
+  anchored = omega (arith, e .if3 .left, marked)
+
+  -- both regions have a count
+  counted : ((1 ≤ lo start) × (lo start ≤ length (counts start))) × ((1 ≤ hi start) × (hi start ≤ length (counts start)))
+  counted =
+      let n = named start pair in
+      ((n .0, omega (arith, n, start .pre .0 .countsLong)), (omega (arith, n), omega (arith, n, start .pre .0 .countsLong)))
+
 has-few-incidents-requires : tie.Need-has-few-incidents-requires
-has-few-incidents-requires c κs =
-    let s = c .before .before .before .before .before .before .before .before .before .before .before in
-    let n = named s (c .before .before .before .before .before .if1 .left) in
-    ((n .0, omega (arith, n, s .pre .0 .countsLong)), (omega (arith, n), omega (arith, n, s .pre .0 .countsLong)))
+has-few-incidents-requires c κs = counted c
 
 returns-4 : tie.Need-returns-4
 returns-4 c =
-    let s = c .before .before .before .before .before .before .before .before .before .before .before .before .before in
-    few-incidents (boundaries s) (smaller s) (larger s) (counts s) (marks s) (s .args .count) (s .args .index) (c .before .before .before .before .before .before .before .if1 .left) (eq-eqb _ 0 (c .before .before .before .before .before .if2 .left)) (omega (arith, c .before .before .if3 .left, c .before .before .before .anchored-bit2 .ensures, c .before .before .before .before .anchored-bit .ensures)) (s .pre .1)
+    let e = c .before .before in
+    let s = start e in
+    few-incidents (boundaries s) (smaller s) (larger s) (counts s) (marks s) (s .args .count) (s .args .index) (pair e) (plain e) (anchored e) (s .pre .1)
     (ltb-true _ 5 (sym (c .before .has-few-incidents .ensures) ∙ c .if4 .taken))
+
+find-incidents-requires : tie.Need-find-incidents-requires
+find-incidents-requires c κs = search needs
 
 ports-fit-requires : tie.Need-ports-fit-requires
 ports-fit-requires c κs =
-    let s = c .before .before .before .before .before .before .before .before .before .before .before .before .before in
-    let n = named s (c .before .before .before .before .before .before .before .if1 .left) in
-    ((s .pre .0 .bounds .few, s .pre .1), ((n .0, omega (arith, n, s .pre .0 .countsLong)), (omega (arith, n), omega (arith, n, s .pre .0 .countsLong))))
+    let e = c .before .before .before .before .before in
+    let s = start e in
+    ((s .pre .0 .bounds .few, s .pre .1), (counted e .0, (counted e .1, c .before .find-incidents .ensures)))
 
 returns-5 : tie.Need-returns-5
 returns-5 c =
-    let s = c .before .before .before .before .before .before .before .before .before .before .before .before .before .before .before in
-    is-unfit (boundaries s) (smaller s) (larger s) (counts s) (marks s) (s .args .count) (s .args .index) (c .before .before .before .before .before .before .before .before .before .if1 .left) (eq-eqb _ 0 (c .before .before .before .before .before .before .before .if2 .left)) (omega (arith, c .before .before .before .before .if3 .left, c .before .before .before .before .before .anchored-bit2 .ensures, c .before .before .before .before .before .before .anchored-bit .ensures)) (c .before .ports-fit .ensures) (c .if5 .taken)
+    let e = c .before .before .before .before .before .before .before in
+    let s = start e in
+    is-unfit (boundaries s) (smaller s) (larger s) (counts s) (marks s) (s .args .count) (s .args .index) (pair e) (plain e) (anchored e) (c .before .ports-fit .ensures) (c .if5 .taken)
 
 has-three-exteriors-requires : tie.Need-has-three-exteriors-requires
-has-three-exteriors-requires c κs = (c .before .before .before .before .before .before .before .before .before .before .before .before .before .before .before .pre .0 .bounds .few, c .before .before .before .before .before .before .before .before .before .before .before .before .before .before .before .pre .1)
+has-three-exteriors-requires c κs = search needs
 
 returns-6 : tie.Need-returns-6
 returns-6 c =
-    let s = c .before .before .before .before .before .before .before .before .before .before .before .before .before .before .before .before .before in
-    too-few (boundaries s) (smaller s) (larger s) (counts s) (marks s) (s .args .count) (s .args .index) (c .before .before .before .before .before .before .before .before .before .before .before .if1 .left) (eq-eqb _ 0 (c .before .before .before .before .before .before .before .before .before .if2 .left)) (omega (arith, c .before .before .before .before .before .before .if3 .left, c .before .before .before .before .before .before .before .anchored-bit2 .ensures, c .before .before .before .before .before .before .before .before .anchored-bit .ensures)) (c .before .before .before .ports-fit .ensures) (c .before .before .if5 .left) (c .before .has-three-exteriors .ensures) (c .if6 .taken)
+    let e = c .before .before .before .before .before .before .before .before .before .before in
+    let s = start e in
+    too-few (boundaries s) (smaller s) (larger s) (counts s) (marks s) (s .args .count) (s .args .index) (pair e) (plain e) (anchored e) (c .before .before .before .before .ports-fit .ensures) (c .before .before .before .if5 .left) (c .before .has-three-exteriors .ensures) (c .if6 .taken)
 
 ports-pass-requires : tie.Need-ports-pass-requires
-ports-pass-requires c κs = (c .before .before .before .before .before .before .before .before .before .before .before .before .before .before .before .before .before .pre .0 .bounds, c .before .before .before .before .before .before .before .before .before .before .before .before .before .before .before .before .before .pre .1)
+ports-pass-requires c κs =
+    let s = start (c .before .before .before .before .before .before .before .before .before .before .before) in
+    (s .pre .0 .bounds, (s .pre .1, c .before .before .before .before .before .before .before .find-incidents .ensures))
 
 returns-7 : tie.Need-returns-7
 returns-7 c =
-    let s = c .before .before .before .before .before .before .before .before .before .before .before .before .before .before .before .before .before .before in
-    by-ports (boundaries s) (smaller s) (larger s) (counts s) (marks s) (s .args .count) (s .args .index) (c .before .before .before .before .before .before .before .before .before .before .before .before .if1 .left) (eq-eqb _ 0 (c .before .before .before .before .before .before .before .before .before .before .if2 .left)) (omega (arith, c .before .before .before .before .before .before .before .if3 .left, c .before .before .before .before .before .before .before .before .anchored-bit2 .ensures, c .before .before .before .before .before .before .before .before .before .anchored-bit .ensures)) (c .before .before .before .before .ports-fit .ensures) (c .before .before .before .if5 .left) (c .before .before .has-three-exteriors .ensures) (c .before .if6 .left)
-    (c .ports-pass .ensures ∙ ap (λ n. portsPass (boundaries s) (smaller s) (larger s) (s .args .count) (s .args .index) (record { lo = lo s; hi = hi s }) (eqb n 1)) (ap₂ _+_ (c .before .before .before .before .before .before .before .before .before .anchored-bit .ensures) (c .before .before .before .before .before .before .before .before .anchored-bit2 .ensures)))
+    let e = c .before .before .before .before .before .before .before .before .before .before .before .before in
+    let s = start e in
+    by-ports (boundaries s) (smaller s) (larger s) (counts s) (marks s) (s .args .count) (s .args .index) (pair e) (plain e) (anchored e) (c .before .before .before .before .before .before .ports-fit .ensures) (c .before .before .before .before .before .if5 .left) (c .before .before .before .has-three-exteriors .ensures) (c .before .before .if6 .left)
+    (c .ports-pass .ensures ∙ ap (λ n. portsPass (boundaries s) (smaller s) (larger s) (s .args .count) (s .args .index) (union s) (eqb n 1)) (marked e))
 
 pub is-union-spec : {M : Type 1} → statement M
 is-union-spec =
@@ -147,6 +182,7 @@ is-union-spec =
     returns-3
     has-few-incidents-requires
     returns-4
+    find-incidents-requires
     ports-fit-requires
     returns-5
     has-three-exteriors-requires

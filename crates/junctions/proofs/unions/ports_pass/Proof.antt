@@ -1,16 +1,18 @@
--- `junctions::unions::ports_pass` meets its contract. The loop's invariant: every port below j passes. The measure is how many boundaries are left. Assumes nothing.
-use native.Mathlib.Nat.{le-antisymm}
+-- `junctions::unions::ports_pass` meets its contract. The loop's invariant: every port below entry k passes. The measure is how many entries are left. Assumes nothing.
+use native.Mathlib.Omega.{arith}
 use mathlib.Core.Bool.{false, Bool, true, not, _||_}
 use lib.ListN.{getD}
 use Rattle.junctions.proofs.Lists.{placed}
+use Rattle.junctions.proofs.Incidents.{Passed, passed-start, passed-next, passed-all, Entry, entry-at, no-port}
 use Rattle.junctions.proofs.Shapes.{negated-true, negated-false}
-use Prim.Native.Nat.{ℕ, _-_, _≤_}
+use Prim.Native.Nat.{ℕ, _+_, _-_, _≤_}
 use mathlib.Core.Logic.{⊎-elim}
 use mathlib.Core.Path.{_≡_, refl, sym, ap, ap₂, _∙_}
 use mathlib.Core.List.{List}
 use Rattle.definitions.specs.Scan.{allBelow}
+use Rattle.definitions.specs.Grid.{Pair}
 use Rattle.laws.specs.ListLaws.ScanSteps.{all-more, all-fails}
-use Rattle.junctions.specs.Ports.{isPort, names}
+use Rattle.junctions.specs.Ports.{isPort, names, namesEither}
 use Rattle.junctions.specs.Unions.{passesAt, portsPass}
 use borrow.Author.Needs.{needs}
 use Rattle.junctions.proofs.unions.ports_pass.Statement.{statement}
@@ -30,19 +32,47 @@ passing-other : {a : Bool} (b : Bool) → a ≡ false → (not a || b) ≡ true
 passing-other b e = ap (λ x. not x || b) e
 
 abbrev Inv-loop : tie.InvT-loop
-Inv-loop boundaries smaller larger count index one lo hi j₀ j =
-    (j ≤ count) × (allBelow j (passing boundaries smaller larger index lo hi one) ≡ true)
+Inv-loop boundaries smaller larger count index one incidents n lo hi k₀ k =
+    (k ≤ n) × Passed (namesEither smaller larger (record { lo = lo; hi = hi })) (λ j. allBelow j (passing boundaries smaller larger index lo hi one) ≡ true) k
 
 abbrev μ-loop : tie.MeasureT-loop
-μ-loop boundaries smaller larger count index one lo hi j₀ j = count - j
+μ-loop boundaries smaller larger count index one incidents n lo hi k₀ k = n - k
 
--- what every boundary has to pass
-abbrev test : tie.Start Inv-loop μ-loop → ℕ → Bool
-test s =
-    let smaller = s .args .smaller .now in
-    let larger = s .args .larger .now in
-    let index = s .args .index in
-    passing (s .args .boundaries .now) smaller larger index (getD smaller index 0) (getD larger index 0) (s .args .one)
+-- from the function's entry: the union, and what every boundary has to pass
+module _ (s : tie.Start Inv-loop μ-loop) where
+  abbrev smaller : List ℕ
+  smaller = s .args .smaller .now
+
+  abbrev larger : List ℕ
+  larger = s .args .larger .now
+
+  abbrev union : Pair
+  union = record { lo = getD smaller (s .args .index) 0; hi = getD larger (s .args .index) 0 }
+
+  abbrev test : ℕ → Bool
+  test = passing (s .args .boundaries .now) smaller larger (s .args .index) (union .lo) (union .hi) (s .args .one)
+
+  -- a boundary that names neither region
+  skipped : (j : ℕ) → namesEither smaller larger union j ≡ false → allBelow j test ≡ true → allBelow (j + 1) test ≡ true
+  skipped j h e = all-more test j e (passing-other _ (no-port smaller larger union (s .args .index) j h))
+
+-- at a turn over one entry
+module _ (w : tie.After-wide8 Inv-loop μ-loop) where
+  abbrev start : tie.Start Inv-loop μ-loop
+  start = w .before .before .before .before .before .before .before
+
+  abbrev j : ℕ
+  j = w .wide8 .result
+
+  entry : Entry (smaller start) (larger start) (union start) (start .args .count) (w .before .before .before .loop .k) j
+  entry = entry-at _ _ _ (start .pre .1 .1) (w .before .before .loop-test .taken) (w .wide8 .ensures)
+
+-- what its test found
+tested : (q : tie.After-is-port Inv-loop μ-loop) →
+    let w = q .before .before .before in
+    isPort (smaller (start w)) (larger (start w)) (start w .args .index) (union (start w)) (j w) ≡ q .is-port .result
+unfolding isPort names
+tested q = sym (q .is-port .ensures)
 
 mul-lo : tie.Need-mul-lo Inv-loop μ-loop
 mul-lo c = search needs
@@ -58,52 +88,65 @@ element-copy-out-hi c = search needs
 
 loop-holds : tie.Need-loop-holds Inv-loop μ-loop
 unfolding allBelow
-loop-holds c = (search needs, refl)
+loop-holds c = (search needs, passed-start (skipped (c .before .before .before)) refl)
+
+element-copy-out-wide8 : tie.Need-element-copy-out-wide8 Inv-loop μ-loop
+element-copy-out-wide8 c = search needs
+
+wide8-requires : tie.Need-wide8-requires Inv-loop μ-loop
+wide8-requires c κs = search needs
 
 mul-is-port : tie.Need-mul-is-port Inv-loop μ-loop
-mul-is-port c = search needs
+mul-is-port c = omega (arith, entry c .below)
 
 element-copy-out-is-port : tie.Need-element-copy-out-is-port Inv-loop μ-loop
-element-copy-out-is-port c = search needs
+element-copy-out-is-port c = omega (arith, entry c .below)
 
 mul-is-port-2 : tie.Need-mul-is-port-2 Inv-loop μ-loop
-mul-is-port-2 c = search needs
+mul-is-port-2 c = omega (arith, entry (c .before) .below)
 
 element-copy-out-is-port-2 : tie.Need-element-copy-out-is-port-2 Inv-loop μ-loop
-element-copy-out-is-port-2 c = search needs
+element-copy-out-is-port-2 c = omega (arith, entry (c .before) .below)
 
 is-port-requires : tie.Need-is-port-requires Inv-loop μ-loop
 is-port-requires c κs = search needs
 
 port-passes-requires : tie.Need-port-passes-requires Inv-loop μ-loop
-port-passes-requires c κs = (placed (c .before .before .before .before .before .before .before .before .before .pre .0) (c .before .before .before .before .before .before .before .before .before .pre .1), placed (c .before .before .before .before .before .before .before .before .before .pre .0) (c .before .before .before .before .loop-test .taken))
+port-passes-requires c κs =
+    let w = c .before .before .before .before in
+    (placed (start w .pre .0) (start w .pre .1 .0), placed (start w .pre .0) (entry w .below))
 
 returns : tie.Need-returns Inv-loop μ-loop
-unfolding portsPass isPort names
+unfolding portsPass
 returns c =
-    sym (all-fails (test (c .before .before .before .before .before .before .before .before .before .before .before)) (c .before .before .before .before .before .before .before .before .before .before .before .args .count) (c .before .before .before .before .before .before .before .loop .j) (c .before .before .before .before .before .before .loop-test .taken)
-    (passing-fails (sym (c .before .before .before .is-port .ensures) ∙ c .before .before .if1 .taken) (c .before .port-passes .ensures) (c .if2 .taken)))
+    let q = c .before .before .before in
+    let w = q .before .before .before in
+    sym (all-fails (test (start w)) (start w .args .count) (j w) (entry w .below) (passing-fails (tested q ∙ c .before .before .if1 .taken) (c .before .port-passes .ensures) (c .if2 .taken)))
 
-add-j : tie.Need-add-j Inv-loop μ-loop
-add-j c = search needs
+add-k : tie.Need-add-k Inv-loop μ-loop
+add-k c = search needs
 
 loop-less : tie.Need-loop-less Inv-loop μ-loop
 loop-less c = search needs
 
 loop-again : tie.Need-loop-again Inv-loop μ-loop
-unfolding isPort names
-loop-again c = (
-  search needs,
-  all-more (test (c .before .before .before .before .before .before .before .before .before)) (c .before .before .before .before .before .loop .j) (c .before .before .before .before .before .loop .inv .1)
-      (⊎-elim
-      (λ w. passing-port (sym (c .before .is-port .ensures) ∙ w .0 .taken) (w .1 .ensures) (w .2 .left))
-      (λ w. passing-other _ (sym (c .before .is-port .ensures) ∙ w .left))
-      (c .if1 .came)),
-)
+loop-again c =
+    let q = c .before in
+    let w = q .before .before .before in (
+      search needs,
+      passed-next (skipped (start w)) (entry w .isNamed) (entry w .rank-is)
+          (all-more (test (start w)) (j w) (w .before .before .before .loop .inv .1 .upTo (j w) (entry w .rank-is))
+          (⊎-elim {C = test (start w) (j w) ≡ true}
+          (λ t. passing-port (tested q ∙ t .0 .taken) (t .1 .ensures) (t .2 .left))
+          (λ t. passing-other _ (tested q ∙ t .left))
+          (c .if1 .came))),
+    )
 
 returns-2 : tie.Need-returns-2 Inv-loop μ-loop
 unfolding portsPass
-returns-2 c = sym (ap (λ n. allBelow n (test (c .before .before .before .before .before))) (le-antisymm (c .loop-test .left) (c .before .loop .inv .0)) ∙ c .before .loop .inv .1)
+returns-2 c =
+    let l = c .before in
+    sym (passed-all _ _ _ (l .before .before .before .before .pre .1 .1) (l .loop .inv .1) (l .loop .inv .0) (c .loop-test .left))
 
 pub ports-pass-spec : {M : Type 1} → statement M
 ports-pass-spec =
@@ -116,6 +159,8 @@ ports-pass-spec =
     mul-hi
     element-copy-out-hi
     loop-holds
+    element-copy-out-wide8
+    wide8-requires
     mul-is-port
     element-copy-out-is-port
     mul-is-port-2
@@ -123,7 +168,7 @@ ports-pass-spec =
     is-port-requires
     port-passes-requires
     returns
-    add-j
+    add-k
     loop-less
     loop-again
     returns-2)
