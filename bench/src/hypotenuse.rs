@@ -16,7 +16,7 @@ pub fn run(budget: Duration) {
     for (name, pairs) in [("half pixels, as in the passes", pixels()), ("any in range", doubles())] {
         let each = |call: &dyn Fn(f64, f64) -> f64| {
             let sum = || pairs.iter().map(|(x, y)| call(black_box(*x), black_box(*y))).sum::<f64>();
-            time(budget, &mut [timed(sum)])[0].least() * 1e3 / PAIRS as f64
+            time(budget, vec![vec![timed(sum)]])[0][0].least() * 1e3 / PAIRS as f64
         };
         let differing = |call: &dyn Fn(f64, f64) -> f64| {
             pairs.iter().filter(|(x, y)| call(*x, *y).to_bits() != rounded(*x, *y).to_bits()).count()

@@ -1,32 +1,34 @@
 //! Times the Rust original step by step and our static libraries on the same maps in one process.
 
+mod calls;
 mod hypotenuse;
 mod maps;
 mod ours;
 mod stack;
 mod timing;
 
+use calls::{OWN, RUST, with_calls};
 use jenwyllt::Refusal;
 use maps::Named;
-use oracle::SpanPartition;
 use oracle::sheet::Map;
 use oracle::table::check_pass;
 use oracle::topology::harness::{self, Answer, Context, Original, Room, row};
-use std::cell::RefCell;
 use std::time::Duration;
-use timing::{Timed, Timing, time, timed};
+use timing::{Timing, time};
 
 const PASSES: [u64; 3] = [1, 2, 3];
 
 fn main() {
     let arguments: Vec<String> = std::env::args().skip(1).collect();
+    if let [word, map, whose, call] = &arguments[..]
+        && word == "once"
+    {
+        return once(map, whose, call);
+    }
     let budget = match arguments.first().map(|word| word.parse::<f64>()) {
         None => Duration::from_millis(300),
         Some(Ok(seconds)) if seconds > 0.0 => Duration::from_secs_f64(seconds),
-        Some(_) => {
-            eprintln!("usage: bench [SECONDS a measurement] [NAME of a map...]");
-            std::process::exit(2);
-        }
+        Some(_) => usage(),
     };
     let wanted = |name: &str| arguments.len() < 2 || arguments[1..].iter().any(|word| word == name);
     println!(
@@ -43,6 +45,26 @@ fn main() {
     }
 }
 
+fn usage() -> ! {
+    eprintln!("usage: bench [SECONDS a measurement] [NAME of a map...], or bench once MAP rust|ours|none CALL");
+    std::process::exit(2);
+}
+
+/// Makes all that the calls of a map need and runs one of them, or none: count.py counts the instructions of the two.
+fn once(map: &str, whose: &str, call: &str) {
+    let maps = maps::all();
+    let named = maps.iter().find(|named| named.name == map).unwrap_or_else(|| usage());
+    with_calls(&named.map, |mut rust, mut own| {
+        let place = |names: [&str; 8]| names.iter().position(|name| *name == call).unwrap_or_else(|| usage());
+        match whose {
+            "rust" => drop(rust[place(RUST)]()),
+            "ours" => drop(own[place(OWN)]()),
+            "none" => (),
+            _ => usage(),
+        }
+    });
+}
+
 fn passes(Named { name, about, map }: &Named, budget: Duration) {
     check_pass(map).expect("the map is accepted");
     let original = Original::new(map);
@@ -57,52 +79,21 @@ fn passes(Named { name, about, map }: &Named, budget: Duration) {
         map.width, map.height, kept[0], kept[1], kept[2],
     );
     println!("{:<22} {:>12} {:>12} {:>12} {:>12} {:>7}", "", "Rust least", "middle", "ours least", "middle", "ratio");
-
-    // Without boundaries a call is the partition and the records: no pass runs where there are not as many boundaries as spans.
-    let bare = Map { boundaries: vec![], ..map.clone() };
-    let maps = PASSES.map(|pass| Map { pass, ..map.clone() });
-    let lent = RefCell::new(ours::Lent::new(map, regions, pairs));
-    let mut calls = rust_calls(&original, &partition, &context);
-    let steps = calls.len();
-    calls.extend([ours::partition, ours::refused].map(|call| own_call(call, map, &lent)));
-    calls.extend([&bare].into_iter().chain(&maps).map(|map| own_call(ours::kept_boundaries, map, &lent)));
-    let times = time(budget, &mut calls);
-    drop(calls);
-
-    compare(map, &mut lent.into_inner(), &original, &context);
-    let (rust, own) = times.split_at(steps);
-    print(rust, own);
+    let times = with_calls(map, |rust, own| time(budget, vec![rust, own]));
+    compare(map, &mut ours::Lent::new(map, regions, pairs), &original, &context);
+    print(&times[0], &times[1]);
 }
 
-/// The partition, the context, each pass alone, and with each the whole call.
-fn rust_calls<'a>(original: &'a Original, partition: &'a SpanPartition, context: &'a Context) -> Vec<Timed<'a>> {
-    let mut calls = vec![timed(|| original.partition()), timed(|| original.context(partition))];
-    calls.extend(PASSES.map(|pass| timed(move || original.pass(pass, context))));
-    calls.extend(PASSES.map(|pass| timed(move || whole(original, pass))));
-    calls
-}
-
-fn own_call<'a>(call: ours::Call, map: &'a Map, lent: &'a RefCell<ours::Lent>) -> Timed<'a> {
-    timed(move || call(map, &mut lent.borrow_mut()))
-}
-
-/// The Rust's steps of a call that runs a pass.
-fn whole(original: &Original, pass: u64) -> usize {
-    let partition = original.partition();
-    let context = original.context(&partition);
-    original.pass(pass, &context).len()
-}
-
-/// The lines of a map. Of ours there are the partition, the call that is refused after it, the call without boundaries and the call with
-/// each pass, in this order; what lies between the partition and the rows is what a call takes more than another.
+/// The lines of a map. Ours between the partition and the rows are what calls take more than others (README.md).
 fn print(rust: &[Timing], own: &[Timing]) {
-    let (partition, context) = (&rust[0], &rust[1]);
-    let (alone, whole) = rust[2..].split_at(PASSES.len());
-    let [cut, refused, bare, calls @ ..] = own else { panic!("three calls and one for each pass") };
+    let [partition, context, rust @ ..] = rust else { panic!("RUST has more") };
+    let (alone, whole) = rust.split_at(PASSES.len());
+    let [cut, refused, bare, fewer, plain, calls @ ..] = own else { panic!("OWN has more") };
+    let view = plain.less(fewer);
     line("partition", partition, cut);
-    difference("context", context, &bare.less(refused));
+    difference("context", context, &bare.less(refused).and(&view));
     for (pass, (rust, call)) in alone.iter().zip(calls).enumerate() {
-        difference(&format!("pass {}", pass + 1), rust, &call.less(bare));
+        difference(&format!("pass {}", pass + 1), rust, &call.less(bare).less(&view));
     }
     for (pass, (rust, call)) in alone.iter().zip(calls).enumerate() {
         difference(&format!("context and pass {}", pass + 1), &context.and(rust), &call.less(refused));

@@ -63,18 +63,21 @@ fn processor_time() -> Duration {
     Duration::new(time.seconds as u64, time.nanoseconds as u32)
 }
 
-/// Runs each of the calls once a round, in an order of its own, so that all of them meet the same load and the same neighbours, until
-/// `budget` is spent for each, and at least five times.
-pub fn time(budget: Duration, calls: &mut [Timed]) -> Vec<Timing> {
+/// Runs each of the calls once a round until `budget` is spent for each, and at least five times. The groups take turns, and the calls of a
+/// group follow each other in an order of their own each round, so that those that are compared by their differences meet the same load.
+pub fn time(budget: Duration, mut groups: Vec<Vec<Timed>>) -> Vec<Vec<Timing>> {
     let begin = Instant::now();
     let mut random = Random(7);
-    let mut order: Vec<_> = (0..calls.len()).collect();
-    let mut times: Vec<_> = calls.iter().map(|_| Timing(vec![])).collect();
+    let count: usize = groups.iter().map(|group| group.len()).sum();
+    let mut orders: Vec<Vec<usize>> = groups.iter().map(|group| (0..group.len()).collect()).collect();
+    let mut times: Vec<Vec<_>> = groups.iter().map(|group| group.iter().map(|_| Timing(vec![])).collect()).collect();
     let mut rounds = 0;
-    while rounds < 5 || begin.elapsed() < budget * calls.len() as u32 {
-        random.shuffle(&mut order);
-        for &call in &order {
-            times[call].0.push(calls[call]().as_secs_f64() * 1e6);
+    while rounds < 5 || begin.elapsed() < budget * count as u32 {
+        for ((group, order), times) in groups.iter_mut().zip(&mut orders).zip(&mut times) {
+            random.shuffle(order);
+            for &call in order.iter() {
+                times[call].0.push(group[call]().as_secs_f64() * 1e6);
+            }
         }
         rounds += 1;
     }

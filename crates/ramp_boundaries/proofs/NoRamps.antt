@@ -10,7 +10,7 @@ use Rattle.definitions.specs.Scan.{anyBelow, collect, gather, toList}
 use Rattle.definitions.specs.Sort.{sort, sortOnto, select}
 use Rattle.definitions.specs.Context.{Context, noRamp, fullCut, fullPair}
 use Rattle.definitions.specs.MouthShapes.{mouthShape}
-use Rattle.definitions.specs.RampMouths.{MouthProposal, broadMouth, nearbyRepresentative, overlayRepresentative, retain, isLocal, triangle, triangleOr, shapedMouth, mouthProposal, proposals, conflict, ranksBefore, taken, removed}
+use Rattle.definitions.specs.RampMouths.{broadMouth, nearbyRepresentative, overlayRepresentative, retain, isLocal, triangle, triangleOr, shapedMouth, mouthProposal, proposals, conflict, ranksBefore, taken, removed}
 use Rattle.laws.specs.ListLaws.ScanSteps.{any-fails-at}
 use Rattle.context.specs.Shown.{ShownBoundaries}
 use Rattle.ramp_boundaries.specs.Listed.{rampAt}
