@@ -5,6 +5,7 @@ mod CandidateRoom
 pub mod Distinct
 pub mod Fitting
 mod FoundMouths
+mod KnownEnds
 mod Literals
 pub mod Measured
 mod OtherEnds

@@ -1,4 +1,6 @@
 // The candidates of all ramps and mouths, as compact lists: ramp by ramp, then mouth by mouth.
+use crate::ends::OtherEnds;
+use crate::ends::find_other_ends;
 use crate::measures::NUMBERS_PER_BOUNDARY;
 use crate::measures::is_close;
 use crate::measures::separation_of;
@@ -18,6 +20,7 @@ ghost use Rattle.definitions.specs.RampMouths.{MouthProposal};
 ghost use Rattle.context.specs.Shown.{ShownTallies};
 ghost use Rattle.ramp_boundaries.specs.Lent.{Shows, Shown};
 ghost use Rattle.ramp_boundaries.specs.Candidates.{mouthCandidate, candidates};
+ghost use Rattle.ramp_boundaries.specs.Ends.{EndsOf};
 ghost use Rattle.ramp_boundaries.specs.Listed.{maxCandidates, Filled, Roomy, Put, plainAt, rampAt};
 
 // Whether a boundary has a ramp: without one there is no candidate.
@@ -84,13 +87,14 @@ fn push_mouth(
     n: usize,
     m: usize,
     a: usize,
+    ends: OtherEnds,
 ) -> usize
     requires { ⌜ Shown (now boundaries) (now tallies) (now pairs) (now starts) (now counts) (now marks) count ⌝ }
     requires { ⌜ Roomy (now mouths) (now ramps) (now outers) (now kinds) (now separations) ⌝ }
     requires { ⌜ (n < maxCandidates) × ((m < count) × (a < count)) ⌝ }
     ensures { λ r. ⌜ (n ≤ r) × (r ≤ n + 1) ⌝ }
     ensures { λ r. ⌜ Roomy (now (mouths .exit)) (now (ramps .exit)) (now (outers .exit)) (now (kinds .exit)) (now (separations .exit)) ⌝ }
-    ensures { λ r. ⌜ ((C : Context) (l : List MouthProposal) → Shows (now (boundaries .entry)) (now (pairs .entry)) (now (starts .entry)) (now (counts .entry)) (now (marks .entry)) count C → ShownTallies C (now (tallies .entry)) → noRamp C a ≡ false → fullCut C a ≡ true → Filled C (now (mouths .entry)) (now (ramps .entry)) (now (outers .entry)) (now (kinds .entry)) (now (separations .entry)) n l → Filled C (now (mouths .exit)) (now (ramps .exit)) (now (outers .exit)) (now (kinds .exit)) (now (separations .exit)) r (l ++ toList (mouthCandidate C a m))) ⌝ }
+    ensures { λ r. ⌜ ((C : Context) (l : List MouthProposal) → Shows (now (boundaries .entry)) (now (pairs .entry)) (now (starts .entry)) (now (counts .entry)) (now (marks .entry)) count C → ShownTallies C (now (tallies .entry)) → noRamp C a ≡ false → fullCut C a ≡ true → EndsOf C a ends → Filled C (now (mouths .entry)) (now (ramps .entry)) (now (outers .entry)) (now (kinds .entry)) (now (separations .entry)) n l → Filled C (now (mouths .exit)) (now (ramps .exit)) (now (outers .exit)) (now (kinds .exit)) (now (separations .exit)) r (l ++ toList (mouthCandidate C a m))) ⌝ }
 {
     match mouth_candidate(
         boundaries,
@@ -102,6 +106,7 @@ fn push_mouth(
         count,
         m,
         a,
+        ends,
     ) {
         Candidate::None => n,
         Candidate::Mouth(outer, kind) => {
@@ -145,13 +150,14 @@ fn push_plain(
     n: usize,
     m: usize,
     a: usize,
+    ends: OtherEnds,
 ) -> usize
     requires { ⌜ Shown (now boundaries) (now tallies) (now pairs) (now starts) (now counts) (now marks) count ⌝ }
     requires { ⌜ Roomy (now mouths) (now ramps) (now outers) (now kinds) (now separations) ⌝ }
     requires { ⌜ (n + bit (plainAt (now boundaries) m) ≤ maxCandidates) × ((m < count) × (a < count)) ⌝ }
     ensures { λ r. ⌜ r ≤ n + bit (plainAt (now (boundaries .entry)) m) ⌝ }
     ensures { λ r. ⌜ Roomy (now (mouths .exit)) (now (ramps .exit)) (now (outers .exit)) (now (kinds .exit)) (now (separations .exit)) ⌝ }
-    ensures { λ r. ⌜ ((C : Context) (l : List MouthProposal) → Shows (now (boundaries .entry)) (now (pairs .entry)) (now (starts .entry)) (now (counts .entry)) (now (marks .entry)) count C → ShownTallies C (now (tallies .entry)) → noRamp C a ≡ false → fullCut C a ≡ true → Filled C (now (mouths .entry)) (now (ramps .entry)) (now (outers .entry)) (now (kinds .entry)) (now (separations .entry)) n l → Filled C (now (mouths .exit)) (now (ramps .exit)) (now (outers .exit)) (now (kinds .exit)) (now (separations .exit)) r (l ++ toList (mouthCandidate C a m))) ⌝ }
+    ensures { λ r. ⌜ ((C : Context) (l : List MouthProposal) → Shows (now (boundaries .entry)) (now (pairs .entry)) (now (starts .entry)) (now (counts .entry)) (now (marks .entry)) count C → ShownTallies C (now (tallies .entry)) → noRamp C a ≡ false → fullCut C a ≡ true → EndsOf C a ends → Filled C (now (mouths .entry)) (now (ramps .entry)) (now (outers .entry)) (now (kinds .entry)) (now (separations .entry)) n l → Filled C (now (mouths .exit)) (now (ramps .exit)) (now (outers .exit)) (now (kinds .exit)) (now (separations .exit)) r (l ++ toList (mouthCandidate C a m))) ⌝ }
 {
     if boundaries[NUMBERS_PER_BOUNDARY * m + 5] != 0 {
         return n;
@@ -172,6 +178,7 @@ fn push_plain(
         n,
         m,
         a,
+        ends,
     )
 }
 
@@ -191,13 +198,14 @@ fn push_mouths(
     separations: &mut [u64; 16384],
     first: usize,
     a: usize,
+    ends: OtherEnds,
 ) -> usize
     requires { ⌜ Shown (now boundaries) (now tallies) (now pairs) (now starts) (now counts) (now marks) count ⌝ }
     requires { ⌜ Roomy (now mouths) (now ramps) (now outers) (now kinds) (now separations) ⌝ }
     requires { ⌜ (first + countBelow count (plainAt (now boundaries)) ≤ maxCandidates) × (a < count) ⌝ }
     ensures { λ r. ⌜ r ≤ first + countBelow count (plainAt (now (boundaries .entry))) ⌝ }
     ensures { λ r. ⌜ Roomy (now (mouths .exit)) (now (ramps .exit)) (now (outers .exit)) (now (kinds .exit)) (now (separations .exit)) ⌝ }
-    ensures { λ r. ⌜ ((C : Context) (l : List MouthProposal) → Shows (now (boundaries .entry)) (now (pairs .entry)) (now (starts .entry)) (now (counts .entry)) (now (marks .entry)) count C → ShownTallies C (now (tallies .entry)) → noRamp C a ≡ false → fullCut C a ≡ true → Filled C (now (mouths .entry)) (now (ramps .entry)) (now (outers .entry)) (now (kinds .entry)) (now (separations .entry)) first l → Filled C (now (mouths .exit)) (now (ramps .exit)) (now (outers .exit)) (now (kinds .exit)) (now (separations .exit)) r (l ++ collect count (mouthCandidate C a))) ⌝ }
+    ensures { λ r. ⌜ ((C : Context) (l : List MouthProposal) → Shows (now (boundaries .entry)) (now (pairs .entry)) (now (starts .entry)) (now (counts .entry)) (now (marks .entry)) count C → ShownTallies C (now (tallies .entry)) → noRamp C a ≡ false → fullCut C a ≡ true → EndsOf C a ends → Filled C (now (mouths .entry)) (now (ramps .entry)) (now (outers .entry)) (now (kinds .entry)) (now (separations .entry)) first l → Filled C (now (mouths .exit)) (now (ramps .exit)) (now (outers .exit)) (now (kinds .exit)) (now (separations .exit)) r (l ++ collect count (mouthCandidate C a))) ⌝ }
 {
     let mut n = first;
     let mut m = 0;
@@ -218,6 +226,7 @@ fn push_mouths(
             n,
             m,
             a,
+            ends,
         );
         m += 1;
     }
@@ -254,6 +263,7 @@ fn push_ramp(
     if !full_cut(tallies, a) {
         return n;
     }
+    let ends = find_other_ends(boundaries, tallies, pairs, starts, count, a);
     push_mouths(
         boundaries,
         tallies,
@@ -269,6 +279,7 @@ fn push_ramp(
         &mut *separations,
         n,
         a,
+        ends,
     )
 }
 

@@ -1,29 +1,29 @@
 // What a mouth and a ramp propose, before the records of regions are looked at.
 use crate::approaches::Approach;
 use crate::approaches::approach_of;
+use crate::ends::OtherEnds;
+use crate::ends::other_end_at;
 use crate::measures::NUMBERS_PER_BOUNDARY;
 use crate::measures::broad_mouth;
 use crate::measures::nearby_representative;
 use crate::measures::overlay_representative;
 use crate::shapes::row_at;
 use crate::shapes::triangle_representative;
-use context::incidents::is_incident;
 use context::pairs::full_cut;
 ghost use mathlib.Core.Path.{_≡_};
-ghost use mathlib.Core.Bool.{true, false, not, _&&_, cond};
-ghost use Prim.Native.Nat.{ℕ, _+_, _-_, _*_, _≤_, _<_};
+ghost use mathlib.Core.Bool.{true, false, cond};
+ghost use Prim.Native.Nat.{ℕ, _+_, _-_, _≤_, _<_};
 ghost use lib.ListN.{length, getD};
-ghost use lib.Dec.{eqb};
-ghost use Rattle.definitions.specs.Limits.{numbersPerBoundary};
 ghost use Rattle.definitions.specs.Scan.{all};
 ghost use Rattle.definitions.specs.MouthShapes.{regionsOf, distinctRegions};
 ghost use Rattle.definitions.specs.Context.{Context, fullCut, noRamp};
 ghost use Rattle.definitions.specs.RampMouths.{otherEndIncident, broadMouth, overlayOnly, triangleMouth};
-ghost use Rattle.context.specs.Shown.{pairsBetween, ShownBoundaries, ShownTallies, ShownPairs, ShownAnchored};
+ghost use Rattle.context.specs.Shown.{pairsBetween, ShownTallies, ShownPairs, ShownIncidents, ShownAnchored};
 ghost use Rattle.context.specs.Rows.{Stretch, NamedRow};
 ghost use Rattle.ramp_boundaries.specs.Lent.{Shows, Shown};
 ghost use Rattle.ramp_boundaries.specs.Outers.{markAt, innerFits, withRegion};
 ghost use Rattle.ramp_boundaries.specs.Candidates.{Within, candidateForm, foundMouth, approachMouth};
+ghost use Rattle.ramp_boundaries.specs.Ends.{EndsOf, EndKnown};
 
 pub const PLAIN: u8 = 0;
 
@@ -56,43 +56,6 @@ fn incident_count(counts: &[u32], r: u32) -> u32
     ensures { λ x. ⌜ x ≡ getD (now (counts .entry)) (r - 1) 0 ⌝ }
 {
     counts[r as usize - 1]
-}
-
-// Whether boundary j is the other end of the ramp of boundary a.
-fn is_other_end(boundaries: &[u64], j: usize, a: usize) -> bool
-    requires { ⌜ (numbersPerBoundary * j + 8 < length (now boundaries)) × (numbersPerBoundary * a + 8 < length (now boundaries)) ⌝ }
-    ensures { λ r. ⌜ r ≡ (not (eqb (getD (now (boundaries .entry)) (numbersPerBoundary * j + 5) 0) 0) && (eqb (getD (now (boundaries .entry)) (numbersPerBoundary * j + 6) 0) (getD (now (boundaries .entry)) (numbersPerBoundary * a + 6) 0) && not (eqb (getD (now (boundaries .entry)) (numbersPerBoundary * j + 5) 0) (getD (now (boundaries .entry)) (numbersPerBoundary * a + 5) 0)))) ⌝ }
-{
-    let kind = boundaries[NUMBERS_PER_BOUNDARY * j + 5];
-    let id = boundaries[NUMBERS_PER_BOUNDARY * j + 6];
-    (kind != 0)
-        & ((id == boundaries[NUMBERS_PER_BOUNDARY * a + 6])
-            & (kind != boundaries[NUMBERS_PER_BOUNDARY * a + 5]))
-}
-
-// Whether the other end of the ramp of boundary a is an incident of region r.
-fn other_end_incident(
-    boundaries: &[u64],
-    pairs: &[u32],
-    starts: &[usize; 257],
-    count: usize,
-    a: usize,
-    r: u32,
-) -> bool
-    requires { ⌜ (numbersPerBoundary * count ≤ length (now boundaries)) × (a < count) ⌝ }
-    requires { ⌜ ((i : ℕ) → i < count → Stretch (now pairs) (now starts) i) ⌝ }
-    ensures { λ x. ⌜ ((C : Context) → C .count ≡ count → ShownBoundaries C (now (boundaries .entry)) → ShownPairs C (now (pairs .entry)) (now (starts .entry)) → x ≡ otherEndIncident C a r) ⌝ }
-{
-    let mut j = 0;
-    while j < count {
-        if is_other_end(boundaries, j, a) {
-            if is_incident(pairs, starts, j, r) {
-                return true;
-            }
-        }
-        j += 1;
-    }
-    false
 }
 
 // Whether region s of a star about `outer`, whose approach is r, fits.
@@ -130,25 +93,19 @@ fn inner_fit(
     true
 }
 
-// The proposal of a mouth of one pair.
+// The proposal of a mouth of one pair; `blocked` says that the ramp's other end is an incident of r.
 fn single_mouth(
-    boundaries: &[u64],
-    pairs: &[u32],
-    starts: &[usize; 257],
     counts: &[u32],
     marks: &[u16],
-    count: usize,
-    a: usize,
     outer: u32,
     r: u32,
+    blocked: bool,
     wide: bool,
     overlay: bool,
 ) -> Candidate
-    requires { ⌜ (numbersPerBoundary * count ≤ length (now boundaries)) × (a < count) ⌝ }
-    requires { ⌜ ((i : ℕ) → i < count → Stretch (now pairs) (now starts) i) ⌝ }
     requires { ⌜ (1 ≤ outer) × (outer ≤ length (now marks)) ⌝ }
     requires { ⌜ (1 ≤ r) × ((r ≤ length (now marks)) × (r ≤ length (now counts))) ⌝ }
-    ensures { λ x. ⌜ ((C : Context) (m : ℕ) → Shows (now (boundaries .entry)) (now (pairs .entry)) (now (starts .entry)) (now (counts .entry)) (now (marks .entry)) count C → (outer ≤ C .regions) × (r ≤ C .regions) → wide ≡ broadMouth C m a → overlay ≡ overlayOnly C m a → candidateForm C m a x ≡ approachMouth C m a (Approach.Single outer r)) ⌝ }
+    ensures { λ x. ⌜ ((C : Context) (m a : ℕ) → ShownIncidents C (now (counts .entry)) → ShownAnchored C (now (marks .entry)) → (outer ≤ C .regions) × (r ≤ C .regions) → blocked ≡ otherEndIncident C a r → wide ≡ broadMouth C m a → overlay ≡ overlayOnly C m a → candidateForm C m a x ≡ approachMouth C m a (Approach.Single outer r)) ⌝ }
 {
     if is_anchored(marks, r) {
         return Candidate::None;
@@ -157,7 +114,7 @@ fn single_mouth(
     if overlay & (is_anchored(marks, outer) | !two) {
         return Candidate::None;
     }
-    if other_end_incident(boundaries, pairs, starts, count, a, r) {
+    if blocked {
         return Candidate::None;
     }
     if (wide | overlay) & two {
@@ -167,26 +124,23 @@ fn single_mouth(
     }
 }
 
-// The proposal of a star.
+// The proposal of a star; `blocked` as above.
 fn star_mouth(
-    boundaries: &[u64],
     pairs: &[u32],
     starts: &[usize; 257],
     counts: &[u32],
     marks: &[u16],
-    count: usize,
     m: usize,
-    a: usize,
     outer: u32,
     r: u32,
+    blocked: bool,
     wide: bool,
     overlay: bool,
 ) -> Candidate
-    requires { ⌜ (numbersPerBoundary * count ≤ length (now boundaries)) × ((a < count) × (m < count)) ⌝ }
-    requires { ⌜ ((i : ℕ) → i < count → Stretch (now pairs) (now starts) i) ⌝ }
+    requires { ⌜ Stretch (now pairs) (now starts) m ⌝ }
     requires { ⌜ ((k : ℕ) → getD (now starts) m 0 ≤ k → k < getD (now starts) (m + 1) 0 → NamedRow (now pairs) (length (now counts)) k × NamedRow (now pairs) (length (now marks)) k) ⌝ }
     requires { ⌜ (1 ≤ r) × (r ≤ length (now counts)) ⌝ }
-    ensures { λ x. ⌜ ((C : Context) → Shows (now (boundaries .entry)) (now (pairs .entry)) (now (starts .entry)) (now (counts .entry)) (now (marks .entry)) count C → r ≤ C .regions → wide ≡ broadMouth C m a → overlay ≡ overlayOnly C m a → candidateForm C m a x ≡ approachMouth C m a (Approach.Star outer r)) ⌝ }
+    ensures { λ x. ⌜ ((C : Context) (a : ℕ) → ShownPairs C (now (pairs .entry)) (now (starts .entry)) → ShownIncidents C (now (counts .entry)) → ShownAnchored C (now (marks .entry)) → m < C .count → r ≤ C .regions → blocked ≡ otherEndIncident C a r → wide ≡ broadMouth C m a → overlay ≡ overlayOnly C m a → candidateForm C m a x ≡ approachMouth C m a (Approach.Star outer r)) ⌝ }
 {
     if overlay {
         return Candidate::None;
@@ -199,7 +153,7 @@ fn star_mouth(
     if !inner_fit(pairs, counts, marks, first, end, outer, r) {
         return Candidate::None;
     }
-    if other_end_incident(boundaries, pairs, starts, count, a, r) {
+    if blocked {
         return Candidate::None;
     }
     if wide {
@@ -249,55 +203,44 @@ fn triangle_mouth(pairs: &[u32], starts: &[usize; 257], marks: &[u16], m: usize)
     }
 }
 
-// The proposal of an approach of mouth m and ramp a.
+// The proposal of an approach of mouth m and of the ramp whose other end `ends` tells of.
 fn approach_mouth(
-    boundaries: &[u64],
     pairs: &[u32],
     starts: &[usize; 257],
     counts: &[u32],
     marks: &[u16],
-    count: usize,
     m: usize,
-    a: usize,
+    ends: OtherEnds,
     approach: Approach,
     wide: bool,
     overlay: bool,
 ) -> Candidate
-    requires { ⌜ (numbersPerBoundary * count ≤ length (now boundaries)) × ((a < count) × (m < count)) ⌝ }
-    requires { ⌜ ((i : ℕ) → i < count → Stretch (now pairs) (now starts) i) ⌝ }
+    requires { ⌜ Stretch (now pairs) (now starts) m ⌝ }
     requires { ⌜ ((k : ℕ) → getD (now starts) m 0 ≤ k → k < getD (now starts) (m + 1) 0 → NamedRow (now pairs) (length (now counts)) k × NamedRow (now pairs) (length (now marks)) k) ⌝ }
     requires { ⌜ Within (length (now counts)) approach × Within (length (now marks)) approach ⌝ }
-    ensures { λ x. ⌜ ((C : Context) → Shows (now (boundaries .entry)) (now (pairs .entry)) (now (starts .entry)) (now (counts .entry)) (now (marks .entry)) count C → Within (C .regions) approach → wide ≡ broadMouth C m a → overlay ≡ overlayOnly C m a → candidateForm C m a x ≡ approachMouth C m a approach) ⌝ }
+    ensures { λ x. ⌜ ((C : Context) (a : ℕ) → ShownPairs C (now (pairs .entry)) (now (starts .entry)) → ShownIncidents C (now (counts .entry)) → ShownAnchored C (now (marks .entry)) → m < C .count → Within (C .regions) approach → EndKnown C a ends approach → wide ≡ broadMouth C m a → overlay ≡ overlayOnly C m a → candidateForm C m a x ≡ approachMouth C m a approach) ⌝ }
 {
     match approach {
         Approach::None => Candidate::None,
-        Approach::Single(outer, r) => single_mouth(
-            boundaries,
-            pairs,
-            starts,
-            counts,
-            marks,
-            count,
-            a,
-            outer,
-            r,
-            wide,
-            overlay,
-        ),
-        Approach::Star(outer, r) => star_mouth(
-            boundaries,
-            pairs,
-            starts,
-            counts,
-            marks,
-            count,
-            m,
-            a,
-            outer,
-            r,
-            wide,
-            overlay,
-        ),
+        Approach::Single(outer, r) => {
+            let blocked = other_end_at(ends, r);
+            single_mouth(counts, marks, outer, r, blocked, wide, overlay)
+        }
+        Approach::Star(outer, r) => {
+            let blocked = other_end_at(ends, r);
+            star_mouth(
+                pairs,
+                starts,
+                counts,
+                marks,
+                m,
+                outer,
+                r,
+                blocked,
+                wide,
+                overlay,
+            )
+        }
     }
 }
 
@@ -322,10 +265,11 @@ pub fn mouth_candidate(
     count: usize,
     m: usize,
     a: usize,
+    ends: OtherEnds,
 ) -> Candidate
     requires { ⌜ Shown (now boundaries) (now tallies) (now pairs) (now starts) (now counts) (now marks) count ⌝ }
     requires { ⌜ (m < count) × (a < count) ⌝ }
-    ensures { λ x. ⌜ ((C : Context) → Shows (now (boundaries .entry)) (now (pairs .entry)) (now (starts .entry)) (now (counts .entry)) (now (marks .entry)) count C → ShownTallies C (now (tallies .entry)) → noRamp C a ≡ false → fullCut C a ≡ true → candidateForm C m a x ≡ foundMouth C a m) ⌝ }
+    ensures { λ x. ⌜ ((C : Context) → Shows (now (boundaries .entry)) (now (pairs .entry)) (now (starts .entry)) (now (counts .entry)) (now (marks .entry)) count C → ShownTallies C (now (tallies .entry)) → noRamp C a ≡ false → fullCut C a ≡ true → EndsOf C a ends → candidateForm C m a x ≡ foundMouth C a m) ⌝ }
 {
     if boundaries[NUMBERS_PER_BOUNDARY * m + 5] != 0 {
         return Candidate::None;
@@ -348,14 +292,12 @@ pub fn mouth_candidate(
         return triangle_mouth(pairs, starts, marks, m);
     }
     approach_mouth(
-        boundaries,
         pairs,
         starts,
         counts,
         marks,
-        count,
         m,
-        a,
+        ends,
         approach,
         wide,
         overlay & !nearby & !wide,

@@ -52,8 +52,8 @@ returns c =
       (omega arith, omega arith),
       (
         s .pre .1 .0,
-        λ C l S T ramp cut F.
-            filled-none F (none-found C (s .args .a) (s .args .m) (sym (ap (candidateForm C (s .args .m) (s .args .a)) (c .enum-told .given .1)) ∙ c .before .before .mouth-candidate .ensures C S T ramp cut)),
+        λ C l S T ramp cut E F.
+            filled-none F (none-found C (s .args .a) (s .args .m) (sym (ap (candidateForm C (s .args .m) (s .args .a)) (c .enum-told .given .1)) ∙ c .before .before .mouth-candidate .ensures C S T ramp cut E)),
       ),
     )
 
@@ -64,10 +64,10 @@ returns-2 c =
       (omega arith, omega arith),
       (
         roomy-put (s .pre .1 .0) (c .put-candidate .ensures),
-        λ C l S T ramp cut F.
+        λ C l S T ramp cut E F.
             let lm = below (S .counted) (s .pre .1 .1 .1 .0) in
             let la = below (S .counted) (s .pre .1 .1 .1 .1) in
-            let e = sym (ap (candidateForm C (s .args .m) (s .args .a)) (c .before .before .before .before .before .before .before .before .before .before .before .outer .given .1)) ∙ c .before .before .before .before .before .before .before .before .before .before .before .before .before .mouth-candidate .ensures C S T ramp cut in
+            let e = sym (ap (candidateForm C (s .args .m) (s .args .a)) (c .before .before .before .before .before .before .before .before .before .before .before .outer .given .1)) ∙ c .before .before .before .before .before .before .before .before .before .before .before .before .before .mouth-candidate .ensures C S T ramp cut E in
             let d = c .before .before .before .before .before .before .before .before .before .separation-of .ensures C (S .bounds) lm la in
             filled-more C (s .args .m) (s .args .a) F (s .pre .1 .0) (c .put-candidate .ensures) (s .pre .1 .1 .0) lm la (outer-inside C (s .args .a) (s .args .m) (S .rows .named (s .args .m) lm) _ _ e)
             (c .before .bits-of .ensures ∙ ap (toBits binary64) d) (near-found C (s .args .a) (s .args .m) _ _ e (sym (ap (λ x. not (lt maxMouthDistance x)) d) ∙ sym (c .before .before .before .before .before .before .before .before .is-close .ensures) ∙ c .before .before .before .before .before .before .before .if1 .taken)),
@@ -81,10 +81,10 @@ returns-3 c =
       (omega arith, omega arith),
       (
         s .pre .1 .0,
-        λ C l S T ramp cut F.
+        λ C l S T ramp cut E F.
             let lm = below (S .counted) (s .pre .1 .1 .1 .0) in
             let la = below (S .counted) (s .pre .1 .1 .1 .1) in
-            let e = sym (ap (candidateForm C (s .args .m) (s .args .a)) (c .before .before .before .before .outer .given .1)) ∙ c .before .before .before .before .before .before .mouth-candidate .ensures C S T ramp cut in
+            let e = sym (ap (candidateForm C (s .args .m) (s .args .a)) (c .before .before .before .before .outer .given .1)) ∙ c .before .before .before .before .before .before .mouth-candidate .ensures C S T ramp cut E in
             filled-none F (far-found C (s .args .a) (s .args .m) _ _ e (sym (ap (λ x. not (lt maxMouthDistance x)) (c .before .before .separation-of .ensures C (S .bounds) lm la)) ∙ sym (c .before .is-close .ensures) ∙ c .if1 .left)),
       ),
     )

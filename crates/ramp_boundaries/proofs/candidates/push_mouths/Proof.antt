@@ -12,6 +12,7 @@ use Rattle.laws.specs.ListLaws.ScanSteps.{count-next}
 use Rattle.context.specs.Shown.{ShownTallies}
 use Rattle.ramp_boundaries.specs.Lent.{Shows}
 use Rattle.ramp_boundaries.specs.Candidates.{mouthCandidate}
+use Rattle.ramp_boundaries.specs.Ends.{EndsOf}
 use Rattle.ramp_boundaries.specs.Listed.{Filled, Roomy, plainAt}
 use Rattle.ramp_boundaries.proofs.CandidateRoom.{count-upto, filled-as, first-list, next-list}
 use borrow.Author.Needs.{needs}
@@ -19,16 +20,16 @@ use Rattle.ramp_boundaries.proofs.candidates.push_mouths.Statement.{sta
 use Rattle.ramp_boundaries.proofs.candidates.push_mouths.Tie as tie
 
 abbrev Inv-loop : tie.InvT-loop
-Inv-loop boundaries tallies pairs starts counts marks count mouths₀ ramps₀ outers₀ kinds₀ separations₀ first a n₀ m₀ mouths ramps outers kinds separations n m =
+Inv-loop boundaries tallies pairs starts counts marks count mouths₀ ramps₀ outers₀ kinds₀ separations₀ first a ends n₀ m₀ mouths ramps outers kinds separations n m =
     (m ≤ count) × ((n ≤ first + countBelow m (plainAt boundaries)) × (Roomy mouths ramps outers kinds separations × ((C : Context) (l : List MouthProposal) → Shows boundaries pairs starts counts marks count C → ShownTallies C tallies
-    → noRamp C a ≡ false → fullCut C a ≡ true → Filled C mouths₀ ramps₀ outers₀ kinds₀ separations₀ first l → Filled C mouths ramps outers kinds separations n (l ++ collect m (mouthCandidate C a)))))
+    → noRamp C a ≡ false → fullCut C a ≡ true → EndsOf C a ends → Filled C mouths₀ ramps₀ outers₀ kinds₀ separations₀ first l → Filled C mouths ramps outers kinds separations n (l ++ collect m (mouthCandidate C a)))))
 
 abbrev μ-loop : tie.MeasureT-loop
-μ-loop boundaries tallies pairs starts counts marks count mouths₀ ramps₀ outers₀ kinds₀ separations₀ first a n₀ m₀ mouths ramps outers kinds separations n m = count - m
+μ-loop boundaries tallies pairs starts counts marks count mouths₀ ramps₀ outers₀ kinds₀ separations₀ first a ends n₀ m₀ mouths ramps outers kinds separations n m = count - m
 
 loop-holds : tie.Need-loop-holds Inv-loop μ-loop
 unfolding countBelow
-loop-holds c = (search needs, (omega arith, (c .before .before .before .before .before .pre .1 .0, λ C l S T ramp cut F. filled-as F (first-list l (mouthCandidate C (c .before .before .before .before .before .args .a))))))
+loop-holds c = (search needs, (omega arith, (c .before .before .before .before .before .pre .1 .0, λ C l S T ramp cut E F. filled-as F (first-list l (mouthCandidate C (c .before .before .before .before .before .args .a))))))
 
 push-plain-requires : tie.Need-push-plain-requires Inv-loop μ-loop
 push-plain-requires c κs =
@@ -51,7 +52,7 @@ loop-again c =
         omega (arith, c .push-plain .ensures .0, at .inv .1 .0, count-next (plainAt (s .args .boundaries .now)) (at .m)),
         (
           c .push-plain .ensures .1 .0,
-          λ C l S T ramp cut F. filled-as (c .push-plain .ensures .1 .1 C (l ++ collect (at .m) (mouthCandidate C (s .args .a))) S T ramp cut (at .inv .1 .1 .1 C l S T ramp cut F)) (next-list l (mouthCandidate C (s .args .a)) (at .m)),
+          λ C l S T ramp cut E F. filled-as (c .push-plain .ensures .1 .1 C (l ++ collect (at .m) (mouthCandidate C (s .args .a))) S T ramp cut E (at .inv .1 .1 .1 C l S T ramp cut E F)) (next-list l (mouthCandidate C (s .args .a)) (at .m)),
         ),
       ),
     )
@@ -64,7 +65,7 @@ returns c =
       subst (λ m. at .n ≤ s .args .first + countBelow m (plainAt (s .args .boundaries .now))) same (at .inv .1 .0),
       (
         at .inv .1 .1 .0,
-        λ C l S T ramp cut F. filled-as (at .inv .1 .1 .1 C l S T ramp cut F) (ap (λ m. l ++ collect m (mouthCandidate C (s .args .a))) same),
+        λ C l S T ramp cut E F. filled-as (at .inv .1 .1 .1 C l S T ramp cut E F) (ap (λ m. l ++ collect m (mouthCandidate C (s .args .a))) same),
       ),
     )
 

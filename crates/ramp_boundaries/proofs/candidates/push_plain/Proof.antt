@@ -28,7 +28,7 @@ returns c =
       omega arith,
       (
         s .pre .1 .0,
-        λ C l S T ramp cut F.
+        λ C l S T ramp cut E F.
             let lm = below (S .counted) (s .pre .1 .1 .1 .0) in
             filled-none F (none-found C (s .args .a) (s .args .m) (has-ramp C (s .args .a) (s .args .m) ramp cut (kind-shown (S .bounds) (s .args .m) lm ∙ ne-eqb _ 0 (c .if1 .taken)))),
       ),

@@ -5,7 +5,7 @@ use borrow.Author.Tests.{eq-eqb, ne-eqb}
 use Rattle.ramp_boundaries.specs.Candidates.{mouthCandidate}
 use Rattle.ramp_boundaries.specs.Listed.{plainAt}
 use Rattle.ramp_boundaries.proofs.RowLists.{negated-true, negated-false}
-use Rattle.ramp_boundaries.proofs.SafeLists.{below, kind-shown, tallies-at}
+use Rattle.ramp_boundaries.proofs.SafeLists.{below, stretch-at, tallies-at, rows-counted, kind-shown}
 use Rattle.ramp_boundaries.proofs.CandidateRoom.{ramp-fits, ramp-counted, none-counted, filled-as, same-list, no-ramp-none, no-cut-none}
 use borrow.Author.Needs.{needs}
 use Rattle.ramp_boundaries.proofs.candidates.push_ramp.Statement.{statement}
@@ -46,20 +46,25 @@ returns-2 c =
       ),
     )
 
+find-other-ends-requires : tie.Need-find-other-ends-requires
+find-other-ends-requires c κs =
+    let s = c .before .before .before .before .before .before .before .before .before in
+    ((rows-counted (s .pre .0), s .pre .1 .1 .1), (tallies-at (s .pre .0) (s .pre .1 .1 .1), λ i l. stretch-at (s .pre .0) l))
+
 push-mouths-requires : tie.Need-push-mouths-requires
 push-mouths-requires c κs =
-    let s = c .before .before .before .before .before .before .before .before .before .before .before .before .before .before in
-    (s .pre .0, (s .pre .1 .0, (ramp-fits (plainAt (s .args .boundaries .now)) (s .args .count) (omega (arith, s .pre .0 .shows .bounds .few, s .pre .0 .shows .counted)) (s .args .a) (s .args .n) (s .pre .1 .1 .1) (ne-eqb _ 0 (c .before .before .before .before .before .before .before .if1 .left)) (s .pre .1 .1 .0), s .pre .1 .1 .1)))
+    let s = c .before .before .before .before .before .before .before .before .before .before .before .before .before .before .before in
+    (s .pre .0, (s .pre .1 .0, (ramp-fits (plainAt (s .args .boundaries .now)) (s .args .count) (omega (arith, s .pre .0 .shows .bounds .few, s .pre .0 .shows .counted)) (s .args .a) (s .args .n) (s .pre .1 .1 .1) (ne-eqb _ 0 (c .before .before .before .before .before .before .before .before .if1 .left)) (s .pre .1 .1 .0), s .pre .1 .1 .1)))
 
 returns-3 : tie.Need-returns-3
 returns-3 c =
-    let s = c .before .before .before .before .before .before .before .before .before .before .before .before .before .before .before in (
-      ramp-counted (plainAt (s .args .boundaries .now)) (s .args .count) (omega (arith, s .pre .0 .shows .bounds .few, s .pre .0 .shows .counted)) (s .args .a) (s .args .n) _ (ne-eqb _ 0 (c .before .before .before .before .before .before .before .before .if1 .left)) (s .pre .1 .1 .0) (c .push-mouths .ensures .0),
+    let s = c .before .before .before .before .before .before .before .before .before .before .before .before .before .before .before .before in (
+      ramp-counted (plainAt (s .args .boundaries .now)) (s .args .count) (omega (arith, s .pre .0 .shows .bounds .few, s .pre .0 .shows .counted)) (s .args .a) (s .args .n) _ (ne-eqb _ 0 (c .before .before .before .before .before .before .before .before .before .if1 .left)) (s .pre .1 .1 .0) (c .push-mouths .ensures .0),
       (
         c .push-mouths .ensures .1 .0,
         λ C l S T F.
             let la = below (S .counted) (s .pre .1 .1 .1) in
-            c .push-mouths .ensures .1 .1 C l S T (kind-shown (S .bounds) (s .args .a) la ∙ ne-eqb _ 0 (c .before .before .before .before .before .before .before .before .if1 .left)) (sym (c .before .before .before .before .before .before .before .full-cut .ensures C T la) ∙ negated-false _ (c .before .before .before .before .before .before .if2 .left)) F,
+            c .push-mouths .ensures .1 .1 C l S T (kind-shown (S .bounds) (s .args .a) la ∙ ne-eqb _ 0 (c .before .before .before .before .before .before .before .before .before .if1 .left)) (sym (c .before .before .before .before .before .before .before .before .full-cut .ensures C T la) ∙ negated-false _ (c .before .before .before .before .before .before .before .if2 .left)) (c .before .before .before .before .before .before .find-other-ends .ensures C (S .counted) (S .bounds) T (S .rows)) F,
       ),
     )
 
@@ -74,5 +79,6 @@ push-ramp-spec =
     returns
     full-cut-requires
     returns-2
+    find-other-ends-requires
     push-mouths-requires
     returns-3)

@@ -2,6 +2,7 @@
 use mathlib.Core.Path.{sym, ap, _∙_, subst}
 use lib.ListN.{length}
 use Rattle.ramp_boundaries.specs.Candidates.{Within, approachMouth}
+use Rattle.ramp_boundaries.specs.Ends.{EndKnown}
 use borrow.Author.Needs.{needs}
 use Rattle.ramp_boundaries.proofs.mouths.approach_mouth.Statement.{statement}
 use Rattle.ramp_boundaries.proofs.mouths.approach_mouth.Tie as tie
@@ -12,42 +13,49 @@ enum-told c = search needs
 enum-known-approach : tie.Need-enum-known-approach
 enum-known-approach c = search needs
 
+other-end-at-requires : tie.Need-other-end-at-requires
+other-end-at-requires c κs = search needs
+
 single-mouth-requires : tie.Need-single-mouth-requires
 single-mouth-requires c κs =
     let s = c .before .before .before .before .before .before .before in
-    let k = c .before .approach .given .1 in
-    let n = subst (Within (length (s .args .counts .now))) k (s .pre .1 .1 .1 .0) in
-    let t = subst (Within (length (s .args .marks .now))) k (s .pre .1 .1 .1 .1) in
-    ((s .pre .0 .0, s .pre .0 .1 .0), (s .pre .1 .0, (t .0, (t .1 .0, (t .1 .1, n .1 .1)))))
+    let k = c .before .before .approach .given .1 in
+    let n = subst (Within (length (s .args .counts .now))) k (s .pre .1 .1 .0) in
+    let t = subst (Within (length (s .args .marks .now))) k (s .pre .1 .1 .1) in
+    (t .0, (t .1 .0, (t .1 .1, n .1 .1)))
 
 enum-known-approach-2 : tie.Need-enum-known-approach-2
 enum-known-approach-2 c = search needs
 
+other-end-at-requires-2 : tie.Need-other-end-at-requires-2
+other-end-at-requires-2 c κs = search needs
+
 star-mouth-requires : tie.Need-star-mouth-requires
 star-mouth-requires c κs =
     let s = c .before .before .before .before .before .before .before in
-    let n = subst (Within (length (s .args .counts .now))) (c .before .approach2 .given .1) (s .pre .1 .1 .1 .0) in
-    (s .pre .0, (s .pre .1 .0, (s .pre .1 .1 .0, n .1)))
+    let n = subst (Within (length (s .args .counts .now))) (c .before .before .approach2 .given .1) (s .pre .1 .1 .0) in
+    (s .pre .0, (s .pre .1 .0, n .1))
 
 returns : tie.Need-returns
 unfolding approachMouth
 returns c =
-    let s = c .before .before .before .before .before .before .args in
-    λ C S n w o. ap (approachMouth C (s .m) (s .a)) (sym (c .enum-told .given .1))
+    let s = c .before .before .before .before .before .args in
+    λ C a P I A l n e w o. ap (approachMouth C (s .m) a) (sym (c .enum-told .given .1))
 
 returns-2 : tie.Need-returns-2
 returns-2 c =
     let s = c .before .before .before .before .before .before .before .before .args in
-    let k = c .before .before .approach .given .1 in
-    λ C S n w o.
+    let k = c .before .before .before .approach .given .1 in
+    λ C a P I A l n e w o.
     let h = subst (Within (C .regions)) k n in
-    c .single-mouth .ensures C (s .m) S (h .0 .1, h .1 .1) w o ∙ ap (approachMouth C (s .m) (s .a)) (sym k)
+    c .single-mouth .ensures C (s .m) a I A (h .0 .1, h .1 .1) (c .before .other-end-at .ensures ∙ subst (EndKnown C a (s .ends)) k e) w o ∙ ap (approachMouth C (s .m) a) (sym k)
 
 returns-3 : tie.Need-returns-3
 returns-3 c =
     let s = c .before .before .before .before .before .before .before .before .args in
-    let k = c .before .before .approach2 .given .1 in
-    λ C S n w o. c .star-mouth .ensures C S (subst (Within (C .regions)) k n .1 .1) w o ∙ ap (approachMouth C (s .m) (s .a)) (sym k)
+    let k = c .before .before .before .approach2 .given .1 in
+    λ C a P I A l n e w o.
+    c .star-mouth .ensures C a P I A l (subst (Within (C .regions)) k n .1 .1) (c .before .other-end-at2 .ensures ∙ subst (EndKnown C a (s .ends)) k e) w o ∙ ap (approachMouth C (s .m) a) (sym k)
 
 pub approach-mouth-spec : {M : Type 1} → statement M
 approach-mouth-spec =
@@ -55,8 +63,10 @@ approach-mouth-spec =
     (tie.spec
     enum-told
     enum-known-approach
+    other-end-at-requires
     single-mouth-requires
     enum-known-approach-2
+    other-end-at-requires-2
     star-mouth-requires
     returns
     returns-2

@@ -1,12 +1,14 @@
 -- `mouths::mouth_candidate` meets its contract: each return by the tests that led there. Assumes nothing.
 use mathlib.Core.Path.{sym, _∙_}
-use mathlib.Core.Bool.{not}
+use mathlib.Core.Bool.{true, not}
 use borrow.Author.Tests.{eq-eqb, ne-eqb}
+use Rattle.definitions.specs.MouthShapes.{mouthShape}
 use Rattle.definitions.specs.Context.{fullPair}
 use Rattle.laws.specs.ListLaws.Tests.{both}
 use Rattle.ramp_boundaries.proofs.RowLists.{between-length, negated-true, negated-false}
 use Rattle.ramp_boundaries.proofs.FoundMouths.{triangle-two, has-ramp, not-full, no-shape, too-far, by-triangle, by-approach}
-use Rattle.ramp_boundaries.proofs.SafeLists.{below, placed-at, stretch-at, tallies-at, rows-counted, named-both, kind-shown, triangle-shown, overlay-only, named-in, approach-named}
+use Rattle.ramp_boundaries.proofs.SafeLists.{below, placed-at, stretch-at, tallies-at, named-both, kind-shown, triangle-shown, overlay-only, named-in, approach-named}
+use Rattle.ramp_boundaries.proofs.KnownEnds.{approach-known}
 use borrow.Author.Needs.{needs}
 use Rattle.ramp_boundaries.proofs.mouths.mouth_candidate.Statement.{statement}
 use Rattle.ramp_boundaries.proofs.mouths.mouth_candidate.Tie as tie
@@ -26,7 +28,7 @@ shared-slice-read-if1 c = search needs
 returns : tie.Need-returns
 returns c =
     let s = c .before .before .before .before .before .before .before in
-    λ C S T ramp cut.
+    λ C S T ramp cut E.
     let m = s .args .m in
     let a = s .args .a in
     let lm = below (S .counted) (s .pre .1 .0) in
@@ -39,7 +41,7 @@ full-cut-requires c κs = tallies-at (c .before .before .before .before .before 
 returns-2 : tie.Need-returns-2
 returns-2 c =
     let s = c .before .before .before .before .before .before .before .before .before in
-    λ C S T ramp cut.
+    λ C S T ramp cut E.
     let m = s .args .m in
     let a = s .args .a in
     let lm = below (S .counted) (s .pre .1 .0) in
@@ -62,7 +64,7 @@ is-none-requires c κs = search needs
 returns-3 : tie.Need-returns-3
 returns-3 c =
     let s = c .before .before .before .before .before .before .before .before .before .before .before .before .before in
-    λ C S T ramp cut.
+    λ C S T ramp cut E.
     let m = s .args .m in
     let a = s .args .a in
     let lm = below (S .counted) (s .pre .1 .0) in
@@ -83,7 +85,7 @@ overlay-representative-requires c κs = (placed-at (c .before .before .before .b
 returns-4 : tie.Need-returns-4
 returns-4 c =
     let s = c .before .before .before .before .before .before .before .before .before .before .before .before .before .before .before .before .before in
-    λ C S T ramp cut.
+    λ C S T ramp cut E.
     let m = s .args .m in
     let a = s .args .a in
     let lm = below (S .counted) (s .pre .1 .0) in
@@ -108,7 +110,7 @@ triangle-mouth-requires c κs =
 returns-5 : tie.Need-returns-5
 returns-5 c =
     let s = c .before .before .before .before .before .before .before .before .before .before .before .before .before .before .before .before .before .before .before in
-    λ C S T ramp cut.
+    λ C S T ramp cut E.
     let m = s .args .m in
     let a = s .args .a in
     let lm = below (S .counted) (s .pre .1 .0) in
@@ -122,30 +124,28 @@ returns-5 c =
 approach-mouth-requires : tie.Need-approach-mouth-requires
 approach-mouth-requires c κs =
     let s = c .before .before .before .before .before .before .before .before .before .before .before .before .before .before .before .before .before .before in (
-      (rows-counted (s .pre .0), (s .pre .1 .1, s .pre .1 .0)),
+      stretch-at (s .pre .0) (s .pre .1 .0),
       (
-        λ i l. stretch-at (s .pre .0) l,
-        (
-          named-both (s .pre .0) (s .pre .1 .0),
-          named-in (s .pre .0) (s .pre .1 .0) (fullPair (s .pre .0 .context) (s .args .a))
-              (c .before .before .before .before .before .before .before .approach-of .ensures (s .pre .0 .context) (s .pre .0 .cuts) (s .pre .0 .shows .rows) (below (s .pre .0 .shows .counted) (s .pre .1 .0)) (below (s .pre .0 .shows .counted) (s .pre .1 .1))),
-        ),
+        named-both (s .pre .0) (s .pre .1 .0),
+        named-in (s .pre .0) (s .pre .1 .0) (fullPair (s .pre .0 .context) (s .args .a))
+            (c .before .before .before .before .before .before .before .approach-of .ensures (s .pre .0 .context) (s .pre .0 .cuts) (s .pre .0 .shows .rows) (below (s .pre .0 .shows .counted) (s .pre .1 .0)) (below (s .pre .0 .shows .counted) (s .pre .1 .1))),
       ),
     )
 
 returns-6 : tie.Need-returns-6
 returns-6 c =
     let s = c .before .before .before .before .before .before .before .before .before .before .before .before .before .before .before .before .before .before .before in
-    λ C S T ramp cut.
+    λ C S T ramp cut E.
     let m = s .args .m in
     let a = s .args .a in
     let lm = below (S .counted) (s .pre .1 .0) in
     let la = below (S .counted) (s .pre .1 .1) in
-    c .approach-mouth .ensures C S (approach-named (S .rows) m lm (fullPair C a) (c .before .before .before .before .before .before .before .before .approach-of .ensures C T (S .rows) lm la))
+    let k = c .before .before .before .before .before .before .before .before .approach-of .ensures C T (S .rows) lm la in
+    c .approach-mouth .ensures C a (S .rows) (S .incidents) (S .anchored) lm (approach-named (S .rows) m lm (fullPair C a) k) (approach-known C a (s .args .ends) E (mouthShape true (C .pairs m)) k)
     (c .before .before .before .before .before .broad-mouth .ensures C (S .bounds) lm la)
     (overlay-only C m a (c .before .before .before .before .before .broad-mouth .ensures C (S .bounds) lm la) (c .before .before .before .before .nearby-representative .ensures C (S .bounds) lm la) (c .before .before .before .overlay-representative .ensures C (S .bounds) lm la))
     ∙ by-approach C a m ramp cut (kind-shown (S .bounds) m lm ∙ eq-eqb _ 0 (c .before .before .before .before .before .before .before .before .before .before .before .before .if1 .left)) (sym (c .before .before .before .before .before .before .before .before .before .before .before .full-cut .ensures C T lm) ∙ negated-false _ (c .before .before .before .before .before .before .before .before .before .before .if2 .left)) (S .rows .named m lm) (c .before .before .before .before .before .before .before .before .before .triangle-representative .result)
-    (triangle-shown (S .rows) m a lm la (c .before .before .before .before .before .before .before .before .before .triangle-representative .result) (c .before .before .before .before .before .before .before .before .before .triangle-representative .ensures)) (c .before .before .before .before .before .before .before .before .approach-of .result) (c .before .before .before .before .before .before .before .before .approach-of .ensures C T (S .rows) lm la)
+    (triangle-shown (S .rows) m a lm la (c .before .before .before .before .before .before .before .before .before .triangle-representative .result) (c .before .before .before .before .before .before .before .before .before .triangle-representative .ensures)) (c .before .before .before .before .before .before .before .before .approach-of .result) k
     (c .before .before .before .before .before .broad-mouth .result) (c .before .before .before .before .nearby-representative .result) (c .before .before .before .overlay-representative .result)
     (sym (c .before .before .before .before .before .broad-mouth .ensures C (S .bounds) lm la)) (sym (c .before .before .before .before .nearby-representative .ensures C (S .bounds) lm la)) (sym (c .before .before .before .overlay-representative .ensures C (S .bounds) lm la)) (negated-false _ (c .before .before .if4 .left)) (c .before .if5 .left)
 

@@ -11,10 +11,10 @@ is-anchored-requires c κs = search needs
 
 returns : tie.Need-returns
 returns c =
-    let s = c .before .before .before .before .before .before in
-    λ C m S n w o.
-    single-by C m (s .args .a) (s .args .outer) (s .args .r)
-    (anchored-shown (S .anchored) (s .args .r) (s .pre .1 .1 .1 .0) (n .1) (c .before .is-anchored .ensures) ∙ c .if1 .taken)
+    let s = c .before .before .before .before in
+    λ C m a I A n b w o.
+    single-by C m a (s .args .outer) (s .args .r)
+    (anchored-shown A (s .args .r) (s .pre .1 .0) (n .1) (c .before .is-anchored .ensures) ∙ c .if1 .taken)
     (refl)
     (refl)
     (refl)
@@ -27,46 +27,43 @@ is-anchored-requires-2 c κs = search needs
 
 returns-2 : tie.Need-returns-2
 returns-2 c =
-    let s = c .before .before .before .before .before .before .before .before .before in
-    λ C m S n w o.
-    single-by C m (s .args .a) (s .args .outer) (s .args .r)
-    (anchored-shown (S .anchored) (s .args .r) (s .pre .1 .1 .1 .0) (n .1) (c .before .before .before .before .is-anchored .ensures) ∙ c .before .before .before .if1 .left)
-    ((λ i. sym o i && ((anchored-shown (S .anchored) (s .args .outer) (s .pre .1 .1 .0 .0) (n .0) (c .before .is-anchored2 .ensures)) i || not ((two-shown (S .anchored) (S .incidents) (s .args .r) (s .pre .1 .1 .1 .0) (n .1) (c .before .before .incident-count .ensures)) i))) ∙ c .if2 .taken)
+    let s = c .before .before .before .before .before .before .before in
+    λ C m a I A n b w o.
+    single-by C m a (s .args .outer) (s .args .r)
+    (anchored-shown A (s .args .r) (s .pre .1 .0) (n .1) (c .before .before .before .before .is-anchored .ensures) ∙ c .before .before .before .if1 .left)
+    ((λ i. sym o i && ((anchored-shown A (s .args .outer) (s .pre .0 .0) (n .0) (c .before .is-anchored2 .ensures)) i || not ((two-shown A I (s .args .r) (s .pre .1 .0) (n .1) (c .before .before .incident-count .ensures)) i))) ∙ c .if2 .taken)
     (refl)
     (refl)
-
-other-end-incident-requires : tie.Need-other-end-incident-requires
-other-end-incident-requires c κs = search needs
 
 returns-3 : tie.Need-returns-3
 returns-3 c =
-    let s = c .before .before .before .before .before .before .before .before .before .before .before in
-    λ C m S n w o.
-    single-by C m (s .args .a) (s .args .outer) (s .args .r)
-    (anchored-shown (S .anchored) (s .args .r) (s .pre .1 .1 .1 .0) (n .1) (c .before .before .before .before .before .before .is-anchored .ensures) ∙ c .before .before .before .before .before .if1 .left)
-    ((λ i. sym o i && ((anchored-shown (S .anchored) (s .args .outer) (s .pre .1 .1 .0 .0) (n .0) (c .before .before .before .is-anchored2 .ensures)) i || not ((two-shown (S .anchored) (S .incidents) (s .args .r) (s .pre .1 .1 .1 .0) (n .1) (c .before .before .before .before .incident-count .ensures)) i))) ∙ c .before .before .if2 .left)
-    (sym (c .before .other-end-incident .ensures C (S .counted) (S .bounds) (S .rows)) ∙ c .if3 .taken)
+    let s = c .before .before .before .before .before .before .before .before in
+    λ C m a I A n b w o.
+    single-by C m a (s .args .outer) (s .args .r)
+    (anchored-shown A (s .args .r) (s .pre .1 .0) (n .1) (c .before .before .before .before .before .is-anchored .ensures) ∙ c .before .before .before .before .if1 .left)
+    ((λ i. sym o i && ((anchored-shown A (s .args .outer) (s .pre .0 .0) (n .0) (c .before .before .is-anchored2 .ensures)) i || not ((two-shown A I (s .args .r) (s .pre .1 .0) (n .1) (c .before .before .before .incident-count .ensures)) i))) ∙ c .before .if2 .left)
+    (sym b ∙ c .if3 .taken)
     (refl)
 
 returns-4 : tie.Need-returns-4
 returns-4 c =
-    let s = c .before .before .before .before .before .before .before .before .before .before .before .before in
-    λ C m S n w o.
-    single-by C m (s .args .a) (s .args .outer) (s .args .r)
-    (anchored-shown (S .anchored) (s .args .r) (s .pre .1 .1 .1 .0) (n .1) (c .before .before .before .before .before .before .before .is-anchored .ensures) ∙ c .before .before .before .before .before .before .if1 .left)
-    ((λ i. sym o i && ((anchored-shown (S .anchored) (s .args .outer) (s .pre .1 .1 .0 .0) (n .0) (c .before .before .before .before .is-anchored2 .ensures)) i || not ((two-shown (S .anchored) (S .incidents) (s .args .r) (s .pre .1 .1 .1 .0) (n .1) (c .before .before .before .before .before .incident-count .ensures)) i))) ∙ c .before .before .before .if2 .left)
-    (sym (c .before .before .other-end-incident .ensures C (S .counted) (S .bounds) (S .rows)) ∙ c .before .if3 .left)
-    ((λ i. (sym w i || sym o i) && (two-shown (S .anchored) (S .incidents) (s .args .r) (s .pre .1 .1 .1 .0) (n .1) (c .before .before .before .before .before .incident-count .ensures)) i) ∙ c .if4 .taken)
+    let s = c .before .before .before .before .before .before .before .before .before in
+    λ C m a I A n b w o.
+    single-by C m a (s .args .outer) (s .args .r)
+    (anchored-shown A (s .args .r) (s .pre .1 .0) (n .1) (c .before .before .before .before .before .before .is-anchored .ensures) ∙ c .before .before .before .before .before .if1 .left)
+    ((λ i. sym o i && ((anchored-shown A (s .args .outer) (s .pre .0 .0) (n .0) (c .before .before .before .is-anchored2 .ensures)) i || not ((two-shown A I (s .args .r) (s .pre .1 .0) (n .1) (c .before .before .before .before .incident-count .ensures)) i))) ∙ c .before .before .if2 .left)
+    (sym b ∙ c .before .if3 .left)
+    ((λ i. (sym w i || sym o i) && (two-shown A I (s .args .r) (s .pre .1 .0) (n .1) (c .before .before .before .before .incident-count .ensures)) i) ∙ c .if4 .taken)
 
 returns-5 : tie.Need-returns-5
 returns-5 c =
-    let s = c .before .before .before .before .before .before .before .before .before .before .before .before in
-    λ C m S n w o.
-    single-by C m (s .args .a) (s .args .outer) (s .args .r)
-    (anchored-shown (S .anchored) (s .args .r) (s .pre .1 .1 .1 .0) (n .1) (c .before .before .before .before .before .before .before .is-anchored .ensures) ∙ c .before .before .before .before .before .before .if1 .left)
-    ((λ i. sym o i && ((anchored-shown (S .anchored) (s .args .outer) (s .pre .1 .1 .0 .0) (n .0) (c .before .before .before .before .is-anchored2 .ensures)) i || not ((two-shown (S .anchored) (S .incidents) (s .args .r) (s .pre .1 .1 .1 .0) (n .1) (c .before .before .before .before .before .incident-count .ensures)) i))) ∙ c .before .before .before .if2 .left)
-    (sym (c .before .before .other-end-incident .ensures C (S .counted) (S .bounds) (S .rows)) ∙ c .before .if3 .left)
-    ((λ i. (sym w i || sym o i) && (two-shown (S .anchored) (S .incidents) (s .args .r) (s .pre .1 .1 .1 .0) (n .1) (c .before .before .before .before .before .incident-count .ensures)) i) ∙ c .if4 .left)
+    let s = c .before .before .before .before .before .before .before .before .before in
+    λ C m a I A n b w o.
+    single-by C m a (s .args .outer) (s .args .r)
+    (anchored-shown A (s .args .r) (s .pre .1 .0) (n .1) (c .before .before .before .before .before .before .is-anchored .ensures) ∙ c .before .before .before .before .before .if1 .left)
+    ((λ i. sym o i && ((anchored-shown A (s .args .outer) (s .pre .0 .0) (n .0) (c .before .before .before .is-anchored2 .ensures)) i || not ((two-shown A I (s .args .r) (s .pre .1 .0) (n .1) (c .before .before .before .before .incident-count .ensures)) i))) ∙ c .before .before .if2 .left)
+    (sym b ∙ c .before .if3 .left)
+    ((λ i. (sym w i || sym o i) && (two-shown A I (s .args .r) (s .pre .1 .0) (n .1) (c .before .before .before .before .incident-count .ensures)) i) ∙ c .if4 .left)
 
 pub single-mouth-spec : {M : Type 1} → statement M
 single-mouth-spec =
@@ -77,7 +74,6 @@ single-mouth-spec =
     incident-count-requires
     is-anchored-requires-2
     returns-2
-    other-end-incident-requires
     returns-3
     returns-4
     returns-5)

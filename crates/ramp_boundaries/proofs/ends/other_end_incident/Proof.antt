@@ -1,4 +1,4 @@
--- `mouths::other_end_incident` meets its contract. The invariant: no boundary passed is the other end and an incident. Assumes nothing.
+-- `ends::other_end_incident` meets its contract. The invariant: no boundary passed is the other end and an incident. Assumes nothing.
 use Prim.Native.Nat.{_-_, _≤_, _<_}
 use native.Mathlib.Nat.{le-antisymm}
 use mathlib.Core.Path.{_≡_, refl, sym, ap, ap₂, _∙_, subst}
@@ -12,8 +12,8 @@ use Rattle.laws.specs.ListLaws.ScanSteps.{any-none}
 use Rattle.context.specs.Shown.{ShownBoundaries, ShownPairs}
 use Rattle.ramp_boundaries.proofs.OtherEnds.{isOtherEnd, other-end-is}
 use borrow.Author.Needs.{needs}
-use Rattle.ramp_boundaries.proofs.mouths.other_end_incident.Statement.{statement}
-use Rattle.ramp_boundaries.proofs.mouths.other_end_incident.Tie as tie
+use Rattle.ramp_boundaries.proofs.ends.other_end_incident.Statement.{statement}
+use Rattle.ramp_boundaries.proofs.ends.other_end_incident.Tie as tie
 
 abbrev Inv-loop : tie.InvT-loop
 Inv-loop boundaries pairs starts count a r j₀ j =
