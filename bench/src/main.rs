@@ -25,6 +25,11 @@ fn main() {
     {
         return once(map, whose, call);
     }
+    if let [word, seconds, names @ ..] = &arguments[..]
+        && word == "alone"
+    {
+        return alone(seconds.parse().unwrap_or_else(|_| usage()), names);
+    }
     let budget = match arguments.first().map(|word| word.parse::<f64>()) {
         None => Duration::from_millis(300),
         Some(Ok(seconds)) if seconds > 0.0 => Duration::from_secs_f64(seconds),
@@ -46,7 +51,9 @@ fn main() {
 }
 
 fn usage() -> ! {
-    eprintln!("usage: bench [SECONDS a measurement] [NAME of a map...], or bench once MAP rust|ours|none CALL");
+    eprintln!(
+        "usage: bench [SECONDS a measurement] [NAME of a map...], or bench alone SECONDS NAME..., or bench once MAP rust|ours|none CALL"
+    );
     std::process::exit(2);
 }
 
@@ -63,6 +70,33 @@ fn once(map: &str, whose: &str, call: &str) {
             _ => usage(),
         }
     });
+}
+
+/// Each pass of the maps, with no calls beside those that it is told from: many more rounds in the same time.
+fn alone(seconds: f64, names: &[String]) {
+    println!("microseconds, the middle of many rounds, and by how much ours may be off");
+    for Named { name, map, .. } in maps::all().iter().filter(|named| names.iter().any(|name| name == named.name)) {
+        for pass in PASSES {
+            let at = |names: [&str; 8], name: &str| names.iter().position(|other| *other == name).expect("a call's name");
+            let times = with_calls(map, |mut rust, own| {
+                let (pass, call) = (format!("pass-{pass}"), format!("call-{pass}"));
+                let wanted = ["bare", "fewer", "plain", &call].map(|name| at(OWN, name));
+                let mut calls: Vec<_> =
+                    own.into_iter().enumerate().filter(|(place, _)| wanted.contains(place)).map(|(_, call)| call).collect();
+                calls.push(rust.swap_remove(at(RUST, &pass)));
+                time(Duration::from_secs_f64(seconds / 5.0), vec![calls]).swap_remove(0)
+            });
+            let [bare, fewer, plain, call, rust] = &times[..] else { panic!("five calls") };
+            let ours = call.less(bare).less(&plain.less(fewer));
+            println!(
+                "{name} pass {pass}: Rust {:.0}, ours {:.0} ± {:.0}, ratio {:.2}",
+                rust.middle(),
+                ours.middle(),
+                ours.error(),
+                ours.middle() / rust.middle()
+            );
+        }
+    }
 }
 
 fn passes(Named { name, about, map }: &Named, budget: Duration) {

@@ -20,6 +20,14 @@ impl Timing {
         sorted[sorted.len() / 2]
     }
 
+    /// The standard error of the middle, from the middle half of the times, as if they were normally distributed.
+    pub fn error(&self) -> f64 {
+        let mut sorted = self.0.clone();
+        sorted.sort_unstable_by(f64::total_cmp);
+        let half = sorted[sorted.len() * 3 / 4] - sorted[sorted.len() / 4];
+        0.93 * half / (sorted.len() as f64).sqrt()
+    }
+
     /// What this takes more than another, round by round.
     pub fn less(&self, other: &Self) -> Self {
         Self(self.0.iter().zip(&other.0).map(|(this, other)| this - other).collect())
