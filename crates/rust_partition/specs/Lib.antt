@@ -1,0 +1,4 @@
+pub mod Literal
+pub mod NeighborsAsRust
+pub mod AssessmentAsRust
+pub mod Example

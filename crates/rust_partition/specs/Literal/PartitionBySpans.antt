@@ -1,0 +1,27 @@
+-- `partition_by_spans` (areas.rs) as it is written there, of a grid and spans that passed its checks: the removed edges, the components, the assessments.
+-- Definitions only. Assumes nothing.
+use mathlib.Core.List.{List, map}
+use Prim.Native.Nat.{ℕ}
+use Rattle.definitions.specs.Grid.{Map}
+use Rattle.rust_partition.specs.Literal.CutMasks.{removedEdges}
+use Rattle.rust_partition.specs.Literal.Components.{Area, components}
+use Rattle.rust_partition.specs.Literal.Assessment.{Assessment, boundaryAssessment}
+
+-- SpanPartition
+pub record SpanPartition : Type 0 where
+  pub labels : List ℕ
+  pub areas : List Area
+  pub boundaries : List Assessment
+
+--     let (labels, areas) = components(self, &cut_masks);
+--     let boundaries = span_edges
+--         .iter()
+--         .map(|edges| boundary_assessment(edges, &labels))
+--         .collect();
+unfoldable pub partitionBySpans : Map → SpanPartition
+unfolding removedEdges components boundaryAssessment
+partitionBySpans M =
+    let removed = removedEdges M in
+    let flooded = components M (removed .masks) in
+    let ls = flooded .waiting .labels in
+    record { labels = ls; areas = flooded .areas; boundaries = map (λ edges. boundaryAssessment edges ls) (removed .spanEdges) }
