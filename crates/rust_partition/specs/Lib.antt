@@ -1,4 +1,9 @@
 pub mod Literal
 pub mod NeighborsAsRust
+pub mod MaskBits
+pub mod MasksAsRust
+pub mod OpenWays
+pub mod FloodState
+pub mod ComponentsAsRust
 pub mod AssessmentAsRust
 pub mod Example
