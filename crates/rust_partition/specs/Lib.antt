@@ -6,4 +6,5 @@ pub mod OpenWays
 pub mod FloodState
 pub mod ComponentsAsRust
 pub mod AssessmentAsRust
+pub mod PartitionAsRust
 pub mod Example
