@@ -115,6 +115,15 @@ class Definitions:
                 'pairs': groups(d.Verdict__pairRowsOf(C), 3), 'records': [self.record(r) for r in d.AtExit__recordsOf(C)],
                 'rows': [groups(d.Rows__flatRows(d.Rows__rowsOf(p, M)), 5) for p in (1, 2, 3)]}
 
+    def literal_partition(self, m):
+        """what the literal rendering of the Rust's `partition_by_spans` gives (crates/rust_partition)"""
+        d = self.d
+        d.forget()
+        P = d.PartitionBySpans__partitionBySpans(d.Grid__mapOf(m.width, m.height, tuple(m.cells), tuple(m.spans), (), ()))
+        assert [a.id for a in P.areas] == list(range(1, len(P.areas) + 1)) and sum(a.cellCount for a in P.areas) == sum(c % 2 for c in m.cells)
+        return {'labels': list(P.labels), 'regions': len(P.areas), 'tallies': groups(d.PartitionBySpans__talliesHeld(P), 2),
+                'pairs': groups(d.PartitionBySpans__pairRowsHeld(P), 3)}
+
     def call(self, m, lent, whole=True):
         """the answer, and the lists at exit; behind them the names of what was lent to be read only and is not as it was"""
         d = self.d
@@ -289,6 +298,8 @@ class Run:
         d = self.definitions
         if d:
             self.same('definitions: results', expected, d.results(m), where, m, lambda s: all_results(s) != d.results(s))
+            if m.width * m.height <= 400:        # the rendering changes whole lists at each step
+                self.same('literal partition', {name: expected[name] for name in ('labels', 'regions', 'tallies', 'pairs')}, d.literal_partition(m), where)
         r = random.Random(f'lists {self.options.seed}/{k}')
         m.pass_number = r.choice((1, 2, 3))
         if d:

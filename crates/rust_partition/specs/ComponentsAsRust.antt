@@ -58,8 +58,8 @@ module _ (M : Map) (cells : length (M .cells) ≡ cellCount M) (masks : List ℕ
     unfolding visitNeighbor flood.visitWay
     visit-is d e s =
         (λ i.
-            cond (hasBit masks c (bits i) || not (eqb (getD (s .labels) (expect (there i)) 0) 0)) s
-            (record { labels = set (s .labels) (expect (there i)) id; queue = s .queue ++ (expect (there i) ∷ []) }))
+        cond (hasBit masks c (bits i) || not (eqb (getD (s .labels) (expect (there i)) 0) 0)) s
+        (record { labels = set (s .labels) (expect (there i)) id; queue = s .queue ++ (expect (there i) ∷ []) }))
         ∙ ap (λ b. cond (b || not (eqb (getD (s .labels) t 0) 0)) s new) (bit-asked masks c (bitOf d) ∙ marks c d h e)
         ∙ go (any (pairEq (stepPair M c d)) (cutAll M)) (eqb (getD (s .labels) t 0) 0)
         ∙ ap (λ b. cond ((b && not (any (pairEq (stepPair M c d)) (cutAll M))) && eqb (getD (s .labels) t 0) 0) new s) (sym e)

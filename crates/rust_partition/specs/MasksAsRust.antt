@@ -133,8 +133,8 @@ module _ (M : Map) where
       unfolding markNeighbor
       neighbor-marked s =
           (λ i.
-              cond (leb (expect (there i)) c || not (cuts g p q)) s
-              (record { masks = orAt (orAt (s .masks) c (bits i)) (expect (there i)) (bits-back i); edges = s .edges ++ (record { lo = c; hi = expect (there i) } ∷ []) }))
+          cond (leb (expect (there i)) c || not (cuts g p q)) s
+          (record { masks = orAt (orAt (s .masks) c (bits i)) (expect (there i)) (bits-back i); edges = s .edges ++ (record { lo = c; hi = expect (there i) } ∷ []) }))
           ∙ (λ i. cond (leb (index M q) c || not (cuts g p q)) s (record { masks = set-both i; edges = s .edges ++ (edge M p q ∷ []) }))
           ∙ go (leb (index M q) c) refl (cuts g p q)
         where

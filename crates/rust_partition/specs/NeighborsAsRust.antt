@@ -16,7 +16,7 @@ use Rattle.definitions.specs.Scan.{filter, toList, onlyIf}
 use Rattle.definitions.specs.Grid.{Map, Position, at, cellCount, index, toward, directions, cellAt, isWalkable, walkable, isStep, neighbors}
 use Rattle.definitions.specs.Spans.{isZero}
 use Rattle.flood.proofs.Square.{In, walkable-in}
-use Rattle.rust_partition.specs.Literal.Neighbors.{andThen, isSomeAnd, filterMap, checkedAddSigned, indexRust, cellRust, Delta, minusOne, deltas, reachable, neighborRust, neighborsRust}
+use Rattle.rust_partition.specs.Literal.Neighbors.{andThen, isSomeAnd, filterMap, checkedAddSigned, indexRust, cellRust, Delta, delta, minusOne, reachable, neighborRust, neighborsRust}
 
 -- ---- one coordinate
 
@@ -81,7 +81,7 @@ module _ (M : Map) where
 
   -- ---- one direction
 
-  module _ (p : Position) (w : walkable M p ≡ true) (z : Delta) (d : Position) (X : Moves (z .x) (d .x)) (Y : Moves (z .y) (d .y)) where
+  module _ (p : Position) (w : walkable M p ≡ true) (z : Delta) (d : Position) (X : Moves (z .deltaX) (d .x)) (Y : Moves (z .deltaY) (d .y)) where
     abbrev q : Position
     q = toward p d
 
@@ -115,7 +115,7 @@ module _ (M : Map) where
           here : p .y + d .y - 1 ≡ p .y
           here = omega (arith, eqb-true (d .y) 1 h)
 
-    walks : (b : Bool) → walkable M q ≡ b → cond (not b) none (cond ((not (isZero (z .x)) && not (isZero (z .y))) && (not (isSomeAnd (cellRust M A) isWalkable) || not (isSomeAnd (cellRust M B) isWalkable))) none (some q)) ≡ onlyIf (b && true && walkable M A && walkable M B) q
+    walks : (b : Bool) → walkable M q ≡ b → cond (not b) none (cond ((not (isZero (z .deltaX)) && not (isZero (z .deltaY))) && (not (isSomeAnd (cellRust M A) isWalkable) || not (isSomeAnd (cellRust M B) isWalkable))) none (some q)) ≡ onlyIf (b && true && walkable M A && walkable M B) q
     walks false e = refl
     walks true e =
         (λ i. cond ((not (X .level i) && not (Y .level i)) && (not (cell-walkable A i) || not (cell-walkable B i))) none (some q))
@@ -155,13 +155,13 @@ module _ (M : Map) where
   unfolding neighborsRust filterMap neighbors
   neighbors-are p w =
       (λ i.
-          toList (neighbor-is p w (record { x = pos 0; y = minusOne }) (at 1 0) stays backwards i)
-          ++ (toList (neighbor-is p w (record { x = minusOne; y = pos 0 }) (at 0 1) backwards stays i)
-          ++ (toList (neighbor-is p w (record { x = pos 1; y = pos 0 }) (at 2 1) onwards stays i)
-          ++ (toList (neighbor-is p w (record { x = pos 0; y = pos 1 }) (at 1 2) stays onwards i)
-          ++ (toList (neighbor-is p w (record { x = minusOne; y = minusOne }) (at 0 0) backwards backwards i)
-          ++ (toList (neighbor-is p w (record { x = pos 1; y = minusOne }) (at 2 0) onwards backwards i)
-          ++ (toList (neighbor-is p w (record { x = minusOne; y = pos 1 }) (at 0 2) backwards onwards i)
-          ++ (toList (neighbor-is p w (record { x = pos 1; y = pos 1 }) (at 2 2) onwards onwards i)
-          ++ []))))))))
+      toList (neighbor-is p w (delta (pos 0) minusOne) (at 1 0) stays backwards i)
+      ++ (toList (neighbor-is p w (delta minusOne (pos 0)) (at 0 1) backwards stays i)
+      ++ (toList (neighbor-is p w (delta (pos 1) (pos 0)) (at 2 1) onwards stays i)
+      ++ (toList (neighbor-is p w (delta (pos 0) (pos 1)) (at 1 2) stays onwards i)
+      ++ (toList (neighbor-is p w (delta minusOne minusOne) (at 0 0) backwards backwards i)
+      ++ (toList (neighbor-is p w (delta (pos 1) minusOne) (at 2 0) onwards backwards i)
+      ++ (toList (neighbor-is p w (delta minusOne (pos 1)) (at 0 2) backwards onwards i)
+      ++ (toList (neighbor-is p w (delta (pos 1) (pos 1)) (at 2 2) onwards onwards i)
+      ++ []))))))))
       ∙ chosen (isStep M p) (toward p) directions

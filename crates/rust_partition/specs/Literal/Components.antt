@@ -66,12 +66,12 @@ module _ (M : Map) (cutMasks : List ℕ) where
   drain (suc rounds) id s =
       popFront (s .waiting .queue) s
       (λ index rest.
-          let position = positionOf M index in
-          drain rounds id
-          (record {
-            waiting = visitNeighbors id index position (record { labels = s .waiting .labels; queue = rest }) (neighborsRust M position);
-            cellCount = s .cellCount + 1;
-          }))
+      let position = positionOf M index in
+      drain rounds id
+      (record {
+        waiting = visitNeighbors id index position (record { labels = s .waiting .labels; queue = rest }) (neighborsRust M position);
+        cellCount = s .cellCount + 1;
+      }))
 
   --     if !grid.cells[start].walkable || labels[start] != 0 {
   --         continue;

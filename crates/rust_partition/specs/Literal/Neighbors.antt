@@ -55,11 +55,11 @@ cellRust M position = andThen (indexRust M position) (getElem? (M .cells))
 
 -- `(delta_x, delta_y)`
 pub record Delta : Type 0 where
-  pub x : ℤ
-  pub y : ℤ
+  pub deltaX : ℤ
+  pub deltaY : ℤ
 
 abbrev pub delta : ℤ → ℤ → Delta
-delta x y = record { x = x; y = y }
+delta x y = record { deltaX = x; deltaY = y }
 
 abbrev pub minusOne : ℤ
 minusOne = negsuc 0
@@ -103,7 +103,7 @@ deltas =
 unfoldable pub reachable : Map → Position → Delta → Position → ℕ → Option Position
 unfolding cellRust
 reachable M position d next nextCell =
-    let diagonal = not (isZero (d .x)) && not (isZero (d .y)) in
+    let diagonal = not (isZero (d .deltaX)) && not (isZero (d .deltaY)) in
     let sideA = at (next .x) (position .y) in
     let sideB = at (position .x) (next .y) in
     cond (not (isWalkable nextCell)) none
@@ -117,7 +117,7 @@ reachable M position d next nextCell =
 unfoldable pub neighborRust : Map → Position → Delta → Option Position
 unfolding cellRust reachable
 neighborRust M position d =
-    andThen (checkedAddSigned (position .x) (d .x)) (λ x. andThen (checkedAddSigned (position .y) (d .y)) (λ y. andThen (cellRust M (at x y)) (reachable M position d (at x y))))
+    andThen (checkedAddSigned (position .x) (d .deltaX)) (λ x. andThen (checkedAddSigned (position .y) (d .deltaY)) (λ y. andThen (cellRust M (at x y)) (reachable M position d (at x y))))
 
 --     DIRECTIONS
 --         .into_iter()
