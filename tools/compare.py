@@ -3,7 +3,7 @@
     python3 compare.py COUNT [--seed S] [--from K] [--oracle PROGRAM] [--edges N] [--large N] [--no-definitions] [--literal]
 
 COUNT maps of generate.py and N of edges.py, each for all three passes, compared in full: labels, region count, tallies, pairs, region records
-and rows; the answer and every lent list at exit, with lists that are long enough and with lists that may be too short; the
+and rows; of maps of at most 400 cells also the Rust's partition as crates/rust_partition renders it; the answer and every lent list at exit, with lists that are long enough and with lists that may be too short; the
 printed list; and as many damaged sheets: the printed list, and what reading alone answers and fills. The first differences
 are printed and minimised. Exit code 0 if there is none.
 """

@@ -4,12 +4,11 @@
 use Prim.Native.Nat.{ℕ}
 use mathlib.Core.Path.{_≡_, sym, ap, _∙_}
 use mathlib.Core.List.{List}
-use Rattle.definitions.specs.Grid.{Map}
 use Rattle.definitions.specs.RegionRecord.{Region}
 use Rattle.definitions.specs.Lists.{overwrite}
 use Rattle.definitions.specs.Partition.{labels}
 use Rattle.definitions.specs.Context.{contextOf}
-use Rattle.definitions.specs.Verdict.{Lent, Answer, mapIn, pairRowsOf, verdict, partitionVerdict}
+use Rattle.definitions.specs.Verdict.{Lent, Answer, mapIn, pairRowsOf}
 use Rattle.definitions.specs.AtExit.{talliesOf, callExit, partitionExit, exitWith, stageOf}
 use Rattle.areas.specs.declared.Partitioned.{Partitioned}
 use Rattle.areas.specs.Answers.{answerOf}

@@ -17,7 +17,7 @@ use Rattle.laws.specs.OrderLaws.StableSort.{After, Sorted, sort-sorted}
 use Rattle.laws.specs.OrderLaws.PairOrder.{pair-same, pair-weak, pair-total, Ascending, none, next, ascending-unique}
 use Rattle.laws.specs.OrderLaws.PairInsertion.{any-addPairs}
 use Rattle.laws.specs.RegionLaws.PairLaws.{pairsOf-ascending}
-use Rattle.rust_partition.specs.Literal.Assessment.{Walked, walkEdge, walkEdges, dedupFrom, dedup, Assessment, boundaryAssessment}
+use Rattle.rust_partition.specs.Literal.Assessment.{Walked, walkEdge, walkEdges, dedupFrom, dedup, boundaryAssessment}
 
 -- ---- the walk
 

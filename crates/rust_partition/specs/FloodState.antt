@@ -1,7 +1,7 @@
 -- The flood over the ways of a graph on the numbers below n, and its invariant. Labels are compared with the final ones, and what is labelled and does not wait leads
 -- only to labelled cells. A visit of an unlabelled cell labels it and lets it wait, so that the labelled cells less the waiting ones stay equally many: this is what bounds the
 -- rounds. The ways are the eight directions. Assumes, as section parameters, the graph and the final labels.
-use Prim.Native.Nat.{ℕ, suc, _+_, _≤_, _<_}
+use Prim.Native.Nat.{ℕ, _+_, _≤_, _<_}
 use native.Mathlib.Omega.{arith}
 use mathlib.Core.Path.{_≡_, refl, sym, ap, _∙_}
 use mathlib.Core.Bool.{Bool, true, false, _&&_, _||_, cond, or-true, false≢true}

@@ -1,10 +1,10 @@
 -- `neighbors` as the Rust writes it, of a walkable cell, is the definitions' (`neighbors-are`), and `index` finds the index of every walkable cell (`index-walkable`) and of
 -- every position in the grid (`index-inside`). The argument: a cell is walkable by `cell` exactly if it is by `walkable`; the definitions ask all four cells of a step, which of
 -- a straight one are its own two. Assumes nothing.
-use Prim.Native.Nat.{ℕ, zero, suc, _+_, _-_, _*_, _≤_, _<_}
+use Prim.Native.Nat.{ℕ, zero, suc, _+_, _-_, _<_}
 use native.Mathlib.Omega.{arith}
-use mathlib.Core.Path.{_≡_, refl, sym, ap, ap₂, _∙_}
-use mathlib.Core.Bool.{Bool, true, false, not, _&&_, _||_, cond, true≢false, false≢true}
+use mathlib.Core.Path.{_≡_, refl, sym, ap, _∙_}
+use mathlib.Core.Bool.{Bool, true, false, not, _&&_, _||_, cond, false≢true}
 use mathlib.Core.Option.{Option, none, some}
 use mathlib.Core.List.{List, [], _∷_, _++_, map}
 use lib.ListN.{length, getD, getElem?, List·getD-eq-default}

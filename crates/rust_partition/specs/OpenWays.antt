@@ -1,7 +1,7 @@
 -- The open ways of a map's cells: the steps in the eight directions that no span cuts. Labels are the same at both ends (`labels-level`), and a set of cells that no open
 -- way leaves is the same at both cells of every uncut step (`uncut-level`). The argument: every uncut step is an open way from its smaller cell, and every open way
 -- has its way back. Assumes nothing.
-use Prim.Native.Nat.{ℕ, _<_, min, max}
+use Prim.Native.Nat.{ℕ, _<_}
 use native.Mathlib.Omega.{arith}
 use mathlib.Core.Path.{_≡_, refl, sym, ap, ap₂, _∙_, subst}
 use mathlib.Core.Bool.{Bool, true, false, not, _&&_, cond, false≢true}
@@ -9,9 +9,9 @@ use mathlib.Core.List.{List, [], _∷_, map, List·Memᴰ}
 use lib.ListN.{getD}
 use lib.Dec.{ltb}
 use borrow.Author.Tests.{ltb-true, ltb-false, lt-ltb}
-use Rattle.definitions.specs.Scan.{any, filter, gather}
+use Rattle.definitions.specs.Scan.{any, filter}
 use Rattle.definitions.specs.Grid.{Map, Position, Pair, pairEq, edge, isStep, toward, index, positionOf, directions, neighbors, onward, cellCount}
-use Rattle.definitions.specs.Partition.{Joined, here, along, allSteps, cutAll, uncut, labels}
+use Rattle.definitions.specs.Partition.{here, along, allSteps, cutAll, uncut, labels}
 use Rattle.laws.specs.ListLaws.Lists.{All, done, more, all-map, all-both, all-filter}
 use Rattle.laws.specs.ListLaws.Members.{all-at, all-members, all-mapped, filter-passes}
 use Rattle.laws.specs.ListLaws.Below.{gather-below, gather-at}

@@ -5,31 +5,28 @@ use Prim.Native.Nat.{ℕ, zero, suc, _+_, _*_, _≤_, _<_}
 use native.Mathlib.Omega.{arith}
 use native.Mathlib.Nat.{mul-comm}
 use mathlib.Core.Path.{_≡_, refl, sym, ap, _∙_}
-use mathlib.Core.Bool.{_&&_}
 use mathlib.Core.Option.{Option, none, some}
 use mathlib.Core.List.{List, [], _∷_, _++_, map, append-nil, append-assoc}
 use lib.ListN.{length}
-use lib.Dec.{eqb, leb}
+use lib.Dec.{leb}
 use borrow.Author.Tests.{leb-true, eqb-true}
 use Rattle.definitions.specs.Limits.{isSide, numbersPerSpan}
 use Rattle.definitions.specs.Scan.{filter, concatMap, gather, run}
-use Rattle.definitions.specs.Grid.{Map, Pair, mapOf, cellCount, spanCount}
+use Rattle.definitions.specs.Grid.{Map, cellCount, spanCount}
 use Rattle.definitions.specs.Spans.{cutSteps}
-use Rattle.definitions.specs.Partition.{labels, regionCount, isSeparated, pairsOf}
+use Rattle.definitions.specs.Partition.{labels, regionCount, isSeparated}
 use Rattle.definitions.specs.Context.{Context, contextOf}
 use Rattle.definitions.specs.Refusals.{Refusal, unless, sidesFault, cellsFault, isWhole, spansRefusal}
 use Rattle.definitions.specs.Verdict.{Lent, mapIn, refusal, firstRefusal, pairRowsOf, pairsFault, partitionHasRoom, verdict, partitionVerdict}
 use Rattle.definitions.specs.AtExit.{talliesOf}
 use Rattle.laws.specs.ListLaws.Tests.{both}
-use Rattle.laws.specs.ListLaws.Lists.{All, done, more}
 use Rattle.laws.specs.ListLaws.NoFault.{no-fault}
 use Rattle.laws.specs.ListLaws.Scans.{tab-ext}
 use Rattle.laws.specs.RegionLaws.PairLaws.{cutOf-at, pairs-at}
 use Rattle.laws.specs.TableLaws.AcceptedCalls.{accepted}
 use Rattle.rust_partition.specs.Literal.CutMasks.{removedEdges}
-use Rattle.rust_partition.specs.Literal.Components.{components}
 use Rattle.rust_partition.specs.Literal.Assessment.{Assessment, boundaryAssessment}
-use Rattle.rust_partition.specs.Literal.PartitionBySpans.{SpanPartition, partitionBySpans, talliesHeld, pairRowsFrom, pairRowsHeld}
+use Rattle.rust_partition.specs.Literal.PartitionBySpans.{partitionBySpans, talliesHeld, pairRowsFrom, pairRowsHeld}
 use Rattle.rust_partition.specs.MasksAsRust.{masks-are, edges-are}
 use Rattle.rust_partition.specs.ComponentsAsRust.{labels-are, areas-count}
 use Rattle.rust_partition.specs.AssessmentAsRust.{assessed}

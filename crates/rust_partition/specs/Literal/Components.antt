@@ -1,7 +1,7 @@
 -- `components` (areas.rs) as it is written there: the flood, with its queue and its labels by first cell. The `while` loop is given a bound on its rounds, which it
--- never meets (Flood: each cell is queued once). Definitions only. Assumes nothing.
+-- never meets (FloodRounds: each cell is queued once). Definitions only. Assumes nothing.
 use Prim.Native.Nat.{ℕ, zero, suc, _+_}
-use mathlib.Core.Bool.{Bool, not, _||_, cond}
+use mathlib.Core.Bool.{not, _||_, cond}
 use mathlib.Core.List.{List, [], _∷_, _++_}
 use lib.ListN.{length, getD, set, replicate}
 use lib.Dec.{eqb}

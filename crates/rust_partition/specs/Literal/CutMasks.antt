@@ -13,7 +13,7 @@ use Rattle.definitions.specs.Grid.{Map, Position, Segment, Pair, canonical, cel
 use Rattle.definitions.specs.Spans.{diff, natOf, cuts, candidatePositions}
 use Rattle.rust_partition.specs.Literal.Neighbors.{indexRust, neighborsRust}
 
--- `expect`. (Where there is none the Rust would stop; the crate proves that there always is one: Indexes.)
+-- `expect`. (Where there is none the Rust would stop. There always is one: `index-inside`, `index-walkable` of NeighborsAsRust, `candidates-inside` of Candidates.)
 abbrev pub expect : Option ℕ → ℕ
 expect none = 0
 expect (some n) = n
