@@ -18,13 +18,13 @@ import sys
 import time
 from collections import Counter
 
+import package  # noqa: F401
 import damage
 import edges
 import generate
-import reference
-import sheet_bytes
-from hypotenuse import bits, double
-from reference import Lent, LENT, Map, groups
+from jenwyllt.unproved import reference, sheet_bytes
+from jenwyllt.unproved.hypotenuse import bits, double
+from jenwyllt.unproved.reference import Lent, LENT, Map, groups
 
 sys.path.insert(0, os.path.join(os.path.dirname(os.path.abspath(__file__)), 'antt2py'))
 sys.setrecursionlimit(1_000_000)

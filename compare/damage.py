@@ -2,9 +2,10 @@
 import math
 import random
 
-from hypotenuse import bits
+import package  # noqa: F401
 from plan import spice, ulp_up
-from sheet_bytes import number_bytes
+from jenwyllt.unproved.hypotenuse import bits
+from jenwyllt.unproved.sheet_bytes import number_bytes
 
 
 def spots(numbers, size):

@@ -10,9 +10,10 @@ import random
 import sys
 from collections import Counter
 
+import package  # noqa: F401
 import generate
-import reference
 from plan import Plan, flipped, padded, transposed
+from jenwyllt.unproved import reference
 
 
 def placed(p, ends, *cuts):

@@ -9,10 +9,11 @@ import random
 import sys
 from collections import Counter
 
+import package  # noqa: F401
 import damage
-import reference
 from plan import Plan, beside, padded, spice, ulp_down, ulp_up, uneven
-from sheet_bytes import keptlist
+from jenwyllt.unproved import reference
+from jenwyllt.unproved.sheet_bytes import keptlist
 
 # ---- families
 

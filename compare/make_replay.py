@@ -11,12 +11,12 @@ import os
 from collections import Counter
 from dataclasses import replace
 
+import package  # noqa: F401
 import compare
-import reference
-import sheet_bytes
 import stored
-from reference import Lent
 from replay_cases import RECORD, case_of, short_of_room, variants
+from jenwyllt.unproved import reference, sheet_bytes
+from jenwyllt.unproved.reference import Lent
 
 CRATES = os.path.join(os.path.dirname(os.path.abspath(__file__)), '../crates')
 VARIED = ('case-J', 'mouth-outer-anchored', 'interior', 'triangle-meets-occupied')

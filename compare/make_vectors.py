@@ -12,13 +12,13 @@ import random
 import subprocess
 from collections import Counter
 
+import package  # noqa: F401
 import compare
 import damage
 import generate
-import reference
-import sheet_bytes
-from hypotenuse import GREATEST, LEAST, SIGN, answer, bits, units
-from reference import Map, groups
+from jenwyllt.unproved import reference, sheet_bytes
+from jenwyllt.unproved.hypotenuse import GREATEST, LEAST, SIGN, answer, bits, units
+from jenwyllt.unproved.reference import Map, groups
 
 HERE = os.path.dirname(os.path.abspath(__file__))
 TAKEN = ' taken '                                # stands in the notes on proposals that are taken

@@ -19,15 +19,15 @@ import time
 sys.path.insert(0, os.path.join(os.path.dirname(os.path.abspath(__file__)), 'antt2py'))
 sys.setrecursionlimit(1_000_000)
 
+import package  # noqa: F401, E402
 import antt2py                                   # noqa: E402
 import compare                                   # noqa: E402
 import damage                                    # noqa: E402
 import edges                                     # noqa: E402
 import generate                                  # noqa: E402
 import native                                    # noqa: E402
-import reference                                 # noqa: E402
-import sheet_bytes                               # noqa: E402
-from hypotenuse import bits                      # noqa: E402
+from jenwyllt.unproved import reference, sheet_bytes  # noqa: E402
+from jenwyllt.unproved.hypotenuse import bits  # noqa: E402
 
 SWAPS = [('&&', '||'), ('leb', 'ltb'), ('le', 'lt'), ('any', 'all'), ('anyBelow', 'allBelow'), ('min', 'max'), ('fmin', 'fmax'), ('.lo', '.hi'), ('.a', '.b'),
          ('.x', '.y'), ('.px', '.py'), ('.minX', '.maxX'), ('.minY', '.maxY'), ('.inner', '.outer'), ('.first', '.second'), ('.firstPort', '.secondPort'),

@@ -1,8 +1,9 @@
 """A map in the making, and what may be done to any such plan: turning, padding, disturbing."""
 import math
 
-from hypotenuse import bits
-from reference import Map
+import package  # noqa: F401
+from jenwyllt.unproved.hypotenuse import bits
+from jenwyllt.unproved.reference import Map
 
 
 def ulp_up(x):

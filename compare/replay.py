@@ -5,10 +5,11 @@
 import os
 import sys
 
+import package  # noqa: F401
 import compare
-import sheet_bytes
-from hypotenuse import answer, double
-from reference import groups
+from jenwyllt.unproved import sheet_bytes
+from jenwyllt.unproved.hypotenuse import answer, double
+from jenwyllt.unproved.reference import groups
 
 
 def words(line, word):

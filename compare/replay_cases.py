@@ -2,8 +2,9 @@
 from dataclasses import dataclass, replace
 from itertools import combinations
 
-from hypotenuse import bits
-from reference import Map, groups
+import package  # noqa: F401
+from jenwyllt.unproved.hypotenuse import bits
+from jenwyllt.unproved.reference import Map, groups
 
 BEYOND = 5                                       # so many entries more than needed are lent
 RECORD, ROW, BOUNDARY = 11, 5, 9                 # numbers of each

@@ -1,7 +1,8 @@
 """Reads the stored answers of vectors/ back. README.md there says what they hold."""
 import os
 
-import sheet_bytes
+import package  # noqa: F401
+from jenwyllt.unproved import sheet_bytes
 
 VECTORS = os.path.join(os.path.dirname(os.path.abspath(__file__)), '../vectors')
 

@@ -8,7 +8,7 @@ from typing import NoReturn
 
 from . import __version__, commands
 from ._library import NotBuilt
-from .commands._streams import Failed
+from .commands._streams import Failed, Refused, said
 from .refusal import Refusal
 
 END = 'Exit status: 0 answered, 1 refused, 2 wrong use or a failure of the system.'
@@ -34,14 +34,9 @@ def parser() -> argparse.ArgumentParser:
     return top
 
 
-def leave(status: int) -> int:
-    """flushes what was printed; where that fails nothing more is written, not even at the end of Python"""
-    try:
-        sys.stdout.flush()
-    except OSError as wrong:
-        print(f'jenwyllt: standard output: {wrong.strerror}', file=sys.stderr)
-        status = 2
-    if status == 2:
+def quietly(status: int) -> int:
+    """nothing more is written at the end of Python where standard output failed"""
+    if status == 2 and sys.stdout is not None:
         try:
             os.dup2(os.open(os.devnull, os.O_WRONLY), sys.stdout.fileno())
         except (OSError, ValueError):
@@ -52,19 +47,15 @@ def leave(status: int) -> int:
 def main(words: list[str] | None = None) -> int:
     args = parser().parse_args(words)
     try:
-        return leave(args.run(args))
-    except Refusal as refusal:
-        print(f'jenwyllt: {refusal}', file=sys.stderr)
-        return leave(1)
+        return args.run(args)
+    except (Refused, Refusal) as wrong:
+        said(wrong)
+        return 1
     except (Failed, NotBuilt) as wrong:
-        print(f'jenwyllt: {wrong}', file=sys.stderr)
-        return leave(2)
-    except OSError as wrong:
-        print(f'jenwyllt: {wrong.filename or "standard output"}: {wrong.strerror}', file=sys.stderr)
-        return leave(2)
+        said(wrong)
     except KeyboardInterrupt:
-        print('jenwyllt: interrupted', file=sys.stderr)
-        return leave(2)
+        said('interrupted')
+    return quietly(2)
 
 
 if __name__ == '__main__':

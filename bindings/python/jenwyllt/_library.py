@@ -23,7 +23,7 @@ class NotBuilt(Exception):
 def folders() -> list[Path]:
     """where the library is looked for: target/lib of a checkout, then lib of the prefix that the package is installed under"""
     package = Path(__file__).resolve().parent
-    return [package.parents[2] / 'target' / 'lib', package.parents[2]]
+    return [package.parents[2] / 'target' / 'lib', package.parents[1]]
 
 
 @functools.cache
@@ -40,11 +40,23 @@ def library() -> ctypes.CDLL:
     raise NotBuilt(f'{paths[0]} is missing: tools/build_library.sh builds it')
 
 
+MOST = {kind: 256 ** ctypes.sizeof(kind) - 1 for kind in (U8, U16, U32, U64)}
+
+
+def fitting(kind: type, number: Any) -> Any:
+    """the number itself; ctypes would cut one that is too large, or negative, without a word"""
+    if kind in MOST and not 0 <= number <= MOST[kind]:
+        raise ValueError(f'{number} is not from 0 to {MOST[kind]}')
+    return number
+
+
 def lent(kind: type, entries: int | Iterable[Any]) -> ctypes.Array[Any]:
     """an array of these entries, or of so many zero ones"""
     if isinstance(entries, int):
         return (kind * entries)()
-    those = list(entries)
+    if isinstance(entries, bytes) and kind is U8:
+        return (kind * len(entries)).from_buffer_copy(entries)
+    those = [fitting(kind, entry) for entry in entries]
     return (kind * len(those))(*those)
 
 
@@ -81,7 +93,7 @@ class Function:
         words: list[Any] = []
         for (name, kind), given in zip(self.parameters.items(), arguments, strict=True):
             if not isinstance(kind, ListOf):
-                words.append(given)
+                words.append(fitting(kind, given))
                 continue
             if not isinstance(given, ctypes.Array) or given._type_ is not kind.kind:
                 raise TypeError(f'{self.name}: {name} must be an array of {kind.kind.__name__}')

@@ -1,4 +1,4 @@
-"""What subcommands read and write: files by name, - for the standard streams."""
+"""What subcommands read and write: files by name, - for the standard streams, and the ways in which that fails."""
 from __future__ import annotations
 
 import sys
@@ -9,20 +9,35 @@ class Failed(Exception):
     """the system, or the user's words, did not allow it: exit status 2"""
 
 
+class Unread(Failed):
+    """an input could not be read; others may still be"""
+
+
+class Refused(Exception):
+    """an input is not as it must be: exit status 1"""
+
+
 def shown(name: str) -> str:
     return 'standard input' if name == '-' else name
 
 
-def read(name: str, wanted: str = 'a sheet or its text') -> bytes:
+def said(wrong: object) -> None:
+    """a line on standard error"""
+    print(f'jenwyllt: {wrong}', file=sys.stderr, flush=True)
+
+
+def read(name: str, wanted: str) -> bytes:
     """the bytes of a file or of standard input; where that is a terminal, a line says what is waited for"""
     try:
         if name != '-':
             return Path(name).read_bytes()
+        if sys.stdin is None:
+            raise Unread('standard input is closed')
         if sys.stdin.isatty():
-            print(f'jenwyllt: waiting for {wanted} on standard input; ends with Control-D', file=sys.stderr)
+            said(f'waiting for {wanted} on standard input; Control-D ends it')
         return sys.stdin.buffer.read()
     except OSError as wrong:
-        raise Failed(f'{shown(name)}: {wrong.strerror}') from wrong
+        raise Unread(f'{shown(name)}: {wrong.strerror}') from wrong
 
 
 def write(name: str, data: bytes | str) -> None:
@@ -32,7 +47,8 @@ def write(name: str, data: bytes | str) -> None:
         if name != '-':
             Path(name).write_bytes(out)
             return
-        sys.stdout.flush()
+        if sys.stdout is None:
+            raise Failed('standard output is closed')
         sys.stdout.buffer.write(out)
         sys.stdout.buffer.flush()
     except OSError as wrong:

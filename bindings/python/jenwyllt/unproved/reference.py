@@ -10,7 +10,7 @@ import math
 from collections import Counter, deque
 from dataclasses import dataclass, field
 
-from hypotenuse import bits, double, hypot
+from .hypotenuse import bits, double, hypot
 
 DIRECTIONS = [(0, -1), (-1, 0), (1, 0), (0, 1), (-1, -1), (1, -1), (-1, 1), (1, 1)]
 MOST = 256

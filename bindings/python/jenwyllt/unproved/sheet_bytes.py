@@ -1,11 +1,7 @@
 """The sheet as bytes: writer, reader, and what `keptlist` prints. Written from the scope paper, 'The sheet and the printed list'.
-
-Run with a sheet on standard input it prints the kept list or the refusal.
 """
-import sys
-
-import reference
-from reference import Lent, Map
+from . import reference
+from .reference import Lent, Map
 
 KEPTLIST_BYTES = 65_536
 KEPTLIST_CELLS = 4_096
@@ -130,7 +126,3 @@ def keptlist(data, notes=None):
         return f'refused {number} at {value}\n'
     rows = reference.groups(lent.output[:5 * value], 5)
     return f'kept {value} of {len(m.boundaries) // 9}\n' + ''.join(' '.join(map(str, row)) + '\n' for row in rows)
-
-
-if __name__ == '__main__':
-    sys.stdout.write(keptlist(sys.stdin.buffer.read()))

@@ -1,12 +1,10 @@
 """The cases of the scope paper, and a few of the reader, against the rendering in Python."""
 import unittest
 
-import hypotenuse
-import reference
-import sheet_bytes
-from hypotenuse import answer, bits, double
-from reference import Assessment, Boundary, Map, RegionStats
-from sheet_bytes import keptlist, number_bytes, sheet_of
+from jenwyllt.unproved import hypotenuse, reference
+from jenwyllt.unproved.hypotenuse import answer, bits, double
+from jenwyllt.unproved.reference import Assessment, Boundary, Map, RegionStats
+from jenwyllt.unproved.sheet_bytes import keptlist, number_bytes, sheet_of
 
 EIGHT = bits(8.0)
 
@@ -98,7 +96,3 @@ class Sheets(unittest.TestCase):
         self.check([1, 9, 1, 1, 1] + list(number_bytes(257)), 'refused 3 at 0')
         self.check(bytes(65537), 'refused 14 at 65536')
         self.check([1] + [0] * 65535, 'refused 1 at 0')
-
-
-if __name__ == '__main__':
-    unittest.main()
