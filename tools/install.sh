@@ -33,7 +33,7 @@ sed -e "s|@PREFIX@|$prefix|" -e "s|@VERSION@|$version|" include/jenwyllt.pc.in >
 
 put 755 target/bin/keptlist bin
 rm -rf "$prefix/lib/jenwyllt"
-(cd bindings/python && find jenwyllt -name '*.py') | while IFS= read -r module; do
+(cd bindings/python && find jenwyllt -name '*.py' -o -name py.typed) | while IFS= read -r module; do
     put 644 "bindings/python/$module" "lib/jenwyllt/$(dirname "$module")"
 done
 # The same script as in the checkout, which finds the package beside the library.
@@ -41,5 +41,6 @@ sed "s|^sys.path\[0\] = .*|sys.path[0] = str(Path(__file__).resolve().parents[1]
 chmod 755 "$prefix/bin/jenwyllt"
 
 put 644 docs/jenwyllt.1 share/man/man1
+echo '.so man1/jenwyllt.1' >"$prefix/share/man/man1/keptlist.1"
 for file in LICENSE LICENSE-MIT LICENSE-APACHE NOTICE CHANGELOG.md; do put 644 "$file" share/doc/jenwyllt; done
 echo "installed below $prefix"
