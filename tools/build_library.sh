@@ -48,6 +48,7 @@ for name in $EXPORTS; do
     if [ ! -f "target/staticlib/lib$name.a" ] || [ "$(made_from "$name")" != "$(cat "$parts/$name.sum" 2>/dev/null)" ]; then changed="$changed $name"; fi
 done
 if [ -n "$changed" ]; then
+    echo "build_library: proving and building$changed; with nothing proved yet this takes about ten minutes on two cores ($parts/check.log)" >&2
     # What they share is proved first, so that no two builds prove it at once.
     shared=$(for name in $changed; do below "$name"; done | sort -u)
     # shellcheck disable=SC2086
@@ -92,4 +93,4 @@ ar rcsD "$lib/libjenwyllt.a" $objects
 # shellcheck disable=SC2086
 cc -shared -o "$lib/libjenwyllt.so" -Wl,-soname,"libjenwyllt.so.$major" -Wl,-z,defs $objects
 ln -sf libjenwyllt.so "$lib/libjenwyllt.so.$major"
-echo "$lib/libjenwyllt.a and libjenwyllt.so: $(wc -l <"$parts/exports") functions"
+echo "build_library: $lib/libjenwyllt.a and libjenwyllt.so, $(wc -l <"$parts/exports") functions" >&2
