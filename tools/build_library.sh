@@ -38,6 +38,14 @@ build() { # NAME
     rm -f "$parts/$1.sum"
     rt staticlib "$1" >"$parts/$1.log" 2>&1 && made_from "$1" >"$parts/$1.sum"
 }
+# Starts a build and comes back once that proves its own crate. Before, rt goes through what the crate rests on and leaves what it finds in files of
+# fixed names, so that no two builds may do that at once; target/log/NAME.say is there from then on.
+begin() { # NAME
+    rm -f "target/log/$1.say"
+    build "$1" &
+    begun=$!
+    while [ ! -e "target/log/$1.say" ] && kill -0 "$begun" 2>/dev/null; do sleep 0.1; done
+}
 wait_for() { # NAME:PROCESS
     wait "${1#*:}" || { log_of "$parts/${1%:*}.log"; stop 1 "${1%:*} was not built"; }
 }
@@ -49,15 +57,15 @@ for name in $EXPORTS; do
 done
 if [ -n "$changed" ]; then
     echo "build_library: proving and building$changed; with nothing proved yet this takes about ten minutes on two cores ($parts/check.log)" >&2
-    # What they share is proved first, so that no two builds prove it at once.
+    # What they rest on is proved first, so that each build finds it proved.
     shared=$(for name in $changed; do below "$name"; done | sort -u)
     # shellcheck disable=SC2086
     rt check $shared >"$parts/check.log" 2>&1 || { log_of "$parts/check.log"; stop 1 "what the library rests on is not proved"; }
 fi
 running=''
 for name in $changed; do
-    build "$name" &
-    running="$running $name:$!"
+    begin "$name"
+    running="$running $name:$begun"
     # shellcheck disable=SC2086
     set -- $running
     if [ $# -ge "${RT_JOBS:-2}" ]; then
