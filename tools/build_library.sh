@@ -1,9 +1,10 @@
 #!/bin/sh
 # Builds target/lib/libjenwyllt.a and target/lib/libjenwyllt.so from the crates that export functions, listed here. A crate's exports are named
 # CRATE_NAME, as the toolchain asks; in the library each is jenwyllt_NAME, and nothing else of a crate can be seen. The archive of a crate is taken as it
-# stands where neither the crate nor one below it has changed. RT_JOBS says how many crates are built at a time (2 without it).
+# stands where neither the crate nor one below it has changed. RT_JOBS says how many crates are built at a time (2 without it); those that take longest
+# come first.
 set -eu
-EXPORTS="jenwyllt topology"
+EXPORTS="topology jenwyllt"
 
 cd "$(dirname "$0")/.."
 lib=target/lib
@@ -34,20 +35,30 @@ made_from() { # NAME: a sum over all that its archive is made from
 log_of() { # FILE
     tail -n 20 "$1" >&2
 }
+# A build leaves its status in a file when it ends.
 build() { # NAME
-    rm -f "$parts/$1.sum"
-    rt staticlib "$1" >"$parts/$1.log" 2>&1 && made_from "$1" >"$parts/$1.sum"
+    status=0
+    rt staticlib "$1" >"$parts/$1.log" 2>&1 && made_from "$1" >"$parts/$1.sum" || status=$?
+    echo "$status" >"$parts/$1.status"
 }
 # Starts a build and comes back once that proves its own crate. Before, rt goes through what the crate rests on and leaves what it finds in files of
 # fixed names, so that no two builds may do that at once; target/log/NAME.say is there from then on.
 begin() { # NAME
-    rm -f "target/log/$1.say"
+    rm -f "$parts/$1.sum" "$parts/$1.status" "target/log/$1.say"
     build "$1" &
-    begun=$!
-    while [ ! -e "target/log/$1.say" ] && kill -0 "$begun" 2>/dev/null; do sleep 0.1; done
+    while [ ! -e "target/log/$1.say" ] && [ ! -e "$parts/$1.status" ]; do sleep 0.1; done
 }
-wait_for() { # NAME:PROCESS
-    wait "${1#*:}" || { log_of "$parts/${1%:*}.log"; stop 1 "${1%:*} was not built"; }
+# Waits until fewer than so many builds run.
+until_below() { # COUNT
+    while :; do
+        left=''
+        for one in $running; do if [ ! -e "$parts/$one.status" ]; then left="$left $one"; fi; done
+        running=$left
+        # shellcheck disable=SC2086
+        set -- "$1" $running
+        [ $(($# - 1)) -ge "$1" ] || return 0
+        sleep 0.2
+    done
 }
 
 mkdir -p "$parts"
@@ -64,17 +75,14 @@ if [ -n "$changed" ]; then
 fi
 running=''
 for name in $changed; do
+    until_below "${RT_JOBS:-2}"
     begin "$name"
-    running="$running $name:$begun"
-    # shellcheck disable=SC2086
-    set -- $running
-    if [ $# -ge "${RT_JOBS:-2}" ]; then
-        wait_for "$1"
-        shift
-        running=$*
-    fi
+    running="$running $name"
 done
-for one in $running; do wait_for "$one"; done
+until_below 1
+for name in $changed; do
+    [ "$(cat "$parts/$name.status")" -eq 0 ] || { log_of "$parts/$name.log"; stop 1 "$name was not built"; }
+done
 
 # One object a crate: its exports renamed, all else local.
 objects=''
