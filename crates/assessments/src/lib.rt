@@ -7,6 +7,7 @@ use cut_steps::cell::is_near;
 use cut_steps::cell::is_set;
 use cut_steps::pick;
 use cut_steps::span_at;
+use flood::direction_of;
 use flood::direction_table;
 use region_pairs::NUMBERS_PER_PAIR;
 use region_pairs::insert_pair;
@@ -149,6 +150,7 @@ fn assess_directions(
     let table = direction_table();
     let mut a = start;
     for d in 0..8 {
+        let way = direction_of(table[d]);
         a = assess_direction(
             width,
             height,
@@ -160,8 +162,8 @@ fn assess_directions(
             x,
             y,
             mask,
-            table[d].x,
-            table[d].y,
+            way.x,
+            way.y,
         );
     }
     a

@@ -9,9 +9,8 @@ use Rattle.definitions.specs.Grid.{at, directions}
 use Rattle.laws.specs.ListLaws.Lists.{All, done, more}
 use Rattle.laws.specs.ListLaws.Members.{all-place}
 use Rattle.flood.specs.Masks.{opposite}
-use Rattle.flood.specs.declared.Direction.{Direction}
 use Rattle.flood.specs.Walk.{directionAt}
-use Rattle.flood.specs.Inner.{positionAt}
+use Rattle.flood.specs.Inner.{placed}
 
 abbrev opposites : List ℕ
 opposites = 3 ∷ 2 ∷ 1 ∷ 0 ∷ 7 ∷ 6 ∷ 5 ∷ 4 ∷ []
@@ -44,5 +43,5 @@ all-by-place x [] h = done
 all-by-place x (a ∷ l) h = more (h 0 (omega arith)) (all-by-place x l (λ i b. h (suc i) (omega arith)))
 
 -- a table of the code that has the eight directions has each at its number
-pub table-at : (t : List Direction) → map positionAt t ≡ directions → (d : ℕ) → positionAt (getD t d (record { x = 0; y = 0 })) ≡ directionAt d
-table-at t e d = sym (List·getD-map positionAt t d (record { x = 0; y = 0 })) ∙ ap (λ l. getD l d (at 0 0)) e
+pub table-at : (t : List ℕ) → map placed t ≡ directions → (d : ℕ) → placed (getD t d 0) ≡ directionAt d
+table-at t e d = sym (List·getD-map placed t d 0) ∙ ap (λ l. getD l d (at 0 0)) e

@@ -11,6 +11,10 @@ use Rattle.flood.specs.State.{State}
 
 -- ---- a direction of a position
 
+-- the direction at place p of the three by three square around the cell, row by row from 0 (document 02, request 5). Its bit in a mask is p again.
+abbrev pub placed : ℕ → Position
+placed p = at (p % 3) (p / 3)
+
 abbrev pub positionAt : Direction → Position
 positionAt d = at (d .x) (d .y)
 

@@ -9,7 +9,7 @@ ghost use Rattle.flood.specs.Masks.{cutBit, withBit};
 ghost use Rattle.flood.specs.Walk.{gridOf, graphOf, landing};
 ghost use Rattle.flood.specs.State.{Ran, Visited};
 ghost use Rattle.flood.specs.Contract.{Lent, CutMap, Masked, Flooded};
-ghost use Rattle.flood.specs.Inner.{positionAt, Nearby, Inner, Inside, Says, Stepping, Ready, Visiting};
+ghost use Rattle.flood.specs.Inner.{placed, positionAt, Nearby, Inner, Inside, Says, Stepping, Ready, Visiting};
 
 // A direction, each coordinate moved by 1 so that none is negative.
 pub struct Direction {
@@ -17,23 +17,25 @@ pub struct Direction {
     pub y: usize,
 }
 
-// The eight directions, in the order of `neighbors` of lib.rs.
-pub const DIRECTIONS: [Direction; 8] = [
-    Direction { x: 1, y: 0 },
-    Direction { x: 0, y: 1 },
-    Direction { x: 2, y: 1 },
-    Direction { x: 1, y: 2 },
-    Direction { x: 0, y: 0 },
-    Direction { x: 2, y: 0 },
-    Direction { x: 0, y: 2 },
-    Direction { x: 2, y: 2 },
-];
+// The eight directions, in the order of `neighbors` of lib.rs: each is its place in the three by three square around the cell, row by row from 0. The place is
+// also the bit of the direction in a mask of cut steps.
+pub const DIRECTIONS: [u8; 8] = [1, 3, 5, 7, 0, 2, 6, 8];
 
 // The table as one value, for a loop to read.
-pub fn direction_table() -> [Direction; 8]
-    ensures { λ r. ⌜ map positionAt r ≡ directions ⌝ }
+pub fn direction_table() -> [u8; 8]
+    ensures { λ r. ⌜ map placed r ≡ directions ⌝ }
 {
     DIRECTIONS
+}
+
+// The direction at a place of the square.
+pub fn direction_of(place: u8) -> Direction
+    ensures { λ r. ⌜ positionAt r ≡ placed place ⌝ }
+{
+    Direction {
+        x: (place % 3) as usize,
+        y: (place / 3) as usize,
+    }
 }
 
 // A number of a slice as an index: in a function of its own it asks for no proof that the element fits.
@@ -191,6 +193,7 @@ fn spread(
     let inner = is_inner(width, height, x, y);
     let mut end = tail;
     for d in 0..8 {
+        let way = direction_of(table[d]);
         end = visit(
             width,
             height,
@@ -203,8 +206,8 @@ fn spread(
             x,
             y,
             inner,
-            table[d].x,
-            table[d].y,
+            way.x,
+            way.y,
             end,
         );
     }

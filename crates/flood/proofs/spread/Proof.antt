@@ -2,7 +2,7 @@
 -- does not change, since the queue only grows at its end. Assumes nothing.
 use Prim.Native.Nat.{_≤_, _<_, _-_, _*_}
 use native.Mathlib.Omega.{arith}
-use mathlib.Core.Path.{_≡_}
+use mathlib.Core.Path.{_≡_, _∙_}
 use lib.ListN.{getD}
 use borrow.Author.Needs.{needs}
 use Rattle.flood.specs.Walk.{gridOf, graphOf, directionAt}
@@ -25,17 +25,31 @@ abbrev μ-loop : tie.MeasureT-loop
 
 -- the function's entry, from its first call on
 abbrev entry : tie.After-direction-table Inv-loop μ-loop → tie.Start Inv-loop μ-loop
-entry c = c .before .before .before .before .before
+entry c = let known : tie.After-shared-slice-known2 Inv-loop μ-loop = c .before .before .before in known .before .before
 
--- the turn's begin, from its end
+-- from the loop: the cell at the queue's head, and the table
+abbrev at-cell : tie.At-loop Inv-loop μ-loop → tie.After-wide Inv-loop μ-loop
+at-cell l = l .before .before
+
+abbrev at-table : tie.At-loop Inv-loop μ-loop → tie.After-direction-table Inv-loop μ-loop
+at-table l = at-cell l .before .before
+
+-- of a turn: the visit, from the turn's end; the direction, from the visit on; and the turn's begin
+
+abbrev at-visit : tie.After-slice-known5 Inv-loop μ-loop → tie.After-visit Inv-loop μ-loop
+at-visit c = let labels : tie.After-labels Inv-loop μ-loop = c .before .before .before in labels .before
+
+abbrev at-direction : tie.After-visit-arg2 Inv-loop μ-loop → tie.After-direction-of Inv-loop μ-loop
+at-direction c = c .before .before
+
 abbrev turn : tie.After-slice-known5 Inv-loop μ-loop → tie.In-loop Inv-loop μ-loop
-turn c = c .before .before .before .before .before .before .before
+turn c = at-direction (at-visit c .before) .before
 
 direction-table-requires : tie.Need-direction-table-requires Inv-loop μ-loop
 direction-table-requires c κs = search needs
 
 mul-wide : tie.Need-mul-wide Inv-loop μ-loop
-mul-wide c = omega (arith, tail-le (c .before .before .before .before .before .pre .state), c .before .before .before .before .before .pre .busy, c .before .before .before .before .before .pre .grid .few)
+mul-wide c = omega (arith, tail-le (entry c .pre .state), entry c .pre .busy, entry c .pre .grid .few)
 
 slice-read-wide : tie.Need-slice-read-wide Inv-loop μ-loop
 slice-read-wide c = omega (arith, tail-le (entry (c .before) .pre .state), entry (c .before) .pre .state .room, entry (c .before) .pre .busy)
@@ -61,25 +75,23 @@ is-inner-requires c κs =
 loop-holds : tie.Need-loop-holds Inv-loop μ-loop
 loop-holds c = (omega arith, ran-start (entry (c .before .before .before) .pre .state))
 
-mul-visit : tie.Need-mul-visit Inv-loop μ-loop
-mul-visit c = omega (arith, c .before .before .loop-test .taken)
+array-read-direction-of : tie.Need-array-read-direction-of Inv-loop μ-loop
+array-read-direction-of c = search needs
 
-element-copy-out-visit : tie.Need-element-copy-out-visit Inv-loop μ-loop
-element-copy-out-visit c = c .before .before .loop-test .taken
+direction-of-requires : tie.Need-direction-of-requires Inv-loop μ-loop
+direction-of-requires c κs = search needs
 
-mul-visit-2 : tie.Need-mul-visit-2 Inv-loop μ-loop
-mul-visit-2 c = omega (arith, c .before .before .loop-test .taken)
-
-element-copy-out-visit-2 : tie.Need-element-copy-out-visit-2 Inv-loop μ-loop
-element-copy-out-visit-2 c = c .before .before .loop-test .taken
-
--- what the table has at d
-direction : (c : tie.In-loop Inv-loop μ-loop) → positionAt (getD (c .before .before .before .before .before .direction-table .result) (c .before .loop .d) (record { x = 0; y = 0 })) ≡ directionAt (c .before .loop .d)
-direction c = table-at (c .before .before .before .before .before .direction-table .result) (c .before .before .before .before .before .direction-table .ensures) (c .before .loop .d)
+-- the direction that is decoded is that of number d
+direction : (c : tie.After-direction-of Inv-loop μ-loop) → positionAt (c .direction-of .result) ≡ directionAt (c .before .before .loop .d)
+direction c =
+    let t = at-table (c .before .before) .direction-table in
+    c .direction-of .ensures ∙ table-at (t .result) (t .ensures) (c .before .before .loop .d)
 
 visit-requires : tie.Need-visit-requires Inv-loop μ-loop
 visit-requires c κs =
-    visiting (entry (c .before .before .before .before .before .before .before) .pre) (c .before .before .before .loop .inv .1) (c .before .before .loop-test .taken) (c .before .before .before .before .before .wide .ensures) (c .before .before .before .before .is-inner .ensures) (direction (c .before .before))
+    let way = at-direction c in
+    let l = way .before in
+    visiting (entry (at-table (l .before)) .pre) (l .before .loop .inv .1) (l .loop-test .taken) (at-cell (l .before) .wide .ensures) (l .before .before .is-inner .ensures) (direction way)
 
 add-d : tie.Need-add-d Inv-loop μ-loop
 add-d c = omega (arith, turn c .loop-test .taken)
@@ -88,11 +100,12 @@ loop-less : tie.Need-loop-less Inv-loop μ-loop
 loop-less c = omega (arith, turn c .loop-test .taken)
 
 loop-again : tie.Need-loop-again Inv-loop μ-loop
-loop-again c = (
-  omega (arith, turn c .loop-test .taken),
-  spread-visited (entry (turn c .before .before .before .before .before) .pre) (turn c .before .loop .inv .1) (turn c .loop-test .taken) (turn c .before .before .before .wide .ensures) (turn c .before .before .is-inner .ensures) (direction (turn c))
-      (c .before .before .before .before .visit .ensures),
-)
+loop-again c =
+    let l = turn c in (
+      omega (arith, l .loop-test .taken),
+      spread-visited (entry (at-table (l .before)) .pre) (l .before .loop .inv .1) (l .loop-test .taken) (at-cell (l .before) .wide .ensures) (l .before .before .is-inner .ensures)
+      (direction (at-direction (at-visit c .before))) (at-visit c .visit .ensures),
+    )
 
 same-length : tie.Need-same-length Inv-loop μ-loop
 same-length c = c .before .loop .inv .1 .labels .long
@@ -101,7 +114,7 @@ same-length-2 : tie.Need-same-length-2 Inv-loop μ-loop
 same-length-2 c = c .before .loop .inv .1 .queue .long
 
 returns : tie.Need-returns Inv-loop μ-loop
-returns c = ran-turn (c .before .loop .inv .1) (c .loop-test .left) (omega (arith, c .before .loop .inv .1 .longer, entry (c .before .before .before .before .before) .pre .busy))
+returns c = ran-turn (c .before .loop .inv .1) (c .loop-test .left) (omega (arith, c .before .loop .inv .1 .longer, entry (at-table (c .before)) .pre .busy))
 
 pub spread-spec : {M : Type 1} → statement M
 spread-spec =
@@ -117,10 +130,8 @@ spread-spec =
     div-y
     is-inner-requires
     loop-holds
-    mul-visit
-    element-copy-out-visit
-    mul-visit-2
-    element-copy-out-visit-2
+    array-read-direction-of
+    direction-of-requires
     visit-requires
     add-d
     loop-less
