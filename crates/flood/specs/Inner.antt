@@ -1,5 +1,5 @@
 -- The words of the other functions' contracts, over the grid of the lent bytes. Definitions only; assumes nothing.
-use Prim.Native.Nat.{ℕ, _+_, _*_, _/_, _%_, _≤_, _<_}
+use Prim.Native.Nat.{ℕ, _+_, _*_, _/_, _%_, _^_, _≤_, _<_}
 use mathlib.Core.Path.{_≡_}
 use mathlib.Core.Bool.{Bool, true, false}
 use mathlib.Core.List.{List}
@@ -14,6 +14,10 @@ use Rattle.flood.specs.State.{State}
 -- the direction at place p of the three by three square around the cell, row by row from 0 (document 02, request 5). Its bit in a mask is p again.
 abbrev pub placed : ℕ → Position
 placed p = at (p % 3) (p / 3)
+
+-- byte d of a word, the lowest being byte 0
+abbrev pub byteAt : ℕ → ℕ → ℕ
+byteAt word d = word / 2 ^ (8 * d) % 256
 
 abbrev pub positionAt : Direction → Position
 positionAt d = at (d .x) (d .y)

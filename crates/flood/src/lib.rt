@@ -1,15 +1,14 @@
 // The flood over cut masks: labels every region of the grid, as `components` of areas.rs. Steps are those of `neighbors` of lib.rs.
 ghost use mathlib.Core.Path.{_≡_};
 ghost use mathlib.Core.Bool.{true};
-ghost use mathlib.Core.List.{map};
 ghost use Prim.Native.Nat.{_+_, _*_, _≤_, _<_};
 ghost use lib.ListN.{length};
-ghost use Rattle.definitions.specs.Grid.{Map, at, directions, isStep};
+ghost use Rattle.definitions.specs.Grid.{Map, at, isStep};
 ghost use Rattle.flood.specs.Masks.{cutBit, withBit};
-ghost use Rattle.flood.specs.Walk.{gridOf, graphOf, landing};
+ghost use Rattle.flood.specs.Walk.{gridOf, graphOf, directionAt, landing};
 ghost use Rattle.flood.specs.State.{Ran, Visited};
 ghost use Rattle.flood.specs.Contract.{Lent, CutMap, Masked, Flooded};
-ghost use Rattle.flood.specs.Inner.{placed, positionAt, Nearby, Inner, Inside, Says, Stepping, Ready, Visiting};
+ghost use Rattle.flood.specs.Inner.{positionAt, Nearby, Inner, Inside, Says, Stepping, Ready, Visiting};
 
 // A direction, each coordinate moved by 1 so that none is negative.
 pub struct Direction {
@@ -17,21 +16,16 @@ pub struct Direction {
     pub y: usize,
 }
 
-// The eight directions, in the order of `neighbors` of lib.rs: each is its place in the three by three square around the cell, row by row from 0. The place is
-// also the bit of the direction in a mask of cut steps.
-pub const DIRECTIONS: [u8; 8] = [1, 3, 5, 7, 0, 2, 6, 8];
+// The eight directions, in the order of `neighbors` of lib.rs, the first in the lowest byte: 1, 3, 5, 7, 0, 2, 6, 8. Each is its place in the three by three
+// square around the cell, row by row from 0. One word, and not an array: a loop over it is unrolled, and its turns have the places as constants.
+const DIRECTIONS: u64 = 0x08_06_02_00_07_05_03_01;
 
-// The table as one value, for a loop to read.
-pub fn direction_table() -> [u8; 8]
-    ensures { λ r. ⌜ map placed r ≡ directions ⌝ }
+// Direction d.
+pub fn direction_at(d: usize) -> Direction
+    requires { ⌜ d < 8 ⌝ }
+    ensures { λ r. ⌜ positionAt r ≡ directionAt d ⌝ }
 {
-    DIRECTIONS
-}
-
-// The direction at a place of the square.
-pub fn direction_of(place: u8) -> Direction
-    ensures { λ r. ⌜ positionAt r ≡ placed place ⌝ }
-{
+    let place = (DIRECTIONS >> (8 * d)) % 256;
     Direction {
         x: (place % 3) as usize,
         y: (place / 3) as usize,
@@ -186,14 +180,13 @@ fn spread(
     requires { ⌜ Ready width height (now cells) (now masks) id (now labels) (now queue) head tail ⌝ }
     ensures { λ r. ⌜ Ran (graphOf (gridOf width height (now (cells .entry))) (now (masks .entry))) id (now (labels .entry)) (now (queue .entry)) tail (now (labels .exit)) (now (queue .exit)) (head + 1) 0 r ⌝ }
 {
-    let table = direction_table();
     let c = wide(queue[head]);
     let x = c % width;
     let y = c / width;
     let inner = is_inner(width, height, x, y);
     let mut end = tail;
     for d in 0..8 {
-        let way = direction_of(table[d]);
+        let way = direction_at(d);
         end = visit(
             width,
             height,
