@@ -7,7 +7,7 @@ use cut_steps::cell::is_near;
 use cut_steps::cell::is_set;
 use cut_steps::pick;
 use cut_steps::span_at;
-use flood::direction_at;
+use flood::place_at;
 use region_pairs::NUMBERS_PER_PAIR;
 use region_pairs::insert_pair;
 use span_geometry::SpanGeometry;
@@ -148,7 +148,7 @@ fn assess_directions(
 {
     let mut a = start;
     for d in 0..8 {
-        let way = direction_at(d);
+        let place = place_at(d);
         a = assess_direction(
             width,
             height,
@@ -160,8 +160,8 @@ fn assess_directions(
             x,
             y,
             mask,
-            way.x,
-            way.y,
+            place % 3,
+            place / 3,
         );
     }
     a

@@ -2,6 +2,7 @@
 -- computes, and holds at each number by what a map has there. Assumes nothing.
 use Prim.Native.Nat.{ℕ, suc, _≤_, _<_}
 use native.Mathlib.Omega.{arith}
+use native.Mathlib.Nat.{div-add-mod'}
 use mathlib.Core.Path.{_≡_, refl, sym, ap, _∙_}
 use mathlib.Core.List.{List, [], _∷_, map}
 use lib.ListN.{length, getD, List·getD-map}
@@ -9,7 +10,7 @@ use Rattle.definitions.specs.Scan.{run}
 use Rattle.definitions.specs.Grid.{at, directions}
 use Rattle.laws.specs.ListLaws.Lists.{All, done, more, getD-tab}
 use Rattle.laws.specs.ListLaws.Members.{all-place}
-use Rattle.flood.specs.Masks.{opposite}
+use Rattle.flood.specs.Masks.{bitOf, opposite}
 use Rattle.flood.specs.Walk.{directionAt}
 use Rattle.flood.specs.Inner.{placed, byteAt}
 
@@ -49,6 +50,10 @@ all-by-place x (a ∷ l) h = more (h 0 (omega arith)) (all-by-place x l (λ i b.
 abbrev pub directionWord : ℕ
 directionWord = 578151801304711937
 
+-- a place is the bit of its direction
+pub placed-back : (p : ℕ) → bitOf (placed p) ≡ p
+placed-back p = div-add-mod' p 3
+
 -- the whole table
 word-directions : map (λ d. placed (byteAt directionWord d)) (run 0 8) ≡ directions
 unfolding run
@@ -56,3 +61,6 @@ word-directions = refl
 
 pub word-at : (d : ℕ) → d < 8 → placed (byteAt directionWord d) ≡ directionAt d
 word-at d h = sym (getD-tab (λ e. placed (byteAt directionWord e)) (at 0 0) 8 d h) ∙ ap (λ l. getD l d (at 0 0)) word-directions
+
+pub word-below : (d : ℕ) → d < 8 → byteAt directionWord d < 9
+word-below d h = omega (arith, placed-back (byteAt directionWord d), direction-near d h, ap (λ p. p .x) (word-at d h), ap (λ p. p .y) (word-at d h))

@@ -5,7 +5,6 @@ use mathlib.Core.Bool.{Bool, true, false}
 use mathlib.Core.List.{List}
 use lib.ListN.{length, getD}
 use Rattle.definitions.specs.Grid.{Position, at, walkable}
-use Rattle.flood.specs.declared.Direction.{Direction}
 use Rattle.flood.specs.Walk.{gridOf, graphOf, Mirrored}
 use Rattle.flood.specs.State.{State}
 
@@ -18,9 +17,6 @@ placed p = at (p % 3) (p / 3)
 -- byte d of a word, the lowest being byte 0
 abbrev pub byteAt : ℕ → ℕ → ℕ
 byteAt word d = word / 2 ^ (8 * d) % 256
-
-abbrev pub positionAt : Direction → Position
-positionAt d = at (d .x) (d .y)
 
 -- a position of the grid, and a direction
 pub record Nearby (w h x y dx dy : ℕ) : Type 0 where

@@ -2,11 +2,8 @@
 -- directions are left. Assumes nothing.
 use Prim.Native.Nat.{_+_, _-_, _≤_}
 use mathlib.Core.Path.{_≡_, sym, ap, _∙_}
-use lib.ListN.{getD}
 use native.Mathlib.Omega.{arith}
-use Rattle.flood.specs.Walk.{directionAt}
-use Rattle.flood.specs.Inner.{positionAt}
-use Rattle.flood.proofs.Ways.{table-at, direction-near}
+use Rattle.flood.proofs.Ways.{direction-near}
 use Rattle.assessments.proofs.Gathering.{assesses-same}
 use Rattle.assessments.proofs.Directions.{stepsTo, steps-none, steps-all, steps-more}
 use Rattle.assessments.proofs.Turns.{Turns, counting-most, turns-none, turns-more}
@@ -15,41 +12,29 @@ use Rattle.assessments.proofs.assess_directions.Statement.{statement}
 use Rattle.assessments.proofs.assess_directions.Tie as tie
 
 abbrev Inv-loop : tie.InvT-loop
-Inv-loop width height labels pairs₀ span first x y mask table a₀ d₀ pairs a d = (d ≤ 8) × Turns labels span first (stepsTo width x y mask d) a₀ pairs₀ (a₀ .removed + d) a pairs
+Inv-loop width height labels pairs₀ span first x y mask a₀ d₀ pairs a d = (d ≤ 8) × Turns labels span first (stepsTo width x y mask d) a₀ pairs₀ (a₀ .removed + d) a pairs
 
 abbrev μ-loop : tie.MeasureT-loop
-μ-loop width height labels pairs₀ span first x y mask table a₀ d₀ pairs a d = 8 - d
+μ-loop width height labels pairs₀ span first x y mask a₀ d₀ pairs a d = 8 - d
 
 -- the function's entry, from the loop
 abbrev entry : tie.At-loop Inv-loop μ-loop → tie.Start Inv-loop μ-loop
-entry l = let known : tie.After-slice-known Inv-loop μ-loop = l .before .before in known .before .before
-
-direction-table-requires : tie.Need-direction-table-requires Inv-loop μ-loop
-direction-table-requires c κs = search needs
+entry l = l .before .before .before
 
 loop-holds : tie.Need-loop-holds Inv-loop μ-loop
 loop-holds c =
-    let s = c .before .before .before in
+    let s = c .before .before in
     (omega arith, turns-none (counting-most (s .pre .1) (omega arith)) (sym (steps-none (s .args .width) (s .args .x) (s .args .y) (s .args .mask))))
 
-array-read-direction-of : tie.Need-array-read-direction-of Inv-loop μ-loop
-array-read-direction-of c = search needs
-
-direction-of-requires : tie.Need-direction-of-requires Inv-loop μ-loop
-direction-of-requires c κs = search needs
-
--- the direction that is decoded is that of number d
-direction : (c : tie.After-direction-of Inv-loop μ-loop) → positionAt (c .direction-of .result) ≡ directionAt (c .before .before .loop .d)
-direction c =
-    let t = c .before .before .before .direction-table in
-    c .direction-of .ensures ∙ table-at (t .result) (t .ensures) (c .before .before .loop .d)
+place-at-requires : tie.Need-place-at-requires Inv-loop μ-loop
+place-at-requires c κs = c .loop-test .taken
 
 assess-direction-requires : tie.Need-assess-direction-requires Inv-loop μ-loop
 assess-direction-requires c κs =
     let l = c .before .before in
     let s = entry (l .before) in
     let n = direction-near (l .before .loop .d) (l .loop-test .taken) in
-    let e = direction (c .before) in
+    let e = c .before .place-at .ensures .0 in
     let turns = l .before .loop .inv .1 in (
       (s .pre .0 .0, omega (arith, n, ap (λ p. p .x) e), omega (arith, n, ap (λ p. p .y) e), s .pre .0 .1),
       counting-most (turns .counting) (omega (arith, turns .counting .few, s .pre .1 .few)),
@@ -67,7 +52,7 @@ loop-again c =
     let way = r .before .before in
     let l = way .before in
     let s = entry (l .before) .args in
-    let more = steps-more (s .width) (s .x) (s .y) (s .mask) (l .before .loop .d) (direction way) (l .loop-test .taken) in
+    let more = steps-more (s .width) (s .x) (s .y) (s .mask) (l .before .loop .d) (way .place-at .ensures .0) (l .loop-test .taken) in
     (omega arith, turns-more 1 (l .before .loop .inv .1) (r .assess-direction .ensures .0) (search needs) (r .assess-direction .ensures .1) more (omega arith))
 
 same-length : tie.Need-same-length Inv-loop μ-loop
@@ -88,10 +73,8 @@ assess-directions-spec =
     (tie.spec
     Inv-loop
     μ-loop
-    direction-table-requires
     loop-holds
-    array-read-direction-of
-    direction-of-requires
+    place-at-requires
     assess-direction-requires
     add-d
     loop-less

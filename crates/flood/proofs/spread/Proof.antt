@@ -34,7 +34,7 @@ at-cell l = l .before .before
 abbrev at-visit : tie.After-slice-known5 Inv-loop μ-loop → tie.After-visit Inv-loop μ-loop
 at-visit c = let labels : tie.After-labels Inv-loop μ-loop = c .before .before .before in labels .before
 
-abbrev at-direction : tie.After-visit-arg2 Inv-loop μ-loop → tie.After-direction-at Inv-loop μ-loop
+abbrev at-direction : tie.After-visit-arg2 Inv-loop μ-loop → tie.After-place-at Inv-loop μ-loop
 at-direction c = c .before .before
 
 abbrev turn : tie.After-slice-known5 Inv-loop μ-loop → tie.In-loop Inv-loop μ-loop
@@ -68,15 +68,15 @@ is-inner-requires c κs =
 loop-holds : tie.Need-loop-holds Inv-loop μ-loop
 loop-holds c = (omega arith, ran-start (start (c .before) .pre .state))
 
-direction-at-requires : tie.Need-direction-at-requires Inv-loop μ-loop
-direction-at-requires c κs = c .loop-test .taken
+place-at-requires : tie.Need-place-at-requires Inv-loop μ-loop
+place-at-requires c κs = c .loop-test .taken
 
 visit-requires : tie.Need-visit-requires Inv-loop μ-loop
 visit-requires c κs =
     let way = at-direction c in
     let l = way .before in
     let cell = at-cell (l .before) in
-    visiting (start cell .pre) (l .before .loop .inv .1) (l .loop-test .taken) (cell .wide .ensures) (l .before .before .is-inner .ensures) (way .direction-at .ensures)
+    visiting (start cell .pre) (l .before .loop .inv .1) (l .loop-test .taken) (cell .wide .ensures) (l .before .before .is-inner .ensures) (way .place-at .ensures .0)
 
 add-d : tie.Need-add-d Inv-loop μ-loop
 add-d c = omega (arith, turn c .loop-test .taken)
@@ -91,7 +91,7 @@ loop-again c =
     let way = at-direction (at-visit c .before) in (
       omega (arith, l .loop-test .taken),
       spread-visited (start cell .pre) (l .before .loop .inv .1) (l .loop-test .taken) (cell .wide .ensures) (l .before .before .is-inner .ensures)
-      (way .direction-at .ensures) (at-visit c .visit .ensures),
+      (way .place-at .ensures .0) (at-visit c .visit .ensures),
     )
 
 same-length : tie.Need-same-length Inv-loop μ-loop
@@ -116,7 +116,7 @@ spread-spec =
     div-y
     is-inner-requires
     loop-holds
-    direction-at-requires
+    place-at-requires
     visit-requires
     add-d
     loop-less
