@@ -91,7 +91,7 @@ loop-again c =
     let way = at-direction (at-visit c .before) in (
       omega (arith, l .loop-test .taken),
       spread-visited (start cell .pre) (l .before .loop .inv .1) (l .loop-test .taken) (cell .wide .ensures) (l .before .before .is-inner .ensures)
-      (way .place-at .ensures .0) (at-visit c .visit .ensures),
+          (way .place-at .ensures .0) (at-visit c .visit .ensures),
     )
 
 same-length : tie.Need-same-length Inv-loop μ-loop
