@@ -6,7 +6,7 @@ ghost use lib.Dec.{leb};
 ghost use lib.IntN.{natAbs};
 ghost use Rattle.definitions.specs.Spans.{cross};
 ghost use Rattle.laws.specs.FloatLaws.Pixels.{PixelSegment};
-ghost use Rattle.separations.specs.Distance.{endSquare, along, lengthSquare, lesser, pointSquare, exactSquare};
+ghost use Rattle.separations.specs.Distance.{endSquare, along, lesser, pointSquare, exactSquare};
 ghost use Rattle.span_geometry.specs.Shapes.{maxPixel, InLimits, pointOf};
 ghost use Rattle.geometry.specs.Forms.{segmentFrom, segmentForm};
 ghost use Rattle.exact_squares.specs.Forms.{Bounded, fractionOf};

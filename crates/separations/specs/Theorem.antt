@@ -19,7 +19,7 @@ use Rattle.laws.specs.FloatLaws.MapPixels.{OnMap, map-pixel}
 use Rattle.laws.specs.FloatLaws.FiniteSeparations.{Clear, separation-clear}
 use Rattle.laws.specs.RustPasses.Accepted.{accepted-on-map}
 use Rattle.separations.specs.Distance.{SharePoint, ExactSquare, Fraction, exactSquare, Within}
-use Rattle.separations.specs.PlaneLaws.Crossing.{intersects-share, sidesTest}
+use Rattle.separations.specs.PlaneLaws.Crossing.{intersects-share}
 use Rattle.separations.specs.PlaneLaws.Sharing.{share-intersects}
 use Rattle.separations.specs.PlaneLaws.LeastDistance.{meet-exact, apart-exact, exact-again}
 use Rattle.separations.specs.PlaneLaws.Perpendicular.{leastSquare, least-same}

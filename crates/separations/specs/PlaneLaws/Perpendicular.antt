@@ -2,27 +2,22 @@
 -- So the least of the one four is the least of the other (`least-same`). Assumes nothing.
 use mathlib.Core.Path.{_≡_, refl, sym, ap, _∙_, subst}
 use mathlib.Core.Logic.{_⊎_, inl, inr}
-use mathlib.Core.Bool.{Bool, true, false, cond, false≢true}
-use Prim.Native.Nat.{ℕ, _+_, _-_, _*_, _^_, _≤_, _<_, zero-le, min}
-use native.Mathlib.Nat.{le-trans, le-of-eq, le-of-lt, le-antisymm, add-le-add, add-mul, mul-add, mul-le-mul, mul-comm, mul-assoc, mul-left-comm, mul-one, add-assoc, add-comm, add-left-comm, zero-lt-suc}
+use mathlib.Core.Bool.{Bool, true, false, cond}
+use Prim.Native.Nat.{ℕ, _+_, _-_, _*_, _≤_, _<_, zero-le, min}
+use native.Mathlib.Nat.{le-trans, le-of-eq, le-of-lt, le-antisymm, add-mul, mul-add, mul-comm, mul-assoc, mul-left-comm, mul-one, add-assoc, add-comm, add-left-comm, zero-lt-suc}
 use native.Mathlib.Omega.{arith}
-use lib.Dec.{eqb, leb, lit≤}
-use lib.IntN.{natAbs, _*ℤ_}
+use lib.Dec.{eqb, leb}
+use lib.IntN.{natAbs}
 use borrow.Author.Tests.{eqb-true, eqb-false, leb-true, leb-false}
 use Rattle.definitions.specs.Grid.{Position, Segment}
-use Rattle.definitions.specs.Spans.{diff, distanceBetween, cross}
-use Rattle.definitions.specs.RampGeometry.{intersects}
+use Rattle.definitions.specs.Spans.{distanceBetween, cross}
 use Rattle.laws.specs.NumberLaws.Comparisons.{le-or-lt}
-use Rattle.laws.specs.NumberLaws.WholeNumbers.{natAbs-difference, natAbs-diff-product}
-use Rattle.laws.specs.FloatLaws.Pixels.{PixelPosition, PixelSegment}
-use Rattle.separations.specs.Distance.{total, squares, ExactSquare, Fraction, lesser, lengthSquare, endSquare, along, pointSquare, exactSquare}
+use Rattle.separations.specs.Distance.{total, squares, Fraction, lesser, lengthSquare, endSquare, along, pointSquare}
 use Rattle.separations.specs.PlaneLaws.Signs.{natAbs-is, crossMore, crossLess, is-cross}
 use Rattle.separations.specs.PlaneLaws.Sliding.{dist-scale}
 use Rattle.separations.specs.PlaneLaws.Stewart.{dist-square, stewart}
 use Rattle.separations.specs.PlaneLaws.Feet.{dotMore, dotLess, along-is, foot, foot-le, scale, scaled, footSquare, footWeights, foot-num, foot-den, foot-positive, flat}
-use Rattle.separations.specs.PlaneLaws.Sharing.{share-intersects}
-use Rattle.separations.specs.PlaneLaws.Crossing.{intersects-share}
-use Rattle.separations.specs.PlaneLaws.LeastDistance.{Le, le-over, lesser-by, lesser-le, leastOfFour, meet-exact, apart-exact, exact-again}
+use Rattle.separations.specs.PlaneLaws.LeastDistance.{Le, le-over, lesser-by, lesser-le, leastOfFour}
 
 -- ---- the way to the foot is the perpendicular: in each coordinate it is the cross product times the segment's extent in the other
 

@@ -1,7 +1,7 @@
 -- Two segments that share a point pass `intersects`. Where they are parallel the common point slides to an end of one, which is then on the other. Where they are not, and the
 -- common point is no end, the ends of each lie on different sides of the other's line: the side values of s's ends, weighted as the point is, add up to zero. Assumes nothing.
 use mathlib.Core.Path.{_≡_, refl, sym, ap, _∙_, subst}
-use mathlib.Core.Logic.{inl, inr, _↔_}
+use mathlib.Core.Logic.{inl, inr}
 use mathlib.Core.Bool.{true, not, _&&_}
 use Prim.Native.Nat.{ℕ, zero, suc, _+_, _*_, _≤_, _<_}
 use native.Mathlib.Nat.{add-mul, mul-add, add-assoc, add-comm, add-left-comm, mul-assoc, mul-comm, mul-left-comm, mul-pos, eq-zero-or-pos, eq-of-mul-eq-mul-right, mul-lt-mul-of-pos-left}
@@ -16,7 +16,7 @@ use Rattle.separations.specs.PlaneLaws.Signs.{Sign, sign-is, crossMore, 
 use Rattle.separations.specs.PlaneLaws.Sliding.{PointNear, pointApart}
 use Rattle.separations.specs.PlaneLaws.Rates.{acrossMore, acrossLess, Ends, startFirst, endFirst, startSecond, endSecond, reach-parallel}
 use Rattle.separations.specs.PlaneLaws.Meeting.{OnIt, on-test}
-use Rattle.separations.specs.PlaneLaws.Crossing.{sidesTest, intersects-is, one, two, three, four, five, FoundIn, finds, intersects-share}
+use Rattle.separations.specs.PlaneLaws.Crossing.{sidesTest, intersects-is, one, two, three, four, five, FoundIn, finds}
 
 -- ---- squares that are zero
 
