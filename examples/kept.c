@@ -32,7 +32,7 @@ static int print_kept(size_t length) {
     if (sheet.number != 0)
         return refused(sheet.number, sheet.place);
 
-    struct jenwyllt_answer answer = topology_kept_boundaries(
+    struct jenwyllt_answer answer = jenwyllt_kept_boundaries(
         sheet.pass, sheet.width, sheet.height, cells, sheet.width * sheet.height,
         spans, 4 * sheet.spans, boundaries, 9 * sheet.boundaries, anchors, 2 * sheet.anchors,
         labels, CELLS, masks, CELLS, queue, CELLS, tallies, 2 * ENTRIES, pairs, 3 * ROWS, records, REGIONS, output, 5 * ENTRIES);

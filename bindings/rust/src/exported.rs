@@ -60,7 +60,7 @@ unsafe extern "C" {
         pairs_length: usize,
     ) -> Answer;
 
-    pub fn topology_kept_boundaries(
+    pub fn jenwyllt_kept_boundaries(
         pass: u64,
         width: u64,
         height: u64,

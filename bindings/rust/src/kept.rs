@@ -1,6 +1,6 @@
 //! The boundaries that a pass keeps.
 
-use crate::exported::topology_kept_boundaries;
+use crate::exported::jenwyllt_kept_boundaries;
 use crate::partition::Room;
 use crate::{Partition, PartitionLists, Refusal, Sheet};
 
@@ -163,7 +163,7 @@ pub fn kept_boundaries_into(map: Map<'_>, lists: KeptLists<'_>) -> Result<u64, R
     // function fills; slices lent as `&mut` overlap no other, and nothing else uses them before the call returns. `Region` has the
     // layout of the header. The function is proved for lists of any content and length, keeps no pointer and does not unwind.
     let answer = unsafe {
-        topology_kept_boundaries(
+        jenwyllt_kept_boundaries(
             pass,
             width,
             height,
