@@ -5,13 +5,13 @@ ghost use Prim.Native.Nat.{_+_, _*_, _^_, _≤_, _<_};
 ghost use lib.Dec.{leb};
 ghost use lib.IntN.{natAbs};
 ghost use Rattle.definitions.specs.Spans.{cross};
+ghost use Rattle.definitions.specs.RampGeometry.{intersects};
 ghost use Rattle.laws.specs.FloatLaws.Pixels.{PixelSegment};
 ghost use Rattle.separations.specs.Distance.{endSquare, along, lesser, pointSquare, exactSquare};
 ghost use Rattle.span_geometry.specs.Shapes.{maxPixel, InLimits, pointOf};
 ghost use Rattle.geometry.specs.Forms.{segmentFrom, segmentForm};
 ghost use Rattle.exact_squares.specs.Forms.{Bounded, fractionOf};
 use geometry::Segment;
-use geometry::ramp_boundaries::intersects;
 use span_geometry::PixelPosition;
 use span_geometry::numbers::abs_diff;
 use span_geometry::numbers::saturating_sub;
@@ -91,11 +91,14 @@ fn point_square(p: PixelPosition, a: PixelPosition, b: PixelPosition) -> Square
     Square { num: c * c, den: n }
 }
 
-// Whether a / b is at most c / d: by the whole parts, and where these are equal by what remains.
+// Whether a / b is at most c / d: as it stands where b is d, which most have, and else by the whole parts, and where these are equal by what remains.
 fn at_most(a: u64, b: u64, c: u64, d: u64) -> bool
     requires { ⌜ (0 < b) × (0 < d) × (b ≤ 2 ^ 27) × (d ≤ 2 ^ 27) ⌝ }
     ensures { λ r. ⌜ r ≡ leb (a * d) (c * b) ⌝ }
 {
+    if b == d {
+        return a <= c;
+    }
     let first = a / b;
     let second = c / d;
     if first < second {
@@ -119,12 +122,12 @@ fn lesser(f: Square, g: Square) -> Square
     }
 }
 
-// The square of the distance of two boundaries.
-pub fn exact_square(left: Segment, right: Segment) -> Square
-    requires { ⌜ PixelSegment (segmentForm left) × PixelSegment (segmentForm right) ⌝ }
+// The square of the distance of two boundaries; `meet` says whether they share a point.
+pub fn exact_square(left: Segment, right: Segment, meet: bool) -> Square
+    requires { ⌜ PixelSegment (segmentForm left) × PixelSegment (segmentForm right) × (meet ≡ intersects (segmentForm left) (segmentForm right)) ⌝ }
     ensures { λ r. ⌜ (fractionOf r ≡ exactSquare (segmentForm left) (segmentForm right)) × Bounded r ⌝ }
 {
-    if intersects(left, right) {
+    if meet {
         return Square { num: 0, den: 1 };
     }
     let first = point_square(left.a, right.a, right.b);

@@ -53,7 +53,7 @@ fn put_row(output: &mut [u64], k: usize, i: u64, j: u64, bits: u64, num: u64, de
     output[k + 4] = den;
 }
 
-// The row of boundaries i and j.
+// The row of boundaries i and j. That they share a point need not be found out twice: the separation is zero just then, by the theorem of the bound.
 fn put_pair(boundaries: &[u64], output: &mut [u64], k: usize, i: usize, j: usize)
     requires { ⌜ PairFits (now boundaries) (now output) k i j ⌝ }
     ensures { λ r. ⌜ now (output .exit)
@@ -61,9 +61,9 @@ fn put_pair(boundaries: &[u64], output: &mut [u64], k: usize, i: usize, j: usize
 {
     let left = ends_of(boundaries, i);
     let right = ends_of(boundaries, j);
-    let square = exact_square(left, right);
     let separation = segment_distance(left, right);
     let bits = f64::to_bits(separation);
+    let square = exact_square(left, right, bits == 0);
     put_row(output, k, i as u64, j as u64, bits, square.num, square.den);
 }
 

@@ -15,7 +15,6 @@ use lib.Ieee.Bits.{ofBits-toBits}
 use borrow.Author.Tests.{le-leb}
 use Rattle.definitions.specs.Limits.{numbersPerSpan, numbersPerBoundary, numbersPerAnchor}
 use Rattle.definitions.specs.Grid.{Segment, mapOf, boundaryOf, boundaryAt, noBoundary}
-use Rattle.definitions.specs.Geometry.{float}
 use Rattle.definitions.specs.RampGeometry.{segmentDistance}
 use Rattle.definitions.specs.Context.{contextOf}
 use Rattle.definitions.specs.RampMouths.{separationOf}
@@ -29,7 +28,7 @@ use Rattle.separations.specs.Distance.{SharePoint, ExactSquare, exactSqu
 use Rattle.separations.specs.Listing.{numbersPerSeparation, boundaryCount, endsOf, separationRow, separationRows, pairCount, listVerdict, listAtExit, Lists}
 use Rattle.separations.specs.ListingLaws.{row-at, row-within, listed-pixel, listed-count}
 use Rattle.separations.specs.PlaneLaws.Sizes.{Small}
-use Rattle.separations.specs.Theorem.{SeparationHolds, separation-holds}
+use Rattle.separations.specs.Theorem.{SeparationHolds, separation-holds, zero-bits}
 
 -- entry k of the row of boundaries i and j, i below j, in an output
 abbrev pub entry : List ℕ → ℕ → ℕ → ℕ → ℕ
@@ -51,7 +50,6 @@ pub record RowHolds (s t : Segment) (i j : ℕ) (output : List ℕ) : Type 0 whe
 
 row-holds : {s t : Segment} {i j b num den : ℕ} {output : List ℕ} {x : Float} → SeparationHolds s t x → toBits binary64 x ≡ b → exactSquare s t .num ≡ num → exactSquare s t .den ≡ den
     → entry output i j 0 ≡ i → entry output i j 1 ≡ j → entry output i j 2 ≡ b → entry output i j 3 ≡ num → entry output i j 4 ≡ den → RowHolds s t i j output
-unfolding ofBits toBits float
 row-holds {s} {t} {i} {j} {b} {num} {den} {output} {x} H eb en ed e0 e1 e2 e3 e4 =
     record {
       smaller = e0;
@@ -59,7 +57,7 @@ row-holds {s} {t} {i} {j} {b} {num} {den} {output} {x} H eb en ed e0 e1 e2 e3 e4
       exact = exact;
       small = record { num-le = subst (λ (n : ℕ). n ≤ 2 ^ 54) (en ∙ sym e3) (H .small .num-le); den-le = subst (λ (n : ℕ). n ≤ 2 ^ 27) (ed ∙ sym e4) (H .small .den-le) };
       within = subst (λ (y : Float). Within y (entry output i j 3) (entry output i j 4)) (sym double) (H .within exact);
-      zero = (λ z. H .zero .0 (sym double ∙ ap (ofBits binary64) z), λ h. e2 ∙ sym eb ∙ ap (toBits binary64) (H .zero .1 h));
+      zero = (λ z. zero-bits H .0 (eb ∙ sym e2 ∙ z), λ h. e2 ∙ sym eb ∙ zero-bits H .1 h);
     }
   where
     exact : ExactSquare s t (entry output i j 3) (entry output i j 4)

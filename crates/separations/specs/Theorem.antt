@@ -6,7 +6,10 @@ use mathlib.Core.Path.{_≡_, refl, sym, ap, _∙_}
 use mathlib.Core.Logic.{_↔_}
 use mathlib.Core.Bool.{Bool, true, false, cond, false≢true}
 use Prim.Native.Nat.{ℕ}
-use lib.Ieee.{Float}
+use lib.Dec.{T, eqb}
+use lib.Ieee.{Float, binary64, fits, ofBits, toBits}
+use lib.Ieee.Bits.{ofBits-toBits}
+use borrow.Author.Tests.{eq-eqb, ne-eqb}
 use Rattle.definitions.specs.Grid.{Segment, Map, boundaryOf}
 use Rattle.definitions.specs.Hypotenuse.{magnitude}
 use Rattle.definitions.specs.Geometry.{float}
@@ -68,6 +71,23 @@ separation-holds {s} {t} hs ht =
       within = λ {num} {den} e. separation-within hs ht e;
       zero = (λ e. separation-zero hs ht .0 (ap magnitude e ∙ zero-magnitude), λ h. meets-zero s t (share-intersects s t h));
     }
+
+-- of a double that binary64 has, the bits are all zero just for 0.0
+bits-zero : {x : Float} → T (fits binary64 x) → toBits binary64 x ≡ 0 → x ≡ float 0
+unfolding ofBits float
+bits-zero {x} h e = sym (ofBits-toBits binary64 x h) ∙ ap (ofBits binary64) e
+
+pub zero-bits : {s t : Segment} {x : Float} → SeparationHolds s t x → (toBits binary64 x ≡ 0) ↔ SharePoint s t
+unfolding toBits float
+zero-bits H = (λ e. H .zero .0 (bits-zero (H .clear .held) e), λ h. ap (toBits binary64) (H .zero .1 h))
+
+-- so that a test of the bits does for `intersects`
+pub zero-test : {s t : Segment} → PixelSegment s → PixelSegment t → eqb (toBits binary64 (segmentDistance s t)) 0 ≡ intersects s t
+zero-test {s} {t} hs ht = go (intersects s t) refl
+  where
+    go : (b : Bool) → intersects s t ≡ b → eqb (toBits binary64 (segmentDistance s t)) 0 ≡ b
+    go true e = eq-eqb (toBits binary64 (segmentDistance s t)) 0 (zero-bits (separation-holds hs ht) .1 (intersects-share s t e))
+    go false e = ne-eqb (toBits binary64 (segmentDistance s t)) 0 (λ z. false≢true (sym e ∙ share-intersects s t (zero-bits (separation-holds hs ht) .0 z)))
 
 -- boundaries i and j of a map, and their separation in pass 1
 abbrev pub OfBoundaries : Map → ℕ → ℕ → Type 0

@@ -9,13 +9,10 @@ use borrow.Author.Needs.{needs}
 use Rattle.exact_squares.proofs.exact_square.Statement.{statement}
 use Rattle.exact_squares.proofs.exact_square.Tie as tie
 
-intersects-requires : tie.Need-intersects-requires
-intersects-requires c κs = search needs
-
 returns : tie.Need-returns
 returns c =
-    let s = c .before .before .args in (
-      by-test (segmentForm (s .left)) (segmentForm (s .right)) (c .before .intersects .ensures) (c .if1 .taken),
+    let given = c .before in (
+      by-test (segmentForm (given .args .left)) (segmentForm (given .args .right)) (given .pre .2) (c .if1 .taken),
       record { num-le = zero-le; den-le = lit≤ tt; den-some = lit< tt },
     )
 
@@ -49,12 +46,12 @@ returns-2 c =
     let at-second = at-third .before in
     let at-first = at-second .before in
     let apart = at-first .before in
-    let given = apart .before .before .args in
+    let given = apart .before in
     let two = at-first-lesser .lesser .ensures .0 ∙ (λ i. lesser (at-first .point-square .ensures .0 i) (at-second .point-square2 .ensures .0 i)) in
     let three = at-second-lesser .lesser2 .ensures .0 ∙ (λ i. lesser (two i) (at-third .point-square3 .ensures .0 i)) in (
       c .lesser3 .ensures .0
           ∙ (λ i. lesser (three i) (at-fourth .point-square4 .ensures .0 i))
-          ∙ by-test (segmentForm (given .left)) (segmentForm (given .right)) (apart .before .intersects .ensures) (apart .if1 .left),
+          ∙ by-test (segmentForm (given .args .left)) (segmentForm (given .args .right)) (given .pre .2) (apart .if1 .left),
       c .lesser3 .ensures .1,
     )
 
@@ -62,7 +59,6 @@ pub exact-square-spec : {M : Type 1} → statement M
 exact-square-spec =
     tie.close
     (tie.spec
-    intersects-requires
     returns
     point-square-requires
     point-square-requires-2
