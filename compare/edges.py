@@ -7,7 +7,6 @@ separations is less, one corner out of range, one of two centres in range, three
 another, equal ranks, the least and the greatest ids and elevations. A boundary may lie anywhere, whatever its span cuts; most families use that.
 """
 import random
-import sys
 from collections import Counter
 
 import package  # noqa: F401
@@ -360,8 +359,7 @@ def edge_maps(count, seed=1, families=None):
 
 
 def main():
-    count = int(sys.argv[1]) if len(sys.argv) > 1 else 2000
-    seed = sys.argv[2] if len(sys.argv) > 2 else 1
+    count, seed = generate.count_and_seed(__doc__, 2000)
     notes = {}
     for _, family, m in edge_maps(count, seed):
         for m.pass_number in (1, 2, 3):

@@ -5,8 +5,8 @@
 Each family below draws maps with one structure in mind; `spice` then turns, pads and disturbs them. The maps are given
 for all three passes: what is a mouth to the first pass is an ordinary boundary to the third.
 """
+import argparse
 import random
-import sys
 from collections import Counter
 
 import package  # noqa: F401
@@ -678,9 +678,17 @@ def maps(count, seed=1, first=0):
 
 # ---- the report
 
+def count_and_seed(description, usual):
+    """of the words on the command line"""
+    a = argparse.ArgumentParser(description=description, formatter_class=argparse.RawDescriptionHelpFormatter)
+    a.add_argument('count', nargs='?', type=int, default=usual)
+    a.add_argument('seed', nargs='?', default=1)
+    options = a.parse_args()
+    return options.count, options.seed
+
+
 def main():
-    count = int(sys.argv[1]) if len(sys.argv) > 1 else 3000
-    seed = sys.argv[2] if len(sys.argv) > 2 else 1
+    count, seed = count_and_seed(__doc__, 3000)
     notes, families, cells = Counter(), Counter(), 0
     for _, family, m in maps(count, seed):
         families[family] += 1

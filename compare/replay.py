@@ -2,8 +2,8 @@
 
     python3 replay.py [FOLDER]
 """
+import argparse
 import os
-import sys
 
 import package  # noqa: F401
 import compare
@@ -57,7 +57,9 @@ def roots(lines):
 
 
 def main():
-    folder = sys.argv[1] if len(sys.argv) > 1 else os.path.join(os.path.dirname(os.path.abspath(__file__)), '../vectors')
+    a = argparse.ArgumentParser(description=__doc__, formatter_class=argparse.RawDescriptionHelpFormatter)
+    a.add_argument('folder', nargs='?', default=os.path.join(os.path.dirname(os.path.abspath(__file__)), '../vectors'))
+    folder = a.parse_args().folder
     for name, check in (('maps.txt', maps), ('sheets.txt', sheets), ('hypotenuse.txt', roots)):
         with open(os.path.join(folder, name)) as f:
             print(name, check(f.read().splitlines()), 'agree')

@@ -2,7 +2,8 @@
    hypotenuse.
    The library is for x86-64 Linux: libjenwyllt.a and libjenwyllt.so, which tools/build_library.sh writes to target/lib. It keeps no state and allocates
    nothing; from outside it needs only `memset`.
-   Every function is proved to meet the definitions of crates/definitions for every input that keeps to what stands here. */
+   Every function is proved to meet the definitions of crates/definitions for every input that keeps to what stands here. Floating-point operations must
+   round to nearest and keep subnormal numbers, as they do where a program starts; -ffast-math changes that for a whole program. */
 #ifndef JENWYLLT_H
 #define JENWYLLT_H
 
@@ -114,7 +115,7 @@ struct jenwyllt_region {
      spans       4 a span: x, y, x, y in pixels
      boundaries  9 a boundary: x, y, x, y, the bits of its width as a double, kind (0 none, 1 lower, 2 upper), ramp id, lower and upper elevation
      anchors     2 an anchor: x, y in cells
-   Filled; each may be longer than needed, and what it holds before does not matter:
+   Filled; each may be longer than needed, and what it holds before does not matter, but that the flag of a record is 0 or 1, as in memory set to zero:
      labels, masks, queue, tallies, pairs   as for `jenwyllt_partition`
      records     one a region, that of label 1 first
      output      rows of 5: a boundary's number from 0, and x, y, x, y, the smaller endpoint first; ascending by endpoints, then by number
@@ -214,8 +215,7 @@ struct jenwyllt_sheet {
      3       over 256 spans, boundaries or anchors                                  0
      10      a list is too short, tested last                                       0
 
-   With any of these every list stays as it was. What else a pass asks of a map is not tested here, but by the
-   functions above. */
+   With any of these every list stays as it was. What else a pass asks of a map is not tested here, but by the functions above. */
 struct jenwyllt_sheet jenwyllt_read_sheet(
     const uint8_t *bytes, size_t bytes_length,
     uint8_t *cells, size_t cells_length,

@@ -1,4 +1,4 @@
-//! The functions of both archives, as include/jenwyllt.h declares them. A list goes as a pointer to its first entry and its length.
+//! The functions of the library, as include/jenwyllt.h declares them. A list goes as a pointer to its first entry and its length.
 
 use crate::{Refusal, Region};
 

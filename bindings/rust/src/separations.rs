@@ -1,7 +1,8 @@
 //! How far the boundaries of a map are apart.
 
-use crate::Refusal;
+use crate::entries::flat;
 use crate::exported::jenwyllt_separations;
+use crate::{Boundary, Refusal};
 
 /// The separation of two boundaries.
 #[derive(Debug, Clone, Copy, PartialEq)]
@@ -18,25 +19,25 @@ pub struct Separation {
     pub denominator: u64,
 }
 
-/// The separation of each two boundaries on a map of these sides, by the larger number, then the smaller. A boundary is nine
-/// numbers, as in a [`Sheet`](crate::Sheet).
+/// The separation of each two boundaries on a map of these sides, by the larger number, then the smaller.
 ///
 /// Refuses 1, 3 and 7.
 ///
 /// ```
-/// let width = 8f64.to_bits();
-/// let boundaries = [[0, 0, 4, 4, width, 0, 0, 0, 0], [3, 2, 5, 1, width, 0, 0, 0, 0], [2, 2, 2, 2, width, 0, 0, 0, 0]];
-/// let found = jenwyllt::separations(4, 4, &boundaries).unwrap();
+/// use jenwyllt::{Boundary, Cause, separations};
+///
+/// let boundaries = [[0, 0, 4, 4], [3, 2, 5, 1], [2, 2, 2, 2]].map(|ends| Boundary::new(ends, 8.0));
+/// let found = separations(4, 4, &boundaries).unwrap();
 /// assert_eq!((found[0].value, found[0].numerator, found[0].denominator), (0.5f64.sqrt(), 16, 32));
 /// assert_eq!((found[1].smaller, found[1].larger, found[1].value), (0, 2, 0.0));
 ///
-/// let refusal = jenwyllt::separations(4, 4, &[[33, 0, 0, 0, width, 0, 0, 0, 0]]).unwrap_err();
-/// assert_eq!((refusal.number, refusal.place), (7, 0));
+/// let refusal = separations(4, 4, &[Boundary::new([33, 0, 0, 0], 8.0)]).unwrap_err();
+/// assert_eq!((refusal.cause(), refusal.place), (Some(Cause::Boundary), 0));
 /// ```
-pub fn separations(width: u64, height: u64, boundaries: &[[u64; 9]]) -> Result<Vec<Separation>, Refusal> {
+pub fn separations(width: u64, height: u64, boundaries: &[Boundary]) -> Result<Vec<Separation>, Refusal> {
     let pairs = boundaries.len() * boundaries.len().saturating_sub(1) / 2;
     let mut rows = vec![[0; 5]; pairs];
-    separations_into(width, height, boundaries.as_flattened(), rows.as_flattened_mut())?;
+    separations_into(width, height, flat(boundaries), rows.as_flattened_mut())?;
     Ok(rows.into_iter().map(separation).collect())
 }
 

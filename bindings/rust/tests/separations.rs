@@ -3,7 +3,7 @@
 use std::fs;
 use std::path::Path;
 
-use jenwyllt::{Refusal, separations, separations_into};
+use jenwyllt::{Boundary, Refusal, separations, separations_into};
 
 const BEFORE: u64 = 60_000;
 
@@ -69,7 +69,8 @@ fn as_structs() {
     for Call { width, height, boundaries, answer, rows, .. } in calls() {
         let (whole, rest) = boundaries.as_chunks::<9>();
         if answer.0 == 0 && rest.is_empty() {
-            let found = separations(width, height, whole).expect("accepted");
+            let whole: Vec<_> = whole.iter().map(|nine| Boundary::from(*nine)).collect();
+            let found = separations(width, height, &whole).expect("accepted");
             assert_eq!(found.len(), rows.len());
             for (each, row) in found.iter().zip(&rows) {
                 assert!(same(&[each.smaller, each.larger, each.value.to_bits(), each.numerator, each.denominator], row));
