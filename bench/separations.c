@@ -1,4 +1,5 @@
-/* Times the list of separations beside a plain loop in C over the same boundaries, which takes the C library's `hypot`, and compares the rows.
+/* Times the list of separations beside a plain loop in C over the same boundaries, once with the C library's `hypot` and once with the correctly rounded
+   hypotenuse, and compares the rows.
 
    tools/build_library.sh
    cc -O3 -I include bench/separations.c target/lib/libjenwyllt.a -lm -o target/bench_separations && target/bench_separations [ROUNDS] */
@@ -58,11 +59,13 @@ static bool intersects(struct segment s, struct segment t) {
         || (signum(sa) != signum(sb) && signum(ta) != signum(tb));
 }
 
+static double (*hypotenuse)(double, double) = hypot;
+
 static double point_distance(struct point p, struct segment s) {
     double x = (double)(s.b.x - s.a.x), y = (double)(s.b.y - s.a.y), n = x * x + y * y;
     double t = n == 0 ? 0 : ((double)(p.x - s.a.x) * x + (double)(p.y - s.a.y) * y) / n;
     t = t < 0 ? 0 : t > 1 ? 1 : t;
-    return hypot((double)p.x - ((double)s.a.x + t * x), (double)p.y - ((double)s.a.y + t * y));
+    return hypotenuse((double)p.x - ((double)s.a.x + t * x), (double)p.y - ((double)s.a.y + t * y));
 }
 
 static uint64_t square(struct point p, struct point q) {
@@ -140,23 +143,38 @@ static double took(void (*rows)(void)) {
     return (double)(end.tv_sec - start.tv_sec) * 1e9 + (double)(end.tv_nsec - start.tv_nsec);
 }
 
+/* the least of many rounds, a pair */
+static double least_of(int rounds, void (*rows)(void)) {
+    double least = INFINITY;
+    for (int round = 0; round < rounds; round++)
+        least = fmin(least, took(rows));
+    return least / PAIRS;
+}
+
+/* numbers of rows that are not ours: bits of separations, and others */
+static void compare(int *bits, int *others) {
+    *bits = *others = 0;
+    for (size_t k = 0; k < sizeof ours / sizeof *ours; k++)
+        if (ours[k] != plain[k])
+            *(k % NUMBERS == 2 ? bits : others) += 1;
+}
+
 int main(int count, char **words) {
     static const char *const names[] = {"anywhere", "64 pixels long at most", "from edge to edge"};
     int rounds = count > 1 ? atoi(words[1]) : 60;
     printf("nanoseconds a pair of boundaries, least of %d rounds over %d pairs\n", rounds, PAIRS);
     for (int kind = 0; kind < 3; kind++) {
         draw(kind);
-        double least_plain = INFINITY, least_ours = INFINITY;
-        for (int round = 0; round < rounds; round++) {
-            least_plain = fmin(least_plain, took(plain_rows));
-            least_ours = fmin(least_ours, took(our_rows));
-        }
-        int bits = 0, others = 0;
-        for (size_t k = 0; k < sizeof ours / sizeof *ours; k++)
-            if (ours[k] != plain[k])
-                *(k % NUMBERS == 2 ? &bits : &others) += 1;
-        printf("%-24s plain %6.1f  ours %6.1f  ratio %.2f  (other bits, by the C library's hypot: %d; other numbers: %d)\n", names[kind], least_plain / PAIRS,
-               least_ours / PAIRS, least_ours / least_plain, bits, others);
+        int bits, others, rounded_bits, rounded_others;
+        double our_time = least_of(rounds, our_rows);
+        hypotenuse = hypot;
+        double plain_time = least_of(rounds, plain_rows);
+        compare(&bits, &others);
+        hypotenuse = jenwyllt_hypot;
+        double rounded_time = least_of(rounds, plain_rows);
+        compare(&rounded_bits, &rounded_others);
+        printf("%s: ours %.0f; plain %.0f, ratio %.2f, %d other bits; with the rounded hypotenuse %.0f, ratio %.2f, %d other bits; other numbers %d\n", names[kind],
+               our_time, plain_time, our_time / plain_time, bits, rounded_time, our_time / rounded_time, rounded_bits, others + rounded_others);
     }
     return 0;
 }

@@ -2,10 +2,13 @@
 import contextlib
 import io
 import json
+import re
+import tempfile
 import unittest
 from collections.abc import Iterator
 from dataclasses import dataclass
 from fractions import Fraction
+from pathlib import Path
 from unittest import mock
 
 from jenwyllt import Boundary, Point, Refusal, Separation, read_sheet, separations
@@ -16,7 +19,8 @@ from jenwyllt.sheet import BOUNDARY_NUMBERS, Span, grouped
 from jenwyllt.unproved.separations import exact_square
 from jenwyllt.unproved.separations import separations as rendered
 
-from .files import EXAMPLES, NAMES, VECTORS
+from . import declarations
+from .files import EXAMPLES, NAMES, ROOT, VECTORS
 
 BEFORE = 60_000                     # what an output holds before a call; no row has it
 
@@ -104,6 +108,12 @@ class Exact(unittest.TestCase):
         self.assertEqual(len(separations(1, 1, [fits] * 256)), pair_count(256))
 
 
+    def test_sizes(self) -> None:
+        """how many numbers a row has: the definitions, the header and Python"""
+        definition = re.search(r'^numbersPerSeparation = (\d+)$', (ROOT / 'crates' / 'separations' / 'specs' / 'Listing.antt').read_text(), re.M)
+        self.assertEqual((int(definition[1]), declarations.header_enum('jenwyllt_size')['SEPARATION_NUMBERS']), (SEPARATION_NUMBERS, SEPARATION_NUMBERS))
+
+
 class Command(unittest.TestCase):
     def run_it(self, *words: str) -> tuple[int, str, str]:
         out, err = io.TextIOWrapper(io.BytesIO(), write_through=True), io.StringIO()
@@ -154,6 +164,20 @@ class Command(unittest.TestCase):
         status, out, err = self.run_it(str(EXAMPLES / 'README.md'))
         self.assertEqual((status, out), (1, ''))
         self.assertNotEqual(err, '')
+        status, out, err = self.run_it('--json', str(EXAMPLES / 'README.md'))
+        self.assertEqual((status, list(json.loads(out)), err), (1, ['file', 'proved', 'wrong'], ''))
+
+    def test_unfit(self) -> None:
+        """a boundary off the map, in words and in JSON"""
+        text = 'pass 1\nmap 1 1\n0\nboundary 0 0 8 8 8.0\nboundary 0 0 9 8 8.0\n'
+        with tempfile.TemporaryDirectory() as folder:
+            path = Path(folder) / 'unfit.txt'
+            path.write_text(text)
+            status, out, err = self.run_it(str(path))
+            self.assertEqual((status, out), (1, ''))
+            self.assertIn('refused 7 at 1: boundary 1 from 0 0 to 9 8', err)
+            status, out, _ = self.run_it('--json', str(path))
+            self.assertEqual((status, json.loads(out)['refused']['number']), (1, 7))
 
 
 if __name__ == '__main__':
