@@ -1,5 +1,5 @@
--- Rows stored one behind the other: a row behind a column, a column behind the rows. The invariants of the two loops say how far the list is filled (`ColumnFilled`,
--- `RowsFilled`); each is kept because a list that is filled up to a place and then from that place on is filled with both. Assumes nothing.
+-- Rows stored one behind the other: a row behind a column, a column behind the rows. The invariants of the two loops say how far the list is filled
+-- (`ColumnFilled`, `RowsFilled`); each is kept because a list that is filled up to a place and then from that place on is filled with both. Assumes nothing.
 use Prim.Native.Nat.{ℕ, suc, _+_, _*_, _≤_, _<_, zero-le}
 use native.Mathlib.Nat.{zero-add, le-antisymm}
 use native.Mathlib.Omega.{arith}

@@ -15,7 +15,8 @@ answerIn r = record { number = r .number; value = r .value }
 pub record OnPixels (boundaries : List ℕ) : Type 0 where
   pub ends : (i : ℕ) → i < boundaryCount boundaries → PixelSegment (endsOf boundaries i)
 
--- what the functions below the operation ask for, of boundaries i and j, of boundary j and those before it, of the first n: they are listed, and their rows fit behind k
+-- what the functions below the operation ask for, of boundaries i and j, of boundary j and those before it, of the first n: they are listed, and their rows fit
+-- behind k
 pub record PairFits (boundaries output : List ℕ) (k i j : ℕ) : Type 0 where
   pub pixels : OnPixels boundaries
   pub first : i < boundaryCount boundaries

@@ -1,4 +1,5 @@
-// The list of separations: for each two boundaries their numbers, the bits of their separation, which is the one that pass 1 calls, and the exact square of their distance.
+// The list of separations: for each two boundaries their numbers, the bits of their separation, which is the one that pass 1 calls, and the exact square of
+// their distance.
 ghost use mathlib.Core.Path.{_≡_};
 ghost use mathlib.Core.List.{[], _∷_};
 ghost use Prim.Native.Nat.{_+_, _*_, _≤_, _<_};

@@ -1,7 +1,8 @@
--- REQUEST 10 over a call: what the list of separations holds at exit. What is assumed, whole: a call of the operation met its contract (`Lists`) and returned 0. Then the row
--- of every two boundaries, i below j, has their numbers, a double that is within 2 ^ -32 pixel of the exact distance and 0 exactly when they share a point, and the exact square
--- (`listed-holds`). And if a call that runs a pass accepts a map, the list of its boundaries is not refused, given room, and the double is the separation of pass 1
--- (`listed-pass`). The exported operation meets `Lists` for every input, by its own contract (crates/separation_list).
+-- REQUEST 10 over a call: what the list of separations holds at exit. What is assumed, whole: a call of the operation met its contract (`Lists`) and returned
+-- 0. Then the row of every two boundaries, i below j, has their numbers, a double that is within 2 ^ -32 pixel of the exact distance and 0 exactly when they
+-- share a point, and the exact square (`listed-holds`). And if a call that runs a pass accepts a map, the list of its boundaries is not refused, given room,
+-- and the double is the separation of pass 1 (`listed-pass`). The exported operation meets `Lists` for every input, by its own contract
+-- (crates/separation_list).
 use mathlib.Core.Path.{_≡_, refl, sym, ap, _∙_, subst}
 use mathlib.Core.Logic.{_↔_}
 use mathlib.Core.Bool.{true, _&&_}
@@ -48,23 +49,36 @@ pub record RowHolds (s t : Segment) (i j : ℕ) (output : List ℕ) : Type 0 whe
 
 -- ---- the row as it was listed
 
-row-holds : {s t : Segment} {i j b num den : ℕ} {output : List ℕ} {x : Float} → SeparationHolds s t x → toBits binary64 x ≡ b → exactSquare s t .num ≡ num → exactSquare s t .den ≡ den
-    → entry output i j 0 ≡ i → entry output i j 1 ≡ j → entry output i j 2 ≡ b → entry output i j 3 ≡ num → entry output i j 4 ≡ den → RowHolds s t i j output
-row-holds {s} {t} {i} {j} {b} {num} {den} {output} {x} H eb en ed e0 e1 e2 e3 e4 =
+-- the five numbers that were listed, one by one
+record RowIs (s t : Segment) (x : Float) (i j : ℕ) (output : List ℕ) : Type 0 where
+  first : entry output i j 0 ≡ i
+  second : entry output i j 1 ≡ j
+  bits : entry output i j 2 ≡ toBits binary64 x
+  num : entry output i j 3 ≡ exactSquare s t .num
+  den : entry output i j 4 ≡ exactSquare s t .den
+
+row-holds : {s t : Segment} {x : Float} {i j : ℕ} {output : List ℕ} → SeparationHolds s t x → RowIs s t x i j output → RowHolds s t i j output
+row-holds {s} {t} {x} {i} {j} {output} H row =
     record {
-      smaller = e0;
-      larger = e1;
+      smaller = row .first;
+      larger = row .second;
       exact = exact;
-      small = record { num-le = subst (λ (n : ℕ). n ≤ 2 ^ 54) (en ∙ sym e3) (H .small .num-le); den-le = subst (λ (n : ℕ). n ≤ 2 ^ 27) (ed ∙ sym e4) (H .small .den-le) };
+      small =
+          record {
+            num-le = subst (λ (n : ℕ). n ≤ 2 ^ 54) (sym (row .num)) (H .small .num-le);
+            den-le = subst (λ (n : ℕ). n ≤ 2 ^ 27) (sym (row .den)) (H .small .den-le);
+          };
       within = subst (λ (y : Float). Within y (entry output i j 3) (entry output i j 4)) (sym double) (H .within exact);
-      zero = (λ z. zero-bits H .0 (eb ∙ sym e2 ∙ z), λ h. e2 ∙ sym eb ∙ zero-bits H .1 h);
+      zero = (λ z. zero-bits H .0 (sym (row .bits) ∙ z), λ h. row .bits ∙ zero-bits H .1 h);
     }
   where
     exact : ExactSquare s t (entry output i j 3) (entry output i j 4)
-    exact = subst (λ (n : ℕ). ExactSquare s t n (entry output i j 4)) (en ∙ sym e3) (subst (λ (d : ℕ). ExactSquare s t (exactSquare s t .num) d) (ed ∙ sym e4) (H .exact))
+    exact =
+        subst (λ (n : ℕ). ExactSquare s t n (entry output i j 4)) (sym (row .num))
+        (subst (λ (d : ℕ). ExactSquare s t (exactSquare s t .num) d) (sym (row .den)) (H .exact))
 
     double : ofBits binary64 (entry output i j 2) ≡ x
-    double = ap (ofBits binary64) (e2 ∙ sym eb) ∙ ofBits-toBits binary64 x (H .clear .held)
+    double = ap (ofBits binary64) (row .bits) ∙ ofBits-toBits binary64 x (H .clear .held)
 
 module _ {w h : ℕ} {boundaries output : List ℕ} {a : Answer} {o : List ℕ} (call : Lists w h boundaries output a o) (success : a .number ≡ 0) where
   abbrev n : ℕ
@@ -82,7 +96,8 @@ module _ {w h : ℕ} {boundaries output : List ℕ} {a : Answer} {o : List ℕ} 
   unfolding listAtExit
   entry-is i j k less l m =
       ap (λ (o : List ℕ). entry o i j k) (call .atExit ∙ ap (listAtExit boundaries output) success)
-      ∙ List·getD-append (separationRows boundaries n) (drop (length (separationRows boundaries n)) output) 0 (numbersPerSeparation * (pairCount j + i) + k) (row-within boundaries n i j k less l m)
+      ∙ List·getD-append (separationRows boundaries n) (drop (length (separationRows boundaries n)) output) 0 (numbersPerSeparation * (pairCount j + i) + k)
+      (row-within boundaries n i j k less l m)
       ∙ row-at boundaries n i j k less l m
 
   -- the bits of the separation
@@ -91,9 +106,14 @@ module _ {w h : ℕ} {boundaries output : List ℕ} {a : Answer} {o : List ℕ} 
 
   pub listed-holds : (i j : ℕ) → i < j → j < n → RowHolds (endsOf boundaries i) (endsOf boundaries j) i j o
   listed-holds i j less l =
-      row-holds (separation-holds (pixel i (omega arith)) (pixel j l)) refl refl refl
-      (unfold separationRow in entry-is i j 0 less l (lit< tt)) (unfold separationRow in entry-is i j 1 less l (lit< tt)) (bits-are i j less l)
-      (unfold separationRow in entry-is i j 3 less l (lit< tt)) (unfold separationRow in entry-is i j 4 less l (lit< tt))
+      row-holds (separation-holds (pixel i (omega arith)) (pixel j l))
+      (record {
+        first = unfold separationRow in entry-is i j 0 less l (lit< tt);
+        second = unfold separationRow in entry-is i j 1 less l (lit< tt);
+        bits = bits-are i j less l;
+        num = unfold separationRow in entry-is i j 3 less l (lit< tt);
+        den = unfold separationRow in entry-is i j 4 less l (lit< tt);
+      })
     where
       pixel : (i : ℕ) → i < n → PixelSegment (endsOf boundaries i)
       pixel = listed-pixel w h boundaries (length output) accepts
@@ -116,7 +136,8 @@ pass-accepts L room success enough =
     let whole : boundaries ≡ true = both spans boundaries (both (spans && boundaries) (isWhole numbersPerAnchor (L .anchors)) (A .whole) .0) .1 in
     rw (A .sides, whole, A .boundaries, le-leb (numbersPerSeparation * pairCount (boundaryCount (L .boundaries))) room enough) refl
 
-module _ (L : Lent) (success : verdict L .number ≡ 0) {output : List ℕ} {a : Answer} {o : List ℕ} (call : Lists (L .width) (L .height) (L .boundaries) output a o)
+module _ (L : Lent) (success : verdict L .number ≡ 0)
+    {output : List ℕ} {a : Answer} {o : List ℕ} (call : Lists (L .width) (L .height) (L .boundaries) output a o)
     (enough : numbersPerSeparation * pairCount (boundaryCount (L .boundaries)) ≤ length output) where
   pub listed-accepted : a .number ≡ 0
   listed-accepted = ap (λ (b : Answer). b .number) (call .answer) ∙ pass-accepts L (length output) success enough

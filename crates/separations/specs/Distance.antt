@@ -1,5 +1,6 @@
--- How far two segments are apart, exactly, and how far a double may be off (document 02, request 10). No real numbers here: a point of a segment is a mean of its ends with
--- whole weights, a squared distance is a fraction of whole numbers, and 'within 2 ^ -32' is a comparison of squares. Definitions only. Assumes nothing.
+-- How far two segments are apart, exactly, and how far a double may be off (document 02, request 10). No real numbers here: a point of a segment is a mean of
+-- its ends with whole weights, a squared distance is a fraction of whole numbers, and 'within 2 ^ -32' is a comparison of squares. Definitions only. Assumes
+-- nothing.
 use mathlib.Core.Path.{_≡_}
 use Prim.Native.Nat.{ℕ, _+_, _-_, _*_, _^_, _≤_, _<_}
 use mathlib.Core.Bool.{Bool, false, cond}
@@ -13,7 +14,8 @@ use Rattle.definitions.specs.RampGeometry.{intersects}
 
 -- ---- a point of a segment
 
--- (first * a + second * b) / (first + second): every rational point between a and b, the ends included, and no other. Where a and b are one point, so is every mean.
+-- (first * a + second * b) / (first + second): every rational point between a and b, the ends included, and no other. Where a and b are one point, so is every
+-- mean.
 pub record Weights : Type 0 where
   pub first : ℕ
   pub second : ℕ
@@ -54,8 +56,8 @@ pub record SharePoint (s t : Segment) : Type 0 where
   pub onSecond : Weights
   pub same : Same s onFirst t onSecond
 
--- "the exact distance of the two segments, with the exact square written as a fraction of whole numbers": num / den is the square. Two points are that far apart, and none
--- are nearer.
+-- "the exact distance of the two segments, with the exact square written as a fraction of whole numbers": num / den is the square. Two points are that far
+-- apart, and none are nearer.
 pub record ExactSquare (s t : Segment) (num den : ℕ) : Type 0 where
   pub positive : 0 < den
   pub onFirst : Weights
@@ -83,13 +85,13 @@ lengthSquare t = squares (distanceBetween (t .b .x) (t .a .x)) (distanceBetween 
 abbrev pub endSquare : Position → Position → ℕ
 endSquare p q = squares (distanceBetween (p .x) (q .x)) (distanceBetween (p .y) (q .y))
 
--- How far along t, in parts of `lengthSquare`, the foot of the perpendicular from p lies: the product of the ways from t's first end to p and to its second end, and 0 for a
--- foot before the first end.
+-- How far along t, in parts of `lengthSquare`, the foot of the perpendicular from p lies: the product of the ways from t's first end to p and to its second
+-- end, and 0 for a foot before the first end.
 abbrev pub along : Position → Segment → ℕ
 along p t = natOf (diff (p .x) (t .a .x) *ℤ diff (t .b .x) (t .a .x) +ℤ diff (p .y) (t .a .y) *ℤ diff (t .b .y) (t .a .y))
 
--- From p to t: to an end where the foot is not between the ends, and else along the perpendicular. On a map numerator and denominator are at most 2 ^ 54 and 2 ^ 27
--- (`small-square`).
+-- From p to t: to an end where the foot is not between the ends, and else along the perpendicular. On a map numerator and denominator are at most 2 ^ 54 and 2
+-- ^ 27 (`small-square`).
 unfoldable pub pointSquare : Position → Segment → Fraction
 unfolding cross
 pointSquare p t =
@@ -115,8 +117,8 @@ pixel = 2 ^ 1074
 abbrev pub allowed : ℕ
 allowed = 2 ^ (1074 - 32)
 
--- "within 2^-32 pixel of the exact distance", of which num / den is the square. The double is finite and its sign is clear; the root of num / den is at most x + 2 ^ -32, and
--- at least x - 2 ^ -32 where that is above zero (`-` stops at 0).
+-- "within 2^-32 pixel of the exact distance", of which num / den is the square. The double is finite and its sign is clear; the root of num / den is at most x
+-- + 2 ^ -32, and at least x - 2 ^ -32 where that is above zero (`-` stops at 0).
 pub record Within (x : Float) (num den : ℕ) : Type 0 where
   pub unsigned : (m : ℕ) × (e : ℤ) × (x ≡ fin false m e)
   pub above : num * (pixel * pixel) ≤ (magnitude x + allowed) * (magnitude x + allowed) * den

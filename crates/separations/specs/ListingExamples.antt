@@ -25,8 +25,8 @@ left-as-it-was = refl
 abbrev answer : ℕ → ℕ → Answer
 answer number value = record { number = number; value = value }
 
--- each refusal: a side of 0; a tenth number; an endpoint beyond the map, at the boundary's number; an output of fourteen numbers for three pairs. Fifteen are enough, and no
--- boundary needs no output. Of several faults the first of the table is told.
+-- each refusal: a side of 0; a tenth number; an endpoint beyond the map, at the boundary's number; an output of fourteen numbers for three pairs. Fifteen are
+-- enough, and no boundary needs no output. Of several faults the first of the table is told.
 pub answers : (listVerdict 0 4 three 15 ≡ answer 1 0) × (listVerdict 4 4 (three ++ (1 ∷ [])) 15 ≡ answer 3 0) × (listVerdict 4 4 (three ++ boundary 0 0 33 0) 30 ≡ answer 7 3)
     × (listVerdict 4 4 three 14 ≡ answer 10 0) × (listVerdict 4 4 three 15 ≡ answer 0 3) × (listVerdict 4 4 [] 0 ≡ answer 0 0)
     × (listVerdict 1025 4 (three ++ (1 ∷ [])) 0 ≡ answer 1 0) × (listVerdict 4 4 (three ++ boundary 0 0 33 0) 0 ≡ answer 7 3)

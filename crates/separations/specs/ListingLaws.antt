@@ -1,5 +1,5 @@
--- Where the rows of a list of separations stand, and that an accepted call has room for them and boundaries on a map. The argument: a row has five numbers, column j has j rows,
--- and the columns before it have j * (j - 1) / 2. Assumes nothing.
+-- Where the rows of a list of separations stand, and that an accepted call has room for them and boundaries on a map. The argument: a row has five numbers,
+-- column j has j rows, and the columns before it have j * (j - 1) / 2. Assumes nothing.
 use mathlib.Core.Path.{_≡_, refl, sym, ap, _∙_, subst}
 use mathlib.Core.Logic.{inl, inr}
 use mathlib.Core.Bool.{_&&_}

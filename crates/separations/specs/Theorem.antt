@@ -1,7 +1,8 @@
--- REQUEST 10 of document 02. For any two boundaries of an accepted map the separation of pass 1 is within 2 ^ -32 pixel of the exact distance of the two segments, and zero
--- exactly when they share a point (`accepted-separations`); segments without length are included, as nothing here asks for a length. What is assumed: that a call which runs a
--- pass accepts the map (its answer has number 0), of which checks 1 and 7 matter: they keep coordinates up to 8,192. The exact square (`exactSquare-is`) and the test for a
--- shared point (`intersects-exactly`) are right for all whole coordinates. Calls.antt says the same of what the list of separations holds at exit.
+-- REQUEST 10 of document 02. For any two boundaries of an accepted map the separation of pass 1 is within 2 ^ -32 pixel of the exact distance of the two
+-- segments, and zero exactly when they share a point (`accepted-separations`); segments without length are included, as nothing here asks for a length. What is
+-- assumed: that a call which runs a pass accepts the map (its answer has number 0), of which checks 1 and 7 matter: they keep coordinates up to 8,192. The
+-- exact square (`exactSquare-is`) and the test for a shared point (`intersects-exactly`) are right for all whole coordinates. Calls.antt says the same of what
+-- the list of separations holds at exit.
 use mathlib.Core.Path.{_≡_, refl, sym, ap, _∙_}
 use mathlib.Core.Logic.{_↔_}
 use mathlib.Core.Bool.{Bool, true, false, cond, false≢true}

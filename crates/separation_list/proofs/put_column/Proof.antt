@@ -1,4 +1,5 @@
--- `put_column` meets its contract. The loop's invariant is `ColumnFilled`: the rows of the first i are stored. The measure is how many are left. Assumes nothing.
+-- `put_column` meets its contract. The loop's invariant is `ColumnFilled`: the rows of the first i are stored. The measure is how many are left. Assumes
+-- nothing.
 use Prim.Native.Nat.{_-_}
 use native.Mathlib.Nat.{lt-trans}
 use Rattle.separation_list.proofs.Storing.{ColumnFilled, column-starts, column-room, column-goes-on, column-ends}
@@ -24,9 +25,10 @@ add-put-pair c = search needs
 put-pair-requires : tie.Need-put-pair-requires Inv-loop μ-loop
 put-pair-requires c κs =
     let turn = c .before in
-    let given = turn .before .before .before .before .pre in
+    let head = turn .before in
+    let given = head .before .before .before .pre in
     let less = turn .loop-test .taken in
-    record { pixels = given .pixels; first = lt-trans less (given .listed); second = given .listed; room = column-room (turn .before .loop .inv) less (given .room) }
+    record { pixels = given .pixels; first = lt-trans less (given .listed); second = given .listed; room = column-room (head .loop .inv) less (given .room) }
 
 add-i : tie.Need-add-i Inv-loop μ-loop
 add-i c = search needs

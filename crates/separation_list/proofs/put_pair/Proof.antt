@@ -1,5 +1,5 @@
--- `put_pair` meets its contract: the row is the definition's, as its two parts are; a separation is no NaN, and its bits are all zero just where the two share a point. Assumes
--- nothing.
+-- `put_pair` meets its contract: the row is the definition's, as its two parts are; a separation is no NaN, and its bits are all zero just where the two share
+-- a point. Assumes nothing.
 use mathlib.Core.Path.{_≡_, sym, ap, _∙_, subst}
 use mathlib.Core.List.{List}
 use Prim.Native.Nat.{ℕ, _<_}

@@ -1,5 +1,5 @@
--- `put_rows` meets its contract. The loop's invariant is `RowsFilled`: the rows of the first j are stored, and k is where they end. The measure is how many are left. Assumes
--- nothing.
+-- `put_rows` meets its contract. The loop's invariant is `RowsFilled`: the rows of the first j are stored, and k is where they end. The measure is how many are
+-- left. Assumes nothing.
 use Prim.Native.Nat.{_-_}
 use native.Mathlib.Nat.{lt-of-lt-of-le}
 use Rattle.separation_list.proofs.Storing.{RowsFilled, rows-start, next-room, rows-go-on, rows-end}
@@ -19,18 +19,21 @@ loop-holds c = rows-start _ _ _
 put-column-requires : tie.Need-put-column-requires Inv-loop μ-loop
 put-column-requires c κs =
     let turn = c .before in
-    let given = turn .before .before .before .before .pre in
+    let head = turn .before in
+    let given = head .before .before .before .pre in
     let less = turn .loop-test .taken in
-    record { pixels = given .pixels; listed = lt-of-lt-of-le less (given .listed); room = next-room (turn .before .loop .inv) less (given .room) }
+    record { pixels = given .pixels; listed = lt-of-lt-of-le less (given .listed); room = next-room (head .loop .inv) less (given .room) }
 
 mul-k : tie.Need-mul-k Inv-loop μ-loop
 mul-k c = search needs
 
 add-k : tie.Need-add-k Inv-loop μ-loop
 add-k c =
-    let turn = c .before .before .before .before in
-    let given = turn .before .before .before .before .pre in
-    let room = next-room (turn .before .loop .inv) (turn .loop-test .taken) (given .room) in
+    let put = c .before .before in
+    let turn = put .before .before in
+    let head = turn .before in
+    let given = head .before .before .before .pre in
+    let room = next-room (head .loop .inv) (turn .loop-test .taken) (given .room) in
     search needs
 
 add-j : tie.Need-add-j Inv-loop μ-loop

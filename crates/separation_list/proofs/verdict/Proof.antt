@@ -37,7 +37,8 @@ pair-count-requires : tie.Need-pair-count-requires
 pair-count-requires c κs =
     let whole = c .before in
     let at-whole = whole .before in
-    let given = at-whole .before .before .before .before .args in
+    let at-sides = at-whole .before .before in
+    let given = at-sides .before .before .args in
     entries-le (given .boundaries .now) (at-whole .is-whole .ensures) (not-false _ (whole .if2 .left))
 
 enum-known-fault : tie.Need-enum-known-fault
@@ -51,7 +52,8 @@ room-answer-requires c κs = search needs
 
 returns-3 : tie.Need-returns-3
 returns-3 c =
-    let at-fault = c .before .before .before .before in
+    let at-count = c .before .before .before in
+    let at-fault = at-count .before in
     let whole = at-fault .before in
     let wide = whole .before .before in
     let at-sides = wide .before in

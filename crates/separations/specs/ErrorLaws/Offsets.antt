@@ -1,5 +1,5 @@
--- The differences p - (a + t * d) whose hypotenuse is a distance from a segment: with t a double from 0 to 1 and whole p, a and d, each is off by at most 7 * 2 ^ -39 pixel, for
--- three operations are rounded. Before them differences and products of whole numbers, which are exact (`Stands`). Assumes nothing.
+-- The differences p - (a + t * d) whose hypotenuse is a distance from a segment: with t a double from 0 to 1 and whole p, a and d, each is off by at most 7 * 2
+-- ^ -39 pixel, for three operations are rounded. Before them differences and products of whole numbers, which are exact (`Stands`). Assumes nothing.
 use mathlib.Core.Path.{_≡_, refl, sym, ap, _∙_, subst}
 use mathlib.Core.Bool.{Bool, true, false, not, cond}
 use Prim.Native.Nat.{ℕ, _+_, _-_, _*_, _^_, _≤_, _<_}

@@ -1,5 +1,5 @@
--- The part t of a segment before the nearest point, as `pointSegmentDistance` has it, against the exact foot k / n: a quotient of whole numbers, rounded once and brought between 0 and 1.
--- It is off by at most 2 ^ -52, and by nothing where the foot is an end. Assumes nothing.
+-- The part t of a segment before the nearest point, as `pointSegmentDistance` has it, against the exact foot k / n: a quotient of whole numbers, rounded once
+-- and brought between 0 and 1. It is off by at most 2 ^ -52, and by nothing where the foot is an end. Assumes nothing.
 use mathlib.Core.Path.{_≡_, refl, sym, ap, _∙_, subst}
 use mathlib.Core.Logic.{inl, inr}
 use mathlib.Core.Bool.{Bool, true, false, _&&_, _||_, Bool·beq, cond, true≢false, false≢true, or-true}

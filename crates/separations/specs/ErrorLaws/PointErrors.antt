@@ -1,6 +1,6 @@
--- How far the distance of a point and a segment is off: at most 2 ^ -34 pixel. The parameter t is off by at most 2 ^ -52, which moves the nearest point by at most 2 ^ -39 in each coordinate;
--- the offsets from that point are off by at most 7 * 2 ^ -39 more, and the rounded root by 2 ^ -36. For the lower bound t is not looked at: any t from 0 to 1 is a point of the segment,
--- which is not nearer than the foot. Assumes coordinates up to 8,192.
+-- How far the distance of a point and a segment is off: at most 2 ^ -34 pixel. The parameter t is off by at most 2 ^ -52, which moves the nearest point by at
+-- most 2 ^ -39 in each coordinate; the offsets from that point are off by at most 7 * 2 ^ -39 more, and the rounded root by 2 ^ -36. For the lower bound t is
+-- not looked at: any t from 0 to 1 is a point of the segment, which is not nearer than the foot. Assumes coordinates up to 8,192.
 use mathlib.Core.Path.{_≡_, refl, sym, ap, _∙_, subst}
 use mathlib.Core.Logic.{_⊎_, inl, inr}
 use mathlib.Core.Bool.{false, cond}

@@ -1,6 +1,6 @@
--- How far a separation is off: the least of four doubles is off from the least of four roots by no more than each of them is, 2 ^ -34 pixel, so that it is within 2 ^ -32
--- (`separation-within`). Two segments that share no point are at least 2 ^ -27 apart, far more than the error, so that a separation is zero just for those that share one
--- (`separation-zero`). Assumes coordinates up to 8,192.
+-- How far a separation is off: the least of four doubles is off from the least of four roots by no more than each of them is, 2 ^ -34 pixel, so that it is
+-- within 2 ^ -32 (`separation-within`). Two segments that share no point are at least 2 ^ -27 apart, far more than the error, so that a separation is zero just
+-- for those that share one (`separation-zero`). Assumes coordinates up to 8,192.
 use mathlib.Core.Path.{_≡_, refl, sym, ap, _∙_, subst}
 use mathlib.Core.Logic.{_⊎_, inl, inr, _↔_}
 use mathlib.Core.Bool.{Bool, true, false, cond, false≢true}

@@ -1,6 +1,5 @@
--- `intersects` says exactly that two segments share a point, also where they lie on one line and where one or both have no length. Two segments whose ends lie on different sides
--- of each other's lines cross at the point whose weights are the four side values; the other tests say that an end is on the other segment (Meeting). And two that share a point
--- either have an end on the other, found by sliding where they are parallel (Rates), or their ends lie on different sides. Assumes nothing.
+-- Two segments that pass `intersects` share a point (`intersects-share`). Where their ends lie on different sides of each other's lines they cross at the point
+-- whose weights are the four side values; the other tests say that an end is on the other segment (Meeting). The converse stands in Sharing. Assumes nothing.
 use mathlib.Core.Path.{_≡_, refl, sym, ap, _∙_}
 use mathlib.Core.Bool.{Bool, true, false, not, _&&_, _||_, or-true}
 use Prim.Native.Nat.{ℕ, zero, suc, _+_, _-_, _*_, _≤_, _<_}

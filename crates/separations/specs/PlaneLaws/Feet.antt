@@ -1,5 +1,5 @@
--- The point of a segment nearest to a given point is the foot of the perpendicular, brought between the ends: no other point of the segment is nearer (`foot-least`). By Stewart's theorem,
--- in three cases: the foot is the first end, the second, or between. Assumes nothing.
+-- The point of a segment nearest to a given point is the foot of the perpendicular, brought between the ends: no other point of the segment is nearer
+-- (`foot-least`). By Stewart's theorem, in three cases: the foot is the first end, the second, or between. Assumes nothing.
 use mathlib.Core.Path.{_≡_, refl, sym, ap, _∙_, subst}
 use mathlib.Core.Logic.{_⊎_, inl, inr}
 use mathlib.Core.Bool.{Bool, true, false, cond}

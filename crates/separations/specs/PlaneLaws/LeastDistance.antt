@@ -1,5 +1,6 @@
--- The least of four squared distances, each of an end and its foot on the other segment, is the square of the distance of two segments that share no point (`apart-exact`), and 0 of two that
--- do (`meet-exact`). The square is determined, as a fraction (`exact-unique`), and may be written otherwise (`exact-again`). Assumes nothing.
+-- The least of four squared distances, each of an end and its foot on the other segment, is the square of the distance of two segments that share no point
+-- (`apart-exact`), and 0 of two that do (`meet-exact`). The square is determined, as a fraction (`exact-unique`), and may be written otherwise (`exact-again`).
+-- Assumes nothing.
 use mathlib.Core.Path.{_≡_, refl, sym, ap, _∙_}
 use mathlib.Core.Logic.{_⊎_, inl, inr}
 use mathlib.Core.Bool.{Bool, true, false, cond}

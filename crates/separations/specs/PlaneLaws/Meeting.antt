@@ -1,6 +1,5 @@
--- `intersects` says exactly that two segments share a point (`share-intersects`, `intersects-share`), also where they lie on one line and where one or both have no length.
--- A point is on a segment where it is on its line and between its ends. Two segments whose ends lie on different sides of each other's lines cross at the point whose weights are
--- the four side values. And two that share a point have an end on the other, found by sliding where they are parallel (Rates), or cross. Assumes nothing.
+-- A position is a point of a segment (`OnIt`) exactly where the Rust's test for it holds: it is on the segment's line and within the box of its ends
+-- (`on-test`, `test-on`). The weights of such a position are its distances from the ends, along an axis in which these differ. Assumes nothing.
 use mathlib.Core.Path.{_≡_, sym, ap, _∙_}
 use mathlib.Core.Bool.{true, _&&_}
 use Prim.Native.Nat.{ℕ, _+_, _-_, _*_, _≤_, _<_, min, max}

@@ -1,5 +1,5 @@
--- The four fractions of `exactSquare` are those of the feet (Feet), written shorter: where the foot is between the ends, the distance is that of the perpendicular, cross / length.
--- So the least of the one four is the least of the other (`least-same`). Assumes nothing.
+-- The four fractions of `exactSquare` are those of the feet (Feet), written shorter: where the foot is between the ends, the distance is that of the
+-- perpendicular, cross / length. So the least of the one four is the least of the other (`least-same`). Assumes nothing.
 use mathlib.Core.Path.{_≡_, refl, sym, ap, _∙_, subst}
 use mathlib.Core.Logic.{_⊎_, inl, inr}
 use mathlib.Core.Bool.{Bool, true, false, cond}

@@ -1,6 +1,6 @@
--- The rates at which two points slide (Sliding). With d1 and d2 along the two segments and g the way from the second point to the first, the rates are g x d2 and g x d1 and the way shrinks by
--- d1 x d2, up to one sign; where the segments are parallel it does not shrink, and the rates are coordinates of d2 and d1. So of any two points of two segments there are two that are no farther
--- apart, one of them an end, unless the segments share a point (`reach`). Assumes nothing.
+-- The rates at which two points slide (Sliding). With d1 and d2 along the two segments and g the way from the second point to the first, the rates are g x d2
+-- and g x d1 and the way shrinks by d1 x d2, up to one sign; where the segments are parallel it does not shrink, and the rates are coordinates of d2 and d1. So
+-- of any two points of two segments there are two that are no farther apart, one of them an end, unless the segments share a point (`reach`). Assumes nothing.
 use mathlib.Core.Path.{_≡_, sym, ap, _∙_, subst}
 use mathlib.Core.Logic.{_⊎_, inl, inr}
 use Prim.Native.Nat.{ℕ, _+_, _-_, _*_, _<_}
@@ -23,7 +23,8 @@ acrossMore s t = s .b .x * t .b .y + s .a .x * t .a .y + (s .b .y * t .a .x + s 
 abbrev pub acrossLess : Segment → Segment → ℕ
 acrossLess s t = s .b .x * t .a .y + s .a .x * t .b .y + (s .b .y * t .b .x + s .a .y * t .a .x)
 
--- With G / K for the first / second point's x, G' / K' for their y: the rates' identity in x. It holds factor by factor: of G', of K', and of G and K with kappa.
+-- With G / K for the first / second point's x, G' / K' for their y: the rates' identity in x. It holds factor by factor: of G', of K', and of G and K with
+-- kappa.
 out : (p q r w a b c d z : ℕ) → (p * a + q * b + (r * c + w * d)) * z ≡ p * (a * z) + q * (b * z) + (r * (c * z) + w * (d * z))
 out p q r w a b c d z = omega arith
 

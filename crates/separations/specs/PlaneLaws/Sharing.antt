@@ -1,5 +1,6 @@
--- Two segments that share a point pass `intersects`. Where they are parallel the common point slides to an end of one, which is then on the other. Where they are not, and the
--- common point is no end, the ends of each lie on different sides of the other's line: the side values of s's ends, weighted as the point is, add up to zero. Assumes nothing.
+-- Two segments that share a point pass `intersects`. Where they are parallel the common point slides to an end of one, which is then on the other. Where they
+-- are not, and the common point is no end, the ends of each lie on different sides of the other's line: the side values of s's ends, weighted as the point is,
+-- add up to zero. Assumes nothing.
 use mathlib.Core.Path.{_≡_, refl, sym, ap, _∙_, subst}
 use mathlib.Core.Logic.{inl, inr}
 use mathlib.Core.Bool.{true, not, _&&_}

@@ -1,4 +1,5 @@
--- Sliding at rates of either sign (Sliding has them not negative): numbers of either sign are differences of naturals, and a segment whose point slides backward is turned round. Assumes nothing.
+-- Sliding at rates of either sign (Sliding has them not negative): numbers of either sign are differences of naturals, and a segment whose point slides
+-- backward is turned round. Assumes nothing.
 use mathlib.Core.Path.{_≡_, sym, ap, _∙_, subst}
 use mathlib.Core.Logic.{inl, inr}
 use Prim.Native.Nat.{ℕ, _+_, _-_, _*_, _≤_, _<_}

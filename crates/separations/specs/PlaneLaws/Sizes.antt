@@ -1,5 +1,5 @@
--- The exact square of two boundaries of a map fits 64 bits (`small-square`): numerators are squares of cross products or of distances of whole pixels, denominators squares
--- of lengths. Assumes coordinates up to 8,192.
+-- The exact square of two boundaries of a map fits 64 bits (`small-square`): numerators are squares of cross products or of distances of whole pixels,
+-- denominators squares of lengths. Assumes coordinates up to 8,192.
 use Prim.Native.Nat.{ℕ, _*_, _^_, _≤_, zero-le}
 use mathlib.Core.Bool.{Bool, true, false, cond}
 use native.Mathlib.Nat.{le-trans, add-le-add, mul-le-mul}

@@ -1,5 +1,5 @@
--- Squares of differences of naturals, and Stewart's theorem: for a mean of a segment's ends with weights i and j, distance ^ 2 * (i + j) ^ 2 + i * j * length ^ 2 = (i + j) * (i * a + j * b), a and b
--- being the squared distances from the ends. No number here has a sign. Assumes nothing.
+-- Squares of differences of naturals, and Stewart's theorem: for a mean of a segment's ends with weights i and j, distance ^ 2 * (i + j) ^ 2 + i * j * length ^
+-- 2 = (i + j) * (i * a + j * b), a and b being the squared distances from the ends. No number here has a sign. Assumes nothing.
 use mathlib.Core.Path.{_≡_, refl, sym, ap, _∙_, subst}
 use mathlib.Core.Logic.{inl, inr}
 use Prim.Native.Nat.{ℕ, _+_, _-_, _*_, _≤_}
