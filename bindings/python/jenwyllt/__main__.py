@@ -2,13 +2,14 @@
 from __future__ import annotations
 
 import argparse
+import contextlib
 import os
 import sys
-from typing import NoReturn
+from typing import IO, NoReturn
 
 from . import __version__, commands
 from ._library import NotBuilt
-from .commands._streams import Failed, Refused, said
+from .commands._streams import Failed, Refused, said, write
 from .refusal import Refusal
 
 END = 'Exit status: 0 answered, 1 refused, 2 wrong use or a failure of the system.'
@@ -19,6 +20,13 @@ class Parser(argparse.ArgumentParser):
 
     def error(self, message: str) -> NoReturn:
         self.exit(2, f'{self.prog}: {message}; {self.prog} --help says more\n')
+
+    def _print_message(self, message: str, file: IO[str] | None = None) -> None:
+        """that of argparse passes over a full disk"""
+        if file is sys.stdout:
+            write('-', message)
+        else:
+            sys.stderr.write(message)
 
 
 def parser() -> argparse.ArgumentParser:
@@ -34,20 +42,28 @@ def parser() -> argparse.ArgumentParser:
     return top
 
 
-def quietly(status: int) -> int:
-    """nothing more is written at the end of Python where standard output failed"""
-    if status == 2 and sys.stdout is not None:
+def flushed(status: int) -> int:
+    """the status, or 2 where standard output cannot take what was printed; then nothing more is written at the end of Python"""
+    if sys.stdout is None:
+        return status
+    if status != 2:
         try:
+            sys.stdout.flush()
+        except OSError as wrong:
+            said(f'standard output: {wrong.strerror}')
+            status = 2
+    if status == 2:
+        with contextlib.suppress(OSError, ValueError):
             os.dup2(os.open(os.devnull, os.O_WRONLY), sys.stdout.fileno())
-        except (OSError, ValueError):
-            pass
     return status
 
 
-def main(words: list[str] | None = None) -> int:
-    args = parser().parse_args(words)
+def answered(words: list[str] | None) -> int:
     try:
+        args = parser().parse_args(words)
         return args.run(args)
+    except SystemExit as left:                                         # after --help, or wrong words
+        return left.code if isinstance(left.code, int) else 0
     except (Refused, Refusal) as wrong:
         said(wrong)
         return 1
@@ -55,7 +71,11 @@ def main(words: list[str] | None = None) -> int:
         said(wrong)
     except KeyboardInterrupt:
         said('interrupted')
-    return quietly(2)
+    return 2
+
+
+def main(words: list[str] | None = None) -> int:
+    return flushed(answered(words))
 
 
 if __name__ == '__main__':

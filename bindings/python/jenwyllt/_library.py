@@ -73,7 +73,7 @@ DECLARED: dict[str, Function] = {}
 class Function:
     """a function of the library, by its name there, what it returns, and its parameters in order"""
 
-    def __init__(self, name: str, result: type, **parameters: type | ListOf):
+    def __init__(self, name: str, result: type, /, **parameters: type | ListOf):
         self.name, self.result, self.parameters = name, result, parameters
         DECLARED[name] = self
 

@@ -170,19 +170,23 @@ class Failures(Trial):
             self.assertIn(b'--help says more', done.stderr)
 
     def test_full_disk(self) -> None:
+        example = EXAMPLES / 'case_j.txt'
         with open('/dev/full', 'wb') as full:
-            for words in (('keptlist',), ('keptlist', '--json'), ('draw',), ('regions',)):
-                done = subprocess.run([sys.executable, COMMAND, *words, EXAMPLES / 'case_j.txt'], stdout=full, stderr=subprocess.PIPE)
-                self.assertEqual((done.returncode, done.stderr), (2, b'jenwyllt: standard output: No space left on device\n'), words)
+            for words in (('keptlist', example), ('keptlist', '--json', example), ('draw', example), ('regions', example), ('--help',), ('--version',)):
+                for unbuffered in ('', '1'):
+                    done = subprocess.run([sys.executable, COMMAND, *words], stdout=full, stderr=subprocess.PIPE, env={**os.environ, 'PYTHONUNBUFFERED': unbuffered})
+                    self.assertEqual((done.returncode, done.stderr), (2, b'jenwyllt: standard output: No space left on device\n'), words)
         done = run('keptlist', EXAMPLES / 'case_j.txt', '--draw', '/dev/full')
         self.assertEqual((done.returncode, done.stderr), (2, b'jenwyllt: /dev/full: No space left on device\n'))
 
     def test_closed(self) -> None:
-        read, write = os.pipe()
-        os.close(read)
-        done = subprocess.run([sys.executable, COMMAND, 'keptlist', EXAMPLES / 'case_j.txt'], stdout=write, stderr=subprocess.PIPE)
-        os.close(write)
-        self.assertEqual((done.returncode, done.stderr), (2, b'jenwyllt: standard output: Broken pipe\n'))
+        for unbuffered in ('', '1'):
+            read, write = os.pipe()
+            os.close(read)
+            done = subprocess.run([sys.executable, COMMAND, 'keptlist', EXAMPLES / 'case_j.txt'], stdout=write, stderr=subprocess.PIPE,
+                                  env={**os.environ, 'PYTHONUNBUFFERED': unbuffered})
+            os.close(write)
+            self.assertEqual((done.returncode, done.stderr), (2, b'jenwyllt: standard output: Broken pipe\n'))
         for closing, said in (('>&-', 'standard output is closed'), ('<&-', 'standard input is closed')):
             name = EXAMPLES / 'case_j.txt' if closing == '>&-' else '-'
             done = subprocess.run(['sh', '-c', f'"$0" "$1" keptlist "$2" {closing}', sys.executable, COMMAND, str(name)], capture_output=True)

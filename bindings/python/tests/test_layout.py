@@ -92,8 +92,10 @@ class Declared(unittest.TestCase):
                                   ('MOST_SIDE', 'maxSide', sheet.MOST_SIDE), ('MOST_ENTRIES', 'maxEntries', sheet.MOST_ENTRIES)):
             self.assertEqual((header[name], int(limits[limit])), (ours, ours), name)
         self.assertEqual(header['PIXELS_PER_CELL'], sheet.PIXELS_PER_CELL)
-        rust = re.findall(r'^    \w+: (\d+) of (u32|u64);$', (declarations.RUST / 'entries.rs').read_text(), re.M)
-        self.assertEqual([int(count) for count, _ in rust], [2, 4, 9, 5, 2, 3])
+        rust = dict(re.findall(r'^    (\w+): (\d+) of u(?:32|64);$', (declarations.RUST / 'entries.rs').read_text(), re.M))
+        for entry, ours in (('Span', sheet.SPAN_NUMBERS), ('Boundary', sheet.BOUNDARY_NUMBERS), ('Point', sheet.ANCHOR_NUMBERS), ('Tally', TALLY_NUMBERS),
+                            ('Pair', PAIR_NUMBERS), ('Row', ROW_NUMBERS)):
+            self.assertEqual(int(rust[entry]), ours, entry)
 
     def test_version(self) -> None:
         header = declarations.header()
