@@ -25,11 +25,12 @@ use Rattle.laws.specs.ListLaws.Tests.{both}
 use Rattle.laws.specs.ListLaws.Lists.{getD-tab}
 use Rattle.laws.specs.TableLaws.AcceptedCalls.{accepted}
 use Rattle.laws.specs.FloatLaws.Pixels.{PixelSegment}
+use Rattle.laws.specs.RustPasses.Accepted.{accepted-on-map}
 use Rattle.separations.specs.Distance.{SharePoint, ExactSquare, exactSquare, Within}
 use Rattle.separations.specs.Listing.{numbersPerSeparation, boundaryCount, endsOf, separationRow, separationRows, pairCount, listVerdict, listAtExit, Lists}
 use Rattle.separations.specs.ListingLaws.{row-at, row-within, listed-pixel, listed-count}
 use Rattle.separations.specs.PlaneLaws.Sizes.{Small}
-use Rattle.separations.specs.Theorem.{SeparationHolds, separation-holds, zero-bits}
+use Rattle.separations.specs.Theorem.{SeparationHolds, separation-holds, zero-bits, separations-turned}
 
 -- entry k of the row of boundaries i and j, i below j, in an output
 abbrev pub entry : List ℕ → ℕ → ℕ → ℕ → ℕ
@@ -142,8 +143,13 @@ module _ (L : Lent) (success : verdict L .number ≡ 0)
   pub listed-accepted : a .number ≡ 0
   listed-accepted = ap (λ (b : Answer). b .number) (call .answer) ∙ pass-accepts L (length output) success enough
 
-  pub listed-pass : (i j : ℕ) → i < j → j < boundaryCount (L .boundaries) → entry o i j 2 ≡ toBits binary64 (separationOf (contextOf (mapIn L)) i j)
-  unfolding separationOf contextOf
-  listed-pass i j h l =
-      bits-are call listed-accepted i j h l
-      ∙ (λ k. toBits binary64 (segmentDistance (sym (ends-are L i (omega arith)) k) (sym (ends-are L j l) k)))
+  -- whichever of the two pass 1 takes first
+  pub listed-pass : (i j : ℕ) → i < j → j < boundaryCount (L .boundaries)
+      → (entry o i j 2 ≡ toBits binary64 (separationOf (contextOf (mapIn L)) i j)) × (entry o i j 2 ≡ toBits binary64 (separationOf (contextOf (mapIn L)) j i))
+  listed-pass i j h l = (as-listed, as-listed ∙ ap (toBits binary64) (separations-turned (accepted-on-map L success) i j))
+    where
+      as-listed : entry o i j 2 ≡ toBits binary64 (separationOf (contextOf (mapIn L)) i j)
+      as-listed =
+          unfold separationOf contextOf in
+          (bits-are call listed-accepted i j h l
+          ∙ (λ k. toBits binary64 (segmentDistance (sym (ends-are L i (omega arith)) k) (sym (ends-are L j l) k))))

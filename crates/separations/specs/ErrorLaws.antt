@@ -5,3 +5,4 @@ pub mod Parameters
 pub mod Roots
 pub mod PointErrors
 pub mod SegmentErrors
+pub mod Turned

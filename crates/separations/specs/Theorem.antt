@@ -28,6 +28,7 @@ use Rattle.separations.specs.PlaneLaws.Sharing.{share-intersects}
 use Rattle.separations.specs.PlaneLaws.LeastDistance.{meet-exact, apart-exact, exact-again}
 use Rattle.separations.specs.PlaneLaws.Perpendicular.{leastSquare, least-same}
 use Rattle.separations.specs.PlaneLaws.Sizes.{Small, small-square}
+use Rattle.separations.specs.ErrorLaws.Turned.{separation-turned}
 use Rattle.separations.specs.ErrorLaws.SegmentErrors.{meets-zero, zero-magnitude, separation-within, separation-zero}
 
 -- ---- of all segments of whole coordinates
@@ -97,6 +98,11 @@ OfBoundaries M i j = SeparationHolds (boundaryOf M i .endpoints) (boundaryOf M j
 pub map-separations : {M : Map} → OnMap M → (i j : ℕ) → OfBoundaries M i j
 unfolding separationOf contextOf
 map-separations {M} h i j = separation-holds (map-pixel h .ends i) (map-pixel h .ends j)
+
+-- which of the two comes first does not matter
+pub separations-turned : {M : Map} → OnMap M → (i j : ℕ) → separationOf (contextOf M) i j ≡ separationOf (contextOf M) j i
+unfolding separationOf contextOf
+separations-turned {M} h i j = separation-turned (map-pixel h .ends i) (map-pixel h .ends j)
 
 pub accepted-separations : (L : Lent) → verdict L .number ≡ 0 → (i j : ℕ) → OfBoundaries (mapIn L) i j
 accepted-separations L success i j = map-separations (accepted-on-map L success) i j

@@ -109,7 +109,7 @@ different-sides s t h a b n = ap not (ne-eqb (signum (cross (t .a) (t .b) (s .a)
 
 -- ---- the common point is an end
 
-abbrev share-turn : {s t : Segment} → SharePoint s t → SharePoint t s
+abbrev pub share-turn : {s t : Segment} → SharePoint s t → SharePoint t s
 share-turn h = record { onFirst = h .onSecond; onSecond = h .onFirst; same = (sym (h .same .0), sym (h .same .1)) }
 
 -- of the first segment: its second end, its first end
