@@ -14,7 +14,7 @@ from ..sheet_text import Wrong
 from ..unproved.separations import separations as unproved_separations
 from . import _maps, _streams
 from ._answers import Answers, add_unproved, chosen
-from .keptlist import as_json, refusal_json
+from .keptlist import as_json, refuse
 
 NAME = 'separations'
 HELP = f'print how far each two boundaries of a map are apart, within {BOUND_WORDS} pixel, and the exact square of the distance'
@@ -66,10 +66,7 @@ def run(args: argparse.Namespace) -> int:
     try:
         sheet, rows = worked_out(args, answers)
     except (Refusal, Wrong) as wrong:
-        if not args.json:
-            raise _maps.refused(args.map, wrong) from wrong
-        _streams.write('-', as_json(args.map, answers.proved, refusal_json(wrong)))
-        return 1
+        return refuse(args.map, wrong, answers.proved, args.json)
     if args.json:
         _streams.write('-', as_json(args.map, answers.proved, listed(sheet, rows)))
     else:
