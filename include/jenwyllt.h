@@ -1,4 +1,5 @@
-/* Regions of a walk grid cut by spans, the boundaries that a pass keeps, the reader of sheets, and the correctly rounded hypotenuse.
+/* Regions of a walk grid cut by spans, the boundaries that a pass keeps, how far boundaries are apart, the reader of sheets, and the correctly rounded
+   hypotenuse.
    The library is for x86-64 Linux: libjenwyllt.a and libjenwyllt.so, which tools/build_library.sh writes to target/lib. It keeps no state and allocates
    nothing; from outside it needs only `memset`.
    Every function is proved to meet the definitions of crates/definitions for every input that keeps to what stands here. Floating-point operations must
@@ -27,6 +28,7 @@ enum jenwyllt_size {
     JENWYLLT_TALLY_NUMBERS = 2,
     JENWYLLT_PAIR_NUMBERS = 3,
     JENWYLLT_ROW_NUMBERS = 5,
+    JENWYLLT_SEPARATION_NUMBERS = 5,
     JENWYLLT_PIXELS_PER_CELL = 8,
     JENWYLLT_MOST_SIDE = 1024,
     JENWYLLT_MOST_ENTRIES = 256
@@ -153,6 +155,30 @@ struct jenwyllt_answer jenwyllt_kept_boundaries(
     uint32_t *tallies, size_t tallies_length,
     uint32_t *pairs, size_t pairs_length,
     struct jenwyllt_region *records, size_t records_length,
+    uint64_t *output, size_t output_length);
+
+/* The separation of each two boundaries of a map: the distance of the two segments in pixels, as pass 1 works it out in doubles, and the square of the exact
+   distance as a fraction of whole numbers. A separation is within 2^-32 pixel of the root of its fraction, and 0.0 exactly when the two share a point;
+   segments without length are included.
+
+   Read:
+     boundaries  9 a boundary, as for `jenwyllt_kept_boundaries`, at most 256
+   Filled; it may be longer than needed, and what it holds behind the last row stays:
+     output      rows of 5: the smaller number of a boundary and the larger, from 0; the bits of the separation as a double, whose sign is clear; numerator
+                 and denominator of the exact square, at most 2^54 and 2^27 and not in lowest terms. Ascending by the larger number, then by the smaller: the
+                 row of i and j, i below j, is row j * (j - 1) / 2 + i.
+
+   Number 0: the value is the count of rows, n * (n - 1) / 2 for n boundaries. Otherwise the number says why not; the first of these causes that applies is
+   given, and the output stays as it was:
+
+     number  cause                                                           value
+     1       a side is 0 or over 1024                                        0
+     3       over 256 boundaries, or the last one is unfinished              0
+     7       a boundary that `jenwyllt_kept_boundaries` refuses as 7         the first faulty boundary
+     10      the output is shorter than 5 numbers a row                      0 */
+struct jenwyllt_answer jenwyllt_separations(
+    uint64_t width, uint64_t height,
+    const uint64_t *boundaries, size_t boundaries_length,
     uint64_t *output, size_t output_length);
 
 /* What a sheet opens with; the last three are counts of entries. Number 0: the place is 0. Otherwise a refusal's number and place, and the rest is 0. */

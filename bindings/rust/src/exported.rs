@@ -88,6 +88,15 @@ unsafe extern "C" {
         output_length: usize,
     ) -> Answer;
 
+    pub fn jenwyllt_separations(
+        width: u64,
+        height: u64,
+        boundaries: *const u64,
+        boundaries_length: usize,
+        output: *mut u64,
+        output_length: usize,
+    ) -> Answer;
+
     pub fn jenwyllt_read_sheet(
         bytes: *const u8,
         bytes_length: usize,

@@ -1,9 +1,11 @@
 //! Safe calls of the library `jenwyllt`, which is proved to meet its definitions for every input: the regions of a map cut by
-//! spans, the boundaries that a pass keeps, the reader of sheets, and the correctly rounded hypotenuse.
+//! spans, the boundaries that a pass keeps, how far boundaries are apart, the reader of sheets, and the correctly rounded
+//! hypotenuse.
 //!
-//! [`partition`], [`kept_boundaries`] and [`read_sheet`] make the lists that the library fills. [`partition_into`],
-//! [`kept_boundaries_into`] and [`read_sheet_into`] take lists of numbers that the caller lends and allocate nothing. A list of any
-//! content and length is a valid argument: what does not fit is answered by a [`Refusal`].
+//! [`partition`], [`kept_boundaries`], [`separations`] and [`read_sheet`] make the lists that the library fills.
+//! [`partition_into`], [`kept_boundaries_into`], [`separations_into`] and [`read_sheet_into`] take lists of numbers that the caller
+//! lends and allocate nothing. A list of any content and length is a valid argument: what does not fit is answered by a
+//! [`Refusal`].
 //!
 //! The library is for x86-64 Linux; build.rs says where it is looked for. Floating-point operations must round to nearest and keep
 //! subnormal numbers, as Rust has it: code in other languages that changes this for its thread must restore it before a call.
@@ -16,6 +18,7 @@ mod hypotenuse;
 mod kept;
 mod partition;
 mod refusal;
+mod separations;
 mod sheet;
 
 pub use entries::{Boundary, Pair, Point, Row, Span, Tally};
@@ -23,4 +26,5 @@ pub use hypotenuse::{hypot, hypotenuse};
 pub use kept::{KeptBoundaries, KeptLists, Map, Region, kept_boundaries, kept_boundaries_into};
 pub use partition::{Partition, PartitionLists, partition, partition_into};
 pub use refusal::{Cause, Refusal};
+pub use separations::{Separation, separations, separations_into};
 pub use sheet::{Header, Sheet, SheetLists, read_sheet, read_sheet_into};
