@@ -16,6 +16,10 @@ extern "C" {
 /* A list is lent as a pointer to its first entry and its length. The pointer is aligned and not null, even where the length is 0. Lists do not overlap,
    and nothing else reads a list that is filled, or writes any list, before the call returns. */
 
+/* The calling thread rounds to nearest, ties to even, and keeps subnormal numbers, as every thread does at its start. The functions run the processor's float
+   operations as the thread has set them, and this is the one thing that their proof takes from it. A caller that has set another mode (fesetround), or whose
+   program flushes subnormal numbers (-ffast-math sets this at the start), restores the default around a call: otherwise some lists differ. */
+
 /* Number 0 and a count, or a refusal's number and place. */
 struct jenwyllt_answer {
     uint64_t number;
@@ -58,7 +62,7 @@ struct jenwyllt_answer jenwyllt_partition(
     uint32_t *pairs, size_t pairs_length);
 
 /* The record of a region: how many cells it has, its edges in pixels, whether a cell is a ramp, which elevations occur (bit e stands for elevation e), and
-   how many cells have elevation 0, 1, 2 and 3. */
+   how many cells have elevation 0, 1, 2 and 3. The flag's byte is 0 or 1 also in a record that is lent to be filled; the other fields may hold anything. */
 struct jenwyllt_region {
     size_t cells;
     double min_x, min_y, max_x, max_y;
@@ -75,9 +79,9 @@ struct jenwyllt_region {
      spans       4 a span: x, y, x, y in pixels
      boundaries  9 a boundary: x, y, x, y, the bits of its width as a double, kind (0 none, 1 lower, 2 upper), ramp id, lower and upper elevation
      anchors     2 an anchor: x, y in cells
-   Filled; each may be longer than needed, and what it holds before does not matter:
+   Filled; each may be longer than needed, and what it holds before does not matter, but for the flags of the records:
      labels, masks, queue, tallies, pairs   as for `jenwyllt_partition`
-     records     one a region, that of label 1 first
+     records     one a region, that of label 1 first; in each that is lent, `has_ramp` is 0 or 1
      output      rows of 5: a boundary's number from 0, and x, y, x, y, the smaller endpoint first; ascending by endpoints, then by number
 
    Number 0: the value is the count of rows, one for each boundary that is kept. Where there are not as many boundaries as spans, all are kept. Otherwise

@@ -5,6 +5,9 @@
 //! [`kept_boundaries_into`] and [`read_sheet_into`] take lists that the caller lends and allocate nothing. A list of any content
 //! and length is a valid argument: what does not fit is answered by a [`Refusal`].
 //!
+//! The proof takes one thing from the processor: that it rounds to nearest, ties to even, and keeps subnormal numbers, as every
+//! thread does at its start. A program that changes this by code of another language restores it around a call.
+//!
 //! The archives are for x86-64 Linux; build.rs says where they are looked for.
 
 #![deny(unsafe_op_in_unsafe_fn, missing_docs)]
