@@ -14,6 +14,7 @@ from collections import Counter
 
 import compare
 import damage
+import edges
 import generate
 import reference
 import sheet_bytes
@@ -267,7 +268,7 @@ def main():
     full, kept = compare.Oracle(options.oracle, 'full'), compare.Oracle(options.oracle, 'kept')
 
     maps, seen = generated()
-    maps = list(chosen_by_hand()) + maps
+    maps = list(chosen_by_hand()) + maps + list(edges.corner_maps('vectors'))
     texts = []
     for name, m in maps:
         theirs = full.ask(sheet_bytes.sheet_of(m))
