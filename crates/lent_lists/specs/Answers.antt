@@ -12,6 +12,10 @@ heldAt i = 60000 + i % 5000
 abbrev pub HeldBefore : ℕ → List ℕ → Type 0
 HeldBefore n l = (i : ℕ) → i < n → getD l i 0 ≡ heldAt i
 
+-- entries that both lists have are those of the first
+abbrev pub Copied : List ℕ → List ℕ → Type 0
+Copied l m = (i : ℕ) → i < length l → i < length m → getD m i 0 ≡ getD l i 0
+
 -- r is how many entries there are up to the last one that is not as it was
 pub record Changed (l : List ℕ) (r : ℕ) : Type 0 where
   pub within : r ≤ length l

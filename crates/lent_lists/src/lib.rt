@@ -5,10 +5,10 @@ use io::read_full;
 use io::write_all;
 use libc::STDIN_FILENO;
 use libc::STDOUT_FILENO;
-ghost use Prim.Native.Nat.{_+_, _≤_, _<_};
+ghost use Prim.Native.Nat.{_≤_, _<_, min};
 ghost use mathlib.Core.Path.{_≡_};
-ghost use lib.ListN.{length};
-ghost use Rattle.lent_lists.specs.Answers.{heldAt, HeldBefore, Changed, Zeros};
+ghost use lib.ListN.{length, take};
+ghost use Rattle.lent_lists.specs.Answers.{heldAt, HeldBefore, Copied, Changed, Zeros};
 
 // Reading ends after so many cases at the latest.
 pub const CASES: u64 = 65536;
@@ -132,19 +132,26 @@ fn write_zeros(word: &[u8], list: &[u64]) {
 
 fn least(m: usize, n: usize) -> usize
     ensures { λ r. ⌜ (r ≤ m) × (r ≤ n) ⌝ }
+    ensures { λ r. ⌜ r ≡ min m n ⌝ }
 {
     if m <= n { m } else { n }
 }
 
-fn wide(n: u32) -> u64 {
+fn wide(n: u32) -> u64
+    ensures { λ r. ⌜ r ≡ n ⌝ }
+{
     n as u64
 }
 
-fn wide_mask(mask: u16) -> u64 {
+fn wide_mask(mask: u16) -> u64
+    ensures { λ r. ⌜ r ≡ mask ⌝ }
+{
     mask as u64
 }
 
-fn widen(list: &[u32], out: &mut [u64]) {
+fn widen(list: &[u32], out: &mut [u64])
+    ensures { λ _. ⌜ Copied (now (list .entry)) (now (out .exit)) ⌝ }
+{
     let n = least(list.len(), out.len());
     let mut i = 0;
     while i < n {
@@ -153,7 +160,9 @@ fn widen(list: &[u32], out: &mut [u64]) {
     }
 }
 
-fn widen_masks(masks: &[u16], out: &mut [u64]) {
+fn widen_masks(masks: &[u16], out: &mut [u64])
+    ensures { λ _. ⌜ Copied (now (masks .entry)) (now (out .exit)) ⌝ }
+{
     let n = least(masks.len(), out.len());
     let mut i = 0;
     while i < n {
@@ -163,15 +172,15 @@ fn widen_masks(masks: &[u16], out: &mut [u64]) {
 }
 
 fn write_numbers(word: &[u8], list: &[u32]) -> usize
-    ensures { λ r. ⌜ r ≤ length (now (list .entry)) ⌝ }
+    ensures { λ r. ⌜ Changed (take 4096 (now (list .entry))) r ⌝ }
 {
     let mut numbers = [0u64; 4096];
     widen(list, &mut numbers);
-    let n = least(list.len(), 4096);
+    let n = least(4096, list.len());
     write_wide_numbers(word, &numbers[0..n])
 }
 
-// Writes an answer and the lists that a partition fills and clears. Answers how many entries it wrote of labels, tallies and pairs: no more than there are.
+// Writes an answer and the lists that a partition fills and clears. Answers how many entries it wrote of labels, tallies and pairs.
 pub fn write_partition(
     number: u64,
     value: usize,
@@ -181,7 +190,9 @@ pub fn write_partition(
     tallies: &[u32],
     pairs: &[u32],
 ) -> Written
-    ensures { λ r. ⌜ (r .labels ≤ length (now (labels .entry))) × (r .tallies ≤ length (now (tallies .entry))) × (r .pairs ≤ length (now (pairs .entry))) ⌝ }
+    ensures { λ r. ⌜ Changed (take 4096 (now (labels .entry))) (r .labels) ⌝ }
+    ensures { λ r. ⌜ Changed (take 4096 (now (tallies .entry))) (r .tallies) ⌝ }
+    ensures { λ r. ⌜ Changed (take 4096 (now (pairs .entry))) (r .pairs) ⌝ }
 {
     write_answer(number, value);
     let of_labels = write_numbers(b"labels ", labels);
@@ -199,14 +210,14 @@ pub fn write_partition(
 fn write_cleared_masks(masks: &[u16]) {
     let mut numbers = [0u64; 4096];
     widen_masks(masks, &mut numbers);
-    let n = least(masks.len(), 4096);
+    let n = least(4096, masks.len());
     write_zeros(b"masks ", &numbers[0..n]);
 }
 
 fn write_cleared_queue(queue: &[u32]) {
     let mut numbers = [0u64; 4096];
     widen(queue, &mut numbers);
-    let n = least(queue.len(), 4096);
+    let n = least(4096, queue.len());
     write_zeros(b"queue ", &numbers[0..n]);
 }
 
