@@ -3,7 +3,7 @@
     python3 compare.py COUNT [--seed S] [--from K] [--oracle PROGRAM] [--edges N] [--large N] [--no-definitions] [--literal]
 
 COUNT maps of generate.py and N of edges.py, each for all three passes, compared in full: labels, region count, tallies, pairs, region records
-and rows; the answer and every lent list at exit, with lists that are long enough and with lists that may be too short; the
+and rows; of maps of at most 400 cells also the Rust's partition as crates/rust_partition renders it; the answer and every lent list at exit, with lists that are long enough and with lists that may be too short; the
 printed list; and as many damaged sheets: the printed list, and what reading alone answers and fills. The first differences
 are printed and minimised. Exit code 0 if there is none.
 """
@@ -114,6 +114,15 @@ class Definitions:
         return {'labels': list(d.Partition__labels(M)), 'regions': d.Partition__regionCount(M), 'tallies': groups(d.AtExit__talliesOf(C), 2),
                 'pairs': groups(d.Verdict__pairRowsOf(C), 3), 'records': [self.record(r) for r in d.AtExit__recordsOf(C)],
                 'rows': [groups(d.Rows__flatRows(d.Rows__rowsOf(p, M)), 5) for p in (1, 2, 3)]}
+
+    def literal_partition(self, m):
+        """what the literal rendering of the Rust's `partition_by_spans` gives (crates/rust_partition)"""
+        d = self.d
+        d.forget()
+        P = d.PartitionBySpans__partitionBySpans(d.Grid__mapOf(m.width, m.height, tuple(m.cells), tuple(m.spans), (), ()))
+        assert [a.id for a in P.areas] == list(range(1, len(P.areas) + 1)) and sum(a.cellCount for a in P.areas) == sum(c % 2 for c in m.cells)
+        return {'labels': list(P.labels), 'regions': len(P.areas), 'tallies': groups(d.PartitionBySpans__talliesHeld(P), 2),
+                'pairs': groups(d.PartitionBySpans__pairRowsHeld(P), 3)}
 
     def call(self, m, lent, whole=True):
         """the answer, and the lists at exit; behind them the names of what was lent to be read only and is not as it was"""
@@ -289,6 +298,8 @@ class Run:
         d = self.definitions
         if d:
             self.same('definitions: results', expected, d.results(m), where, m, lambda s: all_results(s) != d.results(s))
+            if m.width * m.height <= 400:        # the rendering changes whole lists at each step
+                self.same('literal partition', {name: expected[name] for name in ('labels', 'regions', 'tallies', 'pairs')}, d.literal_partition(m), where)
         r = random.Random(f'lists {self.options.seed}/{k}')
         m.pass_number = r.choice((1, 2, 3))
         if d:

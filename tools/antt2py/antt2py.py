@@ -18,6 +18,7 @@ import sys
 
 HERE = os.path.dirname(os.path.abspath(__file__))
 SPECS = os.environ.get('SPECS', os.path.join(HERE, '../../crates/definitions/specs'))
+LITERAL = os.path.join(HERE, '../../crates/rust_partition/specs/Literal')    # the Rust's partition as it is written
 
 
 def library():
@@ -300,12 +301,13 @@ class Module:
 
 
 MODULES = {}
+LITERAL_MODULES = ['Neighbors', 'CutMasks', 'Components', 'Assessment', 'PartitionBySpans']
 
 
 def load(names):
     for n in names:
         if n not in MODULES:
-            path = f'{SPECS}/{n}.antt'
+            path = f'{LITERAL if n in LITERAL_MODULES else SPECS}/{n}.antt'
             MODULES[n] = Module(n, path if os.path.exists(path) else f'{library()}/{n}.antt')
 
 
@@ -325,6 +327,7 @@ NATIVE = {
     'min': ('min', 2), 'max': ('max', 2), 'not': ('N.not_', 1), 'Bool·beq': ('N.beq', 2), 'map': ('N.map_', 2), 'length': ('len', 1),
     'getD': ('N.getD', 3), 'drop': ('N.drop', 2), 'replicate': ('N.replicate', 2), 'eqb': ('N.eqb', 2), 'ltb': ('N.ltb', 2), 'leb': ('N.leb', 2),
     'ltZ': ('N.ltb', 2), 'leZ': ('N.leb', 2), 'nonNeg': ('N.nonNeg', 1), 'shrZ': ('N.shrZ', 2), 'compare': ('N.compare', 2),
+    'set': ('N.set_', 3), 'getElem?': ('N.get', 2), 'bitAnd': ('N.bitAnd', 2), 'bitOr': ('N.bitOr', 2),
     'suc': ('N.suc', 1), 'pos': ('N.pos', 1), 'negsuc': ('N.negsuc', 1), 'some': ('N.some', 1), 'negℤ': ('N.neg', 1), 'code': ('ord', 1),
 }
 CONST = {'true': 'True', 'false': 'False', 'zero': '0', '[]': '()', '[]ᴸ': '()', 'none': 'None', 'tt': '()',
@@ -572,7 +575,8 @@ ROOTS = ['Grid.mapOf', 'Grid.onward', 'Spans.cutSteps', 'Spans.candidatePosition
          'RampGeometry.overlappingRampRepresentative', 'MouthShapes.mouthShape', 'RampMouths.proposals', 'RampMouths.taken', 'RampInteriors.proposals',
          'RampInteriors.taken', 'Junctions.proposals', 'Junctions.taken', 'Rows.rowsOf', 'Rows.flatRows', 'Verdict.verdict', 'Verdict.partitionVerdict',
          'Verdict.pairRowsOf', 'Verdict.firstRefusal', 'AtExit.talliesOf', 'AtExit.recordsOf', 'AtExit.callExit', 'AtExit.partitionExit', 'Refusals.firstBelow',
-         'Sheet.readSheet', 'Sheet.readVerdict', 'Sheet.readingNumber', 'Sheet.readingPlace', 'Sheet.atExit', 'Printed.keptlist', 'Printed.decimal']
+         'Sheet.readSheet', 'Sheet.readVerdict', 'Sheet.readingNumber', 'Sheet.readingPlace', 'Sheet.atExit', 'Printed.keptlist', 'Printed.decimal',
+         'PartitionBySpans.partitionBySpans', 'PartitionBySpans.talliesHeld', 'PartitionBySpans.pairRowsHeld']
 LITERAL_ROOTS = ['Hypotenuse.hypotOf', 'Hypotenuse.hypotNumber', 'Hypotenuse.hypotValue', 'Ieee.add', 'Ieee.sub', 'Ieee.mul', 'Ieee.div', 'Ieee.lt', 'Ieee.le', 'Ieee.eq',
                  'Ieee.neg', 'Ieee.ofBits', 'Ieee.toBits', 'Ieee.ofInt', 'RampGeometry.fabs'] + [f'{m}.{n}' for m in ('Scan', 'Sort') for n in FAST[m]]
 REMEMBERED = ['Grid.mapOf', 'Grid.onward', 'Spans.cutSteps', 'Partition.allSteps', 'Partition.cutAll', 'Partition.uncut', 'Partition.roots', 'Partition.labels',
@@ -583,7 +587,7 @@ REMEMBERED = ['Grid.mapOf', 'Grid.onward', 'Spans.cutSteps', 'Partition.allSteps
 def generate(mode):
     """Python source of the definitions; remembers results of what is asked again and again, which changes no result"""
     MODULES.clear()
-    load(SPEC_MODULES)
+    load(SPEC_MODULES + LITERAL_MODULES)
     over = {}
     if mode == 'literal':
         load(['Ieee', 'Count'])

@@ -68,6 +68,8 @@ def not_(b): return not b
 def beq(a, b): return a == b
 def map_(f, l): return tuple(f(x) for x in l)
 def getD(l, n, d): return l[n] if n < len(l) else d
+def get(l, n): return (l[n],) if n < len(l) else None
+def set_(l, n, x): return l[:n] + (x,) + l[n + 1:] if n < len(l) else l
 def drop(n, l): return l[n:]
 def replicate(n, x): return (x,) * n
 def eqb(a, b): return a == b
@@ -84,6 +86,8 @@ def monus(a, b): return a - b if a > b else 0
 def quot(a, b): return a // b if b else 0
 def mod(a, b): return a % b if b else a
 def power(a, b): return a ** b
+def bitAnd(a, b): return a & b
+def bitOr(a, b): return a | b
 def shrZ(z, m): return (z // m if m else 0) if z >= 0 else -1 - ((-1 - z) // m if m else 0)
 
 

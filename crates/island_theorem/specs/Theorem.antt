@@ -6,14 +6,18 @@
 use Prim.Native.Nat.{ℕ}
 use mathlib.Core.Path.{_≡_, refl}
 use mathlib.Core.Bool.{Bool, true}
-use mathlib.Core.List.{List}
+use mathlib.Core.List.{List, map}
 use Rattle.definitions.specs.Grid.{Map, mapOf}
 use Rattle.definitions.specs.Rows.{Row}
 use Rattle.definitions.specs.Verdict.{Answer, mapIn}
 use Rattle.context.specs.declared.Region.{Region}
+use Rattle.context.specs.Records.{recordOf}
+use Rattle.calls.specs.Contract.{given}
+use Rattle.rust_partition.specs.Literal.PartitionBySpans.{partitionBySpans}
 use Rattle.island.specs.Premises.{Alike, cutsIsland, rankOf, islandOnly}
 use Rattle.island_calls.specs.Outputs.{rowsHeld, hasRow}
 use Rattle.island_calls.specs.RustRows.{rustRows, call-rows}
+use Rattle.island_calls.specs.RustPartition.{AsRust, call-partition}
 use Rattle.island_calls.specs.Theorem.{island-outputs, island-kept-boundaries}
 use Rattle.topology.specs.Answers.{RanOver}
 
@@ -30,6 +34,11 @@ module _
     {a : Answer} {l₁ m₁ q₁ t₁ p₁ : List ℕ} {s₁ : List Region} {o₁ : List ℕ}
     (call : RanOver pass w h cells spans boundaries anchors l m q t p s o a l₁ m₁ q₁ t₁ p₁ s₁ o₁)
     (success : a .number ≡ 0) where
+  -- demand 2: labels, tallies and pairs at exit are the Rust's own, and beyond them as they were
+  pub partition-as-rust : AsRust (given pass w h cells spans boundaries anchors l m q t p (map recordOf s) o) (partitionBySpans (mapOf w h cells spans boundaries anchors)) l₁ t₁ p₁
+  unfolding mapIn
+  partition-as-rust = call-partition (call .ran) success
+
   -- demand 2: the output holds the rows that the Rust's own steps of the pass return
   pub rows-as-rust : rowsHeld a o₁ ≡ rustRows pass (mapOf w h cells spans boundaries anchors)
   unfolding mapIn

@@ -1,0 +1,1 @@
+// The Rust's partition as it is written, and theorems on it, in specs/: no function.
