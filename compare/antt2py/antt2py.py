@@ -18,7 +18,7 @@ import sys
 
 HERE = os.path.dirname(os.path.abspath(__file__))
 SPECS = os.environ.get('SPECS', os.path.join(HERE, '../../crates/definitions/specs'))
-LITERAL = os.path.join(HERE, '../../crates/rust_partition/specs/Literal')    # the Rust's partition as it is written
+PARTITION = os.path.join(HERE, '../../crates/rust_partition/specs/Literal')  # the Rust's partition as it is written
 
 
 def library():
@@ -301,13 +301,13 @@ class Module:
 
 
 MODULES = {}
-LITERAL_MODULES = ['Neighbors', 'CutMasks', 'Components', 'Assessment', 'PartitionBySpans']
+PARTITION_MODULES = ['Neighbors', 'CutMasks', 'Components', 'Assessment', 'PartitionBySpans']
 
 
 def load(names):
     for n in names:
         if n not in MODULES:
-            path = f'{LITERAL if n in LITERAL_MODULES else SPECS}/{n}.antt'
+            path = f'{PARTITION if n in PARTITION_MODULES else SPECS}/{n}.antt'
             MODULES[n] = Module(n, path if os.path.exists(path) else f'{library()}/{n}.antt')
 
 
@@ -575,8 +575,8 @@ ROOTS = ['Grid.mapOf', 'Grid.onward', 'Spans.cutSteps', 'Spans.candidatePosition
          'RampGeometry.overlappingRampRepresentative', 'MouthShapes.mouthShape', 'RampMouths.proposals', 'RampMouths.taken', 'RampInteriors.proposals',
          'RampInteriors.taken', 'Junctions.proposals', 'Junctions.taken', 'Rows.rowsOf', 'Rows.flatRows', 'Verdict.verdict', 'Verdict.partitionVerdict',
          'Verdict.pairRowsOf', 'Verdict.firstRefusal', 'AtExit.talliesOf', 'AtExit.recordsOf', 'AtExit.callExit', 'AtExit.partitionExit', 'Refusals.firstBelow',
-         'Sheet.readSheet', 'Sheet.readVerdict', 'Sheet.readingNumber', 'Sheet.readingPlace', 'Sheet.atExit', 'Printed.keptlist', 'Printed.decimal',
-         'PartitionBySpans.partitionBySpans', 'PartitionBySpans.talliesHeld', 'PartitionBySpans.pairRowsHeld']
+         'Sheet.readSheet', 'Sheet.readVerdict', 'Sheet.readingNumber', 'Sheet.readingPlace', 'Sheet.atExit', 'Printed.keptlist', 'Printed.decimal']
+PARTITION_ROOTS = ['PartitionBySpans.partitionBySpans', 'PartitionBySpans.talliesHeld', 'PartitionBySpans.pairRowsHeld']
 LITERAL_ROOTS = ['Hypotenuse.hypotOf', 'Hypotenuse.hypotNumber', 'Hypotenuse.hypotValue', 'Ieee.add', 'Ieee.sub', 'Ieee.mul', 'Ieee.div', 'Ieee.lt', 'Ieee.le', 'Ieee.eq',
                  'Ieee.neg', 'Ieee.ofBits', 'Ieee.toBits', 'Ieee.ofInt', 'RampGeometry.fabs'] + [f'{m}.{n}' for m in ('Scan', 'Sort') for n in FAST[m]]
 REMEMBERED = ['Grid.mapOf', 'Grid.onward', 'Spans.cutSteps', 'Partition.allSteps', 'Partition.cutAll', 'Partition.uncut', 'Partition.roots', 'Partition.labels',
@@ -587,7 +587,7 @@ REMEMBERED = ['Grid.mapOf', 'Grid.onward', 'Spans.cutSteps', 'Partition.allSteps
 def generate(mode):
     """Python source of the definitions; remembers results of what is asked again and again, which changes no result"""
     MODULES.clear()
-    load(SPEC_MODULES + LITERAL_MODULES)
+    load(SPEC_MODULES + PARTITION_MODULES)
     over = {}
     if mode == 'literal':
         load(['Ieee', 'Count'])
@@ -596,7 +596,7 @@ def generate(mode):
     memo = set(REMEMBERED)
     for m in ('Context', 'RampMouths', 'RampInteriors', 'Junctions'):
         memo |= {f'{m}.{n}' for n, d in MODULES[m].decls.items() if any(s[2] for s in d.section)}
-    roots = ROOTS + (LITERAL_ROOTS if mode == 'literal' else [])
+    roots = ROOTS + PARTITION_ROOTS + (LITERAL_ROOTS if mode == 'literal' else [])
     return Gen(mode, over, memo).run([r for r in roots if r not in over])
 
 
