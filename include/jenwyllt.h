@@ -2,8 +2,7 @@
    hypotenuse.
    The library is for x86-64 Linux: libjenwyllt.a and libjenwyllt.so, which tools/build_library.sh writes to target/lib. It keeps no state and allocates
    nothing; from outside it needs only `memset`.
-   Every function is proved to meet the definitions of crates/definitions for every input that keeps to what stands here. Floating-point operations must
-   round to nearest and keep subnormal numbers, as they do where a program starts; -ffast-math changes that for a whole program. */
+   Every function is proved to meet the definitions of crates/definitions for every input that keeps to what stands here. */
 #ifndef JENWYLLT_H
 #define JENWYLLT_H
 
@@ -56,6 +55,10 @@ enum jenwyllt_refusal {
 /* A list is lent as a pointer to its first entry and its length. The pointer is aligned and not null, even where the length is 0. Lists do not overlap,
    and nothing else reads a list that is filled, or writes any list, before the call returns. */
 
+/* The calling thread rounds to nearest, ties to even, and keeps subnormal numbers, as every thread does at its start. The functions run the processor's float
+   operations as the thread has set them, and this is the one thing that their proof takes from it. A caller that has set another mode (fesetround), or whose
+   program flushes subnormal numbers (-ffast-math sets this at the start), restores the default around a call: otherwise some lists differ. */
+
 /* Number 0 and a count, or a refusal's number and place. */
 struct jenwyllt_answer {
     uint64_t number;
@@ -98,7 +101,7 @@ struct jenwyllt_answer jenwyllt_partition(
     uint32_t *pairs, size_t pairs_length);
 
 /* The record of a region: how many cells it has, its edges in pixels, whether a cell is a ramp, which elevations occur (bit e stands for elevation e), and
-   how many cells have elevation 0, 1, 2 and 3. */
+   how many cells have elevation 0, 1, 2 and 3. The flag's byte is 0 or 1 also in a record that is lent to be filled; the other fields may hold anything. */
 struct jenwyllt_region {
     size_t cells;
     double min_x, min_y, max_x, max_y;
