@@ -1,0 +1,2 @@
+// Accession records: the first that breaks a rule.
+pub mod rules;

@@ -1,0 +1,3 @@
+pub mod Accession
+pub mod Line
+pub mod AccessionExamples
