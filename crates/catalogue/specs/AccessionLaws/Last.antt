@@ -1,6 +1,5 @@
 -- The last of the numbers below n that pass a test, as one more than it, or 0 where none does: what a walk from the back finds. Assumes nothing.
-use Prim.Native.Nat.{ℕ, zero, suc, _+_, _≤_, _<_}
-use native.Mathlib.Numerals.{add-one}
+use Prim.Native.Nat.{ℕ, zero, suc, _-_, _≤_, _<_}
 use native.Mathlib.Omega.{arith}
 use mathlib.Core.Path.{_≡_, refl, sym, ap, _∙_}
 use mathlib.Core.Bool.{Bool, true, false, cond, true≢false}
@@ -19,6 +18,19 @@ module _ (f : ℕ → Bool) where
   pub last-not : (n : ℕ) → f n ≡ false → lastBelow (suc n) f ≡ lastBelow n f
   unfolding lastBelow
   last-not n h = rw h refl
+
+  -- the same for a walk that stands at n, which is above 0
+  pub last-found : (n : ℕ) → 0 < n → f (n - 1) ≡ true → lastBelow n f ≡ n
+  last-found zero l h = absurd (omega arith)
+  last-found (suc n) l h =
+      let e : suc n - 1 ≡ n = omega arith in
+      last-here n (rw e at h)
+
+  pub last-back : (n : ℕ) → 0 < n → f (n - 1) ≡ false → lastBelow n f ≡ lastBelow (n - 1) f
+  last-back zero l h = absurd (omega arith)
+  last-back (suc n) l h =
+      let e : suc n - 1 ≡ n = omega arith in
+      rw e (last-not n (rw e at h))
 
   pub last-within : (n : ℕ) → lastBelow n f ≤ n
   unfolding lastBelow

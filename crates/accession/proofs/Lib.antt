@@ -1,0 +1,4 @@
+pub mod Holding
+pub mod Steps
+pub mod Checking
+pub mod Putting
