@@ -1,4 +1,4 @@
-/* Partitions a map that is drawn below, then reads a sheet and says what it holds. README.md has the command that compiles it.
+/* Partitions a map that is drawn below, then reads a sheet and says what it holds. Compiled as examples/kept.c, for which README.md has the command.
    Run it as `partition SHEET`, for instance with examples/case_j.sheet. */
 #include <inttypes.h>
 #include <stdio.h>
@@ -22,7 +22,7 @@ static const char drawn[HEIGHT][WIDTH + 1] = {
 };
 
 /* x, y, x, y in pixels, 8 a cell: across the door of the left room, and across the way down. */
-static const uint64_t drawn_spans[4 * SPANS] = {
+static const uint64_t drawn_spans[JENWYLLT_SPAN_NUMBERS * SPANS] = {
     32, 8, 32, 24,
     72, 24, 80, 24,
 };
@@ -38,14 +38,14 @@ static int partition_drawn_map(void) {
         for (size_t x = 0; x < WIDTH; x++)
             cells[y * WIDTH + x] = drawn[y][x] == '.';
 
-    uint32_t labels[CELLS], queue[CELLS], tallies[2 * SPANS];
+    uint32_t labels[CELLS], queue[CELLS], tallies[JENWYLLT_TALLY_NUMBERS * SPANS];
     uint16_t masks[CELLS];
     /* Rows behind the last pair stay as they were, and no label of a pair is 0. */
-    uint32_t pairs[3 * ROWS] = {0};
+    uint32_t pairs[JENWYLLT_PAIR_NUMBERS * ROWS] = {0};
     struct jenwyllt_answer answer = jenwyllt_partition(
-        WIDTH, HEIGHT, cells, CELLS, drawn_spans, 4 * SPANS,
-        labels, CELLS, masks, CELLS, queue, CELLS, tallies, 2 * SPANS, pairs, 3 * ROWS);
-    if (answer.number != 0)
+        WIDTH, HEIGHT, cells, CELLS, drawn_spans, JENWYLLT_SPAN_NUMBERS * SPANS,
+        labels, CELLS, masks, CELLS, queue, CELLS, tallies, JENWYLLT_TALLY_NUMBERS * SPANS, pairs, JENWYLLT_PAIR_NUMBERS * ROWS);
+    if (answer.number != JENWYLLT_ACCEPTED)
         return refused("the drawn map", answer.number, answer.value);
 
     printf("%" PRIu64 " regions\n", answer.value);
@@ -64,11 +64,14 @@ static int partition_drawn_map(void) {
 /* ---- a sheet */
 
 #define SHEET_BYTES 65536
+#define SPAN_NUMBERS (JENWYLLT_SPAN_NUMBERS * JENWYLLT_MOST_ENTRIES)
+#define BOUNDARY_NUMBERS (JENWYLLT_BOUNDARY_NUMBERS * JENWYLLT_MOST_ENTRIES)
+#define ANCHOR_NUMBERS (JENWYLLT_ANCHOR_NUMBERS * JENWYLLT_MOST_ENTRIES)
 
 static int say_what_a_sheet_holds(const char *path) {
     /* With lists of these lengths no sheet of so many bytes is refused 10. */
     static uint8_t bytes[SHEET_BYTES], cells[SHEET_BYTES];
-    static uint64_t spans[4 * 256], boundaries[9 * 256], anchors[2 * 256];
+    static uint64_t spans[SPAN_NUMBERS], boundaries[BOUNDARY_NUMBERS], anchors[ANCHOR_NUMBERS];
     FILE *file = fopen(path, "rb");
     if (file == NULL) {
         perror(path);
@@ -83,8 +86,8 @@ static int say_what_a_sheet_holds(const char *path) {
     }
 
     struct jenwyllt_sheet sheet = jenwyllt_read_sheet(
-        bytes, length, cells, SHEET_BYTES, spans, 4 * 256, boundaries, 9 * 256, anchors, 2 * 256);
-    if (sheet.number != 0)
+        bytes, length, cells, SHEET_BYTES, spans, SPAN_NUMBERS, boundaries, BOUNDARY_NUMBERS, anchors, ANCHOR_NUMBERS);
+    if (sheet.number != JENWYLLT_ACCEPTED)
         return refused(path, sheet.number, sheet.place);
 
     printf("%s: pass %" PRIu64 ", %" PRIu64 " by %" PRIu64 " cells, %" PRIu64 " spans, %" PRIu64 " boundaries, %" PRIu64 " anchors\n",
@@ -95,7 +98,7 @@ static int say_what_a_sheet_holds(const char *path) {
         putchar('\n');
     }
     for (size_t span = 0; span < sheet.spans; span++) {
-        const uint64_t *at = spans + 4 * span;
+        const uint64_t *at = spans + JENWYLLT_SPAN_NUMBERS * span;
         printf("span %zu from %" PRIu64 " %" PRIu64 " to %" PRIu64 " %" PRIu64 "\n", span, at[0], at[1], at[2], at[3]);
     }
     return 0;

@@ -1,7 +1,8 @@
 /* Regions of a walk grid cut by spans, the boundaries that a pass keeps, the reader of sheets, and the correctly rounded hypotenuse.
-   The archives are for x86-64 Linux: target/staticlib/libjenwyllt.a, written by `rt staticlib jenwyllt`, and for `topology_kept_boundaries` alone
-   target/staticlib/libtopology.a, written by `rt staticlib topology`. Of other libraries they need `memset` alone.
-   Every function is proved to meet the definitions of crates/definitions for every input that keeps to what stands here. */
+   The library is for x86-64 Linux: libjenwyllt.a and libjenwyllt.so, which tools/build_library.sh writes to target/lib. It keeps no state and allocates
+   nothing; from outside it needs only `memset`.
+   Every function is proved to meet the definitions of crates/definitions for every input that keeps to what stands here. Floating-point operations must
+   round to nearest and keep subnormal numbers, as they do where a program starts; -ffast-math changes that for a whole program. */
 #ifndef JENWYLLT_H
 #define JENWYLLT_H
 
@@ -12,6 +13,43 @@
 #ifdef __cplusplus
 extern "C" {
 #endif
+
+#define JENWYLLT_VERSION_MAJOR 0
+#define JENWYLLT_VERSION_MINOR 2
+#define JENWYLLT_VERSION_PATCH 0
+#define JENWYLLT_VERSION "0.2.0"
+
+/* Sizes that a caller needs: how many numbers an entry of a list has, and the most that a map may have. */
+enum jenwyllt_size {
+    JENWYLLT_SPAN_NUMBERS = 4,
+    JENWYLLT_BOUNDARY_NUMBERS = 9,
+    JENWYLLT_ANCHOR_NUMBERS = 2,
+    JENWYLLT_TALLY_NUMBERS = 2,
+    JENWYLLT_PAIR_NUMBERS = 3,
+    JENWYLLT_ROW_NUMBERS = 5,
+    JENWYLLT_PIXELS_PER_CELL = 8,
+    JENWYLLT_MOST_SIDE = 1024,
+    JENWYLLT_MOST_ENTRIES = 256
+};
+
+/* The numbers of refusals. The table of each function says which of them it gives, and with which place. */
+enum jenwyllt_refusal {
+    JENWYLLT_ACCEPTED = 0,
+    JENWYLLT_SIDES = 1,
+    JENWYLLT_CELLS = 2,
+    JENWYLLT_ENTRIES = 3,
+    JENWYLLT_PASS = 4,
+    JENWYLLT_SPAN_OUTSIDE = 5,
+    JENWYLLT_SPAN_OF_NO_LENGTH = 6,
+    JENWYLLT_BOUNDARY = 7,
+    JENWYLLT_ANCHOR_OUTSIDE = 8,
+    JENWYLLT_ELEVATION = 9,
+    JENWYLLT_ROOM = 10,
+    JENWYLLT_REGIONS = 11,
+    JENWYLLT_PAIRS = 12,
+    JENWYLLT_RANGE = 13,
+    JENWYLLT_SHEET = 14
+};
 
 /* A list is lent as a pointer to its first entry and its length. The pointer is aligned and not null, even where the length is 0. Lists do not overlap,
    and nothing else reads a list that is filled, or writes any list, before the call returns. */
@@ -75,7 +113,7 @@ struct jenwyllt_region {
      spans       4 a span: x, y, x, y in pixels
      boundaries  9 a boundary: x, y, x, y, the bits of its width as a double, kind (0 none, 1 lower, 2 upper), ramp id, lower and upper elevation
      anchors     2 an anchor: x, y in cells
-   Filled; each may be longer than needed, and what it holds before does not matter:
+   Filled; each may be longer than needed, and what it holds before does not matter, but that the flag of a record is 0 or 1, as in memory set to zero:
      labels, masks, queue, tallies, pairs   as for `jenwyllt_partition`
      records     one a region, that of label 1 first
      output      rows of 5: a boundary's number from 0, and x, y, x, y, the smaller endpoint first; ascending by endpoints, then by number
@@ -103,7 +141,7 @@ struct jenwyllt_region {
    12 labels and tallies are filled, masks and queue are zero, and pairs are zero over the whole list; the other lists stay as they were.
 
    A call needs 263 KiB of stack. */
-struct jenwyllt_answer topology_kept_boundaries(
+struct jenwyllt_answer jenwyllt_kept_boundaries(
     uint64_t pass, uint64_t width, uint64_t height,
     const uint8_t *cells, size_t cells_length,
     const uint64_t *spans, size_t spans_length,
@@ -151,8 +189,7 @@ struct jenwyllt_sheet {
      3       over 256 spans, boundaries or anchors                                  0
      10      a list is too short, tested last                                       0
 
-   With any of these every list stays as it was. What else a pass asks of a map is not tested here, but by the
-   functions above. */
+   With any of these every list stays as it was. What else a pass asks of a map is not tested here, but by the functions above. */
 struct jenwyllt_sheet jenwyllt_read_sheet(
     const uint8_t *bytes, size_t bytes_length,
     uint8_t *cells, size_t cells_length,

@@ -1,4 +1,4 @@
-//! The functions of both archives, as include/jenwyllt.h declares them. A list goes as a pointer to its first entry and its length.
+//! The functions of the library, as include/jenwyllt.h declares them. A list goes as a pointer to its first entry and its length.
 
 use crate::{Refusal, Region};
 
@@ -60,7 +60,7 @@ unsafe extern "C" {
         pairs_length: usize,
     ) -> Answer;
 
-    pub fn topology_kept_boundaries(
+    pub fn jenwyllt_kept_boundaries(
         pass: u64,
         width: u64,
         height: u64,

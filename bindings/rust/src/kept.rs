@@ -1,8 +1,9 @@
 //! The boundaries that a pass keeps.
 
-use crate::exported::topology_kept_boundaries;
+use crate::entries::{flat, flat_mut};
+use crate::exported::jenwyllt_kept_boundaries;
 use crate::partition::Room;
-use crate::{Partition, PartitionLists, Refusal, Sheet};
+use crate::{Cause, Partition, PartitionLists, Refusal, Row, Sheet};
 
 /// What a map is read from: as in a [`Sheet`], but the last three lists flat.
 #[derive(Debug, Clone, Copy)]
@@ -30,9 +31,9 @@ impl<'a> From<&'a Sheet> for Map<'a> {
             width: sheet.width,
             height: sheet.height,
             cells: &sheet.cells,
-            spans: sheet.spans.as_flattened(),
-            boundaries: sheet.boundaries.as_flattened(),
-            anchors: sheet.anchors.as_flattened(),
+            spans: flat(&sheet.spans),
+            boundaries: flat(&sheet.boundaries),
+            anchors: flat(&sheet.anchors),
         }
     }
 }
@@ -66,8 +67,8 @@ pub struct KeptBoundaries {
     pub partition: Partition,
     /// The record of each region, that of label 1 first.
     pub records: Vec<Region>,
-    /// The boundaries that are kept, ascending by endpoints: number from 0, and x, y, x, y, the smaller endpoint first.
-    pub rows: Vec<[u64; 5]>,
+    /// The boundaries that are kept, ascending by endpoints.
+    pub rows: Vec<Row>,
 }
 
 /// The lists that [`kept_boundaries_into`] fills. What they hold before does not matter, and each may be longer than needed.
@@ -87,20 +88,21 @@ pub struct KeptLists<'a> {
 ///
 /// ```
 /// // Three cells in a row, cut behind the first and behind the second, where a ramp begins: its mouth goes.
+/// use jenwyllt::{Boundary, Row};
+///
+/// let mouth = Boundary::new([8, 0, 8, 8], 8.0);
+/// let foot = Boundary { kind: Boundary::LOWER, ramp: 7, upper: 1, ..Boundary::new([16, 0, 16, 8], 8.0) };
 /// let sheet = jenwyllt::Sheet {
 ///     pass: 1,
 ///     width: 3,
 ///     height: 1,
 ///     cells: vec![1, 1, 1],
-///     spans: vec![[8, 0, 8, 8], [16, 0, 16, 8]],
-///     boundaries: vec![
-///         [8, 0, 8, 8, 8f64.to_bits(), 0, 0, 0, 0],
-///         [16, 0, 16, 8, 8f64.to_bits(), 1, 7, 0, 1],
-///     ],
+///     spans: vec![mouth.span(), foot.span()],
+///     boundaries: vec![mouth, foot],
 ///     anchors: vec![],
 /// };
 /// let kept = jenwyllt::kept_boundaries(&sheet).unwrap();
-/// assert_eq!(kept.rows, [[1, 16, 0, 16, 8]]);
+/// assert_eq!(kept.rows, [Row { number: 1, start: foot.start, end: foot.end }]);
 /// assert_eq!(kept.partition.labels, [1, 2, 3]);
 /// assert_eq!((kept.records[2].cells, kept.records[2].min_x, kept.records[2].max_x), (1, 16.0, 24.0));
 ///
@@ -108,14 +110,13 @@ pub struct KeptLists<'a> {
 /// assert_eq!((refusal.number, refusal.place), (4, 0));
 /// ```
 pub fn kept_boundaries(sheet: &Sheet) -> Result<KeptBoundaries, Refusal> {
-    const MORE_REGIONS_THAN_RECORDS: u64 = 11;
     let mut room = Room::new(sheet.cells.len(), sheet.spans.len());
     let mut records = vec![Region::default(); 1 + 2 * sheet.spans.len()];
-    let mut rows = vec![[0; 5]; sheet.boundaries.len()];
+    let mut rows = vec![Row::default(); sheet.boundaries.len()];
     loop {
-        let lists = KeptLists { partition: room.lists(), records: &mut records, output: rows.as_flattened_mut() };
+        let lists = KeptLists { partition: room.lists(), records: &mut records, output: flat_mut(&mut rows) };
         let answer = kept_boundaries_into(sheet.into(), lists);
-        if answer.is_err_and(|refusal| refusal.number == MORE_REGIONS_THAN_RECORDS) {
+        if answer.is_err_and(|refusal| refusal.cause() == Some(Cause::Regions)) {
             // The labels are filled.
             records = vec![Region::default(); room.regions() as usize];
         } else if !room.grown_for(answer) {
@@ -163,7 +164,7 @@ pub fn kept_boundaries_into(map: Map<'_>, lists: KeptLists<'_>) -> Result<u64, R
     // function fills; slices lent as `&mut` overlap no other, and nothing else uses them before the call returns. `Region` has the
     // layout of the header. The function is proved for lists of any content and length, keeps no pointer and does not unwind.
     let answer = unsafe {
-        topology_kept_boundaries(
+        jenwyllt_kept_boundaries(
             pass,
             width,
             height,

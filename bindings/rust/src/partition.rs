@@ -1,7 +1,8 @@
 //! The regions of a map cut by spans.
 
-use crate::Refusal;
+use crate::entries::{flat, flat_mut};
 use crate::exported::jenwyllt_partition;
+use crate::{Cause, Pair, Refusal, Span, Tally};
 
 /// What a map is cut into.
 #[derive(Debug, Clone, PartialEq, Eq)]
@@ -10,10 +11,10 @@ pub struct Partition {
     pub regions: u64,
     /// The region of each cell, row by row, from 1 in the order of their first cells; 0 where a cell is not walkable.
     pub labels: Vec<u32>,
-    /// For each span how many steps it removes, and how many of them join two regions.
-    pub tallies: Vec<[u32; 2]>,
-    /// Span, smaller and larger label; in this order ascending, each pair of a span once.
-    pub pairs: Vec<[u32; 3]>,
+    /// One a span.
+    pub tallies: Vec<Tally>,
+    /// Ascending, each pair of a span once.
+    pub pairs: Vec<Pair>,
 }
 
 /// The lists that [`partition_into`] fills. What they hold before does not matter, and each may be longer than needed.
@@ -31,25 +32,27 @@ pub struct PartitionLists<'a> {
     pub pairs: &'a mut [u32],
 }
 
-/// Cuts a map by spans. A cell is one byte, odd where it is walkable, and 8 by 8 pixels; a span is x, y, x, y in pixels.
+/// Cuts a map by spans. A cell is one byte, odd where it is walkable, and 8 by 8 pixels; spans are in pixels.
 ///
 /// Refuses 1, 2, 3, 5 and 6.
 ///
 /// ```
 /// // Three cells in a row, cut behind the first.
-/// let cut = jenwyllt::partition(3, 1, &[1, 1, 1], &[[8, 0, 8, 8]]).unwrap();
+/// use jenwyllt::{Cause, Pair, Tally, partition};
+///
+/// let cut = partition(3, 1, &[1, 1, 1], &[[8, 0, 8, 8].into()]).unwrap();
 /// assert_eq!(cut.regions, 2);
 /// assert_eq!(cut.labels, [1, 2, 2]);
-/// assert_eq!(cut.tallies, [[1, 1]]);
-/// assert_eq!(cut.pairs, [[0, 1, 2]]);
+/// assert_eq!(cut.tallies, [Tally { removed: 1, separated: 1 }]);
+/// assert_eq!(cut.pairs, [Pair { span: 0, smaller: 1, larger: 2 }]);
 ///
-/// let refusal = jenwyllt::partition(3, 1, &[1, 1, 1], &[[8, 0, 8, 8], [8, 0, 8, 9]]).unwrap_err();
-/// assert_eq!((refusal.number, refusal.place), (5, 1));
+/// let refusal = partition(3, 1, &[1, 1, 1], &[[8, 0, 8, 8].into(), [8, 0, 8, 9].into()]).unwrap_err();
+/// assert_eq!((refusal.cause(), refusal.place), (Some(Cause::SpanOutside), 1));
 /// ```
-pub fn partition(width: u64, height: u64, cells: &[u8], spans: &[[u64; 4]]) -> Result<Partition, Refusal> {
+pub fn partition(width: u64, height: u64, cells: &[u8], spans: &[Span]) -> Result<Partition, Refusal> {
     let mut room = Room::new(cells.len(), spans.len());
     loop {
-        let answer = partition_into(width, height, cells, spans.as_flattened(), room.lists());
+        let answer = partition_into(width, height, cells, flat(spans), room.lists());
         if !room.grown_for(answer) {
             return answer.map(|regions| room.filled(regions));
         }
@@ -66,8 +69,12 @@ pub(crate) struct Room {
 impl Room {
     /// As much as a map of so many cells and spans needs, but for pairs: of these there is room for two a span.
     pub(crate) fn new(cells: usize, spans: usize) -> Self {
-        let partition =
-            Partition { regions: 0, labels: vec![0; cells], tallies: vec![[0; 2]; spans], pairs: vec![[0; 3]; 2 * spans] };
+        let partition = Partition {
+            regions: 0,
+            labels: vec![0; cells],
+            tallies: vec![Tally::default(); spans],
+            pairs: vec![Pair::default(); 2 * spans],
+        };
         Self { partition, masks: vec![0; cells], queue: vec![0; cells] }
     }
 
@@ -76,19 +83,18 @@ impl Room {
             labels: &mut self.partition.labels,
             masks: &mut self.masks,
             queue: &mut self.queue,
-            tallies: self.partition.tallies.as_flattened_mut(),
-            pairs: self.partition.pairs.as_flattened_mut(),
+            tallies: flat_mut(&mut self.partition.tallies),
+            pairs: flat_mut(&mut self.partition.pairs),
         }
     }
 
     /// Whether it was for want of pair rows that a call was refused, of which there are enough now.
     pub(crate) fn grown_for(&mut self, answer: Result<u64, Refusal>) -> bool {
-        const MORE_PAIRS_THAN_ROWS: u64 = 12;
-        let short = answer.is_err_and(|refusal| refusal.number == MORE_PAIRS_THAN_ROWS);
+        let short = answer.is_err_and(|refusal| refusal.cause() == Some(Cause::Pairs));
         if short {
             // The tallies are filled, and a span has at most one pair for each step that joins two regions.
-            let most = self.partition.tallies.iter().map(|[_, separated]| *separated as usize).sum();
-            self.partition.pairs = vec![[0; 3]; most];
+            let most = self.partition.tallies.iter().map(|tally| tally.separated as usize).sum();
+            self.partition.pairs = vec![Pair::default(); most];
         }
         short
     }
@@ -101,7 +107,7 @@ impl Room {
     pub(crate) fn filled(mut self, regions: u64) -> Partition {
         self.partition.regions = regions;
         // No label of a pair is 0, so a row that stayed zero stands behind the last.
-        let rows = self.partition.pairs.partition_point(|[_, smaller, _]| *smaller != 0);
+        let rows = self.partition.pairs.partition_point(|pair| pair.smaller != 0);
         self.partition.pairs.truncate(rows);
         self.partition
     }

@@ -3,28 +3,61 @@
 use std::error::Error;
 use std::fmt;
 
-/// A refusal: its number in the table of refusals, and the place of the first fault, 0 where the cause has no place.
-///
-/// | number | cause | place |
-/// |---|---|---|
-/// | 1 | a side is 0 or over 1,024 | 0 |
-/// | 2 | the cells are not width × height | 0 |
-/// | 3 | over 256 entries of a list, or its last one is unfinished | 0 |
-/// | 4 | the pass is not 1, 2 or 3 | 0 |
-/// | 5 | an endpoint above 8 × width or 8 × height | the span |
-/// | 6 | both endpoints of a span are equal | the span |
-/// | 7 | a boundary does not fit: an endpoint as in 5, its width, kind, ramp id or elevations | the boundary |
-/// | 8 | an anchor outside the map | the anchor |
-/// | 9 | a walkable cell of elevation 4 or more | the cell |
-/// | 10 | a lent list is too short | 0 |
-/// | 11 | there are more regions than records | 0 |
-/// | 12 | there are more pairs than rows | 0 |
-/// | 13 | an argument outside the hypotenuse's range | 0 |
-/// | 14 | a sheet is ill formed | the byte |
+macro_rules! causes {
+    ($($name:ident = $number:literal, $words:literal;)*) => {
+        /// The cause of a refusal, by the numbers of `enum jenwyllt_refusal` in include/jenwyllt.h.
+        #[derive(Debug, Clone, Copy, PartialEq, Eq, Hash)]
+        #[non_exhaustive]
+        #[repr(u64)]
+        pub enum Cause {
+            $(#[doc = $words] $name = $number,)*
+        }
+
+        impl Cause {
+            /// The cause with this number.
+            pub fn of(number: u64) -> Option<Self> {
+                match number {
+                    $($number => Some(Self::$name),)*
+                    _ => None,
+                }
+            }
+
+            /// The cause in words.
+            pub fn words(self) -> &'static str {
+                match self {
+                    $(Self::$name => $words,)*
+                }
+            }
+        }
+    };
+}
+
+causes! {
+    Sides = 1, "a side is 0 or over 1,024 cells";
+    Cells = 2, "the cells are not width times height";
+    Entries = 3, "over 256 spans, boundaries or anchors, or the last one is unfinished";
+    Pass = 4, "the pass is not 1, 2 or 3";
+    SpanOutside = 5, "an endpoint of the span lies off the map";
+    SpanOfNoLength = 6, "the endpoints of the span are equal";
+    Boundary = 7, "the boundary has an endpoint off the map, or a width, kind, ramp id or elevation that is not allowed";
+    AnchorOutside = 8, "the anchor lies off the map";
+    Elevation = 9, "the cell is walkable and of an elevation over 3";
+    Room = 10, "a lent list is too short";
+    Regions = 11, "there are more regions than records";
+    Pairs = 12, "there are more pairs of regions than rows";
+    Range = 13, "an argument is neither zero nor of a magnitude from 2^-64 to 2^15";
+    Sheet = 14, "the sheet is ill formed";
+}
+
+/// A refusal: the number of its cause, and the place of the first fault (the span, boundary, anchor, cell or byte), 0 where the
+/// cause has no place.
 ///
 /// ```
+/// use jenwyllt::Cause;
+///
 /// let refusal = jenwyllt::hypotenuse(1e300, 0.0).unwrap_err();
-/// assert_eq!(refusal.to_string(), "refused 13 at 0");
+/// assert_eq!(refusal.cause(), Some(Cause::Range));
+/// assert_eq!(refusal.to_string(), "refused 13 at 0: an argument is neither zero nor of a magnitude from 2^-64 to 2^15");
 /// ```
 #[derive(Debug, Clone, Copy, PartialEq, Eq, Hash)]
 pub struct Refusal {
@@ -34,9 +67,17 @@ pub struct Refusal {
     pub place: u64,
 }
 
+impl Refusal {
+    /// The cause by its name.
+    pub fn cause(&self) -> Option<Cause> {
+        Cause::of(self.number)
+    }
+}
+
 impl fmt::Display for Refusal {
     fn fmt(&self, f: &mut fmt::Formatter<'_>) -> fmt::Result {
-        write!(f, "refused {} at {}", self.number, self.place)
+        let words = self.cause().map_or("for a cause that this crate does not know", Cause::words);
+        write!(f, "refused {} at {}: {words}", self.number, self.place)
     }
 }
 

@@ -1,13 +1,14 @@
 //! The reader of sheets of kind 1: a map as bytes.
 
-use crate::Refusal;
+use crate::entries::flat_mut;
 use crate::exported::jenwyllt_read_sheet;
+use crate::{Boundary, Point, Refusal, Span};
 
 const MOST_CELLS: usize = 1024 * 1024;
 const MOST_ENTRIES: usize = 256;
 
 /// What a sheet holds. Beyond its form nothing is tested: endpoints may lie outside the map.
-#[derive(Debug, Clone, PartialEq, Eq)]
+#[derive(Debug, Clone, PartialEq)]
 pub struct Sheet {
     /// The pass to run.
     pub pass: u64,
@@ -17,12 +18,12 @@ pub struct Sheet {
     pub height: u64,
     /// Row by row: 1 for walkable, plus 2 for ramp, plus 4 times the elevation.
     pub cells: Vec<u8>,
-    /// x, y, x, y in pixels.
-    pub spans: Vec<[u64; 4]>,
-    /// x, y, x, y, the bits of the width as a double, kind (0 none, 1 lower, 2 upper), ramp id, lower and upper elevation.
-    pub boundaries: Vec<[u64; 9]>,
-    /// x, y in cells.
-    pub anchors: Vec<[u64; 2]>,
+    /// The lines that cut the map.
+    pub spans: Vec<Span>,
+    /// The choke boundaries among which a pass chooses.
+    pub boundaries: Vec<Boundary>,
+    /// In cells.
+    pub anchors: Vec<Point>,
 }
 
 /// What a sheet opens with, and how many entries its lists have.
@@ -64,7 +65,7 @@ pub struct SheetLists<'a> {
 /// let sheet = jenwyllt::read_sheet(&[1, 3, 2, 1, 1, 1, 1, 8, 0, 8, 8, 0, 0]).unwrap();
 /// assert_eq!((sheet.pass, sheet.width, sheet.height), (3, 2, 1));
 /// assert_eq!(sheet.cells, [1, 1]);
-/// assert_eq!(sheet.spans, [[8, 0, 8, 8]]);
+/// assert_eq!(sheet.spans, [[8, 0, 8, 8].into()]);
 ///
 /// let refusal = jenwyllt::read_sheet(&[1, 3, 2]).unwrap_err();
 /// assert_eq!((refusal.number, refusal.place), (14, 3));
@@ -73,14 +74,14 @@ pub fn read_sheet(bytes: &[u8]) -> Result<Sheet, Refusal> {
     // Each number takes a byte or more, so no list is too short.
     let entries = |numbers: usize| MOST_ENTRIES.min(bytes.len() / numbers);
     let mut cells = vec![0; MOST_CELLS.min(bytes.len())];
-    let mut spans = vec![[0; 4]; entries(4)];
-    let mut boundaries = vec![[0; 9]; entries(9)];
-    let mut anchors = vec![[0; 2]; entries(2)];
+    let mut spans = vec![Span::default(); entries(4)];
+    let mut boundaries = vec![Boundary::default(); entries(9)];
+    let mut anchors = vec![Point::default(); entries(2)];
     let lists = SheetLists {
         cells: &mut cells,
-        spans: spans.as_flattened_mut(),
-        boundaries: boundaries.as_flattened_mut(),
-        anchors: anchors.as_flattened_mut(),
+        spans: flat_mut(&mut spans),
+        boundaries: flat_mut(&mut boundaries),
+        anchors: flat_mut(&mut anchors),
     };
     let header = read_sheet_into(bytes, lists)?;
     cells.truncate((header.width * header.height) as usize);

@@ -1,8 +1,8 @@
 //! What the lent lists hold when a call returns: room beyond the data, refusals, lists without entries.
 
 use jenwyllt::{
-    KeptLists, Map, PartitionLists, Refusal, Region, SheetLists, kept_boundaries_into, partition, partition_into, read_sheet,
-    read_sheet_into,
+    KeptLists, Map, PartitionLists, Refusal, Region, SheetLists, Tally, kept_boundaries_into, partition, partition_into,
+    read_sheet, read_sheet_into,
 };
 
 const CELLS: [u8; 4] = [1, 1, 0, 1];
@@ -249,8 +249,8 @@ fn lists_without_entries() {
 fn more_pairs_than_two_a_span() {
     // A comb: every other row is walkable, and one span cuts all of them.
     let cells: Vec<u8> = (0..21).flat_map(|y| [u8::from(y % 2 == 0); 6]).collect();
-    let cut = partition(6, 21, &cells, &[[24, 0, 24, 168]]).expect("a sound map");
-    assert_eq!((cut.regions, cut.pairs.len(), cut.tallies), (22, 11, vec![[11, 11]]));
+    let cut = partition(6, 21, &cells, &[[24, 0, 24, 168].into()]).expect("a sound map");
+    assert_eq!((cut.regions, cut.pairs.len(), cut.tallies), (22, 11, vec![Tally { removed: 11, separated: 11 }]));
 }
 
 #[test]

@@ -26,6 +26,11 @@ fn record(numbers: &[u32]) -> Region {
     Region { cells: *cells as usize, min_x, min_y, max_x, max_y, has_ramp: *ramp == 1, elevations: *mask as u8, elevation_counts }
 }
 
+/// The numbers of a list of entries.
+fn flattened<const COUNT: usize, N, E: Copy + Into<[N; COUNT]>>(list: &[E]) -> Vec<N> {
+    list.iter().flat_map(|entry| (*entry).into()).collect()
+}
+
 fn sheet(line: &str) -> Vec<u8> {
     let digits = content(line, "sheet");
     (0..digits.len() / 2).map(|i| u8::from_str_radix(&digits[2 * i..2 * i + 2], 16).expect("two digits")).collect()
@@ -44,12 +49,12 @@ fn maps() {
         let cut = partition(read.width, read.height, &read.cells, &read.spans).expect(name);
         assert_eq!(kept.partition, cut, "{name}");
         assert_eq!(cut.labels, numbers(map[3], "labels"), "{name}");
-        assert_eq!(cut.tallies.as_flattened(), numbers(map[4], "tallies"), "{name}");
-        assert_eq!(cut.pairs.as_flattened(), numbers(map[5], "pairs"), "{name}");
+        assert_eq!(flattened(&cut.tallies), numbers(map[4], "tallies"), "{name}");
+        assert_eq!(flattened(&cut.pairs), numbers(map[5], "pairs"), "{name}");
         let records: Vec<_> = numbers(map[6], "records").chunks(RECORD_NUMBERS).map(record).collect();
         assert_eq!(cut.regions as usize, records.len(), "{name}");
         assert_eq!(kept.records, records, "{name}");
-        assert_eq!(kept.rows.as_flattened(), numbers(map[7], "rows"), "{name}");
+        assert_eq!(flattened(&kept.rows), numbers(map[7], "rows"), "{name}");
     }
 }
 
@@ -76,7 +81,8 @@ fn sheets() {
             }
             Err(refusal) => {
                 refused += 1;
-                assert_eq!(refusal.to_string(), printed);
+                assert_eq!(format!("refused {} at {}", refusal.number, refusal.place), printed);
+                assert!(refusal.to_string().starts_with(&format!("{printed}: ")) && refusal.cause().is_some());
             }
         }
     }

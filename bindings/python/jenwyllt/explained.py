@@ -1,0 +1,119 @@
+"""What a refusal of a map means, in words. The number and the place are the library's; here they are only spelled out."""
+from __future__ import annotations
+
+import itertools
+from collections.abc import Iterator
+
+from .refusal import WORDS, Cause, Refusal
+from .sheet import KIND, MOST_ENTRIES, Boundary, Point, Sheet, Span
+
+WIDEST = 65536
+LONGEST_NUMBER = 10                 # bytes
+UNLIKELY_KIND = 16                  # a file that begins with such a number was hardly meant for a sheet
+MOST_ELEVATION, MOST_RAMP_ELEVATION, MOST_KIND, RAMP_BITS = 3, 7, 2, 32
+
+
+# ---- faults of a sheet as bytes
+
+def numbers_of(data: bytes) -> Iterator[tuple[int, int | None]]:
+    """each number with the place of its first byte; None and the end where one is over 64 bits or ends early"""
+    at = 0
+    while at < len(data):
+        first, value = at, 0
+        for group in range(LONGEST_NUMBER):
+            if at == len(data) or (group == LONGEST_NUMBER - 1 and data[at] > 1):
+                yield first, None
+                return
+            value |= (data[at] & 127) << (7 * group)
+            at += 1
+            if data[at - 1] < 128:
+                break
+        yield first, value
+
+
+def opening(data: bytes) -> tuple[int, int, int, int] | None:
+    """kind, pass, width and height, where the bytes go so far"""
+    first = [value for _, value in itertools.islice(numbers_of(data), 4)]
+    return None if len(first) < 4 or None in first else tuple(first)
+
+
+def sheet_words(data: bytes, place: int) -> str:
+    """of refusal 14"""
+    if not data:
+        return 'there are no bytes'
+    if place >= len(data):
+        return f'the sheet ends early, behind {len(data)} bytes'
+    k, value = next((k, value) for k, (first, value) in enumerate(numbers_of(data)) if first == place)
+    if value is None:
+        return f'the number at byte {place} is over 64 bits'
+    if k == 0:
+        return f'the sheet is of kind {value}, not {KIND}' if value < UNLIKELY_KIND else f'this is neither a sheet of kind {KIND} nor a text'
+    opened = opening(data)
+    if opened and k < 4 + opened[2] * opened[3]:
+        return f'cell {k - 4} is {value}, over 255'
+    return f'the sheet is over at byte {place}, and {len(data) - place} bytes are left'
+
+
+# ---- faults of a map
+
+def ends_words(span: Span) -> str:
+    return f'from {span.start.x} {span.start.y} to {span.end.x} {span.end.y}'
+
+
+def off_map(sheet: Sheet, point: Point) -> bool:
+    return point.x > sheet.pixels.x or point.y > sheet.pixels.y
+
+
+def off_map_words(sheet: Sheet) -> str:
+    return f'an endpoint lies off the map of {sheet.pixels.x} by {sheet.pixels.y} pixels'
+
+
+def boundary_faults(sheet: Sheet, boundary: Boundary) -> Iterator[str]:
+    if off_map(sheet, boundary.start) or off_map(sheet, boundary.end):
+        yield off_map_words(sheet)
+    if not 0 <= boundary.width <= WIDEST or boundary.width_bits >> 63:
+        yield f'its width {boundary.width} is not from 0 to {WIDEST:,}'
+    if boundary.kind > MOST_KIND:
+        yield f'its kind {boundary.kind} is not 0, 1 or 2'
+    if boundary.ramp >> RAMP_BITS:
+        yield f'its ramp id {boundary.ramp} is over {RAMP_BITS} bits'
+    if max(boundary.lower, boundary.upper) > MOST_RAMP_ELEVATION:
+        yield f'its elevations {boundary.lower} and {boundary.upper} are not from 0 to {MOST_RAMP_ELEVATION}'
+    if boundary.kind == 0 and (boundary.ramp or boundary.lower or boundary.upper):
+        yield 'it has no ramp, and its ramp id and elevations are not 0'
+
+
+def map_words(number: int, place: int, sheet: Sheet) -> str:
+    if number == Cause.SIDES:
+        return f'{sheet.width} by {sheet.height} cells: a side is 0 or over 1,024'
+    if number == Cause.CELLS:
+        return f'{sheet.width} by {sheet.height} cells are wanted, and there are {len(sheet.cells)}'
+    if number == Cause.ENTRIES:
+        return (f'over {MOST_ENTRIES} spans, boundaries or anchors: there are {len(sheet.spans)}, {len(sheet.boundaries)} and {len(sheet.anchors)}')
+    if number == Cause.PASS:
+        return f'the pass is {sheet.pass_number}, not 1, 2 or 3'
+    if number == Cause.SPAN_OUTSIDE:
+        return f'span {place} {ends_words(sheet.spans[place])}: {off_map_words(sheet)}'
+    if number == Cause.SPAN_OF_NO_LENGTH:
+        return f'span {place} {ends_words(sheet.spans[place])}: its endpoints are equal'
+    if number == Cause.BOUNDARY:
+        boundary = sheet.boundaries[place]
+        return f'boundary {place} {ends_words(boundary.span)}: {"; ".join(boundary_faults(sheet, boundary))}'
+    if number == Cause.ANCHOR_OUTSIDE:
+        return f'anchor {place} at cell {sheet.anchors[place].x} {sheet.anchors[place].y} lies off the map of {sheet.width} by {sheet.height} cells'
+    if number == Cause.ELEVATION:
+        row, column = divmod(place, sheet.width)
+        return f'cell {place}, column {column} of row {row}, is walkable and of elevation {sheet.cells[place] // 4}, over {MOST_ELEVATION}'
+    return WORDS[number]
+
+
+def explained(refusal: Refusal, data: bytes = b'', sheet: Sheet | None = None) -> Refusal:
+    """the same refusal in words about these bytes, or about the map that was read from them"""
+    if refusal.number == Cause.SHEET:
+        return Refusal(refusal.number, refusal.place, sheet_words(data, refusal.place))
+    if sheet is not None and refusal.number in WORDS:
+        return Refusal(refusal.number, refusal.place, map_words(refusal.number, refusal.place, sheet))
+    opened = opening(data)
+    if refusal.number == Cause.SIDES and opened:
+        return Refusal(refusal.number, refusal.place, f'{opened[2]} by {opened[3]} cells: a side is 0 or over 1,024')
+    return refusal

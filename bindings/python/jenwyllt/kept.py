@@ -1,0 +1,80 @@
+"""The boundaries that a pass keeps."""
+from __future__ import annotations
+
+import ctypes
+from dataclasses import dataclass
+from typing import Any, NamedTuple
+
+from ._library import BOOL, DOUBLE, SIZE, U8, U16, U32, U64, Function, ListOf, lent
+from .partition import Answer, Partition, Room
+from .refusal import Cause, Refusal
+from .sheet import Point, Sheet, flat, grouped
+
+ROW_NUMBERS = 5
+
+
+class Row(NamedTuple):
+    """a boundary that is kept: its number from 0, and its endpoints, the smaller first"""
+    number: int
+    start: Point
+    end: Point
+
+
+class Region(ctypes.Structure):
+    """the record of a region: how many cells it has, its edges in pixels, whether a cell is a ramp, which elevations occur (bit e stands for elevation e),
+    and how many cells have elevation 0, 1, 2 and 3"""
+    _fields_ = [('cells', SIZE), ('min_x', DOUBLE), ('min_y', DOUBLE), ('max_x', DOUBLE), ('max_y', DOUBLE), ('has_ramp', BOOL), ('elevations', U8),
+                ('elevation_counts', SIZE * 4)]
+
+    def values(self) -> dict[str, Any]:
+        """by name; the counts as a list"""
+        each = {name: getattr(self, name) for name, *_ in self._fields_}
+        return {name: list(value) if isinstance(value, ctypes.Array) else value for name, value in each.items()}
+
+    def __eq__(self, other: object) -> bool:
+        return isinstance(other, Region) and self.values() == other.values()
+
+    def __repr__(self) -> str:
+        return f'Region({", ".join(f"{name}={value!r}" for name, value in self.values().items())})'
+
+
+@dataclass(frozen=True)
+class Kept:
+    """what a pass makes of a map"""
+    rows: list[Row]                 # ascending by endpoints
+    boundaries: int                 # how many the map has
+    partition: Partition
+    records: list[Region]           # of each region, that of label 1 first
+
+    def printed(self) -> str:
+        """as the program `keptlist` prints it"""
+        return f'kept {len(self.rows)} of {self.boundaries}\n' + ''.join(f'{row.number} {" ".join(map(str, (*row.start, *row.end)))}\n' for row in self.rows)
+
+
+KEPT_BOUNDARIES = Function(
+    'jenwyllt_kept_boundaries', Answer, **{'pass': U64}, width=U64, height=U64, cells=ListOf(U8), spans=ListOf(U64), boundaries=ListOf(U64), anchors=ListOf(U64),
+    labels=ListOf(U32, filled=True), masks=ListOf(U16, filled=True), queue=ListOf(U32, filled=True), tallies=ListOf(U32, filled=True),
+    pairs=ListOf(U32, filled=True), records=ListOf(Region, filled=True), output=ListOf(U64, filled=True))
+
+
+def kept_boundaries(sheet: Sheet, records: int | None = None, pair_rows: int | None = None) -> Kept:
+    """cuts the map by its spans and runs its pass. Refused 1 to 9; with as many records or pair rows as are given, 11 and 12 too"""
+    room = Room(len(sheet.cells), len(sheet.spans), pair_rows)
+    read = lent(U8, sheet.cells), *(lent(U64, flat(entries)) for entries in (sheet.spans, sheet.boundaries, sheet.anchors))
+    output = lent(U64, ROW_NUMBERS * len(sheet.boundaries))
+    lent_records = lent(Region, 1 + 2 * len(sheet.spans) if records is None else records)
+
+    def call() -> int:
+        return KEPT_BOUNDARIES(sheet.pass_number, sheet.width, sheet.height, *read, *room.lists(), lent_records, output).count()
+
+    try:
+        count = room.filled_by(call)
+    except Refusal as refusal:
+        if refusal.number != Cause.REGIONS or records is not None:
+            raise
+        # The labels are filled.
+        lent_records = lent(Region, max(room.labels))
+        count = room.filled_by(call)
+    regions = max(room.labels)
+    rows = [Row(number, Point(*ends[:2]), Point(*ends[2:])) for number, *ends in grouped(output[:ROW_NUMBERS * count], ROW_NUMBERS)]
+    return Kept(rows, len(sheet.boundaries), room.partition(regions), [Region.from_buffer_copy(record) for record in lent_records[:regions]])

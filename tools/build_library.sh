@@ -1,0 +1,96 @@
+#!/bin/sh
+# Builds target/lib/libjenwyllt.a and target/lib/libjenwyllt.so from the crates that export functions, listed here. A crate's exports are named
+# CRATE_NAME, as the toolchain asks; in the library each is jenwyllt_NAME, and nothing else of a crate can be seen. The archive of a crate is taken as it
+# stands where neither the crate nor one below it has changed. RT_JOBS says how many crates are built at a time (2 without it).
+set -eu
+EXPORTS="jenwyllt topology"
+
+cd "$(dirname "$0")/.."
+lib=target/lib
+parts=$lib/parts
+
+stop() { # STATUS SENTENCE
+    echo "build_library: $2" >&2
+    exit "$1"
+}
+need() { # COMMAND PACKAGE
+    command -v "$1" >/dev/null || stop 2 "$1 is missing: it comes with the package $2"
+}
+need rt "rattle-kit, the Rattle toolchain"
+need cc "gcc (or another C compiler)"
+for tool in ld nm ar objcopy; do need "$tool" binutils; done
+
+below() { # NAME: the crates of this repository that it depends on
+    for one in $(sed -n "s/^$1 *://p" crates.txt); do
+        if [ -d "crates/$one" ]; then echo "$one"; fi
+    done
+}
+made_from() { # NAME: a sum over all that its archive is made from
+    {
+        rt version
+        for one in "$1" $(below "$1"); do find "crates/$one" -type f ! -path '*/must-fail/*'; done | LC_ALL=C sort | xargs cksum
+    } | cksum
+}
+log_of() { # FILE
+    tail -n 20 "$1" >&2
+}
+build() { # NAME
+    rm -f "$parts/$1.sum"
+    rt staticlib "$1" >"$parts/$1.log" 2>&1 && made_from "$1" >"$parts/$1.sum"
+}
+wait_for() { # NAME:PROCESS
+    wait "${1#*:}" || { log_of "$parts/${1%:*}.log"; stop 1 "${1%:*} was not built"; }
+}
+
+mkdir -p "$parts"
+changed=''
+for name in $EXPORTS; do
+    if [ ! -f "target/staticlib/lib$name.a" ] || [ "$(made_from "$name")" != "$(cat "$parts/$name.sum" 2>/dev/null)" ]; then changed="$changed $name"; fi
+done
+if [ -n "$changed" ]; then
+    echo "build_library: proving and building$changed; with nothing proved yet this takes about ten minutes on two cores ($parts/check.log)" >&2
+    # What they share is proved first, so that no two builds prove it at once.
+    shared=$(for name in $changed; do below "$name"; done | sort -u)
+    # shellcheck disable=SC2086
+    rt check $shared >"$parts/check.log" 2>&1 || { log_of "$parts/check.log"; stop 1 "what the library rests on is not proved"; }
+fi
+running=''
+for name in $changed; do
+    build "$name" &
+    running="$running $name:$!"
+    # shellcheck disable=SC2086
+    set -- $running
+    if [ $# -ge "${RT_JOBS:-2}" ]; then
+        wait_for "$1"
+        shift
+        running=$*
+    fi
+done
+for one in $running; do wait_for "$one"; done
+
+# One object a crate: its exports renamed, all else local.
+objects=''
+: >"$parts/exports"
+for name in $EXPORTS; do
+    object=$parts/$name.o
+    ld -r --whole-archive "target/staticlib/lib$name.a" -o "$object"
+    nm --defined-only --extern-only --format=posix "$object" | cut -d ' ' -f 1 | grep "^${name}_" >"$parts/$name.symbols" || stop 1 "$name exports nothing"
+    objcopy --keep-global-symbols="$parts/$name.symbols" "$object"
+    if [ "$name" != jenwyllt ]; then
+        sed "s/^${name}_\(.*\)$/& jenwyllt_\1/" "$parts/$name.symbols" >"$parts/$name.renamed"
+        objcopy --redefine-syms="$parts/$name.renamed" "$object"
+    fi
+    sed "s/^${name}_/jenwyllt_/" "$parts/$name.symbols" >>"$parts/exports"
+    objects="$objects $object"
+done
+twice=$(sort "$parts/exports" | uniq -d)
+[ -z "$twice" ] || stop 1 "two crates export $twice"
+
+rm -f "$lib/libjenwyllt.a"
+major=$(sed -n 's/^#define JENWYLLT_VERSION_MAJOR //p' include/jenwyllt.h)
+# shellcheck disable=SC2086
+ar rcsD "$lib/libjenwyllt.a" $objects
+# shellcheck disable=SC2086
+cc -shared -o "$lib/libjenwyllt.so" -Wl,-soname,"libjenwyllt.so.$major" -Wl,-z,defs $objects
+ln -sf libjenwyllt.so "$lib/libjenwyllt.so.$major"
+echo "build_library: $lib/libjenwyllt.a and libjenwyllt.so, $(wc -l <"$parts/exports") functions" >&2
