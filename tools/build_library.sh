@@ -3,7 +3,7 @@
 # CRATE_NAME, as the toolchain asks; in the library each is jenwyllt_NAME, and nothing else of a crate can be seen. The archive of a crate is taken as it
 # stands where neither the crate nor one below it has changed. RT_JOBS says how many crates are built at a time (2 without it).
 set -eu
-EXPORTS="jenwyllt topology"
+EXPORTS="jenwyllt topology accession"
 
 cd "$(dirname "$0")/.."
 lib=target/lib

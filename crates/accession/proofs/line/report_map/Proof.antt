@@ -1,30 +1,38 @@
+-- `accession::line::report_map` meets its contract. Assumes nothing.
+use native.Mathlib.Omega.{arith}
+use mathlib.Core.Path.{refl}
+use lib.ListN.{length}
+use denote.Ref.{now}
 use borrow.Author.Needs.{needs}
+use Rattle.accession.proofs.Reporting.{no-room, has-room}
 use Rattle.accession.proofs.line.report_map.Statement.{statement}
 use Rattle.accession.proofs.line.report_map.Tie as tie
-use Rattle.accession.proofs.line.report_map.Reads as reads
-use Rattle.accession.proofs.line.report_map.Lts as lts
-use Rattle.accession.proofs.line.count_of_map.Reads as count-of-map-reads
-use Rattle.accession.proofs.line.put_line.Reads as put-line-reads
 
--- src/line.rt:104:9
 count-of-map-requires : tie.Need-count-of-map-requires
 count-of-map-requires c κs = search needs
 
--- src/line.rt:106:9
 returns : tie.Need-returns
-returns c = ?
+returns c =
+    let at-count = c .before in
+    let entry = at-count .before .before .before in
+    (no-room (now (entry .args .records)) (entry .args .number) (length (now (entry .args .output))) (at-count .count-of-map .ensures) (c .if1 .taken), refl)
 
--- src/line.rt:111:5
 put-line-requires : tie.Need-put-line-requires
-put-line-requires c κs = search needs
+put-line-requires c κs =
+    let at-count = c .before .before in
+    omega (arith, c .before .if1 .left, at-count .count-of-map .ensures)
 
--- src/line.rt:100:1
 same-length : tie.Need-same-length
 same-length c = search needs
 
--- src/line.rt:100:1
 returns-2 : tie.Need-returns-2
-returns-2 c = ?
+returns-2 c =
+    let at-put = c .before .before in
+    let lent = at-put .before in
+    let at-count = lent .before .before in
+    let entry = at-count .before .before .before in
+    (has-room (now (entry .args .records)) (entry .args .number) (length (now (entry .args .output))) (at-count .count-of-map .ensures) (lent .before .if1 .left),
+    at-put .put-line .ensures)
 
 pub report-map-spec : {M : Type 1} → statement M
 report-map-spec =
