@@ -4,3 +4,5 @@ pub mod Last
 pub mod Chain
 pub mod Newest
 pub mod MapLine
+pub mod Lines
+pub mod Reported
