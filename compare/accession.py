@@ -2,8 +2,8 @@
 
     python3 accession.py [LISTS] [--seed N]
 
-Half of the lists keep the rules and half break one at one position, in each way in turn; rooms and own numbers vary, and one list in a hundred is long.
-Prints the differences, and at the end how many lists of each answer there were.
+Every second list keeps the rules; the others are such a list with one record changed, position by position. Rooms and own numbers vary, and one list in a
+hundred is long. Prints the differences, and at the end how many lists there were of each answer, and how many broke each rule, at how many positions.
 """
 import argparse
 import random
@@ -12,21 +12,23 @@ from collections import Counter
 
 import package  # noqa: F401
 from accession_lists import MAPS, MOST, damaged, flat, kept
-from accession_reference import report_line
+from accession_reference import first_broken, records_of, report_line
 from jenwyllt._library import U64, lent
 from jenwyllt.accession import REPORT_LINE
 
 
 def lists(draw):
-    while True:
-        long = draw.random() < 0.01
+    def fresh():
+        count = draw.randrange(1000, 1200) if draw.random() < 0.01 else draw.randrange(0, 14)
         maps = draw.sample(MAPS, draw.randrange(1, 6)) if draw.random() < 0.7 else [draw.randrange(2 ** 64) for _ in range(draw.randrange(1, 40))]
-        records = kept(draw, draw.randrange(1000, 1200) if long else draw.randrange(0, 14), maps)
+        return kept(draw, count, maps)
+
+    while True:
+        records = fresh()
         yield records
-        if long and records:
-            yield draw.choice(list(damaged(records[:40], draw.randrange(40)))) + records[40:]
-        for i in range(0 if long else len(records)):
-            yield draw.choice(list(damaged(records, i)))
+        for i in range(min(len(records), 14)):
+            yield draw.choice(list(damaged(records[:40], i))) + records[40:]
+            yield fresh()
 
 
 def main():
@@ -34,7 +36,7 @@ def main():
     parser.add_argument('lists', type=int, nargs='?', default=20_000)
     parser.add_argument('--seed', type=int, default=random.SystemRandom().randrange(2 ** 32))
     args = parser.parse_args()
-    draw, answers, differences = random.Random(args.seed), Counter(), 0
+    draw, answers, broken, differences = random.Random(args.seed), Counter(), {}, 0
     source = lists(draw)
     for _ in range(args.lists):
         records = next(source)
@@ -49,10 +51,16 @@ def main():
         output = lent(U64, before)
         answer = REPORT_LINE(lent(U64, numbers), own, output)
         answers[number] += 1
+        if number == 17:
+            rule = first_broken(records_of(numbers))[1]
+            broken.setdefault(rule, Counter())[value] += 1
         if (answer.number, answer.value, output[:]) != (number, value, rows + before[len(rows):]):
             differences += 1
             print('DIFFERS', numbers, own, room, (answer.number, answer.value), (number, value))
-    print(f'{args.lists} lists, seed {args.seed}:', ', '.join(f'{count} of number {number}' for number, count in sorted(answers.items())), f'; {differences} differences')
+    print(f'{args.lists} lists, seed {args.seed}:', ', '.join(f'{count} of number {number}' for number, count in sorted(answers.items())))
+    for rule, places in sorted(broken.items()):
+        print(f'  {rule}: {sum(places.values())}, at {len(places)} positions')
+    print(f'{differences} differences')
     return 1 if differences else 0
 
 

@@ -8,26 +8,30 @@ a refusal has its number, its place and no rows.
 from __future__ import annotations
 
 
-def keeps_rules(record: tuple[int, ...], last_own: int, newest: dict[int, tuple[int, ...]], by_own: dict[int, int], superseded: set[int]) -> bool:
+def broken_rule(record: tuple[int, ...], last_own: int, newest: dict[int, tuple[int, ...]], by_own: dict[int, int], superseded: set[int]) -> str | None:
+    """the rule that a record breaks after those before it"""
     own, number, day, target = record
     if own <= last_own:
-        return False
+        return 'own number'
     if number in newest and day < newest[number][2]:
-        return False
+        return 'day'
     if target == 0:
-        return number not in newest
-    return by_own.get(target) == number and target not in superseded
+        return 'second 0' if number in newest else None
+    if by_own.get(target) != number:
+        return 'no earlier record of its map'
+    return 'superseded already' if target in superseded else None
 
 
-def first_broken(records: list[tuple[int, ...]]) -> int | None:
-    """the position of the first record that breaks a rule"""
+def first_broken(records: list[tuple[int, ...]]) -> tuple[int, str] | None:
+    """the position of the first record that breaks a rule, and the rule"""
     last_own = 0
     newest: dict[int, tuple[int, ...]] = {}         # by map number
     by_own: dict[int, int] = {}                     # the map number of each own number so far
     superseded: set[int] = set()
     for position, record in enumerate(records):
-        if not keeps_rules(record, last_own, newest, by_own, superseded):
-            return position
+        rule = broken_rule(record, last_own, newest, by_own, superseded)
+        if rule:
+            return position, rule
         last_own = record[0]
         newest[record[1]] = record
         by_own[record[0]] = record[1]
@@ -36,13 +40,17 @@ def first_broken(records: list[tuple[int, ...]]) -> int | None:
     return None
 
 
+def records_of(numbers: list[int]) -> list[tuple[int, ...]]:
+    return [tuple(numbers[k:k + 4]) for k in range(0, len(numbers) - len(numbers) % 4, 4)]
+
+
 def report_line(numbers: list[int], own: int, room: int) -> tuple[int, int, list[int]]:
     if len(numbers) % 4:
         return 3, 0, []
-    records = [tuple(numbers[k:k + 4]) for k in range(0, len(numbers), 4)]
+    records = records_of(numbers)
     broken = first_broken(records)
     if broken is not None:
-        return 17, broken, []
+        return 17, broken[0], []
     maps = [record[1] for record in records if record[0] == own]
     line = [record for record in reversed(records) if maps and record[1] == maps[0]]
     rows = [number for record in line for number in record]

@@ -231,8 +231,8 @@ double jenwyllt_hypot(double x, double y);
      17      a record breaks one of the rules      the first such record
      10      the output is too short for the line  0
 
-   With any of these the output stays as it was. A list of more than 1024 records needs 644 KiB of stack, a shorter one 7 KiB. The time grows with the count
-   of records, and with its square where over 131072 records, or a great many maps whose numbers leave the same remainder by 32749, are of different maps. */
+   With any of these the output stays as it was. A call needs 641 KiB of stack. The time grows with the count of records, and with its square only where there
+   are many maps whose numbers leave the same remainder by 32749, or many maps among the records behind the first 131072. */
 struct jenwyllt_answer jenwyllt_report_line(
     const uint64_t *records, size_t records_length,
     uint64_t own,
