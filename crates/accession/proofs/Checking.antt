@@ -1,6 +1,6 @@
 -- The check on its way: the first i records keep the rules, and some of them are held. What it asks of record i is whether that one keeps them too (`chain` of
 -- `catalogue`). Assumes nothing.
-use Prim.Native.Nat.{ℕ, _+_, _≤_, _<_}
+use Prim.Native.Nat.{ℕ, _≤_, _<_}
 use native.Mathlib.Omega.{arith}
 use mathlib.Core.Path.{_≡_, sym, ap, ap₂, _∙_}
 use mathlib.Core.Bool.{Bool, _&&_}
@@ -37,7 +37,9 @@ module _ (l : List ℕ) where
       }
 
   -- the test of record i
-  pub test-is : (i k : ℕ) {a b : Bool} → firstFaulty i (keepsRules l) ≡ none → k ≡ previous l i → a ≡ ownAscends l i → b ≡ follows l i k → (a && b) ≡ keepsRules l i
+  pub test-is :
+      (i k : ℕ) {a b : Bool} → firstFaulty i (keepsRules l) ≡ none → k ≡ previous l i → a ≡ ownAscends l i → b ≡ follows l i k
+      → (a && b) ≡ keepsRules l i
   test-is i k h e p q = ap₂ _&&_ p (q ∙ ap (follows l i) e) ∙ sym (chain l i (none-faulty (keepsRules l) i h))
 
   pub previous-within : (i : ℕ) {k : ℕ} → k ≡ previous l i → k ≤ i

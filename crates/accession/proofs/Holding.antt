@@ -98,7 +98,9 @@ module _ (l : List ℕ) where
         let one : suc k - 1 ≡ k = omega arith in
         ap (λ j. accessionAt l j .onMap % slots) one ∙ eqb-true (accessionAt l k .onMap % slots) slot (last-passes (inSlot l slots slot) n k e) ∙ q
 
-    pub reached-slot : (held n k : ℕ) → n ≤ held → lastBelow held (isOfMap l number) ≡ lastBelow n (isOfMap l number) → k ≡ lastBelow n (inSlot l slots slot) → Reached slots held number k
+    reached-slot :
+        (held n k : ℕ) → n ≤ held → lastBelow held (isOfMap l number) ≡ lastBelow n (isOfMap l number) → k ≡ lastBelow n (inSlot l slots slot)
+        → Reached slots held number k
     reached-slot held n k h r e =
         record {
           within = omega (arith, last-within (inSlot l slots slot) n);

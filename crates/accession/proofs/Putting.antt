@@ -6,7 +6,7 @@ use mathlib.Core.Path.{_≡_, refl, sym, ap, subst, _∙_}
 use mathlib.Core.Bool.{Bool, true, false, true≢false, false≢true}
 use mathlib.Core.List.{List, [], _∷_, _++_, append-nil, append-assoc}
 use lib.ListN.{length, set, drop, length-append, length-drop}
-use lib.Seq.{sets, length-sets}
+use lib.Seq.{sets}
 use Rattle.definitions.specs.Lists.{overwrite}
 use Rattle.definitions.specs.Scan.{countBelow, bit, collect, concatMap}
 use Rattle.laws.specs.ListLaws.Overwritten.{overwrite-more}
@@ -25,7 +25,9 @@ four-stores l k a b c d =
 
 -- a record that is put, and one that is not
 module _ (l : List ℕ) (i : ℕ) (out : List ℕ) (k : ℕ) where
-  pub put-one : (b : Bool) → b ≡ true → (k + 4 ≡ k + numbersPerAccession * bit b) × (sets out k (flatAccession (accessionAt l i)) ≡ sets out k (flatLine (one b l i)))
+  pub put-one :
+      (b : Bool) → b ≡ true
+      → (k + 4 ≡ k + numbersPerAccession * bit b) × (sets out k (flatAccession (accessionAt l i)) ≡ sets out k (flatLine (one b l i)))
   unfolding flatLine concatMap
   put-one true e = (omega arith, refl)
   put-one false e = absurd (false≢true e)

@@ -2,8 +2,8 @@
 use Prim.Native.Nat.{ℕ, zero, suc, _*_, _/_, _≤_, _<_}
 use native.Mathlib.Omega.{arith}
 use mathlib.Core.Path.{_≡_, refl, sym, ap, ap₂, _∙_}
-use mathlib.Core.Bool.{true, false}
-use mathlib.Core.Option.{none, some}
+use mathlib.Core.Bool.{Bool, true, false}
+use mathlib.Core.Option.{Option, none, some}
 use mathlib.Core.List.{List, [], _∷_}
 use lib.ListN.{length}
 use lib.Dec.{leb}
@@ -42,30 +42,33 @@ module _ (l : List ℕ) (number room : ℕ) {count : ℕ} (e : count ≡ countBe
 -- ---- 3 and 17
 
 module _ (l : List ℕ) (own : ℕ) (out : List ℕ) where
-  abbrev ten : List Accession → Answer
-  ten line = roomVerdict line (length out)
+  -- the three checks, by what the first two found
+  abbrev checks : Bool → Option ℕ → Answer
+  checks finished fault =
+      firstRefusal
+      (refusal 3 (unless finished)
+      ∷ refusal 17 fault
+      ∷ refusal 10 (unless (leb (numbersPerAccession * length (lineOf l own)) (length out)))
+      ∷ [])
+      (length (lineOf l own))
 
   pub unfinished : isFinished l ≡ false → answer 3 0 ≡ lineVerdict l own (length out)
   unfolding lineVerdict
-  unfinished f = ap (λ a. firstRefusal (refusal 3 (unless a) ∷ refusal 17 (accessionsFault l) ∷ refusal 10 (unless (leb (numbersPerAccession * length (lineOf l own)) (length out))) ∷ []) (length (lineOf l own))) (sym f)
+  unfinished f = ap (λ a. checks a (accessionsFault l)) (sym f)
 
   module _ (f : isFinished l ≡ true) where
     pub broken : {i : ℕ} → accessionsFault l ≡ some i → answer 17 i ≡ lineVerdict l own (length out)
     unfolding lineVerdict
-    broken g =
-        ap₂ (λ a b. firstRefusal (refusal 3 (unless a) ∷ refusal 17 b ∷ refusal 10 (unless (leb (numbersPerAccession * length (lineOf l own)) (length out))) ∷ []) (length (lineOf l own)))
-        (sym f) (sym g)
+    broken g = ap₂ checks (sym f) (sym g)
 
     module _ (g : accessionsFault l ≡ none) where
       pub ten-left : roomVerdict (lineOf l own) (length out) ≡ lineVerdict l own (length out)
       unfolding lineVerdict
-      ten-left =
-          ap₂ (λ a b. firstRefusal (refusal 3 (unless a) ∷ refusal 17 b ∷ refusal 10 (unless (leb (numbersPerAccession * length (lineOf l own)) (length out))) ∷ []) (length (lineOf l own)))
-          (sym f) (sym g)
+      ten-left = ap₂ checks (sym f) (sym g)
 
       -- an unknown number needs no room
       pub unknown : lineOf l own ≡ [] → answer 0 0 ≡ lineVerdict l own (length out)
-      unknown e = ap (λ b. firstRefusal (refusal 10 (unless b) ∷ []) 0) (sym (le-leb 0 (length out) (omega arith))) ∙ ap ten (sym e) ∙ ten-left
+      unknown e = ap (λ b. firstRefusal (refusal 10 (unless b) ∷ []) 0) (sym (le-leb 0 (length out) (omega arith))) ∙ ap (λ line. roomVerdict line (length out)) (sym e) ∙ ten-left
 
   pub exit-left : (number : ℕ) {line : List Accession} → lineOf l own ≡ line → roomExit number line out ≡ lineAtExit number l own out
   exit-left number e = ap (λ line. roomExit number line out) (sym e) ∙ go number

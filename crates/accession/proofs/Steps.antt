@@ -1,7 +1,7 @@
 -- The two tests of a record as the code makes them, by the number before. Assumes nothing.
 use Prim.Native.Nat.{ℕ, zero, suc, _-_, _<_}
 use native.Mathlib.Omega.{arith}
-use mathlib.Core.Path.{_≡_, refl, sym, ap}
+use mathlib.Core.Path.{_≡_, sym, ap}
 use mathlib.Core.Bool.{_&&_}
 use mathlib.Core.List.{List}
 use lib.Dec.{eqb, ltb, leb}

@@ -39,5 +39,3 @@ roomVerdict line output = firstRefusal (refusal 10 (unless (leb (numbersPerAcces
 abbrev pub roomExit : ℕ → List Accession → List ℕ → List ℕ
 roomExit zero line output = overwrite (flatLine line) output
 roomExit (suc number) line output = output
-
--- a record's numbers where it is of the map

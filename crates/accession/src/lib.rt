@@ -3,6 +3,7 @@ pub mod fields;
 pub mod held;
 pub mod line;
 pub mod rules;
+
 use fields::NUMBERS_PER_ACCESSION;
 use line::LineAnswer;
 use line::report_kept;

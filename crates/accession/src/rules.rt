@@ -63,8 +63,11 @@ fn first_broken_by(records: &[u64], last: &mut [u32], links: &mut [u32]) -> Brok
 
 // A short list needs a small table, which is sooner empty.
 const FEW_RECORDS: usize = 1024;
+
 const FEW_SLOTS: usize = 509;
+
 const MANY_RECORDS: usize = 131_072;
+
 const MANY_SLOTS: usize = 32_749;
 
 fn first_broken_of_few(records: &[u64]) -> Broken

@@ -1,8 +1,8 @@
 -- Computed examples of accession records: lines, each rule with its position, the order of 3, 17 and 10. Assumes nothing.
 use Prim.Native.Nat.{ℕ}
 use mathlib.Core.Path.{_≡_, refl}
-use mathlib.Core.Bool.{Bool, true, false}
-use mathlib.Core.List.{List, [], _∷_, _++_, map}
+use mathlib.Core.Bool.{true, false}
+use mathlib.Core.List.{List, [], _∷_, map}
 use Rattle.definitions.specs.Scan.{run}
 use Rattle.definitions.specs.SheetExamples.{Example, _gives_}
 use Rattle.definitions.specs.Verdict.{Answer}

@@ -4,7 +4,7 @@
 use Prim.Native.Nat.{ℕ, zero, suc, _<_, _≤_}
 use native.Mathlib.Omega.{arith}
 use mathlib.Core.Path.{_≡_, refl, sym, ap, ap₂, _∙_}
-use mathlib.Core.Bool.{Bool, true, false, not, _&&_, cond, true≢false, false≢true}
+use mathlib.Core.Bool.{Bool, true, false, not, _&&_, cond, true≢false}
 use mathlib.Core.Option.{none}
 use mathlib.Core.List.{List}
 use lib.Dec.{eqb, ltb, leb}
@@ -64,7 +64,9 @@ module _ (l : List ℕ) (i : ℕ) where
         go false b = refl
 
   -- a record that goes on from record k, the last of its map before it
-  module _ (ok : Keep l i) (k : ℕ) (h : k < i) (same : accessionAt l k .onMap ≡ accessionAt l i .onMap) (behind : (j : ℕ) → k < j → j < i → onSameMap l i j ≡ false) where
+  module _
+      (ok : Keep l i) (k : ℕ) (h : k < i) (same : accessionAt l k .onMap ≡ accessionAt l i .onMap)
+      (behind : (j : ℕ) → k < j → j < i → onSameMap l i j ≡ false) where
     same-test-k : onSameMap l i k ≡ true
     unfolding onSameMap
     same-test-k = eq-eqb (accessionAt l k .onMap) (accessionAt l i .onMap) same
@@ -149,7 +151,7 @@ module _ (l : List ℕ) (i : ℕ) where
             let e : s ≡ accessionAt l k .own = eqb-true s (accessionAt l k .own) q in
             let found : anyBelow i f ≡ true = below-at i f k h (ap₂ _&&_ same-test-k (eq-eqb (accessionAt l k .own) s (sym e))) in
             let free : anyBelow i g ≡ false =
-                ap (λ t. anyBelow i (λ j. eqb (accessionAt l j .superseded) t)) e ∙ superseded-later l i ok i (omega arith) k h ∙ last-k
+            ap (λ t. anyBelow i (λ j. eqb (accessionAt l j .superseded) t)) e ∙ superseded-later l i ok i (omega arith) k h ∙ last-k
             in
             ap₂ (λ a b. a && not b) found free
 

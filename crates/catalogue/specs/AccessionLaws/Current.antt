@@ -12,7 +12,7 @@ use lib.Dec.{eqb, ltb}
 use borrow.Author.Tests.{eqb-true, eqb-false, eq-eqb, ne-eqb, ltb-true, ltb-false, lt-ltb, le-ltb}
 use Rattle.definitions.specs.Scan.{anyBelow}
 use Rattle.laws.specs.ListLaws.Tests.{both}
-use Rattle.laws.specs.ListLaws.Below.{below-none, First, below-first}
+use Rattle.laws.specs.ListLaws.Below.{below-none, below-first}
 use Rattle.laws.specs.ListLaws.ScanSteps.{any-fails-at}
 use Rattle.laws.specs.ListLaws.NoFault.{none-faulty}
 use Rattle.catalogue.specs.Accession.{accessionAt, accessionCount, onSameMap, ownAscends, dayStands, isFirst, supersedesFreely, keepsRules, accessionsFault, isCurrent}

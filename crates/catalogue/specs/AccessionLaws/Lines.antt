@@ -9,7 +9,7 @@ use mathlib.Core.Option.{none}
 use mathlib.Core.List.{List, [], _∷_, _++_, List·Memᴰ}
 use lib.Dec.{eqb, ltb}
 use borrow.Author.Tests.{eqb-true, eq-eqb, lt-ltb, ltb-true}
-use Rattle.definitions.specs.Scan.{anyBelow, collect}
+use Rattle.definitions.specs.Scan.{collect}
 use Rattle.laws.specs.ListLaws.Lists.{All, done, more}
 use Rattle.laws.specs.ListLaws.Below.{below-none}
 use Rattle.laws.specs.ListLaws.ScanSteps.{any-fails-at}
@@ -80,8 +80,10 @@ module _ (l : List ℕ) (own : ℕ) (h : accessionsFault l ≡ none) where
   -- ---- the current record
 
   -- it is the line's first
-  pub line-first : (j : ℕ) → j < accessionCount l → accessionAt l j .own ≡ own → (i : ℕ) → i < accessionCount l → accessionAt l i .onMap ≡ accessionAt l j .onMap
-      → isCurrent l i ≡ true → lineOf l own ≡ accessionAt l i ∷ newestFirst l (onLineOf l own) i
+  pub line-first :
+      (j : ℕ) → j < accessionCount l → accessionAt l j .own ≡ own
+      → (i : ℕ) → i < accessionCount l → accessionAt l i .onMap ≡ accessionAt l j .onMap → isCurrent l i ≡ true
+      → lineOf l own ≡ accessionAt l i ∷ newestFirst l (onLineOf l own) i
   unfolding isOfMap laterBelow onSameMap
   line-first j n e i k q c =
       line-is l own ∙ newest-skip l (onLineOf l own) (suc i) (accessionCount l) (omega arith) off

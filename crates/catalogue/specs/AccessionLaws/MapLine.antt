@@ -1,13 +1,13 @@
 -- The line of an own number is that of its record's map: own numbers differ, so one record has it, and none has an unknown one. Assumes nothing.
 use Prim.Native.Nat.{ℕ, _<_}
 use native.Mathlib.Omega.{arith}
-use mathlib.Core.Path.{_≡_, refl, sym, ap, ap₂, _∙_}
+use mathlib.Core.Path.{_≡_, sym, ap, ap₂, _∙_}
 use mathlib.Core.Bool.{Bool, true, false, _&&_}
 use mathlib.Core.Option.{none}
 use mathlib.Core.List.{List, []}
 use lib.Dec.{eqb}
 use borrow.Author.Tests.{eqb-true, eq-eqb, ne-eqb}
-use Rattle.definitions.specs.Scan.{anyBelow, collect}
+use Rattle.definitions.specs.Scan.{collect}
 use Rattle.laws.specs.ListLaws.Tests.{both, same-test}
 use Rattle.laws.specs.ListLaws.Below.{below-at, below-none, below-first}
 use Rattle.laws.specs.OrderLaws.ListOrder.{eqb-sym}
@@ -27,7 +27,9 @@ unfolding newestFirst isOfMap
 mapLine l number = newestFirst l (isOfMap l number) (accessionCount l)
 
 module _ (l : List ℕ) (own : ℕ) where
-  pub on-line : accessionsFault l ≡ none → (j : ℕ) → j < accessionCount l → accessionAt l j .own ≡ own → (i : ℕ) → onLineOf l own i ≡ isOfMap l (accessionAt l j .onMap) i
+  pub on-line :
+      accessionsFault l ≡ none → (j : ℕ) → j < accessionCount l → accessionAt l j .own ≡ own
+      → (i : ℕ) → onLineOf l own i ≡ isOfMap l (accessionAt l j .onMap) i
   unfolding onLineOf onSameMap isOfMap
   on-line h j k e i = same-test there back ∙ eqb-sym (accessionAt l j .onMap) (accessionAt l i .onMap)
     where
@@ -44,7 +46,9 @@ module _ (l : List ℕ) (own : ℕ) where
       back : eqb (accessionAt l j .onMap) (accessionAt l i .onMap) ≡ true → onLineOf l own i ≡ true
       back t = below-at (accessionCount l) f j k (ap₂ _&&_ (eq-eqb (accessionAt l j .own) own e) t)
 
-  pub line-of-record : accessionsFault l ≡ none → (j : ℕ) → j < accessionCount l → accessionAt l j .own ≡ own → lineOf l own ≡ mapLine l (accessionAt l j .onMap)
+  pub line-of-record :
+      accessionsFault l ≡ none → (j : ℕ) → j < accessionCount l → accessionAt l j .own ≡ own
+      → lineOf l own ≡ mapLine l (accessionAt l j .onMap)
   unfolding lineOf mapLine newestFirst
   line-of-record h j k e = newest-ext l (onLineOf l own) (isOfMap l (accessionAt l j .onMap)) (accessionCount l) (λ i m. on-line h j k e i)
 

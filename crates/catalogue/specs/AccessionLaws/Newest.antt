@@ -5,12 +5,12 @@ use native.Mathlib.Omega.{arith}
 use mathlib.Core.Path.{_≡_, refl, sym, ap, _∙_}
 use mathlib.Core.Bool.{Bool, true, false}
 use mathlib.Core.List.{List, [], _∷_, _++_, append-nil, append-assoc, List·Memᴰ, List·Memᴰ·head, List·Memᴰ·tail, List·Memᴰ·not-nil}
-use lib.ListN.{length, length-append}
+use lib.ListN.{length}
 use lib.Dec.{eqb, ltb}
 use borrow.Author.Tests.{eqb-true, eqb-false, ltb-true, ltb-false}
-use Rattle.definitions.specs.Scan.{anyBelow, countBelow, bit, onlyIf, toList, collect, concatMap}
+use Rattle.definitions.specs.Scan.{countBelow, bit, onlyIf, toList, collect, concatMap}
 use Rattle.laws.specs.ListLaws.Scans.{collect-ext}
-use Rattle.catalogue.specs.Accession.{Accession, numbersPerAccession, flatAccession, accessionAt, accessionCount, onSameMap}
+use Rattle.catalogue.specs.Accession.{Accession, numbersPerAccession, flatAccession, accessionAt, accessionCount}
 use Rattle.catalogue.specs.Line.{reversed, onLineOf, lineOf, flatLine}
 
 reversed-append : {A : Type 0} (l m : List A) → reversed (l ++ m) ≡ reversed m ++ reversed l

@@ -1,6 +1,6 @@
 -- `accession::held::last_held` meets its contract. The loop's invariant (`Reached`): the map's last record among those held is its last among the first k.
 -- The measure is k. Assumes nothing.
-use Prim.Native.Nat.{ℕ, _-_, _<_}
+use Prim.Native.Nat.{ℕ, _-_}
 use native.Mathlib.Omega.{arith}
 use mathlib.Core.Path.{_≡_, sym, ap, _∙_}
 use mathlib.Core.Bool.{true, false}
@@ -12,7 +12,6 @@ use borrow.Author.Tests.{eq-eqb, ne-eqb}
 use Rattle.catalogue.specs.Accession.{accessionAt}
 use Rattle.catalogue.specs.AccessionLaws.Last.{lastBelow, last-found}
 use Rattle.catalogue.specs.AccessionLaws.MapLine.{isOfMap}
-use Rattle.accession.specs.Held.{Holds}
 use Rattle.accession.proofs.Holding.{Reached, reached-first, reached-next, next-before}
 use Rattle.accession.proofs.held.last_held.Statement.{statement}
 use Rattle.accession.proofs.held.last_held.Tie as tie

@@ -1,6 +1,6 @@
 -- `accession::line::count_of_map` meets its contract. The loop's invariant: `found` are the records of the map below i. The measure is how many are left.
 -- Assumes nothing.
-use Prim.Native.Nat.{ℕ, _+_, _-_, _≤_}
+use Prim.Native.Nat.{_+_, _-_, _≤_}
 use native.Mathlib.Omega.{arith}
 use mathlib.Core.Path.{_≡_, refl, sym, ap, _∙_}
 use mathlib.Core.Logic.{⊎-elim}
@@ -50,12 +50,13 @@ loop-again c =
     let entry = at .before .before .before in
     let l = now (entry .args .records) in
     let number = entry .args .number in
-    let i = at .loop .i in
-    (search needs,
-    ⊎-elim
-    (λ w. w .1 ∙ ap (λ n. n + 1) (at .loop .inv .1) ∙ sym (count-in (isOfMap l number) i (eq-eqb (accessionAt l i .onMap) number (sym (turn .map-of .ensures) ∙ w .0 .taken))))
-    (λ w. w .1 ∙ at .loop .inv .1 ∙ sym (count-out (isOfMap l number) i (ne-eqb (accessionAt l i .onMap) number (λ e. w .0 .left (turn .map-of .ensures ∙ e)))))
-    (c .if1 .came))
+    let i = at .loop .i in (
+      search needs,
+      ⊎-elim
+          (λ w. w .1 ∙ ap (λ n. n + 1) (at .loop .inv .1) ∙ sym (count-in (isOfMap l number) i (eq-eqb (accessionAt l i .onMap) number (sym (turn .map-of .ensures) ∙ w .0 .taken))))
+          (λ w. w .1 ∙ at .loop .inv .1 ∙ sym (count-out (isOfMap l number) i (ne-eqb (accessionAt l i .onMap) number (λ e. w .0 .left (turn .map-of .ensures ∙ e)))))
+          (c .if1 .came),
+    )
 
 returns : tie.Need-returns Inv-loop μ-loop
 returns c =

@@ -75,9 +75,10 @@ returns-2 c =
     let at-report = c .before .before in
     let at-map = at-report .before .before in
     let said = at-report .report-map in
-    let room = length (out at-map) in
-    (said .ensures .0 ∙ ap (λ line. roomVerdict line room) (sym (line at-map)) ∙ ten-left (list at-map) (own at-map) (out at-map) (entry at-map .pre .0) (entry at-map .pre .1),
-    said .ensures .1 ∙ exit-left (list at-map) (own at-map) (out at-map) (said .result .number) (line at-map))
+    let room = length (out at-map) in (
+      said .ensures .0 ∙ ap (λ line. roomVerdict line room) (sym (line at-map)) ∙ ten-left (list at-map) (own at-map) (out at-map) (entry at-map .pre .0) (entry at-map .pre .1),
+      said .ensures .1 ∙ exit-left (list at-map) (own at-map) (out at-map) (said .result .number) (line at-map),
+    )
 
 pub report-kept-spec : {M : Type 1} → statement M
 report-kept-spec =

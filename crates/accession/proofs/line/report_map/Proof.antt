@@ -30,9 +30,10 @@ returns-2 c =
     let at-put = c .before .before in
     let lent = at-put .before in
     let at-count = lent .before .before in
-    let entry = at-count .before .before .before in
-    (has-room (now (entry .args .records)) (entry .args .number) (length (now (entry .args .output))) (at-count .count-of-map .ensures) (lent .before .if1 .left),
-    at-put .put-line .ensures)
+    let entry = at-count .before .before .before in (
+      has-room (now (entry .args .records)) (entry .args .number) (length (now (entry .args .output))) (at-count .count-of-map .ensures) (lent .before .if1 .left),
+      at-put .put-line .ensures,
+    )
 
 pub report-map-spec : {M : Type 1} → statement M
 report-map-spec =

@@ -7,43 +7,30 @@ use borrow.Author.Needs.{needs}
 use Rattle.accession.proofs.Steps.{follows-none, follows-last}
 use Rattle.accession.proofs.rules.goes_on.Statement.{statement}
 use Rattle.accession.proofs.rules.goes_on.Tie as tie
-use Rattle.accession.proofs.rules.goes_on.Reads as reads
-use Rattle.accession.proofs.rules.goes_on.Lts as lts
-use Rattle.accession.proofs.fields.day_of.Reads as day-of-reads
-use Rattle.accession.proofs.fields.own_of.Reads as own-of-reads
-use Rattle.accession.proofs.fields.superseded_of.Reads as superseded-of-reads
 
--- src/rules.rt:37:9
 superseded-of-requires : tie.Need-superseded-of-requires
 superseded-of-requires c κs = search needs
 
--- src/rules.rt:39:9
 returns : tie.Need-returns
 returns c =
     let entry = c .before .before .before in
     ap (λ s. eqb s 0) (c .before .superseded-of .ensures) ∙ follows-none (now (entry .args .records)) (entry .args .i) (entry .args .k) (c .if1 .taken)
 
--- src/rules.rt:41:22
 sub-day-of : tie.Need-sub-day-of
 sub-day-of c = search needs
 
--- src/rules.rt:41:6
 day-of-requires : tie.Need-day-of-requires
 day-of-requires c κs = search needs
 
--- src/rules.rt:41:32
 day-of-requires-2 : tie.Need-day-of-requires-2
 day-of-requires-2 c κs = search needs
 
--- src/rules.rt:41:85
 sub-own-of : tie.Need-sub-own-of
 sub-own-of c = search needs
 
--- src/rules.rt:41:69
 own-of-requires : tie.Need-own-of-requires
 own-of-requires c κs = search needs
 
--- src/rules.rt:33:1
 returns-2 : tie.Need-returns-2
 returns-2 c =
     let at-if = c .before .before .before in

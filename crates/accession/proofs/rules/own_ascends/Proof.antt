@@ -6,33 +6,24 @@ use borrow.Author.Needs.{needs}
 use Rattle.accession.proofs.Steps.{ascends-first, ascends-next}
 use Rattle.accession.proofs.rules.own_ascends.Statement.{statement}
 use Rattle.accession.proofs.rules.own_ascends.Tie as tie
-use Rattle.accession.proofs.rules.own_ascends.Reads as reads
-use Rattle.accession.proofs.rules.own_ascends.Lts as lts
-use Rattle.accession.proofs.fields.own_of.Reads as own-of-reads
 
--- src/rules.rt:27:20
 own-of-requires : tie.Need-own-of-requires
 own-of-requires c κs = search needs
 
--- src/rules.rt:27:9
 returns : tie.Need-returns
 returns c =
     let entry = c .before .before .before in
     ap (ltb 0) (c .own-of .ensures) ∙ ascends-first (now (entry .args .records)) (entry .args .i) (c .before .if1 .taken)
 
--- src/rules.rt:29:21
 sub-own-of : tie.Need-sub-own-of
 sub-own-of c = search needs
 
--- src/rules.rt:29:5
 own-of-requires-2 : tie.Need-own-of-requires-2
 own-of-requires-2 c κs = search needs
 
--- src/rules.rt:29:30
 own-of-requires-3 : tie.Need-own-of-requires-3
 own-of-requires-3 c κs = search needs
 
--- src/rules.rt:22:1
 returns-2 : tie.Need-returns-2
 returns-2 c =
     let at-if = c .before .before in
