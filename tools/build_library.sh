@@ -1,9 +1,10 @@
 #!/bin/sh
 # Builds target/lib/libjenwyllt.a and target/lib/libjenwyllt.so from the crates that export functions, listed here. A crate's exports are named
 # CRATE_NAME, as the toolchain asks; in the library each is jenwyllt_NAME, and nothing else of a crate can be seen. The archive of a crate is taken as it
-# stands where neither the crate nor one below it has changed. RT_JOBS says how many crates are built at a time (2 without it).
+# stands where neither the crate nor one below it has changed. RT_JOBS says how many crates are built at a time (2 without it); those that take longest
+# come first.
 set -eu
-EXPORTS="jenwyllt topology accession"
+EXPORTS="topology accession jenwyllt"
 
 cd "$(dirname "$0")/.."
 lib=target/lib
@@ -34,12 +35,30 @@ made_from() { # NAME: a sum over all that its archive is made from
 log_of() { # FILE
     tail -n 20 "$1" >&2
 }
+# A build leaves its status in a file when it ends.
 build() { # NAME
-    rm -f "$parts/$1.sum"
-    rt staticlib "$1" >"$parts/$1.log" 2>&1 && made_from "$1" >"$parts/$1.sum"
+    status=0
+    rt staticlib "$1" >"$parts/$1.log" 2>&1 && made_from "$1" >"$parts/$1.sum" || status=$?
+    echo "$status" >"$parts/$1.status"
 }
-wait_for() { # NAME:PROCESS
-    wait "${1#*:}" || { log_of "$parts/${1%:*}.log"; stop 1 "${1%:*} was not built"; }
+# Starts a build and comes back once that proves its own crate. Before, rt goes through what the crate rests on and leaves what it finds in files of
+# fixed names, so that no two builds may do that at once; target/log/NAME.say is there from then on.
+begin() { # NAME
+    rm -f "$parts/$1.sum" "$parts/$1.status" "target/log/$1.say"
+    build "$1" &
+    while [ ! -e "target/log/$1.say" ] && [ ! -e "$parts/$1.status" ]; do sleep 0.1; done
+}
+# Waits until fewer than so many builds run.
+until_below() { # COUNT
+    while :; do
+        left=''
+        for one in $running; do if [ ! -e "$parts/$one.status" ]; then left="$left $one"; fi; done
+        running=$left
+        # shellcheck disable=SC2086
+        set -- "$1" $running
+        [ $(($# - 1)) -ge "$1" ] || return 0
+        sleep 0.2
+    done
 }
 
 mkdir -p "$parts"
@@ -49,24 +68,21 @@ for name in $EXPORTS; do
 done
 if [ -n "$changed" ]; then
     echo "build_library: proving and building$changed; with nothing proved yet this takes about ten minutes on two cores ($parts/check.log)" >&2
-    # What they share is proved first, so that no two builds prove it at once.
+    # What they rest on is proved first, so that each build finds it proved.
     shared=$(for name in $changed; do below "$name"; done | sort -u)
     # shellcheck disable=SC2086
     rt check $shared >"$parts/check.log" 2>&1 || { log_of "$parts/check.log"; stop 1 "what the library rests on is not proved"; }
 fi
 running=''
 for name in $changed; do
-    build "$name" &
-    running="$running $name:$!"
-    # shellcheck disable=SC2086
-    set -- $running
-    if [ $# -ge "${RT_JOBS:-2}" ]; then
-        wait_for "$1"
-        shift
-        running=$*
-    fi
+    until_below "${RT_JOBS:-2}"
+    begin "$name"
+    running="$running $name"
 done
-for one in $running; do wait_for "$one"; done
+until_below 1
+for name in $changed; do
+    [ "$(cat "$parts/$name.status")" -eq 0 ] || { log_of "$parts/$name.log"; stop 1 "$name was not built"; }
+done
 
 # One object a crate: its exports renamed, all else local.
 objects=''

@@ -67,6 +67,10 @@ class Answers(Trial):
         self.assertEqual((good['proved'], good['boundaries'], good['kept'][0]), (True, 5, {'number': 1, 'from': [8, 8], 'to': [8, 16]}))
         self.assertEqual((refused['file'], refused['refused']['number'], refused['refused']['place']), (str(bad), 7, 1))
         self.assertEqual(wrong_text['wrong']['line'], 3)
+        for words in (('regions', '--json', wrong), ('sheet', 'print', '--json', wrong)):
+            done = run(*words)
+            self.assertEqual((done.returncode, done.stderr, len(done.stdout.splitlines())), (1, b'', 1))
+            self.assertIn(words[0] == 'sheet' and 'refused' or 'wrong', json.loads(done.stdout))
 
     def test_sheets(self) -> None:
         made = self.folder / 'made.sheet'

@@ -40,9 +40,10 @@ class Declared(unittest.TestCase):
         rattle, header = declarations.in_rattle(), declarations.in_header()
         self.assertLessEqual({'jenwyllt_partition', 'jenwyllt_kept_boundaries', 'jenwyllt_read_sheet', 'jenwyllt_hypotenuse', 'jenwyllt_hypot'}, set(rattle))
         self.assertIn(('records', ('fills', declarations.header_structs()['jenwyllt_region'])), rattle['jenwyllt_kept_boundaries'][0])
-        self.assertEqual(rattle, header)
-        self.assertEqual(rattle, declarations.in_rust())
-        self.assertEqual(rattle, declarations.in_python(header))
+        for name, text in (('include/jenwyllt.h', header), ('bindings/rust', declarations.in_rust()), ('bindings/python', declarations.in_python(header))):
+            self.assertEqual(set(rattle), set(text), f'the functions of the Rattle source and of {name}')
+            for function, signature in rattle.items():
+                self.assertEqual(signature, text[function], f'{function} in the Rattle source and in {name}')
 
     def test_library(self) -> None:
         """the shared object shows these functions and nothing else"""

@@ -6,7 +6,8 @@
 //! [`kept_boundaries_into`], [`read_sheet_into`] and [`report_line_into`] take lists of numbers that the caller lends and allocate nothing. A list of any
 //! content and length is a valid argument: what does not fit is answered by a [`Refusal`].
 //!
-//! The library is for x86-64 Linux; build.rs says where it is looked for.
+//! The library is for x86-64 Linux; build.rs says where it is looked for. Floating-point operations must round to nearest and keep
+//! subnormal numbers, as Rust has it: code in other languages that changes this for its thread must restore it before a call.
 
 #![deny(unsafe_op_in_unsafe_fn, missing_docs)]
 

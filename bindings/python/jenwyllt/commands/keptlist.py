@@ -53,15 +53,20 @@ def refusal_json(wrong: Refusal | Wrong) -> dict[str, Any]:
     return {'refused': {'number': wrong.number, 'place': wrong.place, 'words': wrong.words}}
 
 
+def refuse(name: str, wrong: Refusal | Wrong, proved: bool, json_wanted: bool) -> int:
+    """prints the refusal as a line of JSON and gives its status, or raises it in words"""
+    if not json_wanted:
+        raise _maps.refused(name, wrong) from wrong
+    _streams.write('-', as_json(name, proved, refusal_json(wrong)))
+    return 1
+
+
 def one(name: str, args: argparse.Namespace, answers: Answers) -> int:
     """what is printed for a map, and its status"""
     try:
         sheet, kept = answer(answers, _maps.sheet_data(name), args.large)
     except (Refusal, Wrong) as wrong:
-        if not args.json:
-            raise _maps.refused(name, wrong) from wrong
-        _streams.write('-', as_json(name, answers.proved, refusal_json(wrong)))
-        return 1
+        return refuse(name, wrong, answers.proved, args.json)
     if args.json:
         _streams.write('-', as_json(name, answers.proved, kept_json(kept)))
     else:

@@ -2,9 +2,9 @@
 from __future__ import annotations
 
 import argparse
-import json
 from collections.abc import Iterator
 from dataclasses import replace
+from typing import Any
 
 from ..explained import ends_words
 from ..kept import Kept, Region
@@ -14,6 +14,7 @@ from ..sheet import Sheet
 from ..sheet_text import Wrong
 from . import _maps, _streams
 from ._answers import add_unproved, chosen
+from .keptlist import as_json, refuse
 
 NAME = 'regions'
 HELP = 'print the regions into which the spans cut a map, and what each span parts'
@@ -53,10 +54,10 @@ def lines(sheet: Sheet, cut: Kept, labels: bool) -> Iterator[str]:
             yield ' '.join(f'{label:{wide}}' for label in cut.partition.labels[k:k + sheet.width])
 
 
-def as_json(name: str, proved: bool, cut: Kept) -> str:
+def cut_json(cut: Kept) -> dict[str, Any]:
     of = cut.partition
-    return json.dumps({'file': name, 'proved': proved, 'regions': [region.values() for region in cut.records], 'labels': of.labels,
-                       'tallies': [tally._asdict() for tally in of.tallies], 'pairs': [pair._asdict() for pair in of.pairs]}) + '\n'
+    return {'regions': [region.values() for region in cut.records], 'labels': of.labels, 'tallies': [tally._asdict() for tally in of.tallies],
+            'pairs': [pair._asdict() for pair in of.pairs]}
 
 
 def run(args: argparse.Namespace) -> int:
@@ -66,9 +67,9 @@ def run(args: argparse.Namespace) -> int:
         # Regions depend on cells and spans alone, and without boundaries any pass gives them.
         cut = _maps.kept(answers, replace(sheet, pass_number=1, boundaries=(), anchors=()))
     except (Refusal, Wrong) as wrong:
-        raise _maps.refused(args.map, wrong) from wrong
+        return refuse(args.map, wrong, answers.proved, args.json)
     if args.json:
-        _streams.write('-', as_json(args.map, answers.proved, cut))
+        _streams.write('-', as_json(args.map, answers.proved, cut_json(cut)))
     else:
         _streams.write('-', ''.join(f'{line}\n' for line in lines(sheet, cut, args.labels)) + ('' if answers.proved else UNPROVED))
     return 0

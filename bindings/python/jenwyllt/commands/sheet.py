@@ -2,7 +2,6 @@
 from __future__ import annotations
 
 import argparse
-import json
 import math
 from typing import Any
 
@@ -13,6 +12,7 @@ from ..sheet import Boundary, Sheet, sheet_bytes
 from ..sheet_text import Wrong
 from . import _maps, _streams
 from ._answers import add_unproved, chosen
+from .keptlist import as_json, refuse
 
 NAME = 'sheet'
 HELP = 'write a sheet from a text that a person can read and draw, or print a sheet as that text'
@@ -36,18 +36,6 @@ def add_arguments(parser: argparse.ArgumentParser) -> None:
             add_unproved(each)
 
 
-def written(args: argparse.Namespace) -> bytes:
-    return sheet_bytes(_maps.text_sheet(_streams.read(args.input, 'the text of a sheet')))
-
-
-def printed(args: argparse.Namespace) -> str:
-    answers = chosen(args)
-    sheet = _maps.read(answers, _streams.read(args.input, 'a sheet'))
-    if args.json:
-        return json.dumps({'file': args.input, 'proved': answers.proved, **sheet_json(sheet)}) + '\n'
-    return ('' if answers.proved else f'; {UNPROVED}') + sheet_text.text_of(sheet)
-
-
 def sheet_json(sheet: Sheet) -> dict[str, Any]:
     """a width that is no number of JSON as the bits of a double"""
     def boundary(each: Boundary) -> dict[str, Any]:
@@ -58,9 +46,28 @@ def sheet_json(sheet: Sheet) -> dict[str, Any]:
             'anchors': sheet.anchors}
 
 
-def run(args: argparse.Namespace) -> int:
+def write(args: argparse.Namespace) -> int:
     try:
-        _streams.write(args.output, written(args) if args.way == 'write' else printed(args))
-    except (Refusal, Wrong) as wrong:
+        made = sheet_bytes(_maps.text_sheet(_streams.read(args.input, 'the text of a sheet')))
+    except Wrong as wrong:
         raise _maps.refused(args.input, wrong) from wrong
+    _streams.write(args.output, made)
     return 0
+
+
+def show(args: argparse.Namespace) -> int:
+    answers = chosen(args)
+    try:
+        sheet = _maps.read(answers, _streams.read(args.input, 'a sheet'))
+    except Refusal as refusal:
+        return refuse(args.input, refusal, answers.proved, args.json)
+    if args.json:
+        text = as_json(args.input, answers.proved, sheet_json(sheet))
+    else:
+        text = ('' if answers.proved else f'; {UNPROVED}') + sheet_text.text_of(sheet)
+    _streams.write(args.output, text)
+    return 0
+
+
+def run(args: argparse.Namespace) -> int:
+    return write(args) if args.way == 'write' else show(args)

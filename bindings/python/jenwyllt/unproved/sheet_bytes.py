@@ -1,5 +1,4 @@
-"""The sheet as bytes: writer, reader, and what `keptlist` prints. Written from the scope paper, 'The sheet and the printed list'.
-"""
+"""The sheet as bytes: writer, reader, and what `keptlist` prints. Written from the scope paper, 'The sheet and the printed list'."""
 from . import reference
 from .reference import Lent, Map
 
