@@ -62,6 +62,10 @@ class Command(Trial):
         done = run('line', records, 3)
         self.assertEqual((done.returncode, done.stdout, done.stderr.decode()), (0, b'', f'jenwyllt: {records}: no record has the own number 3\n'))
         self.assertEqual(json.loads(run('line', '--json', records, 3).stdout)['line'], [])
+        for text, key in (('1 7 5 0\n2 7 5 0', 'refused'), ('1 7 5', 'wrong')):
+            done = run('line', '--json', '-', 1, data=text.encode())
+            self.assertEqual((done.returncode, done.stderr), (1, b''))
+            self.assertIn(key, json.loads(done.stdout))
 
     def test_words(self) -> None:
         for text, said in (

@@ -2,13 +2,13 @@
 from __future__ import annotations
 
 import argparse
-import json
 
 from .. import accession_text
-from ..accession import report_line
+from ..accession import Accession, report_line
 from ..refusal import Cause, Refusal
 from ..sheet_text import Wrong
 from . import _streams
+from .keptlist import as_json, refuse
 
 NAME = 'line'
 HELP = 'print every accession record of the map of an own number, newest first'
@@ -39,20 +39,26 @@ def number(word: str) -> int:
     return int(word)
 
 
+def explained(refusal: Refusal, records: list[Accession], lines: list[int]) -> Refusal:
+    """with the line of the record, and the rule that it breaks, in words"""
+    if refusal.number != Cause.ACCESSION:
+        return refusal
+    place = refusal.place
+    return Refusal(refusal.number, place, f'line {lines[place]}: record {records[place].own}: {accession_text.broken_words(records, place)}')
+
+
 def run(args: argparse.Namespace) -> int:
     own = number(args.own)
     try:
         records, lines = accession_text.records_of(text(args.records))
-        line = report_line(records, own)
     except Wrong as wrong:
-        raise _streams.Refused(f'{_streams.shown(args.records)}: {wrong}') from wrong
+        return refuse(args.records, wrong, True, args.json)
+    try:
+        line = report_line(records, own)
     except Refusal as refusal:
-        if refusal.number != Cause.ACCESSION:
-            raise
-        words = f'line {lines[refusal.place]}: record {records[refusal.place].own}: {accession_text.broken_words(records, refusal.place)}'
-        raise _streams.Refused(f'{_streams.shown(args.records)}: {Refusal(refusal.number, refusal.place, words)}') from refusal
+        return refuse(args.records, explained(refusal, records, lines), True, args.json)
     if args.json:
-        _streams.write('-', json.dumps({'file': args.records, 'own': own, 'line': [record._asdict() for record in line]}) + '\n')
+        _streams.write('-', as_json(args.records, True, {'own': own, 'line': [record._asdict() for record in line]}))
     elif line:
         _streams.write('-', accession_text.text_of(line))
     else:
