@@ -34,8 +34,8 @@ fn last_held(records: &[u64], number: u64, held: usize, last: &[u32], links: &[u
 
 // One more than the position of the last record of record i's map before it, or 0.
 pub fn last_of_map(records: &[u64], i: usize, held: usize, last: &[u32], links: &[u32]) -> usize
-    requires { ⌜ (i < accessionCount (now records)) × (held ≤ i) ⌝ }
-    requires { ⌜ Holds (now records) (length (now last)) held (now last) (now links) ⌝ }
+    requires places { ⌜ (i < accessionCount (now records)) × (held ≤ i) ⌝ }
+    requires table { ⌜ Holds (now records) (length (now last)) held (now last) (now links) ⌝ }
     ensures { λ r. ⌜ r ≡ previous (now (records .entry)) i ⌝ }
 {
     let number = map_of(records, i);
@@ -51,8 +51,8 @@ pub fn last_of_map(records: &[u64], i: usize, held: usize, last: &[u32], links: 
 
 // Holds one record more, if there is room. Returns how many are held.
 pub fn hold(records: &[u64], held: usize, last: &mut [u32], links: &mut [u32]) -> usize
-    requires { ⌜ (held < accessionCount (now records)) × (length (now links) < 2 ^ 32) ⌝ }
-    requires { ⌜ Holds (now records) (length (now last)) held (now last) (now links) ⌝ }
+    requires sizes { ⌜ (held < accessionCount (now records)) × (length (now links) < 2 ^ 32) ⌝ }
+    requires table { ⌜ Holds (now records) (length (now last)) held (now last) (now links) ⌝ }
     ensures { λ r. ⌜ Took (now (records .entry)) held (now (last .entry)) (now (links .entry)) r (now (last .exit)) (now (links .exit)) ⌝ }
 {
     if links.len() <= held {

@@ -1,6 +1,6 @@
 // Accession records in one list: the first that breaks a rule, and the line of an own number. The definitions stand in `catalogue`.
 pub mod fields;
-pub mod held;
+mod held;
 pub mod line;
 pub mod rules;
 
@@ -17,8 +17,8 @@ ghost use Rattle.accession.specs.Answers.{answerIn};
 // "Report the whole line of an own number": 3 for a last entry unfinished, 17 at the first record that breaks a rule, 10 where the line does not fit.
 #[no_mangle]
 pub extern "C" fn accession_report_line(records: &[u64], own: u64, output: &mut [u64]) -> LineAnswer
-    ensures { λ r. ⌜ answerIn r ≡ lineVerdict (now (records .entry)) own (length (now (output .entry))) ⌝ }
-    ensures { λ r. ⌜ now (output .exit) ≡ lineAtExit (r .number) (now (records .entry)) own (now (output .entry)) ⌝ }
+    ensures answer { λ r. ⌜ answerIn r ≡ lineVerdict (now (records .entry)) own (length (now (output .entry))) ⌝ }
+    ensures left { λ r. ⌜ now (output .exit) ≡ lineAtExit (r .number) (now (records .entry)) own (now (output .entry)) ⌝ }
 {
     if records.len() % NUMBERS_PER_ACCESSION != 0 {
         return LineAnswer {

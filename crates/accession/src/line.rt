@@ -74,8 +74,8 @@ fn put_record(records: &[u64], i: usize, output: &mut [u64], k: usize)
 // Record i, if it is of the map. Returns where the next one goes.
 fn put_of_map(records: &[u64], number: u64, i: usize, output: &mut [u64], k: usize) -> usize
     requires { ⌜ (i < accessionCount (now records)) × (isOfMap (now records) number i ≡ true → k + 3 < length (now output)) ⌝ }
-    ensures { λ r. ⌜ r ≡ k + numbersPerAccession * bit (isOfMap (now (records .entry)) number i) ⌝ }
-    ensures { λ r. ⌜ now (output .exit) ≡ sets (now (output .entry)) k (flatLine (one (isOfMap (now (records .entry)) number i) (now (records .entry)) i)) ⌝ }
+    ensures next { λ r. ⌜ r ≡ k + numbersPerAccession * bit (isOfMap (now (records .entry)) number i) ⌝ }
+    ensures left { λ r. ⌜ now (output .exit) ≡ sets (now (output .entry)) k (flatLine (one (isOfMap (now (records .entry)) number i) (now (records .entry)) i)) ⌝ }
 {
     if map_of(records, i) != number {
         return k;
@@ -96,10 +96,10 @@ fn put_line(records: &[u64], number: u64, output: &mut [u64])
     }
 }
 
-// Every record of the map: 10, or its line.
+// Every record of the map: 10, or the line.
 fn report_map(records: &[u64], number: u64, output: &mut [u64]) -> LineAnswer
-    ensures { λ r. ⌜ answerIn r ≡ roomVerdict (mapLine (now (records .entry)) number) (length (now (output .entry))) ⌝ }
-    ensures { λ r. ⌜ now (output .exit) ≡ roomExit (r .number) (mapLine (now (records .entry)) number) (now (output .entry)) ⌝ }
+    ensures answer { λ r. ⌜ answerIn r ≡ roomVerdict (mapLine (now (records .entry)) number) (length (now (output .entry))) ⌝ }
+    ensures left { λ r. ⌜ now (output .exit) ≡ roomExit (r .number) (mapLine (now (records .entry)) number) (now (output .entry)) ⌝ }
 {
     let count = count_of_map(records, number);
     if output.len() / NUMBERS_PER_ACCESSION < count {
@@ -118,8 +118,8 @@ fn report_map(records: &[u64], number: u64, output: &mut [u64]) -> LineAnswer
 // For records that keep the rules.
 pub fn report_kept(records: &[u64], own: u64, output: &mut [u64]) -> LineAnswer
     requires { ⌜ (isFinished (now records) ≡ true) × (accessionsFault (now records) ≡ none) ⌝ }
-    ensures { λ r. ⌜ answerIn r ≡ lineVerdict (now (records .entry)) own (length (now (output .entry))) ⌝ }
-    ensures { λ r. ⌜ now (output .exit) ≡ lineAtExit (r .number) (now (records .entry)) own (now (output .entry)) ⌝ }
+    ensures answer { λ r. ⌜ answerIn r ≡ lineVerdict (now (records .entry)) own (length (now (output .entry))) ⌝ }
+    ensures left { λ r. ⌜ now (output .exit) ≡ lineAtExit (r .number) (now (records .entry)) own (now (output .entry)) ⌝ }
 {
     match find_own(records, own) {
         Found::Nowhere => LineAnswer {

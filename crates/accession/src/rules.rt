@@ -43,8 +43,8 @@ fn goes_on(records: &[u64], i: usize, k: usize) -> bool
 
 // With a table to work in, whose slots are empty.
 fn first_broken_by(records: &[u64], last: &mut [u32], links: &mut [u32]) -> Broken
-    requires { ⌜ (0 < length (now last)) × (length (now links) < 2 ^ 32) ⌝ }
-    requires { ⌜ ((slot : ℕ) → getD (now last) slot 0 ≡ 0) ⌝ }
+    requires sizes { ⌜ (0 < length (now last)) × (length (now links) < 2 ^ 32) ⌝ }
+    requires empty { ⌜ ((slot : ℕ) → getD (now last) slot 0 ≡ 0) ⌝ }
     ensures { λ r. ⌜ placeOf r ≡ accessionsFault (now (records .entry)) ⌝ }
 {
     let count = record_count(records);
