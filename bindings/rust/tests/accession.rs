@@ -23,7 +23,8 @@ fn stored() {
         assert_eq!(said, if number == 0 { Ok(value) } else { Err(Refusal { number, place: value }) }, "{line}");
         assert_eq!(output, [&rows[..], &before[rows.len()..]].concat(), "{line}");
         if number == 0 {
-            let entries = |list: &[u64]| list.chunks(4).map(|four| <[u64; 4]>::try_from(four).unwrap().into()).collect::<Vec<Accession>>();
+            let entries =
+                |list: &[u64]| list.chunks(4).map(|four| <[u64; 4]>::try_from(four).unwrap().into()).collect::<Vec<Accession>>();
             assert_eq!(report_line(&entries(&records), own), Ok(entries(&rows)), "{line}");
         }
         count += 1;
