@@ -1,8 +1,9 @@
-/* Regions of a walk grid cut by spans, the boundaries that a pass keeps, the reader of sheets, and the correctly rounded hypotenuse.
+/* Regions of a walk grid cut by spans, the boundaries that a pass keeps, the reader of sheets, the line of an accession record, and the correctly rounded
+   hypotenuse.
    The library is for x86-64 Linux: libjenwyllt.a and libjenwyllt.so, which tools/build_library.sh writes to target/lib. It keeps no state and allocates
    nothing; from outside it needs only `memset`.
-   Every function is proved to meet the definitions of crates/definitions for every input that keeps to what stands here. Floating-point operations must
-   round to nearest and keep subnormal numbers, as they do where a program starts; -ffast-math changes that for a whole program. */
+   Every function is proved to meet the definitions of crates/definitions and crates/catalogue for every input that keeps to what stands here. Floating-point
+   operations must round to nearest and keep subnormal numbers, as they do where a program starts; -ffast-math changes that for a whole program. */
 #ifndef JENWYLLT_H
 #define JENWYLLT_H
 
