@@ -12,9 +12,11 @@ use lib.Dec.{leb}
 use Rattle.definitions.specs.Scan.{concatMap}
 use Rattle.definitions.specs.Refusals.{unless}
 use Rattle.definitions.specs.Verdict.{Answer, refusal, firstRefusal}
-use Rattle.catalogue.specs.Accession.{Accession, numbersPerAccession, accessionAt, accessionCount, isFinished, accessionsFault}
+use Rattle.catalogue.specs.Accession.{Accession, numbersPerAccession, accessionAt, accessionCount, isFinished, accessionsFault, isCurrent}
 use Rattle.catalogue.specs.Line.{onLineOf, lineOf, flatLine, lineVerdict, lineAtExit}
+use Rattle.catalogue.specs.AccessionLaws.Current.{current-unique}
 use Rattle.catalogue.specs.AccessionLaws.Newest.{newestFirst}
+use Rattle.catalogue.specs.AccessionLaws.MapLine.{line-unknown}
 use Rattle.catalogue.specs.AccessionLaws.Lines.{Descends, line-of-map, line-descends, line-first, Current, current-found}
 use Rattle.catalogue.specs.AccessionLaws.Chain.{Link, each-linked}
 
@@ -58,16 +60,27 @@ module _
       ∙ read-flat (lineOf l own) (drop (length (flatLine (lineOf l own))) before)
 
   -- a record of the list is among the rows exactly when it is of the own number's map
-  pub reported-members : (j : ℕ) → j < accessionCount l → accessionAt l j .own ≡ own → (i : ℕ) → i < accessionCount l
+  pub reported-members :
+      (j : ℕ) → j < accessionCount l → accessionAt l j .own ≡ own → (i : ℕ) → i < accessionCount l
       → List·Memᴰ (accessionAt l i) (accessionsIn (answer .value) output) ↔ (accessionAt l i .onMap ≡ accessionAt l j .onMap)
   reported-members j n e i k = rw reported-line (line-of-map l own (checked .0) j n e i k)
 
   pub reported-descends : Descends (accessionsIn (answer .value) output)
   reported-descends = rw reported-line (line-descends l own (checked .0))
 
-  -- the current record of the own number's map is the first row
-  pub reported-current : (j : ℕ) → j < accessionCount l → accessionAt l j .own ≡ own
+  -- an unknown number has none
+  pub reported-unknown : ((j : ℕ) → j < accessionCount l → accessionAt l j .own ≡ own → ⊥) → answer .value ≡ 0
+  reported-unknown h = ap (λ a. a .value) said ∙ checked .1 ∙ ap length (line-unknown l own h)
+
+  -- the own number's map has a current record, its last, and no other; it is the first row
+  pub reported-current :
+      (j : ℕ) → j < accessionCount l → accessionAt l j .own ≡ own
       → (c : Current l (accessionAt l j .onMap)) × (rest : List Accession) × (accessionsIn (answer .value) output ≡ accessionAt l (c .place) ∷ rest)
   reported-current j n e =
       let c = current-found l (checked .0) j n in
       (c, newestFirst l (onLineOf l own) (c .place), reported-line ∙ line-first l own (checked .0) j n e (c .place) (c .within) (c .of-map) (c .current))
+
+  pub reported-unique :
+      (a b : ℕ) → a < accessionCount l → b < accessionCount l → accessionAt l a .onMap ≡ accessionAt l b .onMap
+      → isCurrent l a ≡ true → isCurrent l b ≡ true → a ≡ b
+  reported-unique = current-unique l (checked .0)
