@@ -61,7 +61,8 @@ fn first_broken_by(records: &[u64], last: &mut [u32], links: &mut [u32]) -> Brok
     Broken::Nothing
 }
 
-// A short list needs a small table, which is sooner empty.
+// How many records a table holds, and its slots: a prime number, so that maps numbered in steps spread over them. A short list has a small table, which is
+// cleared sooner.
 const FEW_RECORDS: usize = 1024;
 
 const FEW_SLOTS: usize = 509;
