@@ -1,8 +1,8 @@
-/* Regions of a walk grid cut by spans, the boundaries that a pass keeps, how far boundaries are apart, the reader of sheets, and the correctly rounded
-   hypotenuse.
+/* Regions of a walk grid cut by spans, the boundaries that a pass keeps, how far boundaries are apart, the reader of sheets, the line of an accession
+   record, and the correctly rounded hypotenuse.
    The library is for x86-64 Linux: libjenwyllt.a and libjenwyllt.so, which tools/build_library.sh writes to target/lib. It keeps no state and allocates
    nothing; from outside it needs only `memset`.
-   Every function is proved to meet the definitions of crates/definitions for every input that keeps to what stands here. */
+   Every function is proved to meet the definitions of crates/definitions, crates/separations and crates/catalogue for every input that keeps to what stands here. */
 #ifndef JENWYLLT_H
 #define JENWYLLT_H
 
@@ -28,6 +28,7 @@ enum jenwyllt_size {
     JENWYLLT_PAIR_NUMBERS = 3,
     JENWYLLT_ROW_NUMBERS = 5,
     JENWYLLT_SEPARATION_NUMBERS = 5,
+    JENWYLLT_ACCESSION_NUMBERS = 4,
     JENWYLLT_PIXELS_PER_CELL = 8,
     JENWYLLT_MOST_SIDE = 1024,
     JENWYLLT_MOST_ENTRIES = 256
@@ -49,7 +50,8 @@ enum jenwyllt_refusal {
     JENWYLLT_REGIONS = 11,
     JENWYLLT_PAIRS = 12,
     JENWYLLT_RANGE = 13,
-    JENWYLLT_SHEET = 14
+    JENWYLLT_SHEET = 14,
+    JENWYLLT_ACCESSION = 17
 };
 
 /* A list is lent as a pointer to its first entry and its length. The pointer is aligned and not null, even where the length is 0. Lists do not overlap,
@@ -239,6 +241,31 @@ struct jenwyllt_outcome jenwyllt_hypotenuse(double x, double y);
 
 /* The value alone, for a caller who knows that x and y are in range. */
 double jenwyllt_hypot(double x, double y);
+
+/* The line of an accession record: every record of the map of an own number, newest first.
+
+   Read:
+     records  4 a record: its own number, the number of its map, the day, and the own number of the record that it supersedes, or 0. Own numbers start
+              above 0 and strictly ascend; the days of one map never fall along the list; a record supersedes only an earlier one of its map that no other
+              has superseded; only a map's first record has 0. (So each record of a map supersedes the one before it.)
+     own      an own number
+   Filled; it may be longer than needed, and what it holds behind the last record stays:
+     output   the records of the line, 4 numbers each
+
+   Number 0: the value is the count of records in the line, and 0 where no record has the own number. Otherwise the number says why not; the first of these
+   causes that applies is given:
+
+     number  cause                                 value
+     3       the last record is unfinished         0
+     17      a record breaks one of the rules      the first such record
+     10      the output is too short for the line  0
+
+   With any of these the output stays as it was. A call needs 641 KiB of stack. The time grows with the count of records, and with its square only where there
+   are many maps whose numbers leave the same remainder by 32749, or many maps among the records behind the first 131072. */
+struct jenwyllt_answer jenwyllt_report_line(
+    const uint64_t *records, size_t records_length,
+    uint64_t own,
+    uint64_t *output, size_t output_length);
 
 #ifdef __cplusplus
 }

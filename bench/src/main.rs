@@ -1,5 +1,6 @@
 //! Times the Rust original step by step and our static libraries on the same maps in one process.
 
+mod accession;
 mod calls;
 mod hypotenuse;
 mod maps;
@@ -44,6 +45,12 @@ fn main() {
     }
     if wanted("hypotenuse") {
         hypotenuse::run(budget);
+    }
+    if wanted("accession") {
+        accession::run(budget);
+    }
+    if arguments.iter().any(|word| word == "accession-worst") {
+        accession::worst();
     }
     if wanted("stack") {
         stack::run();

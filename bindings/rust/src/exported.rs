@@ -110,6 +110,14 @@ unsafe extern "C" {
         anchors_length: usize,
     ) -> SheetAnswer;
 
+    pub fn jenwyllt_report_line(
+        records: *const u64,
+        records_length: usize,
+        own: u64,
+        output: *mut u64,
+        output_length: usize,
+    ) -> Answer;
+
     pub safe fn jenwyllt_hypotenuse(x: f64, y: f64) -> Outcome;
 
     pub safe fn jenwyllt_hypot(x: f64, y: f64) -> f64;
