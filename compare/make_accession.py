@@ -2,8 +2,8 @@
 
     python3 make_accession.py [FILE]
 """
+import argparse
 import random
-import sys
 from pathlib import Path
 
 from accession_lists import MAPS, MOST, damaged, flat, kept
@@ -36,12 +36,15 @@ def cases():
 
 
 def main():
+    parser = argparse.ArgumentParser(description=__doc__, formatter_class=argparse.RawDescriptionHelpFormatter)
+    parser.add_argument('file', nargs='?', default=FILE, type=Path)
+    file = parser.parse_args().file
     lines = []
     for numbers, own, room in cases():
         number, value, rows = report_line(numbers, own, room)
         lines.append('; '.join(' '.join(map(str, part)) for part in (numbers, (own, room), (number, value), rows)).rstrip())
     lines = list(dict.fromkeys(lines))
-    Path(sys.argv[1] if len(sys.argv) > 1 else FILE).write_text(''.join(f'{line}\n' for line in lines))
+    file.write_text(''.join(f'{line}\n' for line in lines))
     print(len(lines), 'cases')
 
 

@@ -74,9 +74,15 @@ def cases() -> Iterator[str]:
         yield case(2, 2, near, 30)
 
 
-def main() -> int:
+def main(words: list[str]) -> int:
+    if words == ['--help']:
+        print(__doc__.strip())
+        return 0
+    if words not in ([], ['--check']):
+        print('usage: make_separations.py [--check]', file=sys.stderr)
+        return 2
     text = ''.join(f'{line}\n' for line in cases())
-    if sys.argv[1:] == ['--check']:
+    if words:
         same = FILE.read_text() == text
         print('as it is made' if same else 'not as it is made')
         return 0 if same else 1
@@ -86,4 +92,4 @@ def main() -> int:
 
 
 if __name__ == '__main__':
-    sys.exit(main())
+    sys.exit(main(sys.argv[1:]))

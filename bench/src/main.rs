@@ -18,9 +18,13 @@ use std::time::Duration;
 use timing::{Timing, time};
 
 const PASSES: [u64; 3] = [1, 2, 3];
+const USAGE: &str = "usage: bench [SECONDS a measurement] [NAME of a map...], or bench alone SECONDS NAME..., or bench once MAP rust|ours|none CALL";
 
 fn main() {
     let arguments: Vec<String> = std::env::args().skip(1).collect();
+    if arguments == ["--help"] {
+        return println!("{USAGE}");
+    }
     if let [word, map, whose, call] = &arguments[..]
         && word == "once"
     {
@@ -58,9 +62,7 @@ fn main() {
 }
 
 fn usage() -> ! {
-    eprintln!(
-        "usage: bench [SECONDS a measurement] [NAME of a map...], or bench alone SECONDS NAME..., or bench once MAP rust|ours|none CALL"
-    );
+    eprintln!("{USAGE}");
     std::process::exit(2);
 }
 
