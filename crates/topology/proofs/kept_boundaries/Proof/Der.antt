@@ -435,6 +435,18 @@ module _ (κs : Lfts 11) (qs : Shares 11) where
   abbrev pub G190 : Cx
   G190 = patched ((0, row20) ∷ (1, row69) ∷ (2, row69) ∷ (3, row69) ∷ []) ([]) G0
 
+  abbrev pub Γ-d50 : Cx
+  Γ-d50 = G50
+
+  abbrev pub Γ-d92 : Cx
+  Γ-d92 = G69
+
+  abbrev pub Γ-d145 : Cx
+  Γ-d145 = G69
+
+  abbrev pub Γ-d30 : Cx
+  Γ-d30 = G30
+
 module _ {M : Type 1} (𝓤 : URA M) (H : Heap 𝓤) (A : Atoms 𝓤) (W : Given 𝓤 H A) (𝓣 : Tables 𝓤 H)
     (known0 : Knows 𝓤 H A W 𝓣 9 K0.ps K0.r R0.Asked R0.Learnt "calls::prepare") (known1 : Knows 𝓤 H A W 𝓣 4 K1.ps K1.r R1.Asked R1.Learnt "topology::records::fill") (known2 : Knows 𝓤 H A W 𝓣 9 K2.ps K2.r R2.Asked R2.Learnt "topology::marks::mark_removed") (known3 : Knows 𝓤 H A W 𝓣 5 K3.ps K3.r R3.Asked R3.Learnt "views::finish") (κs : Lfts 11) (qs : Shares 11) (bs : List ℕ) where
   abbrev E : Env 𝓤 H

@@ -230,6 +230,9 @@ module _ (κs : Lfts 11) (qs : Shares 11) where
   abbrev pub G89 : Cx
   G89 = patched ((0, row24) ∷ (1, row36) ∷ (2, row36) ∷ (3, row36) ∷ (13, row36) ∷ []) ([]) G0
 
+  abbrev pub Γ-d65 : Cx
+  Γ-d65 = G65
+
 module _ {M : Type 1} (𝓤 : URA M) (H : Heap 𝓤) (A : Atoms 𝓤) (W : Given 𝓤 H A) (𝓣 : Tables 𝓤 H)
     (known0 : Knows 𝓤 H A W 𝓣 0 K0.ps K0.r R0.Asked R0.Learnt "topology::numbers::least") (known1 : Knows 𝓤 H A W 𝓣 0 K1.ps K1.r R1.Asked R1.Learnt "topology::here::empty_records") (known2 : Knows 𝓤 H A W 𝓣 11 K2.ps K2.r R2.Asked R2.Learnt "topology::kept_boundaries") (known3 : Knows 𝓤 H A W 𝓣 2 K3.ps K3.r R3.Asked R3.Learnt "topology::here::put_records") (κs : Lfts 11) (qs : Shares 11) (bs : List ℕ) where
   abbrev E : Env 𝓤 H
