@@ -282,6 +282,12 @@ module _ (κs : Lfts 9) (qs : Shares 9) where
   abbrev pub G101 : Cx
   G101 = patched ([]) ((19, dead) ∷ []) G0
 
+  abbrev pub Γ-d24 : Cx
+  Γ-d24 = G0
+
+  abbrev pub Γ-d61 : Cx
+  Γ-d61 = G29
+
 module _ {M : Type 1} (𝓤 : URA M) (H : Heap 𝓤) (A : Atoms 𝓤) (W : Given 𝓤 H A) (𝓣 : Tables 𝓤 H)
     (known0 : Knows 𝓤 H A W 𝓣 9 K0.ps K0.r R0.Asked R0.Learnt "views::view") (known1 : Knows 𝓤 H A W 𝓣 10 K1.ps K1.r R1.Asked R1.Learnt "topology::marks::removed_marks") (κs : Lfts 9) (qs : Shares 9) (bs : List ℕ) where
   abbrev E : Env 𝓤 H

@@ -204,6 +204,15 @@ module _ (κs : Lfts 10) (qs : Shares 10) where
   abbrev pub G82 : Cx
   G82 = patched ((13, row28) ∷ (32, row12) ∷ []) ((9, off) ∷ (18, alive) ∷ []) G0
 
+  abbrev pub Γ-d10 : Cx
+  Γ-d10 = G0
+
+  abbrev pub Γ-d39 : Cx
+  Γ-d39 = G0
+
+  abbrev pub Γ-d65 : Cx
+  Γ-d65 = G0
+
 module _ {M : Type 1} (𝓤 : URA M) (H : Heap 𝓤) (A : Atoms 𝓤) (W : Given 𝓤 H A) (𝓣 : Tables 𝓤 H)
     (known0 : Knows 𝓤 H A W 𝓣 8 K0.ps K0.r R0.Asked R0.Learnt "topology::mouths::replace_ramp_mouths") (known1 : Knows 𝓤 H A W 𝓣 8 K1.ps K1.r R1.Asked R1.Learnt "topology::interiors::collapse_ramp_interiors") (known2 : Knows 𝓤 H A W 𝓣 7 K2.ps K2.r R2.Asked R2.Learnt "topology::proposals::remove_junction_boundaries") (κs : Lfts 10) (qs : Shares 10) (bs : List ℕ) where
   abbrev E : Env 𝓤 H
