@@ -61,7 +61,7 @@ use Rattle.topology.proofs.Seen.topology_kept_boundaries.Reads as reads
 use Rattle.topology.proofs.topology_kept_boundaries.Statement.{statement}
 use Rattle.topology.proofs.topology_kept_boundaries.Code as code
 use Rattle.topology.proofs.topology_kept_boundaries.Key as key
-use Rattle.topology.proofs.topology_kept_boundaries.Proof.Der.{xs, m, d, from-answer, from-match, from-marks, from-finish, G30, G50, G72}
+use Rattle.topology.proofs.topology_kept_boundaries.Proof.Der.{xs, m, d, from-answer, from-match, from-marks, from-finish, Γ-from-answer, Γ-from-match, Γ-from-marks}
 
 -- what the call is told and lent: its map, what `prepare` leaves, and that lists are as long as those that were lent
 module _ (κs : Lfts 11) (a : Dens κs ps) where
@@ -99,7 +99,7 @@ module _ (κs : Lfts 11) (a : Dens κs ps) where
 
 -- the state at the match, and that of a call that is ready between its parts
 module _ (κs : Lfts 11) (qs : Shares 11) (a : Dens κs ps) (l m′ q t p : List ℕ) where
-  abbrev at-match : Prepared → Mo (G50 κs qs)
+  abbrev at-match : Prepared → Mo (Γ-from-match κs qs)
   at-match r′ = (tt, (a .0, (a .1 .0, (a .1 .1 .0, (a .1 .1 .1 .0, (a .1 .1 .1 .1 .0, (a .1 .1 .1 .1 .1 .0, (a .1 .1 .1 .1 .1 .1 .0,
       (setVals l (a .1 .1 .1 .1 .1 .1 .1 .0), (setVals m′ (a .1 .1 .1 .1 .1 .1 .1 .1 .0), (setVals q (a .1 .1 .1 .1 .1 .1 .1 .1 .1 .0),
       (setVals t (a .1 .1 .1 .1 .1 .1 .1 .1 .1 .1 .0), (setVals p (a .1 .1 .1 .1 .1 .1 .1 .1 .1 .1 .1 .0),
@@ -107,7 +107,7 @@ module _ (κs : Lfts 11) (qs : Shares 11) (a : Dens κs ps) (l m′ q t p : List
       (length (a .1 .1 .1 .1 .1 .1 .1 .1 .1 .1 .1 .1 .0 .now), (length (a .1 .1 .1 .1 .1 .1 .1 .1 .1 .1 .1 .1 .1 .0 .now),
       (r′, init 11 ps r xs m κs qs a .1 .1 .1 .1 .1 .1 .1 .1 .1 .1 .1 .1 .1 .1 .1 .1 .1 .1))))))))))))))))))
 
-  abbrev at-part : List Region → (regions rows : ℕ) → List Bool → Mo (G72 κs qs)
+  abbrev at-part : List Region → (regions rows : ℕ) → List Bool → Mo (Γ-from-marks κs qs)
   at-part s regions rows removed = (tt, (a .0, (a .1 .0, (a .1 .1 .0, (a .1 .1 .1 .0, (a .1 .1 .1 .1 .0, (a .1 .1 .1 .1 .1 .0, (a .1 .1 .1 .1 .1 .1 .0,
       (setVals l (a .1 .1 .1 .1 .1 .1 .1 .0), (setVals m′ (a .1 .1 .1 .1 .1 .1 .1 .1 .0), (setVals q (a .1 .1 .1 .1 .1 .1 .1 .1 .1 .0),
       (setVals t (a .1 .1 .1 .1 .1 .1 .1 .1 .1 .1 .0), (setVals p (a .1 .1 .1 .1 .1 .1 .1 .1 .1 .1 .1 .0),
@@ -123,9 +123,9 @@ module _ {M′ : Type 1} (𝓤 : URA M′) (H : Heap 𝓤) (A : Atoms 𝓤) (W :
     (k3 : Known 𝓤 H A W 𝓣 5 K3.ps K3.r known3.Asked known3.Learnt "views::finish")
     (κs : Lfts 11) (qs : Shares 11) (bs : List ℕ) (a : Dens κs ps) (l m₁ q₁ t p : List ℕ) where
   -- what is wanted past the match
-  abbrev wanted : Want (withNext (some (G30 κs qs)) (Δret 11 ps r xs m κs qs))
+  abbrev wanted : Want (withNext (some (Γ-from-answer κs qs)) (Δret 11 ps r xs m κs qs))
   wanted =
-      wantNext (G30 κs qs) (Δret 11 ps r xs m κs qs)
+      wantNext (Γ-from-answer κs qs) (Δret 11 ps r xs m κs qs)
       (from-answer 𝓤 H A W 𝓣 k0 k1 k2 k3 κs qs bs .Φ (wantQ 11 ps r xs m κs qs a (reads.Post κs a)))
       (wantQ 11 ps r xs m κs qs a (reads.Post κs a))
 

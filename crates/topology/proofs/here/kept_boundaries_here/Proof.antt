@@ -55,7 +55,7 @@ use Rattle.topology.proofs.Seen.here.kept_boundaries_here.Reads as read
 use Rattle.topology.proofs.here.kept_boundaries_here.Statement.{statement}
 use Rattle.topology.proofs.here.kept_boundaries_here.Code as code
 use Rattle.topology.proofs.here.kept_boundaries_here.Key as key
-use Rattle.topology.proofs.here.kept_boundaries_here.Proof.Der.{xs, m, d, from-put, G65}
+use Rattle.topology.proofs.here.kept_boundaries_here.Proof.Der.{xs, m, d, from-put, Γ-from-put}
 
 module _ (κs : Lfts 11) (a : Dens κs ps) where
   -- the call was lent the records s and left the records s′
@@ -67,7 +67,7 @@ module _ (κs : Lfts 11) (a : Dens κs ps) where
       (exported b) l m q t p s′ o
 
   -- the state after the call, with its n records and what stands behind them
-  abbrev at-put : (qs : Shares 11) (l m q t p o : List ℕ) (n : ℕ) → List Region → TopologyAnswer → Mo (G65 κs qs)
+  abbrev at-put : (qs : Shares 11) (l m q t p o : List ℕ) (n : ℕ) → List Region → TopologyAnswer → Mo (Γ-from-put κs qs)
   at-put qs l m′ q t p o n s b = (tt, (a .0, (a .1 .0, (a .1 .1 .0, (a .1 .1 .1 .0, (a .1 .1 .1 .1 .0, (a .1 .1 .1 .1 .1 .0, (a .1 .1 .1 .1 .1 .1 .0,
       (setVals l (a .1 .1 .1 .1 .1 .1 .1 .0), (setVals m′ (a .1 .1 .1 .1 .1 .1 .1 .1 .0), (setVals q (a .1 .1 .1 .1 .1 .1 .1 .1 .1 .0),
       (setVals t (a .1 .1 .1 .1 .1 .1 .1 .1 .1 .1 .0), (setVals p (a .1 .1 .1 .1 .1 .1 .1 .1 .1 .1 .1 .0), (a .1 .1 .1 .1 .1 .1 .1 .1 .1 .1 .1 .1 .0,

@@ -49,7 +49,7 @@ use Rattle.topology.proofs.Seen.mouths.replace_ramp_mouths.Reads as rea
 use Rattle.topology.proofs.mouths.replace_ramp_mouths.Statement.{statement}
 use Rattle.topology.proofs.mouths.replace_ramp_mouths.Code as code
 use Rattle.topology.proofs.mouths.replace_ramp_mouths.Key as key
-use Rattle.topology.proofs.mouths.replace_ramp_mouths.Proof.Der.{xs, m, d, from-near, from-select, G59}
+use Rattle.topology.proofs.mouths.replace_ramp_mouths.Proof.Der.{xs, m, d, from-near, from-select, Γ-from-near}
 
 module _ (κs : Lfts 8) (a : Dens κs ps) where
   -- the lists that are lent show C
@@ -59,7 +59,7 @@ module _ (κs : Lfts 8) (a : Dens κs ps) where
       (a .1 .1 .1 .1 .1 .1 .0 .now) (a .1 .1 .1 .1 .1 .1 .1 .0 .now)
 
   -- the state after `push_candidates` and after `mark_near`
-  abbrev at-part : (qs : Shares 8) (mouths ramps outers kinds separations : List ℕ) → List Bool → ℕ → Mo (G59 κs qs)
+  abbrev at-part : (qs : Shares 8) (mouths ramps outers kinds separations : List ℕ) → List Bool → ℕ → Mo (Γ-from-near κs qs)
   at-part qs mouths ramps outers kinds separations near n = (tt, (a .0, (a .1 .0, (a .1 .1 .0, (a .1 .1 .1 .0, (a .1 .1 .1 .1 .0, (a .1 .1 .1 .1 .1 .0,
       (a .1 .1 .1 .1 .1 .1 .0, (a .1 .1 .1 .1 .1 .1 .1 .0, (a .1 .1 .1 .1 .1 .1 .1 .1 .0, (mouths, (ramps, (outers, (kinds, (separations, (near, (n,
       init 8 ps r xs m κs qs a .1 .1 .1 .1 .1 .1 .1 .1 .1 .1 .1 .1 .1 .1 .1 .1 .1)))))))))))))))))

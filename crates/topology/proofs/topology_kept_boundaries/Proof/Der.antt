@@ -454,6 +454,18 @@ module _ (κs : Lfts 11) (qs : Shares 11) where
   abbrev pub G196 : Cx
   G196 = patched ((0, row20) ∷ (1, row70) ∷ (2, row70) ∷ (3, row70) ∷ []) ([]) G0
 
+  abbrev pub Γ-from-match : Cx
+  Γ-from-match = G50
+
+  abbrev pub Γ-from-marks : Cx
+  Γ-from-marks = G72
+
+  abbrev pub Γ-from-finish : Cx
+  Γ-from-finish = G72
+
+  abbrev pub Γ-from-answer : Cx
+  Γ-from-answer = G30
+
 module _ {M : Type 1} (𝓤 : URA M) (H : Heap 𝓤) (A : Atoms 𝓤) (W : Given 𝓤 H A) (𝓣 : Tables 𝓤 H)
     (known0 : Knows 𝓤 H A W 𝓣 9 K0.ps K0.r R0.Asked R0.Learnt "calls::prepare") (known1 : Knows 𝓤 H A W 𝓣 4 K1.ps K1.r R1.Asked R1.Learnt "topology::records::fill") (known2 : Knows 𝓤 H A W 𝓣 9 K2.ps K2.r R2.Asked R2.Learnt "topology::marks::mark_removed") (known3 : Knows 𝓤 H A W 𝓣 5 K3.ps K3.r R3.Asked R3.Learnt "views::finish") (κs : Lfts 11) (qs : Shares 11) (bs : List ℕ) where
   abbrev E : Env 𝓤 H
@@ -473,7 +485,7 @@ module _ {M : Type 1} (𝓤 : URA M) (H : Heap 𝓤) (A : Atoms 𝓤) (W : Given
   abbrev pub from-finish : Der W 𝓣 E (G72 κs qs) (past 29 (arm-of 1 (head-of (past 13 (code.function .body))))) (withNext (some (G30 κs qs)) (Δret 11 ps r xs m κs qs))
   from-finish =
       stmt (G72 κs qs) _ (t-use 𝓤 H A W E 𝓣 (G72 κs qs) (oFld 6 (field 1 ∷ []) (tyInt w64) 8 lenV) 38 (sc-here (sInt w64)) (tyInt w64) (valS (sInt w64)) (sInt w64 .of) (reads-sslice-len 𝓤 H A W (rtF (fInt w64)) (tyRef (named 2) imm (tyInt w64)) 2 8 refl, refl) (room-gone 𝓤 H A (tyInt w64)) (holds-sc 𝓤 H A W (sInt w64)) refl (λ u. refl) (λ u. tt)) $
-      stmt _ _ (t-op2 𝓤 H A W E 𝓣 _ (div unsigned) (oAt 38 (tyInt w64) (valS (sInt w64))) (oInt w64 9) 50 (sc-here (sInt w64)) (tyInt w64) (valS (sInt w64)) (sInt w64 .of) (reads-sc 𝓤 H A W (sInt w64), refl) tt (room-gone 𝓤 H A (tyInt w64)) (holds-sc 𝓤 H A W (sInt w64)) refl (λ u. refl) (λ u. tt)) $
+      stmt _ _ (t-op2 𝓤 H A W E 𝓣 _ (div unsigned) (oAt 38 (tyInt w64) (valS (sInt w64))) (oInt w64 _) 50 (sc-here (sInt w64)) (tyInt w64) (valS (sInt w64)) (sInt w64 .of) (reads-sc 𝓤 H A W (sInt w64), refl) tt (room-gone 𝓤 H A (tyInt w64)) (holds-sc 𝓤 H A W (sInt w64)) refl (λ u. refl) (λ u. tt)) $
       ghosts _ (G150 κs qs) (g-room 𝓤 H A W E _ 38 (tyInt w64) (room-sc 𝓤 H A W (sInt w64))) $
       ghosts (G150 κs qs) _ (g-begin 𝓤 H A W E (G150 κs qs) 26 _) $
       stmt _ _ (t-sc-share 𝓤 H A W E 𝓣 _ 24 60 26 (Array (rtF fBool) 256) (tyRef erased imm (tyArray tyBool 256)) (λ x. x) (mem-arr 𝓤 H A W (rtF fBool) 256) (room-gone 𝓤 H A (tyRef erased imm (tyArray tyBool 256))) refl (λ b o. tt)) $
@@ -503,7 +515,7 @@ module _ {M : Type 1} (𝓤 : URA M) (H : Heap 𝓤) (A : Atoms 𝓤) (W : Given
       ghosts _ _ (g-back-sl 𝓤 H A W E (rtF (fInt w64)) _ 66 14 10 29 (tyRef (named 10) mut (tyInt w64)) (tyRef erased mut (tyInt w64)) (lease (κs .1 .1 .1 .1 .1 .1 .1 .1 .1 .1 .0) (qs .1 .1 .1 .1 .1 .1 .1 .1 .1 .1 .0)) (λ x. x) (λ x. x) (as-is 𝓤 H A (msleft (rtF (fInt w64)) (tyRef erased mut (tyInt w64)))) (as-is 𝓤 H A (mslice-owed (rtF (fInt w64)) (tyRef (named 10) mut (tyInt w64)) 10 29 (lease (κs .1 .1 .1 .1 .1 .1 .1 .1 .1 .1 .0) (qs .1 .1 .1 .1 .1 .1 .1 .1 .1 .1 .0)))) refl refl) $
       ghosts _ (G180 κs qs) (g-forget 𝓤 H A W E _ 29 dead refl) $
       stmt (G180 κs qs) (G181 κs qs) (t-use 𝓤 H A W E 𝓣 (G180 κs qs) (oAt 25 (tyInt w64) (valS (sInt w64))) 67 (sc-here (sInt w64)) (tyInt w64) (valS (sInt w64)) (sInt w64 .of) (reads-sc 𝓤 H A W (sInt w64), refl) (room-gone 𝓤 H A (tyInt w64)) (holds-sc 𝓤 H A W (sInt w64)) refl (λ u. refl) (λ u. tt)) $
-      last (G181 κs qs) (G30 κs qs) (then W (G181 κs qs) (G60 κs qs) (G30 κs qs) (then W (G181 κs qs) (G187 κs qs) (G60 κs qs) (then W (G181 κs qs) (G186 κs qs) (G187 κs qs) (then W (G181 κs qs) (G185 κs qs) (G186 κs qs) (then W (G181 κs qs) (G184 κs qs) (G185 κs qs) (then W (G181 κs qs) (G183 κs qs) (G184 κs qs) (then W (G181 κs qs) (G182 κs qs) (G183 κs qs) (t-struct-make 𝓤 H A W E 𝓣 (apartT TopologyAnswer.the-type) Laws'.the-laws Laws'.the-plain (G181 κs qs) 36 (oInt w64 0 ∷ oAt 67 (tyInt w64) (valS (sInt w64)) ∷ []) (λ m. (0, (m .1 .1 .1 .1 .1 .1 .1 .1 .1 .1 .1 .1 .1 .1 .1 .1 .1 .1 .1 .1 .1 .1 .1 .1 .1 .1 .1 .1 .1 .1 .1 .1 .1 .1 .1 .1 .1 .1 .1 .1 .1 .1 .1 .1 .1 .1 .1 .1 .1 .1 .1 .1 .1 .1 .1 .1 .1 .1 .1 .1 .1 .1 .1 .1 .1 .1 .1 .0, tt))) (room-gone 𝓤 H A _) (tt, ((reads-sc 𝓤 H A W (sInt w64), refl), tt)) refl (λ u. refl) (λ m. is-wt (apartT TopologyAnswer.the-type) Laws'.the-laws (u64-wt, (u64-wt, tt)) (0, (m .1 .1 .1 .1 .1 .1 .1 .1 .1 .1 .1 .1 .1 .1 .1 .1 .1 .1 .1 .1 .1 .1 .1 .1 .1 .1 .1 .1 .1 .1 .1 .1 .1 .1 .1 .1 .1 .1 .1 .1 .1 .1 .1 .1 .1 .1 .1 .1 .1 .1 .1 .1 .1 .1 .1 .1 .1 .1 .1 .1 .1 .1 .1 .1 .1 .1 .1 .0, tt)))) (g-room 𝓤 H A W E (G182 κs qs) 20 (tyInt w64) (room-sc 𝓤 H A W (sInt w64)))) (g-room 𝓤 H A W E (G183 κs qs) 21 (tyInt w64) (room-sc 𝓤 H A W (sInt w64)))) (g-room 𝓤 H A W E (G184 κs qs) 22 (tyInt w64) (room-sc 𝓤 H A W (sInt w64)))) (g-room 𝓤 H A W E (G185 κs qs) 23 (tyInt w64) (room-sc 𝓤 H A W (sInt w64)))) (g-room 𝓤 H A W E (G186 κs qs) 25 (tyInt w64) (room-sc 𝓤 H A W (sInt w64)))) (g-room 𝓤 H A W E (G187 κs qs) 67 (tyInt w64) (room-sc 𝓤 H A W (sInt w64)))) (g-as-by 𝓤 H A W E (λ ρ. Unit) (G60 κs qs) 36 (whole (Declared'.row TopologyAnswer.the-type)) (λ v. struct .make v tt) (told-none 𝓤 H A ((G60 κs qs) .slots)) (λ ρ told v b. folds 𝓤 H A TopologyAnswer.the-type (struct .Ghost) (struct .make) (λ v g. refl) ρ v tt b)))
+      last (G181 κs qs) (G30 κs qs) (then W (G181 κs qs) (G60 κs qs) (G30 κs qs) (then W (G181 κs qs) (G187 κs qs) (G60 κs qs) (then W (G181 κs qs) (G186 κs qs) (G187 κs qs) (then W (G181 κs qs) (G185 κs qs) (G186 κs qs) (then W (G181 κs qs) (G184 κs qs) (G185 κs qs) (then W (G181 κs qs) (G183 κs qs) (G184 κs qs) (then W (G181 κs qs) (G182 κs qs) (G183 κs qs) (t-struct-make 𝓤 H A W E 𝓣 (apartT TopologyAnswer.the-type) Laws'.the-laws Laws'.the-plain (G181 κs qs) 36 (oInt w64 _ ∷ oAt 67 (tyInt w64) (valS (sInt w64)) ∷ []) (λ m. (_, (m .1 .1 .1 .1 .1 .1 .1 .1 .1 .1 .1 .1 .1 .1 .1 .1 .1 .1 .1 .1 .1 .1 .1 .1 .1 .1 .1 .1 .1 .1 .1 .1 .1 .1 .1 .1 .1 .1 .1 .1 .1 .1 .1 .1 .1 .1 .1 .1 .1 .1 .1 .1 .1 .1 .1 .1 .1 .1 .1 .1 .1 .1 .1 .1 .1 .1 .1 .0, tt))) (room-gone 𝓤 H A _) (tt, ((reads-sc 𝓤 H A W (sInt w64), refl), tt)) refl (λ u. refl) (λ m. is-wt (apartT TopologyAnswer.the-type) Laws'.the-laws (u64-wt, (u64-wt, tt)) (_, (m .1 .1 .1 .1 .1 .1 .1 .1 .1 .1 .1 .1 .1 .1 .1 .1 .1 .1 .1 .1 .1 .1 .1 .1 .1 .1 .1 .1 .1 .1 .1 .1 .1 .1 .1 .1 .1 .1 .1 .1 .1 .1 .1 .1 .1 .1 .1 .1 .1 .1 .1 .1 .1 .1 .1 .1 .1 .1 .1 .1 .1 .1 .1 .1 .1 .1 .1 .0, tt)))) (g-room 𝓤 H A W E (G182 κs qs) 20 (tyInt w64) (room-sc 𝓤 H A W (sInt w64)))) (g-room 𝓤 H A W E (G183 κs qs) 21 (tyInt w64) (room-sc 𝓤 H A W (sInt w64)))) (g-room 𝓤 H A W E (G184 κs qs) 22 (tyInt w64) (room-sc 𝓤 H A W (sInt w64)))) (g-room 𝓤 H A W E (G185 κs qs) 23 (tyInt w64) (room-sc 𝓤 H A W (sInt w64)))) (g-room 𝓤 H A W E (G186 κs qs) 25 (tyInt w64) (room-sc 𝓤 H A W (sInt w64)))) (g-room 𝓤 H A W E (G187 κs qs) 67 (tyInt w64) (room-sc 𝓤 H A W (sInt w64)))) (g-as-by 𝓤 H A W E (λ ρ. Unit) (G60 κs qs) 36 (whole (Declared'.row TopologyAnswer.the-type)) (λ v. struct .make v tt) (told-none 𝓤 H A ((G60 κs qs) .slots)) (λ ρ told v b. folds 𝓤 H A TopologyAnswer.the-type (struct .Ghost) (struct .make) (λ v g. refl) ρ v tt b)))
 
   abbrev pub from-marks : Der W 𝓣 E (G72 κs qs) (past 13 (arm-of 1 (head-of (past 13 (code.function .body))))) (withNext (some (G30 κs qs)) (Δret 11 ps r xs m κs qs))
   from-marks =
@@ -514,7 +526,7 @@ module _ {M : Type 1} (𝓤 : URA M) (H : Heap 𝓤) (A : Atoms 𝓤) (W : Given
       stmt _ _ (t-sl-reshare 𝓤 H A W E (rtF (fInt w32)) 𝓣 _ 8 48 4 20 (tyRef (named 4) mut (tyInt w32)) (tyRef erased imm (tyInt w32)) (lease (κs .1 .1 .1 .1 .0) (qs .1 .1 .1 .1 .0)) 0 (λ x. x) (as-is 𝓤 H A (mslice (rtF (fInt w32)) (tyRef (named 4) mut (tyInt w32)) 4)) (room-gone 𝓤 H A (tyRef erased imm (tyInt w32))) refl tt refl refl refl (λ b o. tt)) $
       stmt _ (G100 κs qs) (t-sl-aggregate 𝓤 H A W E (rtF (fInt w32)) 𝓣 (asShr (rtF (fInt w32))) _ 48 49 20 (tyRef erased imm (tyInt w32)) (tyRef erased imm (tyInt w32)) (λ x. x) (oFld 8 (field 1 ∷ []) (tyInt w64) 8 (λ v. lenV (v .0))) (as-is 𝓤 H A (ssptr (rtF (fInt w32)) (tyRef erased imm (tyInt w32)) 20)) (room-gone 𝓤 H A _) (reads-owedS-len 𝓤 H A W (rtF (fInt w32)) (tyRef (named 4) mut (tyInt w32)) 4 20 (lease (κs .1 .1 .1 .1 .0) (qs .1 .1 .1 .1 .0)) 8 refl, refl) refl refl (λ b o k. tt)) $
       stmt (G100 κs qs) _ (t-use 𝓤 H A W E 𝓣 (G100 κs qs) (oFld 5 (field 1 ∷ []) (tyInt w64) 8 lenV) 38 (sc-here (sInt w64)) (tyInt w64) (valS (sInt w64)) (sInt w64 .of) (reads-sslice-len 𝓤 H A W (rtF (fInt w64)) (tyRef (named 1) imm (tyInt w64)) 1 8 refl, refl) (room-gone 𝓤 H A (tyInt w64)) (holds-sc 𝓤 H A W (sInt w64)) refl (λ u. refl) (λ u. tt)) $
-      stmt _ _ (t-op2 𝓤 H A W E 𝓣 _ (div unsigned) (oAt 38 (tyInt w64) (valS (sInt w64))) (oInt w64 4) 50 (sc-here (sInt w64)) (tyInt w64) (valS (sInt w64)) (sInt w64 .of) (reads-sc 𝓤 H A W (sInt w64), refl) tt (room-gone 𝓤 H A (tyInt w64)) (holds-sc 𝓤 H A W (sInt w64)) refl (λ u. refl) (λ u. tt)) $
+      stmt _ _ (t-op2 𝓤 H A W E 𝓣 _ (div unsigned) (oAt 38 (tyInt w64) (valS (sInt w64))) (oInt w64 _) 50 (sc-here (sInt w64)) (tyInt w64) (valS (sInt w64)) (sInt w64 .of) (reads-sc 𝓤 H A W (sInt w64), refl) tt (room-gone 𝓤 H A (tyInt w64)) (holds-sc 𝓤 H A W (sInt w64)) refl (λ u. refl) (λ u. tt)) $
       ghosts _ (G103 κs qs) (g-room 𝓤 H A W E _ 38 (tyInt w64) (room-sc 𝓤 H A W (sInt w64))) $
       ghosts (G103 κs qs) _ (g-begin 𝓤 H A W E (G103 κs qs) 21 _) $
       stmt _ _ (t-sl-reshare 𝓤 H A W E (rtF (fInt w32)) 𝓣 _ 11 51 7 21 (tyRef (named 7) mut (tyInt w32)) (tyRef erased imm (tyInt w32)) (lease (κs .1 .1 .1 .1 .1 .1 .1 .0) (qs .1 .1 .1 .1 .1 .1 .1 .0)) 0 (λ x. x) (as-is 𝓤 H A (mslice (rtF (fInt w32)) (tyRef (named 7) mut (tyInt w32)) 7)) (room-gone 𝓤 H A (tyRef erased imm (tyInt w32))) refl tt refl refl refl (λ b o. tt)) $
@@ -562,51 +574,52 @@ module _ {M : Type 1} (𝓤 : URA M) (H : Heap 𝓤) (A : Atoms 𝓤) (W : Given
 
   abbrev pub from-match : Der W 𝓣 E (G50 κs qs) (head-of (past 13 (code.function .body))) (withNext (some (G30 κs qs)) (Δret 11 ps r xs m κs qs))
   from-match =
-      switches (G50 κs qs) (oFld 17 (variant 0 ∷ field 0 ∷ []) (tyInt w8) 0 (λ x. vint w8 (tagOf Prepared.the-type x))) w8 (λ u. tagOf Prepared.the-type (u .1 .1 .1 .1 .1 .1 .1 .1 .1 .1 .1 .1 .1 .1 .1 .1 .1 .0)) (reads-tag 𝓤 H A W Prepared.the-type Laws.the-laws (whole (Declared.row Prepared.the-type)) 0 (λ x. x) (reads-enum 𝓤 H A W Prepared.the-type Laws.the-laws), refl) (λ u. refl)
-        (
-          ghosts (G50 κs qs) (G51 κs qs) (g-enum-known 𝓤 H A W E enum 0 (G50 κs qs) 17 (λ x. x) (as-is 𝓤 H A (whole (Declared.row Prepared.the-type)))) $
-          ghosts (G51 κs qs) (G51 κs qs) (g-known-told 𝓤 H A W E enum 0 (G51 κs qs) 17 Laws.the-laws (λ x. x) (as-is 𝓤 H A (whole (Known enum 0)))) $
-          stmt (G51 κs qs) _ (t-use 𝓤 H A W E 𝓣 (G51 κs qs) (oFld 17 (variant 0 ∷ field 1 ∷ []) (tyInt w64) 8 (λ v. Laws.the-laws .0 .0 .val (v .0))) 18 (sc-here (sInt w64)) (tyInt w64) (valS (sInt w64)) (sInt w64 .of) (reads-payload 𝓤 H A W enum Laws.the-laws 0 refl refl (λ v. vcons (Laws.the-laws .0 .0 .val (v .0)) (vcons (Laws.the-laws .0 .1 .0 .val (v .1 .0)) vnil)) (λ v. refl) 0 (tyInt w64) 8 refl, refl) (room-gone 𝓤 H A (tyInt w64)) (holds-sc 𝓤 H A W (sInt w64)) refl (λ u. refl) (λ u. tt)) $
-          stmt _ _ (t-use 𝓤 H A W E 𝓣 _ (oFld 17 (variant 0 ∷ field 2 ∷ []) (tyInt w64) 16 (λ v. Laws.the-laws .0 .1 .0 .val (v .1 .0))) 19 (sc-here (sInt w64)) (tyInt w64) (valS (sInt w64)) (sInt w64 .of) (reads-payload 𝓤 H A W enum Laws.the-laws 0 refl refl (λ v. vcons (Laws.the-laws .0 .0 .val (v .0)) (vcons (Laws.the-laws .0 .1 .0 .val (v .1 .0)) vnil)) (λ v. refl) 1 (tyInt w64) 16 refl, refl) (room-gone 𝓤 H A (tyInt w64)) (holds-sc 𝓤 H A W (sInt w64)) refl (λ u. refl) (λ u. tt)) $
-          ghosts _ (G55 κs qs) (g-room 𝓤 H A W E _ 17 _ (room-whole 𝓤 H A W (Known enum 0) _ refl)) $
-          stmt (G55 κs qs) (G56 κs qs) (t-use 𝓤 H A W E 𝓣 (G55 κs qs) (oAt 19 (tyInt w64) (valS (sInt w64))) 37 (sc-here (sInt w64)) (tyInt w64) (valS (sInt w64)) (sInt w64 .of) (reads-sc 𝓤 H A W (sInt w64), refl) (room-gone 𝓤 H A (tyInt w64)) (holds-sc 𝓤 H A W (sInt w64)) refl (λ u. refl) (λ u. tt)) $
-          last (G56 κs qs) (G30 κs qs) (then W (G56 κs qs) (G60 κs qs) (G30 κs qs) (then W (G56 κs qs) (G59 κs qs) (G60 κs qs) (then W (G56 κs qs) (G58 κs qs) (G59 κs qs) (then W (G56 κs qs) (G57 κs qs) (G58 κs qs) (t-struct-make 𝓤 H A W E 𝓣 (apartT TopologyAnswer.the-type) Laws'.the-laws Laws'.the-plain (G56 κs qs) 36 (oAt 18 (tyInt w64) (valS (sInt w64)) ∷ oAt 37 (tyInt w64) (valS (sInt w64)) ∷ []) (λ m. (m .1 .1 .1 .1 .1 .1 .1 .1 .1 .1 .1 .1 .1 .1 .1 .1 .1 .1 .0, (m .1 .1 .1 .1 .1 .1 .1 .1 .1 .1 .1 .1 .1 .1 .1 .1 .1 .1 .1 .1 .1 .1 .1 .1 .1 .1 .1 .1 .1 .1 .1 .1 .1 .1 .1 .1 .1 .0, tt))) (room-gone 𝓤 H A _) ((reads-sc 𝓤 H A W (sInt w64), refl), ((reads-sc 𝓤 H A W (sInt w64), refl), tt)) refl (λ u. refl) (λ m. is-wt (apartT TopologyAnswer.the-type) Laws'.the-laws (u64-wt, (u64-wt, tt)) (m .1 .1 .1 .1 .1 .1 .1 .1 .1 .1 .1 .1 .1 .1 .1 .1 .1 .1 .0, (m .1 .1 .1 .1 .1 .1 .1 .1 .1 .1 .1 .1 .1 .1 .1 .1 .1 .1 .1 .1 .1 .1 .1 .1 .1 .1 .1 .1 .1 .1 .1 .1 .1 .1 .1 .1 .1 .0, tt)))) (g-room 𝓤 H A W E (G57 κs qs) 18 (tyInt w64) (room-sc 𝓤 H A W (sInt w64)))) (g-room 𝓤 H A W E (G58 κs qs) 19 (tyInt w64) (room-sc 𝓤 H A W (sInt w64)))) (g-room 𝓤 H A W E (G59 κs qs) 37 (tyInt w64) (room-sc 𝓤 H A W (sInt w64)))) (g-as-by 𝓤 H A W E (λ ρ. Unit) (G60 κs qs) 36 (whole (Declared'.row TopologyAnswer.the-type)) (λ v. struct .make v tt) (told-none 𝓤 H A ((G60 κs qs) .slots)) (λ ρ told v b. folds 𝓤 H A TopologyAnswer.the-type (struct .Ghost) (struct .make) (λ v g. refl) ρ v tt b))),
+      switches (G50 κs qs) (oFld 17 (variant 0 ∷ field 0 ∷ []) (tyInt w8) 0 (λ x. vint w8 (tagOf Prepared.the-type x))) w8 (λ u. tagOf Prepared.the-type (u .1 .1 .1 .1 .1 .1 .1 .1 .1 .1 .1 .1 .1 .1 .1 .1 .1 .0)) (reads-tag 𝓤 H A W Prepared.the-type Laws.the-laws (whole (Declared.row Prepared.the-type)) 0 (λ x. x) (reads-enum 𝓤 H A W Prepared.the-type Laws.the-laws), refl) (λ u. refl) (
+        ghosts (G50 κs qs) (G51 κs qs) (g-enum-known 𝓤 H A W E enum 0 (G50 κs qs) 17 (λ x. x) (as-is 𝓤 H A (whole (Declared.row Prepared.the-type)))) $
+            ghosts (G51 κs qs) (G51 κs qs) (g-known-told 𝓤 H A W E enum 0 (G51 κs qs) 17 Laws.the-laws (λ x. x) (as-is 𝓤 H A (whole (Known enum 0)))) $
+            stmt (G51 κs qs) _ (t-use 𝓤 H A W E 𝓣 (G51 κs qs) (oFld 17 (variant 0 ∷ field 1 ∷ []) (tyInt w64) 8 (λ v. Laws.the-laws .0 .0 .val (v .0))) 18 (sc-here (sInt w64)) (tyInt w64) (valS (sInt w64)) (sInt w64 .of) (reads-payload 𝓤 H A W enum Laws.the-laws 0 refl refl (λ v. vcons (Laws.the-laws .0 .0 .val (v .0)) (vcons (Laws.the-laws .0 .1 .0 .val (v .1 .0)) vnil)) (λ v. refl) 0 (tyInt w64) 8 refl, refl) (room-gone 𝓤 H A (tyInt w64)) (holds-sc 𝓤 H A W (sInt w64)) refl (λ u. refl) (λ u. tt)) $
+            stmt _ _ (t-use 𝓤 H A W E 𝓣 _ (oFld 17 (variant 0 ∷ field 2 ∷ []) (tyInt w64) 16 (λ v. Laws.the-laws .0 .1 .0 .val (v .1 .0))) 19 (sc-here (sInt w64)) (tyInt w64) (valS (sInt w64)) (sInt w64 .of) (reads-payload 𝓤 H A W enum Laws.the-laws 0 refl refl (λ v. vcons (Laws.the-laws .0 .0 .val (v .0)) (vcons (Laws.the-laws .0 .1 .0 .val (v .1 .0)) vnil)) (λ v. refl) 1 (tyInt w64) 16 refl, refl) (room-gone 𝓤 H A (tyInt w64)) (holds-sc 𝓤 H A W (sInt w64)) refl (λ u. refl) (λ u. tt)) $
+            ghosts _ (G55 κs qs) (g-room 𝓤 H A W E _ 17 _ (room-whole 𝓤 H A W (Known enum 0) _ refl)) $
+            stmt (G55 κs qs) (G56 κs qs) (t-use 𝓤 H A W E 𝓣 (G55 κs qs) (oAt 19 (tyInt w64) (valS (sInt w64))) 37 (sc-here (sInt w64)) (tyInt w64) (valS (sInt w64)) (sInt w64 .of) (reads-sc 𝓤 H A W (sInt w64), refl) (room-gone 𝓤 H A (tyInt w64)) (holds-sc 𝓤 H A W (sInt w64)) refl (λ u. refl) (λ u. tt)) $
+            last (G56 κs qs) (G30 κs qs) (then W (G56 κs qs) (G60 κs qs) (G30 κs qs) (then W (G56 κs qs) (G59 κs qs) (G60 κs qs) (then W (G56 κs qs) (G58 κs qs) (G59 κs qs) (then W (G56 κs qs) (G57 κs qs) (G58 κs qs) (t-struct-make 𝓤 H A W E 𝓣 (apartT TopologyAnswer.the-type) Laws'.the-laws Laws'.the-plain (G56 κs qs) 36 (oAt 18 (tyInt w64) (valS (sInt w64)) ∷ oAt 37 (tyInt w64) (valS (sInt w64)) ∷ []) (λ m. (m .1 .1 .1 .1 .1 .1 .1 .1 .1 .1 .1 .1 .1 .1 .1 .1 .1 .1 .0, (m .1 .1 .1 .1 .1 .1 .1 .1 .1 .1 .1 .1 .1 .1 .1 .1 .1 .1 .1 .1 .1 .1 .1 .1 .1 .1 .1 .1 .1 .1 .1 .1 .1 .1 .1 .1 .1 .0, tt))) (room-gone 𝓤 H A _) ((reads-sc 𝓤 H A W (sInt w64), refl), ((reads-sc 𝓤 H A W (sInt w64), refl), tt)) refl (λ u. refl) (λ m. is-wt (apartT TopologyAnswer.the-type) Laws'.the-laws (u64-wt, (u64-wt, tt)) (m .1 .1 .1 .1 .1 .1 .1 .1 .1 .1 .1 .1 .1 .1 .1 .1 .1 .1 .0, (m .1 .1 .1 .1 .1 .1 .1 .1 .1 .1 .1 .1 .1 .1 .1 .1 .1 .1 .1 .1 .1 .1 .1 .1 .1 .1 .1 .1 .1 .1 .1 .1 .1 .1 .1 .1 .1 .0, tt)))) (g-room 𝓤 H A W E (G57 κs qs) 18 (tyInt w64) (room-sc 𝓤 H A W (sInt w64)))) (g-room 𝓤 H A W E (G58 κs qs) 19 (tyInt w64) (room-sc 𝓤 H A W (sInt w64)))) (g-room 𝓤 H A W E (G59 κs qs) 37 (tyInt w64) (room-sc 𝓤 H A W (sInt w64)))) (g-as-by 𝓤 H A W E (λ ρ. Unit) (G60 κs qs) 36 (whole (Declared'.row TopologyAnswer.the-type)) (λ v. struct .make v tt) (told-none 𝓤 H A ((G60 κs qs) .slots)) (λ ρ told v b. folds 𝓤 H A TopologyAnswer.the-type (struct .Ghost) (struct .make) (λ v g. refl) ρ v tt b))),
         (
           ghosts (G50 κs qs) (G62 κs qs) (g-enum-known 𝓤 H A W E enum 1 (G50 κs qs) 17 (λ x. x) (as-is 𝓤 H A (whole (Declared.row Prepared.the-type)))) $
-          ghosts (G62 κs qs) (G62 κs qs) (g-known-told 𝓤 H A W E enum 1 (G62 κs qs) 17 Laws.the-laws (λ x. x) (as-is 𝓤 H A (whole (Known enum 1)))) $
-          stmt (G62 κs qs) _ (t-use 𝓤 H A W E 𝓣 (G62 κs qs) (oFld 17 (variant 1 ∷ field 1 ∷ []) (tyInt w64) 8 (λ v. Laws.the-laws .1 .0 .0 .val (v .0))) 20 (sc-here (sInt w64)) (tyInt w64) (valS (sInt w64)) (sInt w64 .of) (reads-payload 𝓤 H A W enum Laws.the-laws 1 refl refl (λ v. vcons (Laws.the-laws .1 .0 .0 .val (v .0)) (vcons (Laws.the-laws .1 .0 .1 .0 .val (v .1 .0)) vnil)) (λ v. refl) 0 (tyInt w64) 8 refl, refl) (room-gone 𝓤 H A (tyInt w64)) (holds-sc 𝓤 H A W (sInt w64)) refl (λ u. refl) (λ u. tt)) $
-          stmt _ _ (t-use 𝓤 H A W E 𝓣 _ (oFld 17 (variant 1 ∷ field 2 ∷ []) (tyInt w64) 16 (λ v. Laws.the-laws .1 .0 .1 .0 .val (v .1 .0))) 21 (sc-here (sInt w64)) (tyInt w64) (valS (sInt w64)) (sInt w64 .of) (reads-payload 𝓤 H A W enum Laws.the-laws 1 refl refl (λ v. vcons (Laws.the-laws .1 .0 .0 .val (v .0)) (vcons (Laws.the-laws .1 .0 .1 .0 .val (v .1 .0)) vnil)) (λ v. refl) 1 (tyInt w64) 16 refl, refl) (room-gone 𝓤 H A (tyInt w64)) (holds-sc 𝓤 H A W (sInt w64)) refl (λ u. refl) (λ u. tt)) $
-          ghosts _ (G66 κs qs) (g-room 𝓤 H A W E _ 17 _ (room-whole 𝓤 H A W (Known enum 1) _ refl)) $
-          stmt (G66 κs qs) _ (t-use 𝓤 H A W E 𝓣 (G66 κs qs) (oAt 2 (tyInt w64) (valS (sInt w64))) 22 (sc-here (sInt w64)) (tyInt w64) (valS (sInt w64)) (sInt w64 .of) (reads-sc 𝓤 H A W (sInt w64), refl) (room-gone 𝓤 H A (tyInt w64)) (holds-sc 𝓤 H A W (sInt w64)) refl (λ u. refl) (λ u. tt)) $
-          stmt _ _ (t-use 𝓤 H A W E 𝓣 _ (oAt 3 (tyInt w64) (valS (sInt w64))) 38 (sc-here (sInt w64)) (tyInt w64) (valS (sInt w64)) (sInt w64 .of) (reads-sc 𝓤 H A W (sInt w64), refl) (room-gone 𝓤 H A (tyInt w64)) (holds-sc 𝓤 H A W (sInt w64)) refl (λ u. refl) (λ u. tt)) $
-          stmt _ (G69 κs qs) (t-op2 𝓤 H A W E 𝓣 _ (mul unsigned) (oAt 38 (tyInt w64) (valS (sInt w64))) (oAt 22 (tyInt w64) (valS (sInt w64))) 23 (sc-here (sInt w64)) (tyInt w64) (valS (sInt w64)) (sInt w64 .of) (reads-sc 𝓤 H A W (sInt w64), refl) (reads-sc 𝓤 H A W (sInt w64), refl) (room-gone 𝓤 H A (tyInt w64)) (holds-sc 𝓤 H A W (sInt w64)) refl (λ u. refl) (λ u. tt)) $
-          ghosts (G69 κs qs) _ (g-room 𝓤 H A W E (G69 κs qs) 38 (tyInt w64) (room-sc 𝓤 H A W (sInt w64))) $
-          stmt _ (G71 κs qs) (t-repeat 𝓤 H A W E 𝓣 (rtF fBool) (bool-lawful 𝓤 H A W) (cRf fBool .copy 𝓤 H A W) (bool-makes 𝓤 H A W) 256 _ 24 (oBool false) (λ m. false) (room-gone 𝓤 H A (tyArray tyBool 256)) tt refl (λ m wa. refl)) $
-          ghosts (G71 κs qs) (G72 κs qs) (g-as-by 𝓤 H A W E (λ ρ. Unit) (G71 κs qs) 24 (arrF (rtF fBool) 256 0) (λ x. x) (told-none 𝓤 H A ((G71 κs qs) .slots)) (λ ρ told. whole-arr 𝓤 H A W (rtF fBool) 256 tt ρ)) $
-          ghosts (G72 κs qs) _ (g-begin 𝓤 H A W E (G72 κs qs) 16 _) $
-          stmt _ _ (t-sl-relend 𝓤 H A W E twin-0.the-row 𝓣 _ 13 40 9 16 (tyRef (named 9) mut (pointee (twin-0.the-row .written))) (tyRef erased mut (pointee (twin-0.the-row .written))) (lease (κs .1 .1 .1 .1 .1 .1 .1 .1 .1 .0) (qs .1 .1 .1 .1 .1 .1 .1 .1 .1 .0)) 0 (λ x. x) (as-is 𝓤 H A (mslice twin-0.the-row (tyRef (named 9) mut (pointee (twin-0.the-row .written))) 9)) (room-gone 𝓤 H A (tyRef erased mut (pointee (twin-0.the-row .written)))) refl tt refl refl refl (λ b o. tt)) $
-          stmt _ (G75 κs qs) (t-sl-aggregate 𝓤 H A W E twin-0.the-row 𝓣 (asMut twin-0.the-row) _ 40 41 16 (tyRef erased mut (pointee (twin-0.the-row .written))) (tyRef erased mut (pointee (twin-0.the-row .written))) (λ x. x) (oFld 13 (field 1 ∷ []) (tyInt w64) 8 (λ v. lenV (v .0))) (as-is 𝓤 H A (msptr twin-0.the-row (tyRef erased mut (pointee (twin-0.the-row .written))) 16)) (room-gone 𝓤 H A _) (reads-owed-len 𝓤 H A W twin-0.the-row (tyRef (named 9) mut (pointee (twin-0.the-row .written))) 9 16 (lease (κs .1 .1 .1 .1 .1 .1 .1 .1 .1 .0) (qs .1 .1 .1 .1 .1 .1 .1 .1 .1 .0)) 8 refl, refl) refl refl (λ b o k. tt)) $
-          ghosts (G75 κs qs) _ (g-begin 𝓤 H A W E (G75 κs qs) 17 _) $
-          stmt _ _ (t-sl-reshare 𝓤 H A W E (rtF (fInt w32)) 𝓣 _ 8 42 4 17 (tyRef (named 4) mut (tyInt w32)) (tyRef erased imm (tyInt w32)) (lease (κs .1 .1 .1 .1 .0) (qs .1 .1 .1 .1 .0)) 0 (λ x. x) (as-is 𝓤 H A (mslice (rtF (fInt w32)) (tyRef (named 4) mut (tyInt w32)) 4)) (room-gone 𝓤 H A (tyRef erased imm (tyInt w32))) refl tt refl refl refl (λ b o. tt)) $
-          stmt _ (G78 κs qs) (t-sl-aggregate 𝓤 H A W E (rtF (fInt w32)) 𝓣 (asShr (rtF (fInt w32))) _ 42 43 17 (tyRef erased imm (tyInt w32)) (tyRef erased imm (tyInt w32)) (λ x. x) (oFld 8 (field 1 ∷ []) (tyInt w64) 8 (λ v. lenV (v .0))) (as-is 𝓤 H A (ssptr (rtF (fInt w32)) (tyRef erased imm (tyInt w32)) 17)) (room-gone 𝓤 H A _) (reads-owedS-len 𝓤 H A W (rtF (fInt w32)) (tyRef (named 4) mut (tyInt w32)) 4 17 (lease (κs .1 .1 .1 .1 .0) (qs .1 .1 .1 .1 .0)) 8 refl, refl) refl refl (λ b o k. tt)) $
-          ghosts (G78 κs qs) _ (g-begin 𝓤 H A W E (G78 κs qs) 18 _) $
-          stmt _ _ (t-sl-reshare 𝓤 H A W E (rtF (fInt w32)) 𝓣 _ 10 44 6 18 (tyRef (named 6) mut (tyInt w32)) (tyRef erased imm (tyInt w32)) (lease (κs .1 .1 .1 .1 .1 .1 .0) (qs .1 .1 .1 .1 .1 .1 .0)) 0 (λ x. x) (as-is 𝓤 H A (mslice (rtF (fInt w32)) (tyRef (named 6) mut (tyInt w32)) 6)) (room-gone 𝓤 H A (tyRef erased imm (tyInt w32))) refl tt refl refl refl (λ b o. tt)) $
-          stmt _ (G81 κs qs) (t-sl-aggregate 𝓤 H A W E (rtF (fInt w32)) 𝓣 (asShr (rtF (fInt w32))) _ 44 45 18 (tyRef erased imm (tyInt w32)) (tyRef erased imm (tyInt w32)) (λ x. x) (oFld 10 (field 1 ∷ []) (tyInt w64) 8 (λ v. lenV (v .0))) (as-is 𝓤 H A (ssptr (rtF (fInt w32)) (tyRef erased imm (tyInt w32)) 18)) (room-gone 𝓤 H A _) (reads-owedS-len 𝓤 H A W (rtF (fInt w32)) (tyRef (named 6) mut (tyInt w32)) 6 18 (lease (κs .1 .1 .1 .1 .1 .1 .0) (qs .1 .1 .1 .1 .1 .1 .0)) 8 refl, refl) refl refl (λ b o k. tt)) $
-          stmt (G81 κs qs) (G82 κs qs) (t-call-plain 𝓤 H A W 𝓣 4 K1.ps K1.r R1.Asked R1.Learnt "topology::records::fill" known1 E (λ pos β. β) (G81 κs qs) (record { pos = 41; ty = tyRef erased mut (pointee (twin-0.the-row .written)); ref = λ x. x }, (vAt 20 (λ x. x), (vAt 22 (λ x. x), (record { pos = 4; ty = tyRef (named 0) imm (tyInt w8); ref = λ x. x }, (record { pos = 43; ty = tyRef erased imm (tyInt w32); ref = λ x. x }, (record { pos = 45; ty = tyRef erased imm (tyInt w32); ref = λ x. x }, tt)))))) 39 (16 ∷ 0 ∷ 17 ∷ 18 ∷ []) (sub-id 𝓤 H A W ((G81 κs qs) .slots)) (as-is 𝓤 H A (mslice twin-0.the-row (tyRef erased mut (pointee (twin-0.the-row .written))) 16), reads-mslice 𝓤 H A W twin-0.the-row (tyRef erased mut (pointee (twin-0.the-row .written))) 16, refl, ((reads-sc 𝓤 H A W (sInt w64), refl), ((reads-sc 𝓤 H A W (sInt w64), refl), (spares-sslice 𝓤 H A W (rtF (fInt w8)) (tyRef (named 0) imm (tyInt w8)) 0, reads-sslice 𝓤 H A W (rtF (fInt w8)) (tyRef (named 0) imm (tyInt w8)) 0, refl, (spares-sslice 𝓤 H A W (rtF (fInt w32)) (tyRef erased imm (tyInt w32)) 17, reads-sslice 𝓤 H A W (rtF (fInt w32)) (tyRef erased imm (tyInt w32)) 17, refl, (spares-sslice 𝓤 H A W (rtF (fInt w32)) (tyRef erased imm (tyInt w32)) 18, reads-sslice 𝓤 H A W (rtF (fInt w32)) (tyRef erased imm (tyInt w32)) 18, refl, tt)))))) (room-gone 𝓤 H A tyUnit) _ refl) $
-          ghosts (G82 κs qs) _ (g-room 𝓤 H A W E (G82 κs qs) 43 _ (room-sslice 𝓤 H A W (rtF (fInt w32)) (tyRef erased imm (tyInt w32)) 17)) $
-          ghosts _ _ (g-room 𝓤 H A W E _ 45 _ (room-sslice 𝓤 H A W (rtF (fInt w32)) (tyRef erased imm (tyInt w32)) 18)) $
-          ghosts _ (G85 κs qs) (g-room 𝓤 H A W E _ 39 tyUnit (room-sc 𝓤 H A W sUnit)) $
-          ghosts (G85 κs qs) _ (g-end 𝓤 H A W E (G85 κs qs) 16 refl) $
-          ghosts _ _ (g-back-sl 𝓤 H A W E twin-0.the-row _ 41 13 9 16 (tyRef (named 9) mut (pointee (twin-0.the-row .written))) (tyRef erased mut (pointee (twin-0.the-row .written))) (lease (κs .1 .1 .1 .1 .1 .1 .1 .1 .1 .0) (qs .1 .1 .1 .1 .1 .1 .1 .1 .1 .0)) (λ x. x) (λ x. x) (as-is 𝓤 H A (msleft twin-0.the-row (tyRef erased mut (pointee (twin-0.the-row .written))))) (as-is 𝓤 H A (mslice-owed twin-0.the-row (tyRef (named 9) mut (pointee (twin-0.the-row .written))) 9 16 (lease (κs .1 .1 .1 .1 .1 .1 .1 .1 .1 .0) (qs .1 .1 .1 .1 .1 .1 .1 .1 .1 .0)))) refl refl) $
-          ghosts _ (G88 κs qs) (g-forget 𝓤 H A W E _ 16 dead refl) $
-          ghosts (G88 κs qs) _ (g-end 𝓤 H A W E (G88 κs qs) 17 refl) $
-          ghosts _ _ (g-back-sl-shr 𝓤 H A W E (rtF (fInt w32)) _ 8 4 17 (tyRef (named 4) mut (tyInt w32)) (lease (κs .1 .1 .1 .1 .0) (qs .1 .1 .1 .1 .0)) (λ x. x) (as-is 𝓤 H A (mslice-owedS (rtF (fInt w32)) (tyRef (named 4) mut (tyInt w32)) 4 17 (lease (κs .1 .1 .1 .1 .0) (qs .1 .1 .1 .1 .0)))) refl refl) $
-          ghosts _ (G91 κs qs) (g-forget 𝓤 H A W E _ 17 dead refl) $
-          ghosts (G91 κs qs) _ (g-end 𝓤 H A W E (G91 κs qs) 18 refl) $
-          ghosts _ _ (g-back-sl-shr 𝓤 H A W E (rtF (fInt w32)) _ 10 6 18 (tyRef (named 6) mut (tyInt w32)) (lease (κs .1 .1 .1 .1 .1 .1 .0) (qs .1 .1 .1 .1 .1 .1 .0)) (λ x. x) (as-is 𝓤 H A (mslice-owedS (rtF (fInt w32)) (tyRef (named 6) mut (tyInt w32)) 6 18 (lease (κs .1 .1 .1 .1 .1 .1 .0) (qs .1 .1 .1 .1 .1 .1 .0)))) refl refl) $
-          ghosts _ (G72 κs qs) (g-forget 𝓤 H A W E _ 18 dead refl) $
-          from-marks,
-        tt))
+              ghosts (G62 κs qs) (G62 κs qs) (g-known-told 𝓤 H A W E enum 1 (G62 κs qs) 17 Laws.the-laws (λ x. x) (as-is 𝓤 H A (whole (Known enum 1)))) $
+              stmt (G62 κs qs) _ (t-use 𝓤 H A W E 𝓣 (G62 κs qs) (oFld 17 (variant 1 ∷ field 1 ∷ []) (tyInt w64) 8 (λ v. Laws.the-laws .1 .0 .0 .val (v .0))) 20 (sc-here (sInt w64)) (tyInt w64) (valS (sInt w64)) (sInt w64 .of) (reads-payload 𝓤 H A W enum Laws.the-laws 1 refl refl (λ v. vcons (Laws.the-laws .1 .0 .0 .val (v .0)) (vcons (Laws.the-laws .1 .0 .1 .0 .val (v .1 .0)) vnil)) (λ v. refl) 0 (tyInt w64) 8 refl, refl) (room-gone 𝓤 H A (tyInt w64)) (holds-sc 𝓤 H A W (sInt w64)) refl (λ u. refl) (λ u. tt)) $
+              stmt _ _ (t-use 𝓤 H A W E 𝓣 _ (oFld 17 (variant 1 ∷ field 2 ∷ []) (tyInt w64) 16 (λ v. Laws.the-laws .1 .0 .1 .0 .val (v .1 .0))) 21 (sc-here (sInt w64)) (tyInt w64) (valS (sInt w64)) (sInt w64 .of) (reads-payload 𝓤 H A W enum Laws.the-laws 1 refl refl (λ v. vcons (Laws.the-laws .1 .0 .0 .val (v .0)) (vcons (Laws.the-laws .1 .0 .1 .0 .val (v .1 .0)) vnil)) (λ v. refl) 1 (tyInt w64) 16 refl, refl) (room-gone 𝓤 H A (tyInt w64)) (holds-sc 𝓤 H A W (sInt w64)) refl (λ u. refl) (λ u. tt)) $
+              ghosts _ (G66 κs qs) (g-room 𝓤 H A W E _ 17 _ (room-whole 𝓤 H A W (Known enum 1) _ refl)) $
+              stmt (G66 κs qs) _ (t-use 𝓤 H A W E 𝓣 (G66 κs qs) (oAt 2 (tyInt w64) (valS (sInt w64))) 22 (sc-here (sInt w64)) (tyInt w64) (valS (sInt w64)) (sInt w64 .of) (reads-sc 𝓤 H A W (sInt w64), refl) (room-gone 𝓤 H A (tyInt w64)) (holds-sc 𝓤 H A W (sInt w64)) refl (λ u. refl) (λ u. tt)) $
+              stmt _ _ (t-use 𝓤 H A W E 𝓣 _ (oAt 3 (tyInt w64) (valS (sInt w64))) 38 (sc-here (sInt w64)) (tyInt w64) (valS (sInt w64)) (sInt w64 .of) (reads-sc 𝓤 H A W (sInt w64), refl) (room-gone 𝓤 H A (tyInt w64)) (holds-sc 𝓤 H A W (sInt w64)) refl (λ u. refl) (λ u. tt)) $
+              stmt _ (G69 κs qs) (t-op2 𝓤 H A W E 𝓣 _ (mul unsigned) (oAt 38 (tyInt w64) (valS (sInt w64))) (oAt 22 (tyInt w64) (valS (sInt w64))) 23 (sc-here (sInt w64)) (tyInt w64) (valS (sInt w64)) (sInt w64 .of) (reads-sc 𝓤 H A W (sInt w64), refl) (reads-sc 𝓤 H A W (sInt w64), refl) (room-gone 𝓤 H A (tyInt w64)) (holds-sc 𝓤 H A W (sInt w64)) refl (λ u. refl) (λ u. tt)) $
+              ghosts (G69 κs qs) _ (g-room 𝓤 H A W E (G69 κs qs) 38 (tyInt w64) (room-sc 𝓤 H A W (sInt w64))) $
+              stmt _ (G71 κs qs) (t-repeat 𝓤 H A W E 𝓣 (rtF fBool) (bool-lawful 𝓤 H A W) (cRf fBool .copy 𝓤 H A W) (bool-makes 𝓤 H A W) 256 _ 24 (oBool false) (λ m. false) (room-gone 𝓤 H A (tyArray tyBool 256)) tt refl (λ m wa. refl)) $
+              ghosts (G71 κs qs) (G72 κs qs) (g-as-by 𝓤 H A W E (λ ρ. Unit) (G71 κs qs) 24 (arrF (rtF fBool) 256 0) (λ x. x) (told-none 𝓤 H A ((G71 κs qs) .slots)) (λ ρ told. whole-arr 𝓤 H A W (rtF fBool) 256 tt ρ)) $
+              ghosts (G72 κs qs) _ (g-begin 𝓤 H A W E (G72 κs qs) 16 _) $
+              stmt _ _ (t-sl-relend 𝓤 H A W E twin-0.the-row 𝓣 _ 13 40 9 16 (tyRef (named 9) mut (pointee (twin-0.the-row .written))) (tyRef erased mut (pointee (twin-0.the-row .written))) (lease (κs .1 .1 .1 .1 .1 .1 .1 .1 .1 .0) (qs .1 .1 .1 .1 .1 .1 .1 .1 .1 .0)) 0 (λ x. x) (as-is 𝓤 H A (mslice twin-0.the-row (tyRef (named 9) mut (pointee (twin-0.the-row .written))) 9)) (room-gone 𝓤 H A (tyRef erased mut (pointee (twin-0.the-row .written)))) refl tt refl refl refl (λ b o. tt)) $
+              stmt _ (G75 κs qs) (t-sl-aggregate 𝓤 H A W E twin-0.the-row 𝓣 (asMut twin-0.the-row) _ 40 41 16 (tyRef erased mut (pointee (twin-0.the-row .written))) (tyRef erased mut (pointee (twin-0.the-row .written))) (λ x. x) (oFld 13 (field 1 ∷ []) (tyInt w64) 8 (λ v. lenV (v .0))) (as-is 𝓤 H A (msptr twin-0.the-row (tyRef erased mut (pointee (twin-0.the-row .written))) 16)) (room-gone 𝓤 H A _) (reads-owed-len 𝓤 H A W twin-0.the-row (tyRef (named 9) mut (pointee (twin-0.the-row .written))) 9 16 (lease (κs .1 .1 .1 .1 .1 .1 .1 .1 .1 .0) (qs .1 .1 .1 .1 .1 .1 .1 .1 .1 .0)) 8 refl, refl) refl refl (λ b o k. tt)) $
+              ghosts (G75 κs qs) _ (g-begin 𝓤 H A W E (G75 κs qs) 17 _) $
+              stmt _ _ (t-sl-reshare 𝓤 H A W E (rtF (fInt w32)) 𝓣 _ 8 42 4 17 (tyRef (named 4) mut (tyInt w32)) (tyRef erased imm (tyInt w32)) (lease (κs .1 .1 .1 .1 .0) (qs .1 .1 .1 .1 .0)) 0 (λ x. x) (as-is 𝓤 H A (mslice (rtF (fInt w32)) (tyRef (named 4) mut (tyInt w32)) 4)) (room-gone 𝓤 H A (tyRef erased imm (tyInt w32))) refl tt refl refl refl (λ b o. tt)) $
+              stmt _ (G78 κs qs) (t-sl-aggregate 𝓤 H A W E (rtF (fInt w32)) 𝓣 (asShr (rtF (fInt w32))) _ 42 43 17 (tyRef erased imm (tyInt w32)) (tyRef erased imm (tyInt w32)) (λ x. x) (oFld 8 (field 1 ∷ []) (tyInt w64) 8 (λ v. lenV (v .0))) (as-is 𝓤 H A (ssptr (rtF (fInt w32)) (tyRef erased imm (tyInt w32)) 17)) (room-gone 𝓤 H A _) (reads-owedS-len 𝓤 H A W (rtF (fInt w32)) (tyRef (named 4) mut (tyInt w32)) 4 17 (lease (κs .1 .1 .1 .1 .0) (qs .1 .1 .1 .1 .0)) 8 refl, refl) refl refl (λ b o k. tt)) $
+              ghosts (G78 κs qs) _ (g-begin 𝓤 H A W E (G78 κs qs) 18 _) $
+              stmt _ _ (t-sl-reshare 𝓤 H A W E (rtF (fInt w32)) 𝓣 _ 10 44 6 18 (tyRef (named 6) mut (tyInt w32)) (tyRef erased imm (tyInt w32)) (lease (κs .1 .1 .1 .1 .1 .1 .0) (qs .1 .1 .1 .1 .1 .1 .0)) 0 (λ x. x) (as-is 𝓤 H A (mslice (rtF (fInt w32)) (tyRef (named 6) mut (tyInt w32)) 6)) (room-gone 𝓤 H A (tyRef erased imm (tyInt w32))) refl tt refl refl refl (λ b o. tt)) $
+              stmt _ (G81 κs qs) (t-sl-aggregate 𝓤 H A W E (rtF (fInt w32)) 𝓣 (asShr (rtF (fInt w32))) _ 44 45 18 (tyRef erased imm (tyInt w32)) (tyRef erased imm (tyInt w32)) (λ x. x) (oFld 10 (field 1 ∷ []) (tyInt w64) 8 (λ v. lenV (v .0))) (as-is 𝓤 H A (ssptr (rtF (fInt w32)) (tyRef erased imm (tyInt w32)) 18)) (room-gone 𝓤 H A _) (reads-owedS-len 𝓤 H A W (rtF (fInt w32)) (tyRef (named 6) mut (tyInt w32)) 6 18 (lease (κs .1 .1 .1 .1 .1 .1 .0) (qs .1 .1 .1 .1 .1 .1 .0)) 8 refl, refl) refl refl (λ b o k. tt)) $
+              stmt (G81 κs qs) (G82 κs qs) (t-call-plain 𝓤 H A W 𝓣 4 K1.ps K1.r R1.Asked R1.Learnt "topology::records::fill" known1 E (λ pos β. β) (G81 κs qs) (record { pos = 41; ty = tyRef erased mut (pointee (twin-0.the-row .written)); ref = λ x. x }, (vAt 20 (λ x. x), (vAt 22 (λ x. x), (record { pos = 4; ty = tyRef (named 0) imm (tyInt w8); ref = λ x. x }, (record { pos = 43; ty = tyRef erased imm (tyInt w32); ref = λ x. x }, (record { pos = 45; ty = tyRef erased imm (tyInt w32); ref = λ x. x }, tt)))))) 39 (16 ∷ 0 ∷ 17 ∷ 18 ∷ []) (sub-id 𝓤 H A W ((G81 κs qs) .slots)) (as-is 𝓤 H A (mslice twin-0.the-row (tyRef erased mut (pointee (twin-0.the-row .written))) 16), reads-mslice 𝓤 H A W twin-0.the-row (tyRef erased mut (pointee (twin-0.the-row .written))) 16, refl, ((reads-sc 𝓤 H A W (sInt w64), refl), ((reads-sc 𝓤 H A W (sInt w64), refl), (spares-sslice 𝓤 H A W (rtF (fInt w8)) (tyRef (named 0) imm (tyInt w8)) 0, reads-sslice 𝓤 H A W (rtF (fInt w8)) (tyRef (named 0) imm (tyInt w8)) 0, refl, (spares-sslice 𝓤 H A W (rtF (fInt w32)) (tyRef erased imm (tyInt w32)) 17, reads-sslice 𝓤 H A W (rtF (fInt w32)) (tyRef erased imm (tyInt w32)) 17, refl, (spares-sslice 𝓤 H A W (rtF (fInt w32)) (tyRef erased imm (tyInt w32)) 18, reads-sslice 𝓤 H A W (rtF (fInt w32)) (tyRef erased imm (tyInt w32)) 18, refl, tt)))))) (room-gone 𝓤 H A tyUnit) _ refl) $
+              ghosts (G82 κs qs) _ (g-room 𝓤 H A W E (G82 κs qs) 43 _ (room-sslice 𝓤 H A W (rtF (fInt w32)) (tyRef erased imm (tyInt w32)) 17)) $
+              ghosts _ _ (g-room 𝓤 H A W E _ 45 _ (room-sslice 𝓤 H A W (rtF (fInt w32)) (tyRef erased imm (tyInt w32)) 18)) $
+              ghosts _ (G85 κs qs) (g-room 𝓤 H A W E _ 39 tyUnit (room-sc 𝓤 H A W sUnit)) $
+              ghosts (G85 κs qs) _ (g-end 𝓤 H A W E (G85 κs qs) 16 refl) $
+              ghosts _ _ (g-back-sl 𝓤 H A W E twin-0.the-row _ 41 13 9 16 (tyRef (named 9) mut (pointee (twin-0.the-row .written))) (tyRef erased mut (pointee (twin-0.the-row .written))) (lease (κs .1 .1 .1 .1 .1 .1 .1 .1 .1 .0) (qs .1 .1 .1 .1 .1 .1 .1 .1 .1 .0)) (λ x. x) (λ x. x) (as-is 𝓤 H A (msleft twin-0.the-row (tyRef erased mut (pointee (twin-0.the-row .written))))) (as-is 𝓤 H A (mslice-owed twin-0.the-row (tyRef (named 9) mut (pointee (twin-0.the-row .written))) 9 16 (lease (κs .1 .1 .1 .1 .1 .1 .1 .1 .1 .0) (qs .1 .1 .1 .1 .1 .1 .1 .1 .1 .0)))) refl refl) $
+              ghosts _ (G88 κs qs) (g-forget 𝓤 H A W E _ 16 dead refl) $
+              ghosts (G88 κs qs) _ (g-end 𝓤 H A W E (G88 κs qs) 17 refl) $
+              ghosts _ _ (g-back-sl-shr 𝓤 H A W E (rtF (fInt w32)) _ 8 4 17 (tyRef (named 4) mut (tyInt w32)) (lease (κs .1 .1 .1 .1 .0) (qs .1 .1 .1 .1 .0)) (λ x. x) (as-is 𝓤 H A (mslice-owedS (rtF (fInt w32)) (tyRef (named 4) mut (tyInt w32)) 4 17 (lease (κs .1 .1 .1 .1 .0) (qs .1 .1 .1 .1 .0)))) refl refl) $
+              ghosts _ (G91 κs qs) (g-forget 𝓤 H A W E _ 17 dead refl) $
+              ghosts (G91 κs qs) _ (g-end 𝓤 H A W E (G91 κs qs) 18 refl) $
+              ghosts _ _ (g-back-sl-shr 𝓤 H A W E (rtF (fInt w32)) _ 10 6 18 (tyRef (named 6) mut (tyInt w32)) (lease (κs .1 .1 .1 .1 .1 .1 .0) (qs .1 .1 .1 .1 .1 .1 .0)) (λ x. x) (as-is 𝓤 H A (mslice-owedS (rtF (fInt w32)) (tyRef (named 6) mut (tyInt w32)) 6 18 (lease (κs .1 .1 .1 .1 .1 .1 .0) (qs .1 .1 .1 .1 .1 .1 .0)))) refl refl) $
+              ghosts _ (G72 κs qs) (g-forget 𝓤 H A W E _ 18 dead refl) $
+              from-marks,
+          tt,
+        ),
+      )
 
   abbrev pub d : Der W 𝓣 E (Γin 11 ps r xs m κs qs) (code.function .body) (Δret 11 ps r xs m κs qs)
   d =
@@ -629,20 +642,20 @@ module _ {M : Type 1} (𝓤 : URA M) (H : Heap 𝓤) (A : Atoms 𝓤) (W : Given
       stmt _ (G28 κs qs) (t-sl-aggregate 𝓤 H A W E (rtF (fInt w32)) 𝓣 (asMut (rtF (fInt w32))) _ 34 35 15 (tyRef erased mut (tyInt w32)) (tyRef erased mut (tyInt w32)) (λ x. x) (oFld 12 (field 1 ∷ []) (tyInt w64) 8 (λ v. lenV (v .0))) (as-is 𝓤 H A (msptr (rtF (fInt w32)) (tyRef erased mut (tyInt w32)) 15)) (room-gone 𝓤 H A _) (reads-owed-len 𝓤 H A W (rtF (fInt w32)) (tyRef (named 8) mut (tyInt w32)) 8 15 (lease (κs .1 .1 .1 .1 .1 .1 .1 .1 .0) (qs .1 .1 .1 .1 .1 .1 .1 .1 .0)) 8 refl, refl) refl refl (λ b o k. tt)) $
       stmt (G28 κs qs) (G29 κs qs) (t-call-plain 𝓤 H A W 𝓣 9 K0.ps K0.r R0.Asked R0.Learnt "calls::prepare" known0 E (λ pos β. β) (G28 κs qs) (vAt 1 (λ x. x), (vAt 2 (λ x. x), (vAt 3 (λ x. x), (record { pos = 4; ty = tyRef (named 0) imm (tyInt w8); ref = λ x. x }, (record { pos = 5; ty = tyRef (named 1) imm (tyInt w64); ref = λ x. x }, (record { pos = 6; ty = tyRef (named 2) imm (tyInt w64); ref = λ x. x }, (record { pos = 7; ty = tyRef (named 3) imm (tyInt w64); ref = λ x. x }, (vAt 15 (λ x. x), (vAt 16 (λ x. x), (record { pos = 27; ty = tyRef erased mut (tyInt w32); ref = λ x. x }, (record { pos = 29; ty = tyRef erased mut (tyInt w16); ref = λ x. x }, (record { pos = 31; ty = tyRef erased mut (tyInt w32); ref = λ x. x }, (record { pos = 33; ty = tyRef erased mut (tyInt w32); ref = λ x. x }, (record { pos = 35; ty = tyRef erased mut (tyInt w32); ref = λ x. x }, tt)))))))))))))) 17 (0 ∷ 1 ∷ 2 ∷ 3 ∷ 11 ∷ 12 ∷ 13 ∷ 14 ∷ 15 ∷ []) (sub-id 𝓤 H A W ((G28 κs qs) .slots)) ((reads-sc 𝓤 H A W (sInt w64), refl), ((reads-sc 𝓤 H A W (sInt w64), refl), ((reads-sc 𝓤 H A W (sInt w64), refl), (spares-sslice 𝓤 H A W (rtF (fInt w8)) (tyRef (named 0) imm (tyInt w8)) 0, reads-sslice 𝓤 H A W (rtF (fInt w8)) (tyRef (named 0) imm (tyInt w8)) 0, refl, (spares-sslice 𝓤 H A W (rtF (fInt w64)) (tyRef (named 1) imm (tyInt w64)) 1, reads-sslice 𝓤 H A W (rtF (fInt w64)) (tyRef (named 1) imm (tyInt w64)) 1, refl, (spares-sslice 𝓤 H A W (rtF (fInt w64)) (tyRef (named 2) imm (tyInt w64)) 2, reads-sslice 𝓤 H A W (rtF (fInt w64)) (tyRef (named 2) imm (tyInt w64)) 2, refl, (spares-sslice 𝓤 H A W (rtF (fInt w64)) (tyRef (named 3) imm (tyInt w64)) 3, reads-sslice 𝓤 H A W (rtF (fInt w64)) (tyRef (named 3) imm (tyInt w64)) 3, refl, ((reads-sc 𝓤 H A W (sInt w64), refl), ((reads-sc 𝓤 H A W (sInt w64), refl), (as-is 𝓤 H A (mslice (rtF (fInt w32)) (tyRef erased mut (tyInt w32)) 11), reads-mslice 𝓤 H A W (rtF (fInt w32)) (tyRef erased mut (tyInt w32)) 11, refl, (as-is 𝓤 H A (mslice (rtF (fInt w16)) (tyRef erased mut (tyInt w16)) 12), reads-mslice 𝓤 H A W (rtF (fInt w16)) (tyRef erased mut (tyInt w16)) 12, refl, (as-is 𝓤 H A (mslice (rtF (fInt w32)) (tyRef erased mut (tyInt w32)) 13), reads-mslice 𝓤 H A W (rtF (fInt w32)) (tyRef erased mut (tyInt w32)) 13, refl, (as-is 𝓤 H A (mslice (rtF (fInt w32)) (tyRef erased mut (tyInt w32)) 14), reads-mslice 𝓤 H A W (rtF (fInt w32)) (tyRef erased mut (tyInt w32)) 14, refl, (as-is 𝓤 H A (mslice (rtF (fInt w32)) (tyRef erased mut (tyInt w32)) 15), reads-mslice 𝓤 H A W (rtF (fInt w32)) (tyRef erased mut (tyInt w32)) 15, refl, tt)))))))))))))) (room-gone 𝓤 H A _) _ refl) $
       first (G29 κs qs) (G30 κs qs) (
-        ghosts (G29 κs qs) _ (g-end 𝓤 H A W E (G29 κs qs) 11 refl) $
-        ghosts _ _ (g-back-sl 𝓤 H A W E (rtF (fInt w32)) _ 27 8 4 11 (tyRef (named 4) mut (tyInt w32)) (tyRef erased mut (tyInt w32)) (lease (κs .1 .1 .1 .1 .0) (qs .1 .1 .1 .1 .0)) (λ x. x) (λ x. x) (as-is 𝓤 H A (msleft (rtF (fInt w32)) (tyRef erased mut (tyInt w32)))) (as-is 𝓤 H A (mslice-owed (rtF (fInt w32)) (tyRef (named 4) mut (tyInt w32)) 4 11 (lease (κs .1 .1 .1 .1 .0) (qs .1 .1 .1 .1 .0)))) refl refl) $
-        ghosts _ (G34 κs qs) (g-forget 𝓤 H A W E _ 11 dead refl) $
-        ghosts (G34 κs qs) _ (g-end 𝓤 H A W E (G34 κs qs) 12 refl) $
-        ghosts _ _ (g-back-sl 𝓤 H A W E (rtF (fInt w16)) _ 29 9 5 12 (tyRef (named 5) mut (tyInt w16)) (tyRef erased mut (tyInt w16)) (lease (κs .1 .1 .1 .1 .1 .0) (qs .1 .1 .1 .1 .1 .0)) (λ x. x) (λ x. x) (as-is 𝓤 H A (msleft (rtF (fInt w16)) (tyRef erased mut (tyInt w16)))) (as-is 𝓤 H A (mslice-owed (rtF (fInt w16)) (tyRef (named 5) mut (tyInt w16)) 5 12 (lease (κs .1 .1 .1 .1 .1 .0) (qs .1 .1 .1 .1 .1 .0)))) refl refl) $
-        ghosts _ (G38 κs qs) (g-forget 𝓤 H A W E _ 12 dead refl) $
-        ghosts (G38 κs qs) _ (g-end 𝓤 H A W E (G38 κs qs) 13 refl) $
-        ghosts _ _ (g-back-sl 𝓤 H A W E (rtF (fInt w32)) _ 31 10 6 13 (tyRef (named 6) mut (tyInt w32)) (tyRef erased mut (tyInt w32)) (lease (κs .1 .1 .1 .1 .1 .1 .0) (qs .1 .1 .1 .1 .1 .1 .0)) (λ x. x) (λ x. x) (as-is 𝓤 H A (msleft (rtF (fInt w32)) (tyRef erased mut (tyInt w32)))) (as-is 𝓤 H A (mslice-owed (rtF (fInt w32)) (tyRef (named 6) mut (tyInt w32)) 6 13 (lease (κs .1 .1 .1 .1 .1 .1 .0) (qs .1 .1 .1 .1 .1 .1 .0)))) refl refl) $
-        ghosts _ (G42 κs qs) (g-forget 𝓤 H A W E _ 13 dead refl) $
-        ghosts (G42 κs qs) _ (g-end 𝓤 H A W E (G42 κs qs) 14 refl) $
-        ghosts _ _ (g-back-sl 𝓤 H A W E (rtF (fInt w32)) _ 33 11 7 14 (tyRef (named 7) mut (tyInt w32)) (tyRef erased mut (tyInt w32)) (lease (κs .1 .1 .1 .1 .1 .1 .1 .0) (qs .1 .1 .1 .1 .1 .1 .1 .0)) (λ x. x) (λ x. x) (as-is 𝓤 H A (msleft (rtF (fInt w32)) (tyRef erased mut (tyInt w32)))) (as-is 𝓤 H A (mslice-owed (rtF (fInt w32)) (tyRef (named 7) mut (tyInt w32)) 7 14 (lease (κs .1 .1 .1 .1 .1 .1 .1 .0) (qs .1 .1 .1 .1 .1 .1 .1 .0)))) refl refl) $
-        ghosts _ (G46 κs qs) (g-forget 𝓤 H A W E _ 14 dead refl) $
-        ghosts (G46 κs qs) _ (g-end 𝓤 H A W E (G46 κs qs) 15 refl) $
-        ghosts _ _ (g-back-sl 𝓤 H A W E (rtF (fInt w32)) _ 35 12 8 15 (tyRef (named 8) mut (tyInt w32)) (tyRef erased mut (tyInt w32)) (lease (κs .1 .1 .1 .1 .1 .1 .1 .1 .0) (qs .1 .1 .1 .1 .1 .1 .1 .1 .0)) (λ x. x) (λ x. x) (as-is 𝓤 H A (msleft (rtF (fInt w32)) (tyRef erased mut (tyInt w32)))) (as-is 𝓤 H A (mslice-owed (rtF (fInt w32)) (tyRef (named 8) mut (tyInt w32)) 8 15 (lease (κs .1 .1 .1 .1 .1 .1 .1 .1 .0) (qs .1 .1 .1 .1 .1 .1 .1 .1 .0)))) refl refl) $
-        ghosts _ (G50 κs qs) (g-forget 𝓤 H A W E _ 15 dead refl) $
-        from-match) $
+      ghosts (G29 κs qs) _ (g-end 𝓤 H A W E (G29 κs qs) 11 refl) $
+      ghosts _ _ (g-back-sl 𝓤 H A W E (rtF (fInt w32)) _ 27 8 4 11 (tyRef (named 4) mut (tyInt w32)) (tyRef erased mut (tyInt w32)) (lease (κs .1 .1 .1 .1 .0) (qs .1 .1 .1 .1 .0)) (λ x. x) (λ x. x) (as-is 𝓤 H A (msleft (rtF (fInt w32)) (tyRef erased mut (tyInt w32)))) (as-is 𝓤 H A (mslice-owed (rtF (fInt w32)) (tyRef (named 4) mut (tyInt w32)) 4 11 (lease (κs .1 .1 .1 .1 .0) (qs .1 .1 .1 .1 .0)))) refl refl) $
+      ghosts _ (G34 κs qs) (g-forget 𝓤 H A W E _ 11 dead refl) $
+      ghosts (G34 κs qs) _ (g-end 𝓤 H A W E (G34 κs qs) 12 refl) $
+      ghosts _ _ (g-back-sl 𝓤 H A W E (rtF (fInt w16)) _ 29 9 5 12 (tyRef (named 5) mut (tyInt w16)) (tyRef erased mut (tyInt w16)) (lease (κs .1 .1 .1 .1 .1 .0) (qs .1 .1 .1 .1 .1 .0)) (λ x. x) (λ x. x) (as-is 𝓤 H A (msleft (rtF (fInt w16)) (tyRef erased mut (tyInt w16)))) (as-is 𝓤 H A (mslice-owed (rtF (fInt w16)) (tyRef (named 5) mut (tyInt w16)) 5 12 (lease (κs .1 .1 .1 .1 .1 .0) (qs .1 .1 .1 .1 .1 .0)))) refl refl) $
+      ghosts _ (G38 κs qs) (g-forget 𝓤 H A W E _ 12 dead refl) $
+      ghosts (G38 κs qs) _ (g-end 𝓤 H A W E (G38 κs qs) 13 refl) $
+      ghosts _ _ (g-back-sl 𝓤 H A W E (rtF (fInt w32)) _ 31 10 6 13 (tyRef (named 6) mut (tyInt w32)) (tyRef erased mut (tyInt w32)) (lease (κs .1 .1 .1 .1 .1 .1 .0) (qs .1 .1 .1 .1 .1 .1 .0)) (λ x. x) (λ x. x) (as-is 𝓤 H A (msleft (rtF (fInt w32)) (tyRef erased mut (tyInt w32)))) (as-is 𝓤 H A (mslice-owed (rtF (fInt w32)) (tyRef (named 6) mut (tyInt w32)) 6 13 (lease (κs .1 .1 .1 .1 .1 .1 .0) (qs .1 .1 .1 .1 .1 .1 .0)))) refl refl) $
+      ghosts _ (G42 κs qs) (g-forget 𝓤 H A W E _ 13 dead refl) $
+      ghosts (G42 κs qs) _ (g-end 𝓤 H A W E (G42 κs qs) 14 refl) $
+      ghosts _ _ (g-back-sl 𝓤 H A W E (rtF (fInt w32)) _ 33 11 7 14 (tyRef (named 7) mut (tyInt w32)) (tyRef erased mut (tyInt w32)) (lease (κs .1 .1 .1 .1 .1 .1 .1 .0) (qs .1 .1 .1 .1 .1 .1 .1 .0)) (λ x. x) (λ x. x) (as-is 𝓤 H A (msleft (rtF (fInt w32)) (tyRef erased mut (tyInt w32)))) (as-is 𝓤 H A (mslice-owed (rtF (fInt w32)) (tyRef (named 7) mut (tyInt w32)) 7 14 (lease (κs .1 .1 .1 .1 .1 .1 .1 .0) (qs .1 .1 .1 .1 .1 .1 .1 .0)))) refl refl) $
+      ghosts _ (G46 κs qs) (g-forget 𝓤 H A W E _ 14 dead refl) $
+      ghosts (G46 κs qs) _ (g-end 𝓤 H A W E (G46 κs qs) 15 refl) $
+      ghosts _ _ (g-back-sl 𝓤 H A W E (rtF (fInt w32)) _ 35 12 8 15 (tyRef (named 8) mut (tyInt w32)) (tyRef erased mut (tyInt w32)) (lease (κs .1 .1 .1 .1 .1 .1 .1 .1 .0) (qs .1 .1 .1 .1 .1 .1 .1 .1 .0)) (λ x. x) (λ x. x) (as-is 𝓤 H A (msleft (rtF (fInt w32)) (tyRef erased mut (tyInt w32)))) (as-is 𝓤 H A (mslice-owed (rtF (fInt w32)) (tyRef (named 8) mut (tyInt w32)) 8 15 (lease (κs .1 .1 .1 .1 .1 .1 .1 .1 .0) (qs .1 .1 .1 .1 .1 .1 .1 .1 .0)))) refl refl) $
+      ghosts _ (G50 κs qs) (g-forget 𝓤 H A W E _ 15 dead refl) $
+      from-match) $
       from-answer

@@ -229,8 +229,8 @@ module _ (κs : Lfts 11) (qs : Shares 11) where
   abbrev pub G84 : Cx
   G84 = patched ((0, row33) ∷ (1, row34) ∷ (2, row34) ∷ (3, row34) ∷ (13, row34) ∷ []) ([]) G0
 
-  abbrev pub Γ-d65 : Cx
-  Γ-d65 = G65
+  abbrev pub Γ-from-put : Cx
+  Γ-from-put = G65
 
 module _ {M : Type 1} (𝓤 : URA M) (H : Heap 𝓤) (A : Atoms 𝓤) (W : Given 𝓤 H A) (𝓣 : Tables 𝓤 H)
     (known0 : Knows 𝓤 H A W 𝓣 0 K0.ps K0.r R0.Asked R0.Learnt "topology::numbers::least") (known1 : Knows 𝓤 H A W 𝓣 0 K1.ps K1.r R1.Asked R1.Learnt "topology::here::empty_records") (known2 : Knows 𝓤 H A W 𝓣 11 K2.ps K2.r R2.Asked R2.Learnt "topology::topology_kept_boundaries") (known3 : Knows 𝓤 H A W 𝓣 1 K3.ps K3.r R3.Asked R3.Learnt "topology::numbers::put_records") (known4 : Knows 𝓤 H A W 𝓣 0 K4.ps K4.r R4.Asked R4.Learnt "topology::answer_of") (κs : Lfts 11) (qs : Shares 11) (bs : List ℕ) where

@@ -244,11 +244,11 @@ module _ {M : Type 1} (𝓤 : URA M) (H : Heap 𝓤) (A : Atoms 𝓤) (W : Given
 
   abbrev pub d : Der W 𝓣 E (Γin 8 ps r xs m κs qs) (code.function .body) (Δret 8 ps r xs m κs qs)
   d =
-      stmt (G0 κs qs) (G7 κs qs) (t-repeat 𝓤 H A W E 𝓣 (rtF (fInt w32)) (uint-lawful 𝓤 H A W w32) (cRf (fInt w32) .copy 𝓤 H A W) (uint-makes 𝓤 H A W w32) 256 (G0 κs qs) 11 (oInt w32 0) (λ m. 0) (room-gone 𝓤 H A (tyArray (tyInt w32) 256)) tt refl (λ m wa. (refl, lit< tt))) $
+      stmt (G0 κs qs) (G7 κs qs) (t-repeat 𝓤 H A W E 𝓣 (rtF (fInt w32)) (uint-lawful 𝓤 H A W w32) (cRf (fInt w32) .copy 𝓤 H A W) (uint-makes 𝓤 H A W w32) 256 (G0 κs qs) 11 (oInt w32 _) (λ m. 0) (room-gone 𝓤 H A (tyArray (tyInt w32) 256)) tt refl (λ m wa. (refl, lit< tt))) $
       ghosts (G7 κs qs) _ (g-as-by 𝓤 H A W E (λ ρ. Unit) (G7 κs qs) 11 (arrF (rtF (fInt w32)) 256 0) (λ x. x) (told-none 𝓤 H A ((G7 κs qs) .slots)) (λ ρ told. whole-arr 𝓤 H A W (rtF (fInt w32)) 256 tt ρ)) $
-      stmt _ (G9 κs qs) (t-repeat 𝓤 H A W E 𝓣 (rtF (fInt w64)) (uint-lawful 𝓤 H A W w64) (cRf (fInt w64) .copy 𝓤 H A W) (uint-makes 𝓤 H A W w64) 256 _ 12 (oInt w64 0) (λ m. 0) (room-gone 𝓤 H A (tyArray (tyInt w64) 256)) tt refl (λ m wa. (refl, lit< tt))) $
+      stmt _ (G9 κs qs) (t-repeat 𝓤 H A W E 𝓣 (rtF (fInt w64)) (uint-lawful 𝓤 H A W w64) (cRf (fInt w64) .copy 𝓤 H A W) (uint-makes 𝓤 H A W w64) 256 _ 12 (oInt w64 _) (λ m. 0) (room-gone 𝓤 H A (tyArray (tyInt w64) 256)) tt refl (λ m wa. (refl, lit< tt))) $
       ghosts (G9 κs qs) _ (g-as-by 𝓤 H A W E (λ ρ. Unit) (G9 κs qs) 12 (arrF (rtF (fInt w64)) 256 0) (λ x. x) (told-none 𝓤 H A ((G9 κs qs) .slots)) (λ ρ told. whole-arr 𝓤 H A W (rtF (fInt w64)) 256 tt ρ)) $
-      stmt _ (G11 κs qs) (t-repeat 𝓤 H A W E 𝓣 (rtF (fInt w64)) (uint-lawful 𝓤 H A W w64) (cRf (fInt w64) .copy 𝓤 H A W) (uint-makes 𝓤 H A W w64) 256 _ 13 (oInt w64 0) (λ m. 0) (room-gone 𝓤 H A (tyArray (tyInt w64) 256)) tt refl (λ m wa. (refl, lit< tt))) $
+      stmt _ (G11 κs qs) (t-repeat 𝓤 H A W E 𝓣 (rtF (fInt w64)) (uint-lawful 𝓤 H A W w64) (cRf (fInt w64) .copy 𝓤 H A W) (uint-makes 𝓤 H A W w64) 256 _ 13 (oInt w64 _) (λ m. 0) (room-gone 𝓤 H A (tyArray (tyInt w64) 256)) tt refl (λ m wa. (refl, lit< tt))) $
       ghosts (G11 κs qs) (G12 κs qs) (g-as-by 𝓤 H A W E (λ ρ. Unit) (G11 κs qs) 13 (arrF (rtF (fInt w64)) 256 0) (λ x. x) (told-none 𝓤 H A ((G11 κs qs) .slots)) (λ ρ told. whole-arr 𝓤 H A W (rtF (fInt w64)) 256 tt ρ)) $
       ghosts (G12 κs qs) _ (g-begin 𝓤 H A W E (G12 κs qs) 8 _) $
       stmt _ _ (t-sl-relend 𝓤 H A W E (rtF (fInt w16)) 𝓣 _ 8 15 5 8 (tyRef (named 5) mut (tyInt w16)) (tyRef erased mut (tyInt w16)) (lease (κs .1 .1 .1 .1 .1 .0) (qs .1 .1 .1 .1 .1 .0)) 0 (λ x. x) (as-is 𝓤 H A (mslice (rtF (fInt w16)) (tyRef (named 5) mut (tyInt w16)) 5)) (room-gone 𝓤 H A (tyRef erased mut (tyInt w16))) refl tt refl refl refl (λ b o. tt)) $

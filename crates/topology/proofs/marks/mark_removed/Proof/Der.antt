@@ -346,11 +346,11 @@ module _ {M : Type 1} (𝓤 : URA M) (H : Heap 𝓤) (A : Atoms 𝓤) (W : Given
 
   abbrev pub d24 : Der W 𝓣 E (G0 κs qs) (past 4 (code.function .body)) (Δret 9 ps r xs m κs qs)
   d24 =
-      stmt (G0 κs qs) (G24 κs qs) (t-repeat 𝓤 H A W E 𝓣 (rtF (fInt w64)) (uint-lawful 𝓤 H A W w64) (cRf (fInt w64) .copy 𝓤 H A W) (uint-makes 𝓤 H A W w64) 257 (G0 κs qs) 16 (oInt w64 0) (λ m. 0) (room-gone 𝓤 H A (tyArray (tyInt w64) 257)) tt refl (λ m wa. (refl, lit< tt))) $
+      stmt (G0 κs qs) (G24 κs qs) (t-repeat 𝓤 H A W E 𝓣 (rtF (fInt w64)) (uint-lawful 𝓤 H A W w64) (cRf (fInt w64) .copy 𝓤 H A W) (uint-makes 𝓤 H A W w64) 257 (G0 κs qs) 16 (oInt w64 _) (λ m. 0) (room-gone 𝓤 H A (tyArray (tyInt w64) 257)) tt refl (λ m wa. (refl, lit< tt))) $
       ghosts (G24 κs qs) _ (g-as-by 𝓤 H A W E (λ ρ. Unit) (G24 κs qs) 16 (arrF (rtF (fInt w64)) 257 0) (λ x. x) (told-none 𝓤 H A ((G24 κs qs) .slots)) (λ ρ told. whole-arr 𝓤 H A W (rtF (fInt w64)) 257 tt ρ)) $
-      stmt _ (G26 κs qs) (t-repeat 𝓤 H A W E 𝓣 (rtF (fInt w32)) (uint-lawful 𝓤 H A W w32) (cRf (fInt w32) .copy 𝓤 H A W) (uint-makes 𝓤 H A W w32) 256 _ 17 (oInt w32 0) (λ m. 0) (room-gone 𝓤 H A (tyArray (tyInt w32) 256)) tt refl (λ m wa. (refl, lit< tt))) $
+      stmt _ (G26 κs qs) (t-repeat 𝓤 H A W E 𝓣 (rtF (fInt w32)) (uint-lawful 𝓤 H A W w32) (cRf (fInt w32) .copy 𝓤 H A W) (uint-makes 𝓤 H A W w32) 256 _ 17 (oInt w32 _) (λ m. 0) (room-gone 𝓤 H A (tyArray (tyInt w32) 256)) tt refl (λ m wa. (refl, lit< tt))) $
       ghosts (G26 κs qs) _ (g-as-by 𝓤 H A W E (λ ρ. Unit) (G26 κs qs) 17 (arrF (rtF (fInt w32)) 256 0) (λ x. x) (told-none 𝓤 H A ((G26 κs qs) .slots)) (λ ρ told. whole-arr 𝓤 H A W (rtF (fInt w32)) 256 tt ρ)) $
-      stmt _ (G28 κs qs) (t-repeat 𝓤 H A W E 𝓣 (rtF (fInt w32)) (uint-lawful 𝓤 H A W w32) (cRf (fInt w32) .copy 𝓤 H A W) (uint-makes 𝓤 H A W w32) 256 _ 18 (oInt w32 0) (λ m. 0) (room-gone 𝓤 H A (tyArray (tyInt w32) 256)) tt refl (λ m wa. (refl, lit< tt))) $
+      stmt _ (G28 κs qs) (t-repeat 𝓤 H A W E 𝓣 (rtF (fInt w32)) (uint-lawful 𝓤 H A W w32) (cRf (fInt w32) .copy 𝓤 H A W) (uint-makes 𝓤 H A W w32) 256 _ 18 (oInt w32 _) (λ m. 0) (room-gone 𝓤 H A (tyArray (tyInt w32) 256)) tt refl (λ m wa. (refl, lit< tt))) $
       ghosts (G28 κs qs) (G29 κs qs) (g-as-by 𝓤 H A W E (λ ρ. Unit) (G28 κs qs) 18 (arrF (rtF (fInt w32)) 256 0) (λ x. x) (told-none 𝓤 H A ((G28 κs qs) .slots)) (λ ρ told. whole-arr 𝓤 H A W (rtF (fInt w32)) 256 tt ρ)) $
       ghosts (G29 κs qs) _ (g-begin 𝓤 H A W E (G29 κs qs) 9 _) $
       stmt _ _ (t-sl-relend 𝓤 H A W E (rtF (fInt w16)) 𝓣 _ 13 23 6 9 (tyRef (named 6) mut (tyInt w16)) (tyRef erased mut (tyInt w16)) (lease (κs .1 .1 .1 .1 .1 .1 .0) (qs .1 .1 .1 .1 .1 .1 .0)) 0 (λ x. x) (as-is 𝓤 H A (mslice (rtF (fInt w16)) (tyRef (named 6) mut (tyInt w16)) 6)) (room-gone 𝓤 H A (tyRef erased mut (tyInt w16))) refl tt refl refl refl (λ b o. tt)) $
@@ -386,7 +386,7 @@ module _ {M : Type 1} (𝓤 : URA M) (H : Heap 𝓤) (A : Atoms 𝓤) (W : Given
   abbrev pub d : Der W 𝓣 E (Γin 9 ps r xs m κs qs) (code.function .body) (Δret 9 ps r xs m κs qs)
   d =
       stmt (G0 κs qs) _ (t-use 𝓤 H A W E 𝓣 (G0 κs qs) (oFld 10 (field 1 ∷ []) (tyInt w64) 8 lenV) 19 (sc-here (sInt w64)) (tyInt w64) (valS (sInt w64)) (sInt w64 .of) (reads-sslice-len 𝓤 H A W (rtF (fInt w64)) (tyRef (named 3) imm (tyInt w64)) 3 8 refl, refl) (room-gone 𝓤 H A (tyInt w64)) (holds-sc 𝓤 H A W (sInt w64)) refl (λ u. refl) (λ u. tt)) $
-      stmt _ _ (t-op2 𝓤 H A W E 𝓣 _ (div unsigned) (oAt 19 (tyInt w64) (valS (sInt w64))) (oInt w64 9) 20 (sc-here (sInt w64)) (tyInt w64) (valS (sInt w64)) (sInt w64 .of) (reads-sc 𝓤 H A W (sInt w64), refl) tt (room-gone 𝓤 H A (tyInt w64)) (holds-sc 𝓤 H A W (sInt w64)) refl (λ u. refl) (λ u. tt)) $
+      stmt _ _ (t-op2 𝓤 H A W E 𝓣 _ (div unsigned) (oAt 19 (tyInt w64) (valS (sInt w64))) (oInt w64 _) 20 (sc-here (sInt w64)) (tyInt w64) (valS (sInt w64)) (sInt w64 .of) (reads-sc 𝓤 H A W (sInt w64), refl) tt (room-gone 𝓤 H A (tyInt w64)) (holds-sc 𝓤 H A W (sInt w64)) refl (λ u. refl) (λ u. tt)) $
       ghosts _ (G11 κs qs) (g-room 𝓤 H A W E _ 19 (tyInt w64) (room-sc 𝓤 H A W (sInt w64))) $
       stmt (G11 κs qs) (G12 κs qs) (t-op2 𝓤 H A W E 𝓣 (G11 κs qs) ne (oAt 20 (tyInt w64) (valS (sInt w64))) (oAt 9 (tyInt w64) (valS (sInt w64))) 21 (sc-here sBool) tyBool (valS sBool) (sBool .of) (reads-sc 𝓤 H A W (sInt w64), refl) (reads-sc 𝓤 H A W (sInt w64), refl) (room-gone 𝓤 H A tyBool) (holds-sc 𝓤 H A W sBool) refl (λ u. refl) (λ u. tt)) $
       first (G12 κs qs) (G0 κs qs) (

@@ -304,14 +304,14 @@ module _ {M : Type 1} (𝓤 : URA M) (H : Heap 𝓤) (A : Atoms 𝓤) (W : Given
 
   abbrev pub d : Der W 𝓣 E (Γin 10 ps r xs m κs qs) (code.function .body) (Δret 10 ps r xs m κs qs)
   d =
-      stmt (G0 κs qs) (G7 κs qs) (t-op2 𝓤 H A W E 𝓣 (G0 κs qs) eq (oAt 1 (tyInt w64) (valS (sInt w64))) (oInt w64 1) 14 (sc-here sBool) tyBool (valS sBool) (sBool .of) (reads-sc 𝓤 H A W (sInt w64), refl) tt (room-gone 𝓤 H A tyBool) (holds-sc 𝓤 H A W sBool) refl (λ u. refl) (λ u. tt)) $
+      stmt (G0 κs qs) (G7 κs qs) (t-op2 𝓤 H A W E 𝓣 (G0 κs qs) eq (oAt 1 (tyInt w64) (valS (sInt w64))) (oInt w64 _) 14 (sc-here sBool) tyBool (valS sBool) (sBool .of) (reads-sc 𝓤 H A W (sInt w64), refl) tt (room-gone 𝓤 H A tyBool) (holds-sc 𝓤 H A W sBool) refl (λ u. refl) (λ u. tt)) $
       first (G7 κs qs) (G0 κs qs) (
       test (G7 κs qs) 14 (λ x. x) (reads-sc 𝓤 H A W sBool) refl (
       ghosts (G7 κs qs) (G0 κs qs) (g-room 𝓤 H A W E (G7 κs qs) 14 tyBool (room-sc 𝓤 H A W sBool)) $
       d10) (
       ghosts (G7 κs qs) (G0 κs qs) (g-room 𝓤 H A W E (G7 κs qs) 14 tyBool (room-sc 𝓤 H A W sBool)) $
       skips)) $
-      stmt (G0 κs qs) (G7 κs qs) (t-op2 𝓤 H A W E 𝓣 (G0 κs qs) eq (oAt 1 (tyInt w64) (valS (sInt w64))) (oInt w64 2) 14 (sc-here sBool) tyBool (valS sBool) (sBool .of) (reads-sc 𝓤 H A W (sInt w64), refl) tt (room-gone 𝓤 H A tyBool) (holds-sc 𝓤 H A W sBool) refl (λ u. refl) (λ u. tt)) $
+      stmt (G0 κs qs) (G7 κs qs) (t-op2 𝓤 H A W E 𝓣 (G0 κs qs) eq (oAt 1 (tyInt w64) (valS (sInt w64))) (oInt w64 _) 14 (sc-here sBool) tyBool (valS sBool) (sBool .of) (reads-sc 𝓤 H A W (sInt w64), refl) tt (room-gone 𝓤 H A tyBool) (holds-sc 𝓤 H A W sBool) refl (λ u. refl) (λ u. tt)) $
       first (G7 κs qs) (G0 κs qs) (
       test (G7 κs qs) 14 (λ x. x) (reads-sc 𝓤 H A W sBool) refl (
       ghosts (G7 κs qs) (G0 κs qs) (g-room 𝓤 H A W E (G7 κs qs) 14 tyBool (room-sc 𝓤 H A W sBool)) $

@@ -401,6 +401,12 @@ module _ (κs : Lfts 8) (qs : Shares 8) where
   abbrev pub G145 : Cx
   G145 = patched ((15, row11) ∷ (16, row25) ∷ []) ([]) G0
 
+  abbrev pub Γ-from-near : Cx
+  Γ-from-near = G59
+
+  abbrev pub Γ-from-select : Cx
+  Γ-from-select = G59
+
 module _ {M : Type 1} (𝓤 : URA M) (H : Heap 𝓤) (A : Atoms 𝓤) (W : Given 𝓤 H A) (𝓣 : Tables 𝓤 H)
     (known0 : Knows 𝓤 H A W 𝓣 1 K0.ps K0.r R0.Asked R0.Learnt "ramp_boundaries::candidates::any_ramp") (known1 : Knows 𝓤 H A W 𝓣 11 K1.ps K1.r R1.Asked R1.Learnt "ramp_boundaries::candidates::push_candidates") (known2 : Knows 𝓤 H A W 𝓣 9 K2.ps K2.r R2.Asked R2.Learnt "topology::mouths::mark_near") (known3 : Knows 𝓤 H A W 𝓣 11 K3.ps K3.r R3.Asked R3.Learnt "mouth_selection::selection::select_mouths") (κs : Lfts 8) (qs : Shares 8) (bs : List ℕ) where
   abbrev E : Env 𝓤 H
@@ -508,23 +514,23 @@ module _ {M : Type 1} (𝓤 : URA M) (H : Heap 𝓤) (A : Atoms 𝓤) (W : Given
       stmt (G0 κs qs) (G7 κs qs) (t-call-plain 𝓤 H A W 𝓣 1 K0.ps K0.r R0.Asked R0.Learnt "ramp_boundaries::candidates::any_ramp" known0 E (λ pos β. β) (G0 κs qs) (record { pos = 3; ty = tyRef (named 1) imm (tyInt w64); ref = λ x. x }, (vAt 2 (λ x. x), tt)) 17 (1 ∷ []) (sub-id 𝓤 H A W ((G0 κs qs) .slots)) (spares-sslice 𝓤 H A W (rtF (fInt w64)) (tyRef (named 1) imm (tyInt w64)) 1, reads-sslice 𝓤 H A W (rtF (fInt w64)) (tyRef (named 1) imm (tyInt w64)) 1, refl, ((reads-sc 𝓤 H A W (sInt w64), refl), tt)) (room-gone 𝓤 H A tyBool) _ refl) $
       stmt (G7 κs qs) (G8 κs qs) (t-op1 𝓤 H A W E 𝓣 (G7 κs qs) bitNot (oAt 17 tyBool (valS sBool)) 18 (sc-here sBool) tyBool (valS sBool) (sBool .of) (reads-sc 𝓤 H A W sBool, refl) (room-gone 𝓤 H A tyBool) (holds-sc 𝓤 H A W sBool) refl (λ u. refl) (λ u. tt)) $
       first (G8 κs qs) (G0 κs qs) (
-        ghosts (G8 κs qs) (G10 κs qs) (g-room 𝓤 H A W E (G8 κs qs) 17 tyBool (room-sc 𝓤 H A W sBool)) $
-        test (G10 κs qs) 18 (λ x. x) (reads-sc 𝓤 H A W sBool) refl (
-          ghosts (G10 κs qs) (G0 κs qs) (g-room 𝓤 H A W E (G10 κs qs) 18 tyBool (room-sc 𝓤 H A W sBool)) $
-          stmt (G0 κs qs) (G12 κs qs) (t-use 𝓤 H A W E 𝓣 (G0 κs qs) oUnit 0 (sc-here sUnit) tyUnit (valS sUnit) (sUnit .of) tt (room-gone 𝓤 H A tyUnit) (holds-sc 𝓤 H A W sUnit) refl (λ u. refl) (λ u. tt)) $
-          ghosts (G12 κs qs) (G13 κs qs) (g-room 𝓤 H A W E (G12 κs qs) 2 (tyInt w64) (room-sc 𝓤 H A W (sInt w64))) $
-          rets) (
-          ghosts (G10 κs qs) (G0 κs qs) (g-room 𝓤 H A W E (G10 κs qs) 18 tyBool (room-sc 𝓤 H A W sBool)) $
-          skips)) $
-      stmt (G0 κs qs) (G15 κs qs) (t-repeat 𝓤 H A W E 𝓣 (rtF (fInt w8)) (uint-lawful 𝓤 H A W w8) (cRf (fInt w8) .copy 𝓤 H A W) (uint-makes 𝓤 H A W w8) 16384 (G0 κs qs) 10 (oInt w8 0) (λ m. 0) (room-gone 𝓤 H A (tyArray (tyInt w8) 16384)) tt refl (λ m wa. (refl, lit< tt))) $
+      ghosts (G8 κs qs) (G10 κs qs) (g-room 𝓤 H A W E (G8 κs qs) 17 tyBool (room-sc 𝓤 H A W sBool)) $
+      test (G10 κs qs) 18 (λ x. x) (reads-sc 𝓤 H A W sBool) refl (
+      ghosts (G10 κs qs) (G0 κs qs) (g-room 𝓤 H A W E (G10 κs qs) 18 tyBool (room-sc 𝓤 H A W sBool)) $
+      stmt (G0 κs qs) (G12 κs qs) (t-use 𝓤 H A W E 𝓣 (G0 κs qs) oUnit 0 (sc-here sUnit) tyUnit (valS sUnit) (sUnit .of) tt (room-gone 𝓤 H A tyUnit) (holds-sc 𝓤 H A W sUnit) refl (λ u. refl) (λ u. tt)) $
+      ghosts (G12 κs qs) (G13 κs qs) (g-room 𝓤 H A W E (G12 κs qs) 2 (tyInt w64) (room-sc 𝓤 H A W (sInt w64))) $
+      rets) (
+      ghosts (G10 κs qs) (G0 κs qs) (g-room 𝓤 H A W E (G10 κs qs) 18 tyBool (room-sc 𝓤 H A W sBool)) $
+      skips)) $
+      stmt (G0 κs qs) (G15 κs qs) (t-repeat 𝓤 H A W E 𝓣 (rtF (fInt w8)) (uint-lawful 𝓤 H A W w8) (cRf (fInt w8) .copy 𝓤 H A W) (uint-makes 𝓤 H A W w8) 16384 (G0 κs qs) 10 (oInt w8 _) (λ m. 0) (room-gone 𝓤 H A (tyArray (tyInt w8) 16384)) tt refl (λ m wa. (refl, lit< tt))) $
       ghosts (G15 κs qs) _ (g-as-by 𝓤 H A W E (λ ρ. Unit) (G15 κs qs) 10 (arrF (rtF (fInt w8)) 16384 0) (λ x. x) (told-none 𝓤 H A ((G15 κs qs) .slots)) (λ ρ told. whole-arr 𝓤 H A W (rtF (fInt w8)) 16384 tt ρ)) $
-      stmt _ (G17 κs qs) (t-repeat 𝓤 H A W E 𝓣 (rtF (fInt w8)) (uint-lawful 𝓤 H A W w8) (cRf (fInt w8) .copy 𝓤 H A W) (uint-makes 𝓤 H A W w8) 16384 _ 11 (oInt w8 0) (λ m. 0) (room-gone 𝓤 H A (tyArray (tyInt w8) 16384)) tt refl (λ m wa. (refl, lit< tt))) $
+      stmt _ (G17 κs qs) (t-repeat 𝓤 H A W E 𝓣 (rtF (fInt w8)) (uint-lawful 𝓤 H A W w8) (cRf (fInt w8) .copy 𝓤 H A W) (uint-makes 𝓤 H A W w8) 16384 _ 11 (oInt w8 _) (λ m. 0) (room-gone 𝓤 H A (tyArray (tyInt w8) 16384)) tt refl (λ m wa. (refl, lit< tt))) $
       ghosts (G17 κs qs) _ (g-as-by 𝓤 H A W E (λ ρ. Unit) (G17 κs qs) 11 (arrF (rtF (fInt w8)) 16384 0) (λ x. x) (told-none 𝓤 H A ((G17 κs qs) .slots)) (λ ρ told. whole-arr 𝓤 H A W (rtF (fInt w8)) 16384 tt ρ)) $
-      stmt _ (G19 κs qs) (t-repeat 𝓤 H A W E 𝓣 (rtF (fInt w32)) (uint-lawful 𝓤 H A W w32) (cRf (fInt w32) .copy 𝓤 H A W) (uint-makes 𝓤 H A W w32) 16384 _ 12 (oInt w32 0) (λ m. 0) (room-gone 𝓤 H A (tyArray (tyInt w32) 16384)) tt refl (λ m wa. (refl, lit< tt))) $
+      stmt _ (G19 κs qs) (t-repeat 𝓤 H A W E 𝓣 (rtF (fInt w32)) (uint-lawful 𝓤 H A W w32) (cRf (fInt w32) .copy 𝓤 H A W) (uint-makes 𝓤 H A W w32) 16384 _ 12 (oInt w32 _) (λ m. 0) (room-gone 𝓤 H A (tyArray (tyInt w32) 16384)) tt refl (λ m wa. (refl, lit< tt))) $
       ghosts (G19 κs qs) _ (g-as-by 𝓤 H A W E (λ ρ. Unit) (G19 κs qs) 12 (arrF (rtF (fInt w32)) 16384 0) (λ x. x) (told-none 𝓤 H A ((G19 κs qs) .slots)) (λ ρ told. whole-arr 𝓤 H A W (rtF (fInt w32)) 16384 tt ρ)) $
-      stmt _ (G21 κs qs) (t-repeat 𝓤 H A W E 𝓣 (rtF (fInt w8)) (uint-lawful 𝓤 H A W w8) (cRf (fInt w8) .copy 𝓤 H A W) (uint-makes 𝓤 H A W w8) 16384 _ 13 (oInt w8 0) (λ m. 0) (room-gone 𝓤 H A (tyArray (tyInt w8) 16384)) tt refl (λ m wa. (refl, lit< tt))) $
+      stmt _ (G21 κs qs) (t-repeat 𝓤 H A W E 𝓣 (rtF (fInt w8)) (uint-lawful 𝓤 H A W w8) (cRf (fInt w8) .copy 𝓤 H A W) (uint-makes 𝓤 H A W w8) 16384 _ 13 (oInt w8 _) (λ m. 0) (room-gone 𝓤 H A (tyArray (tyInt w8) 16384)) tt refl (λ m wa. (refl, lit< tt))) $
       ghosts (G21 κs qs) _ (g-as-by 𝓤 H A W E (λ ρ. Unit) (G21 κs qs) 13 (arrF (rtF (fInt w8)) 16384 0) (λ x. x) (told-none 𝓤 H A ((G21 κs qs) .slots)) (λ ρ told. whole-arr 𝓤 H A W (rtF (fInt w8)) 16384 tt ρ)) $
-      stmt _ (G23 κs qs) (t-repeat 𝓤 H A W E 𝓣 (rtF (fInt w64)) (uint-lawful 𝓤 H A W w64) (cRf (fInt w64) .copy 𝓤 H A W) (uint-makes 𝓤 H A W w64) 16384 _ 14 (oInt w64 0) (λ m. 0) (room-gone 𝓤 H A (tyArray (tyInt w64) 16384)) tt refl (λ m wa. (refl, lit< tt))) $
+      stmt _ (G23 κs qs) (t-repeat 𝓤 H A W E 𝓣 (rtF (fInt w64)) (uint-lawful 𝓤 H A W w64) (cRf (fInt w64) .copy 𝓤 H A W) (uint-makes 𝓤 H A W w64) 16384 _ 14 (oInt w64 _) (λ m. 0) (room-gone 𝓤 H A (tyArray (tyInt w64) 16384)) tt refl (λ m wa. (refl, lit< tt))) $
       ghosts (G23 κs qs) _ (g-as-by 𝓤 H A W E (λ ρ. Unit) (G23 κs qs) 14 (arrF (rtF (fInt w64)) 16384 0) (λ x. x) (told-none 𝓤 H A ((G23 κs qs) .slots)) (λ ρ told. whole-arr 𝓤 H A W (rtF (fInt w64)) 16384 tt ρ)) $
       stmt _ (G25 κs qs) (t-repeat 𝓤 H A W E 𝓣 (rtF fBool) (bool-lawful 𝓤 H A W) (cRf fBool .copy 𝓤 H A W) (bool-makes 𝓤 H A W) 16384 _ 15 (oBool false) (λ m. false) (room-gone 𝓤 H A (tyArray tyBool 16384)) tt refl (λ m wa. refl)) $
       ghosts (G25 κs qs) _ (g-as-by 𝓤 H A W E (λ ρ. Unit) (G25 κs qs) 15 (arrF (rtF fBool) 16384 0) (λ x. x) (told-none 𝓤 H A ((G25 κs qs) .slots)) (λ ρ told. whole-arr 𝓤 H A W (rtF fBool) 16384 tt ρ)) $
