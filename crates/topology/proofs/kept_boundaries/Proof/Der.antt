@@ -1,5 +1,8 @@
 -- The derivation of `Rattle.topology.proofs.kept_boundaries` in steps. Made by tools/twin.
-use Prim.Native.Nat.{ℕ, suc}
+use contract.Running.{tablesOf}
+use borrow.Fn.World.{World}
+use borrow.Fn.Any.{wantQ}
+use Prim.Native.Nat.{suc, ℕ}
 use Rattle.calls.proofs.Prepared as Prepared
 use Rattle.calls.proofs.Prepared.Laws as Laws
 use Rattle.context.proofs.Region as twin-0
@@ -12,8 +15,8 @@ use borrow.Enum.Whole.{reads-enum}
 use borrow.Fn.Call.{sub-id}
 use borrow.Fn.Enter.{tysP}
 use borrow.Fn.Frame.{EnvOf}
-use borrow.Fn.Function.{Γin, Δret}
-use borrow.Fn.Kinds.{tyR}
+use borrow.Fn.Function.{init, Γin, Δret}
+use borrow.Fn.Kinds.{Dens, tyR}
 use borrow.Fn.Plain.{Known as Knows, t-call-plain}
 use borrow.Kind.Num.{vAt}
 use borrow.Kind.ShrRef.{spares-sref}
@@ -40,7 +43,7 @@ use borrow.Table.Reads.{as-is, reads-mref, reads-sref, room-gone}
 use borrow.Table.Referent.{fBool, fInt, rtF}
 use borrow.Table.Row.{Cx, Row, alive, dead, lease, off, sInt, sUnit, valS}
 use borrow.Table.Rows.{any-gone, mleft, mref, sc-here, sc-owed, sc-shr, sref, sslice, whole}
-use borrow.Table.Typed.{withNext}
+use borrow.Table.Typed.{Mo, Outs, Want, withNext}
 use contract.Lifetimes.{Lfts, Shares}
 use denote.Array.{Array}
 use denote.Enum.Declared.{row, tagOf}
@@ -61,15 +64,27 @@ use prog.Wp.{Env, Heap, Tables}
 use types.Kit.{Given}
 use Rattle.calls.proofs.prepare.Kinds as K0
 use Rattle.calls.proofs.prepare.Reads as R0
+use Rattle.calls.proofs.prepare.Symbol as S0
+use Rattle.calls.proofs.prepare.Met as M0
 use Rattle.topology.proofs.Seen.records.fill.Kinds as K1
 use Rattle.topology.proofs.Seen.records.fill.Reads as R1
+use Rattle.topology.proofs.records.fill.Symbol as S1
+use Rattle.topology.proofs.records.fill.Met as M1
 use Rattle.topology.proofs.Seen.marks.mark_removed.Kinds as K2
 use Rattle.topology.proofs.Seen.marks.mark_removed.Reads as R2
+use Rattle.topology.proofs.marks.mark_removed.Symbol as S2
+use Rattle.topology.proofs.marks.mark_removed.Met as M2
 use Rattle.views.proofs.finish.Kinds as K3
 use Rattle.views.proofs.finish.Reads as R3
+use Rattle.views.proofs.finish.Symbol as S3
+use Rattle.views.proofs.finish.Met as M3
 use Rattle.topology.proofs.Seen.kept_boundaries.Kinds.{ps, r}
 use Rattle.topology.proofs.kept_boundaries.Code as code
-use Rattle.topology.proofs.Steps.{Der, _$_, head-of, past, arm-of, typesPast, patched, stmt, ghosts, first, switches, then, last, rets}
+use Rattle.topology.proofs.Contracts.{Answers, Post, Pre, Wof, met, 𝓣of}
+use Rattle.topology.proofs.Seen.kept_boundaries.Reads.{the-contract}
+use Rattle.topology.proofs.kept_boundaries.Key as key
+use Rattle.topology.proofs.kept_boundaries.Statement.{statement}
+use Rattle.topology.proofs.Steps.{Der, _$_, arm-of, first, ghosts, head-of, homes, last, past, patched, rets, stmt, switches, then, typesPast}
 
 abbrev pub xs : List Ty
 xs = typesPast (suc (code.function .params)) (code.function .locals)
@@ -466,7 +481,7 @@ module _ {M : Type 1} (𝓤 : URA M) (H : Heap 𝓤) (A : Atoms 𝓤) (W : Given
   abbrev pub d145 : Der W 𝓣 E (G69 κs qs) (past 29 (arm-of 1 (head-of (past 13 (code.function .body))))) (withNext (some (G30 κs qs)) (Δret 11 ps r xs m κs qs))
   d145 =
       stmt (G69 κs qs) _ (t-use 𝓤 H A W E 𝓣 (G69 κs qs) (oFld 6 (field 1 ∷ []) (tyInt w64) 8 lenV) 37 (sc-here (sInt w64)) (tyInt w64) (valS (sInt w64)) (sInt w64 .of) (reads-sslice-len 𝓤 H A W (rtF (fInt w64)) (tyRef (named 2) imm (tyInt w64)) 2 8 refl, refl) (room-gone 𝓤 H A (tyInt w64)) (holds-sc 𝓤 H A W (sInt w64)) refl (λ u. refl) (λ u. tt)) $
-      stmt _ _ (t-op2 𝓤 H A W E 𝓣 _ (div unsigned) (oAt 37 (tyInt w64) (valS (sInt w64))) (oInt w64 9) 49 (sc-here (sInt w64)) (tyInt w64) (valS (sInt w64)) (sInt w64 .of) (reads-sc 𝓤 H A W (sInt w64), refl) tt (room-gone 𝓤 H A (tyInt w64)) (holds-sc 𝓤 H A W (sInt w64)) refl (λ u. refl) (λ u. tt)) $
+      stmt _ _ (t-op2 𝓤 H A W E 𝓣 _ (div unsigned) (oAt 37 (tyInt w64) (valS (sInt w64))) (oInt w64 _) 49 (sc-here (sInt w64)) (tyInt w64) (valS (sInt w64)) (sInt w64 .of) (reads-sc 𝓤 H A W (sInt w64), refl) tt (room-gone 𝓤 H A (tyInt w64)) (holds-sc 𝓤 H A W (sInt w64)) refl (λ u. refl) (λ u. tt)) $
       ghosts _ (G147 κs qs) (g-room 𝓤 H A W E _ 37 (tyInt w64) (room-sc 𝓤 H A W (sInt w64))) $
       ghosts (G147 κs qs) _ (g-begin 𝓤 H A W E (G147 κs qs) 26 _) $
       stmt _ _ (t-sc-share 𝓤 H A W E 𝓣 _ 24 59 26 (Array (rtF fBool) 256) (tyRef erased imm (tyArray tyBool 256)) (λ x. x) (mem-arr 𝓤 H A W (rtF fBool) 256) (room-gone 𝓤 H A (tyRef erased imm (tyArray tyBool 256))) refl (λ b o. tt)) $
@@ -495,7 +510,7 @@ module _ {M : Type 1} (𝓤 : URA M) (H : Heap 𝓤) (A : Atoms 𝓤) (W : Given
       ghosts (G173 κs qs) _ (g-end 𝓤 H A W E (G173 κs qs) 29 refl) $
       ghosts _ _ (g-back-sl 𝓤 H A W E (rtF (fInt w64)) _ 65 14 10 29 (tyRef (named 10) mut (tyInt w64)) (tyRef erased mut (tyInt w64)) (lease (κs .1 .1 .1 .1 .1 .1 .1 .1 .1 .1 .0) (qs .1 .1 .1 .1 .1 .1 .1 .1 .1 .1 .0)) (λ x. x) (λ x. x) (as-is 𝓤 H A (msleft (rtF (fInt w64)) (tyRef erased mut (tyInt w64)))) (as-is 𝓤 H A (mslice-owed (rtF (fInt w64)) (tyRef (named 10) mut (tyInt w64)) 10 29 (lease (κs .1 .1 .1 .1 .1 .1 .1 .1 .1 .1 .0) (qs .1 .1 .1 .1 .1 .1 .1 .1 .1 .1 .0)))) refl refl) $
       ghosts _ (G177 κs qs) (g-forget 𝓤 H A W E _ 29 dead refl) $
-      last (G177 κs qs) (G30 κs qs) (then W (G177 κs qs) (G182 κs qs) (G30 κs qs) (then W (G177 κs qs) (G181 κs qs) (G182 κs qs) (then W (G177 κs qs) (G180 κs qs) (G181 κs qs) (then W (G177 κs qs) (G179 κs qs) (G180 κs qs) (then W (G177 κs qs) (G178 κs qs) (G179 κs qs) (t-enum-make-wt 𝓤 H A W E 𝓣 Answer.the-type Laws'.the-laws Laws'.the-plain tt (G177 κs qs) 36 (oInt w8 0 ∷ oAt 25 (tyInt w64) (valS (sInt w64)) ∷ []) (λ m. Answer.enum .make (inl (m .1 .1 .1 .1 .1 .1 .1 .1 .1 .1 .1 .1 .1 .1 .1 .1 .1 .1 .1 .1 .1 .1 .1 .1 .1 .0, tt))) (room-gone 𝓤 H A _) (tt, ((reads-sc 𝓤 H A W (sInt w64), refl), tt)) refl (λ m wa. made-val Answer.the-type Laws'.the-laws (Laws'.the-laws .0 .0 .val (m .1 .1 .1 .1 .1 .1 .1 .1 .1 .1 .1 .1 .1 .1 .1 .1 .1 .1 .1 .1 .1 .1 .1 .1 .1 .0) ∷ []) (Answer.enum .make (inl (m .1 .1 .1 .1 .1 .1 .1 .1 .1 .1 .1 .1 .1 .1 .1 .1 .1 .1 .1 .1 .1 .1 .1 .1 .1 .0, tt))) (made-wt u64-field (Laws'.the-laws .0 .0) u64-wt (m .1 .1 .1 .1 .1 .1 .1 .1 .1 .1 .1 .1 .1 .1 .1 .1 .1 .1 .1 .1 .1 .1 .1 .1 .1 .0), tt) (wa .1)) (λ m wa. made-is Answer.the-type Laws'.the-laws (Laws'.the-laws .0 .0 .val (m .1 .1 .1 .1 .1 .1 .1 .1 .1 .1 .1 .1 .1 .1 .1 .1 .1 .1 .1 .1 .1 .1 .1 .1 .1 .0) ∷ []) (Answer.enum .make (inl (m .1 .1 .1 .1 .1 .1 .1 .1 .1 .1 .1 .1 .1 .1 .1 .1 .1 .1 .1 .1 .1 .1 .1 .1 .1 .0, tt))) (made-wt u64-field (Laws'.the-laws .0 .0) u64-wt (m .1 .1 .1 .1 .1 .1 .1 .1 .1 .1 .1 .1 .1 .1 .1 .1 .1 .1 .1 .1 .1 .1 .1 .1 .1 .0), tt) (wa .1))) (g-room 𝓤 H A W E (G178 κs qs) 20 (tyInt w64) (room-sc 𝓤 H A W (sInt w64)))) (g-room 𝓤 H A W E (G179 κs qs) 21 (tyInt w64) (room-sc 𝓤 H A W (sInt w64)))) (g-room 𝓤 H A W E (G180 κs qs) 22 (tyInt w64) (room-sc 𝓤 H A W (sInt w64)))) (g-room 𝓤 H A W E (G181 κs qs) 23 (tyInt w64) (room-sc 𝓤 H A W (sInt w64)))) (g-room 𝓤 H A W E (G182 κs qs) 25 (tyInt w64) (room-sc 𝓤 H A W (sInt w64))))
+      last (G177 κs qs) (G30 κs qs) (then W (G177 κs qs) (G182 κs qs) (G30 κs qs) (then W (G177 κs qs) (G181 κs qs) (G182 κs qs) (then W (G177 κs qs) (G180 κs qs) (G181 κs qs) (then W (G177 κs qs) (G179 κs qs) (G180 κs qs) (then W (G177 κs qs) (G178 κs qs) (G179 κs qs) (t-enum-make-wt 𝓤 H A W E 𝓣 Answer.the-type Laws'.the-laws Laws'.the-plain tt (G177 κs qs) 36 (oInt w8 _ ∷ oAt 25 (tyInt w64) (valS (sInt w64)) ∷ []) (λ m. Answer.enum .make (inl (m .1 .1 .1 .1 .1 .1 .1 .1 .1 .1 .1 .1 .1 .1 .1 .1 .1 .1 .1 .1 .1 .1 .1 .1 .1 .0, tt))) (room-gone 𝓤 H A _) (tt, ((reads-sc 𝓤 H A W (sInt w64), refl), tt)) refl (λ m wa. made-val Answer.the-type Laws'.the-laws (Laws'.the-laws .0 .0 .val (m .1 .1 .1 .1 .1 .1 .1 .1 .1 .1 .1 .1 .1 .1 .1 .1 .1 .1 .1 .1 .1 .1 .1 .1 .1 .0) ∷ []) (Answer.enum .make (inl (m .1 .1 .1 .1 .1 .1 .1 .1 .1 .1 .1 .1 .1 .1 .1 .1 .1 .1 .1 .1 .1 .1 .1 .1 .1 .0, tt))) (made-wt u64-field (Laws'.the-laws .0 .0) u64-wt (m .1 .1 .1 .1 .1 .1 .1 .1 .1 .1 .1 .1 .1 .1 .1 .1 .1 .1 .1 .1 .1 .1 .1 .1 .1 .0), tt) (wa .1)) (λ m wa. made-is Answer.the-type Laws'.the-laws (Laws'.the-laws .0 .0 .val (m .1 .1 .1 .1 .1 .1 .1 .1 .1 .1 .1 .1 .1 .1 .1 .1 .1 .1 .1 .1 .1 .1 .1 .1 .1 .0) ∷ []) (Answer.enum .make (inl (m .1 .1 .1 .1 .1 .1 .1 .1 .1 .1 .1 .1 .1 .1 .1 .1 .1 .1 .1 .1 .1 .1 .1 .1 .1 .0, tt))) (made-wt u64-field (Laws'.the-laws .0 .0) u64-wt (m .1 .1 .1 .1 .1 .1 .1 .1 .1 .1 .1 .1 .1 .1 .1 .1 .1 .1 .1 .1 .1 .1 .1 .1 .1 .0), tt) (wa .1))) (g-room 𝓤 H A W E (G178 κs qs) 20 (tyInt w64) (room-sc 𝓤 H A W (sInt w64)))) (g-room 𝓤 H A W E (G179 κs qs) 21 (tyInt w64) (room-sc 𝓤 H A W (sInt w64)))) (g-room 𝓤 H A W E (G180 κs qs) 22 (tyInt w64) (room-sc 𝓤 H A W (sInt w64)))) (g-room 𝓤 H A W E (G181 κs qs) 23 (tyInt w64) (room-sc 𝓤 H A W (sInt w64)))) (g-room 𝓤 H A W E (G182 κs qs) 25 (tyInt w64) (room-sc 𝓤 H A W (sInt w64))))
 
   abbrev pub d92 : Der W 𝓣 E (G69 κs qs) (past 13 (arm-of 1 (head-of (past 13 (code.function .body))))) (withNext (some (G30 κs qs)) (Δret 11 ps r xs m κs qs))
   d92 =
@@ -506,7 +521,7 @@ module _ {M : Type 1} (𝓤 : URA M) (H : Heap 𝓤) (A : Atoms 𝓤) (W : Given
       stmt _ _ (t-sl-reshare 𝓤 H A W E (rtF (fInt w32)) 𝓣 _ 8 47 4 20 (tyRef (named 4) mut (tyInt w32)) (tyRef erased imm (tyInt w32)) (lease (κs .1 .1 .1 .1 .0) (qs .1 .1 .1 .1 .0)) 0 (λ x. x) (as-is 𝓤 H A (mslice (rtF (fInt w32)) (tyRef (named 4) mut (tyInt w32)) 4)) (room-gone 𝓤 H A (tyRef erased imm (tyInt w32))) refl tt refl refl refl (λ b o. tt)) $
       stmt _ (G97 κs qs) (t-sl-aggregate 𝓤 H A W E (rtF (fInt w32)) 𝓣 (asShr (rtF (fInt w32))) _ 47 48 20 (tyRef erased imm (tyInt w32)) (tyRef erased imm (tyInt w32)) (λ x. x) (oFld 8 (field 1 ∷ []) (tyInt w64) 8 (λ v. lenV (v .0))) (as-is 𝓤 H A (ssptr (rtF (fInt w32)) (tyRef erased imm (tyInt w32)) 20)) (room-gone 𝓤 H A _) (reads-owedS-len 𝓤 H A W (rtF (fInt w32)) (tyRef (named 4) mut (tyInt w32)) 4 20 (lease (κs .1 .1 .1 .1 .0) (qs .1 .1 .1 .1 .0)) 8 refl, refl) refl refl (λ b o k. tt)) $
       stmt (G97 κs qs) _ (t-use 𝓤 H A W E 𝓣 (G97 κs qs) (oFld 5 (field 1 ∷ []) (tyInt w64) 8 lenV) 37 (sc-here (sInt w64)) (tyInt w64) (valS (sInt w64)) (sInt w64 .of) (reads-sslice-len 𝓤 H A W (rtF (fInt w64)) (tyRef (named 1) imm (tyInt w64)) 1 8 refl, refl) (room-gone 𝓤 H A (tyInt w64)) (holds-sc 𝓤 H A W (sInt w64)) refl (λ u. refl) (λ u. tt)) $
-      stmt _ _ (t-op2 𝓤 H A W E 𝓣 _ (div unsigned) (oAt 37 (tyInt w64) (valS (sInt w64))) (oInt w64 4) 49 (sc-here (sInt w64)) (tyInt w64) (valS (sInt w64)) (sInt w64 .of) (reads-sc 𝓤 H A W (sInt w64), refl) tt (room-gone 𝓤 H A (tyInt w64)) (holds-sc 𝓤 H A W (sInt w64)) refl (λ u. refl) (λ u. tt)) $
+      stmt _ _ (t-op2 𝓤 H A W E 𝓣 _ (div unsigned) (oAt 37 (tyInt w64) (valS (sInt w64))) (oInt w64 _) 49 (sc-here (sInt w64)) (tyInt w64) (valS (sInt w64)) (sInt w64 .of) (reads-sc 𝓤 H A W (sInt w64), refl) tt (room-gone 𝓤 H A (tyInt w64)) (holds-sc 𝓤 H A W (sInt w64)) refl (λ u. refl) (λ u. tt)) $
       ghosts _ (G100 κs qs) (g-room 𝓤 H A W E _ 37 (tyInt w64) (room-sc 𝓤 H A W (sInt w64))) $
       ghosts (G100 κs qs) _ (g-begin 𝓤 H A W E (G100 κs qs) 21 _) $
       stmt _ _ (t-sl-reshare 𝓤 H A W E (rtF (fInt w32)) 𝓣 _ 11 50 7 21 (tyRef (named 7) mut (tyInt w32)) (tyRef erased imm (tyInt w32)) (lease (κs .1 .1 .1 .1 .1 .1 .1 .0) (qs .1 .1 .1 .1 .1 .1 .1 .0)) 0 (λ x. x) (as-is 𝓤 H A (mslice (rtF (fInt w32)) (tyRef (named 7) mut (tyInt w32)) 7)) (room-gone 𝓤 H A (tyRef erased imm (tyInt w32))) refl tt refl refl refl (λ b o. tt)) $
@@ -560,7 +575,7 @@ module _ {M : Type 1} (𝓤 : URA M) (H : Heap 𝓤) (A : Atoms 𝓤) (W : Given
             stmt (G51 κs qs) _ (t-use 𝓤 H A W E 𝓣 (G51 κs qs) (oFld 17 (variant 0 ∷ field 1 ∷ []) (tyInt w64) 8 (λ v. Laws.the-laws .0 .0 .val (v .0))) 18 (sc-here (sInt w64)) (tyInt w64) (valS (sInt w64)) (sInt w64 .of) (reads-payload 𝓤 H A W Prepared.enum Laws.the-laws 0 refl refl (λ v. vcons (Laws.the-laws .0 .0 .val (v .0)) (vcons (Laws.the-laws .0 .1 .0 .val (v .1 .0)) vnil)) (λ v. refl) 0 (tyInt w64) 8 refl, refl) (room-gone 𝓤 H A (tyInt w64)) (holds-sc 𝓤 H A W (sInt w64)) refl (λ u. refl) (λ u. tt)) $
             stmt _ _ (t-use 𝓤 H A W E 𝓣 _ (oFld 17 (variant 0 ∷ field 2 ∷ []) (tyInt w64) 16 (λ v. Laws.the-laws .0 .1 .0 .val (v .1 .0))) 19 (sc-here (sInt w64)) (tyInt w64) (valS (sInt w64)) (sInt w64 .of) (reads-payload 𝓤 H A W Prepared.enum Laws.the-laws 0 refl refl (λ v. vcons (Laws.the-laws .0 .0 .val (v .0)) (vcons (Laws.the-laws .0 .1 .0 .val (v .1 .0)) vnil)) (λ v. refl) 1 (tyInt w64) 16 refl, refl) (room-gone 𝓤 H A (tyInt w64)) (holds-sc 𝓤 H A W (sInt w64)) refl (λ u. refl) (λ u. tt)) $
             ghosts _ (G55 κs qs) (g-room 𝓤 H A W E _ 17 _ (room-whole 𝓤 H A W (Known Prepared.enum 0) _ refl)) $
-            last (G55 κs qs) (G30 κs qs) (then W (G55 κs qs) (G57 κs qs) (G30 κs qs) (then W (G55 κs qs) (G56 κs qs) (G57 κs qs) (t-enum-make-wt 𝓤 H A W E 𝓣 Answer.the-type Laws'.the-laws Laws'.the-plain tt (G55 κs qs) 36 (oInt w8 1 ∷ oAt 18 (tyInt w64) (valS (sInt w64)) ∷ oAt 19 (tyInt w64) (valS (sInt w64)) ∷ []) (λ m. Answer.enum .make (inr (inl (m .1 .1 .1 .1 .1 .1 .1 .1 .1 .1 .1 .1 .1 .1 .1 .1 .1 .1 .0, (m .1 .1 .1 .1 .1 .1 .1 .1 .1 .1 .1 .1 .1 .1 .1 .1 .1 .1 .1 .0, tt))))) (room-gone 𝓤 H A _) (tt, ((reads-sc 𝓤 H A W (sInt w64), refl), ((reads-sc 𝓤 H A W (sInt w64), refl), tt))) refl (λ m wa. made-val Answer.the-type Laws'.the-laws (Laws'.the-laws .1 .0 .0 .val (m .1 .1 .1 .1 .1 .1 .1 .1 .1 .1 .1 .1 .1 .1 .1 .1 .1 .1 .0) ∷ Laws'.the-laws .1 .0 .1 .0 .val (m .1 .1 .1 .1 .1 .1 .1 .1 .1 .1 .1 .1 .1 .1 .1 .1 .1 .1 .1 .0) ∷ []) (Answer.enum .make (inr (inl (m .1 .1 .1 .1 .1 .1 .1 .1 .1 .1 .1 .1 .1 .1 .1 .1 .1 .1 .0, (m .1 .1 .1 .1 .1 .1 .1 .1 .1 .1 .1 .1 .1 .1 .1 .1 .1 .1 .1 .0, tt))))) (made-wt u64-field (Laws'.the-laws .1 .0 .0) u64-wt (m .1 .1 .1 .1 .1 .1 .1 .1 .1 .1 .1 .1 .1 .1 .1 .1 .1 .1 .0), (made-wt u64-field (Laws'.the-laws .1 .0 .1 .0) u64-wt (m .1 .1 .1 .1 .1 .1 .1 .1 .1 .1 .1 .1 .1 .1 .1 .1 .1 .1 .1 .0), tt)) (wa .1)) (λ m wa. made-is Answer.the-type Laws'.the-laws (Laws'.the-laws .1 .0 .0 .val (m .1 .1 .1 .1 .1 .1 .1 .1 .1 .1 .1 .1 .1 .1 .1 .1 .1 .1 .0) ∷ Laws'.the-laws .1 .0 .1 .0 .val (m .1 .1 .1 .1 .1 .1 .1 .1 .1 .1 .1 .1 .1 .1 .1 .1 .1 .1 .1 .0) ∷ []) (Answer.enum .make (inr (inl (m .1 .1 .1 .1 .1 .1 .1 .1 .1 .1 .1 .1 .1 .1 .1 .1 .1 .1 .0, (m .1 .1 .1 .1 .1 .1 .1 .1 .1 .1 .1 .1 .1 .1 .1 .1 .1 .1 .1 .0, tt))))) (made-wt u64-field (Laws'.the-laws .1 .0 .0) u64-wt (m .1 .1 .1 .1 .1 .1 .1 .1 .1 .1 .1 .1 .1 .1 .1 .1 .1 .1 .0), (made-wt u64-field (Laws'.the-laws .1 .0 .1 .0) u64-wt (m .1 .1 .1 .1 .1 .1 .1 .1 .1 .1 .1 .1 .1 .1 .1 .1 .1 .1 .1 .0), tt)) (wa .1))) (g-room 𝓤 H A W E (G56 κs qs) 18 (tyInt w64) (room-sc 𝓤 H A W (sInt w64)))) (g-room 𝓤 H A W E (G57 κs qs) 19 (tyInt w64) (room-sc 𝓤 H A W (sInt w64)))),
+            last (G55 κs qs) (G30 κs qs) (then W (G55 κs qs) (G57 κs qs) (G30 κs qs) (then W (G55 κs qs) (G56 κs qs) (G57 κs qs) (t-enum-make-wt 𝓤 H A W E 𝓣 Answer.the-type Laws'.the-laws Laws'.the-plain tt (G55 κs qs) 36 (oInt w8 _ ∷ oAt 18 (tyInt w64) (valS (sInt w64)) ∷ oAt 19 (tyInt w64) (valS (sInt w64)) ∷ []) (λ m. Answer.enum .make (inr (inl (m .1 .1 .1 .1 .1 .1 .1 .1 .1 .1 .1 .1 .1 .1 .1 .1 .1 .1 .0, (m .1 .1 .1 .1 .1 .1 .1 .1 .1 .1 .1 .1 .1 .1 .1 .1 .1 .1 .1 .0, tt))))) (room-gone 𝓤 H A _) (tt, ((reads-sc 𝓤 H A W (sInt w64), refl), ((reads-sc 𝓤 H A W (sInt w64), refl), tt))) refl (λ m wa. made-val Answer.the-type Laws'.the-laws (Laws'.the-laws .1 .0 .0 .val (m .1 .1 .1 .1 .1 .1 .1 .1 .1 .1 .1 .1 .1 .1 .1 .1 .1 .1 .0) ∷ Laws'.the-laws .1 .0 .1 .0 .val (m .1 .1 .1 .1 .1 .1 .1 .1 .1 .1 .1 .1 .1 .1 .1 .1 .1 .1 .1 .0) ∷ []) (Answer.enum .make (inr (inl (m .1 .1 .1 .1 .1 .1 .1 .1 .1 .1 .1 .1 .1 .1 .1 .1 .1 .1 .0, (m .1 .1 .1 .1 .1 .1 .1 .1 .1 .1 .1 .1 .1 .1 .1 .1 .1 .1 .1 .0, tt))))) (made-wt u64-field (Laws'.the-laws .1 .0 .0) u64-wt (m .1 .1 .1 .1 .1 .1 .1 .1 .1 .1 .1 .1 .1 .1 .1 .1 .1 .1 .0), (made-wt u64-field (Laws'.the-laws .1 .0 .1 .0) u64-wt (m .1 .1 .1 .1 .1 .1 .1 .1 .1 .1 .1 .1 .1 .1 .1 .1 .1 .1 .1 .0), tt)) (wa .1)) (λ m wa. made-is Answer.the-type Laws'.the-laws (Laws'.the-laws .1 .0 .0 .val (m .1 .1 .1 .1 .1 .1 .1 .1 .1 .1 .1 .1 .1 .1 .1 .1 .1 .1 .0) ∷ Laws'.the-laws .1 .0 .1 .0 .val (m .1 .1 .1 .1 .1 .1 .1 .1 .1 .1 .1 .1 .1 .1 .1 .1 .1 .1 .1 .0) ∷ []) (Answer.enum .make (inr (inl (m .1 .1 .1 .1 .1 .1 .1 .1 .1 .1 .1 .1 .1 .1 .1 .1 .1 .1 .0, (m .1 .1 .1 .1 .1 .1 .1 .1 .1 .1 .1 .1 .1 .1 .1 .1 .1 .1 .1 .0, tt))))) (made-wt u64-field (Laws'.the-laws .1 .0 .0) u64-wt (m .1 .1 .1 .1 .1 .1 .1 .1 .1 .1 .1 .1 .1 .1 .1 .1 .1 .1 .0), (made-wt u64-field (Laws'.the-laws .1 .0 .1 .0) u64-wt (m .1 .1 .1 .1 .1 .1 .1 .1 .1 .1 .1 .1 .1 .1 .1 .1 .1 .1 .1 .0), tt)) (wa .1))) (g-room 𝓤 H A W E (G56 κs qs) 18 (tyInt w64) (room-sc 𝓤 H A W (sInt w64)))) (g-room 𝓤 H A W E (G57 κs qs) 19 (tyInt w64) (room-sc 𝓤 H A W (sInt w64)))),
         (
           ghosts (G50 κs qs) (G59 κs qs) (g-enum-known 𝓤 H A W E Prepared.enum 1 (G50 κs qs) 17 (λ x. x) (as-is 𝓤 H A (whole (row Prepared.the-type)))) $
               ghosts (G59 κs qs) (G59 κs qs) (g-known-told 𝓤 H A W E Prepared.enum 1 (G59 κs qs) 17 Laws.the-laws (λ x. x) (as-is 𝓤 H A (whole (Known Prepared.enum 1)))) $
@@ -638,3 +653,57 @@ module _ {M : Type 1} (𝓤 : URA M) (H : Heap 𝓤) (A : Atoms 𝓤) (W : Given
       ghosts _ (G50 κs qs) (g-forget 𝓤 H A W E _ 15 dead refl) $
       d50) $
       d30
+
+-- the derivations at a model
+module _ (w : World) where
+  abbrev known0-at : Knows (w .𝓤) (w .H) (w .𝓖 .A) (Wof w) (𝓣of w code.env) 9 K0.ps K0.r R0.Asked R0.Learnt "calls::prepare"
+  known0-at = R0.known w code.env S0.name S0.routine code.calls-calls·prepare (M0.met (w .𝓤) (w .H) (w .𝓜) (w .𝓖) (w .𝓡))
+
+  abbrev known1-at : Knows (w .𝓤) (w .H) (w .𝓖 .A) (Wof w) (𝓣of w code.env) 4 K1.ps K1.r R1.Asked R1.Learnt "topology::records::fill"
+  known1-at = R1.known w code.env S1.name S1.routine code.calls-topology·records·fill (M1.met (w .𝓤) (w .H) (w .𝓜) (w .𝓖) (w .𝓡))
+
+  abbrev known2-at : Knows (w .𝓤) (w .H) (w .𝓖 .A) (Wof w) (𝓣of w code.env) 9 K2.ps K2.r R2.Asked R2.Learnt "topology::marks::mark_removed"
+  known2-at = R2.known w code.env S2.name S2.routine code.calls-topology·marks·mark-removed (M2.met (w .𝓤) (w .H) (w .𝓜) (w .𝓖) (w .𝓡))
+
+  abbrev known3-at : Knows (w .𝓤) (w .H) (w .𝓖 .A) (Wof w) (𝓣of w code.env) 5 K3.ps K3.r R3.Asked R3.Learnt "views::finish"
+  known3-at = R3.known w code.env S3.name S3.routine code.calls-views·finish (M3.met (w .𝓤) (w .H) (w .𝓜) (w .𝓖) (w .𝓡))
+
+module _ (w : World) (κs : Lfts 11) (qs : Shares 11) (bs : List ℕ) where
+  abbrev pub d30-at : Der (Wof w) (𝓣of w code.env) (EnvOf (w .𝓤) (w .H) (tyR r ∷ tysP ps xs) bs) (G30 κs qs) (past 14 (code.function .body)) (Δret 11 ps r xs m κs qs)
+  d30-at = d30 (w .𝓤) (w .H) (w .𝓖 .A) (Wof w) (𝓣of w code.env) (known0-at w) (known1-at w) (known2-at w) (known3-at w) κs qs bs
+
+  abbrev pub d145-at : Der (Wof w) (𝓣of w code.env) (EnvOf (w .𝓤) (w .H) (tyR r ∷ tysP ps xs) bs) (G69 κs qs) (past 29 (arm-of 1 (head-of (past 13 (code.function .body))))) (withNext (some (G30 κs qs)) (Δret 11 ps r xs m κs qs))
+  d145-at = d145 (w .𝓤) (w .H) (w .𝓖 .A) (Wof w) (𝓣of w code.env) (known0-at w) (known1-at w) (known2-at w) (known3-at w) κs qs bs
+
+  abbrev pub d92-at : Der (Wof w) (𝓣of w code.env) (EnvOf (w .𝓤) (w .H) (tyR r ∷ tysP ps xs) bs) (G69 κs qs) (past 13 (arm-of 1 (head-of (past 13 (code.function .body))))) (withNext (some (G30 κs qs)) (Δret 11 ps r xs m κs qs))
+  d92-at = d92 (w .𝓤) (w .H) (w .𝓖 .A) (Wof w) (𝓣of w code.env) (known0-at w) (known1-at w) (known2-at w) (known3-at w) κs qs bs
+
+  abbrev pub d50-at : Der (Wof w) (𝓣of w code.env) (EnvOf (w .𝓤) (w .H) (tyR r ∷ tysP ps xs) bs) (G50 κs qs) (head-of (past 13 (code.function .body))) (withNext (some (G30 κs qs)) (Δret 11 ps r xs m κs qs))
+  d50-at = d50 (w .𝓤) (w .H) (w .𝓖 .A) (Wof w) (𝓣of w code.env) (known0-at w) (known1-at w) (known2-at w) (known3-at w) κs qs bs
+
+  abbrev pub d-at : Der (Wof w) (𝓣of w code.env) (EnvOf (w .𝓤) (w .H) (tyR r ∷ tysP ps xs) bs) (Γin 11 ps r xs m κs qs) (code.function .body) (Δret 11 ps r xs m κs qs)
+  d-at = d (w .𝓤) (w .H) (w .𝓖 .A) (Wof w) (𝓣of w code.env) (known0-at w) (known1-at w) (known2-at w) (known3-at w) κs qs bs
+
+-- the arguments and what is required of them, the state at entry, the ways out, and what is wanted of a return
+abbrev pub Args : Lfts 11 → Type 0
+Args κs = Dens κs ps
+
+abbrev pub Requires : (κs : Lfts 11) → Args κs → Type 0
+Requires κs a = Pre the-contract κs a
+
+module _ (κs : Lfts 11) (qs : Shares 11) where
+  abbrev pub returns : Outs
+  returns = Δret 11 ps r xs m κs qs
+
+  abbrev pub entry : Args κs → Mo (G0 κs qs)
+  entry a = init 11 ps r xs m κs qs a
+
+  abbrev pub wanted : Args κs → Want returns
+  wanted a = wantQ 11 ps r xs m κs qs a (Post the-contract κs a)
+
+-- the function's theorem, from the answers
+pub close : ((w : World) → Answers the-contract w code.env key.name xs m (homes (code.function .locals)) (code.function .body) (d-at w)) → {M : Type 1} → statement M
+unfolding code.routine tablesOf
+close answers {M} 𝓤 H 𝓜 𝓖 𝓡 =
+    met the-contract (record { M = M; 𝓤 = 𝓤; H = H; 𝓜 = 𝓜; 𝓖 = 𝓖; 𝓡 = 𝓡 }) code.env key.name xs m (homes (code.function .locals)) (code.function .body)
+    (d-at (record { M = M; 𝓤 = 𝓤; H = H; 𝓜 = 𝓜; 𝓖 = 𝓖; 𝓡 = 𝓡 })) (code.unfolded 𝓤 H 𝓜 𝓡) (answers (record { M = M; 𝓤 = 𝓤; H = H; 𝓜 = 𝓜; 𝓖 = 𝓖; 𝓡 = 𝓡 }))

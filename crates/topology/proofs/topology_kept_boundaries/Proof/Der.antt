@@ -1,5 +1,8 @@
 -- The derivation of `Rattle.topology.proofs.topology_kept_boundaries` in steps. Made by tools/twin.
-use Prim.Native.Nat.{ℕ, suc}
+use contract.Running.{tablesOf}
+use borrow.Fn.World.{World}
+use borrow.Fn.Any.{wantQ}
+use Prim.Native.Nat.{suc, ℕ}
 use Rattle.context.proofs.Region as twin-0
 use Rattle.topology.proofs.Answer.{enum}
 use Rattle.topology.proofs.Answer as Answer
@@ -13,8 +16,8 @@ use borrow.Enum.Whole.{reads-enum}
 use borrow.Fn.Call.{sub-id}
 use borrow.Fn.Enter.{tysP}
 use borrow.Fn.Frame.{EnvOf}
-use borrow.Fn.Function.{Γin, Δret}
-use borrow.Fn.Kinds.{tyR}
+use borrow.Fn.Function.{init, Γin, Δret}
+use borrow.Fn.Kinds.{Dens, tyR}
 use borrow.Fn.Plain.{Known as Knows, t-call-plain}
 use borrow.Kind.Num.{vAt}
 use borrow.Kind.ShrSlice.{spares-sslice}
@@ -35,7 +38,7 @@ use borrow.Table.Reads.{as-is, room-gone}
 use borrow.Table.Referent.{fInt, rtF}
 use borrow.Table.Row.{Cx, Row, alive, dead, lease, off, sInt, valS}
 use borrow.Table.Rows.{any-gone, sc-here, whole}
-use borrow.Table.Typed.{withNext}
+use borrow.Table.Typed.{Mo, Outs, Want, withNext}
 use contract.Lifetimes.{Lfts, Shares}
 use denote.Enum.Declared.{tagOf}
 use denote.Enum.Declared as Declared
@@ -53,9 +56,15 @@ use prog.Wp.{Env, Heap, Tables}
 use types.Kit.{Given}
 use Rattle.topology.proofs.Seen.kept_boundaries.Kinds as K0
 use Rattle.topology.proofs.Seen.kept_boundaries.Reads as R0
+use Rattle.topology.proofs.kept_boundaries.Symbol as S0
+use Rattle.topology.proofs.kept_boundaries.Met as M0
 use Rattle.topology.proofs.Seen.topology_kept_boundaries.Kinds.{ps, r}
 use Rattle.topology.proofs.topology_kept_boundaries.Code as code
-use Rattle.topology.proofs.Steps.{Der, _$_, head-of, past, typesPast, patched, stmt, ghosts, first, switches, then, last, rets}
+use Rattle.topology.proofs.Contracts.{Answers, Post, Pre, Wof, met, 𝓣of}
+use Rattle.topology.proofs.Seen.topology_kept_boundaries.Reads.{the-contract}
+use Rattle.topology.proofs.topology_kept_boundaries.Key as key
+use Rattle.topology.proofs.topology_kept_boundaries.Statement.{statement}
+use Rattle.topology.proofs.Steps.{Der, _$_, first, ghosts, head-of, homes, last, past, patched, rets, stmt, switches, then, typesPast}
 
 abbrev pub xs : List Ty
 xs = typesPast (suc (code.function .params)) (code.function .locals)
@@ -257,7 +266,7 @@ module _ {M : Type 1} (𝓤 : URA M) (H : Heap 𝓤) (A : Atoms 𝓤) (W : Given
             stmt (G62 κs qs) _ (t-use 𝓤 H A W E 𝓣 (G62 κs qs) (oFld 15 (variant 0 ∷ field 1 ∷ []) (tyInt w64) 8 (λ v. Laws.the-laws .0 .0 .val (v .0))) 16 (sc-here (sInt w64)) (tyInt w64) (valS (sInt w64)) (sInt w64 .of) (reads-payload 𝓤 H A W enum Laws.the-laws 0 refl refl (λ v. vcons (Laws.the-laws .0 .0 .val (v .0)) vnil) (λ v. refl) 0 (tyInt w64) 8 refl, refl) (room-gone 𝓤 H A (tyInt w64)) (holds-sc 𝓤 H A W (sInt w64)) refl (λ u. refl) (λ u. tt)) $
             ghosts _ _ (g-room 𝓤 H A W E _ 15 _ (room-whole 𝓤 H A W (Known enum 0) _ refl)) $
             stmt _ (G66 κs qs) (t-use 𝓤 H A W E 𝓣 _ (oAt 16 (tyInt w64) (valS (sInt w64))) 34 (sc-here (sInt w64)) (tyInt w64) (valS (sInt w64)) (sInt w64 .of) (reads-sc 𝓤 H A W (sInt w64), refl) (room-gone 𝓤 H A (tyInt w64)) (holds-sc 𝓤 H A W (sInt w64)) refl (λ u. refl) (λ u. tt)) $
-            last (G66 κs qs) (G34 κs qs) (then W (G66 κs qs) (G69 κs qs) (G34 κs qs) (then W (G66 κs qs) (G68 κs qs) (G69 κs qs) (then W (G66 κs qs) (G67 κs qs) (G68 κs qs) (t-struct-make 𝓤 H A W E 𝓣 (apartT TopologyAnswer.the-type) Laws'.the-laws Laws'.the-plain (G66 κs qs) 33 (oInt w64 0 ∷ oAt 34 (tyInt w64) (valS (sInt w64)) ∷ []) (λ m. (0, (m .1 .1 .1 .1 .1 .1 .1 .1 .1 .1 .1 .1 .1 .1 .1 .1 .1 .1 .1 .1 .1 .1 .1 .1 .1 .1 .1 .1 .1 .1 .1 .1 .1 .1 .0, tt))) (room-gone 𝓤 H A _) (tt, ((reads-sc 𝓤 H A W (sInt w64), refl), tt)) refl (λ u. refl) (λ m. is-wt (apartT TopologyAnswer.the-type) Laws'.the-laws (u64-wt, (u64-wt, tt)) (0, (m .1 .1 .1 .1 .1 .1 .1 .1 .1 .1 .1 .1 .1 .1 .1 .1 .1 .1 .1 .1 .1 .1 .1 .1 .1 .1 .1 .1 .1 .1 .1 .1 .1 .1 .0, tt)))) (g-room 𝓤 H A W E (G67 κs qs) 16 (tyInt w64) (room-sc 𝓤 H A W (sInt w64)))) (g-room 𝓤 H A W E (G68 κs qs) 34 (tyInt w64) (room-sc 𝓤 H A W (sInt w64)))) (g-as-by 𝓤 H A W E (λ ρ. Unit) (G69 κs qs) 33 (whole (Declared'.row TopologyAnswer.the-type)) (λ v. struct .make v tt) (told-none 𝓤 H A ((G69 κs qs) .slots)) (λ ρ told v b. folds 𝓤 H A TopologyAnswer.the-type (struct .Ghost) (struct .make) (λ v g. refl) ρ v tt b))),
+            last (G66 κs qs) (G34 κs qs) (then W (G66 κs qs) (G69 κs qs) (G34 κs qs) (then W (G66 κs qs) (G68 κs qs) (G69 κs qs) (then W (G66 κs qs) (G67 κs qs) (G68 κs qs) (t-struct-make 𝓤 H A W E 𝓣 (apartT TopologyAnswer.the-type) Laws'.the-laws Laws'.the-plain (G66 κs qs) 33 (oInt w64 _ ∷ oAt 34 (tyInt w64) (valS (sInt w64)) ∷ []) (λ m. (0, (m .1 .1 .1 .1 .1 .1 .1 .1 .1 .1 .1 .1 .1 .1 .1 .1 .1 .1 .1 .1 .1 .1 .1 .1 .1 .1 .1 .1 .1 .1 .1 .1 .1 .1 .0, tt))) (room-gone 𝓤 H A _) (tt, ((reads-sc 𝓤 H A W (sInt w64), refl), tt)) refl (λ u. refl) (λ m. is-wt (apartT TopologyAnswer.the-type) Laws'.the-laws (u64-wt, (u64-wt, tt)) (0, (m .1 .1 .1 .1 .1 .1 .1 .1 .1 .1 .1 .1 .1 .1 .1 .1 .1 .1 .1 .1 .1 .1 .1 .1 .1 .1 .1 .1 .1 .1 .1 .1 .1 .1 .0, tt)))) (g-room 𝓤 H A W E (G67 κs qs) 16 (tyInt w64) (room-sc 𝓤 H A W (sInt w64)))) (g-room 𝓤 H A W E (G68 κs qs) 34 (tyInt w64) (room-sc 𝓤 H A W (sInt w64)))) (g-as-by 𝓤 H A W E (λ ρ. Unit) (G69 κs qs) 33 (whole (Declared'.row TopologyAnswer.the-type)) (λ v. struct .make v tt) (told-none 𝓤 H A ((G69 κs qs) .slots)) (λ ρ told v b. folds 𝓤 H A TopologyAnswer.the-type (struct .Ghost) (struct .make) (λ v g. refl) ρ v tt b))),
         (
           ghosts (G61 κs qs) (G71 κs qs) (g-enum-known 𝓤 H A W E enum 1 (G61 κs qs) 15 (λ x. x) (as-is 𝓤 H A (whole (Declared.row Answer.the-type)))) $
               ghosts (G71 κs qs) (G71 κs qs) (g-known-told 𝓤 H A W E enum 1 (G71 κs qs) 15 Laws.the-laws (λ x. x) (as-is 𝓤 H A (whole (Known enum 1)))) $
@@ -318,3 +327,42 @@ module _ {M : Type 1} (𝓤 : URA M) (H : Heap 𝓤) (A : Atoms 𝓤) (W : Given
       ghosts _ (G61 κs qs) (g-forget 𝓤 H A W E _ 17 dead refl) $
       d61) $
       d34
+
+-- the derivations at a model
+module _ (w : World) where
+  abbrev known0-at : Knows (w .𝓤) (w .H) (w .𝓖 .A) (Wof w) (𝓣of w code.env) 11 K0.ps K0.r R0.Asked R0.Learnt "topology::kept_boundaries"
+  known0-at = R0.known w code.env S0.name S0.routine code.calls-topology·kept-boundaries (M0.met (w .𝓤) (w .H) (w .𝓜) (w .𝓖) (w .𝓡))
+
+module _ (w : World) (κs : Lfts 11) (qs : Shares 11) (bs : List ℕ) where
+  abbrev pub d34-at : Der (Wof w) (𝓣of w code.env) (EnvOf (w .𝓤) (w .H) (tyR r ∷ tysP ps xs) bs) (G34 κs qs) (past 16 (code.function .body)) (Δret 11 ps r xs m κs qs)
+  d34-at = d34 (w .𝓤) (w .H) (w .𝓖 .A) (Wof w) (𝓣of w code.env) (known0-at w) κs qs bs
+
+  abbrev pub d61-at : Der (Wof w) (𝓣of w code.env) (EnvOf (w .𝓤) (w .H) (tyR r ∷ tysP ps xs) bs) (G61 κs qs) (head-of (past 15 (code.function .body))) (withNext (some (G34 κs qs)) (Δret 11 ps r xs m κs qs))
+  d61-at = d61 (w .𝓤) (w .H) (w .𝓖 .A) (Wof w) (𝓣of w code.env) (known0-at w) κs qs bs
+
+  abbrev pub d-at : Der (Wof w) (𝓣of w code.env) (EnvOf (w .𝓤) (w .H) (tyR r ∷ tysP ps xs) bs) (Γin 11 ps r xs m κs qs) (code.function .body) (Δret 11 ps r xs m κs qs)
+  d-at = d (w .𝓤) (w .H) (w .𝓖 .A) (Wof w) (𝓣of w code.env) (known0-at w) κs qs bs
+
+-- the arguments and what is required of them, the state at entry, the ways out, and what is wanted of a return
+abbrev pub Args : Lfts 11 → Type 0
+Args κs = Dens κs ps
+
+abbrev pub Requires : (κs : Lfts 11) → Args κs → Type 0
+Requires κs a = Pre the-contract κs a
+
+module _ (κs : Lfts 11) (qs : Shares 11) where
+  abbrev pub returns : Outs
+  returns = Δret 11 ps r xs m κs qs
+
+  abbrev pub entry : Args κs → Mo (G0 κs qs)
+  entry a = init 11 ps r xs m κs qs a
+
+  abbrev pub wanted : Args κs → Want returns
+  wanted a = wantQ 11 ps r xs m κs qs a (Post the-contract κs a)
+
+-- the function's theorem, from the answers
+pub close : ((w : World) → Answers the-contract w code.env key.name xs m (homes (code.function .locals)) (code.function .body) (d-at w)) → {M : Type 1} → statement M
+unfolding code.routine tablesOf
+close answers {M} 𝓤 H 𝓜 𝓖 𝓡 =
+    met the-contract (record { M = M; 𝓤 = 𝓤; H = H; 𝓜 = 𝓜; 𝓖 = 𝓖; 𝓡 = 𝓡 }) code.env key.name xs m (homes (code.function .locals)) (code.function .body)
+    (d-at (record { M = M; 𝓤 = 𝓤; H = H; 𝓜 = 𝓜; 𝓖 = 𝓖; 𝓡 = 𝓡 })) (code.unfolded 𝓤 H 𝓜 𝓡) (answers (record { M = M; 𝓤 = 𝓤; H = H; 𝓜 = 𝓜; 𝓖 = 𝓖; 𝓡 = 𝓡 }))

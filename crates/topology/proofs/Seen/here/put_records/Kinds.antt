@@ -1,18 +1,17 @@
 -- made by tools/twin: do not edit
 use Rattle.context.proofs.Region as twin-0
-use borrow.Fn.Kinds
-use borrow.Kind.MutSlice
-use borrow.Kind.ShrSlice
-use borrow.Table.Referent
-use denote.Array
-use mathlib.Core.List
-use mir.Syntax
+use borrow.Fn.Kinds.{PK, RK, rUnit}
+use borrow.Kind.MutSlice.{pMutS}
+use borrow.Kind.ShrSlice.{pShrS}
+use borrow.Table.Referent.{fInt, rtF}
+use mathlib.Core.List.{List, [], _∷_}
+use mir.Syntax.{w64}
 
-abbrev pub ps : List.List (Kinds.PK 2)
+abbrev pub ps : List (PK 2)
 ps =
-    List._∷_
-    (ShrSlice.pShrS twin-0.the-row 0 tt)
-    (List._∷_ (MutSlice.pMutS (Referent.rtF (Referent.fInt Syntax.w64)) 1 tt) List.[])
+    pShrS twin-0.the-row 0 tt ∷
+    pMutS (rtF (fInt w64)) 1 tt ∷
+    []
 
-abbrev pub r : Kinds.RK 2
-r = Kinds.rUnit
+abbrev pub r : RK 2
+r = rUnit

@@ -1,5 +1,9 @@
 -- The derivation of `Rattle.topology.proofs.here.kept_boundaries_here` in steps. Made by tools/twin.
-use Prim.Native.Nat.{ℕ, suc}
+use contract.Running.{tablesOf}
+use borrow.Table.Typed.{Mo, Outs, Want}
+use borrow.Fn.World.{World}
+use borrow.Fn.Any.{wantQ}
+use Prim.Native.Nat.{suc, ℕ}
 use Rattle.context.proofs.Region as twin-0
 use Rattle.context.proofs.Region.Laws as twin-0-laws
 use Rattle.topology.proofs.Answer as Answer
@@ -7,8 +11,8 @@ use Rattle.topology.proofs.Answer.Laws as Laws
 use borrow.Fn.Call.{sub-id}
 use borrow.Fn.Enter.{tysP}
 use borrow.Fn.Frame.{EnvOf}
-use borrow.Fn.Function.{Γin, Δret}
-use borrow.Fn.Kinds.{tyR}
+use borrow.Fn.Function.{init, Γin, Δret}
+use borrow.Fn.Kinds.{Dens, tyR}
 use borrow.Fn.Plain.{Known as Knows, t-call-plain}
 use borrow.Kind.Num.{vAt, vLit}
 use borrow.Kind.ShrSlice.{spares-sslice}
@@ -45,15 +49,27 @@ use prog.Wp.{Env, Heap, Tables}
 use types.Kit.{Given}
 use Rattle.topology.proofs.numbers.least.Kinds as K0
 use Rattle.topology.proofs.numbers.least.Reads as R0
+use Rattle.topology.proofs.numbers.least.Symbol as S0
+use Rattle.topology.proofs.numbers.least.Met as M0
 use Rattle.topology.proofs.here.empty_records.Kinds as K1
 use Rattle.topology.proofs.here.empty_records.Reads as R1
+use Rattle.topology.proofs.here.empty_records.Symbol as S1
+use Rattle.topology.proofs.here.empty_records.Met as M1
 use Rattle.topology.proofs.Seen.kept_boundaries.Kinds as K2
 use Rattle.topology.proofs.Seen.kept_boundaries.Reads as R2
+use Rattle.topology.proofs.kept_boundaries.Symbol as S2
+use Rattle.topology.proofs.kept_boundaries.Met as M2
 use Rattle.topology.proofs.Seen.here.put_records.Kinds as K3
 use Rattle.topology.proofs.Seen.here.put_records.Reads as R3
+use Rattle.topology.proofs.here.put_records.Symbol as S3
+use Rattle.topology.proofs.here.put_records.Met as M3
 use Rattle.topology.proofs.Seen.here.kept_boundaries_here.Kinds.{ps, r}
 use Rattle.topology.proofs.here.kept_boundaries_here.Code as code
-use Rattle.topology.proofs.Steps.{Der, _$_, past, typesPast, patched, stmt, ghosts, rets}
+use Rattle.topology.proofs.Contracts.{Answers, Post, Pre, Wof, met, 𝓣of}
+use Rattle.topology.proofs.Seen.here.kept_boundaries_here.Reads.{the-contract}
+use Rattle.topology.proofs.here.kept_boundaries_here.Key as key
+use Rattle.topology.proofs.here.kept_boundaries_here.Statement.{statement}
+use Rattle.topology.proofs.Steps.{Der, _$_, ghosts, homes, past, patched, rets, stmt, typesPast}
 
 abbrev pub xs : List Ty
 xs = typesPast (suc (code.function .params)) (code.function .locals)
@@ -315,3 +331,48 @@ module _ {M : Type 1} (𝓤 : URA M) (H : Heap 𝓤) (A : Atoms 𝓤) (W : Given
       ghosts _ _ (g-back-sl 𝓤 H A W E (rtF (fInt w64)) _ 33 14 9 17 (tyRef (named 9) mut (tyInt w64)) (tyRef erased mut (tyInt w64)) (lease (κs .1 .1 .1 .1 .1 .1 .1 .1 .1 .0) (qs .1 .1 .1 .1 .1 .1 .1 .1 .1 .0)) (λ x. x) (λ x. x) (as-is 𝓤 H A (msleft (rtF (fInt w64)) (tyRef erased mut (tyInt w64)))) (as-is 𝓤 H A (mslice-owed (rtF (fInt w64)) (tyRef (named 9) mut (tyInt w64)) 9 17 (lease (κs .1 .1 .1 .1 .1 .1 .1 .1 .1 .0) (qs .1 .1 .1 .1 .1 .1 .1 .1 .1 .0)))) refl refl) $
       ghosts _ (G65 κs qs) (g-forget 𝓤 H A W E _ 17 dead refl) $
       d65
+
+-- the derivations at a model
+module _ (w : World) where
+  abbrev known0-at : Knows (w .𝓤) (w .H) (w .𝓖 .A) (Wof w) (𝓣of w code.env) 0 K0.ps K0.r R0.Asked R0.Learnt "topology::numbers::least"
+  known0-at = R0.known w code.env S0.name S0.routine code.calls-topology·numbers·least (M0.met (w .𝓤) (w .H) (w .𝓜) (w .𝓖) (w .𝓡))
+
+  abbrev known1-at : Knows (w .𝓤) (w .H) (w .𝓖 .A) (Wof w) (𝓣of w code.env) 0 K1.ps K1.r R1.Asked R1.Learnt "topology::here::empty_records"
+  known1-at = R1.known w code.env S1.name S1.routine code.calls-topology·here·empty-records (M1.met (w .𝓤) (w .H) (w .𝓜) (w .𝓖) (w .𝓡))
+
+  abbrev known2-at : Knows (w .𝓤) (w .H) (w .𝓖 .A) (Wof w) (𝓣of w code.env) 11 K2.ps K2.r R2.Asked R2.Learnt "topology::kept_boundaries"
+  known2-at = R2.known w code.env S2.name S2.routine code.calls-topology·kept-boundaries (M2.met (w .𝓤) (w .H) (w .𝓜) (w .𝓖) (w .𝓡))
+
+  abbrev known3-at : Knows (w .𝓤) (w .H) (w .𝓖 .A) (Wof w) (𝓣of w code.env) 2 K3.ps K3.r R3.Asked R3.Learnt "topology::here::put_records"
+  known3-at = R3.known w code.env S3.name S3.routine code.calls-topology·here·put-records (M3.met (w .𝓤) (w .H) (w .𝓜) (w .𝓖) (w .𝓡))
+
+module _ (w : World) (κs : Lfts 11) (qs : Shares 11) (bs : List ℕ) where
+  abbrev pub d65-at : Der (Wof w) (𝓣of w code.env) (EnvOf (w .𝓤) (w .H) (tyR r ∷ tysP ps xs) bs) (G65 κs qs) (past 18 (code.function .body)) (Δret 11 ps r xs m κs qs)
+  d65-at = d65 (w .𝓤) (w .H) (w .𝓖 .A) (Wof w) (𝓣of w code.env) (known0-at w) (known1-at w) (known2-at w) (known3-at w) κs qs bs
+
+  abbrev pub d-at : Der (Wof w) (𝓣of w code.env) (EnvOf (w .𝓤) (w .H) (tyR r ∷ tysP ps xs) bs) (Γin 11 ps r xs m κs qs) (code.function .body) (Δret 11 ps r xs m κs qs)
+  d-at = d (w .𝓤) (w .H) (w .𝓖 .A) (Wof w) (𝓣of w code.env) (known0-at w) (known1-at w) (known2-at w) (known3-at w) κs qs bs
+
+-- the arguments and what is required of them, the state at entry, the ways out, and what is wanted of a return
+abbrev pub Args : Lfts 11 → Type 0
+Args κs = Dens κs ps
+
+abbrev pub Requires : (κs : Lfts 11) → Args κs → Type 0
+Requires κs a = Pre the-contract κs a
+
+module _ (κs : Lfts 11) (qs : Shares 11) where
+  abbrev pub returns : Outs
+  returns = Δret 11 ps r xs m κs qs
+
+  abbrev pub entry : Args κs → Mo (G0 κs qs)
+  entry a = init 11 ps r xs m κs qs a
+
+  abbrev pub wanted : Args κs → Want returns
+  wanted a = wantQ 11 ps r xs m κs qs a (Post the-contract κs a)
+
+-- the function's theorem, from the answers
+pub close : ((w : World) → Answers the-contract w code.env key.name xs m (homes (code.function .locals)) (code.function .body) (d-at w)) → {M : Type 1} → statement M
+unfolding code.routine tablesOf
+close answers {M} 𝓤 H 𝓜 𝓖 𝓡 =
+    met the-contract (record { M = M; 𝓤 = 𝓤; H = H; 𝓜 = 𝓜; 𝓖 = 𝓖; 𝓡 = 𝓡 }) code.env key.name xs m (homes (code.function .locals)) (code.function .body)
+    (d-at (record { M = M; 𝓤 = 𝓤; H = H; 𝓜 = 𝓜; 𝓖 = 𝓖; 𝓡 = 𝓡 })) (code.unfolded 𝓤 H 𝓜 𝓡) (answers (record { M = M; 𝓤 = 𝓤; H = H; 𝓜 = 𝓜; 𝓖 = 𝓖; 𝓡 = 𝓡 }))

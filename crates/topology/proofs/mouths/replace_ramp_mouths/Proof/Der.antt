@@ -1,11 +1,15 @@
 -- The derivation of `Rattle.topology.proofs.mouths.replace_ramp_mouths` in steps. Made by tools/twin.
-use Prim.Native.Nat.{ℕ, suc}
+use contract.Running.{tablesOf}
+use borrow.Table.Typed.{Mo, Outs, Want}
+use borrow.Fn.World.{World}
+use borrow.Fn.Any.{wantQ}
+use Prim.Native.Nat.{suc, ℕ}
 use Rattle.context.proofs.Region as twin-0
 use borrow.Fn.Call.{sub-id}
 use borrow.Fn.Enter.{tysP}
 use borrow.Fn.Frame.{EnvOf}
-use borrow.Fn.Function.{Γin, Δret}
-use borrow.Fn.Kinds.{tyR}
+use borrow.Fn.Function.{init, Γin, Δret}
+use borrow.Fn.Kinds.{Dens, tyR}
 use borrow.Fn.Plain.{Known as Knows, t-call-plain}
 use borrow.Kind.Num.{vAt}
 use borrow.Kind.ShrRef.{spares-sref}
@@ -45,15 +49,27 @@ use prog.Wp.{Env, Heap, Tables}
 use types.Kit.{Given}
 use Rattle.ramp_boundaries.proofs.candidates.any_ramp.Kinds as K0
 use Rattle.ramp_boundaries.proofs.candidates.any_ramp.Reads as R0
+use Rattle.ramp_boundaries.proofs.candidates.any_ramp.Symbol as S0
+use Rattle.ramp_boundaries.proofs.candidates.any_ramp.Met as M0
 use Rattle.ramp_boundaries.proofs.candidates.push_candidates.Kinds as K1
 use Rattle.ramp_boundaries.proofs.candidates.push_candidates.Reads as R1
+use Rattle.ramp_boundaries.proofs.candidates.push_candidates.Symbol as S1
+use Rattle.ramp_boundaries.proofs.candidates.push_candidates.Met as M1
 use Rattle.topology.proofs.Seen.mouths.mark_near.Kinds as K2
 use Rattle.topology.proofs.Seen.mouths.mark_near.Reads as R2
+use Rattle.topology.proofs.mouths.mark_near.Symbol as S2
+use Rattle.topology.proofs.mouths.mark_near.Met as M2
 use Rattle.mouth_selection.proofs.selection.select_mouths.Kinds as K3
 use Rattle.mouth_selection.proofs.selection.select_mouths.Reads as R3
+use Rattle.mouth_selection.proofs.selection.select_mouths.Symbol as S3
+use Rattle.mouth_selection.proofs.selection.select_mouths.Met as M3
 use Rattle.topology.proofs.Seen.mouths.replace_ramp_mouths.Kinds.{ps, r}
 use Rattle.topology.proofs.mouths.replace_ramp_mouths.Code as code
-use Rattle.topology.proofs.Steps.{Der, _$_, typesPast, patched, stmt, ghosts, first, test, skips, rets}
+use Rattle.topology.proofs.Contracts.{Answers, Post, Pre, Wof, met, 𝓣of}
+use Rattle.topology.proofs.Seen.mouths.replace_ramp_mouths.Reads.{the-contract}
+use Rattle.topology.proofs.mouths.replace_ramp_mouths.Key as key
+use Rattle.topology.proofs.mouths.replace_ramp_mouths.Statement.{statement}
+use Rattle.topology.proofs.Steps.{Der, _$_, first, ghosts, homes, patched, rets, skips, stmt, test, typesPast}
 
 abbrev pub xs : List Ty
 xs = typesPast (suc (code.function .params)) (code.function .locals)
@@ -419,15 +435,15 @@ module _ {M : Type 1} (𝓤 : URA M) (H : Heap 𝓤) (A : Atoms 𝓤) (W : Given
       rets) (
       ghosts (G10 κs qs) (G0 κs qs) (g-room 𝓤 H A W E (G10 κs qs) 18 tyBool (room-sc 𝓤 H A W sBool)) $
       skips)) $
-      stmt (G0 κs qs) (G15 κs qs) (t-repeat 𝓤 H A W E 𝓣 (rtF (fInt w8)) (uint-lawful 𝓤 H A W w8) (cRf (fInt w8) .copy 𝓤 H A W) (uint-makes 𝓤 H A W w8) 16384 (G0 κs qs) 10 (oInt w8 0) (λ m. 0) (room-gone 𝓤 H A (tyArray (tyInt w8) 16384)) tt refl (λ m wa. (refl, lit< tt))) $
+      stmt (G0 κs qs) (G15 κs qs) (t-repeat 𝓤 H A W E 𝓣 (rtF (fInt w8)) (uint-lawful 𝓤 H A W w8) (cRf (fInt w8) .copy 𝓤 H A W) (uint-makes 𝓤 H A W w8) 16384 (G0 κs qs) 10 (oInt w8 _) (λ m. 0) (room-gone 𝓤 H A (tyArray (tyInt w8) 16384)) tt refl (λ m wa. (refl, lit< tt))) $
       ghosts (G15 κs qs) _ (g-as-by 𝓤 H A W E (λ ρ. Unit) (G15 κs qs) 10 (arrF (rtF (fInt w8)) 16384 0) (λ x. x) (told-none 𝓤 H A ((G15 κs qs) .slots)) (λ ρ told. whole-arr 𝓤 H A W (rtF (fInt w8)) 16384 tt ρ)) $
-      stmt _ (G17 κs qs) (t-repeat 𝓤 H A W E 𝓣 (rtF (fInt w8)) (uint-lawful 𝓤 H A W w8) (cRf (fInt w8) .copy 𝓤 H A W) (uint-makes 𝓤 H A W w8) 16384 _ 11 (oInt w8 0) (λ m. 0) (room-gone 𝓤 H A (tyArray (tyInt w8) 16384)) tt refl (λ m wa. (refl, lit< tt))) $
+      stmt _ (G17 κs qs) (t-repeat 𝓤 H A W E 𝓣 (rtF (fInt w8)) (uint-lawful 𝓤 H A W w8) (cRf (fInt w8) .copy 𝓤 H A W) (uint-makes 𝓤 H A W w8) 16384 _ 11 (oInt w8 _) (λ m. 0) (room-gone 𝓤 H A (tyArray (tyInt w8) 16384)) tt refl (λ m wa. (refl, lit< tt))) $
       ghosts (G17 κs qs) _ (g-as-by 𝓤 H A W E (λ ρ. Unit) (G17 κs qs) 11 (arrF (rtF (fInt w8)) 16384 0) (λ x. x) (told-none 𝓤 H A ((G17 κs qs) .slots)) (λ ρ told. whole-arr 𝓤 H A W (rtF (fInt w8)) 16384 tt ρ)) $
-      stmt _ (G19 κs qs) (t-repeat 𝓤 H A W E 𝓣 (rtF (fInt w32)) (uint-lawful 𝓤 H A W w32) (cRf (fInt w32) .copy 𝓤 H A W) (uint-makes 𝓤 H A W w32) 16384 _ 12 (oInt w32 0) (λ m. 0) (room-gone 𝓤 H A (tyArray (tyInt w32) 16384)) tt refl (λ m wa. (refl, lit< tt))) $
+      stmt _ (G19 κs qs) (t-repeat 𝓤 H A W E 𝓣 (rtF (fInt w32)) (uint-lawful 𝓤 H A W w32) (cRf (fInt w32) .copy 𝓤 H A W) (uint-makes 𝓤 H A W w32) 16384 _ 12 (oInt w32 _) (λ m. 0) (room-gone 𝓤 H A (tyArray (tyInt w32) 16384)) tt refl (λ m wa. (refl, lit< tt))) $
       ghosts (G19 κs qs) _ (g-as-by 𝓤 H A W E (λ ρ. Unit) (G19 κs qs) 12 (arrF (rtF (fInt w32)) 16384 0) (λ x. x) (told-none 𝓤 H A ((G19 κs qs) .slots)) (λ ρ told. whole-arr 𝓤 H A W (rtF (fInt w32)) 16384 tt ρ)) $
-      stmt _ (G21 κs qs) (t-repeat 𝓤 H A W E 𝓣 (rtF (fInt w8)) (uint-lawful 𝓤 H A W w8) (cRf (fInt w8) .copy 𝓤 H A W) (uint-makes 𝓤 H A W w8) 16384 _ 13 (oInt w8 0) (λ m. 0) (room-gone 𝓤 H A (tyArray (tyInt w8) 16384)) tt refl (λ m wa. (refl, lit< tt))) $
+      stmt _ (G21 κs qs) (t-repeat 𝓤 H A W E 𝓣 (rtF (fInt w8)) (uint-lawful 𝓤 H A W w8) (cRf (fInt w8) .copy 𝓤 H A W) (uint-makes 𝓤 H A W w8) 16384 _ 13 (oInt w8 _) (λ m. 0) (room-gone 𝓤 H A (tyArray (tyInt w8) 16384)) tt refl (λ m wa. (refl, lit< tt))) $
       ghosts (G21 κs qs) _ (g-as-by 𝓤 H A W E (λ ρ. Unit) (G21 κs qs) 13 (arrF (rtF (fInt w8)) 16384 0) (λ x. x) (told-none 𝓤 H A ((G21 κs qs) .slots)) (λ ρ told. whole-arr 𝓤 H A W (rtF (fInt w8)) 16384 tt ρ)) $
-      stmt _ (G23 κs qs) (t-repeat 𝓤 H A W E 𝓣 (rtF (fInt w64)) (uint-lawful 𝓤 H A W w64) (cRf (fInt w64) .copy 𝓤 H A W) (uint-makes 𝓤 H A W w64) 16384 _ 14 (oInt w64 0) (λ m. 0) (room-gone 𝓤 H A (tyArray (tyInt w64) 16384)) tt refl (λ m wa. (refl, lit< tt))) $
+      stmt _ (G23 κs qs) (t-repeat 𝓤 H A W E 𝓣 (rtF (fInt w64)) (uint-lawful 𝓤 H A W w64) (cRf (fInt w64) .copy 𝓤 H A W) (uint-makes 𝓤 H A W w64) 16384 _ 14 (oInt w64 _) (λ m. 0) (room-gone 𝓤 H A (tyArray (tyInt w64) 16384)) tt refl (λ m wa. (refl, lit< tt))) $
       ghosts (G23 κs qs) _ (g-as-by 𝓤 H A W E (λ ρ. Unit) (G23 κs qs) 14 (arrF (rtF (fInt w64)) 16384 0) (λ x. x) (told-none 𝓤 H A ((G23 κs qs) .slots)) (λ ρ told. whole-arr 𝓤 H A W (rtF (fInt w64)) 16384 tt ρ)) $
       stmt _ (G25 κs qs) (t-repeat 𝓤 H A W E 𝓣 (rtF fBool) (bool-lawful 𝓤 H A W) (cRf fBool .copy 𝓤 H A W) (bool-makes 𝓤 H A W) 16384 _ 15 (oBool false) (λ m. false) (room-gone 𝓤 H A (tyArray tyBool 16384)) tt refl (λ m wa. refl)) $
       ghosts (G25 κs qs) _ (g-as-by 𝓤 H A W E (λ ρ. Unit) (G25 κs qs) 15 (arrF (rtF fBool) 16384 0) (λ x. x) (told-none 𝓤 H A ((G25 κs qs) .slots)) (λ ρ told. whole-arr 𝓤 H A W (rtF fBool) 16384 tt ρ)) $
@@ -554,3 +570,45 @@ module _ {M : Type 1} (𝓤 : URA M) (H : Heap 𝓤) (A : Atoms 𝓤) (W : Given
       ghosts _ (G12 κs qs) (g-room 𝓤 H A W E _ 16 (tyInt w64) (room-sc 𝓤 H A W (sInt w64))) $
       ghosts (G12 κs qs) (G13 κs qs) (g-room 𝓤 H A W E (G12 κs qs) 2 (tyInt w64) (room-sc 𝓤 H A W (sInt w64))) $
       rets
+
+-- the derivations at a model
+module _ (w : World) where
+  abbrev known0-at : Knows (w .𝓤) (w .H) (w .𝓖 .A) (Wof w) (𝓣of w code.env) 1 K0.ps K0.r R0.Asked R0.Learnt "ramp_boundaries::candidates::any_ramp"
+  known0-at = R0.known w code.env S0.name S0.routine code.calls-ramp-boundaries·candidates·any-ramp (M0.met (w .𝓤) (w .H) (w .𝓜) (w .𝓖) (w .𝓡))
+
+  abbrev known1-at : Knows (w .𝓤) (w .H) (w .𝓖 .A) (Wof w) (𝓣of w code.env) 11 K1.ps K1.r R1.Asked R1.Learnt "ramp_boundaries::candidates::push_candidates"
+  known1-at = R1.known w code.env S1.name S1.routine code.calls-ramp-boundaries·candidates·push-candidates (M1.met (w .𝓤) (w .H) (w .𝓜) (w .𝓖) (w .𝓡))
+
+  abbrev known2-at : Knows (w .𝓤) (w .H) (w .𝓖 .A) (Wof w) (𝓣of w code.env) 9 K2.ps K2.r R2.Asked R2.Learnt "topology::mouths::mark_near"
+  known2-at = R2.known w code.env S2.name S2.routine code.calls-topology·mouths·mark-near (M2.met (w .𝓤) (w .H) (w .𝓜) (w .𝓖) (w .𝓡))
+
+  abbrev known3-at : Knows (w .𝓤) (w .H) (w .𝓖 .A) (Wof w) (𝓣of w code.env) 11 K3.ps K3.r R3.Asked R3.Learnt "mouth_selection::selection::select_mouths"
+  known3-at = R3.known w code.env S3.name S3.routine code.calls-mouth-selection·selection·select-mouths (M3.met (w .𝓤) (w .H) (w .𝓜) (w .𝓖) (w .𝓡))
+
+module _ (w : World) (κs : Lfts 8) (qs : Shares 8) (bs : List ℕ) where
+  abbrev pub d-at : Der (Wof w) (𝓣of w code.env) (EnvOf (w .𝓤) (w .H) (tyR r ∷ tysP ps xs) bs) (Γin 8 ps r xs m κs qs) (code.function .body) (Δret 8 ps r xs m κs qs)
+  d-at = d (w .𝓤) (w .H) (w .𝓖 .A) (Wof w) (𝓣of w code.env) (known0-at w) (known1-at w) (known2-at w) (known3-at w) κs qs bs
+
+-- the arguments and what is required of them, the state at entry, the ways out, and what is wanted of a return
+abbrev pub Args : Lfts 8 → Type 0
+Args κs = Dens κs ps
+
+abbrev pub Requires : (κs : Lfts 8) → Args κs → Type 0
+Requires κs a = Pre the-contract κs a
+
+module _ (κs : Lfts 8) (qs : Shares 8) where
+  abbrev pub returns : Outs
+  returns = Δret 8 ps r xs m κs qs
+
+  abbrev pub entry : Args κs → Mo (G0 κs qs)
+  entry a = init 8 ps r xs m κs qs a
+
+  abbrev pub wanted : Args κs → Want returns
+  wanted a = wantQ 8 ps r xs m κs qs a (Post the-contract κs a)
+
+-- the function's theorem, from the answers
+pub close : ((w : World) → Answers the-contract w code.env key.name xs m (homes (code.function .locals)) (code.function .body) (d-at w)) → {M : Type 1} → statement M
+unfolding code.routine tablesOf
+close answers {M} 𝓤 H 𝓜 𝓖 𝓡 =
+    met the-contract (record { M = M; 𝓤 = 𝓤; H = H; 𝓜 = 𝓜; 𝓖 = 𝓖; 𝓡 = 𝓡 }) code.env key.name xs m (homes (code.function .locals)) (code.function .body)
+    (d-at (record { M = M; 𝓤 = 𝓤; H = H; 𝓜 = 𝓜; 𝓖 = 𝓖; 𝓡 = 𝓡 })) (code.unfolded 𝓤 H 𝓜 𝓡) (answers (record { M = M; 𝓤 = 𝓤; H = H; 𝓜 = 𝓜; 𝓖 = 𝓖; 𝓡 = 𝓡 }))
