@@ -5,7 +5,7 @@ Makes the derived text of every crate of derived.txt anew from the code: Proof/D
 the same text. With --check nothing is written: it says which files are not current, and exits 1 if there is one.
 
 It works below target/twin and needs the toolchain on the path. The order: the twin is derived (twin.py), each derivation is put in steps (steps.py), cut where
-derived.txt says so (cut.py) and thinned (thin.py), and formatted.
+derived.txt says so (cut.py), thinned (thin.py) and ended (close.py); seen.py shortens what callers cite; all is formatted.
 """
 import os
 import shutil
@@ -13,7 +13,11 @@ import subprocess
 import sys
 
 import twin
+from close import close
 from cut import cut
+from seen import Kinds, reads
+from steps import steps
+from thin import thin
 from twin import ROOT, WORK, read, write
 
 TOOLS = os.path.dirname(os.path.abspath(__file__))
@@ -27,7 +31,7 @@ def listed():
             continue
         word, *rest = line.split()
         if word == 'crate':
-            of = crates[rest[0]] = {'records': [], 'base': [], 'made': [], 'cut': {}}
+            of = crates[rest[0]] = {'records': [], 'base': [], 'made': [], 'closes': [], 'cut': {}}
         elif word == 'cut':
             of['cut'][rest[0]] = rest[1:]
         else:
@@ -35,46 +39,43 @@ def listed():
     return crates
 
 
-def tool(name, *args):
-    subprocess.run([sys.executable, f'{TOOLS}/{name}.py', *args], check=True, stdout=subprocess.DEVNULL)
-
-
 def derivation(derived, function, cuts):
-    at = f'{WORK}/derived/{derived.crate}/{function}'
-    for module in ('Lts', 'Tie'):
-        write(f'{at}/{module}.antt', derived.text(function, module))
-    tool('steps', f'{at}/Lts.antt', f'{at}/steps.antt')
-    text = read(f'{at}/steps.antt')
-    write(f'{at}/cut.antt', cut(text, cuts) if cuts else text)
-    tool('thin', f'{at}/cut.antt', f'{at}/Der.antt')
-    return f'{at}/Der.antt'
+    """Der.antt of a function."""
+    tie = derived.text(function, 'Tie')
+    text = steps(derived.text(function, 'Lts'), tie)
+    if cuts:
+        text = cut(text, cuts)
+    return close(thin(text), tie)
 
 
-def seen(derived):
-    """Seen: what a caller's derivation cites of each function over the slice."""
+def seen(derived, closing):
+    """Seen: what a derivation cites of each function over the slice."""
+    proofs = f'Rattle.{derived.crate}.proofs'
     files, below = {}, {}
     for f in derived.seen:
         names = ['Seen'] + f.split('/')
         for i in range(1, len(names)):
             below.setdefault('/'.join(names[:i]), set()).add(names[i])
         below['/'.join(names)] = {'Kinds', 'Reads'}
-        for module in ('Kinds', 'Reads'):
-            files[f'Seen/{f}/{module}.antt'] = derived.text(f, module)
+        kinds = Kinds(derived.text(f, 'Kinds'), proofs)
+        files[f'Seen/{f}/Kinds.antt'] = kinds.text()
+        files[f'Seen/{f}/Reads.antt'] = reads(derived.text(f, 'Reads'), kinds.count, f, proofs, f in closing)
     for module, names in below.items():
         files[f'{module}.antt'] = ''.join(f'pub mod {n}\n' for n in sorted(names))
     return files
 
 
 def made(crate, of):
-    """The derived files of a crate: path below its proofs, and where the text stands."""
+    """The derived files of a crate: the path of each below its proofs, and its text."""
     derived = twin.derive_all(crate, of['records'], of['base'], of['made'])
-    shutil.rmtree(f'{WORK}/derived/{crate}', ignore_errors=True)
-    files = {f'{f}/Proof/Der.antt': derivation(derived, f, of['cut'].get(f)) for f in derived.walked}
-    for name, text in seen(derived).items():
-        files[name] = f'{WORK}/derived/{crate}/{name}'
-        write(files[name], text)
-    subprocess.run(['rattle', 'fmt', '--write', *files.values()], check=True)
-    return files
+    texts = {f'{f}/Proof/Der.antt': derivation(derived, f, of['cut'].get(f)) for f in derived.walked}
+    texts.update(seen(derived, of['closes']))
+    work = f'{WORK}/derived/{crate}'
+    shutil.rmtree(work, ignore_errors=True)
+    for path, text in texts.items():
+        write(f'{work}/{path}', text)
+    subprocess.run(['rattle', 'fmt', '--write', *(f'{work}/{path}' for path in texts)], check=True)
+    return {path: read(f'{work}/{path}') for path in texts}
 
 
 def standing(proofs):
@@ -96,7 +97,7 @@ def main():
         files = made(crate, of)
         for path in sorted({*files, *standing(proofs)}):
             now = os.path.exists(f'{proofs}/{path}') and read(f'{proofs}/{path}')
-            new = path in files and read(files[path])
+            new = files.get(path, False)
             if now == new:
                 continue
             old.append(f'crates/{crate}/proofs/{path}')

@@ -1,266 +1,74 @@
 -- made by tools/twin: do not edit
-use Rattle.topology.proofs.topology_kept_boundaries
-use Rattle.topology.proofs.Seen.topology_kept_boundaries.Kinds
-use base.Logic
-use borrow.Fn.Kinds as Kinds'
-use borrow.Fn.Learn
-use borrow.Fn.Picked
-use borrow.Fn.Read
-use borrow.Fn.World
-use borrow.Fn.Written
-use contract.Lifetimes
-use contract.Monad
-use denote.Triple.Clauses
-use mathlib.Core.Path as Path'
+use mathlib.Core.Path.{refl}
+use mathlib.Core.List.{[]}
+use contract.Lifetimes.{Lfts}
+use contract.Monad.{top}
+use denote.Triple.Clauses.{AtExit}
+use borrow.Fn.Function.{S}
+use borrow.Fn.Kinds.{endedOf, stays}
+use borrow.Fn.Learn.{no-pin, no-own, no-owns, OwnOf}
+use borrow.Fn.Read.{Read, no-know, all∗}
+use borrow.Fn.World.{World, Pr, ArgsD, ResD, In as In′}
+use borrow.Fn.Written.{Base, Passes}
+use borrow.Fn.Kinds.{In, Out}
+use borrow.Fn.Picked.{KnownAs}
+use borrow.Fn.Read.{read-join}
+use Rattle.topology.proofs.Contracts as contracts
+use Rattle.topology.proofs.Contracts.{Contract, nothing, stated}
+use Rattle.topology.proofs.Seen.topology_kept_boundaries.Kinds.{ps, r}
+use Rattle.topology.proofs.topology_kept_boundaries.{clauses}
+
+abbrev pub the-contract : Contract 11 ps r
+the-contract = record {
+  requires = λ κs a g w. clauses (w .𝓤) (w .H) (w .𝓖 .A) (w .𝓜 .mem) (w .𝓡 .run) κs a .requires g;
+  ensures = λ κs a g z e w. clauses (w .𝓤) (w .H) (w .𝓖 .A) (w .𝓜 .mem) (w .𝓡 .run) κs a .ensures g z e;
+  pre-read = λ κs a g. nothing;
+  post-read = λ κs a g z e. stated;
+  pre-wants = λ κs a g. tt;
+  post-wants = λ κs a g z e. tt;
+  pre-held = λ κs a g w. refl;
+  post-held = λ κs a g z e w. refl;
+}
+
+abbrev pub Asked : In 11 ps
+Asked = contracts.Asked the-contract
+
+abbrev pub Learnt : Out 11 ps r
+Learnt = contracts.Learnt the-contract
+
+pub known : KnownAs 11 ps r (Unit {0}) (the-contract .requires) (the-contract .ensures) Asked Learnt
+known = contracts.known the-contract
 
 abbrev pub Ghost : Type 0
 Ghost = Unit {0}
 
-module _ (κs : Lifetimes.Lfts 11) where
-  abbrev pub Pinned :
-      (a : World.ArgsD topology_kept_boundaries.signature κs) → (w : World.World) → Type 1
-  Pinned = Learn.no-pin topology_kept_boundaries.signature κs
+abbrev pub Pre : In 11 ps
+Pre = contracts.Pre the-contract
 
-  abbrev pub Owned :
-      (r : World.ResD topology_kept_boundaries.signature κs) →
-      (s : Clauses.AtExit (Kinds'.endedOf 11 Kinds.ps Kinds.r) κs) →
-      (w : World.World) →
-      Type 1
-  Owned = Learn.no-own (Kinds'.endedOf 11 Kinds.ps Kinds.r) κs
+abbrev pub Post : Out 11 ps r
+Post = contracts.Post the-contract
 
-  abbrev pub Base :
-      (a : World.ArgsD topology_kept_boundaries.signature κs) → (w : World.World) → World.Pr w
-  Base = Written.Base 11 Kinds.ps Kinds.r (λ κs. Pinned) κs
+module _ (κs : Lfts 11) where
+  abbrev pub requires : ArgsD (S 11 ps r [] 0) κs → Ghost → (w : World) → Pr w
+  requires = the-contract .requires κs
 
-  abbrev pub pins :
-      (w : World.World) → Learn.PinOf topology_kept_boundaries.signature κs w λ a. Pinned a w
-  pins = λ w. Learn.no-pins topology_kept_boundaries.signature κs w
+  abbrev pub ensures : ArgsD (S 11 ps r [] 0) κs → Ghost → ResD (S 11 ps r [] 0) κs → AtExit (endedOf 11 ps r) κs → (w : World) → Pr w
+  ensures = the-contract .ensures κs
 
-  abbrev pub owns :
-      (w : World.World) →
-      Learn.OwnOf
-      (Kinds'.endedOf 11 Kinds.ps Kinds.r)
-      (Kinds'.stays Kinds.ps)
-      κs
-      w
-      λ r s. Owned
-      r
-      s
-      w
-  owns = λ w. Learn.no-owns (Kinds'.endedOf 11 Kinds.ps Kinds.r) (Kinds'.stays Kinds.ps) κs w
+  abbrev pub Pinned : ArgsD (S 11 ps r [] 0) κs → (w : World) → Type 1
+  Pinned = no-pin (S 11 ps r [] 0) κs
 
-  abbrev pub requires :
-      (a : World.ArgsD topology_kept_boundaries.signature κs) →
-      (g : Ghost) →
-      (w : World.World) →
-      World.Pr w
-  requires =
-      λ a g w. topology_kept_boundaries.clauses
-      (w .𝓤)
-      (w .H)
-      (w .𝓖 .A)
-      (w .𝓜 .mem)
-      (w .𝓡 .run)
-      κs
-      a .requires
-      g
+  abbrev pub Owned : ResD (S 11 ps r [] 0) κs → AtExit (endedOf 11 ps r) κs → (w : World) → Type 1
+  Owned = no-own (endedOf 11 ps r) κs
 
-  abbrev pub ensures :
-      (a : World.ArgsD topology_kept_boundaries.signature κs) →
-      (g : Ghost) →
-      (r : World.ResD topology_kept_boundaries.signature κs) →
-      (s : Clauses.AtExit (Kinds'.endedOf 11 Kinds.ps Kinds.r) κs) →
-      (w : World.World) →
-      World.Pr w
-  ensures =
-      λ a g r s w. topology_kept_boundaries.clauses
-      (w .𝓤)
-      (w .H)
-      (w .𝓖 .A)
-      (w .𝓜 .mem)
-      (w .𝓡 .run)
-      κs
-      a .ensures
-      g
-      r
-      s
+  abbrev pub owns : (w : World) → OwnOf (endedOf 11 ps r) (stays ps) κs w (λ z e. Owned z e w)
+  owns w = no-owns (endedOf 11 ps r) (stays ps) κs w
 
-  abbrev pub pre-read :
-      (a : World.ArgsD topology_kept_boundaries.signature κs) →
-      (g : Ghost) →
-      Read.Read (World.In topology_kept_boundaries.signature κs a) Read.no-know (requires a g)
-  pre-read =
-      λ a g. Read.all-models
-      (requires a g)
-      (λ w. search Read.reads)
-      (λ w. Path'.refl)
-      (λ w. Path'.refl)
-      λ w. Path'.refl
+  abbrev pub pre-read : (a : ArgsD (S 11 ps r [] 0) κs) (g : Ghost) → Read (In′ (S 11 ps r [] 0) κs a) no-know (requires a g)
+  pre-read = the-contract .pre-read κs
 
-  abbrev pub ensures-1·read :
-      (a : World.ArgsD topology_kept_boundaries.signature κs) →
-      (g : Ghost) →
-      (r : World.ResD topology_kept_boundaries.signature κs) →
-      (s : Clauses.AtExit (Kinds'.endedOf 11 Kinds.ps Kinds.r) κs) →
-      Read.Read
-      (Base a)
-      (Owned r s)
-      λ w. topology_kept_boundaries.ensures-1
-      (w .𝓤)
-      (w .H)
-      κs
-      (w .𝓖 .A)
-      (w .𝓜 .mem)
-      (w .𝓡 .run)
-      (a .0)
-      (a .1 .0)
-      (a .1 .1 .0)
-      (a .1 .1 .1 .0)
-      (a .1 .1 .1 .1 .0)
-      (a .1 .1 .1 .1 .1 .0)
-      (a .1 .1 .1 .1 .1 .1 .0)
-      (a .1 .1 .1 .1 .1 .1 .1 .0)
-      (a .1 .1 .1 .1 .1 .1 .1 .1 .0)
-      (a .1 .1 .1 .1 .1 .1 .1 .1 .1 .0)
-      (a .1 .1 .1 .1 .1 .1 .1 .1 .1 .1 .0)
-      (a .1 .1 .1 .1 .1 .1 .1 .1 .1 .1 .1 .0)
-      (a .1 .1 .1 .1 .1 .1 .1 .1 .1 .1 .1 .1 .0)
-      (a .1 .1 .1 .1 .1 .1 .1 .1 .1 .1 .1 .1 .1 .0)
-      record { entry = a .0; exit = s .0 }
-      record { entry = a .1 .0; exit = s .1 .0 }
-      record { entry = a .1 .1 .0; exit = s .1 .1 .0 }
-      record { entry = a .1 .1 .1 .0; exit = s .1 .1 .1 .0 }
-      record { entry = a .1 .1 .1 .1 .0; exit = s .1 .1 .1 .1 .0 }
-      record { entry = a .1 .1 .1 .1 .1 .0; exit = s .1 .1 .1 .1 .1 .0 }
-      record { entry = a .1 .1 .1 .1 .1 .1 .0; exit = s .1 .1 .1 .1 .1 .1 .0 }
-      record { entry = a .1 .1 .1 .1 .1 .1 .1 .0; exit = s .1 .1 .1 .1 .1 .1 .1 .0 }
-      record { entry = a .1 .1 .1 .1 .1 .1 .1 .1 .0; exit = s .1 .1 .1 .1 .1 .1 .1 .1 .0 }
-      record { entry = a .1 .1 .1 .1 .1 .1 .1 .1 .1 .0; exit = s .1 .1 .1 .1 .1 .1 .1 .1 .1 .0 }
-      record {
-        entry = a .1 .1 .1 .1 .1 .1 .1 .1 .1 .1 .0;
-        exit = s .1 .1 .1 .1 .1 .1 .1 .1 .1 .1 .0;
-      }
-      record {
-        entry = a .1 .1 .1 .1 .1 .1 .1 .1 .1 .1 .1 .0;
-        exit = s .1 .1 .1 .1 .1 .1 .1 .1 .1 .1 .1 .0;
-      }
-      record {
-        entry = a .1 .1 .1 .1 .1 .1 .1 .1 .1 .1 .1 .1 .0;
-        exit = s .1 .1 .1 .1 .1 .1 .1 .1 .1 .1 .1 .1 .0;
-      }
-      record {
-        entry = a .1 .1 .1 .1 .1 .1 .1 .1 .1 .1 .1 .1 .1 .0;
-        exit = s .1 .1 .1 .1 .1 .1 .1 .1 .1 .1 .1 .1 .1 .0;
-      }
-      r
-  ensures-1·read =
-      λ a g r s. Read.all-models
-      (λ w. topology_kept_boundaries.ensures-1
-      (w .𝓤)
-      (w .H)
-      κs
-      (w .𝓖 .A)
-      (w .𝓜 .mem)
-      (w .𝓡 .run)
-      (a .0)
-      (a .1 .0)
-      (a .1 .1 .0)
-      (a .1 .1 .1 .0)
-      (a .1 .1 .1 .1 .0)
-      (a .1 .1 .1 .1 .1 .0)
-      (a .1 .1 .1 .1 .1 .1 .0)
-      (a .1 .1 .1 .1 .1 .1 .1 .0)
-      (a .1 .1 .1 .1 .1 .1 .1 .1 .0)
-      (a .1 .1 .1 .1 .1 .1 .1 .1 .1 .0)
-      (a .1 .1 .1 .1 .1 .1 .1 .1 .1 .1 .0)
-      (a .1 .1 .1 .1 .1 .1 .1 .1 .1 .1 .1 .0)
-      (a .1 .1 .1 .1 .1 .1 .1 .1 .1 .1 .1 .1 .0)
-      (a .1 .1 .1 .1 .1 .1 .1 .1 .1 .1 .1 .1 .1 .0)
-      record { entry = a .0; exit = s .0 }
-      record { entry = a .1 .0; exit = s .1 .0 }
-      record { entry = a .1 .1 .0; exit = s .1 .1 .0 }
-      record { entry = a .1 .1 .1 .0; exit = s .1 .1 .1 .0 }
-      record { entry = a .1 .1 .1 .1 .0; exit = s .1 .1 .1 .1 .0 }
-      record { entry = a .1 .1 .1 .1 .1 .0; exit = s .1 .1 .1 .1 .1 .0 }
-      record { entry = a .1 .1 .1 .1 .1 .1 .0; exit = s .1 .1 .1 .1 .1 .1 .0 }
-      record { entry = a .1 .1 .1 .1 .1 .1 .1 .0; exit = s .1 .1 .1 .1 .1 .1 .1 .0 }
-      record { entry = a .1 .1 .1 .1 .1 .1 .1 .1 .0; exit = s .1 .1 .1 .1 .1 .1 .1 .1 .0 }
-      record { entry = a .1 .1 .1 .1 .1 .1 .1 .1 .1 .0; exit = s .1 .1 .1 .1 .1 .1 .1 .1 .1 .0 }
-      record {
-        entry = a .1 .1 .1 .1 .1 .1 .1 .1 .1 .1 .0;
-        exit = s .1 .1 .1 .1 .1 .1 .1 .1 .1 .1 .0;
-      }
-      record {
-        entry = a .1 .1 .1 .1 .1 .1 .1 .1 .1 .1 .1 .0;
-        exit = s .1 .1 .1 .1 .1 .1 .1 .1 .1 .1 .1 .0;
-      }
-      record {
-        entry = a .1 .1 .1 .1 .1 .1 .1 .1 .1 .1 .1 .1 .0;
-        exit = s .1 .1 .1 .1 .1 .1 .1 .1 .1 .1 .1 .1 .0;
-      }
-      record {
-        entry = a .1 .1 .1 .1 .1 .1 .1 .1 .1 .1 .1 .1 .1 .0;
-        exit = s .1 .1 .1 .1 .1 .1 .1 .1 .1 .1 .1 .1 .1 .0;
-      }
-      r)
-      (λ w. search Read.reads)
-      (λ w. Path'.refl)
-      (λ w. Path'.refl)
-      λ w. Path'.refl
+  abbrev pub post-read : (a : ArgsD (S 11 ps r [] 0) κs) (g : Ghost) (z : ResD (S 11 ps r [] 0) κs) (e : AtExit (endedOf 11 ps r) κs) → Read (Base 11 ps r (λ κs. Pinned) κs a) (Owned z e) (ensures a g z e)
+  post-read = the-contract .post-read κs
 
-  abbrev pub post-read :
-      (a : World.ArgsD topology_kept_boundaries.signature κs) →
-      (g : Ghost) →
-      (r : World.ResD topology_kept_boundaries.signature κs) →
-      (s : Clauses.AtExit (Kinds'.endedOf 11 Kinds.ps Kinds.r) κs) →
-      Read.Read (Base a) (Owned r s) (ensures a g r s)
-  post-read = λ a g r s. ensures-1·read a g r s
-
-abbrev pub Pre : Kinds'.In 11 Kinds.ps
-Pre = Written.Pre 11 Kinds.ps Kinds.r Ghost requires ensures pre-read Pinned Owned post-read tt
-
-abbrev pub Post : Kinds'.Out 11 Kinds.ps Kinds.r
-Post = Written.Post 11 Kinds.ps Kinds.r Ghost requires ensures pre-read Pinned Owned post-read tt
-
-abbrev pub Asked : Kinds'.In 11 Kinds.ps
-Asked = Written.Asked 11 Kinds.ps Kinds.r Ghost requires ensures pre-read Pinned Owned post-read tt
-
-abbrev pub Learnt : Kinds'.Out 11 Kinds.ps Kinds.r
-Learnt =
-    Written.Learnt 11 Kinds.ps Kinds.r Ghost requires ensures pre-read Pinned Owned post-read tt
-
-pub passes :
-    (w : World.World) →
-    Written.Passes 11 Kinds.ps Kinds.r Ghost requires ensures pre-read Pinned Owned post-read w
-passes = λ w κs a g r ws ft p q. Monad.top (w .𝓤) (Read.all∗ w (pre-read κs a g .held w))
-
-pub lent :
-    (w : World.World) →
-    (κs : Lifetimes.Lfts 11) →
-    (a : World.ArgsD topology_kept_boundaries.signature κs) →
-    Logic.ent (w .𝓤) (Logic.emp (w .𝓤)) (Read.all∗ w (pre-read κs a tt .held w))
-lent = λ w κs a. Logic.id⊢ (w .𝓤) (Logic.emp (w .𝓤))
-
-pub known : Picked.KnownAs 11 Kinds.ps Kinds.r Ghost requires ensures Asked Learnt
-known =
-    λ w γ k ρ same met. Written.cited
-    11
-    Kinds.ps
-    Kinds.r
-    Ghost
-    requires
-    ensures
-    pre-read
-    Pinned
-    Owned
-    post-read
-    w
-    γ
-    k
-    ρ
-    same
-    (λ κs a. tt)
-    (lent w)
-    (λ κs a r ws ft p. tt)
-    (λ κs. pins κs w)
-    met
+pub passes : (w : World) → Passes 11 ps r Ghost requires ensures pre-read Pinned Owned post-read w
+passes w κs a g z ws fit p q = top (w .𝓤) (all∗ w (pre-read κs a g .held w))

@@ -1,341 +1,74 @@
 -- made by tools/twin: do not edit
-use Rattle.topology.proofs.mouths.replace_ramp_mouths
-use Rattle.topology.proofs.Seen.mouths.replace_ramp_mouths.Kinds
-use base.Logic
-use borrow.Fn.Kinds as Kinds'
-use borrow.Fn.Learn
-use borrow.Fn.Picked
-use borrow.Fn.Read
-use borrow.Fn.World
-use borrow.Fn.Written
-use contract.Lifetimes
-use contract.Monad
-use denote.Triple.Clauses
-use mathlib.Core.Path as Path'
+use mathlib.Core.Path.{refl}
+use mathlib.Core.List.{[]}
+use contract.Lifetimes.{Lfts}
+use contract.Monad.{top}
+use denote.Triple.Clauses.{AtExit}
+use borrow.Fn.Function.{S}
+use borrow.Fn.Kinds.{endedOf, stays}
+use borrow.Fn.Learn.{no-pin, no-own, no-owns, OwnOf}
+use borrow.Fn.Read.{Read, no-know, all∗}
+use borrow.Fn.World.{World, Pr, ArgsD, ResD, In as In′}
+use borrow.Fn.Written.{Base, Passes}
+use borrow.Fn.Kinds.{In, Out}
+use borrow.Fn.Picked.{KnownAs}
+use borrow.Fn.Read.{read-join}
+use Rattle.topology.proofs.Contracts as contracts
+use Rattle.topology.proofs.Contracts.{Contract, nothing, stated}
+use Rattle.topology.proofs.Seen.mouths.replace_ramp_mouths.Kinds.{ps, r}
+use Rattle.topology.proofs.mouths.replace_ramp_mouths.{clauses}
+
+abbrev pub the-contract : Contract 8 ps r
+the-contract = record {
+  requires = λ κs a g w. clauses (w .𝓤) (w .H) (w .𝓖 .A) (w .𝓜 .mem) (w .𝓡 .run) κs a .requires g;
+  ensures = λ κs a g z e w. clauses (w .𝓤) (w .H) (w .𝓖 .A) (w .𝓜 .mem) (w .𝓡 .run) κs a .ensures g z e;
+  pre-read = λ κs a g. read-join _ _ stated stated;
+  post-read = λ κs a g z e. stated;
+  pre-wants = λ κs a g. tt;
+  post-wants = λ κs a g z e. tt;
+  pre-held = λ κs a g w. refl;
+  post-held = λ κs a g z e w. refl;
+}
+
+abbrev pub Asked : In 8 ps
+Asked = contracts.Asked the-contract
+
+abbrev pub Learnt : Out 8 ps r
+Learnt = contracts.Learnt the-contract
+
+pub known : KnownAs 8 ps r (Unit {0}) (the-contract .requires) (the-contract .ensures) Asked Learnt
+known = contracts.known the-contract
 
 abbrev pub Ghost : Type 0
 Ghost = Unit {0}
 
-module _ (κs : Lifetimes.Lfts 8) where
-  abbrev pub Pinned :
-      (a : World.ArgsD replace_ramp_mouths.signature κs) → (w : World.World) → Type 1
-  Pinned = Learn.no-pin replace_ramp_mouths.signature κs
+abbrev pub Pre : In 8 ps
+Pre = contracts.Pre the-contract
 
-  abbrev pub Owned :
-      (r : World.ResD replace_ramp_mouths.signature κs) →
-      (s : Clauses.AtExit (Kinds'.endedOf 8 Kinds.ps Kinds.r) κs) →
-      (w : World.World) →
-      Type 1
-  Owned = Learn.no-own (Kinds'.endedOf 8 Kinds.ps Kinds.r) κs
+abbrev pub Post : Out 8 ps r
+Post = contracts.Post the-contract
 
-  abbrev pub Base :
-      (a : World.ArgsD replace_ramp_mouths.signature κs) → (w : World.World) → World.Pr w
-  Base = Written.Base 8 Kinds.ps Kinds.r (λ κs. Pinned) κs
+module _ (κs : Lfts 8) where
+  abbrev pub requires : ArgsD (S 8 ps r [] 0) κs → Ghost → (w : World) → Pr w
+  requires = the-contract .requires κs
 
-  abbrev pub pins :
-      (w : World.World) → Learn.PinOf replace_ramp_mouths.signature κs w λ a. Pinned a w
-  pins = λ w. Learn.no-pins replace_ramp_mouths.signature κs w
+  abbrev pub ensures : ArgsD (S 8 ps r [] 0) κs → Ghost → ResD (S 8 ps r [] 0) κs → AtExit (endedOf 8 ps r) κs → (w : World) → Pr w
+  ensures = the-contract .ensures κs
 
-  abbrev pub owns :
-      (w : World.World) →
-      Learn.OwnOf
-      (Kinds'.endedOf 8 Kinds.ps Kinds.r)
-      (Kinds'.stays Kinds.ps)
-      κs
-      w
-      λ r s. Owned
-      r
-      s
-      w
-  owns = λ w. Learn.no-owns (Kinds'.endedOf 8 Kinds.ps Kinds.r) (Kinds'.stays Kinds.ps) κs w
+  abbrev pub Pinned : ArgsD (S 8 ps r [] 0) κs → (w : World) → Type 1
+  Pinned = no-pin (S 8 ps r [] 0) κs
 
-  abbrev pub requires :
-      (a : World.ArgsD replace_ramp_mouths.signature κs) →
-      (g : Ghost) →
-      (w : World.World) →
-      World.Pr w
-  requires =
-      λ a g w. replace_ramp_mouths.clauses
-      (w .𝓤)
-      (w .H)
-      (w .𝓖 .A)
-      (w .𝓜 .mem)
-      (w .𝓡 .run)
-      κs
-      a .requires
-      g
+  abbrev pub Owned : ResD (S 8 ps r [] 0) κs → AtExit (endedOf 8 ps r) κs → (w : World) → Type 1
+  Owned = no-own (endedOf 8 ps r) κs
 
-  abbrev pub ensures :
-      (a : World.ArgsD replace_ramp_mouths.signature κs) →
-      (g : Ghost) →
-      (r : World.ResD replace_ramp_mouths.signature κs) →
-      (s : Clauses.AtExit (Kinds'.endedOf 8 Kinds.ps Kinds.r) κs) →
-      (w : World.World) →
-      World.Pr w
-  ensures =
-      λ a g r s w. replace_ramp_mouths.clauses
-      (w .𝓤)
-      (w .H)
-      (w .𝓖 .A)
-      (w .𝓜 .mem)
-      (w .𝓡 .run)
-      κs
-      a .ensures
-      g
-      r
-      s
+  abbrev pub owns : (w : World) → OwnOf (endedOf 8 ps r) (stays ps) κs w (λ z e. Owned z e w)
+  owns w = no-owns (endedOf 8 ps r) (stays ps) κs w
 
-  abbrev pub requires-1·read :
-      (a : World.ArgsD replace_ramp_mouths.signature κs) →
-      (g : Ghost) →
-      Read.Read
-      (World.In replace_ramp_mouths.signature κs a)
-      Read.no-know
-      λ w. replace_ramp_mouths.requires-1
-      (w .𝓤)
-      (w .H)
-      κs
-      (w .𝓖 .A)
-      (w .𝓜 .mem)
-      (w .𝓡 .run)
-      (a .0)
-      (a .1 .0)
-      (a .1 .1 .0)
-      (a .1 .1 .1 .0)
-      (a .1 .1 .1 .1 .0)
-      (a .1 .1 .1 .1 .1 .0)
-      (a .1 .1 .1 .1 .1 .1 .0)
-      (a .1 .1 .1 .1 .1 .1 .1 .0)
-      (a .1 .1 .1 .1 .1 .1 .1 .1 .0)
-  requires-1·read =
-      λ a g. Read.all-models
-      (λ w. replace_ramp_mouths.requires-1
-      (w .𝓤)
-      (w .H)
-      κs
-      (w .𝓖 .A)
-      (w .𝓜 .mem)
-      (w .𝓡 .run)
-      (a .0)
-      (a .1 .0)
-      (a .1 .1 .0)
-      (a .1 .1 .1 .0)
-      (a .1 .1 .1 .1 .0)
-      (a .1 .1 .1 .1 .1 .0)
-      (a .1 .1 .1 .1 .1 .1 .0)
-      (a .1 .1 .1 .1 .1 .1 .1 .0)
-      (a .1 .1 .1 .1 .1 .1 .1 .1 .0))
-      (λ w. search Read.reads)
-      (λ w. Path'.refl)
-      (λ w. Path'.refl)
-      λ w. Path'.refl
+  abbrev pub pre-read : (a : ArgsD (S 8 ps r [] 0) κs) (g : Ghost) → Read (In′ (S 8 ps r [] 0) κs a) no-know (requires a g)
+  pre-read = the-contract .pre-read κs
 
-  abbrev pub requires-2·read :
-      (a : World.ArgsD replace_ramp_mouths.signature κs) →
-      (g : Ghost) →
-      Read.Read
-      (World.In replace_ramp_mouths.signature κs a)
-      Read.no-know
-      λ w. replace_ramp_mouths.requires-2
-      (w .𝓤)
-      (w .H)
-      κs
-      (w .𝓖 .A)
-      (w .𝓜 .mem)
-      (w .𝓡 .run)
-      (a .0)
-      (a .1 .0)
-      (a .1 .1 .0)
-      (a .1 .1 .1 .0)
-      (a .1 .1 .1 .1 .0)
-      (a .1 .1 .1 .1 .1 .0)
-      (a .1 .1 .1 .1 .1 .1 .0)
-      (a .1 .1 .1 .1 .1 .1 .1 .0)
-      (a .1 .1 .1 .1 .1 .1 .1 .1 .0)
-  requires-2·read =
-      λ a g. Read.all-models
-      (λ w. replace_ramp_mouths.requires-2
-      (w .𝓤)
-      (w .H)
-      κs
-      (w .𝓖 .A)
-      (w .𝓜 .mem)
-      (w .𝓡 .run)
-      (a .0)
-      (a .1 .0)
-      (a .1 .1 .0)
-      (a .1 .1 .1 .0)
-      (a .1 .1 .1 .1 .0)
-      (a .1 .1 .1 .1 .1 .0)
-      (a .1 .1 .1 .1 .1 .1 .0)
-      (a .1 .1 .1 .1 .1 .1 .1 .0)
-      (a .1 .1 .1 .1 .1 .1 .1 .1 .0))
-      (λ w. search Read.reads)
-      (λ w. Path'.refl)
-      (λ w. Path'.refl)
-      λ w. Path'.refl
+  abbrev pub post-read : (a : ArgsD (S 8 ps r [] 0) κs) (g : Ghost) (z : ResD (S 8 ps r [] 0) κs) (e : AtExit (endedOf 8 ps r) κs) → Read (Base 8 ps r (λ κs. Pinned) κs a) (Owned z e) (ensures a g z e)
+  post-read = the-contract .post-read κs
 
-  abbrev pub pre-read :
-      (a : World.ArgsD replace_ramp_mouths.signature κs) →
-      (g : Ghost) →
-      Read.Read (World.In replace_ramp_mouths.signature κs a) Read.no-know (requires a g)
-  pre-read =
-      λ a g. Read.read-join
-      (λ w. replace_ramp_mouths.requires-1
-      (w .𝓤)
-      (w .H)
-      κs
-      (w .𝓖 .A)
-      (w .𝓜 .mem)
-      (w .𝓡 .run)
-      (a .0)
-      (a .1 .0)
-      (a .1 .1 .0)
-      (a .1 .1 .1 .0)
-      (a .1 .1 .1 .1 .0)
-      (a .1 .1 .1 .1 .1 .0)
-      (a .1 .1 .1 .1 .1 .1 .0)
-      (a .1 .1 .1 .1 .1 .1 .1 .0)
-      (a .1 .1 .1 .1 .1 .1 .1 .1 .0))
-      (λ w. replace_ramp_mouths.requires-2
-      (w .𝓤)
-      (w .H)
-      κs
-      (w .𝓖 .A)
-      (w .𝓜 .mem)
-      (w .𝓡 .run)
-      (a .0)
-      (a .1 .0)
-      (a .1 .1 .0)
-      (a .1 .1 .1 .0)
-      (a .1 .1 .1 .1 .0)
-      (a .1 .1 .1 .1 .1 .0)
-      (a .1 .1 .1 .1 .1 .1 .0)
-      (a .1 .1 .1 .1 .1 .1 .1 .0)
-      (a .1 .1 .1 .1 .1 .1 .1 .1 .0))
-      (requires-1·read a g)
-      (requires-2·read a g)
-
-  abbrev pub ensures-1·read :
-      (a : World.ArgsD replace_ramp_mouths.signature κs) →
-      (g : Ghost) →
-      (r : World.ResD replace_ramp_mouths.signature κs) →
-      (s : Clauses.AtExit (Kinds'.endedOf 8 Kinds.ps Kinds.r) κs) →
-      Read.Read
-      (Base a)
-      (Owned r s)
-      λ w. replace_ramp_mouths.ensures-1
-      (w .𝓤)
-      (w .H)
-      κs
-      (w .𝓖 .A)
-      (w .𝓜 .mem)
-      (w .𝓡 .run)
-      (a .0)
-      (a .1 .0)
-      (a .1 .1 .0)
-      (a .1 .1 .1 .0)
-      (a .1 .1 .1 .1 .0)
-      (a .1 .1 .1 .1 .1 .0)
-      (a .1 .1 .1 .1 .1 .1 .0)
-      (a .1 .1 .1 .1 .1 .1 .1 .0)
-      (a .1 .1 .1 .1 .1 .1 .1 .1 .0)
-      record { entry = a .0; exit = s .0 }
-      record { entry = a .1 .0; exit = s .1 .0 }
-      record { entry = a .1 .1 .0; exit = s .1 .1 .0 }
-      record { entry = a .1 .1 .1 .0; exit = s .1 .1 .1 .0 }
-      record { entry = a .1 .1 .1 .1 .0; exit = s .1 .1 .1 .1 .0 }
-      record { entry = a .1 .1 .1 .1 .1 .0; exit = s .1 .1 .1 .1 .1 .0 }
-      record { entry = a .1 .1 .1 .1 .1 .1 .0; exit = s .1 .1 .1 .1 .1 .1 .0 }
-      record { entry = a .1 .1 .1 .1 .1 .1 .1 .0; exit = s .1 .1 .1 .1 .1 .1 .1 .0 }
-      record { entry = a .1 .1 .1 .1 .1 .1 .1 .1 .0; exit = s .1 .1 .1 .1 .1 .1 .1 .1 .0 }
-      r
-  ensures-1·read =
-      λ a g r s. Read.all-models
-      (λ w. replace_ramp_mouths.ensures-1
-      (w .𝓤)
-      (w .H)
-      κs
-      (w .𝓖 .A)
-      (w .𝓜 .mem)
-      (w .𝓡 .run)
-      (a .0)
-      (a .1 .0)
-      (a .1 .1 .0)
-      (a .1 .1 .1 .0)
-      (a .1 .1 .1 .1 .0)
-      (a .1 .1 .1 .1 .1 .0)
-      (a .1 .1 .1 .1 .1 .1 .0)
-      (a .1 .1 .1 .1 .1 .1 .1 .0)
-      (a .1 .1 .1 .1 .1 .1 .1 .1 .0)
-      record { entry = a .0; exit = s .0 }
-      record { entry = a .1 .0; exit = s .1 .0 }
-      record { entry = a .1 .1 .0; exit = s .1 .1 .0 }
-      record { entry = a .1 .1 .1 .0; exit = s .1 .1 .1 .0 }
-      record { entry = a .1 .1 .1 .1 .0; exit = s .1 .1 .1 .1 .0 }
-      record { entry = a .1 .1 .1 .1 .1 .0; exit = s .1 .1 .1 .1 .1 .0 }
-      record { entry = a .1 .1 .1 .1 .1 .1 .0; exit = s .1 .1 .1 .1 .1 .1 .0 }
-      record { entry = a .1 .1 .1 .1 .1 .1 .1 .0; exit = s .1 .1 .1 .1 .1 .1 .1 .0 }
-      record { entry = a .1 .1 .1 .1 .1 .1 .1 .1 .0; exit = s .1 .1 .1 .1 .1 .1 .1 .1 .0 }
-      r)
-      (λ w. search Read.reads)
-      (λ w. Path'.refl)
-      (λ w. Path'.refl)
-      λ w. Path'.refl
-
-  abbrev pub post-read :
-      (a : World.ArgsD replace_ramp_mouths.signature κs) →
-      (g : Ghost) →
-      (r : World.ResD replace_ramp_mouths.signature κs) →
-      (s : Clauses.AtExit (Kinds'.endedOf 8 Kinds.ps Kinds.r) κs) →
-      Read.Read (Base a) (Owned r s) (ensures a g r s)
-  post-read = λ a g r s. ensures-1·read a g r s
-
-abbrev pub Pre : Kinds'.In 8 Kinds.ps
-Pre = Written.Pre 8 Kinds.ps Kinds.r Ghost requires ensures pre-read Pinned Owned post-read tt
-
-abbrev pub Post : Kinds'.Out 8 Kinds.ps Kinds.r
-Post = Written.Post 8 Kinds.ps Kinds.r Ghost requires ensures pre-read Pinned Owned post-read tt
-
-abbrev pub Asked : Kinds'.In 8 Kinds.ps
-Asked = Written.Asked 8 Kinds.ps Kinds.r Ghost requires ensures pre-read Pinned Owned post-read tt
-
-abbrev pub Learnt : Kinds'.Out 8 Kinds.ps Kinds.r
-Learnt =
-    Written.Learnt 8 Kinds.ps Kinds.r Ghost requires ensures pre-read Pinned Owned post-read tt
-
-pub passes :
-    (w : World.World) →
-    Written.Passes 8 Kinds.ps Kinds.r Ghost requires ensures pre-read Pinned Owned post-read w
-passes = λ w κs a g r ws ft p q. Monad.top (w .𝓤) (Read.all∗ w (pre-read κs a g .held w))
-
-pub lent :
-    (w : World.World) →
-    (κs : Lifetimes.Lfts 8) →
-    (a : World.ArgsD replace_ramp_mouths.signature κs) →
-    Logic.ent (w .𝓤) (Logic.emp (w .𝓤)) (Read.all∗ w (pre-read κs a tt .held w))
-lent = λ w κs a. Logic.id⊢ (w .𝓤) (Logic.emp (w .𝓤))
-
-pub known : Picked.KnownAs 8 Kinds.ps Kinds.r Ghost requires ensures Asked Learnt
-known =
-    λ w γ k ρ same met. Written.cited
-    8
-    Kinds.ps
-    Kinds.r
-    Ghost
-    requires
-    ensures
-    pre-read
-    Pinned
-    Owned
-    post-read
-    w
-    γ
-    k
-    ρ
-    same
-    (λ κs a. tt)
-    (lent w)
-    (λ κs a r ws ft p. tt)
-    (λ κs. pins κs w)
-    met
+pub passes : (w : World) → Passes 8 ps r Ghost requires ensures pre-read Pinned Owned post-read w
+passes w κs a g z ws fit p q = top (w .𝓤) (all∗ w (pre-read κs a g .held w))

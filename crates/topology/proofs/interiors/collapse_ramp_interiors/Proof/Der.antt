@@ -1,11 +1,15 @@
 -- The derivation of `Rattle.topology.proofs.interiors.collapse_ramp_interiors` in steps. Made by tools/twin.
-use Prim.Native.Nat.{ℕ, suc}
+use contract.Running.{tablesOf}
+use borrow.Table.Typed.{Mo, Outs, Want}
+use borrow.Fn.World.{World}
+use borrow.Fn.Any.{wantQ}
+use Prim.Native.Nat.{suc, ℕ}
 use Rattle.context.proofs.Region as twin-0
 use borrow.Fn.Call.{sub-id}
 use borrow.Fn.Enter.{tysP}
 use borrow.Fn.Frame.{EnvOf}
-use borrow.Fn.Function.{Γin, Δret}
-use borrow.Fn.Kinds.{tyR}
+use borrow.Fn.Function.{init, Γin, Δret}
+use borrow.Fn.Kinds.{Dens, tyR}
 use borrow.Fn.Plain.{Known as Knows, t-call-plain}
 use borrow.Kind.Num.{vAt}
 use borrow.Kind.ShrRef.{spares-sref}
@@ -44,11 +48,19 @@ use prog.Wp.{Env, Heap, Tables}
 use types.Kit.{Given}
 use Rattle.interior_regions.proofs.find_interiors.Kinds as K0
 use Rattle.interior_regions.proofs.find_interiors.Reads as R0
+use Rattle.interior_regions.proofs.find_interiors.Symbol as S0
+use Rattle.interior_regions.proofs.find_interiors.Met as M0
 use Rattle.topology.proofs.Seen.interiors.judge_interiors.Kinds as K1
 use Rattle.topology.proofs.Seen.interiors.judge_interiors.Reads as R1
+use Rattle.topology.proofs.interiors.judge_interiors.Symbol as S1
+use Rattle.topology.proofs.interiors.judge_interiors.Met as M1
 use Rattle.topology.proofs.Seen.interiors.collapse_ramp_interiors.Kinds.{ps, r}
 use Rattle.topology.proofs.interiors.collapse_ramp_interiors.Code as code
-use Rattle.topology.proofs.Steps.{Der, _$_, typesPast, patched, stmt, ghosts, rets}
+use Rattle.topology.proofs.Contracts.{Answers, Post, Pre, Wof, met, 𝓣of}
+use Rattle.topology.proofs.Seen.interiors.collapse_ramp_interiors.Reads.{the-contract}
+use Rattle.topology.proofs.interiors.collapse_ramp_interiors.Key as key
+use Rattle.topology.proofs.interiors.collapse_ramp_interiors.Statement.{statement}
+use Rattle.topology.proofs.Steps.{Der, _$_, ghosts, homes, patched, rets, stmt, typesPast}
 
 abbrev pub xs : List Ty
 xs = typesPast (suc (code.function .params)) (code.function .locals)
@@ -318,3 +330,39 @@ module _ {M : Type 1} (𝓤 : URA M) (H : Heap 𝓤) (A : Atoms 𝓤) (W : Given
       ghosts _ _ (g-room 𝓤 H A W E _ 2 (tyInt w64) (room-sc 𝓤 H A W (sInt w64))) $
       ghosts _ (G81 κs qs) (g-room 𝓤 H A W E _ 3 (tyInt w64) (room-sc 𝓤 H A W (sInt w64))) $
       rets
+
+-- the derivations at a model
+module _ (w : World) where
+  abbrev known0-at : Knows (w .𝓤) (w .H) (w .𝓖 .A) (Wof w) (𝓣of w code.env) 9 K0.ps K0.r R0.Asked R0.Learnt "interior_regions::find_interiors"
+  known0-at = R0.known w code.env S0.name S0.routine code.calls-interior-regions·find-interiors (M0.met (w .𝓤) (w .H) (w .𝓜) (w .𝓖) (w .𝓡))
+
+  abbrev known1-at : Knows (w .𝓤) (w .H) (w .𝓖 .A) (Wof w) (𝓣of w code.env) 9 K1.ps K1.r R1.Asked R1.Learnt "topology::interiors::judge_interiors"
+  known1-at = R1.known w code.env S1.name S1.routine code.calls-topology·interiors·judge-interiors (M1.met (w .𝓤) (w .H) (w .𝓜) (w .𝓖) (w .𝓡))
+
+module _ (w : World) (κs : Lfts 8) (qs : Shares 8) (bs : List ℕ) where
+  abbrev pub d-at : Der (Wof w) (𝓣of w code.env) (EnvOf (w .𝓤) (w .H) (tyR r ∷ tysP ps xs) bs) (Γin 8 ps r xs m κs qs) (code.function .body) (Δret 8 ps r xs m κs qs)
+  d-at = d (w .𝓤) (w .H) (w .𝓖 .A) (Wof w) (𝓣of w code.env) (known0-at w) (known1-at w) κs qs bs
+
+-- the arguments and what is required of them, the state at entry, the ways out, and what is wanted of a return
+abbrev pub Args : Lfts 8 → Type 0
+Args κs = Dens κs ps
+
+abbrev pub Requires : (κs : Lfts 8) → Args κs → Type 0
+Requires κs a = Pre the-contract κs a
+
+module _ (κs : Lfts 8) (qs : Shares 8) where
+  abbrev pub returns : Outs
+  returns = Δret 8 ps r xs m κs qs
+
+  abbrev pub entry : Args κs → Mo (G0 κs qs)
+  entry a = init 8 ps r xs m κs qs a
+
+  abbrev pub wanted : Args κs → Want returns
+  wanted a = wantQ 8 ps r xs m κs qs a (Post the-contract κs a)
+
+-- the function's theorem, from the answers
+pub close : ((w : World) → Answers the-contract w code.env key.name xs m (homes (code.function .locals)) (code.function .body) (d-at w)) → {M : Type 1} → statement M
+unfolding code.routine tablesOf
+close answers {M} 𝓤 H 𝓜 𝓖 𝓡 =
+    met the-contract (record { M = M; 𝓤 = 𝓤; H = H; 𝓜 = 𝓜; 𝓖 = 𝓖; 𝓡 = 𝓡 }) code.env key.name xs m (homes (code.function .locals)) (code.function .body)
+    (d-at (record { M = M; 𝓤 = 𝓤; H = H; 𝓜 = 𝓜; 𝓖 = 𝓖; 𝓡 = 𝓡 })) (code.unfolded 𝓤 H 𝓜 𝓡) (answers (record { M = M; 𝓤 = 𝓤; H = H; 𝓜 = 𝓜; 𝓖 = 𝓖; 𝓡 = 𝓡 }))

@@ -1,11 +1,15 @@
 -- The derivation of `Rattle.topology.proofs.marks.mark_removed` in steps. Made by tools/twin.
-use Prim.Native.Nat.{ℕ, suc}
+use contract.Running.{tablesOf}
+use borrow.Table.Typed.{Mo, Outs, Want}
+use borrow.Fn.World.{World}
+use borrow.Fn.Any.{wantQ}
+use Prim.Native.Nat.{suc, ℕ}
 use Rattle.context.proofs.Region as twin-0
 use borrow.Fn.Call.{sub-id}
 use borrow.Fn.Enter.{tysP}
 use borrow.Fn.Frame.{EnvOf}
-use borrow.Fn.Function.{Γin, Δret}
-use borrow.Fn.Kinds.{tyR}
+use borrow.Fn.Function.{init, Γin, Δret}
+use borrow.Fn.Kinds.{Dens, tyR}
 use borrow.Fn.Plain.{Known as Knows, t-call-plain}
 use borrow.Kind.Num.{vAt}
 use borrow.Kind.ShrRef.{spares-sref}
@@ -44,11 +48,19 @@ use prog.Wp.{Env, Heap, Tables}
 use types.Kit.{Given}
 use Rattle.views.proofs.view.Kinds as K0
 use Rattle.views.proofs.view.Reads as R0
+use Rattle.views.proofs.view.Symbol as S0
+use Rattle.views.proofs.view.Met as M0
 use Rattle.topology.proofs.Seen.marks.removed_marks.Kinds as K1
 use Rattle.topology.proofs.Seen.marks.removed_marks.Reads as R1
+use Rattle.topology.proofs.marks.removed_marks.Symbol as S1
+use Rattle.topology.proofs.marks.removed_marks.Met as M1
 use Rattle.topology.proofs.Seen.marks.mark_removed.Kinds.{ps, r}
 use Rattle.topology.proofs.marks.mark_removed.Code as code
-use Rattle.topology.proofs.Steps.{Der, _$_, past, typesPast, patched, stmt, ghosts, first, test, skips, rets}
+use Rattle.topology.proofs.Contracts.{Answers, Post, Pre, Wof, met, 𝓣of}
+use Rattle.topology.proofs.Seen.marks.mark_removed.Reads.{the-contract}
+use Rattle.topology.proofs.marks.mark_removed.Key as key
+use Rattle.topology.proofs.marks.mark_removed.Statement.{statement}
+use Rattle.topology.proofs.Steps.{Der, _$_, first, ghosts, homes, past, patched, rets, skips, stmt, test, typesPast}
 
 abbrev pub xs : List Ty
 xs = typesPast (suc (code.function .params)) (code.function .locals)
@@ -282,19 +294,19 @@ module _ (κs : Lfts 9) (qs : Shares 9) where
   abbrev pub G101 : Cx
   G101 = patched ([]) ((19, dead) ∷ []) G0
 
-  abbrev pub Γ-d24 : Cx
-  Γ-d24 = G0
+  abbrev pub Γ-after-test : Cx
+  Γ-after-test = G0
 
-  abbrev pub Γ-d61 : Cx
-  Γ-d61 = G29
+  abbrev pub Γ-after-view : Cx
+  Γ-after-view = G29
 
 module _ {M : Type 1} (𝓤 : URA M) (H : Heap 𝓤) (A : Atoms 𝓤) (W : Given 𝓤 H A) (𝓣 : Tables 𝓤 H)
     (known0 : Knows 𝓤 H A W 𝓣 9 K0.ps K0.r R0.Asked R0.Learnt "views::view") (known1 : Knows 𝓤 H A W 𝓣 10 K1.ps K1.r R1.Asked R1.Learnt "topology::marks::removed_marks") (κs : Lfts 9) (qs : Shares 9) (bs : List ℕ) where
   abbrev E : Env 𝓤 H
   E = EnvOf 𝓤 H (tyR r ∷ tysP ps xs) bs
 
-  abbrev pub d61 : Der W 𝓣 E (G29 κs qs) (past 15 (code.function .body)) (Δret 9 ps r xs m κs qs)
-  d61 =
+  abbrev pub after-view : Der W 𝓣 E (G29 κs qs) (past 15 (code.function .body)) (Δret 9 ps r xs m κs qs)
+  after-view =
       ghosts (G29 κs qs) _ (g-begin 𝓤 H A W E (G29 κs qs) 14 _) $
       stmt _ _ (t-sc-share 𝓤 H A W E 𝓣 _ 16 30 14 (Array (rtF (fInt w64)) 257) (tyRef erased imm (tyArray (tyInt w64) 257)) (λ x. x) (mem-arr 𝓤 H A W (rtF (fInt w64)) 257) (room-gone 𝓤 H A (tyRef erased imm (tyArray (tyInt w64) 257))) refl (λ b o. tt)) $
       ghosts _ (G63 κs qs) (g-begin 𝓤 H A W E _ 15 _) $
@@ -344,8 +356,8 @@ module _ {M : Type 1} (𝓤 : URA M) (H : Heap 𝓤) (A : Atoms 𝓤) (W : Given
       ghosts (G21 κs qs) (G22 κs qs) (g-room 𝓤 H A W E (G21 κs qs) 9 (tyInt w64) (room-sc 𝓤 H A W (sInt w64))) $
       rets
 
-  abbrev pub d24 : Der W 𝓣 E (G0 κs qs) (past 4 (code.function .body)) (Δret 9 ps r xs m κs qs)
-  d24 =
+  abbrev pub after-test : Der W 𝓣 E (G0 κs qs) (past 4 (code.function .body)) (Δret 9 ps r xs m κs qs)
+  after-test =
       stmt (G0 κs qs) (G24 κs qs) (t-repeat 𝓤 H A W E 𝓣 (rtF (fInt w64)) (uint-lawful 𝓤 H A W w64) (cRf (fInt w64) .copy 𝓤 H A W) (uint-makes 𝓤 H A W w64) 257 (G0 κs qs) 16 (oInt w64 _) (λ m. 0) (room-gone 𝓤 H A (tyArray (tyInt w64) 257)) tt refl (λ m wa. (refl, lit< tt))) $
       ghosts (G24 κs qs) _ (g-as-by 𝓤 H A W E (λ ρ. Unit) (G24 κs qs) 16 (arrF (rtF (fInt w64)) 257 0) (λ x. x) (told-none 𝓤 H A ((G24 κs qs) .slots)) (λ ρ told. whole-arr 𝓤 H A W (rtF (fInt w64)) 257 tt ρ)) $
       stmt _ (G26 κs qs) (t-repeat 𝓤 H A W E 𝓣 (rtF (fInt w32)) (uint-lawful 𝓤 H A W w32) (cRf (fInt w32) .copy 𝓤 H A W) (uint-makes 𝓤 H A W w32) 256 _ 17 (oInt w32 _) (λ m. 0) (room-gone 𝓤 H A (tyArray (tyInt w32) 256)) tt refl (λ m wa. (refl, lit< tt))) $
@@ -381,7 +393,7 @@ module _ {M : Type 1} (𝓤 : URA M) (H : Heap 𝓤) (A : Atoms 𝓤) (W : Given
       ghosts _ _ (g-end 𝓤 H A W E _ 13 refl) $
       ghosts _ (G59 κs qs) (g-back-sc 𝓤 H A W E _ 29 18 13 (Array (rtF (fInt w32)) 256) (tyRef erased mut (tyArray (tyInt w32) 256)) (arrF (rtF (fInt w32)) 256 0) (λ x. x) (λ x. x) (λ x. x) (as-is 𝓤 H A (mleft (Array (rtF (fInt w32)) 256) (tyRef erased mut (tyArray (tyInt w32) 256)))) (as-is 𝓤 H A (sc-owed (Array (rtF (fInt w32)) 256) 13)) (arr-mem 𝓤 H A W (rtF (fInt w32)) 256 tt) refl) $
       ghosts (G59 κs qs) (G29 κs qs) (g-forget 𝓤 H A W E (G59 κs qs) 13 dead refl) $
-      d61
+      after-view
 
   abbrev pub d : Der W 𝓣 E (Γin 9 ps r xs m κs qs) (code.function .body) (Δret 9 ps r xs m κs qs)
   d =
@@ -403,4 +415,46 @@ module _ {M : Type 1} (𝓤 : URA M) (H : Heap 𝓤) (A : Atoms 𝓤) (W : Given
       rets) (
       ghosts (G14 κs qs) (G0 κs qs) (g-room 𝓤 H A W E (G14 κs qs) 21 tyBool (room-sc 𝓤 H A W sBool)) $
       skips)) $
-      d24
+      after-test
+
+-- the derivations at a model
+module _ (w : World) where
+  abbrev known0-at : Knows (w .𝓤) (w .H) (w .𝓖 .A) (Wof w) (𝓣of w code.env) 9 K0.ps K0.r R0.Asked R0.Learnt "views::view"
+  known0-at = R0.known w code.env S0.name S0.routine code.calls-views·view (M0.met (w .𝓤) (w .H) (w .𝓜) (w .𝓖) (w .𝓡))
+
+  abbrev known1-at : Knows (w .𝓤) (w .H) (w .𝓖 .A) (Wof w) (𝓣of w code.env) 10 K1.ps K1.r R1.Asked R1.Learnt "topology::marks::removed_marks"
+  known1-at = R1.known w code.env S1.name S1.routine code.calls-topology·marks·removed-marks (M1.met (w .𝓤) (w .H) (w .𝓜) (w .𝓖) (w .𝓡))
+
+module _ (w : World) (κs : Lfts 9) (qs : Shares 9) (bs : List ℕ) where
+  abbrev pub after-view-at : Der (Wof w) (𝓣of w code.env) (EnvOf (w .𝓤) (w .H) (tyR r ∷ tysP ps xs) bs) (G29 κs qs) (past 15 (code.function .body)) (Δret 9 ps r xs m κs qs)
+  after-view-at = after-view (w .𝓤) (w .H) (w .𝓖 .A) (Wof w) (𝓣of w code.env) (known0-at w) (known1-at w) κs qs bs
+
+  abbrev pub after-test-at : Der (Wof w) (𝓣of w code.env) (EnvOf (w .𝓤) (w .H) (tyR r ∷ tysP ps xs) bs) (G0 κs qs) (past 4 (code.function .body)) (Δret 9 ps r xs m κs qs)
+  after-test-at = after-test (w .𝓤) (w .H) (w .𝓖 .A) (Wof w) (𝓣of w code.env) (known0-at w) (known1-at w) κs qs bs
+
+  abbrev pub d-at : Der (Wof w) (𝓣of w code.env) (EnvOf (w .𝓤) (w .H) (tyR r ∷ tysP ps xs) bs) (Γin 9 ps r xs m κs qs) (code.function .body) (Δret 9 ps r xs m κs qs)
+  d-at = d (w .𝓤) (w .H) (w .𝓖 .A) (Wof w) (𝓣of w code.env) (known0-at w) (known1-at w) κs qs bs
+
+-- the arguments and what is required of them, the state at entry, the ways out, and what is wanted of a return
+abbrev pub Args : Lfts 9 → Type 0
+Args κs = Dens κs ps
+
+abbrev pub Requires : (κs : Lfts 9) → Args κs → Type 0
+Requires κs a = Pre the-contract κs a
+
+module _ (κs : Lfts 9) (qs : Shares 9) where
+  abbrev pub returns : Outs
+  returns = Δret 9 ps r xs m κs qs
+
+  abbrev pub entry : Args κs → Mo (G0 κs qs)
+  entry a = init 9 ps r xs m κs qs a
+
+  abbrev pub wanted : Args κs → Want returns
+  wanted a = wantQ 9 ps r xs m κs qs a (Post the-contract κs a)
+
+-- the function's theorem, from the answers
+pub close : ((w : World) → Answers the-contract w code.env key.name xs m (homes (code.function .locals)) (code.function .body) (d-at w)) → {M : Type 1} → statement M
+unfolding code.routine tablesOf
+close answers {M} 𝓤 H 𝓜 𝓖 𝓡 =
+    met the-contract (record { M = M; 𝓤 = 𝓤; H = H; 𝓜 = 𝓜; 𝓖 = 𝓖; 𝓡 = 𝓡 }) code.env key.name xs m (homes (code.function .locals)) (code.function .body)
+    (d-at (record { M = M; 𝓤 = 𝓤; H = H; 𝓜 = 𝓜; 𝓖 = 𝓖; 𝓡 = 𝓡 })) (code.unfolded 𝓤 H 𝓜 𝓡) (answers (record { M = M; 𝓤 = 𝓤; H = H; 𝓜 = 𝓜; 𝓖 = 𝓖; 𝓡 = 𝓡 }))

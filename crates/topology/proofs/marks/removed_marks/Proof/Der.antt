@@ -1,11 +1,14 @@
 -- The derivation of `Rattle.topology.proofs.marks.removed_marks` in steps. Made by tools/twin.
-use Prim.Native.Nat.{ℕ, suc}
+use contract.Running.{tablesOf}
+use borrow.Fn.World.{World}
+use borrow.Fn.Any.{wantQ}
+use Prim.Native.Nat.{suc, ℕ}
 use Rattle.context.proofs.Region as twin-0
 use borrow.Fn.Call.{sub-id}
 use borrow.Fn.Enter.{tysP}
 use borrow.Fn.Frame.{EnvOf}
-use borrow.Fn.Function.{Γin, Δret}
-use borrow.Fn.Kinds.{tyR}
+use borrow.Fn.Function.{init, Γin, Δret}
+use borrow.Fn.Kinds.{Dens, tyR}
 use borrow.Fn.Plain.{Known as Knows, t-call-plain}
 use borrow.Kind.Num.{vAt}
 use borrow.Kind.ShrRef.{spares-sref}
@@ -21,7 +24,7 @@ use borrow.Table.Reads.{as-is, reads-mref, reads-sref, room-gone}
 use borrow.Table.Referent.{fBool, fInt, rtF}
 use borrow.Table.Row.{Cx, Row, alive, dead, lease, off, sBool, sInt, sUnit, valS}
 use borrow.Table.Rows.{any-gone, mleft, mref, mref-owed, sc-here, sslice}
-use borrow.Table.Typed.{withNext}
+use borrow.Table.Typed.{Mo, Outs, Want, withNext}
 use contract.Lifetimes.{Lfts, Shares}
 use denote.Array.{Array}
 use denote.Memory.{pointee}
@@ -36,13 +39,23 @@ use prog.Wp.{Env, Heap, Tables}
 use types.Kit.{Given}
 use Rattle.topology.proofs.Seen.mouths.replace_ramp_mouths.Kinds as K0
 use Rattle.topology.proofs.Seen.mouths.replace_ramp_mouths.Reads as R0
+use Rattle.topology.proofs.mouths.replace_ramp_mouths.Symbol as S0
+use Rattle.topology.proofs.mouths.replace_ramp_mouths.Met as M0
 use Rattle.topology.proofs.Seen.interiors.collapse_ramp_interiors.Kinds as K1
 use Rattle.topology.proofs.Seen.interiors.collapse_ramp_interiors.Reads as R1
+use Rattle.topology.proofs.interiors.collapse_ramp_interiors.Symbol as S1
+use Rattle.topology.proofs.interiors.collapse_ramp_interiors.Met as M1
 use Rattle.topology.proofs.Seen.proposals.remove_junction_boundaries.Kinds as K2
 use Rattle.topology.proofs.Seen.proposals.remove_junction_boundaries.Reads as R2
+use Rattle.topology.proofs.proposals.remove_junction_boundaries.Symbol as S2
+use Rattle.topology.proofs.proposals.remove_junction_boundaries.Met as M2
 use Rattle.topology.proofs.Seen.marks.removed_marks.Kinds.{ps, r}
 use Rattle.topology.proofs.marks.removed_marks.Code as code
-use Rattle.topology.proofs.Steps.{Der, _$_, head-of, past, then-of, typesPast, patched, stmt, ghosts, first, test, skips, rets}
+use Rattle.topology.proofs.Contracts.{Answers, Post, Pre, Wof, met, 𝓣of}
+use Rattle.topology.proofs.Seen.marks.removed_marks.Reads.{the-contract}
+use Rattle.topology.proofs.marks.removed_marks.Key as key
+use Rattle.topology.proofs.marks.removed_marks.Statement.{statement}
+use Rattle.topology.proofs.Steps.{Der, _$_, first, ghosts, head-of, homes, past, patched, rets, skips, stmt, test, then-of, typesPast}
 
 abbrev pub xs : List Ty
 xs = typesPast (suc (code.function .params)) (code.function .locals)
@@ -204,22 +217,22 @@ module _ (κs : Lfts 10) (qs : Shares 10) where
   abbrev pub G82 : Cx
   G82 = patched ((13, row28) ∷ (32, row12) ∷ []) ((9, off) ∷ (18, alive) ∷ []) G0
 
-  abbrev pub Γ-d10 : Cx
-  Γ-d10 = G0
+  abbrev pub Γ-pass-1 : Cx
+  Γ-pass-1 = G0
 
-  abbrev pub Γ-d39 : Cx
-  Γ-d39 = G0
+  abbrev pub Γ-pass-2 : Cx
+  Γ-pass-2 = G0
 
-  abbrev pub Γ-d65 : Cx
-  Γ-d65 = G0
+  abbrev pub Γ-pass-3 : Cx
+  Γ-pass-3 = G0
 
 module _ {M : Type 1} (𝓤 : URA M) (H : Heap 𝓤) (A : Atoms 𝓤) (W : Given 𝓤 H A) (𝓣 : Tables 𝓤 H)
     (known0 : Knows 𝓤 H A W 𝓣 8 K0.ps K0.r R0.Asked R0.Learnt "topology::mouths::replace_ramp_mouths") (known1 : Knows 𝓤 H A W 𝓣 8 K1.ps K1.r R1.Asked R1.Learnt "topology::interiors::collapse_ramp_interiors") (known2 : Knows 𝓤 H A W 𝓣 7 K2.ps K2.r R2.Asked R2.Learnt "topology::proposals::remove_junction_boundaries") (κs : Lfts 10) (qs : Shares 10) (bs : List ℕ) where
   abbrev E : Env 𝓤 H
   E = EnvOf 𝓤 H (tyR r ∷ tysP ps xs) bs
 
-  abbrev pub d65 : Der W 𝓣 E (G0 κs qs) (past 4 (code.function .body)) (Δret 10 ps r xs m κs qs)
-  d65 =
+  abbrev pub pass-3 : Der W 𝓣 E (G0 κs qs) (past 4 (code.function .body)) (Δret 10 ps r xs m κs qs)
+  pass-3 =
       ghosts (G0 κs qs) _ (g-begin 𝓤 H A W E (G0 κs qs) 16 _) $
       stmt _ _ (t-sl-reshare 𝓤 H A W E (rtF (fInt w32)) 𝓣 _ 12 28 8 16 (tyRef (named 8) mut (tyInt w32)) (tyRef erased imm (tyInt w32)) (lease (κs .1 .1 .1 .1 .1 .1 .1 .1 .0) (qs .1 .1 .1 .1 .1 .1 .1 .1 .0)) 0 (λ x. x) (as-is 𝓤 H A (mslice (rtF (fInt w32)) (tyRef (named 8) mut (tyInt w32)) 8)) (room-gone 𝓤 H A (tyRef erased imm (tyInt w32))) refl tt refl refl refl (λ b o. tt)) $
       stmt _ (G67 κs qs) (t-sl-aggregate 𝓤 H A W E (rtF (fInt w32)) 𝓣 (asShr (rtF (fInt w32))) _ 28 29 16 (tyRef erased imm (tyInt w32)) (tyRef erased imm (tyInt w32)) (λ x. x) (oFld 12 (field 1 ∷ []) (tyInt w64) 8 (λ v. lenV (v .0))) (as-is 𝓤 H A (ssptr (rtF (fInt w32)) (tyRef erased imm (tyInt w32)) 16)) (room-gone 𝓤 H A _) (reads-owedS-len 𝓤 H A W (rtF (fInt w32)) (tyRef (named 8) mut (tyInt w32)) 8 16 (lease (κs .1 .1 .1 .1 .1 .1 .1 .1 .0) (qs .1 .1 .1 .1 .1 .1 .1 .1 .0)) 8 refl, refl) refl refl (λ b o k. tt)) $
@@ -247,8 +260,8 @@ module _ {M : Type 1} (𝓤 : URA M) (H : Heap 𝓤) (A : Atoms 𝓤) (W : Given
       ghosts (G33 κs qs) (G34 κs qs) (g-room 𝓤 H A W E (G33 κs qs) 4 (tyInt w64) (room-sc 𝓤 H A W (sInt w64))) $
       rets
 
-  abbrev pub d39 : Der W 𝓣 E (G0 κs qs) (then-of (head-of (past 3 (code.function .body)))) (withNext (some (G0 κs qs)) (Δret 10 ps r xs m κs qs))
-  d39 =
+  abbrev pub pass-2 : Der W 𝓣 E (G0 κs qs) (then-of (head-of (past 3 (code.function .body)))) (withNext (some (G0 κs qs)) (Δret 10 ps r xs m κs qs))
+  pass-2 =
       ghosts (G0 κs qs) _ (g-begin 𝓤 H A W E (G0 κs qs) 13 _) $
       stmt _ _ (t-sl-relend 𝓤 H A W E (rtF (fInt w16)) 𝓣 _ 11 22 7 13 (tyRef (named 7) mut (tyInt w16)) (tyRef erased mut (tyInt w16)) (lease (κs .1 .1 .1 .1 .1 .1 .1 .0) (qs .1 .1 .1 .1 .1 .1 .1 .0)) 0 (λ x. x) (as-is 𝓤 H A (mslice (rtF (fInt w16)) (tyRef (named 7) mut (tyInt w16)) 7)) (room-gone 𝓤 H A (tyRef erased mut (tyInt w16))) refl tt refl refl refl (λ b o. tt)) $
       stmt _ (G41 κs qs) (t-sl-aggregate 𝓤 H A W E (rtF (fInt w16)) 𝓣 (asMut (rtF (fInt w16))) _ 22 23 13 (tyRef erased mut (tyInt w16)) (tyRef erased mut (tyInt w16)) (λ x. x) (oFld 11 (field 1 ∷ []) (tyInt w64) 8 (λ v. lenV (v .0))) (as-is 𝓤 H A (msptr (rtF (fInt w16)) (tyRef erased mut (tyInt w16)) 13)) (room-gone 𝓤 H A _) (reads-owed-len 𝓤 H A W (rtF (fInt w16)) (tyRef (named 7) mut (tyInt w16)) 7 13 (lease (κs .1 .1 .1 .1 .1 .1 .1 .0) (qs .1 .1 .1 .1 .1 .1 .1 .0)) 8 refl, refl) refl refl (λ b o k. tt)) $
@@ -274,8 +287,8 @@ module _ {M : Type 1} (𝓤 : URA M) (H : Heap 𝓤) (A : Atoms 𝓤) (W : Given
       ghosts (G33 κs qs) (G34 κs qs) (g-room 𝓤 H A W E (G33 κs qs) 4 (tyInt w64) (room-sc 𝓤 H A W (sInt w64))) $
       rets
 
-  abbrev pub d10 : Der W 𝓣 E (G0 κs qs) (then-of (head-of (past 1 (code.function .body)))) (withNext (some (G0 κs qs)) (Δret 10 ps r xs m κs qs))
-  d10 =
+  abbrev pub pass-1 : Der W 𝓣 E (G0 κs qs) (then-of (head-of (past 1 (code.function .body)))) (withNext (some (G0 κs qs)) (Δret 10 ps r xs m κs qs))
+  pass-1 =
       ghosts (G0 κs qs) _ (g-begin 𝓤 H A W E (G0 κs qs) 10 _) $
       stmt _ _ (t-sl-relend 𝓤 H A W E (rtF (fInt w16)) 𝓣 _ 11 16 7 10 (tyRef (named 7) mut (tyInt w16)) (tyRef erased mut (tyInt w16)) (lease (κs .1 .1 .1 .1 .1 .1 .1 .0) (qs .1 .1 .1 .1 .1 .1 .1 .0)) 0 (λ x. x) (as-is 𝓤 H A (mslice (rtF (fInt w16)) (tyRef (named 7) mut (tyInt w16)) 7)) (room-gone 𝓤 H A (tyRef erased mut (tyInt w16))) refl tt refl refl refl (λ b o. tt)) $
       stmt _ (G12 κs qs) (t-sl-aggregate 𝓤 H A W E (rtF (fInt w16)) 𝓣 (asMut (rtF (fInt w16))) _ 16 17 10 (tyRef erased mut (tyInt w16)) (tyRef erased mut (tyInt w16)) (λ x. x) (oFld 11 (field 1 ∷ []) (tyInt w64) 8 (λ v. lenV (v .0))) (as-is 𝓤 H A (msptr (rtF (fInt w16)) (tyRef erased mut (tyInt w16)) 10)) (room-gone 𝓤 H A _) (reads-owed-len 𝓤 H A W (rtF (fInt w16)) (tyRef (named 7) mut (tyInt w16)) 7 10 (lease (κs .1 .1 .1 .1 .1 .1 .1 .0) (qs .1 .1 .1 .1 .1 .1 .1 .0)) 8 refl, refl) refl refl (λ b o k. tt)) $
@@ -308,14 +321,62 @@ module _ {M : Type 1} (𝓤 : URA M) (H : Heap 𝓤) (A : Atoms 𝓤) (W : Given
       first (G7 κs qs) (G0 κs qs) (
       test (G7 κs qs) 14 (λ x. x) (reads-sc 𝓤 H A W sBool) refl (
       ghosts (G7 κs qs) (G0 κs qs) (g-room 𝓤 H A W E (G7 κs qs) 14 tyBool (room-sc 𝓤 H A W sBool)) $
-      d10) (
+      pass-1) (
       ghosts (G7 κs qs) (G0 κs qs) (g-room 𝓤 H A W E (G7 κs qs) 14 tyBool (room-sc 𝓤 H A W sBool)) $
       skips)) $
       stmt (G0 κs qs) (G7 κs qs) (t-op2 𝓤 H A W E 𝓣 (G0 κs qs) eq (oAt 1 (tyInt w64) (valS (sInt w64))) (oInt w64 _) 14 (sc-here sBool) tyBool (valS sBool) (sBool .of) (reads-sc 𝓤 H A W (sInt w64), refl) tt (room-gone 𝓤 H A tyBool) (holds-sc 𝓤 H A W sBool) refl (λ u. refl) (λ u. tt)) $
       first (G7 κs qs) (G0 κs qs) (
       test (G7 κs qs) 14 (λ x. x) (reads-sc 𝓤 H A W sBool) refl (
       ghosts (G7 κs qs) (G0 κs qs) (g-room 𝓤 H A W E (G7 κs qs) 14 tyBool (room-sc 𝓤 H A W sBool)) $
-      d39) (
+      pass-2) (
       ghosts (G7 κs qs) (G0 κs qs) (g-room 𝓤 H A W E (G7 κs qs) 14 tyBool (room-sc 𝓤 H A W sBool)) $
       skips)) $
-      d65
+      pass-3
+
+-- the derivations at a model
+module _ (w : World) where
+  abbrev known0-at : Knows (w .𝓤) (w .H) (w .𝓖 .A) (Wof w) (𝓣of w code.env) 8 K0.ps K0.r R0.Asked R0.Learnt "topology::mouths::replace_ramp_mouths"
+  known0-at = R0.known w code.env S0.name S0.routine code.calls-topology·mouths·replace-ramp-mouths (M0.met (w .𝓤) (w .H) (w .𝓜) (w .𝓖) (w .𝓡))
+
+  abbrev known1-at : Knows (w .𝓤) (w .H) (w .𝓖 .A) (Wof w) (𝓣of w code.env) 8 K1.ps K1.r R1.Asked R1.Learnt "topology::interiors::collapse_ramp_interiors"
+  known1-at = R1.known w code.env S1.name S1.routine code.calls-topology·interiors·collapse-ramp-interiors (M1.met (w .𝓤) (w .H) (w .𝓜) (w .𝓖) (w .𝓡))
+
+  abbrev known2-at : Knows (w .𝓤) (w .H) (w .𝓖 .A) (Wof w) (𝓣of w code.env) 7 K2.ps K2.r R2.Asked R2.Learnt "topology::proposals::remove_junction_boundaries"
+  known2-at = R2.known w code.env S2.name S2.routine code.calls-topology·proposals·remove-junction-boundaries (M2.met (w .𝓤) (w .H) (w .𝓜) (w .𝓖) (w .𝓡))
+
+module _ (w : World) (κs : Lfts 10) (qs : Shares 10) (bs : List ℕ) where
+  abbrev pub pass-3-at : Der (Wof w) (𝓣of w code.env) (EnvOf (w .𝓤) (w .H) (tyR r ∷ tysP ps xs) bs) (G0 κs qs) (past 4 (code.function .body)) (Δret 10 ps r xs m κs qs)
+  pass-3-at = pass-3 (w .𝓤) (w .H) (w .𝓖 .A) (Wof w) (𝓣of w code.env) (known0-at w) (known1-at w) (known2-at w) κs qs bs
+
+  abbrev pub pass-2-at : Der (Wof w) (𝓣of w code.env) (EnvOf (w .𝓤) (w .H) (tyR r ∷ tysP ps xs) bs) (G0 κs qs) (then-of (head-of (past 3 (code.function .body)))) (withNext (some (G0 κs qs)) (Δret 10 ps r xs m κs qs))
+  pass-2-at = pass-2 (w .𝓤) (w .H) (w .𝓖 .A) (Wof w) (𝓣of w code.env) (known0-at w) (known1-at w) (known2-at w) κs qs bs
+
+  abbrev pub pass-1-at : Der (Wof w) (𝓣of w code.env) (EnvOf (w .𝓤) (w .H) (tyR r ∷ tysP ps xs) bs) (G0 κs qs) (then-of (head-of (past 1 (code.function .body)))) (withNext (some (G0 κs qs)) (Δret 10 ps r xs m κs qs))
+  pass-1-at = pass-1 (w .𝓤) (w .H) (w .𝓖 .A) (Wof w) (𝓣of w code.env) (known0-at w) (known1-at w) (known2-at w) κs qs bs
+
+  abbrev pub d-at : Der (Wof w) (𝓣of w code.env) (EnvOf (w .𝓤) (w .H) (tyR r ∷ tysP ps xs) bs) (Γin 10 ps r xs m κs qs) (code.function .body) (Δret 10 ps r xs m κs qs)
+  d-at = d (w .𝓤) (w .H) (w .𝓖 .A) (Wof w) (𝓣of w code.env) (known0-at w) (known1-at w) (known2-at w) κs qs bs
+
+-- the arguments and what is required of them, the state at entry, the ways out, and what is wanted of a return
+abbrev pub Args : Lfts 10 → Type 0
+Args κs = Dens κs ps
+
+abbrev pub Requires : (κs : Lfts 10) → Args κs → Type 0
+Requires κs a = Pre the-contract κs a
+
+module _ (κs : Lfts 10) (qs : Shares 10) where
+  abbrev pub returns : Outs
+  returns = Δret 10 ps r xs m κs qs
+
+  abbrev pub entry : Args κs → Mo (G0 κs qs)
+  entry a = init 10 ps r xs m κs qs a
+
+  abbrev pub wanted : Args κs → Want returns
+  wanted a = wantQ 10 ps r xs m κs qs a (Post the-contract κs a)
+
+-- the function's theorem, from the answers
+pub close : ((w : World) → Answers the-contract w code.env key.name xs m (homes (code.function .locals)) (code.function .body) (d-at w)) → {M : Type 1} → statement M
+unfolding code.routine tablesOf
+close answers {M} 𝓤 H 𝓜 𝓖 𝓡 =
+    met the-contract (record { M = M; 𝓤 = 𝓤; H = H; 𝓜 = 𝓜; 𝓖 = 𝓖; 𝓡 = 𝓡 }) code.env key.name xs m (homes (code.function .locals)) (code.function .body)
+    (d-at (record { M = M; 𝓤 = 𝓤; H = H; 𝓜 = 𝓜; 𝓖 = 𝓖; 𝓡 = 𝓡 })) (code.unfolded 𝓤 H 𝓜 𝓡) (answers (record { M = M; 𝓤 = 𝓤; H = H; 𝓜 = 𝓜; 𝓖 = 𝓖; 𝓡 = 𝓡 }))

@@ -1,11 +1,15 @@
 -- The derivation of `Rattle.topology.proofs.proposals.remove_junction_boundaries` in steps. Made by tools/twin.
-use Prim.Native.Nat.{ℕ, suc}
+use contract.Running.{tablesOf}
+use borrow.Table.Typed.{Mo, Outs, Want}
+use borrow.Fn.World.{World}
+use borrow.Fn.Any.{wantQ}
+use Prim.Native.Nat.{suc, ℕ}
 use Rattle.context.proofs.Region as twin-0
 use borrow.Fn.Call.{pin-lease, sub-id}
 use borrow.Fn.Enter.{tysP}
 use borrow.Fn.Frame.{EnvOf}
-use borrow.Fn.Function.{Γin, Δret}
-use borrow.Fn.Kinds.{tyR}
+use borrow.Fn.Function.{init, Γin, Δret}
+use borrow.Fn.Kinds.{Dens, tyR}
 use borrow.Fn.Plain.{Known as Knows, t-call-plain}
 use borrow.Kind.Num.{vAt}
 use borrow.Kind.ShrRef.{spares-sref}
@@ -49,13 +53,23 @@ use prog.Wp.{Env, Heap, Tables, spotOf}
 use types.Kit.{Given}
 use Rattle.junctions.proofs.proposals.find_proposals.Kinds as K0
 use Rattle.junctions.proofs.proposals.find_proposals.Reads as R0
+use Rattle.junctions.proofs.proposals.find_proposals.Symbol as S0
+use Rattle.junctions.proofs.proposals.find_proposals.Met as M0
 use Rattle.topology.proofs.Seen.proposals.allow_proposals.Kinds as K1
 use Rattle.topology.proofs.Seen.proposals.allow_proposals.Reads as R1
+use Rattle.topology.proofs.proposals.allow_proposals.Symbol as S1
+use Rattle.topology.proofs.proposals.allow_proposals.Met as M1
 use Rattle.junction_selection.proofs.selection.select_proposals.Kinds as K2
 use Rattle.junction_selection.proofs.selection.select_proposals.Reads as R2
+use Rattle.junction_selection.proofs.selection.select_proposals.Symbol as S2
+use Rattle.junction_selection.proofs.selection.select_proposals.Met as M2
 use Rattle.topology.proofs.Seen.proposals.remove_junction_boundaries.Kinds.{ps, r}
 use Rattle.topology.proofs.proposals.remove_junction_boundaries.Code as code
-use Rattle.topology.proofs.Steps.{Der, _$_, typesPast, patched, stmt, ghosts, rets}
+use Rattle.topology.proofs.Contracts.{Answers, Post, Pre, Wof, met, 𝓣of}
+use Rattle.topology.proofs.Seen.proposals.remove_junction_boundaries.Reads.{the-contract}
+use Rattle.topology.proofs.proposals.remove_junction_boundaries.Key as key
+use Rattle.topology.proofs.proposals.remove_junction_boundaries.Statement.{statement}
+use Rattle.topology.proofs.Steps.{Der, _$_, ghosts, homes, patched, rets, stmt, typesPast}
 
 abbrev pub xs : List Ty
 xs = typesPast (suc (code.function .params)) (code.function .locals)
@@ -244,7 +258,7 @@ module _ {M : Type 1} (𝓤 : URA M) (H : Heap 𝓤) (A : Atoms 𝓤) (W : Given
       stmt _ _ (t-arr-share 𝓤 H A W E 𝓣 (rtF fBool) _ 11 21 426 11 (tyRef erased imm (tyArray tyBool 426)) (λ x. x) (as-is 𝓤 H A (arrF (rtF fBool) 426 0)) (room-gone 𝓤 H A (tyRef erased imm (tyArray tyBool 426))) refl (λ b o. tt) (lit< tt, lit< tt)) $
       stmt _ (G35 κs qs) (t-sl-aggregate 𝓤 H A W E (rtF fBool) 𝓣 (asShr (rtF fBool)) _ 21 22 11 (tyRef erased imm (tyArray tyBool 426)) (tyRef erased imm tyBool) (λ x. x) (oInt w64 _) (as-is 𝓤 H A (ssptr (rtF fBool) (tyRef erased imm (tyArray tyBool 426)) 11)) (room-gone 𝓤 H A _) tt refl refl (λ b o k. tt)) $
       ghosts (G35 κs qs) (G36 κs qs) (g-begin 𝓤 H A W E (G35 κs qs) 12 _) $
-      stmt (G36 κs qs) _ (t-way-lend-slice 𝓤 H A W E 𝓣 (rtF fBool) tt 256 (lit< tt, lit< tt) (λ ρ. _≡_ (lft ρ 6) (κs .1 .1 .1 .1 .1 .1 .0)) (G36 κs qs) (out 9 ((G36 κs qs) .locals)) (λ u. drop 9 ((G36 κs qs) .locals) u) (setLife 6 off ((G36 κs qs) .slots)) 9 (λ t. _∷_ (deref tyBool) t) tyBool (tyRef erased mut tyBool) 23 12 (λ u. u .1 .1 .1 .1 .1 .1 .1 .1 .1 .0 .now) (λ u. u .1 .1 .1 .1 .1 .1 .1 .1 .1 .0 .ptr) (λ T′. record { locals = setRow 9 (_, held (fz-open erased 6 (κs .1 .1 .1 .1 .1 .1 .0) (lease (κs .1 .1 .1 .1 .1 .1 .0) (qs .1 .1 .1 .1 .1 .1 .0)) (fz-lent-sl (rtF fBool) 256 12))) T′; slots = setLife 6 off ((G36 κs qs) .slots) }) (λ u γ T′ m′. set 9 (_, held (fz-open erased 6 (κs .1 .1 .1 .1 .1 .1 .0) (lease (κs .1 .1 .1 .1 .1 .1 .0) (qs .1 .1 .1 .1 .1 .1 .0)) (fz-lent-sl (rtF fBool) 256 12))) (u .1 .1 .1 .1 .1 .1 .1 .1 .1 .0, γ) T′ m′) (λ u. Unit) (pin-lease 𝓤 H A W 6 ((G36 κs qs) .slots) (κs .1 .1 .1 .1 .1 .1 .0) (qs .1 .1 .1 .1 .1 .1 .0) refl) (λ ρ told u asked. wt-mut 𝓤 H A W E erased 6 (κs .1 .1 .1 .1 .1 .1 .0) (lease (κs .1 .1 .1 .1 .1 .1 .0) (qs .1 .1 .1 .1 .1 .1 .0)) (fz-lent-sl (rtF fBool) 256 12) (tyRef (named 6) mut (tyArray tyBool 256)) tyBool (u .1 .1 .1 .1 .1 .1 .1 .1 .1 .0) (spotOf 𝓤 H E 9 .1, _) (wt-mref 𝓤 H A W E erased (κs .1 .1 .1 .1 .1 .1 .0) (Array (rtF fBool) 256) 6 (tyRef (named 6) mut (tyArray tyBool 256)) (fz-open erased 6 (κs .1 .1 .1 .1 .1 .1 .0) (lease (κs .1 .1 .1 .1 .1 .1 .0) (qs .1 .1 .1 .1 .1 .1 .0)) (fz-lent-sl (rtF fBool) 256 12)) refl (G36 κs qs) ρ u (setLife 6 off ((G36 κs qs) .slots)) 9 (λ x. x) told (as-is 𝓤 H A (mref (Array (rtF fBool) 256) (tyRef (named 6) mut (tyArray tyBool 256)) 6))) refl (setLife 6 off ((G36 κs qs) .slots)) (takes-whole 𝓤 H A W 6 ((G36 κs qs) .slots) (lease (κs .1 .1 .1 .1 .1 .1 .0) (qs .1 .1 .1 .1 .1 .1 .0)) refl tt) told) (room-gone 𝓤 H A (tyRef erased mut tyBool)) refl (λ b o. tt)) $
+      stmt (G36 κs qs) _ (t-way-lend-slice 𝓤 H A W E 𝓣 (rtF fBool) tt 256 (lit< tt, lit< tt) (λ ρ. _≡_ (lft ρ 6) (κs .1 .1 .1 .1 .1 .1 .0)) (G36 κs qs) (out 9 ((G36 κs qs) .locals)) (λ u. drop 9 ((G36 κs qs) .locals) u) (setLife 6 off ((G36 κs qs) .slots)) 9 (λ t. _∷_ (deref tyBool) t) tyBool (tyRef erased mut tyBool) 23 12 (λ u. u .1 .1 .1 .1 .1 .1 .1 .1 .1 .0 .now) (λ u. u .1 .1 .1 .1 .1 .1 .1 .1 .1 .0 .ptr) (λ T′. record { locals = setRow 9 (9, held (fz-open erased 6 (κs .1 .1 .1 .1 .1 .1 .0) (lease (κs .1 .1 .1 .1 .1 .1 .0) (qs .1 .1 .1 .1 .1 .1 .0)) (fz-lent-sl (rtF fBool) 256 12))) T′; slots = setLife 6 off ((G36 κs qs) .slots) }) (λ u γ T′ m′. set 9 (9, held (fz-open erased 6 (κs .1 .1 .1 .1 .1 .1 .0) (lease (κs .1 .1 .1 .1 .1 .1 .0) (qs .1 .1 .1 .1 .1 .1 .0)) (fz-lent-sl (rtF fBool) 256 12))) (u .1 .1 .1 .1 .1 .1 .1 .1 .1 .0, γ) T′ m′) (λ u. Unit) (pin-lease 𝓤 H A W 6 ((G36 κs qs) .slots) (κs .1 .1 .1 .1 .1 .1 .0) (qs .1 .1 .1 .1 .1 .1 .0) refl) (λ ρ told u asked. wt-mut 𝓤 H A W E erased 6 (κs .1 .1 .1 .1 .1 .1 .0) (lease (κs .1 .1 .1 .1 .1 .1 .0) (qs .1 .1 .1 .1 .1 .1 .0)) (fz-lent-sl (rtF fBool) 256 12) (tyRef (named 6) mut (tyArray tyBool 256)) tyBool (u .1 .1 .1 .1 .1 .1 .1 .1 .1 .0) (spotOf 𝓤 H E 9 .1, 0) (wt-mref 𝓤 H A W E erased (κs .1 .1 .1 .1 .1 .1 .0) (Array (rtF fBool) 256) 6 (tyRef (named 6) mut (tyArray tyBool 256)) (fz-open erased 6 (κs .1 .1 .1 .1 .1 .1 .0) (lease (κs .1 .1 .1 .1 .1 .1 .0) (qs .1 .1 .1 .1 .1 .1 .0)) (fz-lent-sl (rtF fBool) 256 12)) refl (G36 κs qs) ρ u (setLife 6 off ((G36 κs qs) .slots)) 9 (λ x. x) told (as-is 𝓤 H A (mref (Array (rtF fBool) 256) (tyRef (named 6) mut (tyArray tyBool 256)) 6))) refl (setLife 6 off ((G36 κs qs) .slots)) (takes-whole 𝓤 H A W 6 ((G36 κs qs) .slots) (lease (κs .1 .1 .1 .1 .1 .1 .0) (qs .1 .1 .1 .1 .1 .1 .0)) refl tt) told) (room-gone 𝓤 H A (tyRef erased mut tyBool)) refl (λ b o. tt)) $
       stmt _ (G38 κs qs) (t-sl-aggregate 𝓤 H A W E (rtF fBool) 𝓣 (asMut (rtF fBool)) _ 23 24 12 (tyRef erased mut tyBool) (tyRef erased mut tyBool) (λ x. x) (oInt w64 _) (as-is 𝓤 H A (msptr (rtF fBool) (tyRef erased mut tyBool) 12)) (room-gone 𝓤 H A _) tt refl refl (λ b o k. tt)) $
       stmt (G38 κs qs) (G39 κs qs) (t-call-plain 𝓤 H A W 𝓣 6 K2.ps K2.r R2.Asked R2.Learnt "junction_selection::selection::select_proposals" known2 E (λ pos β. β) (G38 κs qs) (record { pos = 4; ty = tyRef (named 1) imm (tyInt w64); ref = λ x. x }, (record { pos = 5; ty = tyRef (named 2) imm (tyArray (tyInt w32) 256); ref = λ x. x }, (record { pos = 6; ty = tyRef (named 3) imm (tyArray (tyInt w32) 256); ref = λ x. x }, (record { pos = 20; ty = tyRef erased imm (tyInt w32); ref = λ x. x }, (record { pos = 22; ty = tyRef erased imm tyBool; ref = λ x. x }, (record { pos = 24; ty = tyRef erased mut tyBool; ref = λ x. x }, (vAt 3 (λ x. x), (vAt 12 (λ x. x), tt)))))))) 15 (1 ∷ 2 ∷ 3 ∷ 10 ∷ 11 ∷ 12 ∷ []) (sub-id 𝓤 H A W ((G38 κs qs) .slots)) (spares-sslice 𝓤 H A W (rtF (fInt w64)) (tyRef (named 1) imm (tyInt w64)) 1, reads-sslice 𝓤 H A W (rtF (fInt w64)) (tyRef (named 1) imm (tyInt w64)) 1, refl, (spares-sref 𝓤 H A W (Array (rtF (fInt w32)) 256) (tyRef (named 2) imm (tyArray (tyInt w32) 256)) 2, reads-sref 𝓤 H A W (Array (rtF (fInt w32)) 256) (tyRef (named 2) imm (tyArray (tyInt w32) 256)) 2, refl, (spares-sref 𝓤 H A W (Array (rtF (fInt w32)) 256) (tyRef (named 3) imm (tyArray (tyInt w32) 256)) 3, reads-sref 𝓤 H A W (Array (rtF (fInt w32)) 256) (tyRef (named 3) imm (tyArray (tyInt w32) 256)) 3, refl, (spares-sslice 𝓤 H A W (rtF (fInt w32)) (tyRef erased imm (tyInt w32)) 10, reads-sslice 𝓤 H A W (rtF (fInt w32)) (tyRef erased imm (tyInt w32)) 10, refl, (spares-sslice 𝓤 H A W (rtF fBool) (tyRef erased imm tyBool) 11, reads-sslice 𝓤 H A W (rtF fBool) (tyRef erased imm tyBool) 11, refl, (as-is 𝓤 H A (mslice (rtF fBool) (tyRef erased mut tyBool) 12), reads-mslice 𝓤 H A W (rtF fBool) (tyRef erased mut tyBool) 12, refl, ((reads-sc 𝓤 H A W (sInt w64), refl), ((reads-sc 𝓤 H A W (sInt w64), refl), tt)))))))) (room-gone 𝓤 H A tyUnit) _ refl) $
       ghosts (G39 κs qs) _ (g-room 𝓤 H A W E (G39 κs qs) 20 _ (room-sslice 𝓤 H A W (rtF (fInt w32)) (tyRef erased imm (tyInt w32)) 10)) $
@@ -266,3 +280,42 @@ module _ {M : Type 1} (𝓤 : URA M) (H : Heap 𝓤) (A : Atoms 𝓤) (W : Given
       ghosts _ _ (g-room 𝓤 H A W E _ 2 (tyInt w64) (room-sc 𝓤 H A W (sInt w64))) $
       ghosts _ (G57 κs qs) (g-room 𝓤 H A W E _ 3 (tyInt w64) (room-sc 𝓤 H A W (sInt w64))) $
       rets
+
+-- the derivations at a model
+module _ (w : World) where
+  abbrev known0-at : Knows (w .𝓤) (w .H) (w .𝓖 .A) (Wof w) (𝓣of w code.env) 6 K0.ps K0.r R0.Asked R0.Learnt "junctions::proposals::find_proposals"
+  known0-at = R0.known w code.env S0.name S0.routine code.calls-junctions·proposals·find-proposals (M0.met (w .𝓤) (w .H) (w .𝓜) (w .𝓖) (w .𝓡))
+
+  abbrev known1-at : Knows (w .𝓤) (w .H) (w .𝓖 .A) (Wof w) (𝓣of w code.env) 5 K1.ps K1.r R1.Asked R1.Learnt "topology::proposals::allow_proposals"
+  known1-at = R1.known w code.env S1.name S1.routine code.calls-topology·proposals·allow-proposals (M1.met (w .𝓤) (w .H) (w .𝓜) (w .𝓖) (w .𝓡))
+
+  abbrev known2-at : Knows (w .𝓤) (w .H) (w .𝓖 .A) (Wof w) (𝓣of w code.env) 6 K2.ps K2.r R2.Asked R2.Learnt "junction_selection::selection::select_proposals"
+  known2-at = R2.known w code.env S2.name S2.routine code.calls-junction-selection·selection·select-proposals (M2.met (w .𝓤) (w .H) (w .𝓜) (w .𝓖) (w .𝓡))
+
+module _ (w : World) (κs : Lfts 7) (qs : Shares 7) (bs : List ℕ) where
+  abbrev pub d-at : Der (Wof w) (𝓣of w code.env) (EnvOf (w .𝓤) (w .H) (tyR r ∷ tysP ps xs) bs) (Γin 7 ps r xs m κs qs) (code.function .body) (Δret 7 ps r xs m κs qs)
+  d-at = d (w .𝓤) (w .H) (w .𝓖 .A) (Wof w) (𝓣of w code.env) (known0-at w) (known1-at w) (known2-at w) κs qs bs
+
+-- the arguments and what is required of them, the state at entry, the ways out, and what is wanted of a return
+abbrev pub Args : Lfts 7 → Type 0
+Args κs = Dens κs ps
+
+abbrev pub Requires : (κs : Lfts 7) → Args κs → Type 0
+Requires κs a = Pre the-contract κs a
+
+module _ (κs : Lfts 7) (qs : Shares 7) where
+  abbrev pub returns : Outs
+  returns = Δret 7 ps r xs m κs qs
+
+  abbrev pub entry : Args κs → Mo (G0 κs qs)
+  entry a = init 7 ps r xs m κs qs a
+
+  abbrev pub wanted : Args κs → Want returns
+  wanted a = wantQ 7 ps r xs m κs qs a (Post the-contract κs a)
+
+-- the function's theorem, from the answers
+pub close : ((w : World) → Answers the-contract w code.env key.name xs m (homes (code.function .locals)) (code.function .body) (d-at w)) → {M : Type 1} → statement M
+unfolding code.routine tablesOf
+close answers {M} 𝓤 H 𝓜 𝓖 𝓡 =
+    met the-contract (record { M = M; 𝓤 = 𝓤; H = H; 𝓜 = 𝓜; 𝓖 = 𝓖; 𝓡 = 𝓡 }) code.env key.name xs m (homes (code.function .locals)) (code.function .body)
+    (d-at (record { M = M; 𝓤 = 𝓤; H = H; 𝓜 = 𝓜; 𝓖 = 𝓖; 𝓡 = 𝓡 })) (code.unfolded 𝓤 H 𝓜 𝓡) (answers (record { M = M; 𝓤 = 𝓤; H = H; 𝓜 = 𝓜; 𝓖 = 𝓖; 𝓡 = 𝓡 }))
