@@ -69,7 +69,7 @@ use Rattle.topology.proofs.Contracts.{Answers, Post, Pre, Wof, met, �
 use Rattle.topology.proofs.Seen.mouths.replace_ramp_mouths.Reads.{the-contract}
 use Rattle.topology.proofs.mouths.replace_ramp_mouths.Key as key
 use Rattle.topology.proofs.mouths.replace_ramp_mouths.Statement.{statement}
-use Rattle.topology.proofs.Steps.{Der, _$_, first, ghosts, homes, patched, rets, skips, stmt, test, typesPast}
+use Rattle.topology.proofs.Steps.{Der, _$_, first, ghosts, homes, past, patched, rets, skips, stmt, test, typesPast}
 
 abbrev pub xs : List Ty
 xs = typesPast (suc (code.function .params)) (code.function .locals)
@@ -417,100 +417,19 @@ module _ (κs : Lfts 8) (qs : Shares 8) where
   abbrev pub G145 : Cx
   G145 = patched ((15, row11) ∷ (16, row25) ∷ []) ([]) G0
 
+  abbrev pub Γ-from-near : Cx
+  Γ-from-near = G59
+
+  abbrev pub Γ-from-select : Cx
+  Γ-from-select = G59
+
 module _ {M : Type 1} (𝓤 : URA M) (H : Heap 𝓤) (A : Atoms 𝓤) (W : Given 𝓤 H A) (𝓣 : Tables 𝓤 H)
     (known0 : Knows 𝓤 H A W 𝓣 1 K0.ps K0.r R0.Asked R0.Learnt "ramp_boundaries::candidates::any_ramp") (known1 : Knows 𝓤 H A W 𝓣 11 K1.ps K1.r R1.Asked R1.Learnt "ramp_boundaries::candidates::push_candidates") (known2 : Knows 𝓤 H A W 𝓣 9 K2.ps K2.r R2.Asked R2.Learnt "topology::mouths::mark_near") (known3 : Knows 𝓤 H A W 𝓣 11 K3.ps K3.r R3.Asked R3.Learnt "mouth_selection::selection::select_mouths") (κs : Lfts 8) (qs : Shares 8) (bs : List ℕ) where
   abbrev E : Env 𝓤 H
   E = EnvOf 𝓤 H (tyR r ∷ tysP ps xs) bs
 
-  abbrev pub d : Der W 𝓣 E (Γin 8 ps r xs m κs qs) (code.function .body) (Δret 8 ps r xs m κs qs)
-  d =
-      stmt (G0 κs qs) (G7 κs qs) (t-call-plain 𝓤 H A W 𝓣 1 K0.ps K0.r R0.Asked R0.Learnt "ramp_boundaries::candidates::any_ramp" known0 E (λ pos β. β) (G0 κs qs) (record { pos = 3; ty = tyRef (named 1) imm (tyInt w64); ref = λ x. x }, (vAt 2 (λ x. x), tt)) 17 (1 ∷ []) (sub-id 𝓤 H A W ((G0 κs qs) .slots)) (spares-sslice 𝓤 H A W (rtF (fInt w64)) (tyRef (named 1) imm (tyInt w64)) 1, reads-sslice 𝓤 H A W (rtF (fInt w64)) (tyRef (named 1) imm (tyInt w64)) 1, refl, ((reads-sc 𝓤 H A W (sInt w64), refl), tt)) (room-gone 𝓤 H A tyBool) _ refl) $
-      stmt (G7 κs qs) (G8 κs qs) (t-op1 𝓤 H A W E 𝓣 (G7 κs qs) bitNot (oAt 17 tyBool (valS sBool)) 18 (sc-here sBool) tyBool (valS sBool) (sBool .of) (reads-sc 𝓤 H A W sBool, refl) (room-gone 𝓤 H A tyBool) (holds-sc 𝓤 H A W sBool) refl (λ u. refl) (λ u. tt)) $
-      first (G8 κs qs) (G0 κs qs) (
-      ghosts (G8 κs qs) (G10 κs qs) (g-room 𝓤 H A W E (G8 κs qs) 17 tyBool (room-sc 𝓤 H A W sBool)) $
-      test (G10 κs qs) 18 (λ x. x) (reads-sc 𝓤 H A W sBool) refl (
-      ghosts (G10 κs qs) (G0 κs qs) (g-room 𝓤 H A W E (G10 κs qs) 18 tyBool (room-sc 𝓤 H A W sBool)) $
-      stmt (G0 κs qs) (G12 κs qs) (t-use 𝓤 H A W E 𝓣 (G0 κs qs) oUnit 0 (sc-here sUnit) tyUnit (valS sUnit) (sUnit .of) tt (room-gone 𝓤 H A tyUnit) (holds-sc 𝓤 H A W sUnit) refl (λ u. refl) (λ u. tt)) $
-      ghosts (G12 κs qs) (G13 κs qs) (g-room 𝓤 H A W E (G12 κs qs) 2 (tyInt w64) (room-sc 𝓤 H A W (sInt w64))) $
-      rets) (
-      ghosts (G10 κs qs) (G0 κs qs) (g-room 𝓤 H A W E (G10 κs qs) 18 tyBool (room-sc 𝓤 H A W sBool)) $
-      skips)) $
-      stmt (G0 κs qs) (G15 κs qs) (t-repeat 𝓤 H A W E 𝓣 (rtF (fInt w8)) (uint-lawful 𝓤 H A W w8) (cRf (fInt w8) .copy 𝓤 H A W) (uint-makes 𝓤 H A W w8) 16384 (G0 κs qs) 10 (oInt w8 _) (λ m. 0) (room-gone 𝓤 H A (tyArray (tyInt w8) 16384)) tt refl (λ m wa. (refl, lit< tt))) $
-      ghosts (G15 κs qs) _ (g-as-by 𝓤 H A W E (λ ρ. Unit) (G15 κs qs) 10 (arrF (rtF (fInt w8)) 16384 0) (λ x. x) (told-none 𝓤 H A ((G15 κs qs) .slots)) (λ ρ told. whole-arr 𝓤 H A W (rtF (fInt w8)) 16384 tt ρ)) $
-      stmt _ (G17 κs qs) (t-repeat 𝓤 H A W E 𝓣 (rtF (fInt w8)) (uint-lawful 𝓤 H A W w8) (cRf (fInt w8) .copy 𝓤 H A W) (uint-makes 𝓤 H A W w8) 16384 _ 11 (oInt w8 _) (λ m. 0) (room-gone 𝓤 H A (tyArray (tyInt w8) 16384)) tt refl (λ m wa. (refl, lit< tt))) $
-      ghosts (G17 κs qs) _ (g-as-by 𝓤 H A W E (λ ρ. Unit) (G17 κs qs) 11 (arrF (rtF (fInt w8)) 16384 0) (λ x. x) (told-none 𝓤 H A ((G17 κs qs) .slots)) (λ ρ told. whole-arr 𝓤 H A W (rtF (fInt w8)) 16384 tt ρ)) $
-      stmt _ (G19 κs qs) (t-repeat 𝓤 H A W E 𝓣 (rtF (fInt w32)) (uint-lawful 𝓤 H A W w32) (cRf (fInt w32) .copy 𝓤 H A W) (uint-makes 𝓤 H A W w32) 16384 _ 12 (oInt w32 _) (λ m. 0) (room-gone 𝓤 H A (tyArray (tyInt w32) 16384)) tt refl (λ m wa. (refl, lit< tt))) $
-      ghosts (G19 κs qs) _ (g-as-by 𝓤 H A W E (λ ρ. Unit) (G19 κs qs) 12 (arrF (rtF (fInt w32)) 16384 0) (λ x. x) (told-none 𝓤 H A ((G19 κs qs) .slots)) (λ ρ told. whole-arr 𝓤 H A W (rtF (fInt w32)) 16384 tt ρ)) $
-      stmt _ (G21 κs qs) (t-repeat 𝓤 H A W E 𝓣 (rtF (fInt w8)) (uint-lawful 𝓤 H A W w8) (cRf (fInt w8) .copy 𝓤 H A W) (uint-makes 𝓤 H A W w8) 16384 _ 13 (oInt w8 _) (λ m. 0) (room-gone 𝓤 H A (tyArray (tyInt w8) 16384)) tt refl (λ m wa. (refl, lit< tt))) $
-      ghosts (G21 κs qs) _ (g-as-by 𝓤 H A W E (λ ρ. Unit) (G21 κs qs) 13 (arrF (rtF (fInt w8)) 16384 0) (λ x. x) (told-none 𝓤 H A ((G21 κs qs) .slots)) (λ ρ told. whole-arr 𝓤 H A W (rtF (fInt w8)) 16384 tt ρ)) $
-      stmt _ (G23 κs qs) (t-repeat 𝓤 H A W E 𝓣 (rtF (fInt w64)) (uint-lawful 𝓤 H A W w64) (cRf (fInt w64) .copy 𝓤 H A W) (uint-makes 𝓤 H A W w64) 16384 _ 14 (oInt w64 _) (λ m. 0) (room-gone 𝓤 H A (tyArray (tyInt w64) 16384)) tt refl (λ m wa. (refl, lit< tt))) $
-      ghosts (G23 κs qs) _ (g-as-by 𝓤 H A W E (λ ρ. Unit) (G23 κs qs) 14 (arrF (rtF (fInt w64)) 16384 0) (λ x. x) (told-none 𝓤 H A ((G23 κs qs) .slots)) (λ ρ told. whole-arr 𝓤 H A W (rtF (fInt w64)) 16384 tt ρ)) $
-      stmt _ (G25 κs qs) (t-repeat 𝓤 H A W E 𝓣 (rtF fBool) (bool-lawful 𝓤 H A W) (cRf fBool .copy 𝓤 H A W) (bool-makes 𝓤 H A W) 16384 _ 15 (oBool false) (λ m. false) (room-gone 𝓤 H A (tyArray tyBool 16384)) tt refl (λ m wa. refl)) $
-      ghosts (G25 κs qs) _ (g-as-by 𝓤 H A W E (λ ρ. Unit) (G25 κs qs) 15 (arrF (rtF fBool) 16384 0) (λ x. x) (told-none 𝓤 H A ((G25 κs qs) .slots)) (λ ρ told. whole-arr 𝓤 H A W (rtF fBool) 16384 tt ρ)) $
-      ghosts _ _ (g-begin 𝓤 H A W E _ 8 _) $
-      stmt _ (G28 κs qs) (t-sl-reshare 𝓤 H A W E (rtF (fInt w16)) 𝓣 _ 7 19 5 8 (tyRef (named 5) mut (tyInt w16)) (tyRef erased imm (tyInt w16)) (lease (κs .1 .1 .1 .1 .1 .0) (qs .1 .1 .1 .1 .1 .0)) 0 (λ x. x) (as-is 𝓤 H A (mslice (rtF (fInt w16)) (tyRef (named 5) mut (tyInt w16)) 5)) (room-gone 𝓤 H A (tyRef erased imm (tyInt w16))) refl tt refl refl refl (λ b o. tt)) $
-      stmt (G28 κs qs) _ (t-sl-aggregate 𝓤 H A W E (rtF (fInt w16)) 𝓣 (asShr (rtF (fInt w16))) (G28 κs qs) 19 20 8 (tyRef erased imm (tyInt w16)) (tyRef erased imm (tyInt w16)) (λ x. x) (oFld 7 (field 1 ∷ []) (tyInt w64) 8 (λ v. lenV (v .0))) (as-is 𝓤 H A (ssptr (rtF (fInt w16)) (tyRef erased imm (tyInt w16)) 8)) (room-gone 𝓤 H A _) (reads-owedS-len 𝓤 H A W (rtF (fInt w16)) (tyRef (named 5) mut (tyInt w16)) 5 8 (lease (κs .1 .1 .1 .1 .1 .0) (qs .1 .1 .1 .1 .1 .0)) 8 refl, refl) refl refl (λ b o k. tt)) $
-      ghosts _ _ (g-begin 𝓤 H A W E _ 9 _) $
-      stmt _ (G31 κs qs) (t-sc-borrow 𝓤 H A W E 𝓣 _ 10 21 9 (Array (rtF (fInt w8)) 16384) (tyRef erased mut (tyArray (tyInt w8) 16384)) (λ x. x) (mem-arr 𝓤 H A W (rtF (fInt w8)) 16384) (room-gone 𝓤 H A (tyRef erased mut (tyArray (tyInt w8) 16384))) refl (λ b o. tt)) $
-      ghosts (G31 κs qs) _ (g-begin 𝓤 H A W E (G31 κs qs) 10 _) $
-      stmt _ _ (t-sc-borrow 𝓤 H A W E 𝓣 _ 11 22 10 (Array (rtF (fInt w8)) 16384) (tyRef erased mut (tyArray (tyInt w8) 16384)) (λ x. x) (mem-arr 𝓤 H A W (rtF (fInt w8)) 16384) (room-gone 𝓤 H A (tyRef erased mut (tyArray (tyInt w8) 16384))) refl (λ b o. tt)) $
-      ghosts _ (G34 κs qs) (g-begin 𝓤 H A W E _ 11 _) $
-      stmt (G34 κs qs) _ (t-sc-borrow 𝓤 H A W E 𝓣 (G34 κs qs) 12 23 11 (Array (rtF (fInt w32)) 16384) (tyRef erased mut (tyArray (tyInt w32) 16384)) (λ x. x) (mem-arr 𝓤 H A W (rtF (fInt w32)) 16384) (room-gone 𝓤 H A (tyRef erased mut (tyArray (tyInt w32) 16384))) refl (λ b o. tt)) $
-      ghosts _ _ (g-begin 𝓤 H A W E _ 12 _) $
-      stmt _ (G37 κs qs) (t-sc-borrow 𝓤 H A W E 𝓣 _ 13 24 12 (Array (rtF (fInt w8)) 16384) (tyRef erased mut (tyArray (tyInt w8) 16384)) (λ x. x) (mem-arr 𝓤 H A W (rtF (fInt w8)) 16384) (room-gone 𝓤 H A (tyRef erased mut (tyArray (tyInt w8) 16384))) refl (λ b o. tt)) $
-      ghosts (G37 κs qs) _ (g-begin 𝓤 H A W E (G37 κs qs) 13 _) $
-      stmt _ (G39 κs qs) (t-sc-borrow 𝓤 H A W E 𝓣 _ 14 25 13 (Array (rtF (fInt w64)) 16384) (tyRef erased mut (tyArray (tyInt w64) 16384)) (λ x. x) (mem-arr 𝓤 H A W (rtF (fInt w64)) 16384) (room-gone 𝓤 H A (tyRef erased mut (tyArray (tyInt w64) 16384))) refl (λ b o. tt)) $
-      stmt (G39 κs qs) (G40 κs qs) (t-call-plain 𝓤 H A W 𝓣 11 K1.ps K1.r R1.Asked R1.Learnt "ramp_boundaries::candidates::push_candidates" known1 E (λ pos β. β) (G39 κs qs) (record { pos = 3; ty = tyRef (named 1) imm (tyInt w64); ref = λ x. x }, (record { pos = 4; ty = tyRef (named 2) imm (tyInt w32); ref = λ x. x }, (record { pos = 5; ty = tyRef (named 3) imm (tyInt w32); ref = λ x. x }, (record { pos = 6; ty = tyRef (named 4) imm (tyArray (tyInt w64) 257); ref = λ x. x }, (record { pos = 8; ty = tyRef (named 6) imm (tyInt w32); ref = λ x. x }, (record { pos = 20; ty = tyRef erased imm (tyInt w16); ref = λ x. x }, (vAt 2 (λ x. x), (record { pos = 21; ty = tyRef erased mut (tyArray (tyInt w8) 16384); ref = λ x. x }, (record { pos = 22; ty = tyRef erased mut (tyArray (tyInt w8) 16384); ref = λ x. x }, (record { pos = 23; ty = tyRef erased mut (tyArray (tyInt w32) 16384); ref = λ x. x }, (record { pos = 24; ty = tyRef erased mut (tyArray (tyInt w8) 16384); ref = λ x. x }, (record { pos = 25; ty = tyRef erased mut (tyArray (tyInt w64) 16384); ref = λ x. x }, tt)))))))))))) 16 (1 ∷ 2 ∷ 3 ∷ 4 ∷ 6 ∷ 8 ∷ 9 ∷ 10 ∷ 11 ∷ 12 ∷ 13 ∷ []) (sub-id 𝓤 H A W ((G39 κs qs) .slots)) (spares-sslice 𝓤 H A W (rtF (fInt w64)) (tyRef (named 1) imm (tyInt w64)) 1, reads-sslice 𝓤 H A W (rtF (fInt w64)) (tyRef (named 1) imm (tyInt w64)) 1, refl, (spares-sslice 𝓤 H A W (rtF (fInt w32)) (tyRef (named 2) imm (tyInt w32)) 2, reads-sslice 𝓤 H A W (rtF (fInt w32)) (tyRef (named 2) imm (tyInt w32)) 2, refl, (spares-sslice 𝓤 H A W (rtF (fInt w32)) (tyRef (named 3) imm (tyInt w32)) 3, reads-sslice 𝓤 H A W (rtF (fInt w32)) (tyRef (named 3) imm (tyInt w32)) 3, refl, (spares-sref 𝓤 H A W (Array (rtF (fInt w64)) 257) (tyRef (named 4) imm (tyArray (tyInt w64) 257)) 4, reads-sref 𝓤 H A W (Array (rtF (fInt w64)) 257) (tyRef (named 4) imm (tyArray (tyInt w64) 257)) 4, refl, (spares-sslice 𝓤 H A W (rtF (fInt w32)) (tyRef (named 6) imm (tyInt w32)) 6, reads-sslice 𝓤 H A W (rtF (fInt w32)) (tyRef (named 6) imm (tyInt w32)) 6, refl, (spares-sslice 𝓤 H A W (rtF (fInt w16)) (tyRef erased imm (tyInt w16)) 8, reads-sslice 𝓤 H A W (rtF (fInt w16)) (tyRef erased imm (tyInt w16)) 8, refl, ((reads-sc 𝓤 H A W (sInt w64), refl), (as-is 𝓤 H A (mref (Array (rtF (fInt w8)) 16384) (tyRef erased mut (tyArray (tyInt w8) 16384)) 9), reads-mref 𝓤 H A W (Array (rtF (fInt w8)) 16384) (tyRef erased mut (tyArray (tyInt w8) 16384)) 9, refl, (as-is 𝓤 H A (mref (Array (rtF (fInt w8)) 16384) (tyRef erased mut (tyArray (tyInt w8) 16384)) 10), reads-mref 𝓤 H A W (Array (rtF (fInt w8)) 16384) (tyRef erased mut (tyArray (tyInt w8) 16384)) 10, refl, (as-is 𝓤 H A (mref (Array (rtF (fInt w32)) 16384) (tyRef erased mut (tyArray (tyInt w32) 16384)) 11), reads-mref 𝓤 H A W (Array (rtF (fInt w32)) 16384) (tyRef erased mut (tyArray (tyInt w32) 16384)) 11, refl, (as-is 𝓤 H A (mref (Array (rtF (fInt w8)) 16384) (tyRef erased mut (tyArray (tyInt w8) 16384)) 12), reads-mref 𝓤 H A W (Array (rtF (fInt w8)) 16384) (tyRef erased mut (tyArray (tyInt w8) 16384)) 12, refl, (as-is 𝓤 H A (mref (Array (rtF (fInt w64)) 16384) (tyRef erased mut (tyArray (tyInt w64) 16384)) 13), reads-mref 𝓤 H A W (Array (rtF (fInt w64)) 16384) (tyRef erased mut (tyArray (tyInt w64) 16384)) 13, refl, tt)))))))))))) (room-gone 𝓤 H A (tyInt w64)) _ refl) $
-      ghosts (G40 κs qs) _ (g-room 𝓤 H A W E (G40 κs qs) 20 _ (room-sslice 𝓤 H A W (rtF (fInt w16)) (tyRef erased imm (tyInt w16)) 8)) $
-      ghosts _ _ (g-end 𝓤 H A W E _ 8 refl) $
-      ghosts _ (G43 κs qs) (g-back-sl-shr 𝓤 H A W E (rtF (fInt w16)) _ 7 5 8 (tyRef (named 5) mut (tyInt w16)) (lease (κs .1 .1 .1 .1 .1 .0) (qs .1 .1 .1 .1 .1 .0)) (λ x. x) (as-is 𝓤 H A (mslice-owedS (rtF (fInt w16)) (tyRef (named 5) mut (tyInt w16)) 5 8 (lease (κs .1 .1 .1 .1 .1 .0) (qs .1 .1 .1 .1 .1 .0)))) refl refl) $
-      ghosts (G43 κs qs) _ (g-forget 𝓤 H A W E (G43 κs qs) 8 dead refl) $
-      ghosts _ _ (g-end 𝓤 H A W E _ 9 refl) $
-      ghosts _ (G46 κs qs) (g-back-sc 𝓤 H A W E _ 21 10 9 (Array (rtF (fInt w8)) 16384) (tyRef erased mut (tyArray (tyInt w8) 16384)) (arrF (rtF (fInt w8)) 16384 0) (λ x. x) (λ x. x) (λ x. x) (as-is 𝓤 H A (mleft (Array (rtF (fInt w8)) 16384) (tyRef erased mut (tyArray (tyInt w8) 16384)))) (as-is 𝓤 H A (sc-owed (Array (rtF (fInt w8)) 16384) 9)) (arr-mem 𝓤 H A W (rtF (fInt w8)) 16384 tt) refl) $
-      ghosts (G46 κs qs) _ (g-forget 𝓤 H A W E (G46 κs qs) 9 dead refl) $
-      ghosts _ _ (g-end 𝓤 H A W E _ 10 refl) $
-      ghosts _ (G49 κs qs) (g-back-sc 𝓤 H A W E _ 22 11 10 (Array (rtF (fInt w8)) 16384) (tyRef erased mut (tyArray (tyInt w8) 16384)) (arrF (rtF (fInt w8)) 16384 0) (λ x. x) (λ x. x) (λ x. x) (as-is 𝓤 H A (mleft (Array (rtF (fInt w8)) 16384) (tyRef erased mut (tyArray (tyInt w8) 16384)))) (as-is 𝓤 H A (sc-owed (Array (rtF (fInt w8)) 16384) 10)) (arr-mem 𝓤 H A W (rtF (fInt w8)) 16384 tt) refl) $
-      ghosts (G49 κs qs) _ (g-forget 𝓤 H A W E (G49 κs qs) 10 dead refl) $
-      ghosts _ _ (g-end 𝓤 H A W E _ 11 refl) $
-      ghosts _ (G52 κs qs) (g-back-sc 𝓤 H A W E _ 23 12 11 (Array (rtF (fInt w32)) 16384) (tyRef erased mut (tyArray (tyInt w32) 16384)) (arrF (rtF (fInt w32)) 16384 0) (λ x. x) (λ x. x) (λ x. x) (as-is 𝓤 H A (mleft (Array (rtF (fInt w32)) 16384) (tyRef erased mut (tyArray (tyInt w32) 16384)))) (as-is 𝓤 H A (sc-owed (Array (rtF (fInt w32)) 16384) 11)) (arr-mem 𝓤 H A W (rtF (fInt w32)) 16384 tt) refl) $
-      ghosts (G52 κs qs) _ (g-forget 𝓤 H A W E (G52 κs qs) 11 dead refl) $
-      ghosts _ _ (g-end 𝓤 H A W E _ 12 refl) $
-      ghosts _ (G55 κs qs) (g-back-sc 𝓤 H A W E _ 24 13 12 (Array (rtF (fInt w8)) 16384) (tyRef erased mut (tyArray (tyInt w8) 16384)) (arrF (rtF (fInt w8)) 16384 0) (λ x. x) (λ x. x) (λ x. x) (as-is 𝓤 H A (mleft (Array (rtF (fInt w8)) 16384) (tyRef erased mut (tyArray (tyInt w8) 16384)))) (as-is 𝓤 H A (sc-owed (Array (rtF (fInt w8)) 16384) 12)) (arr-mem 𝓤 H A W (rtF (fInt w8)) 16384 tt) refl) $
-      ghosts (G55 κs qs) _ (g-forget 𝓤 H A W E (G55 κs qs) 12 dead refl) $
-      ghosts _ _ (g-end 𝓤 H A W E _ 13 refl) $
-      ghosts _ (G58 κs qs) (g-back-sc 𝓤 H A W E _ 25 14 13 (Array (rtF (fInt w64)) 16384) (tyRef erased mut (tyArray (tyInt w64) 16384)) (arrF (rtF (fInt w64)) 16384 0) (λ x. x) (λ x. x) (λ x. x) (as-is 𝓤 H A (mleft (Array (rtF (fInt w64)) 16384) (tyRef erased mut (tyArray (tyInt w64) 16384)))) (as-is 𝓤 H A (sc-owed (Array (rtF (fInt w64)) 16384) 13)) (arr-mem 𝓤 H A W (rtF (fInt w64)) 16384 tt) refl) $
-      ghosts (G58 κs qs) (G59 κs qs) (g-forget 𝓤 H A W E (G58 κs qs) 13 dead refl) $
-      ghosts (G59 κs qs) _ (g-begin 𝓤 H A W E (G59 κs qs) 14 _) $
-      stmt _ _ (t-sc-share 𝓤 H A W E 𝓣 _ 10 27 14 (Array (rtF (fInt w8)) 16384) (tyRef erased imm (tyArray (tyInt w8) 16384)) (λ x. x) (mem-arr 𝓤 H A W (rtF (fInt w8)) 16384) (room-gone 𝓤 H A (tyRef erased imm (tyArray (tyInt w8) 16384))) refl (λ b o. tt)) $
-      ghosts _ (G62 κs qs) (g-begin 𝓤 H A W E _ 15 _) $
-      stmt (G62 κs qs) _ (t-sc-share 𝓤 H A W E 𝓣 (G62 κs qs) 11 28 15 (Array (rtF (fInt w8)) 16384) (tyRef erased imm (tyArray (tyInt w8) 16384)) (λ x. x) (mem-arr 𝓤 H A W (rtF (fInt w8)) 16384) (room-gone 𝓤 H A (tyRef erased imm (tyArray (tyInt w8) 16384))) refl (λ b o. tt)) $
-      ghosts _ _ (g-begin 𝓤 H A W E _ 16 _) $
-      stmt _ (G65 κs qs) (t-sc-share 𝓤 H A W E 𝓣 _ 12 29 16 (Array (rtF (fInt w32)) 16384) (tyRef erased imm (tyArray (tyInt w32) 16384)) (λ x. x) (mem-arr 𝓤 H A W (rtF (fInt w32)) 16384) (room-gone 𝓤 H A (tyRef erased imm (tyArray (tyInt w32) 16384))) refl (λ b o. tt)) $
-      ghosts (G65 κs qs) _ (g-begin 𝓤 H A W E (G65 κs qs) 17 _) $
-      stmt _ _ (t-sc-share 𝓤 H A W E 𝓣 _ 13 30 17 (Array (rtF (fInt w8)) 16384) (tyRef erased imm (tyArray (tyInt w8) 16384)) (λ x. x) (mem-arr 𝓤 H A W (rtF (fInt w8)) 16384) (room-gone 𝓤 H A (tyRef erased imm (tyArray (tyInt w8) 16384))) refl (λ b o. tt)) $
-      ghosts _ (G68 κs qs) (g-begin 𝓤 H A W E _ 18 _) $
-      stmt (G68 κs qs) (G69 κs qs) (t-sc-borrow 𝓤 H A W E 𝓣 (G68 κs qs) 15 31 18 (Array (rtF fBool) 16384) (tyRef erased mut (tyArray tyBool 16384)) (λ x. x) (mem-arr 𝓤 H A W (rtF fBool) 16384) (room-gone 𝓤 H A (tyRef erased mut (tyArray tyBool 16384))) refl (λ b o. tt)) $
-      stmt (G69 κs qs) (G70 κs qs) (t-call-plain 𝓤 H A W 𝓣 9 K2.ps K2.r R2.Asked R2.Learnt "topology::mouths::mark_near" known2 E (λ pos β. β) (G69 κs qs) (record { pos = 1; ty = tyRef (named 0) imm (pointee (twin-0.the-row .written)); ref = λ x. x }, (record { pos = 3; ty = tyRef (named 1) imm (tyInt w64); ref = λ x. x }, (record { pos = 5; ty = tyRef (named 3) imm (tyInt w32); ref = λ x. x }, (record { pos = 6; ty = tyRef (named 4) imm (tyArray (tyInt w64) 257); ref = λ x. x }, (record { pos = 27; ty = tyRef erased imm (tyArray (tyInt w8) 16384); ref = λ x. x }, (record { pos = 28; ty = tyRef erased imm (tyArray (tyInt w8) 16384); ref = λ x. x }, (record { pos = 29; ty = tyRef erased imm (tyArray (tyInt w32) 16384); ref = λ x. x }, (record { pos = 30; ty = tyRef erased imm (tyArray (tyInt w8) 16384); ref = λ x. x }, (vAt 16 (λ x. x), (record { pos = 31; ty = tyRef erased mut (tyArray tyBool 16384); ref = λ x. x }, tt)))))))))) 26 (0 ∷ 1 ∷ 3 ∷ 4 ∷ 14 ∷ 15 ∷ 16 ∷ 17 ∷ 18 ∷ []) (sub-id 𝓤 H A W ((G69 κs qs) .slots)) (spares-sslice 𝓤 H A W twin-0.the-row (tyRef (named 0) imm (pointee (twin-0.the-row .written))) 0, reads-sslice 𝓤 H A W twin-0.the-row (tyRef (named 0) imm (pointee (twin-0.the-row .written))) 0, refl, (spares-sslice 𝓤 H A W (rtF (fInt w64)) (tyRef (named 1) imm (tyInt w64)) 1, reads-sslice 𝓤 H A W (rtF (fInt w64)) (tyRef (named 1) imm (tyInt w64)) 1, refl, (spares-sslice 𝓤 H A W (rtF (fInt w32)) (tyRef (named 3) imm (tyInt w32)) 3, reads-sslice 𝓤 H A W (rtF (fInt w32)) (tyRef (named 3) imm (tyInt w32)) 3, refl, (spares-sref 𝓤 H A W (Array (rtF (fInt w64)) 257) (tyRef (named 4) imm (tyArray (tyInt w64) 257)) 4, reads-sref 𝓤 H A W (Array (rtF (fInt w64)) 257) (tyRef (named 4) imm (tyArray (tyInt w64) 257)) 4, refl, (spares-sref 𝓤 H A W (Array (rtF (fInt w8)) 16384) (tyRef erased imm (tyArray (tyInt w8) 16384)) 14, reads-sref 𝓤 H A W (Array (rtF (fInt w8)) 16384) (tyRef erased imm (tyArray (tyInt w8) 16384)) 14, refl, (spares-sref 𝓤 H A W (Array (rtF (fInt w8)) 16384) (tyRef erased imm (tyArray (tyInt w8) 16384)) 15, reads-sref 𝓤 H A W (Array (rtF (fInt w8)) 16384) (tyRef erased imm (tyArray (tyInt w8) 16384)) 15, refl, (spares-sref 𝓤 H A W (Array (rtF (fInt w32)) 16384) (tyRef erased imm (tyArray (tyInt w32) 16384)) 16, reads-sref 𝓤 H A W (Array (rtF (fInt w32)) 16384) (tyRef erased imm (tyArray (tyInt w32) 16384)) 16, refl, (spares-sref 𝓤 H A W (Array (rtF (fInt w8)) 16384) (tyRef erased imm (tyArray (tyInt w8) 16384)) 17, reads-sref 𝓤 H A W (Array (rtF (fInt w8)) 16384) (tyRef erased imm (tyArray (tyInt w8) 16384)) 17, refl, ((reads-sc 𝓤 H A W (sInt w64), refl), (as-is 𝓤 H A (mref (Array (rtF fBool) 16384) (tyRef erased mut (tyArray tyBool 16384)) 18), reads-mref 𝓤 H A W (Array (rtF fBool) 16384) (tyRef erased mut (tyArray tyBool 16384)) 18, refl, tt)))))))))) (room-gone 𝓤 H A tyUnit) _ refl) $
-      ghosts (G70 κs qs) _ (g-drop-sref 𝓤 H A W E (G70 κs qs) 27 14 (Array (rtF (fInt w8)) 16384) (tyRef erased imm (tyArray (tyInt w8) 16384)) (λ x. x) (as-is 𝓤 H A (sref (Array (rtF (fInt w8)) 16384) (tyRef erased imm (tyArray (tyInt w8) 16384)) 14))) $
-      ghosts _ _ (g-drop-sref 𝓤 H A W E _ 28 15 (Array (rtF (fInt w8)) 16384) (tyRef erased imm (tyArray (tyInt w8) 16384)) (λ x. x) (as-is 𝓤 H A (sref (Array (rtF (fInt w8)) 16384) (tyRef erased imm (tyArray (tyInt w8) 16384)) 15))) $
-      ghosts _ (G73 κs qs) (g-drop-sref 𝓤 H A W E _ 29 16 (Array (rtF (fInt w32)) 16384) (tyRef erased imm (tyArray (tyInt w32) 16384)) (λ x. x) (as-is 𝓤 H A (sref (Array (rtF (fInt w32)) 16384) (tyRef erased imm (tyArray (tyInt w32) 16384)) 16))) $
-      ghosts (G73 κs qs) _ (g-drop-sref 𝓤 H A W E (G73 κs qs) 30 17 (Array (rtF (fInt w8)) 16384) (tyRef erased imm (tyArray (tyInt w8) 16384)) (λ x. x) (as-is 𝓤 H A (sref (Array (rtF (fInt w8)) 16384) (tyRef erased imm (tyArray (tyInt w8) 16384)) 17))) $
-      ghosts _ _ (g-room 𝓤 H A W E _ 26 tyUnit (room-sc 𝓤 H A W sUnit)) $
-      ghosts _ (G76 κs qs) (g-end 𝓤 H A W E _ 14 refl) $
-      ghosts (G76 κs qs) _ (g-back-shr 𝓤 H A W E (G76 κs qs) 10 14 (arrF (rtF (fInt w8)) 16384 0) (Array (rtF (fInt w8)) 16384) (λ x. x) (λ x. x) (as-is 𝓤 H A (sc-shr (arrF (rtF (fInt w8)) 16384 0) (Array (rtF (fInt w8)) 16384) (λ x. x) 14)) (home-of 𝓤 H A (arrF (rtF (fInt w8)) 16384 0) (Array (rtF (fInt w8)) 16384) (λ x. x) (λ x. x) (arr-mem 𝓤 H A W (rtF (fInt w8)) 16384 tt) (λ x k. refl)) refl) $
-      ghosts _ _ (g-forget 𝓤 H A W E _ 14 dead refl) $
-      ghosts _ (G79 κs qs) (g-end 𝓤 H A W E _ 15 refl) $
-      ghosts (G79 κs qs) _ (g-back-shr 𝓤 H A W E (G79 κs qs) 11 15 (arrF (rtF (fInt w8)) 16384 0) (Array (rtF (fInt w8)) 16384) (λ x. x) (λ x. x) (as-is 𝓤 H A (sc-shr (arrF (rtF (fInt w8)) 16384 0) (Array (rtF (fInt w8)) 16384) (λ x. x) 15)) (home-of 𝓤 H A (arrF (rtF (fInt w8)) 16384 0) (Array (rtF (fInt w8)) 16384) (λ x. x) (λ x. x) (arr-mem 𝓤 H A W (rtF (fInt w8)) 16384 tt) (λ x k. refl)) refl) $
-      ghosts _ _ (g-forget 𝓤 H A W E _ 15 dead refl) $
-      ghosts _ (G82 κs qs) (g-end 𝓤 H A W E _ 16 refl) $
-      ghosts (G82 κs qs) _ (g-back-shr 𝓤 H A W E (G82 κs qs) 12 16 (arrF (rtF (fInt w32)) 16384 0) (Array (rtF (fInt w32)) 16384) (λ x. x) (λ x. x) (as-is 𝓤 H A (sc-shr (arrF (rtF (fInt w32)) 16384 0) (Array (rtF (fInt w32)) 16384) (λ x. x) 16)) (home-of 𝓤 H A (arrF (rtF (fInt w32)) 16384 0) (Array (rtF (fInt w32)) 16384) (λ x. x) (λ x. x) (arr-mem 𝓤 H A W (rtF (fInt w32)) 16384 tt) (λ x k. refl)) refl) $
-      ghosts _ _ (g-forget 𝓤 H A W E _ 16 dead refl) $
-      ghosts _ (G85 κs qs) (g-end 𝓤 H A W E _ 17 refl) $
-      ghosts (G85 κs qs) _ (g-back-shr 𝓤 H A W E (G85 κs qs) 13 17 (arrF (rtF (fInt w8)) 16384 0) (Array (rtF (fInt w8)) 16384) (λ x. x) (λ x. x) (as-is 𝓤 H A (sc-shr (arrF (rtF (fInt w8)) 16384 0) (Array (rtF (fInt w8)) 16384) (λ x. x) 17)) (home-of 𝓤 H A (arrF (rtF (fInt w8)) 16384 0) (Array (rtF (fInt w8)) 16384) (λ x. x) (λ x. x) (arr-mem 𝓤 H A W (rtF (fInt w8)) 16384 tt) (λ x k. refl)) refl) $
-      ghosts _ _ (g-forget 𝓤 H A W E _ 17 dead refl) $
-      ghosts _ (G88 κs qs) (g-end 𝓤 H A W E _ 18 refl) $
-      ghosts (G88 κs qs) _ (g-back-sc 𝓤 H A W E (G88 κs qs) 31 15 18 (Array (rtF fBool) 16384) (tyRef erased mut (tyArray tyBool 16384)) (arrF (rtF fBool) 16384 0) (λ x. x) (λ x. x) (λ x. x) (as-is 𝓤 H A (mleft (Array (rtF fBool) 16384) (tyRef erased mut (tyArray tyBool 16384)))) (as-is 𝓤 H A (sc-owed (Array (rtF fBool) 16384) 18)) (arr-mem 𝓤 H A W (rtF fBool) 16384 tt) refl) $
-      ghosts _ (G59 κs qs) (g-forget 𝓤 H A W E _ 18 dead refl) $
+  abbrev pub from-select : Der W 𝓣 E (G59 κs qs) (past 23 (code.function .body)) (Δret 8 ps r xs m κs qs)
+  from-select =
       ghosts (G59 κs qs) _ (g-begin 𝓤 H A W E (G59 κs qs) 19 _) $
       stmt _ _ (t-sl-relend 𝓤 H A W E (rtF (fInt w16)) 𝓣 _ 7 32 5 19 (tyRef (named 5) mut (tyInt w16)) (tyRef erased mut (tyInt w16)) (lease (κs .1 .1 .1 .1 .1 .0) (qs .1 .1 .1 .1 .1 .0)) 0 (λ x. x) (as-is 𝓤 H A (mslice (rtF (fInt w16)) (tyRef (named 5) mut (tyInt w16)) 5)) (room-gone 𝓤 H A (tyRef erased mut (tyInt w16))) refl tt refl refl refl (λ b o. tt)) $
       stmt _ (G93 κs qs) (t-sl-aggregate 𝓤 H A W E (rtF (fInt w16)) 𝓣 (asMut (rtF (fInt w16))) _ 32 33 19 (tyRef erased mut (tyInt w16)) (tyRef erased mut (tyInt w16)) (λ x. x) (oFld 7 (field 1 ∷ []) (tyInt w64) 8 (λ v. lenV (v .0))) (as-is 𝓤 H A (msptr (rtF (fInt w16)) (tyRef erased mut (tyInt w16)) 19)) (room-gone 𝓤 H A _) (reads-owed-len 𝓤 H A W (rtF (fInt w16)) (tyRef (named 5) mut (tyInt w16)) 5 19 (lease (κs .1 .1 .1 .1 .1 .0) (qs .1 .1 .1 .1 .1 .0)) 8 refl, refl) refl refl (λ b o k. tt)) $
@@ -571,6 +490,101 @@ module _ {M : Type 1} (𝓤 : URA M) (H : Heap 𝓤) (A : Atoms 𝓤) (W : Given
       ghosts (G12 κs qs) (G13 κs qs) (g-room 𝓤 H A W E (G12 κs qs) 2 (tyInt w64) (room-sc 𝓤 H A W (sInt w64))) $
       rets
 
+  abbrev pub from-near : Der W 𝓣 E (G59 κs qs) (past 17 (code.function .body)) (Δret 8 ps r xs m κs qs)
+  from-near =
+      ghosts (G59 κs qs) _ (g-begin 𝓤 H A W E (G59 κs qs) 14 _) $
+      stmt _ _ (t-sc-share 𝓤 H A W E 𝓣 _ 10 27 14 (Array (rtF (fInt w8)) 16384) (tyRef erased imm (tyArray (tyInt w8) 16384)) (λ x. x) (mem-arr 𝓤 H A W (rtF (fInt w8)) 16384) (room-gone 𝓤 H A (tyRef erased imm (tyArray (tyInt w8) 16384))) refl (λ b o. tt)) $
+      ghosts _ (G62 κs qs) (g-begin 𝓤 H A W E _ 15 _) $
+      stmt (G62 κs qs) _ (t-sc-share 𝓤 H A W E 𝓣 (G62 κs qs) 11 28 15 (Array (rtF (fInt w8)) 16384) (tyRef erased imm (tyArray (tyInt w8) 16384)) (λ x. x) (mem-arr 𝓤 H A W (rtF (fInt w8)) 16384) (room-gone 𝓤 H A (tyRef erased imm (tyArray (tyInt w8) 16384))) refl (λ b o. tt)) $
+      ghosts _ _ (g-begin 𝓤 H A W E _ 16 _) $
+      stmt _ (G65 κs qs) (t-sc-share 𝓤 H A W E 𝓣 _ 12 29 16 (Array (rtF (fInt w32)) 16384) (tyRef erased imm (tyArray (tyInt w32) 16384)) (λ x. x) (mem-arr 𝓤 H A W (rtF (fInt w32)) 16384) (room-gone 𝓤 H A (tyRef erased imm (tyArray (tyInt w32) 16384))) refl (λ b o. tt)) $
+      ghosts (G65 κs qs) _ (g-begin 𝓤 H A W E (G65 κs qs) 17 _) $
+      stmt _ _ (t-sc-share 𝓤 H A W E 𝓣 _ 13 30 17 (Array (rtF (fInt w8)) 16384) (tyRef erased imm (tyArray (tyInt w8) 16384)) (λ x. x) (mem-arr 𝓤 H A W (rtF (fInt w8)) 16384) (room-gone 𝓤 H A (tyRef erased imm (tyArray (tyInt w8) 16384))) refl (λ b o. tt)) $
+      ghosts _ (G68 κs qs) (g-begin 𝓤 H A W E _ 18 _) $
+      stmt (G68 κs qs) (G69 κs qs) (t-sc-borrow 𝓤 H A W E 𝓣 (G68 κs qs) 15 31 18 (Array (rtF fBool) 16384) (tyRef erased mut (tyArray tyBool 16384)) (λ x. x) (mem-arr 𝓤 H A W (rtF fBool) 16384) (room-gone 𝓤 H A (tyRef erased mut (tyArray tyBool 16384))) refl (λ b o. tt)) $
+      stmt (G69 κs qs) (G70 κs qs) (t-call-plain 𝓤 H A W 𝓣 9 K2.ps K2.r R2.Asked R2.Learnt "topology::mouths::mark_near" known2 E (λ pos β. β) (G69 κs qs) (record { pos = 1; ty = tyRef (named 0) imm (pointee (twin-0.the-row .written)); ref = λ x. x }, (record { pos = 3; ty = tyRef (named 1) imm (tyInt w64); ref = λ x. x }, (record { pos = 5; ty = tyRef (named 3) imm (tyInt w32); ref = λ x. x }, (record { pos = 6; ty = tyRef (named 4) imm (tyArray (tyInt w64) 257); ref = λ x. x }, (record { pos = 27; ty = tyRef erased imm (tyArray (tyInt w8) 16384); ref = λ x. x }, (record { pos = 28; ty = tyRef erased imm (tyArray (tyInt w8) 16384); ref = λ x. x }, (record { pos = 29; ty = tyRef erased imm (tyArray (tyInt w32) 16384); ref = λ x. x }, (record { pos = 30; ty = tyRef erased imm (tyArray (tyInt w8) 16384); ref = λ x. x }, (vAt 16 (λ x. x), (record { pos = 31; ty = tyRef erased mut (tyArray tyBool 16384); ref = λ x. x }, tt)))))))))) 26 (0 ∷ 1 ∷ 3 ∷ 4 ∷ 14 ∷ 15 ∷ 16 ∷ 17 ∷ 18 ∷ []) (sub-id 𝓤 H A W ((G69 κs qs) .slots)) (spares-sslice 𝓤 H A W twin-0.the-row (tyRef (named 0) imm (pointee (twin-0.the-row .written))) 0, reads-sslice 𝓤 H A W twin-0.the-row (tyRef (named 0) imm (pointee (twin-0.the-row .written))) 0, refl, (spares-sslice 𝓤 H A W (rtF (fInt w64)) (tyRef (named 1) imm (tyInt w64)) 1, reads-sslice 𝓤 H A W (rtF (fInt w64)) (tyRef (named 1) imm (tyInt w64)) 1, refl, (spares-sslice 𝓤 H A W (rtF (fInt w32)) (tyRef (named 3) imm (tyInt w32)) 3, reads-sslice 𝓤 H A W (rtF (fInt w32)) (tyRef (named 3) imm (tyInt w32)) 3, refl, (spares-sref 𝓤 H A W (Array (rtF (fInt w64)) 257) (tyRef (named 4) imm (tyArray (tyInt w64) 257)) 4, reads-sref 𝓤 H A W (Array (rtF (fInt w64)) 257) (tyRef (named 4) imm (tyArray (tyInt w64) 257)) 4, refl, (spares-sref 𝓤 H A W (Array (rtF (fInt w8)) 16384) (tyRef erased imm (tyArray (tyInt w8) 16384)) 14, reads-sref 𝓤 H A W (Array (rtF (fInt w8)) 16384) (tyRef erased imm (tyArray (tyInt w8) 16384)) 14, refl, (spares-sref 𝓤 H A W (Array (rtF (fInt w8)) 16384) (tyRef erased imm (tyArray (tyInt w8) 16384)) 15, reads-sref 𝓤 H A W (Array (rtF (fInt w8)) 16384) (tyRef erased imm (tyArray (tyInt w8) 16384)) 15, refl, (spares-sref 𝓤 H A W (Array (rtF (fInt w32)) 16384) (tyRef erased imm (tyArray (tyInt w32) 16384)) 16, reads-sref 𝓤 H A W (Array (rtF (fInt w32)) 16384) (tyRef erased imm (tyArray (tyInt w32) 16384)) 16, refl, (spares-sref 𝓤 H A W (Array (rtF (fInt w8)) 16384) (tyRef erased imm (tyArray (tyInt w8) 16384)) 17, reads-sref 𝓤 H A W (Array (rtF (fInt w8)) 16384) (tyRef erased imm (tyArray (tyInt w8) 16384)) 17, refl, ((reads-sc 𝓤 H A W (sInt w64), refl), (as-is 𝓤 H A (mref (Array (rtF fBool) 16384) (tyRef erased mut (tyArray tyBool 16384)) 18), reads-mref 𝓤 H A W (Array (rtF fBool) 16384) (tyRef erased mut (tyArray tyBool 16384)) 18, refl, tt)))))))))) (room-gone 𝓤 H A tyUnit) _ refl) $
+      ghosts (G70 κs qs) _ (g-drop-sref 𝓤 H A W E (G70 κs qs) 27 14 (Array (rtF (fInt w8)) 16384) (tyRef erased imm (tyArray (tyInt w8) 16384)) (λ x. x) (as-is 𝓤 H A (sref (Array (rtF (fInt w8)) 16384) (tyRef erased imm (tyArray (tyInt w8) 16384)) 14))) $
+      ghosts _ _ (g-drop-sref 𝓤 H A W E _ 28 15 (Array (rtF (fInt w8)) 16384) (tyRef erased imm (tyArray (tyInt w8) 16384)) (λ x. x) (as-is 𝓤 H A (sref (Array (rtF (fInt w8)) 16384) (tyRef erased imm (tyArray (tyInt w8) 16384)) 15))) $
+      ghosts _ (G73 κs qs) (g-drop-sref 𝓤 H A W E _ 29 16 (Array (rtF (fInt w32)) 16384) (tyRef erased imm (tyArray (tyInt w32) 16384)) (λ x. x) (as-is 𝓤 H A (sref (Array (rtF (fInt w32)) 16384) (tyRef erased imm (tyArray (tyInt w32) 16384)) 16))) $
+      ghosts (G73 κs qs) _ (g-drop-sref 𝓤 H A W E (G73 κs qs) 30 17 (Array (rtF (fInt w8)) 16384) (tyRef erased imm (tyArray (tyInt w8) 16384)) (λ x. x) (as-is 𝓤 H A (sref (Array (rtF (fInt w8)) 16384) (tyRef erased imm (tyArray (tyInt w8) 16384)) 17))) $
+      ghosts _ _ (g-room 𝓤 H A W E _ 26 tyUnit (room-sc 𝓤 H A W sUnit)) $
+      ghosts _ (G76 κs qs) (g-end 𝓤 H A W E _ 14 refl) $
+      ghosts (G76 κs qs) _ (g-back-shr 𝓤 H A W E (G76 κs qs) 10 14 (arrF (rtF (fInt w8)) 16384 0) (Array (rtF (fInt w8)) 16384) (λ x. x) (λ x. x) (as-is 𝓤 H A (sc-shr (arrF (rtF (fInt w8)) 16384 0) (Array (rtF (fInt w8)) 16384) (λ x. x) 14)) (home-of 𝓤 H A (arrF (rtF (fInt w8)) 16384 0) (Array (rtF (fInt w8)) 16384) (λ x. x) (λ x. x) (arr-mem 𝓤 H A W (rtF (fInt w8)) 16384 tt) (λ x k. refl)) refl) $
+      ghosts _ _ (g-forget 𝓤 H A W E _ 14 dead refl) $
+      ghosts _ (G79 κs qs) (g-end 𝓤 H A W E _ 15 refl) $
+      ghosts (G79 κs qs) _ (g-back-shr 𝓤 H A W E (G79 κs qs) 11 15 (arrF (rtF (fInt w8)) 16384 0) (Array (rtF (fInt w8)) 16384) (λ x. x) (λ x. x) (as-is 𝓤 H A (sc-shr (arrF (rtF (fInt w8)) 16384 0) (Array (rtF (fInt w8)) 16384) (λ x. x) 15)) (home-of 𝓤 H A (arrF (rtF (fInt w8)) 16384 0) (Array (rtF (fInt w8)) 16384) (λ x. x) (λ x. x) (arr-mem 𝓤 H A W (rtF (fInt w8)) 16384 tt) (λ x k. refl)) refl) $
+      ghosts _ _ (g-forget 𝓤 H A W E _ 15 dead refl) $
+      ghosts _ (G82 κs qs) (g-end 𝓤 H A W E _ 16 refl) $
+      ghosts (G82 κs qs) _ (g-back-shr 𝓤 H A W E (G82 κs qs) 12 16 (arrF (rtF (fInt w32)) 16384 0) (Array (rtF (fInt w32)) 16384) (λ x. x) (λ x. x) (as-is 𝓤 H A (sc-shr (arrF (rtF (fInt w32)) 16384 0) (Array (rtF (fInt w32)) 16384) (λ x. x) 16)) (home-of 𝓤 H A (arrF (rtF (fInt w32)) 16384 0) (Array (rtF (fInt w32)) 16384) (λ x. x) (λ x. x) (arr-mem 𝓤 H A W (rtF (fInt w32)) 16384 tt) (λ x k. refl)) refl) $
+      ghosts _ _ (g-forget 𝓤 H A W E _ 16 dead refl) $
+      ghosts _ (G85 κs qs) (g-end 𝓤 H A W E _ 17 refl) $
+      ghosts (G85 κs qs) _ (g-back-shr 𝓤 H A W E (G85 κs qs) 13 17 (arrF (rtF (fInt w8)) 16384 0) (Array (rtF (fInt w8)) 16384) (λ x. x) (λ x. x) (as-is 𝓤 H A (sc-shr (arrF (rtF (fInt w8)) 16384 0) (Array (rtF (fInt w8)) 16384) (λ x. x) 17)) (home-of 𝓤 H A (arrF (rtF (fInt w8)) 16384 0) (Array (rtF (fInt w8)) 16384) (λ x. x) (λ x. x) (arr-mem 𝓤 H A W (rtF (fInt w8)) 16384 tt) (λ x k. refl)) refl) $
+      ghosts _ _ (g-forget 𝓤 H A W E _ 17 dead refl) $
+      ghosts _ (G88 κs qs) (g-end 𝓤 H A W E _ 18 refl) $
+      ghosts (G88 κs qs) _ (g-back-sc 𝓤 H A W E (G88 κs qs) 31 15 18 (Array (rtF fBool) 16384) (tyRef erased mut (tyArray tyBool 16384)) (arrF (rtF fBool) 16384 0) (λ x. x) (λ x. x) (λ x. x) (as-is 𝓤 H A (mleft (Array (rtF fBool) 16384) (tyRef erased mut (tyArray tyBool 16384)))) (as-is 𝓤 H A (sc-owed (Array (rtF fBool) 16384) 18)) (arr-mem 𝓤 H A W (rtF fBool) 16384 tt) refl) $
+      ghosts _ (G59 κs qs) (g-forget 𝓤 H A W E _ 18 dead refl) $
+      from-select
+
+  abbrev pub d : Der W 𝓣 E (Γin 8 ps r xs m κs qs) (code.function .body) (Δret 8 ps r xs m κs qs)
+  d =
+      stmt (G0 κs qs) (G7 κs qs) (t-call-plain 𝓤 H A W 𝓣 1 K0.ps K0.r R0.Asked R0.Learnt "ramp_boundaries::candidates::any_ramp" known0 E (λ pos β. β) (G0 κs qs) (record { pos = 3; ty = tyRef (named 1) imm (tyInt w64); ref = λ x. x }, (vAt 2 (λ x. x), tt)) 17 (1 ∷ []) (sub-id 𝓤 H A W ((G0 κs qs) .slots)) (spares-sslice 𝓤 H A W (rtF (fInt w64)) (tyRef (named 1) imm (tyInt w64)) 1, reads-sslice 𝓤 H A W (rtF (fInt w64)) (tyRef (named 1) imm (tyInt w64)) 1, refl, ((reads-sc 𝓤 H A W (sInt w64), refl), tt)) (room-gone 𝓤 H A tyBool) _ refl) $
+      stmt (G7 κs qs) (G8 κs qs) (t-op1 𝓤 H A W E 𝓣 (G7 κs qs) bitNot (oAt 17 tyBool (valS sBool)) 18 (sc-here sBool) tyBool (valS sBool) (sBool .of) (reads-sc 𝓤 H A W sBool, refl) (room-gone 𝓤 H A tyBool) (holds-sc 𝓤 H A W sBool) refl (λ u. refl) (λ u. tt)) $
+      first (G8 κs qs) (G0 κs qs) (
+      ghosts (G8 κs qs) (G10 κs qs) (g-room 𝓤 H A W E (G8 κs qs) 17 tyBool (room-sc 𝓤 H A W sBool)) $
+      test (G10 κs qs) 18 (λ x. x) (reads-sc 𝓤 H A W sBool) refl (
+      ghosts (G10 κs qs) (G0 κs qs) (g-room 𝓤 H A W E (G10 κs qs) 18 tyBool (room-sc 𝓤 H A W sBool)) $
+      stmt (G0 κs qs) (G12 κs qs) (t-use 𝓤 H A W E 𝓣 (G0 κs qs) oUnit 0 (sc-here sUnit) tyUnit (valS sUnit) (sUnit .of) tt (room-gone 𝓤 H A tyUnit) (holds-sc 𝓤 H A W sUnit) refl (λ u. refl) (λ u. tt)) $
+      ghosts (G12 κs qs) (G13 κs qs) (g-room 𝓤 H A W E (G12 κs qs) 2 (tyInt w64) (room-sc 𝓤 H A W (sInt w64))) $
+      rets) (
+      ghosts (G10 κs qs) (G0 κs qs) (g-room 𝓤 H A W E (G10 κs qs) 18 tyBool (room-sc 𝓤 H A W sBool)) $
+      skips)) $
+      stmt (G0 κs qs) (G15 κs qs) (t-repeat 𝓤 H A W E 𝓣 (rtF (fInt w8)) (uint-lawful 𝓤 H A W w8) (cRf (fInt w8) .copy 𝓤 H A W) (uint-makes 𝓤 H A W w8) 16384 (G0 κs qs) 10 (oInt w8 _) (λ m. 0) (room-gone 𝓤 H A (tyArray (tyInt w8) 16384)) tt refl (λ m wa. (refl, lit< tt))) $
+      ghosts (G15 κs qs) _ (g-as-by 𝓤 H A W E (λ ρ. Unit) (G15 κs qs) 10 (arrF (rtF (fInt w8)) 16384 0) (λ x. x) (told-none 𝓤 H A ((G15 κs qs) .slots)) (λ ρ told. whole-arr 𝓤 H A W (rtF (fInt w8)) 16384 tt ρ)) $
+      stmt _ (G17 κs qs) (t-repeat 𝓤 H A W E 𝓣 (rtF (fInt w8)) (uint-lawful 𝓤 H A W w8) (cRf (fInt w8) .copy 𝓤 H A W) (uint-makes 𝓤 H A W w8) 16384 _ 11 (oInt w8 _) (λ m. 0) (room-gone 𝓤 H A (tyArray (tyInt w8) 16384)) tt refl (λ m wa. (refl, lit< tt))) $
+      ghosts (G17 κs qs) _ (g-as-by 𝓤 H A W E (λ ρ. Unit) (G17 κs qs) 11 (arrF (rtF (fInt w8)) 16384 0) (λ x. x) (told-none 𝓤 H A ((G17 κs qs) .slots)) (λ ρ told. whole-arr 𝓤 H A W (rtF (fInt w8)) 16384 tt ρ)) $
+      stmt _ (G19 κs qs) (t-repeat 𝓤 H A W E 𝓣 (rtF (fInt w32)) (uint-lawful 𝓤 H A W w32) (cRf (fInt w32) .copy 𝓤 H A W) (uint-makes 𝓤 H A W w32) 16384 _ 12 (oInt w32 _) (λ m. 0) (room-gone 𝓤 H A (tyArray (tyInt w32) 16384)) tt refl (λ m wa. (refl, lit< tt))) $
+      ghosts (G19 κs qs) _ (g-as-by 𝓤 H A W E (λ ρ. Unit) (G19 κs qs) 12 (arrF (rtF (fInt w32)) 16384 0) (λ x. x) (told-none 𝓤 H A ((G19 κs qs) .slots)) (λ ρ told. whole-arr 𝓤 H A W (rtF (fInt w32)) 16384 tt ρ)) $
+      stmt _ (G21 κs qs) (t-repeat 𝓤 H A W E 𝓣 (rtF (fInt w8)) (uint-lawful 𝓤 H A W w8) (cRf (fInt w8) .copy 𝓤 H A W) (uint-makes 𝓤 H A W w8) 16384 _ 13 (oInt w8 _) (λ m. 0) (room-gone 𝓤 H A (tyArray (tyInt w8) 16384)) tt refl (λ m wa. (refl, lit< tt))) $
+      ghosts (G21 κs qs) _ (g-as-by 𝓤 H A W E (λ ρ. Unit) (G21 κs qs) 13 (arrF (rtF (fInt w8)) 16384 0) (λ x. x) (told-none 𝓤 H A ((G21 κs qs) .slots)) (λ ρ told. whole-arr 𝓤 H A W (rtF (fInt w8)) 16384 tt ρ)) $
+      stmt _ (G23 κs qs) (t-repeat 𝓤 H A W E 𝓣 (rtF (fInt w64)) (uint-lawful 𝓤 H A W w64) (cRf (fInt w64) .copy 𝓤 H A W) (uint-makes 𝓤 H A W w64) 16384 _ 14 (oInt w64 _) (λ m. 0) (room-gone 𝓤 H A (tyArray (tyInt w64) 16384)) tt refl (λ m wa. (refl, lit< tt))) $
+      ghosts (G23 κs qs) _ (g-as-by 𝓤 H A W E (λ ρ. Unit) (G23 κs qs) 14 (arrF (rtF (fInt w64)) 16384 0) (λ x. x) (told-none 𝓤 H A ((G23 κs qs) .slots)) (λ ρ told. whole-arr 𝓤 H A W (rtF (fInt w64)) 16384 tt ρ)) $
+      stmt _ (G25 κs qs) (t-repeat 𝓤 H A W E 𝓣 (rtF fBool) (bool-lawful 𝓤 H A W) (cRf fBool .copy 𝓤 H A W) (bool-makes 𝓤 H A W) 16384 _ 15 (oBool false) (λ m. false) (room-gone 𝓤 H A (tyArray tyBool 16384)) tt refl (λ m wa. refl)) $
+      ghosts (G25 κs qs) _ (g-as-by 𝓤 H A W E (λ ρ. Unit) (G25 κs qs) 15 (arrF (rtF fBool) 16384 0) (λ x. x) (told-none 𝓤 H A ((G25 κs qs) .slots)) (λ ρ told. whole-arr 𝓤 H A W (rtF fBool) 16384 tt ρ)) $
+      ghosts _ _ (g-begin 𝓤 H A W E _ 8 _) $
+      stmt _ (G28 κs qs) (t-sl-reshare 𝓤 H A W E (rtF (fInt w16)) 𝓣 _ 7 19 5 8 (tyRef (named 5) mut (tyInt w16)) (tyRef erased imm (tyInt w16)) (lease (κs .1 .1 .1 .1 .1 .0) (qs .1 .1 .1 .1 .1 .0)) 0 (λ x. x) (as-is 𝓤 H A (mslice (rtF (fInt w16)) (tyRef (named 5) mut (tyInt w16)) 5)) (room-gone 𝓤 H A (tyRef erased imm (tyInt w16))) refl tt refl refl refl (λ b o. tt)) $
+      stmt (G28 κs qs) _ (t-sl-aggregate 𝓤 H A W E (rtF (fInt w16)) 𝓣 (asShr (rtF (fInt w16))) (G28 κs qs) 19 20 8 (tyRef erased imm (tyInt w16)) (tyRef erased imm (tyInt w16)) (λ x. x) (oFld 7 (field 1 ∷ []) (tyInt w64) 8 (λ v. lenV (v .0))) (as-is 𝓤 H A (ssptr (rtF (fInt w16)) (tyRef erased imm (tyInt w16)) 8)) (room-gone 𝓤 H A _) (reads-owedS-len 𝓤 H A W (rtF (fInt w16)) (tyRef (named 5) mut (tyInt w16)) 5 8 (lease (κs .1 .1 .1 .1 .1 .0) (qs .1 .1 .1 .1 .1 .0)) 8 refl, refl) refl refl (λ b o k. tt)) $
+      ghosts _ _ (g-begin 𝓤 H A W E _ 9 _) $
+      stmt _ (G31 κs qs) (t-sc-borrow 𝓤 H A W E 𝓣 _ 10 21 9 (Array (rtF (fInt w8)) 16384) (tyRef erased mut (tyArray (tyInt w8) 16384)) (λ x. x) (mem-arr 𝓤 H A W (rtF (fInt w8)) 16384) (room-gone 𝓤 H A (tyRef erased mut (tyArray (tyInt w8) 16384))) refl (λ b o. tt)) $
+      ghosts (G31 κs qs) _ (g-begin 𝓤 H A W E (G31 κs qs) 10 _) $
+      stmt _ _ (t-sc-borrow 𝓤 H A W E 𝓣 _ 11 22 10 (Array (rtF (fInt w8)) 16384) (tyRef erased mut (tyArray (tyInt w8) 16384)) (λ x. x) (mem-arr 𝓤 H A W (rtF (fInt w8)) 16384) (room-gone 𝓤 H A (tyRef erased mut (tyArray (tyInt w8) 16384))) refl (λ b o. tt)) $
+      ghosts _ (G34 κs qs) (g-begin 𝓤 H A W E _ 11 _) $
+      stmt (G34 κs qs) _ (t-sc-borrow 𝓤 H A W E 𝓣 (G34 κs qs) 12 23 11 (Array (rtF (fInt w32)) 16384) (tyRef erased mut (tyArray (tyInt w32) 16384)) (λ x. x) (mem-arr 𝓤 H A W (rtF (fInt w32)) 16384) (room-gone 𝓤 H A (tyRef erased mut (tyArray (tyInt w32) 16384))) refl (λ b o. tt)) $
+      ghosts _ _ (g-begin 𝓤 H A W E _ 12 _) $
+      stmt _ (G37 κs qs) (t-sc-borrow 𝓤 H A W E 𝓣 _ 13 24 12 (Array (rtF (fInt w8)) 16384) (tyRef erased mut (tyArray (tyInt w8) 16384)) (λ x. x) (mem-arr 𝓤 H A W (rtF (fInt w8)) 16384) (room-gone 𝓤 H A (tyRef erased mut (tyArray (tyInt w8) 16384))) refl (λ b o. tt)) $
+      ghosts (G37 κs qs) _ (g-begin 𝓤 H A W E (G37 κs qs) 13 _) $
+      stmt _ (G39 κs qs) (t-sc-borrow 𝓤 H A W E 𝓣 _ 14 25 13 (Array (rtF (fInt w64)) 16384) (tyRef erased mut (tyArray (tyInt w64) 16384)) (λ x. x) (mem-arr 𝓤 H A W (rtF (fInt w64)) 16384) (room-gone 𝓤 H A (tyRef erased mut (tyArray (tyInt w64) 16384))) refl (λ b o. tt)) $
+      stmt (G39 κs qs) (G40 κs qs) (t-call-plain 𝓤 H A W 𝓣 11 K1.ps K1.r R1.Asked R1.Learnt "ramp_boundaries::candidates::push_candidates" known1 E (λ pos β. β) (G39 κs qs) (record { pos = 3; ty = tyRef (named 1) imm (tyInt w64); ref = λ x. x }, (record { pos = 4; ty = tyRef (named 2) imm (tyInt w32); ref = λ x. x }, (record { pos = 5; ty = tyRef (named 3) imm (tyInt w32); ref = λ x. x }, (record { pos = 6; ty = tyRef (named 4) imm (tyArray (tyInt w64) 257); ref = λ x. x }, (record { pos = 8; ty = tyRef (named 6) imm (tyInt w32); ref = λ x. x }, (record { pos = 20; ty = tyRef erased imm (tyInt w16); ref = λ x. x }, (vAt 2 (λ x. x), (record { pos = 21; ty = tyRef erased mut (tyArray (tyInt w8) 16384); ref = λ x. x }, (record { pos = 22; ty = tyRef erased mut (tyArray (tyInt w8) 16384); ref = λ x. x }, (record { pos = 23; ty = tyRef erased mut (tyArray (tyInt w32) 16384); ref = λ x. x }, (record { pos = 24; ty = tyRef erased mut (tyArray (tyInt w8) 16384); ref = λ x. x }, (record { pos = 25; ty = tyRef erased mut (tyArray (tyInt w64) 16384); ref = λ x. x }, tt)))))))))))) 16 (1 ∷ 2 ∷ 3 ∷ 4 ∷ 6 ∷ 8 ∷ 9 ∷ 10 ∷ 11 ∷ 12 ∷ 13 ∷ []) (sub-id 𝓤 H A W ((G39 κs qs) .slots)) (spares-sslice 𝓤 H A W (rtF (fInt w64)) (tyRef (named 1) imm (tyInt w64)) 1, reads-sslice 𝓤 H A W (rtF (fInt w64)) (tyRef (named 1) imm (tyInt w64)) 1, refl, (spares-sslice 𝓤 H A W (rtF (fInt w32)) (tyRef (named 2) imm (tyInt w32)) 2, reads-sslice 𝓤 H A W (rtF (fInt w32)) (tyRef (named 2) imm (tyInt w32)) 2, refl, (spares-sslice 𝓤 H A W (rtF (fInt w32)) (tyRef (named 3) imm (tyInt w32)) 3, reads-sslice 𝓤 H A W (rtF (fInt w32)) (tyRef (named 3) imm (tyInt w32)) 3, refl, (spares-sref 𝓤 H A W (Array (rtF (fInt w64)) 257) (tyRef (named 4) imm (tyArray (tyInt w64) 257)) 4, reads-sref 𝓤 H A W (Array (rtF (fInt w64)) 257) (tyRef (named 4) imm (tyArray (tyInt w64) 257)) 4, refl, (spares-sslice 𝓤 H A W (rtF (fInt w32)) (tyRef (named 6) imm (tyInt w32)) 6, reads-sslice 𝓤 H A W (rtF (fInt w32)) (tyRef (named 6) imm (tyInt w32)) 6, refl, (spares-sslice 𝓤 H A W (rtF (fInt w16)) (tyRef erased imm (tyInt w16)) 8, reads-sslice 𝓤 H A W (rtF (fInt w16)) (tyRef erased imm (tyInt w16)) 8, refl, ((reads-sc 𝓤 H A W (sInt w64), refl), (as-is 𝓤 H A (mref (Array (rtF (fInt w8)) 16384) (tyRef erased mut (tyArray (tyInt w8) 16384)) 9), reads-mref 𝓤 H A W (Array (rtF (fInt w8)) 16384) (tyRef erased mut (tyArray (tyInt w8) 16384)) 9, refl, (as-is 𝓤 H A (mref (Array (rtF (fInt w8)) 16384) (tyRef erased mut (tyArray (tyInt w8) 16384)) 10), reads-mref 𝓤 H A W (Array (rtF (fInt w8)) 16384) (tyRef erased mut (tyArray (tyInt w8) 16384)) 10, refl, (as-is 𝓤 H A (mref (Array (rtF (fInt w32)) 16384) (tyRef erased mut (tyArray (tyInt w32) 16384)) 11), reads-mref 𝓤 H A W (Array (rtF (fInt w32)) 16384) (tyRef erased mut (tyArray (tyInt w32) 16384)) 11, refl, (as-is 𝓤 H A (mref (Array (rtF (fInt w8)) 16384) (tyRef erased mut (tyArray (tyInt w8) 16384)) 12), reads-mref 𝓤 H A W (Array (rtF (fInt w8)) 16384) (tyRef erased mut (tyArray (tyInt w8) 16384)) 12, refl, (as-is 𝓤 H A (mref (Array (rtF (fInt w64)) 16384) (tyRef erased mut (tyArray (tyInt w64) 16384)) 13), reads-mref 𝓤 H A W (Array (rtF (fInt w64)) 16384) (tyRef erased mut (tyArray (tyInt w64) 16384)) 13, refl, tt)))))))))))) (room-gone 𝓤 H A (tyInt w64)) _ refl) $
+      ghosts (G40 κs qs) _ (g-room 𝓤 H A W E (G40 κs qs) 20 _ (room-sslice 𝓤 H A W (rtF (fInt w16)) (tyRef erased imm (tyInt w16)) 8)) $
+      ghosts _ _ (g-end 𝓤 H A W E _ 8 refl) $
+      ghosts _ (G43 κs qs) (g-back-sl-shr 𝓤 H A W E (rtF (fInt w16)) _ 7 5 8 (tyRef (named 5) mut (tyInt w16)) (lease (κs .1 .1 .1 .1 .1 .0) (qs .1 .1 .1 .1 .1 .0)) (λ x. x) (as-is 𝓤 H A (mslice-owedS (rtF (fInt w16)) (tyRef (named 5) mut (tyInt w16)) 5 8 (lease (κs .1 .1 .1 .1 .1 .0) (qs .1 .1 .1 .1 .1 .0)))) refl refl) $
+      ghosts (G43 κs qs) _ (g-forget 𝓤 H A W E (G43 κs qs) 8 dead refl) $
+      ghosts _ _ (g-end 𝓤 H A W E _ 9 refl) $
+      ghosts _ (G46 κs qs) (g-back-sc 𝓤 H A W E _ 21 10 9 (Array (rtF (fInt w8)) 16384) (tyRef erased mut (tyArray (tyInt w8) 16384)) (arrF (rtF (fInt w8)) 16384 0) (λ x. x) (λ x. x) (λ x. x) (as-is 𝓤 H A (mleft (Array (rtF (fInt w8)) 16384) (tyRef erased mut (tyArray (tyInt w8) 16384)))) (as-is 𝓤 H A (sc-owed (Array (rtF (fInt w8)) 16384) 9)) (arr-mem 𝓤 H A W (rtF (fInt w8)) 16384 tt) refl) $
+      ghosts (G46 κs qs) _ (g-forget 𝓤 H A W E (G46 κs qs) 9 dead refl) $
+      ghosts _ _ (g-end 𝓤 H A W E _ 10 refl) $
+      ghosts _ (G49 κs qs) (g-back-sc 𝓤 H A W E _ 22 11 10 (Array (rtF (fInt w8)) 16384) (tyRef erased mut (tyArray (tyInt w8) 16384)) (arrF (rtF (fInt w8)) 16384 0) (λ x. x) (λ x. x) (λ x. x) (as-is 𝓤 H A (mleft (Array (rtF (fInt w8)) 16384) (tyRef erased mut (tyArray (tyInt w8) 16384)))) (as-is 𝓤 H A (sc-owed (Array (rtF (fInt w8)) 16384) 10)) (arr-mem 𝓤 H A W (rtF (fInt w8)) 16384 tt) refl) $
+      ghosts (G49 κs qs) _ (g-forget 𝓤 H A W E (G49 κs qs) 10 dead refl) $
+      ghosts _ _ (g-end 𝓤 H A W E _ 11 refl) $
+      ghosts _ (G52 κs qs) (g-back-sc 𝓤 H A W E _ 23 12 11 (Array (rtF (fInt w32)) 16384) (tyRef erased mut (tyArray (tyInt w32) 16384)) (arrF (rtF (fInt w32)) 16384 0) (λ x. x) (λ x. x) (λ x. x) (as-is 𝓤 H A (mleft (Array (rtF (fInt w32)) 16384) (tyRef erased mut (tyArray (tyInt w32) 16384)))) (as-is 𝓤 H A (sc-owed (Array (rtF (fInt w32)) 16384) 11)) (arr-mem 𝓤 H A W (rtF (fInt w32)) 16384 tt) refl) $
+      ghosts (G52 κs qs) _ (g-forget 𝓤 H A W E (G52 κs qs) 11 dead refl) $
+      ghosts _ _ (g-end 𝓤 H A W E _ 12 refl) $
+      ghosts _ (G55 κs qs) (g-back-sc 𝓤 H A W E _ 24 13 12 (Array (rtF (fInt w8)) 16384) (tyRef erased mut (tyArray (tyInt w8) 16384)) (arrF (rtF (fInt w8)) 16384 0) (λ x. x) (λ x. x) (λ x. x) (as-is 𝓤 H A (mleft (Array (rtF (fInt w8)) 16384) (tyRef erased mut (tyArray (tyInt w8) 16384)))) (as-is 𝓤 H A (sc-owed (Array (rtF (fInt w8)) 16384) 12)) (arr-mem 𝓤 H A W (rtF (fInt w8)) 16384 tt) refl) $
+      ghosts (G55 κs qs) _ (g-forget 𝓤 H A W E (G55 κs qs) 12 dead refl) $
+      ghosts _ _ (g-end 𝓤 H A W E _ 13 refl) $
+      ghosts _ (G58 κs qs) (g-back-sc 𝓤 H A W E _ 25 14 13 (Array (rtF (fInt w64)) 16384) (tyRef erased mut (tyArray (tyInt w64) 16384)) (arrF (rtF (fInt w64)) 16384 0) (λ x. x) (λ x. x) (λ x. x) (as-is 𝓤 H A (mleft (Array (rtF (fInt w64)) 16384) (tyRef erased mut (tyArray (tyInt w64) 16384)))) (as-is 𝓤 H A (sc-owed (Array (rtF (fInt w64)) 16384) 13)) (arr-mem 𝓤 H A W (rtF (fInt w64)) 16384 tt) refl) $
+      ghosts (G58 κs qs) (G59 κs qs) (g-forget 𝓤 H A W E (G58 κs qs) 13 dead refl) $
+      from-near
+
 -- the derivations at a model
 module _ (w : World) where
   abbrev known0-at : Knows (w .𝓤) (w .H) (w .𝓖 .A) (Wof w) (𝓣of w code.env) 1 K0.ps K0.r R0.Asked R0.Learnt "ramp_boundaries::candidates::any_ramp"
@@ -586,6 +600,12 @@ module _ (w : World) where
   known3-at = R3.known w code.env S3.name S3.routine code.calls-mouth-selection·selection·select-mouths (M3.met (w .𝓤) (w .H) (w .𝓜) (w .𝓖) (w .𝓡))
 
 module _ (w : World) (κs : Lfts 8) (qs : Shares 8) (bs : List ℕ) where
+  abbrev pub from-select-at : Der (Wof w) (𝓣of w code.env) (EnvOf (w .𝓤) (w .H) (tyR r ∷ tysP ps xs) bs) (G59 κs qs) (past 23 (code.function .body)) (Δret 8 ps r xs m κs qs)
+  from-select-at = from-select (w .𝓤) (w .H) (w .𝓖 .A) (Wof w) (𝓣of w code.env) (known0-at w) (known1-at w) (known2-at w) (known3-at w) κs qs bs
+
+  abbrev pub from-near-at : Der (Wof w) (𝓣of w code.env) (EnvOf (w .𝓤) (w .H) (tyR r ∷ tysP ps xs) bs) (G59 κs qs) (past 17 (code.function .body)) (Δret 8 ps r xs m κs qs)
+  from-near-at = from-near (w .𝓤) (w .H) (w .𝓖 .A) (Wof w) (𝓣of w code.env) (known0-at w) (known1-at w) (known2-at w) (known3-at w) κs qs bs
+
   abbrev pub d-at : Der (Wof w) (𝓣of w code.env) (EnvOf (w .𝓤) (w .H) (tyR r ∷ tysP ps xs) bs) (Γin 8 ps r xs m κs qs) (code.function .body) (Δret 8 ps r xs m κs qs)
   d-at = d (w .𝓤) (w .H) (w .𝓖 .A) (Wof w) (𝓣of w code.env) (known0-at w) (known1-at w) (known2-at w) (known3-at w) κs qs bs
 
