@@ -13,7 +13,6 @@ USES = {
     'borrow.Fn.Kinds': {'Dens'},
     'borrow.Fn.World': {'World'},
     'borrow.Table.Typed': {'Mo', 'Outs', 'Want'},
-    'contract.Running': {'tablesOf'},
 }
 
 
@@ -47,7 +46,7 @@ def close(text, tie):
         text = text.replace(f'as R{k}\n', f'as R{k}\nuse {symbol} as S{k}\nuse {met} as M{k}\n', 1)
     text = with_uses(text, {**USES, f'{proofs}.Steps': {'homes'}})
     uses = (
-        f'use {proofs}.Contracts.{{Answers, Post, Pre, Wof, met, 𝓣of}}\nuse {proofs}.Seen.{function[len(proofs) + 1:]}.Reads.{{the-contract}}\n'
+        f'use contract.Running\nuse {proofs}.Contracts.{{Answers, Post, Pre, Wof, met, 𝓣of}}\nuse {proofs}.Seen.{function[len(proofs) + 1:]}.Reads.{{the-contract}}\n'
         f'use {function}.Key as key\nuse {function}.Statement.{{statement}}\n'
     )
     text = text.replace(f'use {function}.Code as code\n', f'use {function}.Code as code\n{uses}')
@@ -87,7 +86,7 @@ module _ (κs : Lfts {n}) (qs : Shares {n}) where
 
 -- the function's theorem, from the answers
 pub close : {takes}((w : World) → Answers the-contract w {code} (d-at w {' '.join(names)})) → {{M : Type 1}} → statement M
-unfolding code.routine tablesOf
+unfolding code.routine Running.tablesOf
 close {' '.join(names)} answers {{M}} 𝓤 H 𝓜 𝓖 𝓡 =
     met the-contract {WORLD} {code}
     (d-at {WORLD} {' '.join(names)}) (code.unfolded 𝓤 H 𝓜 𝓡) (answers {WORLD})

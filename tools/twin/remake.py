@@ -1,11 +1,11 @@
 #!/usr/bin/env python3
 """remake.py [--check]
 
-Makes the derived text of every crate of derived.txt anew from the code: Proof/Der.antt of each function over a slice of structs, and Seen. The same code gives
-the same text. With --check nothing is written: it says which files are not current, and exits 1 if there is one.
+Makes the derived text of every crate of derived.txt anew from the code: Proof/Der.antt of each function over a slice of structs, Rules.antt and Seen. The same
+code gives the same text. With --check nothing is written: it says which files are not current, and exits 1 if there is one.
 
 It works below target/twin and needs the toolchain on the path. The order: the twin is derived (twin.py), each derivation is put in steps (steps.py), cut where
-derived.txt says so (cut.py), thinned (thin.py) and ended (close.py); seen.py shortens what callers cite; all is formatted.
+derived.txt says so (cut.py), thinned (thin.py) and ended (close.py); rules.py puts the imports together, seen.py shortens what callers cite; all is formatted.
 """
 import os
 import shutil
@@ -15,10 +15,11 @@ import sys
 import twin
 from close import close
 from cut import cut
+from rules import shared
 from seen import Kinds, reads
 from steps import steps
 from thin import thin
-from twin import ROOT, WORK, read, write
+from twin import HEADER, ROOT, WORK, read, write
 
 TOOLS = os.path.dirname(os.path.abspath(__file__))
 
@@ -69,6 +70,8 @@ def made(crate, of):
     """The derived files of a crate: the path of each below its proofs, and its text."""
     derived = twin.derive_all(crate, of['records'], of['base'], of['made'])
     texts = {f'{f}/Proof/Der.antt': derivation(derived, f, of['cut'].get(f)) for f in derived.walked}
+    texts, rules = shared(texts, f'Rattle.{crate}.proofs.Rules')
+    texts['Rules.antt'] = f'{HEADER}\n{rules}'
     texts.update(seen(derived, of['closes']))
     work = f'{WORK}/derived/{crate}'
     shutil.rmtree(work, ignore_errors=True)
@@ -83,7 +86,7 @@ def standing(proofs):
     for at, _, names in os.walk(proofs):
         for name in names:
             path = os.path.relpath(f'{at}/{name}', proofs)
-            if path.startswith(('Seen.', 'Seen/')) or path.endswith('/Proof/Der.antt'):
+            if path.startswith(('Rules.', 'Seen.', 'Seen/')) or path.endswith('/Proof/Der.antt'):
                 yield path
 
 

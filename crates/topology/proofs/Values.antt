@@ -53,7 +53,8 @@ module _ (T : Enum.Declared) (L : enum.Laws T) (C : enum.Copyabless (T .parts)) 
     mk = λ x. x;
   }
 
-  abbrev pub enumLaws : Plainss (Enum.variants T) → Few (Enum.shape T) → (M : Type 1) (𝓤 : URA M) (H : Heap 𝓤) (A : Atoms 𝓤) → Given 𝓤 H A → ValuedLaws 𝓤 H A enumValue
+  abbrev pub enumLaws : Plainss (Enum.variants T) → Few (Enum.shape T) → (M : Type 1) (𝓤 : URA M) (H : Heap 𝓤) (A : Atoms 𝓤)
+      → Given 𝓤 H A → ValuedLaws 𝓤 H A enumValue
   enumLaws P few M 𝓤 H A W = record {
     copies = enum.copy T C 𝓤 H A W;
     lawful = enum.lawful T L 𝓤 H A W few;

@@ -1,4 +1,5 @@
--- `topology::interiors::collapse_ramp_interiors` meets its contract, from what its two calls ensure. `Der` is the derivation in steps. Assumes nothing.
+-- `topology::interiors::collapse_ramp_interiors` meets its contract, from what its two calls ensure: `find_interiors` lists the interiors of the context, and
+-- `judge_interiors` judges what is listed. `Der` is the derivation in steps. Assumes nothing.
 mod Der
 use mathlib.Core.Path.{refl}
 use Rattle.topology.proofs.Steps.{fixed}
@@ -6,7 +7,7 @@ use Rattle.topology.proofs.interiors.collapse_ramp_interiors.Statement.
 use Rattle.topology.proofs.interiors.collapse_ramp_interiors.Proof.Der.{close}
 
 pub collapse-ramp-interiors-spec : {M : Type 1} → statement M
-collapse-ramp-interiors-spec = close (λ w κs qs a good pre bs.
+collapse-ramp-interiors-spec = close (λ world κs qs a good pre bs.
     λ γ₁. (
       refl,
       λ γ₂. (

@@ -1,5 +1,6 @@
--- `topology::marks::removed_marks` meets its contract: each pass is lent a part of what is lent here, and the number decides whose marks are asked, as Choosing has it. `Der` is the
--- derivation in steps, cut at the three passes. Assumes nothing.
+-- `topology::marks::removed_marks` meets its contract: each pass is lent a part of what is lent here, and the number decides whose marks are asked, as
+-- `Choosing` has it. `Der` is the derivation in steps, cut where each of the three passes begins; nothing is lent there, so each begins at the entry's state.
+-- Assumes nothing.
 mod Der
 use Prim.Native.Nat.{ℕ}
 use mathlib.Core.Path.{_≡_, refl}
@@ -15,6 +16,7 @@ use contract.Lifetimes.{Lfts, Shares}
 use Rattle.topology.proofs.marks.removed_marks.Proof.Der.{Args, Requires, close, entry, returns, wanted, pass-1-at, pass-2-at, pass-3-at, G0}
 
 module _ (w : World) (κs : Lfts 10) (qs : Shares 10) (bs : List ℕ) (a : Args κs) (pre : Requires κs a) where
+  -- after a pass nothing follows: it returns
   abbrev returned : Want (withNext (some (G0 κs qs)) (returns κs qs))
   returned = wantNext (G0 κs qs) (returns κs qs) (λ u. Unit {0}) (wanted κs qs a)
 
@@ -82,5 +84,16 @@ module _ (w : World) (κs : Lfts 10) (qs : Shares 10) (bs : List ℕ) (a : Args 
   )
 
 pub removed-marks-spec : {M : Type 1} → statement M
-removed-marks-spec = close (λ w κs qs a good pre bs.
-    (tt, (λ one. pass-1 w κs qs bs a pre (eqb-true (a .0) 1 one), λ not-one. (tt, (λ two. pass-2 w κs qs bs a pre (eqb-true (a .0) 2 two), λ not-two. pass-3 w κs qs bs a pre (eqb-false (a .0) 1 not-one) (eqb-false (a .0) 2 not-two))))))
+removed-marks-spec = close (λ w κs qs a good pre bs. (
+  tt,
+  (
+    λ one. pass-1 w κs qs bs a pre (eqb-true (a .0) 1 one),
+    λ not-one. (
+      tt,
+      (
+        λ two. pass-2 w κs qs bs a pre (eqb-true (a .0) 2 two),
+        λ not-two. pass-3 w κs qs bs a pre (eqb-false (a .0) 1 not-one) (eqb-false (a .0) 2 not-two),
+      ),
+    ),
+  ),
+))
