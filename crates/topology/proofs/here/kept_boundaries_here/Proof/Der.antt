@@ -1,11 +1,13 @@
 -- The derivation of `Rattle.topology.proofs.here.kept_boundaries_here` in steps. Made by tools/twin.
-use Rattle.topology.proofs.Rules.{Array, Atoms, Cx, Dens, Env, EnvOf, Given, Heap, Lfts, List, Mo, Outs, Row, Shares, Tables, Ty, URA, Want, World, [], _∷_, alive, any-gone, arr-mem, arr-owedP, arr-shrP, arrF, as-is, asMut, asShr, cArr, cEnum, cStruct, dead, erased, fInt, field, g-back-arr-shrᵖ, g-back-arrᵖ, g-back-sl, g-begin, g-end, g-forget, g-room, getD, imm, init, lease, lenV, lit<, makes-mem, mem-arr, mem-whole, msleft, mslice, mslice-owed, msptr, mut, named, oAt, oFld, off, pointee, reads-mslice, reads-owed-len, reads-sc, reads-sslice, refl, room-arr, room-gone, room-sc, room-sslice, room-whole, rtF, sInt, sUnit, sc-here, spares-sslice, sslice, ssptr, sub-id, suc, t-arr-borrowᵖ, t-arr-shareᵖ, t-call-plain, t-sl-aggregate, t-sl-relend, t-val-copy, told-none, tyArray, tyInt, tyR, tyRef, tyUnit, tysP, vAt, vLit, valS, w16, w32, w64, w8, wantQ, whole, whole-mem, yields-copy, Γin, Δret, ℕ}
+use Rattle.topology.proofs.Rules.{Array, Atoms, Cx, Dens, Env, EnvOf, Given, Heap, Lfts, List, Mo, Outs, Row, Shares, Tables, Ty, URA, Want, World, [], _∷_, alive, any-gone, arr-mem, arr-owedP, arr-yields, arrF, as-is, asMut, cArr, cStruct, dead, eStruct, eStruct-laws, erased, fInt, field, g-back-arrᵖ, g-back-sl, g-begin, g-end, g-forget, g-room, getD, imm, init, lease, lenV, lit<, makes-mem, mem-arr, mem-whole, msleft, mslice, mslice-owed, msptr, mut, named, oAt, oFld, off, pointee, reads-mslice, reads-owed-len, reads-sc, reads-sslice, refl, room-arr, room-gone, room-sc, room-whole, rtF, sInt, sUnit, sc-here, spares-sslice, sub-id, suc, t-arr-borrowᵖ, t-call-plain, t-sl-aggregate, t-sl-relend, t-val-copy, told-none, tyArray, tyInt, tyR, tyRef, tyUnit, tysP, vAt, vLit, valS, w16, w32, w64, w8, wantQ, whole, whole-mem, yields-copy, Γin, Δret, ℕ}
 use Rattle.context.proofs.Region as twin-0
 use Rattle.context.proofs.Region.Laws as twin-0-laws
 use Rattle.topology.proofs.Answer as Answer
-use Rattle.topology.proofs.Answer.Laws as Laws
+use Rattle.topology.proofs.TopologyAnswer as TopologyAnswer
+use Rattle.topology.proofs.TopologyAnswer.Laws as Laws'
 use borrow.Fn.Plain.{Known as Knows}
-use denote.Enum.Declared.{row}
+use denote.Enum.Declared as Declared
+use denote.Struct.Declared as Declared'
 use Rattle.topology.proofs.numbers.least.Kinds as K0
 use Rattle.topology.proofs.numbers.least.Reads as R0
 use Rattle.topology.proofs.numbers.least.Symbol as S0
@@ -14,14 +16,18 @@ use Rattle.topology.proofs.here.empty_records.Kinds as K1
 use Rattle.topology.proofs.here.empty_records.Reads as R1
 use Rattle.topology.proofs.here.empty_records.Symbol as S1
 use Rattle.topology.proofs.here.empty_records.Met as M1
-use Rattle.topology.proofs.Seen.kept_boundaries.Kinds as K2
-use Rattle.topology.proofs.Seen.kept_boundaries.Reads as R2
-use Rattle.topology.proofs.kept_boundaries.Symbol as S2
-use Rattle.topology.proofs.kept_boundaries.Met as M2
-use Rattle.topology.proofs.Seen.here.put_records.Kinds as K3
-use Rattle.topology.proofs.Seen.here.put_records.Reads as R3
-use Rattle.topology.proofs.here.put_records.Symbol as S3
-use Rattle.topology.proofs.here.put_records.Met as M3
+use Rattle.topology.proofs.Seen.topology_kept_boundaries.Kinds as K2
+use Rattle.topology.proofs.Seen.topology_kept_boundaries.Reads as R2
+use Rattle.topology.proofs.topology_kept_boundaries.Symbol as S2
+use Rattle.topology.proofs.topology_kept_boundaries.Met as M2
+use Rattle.topology.proofs.numbers.put_records.Kinds as K3
+use Rattle.topology.proofs.numbers.put_records.Reads as R3
+use Rattle.topology.proofs.numbers.put_records.Symbol as S3
+use Rattle.topology.proofs.numbers.put_records.Met as M3
+use Rattle.topology.proofs.answer_of.Kinds as K4
+use Rattle.topology.proofs.answer_of.Reads as R4
+use Rattle.topology.proofs.answer_of.Symbol as S4
+use Rattle.topology.proofs.answer_of.Met as M4
 use Rattle.topology.proofs.Seen.here.kept_boundaries_here.Kinds.{ps, r}
 use Rattle.topology.proofs.here.kept_boundaries_here.Code as code
 use contract.Running
@@ -35,7 +41,7 @@ abbrev pub xs : List Ty
 xs = typesPast (suc (code.function .params)) (code.function .locals)
 
 abbrev pub m : ℕ
-m = 9
+m = 8
 
 abbrev ty : ℕ → Ty
 ty k = getD (tyR r ∷ tysP ps xs) k tyUnit
@@ -93,7 +99,7 @@ module _ (κs : Lfts 11) (qs : Shares 11) where
   row23 = mslice (rtF (fInt w64)) (tyRef erased mut (tyInt w64)) 17
 
   abbrev row24 : Row
-  row24 = whole (row Answer.the-type)
+  row24 = whole (Declared'.row TopologyAnswer.the-type)
 
   abbrev row25 : Row
   row25 = msleft (rtF (fInt w32)) (tyRef erased mut (tyInt w32))
@@ -108,22 +114,19 @@ module _ (κs : Lfts 11) (qs : Shares 11) where
   row28 = msleft (rtF (fInt w64)) (tyRef erased mut (tyInt w64))
 
   abbrev row29 : Row
-  row29 = arr-shrP twin-0.the-row 512 18
+  row29 = mslice-owed (rtF (fInt w64)) (tyRef (named 10) mut (tyInt w64)) 10 18 (lease (κs .1 .1 .1 .1 .1 .1 .1 .1 .1 .1 .0) (qs .1 .1 .1 .1 .1 .1 .1 .1 .1 .1 .0))
 
   abbrev row31 : Row
-  row31 = sslice twin-0.the-row (tyRef erased imm (pointee (twin-0.the-row .written))) 18
+  row31 = mslice (rtF (fInt w64)) (tyRef erased mut (tyInt w64)) 18
 
   abbrev row32 : Row
-  row32 = mslice-owed (rtF (fInt w64)) (tyRef (named 10) mut (tyInt w64)) 10 19 (lease (κs .1 .1 .1 .1 .1 .1 .1 .1 .1 .1 .0) (qs .1 .1 .1 .1 .1 .1 .1 .1 .1 .1 .0))
+  row32 = sc-here sUnit
+
+  abbrev row33 : Row
+  row33 = whole (Declared.row Answer.the-type)
 
   abbrev row34 : Row
-  row34 = mslice (rtF (fInt w64)) (tyRef erased mut (tyInt w64)) 19
-
-  abbrev row35 : Row
-  row35 = sc-here sUnit
-
-  abbrev row36 : Row
-  row36 = any-gone (tyInt w64)
+  row34 = any-gone (tyInt w64)
 
   abbrev pub G13 : Cx
   G13 = patched ((16, row1) ∷ []) ([]) G0
@@ -180,65 +183,57 @@ module _ (κs : Lfts 11) (qs : Shares 11) where
   G65 = patched ((16, row1) ∷ (17, row2) ∷ (18, row24) ∷ []) ([]) G0
 
   abbrev pub G68 : Cx
-  G68 = patched ((16, row1) ∷ (17, row29) ∷ (18, row24) ∷ (36, row31) ∷ []) ((18, alive) ∷ []) G0
+  G68 = patched ((16, row1) ∷ (18, row24) ∷ (19, row2) ∷ []) ((18, alive) ∷ []) G0
+
+  abbrev pub G70 : Cx
+  G70 = patched ((15, row29) ∷ (16, row1) ∷ (18, row24) ∷ (19, row2) ∷ (36, row31) ∷ []) ((10, off) ∷ (18, alive) ∷ []) G0
 
   abbrev pub G71 : Cx
-  G71 = patched ((15, row32) ∷ (16, row1) ∷ (17, row29) ∷ (18, row24) ∷ (36, row31) ∷ (38, row34) ∷ []) ((10, off) ∷ (18, alive) ∷ (19, alive) ∷ []) G0
+  G71 = patched ((15, row29) ∷ (16, row1) ∷ (18, row24) ∷ (19, row2) ∷ (34, row32) ∷ (36, row28) ∷ []) ((10, off) ∷ (18, alive) ∷ []) G0
 
-  abbrev pub G72 : Cx
-  G72 = patched ((15, row32) ∷ (16, row1) ∷ (17, row29) ∷ (18, row24) ∷ (34, row35) ∷ (36, row31) ∷ (38, row28) ∷ []) ((10, off) ∷ (18, alive) ∷ (19, alive) ∷ []) G0
+  abbrev pub G74 : Cx
+  G74 = patched ((15, row29) ∷ (16, row1) ∷ (18, row24) ∷ (36, row28) ∷ []) ((10, off) ∷ (18, dead) ∷ []) G0
 
-  abbrev pub G75 : Cx
-  G75 = patched ((15, row32) ∷ (16, row1) ∷ (17, row29) ∷ (18, row24) ∷ (38, row28) ∷ []) ((10, off) ∷ (18, dead) ∷ (19, alive) ∷ []) G0
+  abbrev pub G77 : Cx
+  G77 = patched ((16, row1) ∷ (18, row24) ∷ []) ([]) G0
 
   abbrev pub G78 : Cx
-  G78 = patched ((15, row32) ∷ (16, row1) ∷ (18, row24) ∷ (38, row28) ∷ []) ((10, off) ∷ (19, alive) ∷ []) G0
+  G78 = patched ((0, row33) ∷ (16, row1) ∷ (18, row24) ∷ []) ([]) G0
 
-  abbrev pub G82 : Cx
-  G82 = patched ((16, row1) ∷ (18, row24) ∷ []) ([]) G0
+  abbrev pub G81 : Cx
+  G81 = patched ((0, row33) ∷ (1, row34) ∷ []) ([]) G0
 
-  abbrev pub G85 : Cx
-  G85 = patched ((0, row24) ∷ []) ([]) G0
+  abbrev pub G84 : Cx
+  G84 = patched ((0, row33) ∷ (1, row34) ∷ (2, row34) ∷ (3, row34) ∷ (13, row34) ∷ []) ([]) G0
 
-  abbrev pub G88 : Cx
-  G88 = patched ((0, row24) ∷ (1, row36) ∷ (2, row36) ∷ (3, row36) ∷ []) ([]) G0
-
-  abbrev pub G89 : Cx
-  G89 = patched ((0, row24) ∷ (1, row36) ∷ (2, row36) ∷ (3, row36) ∷ (13, row36) ∷ []) ([]) G0
-
-  abbrev pub Γ-d65 : Cx
-  Γ-d65 = G65
+  abbrev pub Γ-from-put : Cx
+  Γ-from-put = G65
 
 module _ {M : Type 1} (𝓤 : URA M) (H : Heap 𝓤) (A : Atoms 𝓤) (W : Given 𝓤 H A) (𝓣 : Tables 𝓤 H)
-    (known0 : Knows 𝓤 H A W 𝓣 0 K0.ps K0.r R0.Asked R0.Learnt "topology::numbers::least") (known1 : Knows 𝓤 H A W 𝓣 0 K1.ps K1.r R1.Asked R1.Learnt "topology::here::empty_records") (known2 : Knows 𝓤 H A W 𝓣 11 K2.ps K2.r R2.Asked R2.Learnt "topology::kept_boundaries") (known3 : Knows 𝓤 H A W 𝓣 2 K3.ps K3.r R3.Asked R3.Learnt "topology::here::put_records") (κs : Lfts 11) (qs : Shares 11) (bs : List ℕ) where
+    (known0 : Knows 𝓤 H A W 𝓣 0 K0.ps K0.r R0.Asked R0.Learnt "topology::numbers::least") (known1 : Knows 𝓤 H A W 𝓣 0 K1.ps K1.r R1.Asked R1.Learnt "topology::here::empty_records") (known2 : Knows 𝓤 H A W 𝓣 11 K2.ps K2.r R2.Asked R2.Learnt "topology::topology_kept_boundaries") (known3 : Knows 𝓤 H A W 𝓣 1 K3.ps K3.r R3.Asked R3.Learnt "topology::numbers::put_records") (known4 : Knows 𝓤 H A W 𝓣 0 K4.ps K4.r R4.Asked R4.Learnt "topology::answer_of") (κs : Lfts 11) (qs : Shares 11) (bs : List ℕ) where
   abbrev E : Env 𝓤 H
   E = EnvOf 𝓤 H (tyR r ∷ tysP ps xs) bs
 
-  abbrev pub d65 : Der W 𝓣 E (G65 κs qs) (past 18 (code.function .body)) (Δret 11 ps r xs m κs qs)
-  d65 =
-      ghosts (G65 κs qs) _ (g-begin 𝓤 H A W E (G65 κs qs) 18 _) $
-      stmt _ _ (t-arr-shareᵖ 𝓤 H A W E 𝓣 twin-0.the-row _ 17 35 512 18 (tyRef erased imm (tyArray (pointee (twin-0.the-row .written)) 512)) (λ x. x) (λ u. u .1 .1 .1 .1 .1 .1 .1 .1 .1 .1 .1 .1 .1 .1 .1 .1 .0) (as-is 𝓤 H A (arrF twin-0.the-row 512 0)) (room-gone 𝓤 H A (tyRef erased imm (tyArray (pointee (twin-0.the-row .written)) 512))) refl (λ b o. tt) (lit< tt, lit< tt)) $
-      stmt _ (G68 κs qs) (t-sl-aggregate 𝓤 H A W E twin-0.the-row 𝓣 (asShr twin-0.the-row) _ 35 36 18 (tyRef erased imm (tyArray (pointee (twin-0.the-row .written)) 512)) (tyRef erased imm (pointee (twin-0.the-row .written))) (λ x. x) (oAt 16 (tyInt w64) (valS (sInt w64))) (as-is 𝓤 H A (ssptr twin-0.the-row (tyRef erased imm (tyArray (pointee (twin-0.the-row .written)) 512)) 18)) (room-gone 𝓤 H A _) (reads-sc 𝓤 H A W (sInt w64), refl) refl refl (λ b o k. tt)) $
-      ghosts (G68 κs qs) _ (g-begin 𝓤 H A W E (G68 κs qs) 19 _) $
-      stmt _ _ (t-sl-relend 𝓤 H A W E (rtF (fInt w64)) 𝓣 _ 15 37 10 19 (tyRef (named 10) mut (tyInt w64)) (tyRef erased mut (tyInt w64)) (lease (κs .1 .1 .1 .1 .1 .1 .1 .1 .1 .1 .0) (qs .1 .1 .1 .1 .1 .1 .1 .1 .1 .1 .0)) 0 (λ x. x) (as-is 𝓤 H A (mslice (rtF (fInt w64)) (tyRef (named 10) mut (tyInt w64)) 10)) (room-gone 𝓤 H A (tyRef erased mut (tyInt w64))) refl tt refl refl refl (λ b o. tt)) $
-      stmt _ (G71 κs qs) (t-sl-aggregate 𝓤 H A W E (rtF (fInt w64)) 𝓣 (asMut (rtF (fInt w64))) _ 37 38 19 (tyRef erased mut (tyInt w64)) (tyRef erased mut (tyInt w64)) (λ x. x) (oFld 15 (field 1 ∷ []) (tyInt w64) 8 (λ v. lenV (v .0))) (as-is 𝓤 H A (msptr (rtF (fInt w64)) (tyRef erased mut (tyInt w64)) 19)) (room-gone 𝓤 H A _) (reads-owed-len 𝓤 H A W (rtF (fInt w64)) (tyRef (named 10) mut (tyInt w64)) 10 19 (lease (κs .1 .1 .1 .1 .1 .1 .1 .1 .1 .1 .0) (qs .1 .1 .1 .1 .1 .1 .1 .1 .1 .1 .0)) 8 refl, refl) refl refl (λ b o k. tt)) $
-      stmt (G71 κs qs) (G72 κs qs) (t-call-plain 𝓤 H A W 𝓣 2 K3.ps K3.r R3.Asked R3.Learnt "topology::here::put_records" known3 E (λ pos β. β) (G71 κs qs) (record { pos = 36; ty = tyRef erased imm (pointee (twin-0.the-row .written)); ref = λ x. x }, (record { pos = 38; ty = tyRef erased mut (tyInt w64); ref = λ x. x }, tt)) 34 (18 ∷ 19 ∷ []) (sub-id 𝓤 H A W ((G71 κs qs) .slots)) (spares-sslice 𝓤 H A W twin-0.the-row (tyRef erased imm (pointee (twin-0.the-row .written))) 18, reads-sslice 𝓤 H A W twin-0.the-row (tyRef erased imm (pointee (twin-0.the-row .written))) 18, refl, (as-is 𝓤 H A (mslice (rtF (fInt w64)) (tyRef erased mut (tyInt w64)) 19), reads-mslice 𝓤 H A W (rtF (fInt w64)) (tyRef erased mut (tyInt w64)) 19, refl, tt)) (room-gone 𝓤 H A tyUnit) _ refl) $
-      ghosts (G72 κs qs) _ (g-room 𝓤 H A W E (G72 κs qs) 36 _ (room-sslice 𝓤 H A W twin-0.the-row (tyRef erased imm (pointee (twin-0.the-row .written))) 18)) $
+  abbrev pub from-put : Der W 𝓣 E (G65 κs qs) (past 18 (code.function .body)) (Δret 11 ps r xs m κs qs)
+  from-put =
+      stmt (G65 κs qs) _ (t-val-copy 𝓤 H A W E 𝓣 (λ ρ. Unit) (G65 κs qs) 17 19 (Array twin-0.the-row 512) (tyArray twin-0-laws.mir 512) (tyArray twin-0-laws.mir 512) (arrF twin-0.the-row 512 0) (arrF twin-0.the-row 512 0) (λ x. x) (λ x. x) (λ x. x) refl (told-none 𝓤 H A ((G65 κs qs) .slots)) (yields-copy 𝓤 H A W (λ ρ. Unit) (Array twin-0.the-row 512) refl (cArr twin-0.the-row (cStruct twin-0.the-type twin-0-laws.the-laws twin-0-laws.the-copy) 512 .copy 𝓤 H A W) (arrF twin-0.the-row 512 0) (λ x. x) (λ x. x) (λ ρ told. mem-arr 𝓤 H A W twin-0.the-row 512 ρ) (λ ρ told. arr-mem 𝓤 H A W twin-0.the-row 512 tt ρ)) (room-gone 𝓤 H A (tyArray twin-0-laws.mir 512)) (makes-mem 𝓤 H A W (λ ρ. Unit) (Array twin-0.the-row 512) refl (arrF twin-0.the-row 512 0) (λ x. x) (λ ρ told. arr-mem 𝓤 H A W twin-0.the-row 512 tt ρ)) refl refl) $
+      ghosts _ _ (g-room 𝓤 H A W E _ 17 (tyArray twin-0-laws.mir 512) (room-arr 𝓤 H A W twin-0.the-row 512 0 512 refl)) $
+      ghosts _ (G68 κs qs) (g-begin 𝓤 H A W E _ 18 _) $
+      stmt (G68 κs qs) _ (t-sl-relend 𝓤 H A W E (rtF (fInt w64)) 𝓣 (G68 κs qs) 15 35 10 18 (tyRef (named 10) mut (tyInt w64)) (tyRef erased mut (tyInt w64)) (lease (κs .1 .1 .1 .1 .1 .1 .1 .1 .1 .1 .0) (qs .1 .1 .1 .1 .1 .1 .1 .1 .1 .1 .0)) 0 (λ x. x) (as-is 𝓤 H A (mslice (rtF (fInt w64)) (tyRef (named 10) mut (tyInt w64)) 10)) (room-gone 𝓤 H A (tyRef erased mut (tyInt w64))) refl tt refl refl refl (λ b o. tt)) $
+      stmt _ (G70 κs qs) (t-sl-aggregate 𝓤 H A W E (rtF (fInt w64)) 𝓣 (asMut (rtF (fInt w64))) _ 35 36 18 (tyRef erased mut (tyInt w64)) (tyRef erased mut (tyInt w64)) (λ x. x) (oFld 15 (field 1 ∷ []) (tyInt w64) 8 (λ v. lenV (v .0))) (as-is 𝓤 H A (msptr (rtF (fInt w64)) (tyRef erased mut (tyInt w64)) 18)) (room-gone 𝓤 H A _) (reads-owed-len 𝓤 H A W (rtF (fInt w64)) (tyRef (named 10) mut (tyInt w64)) 10 18 (lease (κs .1 .1 .1 .1 .1 .1 .1 .1 .1 .1 .0) (qs .1 .1 .1 .1 .1 .1 .1 .1 .1 .1 .0)) 8 refl, refl) refl refl (λ b o k. tt)) $
+      stmt (G70 κs qs) (G71 κs qs) (t-call-plain 𝓤 H A W 𝓣 1 K3.ps K3.r R3.Asked R3.Learnt "topology::numbers::put_records" known3 E (λ pos β. β) (G70 κs qs) (record { pos = 19; st = []; d = 0; at = λ x. x }, (vAt 16 (λ x. x), (record { pos = 36; ty = tyRef erased mut (tyInt w64); ref = λ x. x }, tt))) 34 (18 ∷ []) (sub-id 𝓤 H A W ((G70 κs qs) .slots)) ((arr-yields 𝓤 H A W (eStruct twin-0.the-type twin-0-laws.the-laws twin-0-laws.the-copy) (eStruct-laws twin-0.the-type twin-0-laws.the-laws twin-0-laws.the-copy twin-0-laws.the-plain) 512, refl), ((reads-sc 𝓤 H A W (sInt w64), refl), (as-is 𝓤 H A (mslice (rtF (fInt w64)) (tyRef erased mut (tyInt w64)) 18), reads-mslice 𝓤 H A W (rtF (fInt w64)) (tyRef erased mut (tyInt w64)) 18, refl, tt))) (room-gone 𝓤 H A tyUnit) _ refl) $
+      ghosts (G71 κs qs) _ (g-room 𝓤 H A W E (G71 κs qs) 19 (tyArray twin-0-laws.mir 512) (room-arr 𝓤 H A W twin-0.the-row 512 0 512 refl)) $
       ghosts _ _ (g-room 𝓤 H A W E _ 34 tyUnit (room-sc 𝓤 H A W sUnit)) $
-      ghosts _ (G75 κs qs) (g-end 𝓤 H A W E _ 18 refl) $
-      ghosts (G75 κs qs) _ (g-back-arr-shrᵖ 𝓤 H A W E twin-0.the-row (G75 κs qs) 17 512 18 (λ x. x) (as-is 𝓤 H A (arr-shrP twin-0.the-row 512 18)) refl) $
-      ghosts _ _ (g-forget 𝓤 H A W E _ 18 dead refl) $
-      ghosts _ (G78 κs qs) (g-room 𝓤 H A W E _ 17 (tyArray twin-0-laws.mir 512) (room-arr 𝓤 H A W twin-0.the-row 512 0 512 refl)) $
-      ghosts (G78 κs qs) _ (g-end 𝓤 H A W E (G78 κs qs) 19 refl) $
-      ghosts _ _ (g-back-sl 𝓤 H A W E (rtF (fInt w64)) _ 38 15 10 19 (tyRef (named 10) mut (tyInt w64)) (tyRef erased mut (tyInt w64)) (lease (κs .1 .1 .1 .1 .1 .1 .1 .1 .1 .1 .0) (qs .1 .1 .1 .1 .1 .1 .1 .1 .1 .1 .0)) (λ x. x) (λ x. x) (as-is 𝓤 H A (msleft (rtF (fInt w64)) (tyRef erased mut (tyInt w64)))) (as-is 𝓤 H A (mslice-owed (rtF (fInt w64)) (tyRef (named 10) mut (tyInt w64)) 10 19 (lease (κs .1 .1 .1 .1 .1 .1 .1 .1 .1 .1 .0) (qs .1 .1 .1 .1 .1 .1 .1 .1 .1 .1 .0)))) refl refl) $
-      ghosts _ (G82 κs qs) (g-forget 𝓤 H A W E _ 19 dead refl) $
-      stmt (G82 κs qs) _ (t-val-copy 𝓤 H A W E 𝓣 (λ ρ. Unit) (G82 κs qs) 18 0 (row Answer.the-type) _ _ (whole (row Answer.the-type)) (whole (row Answer.the-type)) (λ x. x) (λ x. x) (λ x. x) refl (told-none 𝓤 H A ((G82 κs qs) .slots)) (yields-copy 𝓤 H A W (λ ρ. Unit) (row Answer.the-type) refl (cEnum Answer.the-type Laws.the-laws Laws.the-copy .copy 𝓤 H A W) (whole (row Answer.the-type)) (λ x. x) (λ x. x) (λ ρ told. mem-whole 𝓤 H A W (row Answer.the-type) ρ) (λ ρ told. whole-mem 𝓤 H A W (row Answer.the-type) ρ)) (room-gone 𝓤 H A _) (makes-mem 𝓤 H A W (λ ρ. Unit) (row Answer.the-type) refl (whole (row Answer.the-type)) (λ x. x) (λ ρ told. whole-mem 𝓤 H A W (row Answer.the-type) ρ)) refl refl) $
-      ghosts _ _ (g-room 𝓤 H A W E _ 16 (tyInt w64) (room-sc 𝓤 H A W (sInt w64))) $
-      ghosts _ (G85 κs qs) (g-room 𝓤 H A W E _ 18 _ (room-whole 𝓤 H A W (row Answer.the-type) _ refl)) $
-      ghosts (G85 κs qs) _ (g-room 𝓤 H A W E (G85 κs qs) 1 (tyInt w64) (room-sc 𝓤 H A W (sInt w64))) $
-      ghosts _ _ (g-room 𝓤 H A W E _ 2 (tyInt w64) (room-sc 𝓤 H A W (sInt w64))) $
-      ghosts _ (G88 κs qs) (g-room 𝓤 H A W E _ 3 (tyInt w64) (room-sc 𝓤 H A W (sInt w64))) $
-      ghosts (G88 κs qs) (G89 κs qs) (g-room 𝓤 H A W E (G88 κs qs) 13 (tyInt w64) (room-sc 𝓤 H A W (sInt w64))) $
+      ghosts _ (G74 κs qs) (g-end 𝓤 H A W E _ 18 refl) $
+      ghosts (G74 κs qs) _ (g-back-sl 𝓤 H A W E (rtF (fInt w64)) (G74 κs qs) 36 15 10 18 (tyRef (named 10) mut (tyInt w64)) (tyRef erased mut (tyInt w64)) (lease (κs .1 .1 .1 .1 .1 .1 .1 .1 .1 .1 .0) (qs .1 .1 .1 .1 .1 .1 .1 .1 .1 .1 .0)) (λ x. x) (λ x. x) (as-is 𝓤 H A (msleft (rtF (fInt w64)) (tyRef erased mut (tyInt w64)))) (as-is 𝓤 H A (mslice-owed (rtF (fInt w64)) (tyRef (named 10) mut (tyInt w64)) 10 18 (lease (κs .1 .1 .1 .1 .1 .1 .1 .1 .1 .1 .0) (qs .1 .1 .1 .1 .1 .1 .1 .1 .1 .1 .0)))) refl refl) $
+      ghosts _ (G77 κs qs) (g-forget 𝓤 H A W E _ 18 dead refl) $
+      stmt (G77 κs qs) (G78 κs qs) (t-call-plain 𝓤 H A W 𝓣 0 K4.ps K4.r R4.Asked R4.Learnt "topology::answer_of" known4 E (λ pos β. β) (G77 κs qs) (record { pos = 18; st = []; d = 0; at = λ x. x }, tt) 0 [] (sub-id 𝓤 H A W ((G77 κs qs) .slots)) ((yields-copy 𝓤 H A W (λ ρ. Unit) (Declared'.row TopologyAnswer.the-type) refl (cStruct TopologyAnswer.the-type Laws'.the-laws Laws'.the-copy .copy 𝓤 H A W) (whole (Declared'.row TopologyAnswer.the-type)) (λ x. x) (λ x. x) (λ ρ told. mem-whole 𝓤 H A W (Declared'.row TopologyAnswer.the-type) ρ) (λ ρ told. whole-mem 𝓤 H A W (Declared'.row TopologyAnswer.the-type) ρ), refl), tt) (room-gone 𝓤 H A _) tt refl) $
+      ghosts (G78 κs qs) _ (g-room 𝓤 H A W E (G78 κs qs) 16 (tyInt w64) (room-sc 𝓤 H A W (sInt w64))) $
+      ghosts _ _ (g-room 𝓤 H A W E _ 18 _ (room-whole 𝓤 H A W (Declared'.row TopologyAnswer.the-type) _ refl)) $
+      ghosts _ (G81 κs qs) (g-room 𝓤 H A W E _ 1 (tyInt w64) (room-sc 𝓤 H A W (sInt w64))) $
+      ghosts (G81 κs qs) _ (g-room 𝓤 H A W E (G81 κs qs) 2 (tyInt w64) (room-sc 𝓤 H A W (sInt w64))) $
+      ghosts _ _ (g-room 𝓤 H A W E _ 3 (tyInt w64) (room-sc 𝓤 H A W (sInt w64))) $
+      ghosts _ (G84 κs qs) (g-room 𝓤 H A W E _ 13 (tyInt w64) (room-sc 𝓤 H A W (sInt w64))) $
       rets
 
   abbrev pub d : Der W 𝓣 E (Γin 11 ps r xs m κs qs) (code.function .body) (Δret 11 ps r xs m κs qs)
@@ -268,7 +263,7 @@ module _ {M : Type 1} (𝓤 : URA M) (H : Heap 𝓤) (A : Atoms 𝓤) (W : Given
       ghosts _ (G35 κs qs) (g-begin 𝓤 H A W E _ 17 _) $
       stmt (G35 κs qs) _ (t-sl-relend 𝓤 H A W E (rtF (fInt w64)) 𝓣 (G35 κs qs) 14 32 9 17 (tyRef (named 9) mut (tyInt w64)) (tyRef erased mut (tyInt w64)) (lease (κs .1 .1 .1 .1 .1 .1 .1 .1 .1 .0) (qs .1 .1 .1 .1 .1 .1 .1 .1 .1 .0)) 0 (λ x. x) (as-is 𝓤 H A (mslice (rtF (fInt w64)) (tyRef (named 9) mut (tyInt w64)) 9)) (room-gone 𝓤 H A (tyRef erased mut (tyInt w64))) refl tt refl refl refl (λ b o. tt)) $
       stmt _ (G37 κs qs) (t-sl-aggregate 𝓤 H A W E (rtF (fInt w64)) 𝓣 (asMut (rtF (fInt w64))) _ 32 33 17 (tyRef erased mut (tyInt w64)) (tyRef erased mut (tyInt w64)) (λ x. x) (oFld 14 (field 1 ∷ []) (tyInt w64) 8 (λ v. lenV (v .0))) (as-is 𝓤 H A (msptr (rtF (fInt w64)) (tyRef erased mut (tyInt w64)) 17)) (room-gone 𝓤 H A _) (reads-owed-len 𝓤 H A W (rtF (fInt w64)) (tyRef (named 9) mut (tyInt w64)) 9 17 (lease (κs .1 .1 .1 .1 .1 .1 .1 .1 .1 .0) (qs .1 .1 .1 .1 .1 .1 .1 .1 .1 .0)) 8 refl, refl) refl refl (λ b o k. tt)) $
-      stmt (G37 κs qs) (G38 κs qs) (t-call-plain 𝓤 H A W 𝓣 11 K2.ps K2.r R2.Asked R2.Learnt "topology::kept_boundaries" known2 E (λ pos β. β) (G37 κs qs) (vAt 1 (λ x. x), (vAt 2 (λ x. x), (vAt 3 (λ x. x), (record { pos = 4; ty = tyRef (named 0) imm (tyInt w8); ref = λ x. x }, (record { pos = 5; ty = tyRef (named 1) imm (tyInt w64); ref = λ x. x }, (record { pos = 6; ty = tyRef (named 2) imm (tyInt w64); ref = λ x. x }, (record { pos = 7; ty = tyRef (named 3) imm (tyInt w64); ref = λ x. x }, (record { pos = 21; ty = tyRef erased mut (tyInt w32); ref = λ x. x }, (record { pos = 23; ty = tyRef erased mut (tyInt w16); ref = λ x. x }, (record { pos = 25; ty = tyRef erased mut (tyInt w32); ref = λ x. x }, (record { pos = 27; ty = tyRef erased mut (tyInt w32); ref = λ x. x }, (record { pos = 29; ty = tyRef erased mut (tyInt w32); ref = λ x. x }, (record { pos = 31; ty = tyRef erased mut (pointee (twin-0.the-row .written)); ref = λ x. x }, (record { pos = 33; ty = tyRef erased mut (tyInt w64); ref = λ x. x }, tt)))))))))))))) 18 (0 ∷ 1 ∷ 2 ∷ 3 ∷ 11 ∷ 12 ∷ 13 ∷ 14 ∷ 15 ∷ 16 ∷ 17 ∷ []) (sub-id 𝓤 H A W ((G37 κs qs) .slots)) ((reads-sc 𝓤 H A W (sInt w64), refl), ((reads-sc 𝓤 H A W (sInt w64), refl), ((reads-sc 𝓤 H A W (sInt w64), refl), (spares-sslice 𝓤 H A W (rtF (fInt w8)) (tyRef (named 0) imm (tyInt w8)) 0, reads-sslice 𝓤 H A W (rtF (fInt w8)) (tyRef (named 0) imm (tyInt w8)) 0, refl, (spares-sslice 𝓤 H A W (rtF (fInt w64)) (tyRef (named 1) imm (tyInt w64)) 1, reads-sslice 𝓤 H A W (rtF (fInt w64)) (tyRef (named 1) imm (tyInt w64)) 1, refl, (spares-sslice 𝓤 H A W (rtF (fInt w64)) (tyRef (named 2) imm (tyInt w64)) 2, reads-sslice 𝓤 H A W (rtF (fInt w64)) (tyRef (named 2) imm (tyInt w64)) 2, refl, (spares-sslice 𝓤 H A W (rtF (fInt w64)) (tyRef (named 3) imm (tyInt w64)) 3, reads-sslice 𝓤 H A W (rtF (fInt w64)) (tyRef (named 3) imm (tyInt w64)) 3, refl, (as-is 𝓤 H A (mslice (rtF (fInt w32)) (tyRef erased mut (tyInt w32)) 11), reads-mslice 𝓤 H A W (rtF (fInt w32)) (tyRef erased mut (tyInt w32)) 11, refl, (as-is 𝓤 H A (mslice (rtF (fInt w16)) (tyRef erased mut (tyInt w16)) 12), reads-mslice 𝓤 H A W (rtF (fInt w16)) (tyRef erased mut (tyInt w16)) 12, refl, (as-is 𝓤 H A (mslice (rtF (fInt w32)) (tyRef erased mut (tyInt w32)) 13), reads-mslice 𝓤 H A W (rtF (fInt w32)) (tyRef erased mut (tyInt w32)) 13, refl, (as-is 𝓤 H A (mslice (rtF (fInt w32)) (tyRef erased mut (tyInt w32)) 14), reads-mslice 𝓤 H A W (rtF (fInt w32)) (tyRef erased mut (tyInt w32)) 14, refl, (as-is 𝓤 H A (mslice (rtF (fInt w32)) (tyRef erased mut (tyInt w32)) 15), reads-mslice 𝓤 H A W (rtF (fInt w32)) (tyRef erased mut (tyInt w32)) 15, refl, (as-is 𝓤 H A (mslice twin-0.the-row (tyRef erased mut (pointee (twin-0.the-row .written))) 16), reads-mslice 𝓤 H A W twin-0.the-row (tyRef erased mut (pointee (twin-0.the-row .written))) 16, refl, (as-is 𝓤 H A (mslice (rtF (fInt w64)) (tyRef erased mut (tyInt w64)) 17), reads-mslice 𝓤 H A W (rtF (fInt w64)) (tyRef erased mut (tyInt w64)) 17, refl, tt)))))))))))))) (room-gone 𝓤 H A _) _ refl) $
+      stmt (G37 κs qs) (G38 κs qs) (t-call-plain 𝓤 H A W 𝓣 11 K2.ps K2.r R2.Asked R2.Learnt "topology::topology_kept_boundaries" known2 E (λ pos β. β) (G37 κs qs) (vAt 1 (λ x. x), (vAt 2 (λ x. x), (vAt 3 (λ x. x), (record { pos = 4; ty = tyRef (named 0) imm (tyInt w8); ref = λ x. x }, (record { pos = 5; ty = tyRef (named 1) imm (tyInt w64); ref = λ x. x }, (record { pos = 6; ty = tyRef (named 2) imm (tyInt w64); ref = λ x. x }, (record { pos = 7; ty = tyRef (named 3) imm (tyInt w64); ref = λ x. x }, (record { pos = 21; ty = tyRef erased mut (tyInt w32); ref = λ x. x }, (record { pos = 23; ty = tyRef erased mut (tyInt w16); ref = λ x. x }, (record { pos = 25; ty = tyRef erased mut (tyInt w32); ref = λ x. x }, (record { pos = 27; ty = tyRef erased mut (tyInt w32); ref = λ x. x }, (record { pos = 29; ty = tyRef erased mut (tyInt w32); ref = λ x. x }, (record { pos = 31; ty = tyRef erased mut (pointee (twin-0.the-row .written)); ref = λ x. x }, (record { pos = 33; ty = tyRef erased mut (tyInt w64); ref = λ x. x }, tt)))))))))))))) 18 (0 ∷ 1 ∷ 2 ∷ 3 ∷ 11 ∷ 12 ∷ 13 ∷ 14 ∷ 15 ∷ 16 ∷ 17 ∷ []) (sub-id 𝓤 H A W ((G37 κs qs) .slots)) ((reads-sc 𝓤 H A W (sInt w64), refl), ((reads-sc 𝓤 H A W (sInt w64), refl), ((reads-sc 𝓤 H A W (sInt w64), refl), (spares-sslice 𝓤 H A W (rtF (fInt w8)) (tyRef (named 0) imm (tyInt w8)) 0, reads-sslice 𝓤 H A W (rtF (fInt w8)) (tyRef (named 0) imm (tyInt w8)) 0, refl, (spares-sslice 𝓤 H A W (rtF (fInt w64)) (tyRef (named 1) imm (tyInt w64)) 1, reads-sslice 𝓤 H A W (rtF (fInt w64)) (tyRef (named 1) imm (tyInt w64)) 1, refl, (spares-sslice 𝓤 H A W (rtF (fInt w64)) (tyRef (named 2) imm (tyInt w64)) 2, reads-sslice 𝓤 H A W (rtF (fInt w64)) (tyRef (named 2) imm (tyInt w64)) 2, refl, (spares-sslice 𝓤 H A W (rtF (fInt w64)) (tyRef (named 3) imm (tyInt w64)) 3, reads-sslice 𝓤 H A W (rtF (fInt w64)) (tyRef (named 3) imm (tyInt w64)) 3, refl, (as-is 𝓤 H A (mslice (rtF (fInt w32)) (tyRef erased mut (tyInt w32)) 11), reads-mslice 𝓤 H A W (rtF (fInt w32)) (tyRef erased mut (tyInt w32)) 11, refl, (as-is 𝓤 H A (mslice (rtF (fInt w16)) (tyRef erased mut (tyInt w16)) 12), reads-mslice 𝓤 H A W (rtF (fInt w16)) (tyRef erased mut (tyInt w16)) 12, refl, (as-is 𝓤 H A (mslice (rtF (fInt w32)) (tyRef erased mut (tyInt w32)) 13), reads-mslice 𝓤 H A W (rtF (fInt w32)) (tyRef erased mut (tyInt w32)) 13, refl, (as-is 𝓤 H A (mslice (rtF (fInt w32)) (tyRef erased mut (tyInt w32)) 14), reads-mslice 𝓤 H A W (rtF (fInt w32)) (tyRef erased mut (tyInt w32)) 14, refl, (as-is 𝓤 H A (mslice (rtF (fInt w32)) (tyRef erased mut (tyInt w32)) 15), reads-mslice 𝓤 H A W (rtF (fInt w32)) (tyRef erased mut (tyInt w32)) 15, refl, (as-is 𝓤 H A (mslice twin-0.the-row (tyRef erased mut (pointee (twin-0.the-row .written))) 16), reads-mslice 𝓤 H A W twin-0.the-row (tyRef erased mut (pointee (twin-0.the-row .written))) 16, refl, (as-is 𝓤 H A (mslice (rtF (fInt w64)) (tyRef erased mut (tyInt w64)) 17), reads-mslice 𝓤 H A W (rtF (fInt w64)) (tyRef erased mut (tyInt w64)) 17, refl, tt)))))))))))))) (room-gone 𝓤 H A _) _ refl) $
       ghosts (G38 κs qs) _ (g-end 𝓤 H A W E (G38 κs qs) 11 refl) $
       ghosts _ _ (g-back-sl 𝓤 H A W E (rtF (fInt w32)) _ 21 8 4 11 (tyRef (named 4) mut (tyInt w32)) (tyRef erased mut (tyInt w32)) (lease (κs .1 .1 .1 .1 .0) (qs .1 .1 .1 .1 .0)) (λ x. x) (λ x. x) (as-is 𝓤 H A (msleft (rtF (fInt w32)) (tyRef erased mut (tyInt w32)))) (as-is 𝓤 H A (mslice-owed (rtF (fInt w32)) (tyRef (named 4) mut (tyInt w32)) 4 11 (lease (κs .1 .1 .1 .1 .0) (qs .1 .1 .1 .1 .0)))) refl refl) $
       ghosts _ (G42 κs qs) (g-forget 𝓤 H A W E _ 11 dead refl) $
@@ -290,7 +285,7 @@ module _ {M : Type 1} (𝓤 : URA M) (H : Heap 𝓤) (A : Atoms 𝓤) (W : Given
       ghosts (G61 κs qs) _ (g-end 𝓤 H A W E (G61 κs qs) 17 refl) $
       ghosts _ _ (g-back-sl 𝓤 H A W E (rtF (fInt w64)) _ 33 14 9 17 (tyRef (named 9) mut (tyInt w64)) (tyRef erased mut (tyInt w64)) (lease (κs .1 .1 .1 .1 .1 .1 .1 .1 .1 .0) (qs .1 .1 .1 .1 .1 .1 .1 .1 .1 .0)) (λ x. x) (λ x. x) (as-is 𝓤 H A (msleft (rtF (fInt w64)) (tyRef erased mut (tyInt w64)))) (as-is 𝓤 H A (mslice-owed (rtF (fInt w64)) (tyRef (named 9) mut (tyInt w64)) 9 17 (lease (κs .1 .1 .1 .1 .1 .1 .1 .1 .1 .0) (qs .1 .1 .1 .1 .1 .1 .1 .1 .1 .0)))) refl refl) $
       ghosts _ (G65 κs qs) (g-forget 𝓤 H A W E _ 17 dead refl) $
-      d65
+      from-put
 
 -- the derivations at a model
 module _ (w : World) where
@@ -300,18 +295,21 @@ module _ (w : World) where
   abbrev known1-at : Knows (w .𝓤) (w .H) (w .𝓖 .A) (Wof w) (𝓣of w code.env) 0 K1.ps K1.r R1.Asked R1.Learnt "topology::here::empty_records"
   known1-at = R1.known w code.env S1.name S1.routine code.calls-topology·here·empty-records (M1.met (w .𝓤) (w .H) (w .𝓜) (w .𝓖) (w .𝓡))
 
-  abbrev known2-at : Knows (w .𝓤) (w .H) (w .𝓖 .A) (Wof w) (𝓣of w code.env) 11 K2.ps K2.r R2.Asked R2.Learnt "topology::kept_boundaries"
-  known2-at = R2.known w code.env S2.name S2.routine code.calls-topology·kept-boundaries (M2.met (w .𝓤) (w .H) (w .𝓜) (w .𝓖) (w .𝓡))
+  abbrev known2-at : Knows (w .𝓤) (w .H) (w .𝓖 .A) (Wof w) (𝓣of w code.env) 11 K2.ps K2.r R2.Asked R2.Learnt "topology::topology_kept_boundaries"
+  known2-at = R2.known w code.env S2.name S2.routine code.calls-topology·topology-kept-boundaries (M2.met (w .𝓤) (w .H) (w .𝓜) (w .𝓖) (w .𝓡))
 
-  abbrev known3-at : Knows (w .𝓤) (w .H) (w .𝓖 .A) (Wof w) (𝓣of w code.env) 2 K3.ps K3.r R3.Asked R3.Learnt "topology::here::put_records"
-  known3-at = R3.known w code.env S3.name S3.routine code.calls-topology·here·put-records (M3.met (w .𝓤) (w .H) (w .𝓜) (w .𝓖) (w .𝓡))
+  abbrev known3-at : Knows (w .𝓤) (w .H) (w .𝓖 .A) (Wof w) (𝓣of w code.env) 1 K3.ps K3.r R3.Asked R3.Learnt "topology::numbers::put_records"
+  known3-at = R3.known w code.env S3.name S3.routine code.calls-topology·numbers·put-records (M3.met (w .𝓤) (w .H) (w .𝓜) (w .𝓖) (w .𝓡))
+
+  abbrev known4-at : Knows (w .𝓤) (w .H) (w .𝓖 .A) (Wof w) (𝓣of w code.env) 0 K4.ps K4.r R4.Asked R4.Learnt "topology::answer_of"
+  known4-at = R4.known w code.env S4.name S4.routine code.calls-topology·answer-of (M4.met (w .𝓤) (w .H) (w .𝓜) (w .𝓖) (w .𝓡))
 
 module _ (w : World) (κs : Lfts 11) (qs : Shares 11) (bs : List ℕ) where
-  abbrev pub d65-at : Der (Wof w) (𝓣of w code.env) (EnvOf (w .𝓤) (w .H) (tyR r ∷ tysP ps xs) bs) (G65 κs qs) (past 18 (code.function .body)) (Δret 11 ps r xs m κs qs)
-  d65-at = d65 (w .𝓤) (w .H) (w .𝓖 .A) (Wof w) (𝓣of w code.env) (known0-at w) (known1-at w) (known2-at w) (known3-at w) κs qs bs
+  abbrev pub from-put-at : Der (Wof w) (𝓣of w code.env) (EnvOf (w .𝓤) (w .H) (tyR r ∷ tysP ps xs) bs) (G65 κs qs) (past 18 (code.function .body)) (Δret 11 ps r xs m κs qs)
+  from-put-at = from-put (w .𝓤) (w .H) (w .𝓖 .A) (Wof w) (𝓣of w code.env) (known0-at w) (known1-at w) (known2-at w) (known3-at w) (known4-at w) κs qs bs
 
   abbrev pub d-at : Der (Wof w) (𝓣of w code.env) (EnvOf (w .𝓤) (w .H) (tyR r ∷ tysP ps xs) bs) (Γin 11 ps r xs m κs qs) (code.function .body) (Δret 11 ps r xs m κs qs)
-  d-at = d (w .𝓤) (w .H) (w .𝓖 .A) (Wof w) (𝓣of w code.env) (known0-at w) (known1-at w) (known2-at w) (known3-at w) κs qs bs
+  d-at = d (w .𝓤) (w .H) (w .𝓖 .A) (Wof w) (𝓣of w code.env) (known0-at w) (known1-at w) (known2-at w) (known3-at w) (known4-at w) κs qs bs
 
 -- the arguments and what is required of them, the state at entry, the ways out, and what is wanted of a return
 abbrev pub Args : Lfts 11 → Type 0

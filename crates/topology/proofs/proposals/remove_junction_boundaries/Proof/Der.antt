@@ -210,7 +210,7 @@ module _ {M : Type 1} (𝓤 : URA M) (H : Heap 𝓤) (A : Atoms 𝓤) (W : Given
       stmt _ _ (t-arr-share 𝓤 H A W E 𝓣 (rtF fBool) _ 11 21 426 11 (tyRef erased imm (tyArray tyBool 426)) (λ x. x) (as-is 𝓤 H A (arrF (rtF fBool) 426 0)) (room-gone 𝓤 H A (tyRef erased imm (tyArray tyBool 426))) refl (λ b o. tt) (lit< tt, lit< tt)) $
       stmt _ (G35 κs qs) (t-sl-aggregate 𝓤 H A W E (rtF fBool) 𝓣 (asShr (rtF fBool)) _ 21 22 11 (tyRef erased imm (tyArray tyBool 426)) (tyRef erased imm tyBool) (λ x. x) (oInt w64 _) (as-is 𝓤 H A (ssptr (rtF fBool) (tyRef erased imm (tyArray tyBool 426)) 11)) (room-gone 𝓤 H A _) tt refl refl (λ b o k. tt)) $
       ghosts (G35 κs qs) (G36 κs qs) (g-begin 𝓤 H A W E (G35 κs qs) 12 _) $
-      stmt (G36 κs qs) _ (t-way-lend-slice 𝓤 H A W E 𝓣 (rtF fBool) tt 256 (lit< tt, lit< tt) (λ ρ. _≡_ (lft ρ 6) (κs .1 .1 .1 .1 .1 .1 .0)) (G36 κs qs) (out 9 ((G36 κs qs) .locals)) (λ u. drop 9 ((G36 κs qs) .locals) u) (setLife 6 off ((G36 κs qs) .slots)) 9 (λ t. _∷_ (deref tyBool) t) tyBool (tyRef erased mut tyBool) 23 12 (λ u. u .1 .1 .1 .1 .1 .1 .1 .1 .1 .0 .now) (λ u. u .1 .1 .1 .1 .1 .1 .1 .1 .1 .0 .ptr) (λ T′. record { locals = setRow 9 (9, held (fz-open erased 6 (κs .1 .1 .1 .1 .1 .1 .0) (lease (κs .1 .1 .1 .1 .1 .1 .0) (qs .1 .1 .1 .1 .1 .1 .0)) (fz-lent-sl (rtF fBool) 256 12))) T′; slots = setLife 6 off ((G36 κs qs) .slots) }) (λ u γ T′ m′. set 9 (9, held (fz-open erased 6 (κs .1 .1 .1 .1 .1 .1 .0) (lease (κs .1 .1 .1 .1 .1 .1 .0) (qs .1 .1 .1 .1 .1 .1 .0)) (fz-lent-sl (rtF fBool) 256 12))) (u .1 .1 .1 .1 .1 .1 .1 .1 .1 .0, γ) T′ m′) (λ u. Unit) (pin-lease 𝓤 H A W 6 ((G36 κs qs) .slots) (κs .1 .1 .1 .1 .1 .1 .0) (qs .1 .1 .1 .1 .1 .1 .0) refl) (λ ρ told u asked. wt-mut 𝓤 H A W E erased 6 (κs .1 .1 .1 .1 .1 .1 .0) (lease (κs .1 .1 .1 .1 .1 .1 .0) (qs .1 .1 .1 .1 .1 .1 .0)) (fz-lent-sl (rtF fBool) 256 12) (tyRef (named 6) mut (tyArray tyBool 256)) tyBool (u .1 .1 .1 .1 .1 .1 .1 .1 .1 .0) (spotOf 𝓤 H E 9 .1, 0) (wt-mref 𝓤 H A W E erased (κs .1 .1 .1 .1 .1 .1 .0) (Array (rtF fBool) 256) 6 (tyRef (named 6) mut (tyArray tyBool 256)) (fz-open erased 6 (κs .1 .1 .1 .1 .1 .1 .0) (lease (κs .1 .1 .1 .1 .1 .1 .0) (qs .1 .1 .1 .1 .1 .1 .0)) (fz-lent-sl (rtF fBool) 256 12)) refl (G36 κs qs) ρ u (setLife 6 off ((G36 κs qs) .slots)) 9 (λ x. x) told (as-is 𝓤 H A (mref (Array (rtF fBool) 256) (tyRef (named 6) mut (tyArray tyBool 256)) 6))) refl (setLife 6 off ((G36 κs qs) .slots)) (takes-whole 𝓤 H A W 6 ((G36 κs qs) .slots) (lease (κs .1 .1 .1 .1 .1 .1 .0) (qs .1 .1 .1 .1 .1 .1 .0)) refl tt) told) (room-gone 𝓤 H A (tyRef erased mut tyBool)) refl (λ b o. tt)) $
+      stmt (G36 κs qs) _ (t-way-lend-slice 𝓤 H A W E 𝓣 (rtF fBool) tt 256 (lit< tt, lit< tt) (λ ρ. _≡_ (lft ρ 6) (κs .1 .1 .1 .1 .1 .1 .0)) (G36 κs qs) (out 9 ((G36 κs qs) .locals)) (λ u. drop 9 ((G36 κs qs) .locals) u) (setLife 6 off ((G36 κs qs) .slots)) 9 (λ t. _∷_ (deref tyBool) t) tyBool (tyRef erased mut tyBool) 23 12 (λ u. u .1 .1 .1 .1 .1 .1 .1 .1 .1 .0 .now) (λ u. u .1 .1 .1 .1 .1 .1 .1 .1 .1 .0 .ptr) (λ T′. record { locals = setRow 9 (_, held (fz-open erased 6 (κs .1 .1 .1 .1 .1 .1 .0) (lease (κs .1 .1 .1 .1 .1 .1 .0) (qs .1 .1 .1 .1 .1 .1 .0)) (fz-lent-sl (rtF fBool) 256 12))) T′; slots = setLife 6 off ((G36 κs qs) .slots) }) (λ u γ T′ m′. set 9 (_, held (fz-open erased 6 (κs .1 .1 .1 .1 .1 .1 .0) (lease (κs .1 .1 .1 .1 .1 .1 .0) (qs .1 .1 .1 .1 .1 .1 .0)) (fz-lent-sl (rtF fBool) 256 12))) (u .1 .1 .1 .1 .1 .1 .1 .1 .1 .0, γ) T′ m′) (λ u. Unit) (pin-lease 𝓤 H A W 6 ((G36 κs qs) .slots) (κs .1 .1 .1 .1 .1 .1 .0) (qs .1 .1 .1 .1 .1 .1 .0) refl) (λ ρ told u asked. wt-mut 𝓤 H A W E erased 6 (κs .1 .1 .1 .1 .1 .1 .0) (lease (κs .1 .1 .1 .1 .1 .1 .0) (qs .1 .1 .1 .1 .1 .1 .0)) (fz-lent-sl (rtF fBool) 256 12) (tyRef (named 6) mut (tyArray tyBool 256)) tyBool (u .1 .1 .1 .1 .1 .1 .1 .1 .1 .0) (spotOf 𝓤 H E 9 .1, _) (wt-mref 𝓤 H A W E erased (κs .1 .1 .1 .1 .1 .1 .0) (Array (rtF fBool) 256) 6 (tyRef (named 6) mut (tyArray tyBool 256)) (fz-open erased 6 (κs .1 .1 .1 .1 .1 .1 .0) (lease (κs .1 .1 .1 .1 .1 .1 .0) (qs .1 .1 .1 .1 .1 .1 .0)) (fz-lent-sl (rtF fBool) 256 12)) refl (G36 κs qs) ρ u (setLife 6 off ((G36 κs qs) .slots)) 9 (λ x. x) told (as-is 𝓤 H A (mref (Array (rtF fBool) 256) (tyRef (named 6) mut (tyArray tyBool 256)) 6))) refl (setLife 6 off ((G36 κs qs) .slots)) (takes-whole 𝓤 H A W 6 ((G36 κs qs) .slots) (lease (κs .1 .1 .1 .1 .1 .1 .0) (qs .1 .1 .1 .1 .1 .1 .0)) refl tt) told) (room-gone 𝓤 H A (tyRef erased mut tyBool)) refl (λ b o. tt)) $
       stmt _ (G38 κs qs) (t-sl-aggregate 𝓤 H A W E (rtF fBool) 𝓣 (asMut (rtF fBool)) _ 23 24 12 (tyRef erased mut tyBool) (tyRef erased mut tyBool) (λ x. x) (oInt w64 _) (as-is 𝓤 H A (msptr (rtF fBool) (tyRef erased mut tyBool) 12)) (room-gone 𝓤 H A _) tt refl refl (λ b o k. tt)) $
       stmt (G38 κs qs) (G39 κs qs) (t-call-plain 𝓤 H A W 𝓣 6 K2.ps K2.r R2.Asked R2.Learnt "junction_selection::selection::select_proposals" known2 E (λ pos β. β) (G38 κs qs) (record { pos = 4; ty = tyRef (named 1) imm (tyInt w64); ref = λ x. x }, (record { pos = 5; ty = tyRef (named 2) imm (tyArray (tyInt w32) 256); ref = λ x. x }, (record { pos = 6; ty = tyRef (named 3) imm (tyArray (tyInt w32) 256); ref = λ x. x }, (record { pos = 20; ty = tyRef erased imm (tyInt w32); ref = λ x. x }, (record { pos = 22; ty = tyRef erased imm tyBool; ref = λ x. x }, (record { pos = 24; ty = tyRef erased mut tyBool; ref = λ x. x }, (vAt 3 (λ x. x), (vAt 12 (λ x. x), tt)))))))) 15 (1 ∷ 2 ∷ 3 ∷ 10 ∷ 11 ∷ 12 ∷ []) (sub-id 𝓤 H A W ((G38 κs qs) .slots)) (spares-sslice 𝓤 H A W (rtF (fInt w64)) (tyRef (named 1) imm (tyInt w64)) 1, reads-sslice 𝓤 H A W (rtF (fInt w64)) (tyRef (named 1) imm (tyInt w64)) 1, refl, (spares-sref 𝓤 H A W (Array (rtF (fInt w32)) 256) (tyRef (named 2) imm (tyArray (tyInt w32) 256)) 2, reads-sref 𝓤 H A W (Array (rtF (fInt w32)) 256) (tyRef (named 2) imm (tyArray (tyInt w32) 256)) 2, refl, (spares-sref 𝓤 H A W (Array (rtF (fInt w32)) 256) (tyRef (named 3) imm (tyArray (tyInt w32) 256)) 3, reads-sref 𝓤 H A W (Array (rtF (fInt w32)) 256) (tyRef (named 3) imm (tyArray (tyInt w32) 256)) 3, refl, (spares-sslice 𝓤 H A W (rtF (fInt w32)) (tyRef erased imm (tyInt w32)) 10, reads-sslice 𝓤 H A W (rtF (fInt w32)) (tyRef erased imm (tyInt w32)) 10, refl, (spares-sslice 𝓤 H A W (rtF fBool) (tyRef erased imm tyBool) 11, reads-sslice 𝓤 H A W (rtF fBool) (tyRef erased imm tyBool) 11, refl, (as-is 𝓤 H A (mslice (rtF fBool) (tyRef erased mut tyBool) 12), reads-mslice 𝓤 H A W (rtF fBool) (tyRef erased mut tyBool) 12, refl, ((reads-sc 𝓤 H A W (sInt w64), refl), ((reads-sc 𝓤 H A W (sInt w64), refl), tt)))))))) (room-gone 𝓤 H A tyUnit) _ refl) $
       ghosts (G39 κs qs) _ (g-room 𝓤 H A W E (G39 κs qs) 20 _ (room-sslice 𝓤 H A W (rtF (fInt w32)) (tyRef erased imm (tyInt w32)) 10)) $
