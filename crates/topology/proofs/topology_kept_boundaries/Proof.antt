@@ -1,7 +1,6 @@
--- `topology_kept_boundaries`, the call itself, meets its contract. `Der` is the derivation in steps, cut where all lists that were lent to a part are back, so that each lemma here starts
--- from a state that is written out: at the match on what `prepare` answers, before `mark_removed`, and before `finish`. What a part asks is what the parts before it
--- leave (Calling): a refused call has left the lists as `prepare` says, and of a call that is ready the records are filled, the marks are the pass's, and the rows are
--- written. Assumes nothing.
+-- `topology_kept_boundaries`, the call itself, meets its contract. What a part of it asks is what the parts before it leave (Calling): a refused call has left the lists as
+-- `prepare` says; of a call that is ready the records are filled, the marks are the pass's, and the rows are written. `Der` is the derivation in steps, cut where all lists
+-- that were lent to a part are back: at the match on what `prepare` answers, before `mark_removed`, and before `finish`. Assumes nothing.
 mod Der
 use Prim.Native.Nat.{ℕ, _*_, _/_}
 use mathlib.Core.Path.{_≡_, refl, _∙_}
@@ -28,109 +27,222 @@ use Rattle.views.proofs.AfterPartition.{ready-finishes}
 use Rattle.topology.specs.Filled.{Filled}
 use Rattle.topology.specs.Marks.{MarkedFor}
 use Rattle.topology.proofs.Calling.{no-marks, when-ready, when-refused, needed-few, is-pass, ready-fills, ready-lent, ran-over}
-use Rattle.topology.proofs.Steps.{fixed}
+use Rattle.topology.proofs.Steps.{fixed, parts}
 use Rattle.topology.proofs.topology_kept_boundaries.Statement.{statement}
 use Rattle.topology.proofs.topology_kept_boundaries.Proof.Der.{Args, close, entry, wanted, returns, from-answer-at, from-match-at, from-marks-at, from-finish-at, Γ-from-answer, Γ-from-match, Γ-from-marks}
 
--- what the call is told and lent: its map, what `prepare` leaves, and that lists are as long as those that were lent
 module _ (κs : Lfts 11) (a : Args κs) where
+  -- what is lent to be filled, by name
+  abbrev records : List Region
+  records = a .1 .1 .1 .1 .1 .1 .1 .1 .1 .1 .1 .1 .0 .now
+
+  abbrev output : List ℕ
+  output = a .1 .1 .1 .1 .1 .1 .1 .1 .1 .1 .1 .1 .1 .0 .now
+
+  -- the map, and what `prepare` leaves of the call
   abbrev M : Map
   M = mapOf (a .1 .0) (a .1 .1 .0) (a .1 .1 .1 .0 .now) (a .1 .1 .1 .1 .0 .now) (a .1 .1 .1 .1 .1 .0 .now) (a .1 .1 .1 .1 .1 .1 .0 .now)
 
   abbrev IsReady : (regions rows : ℕ) (l m q t p : List ℕ) → Type 0
   IsReady =
+      let b = a .1 .1 .1 .1 .1 .1 .1 in
       ReadyAs (a .0) (a .1 .0) (a .1 .1 .0) (a .1 .1 .1 .0 .now) (a .1 .1 .1 .1 .0 .now) (a .1 .1 .1 .1 .1 .0 .now) (a .1 .1 .1 .1 .1 .1 .0 .now)
-      (length (a .1 .1 .1 .1 .1 .1 .1 .1 .1 .1 .1 .1 .0 .now)) (length (a .1 .1 .1 .1 .1 .1 .1 .1 .1 .1 .1 .1 .1 .0 .now))
-      (a .1 .1 .1 .1 .1 .1 .1 .0 .now) (a .1 .1 .1 .1 .1 .1 .1 .1 .0 .now) (a .1 .1 .1 .1 .1 .1 .1 .1 .1 .0 .now)
-      (a .1 .1 .1 .1 .1 .1 .1 .1 .1 .1 .0 .now) (a .1 .1 .1 .1 .1 .1 .1 .1 .1 .1 .1 .0 .now)
+      (length records) (length output) (b .0 .now) (b .1 .0 .now) (b .1 .1 .0 .now) (b .1 .1 .1 .0 .now) (b .1 .1 .1 .1 .0 .now)
 
   abbrev IsPrepared : Prepared → (l m q t p : List ℕ) → Type 0
   IsPrepared =
+      let b = a .1 .1 .1 .1 .1 .1 .1 in
       PreparedAs (a .0) (a .1 .0) (a .1 .1 .0) (a .1 .1 .1 .0 .now) (a .1 .1 .1 .1 .0 .now) (a .1 .1 .1 .1 .1 .0 .now) (a .1 .1 .1 .1 .1 .1 .0 .now)
-      (length (a .1 .1 .1 .1 .1 .1 .1 .1 .1 .1 .1 .1 .0 .now)) (length (a .1 .1 .1 .1 .1 .1 .1 .1 .1 .1 .1 .1 .1 .0 .now))
-      (a .1 .1 .1 .1 .1 .1 .1 .0 .now) (a .1 .1 .1 .1 .1 .1 .1 .1 .0 .now) (a .1 .1 .1 .1 .1 .1 .1 .1 .1 .0 .now)
-      (a .1 .1 .1 .1 .1 .1 .1 .1 .1 .1 .0 .now) (a .1 .1 .1 .1 .1 .1 .1 .1 .1 .1 .1 .0 .now)
+      (length records) (length output) (b .0 .now) (b .1 .0 .now) (b .1 .1 .0 .now) (b .1 .1 .1 .0 .now) (b .1 .1 .1 .1 .0 .now)
 
-  abbrev LongLabels : List ℕ → Type 0
-  LongLabels l = length l ≡ length (a .1 .1 .1 .1 .1 .1 .1 .0 .now)
-
-  abbrev LongMasks : List ℕ → Type 0
-  LongMasks m = length m ≡ length (a .1 .1 .1 .1 .1 .1 .1 .1 .0 .now)
-
-  abbrev LongQueue : List ℕ → Type 0
-  LongQueue q = length q ≡ length (a .1 .1 .1 .1 .1 .1 .1 .1 .1 .0 .now)
-
-  abbrev LongTallies : List ℕ → Type 0
-  LongTallies t = length t ≡ length (a .1 .1 .1 .1 .1 .1 .1 .1 .1 .1 .0 .now)
-
-  abbrev LongPairs : List ℕ → Type 0
-  LongPairs p = length p ≡ length (a .1 .1 .1 .1 .1 .1 .1 .1 .1 .1 .1 .0 .now)
+  -- the five lists are as long as those that were lent
+  abbrev Long : (l m q t p : List ℕ) → Type 0
+  Long l m q t p =
+      let b = a .1 .1 .1 .1 .1 .1 .1 in
+      (length l ≡ length (b .0 .now)) × (length m ≡ length (b .1 .0 .now)) × (length q ≡ length (b .1 .1 .0 .now))
+      × (length t ≡ length (b .1 .1 .1 .0 .now)) × (length p ≡ length (b .1 .1 .1 .1 .0 .now))
 
 -- the state at the match, and that of a call that is ready between its parts
 module _ (κs : Lfts 11) (qs : Shares 11) (a : Args κs) (l m′ q t p : List ℕ) where
   abbrev at-match : Prepared → Mo (Γ-from-match κs qs)
-  at-match r′ = (tt, (a .0, (a .1 .0, (a .1 .1 .0, (a .1 .1 .1 .0, (a .1 .1 .1 .1 .0, (a .1 .1 .1 .1 .1 .0, (a .1 .1 .1 .1 .1 .1 .0,
-      (setVals l (a .1 .1 .1 .1 .1 .1 .1 .0), (setVals m′ (a .1 .1 .1 .1 .1 .1 .1 .1 .0), (setVals q (a .1 .1 .1 .1 .1 .1 .1 .1 .1 .0),
-      (setVals t (a .1 .1 .1 .1 .1 .1 .1 .1 .1 .1 .0), (setVals p (a .1 .1 .1 .1 .1 .1 .1 .1 .1 .1 .1 .0),
-      (a .1 .1 .1 .1 .1 .1 .1 .1 .1 .1 .1 .1 .0, (a .1 .1 .1 .1 .1 .1 .1 .1 .1 .1 .1 .1 .1 .0,
-      (length (a .1 .1 .1 .1 .1 .1 .1 .1 .1 .1 .1 .1 .0 .now), (length (a .1 .1 .1 .1 .1 .1 .1 .1 .1 .1 .1 .1 .1 .0 .now),
-      (r′, entry κs qs a .1 .1 .1 .1 .1 .1 .1 .1 .1 .1 .1 .1 .1 .1 .1 .1 .1 .1))))))))))))))))))
+  at-match r′ =
+      let b = a .1 .1 .1 .1 .1 .1 .1 in
+      parts tt (a .0) (a .1 .0) (a .1 .1 .0)
+      (parts (a .1 .1 .1 .0) (a .1 .1 .1 .1 .0) (a .1 .1 .1 .1 .1 .0) (a .1 .1 .1 .1 .1 .1 .0)
+      (parts (setVals l (b .0)) (setVals m′ (b .1 .0)) (setVals q (b .1 .1 .0)) (setVals t (b .1 .1 .1 .0))
+      (parts (setVals p (b .1 .1 .1 .1 .0)) (b .1 .1 .1 .1 .1 .0) (b .1 .1 .1 .1 .1 .1 .0) (length (records κs a))
+      (length (output κs a), (r′, entry κs qs a .1 .1 .1 .1 .1 .1 .1 .1 .1 .1 .1 .1 .1 .1 .1 .1 .1 .1)))))
 
   abbrev at-part : List Region → (regions rows : ℕ) → List Bool → Mo (Γ-from-marks κs qs)
-  at-part s regions rows removed = (tt, (a .0, (a .1 .0, (a .1 .1 .0, (a .1 .1 .1 .0, (a .1 .1 .1 .1 .0, (a .1 .1 .1 .1 .1 .0, (a .1 .1 .1 .1 .1 .1 .0,
-      (setVals l (a .1 .1 .1 .1 .1 .1 .1 .0), (setVals m′ (a .1 .1 .1 .1 .1 .1 .1 .1 .0), (setVals q (a .1 .1 .1 .1 .1 .1 .1 .1 .1 .0),
-      (setVals t (a .1 .1 .1 .1 .1 .1 .1 .1 .1 .1 .0), (setVals p (a .1 .1 .1 .1 .1 .1 .1 .1 .1 .1 .1 .0),
-      (setVals s (a .1 .1 .1 .1 .1 .1 .1 .1 .1 .1 .1 .1 .0), (a .1 .1 .1 .1 .1 .1 .1 .1 .1 .1 .1 .1 .1 .0,
-      (length (a .1 .1 .1 .1 .1 .1 .1 .1 .1 .1 .1 .1 .0 .now), (length (a .1 .1 .1 .1 .1 .1 .1 .1 .1 .1 .1 .1 .1 .0 .now),
-      (tt, (tt, (tt, (regions, (rows, (a .1 .0, (a .1 .1 .0 * a .1 .0, (removed,
-      entry κs qs a .1 .1 .1 .1 .1 .1 .1 .1 .1 .1 .1 .1 .1 .1 .1 .1 .1 .1 .1 .1 .1 .1 .1 .1 .1)))))))))))))))))))))))))
+  at-part s regions rows removed =
+      let b = a .1 .1 .1 .1 .1 .1 .1 in
+      parts tt (a .0) (a .1 .0) (a .1 .1 .0)
+      (parts (a .1 .1 .1 .0) (a .1 .1 .1 .1 .0) (a .1 .1 .1 .1 .1 .0) (a .1 .1 .1 .1 .1 .1 .0)
+      (parts (setVals l (b .0)) (setVals m′ (b .1 .0)) (setVals q (b .1 .1 .0)) (setVals t (b .1 .1 .1 .0))
+      (parts (setVals p (b .1 .1 .1 .1 .0)) (setVals s (b .1 .1 .1 .1 .1 .0)) (b .1 .1 .1 .1 .1 .1 .0) (length (records κs a))
+      (parts (length (output κs a)) tt tt tt (parts regions rows (a .1 .0) (a .1 .1 .0 * a .1 .0)
+      (removed, entry κs qs a .1 .1 .1 .1 .1 .1 .1 .1 .1 .1 .1 .1 .1 .1 .1 .1 .1 .1 .1 .1 .1 .1 .1 .1 .1))))))
 
 module _ (w : World) (κs : Lfts 11) (qs : Shares 11) (bs : List ℕ) (a : Args κs) (l m₁ q₁ t p : List ℕ) where
   -- what is wanted past the match
   abbrev past-match : Want (withNext (some (Γ-from-answer κs qs)) (returns κs qs))
-  past-match =
-      wantNext (Γ-from-answer κs qs) (returns κs qs)
-      (from-answer-at w κs qs bs .Φ (wanted κs qs a))
-      (wanted κs qs a)
+  past-match = wantNext (Γ-from-answer κs qs) (returns κs qs) (from-answer-at w κs qs bs .Φ (wanted κs qs a)) (wanted κs qs a)
 
-  module _ (s : List Region) (regions rows : ℕ) (R : IsReady κs a regions rows l m₁ q₁ t p) (F : Filled (M κs a) (a .1 .1 .1 .1 .1 .1 .1 .1 .1 .1 .1 .1 .0 .now) s)
-      (sl : LongLabels κs a l) (st : LongTallies κs a t) (sp : LongPairs κs a p) (ss : length s ≡ length (a .1 .1 .1 .1 .1 .1 .1 .1 .1 .1 .1 .1 .0 .now)) where
+  module _ (s : List Region) (regions rows : ℕ) (R : IsReady κs a regions rows l m₁ q₁ t p) (F : Filled (M κs a) (records κs a) s)
+      (ss : length s ≡ length (records κs a)) where
     -- from `finish` on
-    finishing : (m₂ q₂ : List ℕ) (removed : List Bool) → LongMasks κs a m₂ → LongQueue κs a q₂
+    finishing : (m₂ q₂ : List ℕ) (removed : List Bool) → Long κs a l m₂ q₂ t p
         → MarkedFor (a .0) (M κs a) (a .1 .1 .0 * a .1 .0) (length (a .1 .1 .1 .1 .0 .now) / numbersPerSpan) (a .1 .1 .1 .1 .1 .0 .now) m₁ q₁ m₂ q₂
-            (replicate maxEntries false) removed
+        (replicate maxEntries false) removed
         → from-finish-at w κs qs bs .Φ past-match (at-part κs qs a l m₂ q₂ t p s regions rows removed)
-    finishing m₂ q₂ removed sm sq K =
-        (lit< tt, λ γ₁ γ₂. (refl, λ γ₃. (refl, λ γ₄. (refl, (λ κ. ready-finishes R sm sq, λ e. (refl, λ l₁. (refl, λ l₂. (refl, λ l₃. (
-            (tt, (tt, (tt, (refl, (refl, (refl, (refl, (fixed sl, (fixed (e .4 .1 .1 .1 .1 .0 ∙ sm), (fixed (e .4 .1 .1 .1 .1 .1 .0 ∙ sq),
-            (fixed st, (fixed sp, (fixed ss, (fixed l₃, tt)))))))))))))), ran-over R F K refl refl (e .5))))))))))
+    finishing m₂ q₂ removed long K = (
+      lit< tt,
+      λ γ₁ γ₂. (
+        refl,
+        λ γ₃. (
+          refl,
+          λ γ₄. (
+            refl,
+            (
+              λ κ. ready-finishes R (long .1) (long .2),
+              λ e. (
+                refl,
+                λ l₁. (
+                  refl,
+                  λ l₂. (
+                    refl,
+                    λ l₃. (
+                      parts tt tt tt refl
+                          (parts refl refl refl (fixed (long .0))
+                          (parts (fixed (e .4 .1 .1 .1 .1 .0 ∙ long .1)) (fixed (e .4 .1 .1 .1 .1 .1 .0 ∙ long .2)) (fixed (long .3)) (fixed (long .4))
+                          (fixed ss, (fixed l₃, tt)))),
+                      ran-over R F K refl refl (e .5),
+                    ),
+                  ),
+                ),
+              ),
+            ),
+          ),
+        ),
+      ),
+    )
 
     -- from `mark_removed` on
-    marking : LongMasks κs a m₁ → LongQueue κs a q₁
-        → from-marks-at w κs qs bs .Φ past-match (at-part κs qs a l m₁ q₁ t p s regions rows (replicate maxEntries false))
-    marking sm sq =
-        λ γ₁. (refl, λ γ₂. (refl, (lit< tt, λ γ₃. (refl, λ γ₄. (refl, λ γ₅. (refl, λ γ₆. (refl, λ γ₇. (
-            λ κ. ((_, ready-lent R F sm sq), (is-pass R, no-marks)), λ k. (refl, λ l₇. (refl, λ l₈. (refl,
-            finishing
-            (k .2 .1 .1 .1 .1 .1 .1 .1 .1 .1 .1 .1 .1 .0) (k .2 .1 .1 .1 .1 .1 .1 .1 .1 .1 .1 .1 .1 .1 .0) (k .2 .1 .1 .1 .1 .1 .1 .1 .1 .1 .1 .1 .1 .1 .1 .0)
-            (k .4 .1 .1 .1 .1 .1 .1 .1 .1 .1 .1 .1 .1 .0 ∙ sm) (k .4 .1 .1 .1 .1 .1 .1 .1 .1 .1 .1 .1 .1 .1 .0 ∙ sq) (k .5 _ (ready-lent R F sm sq)))))))))))))
+    marking : Long κs a l m₁ q₁ t p → from-marks-at w κs qs bs .Φ past-match (at-part κs qs a l m₁ q₁ t p s regions rows (replicate maxEntries false))
+    marking long =
+        let lent = ready-lent R F (long .1) (long .2) in
+        λ γ₁. (
+          refl,
+          λ γ₂. (
+            refl,
+            (
+              lit< tt,
+              λ γ₃. (
+                refl,
+                λ γ₄. (
+                  refl,
+                  λ γ₅. (
+                    refl,
+                    λ γ₆. (
+                      refl,
+                      λ γ₇. (
+                        λ κ. ((_, lent), (is-pass R, no-marks)),
+                        λ k. (
+                          refl,
+                          λ l₇. (
+                            refl,
+                            λ l₈. (
+                              refl,
+                              let last = k .2 .1 .1 .1 .1 .1 .1 .1 .1 .1 .1 .1 .1 in
+                                  let same = k .4 .1 .1 .1 .1 .1 .1 .1 .1 .1 .1 .1 .1 in
+                                  finishing (last .0) (last .1 .0) (last .1 .1 .0) (long .0, same .0 ∙ long .1, same .1 .0 ∙ long .2, long .3, long .4) (k .5 _ lent),
+                            ),
+                          ),
+                        ),
+                      ),
+                    ),
+                  ),
+                ),
+              ),
+            ),
+          ),
+        )
 
   -- from the match on
-  matching : (r′ : Prepared) → IsPrepared κs a r′ l m₁ q₁ t p → LongLabels κs a l → LongMasks κs a m₁ → LongQueue κs a q₁ → LongTallies κs a t → LongPairs κs a p
+  matching : (r′ : Prepared) → IsPrepared κs a r′ l m₁ q₁ t p → Long κs a l m₁ q₁ t p
       → from-match-at w κs qs bs .Φ past-match (at-match κs qs a l m₁ q₁ t p r′)
-  matching r′ P sl sm sq st sp = (
-      λ one. (one, λ v told. (
-          (tt, (tt, (tt, (refl, (refl, (refl, (refl, (fixed sl, (fixed sm, (fixed sq, (fixed st, (fixed sp, (refl, (refl, tt)))))))))))))),
-          when-refused _ _ P (v .1) refl refl)),
-      (λ one. (one, λ v told. let R = when-ready P (v .1) in
-          (record { fits = omega (arith, needed-few R) }, λ γ₁. (refl, λ γ₂. (refl, λ γ₃. (refl, (
-              λ κ. (_, ready-fills R sq), λ f. (refl, λ ss. marking (f .2 .0) _ _ R (f .5 _ (ready-fills R sq)) sl st sp ss sm sq))))))),
+  matching r′ P long = (
+    λ one. (
+      one,
+      λ v told. (
+        parts tt tt tt refl
+            (parts refl refl refl (fixed (long .0))
+            (parts (fixed (long .1)) (fixed (long .2)) (fixed (long .3)) (fixed (long .4)) (refl, (refl, tt)))),
+        when-refused _ _ P (v .1) refl refl,
+      ),
+    ),
+    (
+      λ one. (
+        one,
+        λ v told.
+            let R = when-ready P (v .1) in
+            let fills = ready-fills R (long .2) in (
+              record { fits = omega (arith, needed-few R) },
+              λ γ₁. (
+                refl,
+                λ γ₂. (
+                  refl,
+                  λ γ₃. (
+                    refl,
+                    (
+                      λ κ. (_, fills),
+                      λ f.
+                          (refl, λ ss. marking (f .2 .0) _ _ R (f .5 _ fills) ss long),
+                    ),
+                  ),
+                ),
+              ),
+            ),
+      ),
       each-below 2 (λ j. (Unit {0} × (OneOf (0 ∷ []) j → ⊥)) × (OneOf (1 ∷ []) j → ⊥) → ⊥) (λ n. n .1 refl, (λ n. n .0 .1 refl, tt))
-          (tagOf prepared.the-type r′) (tag-small prepared.the-type r′)))
+          (tagOf prepared.the-type r′) (tag-small prepared.the-type r′),
+    ),
+  )
 
 pub topology-kept-boundaries-spec : {M : Type 1} → statement M
-topology-kept-boundaries-spec = close (λ w κs qs a good pre bs.
-        λ γ₁. (refl, λ γ₂. (refl, λ γ₃. (refl, λ γ₄. (refl, λ γ₅. (refl, (λ κ. tt, λ p. (refl, λ l₁. (refl, λ l₂. (refl, λ l₃. (refl, λ l₄. (refl, λ l₅.
-        matching w κs qs bs a
-        (p .2 .1 .1 .1 .1 .1 .1 .1 .1 .1 .0) (p .2 .1 .1 .1 .1 .1 .1 .1 .1 .1 .1 .0) (p .2 .1 .1 .1 .1 .1 .1 .1 .1 .1 .1 .1 .0)
-        (p .2 .1 .1 .1 .1 .1 .1 .1 .1 .1 .1 .1 .1 .0) (p .2 .1 .1 .1 .1 .1 .1 .1 .1 .1 .1 .1 .1 .1 .0) (p .1) (p .5) l₁ l₂ l₃ l₄ l₅))))))))))))
+topology-kept-boundaries-spec = close (λ w κs qs a good pre bs. λ γ₁. (
+  refl,
+  λ γ₂. (
+    refl,
+    λ γ₃. (
+      refl,
+      λ γ₄. (
+        refl,
+        λ γ₅. (
+          refl,
+          (
+            λ κ. tt,
+            λ p. (
+              refl,
+              λ l₁. (
+                refl,
+                λ l₂. (
+                  refl,
+                  λ l₃. (
+                    refl,
+                    λ l₄. (
+                      refl,
+                      λ l₅.
+                          let last = p .2 .1 .1 .1 .1 .1 .1 .1 .1 .1 in
+                          matching w κs qs bs a (last .0) (last .1 .0) (last .1 .1 .0) (last .1 .1 .1 .0) (last .1 .1 .1 .1 .0) (p .1) (p .5) (l₁, l₂, l₃, l₄, l₅),
+                    ),
+                  ),
+                ),
+              ),
+            ),
+          ),
+        ),
+      ),
+    ),
+  ),
+))

@@ -50,7 +50,7 @@ loop-again c =
       omega arith,
       length-set (turn .numbers) (start .at + turn .i) (getD (n .result) (turn .i) 0) ∙ turn .inv .1,
       ap (λ l. set l (start .at + turn .i) (getD (n .result) (turn .i) 0)) (turn .inv .2)
-      ∙ number-more (start .numbers .now) (start .at) (n .result) (turn .i) (omega (arith, ap length (n .ensures))),
+          ∙ number-more (start .numbers .now) (start .at) (n .result) (turn .i) (omega (arith, ap length (n .ensures))),
     )
 
 same-length : tie.Need-same-length Inv-loop μ-loop

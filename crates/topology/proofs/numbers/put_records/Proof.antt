@@ -61,8 +61,8 @@ loop-again c =
       omega arith,
       search needs,
       put .ensures
-      ∙ ap (λ l. sets l (11 * turn .i) (recordNumbers (recordOf (getD (start .args .t1) (turn .i) _)))) (turn .inv .2)
-      ∙ record-more (start .args .t1) (start .args .numbers .now) (turn .i) _ inside (omega (arith, counted .least2 .ensures)),
+          ∙ ap (λ l. sets l (11 * turn .i) (recordNumbers (recordOf (getD (start .args .t1) (turn .i) _)))) (turn .inv .2)
+          ∙ record-more (start .args .t1) (start .args .numbers .now) (turn .i) _ inside (omega (arith, counted .least2 .ensures)),
     )
 
 same-length : tie.Need-same-length Inv-loop μ-loop
