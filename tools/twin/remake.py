@@ -32,7 +32,7 @@ def listed():
             continue
         word, *rest = line.split()
         if word == 'crate':
-            of = crates[rest[0]] = {'records': [], 'base': [], 'made': [], 'closes': [], 'cut': {}}
+            of = crates[rest[0]] = {'records': [], 'base': [], 'made': [], 'cut': {}}
         elif word == 'cut':
             of['cut'][rest[0]] = rest[1:]
         else:
@@ -49,7 +49,7 @@ def derivation(derived, function, cuts):
     return close(thin(text), tie)
 
 
-def seen(derived, closing):
+def seen(derived):
     """Seen: what a derivation cites of each function over the slice."""
     proofs = f'Rattle.{derived.crate}.proofs'
     files, below = {}, {}
@@ -60,7 +60,7 @@ def seen(derived, closing):
         below['/'.join(names)] = {'Kinds', 'Reads'}
         kinds = Kinds(derived.text(f, 'Kinds'), proofs)
         files[f'Seen/{f}/Kinds.antt'] = kinds.text()
-        files[f'Seen/{f}/Reads.antt'] = reads(derived.text(f, 'Reads'), kinds.count, f, proofs, f in closing)
+        files[f'Seen/{f}/Reads.antt'] = reads(derived.text(f, 'Reads'), kinds.count, f, proofs)
     for module, names in below.items():
         files[f'{module}.antt'] = ''.join(f'pub mod {n}\n' for n in sorted(names))
     return files
@@ -72,7 +72,7 @@ def made(crate, of):
     texts = {f'{f}/Proof/Der.antt': derivation(derived, f, of['cut'].get(f)) for f in derived.walked}
     texts, rules = shared(texts, f'Rattle.{crate}.proofs.Rules')
     texts['Rules.antt'] = f'{HEADER}\n{rules}'
-    texts.update(seen(derived, of['closes']))
+    texts.update(seen(derived))
     work = f'{WORK}/derived/{crate}'
     shutil.rmtree(work, ignore_errors=True)
     for path, text in texts.items():

@@ -71,7 +71,7 @@ class Kinds:
         )
 
 
-def reads(text, count, function, proofs, closing):
+def reads(text, count, function, proofs):
     """F's contract. Its `requires` and its `ensures` have at most two clauses, each a fact."""
 
     def reading(what):
@@ -81,10 +81,9 @@ def reads(text, count, function, proofs, closing):
         raise ValueError(f'{function}: a contract that Seen does not write')
     f = module_of(function)
     given = '(w .𝓤) (w .H) (w .𝓖 .A) (w .𝓜 .mem) (w .𝓡 .run) κs a'
-    more = WRITTEN if closing else ''
     return f'''{HEADER}
 use mathlib.Core.Path.{{refl}}
-{more}use borrow.Fn.Kinds.{{In, Out}}
+use borrow.Fn.Kinds.{{In, Out}}
 use borrow.Fn.Picked.{{KnownAs}}
 use borrow.Fn.Read.{{read-join}}
 use {proofs}.Contracts as contracts
@@ -112,58 +111,4 @@ Learnt = contracts.Learnt the-contract
 
 pub known : KnownAs {count} ps r (Unit {{0}}) (the-contract .requires) (the-contract .ensures) Asked Learnt
 known = contracts.known the-contract
-''' + (written(count) if closing else '')
-
-
-def written(count):
-    """The parts of the contract by name, for a proof that closes by `borrow.Fn.Written` itself."""
-    sig = f'(S {count} ps r [] 0)'
-    ended = f'(endedOf {count} ps r)'
-    return f'''
-abbrev pub Ghost : Type 0
-Ghost = Unit {{0}}
-
-abbrev pub Pre : In {count} ps
-Pre = contracts.Pre the-contract
-
-abbrev pub Post : Out {count} ps r
-Post = contracts.Post the-contract
-
-module _ (κs : Lfts {count}) where
-  abbrev pub requires : ArgsD {sig} κs → Ghost → (w : World) → Pr w
-  requires = the-contract .requires κs
-
-  abbrev pub ensures : ArgsD {sig} κs → Ghost → ResD {sig} κs → AtExit {ended} κs → (w : World) → Pr w
-  ensures = the-contract .ensures κs
-
-  abbrev pub Pinned : ArgsD {sig} κs → (w : World) → Type 1
-  Pinned = no-pin {sig} κs
-
-  abbrev pub Owned : ResD {sig} κs → AtExit {ended} κs → (w : World) → Type 1
-  Owned = no-own {ended} κs
-
-  abbrev pub owns : (w : World) → OwnOf {ended} (stays ps) κs w (λ z e. Owned z e w)
-  owns w = no-owns {ended} (stays ps) κs w
-
-  abbrev pub pre-read : (a : ArgsD {sig} κs) (g : Ghost) → Read (In′ {sig} κs a) no-know (requires a g)
-  pre-read = the-contract .pre-read κs
-
-  abbrev pub post-read : (a : ArgsD {sig} κs) (g : Ghost) (z : ResD {sig} κs) (e : AtExit {ended} κs) → Read (Base {count} ps r (λ κs. Pinned) κs a) (Owned z e) (ensures a g z e)
-  post-read = the-contract .post-read κs
-
-pub passes : (w : World) → Passes {count} ps r Ghost requires ensures pre-read Pinned Owned post-read w
-passes w κs a g z ws fit p q = top (w .𝓤) (all∗ w (pre-read κs a g .held w))
-'''
-
-
-WRITTEN = '''use mathlib.Core.List.{[]}
-use contract.Lifetimes.{Lfts}
-use contract.Monad.{top}
-use denote.Triple.Clauses.{AtExit}
-use borrow.Fn.Function.{S}
-use borrow.Fn.Kinds.{endedOf, stays}
-use borrow.Fn.Learn.{no-pin, no-own, no-owns, OwnOf}
-use borrow.Fn.Read.{Read, no-know, all∗}
-use borrow.Fn.World.{World, Pr, ArgsD, ResD, In as In′}
-use borrow.Fn.Written.{Base, Passes}
 '''
