@@ -18,7 +18,7 @@ use Rattle.context.specs.Records.{recordOf}
 use Rattle.topology.specs.declared.TopologyAnswer.{TopologyAnswer}
 use Rattle.topology.specs.Answers.{exported, RanOver, recordsHere}
 use Rattle.topology.proofs.Answered.{first-empty, lent-long, ran-here}
-use Rattle.topology.proofs.Steps.{_▹_, fixed, parts}
+use Rattle.topology.proofs.Steps.{same, fixed, parts}
 use Rattle.topology.proofs.here.kept_boundaries_here.Statement.{statement}
 use Rattle.topology.proofs.here.kept_boundaries_here.Proof.Der.{Args, close, entry, wanted, from-put-at, Γ-from-put}
 
@@ -49,27 +49,43 @@ module _ (w : World) (κs : Lfts 11) (qs : Shares 11) (bs : List ℕ) (a : Args 
     (sp : length p ≡ length (a .1 .1 .1 .1 .1 .1 .1 .1 .1 .1 .1 .0 .now)) (so : length o ≡ length (a .1 .1 .1 .1 .1 .1 .1 .1 .1 .1 .1 .1 .1 .0 .now))
     (ran : Ran κs a s b l m′ q t p s′ o) where
   putting : from-put-at w κs qs bs .Φ (wanted κs qs a) (at-put κs a qs l m′ q t p o n (s′ ++ rest) b)
-  putting =
-      λ γ₁. refl ▹ (λ κ. tt) ▹
-      λ e. refl ▹ λ l₁. (λ κ. tt) ▹
-      λ c.
-      parts tt tt tt refl
-      (parts refl refl refl (fixed sl)
-      (parts (fixed sm) (fixed sq) (fixed st) (fixed sp)
-      (tt, (fixed so, (fixed l₁, tt))))) ▹
-      ran-here (a .1 .1 .1 .1 .1 .1 .1 .1 .1 .1 .1 .1 .0) rest few ran empty long (e .5) (c .5)
+  putting = λ γ₁. same (
+    λ κ. tt,
+    λ e. same λ l₁. (
+      λ κ. tt,
+      λ c. (
+        parts tt tt tt refl
+            (parts refl refl refl (fixed sl)
+            (parts (fixed sm) (fixed sq) (fixed st) (fixed sp)
+            (tt, (fixed so, (fixed l₁, tt))))),
+        ran-here (a .1 .1 .1 .1 .1 .1 .1 .1 .1 .1 .1 .1 .0) rest few ran empty long (e .5) (c .5),
+      ),
+    ),
+  )
 
 pub kept-boundaries-here-spec : {M : Type 1} → statement M
-kept-boundaries-here-spec = close (λ w κs qs a good pre bs. (λ κ. tt) ▹
-    λ few. (λ κ. tt) ▹
+kept-boundaries-here-spec = close (λ w κs qs a good pre bs. (
+  λ κ. tt,
+  λ few. (
+    λ κ. tt,
     λ all.
-    let room = a .1 .1 .1 .1 .1 .1 .1 .1 .1 .1 .1 .1 .0 in
-    let lent = lent-long room (all .1) (few .5) (all .5) in
-    λ γ₁. refl ▹ λ γ₂. refl ▹ λ γ₃. refl ▹ λ γ₄. refl ▹ λ γ₅. refl ▹ (omega (arith, few .5, all .3)) ▹
-    λ γ₆. ap (vint w64) lent ▹ λ γ₇. refl ▹ (λ κ. tt) ▹
-    λ c. refl ▹ λ l₁. refl ▹ λ l₂. refl ▹ λ l₃. refl ▹ λ l₄. refl ▹ λ l₅. refl ▹ λ l₆. refl ▹ λ l₇.
-    let last = c .2 .1 .1 .1 .1 .1 .1 .1 in
-    let left = last .1 .1 .1 .1 .1 .0 in
-    let long = c .4 .1 .1 .1 .1 .1 .1 .1 .1 .1 .1 .1 .1 .0 ∙ sym lent in
-    putting w κs qs bs a (last .0) (last .1 .0) (last .1 .1 .0) (last .1 .1 .1 .0) (last .1 .1 .1 .1 .0) (last .1 .1 .1 .1 .1 .1 .0) (few .1)
-    _ left (drop (few .1) (all .1)) (c .1) (few .5) (first-empty room (all .1) (few .5) (all .5)) long l₁ l₂ l₃ l₄ l₅ l₇ (c .5))
+        let room = a .1 .1 .1 .1 .1 .1 .1 .1 .1 .1 .1 .1 .0 in
+        let lent = lent-long room (all .1) (few .5) (all .5) in
+        λ γ₁. same λ γ₂. same λ γ₃. same λ γ₄. same λ γ₅. same (
+          omega (arith, few .5, all .3),
+          λ γ₆. (
+            ap (vint w64) lent,
+            λ γ₇. same (
+              λ κ. tt,
+              λ c.
+                  same λ l₁. same λ l₂. same λ l₃. same λ l₄. same λ l₅. same λ l₆. same λ l₇.
+                  let last = c .2 .1 .1 .1 .1 .1 .1 .1 in
+                  let left = last .1 .1 .1 .1 .1 .0 in
+                  let long = c .4 .1 .1 .1 .1 .1 .1 .1 .1 .1 .1 .1 .1 .0 ∙ sym lent in
+                  putting w κs qs bs a (last .0) (last .1 .0) (last .1 .1 .0) (last .1 .1 .1 .0) (last .1 .1 .1 .1 .0) (last .1 .1 .1 .1 .1 .1 .0) (few .1)
+                  _ left (drop (few .1) (all .1)) (c .1) (few .5) (first-empty room (all .1) (few .5) (all .5)) long l₁ l₂ l₃ l₄ l₅ l₇ (c .5),
+            ),
+          ),
+        ),
+  ),
+))

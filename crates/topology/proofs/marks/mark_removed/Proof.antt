@@ -19,7 +19,7 @@ use Rattle.definitions.specs.Limits.{numbersPerBoundary}
 use Rattle.definitions.specs.Grid.{Map}
 use Rattle.views.specs.Viewed.{Partitioned, Viewed}
 use Rattle.topology.proofs.Marking.{unmarked-lent, marks-long, counts-long, lent-shows, marked-lent}
-use Rattle.topology.proofs.Steps.{fixed, parts, _▹_}
+use Rattle.topology.proofs.Steps.{fixed, parts}
 use Rattle.topology.proofs.marks.mark_removed.Statement.{statement}
 use Rattle.topology.proofs.marks.mark_removed.Proof.Der.{Args, Requires, close, entry, wanted, after-test-at, after-view-at, Γ-after-view}
 
@@ -69,35 +69,81 @@ module _ (w : World) (κs : Lfts 9) (qs : Shares 9) (bs : List ℕ) (a : Args κ
       marking same-masks same-queue viewed =
           let L = pre .0 .1 in
           let seen = viewed _ (L .partitioned) in
-          λ γ₆ γ₇ γ₈. marks-long (pre .0 .0) L same seen ▹
-          λ γ₉. ap (vint w64) (sym (length-take-le _ _ (marks-long (pre .0 .0) L same seen))) ▹ counts-long (pre .0 .0) L same seen ▹
-          λ γ₁₀. ap (vint w64) (sym (length-take-le _ _ (counts-long (pre .0 .0) L same seen))) ▹
-          λ γ₁₁. (λ κ. ((_, lent-shows (pre .0 .0) L same seen), pre .1)) ▹
-          λ marked. refl ▹
-          λ l₃. refl ▹
-          λ l₄. refl ▹
-          parts tt refl tt tt (parts refl refl tt tt (parts tt refl refl refl (fixed (l₃ .1 ∙ same-masks), (fixed (l₄ .1 ∙ same-queue), (refl, tt))))) ▹
-          λ M L.
-          let lists = marked .2 .1 .1 .1 .1 .1 .1 .1 .1 .1 .1 in
-          let shown = viewed M (L .partitioned) in
-          marked-lent M L same shown (lists .0) (lists .1 .0) (l₃ .0) (l₄ .0) (marked .5 _ (lent-shows M L same shown))
+          λ γ₆ γ₇ γ₈. (
+            marks-long (pre .0 .0) L same seen,
+            λ γ₉. (
+              ap (vint w64) (sym (length-take-le _ _ (marks-long (pre .0 .0) L same seen))),
+              (
+                counts-long (pre .0 .0) L same seen,
+                λ γ₁₀. (
+                  ap (vint w64) (sym (length-take-le _ _ (counts-long (pre .0 .0) L same seen))),
+                  λ γ₁₁. (
+                    λ κ. ((_, lent-shows (pre .0 .0) L same seen), pre .1),
+                    λ marked. (
+                      refl,
+                      λ l₃. (
+                        refl,
+                        λ l₄. (
+                          refl,
+                          (
+                            parts tt refl tt tt (parts refl refl tt tt (parts tt refl refl refl (
+                              fixed (l₃ .1 ∙ same-masks),
+                              (fixed (l₄ .1 ∙ same-queue), (refl, tt)),
+                            ))),
+                            λ M L.
+                                let lists = marked .2 .1 .1 .1 .1 .1 .1 .1 .1 .1 .1 in
+                                let shown = viewed M (L .partitioned) in
+                                marked-lent M L same shown (lists .0) (lists .1 .0) (l₃ .0) (l₄ .0) (marked .5 _ (lent-shows M L same shown)),
+                          ),
+                        ),
+                      ),
+                    ),
+                  ),
+                ),
+              ),
+            ),
+          )
 
     -- from `view` on
     viewing : after-test-at w κs qs bs .Φ (wanted κs qs a) (entry κs qs a)
-    viewing =
-        λ γ₁. refl ▹
-        λ γ₂. refl ▹
-        λ γ₃ γ₄ γ₅. (λ κ. ((_, pre .0 .1 .partitioned), (refl, refl, refl))) ▹
-        λ v. refl ▹
-        λ l₁. refl ▹
-        λ l₂. refl ▹ refl ▹ refl ▹
-        let lists = v .2 .1 .1 .1 .1 .1 .1 .1 .1 .1 in
-        marking (lists .0) (lists .1 .0) (lists .1 .1 .0) (lists .1 .1 .1 .0) (lists .1 .1 .1 .1 .0) l₁ l₂ (v .5)
+    viewing = λ γ₁. (
+      refl,
+      λ γ₂. (
+        refl,
+        λ γ₃ γ₄ γ₅. (
+          λ κ. ((_, pre .0 .1 .partitioned), (refl, refl, refl)),
+          λ v. (
+            refl,
+            λ l₁. (
+              refl,
+              λ l₂. (
+                refl,
+                (
+                  refl,
+                  (
+                    refl,
+                    let lists = v .2 .1 .1 .1 .1 .1 .1 .1 .1 .1 in
+                        marking (lists .0) (lists .1 .0) (lists .1 .1 .0) (lists .1 .1 .1 .0) (lists .1 .1 .1 .1 .0) l₁ l₂ (v .5),
+                  ),
+                ),
+              ),
+            ),
+          ),
+        ),
+      ),
+    )
 
 pub mark-removed-spec : {M : Type 1} → statement M
-mark-removed-spec = close (λ w κs qs a good pre bs.
-    lit< tt ▹ tt ▹ (
-      λ differ. parts tt refl tt tt (parts refl refl tt tt (parts tt refl refl refl (refl, (refl, (refl, tt))))) ▹
-          λ M L. unmarked-lent M L (eqb-false _ _ (not-true _ differ)),
+mark-removed-spec = close (λ w κs qs a good pre bs. (
+  lit< tt,
+  (
+    tt,
+    (
+      λ differ. (
+        parts tt refl tt tt (parts refl refl tt tt (parts tt refl refl refl (refl, (refl, (refl, tt))))),
+        λ M L. unmarked-lent M L (eqb-false _ _ (not-true _ differ)),
+      ),
       λ same. viewing w κs qs bs a pre (eqb-true _ _ (not-false _ same)),
-    ))
+    ),
+  ),
+))
