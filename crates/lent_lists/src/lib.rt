@@ -15,7 +15,7 @@ pub const CASES: u64 = 65536;
 
 // ---- what a list held before the call
 
-// Entry i: no number of an answer on maps of so few cells is as large.
+// Entry i: no number of an answer on maps of so few cells is one of these.
 fn held_before(i: usize) -> u64
     ensures { λ r. ⌜ (r ≡ heldAt i) × (r < 65536) ⌝ }
 {
