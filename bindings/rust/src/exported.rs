@@ -118,6 +118,18 @@ unsafe extern "C" {
         output_length: usize,
     ) -> Answer;
 
+    pub fn jenwyllt_maps_of_day(
+        terms: *const u64,
+        terms_length: usize,
+        records: *const u64,
+        records_length: usize,
+        year: u64,
+        month: u64,
+        day: u64,
+        output: *mut u64,
+        output_length: usize,
+    ) -> Answer;
+
     pub safe fn jenwyllt_hypotenuse(x: f64, y: f64) -> Outcome;
 
     pub safe fn jenwyllt_hypot(x: f64, y: f64) -> f64;
