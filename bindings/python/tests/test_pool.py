@@ -74,6 +74,8 @@ class Command(Trial):
         self.answers('3 no record\n7 record 5 of 2031-05-18, superseding 4\n', 'pool', terms, '-', '2031-06-01', data=records.read_bytes())
         found = json.loads(run('pool', '--json', terms, records, '2031-05-06').stdout)
         self.assertEqual(found['maps'], [{'map': 3, 'record': None}, {'map': 7, 'record': {'own': 1, 'map': 7, 'day': 11400, 'superseded': 0}}])
+        bad = json.loads(run('pool', '--json', terms, records, '2100-01-01').stdout)
+        self.assertEqual((bad['refused']['number'], bad['file']), (18, '2100-01-01'))
         done = run('pool', terms, records, '2032-01-01')
         self.assertEqual((done.returncode, done.stdout, done.stderr.decode()), (0, b'', 'jenwyllt: 2032-01-01: no map is in the pool\n'))
 

@@ -2,13 +2,13 @@
 from __future__ import annotations
 
 import argparse
-import json
 
 from .. import accession_text, pool_text
 from ..pool import maps_of_day
 from ..refusal import Cause, Refusal
 from ..sheet_text import Wrong
 from . import _streams
+from .keptlist import as_json, refuse
 from .line import text
 
 NAME = 'pool'
@@ -27,15 +27,8 @@ def add_arguments(parser: argparse.ArgumentParser) -> None:
     parser.add_argument('--json', action='store_true', help='print the entries as a line of JSON')
 
 
-def read(name: str, parse):
-    try:
-        return parse(text(name))
-    except Wrong as wrong:
-        raise _streams.Refused(f'{_streams.shown(name)}: {wrong}') from wrong
-
-
-def refused(args: argparse.Namespace, refusal: Refusal, terms, term_lines, records, record_lines) -> Exception:
-    """the refusal with its file, line and cause"""
+def explained(args: argparse.Namespace, refusal: Refusal, terms, term_lines, records, record_lines) -> tuple[str | None, Refusal]:
+    """the file at fault, or none where it is the day asked for, and the refusal with its line and cause in words"""
     place = refusal.place
     if refusal.number == Cause.ACCESSION:
         name, words = args.records, f'line {record_lines[place]}: record {records[place].own}: {accession_text.broken_words(records, place)}'
@@ -43,8 +36,14 @@ def refused(args: argparse.Namespace, refusal: Refusal, terms, term_lines, recor
         name, words = args.terms, f'line {term_lines[place]}: {pool_text.fault_words(terms, term_lines, place)}'
     else:
         name, words = None, f'{args.date} is no day from 2000-01-01 to 2099-12-31'
-    said = str(Refusal(refusal.number, place, words))
-    return _streams.Refused(said if name is None else f'{_streams.shown(name)}: {said}')
+    return name, Refusal(refusal.number, place, words)
+
+
+def refused(args: argparse.Namespace, name: str | None, wrong: Refusal) -> int:
+    """a refusal of the day asked for stands behind no file"""
+    if name is None and not args.json:
+        raise _streams.Refused(str(wrong))
+    return refuse(args.date if name is None else name, wrong, True, args.json)
 
 
 def run(args: argparse.Namespace) -> int:
@@ -53,15 +52,20 @@ def run(args: argparse.Namespace) -> int:
         raise _streams.Failed(f'{args.date!r} is no date as 2031-05-07')
     if args.terms == args.records == '-':
         raise _streams.Failed('terms and records cannot both be read from standard input')
-    terms, term_lines = read(args.terms, pool_text.terms_of)
-    records, record_lines = read(args.records, accession_text.records_of)
+    name = args.terms
+    try:
+        terms, term_lines = pool_text.terms_of(text(name))
+        name = args.records
+        records, record_lines = accession_text.records_of(text(name))
+    except Wrong as wrong:
+        return refuse(name, wrong, True, args.json)
     try:
         entries = maps_of_day(terms, records, asked)
     except Refusal as refusal:
-        raise refused(args, refusal, terms, term_lines, records, record_lines) from refusal
+        return refused(args, *explained(args, refusal, terms, term_lines, records, record_lines))
     if args.json:
         listed = [{'map': entry.map, 'record': entry.record and entry.record._asdict()} for entry in entries]
-        _streams.write('-', json.dumps({'date': args.date, 'maps': listed}) + '\n')
+        _streams.write('-', as_json(args.terms, True, {'date': args.date, 'maps': listed}))
     for entry in [] if args.json else entries:
         record = entry.record
         said = f'record {record.own} of {pool_text.of_number(record.day)}' if record else 'no record'
