@@ -1,5 +1,6 @@
 """The kept boundaries of a map by the proved library, for Python: standard library only, over libjenwyllt.so."""
 from ._library import NotBuilt
+from .dominance import Dominance, Share, dominance
 from .hypotenuse import hypot, hypotenuse
 from .kept import Kept, Region, Row, kept_boundaries
 from .partition import Pair, Partition, Tally, partition
@@ -8,5 +9,5 @@ from .sheet import Boundary, Kind, Point, Sheet, Span, read_sheet, sheet_bytes
 
 __version__ = '0.2.0'
 __all__ = [
-    'Boundary', 'Cause', 'Kept', 'Kind', 'NotBuilt', 'Pair', 'Partition', 'Point', 'Refusal', 'Region', 'Row', 'Sheet', 'Span', 'Tally', 'hypot', 'hypotenuse',
-    'kept_boundaries', 'partition', 'read_sheet', 'sheet_bytes']
+    'Boundary', 'Cause', 'Dominance', 'Kept', 'Kind', 'NotBuilt', 'Pair', 'Partition', 'Point', 'Refusal', 'Region', 'Row', 'Share', 'Sheet', 'Span', 'Tally',
+    'dominance', 'hypot', 'hypotenuse', 'kept_boundaries', 'partition', 'read_sheet', 'sheet_bytes']

@@ -1,5 +1,6 @@
 //! Safe calls of the library `jenwyllt`, which is proved to meet its definitions for every input: the regions of a map cut by
-//! spans, the boundaries that a pass keeps, the reader of sheets, and the correctly rounded hypotenuse.
+//! spans, the boundaries that a pass keeps, the reader of sheets, the share behind dominance, and the correctly rounded
+//! hypotenuse.
 //!
 //! [`partition`], [`kept_boundaries`] and [`read_sheet`] make the lists that the library fills. [`partition_into`],
 //! [`kept_boundaries_into`] and [`read_sheet_into`] take lists of numbers that the caller lends and allocate nothing. A list of any
@@ -10,6 +11,7 @@
 
 #![deny(unsafe_op_in_unsafe_fn, missing_docs)]
 
+mod dominance;
 mod entries;
 mod exported;
 mod hypotenuse;
@@ -18,6 +20,7 @@ mod partition;
 mod refusal;
 mod sheet;
 
+pub use dominance::{Dominance, Share, dominance};
 pub use entries::{Boundary, Pair, Point, Row, Span, Tally};
 pub use hypotenuse::{hypot, hypotenuse};
 pub use kept::{KeptBoundaries, KeptLists, Map, Region, kept_boundaries, kept_boundaries_into};
