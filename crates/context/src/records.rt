@@ -148,7 +148,8 @@ impl Region {
         requires { ⌜ Counted (recordOf self) ⌝ }
         ensures { λ r. ⌜ dominanceForm r ≡ dominance (recordOf self) ⌝ }
     {
-        dominance_of(self.cells, self.elevation_counts)
+        let counts = self.elevation_counts;
+        dominance_of(self.cells, counts)
     }
 
     // Exactly one bit set in the joined elevation mask.

@@ -6,7 +6,7 @@ use Rattle.context.proofs.Region.dominance.Statement.{statement}
 use Rattle.context.proofs.Region.dominance.Tie as tie
 
 dominance-of-requires : tie.Need-dominance-of-requires
-dominance-of-requires c κs = λ e. omega (arith, c .pre .each e, c .pre .few)
+dominance-of-requires c κs = λ e. omega (arith, c .before .pre .each e, c .before .pre .few)
 
 returns : tie.Need-returns
 unfolding dominance
