@@ -125,8 +125,9 @@ cases =
     ∷ eqb (dominance (regionOfCounts 100 99) .elevation) 0
     ∷ not (accepts (dominance (regionOfCounts 99 98) .share))
     ∷ eqb (dominance emptyRegion .elevation) 0
-    -- document 02, request 2: "A region with no cells has no share"
+    -- document 02, request 2: "A region with no cells has no share", and no share is not 99 percent
     ∷ isNone (dominance emptyRegion .share)
+    ∷ not (accepts (dominance emptyRegion .share))
     -- "bridge widths 16 and 8 pick the 16; 15.5 and 8 pick none", whichever comes first
     ∷ removes (picked width16 width8) 0
     ∷ removes (picked width8 width16) 1

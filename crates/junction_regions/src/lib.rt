@@ -106,7 +106,9 @@ fn same_dominance(first: Region, second: Region) -> bool
 {
     let a = first.dominance();
     let b = second.dominance();
-    is_accepted(a.share) & is_accepted(b.share) & (a.elevation == b.elevation)
+    let s = a.share;
+    let t = b.share;
+    is_accepted(s) & is_accepted(t) & (a.elevation == b.elevation)
 }
 
 pub fn union_regions(

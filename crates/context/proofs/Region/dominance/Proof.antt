@@ -1,6 +1,5 @@
 -- `Region::dominance` meets its contract: a region on a map has no count over 32 bits. Assumes nothing.
 use native.Mathlib.Omega.{arith}
-use borrow.Author.Needs.{needs}
 use Rattle.definitions.specs.RegionRecord.{dominance}
 use Rattle.context.proofs.Region.dominance.Statement.{statement}
 use Rattle.context.proofs.Region.dominance.Tie as tie
