@@ -1,15 +1,22 @@
 #!/bin/sh
 # The gate: every folder of crates/ is listed in crates.txt; `rt ci` proves every listed crate from nothing, refuses every must-fail edit and runs every
 # program; then the library is built over what was proved, and the tests of what stands around it are run (bindings/test.py). The last line printed is
-# 'N passed, M failed' and counts both.
+# 'N passed, M failed' and counts both. Where the toolchain is not the one that the file TOOLCHAIN pins, a line at the beginning and one at the end say so.
 set -eu
+if [ "${1:-}" = --help ]; then
+    echo "usage: ./test.sh"
+    echo "The gate: proves everything from nothing, builds the library and runs all tests; its last line is 'N passed, M failed'. It takes about 45 minutes on two cores."
+    exit 0
+fi
 cd "$(dirname "$0")"
 result=$(mktemp -d)
 trap 'rm -rf "$result"' EXIT
 
 passed=0
 failed=0
+warning=
 end() {
+    [ -z "$warning" ] || echo "$warning"
     echo "$passed passed, $failed failed"
     if [ "$failed" -eq 0 ]; then exit 0; else exit 1; fi
 }
@@ -33,6 +40,10 @@ part() { # NAME COMMAND..
 for tool in "rt rattle-kit, the Rattle toolchain" "python3 python3"; do
     command -v "${tool%% *}" >/dev/null || fail "${tool%% *} is missing: it comes with the package ${tool#* }"
 done
+if [ "$failed" -eq 0 ] && [ "$(rt version)" != "$(cat TOOLCHAIN)" ]; then
+    warning="WARNING: another toolchain than the pinned one: rt version says '$(rt version)', TOOLCHAIN has '$(cat TOOLCHAIN)'"
+    echo "$warning"
+fi
 for folder in crates/*/; do
     name=$(basename "$folder")
     grep -q "^$name *:" crates.txt || fail "crates/$name is not listed in crates.txt"

@@ -38,8 +38,12 @@ def count(bench, name, whose, call):
 
 
 def main():
+    if sys.argv[1:] == ['--help']:
+        print(__doc__.strip())
+        return
     if len(sys.argv) < 3:
-        sys.exit(__doc__)
+        print('usage: count.py BENCH MAP...', file=sys.stderr)
+        sys.exit(2)
     bench = sys.argv[1]
     for name in sys.argv[2:]:
         none = count(bench, name, 'none', '-')

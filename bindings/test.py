@@ -100,6 +100,9 @@ def python_tests() -> list[Group]:
 
 def main(words: list[str]) -> int:
     parts: dict[str, Callable[[], list[Group]]] = {'c': c_tests, 'rust': rust_tests, 'python': python_tests}
+    if words == ['--help']:
+        print(__doc__.strip())
+        return 0
     if not set(words) <= set(parts):
         print(f'usage: test.py [{"] [".join(parts)}]', file=sys.stderr)
         return 2

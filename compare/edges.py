@@ -5,6 +5,7 @@
 The families of generate.py draw what a map may look like; these draw the cases that such maps leave out (docs/MUTANTS.md): which of two
 separations is less, one corner out of range, one of two centres in range, three regions that only look like a triangle, leaves that touch one
 another, equal ranks, the least and the greatest ids and elevations. A boundary may lie anywhere, whatever its span cuts; most families use that.
+`corner_maps` picks from them those that make_vectors.py stores: one for each corner that a test on 512 pixels could leave out.
 """
 import random
 from collections import Counter
@@ -356,6 +357,49 @@ def edge_maps(count, seed=1, families=None):
         m = turned(r, family(r)).finished()
         m.pass_number = r.choice((1, 2, 3))
         yield k, family.__name__, m
+
+
+# ---- one map for each corner that a test on 512 pixels could leave out
+
+class Without:
+    """a region's record that has lost a corner"""
+    def __init__(self, stats, corner):
+        self.cells = stats.cells
+        self.corners = lambda: [c for k, c in enumerate(stats.corners()) if k != corner]
+
+
+def rows_without(m, test, corner):
+    """the rows of a map where `test`, one of CORNER_TESTS, leaves out a corner of every region"""
+    method, kept = reference.RegionStats.corners, {name: getattr(reference, name) for name in ('within_radius', 'within_span_radius')}
+    try:
+        if test in kept:
+            setattr(reference, test, lambda stats, *rest: kept[test](Without(stats, corner), *rest))
+        else:
+            reference.RegionStats.corners = lambda self: [c for k, c in enumerate(method(self)) if k != corner]
+        return reference.results(m, Counter())['rows']
+    finally:
+        reference.RegionStats.corners = method
+        for name, function in kept.items():
+            setattr(reference, name, function)
+
+
+# the tests on 512 pixels, and the pass that each belongs to
+CORNER_TESTS = (('approach', 1), ('interior', 2), ('within_radius', 3), ('within_span_radius', 3))
+
+
+def corner_maps(seed=1, most=20000):
+    """(name, map): for each test on 512 pixels and each corner of a region's box the first map whose rows change where the test leaves it out"""
+    open_ = {(test, number, corner) for test, number in CORNER_TESTS for corner in range(4)}
+    for k, _, m in edge_maps(most, seed, [one_corner]):
+        for test, number, corner in sorted(open_):
+            m.pass_number = number
+            if rows_without(m, test, corner) != reference.results(m, Counter())['rows']:
+                open_.remove((test, number, corner))
+                yield f'{test}-corner-{corner}-{k}', reference.Map(number, m.width, m.height, list(m.cells), list(m.spans), list(m.boundaries), list(m.anchors))
+                break
+        if not open_:
+            return
+    raise AssertionError(f'no map for {sorted(open_)}')
 
 
 def main():

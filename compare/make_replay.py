@@ -8,6 +8,7 @@ Rust's harness must refuse alike what a sheet can say. README.md of vectors/ say
 """
 import argparse
 import os
+import struct
 from collections import Counter
 from dataclasses import replace
 
@@ -63,6 +64,11 @@ def at_exit(case, number):
     return lists
 
 
+def in_bits(records):
+    """the edges, numbers 1 to 4 of a record, as the bits of their doubles"""
+    return [int.from_bytes(struct.pack('<d', n), 'little') if 1 <= i % RECORD <= 4 else n for i, n in enumerate(records)]
+
+
 def expected(case, whole):
     number, value = answer_of(case, whole)
     lists = at_exit(case, number)
@@ -74,7 +80,7 @@ def expected(case, whole):
     lines += [numbers(name, lists[name], getattr(case, name)) for name in ('labels', 'tallies', 'pairs')]
     lines += [f'{name} {len(lists[name])} zeros {len(lists[name])} kept {getattr(case, name) - len(lists[name])}' for name in ('masks', 'queue')]
     if whole:
-        records = lists['records'] + [0] * (RECORD * case.records - len(lists['records']))
+        records = in_bits(lists['records']) + [0] * (RECORD * case.records - len(lists['records']))
         lines += [numbers('records', records, WRITTEN_RECORDS), numbers('output', lists['output'], case.output)]
     return number, ''.join(line + '\n' for line in lines)
 

@@ -15,6 +15,7 @@ from collections import Counter
 import package  # noqa: F401
 import compare
 import damage
+import edges
 import generate
 from jenwyllt.unproved import reference, sheet_bytes
 from jenwyllt.unproved.hypotenuse import GREATEST, LEAST, SIGN, answer, bits, units
@@ -267,7 +268,7 @@ def main():
     full, kept = compare.Oracle(options.oracle, 'full'), compare.Oracle(options.oracle, 'kept')
 
     maps, seen = generated()
-    maps = list(chosen_by_hand()) + maps
+    maps = list(chosen_by_hand()) + maps + list(edges.corner_maps('vectors'))
     texts = []
     for name, m in maps:
         theirs = full.ask(sheet_bytes.sheet_of(m))

@@ -1,9 +1,8 @@
-/* Regions of a walk grid cut by spans, the boundaries that a pass keeps, the reader of sheets, the share behind dominance, and the correctly rounded
-   hypotenuse.
+/* Regions of a walk grid cut by spans, the boundaries that a pass keeps, how far boundaries are apart, the reader of sheets, the line of an accession
+   record, the share behind dominance, and the correctly rounded hypotenuse.
    The library is for x86-64 Linux: libjenwyllt.a and libjenwyllt.so, which tools/build_library.sh writes to target/lib. It keeps no state and allocates
    nothing; from outside it needs only `memset`.
-   Every function is proved to meet the definitions of crates/definitions for every input that keeps to what stands here. Floating-point operations must
-   round to nearest and keep subnormal numbers, as they do where a program starts; -ffast-math changes that for a whole program. */
+   Every function is proved to meet the definitions of crates/definitions, crates/separations and crates/catalogue for every input that keeps to what stands here. */
 #ifndef JENWYLLT_H
 #define JENWYLLT_H
 
@@ -28,6 +27,8 @@ enum jenwyllt_size {
     JENWYLLT_TALLY_NUMBERS = 2,
     JENWYLLT_PAIR_NUMBERS = 3,
     JENWYLLT_ROW_NUMBERS = 5,
+    JENWYLLT_SEPARATION_NUMBERS = 5,
+    JENWYLLT_ACCESSION_NUMBERS = 4,
     JENWYLLT_PIXELS_PER_CELL = 8,
     JENWYLLT_MOST_SIDE = 1024,
     JENWYLLT_MOST_ENTRIES = 256
@@ -49,11 +50,16 @@ enum jenwyllt_refusal {
     JENWYLLT_REGIONS = 11,
     JENWYLLT_PAIRS = 12,
     JENWYLLT_RANGE = 13,
-    JENWYLLT_SHEET = 14
+    JENWYLLT_SHEET = 14,
+    JENWYLLT_ACCESSION = 17
 };
 
 /* A list is lent as a pointer to its first entry and its length. The pointer is aligned and not null, even where the length is 0. Lists do not overlap,
    and nothing else reads a list that is filled, or writes any list, before the call returns. */
+
+/* The calling thread rounds to nearest, ties to even, and keeps subnormal numbers, as every thread does at its start. The functions run the processor's float
+   operations as the thread has set them, and this is the one thing that their proof takes from it. A caller that has set another mode (fesetround), or whose
+   program flushes subnormal numbers (-ffast-math sets this at the start), restores the default around a call: otherwise some lists differ. */
 
 /* Number 0 and a count, or a refusal's number and place. */
 struct jenwyllt_answer {
@@ -97,7 +103,7 @@ struct jenwyllt_answer jenwyllt_partition(
     uint32_t *pairs, size_t pairs_length);
 
 /* The record of a region: how many cells it has, its edges in pixels, whether a cell is a ramp, which elevations occur (bit e stands for elevation e), and
-   how many cells have elevation 0, 1, 2 and 3. */
+   how many cells have elevation 0, 1, 2 and 3. The flag's byte is 0 or 1 also in a record that is lent to be filled; the other fields may hold anything. */
 struct jenwyllt_region {
     size_t cells;
     double min_x, min_y, max_x, max_y;
@@ -154,6 +160,30 @@ struct jenwyllt_answer jenwyllt_kept_boundaries(
     uint32_t *tallies, size_t tallies_length,
     uint32_t *pairs, size_t pairs_length,
     struct jenwyllt_region *records, size_t records_length,
+    uint64_t *output, size_t output_length);
+
+/* The separation of each two boundaries of a map: the distance of the two segments in pixels, as pass 1 works it out in doubles, and the square of the exact
+   distance as a fraction of whole numbers. A separation is within 2^-32 pixel of the root of its fraction, and 0.0 exactly when the two share a point;
+   segments without length are included.
+
+   Read:
+     boundaries  9 a boundary, as for `jenwyllt_kept_boundaries`, at most 256
+   Filled; it may be longer than needed, and what it holds behind the last row stays:
+     output      rows of 5: the smaller number of a boundary and the larger, from 0; the bits of the separation as a double, whose sign is clear; numerator
+                 and denominator of the exact square, at most 2^54 and 2^27 and not in lowest terms. Ascending by the larger number, then by the smaller: the
+                 row of i and j, i below j, is row j * (j - 1) / 2 + i.
+
+   Number 0: the value is the count of rows, n * (n - 1) / 2 for n boundaries. Otherwise the number says why not; the first of these causes that applies is
+   given, and the output stays as it was:
+
+     number  cause                                                           value
+     1       a side is 0 or over 1024                                        0
+     3       over 256 boundaries, or the last one is unfinished              0
+     7       a boundary that `jenwyllt_kept_boundaries` refuses as 7         the first faulty boundary
+     10      the output is shorter than 5 numbers a row                      0 */
+struct jenwyllt_answer jenwyllt_separations(
+    uint64_t width, uint64_t height,
+    const uint64_t *boundaries, size_t boundaries_length,
     uint64_t *output, size_t output_length);
 
 /* What a sheet opens with; the last three are counts of entries. Number 0: the place is 0. Otherwise a refusal's number and place, and the rest is 0. */
@@ -226,6 +256,31 @@ struct jenwyllt_outcome jenwyllt_hypotenuse(double x, double y);
 
 /* The value alone, for a caller who knows that x and y are in range. */
 double jenwyllt_hypot(double x, double y);
+
+/* The line of an accession record: every record of the map of an own number, newest first.
+
+   Read:
+     records  4 a record: its own number, the number of its map, the day, and the own number of the record that it supersedes, or 0. Own numbers start
+              above 0 and strictly ascend; the days of one map never fall along the list; a record supersedes only an earlier one of its map that no other
+              has superseded; only a map's first record has 0. (So each record of a map supersedes the one before it.)
+     own      an own number
+   Filled; it may be longer than needed, and what it holds behind the last record stays:
+     output   the records of the line, 4 numbers each
+
+   Number 0: the value is the count of records in the line, and 0 where no record has the own number. Otherwise the number says why not; the first of these
+   causes that applies is given:
+
+     number  cause                                 value
+     3       the last record is unfinished         0
+     17      a record breaks one of the rules      the first such record
+     10      the output is too short for the line  0
+
+   With any of these the output stays as it was. A call needs 641 KiB of stack. The time grows with the count of records, and with its square only where there
+   are many maps whose numbers leave the same remainder by 32749, or many maps among the records behind the first 131072. */
+struct jenwyllt_answer jenwyllt_report_line(
+    const uint64_t *records, size_t records_length,
+    uint64_t own,
+    uint64_t *output, size_t output_length);
 
 #ifdef __cplusplus
 }

@@ -4,7 +4,7 @@
 # stands where neither the crate nor one below it has changed. RT_JOBS says how many crates are built at a time (2 without it); those that take longest
 # come first.
 set -eu
-EXPORTS="topology jenwyllt elevations"
+EXPORTS="topology accession jenwyllt separation_list elevations"
 
 cd "$(dirname "$0")/.."
 lib=target/lib
@@ -14,6 +14,15 @@ stop() { # STATUS SENTENCE
     echo "build_library: $2" >&2
     exit "$1"
 }
+case "$#:${1:-}" in
+0:) ;;
+1:--help)
+    echo "usage: tools/build_library.sh"
+    echo "Proves the crates that export functions ($EXPORTS) and builds $lib/libjenwyllt.a and $lib/libjenwyllt.so; a crate that has not changed is not built again."
+    exit 0
+    ;;
+*) stop 2 "usage: tools/build_library.sh [--help]" ;;
+esac
 need() { # COMMAND PACKAGE
     command -v "$1" >/dev/null || stop 2 "$1 is missing: it comes with the package $2"
 }

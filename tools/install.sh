@@ -5,6 +5,11 @@
 #
 # What target/ does not hold yet is proved and built first; a target/ that was built elsewhere is installed without the toolchain.
 set -eu
+if [ "${1:-}" = --help ]; then
+    echo "usage: tools/install.sh PREFIX"
+    echo "Installs library, header, pkg-config file, the program keptlist, the command jenwyllt, manual and licences below the folder PREFIX."
+    exit 0
+fi
 if [ $# -ne 1 ] || [ -z "$1" ]; then
     echo "usage: tools/install.sh PREFIX" >&2
     exit 2

@@ -1,5 +1,6 @@
 //! Times the Rust original step by step and our static libraries on the same maps in one process.
 
+mod accession;
 mod calls;
 mod hypotenuse;
 mod maps;
@@ -17,9 +18,13 @@ use std::time::Duration;
 use timing::{Timing, time};
 
 const PASSES: [u64; 3] = [1, 2, 3];
+const USAGE: &str = "usage: bench [SECONDS a measurement] [NAME of a map...], or bench alone SECONDS NAME..., or bench once MAP rust|ours|none CALL";
 
 fn main() {
     let arguments: Vec<String> = std::env::args().skip(1).collect();
+    if arguments == ["--help"] {
+        return println!("{USAGE}");
+    }
     if let [word, map, whose, call] = &arguments[..]
         && word == "once"
     {
@@ -45,15 +50,19 @@ fn main() {
     if wanted("hypotenuse") {
         hypotenuse::run(budget);
     }
+    if wanted("accession") {
+        accession::run(budget);
+    }
+    if arguments.iter().any(|word| word == "accession-worst") {
+        accession::worst();
+    }
     if wanted("stack") {
         stack::run();
     }
 }
 
 fn usage() -> ! {
-    eprintln!(
-        "usage: bench [SECONDS a measurement] [NAME of a map...], or bench alone SECONDS NAME..., or bench once MAP rust|ours|none CALL"
-    );
+    eprintln!("{USAGE}");
     std::process::exit(2);
 }
 

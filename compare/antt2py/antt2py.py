@@ -618,4 +618,11 @@ def module(mode):
 
 
 if __name__ == '__main__':
-    print(generate(sys.argv[1] if len(sys.argv) > 1 else 'literal'))
+    words = sys.argv[1:]
+    if words == ['--help']:
+        print(__doc__.strip())
+    elif words in ([], ['literal'], ['fast']):
+        print(generate(*words or ['literal']))
+    else:
+        print('usage: antt2py.py [literal|fast]', file=sys.stderr)
+        sys.exit(2)

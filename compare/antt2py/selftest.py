@@ -100,7 +100,13 @@ def floats(r):
         same('hypotOf', ours(N.s_hypotOf(x, y)), back(literal.Hypotenuse__hypotOf(lx, ly)), x, y)
 
 
-def main():
+def main(words):
+    if words == ['--help']:
+        print(__doc__.strip())
+        return
+    if len(words) > 1 or not all(word.isdecimal() for word in words):
+        print('usage: selftest.py [maps]', file=sys.stderr)
+        sys.exit(2)
     r = random.Random(1)
     for _ in range(3000):
         scans(r)
@@ -110,9 +116,9 @@ def main():
     import compare
     import damage
     import generate
-    import sheet_bytes
+    from jenwyllt.unproved import sheet_bytes
     one, two = compare.Definitions(False), compare.Definitions(True)
-    wanted, done = int(sys.argv[1]) if len(sys.argv) > 1 else 150, 0
+    wanted, done = int(words[0]) if words else 150, 0
     for k, family, m in generate.maps(100 * wanted, 'selftest'):
         if len(m.cells) > 60 or len(m.boundaries) > 9 * 9 or done == wanted:
             continue
@@ -130,4 +136,4 @@ def main():
 
 
 if __name__ == '__main__':
-    main()
+    main(sys.argv[1:])

@@ -34,6 +34,10 @@ fn main() -> ExitCode {
 }
 
 fn run(arguments: Vec<String>) -> Result<(), String> {
+    if arguments == ["--help"] {
+        println!("{USAGE}");
+        return Ok(());
+    }
     let (command, options) = arguments.split_first().ok_or(USAGE)?;
     let (answer, mut limits): (Answering, Limits) = match command.as_str() {
         "kept" => (kept, Limits::KEPTLIST),

@@ -1,13 +1,15 @@
 """The kept boundaries of a map by the proved library, for Python: standard library only, over libjenwyllt.so."""
 from ._library import NotBuilt
+from .accession import Accession, report_line
 from .dominance import Dominance, Share, dominance
 from .hypotenuse import hypot, hypotenuse
 from .kept import Kept, Region, Row, kept_boundaries
 from .partition import Pair, Partition, Tally, partition
 from .refusal import Cause, Refusal
+from .separations import Separation, separations
 from .sheet import Boundary, Kind, Point, Sheet, Span, read_sheet, sheet_bytes
 
 __version__ = '0.2.0'
 __all__ = [
-    'Boundary', 'Cause', 'Dominance', 'Kept', 'Kind', 'NotBuilt', 'Pair', 'Partition', 'Point', 'Refusal', 'Region', 'Row', 'Share', 'Sheet', 'Span', 'Tally',
-    'dominance', 'hypot', 'hypotenuse', 'kept_boundaries', 'partition', 'read_sheet', 'sheet_bytes']
+    'Accession', 'Boundary', 'Cause', 'Dominance', 'Kept', 'Kind', 'NotBuilt', 'Pair', 'Partition', 'Point', 'Refusal', 'Region', 'Row', 'Separation', 'Share', 'Sheet', 'Span', 'Tally',
+    'dominance', 'hypot', 'hypotenuse', 'kept_boundaries', 'partition', 'read_sheet', 'report_line', 'separations', 'sheet_bytes']

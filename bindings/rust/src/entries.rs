@@ -105,6 +105,20 @@ pub struct Row {
     pub end: Point,
 }
 
+/// An accession record of the catalogue.
+#[repr(C)]
+#[derive(Debug, Clone, Copy, PartialEq, Eq, Hash, Default)]
+pub struct Accession {
+    /// Its own number.
+    pub own: u64,
+    /// The number of its map.
+    pub map: u64,
+    /// The day.
+    pub day: u64,
+    /// The own number of the record that it supersedes, or 0.
+    pub superseded: u64,
+}
+
 /// An entry that lies in memory as so many numbers, one after another.
 ///
 /// # Safety
@@ -162,4 +176,5 @@ entries! {
     Row: 5 of u64;
     Tally: 2 of u32;
     Pair: 3 of u32;
+    Accession: 4 of u64;
 }

@@ -97,6 +97,15 @@ unsafe extern "C" {
         output_length: usize,
     ) -> Answer;
 
+    pub fn jenwyllt_separations(
+        width: u64,
+        height: u64,
+        boundaries: *const u64,
+        boundaries_length: usize,
+        output: *mut u64,
+        output_length: usize,
+    ) -> Answer;
+
     pub fn jenwyllt_read_sheet(
         bytes: *const u8,
         bytes_length: usize,
@@ -109,6 +118,14 @@ unsafe extern "C" {
         anchors: *mut u64,
         anchors_length: usize,
     ) -> SheetAnswer;
+
+    pub fn jenwyllt_report_line(
+        records: *const u64,
+        records_length: usize,
+        own: u64,
+        output: *mut u64,
+        output_length: usize,
+    ) -> Answer;
 
     pub safe fn jenwyllt_dominance(
         cells: u32,

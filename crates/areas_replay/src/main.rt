@@ -3,11 +3,13 @@
 use areas::Partitioned;
 use areas::partition;
 use io::large_buffer;
+use io::write_all;
 use lent_lists::CASES;
 use lent_lists::CELLS;
 use lent_lists::HEIGHT;
 use lent_lists::LABELS;
 use lent_lists::MASKS;
+use lent_lists::OPENING;
 use lent_lists::PAIRS;
 use lent_lists::QUEUE;
 use lent_lists::SPANS;
@@ -19,9 +21,8 @@ use lent_lists::number_within;
 use lent_lists::numbers_before;
 use lent_lists::read_bytes;
 use lent_lists::read_opening;
-use lent_lists::write;
-use lent_lists::write_answer;
-use lent_lists::write_lists;
+use lent_lists::write_partition;
+use libc::STDOUT_FILENO;
 use sheet::Answer;
 use sheet::read_sheet;
 ghost use Prim.Native.Nat.{_≤_};
@@ -50,10 +51,26 @@ fn run(
         pairs,
     );
     match answer {
-        Partitioned::Regions(count) => write_answer(0, count),
-        Partitioned::Refused(number, place) => write_answer(number, place),
+        Partitioned::Regions(count) => write_partition(
+            0,
+            count,
+            labels,
+            masks,
+            queue,
+            tallies,
+            pairs,
+        ),
+        Partitioned::Refused(number, place) => write_partition(
+            number,
+            place,
+            labels,
+            masks,
+            queue,
+            tallies,
+            pairs,
+        ),
     }
-    write_lists(labels, masks, queue, tallies, pairs);
+    ;
 }
 
 fn lend(opening: &[u8; 30], cells: &[u8], spans: &[u64]) {
@@ -90,7 +107,9 @@ fn replay(opening: &[u8; 30], bytes: &[u8]) {
     let answer = read_sheet(bytes, &mut cells, &mut spans, &mut boundaries, &mut anchors);
     match answer {
         Answer::Read(_) => lend(opening, &cells, &spans),
-        Answer::Refused(_, _) => write(b"no sheet\n"),
+        Answer::Refused(_, _) => {
+            write_all(STDOUT_FILENO, b"no sheet\n");
+        }
     }
 }
 
@@ -99,7 +118,7 @@ fn replay_next(buffer: &mut [u8]) -> bool
     requires { ⌜ 65536 ≤ length (now buffer) ⌝ }
 {
     let mut opening = [0u8; 30];
-    if !read_opening(&mut opening) {
+    if read_opening(&mut opening) < OPENING {
         return false;
     }
     let size = read_bytes(&opening, &mut *buffer);

@@ -7,7 +7,7 @@ use cut_steps::cell::is_near;
 use cut_steps::cell::is_set;
 use cut_steps::pick;
 use cut_steps::span_at;
-use flood::direction_table;
+use flood::place_at;
 use region_pairs::NUMBERS_PER_PAIR;
 use region_pairs::insert_pair;
 use span_geometry::SpanGeometry;
@@ -146,9 +146,9 @@ fn assess_directions(
     ensures { λ r. ⌜ Counting (now (pairs .exit)) first (start .removed + maxCellEdges) r ⌝ }
     ensures { λ r. ⌜ Assesses (now (labels .entry)) span first (stepsIn width x y mask) start (now (pairs .entry)) r (now (pairs .exit)) ⌝ }
 {
-    let table = direction_table();
     let mut a = start;
     for d in 0..8 {
+        let place = place_at(d);
         a = assess_direction(
             width,
             height,
@@ -160,8 +160,8 @@ fn assess_directions(
             x,
             y,
             mask,
-            table[d].x,
-            table[d].y,
+            place % 3,
+            place / 3,
         );
     }
     a

@@ -1,8 +1,8 @@
 -- Computed examples that a porter would get wrong: both sides of the thresholds that document 01 names and does not mark P, its four likely errors,
--- ties of the hypotenuse, unequal counts, an anchor on a blocked cell, the diagonal rule, a side value of zero.
+-- ties of the hypotenuse, totalOrder of 24 doubles, unequal counts, an anchor on a blocked cell, the diagonal rule, a side value of zero.
 use Prim.Native.Nat.{ℕ, _-_, _*_}
 use mathlib.Core.Path.{_≡_, refl}
-use mathlib.Core.Bool.{Bool, true, not, cond}
+use mathlib.Core.Bool.{Bool, true, not, _&&_, cond}
 use mathlib.Core.List.{List, [], _∷_, _++_, map}
 use lib.ListN.{length, getD}
 use lib.Dec.{eqb}
@@ -13,7 +13,9 @@ use Rattle.definitions.specs.Grid.{Map, at, mapOf}
 use Rattle.definitions.specs.Spans.{cross}
 use Rattle.definitions.specs.Partition.{labels}
 use Rattle.definitions.specs.Hypotenuse.{hypotOf, hypotNumber}
+use Rattle.definitions.specs.TotalOrder.{totalOrder}
 use Rattle.definitions.specs.RampGeometry.{segmentDistance}
+use Rattle.definitions.specs.RegionRecord.{mostCommonElevation}
 use Rattle.definitions.specs.Context.{contextOf}
 use Rattle.definitions.specs.RampMouths.{maxMouthDistance}
 use Rattle.definitions.specs.Junctions.{withinSpanRadius}
@@ -129,7 +131,7 @@ unequalCounts =
     (16 ∷ 0 ∷ 16 ∷ 8 ∷ width8 ∷ 1 ∷ 7 ∷ 0 ∷ 1 ∷ 8 ∷ 0 ∷ 8 ∷ 8 ∷ width8 ∷ 0 ∷ 0 ∷ 0 ∷ 0 ∷ []) []
 
 unfoldable pub examples : List Bool
-unfolding apartAsWritten apartTurned removedOf ranking occupied interiorRow anchoredCells contextOf withinSpanRadius regionOfCounts
+unfolding apartAsWritten apartTurned removedOf ranking occupied interiorRow anchoredCells contextOf mostCommonElevation withinSpanRadius regionOfCounts
 examples =
     apartAsWritten
     ∷ not apartTurned
@@ -143,6 +145,9 @@ examples =
     -- "Eight edges in an interior are allowed, nine skip it."
     ∷ sameNumbers (removedOf 2 (interiorRow 11)) (1 ∷ 2 ∷ 3 ∷ 4 ∷ 5 ∷ 6 ∷ 7 ∷ 8 ∷ [])
     ∷ sameNumbers (removedOf 2 (interiorRow 12)) []
+    -- "Equal counts [..] choose the lower elevation", not of the empty record alone: 5 cells of elevation 0 and 5 of elevation 1; 4 and 6
+    ∷ eqb (mostCommonElevation (regionOfCounts 10 5)) 0
+    ∷ eqb (mostCommonElevation (regionOfCounts 10 4)) 1
     -- "Exactly 512 pixels is within the radius."
     ∷ withinSpanRadius (regionOfCounts 1 1) (segment 512 0 512 8)
     ∷ not (withinSpanRadius (regionOfCounts 1 1) (segment 513 0 513 8))
@@ -173,3 +178,22 @@ zero-parts = refl
 pub zero-joins : labels (mapOf 2 1 (1 ∷ 1 ∷ []) (12 ∷ 0 ∷ 12 ∷ 8 ∷ []) [] []) ≡ 1 ∷ 1 ∷ []
 unfolding labels mapOf
 zero-joins = refl
+
+-- ---- totalOrder
+
+-- each stands before itself and before all behind it, and none of these before it
+unfoldable pub rises : (ℕ → ℕ → Bool) → List ℕ → Bool
+unfolding all
+rises before [] = true
+rises before (x ∷ l) = before x x && all (λ y. before x y && not (before y x)) l && rises before l
+
+pub total-order-rises : rises totalOrder (
+    -- NaNs with the sign set: quiet ones, the greater payload first, then signaling ones
+    0xFFFFFFFFFFFFFFFF ∷ 0xFFF8000000000001 ∷ 0xFFF8000000000000 ∷ 0xFFF7FFFFFFFFFFFF ∷ 0xFFF0000000000001
+    -- minus infinity, the least finite number, -1.5, -1, the least and the greatest of the negative subnormal numbers, -0
+    ∷ 0xFFF0000000000000 ∷ 0xFFEFFFFFFFFFFFFF ∷ 0xBFF8000000000000 ∷ 0xBFF0000000000000 ∷ 0x800FFFFFFFFFFFFF ∷ 0x8000000000000001 ∷ 0x8000000000000000
+    -- the same with the sign clear
+    ∷ 0 ∷ 1 ∷ 0x000FFFFFFFFFFFFF ∷ 0x3FF0000000000000 ∷ 0x3FF8000000000000 ∷ 0x7FEFFFFFFFFFFFFF ∷ 0x7FF0000000000000
+    ∷ 0x7FF0000000000001 ∷ 0x7FF7FFFFFFFFFFFF ∷ 0x7FF8000000000000 ∷ 0x7FF8000000000001 ∷ 0x7FFFFFFFFFFFFFFF ∷ []) ≡ true
+unfolding rises totalOrder
+total-order-rises = refl

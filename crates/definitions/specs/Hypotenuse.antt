@@ -19,7 +19,7 @@ wholeRoot (suc d) n = digit n (2 * wholeRoot d (n / 4))
 
 -- The double nearest to the root of s, where s counts squares of the smallest double, 2 ^ -2148. The root has half as many binary digits as s, rounded up.
 -- The double keeps the 53 leading ones, q, which are the whole root of s / 4 ^ k, and drops k. Whether it goes up to q + 1 is how s compares with the square
--- of the middle between the two, (q + 1/2) * 2 ^ k, both sides times 4; level, it goes to the even one.
+-- of the middle between the two, (q + 1/2) * 2 ^ k, both sides times 4; in a tie it takes the even one.
 unfoldable pub rootOf : ℕ → Float
 unfolding wholeRoot units size
 rootOf s =

@@ -65,14 +65,15 @@ beyond r (some p) = otherRegion r p
 abbrev pub namesRegion : Proposal → ℕ → Bool
 namesRegion p r = eqb (p .first) r || eqb (p .second) r
 
--- by the kinds of the taken proposal q and the later p: two bridges may share their exterior, and nothing else
+-- By the kinds of the taken proposal q and the later p, which are numbers: where one of them is a union (the first three lines) they may share no region; two bridges
+-- (the last) may share their exterior, and nothing else.
 abbrev pub regionConflict : ℕ → ℕ → Proposal → Proposal → Bool
 regionConflict zero zero q p = namesRegion q (p .first) || namesRegion q (p .second)
 regionConflict (suc m) zero q p = namesRegion q (p .first) || namesRegion q (p .second)
 regionConflict zero (suc k) q p = namesRegion q (p .first) || namesRegion q (p .second)
 regionConflict (suc m) (suc k) q p = eqb (q .first) (p .first) || eqb (q .first) (p .second) || eqb (q .second) (p .first)
 
--- wider first: no width has its sign bit set, so that totalOrder on widths is the order of their bits (laws: KeysAsBits)
+-- wider first: no width has its sign bit set, so that totalOrder on widths (TotalOrder) is the order of their bits (laws: WidthOrder)
 unfoldable pub boundaryKey : Boundary → List ℕ
 unfolding endpointsKey
 boundaryKey b = (2 ^ 64 - b .widthBits) ∷ endpointsKey (b .endpoints)
@@ -89,7 +90,7 @@ module _ (C : Context) where
   unfolding isIncident
   isUnionPort i p j = not (eqb j i) && (isIncident C j (p .lo) || isIncident C j (p .hi))
 
-  -- port j has an exterior that no earlier port has
+  -- port j has an exterior that no earlier port has: to count these ports is to count the distinct exteriors
   unfoldable pub isNewExterior : ℕ → Pair → ℕ → Bool
   unfolding isUnionPort fullPair anyBelow
   isNewExterior i p j =

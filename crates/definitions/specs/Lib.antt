@@ -5,6 +5,7 @@ pub mod Spans
 pub mod Partition
 pub mod Hypotenuse
 pub mod Nearest
+pub mod TotalOrder
 pub mod Geometry
 pub mod RampGeometry
 pub mod RegionRecord

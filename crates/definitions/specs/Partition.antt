@@ -1,5 +1,5 @@
 -- The partition (document 01, 'Partition'; `partition_by_spans`, `components` and `boundary_assessment` of areas.rs): regions, labels, tallies and pairs.
--- Regions are put by merging steps in the place of the Rust's flood: no order of a queue is left to believe. Assumes nothing.
+-- Regions are put by merging steps in place of the Rust's flood: no order of a queue is left to believe. Assumes nothing.
 use Prim.Native.Nat.{ℕ, suc, min, max}
 use mathlib.Core.Bool.{Bool, not, _&&_, cond}
 use mathlib.Core.List.{List, [], _∷_, map, List·Memᴰ}

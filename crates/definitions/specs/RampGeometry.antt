@@ -45,7 +45,7 @@ unfoldable pub fmax : Float → Float → Float
 unfolding lt
 fmax a b = cond (lt a b) b a
 
--- ---- `intersects`, over unbounded whole numbers in the place of i128
+-- ---- `intersects`, over unbounded whole numbers in place of i128
 
 -- `signum`, moved by 1
 abbrev pub signum : ℤ → ℕ

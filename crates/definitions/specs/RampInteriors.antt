@@ -124,7 +124,8 @@ module _ (C : Context) where
   expandPairs i es s [] = s
   expandPairs i es s (p ∷ l) = expandPairs i es (expandPair i es s p) l
 
-  -- no pair has two regions inside before, and each has exactly one after
+  -- A port and its leaves, after which it is still valid where: no pair of the port has both regions inside before its leaves are added (`before`); no leaf is
+  -- refused (`expandPairs`, in t); and each pair has exactly one region inside then. So the port parts inside from outside along its whole length.
   unfoldable pub expandPort : Expansion → ℕ → Expansion
   unfolding all insideCount expandPairs exteriors
   expandPort s i =

@@ -90,13 +90,17 @@ module _ (C : Context) where
 
   -- ---- a mouth that is no triangle, its approach r known: the one inner region that the ramp's own pair names
 
-  -- No inner region is anchored; an anchored outer one is allowed, unless the mouth is an overlay only (then of `anchoredAny`, the mouth's regions
-  -- that the Rust asks). The other end of the ramp is not about the approach. With several inner regions, the approach has just this mouth and this ramp,
-  -- and each other one just this mouth.
+  -- Mouth m at the approach r of ramp a. `anchoredAny` says whether one of the mouth's regions that the Rust asks is anchored.
   unfoldable pub approachFits : ℕ → ℕ → ℕ → List ℕ → Bool → Bool → Bool
   unfolding any overlayOnly onlyIncidents otherEndIncident all incidentCount isIncident
   approachFits m a r inner isSingle anchoredAny =
-      not (any (C .anchored) inner) && not (overlayOnly m a && (not isSingle || anchoredAny || not (onlyIncidents r m a))) && not (otherEndIncident a r)
+      -- no inner region is anchored. (An anchored outer one is allowed,)
+      not (any (C .anchored) inner)
+      -- unless the mouth is an overlay only: then it is of one pair, no region is anchored, and the approach has just this mouth and this ramp
+      && not (overlayOnly m a && (not isSingle || anchoredAny || not (onlyIncidents r m a)))
+      -- the other end of the ramp is not about the approach
+      && not (otherEndIncident a r)
+      -- with several inner regions, the approach has just this mouth and this ramp, and each other one just this mouth
       && (leb (length inner) 1 || onlyIncidents r m a && all (λ s. eqb s r || eqb (incidentCount C s) 1 && isIncident C m s) inner)
 
   unfoldable pub twoPortBroad : ℕ → ℕ → ℕ → List ℕ → Bool → Bool

@@ -40,7 +40,7 @@ module _ {A B : Type 0} where
   andThen (found value offset rest) next = next value offset rest
   andThen (failed refusal place) next = failed refusal place
 
-  -- what `do` puts between its lines
+  -- what `do` puts between its lines: a line `x ← r` runs the reader r, calls its value x, and the next line reads on behind it; the first failure ends all
   abbrev pub _>>=_ : Reader A → (A → Reader B) → Reader B
   _>>=_ reader next offset bytes = andThen (reader offset bytes) next
 

@@ -83,8 +83,8 @@ natOf (negsuc n) = 0
 abbrev pub distanceBetween : ℕ → ℕ → ℕ
 distanceBetween m n = (m - n) + (n - m)
 
--- Where the segment from (p, u) to (q, v), p < q, is at first coordinate t clamped to the segment, rounded down (`shrZ`, the Rust's div_euclid by
--- a positive number). The value lies between u and v, so it is not negative and `natOf` cuts nothing off. Equal endpoints are refused (number 6).
+-- Where the segment from (p, u) to (q, v), p < q, is at first coordinate t: (u * (q - p) + (v - u) * (t - p)) / (q - p), with t clamped to the segment,
+-- rounded down (`shrZ`, the Rust's div_euclid by a positive number). The value lies between u and v, so it is not negative and `natOf` cuts nothing off. Equal endpoints are refused (number 6).
 abbrev pub lineAt : ℕ → ℕ → ℕ → ℕ → ℕ → ℕ
 lineAt p u q v t = natOf (shrZ (pos (u * (q - p)) +ℤ diff v u *ℤ diff (max p (min t q)) p) (q - p))
 

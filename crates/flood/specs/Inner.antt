@@ -1,18 +1,22 @@
 -- The words of the other functions' contracts, over the grid of the lent bytes. Definitions only; assumes nothing.
-use Prim.Native.Nat.{ℕ, _+_, _*_, _/_, _%_, _≤_, _<_}
+use Prim.Native.Nat.{ℕ, _+_, _*_, _/_, _%_, _^_, _≤_, _<_}
 use mathlib.Core.Path.{_≡_}
 use mathlib.Core.Bool.{Bool, true, false}
 use mathlib.Core.List.{List}
 use lib.ListN.{length, getD}
 use Rattle.definitions.specs.Grid.{Position, at, walkable}
-use Rattle.flood.specs.declared.Direction.{Direction}
 use Rattle.flood.specs.Walk.{gridOf, graphOf, Mirrored}
 use Rattle.flood.specs.State.{State}
 
 -- ---- a direction of a position
 
-abbrev pub positionAt : Direction → Position
-positionAt d = at (d .x) (d .y)
+-- the direction at place p of the three by three square around the cell, row by row from 0 (document 02, request 5). Its bit in a mask is p again.
+abbrev pub placed : ℕ → Position
+placed p = at (p % 3) (p / 3)
+
+-- byte d of a word, the lowest being byte 0
+abbrev pub byteAt : ℕ → ℕ → ℕ
+byteAt word d = word / 2 ^ (8 * d) % 256
 
 -- a position of the grid, and a direction
 pub record Nearby (w h x y dx dy : ℕ) : Type 0 where

@@ -1,39 +1,27 @@
 // The flood over cut masks: labels every region of the grid, as `components` of areas.rs. Steps are those of `neighbors` of lib.rs.
 ghost use mathlib.Core.Path.{_≡_};
 ghost use mathlib.Core.Bool.{true};
-ghost use mathlib.Core.List.{map};
-ghost use Prim.Native.Nat.{_+_, _*_, _≤_, _<_};
+ghost use Prim.Native.Nat.{_+_, _*_, _/_, _%_, _≤_, _<_};
 ghost use lib.ListN.{length};
-ghost use Rattle.definitions.specs.Grid.{Map, at, directions, isStep};
+ghost use Rattle.definitions.specs.Grid.{Map, at, isStep};
 ghost use Rattle.flood.specs.Masks.{cutBit, withBit};
-ghost use Rattle.flood.specs.Walk.{gridOf, graphOf, landing};
+ghost use Rattle.flood.specs.Walk.{gridOf, graphOf, directionAt, landing};
 ghost use Rattle.flood.specs.State.{Ran, Visited};
 ghost use Rattle.flood.specs.Contract.{Lent, CutMap, Masked, Flooded};
-ghost use Rattle.flood.specs.Inner.{positionAt, Nearby, Inner, Inside, Says, Stepping, Ready, Visiting};
+ghost use Rattle.flood.specs.Inner.{placed, Nearby, Inner, Inside, Says, Stepping, Ready, Visiting};
 
-// A direction, each coordinate moved by 1 so that none is negative.
-pub struct Direction {
-    pub x: usize,
-    pub y: usize,
-}
+// The eight directions, in the order of `neighbors` of lib.rs, the first in the lowest byte: 1, 3, 5, 7, 0, 2, 6, 8. Each is its place in the three by three
+// square around the cell, row by row from 0, which is also its bit in a mask of cut steps. One word, and not an array: a loop over it is unrolled, and its
+// turns have the places as constants.
+const DIRECTIONS: u64 = 0x08_06_02_00_07_05_03_01;
 
-// The eight directions, in the order of `neighbors` of lib.rs.
-pub const DIRECTIONS: [Direction; 8] = [
-    Direction { x: 1, y: 0 },
-    Direction { x: 0, y: 1 },
-    Direction { x: 2, y: 1 },
-    Direction { x: 1, y: 2 },
-    Direction { x: 0, y: 0 },
-    Direction { x: 2, y: 0 },
-    Direction { x: 0, y: 2 },
-    Direction { x: 2, y: 2 },
-];
-
-// The table as one value, for a loop to read.
-pub fn direction_table() -> [Direction; 8]
-    ensures { λ r. ⌜ map positionAt r ≡ directions ⌝ }
+// The place of direction d.
+pub fn place_at(d: usize) -> usize
+    requires { ⌜ d < 8 ⌝ }
+    ensures { λ r. ⌜ placed r ≡ directionAt d ⌝ }
+    ensures { λ r. ⌜ r < 9 ⌝ }
 {
-    DIRECTIONS
+    ((DIRECTIONS >> (8 * d)) % 256) as usize
 }
 
 // A number of a slice as an index: in a function of its own it asks for no proof that the element fits.
@@ -144,13 +132,15 @@ fn visit(
     x: usize,
     y: usize,
     inner: bool,
-    dx: usize,
-    dy: usize,
+    place: usize,
     tail: usize,
 ) -> usize
-    requires { ⌜ Visiting width height (now cells) (now masks) (now labels) (now queue) c x y inner dx dy tail ⌝ }
-    ensures { λ r. ⌜ Visited (height * width) (landing (gridOf width height (now (cells .entry))) (now (masks .entry)) c (at dx dy)) id (now (labels .entry)) (now (queue .entry)) tail (now (labels .exit)) (now (queue .exit)) r ⌝ }
+    requires { ⌜ Visiting width height (now cells) (now masks) (now labels) (now queue) c x y inner (place % 3) (place / 3) tail ⌝ }
+    ensures { λ r. ⌜ Visited (height * width) (landing (gridOf width height (now (cells .entry))) (now (masks .entry)) c (placed place)) id
+        (now (labels .entry)) (now (queue .entry)) tail (now (labels .exit)) (now (queue .exit)) r ⌝ }
 {
+    let dx = place % 3;
+    let dy = place / 3;
     if !is_inside(inner, width, height, x, y, dx, dy) {
         return tail;
     }
@@ -161,7 +151,7 @@ fn visit(
     if !is_step(width, height, cells, x, y, dx, dy) {
         return tail;
     }
-    if is_cut(masks, c, dy * 3 + dx) {
+    if is_cut(masks, c, place) {
         return tail;
     }
     labels[t] = id;
@@ -184,13 +174,13 @@ fn spread(
     requires { ⌜ Ready width height (now cells) (now masks) id (now labels) (now queue) head tail ⌝ }
     ensures { λ r. ⌜ Ran (graphOf (gridOf width height (now (cells .entry))) (now (masks .entry))) id (now (labels .entry)) (now (queue .entry)) tail (now (labels .exit)) (now (queue .exit)) (head + 1) 0 r ⌝ }
 {
-    let table = direction_table();
     let c = wide(queue[head]);
     let x = c % width;
     let y = c / width;
     let inner = is_inner(width, height, x, y);
     let mut end = tail;
     for d in 0..8 {
+        let place = place_at(d);
         end = visit(
             width,
             height,
@@ -203,8 +193,7 @@ fn spread(
             x,
             y,
             inner,
-            table[d].x,
-            table[d].y,
+            place,
             end,
         );
     }

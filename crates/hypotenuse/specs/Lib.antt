@@ -3,3 +3,4 @@ pub mod Roots
 pub mod Rounding
 pub mod Answers
 pub mod Examples
+pub mod RootNearest

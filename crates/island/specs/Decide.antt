@@ -85,7 +85,7 @@ unfoldable pub isAlike : Map → Map → (ℕ → Bool) → Bool
 unfolding allBelow cellCount hasAnchor isSameList cutting isIsland
 isAlike M M′ isl =
     eqb (M .width) (M′ .width) && eqb (M .height) (M′ .height) && allBelow (cellCount M) (λ c. implies (isl c) (eqb (cellAt M c) (cellAt M′ c)))
-    && allBelow (cellCount M) (λ c. implies (isl c) (Bool·beq (hasAnchor M isl c) (hasAnchor M′ isl c))) && isSameList isSameBoundary (cutting M isl) (cutting M′ isl)
+    && allBelow (cellCount M) (λ c. implies (isl c) (Bool·beq (hasAnchor M c) (hasAnchor M′ c))) && isSameList isSameBoundary (cutting M isl) (cutting M′ isl)
     && isIsland M isl && isIsland M′ isl
 
 -- ---- what each test says
@@ -200,7 +200,7 @@ alike M M′ isl h =
     let k6 = both _ (isIsland M′ isl) h in
     let k5 = both _ (isIsland M isl) (k6 .0) in
     let k4 = both _ (isSameList isSameBoundary (cutting M isl) (cutting M′ isl)) (k5 .0) in
-    let k3 = both _ (allBelow (cellCount M) (λ c. implies (isl c) (Bool·beq (hasAnchor M isl c) (hasAnchor M′ isl c)))) (k4 .0) in
+    let k3 = both _ (allBelow (cellCount M) (λ c. implies (isl c) (Bool·beq (hasAnchor M c) (hasAnchor M′ c)))) (k4 .0) in
     let k2 = both _ (allBelow (cellCount M) (λ c. implies (isl c) (eqb (cellAt M c) (cellAt M′ c)))) (k3 .0) in
     let k1 = both (eqb (M .width) (M′ .width)) (eqb (M .height) (M′ .height)) (k2 .0) in
     record {

@@ -38,7 +38,7 @@ pub record Shown (pass : ℕ) (L L′ : Lent) (isl : ℕ → Bool) (i i′ : ℕ
   pub premises : Alike (mapIn L) (mapIn L′) isl
   -- the maps differ, which by the premises is outside the island, and so do labels and numbers on it
   pub cellsDiffer : isSameList eqb (L .cells) (L′ .cells) ≡ false
-  pub anchorsDiffer : anyBelow (cellCount (mapIn L)) (λ c. not (Bool·beq (hasAnchor (mapIn L) isl c) (hasAnchor (mapIn L′) isl c))) ≡ true
+  pub anchorsDiffer : anyBelow (cellCount (mapIn L)) (λ c. not (Bool·beq (hasAnchor (mapIn L) c) (hasAnchor (mapIn L′) c))) ≡ true
   pub boundariesDiffer : isSameList eqb (L .boundaries) (L′ .boundaries) ≡ false
   pub labelsDiffer : isSameList eqb (islandLabels (mapIn L) isl) (islandLabels (mapIn L′) isl) ≡ false
   pub numbersDiffer : eqb i i′ ≡ false

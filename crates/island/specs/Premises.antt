@@ -11,6 +11,11 @@ use Rattle.definitions.specs.Grid.{Map, Position, Boundary, index, toward, isSt
 use Rattle.definitions.specs.Spans.{cutSteps}
 use Rattle.definitions.specs.Rows.{Row, rowsOf}
 
+-- an anchor stands on cell c: "anchors agree when they stand on the same island cells, however often and in any order"
+unfoldable pub hasAnchor : Map → ℕ → Bool
+unfolding any
+hasAnchor M c = any (eqb c) (M .anchors)
+
 -- An island is any set of cells, given by its test on cell numbers. (A grid has finitely many cells, so that a set of them always has one.)
 -- "The remainder is every grid cell outside the island; either may be empty."
 module _ (M : Map) (isl : ℕ → Bool) where
@@ -23,11 +28,6 @@ module _ (M : Map) (isl : ℕ → Bool) where
   unfoldable pub cutsRemainder : ℕ → Bool
   unfolding spanCount any cutSteps
   cutsRemainder i = ltb i (spanCount M) && any (λ e. not (isl (e .lo)) && not (isl (e .hi))) (cutSteps M i)
-
-  -- an anchor stands on cell c: "anchors agree when they stand on the same island cells, however often and in any order"
-  unfoldable pub hasAnchor : ℕ → Bool
-  unfolding any
-  hasAnchor c = any (eqb c) (M .anchors)
 
   -- the boundaries that cut the island, in list order
   unfoldable pub cutting : List Boundary
@@ -59,7 +59,7 @@ pub record Alike (M M′ : Map) (isl : ℕ → Bool) : Type 0 where
   -- "Island cells agree byte for byte"
   pub cells : (c : ℕ) → c < cellCount M → isl c ≡ true → cellAt M c ≡ cellAt M′ c
   -- "anchors agree when they stand on the same island cells"
-  pub anchors : (c : ℕ) → c < cellCount M → isl c ≡ true → hasAnchor M isl c ≡ hasAnchor M′ isl c
+  pub anchors : (c : ℕ) → c < cellCount M → isl c ≡ true → hasAnchor M c ≡ hasAnchor M′ c
   -- "Counterparts are the boundaries of one rank, in list order, among those cutting the island; the premise is that both maps have equally many
   -- and that each two agree", which they do "when all nine numbers do"
   pub counterparts : cutting M isl ≡ cutting M′ isl

@@ -85,7 +85,7 @@ module _ (M : Map) (isl : ℕ → Bool) (I : Island M isl) where
     anchored-in =
         any-below (λ c. eqb (labelOf M c) r) (cellCount M) (M .anchors) (λ a l. ap (λ x. eqb x r) (label-beyond M a l) ∙ nonzero)
         ∙ below-ext (cellCount M) _ _ (λ c l. go c l (isl c) refl)
-        ∙ sym (any-picked (λ c. isl c && hasAnchor M isl c) (λ c. c) (λ c. eqb (labelOf S c) (ren R r)) (cellCount M))
+        ∙ sym (any-picked (λ c. isl c && hasAnchor M c) (λ c. c) (λ c. eqb (labelOf S c) (ren R r)) (cellCount M))
       where
         go : (c : ℕ) → c < cellCount M → (b : Bool) → isl c ≡ b → (any (eqb c) (M .anchors) && eqb (labelOf M c) r) ≡ ((b && any (eqb c) (M .anchors)) && eqb (labelOf S c) (ren R r))
         go c l true i = ap (λ x. any (eqb c) (M .anchors) && x) (mine-in c l)

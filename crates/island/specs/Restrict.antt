@@ -33,7 +33,7 @@ module _ (M : Map) (isl : ℕ → Bool) where
         cells = map (λ c. cond (isl c) (cellAt M c) 0) (run 0 (cellCount M));
         spans = picked (cutsIsland M isl) (spanOf M) (spanCount M);
         boundaries = picked (cutsIsland M isl) (boundaryOf M) (spanCount M);
-        anchors = picked (λ c. isl c && hasAnchor M isl c) (λ c. c) (cellCount M);
+        anchors = picked (λ c. isl c && hasAnchor M c) (λ c. c) (cellCount M);
       }
 
   pub cells-at : (c : ℕ) → c < cellCount M → cellAt restrict c ≡ cond (isl c) (cellAt M c) 0

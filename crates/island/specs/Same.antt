@@ -26,10 +26,10 @@ module _ (M M′ : Map) (isl : ℕ → Bool) (A : Alike M M′ isl) where
       go true i = A .cells c h i
       go false i = refl
 
-  anchor : (c : ℕ) → c < cellCount M → (isl c && hasAnchor M isl c) ≡ (isl c && hasAnchor M′ isl c)
+  anchor : (c : ℕ) → c < cellCount M → (isl c && hasAnchor M c) ≡ (isl c && hasAnchor M′ c)
   anchor c h = go (isl c) refl
     where
-      go : (b : Bool) → isl c ≡ b → (b && hasAnchor M isl c) ≡ (b && hasAnchor M′ isl c)
+      go : (b : Bool) → isl c ≡ b → (b && hasAnchor M c) ≡ (b && hasAnchor M′ c)
       go true i = A .anchors c h i
       go false i = refl
 
@@ -44,7 +44,7 @@ module _ (M M′ : Map) (isl : ℕ → Bool) (A : Alike M M′ isl) where
         spans = (spans-are M isl (A .island) ∙ ap (map (λ b. b .endpoints)) (A .counterparts) ∙ sym (spans-are M′ isl (A .island′))) i;
         boundaries = A .counterparts i;
         anchors =
-            (collect-ext (cellCount M) _ (λ c. onlyIf (isl c && hasAnchor M′ isl c) c) (λ c h. ap (λ b. onlyIf b c) (anchor c h))
-            ∙ ap (λ n. collect n (λ c. onlyIf (isl c && hasAnchor M′ isl c) c)) size)
+            (collect-ext (cellCount M) _ (λ c. onlyIf (isl c && hasAnchor M′ c) c) (λ c h. ap (λ b. onlyIf b c) (anchor c h))
+            ∙ ap (λ n. collect n (λ c. onlyIf (isl c && hasAnchor M′ c) c)) size)
             i;
       }

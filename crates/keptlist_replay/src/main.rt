@@ -2,7 +2,6 @@
 // `keptlist` prints.
 ghost use Prim.Native.Nat.{_≤_};
 ghost use lib.ListN.{length};
-ghost use Rattle.sheet_answer.specs.Answers.{outRoom};
 use io::read_full;
 use io::write_all;
 use libc::STDIN_FILENO;
@@ -31,32 +30,31 @@ fn length_of(opening: &[u8; 3]) -> usize
 }
 
 // Reads a sheet as long as the list, and writes what is printed for it.
-fn answer_to(sheet: &mut [u8], out: &mut [u8])
-    requires { ⌜ outRoom ≤ length (now out) ⌝ }
-{
+fn answer_to(sheet: &mut [u8]) {
     let count = read_full(STDIN_FILENO, &mut *sheet);
-    let end = keptlist(&sheet[0..count], &mut *out);
-    write_all(STDOUT_FILENO, &out[0..end]);
+    let mut out = output_room();
+    let end = keptlist(&sheet[0..count], &mut out);
+    write_all(STDOUT_FILENO, &out[..end]);
 }
 
 // Replays the next sheet, if there is one.
-fn replay(sheet: &mut [u8], out: &mut [u8]) -> bool
-    requires { ⌜ (65537 ≤ length (now sheet)) × (outRoom ≤ length (now out)) ⌝ }
+fn replay(sheet: &mut [u8]) -> bool
+    requires { ⌜ 65537 ≤ length (now sheet) ⌝ }
 {
     let mut opening = [0u8; 3];
     if read_full(STDIN_FILENO, &mut opening) < 3 {
         return false;
     }
     let written = length_of(&opening);
-    answer_to(&mut sheet[0..written], &mut *out);
+    answer_to(&mut sheet[0..written]);
     true
 }
 
-fn replay_all(sheet: &mut [u8], out: &mut [u8])
-    requires { ⌜ (65537 ≤ length (now sheet)) × (outRoom ≤ length (now out)) ⌝ }
+fn replay_all(sheet: &mut [u8])
+    requires { ⌜ 65537 ≤ length (now sheet) ⌝ }
 {
     for _ in 0..SHEETS {
-        if !replay(&mut *sheet, &mut *out) {
+        if !replay(&mut *sheet) {
             return;
         }
     }
@@ -64,6 +62,5 @@ fn replay_all(sheet: &mut [u8], out: &mut [u8])
 
 fn main() {
     let mut sheet = input_room();
-    let mut out = output_room();
-    replay_all(&mut sheet, &mut out);
+    replay_all(&mut sheet);
 }

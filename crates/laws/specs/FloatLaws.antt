@@ -18,3 +18,4 @@ pub mod MapPixels
 pub mod PassRange
 pub mod FiniteSeparations
 pub mod WidthBits
+pub mod WidthOrder

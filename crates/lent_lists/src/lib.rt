@@ -5,22 +5,26 @@ use io::read_full;
 use io::write_all;
 use libc::STDIN_FILENO;
 use libc::STDOUT_FILENO;
-ghost use Prim.Native.Nat.{_≤_, _<_};
-ghost use lib.ListN.{length};
+ghost use Prim.Native.Nat.{_≤_, _<_, min};
+ghost use mathlib.Core.Path.{_≡_};
+ghost use lib.ListN.{length, take};
+ghost use Rattle.lent_lists.specs.Answers.{heldAt, HeldBefore, Copied, Changed, Zeros};
 
 // Reading ends after so many cases at the latest.
 pub const CASES: u64 = 65536;
 
 // ---- what a list held before the call
 
-// Entry i: no number of an answer on maps of so few cells is as large.
+// Entry i: no number of an answer on maps of so few cells is one of these.
 fn held_before(i: usize) -> u64
-    ensures { λ r. ⌜ r < 65536 ⌝ }
+    ensures { λ r. ⌜ (r ≡ heldAt i) × (r < 65536) ⌝ }
 {
     60000 + (i % 5000) as u64
 }
 
-pub fn masks_before() -> [u16; 4096] {
+pub fn masks_before() -> [u16; 4096]
+    ensures { λ r. ⌜ HeldBefore 4096 r ⌝ }
+{
     let mut list = [0u16; 4096];
     for i in 0..4096 {
         list[i] = held_before(i) as u16;
@@ -28,7 +32,9 @@ pub fn masks_before() -> [u16; 4096] {
     list
 }
 
-pub fn numbers_before() -> [u32; 4096] {
+pub fn numbers_before() -> [u32; 4096]
+    ensures { λ r. ⌜ HeldBefore 4096 r ⌝ }
+{
     let mut list = [0u32; 4096];
     for i in 0..4096 {
         list[i] = held_before(i) as u32;
@@ -36,7 +42,9 @@ pub fn numbers_before() -> [u32; 4096] {
     list
 }
 
-pub fn wide_numbers_before() -> [u64; 4096] {
+pub fn wide_numbers_before() -> [u64; 4096]
+    ensures { λ r. ⌜ HeldBefore 4096 r ⌝ }
+{
     let mut list = [0u64; 4096];
     for i in 0..4096 {
         list[i] = held_before(i);
@@ -46,7 +54,7 @@ pub fn wide_numbers_before() -> [u64; 4096] {
 
 // How many entries there are up to the last one that is not as it was.
 fn changed(list: &[u64]) -> usize
-    ensures { λ r. ⌜ r ≤ length (now (list .entry)) ⌝ }
+    ensures { λ r. ⌜ Changed (now (list .entry)) r ⌝ }
 {
     let mut n = list.len();
     while 0 < n {
@@ -61,7 +69,7 @@ fn changed(list: &[u64]) -> usize
 
 // How many entries in front are zero.
 fn zeros(list: &[u64]) -> usize
-    ensures { λ r. ⌜ r ≤ length (now (list .entry)) ⌝ }
+    ensures { λ r. ⌜ Zeros (now (list .entry)) r ⌝ }
 {
     let mut n = 0;
     while n < list.len() {
@@ -73,25 +81,34 @@ fn zeros(list: &[u64]) -> usize
     n
 }
 
-// ---- writing
+// ---- writing. What the system makes of it no contract can say: a function answers how many entries it wrote.
 
-pub fn write(text: &[u8]) {
+// How many entries of each list were written.
+pub struct Written {
+    pub labels: usize,
+    pub tallies: usize,
+    pub pairs: usize,
+}
+
+fn write(text: &[u8]) {
     write_all(STDOUT_FILENO, text);
 }
 
-pub fn write_number(word: &[u8], n: u64) {
+fn write_number(word: &[u8], n: u64) {
     write(word);
     print_decimal(STDOUT_FILENO, n);
 }
 
-pub fn write_answer(number: u64, value: usize) {
+fn write_answer(number: u64, value: usize) {
     write_number(b"answer ", number);
     write_number(b" ", value as u64);
     write(b"\n");
 }
 
-// A list's entries as far as they changed, and how many behind them are as they were.
-pub fn write_wide_numbers(word: &[u8], list: &[u64]) {
+// Writes a list's entries as far as they changed, and how many behind them are as they were. Answers how many entries it wrote.
+pub fn write_wide_numbers(word: &[u8], list: &[u64]) -> usize
+    ensures { λ r. ⌜ Changed (now (list .entry)) r ⌝ }
+{
     let n = changed(list);
     write_number(word, n as u64);
     let mut i = 0;
@@ -101,6 +118,7 @@ pub fn write_wide_numbers(word: &[u8], list: &[u64]) {
     }
     write_number(b" kept ", (list.len() - n) as u64);
     write(b"\n");
+    n
 }
 
 // Of a list that is cleared.
@@ -114,19 +132,26 @@ fn write_zeros(word: &[u8], list: &[u64]) {
 
 fn least(m: usize, n: usize) -> usize
     ensures { λ r. ⌜ (r ≤ m) × (r ≤ n) ⌝ }
+    ensures { λ r. ⌜ r ≡ min m n ⌝ }
 {
     if m <= n { m } else { n }
 }
 
-fn wide(n: u32) -> u64 {
+fn wide(n: u32) -> u64
+    ensures { λ r. ⌜ r ≡ n ⌝ }
+{
     n as u64
 }
 
-fn wide_mask(mask: u16) -> u64 {
+fn wide_mask(mask: u16) -> u64
+    ensures { λ r. ⌜ r ≡ mask ⌝ }
+{
     mask as u64
 }
 
-fn widen(list: &[u32], out: &mut [u64]) {
+fn widen(list: &[u32], out: &mut [u64])
+    ensures { λ _. ⌜ Copied (now (list .entry)) (now (out .exit)) ⌝ }
+{
     let n = least(list.len(), out.len());
     let mut i = 0;
     while i < n {
@@ -135,7 +160,9 @@ fn widen(list: &[u32], out: &mut [u64]) {
     }
 }
 
-fn widen_masks(masks: &[u16], out: &mut [u64]) {
+fn widen_masks(masks: &[u16], out: &mut [u64])
+    ensures { λ _. ⌜ Copied (now (masks .entry)) (now (out .exit)) ⌝ }
+{
     let n = least(masks.len(), out.len());
     let mut i = 0;
     while i < n {
@@ -144,33 +171,53 @@ fn widen_masks(masks: &[u16], out: &mut [u64]) {
     }
 }
 
-pub fn write_numbers(word: &[u8], list: &[u32]) {
+fn write_numbers(word: &[u8], list: &[u32]) -> usize
+    ensures { λ r. ⌜ Changed (take 4096 (now (list .entry))) r ⌝ }
+{
     let mut numbers = [0u64; 4096];
     widen(list, &mut numbers);
-    let n = least(list.len(), 4096);
-    write_wide_numbers(word, &numbers[0..n]);
+    let n = least(4096, list.len());
+    write_wide_numbers(word, &numbers[0..n])
 }
 
-// The lists that a partition fills and clears.
-pub fn write_lists(labels: &[u32], masks: &[u16], queue: &[u32], tallies: &[u32], pairs: &[u32]) {
-    write_numbers(b"labels ", labels);
-    write_numbers(b"tallies ", tallies);
-    write_numbers(b"pairs ", pairs);
+// Writes an answer and the lists that a partition fills and clears. Answers how many entries it wrote of labels, tallies and pairs.
+pub fn write_partition(
+    number: u64,
+    value: usize,
+    labels: &[u32],
+    masks: &[u16],
+    queue: &[u32],
+    tallies: &[u32],
+    pairs: &[u32],
+) -> Written
+    ensures { λ r. ⌜ Changed (take 4096 (now (labels .entry))) (r .labels) ⌝ }
+    ensures { λ r. ⌜ Changed (take 4096 (now (tallies .entry))) (r .tallies) ⌝ }
+    ensures { λ r. ⌜ Changed (take 4096 (now (pairs .entry))) (r .pairs) ⌝ }
+{
+    write_answer(number, value);
+    let of_labels = write_numbers(b"labels ", labels);
+    let of_tallies = write_numbers(b"tallies ", tallies);
+    let of_pairs = write_numbers(b"pairs ", pairs);
     write_cleared_masks(masks);
     write_cleared_queue(queue);
+    Written {
+        labels: of_labels,
+        tallies: of_tallies,
+        pairs: of_pairs,
+    }
 }
 
 fn write_cleared_masks(masks: &[u16]) {
     let mut numbers = [0u64; 4096];
     widen_masks(masks, &mut numbers);
-    let n = least(masks.len(), 4096);
+    let n = least(4096, masks.len());
     write_zeros(b"masks ", &numbers[0..n]);
 }
 
 fn write_cleared_queue(queue: &[u32]) {
     let mut numbers = [0u64; 4096];
     widen(queue, &mut numbers);
-    let n = least(queue.len(), 4096);
+    let n = least(4096, queue.len());
     write_zeros(b"queue ", &numbers[0..n]);
 }
 
@@ -208,7 +255,8 @@ pub const OUTPUT: usize = 13;
 
 const SHEET: usize = 14;
 
-const OPENING: usize = 30;
+// The bytes of an opening.
+pub const OPENING: usize = 30;
 
 fn byte(b: u8) -> usize
     ensures { λ r. ⌜ r < 256 ⌝ }
@@ -232,9 +280,11 @@ pub fn number_within(opening: &[u8; 30], k: usize, most: usize) -> usize
     least(number(opening, k), most)
 }
 
-// Reads the numbers of the next case; false where there is none.
-pub fn read_opening(opening: &mut [u8; 30]) -> bool {
-    read_full(STDIN_FILENO, &mut *opening) == OPENING
+// Reads the numbers of the next case, and answers how many bytes there were; fewer than 30 where there is none.
+pub fn read_opening(opening: &mut [u8; 30]) -> usize
+    ensures { λ r. ⌜ r ≤ 30 ⌝ }
+{
+    read_full(STDIN_FILENO, &mut *opening)
 }
 
 // Reads the sheet behind an opening, and answers how many bytes it has.

@@ -18,14 +18,17 @@ const SHEET_BYTES_MOST: usize = 65_536;
 
 const CELLS_MOST: u64 = 4096;
 
+// A line of 64 bytes and 256 rows of 105.
+pub const OUTPUT_ROOM: usize = 26_944;
+
 // A refusal was printed, of so many bytes; or the lists hold the sheet.
-pub enum Before {
+enum Before {
     Printed(usize),
     Ready(Header),
 }
 
 // Reads a sheet into the lists, or prints why it is refused.
-pub fn read(
+fn read(
     bytes: &[u8],
     cells: &mut [u8],
     spans: &mut [u64],
@@ -58,7 +61,7 @@ pub fn read(
 }
 
 // Prints the call's answer: where its number is 0, so many rows of the output, of so many boundaries.
-pub fn print(number: u64, value: u64, output: &[u64], count: usize, out: &mut [u8]) -> usize
+fn print(number: u64, value: u64, output: &[u64], count: usize, out: &mut [u8]) -> usize
     requires { ⌜ RowsFit number value (length (now output)) ⌝ }
     requires { ⌜ outRoom ≤ length (now out) ⌝ }
     ensures { λ r. ⌜ AnswerPrinted number value (now (output .entry)) count (now (out .entry)) (now (out .exit)) r ⌝ }
@@ -159,11 +162,10 @@ fn answer_held(
     )
 }
 
-// What `keptlist` prints for these bytes, and how many they are.
-pub fn keptlist(bytes: &[u8], out: &mut [u8]) -> usize
-    requires { ⌜ outRoom ≤ length (now out) ⌝ }
-    ensures { λ r. ⌜ Printed (printing.keptlist (now (bytes .entry))) (now (out .entry)) (now (out .exit)) r ⌝ }
-    ensures { λ r. ⌜ Inside r (now (out .exit)) ⌝ }
+// What `keptlist` prints for these bytes, and how many they are. The type of `out` gives room for the longest list that is printed, so that nothing is asked of it.
+pub fn keptlist(bytes: &[u8], out: &mut [u8; OUTPUT_ROOM]) -> usize
+    ensures prints { λ r. ⌜ Printed (printing.keptlist (now (bytes .entry))) (now (out .entry)) (now (out .exit)) r ⌝ }
+    ensures inside { λ r. ⌜ Inside r (now (out .exit)) ⌝ }
 {
     let mut cells = [0u8; 4096];
     let mut spans = [0u64; 1024];
@@ -197,8 +199,8 @@ pub fn input_room() -> [u8; 65537]
 }
 
 // Room for the longest list that is printed.
-pub fn output_room() -> [u8; 26944]
+pub fn output_room() -> [u8; OUTPUT_ROOM]
     ensures { λ r. ⌜ 26944 ≡ length r ⌝ }
 {
-    [0; 26944]
+    [0; OUTPUT_ROOM]
 }

@@ -1,6 +1,5 @@
 pub mod here
 pub mod interiors
-pub mod kept_boundaries
 pub mod marks
 pub mod mouths
 pub mod proposals

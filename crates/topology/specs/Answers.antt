@@ -14,6 +14,7 @@ use Rattle.calls.specs.Contract.{given, Ran}
 use Rattle.topology.specs.declared.Answer.{Answer}
 use Rattle.topology.specs.declared.Answer.the-variants.{Kept, Refused}
 use Rattle.topology.specs.declared.TopologyAnswer.{TopologyAnswer}
+use Rattle.topology.specs.Numbers.{withRecords}
 
 abbrev pub answerOf : Answer → verdict.Answer
 answerOf (Kept rows) = record { number = 0; value = rows }
@@ -30,15 +31,20 @@ written (suc number) n = 0
 
 -- What was lent, the answer, and at exit labels l′, masks m′, queue q′, tallies t′, pairs p′, records s′ and output o′. Records that are not written are as they were, not
 -- only as `recordOf` shows them.
-pub record RanOver (pass w h : ℕ) (cells spans boundaries anchors l m q t p : List ℕ) (s : List Region) (o : List ℕ) (a : verdict.Answer) (l′ m′ q′ t′ p′ : List ℕ) (s′ : List Region) (o′ : List ℕ) : Type 0 where
+pub record RanOver (pass w h : ℕ) (cells spans boundaries anchors l m q t p : List ℕ) (s : List Region) (o : List ℕ) (a : verdict.Answer)
+    (l′ m′ q′ t′ p′ : List ℕ) (s′ : List Region) (o′ : List ℕ) : Type 0 where
   pub ran : Ran (given pass w h cells spans boundaries anchors l m q t p (map recordOf s) o) a l′ m′ q′ t′ p′ (map recordOf s′) o′
-  pub beyond : drop (written (a .number) (regionCount (mapOf w h cells spans boundaries anchors))) s′ ≡ drop (written (a .number) (regionCount (mapOf w h cells spans boundaries anchors))) s
+  pub beyond :
+      drop (written (a .number) (regionCount (mapOf w h cells spans boundaries anchors))) s′
+      ≡ drop (written (a .number) (regionCount (mapOf w h cells spans boundaries anchors))) s
 
 -- the call with records of its own has so many
 abbrev pub recordsHere : ℕ
 recordsHere = 512
 
--- with `room` of its records, or all where it has no more, that are empty at entry
-abbrev pub RanHere : (pass w h : ℕ) (cells spans boundaries anchors : List ℕ) (room : ℕ) (l m q t p o : List ℕ) → verdict.Answer → (l′ m′ q′ t′ p′ o′ : List ℕ) → Type 0
-RanHere pass w h cells spans boundaries anchors room l m q t p o a l′ m′ q′ t′ p′ o′ =
-    (s : List def.Region) × Ran (given pass w h cells spans boundaries anchors l m q t p (replicate (min room recordsHere) emptyRegion) o) a l′ m′ q′ t′ p′ s o′
+-- With `room` of its records, or all where it has no more, that are empty at entry. Numbers n have become n′: the records at exit are written in front.
+pub record RanHere (pass w h : ℕ) (cells spans boundaries anchors : List ℕ) (room : ℕ) (l m q t p o n : List ℕ) (a : verdict.Answer)
+    (l′ m′ q′ t′ p′ o′ n′ : List ℕ) : Type 0 where
+  pub records : List def.Region
+  pub ran : Ran (given pass w h cells spans boundaries anchors l m q t p (replicate (min room recordsHere) emptyRegion) o) a l′ m′ q′ t′ p′ records o′
+  pub numbers : n′ ≡ withRecords records n

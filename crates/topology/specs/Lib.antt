@@ -5,4 +5,5 @@ pub mod Held
 pub mod Interiors
 pub mod Marks
 pub mod Mouths
+pub mod Numbers
 pub mod Proposals

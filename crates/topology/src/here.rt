@@ -1,10 +1,10 @@
 // The call with records of its own, for callers that lend plain lists alone.
 use crate::Answer;
-use crate::kept_boundaries;
-use crate::numbers::NUMBERS_PER_RECORD;
+use crate::answer_of;
+use crate::numbers::RECORDS_HERE;
 use crate::numbers::least;
-use crate::numbers::put_numbers;
-use crate::slice::record_at;
+use crate::numbers::put_records;
+use crate::topology_kept_boundaries;
 use context::Region;
 ghost use mathlib.Core.Path.{_≡_};
 ghost use mathlib.Core.List.{map};
@@ -13,24 +13,11 @@ ghost use Rattle.definitions.specs.RegionRecord.{emptyRegion};
 ghost use Rattle.context.specs.Records.{recordOf};
 ghost use Rattle.topology.specs.Answers.{answerOf, recordsHere, RanHere};
 
-const RECORDS_HERE: usize = 512;
-
 fn empty_records() -> [Region; RECORDS_HERE]
     ensures { λ r. ⌜ map recordOf r ≡ replicate recordsHere emptyRegion ⌝ }
 {
     let empty = Region::empty();
     [empty; RECORDS_HERE]
-}
-
-// Writes the records in numbers, as many as there is room for.
-pub fn put_records(records: &[Region], numbers: &mut [u64]) {
-    let count = least(records.len(), numbers.len() / NUMBERS_PER_RECORD);
-    let mut i = 0;
-    while i < count {
-        let r = record_at(records, i);
-        put_numbers(numbers, NUMBERS_PER_RECORD * i, r);
-        i += 1;
-    }
 }
 
 // The call with `room` records, at most 512. They are empty at entry and, as far as there is room, written in numbers at the end.
@@ -51,11 +38,16 @@ pub fn kept_boundaries_here(
     output: &mut [u64],
     numbers: &mut [u64],
 ) -> Answer
-    ensures { λ r. ⌜ RanHere pass width height (now (cells .entry)) (now (spans .entry)) (now (boundaries .entry)) (now (anchors .entry)) room (now (labels .entry)) (now (masks .entry)) (now (queue .entry)) (now (tallies .entry)) (now (pairs .entry)) (now (output .entry)) (answerOf r) (now (labels .exit)) (now (masks .exit)) (now (queue .exit)) (now (tallies .exit)) (now (pairs .exit)) (now (output .exit)) ⌝ }
+    ensures { λ r. ⌜ RanHere pass width height
+        (now (cells .entry)) (now (spans .entry)) (now (boundaries .entry)) (now (anchors .entry)) room
+        (now (labels .entry)) (now (masks .entry)) (now (queue .entry)) (now (tallies .entry)) (now (pairs .entry))
+        (now (output .entry)) (now (numbers .entry)) (answerOf r)
+        (now (labels .exit)) (now (masks .exit)) (now (queue .exit)) (now (tallies .exit)) (now (pairs .exit))
+        (now (output .exit)) (now (numbers .exit)) ⌝ }
 {
     let lent = least(room, RECORDS_HERE);
     let mut records: [Region; RECORDS_HERE] = empty_records();
-    let answer = kept_boundaries(
+    let answer = topology_kept_boundaries(
         pass,
         width,
         height,
@@ -71,6 +63,6 @@ pub fn kept_boundaries_here(
         &mut records[..lent],
         output,
     );
-    put_records(&records[..lent], numbers);
-    answer
+    put_records(records, lent, numbers);
+    answer_of(answer)
 }

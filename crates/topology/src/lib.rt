@@ -1,4 +1,5 @@
 // The call that runs a pass. The modules hold the functions that see the lent slice of region records; all other work on records is done on them by value.
+pub mod entries;
 pub mod here;
 pub mod interiors;
 pub mod marks;
@@ -16,16 +17,35 @@ use context::Region;
 use marks::mark_removed;
 use records::fill;
 use views::finish;
+ghost use mathlib.Core.Path.{_≡_};
 ghost use Rattle.topology.specs.Answers.{answerOf, exported, RanOver};
 
-// How many rows are kept, or a refusal with its number and place.
+// The number is 0 and the value how many rows are kept, or they are a refusal's number and place.
+#[repr(C)]
+pub struct TopologyAnswer {
+    pub number: u64,
+    pub value: u64,
+}
+
+// The same by cases.
 pub enum Answer {
     Kept(usize),
     Refused(u64, usize),
 }
 
-// The call that runs a pass, as document 01 has it.
-pub fn kept_boundaries(
+// For callers in Rattle.
+pub fn answer_of(a: TopologyAnswer) -> Answer
+    ensures { λ r. ⌜ answerOf r ≡ exported a ⌝ }
+{
+    if a.number == 0 {
+        return Answer::Kept(a.value as usize);
+    }
+    Answer::Refused(a.number, a.value as usize)
+}
+
+// The call that runs a pass, as document 01 has it, for callers in any language: the function that does the work is itself the one that is exported.
+#[no_mangle]
+pub extern "C" fn topology_kept_boundaries(
     pass: u64,
     width: u64,
     height: u64,
@@ -40,8 +60,13 @@ pub fn kept_boundaries(
     pairs: &mut [u32],
     records: &mut [Region],
     output: &mut [u64],
-) -> Answer
-    ensures { λ r. ⌜ RanOver pass width height (now (cells .entry)) (now (spans .entry)) (now (boundaries .entry)) (now (anchors .entry)) (now (labels .entry)) (now (masks .entry)) (now (queue .entry)) (now (tallies .entry)) (now (pairs .entry)) (now (records .entry)) (now (output .entry)) (answerOf r) (now (labels .exit)) (now (masks .exit)) (now (queue .exit)) (now (tallies .exit)) (now (pairs .exit)) (now (records .exit)) (now (output .exit)) ⌝ }
+) -> TopologyAnswer
+    ensures { λ r. ⌜ RanOver pass width height
+        (now (cells .entry)) (now (spans .entry)) (now (boundaries .entry)) (now (anchors .entry))
+        (now (labels .entry)) (now (masks .entry)) (now (queue .entry)) (now (tallies .entry)) (now (pairs .entry))
+        (now (records .entry)) (now (output .entry)) (exported r)
+        (now (labels .exit)) (now (masks .exit)) (now (queue .exit)) (now (tallies .exit)) (now (pairs .exit))
+        (now (records .exit)) (now (output .exit)) ⌝ }
 {
     let room = records.len();
     let lent = output.len();
@@ -62,7 +87,10 @@ pub fn kept_boundaries(
         pairs,
     );
     match prepared {
-        Prepared::Refused(number, place) => Answer::Refused(number, place),
+        Prepared::Refused(number, place) => TopologyAnswer {
+            number,
+            value: place as u64,
+        },
         Prepared::Ready(regions, rows) => {
             let columns = width as usize;
             let needed = height as usize * columns;
@@ -94,62 +122,10 @@ pub fn kept_boundaries(
                 queue,
                 output,
             );
-            Answer::Kept(kept)
+            TopologyAnswer {
+                number: 0,
+                value: kept as u64,
+            }
         }
-    }
-}
-
-// The number is 0 and the value how many rows are kept, or they are a refusal's number and place.
-#[repr(C)]
-pub struct TopologyAnswer {
-    pub number: u64,
-    pub value: u64,
-}
-
-// The call, for C and Rust.
-#[no_mangle]
-pub extern "C" fn topology_kept_boundaries(
-    pass: u64,
-    width: u64,
-    height: u64,
-    cells: &[u8],
-    spans: &[u64],
-    boundaries: &[u64],
-    anchors: &[u64],
-    labels: &mut [u32],
-    masks: &mut [u16],
-    queue: &mut [u32],
-    tallies: &mut [u32],
-    pairs: &mut [u32],
-    records: &mut [Region],
-    output: &mut [u64],
-) -> TopologyAnswer
-    ensures { λ r. ⌜ RanOver pass width height (now (cells .entry)) (now (spans .entry)) (now (boundaries .entry)) (now (anchors .entry)) (now (labels .entry)) (now (masks .entry)) (now (queue .entry)) (now (tallies .entry)) (now (pairs .entry)) (now (records .entry)) (now (output .entry)) (exported r) (now (labels .exit)) (now (masks .exit)) (now (queue .exit)) (now (tallies .exit)) (now (pairs .exit)) (now (records .exit)) (now (output .exit)) ⌝ }
-{
-    let answer = kept_boundaries(
-        pass,
-        width,
-        height,
-        cells,
-        spans,
-        boundaries,
-        anchors,
-        labels,
-        masks,
-        queue,
-        tallies,
-        pairs,
-        records,
-        output,
-    );
-    match answer {
-        Answer::Kept(rows) => TopologyAnswer {
-            number: 0,
-            value: rows as u64,
-        },
-        Answer::Refused(number, place) => TopologyAnswer {
-            number,
-            value: place as u64,
-        },
     }
 }

@@ -1,11 +1,14 @@
 // Pass 1 over the lent slice of region records.
+use crate::entries::index_at;
+use crate::entries::kind_at;
+use crate::entries::put_near;
+use crate::entries::region_at;
 use crate::slice::record_at;
 use context::Region;
 use context::pairs::wide;
 use mouth_regions::inner::inner_region;
 use mouth_regions::inner::places;
 use mouth_regions::near::region_near;
-use mouth_selection::selection::index;
 use mouth_selection::selection::select_mouths;
 use ramp_boundaries::candidates::any_ramp;
 use ramp_boundaries::candidates::push_candidates;
@@ -66,16 +69,17 @@ pub fn mark_near(
 {
     let mut k = 0;
     while k < n {
-        near[k] = corners_near(
+        let is_near = corners_near(
             records,
             boundaries,
             pairs,
             starts,
-            index(mouths[k]),
-            index(ramps[k]),
-            outers[k],
-            kinds[k],
+            index_at(mouths, k),
+            index_at(ramps, k),
+            region_at(outers, k),
+            kind_at(kinds, k),
         );
+        put_near(near, k, is_near);
         k += 1;
     }
 }

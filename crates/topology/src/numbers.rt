@@ -1,60 +1,66 @@
-// A region's record in plain numbers, for programs that print it.
+// Records of regions in plain numbers, for programs that print them.
 use context::Region;
 ghost use mathlib.Core.Path.{_≡_};
+ghost use mathlib.Core.List.{map};
 ghost use Prim.Native.Nat.{_+_, _≤_, min};
-ghost use lib.ListN.{length};
+ghost use lib.ListN.{length, take};
+ghost use lib.Seq.{sets};
+ghost use lib.Ieee.{binary64, toBits};
+ghost use Rattle.definitions.specs.Scan.{bit};
+ghost use Rattle.context.specs.Records.{recordOf};
+ghost use Rattle.topology.specs.Numbers.{recordNumbers, withRecords};
 
-pub const NUMBERS_PER_RECORD: usize = 11;
+const NUMBERS_PER_RECORD: usize = 11;
 
-fn raised(n: u32, step: u32, x: f64) -> u32
-    requires { ⌜ n + step ≤ 16384 ⌝ }
-    ensures { λ r. ⌜ r ≤ n + step ⌝ }
+// The call with records of its own has so many.
+pub const RECORDS_HERE: usize = 512;
+
+// A NaN's, of which there is one in the definitions. No edge is a NaN.
+const NAN_BITS: u64 = 0x7ff8_0000_0000_0000;
+
+// The bits of an edge.
+fn bits_of(x: f64) -> u64
+    ensures { λ r. ⌜ r ≡ toBits binary64 x ⌝ }
 {
-    if (n + step) as f64 <= x {
-        return n + step;
+    if x != x {
+        return NAN_BITS;
     }
-    n
+    f64::to_bits(x)
 }
 
-// The largest whole number up to x, of those below 16,384: an edge of a region is a whole number up to 8,192.
-fn whole(x: f64) -> u64 {
-    let mut n = 0u32;
-    let mut step = 8192u32;
-    while 0 < step {
-        n = raised(n, step, x);
-        step /= 2;
-    }
-    n as u64
-}
-
-fn flag(b: bool) -> u64 {
+fn flag(b: bool) -> u64
+    ensures { λ r. ⌜ r ≡ bit b ⌝ }
+{
     if b {
         return 1;
     }
     0
 }
 
-// Cells, the four edges, whether a cell is a ramp, the mask, and the count of each elevation.
-pub fn numbers_of(r: Region) -> [u64; 11] {
+// Cells, the bits of the four edges, whether a cell is a ramp, the mask, and the count of each elevation.
+fn numbers_of(r: Region) -> [u64; 11]
+    ensures { λ n. ⌜ n ≡ recordNumbers (recordOf r) ⌝ }
+{
     let counts = r.elevation_counts;
-    let mut n = [0u64; 11];
-    n[0] = r.cells as u64;
-    n[1] = whole(r.min_x);
-    n[2] = whole(r.min_y);
-    n[3] = whole(r.max_x);
-    n[4] = whole(r.max_y);
-    n[5] = flag(r.has_ramp);
-    n[6] = r.elevations as u64;
-    n[7] = counts[0] as u64;
-    n[8] = counts[1] as u64;
-    n[9] = counts[2] as u64;
-    n[10] = counts[3] as u64;
-    n
+    [
+        r.cells as u64,
+        bits_of(r.min_x),
+        bits_of(r.min_y),
+        bits_of(r.max_x),
+        bits_of(r.max_y),
+        flag(r.has_ramp),
+        r.elevations as u64,
+        counts[0] as u64,
+        counts[1] as u64,
+        counts[2] as u64,
+        counts[3] as u64,
+    ]
 }
 
 // Puts them from place `at` on.
-pub fn put_numbers(numbers: &mut [u64], at: usize, r: Region)
+fn put_numbers(numbers: &mut [u64], at: usize, r: Region)
     requires { ⌜ at + 11 ≤ length (now numbers) ⌝ }
+    ensures { λ _. ⌜ now (numbers .exit) ≡ sets (now (numbers .entry)) at (recordNumbers (recordOf r)) ⌝ }
 {
     let n = numbers_of(r);
     let mut i = 0;
@@ -68,4 +74,18 @@ pub fn least(a: usize, b: usize) -> usize
     ensures { λ r. ⌜ r ≡ min a b ⌝ }
 {
     if a < b { a } else { b }
+}
+
+// Writes the first records in numbers, as many as there is room for.
+pub fn put_records(records: [Region; RECORDS_HERE], first: usize, numbers: &mut [u64])
+    ensures { λ _. ⌜ now (numbers .exit) ≡ withRecords (map recordOf (take first records)) (now (numbers .entry)) ⌝ }
+{
+    let lent = least(first, RECORDS_HERE);
+    let count = least(lent, numbers.len() / NUMBERS_PER_RECORD);
+    let mut i = 0;
+    while i < count {
+        let r = records[i];
+        put_numbers(numbers, NUMBERS_PER_RECORD * i, r);
+        i += 1;
+    }
 }

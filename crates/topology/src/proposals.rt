@@ -1,4 +1,5 @@
 // Pass 3 over the lent slice of region records.
+use crate::entries::put_allowed;
 use crate::slice::record_at;
 use context::Region;
 use junction_regions::first_place;
@@ -31,7 +32,8 @@ pub fn allow_proposals(
     while k < n {
         let first = record_at(records, first_place(rows, k));
         let second = record_at(records, second_place(rows, k));
-        allowed[k] = is_allowed(boundaries, marks, rows, k, first, second);
+        let fits = is_allowed(boundaries, marks, rows, k, first, second);
+        put_allowed(allowed, k, fits);
         k += 1;
     }
 }

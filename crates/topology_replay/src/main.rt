@@ -1,6 +1,7 @@
 // Replays stored cases of the call that runs a pass. Standard input is one case after the other: the numbers that `lent_lists` names, and a sheet, which gives
 // the cells, the spans, the boundaries and the anchors. Of each case it writes the answer and what the lists hold; the records as numbers, eleven each.
 use io::large_buffer;
+use io::write_all;
 use lent_lists::ANCHORS;
 use lent_lists::BOUNDARIES;
 use lent_lists::CASES;
@@ -8,6 +9,7 @@ use lent_lists::CELLS;
 use lent_lists::HEIGHT;
 use lent_lists::LABELS;
 use lent_lists::MASKS;
+use lent_lists::OPENING;
 use lent_lists::OUTPUT;
 use lent_lists::PAIRS;
 use lent_lists::PASS;
@@ -23,20 +25,12 @@ use lent_lists::numbers_before;
 use lent_lists::read_bytes;
 use lent_lists::read_opening;
 use lent_lists::wide_numbers_before;
-use lent_lists::write;
-use lent_lists::write_answer;
-use lent_lists::write_lists;
+use lent_lists::write_partition;
 use lent_lists::write_wide_numbers;
+use libc::STDOUT_FILENO;
 use topology::here::kept_boundaries_here;
 ghost use Prim.Native.Nat.{_≤_};
 ghost use lib.ListN.{length};
-
-fn write_call(answer: topology::Answer) {
-    match answer {
-        topology::Answer::Kept(rows) => write_answer(0, rows),
-        topology::Answer::Refused(number, place) => write_answer(number, place),
-    }
-}
 
 // Records are lent within the call, as many as the opening says, and written in `numbers`.
 fn run(
@@ -70,8 +64,27 @@ fn run(
         output,
         numbers,
     );
-    write_call(answer);
-    write_lists(labels, masks, queue, tallies, pairs);
+    match answer {
+        topology::Answer::Kept(rows) => write_partition(
+            0,
+            rows,
+            labels,
+            masks,
+            queue,
+            tallies,
+            pairs,
+        ),
+        topology::Answer::Refused(number, place) => write_partition(
+            number,
+            place,
+            labels,
+            masks,
+            queue,
+            tallies,
+            pairs,
+        ),
+    }
+    ;
     write_wide_numbers(b"records ", numbers);
     write_wide_numbers(b"output ", output);
 }
@@ -130,7 +143,9 @@ fn replay(opening: &[u8; 30], bytes: &[u8]) {
     let answer = sheet::read_sheet(bytes, &mut cells, &mut spans, &mut boundaries, &mut anchors);
     match answer {
         sheet::Answer::Read(_) => pass_on(opening, &cells, &spans, &boundaries, &anchors),
-        sheet::Answer::Refused(_, _) => write(b"no sheet\n"),
+        sheet::Answer::Refused(_, _) => {
+            write_all(STDOUT_FILENO, b"no sheet\n");
+        }
     }
 }
 
@@ -139,7 +154,7 @@ fn replay_next(buffer: &mut [u8]) -> bool
     requires { ⌜ 65536 ≤ length (now buffer) ⌝ }
 {
     let mut opening = [0u8; 30];
-    if !read_opening(&mut opening) {
+    if read_opening(&mut opening) < OPENING {
         return false;
     }
     let size = read_bytes(&opening, &mut *buffer);

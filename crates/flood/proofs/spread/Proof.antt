@@ -2,13 +2,9 @@
 -- does not change, since the queue only grows at its end. Assumes nothing.
 use Prim.Native.Nat.{_≤_, _<_, _-_, _*_}
 use native.Mathlib.Omega.{arith}
-use mathlib.Core.Path.{_≡_}
-use lib.ListN.{getD}
 use borrow.Author.Needs.{needs}
-use Rattle.flood.specs.Walk.{gridOf, graphOf, directionAt}
+use Rattle.flood.specs.Walk.{gridOf, graphOf}
 use Rattle.flood.specs.State.{Ran}
-use Rattle.flood.specs.Inner.{positionAt}
-use Rattle.flood.proofs.Ways.{table-at}
 use Rattle.flood.proofs.States.{tail-le, ran-start, ran-turn}
 use Rattle.flood.proofs.StepTests.{cell-wide, cell-x, cell-y}
 use Rattle.flood.proofs.Turns.{visiting, spread-visited}
@@ -16,70 +12,71 @@ use Rattle.flood.proofs.spread.Statement.{statement}
 use Rattle.flood.proofs.spread.Tie as tie
 
 abbrev Inv-loop : tie.InvT-loop
-Inv-loop width height cells masks labels₀ queue₀ id head tail table c x y inner end₀ d₀ labels queue end d =
+Inv-loop width height cells masks labels₀ queue₀ id head tail c x y inner end₀ d₀ labels queue end d =
     (d ≤ 8) × Ran (graphOf (gridOf width height cells) masks) id labels₀ queue₀ tail labels queue head d end
 
 abbrev μ-loop : tie.MeasureT-loop
-μ-loop width height cells masks labels₀ queue₀ id head tail table c x y inner end₀ d₀ labels queue end d =
+μ-loop width height cells masks labels₀ queue₀ id head tail c x y inner end₀ d₀ labels queue end d =
     8 - d
 
--- the function's entry, from its first call on
-abbrev entry : tie.After-direction-table Inv-loop μ-loop → tie.Start Inv-loop μ-loop
-entry c = c .before .before .before .before .before
+-- the function's entry, from where all that is known of the lists is told
+abbrev entry : tie.After-slice-known2 Inv-loop μ-loop → tie.Start Inv-loop μ-loop
+entry c = let told : tie.After-shared-slice-known Inv-loop μ-loop = c .before .before .before in told .before
 
--- the turn's begin, from its end
+-- from the cell at the queue's head, and from the loop
+abbrev start : tie.After-wide Inv-loop μ-loop → tie.Start Inv-loop μ-loop
+start c = entry (c .before .before)
+
+abbrev at-cell : tie.At-loop Inv-loop μ-loop → tie.After-wide Inv-loop μ-loop
+at-cell l = l .before .before
+
+-- of a turn: the visit, from the turn's end; the direction, from the visit on; and the turn's begin
+abbrev at-visit : tie.After-slice-known5 Inv-loop μ-loop → tie.After-visit Inv-loop μ-loop
+at-visit c = let labels : tie.After-labels Inv-loop μ-loop = c .before .before .before in labels .before
+
+abbrev at-direction : tie.After-visit-arg2 Inv-loop μ-loop → tie.After-place-at Inv-loop μ-loop
+at-direction c = c .before .before
+
 abbrev turn : tie.After-slice-known5 Inv-loop μ-loop → tie.In-loop Inv-loop μ-loop
-turn c = c .before .before .before .before .before .before .before
-
-direction-table-requires : tie.Need-direction-table-requires Inv-loop μ-loop
-direction-table-requires c κs = search needs
+turn c = at-direction (at-visit c .before) .before
 
 mul-wide : tie.Need-mul-wide Inv-loop μ-loop
-mul-wide c = omega (arith, tail-le (c .before .before .before .before .before .pre .state), c .before .before .before .before .before .pre .busy, c .before .before .before .before .before .pre .grid .few)
+mul-wide c = omega (arith, tail-le (entry c .pre .state), entry c .pre .busy, entry c .pre .grid .few)
 
 slice-read-wide : tie.Need-slice-read-wide Inv-loop μ-loop
-slice-read-wide c = omega (arith, tail-le (entry (c .before) .pre .state), entry (c .before) .pre .state .room, entry (c .before) .pre .busy)
+slice-read-wide c = let s = entry (c .before) in omega (arith, tail-le (s .pre .state), s .pre .state .room, s .pre .busy)
 
 wide-requires : tie.Need-wide-requires Inv-loop μ-loop
 wide-requires c κs = search needs
 
 -- a cell of the grid
-in-grid : (c : tie.After-wide Inv-loop μ-loop) → c .wide .result < entry (c .before .before) .args .height * entry (c .before .before) .args .width
-in-grid c = omega (arith, c .wide .ensures, entry (c .before .before) .pre .state .cell (entry (c .before .before) .args .head) (entry (c .before .before) .pre .busy))
+in-grid : (c : tie.After-wide Inv-loop μ-loop) → c .wide .result < start c .args .height * start c .args .width
+in-grid c = omega (arith, c .wide .ensures, start c .pre .state .cell (start c .args .head) (start c .pre .busy))
 
 rem-x : tie.Need-rem-x Inv-loop μ-loop
-rem-x c = omega (arith, cell-wide (c .wide .result) (entry (c .before .before) .args .width) (entry (c .before .before) .args .height) (in-grid c))
+rem-x c = omega (arith, cell-wide (c .wide .result) (start c .args .width) (start c .args .height) (in-grid c))
 
 div-y : tie.Need-div-y Inv-loop μ-loop
-div-y c = omega (arith, cell-wide (c .wide .result) (entry (c .before .before) .args .width) (entry (c .before .before) .args .height) (in-grid c))
+div-y c = omega (arith, cell-wide (c .wide .result) (start c .args .width) (start c .args .height) (in-grid c))
 
 is-inner-requires : tie.Need-is-inner-requires Inv-loop μ-loop
 is-inner-requires c κs =
-    let s = entry (c .before .before) in
-    (s .pre .grid .narrow, s .pre .grid .short, cell-x (c .wide .result) (s .args .width) (s .args .height) (in-grid c), cell-y (c .wide .result) (s .args .width) (s .args .height) (in-grid c))
+    let s = start c in
+    let n = c .wide .result in
+    (s .pre .grid .narrow, s .pre .grid .short, cell-x n (s .args .width) (s .args .height) (in-grid c), cell-y n (s .args .width) (s .args .height) (in-grid c))
 
 loop-holds : tie.Need-loop-holds Inv-loop μ-loop
-loop-holds c = (omega arith, ran-start (entry (c .before .before .before) .pre .state))
+loop-holds c = (omega arith, ran-start (start (c .before) .pre .state))
 
-mul-visit : tie.Need-mul-visit Inv-loop μ-loop
-mul-visit c = omega (arith, c .before .before .loop-test .taken)
-
-element-copy-out-visit : tie.Need-element-copy-out-visit Inv-loop μ-loop
-element-copy-out-visit c = c .before .before .loop-test .taken
-
-mul-visit-2 : tie.Need-mul-visit-2 Inv-loop μ-loop
-mul-visit-2 c = omega (arith, c .before .before .loop-test .taken)
-
-element-copy-out-visit-2 : tie.Need-element-copy-out-visit-2 Inv-loop μ-loop
-element-copy-out-visit-2 c = c .before .before .loop-test .taken
-
--- what the table has at d
-direction : (c : tie.In-loop Inv-loop μ-loop) → positionAt (getD (c .before .before .before .before .before .direction-table .result) (c .before .loop .d) (record { x = 0; y = 0 })) ≡ directionAt (c .before .loop .d)
-direction c = table-at (c .before .before .before .before .before .direction-table .result) (c .before .before .before .before .before .direction-table .ensures) (c .before .loop .d)
+place-at-requires : tie.Need-place-at-requires Inv-loop μ-loop
+place-at-requires c κs = c .loop-test .taken
 
 visit-requires : tie.Need-visit-requires Inv-loop μ-loop
 visit-requires c κs =
-    visiting (entry (c .before .before .before .before .before .before .before) .pre) (c .before .before .before .loop .inv .1) (c .before .before .loop-test .taken) (c .before .before .before .before .before .wide .ensures) (c .before .before .before .before .is-inner .ensures) (direction (c .before .before))
+    let way = at-direction c in
+    let l = way .before in
+    let cell = at-cell (l .before) in
+    visiting (start cell .pre) (l .before .loop .inv .1) (l .loop-test .taken) (cell .wide .ensures) (l .before .before .is-inner .ensures) (way .place-at .ensures .0)
 
 add-d : tie.Need-add-d Inv-loop μ-loop
 add-d c = omega (arith, turn c .loop-test .taken)
@@ -88,11 +85,14 @@ loop-less : tie.Need-loop-less Inv-loop μ-loop
 loop-less c = omega (arith, turn c .loop-test .taken)
 
 loop-again : tie.Need-loop-again Inv-loop μ-loop
-loop-again c = (
-  omega (arith, turn c .loop-test .taken),
-  spread-visited (entry (turn c .before .before .before .before .before) .pre) (turn c .before .loop .inv .1) (turn c .loop-test .taken) (turn c .before .before .before .wide .ensures) (turn c .before .before .is-inner .ensures) (direction (turn c))
-      (c .before .before .before .before .visit .ensures),
-)
+loop-again c =
+    let l = turn c in
+    let cell = at-cell (l .before) in
+    let way = at-direction (at-visit c .before) in (
+      omega (arith, l .loop-test .taken),
+      spread-visited (start cell .pre) (l .before .loop .inv .1) (l .loop-test .taken) (cell .wide .ensures) (l .before .before .is-inner .ensures)
+          (way .place-at .ensures .0) (at-visit c .visit .ensures),
+    )
 
 same-length : tie.Need-same-length Inv-loop μ-loop
 same-length c = c .before .loop .inv .1 .labels .long
@@ -101,7 +101,7 @@ same-length-2 : tie.Need-same-length-2 Inv-loop μ-loop
 same-length-2 c = c .before .loop .inv .1 .queue .long
 
 returns : tie.Need-returns Inv-loop μ-loop
-returns c = ran-turn (c .before .loop .inv .1) (c .loop-test .left) (omega (arith, c .before .loop .inv .1 .longer, entry (c .before .before .before .before .before) .pre .busy))
+returns c = ran-turn (c .before .loop .inv .1) (c .loop-test .left) (omega (arith, c .before .loop .inv .1 .longer, start (at-cell (c .before)) .pre .busy))
 
 pub spread-spec : {M : Type 1} → statement M
 spread-spec =
@@ -109,7 +109,6 @@ spread-spec =
     (tie.spec
     Inv-loop
     μ-loop
-    direction-table-requires
     mul-wide
     slice-read-wide
     wide-requires
@@ -117,10 +116,7 @@ spread-spec =
     div-y
     is-inner-requires
     loop-holds
-    mul-visit
-    element-copy-out-visit
-    mul-visit-2
-    element-copy-out-visit-2
+    place-at-requires
     visit-requires
     add-d
     loop-less

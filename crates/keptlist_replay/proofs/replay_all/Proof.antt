@@ -1,4 +1,4 @@
--- `keptlist_replay::replay_all` meets its contract: both lists keep their lengths. Assumes nothing.
+-- `keptlist_replay::replay_all` meets its contract: the list keeps its length. Assumes nothing.
 use Prim.Native.Nat.{_-_}
 use mathlib.Core.Path.{_≡_}
 use borrow.Author.Needs.{needs}
@@ -7,10 +7,10 @@ use Rattle.keptlist_replay.proofs.replay_all.Statement.{statement}
 use Rattle.keptlist_replay.proofs.replay_all.Tie as tie
 
 abbrev Inv-loop : tie.InvT-loop
-Inv-loop sheet₀ out₀ counter₀ sheet out counter = (length sheet ≡ length sheet₀) × (length out ≡ length out₀)
+Inv-loop sheet₀ counter₀ sheet counter = length sheet ≡ length sheet₀
 
 abbrev μ-loop : tie.MeasureT-loop
-μ-loop sheet₀ out₀ counter₀ sheet out counter = 65536 - counter
+μ-loop sheet₀ counter₀ sheet counter = 65536 - counter
 
 loop-holds : tie.Need-loop-holds Inv-loop μ-loop
 loop-holds c = search needs
@@ -20,9 +20,6 @@ replay-requires c κs = search needs
 
 same-length : tie.Need-same-length Inv-loop μ-loop
 same-length c = search needs
-
-same-length-2 : tie.Need-same-length-2 Inv-loop μ-loop
-same-length-2 c = search needs
 
 returns : tie.Need-returns Inv-loop μ-loop
 returns c = search needs
@@ -36,11 +33,8 @@ loop-less c = search needs
 loop-again : tie.Need-loop-again Inv-loop μ-loop
 loop-again c = search needs
 
-same-length-3 : tie.Need-same-length-3 Inv-loop μ-loop
-same-length-3 c = search needs
-
-same-length-4 : tie.Need-same-length-4 Inv-loop μ-loop
-same-length-4 c = search needs
+same-length-2 : tie.Need-same-length-2 Inv-loop μ-loop
+same-length-2 c = search needs
 
 returns-2 : tie.Need-returns-2 Inv-loop μ-loop
 returns-2 c = search needs
@@ -54,11 +48,9 @@ replay-all-spec =
     loop-holds
     replay-requires
     same-length
-    same-length-2
     returns
     add-counter
     loop-less
     loop-again
-    same-length-3
-    same-length-4
+    same-length-2
     returns-2)

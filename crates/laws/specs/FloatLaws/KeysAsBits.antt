@@ -1,7 +1,6 @@
 -- Widths and separations stand in the passes' keys as their bit patterns. For finite doubles whose sign is clear this is their order: IEEE 754's `lt`, `le` and `eq` of them
 -- are `ltb`, `leb` and `eqb` of the patterns, since the magnitude grows with the pattern, and values compare as their magnitudes. So Rust's `partial_cmp` of them is the order of the bits.
--- IEEE 754-2019's totalOrder of them is the numerical order too, with +0 least: each number has one such double, -0 having its sign set.
--- Rust's `f64::total_cmp` compares the patterns as signs and magnitudes, which for patterns with the sign clear is the same again. Assumes nothing.
+-- (That IEEE 754-2019's totalOrder of widths is the order of the bits too is WidthOrder.) Assumes nothing.
 use mathlib.Core.Path.{_≡_, refl, sym, _∙_}
 use mathlib.Core.Logic.{_↔_, inl, inr}
 use Prim.Native.Nat.{ℕ, _*_, _^_, _≤_, _<_}
@@ -30,7 +29,7 @@ and-true : (p : Bool) → (p && true) ≡ p
 and-true true = refl
 and-true false = refl
 
-below-or-level : (a b : ℕ) → (ltb a b || (eqb a b && true)) ≡ leb a b
+pub below-or-level : (a b : ℕ) → (ltb a b || (eqb a b && true)) ≡ leb a b
 below-or-level a b = elim (le-or-lt a b) [
   | inl h ↦ elim (eq-or-lt-of-le h) [
     | inl e ↦ (λ i. le-ltb a b (le-of-eq (sym e)) i || (eq-eqb a b e i && true)) ∙ sym (le-leb a b h)

@@ -1,5 +1,6 @@
--- `write_wide_numbers` is safe and ends. The invariant: n is not beyond the list, and i is not beyond n. The measure is what is left up to n. Assumes nothing.
+-- `write_wide_numbers` meets its contract: what is answered is what `changed` answered. The invariant: n is not beyond the list, and i is not beyond n. The measure is what is left up to n. Assumes nothing.
 use Prim.Native.Nat.{_-_, _≤_}
+use native.Mathlib.Omega.{arith}
 use lib.ListN.{length}
 use borrow.Author.Needs.{needs}
 use Rattle.lent_lists.proofs.write_wide_numbers.Statement.{statement}
@@ -18,7 +19,7 @@ write-number-requires : tie.Need-write-number-requires Inv-loop μ-loop
 write-number-requires c κs = search needs
 
 loop-holds : tie.Need-loop-holds Inv-loop μ-loop
-loop-holds c = search needs
+loop-holds c = (c .before .changed .ensures .within, omega arith)
 
 slice-aggregate-write-number : tie.Need-slice-aggregate-write-number Inv-loop μ-loop
 slice-aggregate-write-number c = search needs
@@ -57,7 +58,10 @@ write-requires : tie.Need-write-requires Inv-loop μ-loop
 write-requires c κs = search needs
 
 returns : tie.Need-returns Inv-loop μ-loop
-returns c = search needs
+returns c =
+    let written = c .before .before .before in
+    let counted = written .before .before in
+    counted .before .before .changed .ensures
 
 pub write-wide-numbers-spec : {M : Type 1} → statement M
 write-wide-numbers-spec =

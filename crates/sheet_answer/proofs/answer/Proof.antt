@@ -38,7 +38,7 @@ slice-aggregate-print c = search needs
 print-requires : tie.Need-print-requires
 print-requires c κs =
     let call = c .before .before .before .before .before .before .before .before .before .before .before .before in
-    (ran-fits (ran-says (c .before .before .before .kept .given .1) (call .kept-boundaries-here .ensures .1)), search needs)
+    (ran-fits (ran-says (c .before .before .before .kept .given .1) (call .kept-boundaries-here .ensures .ran)), search needs)
 
 enum-known-number : tie.Need-enum-known-number
 enum-known-number c = search needs
@@ -49,7 +49,7 @@ slice-aggregate-print-2 c = search needs
 print-requires-2 : tie.Need-print-requires-2
 print-requires-2 c κs =
     let call = c .before .before .before .before .before .before .before .before .before .before .before .before in
-    (ran-fits (ran-says (c .before .before .before .number .given .1) (call .kept-boundaries-here .ensures .1)), search needs)
+    (ran-fits (ran-says (c .before .before .before .number .given .1) (call .kept-boundaries-here .ensures .ran)), search needs)
 
 same-length : tie.Need-same-length
 same-length c = search needs
@@ -58,7 +58,7 @@ returns : tie.Need-returns
 returns c =
     let printed = c .before .before in
     let call = printed .before .before .before .before .before .before .before .before .before .before .before .before .before in
-    ran-printed (ran-says (printed .before .before .before .before .kept .given .1) (call .kept-boundaries-here .ensures .1)) _ refl (printed .print .ensures)
+    ran-printed (ran-says (printed .before .before .before .before .kept .given .1) (call .kept-boundaries-here .ensures .ran)) _ refl (printed .print .ensures)
 
 same-length-2 : tie.Need-same-length-2
 same-length-2 c = search needs
@@ -67,7 +67,7 @@ returns-2 : tie.Need-returns-2
 returns-2 c =
     let printed = c .before .before in
     let call = printed .before .before .before .before .before .before .before .before .before .before .before .before .before in
-    ran-printed (ran-says (printed .before .before .before .before .number .given .1) (call .kept-boundaries-here .ensures .1)) _ refl (printed .print2 .ensures)
+    ran-printed (ran-says (printed .before .before .before .before .number .given .1) (call .kept-boundaries-here .ensures .ran)) _ refl (printed .print2 .ensures)
 
 pub answer-spec : {M : Type 1} → statement M
 answer-spec =

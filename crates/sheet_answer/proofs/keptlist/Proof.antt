@@ -40,28 +40,30 @@ slice-aggregate-answer-held-4 c = search needs
 
 answer-held-requires : tie.Need-answer-held-requires
 answer-held-requires c κs =
-    let header = c .before .before .before .before .before .before in
-    let read = header .before .before .before .before .before .before .before .before in
-    let ready = begun-ready _ (read .read .ensures) (header .header .given .1) in
-    (ready .held, rw (ready .out-same) (read .before .before .before .before .before .before .before .before .pre))
-
-same-length : tie.Need-same-length
-same-length c = search needs
+    let boundaries-lent = c .before .before in
+    let cells-lent = boundaries-lent .before .before in
+    let told = cells-lent .before .before in
+    let spans-back = told .before .before .before in
+    let answered = spans-back .before .before .before in
+    (begun-ready _ (answered .read .ensures) (told .header .given .1) .held, search needs)
 
 returns : tie.Need-returns
 returns c =
-    let printed = begun-printed _ (c .before .before .before .before .before .before .before .before .before .read .ensures) (c .before .count .given .1) in
+    let told = c .before in
+    let spans-back = told .before .before .before in
+    let answered = spans-back .before .before .before in
+    let printed = begun-printed _ (answered .read .ensures) (told .count .given .1) in
     (printed, printed-inside printed)
-
-same-length-2 : tie.Need-same-length-2
-same-length-2 c = search needs
 
 returns-2 : tie.Need-returns-2
 returns-2 c =
-    let answer = c .before .before in
-    let header = answer .before .before .before .before .before .before .before in
-    let ready = begun-ready _ (header .before .before .before .before .before .before .before .before .read .ensures) (header .header .given .1) in
-    let printed = keptlist-printed ready (answer .answer-held .ensures) in
+    let boundaries-lent = c .before .before .before in
+    let cells-lent = boundaries-lent .before .before in
+    let told = cells-lent .before .before in
+    let spans-back = told .before .before .before in
+    let answered = spans-back .before .before .before in
+    let ready = begun-ready _ (answered .read .ensures) (told .header .given .1) in
+    let printed = keptlist-printed ready (c .answer-held .ensures) in
     (printed, printed-inside printed)
 
 pub keptlist-spec : {M : Type 1} → statement M
@@ -80,7 +82,5 @@ keptlist-spec =
     slice-aggregate-answer-held-3
     slice-aggregate-answer-held-4
     answer-held-requires
-    same-length
     returns
-    same-length-2
     returns-2)

@@ -1,2 +1,1 @@
 pub mod kept_boundaries_here
-pub mod put_records

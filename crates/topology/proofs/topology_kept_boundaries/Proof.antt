@@ -1,67 +1,161 @@
--- `topology::topology_kept_boundaries` meets its contract, which is that of `kept_boundaries`, by the case of its answer. `Lts` and `Tie` are derived by tools/twin. Assumes nothing.
-mod Lts
-mod Tie
-use Rattle.topology.proofs.Answered.{answered}
-use borrow.Author.Needs.{needs}
+-- `topology_kept_boundaries`, the call itself, meets its contract. What a part of it asks is what the parts before it leave (Calling): a refused call has left the lists as
+-- `prepare` says; of a call that is ready the records are filled, the marks are the pass's, and the rows are written. `Der` is the derivation in steps, cut where all lists
+-- that were lent to a part are back: at the match on what `prepare` answers, before `mark_removed`, and before `finish`. Assumes nothing.
+mod Der
+use Prim.Native.Nat.{ℕ, _*_, _/_}
+use mathlib.Core.Path.{_≡_, refl, _∙_}
+use mathlib.Core.List.{List, _∷_, []}
+use contract.Lifetimes.{Lfts, Shares}
+use borrow.Fn.World.{World}
+use native.Mathlib.Omega.{arith}
+use mathlib.Core.Bool.{Bool, false}
+use mathlib.Core.Option.{some}
+use lib.ListN.{length, replicate}
+use lib.Dec.{lit<}
+use types.Run.{OneOf}
+use denote.Enum.Declared.{tagOf}
+use borrow.Enum.Match.{each-below, tag-small}
+use borrow.Table.Typed.{Mo, Want, withNext, wantNext}
+use borrow.Rule.Slice.Mut.{setVals}
+use Rattle.definitions.specs.Limits.{maxEntries, numbersPerSpan}
+use Rattle.definitions.specs.Grid.{Map, mapOf}
+use Rattle.context.specs.declared.Region.{Region}
+use Rattle.calls.specs.declared.Prepared.{Prepared}
+use Rattle.calls.specs.Prepared.{ReadyAs, PreparedAs}
+use Rattle.calls.proofs.Prepared as prepared
+use Rattle.views.proofs.AfterPartition.{ready-finishes}
+use Rattle.topology.specs.Filled.{Filled}
+use Rattle.topology.specs.Marks.{MarkedFor}
+use Rattle.topology.proofs.Calling.{no-marks, when-ready, when-refused, needed-few, is-pass, ready-fills, ready-lent, ran-over}
+use Rattle.topology.proofs.Steps.{same, fixed, parts}
 use Rattle.topology.proofs.topology_kept_boundaries.Statement.{statement}
-use Rattle.topology.proofs.topology_kept_boundaries.Proof.Tie as tie
+use Rattle.topology.proofs.topology_kept_boundaries.Proof.Der.{Args, close, entry, wanted, returns, from-answer-at, from-match-at, from-marks-at, from-finish-at, Γ-from-answer, Γ-from-match, Γ-from-marks}
 
-kept-boundaries-requires : tie.Need-kept-boundaries-requires
-kept-boundaries-requires c κs = search needs
+module _ (κs : Lfts 11) (a : Args κs) where
+  -- what is lent to be filled, by name
+  abbrev records : List Region
+  records = a .1 .1 .1 .1 .1 .1 .1 .1 .1 .1 .1 .1 .0 .now
 
-enum-known-answer : tie.Need-enum-known-answer
-enum-known-answer c = search needs
+  abbrev output : List ℕ
+  output = a .1 .1 .1 .1 .1 .1 .1 .1 .1 .1 .1 .1 .1 .0 .now
 
-enum-known-answer-2 : tie.Need-enum-known-answer-2
-enum-known-answer-2 c = search needs
+  -- the map, and what `prepare` leaves of the call
+  abbrev M : Map
+  M = mapOf (a .1 .0) (a .1 .1 .0) (a .1 .1 .1 .0 .now) (a .1 .1 .1 .1 .0 .now) (a .1 .1 .1 .1 .1 .0 .now) (a .1 .1 .1 .1 .1 .1 .0 .now)
 
-same-length : tie.Need-same-length
-same-length c = search needs
+  abbrev IsReady : (regions rows : ℕ) (l m q t p : List ℕ) → Type 0
+  IsReady =
+      let b = a .1 .1 .1 .1 .1 .1 .1 in
+      ReadyAs (a .0) (a .1 .0) (a .1 .1 .0) (a .1 .1 .1 .0 .now) (a .1 .1 .1 .1 .0 .now) (a .1 .1 .1 .1 .1 .0 .now) (a .1 .1 .1 .1 .1 .1 .0 .now)
+      (length records) (length output) (b .0 .now) (b .1 .0 .now) (b .1 .1 .0 .now) (b .1 .1 .1 .0 .now) (b .1 .1 .1 .1 .0 .now)
 
-same-length-2 : tie.Need-same-length-2
-same-length-2 c = search needs
+  abbrev IsPrepared : Prepared → (l m q t p : List ℕ) → Type 0
+  IsPrepared =
+      let b = a .1 .1 .1 .1 .1 .1 .1 in
+      PreparedAs (a .0) (a .1 .0) (a .1 .1 .0) (a .1 .1 .1 .0 .now) (a .1 .1 .1 .1 .0 .now) (a .1 .1 .1 .1 .1 .0 .now) (a .1 .1 .1 .1 .1 .1 .0 .now)
+      (length records) (length output) (b .0 .now) (b .1 .0 .now) (b .1 .1 .0 .now) (b .1 .1 .1 .0 .now) (b .1 .1 .1 .1 .0 .now)
 
-same-length-3 : tie.Need-same-length-3
-same-length-3 c = search needs
+  -- the five lists are as long as those that were lent
+  abbrev Long : (l m q t p : List ℕ) → Type 0
+  Long l m q t p =
+      let b = a .1 .1 .1 .1 .1 .1 .1 in
+      (length l ≡ length (b .0 .now)) × (length m ≡ length (b .1 .0 .now)) × (length q ≡ length (b .1 .1 .0 .now))
+      × (length t ≡ length (b .1 .1 .1 .0 .now)) × (length p ≡ length (b .1 .1 .1 .1 .0 .now))
 
-same-length-4 : tie.Need-same-length-4
-same-length-4 c = search needs
+-- the state at the match, and that of a call that is ready between its parts
+module _ (κs : Lfts 11) (qs : Shares 11) (a : Args κs) (l m′ q t p : List ℕ) where
+  abbrev at-match : Prepared → Mo (Γ-from-match κs qs)
+  at-match r′ =
+      let b = a .1 .1 .1 .1 .1 .1 .1 in
+      parts tt (a .0) (a .1 .0) (a .1 .1 .0)
+      (parts (a .1 .1 .1 .0) (a .1 .1 .1 .1 .0) (a .1 .1 .1 .1 .1 .0) (a .1 .1 .1 .1 .1 .1 .0)
+      (parts (setVals l (b .0)) (setVals m′ (b .1 .0)) (setVals q (b .1 .1 .0)) (setVals t (b .1 .1 .1 .0))
+      (parts (setVals p (b .1 .1 .1 .1 .0)) (b .1 .1 .1 .1 .1 .0) (b .1 .1 .1 .1 .1 .1 .0) (length (records κs a))
+      (length (output κs a), (r′, entry κs qs a .1 .1 .1 .1 .1 .1 .1 .1 .1 .1 .1 .1 .1 .1 .1 .1 .1 .1)))))
 
-same-length-5 : tie.Need-same-length-5
-same-length-5 c = search needs
+  abbrev at-part : List Region → (regions rows : ℕ) → List Bool → Mo (Γ-from-marks κs qs)
+  at-part s regions rows removed =
+      let b = a .1 .1 .1 .1 .1 .1 .1 in
+      parts tt (a .0) (a .1 .0) (a .1 .1 .0)
+      (parts (a .1 .1 .1 .0) (a .1 .1 .1 .1 .0) (a .1 .1 .1 .1 .1 .0) (a .1 .1 .1 .1 .1 .1 .0)
+      (parts (setVals l (b .0)) (setVals m′ (b .1 .0)) (setVals q (b .1 .1 .0)) (setVals t (b .1 .1 .1 .0))
+      (parts (setVals p (b .1 .1 .1 .1 .0)) (setVals s (b .1 .1 .1 .1 .1 .0)) (b .1 .1 .1 .1 .1 .1 .0) (length (records κs a))
+      (parts (length (output κs a)) tt tt tt (parts regions rows (a .1 .0) (a .1 .1 .0 * a .1 .0)
+      (removed, entry κs qs a .1 .1 .1 .1 .1 .1 .1 .1 .1 .1 .1 .1 .1 .1 .1 .1 .1 .1 .1 .1 .1 .1 .1 .1 .1))))))
 
-same-length-6 : tie.Need-same-length-6
-same-length-6 c = search needs
+module _ (w : World) (κs : Lfts 11) (qs : Shares 11) (bs : List ℕ) (a : Args κs) (l m₁ q₁ t p : List ℕ) where
+  -- what is wanted past the match
+  abbrev past-match : Want (withNext (some (Γ-from-answer κs qs)) (returns κs qs))
+  past-match = wantNext (Γ-from-answer κs qs) (returns κs qs) (from-answer-at w κs qs bs .Φ (wanted κs qs a)) (wanted κs qs a)
 
-same-length-7 : tie.Need-same-length-7
-same-length-7 c = search needs
+  module _ (s : List Region) (regions rows : ℕ) (R : IsReady κs a regions rows l m₁ q₁ t p) (F : Filled (M κs a) (records κs a) s)
+      (ss : length s ≡ length (records κs a)) where
+    -- from `finish` on
+    finishing : (m₂ q₂ : List ℕ) (removed : List Bool) → Long κs a l m₂ q₂ t p
+        → MarkedFor (a .0) (M κs a) (a .1 .1 .0 * a .1 .0) (length (a .1 .1 .1 .1 .0 .now) / numbersPerSpan) (a .1 .1 .1 .1 .1 .0 .now) m₁ q₁ m₂ q₂
+        (replicate maxEntries false) removed
+        → from-finish-at w κs qs bs .Φ past-match (at-part κs qs a l m₂ q₂ t p s regions rows removed)
+    finishing m₂ q₂ removed long K = (
+      lit< tt,
+      λ γ₁ γ₂. same λ γ₃. same λ γ₄. same (
+        λ κ. ready-finishes R (long .1) (long .2),
+        λ e. same λ l₁. same λ l₂. same λ l₃. (
+          parts tt tt tt refl
+              (parts refl refl refl (fixed (long .0))
+              (parts (fixed (e .4 .1 .1 .1 .1 .0 ∙ long .1)) (fixed (e .4 .1 .1 .1 .1 .1 .0 ∙ long .2)) (fixed (long .3)) (fixed (long .4))
+              (fixed ss, (fixed l₃, tt)))),
+          ran-over R F K refl refl (e .5),
+        ),
+      ),
+    )
 
-returns : tie.Need-returns
-returns c = answered (c .before .before .before .before .before .before .before .before .before .before .before .before .before .before .before .before .kept-boundaries .ensures) (c .before .answer .given .1)
+    -- from `mark_removed` on
+    marking : Long κs a l m₁ q₁ t p → from-marks-at w κs qs bs .Φ past-match (at-part κs qs a l m₁ q₁ t p s regions rows (replicate maxEntries false))
+    marking long =
+        let lent = ready-lent R F (long .1) (long .2) in
+        λ γ₁. same λ γ₂. same (
+          lit< tt,
+          λ γ₃. same λ γ₄. same λ γ₅. same λ γ₆. same λ γ₇. (
+            λ κ. ((_, lent), (is-pass R, no-marks)),
+            λ k. same λ l₇. same λ l₈. same (
+                let last = k .2 .1 .1 .1 .1 .1 .1 .1 .1 .1 .1 .1 .1 in
+                let kept = k .4 .1 .1 .1 .1 .1 .1 .1 .1 .1 .1 .1 .1 in
+                finishing (last .0) (last .1 .0) (last .1 .1 .0) (long .0, kept .0 ∙ long .1, kept .1 .0 ∙ long .2, long .3, long .4) (k .5 _ lent)),
+          ),
+        )
 
-same-length-8 : tie.Need-same-length-8
-same-length-8 c = search needs
-
-same-length-9 : tie.Need-same-length-9
-same-length-9 c = search needs
-
-same-length-10 : tie.Need-same-length-10
-same-length-10 c = search needs
-
-same-length-11 : tie.Need-same-length-11
-same-length-11 c = search needs
-
-same-length-12 : tie.Need-same-length-12
-same-length-12 c = search needs
-
-same-length-13 : tie.Need-same-length-13
-same-length-13 c = search needs
-
-same-length-14 : tie.Need-same-length-14
-same-length-14 c = search needs
-
-returns-2 : tie.Need-returns-2
-returns-2 c = answered (c .before .before .before .before .before .before .before .before .before .before .before .before .before .before .before .before .kept-boundaries .ensures) (c .before .answer2 .given .1)
+  -- from the match on
+  matching : (r′ : Prepared) → IsPrepared κs a r′ l m₁ q₁ t p → Long κs a l m₁ q₁ t p
+      → from-match-at w κs qs bs .Φ past-match (at-match κs qs a l m₁ q₁ t p r′)
+  matching r′ P long = (
+    λ one. (
+      one,
+      λ v told. (
+        parts tt tt tt refl
+            (parts refl refl refl (fixed (long .0))
+            (parts (fixed (long .1)) (fixed (long .2)) (fixed (long .3)) (fixed (long .4)) (refl, (refl, tt)))),
+        when-refused _ _ P (v .1) refl refl,
+      ),
+    ),
+    (
+      λ one. (
+        one,
+        λ v told.
+            let R = when-ready P (v .1) in
+            let fills = ready-fills R (long .2) in (
+              record { fits = omega (arith, needed-few R) },
+              λ γ₁. same λ γ₂. same λ γ₃. same (λ κ. (_, fills), λ f. same λ ss. marking (f .2 .0) _ _ R (f .5 _ fills) ss long),
+            ),
+      ),
+      each-below 2 (λ j. (Unit {0} × (OneOf (0 ∷ []) j → ⊥)) × (OneOf (1 ∷ []) j → ⊥) → ⊥) (λ n. n .1 refl, (λ n. n .0 .1 refl, tt))
+          (tagOf prepared.the-type r′) (tag-small prepared.the-type r′),
+    ),
+  )
 
 pub topology-kept-boundaries-spec : {M : Type 1} → statement M
-topology-kept-boundaries-spec = tie.close (tie.spec kept-boundaries-requires enum-known-answer enum-known-answer-2 same-length same-length-2 same-length-3 same-length-4 same-length-5 same-length-6 same-length-7 returns same-length-8 same-length-9 same-length-10 same-length-11 same-length-12 same-length-13 same-length-14 returns-2)
+topology-kept-boundaries-spec = close (λ w κs qs a good pre bs. λ γ₁. same λ γ₂. same λ γ₃. same λ γ₄. same λ γ₅. same (
+  λ κ. tt,
+  λ p. same λ l₁. same λ l₂. same λ l₃. same λ l₄. same λ l₅.
+      let last = p .2 .1 .1 .1 .1 .1 .1 .1 .1 .1 in
+      matching w κs qs bs a (last .0) (last .1 .0) (last .1 .1 .0) (last .1 .1 .1 .0) (last .1 .1 .1 .1 .0) (p .1) (p .5) (l₁, l₂, l₃, l₄, l₅),
+))

@@ -1,27 +1,23 @@
 -- made by tools/twin: do not edit
 use Rattle.context.proofs.Region as twin-0
-use borrow.Fn.Kinds
-use borrow.Kind.ShrSlice
-use borrow.Table.Referent
-use denote.Array
-use mathlib.Core.List
-use mir.Syntax
+use borrow.Fn.Kinds.{PK, RK, pNum, pShr, rBool}
+use borrow.Kind.ShrSlice.{pShrS}
+use borrow.Table.Referent.{fInt, rtF}
+use denote.Array.{Array}
+use mathlib.Core.List.{List, [], _∷_}
+use mir.Syntax.{w32, w64, w8}
 
-abbrev pub ps : List.List (Kinds.PK 4)
+abbrev pub ps : List (PK 4)
 ps =
-    List._∷_
-    (ShrSlice.pShrS twin-0.the-row 0 tt)
-    (List._∷_
-    (ShrSlice.pShrS (Referent.rtF (Referent.fInt Syntax.w64)) 1 tt)
-    (List._∷_
-    (ShrSlice.pShrS (Referent.rtF (Referent.fInt Syntax.w32)) 2 tt)
-    (List._∷_
-    (Kinds.pShr (Array.Array (Referent.rtF (Referent.fInt Syntax.w64)) 257) 3 tt)
-    (List._∷_
-    (Kinds.pNum Syntax.w64)
-    (List._∷_
-    (Kinds.pNum Syntax.w64)
-    (List._∷_ (Kinds.pNum Syntax.w32) (List._∷_ (Kinds.pNum Syntax.w8) List.[])))))))
+    pShrS twin-0.the-row 0 tt ∷
+    pShrS (rtF (fInt w64)) 1 tt ∷
+    pShrS (rtF (fInt w32)) 2 tt ∷
+    pShr (Array (rtF (fInt w64)) 257) 3 tt ∷
+    pNum w64 ∷
+    pNum w64 ∷
+    pNum w32 ∷
+    pNum w8 ∷
+    []
 
-abbrev pub r : Kinds.RK 4
-r = Kinds.rBool
+abbrev pub r : RK 4
+r = rBool

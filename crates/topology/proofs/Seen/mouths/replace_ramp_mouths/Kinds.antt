@@ -1,32 +1,25 @@
 -- made by tools/twin: do not edit
 use Rattle.context.proofs.Region as twin-0
-use borrow.Fn.Kinds
-use borrow.Kind.MutSlice
-use borrow.Kind.ShrSlice
-use borrow.Table.Referent
-use denote.Array
-use mathlib.Core.List
-use mir.Syntax
+use borrow.Fn.Kinds.{PK, RK, pMut, pNum, pShr, rUnit}
+use borrow.Kind.MutSlice.{pMutS}
+use borrow.Kind.ShrSlice.{pShrS}
+use borrow.Table.Referent.{fBool, fInt, rtF}
+use denote.Array.{Array}
+use mathlib.Core.List.{List, [], _∷_}
+use mir.Syntax.{w16, w32, w64}
 
-abbrev pub ps : List.List (Kinds.PK 8)
+abbrev pub ps : List (PK 8)
 ps =
-    List._∷_
-    (ShrSlice.pShrS twin-0.the-row 0 tt)
-    (List._∷_
-    (Kinds.pNum Syntax.w64)
-    (List._∷_
-    (ShrSlice.pShrS (Referent.rtF (Referent.fInt Syntax.w64)) 1 tt)
-    (List._∷_
-    (ShrSlice.pShrS (Referent.rtF (Referent.fInt Syntax.w32)) 2 tt)
-    (List._∷_
-    (ShrSlice.pShrS (Referent.rtF (Referent.fInt Syntax.w32)) 3 tt)
-    (List._∷_
-    (Kinds.pShr (Array.Array (Referent.rtF (Referent.fInt Syntax.w64)) 257) 4 tt)
-    (List._∷_
-    (MutSlice.pMutS (Referent.rtF (Referent.fInt Syntax.w16)) 5 tt)
-    (List._∷_
-    (ShrSlice.pShrS (Referent.rtF (Referent.fInt Syntax.w32)) 6 tt)
-    (List._∷_ (Kinds.pMut (Array.Array (Referent.rtF Referent.fBool) 256) 7 tt) List.[]))))))))
+    pShrS twin-0.the-row 0 tt ∷
+    pNum w64 ∷
+    pShrS (rtF (fInt w64)) 1 tt ∷
+    pShrS (rtF (fInt w32)) 2 tt ∷
+    pShrS (rtF (fInt w32)) 3 tt ∷
+    pShr (Array (rtF (fInt w64)) 257) 4 tt ∷
+    pMutS (rtF (fInt w16)) 5 tt ∷
+    pShrS (rtF (fInt w32)) 6 tt ∷
+    pMut (Array (rtF fBool) 256) 7 tt ∷
+    []
 
-abbrev pub r : Kinds.RK 8
-r = Kinds.rUnit
+abbrev pub r : RK 8
+r = rUnit

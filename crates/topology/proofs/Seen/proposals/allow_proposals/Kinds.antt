@@ -1,25 +1,21 @@
 -- made by tools/twin: do not edit
 use Rattle.context.proofs.Region as twin-0
-use borrow.Fn.Kinds
-use borrow.Kind.ShrSlice
-use borrow.Table.Referent
-use denote.Array
-use mathlib.Core.List
-use mir.Syntax
+use borrow.Fn.Kinds.{PK, RK, pMut, pNum, rUnit}
+use borrow.Kind.ShrSlice.{pShrS}
+use borrow.Table.Referent.{fBool, fInt, rtF}
+use denote.Array.{Array}
+use mathlib.Core.List.{List, [], _∷_}
+use mir.Syntax.{w16, w32, w64}
 
-abbrev pub ps : List.List (Kinds.PK 5)
+abbrev pub ps : List (PK 5)
 ps =
-    List._∷_
-    (ShrSlice.pShrS twin-0.the-row 0 tt)
-    (List._∷_
-    (ShrSlice.pShrS (Referent.rtF (Referent.fInt Syntax.w64)) 1 tt)
-    (List._∷_
-    (ShrSlice.pShrS (Referent.rtF (Referent.fInt Syntax.w16)) 2 tt)
-    (List._∷_
-    (ShrSlice.pShrS (Referent.rtF (Referent.fInt Syntax.w32)) 3 tt)
-    (List._∷_
-    (Kinds.pNum Syntax.w64)
-    (List._∷_ (Kinds.pMut (Array.Array (Referent.rtF Referent.fBool) 426) 4 tt) List.[])))))
+    pShrS twin-0.the-row 0 tt ∷
+    pShrS (rtF (fInt w64)) 1 tt ∷
+    pShrS (rtF (fInt w16)) 2 tt ∷
+    pShrS (rtF (fInt w32)) 3 tt ∷
+    pNum w64 ∷
+    pMut (Array (rtF fBool) 426) 4 tt ∷
+    []
 
-abbrev pub r : Kinds.RK 5
-r = Kinds.rUnit
+abbrev pub r : RK 5
+r = rUnit

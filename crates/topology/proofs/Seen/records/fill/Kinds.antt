@@ -1,26 +1,21 @@
 -- made by tools/twin: do not edit
 use Rattle.context.proofs.Region as twin-0
-use borrow.Fn.Kinds
-use borrow.Kind.MutSlice
-use borrow.Kind.ShrSlice
-use borrow.Table.Referent
-use denote.Array
-use mathlib.Core.List
-use mir.Syntax
+use borrow.Fn.Kinds.{PK, RK, pNum, rUnit}
+use borrow.Kind.MutSlice.{pMutS}
+use borrow.Kind.ShrSlice.{pShrS}
+use borrow.Table.Referent.{fInt, rtF}
+use mathlib.Core.List.{List, [], _∷_}
+use mir.Syntax.{w32, w64, w8}
 
-abbrev pub ps : List.List (Kinds.PK 4)
+abbrev pub ps : List (PK 4)
 ps =
-    List._∷_
-    (MutSlice.pMutS twin-0.the-row 0 tt)
-    (List._∷_
-    (Kinds.pNum Syntax.w64)
-    (List._∷_
-    (Kinds.pNum Syntax.w64)
-    (List._∷_
-    (ShrSlice.pShrS (Referent.rtF (Referent.fInt Syntax.w8)) 1 tt)
-    (List._∷_
-    (ShrSlice.pShrS (Referent.rtF (Referent.fInt Syntax.w32)) 2 tt)
-    (List._∷_ (ShrSlice.pShrS (Referent.rtF (Referent.fInt Syntax.w32)) 3 tt) List.[])))))
+    pMutS twin-0.the-row 0 tt ∷
+    pNum w64 ∷
+    pNum w64 ∷
+    pShrS (rtF (fInt w8)) 1 tt ∷
+    pShrS (rtF (fInt w32)) 2 tt ∷
+    pShrS (rtF (fInt w32)) 3 tt ∷
+    []
 
-abbrev pub r : Kinds.RK 4
-r = Kinds.rUnit
+abbrev pub r : RK 4
+r = rUnit

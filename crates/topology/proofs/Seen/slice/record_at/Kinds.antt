@@ -1,40 +1,18 @@
 -- made by tools/twin: do not edit
-use Rattle.context.proofs.Region
-use Rattle.context.proofs.Region.Laws
-use borrow.Fn.Kinds
-use borrow.Kind.ShrSlice
-use borrow.Kind.Value
-use borrow.Rule.Local
-use borrow.Table.Referent
-use borrow.Table.Rows
-use denote.Array
-use denote.Exit
-use denote.Struct.Declared
-use denote.Struct.Laws as Laws'
-use mathlib.Core.List
-use mathlib.Core.Path as Path'
-use mir.Syntax
+use Rattle.context.proofs.Region as Region
+use Rattle.context.proofs.Region.Laws as Laws
+use Rattle.topology.proofs.Values.{structLaws, structValue}
+use borrow.Fn.Kinds.{PK, RK, pNum}
+use borrow.Kind.ShrSlice.{pShrS}
+use borrow.Kind.Value.{rVal}
+use mathlib.Core.List.{List, [], _∷_}
+use mir.Syntax.{w64}
 
-abbrev pub ps : List.List (Kinds.PK 1)
+abbrev pub ps : List (PK 1)
 ps =
-    List._∷_
-    (ShrSlice.pShrS Region.the-row 0 tt)
-    (List._∷_ (Kinds.pNum Syntax.w64) List.[])
+    pShrS Region.the-row 0 tt ∷
+    pNum w64 ∷
+    []
 
-abbrev pub r : Kinds.RK 1
-r = Value.rVal record {
-  ty = Declared.row Region.the-type;
-  one = Path'.refl;
-  val = Laws'.val Region.the-type Laws.the-laws;
-  tells = Laws'.tells Region.the-type Laws.the-laws;
-  still = Laws'.still Region.the-type Laws.the-copy Exit.yes;
-  row = Rows.whole (Declared.row Region.the-type);
-  rd = λ x. x;
-  mk = λ x. x;
-} λ M 𝓤 H A W. record {
-  copies = Laws'.copy Region.the-type Laws.the-copy 𝓤 H A W;
-  lawful = Laws'.lawful Region.the-type Laws.the-laws 𝓤 H A W;
-  makes = Laws'.makes Region.the-type Laws.the-plain 𝓤 H A;
-  in-mem = Local.mem-whole 𝓤 H A W (Declared.row Region.the-type);
-  of-mem = Local.whole-mem 𝓤 H A W (Declared.row Region.the-type);
-}
+abbrev pub r : RK 1
+r = rVal (structValue Region.the-type Laws.the-laws Laws.the-copy) (structLaws Region.the-type Laws.the-laws Laws.the-copy Laws.the-plain)

@@ -1,0 +1,5 @@
+pub mod Holding
+pub mod Steps
+pub mod Checking
+pub mod Putting
+pub mod Reporting

@@ -1,0 +1,4 @@
+pub mod Accession
+pub mod Line
+pub mod AccessionExamples
+pub mod AccessionLaws

@@ -1,0 +1,9 @@
+pub mod Distance
+pub mod DistanceExamples
+pub mod Listing
+pub mod ListingExamples
+pub mod PlaneLaws
+pub mod ErrorLaws
+pub mod Theorem
+pub mod ListingLaws
+pub mod Calls
