@@ -47,12 +47,20 @@ fn share_of(count: usize, cells: usize) -> Share
     Share::Of(percent, remainder)
 }
 
+// The share of elevation e.
+fn share_at(counts: [usize; 4], e: usize, cells: usize) -> Share
+    requires { ⌜ (e < 4) × (getD counts e 0 ≤ maxCount) ⌝ }
+    ensures { λ r. ⌜ shareForm r ≡ shareOf (getD counts e 0) cells ⌝ }
+{
+    share_of(counts[e], cells)
+}
+
 pub fn dominance_of(cells: usize, counts: [usize; 4]) -> Dominance
     requires { ⌜ ((e : ℕ) → getD counts e 0 ≤ maxCount) ⌝ }
     ensures { λ r. ⌜ dominanceForm r ≡ dominanceOf cells counts ⌝ }
 {
     let elevation = most_common_elevation(counts);
-    let share = share_of(counts[elevation], cells);
+    let share = share_at(counts, elevation, cells);
     Dominance { elevation, share }
 }
 
