@@ -15,8 +15,8 @@ MOST = 2 ** 32 - 1
 
 def drawn():
     """cells and four counts: none at all, each small region, 99 percent just met and just missed, ties, the ends of 32 bits, and any numbers"""
-    yield from ((0, 0, 0, 0, 0), (0, 5, 0, 0, 0), (0, 0, 0, 7, 7), (0, MOST, MOST, MOST, MOST), (1, MOST, 0, 0, 0), (MOST, MOST, 0, 0, 0), (MOST, 0, 0, 0, MOST),
-                (MOST, 1, 0, 0, 0), (MOST, MOST - 1, 0, 1, 0), (2, 0, MOST, MOST, 1), (MOST, 0, 0, 0, 0))
+    yield from ((0, 0, 0, 0, 0), (0, 5, 0, 0, 0), (0, 0, 0, 7, 7), (0, MOST, MOST, MOST, MOST), (1, MOST, 0, 0, 0), (MOST, MOST, 0, 0, 0),
+                (MOST, 0, 0, 0, MOST), (MOST, 1, 0, 0, 0), (MOST, MOST - 1, 0, 1, 0), (2, 0, MOST, MOST, 1), (MOST, 0, 0, 0, 0))
     for n in range(1, 7):
         for a in range(n + 1):
             for b in range(n - a + 1):

@@ -99,8 +99,8 @@ class Answers(Trial):
     def test_shares(self) -> None:
         """of seven cells three have elevation 1 and three elevation 2: the lower is chosen, with 300 = 42 * 7 + 6"""
         text = 'pass 3\nmap 7 1\n1112220\n'.encode()
-        self.answers('1 region\nregion 1 from 0 0 to 56 8: 7 cells, 1 of elevation 0, 3 of elevation 1, 3 of elevation 2; elevation 1 has 42 percent, remainder 6\n',
-                     'regions', data=text)
+        counts = '1 of elevation 0, 3 of elevation 1, 3 of elevation 2'
+        self.answers(f'1 region\nregion 1 from 0 0 to 56 8: 7 cells, {counts}; elevation 1 has 42 percent, remainder 6\n', 'regions', data=text)
         found = json.loads(run('regions', '--json', data=text).stdout)
         self.assertEqual([region['dominance'] for region in found['regions']], [{'elevation': 1, 'share': {'percent': 42, 'remainder': 6}}])
 

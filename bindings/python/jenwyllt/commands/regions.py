@@ -44,7 +44,8 @@ def dominance_words(of: Dominance) -> str:
 def region_line(label: int, region: Region, of: Dominance) -> str:
     edges = ' '.join(f'{edge:.0f}' for edge in (region.min_x, region.min_y)), ' '.join(f'{edge:.0f}' for edge in (region.max_x, region.max_y))
     elevations = ', '.join(f'{count} of elevation {e}' for e, count in enumerate(region.elevation_counts) if count)
-    return f'region {label} from {edges[0]} to {edges[1]}: {counted(region.cells, "cell")}, {elevations}{", with a ramp" if region.has_ramp else ""}; {dominance_words(of)}'
+    ramp = ', with a ramp' if region.has_ramp else ''
+    return f'region {label} from {edges[0]} to {edges[1]}: {counted(region.cells, "cell")}, {elevations}{ramp}; {dominance_words(of)}'
 
 
 def lines(sheet: Sheet, cut: Kept, shares: list[Dominance], labels: bool) -> Iterator[str]:
@@ -67,8 +68,7 @@ def dominance_json(of: Dominance) -> dict[str, Any]:
 def cut_json(cut: Kept, shares: list[Dominance]) -> dict[str, Any]:
     of = cut.partition
     return {'regions': [{**region.values(), 'dominance': dominance_json(share)} for region, share in zip(cut.records, shares)], 'labels': of.labels,
-            'tallies': [tally._asdict() for tally in of.tallies],
-            'pairs': [pair._asdict() for pair in of.pairs]}
+            'tallies': [tally._asdict() for tally in of.tallies], 'pairs': [pair._asdict() for pair in of.pairs]}
 
 
 def run(args: argparse.Namespace) -> int:
