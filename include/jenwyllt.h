@@ -29,6 +29,8 @@ enum jenwyllt_size {
     JENWYLLT_ROW_NUMBERS = 5,
     JENWYLLT_SEPARATION_NUMBERS = 5,
     JENWYLLT_ACCESSION_NUMBERS = 4,
+    JENWYLLT_TERM_NUMBERS = 7,
+    JENWYLLT_ENTRY_NUMBERS = 4,
     JENWYLLT_PIXELS_PER_CELL = 8,
     JENWYLLT_MOST_SIDE = 1024,
     JENWYLLT_MOST_ENTRIES = 256
@@ -51,7 +53,9 @@ enum jenwyllt_refusal {
     JENWYLLT_PAIRS = 12,
     JENWYLLT_RANGE = 13,
     JENWYLLT_SHEET = 14,
-    JENWYLLT_ACCESSION = 17
+    JENWYLLT_ACCESSION = 17,
+    JENWYLLT_DATE = 18,
+    JENWYLLT_TERM = 19
 };
 
 /* A list is lent as a pointer to its first entry and its length. The pointer is aligned and not null, even where the length is 0. Lists do not overlap,
@@ -280,6 +284,36 @@ double jenwyllt_hypot(double x, double y);
 struct jenwyllt_answer jenwyllt_report_line(
     const uint64_t *records, size_t records_length,
     uint64_t own,
+    uint64_t *output, size_t output_length);
+
+/* The maps in the tournament pool on a day, by number, each with its newest accession record of that day or earlier.
+
+   Read:
+     terms    7 a term: the number of its map, year, month and day of its first day, and year, month and day of its end, which no longer belongs to it.
+              Days are Gregorian dates from 1 January 2000 to 31 December 2099, an end also 1 January 2100. Terms of one map may touch but not overlap.
+     records  4 a record, as for `jenwyllt_report_line` and under the same rules; the day is a number, that of 1 January 2000 is 0, and may be any
+     year, month, day
+              the day asked for
+   Filled; it may be longer than needed, and what it holds behind the last entry stays:
+     output   4 an entry: the number of a map, and the own number, day and number superseded of its record, which are all 0 where it has none
+
+   Number 0: the value is the count of maps. Otherwise the number says why not; the first of these causes that applies is given:
+
+     number  cause                                                   value
+     3       the last term or the last record is unfinished          0
+     17      a record breaks one of the rules                        the first such record
+     18      a date of a term is bad                                 the term
+     19      a term is empty or overlaps an earlier one of its map   the term
+     18      the day asked for is no day from 2000 to 2099           the count of terms
+     10      the output is too short for the entries                 0
+
+   18 and 19 are tested term by term, 18 first. With any of these the output stays as it was. A call needs 34 KiB of stack more than
+   `jenwyllt_report_line`, and for the records as much time. A term that starts before the latest end so far among the maps whose numbers leave the same
+   remainder by 4096 is compared with every term before it; all else grows as n log n with the counts of terms and records. */
+struct jenwyllt_answer jenwyllt_maps_of_day(
+    const uint64_t *terms, size_t terms_length,
+    const uint64_t *records, size_t records_length,
+    uint64_t year, uint64_t month, uint64_t day,
     uint64_t *output, size_t output_length);
 
 #ifdef __cplusplus

@@ -5,6 +5,7 @@ mod calls;
 mod hypotenuse;
 mod maps;
 mod ours;
+mod pool;
 mod stack;
 mod timing;
 
@@ -52,6 +53,9 @@ fn main() {
     }
     if wanted("accession") {
         accession::run(budget);
+    }
+    if wanted("pool") {
+        pool::run(budget);
     }
     if arguments.iter().any(|word| word == "accession-worst") {
         accession::worst();

@@ -21,6 +21,8 @@ class Cause(enum.IntEnum):
     RANGE = 13
     SHEET = 14
     ACCESSION = 17
+    DATE = 18
+    TERM = 19
 
 
 WORDS: dict[int, str] = {
@@ -39,6 +41,8 @@ WORDS: dict[int, str] = {
     Cause.RANGE: 'an argument is neither zero nor of a magnitude from 2^-64 to 2^15',
     Cause.SHEET: 'the sheet is ill formed',
     Cause.ACCESSION: 'the accession record breaks a rule',
+    Cause.DATE: 'a date of the term, or at the number of terms the day asked for, is not a day from 2000 to 2099',
+    Cause.TERM: 'the term is empty or overlaps an earlier term of its map',
 }
 
 

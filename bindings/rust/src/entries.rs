@@ -119,6 +119,30 @@ pub struct Accession {
     pub superseded: u64,
 }
 
+/// A Gregorian date. Any numbers are allowed here; [`maps_of_day`](crate::maps_of_day) refuses what is no day of 2000 to 2099.
+#[repr(C)]
+#[derive(Debug, Clone, Copy, PartialEq, Eq, PartialOrd, Ord, Hash, Default)]
+pub struct Date {
+    /// The year.
+    pub year: u64,
+    /// From 1, January.
+    pub month: u64,
+    /// From 1.
+    pub day: u64,
+}
+
+/// A map in the tournament pool, from a first day to an end that no longer belongs to the term.
+#[repr(C)]
+#[derive(Debug, Clone, Copy, PartialEq, Eq, PartialOrd, Ord, Hash, Default)]
+pub struct Term {
+    /// The number of the map.
+    pub map: u64,
+    /// Its first day.
+    pub first: Date,
+    /// Its end.
+    pub end: Date,
+}
+
 /// An entry that lies in memory as so many numbers, one after another.
 ///
 /// # Safety
@@ -177,4 +201,6 @@ entries! {
     Tally: 2 of u32;
     Pair: 3 of u32;
     Accession: 4 of u64;
+    Date: 3 of u64;
+    Term: 7 of u64;
 }

@@ -127,13 +127,18 @@ unsafe extern "C" {
         output_length: usize,
     ) -> Answer;
 
-    pub safe fn jenwyllt_dominance(
-        cells: u32,
-        count_0: u32,
-        count_1: u32,
-        count_2: u32,
-        count_3: u32,
-    ) -> DominanceAnswer;
+    pub safe fn jenwyllt_dominance(cells: u32, count_0: u32, count_1: u32, count_2: u32, count_3: u32) -> DominanceAnswer;
+    pub fn jenwyllt_maps_of_day(
+        terms: *const u64,
+        terms_length: usize,
+        records: *const u64,
+        records_length: usize,
+        year: u64,
+        month: u64,
+        day: u64,
+        output: *mut u64,
+        output_length: usize,
+    ) -> Answer;
 
     pub safe fn jenwyllt_hypotenuse(x: f64, y: f64) -> Outcome;
 

@@ -1,11 +1,11 @@
 //! Safe calls of the library `jenwyllt`, which is proved to meet its definitions for every input: the regions of a map cut by
 //! spans, the boundaries that a pass keeps, how far boundaries are apart, the reader of sheets, the line of an accession record,
-//! the share behind dominance, and the correctly rounded hypotenuse.
+//! the maps in the pool on a day, the share behind dominance, and the correctly rounded hypotenuse.
 //!
-//! [`partition`], [`kept_boundaries`], [`separations`], [`read_sheet`] and [`report_line`] make the lists that the library fills.
-//! [`partition_into`], [`kept_boundaries_into`], [`separations_into`], [`read_sheet_into`] and [`report_line_into`] take lists of
-//! numbers that the caller lends and allocate nothing. A list of any content and length is a valid argument: what does not fit is
-//! answered by a [`Refusal`].
+//! [`partition`], [`kept_boundaries`], [`separations`], [`read_sheet`], [`report_line`] and [`maps_of_day`] make the lists that the
+//! library fills. [`partition_into`], [`kept_boundaries_into`], [`separations_into`], [`read_sheet_into`], [`report_line_into`] and
+//! [`maps_of_day_into`] take lists of numbers that the caller lends and allocate nothing. A list of any content and length is a
+//! valid argument: what does not fit is answered by a [`Refusal`].
 //!
 //! The library is for x86-64 Linux; build.rs says where it is looked for. Floating-point operations must round to nearest and keep
 //! subnormal numbers, as Rust has it: code in other languages that changes this for its thread must restore it before a call.
@@ -19,16 +19,18 @@ mod exported;
 mod hypotenuse;
 mod kept;
 mod partition;
+mod pool;
 mod refusal;
 mod separations;
 mod sheet;
 
 pub use accession::{report_line, report_line_into};
 pub use dominance::{Dominance, Share, dominance};
-pub use entries::{Accession, Boundary, Pair, Point, Row, Span, Tally};
+pub use entries::{Accession, Boundary, Date, Pair, Point, Row, Span, Tally, Term};
 pub use hypotenuse::{hypot, hypotenuse};
 pub use kept::{KeptBoundaries, KeptLists, Map, Region, kept_boundaries, kept_boundaries_into};
 pub use partition::{Partition, PartitionLists, partition, partition_into};
+pub use pool::{Entry, maps_of_day, maps_of_day_into};
 pub use refusal::{Cause, Refusal};
 pub use separations::{Separation, separations, separations_into};
 pub use sheet::{Header, Sheet, SheetLists, read_sheet, read_sheet_into};

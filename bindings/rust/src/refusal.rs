@@ -48,6 +48,8 @@ causes! {
     Range = 13, "an argument is neither zero nor of a magnitude from 2^-64 to 2^15";
     Sheet = 14, "the sheet is ill formed";
     Accession = 17, "the accession record breaks a rule";
+    Date = 18, "a date of the term, or at the number of terms the day asked for, is not a day from 2000 to 2099";
+    Term = 19, "the term is empty or overlaps an earlier term of its map";
 }
 
 /// A refusal: the number of its cause, and the place of the first fault (the span, boundary, anchor, cell or byte), 0 where the

@@ -1,4 +1,11 @@
 pub mod Accession
 pub mod Line
 pub mod AccessionExamples
+pub mod Dates
+pub mod Terms
+pub mod Pool
+pub mod PoolExamples
+pub mod DateLaws
+pub mod TermLaws
+pub mod PoolLaws
 pub mod AccessionLaws

@@ -1,4 +1,4 @@
--- made by tools/twin: do not edit
+-- made by compare/twin: do not edit
 pub use Prim.Native.Nat.{suc, ℕ}
 pub use borrow.Enum.Known.{Known, g-enum-known, g-known-told}
 pub use borrow.Enum.Match.{reads-payload, reads-tag}

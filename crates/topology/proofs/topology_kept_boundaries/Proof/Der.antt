@@ -1,4 +1,4 @@
--- The derivation of `Rattle.topology.proofs.topology_kept_boundaries` in steps. Made by tools/twin.
+-- The derivation of `Rattle.topology.proofs.topology_kept_boundaries` in steps. Made by compare/twin.
 use Rattle.topology.proofs.Rules.{Array, Atoms, Cx, Dens, Env, EnvOf, Given, Heap, Known, Lfts, List, Mo, Outs, Row, Shares, Tables, Ty, URA, Want, World, [], _∷_, alive, any-gone, apartT, arr-mem, arrF, as-is, asMut, asShr, bool-lawful, bool-makes, cRf, cStruct, dead, div, erased, fBool, fInt, false, field, folds, g-as-by, g-back-sc, g-back-shr, g-back-sl, g-back-sl-shr, g-begin, g-drop-sref, g-end, g-enum-known, g-forget, g-known-told, g-room, getD, holds-sc, home-of, imm, init, is-wt, lease, lenV, makes-mem, mem-arr, mem-whole, mleft, mref, msleft, mslice, mslice-owed, mslice-owedS, msptr, mul, mut, named, oAt, oBool, oFld, oInt, off, pointee, reads-enum, reads-mref, reads-mslice, reads-mslice-len, reads-owed-len, reads-owedS-len, reads-payload, reads-sc, reads-sref, reads-sslice, reads-sslice-len, reads-tag, refl, room-arr, room-gone, room-sc, room-sslice, room-whole, rtF, sInt, sUnit, sc-here, sc-owed, sc-shr, some, spares-sref, spares-sslice, sref, sslice, ssptr, sub-id, suc, t-call-plain, t-op2, t-repeat, t-sc-borrow, t-sc-share, t-sl-aggregate, t-sl-relend, t-sl-reshare, t-struct-make, t-use, t-val-copy, tagOf, told-none, tyArray, tyBool, tyInt, tyR, tyRef, tyUnit, tysP, u64-wt, unsigned, vAt, valS, variant, vcons, vint, vnil, w16, w32, w64, w8, wantQ, whole, whole-arr, whole-mem, withNext, yields-copy, Γin, Δret, ℕ}
 use Rattle.calls.proofs.Prepared.{enum}
 use Rattle.calls.proofs.Prepared as Prepared

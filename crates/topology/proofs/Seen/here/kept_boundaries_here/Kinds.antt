@@ -1,4 +1,4 @@
--- made by tools/twin: do not edit
+-- made by compare/twin: do not edit
 use Rattle.topology.proofs.Answer as Answer
 use Rattle.topology.proofs.Answer.Laws as Laws
 use Rattle.topology.proofs.Values.{enumLaws, enumValue}

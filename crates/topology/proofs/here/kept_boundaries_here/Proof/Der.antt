@@ -1,4 +1,4 @@
--- The derivation of `Rattle.topology.proofs.here.kept_boundaries_here` in steps. Made by tools/twin.
+-- The derivation of `Rattle.topology.proofs.here.kept_boundaries_here` in steps. Made by compare/twin.
 use Rattle.topology.proofs.Rules.{Array, Atoms, Cx, Dens, Env, EnvOf, Given, Heap, Lfts, List, Mo, Outs, Row, Shares, Tables, Ty, URA, Want, World, [], _∷_, alive, any-gone, arr-mem, arr-owedP, arr-yields, arrF, as-is, asMut, cArr, cStruct, dead, eStruct, eStruct-laws, erased, fInt, field, g-back-arrᵖ, g-back-sl, g-begin, g-end, g-forget, g-room, getD, imm, init, lease, lenV, lit<, makes-mem, mem-arr, mem-whole, msleft, mslice, mslice-owed, msptr, mut, named, oAt, oFld, off, pointee, reads-mslice, reads-owed-len, reads-sc, reads-sslice, refl, room-arr, room-gone, room-sc, room-whole, rtF, sInt, sUnit, sc-here, spares-sslice, sub-id, suc, t-arr-borrowᵖ, t-call-plain, t-sl-aggregate, t-sl-relend, t-val-copy, told-none, tyArray, tyInt, tyR, tyRef, tyUnit, tysP, vAt, vLit, valS, w16, w32, w64, w8, wantQ, whole, whole-mem, yields-copy, Γin, Δret, ℕ}
 use Rattle.context.proofs.Region as twin-0
 use Rattle.context.proofs.Region.Laws as twin-0-laws

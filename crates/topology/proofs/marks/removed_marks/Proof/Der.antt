@@ -1,4 +1,4 @@
--- The derivation of `Rattle.topology.proofs.marks.removed_marks` in steps. Made by tools/twin.
+-- The derivation of `Rattle.topology.proofs.marks.removed_marks` in steps. Made by compare/twin.
 use Rattle.topology.proofs.Rules.{Array, Atoms, Cx, Dens, Env, EnvOf, Given, Heap, Lfts, List, Mo, Outs, Row, Shares, Tables, Ty, URA, Want, World, [], _∷_, alive, any-gone, as-is, asMut, asShr, dead, eq, erased, fBool, fInt, field, g-back-mref, g-back-sl, g-back-sl-shr, g-begin, g-end, g-forget, g-room, getD, holds-sc, imm, init, lease, lenV, mleft, mref, mref-owed, msleft, mslice, mslice-owed, mslice-owedS, msptr, mut, named, oAt, oFld, oInt, oUnit, off, pointee, reads-mref, reads-mslice, reads-owed-len, reads-owedS-len, reads-sc, reads-sref, reads-sslice, refl, room-gone, room-sc, room-sslice, rtF, sBool, sInt, sUnit, sc-here, some, spares-sref, spares-sslice, sslice, ssptr, sub-id, suc, t-call-plain, t-mref-relend, t-op2, t-sl-aggregate, t-sl-relend, t-sl-reshare, t-use, tyArray, tyBool, tyInt, tyR, tyRef, tyUnit, tysP, vAt, valS, w16, w32, w64, wantQ, withNext, Γin, Δret, ℕ}
 use Rattle.context.proofs.Region as twin-0
 use borrow.Fn.Plain.{Known as Knows}

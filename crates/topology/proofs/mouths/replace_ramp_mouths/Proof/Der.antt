@@ -1,4 +1,4 @@
--- The derivation of `Rattle.topology.proofs.mouths.replace_ramp_mouths` in steps. Made by tools/twin.
+-- The derivation of `Rattle.topology.proofs.mouths.replace_ramp_mouths` in steps. Made by compare/twin.
 use Rattle.topology.proofs.Rules.{Array, Atoms, Cx, Dens, Env, EnvOf, Given, Heap, Lfts, List, Mo, Outs, Row, Shares, Tables, Ty, URA, Want, World, [], _∷_, alive, any-gone, arr-mem, arrF, as-is, asMut, asShr, bitNot, bool-lawful, bool-makes, cRf, dead, erased, fBool, fInt, false, field, g-as-by, g-back-mref, g-back-sc, g-back-shr, g-back-sl, g-back-sl-shr, g-begin, g-drop-sref, g-end, g-forget, g-room, getD, holds-sc, home-of, imm, init, lease, lenV, lit<, mem-arr, mleft, mref, mref-owed, msleft, mslice, mslice-owed, mslice-owedS, msptr, mut, named, oAt, oBool, oFld, oInt, oUnit, off, pointee, reads-mref, reads-mslice, reads-owed-len, reads-owedS-len, reads-sc, reads-sref, reads-sslice, refl, room-arr, room-gone, room-sc, room-sslice, rtF, sBool, sInt, sUnit, sc-here, sc-owed, sc-shr, spares-sref, spares-sslice, sref, sslice, ssptr, sub-id, suc, t-call-plain, t-mref-relend, t-op1, t-repeat, t-sc-borrow, t-sc-share, t-sl-aggregate, t-sl-relend, t-sl-reshare, t-use, told-none, tyArray, tyBool, tyInt, tyR, tyRef, tyUnit, tysP, uint-lawful, uint-makes, vAt, valS, w16, w32, w64, w8, wantQ, whole, whole-arr, Γin, Δret, ℕ}
 use Rattle.context.proofs.Region as twin-0
 use borrow.Fn.Plain.{Known as Knows}

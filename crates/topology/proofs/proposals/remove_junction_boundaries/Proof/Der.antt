@@ -1,4 +1,4 @@
--- The derivation of `Rattle.topology.proofs.proposals.remove_junction_boundaries` in steps. Made by tools/twin.
+-- The derivation of `Rattle.topology.proofs.proposals.remove_junction_boundaries` in steps. Made by compare/twin.
 use Rattle.topology.proofs.Rules.{Array, Atoms, Cx, Dens, Env, EnvOf, Given, Heap, Lfts, List, Mo, Outs, Row, Shares, Tables, Ty, URA, Want, World, [], _∷_, _≡_, alive, any-gone, arr-mem, arr-owed, arr-shr, arrF, as-is, asMut, asShr, bool-lawful, bool-makes, cRf, dead, deref, drop, erased, fBool, fInt, false, fz-lent-sl, fz-open, g-as-by, g-back-arr, g-back-arr-shr, g-back-sc, g-begin, g-end, g-forget, g-room, g-way-back, getD, held, holds-sc, imm, init, lease, lft, lit<, mem-arr, mleft, mref, mref-mem, msleft, mslice, msptr, mut, named, oBig, oBool, oInt, oUnit, off, out, pin-lease, pointee, puts-none-sl, puts-open, puts-whole, reads-mref, reads-mslice, reads-sc, reads-sref, reads-sslice, refl, room-arr, room-gone, room-sc, room-sslice, rtF, sInt, sUnit, sc-here, sc-owed, set, setLife, setRow, spares-sref, spares-sslice, spotOf, sslice, ssptr, sub-id, suc, t-arr-borrow, t-arr-share, t-call-plain, t-repeat, t-sc-borrow, t-sl-aggregate, t-use, t-way-lend-slice, takes-whole, told-none, tyArray, tyBool, tyInt, tyR, tyRef, tyUnit, tysP, uint-lawful, uint-makes, vAt, valS, w16, w32, w64, wantQ, whole, whole-arr, wt-mref, wt-mut, Γin, Δret, ℕ}
 use Rattle.context.proofs.Region as twin-0
 use borrow.Fn.Plain.{Known as Knows}

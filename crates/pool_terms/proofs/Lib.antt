@@ -1,0 +1,2 @@
+pub mod CalendarTables
+pub mod TermScan

@@ -1,0 +1,99 @@
+-- is left of the terms. Assumes nothing.
+use Prim.Native.Nat.{_-_, _≤_}
+use mathlib.Core.Path.{_≡_, refl, sym, ap, _∙_}
+use mathlib.Core.Option.{none}
+use Rattle.definitions.specs.Refusals.{firstBelow}
+use Rattle.laws.specs.ListLaws.FirstBelow.{none-below-zero, none-below-more, none-below-end, first-found}
+use Rattle.catalogue.specs.Terms.{termAt, daysOf, termFault, termsRefusal}
+use Rattle.pool_terms.specs.Answers.{refusalIn}
+use Rattle.pool_terms.specs.Ends.{Latest}
+use Rattle.pool_terms.proofs.TermScan.{latest-starts}
+use borrow.Author.Needs.{needs}
+use Rattle.pool_terms.proofs.terms.terms_fault.Statement.{statement}
+use Rattle.pool_terms.proofs.terms.terms_fault.Tie as tie
+
+abbrev Inv-loop : tie.InvT-loop
+Inv-loop terms count ends₀ i₀ ends i = (i ≤ count) × (firstBelow i (λ k. termFault terms k (daysOf (termAt terms k))) ≡ none) × Latest terms i ends
+
+abbrev μ-loop : tie.MeasureT-loop
+μ-loop terms count ends₀ i₀ ends i = count - i
+
+loop-holds : tie.Need-loop-holds Inv-loop μ-loop
+loop-holds c = (search needs, none-below-zero _, latest-starts _ _ refl)
+
+term-fault-requires : tie.Need-term-fault-requires Inv-loop μ-loop
+term-fault-requires c κs =
+    let at-loop = c .before .before in
+    (search needs, at-loop .loop .inv .2)
+
+enum-told : tie.Need-enum-told Inv-loop μ-loop
+enum-told c = search needs
+
+enum-told-2 : tie.Need-enum-told-2 Inv-loop μ-loop
+enum-told-2 c = search needs
+
+returns : tie.Need-returns Inv-loop μ-loop
+unfolding termsRefusal
+returns c =
+    let at-fault = c .before .before in
+    let at-test = at-fault .before .before in
+    let I = at-test .before .loop .inv in
+    let found = ap refusalIn (c .enum-told2 .given .1) in
+    found ∙ sym (first-found _ _ (at-test .before .loop .i) _ (at-test .loop-test .taken) (I .1) (sym (at-fault .term-fault .ensures) ∙ found))
+
+enum-told-3 : tie.Need-enum-told-3 Inv-loop μ-loop
+enum-told-3 c = search needs
+
+returns-2 : tie.Need-returns-2 Inv-loop μ-loop
+unfolding termsRefusal
+returns-2 c =
+    let at-fault = c .before .before in
+    let at-test = at-fault .before .before in
+    let I = at-test .before .loop .inv in
+    let found = ap refusalIn (c .enum-told3 .given .1) in
+    found ∙ sym (first-found _ _ (at-test .before .loop .i) _ (at-test .loop-test .taken) (I .1) (sym (at-fault .term-fault .ensures) ∙ found))
+
+keep-end-requires : tie.Need-keep-end-requires Inv-loop μ-loop
+keep-end-requires c κs =
+    let at-fault = c .before .before .before in
+    let at-loop = at-fault .before .before .before in
+    (search needs, at-loop .loop .inv .2)
+
+add-i : tie.Need-add-i Inv-loop μ-loop
+add-i c = search needs
+
+loop-less : tie.Need-loop-less Inv-loop μ-loop
+loop-less c = search needs
+
+loop-again : tie.Need-loop-again Inv-loop μ-loop
+loop-again c =
+    let at-told = c .before .before in
+    let at-fault = at-told .before .before in
+    let at-loop = at-fault .before .before .before in
+    let nothing = ap refusalIn (at-told .enum-told .given .1) in
+    (search needs, none-below-more _ (at-loop .loop .i) (at-loop .loop .inv .1) (sym (at-fault .term-fault .ensures) ∙ nothing), c .keep-end .ensures)
+
+returns-3 : tie.Need-returns-3 Inv-loop μ-loop
+unfolding termsRefusal
+returns-3 c =
+    let at-loop = c .before in
+    sym (none-below-end _ _ (at-loop .loop .i) (at-loop .loop .inv .0) (c .loop-test .left) (at-loop .loop .inv .1))
+
+pub terms-fault-spec : {M : Type 1} → statement M
+terms-fault-spec =
+    tie.close
+    (tie.spec
+    Inv-loop
+    μ-loop
+    loop-holds
+    term-fault-requires
+    enum-told
+    enum-told-2
+    returns
+    enum-told-3
+    returns-2
+    keep-end-requires
+    add-i
+    loop-less
+    loop-again
+    returns-3)
