@@ -1,5 +1,5 @@
 /* Regions of a walk grid cut by spans, the boundaries that a pass keeps, how far boundaries are apart, the reader of sheets, the line of an accession
-   record, and the correctly rounded hypotenuse.
+   record, the share behind dominance, and the correctly rounded hypotenuse.
    The library is for x86-64 Linux: libjenwyllt.a and libjenwyllt.so, which tools/build_library.sh writes to target/lib. It keeps no state and allocates
    nothing; from outside it needs only `memset`.
    Every function is proved to meet the definitions of crates/definitions, crates/separations and crates/catalogue for every input that keeps to what stands here. */
@@ -231,6 +231,21 @@ struct jenwyllt_sheet jenwyllt_read_sheet(
     uint64_t *spans, size_t spans_length,
     uint64_t *boundaries, size_t boundaries_length,
     uint64_t *anchors, size_t anchors_length);
+
+/* The elevation of most cells, and its share. Percent is the whole percent, rounded down, and the remainder what is left: count * 100 = percent * cells +
+   remainder, with remainder below cells. Without cells there is no share, and both are 0. */
+struct jenwyllt_dominance {
+    uint64_t elevation;
+    bool has_share;
+    uint64_t percent;
+    uint64_t remainder;
+};
+
+/* Of a region with so many cells, of which so many have elevation 0, 1, 2 and 3, as its record has them: the elevation with the largest count, of equal
+   counts the lower, and the share of that count in the cells. A union of pass 3 accepts a share of 99 percent or more. Every five numbers have their answer:
+   where the counts are not those of a region, percent may be over 100. */
+struct jenwyllt_dominance jenwyllt_dominance(
+    uint32_t cells, uint32_t count_0, uint32_t count_1, uint32_t count_2, uint32_t count_3);
 
 /* The hypotenuse: the double nearest to the root of x * x + y * y, ties to the even significand. */
 

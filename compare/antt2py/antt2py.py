@@ -570,7 +570,7 @@ FAST = {'Scan': ['anyBelow', 'allBelow', 'countBelow', 'collect', 'gather', 'any
         'RegionRecord': ['least', 'most'], 'Refusals': ['firstBelow'], 'RampGeometry': ['fabs'], 'Hypotenuse': ['hypotOf']}
 ROOTS = ['Grid.mapOf', 'Grid.onward', 'Spans.cutSteps', 'Spans.candidatePositions', 'Spans.cuts', 'Partition.allSteps', 'Partition.cutAll', 'Partition.uncut',
          'Partition.mergeAll', 'Partition.roots', 'Partition.labels', 'Partition.regionCount', 'Partition.pairsOf', 'Context.contextOf', 'RegionRecord.regionOf',
-         'RegionRecord.emptyRegion', 'RegionRecord.least', 'RegionRecord.most', 'RegionRecord.dominantElevation', 'RegionRecord.strictlyFlat',
+         'RegionRecord.emptyRegion', 'RegionRecord.least', 'RegionRecord.most', 'RegionRecord.dominance', 'RegionRecord.sameDominance', 'RegionRecord.strictlyFlat',
          'Geometry.pointSegmentDistance', 'RampGeometry.segmentDistance', 'RampGeometry.isNearbyParallelRepresentative',
          'RampGeometry.overlappingRampRepresentative', 'MouthShapes.mouthShape', 'RampMouths.proposals', 'RampMouths.taken', 'RampInteriors.proposals',
          'RampInteriors.taken', 'Junctions.proposals', 'Junctions.taken', 'Rows.rowsOf', 'Rows.flatRows', 'Verdict.verdict', 'Verdict.partitionVerdict',

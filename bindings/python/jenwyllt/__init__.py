@@ -1,6 +1,7 @@
 """The kept boundaries of a map by the proved library, for Python: standard library only, over libjenwyllt.so."""
 from ._library import NotBuilt
 from .accession import Accession, report_line
+from .dominance import Dominance, Share, dominance
 from .hypotenuse import hypot, hypotenuse
 from .kept import Kept, Region, Row, kept_boundaries
 from .partition import Pair, Partition, Tally, partition
@@ -11,5 +12,5 @@ from .sheet import Boundary, Kind, Point, Sheet, Span, read_sheet, sheet_bytes
 
 __version__ = '0.2.0'
 __all__ = [
-    'Accession', 'Boundary', 'Cause', 'Date', 'Entry', 'Kept', 'Kind', 'NotBuilt', 'Pair', 'Partition', 'Point', 'Refusal', 'Region', 'Row', 'Separation', 'Sheet', 'Span',
-    'Tally', 'Term', 'hypot', 'hypotenuse', 'kept_boundaries', 'maps_of_day', 'partition', 'read_sheet', 'report_line', 'separations', 'sheet_bytes']
+    'Accession', 'Boundary', 'Cause', 'Date', 'Dominance', 'Entry', 'Kept', 'Kind', 'NotBuilt', 'Pair', 'Partition', 'Point', 'Refusal', 'Region', 'Row', 'Separation', 'Share', 'Sheet',
+    'Span', 'Tally', 'Term', 'dominance', 'hypot', 'hypotenuse', 'kept_boundaries', 'maps_of_day', 'partition', 'read_sheet', 'report_line', 'separations', 'sheet_bytes']

@@ -90,10 +90,19 @@ class Answers(Trial):
         done = run('regions', EXAMPLES / 'case_j.txt', '--labels')
         lines = done.stdout.decode().splitlines()
         self.assertEqual((done.returncode, lines[0], lines[3], lines[7]), (
-            0, '6 regions', 'region 3 from 8 8 to 16 16: 1 cell, 1 of elevation 0', 'span 0 from 16 8 to 16 16: 1 step removed, 1 between regions 3 and 4'))
+            0, '6 regions', 'region 3 from 8 8 to 16 16: 1 cell, 1 of elevation 0; elevation 0 has 100 percent, remainder 0',
+            'span 0 from 16 8 to 16 16: 1 step removed, 1 between regions 3 and 4'))
         self.assertEqual(lines[-3:], ['0 1 0 0', '2 3 4 5', '0 0 6 0'])
         found = json.loads(run('regions', '--json', EXAMPLES / 'case_j.txt').stdout)
         self.assertEqual((len(found['regions']), found['pairs'][0]), (6, {'span': 0, 'smaller': 3, 'larger': 4}))
+
+    def test_shares(self) -> None:
+        """of seven cells three have elevation 1 and three elevation 2: the lower is chosen, with 300 = 42 * 7 + 6"""
+        text = 'pass 3\nmap 7 1\n1112220\n'.encode()
+        counts = '1 of elevation 0, 3 of elevation 1, 3 of elevation 2'
+        self.answers(f'1 region\nregion 1 from 0 0 to 56 8: 7 cells, {counts}; elevation 1 has 42 percent, remainder 6\n', 'regions', data=text)
+        found = json.loads(run('regions', '--json', data=text).stdout)
+        self.assertEqual([region['dominance'] for region in found['regions']], [{'elevation': 1, 'share': {'percent': 42, 'remainder': 6}}])
 
     def test_large(self) -> None:
         text = f'pass 1\nmap 65 64\n{("0" * 65 + chr(10)) * 64}'

@@ -42,12 +42,16 @@ class Cases(unittest.TestCase):
         near = reference.distance((0.0, 0.0), (384.0, 0.0)), reference.distance((0.0, 0.0), (384.5, 0.0))
         self.assertTrue(near[0] <= reference.MAX_PORT_DISTANCE_PIXELS < near[1])
 
-    def test_dominant(self):
+    def test_dominance(self):
         def stats(*counts):
             return RegionStats(cells=sum(counts), elevation_counts=list(counts))
-        self.assertEqual(reference.dominant_elevation(stats(0, 99, 1, 0)), 1)
-        self.assertEqual(reference.dominant_elevation(stats(0, 98, 1, 0)), None)
-        self.assertEqual(reference.dominant_elevation(stats(0, 0, 0, 0)), 0)
+        self.assertEqual(reference.dominance(stats(0, 99, 1, 0)), (1, (99, 0)))
+        self.assertEqual(reference.dominance(stats(0, 98, 1, 0)), (1, (98, 98)))
+        self.assertEqual(reference.dominance(stats(0, 0, 0, 0)), (0, None))
+        self.assertEqual(reference.dominance(stats(0, 3, 0, 3)), (1, (50, 0)))
+        self.assertTrue(reference.same_dominance(stats(0, 99, 1, 0), stats(0, 1, 0, 0)))
+        self.assertFalse(reference.same_dominance(stats(0, 99, 1, 0), stats(0, 98, 1, 0)))
+        self.assertFalse(reference.same_dominance(stats(0, 99, 1, 0), stats(0, 0, 1, 0)))
 
     def test_star(self):
         self.assertEqual(reference.star(Assessment(2, 2, [(1, 2), (1, 3)])), ('star', 1, [2, 3]))

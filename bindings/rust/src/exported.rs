@@ -38,7 +38,16 @@ pub struct Outcome {
     pub value: f64,
 }
 
-// SAFETY: names, arguments and results are those of include/jenwyllt.h. The two functions marked safe take numbers alone, and are
+/// An elevation, and its share where there is one.
+#[repr(C)]
+pub struct DominanceAnswer {
+    pub elevation: u64,
+    pub has_share: bool,
+    pub percent: u64,
+    pub remainder: u64,
+}
+
+// SAFETY: names, arguments and results are those of include/jenwyllt.h. The functions marked safe take numbers alone, and are
 // proved for all of them.
 unsafe extern "C" {
     pub fn jenwyllt_partition(
@@ -118,6 +127,7 @@ unsafe extern "C" {
         output_length: usize,
     ) -> Answer;
 
+    pub safe fn jenwyllt_dominance(cells: u32, count_0: u32, count_1: u32, count_2: u32, count_3: u32) -> DominanceAnswer;
     pub fn jenwyllt_maps_of_day(
         terms: *const u64,
         terms_length: usize,

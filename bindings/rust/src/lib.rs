@@ -1,6 +1,6 @@
 //! Safe calls of the library `jenwyllt`, which is proved to meet its definitions for every input: the regions of a map cut by
 //! spans, the boundaries that a pass keeps, how far boundaries are apart, the reader of sheets, the line of an accession record,
-//! the maps in the pool on a day, and the correctly rounded hypotenuse.
+//! the maps in the pool on a day, the share behind dominance, and the correctly rounded hypotenuse.
 //!
 //! [`partition`], [`kept_boundaries`], [`separations`], [`read_sheet`], [`report_line`] and [`maps_of_day`] make the lists that the
 //! library fills. [`partition_into`], [`kept_boundaries_into`], [`separations_into`], [`read_sheet_into`], [`report_line_into`] and
@@ -13,6 +13,7 @@
 #![deny(unsafe_op_in_unsafe_fn, missing_docs)]
 
 mod accession;
+mod dominance;
 mod entries;
 mod exported;
 mod hypotenuse;
@@ -24,6 +25,7 @@ mod separations;
 mod sheet;
 
 pub use accession::{report_line, report_line_into};
+pub use dominance::{Dominance, Share, dominance};
 pub use entries::{Accession, Boundary, Date, Pair, Point, Row, Span, Tally, Term};
 pub use hypotenuse::{hypot, hypotenuse};
 pub use kept::{KeptBoundaries, KeptLists, Map, Region, kept_boundaries, kept_boundaries_into};

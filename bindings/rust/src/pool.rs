@@ -41,7 +41,12 @@ pub fn maps_of_day(terms: &[Term], records: &[Accession], asked: Date) -> Result
     let mut output = vec![0; ENTRY_NUMBERS * terms.len()];
     let count = maps_of_day_into(flat(terms), flat(records), asked, &mut output)?;
     let entries = output.chunks(ENTRY_NUMBERS).take(count as usize);
-    Ok(entries.map(|entry| Entry { map: entry[0], record: (entry[1] != 0).then(|| Accession { own: entry[1], map: entry[0], day: entry[2], superseded: entry[3] }) }).collect())
+    Ok(entries
+        .map(|entry| Entry {
+            map: entry[0],
+            record: (entry[1] != 0).then(|| Accession { own: entry[1], map: entry[0], day: entry[2], superseded: entry[3] }),
+        })
+        .collect())
 }
 
 /// The same over lists of numbers that the caller lends, seven a term, four a record, and four an entry: map, and the record's own
@@ -51,6 +56,18 @@ pub fn maps_of_day(terms: &[Term], records: &[Accession], asked: Date) -> Result
 pub fn maps_of_day_into(terms: &[u64], records: &[u64], asked: Date, output: &mut [u64]) -> Result<u64, Refusal> {
     let Date { year, month, day } = asked;
     // SAFETY: each pointer comes with the length of its slice, and a slice that is filled is borrowed alone.
-    let answer = unsafe { jenwyllt_maps_of_day(terms.as_ptr(), terms.len(), records.as_ptr(), records.len(), year, month, day, output.as_mut_ptr(), output.len()) };
+    let answer = unsafe {
+        jenwyllt_maps_of_day(
+            terms.as_ptr(),
+            terms.len(),
+            records.as_ptr(),
+            records.len(),
+            year,
+            month,
+            day,
+            output.as_mut_ptr(),
+            output.len(),
+        )
+    };
     answer.result()
 }

@@ -14,7 +14,8 @@ fn stored() {
     let text = fs::read_to_string(path).expect("vectors/pool.txt");
     let mut count = 0;
     for line in text.lines() {
-        let [terms, records, asked, answer, rows] = line.split(';').map(numbers).collect::<Vec<_>>().try_into().expect("five parts");
+        let [terms, records, asked, answer, rows] =
+            line.split(';').map(numbers).collect::<Vec<_>>().try_into().expect("five parts");
         let [year, month, day, room] = asked[..] else { panic!("{line}") };
         let [number, value] = answer[..] else { panic!("{line}") };
         let asked = Date { year, month, day };
@@ -27,7 +28,13 @@ fn stored() {
             let terms: Vec<Term> = terms.chunks(7).map(|seven| <[u64; 7]>::try_from(seven).unwrap().into()).collect();
             let records: Vec<Accession> = records.chunks(4).map(|four| <[u64; 4]>::try_from(four).unwrap().into()).collect();
             let entries = maps_of_day(&terms, &records, asked).expect(line);
-            let listed: Vec<u64> = entries.iter().flat_map(|entry| { let r = entry.record.unwrap_or_default(); [entry.map, r.own, r.day, r.superseded] }).collect();
+            let listed: Vec<u64> = entries
+                .iter()
+                .flat_map(|entry| {
+                    let r = entry.record.unwrap_or_default();
+                    [entry.map, r.own, r.day, r.superseded]
+                })
+                .collect();
             assert_eq!(listed, rows, "{line}");
         }
         count += 1;

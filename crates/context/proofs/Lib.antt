@@ -2,7 +2,6 @@
 pub mod Added
 pub mod AnchorSteps
 pub mod Counting
-pub mod Dominance
 pub mod FullPairs
 pub mod IncidentCounts
 pub mod IncidentWhole

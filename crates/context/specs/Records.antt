@@ -1,13 +1,10 @@
--- What the struct `Region` and the enum `Dominant` stand for, and what the code asks of a record so that no number wraps. Assumes nothing.
+-- What the struct `Region` stands for, and what the code asks of a record so that no number wraps. Assumes nothing.
 use Prim.Native.Nat.{ℕ, _*_, _≤_, _<_}
-use mathlib.Core.Option.{Option, none, some}
 use Rattle.definitions.specs.Limits.{maxSide}
 use Rattle.definitions.specs.Grid.{elevation}
 use Rattle.definitions.specs.RegionRecord.{elevationCount}
 use Rattle.definitions.specs.RegionRecord as def
 use Rattle.context.specs.declared.Region.{Region}
-use Rattle.context.specs.declared.records.Dominant.{Dominant}
-use Rattle.context.specs.declared.records.Dominant.the-variants as dominant
 
 abbrev pub recordOf : Region → def.Region
 recordOf s =
@@ -21,10 +18,6 @@ recordOf s =
       elevations = s .elevations;
       elevationCounts = s .«elevation_counts»;
     }
-
-abbrev pub dominantOf : Dominant → Option ℕ
-dominantOf dominant.None = none
-dominantOf (dominant.Elevation e) = some e
 
 -- ---- what is asked of a record
 

@@ -1,5 +1,7 @@
 // A region's record by value: the empty record, one more cell, and what is asked of a record (RegionStats of context.rs; dominance and flatness of junctions.rs).
 use crate::Region;
+use elevations::Dominance;
+use elevations::dominance_of;
 use geometry::Point;
 ghost use mathlib.Core.Path.{_≡_};
 ghost use mathlib.Core.List.{map};
@@ -11,18 +13,13 @@ ghost use Rattle.definitions.specs.Scan.{bit};
 ghost use Rattle.definitions.specs.Grid.{elevation, isRamp};
 ghost use Rattle.definitions.specs.Spans.{pixelsPerWalkCell};
 ghost use Rattle.definitions.specs.Geometry.{float};
-ghost use Rattle.definitions.specs.RegionRecord.{emptyRegion, corners, better, mostCommonElevation, dominantElevation, strictlyFlat};
+ghost use Rattle.definitions.specs.RegionRecord.{emptyRegion, corners, dominance, strictlyFlat};
+ghost use Rattle.elevations.specs.Forms.{dominanceForm};
 ghost use Rattle.geometry.specs.Forms.{pointForm};
-ghost use Rattle.context.specs.Records.{recordOf, dominantOf, maxCells, Counted, Fitting};
+ghost use Rattle.context.specs.Records.{recordOf, maxCells, Counted, Fitting};
 ghost use Rattle.context.specs.Cells.{lesserEdge, greaterEdge, addCell};
 
 const PIXELS_PER_WALK_CELL: u32 = 8;
-
-// The elevation of 99 of 100 cells or more, where there is one; `dominantOf` of specs/Records.antt gives what it says.
-pub enum Dominant {
-    None,
-    Elevation(u8),
-}
 
 // An edge that lies `cells` cells from the map's left or upper edge, in pixels.
 fn edge(cells: usize) -> f64
@@ -146,34 +143,13 @@ impl Region {
         ]
     }
 
-    // Which of two elevations has more cells; of equal counts the former.
-    fn better(self, best: usize, e: usize) -> usize
-        requires { ⌜ (best < 4) × (e < 4) ⌝ }
-        ensures { λ r. ⌜ r ≡ better (recordOf self) best e ⌝ }
-        ensures { λ r. ⌜ r < 4 ⌝ }
-    {
-        let counts = self.elevation_counts;
-        if counts[best] < counts[e] { e } else { best }
-    }
-
-    fn most_common_elevation(self) -> usize
-        ensures { λ r. ⌜ r ≡ mostCommonElevation (recordOf self) ⌝ }
-        ensures { λ r. ⌜ r < 4 ⌝ }
-    {
-        self.better(self.better(self.better(0, 1), 2), 3)
-    }
-
-    pub fn dominant_elevation(self) -> Dominant
+    // The elevation of most cells, and its share of the region.
+    pub fn dominance(self) -> Dominance
         requires { ⌜ Counted (recordOf self) ⌝ }
-        ensures { λ r. ⌜ dominantOf r ≡ dominantElevation (recordOf self) ⌝ }
+        ensures { λ r. ⌜ dominanceForm r ≡ dominance (recordOf self) ⌝ }
     {
-        let e = self.most_common_elevation();
         let counts = self.elevation_counts;
-        if self.cells * 99 <= counts[e] * 100 {
-            Dominant::Elevation(e as u8)
-        } else {
-            Dominant::None
-        }
+        dominance_of(self.cells, counts)
     }
 
     // Exactly one bit set in the joined elevation mask.

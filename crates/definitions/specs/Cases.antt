@@ -10,7 +10,7 @@ use Rattle.definitions.specs.Scan.{all}
 use Rattle.definitions.specs.Grid.{Map, Segment, at, mapOf}
 use Rattle.definitions.specs.Hypotenuse.{hypotOf}
 use Rattle.definitions.specs.Geometry.{float}
-use Rattle.definitions.specs.RegionRecord.{Region, emptyRegion, dominantElevation}
+use Rattle.definitions.specs.RegionRecord.{Region, emptyRegion, dominance, accepts}
 use Rattle.definitions.specs.Context.{Context}
 use Rattle.definitions.specs.MouthShapes.{MouthShape, single, star, mouthShape}
 use Rattle.definitions.specs.Junctions.{Proposal, isNearPort, pickBridge}
@@ -33,10 +33,6 @@ width15-5 = 0x402F000000000000
 abbrev pub isNone : {A : Type 0} → Option A → Bool
 isNone none = true
 isNone (some a) = false
-
-abbrev pub isNumber : Option ℕ → ℕ → Bool
-isNumber none n = false
-isNumber (some m) n = eqb m n
 
 abbrev pub sameNumbers : List ℕ → List ℕ → Bool
 sameNumbers [] [] = true
@@ -115,7 +111,7 @@ fourCells =
 -- ---- the list
 
 unfoldable pub cases : List Bool
-unfolding toBits hypotOf float portAt dominantElevation regionOfCounts emptyRegion picked mouthShape removedOf threeCells fourCells
+unfolding toBits hypotOf float portAt dominance regionOfCounts emptyRegion picked mouthShape removedOf threeCells fourCells
 cases =
     -- "hypotenuse 3, 4 gives 5; 0, 0 gives 0; 1, 1 gives bits 3FF6A09E667F3BCD hexadecimal"
     eqb (toBits binary64 (hypotOf (float 3) (float 4))) (toBits binary64 (float 5))
@@ -125,9 +121,13 @@ cases =
     ∷ portAt 768
     ∷ not (portAt 769)
     -- "99 cells of 100 dominate, 98 of 99 don't. Equal counts, as in the empty record, choose the lower elevation."
-    ∷ isNumber (dominantElevation (regionOfCounts 100 99)) 0
-    ∷ isNone (dominantElevation (regionOfCounts 99 98))
-    ∷ isNumber (dominantElevation emptyRegion) 0
+    ∷ accepts (dominance (regionOfCounts 100 99) .share)
+    ∷ eqb (dominance (regionOfCounts 100 99) .elevation) 0
+    ∷ not (accepts (dominance (regionOfCounts 99 98) .share))
+    ∷ eqb (dominance emptyRegion .elevation) 0
+    -- document 02, request 2: "A region with no cells has no share", and no share is not 99 percent
+    ∷ isNone (dominance emptyRegion .share)
+    ∷ not (accepts (dominance emptyRegion .share))
     -- "bridge widths 16 and 8 pick the 16; 15.5 and 8 pick none", whichever comes first
     ∷ removes (picked width16 width8) 0
     ∷ removes (picked width8 width16) 1

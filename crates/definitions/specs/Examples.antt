@@ -15,7 +15,7 @@ use Rattle.definitions.specs.Partition.{labels}
 use Rattle.definitions.specs.Hypotenuse.{hypotOf, hypotNumber}
 use Rattle.definitions.specs.TotalOrder.{totalOrder}
 use Rattle.definitions.specs.RampGeometry.{segmentDistance}
-use Rattle.definitions.specs.RegionRecord.{mostCommonElevation}
+use Rattle.definitions.specs.RegionRecord.{dominance}
 use Rattle.definitions.specs.Context.{contextOf}
 use Rattle.definitions.specs.RampMouths.{maxMouthDistance}
 use Rattle.definitions.specs.Junctions.{withinSpanRadius}
@@ -131,7 +131,7 @@ unequalCounts =
     (16 ∷ 0 ∷ 16 ∷ 8 ∷ width8 ∷ 1 ∷ 7 ∷ 0 ∷ 1 ∷ 8 ∷ 0 ∷ 8 ∷ 8 ∷ width8 ∷ 0 ∷ 0 ∷ 0 ∷ 0 ∷ []) []
 
 unfoldable pub examples : List Bool
-unfolding apartAsWritten apartTurned removedOf ranking occupied interiorRow anchoredCells contextOf mostCommonElevation withinSpanRadius regionOfCounts
+unfolding apartAsWritten apartTurned removedOf ranking occupied interiorRow anchoredCells contextOf dominance withinSpanRadius regionOfCounts
 examples =
     apartAsWritten
     ∷ not apartTurned
@@ -146,8 +146,8 @@ examples =
     ∷ sameNumbers (removedOf 2 (interiorRow 11)) (1 ∷ 2 ∷ 3 ∷ 4 ∷ 5 ∷ 6 ∷ 7 ∷ 8 ∷ [])
     ∷ sameNumbers (removedOf 2 (interiorRow 12)) []
     -- "Equal counts [..] choose the lower elevation", not of the empty record alone: 5 cells of elevation 0 and 5 of elevation 1; 4 and 6
-    ∷ eqb (mostCommonElevation (regionOfCounts 10 5)) 0
-    ∷ eqb (mostCommonElevation (regionOfCounts 10 4)) 1
+    ∷ eqb (dominance (regionOfCounts 10 5) .elevation) 0
+    ∷ eqb (dominance (regionOfCounts 10 4) .elevation) 1
     -- "Exactly 512 pixels is within the radius."
     ∷ withinSpanRadius (regionOfCounts 1 1) (segment 512 0 512 8)
     ∷ not (withinSpanRadius (regionOfCounts 1 1) (segment 513 0 513 8))

@@ -10,7 +10,7 @@ use Rattle.definitions.specs.Scan.{all, anyBelow, allBelow, countBelow, 
 use Rattle.definitions.specs.Sort.{sort, select, listLt}
 use Rattle.definitions.specs.Grid.{Segment, Boundary, Pair, contains}
 use Rattle.definitions.specs.Geometry.{Point, float, point, center, distance, pointSegmentDistance}
-use Rattle.definitions.specs.RegionRecord.{Region, corners, dominantElevation, bothSame, strictlyFlat}
+use Rattle.definitions.specs.RegionRecord.{Region, corners, sameDominance, strictlyFlat}
 use Rattle.definitions.specs.Context.{Context, fullPair, holds, otherRegion, isIncident, noRamp, width, endpointsKey}
 
 unfoldable pub maxPortDistancePixels : Float
@@ -123,7 +123,7 @@ module _ (C : Context) where
       && (not (eqb (anchoredRegions p) 1) || isWidest i p)
 
   unfoldable pub unionRegions : ℕ → Pair → Bool
-  unfolding withinSpanRadius withinRadius center strictlyFlat dominantElevation
+  unfolding withinSpanRadius withinRadius center strictlyFlat sameDominance
   unionRegions i p =
       let s = C .region (p .lo) in
       let t = C .region (p .hi) in
@@ -131,7 +131,7 @@ module _ (C : Context) where
       let one = eqb (anchoredRegions p) 1 in
       not (s .hasRamp) && not (t .hasRamp)
       && cond one (withinSpanRadius s ends && withinSpanRadius t ends) (withinRadius s (center ends) && withinRadius t (center ends))
-      && (strictlyFlat s t || one && bothSame (dominantElevation s) (dominantElevation t))
+      && (strictlyFlat s t || one && sameDominance s t)
 
   unfoldable pub unionFrom : ℕ → Option Pair → Option Proposal
   unfolding unionShape unionRegions

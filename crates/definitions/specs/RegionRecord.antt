@@ -1,13 +1,14 @@
 -- Region records (document 01, 'Context'; RegionStats of context.rs) and what is asked of one: corners, dominance (junctions.rs), flatness.
 -- Assumes nothing.
-use Prim.Native.Nat.{ℕ, zero, suc, _+_, _*_, _/_, _%_, _^_, min, max}
+use Prim.Native.Nat.{ℕ, zero, suc, _+_, _*_, _/_, _%_, _^_, _<_, min, max}
+use mathlib.Core.Path.{_≡_}
 use mathlib.Core.Bool.{Bool, false, _&&_, _||_, cond}
 use mathlib.Core.Option.{Option, none, some}
 use mathlib.Core.List.{List, [], _∷_, map}
 use lib.ListN.{getD}
 use lib.Dec.{eqb, ltb, leb}
 use lib.Ieee.{Float}
-use Rattle.definitions.specs.Scan.{anyBelow, countBelow, bit, onlyIf}
+use Rattle.definitions.specs.Scan.{anyBelow, countBelow, bit}
 use Rattle.definitions.specs.Grid.{Map, cellCount, cellAt, isRamp, elevation}
 use Rattle.definitions.specs.Spans.{pixelsPerWalkCell}
 use Rattle.definitions.specs.Geometry.{Point, float}
@@ -83,24 +84,60 @@ corners s =
 abbrev pub elevationCount : Region → ℕ → ℕ
 elevationCount s e = getD (s .elevationCounts) e 0
 
+-- ---- dominance: `dominant_elevation` of junctions.rs, with the share of document 02, request 2
+
+-- of two elevations, by the counts of all, the one of more cells; of equal counts the former
+abbrev pub better : List ℕ → ℕ → ℕ → ℕ
+better counts best e = cond (ltb (getD counts best 0) (getD counts e 0)) e best
+
 -- the elevation of most cells; of equal counts the lower
-abbrev pub better : Region → ℕ → ℕ → ℕ
-better s best e = cond (ltb (elevationCount s best) (elevationCount s e)) e best
+unfoldable pub mostCommonElevation : List ℕ → ℕ
+mostCommonElevation counts = better counts (better counts (better counts 0 1) 2) 3
 
-unfoldable pub mostCommonElevation : Region → ℕ
-mostCommonElevation s = better s (better s (better s 0 1) 2) 3
+-- "the whole percent and the exact remainder"
+pub record Share : Type 0 where
+  pub percent : ℕ
+  pub remainder : ℕ
 
--- `dominant_elevation` of junctions.rs: that elevation, if it has 99 of 100 cells or more
-unfoldable pub dominantElevation : Region → Option ℕ
-unfolding mostCommonElevation
-dominantElevation s =
-    let e = mostCommonElevation s in
-    onlyIf (leb (s .cells * 99) (elevationCount s e * 100)) e
+-- what a share says, of a count of some cells: "count × 100 = percent × cells + remainder, remainder below cells"
+pub record IsShare (count n : ℕ) (h : Share) : Type 0 where
+  pub exact : count * 100 ≡ h .percent * n + h .remainder
+  pub below : h .remainder < n
 
-abbrev pub bothSame : Option ℕ → Option ℕ → Bool
-bothSame none o = false
-bothSame (some a) none = false
-bothSame (some a) (some b) = eqb a b
+-- the one share that `IsShare` allows (laws: Shares). "A region with no cells has no share"
+unfoldable pub shareOf : ℕ → ℕ → Option Share
+shareOf count zero = none
+shareOf count (suc n) = some (record { percent = count * 100 / suc n; remainder = count * 100 % suc n })
+
+pub record Dominance : Type 0 where
+  pub elevation : ℕ
+  pub share : Option Share
+
+-- of n cells, with a count for each elevation: the elevation of most cells, and its share
+unfoldable pub dominanceOf : ℕ → List ℕ → Dominance
+unfolding mostCommonElevation shareOf
+dominanceOf n counts =
+    let e = mostCommonElevation counts in
+    record { elevation = e; share = shareOf (getD counts e 0) n }
+
+unfoldable pub dominance : Region → Dominance
+unfolding dominanceOf
+dominance s = dominanceOf (s .cells) (s .elevationCounts)
+
+-- "Unions accept at 99 percent": no share is not 99 percent
+abbrev pub accepts : Option Share → Bool
+accepts none = false
+accepts (some h) = leb 99 (h .percent)
+
+-- both are accepted, and of one elevation
+unfoldable pub sameDominance : Region → Region → Bool
+unfolding dominance
+sameDominance s t =
+    let a = dominance s in
+    let b = dominance t in
+    accepts (a .share) && accepts (b .share) && eqb (a .elevation) (b .elevation)
+
+-- ---- flatness
 
 -- bit e of a mask of eight bits
 abbrev pub hasBit : ℕ → ℕ → Bool

@@ -4,7 +4,7 @@ use mathlib.Core.Bool.{Bool, not, _&&_, _||_, cond}
 use lib.Ieee.{le}
 use Rattle.definitions.specs.Grid.{Segment}
 use Rattle.definitions.specs.Geometry.{Point, center, pointSegmentDistance}
-use Rattle.definitions.specs.RegionRecord.{Region, dominantElevation, bothSame, strictlyFlat}
+use Rattle.definitions.specs.RegionRecord.{Region, sameDominance, strictlyFlat}
 use Rattle.definitions.specs.Junctions.{withinDistance, withinRadius, withinSpanRadius, maxUnionRadiusPixels}
 
 -- ---- of a corner
@@ -24,9 +24,9 @@ unfolding withinSpanRadius withinRadius center
 isLocal s t ends one = cond one (withinSpanRadius s ends && withinSpanRadius t ends) (withinRadius s (center ends) && withinRadius t (center ends))
 
 unfoldable pub unionOf : Region → Region → Segment → Bool → Bool
-unfolding isLocal strictlyFlat dominantElevation
+unfolding isLocal strictlyFlat sameDominance
 unionOf s t ends one =
-    not (s .hasRamp) && not (t .hasRamp) && isLocal s t ends one && (strictlyFlat s t || one && bothSame (dominantElevation s) (dominantElevation t))
+    not (s .hasRamp) && not (t .hasRamp) && isLocal s t ends one && (strictlyFlat s t || one && sameDominance s t)
 
 unfoldable pub bridgeOf : Region → Segment → Bool
 unfolding withinRadius center strictlyFlat

@@ -1,6 +1,6 @@
 // What pass 3, `remove_junction_boundaries` of junctions.rs, asks of the records of a proposal's regions, by value.
 use context::Region;
-use context::records::Dominant;
+use elevations::Share;
 use geometry::Point;
 use geometry::Segment;
 use geometry::points::center;
@@ -17,12 +17,13 @@ ghost use Prim.Native.Nat.{_+_, _-_, _*_, _≤_, _<_};
 ghost use lib.ListN.{length};
 ghost use Rattle.definitions.specs.Limits.{numbersPerBoundary};
 ghost use Rattle.definitions.specs.Grid.{segmentAt};
-ghost use Rattle.definitions.specs.RegionRecord.{bothSame, dominantElevation};
+ghost use Rattle.definitions.specs.RegionRecord.{accepts, sameDominance};
 ghost use Rattle.definitions.specs.Context.{Context};
 ghost use Rattle.definitions.specs.Junctions.{withinRadius, withinSpanRadius};
 ghost use Rattle.laws.specs.FloatLaws.DistanceRange.{DistanceInRange, nearestPoint};
 ghost use Rattle.laws.specs.FloatLaws.Pixels.{PixelRegion, HalfPixelPoint};
 ghost use Rattle.span_geometry.specs.Shapes.{InLimits};
+ghost use Rattle.elevations.specs.Forms.{shareForm};
 ghost use Rattle.geometry.specs.Forms.{pointForm, segmentFrom, segmentForm};
 ghost use Rattle.context.specs.Records.{recordOf, Counted};
 ghost use Rattle.junctions.specs.Rows.{numbersPerProposal, rowAt, isAllowed};
@@ -30,6 +31,8 @@ ghost use Rattle.junction_regions.specs.Tests.{nearMiddle, nearSpan, isL
 ghost use Rattle.junction_regions.specs.Asked.{OnMap, Asked};
 
 const MAX_UNION_RADIUS_PIXELS: f64 = 512.0;
+
+const ACCEPTED_PERCENT: usize = 99;
 
 // ---- how far a region's corners lie
 
@@ -86,18 +89,26 @@ fn is_local(first: Region, second: Region, a: PixelPosition, b: PixelPosition, o
     within_radius(first, middle) & within_radius(second, middle)
 }
 
-// Whether both regions have a dominant elevation, and it is the same.
-fn same_dominant(first: Region, second: Region) -> bool
-    requires { ⌜ Counted (recordOf first) × Counted (recordOf second) ⌝ }
-    ensures { λ r. ⌜ r ≡ bothSame (dominantElevation (recordOf first)) (dominantElevation (recordOf second)) ⌝ }
+// Unions accept at 99 percent.
+fn is_accepted(share: Share) -> bool
+    ensures { λ r. ⌜ r ≡ accepts (shareForm share) ⌝ }
 {
-    let Dominant::Elevation(d) = first.dominant_elevation() else {
-        return false;
-    };
-    let Dominant::Elevation(e) = second.dominant_elevation() else {
-        return false;
-    };
-    d == e
+    match share {
+        Share::None => false,
+        Share::Of(percent, _) => ACCEPTED_PERCENT <= percent,
+    }
+}
+
+// Whether both regions have an elevation of an accepted share, and it is the same.
+fn same_dominance(first: Region, second: Region) -> bool
+    requires { ⌜ Counted (recordOf first) × Counted (recordOf second) ⌝ }
+    ensures { λ r. ⌜ r ≡ sameDominance (recordOf first) (recordOf second) ⌝ }
+{
+    let a = first.dominance();
+    let b = second.dominance();
+    let s = a.share;
+    let t = b.share;
+    is_accepted(s) & is_accepted(t) & (a.elevation == b.elevation)
 }
 
 pub fn union_regions(
@@ -113,7 +124,7 @@ pub fn union_regions(
     !first.has_ramp
         & !second.has_ramp
         & is_local(first, second, a, b, one)
-        & (first.is_strictly_flat(second) | (one & same_dominant(first, second)))
+        & (first.is_strictly_flat(second) | (one & same_dominance(first, second)))
 }
 
 pub fn bridge_region(pocket: Region, a: PixelPosition, b: PixelPosition) -> bool

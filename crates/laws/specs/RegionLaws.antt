@@ -10,3 +10,4 @@ pub mod PairLaws
 pub mod Edges
 pub mod GraphLaws
 pub mod PairRows
+pub mod Shares

@@ -2,11 +2,12 @@
 from __future__ import annotations
 
 import argparse
-from collections.abc import Callable
+from collections.abc import Callable, Sequence
 from dataclasses import dataclass
 
 from .. import unproved
 from .._library import NotBuilt, library
+from ..dominance import Dominance, dominance
 from ..kept import Kept, kept_boundaries
 from ..sheet import Sheet, read_sheet
 from ._streams import Failed
@@ -17,10 +18,11 @@ class Answers:
     proved: bool
     read_sheet: Callable[[bytes], Sheet]
     kept_boundaries: Callable[[Sheet, int | None, int | None], Kept]
+    dominance: Callable[[int, Sequence[int]], Dominance]
 
 
-PROVED = Answers(True, read_sheet, kept_boundaries)
-UNPROVED = Answers(False, unproved.read_sheet, unproved.kept_boundaries)
+PROVED = Answers(True, read_sheet, kept_boundaries, dominance)
+UNPROVED = Answers(False, unproved.read_sheet, unproved.kept_boundaries, unproved.dominance)
 
 
 def add_unproved(parser: argparse.ArgumentParser) -> None:

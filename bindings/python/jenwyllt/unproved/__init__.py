@@ -4,6 +4,9 @@
 """
 from __future__ import annotations
 
+from collections.abc import Sequence
+
+from ..dominance import Dominance, Share
 from ..kept import Kept, Region, Row
 from ..partition import Pair, Partition, Tally
 from ..refusal import Refusal
@@ -49,3 +52,9 @@ def kept_boundaries(sheet: Sheet, records: int | None = None, pair_rows: int | N
     rows = [Row(number, Point(*ends[:2]), Point(*ends[2:])) for number, *ends in found['rows']]
     cut = Partition(found['regions'], found['labels'], [Tally(*each) for each in found['tallies']], [Pair(*each) for each in found['pairs']])
     return Kept(rows, len(sheet.boundaries), cut, [region_of(record) for record in found['records']])
+
+
+def dominance(cells: int, counts: Sequence[int]) -> Dominance:
+    """as `jenwyllt.dominance`"""
+    elevation, share = reference.dominance(reference.RegionStats(cells=cells, elevation_counts=list(counts)))
+    return Dominance(elevation, share and Share(*share))

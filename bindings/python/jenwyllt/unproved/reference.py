@@ -731,12 +731,16 @@ def within_span_radius(stats, boundary, notes):
     return stats.cells > 0 and all(d <= MAX_UNION_RADIUS_PIXELS for d in distances)
 
 
-def dominant_elevation(stats):
-    best = 0
-    for elevation in (1, 2, 3):
-        if stats.elevation_counts[elevation] > stats.elevation_counts[best]:
-            best = elevation
-    return best if stats.elevation_counts[best] * 100 >= stats.cells * 99 else None
+def dominance(stats):
+    """the elevation of most cells, of equal counts the lower, and its whole percent and remainder (document 02, request 2); of no cells None for these"""
+    elevation = max(range(4), key=lambda e: (stats.elevation_counts[e], -e))
+    return elevation, divmod(stats.elevation_counts[elevation] * 100, stats.cells) if stats.cells else None
+
+
+def same_dominance(first, second):
+    """unions accept at 99 percent"""
+    (a, x), (b, y) = dominance(first), dominance(second)
+    return x is not None and y is not None and x[0] >= 99 and y[0] >= 99 and a == b
 
 
 def flat(stats):
@@ -875,8 +879,7 @@ def junction_proposals(boundaries, ctx):
         else:
             local = within_radius(first, center(boundary), notes) and within_radius(second, center(boundary), notes)
         strictly_flat = (first.elevations | second.elevations).bit_count() == 1
-        a, b = dominant_elevation(first), dominant_elevation(second)
-        near_flat = p.anchored_regions == 1 and a is not None and a == b
+        near_flat = p.anchored_regions == 1 and same_dominance(first, second)
         if not first.cells + second.cells > 0:
             continue
         if first.has_ramp or second.has_ramp:

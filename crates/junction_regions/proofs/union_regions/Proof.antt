@@ -8,15 +8,15 @@ use Rattle.junction_regions.proofs.union_regions.Tie as tie
 is-local-requires : tie.Need-is-local-requires
 is-local-requires c κs = (c .before .before .pre .0 .edges, (c .before .before .pre .1 .0 .edges, c .before .before .pre .1 .1))
 
-same-dominant-requires : tie.Need-same-dominant-requires
-same-dominant-requires c κs = (c .before .before .before .before .pre .0 .counted, c .before .before .before .before .pre .1 .0 .counted)
+same-dominance-requires : tie.Need-same-dominance-requires
+same-dominance-requires c κs = (c .before .before .before .before .pre .0 .counted, c .before .before .before .before .pre .1 .0 .counted)
 
 returns : tie.Need-returns
 unfolding unionOf
 returns c =
     λ i.
     not (c .before .before .before .before .before .args .first .«has_ramp») && not (c .before .before .before .before .before .args .second .«has_ramp») && c .before .before .is-local .ensures i
-    && (c .before .is-strictly-flat .ensures i || c .before .before .before .before .before .args .one && c .same-dominant .ensures i)
+    && (c .before .is-strictly-flat .ensures i || c .before .before .before .before .before .args .one && c .same-dominance .ensures i)
 
 pub union-regions-spec : {M : Type 1} → statement M
-union-regions-spec = tie.close (tie.spec is-local-requires (λ c κs. search needs) same-dominant-requires returns)
+union-regions-spec = tie.close (tie.spec is-local-requires (λ c κs. search needs) same-dominance-requires returns)

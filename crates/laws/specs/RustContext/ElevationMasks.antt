@@ -1,12 +1,12 @@
 -- Elevations as junctions.rs asks of a region's record: `count_ones` of masks of eight bits, and the fold that finds the dominant elevation. They are the definitions'
--- `strictlyFlat` and `dominantElevation`. The argument: the digits of a number counted from the lowest are its bits counted by place, and a place of `a | b` is set
--- where it is set in a or in b. Assumes nothing.
+-- `strictlyFlat` and, of regions with cells, `sameDominance`. The argument: the digits of a number counted from the lowest are its bits counted by place, a place of
+-- `a | b` is set where it is set in a or in b, and 99 cells of 100 are 99 percent (Shares). Assumes nothing.
 use Prim.Native.Nat.{ℕ, zero, suc, _+_, _*_, _/_, _%_, _^_, _<_, max}
 use native.Mathlib.Omega.{arith}
 use native.Mathlib.Nat.{div-one, div-div-eq-div-mul, pow-succ'}
 use mathlib.Core.Path.{_≡_, refl, sym, ap, ap₂, _∙_}
 use mathlib.Core.Bool.{Bool, true, false, not, _&&_, _||_, cond}
-use mathlib.Core.Option.{Option}
+use mathlib.Core.Option.{Option, none, some}
 use mathlib.Core.List.{List, [], _∷_}
 use lib.Dec.{eqb, ltb, leb}
 use lib.Arith.{digits-mod}
@@ -14,8 +14,9 @@ use lib.Bits.{bitOr, or-shr, or-step, or-self}
 use lib.Count.{onesIn}
 use borrow.Author.Tests.{eqb-true}
 use Rattle.definitions.specs.Scan.{countBelow, bit, onlyIf}
-use Rattle.definitions.specs.RegionRecord.{Region, elevationCount, mostCommonElevation, dominantElevation, hasBit, joinedOnes, strictlyFlat}
+use Rattle.definitions.specs.RegionRecord.{Region, elevationCount, mostCommonElevation, dominanceOf, dominance, accepts, sameDominance, hasBit, joinedOnes, strictlyFlat}
 use Rattle.laws.specs.ListLaws.Below.{count-ext}
+use Rattle.laws.specs.RegionLaws.Shares.{accepts-is}
 
 -- ---- as the Rust writes it
 
@@ -40,11 +41,31 @@ dominantFold s =
     let dominant = dominantFrom s 0 (1 ∷ 2 ∷ 3 ∷ []) in
     onlyIf (leb (s .cells * 99) (elevationCount s dominant * 100)) dominant
 
+--     dominant_elevation(first).zip(dominant_elevation(second)).is_some_and(|(a, b)| a == b)
+abbrev pub bothSame : Option ℕ → Option ℕ → Bool
+bothSame none o = false
+bothSame (some a) none = false
+bothSame (some a) (some b) = eqb a b
+
+unfoldable pub dominantSame : Region → Region → Bool
+unfolding dominantFold
+dominantSame s t = bothSame (dominantFold s) (dominantFold t)
+
 -- ---- and that it is the same
 
-pub dominant-is : (s : Region) → dominantFold s ≡ dominantElevation s
-unfolding dominantFold dominantFrom dominantElevation mostCommonElevation
-dominant-is s = refl
+-- of a region with cells, the Rust's answer is the elevation where its share is accepted
+pub dominant-is : (s : Region) → 0 < s .cells → dominantFold s ≡ onlyIf (accepts (dominance s .share)) (dominance s .elevation)
+unfolding dominantFold dominantFrom dominance dominanceOf mostCommonElevation
+dominant-is s l = ap (λ b. onlyIf b (dominance s .elevation)) (sym (accepts-is (elevationCount s (dominance s .elevation)) (s .cells) l))
+
+pub dominant-same-is : (s t : Region) → 0 < s .cells → 0 < t .cells → dominantSame s t ≡ sameDominance s t
+unfolding dominantSame sameDominance
+dominant-same-is s t l m = ap₂ bothSame (dominant-is s l) (dominant-is t m) ∙ go (accepts (dominance s .share)) (accepts (dominance t .share))
+  where
+    go : (a b : Bool) → bothSame (onlyIf a (dominance s .elevation)) (onlyIf b (dominance t .elevation)) ≡ (a && b && eqb (dominance s .elevation) (dominance t .elevation))
+    go true true = refl
+    go true false = refl
+    go false b = refl
 
 count-shift : (n : ℕ) (f : ℕ → Bool) → countBelow (suc n) f ≡ bit (f 0) + countBelow n (λ e. f (suc e))
 unfolding countBelow

@@ -1,5 +1,6 @@
 -- The tests that junctions.rs makes of a union's two regions when it ranks the union, as the Rust writes them, and that they are `unionRegions`. The argument: a region
--- without a record has no cell, and is then within no radius; all else is the same test by test. Assumes nothing.
+-- without a record has no cell, and is then within no radius; of two with cells, dominance by percent is the Rust's (ElevationMasks); all else is the same test by test.
+-- Assumes nothing.
 use Prim.Native.Nat.{ℕ, _+_}
 use native.Mathlib.Omega.{arith}
 use mathlib.Core.Path.{_≡_, refl, sym, ap, _∙_}
@@ -11,12 +12,12 @@ use borrow.Author.Tests.{ltb-true, lt-ltb}
 use Rattle.definitions.specs.Scan.{all, onlyIf}
 use Rattle.definitions.specs.Grid.{Segment, Pair}
 use Rattle.definitions.specs.Geometry.{point, center, pointSegmentDistance}
-use Rattle.definitions.specs.RegionRecord.{Region, corners, dominantElevation, bothSame, strictlyFlat}
+use Rattle.definitions.specs.RegionRecord.{Region, corners, sameDominance, strictlyFlat}
 use Rattle.definitions.specs.Context.{Context}
 use Rattle.definitions.specs.Junctions.{maxUnionRadiusPixels, withinRadius, withinSpanRadius, anchoredRegions, unionRegions}
 use Rattle.laws.specs.ListLaws.Tests.{and-fails}
 use Rattle.laws.specs.RustJunctions.JunctionProposals.{UnionStruct}
-use Rattle.laws.specs.RustContext.ElevationMasks.{strictlyFlatMask, dominantFold, strictly-flat-is, dominant-is}
+use Rattle.laws.specs.RustContext.ElevationMasks.{strictlyFlatMask, dominantSame, strictly-flat-is, dominant-same-is}
 use Rattle.laws.specs.RustJunctions.Bridges.{statsOf, radius-empty}
 use Rattle.laws.specs.RustJunctions.Unions.{proposed}
 
@@ -43,7 +44,7 @@ module _ (C : Context) where
   unionPassesIn x (some first) none = false
   unionPassesIn x (some first) (some second) =
       ltb 0 (first .cells + second .cells) && not (first .hasRamp) && not (second .hasRamp) && unionIsLocal x first second
-      && (strictlyFlatMask first second || eqb (x .anchoredRegions) 1 && bothSame (dominantFold first) (dominantFold second))
+      && (strictlyFlatMask first second || eqb (x .anchoredRegions) 1 && dominantSame first second)
 
   unfoldable pub unionPasses : UnionStruct → Bool
   unionPasses x = unionPassesIn x (statsOf C (x .pair .lo)) (statsOf C (x .pair .hi))
@@ -89,15 +90,33 @@ module _ (C : Context) (i : ℕ) (p : Pair) where
       (λ t. cond (eqb (anchoredRegions C p) 1) (withinSpanRadius first ends && span-empty second ends h t) (withinRadius first (center ends) && radius-empty second (center ends) h t))
       ∙ never-local (eqb (anchoredRegions C p) 1) (withinSpanRadius first ends) (withinRadius first (center ends))
 
-  -- by the tests that are made of two records
-  regions-is : unionRegions C i p ≡ (not (first .hasRamp) && not (second .hasRamp) && local && (strictlyFlat first second || eqb (anchoredRegions C p) 1 && bothSame (dominantElevation first) (dominantElevation second)))
+  -- by the tests that are made of two records: whether they are near, and whether one elevation dominates both
+  abbrev pub regionsBy : Bool → Bool → Bool
+  regionsBy near same = not (first .hasRamp) && not (second .hasRamp) && near && (strictlyFlat first second || eqb (anchoredRegions C p) 1 && same)
+
+  regions-is : unionRegions C i p ≡ regionsBy local (sameDominance first second)
   unfolding unionRegions unionIsLocal
   regions-is = refl
 
+  nowhere : (near same : Bool) → near ≡ false → regionsBy near same ≡ false
+  nowhere near same h =
+      ap (λ b. not (first .hasRamp) && not (second .hasRamp) && b && (strictlyFlat first second || eqb (anchoredRegions C p) 1 && same)) h
+      ∙ sym (and-fails (not (first .hasRamp) && not (second .hasRamp)) (strictlyFlat first second || eqb (anchoredRegions C p) 1 && same))
+
+  -- what unions accept at 99 percent is what they accept by the Rust's dominant elevations, of every context: where a region has no cell, nothing is local
+  pub regions-as-before : unionRegions C i p ≡ regionsBy local (dominantSame first second)
+  regions-as-before = regions-is ∙ go (ltb 0 (first .cells)) refl (ltb 0 (second .cells)) refl
+    where
+      neither-way : local ≡ false → regionsBy local (sameDominance first second) ≡ regionsBy local (dominantSame first second)
+      neither-way h = nowhere local (sameDominance first second) h ∙ sym (nowhere local (dominantSame first second) h)
+
+      go : (a : Bool) → ltb 0 (first .cells) ≡ a → (b : Bool) → ltb 0 (second .cells) ≡ b → regionsBy local (sameDominance first second) ≡ regionsBy local (dominantSame first second)
+      go true e true f = ap (regionsBy local) (sym (dominant-same-is first second (ltb-true 0 (first .cells) e) (ltb-true 0 (second .cells) f)))
+      go true e false f = neither-way (local-second f)
+      go false e b f = neither-way (local-first e)
+
   not-local : local ≡ false → false ≡ unionRegions C i p
-  not-local h =
-      and-fails (not (first .hasRamp) && not (second .hasRamp)) (strictlyFlat first second || eqb (anchoredRegions C p) 1 && bothSame (dominantElevation first) (dominantElevation second))
-      ∙ ap (λ b. not (first .hasRamp) && not (second .hasRamp) && b && (strictlyFlat first second || eqb (anchoredRegions C p) 1 && bothSame (dominantElevation first) (dominantElevation second))) (sym h) ∙ sym regions-is
+  not-local h = sym (regions-is ∙ nowhere local (sameDominance first second) h)
 
   pub passes-is : unionPasses C (proposed C i p) ≡ unionRegions C i p
   unfolding unionPasses
@@ -106,7 +125,7 @@ module _ (C : Context) (i : ℕ) (p : Pair) where
       go : (a : Bool) → ltb 0 (first .cells) ≡ a → (b : Bool) → ltb 0 (second .cells) ≡ b → unionPassesIn C (proposed C i p) (onlyIf a first) (onlyIf b second) ≡ unionRegions C i p
       go true e true f =
           (λ t. lt-ltb 0 (first .cells + second .cells) (omega (arith, ltb-true 0 (first .cells) e)) t && not (first .hasRamp) && not (second .hasRamp) && local
-          && (strictly-flat-is first second t || eqb (anchoredRegions C p) 1 && bothSame (dominant-is first t) (dominant-is second t)))
-          ∙ sym regions-is
+          && (strictly-flat-is first second t || eqb (anchoredRegions C p) 1 && dominantSame first second))
+          ∙ sym regions-as-before
       go true e false f = not-local (local-second f)
       go false e b f = not-local (local-first e)
