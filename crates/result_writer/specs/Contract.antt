@@ -1,0 +1,26 @@
+-- Words of the crate's contracts. Definitions only; assumes nothing.
+use Prim.Native.Nat.{ℕ, _+_, _-_, _*_, _/_, _≤_, _<_}
+use mathlib.Core.Bool.{cond}
+use mathlib.Core.List.{List, [], _∷_}
+use lib.Dec.{leb}
+use lib.ListN.{length, getD}
+use Rattle.results.specs.Result.{inTurn}
+use Rattle.result_writer.specs.declared.Turn.{Turn}
+use Rattle.result_writer.specs.declared.Turn.the-variants.{Started, Out}
+
+-- one step along the labels, with so many numbers started
+abbrev pub turnOf : ℕ → ℕ → ℕ → Turn
+turnOf regions n label = cond (leb label n) (Started n) (cond (inTurn regions n label) (Started (n + 1)) Out)
+
+-- the key of the pair row that starts at k
+abbrev pub pairAt : List ℕ → ℕ → List ℕ
+pairAt l k = getD l k 0 ∷ getD l (k + 1) 0 ∷ getD l (k + 2) 0 ∷ []
+
+-- the key of the row that starts at k: its number comes last
+abbrev pub rowAt : List ℕ → ℕ → List ℕ
+rowAt l k = getD l (k + 1) 0 ∷ getD l (k + 2) 0 ∷ getD l (k + 3) 0 ∷ getD l (k + 4) 0 ∷ getD l k 0 ∷ []
+
+-- entry i, each of so many numbers, is there, and one before it
+pub record Neighbours (size : ℕ) (l : List ℕ) (i : ℕ) : Type 0 where
+  pub later : 1 ≤ i
+  pub inside : size * (i + 1) ≤ length l
