@@ -30,13 +30,13 @@ fn after_label(regions: u64, started: u64, label: u64) -> Turn
     if label <= started {
         return Turn::Started(started);
     }
-    if label - started != 1 {
-        return Turn::Out;
+    if label - started == 1 {
+        if regions < label {
+            return Turn::Out;
+        }
+        return Turn::Started(label);
     }
-    if regions < label {
-        return Turn::Out;
-    }
-    Turn::Started(label)
+    Turn::Out
 }
 
 // Along the labels each new number is the next one, and the region count is reached.
