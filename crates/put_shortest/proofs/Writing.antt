@@ -7,10 +7,8 @@ use mathlib.Core.Path.{_≡_, refl, sym, ap, _∙_}
 use mathlib.Core.List.{List, [], _∷_}
 use lib.ListN.{length, set, length-set}
 use lib.Seq.{sets}
-use lib.Dec.{ltb}
-use mathlib.Core.Bool.{Bool, true, false}
-use borrow.Author.Tests.{lt-ltb, le-ltb, ltb-true, ltb-false}
 use Rattle.results.specs.Shortest.{shortestWithin, shortest}
+use Rattle.results.specs.ShortestSteps.{one-group, more-groups, some-groups}
 use Rattle.put_shortest.specs.Answers.{Put}
 
 pub record Writing (old : List ℕ) (at n : ℕ) (new : List ℕ) (left place : ℕ) : Type 0 where
@@ -24,21 +22,6 @@ pub record Writing (old : List ℕ) (at n : ℕ) (new : List ℕ) (left place : 
 pub writing-starts : {old : List ℕ} {at n : ℕ} → n < 2 ^ 64 → at + length (shortest n) ≤ length old → Writing old at n old n at
 unfolding shortest
 writing-starts h room = record { fuel = 9; below = omega arith; room = room; long = refl; same = refl; behind = refl }
-
-one-group : (m n : ℕ) → n < 128 → shortestWithin (suc m) n ≡ n ∷ []
-unfolding shortestWithin
-one-group m n h = rw (lt-ltb n 128 h) refl
-
-more-groups : (m n : ℕ) → 128 ≤ n → shortestWithin (suc m) n ≡ (128 + n % 128) ∷ shortestWithin m (n / 128)
-unfolding shortestWithin
-more-groups m n h = rw (le-ltb n 128 h) refl
-
-some-groups : (m n : ℕ) → 1 ≤ length (shortestWithin (suc m) n)
-some-groups m n = go (ltb n 128) refl
-  where
-    go : (t : Bool) → ltb n 128 ≡ t → 1 ≤ length (shortestWithin (suc m) n)
-    go true e = omega (arith, ap length (one-group m n (ltb-true n 128 e)))
-    go false e = omega (arith, ap length (more-groups m n (ltb-false n 128 e)))
 
 module _ {old new : List ℕ} {at n left place : ℕ} (W : Writing old at n new left place) where
   pub place-inside : place < length new

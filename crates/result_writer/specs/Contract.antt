@@ -1,12 +1,18 @@
 -- Words of the crate's contracts. Definitions only; assumes nothing.
 use Prim.Native.Nat.{ℕ, _+_, _-_, _*_, _/_, _≤_, _<_}
+use mathlib.Core.Path.{_≡_}
 use mathlib.Core.Bool.{cond}
 use mathlib.Core.List.{List, [], _∷_}
 use lib.Dec.{leb}
 use lib.ListN.{length, getD}
-use Rattle.results.specs.Result.{inTurn}
+use Rattle.definitions.specs.Verdict as verdict
+use Rattle.results.specs.Result.{Result, inTurn}
+use Rattle.results.specs.ResultAnswers.{writeVerdict, writtenAtExit}
 use Rattle.result_writer.specs.declared.Turn.{Turn}
 use Rattle.result_writer.specs.declared.Turn.the-variants.{Started, Out}
+use Rattle.result_writer.specs.declared.Room.{Room}
+use Rattle.result_writer.specs.declared.Room.the-variants.{Left, Short}
+use Rattle.result_writer.specs.declared.Answer.{Answer}
 
 -- one step along the labels, with so many numbers started
 abbrev pub turnOf : ℕ → ℕ → ℕ → Turn
@@ -24,3 +30,19 @@ rowAt l k = getD l (k + 1) 0 ∷ getD l (k + 2) 0 ∷ getD l (k + 3) 0 ∷ getD 
 pub record Neighbours (size : ℕ) (l : List ℕ) (i : ℕ) : Type 0 where
   pub later : 1 ≤ i
   pub inside : size * (i + 1) ≤ length l
+
+-- what is left of a room once this is taken from it
+unfoldable pub spent : Room → ℕ → Room
+spent (Left left) size = cond (leb size left) (Left (left - size)) Short
+spent Short size = Short
+
+abbrev pub resultIn : ℕ → List ℕ → List ℕ → List ℕ → List ℕ → Result
+resultIn regions labels tallies pairs rows = record { regions = regions; labels = labels; tallies = tallies; pairs = pairs; rows = rows }
+
+abbrev pub answerIn : Answer → verdict.Answer
+answerIn r = record { number = r .number; value = r .value }
+
+-- the answer to a result that is to be written into a lent list, and the list at exit
+pub record Writes (r : Result) (lent : List ℕ) (answer : verdict.Answer) (lent′ : List ℕ) : Type 0 where
+  pub said : answer ≡ writeVerdict r (length lent)
+  pub left : lent′ ≡ writtenAtExit (answer .number) r lent

@@ -3,6 +3,7 @@ pub mod ShortestExamples
 pub mod Result
 pub mod ResultAnswers
 pub mod ResultExamples
+pub mod ShortestSteps
 pub mod ShortestReads
 pub mod SameRules
 pub mod WrittenReads
