@@ -14,9 +14,8 @@ use Rattle.definitions.specs.Lists.{overwrite}
 use Rattle.definitions.specs.Limits.{numbersPerPair, numbersPerRow}
 use Rattle.laws.specs.ListLaws.Overwritten.{sets-overwrite}
 use Rattle.results.specs.Result.{Result, turns, labelsFault, ascentFault, pairKey, rowKey, rulesFault}
-use Rattle.results.specs.ResultAnswers.{entriesIn, placed, isFinished, resultBytes, writeVerdict, writtenAtExit}
+use Rattle.results.specs.ResultAnswers.{entriesIn, placed, isFinished, resultBytes, writeVerdict, writtenAtExit, Writes}
 use Rattle.put_shortest.specs.Answers.{Put}
-use Rattle.result_writer.specs.Contract.{Writes}
 
 -- ---- the rules
 

@@ -1,13 +1,11 @@
 -- Words of the crate's contracts. Definitions only; assumes nothing.
 use Prim.Native.Nat.{ℕ, _+_, _-_, _*_, _/_, _≤_, _<_}
-use mathlib.Core.Path.{_≡_}
 use mathlib.Core.Bool.{cond}
 use mathlib.Core.List.{List, [], _∷_}
 use lib.Dec.{leb}
 use lib.ListN.{length, getD}
 use Rattle.definitions.specs.Verdict as verdict
 use Rattle.results.specs.Result.{Result, inTurn}
-use Rattle.results.specs.ResultAnswers.{writeVerdict, writtenAtExit}
 use Rattle.result_writer.specs.declared.Turn.{Turn}
 use Rattle.result_writer.specs.declared.Turn.the-variants.{Started, Out}
 use Rattle.result_writer.specs.declared.Room.{Room}
@@ -41,8 +39,3 @@ resultIn regions labels tallies pairs rows = record { regions = regions; labels 
 
 abbrev pub answerIn : Answer → verdict.Answer
 answerIn r = record { number = r .number; value = r .value }
-
--- the answer to a result that is to be written into a lent list, and the list at exit
-pub record Writes (r : Result) (lent : List ℕ) (answer : verdict.Answer) (lent′ : List ℕ) : Type 0 where
-  pub said : answer ≡ writeVerdict r (length lent)
-  pub left : lent′ ≡ writtenAtExit (answer .number) r lent

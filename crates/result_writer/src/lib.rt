@@ -12,9 +12,9 @@ ghost use Rattle.definitions.specs.Scan.{concatMap};
 ghost use Rattle.definitions.specs.Sort.{listLt};
 ghost use Rattle.results.specs.Shortest.{shortest, listBytes};
 ghost use Rattle.results.specs.Result.{Result, turns, labelsFault, ascentFault, pairKey, rowKey, rulesFault};
-ghost use Rattle.results.specs.ResultAnswers.{entriesIn, placed, isFinished, resultBytes};
+ghost use Rattle.results.specs.ResultAnswers.{entriesIn, placed, isFinished, resultBytes, Writes};
 ghost use Rattle.put_shortest.specs.Answers.{Put};
-ghost use Rattle.result_writer.specs.Contract.{turnOf, pairAt, rowAt, Neighbours, spent, resultIn, answerIn, Writes};
+ghost use Rattle.result_writer.specs.Contract.{turnOf, pairAt, rowAt, Neighbours, spent, resultIn, answerIn};
 use put_shortest::put_shortest;
 
 // ---- the rules
@@ -232,7 +232,14 @@ const LABEL_SIZE: usize = 1;
 const KIND: u64 = 2;
 
 // A list of so many bytes has room for the sheet.
-fn fits(regions: u64, labels: &[u64], tallies: &[u64], pairs: &[u64], rows: &[u64], room: usize) -> bool
+fn fits(
+    regions: u64,
+    labels: &[u64],
+    tallies: &[u64],
+    pairs: &[u64],
+    rows: &[u64],
+    room: usize,
+) -> bool
     ensures { λ r. ⌜ r
         ≡ leb (length (resultBytes (resultIn regions (now (labels .entry)) (now (tallies .entry)) (now (pairs .entry)) (now (rows .entry))))) room ⌝ }
 {
@@ -273,7 +280,14 @@ fn put_list(out: &mut [u8], at: usize, size: usize, numbers: &[u64]) -> usize
 }
 
 // Writes the sheet, and gives how many bytes it has.
-fn put_result(regions: u64, labels: &[u64], tallies: &[u64], pairs: &[u64], rows: &[u64], out: &mut [u8]) -> usize
+fn put_result(
+    regions: u64,
+    labels: &[u64],
+    tallies: &[u64],
+    pairs: &[u64],
+    rows: &[u64],
+    out: &mut [u8],
+) -> usize
     requires { ⌜ length (resultBytes (resultIn regions (now labels) (now tallies) (now pairs) (now rows))) ≤ length (now out) ⌝ }
     ensures { λ r. ⌜ Put (now (out .entry)) 0
         (resultBytes (resultIn regions (now (labels .entry)) (now (tallies .entry)) (now (pairs .entry)) (now (rows .entry)))) (now (out .exit)) r ⌝ }

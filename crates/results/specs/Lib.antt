@@ -7,3 +7,4 @@ pub mod ShortestSteps
 pub mod ShortestReads
 pub mod SameRules
 pub mod WrittenReads
+pub mod Calls

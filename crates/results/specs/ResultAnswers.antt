@@ -1,6 +1,7 @@
 -- What the reader and the writer of result sheets answer, for every input, what they leave in the lists lent to them, and the bytes of a result.
 -- Quotations are of document 02, request 1, where no other document is named. Assumes nothing.
 use Prim.Native.Nat.{ℕ, zero, suc, _/_, _%_}
+use mathlib.Core.Path.{_≡_}
 use mathlib.Core.Bool.{Bool, _&&_, cond}
 use mathlib.Core.Option.{Option, none, some}
 use mathlib.Core.List.{List, [], _∷_, _++_, map}
@@ -95,3 +96,8 @@ writeVerdict r room =
 abbrev pub writtenAtExit : ℕ → Result → List ℕ → List ℕ
 writtenAtExit zero r lent = overwrite (resultBytes r) lent
 writtenAtExit (suc number) r lent = lent
+
+-- the answer of the writer to a result and a lent list, and the list at exit
+pub record Writes (r : Result) (lent : List ℕ) (answer : Answer) (lent′ : List ℕ) : Type 0 where
+  pub said : answer ≡ writeVerdict r (length lent)
+  pub left : lent′ ≡ writtenAtExit (answer .number) r lent
