@@ -18,6 +18,7 @@ mod hypotenuse;
 mod kept;
 mod partition;
 mod refusal;
+mod results;
 mod separations;
 mod sheet;
 
@@ -26,5 +27,6 @@ pub use hypotenuse::{hypot, hypotenuse};
 pub use kept::{KeptBoundaries, KeptLists, Map, Region, kept_boundaries, kept_boundaries_into};
 pub use partition::{Partition, PartitionLists, partition, partition_into};
 pub use refusal::{Cause, Refusal};
+pub use results::write_result_into;
 pub use separations::{Separation, separations, separations_into};
 pub use sheet::{Header, Sheet, SheetLists, read_sheet, read_sheet_into};

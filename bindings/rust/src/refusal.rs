@@ -47,6 +47,7 @@ causes! {
     Pairs = 12, "there are more pairs of regions than rows";
     Range = 13, "an argument is neither zero nor of a magnitude from 2^-64 to 2^15";
     Sheet = 14, "the sheet is ill formed";
+    Result = 15, "the result breaks a rule: pairs or rows do not ascend, or labels do not start each new number in turn up to the region count";
 }
 
 /// A refusal: the number of its cause, and the place of the first fault (the span, boundary, anchor, cell or byte), 0 where the
