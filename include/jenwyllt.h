@@ -53,6 +53,7 @@ enum jenwyllt_refusal {
     JENWYLLT_PAIRS = 12,
     JENWYLLT_RANGE = 13,
     JENWYLLT_SHEET = 14,
+    JENWYLLT_RESULT = 15,
     JENWYLLT_ACCESSION = 17,
     JENWYLLT_DATE = 18,
     JENWYLLT_TERM = 19
@@ -189,6 +190,34 @@ struct jenwyllt_answer jenwyllt_separations(
     uint64_t width, uint64_t height,
     const uint64_t *boundaries, size_t boundaries_length,
     uint64_t *output, size_t output_length);
+
+/* Writes what a run found as a sheet of kind 2, a result: 2, the region count, then labels, tallies, pairs and kept rows, each list behind its count of
+   entries. A number stands in groups of seven bits, least first, the top bit set on all but its last byte, in its shortest form.
+
+   Read, whole; numbers of 64 bits each, so that what a call left in lists of 32 bits is widened first:
+     regions     the region count
+     labels      1 a cell
+     tallies     2 a span: removed and separated edges
+     pairs       3 a pair row: span, smaller label, larger label
+     rows        5 a kept row: number, then the endpoints x, y, x, y
+   Filled; it may be longer than needed, and what it holds behind the sheet stays:
+     out         the sheet
+
+   Number 0: the value is how many bytes were written. Otherwise the number says why not; the first of these causes that applies is given, and the list stays
+   as it was:
+
+     number  cause                                                                                                                        value
+     15      pairs do not strictly ascend by their three numbers, or rows by endpoints as given and then number, or the labels do not     0
+             start each new number in turn up to the region count
+     3       a last entry is unfinished                                                                                                   0
+     10      the list is shorter than the sheet                                                                                           0 */
+struct jenwyllt_answer jenwyllt_write_result(
+    uint64_t regions,
+    const uint64_t *labels, size_t labels_length,
+    const uint64_t *tallies, size_t tallies_length,
+    const uint64_t *pairs, size_t pairs_length,
+    const uint64_t *rows, size_t rows_length,
+    uint8_t *out, size_t out_length);
 
 /* What a sheet opens with; the last three are counts of entries. Number 0: the place is 0. Otherwise a refusal's number and place, and the rest is 0. */
 struct jenwyllt_sheet {

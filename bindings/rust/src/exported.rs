@@ -106,6 +106,20 @@ unsafe extern "C" {
         output_length: usize,
     ) -> Answer;
 
+    pub fn jenwyllt_write_result(
+        regions: u64,
+        labels: *const u64,
+        labels_length: usize,
+        tallies: *const u64,
+        tallies_length: usize,
+        pairs: *const u64,
+        pairs_length: usize,
+        rows: *const u64,
+        rows_length: usize,
+        out: *mut u8,
+        out_length: usize,
+    ) -> Answer;
+
     pub fn jenwyllt_read_sheet(
         bytes: *const u8,
         bytes_length: usize,

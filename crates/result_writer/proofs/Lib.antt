@@ -1,0 +1,5 @@
+pub mod Turning
+pub mod Ascending
+pub mod Spending
+pub mod Placing
+pub mod Answering

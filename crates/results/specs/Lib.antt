@@ -1,0 +1,10 @@
+pub mod Shortest
+pub mod ShortestExamples
+pub mod Result
+pub mod ResultAnswers
+pub mod ResultExamples
+pub mod ShortestSteps
+pub mod ShortestReads
+pub mod SameRules
+pub mod WrittenReads
+pub mod Calls

@@ -1,0 +1,1 @@
+// Result sheets: their definitions and the theorems on them, in specs/: no function.
