@@ -1,13 +1,11 @@
 // The records that entries show: the records are gone through once, in their order, and each one of the day or earlier is shown in its map's entry, over what
 // stood there.
 ghost use mathlib.Core.Path.{_≡_};
-ghost use mathlib.Core.List.{List};
-ghost use mathlib.Core.Option.{Option};
-ghost use Prim.Native.Nat.{ℕ, _+_, _*_, _≤_, _<_};
+ghost use Prim.Native.Nat.{_+_, _*_, _≤_, _<_};
 ghost use lib.ListN.{length, getD};
 ghost use lib.Dec.{ltb};
 ghost use Rattle.laws.specs.OrderLaws.Halving.{TurnsAt};
-ghost use Rattle.catalogue.specs.Accession.{Accession, numbersPerAccession, accessionAt, accessionCount};
+ghost use Rattle.catalogue.specs.Accession.{numbersPerAccession};
 ghost use Rattle.catalogue.specs.Pool.{numbersPerEntry};
 ghost use Rattle.pool_entries.specs.Steps.{Shown, RecordShown, RecordsShown};
 

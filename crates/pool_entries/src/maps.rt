@@ -8,7 +8,7 @@ ghost use lib.ListN.{length, take};
 ghost use lib.Seq.{sets};
 ghost use Rattle.definitions.specs.Lists.{overwrite};
 ghost use Rattle.definitions.specs.Scan.{toList};
-ghost use Rattle.catalogue.specs.Terms.{numbersPerTerm, termCount};
+ghost use Rattle.catalogue.specs.Terms.{numbersPerTerm};
 ghost use Rattle.catalogue.specs.Pool.{mapsIn, mapsOfDay, numbersPerEntry};
 ghost use Rattle.pool_entries.specs.Steps.{mapAt, blank};
 

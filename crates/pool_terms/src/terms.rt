@@ -5,7 +5,7 @@ use crate::calendar::end_of;
 ghost use mathlib.Core.Path.{_≡_};
 ghost use Prim.Native.Nat.{_+_, _*_, _%_, _≤_, _<_};
 ghost use lib.ListN.{length};
-ghost use Rattle.catalogue.specs.Terms.{numbersPerTerm, termAt, termCount, fromTo, daysOf, contains, overlapsEarlier, termFault, termsRefusal};
+ghost use Rattle.catalogue.specs.Terms.{numbersPerTerm, termAt, fromTo, daysOf, contains, overlapsEarlier, termFault, termsRefusal};
 ghost use Rattle.pool_terms.specs.Answers.{dayIn, daysIn, refusalIn, sharing};
 ghost use Rattle.pool_terms.specs.Ends.{endIn, Latest};
 

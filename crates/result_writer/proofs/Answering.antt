@@ -3,18 +3,16 @@ use Prim.Native.Nat.{ℕ, _≤_}
 use native.Mathlib.Omega.{arith}
 use mathlib.Core.Path.{_≡_, refl, sym, ap, _∙_}
 use mathlib.Core.Bool.{Bool, true, false, _&&_}
-use mathlib.Core.Option.{Option, none, some}
 use mathlib.Core.List.{List, [], _∷_}
 use lib.Dec.{leb}
 use lib.ListN.{length}
 use borrow.Author.Tests.{leb-true}
 use Rattle.definitions.specs.Refusals.{orElse, unless}
 use Rattle.definitions.specs.Verdict.{Answer, refusal, firstRefusal}
-use Rattle.definitions.specs.Lists.{overwrite}
 use Rattle.definitions.specs.Limits.{numbersPerPair, numbersPerRow}
 use Rattle.laws.specs.ListLaws.Overwritten.{sets-overwrite}
 use Rattle.results.specs.Result.{Result, turns, labelsFault, ascentFault, pairKey, rowKey, rulesFault}
-use Rattle.results.specs.ResultAnswers.{entriesIn, placed, isFinished, resultBytes, writeVerdict, writtenAtExit, Writes}
+use Rattle.results.specs.ResultAnswers.{entriesIn, placed, isFinished, resultBytes, writeVerdict, Writes}
 use Rattle.put_shortest.specs.Answers.{Put}
 
 -- ---- the rules

@@ -10,10 +10,9 @@ use lib.ListN.{length, drop, getD, drop-of-length-le}
 use lib.Seq.{drop-cons}
 use borrow.Author.Tests.{le-leb, lt-leb, eq-eqb, ne-eqb}
 use Rattle.definitions.specs.Refusals.{unless}
-use Rattle.results.specs.Result.{Entry, Turns, started, outOfTurn, inTurn, turns, labelsFault}
+use Rattle.results.specs.Result.{Entry, outOfTurn, inTurn, turns, labelsFault}
 use Rattle.results.specs.ResultAnswers.{chunks, entriesIn}
 use Rattle.result_writer.specs.Contract.{turnOf}
-use Rattle.result_writer.specs.declared.Turn.{Turn}
 use Rattle.result_writer.specs.declared.Turn.the-variants.{Started, Out}
 
 -- ---- one label

@@ -2,7 +2,7 @@
 // refusal leaves the lent list as it was.
 ghost use mathlib.Core.Path.{_≡_};
 ghost use mathlib.Core.Bool.{_&&_, _||_};
-ghost use mathlib.Core.List.{[], _∷_};
+ghost use mathlib.Core.List.{_∷_};
 ghost use Prim.Native.Nat.{_+_, _-_, _*_, _/_, _%_, _≤_, _<_};
 ghost use lib.Dec.{leb, ltb, eqb};
 ghost use lib.ListN.{length};
@@ -11,8 +11,8 @@ ghost use Rattle.definitions.specs.Refusals.{unless};
 ghost use Rattle.definitions.specs.Scan.{concatMap};
 ghost use Rattle.definitions.specs.Sort.{listLt};
 ghost use Rattle.results.specs.Shortest.{shortest, listBytes};
-ghost use Rattle.results.specs.Result.{Result, turns, labelsFault, ascentFault, pairKey, rowKey, rulesFault};
-ghost use Rattle.results.specs.ResultAnswers.{entriesIn, placed, isFinished, resultBytes, Writes};
+ghost use Rattle.results.specs.Result.{turns, labelsFault, ascentFault, pairKey, rowKey, rulesFault};
+ghost use Rattle.results.specs.ResultAnswers.{entriesIn, placed, resultBytes, Writes};
 ghost use Rattle.put_shortest.specs.Answers.{Put};
 ghost use Rattle.result_writer.specs.Contract.{turnOf, pairAt, rowAt, Neighbours, spent, resultIn, answerIn};
 use put_shortest::put_shortest;

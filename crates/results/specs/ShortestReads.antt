@@ -8,8 +8,8 @@ use mathlib.Core.List.{List, [], _∷_, _++_}
 use lib.Dec.{leb, ltb, eqb}
 use lib.Pow.{pow-add}
 use lib.ListN.{length}
-use borrow.Author.Tests.{leb-true, leb-false, ltb-true, ltb-false, eqb-true, eqb-false, le-leb, lt-leb, lt-ltb, le-ltb, eq-eqb, ne-eqb}
-use Rattle.definitions.specs.SheetNumber.{Read, found, failed, withGroup, tooLong, groups, number}
+use borrow.Author.Tests.{leb-true, leb-false, ltb-true, ltb-false, eqb-true, le-ltb}
+use Rattle.definitions.specs.SheetNumber.{found, withGroup, tooLong, groups, number}
 use Rattle.laws.specs.SheetReading.SheetLaws.{groups-more, groups-last}
 use Rattle.results.specs.Shortest.{shortestWithin, shortest}
 

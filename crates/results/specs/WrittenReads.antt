@@ -2,22 +2,17 @@
 -- (`Back`), part by part; the places of the entries then depend on the offset, and the rules do not ask for them (SameRules). Assumes nothing.
 use Prim.Native.Nat.{ℕ, zero, suc, _+_, _*_, _/_, _%_, _^_, _<_, _≤_}
 use native.Mathlib.Omega.{arith}
-use mathlib.Core.Path.{_≡_, refl, sym, ap, ap₂, subst, _∙_}
-use mathlib.Core.Bool.{Bool, true, false, not, _&&_, cond, false≢true}
-use mathlib.Core.Option.{Option, none, some}
+use mathlib.Core.Path.{_≡_, refl, sym, ap, _∙_}
+use mathlib.Core.Bool.{_&&_}
+use mathlib.Core.Option.{none}
 use mathlib.Core.List.{List, [], _∷_, _++_, map, append-assoc, append-nil}
-use lib.Dec.{leb, eqb}
 use lib.ListN.{length, take, drop, getD, take-append-drop, length-drop}
 use lib.Seq.{length-take-le}
-use borrow.Author.Tests.{eqb-true, eq-eqb}
 use Rattle.definitions.specs.Limits.{talliesPerSpan, numbersPerPair, numbersPerRow}
-use Rattle.definitions.specs.Scan.{onlyIf, concatMap}
-use Rattle.definitions.specs.Sort.{listLt}
-use Rattle.definitions.specs.SheetNumber.{Read, found, failed, number}
-use Rattle.definitions.specs.Sheet.{Reader, give, check, andThen, times, end}
-use Rattle.definitions.specs.Refusals.{orElse}
+use Rattle.definitions.specs.Scan.{concatMap}
+use Rattle.definitions.specs.SheetNumber.{found, number}
+use Rattle.definitions.specs.Sheet.{Reader, give, andThen, times, end}
 use Rattle.laws.specs.ListLaws.Lists.{All, done, more}
-use Rattle.laws.specs.ListLaws.NoFault.{no-fault, or-else-none}
 use Rattle.laws.specs.SheetReading.SheetLaws.{then-found}
 use Rattle.results.specs.Shortest.{shortest, listBytes}
 use Rattle.results.specs.ShortestReads.{number-shortest}
