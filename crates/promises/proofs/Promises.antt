@@ -1,0 +1,201 @@
+-- The main theorems, restated in the order of the three demands and then of the requests; each is proved by citing it. What to read first: whoever believes the
+-- definitions that these statements name need believe nothing else that stands in crates/. Assumes nothing.
+use Prim.Native.Nat.{ℕ, _+_, _*_, _<_}
+use mathlib.Core.Path.{_≡_}
+use mathlib.Core.Logic.{_↔_}
+use mathlib.Core.Bool.{Bool, true, not, _&&_, _||_}
+use mathlib.Core.Option.{some}
+use mathlib.Core.List.{List, map, List·Memᴰ}
+use lib.ListN.{length, getD, take}
+use lib.Dec.{eqb}
+use lib.Ieee.{Float, binary64, toBits}
+use Rattle.definitions.specs.Scan.{all, anyBelow}
+use Rattle.definitions.specs.Sort.{listLt}
+use Rattle.definitions.specs.Grid.{Boundary, Segment, mapOf}
+use Rattle.definitions.specs.Hypotenuse.{inRange, sumOfSquares}
+use Rattle.definitions.specs.Nearest.{Nearest}
+use Rattle.definitions.specs.TotalOrder.{totalOrder}
+use Rattle.definitions.specs.RegionRecord.{Share, IsShare, shareOf}
+use Rattle.definitions.specs.RampGeometry.{intersects}
+use Rattle.definitions.specs.Context.{endpointsKey}
+use Rattle.definitions.specs.Junctions.{boundaryKey}
+use Rattle.definitions.specs.Refusals.{widthFits}
+use Rattle.definitions.specs.Verdict.{Lent, Answer, mapIn, verdict}
+use Rattle.definitions.specs.Printed.{keptlist, text}
+use Rattle.definitions.specs.Cases as cases
+use Rattle.definitions.specs.SheetExamples.{bytesJ}
+use Rattle.definitions.specs.CaseJ as case-j
+use Rattle.laws.specs.RegionLaws.Shares as shares
+use Rattle.laws.specs.FloatLaws.WidthOrder as widths
+use Rattle.hypotenuse.specs.declared.Answer as root
+use Rattle.hypotenuse.specs.Answers.{numberOf, valueOf, Allowed}
+use Rattle.hypotenuse.specs.RootNearest as nearest
+use Rattle.flood.specs.Walk.{directionAt}
+use Rattle.flood.specs.Inner.{placed, byteAt}
+use Rattle.flood.proofs.Ways as ways
+use Rattle.context.specs.declared.Region.{Region}
+use Rattle.context.specs.Records.{recordOf}
+use Rattle.areas.specs.declared.Partitioned.{Partitioned}
+use Rattle.areas.specs.Answers.{answerOf}
+use Rattle.areas.specs.Contract as alone
+use Rattle.calls.specs.Contract.{given}
+use Rattle.rust_partition.specs.Literal.PartitionBySpans.{partitionBySpans}
+use Rattle.island.specs.Premises.{Alike}
+use Rattle.island_calls.specs.Outputs.{rowsHeld}
+use Rattle.island_calls.specs.RustRows.{rustRows}
+use Rattle.island_calls.specs.RustPartition.{AsRust}
+use Rattle.island_calls.specs.RustPartition as partitions
+use Rattle.topology.specs.Answers.{RanOver}
+use Rattle.island_theorem.specs.Theorem.{SameOnIsland}
+use Rattle.island_theorem.specs.Theorem as calls
+use Rattle.separations.specs.Distance.{SharePoint, ExactSquare, exactSquare}
+use Rattle.separations.specs.Listing.{boundaryCount, endsOf, Lists}
+use Rattle.separations.specs.Theorem.{OfBoundaries}
+use Rattle.separations.specs.Theorem as separations
+use Rattle.separations.specs.Calls.{RowHolds}
+use Rattle.separations.specs.Calls as listed
+use Rattle.catalogue.specs.Accession.{accessionAt, accessionCount}
+use Rattle.catalogue.specs.Line.{lineVerdict, lineAtExit}
+use Rattle.catalogue.specs.AccessionLaws.Chain.{Link}
+use Rattle.catalogue.specs.AccessionLaws.Lines.{Descends}
+use Rattle.catalogue.specs.AccessionLaws.Reported.{accessionsIn}
+use Rattle.catalogue.specs.AccessionLaws.Reported as reported
+use Rattle.catalogue.specs.Dates.{Date}
+use Rattle.catalogue.specs.Terms.{termAt, termCount, daysOf, contains}
+use Rattle.catalogue.specs.Pool.{newest, entryOf}
+use Rattle.pool.proofs.Returned.{Called, Accepted}
+use Rattle.pool.proofs.Returned as returned
+use Rattle.results.specs.Result.{Result}
+use Rattle.results.specs.ResultAnswers.{readResult, wellFormed, Writes}
+use Rattle.results.specs.Calls.{InMemory}
+use Rattle.results.specs.Calls as written
+
+-- ---- 2. Exact: the hypotenuse, the order of widths, and the Rust's own steps
+
+-- "a hypotenuse is the exact root rounded to nearest, ties to even"
+pub hypotenuse-nearest : (x y : Float) (r : root.Answer) → inRange x ≡ true → inRange y ≡ true → Allowed x y r
+    → (numberOf r ≡ 0) × Nearest (sumOfSquares x y) (toBits binary64 (valueOf r))
+hypotenuse-nearest = nearest.root-nearest
+
+-- "and widths rank by totalOrder": the wider first, and of equal widths by endpoints
+pub widths-by-total-order : (x y : Boundary) → widthFits (x .widthBits) ≡ true → widthFits (y .widthBits) ≡ true
+    → listLt (boundaryKey x) (boundaryKey y)
+    ≡ (not (totalOrder (x .widthBits) (y .widthBits))
+    || ((totalOrder (x .widthBits) (y .widthBits) && totalOrder (y .widthBits) (x .widthBits)) && listLt (endpointsKey (x .endpoints)) (endpointsKey (y .endpoints))))
+widths-by-total-order = widths.key-by-total-order
+
+-- labels, tallies and pairs of an accepted partition alone are the Rust's
+pub partition-alone : {L : Lent} {r : Partitioned} {l m q t p : List ℕ} → alone.Ran L r l m q t p → answerOf r .number ≡ 0
+    → AsRust L (partitionBySpans (mapIn L)) l t p
+partition-alone = partitions.partition-alone
+
+-- A call that runs a pass: the pass, what it read, what it was lent to fill, its answer a, and at exit what it was lent to fill. That every call meets `RanOver`,
+-- whatever it is lent, is the contract of `topology_kept_boundaries`; this is demand 1.
+module _
+    {pass w h : ℕ} {cells spans boundaries anchors l m q t p : List ℕ} {s : List Region} {o : List ℕ}
+    {a : Answer} {l₁ m₁ q₁ t₁ p₁ : List ℕ} {s₁ : List Region} {o₁ : List ℕ}
+    (call : RanOver pass w h cells spans boundaries anchors l m q t p s o a l₁ m₁ q₁ t₁ p₁ s₁ o₁)
+    (success : a .number ≡ 0) where
+  -- "labels, assessments"
+  pub partition-as-rust : AsRust (given pass w h cells spans boundaries anchors l m q t p (map recordOf s) o) (partitionBySpans (mapOf w h cells spans boundaries anchors)) l₁ t₁ p₁
+  partition-as-rust = calls.partition-as-rust call success
+
+  -- "and kept rows equal its own"
+  pub rows-as-rust : rowsHeld a o₁ ≡ rustRows pass (mapOf w h cells spans boundaries anchors)
+  rows-as-rust = calls.rows-as-rust call success
+
+  -- ---- 3. Local: two calls of one pass, and an island under the premises of demand 3 (`Alike`)
+
+  module _
+      {w′ h′ : ℕ} {cells′ spans′ boundaries′ anchors′ l′ m′ q′ t′ p′ : List ℕ} {s′ : List Region} {o′ : List ℕ}
+      {a′ : Answer} {l₁′ m₁′ q₁′ t₁′ p₁′ : List ℕ} {s₁′ : List Region} {o₁′ : List ℕ}
+      (call′ : RanOver pass w′ h′ cells′ spans′ boundaries′ anchors′ l′ m′ q′ t′ p′ s′ o′ a′ l₁′ m₁′ q₁′ t₁′ p₁′ s₁′ o₁′)
+      (success′ : a′ .number ≡ 0)
+      (isl : ℕ → Bool)
+      (A : Alike (mapOf w h cells spans boundaries anchors) (mapOf w′ h′ cells′ spans′ boundaries′ anchors′) isl) where
+    pub island : SameOnIsland (mapOf w h cells spans boundaries anchors) (mapOf w′ h′ cells′ spans′ boundaries′ anchors′) isl (rowsHeld a o₁) (rowsHeld a′ o₁′)
+    island = calls.island-theorem call success call′ success′ isl A
+
+-- ---- the cases of document 01
+
+pub cases-hold : all (λ b. b) cases.cases ≡ true
+cases-hold = cases.cases-hold
+
+pub printed-j : keptlist bytesJ ≡ text "kept 4 of 5\n1 8 8 8 16\n2 8 8 16 8\n4 16 16 24 16\n3 24 8 24 16\n"
+printed-j = case-j.printedJ
+
+-- ---- request 1, as far as it is landed: what a call of the writer wrote reads as itself
+
+pub written-reads : {r : Result} {lent lent′ : List ℕ} {answer : Answer} → InMemory r → Writes r lent answer lent′ → answer .number ≡ 0
+    → readResult (take (answer .value) lent′) ≡ wellFormed r
+written-reads = written.written-call
+
+-- ---- request 2: the share is exact, and there is no other
+
+pub share-exact : (count n : ℕ) (h : Share) → shareOf count n ≡ some h → IsShare count n h
+share-exact = shares.share-exact
+
+pub share-only : (count n : ℕ) (h : Share) → IsShare count n h → shareOf count n ≡ some h
+share-only = shares.share-only
+
+-- ---- request 5: the bytes of the word are the eight directions, in their order
+
+pub directions-as-bytes : (d : ℕ) → d < 8 → placed (byteAt ways.directionWord d) ≡ directionAt d
+directions-as-bytes = ways.word-at
+
+-- ---- request 7: what a call that reported a line left in its output
+
+module _
+    (l : List ℕ) (own : ℕ) (before : List ℕ) (answer : Answer) (output : List ℕ) (said : answer ≡ lineVerdict l own (length before))
+    (left : output ≡ lineAtExit (answer .number) l own before) (success : answer .number ≡ 0) where
+  -- each map's records form one chain
+  pub line-chain : (i : ℕ) → i < accessionCount l → Link l i
+  line-chain = reported.reported-chain l own before answer output said left success
+
+  -- a record is in the line exactly when it is of the own number's map
+  pub line-members : (j : ℕ) → j < accessionCount l → accessionAt l j .own ≡ own → (i : ℕ) → i < accessionCount l
+      → List·Memᴰ (accessionAt l i) (accessionsIn (answer .value) output) ↔ (accessionAt l i .onMap ≡ accessionAt l j .onMap)
+  line-members = reported.reported-members l own before answer output said left success
+
+  -- newest first
+  pub line-descends : Descends (accessionsIn (answer .value) output)
+  line-descends = reported.reported-descends l own before answer output said left success
+
+-- ---- request 8: what a call that listed the maps of a day left in its output
+
+module _ {terms records : List ℕ} {asked : Date} {old : List ℕ} {count : ℕ} {new : List ℕ} (A : Accepted terms records asked old count new) where
+  -- a map is listed exactly when one of its terms has the day
+  pub pool-members : (m : ℕ)
+      → anyBelow count (λ k. eqb m (getD new (4 * k) 0)) ≡ anyBelow (termCount terms) (λ i. contains (A .day) (daysOf (termAt terms i)) && eqb m (termAt terms i .onMap))
+  pool-members = returned.returned-members A
+
+  -- by number, each once
+  pub pool-rises : (j k : ℕ) → j < k → k < count → getD new (4 * j) 0 < getD new (4 * k) 0
+  pool-rises = returned.returned-rises A
+
+  -- with its newest accession record of that day or earlier
+  pub pool-shows : (k j : ℕ) → k < count → j < 4
+      → getD new (4 * k + j) 0 ≡ getD (entryOf (getD new (4 * k) 0) (newest records (getD new (4 * k) 0) (A .day) (accessionCount records))) j 0
+  pool-shows = returned.returned-shows A
+
+-- every call that answered 0 is such a one
+pub pool-accepted : {terms records : List ℕ} {asked : Date} {old : List ℕ} {count : ℕ} {new : List ℕ}
+    → Called terms records asked old count new → Accepted terms records asked old count new
+pool-accepted = returned.accepted
+
+-- ---- request 10: separations
+
+-- for any two boundaries of any accepted map: within 2 ^ -32 pixel of the exact distance, and zero exactly when they share a point
+pub separation-within : (L : Lent) → verdict L .number ≡ 0 → (i j : ℕ) → OfBoundaries (mapIn L) i j
+separation-within = separations.accepted-separations
+
+-- what a call of the list of separations left in its output: the same of each row
+module _ {w h : ℕ} {boundaries output : List ℕ} {a : Answer} {o : List ℕ} (call : Lists w h boundaries output a o) (success : a .number ≡ 0) where
+  pub separations-listed : (i j : ℕ) → i < j → j < boundaryCount boundaries → RowHolds (endsOf boundaries i) (endsOf boundaries j) i j o
+  separations-listed = listed.listed-holds call success
+
+pub exact-square : (s t : Segment) → ExactSquare s t (exactSquare s t .num) (exactSquare s t .den)
+exact-square = separations.exactSquare-is
+
+pub intersects-exactly : (s t : Segment) → (intersects s t ≡ true) ↔ SharePoint s t
+intersects-exactly = separations.intersects-exactly
