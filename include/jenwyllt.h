@@ -1,8 +1,9 @@
-/* Regions of a walk grid cut by spans, the boundaries that a pass keeps, how far boundaries are apart, the reader of sheets, the line of an accession
-   record, the share behind dominance, and the correctly rounded hypotenuse.
+/* Regions of a walk grid cut by spans, the boundaries that a pass keeps, how far boundaries are apart, the reader of sheets, the writer of result sheets,
+   the line of an accession record, the maps in the pool on a day, the share behind dominance, and the correctly rounded hypotenuse.
    The library is for x86-64 Linux: libjenwyllt.a and libjenwyllt.so, which tools/build_library.sh writes to target/lib. It keeps no state and allocates
    nothing; from outside it needs only `memset`.
-   Every function is proved to meet the definitions of crates/definitions, crates/separations and crates/catalogue for every input that keeps to what stands here. */
+   Every function is proved to meet the definitions of crates/definitions, crates/separations, crates/catalogue and crates/results for every input that
+   keeps to what stands here. */
 #ifndef JENWYLLT_H
 #define JENWYLLT_H
 
@@ -336,8 +337,8 @@ struct jenwyllt_answer jenwyllt_report_line(
      18      the day asked for is no day from 2000 to 2099           the count of terms
      10      the output is too short for the entries                 0
 
-   18 and 19 are tested term by term, 18 first. With any of these the output stays as it was. A call needs 34 KiB of stack more than
-   `jenwyllt_report_line`, and for the records as much time. A term that starts before the latest end so far among the maps whose numbers leave the same
+   18 and 19 are tested term by term, 18 first. With any of these the output stays as it was. A call needs as much stack as
+   `jenwyllt_report_line`, 641 KiB, and for the records as much time. A term that starts before the latest end so far among the maps whose numbers leave the same
    remainder by 4096 is compared with every term before it; all else grows as n log n with the counts of terms and records. */
 struct jenwyllt_answer jenwyllt_maps_of_day(
     const uint64_t *terms, size_t terms_length,
