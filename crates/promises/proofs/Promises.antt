@@ -11,14 +11,14 @@ use lib.Dec.{eqb}
 use lib.Ieee.{Float, binary64, toBits}
 use Rattle.definitions.specs.Scan.{all, anyBelow}
 use Rattle.definitions.specs.Sort.{listLt}
-use Rattle.definitions.specs.Grid.{Boundary, Segment, mapOf}
+use Rattle.definitions.specs.Grid.{Boundary, Pair, Segment, mapOf}
 use Rattle.definitions.specs.Hypotenuse.{inRange, sumOfSquares}
 use Rattle.definitions.specs.Nearest.{Nearest}
 use Rattle.definitions.specs.TotalOrder.{totalOrder}
 use Rattle.definitions.specs.RegionRecord.{Share, IsShare, shareOf}
 use Rattle.definitions.specs.RampGeometry.{intersects}
-use Rattle.definitions.specs.Context.{endpointsKey}
-use Rattle.definitions.specs.Junctions.{boundaryKey}
+use Rattle.definitions.specs.Context.{Context, endpointsKey}
+use Rattle.definitions.specs.Junctions.{boundaryKey, unionRegions}
 use Rattle.definitions.specs.Refusals.{widthFits}
 use Rattle.definitions.specs.Verdict.{Lent, Answer, mapIn, verdict}
 use Rattle.definitions.specs.Printed.{keptlist, text}
@@ -27,6 +27,9 @@ use Rattle.definitions.specs.SheetExamples.{bytesJ}
 use Rattle.definitions.specs.CaseJ as case-j
 use Rattle.laws.specs.RegionLaws.Shares as shares
 use Rattle.laws.specs.FloatLaws.WidthOrder as widths
+use Rattle.laws.specs.RustJunctions.Unions.{proposed}
+use Rattle.laws.specs.RustJunctions.UnionRegions.{unionPasses}
+use Rattle.laws.specs.RustJunctions.UnionRegions as unions
 use Rattle.hypotenuse.specs.declared.Answer as root
 use Rattle.hypotenuse.specs.Answers.{numberOf, valueOf, Allowed}
 use Rattle.hypotenuse.specs.RootNearest as nearest
@@ -137,6 +140,10 @@ share-exact = shares.share-exact
 
 pub share-only : (count n : ℕ) (h : Share) → IsShare count n h → shareOf count n ≡ some h
 share-only = shares.share-only
+
+-- and what a union asks of two records is what the Rust's own lines ask, with its dominant elevation, of every context
+pub unions-as-rust : (C : Context) (i : ℕ) (p : Pair) → unionPasses C (proposed C i p) ≡ unionRegions C i p
+unions-as-rust = unions.passes-is
 
 -- ---- request 5: the bytes of the word are the eight directions, in their order
 
