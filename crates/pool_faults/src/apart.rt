@@ -1,8 +1,8 @@
 // Terms of one map that have no day in common, told in n log n steps: the terms' positions are sorted by map and first day, and then it is enough to compare
 // neighbours. What the positions are sorted by is a hint, of which nothing is proved: neighbours in a wrong order are found as those that overlap are.
+use number_sort::sort_numbers;
 use pool_terms::terms::end_in;
 use pool_terms::terms::first_in;
-use number_sort::sort_numbers;
 ghost use mathlib.Core.Path.{_≡_};
 ghost use mathlib.Core.Bool.{true, false};
 ghost use Prim.Native.Nat.{ℕ, _+_, _*_, _≤_, _<_};

@@ -131,13 +131,14 @@ loop-again-2 c =
     let at-loop = at-maps .before .before .before in
     let I = at-loop .loop .inv in
     let D = at-doubt .doubt-between .ensures in
-    let all = both (at-least .least-of .ensures) (I .2) (D .0) in
-    (c .part-end .ensures .0,
+    let all = both (at-least .least-of .ensures) (I .2) (D .0) in (
+      c .part-end .ensures .0,
       c .part-end .ensures .1,
       omega (arith, at-least .least-of .ensures .0, I .2),
       search needs,
       search needs,
-      λ e. below-more _ _ _ _ (I .5 (all e .0)) (D .1 (all e .1)))
+      λ e. below-more _ _ _ _ (I .5 (all e .0)) (D .1 (all e .1)),
+    )
 
 same-length-5 : tie.Need-same-length-5 Inv-loop μ-loop
 same-length-5 c = search needs

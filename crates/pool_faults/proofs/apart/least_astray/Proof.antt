@@ -50,9 +50,10 @@ least-astray-of-requires c κs =
     let start = turn .before .before .before in
     let keys = start .args .keys .now in
     let until = start .args .until in
-    let k = turn .loop .k in
-    (position-inside keys until (k - 1) (start .pre .1) (omega (arith, at-test .loop-test .taken, turn .loop .inv .0)) (at-first .position-in .ensures) _ (start .pre .0),
-    position-inside keys until k (start .pre .1) (at-test .loop-test .taken) (c .position-in2 .ensures) _ (start .pre .0))
+    let k = turn .loop .k in (
+      position-inside keys until (k - 1) (start .pre .1) (omega (arith, at-test .loop-test .taken, turn .loop .inv .0)) (at-first .position-in .ensures) _ (start .pre .0),
+      position-inside keys until k (start .pre .1) (at-test .loop-test .taken) (c .position-in2 .ensures) _ (start .pre .0),
+    )
 
 add-k : tie.Need-add-k Inv-loop μ-loop
 add-k c = search needs
@@ -73,11 +74,13 @@ loop-again c =
     let k = turn .loop .k in
     let found = c .least-astray-of .ensures in
     let first = position-below keys until (k - 1) (start .pre .1) (omega (arith, at-test .loop-test .taken, turn .loop .inv .0)) (at-first .position-in .ensures) in
-    let second = position-below keys until k (start .pre .1) (at-test .loop-test .taken) (at-second .position-in2 .ensures) in
-    (omega arith, omega (arith, found .0, turn .loop .inv .1),
-    λ e.
-    let both = found .1 until first second e (turn .loop .inv .1) in
-    following-more terms keys k (at-first .position-in .ensures) (at-second .position-in2 .ensures) (turn .loop .inv .2 (both .0)) (both .1))
+    let second = position-below keys until k (start .pre .1) (at-test .loop-test .taken) (at-second .position-in2 .ensures) in (
+      omega arith,
+      omega (arith, found .0, turn .loop .inv .1),
+      λ e.
+          let both = found .1 until first second e (turn .loop .inv .1) in
+          following-more terms keys k (at-first .position-in .ensures) (at-second .position-in2 .ensures) (turn .loop .inv .2 (both .0)) (both .1),
+    )
 
 returns : tie.Need-returns Inv-loop μ-loop
 returns c =
