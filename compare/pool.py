@@ -2,8 +2,9 @@
 
     python3 pool.py [LISTS] [--seed N]
 
-Half of the lists keep the rules and half break one at one position, in each way in turn; rooms and days vary, and one list in a hundred is long. Prints the
-differences, and at the end how many lists of each answer there were.
+Half of the lists keep the rules and half break one at one position, in each way in turn; rooms and days vary, and one list in a hundred is long. Then large
+lists, more terms than the library sorts at once, in several orders, whole and with an overlap. Prints the differences, and at the end how many lists of each
+answer there were.
 """
 import argparse
 import random
@@ -51,6 +52,22 @@ def lists(draw):
             yield maps, draw.choice(list(damaged(draw, terms, i, maps)))
 
 
+def large(draw):
+    """in the order of their days, the last first or mixed; of many maps, of few that have a term every day, of one; without a fault and with one"""
+    for maps, days in ((20_000, 5), (3_000, 40), (2, 36_525), (3, 30_000), (1, 36_525)):
+        numbers = [draw.randrange(2 ** 64) for _ in range(maps)]
+        terms = [term(number, first, first + 1) for first in range(days) for number in numbers]
+        for order in ('days', 'last first', 'mixed'):
+            listed = terms[::-1] if order == 'last first' else terms[:]
+            if order == 'mixed':
+                draw.shuffle(listed)
+            yield listed
+            for _ in range(2):
+                i, j = sorted(draw.sample(range(len(listed)), 2))
+                yield listed[:j] + [listed[i]] + listed[j:]
+        yield terms + terms
+
+
 def main():
     parser = argparse.ArgumentParser()
     parser.add_argument('lists', type=int, nargs='?', default=20_000)
@@ -77,7 +94,14 @@ def main():
         if said(numbers, catalogue, day, before) != (number, value, rows + before[len(rows):]):
             differences += 1
             print('DIFFERS', numbers, catalogue, day, room, (number, value))
-    print(f'{args.lists} lists, seed {args.seed}:', ', '.join(f'{count} of number {number}' for number, count in sorted(answers.items())), f'; {differences} differences')
+    for terms in large(draw):
+        numbers, day = flat(terms), asked(draw, terms)
+        number, value, rows = maps_of_day(numbers, [], day, 10 ** 6)
+        answers[number] += 1
+        if said(numbers, [], day, [0] * len(rows)) != (number, value, rows):
+            differences += 1
+            print('DIFFERS', len(terms), terms[:3], day, (number, value))
+    print(f'{args.lists} lists and 50 large ones, seed {args.seed}:', ', '.join(f'{count} of number {number}' for number, count in sorted(answers.items())), f'; {differences} differences')
     return 1 if differences else 0
 
 

@@ -337,9 +337,10 @@ struct jenwyllt_answer jenwyllt_report_line(
      18      the day asked for is no day from 2000 to 2099           the count of terms
      10      the output is too short for the entries                 0
 
-   18 and 19 are tested term by term, 18 first. With any of these the output stays as it was. A call needs as much stack as
-   `jenwyllt_report_line`, 641 KiB, and for the records as much time. A term that starts before the latest end so far among the maps whose numbers leave the same
-   remainder by 4096 is compared with every term before it; all else grows as n log n with the counts of terms and records. */
+   18 and 19 are tested term by term, 18 first. With any of these the output stays as it was. A call needs 833 KiB of stack,
+   and for the records as much time as `jenwyllt_report_line`. Terms that come in the order of their days take one walk where the maps' numbers leave
+   different remainders by 4096, and in any other order n log n steps, up to 40,960 terms; more are taken in parts, with a walk over all terms for each 20,480 or
+   so. A refusal 19 of terms in no order takes up to 2 log n times as long. All else grows as n log n with the counts of terms and records. */
 struct jenwyllt_answer jenwyllt_maps_of_day(
     const uint64_t *terms, size_t terms_length,
     const uint64_t *records, size_t records_length,

@@ -9,19 +9,23 @@ pub fn run(budget: Duration) {
     println!("\nthe maps of a day, microseconds a call, least of many\n");
     println!("{:<60} {:>10} {:>10} {:>10}", "terms and records", "plain", "ours", "ratio");
     let cases = [
-        (10, 5, 30, false),
-        (100, 20, 300, false),
-        (1_000, 100, 3_000, false),
-        (10_000, 500, 30_000, false),
-        (10_000, 10_000, 30_000, false),
-        (10_000, 500, 30_000, true),
+        (10, 5, 30, Order::Days),
+        (100, 20, 300, Order::Days),
+        (1_000, 100, 3_000, Order::Days),
+        (1_000, 100, 3_000, Order::Mixed),
+        (10_000, 500, 30_000, Order::Days),
+        (10_000, 10_000, 30_000, Order::Days),
+        (10_000, 500, 30_000, Order::LastFirst),
+        (10_000, 500, 30_000, Order::Mixed),
+        (10_000, 1, 30_000, Order::LastFirst),
+        (10_000, 500, 30_000, Order::Overlap),
+        (100_000, 5_000, 30_000, Order::Mixed),
+        (100_000, 5_000, 30_000, Order::Overlap),
+        (1_000_000, 50_000, 30_000, Order::Mixed),
     ];
-    for (terms, maps, records, turned) in cases {
-        let name = format!("{terms} terms of {maps} maps{}, {records} records", if turned { ", the last first" } else { "" });
-        let mut listed: Vec<Term> = (0..terms).map(|k| term((k % maps) as u64 * 7, (k / maps) as u64 * 3)).collect();
-        if turned {
-            listed.reverse();
-        }
+    for (terms, maps, records, order) in cases {
+        let name = format!("{terms} terms of {maps} maps{}, {records} records", order.words());
+        let listed = order.of((0..terms).map(|k| term((k % maps) as u64 * 7, (k / maps) as u64 * 3)).collect());
         let catalogue = list(records, maps);
         let asked = date(terms as u64 / maps as u64 * 3 / 2);
         assert_eq!(plain(&listed, &catalogue, asked), maps_of_day(&listed, &catalogue, asked).ok());
@@ -34,6 +38,57 @@ pub fn run(budget: Duration) {
         let times = time(budget, vec![calls]);
         let (theirs, ours) = (times[0][0].least(), times[0][1].least());
         println!("{name:<60} {theirs:>10.1} {ours:>10.1} {:>10.2}", ours / theirs);
+    }
+}
+
+/// A call for which both checks, of records and of terms, need their large tables.
+pub fn mixed_call() -> impl FnMut() {
+    let (terms, maps) = (40_000, 2_000);
+    let listed = Order::Mixed.of((0..terms).map(|k| term((k % maps) as u64 * 7, (k / maps) as u64 * 3)).collect());
+    let flat: Vec<u64> = listed.iter().flat_map(|term| <[u64; 7]>::from(*term)).collect();
+    let numbers: Vec<u64> = list(30_000, maps).iter().flat_map(|record| <[u64; 4]>::from(*record)).collect();
+    let mut output = vec![0; 4 * maps];
+    move || assert!(maps_of_day_into(&flat, &numbers, date(30), &mut output).is_ok())
+}
+
+/// How the terms come: in the order of their days, the last first, in any order, or so with one in the middle that overlaps an earlier one.
+enum Order {
+    Days,
+    LastFirst,
+    Mixed,
+    Overlap,
+}
+
+impl Order {
+    fn words(&self) -> &str {
+        match self {
+            Order::Days => "",
+            Order::LastFirst => ", the last first",
+            Order::Mixed => ", mixed",
+            Order::Overlap => ", mixed, one overlaps",
+        }
+    }
+
+    fn of(&self, mut terms: Vec<Term>) -> Vec<Term> {
+        match self {
+            Order::Days => {}
+            Order::LastFirst => terms.reverse(),
+            Order::Mixed => mix(&mut terms),
+            Order::Overlap => {
+                mix(&mut terms);
+                let middle = terms.len() / 2;
+                terms[middle] = terms[middle / 2];
+            }
+        }
+        terms
+    }
+}
+
+fn mix(terms: &mut [Term]) {
+    let mut state = 1u64;
+    for k in (1..terms.len()).rev() {
+        state = state.wrapping_mul(6_364_136_223_846_793_005).wrapping_add(1);
+        terms.swap(k, (state >> 33) as usize % (k + 1));
     }
 }
 

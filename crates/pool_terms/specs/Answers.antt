@@ -33,3 +33,13 @@ refusalIn (fault.EmptyOrOverlapping i) = some (record { number = 19; place = i }
 -- term j is of the map and has a day in common with d
 abbrev pub sharing : List ℕ → ℕ → def.Days → ℕ → Bool
 sharing terms map d j = eqb (def.termAt terms j .onMap) map && def.overlap d (def.daysOf (def.termAt terms j))
+
+-- the first day of a term, or 0 for a bad date
+abbrev pub firstIn : Option def.Days → ℕ
+firstIn none = 0
+firstIn (some d) = d .from
+
+-- the end of a term, or 0 for a bad date
+abbrev pub endIn : Option def.Days → ℕ
+endIn none = 0
+endIn (some d) = d .to

@@ -1,3 +1,3 @@
-// Pool terms: their days by the calendar, and the first term that breaks a rule.
+// Pool terms: their days by the calendar, and the rule that a term breaks.
 pub mod calendar;
 pub mod terms;

@@ -1,18 +1,14 @@
-// The terms of maps in the pool: their days, and the first that breaks a rule, 18 or 19.
+// The terms of maps in the pool: their days, and the rule that a term breaks, 18 or 19.
 use crate::calendar::Day;
 use crate::calendar::day_of;
 use crate::calendar::end_of;
 ghost use mathlib.Core.Path.{_≡_};
-ghost use Prim.Native.Nat.{_+_, _*_, _%_, _≤_, _<_};
+ghost use Prim.Native.Nat.{_+_, _*_, _≤_};
 ghost use lib.ListN.{length};
-ghost use Rattle.catalogue.specs.Terms.{numbersPerTerm, termAt, fromTo, daysOf, contains, overlapsEarlier, termFault, termsRefusal};
-ghost use Rattle.pool_terms.specs.Answers.{dayIn, daysIn, refusalIn, sharing};
-ghost use Rattle.pool_terms.specs.Ends.{endIn, Latest};
+ghost use Rattle.catalogue.specs.Terms.{numbersPerTerm, termAt, fromTo, daysOf, contains, overlapsEarlier, termFault};
+ghost use Rattle.pool_terms.specs.Answers.{dayIn, daysIn, firstIn, endIn, refusalIn, sharing};
 
 const TERM_SIZE: usize = 7;
-
-// Maps are told apart by the remainders of their numbers, as far as that goes.
-const SLOTS: usize = 4096;
 
 // The days of a term, from the first to the end, which no longer belongs to it; or that a date is bad.
 pub enum Days {
@@ -20,7 +16,7 @@ pub enum Days {
     Bad,
 }
 
-// The first term that breaks a rule: by a bad date, or because it is empty or overlaps an earlier one.
+// A term that breaks a rule: by a bad date, or because it is empty or overlaps an earlier one.
 pub enum Fault {
     Nothing,
     BadDate(usize),
@@ -66,6 +62,28 @@ pub fn has_day(terms: &[u64], i: usize, day: u64) -> bool
     }
 }
 
+// The first day of term i, or 0 for a bad date.
+pub fn first_in(terms: &[u64], i: usize) -> u64
+    requires { ⌜ numbersPerTerm * (i + 1) ≤ length (now terms) ⌝ }
+    ensures { λ r. ⌜ r ≡ firstIn (daysOf (termAt (now (terms .entry)) i)) ⌝ }
+{
+    match term_days(terms, i) {
+        Days::Bad => 0,
+        Days::FromTo(from, _) => from,
+    }
+}
+
+// The end of term i, or 0 for a bad date.
+pub fn end_in(terms: &[u64], i: usize) -> u64
+    requires { ⌜ numbersPerTerm * (i + 1) ≤ length (now terms) ⌝ }
+    ensures { λ r. ⌜ r ≡ endIn (daysOf (termAt (now (terms .entry)) i)) ⌝ }
+{
+    match term_days(terms, i) {
+        Days::Bad => 0,
+        Days::FromTo(_, to) => to,
+    }
+}
+
 // Whether term j is of the map and has a day in common with these.
 fn shares_day(terms: &[u64], j: usize, map: u64, from: u64, to: u64) -> bool
     requires { ⌜ numbersPerTerm * (j + 1) ≤ length (now terms) ⌝ }
@@ -101,10 +119,9 @@ fn overlaps_earlier(terms: &[u64], i: usize, from: u64, to: u64) -> bool
     false
 }
 
-// The rule that term i breaks. It is compared with the earlier terms only where it starts before the latest end of those of its map's slot.
-fn term_fault(terms: &[u64], i: usize, ends: &[u64; SLOTS]) -> Fault
+// The rule that term i breaks.
+pub fn term_fault(terms: &[u64], i: usize) -> Fault
     requires { ⌜ numbersPerTerm * (i + 1) ≤ length (now terms) ⌝ }
-    requires { ⌜ Latest (now terms) i (now ends) ⌝ }
     ensures { λ r. ⌜ refusalIn r ≡ termFault (now (terms .entry)) i (daysOf (termAt (now (terms .entry)) i)) ⌝ }
 {
     match term_days(terms, i) {
@@ -113,62 +130,10 @@ fn term_fault(terms: &[u64], i: usize, ends: &[u64; SLOTS]) -> Fault
             if to <= from {
                 return Fault::EmptyOrOverlapping(i);
             }
-            if ends[slot_of(terms[TERM_SIZE * i])] <= from {
-                return Fault::Nothing;
-            }
             if overlaps_earlier(terms, i, from, to) {
                 return Fault::EmptyOrOverlapping(i);
             }
             Fault::Nothing
         }
     }
-}
-
-fn slot_of(map: u64) -> usize
-    ensures { λ r. ⌜ (r ≡ map % 4096) × (r < 4096) ⌝ }
-{
-    (map % 4096) as usize
-}
-
-// The end of term i, or 0 for a bad date.
-fn end_in(terms: &[u64], i: usize) -> u64
-    requires { ⌜ numbersPerTerm * (i + 1) ≤ length (now terms) ⌝ }
-    ensures { λ r. ⌜ r ≡ endIn (daysOf (termAt (now (terms .entry)) i)) ⌝ }
-{
-    match term_days(terms, i) {
-        Days::Bad => 0,
-        Days::FromTo(_, to) => to,
-    }
-}
-
-// Keeps the latest end of the slot's terms, with term i among them.
-fn keep_end(terms: &[u64], i: usize, ends: &mut [u64; SLOTS])
-    requires { ⌜ numbersPerTerm * (i + 1) ≤ length (now terms) ⌝ }
-    requires { ⌜ Latest (now terms) i (now ends) ⌝ }
-    ensures { λ r. ⌜ Latest (now (terms .entry)) (i + 1) (now (ends .exit)) ⌝ }
-{
-    let slot = slot_of(terms[TERM_SIZE * i]);
-    let end = end_in(terms, i);
-    if ends[slot] < end {
-        ends[slot] = end;
-    }
-}
-
-pub fn terms_fault(terms: &[u64]) -> Fault
-    ensures { λ r. ⌜ refusalIn r ≡ termsRefusal (now (terms .entry)) ⌝ }
-{
-    let count = terms.len() / TERM_SIZE;
-    let mut ends = [0u64; SLOTS];
-    let mut i = 0;
-    while i < count {
-        let fault = term_fault(terms, i, &ends);
-        match fault {
-            Fault::Nothing => {}
-            Fault::BadDate(_) => return fault,
-            Fault::EmptyOrOverlapping(_) => return fault,
-        }
-        keep_end(terms, i, &mut ends);
-        i += 1;
-    }
-    Fault::Nothing
 }

@@ -1,15 +1,11 @@
--- The latest ends of terms, by the remainder of their map's number: what lets most terms pass without a look at the earlier ones. Definitions only; assumes nothing.
+-- The latest ends of terms, by the remainder of their map's number: what lets most terms pass without a look at the earlier ones. Definitions only; assumes
+-- nothing.
 use Prim.Native.Nat.{ℕ, _%_, _≤_, _<_}
 use mathlib.Core.Path.{_≡_}
-use mathlib.Core.Option.{Option, none, some}
 use mathlib.Core.List.{List}
 use lib.ListN.{length, getD}
-use Rattle.catalogue.specs.Terms.{Days, termAt, daysOf}
-
--- the end of a term, or 0 for a bad date
-abbrev pub endIn : Option Days → ℕ
-endIn none = 0
-endIn (some d) = d .to
+use Rattle.catalogue.specs.Terms.{termAt, daysOf}
+use Rattle.pool_terms.specs.Answers.{endIn}
 
 -- of the first i terms, none ends later than its slot says
 pub record Latest (terms : List ℕ) (i : ℕ) (ends : List ℕ) : Type 0 where

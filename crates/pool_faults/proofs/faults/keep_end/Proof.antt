@@ -1,9 +1,9 @@
--- `terms::keep_end` meets its contract: the slot's end only grows. Assumes nothing.
+-- `faults::keep_end` meets its contract: the slot's end only grows. Assumes nothing.
 use Rattle.catalogue.specs.Terms.{termAt}
-use Rattle.pool_terms.proofs.TermScan.{end-kept, end-stored}
+use Rattle.pool_faults.proofs.TermScan.{end-kept, end-stored}
 use borrow.Author.Needs.{needs}
-use Rattle.pool_terms.proofs.terms.keep_end.Statement.{statement}
-use Rattle.pool_terms.proofs.terms.keep_end.Tie as tie
+use Rattle.pool_faults.proofs.faults.keep_end.Statement.{statement}
+use Rattle.pool_faults.proofs.faults.keep_end.Tie as tie
 
 mul-slot-of : tie.Need-mul-slot-of
 mul-slot-of c = search needs

@@ -1,30 +1,28 @@
--- is left of the terms. Assumes nothing.
+-- `faults::terms_fault` meets its contract. The invariant: the terms below i break no rule. The measure is what is left of the terms. Assumes nothing.
 use Prim.Native.Nat.{_-_, _≤_}
-use mathlib.Core.Path.{_≡_, refl, sym, ap, _∙_}
-use mathlib.Core.Option.{none}
-use Rattle.definitions.specs.Refusals.{firstBelow}
-use Rattle.laws.specs.ListLaws.FirstBelow.{none-below-zero, none-below-more, none-below-end, first-found}
-use Rattle.catalogue.specs.Terms.{termAt, daysOf, termFault, termsRefusal}
+use mathlib.Core.Path.{sym, ap, _∙_}
+use Rattle.laws.specs.ListLaws.FirstBelow.{none-below-more, none-below-end, first-found}
+use Rattle.catalogue.specs.Terms.{termsRefusal}
 use Rattle.pool_terms.specs.Answers.{refusalIn}
-use Rattle.pool_terms.specs.Ends.{Latest}
-use Rattle.pool_terms.proofs.TermScan.{latest-starts}
+use Rattle.pool_faults.specs.Apart.{Faultless}
 use borrow.Author.Needs.{needs}
-use Rattle.pool_terms.proofs.terms.terms_fault.Statement.{statement}
-use Rattle.pool_terms.proofs.terms.terms_fault.Tie as tie
+use Rattle.pool_faults.proofs.faults.terms_fault.Statement.{statement}
+use Rattle.pool_faults.proofs.faults.terms_fault.Tie as tie
 
 abbrev Inv-loop : tie.InvT-loop
-Inv-loop terms count ends₀ i₀ ends i = (i ≤ count) × (firstBelow i (λ k. termFault terms k (daysOf (termAt terms k))) ≡ none) × Latest terms i ends
+Inv-loop terms count i₀ i = (i ≤ count) × Faultless terms i
 
 abbrev μ-loop : tie.MeasureT-loop
-μ-loop terms count ends₀ i₀ ends i = count - i
+μ-loop terms count i₀ i = count - i
+
+faultless-terms-requires : tie.Need-faultless-terms-requires Inv-loop μ-loop
+faultless-terms-requires c κs = search needs
 
 loop-holds : tie.Need-loop-holds Inv-loop μ-loop
-loop-holds c = (search needs, none-below-zero _, latest-starts _ _ refl)
+loop-holds c = c .faultless-terms .ensures
 
 term-fault-requires : tie.Need-term-fault-requires Inv-loop μ-loop
-term-fault-requires c κs =
-    let at-loop = c .before .before in
-    (search needs, at-loop .loop .inv .2)
+term-fault-requires c κs = search needs
 
 enum-told : tie.Need-enum-told Inv-loop μ-loop
 enum-told c = search needs
@@ -36,7 +34,7 @@ returns : tie.Need-returns Inv-loop μ-loop
 unfolding termsRefusal
 returns c =
     let at-fault = c .before .before in
-    let at-test = at-fault .before .before in
+    let at-test = at-fault .before in
     let I = at-test .before .loop .inv in
     let found = ap refusalIn (c .enum-told2 .given .1) in
     found ∙ sym (first-found _ _ (at-test .before .loop .i) _ (at-test .loop-test .taken) (I .1) (sym (at-fault .term-fault .ensures) ∙ found))
@@ -48,16 +46,10 @@ returns-2 : tie.Need-returns-2 Inv-loop μ-loop
 unfolding termsRefusal
 returns-2 c =
     let at-fault = c .before .before in
-    let at-test = at-fault .before .before in
+    let at-test = at-fault .before in
     let I = at-test .before .loop .inv in
     let found = ap refusalIn (c .enum-told3 .given .1) in
     found ∙ sym (first-found _ _ (at-test .before .loop .i) _ (at-test .loop-test .taken) (I .1) (sym (at-fault .term-fault .ensures) ∙ found))
-
-keep-end-requires : tie.Need-keep-end-requires Inv-loop μ-loop
-keep-end-requires c κs =
-    let at-fault = c .before .before .before in
-    let at-loop = at-fault .before .before .before in
-    (search needs, at-loop .loop .inv .2)
 
 add-i : tie.Need-add-i Inv-loop μ-loop
 add-i c = search needs
@@ -67,11 +59,10 @@ loop-less c = search needs
 
 loop-again : tie.Need-loop-again Inv-loop μ-loop
 loop-again c =
-    let at-told = c .before .before in
-    let at-fault = at-told .before .before in
-    let at-loop = at-fault .before .before .before in
-    let nothing = ap refusalIn (at-told .enum-told .given .1) in
-    (search needs, none-below-more _ (at-loop .loop .i) (at-loop .loop .inv .1) (sym (at-fault .term-fault .ensures) ∙ nothing), c .keep-end .ensures)
+    let at-fault = c .before .before in
+    let at-loop = at-fault .before .before in
+    let nothing = ap refusalIn (c .enum-told .given .1) in
+    (search needs, none-below-more _ (at-loop .loop .i) (at-loop .loop .inv .1) (sym (at-fault .term-fault .ensures) ∙ nothing))
 
 returns-3 : tie.Need-returns-3 Inv-loop μ-loop
 unfolding termsRefusal
@@ -85,6 +76,7 @@ terms-fault-spec =
     (tie.spec
     Inv-loop
     μ-loop
+    faultless-terms-requires
     loop-holds
     term-fault-requires
     enum-told
@@ -92,7 +84,6 @@ terms-fault-spec =
     returns
     enum-told-3
     returns-2
-    keep-end-requires
     add-i
     loop-less
     loop-again

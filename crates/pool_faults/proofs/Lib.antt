@@ -1,0 +1,3 @@
+pub mod Neighbours
+pub mod Taking
+pub mod TermScan
