@@ -19,7 +19,7 @@ use Rattle.result_reader.specs.declared.Ascent.the-variants.{Empty, Last
 
 -- ---- labels
 
-pub turn-step : (regions label place : ℕ) (s : Turned) (es : List Entry)
+turn-step : (regions label place : ℕ) (s : Turned) (es : List Entry)
     → turnsFrom regions (turnedOf regions s label place) es ≡ turnsFrom regions s (record { place = place; numbers = label ∷ [] } ∷ es)
 unfolding turnsFrom turns
 turn-step regions label place (Started n) es = go (leb label n) (inTurn regions n label)
@@ -30,6 +30,10 @@ turn-step regions label place (Started n) es = go (leb label n) (inTurn regions 
     go false true = refl
     go false false = refl
 turn-step regions label place (OutAt first) es = refl
+
+pub turn-next : (regions label place : ℕ) (s t : Turned) → t ≡ turnedOf regions s label place → (es : List Entry)
+    → turnsFrom regions t es ≡ turnsFrom regions s (record { place = place; numbers = label ∷ [] } ∷ es)
+turn-next regions label place s t e es = ap (λ u. turnsFrom regions u es) e ∙ turn-step regions label place s es
 
 pub turned-started : (regions label place : ℕ) {n m : ℕ} {state : Turned} {turn : Turn} → state ≡ Started n → turn ≡ turnOf regions n label → turn ≡ Next m
     → Started m ≡ turnedOf regions state label place
@@ -54,7 +58,7 @@ unfolding faultBehind ascentFault
 first-behind key e [] = refl
 first-behind key e (f ∷ es) = ap (λ r. cond (listLt (key (e .numbers)) (key (f .numbers))) r (some (f .place))) (first-behind key f es)
 
-pub ascent-step : (rows : Bool) (s : Ascent) (k : Key) (place : ℕ) (es : List Entry)
+ascent-step : (rows : Bool) (s : Ascent) (k : Key) (place : ℕ) (es : List Entry)
     → ascentFrom rows (ascentOf rows s k place) es ≡ ascentFrom rows s (record { place = place; numbers = keyWritten rows k } ∷ es)
 unfolding ascentFrom faultBehind
 ascent-step rows Empty k place es =
@@ -67,6 +71,10 @@ ascent-step rows (Last before) k place es =
     go true = refl
     go false = refl
 ascent-step rows (BrokenAt first) k place es = refl
+
+pub ascent-next : (rows : Bool) (s t : Ascent) (k : Key) (place : ℕ) → t ≡ ascentOf rows s k place → (es : List Entry)
+    → ascentFrom rows t es ≡ ascentFrom rows s (record { place = place; numbers = keyWritten rows k } ∷ es)
+ascent-next rows s t k place e es = ap (λ u. ascentFrom rows u es) e ∙ ascent-step rows s k place es
 
 -- the order of two keys, number by number, from the last on
 pub tail-rows : {rows : Bool} (l m : Key) {s t : Bool} → rows ≡ true → s ≡ (ltb (l .e) (m .e) || (eqb (l .e) (m .e) && false))

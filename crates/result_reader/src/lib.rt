@@ -123,7 +123,16 @@ fn pair(bytes: &[u8], at: usize) -> KeyRead
 {
     match item(bytes, at, MOST) {
         ItemRead::Item(a, then) => match two(bytes, then) {
-            TwoRead::Two(b, c, next) => KeyRead::Entry(Key { a, b, c, d: 0, e: 0 }, next),
+            TwoRead::Two(b, c, next) => KeyRead::Entry(
+                Key {
+                    a,
+                    b,
+                    c,
+                    d: 0,
+                    e: 0,
+                },
+                next,
+            ),
             TwoRead::Fault(place) => KeyRead::Fault(place),
         },
         ItemRead::Fault(place) => KeyRead::Fault(place),
@@ -292,7 +301,10 @@ fn labels_list(bytes: &[u8], at: usize, regions: u64, place: usize) -> ListRead
     match item(bytes, at, MOST) {
         ItemRead::Item(count, first) => match walk_labels(bytes, first, count, regions) {
             TurnsRead::Turns(next, state) => ListRead::List(
-                Part { first, count: count as usize },
+                Part {
+                    first,
+                    count: count as usize,
+                },
                 next,
                 turns_breach(state, regions, place),
             ),
@@ -321,7 +333,10 @@ fn tallies_list(bytes: &[u8], at: usize) -> ListRead
     match item(bytes, at, MOST) {
         ItemRead::Item(count, first) => match judge_twice(bytes, first, count as usize) {
             Judged::Behind(next) => ListRead::List(
-                Part { first, count: count as usize },
+                Part {
+                    first,
+                    count: count as usize,
+                },
                 next,
                 Breach::Nowhere,
             ),
@@ -339,7 +354,10 @@ fn keys_list(rows: bool, bytes: &[u8], at: usize) -> ListRead
     match item(bytes, at, MOST) {
         ItemRead::Item(count, first) => match walk_keys(rows, bytes, first, count) {
             AscentRead::Climbed(next, state) => ListRead::List(
-                Part { first, count: count as usize },
+                Part {
+                    first,
+                    count: count as usize,
+                },
                 next,
                 ascent_breach(rows, state),
             ),
@@ -450,7 +468,13 @@ fn judge_result(bytes: &[u8]) -> ResultRead
         OpeningRead::Opening(regions, place, at) => match front(bytes, at, regions, place) {
             ListsRead::Lists(labels, tallies, middle, first) => match back(bytes, middle) {
                 ListsRead::Lists(pairs, rows, _, second) => judged(
-                    Plan { regions, labels, tallies, pairs, rows },
+                    Plan {
+                        regions,
+                        labels,
+                        tallies,
+                        pairs,
+                        rows,
+                    },
                     first_breach(first, second),
                 ),
                 ListsRead::Fault(fault) => ResultRead::Refused(14, fault),
@@ -491,6 +515,14 @@ fn fits(plan: Plan, labels: usize, tallies: usize, pairs: usize, rows: usize) ->
     d.count <= rows / ROW_SIZE
 }
 
+// Stores the numbers of a list that was judged before, `size` of them an entry.
+fn fill_list(bytes: &[u8], part: Part, size: usize, out: &mut [u64])
+    requires { ⌜ (PartHeld size (now bytes) part) × (part .count * size ≤ length (now out)) ⌝ }
+    ensures { λ r. ⌜ now (out .exit) ≡ overwrite (partNumbers size (now (bytes .entry)) part) (now (out .entry)) ⌝ }
+{
+    fill_numbers(bytes, part.first, part.count * size, &mut *out);
+}
+
 // Fills the lists with what was judged before.
 fn fill(
     bytes: &[u8],
@@ -511,10 +543,10 @@ fn fill(
     let b = plan.tallies;
     let c = plan.pairs;
     let d = plan.rows;
-    fill_numbers(bytes, a.first, a.count * LABEL_SIZE, &mut *labels);
-    fill_numbers(bytes, b.first, b.count * TALLIES_SIZE, &mut *tallies);
-    fill_numbers(bytes, c.first, c.count * PAIR_SIZE, &mut *pairs);
-    fill_numbers(bytes, d.first, d.count * ROW_SIZE, &mut *rows);
+    fill_list(bytes, a, LABEL_SIZE, &mut *labels);
+    fill_list(bytes, b, TALLIES_SIZE, &mut *tallies);
+    fill_list(bytes, c, PAIR_SIZE, &mut *pairs);
+    fill_list(bytes, d, ROW_SIZE, &mut *rows);
 }
 
 // Number 0, place 0, the region count and four counts of entries; or a refusal's number and place, and 0 for the rest.
@@ -576,7 +608,14 @@ pub extern "C" fn result_reader_read_result(
     match judge_result(bytes) {
         ResultRead::Sound(plan) => {
             if fits(plan, labels.len(), tallies.len(), pairs.len(), rows.len()) {
-                fill(bytes, plan, &mut *labels, &mut *tallies, &mut *pairs, &mut *rows);
+                fill(
+                    bytes,
+                    plan,
+                    &mut *labels,
+                    &mut *tallies,
+                    &mut *pairs,
+                    &mut *rows,
+                );
                 opened(plan)
             } else {
                 refused(10, 0)

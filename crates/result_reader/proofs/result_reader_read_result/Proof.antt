@@ -19,7 +19,7 @@ fill-requires : tie.Need-fill-requires
 fill-requires c κs =
     let roomy = c .before .before .before .before in
     let measured = roomy .before in
-    let known = measured .before .before .before in
+    let known = measured .before .before in
     ((subst (ResultTold _) (known .plan .given .1) (known .before .before .judge-result .ensures)) .held, room-known (sym (measured .fits2 .ensures) ∙ roomy .if1 .taken))
 
 opened-requires : tie.Need-opened-requires
@@ -54,7 +54,7 @@ returns c =
     let given = filled .before .before in
     let roomy = given .before .before .before in
     let measured = roomy .before in
-    let known = measured .before .before .before in
+    let known = measured .before .before in
     let each = filled .fill .ensures in
     answered-read (subst (ResultTold _) (known .plan .given .1) (known .before .before .judge-result .ensures)) _ _ _ _ (sym (measured .fits2 .ensures) ∙ roomy .if1 .taken) (c .opened .ensures)
     (each .0) (each .1 .0) (each .1 .1 .0) (each .1 .1 .1)
@@ -63,7 +63,7 @@ returns-2 : tie.Need-returns-2
 returns-2 c =
     let short = c .before in
     let measured = short .before in
-    let known = measured .before .before .before in
+    let known = measured .before .before in
     answered-short (subst (ResultTold _) (known .plan .given .1) (known .before .before .judge-result .ensures)) _ _ _ _ (sym (measured .fits2 .ensures) ∙ short .if1 .left) (c .refused .ensures)
 
 returns-3 : tie.Need-returns-3

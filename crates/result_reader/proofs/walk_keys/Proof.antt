@@ -1,10 +1,10 @@
 -- `result_reader::walk_keys` meets its contract. The loop's invariant is `Walking`: how the rest of the walk ends tells how all of it ends. The measure is how many
 -- entries are left. Assumes nothing.
 use borrow.Author.Needs.{needs}
-use mathlib.Core.Path.{ap, sym, _∙_}
+use mathlib.Core.Path.{ap, _∙_}
 use Rattle.result_reader.specs.Walks.{keySize, keyOf, ascentFrom}
 use Rattle.result_reader.specs.declared.Ascent.the-variants.{Empty}
-use Rattle.result_reader.proofs.Steps.{ascent-step}
+use Rattle.result_reader.proofs.Steps.{ascent-next}
 use Rattle.result_reader.proofs.Walking.{Walking, walking-starts, walking-ends, walking-stops, walking-goes-on}
 use Rattle.result_reader.proofs.walk_keys.Statement.{statement}
 use Rattle.result_reader.proofs.walk_keys.Tie as tie
@@ -39,7 +39,7 @@ loop-again c =
     let read = known .before .before in
     let turn = read .before in
     walking-goes-on _ _ _ (turn .before .loop .inv) (turn .loop-test .taken) (read .key-at .ensures ∙ ap (keyOf _ _) (known .key .given .1))
-    (λ es. ap (λ u. ascentFrom _ u es) (c .climb .ensures) ∙ ascent-step _ _ _ _ es)
+    (ascent-next _ _ _ (known .key .given .0 .0) _ (c .climb .ensures))
 
 enum-known-place : tie.Need-enum-known-place Inv-loop μ-loop
 enum-known-place c = c .match .keys2

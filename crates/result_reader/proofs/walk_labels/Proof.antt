@@ -1,10 +1,9 @@
 -- `result_reader::walk_labels` meets its contract. The loop's invariant is `Walking`: how the rest of the walk ends tells how all of it ends. The measure is how
 -- many labels are left. Assumes nothing.
 use borrow.Author.Needs.{needs}
-use mathlib.Core.Path.{ap, sym, _∙_}
 use Rattle.result_reader.specs.Walks.{turnsFrom}
 use Rattle.result_reader.specs.declared.Turned.the-variants.{Started}
-use Rattle.result_reader.proofs.Steps.{turn-step}
+use Rattle.result_reader.proofs.Steps.{turn-next}
 use Rattle.result_reader.proofs.Numbers.{item-found, item-fails, one-found, one-fails}
 use Rattle.result_reader.proofs.Walking.{Walking, walking-starts, walking-ends, walking-stops, walking-goes-on}
 use Rattle.result_reader.proofs.walk_labels.Statement.{statement}
@@ -40,7 +39,7 @@ loop-again c =
     let read = known .before .before in
     let turn = read .before in
     walking-goes-on _ _ _ (turn .before .loop .inv) (turn .loop-test .taken) (one-found _ _ (item-found _ _ _ (read .item .ensures) (known .label .given .1)))
-    (λ es. ap (λ u. turnsFrom _ u es) (c .turn .ensures) ∙ turn-step _ _ _ _ es)
+    (turn-next _ _ _ _ _ (c .turn .ensures))
 
 enum-known-place : tie.Need-enum-known-place Inv-loop μ-loop
 enum-known-place c = c .match .keys2
