@@ -3,7 +3,6 @@ use Prim.Native.Nat.{ℕ, _*_, _/_, _≤_, _<_}
 use native.Mathlib.Omega.{arith}
 use mathlib.Core.Path.{_≡_, refl, sym, ap, _∙_}
 use mathlib.Core.Bool.{Bool, true, false, _&&_, cond}
-use mathlib.Core.Option.{Option}
 use mathlib.Core.List.{List}
 use lib.ListN.{length}
 use lib.Dec.{leb}
@@ -13,7 +12,7 @@ use Rattle.definitions.specs.Lists.{overwrite}
 use Rattle.definitions.specs.Refusals.{orElse}
 use Rattle.laws.specs.ListLaws.Tests.{both}
 use Rattle.sheet.proofs.Filling.{held-length}
-use Rattle.results.specs.ResultAnswers.{ResultReading, wellFormed, refused, readResult, roomFor, readVerdict}
+use Rattle.results.specs.ResultAnswers.{wellFormed, refused, readResult, roomFor, readVerdict}
 use Rattle.result_reader.specs.Parts.{breachOf, partNumbers, resultIn, planBy, ResultHeld, roomIn, Room}
 use Rattle.result_reader.specs.Contract.{refusedAt, answerOf, answerIn, Answered}
 use Rattle.result_reader.specs.declared.Breach.{Breach}

@@ -3,20 +3,18 @@ use Prim.Native.Nat.{ℕ, _≤_, _<_}
 use native.Mathlib.Omega.{arith}
 use mathlib.Core.Path.{_≡_, refl, sym, ap, subst, _∙_}
 use mathlib.Core.Bool.{true, false}
-use mathlib.Core.Option.{Option, none, some}
 use mathlib.Core.List.{List, [], _∷_}
 use lib.ListN.{length, drop, getD, drop-of-length-le}
 use lib.Seq.{drop-cons}
 use borrow.Author.Tests.{eq-eqb, ne-eqb}
 use Rattle.definitions.specs.Limits.{talliesPerSpan, numbersPerPair, numbersPerRow}
 use Rattle.definitions.specs.Refusals.{orElse}
-use Rattle.definitions.specs.Scan.{concatMap}
 use Rattle.definitions.specs.SheetNumber.{found, failed, number}
-use Rattle.definitions.specs.Sheet.{give, andThen, times, end}
+use Rattle.definitions.specs.Sheet.{give, andThen, end}
 use Rattle.laws.specs.SheetReading.SheetLaws.{keeps-number, ends-inside, then-found, then-failed}
 use Rattle.sheet.proofs.Chains.{alike, within}
-use Rattle.results.specs.Result.{Result, Entry, Placed, resultOf, kind, entry, entries, result, turns, labelsFault, ascentFault, pairKey, rowKey, rulesFault}
-use Rattle.results.specs.ResultAnswers.{wellFormed, refused, judgedBy, reading, readResult}
+use Rattle.results.specs.Result.{Entry, Placed, resultOf, kind, entry, entries, result, ascentFault, pairKey, rulesFault}
+use Rattle.results.specs.ResultAnswers.{refused, judgedBy, reading, readResult}
 use Rattle.result_reader.specs.Parts.{breachOf, turnsFault, noFault, keyFault, ListHeld, opening, Lists₂, front, back, partEntries, OpeningHeld, FrontHeld, BackHeld}
 use Rattle.result_reader.specs.Parts.{resultIn, planBy, ResultTold}
 use Rattle.result_reader.specs.declared.Breach.{Breach}

@@ -9,7 +9,7 @@ use Rattle.definitions.specs.Limits.{numbersPerPair, numbersPerRow}
 use Rattle.definitions.specs.SheetNumber.{found, failed, number}
 use Rattle.definitions.specs.Sheet.{give, andThen, times}
 use Rattle.laws.specs.SheetReading.SheetLaws.{keeps-number, keeps-times, ends-inside, times-found, times-failed, then-found, then-failed}
-use Rattle.sheet.specs.Numbers.{upTo, itemsAt, valuesIn, itemOf, Told}
+use Rattle.sheet.specs.Numbers.{upTo, itemsAt, itemOf, Told}
 use Rattle.sheet.specs.declared.ItemRead.{ItemRead}
 use Rattle.sheet.specs.declared.ItemRead.the-variants.{Item, Fault}
 use Rattle.sheet.specs.declared.Judged.{Judged}

@@ -2,13 +2,13 @@
 use Prim.Native.Nat.{ℕ, suc, _-_, _≤_, _<_}
 use native.Mathlib.Omega.{arith}
 use mathlib.Core.Path.{_≡_, refl, sym, ap, subst, _∙_}
-use mathlib.Core.List.{List, [], _∷_}
+use mathlib.Core.List.{List, _∷_}
 use lib.ListN.{length, drop}
 use Rattle.definitions.specs.SheetNumber.{found, failed, number}
 use Rattle.definitions.specs.Sheet.{give, andThen, times}
 use Rattle.laws.specs.SheetReading.SheetLaws.{keeps-number, keeps-times, ends-inside, then-found, then-failed}
 use Rattle.results.specs.Result.{Entry, entry, timesEntry}
-use Rattle.result_reader.specs.Walks.{entriesAt, entriesOf, Walk, walked, stopped, Walked, Walks}
+use Rattle.result_reader.specs.Walks.{entriesAt, entriesOf, Walk, walked, stopped, Walks}
 
 module _ (n size offset : ℕ) (bytes : List ℕ) where
   entries-failed : {refusal place : ℕ} → times size number offset bytes ≡ failed refusal place → timesEntry (suc n) size offset bytes ≡ failed refusal place

@@ -4,7 +4,6 @@ use mathlib.Core.Path.{_≡_}
 use mathlib.Core.List.{List}
 use lib.ListN.{length}
 use Rattle.definitions.specs.Limits.{talliesPerSpan, numbersPerPair, numbersPerRow}
-use Rattle.results.specs.Result.{Result}
 use Rattle.results.specs.ResultAnswers.{ResultReading, wellFormed, refused, readVerdict, atExit}
 use Rattle.result_reader.specs.declared.Plan.{Plan}
 use Rattle.result_reader.specs.declared.ResultAnswer.{ResultAnswer}

@@ -2,6 +2,8 @@
 // remembered while it goes on, since a 14 behind it comes first. The lists are filled once all four are known to have room, so that a refusal leaves them
 // as they were. Counts are of entries, and none is multiplied before its list is known to have room.
 ghost use mathlib.Core.Path.{_≡_};
+ghost use mathlib.Core.Bool.{true, false};
+ghost use mathlib.Core.List.{[]};
 ghost use Prim.Native.Nat.{_*_, _≤_};
 ghost use lib.ListN.{length, drop};
 ghost use Rattle.definitions.specs.Limits.{talliesPerSpan, numbersPerPair, numbersPerRow};
@@ -11,14 +13,13 @@ ghost use Rattle.definitions.specs.SheetNumber.{number};
 ghost use Rattle.definitions.specs.Sheet.{times};
 ghost use Rattle.definitions.specs.Sort.{listLt};
 ghost use Rattle.sheet.specs.Numbers.{itemsAt, Told};
-ghost use Rattle.results.specs.Result.{labelsFault, ascentFault};
-ghost use Rattle.result_reader.specs.Walks.{turnedOf, turnsFrom, turnsWalk, keyTail, keyNumbers, keySize, twoOf, keyOf, ascentOf, ascentFrom, ascentWalk, Walks};
+ghost use Rattle.results.specs.Result.{labelsFault};
+ghost use Rattle.result_reader.specs.Walks.{turnedOf, turnsFrom, turnsWalk, Walks};
+ghost use Rattle.result_reader.specs.Walks.{keyTail, keyNumbers, keySize, twoOf, keyOf, ascentOf, ascentFrom, ascentWalk};
 ghost use Rattle.result_reader.specs.Parts.{breachOf, turnsFault, noFault, keyFault, ListTold, OpeningTold, FrontTold, BackTold, ResultTold};
 ghost use Rattle.result_reader.specs.Parts.{planBy, PlanHeld, PartHeld, partNumbers, roomIn, Room};
 ghost use Rattle.result_reader.specs.declared.Turned.the-variants.{Started};
 ghost use Rattle.result_reader.specs.declared.Ascent.the-variants.{Empty};
-ghost use mathlib.Core.Bool.{true, false};
-ghost use mathlib.Core.List.{[]};
 ghost use Rattle.result_reader.specs.Contract.{answerIn, refusedAt, Reads};
 use result_writer::Turn;
 use result_writer::after_label;

@@ -7,7 +7,8 @@ fill-list-requires : tie.Need-fill-list-requires
 fill-list-requires c κs =
     let parts = c .before .before .before in
     let lists = parts .before .before .before in
-    let given = lists .before .before .before .before .pre in
+    let borrowed = lists .before .before in
+    let given = borrowed .before .before .pre in
     (given .0 .for-labels, given .1 .for-labels)
 
 fill-list-requires-2 : tie.Need-fill-list-requires-2
@@ -16,7 +17,8 @@ fill-list-requires-2 c κs =
     let at-labels = labels-left .before .before in
     let parts = at-labels .before .before .before in
     let lists = parts .before .before .before in
-    let given = lists .before .before .before .before .pre in
+    let borrowed = lists .before .before in
+    let given = borrowed .before .before .pre in
     (given .0 .for-tallies, given .1 .for-tallies)
 
 fill-list-requires-3 : tie.Need-fill-list-requires-3
@@ -27,7 +29,8 @@ fill-list-requires-3 c κs =
     let at-labels = labels-left .before .before in
     let parts = at-labels .before .before .before in
     let lists = parts .before .before .before in
-    let given = lists .before .before .before .before .pre in
+    let borrowed = lists .before .before in
+    let given = borrowed .before .before .pre in
     (given .0 .for-pairs, given .1 .for-pairs)
 
 fill-list-requires-4 : tie.Need-fill-list-requires-4
@@ -40,7 +43,8 @@ fill-list-requires-4 c κs =
     let at-labels = labels-left .before .before in
     let parts = at-labels .before .before .before in
     let lists = parts .before .before .before in
-    let given = lists .before .before .before .before .pre in
+    let borrowed = lists .before .before in
+    let given = borrowed .before .before .pre in
     (given .0 .for-rows, given .1 .for-rows)
 
 same-length : tie.Need-same-length

@@ -17,7 +17,8 @@ fits-requires c κs = tt
 
 fill-requires : tie.Need-fill-requires
 fill-requires c κs =
-    let roomy = c .before .before .before .before in
+    let given = c .before .before in
+    let roomy = given .before .before in
     let measured = roomy .before in
     let known = measured .before .before in
     ((subst (ResultTold _) (known .plan .given .1) (known .before .before .judge-result .ensures)) .held, room-known (sym (measured .fits2 .ensures) ∙ roomy .if1 .taken))
