@@ -72,6 +72,10 @@ use Rattle.results.specs.Result.{Result}
 use Rattle.results.specs.ResultAnswers.{readResult, wellFormed, Writes}
 use Rattle.results.specs.Calls.{InMemory}
 use Rattle.results.specs.Calls as written
+use Rattle.result_reader.specs.Contract.{Reads}
+use Rattle.result_reader.specs.TwoCalls.{Enough, Holds}
+use Rattle.result_reader.specs.TwoCalls as two
+use Rattle.result_reader.specs.declared.ResultAnswer.{ResultAnswer}
 
 -- ---- 2. Exact: the hypotenuse, the order of widths, and the Rust's own steps
 
@@ -132,6 +136,12 @@ printed-j = case-j.printedJ
 pub written-reads : {r : Result} {lent lent′ : List ℕ} {answer : Answer} → InMemory r → Writes r lent answer lent′ → answer .number ≡ 0
     → readResult (take (answer .value) lent′) ≡ wellFormed r
 written-reads = written.written-call
+
+-- the same over two calls: what the writer left, the reader reads back, entry by entry, into lists that are long enough
+pub written-reads-back : {r : Result} {lent lent′ : List ℕ} {written : Answer} {labels tallies pairs rows labels′ tallies′ pairs′ rows′ : List ℕ} {answer : ResultAnswer}
+    → InMemory r → Writes r lent written lent′ → written .number ≡ 0 → Enough r labels tallies pairs rows
+    → Reads (take (written .value) lent′) labels tallies pairs rows answer labels′ tallies′ pairs′ rows′ → Holds r answer labels′ tallies′ pairs′ rows′
+written-reads-back = two.written-reads-back
 
 -- ---- request 2: the share is exact, and there is no other
 

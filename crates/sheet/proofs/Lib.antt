@@ -6,3 +6,4 @@ pub mod Limits
 pub mod Chains
 pub mod Found
 pub mod Answering
+pub mod ShortNumbers

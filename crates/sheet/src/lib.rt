@@ -3,7 +3,7 @@
 ghost use mathlib.Core.Path.{_≡_};
 ghost use Prim.Native.Nat.{_*_, _≤_, _<_};
 ghost use mathlib.Core.Bool.{_&&_};
-ghost use lib.Dec.{leb};
+ghost use lib.Dec.{leb, ltb};
 ghost use lib.ListN.{length, drop};
 ghost use Rattle.definitions.specs.SheetNumber as grammar;
 ghost use Rattle.definitions.specs.Lists.{overwrite};
@@ -61,6 +61,33 @@ pub fn number(bytes: &[u8], at: usize) -> NumberRead
     NumberRead::Short
 }
 
+// A second byte that ends a number and is not 0.
+fn ends_short(byte: u64) -> bool
+    ensures { λ r. ⌜ r ≡ (ltb 0 byte && ltb byte 128) ⌝ }
+{
+    0 < byte && byte < 128
+}
+
+// The same. Most numbers have one byte or two, which are read without a loop; what begins otherwise, `number` reads.
+pub fn number_at(bytes: &[u8], at: usize) -> NumberRead
+    requires { ⌜ at ≤ length (now bytes) ⌝ }
+    ensures { λ r. ⌜ grammar.number at (drop at (now (bytes .entry))) ≡ numberOf (now (bytes .entry)) at r ⌝ }
+{
+    if at < bytes.len() {
+        let first = wide(bytes[at]);
+        if first < 128 {
+            return NumberRead::Value(first, at + 1);
+        }
+        if at + 1 < bytes.len() {
+            let second = wide(bytes[at + 1]);
+            if ends_short(second) {
+                return NumberRead::Value(first % 128 + second * 128, at + 2);
+            }
+        }
+    }
+    number(bytes, at)
+}
+
 // ---- numbers of at most so much, one after the other
 
 const MOST: u64 = 0xffff_ffff_ffff_ffff;
@@ -68,17 +95,17 @@ const MOST: u64 = 0xffff_ffff_ffff_ffff;
 const CELL_MOST: u64 = 255;
 
 // A number, with the offset behind it; or the place where the sheet is refused 14.
-enum ItemRead {
+pub enum ItemRead {
     Item(u64, usize),
     Fault(usize),
 }
 
 // The number at an offset, which is to be at most `most`.
-fn item(bytes: &[u8], at: usize, most: u64) -> ItemRead
+pub fn item(bytes: &[u8], at: usize, most: u64) -> ItemRead
     requires { ⌜ at ≤ length (now bytes) ⌝ }
     ensures { λ r. ⌜ upTo most at (drop at (now (bytes .entry))) ≡ itemOf (now (bytes .entry)) r ⌝ }
 {
-    match number(bytes, at) {
+    match number_at(bytes, at) {
         NumberRead::Value(value, next) => {
             if value <= most {
                 ItemRead::Item(value, next)
@@ -92,13 +119,13 @@ fn item(bytes: &[u8], at: usize, most: u64) -> ItemRead
 }
 
 // The offset behind some numbers; or the place where the sheet is refused 14.
-enum Judged {
+pub enum Judged {
     Behind(usize),
     Faulty(usize),
 }
 
 // Judges `count` numbers of at most `most` each.
-fn judge(bytes: &[u8], at: usize, count: usize, most: u64) -> Judged
+pub fn judge(bytes: &[u8], at: usize, count: usize, most: u64) -> Judged
     requires { ⌜ at ≤ length (now bytes) ⌝ }
     ensures { λ r. ⌜ Told (now (bytes .entry)) (itemsAt (upTo most) (now (bytes .entry)) at count) r ⌝ }
 {
@@ -119,7 +146,7 @@ fn judge(bytes: &[u8], at: usize, count: usize, most: u64) -> Judged
 }
 
 // Stores `count` numbers that were judged before.
-fn fill_numbers(bytes: &[u8], at: usize, count: usize, out: &mut [u64])
+pub fn fill_numbers(bytes: &[u8], at: usize, count: usize, out: &mut [u64])
     requires { ⌜ (Held grammar.number (now bytes) at count) × (count ≤ length (now out)) ⌝ }
     ensures { λ r. ⌜ now (out .exit) ≡ overwrite (valuesAt grammar.number (now (bytes .entry)) at count) (now (out .entry)) ⌝ }
 {

@@ -6,8 +6,8 @@ use Rattle.sheet.proofs.Items.{upTo-allowed, upTo-over, upTo-failed}
 use Rattle.sheet.proofs.item.Statement.{statement}
 use Rattle.sheet.proofs.item.Tie as tie
 
-number-requires : tie.Need-number-requires
-number-requires c κs = search needs
+number-at-requires : tie.Need-number-at-requires
+number-at-requires c κs = search needs
 
 enum-known-value : tie.Need-enum-known-value
 enum-known-value c = c .match .keys1
@@ -19,22 +19,22 @@ enum-told-2 : tie.Need-enum-told-2
 enum-told-2 c = c .match .keys3
 
 returns : tie.Need-returns
-returns c = upTo-allowed _ _ _ (c .before .before .before .before .number .ensures ∙ ap (numberOf _ _) (c .before .before .value .given .1)) (c .if1 .taken)
+returns c = upTo-allowed _ _ _ (c .before .before .before .before .number-at .ensures ∙ ap (numberOf _ _) (c .before .before .value .given .1)) (c .if1 .taken)
 
 returns-2 : tie.Need-returns-2
-returns-2 c = upTo-over _ _ _ (c .before .before .before .before .number .ensures ∙ ap (numberOf _ _) (c .before .before .value .given .1)) (c .if1 .left)
+returns-2 c = upTo-over _ _ _ (c .before .before .before .before .number-at .ensures ∙ ap (numberOf _ _) (c .before .before .value .given .1)) (c .if1 .left)
 
 returns-3 : tie.Need-returns-3
-returns-3 c = upTo-failed _ _ _ (c .before .before .number .ensures ∙ ap (numberOf _ _) (c .enum-told .given .1))
+returns-3 c = upTo-failed _ _ _ (c .before .before .number-at .ensures ∙ ap (numberOf _ _) (c .enum-told .given .1))
 
 returns-4 : tie.Need-returns-4
-returns-4 c = upTo-failed _ _ _ (c .before .before .number .ensures ∙ ap (numberOf _ _) (c .enum-told2 .given .1))
+returns-4 c = upTo-failed _ _ _ (c .before .before .number-at .ensures ∙ ap (numberOf _ _) (c .enum-told2 .given .1))
 
 pub item-spec : {M : Type 1} → statement M
 item-spec =
     tie.close
     (tie.spec
-    number-requires
+    number-at-requires
     enum-known-value
     enum-told
     enum-told-2
