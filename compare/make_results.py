@@ -17,7 +17,6 @@ EMPTY = 0, [], [], [], []
 SMALL = 2, [1, 1, 0, 2, 1], [3, 2, 1, 0], [0, 1, 2, 1, 1, 2], [1, 8, 8, 8, 16, 0, 300, 8, 16, 16]
 WIDE = 1, [0, 1], [MOST, 2 ** 63], [0, 0, MOST, 0, 1, 0, 2 ** 32, 0, 0], [MOST, 0, 0, 0, 2 ** 63, 0, 0, 0, 0, MOST]
 LEVEL = 3, [1, 2, 3, 3, 0], [], [], [3, 1, 2, 3, 4, 7, 1, 2, 3, 4]
-ROOMS = tuple(2 ** 16 for _ in SIZES)
 
 
 def runs(most):
@@ -40,7 +39,7 @@ def lengths(of):
 
 def good():
     for of in (EMPTY, SMALL, WIDE, LEVEL, *runs(40)):
-        yield sheet(of), lengths(of)
+        yield sheet(of), *lengths(of)
 
 
 def each_byte():
@@ -49,7 +48,7 @@ def each_byte():
         data = sheet(of)
         for at, byte in enumerate(data):
             for other in sorted({0, 127, 128, 255, byte ^ 1, byte ^ 128, (byte + 1) % 256} - {byte}):
-                yield data[:at] + bytes([other]) + data[at + 1:], ROOMS
+                yield data[:at] + bytes([other]) + data[at + 1:]
 
 
 def wrong_counts():
@@ -60,17 +59,17 @@ def wrong_counts():
             for count in (2 ** 63, MOST, 2 ** 62, 2 ** 61, 2 ** 32, 257, 256, right + 1, max(right - 1, 0)):
                 whole = parts(of, {k: count})
                 at = 2 + sum(1 + len(each) for each in of[1:k])
-                yield b''.join(whole), ROOMS
-                yield b''.join(whole[:at + 1]), ROOMS
+                yield b''.join(whole)
+                yield b''.join(whole[:at + 1])
 
 
 def early_ends():
     for of in (SMALL, WIDE, LEVEL, runs(3)[2]):
         data = sheet(of)
         for end in range(len(data)):
-            yield data[:end], ROOMS
+            yield data[:end]
         for more in (b'\0', b'\x80', b'\2\0\0\0\0\0'):
-            yield data + more, ROOMS
+            yield data + more
 
 
 def broken():
@@ -85,16 +84,16 @@ def broken():
 
 def rules():
     for of in broken():
-        yield sheet(of), ROOMS
+        yield sheet(of)
 
 
 def ill_formed_behind():
     """14 behind a 15: an early end, bytes left over, a number too long"""
     for of in list(broken())[::3]:
         data = sheet(of)
-        yield data[:-1], ROOMS
-        yield data + b'\0', ROOMS
-        yield data[:-1] + b'\xff' * 10, ROOMS
+        yield data[:-1]
+        yield data + b'\0'
+        yield data[:-1] + b'\xff' * 10
 
 
 def one_short():
@@ -103,9 +102,9 @@ def one_short():
         for short in itertools.product((0, 1), repeat=4):
             rooms = tuple(room - cut for room, cut in zip(lengths(of), short))
             if min(rooms) >= 0:
-                yield sheet(of), rooms
+                yield sheet(of), *rooms
     for data in (sheet((3, *SMALL[1:])), sheet(SMALL)[:-1]):
-        yield data, (0, 0, 0, 0)
+        yield data, 0, 0, 0, 0
 
 
 # Numbers with groups of 0 at the end. They are read as they are written here while document 01's words hold; what is answered to them stands in
@@ -117,17 +116,20 @@ def padded():
             for groups in range(1, 11 - len(number)):
                 long = number[:-1] + bytes([number[-1] | 128]) + b'\x80' * (groups - 1) + b'\0'
                 if groups in (1, 2, 10 - len(number)):
-                    yield b''.join(numbers[:k]) + long + b''.join(numbers[k + 1:]), ROOMS
+                    yield b''.join(numbers[:k]) + long + b''.join(numbers[k + 1:])
 
 
 def kinds():
     for kind in (0, 1, 3, 130, 258, 2 ** 32 + 2, MOST):
-        yield group_bytes(kind) + sheet(SMALL)[1:], ROOMS
+        yield group_bytes(kind) + sheet(SMALL)[1:]
 
 
 def reads():
-    for source in (good, kinds, each_byte, wrong_counts, early_ends, rules, ill_formed_behind, one_short, padded):
-        yield from source()
+    """bytes, and the lengths of the four lists; where none are given, one number a byte, which is enough"""
+    for source in (good, one_short):
+        yield from ((data, rooms) for data, *rooms in source())
+    for source in (kinds, each_byte, wrong_counts, early_ends, rules, ill_formed_behind, padded):
+        yield from ((data, (len(data),) * len(SIZES)) for data in source())
 
 
 # ---- what is written
