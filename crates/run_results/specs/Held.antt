@@ -47,7 +47,8 @@ turns-greatest regions n k (x ∷ l) h = go (leb x n) refl (inTurn regions n x) 
     behind : List Entry
     behind = map unplaced (map single l)
 
-    go : (t : Bool) → leb x n ≡ t → (u : Bool) → inTurn regions n x ≡ u → (turns regions n behind ≡ started k → k ≡ max n (greatest l)) → (turns regions (n + 1) behind ≡ started k → k ≡ max (n + 1) (greatest l))
+    go : (t : Bool) → leb x n ≡ t → (u : Bool) → inTurn regions n x ≡ u
+        → (turns regions n behind ≡ started k → k ≡ max n (greatest l)) → (turns regions (n + 1) behind ≡ started k → k ≡ max (n + 1) (greatest l))
         → cond t (turns regions n behind) (cond u (turns regions (n + 1) behind) (outOfTurn 0)) ≡ started k → k ≡ max n (max x (greatest l))
     go true e u f a b h = omega (arith, leb-true x n e, a h)
     go false e true f a b h = omega (arith, eqb-true x (n + 1) (both (eqb x (n + 1)) (leb x regions) f .0), b h)
@@ -59,8 +60,9 @@ turns-greatest regions n k (x ∷ l) h = go (leb x n) refl (inTurn regions n x) 
 pub regions-greatest : (r : Result) → rulesFault (placed r) ≡ none → r .regions ≡ greatest (r .labels)
 unfolding rulesFault placed
 regions-greatest r h =
-    let first = or-else-none (labelsFault (r .regions) 0 (turns (r .regions) 0 (entriesIn 1 (r .labels)))) (orElse (ascentFault pairKey (placed r .pairs)) (ascentFault rowKey (placed r .rows))) h .0 in
-    reached (turns (r .regions) 0 (entriesIn 1 (r .labels))) refl first
+    let along = turns (r .regions) 0 (entriesIn 1 (r .labels)) in
+    let first = or-else-none (labelsFault (r .regions) 0 along) (orElse (ascentFault pairKey (placed r .pairs)) (ascentFault rowKey (placed r .rows))) h .0 in
+    reached along refl first
   where
     reached : (t : Turns) → turns (r .regions) 0 (entriesIn 1 (r .labels)) ≡ t → labelsFault (r .regions) 0 t ≡ none → r .regions ≡ greatest (r .labels)
     reached (started n) e f =

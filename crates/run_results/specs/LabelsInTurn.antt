@@ -7,16 +7,16 @@ use mathlib.Core.Path.{_≡_, refl, sym, ap, ap₂, _∙_}
 use mathlib.Core.Bool.{Bool, true, false, not, _&&_, cond}
 use mathlib.Core.Option.{none}
 use mathlib.Core.List.{List, [], _∷_, map}
-use lib.Dec.{leb, eqb}
-use lib.ListN.{length, getD}
+use lib.Dec.{eqb}
+use lib.ListN.{length}
 use borrow.Author.Tests.{le-leb, lt-leb, eqb-true, eqb-false, eq-eqb}
 use Rattle.definitions.specs.Scan.{run, concatMap, countBelow, bit, onlyIf}
 use Rattle.definitions.specs.Grid.{Map, cellCount}
 use Rattle.definitions.specs.Partition.{roots, labels, regionCount, walkableAt, isRoot}
 use Rattle.laws.specs.ListLaws.Lists.{All, done, more}
 use Rattle.laws.specs.OrderLaws.Ranks.{rank-lt}
-use Rattle.laws.specs.RegionLaws.Regions.{root, roots-rooted, root-isRoot, root-below}
-use Rattle.results.specs.Result.{Turns, started, outOfTurn, inTurn, turns, labelsFault}
+use Rattle.laws.specs.RegionLaws.Regions.{root, roots-rooted, root-isRoot}
+use Rattle.results.specs.Result.{started, turns, labelsFault}
 use Rattle.results.specs.ResultAnswers.{entriesIn}
 use Rattle.run_results.specs.EntriesOf.{unplaced, joined, entries-joined}
 
@@ -64,8 +64,13 @@ module _ (M : Map) where
   unfolding countBelow
   before-other c h = ap (λ b. before c + bit b) h ∙ omega arith
 
+  -- along the labels from cell c on all numbers are started in turn
   abbrev Goes : ℕ → ℕ → Type 0
   Goes c k = turns (regionCount M) (before c) (map unplaced (entriesFrom c k)) ≡ started (regionCount M)
+
+  -- the same where this label is next
+  abbrev GoesWith : ℕ → ℕ → ℕ → Type 0
+  GoesWith label c k = turns (regionCount M) (before c) (unplaced (single label) ∷ map unplaced (entriesFrom (suc c) k)) ≡ started (regionCount M)
 
   turns-from : (k c : ℕ) → c + k ≡ cellCount M → Goes c k
   unfolding turns run regionCount
@@ -77,16 +82,15 @@ module _ (M : Map) where
       below : c < cellCount M
       below = omega arith
 
-      known : Goes (suc c) k → (label : ℕ) → label ≤ before c → rootAt c ≡ false → turns (regionCount M) (before c) (unplaced (single label) ∷ map unplaced (entriesFrom (suc c) k)) ≡ started (regionCount M)
+      known : Goes (suc c) k → (label : ℕ) → label ≤ before c → rootAt c ≡ false → GoesWith label c k
       known rest label l e = rw (le-leb label (before c) l) (ap (λ n. turns (regionCount M) n (map unplaced (entriesFrom (suc c) k))) (sym (before-other c e)) ∙ rest)
 
-      new : Goes (suc c) k → (label : ℕ) → label ≡ before c + 1 → rootAt c ≡ true → turns (regionCount M) (before c) (unplaced (single label) ∷ map unplaced (entriesFrom (suc c) k)) ≡ started (regionCount M)
+      new : Goes (suc c) k → (label : ℕ) → label ≡ before c + 1 → rootAt c ≡ true → GoesWith label c k
       new rest label l e =
           rw (lt-leb label (before c) (omega arith), eq-eqb label (before c + 1) l, le-leb label (regionCount M) (omega (arith, rank-lt rootAt c (cellCount M) e below)))
           (ap (λ n. turns (regionCount M) n (map unplaced (entriesFrom (suc c) k))) (sym (before-root c e)) ∙ rest)
 
-      go : Goes (suc c) k → (w : Bool) → walkableAt M c ≡ w → (r : Bool) → eqb (root M c) c ≡ r
-          → turns (regionCount M) (before c) (unplaced (single (cond w (suc (before (root M c))) 0)) ∷ map unplaced (entriesFrom (suc c) k)) ≡ started (regionCount M)
+      go : Goes (suc c) k → (w : Bool) → walkableAt M c ≡ w → (r : Bool) → eqb (root M c) c ≡ r → GoesWith (cond w (suc (before (root M c))) 0) c k
       go rest false w r e = known rest 0 (omega arith) (ap (λ b. b && eqb (root M c) c) w)
       go rest true w true e = new rest (suc (before (root M c))) (omega (arith, ap before (eqb-true (root M c) c e))) (ap₂ _&&_ w e)
       go rest true w false e =

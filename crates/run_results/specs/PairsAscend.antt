@@ -15,7 +15,7 @@ use Rattle.definitions.specs.Sort.{listLt}
 use Rattle.definitions.specs.Grid.{Map, Pair, pairLt}
 use Rattle.definitions.specs.Context.{Context, contextOf}
 use Rattle.definitions.specs.Verdict.{pairRowsOf}
-use Rattle.laws.specs.ListLaws.Lists.{All, done, more, all-map, all-append}
+use Rattle.laws.specs.ListLaws.Lists.{All, done, more, all-map}
 use Rattle.laws.specs.ListLaws.Members.{all-mapped}
 use Rattle.laws.specs.ListLaws.Below.{gather-below}
 use Rattle.laws.specs.OrderLaws.PairOrder as pairs

@@ -1,6 +1,6 @@
 -- The rows that a pass keeps strictly ascend by their endpoints as written and then their number. They are sorted by canonical endpoints and then number, which is a strict order
 -- of rows of different number; and a row's endpoints are written canonical. Assumes nothing.
-use Prim.Native.Nat.{ℕ, zero, suc, _*_, _<_}
+use Prim.Native.Nat.{ℕ, zero, suc, _<_}
 use native.Mathlib.Omega.{arith}
 use mathlib.Core.Path.{_≡_, refl, sym, ap, ap₂, subst, _∙_}
 use mathlib.Core.Bool.{Bool, true, false, not, _&&_, _||_, cond, true≢false}

@@ -1,11 +1,11 @@
 -- What a pass finds of a map, as a result: it keeps the three rules of result sheets and its entries are finished, whatever the map and the pass. Quotations are of document 02,
 -- request 1. Assumes nothing.
-use Prim.Native.Nat.{ℕ, zero, suc, _+_, _*_, _%_}
+use Prim.Native.Nat.{ℕ, zero, suc, _*_, _%_}
 use native.Mathlib.Omega.{arith}
 use mathlib.Core.Path.{_≡_, refl}
 use mathlib.Core.Bool.{true}
 use mathlib.Core.Option.{Option, none}
-use mathlib.Core.List.{List, [], _∷_}
+use mathlib.Core.List.{[], _∷_}
 use lib.ListN.{length, length-append}
 use borrow.Author.Tests.{eq-eqb}
 use Rattle.definitions.specs.Limits.{talliesPerSpan, numbersPerPair, numbersPerRow}
