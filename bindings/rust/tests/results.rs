@@ -32,7 +32,11 @@ fn written() {
         let before = vec![0xa5; room[0] as usize];
         let mut out = before.clone();
         let said = write_result_into(regions[0], &labels, &tallies, &pairs, &rows, &mut out);
-        assert_eq!(said, if answer[0] == 0 { Ok(answer[1]) } else { Err(Refusal { number: answer[0], place: answer[1] }) }, "{case:?}");
+        assert_eq!(
+            said,
+            if answer[0] == 0 { Ok(answer[1]) } else { Err(Refusal { number: answer[0], place: answer[1] }) },
+            "{case:?}"
+        );
         assert_eq!(out, [&sheet[..], &before[sheet.len()..]].concat(), "{case:?}");
         count += 1;
     }
@@ -46,11 +50,17 @@ fn runs() {
     for map in lines.chunks(8) {
         let sheet = read_sheet(&bytes(map[1].split(' ').nth(2).expect("a sheet"))).expect(map[0]);
         let stored = write_result(&kept_boundaries(&sheet).expect(map[0])).expect(map[0]);
-        let [labels, tallies, pairs, rows] = [3, 4, 5, 7].map(|k: usize| map[k].split_whitespace().skip(2).collect::<Vec<_>>().join(" "));
+        let [labels, tallies, pairs, rows] =
+            [3, 4, 5, 7].map(|k: usize| map[k].split_whitespace().skip(2).collect::<Vec<_>>().join(" "));
         let [labels, tallies, pairs, rows] = [labels, tallies, pairs, rows].map(|part| numbers(&part));
         let mut expected = vec![0; stored.len()];
         let regions = labels.iter().copied().max().unwrap_or(0);
-        assert_eq!(write_result_into(regions, &labels, &tallies, &pairs, &rows, &mut expected), Ok(stored.len() as u64), "{}", map[0]);
+        assert_eq!(
+            write_result_into(regions, &labels, &tallies, &pairs, &rows, &mut expected),
+            Ok(stored.len() as u64),
+            "{}",
+            map[0]
+        );
         assert_eq!(stored, expected, "{}", map[0]);
     }
 }
