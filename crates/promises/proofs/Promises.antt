@@ -74,6 +74,10 @@ use Rattle.results.specs.ResultAnswers.{readResult, resultBytes, wellFormed, Wr
 use Rattle.results.specs.ResultAnswers as answers
 use Rattle.results.specs.Calls.{InMemory}
 use Rattle.results.specs.Calls as written
+use Rattle.result_reader.specs.Contract.{Reads}
+use Rattle.result_reader.specs.TwoCalls.{Enough, Holds}
+use Rattle.result_reader.specs.TwoCalls as two
+use Rattle.result_reader.specs.declared.ResultAnswer.{ResultAnswer}
 use Rattle.run_results.specs.Calls.{resultLeft}
 use Rattle.run_results.specs.Calls as runs
 
@@ -149,6 +153,12 @@ printed-j = case-j.printedJ
 pub written-reads : {r : Result} {lent lent′ : List ℕ} {answer : Answer} → InMemory r → Writes r lent answer lent′ → answer .number ≡ 0
     → readResult (take (answer .value) lent′) ≡ wellFormed r
 written-reads = written.written-call
+
+-- the same over two calls: what the writer left, the reader reads back, entry by entry, into lists that are long enough
+pub written-reads-back : {r : Result} {lent lent′ : List ℕ} {written : Answer} {labels tallies pairs rows labels′ tallies′ pairs′ rows′ : List ℕ} {answer : ResultAnswer}
+    → InMemory r → Writes r lent written lent′ → written .number ≡ 0 → Enough r labels tallies pairs rows
+    → Reads (take (written .value) lent′) labels tallies pairs rows answer labels′ tallies′ pairs′ rows′ → Holds r answer labels′ tallies′ pairs′ rows′
+written-reads-back = two.written-reads-back
 
 -- ---- request 2: the share is exact, and there is no other
 
