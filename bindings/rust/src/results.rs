@@ -1,7 +1,53 @@
 //! What a run found, as a sheet of kind 2.
 
-use crate::Refusal;
+use crate::entries::flat;
 use crate::exported::{jenwyllt_read_result, jenwyllt_write_result};
+use crate::{KeptBoundaries, Refusal};
+
+/// Bytes of a number of 64 bits.
+const MOST_GROUPS: usize = 10;
+
+/// Kind, region count and four counts.
+const LEADING: usize = 6;
+
+/// Writes a result as a sheet in shortest form.
+///
+/// Refuses 15 and 3, and never what a run found.
+///
+/// ```
+/// use jenwyllt::{Boundary, RunResult, Sheet, kept_boundaries, read_result, write_result};
+///
+/// // Two cells, cut apart; the pass keeps the boundary.
+/// let choke = Boundary::new([8, 0, 8, 8], 8.0);
+/// let (spans, boundaries) = (vec![choke.span()], vec![choke]);
+/// let sheet = Sheet { pass: 1, width: 2, height: 1, cells: vec![1, 1], spans, boundaries, anchors: vec![] };
+/// let found = RunResult::from(&kept_boundaries(&sheet).unwrap());
+/// let stored = write_result(&found).unwrap();
+/// assert_eq!(stored, [2, 2, 2, 1, 2, 1, 1, 1, 1, 0, 1, 2, 1, 0, 8, 0, 8, 8]);
+/// assert_eq!(read_result(&stored), Ok(found));
+/// ```
+pub fn write_result(result: &RunResult) -> Result<Vec<u8>, Refusal> {
+    let RunResult { regions, labels, tallies, pairs, rows } = result;
+    let mut out = vec![0; MOST_GROUPS * (LEADING + labels.len() + tallies.len() + pairs.len() + rows.len())];
+    let size = write_result_into(*regions, labels, tallies, pairs, rows, &mut out)?;
+    out.truncate(size as usize);
+    Ok(out)
+}
+
+/// What a run found: its lists of 32 bits in numbers of 64.
+impl From<&KeptBoundaries> for RunResult {
+    fn from(kept: &KeptBoundaries) -> Self {
+        let wide = |numbers: &[u32]| numbers.iter().map(|number| u64::from(*number)).collect();
+        let of = &kept.partition;
+        Self {
+            regions: of.regions,
+            labels: wide(&of.labels),
+            tallies: wide(flat(&of.tallies)),
+            pairs: wide(flat(&of.pairs)),
+            rows: flat(&kept.rows).to_vec(),
+        }
+    }
+}
 
 /// Writes a region count and flat lists of labels, tallies (two a span), pairs (three numbers a row) and kept rows (five a row) as a
 /// sheet in shortest form into `out`; answers how many bytes it has.

@@ -1,14 +1,15 @@
 -- The main theorems, restated in the order of the three demands and then of the requests; each is proved by citing it. What to read first: whoever believes the
 -- definitions that these statements name need believe nothing else that stands in crates/. Assumes nothing.
-use Prim.Native.Nat.{ℕ, _+_, _*_, _<_}
+use Prim.Native.Nat.{ℕ, _+_, _*_, _<_, _≤_}
 use mathlib.Core.Path.{_≡_}
 use mathlib.Core.Logic.{_↔_}
 use mathlib.Core.Bool.{Bool, true, not, _&&_, _||_}
-use mathlib.Core.Option.{some}
+use mathlib.Core.Option.{none, some}
 use mathlib.Core.List.{List, map, List·Memᴰ}
 use lib.ListN.{length, getD, take}
 use lib.Dec.{eqb}
 use lib.Ieee.{Float, binary64, toBits}
+use Rattle.definitions.specs.Lists.{overwrite}
 use Rattle.definitions.specs.Scan.{all, anyBelow}
 use Rattle.definitions.specs.Sort.{listLt}
 use Rattle.definitions.specs.Grid.{Boundary, Pair, Segment, mapOf}
@@ -68,14 +69,17 @@ use Rattle.catalogue.specs.Terms.{termAt, termCount, daysOf, contains}
 use Rattle.catalogue.specs.Pool.{newest, entryOf}
 use Rattle.pool.proofs.Returned.{Called, Accepted}
 use Rattle.pool.proofs.Returned as returned
-use Rattle.results.specs.Result.{Result}
-use Rattle.results.specs.ResultAnswers.{readResult, wellFormed, Writes}
+use Rattle.results.specs.Result.{Result, rulesFault}
+use Rattle.results.specs.ResultAnswers.{readResult, resultBytes, wellFormed, Writes}
+use Rattle.results.specs.ResultAnswers as answers
 use Rattle.results.specs.Calls.{InMemory}
 use Rattle.results.specs.Calls as written
 use Rattle.result_reader.specs.Contract.{Reads}
 use Rattle.result_reader.specs.TwoCalls.{Enough, Holds}
 use Rattle.result_reader.specs.TwoCalls as two
 use Rattle.result_reader.specs.declared.ResultAnswer.{ResultAnswer}
+use Rattle.run_results.specs.Calls.{resultLeft}
+use Rattle.run_results.specs.Calls as runs
 
 -- ---- 2. Exact: the hypotenuse, the order of widths, and the Rust's own steps
 
@@ -111,6 +115,19 @@ module _
   pub rows-as-rust : rowsHeld a o₁ ≡ rustRows pass (mapOf w h cells spans boundaries anchors)
   rows-as-rust = calls.rows-as-rust call success
 
+  -- ---- request 1: what a run found can always be stored
+
+  abbrev pub runLeft : Result
+  runLeft = resultLeft (given pass w h cells spans boundaries anchors l m q t p (map recordOf s) o) a l₁ t₁ p₁ o₁
+
+  pub run-keeps-rules : rulesFault (answers.placed runLeft) ≡ none
+  run-keeps-rules = runs.call-keeps-rules (call .ran) success
+
+  -- the writer, lent it whole, answers with its bytes where there is room for them
+  pub run-stored : {lent lent′ : List ℕ} {answer : Answer} → Writes runLeft lent answer lent′ → length (resultBytes runLeft) ≤ length lent
+      → (answer ≡ record { number = 0; value = length (resultBytes runLeft) }) × (lent′ ≡ overwrite (resultBytes runLeft) lent)
+  run-stored wrote room = (runs.stored-answer (call .ran) success wrote room, runs.stored-bytes (call .ran) success wrote room)
+
   -- ---- 3. Local: two calls of one pass, and an island under the premises of demand 3 (`Alike`)
 
   module _
@@ -131,7 +148,7 @@ cases-hold = cases.cases-hold
 pub printed-j : keptlist bytesJ ≡ text "kept 4 of 5\n1 8 8 8 16\n2 8 8 16 8\n4 16 16 24 16\n3 24 8 24 16\n"
 printed-j = case-j.printedJ
 
--- ---- request 1, as far as it is landed: what a call of the writer wrote reads as itself
+-- ---- request 1: what a call of the writer wrote reads as itself
 
 pub written-reads : {r : Result} {lent lent′ : List ℕ} {answer : Answer} → InMemory r → Writes r lent answer lent′ → answer .number ≡ 0
     → readResult (take (answer .value) lent′) ≡ wellFormed r
