@@ -1,0 +1,4 @@
+pub mod NumberBytes
+pub mod ReaderBytes
+pub mod SheetBytes
+pub mod SheetsEqual
