@@ -2,3 +2,4 @@ pub mod NumberBytes
 pub mod ReaderBytes
 pub mod SheetBytes
 pub mod SheetsEqual
+pub mod ResultsEqual

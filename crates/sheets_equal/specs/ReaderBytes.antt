@@ -4,6 +4,8 @@ use Prim.Native.Nat.{ℕ, zero, suc}
 use mathlib.Core.Path.{_≡_, refl, sym, ap, subst, _∙_}
 use mathlib.Core.Bool.{Bool, true, false}
 use mathlib.Core.List.{List, [], _∷_, _++_, append-assoc}
+use lib.Dec.{eqb}
+use borrow.Author.Tests.{eqb-true}
 use Rattle.definitions.specs.Scan.{concatMap}
 use Rattle.definitions.specs.SheetNumber.{Read, found, failed, number}
 use Rattle.definitions.specs.Sheet.{Reader, give, check, andThen, _>>=_, times, judged, end}
@@ -61,6 +63,13 @@ judged-is ok offset bytes {v} {next} {rest} h = go (number offset bytes) refl h
             (e ∙ q, ap ok (sym u) ∙ f)
         pick false f q = absurd (not-found q)
     go (failed refusal place) e q = absurd (not-found q)
+
+-- a number that must be n
+pub reads-exactly : (n : ℕ) → Reads [] (judged (λ value. eqb value n)) (λ _. shortest n)
+reads-exactly n = record { whole = λ offset bytes B h. go offset bytes B (judged-is (λ value. eqb value n) offset bytes h) }
+  where
+    go : (offset : ℕ) (bytes : List ℕ) → Bytes bytes → {v next : ℕ} {rest : List ℕ} → (number offset bytes ≡ found v next rest) × (eqb v n ≡ true) → bytes ≡ shortest n ++ rest
+    go offset bytes B {v} {next} {rest} h = number-bytes offset bytes B (h .0) ∙ ap (λ m. shortest m ++ rest) (eqb-true v n (h .1))
 
 pub reads-times : (item : Reader ℕ) (written : ℕ → List ℕ) → Reads [] item written → (n : ℕ) → Reads [] (times n item) (concatMap written)
 unfolding times concatMap

@@ -7,9 +7,8 @@ use mathlib.Core.Path.{_≡_, refl, sym, ap, _∙_}
 use mathlib.Core.Logic.{_↔_}
 use mathlib.Core.Bool.{_&&_, true}
 use mathlib.Core.List.{List, [], _++_, append-assoc, append-nil}
-use lib.Dec.{leb, eqb}
+use lib.Dec.{leb}
 use lib.ListN.{length}
-use borrow.Author.Tests.{eqb-true}
 use Rattle.definitions.specs.Limits.{isSide, maxEntries, numbersPerSpan, numbersPerBoundary, numbersPerAnchor}
 use Rattle.definitions.specs.Scan.{concatMap}
 use Rattle.definitions.specs.SheetNumber.{Read, found, failed, number}
@@ -17,7 +16,7 @@ use Rattle.definitions.specs.Sheet.{Reader, give, check, andThen, _>>=_, times,
 use Rattle.laws.specs.SheetReading.SheetLaws.{times-length}
 use Rattle.results.specs.Shortest.{shortest, listBytes}
 use Rattle.sheets_equal.specs.NumberBytes.{Bytes}
-use Rattle.sheets_equal.specs.ReaderBytes.{Reads, reads-number, reads-give, reads-then, reads-check-then, reads-times, reads-end, judged-is, Ends, ends-then, ends-end}
+use Rattle.sheets_equal.specs.ReaderBytes.{Reads, reads-number, reads-give, reads-then, reads-check-then, reads-times, reads-end, judged-is, reads-exactly, Ends, ends-then, ends-end}
 use Rattle.sheets_equal.specs.SheetBytes.{sheetBytes}
 
 -- ---- the parts
@@ -28,10 +27,7 @@ reads-cell = record { whole = λ offset bytes B h. reads-number .whole offset by
 
 reads-kind : Reads [] kind (λ _. shortest 1)
 unfolding kind
-reads-kind = record { whole = λ offset bytes B h. go offset bytes B (judged-is (λ value. eqb value 1) offset bytes h) }
-  where
-    go : (offset : ℕ) (bytes : List ℕ) → Bytes bytes → {v next : ℕ} {rest : List ℕ} → (number offset bytes ≡ found v next rest) × (eqb v 1 ≡ true) → bytes ≡ shortest 1 ++ rest
-    go offset bytes B {v} {next} {rest} h = reads-number .whole offset bytes B (h .0) ∙ ap (λ n. shortest n ++ rest) (eqb-true v 1 (h .1))
+reads-kind = reads-exactly 1
 
 -- the count that was written is that of the entries
 reads-entries : (size : ℕ) → ((n : ℕ) → n * size / size ≡ n) → Reads [] (entries size) (listBytes size)
