@@ -3,3 +3,5 @@ pub mod ReaderBytes
 pub mod SheetBytes
 pub mod SheetsEqual
 pub mod ResultsEqual
+pub mod Refusing
+pub mod SheetCalls
