@@ -5,3 +5,4 @@ pub mod SheetsEqual
 pub mod ResultsEqual
 pub mod Refusing
 pub mod SheetCalls
+pub mod ResultCalls

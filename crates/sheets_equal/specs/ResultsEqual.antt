@@ -11,7 +11,7 @@ use Rattle.definitions.specs.Limits.{talliesPerSpan, numbersPerPair, numbersPer
 use Rattle.definitions.specs.Scan.{concatMap}
 use Rattle.definitions.specs.SheetNumber.{Read, found, failed, number}
 use Rattle.definitions.specs.Sheet.{Reader, give, andThen, _>>=_, times, judged, end}
-use Rattle.laws.specs.SheetReading.SheetSizes.{Gives, gives-value, gives-then, gives-times}
+use Rattle.laws.specs.SheetReading.SheetSizes.{Gives, gives-any, gives-value, gives-then, gives-times}
 use Rattle.results.specs.Shortest.{shortest, listBytes}
 use Rattle.results.specs.Result.{Result, Entry, Placed, resultOf, kind, entry, timesEntry, entries, result, rulesFault}
 use Rattle.results.specs.ResultAnswers.{wellFormed, refused, judgedBy, reading, readResult, resultBytes}
@@ -42,7 +42,7 @@ gives-entry size = record { holds = λ offset bytes h. at offset .holds offset b
     at offset = gives-then (times size number) _ _ _ (gives-times size number) (λ numbers long. gives-value (λ e. length (e .numbers) ≡ size) (record { place = offset; numbers = numbers }) long)
 
 -- the numbers of the entries, one after the other
-abbrev numbersOf : List Entry → List ℕ
+abbrev pub numbersOf : List Entry → List ℕ
 numbersOf es = concatMap (λ e. e .numbers) es
 
 concat-append : (l m : List ℕ) → concatMap shortest (l ++ m) ≡ concatMap shortest l ++ concatMap shortest m
@@ -65,6 +65,11 @@ gives-numbers (suc n) size =
     gives-then (entry size) _ _ _ (gives-entry size)
     (λ e here. gives-then (timesEntry n size) (λ l. give (e ∷ l)) _ _ (gives-numbers n size)
     (λ l left. gives-value (λ es. length (numbersOf es) ≡ suc n * size) (e ∷ l) (length-append (e .numbers) (numbersOf l) ∙ omega (arith, here, left))))
+
+-- a list has whole entries
+pub gives-list : (size : ℕ) → Gives (entries size) (λ es. (n : ℕ) × (length (numbersOf es) ≡ n * size))
+unfolding entries
+gives-list size = gives-then number _ _ _ (gives-any number) (λ count _. record { holds = λ offset bytes h. (count, gives-numbers count size .holds offset bytes h) })
 
 -- the count that was written is that of the entries
 reads-entries : (size : ℕ) → ((n : ℕ) → n * size / size ≡ n) → Reads [] (entries size) (λ es. listBytes size (numbersOf es))

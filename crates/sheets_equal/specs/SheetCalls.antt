@@ -55,7 +55,7 @@ not-zero bytes {refusal} {place} h z = go (sheet plainCellLimit 0 bytes) refl h
         omega (arith, refuses-sheet plainCellLimit .above 0 bytes e)
 
 -- the first numbers of a list that was filled
-filled : (l lent : List ℕ) (n : ℕ) → n ≡ length l → take n (overwrite l lent) ≡ l
+pub filled : (l lent : List ℕ) (n : ℕ) → n ≡ length l → take n (overwrite l lent) ≡ l
 filled l lent n h = ap (λ m. take m (overwrite l lent)) h ∙ take-append-seam l (drop (length l) lent)
 
 held-is : {limit : ℕ} {s : Sheet} → Sized limit s → (cells spans boundaries anchors : List ℕ)
