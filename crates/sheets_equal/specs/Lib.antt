@@ -6,3 +6,4 @@ pub mod ResultsEqual
 pub mod Refusing
 pub mod SheetCalls
 pub mod ResultCalls
+pub mod Examples

@@ -15,7 +15,7 @@ use Rattle.laws.specs.SheetReading.SheetLaws.{groups-bad, groups-more, groups-l
 use Rattle.results.specs.Shortest.{shortestWithin, shortest}
 use Rattle.results.specs.ShortestSteps.{one-group, more-groups}
 
--- Every entry is a byte. Over other numbers the law fails: 129 and 385 have the same group, and both are continued (SheetExamples, `no-bytes`).
+-- Every entry is a byte. Over other numbers the law fails: 129 and 385 have the same group, and both are continued (Examples, `no-bytes`).
 abbrev pub Bytes : List ℕ → Type 0
 Bytes l = All (λ b. b < 256) l
 
