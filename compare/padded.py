@@ -62,7 +62,9 @@ def changed(r, parts, k):
     part, style = parts[k], r.choice(('padded',) * 7 + ('unfinished', 'inside', 'none'))
     if style == 'inside':
         part = sheet_bytes.number_bytes(INSIDE)
-    elif style != 'none' and len(part) < LONGEST:
+    elif style != 'none' and len(part) == LONGEST:   # there is no room to pad it
+        style = 'none'
+    elif style != 'none':
         part = damage.padded(part, r.randint(1, LONGEST - len(part)))
     data = b''.join(parts[:k]) + part
     if style == 'unfinished':
