@@ -220,6 +220,51 @@ struct jenwyllt_answer jenwyllt_write_result(
     const uint64_t *rows, size_t rows_length,
     uint8_t *out, size_t out_length);
 
+/* What a result sheet holds: the region count, and how many entries its lists have. Number 0: the place is 0. Otherwise a refusal's number and place, and the
+   rest is 0. */
+struct jenwyllt_result {
+    uint64_t number;
+    uint64_t place;
+    uint64_t regions;
+    uint64_t labels;
+    uint64_t spans;
+    uint64_t pairs;
+    uint64_t rows;
+};
+
+/* Reads a sheet of kind 2, a result, as `jenwyllt_write_result` writes it.
+
+   Read:
+     bytes       the sheet
+   Filled; each may be longer than needed, and what it holds behind the last entry stays:
+     labels      1 a cell
+     tallies     2 a span: removed and separated edges
+     pairs       3 a pair row: span, smaller label, larger label
+     rows        5 a kept row: number, then the endpoints x, y, x, y
+   A list never has more numbers than the sheet has bytes. Counts meet no limit.
+
+   Number 0: the result was read. Otherwise the number says why not; the first of these causes that applies is given, a 14 anywhere in the sheet before any 15:
+
+     number  cause                                                                                        place
+     14      the bytes end early                                                                          their length
+     14      a number over ten groups or 64 bits, a kind not 2                                            its first byte
+     14      a padded number: its last byte, behind others, is 0                                          its first byte
+     14      bytes are left over                                                                          the first of them
+     15      a label that starts no number in turn, or a number above the region count                    its first byte
+     15      labels all in turn that do not reach the region count                                        the first byte of the region count
+     15      a pair row not above the one before it by its three numbers                                  its first byte
+     15      a row not above the one before it by endpoints as written and then number                    its first byte
+     10      a list is too short, tested last                                                             0
+
+   Of several 15 the one of labels comes before that of pairs, and that before that of rows. With any of these every list stays as it was. Nothing else is
+   tested: that a result follows from a map is checked by running the map. */
+struct jenwyllt_result jenwyllt_read_result(
+    const uint8_t *bytes, size_t bytes_length,
+    uint64_t *labels, size_t labels_length,
+    uint64_t *tallies, size_t tallies_length,
+    uint64_t *pairs, size_t pairs_length,
+    uint64_t *rows, size_t rows_length);
+
 /* What a sheet opens with; the last three are counts of entries. Number 0: the place is 0. Otherwise a refusal's number and place, and the rest is 0. */
 struct jenwyllt_sheet {
     uint64_t number;

@@ -1,4 +1,4 @@
-"""That the library writes result sheets as the rendering from the papers alone does (compare/results_reference.py), and refuses the same."""
+"""That the library writes and reads result sheets as the rendering from the papers alone does (compare/results_reference.py), and refuses the same."""
 from __future__ import annotations
 
 import importlib.util
@@ -7,7 +7,7 @@ import unittest
 
 import jenwyllt
 from jenwyllt._library import U8, U64, lent
-from jenwyllt.results import WRITE_RESULT
+from jenwyllt.results import READ_RESULT, WRITE_RESULT
 
 from .files import ROOT
 
@@ -84,6 +84,85 @@ class Written(unittest.TestCase):
                 self.assertEqual(reference.read(answer[2][:answer[1]]), ('read', result))
             seen.add(answer[0])
         self.assertEqual(seen, {0, 3, 10, 15})
+
+
+SIZES = 1, 2, 3, 5
+KEPT = 7777                         # what a lent list holds at entry
+
+
+def read(data: bytes, rooms: tuple[int, ...]) -> tuple:
+    """the answer's seven numbers, and the whole of each lent list at exit"""
+    lists = [lent(U64, [KEPT] * room) for room in rooms]
+    answer = READ_RESULT(lent(U8, data), *lists)
+    return [getattr(answer, name) for name, _ in answer._fields_], [list(each) for each in lists]
+
+
+def expected_read(data: bytes, rooms: tuple[int, ...]) -> tuple:
+    said = reference.read(data)
+    lists = [[KEPT] * room for room in rooms]
+    if said[0] == 'refused':
+        return [*said[1:], 0, 0, 0, 0, 0], lists
+    regions, *found = said[1]
+    if any(len(each) > room for each, room in zip(found, rooms)):
+        return [10, 0, 0, 0, 0, 0, 0], lists
+    return [0, 0, regions, *(len(each) // size for each, size in zip(found, SIZES))], [each + own[len(each):] for each, own in zip(found, lists)]
+
+
+def damaged(r: random.Random, data: bytes) -> bytes:
+    at = r.randrange(len(data) + 1)
+    most = bytes([255] * 9 + [1])
+    return r.choice([
+        data, data[:at], data[:at] + bytes([r.choice([0, 1, 2, 127, 128, 255])]) + data[at + 1:], data + bytes([r.randrange(256)]),
+        data[:at] + most + data[at + 1:], data[:at] + bytes([255] * 9 + [2]) + data[at:]])
+
+
+class ReadBack(unittest.TestCase):
+    def check(self, data: bytes, rooms: tuple[int, ...] = (12, 12, 12, 25)) -> int:
+        answer = read(data, rooms)
+        self.assertEqual(answer, expected_read(data, rooms), data)
+        return answer[0][0]
+
+    def test_small(self) -> None:
+        self.assertEqual(jenwyllt.read_result(SMALL_BYTES), SMALL)
+        with self.assertRaises(jenwyllt.Refusal) as refused:
+            jenwyllt.read_result(SMALL_BYTES[:-1])
+        self.assertEqual((refused.exception.number, refused.exception.place), (14, len(SMALL_BYTES) - 1))
+        for at in range(len(SMALL_BYTES)):
+            self.check(SMALL_BYTES[:at])
+            for byte in range(256):
+                self.check(SMALL_BYTES[:at] + bytes([byte]) + SMALL_BYTES[at + 1:])
+        for short in range(4):
+            rooms = [len(each) for each in SMALL[1:]]
+            self.assertEqual(self.check(SMALL_BYTES, tuple(rooms)), 0)
+            rooms[short] -= 1
+            self.assertEqual(self.check(SMALL_BYTES, tuple(rooms)), 10)
+
+    def test_refusals(self) -> None:
+        """each rule alone, a 14 behind a 15, the order of two breaches, and counts of 2 ** 63 and 2 ** 64 - 1"""
+        for number, place, data in (
+                (14, 0, [1, 0, 0, 0, 0, 0]), (14, 6, [2, 0, 0, 0, 0, 0, 0]), (14, 5, [2, 0, 0, 0, 0]), (0, 0, [2, 0, 0, 0, 0, 0]),
+                (15, 1, [2, 1, 0, 0, 0, 0]), (15, 3, [2, 0, 1, 1, 0, 0, 0]), (15, 4, [2, 2, 2, 1, 3, 0, 0, 0]), (15, 3, [2, 2, 1, 2, 0, 0, 0]),
+                (15, 8, [2, 0, 0, 0, 2, 0, 1, 2, 0, 1, 2, 0]), (15, 11, [2, 0, 0, 0, 0, 2, 1, 2, 0, 0, 0, 2, 1, 0, 0, 0]),
+                (15, 11, [2, 0, 0, 0, 0, 2, 5, 1, 1, 1, 1, 5, 1, 1, 1, 1]), (0, 0, [2, 0, 0, 0, 0, 2, 9, 1, 1, 1, 1, 5, 1, 1, 1, 2]),
+                (14, 8, [2, 1, 1, 2, 0, 0, 1, 1]), (14, 7, [2, 1, 1, 2, 0, 0, 0, 0]), (15, 3, [2, 1, 1, 2, 0, 2, 1, 1, 1, 1, 1, 1, 0])):
+            said, _ = read(bytes(data), (9, 9, 9, 15))
+            self.assertEqual(said[:2], [number, place], data)
+            self.check(bytes(data), (9, 9, 9, 15))
+        for count in (2 ** 63, 2 ** 64 - 1):
+            for at in range(2, 6):
+                data = b''.join(reference.group_bytes(count if k == at else 2 if k == 0 else 0) for k in range(6))
+                self.assertEqual(self.check(data), 14)
+
+    def test_random(self) -> None:
+        r = random.Random(2)
+        seen = set()
+        for _ in range(5000):
+            regions, *lists = some(r)
+            data = reference.group_bytes(2) + reference.group_bytes(regions)
+            for each, size in zip(lists, SIZES):
+                data += reference.group_bytes(len(each) // size) + b''.join(map(reference.group_bytes, each[:len(each) // size * size]))
+            seen.add(self.check(damaged(r, data), tuple(r.choice([30, 30, 30, 30, r.randrange(8)]) for _ in SIZES)))
+        self.assertEqual(seen, {0, 10, 14, 15})
 
 
 if __name__ == '__main__':

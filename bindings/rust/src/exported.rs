@@ -31,6 +31,18 @@ pub struct SheetAnswer {
     pub anchors: u64,
 }
 
+/// The region count and counts of entries, or a refusal's number and place.
+#[repr(C)]
+pub struct ResultAnswer {
+    pub number: u64,
+    pub place: u64,
+    pub regions: u64,
+    pub labels: u64,
+    pub spans: u64,
+    pub pairs: u64,
+    pub rows: u64,
+}
+
 /// Number 0 and the root, or number 13 and 0.
 #[repr(C)]
 pub struct Outcome {
@@ -105,6 +117,19 @@ unsafe extern "C" {
         output: *mut u64,
         output_length: usize,
     ) -> Answer;
+
+    pub fn jenwyllt_read_result(
+        bytes: *const u8,
+        bytes_length: usize,
+        labels: *mut u64,
+        labels_length: usize,
+        tallies: *mut u64,
+        tallies_length: usize,
+        pairs: *mut u64,
+        pairs_length: usize,
+        rows: *mut u64,
+        rows_length: usize,
+    ) -> ResultAnswer;
 
     pub fn jenwyllt_write_result(
         regions: u64,

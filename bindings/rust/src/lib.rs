@@ -33,6 +33,6 @@ pub use kept::{KeptBoundaries, KeptLists, Map, Region, kept_boundaries, kept_bou
 pub use partition::{Partition, PartitionLists, partition, partition_into};
 pub use pool::{Entry, maps_of_day, maps_of_day_into};
 pub use refusal::{Cause, Refusal};
-pub use results::write_result_into;
+pub use results::{ResultHeader, ResultLists, RunResult, read_result, read_result_into, write_result_into};
 pub use separations::{Separation, separations, separations_into};
 pub use sheet::{Header, Sheet, SheetLists, read_sheet, read_sheet_into};

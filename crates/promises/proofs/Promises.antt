@@ -84,8 +84,11 @@ use Rattle.sheets_equal.specs.SheetsEqual as sheets
 use Rattle.sheets_equal.specs.SheetCalls.{Called as ReadCall, held}
 use Rattle.sheets_equal.specs.SheetCalls as sheet-calls
 use Rattle.sheets_equal.specs.ResultsEqual as results
-use Rattle.sheets_equal.specs.ResultCalls.{resultNumber, verdictOf, heldBy}
-use Rattle.sheets_equal.specs.ResultCalls as result-calls
+use Rattle.sheets_equal.specs.ReaderCalls as reader-calls
+use Rattle.result_reader.specs.Contract.{Reads}
+use Rattle.result_reader.specs.TwoCalls.{Enough, Holds}
+use Rattle.result_reader.specs.TwoCalls as two
+use Rattle.result_reader.specs.declared.ResultAnswer.{ResultAnswer}
 
 -- ---- 2. Exact: the hypotenuse, the order of widths, and the Rust's own steps
 
@@ -147,6 +150,12 @@ pub written-reads : {r : Result} {lent lent′ : List ℕ} {answer : Answer} →
     → readResult (take (answer .value) lent′) ≡ wellFormed r
 written-reads = written.written-call
 
+-- the same over two calls: what the writer left, the reader reads back, entry by entry, into lists that are long enough
+pub written-reads-back : {r : Result} {lent lent′ : List ℕ} {written : Answer} {labels tallies pairs rows labels′ tallies′ pairs′ rows′ : List ℕ} {answer : ResultAnswer}
+    → InMemory r → Writes r lent written lent′ → written .number ≡ 0 → Enough r labels tallies pairs rows
+    → Reads (take (written .value) lent′) labels tallies pairs rows answer labels′ tallies′ pairs′ rows′ → Holds r answer labels′ tallies′ pairs′ rows′
+written-reads-back = two.written-reads-back
+
 -- ---- request 2: the share is exact, and there is no other
 
 pub share-exact : (count n : ℕ) (h : Share) → shareOf count n ≡ some h → IsShare count n h
@@ -187,10 +196,13 @@ read-written = results.read-written
 pub results-equal : (a b : List ℕ) {r t : Result} → Bytes a → Bytes b → readResult a ≡ wellFormed r → readResult b ≡ wellFormed t → (a ≡ b) ↔ (r ≡ t)
 results-equal = results.results-equal
 
-pub result-calls-equal : (a labels tallies pairs rows b labels₂ tallies₂ pairs₂ rows₂ : List ℕ) → resultNumber (verdictOf a labels tallies pairs rows) ≡ 0
-    → resultNumber (verdictOf b labels₂ tallies₂ pairs₂ rows₂) ≡ 0 → Bytes a → Bytes b
-    → (a ≡ b) ↔ (heldBy (verdictOf a labels tallies pairs rows) labels tallies pairs rows ≡ heldBy (verdictOf b labels₂ tallies₂ pairs₂ rows₂) labels₂ tallies₂ pairs₂ rows₂)
-result-calls-equal = result-calls.calls-equal
+pub result-calls-equal : (a labels tallies pairs rows : List ℕ) {answer : ResultAnswer} {labels′ tallies′ pairs′ rows′ : List ℕ}
+    (b labels₂ tallies₂ pairs₂ rows₂ : List ℕ) {answer₂ : ResultAnswer} {labels₂′ tallies₂′ pairs₂′ rows₂′ : List ℕ}
+    → Reads a labels tallies pairs rows answer labels′ tallies′ pairs′ rows′ → answer .number ≡ 0
+    → Reads b labels₂ tallies₂ pairs₂ rows₂ answer₂ labels₂′ tallies₂′ pairs₂′ rows₂′ → answer₂ .number ≡ 0
+    → Bytes a → Bytes b
+    → (a ≡ b) ↔ (reader-calls.held answer labels′ tallies′ pairs′ rows′ ≡ reader-calls.held answer₂ labels₂′ tallies₂′ pairs₂′ rows₂′)
+result-calls-equal = reader-calls.calls-equal
 
 -- ---- request 5: the bytes of the word are the eight directions, in their order
 

@@ -25,7 +25,7 @@ pub enum Turn {
     Out,
 }
 
-fn after_label(regions: u64, started: u64, label: u64) -> Turn
+pub fn after_label(regions: u64, started: u64, label: u64) -> Turn
     ensures { λ r. ⌜ r ≡ turnOf regions started label ⌝ }
 {
     if label <= started {
@@ -62,7 +62,7 @@ fn in_turn(regions: u64, labels: &[u64]) -> bool
 }
 
 // One number of a key and what stands behind it in the order.
-fn is_before(x: u64, y: u64, behind: bool) -> bool
+pub fn is_before(x: u64, y: u64, behind: bool) -> bool
     ensures { λ r. ⌜ r ≡ (ltb x y || (eqb x y && behind)) ⌝ }
 {
     if x < y {

@@ -104,13 +104,13 @@ sheetFrom pass e l =
 
 module _ {A B : Type 0} where
   -- readers that go on alike
-  alike : (r : Read A) {f g : A → Reader B} → ((value : A) (offset : ℕ) (rest : List ℕ) → f value offset rest ≡ g value offset rest) → andThen r f ≡ andThen r g
+  pub alike : (r : Read A) {f g : A → Reader B} → ((value : A) (offset : ℕ) (rest : List ℕ) → f value offset rest ≡ g value offset rest) → andThen r f ≡ andThen r g
   alike (found value offset rest) h = h value offset rest
   alike (failed refusal place) h = refl
 
 module _ {A : Type 0} (B : Type 0) {C : Type 0} where
   -- a chain inside a chain
-  within : (r : Read A) (f : A → Reader B) (g : B → Reader C) {h : A → Reader C}
+  pub within : (r : Read A) (f : A → Reader B) (g : B → Reader C) {h : A → Reader C}
       → ((value : A) (offset : ℕ) (rest : List ℕ) → andThen (f value offset rest) g ≡ h value offset rest) → andThen (andThen r f) g ≡ andThen r h
   within (found value offset rest) f g k = k value offset rest
   within (failed refusal place) f g k = refl

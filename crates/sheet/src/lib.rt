@@ -68,13 +68,13 @@ const MOST: u64 = 0xffff_ffff_ffff_ffff;
 const CELL_MOST: u64 = 255;
 
 // A number, with the offset behind it; or the place where the sheet is refused 14.
-enum ItemRead {
+pub enum ItemRead {
     Item(u64, usize),
     Fault(usize),
 }
 
 // The number at an offset, which is to be at most `most`.
-fn item(bytes: &[u8], at: usize, most: u64) -> ItemRead
+pub fn item(bytes: &[u8], at: usize, most: u64) -> ItemRead
     requires { ⌜ at ≤ length (now bytes) ⌝ }
     ensures { λ r. ⌜ upTo most at (drop at (now (bytes .entry))) ≡ itemOf (now (bytes .entry)) r ⌝ }
 {
@@ -92,13 +92,13 @@ fn item(bytes: &[u8], at: usize, most: u64) -> ItemRead
 }
 
 // The offset behind some numbers; or the place where the sheet is refused 14.
-enum Judged {
+pub enum Judged {
     Behind(usize),
     Faulty(usize),
 }
 
 // Judges `count` numbers of at most `most` each.
-fn judge(bytes: &[u8], at: usize, count: usize, most: u64) -> Judged
+pub fn judge(bytes: &[u8], at: usize, count: usize, most: u64) -> Judged
     requires { ⌜ at ≤ length (now bytes) ⌝ }
     ensures { λ r. ⌜ Told (now (bytes .entry)) (itemsAt (upTo most) (now (bytes .entry)) at count) r ⌝ }
 {
@@ -119,7 +119,7 @@ fn judge(bytes: &[u8], at: usize, count: usize, most: u64) -> Judged
 }
 
 // Stores `count` numbers that were judged before.
-fn fill_numbers(bytes: &[u8], at: usize, count: usize, out: &mut [u64])
+pub fn fill_numbers(bytes: &[u8], at: usize, count: usize, out: &mut [u64])
     requires { ⌜ (Held grammar.number (now bytes) at count) × (count ≤ length (now out)) ⌝ }
     ensures { λ r. ⌜ now (out .exit) ≡ overwrite (valuesAt grammar.number (now (bytes .entry)) at count) (now (out .entry)) ⌝ }
 {

@@ -1,0 +1,4 @@
+pub mod Walks
+pub mod Parts
+pub mod Contract
+pub mod TwoCalls
