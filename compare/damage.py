@@ -138,19 +138,23 @@ def too_long(r, parts):
     return b''.join(parts[:k]) + long + tail
 
 
-def long_but_right(r, parts):
-    """groups of zero at the end; ten groups at most"""
+def padded(part, extra):
+    """a number's bytes with so many groups of zero at the end"""
+    return part[:-1] + bytes([part[-1] | 0x80]) + b'\x80' * (extra - 1) + b'\0'
+
+
+def some_padded(r, parts):
+    """groups of zero at the end of some numbers; ten groups at most"""
     out = []
     for p in parts:
         if r.random() < 0.2 and len(p) < 10:
-            extra = r.randint(1, 10 - len(p))
-            p = p[:-1] + bytes([p[-1] | 0x80]) + b'\x80' * (extra - 1) + b'\0'
+            p = padded(p, r.randint(1, 10 - len(p)))
         out.append(p)
     return b''.join(out)
 
 
 BYTE_DAMAGE = {'cut short': cut_short, 'left over': left_over, 'kind': wrong_kind, 'cell': wrong_cell, 'too long': too_long,
-               'zero groups': long_but_right, 'none': lambda r, parts: b''.join(parts)}
+               'padded': some_padded, 'none': lambda r, parts: b''.join(parts)}
 
 
 def sheets(plan_of, count, seed=1, first=0):

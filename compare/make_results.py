@@ -107,8 +107,7 @@ def one_short():
         yield data, 0, 0, 0, 0
 
 
-# Numbers with groups of 0 at the end. They are read as they are written here while document 01's words hold; what is answered to them stands in
-# results_reference.py (`number`) alone.
+# Numbers with groups of 0 at the end, each refused 14 at its first byte.
 def padded():
     for of in (EMPTY, SMALL, WIDE):
         numbers = parts(of)

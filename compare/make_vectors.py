@@ -132,7 +132,7 @@ LONG_NUMBERS = {                                 # in the place of a number, who
     'tenth byte above 1': lambda n: bytes([0x80] * 9 + [2]),
     'eleven groups': lambda n: bytes([0x81] + [0x80] * 9 + [0]),
     'ends in the tenth': lambda n: bytes([0xFF] * 9 + [0x80]),
-    'zero groups': lambda n: sheet_bytes.number_bytes(n, 9 - len(sheet_bytes.number_bytes(n))),
+    'padded': lambda n: sheet_bytes.number_bytes(n, 9 - len(sheet_bytes.number_bytes(n))),
 }
 
 

@@ -1,4 +1,4 @@
-"""Result sheets (kind 2) rendered from document 02, request 1, alone: it uses nothing of the library or of the definitions.
+"""Result sheets (kind 2) rendered from document 02, requests 1 and 3, alone: it uses nothing of the library or of the definitions.
 
 `read(data)` gives ('read', (regions, labels, tallies, pairs, rows)) or ('refused', number, place); `write(..)` gives ('written', bytes) or
 ('refused', number, 0). Lists are flat: two tallies a span, three numbers a pair row, five an output row.
@@ -38,6 +38,8 @@ def number(data: bytes, at: int) -> tuple[int, int]:
             raise Bad(at)
         value |= (byte & 127) << (7 * group)
         if byte < 128:
+            if len(group_bytes(value)) <= group:                       # not in the shortest form
+                raise Bad(at)
             return value, at + group + 1
     raise AssertionError('a tenth byte of 0 or 1 ends a number')
 

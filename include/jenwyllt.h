@@ -248,6 +248,7 @@ struct jenwyllt_result {
      number  cause                                                                                        place
      14      the bytes end early                                                                          their length
      14      a number over ten groups or 64 bits, a kind not 2                                            its first byte
+     14      a padded number: its last byte, behind others, is 0                                          its first byte
      14      bytes are left over                                                                          the first of them
      15      a label that starts no number in turn, or a number above the region count                    its first byte
      15      labels all in turn that do not reach the region count                                        the first byte of the region count
@@ -277,7 +278,7 @@ struct jenwyllt_sheet {
 };
 
 /* Reads a sheet of kind 1, a map as bytes: kind, pass, width, height, the cells, then spans, boundaries and anchors, each list behind its count. A number
-   stands in groups of seven bits, least first, the top bit set on all but its last byte.
+   stands in groups of seven bits, least first, the top bit set on all but its last byte, in its shortest form: zero is the byte 0. So one map has one sheet.
 
    Read:
      bytes       the sheet
@@ -293,6 +294,7 @@ struct jenwyllt_sheet {
      number  cause                                                                  place
      14      the bytes end early                                                    their length
      14      a number over ten groups or 64 bits, a kind not 1, a cell over 255     its first byte
+     14      a padded number: its last byte, behind others, is 0                    its first byte
      14      bytes are left over                                                    the first of them
      1       a side is 0 or over 1024                                               0
      3       over 256 spans, boundaries or anchors                                  0

@@ -1,4 +1,4 @@
-//! The reader of sheets of kind 1, written from document 01.
+//! The reader of sheets of kind 1, written from document 01 and request 3 of document 02.
 
 /// A refusal of document 01's table: its number, and the place returned with it.
 #[derive(Debug, Clone, Copy, PartialEq, Eq)]
@@ -81,7 +81,8 @@ struct Reader<'a> {
 }
 
 impl Reader<'_> {
-    /// Groups of seven bits, least first, the top bit set on all but the last. Ten groups at most; the tenth may hold one bit.
+    /// Groups of seven bits, least first, the top bit set on all but the last. Ten groups at most; the tenth may hold one bit. The shortest form only: a last group
+    /// of zero behind others is refused.
     fn number(&mut self) -> Result<u64, Refusal> {
         let first = self.offset;
         let mut value = 0;
@@ -96,7 +97,8 @@ impl Reader<'_> {
             }
             value |= u64::from(byte & 0x7f) << (7 * group);
             if byte < 0x80 {
-                return Ok(value);
+                let padded = group > 0 && byte == 0;
+                return if padded { Err(Refusal::new(14, first)) } else { Ok(value) };
             }
         }
         unreachable!("a tenth group of 0 or 1 ends the number")

@@ -5,36 +5,56 @@ import itertools
 from collections.abc import Iterator
 
 from .refusal import WORDS, Cause, Refusal
-from .sheet import KIND, MOST_ENTRIES, Boundary, Point, Sheet, Span
+from .sheet import ANCHOR_NUMBERS, BOUNDARY_NUMBERS, KIND, MOST_ENTRIES, SPAN_NUMBERS, Boundary, Point, Sheet, Span
 
 WIDEST = 65536
 LONGEST_NUMBER = 10                 # bytes
+CONTINUED = 128                     # the top bit of a byte: another follows
 UNLIKELY_KIND = 16                  # a file that begins with such a number was hardly meant for a sheet
 MOST_ELEVATION, MOST_RAMP_ELEVATION, MOST_KIND, RAMP_BITS = 3, 7, 2, 32
 
 
 # ---- faults of a sheet as bytes
 
-def numbers_of(data: bytes) -> Iterator[tuple[int, int | None]]:
-    """each number with the place of its first byte; None and the end where one is over 64 bits or ends early"""
+def numbers_of(data: bytes) -> Iterator[tuple[int, int | None, str]]:
+    """each number with the place of its first byte; the first that is ill formed has no value, and what is wrong with it, and is the last"""
     at = 0
     while at < len(data):
-        first, value = at, 0
+        first, value, byte = at, 0, CONTINUED
         for group in range(LONGEST_NUMBER):
-            if at == len(data) or (group == LONGEST_NUMBER - 1 and data[at] > 1):
-                yield first, None
-                return
-            value |= (data[at] & 127) << (7 * group)
-            at += 1
-            if data[at - 1] < 128:
+            if byte < CONTINUED:
                 break
-        yield first, value
+            if at == len(data):
+                yield first, None, 'ends early'
+                return
+            byte = data[at]
+            if group == LONGEST_NUMBER - 1 and byte > 1:
+                yield first, None, 'is over 64 bits'
+                return
+            value |= byte % CONTINUED << (7 * group)
+            at += 1
+        if byte == 0 and at > first + 1:
+            yield first, None, 'is padded: it ends in a group of zero'
+            return
+        yield first, value, ''
 
 
 def opening(data: bytes) -> tuple[int, int, int, int] | None:
     """kind, pass, width and height, where the bytes go so far"""
-    first = [value for _, value in itertools.islice(numbers_of(data), 4)]
+    first = [value for _, value, _ in itertools.islice(numbers_of(data), 4)]
     return None if len(first) < 4 or None in first else tuple(first)
+
+
+def is_over(values: list[int]) -> bool:
+    """whether the sheet is over behind these numbers"""
+    if len(values) < 4:
+        return False
+    at = 4 + values[2] * values[3]
+    for size in (SPAN_NUMBERS, BOUNDARY_NUMBERS, ANCHOR_NUMBERS):
+        if len(values) <= at:
+            return False
+        at += 1 + size * values[at]
+    return len(values) == at
 
 
 def sheet_words(data: bytes, place: int) -> str:
@@ -43,15 +63,18 @@ def sheet_words(data: bytes, place: int) -> str:
         return 'there are no bytes'
     if place >= len(data):
         return f'the sheet ends early, behind {len(data)} bytes'
-    k, value = next((k, value) for k, (first, value) in enumerate(numbers_of(data)) if first == place)
-    if value is None:
-        return f'the number at byte {place} is over 64 bits'
-    if k == 0:
+    before, value, wrong = [], None, ''
+    for first, value, wrong in numbers_of(data):
+        if first == place:
+            break
+        before.append(value)
+    if is_over(before):
+        return f'the sheet is over at byte {place}, and {len(data) - place} bytes are left'
+    if wrong:
+        return f'the number at byte {place} {wrong}'
+    if not before:
         return f'the sheet is of kind {value}, not {KIND}' if value < UNLIKELY_KIND else f'this is neither a sheet of kind {KIND} nor a text'
-    opened = opening(data)
-    if opened and k < 4 + opened[2] * opened[3]:
-        return f'cell {k - 4} is {value}, over 255'
-    return f'the sheet is over at byte {place}, and {len(data) - place} bytes are left'
+    return f'cell {len(before) - 4} is {value}, over 255'
 
 
 # ---- faults of a map

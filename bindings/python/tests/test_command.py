@@ -143,6 +143,11 @@ class Refusals(Trial):
                 (b'\x89PNG\r\n', '14 at 0: this is neither a sheet of kind 1 nor a text'), (b'\1\1\1\1', '14 at 4: the sheet ends early, behind 4 bytes'),
                 (b'\1' + b'\xff' * 10, '14 at 1: the number at byte 1 is over 64 bits'), (b'\1\1\1\1\xac\2\0\0\0', '14 at 4: cell 0 is 300, over 255'),
                 (b'\1\1\1\1\1\0\0\0\0\0', '14 at 8: the sheet is over at byte 8, and 2 bytes are left'),
+                (b'\1\1\1\1\1\0\0\0\x80\x80', '14 at 8: the sheet is over at byte 8, and 2 bytes are left'),
+                (b'\1\1\1\1\1\0\0\0\x80\0', '14 at 8: the sheet is over at byte 8, and 2 bytes are left'),
+                (b'\1\1\x81\0\1\1\0\0\0', '14 at 2: the number at byte 2 is padded: it ends in a group of zero'),
+                (b'\1\1\xc1\0\x40', '14 at 2: the number at byte 2 is padded: it ends in a group of zero'),
+                (b'\1\1\x41\xc0\0', '14 at 3: the number at byte 3 is padded: it ends in a group of zero'),
                 (b'\1\1\0\1', '1 at 0: 0 by 1 cells: a side is 0 or over 1,024'),
                 (b'\1\1\1\1\1\x81\2', '3 at 0: over 256 spans, boundaries or anchors, or the last one is unfinished'),
                 (b'\1\1\1\1' + b'\0' * 65536, '14 at 65536: the sheet has 65,540 bytes, and keptlist takes 65,536; --large takes more')):

@@ -89,7 +89,10 @@ class Sheets(unittest.TestCase):
             self.check(whole[:k], f'refused 14 at {k}')
         self.check(whole + b'\0', f'refused 14 at {len(whole)}')
         self.check([2], 'refused 14 at 0')
-        self.check([0x81, 0x80, 0] + list(whole[1:]), 'kept 0 of 0')                       # groups of zero at the end
+        self.check([0x81, 0x80, 0] + list(whole[1:]), 'refused 14 at 0')                   # padded
+        self.check([1, 0x80, 0], 'refused 14 at 1')                                        # zero in two bytes
+        self.check([1, 0x81, 0x80], 'refused 14 at 3')                                     # without its last byte an early end
+        self.check([1, 0x80, 0x80, 1] + list(whole[2:]), 'refused 4 at 0')                 # 16,384: a group of zero inside
         self.check([1] + [0x80] * 9, 'refused 14 at 10')                                   # an early end
         self.check([1] + [0x80] * 9 + [2], 'refused 14 at 1')                              # too long
         self.check([1] + [0xff] * 9 + [1] + list(whole[2:]), 'refused 4 at 0')             # 64 bits

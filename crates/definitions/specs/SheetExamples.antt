@@ -26,9 +26,16 @@ unfolding number
 numberExamples =
     -- least group first; the offset behind, and the bytes from there on
     number 0 (172 ∷ 2 ∷ 7 ∷ []) gives found 300 2 (7 ∷ [])
-    -- groups of zero at the end
-    ∷ number 0 (129 ∷ 128 ∷ 0 ∷ []) gives found 1 3 []
-    ∷ number 0 (129 ∷ 128 ∷ 128 ∷ 128 ∷ 128 ∷ 128 ∷ 128 ∷ 128 ∷ 128 ∷ 0 ∷ []) gives found 1 10 []
+    -- zero is one byte; padded in two, three and ten bytes, whatever follows, it is refused at its first byte, and so is 1
+    ∷ number 0 (0 ∷ 7 ∷ []) gives found 0 1 (7 ∷ [])
+    ∷ number 30 (128 ∷ 0 ∷ 7 ∷ []) gives failed 14 30
+    ∷ number 30 (128 ∷ 128 ∷ 0 ∷ []) gives failed 14 30
+    ∷ number 30 (129 ∷ 0 ∷ []) gives failed 14 30
+    ∷ number 30 (129 ∷ 128 ∷ 128 ∷ 128 ∷ 128 ∷ 128 ∷ 128 ∷ 128 ∷ 128 ∷ 0 ∷ []) gives failed 14 30
+    -- groups of zero without a last byte are an early end; groups of zero inside a number stay
+    ∷ number 30 (129 ∷ 128 ∷ []) gives failed 14 32
+    ∷ number 30 (129 ∷ 128 ∷ 128 ∷ 128 ∷ 128 ∷ 128 ∷ 128 ∷ 128 ∷ 128 ∷ []) gives failed 14 39
+    ∷ number 0 (128 ∷ 128 ∷ 1 ∷ []) gives found 16384 3 []
     -- ten groups, the last of them 1
     ∷ number 0 (128 ∷ 128 ∷ 128 ∷ 128 ∷ 128 ∷ 128 ∷ 128 ∷ 128 ∷ 128 ∷ 1 ∷ []) gives found (2 ^ 63) 10 []
     ∷ number 0 (nine ++ (1 ∷ [])) gives found (2 ^ 64 - 1) 10 []
@@ -80,8 +87,15 @@ unfolding plain readSheet
 sheetExamples =
     plain smallBytes gives wellFormed small
     ∷ plain (1 ∷ 3 ∷ 1 ∷ 1 ∷ 1 ∷ 0 ∷ 0 ∷ 0 ∷ []) gives wellFormed (oneCell 3)
-    -- any pass is read; padded numbers
-    ∷ plain (129 ∷ 0 ∷ 172 ∷ 2 ∷ 129 ∷ 0 ∷ 1 ∷ 129 ∷ 128 ∷ 0 ∷ 128 ∷ 0 ∷ 0 ∷ 0 ∷ []) gives wellFormed (oneCell 300)
+    -- any pass is read
+    ∷ plain (1 ∷ 172 ∷ 2 ∷ 1 ∷ 1 ∷ 1 ∷ 0 ∷ 0 ∷ 0 ∷ []) gives wellFormed (oneCell 300)
+    -- a padded kind, pass, side, cell and count, whatever their value: no check is asked of it
+    ∷ plain (129 ∷ 0 ∷ 3 ∷ 1 ∷ 1 ∷ 1 ∷ 0 ∷ 0 ∷ 0 ∷ []) gives refused 14 0
+    ∷ plain (1 ∷ 131 ∷ 0 ∷ 1 ∷ 1 ∷ 1 ∷ 0 ∷ 0 ∷ 0 ∷ []) gives refused 14 1
+    ∷ plain (1 ∷ 3 ∷ 128 ∷ 0 ∷ 1 ∷ 1 ∷ 0 ∷ 0 ∷ 0 ∷ []) gives refused 14 2
+    ∷ plain (1 ∷ 3 ∷ 0 ∷ 129 ∷ 0 ∷ 1 ∷ 0 ∷ 0 ∷ 0 ∷ []) gives refused 14 3
+    ∷ plain (1 ∷ 3 ∷ 1 ∷ 1 ∷ 129 ∷ 128 ∷ 0 ∷ 0 ∷ 0 ∷ 0 ∷ []) gives refused 14 4
+    ∷ plain (1 ∷ 3 ∷ 1 ∷ 1 ∷ 1 ∷ 129 ∷ 130 ∷ 0 ∷ []) gives refused 14 5
     -- bytes left over
     ∷ plain (1 ∷ 3 ∷ 1 ∷ 1 ∷ 1 ∷ 0 ∷ 0 ∷ 0 ∷ 0 ∷ 0 ∷ []) gives refused 14 8
     -- no bytes; a kind other than 1, though nothing follows; an unfinished kind

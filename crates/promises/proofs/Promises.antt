@@ -5,7 +5,7 @@ use mathlib.Core.Path.{_≡_}
 use mathlib.Core.Logic.{_↔_}
 use mathlib.Core.Bool.{Bool, true, not, _&&_, _||_}
 use mathlib.Core.Option.{none, some}
-use mathlib.Core.List.{List, map, List·Memᴰ}
+use mathlib.Core.List.{List, map, List·Memᴰ, _++_}
 use lib.ListN.{length, getD, take}
 use lib.Dec.{eqb}
 use lib.Ieee.{Float, binary64, toBits}
@@ -23,6 +23,9 @@ use Rattle.definitions.specs.Junctions.{boundaryKey, unionRegions}
 use Rattle.definitions.specs.Refusals.{widthFits}
 use Rattle.definitions.specs.Verdict.{Lent, Answer, mapIn, verdict}
 use Rattle.definitions.specs.Printed.{keptlist, text}
+use Rattle.definitions.specs.SheetNumber.{found, number}
+use Rattle.definitions.specs.Sheet.{Sheet, readSheet}
+use Rattle.definitions.specs.Sheet as sheet
 use Rattle.definitions.specs.Cases as cases
 use Rattle.definitions.specs.SheetExamples.{bytesJ}
 use Rattle.definitions.specs.CaseJ as case-j
@@ -72,8 +75,18 @@ use Rattle.pool.proofs.Returned as returned
 use Rattle.results.specs.Result.{Result, rulesFault}
 use Rattle.results.specs.ResultAnswers.{readResult, resultBytes, wellFormed, Writes}
 use Rattle.results.specs.ResultAnswers as answers
+use Rattle.results.specs.Shortest.{shortest}
 use Rattle.results.specs.Calls.{InMemory}
 use Rattle.results.specs.Calls as written
+use Rattle.sheet.specs.Answers.{answerNumber}
+use Rattle.sheet.specs.declared.Answer.{Answer as ReadAnswer}
+use Rattle.sheets_equal.specs.NumberBytes.{Bytes}
+use Rattle.sheets_equal.specs.NumberBytes as numbers
+use Rattle.sheets_equal.specs.SheetsEqual as sheets
+use Rattle.sheets_equal.specs.SheetCalls.{Called as ReadCall, held}
+use Rattle.sheets_equal.specs.SheetCalls as sheet-calls
+use Rattle.sheets_equal.specs.ResultsEqual as results
+use Rattle.sheets_equal.specs.ReaderCalls as reader-calls
 use Rattle.result_reader.specs.Contract.{Reads}
 use Rattle.result_reader.specs.TwoCalls.{Enough, Holds}
 use Rattle.result_reader.specs.TwoCalls as two
@@ -171,6 +184,42 @@ share-only = shares.share-only
 -- and what a union asks of two records is what the Rust's own lines ask, with its dominant elevation, of every context
 pub unions-as-rust : (C : Context) (i : ℕ) (p : Pair) → unionPasses C (proposed C i p) ≡ unionRegions C i p
 unions-as-rust = unions.passes-is
+
+-- ---- request 3: one map has one sheet
+
+-- reading a number gives exactly the bytes that would be written for it
+pub number-bytes : (offset : ℕ) (bytes : List ℕ) {v next : ℕ} {rest : List ℕ} → Bytes bytes → number offset bytes ≡ found v next rest → bytes ≡ shortest v ++ rest
+number-bytes = numbers.number-bytes
+
+-- "Two accepted sheets of kind 1 are then equal bytes exactly when they state the same pass, sides and map lists", whatever the limit of cells
+pub sheets-equal : (cellLimit : ℕ) (a b : List ℕ) {s t : Sheet} → Bytes a → Bytes b → readSheet cellLimit a ≡ sheet.wellFormed s → readSheet cellLimit b ≡ sheet.wellFormed t
+    → (a ≡ b) ↔ (s ≡ t)
+sheets-equal = sheets.sheets-equal
+
+-- the same over two calls of the reader that answered 0, of what their callers then have
+pub sheet-calls-equal : (a : List ℕ) {cells spans boundaries anchors : List ℕ} {answer : ReadAnswer} {cells′ spans′ boundaries′ anchors′ : List ℕ}
+    (b : List ℕ) {cells₂ spans₂ boundaries₂ anchors₂ : List ℕ} {answer₂ : ReadAnswer} {cells₂′ spans₂′ boundaries₂′ anchors₂′ : List ℕ}
+    → ReadCall a cells spans boundaries anchors answer cells′ spans′ boundaries′ anchors′ → answerNumber answer ≡ 0
+    → ReadCall b cells₂ spans₂ boundaries₂ anchors₂ answer₂ cells₂′ spans₂′ boundaries₂′ anchors₂′ → answerNumber answer₂ ≡ 0
+    → Bytes a → Bytes b
+    → (a ≡ b) ↔ (held answer cells′ spans′ boundaries′ anchors′ ≡ held answer₂ cells₂′ spans₂′ boundaries₂′ anchors₂′)
+sheet-calls-equal = sheet-calls.calls-equal
+
+-- of kind 2: a result that was read is the bytes that would be written for it
+pub read-written : (bytes : List ℕ) {r : Result} → Bytes bytes → readResult bytes ≡ wellFormed r → bytes ≡ resultBytes r
+read-written = results.read-written
+
+-- so two result sheets are equal bytes exactly when they state the same result, as what is read and as what the callers of two calls that answered 0 then have
+pub results-equal : (a b : List ℕ) {r t : Result} → Bytes a → Bytes b → readResult a ≡ wellFormed r → readResult b ≡ wellFormed t → (a ≡ b) ↔ (r ≡ t)
+results-equal = results.results-equal
+
+pub result-calls-equal : (a labels tallies pairs rows : List ℕ) {answer : ResultAnswer} {labels′ tallies′ pairs′ rows′ : List ℕ}
+    (b labels₂ tallies₂ pairs₂ rows₂ : List ℕ) {answer₂ : ResultAnswer} {labels₂′ tallies₂′ pairs₂′ rows₂′ : List ℕ}
+    → Reads a labels tallies pairs rows answer labels′ tallies′ pairs′ rows′ → answer .number ≡ 0
+    → Reads b labels₂ tallies₂ pairs₂ rows₂ answer₂ labels₂′ tallies₂′ pairs₂′ rows₂′ → answer₂ .number ≡ 0
+    → Bytes a → Bytes b
+    → (a ≡ b) ↔ (reader-calls.held answer labels′ tallies′ pairs′ rows′ ≡ reader-calls.held answer₂ labels₂′ tallies₂′ pairs₂′ rows₂′)
+result-calls-equal = reader-calls.calls-equal
 
 -- ---- request 5: the bytes of the word are the eight directions, in their order
 

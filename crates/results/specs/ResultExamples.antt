@@ -72,8 +72,11 @@ readExamples =
     ∷ readVerdict smallBytes 5 4 6 10 gives wellFormed small
     -- kinds
     ∷ readResult (1 ∷ 0 ∷ 0 ∷ 0 ∷ 0 ∷ 0 ∷ []) gives refused 14 0
-    -- document 01: "Groups of zero at the end are allowed", in a kind too
-    ∷ readResult (130 ∷ 0 ∷ 0 ∷ 0 ∷ 0 ∷ 0 ∷ 0 ∷ []) gives wellFormed (labelled 0 [])
+    -- request 3: a padded number is refused "for both kinds"; a kind, a region count, a count of pairs and a label, at its first byte, before 15
+    ∷ readResult (130 ∷ 0 ∷ 0 ∷ 0 ∷ 0 ∷ 0 ∷ 0 ∷ []) gives refused 14 0
+    ∷ readResult (2 ∷ 128 ∷ 0 ∷ 0 ∷ 0 ∷ 0 ∷ 0 ∷ []) gives refused 14 1
+    ∷ readResult (2 ∷ 0 ∷ 0 ∷ 0 ∷ 128 ∷ 128 ∷ 0 ∷ 0 ∷ []) gives refused 14 4
+    ∷ readResult (2 ∷ 2 ∷ 2 ∷ 2 ∷ 129 ∷ 0 ∷ 0 ∷ 0 ∷ 0 ∷ []) gives refused 14 4
     -- a count that no bytes can meet: 2 ^ 63 spans are 2 ^ 64 tallies
     ∷ readResult (2 ∷ 0 ∷ 0 ∷ shortest (2 ^ 63) ++ (0 ∷ 0 ∷ [])) gives refused 14 15
     ∷ []

@@ -3,23 +3,31 @@ use Prim.Native.Nat.{ℕ, zero, suc, _+_, _*_, _/_, _%_, _^_, _<_, _≤_}
 use native.Mathlib.Omega.{arith}
 use native.Mathlib.Nat.{mul-assoc, mul-comm, add-mul, add-assoc, mul-le-mul-right}
 use mathlib.Core.Path.{_≡_, refl, sym, ap, _∙_}
-use mathlib.Core.Bool.{Bool, true, false, _&&_, cond}
+use mathlib.Core.Bool.{Bool, true, false, _&&_, _||_, cond}
 use mathlib.Core.List.{List, [], _∷_, _++_}
 use lib.Dec.{leb, ltb, eqb}
 use lib.Pow.{pow-add}
 use lib.ListN.{length}
-use borrow.Author.Tests.{leb-true, leb-false, ltb-true, ltb-false, eqb-true, le-ltb}
-use Rattle.definitions.specs.SheetNumber.{found, withGroup, tooLong, groups, number}
+use borrow.Author.Tests.{leb-true, leb-false, ltb-true, ltb-false, eqb-true, le-ltb, ne-eqb}
+use Rattle.definitions.specs.SheetNumber.{found, withGroup, illFormed, groups, number}
 use Rattle.laws.specs.SheetReading.SheetLaws.{groups-more, groups-last}
 use Rattle.results.specs.Shortest.{shortestWithin, shortest}
 
--- a byte that is at most 1 behind nine groups
-not-long : (g b : ℕ) → (g ≡ 9 → b ≤ 1) → tooLong g b ≡ false
-not-long g b h = go (eqb g 9) refl
+-- a byte that is at most 1 behind nine groups, and not 0 behind any
+well-formed : (g b : ℕ) → (g ≡ 9 → b ≤ 1) → (0 < g → 0 < b) → illFormed g b ≡ false
+well-formed g b h k = go (eqb g 9) refl (ltb 0 g) refl
   where
-    go : (t : Bool) → eqb g 9 ≡ t → (t && ltb 1 b) ≡ false
-    go true e = le-ltb 1 b (h (eqb-true g 9 e))
-    go false e = refl
+    go : (t : Bool) → eqb g 9 ≡ t → (u : Bool) → ltb 0 g ≡ u → (t && ltb 1 b || (u && eqb b 0)) ≡ false
+    go true e u f =
+        let n : g ≡ 9 = eqb-true g 9 e in
+        let z : 0 < b = k (omega arith) in
+        rw (le-ltb 1 b (h n)) (tail u z)
+      where
+        tail : (u : Bool) → 0 < b → (u && eqb b 0) ≡ false
+        tail true z = ne-eqb b 0 (λ q. omega arith)
+        tail false z = refl
+    go false e true f = ne-eqb b 0 (λ q. let z : 0 < b = k (ltb-true 0 g f) in omega arith)
+    go false e false f = refl
 
 -- the groups from g on, m more at most, of what is left of a number of 64 bits
 groups-shortest : (first m g value high offset : ℕ) (rest : List ℕ) → g + m ≡ 10 → high * 2 ^ (7 * g) < 2 ^ 64 → (0 < g → 0 < high)
@@ -57,7 +65,7 @@ groups-shortest first (suc m) g value high offset rest s h k = go (ltb high 128)
     go true f ih =
         let small : high < 128 = ltb-true high 128 f in
         let digit : high % 128 ≡ high = omega arith in
-        groups-last first g value offset high rest (not-long g high tenth) small ∙ ap (λ n. found (value + n * 2 ^ (7 * g)) (offset + 1) rest) digit
+        groups-last first g value offset high rest (well-formed g high tenth k) small ∙ ap (λ n. found (value + n * 2 ^ (7 * g)) (offset + 1) rest) digit
     go false f ih =
         let large : 128 ≤ high = ltb-false high 128 f in
         let b : ℕ = 128 + high % 128 in
@@ -68,7 +76,7 @@ groups-shortest first (suc m) g value high offset rest s h k = go (ltb high 128)
         let whole : high * P ≡ high % 128 * P + high / 128 * 128 * P = ap (λ n. n * P) parts ∙ add-mul (high % 128) (high / 128 * 128) P in
         let behind : offset + 1 + length (shortestWithin m (high / 128)) ≡ offset + suc (length (shortestWithin m (high / 128))) = omega arith in
         let more : groups first g value offset (b ∷ (shortestWithin m (high / 128) ++ rest)) ≡ groups first (g + 1) (withGroup value g b) (offset + 1) (shortestWithin m (high / 128) ++ rest) =
-        groups-more first g value offset b (shortestWithin m (high / 128) ++ rest) (not-long g b (λ n. absurd (not-nine n))) (omega arith) in
+        groups-more first g value offset b (shortestWithin m (high / 128) ++ rest) (well-formed g b (λ n. absurd (not-nine n)) (λ p. omega arith)) (omega arith) in
         more ∙ ih (withGroup value g b) (offset + 1) (omega arith) (omega arith) (λ p. omega arith)
         ∙ ap (λ n. found n (offset + 1 + length (shortestWithin m (high / 128))) rest) (sum low shifted whole)
         ∙ ap (λ n. found (value + high * P) n rest) behind

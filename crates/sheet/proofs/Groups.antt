@@ -9,8 +9,8 @@ use native.Mathlib.Numerals.{add-one}
 use lib.ListN.{length, drop, getD, drop-of-length-le}
 use lib.Seq.{drop-cons}
 use lib.Pow.{pow-add, pow-mono}
-use Rattle.definitions.specs.SheetNumber.{found, failed, withGroup, tooLong, groups, number}
-use Rattle.laws.specs.SheetReading.SheetLaws.{groups-long, groups-more, groups-last, not-tenth, below-next, within-64}
+use Rattle.definitions.specs.SheetNumber.{found, failed, withGroup, illFormed, groups, number}
+use Rattle.laws.specs.SheetReading.SheetLaws.{groups-bad, groups-more, groups-last, not-tenth, below-next, within-64}
 
 -- Of the number at `at`, the groups before `next` have this value, and reading on from there gives the number.
 pub record Groups (bytes : List ℕ) (at value scale group next : ℕ) : Type 0 where
@@ -38,10 +38,10 @@ module _ {bytes : List ℕ} {at value scale group next b : ℕ} (G : Groups byte
   grown : value + b % 128 * scale ≡ withGroup value group b
   grown = ap (λ s. value + b % 128 * s) (G .scaled)
 
-  pub long : tooLong group b ≡ true → number at (drop at bytes) ≡ failed 14 at
-  long t = here ∙ groups-long at group value next b (drop (next + 1) bytes) t
+  pub bad : illFormed group b ≡ true → number at (drop at bytes) ≡ failed 14 at
+  bad t = here ∙ groups-bad at group value next b (drop (next + 1) bytes) t
 
-  module _ (t : tooLong group b ≡ false) where
+  module _ (t : illFormed group b ≡ false) where
     pub fits : value + b % 128 * scale < 2 ^ 64
     fits = rw grown (within-64 group value b (G .few) (G .below) t)
 

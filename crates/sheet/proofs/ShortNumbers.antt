@@ -9,7 +9,7 @@ use lib.Dec.{ltb, eqb}
 use lib.ListN.{length, drop, getD}
 use lib.Seq.{drop-cons}
 use borrow.Author.Tests.{ltb-true, ne-eqb}
-use Rattle.definitions.specs.SheetNumber.{found, withGroup, tooLong, number}
+use Rattle.definitions.specs.SheetNumber.{found, withGroup, illFormed, number}
 use Rattle.laws.specs.ListLaws.Tests.{both}
 use Rattle.laws.specs.SheetReading.SheetLaws.{groups-more, groups-last}
 
@@ -20,8 +20,8 @@ one-byte at b rest h =
     groups-last at 0 0 at b rest refl h ∙ ap (λ v. found v (at + 1) rest) value
 
 -- a second byte that is not 0 makes no number ill formed
-second-fits : (c : ℕ) → eqb c 0 ≡ false → tooLong 1 c ≡ false
-second-fits c h = refl
+second-fits : (c : ℕ) → eqb c 0 ≡ false → illFormed 1 c ≡ false
+second-fits c h = h
 
 pub second-below : {t : Bool} (c : ℕ) → t ≡ (ltb 0 c && ltb c 128) → t ≡ true → c < 128
 second-below {t} c e h = ltb-true c 128 (both (ltb 0 c) (ltb c 128) (sym e ∙ h) .1)

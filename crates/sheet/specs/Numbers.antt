@@ -8,16 +8,16 @@ use lib.Dec.{leb}
 use Rattle.definitions.specs.SheetNumber.{Read, found, failed}
 use Rattle.definitions.specs.Sheet.{Reader, judged, times}
 use Rattle.sheet.specs.declared.NumberRead.{NumberRead}
-use Rattle.sheet.specs.declared.NumberRead.the-variants.{Value, Long, Short}
+use Rattle.sheet.specs.declared.NumberRead.the-variants.{Value, Bad, Short}
 use Rattle.sheet.specs.declared.ItemRead.{ItemRead}
 use Rattle.sheet.specs.declared.ItemRead.the-variants.{Item, Fault}
 use Rattle.sheet.specs.declared.Judged.{Judged}
 use Rattle.sheet.specs.declared.Judged.the-variants.{Behind, Faulty}
 
--- "An early end is refused 14 at the sheet's length"; a number that is too long "at [its] first byte"
+-- "An early end is refused 14 at the sheet's length"; a number that is too long or padded "at [its] first byte"
 abbrev pub numberOf : List ℕ → ℕ → NumberRead → Read ℕ
 numberOf bytes at (Value value next) = found value next (drop next bytes)
-numberOf bytes at Long = failed 14 at
+numberOf bytes at Bad = failed 14 at
 numberOf bytes at Short = failed 14 (length bytes)
 
 -- a number of at most this, else refused 14 at its first byte: a cell is `upTo 255`

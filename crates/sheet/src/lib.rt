@@ -16,10 +16,10 @@ ghost use Rattle.sheet.specs.Answers.{headerIn, Answered, readingWithin}
 
 // ---- one number
 
-// What stands at an offset: a number, with the offset behind it; or more than ten groups or 64 bits; or an early end.
+// What stands at an offset: a number, with the offset behind it; or one that is too long or padded; or an early end.
 pub enum NumberRead {
     Value(u64, usize),
-    Long,
+    Bad,
     Short,
 }
 
@@ -29,11 +29,11 @@ fn wide(byte: u8) -> u64
     byte as u64
 }
 
-// Nine groups have 63 bits, so the tenth byte has one bit to give, and none follows it.
-fn too_long(group: u64, byte: u64) -> bool
-    ensures { λ r. ⌜ r ≡ grammar.tooLong group byte ⌝ }
+// Nine groups have 63 bits, so the tenth byte has one bit to give, and none follows it. A last group of zero, behind others, pads the number.
+fn ill_formed(group: u64, byte: u64) -> bool
+    ensures { λ r. ⌜ r ≡ grammar.illFormed group byte ⌝ }
 {
-    group == 9 && 1 < byte
+    (group == 9) & (1 < byte) | (0 < group) & (byte == 0)
 }
 
 // The number at an offset, in groups of seven bits, least first.
@@ -48,8 +48,8 @@ pub fn number(bytes: &[u8], at: usize) -> NumberRead
     while next < bytes.len() {
         let byte = wide(bytes[next]);
         next += 1;
-        if too_long(group, byte) {
-            return NumberRead::Long;
+        if ill_formed(group, byte) {
+            return NumberRead::Bad;
         }
         value += byte % 128 * scale;
         if byte < 128 {
@@ -113,7 +113,7 @@ pub fn item(bytes: &[u8], at: usize, most: u64) -> ItemRead
                 ItemRead::Fault(at)
             }
         }
-        NumberRead::Long => ItemRead::Fault(at),
+        NumberRead::Bad => ItemRead::Fault(at),
         NumberRead::Short => ItemRead::Fault(bytes.len()),
     }
 }

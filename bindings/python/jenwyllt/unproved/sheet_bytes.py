@@ -1,4 +1,4 @@
-"""The sheet as bytes: writer, reader, and what `keptlist` prints. Written from the scope paper, 'The sheet and the printed list'."""
+"""The sheet as bytes: writer, reader, and what `keptlist` prints. Written from the scope paper, 'The sheet and the printed list', and from request 3."""
 from . import reference
 from .reference import Lent, Map
 
@@ -17,7 +17,7 @@ class Refused(Exception):
 # ---- the writer
 
 def number_bytes(value, extra=0):
-    """groups of seven bits, least first; `extra` groups of zero may follow"""
+    """groups of seven bits, least first: the shortest form, or `extra` groups of zero behind it, which the reader refuses"""
     assert 0 <= value < 1 << 64
     out = []
     while True:
@@ -56,6 +56,8 @@ class Reader:
             self.at += 1
             value |= (byte & 127) << (7 * group)
             if byte < 128:
+                if len(number_bytes(value)) != self.at - first:          # not in the shortest form
+                    raise Refused(14, first)
                 return value
         raise AssertionError('the tenth byte is 0 or 1')
 

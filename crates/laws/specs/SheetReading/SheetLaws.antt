@@ -10,31 +10,34 @@ use lib.Dec.{leb, eqb}
 use lib.Pow.{pow-add, pow-mono}
 use lib.ListN.{length, drop, length-drop}
 use borrow.Author.Tests.{leb-true, leb-false, ltb-false, eqb-true, eqb-false, le-leb, lt-leb, eq-eqb}
-use Rattle.definitions.specs.SheetNumber.{Read, found, failed, withGroup, tooLong, groups, number}
+use Rattle.definitions.specs.SheetNumber.{Read, found, failed, withGroup, tooLong, padded, illFormed, groups, number}
 use Rattle.definitions.specs.Sheet.{Reader, give, check, andThen, times, judged, entries}
 use Rattle.definitions.specs.Limits.{maxEntries}
+use Rattle.laws.specs.ListLaws.Tests.{neither}
 
 -- ---- one group of a number
 
 module _ (first g value offset b : ℕ) (rest : List ℕ) where
-  pub groups-long : tooLong g b ≡ true → groups first g value offset (b ∷ rest) ≡ failed 14 first
+  pub groups-bad : illFormed g b ≡ true → groups first g value offset (b ∷ rest) ≡ failed 14 first
   unfolding groups
-  groups-long h = rw h
+  groups-bad h = rw h
 
-  pub groups-more : tooLong g b ≡ false → 128 ≤ b → groups first g value offset (b ∷ rest) ≡ groups first (g + 1) (withGroup value g b) (offset + 1) rest
+  pub groups-more : illFormed g b ≡ false → 128 ≤ b → groups first g value offset (b ∷ rest) ≡ groups first (g + 1) (withGroup value g b) (offset + 1) rest
   unfolding groups
   groups-more h k = rw (h, le-leb 128 b k)
 
-  pub groups-last : tooLong g b ≡ false → b < 128 → groups first g value offset (b ∷ rest) ≡ found (withGroup value g b) (offset + 1) rest
+  pub groups-last : illFormed g b ≡ false → b < 128 → groups first g value offset (b ∷ rest) ≡ found (withGroup value g b) (offset + 1) rest
   unfolding groups
   groups-last h k = rw (h, lt-leb 128 b k)
 
 -- a tenth group is 0 or 1
-pub tenth-group : (g b : ℕ) → tooLong g b ≡ false → g ≡ 9 → b ≤ 1
-tenth-group g b h e = ltb-false 1 b (rw (eq-eqb g 9 e) at h)
+pub tenth-group : (g b : ℕ) → illFormed g b ≡ false → g ≡ 9 → b ≤ 1
+tenth-group g b h e =
+    let k : tooLong g b ≡ false = neither (tooLong g b) (padded g b) h .0 in
+    ltb-false 1 b (rw (eq-eqb g 9 e) at k)
 
 -- after a group that is continued there have been at most nine
-pub not-tenth : (g b : ℕ) → g ≤ 9 → tooLong g b ≡ false → 128 ≤ b → g + 1 ≤ 9
+pub not-tenth : (g b : ℕ) → g ≤ 9 → illFormed g b ≡ false → 128 ≤ b → g + 1 ≤ 9
 not-tenth g b h k m = go (eqb g 9) refl
   where
     go : (t : Bool) → eqb g 9 ≡ t → g + 1 ≤ 9
@@ -51,7 +54,7 @@ below-next g value b h =
     omega arith
 
 -- ten groups that are not too long have 64
-pub within-64 : (g value b : ℕ) → g ≤ 9 → value < 2 ^ (7 * g) → tooLong g b ≡ false → withGroup value g b < 2 ^ 64
+pub within-64 : (g value b : ℕ) → g ≤ 9 → value < 2 ^ (7 * g) → illFormed g b ≡ false → withGroup value g b < 2 ^ 64
 within-64 g value b h k m = go (eqb g 9) refl
   where
     go : (t : Bool) → eqb g 9 ≡ t → withGroup value g b < 2 ^ 64
@@ -79,7 +82,7 @@ groups-sum : (first g value offset : ℕ) (bytes : List ℕ) {v next : ℕ} {res
 unfolding groups
 groups-sum first g value offset [] h = absurd (not-found h)
 groups-sum first g value offset (b ∷ bytes) {v} {next} {rest} h =
-    go (tooLong g b) refl (leb 128 b) refl (λ q. groups-sum first (g + 1) (withGroup value g b) (offset + 1) bytes q)
+    go (illFormed g b) refl (leb 128 b) refl (λ q. groups-sum first (g + 1) (withGroup value g b) (offset + 1) bytes q)
   where
     last : found (withGroup value g b) (offset + 1) bytes ≡ found v next rest → next + length rest ≡ offset + suc (length bytes)
     last q =
@@ -87,10 +90,10 @@ groups-sum first g value offset (b ∷ bytes) {v} {next} {rest} h =
         let y : length rest ≡ length bytes = cc in
         omega arith
 
-    go : (t : Bool) → tooLong g b ≡ t → (u : Bool) → leb 128 b ≡ u
+    go : (t : Bool) → illFormed g b ≡ t → (u : Bool) → leb 128 b ≡ u
         → (groups first (g + 1) (withGroup value g b) (offset + 1) bytes ≡ found v next rest → next + length rest ≡ offset + 1 + length bytes)
         → next + length rest ≡ offset + suc (length bytes)
-    go true e u f ih = absurd (not-found (sym (groups-long first g value offset b bytes e) ∙ h))
+    go true e u f ih = absurd (not-found (sym (groups-bad first g value offset b bytes e) ∙ h))
     go false e true f ih = omega (arith, ih (sym (groups-more first g value offset b bytes e (leb-true 128 b f)) ∙ h))
     go false e false f ih = last (sym (groups-last first g value offset b bytes e (leb-false 128 b f)) ∙ h)
 
@@ -104,12 +107,12 @@ groups-below : (first g value offset : ℕ) (bytes : List ℕ) {v next : ℕ} {r
 unfolding groups
 groups-below first g value offset [] k m h = absurd (not-found h)
 groups-below first g value offset (b ∷ bytes) {v} {next} {rest} k m h =
-    go (tooLong g b) refl (leb 128 b) refl (λ c q. groups-below first (g + 1) (withGroup value g b) (offset + 1) bytes c (below-next g value b m) q)
+    go (illFormed g b) refl (leb 128 b) refl (λ c q. groups-below first (g + 1) (withGroup value g b) (offset + 1) bytes c (below-next g value b m) q)
   where
-    go : (t : Bool) → tooLong g b ≡ t → (u : Bool) → leb 128 b ≡ u
+    go : (t : Bool) → illFormed g b ≡ t → (u : Bool) → leb 128 b ≡ u
         → (g + 1 ≤ 9 → groups first (g + 1) (withGroup value g b) (offset + 1) bytes ≡ found v next rest → v < 2 ^ 64)
         → v < 2 ^ 64
-    go true e u f ih = absurd (not-found (sym (groups-long first g value offset b bytes e) ∙ h))
+    go true e u f ih = absurd (not-found (sym (groups-bad first g value offset b bytes e) ∙ h))
     go false e true f ih =
         let c : 128 ≤ b = leb-true 128 b f in
         ih (not-tenth g b k e c) (sym (groups-more first g value offset b bytes e c) ∙ h)

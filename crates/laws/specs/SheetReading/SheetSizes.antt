@@ -16,14 +16,14 @@ use Rattle.laws.specs.SheetReading.SheetLaws.{not-found, times-length}
 
 -- ---- what holds of every value that a reader finds
 
-record Gives {A : Type 0} (reader : Reader A) (P : A → Type 0) : Type 0 where
+pub record Gives {A : Type 0} (reader : Reader A) (P : A → Type 0) : Type 0 where
   pub holds : (offset : ℕ) (bytes : List ℕ) {value : A} {next : ℕ} {rest : List ℕ} → reader offset bytes ≡ found value next rest → P value
 
 module _ {A : Type 0} where
-  gives-any : (reader : Reader A) → Gives reader (λ value. Unit {0})
+  pub gives-any : (reader : Reader A) → Gives reader (λ value. Unit {0})
   gives-any reader = record { holds = λ offset bytes h. tt }
 
-  gives-value : (P : A → Type 0) (value : A) → P value → Gives (give value) P
+  pub gives-value : (P : A → Type 0) (value : A) → P value → Gives (give value) P
   gives-value P value p = record { holds = λ offset bytes h. subst P (same h) p }
     where
       same : {v : A} {offset next : ℕ} {bytes rest : List ℕ} → found value offset bytes ≡ found v next rest → value ≡ v
@@ -34,14 +34,14 @@ module _ {A : Type 0} where
   gives-check P false refusal place value p = record { holds = λ offset bytes h. absurd (not-found h) }
 
 module _ {A B : Type 0} (reader : Reader A) (next : A → Reader B) (P : A → Type 0) (Q : B → Type 0) where
-  gives-then : Gives reader P → ((value : A) → P value → Gives (next value) Q) → Gives (λ offset bytes. andThen (reader offset bytes) next) Q
+  pub gives-then : Gives reader P → ((value : A) → P value → Gives (next value) Q) → Gives (λ offset bytes. andThen (reader offset bytes) next) Q
   gives-then k l = record { holds = λ offset bytes h. go offset bytes (reader offset bytes) refl h }
     where
       go : (offset : ℕ) (bytes : List ℕ) (r : Read A) → reader offset bytes ≡ r → {value : B} {last : ℕ} {rest : List ℕ} → andThen r next ≡ found value last rest → Q value
       go offset bytes (found v o m) e h = l v (k .holds offset bytes e) .holds o m h
       go offset bytes (failed refusal place) e h = absurd (not-found h)
 
-gives-times : (n : ℕ) (item : Reader ℕ) → Gives (times n item) (λ l. length l ≡ n)
+pub gives-times : (n : ℕ) (item : Reader ℕ) → Gives (times n item) (λ l. length l ≡ n)
 gives-times n item = record { holds = λ offset bytes h. times-length item n offset bytes h }
 
 -- ---- a list and its count

@@ -5,7 +5,7 @@ use mathlib.Core.Path.{sym, _∙_}
 use borrow.Author.Needs.{needs}
 use native.Mathlib.Omega.{arith}
 use lib.ListN.{length}
-use Rattle.sheet.proofs.Groups.{Groups, start, early-end, long, fits, last, more, scale-fits}
+use Rattle.sheet.proofs.Groups.{Groups, start, early-end, bad, fits, last, more, scale-fits}
 use Rattle.sheet.proofs.number.Statement.{statement}
 use Rattle.sheet.proofs.number.Tie as tie
 
@@ -14,6 +14,10 @@ Inv-loop bytes at value₀ scale₀ group₀ next₀ value scale group next = Gr
 
 abbrev μ-loop : tie.MeasureT-loop
 μ-loop bytes at value₀ scale₀ group₀ next₀ value scale group next = length bytes - next
+
+-- the turn's begin, from where its byte was judged
+abbrev turn : tie.After-ill-formed Inv-loop μ-loop → tie.In-loop Inv-loop μ-loop
+turn c = c .before .before .before
 
 loop-holds : tie.Need-loop-holds Inv-loop μ-loop
 loop-holds c = start _ _ (c .before .pre)
@@ -27,23 +31,23 @@ wide-requires c κs = tt
 add-next : tie.Need-add-next Inv-loop μ-loop
 add-next c = search needs
 
-too-long-requires : tie.Need-too-long-requires Inv-loop μ-loop
-too-long-requires c κs = tt
+ill-formed-requires : tie.Need-ill-formed-requires Inv-loop μ-loop
+ill-formed-requires c κs = tt
 
 returns : tie.Need-returns Inv-loop μ-loop
-returns c = long (c .before .before .before .before .before .loop .inv) (c .before .before .before .before .loop-test .taken) (c .before .before .wide .ensures) (sym (c .before .too-long .ensures) ∙ c .if1 .taken)
+returns c = bad (turn (c .before) .before .loop .inv) (turn (c .before) .loop-test .taken) (c .before .before .wide .ensures) (sym (c .before .ill-formed .ensures) ∙ c .if1 .taken)
 
 mul-value : tie.Need-mul-value Inv-loop μ-loop
-mul-value c = omega (arith, fits (c .before .before .before .before .before .loop .inv) (c .before .before .before .before .loop-test .taken) (c .before .before .wide .ensures) (sym (c .before .too-long .ensures) ∙ c .if1 .left))
+mul-value c = omega (arith, fits (turn (c .before) .before .loop .inv) (turn (c .before) .loop-test .taken) (c .before .before .wide .ensures) (sym (c .before .ill-formed .ensures) ∙ c .if1 .left))
 
 add-value : tie.Need-add-value Inv-loop μ-loop
-add-value c = omega (arith, fits (c .before .before .before .before .before .loop .inv) (c .before .before .before .before .loop-test .taken) (c .before .before .wide .ensures) (sym (c .before .too-long .ensures) ∙ c .if1 .left))
+add-value c = omega (arith, fits (turn (c .before) .before .loop .inv) (turn (c .before) .loop-test .taken) (c .before .before .wide .ensures) (sym (c .before .ill-formed .ensures) ∙ c .if1 .left))
 
 returns-2 : tie.Need-returns-2 Inv-loop μ-loop
-returns-2 c = last (c .before .before .before .before .before .before .loop .inv) (c .before .before .before .before .before .loop-test .taken) (c .before .before .before .wide .ensures) (sym (c .before .before .too-long .ensures) ∙ c .before .if1 .left) (c .if2 .taken)
+returns-2 c = last (turn (c .before .before) .before .loop .inv) (turn (c .before .before) .loop-test .taken) (c .before .before .before .wide .ensures) (sym (c .before .before .ill-formed .ensures) ∙ c .before .if1 .left) (c .if2 .taken)
 
 mul-scale : tie.Need-mul-scale Inv-loop μ-loop
-mul-scale c = omega (arith, scale-fits (c .before .before .before .before .before .before .loop .inv) (c .before .before .before .before .before .loop-test .taken) (c .before .before .before .wide .ensures) (sym (c .before .before .too-long .ensures) ∙ c .before .if1 .left) (c .if2 .left))
+mul-scale c = omega (arith, scale-fits (turn (c .before .before) .before .loop .inv) (turn (c .before .before) .loop-test .taken) (c .before .before .before .wide .ensures) (sym (c .before .before .ill-formed .ensures) ∙ c .before .if1 .left) (c .if2 .left))
 
 add-group : tie.Need-add-group Inv-loop μ-loop
 add-group c = search needs
@@ -52,7 +56,7 @@ loop-less : tie.Need-loop-less Inv-loop μ-loop
 loop-less c = search needs
 
 loop-again : tie.Need-loop-again Inv-loop μ-loop
-loop-again c = more (c .before .before .before .before .before .before .loop .inv) (c .before .before .before .before .before .loop-test .taken) (c .before .before .before .wide .ensures) (sym (c .before .before .too-long .ensures) ∙ c .before .if1 .left) (c .if2 .left)
+loop-again c = more (turn (c .before .before) .before .loop .inv) (turn (c .before .before) .loop-test .taken) (c .before .before .before .wide .ensures) (sym (c .before .before .ill-formed .ensures) ∙ c .before .if1 .left) (c .if2 .left)
 
 returns-3 : tie.Need-returns-3 Inv-loop μ-loop
 returns-3 c = early-end (c .before .loop .inv) (c .loop-test .left)
@@ -67,7 +71,7 @@ number-spec =
     shared-slice-read-wide
     wide-requires
     add-next
-    too-long-requires
+    ill-formed-requires
     returns
     mul-value
     add-value

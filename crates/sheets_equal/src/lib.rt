@@ -1,0 +1,1 @@
+// That equal sheets are equal bytes: definitions and theorems, in specs/: no function.
