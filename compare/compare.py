@@ -100,10 +100,10 @@ class Definitions:
         return self.d.Ieee__ofBits('binary64', b) if self.literal else double(b)
 
     def record(self, r):
-        return (r.cells, *map(self.number, (r.minX, r.minY, r.maxX, r.maxY)), int(r.hasRamp), r.elevations, tuple(r.elevationCounts))
+        return (r.cells, *map(self.number, (r.minX, r.minY, r.maxX, r.maxY)), r.rampCells, r.elevations, tuple(r.elevationCounts))
 
     def region(self, t):
-        return self.d.R.Region(t[0], *map(self.float, t[1:5]), bool(t[5]), t[6], tuple(t[7]))
+        return self.d.R.Region(t[0], *map(self.float, t[1:5]), t[5], t[6], tuple(t[7]))
 
     def results(self, m):
         """as reference.results, with the rows of all three passes"""

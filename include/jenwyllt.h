@@ -108,12 +108,12 @@ struct jenwyllt_answer jenwyllt_partition(
     uint32_t *tallies, size_t tallies_length,
     uint32_t *pairs, size_t pairs_length);
 
-/* The record of a region: how many cells it has, its edges in pixels, whether a cell is a ramp, which elevations occur (bit e stands for elevation e), and
-   how many cells have elevation 0, 1, 2 and 3. The flag's byte is 0 or 1 also in a record that is lent to be filled; the other fields may hold anything. */
+/* The record of a region: how many cells it has, its edges in pixels, how many of its cells are ramps, which elevations occur (bit e stands for elevation e),
+   and how many cells have elevation 0, 1, 2 and 3. It has 88 bytes. Any bytes are a record, so that one that is lent to be filled may hold anything. */
 struct jenwyllt_region {
     size_t cells;
     double min_x, min_y, max_x, max_y;
-    bool has_ramp;
+    size_t ramp_cells;
     uint8_t elevations;
     size_t elevation_counts[4];
 };
@@ -126,9 +126,9 @@ struct jenwyllt_region {
      spans       4 a span: x, y, x, y in pixels
      boundaries  9 a boundary: x, y, x, y, the bits of its width as a double, kind (0 none, 1 lower, 2 upper), ramp id, lower and upper elevation
      anchors     2 an anchor: x, y in cells
-   Filled; each may be longer than needed, and what it holds before does not matter, but that the flag of a record is 0 or 1, as in memory set to zero:
+   Filled; each may be longer than needed, and what it holds before does not matter:
      labels, masks, queue, tallies, pairs   as for `jenwyllt_partition`
-     records     one a region, that of label 1 first
+     records     one a region, that of label 1 first; their cells add up to the walkable cells of the map, their ramp cells to its walkable ramp cells
      output      rows of 5: a boundary's number from 0, and x, y, x, y, the smaller endpoint first; ascending by endpoints, then by number
 
    Number 0: the value is the count of rows, one for each boundary that is kept. Where there are not as many boundaries as spans, all are kept. Otherwise

@@ -78,7 +78,7 @@ pub fn record(region: &Region) -> Record {
     Record {
         cells: region.cells as u64,
         edges: [region.min_x, region.min_y, region.max_x, region.max_y].map(f64::to_bits),
-        ramp: region.has_ramp,
+        ramp_cells: region.ramp_cells as u64,
         mask: region.elevations,
         counts: region.elevation_counts.map(|count| count as u64),
     }

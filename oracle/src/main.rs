@@ -130,7 +130,7 @@ fn full(sheet: &[u8], limits: &Limits) -> String {
     match answer {
         Answer::Done(Kept { partition, records, rows }) => {
             let records = records.iter().map(|record| {
-                let shape = [u64::from(record.ramp), u64::from(record.mask)];
+                let shape = [record.ramp_cells, u64::from(record.mask)];
                 list([record.cells].iter().chain(&record.edges).chain(&shape).chain(&record.counts))
             });
             object(&[

@@ -5,7 +5,7 @@ import ctypes
 from dataclasses import dataclass
 from typing import Any, NamedTuple
 
-from ._library import BOOL, DOUBLE, SIZE, U8, U16, U32, U64, Function, ListOf, lent
+from ._library import DOUBLE, SIZE, U8, U16, U32, U64, Function, ListOf, lent
 from .partition import Answer, Partition, Room
 from .refusal import Cause, Refusal
 from .sheet import Point, Sheet, flat, grouped
@@ -21,9 +21,9 @@ class Row(NamedTuple):
 
 
 class Region(ctypes.Structure):
-    """the record of a region: how many cells it has, its edges in pixels, whether a cell is a ramp, which elevations occur (bit e stands for elevation e),
+    """the record of a region: how many cells it has, its edges in pixels, how many of them are ramps, which elevations occur (bit e stands for elevation e),
     and how many cells have elevation 0, 1, 2 and 3"""
-    _fields_ = [('cells', SIZE), ('min_x', DOUBLE), ('min_y', DOUBLE), ('max_x', DOUBLE), ('max_y', DOUBLE), ('has_ramp', BOOL), ('elevations', U8),
+    _fields_ = [('cells', SIZE), ('min_x', DOUBLE), ('min_y', DOUBLE), ('max_x', DOUBLE), ('max_y', DOUBLE), ('ramp_cells', SIZE), ('elevations', U8),
                 ('elevation_counts', SIZE * 4)]
 
     def values(self) -> dict[str, Any]:

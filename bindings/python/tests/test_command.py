@@ -104,6 +104,16 @@ class Answers(Trial):
         found = json.loads(run('regions', '--json', data=text).stdout)
         self.assertEqual([region['dominance'] for region in found['regions']], [{'elevation': 1, 'share': {'percent': 42, 'remainder': 6}}])
 
+    def test_ramps(self) -> None:
+        """two regions parted by a ramp cell that is not walkable, which counts in neither"""
+        text = 'pass 3\nmap 6 1\na0a?b0 2\n'.encode()
+        self.answers('2 regions\n'
+                     'region 1 from 0 0 to 24 8: 3 cells, 3 of elevation 0, 2 ramp cells; elevation 0 has 100 percent, remainder 0\n'
+                     'region 2 from 32 0 to 48 8: 2 cells, 1 of elevation 0, 1 of elevation 1, 1 ramp cell; elevation 0 has 50 percent, remainder 0\n',
+                     'regions', data=text)
+        found = json.loads(run('regions', '--json', data=text).stdout)
+        self.assertEqual([region['ramp_cells'] for region in found['regions']], [2, 1])
+
     def test_large(self) -> None:
         text = f'pass 1\nmap 65 64\n{("0" * 65 + chr(10)) * 64}'
         self.fails(1, 'jenwyllt: standard input: refused 1 at 0: 65 by 64 cells are over the 4,096 of keptlist; --large takes more', 'keptlist', data=text.encode())

@@ -16,20 +16,22 @@ def record_numbers(region: Region) -> list[int]:
 
 
 class Maps(unittest.TestCase):
-    def check(self, name: str, kept: Kept, numbers: dict[str, list[int]]) -> None:
+    def check(self, name: str, sheet: Sheet, kept: Kept, numbers: dict[str, list[int]]) -> None:
         cut = kept.partition
         self.assertEqual(cut.labels, numbers['labels'], name)
         self.assertEqual([n for tally in cut.tallies for n in tally], numbers['tallies'], name)
         self.assertEqual([n for pair in cut.pairs for n in pair], numbers['pairs'], name)
         self.assertEqual([n for record in kept.records for n in record_numbers(record)], numbers['records'], name)
         self.assertEqual([n for row in kept.rows for n in (row.number, *row.start, *row.end)], numbers['rows'], name)
+        self.assertEqual(sum(record.cells for record in kept.records), sum(cell & 1 for cell in sheet.cells), name)
+        self.assertEqual(sum(record.ramp_cells for record in kept.records), sum(cell & 3 == 3 for cell in sheet.cells), name)
 
     def test_library(self) -> None:
         count = 0
         for stored in stored_maps():
             sheet = read_sheet(stored.sheet)
             kept = kept_boundaries(sheet)
-            self.check(stored.name, kept, stored.numbers)
+            self.check(stored.name, sheet, kept, stored.numbers)
             self.assertEqual(partition(sheet.width, sheet.height, sheet.cells, sheet.spans), kept.partition, stored.name)
             self.assertEqual(sheet_bytes(sheet), stored.sheet, stored.name)
             count += 1
@@ -40,7 +42,7 @@ class Maps(unittest.TestCase):
         for stored in list(stored_maps())[::5]:
             sheet = unproved.read_sheet(stored.sheet)
             self.assertEqual(sheet, read_sheet(stored.sheet))
-            self.check(stored.name, unproved.kept_boundaries(sheet), stored.numbers)
+            self.check(stored.name, sheet, unproved.kept_boundaries(sheet), stored.numbers)
 
 
 class Sheets(unittest.TestCase):

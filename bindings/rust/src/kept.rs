@@ -52,8 +52,8 @@ pub struct Region {
     pub max_x: f64,
     /// Its lower edge.
     pub max_y: f64,
-    /// Whether one of its cells is a ramp.
-    pub has_ramp: bool,
+    /// How many of its cells are ramps.
+    pub ramp_cells: usize,
     /// Bit e says that a cell has elevation e.
     pub elevations: u8,
     /// How many cells have elevation 0, 1, 2 and 3.

@@ -112,7 +112,7 @@ const HELD_RECORD: Region = Region {
     min_y: f64::NEG_INFINITY,
     max_x: -0.0,
     max_y: 1e300,
-    has_ramp: true,
+    ramp_cells: usize::MAX,
     elevations: 0xff,
     elevation_counts: [usize::MAX; 4],
 };
@@ -152,14 +152,14 @@ fn a_pass_keeps_what_is_beyond() {
     assert_eq!(call.lists.queue, [0, 0, 0, 0, HELD, HELD, HELD]);
     assert_eq!(call.lists.tallies, [1, 1, 1, 1, HELD, HELD]);
     assert_eq!(call.lists.pairs, [0, 1, 2, 1, 2, 3, HELD, HELD, HELD, HELD]);
-    let region = |cells, min_x, max_x, has_ramp, elevation: usize| {
+    let region = |cells, min_x, max_x, ramp_cells, elevation: usize| {
         let mut elevation_counts = [0; 4];
         elevation_counts[elevation] = cells;
-        Region { cells, min_x, min_y: 0.0, max_x, max_y: 8.0, has_ramp, elevations: 1 << elevation, elevation_counts }
+        Region { cells, min_x, min_y: 0.0, max_x, max_y: 8.0, ramp_cells, elevations: 1 << elevation, elevation_counts }
     };
     assert_eq!(
         call.records[..3],
-        [region(1, 0.0, 8.0, false, 0), region(1, 8.0, 16.0, false, 1), region(2, 16.0, 32.0, true, 1)]
+        [region(1, 0.0, 8.0, 0, 0), region(1, 8.0, 16.0, 0, 1), region(2, 16.0, 32.0, 2, 1)]
     );
     assert!(call.records_as_they_were(3));
     assert_eq!(call.output[..5], [1, 16, 0, 16, 8]);

@@ -266,7 +266,7 @@ fn partitions_with_few_rows() {
 /// A record's numbers as the oracle prints them: the four edges as bits.
 fn record_numbers(record: &Region) -> Vec<u64> {
     let edges = [record.min_x, record.min_y, record.max_x, record.max_y].map(f64::to_bits);
-    let shape = [record.has_ramp.into(), record.elevations.into()];
+    let shape = [record.ramp_cells as u64, record.elevations.into()];
     let counts = record.elevation_counts.map(|count| count as u64);
     [&[record.cells as u64][..], &edges, &shape, &counts].concat()
 }

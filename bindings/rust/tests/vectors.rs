@@ -20,10 +20,10 @@ fn numbers<N: std::str::FromStr>(line: &str, word: &str) -> Vec<N> {
 }
 
 fn record(numbers: &[u32]) -> Region {
-    let [cells, min_x, min_y, max_x, max_y, ramp, mask, counts @ ..] = numbers else { panic!("eleven numbers") };
+    let [cells, min_x, min_y, max_x, max_y, ramps, mask, counts @ ..] = numbers else { panic!("eleven numbers") };
     let [min_x, min_y, max_x, max_y] = [min_x, min_y, max_x, max_y].map(|edge| f64::from(*edge));
     let elevation_counts = std::array::from_fn(|elevation| counts[elevation] as usize);
-    Region { cells: *cells as usize, min_x, min_y, max_x, max_y, has_ramp: *ramp == 1, elevations: *mask as u8, elevation_counts }
+    Region { cells: *cells as usize, min_x, min_y, max_x, max_y, ramp_cells: *ramps as usize, elevations: *mask as u8, elevation_counts }
 }
 
 /// The numbers of a list of entries.

@@ -1,12 +1,13 @@
 -- What `with_cell` puts together is the definition's record of one cell more. Assumes nothing.
 use Prim.Native.Nat.{ℕ, _+_, _*_, _%_, _^_, _<_}
 use mathlib.Core.Path.{_≡_, ap, _∙_}
-use mathlib.Core.Bool.{Bool, _||_}
+use mathlib.Core.Bool.{Bool}
 use mathlib.Core.List.{List}
 use lib.ListN.{getD, set}
 use lib.Dec.{eqb}
 use lib.Bits.{bitOr}
 use lib.Ieee.{Float}
+use Rattle.definitions.specs.Scan.{bit}
 use Rattle.definitions.specs.Grid.{isRamp, elevation}
 use Rattle.definitions.specs.Spans.{pixelsPerWalkCell}
 use Rattle.definitions.specs.Geometry.{float}
@@ -26,8 +27,8 @@ module _ {r new edge : Float} (first : Bool) (old : Float) (e : new ≡ edge) wh
   pub greater-is : r ≡ greaterEdge first old new → r ≡ greaterEdge first old edge
   greater-is h = h ∙ ap (greaterEdge first old) e
 
-module _ (s : Region) (x y cell : ℕ) {e mask : ℕ} {counts : List ℕ} {left top right bottom : Float} {ramp : Bool} where
-  pub cell-added : e ≡ elevation cell → counts ≡ set (s .elevationCounts) e (getD (s .elevationCounts) e 0 + 1) → mask ≡ 2 ^ elevation cell → ramp ≡ isRamp cell
+module _ (s : Region) (x y cell : ℕ) {e mask ramp : ℕ} {counts : List ℕ} {left top right bottom : Float} where
+  pub cell-added : e ≡ elevation cell → counts ≡ set (s .elevationCounts) e (getD (s .elevationCounts) e 0 + 1) → mask ≡ 2 ^ elevation cell → ramp ≡ bit (isRamp cell)
       → left ≡ lesserEdge (eqb (s .cells) 0) (s .minX) (float (x * pixelsPerWalkCell))
       → top ≡ lesserEdge (eqb (s .cells) 0) (s .minY) (float (y * pixelsPerWalkCell))
       → right ≡ greaterEdge (eqb (s .cells) 0) (s .maxX) (float ((x + 1) * pixelsPerWalkCell))
@@ -39,7 +40,7 @@ module _ (s : Region) (x y cell : ℕ) {e mask : ℕ} {counts : List ℕ} {left 
         minY = top;
         maxX = right;
         maxY = bottom;
-        hasRamp = s .hasRamp || ramp;
+        rampCells = s .rampCells + ramp;
         elevations = bitOr (s .elevations) mask;
         elevationCounts = counts;
       })
@@ -53,7 +54,7 @@ module _ (s : Region) (x y cell : ℕ) {e mask : ℕ} {counts : List ℕ} {left 
         minY = ht i;
         maxX = hx i;
         maxY = hb i;
-        hasRamp = s .hasRamp || hr i;
+        rampCells = s .rampCells + hr i;
         elevations = bitOr (s .elevations) (hm i);
         elevationCounts = (hc ∙ ap (λ e. set (s .elevationCounts) e (getD (s .elevationCounts) e 0 + 1)) he) i;
       }

@@ -1,12 +1,13 @@
 -- A region's record made cell by cell, as PartitionContext::new of context.rs makes it: `addCell` adds one, `recordFrom` those of a list, from the first on.
 -- In the Rust an empty record's edges are infinite; ours are zero, and the first cell sets them. Assumes nothing.
 use Prim.Native.Nat.{ℕ, _+_, _*_, _/_, _%_, _^_}
-use mathlib.Core.Bool.{Bool, _||_, cond}
+use mathlib.Core.Bool.{Bool, cond}
 use mathlib.Core.List.{List, [], _∷_}
 use lib.ListN.{set}
 use lib.Dec.{eqb}
 use lib.Bits.{bitOr}
 use lib.Ieee.{Float, lt}
+use Rattle.definitions.specs.Scan.{bit}
 use Rattle.definitions.specs.Grid.{Map, cellAt, isRamp, elevation}
 use Rattle.definitions.specs.Spans.{pixelsPerWalkCell}
 use Rattle.definitions.specs.Geometry.{float}
@@ -33,7 +34,7 @@ addCell s x y cell =
       minY = lesserEdge first (s .minY) (float (y * pixelsPerWalkCell));
       maxX = greaterEdge first (s .maxX) (float ((x + 1) * pixelsPerWalkCell));
       maxY = greaterEdge first (s .maxY) (float ((y + 1) * pixelsPerWalkCell));
-      hasRamp = s .hasRamp || isRamp cell;
+      rampCells = s .rampCells + bit (isRamp cell);
       elevations = bitOr (s .elevations) (2 ^ e);
       elevationCounts = set (s .elevationCounts) e (elevationCount s e + 1);
     }

@@ -13,7 +13,7 @@ use lib.Dec.{eqb}
 use borrow.Author.Tests.{eqb-true, eq-eqb, ne-eqb}
 use Rattle.definitions.specs.Scan.{any, member, countBelow, bit}
 use Rattle.definitions.specs.Limits.{isSide}
-use Rattle.definitions.specs.Grid.{Map, cellCount, cellAt, elevation}
+use Rattle.definitions.specs.Grid.{Map, cellCount, cellAt, isRamp, elevation}
 use Rattle.definitions.specs.RegionRecord.{Region, emptyRegion, elevationCount, regionOf}
 use Rattle.context.specs.Records.{maxCells, Counted}
 use Rattle.context.specs.Cells.{addCell, addCellOf, addCells, recordFrom}
@@ -172,6 +172,15 @@ counted-each M s (c ∷ cs) h =
     next : (m n : ℕ) → m + 1 + n ≡ m + suc n
     next m n = omega arith
 
+ramps-from : (M : Map) (s : Region) (cs : List ℕ) → s .rampCells ≤ s .cells → addCells M s cs .rampCells ≤ addCells M s cs .cells
+unfolding addCells addCellOf addCell
+ramps-from M s [] h = h
+ramps-from M s (c ∷ cs) h = ramps-from M (addCellOf M s c) cs (go (isRamp (cellAt M c)))
+  where
+    go : (b : Bool) → s .rampCells + bit b ≤ s .cells + 1
+    go true = omega (arith, h)
+    go false = omega (arith, h)
+
 counted-empty : (e : ℕ) → elevationCount emptyRegion e ≤ emptyRegion .cells
 unfolding emptyRegion
 counted-empty zero = zero-le
@@ -188,9 +197,13 @@ cells-from M cs = counted-each M emptyRegion cs counted-empty .0 ∙ plus (lengt
     plus n = omega arith
 
 pub counted-from : (M : Map) (cs : List ℕ) → length cs ≤ maxCells → Counted (recordFrom M cs)
-unfolding recordFrom
+unfolding recordFrom emptyRegion
 counted-from M cs h =
-    record { few = subst (λ n. n ≤ maxCells) (sym (cells-from M cs)) h; each = counted-each M emptyRegion cs counted-empty .1 }
+    record {
+      few = subst (λ n. n ≤ maxCells) (sym (cells-from M cs)) h;
+      ramps = ramps-from M emptyRegion cs zero-le;
+      each = counted-each M emptyRegion cs counted-empty .1;
+    }
 
 -- of the definition's record
 count-le : (f : ℕ → Bool) (n : ℕ) → countBelow n f ≤ n
@@ -217,6 +230,7 @@ unfolding regionOf
 region-counted M ls r h =
     record {
       few = le-trans (count-le (λ c. eqb (getD ls c 0) r) (cellCount M)) h;
+      ramps = count-among (λ c. eqb (getD ls c 0) r) (λ c. isRamp (cellAt M c)) (cellCount M);
       each = each;
     }
   where

@@ -127,7 +127,7 @@ recordWhere M p =
       minY = float (least n p (λ c. c / M .width * pixelsPerWalkCell));
       maxX = float (most n p (λ c. c % M .width * pixelsPerWalkCell + pixelsPerWalkCell));
       maxY = float (most n p (λ c. c / M .width * pixelsPerWalkCell + pixelsPerWalkCell));
-      hasRamp = anyBelow n (λ c. p c && isRamp (cellAt M c));
+      rampCells = countBelow n (λ c. p c && isRamp (cellAt M c));
       elevations = maskOf (λ e. anyBelow n (λ c. p c && eqb (elevation (cellAt M c)) e));
       elevationCounts = map (λ e. countBelow n (λ c. p c && eqb (elevation (cellAt M c)) e)) (0 ∷ 1 ∷ 2 ∷ 3 ∷ []);
     }
@@ -146,7 +146,7 @@ where-ext M p q h =
       minY = float (least-ext (cellCount M) p q (λ c. c / M .width * pixelsPerWalkCell) h i);
       maxX = float (most-ext (cellCount M) p q (λ c. c % M .width * pixelsPerWalkCell + pixelsPerWalkCell) h i);
       maxY = float (most-ext (cellCount M) p q (λ c. c / M .width * pixelsPerWalkCell + pixelsPerWalkCell) h i);
-      hasRamp = below-ext (cellCount M) _ _ (among (λ c. isRamp (cellAt M c))) i;
+      rampCells = count-ext (cellCount M) _ _ (among (λ c. isRamp (cellAt M c))) i;
       elevations = mask-ext _ _ (λ e. below-ext (cellCount M) _ _ (among (λ c. eqb (elevation (cellAt M c)) e))) i;
       elevationCounts = counts-ext _ _ (λ e. count-ext (cellCount M) _ _ (among (λ c. eqb (elevation (cellAt M c)) e))) i;
     }
@@ -165,7 +165,7 @@ where-none M =
       minY = float (least-none (λ c. false) (λ c. c / M .width * pixelsPerWalkCell) (cellCount M) never i);
       maxX = float (most-none (λ c. false) (λ c. c % M .width * pixelsPerWalkCell + pixelsPerWalkCell) (cellCount M) never i);
       maxY = float (most-none (λ c. false) (λ c. c / M .width * pixelsPerWalkCell + pixelsPerWalkCell) (cellCount M) never i);
-      hasRamp = never i;
+      rampCells = nothing i;
       elevations = mask-ext (λ e. anyBelow (cellCount M) (λ c. false)) (λ e. false) (λ e. never) i;
       elevationCounts = counts-ext (λ e. countBelow (cellCount M) (λ c. false)) (λ e. 0) (λ e. nothing) i;
     }
@@ -206,7 +206,7 @@ module _ (M : Map) (hw : isSide (M .width) ≡ true) (hh : isSide (M .height) �
         minY = lesser-more one (λ c. c / M .width * pixelsPerWalkCell) n below (λ d l. start (row d l)) refl i;
         maxX = greater-more one (λ c. c % M .width * pixelsPerWalkCell + pixelsPerWalkCell) n below (λ d l. end (column d)) (next (c % M .width)) i;
         maxY = greater-more one (λ c. c / M .width * pixelsPerWalkCell + pixelsPerWalkCell) n below (λ d l. end (row d l)) (next (c / M .width)) i;
-        hasRamp = sym (any-both one (λ c. isRamp (cellAt M c)) n below) i;
+        rampCells = sym (count-both one (λ c. isRamp (cellAt M c)) n below) i;
         elevations = masks i;
         elevationCounts = counts i;
       }

@@ -14,7 +14,7 @@ recordOf s =
       minY = s .«min_y»;
       maxX = s .«max_x»;
       maxY = s .«max_y»;
-      hasRamp = s .«has_ramp»;
+      rampCells = s .«ramp_cells»;
       elevations = s .elevations;
       elevationCounts = s .«elevation_counts»;
     }
@@ -25,9 +25,10 @@ recordOf s =
 abbrev pub maxCells : ℕ
 maxCells = maxSide * maxSide
 
--- it counts no more cells than a map has, and of each elevation no more than in all
+-- it counts no more cells than a map has, and of ramps and of each elevation no more than in all
 pub record Counted (s : def.Region) : Type 0 where
   pub few : s .cells ≤ maxCells
+  pub ramps : s .rampCells ≤ s .cells
   pub each : (e : ℕ) → elevationCount s e ≤ s .cells
 
 -- a further cell at column x and row y of a map: check 9 of document 01's table keeps its elevation below 4

@@ -4,7 +4,7 @@ pub mod incidents;
 pub mod pairs;
 pub mod records;
 
-// The record of a region, as RegionStats of context.rs: document 01, 'Context'. Edges are in pixels; bit e of `elevations` says that a cell has elevation e.
+// The record of a region, as RegionStats of context.rs: document 01, 'Context'; its ramp cells are counted. Edges are in pixels; bit e of `elevations` says that a cell has elevation e.
 #[repr(C)]
 pub struct Region {
     pub cells: usize,
@@ -12,7 +12,7 @@ pub struct Region {
     pub min_y: f64,
     pub max_x: f64,
     pub max_y: f64,
-    pub has_ramp: bool,
+    pub ramp_cells: usize,
     pub elevations: u8,
     pub elevation_counts: [usize; 4],
 }

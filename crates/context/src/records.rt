@@ -54,10 +54,11 @@ fn elevation_of(cell: u8) -> usize
     (cell / 4) as usize
 }
 
-fn is_ramp(cell: u8) -> bool
-    ensures { λ r. ⌜ r ≡ isRamp cell ⌝ }
+// 1 for a cell with the ramp bit, else 0.
+fn ramp_bit(cell: u8) -> usize
+    ensures { λ r. ⌜ (r ≡ bit (isRamp cell)) × (r ≤ 1) ⌝ }
 {
-    cell / 2 % 2 == 1
+    (cell / 2 % 2) as usize
 }
 
 // 1 at the place e, else 0.
@@ -91,7 +92,7 @@ impl Region {
             min_y: 0.0,
             max_x: 0.0,
             max_y: 0.0,
-            has_ramp: false,
+            ramp_cells: 0,
             elevations: 0,
             elevation_counts: [0; 4],
         }
@@ -113,7 +114,7 @@ impl Region {
             min_y: lesser_edge(first, self.min_y, edge(y)),
             max_x: greater_edge(first, self.max_x, edge(x + 1)),
             max_y: greater_edge(first, self.max_y, edge(y + 1)),
-            has_ramp: self.has_ramp | is_ramp(cell),
+            ramp_cells: self.ramp_cells + ramp_bit(cell),
             elevations: self.elevations | (1 << e),
             elevation_counts: counts,
         }

@@ -64,7 +64,7 @@ regionOfCounts n k =
       minY = float 0;
       maxX = float 8;
       maxY = float 8;
-      hasRamp = false;
+      rampCells = 0;
       elevations = cond (eqb n k) 1 3;
       elevationCounts = k ∷ (n - k) ∷ 0 ∷ 0 ∷ [];
     }

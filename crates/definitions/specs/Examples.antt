@@ -1,5 +1,6 @@
 -- Computed examples that a porter would get wrong: both sides of the thresholds that document 01 names and does not mark P, its four likely errors,
--- ties of the hypotenuse, totalOrder of 24 doubles, unequal counts, an anchor on a blocked cell, the diagonal rule, a side value of zero.
+-- ties of the hypotenuse, totalOrder of 24 doubles, unequal counts, an anchor on a blocked cell, the diagonal rule, a side value of zero,
+-- ramp cells counted region by region.
 use Prim.Native.Nat.{ℕ, _-_, _*_}
 use mathlib.Core.Path.{_≡_, refl}
 use mathlib.Core.Bool.{Bool, true, not, _&&_, cond}
@@ -15,7 +16,7 @@ use Rattle.definitions.specs.Partition.{labels}
 use Rattle.definitions.specs.Hypotenuse.{hypotOf, hypotNumber}
 use Rattle.definitions.specs.TotalOrder.{totalOrder}
 use Rattle.definitions.specs.RampGeometry.{segmentDistance}
-use Rattle.definitions.specs.RegionRecord.{dominance}
+use Rattle.definitions.specs.RegionRecord.{regionOf, dominance}
 use Rattle.definitions.specs.Context.{contextOf}
 use Rattle.definitions.specs.RampMouths.{maxMouthDistance}
 use Rattle.definitions.specs.Junctions.{withinSpanRadius}
@@ -178,6 +179,18 @@ zero-parts = refl
 pub zero-joins : labels (mapOf 2 1 (1 ∷ 1 ∷ []) (12 ∷ 0 ∷ 12 ∷ 8 ∷ []) [] []) ≡ 1 ∷ 1 ∷ []
 unfolding labels mapOf
 zero-joins = refl
+
+-- ---- ramp cells (document 02, request 6)
+
+-- six cells in a row: three walkable, the first and the third of them ramps; one with the ramp bit that is not walkable; two walkable, the first of them a ramp
+unfoldable pub rampRow : Map
+unfolding mapOf
+rampRow = mapOf 6 1 (3 ∷ 1 ∷ 3 ∷ 2 ∷ 7 ∷ 1 ∷ []) [] [] []
+
+-- each record counts its own; what is not walkable counts nowhere; a number that no region has gives none
+pub ramp-cells-counted : map (λ r. regionOf rampRow (labels rampRow) r .rampCells) (1 ∷ 2 ∷ 3 ∷ []) ≡ 2 ∷ 1 ∷ 0 ∷ []
+unfolding rampRow labels regionOf
+ramp-cells-counted = refl
 
 -- ---- totalOrder
 

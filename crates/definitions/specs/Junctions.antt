@@ -10,7 +10,7 @@ use Rattle.definitions.specs.Scan.{all, anyBelow, allBelow, countBelow, 
 use Rattle.definitions.specs.Sort.{sort, select, listLt}
 use Rattle.definitions.specs.Grid.{Segment, Boundary, Pair, contains}
 use Rattle.definitions.specs.Geometry.{Point, float, point, center, distance, pointSegmentDistance}
-use Rattle.definitions.specs.RegionRecord.{Region, corners, sameDominance, strictlyFlat}
+use Rattle.definitions.specs.RegionRecord.{Region, hasRamp, corners, sameDominance, strictlyFlat}
 use Rattle.definitions.specs.Context.{Context, fullPair, holds, otherRegion, isIncident, noRamp, width, endpointsKey}
 
 unfoldable pub maxPortDistancePixels : Float
@@ -129,7 +129,7 @@ module _ (C : Context) where
       let t = C .region (p .hi) in
       let ends = C .boundary i .endpoints in
       let one = eqb (anchoredRegions p) 1 in
-      not (s .hasRamp) && not (t .hasRamp)
+      not (hasRamp s) && not (hasRamp t)
       && cond one (withinSpanRadius s ends && withinSpanRadius t ends) (withinRadius s (center ends) && withinRadius t (center ends))
       && (strictlyFlat s t || one && sameDominance s t)
 
@@ -168,7 +168,7 @@ module _ (C : Context) where
   unfoldable pub bridgeFits : ℕ → ℕ → ℕ → ℕ → Bool
   unfolding isNearPort withinRadius center strictlyFlat
   bridgeFits r i k t =
-      isNearPort i i && isNearPort i k && isNearPort i t && not (C .region r .hasRamp) && withinRadius (C .region r) (center (C .boundary i .endpoints))
+      isNearPort i i && isNearPort i k && isNearPort i t && not (hasRamp (C .region r)) && withinRadius (C .region r) (center (C .boundary i .endpoints))
       && strictlyFlat (C .region r) (C .region r)
 
   unfoldable pub bridgeAt : ℕ → ℕ → ℕ → ℕ → Option Proposal

@@ -12,7 +12,7 @@ use Rattle.definitions.specs.Sort.{sort, select, listLt}
 use Rattle.definitions.specs.Grid.{Pair}
 use Rattle.definitions.specs.Partition.{mergeAll}
 use Rattle.definitions.specs.Geometry.{center, distance}
-use Rattle.definitions.specs.RegionRecord.{hasBit, corners}
+use Rattle.definitions.specs.RegionRecord.{hasRamp, hasBit, corners}
 use Rattle.definitions.specs.Context.{Context, fullCut, isIncident, incidentCount, noRamp, endpointsKey}
 use Rattle.definitions.specs.MouthShapes.{regionsOf}
 use Rattle.definitions.specs.RampMouths.{meet, maxApproachRadius}
@@ -165,7 +165,7 @@ module _ (C : Context) where
   interiorFrom rs es (a ∷ []) = none
   interiorFrom rs es (a ∷ b ∷ []) =
       let s = expandPort (expandPort (record { regions = rs; valid = true }) a) b in
-      onlyIf (portsFit a b && s .valid && any (λ q. C .region q .hasRamp) (s .regions) && all (regionFits a b) (s .regions))
+      onlyIf (portsFit a b && s .valid && any (λ q. hasRamp (C .region q)) (s .regions) && all (regionFits a b) (s .regions))
       (record { regions = s .regions; edges = es; firstPort = a; secondPort = b })
   interiorFrom rs es (a ∷ b ∷ c ∷ l) = none
 

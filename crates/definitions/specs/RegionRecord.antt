@@ -13,14 +13,15 @@ use Rattle.definitions.specs.Grid.{Map, cellCount, cellAt, isRamp, eleva
 use Rattle.definitions.specs.Spans.{pixelsPerWalkCell}
 use Rattle.definitions.specs.Geometry.{Point, float}
 
--- `elevations` is the mask: bit e is set where a cell has elevation e. `elevationCounts` has one count for each elevation 0 to 3.
+-- `rampCells` counts the cells with the ramp bit (document 02, request 6). `elevations` is the mask: bit e is set where a cell has elevation e. `elevationCounts` has one
+-- count for each elevation 0 to 3.
 pub record Region : Type 0 where
   pub cells : ℕ
   pub minX : Float
   pub minY : Float
   pub maxX : Float
   pub maxY : Float
-  pub hasRamp : Bool
+  pub rampCells : ℕ
   pub elevations : ℕ
   pub elevationCounts : List ℕ
 
@@ -34,7 +35,7 @@ emptyRegion =
       minY = float 0;
       maxX = float 0;
       maxY = float 0;
-      hasRamp = false;
+      rampCells = 0;
       elevations = 0;
       elevationCounts = 0 ∷ 0 ∷ 0 ∷ 0 ∷ [];
     }
@@ -69,12 +70,16 @@ regionOf M ls r =
       minY = float (least n mine (λ c. c / M .width * pixelsPerWalkCell));
       maxX = float (most n mine (λ c. c % M .width * pixelsPerWalkCell + pixelsPerWalkCell));
       maxY = float (most n mine (λ c. c / M .width * pixelsPerWalkCell + pixelsPerWalkCell));
-      hasRamp = anyBelow n (λ c. mine c && isRamp (cellAt M c));
+      rampCells = countBelow n (λ c. mine c && isRamp (cellAt M c));
       elevations = maskOf (λ e. anyBelow n (mineAt e));
       elevationCounts = map (λ e. countBelow n (mineAt e)) (0 ∷ 1 ∷ 2 ∷ 3 ∷ []);
     }
 
 -- ---- of a record
+
+-- `has_ramp` of RegionStats: "The flag's sense is a count above zero"
+abbrev pub hasRamp : Region → Bool
+hasRamp s = ltb 0 (s .rampCells)
 
 -- `corners` of RegionStats, in its order
 unfoldable pub corners : Region → List Point

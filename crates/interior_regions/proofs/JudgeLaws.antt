@@ -10,6 +10,7 @@ use lib.ListN.{getD}
 use lib.Dec.{eqb, ltb, leb}
 use borrow.Author.Tests.{eq-eqb, eqb-true, leb-true, ltb-true, ltb-false, le-leb}
 use Rattle.definitions.specs.Scan.{any, all, member, anyBelow, allBelow}
+use Rattle.definitions.specs.RegionRecord.{hasRamp}
 use Rattle.definitions.specs.Context.{Context}
 use Rattle.definitions.specs.RampInteriors.{regionFits, removed}
 use Rattle.laws.specs.ListLaws.Tests.{both, same-test}
@@ -88,16 +89,16 @@ module _ {C : Context} (S : Sound C) {rows starts names : List ℕ} (P : ShownPa
       let w = place-readable P low high (N .upto) rising (p .place) (p .from) (p .upto) in
       ap₂ _&&_ (le-leb begin (p .place) (p .from)) (I .at (regionAt rows (p .place)) (w .from) (w .upto) ∙ ap (λ y. member y regions) (p .region) ∙ h)
 
-  ramp-is : anyBelow end (rampAt C rows names r begin a b) ≡ any (λ q. C .region q .hasRamp) regions
+  ramp-is : anyBelow end (rampAt C rows names r begin a b) ≡ any (λ q. hasRamp (C .region q)) regions
   ramp-is = same-test
       (λ h.
       let f = below-first (rampAt C rows names r begin a b) end h in
-      let t = both (leb begin (f .place) && isNamed rows names r (f .place)) (C .region (regionAt rows (f .place)) .hasRamp) (f .found) in
-      any-member (λ q. C .region q .hasRamp) (regionAt rows (f .place)) regions (place-member (f .place) (f .below) (t .0)) (t .1))
+      let t = both (leb begin (f .place) && isNamed rows names r (f .place)) (hasRamp (C .region (regionAt rows (f .place)))) (f .found) in
+      any-member (λ q. hasRamp (C .region q)) (regionAt rows (f .place)) regions (place-member (f .place) (f .below) (t .0)) (t .1))
       (λ h.
-      let w = member-found (λ q. C .region q .hasRamp) regions h in
+      let w = member-found (λ q. hasRamp (C .region q)) regions h in
       let p = member-placed (w .0) (w .1 .0) in
-      below-at end (rampAt C rows names r begin a b) (p .place) (p .upto) (ap₂ _&&_ (member-asked (w .1 .0) p) (ap (λ q. C .region q .hasRamp) (p .region) ∙ w .1 .1)))
+      below-at end (rampAt C rows names r begin a b) (p .place) (p .upto) (ap₂ _&&_ (member-asked (w .1 .0) p) (ap (λ q. hasRamp (C .region q)) (p .region) ∙ w .1 .1)))
 
   fits-are : allBelow end (fitsAt C rows names r begin a b) ≡ all (regionFits C a b) regions
   fits-are = same-test

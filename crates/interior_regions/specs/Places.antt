@@ -7,6 +7,7 @@ use lib.ListN.{length, getD}
 use lib.Dec.{eqb, leb}
 use Rattle.definitions.specs.Limits.{numbersPerPair}
 use Rattle.definitions.specs.Scan.{anyBelow, allBelow}
+use Rattle.definitions.specs.RegionRecord.{hasRamp}
 use Rattle.definitions.specs.Context.{Context}
 use Rattle.definitions.specs.RampInteriors.{regionFits}
 use Rattle.ramp_interiors.specs.Owners.{entryAt}
@@ -42,7 +43,7 @@ module _ (C : Context) (rows names : List ℕ) (name first a b : ℕ) where
   fitsAt k = not (leb first k && isNamed rows names name k) || regionFits C a b (regionAt rows k)
 
   abbrev pub rampAt : ℕ → Bool
-  rampAt k = (leb first k && isNamed rows names name k) && C .region (regionAt rows k) .hasRamp
+  rampAt k = (leb first k && isNamed rows names name k) && hasRamp (C .region (regionAt rows k))
 
   -- the regions with the name, at the places from `first` on, fit the ports a and b, and one has a ramp; as `recordsFit` asks it of a list
   unfoldable pub interiorFits : ℕ → Bool

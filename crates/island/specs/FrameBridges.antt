@@ -10,7 +10,7 @@ use lib.Ieee.{binary64, le, mul}
 use Rattle.definitions.specs.Scan.{all, onlyIf}
 use Rattle.definitions.specs.Grid.{Pair}
 use Rattle.definitions.specs.Geometry.{float, center}
-use Rattle.definitions.specs.RegionRecord.{strictlyFlat}
+use Rattle.definitions.specs.RegionRecord.{hasRamp, strictlyFlat}
 use Rattle.definitions.specs.Context.{Context, fullPair, isIncident, noRamp}
 use Rattle.definitions.specs.Junctions.{Proposal, isSome, beyond, withinRadius, portsOf, portExterior, isShared, isTwiceAsWide, bridgeFits, bridgeAt, pickBridge, bridgeOfPorts, bridgeProposal}
 use Rattle.laws.specs.ListLaws.Lists.{All, done, more, all-ren}
@@ -95,7 +95,7 @@ module _ {L S : Context} {inB inR : ℕ → Bool} (F : Frame L S inB inR) where
       unfolding bridgeFits
       bridgeFits-in =
           λ x.
-          isNearPort-in F i i b b x && isNearPort-in F i k b c x && isNearPort-in F i t b d x && not (F .region r h x .hasRamp)
+          isNearPort-in F i i b b x && isNearPort-in F i k b c x && isNearPort-in F i t b d x && not (hasRamp (F .region r h x))
           && withinRadius (F .region r h x) (center (F .boundary i b x .endpoints))
           && strictlyFlat (F .region r h x) (F .region r h x)
 

@@ -11,7 +11,7 @@ use lib.Ieee.{le}
 use Rattle.definitions.specs.Scan.{any, all, allBelow, filter, collect, concatMap, onlyIf, member}
 use Rattle.definitions.specs.Sort.{listLt}
 use Rattle.definitions.specs.Geometry.{center, distance}
-use Rattle.definitions.specs.RegionRecord.{hasBit, corners}
+use Rattle.definitions.specs.RegionRecord.{hasRamp, hasBit, corners}
 use Rattle.definitions.specs.Context.{Context, endpointsKey}
 use Rattle.definitions.specs.RampMouths.{maxApproachRadius}
 use Rattle.definitions.specs.RampInteriors.{InteriorProposal, Expansion, components, edgesOf, componentRegions, isCandidate, componentPorts, expandPort, portsFit, isAllowedElevation, regionFits, interiorFrom, interiorProposal, proposals, key, ranksBefore, conflict, taken, removed}
@@ -49,7 +49,7 @@ expanded C rs a c = expandPort C (expandPort C (record { regions = rs; valid = t
 
 -- what is asked of two ports and what they expand to
 abbrev isInterior : Context → ℕ → ℕ → Expansion → Bool
-isInterior C a c s = portsFit C a c && s .valid && any (λ q. C .region q .hasRamp) (s .regions) && all (regionFits C a c) (s .regions)
+isInterior C a c s = portsFit C a c && s .valid && any (λ q. hasRamp (C .region q)) (s .regions) && all (regionFits C a c) (s .regions)
 
 module _ {L S : Context} {inB inR : ℕ → Bool} (F : Frame L S inB inR) where
   abbrev e : InteriorProposal → InteriorProposal
@@ -87,7 +87,7 @@ module _ {L S : Context} {inB inR : ℕ → Bool} (F : Frame L S inB inR) where
     isInterior-in s x =
         λ t.
         portsFit-in t && s .valid
-        && any-ren (ren inR) (On inR true) (λ q. L .region q .hasRamp) (λ q. S .region q .hasRamp) (λ q k t. F .region q k t .hasRamp) x t
+        && any-ren (ren inR) (On inR true) (λ q. hasRamp (L .region q)) (λ q. hasRamp (S .region q)) (λ q k t. hasRamp (F .region q k t)) x t
         && all-ren (ren inR) (On inR true) (regionFits L a c) (regionFits S (rank inB a) (rank inB c)) regionFits-in x t
 
   expanded-on : (b : Bool) {rs : List ℕ} (a c : ℕ) → inB a ≡ b → inB c ≡ b → All (On inR b) rs → All (On inR b) (expanded L rs a c .regions)

@@ -9,7 +9,7 @@ use lib.Ieee.{le}
 use Rattle.definitions.specs.Scan.{anyBelow, allBelow, onlyIf, bit}
 use Rattle.definitions.specs.Grid.{Pair, contains}
 use Rattle.definitions.specs.Geometry.{center}
-use Rattle.definitions.specs.RegionRecord.{strictlyFlat, sameDominance}
+use Rattle.definitions.specs.RegionRecord.{hasRamp, strictlyFlat, sameDominance}
 use Rattle.definitions.specs.Context.{Context, fullPair, holds}
 use Rattle.definitions.specs.Junctions.{Proposal, fitsUnion, exteriorOf, withinDistance, withinRadius, withinSpanRadius, maxPortDistancePixels, isUnionPort, isNewExterior, anchoredRegions, isNearPort, portsFit, isWidest, unionShape, unionRegions, unionFrom, unionProposal}
 use Rattle.laws.specs.OrderLaws.Ranks.{rank, rank-eqb, any-rank}
@@ -127,7 +127,7 @@ module _ {L S : Context} {inB inR : ℕ → Bool} (F : Frame L S inB inR) where
         let u = F .region (p .hi) (k .hi) t in
         let ends = F .boundary i b t .endpoints in
         let one = eqb (anchoredRegions-in t) 1 in
-        not (s .hasRamp) && not (u .hasRamp)
+        not (hasRamp s) && not (hasRamp u)
         && cond one (withinSpanRadius s ends && withinSpanRadius u ends) (withinRadius s (center ends) && withinRadius u (center ends))
         && (strictlyFlat s u || one && sameDominance s u)
 

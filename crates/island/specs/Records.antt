@@ -73,7 +73,7 @@ module _ (M : Map) (isl : ℕ → Bool) (I : Island M isl) where
           minY = float (least-ext (cellCount M) _ _ (λ c. c / M .width * pixelsPerWalkCell) mine-in i);
           maxX = float (most-ext (cellCount M) _ _ (λ c. c % M .width * pixelsPerWalkCell + pixelsPerWalkCell) mine-in i);
           maxY = float (most-ext (cellCount M) _ _ (λ c. c / M .width * pixelsPerWalkCell + pixelsPerWalkCell) mine-in i);
-          hasRamp = below-ext (cellCount M) _ _ (mine-cell isRamp) i;
+          rampCells = count-ext (cellCount M) _ _ (mine-cell isRamp) i;
           elevations = maskOf (λ e. below-ext (cellCount M) (mineAt M r e) (mineAt S (ren R r) e) (mine-cell (λ v. eqb (elevation v) e)) i);
           elevationCounts = map (λ e. count-ext (cellCount M) (mineAt M r e) (mineAt S (ren R r) e) (mine-cell (λ v. eqb (elevation v) e)) i) (0 ∷ 1 ∷ 2 ∷ 3 ∷ []);
         }

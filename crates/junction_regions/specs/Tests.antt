@@ -4,7 +4,7 @@ use mathlib.Core.Bool.{Bool, not, _&&_, _||_, cond}
 use lib.Ieee.{le}
 use Rattle.definitions.specs.Grid.{Segment}
 use Rattle.definitions.specs.Geometry.{Point, center, pointSegmentDistance}
-use Rattle.definitions.specs.RegionRecord.{Region, sameDominance, strictlyFlat}
+use Rattle.definitions.specs.RegionRecord.{Region, hasRamp, sameDominance, strictlyFlat}
 use Rattle.definitions.specs.Junctions.{withinDistance, withinRadius, withinSpanRadius, maxUnionRadiusPixels}
 
 -- ---- of a corner
@@ -26,8 +26,8 @@ isLocal s t ends one = cond one (withinSpanRadius s ends && withinSpanRadius t e
 unfoldable pub unionOf : Region → Region → Segment → Bool → Bool
 unfolding isLocal strictlyFlat sameDominance
 unionOf s t ends one =
-    not (s .hasRamp) && not (t .hasRamp) && isLocal s t ends one && (strictlyFlat s t || one && sameDominance s t)
+    not (hasRamp s) && not (hasRamp t) && isLocal s t ends one && (strictlyFlat s t || one && sameDominance s t)
 
 unfoldable pub bridgeOf : Region → Segment → Bool
 unfolding withinRadius center strictlyFlat
-bridgeOf s ends = not (s .hasRamp) && (withinRadius s (center ends) && strictlyFlat s s)
+bridgeOf s ends = not (hasRamp s) && (withinRadius s (center ends) && strictlyFlat s s)

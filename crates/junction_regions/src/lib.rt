@@ -121,8 +121,8 @@ pub fn union_regions(
     requires { ⌜ OnMap (recordOf first) × (OnMap (recordOf second) × (InLimits a × InLimits b)) ⌝ }
     ensures { λ r. ⌜ r ≡ unionOf (recordOf first) (recordOf second) (segmentFrom a b) one ⌝ }
 {
-    !first.has_ramp
-        & !second.has_ramp
+    (first.ramp_cells == 0)
+        & (second.ramp_cells == 0)
         & is_local(first, second, a, b, one)
         & (first.is_strictly_flat(second) | (one & same_dominance(first, second)))
 }
@@ -131,7 +131,8 @@ pub fn bridge_region(pocket: Region, a: PixelPosition, b: PixelPosition) -> bool
     requires { ⌜ PixelRegion (recordOf pocket) × (InLimits a × InLimits b) ⌝ }
     ensures { λ r. ⌜ r ≡ bridgeOf (recordOf pocket) (segmentFrom a b) ⌝ }
 {
-    !pocket.has_ramp & (within_radius(pocket, center(a, b)) & pocket.is_strictly_flat(pocket))
+    (pocket.ramp_cells == 0)
+        & (within_radius(pocket, center(a, b)) & pocket.is_strictly_flat(pocket))
 }
 
 // ---- rows

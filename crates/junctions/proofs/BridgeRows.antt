@@ -12,7 +12,7 @@ use borrow.Author.Tests.{eqb-true, eqb-false}
 use Rattle.definitions.specs.Scan.{all, allBelow, filter, toList, onlyIf}
 use Rattle.definitions.specs.Grid.{Pair, contains}
 use Rattle.definitions.specs.Geometry.{float, center}
-use Rattle.definitions.specs.RegionRecord.{strictlyFlat}
+use Rattle.definitions.specs.RegionRecord.{hasRamp, strictlyFlat}
 use Rattle.definitions.specs.Context.{Context, fullPair, holds, isIncident, incidentCount, noRamp, width}
 use Rattle.definitions.specs.Junctions.{Proposal, isSome, beyond, isNearPort, withinRadius, portsOf, portExterior, isShared, isTwiceAsWide, bridgeFits, bridgeAt, pickBridge, bridgeOfPorts, bridgeProposal}
 use Rattle.laws.specs.ListLaws.Lists.{All, done, more}
@@ -77,8 +77,8 @@ module _ (boundaries smaller larger counts marks : List ℕ) (C : Context) (S : 
   near-row {i} {k} {t} a b c =
       filter-only allowed (isNear boundaries i i && isNear boundaries i k && isNear boundaries i t) (record { index = i; kind = 1; first = r; second = beyondAt smaller larger r i })
       ∙ (λ x. toList (onlyIf ((sym (near-is boundaries smaller larger counts marks C S i i (a .below) (a .below)) x && sym (near-is boundaries smaller larger counts marks C S i k (a .below) (b .below)) x && sym (near-is boundaries smaller larger counts marks C S i t (a .below) (c .below)) x)
-      && (not (C .region r .hasRamp) && (withinRadius (C .region r) (center (C .boundary i .endpoints)) && strictlyFlat (C .region r) (C .region r)))) (record { index = i; kind = 1; first = r; second = sym (exterior-is a) x })))
-      ∙ ap (λ b. toList (onlyIf b (record { index = i; kind = 1; first = r; second = portExterior C r i }))) (regroup (isNearPort C i i && isNearPort C i k && isNearPort C i t) (not (C .region r .hasRamp)) (withinRadius (C .region r) (center (C .boundary i .endpoints))) (strictlyFlat (C .region r) (C .region r)))
+      && (not (hasRamp (C .region r)) && (withinRadius (C .region r) (center (C .boundary i .endpoints)) && strictlyFlat (C .region r) (C .region r)))) (record { index = i; kind = 1; first = r; second = sym (exterior-is a) x })))
+      ∙ ap (λ b. toList (onlyIf b (record { index = i; kind = 1; first = r; second = portExterior C r i }))) (regroup (isNearPort C i i && isNearPort C i k && isNearPort C i t) (not (hasRamp (C .region r))) (withinRadius (C .region r) (center (C .boundary i .endpoints))) (strictlyFlat (C .region r) (C .region r)))
     where
       regroup : (n h w f : Bool) → (n && (h && (w && f))) ≡ (n && h && w && f)
       regroup true true w f = refl

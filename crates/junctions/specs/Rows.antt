@@ -7,7 +7,7 @@ use lib.ListN.{getD}
 use lib.Dec.{eqb}
 use Rattle.definitions.specs.Scan.{collect, onlyIf}
 use Rattle.definitions.specs.Geometry.{center}
-use Rattle.definitions.specs.RegionRecord.{strictlyFlat}
+use Rattle.definitions.specs.RegionRecord.{hasRamp, strictlyFlat}
 use Rattle.definitions.specs.Context.{Context}
 use Rattle.definitions.specs.Junctions.{Proposal, withinRadius, unionRegions}
 use Rattle.junctions.specs.Unions.{isUnionAt}
@@ -44,7 +44,7 @@ module _ (C : Context) where
   -- of a bridge at boundary i, the part of `bridgeFits` that asks the pocket's record
   unfoldable pub bridgeRegion : ℕ → ℕ → Bool
   unfolding withinRadius center strictlyFlat
-  bridgeRegion r i = not (C .region r .hasRamp) && (withinRadius (C .region r) (center (C .boundary i .endpoints)) && strictlyFlat (C .region r) (C .region r))
+  bridgeRegion r i = not (hasRamp (C .region r)) && (withinRadius (C .region r) (center (C .boundary i .endpoints)) && strictlyFlat (C .region r) (C .region r))
 
   unfoldable pub isAllowed : Proposal → Bool
   unfolding unionRegions bridgeRegion

@@ -9,5 +9,6 @@ pub mod IncidentTable
 pub mod Incidents
 pub mod CompareBoundaries
 pub mod CanonicalOutput
+pub mod RampFlag
 pub mod ElevationMasks
 pub mod AllowedElevations

@@ -12,13 +12,14 @@ use lib.Ieee.{Float, binary64, toBits}
 use Rattle.definitions.specs.Lists.{overwrite}
 use Rattle.definitions.specs.Scan.{all, anyBelow}
 use Rattle.definitions.specs.Sort.{listLt}
-use Rattle.definitions.specs.Grid.{Boundary, Pair, Segment, mapOf}
+use Rattle.definitions.specs.Grid.{Map, Boundary, Pair, Segment, cellCount, mapOf}
+use Rattle.definitions.specs.Partition.{labels, regionCount}
 use Rattle.definitions.specs.Hypotenuse.{inRange, sumOfSquares}
 use Rattle.definitions.specs.Nearest.{Nearest}
 use Rattle.definitions.specs.TotalOrder.{totalOrder}
-use Rattle.definitions.specs.RegionRecord.{Share, IsShare, shareOf}
+use Rattle.definitions.specs.RegionRecord.{hasRamp, Share, IsShare, shareOf}
 use Rattle.definitions.specs.RampGeometry.{intersects}
-use Rattle.definitions.specs.Context.{Context, endpointsKey}
+use Rattle.definitions.specs.Context.{Context, contextOf, endpointsKey}
 use Rattle.definitions.specs.Junctions.{boundaryKey, unionRegions}
 use Rattle.definitions.specs.Refusals.{widthFits}
 use Rattle.definitions.specs.Verdict.{Lent, Answer, mapIn, verdict}
@@ -31,6 +32,8 @@ use Rattle.definitions.specs.SheetExamples.{bytesJ}
 use Rattle.definitions.specs.CaseJ as case-j
 use Rattle.laws.specs.RegionLaws.Shares as shares
 use Rattle.laws.specs.FloatLaws.WidthOrder as widths
+use Rattle.laws.specs.RustContext.RampFlag.{flagAfter}
+use Rattle.laws.specs.RustContext.RampFlag as flags
 use Rattle.laws.specs.RustJunctions.Unions.{proposed}
 use Rattle.laws.specs.RustJunctions.UnionRegions.{unionPasses}
 use Rattle.laws.specs.RustJunctions.UnionRegions as unions
@@ -52,6 +55,8 @@ use Rattle.island_calls.specs.Outputs.{rowsHeld}
 use Rattle.island_calls.specs.RustRows.{rustRows}
 use Rattle.island_calls.specs.RustPartition.{AsRust}
 use Rattle.island_calls.specs.RustPartition as partitions
+use Rattle.record_sums.specs.Totals.{AddUp}
+use Rattle.record_sums.specs.Theorem as sums
 use Rattle.topology.specs.Answers.{RanOver}
 use Rattle.island_theorem.specs.Theorem.{SameOnIsland}
 use Rattle.island_theorem.specs.Theorem as calls
@@ -225,6 +230,19 @@ result-calls-equal = reader-calls.calls-equal
 
 pub directions-as-bytes : (d : ℕ) → d < 8 → placed (byteAt ways.directionWord d) ≡ directionAt d
 directions-as-bytes = ways.word-at
+
+-- ---- request 6: over a call that ran a pass and returned 0, the records at exit of the R regions add up to the grid: ramp cells to its walkable ramp cells, cells to its
+-- walkable cells. And the flag that the Rust's lines ask for is a count above zero.
+
+pub records-add-up : {pass w h : ℕ} {cells spans boundaries anchors l m q t p : List ℕ} {s : List Region} {o : List ℕ}
+    {a : Answer} {l₁ m₁ q₁ t₁ p₁ : List ℕ} {s₁ : List Region} {o₁ : List ℕ}
+    → RanOver pass w h cells spans boundaries anchors l m q t p s o a l₁ m₁ q₁ t₁ p₁ s₁ o₁ → a .number ≡ 0
+    → AddUp (mapOf w h cells spans boundaries anchors) (take (regionCount (mapOf w h cells spans boundaries anchors)) (map recordOf s₁))
+unfolding mapIn
+records-add-up call success = sums.call-adds-up (call .ran) success
+
+pub ramp-flag : (M : Map) (r : ℕ) → hasRamp (contextOf M .region r) ≡ flagAfter M (labels M) r (cellCount M)
+ramp-flag = flags.context-flag
 
 -- ---- request 7: what a call that reported a line left in its output
 

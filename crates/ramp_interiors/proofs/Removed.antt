@@ -10,6 +10,7 @@ use lib.Dec.{eqb, ltb}
 use borrow.Author.Tests.{eq-eqb, ltb-true, ne-eqb, eqb-true, lt-ltb}
 use Rattle.definitions.specs.Scan.{any, all, member, collect, toList, onlyIf, anyBelow, concatMap}
 use Rattle.definitions.specs.Sort.{insert, sortOnto, sort, select}
+use Rattle.definitions.specs.RegionRecord.{hasRamp}
 use Rattle.definitions.specs.Context.{Context, noRamp, fullCut}
 use Rattle.definitions.specs.RampMouths.{meet}
 use Rattle.definitions.specs.RampInteriors.{InteriorProposal, components, componentRegions, edgesOf, componentPorts, portsFit, regionFits, interiorFrom, interiorProposal, proposals, ranksBefore, conflict, taken, removed}
@@ -146,7 +147,7 @@ module _ (C : Context) (S : Sound C) where
       from-list c [] e k = absurd (no-some k)
       from-list c (a ∷ []) e k = absurd (no-some k)
       from-list c (a ∷ b ∷ d ∷ l) e k = absurd (no-some k)
-      from-list c (a ∷ b ∷ []) e k = pick (portsFit C a b) refl (expandedOf C r a b .valid) refl (any (λ q. C .region q .hasRamp) (expandedOf C r a b .regions)) (all (regionFits C a b) (expandedOf C r a b .regions)) k
+      from-list c (a ∷ b ∷ []) e k = pick (portsFit C a b) refl (expandedOf C r a b .valid) refl (any (λ q. hasRamp (C .region q)) (expandedOf C r a b .regions)) (all (regionFits C a b) (expandedOf C r a b .regions)) k
         where
           found : InteriorProposal
           found = record { regions = expandedOf C r a b .regions; edges = edgesOf C (components C) r; firstPort = a; secondPort = b }
@@ -302,7 +303,7 @@ module _ (C : Context) (S : Sound C) where
       listed : (l : List ℕ) → any (λ p. true) (toList (interiorFrom C (componentRegions C (components C) r) (edgesOf C (components C) r) l)) ≡ recordsFit C r (fittingPorts C r l)
       listed [] = refl
       listed (a ∷ []) = refl
-      listed (a ∷ b ∷ []) = only (found a b) (portsFit C a b) (expandedOf C r a b .valid) (any (λ q. C .region q .hasRamp) (expandedOf C r a b .regions)) (all (regionFits C a b) (expandedOf C r a b .regions)) (ports.Two a b) refl
+      listed (a ∷ b ∷ []) = only (found a b) (portsFit C a b) (expandedOf C r a b .valid) (any (λ q. hasRamp (C .region q)) (expandedOf C r a b .regions)) (all (regionFits C a b) (expandedOf C r a b .regions)) (ports.Two a b) refl
       listed (a ∷ b ∷ c ∷ l) = refl
 
       go : (t : Bool) → any (λ p. true) (toList (cond t (interiorFrom C (componentRegions C (components C) r) (edgesOf C (components C) r) (componentPorts C (components C) r)) none)) ≡ recordsFit C r (cond t (fittingPorts C r (componentPorts C (components C) r)) ports.Other)

@@ -8,6 +8,7 @@ use lib.Dec.{eqb}
 use lib.ListN.{length, getD}
 use Rattle.definitions.specs.Limits.{maxEntries}
 use Rattle.definitions.specs.Scan.{any, all, member, anyBelow}
+use Rattle.definitions.specs.RegionRecord.{hasRamp}
 use Rattle.definitions.specs.Context.{Context, noRamp}
 use Rattle.definitions.specs.RampInteriors.{Expansion, components, componentRegions, componentPorts, portsFit, regionFits, expandPort}
 use Rattle.ramp_interiors.specs.Forest.{Beyond}
@@ -134,4 +135,4 @@ FoundAll C owners firsts seconds i =
 unfoldable pub recordsFit : Context → ℕ → Ports → Bool
 unfolding any all regionFits
 recordsFit C r ports.Other = false
-recordsFit C r (ports.Two a b) = any (λ q. C .region q .hasRamp) (expandedOf C r a b .regions) && all (regionFits C a b) (expandedOf C r a b .regions)
+recordsFit C r (ports.Two a b) = any (λ q. hasRamp (C .region q)) (expandedOf C r a b .regions) && all (regionFits C a b) (expandedOf C r a b .regions)

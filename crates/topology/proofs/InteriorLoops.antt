@@ -9,6 +9,7 @@ use lib.ListN.{length, getD}
 use lib.Dec.{eqb, leb}
 use borrow.Author.Tests.{leb-true, le-leb}
 use Rattle.definitions.specs.Scan.{anyBelow, allBelow}
+use Rattle.definitions.specs.RegionRecord.{hasRamp}
 use Rattle.definitions.specs.Context.{Context}
 use Rattle.definitions.specs.RampInteriors.{regionFits}
 use Rattle.laws.specs.ListLaws.Below.{below-none}
@@ -88,7 +89,7 @@ module _ (C : Context) (pairs names : List ℕ) (x : Interior) where
   passes k e = ap (λ t. not t || regionFits C (x .first) (x .second) (regionAt pairs k)) e
 
   misses : (k : ℕ) → asked k ≡ false → ramp k ≡ false
-  misses k e = ap (λ t. t && C .region (regionAt pairs k) .hasRamp) e
+  misses k e = ap (λ t. t && hasRamp (C .region (regionAt pairs k))) e
 
   pub looking-start : {k : ℕ} → NextInside pairs names (x .name) (x .begin) (x .end) k → Looking true false k
   looking-start {k} N =
@@ -100,7 +101,7 @@ module _ (C : Context) (pairs names : List ℕ) (x : Interior) where
         ramped = sym (below-none k ramp (λ j l. misses j (unasked j (λ b. N .before j b l))));
       }
 
-  pub looking-more : {fits ramps f g : Bool} {k n : ℕ} → Looking fits ramps k → k < x .end → f ≡ regionFits C (x .first) (x .second) (regionAt pairs k) → g ≡ C .region (regionAt pairs k) .hasRamp
+  pub looking-more : {fits ramps f g : Bool} {k n : ℕ} → Looking fits ramps k → k < x .end → f ≡ regionFits C (x .first) (x .second) (regionAt pairs k) → g ≡ hasRamp (C .region (regionAt pairs k))
       → NextInside pairs names (x .name) (k + 1) (x .end) n → Looking (fits && f) (ramps || g) n
   looking-more {fits} {ramps} {f} {g} {k} {n} L l e d N =
       record {
@@ -108,7 +109,7 @@ module _ (C : Context) (pairs names : List ℕ) (x : Interior) where
         upto = N .upto;
         found = N .found;
         fitting = ap₂ _&&_ (L .fitting) (e ∙ sym (ap (λ t. not t || regionFits C (x .first) (x .second) (regionAt pairs k)) here)) ∙ sym (all-next fit k) ∙ sym (all-skip fit (N .rising) (λ j a b. passes j (out j a b)));
-        ramped = ap₂ _||_ (L .ramped) (d ∙ sym (ap (λ t. t && C .region (regionAt pairs k) .hasRamp) here)) ∙ sym (any-next ramp k) ∙ sym (any-skip ramp (N .rising) (λ j a b. misses j (out j a b)));
+        ramped = ap₂ _||_ (L .ramped) (d ∙ sym (ap (λ t. t && hasRamp (C .region (regionAt pairs k))) here)) ∙ sym (any-next ramp k) ∙ sym (any-skip ramp (N .rising) (λ j a b. misses j (out j a b)));
       }
     where
       here : asked k ≡ true

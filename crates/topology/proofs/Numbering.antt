@@ -6,7 +6,6 @@ use mathlib.Core.List.{List, [], _∷_, _++_, map}
 use lib.ListN.{length, take, getD, set, length-map, length-append}
 use lib.Seq.{sets, length-take-le, take-all, take-suc}
 use lib.Ieee.{Float, binary64, toBits}
-use Rattle.definitions.specs.Scan.{bit}
 use Rattle.definitions.specs.Lists.{overwrite}
 use Rattle.definitions.specs.RegionRecord.{elevationCount}
 use Rattle.definitions.specs.RegionRecord as def
@@ -22,16 +21,15 @@ abbrev bits : Float → ℕ
 bits = toBits binary64
 
 module _ (s : def.Region) where
-  abbrev listed : (a b c d f : ℕ) → List ℕ
-  listed a b c d f = s .cells ∷ a ∷ b ∷ c ∷ d ∷ f ∷ s .elevations ∷ elevationCount s 0 ∷ elevationCount s 1 ∷ elevationCount s 2 ∷ elevationCount s 3 ∷ []
+  abbrev listed : (a b c d : ℕ) → List ℕ
+  listed a b c d = s .cells ∷ a ∷ b ∷ c ∷ d ∷ s .rampCells ∷ s .elevations ∷ elevationCount s 0 ∷ elevationCount s 1 ∷ elevationCount s 2 ∷ elevationCount s 3 ∷ []
 
-  pub as-numbers : {a b c d f : ℕ} → a ≡ bits (s .minX) → b ≡ bits (s .minY) → c ≡ bits (s .maxX) → d ≡ bits (s .maxY) → f ≡ bit (s .hasRamp) → listed a b c d f ≡ recordNumbers s
-  as-numbers {b = b} {c = c} {d = d} {f = f} x y z w r =
-      ap (λ n. listed n b c d f) x
-      ∙ ap (λ n. listed (bits (s .minX)) n c d f) y
-      ∙ ap (λ n. listed (bits (s .minX)) (bits (s .minY)) n d f) z
-      ∙ ap (λ n. listed (bits (s .minX)) (bits (s .minY)) (bits (s .maxX)) n f) w
-      ∙ ap (listed (bits (s .minX)) (bits (s .minY)) (bits (s .maxX)) (bits (s .maxY))) r
+  pub as-numbers : {a b c d : ℕ} → a ≡ bits (s .minX) → b ≡ bits (s .minY) → c ≡ bits (s .maxX) → d ≡ bits (s .maxY) → listed a b c d ≡ recordNumbers s
+  as-numbers {b = b} {c = c} {d = d} x y z w =
+      ap (λ n. listed n b c d) x
+      ∙ ap (λ n. listed (bits (s .minX)) n c d) y
+      ∙ ap (λ n. listed (bits (s .minX)) (bits (s .minY)) n d) z
+      ∙ ap (listed (bits (s .minX)) (bits (s .minY)) (bits (s .maxX))) w
 
 -- ---- one more number
 

@@ -3,14 +3,13 @@ use Prim.Native.Nat.{ℕ, _/_}
 use mathlib.Core.List.{List, [], _∷_, _++_}
 use lib.ListN.{length, take}
 use lib.Ieee.{binary64, toBits}
-use Rattle.definitions.specs.Scan.{bit}
 use Rattle.definitions.specs.Lists.{overwrite}
 use Rattle.definitions.specs.RegionRecord.{Region, elevationCount}
 
 abbrev pub numbersPerRecord : ℕ
 numbersPerRecord = 11
 
--- cells, the bits of the four edges, 1 where a cell is a ramp, the mask, and the count of each elevation
+-- cells, the bits of the four edges, ramp cells, the mask, and the count of each elevation
 abbrev pub recordNumbers : Region → List ℕ
 recordNumbers s =
     s .cells
@@ -18,7 +17,7 @@ recordNumbers s =
     ∷ toBits binary64 (s .minY)
     ∷ toBits binary64 (s .maxX)
     ∷ toBits binary64 (s .maxY)
-    ∷ bit (s .hasRamp)
+    ∷ s .rampCells
     ∷ s .elevations
     ∷ elevationCount s 0
     ∷ elevationCount s 1

@@ -35,7 +35,7 @@ pub fn interior_fits(
     while k < interior.end {
         let region = record_at(records, record_place(pairs, k));
         fits = fits & region_fits(reach, region);
-        ramp = ramp | region.has_ramp;
+        ramp = ramp | (0 < region.ramp_cells);
         k = next_inside(pairs, names, interior.name, k + 1, interior.end);
     }
     fits & ramp

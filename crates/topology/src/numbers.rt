@@ -6,7 +6,6 @@ ghost use Prim.Native.Nat.{_+_, _≤_, min};
 ghost use lib.ListN.{length, take};
 ghost use lib.Seq.{sets};
 ghost use lib.Ieee.{binary64, toBits};
-ghost use Rattle.definitions.specs.Scan.{bit};
 ghost use Rattle.context.specs.Records.{recordOf};
 ghost use Rattle.topology.specs.Numbers.{recordNumbers, withRecords};
 
@@ -28,16 +27,7 @@ fn bits_of(x: f64) -> u64
     f64::to_bits(x)
 }
 
-fn flag(b: bool) -> u64
-    ensures { λ r. ⌜ r ≡ bit b ⌝ }
-{
-    if b {
-        return 1;
-    }
-    0
-}
-
-// Cells, the bits of the four edges, whether a cell is a ramp, the mask, and the count of each elevation.
+// Cells, the bits of the four edges, ramp cells, the mask, and the count of each elevation.
 fn numbers_of(r: Region) -> [u64; 11]
     ensures { λ n. ⌜ n ≡ recordNumbers (recordOf r) ⌝ }
 {
@@ -48,7 +38,7 @@ fn numbers_of(r: Region) -> [u64; 11]
         bits_of(r.min_y),
         bits_of(r.max_x),
         bits_of(r.max_y),
-        flag(r.has_ramp),
+        r.ramp_cells as u64,
         r.elevations as u64,
         counts[0] as u64,
         counts[1] as u64,

@@ -23,7 +23,8 @@ pub struct Record {
     pub cells: u64,
     /// The bits of min_x, min_y, max_x, max_y.
     pub edges: [u64; 4],
-    pub ramp: bool,
+    /// Counted here, from the Rust's labels and the cells: the Rust has a flag, which must say the same.
+    pub ramp_cells: u64,
     pub mask: u8,
     pub counts: [u64; 4],
 }
@@ -192,14 +193,28 @@ fn flattened(partition: &SpanPartition) -> Partition {
 pub fn records(Context(context): &Context<'_>) -> Vec<Record> {
     let labels = context.stats.keys().copied();
     assert!(labels.eq(1..=context.partition.areas().len() as u32), "every region has cells");
-    let record = |stats: &super::context::RegionStats| Record {
-        cells: stats.cells as u64,
-        edges: [stats.min_x, stats.min_y, stats.max_x, stats.max_y].map(f64::to_bits),
-        ramp: stats.has_ramp,
-        mask: stats.elevations,
-        counts: stats.elevation_counts.map(|count| count as u64),
+    let ramps = ramp_cells(context);
+    let record = |(label, stats): (&u32, &super::context::RegionStats)| {
+        let ramp_cells = ramps[*label as usize];
+        assert_eq!(ramp_cells > 0, stats.has_ramp, "the flag is a count above zero");
+        Record {
+            cells: stats.cells as u64,
+            edges: [stats.min_x, stats.min_y, stats.max_x, stats.max_y].map(f64::to_bits),
+            ramp_cells,
+            mask: stats.elevations,
+            counts: stats.elevation_counts.map(|count| count as u64),
+        }
     };
-    context.stats.values().map(record).collect()
+    context.stats.iter().map(record).collect()
+}
+
+/// By label, how many cells with the ramp bit have it; label 0 is of the cells that are not walkable.
+fn ramp_cells(context: &PartitionContext<'_>) -> Vec<u64> {
+    let mut counts = vec![0; context.partition.areas().len() + 1];
+    for (label, cell) in context.partition.labels().iter().zip(context.grid.cells()) {
+        counts[*label as usize] += u64::from(cell.ramp);
+    }
+    counts
 }
 
 /// A kept boundary's number and canonical endpoints.

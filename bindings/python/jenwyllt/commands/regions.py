@@ -44,8 +44,8 @@ def dominance_words(of: Dominance) -> str:
 def region_line(label: int, region: Region, of: Dominance) -> str:
     edges = ' '.join(f'{edge:.0f}' for edge in (region.min_x, region.min_y)), ' '.join(f'{edge:.0f}' for edge in (region.max_x, region.max_y))
     elevations = ', '.join(f'{count} of elevation {e}' for e, count in enumerate(region.elevation_counts) if count)
-    ramp = ', with a ramp' if region.has_ramp else ''
-    return f'region {label} from {edges[0]} to {edges[1]}: {counted(region.cells, "cell")}, {elevations}{ramp}; {dominance_words(of)}'
+    ramps = f', {counted(region.ramp_cells, "ramp cell")}' if region.ramp_cells else ''
+    return f'region {label} from {edges[0]} to {edges[1]}: {counted(region.cells, "cell")}, {elevations}{ramps}; {dominance_words(of)}'
 
 
 def lines(sheet: Sheet, cut: Kept, shares: list[Dominance], labels: bool) -> Iterator[str]:

@@ -33,8 +33,8 @@ def read_sheet(data: bytes) -> Sheet:
 
 
 def region_of(record: tuple) -> Region:
-    cells, *edges, ramp, elevations, counts = record
-    return Region(cells, *map(double, edges), bool(ramp), elevations, tuple(counts))
+    cells, *edges, ramps, elevations, counts = record
+    return Region(cells, *map(double, edges), ramps, elevations, tuple(counts))
 
 
 def kept_boundaries(sheet: Sheet, records: int | None = None, pair_rows: int | None = None) -> Kept:

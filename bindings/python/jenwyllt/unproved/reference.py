@@ -57,9 +57,14 @@ class RegionStats:
     min_y: float = math.inf
     max_x: float = -math.inf
     max_y: float = -math.inf
-    has_ramp: bool = False
+    ramp_cells: int = 0
     elevations: int = 0
     elevation_counts: list = field(default_factory=lambda: [0, 0, 0, 0])
+
+    @property
+    def has_ramp(self):
+        """the Rust's flag"""
+        return self.ramp_cells > 0
 
     def corners(self):
         return [(self.min_x, self.min_y), (self.min_x, self.max_y), (self.max_x, self.min_y), (self.max_x, self.max_y)]
@@ -221,7 +226,7 @@ class Context:
             value.cells += 1
             value.min_x, value.min_y = min(value.min_x, x), min(value.min_y, y)
             value.max_x, value.max_y = max(value.max_x, x + 8.0), max(value.max_y, y + 8.0)
-            value.has_ramp = value.has_ramp or cell & 2 == 2
+            value.ramp_cells += cell >> 1 & 1
             elevation = cell >> 2
             value.elevations |= 1 << elevation
             value.elevation_counts[elevation] += 1
@@ -1009,7 +1014,7 @@ EMPTY_RECORD = (0, 0, 0, 0, 0, 0, 0, (0, 0, 0, 0))
 
 def record_of(stats):
     return (stats.cells, bits(stats.min_x), bits(stats.min_y), bits(stats.max_x), bits(stats.max_y),
-            int(stats.has_ramp), stats.elevations, tuple(stats.elevation_counts))
+            stats.ramp_cells, stats.elevations, tuple(stats.elevation_counts))
 
 
 def early_refusal(m, lent, whole):

@@ -1,6 +1,6 @@
 -- `bridge_region` meets its contract, from what its callees ensure. Assumes nothing.
 use mathlib.Core.Path.{_≡_, ap, _∙_, subst⁻¹}
-use mathlib.Core.Bool.{not, _&&_}
+use mathlib.Core.Bool.{_&&_}
 use borrow.Author.Needs.{needs}
 use Rattle.definitions.specs.Geometry.{center}
 use Rattle.definitions.specs.Junctions.{withinRadius}
@@ -9,6 +9,7 @@ use Rattle.geometry.specs.Forms.{segmentFrom}
 use Rattle.geometry.specs.Ends.{pixel}
 use Rattle.context.specs.Records.{recordOf}
 use Rattle.junction_regions.specs.Tests.{bridgeOf}
+use Rattle.junction_regions.proofs.Regions.{no-ramp}
 use Rattle.junction_regions.proofs.bridge_region.Statement.{statement}
 use Rattle.junction_regions.proofs.bridge_region.Tie as tie
 
@@ -21,7 +22,7 @@ unfolding bridgeOf
 returns c =
     let s = recordOf (c .before .before .before .before .args .pocket) in
     let near : c .before .within-radius .result ≡ withinRadius s (center (segmentFrom (c .before .before .before .before .args .a) (c .before .before .before .before .args .b))) = c .before .within-radius .ensures ∙ ap (withinRadius s) (c .before .before .center .ensures) in
-    λ i. not (s .hasRamp) && (near i && c .is-strictly-flat .ensures i)
+    λ i. no-ramp (s .rampCells) i && (near i && c .is-strictly-flat .ensures i)
 
 pub bridge-region-spec : {M : Type 1} → statement M
 bridge-region-spec = tie.close (tie.spec (λ c κs. search needs) within-radius-requires (λ c κs. search needs) returns)

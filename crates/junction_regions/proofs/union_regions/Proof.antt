@@ -1,7 +1,8 @@
 -- `union_regions` meets its contract, from what its callees ensure. Assumes nothing.
-use mathlib.Core.Bool.{not, _&&_, _||_}
+use mathlib.Core.Bool.{_&&_, _||_}
 use borrow.Author.Needs.{needs}
 use Rattle.junction_regions.specs.Tests.{unionOf}
+use Rattle.junction_regions.proofs.Regions.{no-ramp}
 use Rattle.junction_regions.proofs.union_regions.Statement.{statement}
 use Rattle.junction_regions.proofs.union_regions.Tie as tie
 
@@ -14,9 +15,11 @@ same-dominance-requires c κs = (c .before .before .before .before .pre .0 .coun
 returns : tie.Need-returns
 unfolding unionOf
 returns c =
+    let local = c .before .before in
+    let start = local .before .before .before in
     λ i.
-    not (c .before .before .before .before .before .args .first .«has_ramp») && not (c .before .before .before .before .before .args .second .«has_ramp») && c .before .before .is-local .ensures i
-    && (c .before .is-strictly-flat .ensures i || c .before .before .before .before .before .args .one && c .same-dominance .ensures i)
+    no-ramp (start .args .first .«ramp_cells») i && no-ramp (start .args .second .«ramp_cells») i && local .is-local .ensures i
+    && (c .before .is-strictly-flat .ensures i || start .args .one && c .same-dominance .ensures i)
 
 pub union-regions-spec : {M : Type 1} → statement M
 union-regions-spec = tie.close (tie.spec is-local-requires (λ c κs. search needs) same-dominance-requires returns)

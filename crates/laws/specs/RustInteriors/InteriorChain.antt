@@ -14,7 +14,7 @@ use borrow.Author.Tests.{lt-ltb}
 use Rattle.definitions.specs.Scan.{any, all, onlyIf, member}
 use Rattle.definitions.specs.Grid.{Pair}
 use Rattle.definitions.specs.Geometry.{center, distance}
-use Rattle.definitions.specs.RegionRecord.{Region, corners}
+use Rattle.definitions.specs.RegionRecord.{Region, hasRamp, corners}
 use Rattle.definitions.specs.Context.{Context, noRamp, fullCut, isIncident, incidentCount}
 use Rattle.definitions.specs.RampMouths.{maxApproachRadius}
 use Rattle.definitions.specs.RampInteriors.{InteriorProposal, Expansion, insideCount, exteriors, invalid, addLeaf, expandPair, expandPairs, expandPort, portsFit, isAllowedElevation, regionFits, interiorFrom}
@@ -108,10 +108,10 @@ module _ (C : Context) (sound : Sound C) (checked : Checked C) where
             finite (stat .minX) && noneElse (stat .elevations) (C .boundary a .lower) (C .boundary a .upper)
             && all (λ corner. any (λ middle. le (distance corner middle) maxApproachRadius) (center (C .boundary a .endpoints) ∷ center (C .boundary b .endpoints) ∷ [])) (corners stat)
 
-    retained-is : (rs es : List ℕ) → All (Inhabited C) rs → isRetained C (rendered C (record { regions = rs; edges = es; firstPort = a; secondPort = b })) ≡ (any (λ q. C .region q .hasRamp) rs && all (regionFits C a b) rs)
+    retained-is : (rs es : List ℕ) → All (Inhabited C) rs → isRetained C (rendered C (record { regions = rs; edges = es; firstPort = a; secondPort = b })) ≡ (any (λ q. hasRamp (C .region q)) rs && all (regionFits C a b) rs)
     unfolding isRetained any
     retained-is rs es h =
-        ap₂ _&&_ (any-extend (λ q. isSomeAnd (statsOf C q) (λ stat. stat .hasRamp)) [] rs ∙ any-agree _ _ (λ q k. ap (λ t. isSomeAnd (onlyIf t (C .region q)) (λ stat. stat .hasRamp)) (lt-ltb 0 (C .region q .cells) k)) h)
+        ap₂ _&&_ (any-extend (λ q. isSomeAnd (statsOf C q) (λ stat. hasRamp stat)) [] rs ∙ any-agree _ _ (λ q k. ap (λ t. isSomeAnd (onlyIf t (C .region q)) (λ stat. hasRamp stat)) (lt-ltb 0 (C .region q .cells) k)) h)
         (all-extend (regionRetained C (center (C .boundary a .endpoints) ∷ center (C .boundary b .endpoints) ∷ []) (C .boundary a)) rs ∙ all-agree _ _ region-is h)
 
     -- ---- two ports
@@ -148,9 +148,9 @@ module _ (C : Context) (sound : Sound C) (checked : Checked C) where
       unfit x y ra rb e =
           ap (λ t. t && fullCut C a && fullCut C b && eqb (C .boundary a .rampId) (C .boundary b .rampId) && not (eqb (C .boundary a .kind) (C .boundary b .kind))) ((λ i. not (ra i) && not (rb i)) ∙ e)
 
-      kept : (v : Bool) → keepIf (isRetained C) (cond v (some (rendered C proposal)) none) ≡ Option·map (rendered C) (onlyIf (v && (any (λ q. C .region q .hasRamp) (expanded .regions) && all (regionFits C a b) (expanded .regions))) proposal)
+      kept : (v : Bool) → keepIf (isRetained C) (cond v (some (rendered C proposal)) none) ≡ Option·map (rendered C) (onlyIf (v && (any (λ q. hasRamp (C .region q)) (expanded .regions) && all (regionFits C a b) (expanded .regions))) proposal)
       kept false = refl
-      kept true = ap (λ t. onlyIf t (rendered C proposal)) (retained-is (expanded .regions) es (port-inhabited (expandPort C (record { regions = rs; valid = true }) a) b (port-inhabited (record { regions = rs; valid = true }) a h))) ∙ pass (any (λ q. C .region q .hasRamp) (expanded .regions) && all (regionFits C a b) (expanded .regions))
+      kept true = ap (λ t. onlyIf t (rendered C proposal)) (retained-is (expanded .regions) es (port-inhabited (expandPort C (record { regions = rs; valid = true }) a) b (port-inhabited (record { regions = rs; valid = true }) a h))) ∙ pass (any (λ q. hasRamp (C .region q)) (expanded .regions) && all (regionFits C a b) (expanded .regions))
         where
           pass : (t : Bool) → onlyIf t (rendered C proposal) ≡ Option·map (rendered C) (onlyIf t proposal)
           pass true = refl
@@ -164,7 +164,7 @@ module _ (C : Context) (sound : Sound C) (checked : Checked C) where
           valid = expanded .valid
 
           ramped : Bool
-          ramped = any (λ q. C .region q .hasRamp) (expanded .regions)
+          ramped = any (λ q. hasRamp (C .region q)) (expanded .regions)
 
           fits : Bool
           fits = all (regionFits C a b) (expanded .regions)

@@ -10,7 +10,7 @@ use lib.Ieee.Scale.{finite}
 use Rattle.definitions.specs.Scan.{any, all}
 use Rattle.definitions.specs.Grid.{Boundary}
 use Rattle.definitions.specs.Geometry.{Point, center, distance}
-use Rattle.definitions.specs.RegionRecord.{corners}
+use Rattle.definitions.specs.RegionRecord.{hasRamp, corners}
 use Rattle.definitions.specs.Context.{Context}
 use Rattle.definitions.specs.RampMouths.{maxApproachRadius}
 use Rattle.laws.specs.SetLaws.Sets.{setExtend}
@@ -114,4 +114,4 @@ module _ (C : Context) where
   unfoldable pub isRetained : InteriorRust → Bool
   isRetained p =
       let centers = center (C .boundary (p .firstPort) .endpoints) ∷ center (C .boundary (p .secondPort) .endpoints) ∷ [] in
-      any (λ region. isSomeAnd (statsOf C region) (λ stat. stat .hasRamp)) (p .regions) && all (regionRetained centers (C .boundary (p .firstPort))) (p .regions)
+      any (λ region. isSomeAnd (statsOf C region) (λ stat. hasRamp stat)) (p .regions) && all (regionRetained centers (C .boundary (p .firstPort))) (p .regions)

@@ -13,7 +13,7 @@ use borrow.Author.Tests.{ne-eqb, eqb-true}
 use Rattle.definitions.specs.Scan.{any, all, onlyIf}
 use Rattle.definitions.specs.Grid.{Pair, contains}
 use Rattle.definitions.specs.Geometry.{Point, center}
-use Rattle.definitions.specs.RegionRecord.{Region, corners, strictlyFlat}
+use Rattle.definitions.specs.RegionRecord.{Region, hasRamp, corners, strictlyFlat}
 use Rattle.definitions.specs.Context.{Context, holds, onlyPair, fullCut, fullPair, isIncident, noRamp}
 use Rattle.definitions.specs.Junctions.{Proposal, maxUnionRadiusPixels, withinDistance, beyond, isSome, withinRadius, portsOf, portExterior, isShared, isNearPort, isTwiceAsWide, bridgeFits, bridgeAt, pickBridge, bridgeOfPorts, bridgeProposal}
 use Rattle.laws.specs.ListLaws.Lists.{All, done, more}
@@ -34,7 +34,7 @@ module _ (C : Context) (full : ℕ → Option Pair) where
       (cond (any (λ j. not (noRamp C j) || not (isSome (full j))) ports) none (bridgeOfGroups C ports (groupsFrom full pocket [] ports)))
 
 module _ (C : Context) where
-  -- `ctx.stats.get(&region)`: a region has a record if it has a cell
+  -- `ctx.stats.get(&region)`: a region has a record if it has a cell. Of a record `has_ramp` is written `hasRamp`, which is the Rust's flag (`ramp-flag` of RustContext).
   abbrev pub statsOf : ℕ → Option Region
   statsOf r = onlyIf (ltb 0 (C .region r .cells)) (C .region r)
 
@@ -42,7 +42,7 @@ module _ (C : Context) where
   --     if !stats.has_ramp && within_radius(stats, center(&boundaries[proposal.index])) && flat(stats) { .. }
   abbrev pub bridgeIsLocal : ℕ → Option Region → Bool
   bridgeIsLocal index none = false
-  bridgeIsLocal index (some s) = not (s .hasRamp) && withinRadius s (center (C .boundary index .endpoints)) && flat s
+  bridgeIsLocal index (some s) = not (hasRamp s) && withinRadius s (center (C .boundary index .endpoints)) && flat s
 
   --     ranked.push(Proposal::Bridge(proposal));
   abbrev pub rankBridge : ℕ → Option Bridge → Option Proposal
@@ -60,14 +60,14 @@ never true = refl
 never false = refl
 
 module _ (C : Context) (r : ℕ) where
-  local-is : (i : ℕ) → bridgeIsLocal C i (statsOf C r) ≡ (not (C .region r .hasRamp) && withinRadius (C .region r) (center (C .boundary i .endpoints)) && strictlyFlat (C .region r) (C .region r))
+  local-is : (i : ℕ) → bridgeIsLocal C i (statsOf C r) ≡ (not (hasRamp (C .region r)) && withinRadius (C .region r) (center (C .boundary i .endpoints)) && strictlyFlat (C .region r) (C .region r))
   local-is i = go (ltb 0 (C .region r .cells)) refl
     where
-      go : (b : Bool) → ltb 0 (C .region r .cells) ≡ b → bridgeIsLocal C i (onlyIf b (C .region r)) ≡ (not (C .region r .hasRamp) && withinRadius (C .region r) (center (C .boundary i .endpoints)) && strictlyFlat (C .region r) (C .region r))
-      go true e = ap (λ b. not (C .region r .hasRamp) && withinRadius (C .region r) (center (C .boundary i .endpoints)) && b) (flat-is (C .region r))
+      go : (b : Bool) → ltb 0 (C .region r .cells) ≡ b → bridgeIsLocal C i (onlyIf b (C .region r)) ≡ (not (hasRamp (C .region r)) && withinRadius (C .region r) (center (C .boundary i .endpoints)) && strictlyFlat (C .region r) (C .region r))
+      go true e = ap (λ b. not (hasRamp (C .region r)) && withinRadius (C .region r) (center (C .boundary i .endpoints)) && b) (flat-is (C .region r))
       go false e =
-          and-fails (not (C .region r .hasRamp)) (strictlyFlat (C .region r) (C .region r))
-          ∙ ap (λ b. not (C .region r .hasRamp) && b && strictlyFlat (C .region r) (C .region r)) (sym (radius-empty (C .region r) (center (C .boundary i .endpoints)) e))
+          and-fails (not (hasRamp (C .region r))) (strictlyFlat (C .region r) (C .region r))
+          ∙ ap (λ b. not (hasRamp (C .region r)) && b && strictlyFlat (C .region r) (C .region r)) (sym (radius-empty (C .region r) (center (C .boundary i .endpoints)) e))
 
   -- a port that is a full pair of the pocket
   port-pushed : (groups : List Group) (j : ℕ) (o : Option Pair) → holds o (contains r) ≡ true → pushPort r groups j o ≡ pushGroup groups (beyond r o) j
@@ -84,7 +84,7 @@ module _ (C : Context) (r : ℕ) where
   unfolding bridgeFits
   fits-is ports i k t a =
       ap₂ _&&_ a (local-is i)
-      ∙ order (isNearPort C i i && isNearPort C i k && isNearPort C i t) (not (C .region r .hasRamp)) (withinRadius (C .region r) (center (C .boundary i .endpoints))) (strictlyFlat (C .region r) (C .region r))
+      ∙ order (isNearPort C i i && isNearPort C i k && isNearPort C i t) (not (hasRamp (C .region r))) (withinRadius (C .region r) (center (C .boundary i .endpoints))) (strictlyFlat (C .region r) (C .region r))
     where
       order : (n a b c : Bool) → (n && (a && b && c)) ≡ (n && a && b && c)
       order true a b c = refl

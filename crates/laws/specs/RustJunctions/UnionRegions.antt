@@ -12,7 +12,7 @@ use borrow.Author.Tests.{ltb-true, lt-ltb}
 use Rattle.definitions.specs.Scan.{all, onlyIf}
 use Rattle.definitions.specs.Grid.{Segment, Pair}
 use Rattle.definitions.specs.Geometry.{point, center, pointSegmentDistance}
-use Rattle.definitions.specs.RegionRecord.{Region, corners, sameDominance, strictlyFlat}
+use Rattle.definitions.specs.RegionRecord.{Region, hasRamp, corners, sameDominance, strictlyFlat}
 use Rattle.definitions.specs.Context.{Context}
 use Rattle.definitions.specs.Junctions.{maxUnionRadiusPixels, withinRadius, withinSpanRadius, anchoredRegions, unionRegions}
 use Rattle.laws.specs.ListLaws.Tests.{and-fails}
@@ -43,7 +43,7 @@ module _ (C : Context) where
   unionPassesIn x none t = false
   unionPassesIn x (some first) none = false
   unionPassesIn x (some first) (some second) =
-      ltb 0 (first .cells + second .cells) && not (first .hasRamp) && not (second .hasRamp) && unionIsLocal x first second
+      ltb 0 (first .cells + second .cells) && not (hasRamp first) && not (hasRamp second) && unionIsLocal x first second
       && (strictlyFlatMask first second || eqb (x .anchoredRegions) 1 && dominantSame first second)
 
   unfoldable pub unionPasses : UnionStruct → Bool
@@ -92,7 +92,7 @@ module _ (C : Context) (i : ℕ) (p : Pair) where
 
   -- by the tests that are made of two records: whether they are near, and whether one elevation dominates both
   abbrev pub regionsBy : Bool → Bool → Bool
-  regionsBy near same = not (first .hasRamp) && not (second .hasRamp) && near && (strictlyFlat first second || eqb (anchoredRegions C p) 1 && same)
+  regionsBy near same = not (hasRamp first) && not (hasRamp second) && near && (strictlyFlat first second || eqb (anchoredRegions C p) 1 && same)
 
   regions-is : unionRegions C i p ≡ regionsBy local (sameDominance first second)
   unfolding unionRegions unionIsLocal
@@ -100,8 +100,8 @@ module _ (C : Context) (i : ℕ) (p : Pair) where
 
   nowhere : (near same : Bool) → near ≡ false → regionsBy near same ≡ false
   nowhere near same h =
-      ap (λ b. not (first .hasRamp) && not (second .hasRamp) && b && (strictlyFlat first second || eqb (anchoredRegions C p) 1 && same)) h
-      ∙ sym (and-fails (not (first .hasRamp) && not (second .hasRamp)) (strictlyFlat first second || eqb (anchoredRegions C p) 1 && same))
+      ap (λ b. not (hasRamp first) && not (hasRamp second) && b && (strictlyFlat first second || eqb (anchoredRegions C p) 1 && same)) h
+      ∙ sym (and-fails (not (hasRamp first) && not (hasRamp second)) (strictlyFlat first second || eqb (anchoredRegions C p) 1 && same))
 
   -- what unions accept at 99 percent is what they accept by the Rust's dominant elevations, of every context: where a region has no cell, nothing is local
   pub regions-as-before : unionRegions C i p ≡ regionsBy local (dominantSame first second)
@@ -124,7 +124,7 @@ module _ (C : Context) (i : ℕ) (p : Pair) where
     where
       go : (a : Bool) → ltb 0 (first .cells) ≡ a → (b : Bool) → ltb 0 (second .cells) ≡ b → unionPassesIn C (proposed C i p) (onlyIf a first) (onlyIf b second) ≡ unionRegions C i p
       go true e true f =
-          (λ t. lt-ltb 0 (first .cells + second .cells) (omega (arith, ltb-true 0 (first .cells) e)) t && not (first .hasRamp) && not (second .hasRamp) && local
+          (λ t. lt-ltb 0 (first .cells + second .cells) (omega (arith, ltb-true 0 (first .cells) e)) t && not (hasRamp first) && not (hasRamp second) && local
           && (strictly-flat-is first second t || eqb (anchoredRegions C p) 1 && dominantSame first second))
           ∙ sym regions-as-before
       go true e false f = not-local (local-second f)

@@ -48,8 +48,11 @@ edge-requires-4 c κs = search needs
 greater-edge-requires-2 : tie.Need-greater-edge-requires-2
 greater-edge-requires-2 c κs = search needs
 
-is-ramp-requires : tie.Need-is-ramp-requires
-is-ramp-requires c κs = search needs
+ramp-bit-requires : tie.Need-ramp-bit-requires
+ramp-bit-requires c κs = search needs
+
+add-t21 : tie.Need-add-t21
+add-t21 c = search needs
 
 cast-t22 : tie.Need-cast-t22
 cast-t22 c = search needs
@@ -59,18 +62,22 @@ shl-t23 c = search needs
 
 returns : tie.Need-returns
 returns c =
-    let edges = c .before .before .before .before .before .before .before .before .before .before in
-    let added = edges .before .before in
+    let ramp = c .before .before in
+    let bottom = ramp .before in
+    let right = bottom .before .before in
+    let top = right .before .before in
+    let left = top .before .before in
+    let added = left .before .before .before in
     let raised = added .before .before in
     let start = raised .before .before in
     let s = recordOf (start .args .self) in
     let first = eqb (s .cells) 0 in
     cell-added s (start .args .x) (start .args .y) (start .args .cell) (raised .elevation-of .ensures) (added .one-more .ensures)
-    (bit-is (start .args .cell) (raised .elevation-of .ensures) (start .pre .1 .counted)) (c .before .before .is-ramp .ensures)
-    (lesser-is first (s .minX) (edges .edge .ensures) (c .before .before .before .before .before .before .before .before .before .lesser-edge .ensures))
-    (lesser-is first (s .minY) (c .before .before .before .before .before .before .before .before .edge2 .ensures) (c .before .before .before .before .before .before .before .lesser-edge2 .ensures))
-    (greater-is first (s .maxX) (c .before .before .before .before .before .before .edge3 .ensures) (c .before .before .before .before .before .greater-edge .ensures))
-    (greater-is first (s .maxY) (c .before .before .before .before .edge4 .ensures) (c .before .before .before .greater-edge2 .ensures))
+    (bit-is (start .args .cell) (raised .elevation-of .ensures) (start .pre .1 .counted)) (ramp .ramp-bit .ensures .0)
+    (lesser-is first (s .minX) (left .before .edge .ensures) (left .lesser-edge .ensures))
+    (lesser-is first (s .minY) (top .before .edge2 .ensures) (top .lesser-edge2 .ensures))
+    (greater-is first (s .maxX) (right .before .edge3 .ensures) (right .greater-edge .ensures))
+    (greater-is first (s .maxY) (bottom .before .edge4 .ensures) (bottom .greater-edge2 .ensures))
 
 pub with-cell-spec : {M : Type 1} → statement M
 with-cell-spec =
@@ -89,7 +96,8 @@ with-cell-spec =
     add-edge-2
     edge-requires-4
     greater-edge-requires-2
-    is-ramp-requires
+    ramp-bit-requires
+    add-t21
     cast-t22
     shl-t23
     returns)

@@ -1,4 +1,4 @@
--- `topology::slice::put_record` meets its contract: a walk of its MIR, by hand. The place of `records[i]` is 80 · i past the slice's pointer, the borrow is opened, the struct is stored there whole, and the borrow is closed at the list with r at i.
+-- `topology::slice::put_record` meets its contract: a walk of its MIR, by hand. The place of `records[i]` is 88 · i past the slice's pointer, the borrow is opened, the struct is stored there whole, and the borrow is closed at the list with r at i.
 -- Assumes nothing.
 use mathlib.Core.Path.{refl, sym, ap, subst}
 use Prim.Native.Nat.{ℕ, _<_, _*_, _^_}
@@ -92,13 +92,13 @@ module _ {M : Type 1} (𝓤 : URA M) (H : Heap 𝓤) (A : Atoms 𝓤) (W : Given
         -- [_5; …; _4; …; _3; …; _2; …; _1; …; room for _0; …; the token; what records, i and r own]
         assigns ! (bin ! (load ! (from ! (stop !)) (look ! 6 refl)) (lit ! tt) (record { fits = bytes-fit })) (from ! (stop !)) (init ! 2 refl (tt, record { fits = bytes-fit })) $
         assigns ! (bin ! (load ! (from ! (fld ! refl (stop !))) (look-in ! 8 (sub ! 0 refl (whole !)))) (load ! (from ! (stop !)) (look ! 2 refl)) tt) (from ! (stop !)) (init ! 0 refl (tt, tt)) $
-        rewrite ! 0 (λ (p : ℕ). ‵ (fat fullShare tyPtr l₅ 0 (vptr b p))) (sym (place-is 80 o i)) refl $
+        rewrite ! 0 (λ (p : ℕ). ‵ (fat fullShare tyPtr l₅ 0 (vptr b p))) (sym (place-is 88 o i)) refl $
         move ! (13 ∷ []) $ fsplit ! $ fsplit ! $ move ! (1 ∷ []) $ fsplit ! $ move ! (16 ∷ []) $ split ! $ move ! (2 ∷ 3 ∷ 0 ∷ []) $
         opens-slice ! tt T.the-row ys b o $ elem-out ! T.the-row (Is T.the-row) (shows 𝓤 H A T.the-row) (LL.vals T.the-type T′.the-laws) (LL.tells T.the-type T′.the-laws) fullShare ys i r b o l (λ _.
         -- [records[i]; what it owns; the others; the open borrow; obs; auth; true; records' fact; i's and r's; _5; …; _4; …; _3; …; _2; …; _1; …; _0; …]
-        use1 W (‵ (fat fullShare T′.mir b (place 80 o i) (mach (getD ys i r)))) (retype 𝓤 H A W fullShare (raw T′.mir) T′.mir refl b (place 80 o i) (mach (getD ys i r))) $
+        use1 W (‵ (fat fullShare T′.mir b (place 88 o i) (mach (getD ys i r)))) (retype 𝓤 H A W fullShare (raw T′.mir) T′.mir refl b (place 88 o i) (mach (getD ys i r))) $
         assigns ! (of-opd ! (load ! (from ! (stop !)) (look ! 13 refl))) (from ! (hop ! (look ! 9 refl) (stop !))) (store ! 0 refl (typed r is)) $
-        use1 W (‵ (fat fullShare (raw T′.mir) b (place 80 o i) (mach r))) (retype 𝓤 H A W fullShare T′.mir (raw T′.mir) refl b (place 80 o i) (mach r)) $
+        use1 W (‵ (fat fullShare (raw T′.mir) b (place 88 o i) (mach r))) (retype 𝓤 H A W fullShare T′.mir (raw T′.mir) refl b (place 88 o i) (mach r)) $
         move ! (1 ∷ []) $ drop ! $ owned ! T.the-row (Is T.the-row) (LL.makes T.the-type T′.the-plain 𝓤 H A) r _ is $ move ! (1 ∷ 0 ∷ []) $ elem-put ! T.the-row fullShare ys i r (mach r ∷ []) b o l $
         closes-slice ! tt T.the-row ys zs (length-set ys i r) b o $
         assigns ! (of-opd ! (unit-lit !)) (from ! (stop !)) (init ! 16 refl (tt, tt)) $
@@ -106,7 +106,7 @@ module _ {M : Type 1} (𝓤 : URA M) (H : Heap 𝓤) (A : Atoms 𝓤) (W : Given
         move ! (16 ∷ 17 ∷ []) $ free1 ! $ move ! (14 ∷ 15 ∷ []) $ free1 ! $ move ! (12 ∷ 13 ∷ []) $ free1 ! $ move ! (10 ∷ 11 ∷ []) $ free1 ! $ move ! (8 ∷ 9 ∷ []) $ free1 ! $ move ! (6 ∷ 7 ∷ []) $ free1 ! $ free0 ! $
         keep ! (0 ∷ 1 ∷ 2 ∷ 5 ∷ []) $ by ! (exits gn))))))))
       where
-        bytes-fit : i * 80 < 2 ^ 64
+        bytes-fit : i * 88 < 2 ^ 64
         bytes-fit = omega (arith, gn .1, l)
 
         typed : (h : Region) → Is T.the-row h (mach h ∷ []) → Holds (hasTy T′.mir (mach h)) × WT (mach h)

@@ -1,4 +1,4 @@
--- `topology::slice::record_at` meets its contract: a walk of its MIR, by hand. The place of `records[i]` is 80 · i past the slice's pointer, and the struct is read there whole.
+-- `topology::slice::record_at` meets its contract: a walk of its MIR, by hand. The place of `records[i]` is 88 · i past the slice's pointer, and the struct is read there whole.
 -- A Region is Copy and owns only facts: what the result owns is made of the relation that is learned where the element is taken out of the row.
 -- Assumes nothing.
 use mathlib.Core.Path.{_≡_, refl, sym}
@@ -88,21 +88,21 @@ module _ {M : Type 1} (𝓤 : URA M) (H : Heap 𝓤) (A : Atoms 𝓤) (W : Given
         -- [_5; …; _4; …; _3; …; _2; …; _1; …; room for _0; …; the token; what records and i own]
         assigns ! (bin ! (load ! (from ! (stop !)) (look ! 6 refl)) (lit ! tt) (record { fits = bytes-fit })) (from ! (stop !)) (init ! 4 refl (tt, record { fits = bytes-fit })) $
         assigns ! (bin ! (load ! (from ! (fld ! refl (stop !))) (look-in ! 8 (sub ! 0 refl (whole !)))) (load ! (from ! (stop !)) (look ! 4 refl)) tt) (from ! (stop !)) (init ! 2 refl (tt, tt)) $
-        rewrite ! 2 (λ (p : ℕ). ‵ (fat fullShare tyPtr l₄ 0 (vptr b p))) (sym (place-is 80 o i)) refl $
+        rewrite ! 2 (λ (p : ℕ). ‵ (fat fullShare tyPtr l₄ 0 (vptr b p))) (sym (place-is 88 o i)) refl $
         move ! (13 ∷ []) $ fsplit ! $ fsplit ! $ move ! (1 ∷ []) $ fsplit ! $ move ! (16 ∷ []) $ split ! $ move ! (3 ∷ 0 ∷ []) $
         looks-slice ! tt T.the-row (Is T.the-row) (shows 𝓤 H A T.the-row) (LL.vals T.the-type T′.the-laws) (LL.tells T.the-type T′.the-laws) ((LL.copy T.the-type T′.the-copy) 𝓤 H A W) ys b o (λ q′. elem-out ! T.the-row (Is T.the-row) (shows 𝓤 H A T.the-row) (LL.vals T.the-type T′.the-laws) (LL.tells T.the-type T′.the-laws) q′ ys i d b o l (λ g.
         -- [records[i]; what it owns; the others; what shuts; the fractured borrow; true; res; records' fact; i's; _5; …; _4; …; _3; …; _2; …; _1; …; _0; …]
         -- the cell is at the machine's form of the struct's type, in which no struct has its name, and the code reads it at the type itself
-        use1 W (‵ (fat q′ T′.mir b (place 80 o i) mach)) (retype 𝓤 H A W q′ (raw T′.mir) T′.mir refl b (place 80 o i) mach) $
+        use1 W (‵ (fat q′ T′.mir b (place 88 o i) mach)) (retype 𝓤 H A W q′ (raw T′.mir) T′.mir refl b (place 88 o i) mach) $
         assigns ! (of-opd ! (load ! (from ! (hop ! (look ! 11 refl) (stop !))) (look ! 0 refl))) (from ! (stop !)) (init ! 9 refl (typed g)) $
         assigns ! (of-opd ! (load ! (from ! (stop !)) (look ! 9 refl))) (from ! (stop !)) (init ! 19 refl (typed g)) $
-        use1 W (‵ (fat q′ (raw T′.mir) b (place 80 o i) mach)) (retype 𝓤 H A W q′ T′.mir (raw T′.mir) refl b (place 80 o i) mach) $
+        use1 W (‵ (fat q′ (raw T′.mir) b (place 88 o i) mach)) (retype 𝓤 H A W q′ T′.mir (raw T′.mir) refl b (place 88 o i) mach) $
         elem-back ! T.the-row q′ ys i d (mach ∷ []) b o l $ shuts-slice ! tt T.the-row q′ ys b o $
         returns ! (look ! 16 refl) $ forget ! 6 refl $ forget ! 8 refl $ forget ! 10 refl $ forget ! 12 refl $ forget ! 14 refl $ forget ! 16 refl $
         move ! (16 ∷ 17 ∷ []) $ free1 ! $ move ! (14 ∷ 15 ∷ []) $ free1 ! $ move ! (12 ∷ 13 ∷ []) $ free1 ! $ move ! (10 ∷ 11 ∷ []) $ free1 ! $ move ! (8 ∷ 9 ∷ []) $ free1 ! $ move ! (6 ∷ 7 ∷ []) $ free1 ! $ free0 ! $
         move ! (3 ∷ 1 ∷ []) $ fjoin ! $ move ! (3 ∷ 0 ∷ []) $ fjoin ! $ move ! (3 ∷ []) $ fsplit ! $ keep ! (3 ∷ 2 ∷ 0 ∷ []) $ by ! (exits g e)))))))))
       where
-        bytes-fit : i * 80 < 2 ^ 64
+        bytes-fit : i * 88 < 2 ^ 64
         bytes-fit = omega (arith, gn .1, l)
 
         typed : Is T.the-row elem (mach ∷ []) → Holds (hasTy T′.mir mach) × WT mach
@@ -115,7 +115,7 @@ any-past (y ∷ ys) zero d d′ l = refl
 any-past (y ∷ ys) (suc i) d d′ l = any-past ys i d d′ (le-of-suc-le-suc l)
 
 blank : Region
-blank = record { cells = 0; «min_x» = nan; «min_y» = nan; «max_x» = nan; «max_y» = nan; «has_ramp» = false; elevations = 0; «elevation_counts» = [] }
+blank = record { cells = 0; «min_x» = nan; «min_y» = nan; «max_x» = nan; «max_y» = nan; «ramp_cells» = 0; elevations = 0; «elevation_counts» = [] }
 
 module _ {M : Type 1} (𝓤 : URA M) (H : Heap 𝓤) (A : Atoms 𝓤) (W : Given 𝓤 H A) (mem : Memory → SProp 𝓤) (run : Routine → Fun 𝓤) where
   record-at-walks : (C : Calls 𝓤 H) (Λ : Loops 𝓤 H) → Walks 𝓤 H A record-at.ended stayed (WpFn 𝓤 H C Λ code.function) (record-at.clauses 𝓤 H A mem run)

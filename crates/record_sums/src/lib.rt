@@ -1,0 +1,1 @@
+// Text only: what the records of all regions add up to.
