@@ -75,7 +75,7 @@ length-few : (s : Segment) → PixelSegment s → squaredLength s ≤ maxSquare
 length-few s h =
     omega (arith, apart-few (s .a .x) (s .b .x) (h .first .x-le) (h .second .x-le), apart-few (s .a .y) (s .b .y) (h .first .y-le) (h .second .y-le))
 
-squared-append : (l m : List Row) → squaredLengths (l ++ m) ≡ squaredLengths l + squaredLengths m
+pub squared-append : (l m : List Row) → squaredLengths (l ++ m) ≡ squaredLengths l + squaredLengths m
 unfolding squaredLengths
 squared-append [] m = omega arith
 squared-append (r ∷ l) m = omega (arith, squared-append l m)
