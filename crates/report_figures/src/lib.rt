@@ -31,6 +31,14 @@ pub struct Report {
     pub squared: u64,
 }
 
+// What an operation answers that adds a run: number 0 and the count of rows kept, or the refusal's number and place; and the report.
+#[repr(C)]
+pub struct Reported {
+    pub number: u64,
+    pub value: u64,
+    pub report: Report,
+}
+
 // A report starts empty.
 #[no_mangle]
 pub extern "C" fn report_figures_empty_report() -> Report
