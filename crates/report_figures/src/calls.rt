@@ -58,7 +58,14 @@ pub fn beyond(report: Report) -> Reported
 }
 
 // The answer of a call, and the report with it.
-pub fn answered(report: Report, pass: u64, number: u64, value: u64, count: usize, output: &[u64]) -> Reported
+pub fn answered(
+    report: Report,
+    pass: u64,
+    number: u64,
+    value: u64,
+    count: usize,
+    output: &[u64],
+) -> Reported
     requires { ⌜ CallLeft pass number value (now output) ⌝ }
     ensures { λ r. ⌜ ReportedCall (reportForm report) pass number value count (now (output .entry)) r ⌝ }
 {

@@ -16,7 +16,13 @@ ghost use Rattle.report_figures.specs.Calls.{CallLeft, ReportedCall};
 ghost use Rattle.topology.specs.Reports.{ReportedOver};
 
 // What the call answered, and the report with it.
-fn added(report: Report, pass: u64, answer: TopologyAnswer, boundaries: &[u64], output: &[u64]) -> Reported
+fn added(
+    report: Report,
+    pass: u64,
+    answer: TopologyAnswer,
+    boundaries: &[u64],
+    output: &[u64],
+) -> Reported
     requires { ⌜ CallLeft pass (answer .number) (answer .value) (now output) ⌝ }
     ensures { λ r. ⌜ ReportedCall (reportForm report) pass (answer .number) (answer .value)
         (length (now (boundaries .entry)) / numbersPerBoundary) (now (output .entry)) r ⌝ }

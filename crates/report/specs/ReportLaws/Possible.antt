@@ -18,7 +18,7 @@ use Rattle.definitions.specs.Refusals.{Refusal, orElse, firstBelow, unless, sid
 use Rattle.definitions.specs.Rows.{rowsOf}
 use Rattle.definitions.specs.Verdict.{Lent, mapIn, refusal, firstRefusal, recordsFault, pairsFault, partitionHasRoom, verdict}
 use Rattle.definitions.specs.SheetNumber.{Read, found, failed, withGroup, continued, tooLong, groups, number}
-use Rattle.definitions.specs.Sheet.{Reader, give, check, andThen, times, judged, kind, cell, area, entries, end, Sheet, Reading, wellFormed, refused, reading, sheet, readSheet, keptlistCellLimit}
+use Rattle.definitions.specs.Sheet.{Reader, give, check, andThen, times, judged, kind, cell, area, entries, end, Sheet, Reading, wellFormed, refused, reading, sheet, readSheet, roomFor, readVerdict, plainCellLimit, keptlistCellLimit}
 use Rattle.definitions.specs.Printed.{maxSheetBytes, lentFor}
 use Rattle.laws.specs.ListLaws.Lists.{All, done, more}
 use Rattle.laws.specs.ListLaws.Tests.{both}
@@ -201,11 +201,32 @@ sheet-possible bytes = go (ltb maxSheetBytes (length bytes))
     go true = refusing {n = 14} (omega arith)
     go false = reading-possible (sheet keptlistCellLimit 0 bytes) (sheet-low keptlistCellLimit 0 bytes)
 
--- what an operation adds: a call of a pass, or a sheet
+-- reading alone refuses with 10 too
+refused-possible : (r : Read Sheet) → LowRead r → (cells spans boundaries anchors : ℕ) {n place : ℕ} → roomFor (reading r) cells spans boundaries anchors ≡ refused n place
+    → Possible (refusedRun n)
+refused-possible (failed m p) (low-read h) cells spans boundaries anchors {n} {place} e =
+    let same : m ≡ n = cc e in
+    refusing {n = n} (omega (arith, same, h))
+refused-possible (found s offset rest) k cells spans boundaries anchors {n} {place} e =
+    go (leb (length (s .cells)) cells && leb (length (s .spans)) spans && leb (length (s .boundaries)) boundaries && leb (length (s .anchors)) anchors) e
+  where
+    go : (b : Bool) → cond b (wellFormed s) (refused 10 0) ≡ refused n place → Possible (refusedRun n)
+    go true f = absurd (let z : _≡_ {A = ℕ} 0 1 = cc f in omega arith)
+    go false f =
+        let same : 10 ≡ n = cc f in
+        refusing {n = n} (omega (arith, same))
+
+reading-refused : (bytes : List ℕ) (cells spans boundaries anchors : ℕ) {n place : ℕ} → readVerdict bytes cells spans boundaries anchors ≡ refused n place → Possible (refusedRun n)
+unfolding readVerdict readSheet
+reading-refused bytes cells spans boundaries anchors e = refused-possible (sheet plainCellLimit 0 bytes) (sheet-low plainCellLimit 0 bytes) cells spans boundaries anchors e
+
+-- what an operation adds: a call of a pass; a sheet, read and run as `keptlist` does it; or a sheet of any size that reading alone refuses
 pub data Made : Run → Type 0 where
   by-call : (L : Lent) → Made (runOf L)
   by-sheet : (bytes : List ℕ) → Made (sheetRun bytes)
+  by-reading : (bytes : List ℕ) (cells spans boundaries anchors : ℕ) {n place : ℕ} → readVerdict bytes cells spans boundaries anchors ≡ refused n place → Made (refusedRun n)
 
 pub made-possible : {run : Run} → Made run → Possible run
 made-possible (by-call L) = call-possible L
 made-possible (by-sheet bytes) = sheet-possible bytes
+made-possible (by-reading bytes cells spans boundaries anchors e) = reading-refused bytes cells spans boundaries anchors e
