@@ -83,7 +83,9 @@ pub extern "C" fn report_reading_read_for_report(
     boundaries: &mut [u64],
     anchors: &mut [u64],
 ) -> Opened
-    ensures { λ r. ⌜ ReadFor report (readVerdict (now (bytes .entry)) (length (now (cells .entry))) (length (now (spans .entry))) (length (now (boundaries .entry))) (length (now (anchors .entry))))
+    ensures { λ r. ⌜ ReadFor report
+        (readVerdict (now (bytes .entry))
+        (length (now (cells .entry))) (length (now (spans .entry))) (length (now (boundaries .entry))) (length (now (anchors .entry))))
         (now (cells .entry)) (now (spans .entry)) (now (boundaries .entry)) (now (anchors .entry)) r
         (now (cells .exit)) (now (spans .exit)) (now (boundaries .exit)) (now (anchors .exit)) ⌝ }
 {
