@@ -4,19 +4,42 @@ from __future__ import annotations
 import json
 import unittest
 
-from jenwyllt import Mean, Report, empty_report, mean_kept, report_run
+from jenwyllt import Figures, Mean, Report, empty_report, mean_kept, report_run
 from jenwyllt.commands.report import proved, table
 from jenwyllt.report import MOST_RUNS, PASSES, REFUSAL_NUMBERS
 from jenwyllt.unproved.report import run_of, summed
 
-from .files import EXAMPLES, NAMES, ROOT
+from .files import EXAMPLES, NAMES, ROOT, VECTORS
 from .test_command import Trial, run
 
 SHEETS = [(EXAMPLES / f'{name}.sheet').read_bytes() for name in NAMES]
 ILL_FORMED = SHEETS[0][:-1]
 
 
+def of_words(words: str) -> list[bytes]:
+    return [b'' if word == '-' else bytes.fromhex(word) for word in words.split()]
+
+
+def numbers(report: Report) -> list[int]:
+    """as vectors/report.txt has them"""
+    figures = [getattr(report.of_pass(number), name) for number in PASSES for name, _ in Figures._fields_]
+    means = [mean_kept(report, number) for number in PASSES]
+    return [report.runs, *report.refused, *figures, report.squared, *(n for mean in means for n in ((1, *mean) if mean else (0, 0, 0)))]
+
+
 class Reports(unittest.TestCase):
+    def test_stored(self) -> None:
+        """in the stored order and in its reverse"""
+        lines = (VECTORS / 'report.txt').read_text().splitlines()
+        self.assertGreaterEqual(len(lines), 100)
+        for line in lines:
+            words, said = line.split(';')
+            for sheets in (of_words(words), of_words(words)[::-1]):
+                report = empty_report()
+                for data in sheets:
+                    report = report_run(report, data).report
+                self.assertEqual(numbers(report), list(map(int, said.split())), line)
+
     def test_sizes(self) -> None:
         text = (ROOT / 'crates' / 'report' / 'specs' / 'Report.antt').read_text()
         self.assertIn(f'\nmaxRuns = {MOST_RUNS:_}\n', text)
