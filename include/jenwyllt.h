@@ -1,9 +1,9 @@
 /* Regions of a walk grid cut by spans, the boundaries that a pass keeps, how far boundaries are apart, the reader of sheets, the writer of result sheets,
-   the line of an accession record, the maps in the pool on a day, the share behind dominance, and the correctly rounded hypotenuse.
+   the line of an accession record, the maps in the pool on a day, the year's figures, the share behind dominance, and the correctly rounded hypotenuse.
    The library is for x86-64 Linux: libjenwyllt.a and libjenwyllt.so, which tools/build_library.sh writes to target/lib. It keeps no state and allocates
    nothing; from outside it needs only `memset`.
-   Every function is proved to meet the definitions of crates/definitions, crates/separations, crates/catalogue and crates/results for every input that
-   keeps to what stands here. */
+   Every function is proved to meet the definitions of crates/definitions, crates/separations, crates/catalogue, crates/results and crates/report for every
+   input that keeps to what stands here. */
 #ifndef JENWYLLT_H
 #define JENWYLLT_H
 
@@ -336,6 +336,89 @@ struct jenwyllt_outcome jenwyllt_hypotenuse(double x, double y);
 
 /* The value alone, for a caller who knows that x and y are in range. */
 double jenwyllt_hypot(double x, double y);
+
+/* The year's figures: a report that runs are added to one by one, 10,000 at most. A run is a call of a pass, or a sheet that is refused before it comes to
+   the call. The report is given and taken by value; it starts as `jenwyllt_empty_report`. The order of the runs does not alter it. Reports that these
+   functions made from the empty one hold exact figures; sums over numbers that a caller has put in are modulo 2^64. */
+
+/* Of accepted runs of a pass: how many they are, and of these the boundaries in, kept and removed. In is counted from the maps, kept from the rows, removed
+   from the numbers that no row has: in is kept and removed together. */
+struct jenwyllt_figures {
+    uint64_t accepted;
+    uint64_t boundaries;
+    uint64_t kept;
+    uint64_t removed;
+};
+
+/* All runs, accepted and refused; refused ones by the refusal's number, refused[0] is 0; the figures of each pass; and the total of squared lengths of kept
+   rows in square pixels. */
+struct jenwyllt_report {
+    uint64_t runs;
+    uint64_t refused[25];
+    struct jenwyllt_figures pass_1;
+    struct jenwyllt_figures pass_2;
+    struct jenwyllt_figures pass_3;
+    uint64_t squared;
+};
+
+struct jenwyllt_report jenwyllt_empty_report(void);
+
+/* The mean kept for an accepted run of a pass: kept = quotient * accepted + remainder, with remainder below accepted. Where no run of the pass was accepted,
+   and for a pass that is not 1, 2 or 3, there is none, and both are 0. */
+struct jenwyllt_mean {
+    bool has_mean;
+    uint64_t quotient;
+    uint64_t remainder;
+};
+
+struct jenwyllt_mean jenwyllt_mean_kept(struct jenwyllt_report report, uint64_t pass);
+
+/* Number 0, place 0 and what the sheet opens with, as in `struct jenwyllt_sheet`, or a refusal's number and place; and the report. */
+struct jenwyllt_opened {
+    uint64_t number;
+    uint64_t place;
+    uint64_t pass;
+    uint64_t width;
+    uint64_t height;
+    uint64_t spans;
+    uint64_t boundaries;
+    uint64_t anchors;
+    struct jenwyllt_report report;
+};
+
+/* Reads a sheet of any size for a report, as `jenwyllt_read_sheet`. One that is refused is a run that was refused, and is added; one that is read is no run
+   yet, and the report stays as it was. A report of 10,000 runs or more: number 3, place 0, nothing is read, and report and lists stay as they were. */
+struct jenwyllt_opened jenwyllt_read_for_report(
+    struct jenwyllt_report report,
+    const uint8_t *bytes, size_t bytes_length,
+    uint8_t *cells, size_t cells_length,
+    uint64_t *spans, size_t spans_length,
+    uint64_t *boundaries, size_t boundaries_length,
+    uint64_t *anchors, size_t anchors_length);
+
+/* The answer of a call, number 0 and the count of rows kept or a refusal's number and place; and the report with it. */
+struct jenwyllt_reported {
+    uint64_t number;
+    uint64_t value;
+    struct jenwyllt_report report;
+};
+
+/* Makes the call `jenwyllt_kept_boundaries` over the lists that are lent, and adds what it answered to the report: what is refused for its lists, with 10, 11
+   or 12, too. A report of 10,000 runs or more: number 3, value 0, no call is made, and report and lists stay as they were. A call needs 264 KiB of stack. */
+struct jenwyllt_reported jenwyllt_report_run(
+    struct jenwyllt_report report,
+    uint64_t pass, uint64_t width, uint64_t height,
+    const uint8_t *cells, size_t cells_length,
+    const uint64_t *spans, size_t spans_length,
+    const uint64_t *boundaries, size_t boundaries_length,
+    const uint64_t *anchors, size_t anchors_length,
+    uint32_t *labels, size_t labels_length,
+    uint16_t *masks, size_t masks_length,
+    uint32_t *queue, size_t queue_length,
+    uint32_t *tallies, size_t tallies_length,
+    uint32_t *pairs, size_t pairs_length,
+    struct jenwyllt_region *records, size_t records_length,
+    uint64_t *output, size_t output_length);
 
 /* The line of an accession record: every record of the map of an own number, newest first.
 

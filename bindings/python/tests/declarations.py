@@ -52,7 +52,10 @@ def exports() -> list[str]:
 
 
 def sources(crate: str) -> Iterator[str]:
-    return (without_comments(path.read_text()) for path in sorted((ROOT / 'crates' / crate / 'src').rglob('*.rt')))
+    """the files of a crate; a length that has a name is put as a number"""
+    texts = [without_comments(path.read_text()) for path in sorted((ROOT / 'crates' / crate / 'src').rglob('*.rt'))]
+    named = dict(re.findall(r'\bconst (\w+): usize = ([\d_]+);', '\n'.join(texts)))
+    return (re.sub(r'(?<=; )(\w+)(?=\])', lambda length: named.get(length[1], length[1]).replace('_', ''), text) for text in texts)
 
 
 def in_rattle() -> dict[str, Signature]:
@@ -105,10 +108,11 @@ def header_structs() -> dict[str, tuple[tuple[str, Any], ...]]:
     found: dict[str, tuple[tuple[str, Any], ...]] = {}
     for name, body in re.findall(r'struct (\w+) \{(.*?)\};', header(), re.S):
         fields = []
-        for kind, declared in re.findall(r'(\w+) ([^;]+);', body):
+        for inner, word, declared in re.findall(r'(struct )?(\w+) ([^;]+);', body):
+            kind = found[word] if inner else C_KINDS[word]
             for each in declared.split(','):
                 array = re.fullmatch(r'(\w+)\[(\d+)\]', each.strip())
-                fields.append((array[1], (C_KINDS[kind], int(array[2]))) if array else (each.strip(), C_KINDS[kind]))
+                fields.append((array[1], (kind, int(array[2]))) if array else (each.strip(), kind))
         found[name] = tuple(fields)
     return found
 
@@ -122,7 +126,7 @@ def in_header() -> dict[str, Signature]:
     found = {}
     for result, name, parameters in re.findall(r'((?:struct )?\w+) (jenwyllt_\w+)\(([^)]*)\);', header()):
         read: list[tuple[str, Any, bool | None]] = []
-        for each in parameters.split(','):
+        for each in parameters.split(',') if parameters.strip() != 'void' else ():
             kind, star, parameter = re.fullmatch(r'\s*(.*?) (\*?)(\w+)\s*', each.replace('\n', ' ')).groups()
             read.append((parameter, c_kind(kind), not kind.strip().startswith('const ') if star else None))
         found[name] = (tuple(joined(read)), c_kind(result))

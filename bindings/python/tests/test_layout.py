@@ -7,6 +7,7 @@ import shutil
 import subprocess
 import tempfile
 import unittest
+from collections.abc import Iterator
 from pathlib import Path
 from typing import Any
 
@@ -30,6 +31,14 @@ def numbers_in_definitions() -> set[int]:
             code = '\n'.join(line for line in path.read_text().split('\n') if not line.lstrip().startswith('--'))
             found |= {int(number) for match in gives.finditer(code) for number in match.groups() if number}
     return found - {0}
+
+
+def with_inner(kind: type) -> Iterator[type]:
+    """a struct and those that are fields of it; nothing for any other kind"""
+    if issubclass(kind, ctypes.Structure):
+        yield kind
+        for _, field in kind._fields_:
+            yield from with_inner(field)
 
 
 class Declared(unittest.TestCase):
@@ -67,7 +76,7 @@ class Declared(unittest.TestCase):
             in_c.setdefault(name, (int(size), {}))[1][field] = int(offset)
         declarations.in_python(declarations.in_header())
         used = [kind for function in DECLARED.values() for kind in (function.result, *(each.kind for each in function.parameters.values() if isinstance(each, ListOf)))]
-        ours = [shape(kind) for kind in used if issubclass(kind, ctypes.Structure)]
+        ours = [shape(each) for kind in used for each in with_inner(kind)]
         for name, laid in in_c.items():
             self.assertIn(laid, ours, name)
         for laid in ours:

@@ -1,6 +1,6 @@
 //! The functions of the library, as include/jenwyllt.h declares them. A list goes as a pointer to its first entry and its length.
 
-use crate::{Refusal, Region};
+use crate::{Refusal, Region, Report};
 
 /// Number 0 and a count, or a refusal's number and place.
 #[repr(C)]
@@ -57,6 +57,36 @@ pub struct DominanceAnswer {
     pub has_share: bool,
     pub percent: u64,
     pub remainder: u64,
+}
+
+/// The mean of a pass, where there is one.
+#[repr(C)]
+pub struct MeanAnswer {
+    pub has_mean: bool,
+    pub quotient: u64,
+    pub remainder: u64,
+}
+
+/// What a sheet opens with, or a refusal's number and place; and the report.
+#[repr(C)]
+pub struct Opened {
+    pub number: u64,
+    pub place: u64,
+    pub pass: u64,
+    pub width: u64,
+    pub height: u64,
+    pub spans: u64,
+    pub boundaries: u64,
+    pub anchors: u64,
+    pub report: Report,
+}
+
+/// Number 0 and a count, or a refusal's number and place; and the report.
+#[repr(C)]
+pub struct Reported {
+    pub number: u64,
+    pub value: u64,
+    pub report: Report,
 }
 
 // SAFETY: names, arguments and results are those of include/jenwyllt.h. The functions marked safe take numbers alone, and are
@@ -165,6 +195,53 @@ unsafe extern "C" {
         output: *mut u64,
         output_length: usize,
     ) -> Answer;
+
+    pub safe fn jenwyllt_empty_report() -> Report;
+
+    pub safe fn jenwyllt_mean_kept(report: Report, pass: u64) -> MeanAnswer;
+
+    pub fn jenwyllt_read_for_report(
+        report: Report,
+        bytes: *const u8,
+        bytes_length: usize,
+        cells: *mut u8,
+        cells_length: usize,
+        spans: *mut u64,
+        spans_length: usize,
+        boundaries: *mut u64,
+        boundaries_length: usize,
+        anchors: *mut u64,
+        anchors_length: usize,
+    ) -> Opened;
+
+    pub fn jenwyllt_report_run(
+        report: Report,
+        pass: u64,
+        width: u64,
+        height: u64,
+        cells: *const u8,
+        cells_length: usize,
+        spans: *const u64,
+        spans_length: usize,
+        boundaries: *const u64,
+        boundaries_length: usize,
+        anchors: *const u64,
+        anchors_length: usize,
+        labels: *mut u32,
+        labels_length: usize,
+        masks: *mut u16,
+        masks_length: usize,
+        queue: *mut u32,
+        queue_length: usize,
+        tallies: *mut u32,
+        tallies_length: usize,
+        pairs: *mut u32,
+        pairs_length: usize,
+        records: *mut Region,
+        records_length: usize,
+        output: *mut u64,
+        output_length: usize,
+    ) -> Reported;
 
     pub safe fn jenwyllt_dominance(cells: u32, count_0: u32, count_1: u32, count_2: u32, count_3: u32) -> DominanceAnswer;
     pub fn jenwyllt_maps_of_day(

@@ -4,5 +4,6 @@ pub mod marks
 pub mod mouths
 pub mod proposals
 pub mod records
+pub mod runs
 pub mod slice
 pub mod topology_kept_boundaries

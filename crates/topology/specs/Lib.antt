@@ -7,3 +7,4 @@ pub mod Marks
 pub mod Mouths
 pub mod Numbers
 pub mod Proposals
+pub mod Reports

@@ -7,6 +7,7 @@ pub mod mouths;
 pub mod numbers;
 pub mod proposals;
 pub mod records;
+pub mod runs;
 pub mod slice;
 
 use calls::Prepared;

@@ -1,0 +1,4 @@
+mod Counting
+mod Lengths
+mod Adding
+pub mod Called

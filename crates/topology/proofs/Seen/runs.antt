@@ -1,0 +1,1 @@
+pub mod topology_report_run
