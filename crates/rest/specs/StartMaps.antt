@@ -48,7 +48,7 @@ canonical-twice s = go (positionLt (s .b) (s .a)) refl
 
 -- ---- the starting list
 
-count-all : (n : ℕ) → countBelow n (λ i. true) ≡ n
+pub count-all : (n : ℕ) → countBelow n (λ i. true) ≡ n
 unfolding countBelow
 count-all zero = refl
 count-all (suc n) = ap (λ m. m + 1) (count-all n) ∙ add-one n
