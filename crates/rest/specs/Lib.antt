@@ -15,5 +15,6 @@ pub mod FlatLists
 pub mod NumberedRefusals
 pub mod InnerCalls
 pub mod Clearing
+pub mod Turning
 pub mod RestCalls
 pub mod Example
