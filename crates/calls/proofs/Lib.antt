@@ -1,4 +1,4 @@
-mod SizesPassed
+pub mod SizesPassed
 mod EarlyLeaves
 pub mod EarlyFits
 pub mod Exits

@@ -34,7 +34,7 @@ fn all_whole(spans: usize, boundaries: usize, anchors: usize) -> bool
 }
 
 // Checks 1 to 4.
-fn check_sizes(
+pub fn check_sizes(
     pass: u64,
     width: u64,
     height: u64,
@@ -61,7 +61,7 @@ fn check_sizes(
 }
 
 // Checks 5 to 9.
-fn check_entries(
+pub fn check_entries(
     width: u64,
     height: u64,
     cells: &[u8],
@@ -94,7 +94,7 @@ fn check_entries(
 }
 
 // Check 10, of lists of these lengths.
-fn check_room(
+pub fn check_room(
     cells: usize,
     spans: usize,
     boundaries: usize,

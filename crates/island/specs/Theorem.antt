@@ -50,7 +50,7 @@ rows-restricted pass M isl I =
     ap (islandOnly M isl) (rows-run pass M (I .equallyMany))
     ∙ rows-in (framed M isl I) _ _ (λ i b. ap not (removed-in (framed M isl I) (ids M isl I) pass i b))
 
-kept-restricted : (pass : ℕ) (M : Map) (isl : ℕ → Bool) → Island M isl → (i : ℕ) → cutsIsland M isl i ≡ true → isKept pass M i ≡ not (member (rankOf M isl i) (removedBy pass (contextOf (restrict M isl))))
+pub kept-restricted : (pass : ℕ) (M : Map) (isl : ℕ → Bool) → Island M isl → (i : ℕ) → cutsIsland M isl i ≡ true → isKept pass M i ≡ not (member (rankOf M isl i) (removedBy pass (contextOf (restrict M isl))))
 unfolding isKept rankOf
 kept-restricted pass M isl I i b =
     ap not (ap (member i) (runs pass M (I .equallyMany)) ∙ removed-in (framed M isl I) (ids M isl I) pass i b)

@@ -1,0 +1,4 @@
+pub mod Blocks
+pub mod Early
+pub mod Start
+pub mod Turns
