@@ -4,7 +4,7 @@ use Prim.Native.Nat.{ℕ, zero, suc, _+_, _<_}
 use native.Mathlib.Omega.{arith}
 use mathlib.Core.Path.{_≡_, refl, sym, ap, _∙_, subst}
 use mathlib.Core.Bool.{Bool, true, false, not, _&&_, _||_, cond, false≢true}
-use mathlib.Core.List.{List, [], _∷_, _++_, map, append-nil}
+use mathlib.Core.List.{List, [], _∷_, _++_, map, append-nil, append-assoc}
 use lib.ListN.{length, getD, take, length-take}
 use lib.Seq.{getD-take}
 use borrow.Author.Tests.{not-true, not-false}
@@ -16,10 +16,6 @@ use Rattle.laws.specs.ListLaws.Lists.{filter-append, map-append}
 use Rattle.laws.specs.ListLaws.Tests.{both}
 use Rattle.laws.specs.ListLaws.Below.{below-at}
 use Rattle.ranked_list.specs.RankedList.{Listed, firstPlace, blocks, judged, judgedAfter, rankedRows}
-
-append-assoc : {A : Type 0} (a b c : List A) → (a ++ b) ++ c ≡ a ++ (b ++ c)
-append-assoc [] b c = refl
-append-assoc {A} (x ∷ a) b c = ap {B = List A} (λ l. x ∷ l) (append-assoc a b c)
 
 module _ {A : Type 0} (clash : A → A → Bool) where
   abbrev pub chosen : List (Listed A) → List A
