@@ -54,7 +54,7 @@ module _ (boundaries smaller larger counts marks : List ℕ) (C : Context) (S : 
   unfolding ranksBefore ranksAt
   ranks-is p q a b = ap₂ listLt (key-is p (a .index-in)) (key-is q (b .index-in))
 
-  conflict-is : (q p : Proposal) → Reserving q → Reserving p → conflict C q p ≡ conflictAt smaller larger (C .count) q p
+  pub conflict-is : (q p : Proposal) → Reserving q → Reserving p → conflict C q p ≡ conflictAt smaller larger (C .count) q p
   unfolding conflict conflictAt
   conflict-is q p a b =
       λ t. b .same (q .index) (a .index-in) t || a .same (p .index) (b .index-in) t || below-ext (C .count) _ _ (λ j l. ap₂ _&&_ (b .same j l) (a .same j l)) t || regionConflict (q .kind) (p .kind) q p
@@ -64,9 +64,18 @@ module _ (boundaries smaller larger counts marks : List ℕ) (C : Context) (S : 
     unfolding allowedOf rowsOf
     allowed-is = sym (collect-filter (isAllowed C) n (λ k. some (rowAt rows k)) (λ k. onlyIf (getD verdicts k false) (rowAt rows k)) (λ k l. filter-only (isAllowed C) true (rowAt rows k) ∙ ap (λ b. toList (onlyIf b (rowAt rows k))) (sym (judged k l)))) ∙ are
 
+    -- the ranked rows are the ranked proposals
+    pub ranked-is : sort (ranksAt boundaries) (allowedOf rows verdicts n) ≡ ranked C
+    unfolding ranked
+    ranked-is = ap (sort (ranksAt boundaries)) allowed-is ∙ sym (sort-ext Reserving (ranksBefore C) (ranksAt boundaries) ranks-is formed)
+
+    pub all-ranked : All Reserving (ranked C)
+    unfolding ranked
+    all-ranked = all-sort Reserving (ranksBefore C) formed
+
     pub removed-is : (j : ℕ) → removedAt boundaries smaller larger rows verdicts (C .count) n j ≡ member j (removed C)
-    unfolding removedAt removed taken ranked
+    unfolding removedAt removed taken
     removed-is j =
-        ap (λ l. any (λ q. eqb j (q .index)) (select (conflictAt smaller larger (C .count)) [] l)) (ap (sort (ranksAt boundaries)) allowed-is ∙ sym (sort-ext Reserving (ranksBefore C) (ranksAt boundaries) ranks-is formed))
-        ∙ ap (any (λ q. eqb j (q .index))) (sym (select-ext Reserving (conflict C) (conflictAt smaller larger (C .count)) conflict-is (all-sort Reserving (ranksBefore C) formed)))
-        ∙ any-index j (select (conflict C) [] (sort (ranksBefore C) (proposals C)))
+        ap (λ l. any (λ q. eqb j (q .index)) (select (conflictAt smaller larger (C .count)) [] l)) ranked-is
+        ∙ ap (any (λ q. eqb j (q .index))) (sym (select-ext Reserving (conflict C) (conflictAt smaller larger (C .count)) conflict-is all-ranked))
+        ∙ any-index j (select (conflict C) [] (ranked C))

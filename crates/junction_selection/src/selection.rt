@@ -17,7 +17,7 @@ ghost use Rattle.junction_selection.specs.Ranks.{orderOf, reservesAt, co
 ghost use Rattle.junction_selection.specs.Taken.{Within, Selecting, Standing, Judged, removedAt};
 
 // Whether row p reserves boundary j as a port.
-fn reserves(smaller: &[u32; 256], larger: &[u32; 256], rows: &[u32], p: usize, j: usize) -> bool
+pub fn reserves(smaller: &[u32; 256], larger: &[u32; 256], rows: &[u32], p: usize, j: usize) -> bool
     requires { ⌜ (numbersPerProposal * p + 3 < length (now rows)) × (j < 256) ⌝ }
     ensures { λ r. ⌜ r ≡ reservesAt (now (smaller .entry)) (now (larger .entry)) (rowAt (now (rows .entry)) p) j ⌝ }
 {
@@ -53,7 +53,7 @@ fn port_taken(
 }
 
 // Whether row q, taken, keeps row p from being taken by its regions: two bridges may share their exterior, and nothing else.
-fn region_conflict(rows: &[u32], q: usize, p: usize) -> bool
+pub fn region_conflict(rows: &[u32], q: usize, p: usize) -> bool
     requires { ⌜ (numbersPerProposal * q + 3 < length (now rows)) × (numbersPerProposal * p + 3 < length (now rows)) ⌝ }
     ensures { λ r. ⌜ r ≡ regionConflict (rowAt (now (rows .entry)) q .kind) (rowAt (now (rows .entry)) p .kind) (rowAt (now (rows .entry)) q) (rowAt (now (rows .entry)) p) ⌝ }
 {

@@ -1,0 +1,1 @@
+// The ranked junction list: its definitions and the theorems on them, in specs/: no function.

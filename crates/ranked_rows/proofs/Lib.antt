@@ -1,0 +1,3 @@
+pub mod Judging
+pub mod Following
+pub mod Listed
