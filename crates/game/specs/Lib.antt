@@ -11,4 +11,5 @@ pub mod Answers
 pub mod Delay
 pub mod Verdicts
 pub mod RankLaws
+pub mod EntryLaws
 pub mod GameExamples
