@@ -1,0 +1,15 @@
+pub mod Game
+pub mod Play
+pub mod Search
+pub mod Graph
+pub mod Places
+pub mod Ranks
+pub mod Sweeps
+pub mod Settled
+pub mod Versus
+pub mod Answers
+pub mod Delay
+pub mod Verdicts
+pub mod RankLaws
+pub mod EntryLaws
+pub mod GameExamples

@@ -1,0 +1,7 @@
+pub mod Bits
+pub mod Stepping
+pub mod Rows
+pub mod Sweeps
+pub mod Searching
+pub mod Reading
+pub mod Answering
