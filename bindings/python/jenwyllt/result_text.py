@@ -83,9 +83,9 @@ def ill_formed_words(data: bytes, place: int) -> str:
         return 'there are no bytes'
     if place >= len(data):
         return f'the result ends early, behind {counted(len(data), "byte")}'
-    value = next(value for first, value in numbers_of(data) if first == place)
+    value, wrong = next((value, wrong) for first, value, wrong in numbers_of(data) if first == place)
     if value is None:
-        return f'the number at byte {place} is over 64 bits'
+        return f'the number at byte {place} {wrong}'
     if place == 0:
         return f'the sheet is of kind {value}, not {KIND}'
     left = len(data) - place
@@ -96,7 +96,7 @@ class Walk:
     """the numbers of a well-formed sheet with their places"""
 
     def __init__(self, data: bytes):
-        self.numbers = [(first, value) for first, value in numbers_of(data) if value is not None]
+        self.numbers = [(first, value) for first, value, _ in numbers_of(data) if value is not None]
         self.regions = self.numbers[1][1]
 
     def lists(self) -> Iterator[tuple[str, list[tuple[int, tuple[int, ...]]]]]:

@@ -62,6 +62,7 @@ class Words(unittest.TestCase):
                  'refused 15 at 13: at byte 13 row 1, boundary 2 from 8 8 to 8 8, is not above the one before it, boundary 1 from 8 8 to 8 9'),
                 ([2, 0, 0, 0, 0], 'refused 14 at 5: the result ends early, behind 5 bytes'), ([], 'refused 14 at 0: there are no bytes'),
                 ([1, 0, 0, 0, 0, 0], 'refused 14 at 0: the sheet is of kind 1, not 2'), ([2, *[255] * 10], 'refused 14 at 1: the number at byte 1 is over 64 bits'),
+                ([2, 128, 0], 'refused 14 at 1: the number at byte 1 is padded: it ends in a group of zero'),
                 ([2, 0, 0, 0, 0, 0, 0], 'refused 14 at 6: the result is over at byte 6, and 1 byte is left')):
             with self.assertRaises(jenwyllt.Refusal) as raised:
                 jenwyllt.read_result(bytes(numbers))
