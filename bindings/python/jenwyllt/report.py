@@ -81,6 +81,7 @@ EMPTY_REPORT = Function('jenwyllt_empty_report', Report)
 MEAN_KEPT = Function('jenwyllt_mean_kept', MeanAnswer, report=Report, **{'pass': U64})
 READ_FOR_REPORT = Function('jenwyllt_read_for_report', Opened, report=Report, bytes=ListOf(U8), cells=ListOf(U8, filled=True), spans=ListOf(U64, filled=True),
                            boundaries=ListOf(U64, filled=True), anchors=ListOf(U64, filled=True))
+REPORT_SHEET = Function('jenwyllt_report_sheet', Reported, report=Report, bytes=ListOf(U8))
 REPORT_RUN = Function(
     'jenwyllt_report_run', Reported, report=Report, **{'pass': U64}, width=U64, height=U64, cells=ListOf(U8), spans=ListOf(U64), boundaries=ListOf(U64),
     anchors=ListOf(U64), labels=ListOf(U32, filled=True), masks=ListOf(U16, filled=True), queue=ListOf(U32, filled=True), tallies=ListOf(U32, filled=True),
@@ -106,6 +107,11 @@ def read_for(report: Report, data: bytes) -> tuple[Opened, list[ctypes.Array]]:
     opened = READ_FOR_REPORT(report, lent(U8, data), *lists)
     lengths = opened.width * opened.height, SPAN_NUMBERS * opened.spans, BOUNDARY_NUMBERS * opened.boundaries, ANCHOR_NUMBERS * opened.anchors
     return opened, [lent(each._type_, each[:length]) for each, length in zip(lists, lengths, strict=True)]
+
+
+def report_sheet(report: Report, data: bytes) -> Reported:
+    """the report with a sheet, read and run with the limits of the program `keptlist`; a run beyond the last is refused 3 and the report is as it was"""
+    return REPORT_SHEET(report, lent(U8, data))
 
 
 def long_enough(width: int, height: int, cells: ctypes.Array, spans: ctypes.Array) -> tuple[Room, int]:

@@ -214,6 +214,8 @@ unsafe extern "C" {
         anchors_length: usize,
     ) -> Opened;
 
+    pub fn jenwyllt_report_sheet(report: Report, bytes: *const u8, bytes_length: usize) -> Reported;
+
     pub fn jenwyllt_report_run(
         report: Report,
         pass: u64,

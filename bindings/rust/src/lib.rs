@@ -34,7 +34,7 @@ pub use kept::{KeptBoundaries, KeptLists, Map, Region, kept_boundaries, kept_bou
 pub use partition::{Partition, PartitionLists, partition, partition_into};
 pub use pool::{Entry, maps_of_day, maps_of_day_into};
 pub use refusal::{Cause, Refusal};
-pub use report::{Figures, Mean, Report, read_for_report, report_run};
+pub use report::{Figures, Mean, Report, read_for_report, report_run, report_sheet};
 pub use results::{ResultHeader, ResultLists, RunResult, read_result, read_result_into, write_result, write_result_into};
 pub use separations::{Separation, separations, separations_into};
 pub use sheet::{Header, Sheet, SheetLists, read_sheet, read_sheet_into};

@@ -1,6 +1,8 @@
 //! The year's figures: a report that runs are added to one by one, 10,000 at most.
 
-use crate::exported::{jenwyllt_empty_report, jenwyllt_mean_kept, jenwyllt_read_for_report, jenwyllt_report_run};
+use crate::exported::{
+    Reported, jenwyllt_empty_report, jenwyllt_mean_kept, jenwyllt_read_for_report, jenwyllt_report_run, jenwyllt_report_sheet,
+};
 use crate::{Header, KeptLists, Map, PartitionLists, Refusal, SheetLists};
 
 /// Of accepted runs of a pass: how many they are, and of these the boundaries in, kept and removed. In is kept and removed together.
@@ -101,6 +103,32 @@ pub fn read_for_report(report: &mut Report, bytes: &[u8], lists: SheetLists<'_>)
     }
 }
 
+/// Takes the report over, and gives what was answered.
+fn taken(report: &mut Report, reported: Reported) -> Result<u64, Refusal> {
+    *report = reported.report;
+    match reported.number {
+        0 => Ok(reported.value),
+        number => Err(Refusal { number, place: reported.value }),
+    }
+}
+
+/// Reads a sheet, runs its pass and adds the run, with the limits of the program `keptlist`: 65,536 bytes, 4,096 cells, 512 regions
+/// and 2,048 pairs. Gives the count of rows kept. With 10,000 runs in the report nothing is read: refused 3, and the report stays as
+/// it was.
+///
+/// ```
+/// use jenwyllt::{Refusal, Report, report_sheet};
+///
+/// let mut report = Report::empty();
+/// assert_eq!(report_sheet(&mut report, &[]), Err(Refusal { number: 14, place: 0 }));
+/// assert_eq!((report.runs, report.refused[14]), (1, 1));
+/// ```
+pub fn report_sheet(report: &mut Report, bytes: &[u8]) -> Result<u64, Refusal> {
+    // SAFETY: as in `read_for_report`.
+    let reported = unsafe { jenwyllt_report_sheet(*report, bytes.as_ptr(), bytes.len()) };
+    taken(report, reported)
+}
+
 /// Makes the call [`crate::kept_boundaries_into`] and adds what it answered to the report, a refusal too. With 10,000 runs in the
 /// report no call is made: refused 3, and report and lists stay as they were.
 ///
@@ -161,9 +189,5 @@ pub fn report_run(report: &mut Report, map: Map<'_>, lists: KeptLists<'_>) -> Re
             output.len(),
         )
     };
-    *report = reported.report;
-    match reported.number {
-        0 => Ok(reported.value),
-        number => Err(Refusal { number, place: reported.value }),
-    }
+    taken(report, reported)
 }
