@@ -3,11 +3,14 @@ from __future__ import annotations
 
 import json
 import unittest
+from itertools import product
 
-from jenwyllt import Figures, Mean, Report, empty_report, mean_kept, report_run
+from jenwyllt import Figures, Mean, Report, empty_report, mean_kept, report_run, report_sheet
 from jenwyllt.commands.report import proved, table
+from jenwyllt.kept_list import MOST_BYTES
 from jenwyllt.report import MOST_RUNS, PASSES, REFUSAL_NUMBERS
 from jenwyllt.unproved.report import run_of, summed
+from jenwyllt.unproved.sheet_bytes import keptlist
 
 from .files import EXAMPLES, NAMES, ROOT, VECTORS
 from .test_command import Trial, run
@@ -29,16 +32,25 @@ def numbers(report: Report) -> list[int]:
 
 class Reports(unittest.TestCase):
     def test_stored(self) -> None:
-        """in the stored order and in its reverse"""
+        """in the stored order and in its reverse; every stored sheet is within the limits of keptlist"""
         lines = (VECTORS / 'report.txt').read_text().splitlines()
         self.assertGreaterEqual(len(lines), 100)
         for line in lines:
             words, said = line.split(';')
-            for sheets in (of_words(words), of_words(words)[::-1]):
+            for sheets, add in product((of_words(words), of_words(words)[::-1]), (report_run, report_sheet)):
                 report = empty_report()
                 for data in sheets:
-                    report = report_run(report, data).report
+                    report = add(report, data).report
                 self.assertEqual(numbers(report), list(map(int, said.split())), line)
+
+    def test_limits(self) -> None:
+        """what report_sheet answers is what keptlist prints; a sheet that is too large is counted as refused"""
+        wide = b'\1\1' + bytes([0x81, 0x20, 1]) + bytes([1]) * 4097 + bytes(3)
+        for data in (*SHEETS, ILL_FORMED, b'', bytes(MOST_BYTES + 1), wide):
+            added = report_sheet(empty_report(), data)
+            printed = keptlist(data).split()
+            self.assertEqual((added.number, added.value), (0, int(printed[1])) if printed[0] == 'kept' else (int(printed[1]), int(printed[3])))
+            self.assertEqual((added.report.runs, added.report.refusals()), (1, {added.number: 1} if added.number else {}))
 
     def test_sizes(self) -> None:
         text = (ROOT / 'crates' / 'report' / 'specs' / 'Report.antt').read_text()
@@ -67,8 +79,9 @@ class Reports(unittest.TestCase):
         report.runs = MOST_RUNS - 1
         last = report_run(report, SHEETS[0])
         self.assertEqual((last.number, last.report.runs), (0, MOST_RUNS))
-        for data in (SHEETS[0], ILL_FORMED, b''):
-            beyond = report_run(last.report, data)
+        self.assertEqual(report_sheet(report, SHEETS[0]).report, last.report)
+        for data, add in product((SHEETS[0], ILL_FORMED, b'', bytes(MOST_BYTES + 1)), (report_run, report_sheet)):
+            beyond = add(last.report, data)
             self.assertEqual((beyond.number, beyond.value, bytes(beyond.report)), (3, 0, bytes(last.report)))
 
     def test_any_content(self) -> None:

@@ -1,6 +1,9 @@
 //! The stored reports, replayed in both orders. vectors/README.md has the format.
 
-use jenwyllt::{Cause, KeptLists, Map, PartitionLists, Region, Report, SheetLists, partition, read_for_report, report_run};
+use jenwyllt::{
+    Cause, KeptLists, Map, PartitionLists, Refusal, Region, Report, SheetLists, partition, read_for_report, report_run,
+    report_sheet,
+};
 use std::fs;
 use std::path::Path;
 
@@ -65,6 +68,9 @@ fn stored() {
             let mut report = Report::empty();
             sheets.iter().for_each(|data| add(&mut report, data));
             assert_eq!(numbers(&report), said, "{line}");
+            let mut report = Report::empty();
+            sheets.iter().for_each(|data| drop(report_sheet(&mut report, data)));
+            assert_eq!(numbers(&report), said, "{line}");
             sheets.reverse();
         }
         count += 1;
@@ -77,5 +83,7 @@ fn beyond() {
     let mut report = Report { runs: 10_000, ..Report::empty() };
     let before = report;
     add(&mut report, &[]);
+    assert_eq!(report, before);
+    assert_eq!(report_sheet(&mut report, &[]), Err(Refusal { number: 3, place: 0 }));
     assert_eq!(report, before);
 }

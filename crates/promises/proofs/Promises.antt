@@ -1,6 +1,7 @@
 -- The main theorems, restated in the order of the three demands and then of the requests; each is proved by citing it. What to read first: whoever believes the
 -- definitions that these statements name need believe nothing else that stands in crates/. Assumes nothing.
 use Prim.Native.Nat.{ℕ, _+_, _*_, _<_, _≤_}
+use native.Mathlib.Omega.{arith}
 use mathlib.Core.Path.{_≡_}
 use mathlib.Core.Logic.{_↔_}
 use mathlib.Core.Bool.{Bool, true, not, _&&_, _||_}
@@ -30,6 +31,7 @@ use Rattle.definitions.specs.Sheet as sheet
 use Rattle.definitions.specs.Cases as cases
 use Rattle.definitions.specs.SheetExamples.{bytesJ}
 use Rattle.definitions.specs.CaseJ as case-j
+use Rattle.laws.specs.ListLaws.Lists.{All}
 use Rattle.laws.specs.RegionLaws.Shares as shares
 use Rattle.laws.specs.FloatLaws.WidthOrder as widths
 use Rattle.laws.specs.RustContext.RampFlag.{flagAfter}
@@ -98,6 +100,15 @@ use Rattle.result_reader.specs.TwoCalls as two
 use Rattle.result_reader.specs.declared.ResultAnswer.{ResultAnswer}
 use Rattle.run_results.specs.Calls.{resultLeft}
 use Rattle.run_results.specs.Calls as runs
+use Rattle.report.specs.Runs.{Run}
+use Rattle.report.specs.Report.{Report, Mean, maxRuns, emptyReport, addRun, addRuns, exactRuns, meanOf}
+use Rattle.report.specs.ReportLaws.Possible.{Made}
+use Rattle.report.specs.ReportLaws.Order.{Reordered}
+use Rattle.report.specs.ReportLaws.Order as orders
+use Rattle.report.specs.ReportLaws.Reached.{total, totalAccepted}
+use Rattle.report.specs.ReportLaws.Reached as reports
+use Rattle.report.specs.ReportLaws.Means.{IsMean}
+use Rattle.report.specs.ReportLaws.Means as means
 
 -- ---- 2. Exact: the hypotenuse, the order of widths, and the Rust's own steps
 
@@ -300,3 +311,30 @@ exact-square = separations.exactSquare-is
 
 pub intersects-exactly : (s t : Segment) → (intersects s t ≡ true) ↔ SharePoint s t
 intersects-exactly = separations.intersects-exactly
+
+-- ---- request 13: every report that runs of calls and sheets were added to from the empty one
+
+-- boundaries in are kept and removed together
+pub report-in-is-sum : {l : List Run} → All Made l → All (λ f. f .boundaries ≡ f .kept + f .removed) (addRuns emptyReport l .passes)
+report-in-is-sum made = reports.in-is-kept-and-removed made
+
+-- no sum wraps
+pub report-exact : {l : List Run} → All Made l → addRuns emptyReport l ≡ exactRuns emptyReport l
+report-exact made = reports.exact made
+
+-- accepted and refused runs are all runs
+pub report-counts-all : {l : List Run} → All Made l
+    → totalAccepted (addRuns emptyReport l .passes) + total (addRuns emptyReport l .refused) ≡ addRuns emptyReport l .runs
+report-counts-all made = reports.runs-counted made
+
+-- the order of up to 10,000 runs does not alter the report, and a run beyond them changes nothing
+pub report-order-free : {l m : List Run} → Reordered l m → length l ≤ maxRuns → addRuns emptyReport l ≡ addRuns emptyReport m
+unfolding emptyReport
+report-order-free p h = orders.order-free emptyReport p (omega (arith, h))
+
+pub report-beyond : (R : Report) (x : Run) → maxRuns ≤ R .runs → addRun R x ≡ R
+report-beyond = orders.beyond
+
+-- the mean is exact
+pub report-mean-exact : (accepted kept : ℕ) (m : Mean) → meanOf accepted kept ≡ some m → IsMean accepted kept m
+report-mean-exact = means.mean-exact

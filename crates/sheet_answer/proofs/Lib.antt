@@ -1,4 +1,4 @@
-mod BeforeCall
+pub mod BeforeCall
 mod AfterCall
-mod Whole
+pub mod Whole
 mod Ran

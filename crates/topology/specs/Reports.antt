@@ -11,8 +11,8 @@ use Rattle.report_figures.specs.declared.Reported.{Reported}
 use Rattle.report_figures.specs.Forms.{reportForm}
 use Rattle.topology.specs.Answers.{RanOver}
 
--- a run beyond the last: the answer, the report and every list
-pub record Beyond (R : Report) (l m q t p : List ℕ) (s : List Region) (o : List ℕ) (r : Reported) (l′ m′ q′ t′ p′ : List ℕ) (s′ : List Region) (o′ : List ℕ) : Type 0 where
+-- a run beyond the last: the answer and every list
+pub record Beyond (l m q t p : List ℕ) (s : List Region) (o : List ℕ) (r : Reported) (l′ m′ q′ t′ p′ : List ℕ) (s′ : List Region) (o′ : List ℕ) : Type 0 where
   pub refused-as : r .number ≡ 3
   pub place : r .value ≡ 0
   pub same-labels : l′ ≡ l
@@ -29,4 +29,4 @@ pub record ReportedOver (R : Report) (pass w h : ℕ) (cells spans boundaries an
   pub report : reportForm (r .report) ≡ addRun R (runOf (given pass w h cells spans boundaries anchors l m q t p (map recordOf s) o))
   pub within : R .runs < maxRuns
       → RanOver pass w h cells spans boundaries anchors l m q t p s o (record { number = r .number; value = r .value }) l′ m′ q′ t′ p′ s′ o′
-  pub beyond : maxRuns ≤ R .runs → Beyond R l m q t p s o r l′ m′ q′ t′ p′ s′ o′
+  pub beyond : maxRuns ≤ R .runs → Beyond l m q t p s o r l′ m′ q′ t′ p′ s′ o′
