@@ -26,7 +26,7 @@ static double seconds(void) {
     return (double)t.tv_sec + (double)t.tv_nsec / 1e9;
 }
 
-/* Boundary i is across a cell, and as long as i is high. */
+/* Boundary i goes across cell i. */
 static void draw(uint64_t side) {
     double width = CELL_PIXELS;
     memset(cells, 1, sizeof cells);
