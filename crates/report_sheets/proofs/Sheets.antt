@@ -14,6 +14,8 @@ use Rattle.definitions.specs.Verdict as verdict
 use Rattle.definitions.specs.Printed.{maxSheetBytes, lentFor}
 use Rattle.laws.specs.SheetReading.SheetSizes.{room-enough}
 use Rattle.calls.specs.Contract.{given, Ran}
+use Rattle.topology.specs.Answers.{answerOf as call-says}
+use Rattle.topology.specs.declared.Answer as call
 use Rattle.sheet.specs.Answers.{Answered, readingWithin, answerOf as sheet-says}
 use Rattle.sheet.specs.declared.Header.{Header}
 use Rattle.sheet.specs.declared.Answer.{Answer}
@@ -33,19 +35,27 @@ use Rattle.report_sheets.specs.Contract.{readingAnswer, answerIn, AddedR
 
 -- ---- the call
 
-module _ {pass w h : ℕ} {cells spans boundaries anchors l m q t p : List ℕ} {s : List Region} {o : List ℕ} {a : verdict.Answer}
-    (R : Ran (given pass w h cells spans boundaries anchors (replicate 4096 0) (replicate 4096 0) (replicate 4096 0) (replicate 512 0) (replicate 6144 0) (replicate 512 emptyRegion) (replicate 1280 0))
-    a l m q t p s o) where
-  pub called-left : CallLeft pass (a .number) (a .value) o
-  called-left = call-left _ (R .answer) (R .output)
+-- what is lent for a sheet of these parts, as lists of zeros
+abbrev lent : ℕ → ℕ → ℕ → List ℕ → List ℕ → List ℕ → List ℕ → verdict.Lent
+lent pass w h cells spans boundaries anchors =
+    given pass w h cells spans boundaries anchors (replicate 4096 0) (replicate 4096 0) (replicate 4096 0) (replicate 512 0) (replicate 6144 0) (replicate 512 emptyRegion) (replicate 1280 0)
 
-  pub called : (count : ℕ) → count ≡ length boundaries / numbersPerBoundary → {Q : Report} {r : Reported} → ReportedCall Q pass (a .number) (a .value) count o r
-      → AddedReading Q (wellFormed (sheetFrom pass w h cells spans boundaries anchors)) r
+-- the call answered r, which is known as r′
+module _ {pass w h : ℕ} {cells spans boundaries anchors l m q t p : List ℕ} {s : List Region} {o : List ℕ} {r r′ : call.Answer} (e : r ≡ r′)
+    (R : Ran (lent pass w h cells spans boundaries anchors) (call-says r) l m q t p s o) where
+  ran : Ran (lent pass w h cells spans boundaries anchors) (call-says r′) l m q t p s o
+  ran = subst (λ x. Ran (lent pass w h cells spans boundaries anchors) (call-says x) l m q t p s o) e R
+
+  pub called-left : CallLeft pass (call-says r′ .number) (call-says r′ .value) o
+  called-left = call-left _ (ran .answer) (ran .output)
+
+  pub called : (count : ℕ) → count ≡ length boundaries / numbersPerBoundary → {Q : Report} {x : Reported}
+      → ReportedCall Q pass (call-says r′ .number) (call-says r′ .value) count o x → AddedReading Q (wellFormed (sheetFrom pass w h cells spans boundaries anchors)) x
   unfolding readingAnswer readingRun lentFor
-  called count e {Q} {r} K =
+  called count same {Q} {x} K =
       record {
-        answer = (λ i. record { number = K .same-number i; value = K .same-value i }) ∙ R .answer;
-        report = K .added ∙ ap (addedBy sum64 Q) (call-added _ (R .answer) (R .output) count e);
+        answer = (λ i. record { number = K .same-number i; value = K .same-value i }) ∙ ran .answer;
+        report = K .added ∙ ap (addedBy sum64 Q) (call-added _ (ran .answer) (ran .output) count same);
       }
 
 -- ---- the reading
