@@ -24,7 +24,7 @@ use Rattle.sheet_answer.specs.Answers.{ListsLong, keptlistReading, sheetFrom, s
 use Rattle.sheet_answer.proofs.BeforeCall.{begun-read}
 use Rattle.sheet_answer.proofs.Whole.{SheetRead, begun-ready}
 use Rattle.report.specs.Runs.{readingRun, sheetReading, sheetRun}
-use Rattle.report.specs.Report.{Report, maxRuns, sum64, addedBy, addRun}
+use Rattle.report.specs.Report.{Report, maxRuns, sum64, addedBy}
 use Rattle.report.specs.ReportLaws.Order.{within, beyond}
 use Rattle.report_figures.specs.declared.Reported.{Reported}
 use Rattle.report_figures.specs.declared.Report as declared
