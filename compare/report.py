@@ -14,6 +14,7 @@ import tempfile
 
 import package  # noqa: F401
 import generate
+from jenwyllt.commands._maps import is_text
 from jenwyllt.unproved.report import run_of, summed
 from jenwyllt.unproved.sheet_bytes import sheet_of
 
@@ -49,7 +50,7 @@ def main():
     args = parser.parse_args()
     r = random.Random(args.seed)
     with tempfile.TemporaryDirectory(dir=args.folder) as folder:
-        names, runs = [], []
+        names, runs, texts = [], [], 0
         large = args.count // 500
         drawn = [*(m for _, m in generate.large_maps(large, args.seed)), *(m for *_, m in generate.maps(args.count - large, args.seed))]
         for k, m in enumerate(drawn):
@@ -58,10 +59,12 @@ def main():
             with open(names[-1], 'wb') as f:
                 f.write(data)
             runs.append(run_of(data))
+            texts += is_text(data)
         wanted = json.loads(json.dumps({'proved': True, **summed(runs)}))
         turned = list(names)
         r.shuffle(turned)
-        status = 1 if wanted['beyond'] else 0
+        # A damaged sheet that begins as a text does is said to be a wrong one, and counted all the same.
+        status = 1 if wanted['beyond'] or texts else 0
         for order, those in (('as made', names), ('shuffled', turned)):
             found, code = command(those, folder)
             if args.count > 10_000 and order == 'shuffled':

@@ -106,6 +106,19 @@ class Command(Trial):
         self.assertEqual((done.returncode, done.stderr), (0, b''))
         self.assertEqual(json.loads(done.stdout), json.loads(json.dumps({'proved': True, **summed(map(run_of, (SHEETS[0], ILL_FORMED)))})))
 
+    def test_beyond(self) -> None:
+        """the maps are named in a file; the one beyond the last is said, and the status is 1"""
+        listed = self.file('names', f'{EXAMPLES / NAMES[0]}.sheet\n' * (MOST_RUNS + 1))
+        done = run('report', '--json', '--names', listed)
+        self.assertEqual((done.returncode, done.stderr), (1, b'jenwyllt: beyond the first 10,000 1 run refused 3, which changed nothing\n'))
+        self.assertEqual((json.loads(done.stdout)['runs'], json.loads(done.stdout)['beyond']), (MOST_RUNS, 1))
+
+    def test_wrong_text(self) -> None:
+        """is said, and its bytes are counted as the sheet that they are not"""
+        done = run('report', '--json', self.file('wrong.txt', 'no map\n'), EXAMPLES / f'{NAMES[0]}.sheet')
+        self.assertEqual((done.returncode, json.loads(done.stdout)['runs'], json.loads(done.stdout)['refused']), (1, 2, {'14': 1}))
+        self.assertIn(b'wrong.txt: line 1', done.stderr)
+
     def test_missing(self) -> None:
         done = run('report', '--json', self.folder / 'none.sheet', EXAMPLES / f'{NAMES[0]}.sheet')
         self.assertEqual((done.returncode, json.loads(done.stdout)['runs']), (2, 1))

@@ -28,10 +28,14 @@ def text_sheet(data: bytes) -> Sheet:
         raise Wrong(text.count(b'\n', 0, wrong.start) + 1, f'byte {text[wrong.start]:#04x} is no text in UTF-8') from wrong
 
 
+def as_sheet(data: bytes) -> bytes:
+    """a sheet as it stands, and of a text the sheet that it makes, or Wrong"""
+    return sheet_bytes(text_sheet(data)) if is_text(data) else data
+
+
 def sheet_data(name: str) -> bytes:
     """the bytes of the sheet, or of that which the text makes"""
-    data = _streams.read(name, MAP)
-    return sheet_bytes(text_sheet(data)) if is_text(data) else data
+    return as_sheet(_streams.read(name, MAP))
 
 
 def read(answers: Answers, data: bytes) -> Sheet:

@@ -48,13 +48,20 @@ class Sheets:
         if self.shows and (done % LONG == 0 or done == len(self.names)):
             print(f'\rjenwyllt: {done} of {len(self.names)} maps', end='\n' if done == len(self.names) else '', file=sys.stderr, flush=True)
 
+    def data(self, name: str) -> bytes:
+        """of a text that is wrong its bytes as they stand: they are no sheet, so that the run is refused 14"""
+        data = _streams.read(name, _maps.MAP)
+        try:
+            return _maps.as_sheet(data)
+        except Wrong as wrong:
+            _streams.said(_maps.refused(name, wrong))
+            self.status = max(self.status, 1)
+            return data
+
     def __iter__(self) -> Iterator[bytes]:
         for done, name in enumerate(self.names, 1):
             try:
-                yield _maps.sheet_data(name)
-            except Wrong as wrong:
-                _streams.said(_maps.refused(name, wrong))
-                self.status = max(self.status, 1)
+                yield self.data(name)
             except _streams.Unread as wrong:
                 _streams.said(wrong)
                 self.status = 2
@@ -102,5 +109,6 @@ def run(args: argparse.Namespace) -> int:
     else:
         _streams.write('-', table(report) + ('' if answers.proved else UNPROVED))
     if report['beyond']:
-        _streams.said(f'{report["beyond"]:,} runs beyond the first {MOST_RUNS:,} were refused 3 and changed nothing')
+        beyond = '1 run' if report['beyond'] == 1 else f'{report["beyond"]:,} runs'
+        _streams.said(f'beyond the first {MOST_RUNS:,} {beyond} refused 3, which changed nothing')
     return max(sheets.status, 1 if report['beyond'] else 0)
