@@ -1,4 +1,5 @@
-// A sheet that is read and run as `keptlist` does it, and added to a report (document 02, request 13). The lists that are lent to the call are local arrays of zeros.
+// A sheet that is read and run as `keptlist` does it, and added to a report (document 02, request 13). The lists that are lent to the call are local arrays of
+// zeros.
 ghost use Rattle.definitions.specs.Sheet.{wellFormed, refused};
 ghost use Rattle.sheet_answer.specs.Answers.{sheetFrom, sheetIn, SheetHeld};
 ghost use Rattle.report.specs.Runs.{sheetReading};
