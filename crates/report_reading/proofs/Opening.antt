@@ -4,10 +4,12 @@ use native.Mathlib.Omega.{arith}
 use mathlib.Core.Path.{_≡_, refl, sym, ap, subst, _∙_}
 use mathlib.Core.Bool.{Bool, true, false}
 use mathlib.Core.List.{List}
+use lib.ListN.{length}
 use lib.Dec.{ltb}
-use borrow.Author.Tests.{ltb-true, ltb-false}
-use Rattle.definitions.specs.Sheet.{Reading, wellFormed, refused, atExit}
-use Rattle.sheet.specs.Answers.{answerOf, Answered}
+use borrow.Author.Tests.{ltb-true, ltb-false, lt-ltb, le-ltb}
+use Rattle.definitions.specs.Sheet.{Reading, wellFormed, refused, keptlistCellLimit}
+use Rattle.definitions.specs.Printed.{maxSheetBytes}
+use Rattle.sheet.specs.Answers.{answerOf, readingWithin, Answered}
 use Rattle.sheet.specs.declared.Header.{Header}
 use Rattle.sheet.specs.declared.Answer.{Answer}
 use Rattle.sheet.specs.declared.Answer.the-variants.{Read, Refused}
@@ -18,7 +20,7 @@ use Rattle.report.specs.ReportLaws.Order as order
 use Rattle.report_figures.specs.declared.Report.{Report}
 use Rattle.report_figures.specs.Forms.{reportForm}
 use Rattle.report_reading.specs.declared.Opened.{Opened}
-use Rattle.report_reading.specs.Contract.{openedAs, refusedAs, openedWith, addedAnswer, addedReading, OpenedFor, ReadFor}
+use Rattle.report_reading.specs.Contract.{openedAs, refusedAs, openedWith, addedAnswer, addedReading, limitedReading, OpenedFor, ReadFor}
 
 module _ (report : Report) (answer : Answer) {r : Opened} where
   pub when-read : {header : Header} → answer ≡ Read header → r ≡ openedAs report header → OpenedFor report answer r
@@ -61,3 +63,17 @@ module _ (report : Report) (reading : Reading) {cells spans boundaries anchors :
       go : maxRuns ≤ report .runs → (x : Reading) → reportForm report ≡ addedReading (reportForm report) x
       go l (wellFormed s) = refl
       go l (refused number place) = sym (order.beyond (reportForm report) (refusedRun number) l)
+
+-- ---- with the limits of `keptlist`, by how many bytes there are
+
+module _ (bytes cells spans boundaries anchors : List ℕ) where
+  pub limited-long : maxSheetBytes < length bytes
+      → Answered (limitedReading bytes cells spans boundaries anchors) cells spans boundaries anchors (Refused 14 maxSheetBytes) cells spans boundaries anchors
+  limited-long h =
+      rw (lt-ltb maxSheetBytes (length bytes) h)
+      (record { said = refl; cells-left = refl; spans-left = refl; boundaries-left = refl; anchors-left = refl })
+
+  pub limited-few : length bytes ≤ maxSheetBytes → {answer : Answer} {cells′ spans′ boundaries′ anchors′ : List ℕ}
+      → Answered (readingWithin keptlistCellLimit bytes cells spans boundaries anchors) cells spans boundaries anchors answer cells′ spans′ boundaries′ anchors′
+      → Answered (limitedReading bytes cells spans boundaries anchors) cells spans boundaries anchors answer cells′ spans′ boundaries′ anchors′
+  limited-few h A = rw (le-ltb maxSheetBytes (length bytes) h) A

@@ -1,9 +1,13 @@
 -- What is answered for a sheet that is read for a report, and what it adds. Definitions only; assumes nothing.
 use Prim.Native.Nat.{ℕ, _≤_, _<_}
 use mathlib.Core.Path.{_≡_}
+use mathlib.Core.Bool.{cond}
 use mathlib.Core.List.{List}
-use Rattle.definitions.specs.Sheet.{Reading, wellFormed, refused, atExit}
-use Rattle.sheet.specs.Answers.{answerOf}
+use lib.ListN.{length}
+use lib.Dec.{ltb}
+use Rattle.definitions.specs.Sheet.{Reading, wellFormed, refused, atExit, keptlistCellLimit}
+use Rattle.definitions.specs.Printed.{maxSheetBytes}
+use Rattle.sheet.specs.Answers.{answerOf, readingWithin}
 use Rattle.sheet.specs.declared.Header.{Header}
 use Rattle.sheet.specs.declared.Answer.{Answer}
 use Rattle.sheet.specs.declared.Answer.the-variants.{Read, Refused}
@@ -42,6 +46,11 @@ openedWith report (Refused number place) = refusedAs report number place
 abbrev pub addedAnswer : def.Report → Answer → def.Report
 addedAnswer R (Read header) = R
 addedAnswer R (Refused number place) = addedBy sum64 R (refusedRun number)
+
+-- what `keptlist` makes of its bytes, with lists of these lengths: "A sheet over 65,536 bytes is `refused 14 at 65536` before any other check."
+abbrev pub limitedReading : List ℕ → List ℕ → List ℕ → List ℕ → List ℕ → Reading
+limitedReading bytes cells spans boundaries anchors =
+    cond (ltb maxSheetBytes (length bytes)) (refused 14 maxSheetBytes) (readingWithin keptlistCellLimit bytes cells spans boundaries anchors)
 
 pub record OpenedFor (report : Report) (answer : Answer) (r : Opened) : Type 0 where
   pub head : r ≡ openedWith (r .report) answer

@@ -1,12 +1,12 @@
 -- From a reading and the call that was made for it to what is answered and added. Assumes nothing.
-use Prim.Native.Nat.{ℕ, _/_, _≤_, _<_}
+use Prim.Native.Nat.{ℕ, _/_}
 use native.Mathlib.Omega.{arith}
 use mathlib.Core.Path.{_≡_, refl, sym, ap, subst, _∙_}
 use mathlib.Core.Bool.{Bool, true, false, cond}
 use mathlib.Core.List.{List}
 use lib.ListN.{length, replicate}
 use lib.Dec.{ltb}
-use borrow.Author.Tests.{ltb-true, ltb-false, lt-ltb, le-ltb}
+use borrow.Author.Tests.{ltb-true, ltb-false}
 use Rattle.definitions.specs.Limits.{numbersPerBoundary}
 use Rattle.definitions.specs.RegionRecord.{Region, emptyRegion}
 use Rattle.definitions.specs.Sheet.{Reading, wellFormed, refused, keptlistCellLimit}
@@ -31,6 +31,7 @@ use Rattle.report_figures.specs.declared.Report as declared
 use Rattle.report_figures.specs.Forms.{reportForm}
 use Rattle.report_figures.specs.Calls.{CallLeft, ReportedCall}
 use Rattle.report_figures.proofs.Called.{call-left, call-added}
+use Rattle.report_reading.specs.Contract.{limitedReading}
 use Rattle.report_sheets.specs.Contract.{readingAnswer, answerIn, AddedReading, SheetReported}
 
 -- ---- the call
@@ -60,24 +61,29 @@ module _ {pass w h : ℕ} {cells spans boundaries anchors l m q t p : List ℕ} 
 
 -- ---- the reading
 
-pub too-long : (bytes : List ℕ) → maxSheetBytes < length bytes → {Q : Report} {r : Reported} → AddedReading Q (refused 14 maxSheetBytes) r → AddedReading Q (sheetReading bytes) r
-unfolding sheetReading
-too-long bytes h A = rw (lt-ltb maxSheetBytes (length bytes) h) A
-
 same-rule : (bytes : List ℕ) → keptlistReading bytes ≡ sheetReading bytes
 unfolding keptlistReading sheetReading
 same-rule bytes = refl
 
-module _ (bytes cells spans boundaries anchors : List ℕ) (h : length bytes ≤ maxSheetBytes) (L : ListsLong (length cells) (length spans) (length boundaries) (length anchors))
+module _ (bytes cells spans boundaries anchors : List ℕ) (L : ListsLong (length cells) (length spans) (length boundaries) (length anchors))
     {answer : Answer} {cells′ spans′ boundaries′ anchors′ : List ℕ}
-    (A : Answered (readingWithin keptlistCellLimit bytes cells spans boundaries anchors) cells spans boundaries anchors answer cells′ spans′ boundaries′ anchors′) where
-  same-reading : readingWithin keptlistCellLimit bytes cells spans boundaries anchors ≡ sheetReading bytes
+    (A : Answered (limitedReading bytes cells spans boundaries anchors) cells spans boundaries anchors answer cells′ spans′ boundaries′ anchors′) where
+  same-reading : limitedReading bytes cells spans boundaries anchors ≡ sheetReading bytes
   unfolding sheetReading
-  same-reading = room-enough keptlistCellLimit bytes (L .for-cells) (L .for-spans) (L .for-boundaries) (L .for-anchors) ∙ rw (le-ltb maxSheetBytes (length bytes) h)
+  same-reading =
+      ap (cond (ltb maxSheetBytes (length bytes)) (refused 14 maxSheetBytes))
+      (room-enough keptlistCellLimit bytes (L .for-cells) (L .for-spans) (L .for-boundaries) (L .for-anchors))
 
   module _ {header : Header} (e : answer ≡ Read header) where
     ready : SheetRead bytes header cells′ spans′ boundaries′ anchors′ cells cells
-    ready = begun-ready bytes (begun-read bytes cells spans boundaries anchors h L A e) refl
+    ready = go (ltb maxSheetBytes (length bytes)) refl A
+      where
+        go : (long : Bool) → ltb maxSheetBytes (length bytes) ≡ long
+            → Answered (cond long (refused 14 maxSheetBytes) (readingWithin keptlistCellLimit bytes cells spans boundaries anchors))
+            cells spans boundaries anchors answer cells′ spans′ boundaries′ anchors′
+            → SheetRead bytes header cells′ spans′ boundaries′ anchors′ cells cells
+        go true t B = absurd (let z : _≡_ {A = ℕ} 0 1 = cc (B .said) in omega arith)
+        go false t B = begun-ready bytes (begun-read bytes cells spans boundaries anchors (ltb-false maxSheetBytes (length bytes) t) L B e) refl
 
     pub sheet-held : SheetHeld header cells′ spans′ boundaries′ anchors′
     sheet-held = ready .held
@@ -87,7 +93,7 @@ module _ (bytes cells spans boundaries anchors : List ℕ) (h : length bytes ≤
 
   pub refusal-added : (number place : ℕ) → answer ≡ Refused number place → {Q : Report} {r : Reported} → AddedReading Q (refused number place) r
       → AddedReading Q (sheetReading bytes) r
-  refusal-added number place e {Q} {r} B = subst (λ x. AddedReading Q x r) same-reading (go (readingWithin keptlistCellLimit bytes cells spans boundaries anchors) (A .said))
+  refusal-added number place e {Q} {r} B = subst (λ x. AddedReading Q x r) same-reading (go (limitedReading bytes cells spans boundaries anchors) (A .said))
     where
       go : (x : Reading) → answer ≡ sheet-says x → AddedReading Q x r
       go (wellFormed s) f = absurd (let z : _≡_ {A = ℕ} 0 1 = cc f in omega arith)

@@ -11,14 +11,10 @@ use report_figures::calls::answered;
 use report_figures::calls::beyond;
 use report_figures::calls::has_room;
 use report_figures::sums::with_refused;
+use report_reading::read_limited;
 use sheet::Answer;
 use sheet::Header;
-use sheet::read_within;
 use topology::here::kept_boundaries_here;
-
-const SHEET_BYTES_MOST: usize = 65_536;
-
-const CELLS_MOST: u64 = 4096;
 
 const REGIONS_MOST: usize = 512;
 
@@ -124,21 +120,11 @@ fn add_held(
 fn add_sheet(report: Report, bytes: &[u8]) -> Reported
     ensures { λ r. ⌜ AddedReading (reportForm report) (sheetReading (now (bytes .entry))) r ⌝ }
 {
-    if SHEET_BYTES_MOST < bytes.len() {
-        return refuse(report, 14, SHEET_BYTES_MOST as u64);
-    }
     let mut cells = [0u8; 4096];
     let mut spans = [0u64; 1024];
     let mut boundaries = [0u64; 2304];
     let mut anchors = [0u64; 512];
-    match read_within(
-        bytes,
-        CELLS_MOST,
-        &mut cells,
-        &mut spans,
-        &mut boundaries,
-        &mut anchors,
-    ) {
+    match read_limited(bytes, &mut cells, &mut spans, &mut boundaries, &mut anchors) {
         Answer::Read(header) => add_held(report, header, &cells, &spans, &boundaries, &anchors),
         Answer::Refused(number, place) => refuse(report, number as u64, place as u64),
     }
