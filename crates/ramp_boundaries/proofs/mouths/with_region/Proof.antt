@@ -28,25 +28,37 @@ enum-told-2 c = search needs
 
 returns-2 : tie.Need-returns-2
 returns-2 c =
-    let s = c .before .before .before .before .before .args in
-    sym (ap₂ (λ b o. cond b (withRegion o (s .r)) o) (sym (c .before .before .before .is-anchored .ensures) ∙ negated-false _ (c .before .before .if1 .left)) (c .enum-told .given .1))
+    let at-is-anchored = c .before .before .before in
+    let entry = at-is-anchored .before .before in
+    let s = entry .args in
+    sym (ap₂ (λ b o. cond b (withRegion o (s .r)) o) (sym (at-is-anchored .is-anchored .ensures) ∙ negated-false _ (c .before .before .if1 .left)) (c .enum-told .given .1))
 
 returns-3 : tie.Need-returns-3
 returns-3 c =
-    let s = c .before .before .before .before .before .before .before .args in
-    sym (ap₂ (λ b o. cond b (withRegion o (s .r)) o) (sym (c .before .before .before .before .before .is-anchored .ensures) ∙ negated-false _ (c .before .before .before .before .if1 .left)) (c .before .before .found .given .1)
+    let at-known-told = c .before in
+    let at-if1 = at-known-told .before .before .before in
+    let at-is-anchored = at-if1 .before in
+    let entry = at-is-anchored .before .before in
+    let s = entry .args in
+    sym (ap₂ (λ b o. cond b (withRegion o (s .r)) o) (sym (at-is-anchored .is-anchored .ensures) ∙ negated-false _ (at-if1 .if1 .left)) (c .before .before .found .given .1)
     ∙ ap (λ b. cond b (outers.One (c .before .before .found .given .0 .0)) outers.Several) (eq-eqb _ (s .r) (c .if2 .taken)))
 
 returns-4 : tie.Need-returns-4
 returns-4 c =
-    let s = c .before .before .before .before .before .before .before .args in
-    sym (ap₂ (λ b o. cond b (withRegion o (s .r)) o) (sym (c .before .before .before .before .before .is-anchored .ensures) ∙ negated-false _ (c .before .before .before .before .if1 .left)) (c .before .before .found .given .1)
+    let at-known-told = c .before in
+    let at-if1 = at-known-told .before .before .before in
+    let at-is-anchored = at-if1 .before in
+    let entry = at-is-anchored .before .before in
+    let s = entry .args in
+    sym (ap₂ (λ b o. cond b (withRegion o (s .r)) o) (sym (at-is-anchored .is-anchored .ensures) ∙ negated-false _ (at-if1 .if1 .left)) (c .before .before .found .given .1)
     ∙ ap (λ b. cond b (outers.One (c .before .before .found .given .0 .0)) outers.Several) (ne-eqb _ (s .r) (c .if2 .left)))
 
 returns-5 : tie.Need-returns-5
 returns-5 c =
-    let s = c .before .before .before .before .before .args in
-    sym (ap₂ (λ b o. cond b (withRegion o (s .r)) o) (sym (c .before .before .before .is-anchored .ensures) ∙ negated-false _ (c .before .before .if1 .left)) (c .enum-told2 .given .1))
+    let at-is-anchored = c .before .before .before in
+    let entry = at-is-anchored .before .before in
+    let s = entry .args in
+    sym (ap₂ (λ b o. cond b (withRegion o (s .r)) o) (sym (at-is-anchored .is-anchored .ensures) ∙ negated-false _ (c .before .before .if1 .left)) (c .enum-told2 .given .1))
 
 pub with-region-spec : {M : Type 1} → statement M
 with-region-spec =
