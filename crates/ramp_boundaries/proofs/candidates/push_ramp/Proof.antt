@@ -1,10 +1,9 @@
 -- `candidates::push_ramp` meets its contract, by its tests. Assumes nothing.
 use native.Mathlib.Omega.{arith}
 use mathlib.Core.Path.{sym, _∙_}
-use borrow.Author.Tests.{eq-eqb, ne-eqb}
+use borrow.Author.Tests.{eq-eqb, ne-eqb, not-true, not-false}
 use Rattle.ramp_boundaries.specs.Candidates.{mouthCandidate}
 use Rattle.ramp_boundaries.specs.Listed.{plainAt}
-use Rattle.ramp_boundaries.proofs.RowLists.{negated-true, negated-false}
 use Rattle.ramp_boundaries.proofs.SafeLists.{below, stretch-at, tallies-at, rows-counted, kind-shown}
 use Rattle.ramp_boundaries.proofs.CandidateRoom.{ramp-fits, ramp-counted, none-counted, filled-as, same-list, no-ramp-none, no-cut-none}
 use borrow.Author.Needs.{needs}
@@ -50,7 +49,7 @@ returns-2 c =
       none-counted (plainAt (entry .args .boundaries .now)) (entry .args .count) (omega (arith, entry .pre .0 .shows .bounds .few, entry .pre .0 .shows .counted)) (entry .args .a) (entry .args .n) (entry .pre .1 .1 .0),
       (
         entry .pre .1 .0,
-        λ C l S T F. filled-as F (same-list l (mouthCandidate C (entry .args .a)) (entry .args .count) (λ m. no-cut-none C (entry .args .a) m (sym (c .before .full-cut .ensures C T (below (S .counted) (entry .pre .1 .1 .1))) ∙ negated-true _ (c .if2 .taken)))),
+        λ C l S T F. filled-as F (same-list l (mouthCandidate C (entry .args .a)) (entry .args .count) (λ m. no-cut-none C (entry .args .a) m (sym (c .before .full-cut .ensures C T (below (S .counted) (entry .pre .1 .1 .1))) ∙ not-true _ (c .if2 .taken)))),
       ),
     )
 
@@ -86,7 +85,7 @@ returns-3 c =
         c .push-mouths .ensures .1 .0,
         λ C l S T F.
             let la = below (S .counted) (entry .pre .1 .1 .1) in
-            c .push-mouths .ensures .1 .1 C l S T (kind-shown (S .bounds) (entry .args .a) la ∙ ne-eqb _ 0 (at-if1 .if1 .left)) (sym (at-full-cut .full-cut .ensures C T la) ∙ negated-false _ (at-if2 .if2 .left)) (at-find-other-ends .find-other-ends .ensures C (S .counted) (S .bounds) T (S .rows)) F,
+            c .push-mouths .ensures .1 .1 C l S T (kind-shown (S .bounds) (entry .args .a) la ∙ ne-eqb _ 0 (at-if1 .if1 .left)) (sym (at-full-cut .full-cut .ensures C T la) ∙ not-false _ (at-if2 .if2 .left)) (at-find-other-ends .find-other-ends .ensures C (S .counted) (S .bounds) T (S .rows)) F,
       ),
     )
 

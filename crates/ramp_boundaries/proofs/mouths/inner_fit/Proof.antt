@@ -8,8 +8,9 @@ use Rattle.definitions.specs.Scan.{all}
 use Rattle.definitions.specs.Grid.{Pair}
 use Rattle.context.specs.Shown.{pairsBetween}
 use Rattle.ramp_boundaries.specs.Outers.{innerFits}
-use Rattle.ramp_boundaries.proofs.RowLists.{all-regions, named-lo, named-hi, all-none, all-one-more, all-one-fails, negated-true, negated-false}
+use Rattle.ramp_boundaries.proofs.RowLists.{all-regions, named-lo, named-hi, all-none, all-one-more, all-one-fails}
 use borrow.Author.Needs.{needs}
+use borrow.Author.Tests.{not-true, not-false}
 use Rattle.ramp_boundaries.proofs.mouths.inner_fit.Statement.{statement}
 use Rattle.ramp_boundaries.proofs.mouths.inner_fit.Tie as tie
 
@@ -58,7 +59,7 @@ returns c =
     let f = rowFits (s .marks .now) (s .counts .now) (s .outer) (s .r) in
     sym (all-regions (innerFits (s .marks .now) (s .counts .now) (s .outer) (s .r)) (pairsBetween (s .pairs .now) (s .first) (s .end))
     ∙ all-one-fails f (s .pairs .now) (s .first) (at .k) (s .end) (at .inv .0) (turn .loop-test .taken)
-    (sym (ap f (c .before .before .before .row-at .ensures)) ∙ sym (ap₂ _&&_ (c .before .before .region-fits .ensures) (at-region-fits2 .region-fits2 .ensures)) ∙ negated-true _ (c .if1 .taken)))
+    (sym (ap f (c .before .before .before .row-at .ensures)) ∙ sym (ap₂ _&&_ (c .before .before .region-fits .ensures) (at-region-fits2 .region-fits2 .ensures)) ∙ not-true _ (c .if1 .taken)))
 
 add-k : tie.Need-add-k Inv-loop μ-loop
 add-k c = search needs
@@ -79,7 +80,7 @@ loop-again c =
       (
         search needs,
         all-one-more f (s .pairs .now) (s .first) (at .k) (at .inv .0) (at .inv .1 .1)
-            (sym (ap f (c .before .before .before .row-at .ensures)) ∙ sym (ap₂ _&&_ (at-region-fits .region-fits .ensures) (c .before .region-fits2 .ensures)) ∙ negated-false _ (c .if1 .left)),
+            (sym (ap f (c .before .before .before .row-at .ensures)) ∙ sym (ap₂ _&&_ (at-region-fits .region-fits .ensures) (c .before .region-fits2 .ensures)) ∙ not-false _ (c .if1 .left)),
       ),
     )
 

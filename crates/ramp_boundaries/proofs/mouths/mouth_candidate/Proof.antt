@@ -1,11 +1,11 @@
 -- `mouths::mouth_candidate` meets its contract: each return by the tests that led there. Assumes nothing.
 use mathlib.Core.Path.{sym, _∙_}
 use mathlib.Core.Bool.{true, not}
-use borrow.Author.Tests.{eq-eqb, ne-eqb}
+use borrow.Author.Tests.{eq-eqb, ne-eqb, not-true, not-false}
 use Rattle.definitions.specs.MouthShapes.{mouthShape}
 use Rattle.definitions.specs.Context.{fullPair}
 use Rattle.laws.specs.ListLaws.Tests.{both}
-use Rattle.ramp_boundaries.proofs.RowLists.{between-length, negated-true, negated-false}
+use Rattle.ramp_boundaries.proofs.RowLists.{between-length}
 use Rattle.ramp_boundaries.proofs.FoundMouths.{triangle-two, has-ramp, not-full, no-shape, too-far, by-triangle, by-approach}
 use Rattle.ramp_boundaries.proofs.SafeLists.{below, placed-at, stretch-at, tallies-at, named-both, kind-shown, triangle-shown, overlay-only, named-in, approach-named}
 use Rattle.ramp_boundaries.proofs.KnownEnds.{approach-known}
@@ -54,7 +54,7 @@ returns-2 c =
     let a = entry .args .a in
     let lm = below (S .counted) (entry .pre .1 .0) in
     let la = below (S .counted) (entry .pre .1 .1) in
-    not-full C a m ramp cut (kind-shown (S .bounds) m lm ∙ eq-eqb _ 0 (c .before .before .if1 .left)) (sym (c .before .full-cut .ensures C T lm) ∙ negated-true _ (c .if2 .taken))
+    not-full C a m ramp cut (kind-shown (S .bounds) m lm ∙ eq-eqb _ 0 (c .before .before .if1 .left)) (sym (c .before .full-cut .ensures C T lm) ∙ not-true _ (c .if2 .taken))
 
 triangle-representative-requires : tie.Need-triangle-representative-requires
 triangle-representative-requires c κs =
@@ -94,8 +94,8 @@ returns-3 c =
     let lm = below (S .counted) (entry .pre .1 .0) in
     let la = below (S .counted) (entry .pre .1 .1) in
     let h = both (not (c .before .before .before .triangle-representative .result)) (at-is-none .is-none .result) (c .if3 .taken) in
-    no-shape C a m ramp cut (kind-shown (S .bounds) m lm ∙ eq-eqb _ 0 (at-if1 .if1 .left)) (sym (at-full-cut .full-cut .ensures C T lm) ∙ negated-false _ (at-if2 .if2 .left)) (S .rows .named m lm) (c .before .before .before .triangle-representative .result)
-    (triangle-shown (S .rows) m a lm la (c .before .before .before .triangle-representative .result) (c .before .before .before .triangle-representative .ensures)) (c .before .before .approach-of .result) (c .before .before .approach-of .ensures C T (S .rows) lm la) (negated-true _ (h .0)) (at-is-none .is-none .ensures (h .1))
+    no-shape C a m ramp cut (kind-shown (S .bounds) m lm ∙ eq-eqb _ 0 (at-if1 .if1 .left)) (sym (at-full-cut .full-cut .ensures C T lm) ∙ not-false _ (at-if2 .if2 .left)) (S .rows .named m lm) (c .before .before .before .triangle-representative .result)
+    (triangle-shown (S .rows) m a lm la (c .before .before .before .triangle-representative .result) (c .before .before .before .triangle-representative .ensures)) (c .before .before .approach-of .result) (c .before .before .approach-of .ensures C T (S .rows) lm la) (not-true _ (h .0)) (at-is-none .is-none .ensures (h .1))
 
 broad-mouth-requires : tie.Need-broad-mouth-requires
 broad-mouth-requires c κs =
@@ -135,10 +135,10 @@ returns-4 c =
     let a = entry .args .a in
     let lm = below (S .counted) (entry .pre .1 .0) in
     let la = below (S .counted) (entry .pre .1 .1) in
-    too-far C a m ramp cut (kind-shown (S .bounds) m lm ∙ eq-eqb _ 0 (at-if1 .if1 .left)) (sym (at-full-cut .full-cut .ensures C T lm) ∙ negated-false _ (at-if2 .if2 .left)) (S .rows .named m lm) (at-triangle-representative .triangle-representative .result)
+    too-far C a m ramp cut (kind-shown (S .bounds) m lm ∙ eq-eqb _ 0 (at-if1 .if1 .left)) (sym (at-full-cut .full-cut .ensures C T lm) ∙ not-false _ (at-if2 .if2 .left)) (S .rows .named m lm) (at-triangle-representative .triangle-representative .result)
     (triangle-shown (S .rows) m a lm la (at-triangle-representative .triangle-representative .result) (at-triangle-representative .triangle-representative .ensures)) (at-approach-of .approach-of .result) (at-approach-of .approach-of .ensures C T (S .rows) lm la)
     (at-broad-mouth .broad-mouth .result) (c .before .before .nearby-representative .result) (c .before .overlay-representative .result)
-    (sym (at-broad-mouth .broad-mouth .ensures C (S .bounds) lm la)) (sym (c .before .before .nearby-representative .ensures C (S .bounds) lm la)) (sym (c .before .overlay-representative .ensures C (S .bounds) lm la)) (negated-true _ (c .if4 .taken))
+    (sym (at-broad-mouth .broad-mouth .ensures C (S .bounds) lm la)) (sym (c .before .before .nearby-representative .ensures C (S .bounds) lm la)) (sym (c .before .overlay-representative .ensures C (S .bounds) lm la)) (not-true _ (c .if4 .taken))
 
 triangle-mouth-requires : tie.Need-triangle-mouth-requires
 triangle-mouth-requires c κs =
@@ -175,7 +175,7 @@ returns-5 c =
     let lm = below (S .counted) (entry .pre .1 .0) in
     let la = below (S .counted) (entry .pre .1 .1) in
     c .triangle-mouth .ensures C a (S .rows) (S .anchored) lm
-    ∙ by-triangle C a m ramp cut (kind-shown (S .bounds) m lm ∙ eq-eqb _ 0 (at-if1 .if1 .left)) (sym (at-full-cut .full-cut .ensures C T lm) ∙ negated-false _ (at-if2 .if2 .left)) (S .rows .named m lm) (at-triangle-representative .triangle-representative .result)
+    ∙ by-triangle C a m ramp cut (kind-shown (S .bounds) m lm ∙ eq-eqb _ 0 (at-if1 .if1 .left)) (sym (at-full-cut .full-cut .ensures C T lm) ∙ not-false _ (at-if2 .if2 .left)) (S .rows .named m lm) (at-triangle-representative .triangle-representative .result)
     (triangle-shown (S .rows) m a lm la (at-triangle-representative .triangle-representative .result) (at-triangle-representative .triangle-representative .ensures)) (at-approach-of .approach-of .result) (at-approach-of .approach-of .ensures C T (S .rows) lm la)
     (at-broad-mouth .broad-mouth .result) (at-nearby-representative .nearby-representative .result) (at-overlay-representative .overlay-representative .result)
     (sym (at-broad-mouth .broad-mouth .ensures C (S .bounds) lm la)) (sym (at-nearby-representative .nearby-representative .ensures C (S .bounds) lm la)) (sym (at-overlay-representative .overlay-representative .ensures C (S .bounds) lm la)) (c .before .if5 .taken)
@@ -217,10 +217,10 @@ returns-6 c =
     c .approach-mouth .ensures C a (S .rows) (S .incidents) (S .anchored) lm (approach-named (S .rows) m lm (fullPair C a) k) (approach-known C a (entry .args .ends) E (mouthShape true (C .pairs m)) k)
     (at-broad-mouth .broad-mouth .ensures C (S .bounds) lm la)
     (overlay-only C m a (at-broad-mouth .broad-mouth .ensures C (S .bounds) lm la) (at-nearby-representative .nearby-representative .ensures C (S .bounds) lm la) (at-overlay-representative .overlay-representative .ensures C (S .bounds) lm la))
-    ∙ by-approach C a m ramp cut (kind-shown (S .bounds) m lm ∙ eq-eqb _ 0 (at-if1 .if1 .left)) (sym (at-full-cut .full-cut .ensures C T lm) ∙ negated-false _ (at-if2 .if2 .left)) (S .rows .named m lm) (at-triangle-representative .triangle-representative .result)
+    ∙ by-approach C a m ramp cut (kind-shown (S .bounds) m lm ∙ eq-eqb _ 0 (at-if1 .if1 .left)) (sym (at-full-cut .full-cut .ensures C T lm) ∙ not-false _ (at-if2 .if2 .left)) (S .rows .named m lm) (at-triangle-representative .triangle-representative .result)
     (triangle-shown (S .rows) m a lm la (at-triangle-representative .triangle-representative .result) (at-triangle-representative .triangle-representative .ensures)) (at-approach-of .approach-of .result) k
     (at-broad-mouth .broad-mouth .result) (at-nearby-representative .nearby-representative .result) (at-overlay-representative .overlay-representative .result)
-    (sym (at-broad-mouth .broad-mouth .ensures C (S .bounds) lm la)) (sym (at-nearby-representative .nearby-representative .ensures C (S .bounds) lm la)) (sym (at-overlay-representative .overlay-representative .ensures C (S .bounds) lm la)) (negated-false _ (c .before .before .if4 .left)) (c .before .if5 .left)
+    (sym (at-broad-mouth .broad-mouth .ensures C (S .bounds) lm la)) (sym (at-nearby-representative .nearby-representative .ensures C (S .bounds) lm la)) (sym (at-overlay-representative .overlay-representative .ensures C (S .bounds) lm la)) (not-false _ (c .before .before .if4 .left)) (c .before .if5 .left)
 
 pub mouth-candidate-spec : {M : Type 1} → statement M
 mouth-candidate-spec =

@@ -1,11 +1,10 @@
 -- `mouths::star_mouth` meets its contract: each return by the tests that led there. Assumes nothing.
 use native.Mathlib.Omega.{arith}
 use mathlib.Core.Path.{refl, sym, ap, _∙_}
-use borrow.Author.Tests.{eq-eqb, ne-eqb}
+use borrow.Author.Tests.{eq-eqb, ne-eqb, not-true, not-false}
 use Rattle.definitions.specs.Scan.{all}
 use Rattle.definitions.specs.MouthShapes.{regionsOf}
 use Rattle.ramp_boundaries.specs.Outers.{innerFits}
-use Rattle.ramp_boundaries.proofs.RowLists.{negated-true, negated-false}
 use Rattle.ramp_boundaries.proofs.Fitting.{star-by, two-shown, fits-shown}
 use borrow.Author.Needs.{needs}
 use Rattle.ramp_boundaries.proofs.mouths.star_mouth.Statement.{statement}
@@ -81,7 +80,7 @@ returns-3 c =
     (two-shown A I (entry .args .r) (entry .pre .1 .1 .0) n (at-incident-count .incident-count .ensures) ∙ eq-eqb _ 2 (at-if2 .if2 .left))
     (fits-shown A I (entry .args .m) (entry .args .outer) (entry .args .r) (P .named (entry .args .m) l)
     ∙ ap (λ l. all (innerFits (entry .args .marks .now) (entry .args .counts .now) (entry .args .outer) (entry .args .r)) (regionsOf l)) (P .at (entry .args .m) l)
-    ∙ sym (at-inner-fit .inner-fit .ensures) ∙ negated-true _ (c .if3 .taken))
+    ∙ sym (at-inner-fit .inner-fit .ensures) ∙ not-true _ (c .if3 .taken))
     (refl)
     (refl)
 
@@ -99,7 +98,7 @@ returns-4 c =
     (two-shown A I (entry .args .r) (entry .pre .1 .1 .0) n (at-incident-count .incident-count .ensures) ∙ eq-eqb _ 2 (at-if2 .if2 .left))
     (fits-shown A I (entry .args .m) (entry .args .outer) (entry .args .r) (P .named (entry .args .m) l)
     ∙ ap (λ l. all (innerFits (entry .args .marks .now) (entry .args .counts .now) (entry .args .outer) (entry .args .r)) (regionsOf l)) (P .at (entry .args .m) l)
-    ∙ sym (at-inner-fit .inner-fit .ensures) ∙ negated-false _ (c .before .if3 .left))
+    ∙ sym (at-inner-fit .inner-fit .ensures) ∙ not-false _ (c .before .if3 .left))
     (sym b ∙ c .if4 .taken)
     (refl)
 
@@ -117,7 +116,7 @@ returns-5 c =
     (two-shown A I (entry .args .r) (entry .pre .1 .1 .0) n (at-incident-count .incident-count .ensures) ∙ eq-eqb _ 2 (at-if2 .if2 .left))
     (fits-shown A I (entry .args .m) (entry .args .outer) (entry .args .r) (P .named (entry .args .m) l)
     ∙ ap (λ l. all (innerFits (entry .args .marks .now) (entry .args .counts .now) (entry .args .outer) (entry .args .r)) (regionsOf l)) (P .at (entry .args .m) l)
-    ∙ sym (at-inner-fit .inner-fit .ensures) ∙ negated-false _ (c .before .before .if3 .left))
+    ∙ sym (at-inner-fit .inner-fit .ensures) ∙ not-false _ (c .before .before .if3 .left))
     (sym b ∙ c .before .if4 .left)
     (sym w ∙ c .if5 .taken)
 
@@ -135,7 +134,7 @@ returns-6 c =
     (two-shown A I (entry .args .r) (entry .pre .1 .1 .0) n (at-incident-count .incident-count .ensures) ∙ eq-eqb _ 2 (at-if2 .if2 .left))
     (fits-shown A I (entry .args .m) (entry .args .outer) (entry .args .r) (P .named (entry .args .m) l)
     ∙ ap (λ l. all (innerFits (entry .args .marks .now) (entry .args .counts .now) (entry .args .outer) (entry .args .r)) (regionsOf l)) (P .at (entry .args .m) l)
-    ∙ sym (at-inner-fit .inner-fit .ensures) ∙ negated-false _ (c .before .before .if3 .left))
+    ∙ sym (at-inner-fit .inner-fit .ensures) ∙ not-false _ (c .before .before .if3 .left))
     (sym b ∙ c .before .if4 .left)
     (sym w ∙ c .if5 .left)
 

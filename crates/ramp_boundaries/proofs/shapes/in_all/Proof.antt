@@ -6,8 +6,9 @@ use mathlib.Core.Bool.{true}
 use Rattle.definitions.specs.Scan.{all}
 use Rattle.definitions.specs.Grid.{contains}
 use Rattle.context.specs.Shown.{pairsBetween}
-use Rattle.ramp_boundaries.proofs.RowLists.{all-none, all-one-more, all-one-fails, negated-true, negated-false}
+use Rattle.ramp_boundaries.proofs.RowLists.{all-none, all-one-more, all-one-fails}
 use borrow.Author.Needs.{needs}
+use borrow.Author.Tests.{not-true, not-false}
 use Rattle.ramp_boundaries.proofs.shapes.in_all.Statement.{statement}
 use Rattle.ramp_boundaries.proofs.shapes.in_all.Tie as tie
 
@@ -34,7 +35,7 @@ returns c =
     let s = entry .args in
     let at = at-loop .loop in
     sym (all-one-fails (contains (s .r)) (s .pairs .now) (s .first) (at .k) (s .end) (at .inv .0) (c .before .before .before .loop-test .taken)
-    (sym (at-contains .contains .ensures ∙ ap (contains (s .r)) (c .before .before .row-at .ensures)) ∙ negated-true _ (c .if1 .taken)))
+    (sym (at-contains .contains .ensures ∙ ap (contains (s .r)) (c .before .before .row-at .ensures)) ∙ not-true _ (c .if1 .taken)))
 
 add-k : tie.Need-add-k Inv-loop μ-loop
 add-k c = search needs
@@ -53,7 +54,7 @@ loop-again c =
       (
         search needs,
         all-one-more (contains (s .r)) (s .pairs .now) (s .first) (at .k) (at .inv .0) (at .inv .1 .1)
-            (sym (at-contains .contains .ensures ∙ ap (contains (s .r)) (c .before .before .row-at .ensures)) ∙ negated-false _ (c .if1 .left)),
+            (sym (at-contains .contains .ensures ∙ ap (contains (s .r)) (c .before .before .row-at .ensures)) ∙ not-false _ (c .if1 .left)),
       ),
     )
 
