@@ -6,10 +6,10 @@ this folder, prints, and the same differences, of what valgrind's callgrind coun
 last column is the ratio of cycles as KCachegrind estimates them: an instruction is 1, a branch that was mispredicted and a miss of the first
 cache 10 more, a miss of the last cache 100 more. glibc is told not to clear and copy by single instructions that are counted for each byte.
 """
+import argparse
 import os
 import re
 import subprocess
-import sys
 
 TUNABLES = 'glibc.cpu.x86_rep_stosb_threshold=1000000000:glibc.cpu.x86_rep_movsb_threshold=1000000000'
 PASSES = (1, 2, 3)
@@ -38,14 +38,12 @@ def count(bench, name, whose, call):
 
 
 def main():
-    if sys.argv[1:] == ['--help']:
-        print(__doc__.strip())
-        return
-    if len(sys.argv) < 3:
-        print('usage: count.py BENCH MAP...', file=sys.stderr)
-        sys.exit(2)
-    bench = sys.argv[1]
-    for name in sys.argv[2:]:
+    parser = argparse.ArgumentParser(description=__doc__, formatter_class=argparse.RawDescriptionHelpFormatter)
+    parser.add_argument('bench')
+    parser.add_argument('map', nargs='+')
+    asked = parser.parse_args()
+    bench = asked.bench
+    for name in asked.map:
         none = count(bench, name, 'none', '-')
 
         def rust(call):

@@ -2,6 +2,7 @@
 
     python3 make_dominance.py [--check]
 """
+import argparse
 import os
 import random
 import sys
@@ -39,8 +40,11 @@ def line(cells, *counts):
 
 
 def main():
+    parser = argparse.ArgumentParser(description=__doc__, formatter_class=argparse.RawDescriptionHelpFormatter)
+    parser.add_argument('--check', action='store_true', help='write nothing; exit 1 if the file is not as it is made')
+    check = parser.parse_args().check
     made = ''.join(line(*each) for each in drawn())
-    if '--check' in sys.argv[1:]:
+    if check:
         with open(STORED) as file:
             return int(file.read() != made)
     with open(STORED, 'w') as file:

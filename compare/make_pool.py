@@ -2,8 +2,8 @@
 
     python3 make_pool.py [FILE]
 """
+import argparse
 import random
-import sys
 from pathlib import Path
 
 import accession_lists
@@ -60,12 +60,15 @@ def cases():
 
 
 def main():
+    parser = argparse.ArgumentParser(description=__doc__, formatter_class=argparse.RawDescriptionHelpFormatter)
+    parser.add_argument('file', nargs='?', default=FILE, type=Path)
+    file = parser.parse_args().file
     lines = []
     for terms, records, day, room in cases():
         number, value, rows = maps_of_day(terms, records, day, room)
         lines.append('; '.join(' '.join(map(str, part)) for part in (terms, records, (*day, room), (number, value), rows)).rstrip())
     lines = list(dict.fromkeys(lines))
-    Path(sys.argv[1] if len(sys.argv) > 1 else FILE).write_text(''.join(f'{line}\n' for line in lines))
+    file.write_text(''.join(f'{line}\n' for line in lines))
     print(len(lines), 'cases')
 
 

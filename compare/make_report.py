@@ -2,8 +2,8 @@
 
     python3 make_report.py [FILE]
 """
+import argparse
 import random
-import sys
 from pathlib import Path
 
 import package  # noqa: F401
@@ -34,5 +34,11 @@ def lines():
         yield f'{" ".join(data.hex() or "-" for data in sheets)};{" ".join(map(str, numbers(summed(map(run_of, sheets)))))}\n'
 
 
+def main():
+    parser = argparse.ArgumentParser(description=__doc__, formatter_class=argparse.RawDescriptionHelpFormatter)
+    parser.add_argument('file', nargs='?', default=FILE, type=Path)
+    parser.parse_args().file.write_text(''.join(lines()))
+
+
 if __name__ == '__main__':
-    Path(sys.argv[1] if len(sys.argv) > 1 else FILE).write_text(''.join(lines()))
+    main()

@@ -128,7 +128,7 @@ def damaged_sheets(wanted):
     return out
 
 
-LONG_NUMBERS = {                                 # in the place of a number, whose value some of them keep
+LONG_NUMBERS = {                                 # in place of a number, whose value some of them keep
     'tenth byte above 1': lambda n: bytes([0x80] * 9 + [2]),
     'eleven groups': lambda n: bytes([0x81] + [0x80] * 9 + [0]),
     'ends in the tenth': lambda n: bytes([0xFF] * 9 + [0x80]),

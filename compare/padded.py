@@ -6,7 +6,7 @@ A sheet of kind 1 is a plan of generate.py, in half of the cases with the damage
 zero put at its end, one up to as many as make ten groups, and the places follow one another, so that each of a sheet's numbers is met. Of these sheets some are
 cut off behind a byte of the padded number, some have a group of zero inside a number instead, and some are left as they are. Compared are what `jenwyllt
 keptlist` prints by the library, what reading alone answers and fills, and, where the library has it, what the reader of result sheets answers and fills. With
---definitions the definitions of kind 1, run from their own text, are asked in the place of the library; with --oracle the reader beside the Rust too. Prints
+--definitions the definitions of kind 1, run from their own text, are asked in place of the library; with --oracle the reader beside the Rust too. Prints
 the differences, and at the end how many sheets there were of each answer.
 """
 import argparse

@@ -1,5 +1,5 @@
 """What the translated definitions rest on: native numbers, lists, Bool, the integers, and (mode fast) Python doubles for lib.Ieee
-and loops in the place of recursions. selftest.py compares the latter with the literal translation."""
+and loops in place of recursions. selftest.py compares the latter with the literal translation."""
 import math
 import struct
 from math import isqrt

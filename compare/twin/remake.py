@@ -7,6 +7,7 @@ code gives the same text. With --check nothing is written: it says which files a
 It works below target/twin and needs the toolchain on the path. The order: the twin is derived (twin.py), each derivation is put in steps (steps.py), cut where
 derived.txt says so (cut.py), thinned (thin.py) and ended (close.py); rules.py puts the imports together, seen.py shortens what callers cite; all is formatted.
 """
+import argparse
 import os
 import shutil
 import subprocess
@@ -91,9 +92,9 @@ def standing(proofs):
 
 
 def main():
-    check = sys.argv[1:] == ['--check']
-    if sys.argv[1:] and not check:
-        sys.exit(__doc__)
+    parser = argparse.ArgumentParser(description=__doc__, formatter_class=argparse.RawDescriptionHelpFormatter)
+    parser.add_argument('--check', action='store_true')
+    check = parser.parse_args().check
     old = []
     for crate, of in listed().items():
         proofs = f'{ROOT}/crates/{crate}/proofs'

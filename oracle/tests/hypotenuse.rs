@@ -234,10 +234,7 @@ fn c_library() -> Option<extern "C" fn(f64, f64) -> f64> {
 /// Where the C library rounds otherwise, `f64::hypot` in this program still gives the nearest.
 #[test]
 fn differs_from_the_c_library() {
-    let Some(c_library) = c_library() else {
-        println!("no libm.so.6 here: not compared");
-        return;
-    };
+    let c_library = c_library().expect("libm.so.6 has hypot");
     let mut random = Random(5);
     let mut different = 0;
     for _ in 0..300_000 {

@@ -20,7 +20,7 @@ pub fn hypotenuse(x: f64, y: f64) -> Result<f64, Refusal> {
     }
 }
 
-/// The same in the place of [`f64::hypot`], for arguments that are known to be in range; 0 where [`hypotenuse`] refuses.
+/// The same in place of [`f64::hypot`], for arguments that are known to be in range; 0 where [`hypotenuse`] refuses.
 ///
 /// ```
 /// assert_eq!(jenwyllt::hypot(-8.0, 6.0), 10.0);

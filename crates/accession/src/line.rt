@@ -75,7 +75,8 @@ fn put_record(records: &[u64], i: usize, output: &mut [u64], k: usize)
 fn put_of_map(records: &[u64], number: u64, i: usize, output: &mut [u64], k: usize) -> usize
     requires { ⌜ (i < accessionCount (now records)) × (isOfMap (now records) number i ≡ true → k + 3 < length (now output)) ⌝ }
     ensures next { λ r. ⌜ r ≡ k + numbersPerAccession * bit (isOfMap (now (records .entry)) number i) ⌝ }
-    ensures left { λ r. ⌜ now (output .exit) ≡ sets (now (output .entry)) k (flatLine (one (isOfMap (now (records .entry)) number i) (now (records .entry)) i)) ⌝ }
+    ensures left { λ r. ⌜ now (output .exit) ≡ sets (now (output .entry)) k
+        (flatLine (one (isOfMap (now (records .entry)) number i) (now (records .entry)) i)) ⌝ }
 {
     if map_of(records, i) != number {
         return k;

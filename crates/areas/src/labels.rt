@@ -18,9 +18,10 @@ pub fn label_regions(
     masks: &mut [u16],
     queue: &mut [u32],
 ) -> usize
-    requires { ⌜ Checked width height (now cells) (now spans) ⌝ }
-    requires { ⌜ (height * width ≤ length (now labels)) × (height * width ≤ length (now masks)) × (height * width ≤ length (now queue)) ⌝ }
-    ensures { λ r. ⌜ LabelledAs width height (now (cells .entry)) (now (spans .entry)) (now (labels .entry)) (now (masks .entry)) (now (queue .entry)) (now (labels .exit)) (now (masks .exit)) (now (queue .exit)) r ⌝ }
+    requires checked { ⌜ Checked width height (now cells) (now spans) ⌝ }
+    requires room { ⌜ (height * width ≤ length (now labels)) × (height * width ≤ length (now masks)) × (height * width ≤ length (now queue)) ⌝ }
+    ensures { λ r. ⌜ LabelledAs width height (now (cells .entry)) (now (spans .entry)) (now (labels .entry)) (now (masks .entry)) (now (queue .entry))
+        (now (labels .exit)) (now (masks .exit)) (now (queue .exit)) r ⌝ }
 {
     let needed = height * width;
     clear_numbers(labels, needed);

@@ -34,7 +34,9 @@ fn divide(
     pairs: &mut [u32],
 ) -> Partitioned
     requires { ⌜ Fit width height (now cells) (now spans) (length (now labels)) (length (now masks)) (length (now queue)) (length (now tallies)) ⌝ }
-    ensures { λ r. ⌜ Divided width height (now (cells .entry)) (now (spans .entry)) (now (labels .entry)) (now (masks .entry)) (now (queue .entry)) (now (tallies .entry)) (now (pairs .entry)) r (now (labels .exit)) (now (masks .exit)) (now (queue .exit)) (now (tallies .exit)) (now (pairs .exit)) ⌝ }
+    ensures { λ r. ⌜ Divided width height (now (cells .entry)) (now (spans .entry)) (now (labels .entry)) (now (masks .entry)) (now (queue .entry))
+        (now (tallies .entry)) (now (pairs .entry)) r (now (labels .exit)) (now (masks .exit)) (now (queue .exit)) (now (tallies .exit))
+        (now (pairs .exit)) ⌝ }
 {
     let needed = height * width;
     let regions = label_regions(width, height, cells, spans, labels, masks, queue);
@@ -62,7 +64,9 @@ pub fn partition(
     tallies: &mut [u32],
     pairs: &mut [u32],
 ) -> Partitioned
-    ensures { λ r. ⌜ Ran (given width height (now (cells .entry)) (now (spans .entry)) (now (labels .entry)) (now (masks .entry)) (now (queue .entry)) (now (tallies .entry)) (now (pairs .entry))) r (now (labels .exit)) (now (masks .exit)) (now (queue .exit)) (now (tallies .exit)) (now (pairs .exit)) ⌝ }
+    ensures { λ r. ⌜ Ran (given width height (now (cells .entry)) (now (spans .entry)) (now (labels .entry)) (now (masks .entry)) (now (queue .entry))
+        (now (tallies .entry)) (now (pairs .entry))) r (now (labels .exit)) (now (masks .exit)) (now (queue .exit)) (now (tallies .exit))
+        (now (pairs .exit)) ⌝ }
 {
     let check = checks_before(
         width,

@@ -65,10 +65,10 @@ fn assess_step(
     from: usize,
     to: usize,
 ) -> BoundaryAssessment
-    requires { ⌜ (from < length (now labels)) × (to < length (now labels)) ⌝ }
-    requires { ⌜ Counting (now pairs) first (maxEdges - 1) start ⌝ }
-    ensures { λ r. ⌜ Counting (now (pairs .exit)) first (start .removed + 1) r ⌝ }
-    ensures { λ r. ⌜ Assesses (now (labels .entry)) span first (pairOf from to ∷ []) start (now (pairs .entry)) r (now (pairs .exit)) ⌝ }
+    requires labels_room { ⌜ (from < length (now labels)) × (to < length (now labels)) ⌝ }
+    requires counting { ⌜ Counting (now pairs) first (maxEdges - 1) start ⌝ }
+    ensures still_counting { λ r. ⌜ Counting (now (pairs .exit)) first (start .removed + 1) r ⌝ }
+    ensures assessed { λ r. ⌜ Assesses (now (labels .entry)) span first (pairOf from to ∷ []) start (now (pairs .entry)) r (now (pairs .exit)) ⌝ }
 {
     let left = labels[from];
     let right = labels[to];
@@ -109,10 +109,10 @@ fn assess_direction(
     dx: usize,
     dy: usize,
 ) -> BoundaryAssessment
-    requires { ⌜ Leads width height x y mask × (dx ≤ 2) × (dy ≤ 2) × (height * width ≤ length (now labels)) ⌝ }
-    requires { ⌜ Counting (now pairs) first (maxEdges - 1) start ⌝ }
-    ensures { λ r. ⌜ Counting (now (pairs .exit)) first (start .removed + 1) r ⌝ }
-    ensures { λ r. ⌜ Assesses (now (labels .entry)) span first (stepIn width x y mask (at dx dy)) start (now (pairs .entry)) r (now (pairs .exit)) ⌝ }
+    requires leads { ⌜ Leads width height x y mask × (dx ≤ 2) × (dy ≤ 2) × (height * width ≤ length (now labels)) ⌝ }
+    requires counting { ⌜ Counting (now pairs) first (maxEdges - 1) start ⌝ }
+    ensures still_counting { λ r. ⌜ Counting (now (pairs .exit)) first (start .removed + 1) r ⌝ }
+    ensures assessed { λ r. ⌜ Assesses (now (labels .entry)) span first (stepIn width x y mask (at dx dy)) start (now (pairs .entry)) r (now (pairs .exit)) ⌝ }
 {
     if !is_set(mask, dy * 3 + dx) {
         return start;
@@ -141,10 +141,10 @@ fn assess_directions(
     y: usize,
     mask: u16,
 ) -> BoundaryAssessment
-    requires { ⌜ Leads width height x y mask × (height * width ≤ length (now labels)) ⌝ }
-    requires { ⌜ Counting (now pairs) first (maxEdges - maxCellEdges) start ⌝ }
-    ensures { λ r. ⌜ Counting (now (pairs .exit)) first (start .removed + maxCellEdges) r ⌝ }
-    ensures { λ r. ⌜ Assesses (now (labels .entry)) span first (stepsIn width x y mask) start (now (pairs .entry)) r (now (pairs .exit)) ⌝ }
+    requires leads { ⌜ Leads width height x y mask × (height * width ≤ length (now labels)) ⌝ }
+    requires counting { ⌜ Counting (now pairs) first (maxEdges - maxCellEdges) start ⌝ }
+    ensures still_counting { λ r. ⌜ Counting (now (pairs .exit)) first (start .removed + maxCellEdges) r ⌝ }
+    ensures assessed { λ r. ⌜ Assesses (now (labels .entry)) span first (stepsIn width x y mask) start (now (pairs .entry)) r (now (pairs .exit)) ⌝ }
 {
     let mut a = start;
     for d in 0..8 {
@@ -181,10 +181,11 @@ fn assess_cell(
     x: usize,
     y: usize,
 ) -> BoundaryAssessment
-    requires { ⌜ Lent width height (now cells) (now labels) × Sound g × (x < width) × (y < height) ⌝ }
-    requires { ⌜ Counting (now pairs) first (maxEdges - maxCellEdges) start ⌝ }
-    ensures { λ r. ⌜ Counting (now (pairs .exit)) first (start .removed + maxCellEdges) r ⌝ }
-    ensures { λ r. ⌜ Assesses (now (labels .entry)) span first (cutFrom (gridOf width height (now (cells .entry))) (segmentOf g) (at x y)) start (now (pairs .entry)) r (now (pairs .exit)) ⌝ }
+    requires lent { ⌜ Lent width height (now cells) (now labels) × Sound g × (x < width) × (y < height) ⌝ }
+    requires counting { ⌜ Counting (now pairs) first (maxEdges - maxCellEdges) start ⌝ }
+    ensures still_counting { λ r. ⌜ Counting (now (pairs .exit)) first (start .removed + maxCellEdges) r ⌝ }
+    ensures assessed { λ r. ⌜ Assesses (now (labels .entry)) span first (cutFrom (gridOf width height (now (cells .entry))) (segmentOf g) (at x y)) start
+        (now (pairs .entry)) r (now (pairs .exit)) ⌝ }
 {
     if !is_near(width, height, cells, g, x, y) {
         return start;
@@ -210,10 +211,11 @@ fn assess_column(
     start: BoundaryAssessment,
     k: usize,
 ) -> BoundaryAssessment
-    requires { ⌜ Lent width height (now cells) (now labels) × Sound g × ColumnAsked width height strip k ⌝ }
-    requires { ⌜ Counting (now pairs) first (maxEdges - maxLineEdges) start ⌝ }
-    ensures { λ r. ⌜ Counting (now (pairs .exit)) first (start .removed + maxLineEdges) r ⌝ }
-    ensures { λ r. ⌜ Assesses (now (labels .entry)) span first (cutColumn (gridOf width height (now (cells .entry))) (segmentOf g) strip k) start (now (pairs .entry)) r (now (pairs .exit)) ⌝ }
+    requires lent { ⌜ Lent width height (now cells) (now labels) × Sound g × ColumnAsked width height strip k ⌝ }
+    requires counting { ⌜ Counting (now pairs) first (maxEdges - maxLineEdges) start ⌝ }
+    ensures still_counting { λ r. ⌜ Counting (now (pairs .exit)) first (start .removed + maxLineEdges) r ⌝ }
+    ensures assessed { λ r. ⌜ Assesses (now (labels .entry)) span first (cutColumn (gridOf width height (now (cells .entry))) (segmentOf g) strip k) start
+        (now (pairs .entry)) r (now (pairs .exit)) ⌝ }
 {
     let columns = strip.columns;
     let range = strip.minor_range(k as u64, pick(columns, height, width) as u64);
@@ -250,10 +252,11 @@ fn assess_span(
     span: u32,
     first: usize,
 ) -> BoundaryAssessment
-    requires { ⌜ Lent width height (now cells) (now labels) × Sound g × (endpointsDiffer (segmentOf g) ≡ true) ⌝ }
-    requires { ⌜ first ≤ roomOf (now pairs) + 1 ⌝ }
-    ensures { λ r. ⌜ Counting (now (pairs .exit)) first maxEdges r ⌝ }
-    ensures { λ r. ⌜ Assesses (now (labels .entry)) span first (cutSpan (gridOf width height (now (cells .entry))) (segmentOf g)) (nothing first) (now (pairs .entry)) r (now (pairs .exit)) ⌝ }
+    requires lent { ⌜ Lent width height (now cells) (now labels) × Sound g × (endpointsDiffer (segmentOf g) ≡ true) ⌝ }
+    requires first_within { ⌜ first ≤ roomOf (now pairs) + 1 ⌝ }
+    ensures still_counting { λ r. ⌜ Counting (now (pairs .exit)) first maxEdges r ⌝ }
+    ensures assessed { λ r. ⌜ Assesses (now (labels .entry)) span first (cutSpan (gridOf width height (now (cells .entry))) (segmentOf g)) (nothing first)
+        (now (pairs .entry)) r (now (pairs .exit)) ⌝ }
 {
     let strip = Strip::new(g);
     let axis = strip.axis_range(pick(strip.columns, width, height) as u64);
@@ -293,9 +296,10 @@ pub fn assess_spans(
     tallies: &mut [u32],
     pairs: &mut [u32],
 ) -> Assessed
-    requires { ⌜ Checked width height (now cells) (now spans) ⌝ }
-    requires { ⌜ AssessAsked width height (now spans) (now labels) (now tallies) ⌝ }
-    ensures { λ r. ⌜ SpansAssessed width height (now (cells .entry)) (now (spans .entry)) (now (labels .entry)) (now (tallies .entry)) (now (pairs .entry)) (now (tallies .exit)) (now (pairs .exit)) r ⌝ }
+    requires checked { ⌜ Checked width height (now cells) (now spans) ⌝ }
+    requires asked { ⌜ AssessAsked width height (now spans) (now labels) (now tallies) ⌝ }
+    ensures { λ r. ⌜ SpansAssessed width height (now (cells .entry)) (now (spans .entry)) (now (labels .entry)) (now (tallies .entry))
+        (now (pairs .entry)) (now (tallies .exit)) (now (pairs .exit)) r ⌝ }
 {
     let count = spans.len() / NUMBERS_PER_SPAN;
     let mut end = 0;

@@ -129,7 +129,8 @@ pub fn checks_before(
     tallies: usize,
     output: usize,
 ) -> Check
-    ensures { λ r. ⌜ refusalOf r ≡ earlyRefusal pass width height (now (cells .entry)) (now (spans .entry)) (now (boundaries .entry)) (now (anchors .entry)) labels masks queue tallies output ⌝ }
+    ensures { λ r. ⌜ refusalOf r ≡ earlyRefusal pass width height (now (cells .entry)) (now (spans .entry)) (now (boundaries .entry))
+        (now (anchors .entry)) labels masks queue tallies output ⌝ }
 {
     if let Check::Refused(number, place) = check_sizes(
         pass,

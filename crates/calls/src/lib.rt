@@ -37,7 +37,9 @@ fn divide(
     pairs: &mut [u32],
 ) -> Prepared
     requires { ⌜ Fit width height (now cells) (now spans) (length (now labels)) (length (now masks)) (length (now queue)) (length (now tallies)) ⌝ }
-    ensures { λ r. ⌜ DividedAs width height (now (cells .entry)) (now (spans .entry)) room (now (labels .entry)) (now (masks .entry)) (now (queue .entry)) (now (tallies .entry)) (now (pairs .entry)) r (now (labels .exit)) (now (masks .exit)) (now (queue .exit)) (now (tallies .exit)) (now (pairs .exit)) ⌝ }
+    ensures { λ r. ⌜ DividedAs width height (now (cells .entry)) (now (spans .entry)) room (now (labels .entry)) (now (masks .entry))
+        (now (queue .entry)) (now (tallies .entry)) (now (pairs .entry)) r
+        (now (labels .exit)) (now (masks .exit)) (now (queue .exit)) (now (tallies .exit)) (now (pairs .exit)) ⌝ }
 {
     let needed = height * width;
     let regions = label_regions(width, height, cells, spans, labels, masks, queue);
@@ -74,7 +76,9 @@ pub fn prepare(
     tallies: &mut [u32],
     pairs: &mut [u32],
 ) -> Prepared
-    ensures { λ r. ⌜ PreparedAs pass width height (now (cells .entry)) (now (spans .entry)) (now (boundaries .entry)) (now (anchors .entry)) room output (now (labels .entry)) (now (masks .entry)) (now (queue .entry)) (now (tallies .entry)) (now (pairs .entry)) r (now (labels .exit)) (now (masks .exit)) (now (queue .exit)) (now (tallies .exit)) (now (pairs .exit)) ⌝ }
+    ensures { λ r. ⌜ PreparedAs pass width height (now (cells .entry)) (now (spans .entry)) (now (boundaries .entry)) (now (anchors .entry)) room
+        output (now (labels .entry)) (now (masks .entry)) (now (queue .entry)) (now (tallies .entry)) (now (pairs .entry)) r
+        (now (labels .exit)) (now (masks .exit)) (now (queue .exit)) (now (tallies .exit)) (now (pairs .exit)) ⌝ }
 {
     let check = checks_before(
         pass,

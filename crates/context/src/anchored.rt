@@ -17,8 +17,8 @@ fn index_of(x: u64) -> usize
 
 // The number of anchor i's cell.
 fn anchor_cell(width: usize, anchors: &[u64], i: usize) -> usize
-    requires { ⌜ (width ≤ maxSide) × (numbersPerAnchor * i + 1 < length (now anchors)) ⌝ }
-    requires { ⌜ (getD (now anchors) (numbersPerAnchor * i) 0 < maxSide) × (getD (now anchors) (numbersPerAnchor * i + 1) 0 < maxSide) ⌝ }
+    requires sizes { ⌜ (width ≤ maxSide) × (numbersPerAnchor * i + 1 < length (now anchors)) ⌝ }
+    requires places { ⌜ (getD (now anchors) (numbersPerAnchor * i) 0 < maxSide) × (getD (now anchors) (numbersPerAnchor * i + 1) 0 < maxSide) ⌝ }
     ensures { λ r. ⌜ r ≡ anchorCell width (now (anchors .entry)) i ⌝ }
 {
     let x = index_of(anchors[NUMBERS_PER_ANCHOR * i]);
@@ -38,7 +38,8 @@ fn mark_label(marks: &mut [u16], label: usize)
 
 pub fn mark_anchored(width: usize, labels: &[u32], anchors: &[u64], marks: &mut [u16])
     requires { ⌜ AnchorsFit width (now labels) (now anchors) (length (now marks)) ⌝ }
-    ensures { λ r. ⌜ now (marks .exit) ≡ markCells (now (labels .entry)) (now (marks .entry)) (anchorCells width (now (anchors .entry)) (length (now (anchors .entry)) / numbersPerAnchor)) ⌝ }
+    ensures { λ r. ⌜ now (marks .exit) ≡ markCells (now (labels .entry)) (now (marks .entry))
+        (anchorCells width (now (anchors .entry)) (length (now (anchors .entry)) / numbersPerAnchor)) ⌝ }
 {
     let count = anchors.len() / NUMBERS_PER_ANCHOR;
     let mut i = 0;

@@ -54,8 +54,8 @@ fn counted(entry: u32, span: u32) -> u32
 }
 
 fn count_region(counts: &mut [u32], r: u32, span: u32)
-    requires { ⌜ (1 ≤ r) × (r ≤ length (now counts)) ⌝ }
-    requires { ⌜ (span < maxEntries) × Packed span (now counts) ⌝ }
+    requires r_named { ⌜ (1 ≤ r) × (r ≤ length (now counts)) ⌝ }
+    requires places { ⌜ (span < maxEntries) × Packed span (now counts) ⌝ }
     ensures { λ x. ⌜ now (counts .exit) ≡ countRegion span (now (counts .entry)) r ⌝ }
 {
     let k = wide(r) - 1;
@@ -63,8 +63,8 @@ fn count_region(counts: &mut [u32], r: u32, span: u32)
 }
 
 fn count_pair(pairs: &[u32], k: usize, span: u32, counts: &mut [u32])
-    requires { ⌜ NamedRow (now pairs) (length (now counts)) k ⌝ }
-    requires { ⌜ (span < maxEntries) × Packed span (now counts) ⌝ }
+    requires named_row { ⌜ NamedRow (now pairs) (length (now counts)) k ⌝ }
+    requires places { ⌜ (span < maxEntries) × Packed span (now counts) ⌝ }
     ensures { λ x. ⌜ now (counts .exit) ≡ countPair span (now (counts .entry)) (pairAt (now (pairs .entry)) k) ⌝ }
 {
     count_region(&mut *counts, pairs[NUMBERS_PER_PAIR * k + 1], span);
@@ -73,9 +73,9 @@ fn count_pair(pairs: &[u32], k: usize, span: u32, counts: &mut [u32])
 
 // The regions that the rows from `first` on, before `end`, name.
 fn count_rows(pairs: &[u32], first: usize, end: usize, span: u32, counts: &mut [u32])
-    requires { ⌜ first ≤ end ⌝ }
-    requires { ⌜ ((k : ℕ) → first ≤ k → k < end → NamedRow (now pairs) (length (now counts)) k) ⌝ }
-    requires { ⌜ (span < maxEntries) × Packed span (now counts) ⌝ }
+    requires ordered { ⌜ first ≤ end ⌝ }
+    requires named_rows { ⌜ ((k : ℕ) → first ≤ k → k < end → NamedRow (now pairs) (length (now counts)) k) ⌝ }
+    requires places { ⌜ (span < maxEntries) × Packed span (now counts) ⌝ }
     ensures { λ x. ⌜ now (counts .exit) ≡ countPairs span (now (counts .entry)) (pairsBetween (now (pairs .entry)) first end) ⌝ }
 {
     let mut k = first;
@@ -87,8 +87,8 @@ fn count_rows(pairs: &[u32], first: usize, end: usize, span: u32, counts: &mut [
 
 // Every span's rows, each span once for each region that it names.
 fn count_spans(pairs: &[u32], starts: &[usize; 257], count: usize, counts: &mut [u32])
-    requires { ⌜ NamedRows (now pairs) (now starts) count (length (now counts)) ⌝ }
-    requires { ⌜ ((k : ℕ) → getD (now counts) k 0 ≡ 0) ⌝ }
+    requires named_rows { ⌜ NamedRows (now pairs) (now starts) count (length (now counts)) ⌝ }
+    requires counts_clear { ⌜ ((k : ℕ) → getD (now counts) k 0 ≡ 0) ⌝ }
     ensures { λ x. ⌜ now (counts .exit) ≡ countSpans (spanPairs (now (pairs .entry)) (now (starts .entry))) count (now (counts .entry)) ⌝ }
 {
     let mut i = 0;
@@ -112,8 +112,8 @@ fn unpack(counts: &mut [u32])
 }
 
 fn count_regions(pairs: &[u32], starts: &[usize; 257], count: usize, counts: &mut [u32])
-    requires { ⌜ NamedRows (now pairs) (now starts) count (length (now counts)) ⌝ }
-    requires { ⌜ ((k : ℕ) → getD (now counts) k 0 ≡ 0) ⌝ }
+    requires named_rows { ⌜ NamedRows (now pairs) (now starts) count (length (now counts)) ⌝ }
+    requires counts_clear { ⌜ ((k : ℕ) → getD (now counts) k 0 ≡ 0) ⌝ }
     ensures { λ x. ⌜ now (counts .exit) ≡ map unpacked (countSpans (spanPairs (now (pairs .entry)) (now (starts .entry))) count (now (counts .entry))) ⌝ }
 {
     count_spans(pairs, starts, count, &mut *counts);
@@ -128,10 +128,14 @@ pub fn count_incidents(
     regions: usize,
     counts: &mut [u32],
 )
-    requires { ⌜ NamedRows (now pairs) (now starts) count regions ⌝ }
-    requires { ⌜ (regions ≤ length (now counts)) × ((k : ℕ) → k < regions → getD (now counts) k 0 ≡ 0) ⌝ }
-    ensures { λ x. ⌜ ((C : Context) → C .count ≡ count → C .regions ≡ regions → ShownPairs C (now (pairs .entry)) (now (starts .entry)) → ShownIncidents C (now (counts .exit))) ⌝ }
-    ensures { λ x. ⌜ Beyond regions (now (counts .entry)) (now (counts .exit)) ⌝ }
+    requires named_rows { ⌜ NamedRows (now pairs) (now starts) count regions ⌝ }
+    requires sizes { ⌜ (regions ≤ length (now counts)) × ((k : ℕ) → k < regions → getD (now counts) k 0 ≡ 0) ⌝ }
+    ensures shown { λ x. ⌜ ((C : Context) →
+        C .count ≡ count →
+        C .regions ≡ regions →
+        ShownPairs C (now (pairs .entry)) (now (starts .entry)) →
+        ShownIncidents C (now (counts .exit))) ⌝ }
+    ensures beyond { λ x. ⌜ Beyond regions (now (counts .entry)) (now (counts .exit)) ⌝ }
 {
     count_regions(pairs, starts, count, &mut counts[..regions]);
 }

@@ -26,8 +26,8 @@ pub fn wide(x: u32) -> usize
 
 // The first row from `first` on whose span is another; `rows` where there is none.
 fn span_end(pairs: &[u32], rows: usize, first: usize, span: usize) -> usize
-    requires { ⌜ numbersPerPair * rows ≤ length (now pairs) ⌝ }
-    requires { ⌜ first ≤ rows ⌝ }
+    requires pairs_room { ⌜ numbersPerPair * rows ≤ length (now pairs) ⌝ }
+    requires ordered { ⌜ first ≤ rows ⌝ }
     ensures { λ r. ⌜ SpanEnd (now (pairs .entry)) rows first span r ⌝ }
 {
     let mut k = first;
@@ -42,8 +42,8 @@ fn span_end(pairs: &[u32], rows: usize, first: usize, span: usize) -> usize
 
 // The first row of each span, and the end of the last.
 pub fn pair_starts(pairs: &[u32], rows: usize, count: usize, starts: &mut [usize; 257])
-    requires { ⌜ numbersPerPair * rows ≤ length (now pairs) ⌝ }
-    requires { ⌜ (count ≤ maxEntries) × (length (now starts) ≡ maxEntries + 1) ⌝ }
+    requires pairs_room { ⌜ numbersPerPair * rows ≤ length (now pairs) ⌝ }
+    requires sizes { ⌜ (count ≤ maxEntries) × (length (now starts) ≡ maxEntries + 1) ⌝ }
     ensures { λ r. ⌜ ((C : Context) → PairRows C (now (pairs .entry)) rows count → ShownPairs C (now (pairs .entry)) (now (starts .exit))) ⌝ }
 {
     let mut k = 0;
@@ -67,9 +67,13 @@ pub fn full_cut(tallies: &[u32], i: usize) -> bool
 }
 
 pub fn full_pair(tallies: &[u32], pairs: &[u32], starts: &[usize; 257], i: usize) -> FullPair
-    requires { ⌜ talliesPerSpan * i + 1 < length (now tallies) ⌝ }
-    requires { ⌜ Stretch (now pairs) (now starts) i ⌝ }
-    ensures { λ r. ⌜ ((C : Context) → ShownTallies C (now (tallies .entry)) → ShownPairs C (now (pairs .entry)) (now (starts .entry)) → i < C .count → fullPairOf r ≡ fullPair C i) ⌝ }
+    requires tallies_room { ⌜ talliesPerSpan * i + 1 < length (now tallies) ⌝ }
+    requires stretch { ⌜ Stretch (now pairs) (now starts) i ⌝ }
+    ensures { λ r. ⌜ ((C : Context) →
+        ShownTallies C (now (tallies .entry)) →
+        ShownPairs C (now (pairs .entry)) (now (starts .entry)) →
+        i < C .count →
+        fullPairOf r ≡ fullPair C i) ⌝ }
 {
     let first = starts[i];
     let end = starts[i + 1];
@@ -113,10 +117,14 @@ pub fn full_pairs(
     smaller: &mut [u32; 256],
     larger: &mut [u32; 256],
 )
-    requires { ⌜ (count ≤ maxEntries) × (talliesPerSpan * count ≤ length (now tallies)) ⌝ }
-    requires { ⌜ (length (now smaller) ≡ maxEntries) × (length (now larger) ≡ maxEntries) ⌝ }
-    requires { ⌜ ((i : ℕ) → i < count → Stretch (now pairs) (now starts) i) ⌝ }
-    ensures { λ r. ⌜ ((C : Context) → C .count ≡ count → ShownTallies C (now (tallies .entry)) → ShownPairs C (now (pairs .entry)) (now (starts .entry)) → ShownFullPairs C (now (smaller .exit)) (now (larger .exit))) ⌝ }
+    requires sizes { ⌜ (count ≤ maxEntries) × (talliesPerSpan * count ≤ length (now tallies)) ⌝ }
+    requires room { ⌜ (length (now smaller) ≡ maxEntries) × (length (now larger) ≡ maxEntries) ⌝ }
+    requires stretches { ⌜ ((i : ℕ) → i < count → Stretch (now pairs) (now starts) i) ⌝ }
+    ensures { λ r. ⌜ ((C : Context) →
+        C .count ≡ count →
+        ShownTallies C (now (tallies .entry)) →
+        ShownPairs C (now (pairs .entry)) (now (starts .entry)) →
+        ShownFullPairs C (now (smaller .exit)) (now (larger .exit))) ⌝ }
 {
     let mut i = 0;
     while i < count {

@@ -70,8 +70,8 @@ fn one_at(e: usize, place: usize) -> usize
 
 // One more at the place e. All four are added to: a store at a place that varies would have each cell copy the whole record in memory.
 fn one_more(counts: [usize; 4], e: usize) -> [usize; 4]
-    requires { ⌜ ((k : ℕ) → getD counts k 0 ≤ maxCells) ⌝ }
-    requires { ⌜ e < 4 ⌝ }
+    requires counts_small { ⌜ ((k : ℕ) → getD counts k 0 ≤ maxCells) ⌝ }
+    requires e_within { ⌜ e < 4 ⌝ }
     ensures { λ r. ⌜ r ≡ set counts e (getD counts e 0 + 1) ⌝ }
 {
     [

@@ -81,8 +81,8 @@ pub fn is_near(
     y: usize,
 ) -> bool
     requires { ⌜ CellAsked width height (now cells) g x y ⌝ }
-    ensures { λ r. ⌜ (r ≡ true → walkable (gridOf width height (now (cells .entry))) (at x y) ≡ true) ⌝ }
-    ensures { λ r. ⌜ (r ≡ false → CutDirections width height (now (cells .entry)) (segmentOf g) x y 0) ⌝ }
+    ensures where_true { λ r. ⌜ (r ≡ true → walkable (gridOf width height (now (cells .entry))) (at x y) ≡ true) ⌝ }
+    ensures where_false { λ r. ⌜ (r ≡ false → CutDirections width height (now (cells .entry)) (segmentOf g) x y 0) ⌝ }
 {
     if cells[y * width + x] % 2 != 1 {
         return false;
@@ -108,8 +108,8 @@ fn is_cut_onward(
     dx: usize,
     dy: usize,
 ) -> bool
-    requires { ⌜ OnwardAsked width height (now cells) g x y dx dy ⌝ }
-    requires { ⌜ (inner ≡ true → Inner width height x y) ⌝ }
+    requires asked { ⌜ OnwardAsked width height (now cells) g x y dx dy ⌝ }
+    requires inner_cell { ⌜ (inner ≡ true → Inner width height x y) ⌝ }
     ensures { λ r. ⌜ r ≡ isCutOnward (gridOf width height (now (cells .entry))) (segmentOf g) (at x y) (at dx dy) ⌝ }
 {
     if !is_inside(inner, width, height, x, y, dx, dy) {
@@ -131,8 +131,8 @@ fn is_cut_east(
     x: usize,
     y: usize,
 ) -> bool
-    requires { ⌜ OnwardAsked width height (now cells) g x y 2 1 ⌝ }
-    requires { ⌜ (inner ≡ true → Inner width height x y) ⌝ }
+    requires asked { ⌜ OnwardAsked width height (now cells) g x y 2 1 ⌝ }
+    requires inner_cell { ⌜ (inner ≡ true → Inner width height x y) ⌝ }
     ensures { λ r. ⌜ r ≡ isCutOnward (gridOf width height (now (cells .entry))) (segmentOf g) (at x y) (at 2 1) ⌝ }
 {
     if is_far_eastward(g, x, y) {
@@ -164,8 +164,8 @@ pub fn cut_directions(
     x: usize,
     y: usize,
 ) -> u16
-    requires { ⌜ CellAsked width height (now cells) g x y ⌝ }
-    requires { ⌜ walkable (gridOf width height (now cells)) (at x y) ≡ true ⌝ }
+    requires asked { ⌜ CellAsked width height (now cells) g x y ⌝ }
+    requires walkable_cell { ⌜ walkable (gridOf width height (now cells)) (at x y) ≡ true ⌝ }
     ensures { λ r. ⌜ CutDirections width height (now (cells .entry)) (segmentOf g) x y r ⌝ }
 {
     let inner = is_inner(width, height, x, y);

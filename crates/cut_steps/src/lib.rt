@@ -35,7 +35,8 @@ fn mark_direction(
     dy: usize,
 )
     requires { ⌜ DirectionAsked width height (now masks) directions x y dx dy ⌝ }
-    ensures { λ r. ⌜ now (masks .exit) ≡ cond (isSet directions (bitOf (at dx dy))) (bothBits width (now (masks .entry)) (at x y) (at dx dy)) (now (masks .entry)) ⌝ }
+    ensures { λ r. ⌜ now (masks .exit) ≡ cond (isSet directions (bitOf (at dx dy))) (bothBits width (now (masks .entry)) (at x y) (at dx dy))
+        (now (masks .entry)) ⌝ }
 {
     let k = dy * 3 + dx;
     if is_set(directions, k) {
@@ -57,7 +58,8 @@ fn mark_cell(
     y: usize,
 )
     requires { ⌜ MarkAsked width height (now cells) (now masks) g × (x < width) × (y < height) ⌝ }
-    ensures { λ r. ⌜ Marked (gridOf width height (now (cells .entry))) (now (masks .entry)) (now (masks .exit)) (cutFrom (gridOf width height (now (cells .entry))) (segmentOf g) (at x y)) ⌝ }
+    ensures { λ r. ⌜ Marked (gridOf width height (now (cells .entry))) (now (masks .entry))
+        (now (masks .exit)) (cutFrom (gridOf width height (now (cells .entry))) (segmentOf g) (at x y)) ⌝ }
 {
     if !is_near(width, height, cells, g, x, y) {
         return;
@@ -90,7 +92,8 @@ fn mark_column(
     k: usize,
 )
     requires { ⌜ MarkAsked width height (now cells) (now masks) g × ColumnAsked width height strip k ⌝ }
-    ensures { λ r. ⌜ Marked (gridOf width height (now (cells .entry))) (now (masks .entry)) (now (masks .exit)) (cutColumn (gridOf width height (now (cells .entry))) (segmentOf g) strip k) ⌝ }
+    ensures { λ r. ⌜ Marked (gridOf width height (now (cells .entry))) (now (masks .entry))
+        (now (masks .exit)) (cutColumn (gridOf width height (now (cells .entry))) (segmentOf g) strip k) ⌝ }
 {
     let columns = strip.columns;
     let range = strip.minor_range(k as u64, pick(columns, height, width) as u64);
@@ -113,7 +116,8 @@ fn mark_column(
 // The cut steps of one span.
 fn mark_span(width: usize, height: usize, cells: &[u8], g: SpanGeometry, masks: &mut [u16])
     requires { ⌜ MarkAsked width height (now cells) (now masks) g × SpanAsked width height g ⌝ }
-    ensures { λ r. ⌜ Marked (gridOf width height (now (cells .entry))) (now (masks .entry)) (now (masks .exit)) (cutSpan (gridOf width height (now (cells .entry))) (segmentOf g)) ⌝ }
+    ensures { λ r. ⌜ Marked (gridOf width height (now (cells .entry))) (now (masks .entry))
+        (now (masks .exit)) (cutSpan (gridOf width height (now (cells .entry))) (segmentOf g)) ⌝ }
 {
     let strip = Strip::new(g);
     let axis = strip.axis_range(pick(strip.columns, width, height) as u64);
@@ -136,8 +140,8 @@ pub fn span_at(spans: &[u64], i: usize) -> SpanGeometry
 
 // The cut steps of all spans, in masks of zeros.
 pub fn mark_spans(width: usize, height: usize, cells: &[u8], spans: &[u64], masks: &mut [u16])
-    requires { ⌜ Checked width height (now cells) (now spans) ⌝ }
-    requires { ⌜ (height * width ≤ length (now masks)) × ((c : ℕ) → c < height * width → getD (now masks) c 0 ≡ 0) ⌝ }
+    requires checked { ⌜ Checked width height (now cells) (now spans) ⌝ }
+    requires sizes { ⌜ (height * width ≤ length (now masks)) × ((c : ℕ) → c < height * width → getD (now masks) c 0 ≡ 0) ⌝ }
     ensures { λ r. ⌜ SpansMarked width height (now (cells .entry)) (now (spans .entry)) (now (masks .entry)) (now (masks .exit)) ⌝ }
 {
     let count = spans.len() / NUMBERS_PER_SPAN;

@@ -21,15 +21,15 @@ pub struct Dominance {
 // Which of two elevations has more cells; of equal counts the former.
 fn more_common(counts: [usize; 4], best: usize, e: usize) -> usize
     requires { ⌜ (best < 4) × (e < 4) ⌝ }
-    ensures { λ r. ⌜ r ≡ better counts best e ⌝ }
-    ensures { λ r. ⌜ r < 4 ⌝ }
+    ensures answer { λ r. ⌜ r ≡ better counts best e ⌝ }
+    ensures bound { λ r. ⌜ r < 4 ⌝ }
 {
     if counts[best] < counts[e] { e } else { best }
 }
 
 fn most_common_elevation(counts: [usize; 4]) -> usize
-    ensures { λ r. ⌜ r ≡ mostCommonElevation counts ⌝ }
-    ensures { λ r. ⌜ r < 4 ⌝ }
+    ensures answer { λ r. ⌜ r ≡ mostCommonElevation counts ⌝ }
+    ensures bound { λ r. ⌜ r < 4 ⌝ }
 {
     more_common(counts, more_common(counts, more_common(counts, 0, 1), 2), 3)
 }

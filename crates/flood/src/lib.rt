@@ -18,8 +18,8 @@ const DIRECTIONS: u64 = 0x08_06_02_00_07_05_03_01;
 // The place of direction d.
 pub fn place_at(d: usize) -> usize
     requires { ⌜ d < 8 ⌝ }
-    ensures { λ r. ⌜ placed r ≡ directionAt d ⌝ }
-    ensures { λ r. ⌜ r < 9 ⌝ }
+    ensures direction { λ r. ⌜ placed r ≡ directionAt d ⌝ }
+    ensures bound { λ r. ⌜ r < 9 ⌝ }
 {
     ((DIRECTIONS >> (8 * d)) % 256) as usize
 }
@@ -58,8 +58,8 @@ pub fn is_inside(
     dx: usize,
     dy: usize,
 ) -> bool
-    requires { ⌜ Nearby width height x y dx dy ⌝ }
-    requires { ⌜ (inner ≡ true → Inner width height x y) ⌝ }
+    requires nearby { ⌜ Nearby width height x y dx dy ⌝ }
+    requires inner_cell { ⌜ (inner ≡ true → Inner width height x y) ⌝ }
     ensures { λ r. ⌜ Says r (Inside width height x y dx dy) ⌝ }
 {
     if inner {
@@ -103,8 +103,8 @@ pub fn is_step(
 
 // Whether bit k of cell c's mask is set.
 pub fn is_cut(masks: &[u16], c: usize, k: usize) -> bool
-    requires { ⌜ c < length (now masks) ⌝ }
-    requires { ⌜ k < 9 ⌝ }
+    requires masks_room { ⌜ c < length (now masks) ⌝ }
+    requires k_within { ⌜ k < 9 ⌝ }
     ensures { λ r. ⌜ r ≡ cutBit (now (masks .entry)) c k ⌝ }
 {
     (masks[c] >> k) % 2 == 1
@@ -112,8 +112,8 @@ pub fn is_cut(masks: &[u16], c: usize, k: usize) -> bool
 
 // Sets bit k of cell c's mask.
 pub fn mark(masks: &mut [u16], c: usize, k: usize)
-    requires { ⌜ c < length (now masks) ⌝ }
-    requires { ⌜ k < 9 ⌝ }
+    requires masks_room { ⌜ c < length (now masks) ⌝ }
+    requires k_within { ⌜ k < 9 ⌝ }
     ensures { λ r. ⌜ now (masks .exit) ≡ withBit (now (masks .entry)) c k ⌝ }
 {
     masks[c] = masks[c] | (1 << k);
@@ -172,7 +172,8 @@ fn spread(
     tail: usize,
 ) -> usize
     requires { ⌜ Ready width height (now cells) (now masks) id (now labels) (now queue) head tail ⌝ }
-    ensures { λ r. ⌜ Ran (graphOf (gridOf width height (now (cells .entry))) (now (masks .entry))) id (now (labels .entry)) (now (queue .entry)) tail (now (labels .exit)) (now (queue .exit)) (head + 1) 0 r ⌝ }
+    ensures { λ r. ⌜ Ran (graphOf (gridOf width height (now (cells .entry))) (now (masks .entry))) id (now (labels .entry)) (now (queue .entry)) tail
+        (now (labels .exit)) (now (queue .exit)) (head + 1) 0 r ⌝ }
 {
     let c = wide(queue[head]);
     let x = c % width;
@@ -213,7 +214,8 @@ fn drain(
     tail: usize,
 ) -> usize
     requires { ⌜ Ready width height (now cells) (now masks) id (now labels) (now queue) head tail ⌝ }
-    ensures { λ r. ⌜ Ran (graphOf (gridOf width height (now (cells .entry))) (now (masks .entry))) id (now (labels .entry)) (now (queue .entry)) tail (now (labels .exit)) (now (queue .exit)) r 0 r ⌝ }
+    ensures { λ r. ⌜ Ran (graphOf (gridOf width height (now (cells .entry))) (now (masks .entry))) id (now (labels .entry)) (now (queue .entry)) tail
+        (now (labels .exit)) (now (queue .exit)) r 0 r ⌝ }
 {
     let mut end = tail;
     let mut at = head;
@@ -233,9 +235,11 @@ pub fn flood(
     labels: &mut [u32],
     queue: &mut [u32],
 ) -> usize
-    requires { ⌜ Lent width height (now cells) (now masks) (now labels) (now queue) ⌝ }
-    requires { ⌜ Masked width height (now cells) (now masks) ⌝ }
-    ensures { λ r. ⌜ ((M : Map) → CutMap width height (now (cells .entry)) (now (masks .entry)) M → Flooded M (now (labels .entry)) (now (queue .entry)) (now (labels .exit)) (now (queue .exit)) r) ⌝ }
+    requires lent { ⌜ Lent width height (now cells) (now masks) (now labels) (now queue) ⌝ }
+    requires masked { ⌜ Masked width height (now cells) (now masks) ⌝ }
+    ensures { λ r. ⌜ ((M : Map) →
+        CutMap width height (now (cells .entry)) (now (masks .entry)) M →
+        Flooded M (now (labels .entry)) (now (queue .entry)) (now (labels .exit)) (now (queue .exit)) r) ⌝ }
 {
     let n = height * width;
     let mut id: u32 = 0;

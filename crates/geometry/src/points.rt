@@ -64,7 +64,8 @@ fn nearest_point(p: Point, a: Point, b: Point) -> Point
 
 // How far p is from the segment from a to b.
 pub fn point_segment_distance(p: Point, a: Point, b: Point) -> f64
-    ensures { λ r. ⌜ (DistanceInRange (pointForm p) (nearestPoint (pointForm p) (pointForm a) (pointForm b)) → r ≡ pointSegmentDistance (pointForm p) (pointForm a) (pointForm b)) ⌝ }
+    ensures { λ r. ⌜ (DistanceInRange (pointForm p) (nearestPoint (pointForm p) (pointForm a) (pointForm b)) →
+        r ≡ pointSegmentDistance (pointForm p) (pointForm a) (pointForm b)) ⌝ }
 {
     distance(p, nearest_point(p, a, b))
 }

@@ -17,7 +17,7 @@ use Rattle.laws.specs.FloatLaws.PatternOrder.{magnitude-le}
 
 -- ---- the squares of q, of q + 1 and of twice the middle, in square units
 
-square-out : (q Z : ℕ) → q * Z * (q * Z) ≡ q * q * (Z * Z)
+pub square-out : (q Z : ℕ) → q * Z * (q * Z) ≡ q * q * (Z * Z)
 square-out q Z = mul-mul-mul-comm q Z q Z
 
 next-square : (q Z : ℕ) → (q + 1) * Z * ((q + 1) * Z) ≡ q * q * (Z * Z) + (q * (Z * Z) + q * (Z * Z)) + Z * Z

@@ -3,7 +3,7 @@
 use mathlib.Core.Path.{_≡_, refl, sym, ap, _∙_, subst}
 use mathlib.Core.Logic.{_⊎_, inl, inr}
 use Prim.Native.Nat.{ℕ, _+_, _-_, _*_, _%_, _^_, _≤_, _<_}
-use native.Mathlib.Nat.{one-mul, two-mul, add-assoc, add-comm, add-left-comm, mul-assoc, mul-left-comm, mul-mul-mul-comm, mul-add, add-mul, mul-le-mul-left}
+use native.Mathlib.Nat.{one-mul, two-mul, add-assoc, add-comm, add-left-comm, mul-assoc, mul-left-comm, mul-add, add-mul, mul-le-mul-left}
 use native.Mathlib.Omega.{arith}
 use mathlib.Core.Bool.{false}
 use lib.Pow.{pow-add, pow-pos}
@@ -13,6 +13,7 @@ use Rattle.laws.specs.FloatLaws.Patterns.{made}
 use Rattle.laws.specs.NumberLaws.Squares.{square-le, square-next, square-twice, lt-of-squares}
 use Rattle.hypotenuse.specs.Rounding.{Rounded, down, up, tie}
 use Rattle.hypotenuse.proofs.Rounds.{Measured, went-down, went-up, tied}
+use Rattle.hypotenuse.proofs.Apart.{square-out}
 
 abbrev pub total : (k x y gap : ℕ) → ℕ
 total k x y gap = x * 2 ^ k * (x * 2 ^ k) + y * 2 ^ (k - gap) * (y * 2 ^ (k - gap))
@@ -51,9 +52,6 @@ sorted a h l P U = simp (add-mul, mul-assoc, mul-left-comm, add-assoc, add-comm,
 four : (m z : ℕ) → 4 * (m * z * (m * z)) ≡ 2 * m * z * (2 * m * z)
 four m z = sym (ap (λ (w : ℕ). w * w) (mul-assoc 2 m z) ∙ square-twice (m * z))
 
-factor : (m z : ℕ) → m * z * (m * z) ≡ m * m * (z * z)
-factor m z = mul-mul-mul-comm m z m z
-
 module _ {k x y gap high lost F t rest : ℕ} (n : Near k x y gap high lost F t rest) where
   abbrev P : ℕ
   P = 2 ^ gap
@@ -68,7 +66,7 @@ module _ {k x y gap high lost F t rest : ℕ} (n : Near k x y gap high lost F t 
   four-times =
       mul-add 4 (x * 2 ^ k * (x * 2 ^ k)) (y * U * (y * U))
       ∙ (λ i. four x (2 ^ k) i + four y U i)
-      ∙ (λ i. 2 * x * powers k gap (n .gap-k) i * (2 * x * powers k gap (n .gap-k) i) + factor (2 * y) U i)
+      ∙ (λ i. 2 * x * powers k gap (n .gap-k) i * (2 * x * powers k gap (n .gap-k) i) + square-out (2 * y) U i)
       ∙ ap (λ (z : ℕ). 2 * x * (P * U) * (2 * x * (P * U)) + z * (U * U)) (sym (n .shifted) ∙ ap (λ (z : ℕ). high * z + lost) P-square)
       ∙ sorted (2 * x) high lost P U
       ∙ ap (λ (z : ℕ). (z * (P * P) + lost) * (U * U)) (sym (n .sum))

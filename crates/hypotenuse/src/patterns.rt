@@ -113,10 +113,11 @@ fn near_pattern(k: u64, x: u64, y: u64, gap: u64, start: u64) -> u64
 
 // The pattern of the double nearest to the root of two patterns' squares. Where the exponents are more than MAX_GAP apart it is the larger: the root is less than half a unit above it.
 fn root_pattern(larger: u64, smaller: u64) -> u64
-    requires { ⌜ T (patternInRange larger) ⌝ }
-    requires { ⌜ T (patternInRange smaller) ⌝ }
-    requires { ⌜ smaller ≤ larger ⌝ }
-    ensures { λ r. ⌜ (ofBits binary64 r ≡ rootOf (patternMagnitude larger * patternMagnitude larger + patternMagnitude smaller * patternMagnitude smaller)) × (r < 2047 * 2 ^ 52) ⌝ }
+    requires larger_in_range { ⌜ T (patternInRange larger) ⌝ }
+    requires smaller_in_range { ⌜ T (patternInRange smaller) ⌝ }
+    requires smaller_within { ⌜ smaller ≤ larger ⌝ }
+    ensures { λ r. ⌜ (ofBits binary64 r ≡ rootOf (patternMagnitude larger * patternMagnitude larger
+        + patternMagnitude smaller * patternMagnitude smaller)) × (r < 2047 * 2 ^ 52) ⌝ }
 {
     if larger == 0 {
         return 0;
@@ -138,8 +139,8 @@ fn root_pattern(larger: u64, smaller: u64) -> u64
 
 // The same of two patterns in any order.
 pub fn hypotenuse_pattern(a: u64, b: u64) -> u64
-    requires { ⌜ T (patternInRange a) ⌝ }
-    requires { ⌜ T (patternInRange b) ⌝ }
+    requires a_in_range { ⌜ T (patternInRange a) ⌝ }
+    requires b_in_range { ⌜ T (patternInRange b) ⌝ }
     ensures { λ r. ⌜ (ofBits binary64 r ≡ rootOf (patternMagnitude a * patternMagnitude a + patternMagnitude b * patternMagnitude b)) × (r < 2047 * 2 ^ 52) ⌝ }
 {
     let mut larger = a;

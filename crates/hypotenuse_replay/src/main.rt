@@ -126,7 +126,8 @@ fn report(line: u64) {
 // Counts the lines of s on top of those before, and lists the first that have another answer.
 fn replay(s: &[u8], before: Tally) -> Tally
     requires { ⌜ (before .answers ≤ before .lines) × (before .lines + length (now s) < 2 ^ 64) ⌝ }
-    ensures { λ r. ⌜ (r .lines ≡ before .lines + linesIn (now (s .entry))) × (r .answers ≡ before .answers + answersIn [] (now (s .entry))) × (r .answers ≤ r .lines) × (r .lines ≤ before .lines + length (now (s .entry))) × (r .used ≤ length (now (s .entry))) ⌝ }
+    ensures { λ r. ⌜ (r .lines ≡ before .lines + linesIn (now (s .entry))) × (r .answers ≡ before .answers + answersIn [] (now (s .entry)))
+        × (r .answers ≤ r .lines) × (r .lines ≤ before .lines + length (now (s .entry))) × (r .used ≤ length (now (s .entry))) ⌝ }
 {
     let mut lines = before.lines;
     let mut answers = before.answers;

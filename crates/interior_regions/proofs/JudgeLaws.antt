@@ -8,7 +8,7 @@ use mathlib.Core.Logic.{⊎-elim}
 use mathlib.Core.List.{List, [], _∷_}
 use lib.ListN.{getD}
 use lib.Dec.{eqb, ltb, leb}
-use borrow.Author.Tests.{eq-eqb, eqb-true, leb-true, ltb-true, ltb-false, le-leb}
+use borrow.Author.Tests.{eq-eqb, eqb-true, leb-true, ltb-true, ltb-false, le-leb, not-true}
 use Rattle.definitions.specs.Scan.{any, all, member, anyBelow, allBelow}
 use Rattle.definitions.specs.RegionRecord.{hasRamp}
 use Rattle.definitions.specs.Context.{Context}
@@ -24,7 +24,6 @@ use Rattle.ramp_interiors.specs.Owners.{several, edge, Owners}
 use Rattle.ramp_interiors.specs.Leaves.{Inside}
 use Rattle.ramp_interiors.specs.Proposals.{expandedOf, proposedPorts, isFirst, foundPorts, recordsFit}
 use Rattle.ramp_interiors.specs.declared.ports.Ports.the-variants as ports
-use Rattle.ramp_interiors.proofs.Bools.{negated}
 use Rattle.ramp_interiors.proofs.RowScans.{all-holds}
 use Rattle.ramp_interiors.proofs.CandidateLaws.{edge-owned, candidate-unspoilt}
 use Rattle.ramp_interiors.proofs.NoConflict.{Fit}
@@ -141,7 +140,7 @@ module _ {C : Context} (S : Sound C) (owners : List ℕ) (O : Owners C owners) (
       F = found-fit e
 
       alone : anyBelow i (λ j. eqb (getD owners j 0) owner) ≡ false
-      alone = negated (anyBelow i (λ j. eqb (getD owners j 0) owner)) (both (not (eqb owner 0 || eqb owner several)) (not (anyBelow i (λ j. eqb (getD owners j 0) owner))) (found-first C owners i e .0) .1)
+      alone = not-true (anyBelow i (λ j. eqb (getD owners j 0) owner)) (both (not (eqb owner 0 || eqb owner several)) (not (anyBelow i (λ j. eqb (getD owners j 0) owner))) (found-first C owners i e .0) .1)
 
       edges : (j : ℕ) → j < C .count → edge C owner j ≡ true → (low ≤ j) × (j < high)
       edges j m d = (after (ltb j i) refl, before (ltb j n) refl)

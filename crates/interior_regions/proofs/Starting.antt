@@ -1,20 +1,16 @@
 -- What is known once components are named, and once owners are found. Assumes nothing.
-use Prim.Native.Nat.{ℕ, suc}
+use Prim.Native.Nat.{ℕ}
 use native.Mathlib.Omega.{arith}
-use mathlib.Core.Path.{_≡_, ap, _∙_}
+use mathlib.Core.Path.{ap}
 use mathlib.Core.List.{List}
-use lib.ListN.{length}
 use lib.Dec.{eqb}
-use Rattle.definitions.specs.Scan.{run}
 use Rattle.definitions.specs.Context.{Context}
-use Rattle.definitions.specs.RampInteriors.{links, components}
-use Rattle.laws.specs.ListLaws.Lists.{length-run}
-use Rattle.laws.specs.RegionLaws.Merging.{mergeAll-length}
 use Rattle.ramp_interiors.specs.Given.{Lent, Known, Kept}
 use Rattle.ramp_interiors.specs.Owners.{Owners}
 use Rattle.ramp_interiors.specs.Proposals.{Progress, Owning}
 use Rattle.ramp_interiors.proofs.Forests.{beyond-same}
 use Rattle.ramp_interiors.proofs.Walks.{names-long}
+use Rattle.ramp_interiors.proofs.Preparing.{components-size}
 
 module _ {C : Context} {boundaries tallies pairs starts marks counts : List ℕ} {count regions : ℕ} (L : Lent C boundaries tallies pairs starts count regions marks counts) where
   pub lent-kept : {nowMarks names : List ℕ} → Known C nowMarks names → Kept C boundaries tallies pairs starts names
@@ -23,15 +19,11 @@ module _ {C : Context} {boundaries tallies pairs starts marks counts : List ℕ}
   pub lent-owning : {owners : List ℕ} → Owners C owners → Owning C boundaries tallies pairs starts owners count
   lent-owning O = record { given = L .given; counted = L .counted; owned = O }
 
-size : (C : Context) → length (components C) ≡ suc (C .regions)
-unfolding components
-size C = mergeAll-length (run 0 (suc (C .regions))) (links C) ∙ length-run 0 (suc (C .regions))
-
 pub known-progress : {C : Context} (owners : List ℕ) {marks names : List ℕ} → Known C marks names → Progress C owners names names marks marks 0
 known-progress {C} owners {marks} {names} K =
     record {
       long = names-long C (K .named);
-      unmet = λ q a b e n. record { long = names-long C (K .named); at = λ x c d. ap (λ t. eqb t q) (K .named .at x c (omega (arith, size C))) };
+      unmet = λ q a b e n. record { long = names-long C (K .named); at = λ x c d. ap (λ t. eqb t q) (K .named .at x c (omega (arith, components-size C))) };
       settled = λ j l. absurd (omega arith);
       beyond = beyond-same (C .regions) names;
       cleared = record { marked = K .marked; beyond = beyond-same (C .regions) marks };

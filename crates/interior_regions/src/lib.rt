@@ -49,8 +49,8 @@ pub fn record_place(pairs: &[u32], k: usize) -> usize
 
 // The first place from `first` on, before `end`, whose region has the name; `end` where there is none.
 pub fn next_inside(pairs: &[u32], names: &[u32], name: u32, first: usize, end: usize) -> usize
-    requires { ⌜ first ≤ end ⌝ }
-    requires { ⌜ AllReadable (now pairs) (length (now names)) first end ⌝ }
+    requires ordered { ⌜ first ≤ end ⌝ }
+    requires readable { ⌜ AllReadable (now pairs) (length (now names)) first end ⌝ }
     ensures { λ r. ⌜ NextInside (now (pairs .entry)) (now (names .entry)) name first end r ⌝ }
 {
     let mut k = first;
@@ -66,8 +66,10 @@ pub fn next_inside(pairs: &[u32], names: &[u32], name: u32, first: usize, end: u
 // Marks the boundaries whose owner has the name, if `on`.
 pub fn mark_edges(owners: &[u32; 256], count: usize, name: u32, on: bool, removed: &mut [bool; 256])
     requires { ⌜ (count ≤ maxEntries) × (length (now removed) ≡ maxEntries) ⌝ }
-    ensures { λ _. ⌜ ((j : ℕ) → j < count → getD (now (removed .exit)) j false ≡ (getD (now (removed .entry)) j false || (on && eqb (getD (now (owners .entry)) j 0) name))) ⌝ }
-    ensures { λ _. ⌜ length (now (removed .exit)) ≡ maxEntries ⌝ }
+    ensures removed { λ _. ⌜ ((j : ℕ) →
+        j < count →
+        getD (now (removed .exit)) j false ≡ (getD (now (removed .entry)) j false || (on && eqb (getD (now (owners .entry)) j 0) name))) ⌝ }
+    ensures removed_length { λ _. ⌜ length (now (removed .exit)) ≡ maxEntries ⌝ }
 {
     if !on {
         return;
@@ -117,9 +119,12 @@ pub fn interior_at(
     count: usize,
     i: usize,
 ) -> Interior
-    requires { ⌜ i < count ⌝ }
-    requires { ⌜ SomeInteriors (now pairs) (now starts) (now owners) (now firsts) (now seconds) count ⌝ }
-    ensures { λ x. ⌜ ((C : Context) (boundaries tallies names : List ℕ) → Interiors C boundaries tallies (now (pairs .entry)) (now (starts .entry)) names (now (owners .entry)) (now (firsts .entry)) (now (seconds .entry)) count → Stretched C (now (pairs .entry)) names (now (owners .entry)) i x) ⌝ }
+    requires i_within { ⌜ i < count ⌝ }
+    requires interiors { ⌜ SomeInteriors (now pairs) (now starts) (now owners) (now firsts) (now seconds) count ⌝ }
+    ensures { λ x. ⌜ ((C : Context) (boundaries tallies names : List ℕ) →
+        Interiors C boundaries tallies (now (pairs .entry)) (now (starts .entry)) names (now (owners .entry)) (now (firsts .entry))
+        (now (seconds .entry)) count →
+        Stretched C (now (pairs .entry)) names (now (owners .entry)) i x) ⌝ }
 {
     let name = owners[i];
     let a = firsts[i];
@@ -144,7 +149,7 @@ pub fn interior_at(
     }
 }
 
-// Names the components in the place of the counts, and finds owners and ports.
+// Names the components in place of the counts, and finds owners and ports.
 pub fn find_interiors(
     boundaries: &[u64],
     tallies: &[u32],
@@ -158,10 +163,15 @@ pub fn find_interiors(
     firsts: &mut [usize; 256],
     seconds: &mut [usize; 256],
 )
-    requires { ⌜ SomeLent (now boundaries) (now tallies) (now pairs) (now starts) count regions (now marks) (now counts) ⌝ }
-    requires { ⌜ (length (now owners) ≡ maxEntries) × ((length (now firsts) ≡ maxEntries) × (length (now seconds) ≡ maxEntries)) ⌝ }
-    ensures { λ _. ⌜ ((C : Context) → Lent C (now (boundaries .entry)) (now (tallies .entry)) (now (pairs .entry)) (now (starts .entry)) count regions (now (marks .entry)) (now (counts .entry)) → PixelContext C → Interiors C (now (boundaries .entry)) (now (tallies .entry)) (now (pairs .entry)) (now (starts .entry)) (now (counts .exit)) (now (owners .exit)) (now (firsts .exit)) (now (seconds .exit)) count) ⌝ }
-    ensures { λ _. ⌜ (length (now (marks .exit)) ≡ length (now (marks .entry))) × (length (now (counts .exit)) ≡ length (now (counts .entry))) ⌝ }
+    requires lent { ⌜ SomeLent (now boundaries) (now tallies) (now pairs) (now starts) count regions (now marks) (now counts) ⌝ }
+    requires room { ⌜ (length (now owners) ≡ maxEntries) × ((length (now firsts) ≡ maxEntries) × (length (now seconds) ≡ maxEntries)) ⌝ }
+    ensures found { λ _. ⌜ ((C : Context) →
+        Lent C (now (boundaries .entry)) (now (tallies .entry)) (now (pairs .entry)) (now (starts .entry)) count regions (now (marks .entry))
+        (now (counts .entry)) →
+        PixelContext C →
+        Interiors C (now (boundaries .entry)) (now (tallies .entry)) (now (pairs .entry)) (now (starts .entry))
+        (now (counts .exit)) (now (owners .exit)) (now (firsts .exit)) (now (seconds .exit)) count) ⌝ }
+    ensures lengths { λ _. ⌜ (length (now (marks .exit)) ≡ length (now (marks .entry))) × (length (now (counts .exit)) ≡ length (now (counts .entry))) ⌝ }
 {
     name_components(
         boundaries,

@@ -1,4 +1,4 @@
--- What pass 3 asks of records: `unionRegions` of Junctions.antt and `bridgeRegion` of Rows.antt, with records, endpoints and anchors in the place of the context.
+-- What pass 3 asks of records: `unionRegions` of Junctions.antt and `bridgeRegion` of Rows.antt, with records, endpoints and anchors in place of the context.
 -- Definitions only; assumes nothing.
 use mathlib.Core.Bool.{Bool, not, _&&_, _||_, cond}
 use lib.Ieee.{le}

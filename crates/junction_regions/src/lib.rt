@@ -44,7 +44,8 @@ fn near_middle(corner: Point, middle: Point) -> bool
 
 // The span goes from a to b.
 fn near_span(corner: Point, a: Point, b: Point) -> bool
-    ensures { λ r. ⌜ (DistanceInRange (pointForm corner) (nearestPoint (pointForm corner) (pointForm a) (pointForm b)) → r ≡ nearSpan (pointForm a) (pointForm b) (pointForm corner)) ⌝ }
+    ensures { λ r. ⌜ (DistanceInRange (pointForm corner) (nearestPoint (pointForm corner) (pointForm a) (pointForm b)) →
+        r ≡ nearSpan (pointForm a) (pointForm b) (pointForm corner)) ⌝ }
 {
     point_segment_distance(corner, a, b) <= MAX_UNION_RADIUS_PIXELS
 }
@@ -139,16 +140,16 @@ pub fn bridge_region(pocket: Region, a: PixelPosition, b: PixelPosition) -> bool
 
 // Where the records of row k's regions stand.
 pub fn first_place(rows: &[u32], k: usize) -> usize
-    requires { ⌜ numbersPerProposal * k + 3 < length (now rows) ⌝ }
-    requires { ⌜ 1 ≤ rowAt (now rows) k .first ⌝ }
+    requires rows_room { ⌜ numbersPerProposal * k + 3 < length (now rows) ⌝ }
+    requires first_named { ⌜ 1 ≤ rowAt (now rows) k .first ⌝ }
     ensures { λ r. ⌜ r ≡ rowAt (now (rows .entry)) k .first - 1 ⌝ }
 {
     wide(rows[NUMBERS_PER_PROPOSAL * k + 2]) - 1
 }
 
 pub fn second_place(rows: &[u32], k: usize) -> usize
-    requires { ⌜ numbersPerProposal * k + 3 < length (now rows) ⌝ }
-    requires { ⌜ 1 ≤ rowAt (now rows) k .second ⌝ }
+    requires rows_room { ⌜ numbersPerProposal * k + 3 < length (now rows) ⌝ }
+    requires second_named { ⌜ 1 ≤ rowAt (now rows) k .second ⌝ }
     ensures { λ r. ⌜ r ≡ rowAt (now (rows .entry)) k .second - 1 ⌝ }
 {
     wide(rows[NUMBERS_PER_PROPOSAL * k + 3]) - 1
@@ -180,7 +181,9 @@ pub fn is_allowed(
     second: Region,
 ) -> bool
     requires { ⌜ ((C : Context) × Asked C (now boundaries) (now marks) (now rows) k first second) ⌝ }
-    ensures { λ r. ⌜ ((C : Context) → Asked C (now (boundaries .entry)) (now (marks .entry)) (now (rows .entry)) k first second → r ≡ isAllowed C (rowAt (now (rows .entry)) k)) ⌝ }
+    ensures { λ r. ⌜ ((C : Context) →
+        Asked C (now (boundaries .entry)) (now (marks .entry)) (now (rows .entry)) k first second →
+        r ≡ isAllowed C (rowAt (now (rows .entry)) k)) ⌝ }
 {
     let row = NUMBERS_PER_PROPOSAL * k;
     let ends = endpoints_of(boundaries, wide(rows[row]));

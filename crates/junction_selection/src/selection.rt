@@ -42,7 +42,8 @@ fn port_taken(
     p: usize,
 ) -> bool
     requires { ⌜ Within (now rows) (now removed) (now reserved) count p ⌝ }
-    ensures { λ r. ⌜ r ≡ anyBelow count (λ j. reservesAt (now (smaller .entry)) (now (larger .entry)) (rowAt (now (rows .entry)) p) j && (getD (now (removed .entry)) j false || getD (now (reserved .entry)) j false)) ⌝ }
+    ensures { λ r. ⌜ r ≡ anyBelow count (λ j. reservesAt (now (smaller .entry)) (now (larger .entry)) (rowAt (now (rows .entry)) p) j
+        && (getD (now (removed .entry)) j false || getD (now (reserved .entry)) j false)) ⌝ }
 {
     for j in 0..count {
         if (removed[j] | reserved[j]) & reserves(smaller, larger, rows, p, j) {
@@ -55,7 +56,8 @@ fn port_taken(
 // Whether row q, taken, keeps row p from being taken by its regions: two bridges may share their exterior, and nothing else.
 pub fn region_conflict(rows: &[u32], q: usize, p: usize) -> bool
     requires { ⌜ (numbersPerProposal * q + 3 < length (now rows)) × (numbersPerProposal * p + 3 < length (now rows)) ⌝ }
-    ensures { λ r. ⌜ r ≡ regionConflict (rowAt (now (rows .entry)) q .kind) (rowAt (now (rows .entry)) p .kind) (rowAt (now (rows .entry)) q) (rowAt (now (rows .entry)) p) ⌝ }
+    ensures { λ r. ⌜ r ≡ regionConflict (rowAt (now (rows .entry)) q .kind) (rowAt (now (rows .entry)) p .kind) (rowAt (now (rows .entry)) q)
+        (rowAt (now (rows .entry)) p) ⌝ }
 {
     let k = NUMBERS_PER_PROPOSAL * q;
     let l = NUMBERS_PER_PROPOSAL * p;
@@ -74,9 +76,10 @@ pub fn region_conflict(rows: &[u32], q: usize, p: usize) -> bool
 
 // Whether the regions of row p are taken by one of the first t taken rows.
 fn region_taken(rows: &[u32], taken: &[u32], n: usize, t: usize, p: usize) -> bool
-    requires { ⌜ (numbersPerProposal * n ≤ length (now rows)) × ((p < n) × (t ≤ length (now taken))) ⌝ }
-    requires { ⌜ ((k : ℕ) → k < t → getD (now taken) k 0 < n) ⌝ }
-    ensures { λ r. ⌜ r ≡ any (λ q. regionConflict (q .kind) (rowAt (now (rows .entry)) p .kind) q (rowAt (now (rows .entry)) p)) (orderOf (now (rows .entry)) (now (taken .entry)) t) ⌝ }
+    requires sizes { ⌜ (numbersPerProposal * n ≤ length (now rows)) × ((p < n) × (t ≤ length (now taken))) ⌝ }
+    requires taken_rows { ⌜ ((k : ℕ) → k < t → getD (now taken) k 0 < n) ⌝ }
+    ensures { λ r. ⌜ r ≡ any (λ q. regionConflict (q .kind) (rowAt (now (rows .entry)) p .kind) q (rowAt (now (rows .entry)) p))
+        (orderOf (now (rows .entry)) (now (taken .entry)) t) ⌝ }
 {
     for k in 0..t {
         if region_conflict(rows, wide(taken[k]), p) {
@@ -99,10 +102,13 @@ fn is_refused(
     t: usize,
     p: usize,
 ) -> bool
-    requires { ⌜ Selecting (now rows) (now taken) (now removed) (now reserved) count n ⌝ }
-    requires { ⌜ (t ≤ n) × (p < n) ⌝ }
-    requires { ⌜ Rows (now taken) t n ⌝ }
-    ensures { λ r. ⌜ ((chosen : List Proposal) → Standing (now (smaller .entry)) (now (larger .entry)) (now (rows .entry)) (now (taken .entry)) (now (removed .entry)) (now (reserved .entry)) count n t chosen → r ≡ any (λ q. conflictAt (now (smaller .entry)) (now (larger .entry)) count q (rowAt (now (rows .entry)) p)) chosen) ⌝ }
+    requires selecting { ⌜ Selecting (now rows) (now taken) (now removed) (now reserved) count n ⌝ }
+    requires places { ⌜ (t ≤ n) × (p < n) ⌝ }
+    requires listed { ⌜ Rows (now taken) t n ⌝ }
+    ensures { λ r. ⌜ ((chosen : List Proposal) →
+        Standing (now (smaller .entry)) (now (larger .entry)) (now (rows .entry)) (now (taken .entry)) (now (removed .entry)) (now (reserved .entry))
+        count n t chosen →
+        r ≡ any (λ q. conflictAt (now (smaller .entry)) (now (larger .entry)) count q (rowAt (now (rows .entry)) p)) chosen) ⌝ }
 {
     let index = wide(rows[NUMBERS_PER_PROPOSAL * p]);
     let own = reserved[index];
@@ -120,7 +126,10 @@ fn reserve_ports(
     p: usize,
 )
     requires { ⌜ (numbersPerProposal * p + 3 < length (now rows)) × ((count ≤ 256) × (count ≤ length (now reserved))) ⌝ }
-    ensures { λ _. ⌜ ((j : ℕ) → j < count → getD (now (reserved .exit)) j false ≡ (getD (now (reserved .entry)) j false || reservesAt (now (smaller .entry)) (now (larger .entry)) (rowAt (now (rows .entry)) p) j)) ⌝ }
+    ensures { λ _. ⌜ ((j : ℕ) →
+        j < count →
+        getD (now (reserved .exit)) j false
+        ≡ (getD (now (reserved .entry)) j false || reservesAt (now (smaller .entry)) (now (larger .entry)) (rowAt (now (rows .entry)) p) j)) ⌝ }
 {
     for j in 0..count {
         reserved[j] = reserved[j] | reserves(smaller, larger, rows, p, j);
@@ -140,11 +149,17 @@ fn take_if_free(
     t: usize,
     p: usize,
 ) -> usize
-    requires { ⌜ Selecting (now rows) (now taken) (now removed) (now reserved) count n ⌝ }
-    requires { ⌜ (t < n) × (p < n) ⌝ }
-    requires { ⌜ Rows (now taken) t n ⌝ }
-    ensures { λ r. ⌜ ((chosen : List Proposal) → Standing (now (smaller .entry)) (now (larger .entry)) (now (rows .entry)) (now (taken .entry)) (now (removed .entry)) (now (reserved .entry)) count n t chosen → Standing (now (smaller .entry)) (now (larger .entry)) (now (rows .entry)) (now (taken .exit)) (now (removed .exit)) (now (reserved .exit)) count n r (cond (any (λ q. conflictAt (now (smaller .entry)) (now (larger .entry)) count q (rowAt (now (rows .entry)) p)) chosen) chosen (chosen ++ (rowAt (now (rows .entry)) p ∷ [])))) ⌝ }
-    ensures { λ r. ⌜ r ≤ t + 1 ⌝ }
+    requires selecting { ⌜ Selecting (now rows) (now taken) (now removed) (now reserved) count n ⌝ }
+    requires places { ⌜ (t < n) × (p < n) ⌝ }
+    requires listed { ⌜ Rows (now taken) t n ⌝ }
+    ensures standing { λ r. ⌜ ((chosen : List Proposal) →
+        Standing (now (smaller .entry)) (now (larger .entry)) (now (rows .entry)) (now (taken .entry)) (now (removed .entry)) (now (reserved .entry))
+        count n t chosen →
+        Standing (now (smaller .entry)) (now (larger .entry)) (now (rows .entry))
+        (now (taken .exit)) (now (removed .exit)) (now (reserved .exit)) count n r
+        (cond (any (λ q. conflictAt (now (smaller .entry)) (now (larger .entry)) count q (rowAt (now (rows .entry)) p)) chosen) chosen
+        (chosen ++ (rowAt (now (rows .entry)) p ∷ [])))) ⌝ }
+    ensures bound { λ r. ⌜ r ≤ t + 1 ⌝ }
 {
     if is_refused(
         smaller,
@@ -180,12 +195,15 @@ fn select_ranked(
     n: usize,
     m: usize,
 )
-    requires { ⌜ Selecting (now rows) (now taken) (now removed) (now reserved) count n ⌝ }
-    requires { ⌜ (m ≤ n) × (m ≤ length (now order)) ⌝ }
-    requires { ⌜ Rows (now order) m n ⌝ }
-    requires { ⌜ ((j : ℕ) → j < count → getD (now removed) j false ≡ false) ⌝ }
-    requires { ⌜ ((j : ℕ) → j < count → getD (now reserved) j false ≡ false) ⌝ }
-    ensures { λ _. ⌜ ((j : ℕ) → j < count → getD (now (removed .exit)) j false ≡ any (λ q. eqb j (q .index)) (selectedOf (now (smaller .entry)) (now (larger .entry)) (now (rows .entry)) (now (order .entry)) count m)) ⌝ }
+    requires selecting { ⌜ Selecting (now rows) (now taken) (now removed) (now reserved) count n ⌝ }
+    requires sizes { ⌜ (m ≤ n) × (m ≤ length (now order)) ⌝ }
+    requires listed { ⌜ Rows (now order) m n ⌝ }
+    requires removed_clear { ⌜ ((j : ℕ) → j < count → getD (now removed) j false ≡ false) ⌝ }
+    requires reserved_clear { ⌜ ((j : ℕ) → j < count → getD (now reserved) j false ≡ false) ⌝ }
+    ensures { λ _. ⌜ ((j : ℕ) →
+        j < count →
+        getD (now (removed .exit)) j false
+        ≡ any (λ q. eqb j (q .index)) (selectedOf (now (smaller .entry)) (now (larger .entry)) (now (rows .entry)) (now (order .entry)) count m)) ⌝ }
 {
     let mut t = 0;
     for k in 0..m {
@@ -217,7 +235,10 @@ pub fn select_proposals(
     n: usize,
 )
     requires { ⌜ Judged (now boundaries) (now rows) (now verdicts) (now removed) count n ⌝ }
-    ensures { λ _. ⌜ ((j : ℕ) → j < count → getD (now (removed .exit)) j false ≡ removedAt (now (boundaries .entry)) (now (smaller .entry)) (now (larger .entry)) (now (rows .entry)) (now (verdicts .entry)) count n j) ⌝ }
+    ensures { λ _. ⌜ ((j : ℕ) →
+        j < count →
+        getD (now (removed .exit)) j false
+        ≡ removedAt (now (boundaries .entry)) (now (smaller .entry)) (now (larger .entry)) (now (rows .entry)) (now (verdicts .entry)) count n j) ⌝ }
 {
     let mut order = [0u32; MAX_PROPOSALS];
     let mut reserved = [false; 256];

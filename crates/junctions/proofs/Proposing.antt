@@ -7,7 +7,7 @@ use mathlib.Core.Option.{Option, some}
 use mathlib.Core.List.{List, _++_}
 use lib.ListN.{getD}
 use lib.Dec.{eqb, ltb}
-use borrow.Author.Tests.{ltb-true, ltb-false, eqb-false, ne-eqb}
+use borrow.Author.Tests.{ltb-true, ltb-false, eqb-false, ne-eqb, not-true}
 use Rattle.definitions.specs.Scan.{collect, filter, toList, onlyIf}
 use Rattle.definitions.specs.Context.{Context, fullPair}
 use Rattle.definitions.specs.Junctions.{unionProposal, bridgeProposal, proposals}
@@ -20,7 +20,6 @@ use Rattle.junctions.specs.Lent.{LentPairs, Lent, Shows}
 use Rattle.junctions.specs.Unions.{isUnionAt, shapeAt}
 use Rattle.junctions.specs.Bridges.{isBridgeAt}
 use Rattle.junctions.specs.Rows.{rowAt, rowsOf, unionAt, isAllowed, RowFits}
-use Rattle.junctions.proofs.Shapes.{negated-true}
 use Rattle.junctions.proofs.UnionRows.{of-some, union-row}
 use Rattle.junctions.proofs.BridgeRows.{bridge-row}
 use Rattle.junctions.proofs.BridgeIndex.{bridge-fits}
@@ -80,7 +79,7 @@ module _ (boundaries smaller larger counts marks rows : List ℕ) (count regions
       go : (b : Bool) → isUnionAt boundaries smaller larger counts marks count i ≡ b → All (RowFits count regions) (toList (onlyIf b (record { index = i; kind = 0; first = getD smaller i 0; second = getD larger i 0 })))
       go false e = done
       go true e =
-          let full = eqb-false (getD smaller i 0) 0 (negated-true (eqb (getD smaller i 0) 0) (both (not (eqb (getD smaller i 0) 0)) (shapeAt boundaries smaller larger count i (record { lo = getD smaller i 0; hi = getD larger i 0 }) counts marks) e .0)) in
+          let full = eqb-false (getD smaller i 0) 0 (not-true (eqb (getD smaller i 0) 0) (both (not (eqb (getD smaller i 0) 0)) (shapeAt boundaries smaller larger count i (record { lo = getD smaller i 0; hi = getD larger i 0 }) counts marks) e .0)) in
           let low : 1 ≤ getD smaller i 0 = omega (arith, full) in
           let named = pairs .named i l low in
           more {x = record { index = i; kind = 0; first = getD smaller i 0; second = getD larger i 0 }} (record { index-in = l; kind-in = omega arith; first-from = low; first-to = omega (arith, named); second-from = omega (arith, named); second-to = named .1 }) done

@@ -2,11 +2,11 @@
 use Prim.Native.Nat.{ℕ, _+_, _-_, _≤_, _<_}
 use native.Mathlib.Omega.{arith}
 use mathlib.Core.Path.{_≡_, refl, sym, ap, _∙_}
-use mathlib.Core.Bool.{Bool, true, false, not, _&&_, true≢false, false≢true}
+use mathlib.Core.Bool.{Bool, true, false, not, _&&_}
 use mathlib.Core.List.{List}
 use lib.ListN.{getD}
 use lib.Dec.{eqb, ltb, leb}
-use borrow.Author.Tests.{eq-eqb, ne-eqb, lt-ltb, le-ltb}
+use borrow.Author.Tests.{eq-eqb, ne-eqb, lt-ltb, le-ltb, not-true, not-false}
 use Rattle.definitions.specs.Scan.{countBelow, bit}
 use Rattle.definitions.specs.Grid.{Pair}
 use Rattle.junctions.specs.Ports.{walkFits}
@@ -16,14 +16,6 @@ use Rattle.junctions.proofs.FewPorts.{few-ports}
 pub bit-le : (b : Bool) → bit b ≤ 1
 bit-le true = omega arith
 bit-le false = omega arith
-
-pub negated-true : (b : Bool) → not b ≡ true → b ≡ false
-negated-true true e = absurd (false≢true e)
-negated-true false e = refl
-
-pub negated-false : (b : Bool) → not b ≡ false → b ≡ true
-negated-false true e = refl
-negated-false false e = absurd (true≢false e)
 
 module _ (boundaries smaller larger counts marks : List ℕ) (count i : ℕ) where
   abbrev union : Pair
@@ -72,11 +64,11 @@ module _ (boundaries smaller larger counts marks : List ℕ) (count i : ℕ) whe
             go false e = from plain (lt-ltb (marksOf marks union) 2 anchored) e refl refl
 
         pub is-unfit : {r : Bool} → r ≡ fit → not r ≡ true → false ≡ whole
-        is-unfit {r} e h = from plain (lt-ltb (marksOf marks union) 2 anchored) (sym e ∙ negated-true r h) refl refl
+        is-unfit {r} e h = from plain (lt-ltb (marksOf marks union) 2 anchored) (sym e ∙ not-true r h) refl refl
 
         module _ {r : Bool} (e : r ≡ fit) (h : not r ≡ false) where
           pub too-few : {s : Bool} → s ≡ three → not s ≡ true → false ≡ whole
-          too-few {s} d k = from plain (lt-ltb (marksOf marks union) 2 anchored) (sym e ∙ negated-false r h) (sym d ∙ negated-true s k) refl
+          too-few {s} d k = from plain (lt-ltb (marksOf marks union) 2 anchored) (sym e ∙ not-false r h) (sym d ∙ not-true s k) refl
 
           pub by-ports : {s t : Bool} → s ≡ three → not s ≡ false → t ≡ portsPass boundaries smaller larger count i union one → t ≡ whole
-          by-ports {s} d k f = from plain (lt-ltb (marksOf marks union) 2 anchored) (sym e ∙ negated-false r h) (sym d ∙ negated-false s k) (sym f)
+          by-ports {s} d k f = from plain (lt-ltb (marksOf marks union) 2 anchored) (sym e ∙ not-false r h) (sym d ∙ not-false s k) (sym f)

@@ -25,8 +25,8 @@ pub fn region_beyond(r: u32, a: u32, b: u32) -> u32
 
 // Whether boundary i is twice as wide as k, or wider.
 pub fn is_twice_as_wide(boundaries: &[u64], count: usize, i: usize, k: usize) -> bool
-    requires { ⌜ LentBoundaries (now boundaries) count ⌝ }
-    requires { ⌜ (i < count) × (k < count) ⌝ }
+    requires boundaries_lent { ⌜ LentBoundaries (now boundaries) count ⌝ }
+    requires places { ⌜ (i < count) × (k < count) ⌝ }
     ensures { λ r. ⌜ r ≡ isTwiceAt (now (boundaries .entry)) i k ⌝ }
 {
     let width = f64::from_bits(boundaries[NUMBERS_PER_BOUNDARY * i + 4]);
@@ -46,11 +46,11 @@ pub fn is_shared(
     k: usize,
     t: usize,
 ) -> bool
-    requires { ⌜ (count ≤ 256) × (regions ≤ length (now marks)) ⌝ }
-    requires { ⌜ LentPairs (now smaller) (now larger) count regions ⌝ }
-    requires { ⌜ PortAt (now smaller) count i ⌝ }
-    requires { ⌜ PortAt (now smaller) count k ⌝ }
-    requires { ⌜ PortAt (now smaller) count t ⌝ }
+    requires sizes { ⌜ (count ≤ 256) × (regions ≤ length (now marks)) ⌝ }
+    requires pairs_lent { ⌜ LentPairs (now smaller) (now larger) count regions ⌝ }
+    requires i_is_port { ⌜ PortAt (now smaller) count i ⌝ }
+    requires k_is_port { ⌜ PortAt (now smaller) count k ⌝ }
+    requires t_is_port { ⌜ PortAt (now smaller) count t ⌝ }
     ensures { λ x. ⌜ x ≡ isSharedAt (now (smaller .entry)) (now (larger .entry)) r (now (marks .entry)) i k t ⌝ }
 {
     let first = region_beyond(r, smaller[i], larger[i]);
@@ -70,8 +70,8 @@ pub fn bridge_if_near(
     k: usize,
     t: usize,
 ) -> Bridge
-    requires { ⌜ LentBoundaries (now boundaries) count ⌝ }
-    requires { ⌜ (i < count) × ((k < count) × (t < count)) ⌝ }
+    requires boundaries_lent { ⌜ LentBoundaries (now boundaries) count ⌝ }
+    requires places { ⌜ (i < count) × ((k < count) × (t < count)) ⌝ }
     ensures { λ x. ⌜ bridgeForm r x ≡ nearAt (now (smaller .entry)) (now (larger .entry)) r (now (boundaries .entry)) i k t ⌝ }
 {
     let own = is_near_port(boundaries, i, i);
@@ -95,8 +95,8 @@ pub fn pick_bridge(
     k: usize,
     t: usize,
 ) -> Bridge
-    requires { ⌜ LentBoundaries (now boundaries) count ⌝ }
-    requires { ⌜ (i < count) × ((k < count) × (t < count)) ⌝ }
+    requires boundaries_lent { ⌜ LentBoundaries (now boundaries) count ⌝ }
+    requires places { ⌜ (i < count) × ((k < count) × (t < count)) ⌝ }
     ensures { λ x. ⌜ bridgeForm r x ≡ pickAt (now (smaller .entry)) (now (larger .entry)) r (now (boundaries .entry)) i k t ⌝ }
 {
     if is_twice_as_wide(boundaries, count, i, k) {
@@ -121,12 +121,12 @@ pub fn bridge_of_three(
     j: usize,
     k: usize,
 ) -> Bridge
-    requires { ⌜ LentBoundaries (now boundaries) count ⌝ }
-    requires { ⌜ LentPairs (now smaller) (now larger) count regions ⌝ }
-    requires { ⌜ regions ≤ length (now marks) ⌝ }
-    requires { ⌜ PortAt (now smaller) count i ⌝ }
-    requires { ⌜ PortAt (now smaller) count j ⌝ }
-    requires { ⌜ PortAt (now smaller) count k ⌝ }
+    requires boundaries_lent { ⌜ LentBoundaries (now boundaries) count ⌝ }
+    requires pairs_lent { ⌜ LentPairs (now smaller) (now larger) count regions ⌝ }
+    requires marks_room { ⌜ regions ≤ length (now marks) ⌝ }
+    requires i_is_port { ⌜ PortAt (now smaller) count i ⌝ }
+    requires j_is_port { ⌜ PortAt (now smaller) count j ⌝ }
+    requires k_is_port { ⌜ PortAt (now smaller) count k ⌝ }
     ensures { λ x. ⌜ bridgeForm r x ≡ bridgeOfThree (now (boundaries .entry)) (now (smaller .entry)) (now (larger .entry)) (now (marks .entry)) r i j k ⌝ }
 {
     if is_shared(smaller, larger, marks, count, regions, r, i, j, k) {
@@ -175,9 +175,10 @@ pub fn bridge_of(
     regions: usize,
     r: u32,
 ) -> Bridge
-    requires { ⌜ Lent (now boundaries) (now smaller) (now larger) (now counts) (now marks) count regions ⌝ }
-    requires { ⌜ (1 ≤ r) × (r ≤ regions) ⌝ }
-    ensures { λ x. ⌜ bridgeForm r x ≡ isBridgeAt (now (boundaries .entry)) (now (smaller .entry)) (now (larger .entry)) (now (marks .entry)) r (now (counts .entry)) count ⌝ }
+    requires lent { ⌜ Lent (now boundaries) (now smaller) (now larger) (now counts) (now marks) count regions ⌝ }
+    requires r_named { ⌜ (1 ≤ r) × (r ≤ regions) ⌝ }
+    ensures { λ x. ⌜ bridgeForm r x ≡ isBridgeAt (now (boundaries .entry)) (now (smaller .entry)) (now (larger .entry)) (now (marks .entry)) r
+        (now (counts .entry)) count ⌝ }
 {
     if counts[r as usize - 1] != 3 {
         return Bridge::None;

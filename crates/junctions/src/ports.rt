@@ -80,11 +80,13 @@ pub fn ports_fit(
     incidents: &[u8; 256],
     n: usize,
 ) -> bool
-    requires { ⌜ (count ≤ 256) × (index < count) ⌝ }
-    requires { ⌜ (1 ≤ getD (now smaller) index 0) × (getD (now smaller) index 0 ≤ length (now counts)) ⌝ }
-    requires { ⌜ (1 ≤ getD (now larger) index 0) × (getD (now larger) index 0 ≤ length (now counts)) ⌝ }
-    requires { ⌜ Listed (now smaller) (now larger) count (record { lo = getD (now smaller) index 0; hi = getD (now larger) index 0 }) (now incidents) n ⌝ }
-    ensures { λ r. ⌜ r ≡ walkFits (now (smaller .entry)) (now (larger .entry)) (now (counts .entry)) count index (record { lo = getD (now (smaller .entry)) index 0; hi = getD (now (larger .entry)) index 0 }) ⌝ }
+    requires few { ⌜ (count ≤ 256) × (index < count) ⌝ }
+    requires smaller_named { ⌜ (1 ≤ getD (now smaller) index 0) × (getD (now smaller) index 0 ≤ length (now counts)) ⌝ }
+    requires larger_named { ⌜ (1 ≤ getD (now larger) index 0) × (getD (now larger) index 0 ≤ length (now counts)) ⌝ }
+    requires incidents_listed { ⌜ Listed (now smaller) (now larger) count (record { lo = getD (now smaller) index 0; hi = getD (now larger) index 0 })
+        (now incidents) n ⌝ }
+    ensures { λ r. ⌜ r ≡ walkFits (now (smaller .entry)) (now (larger .entry)) (now (counts .entry)) count index
+        (record { lo = getD (now (smaller .entry)) index 0; hi = getD (now (larger .entry)) index 0 }) ⌝ }
 {
     let lo = smaller[index];
     let hi = larger[index];

@@ -19,9 +19,10 @@ pub const MAX_PROPOSALS: usize = 426;
 
 // Puts a proposal behind the first n.
 fn push_proposal(rows: &mut [u32], n: usize, index: usize, kind: u32, first: u32, second: u32)
-    requires { ⌜ (n < maxProposals) × (index < 256) ⌝ }
-    requires { ⌜ numbersPerProposal * maxProposals ≤ length (now rows) ⌝ }
-    ensures { λ _. ⌜ rowsOf (now (rows .exit)) (n + 1) ≡ rowsOf (now (rows .entry)) n ++ (record { index = index; kind = kind; first = first; second = second } ∷ []) ⌝ }
+    requires places { ⌜ (n < maxProposals) × (index < 256) ⌝ }
+    requires rows_room { ⌜ numbersPerProposal * maxProposals ≤ length (now rows) ⌝ }
+    ensures { λ _. ⌜ rowsOf (now (rows .exit)) (n + 1)
+        ≡ rowsOf (now (rows .entry)) n ++ (record { index = index; kind = kind; first = first; second = second } ∷ []) ⌝ }
 {
     let k = NUMBERS_PER_PROPOSAL * n;
     rows[k] = index as u32;
@@ -43,11 +44,12 @@ fn add_union(
     n: usize,
     i: usize,
 ) -> usize
-    requires { ⌜ Lent (now boundaries) (now smaller) (now larger) (now counts) (now marks) count regions ⌝ }
-    requires { ⌜ (i < count) × (n ≤ i) ⌝ }
-    requires { ⌜ numbersPerProposal * maxProposals ≤ length (now rows) ⌝ }
-    ensures { λ r. ⌜ rowsOf (now (rows .exit)) r ≡ rowsOf (now (rows .entry)) n ++ toList (unionAt (now (boundaries .entry)) (now (smaller .entry)) (now (larger .entry)) (now (counts .entry)) (now (marks .entry)) count i) ⌝ }
-    ensures { λ r. ⌜ r ≤ n + 1 ⌝ }
+    requires lent { ⌜ Lent (now boundaries) (now smaller) (now larger) (now counts) (now marks) count regions ⌝ }
+    requires places { ⌜ (i < count) × (n ≤ i) ⌝ }
+    requires rows_room { ⌜ numbersPerProposal * maxProposals ≤ length (now rows) ⌝ }
+    ensures rows { λ r. ⌜ rowsOf (now (rows .exit)) r ≡ rowsOf (now (rows .entry)) n
+        ++ toList (unionAt (now (boundaries .entry)) (now (smaller .entry)) (now (larger .entry)) (now (counts .entry)) (now (marks .entry)) count i) ⌝ }
+    ensures bound { λ r. ⌜ r ≤ n + 1 ⌝ }
 {
     if is_union(
         boundaries,
@@ -76,10 +78,11 @@ fn find_unions(
     regions: usize,
     rows: &mut [u32],
 ) -> usize
-    requires { ⌜ Lent (now boundaries) (now smaller) (now larger) (now counts) (now marks) count regions ⌝ }
-    requires { ⌜ numbersPerProposal * maxProposals ≤ length (now rows) ⌝ }
-    ensures { λ r. ⌜ rowsOf (now (rows .exit)) r ≡ collect count (unionAt (now (boundaries .entry)) (now (smaller .entry)) (now (larger .entry)) (now (counts .entry)) (now (marks .entry)) count) ⌝ }
-    ensures { λ r. ⌜ r ≤ count ⌝ }
+    requires lent { ⌜ Lent (now boundaries) (now smaller) (now larger) (now counts) (now marks) count regions ⌝ }
+    requires rows_room { ⌜ numbersPerProposal * maxProposals ≤ length (now rows) ⌝ }
+    ensures rows { λ r. ⌜ rowsOf (now (rows .exit)) r
+        ≡ collect count (unionAt (now (boundaries .entry)) (now (smaller .entry)) (now (larger .entry)) (now (counts .entry)) (now (marks .entry)) count) ⌝ }
+    ensures bound { λ r. ⌜ r ≤ count ⌝ }
 {
     let mut n = 0;
     for i in 0..count {
@@ -112,12 +115,14 @@ fn add_bridge(
     n: usize,
     r: u32,
 ) -> usize
-    requires { ⌜ Lent (now boundaries) (now smaller) (now larger) (now counts) (now marks) count regions ⌝ }
-    requires { ⌜ (1 ≤ r) × (r ≤ regions) ⌝ }
-    requires { ⌜ n + length (toList (isBridgeAt (now boundaries) (now smaller) (now larger) (now marks) r (now counts) count)) ≤ maxProposals ⌝ }
-    requires { ⌜ numbersPerProposal * maxProposals ≤ length (now rows) ⌝ }
-    ensures { λ x. ⌜ rowsOf (now (rows .exit)) x ≡ rowsOf (now (rows .entry)) n ++ toList (isBridgeAt (now (boundaries .entry)) (now (smaller .entry)) (now (larger .entry)) (now (marks .entry)) r (now (counts .entry)) count) ⌝ }
-    ensures { λ x. ⌜ x ≡ n + length (toList (isBridgeAt (now (boundaries .entry)) (now (smaller .entry)) (now (larger .entry)) (now (marks .entry)) r (now (counts .entry)) count)) ⌝ }
+    requires lent { ⌜ Lent (now boundaries) (now smaller) (now larger) (now counts) (now marks) count regions ⌝ }
+    requires r_named { ⌜ (1 ≤ r) × (r ≤ regions) ⌝ }
+    requires proposals_room { ⌜ n + length (toList (isBridgeAt (now boundaries) (now smaller) (now larger) (now marks) r (now counts) count)) ≤ maxProposals ⌝ }
+    requires rows_room { ⌜ numbersPerProposal * maxProposals ≤ length (now rows) ⌝ }
+    ensures rows { λ x. ⌜ rowsOf (now (rows .exit)) x ≡ rowsOf (now (rows .entry)) n
+        ++ toList (isBridgeAt (now (boundaries .entry)) (now (smaller .entry)) (now (larger .entry)) (now (marks .entry)) r (now (counts .entry)) count) ⌝ }
+    ensures answer { λ x. ⌜ x ≡ n + length (toList (isBridgeAt (now (boundaries .entry)) (now (smaller .entry)) (now (larger .entry)) (now (marks .entry)) r
+        (now (counts .entry)) count)) ⌝ }
 {
     match bridge_of(
         boundaries,
@@ -149,11 +154,13 @@ fn find_bridges(
     rows: &mut [u32],
     unions: usize,
 ) -> usize
-    requires { ⌜ Lent (now boundaries) (now smaller) (now larger) (now counts) (now marks) count regions ⌝ }
-    requires { ⌜ unions ≤ count ⌝ }
-    requires { ⌜ numbersPerProposal * maxProposals ≤ length (now rows) ⌝ }
-    ensures { λ x. ⌜ rowsOf (now (rows .exit)) x ≡ rowsOf (now (rows .entry)) unions ++ collect regions (λ k. isBridgeAt (now (boundaries .entry)) (now (smaller .entry)) (now (larger .entry)) (now (marks .entry)) (suc k) (now (counts .entry)) count) ⌝ }
-    ensures { λ x. ⌜ x ≤ maxProposals ⌝ }
+    requires lent { ⌜ Lent (now boundaries) (now smaller) (now larger) (now counts) (now marks) count regions ⌝ }
+    requires unions_within { ⌜ unions ≤ count ⌝ }
+    requires rows_room { ⌜ numbersPerProposal * maxProposals ≤ length (now rows) ⌝ }
+    ensures rows { λ x. ⌜ rowsOf (now (rows .exit)) x ≡ rowsOf (now (rows .entry)) unions
+        ++ collect regions (λ k. isBridgeAt (now (boundaries .entry)) (now (smaller .entry)) (now (larger .entry)) (now (marks .entry)) (suc k) (now (counts .entry))
+        count) ⌝ }
+    ensures bound { λ x. ⌜ x ≤ maxProposals ⌝ }
 {
     let mut n = unions;
     for k in 0..regions {
@@ -184,11 +191,13 @@ pub fn find_proposals(
     regions: usize,
     rows: &mut [u32],
 ) -> usize
-    requires { ⌜ Lent (now boundaries) (now smaller) (now larger) (now counts) (now marks) count regions ⌝ }
-    requires { ⌜ numbersPerProposal * maxProposals ≤ length (now rows) ⌝ }
-    ensures { λ r. ⌜ r ≤ maxProposals ⌝ }
-    ensures { λ r. ⌜ ((k : ℕ) → k < r → RowFits count regions (rowAt (now (rows .exit)) k)) ⌝ }
-    ensures { λ r. ⌜ ((C : Context) → Shows (now (boundaries .entry)) (now (smaller .entry)) (now (larger .entry)) (now (counts .entry)) (now (marks .entry)) count regions C → filter (isAllowed C) (rowsOf (now (rows .exit)) r) ≡ proposals C) ⌝ }
+    requires lent { ⌜ Lent (now boundaries) (now smaller) (now larger) (now counts) (now marks) count regions ⌝ }
+    requires rows_room { ⌜ numbersPerProposal * maxProposals ≤ length (now rows) ⌝ }
+    ensures bound { λ r. ⌜ r ≤ maxProposals ⌝ }
+    ensures rows_fit { λ r. ⌜ ((k : ℕ) → k < r → RowFits count regions (rowAt (now (rows .exit)) k)) ⌝ }
+    ensures allowed { λ r. ⌜ ((C : Context) →
+        Shows (now (boundaries .entry)) (now (smaller .entry)) (now (larger .entry)) (now (counts .entry)) (now (marks .entry)) count regions C →
+        filter (isAllowed C) (rowsOf (now (rows .exit)) r) ≡ proposals C) ⌝ }
 {
     let unions = find_unions(
         boundaries,

@@ -83,9 +83,11 @@ pub fn has_three_exteriors(
     incidents: &[u8; 256],
     n: usize,
 ) -> bool
-    requires { ⌜ (count ≤ 256) × (index < count) ⌝ }
-    requires { ⌜ Listed (now smaller) (now larger) count (record { lo = getD (now smaller) index 0; hi = getD (now larger) index 0 }) (now incidents) n ⌝ }
-    ensures { λ r. ⌜ r ≡ leb 3 (countBelow count (leadsAnew (now (smaller .entry)) (now (larger .entry)) index (record { lo = getD (now (smaller .entry)) index 0; hi = getD (now (larger .entry)) index 0 }))) ⌝ }
+    requires few { ⌜ (count ≤ 256) × (index < count) ⌝ }
+    requires incidents_listed { ⌜ Listed (now smaller) (now larger) count (record { lo = getD (now smaller) index 0; hi = getD (now larger) index 0 })
+        (now incidents) n ⌝ }
+    ensures { λ r. ⌜ r ≡ leb 3 (countBelow count (leadsAnew (now (smaller .entry)) (now (larger .entry)) index
+        (record { lo = getD (now (smaller .entry)) index 0; hi = getD (now (larger .entry)) index 0 }))) ⌝ }
 {
     let lo = smaller[index];
     let hi = larger[index];
@@ -116,10 +118,12 @@ pub fn ports_pass(
     incidents: &[u8; 256],
     n: usize,
 ) -> bool
-    requires { ⌜ LentBoundaries (now boundaries) count ⌝ }
-    requires { ⌜ index < count ⌝ }
-    requires { ⌜ Listed (now smaller) (now larger) count (record { lo = getD (now smaller) index 0; hi = getD (now larger) index 0 }) (now incidents) n ⌝ }
-    ensures { λ r. ⌜ r ≡ portsPass (now (boundaries .entry)) (now (smaller .entry)) (now (larger .entry)) count index (record { lo = getD (now (smaller .entry)) index 0; hi = getD (now (larger .entry)) index 0 }) one ⌝ }
+    requires boundaries_lent { ⌜ LentBoundaries (now boundaries) count ⌝ }
+    requires index_within { ⌜ index < count ⌝ }
+    requires incidents_listed { ⌜ Listed (now smaller) (now larger) count (record { lo = getD (now smaller) index 0; hi = getD (now larger) index 0 })
+        (now incidents) n ⌝ }
+    ensures { λ r. ⌜ r ≡ portsPass (now (boundaries .entry)) (now (smaller .entry)) (now (larger .entry)) count index
+        (record { lo = getD (now (smaller .entry)) index 0; hi = getD (now (larger .entry)) index 0 }) one ⌝ }
 {
     let lo = smaller[index];
     let hi = larger[index];
@@ -150,8 +154,8 @@ fn is_below_five(a: u32, b: u32) -> bool
 
 // Whether regions lo and hi have too few incidents for three ports: a port is an incident of one of the two, and the boundary between them is one of both.
 pub fn has_few_incidents(counts: &[u32], lo: u32, hi: u32) -> bool
-    requires { ⌜ (1 ≤ lo) × (lo ≤ length (now counts)) ⌝ }
-    requires { ⌜ (1 ≤ hi) × (hi ≤ length (now counts)) ⌝ }
+    requires lo_named { ⌜ (1 ≤ lo) × (lo ≤ length (now counts)) ⌝ }
+    requires hi_named { ⌜ (1 ≤ hi) × (hi ≤ length (now counts)) ⌝ }
     ensures { λ r. ⌜ r ≡ ltb (getD (now (counts .entry)) (lo - 1) 0 + getD (now (counts .entry)) (hi - 1) 0) 5 ⌝ }
 {
     is_below_five(counts[wide(lo) - 1], counts[wide(hi) - 1])
@@ -168,9 +172,10 @@ pub fn is_union(
     regions: usize,
     index: usize,
 ) -> bool
-    requires { ⌜ Lent (now boundaries) (now smaller) (now larger) (now counts) (now marks) count regions ⌝ }
-    requires { ⌜ index < count ⌝ }
-    ensures { λ r. ⌜ r ≡ isUnionAt (now (boundaries .entry)) (now (smaller .entry)) (now (larger .entry)) (now (counts .entry)) (now (marks .entry)) count index ⌝ }
+    requires lent { ⌜ Lent (now boundaries) (now smaller) (now larger) (now counts) (now marks) count regions ⌝ }
+    requires index_within { ⌜ index < count ⌝ }
+    ensures { λ r. ⌜ r ≡ isUnionAt (now (boundaries .entry)) (now (smaller .entry)) (now (larger .entry)) (now (counts .entry)) (now (marks .entry))
+        count index ⌝ }
 {
     let lo = smaller[index];
     let hi = larger[index];

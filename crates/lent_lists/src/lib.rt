@@ -131,8 +131,8 @@ fn write_zeros(word: &[u8], list: &[u64]) {
 }
 
 fn least(m: usize, n: usize) -> usize
-    ensures { λ r. ⌜ (r ≤ m) × (r ≤ n) ⌝ }
-    ensures { λ r. ⌜ r ≡ min m n ⌝ }
+    ensures bound { λ r. ⌜ (r ≤ m) × (r ≤ n) ⌝ }
+    ensures answer { λ r. ⌜ r ≡ min m n ⌝ }
 {
     if m <= n { m } else { n }
 }
@@ -190,9 +190,9 @@ pub fn write_partition(
     tallies: &[u32],
     pairs: &[u32],
 ) -> Written
-    ensures { λ r. ⌜ Changed (take 4096 (now (labels .entry))) (r .labels) ⌝ }
-    ensures { λ r. ⌜ Changed (take 4096 (now (tallies .entry))) (r .tallies) ⌝ }
-    ensures { λ r. ⌜ Changed (take 4096 (now (pairs .entry))) (r .pairs) ⌝ }
+    ensures labels_changed { λ r. ⌜ Changed (take 4096 (now (labels .entry))) (r .labels) ⌝ }
+    ensures tallies_changed { λ r. ⌜ Changed (take 4096 (now (tallies .entry))) (r .tallies) ⌝ }
+    ensures pairs_changed { λ r. ⌜ Changed (take 4096 (now (pairs .entry))) (r .pairs) ⌝ }
 {
     write_answer(number, value);
     let of_labels = write_numbers(b"labels ", labels);

@@ -25,8 +25,8 @@ fn side_of(p: Pair, k: usize) -> u32
 
 // The region at place k of the rows of mouth m; 0 for the region outside.
 pub fn inner_region(pairs: &[u32], starts: &[usize; 257], m: usize, outer: u32, k: usize) -> u32
-    requires { ⌜ Stretch (now pairs) (now starts) m ⌝ }
-    requires { ⌜ k < placesOf (now starts) m ⌝ }
+    requires stretch { ⌜ Stretch (now pairs) (now starts) m ⌝ }
+    requires k_within { ⌜ k < placesOf (now starts) m ⌝ }
     ensures { λ r. ⌜ r ≡ innerAt (now (pairs .entry)) (now (starts .entry)) m outer k ⌝ }
 {
     let first = starts[m];

@@ -29,7 +29,9 @@ fn center_of(boundaries: &[u64], i: usize) -> Point
 }
 
 fn corner_near(ramp: Point, mouth: Point, broad: bool, corner: Point) -> bool
-    ensures { λ r. ⌜ (DistanceInRange (pointForm corner) (pointForm ramp) → DistanceInRange (pointForm corner) (pointForm mouth) → r ≡ cornerNear (pointForm ramp) (pointForm mouth) broad (pointForm corner)) ⌝ }
+    ensures { λ r. ⌜ (DistanceInRange (pointForm corner) (pointForm ramp) →
+        DistanceInRange (pointForm corner) (pointForm mouth) →
+        r ≡ cornerNear (pointForm ramp) (pointForm mouth) broad (pointForm corner)) ⌝ }
 {
     if distance(corner, ramp) <= MAX_APPROACH_RADIUS {
         return true;
@@ -44,7 +46,12 @@ fn corner_near(ramp: Point, mouth: Point, broad: bool, corner: Point) -> bool
 // Whether each corner of the region is near the ramp's centre or, for a broad two-port approach, the mouth's.
 pub fn region_near(region: Region, boundaries: &[u64], m: usize, a: usize, broad: bool) -> bool
     requires { ⌜ Placed (now boundaries) m × Placed (now boundaries) a ⌝ }
-    ensures { λ r. ⌜ ((C : Context) → ShownBoundaries C (now (boundaries .entry)) → m < C .count → a < C .count → PixelRegion (recordOf region) → r ≡ regionNear C m a broad (recordOf region)) ⌝ }
+    ensures { λ r. ⌜ ((C : Context) →
+        ShownBoundaries C (now (boundaries .entry)) →
+        m < C .count →
+        a < C .count →
+        PixelRegion (recordOf region) →
+        r ≡ regionNear C m a broad (recordOf region)) ⌝ }
 {
     let ramp = center_of(boundaries, a);
     let mouth = center_of(boundaries, m);

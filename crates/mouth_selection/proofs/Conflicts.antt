@@ -13,12 +13,8 @@ use Rattle.laws.specs.ListLaws.Lists.{any-append, any-false}
 use Rattle.laws.specs.ListLaws.ListsAsSets.{any-or}
 use Rattle.laws.specs.ListLaws.NumberLists.{member-append}
 use Rattle.laws.specs.OrderLaws.ListOrder.{eqb-sym}
+use Rattle.laws.specs.RustInteriors.ComponentRegions.{any-swap}
 use Rattle.mouth_selection.specs.Held.{held, isUsed, isHeld, isRefused}
-
-any-swap : {A B : Type 0} (f : A → B → Bool) (l : List A) (m : List B) → any (λ x. any (f x) m) l ≡ any (λ y. any (λ x. f x y) l) m
-unfolding any
-any-swap f [] m = sym (any-false m)
-any-swap f (x ∷ l) m = ap (λ b. any (f x) m || b) (any-swap f l m) ∙ sym (any-or (f x) (λ y. any (λ x. f x y) l) m)
 
 any-cond : {A : Type 0} (b : Bool) (f g : A → Bool) (l : List A) → any (λ x. cond b (f x) (g x)) l ≡ cond b (any f l) (any g l)
 any-cond true f g l = refl

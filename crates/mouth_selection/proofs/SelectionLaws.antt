@@ -20,6 +20,7 @@ use Rattle.laws.specs.ListLaws.NumberLists.{member-append}
 use Rattle.laws.specs.ListLaws.Below.{count-ext}
 use Rattle.laws.specs.OrderLaws.ListOrder.{by-key}
 use Rattle.laws.specs.OrderLaws.StableSort.{Weak}
+use Rattle.laws.specs.ListLaws.Tests.{neither}
 use Rattle.context.specs.OneMore.{OneMore, count-more}
 use Rattle.context.specs.ShownLaws.{shown-stretch, shown-rows}
 use Rattle.context.specs.Rows.{NamedRow}
@@ -27,7 +28,6 @@ use Rattle.mouth_selection.specs.Held.{isUsed, isRefused, HeldMarks, Tak
 use Rattle.mouth_selection.specs.Entries.{SafeEntries}
 use Rattle.mouth_selection.specs.Rounds.{better, leastFrom, leastAmong}
 use Rattle.mouth_selection.specs.Selecting.{isRemoved, Selects}
-use Rattle.ramp_boundaries.proofs.Distinct.{neither}
 use Rattle.mouth_selection.proofs.Conflicts.{refused-is, conflicts-itself}
 use Rattle.mouth_selection.proofs.Greedy.{isLeft, rounds-end, round-taken}
 

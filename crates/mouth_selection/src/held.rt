@@ -36,8 +36,8 @@ fn is_held(marks: &[u16], r: u32, hold: u16) -> bool
 
 // Whether one of these rows names a region, other than `outer`, that is held.
 fn inner_held(pairs: &[u32], marks: &[u16], first: usize, end: usize, outer: u32) -> bool
-    requires { ⌜ first ≤ end ⌝ }
-    requires { ⌜ ((k : ℕ) → first ≤ k → k < end → NamedRow (now pairs) (length (now marks)) k) ⌝ }
+    requires ordered { ⌜ first ≤ end ⌝ }
+    requires named_rows { ⌜ ((k : ℕ) → first ≤ k → k < end → NamedRow (now pairs) (length (now marks)) k) ⌝ }
     ensures { λ x. ⌜ x ≡ any (λ s. not (eqb s outer) && leb 3 (holdAt (now (marks .entry)) s + 2)) (regionsOf (pairsBetween (now (pairs .entry)) first end)) ⌝ }
 {
     let mut k = first;
@@ -62,10 +62,15 @@ pub fn proposal_held(
     outer: u32,
     kind: u8,
 ) -> bool
-    requires { ⌜ Stretch (now pairs) (now starts) m ⌝ }
-    requires { ⌜ ((k : ℕ) → getD (now starts) m 0 ≤ k → k < getD (now starts) (m + 1) 0 → NamedRow (now pairs) (length (now marks)) k) ⌝ }
-    requires { ⌜ outer ≤ length (now marks) ⌝ }
-    ensures { λ x. ⌜ ((C : Context) (taken : List MouthProposal) (a : ℕ) → ShownPairs C (now (pairs .entry)) (now (starts .entry)) → HeldMarks C taken (now (marks .entry)) → m < C .count → outer ≤ C .regions → x ≡ isHeld taken (proposalOf C m a outer kind)) ⌝ }
+    requires stretch { ⌜ Stretch (now pairs) (now starts) m ⌝ }
+    requires named_rows { ⌜ ((k : ℕ) → getD (now starts) m 0 ≤ k → k < getD (now starts) (m + 1) 0 → NamedRow (now pairs) (length (now marks)) k) ⌝ }
+    requires marks_room { ⌜ outer ≤ length (now marks) ⌝ }
+    ensures { λ x. ⌜ ((C : Context) (taken : List MouthProposal) (a : ℕ) →
+        ShownPairs C (now (pairs .entry)) (now (starts .entry)) →
+        HeldMarks C taken (now (marks .entry)) →
+        m < C .count →
+        outer ≤ C .regions →
+        x ≡ isHeld taken (proposalOf C m a outer kind)) ⌝ }
 {
     if outer != 0 {
         if is_held(marks, outer, outer_hold(kind)) {
@@ -95,8 +100,8 @@ fn hold_inner_region(marks: &mut [u16], r: u32, outer: u32)
 }
 
 fn hold_row(marks: &mut [u16], p: Pair, outer: u32)
-    requires { ⌜ (1 ≤ p .lo) × (p .lo ≤ length (now marks)) ⌝ }
-    requires { ⌜ (1 ≤ p .hi) × (p .hi ≤ length (now marks)) ⌝ }
+    requires lo_named { ⌜ (1 ≤ p .lo) × (p .lo ≤ length (now marks)) ⌝ }
+    requires hi_named { ⌜ (1 ≤ p .hi) × (p .hi ≤ length (now marks)) ⌝ }
     ensures { λ x. ⌜ now (marks .exit) ≡ markInner outer (now (marks .entry)) (p .lo ∷ p .hi ∷ []) ⌝ }
 {
     hold_inner_region(&mut *marks, p.lo, outer);
@@ -105,8 +110,8 @@ fn hold_row(marks: &mut [u16], p: Pair, outer: u32)
 
 // Holds the regions of these rows, other than `outer`.
 fn hold_inner(pairs: &[u32], marks: &mut [u16], first: usize, end: usize, outer: u32)
-    requires { ⌜ first ≤ end ⌝ }
-    requires { ⌜ ((k : ℕ) → first ≤ k → k < end → NamedRow (now pairs) (length (now marks)) k) ⌝ }
+    requires ordered { ⌜ first ≤ end ⌝ }
+    requires named_rows { ⌜ ((k : ℕ) → first ≤ k → k < end → NamedRow (now pairs) (length (now marks)) k) ⌝ }
     ensures { λ x. ⌜ now (marks .exit) ≡ markInner outer (now (marks .entry)) (regionsOf (pairsBetween (now (pairs .entry)) first end)) ⌝ }
 {
     let mut k = first;
@@ -125,10 +130,12 @@ pub fn hold_proposal(
     outer: u32,
     kind: u8,
 )
-    requires { ⌜ Stretch (now pairs) (now starts) m ⌝ }
-    requires { ⌜ ((k : ℕ) → getD (now starts) m 0 ≤ k → k < getD (now starts) (m + 1) 0 → NamedRow (now pairs) (length (now marks)) k) ⌝ }
-    requires { ⌜ outer ≤ length (now marks) ⌝ }
-    ensures { λ x. ⌜ now (marks .exit) ≡ markInner outer (cond (eqb outer 0) (now (marks .entry)) (markHeld (cond (eqb kind triangular) 2 1) (now (marks .entry)) outer)) (regionsOf (rowsOf (now (pairs .entry)) (now (starts .entry)) m)) ⌝ }
+    requires stretch { ⌜ Stretch (now pairs) (now starts) m ⌝ }
+    requires named_rows { ⌜ ((k : ℕ) → getD (now starts) m 0 ≤ k → k < getD (now starts) (m + 1) 0 → NamedRow (now pairs) (length (now marks)) k) ⌝ }
+    requires marks_room { ⌜ outer ≤ length (now marks) ⌝ }
+    ensures { λ x. ⌜ now (marks .exit) ≡ markInner outer
+        (cond (eqb outer 0) (now (marks .entry)) (markHeld (cond (eqb kind triangular) 2 1) (now (marks .entry)) outer))
+        (regionsOf (rowsOf (now (pairs .entry)) (now (starts .entry)) m)) ⌝ }
 {
     hold_outer(&mut *marks, outer, kind);
     let first = starts[m];

@@ -18,8 +18,8 @@ pub fn ranks_before(
     k: usize,
     b: usize,
 ) -> bool
-    requires { ⌜ (numbersPerBoundary * m + 8 < length (now boundaries)) × (numbersPerBoundary * a + 8 < length (now boundaries)) ⌝ }
-    requires { ⌜ (numbersPerBoundary * k + 8 < length (now boundaries)) × (numbersPerBoundary * b + 8 < length (now boundaries)) ⌝ }
+    requires first_boundaries { ⌜ (numbersPerBoundary * m + 8 < length (now boundaries)) × (numbersPerBoundary * a + 8 < length (now boundaries)) ⌝ }
+    requires second_boundaries { ⌜ (numbersPerBoundary * k + 8 < length (now boundaries)) × (numbersPerBoundary * b + 8 < length (now boundaries)) ⌝ }
     ensures { λ r. ⌜ r ≡ listLt (keyAt (now (boundaries .entry)) left m a) (keyAt (now (boundaries .entry)) right k b) ⌝ }
 {
     if left != right {

@@ -33,10 +33,10 @@ fn same_end(boundaries: &[u64], i: usize, j: usize) -> bool
 
 // Marks every boundary that is the ramp end of boundary a.
 fn use_end(boundaries: &[u64], used: &mut [bool; 256], count: usize, a: usize)
-    requires { ⌜ (count ≤ 256) × (numbersPerBoundary * count ≤ length (now boundaries)) ⌝ }
-    requires { ⌜ (a < count) × (length (now used) ≡ 256) ⌝ }
-    ensures { λ x. ⌜ ((j : ℕ) → getD (now (used .exit)) j false ≡ endMark (now (boundaries .entry)) a count (now (used .entry)) j) ⌝ }
-    ensures { λ x. ⌜ length (now (used .exit)) ≡ 256 ⌝ }
+    requires boundaries_room { ⌜ (count ≤ 256) × (numbersPerBoundary * count ≤ length (now boundaries)) ⌝ }
+    requires used_room { ⌜ (a < count) × (length (now used) ≡ 256) ⌝ }
+    ensures used { λ x. ⌜ ((j : ℕ) → getD (now (used .exit)) j false ≡ endMark (now (boundaries .entry)) a count (now (used .entry)) j) ⌝ }
+    ensures used_length { λ x. ⌜ length (now (used .exit)) ≡ 256 ⌝ }
 {
     let mut j = 0;
     while j < count {
@@ -58,10 +58,16 @@ fn is_left(
     outer: u32,
     kind: u8,
 ) -> bool
-    requires { ⌜ Stretch (now pairs) (now starts) m ⌝ }
-    requires { ⌜ ((k : ℕ) → getD (now starts) m 0 ≤ k → k < getD (now starts) (m + 1) 0 → NamedRow (now pairs) (length (now marks)) k) ⌝ }
-    requires { ⌜ (outer ≤ length (now marks)) × (a < 256) ⌝ }
-    ensures { λ x. ⌜ ((C : Context) (taken : List MouthProposal) → ShownPairs C (now (pairs .entry)) (now (starts .entry)) → TakenState C taken (now (removed .entry)) (now (used .entry)) (now (marks .entry)) → m < C .count → a < C .count → outer ≤ C .regions → x ≡ not (isRefused C taken (proposalOf C m a outer kind))) ⌝ }
+    requires stretch { ⌜ Stretch (now pairs) (now starts) m ⌝ }
+    requires named_rows { ⌜ ((k : ℕ) → getD (now starts) m 0 ≤ k → k < getD (now starts) (m + 1) 0 → NamedRow (now pairs) (length (now marks)) k) ⌝ }
+    requires sizes { ⌜ (outer ≤ length (now marks)) × (a < 256) ⌝ }
+    ensures { λ x. ⌜ ((C : Context) (taken : List MouthProposal) →
+        ShownPairs C (now (pairs .entry)) (now (starts .entry)) →
+        TakenState C taken (now (removed .entry)) (now (used .entry)) (now (marks .entry)) →
+        m < C .count →
+        a < C .count →
+        outer ≤ C .regions →
+        x ≡ not (isRefused C taken (proposalOf C m a outer kind))) ⌝ }
 {
     if removed[m] {
         return false;
@@ -86,13 +92,23 @@ fn take(
     outer: u32,
     kind: u8,
 )
-    requires { ⌜ (count ≤ 256) × (numbersPerBoundary * count ≤ length (now boundaries)) ⌝ }
-    requires { ⌜ ((a < count) × (length (now used) ≡ 256)) × (length (now removed) ≡ 256) ⌝ }
-    requires { ⌜ Stretch (now pairs) (now starts) m ⌝ }
-    requires { ⌜ ((k : ℕ) → getD (now starts) m 0 ≤ k → k < getD (now starts) (m + 1) 0 → NamedRow (now pairs) (length (now marks)) k) ⌝ }
-    requires { ⌜ outer ≤ length (now marks) ⌝ }
-    ensures { λ x. ⌜ ((C : Context) (taken : List MouthProposal) → C .count ≡ count → ShownBoundaries C (now (boundaries .entry)) → ShownPairs C (now (pairs .entry)) (now (starts .entry)) → C .regions ≤ length (now (marks .entry)) → TakenState C taken (now (removed .entry)) (now (used .entry)) (now (marks .entry)) → m < C .count → outer ≤ C .regions → isRefused C taken (proposalOf C m a outer kind) ≡ false → TakenState C (taken ++ (proposalOf C m a outer kind ∷ [])) (now (removed .exit)) (now (used .exit)) (now (marks .exit))) ⌝ }
-    ensures { λ x. ⌜ (length (now (marks .exit)) ≡ length (now (marks .entry))) × ((length (now (used .exit)) ≡ 256) × (length (now (removed .exit)) ≡ 256)) ⌝ }
+    requires boundaries_room { ⌜ (count ≤ 256) × (numbersPerBoundary * count ≤ length (now boundaries)) ⌝ }
+    requires marks_of_boundaries { ⌜ ((a < count) × (length (now used) ≡ 256)) × (length (now removed) ≡ 256) ⌝ }
+    requires stretch { ⌜ Stretch (now pairs) (now starts) m ⌝ }
+    requires named_rows { ⌜ ((k : ℕ) → getD (now starts) m 0 ≤ k → k < getD (now starts) (m + 1) 0 → NamedRow (now pairs) (length (now marks)) k) ⌝ }
+    requires marks_room { ⌜ outer ≤ length (now marks) ⌝ }
+    ensures taken { λ x. ⌜ ((C : Context) (taken : List MouthProposal) →
+        C .count ≡ count →
+        ShownBoundaries C (now (boundaries .entry)) →
+        ShownPairs C (now (pairs .entry)) (now (starts .entry)) →
+        C .regions ≤ length (now (marks .entry)) →
+        TakenState C taken (now (removed .entry)) (now (used .entry)) (now (marks .entry)) →
+        m < C .count →
+        outer ≤ C .regions →
+        isRefused C taken (proposalOf C m a outer kind) ≡ false →
+        TakenState C (taken ++ (proposalOf C m a outer kind ∷ [])) (now (removed .exit)) (now (used .exit)) (now (marks .exit))) ⌝ }
+    ensures lengths { λ x. ⌜ (length (now (marks .exit)) ≡ length (now (marks .entry)))
+        × ((length (now (used .exit)) ≡ 256) × (length (now (removed .exit)) ≡ 256)) ⌝ }
 {
     removed[m] = true;
     use_end(boundaries, &mut *used, count, a);
@@ -113,9 +129,16 @@ fn entry_left(
     near: &[bool; 16384],
     k: usize,
 ) -> bool
-    requires { ⌜ k < maxCandidates ⌝ }
-    requires { ⌜ SafeEntry (now pairs) (now starts) (now marks) (getD (now mouths) k 0) (getD (now outers) k 0) ⌝ }
-    ensures { λ x. ⌜ ((C : Context) (taken : List MouthProposal) → ShownPairs C (now (pairs .entry)) (now (starts .entry)) → TakenState C taken (now (removed .entry)) (now (used .entry)) (now (marks .entry)) → getD (now (mouths .entry)) k 0 < C .count → getD (now (ramps .entry)) k 0 < C .count → getD (now (outers .entry)) k 0 ≤ C .regions → x ≡ (getD (now (near .entry)) k false && not (isRefused C taken (entryAt C (now (mouths .entry)) (now (ramps .entry)) (now (outers .entry)) (now (kinds .entry)) k)))) ⌝ }
+    requires k_within { ⌜ k < maxCandidates ⌝ }
+    requires safe { ⌜ SafeEntry (now pairs) (now starts) (now marks) (getD (now mouths) k 0) (getD (now outers) k 0) ⌝ }
+    ensures { λ x. ⌜ ((C : Context) (taken : List MouthProposal) →
+        ShownPairs C (now (pairs .entry)) (now (starts .entry)) →
+        TakenState C taken (now (removed .entry)) (now (used .entry)) (now (marks .entry)) →
+        getD (now (mouths .entry)) k 0 < C .count →
+        getD (now (ramps .entry)) k 0 < C .count →
+        getD (now (outers .entry)) k 0 ≤ C .regions →
+        x ≡ (getD (now (near .entry)) k false
+        && not (isRefused C taken (entryAt C (now (mouths .entry)) (now (ramps .entry)) (now (outers .entry)) (now (kinds .entry)) k)))) ⌝ }
 {
     if !near[k] {
         return false;
@@ -151,10 +174,14 @@ fn entry_before(
     k: usize,
     j: usize,
 ) -> bool
-    requires { ⌜ (k < maxCandidates) × (j < maxCandidates) ⌝ }
-    requires { ⌜ (numbersPerBoundary * getD (now mouths) k 0 + 8 < length (now boundaries)) × (numbersPerBoundary * getD (now ramps) k 0 + 8 < length (now boundaries)) ⌝ }
-    requires { ⌜ (numbersPerBoundary * getD (now mouths) j 0 + 8 < length (now boundaries)) × (numbersPerBoundary * getD (now ramps) j 0 + 8 < length (now boundaries)) ⌝ }
-    ensures { λ r. ⌜ r ≡ listLt (keyAt (now (boundaries .entry)) (getD (now (separations .entry)) k 0) (getD (now (mouths .entry)) k 0) (getD (now (ramps .entry)) k 0)) (keyAt (now (boundaries .entry)) (getD (now (separations .entry)) j 0) (getD (now (mouths .entry)) j 0) (getD (now (ramps .entry)) j 0)) ⌝ }
+    requires places { ⌜ (k < maxCandidates) × (j < maxCandidates) ⌝ }
+    requires first_boundaries { ⌜ (numbersPerBoundary * getD (now mouths) k 0 + 8 < length (now boundaries))
+        × (numbersPerBoundary * getD (now ramps) k 0 + 8 < length (now boundaries)) ⌝ }
+    requires second_boundaries { ⌜ (numbersPerBoundary * getD (now mouths) j 0 + 8 < length (now boundaries))
+        × (numbersPerBoundary * getD (now ramps) j 0 + 8 < length (now boundaries)) ⌝ }
+    ensures { λ r. ⌜ r ≡ listLt (keyAt (now (boundaries .entry)) (getD (now (separations .entry)) k 0) (getD (now (mouths .entry)) k 0)
+        (getD (now (ramps .entry)) k 0))
+        (keyAt (now (boundaries .entry)) (getD (now (separations .entry)) j 0) (getD (now (mouths .entry)) j 0) (getD (now (ramps .entry)) j 0)) ⌝ }
 {
     ranks_before(
         boundaries,
@@ -185,10 +212,17 @@ fn better_entry(
     best: usize,
     k: usize,
 ) -> usize
-    requires { ⌜ SafeEntries (now boundaries) (now pairs) (now starts) (now marks) (now mouths) (now ramps) (now outers) n ⌝ }
-    requires { ⌜ (k < n) × (best ≤ n) ⌝ }
-    ensures { λ r. ⌜ r ≤ n ⌝ }
-    ensures { λ r. ⌜ ((C : Context) (taken : List MouthProposal) → ShownBoundaries C (now (boundaries .entry)) → ShownPairs C (now (pairs .entry)) (now (starts .entry)) → Listed C (now (mouths .entry)) (now (ramps .entry)) (now (outers .entry)) (now (separations .entry)) n → TakenState C taken (now (removed .entry)) (now (used .entry)) (now (marks .entry)) → entryIf C (now (mouths .entry)) (now (ramps .entry)) (now (outers .entry)) (now (kinds .entry)) n r ≡ betterOf C taken (now (mouths .entry)) (now (ramps .entry)) (now (outers .entry)) (now (kinds .entry)) (now (near .entry)) k (entryIf C (now (mouths .entry)) (now (ramps .entry)) (now (outers .entry)) (now (kinds .entry)) n best)) ⌝ }
+    requires safe { ⌜ SafeEntries (now boundaries) (now pairs) (now starts) (now marks) (now mouths) (now ramps) (now outers) n ⌝ }
+    requires places { ⌜ (k < n) × (best ≤ n) ⌝ }
+    ensures bound { λ r. ⌜ r ≤ n ⌝ }
+    ensures best { λ r. ⌜ ((C : Context) (taken : List MouthProposal) →
+        ShownBoundaries C (now (boundaries .entry)) →
+        ShownPairs C (now (pairs .entry)) (now (starts .entry)) →
+        Listed C (now (mouths .entry)) (now (ramps .entry)) (now (outers .entry)) (now (separations .entry)) n →
+        TakenState C taken (now (removed .entry)) (now (used .entry)) (now (marks .entry)) →
+        entryIf C (now (mouths .entry)) (now (ramps .entry)) (now (outers .entry)) (now (kinds .entry)) n r
+        ≡ betterOf C taken (now (mouths .entry)) (now (ramps .entry)) (now (outers .entry)) (now (kinds .entry)) (now (near .entry)) k
+        (entryIf C (now (mouths .entry)) (now (ramps .entry)) (now (outers .entry)) (now (kinds .entry)) n best)) ⌝ }
 {
     if !entry_left(
         pairs,
@@ -231,8 +265,15 @@ fn least_left(
     n: usize,
 ) -> usize
     requires { ⌜ SafeEntries (now boundaries) (now pairs) (now starts) (now marks) (now mouths) (now ramps) (now outers) n ⌝ }
-    ensures { λ r. ⌜ r ≤ n ⌝ }
-    ensures { λ r. ⌜ ((C : Context) (taken : List MouthProposal) → ShownBoundaries C (now (boundaries .entry)) → ShownPairs C (now (pairs .entry)) (now (starts .entry)) → Listed C (now (mouths .entry)) (now (ramps .entry)) (now (outers .entry)) (now (separations .entry)) n → TakenState C taken (now (removed .entry)) (now (used .entry)) (now (marks .entry)) → entryIf C (now (mouths .entry)) (now (ramps .entry)) (now (outers .entry)) (now (kinds .entry)) n r ≡ leastAmong C taken (nearEntries C (now (mouths .entry)) (now (ramps .entry)) (now (outers .entry)) (now (kinds .entry)) (now (near .entry)) n)) ⌝ }
+    ensures bound { λ r. ⌜ r ≤ n ⌝ }
+    ensures best { λ r. ⌜ ((C : Context) (taken : List MouthProposal) →
+        ShownBoundaries C (now (boundaries .entry)) →
+        ShownPairs C (now (pairs .entry)) (now (starts .entry)) →
+        Listed C (now (mouths .entry)) (now (ramps .entry)) (now (outers .entry)) (now (separations .entry)) n →
+        TakenState C taken (now (removed .entry)) (now (used .entry)) (now (marks .entry)) →
+        entryIf C (now (mouths .entry)) (now (ramps .entry)) (now (outers .entry)) (now (kinds .entry)) n r
+        ≡ leastAmong C taken (nearEntries C (now (mouths .entry)) (now (ramps .entry)) (now (outers .entry)) (now (kinds .entry))
+        (now (near .entry)) n)) ⌝ }
 {
     let mut best = n;
     let mut k = 0;
@@ -274,11 +315,22 @@ fn take_entry(
     count: usize,
     k: usize,
 )
-    requires { ⌜ (k < maxCandidates) × ((count ≤ 256) × (numbersPerBoundary * count ≤ length (now boundaries))) ⌝ }
-    requires { ⌜ (getD (now ramps) k 0 < count) × ((length (now used) ≡ 256) × (length (now removed) ≡ 256)) ⌝ }
-    requires { ⌜ SafeEntry (now pairs) (now starts) (now marks) (getD (now mouths) k 0) (getD (now outers) k 0) ⌝ }
-    ensures { λ x. ⌜ ((C : Context) (taken : List MouthProposal) → C .count ≡ count → ShownBoundaries C (now (boundaries .entry)) → ShownPairs C (now (pairs .entry)) (now (starts .entry)) → C .regions ≤ length (now (marks .entry)) → TakenState C taken (now (removed .entry)) (now (used .entry)) (now (marks .entry)) → getD (now (mouths .entry)) k 0 < C .count → getD (now (outers .entry)) k 0 ≤ C .regions → isRefused C taken (entryAt C (now (mouths .entry)) (now (ramps .entry)) (now (outers .entry)) (now (kinds .entry)) k) ≡ false → TakenState C (taken ++ (entryAt C (now (mouths .entry)) (now (ramps .entry)) (now (outers .entry)) (now (kinds .entry)) k ∷ [])) (now (removed .exit)) (now (used .exit)) (now (marks .exit))) ⌝ }
-    ensures { λ x. ⌜ (length (now (marks .exit)) ≡ length (now (marks .entry))) × ((length (now (used .exit)) ≡ 256) × (length (now (removed .exit)) ≡ 256)) ⌝ }
+    requires boundaries_room { ⌜ (k < maxCandidates) × ((count ≤ 256) × (numbersPerBoundary * count ≤ length (now boundaries))) ⌝ }
+    requires marks_of_boundaries { ⌜ (getD (now ramps) k 0 < count) × ((length (now used) ≡ 256) × (length (now removed) ≡ 256)) ⌝ }
+    requires safe { ⌜ SafeEntry (now pairs) (now starts) (now marks) (getD (now mouths) k 0) (getD (now outers) k 0) ⌝ }
+    ensures taken { λ x. ⌜ ((C : Context) (taken : List MouthProposal) →
+        C .count ≡ count →
+        ShownBoundaries C (now (boundaries .entry)) →
+        ShownPairs C (now (pairs .entry)) (now (starts .entry)) →
+        C .regions ≤ length (now (marks .entry)) →
+        TakenState C taken (now (removed .entry)) (now (used .entry)) (now (marks .entry)) →
+        getD (now (mouths .entry)) k 0 < C .count →
+        getD (now (outers .entry)) k 0 ≤ C .regions →
+        isRefused C taken (entryAt C (now (mouths .entry)) (now (ramps .entry)) (now (outers .entry)) (now (kinds .entry)) k) ≡ false →
+        TakenState C (taken ++ (entryAt C (now (mouths .entry)) (now (ramps .entry)) (now (outers .entry)) (now (kinds .entry)) k ∷ []))
+        (now (removed .exit)) (now (used .exit)) (now (marks .exit))) ⌝ }
+    ensures lengths { λ x. ⌜ (length (now (marks .exit)) ≡ length (now (marks .entry)))
+        × ((length (now (used .exit)) ≡ 256) × (length (now (removed .exit)) ≡ 256)) ⌝ }
 {
     let m = index(mouths[k]);
     let a = index(ramps[k]);
@@ -314,12 +366,18 @@ fn take_all(
     count: usize,
     n: usize,
 )
-    requires { ⌜ Selecting (now boundaries) (now pairs) (now starts) (now marks) (now mouths) (now ramps) (now outers) (now separations) count n ⌝ }
-    requires { ⌜ (length (now used) ≡ 256) × (length (now removed) ≡ 256) ⌝ }
-    requires { ⌜ ((i : ℕ) → getD (now removed) i false ≡ false) ⌝ }
-    requires { ⌜ ((i : ℕ) → getD (now used) i false ≡ false) ⌝ }
-    ensures { λ x. ⌜ ((C : Context) → Selects (now (boundaries .entry)) (now (pairs .entry)) (now (starts .entry)) (now (marks .entry)) (now (mouths .entry)) (now (ramps .entry)) (now (outers .entry)) (now (separations .entry)) count n C → proposals C ≡ nearEntries C (now (mouths .entry)) (now (ramps .entry)) (now (outers .entry)) (now (kinds .entry)) (now (near .entry)) n → (i : ℕ) → i < C .count → getD (now (removed .exit)) i false ≡ isRemoved C i) ⌝ }
-    ensures { λ x. ⌜ (length (now (marks .exit)) ≡ length (now (marks .entry))) ⌝ }
+    requires selecting { ⌜ Selecting (now boundaries) (now pairs) (now starts) (now marks) (now mouths) (now ramps) (now outers) (now separations) count n ⌝ }
+    requires room { ⌜ (length (now used) ≡ 256) × (length (now removed) ≡ 256) ⌝ }
+    requires removed_clear { ⌜ ((i : ℕ) → getD (now removed) i false ≡ false) ⌝ }
+    requires used_clear { ⌜ ((i : ℕ) → getD (now used) i false ≡ false) ⌝ }
+    ensures removed { λ x. ⌜ ((C : Context) →
+        Selects (now (boundaries .entry)) (now (pairs .entry)) (now (starts .entry)) (now (marks .entry)) (now (mouths .entry)) (now (ramps .entry))
+        (now (outers .entry)) (now (separations .entry)) count n C →
+        proposals C ≡ nearEntries C (now (mouths .entry)) (now (ramps .entry)) (now (outers .entry)) (now (kinds .entry)) (now (near .entry)) n →
+        (i : ℕ) →
+        i < C .count →
+        getD (now (removed .exit)) i false ≡ isRemoved C i) ⌝ }
+    ensures lengths { λ x. ⌜ (length (now (marks .exit)) ≡ length (now (marks .entry))) ⌝ }
 {
     let mut k = least_left(
         boundaries,
@@ -385,10 +443,16 @@ pub fn select_mouths(
     count: usize,
     n: usize,
 )
-    requires { ⌜ Selecting (now boundaries) (now pairs) (now starts) (now marks) (now mouths) (now ramps) (now outers) (now separations) count n ⌝ }
-    requires { ⌜ length (now removed) ≡ 256 ⌝ }
-    requires { ⌜ ((i : ℕ) → getD (now removed) i false ≡ false) ⌝ }
-    ensures { λ x. ⌜ ((C : Context) → Selects (now (boundaries .entry)) (now (pairs .entry)) (now (starts .entry)) (now (marks .entry)) (now (mouths .entry)) (now (ramps .entry)) (now (outers .entry)) (now (separations .entry)) count n C → proposals C ≡ nearEntries C (now (mouths .entry)) (now (ramps .entry)) (now (outers .entry)) (now (kinds .entry)) (now (near .entry)) n → (i : ℕ) → i < C .count → getD (now (removed .exit)) i false ≡ isRemoved C i) ⌝ }
+    requires selecting { ⌜ Selecting (now boundaries) (now pairs) (now starts) (now marks) (now mouths) (now ramps) (now outers) (now separations) count n ⌝ }
+    requires removed_room { ⌜ length (now removed) ≡ 256 ⌝ }
+    requires removed_clear { ⌜ ((i : ℕ) → getD (now removed) i false ≡ false) ⌝ }
+    ensures { λ x. ⌜ ((C : Context) →
+        Selects (now (boundaries .entry)) (now (pairs .entry)) (now (starts .entry)) (now (marks .entry)) (now (mouths .entry)) (now (ramps .entry))
+        (now (outers .entry)) (now (separations .entry)) count n C →
+        proposals C ≡ nearEntries C (now (mouths .entry)) (now (ramps .entry)) (now (outers .entry)) (now (kinds .entry)) (now (near .entry)) n →
+        (i : ℕ) →
+        i < C .count →
+        getD (now (removed .exit)) i false ≡ isRemoved C i) ⌝ }
 {
     let mut used = [false; 256];
     take_all(

@@ -51,8 +51,8 @@ fn show(output: &mut [u64], maps: usize, own: u64, map: u64, day: u64, supersede
 
 // Shows record i, if it is of this day or earlier.
 fn show_record(output: &mut [u64], maps: usize, records: &[u64], i: usize, day: u64)
-    requires { ⌜ numbersPerEntry * maps ≤ length (now output) ⌝ }
-    requires { ⌜ numbersPerAccession * (i + 1) ≤ length (now records) ⌝ }
+    requires output_room { ⌜ numbersPerEntry * maps ≤ length (now output) ⌝ }
+    requires records_room { ⌜ numbersPerAccession * (i + 1) ≤ length (now records) ⌝ }
     ensures { λ r. ⌜ RecordShown (now (output .entry)) maps (now (records .entry)) i day (now (output .exit)) ⌝ }
 {
     let at = RECORD_SIZE * i;

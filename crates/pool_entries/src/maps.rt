@@ -33,10 +33,10 @@ pub fn count_maps(terms: &[u64], day: u64) -> usize
 
 // Puts the map of term i behind the maps that stand in the output, if the term has the day, and gives how many there are then.
 fn put_map(terms: &[u64], i: usize, day: u64, output: &mut [u64], maps: usize) -> usize
-    requires { ⌜ numbersPerTerm * (i + 1) ≤ length (now terms) ⌝ }
-    requires { ⌜ maps + length (toList (mapAt (now terms) day i)) ≤ length (now output) ⌝ }
-    ensures { λ r. ⌜ now (output .exit) ≡ sets (now (output .entry)) maps (toList (mapAt (now (terms .entry)) day i)) ⌝ }
-    ensures { λ r. ⌜ r ≡ maps + length (toList (mapAt (now (terms .entry)) day i)) ⌝ }
+    requires terms_room { ⌜ numbersPerTerm * (i + 1) ≤ length (now terms) ⌝ }
+    requires output_room { ⌜ maps + length (toList (mapAt (now terms) day i)) ≤ length (now output) ⌝ }
+    ensures output { λ r. ⌜ now (output .exit) ≡ sets (now (output .entry)) maps (toList (mapAt (now (terms .entry)) day i)) ⌝ }
+    ensures answer { λ r. ⌜ r ≡ maps + length (toList (mapAt (now (terms .entry)) day i)) ⌝ }
 {
     if has_day(terms, i, day) {
         output[maps] = terms[TERM_SIZE * i];
@@ -85,8 +85,8 @@ fn spread_maps(output: &mut [u64], maps: usize)
 
 // Writes the entries of the day's maps, by number; they show no record yet.
 pub fn put_entries(terms: &[u64], day: u64, maps: usize, output: &mut [u64])
-    requires { ⌜ maps ≡ length (mapsIn (now terms) day) ⌝ }
-    requires { ⌜ numbersPerEntry * maps ≤ length (now output) ⌝ }
+    requires maps_counted { ⌜ maps ≡ length (mapsIn (now terms) day) ⌝ }
+    requires output_room { ⌜ numbersPerEntry * maps ≤ length (now output) ⌝ }
     ensures { λ r. ⌜ now (output .exit) ≡ overwrite (blank (mapsOfDay (now (terms .entry)) day)) (now (output .entry)) ⌝ }
 {
     put_maps(terms, day, &mut *output);

@@ -170,8 +170,8 @@ fn place_of(maps: &[u64], count: usize, map: u64) -> u64
 }
 
 fn key_of(terms: &[u64], i: usize, maps: &[u64], count: usize) -> u64
-    requires { ⌜ (numbersPerTerm * (i + 1) ≤ length (now terms)) × (count ≤ length (now maps)) ⌝ }
-    requires { ⌜ (i < 4294967296) × (length (now maps) < 65536) ⌝ }
+    requires room { ⌜ (numbersPerTerm * (i + 1) ≤ length (now terms)) × (count ≤ length (now maps)) ⌝ }
+    requires sizes { ⌜ (i < 4294967296) × (length (now maps) < 65536) ⌝ }
     ensures { λ r. ⌜ positionIn r ≡ i ⌝ }
 {
     let place = place_of(maps, count, terms[TERM_SIZE * i]);
@@ -189,9 +189,9 @@ fn take_key(
     keys: &mut [u64],
     taken: usize,
 ) -> usize
-    requires { ⌜ (numbersPerTerm * (i + 1) ≤ length (now terms)) × (count ≤ length (now maps)) × (taken < length (now keys)) ⌝ }
-    requires { ⌜ (i < 4294967296) × (length (now maps) < 65536) ⌝ }
-    requires { ⌜ Keys (now terms) i low high (now keys) taken ⌝ }
+    requires room { ⌜ (numbersPerTerm * (i + 1) ≤ length (now terms)) × (count ≤ length (now maps)) × (taken < length (now keys)) ⌝ }
+    requires sizes { ⌜ (i < 4294967296) × (length (now maps) < 65536) ⌝ }
+    requires keys { ⌜ Keys (now terms) i low high (now keys) taken ⌝ }
     ensures { λ r. ⌜ Keys (now (terms .entry)) (i + 1) low high (now (keys .exit)) r ⌝ }
 {
     if is_between(terms[TERM_SIZE * i], low, high) {
@@ -211,8 +211,8 @@ fn take_keys(
     count: usize,
     keys: &mut [u64],
 ) -> Taken
-    requires { ⌜ (numbersPerTerm * until ≤ length (now terms)) × (count ≤ length (now maps)) ⌝ }
-    requires { ⌜ (until ≤ 4294967296) × (length (now maps) < 65536) ⌝ }
+    requires room { ⌜ (numbersPerTerm * until ≤ length (now terms)) × (count ≤ length (now maps)) ⌝ }
+    requires sizes { ⌜ (until ≤ 4294967296) × (length (now maps) < 65536) ⌝ }
     ensures { λ r. ⌜ Keyed (now (terms .entry)) until low high (now (keys .exit)) r ⌝ }
 {
     let mut taken = 0;
@@ -237,8 +237,8 @@ fn doubt_between(
     maps: &mut [u64],
     keys: &mut [u64],
 ) -> usize
-    requires { ⌜ (numbersPerTerm * until ≤ length (now terms)) × (count ≤ length (now maps)) ⌝ }
-    requires { ⌜ (until ≤ 4294967296) × (length (now maps) < 65536) ⌝ }
+    requires room { ⌜ (numbersPerTerm * until ≤ length (now terms)) × (count ≤ length (now maps)) ⌝ }
+    requires sizes { ⌜ (until ≤ 4294967296) × (length (now maps) < 65536) ⌝ }
     ensures { λ r. ⌜ (r ≤ until) × (r ≡ until → ApartBetween (now (terms .entry)) low high until) ⌝ }
 {
     sort_numbers(&mut maps[..count]);
@@ -260,8 +260,8 @@ fn part_end(low: u64, before: u64) -> u64
 
 // The same of the terms of all maps. They are taken in parts, from `low` to `high`, each of as many maps as there is room for the terms of.
 fn doubt_of_all(terms: &[u64], until: usize, maps: &mut [u64], keys: &mut [u64]) -> usize
-    requires { ⌜ (numbersPerTerm * until ≤ length (now terms)) × (until ≤ 4294967296) ⌝ }
-    requires { ⌜ length (now maps) < 65536 ⌝ }
+    requires sizes { ⌜ (numbersPerTerm * until ≤ length (now terms)) × (until ≤ 4294967296) ⌝ }
+    requires maps_room { ⌜ length (now maps) < 65536 ⌝ }
     ensures { λ r. ⌜ (r ≤ until) × (r ≡ until → ApartTo (now (terms .entry)) until) ⌝ }
 {
     let mut doubt = until;
@@ -303,8 +303,8 @@ fn next_part(apart: usize, high: usize, whole: bool) -> usize
 
 // How many of the first terms do not overlap, with tables to work in.
 fn apart_terms_by(terms: &[u64], sound: usize, maps: &mut [u64], keys: &mut [u64]) -> usize
-    requires { ⌜ (numbersPerTerm * sound ≤ length (now terms)) × (sound ≤ 4294967296) ⌝ }
-    requires { ⌜ length (now maps) < 65536 ⌝ }
+    requires sizes { ⌜ (numbersPerTerm * sound ≤ length (now terms)) × (sound ≤ 4294967296) ⌝ }
+    requires maps_room { ⌜ length (now maps) < 65536 ⌝ }
     ensures { λ r. ⌜ (r ≤ sound) × ApartTo (now (terms .entry)) r ⌝ }
 {
     let mut apart = 0;

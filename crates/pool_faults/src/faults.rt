@@ -29,8 +29,8 @@ fn slot_of(map: u64) -> usize
 
 // Keeps the latest end of the slot's terms, with term i among them.
 fn keep_end(terms: &[u64], i: usize, ends: &mut [u64; SLOTS])
-    requires { ⌜ numbersPerTerm * (i + 1) ≤ length (now terms) ⌝ }
-    requires { ⌜ Latest (now terms) i (now ends) ⌝ }
+    requires terms_room { ⌜ numbersPerTerm * (i + 1) ≤ length (now terms) ⌝ }
+    requires latest { ⌜ Latest (now terms) i (now ends) ⌝ }
     ensures { λ r. ⌜ Latest (now (terms .entry)) (i + 1) (now (ends .exit)) ⌝ }
 {
     let slot = slot_of(terms[TERM_SIZE * i]);
@@ -43,8 +43,8 @@ fn keep_end(terms: &[u64], i: usize, ends: &mut [u64; SLOTS])
 // Whether term i is sound, its dates good and its end later than its first day, and starts no earlier than the latest end of its map's slot, so that it breaks
 // no rule.
 fn passes(terms: &[u64], i: usize, ends: &[u64; SLOTS]) -> bool
-    requires { ⌜ numbersPerTerm * (i + 1) ≤ length (now terms) ⌝ }
-    requires { ⌜ Latest (now terms) i (now ends) ⌝ }
+    requires terms_room { ⌜ numbersPerTerm * (i + 1) ≤ length (now terms) ⌝ }
+    requires latest { ⌜ Latest (now terms) i (now ends) ⌝ }
     ensures { λ r. ⌜ (r ≡ true → termFault (now (terms .entry)) i (daysOf (termAt (now (terms .entry)) i)) ≡ none) ⌝ }
 {
     match term_days(terms, i) {
@@ -77,8 +77,8 @@ fn passing_terms(terms: &[u64], count: usize) -> usize
 
 // How many of the first terms are sound, where those below `known` are known to be.
 fn sound_terms(terms: &[u64], known: usize, count: usize) -> usize
-    requires { ⌜ (known ≤ count) × (numbersPerTerm * count ≤ length (now terms)) ⌝ }
-    requires { ⌜ Sound (now terms) known ⌝ }
+    requires sizes { ⌜ (known ≤ count) × (numbersPerTerm * count ≤ length (now terms)) ⌝ }
+    requires sound { ⌜ Sound (now terms) known ⌝ }
     ensures { λ r. ⌜ (known ≤ r) × (r ≤ count) × Sound (now (terms .entry)) r ⌝ }
 {
     let mut i = known;

@@ -39,8 +39,8 @@ fn digit(n: u64) -> u8
 // Writes a number in decimal digits, the last first, and gives the place behind them.
 pub fn put_decimal(out: &mut [u8], at: usize, n: u64) -> usize
     requires { ⌜ at + mostDigits ≤ length (now out) ⌝ }
-    ensures { λ r. ⌜ Put (now (out .entry)) at (decimal n) (now (out .exit)) r ⌝ }
-    ensures { λ r. ⌜ r ≤ at + mostDigits ⌝ }
+    ensures put { λ r. ⌜ Put (now (out .entry)) at (decimal n) (now (out .exit)) r ⌝ }
+    ensures bound { λ r. ⌜ r ≤ at + mostDigits ⌝ }
 {
     let next = at + digit_count(n);
     let mut left = n;
@@ -72,8 +72,8 @@ fn put_text(out: &mut [u8], at: usize, bytes: &[u8]) -> usize
 // Writes a number and one byte behind it.
 fn put_number(out: &mut [u8], at: usize, n: u64, behind: u8) -> usize
     requires { ⌜ at + mostDigits + 1 ≤ length (now out) ⌝ }
-    ensures { λ r. ⌜ Put (now (out .entry)) at (decimal n ++ (behind ∷ [])) (now (out .exit)) r ⌝ }
-    ensures { λ r. ⌜ r ≤ at + mostDigits + 1 ⌝ }
+    ensures put { λ r. ⌜ Put (now (out .entry)) at (decimal n ++ (behind ∷ [])) (now (out .exit)) r ⌝ }
+    ensures bound { λ r. ⌜ r ≤ at + mostDigits + 1 ⌝ }
 {
     let place = put_decimal(&mut *out, at, n);
     out[place] = behind;
@@ -83,8 +83,8 @@ fn put_number(out: &mut [u8], at: usize, n: u64, behind: u8) -> usize
 // Writes a line of two texts, each with a number behind it, to the front of the list.
 fn put_line(out: &mut [u8], first: &[u8], m: u64, second: &[u8], n: u64) -> usize
     requires { ⌜ length (now first) + length (now second) + 2 * mostDigits + 1 ≤ length (now out) ⌝ }
-    ensures { λ r. ⌜ Put (now (out .entry)) 0 (now (first .entry) ++ decimal m ++ now (second .entry) ++ decimal n ++ text "\n") (now (out .exit)) r ⌝ }
-    ensures { λ r. ⌜ r ≤ length (now (first .entry)) + length (now (second .entry)) + 2 * mostDigits + 1 ⌝ }
+    ensures put { λ r. ⌜ Put (now (out .entry)) 0 (now (first .entry) ++ decimal m ++ now (second .entry) ++ decimal n ++ text "\n") (now (out .exit)) r ⌝ }
+    ensures bound { λ r. ⌜ r ≤ length (now (first .entry)) + length (now (second .entry)) + 2 * mostDigits + 1 ⌝ }
 {
     let a = put_text(&mut *out, 0, first);
     let b = put_decimal(&mut *out, a, m);
@@ -95,8 +95,8 @@ fn put_line(out: &mut [u8], first: &[u8], m: u64, second: &[u8], n: u64) -> usiz
 // Writes row k of the output, with single spaces.
 fn put_row(out: &mut [u8], at: usize, output: &[u64], k: usize) -> usize
     requires { ⌜ (at + rowRoom ≤ length (now out)) × (numbersPerRow * (k + 1) ≤ length (now output)) ⌝ }
-    ensures { λ r. ⌜ Put (now (out .entry)) at (rowLine (rowAt (now (output .entry)) (numbersPerRow * k))) (now (out .exit)) r ⌝ }
-    ensures { λ r. ⌜ r ≤ at + rowRoom ⌝ }
+    ensures put { λ r. ⌜ Put (now (out .entry)) at (rowLine (rowAt (now (output .entry)) (numbersPerRow * k))) (now (out .exit)) r ⌝ }
+    ensures bound { λ r. ⌜ r ≤ at + rowRoom ⌝ }
 {
     let row = ROW_SIZE * k;
     let a = put_number(&mut *out, at, output[row], SPACE);
@@ -109,8 +109,8 @@ fn put_row(out: &mut [u8], at: usize, output: &[u64], k: usize) -> usize
 // Writes the first rows of the output, a line each.
 fn put_rows(out: &mut [u8], at: usize, output: &[u64], kept: usize) -> usize
     requires { ⌜ (at + rowRoom * kept ≤ length (now out)) × (numbersPerRow * kept ≤ length (now output)) ⌝ }
-    ensures { λ r. ⌜ Put (now (out .entry)) at (concatMap rowLine (rowsIn kept (now (output .entry)))) (now (out .exit)) r ⌝ }
-    ensures { λ r. ⌜ r ≤ at + rowRoom * kept ⌝ }
+    ensures put { λ r. ⌜ Put (now (out .entry)) at (concatMap rowLine (rowsIn kept (now (output .entry)))) (now (out .exit)) r ⌝ }
+    ensures bound { λ r. ⌜ r ≤ at + rowRoom * kept ⌝ }
 {
     let mut next = at;
     let mut k = 0;
@@ -124,18 +124,18 @@ fn put_rows(out: &mut [u8], at: usize, output: &[u64], kept: usize) -> usize
 // Prints a refusal, and gives how many bytes it has.
 pub fn print_refused(out: &mut [u8], number: u64, place: u64) -> usize
     requires { ⌜ lineRoom ≤ length (now out) ⌝ }
-    ensures { λ r. ⌜ Printed (refusedLine number place) (now (out .entry)) (now (out .exit)) r ⌝ }
-    ensures { λ r. ⌜ r ≤ lineRoom ⌝ }
+    ensures printed { λ r. ⌜ Printed (refusedLine number place) (now (out .entry)) (now (out .exit)) r ⌝ }
+    ensures bound { λ r. ⌜ r ≤ lineRoom ⌝ }
 {
     put_line(&mut *out, b"refused ", number, b" at ", place)
 }
 
 // Prints the kept list, of which the output holds the rows, and gives how many bytes it has.
 pub fn print_kept(out: &mut [u8], output: &[u64], kept: usize, count: usize) -> usize
-    requires { ⌜ lineRoom + rowRoom * kept ≤ length (now out) ⌝ }
-    requires { ⌜ numbersPerRow * kept ≤ length (now output) ⌝ }
-    ensures { λ r. ⌜ KeptPrinted (now (output .entry)) kept count (now (out .entry)) (now (out .exit)) r ⌝ }
-    ensures { λ r. ⌜ r ≤ lineRoom + rowRoom * kept ⌝ }
+    requires out_room { ⌜ lineRoom + rowRoom * kept ≤ length (now out) ⌝ }
+    requires output_room { ⌜ numbersPerRow * kept ≤ length (now output) ⌝ }
+    ensures printed { λ r. ⌜ KeptPrinted (now (output .entry)) kept count (now (out .entry)) (now (out .exit)) r ⌝ }
+    ensures bound { λ r. ⌜ r ≤ lineRoom + rowRoom * kept ⌝ }
 {
     let next = put_line(&mut *out, b"kept ", kept as u64, b" of ", count as u64);
     put_rows(&mut *out, next, output, kept)

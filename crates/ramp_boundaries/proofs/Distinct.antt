@@ -2,7 +2,7 @@
 use Prim.Native.Nat.{ℕ, suc}
 use native.Mathlib.Omega.{arith}
 use mathlib.Core.Path.{_≡_, refl, sym, ap, ap₂, _∙_}
-use mathlib.Core.Bool.{Bool, true, false, not, _&&_, _||_, cond, or-false, or-comm, true≢false, false≢true}
+use mathlib.Core.Bool.{Bool, true, false, not, _&&_, _||_, cond, or-false, or-comm, false≢true}
 use mathlib.Core.List.{List, [], _∷_, _++_}
 use lib.ListN.{length}
 use lib.Dec.{eqb, leb}
@@ -14,11 +14,8 @@ use Rattle.laws.specs.ListLaws.NumberLists.{member-append}
 use Rattle.laws.specs.ListLaws.ListsAsSets.{member-addAll}
 use Rattle.laws.specs.OrderLaws.ListOrder.{eqb-sym}
 use Rattle.laws.specs.RustMouths.Triangles.{any-regions}
+use Rattle.laws.specs.ListLaws.Tests.{neither}
 use Rattle.ramp_boundaries.specs.Rows.{innerOf, oneOf}
-
-pub neither : (a b : Bool) → (a || b) ≡ false → (a ≡ false) × (b ≡ false)
-neither false b e = (refl, e)
-neither true b e = absurd (true≢false e)
 
 pub data Distinct : List ℕ → Type 0 where
   empty : Distinct []

@@ -3,7 +3,7 @@ use Prim.Native.Nat.{ℕ, zero, suc, _+_, _-_, _≤_, _<_}
 use native.Mathlib.Omega.{arith}
 use native.Mathlib.Numerals.{add-one}
 use mathlib.Core.Path.{_≡_, refl, sym, ap, ap₂, _∙_, subst⁻¹}
-use mathlib.Core.Bool.{Bool, true, false, not, _&&_, _||_, true≢false, false≢true}
+use mathlib.Core.Bool.{Bool, true, false, not, _&&_, _||_}
 use mathlib.Core.List.{List, [], _∷_, map}
 use lib.ListN.{length}
 use Rattle.definitions.specs.Scan.{run, any, all}
@@ -70,14 +70,6 @@ module _ (f : Pair → Bool) (rows : List ℕ) (first : ℕ) where
   all-one-fails k end h l e = all-as-any f (pairsBetween rows first end) ∙ ap not (between-any (λ p. not (f p)) rows first k end h l (ap not e))
 
 -- ---- tests that a code negates
-
-pub negated-true : (b : Bool) → not b ≡ true → b ≡ false
-negated-true true e = absurd (false≢true e)
-negated-true false e = refl
-
-pub negated-false : (b : Bool) → not b ≡ false → b ≡ true
-negated-false true e = refl
-negated-false false e = absurd (true≢false e)
 
 -- ---- of the regions that the rows name
 

@@ -8,14 +8,14 @@ use mathlib.Core.Option.{some}
 use mathlib.Core.List.{List, [], _∷_, List·Memᴰ}
 use lib.ListN.{length}
 use lib.Dec.{eqb, leb}
-use borrow.Author.Tests.{eqb-true, eq-eqb, ne-eqb}
+use borrow.Author.Tests.{eqb-true, eq-eqb, ne-eqb, not-true, not-false}
 use Rattle.definitions.specs.Scan.{any, all, filter, member}
 use Rattle.definitions.specs.Grid.{Pair, contains}
 use Rattle.definitions.specs.MouthShapes.{star, distinctRegions, commonRegions, starFrom, mouthShape}
 use Rattle.laws.specs.ListLaws.Lists.{All, more}
 use Rattle.laws.specs.ListLaws.Members.{all-at, any-member, any-found, any-failed}
 use Rattle.ramp_boundaries.specs.Rows.{innerOf}
-use Rattle.ramp_boundaries.proofs.RowLists.{all-as-any, negated-true, negated-false}
+use Rattle.ramp_boundaries.proofs.RowLists.{all-as-any}
 use Rattle.ramp_boundaries.proofs.Distinct.{member-inner, two-members}
 use Rattle.ramp_boundaries.proofs.ApproachLaws.{Named}
 
@@ -49,21 +49,21 @@ other o p h e = go (eqb (p .lo) o) refl
 
 module _ {n : ℕ} (l : List Pair) (a : All (Named n) l) where
   two-inner : (o x : ℕ) → all (contains o) l ≡ true → all (contains x) l ≡ false → (x ≡ o → ⊥) → any (contains x) l ≡ true → leb (length (innerOf o l)) 1 ≡ false
-  two-inner o x ho hx apart has = go (any-found (λ p. not (contains x p)) l (negated-false _ (sym (all-as-any (contains x) l) ∙ hx)))
+  two-inner o x ho hx apart has = go (any-found (λ p. not (contains x p)) l (not-false _ (sym (all-as-any (contains x) l) ∙ hx)))
     where
       every : All (λ p. not (contains o p) ≡ false) l
-      every = any-failed (λ p. not (contains o p)) l (negated-true _ (sym (all-as-any (contains o) l) ∙ ho))
+      every = any-failed (λ p. not (contains o p)) l (not-true _ (sym (all-as-any (contains o) l) ∙ ho))
 
       in-inner : (y : ℕ) → (y ≡ o → ⊥) → any (contains y) l ≡ true → member y (innerOf o l) ≡ true
       in-inner y h k = member-inner o y l ∙ ap₂ (λ b c. not b && c) (ne-eqb y o h) k
 
       go : (p : Pair) × List·Memᴰ p l × (not (contains x p) ≡ true) → leb (length (innerOf o l)) 1 ≡ false
-      go (p, i, e) = at (other o p (all-at a i .1 .0) (negated-false _ (all-at every i)))
+      go (p, i, e) = at (other o p (all-at a i .1 .0) (not-false _ (all-at every i)))
         where
           at : Other o p → leb (length (innerOf o l)) 1 ≡ false
           at t =
               two-members x (t .region) (innerOf o l)
-              (λ k. true≢false (sym (t .named) ∙ sym (ap (λ r. contains r p) k) ∙ negated-true _ e))
+              (λ k. true≢false (sym (t .named) ∙ sym (ap (λ r. contains r p) k) ∙ not-true _ e))
               (in-inner x apart has) (in-inner (t .region) (t .apart) (any-member (contains (t .region)) i (t .named)))
 
 module _ {n : ℕ} (p q : Pair) (l : List Pair) (a : All (Named n) (p ∷ q ∷ l)) where

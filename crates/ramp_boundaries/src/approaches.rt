@@ -36,7 +36,11 @@ fn other_region(r: u32, p: Pair) -> u32
 // The one region of q that a row of mouth m names, but for `outer`; 0 where there are none or two.
 fn shared_region(pairs: &[u32], starts: &[usize; 257], m: usize, outer: u32, q: Pair) -> u32
     requires { ⌜ Stretch (now pairs) (now starts) m ⌝ }
-    ensures { λ x. ⌜ ((C : Context) → ShownPairs C (now (pairs .entry)) (now (starts .entry)) → m < C .count → q .lo < q .hi → x ≡ oneOf (filter (λ r. contains r (pairForm q)) (innerOf outer (C .pairs m)))) ⌝ }
+    ensures { λ x. ⌜ ((C : Context) →
+        ShownPairs C (now (pairs .entry)) (now (starts .entry)) →
+        m < C .count →
+        q .lo < q .hi →
+        x ≡ oneOf (filter (λ r. contains r (pairForm q)) (innerOf outer (C .pairs m)))) ⌝ }
 {
     let lo = (q.lo != outer) & is_incident(pairs, starts, m, q.lo);
     let hi = (q.hi != outer) & is_incident(pairs, starts, m, q.hi);
@@ -52,7 +56,12 @@ fn shared_region(pairs: &[u32], starts: &[usize; 257], m: usize, outer: u32, q: 
 // The approach of mouth m, whose shape is s, from the ramp's full pair q.
 fn approach_from(pairs: &[u32], starts: &[usize; 257], m: usize, s: Shape, q: Pair) -> Approach
     requires { ⌜ Stretch (now pairs) (now starts) m ⌝ }
-    ensures { λ x. ⌜ ((C : Context) → ShownPairs C (now (pairs .entry)) (now (starts .entry)) → m < C .count → q .lo < q .hi → shapeForm (C .pairs m) s ≡ mouthShape true (C .pairs m) → x ≡ approachOf (some (pairForm q)) (mouthShape true (C .pairs m))) ⌝ }
+    ensures { λ x. ⌜ ((C : Context) →
+        ShownPairs C (now (pairs .entry)) (now (starts .entry)) →
+        m < C .count →
+        q .lo < q .hi →
+        shapeForm (C .pairs m) s ≡ mouthShape true (C .pairs m) →
+        x ≡ approachOf (some (pairForm q)) (mouthShape true (C .pairs m))) ⌝ }
 {
     match s {
         Shape::None => Approach::None,
@@ -83,9 +92,14 @@ pub fn approach_of(
     m: usize,
     a: usize,
 ) -> Approach
-    requires { ⌜ talliesPerSpan * a + 1 < length (now tallies) ⌝ }
-    requires { ⌜ Stretch (now pairs) (now starts) m × Stretch (now pairs) (now starts) a ⌝ }
-    ensures { λ x. ⌜ ((C : Context) → ShownTallies C (now (tallies .entry)) → ShownPairs C (now (pairs .entry)) (now (starts .entry)) → m < C .count → a < C .count → x ≡ approachOf (fullPair C a) (mouthShape true (C .pairs m))) ⌝ }
+    requires tallies_room { ⌜ talliesPerSpan * a + 1 < length (now tallies) ⌝ }
+    requires stretch { ⌜ Stretch (now pairs) (now starts) m × Stretch (now pairs) (now starts) a ⌝ }
+    ensures { λ x. ⌜ ((C : Context) →
+        ShownTallies C (now (tallies .entry)) →
+        ShownPairs C (now (pairs .entry)) (now (starts .entry)) →
+        m < C .count →
+        a < C .count →
+        x ≡ approachOf (fullPair C a) (mouthShape true (C .pairs m))) ⌝ }
 {
     match full_pair(tallies, pairs, starts, a) {
         FullPair::None => Approach::None,

@@ -53,7 +53,8 @@ fn put_candidate(
     bits: u64,
 )
     requires { ⌜ (n < maxCandidates) × ((m < 256) × (a < 256)) ⌝ }
-    ensures { λ x. ⌜ Put (now (mouths .entry)) (now (ramps .entry)) (now (outers .entry)) (now (kinds .entry)) (now (separations .entry)) n m a outer kind bits (now (mouths .exit)) (now (ramps .exit)) (now (outers .exit)) (now (kinds .exit)) (now (separations .exit)) ⌝ }
+    ensures { λ x. ⌜ Put (now (mouths .entry)) (now (ramps .entry)) (now (outers .entry)) (now (kinds .entry)) (now (separations .entry)) n m a outer
+        kind bits (now (mouths .exit)) (now (ramps .exit)) (now (outers .exit)) (now (kinds .exit)) (now (separations .exit)) ⌝ }
 {
     mouths[n] = m as u8;
     ramps[n] = a as u8;
@@ -89,12 +90,20 @@ fn push_mouth(
     a: usize,
     ends: OtherEnds,
 ) -> usize
-    requires { ⌜ Shown (now boundaries) (now tallies) (now pairs) (now starts) (now counts) (now marks) count ⌝ }
-    requires { ⌜ Roomy (now mouths) (now ramps) (now outers) (now kinds) (now separations) ⌝ }
-    requires { ⌜ (n < maxCandidates) × ((m < count) × (a < count)) ⌝ }
-    ensures { λ r. ⌜ (n ≤ r) × (r ≤ n + 1) ⌝ }
-    ensures { λ r. ⌜ Roomy (now (mouths .exit)) (now (ramps .exit)) (now (outers .exit)) (now (kinds .exit)) (now (separations .exit)) ⌝ }
-    ensures { λ r. ⌜ ((C : Context) (l : List MouthProposal) → Shows (now (boundaries .entry)) (now (pairs .entry)) (now (starts .entry)) (now (counts .entry)) (now (marks .entry)) count C → ShownTallies C (now (tallies .entry)) → noRamp C a ≡ false → fullCut C a ≡ true → EndsOf C a ends → Filled C (now (mouths .entry)) (now (ramps .entry)) (now (outers .entry)) (now (kinds .entry)) (now (separations .entry)) n l → Filled C (now (mouths .exit)) (now (ramps .exit)) (now (outers .exit)) (now (kinds .exit)) (now (separations .exit)) r (l ++ toList (mouthCandidate C a m))) ⌝ }
+    requires shown { ⌜ Shown (now boundaries) (now tallies) (now pairs) (now starts) (now counts) (now marks) count ⌝ }
+    requires roomy { ⌜ Roomy (now mouths) (now ramps) (now outers) (now kinds) (now separations) ⌝ }
+    requires places { ⌜ (n < maxCandidates) × ((m < count) × (a < count)) ⌝ }
+    ensures bound { λ r. ⌜ (n ≤ r) × (r ≤ n + 1) ⌝ }
+    ensures still_roomy { λ r. ⌜ Roomy (now (mouths .exit)) (now (ramps .exit)) (now (outers .exit)) (now (kinds .exit)) (now (separations .exit)) ⌝ }
+    ensures filled { λ r. ⌜ ((C : Context) (l : List MouthProposal) →
+        Shows (now (boundaries .entry)) (now (pairs .entry)) (now (starts .entry)) (now (counts .entry)) (now (marks .entry)) count C →
+        ShownTallies C (now (tallies .entry)) →
+        noRamp C a ≡ false →
+        fullCut C a ≡ true →
+        EndsOf C a ends →
+        Filled C (now (mouths .entry)) (now (ramps .entry)) (now (outers .entry)) (now (kinds .entry)) (now (separations .entry)) n l →
+        Filled C (now (mouths .exit)) (now (ramps .exit)) (now (outers .exit)) (now (kinds .exit)) (now (separations .exit)) r (l
+        ++ toList (mouthCandidate C a m))) ⌝ }
 {
     match mouth_candidate(
         boundaries,
@@ -152,12 +161,20 @@ fn push_plain(
     a: usize,
     ends: OtherEnds,
 ) -> usize
-    requires { ⌜ Shown (now boundaries) (now tallies) (now pairs) (now starts) (now counts) (now marks) count ⌝ }
-    requires { ⌜ Roomy (now mouths) (now ramps) (now outers) (now kinds) (now separations) ⌝ }
-    requires { ⌜ (n + bit (plainAt (now boundaries) m) ≤ maxCandidates) × ((m < count) × (a < count)) ⌝ }
-    ensures { λ r. ⌜ r ≤ n + bit (plainAt (now (boundaries .entry)) m) ⌝ }
-    ensures { λ r. ⌜ Roomy (now (mouths .exit)) (now (ramps .exit)) (now (outers .exit)) (now (kinds .exit)) (now (separations .exit)) ⌝ }
-    ensures { λ r. ⌜ ((C : Context) (l : List MouthProposal) → Shows (now (boundaries .entry)) (now (pairs .entry)) (now (starts .entry)) (now (counts .entry)) (now (marks .entry)) count C → ShownTallies C (now (tallies .entry)) → noRamp C a ≡ false → fullCut C a ≡ true → EndsOf C a ends → Filled C (now (mouths .entry)) (now (ramps .entry)) (now (outers .entry)) (now (kinds .entry)) (now (separations .entry)) n l → Filled C (now (mouths .exit)) (now (ramps .exit)) (now (outers .exit)) (now (kinds .exit)) (now (separations .exit)) r (l ++ toList (mouthCandidate C a m))) ⌝ }
+    requires shown { ⌜ Shown (now boundaries) (now tallies) (now pairs) (now starts) (now counts) (now marks) count ⌝ }
+    requires roomy { ⌜ Roomy (now mouths) (now ramps) (now outers) (now kinds) (now separations) ⌝ }
+    requires places { ⌜ (n + bit (plainAt (now boundaries) m) ≤ maxCandidates) × ((m < count) × (a < count)) ⌝ }
+    ensures bound { λ r. ⌜ r ≤ n + bit (plainAt (now (boundaries .entry)) m) ⌝ }
+    ensures still_roomy { λ r. ⌜ Roomy (now (mouths .exit)) (now (ramps .exit)) (now (outers .exit)) (now (kinds .exit)) (now (separations .exit)) ⌝ }
+    ensures filled { λ r. ⌜ ((C : Context) (l : List MouthProposal) →
+        Shows (now (boundaries .entry)) (now (pairs .entry)) (now (starts .entry)) (now (counts .entry)) (now (marks .entry)) count C →
+        ShownTallies C (now (tallies .entry)) →
+        noRamp C a ≡ false →
+        fullCut C a ≡ true →
+        EndsOf C a ends →
+        Filled C (now (mouths .entry)) (now (ramps .entry)) (now (outers .entry)) (now (kinds .entry)) (now (separations .entry)) n l →
+        Filled C (now (mouths .exit)) (now (ramps .exit)) (now (outers .exit)) (now (kinds .exit)) (now (separations .exit)) r (l
+        ++ toList (mouthCandidate C a m))) ⌝ }
 {
     if boundaries[NUMBERS_PER_BOUNDARY * m + 5] != 0 {
         return n;
@@ -200,12 +217,20 @@ fn push_mouths(
     a: usize,
     ends: OtherEnds,
 ) -> usize
-    requires { ⌜ Shown (now boundaries) (now tallies) (now pairs) (now starts) (now counts) (now marks) count ⌝ }
-    requires { ⌜ Roomy (now mouths) (now ramps) (now outers) (now kinds) (now separations) ⌝ }
-    requires { ⌜ (first + countBelow count (plainAt (now boundaries)) ≤ maxCandidates) × (a < count) ⌝ }
-    ensures { λ r. ⌜ r ≤ first + countBelow count (plainAt (now (boundaries .entry))) ⌝ }
-    ensures { λ r. ⌜ Roomy (now (mouths .exit)) (now (ramps .exit)) (now (outers .exit)) (now (kinds .exit)) (now (separations .exit)) ⌝ }
-    ensures { λ r. ⌜ ((C : Context) (l : List MouthProposal) → Shows (now (boundaries .entry)) (now (pairs .entry)) (now (starts .entry)) (now (counts .entry)) (now (marks .entry)) count C → ShownTallies C (now (tallies .entry)) → noRamp C a ≡ false → fullCut C a ≡ true → EndsOf C a ends → Filled C (now (mouths .entry)) (now (ramps .entry)) (now (outers .entry)) (now (kinds .entry)) (now (separations .entry)) first l → Filled C (now (mouths .exit)) (now (ramps .exit)) (now (outers .exit)) (now (kinds .exit)) (now (separations .exit)) r (l ++ collect count (mouthCandidate C a))) ⌝ }
+    requires shown { ⌜ Shown (now boundaries) (now tallies) (now pairs) (now starts) (now counts) (now marks) count ⌝ }
+    requires roomy { ⌜ Roomy (now mouths) (now ramps) (now outers) (now kinds) (now separations) ⌝ }
+    requires places { ⌜ (first + countBelow count (plainAt (now boundaries)) ≤ maxCandidates) × (a < count) ⌝ }
+    ensures bound { λ r. ⌜ r ≤ first + countBelow count (plainAt (now (boundaries .entry))) ⌝ }
+    ensures still_roomy { λ r. ⌜ Roomy (now (mouths .exit)) (now (ramps .exit)) (now (outers .exit)) (now (kinds .exit)) (now (separations .exit)) ⌝ }
+    ensures filled { λ r. ⌜ ((C : Context) (l : List MouthProposal) →
+        Shows (now (boundaries .entry)) (now (pairs .entry)) (now (starts .entry)) (now (counts .entry)) (now (marks .entry)) count C →
+        ShownTallies C (now (tallies .entry)) →
+        noRamp C a ≡ false →
+        fullCut C a ≡ true →
+        EndsOf C a ends →
+        Filled C (now (mouths .entry)) (now (ramps .entry)) (now (outers .entry)) (now (kinds .entry)) (now (separations .entry)) first l →
+        Filled C (now (mouths .exit)) (now (ramps .exit)) (now (outers .exit)) (now (kinds .exit)) (now (separations .exit)) r (l
+        ++ collect count (mouthCandidate C a))) ⌝ }
 {
     let mut n = first;
     let mut m = 0;
@@ -250,12 +275,17 @@ fn push_ramp(
     n: usize,
     a: usize,
 ) -> usize
-    requires { ⌜ Shown (now boundaries) (now tallies) (now pairs) (now starts) (now counts) (now marks) count ⌝ }
-    requires { ⌜ Roomy (now mouths) (now ramps) (now outers) (now kinds) (now separations) ⌝ }
-    requires { ⌜ (n ≤ countBelow a (rampAt (now boundaries)) * countBelow count (plainAt (now boundaries))) × (a < count) ⌝ }
-    ensures { λ r. ⌜ r ≤ countBelow (a + 1) (rampAt (now (boundaries .entry))) * countBelow count (plainAt (now (boundaries .entry))) ⌝ }
-    ensures { λ r. ⌜ Roomy (now (mouths .exit)) (now (ramps .exit)) (now (outers .exit)) (now (kinds .exit)) (now (separations .exit)) ⌝ }
-    ensures { λ r. ⌜ ((C : Context) (l : List MouthProposal) → Shows (now (boundaries .entry)) (now (pairs .entry)) (now (starts .entry)) (now (counts .entry)) (now (marks .entry)) count C → ShownTallies C (now (tallies .entry)) → Filled C (now (mouths .entry)) (now (ramps .entry)) (now (outers .entry)) (now (kinds .entry)) (now (separations .entry)) n l → Filled C (now (mouths .exit)) (now (ramps .exit)) (now (outers .exit)) (now (kinds .exit)) (now (separations .exit)) r (l ++ collect count (mouthCandidate C a))) ⌝ }
+    requires shown { ⌜ Shown (now boundaries) (now tallies) (now pairs) (now starts) (now counts) (now marks) count ⌝ }
+    requires roomy { ⌜ Roomy (now mouths) (now ramps) (now outers) (now kinds) (now separations) ⌝ }
+    requires places { ⌜ (n ≤ countBelow a (rampAt (now boundaries)) * countBelow count (plainAt (now boundaries))) × (a < count) ⌝ }
+    ensures bound { λ r. ⌜ r ≤ countBelow (a + 1) (rampAt (now (boundaries .entry))) * countBelow count (plainAt (now (boundaries .entry))) ⌝ }
+    ensures still_roomy { λ r. ⌜ Roomy (now (mouths .exit)) (now (ramps .exit)) (now (outers .exit)) (now (kinds .exit)) (now (separations .exit)) ⌝ }
+    ensures filled { λ r. ⌜ ((C : Context) (l : List MouthProposal) →
+        Shows (now (boundaries .entry)) (now (pairs .entry)) (now (starts .entry)) (now (counts .entry)) (now (marks .entry)) count C →
+        ShownTallies C (now (tallies .entry)) →
+        Filled C (now (mouths .entry)) (now (ramps .entry)) (now (outers .entry)) (now (kinds .entry)) (now (separations .entry)) n l →
+        Filled C (now (mouths .exit)) (now (ramps .exit)) (now (outers .exit)) (now (kinds .exit)) (now (separations .exit)) r (l
+        ++ collect count (mouthCandidate C a))) ⌝ }
 {
     if boundaries[NUMBERS_PER_BOUNDARY * a + 5] == 0 {
         return n;
@@ -298,11 +328,14 @@ pub fn push_candidates(
     kinds: &mut [u8; 16384],
     separations: &mut [u64; 16384],
 ) -> usize
-    requires { ⌜ Shown (now boundaries) (now tallies) (now pairs) (now starts) (now counts) (now marks) count ⌝ }
-    requires { ⌜ Roomy (now mouths) (now ramps) (now outers) (now kinds) (now separations) ⌝ }
-    ensures { λ r. ⌜ r ≤ maxCandidates ⌝ }
-    ensures { λ r. ⌜ Roomy (now (mouths .exit)) (now (ramps .exit)) (now (outers .exit)) (now (kinds .exit)) (now (separations .exit)) ⌝ }
-    ensures { λ r. ⌜ ((C : Context) → Shows (now (boundaries .entry)) (now (pairs .entry)) (now (starts .entry)) (now (counts .entry)) (now (marks .entry)) count C → ShownTallies C (now (tallies .entry)) → Filled C (now (mouths .exit)) (now (ramps .exit)) (now (outers .exit)) (now (kinds .exit)) (now (separations .exit)) r (candidates C)) ⌝ }
+    requires shown { ⌜ Shown (now boundaries) (now tallies) (now pairs) (now starts) (now counts) (now marks) count ⌝ }
+    requires roomy { ⌜ Roomy (now mouths) (now ramps) (now outers) (now kinds) (now separations) ⌝ }
+    ensures bound { λ r. ⌜ r ≤ maxCandidates ⌝ }
+    ensures still_roomy { λ r. ⌜ Roomy (now (mouths .exit)) (now (ramps .exit)) (now (outers .exit)) (now (kinds .exit)) (now (separations .exit)) ⌝ }
+    ensures filled { λ r. ⌜ ((C : Context) →
+        Shows (now (boundaries .entry)) (now (pairs .entry)) (now (starts .entry)) (now (counts .entry)) (now (marks .entry)) count C →
+        ShownTallies C (now (tallies .entry)) →
+        Filled C (now (mouths .exit)) (now (ramps .exit)) (now (outers .exit)) (now (kinds .exit)) (now (separations .exit)) r (candidates C)) ⌝ }
 {
     let mut n = 0;
     let mut a = 0;

@@ -25,7 +25,9 @@ pub struct OtherEnds {
 // Whether boundary j is the other end of the ramp of boundary a.
 fn is_other_end(boundaries: &[u64], j: usize, a: usize) -> bool
     requires { ⌜ (numbersPerBoundary * j + 8 < length (now boundaries)) × (numbersPerBoundary * a + 8 < length (now boundaries)) ⌝ }
-    ensures { λ r. ⌜ r ≡ (not (eqb (getD (now (boundaries .entry)) (numbersPerBoundary * j + 5) 0) 0) && (eqb (getD (now (boundaries .entry)) (numbersPerBoundary * j + 6) 0) (getD (now (boundaries .entry)) (numbersPerBoundary * a + 6) 0) && not (eqb (getD (now (boundaries .entry)) (numbersPerBoundary * j + 5) 0) (getD (now (boundaries .entry)) (numbersPerBoundary * a + 5) 0)))) ⌝ }
+    ensures { λ r. ⌜ r ≡ (not (eqb (getD (now (boundaries .entry)) (numbersPerBoundary * j + 5) 0) 0)
+        && (eqb (getD (now (boundaries .entry)) (numbersPerBoundary * j + 6) 0) (getD (now (boundaries .entry)) (numbersPerBoundary * a + 6) 0)
+        && not (eqb (getD (now (boundaries .entry)) (numbersPerBoundary * j + 5) 0) (getD (now (boundaries .entry)) (numbersPerBoundary * a + 5) 0)))) ⌝ }
 {
     let kind = boundaries[NUMBERS_PER_BOUNDARY * j + 5];
     let id = boundaries[NUMBERS_PER_BOUNDARY * j + 6];
@@ -43,9 +45,13 @@ fn other_end_incident(
     a: usize,
     r: u32,
 ) -> bool
-    requires { ⌜ (numbersPerBoundary * count ≤ length (now boundaries)) × (a < count) ⌝ }
-    requires { ⌜ ((i : ℕ) → i < count → Stretch (now pairs) (now starts) i) ⌝ }
-    ensures { λ x. ⌜ ((C : Context) → C .count ≡ count → ShownBoundaries C (now (boundaries .entry)) → ShownPairs C (now (pairs .entry)) (now (starts .entry)) → x ≡ otherEndIncident C a r) ⌝ }
+    requires sizes { ⌜ (numbersPerBoundary * count ≤ length (now boundaries)) × (a < count) ⌝ }
+    requires stretches { ⌜ ((i : ℕ) → i < count → Stretch (now pairs) (now starts) i) ⌝ }
+    ensures { λ x. ⌜ ((C : Context) →
+        C .count ≡ count →
+        ShownBoundaries C (now (boundaries .entry)) →
+        ShownPairs C (now (pairs .entry)) (now (starts .entry)) →
+        x ≡ otherEndIncident C a r) ⌝ }
 {
     let mut j = 0;
     while j < count {
@@ -68,10 +74,15 @@ pub fn find_other_ends(
     count: usize,
     a: usize,
 ) -> OtherEnds
-    requires { ⌜ (numbersPerBoundary * count ≤ length (now boundaries)) × (a < count) ⌝ }
-    requires { ⌜ talliesPerSpan * a + 1 < length (now tallies) ⌝ }
-    requires { ⌜ ((i : ℕ) → i < count → Stretch (now pairs) (now starts) i) ⌝ }
-    ensures { λ x. ⌜ ((C : Context) → C .count ≡ count → ShownBoundaries C (now (boundaries .entry)) → ShownTallies C (now (tallies .entry)) → ShownPairs C (now (pairs .entry)) (now (starts .entry)) → EndsOf C a x) ⌝ }
+    requires sizes { ⌜ (numbersPerBoundary * count ≤ length (now boundaries)) × (a < count) ⌝ }
+    requires tallies_room { ⌜ talliesPerSpan * a + 1 < length (now tallies) ⌝ }
+    requires stretches { ⌜ ((i : ℕ) → i < count → Stretch (now pairs) (now starts) i) ⌝ }
+    ensures { λ x. ⌜ ((C : Context) →
+        C .count ≡ count →
+        ShownBoundaries C (now (boundaries .entry)) →
+        ShownTallies C (now (tallies .entry)) →
+        ShownPairs C (now (pairs .entry)) (now (starts .entry)) →
+        EndsOf C a x) ⌝ }
 {
     match full_pair(tallies, pairs, starts, a) {
         FullPair::None => OtherEnds {

@@ -76,8 +76,8 @@ fn inner_fit(
     outer: u32,
     r: u32,
 ) -> bool
-    requires { ⌜ first ≤ end ⌝ }
-    requires { ⌜ ((k : ℕ) → first ≤ k → k < end → NamedRow (now pairs) (length (now counts)) k × NamedRow (now pairs) (length (now marks)) k) ⌝ }
+    requires ordered { ⌜ first ≤ end ⌝ }
+    requires named_rows { ⌜ ((k : ℕ) → first ≤ k → k < end → NamedRow (now pairs) (length (now counts)) k × NamedRow (now pairs) (length (now marks)) k) ⌝ }
     ensures { λ x. ⌜ x ≡ all (innerFits (now (marks .entry)) (now (counts .entry)) outer r) (regionsOf (pairsBetween (now (pairs .entry)) first end)) ⌝ }
 {
     let mut k = first;
@@ -103,9 +103,16 @@ fn single_mouth(
     wide: bool,
     overlay: bool,
 ) -> Candidate
-    requires { ⌜ (1 ≤ outer) × (outer ≤ length (now marks)) ⌝ }
-    requires { ⌜ (1 ≤ r) × ((r ≤ length (now marks)) × (r ≤ length (now counts))) ⌝ }
-    ensures { λ x. ⌜ ((C : Context) (m a : ℕ) → ShownIncidents C (now (counts .entry)) → ShownAnchored C (now (marks .entry)) → (outer ≤ C .regions) × (r ≤ C .regions) → blocked ≡ otherEndIncident C a r → wide ≡ broadMouth C m a → overlay ≡ overlayOnly C m a → candidateForm C m a x ≡ approachMouth C m a (Approach.Single outer r)) ⌝ }
+    requires outer_named { ⌜ (1 ≤ outer) × (outer ≤ length (now marks)) ⌝ }
+    requires r_named { ⌜ (1 ≤ r) × ((r ≤ length (now marks)) × (r ≤ length (now counts))) ⌝ }
+    ensures { λ x. ⌜ ((C : Context) (m a : ℕ) →
+        ShownIncidents C (now (counts .entry)) →
+        ShownAnchored C (now (marks .entry)) →
+        (outer ≤ C .regions) × (r ≤ C .regions) →
+        blocked ≡ otherEndIncident C a r →
+        wide ≡ broadMouth C m a →
+        overlay ≡ overlayOnly C m a →
+        candidateForm C m a x ≡ approachMouth C m a (Approach.Single outer r)) ⌝ }
 {
     if is_anchored(marks, r) {
         return Candidate::None;
@@ -137,10 +144,22 @@ fn star_mouth(
     wide: bool,
     overlay: bool,
 ) -> Candidate
-    requires { ⌜ Stretch (now pairs) (now starts) m ⌝ }
-    requires { ⌜ ((k : ℕ) → getD (now starts) m 0 ≤ k → k < getD (now starts) (m + 1) 0 → NamedRow (now pairs) (length (now counts)) k × NamedRow (now pairs) (length (now marks)) k) ⌝ }
-    requires { ⌜ (1 ≤ r) × (r ≤ length (now counts)) ⌝ }
-    ensures { λ x. ⌜ ((C : Context) (a : ℕ) → ShownPairs C (now (pairs .entry)) (now (starts .entry)) → ShownIncidents C (now (counts .entry)) → ShownAnchored C (now (marks .entry)) → m < C .count → r ≤ C .regions → blocked ≡ otherEndIncident C a r → wide ≡ broadMouth C m a → overlay ≡ overlayOnly C m a → candidateForm C m a x ≡ approachMouth C m a (Approach.Star outer r)) ⌝ }
+    requires stretch { ⌜ Stretch (now pairs) (now starts) m ⌝ }
+    requires named_rows { ⌜ ((k : ℕ) →
+        getD (now starts) m 0 ≤ k →
+        k < getD (now starts) (m + 1) 0 →
+        NamedRow (now pairs) (length (now counts)) k × NamedRow (now pairs) (length (now marks)) k) ⌝ }
+    requires r_named { ⌜ (1 ≤ r) × (r ≤ length (now counts)) ⌝ }
+    ensures { λ x. ⌜ ((C : Context) (a : ℕ) →
+        ShownPairs C (now (pairs .entry)) (now (starts .entry)) →
+        ShownIncidents C (now (counts .entry)) →
+        ShownAnchored C (now (marks .entry)) →
+        m < C .count →
+        r ≤ C .regions →
+        blocked ≡ otherEndIncident C a r →
+        wide ≡ broadMouth C m a →
+        overlay ≡ overlayOnly C m a →
+        candidateForm C m a x ≡ approachMouth C m a (Approach.Star outer r)) ⌝ }
 {
     if overlay {
         return Candidate::None;
@@ -186,9 +205,13 @@ fn with_region(marks: &[u16], found: Outers, r: u32) -> Outers
 
 // The proposal of a triangle, whose regions two rows of mouth m name: one of them at most is anchored, and that one is outside.
 fn triangle_mouth(pairs: &[u32], starts: &[usize; 257], marks: &[u16], m: usize) -> Candidate
-    requires { ⌜ (m < 256) × (getD (now starts) (m + 1) 0 - getD (now starts) m 0 ≡ 2) ⌝ }
-    requires { ⌜ ((k : ℕ) → getD (now starts) m 0 ≤ k → k < getD (now starts) (m + 1) 0 → NamedRow (now pairs) (length (now marks)) k) ⌝ }
-    ensures { λ x. ⌜ ((C : Context) (a : ℕ) → ShownPairs C (now (pairs .entry)) (now (starts .entry)) → ShownAnchored C (now (marks .entry)) → m < C .count → candidateForm C m a x ≡ triangleMouth C m a (distinctRegions (C .pairs m))) ⌝ }
+    requires places { ⌜ (m < 256) × (getD (now starts) (m + 1) 0 - getD (now starts) m 0 ≡ 2) ⌝ }
+    requires named_rows { ⌜ ((k : ℕ) → getD (now starts) m 0 ≤ k → k < getD (now starts) (m + 1) 0 → NamedRow (now pairs) (length (now marks)) k) ⌝ }
+    ensures { λ x. ⌜ ((C : Context) (a : ℕ) →
+        ShownPairs C (now (pairs .entry)) (now (starts .entry)) →
+        ShownAnchored C (now (marks .entry)) →
+        m < C .count →
+        candidateForm C m a x ≡ triangleMouth C m a (distinctRegions (C .pairs m))) ⌝ }
 {
     let first = starts[m];
     let p = row_at(pairs, first);
@@ -215,10 +238,22 @@ fn approach_mouth(
     wide: bool,
     overlay: bool,
 ) -> Candidate
-    requires { ⌜ Stretch (now pairs) (now starts) m ⌝ }
-    requires { ⌜ ((k : ℕ) → getD (now starts) m 0 ≤ k → k < getD (now starts) (m + 1) 0 → NamedRow (now pairs) (length (now counts)) k × NamedRow (now pairs) (length (now marks)) k) ⌝ }
-    requires { ⌜ Within (length (now counts)) approach × Within (length (now marks)) approach ⌝ }
-    ensures { λ x. ⌜ ((C : Context) (a : ℕ) → ShownPairs C (now (pairs .entry)) (now (starts .entry)) → ShownIncidents C (now (counts .entry)) → ShownAnchored C (now (marks .entry)) → m < C .count → Within (C .regions) approach → EndKnown C a ends approach → wide ≡ broadMouth C m a → overlay ≡ overlayOnly C m a → candidateForm C m a x ≡ approachMouth C m a approach) ⌝ }
+    requires stretch { ⌜ Stretch (now pairs) (now starts) m ⌝ }
+    requires named_rows { ⌜ ((k : ℕ) →
+        getD (now starts) m 0 ≤ k →
+        k < getD (now starts) (m + 1) 0 →
+        NamedRow (now pairs) (length (now counts)) k × NamedRow (now pairs) (length (now marks)) k) ⌝ }
+    requires approach_within { ⌜ Within (length (now counts)) approach × Within (length (now marks)) approach ⌝ }
+    ensures { λ x. ⌜ ((C : Context) (a : ℕ) →
+        ShownPairs C (now (pairs .entry)) (now (starts .entry)) →
+        ShownIncidents C (now (counts .entry)) →
+        ShownAnchored C (now (marks .entry)) →
+        m < C .count →
+        Within (C .regions) approach →
+        EndKnown C a ends approach →
+        wide ≡ broadMouth C m a →
+        overlay ≡ overlayOnly C m a →
+        candidateForm C m a x ≡ approachMouth C m a approach) ⌝ }
 {
     match approach {
         Approach::None => Candidate::None,
@@ -267,9 +302,15 @@ pub fn mouth_candidate(
     a: usize,
     ends: OtherEnds,
 ) -> Candidate
-    requires { ⌜ Shown (now boundaries) (now tallies) (now pairs) (now starts) (now counts) (now marks) count ⌝ }
-    requires { ⌜ (m < count) × (a < count) ⌝ }
-    ensures { λ x. ⌜ ((C : Context) → Shows (now (boundaries .entry)) (now (pairs .entry)) (now (starts .entry)) (now (counts .entry)) (now (marks .entry)) count C → ShownTallies C (now (tallies .entry)) → noRamp C a ≡ false → fullCut C a ≡ true → EndsOf C a ends → candidateForm C m a x ≡ foundMouth C a m) ⌝ }
+    requires shown { ⌜ Shown (now boundaries) (now tallies) (now pairs) (now starts) (now counts) (now marks) count ⌝ }
+    requires places { ⌜ (m < count) × (a < count) ⌝ }
+    ensures { λ x. ⌜ ((C : Context) →
+        Shows (now (boundaries .entry)) (now (pairs .entry)) (now (starts .entry)) (now (counts .entry)) (now (marks .entry)) count C →
+        ShownTallies C (now (tallies .entry)) →
+        noRamp C a ≡ false →
+        fullCut C a ≡ true →
+        EndsOf C a ends →
+        candidateForm C m a x ≡ foundMouth C a m) ⌝ }
 {
     if boundaries[NUMBERS_PER_BOUNDARY * m + 5] != 0 {
         return Candidate::None;

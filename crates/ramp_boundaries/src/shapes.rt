@@ -85,7 +85,8 @@ fn star_of(pairs: &[u32], first: usize, end: usize) -> Shape
 // The shape of mouth m, which is a full cut.
 pub fn star(pairs: &[u32], starts: &[usize; 257], m: usize) -> Shape
     requires { ⌜ Stretch (now pairs) (now starts) m ⌝ }
-    ensures { λ x. ⌜ shapeForm (rowsOf (now (pairs .entry)) (now (starts .entry)) m) x ≡ mouthShape true (rowsOf (now (pairs .entry)) (now (starts .entry)) m) ⌝ }
+    ensures { λ x. ⌜ shapeForm (rowsOf (now (pairs .entry)) (now (starts .entry)) m) x
+        ≡ mouthShape true (rowsOf (now (pairs .entry)) (now (starts .entry)) m) ⌝ }
 {
     let first = starts[m];
     let end = starts[m + 1];
@@ -128,7 +129,8 @@ fn one_edge(p: Pair, q: Pair, s: Pair, t: Pair) -> bool
 }
 
 fn is_triangle(p: Pair, q: Pair, s: Pair, t: Pair) -> bool
-    ensures { λ r. ⌜ triangleRepresentative (pairForm p ∷ pairForm q ∷ []) (pairForm s ∷ pairForm t ∷ []) ≡ onlyIf r (distinctRegions (pairForm p ∷ pairForm q ∷ [])) ⌝ }
+    ensures { λ r. ⌜ triangleRepresentative (pairForm p ∷ pairForm q ∷ []) (pairForm s ∷ pairForm t ∷ [])
+        ≡ onlyIf r (distinctRegions (pairForm p ∷ pairForm q ∷ [])) ⌝ }
 {
     has_three(p, q) & all_named(p, q, s, t) & one_edge(p, q, s, t)
 }
@@ -136,7 +138,8 @@ fn is_triangle(p: Pair, q: Pair, s: Pair, t: Pair) -> bool
 // Whether mouth m and ramp a, both full cuts, form a triangle; its regions are those of the mouth's rows.
 pub fn triangle_representative(pairs: &[u32], starts: &[usize; 257], m: usize, a: usize) -> bool
     requires { ⌜ Stretch (now pairs) (now starts) m × Stretch (now pairs) (now starts) a ⌝ }
-    ensures { λ r. ⌜ triangleRepresentative (rowsOf (now (pairs .entry)) (now (starts .entry)) m) (rowsOf (now (pairs .entry)) (now (starts .entry)) a) ≡ onlyIf r (distinctRegions (rowsOf (now (pairs .entry)) (now (starts .entry)) m)) ⌝ }
+    ensures { λ r. ⌜ triangleRepresentative (rowsOf (now (pairs .entry)) (now (starts .entry)) m)
+        (rowsOf (now (pairs .entry)) (now (starts .entry)) a) ≡ onlyIf r (distinctRegions (rowsOf (now (pairs .entry)) (now (starts .entry)) m)) ⌝ }
 {
     let mouth = starts[m];
     let ramp = starts[a];

@@ -16,10 +16,10 @@ use Rattle.definitions.specs.RampInteriors.{Expansion, insideCount, pairExterio
 use Rattle.laws.specs.ListLaws.Tests.{both}
 use Rattle.laws.specs.ListLaws.Members.{all-at, any-member}
 use Rattle.laws.specs.ListLaws.Below.{below-at}
+use Rattle.laws.specs.ListLaws.NumberLists.{member-append}
 use Rattle.context.specs.OneMore.{last-or, any-counted}
 use Rattle.ramp_interiors.specs.Leaves.{Single}
 use Rattle.ramp_interiors.proofs.RowScans.{all-holds}
-use Rattle.ramp_interiors.proofs.ExteriorLaws.{member-append}
 
 -- ---- a pair and its two regions
 

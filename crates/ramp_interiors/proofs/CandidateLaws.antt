@@ -7,7 +7,7 @@ use mathlib.Core.Logic.{⊎-elim}
 use mathlib.Core.List.{List, []}
 use lib.ListN.{length, getD}
 use lib.Dec.{eqb, leb}
-use borrow.Author.Tests.{eq-eqb, ne-eqb, eqb-true}
+use borrow.Author.Tests.{eq-eqb, ne-eqb, eqb-true, not-true}
 use Rattle.definitions.specs.Scan.{any, anyBelow, allBelow, countBelow, gather, bit}
 use Rattle.definitions.specs.Context.{Context, incidentCount}
 use Rattle.definitions.specs.MouthShapes.{regionsOf}
@@ -27,7 +27,6 @@ use Rattle.ramp_interiors.specs.Given.{flagsOf, Marked}
 use Rattle.ramp_interiors.specs.Owners.{pairNamed, several, allIn, edge, Owned}
 use Rattle.ramp_interiors.specs.Candidates.{Mapped, isMarked, pairMarked, spoilsAt, candidate, port}
 use Rattle.ramp_interiors.proofs.Commons.{any-same}
-use Rattle.ramp_interiors.proofs.Bools.{negated}
 
 -- ---- tests
 
@@ -122,7 +121,7 @@ module _ (C : Context) (r : ℕ) where
     candidate-some = both some few (both named (some && few) (parts .0) .1) .0
 
     pub candidate-unspoilt : (i : ℕ) → i < C .count → spoilsAt C r i ≡ false
-    candidate-unspoilt = any-fails-at (spoilsAt C r) (C .count) (negated spoiltAny (parts .1))
+    candidate-unspoilt = any-fails-at (spoilsAt C r) (C .count) (not-true spoiltAny (parts .1))
 
   pub spoilt : (i : ℕ) → i < C .count → spoilsAt C r i ≡ true → candidate C r ≡ false
   spoilt i l e = candidate-is ∙ ap (λ t. named && (some && few) && not t) (below-at (C .count) (spoilsAt C r) i l e) ∙ and-false (named && (some && few))

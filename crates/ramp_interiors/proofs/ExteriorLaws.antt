@@ -9,8 +9,8 @@ use Rattle.definitions.specs.Scan.{any, member, concatMap, bit}
 use Rattle.definitions.specs.Grid.{Pair, contains}
 use Rattle.definitions.specs.Context.{Context}
 use Rattle.definitions.specs.RampInteriors.{insideCount, pairExterior, exteriors}
-use Rattle.laws.specs.ListLaws.Lists.{any-append}
 use Rattle.laws.specs.OrderLaws.ListOrder.{eqb-sym}
+use Rattle.laws.specs.ListLaws.NumberLists.{member-append}
 use Rattle.context.specs.Shown.{pairAt, pairsBetween}
 use Rattle.ramp_interiors.specs.Forest.{Beyond}
 use Rattle.ramp_interiors.specs.Given.{Marked}
@@ -27,10 +27,6 @@ joined-append : {A B : Type 0} (f : A → List B) (l m : List A) → concatMap f
 unfolding concatMap
 joined-append f [] m = refl
 joined-append f (x ∷ l) m = ap (λ r. f x ++ r) (joined-append f l m) ∙ sym (append-assoc (f x) (concatMap f l) (concatMap f m))
-
-pub member-append : (x : ℕ) (l m : List ℕ) → member x (l ++ m) ≡ (member x l || member x m)
-unfolding member
-member-append x l m = any-append (eqb x) l m
 
 exteriors-last : (rs : List ℕ) (l : List Pair) (p : Pair) (x : ℕ) → member x (exteriors rs (l ++ (p ∷ []))) ≡ (member x (exteriors rs l) || member x (pairExterior rs p))
 unfolding exteriors concatMap

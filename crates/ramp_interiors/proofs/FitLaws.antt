@@ -6,6 +6,7 @@ use mathlib.Core.List.{List, map}
 use lib.ListN.{getD, List·getD-map}
 use lib.Dec.{eqb}
 use lib.Ieee.{Float, nan, binary64, ofBits, ofInt, le}
+use borrow.Author.Tests.{not-true, not-false}
 use Rattle.definitions.specs.Limits.{numbersPerBoundary}
 use Rattle.definitions.specs.Scan.{all, allBelow}
 use Rattle.definitions.specs.Grid.{boundaryAt}
@@ -22,7 +23,6 @@ use Rattle.geometry.specs.Forms.{pointForm}
 use Rattle.context.specs.Shown.{ShownBoundaries}
 use Rattle.ramp_interiors.specs.declared.fits.Reach.{Reach}
 use Rattle.ramp_interiors.specs.Fits.{Aimed, elevationFits, isWithin}
-use Rattle.ramp_interiors.proofs.Bools.{negated, passed}
 
 pub radius-is : ofBits binary64 0x4080000000000000 ≡ maxApproachRadius
 unfolding maxApproachRadius float ofInt ofBits
@@ -87,7 +87,7 @@ module _ (C : Context) (a b q : ℕ) {t : Reach} (A : Aimed C a b t) where
   fits-is = refl
 
   pub fits-fails : {mask : ℕ} {f : Bool} → mask ≡ C .region q .elevations → f ≡ allBelow 8 (elevationFits mask (t .lower) (t .upper)) → not f ≡ true → false ≡ regionFits C a b q
-  fits-fails {f = f} e d h = sym (fits-is ∙ ap (λ x. x && all near (corners (C .region q))) (sym (elevations-is e) ∙ sym d ∙ negated f h))
+  fits-fails {f = f} e d h = sym (fits-is ∙ ap (λ x. x && all near (corners (C .region q))) (sym (elevations-is e) ∙ sym d ∙ not-true f h))
 
   module _ (R : PassInRange C) (l : List geometry.Point) {s : Region} (same : s ≡ C .region q) (c : map pointForm l ≡ corners s) where
     abbrev corner : ℕ → Point
@@ -112,7 +112,7 @@ module _ (C : Context) (a b q : ℕ) {t : Reach} (A : Aimed C a b t) where
     unfolding all corners
     fits-corners {f = f} e d h k0 k1 k2 k3 =
         (λ j. k0 j && k1 j && k2 j && k3 j) ∙ order (near (corner 0)) (near (corner 1)) (near (corner 2)) (near (corner 3))
-        ∙ sym (fits-is ∙ ap (λ z. z && all near (corners (C .region q))) (sym (elevations-is e) ∙ sym d ∙ passed f h))
+        ∙ sym (fits-is ∙ ap (λ z. z && all near (corners (C .region q))) (sym (elevations-is e) ∙ sym d ∙ not-false f h))
       where
         order : (z0 z1 z2 z3 : Bool) → (z0 && z1 && z2 && z3) ≡ (z0 && (z1 && (z2 && (z3 && true))))
         order true true true z3 = sym (and-true z3)

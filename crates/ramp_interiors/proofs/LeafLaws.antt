@@ -13,6 +13,7 @@ use Rattle.definitions.specs.Grid.{Pair, contains}
 use Rattle.definitions.specs.Context.{Context, isIncident, incidentCount}
 use Rattle.definitions.specs.RampInteriors.{Expansion, insideCount, exteriors, invalid, addLeaf, expandPair, expandPairs, expandPort}
 use Rattle.laws.specs.ListLaws.Tests.{both}
+use Rattle.laws.specs.ListLaws.NumberLists.{member-append}
 use Rattle.ramp_interiors.specs.Given.{Marked}
 use Rattle.context.specs.Shown.{pairAt, pairsBetween}
 use Rattle.ramp_interiors.specs.Owners.{Walkable, entryAt}
@@ -21,7 +22,6 @@ use Rattle.ramp_interiors.proofs.Forests.{set-case, beyond-same, beyond
 use Rattle.ramp_interiors.proofs.RowScans.{between-none, between-next, between-end, any-rows-at}
 use Rattle.ramp_interiors.proofs.Walks.{low-in, high-in}
 use Rattle.ramp_interiors.proofs.MarkLaws.{exterior-is, leaf-is}
-use Rattle.ramp_interiors.proofs.ExteriorLaws.{member-append}
 
 -- ---- what grows
 

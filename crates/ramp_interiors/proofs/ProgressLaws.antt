@@ -7,7 +7,7 @@ use mathlib.Core.Logic.{_⊎_, ⊎-elim}
 use mathlib.Core.List.{List, [], _∷_}
 use lib.ListN.{length, getD, set}
 use lib.Dec.{eqb}
-use borrow.Author.Tests.{eq-eqb, ne-eqb, eqb-false}
+use borrow.Author.Tests.{eq-eqb, ne-eqb, eqb-false, not-true}
 use Rattle.definitions.specs.Scan.{anyBelow, member}
 use Rattle.definitions.specs.Context.{Context}
 use Rattle.definitions.specs.RampInteriors.{components, componentPorts, portsFit}
@@ -30,7 +30,6 @@ use Rattle.ramp_interiors.proofs.Walks.{names-long}
 use Rattle.ramp_interiors.proofs.Stored.{filled-more}
 use Rattle.ramp_interiors.proofs.NoConflict.{Fit, regions-apart, loose-edge}
 use Rattle.ramp_interiors.proofs.Removed.{fit-of}
-use Rattle.ramp_interiors.proofs.Bools.{negated}
 
 -- ---- a boundary that comes first
 
@@ -42,7 +41,7 @@ module _ {C : Context} (owners : List ℕ) (O : Owners C owners) (i : ℕ) (l : 
   unfolding isFirst
   first-parts =
       let t = both (not (eqb owner 0 || eqb owner several)) (not (anyBelow i (λ j. eqb (getD owners j 0) owner))) h in
-      (negated (eqb owner 0 || eqb owner several) (t .0), negated (anyBelow i (λ j. eqb (getD owners j 0) owner)) (t .1))
+      (not-true (eqb owner 0 || eqb owner several) (t .0), not-true (anyBelow i (λ j. eqb (getD owners j 0) owner)) (t .1))
 
   pub first-region : (1 ≤ owner) × (owner ≤ C .regions)
   first-region = ⊎-elim (λ e. absurd (clash (eq-eqb owner 0 e))) (λ e. ⊎-elim (λ d. absurd (clash' (eq-eqb owner several d))) (λ d. d) e) (O i l .range)

@@ -7,7 +7,7 @@ use mathlib.Core.Logic.{_⊎_, inl, inr, ⊎-elim}
 use mathlib.Core.List.{List, [], _∷_}
 use lib.ListN.{getD}
 use lib.Dec.{eqb, leb}
-use borrow.Author.Tests.{eq-eqb, eqb-true, leb-true}
+use borrow.Author.Tests.{eq-eqb, eqb-true, leb-true, not-true, not-false}
 use Rattle.definitions.specs.Scan.{any, anyBelow, countBelow}
 use Rattle.definitions.specs.Context.{Context, noRamp, fullCut}
 use Rattle.definitions.specs.MouthShapes.{regionsOf}
@@ -27,7 +27,7 @@ use Rattle.ramp_interiors.specs.declared.ports.Ports.the-variants as por
 use Rattle.ramp_interiors.proofs.Forests.{beyond-same, beyond-then}
 use Rattle.ramp_interiors.proofs.Walks.{shown-walkable}
 use Rattle.ramp_interiors.proofs.CandidateLaws.{within, candidate-some, candidate-unspoilt}
-use Rattle.ramp_interiors.proofs.Bools.{negated, passed, first-two}
+use Rattle.ramp_interiors.proofs.Bools.{first-two}
 
 -- ---- two walks
 
@@ -49,7 +49,7 @@ both-walked {C} {a} {b} {r} {rs} {names} {mid} {now} {f = f} {g = g} A B =
 
 -- ---- the component itself
 
--- where a test is passed, one number passes it
+-- where a test is not-false, one number passes it
 some-counted : (f : ℕ → Bool) (n : ℕ) → leb 1 (countBelow n f) ≡ true → anyBelow n f ≡ true
 some-counted f n h = go (anyBelow n f) refl
   where
@@ -108,7 +108,7 @@ module _ {C : Context} {boundaries tallies pairs starts names marks owners : Lis
   -- t is what `is_candidate` returned
   pub no-candidate : {t : Bool} → t ≡ candidate C r → not t ≡ true → Proposed C r names names marks marks ports.Other
   unfolding proposedPorts
-  no-candidate {t} e h = idle (sym (ap (λ b. cond b (fittingPorts C r (componentPorts C (components C) r)) ports.Other) (sym e ∙ negated t h)))
+  no-candidate {t} e h = idle (sym (ap (λ b. cond b (fittingPorts C r (componentPorts C (components C) r)) ports.Other) (sym e ∙ not-true t h)))
 
   module _ (h : candidate C r ≡ true) where
     proposed-is : proposedPorts C r ≡ fittingPorts C r (componentPorts C (components C) r)
@@ -142,11 +142,11 @@ module _ {C : Context} {boundaries tallies pairs starts names marks owners : Lis
 
       -- t is what `ports_fit` returned
       pub unfit : {t : Bool} → t ≡ portsFit C a b → not t ≡ true → Proposed C r names names marks marks ports.Other
-      unfit {t} q k = idle (sym (fitting-is ∙ ap (λ z. cond (z && expandedOf C r a b .valid) (ports.Two a b) ports.Other) (sym q ∙ negated t k)))
+      unfit {t} q k = idle (sym (fitting-is ∙ ap (λ z. cond (z && expandedOf C r a b .valid) (ports.Two a b) ports.Other) (sym q ∙ not-true t k)))
 
       module _ {s : Bool} (q : s ≡ portsFit C a b) (k : not s ≡ false) {now nowMarks : List ℕ} {t : Bool} (B : BothWalked C a b r (componentRegions C (components C) r) names now marks nowMarks t) where
         fit : portsFit C a b ≡ true
-        fit = sym q ∙ passed s k
+        fit = sym q ∙ not-false s k
 
         valid-is : proposedPorts C r ≡ cond t (ports.Two a b) ports.Other
         valid-is = fitting-is ∙ ap₂ (λ y z. cond (y && z) (ports.Two a b) ports.Other) fit (sym (B .fits))
@@ -175,7 +175,7 @@ module _ {C : Context} {boundaries tallies pairs starts names marks owners : Lis
         spread =
             record {
               beyond = B .beyond;
-              each = λ x l m. ⊎-elim (λ n. inl n) (λ n. inr (n .0, ⊎-elim (λ S. leafed x l m (n .0) a (ports-below .0) S (negated (noRamp C a) (ramps .0))) (λ S. leafed x l m (n .0) b (ports-below .1) S (negated (noRamp C b) (ramps .1))) (n .1))) (B .each x l m);
+              each = λ x l m. ⊎-elim (λ n. inl n) (λ n. inr (n .0, ⊎-elim (λ S. leafed x l m (n .0) a (ports-below .0) S (not-true (noRamp C a) (ramps .0))) (λ S. leafed x l m (n .0) b (ports-below .1) S (not-true (noRamp C b) (ramps .1))) (n .1))) (B .each x l m);
             }
 
         pub ports-valid : t ≡ true → Proposed C r names now marks nowMarks (ports.Two a b)

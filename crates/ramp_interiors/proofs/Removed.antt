@@ -7,7 +7,7 @@ use mathlib.Core.Bool.{Bool, true, false, not, _&&_, _||_, cond, or-false, and-f
 use mathlib.Core.Option.{Option, none, some}
 use mathlib.Core.List.{List, [], _∷_, _++_, append-nil, append-assoc}
 use lib.Dec.{eqb, ltb}
-use borrow.Author.Tests.{eq-eqb, ltb-true, ne-eqb, eqb-true, lt-ltb}
+use borrow.Author.Tests.{eq-eqb, ltb-true, ne-eqb, eqb-true, lt-ltb, not-true}
 use Rattle.definitions.specs.Scan.{any, all, member, collect, toList, onlyIf, anyBelow, concatMap}
 use Rattle.definitions.specs.Sort.{insert, sortOnto, sort, select}
 use Rattle.definitions.specs.RegionRecord.{hasRamp}
@@ -22,15 +22,15 @@ use Rattle.laws.specs.ListLaws.SortedMembers.{any-sort}
 use Rattle.laws.specs.SetLaws.Sets.{Ascending, numbersBelow, member-below, below-all, below-ascending}
 use Rattle.laws.specs.SetLaws.Sets as sets
 use Rattle.laws.specs.RustContext.SoundContext.{Sound}
+use Rattle.laws.specs.ListLaws.NumberLists.{member-append}
 use Rattle.ramp_interiors.specs.Owners.{edge, Owned}
 use Rattle.ramp_interiors.specs.Candidates.{candidate, port}
 use Rattle.ramp_interiors.specs.Proposals.{expandedOf, fittingPorts, proposedPorts, recordsFit}
 use Rattle.ramp_interiors.specs.declared.ports.Ports.{Ports}
 use Rattle.ramp_interiors.specs.declared.ports.Ports.the-variants as ports
-use Rattle.ramp_interiors.proofs.ExteriorLaws.{member-append}
 use Rattle.ramp_interiors.proofs.CandidateLaws.{candidate-unspoilt, edge-owned}
 use Rattle.ramp_interiors.proofs.NoConflict.{Fit, regions-apart, edges-apart}
-use Rattle.ramp_interiors.proofs.Bools.{negated, first-two}
+use Rattle.ramp_interiors.proofs.Bools.{first-two}
 
 -- ---- lists of which no two elements conflict
 
@@ -129,7 +129,7 @@ module _ (C : Context) (S : Sound C) where
   fit-of r {a} {b} from c e q =
       let w = ports-two r e in
       let g = first-two (not (noRamp C a)) (not (noRamp C b)) (fullCut C a) (fullCut C b) (eqb (C .boundary a .rampId) (C .boundary b .rampId)) (not (eqb (C .boundary a .kind) (C .boundary b .kind))) q in
-      record { from = from; cand = c; first = w .0 .0; second = w .0 .1; differ = λ z. omega (arith, w .1); firstRamp = negated (noRamp C a) (g .0); secondRamp = negated (noRamp C b) (g .1) }
+      record { from = from; cand = c; first = w .0 .0; second = w .0 .1; differ = λ z. omega (arith, w .1); firstRamp = not-true (noRamp C a) (g .0); secondRamp = not-true (noRamp C b) (g .1) }
 
   no-some : {p : InteriorProposal} → none ≡ some p → ⊥
   no-some e =

@@ -102,10 +102,6 @@ module _ (f : Pair → Bool) (rows : List ℕ) (first : ℕ) where
       go true q = refl
       go false q = absurd (true≢false (sym e ∙ between-at rows first end (any-failed f (pairsBetween rows first end) q) k h l))
 
--- what holds from `first` on below k, and at k, holds below k + 1
-pub from-more : (P : ℕ → Type 0) (first k : ℕ) → ((j : ℕ) → first ≤ j → j < k → P j) → P k → (j : ℕ) → first ≤ j → j < k + 1 → P j
-from-more P first k h last j l m = ⊎-elim (λ e. subst P (sym e) last) (λ n. h j l (lt-of-le-ne (omega arith) n)) (same-or j k)
-
 -- a row that fails
 pub all-rows-fail : (f : Pair → Bool) (rows : List ℕ) (first k end : ℕ) → first ≤ k → k < end → f (pairAt rows k) ≡ false → all f (pairsBetween rows first end) ≡ false
 all-rows-fail f rows first k end h l e = go (all f (pairsBetween rows first end)) refl

@@ -31,7 +31,7 @@ lowNamed names r p = eqb (entryAt names (p .lo)) r
 abbrev pub pairNamed : List ℕ → ℕ → Pair → Bool
 pairNamed names r p = eqb (entryAt names (p .lo)) r || eqb (entryAt names (p .hi)) r
 
--- in the place of a component's name, where there are several; no region has this number
+-- in place of a component's name, where there are several; no region has this number
 abbrev pub several : ℕ
 several = 4294967295
 

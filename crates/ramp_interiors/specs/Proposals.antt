@@ -76,7 +76,7 @@ module _ (C : Context) (r : ℕ) where
 
 -- ---- all components
 
--- in the place of a port, where there is none
+-- in place of a port, where there is none
 abbrev pub noPort : ℕ
 noPort = maxEntries
 

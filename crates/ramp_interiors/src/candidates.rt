@@ -51,7 +51,11 @@ fn spoils(
     r: u32,
 ) -> bool
     requires { ⌜ SomeMapped (now pairs) (now starts) (now names) (now marks) r i ⌝ }
-    ensures { λ x. ⌜ ((C : Context) → Mapped C (now (pairs .entry)) (now (starts .entry)) (now (names .entry)) (now (marks .entry)) r → i < C .count → Owned C i owner → x ≡ spoilsAt C r i) ⌝ }
+    ensures { λ x. ⌜ ((C : Context) →
+        Mapped C (now (pairs .entry)) (now (starts .entry)) (now (names .entry)) (now (marks .entry)) r →
+        i < C .count →
+        Owned C i owner →
+        x ≡ spoilsAt C r i) ⌝ }
 {
     if owner == r {
         return any_anchored(marks, pairs, starts[i], starts[i + 1]);
@@ -79,7 +83,11 @@ pub fn is_candidate(
     r: u32,
 ) -> bool
     requires { ⌜ AllMapped (now pairs) (now starts) (now names) (now marks) r count ⌝ }
-    ensures { λ x. ⌜ ((C : Context) → Mapped C (now (pairs .entry)) (now (starts .entry)) (now (names .entry)) (now (marks .entry)) r → C .count ≡ count → Owners C (now (owners .entry)) → x ≡ candidate C r) ⌝ }
+    ensures { λ x. ⌜ ((C : Context) →
+        Mapped C (now (pairs .entry)) (now (starts .entry)) (now (names .entry)) (now (marks .entry)) r →
+        C .count ≡ count →
+        Owners C (now (owners .entry)) →
+        x ≡ candidate C r) ⌝ }
 {
     if parent_of(names, r) != r {
         return false;

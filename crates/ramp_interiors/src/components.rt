@@ -63,7 +63,10 @@ fn greater(a: u32, b: u32) -> u32
 // Joins the regions lo and hi: the larger root gets the smaller for its parent.
 fn join(parents: &mut [u32], lo: u32, hi: u32)
     requires { ⌜ Joinable (now parents) (record { lo = lo; hi = hi }) ⌝ }
-    ensures { λ x. ⌜ ((cs : List ℕ) → Parented cs (now (parents .entry)) → Placed (length cs) (record { lo = lo; hi = hi }) → Merged cs (now (parents .entry)) (record { lo = lo; hi = hi } ∷ []) (now (parents .exit))) ⌝ }
+    ensures { λ x. ⌜ ((cs : List ℕ) →
+        Parented cs (now (parents .entry)) →
+        Placed (length cs) (record { lo = lo; hi = hi }) →
+        Merged cs (now (parents .entry)) (record { lo = lo; hi = hi } ∷ []) (now (parents .exit))) ⌝ }
 {
     let a = root_of(parents, lo);
     let b = root_of(parents, hi);
@@ -88,9 +91,12 @@ pub fn larger_at(pairs: &[u32], k: usize) -> u32
 
 // Joins the regions of each pair of the rows from `first` on, before `end`.
 fn join_pairs(parents: &mut [u32], pairs: &[u32], first: usize, end: usize)
-    requires { ⌜ (first ≤ end) × (numbersPerPair * end ≤ length (now pairs)) ⌝ }
-    requires { ⌜ RowsJoinable (now parents) (now pairs) first end ⌝ }
-    ensures { λ x. ⌜ ((cs : List ℕ) → Parented cs (now (parents .entry)) → Rows (length cs) (now (pairs .entry)) first end → Merged cs (now (parents .entry)) (pairsBetween (now (pairs .entry)) first end) (now (parents .exit))) ⌝ }
+    requires sizes { ⌜ (first ≤ end) × (numbersPerPair * end ≤ length (now pairs)) ⌝ }
+    requires joinable { ⌜ RowsJoinable (now parents) (now pairs) first end ⌝ }
+    ensures { λ x. ⌜ ((cs : List ℕ) →
+        Parented cs (now (parents .entry)) →
+        Rows (length cs) (now (pairs .entry)) first end →
+        Merged cs (now (parents .entry)) (pairsBetween (now (pairs .entry)) first end) (now (parents .exit))) ⌝ }
 {
     let mut k = first;
     while k < end {
@@ -102,7 +108,11 @@ fn join_pairs(parents: &mut [u32], pairs: &[u32], first: usize, end: usize)
 // Whether boundary i is an ordinary full cut: it has no ramp.
 pub fn is_ordinary(boundaries: &[u64], tallies: &[u32], i: usize) -> bool
     requires { ⌜ (numbersPerBoundary * i + 8 < length (now boundaries)) × (talliesPerSpan * i + 1 < length (now tallies)) ⌝ }
-    ensures { λ r. ⌜ ((C : Context) → ShownBoundaries C (now (boundaries .entry)) → ShownTallies C (now (tallies .entry)) → i < C .count → r ≡ isOrdinary C i) ⌝ }
+    ensures { λ r. ⌜ ((C : Context) →
+        ShownBoundaries C (now (boundaries .entry)) →
+        ShownTallies C (now (tallies .entry)) →
+        i < C .count →
+        r ≡ isOrdinary C i) ⌝ }
 {
     (boundaries[NUMBERS_PER_BOUNDARY * i + 5] == 0) & full_cut(tallies, i)
 }
@@ -117,7 +127,12 @@ fn join_cut(
     i: usize,
 )
     requires { ⌜ CutJoinable (now boundaries) (now tallies) (now pairs) (now starts) (now parents) i ⌝ }
-    ensures { λ x. ⌜ ((C : Context) (cs : List ℕ) → Given C (now (boundaries .entry)) (now (tallies .entry)) (now (pairs .entry)) (now (starts .entry)) → i < C .count → Parented cs (now (parents .entry)) → length cs ≡ suc (C .regions) → Merged cs (now (parents .entry)) (linksOf C i) (now (parents .exit))) ⌝ }
+    ensures { λ x. ⌜ ((C : Context) (cs : List ℕ) →
+        Given C (now (boundaries .entry)) (now (tallies .entry)) (now (pairs .entry)) (now (starts .entry)) →
+        i < C .count →
+        Parented cs (now (parents .entry)) →
+        length cs ≡ suc (C .regions) →
+        Merged cs (now (parents .entry)) (linksOf C i) (now (parents .exit))) ⌝ }
 {
     if is_ordinary(boundaries, tallies, i) {
         join_pairs(parents, pairs, starts[i], starts[i + 1]);
@@ -134,7 +149,11 @@ fn join_cuts(
     count: usize,
 )
     requires { ⌜ CutsJoinable (now boundaries) (now tallies) (now pairs) (now starts) (now parents) count ⌝ }
-    ensures { λ x. ⌜ ((C : Context) → Given C (now (boundaries .entry)) (now (tallies .entry)) (now (pairs .entry)) (now (starts .entry)) → C .count ≡ count → Parented (alone C) (now (parents .entry)) → Merged (alone C) (now (parents .entry)) (links C) (now (parents .exit))) ⌝ }
+    ensures { λ x. ⌜ ((C : Context) →
+        Given C (now (boundaries .entry)) (now (tallies .entry)) (now (pairs .entry)) (now (starts .entry)) →
+        C .count ≡ count →
+        Parented (alone C) (now (parents .entry)) →
+        Merged (alone C) (now (parents .entry)) (links C) (now (parents .exit))) ⌝ }
 {
     let mut i = 0;
     while i < count {
@@ -146,8 +165,8 @@ fn join_cuts(
 // Each region's parent becomes its name, in ascending order: the name of a parent stands there already.
 fn flatten(parents: &mut [u32], regions: usize)
     requires { ⌜ Forest (now parents) regions ⌝ }
-    ensures { λ x. ⌜ ((cs : List ℕ) → Parented cs (now (parents .entry)) → length cs ≡ suc regions → Names cs (now (parents .exit))) ⌝ }
-    ensures { λ x. ⌜ Beyond regions (now (parents .entry)) (now (parents .exit)) ⌝ }
+    ensures named { λ x. ⌜ ((cs : List ℕ) → Parented cs (now (parents .entry)) → length cs ≡ suc regions → Names cs (now (parents .exit))) ⌝ }
+    ensures beyond { λ x. ⌜ Beyond regions (now (parents .entry)) (now (parents .exit)) ⌝ }
 {
     let mut k = 0;
     while k < regions {
@@ -169,8 +188,12 @@ fn flags(mark: u16, count: u32) -> u16
 // Moves what is needed of the counts of incidents into the marks, and makes each region its own parent in their place.
 fn prepare(marks: &mut [u16], counts: &mut [u32], regions: usize)
     requires { ⌜ (regions ≤ length (now marks)) × (regions ≤ length (now counts)) × (regions ≤ maxSide * maxSide) ⌝ }
-    ensures { λ x. ⌜ ((C : Context) → C .regions ≡ regions → ShownAnchored C (now (marks .entry)) → ShownIncidents C (now (counts .entry)) → Prepared C (now (marks .exit)) (now (counts .exit))) ⌝ }
-    ensures { λ x. ⌜ Beyond regions (now (marks .entry)) (now (marks .exit)) × Beyond regions (now (counts .entry)) (now (counts .exit)) ⌝ }
+    ensures prepared { λ x. ⌜ ((C : Context) →
+        C .regions ≡ regions →
+        ShownAnchored C (now (marks .entry)) →
+        ShownIncidents C (now (counts .entry)) →
+        Prepared C (now (marks .exit)) (now (counts .exit))) ⌝ }
+    ensures beyond { λ x. ⌜ Beyond regions (now (marks .entry)) (now (marks .exit)) × Beyond regions (now (counts .entry)) (now (counts .exit)) ⌝ }
 {
     let mut k = 0;
     while k < regions {
@@ -181,7 +204,7 @@ fn prepare(marks: &mut [u16], counts: &mut [u32], regions: usize)
     }
 }
 
-// Names the component of each region by its least region, in the place of the counts of incidents.
+// Names the component of each region by its least region, in place of the counts of incidents.
 pub fn name_components(
     boundaries: &[u64],
     tallies: &[u32],
@@ -193,8 +216,11 @@ pub fn name_components(
     counts: &mut [u32],
 )
     requires { ⌜ SomeLent (now boundaries) (now tallies) (now pairs) (now starts) count regions (now marks) (now counts) ⌝ }
-    ensures { λ x. ⌜ ((C : Context) → Lent C (now (boundaries .entry)) (now (tallies .entry)) (now (pairs .entry)) (now (starts .entry)) count regions (now (marks .entry)) (now (counts .entry)) → Known C (now (marks .exit)) (now (counts .exit))) ⌝ }
-    ensures { λ x. ⌜ Beyond regions (now (marks .entry)) (now (marks .exit)) × Beyond regions (now (counts .entry)) (now (counts .exit)) ⌝ }
+    ensures known { λ x. ⌜ ((C : Context) →
+        Lent C (now (boundaries .entry)) (now (tallies .entry)) (now (pairs .entry)) (now (starts .entry)) count regions (now (marks .entry))
+        (now (counts .entry)) →
+        Known C (now (marks .exit)) (now (counts .exit))) ⌝ }
+    ensures beyond { λ x. ⌜ Beyond regions (now (marks .entry)) (now (marks .exit)) × Beyond regions (now (counts .entry)) (now (counts .exit)) ⌝ }
 {
     prepare(marks, counts, regions);
     join_cuts(counts, boundaries, tallies, pairs, starts, count);

@@ -36,7 +36,12 @@ pub struct Reach {
 // Whether both ports are full cuts and the two ends of one ramp.
 pub fn ports_fit(boundaries: &[u64], tallies: &[u32], a: usize, b: usize) -> bool
     requires { ⌜ Listed (now boundaries) (now tallies) a × Listed (now boundaries) (now tallies) b ⌝ }
-    ensures { λ r. ⌜ ((C : Context) → ShownBoundaries C (now (boundaries .entry)) → ShownTallies C (now (tallies .entry)) → a < C .count → b < C .count → r ≡ portsFit C a b) ⌝ }
+    ensures { λ r. ⌜ ((C : Context) →
+        ShownBoundaries C (now (boundaries .entry)) →
+        ShownTallies C (now (tallies .entry)) →
+        a < C .count →
+        b < C .count →
+        r ≡ portsFit C a b) ⌝ }
 {
     let j = NUMBERS_PER_BOUNDARY * a;
     let k = NUMBERS_PER_BOUNDARY * b;
@@ -104,7 +109,9 @@ fn elevations_fit(mask: u8, lower: u64, upper: u64) -> bool
 
 // Whether a corner is within the radius of one of the two centers.
 fn corner_fits(first: Point, second: Point, corner: Point) -> bool
-    ensures { λ r. ⌜ (DistanceInRange (pointForm corner) (pointForm first) → DistanceInRange (pointForm corner) (pointForm second) → r ≡ isWithin (pointForm first) (pointForm second) (pointForm corner)) ⌝ }
+    ensures { λ r. ⌜ (DistanceInRange (pointForm corner) (pointForm first) →
+        DistanceInRange (pointForm corner) (pointForm second) →
+        r ≡ isWithin (pointForm first) (pointForm second) (pointForm corner)) ⌝ }
 {
     // Most corners are near the first, and a distance takes long.
     if distance(corner, first) <= MAX_APPROACH_RADIUS {

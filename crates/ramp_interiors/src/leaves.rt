@@ -42,8 +42,9 @@ fn with_exterior(mark: u16, on: bool) -> u16
 // Marks region x as an exterior, if `on`.
 fn mark_exterior(marks: &mut [u16], x: u32, on: bool)
     requires { ⌜ (1 ≤ x) × (x ≤ length (now marks)) ⌝ }
-    ensures { λ r. ⌜ now (marks .exit) ≡ set (now (marks .entry)) (x - 1) (cond on (entryAt (now (marks .entry)) x % 4 + 4) (entryAt (now (marks .entry)) x)) ⌝ }
-    ensures { λ r. ⌜ length (now (marks .exit)) ≡ length (now (marks .entry)) ⌝ }
+    ensures marks { λ r. ⌜ now (marks .exit) ≡ set (now (marks .entry)) (x - 1) (cond on (entryAt (now (marks .entry)) x % 4
+        + 4) (entryAt (now (marks .entry)) x)) ⌝ }
+    ensures marks_length { λ r. ⌜ length (now (marks .exit)) ≡ length (now (marks .entry)) ⌝ }
 {
     let mark = with_exterior(marks[x as usize - 1], on);
     marks[x as usize - 1] = mark;
@@ -51,8 +52,8 @@ fn mark_exterior(marks: &mut [u16], x: u32, on: bool)
 
 fn clear_exterior(marks: &mut [u16], x: u32)
     requires { ⌜ (1 ≤ x) × (x ≤ length (now marks)) ⌝ }
-    ensures { λ r. ⌜ now (marks .exit) ≡ set (now (marks .entry)) (x - 1) (entryAt (now (marks .entry)) x % 4) ⌝ }
-    ensures { λ r. ⌜ length (now (marks .exit)) ≡ length (now (marks .entry)) ⌝ }
+    ensures marks { λ r. ⌜ now (marks .exit) ≡ set (now (marks .entry)) (x - 1) (entryAt (now (marks .entry)) x % 4) ⌝ }
+    ensures marks_length { λ r. ⌜ length (now (marks .exit)) ≡ length (now (marks .entry)) ⌝ }
 {
     let mark = marks[x as usize - 1] % 4;
     marks[x as usize - 1] = mark;
@@ -68,8 +69,12 @@ fn mark_exteriors(
     r: u32,
 ) -> bool
     requires { ⌜ Reachable (now pairs) first end (now names) (now marks) ⌝ }
-    ensures { λ x. ⌜ ((C : Context) (rs : List ℕ) → Walkable (now (pairs .entry)) first end (C .regions) → Inside C r rs (now (names .entry)) → Marked C (λ y. false) (now (marks .entry)) → Exteriored C rs (pairsBetween (now (pairs .entry)) first end) (now (marks .entry)) (now (marks .exit)) x) ⌝ }
-    ensures { λ x. ⌜ length (now (marks .exit)) ≡ length (now (marks .entry)) ⌝ }
+    ensures marked { λ x. ⌜ ((C : Context) (rs : List ℕ) →
+        Walkable (now (pairs .entry)) first end (C .regions) →
+        Inside C r rs (now (names .entry)) →
+        Marked C (λ y. false) (now (marks .entry)) →
+        Exteriored C rs (pairsBetween (now (pairs .entry)) first end) (now (marks .entry)) (now (marks .exit)) x) ⌝ }
+    ensures marks_length { λ x. ⌜ length (now (marks .exit)) ≡ length (now (marks .entry)) ⌝ }
 {
     let mut fit = true;
     let mut k = first;
@@ -89,8 +94,11 @@ fn mark_exteriors(
 // Clears the marks of all exteriors of the rows.
 fn clear_exteriors(marks: &mut [u16], pairs: &[u32], first: usize, end: usize)
     requires { ⌜ Walkable (now pairs) first end (length (now marks)) ⌝ }
-    ensures { λ x. ⌜ ((C : Context) (rs : List ℕ) → Walkable (now (pairs .entry)) first end (C .regions) → Marked C (λ y. member y (exteriors rs (pairsBetween (now (pairs .entry)) first end))) (now (marks .entry)) → Cleared C (now (marks .entry)) (now (marks .exit))) ⌝ }
-    ensures { λ x. ⌜ length (now (marks .exit)) ≡ length (now (marks .entry)) ⌝ }
+    ensures cleared { λ x. ⌜ ((C : Context) (rs : List ℕ) →
+        Walkable (now (pairs .entry)) first end (C .regions) →
+        Marked C (λ y. member y (exteriors rs (pairsBetween (now (pairs .entry)) first end))) (now (marks .entry)) →
+        Cleared C (now (marks .entry)) (now (marks .exit))) ⌝ }
+    ensures marks_length { λ x. ⌜ length (now (marks .exit)) ≡ length (now (marks .entry)) ⌝ }
 {
     let mut k = first;
     while k < end {
@@ -103,7 +111,10 @@ fn clear_exteriors(marks: &mut [u16], pairs: &[u32], first: usize, end: usize)
 // Whether each row has exactly one region named r.
 fn rows_split(names: &[u32], pairs: &[u32], first: usize, end: usize, r: u32) -> bool
     requires { ⌜ Walkable (now pairs) first end (length (now names)) ⌝ }
-    ensures { λ x. ⌜ ((C : Context) (rs : List ℕ) → Walkable (now (pairs .entry)) first end (C .regions) → Inside C r rs (now (names .entry)) → x ≡ all (λ p. eqb (insideCount rs p) 1) (pairsBetween (now (pairs .entry)) first end)) ⌝ }
+    ensures { λ x. ⌜ ((C : Context) (rs : List ℕ) →
+        Walkable (now (pairs .entry)) first end (C .regions) →
+        Inside C r rs (now (names .entry)) →
+        x ≡ all (λ p. eqb (insideCount rs p) 1) (pairsBetween (now (pairs .entry)) first end)) ⌝ }
 {
     let mut k = first;
     while k < end {
@@ -125,10 +136,14 @@ fn choose(b: bool, x: u32, y: u32) -> u32
 
 // A row with no region named r names one exterior and one leaf, which gets the name. Whether it does.
 fn expand_row(names: &mut [u32], marks: &[u16], lo: u32, hi: u32, r: u32) -> bool
-    requires { ⌜ (1 ≤ lo) × ((lo ≤ length (now names)) × (lo ≤ length (now marks))) ⌝ }
-    requires { ⌜ (1 ≤ hi) × ((hi ≤ length (now names)) × (hi ≤ length (now marks))) ⌝ }
-    ensures { λ x. ⌜ ((C : Context) (i : ℕ) (rs es : List ℕ) (v : Bool) → RowOf C i lo hi → Inside C r rs (now (names .entry)) → Marked C (λ y. member y es) (now (marks .entry)) → Held C i r (expandPair C i es (from rs v) (record { lo = lo; hi = hi })) v (now (names .entry)) (now (names .exit)) x) ⌝ }
-    ensures { λ x. ⌜ length (now (names .exit)) ≡ length (now (names .entry)) ⌝ }
+    requires lo_named { ⌜ (1 ≤ lo) × ((lo ≤ length (now names)) × (lo ≤ length (now marks))) ⌝ }
+    requires hi_named { ⌜ (1 ≤ hi) × ((hi ≤ length (now names)) × (hi ≤ length (now marks))) ⌝ }
+    ensures expanded { λ x. ⌜ ((C : Context) (i : ℕ) (rs es : List ℕ) (v : Bool) →
+        RowOf C i lo hi →
+        Inside C r rs (now (names .entry)) →
+        Marked C (λ y. member y es) (now (marks .entry)) →
+        Held C i r (expandPair C i es (from rs v) (record { lo = lo; hi = hi })) v (now (names .entry)) (now (names .exit)) x) ⌝ }
+    ensures names_length { λ x. ⌜ length (now (names .exit)) ≡ length (now (names .entry)) ⌝ }
 {
     if (parent_of(names, lo) == r) | (parent_of(names, hi) == r) {
         return true;
@@ -156,8 +171,12 @@ fn expand_rows(
     r: u32,
 ) -> bool
     requires { ⌜ Reachable (now pairs) first end (now names) (now marks) ⌝ }
-    ensures { λ x. ⌜ ((C : Context) (i : ℕ) (rs es : List ℕ) (v : Bool) → Ported C (now (pairs .entry)) first end i → Inside C r rs (now (names .entry)) → Marked C (λ y. member y es) (now (marks .entry)) → Held C i r (expandPairs C i es (from rs v) (pairsBetween (now (pairs .entry)) first end)) v (now (names .entry)) (now (names .exit)) x) ⌝ }
-    ensures { λ x. ⌜ length (now (names .exit)) ≡ length (now (names .entry)) ⌝ }
+    ensures expanded { λ x. ⌜ ((C : Context) (i : ℕ) (rs es : List ℕ) (v : Bool) →
+        Ported C (now (pairs .entry)) first end i →
+        Inside C r rs (now (names .entry)) →
+        Marked C (λ y. member y es) (now (marks .entry)) →
+        Held C i r (expandPairs C i es (from rs v) (pairsBetween (now (pairs .entry)) first end)) v (now (names .entry)) (now (names .exit)) x) ⌝ }
+    ensures names_length { λ x. ⌜ length (now (names .exit)) ≡ length (now (names .entry)) ⌝ }
 {
     let mut fit = true;
     let mut k = first;
@@ -181,8 +200,12 @@ pub fn expand_port(
     r: u32,
 ) -> bool
     requires { ⌜ Reachable (now pairs) first end (now names) (now marks) ⌝ }
-    ensures { λ x. ⌜ ((C : Context) (i : ℕ) (rs : List ℕ) (v : Bool) → Ported C (now (pairs .entry)) first end i → Inside C r rs (now (names .entry)) → Marked C (λ y. false) (now (marks .entry)) → Walked C i r rs v (now (names .entry)) (now (names .exit)) (now (marks .entry)) (now (marks .exit)) x) ⌝ }
-    ensures { λ x. ⌜ (length (now (names .exit)) ≡ length (now (names .entry))) × (length (now (marks .exit)) ≡ length (now (marks .entry))) ⌝ }
+    ensures expanded { λ x. ⌜ ((C : Context) (i : ℕ) (rs : List ℕ) (v : Bool) →
+        Ported C (now (pairs .entry)) first end i →
+        Inside C r rs (now (names .entry)) →
+        Marked C (λ y. false) (now (marks .entry)) →
+        Walked C i r rs v (now (names .entry)) (now (names .exit)) (now (marks .entry)) (now (marks .exit)) x) ⌝ }
+    ensures lengths { λ x. ⌜ (length (now (names .exit)) ≡ length (now (names .entry))) × (length (now (marks .exit)) ≡ length (now (marks .entry))) ⌝ }
 {
     let before = mark_exteriors(names, marks, pairs, first, end, r);
     let grown = expand_rows(names, marks, pairs, first, end, r);

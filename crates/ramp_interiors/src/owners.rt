@@ -13,7 +13,7 @@ ghost use Rattle.context.specs.Shown.{pairsBetween};
 ghost use Rattle.ramp_interiors.specs.Given.{Kept, SomeKept, AllKept};
 ghost use Rattle.ramp_interiors.specs.Owners.{Walkable, pairNamed, Common, Owned, Owners};
 
-// In the place of a component's name, where there are several: no region has this number.
+// In place of a component's name, where there are several: no region has this number.
 pub const SEVERAL: u32 = 4294967295;
 
 // Whether a region of a row from `first` on, before `end`, is named r.
@@ -62,7 +62,10 @@ fn owner_of(
     i: usize,
 ) -> u32
     requires { ⌜ SomeKept (now boundaries) (now tallies) (now pairs) (now starts) (now names) i ⌝ }
-    ensures { λ x. ⌜ ((C : Context) → Kept C (now (boundaries .entry)) (now (tallies .entry)) (now (pairs .entry)) (now (starts .entry)) (now (names .entry)) → i < C .count → Owned C i x) ⌝ }
+    ensures { λ x. ⌜ ((C : Context) →
+        Kept C (now (boundaries .entry)) (now (tallies .entry)) (now (pairs .entry)) (now (starts .entry)) (now (names .entry)) →
+        i < C .count →
+        Owned C i x) ⌝ }
 {
     if is_ordinary(boundaries, tallies, i) {
         common_name(names, pairs, starts[i], starts[i + 1])
@@ -81,9 +84,12 @@ pub fn find_owners(
     count: usize,
     owners: &mut [u32; 256],
 )
-    requires { ⌜ AllKept (now boundaries) (now tallies) (now pairs) (now starts) (now names) count ⌝ }
-    requires { ⌜ length (now owners) ≡ maxEntries ⌝ }
-    ensures { λ x. ⌜ ((C : Context) → Kept C (now (boundaries .entry)) (now (tallies .entry)) (now (pairs .entry)) (now (starts .entry)) (now (names .entry)) → C .count ≡ count → Owners C (now (owners .exit))) ⌝ }
+    requires kept { ⌜ AllKept (now boundaries) (now tallies) (now pairs) (now starts) (now names) count ⌝ }
+    requires owners_room { ⌜ length (now owners) ≡ maxEntries ⌝ }
+    ensures { λ x. ⌜ ((C : Context) →
+        Kept C (now (boundaries .entry)) (now (tallies .entry)) (now (pairs .entry)) (now (starts .entry)) (now (names .entry)) →
+        C .count ≡ count →
+        Owners C (now (owners .exit))) ⌝ }
 {
     let mut i = 0;
     while i < count {

@@ -26,7 +26,12 @@ fn is_port(
     r: u32,
 ) -> bool
     requires { ⌜ SomeMapped (now pairs) (now starts) (now names) (now marks) r i ⌝ }
-    ensures { λ x. ⌜ ((C : Context) → Mapped C (now (pairs .entry)) (now (starts .entry)) (now (names .entry)) (now (marks .entry)) r → i < C .count → Owned C i owner → candidate C r ≡ true → x ≡ port C r i) ⌝ }
+    ensures { λ x. ⌜ ((C : Context) →
+        Mapped C (now (pairs .entry)) (now (starts .entry)) (now (names .entry)) (now (marks .entry)) r →
+        i < C .count →
+        Owned C i owner →
+        candidate C r ≡ true →
+        x ≡ port C r i) ⌝ }
 {
     if owner == r {
         return false;
@@ -49,10 +54,15 @@ fn next_port(
     r: u32,
     first: usize,
 ) -> usize
-    requires { ⌜ AllMapped (now pairs) (now starts) (now names) (now marks) r count ⌝ }
-    requires { ⌜ first ≤ count ⌝ }
-    ensures { λ x. ⌜ ((C : Context) → Mapped C (now (pairs .entry)) (now (starts .entry)) (now (names .entry)) (now (marks .entry)) r → C .count ≡ count → Owners C (now (owners .entry)) → candidate C r ≡ true → NextPort C r count first x) ⌝ }
-    ensures { λ x. ⌜ (first ≤ x) × (x ≤ count) ⌝ }
+    requires mapped { ⌜ AllMapped (now pairs) (now starts) (now names) (now marks) r count ⌝ }
+    requires ordered { ⌜ first ≤ count ⌝ }
+    ensures next_port { λ x. ⌜ ((C : Context) →
+        Mapped C (now (pairs .entry)) (now (starts .entry)) (now (names .entry)) (now (marks .entry)) r →
+        C .count ≡ count →
+        Owners C (now (owners .entry)) →
+        candidate C r ≡ true →
+        NextPort C r count first x) ⌝ }
+    ensures bound { λ x. ⌜ (first ≤ x) × (x ≤ count) ⌝ }
 {
     let mut i = first;
     while i < count {
@@ -75,7 +85,12 @@ pub fn find_ports(
     r: u32,
 ) -> Ports
     requires { ⌜ AllMapped (now pairs) (now starts) (now names) (now marks) r count ⌝ }
-    ensures { λ x. ⌜ ((C : Context) → Mapped C (now (pairs .entry)) (now (starts .entry)) (now (names .entry)) (now (marks .entry)) r → C .count ≡ count → Owners C (now (owners .entry)) → candidate C r ≡ true → x ≡ twoPorts (componentPorts C (components C) r)) ⌝ }
+    ensures { λ x. ⌜ ((C : Context) →
+        Mapped C (now (pairs .entry)) (now (starts .entry)) (now (names .entry)) (now (marks .entry)) r →
+        C .count ≡ count →
+        Owners C (now (owners .entry)) →
+        candidate C r ≡ true →
+        x ≡ twoPorts (componentPorts C (components C) r)) ⌝ }
 {
     let a = next_port(pairs, starts, names, marks, owners, count, r, 0);
     if a == count {

@@ -17,7 +17,7 @@ ghost use Rattle.ramp_interiors.specs.Given.{Marked};
 ghost use Rattle.ramp_interiors.specs.Leaves.{Inside, PortReachable, BothWalked};
 ghost use Rattle.ramp_interiors.specs.Proposals.{Facing, SomeFacing, Proposed, isFirst, firstOf, secondOf, foundPorts, Progress, Owning, SomeProgress, FoundAll};
 
-// In the place of a port, where there is none.
+// In place of a port, where there is none.
 pub const NO_PORT: usize = 256;
 
 // The leaves beyond the ports a and b. Whether both are valid.
@@ -31,8 +31,14 @@ fn expand_ports(
     r: u32,
 ) -> bool
     requires { ⌜ PortReachable (now pairs) (now starts) (now names) (now marks) a × PortReachable (now pairs) (now starts) (now names) (now marks) b ⌝ }
-    ensures { λ x. ⌜ ((C : Context) (rs : List ℕ) → ShownPairs C (now (pairs .entry)) (now (starts .entry)) → a < C .count → b < C .count → Inside C r rs (now (names .entry)) → Marked C (λ y. false) (now (marks .entry)) → BothWalked C a b r rs (now (names .entry)) (now (names .exit)) (now (marks .entry)) (now (marks .exit)) x) ⌝ }
-    ensures { λ x. ⌜ (length (now (names .exit)) ≡ length (now (names .entry))) × (length (now (marks .exit)) ≡ length (now (marks .entry))) ⌝ }
+    ensures expanded { λ x. ⌜ ((C : Context) (rs : List ℕ) →
+        ShownPairs C (now (pairs .entry)) (now (starts .entry)) →
+        a < C .count →
+        b < C .count →
+        Inside C r rs (now (names .entry)) →
+        Marked C (λ y. false) (now (marks .entry)) →
+        BothWalked C a b r rs (now (names .entry)) (now (names .exit)) (now (marks .entry)) (now (marks .exit)) x) ⌝ }
+    ensures lengths { λ x. ⌜ (length (now (names .exit)) ≡ length (now (names .entry))) × (length (now (marks .exit)) ≡ length (now (marks .entry))) ⌝ }
 {
     let first = expand_port(names, marks, pairs, starts[a], starts[a + 1], r);
     let second = expand_port(names, marks, pairs, starts[b], starts[b + 1], r);
@@ -52,8 +58,11 @@ pub fn propose(
     r: u32,
 ) -> Ports
     requires { ⌜ SomeFacing (now boundaries) (now tallies) (now pairs) (now starts) (now names) (now marks) (now owners) count r ⌝ }
-    ensures { λ x. ⌜ ((C : Context) → Facing C (now (boundaries .entry)) (now (tallies .entry)) (now (pairs .entry)) (now (starts .entry)) (now (names .entry)) (now (marks .entry)) (now (owners .entry)) count r → Proposed C r (now (names .entry)) (now (names .exit)) (now (marks .entry)) (now (marks .exit)) x) ⌝ }
-    ensures { λ x. ⌜ (length (now (names .exit)) ≡ length (now (names .entry))) × (length (now (marks .exit)) ≡ length (now (marks .entry))) ⌝ }
+    ensures proposed { λ x. ⌜ ((C : Context) →
+        Facing C (now (boundaries .entry)) (now (tallies .entry)) (now (pairs .entry)) (now (starts .entry)) (now (names .entry)) (now (marks .entry))
+        (now (owners .entry)) count r →
+        Proposed C r (now (names .entry)) (now (names .exit)) (now (marks .entry)) (now (marks .exit)) x) ⌝ }
+    ensures lengths { λ x. ⌜ (length (now (names .exit)) ≡ length (now (names .entry))) × (length (now (marks .exit)) ≡ length (now (marks .entry))) ⌝ }
 {
     if !is_candidate(pairs, starts, names, marks, owners, count, r) {
         return Ports::Other;
@@ -123,10 +132,13 @@ fn propose_at(
     count: usize,
     i: usize,
 ) -> Ports
-    requires { ⌜ i < count ⌝ }
-    requires { ⌜ SomeProgress (now boundaries) (now tallies) (now pairs) (now starts) (now names) (now marks) (now owners) count i ⌝ }
-    ensures { λ x. ⌜ ((C : Context) (was wasMarks : List ℕ) → Owning C (now (boundaries .entry)) (now (tallies .entry)) (now (pairs .entry)) (now (starts .entry)) (now (owners .entry)) count → Progress C (now (owners .entry)) was (now (names .entry)) wasMarks (now (marks .entry)) i → Progress C (now (owners .entry)) was (now (names .exit)) wasMarks (now (marks .exit)) (i + 1) × (x ≡ foundPorts C (now (owners .entry)) i)) ⌝ }
-    ensures { λ x. ⌜ (length (now (names .exit)) ≡ length (now (names .entry))) × (length (now (marks .exit)) ≡ length (now (marks .entry))) ⌝ }
+    requires i_within { ⌜ i < count ⌝ }
+    requires progress { ⌜ SomeProgress (now boundaries) (now tallies) (now pairs) (now starts) (now names) (now marks) (now owners) count i ⌝ }
+    ensures proposed { λ x. ⌜ ((C : Context) (was wasMarks : List ℕ) →
+        Owning C (now (boundaries .entry)) (now (tallies .entry)) (now (pairs .entry)) (now (starts .entry)) (now (owners .entry)) count →
+        Progress C (now (owners .entry)) was (now (names .entry)) wasMarks (now (marks .entry)) i →
+        Progress C (now (owners .entry)) was (now (names .exit)) wasMarks (now (marks .exit)) (i + 1) × (x ≡ foundPorts C (now (owners .entry)) i)) ⌝ }
+    ensures lengths { λ x. ⌜ (length (now (names .exit)) ≡ length (now (names .entry))) × (length (now (marks .exit)) ≡ length (now (marks .entry))) ⌝ }
 {
     if is_first(owners, i) {
         propose(
@@ -158,10 +170,14 @@ pub fn propose_all(
     firsts: &mut [usize; 256],
     seconds: &mut [usize; 256],
 )
-    requires { ⌜ SomeProgress (now boundaries) (now tallies) (now pairs) (now starts) (now names) (now marks) (now owners) count 0 ⌝ }
-    requires { ⌜ (length (now firsts) ≡ maxEntries) × (length (now seconds) ≡ maxEntries) ⌝ }
-    ensures { λ x. ⌜ ((C : Context) (was wasMarks : List ℕ) → Owning C (now (boundaries .entry)) (now (tallies .entry)) (now (pairs .entry)) (now (starts .entry)) (now (owners .entry)) count → Progress C (now (owners .entry)) was (now (names .entry)) wasMarks (now (marks .entry)) 0 → Progress C (now (owners .entry)) was (now (names .exit)) wasMarks (now (marks .exit)) (C .count) × FoundAll C (now (owners .entry)) (now (firsts .exit)) (now (seconds .exit)) (C .count)) ⌝ }
-    ensures { λ x. ⌜ (length (now (names .exit)) ≡ length (now (names .entry))) × (length (now (marks .exit)) ≡ length (now (marks .entry))) ⌝ }
+    requires progress { ⌜ SomeProgress (now boundaries) (now tallies) (now pairs) (now starts) (now names) (now marks) (now owners) count 0 ⌝ }
+    requires room { ⌜ (length (now firsts) ≡ maxEntries) × (length (now seconds) ≡ maxEntries) ⌝ }
+    ensures proposed { λ x. ⌜ ((C : Context) (was wasMarks : List ℕ) →
+        Owning C (now (boundaries .entry)) (now (tallies .entry)) (now (pairs .entry)) (now (starts .entry)) (now (owners .entry)) count →
+        Progress C (now (owners .entry)) was (now (names .entry)) wasMarks (now (marks .entry)) 0 →
+        Progress C (now (owners .entry)) was (now (names .exit)) wasMarks (now (marks .exit)) (C .count)
+        × FoundAll C (now (owners .entry)) (now (firsts .exit)) (now (seconds .exit)) (C .count)) ⌝ }
+    ensures lengths { λ x. ⌜ (length (now (names .exit)) ≡ length (now (names .entry))) × (length (now (marks .exit)) ≡ length (now (marks .entry))) ⌝ }
 {
     let mut i = 0;
     while i < count {

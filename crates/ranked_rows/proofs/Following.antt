@@ -1,7 +1,7 @@
 -- A row that is written behind those of the ranks before it gives the list with that row more, and so the list of an order comes about rank by rank. Assumes nothing.
 use Prim.Native.Nat.{ℕ, zero, suc, _+_, _*_, _≤_, _<_, zero-le}
 use native.Mathlib.Omega.{arith}
-use mathlib.Core.Path.{_≡_, refl, sym, ap, ap₂, _∙_, subst}
+use mathlib.Core.Path.{_≡_, refl, sym, ap, ap₂, _∙_}
 use mathlib.Core.Bool.{Bool, true, false, _&&_}
 use mathlib.Core.Option.{some}
 use mathlib.Core.List.{List, [], _∷_, _++_}
@@ -14,7 +14,7 @@ use Rattle.definitions.specs.Lists.{overwrite}
 use Rattle.definitions.specs.Junctions.{Proposal}
 use Rattle.laws.specs.ListLaws.Overwritten.{overwrite-more}
 use Rattle.junctions.specs.Bridges.{FirstFrom}
-use Rattle.junctions.specs.Rows.{maxProposals, rowAt}
+use Rattle.junctions.specs.Rows.{rowAt}
 use Rattle.junction_selection.specs.Ranks.{orderOf, conflictAt}
 use Rattle.ranked_list.specs.RankedList.{Listed, blocks, judged, judgedAfter, flatRanked}
 use Rattle.ranked_list.specs.RankedLaws.{row-at, judged-length}
@@ -118,8 +118,18 @@ module _ (smaller larger rows order : List ℕ) (count k p : ℕ) where
 
       room : length (flatRanked before) + length (flatRanked (judged clash before (rowAt rows p) ∷ [])) ≤ length old
       room =
-          omega (arith, flat-length before, flat-length (judged clash before (rowAt rows p) ∷ []), before-length, ap length e, length-append (flatRanked before) (drop (length (flatRanked before)) old),
-          length-drop (length (flatRanked before)) old, listing .room, listing .few, rank .rank-in)
+          omega (
+            arith,
+            flat-length before,
+            flat-length (judged clash before (rowAt rows p) ∷ []),
+            before-length,
+            ap length e,
+            length-append (flatRanked before) (drop (length (flatRanked before)) old),
+            length-drop (length (flatRanked before)) old,
+            listing .room,
+            listing .few,
+            rank .rank-in,
+          )
 
 -- ---- rank by rank
 

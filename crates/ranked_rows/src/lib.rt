@@ -75,8 +75,8 @@ fn blocks(
     r: usize,
     p: usize,
 ) -> bool
-    requires { ⌜ (r < length (now order)) × (numbersPerRanked * r + 5 < length (now listed)) ⌝ }
-    requires { ⌜ TwoRows (now rows) count (getD (now order) r 0) p ⌝ }
+    requires room { ⌜ (r < length (now order)) × (numbersPerRanked * r + 5 < length (now listed)) ⌝ }
+    requires two_rows { ⌜ TwoRows (now rows) count (getD (now order) r 0) p ⌝ }
     ensures { λ b. ⌜ b ≡ blocksAt (now (smaller .entry)) (now (larger .entry)) count (now (rows .entry)) (now (order .entry)) (now (listed .entry)) p r ⌝ }
 {
     if listed[NUMBERS_PER_RANKED * r + 4] != 1 {
@@ -97,8 +97,8 @@ fn refused_by(
     k: usize,
     p: usize,
 ) -> usize
-    requires { ⌜ Listing (now rows) (now order) (now listed) count n ⌝ }
-    requires { ⌜ RankOf (now order) n k p ⌝ }
+    requires listing { ⌜ Listing (now rows) (now order) (now listed) count n ⌝ }
+    requires rank { ⌜ RankOf (now order) n k p ⌝ }
     ensures { λ r. ⌜ FirstFrom (blocksAt (now (smaller .entry)) (now (larger .entry)) count (now (rows .entry)) (now (order .entry)) (now (listed .entry)) p)
         0 k r ⌝ }
 {
@@ -157,8 +157,8 @@ fn put_row(
 
 // Writes row p as that of rank k, refused by rank `by`; taken, where that is k itself.
 fn put_ranked(rows: &[u32], listed: &mut [u32], k: usize, p: usize, by: usize)
-    requires { ⌜ (numbersPerProposal * p + 3 < length (now rows)) × (numbersPerRanked * k + 5 < length (now listed)) ⌝ }
-    requires { ⌜ by < 65536 ⌝ }
+    requires room { ⌜ (numbersPerProposal * p + 3 < length (now rows)) × (numbersPerRanked * k + 5 < length (now listed)) ⌝ }
+    requires by_within { ⌜ by < 65536 ⌝ }
     ensures { λ _. ⌜ now (listed .exit) ≡ sets (now (listed .entry)) (numbersPerRanked * k) (rankedRow (rowAt (now (rows .entry)) p) k by) ⌝ }
 {
     let from = NUMBERS_PER_PROPOSAL * p;
@@ -188,8 +188,8 @@ fn list_row(
     k: usize,
     p: usize,
 )
-    requires { ⌜ Listing (now rows) (now order) (now listed) count n ⌝ }
-    requires { ⌜ RankOf (now order) n k p ⌝ }
+    requires listing { ⌜ Listing (now rows) (now order) (now listed) count n ⌝ }
+    requires rank { ⌜ RankOf (now order) n k p ⌝ }
     ensures { λ _. ⌜ Following (now (smaller .entry)) (now (larger .entry)) count (now (rows .entry)) (now (order .entry)) k p
         (now (listed .entry)) (now (listed .exit)) ⌝ }
 {
@@ -208,8 +208,8 @@ fn list_in_order(
     n: usize,
     m: usize,
 )
-    requires { ⌜ Listing (now rows) (now order) (now listed) count n ⌝ }
-    requires { ⌜ (m ≤ n) × Rows (now order) m n ⌝ }
+    requires listing { ⌜ Listing (now rows) (now order) (now listed) count n ⌝ }
+    requires places { ⌜ (m ≤ n) × Rows (now order) m n ⌝ }
     ensures { λ _. ⌜ now (listed .exit)
         ≡ overwrite (flatRanked (listedFrom (now (smaller .entry)) (now (larger .entry)) count (orderOf (now (rows .entry)) (now (order .entry)) m))) (now (listed .entry)) ⌝ }
 {
@@ -240,7 +240,8 @@ pub fn list_ranked(
     n: usize,
 ) -> usize
     requires { ⌜ Allowed (now boundaries) (now rows) (now verdicts) (now listed) count n ⌝ }
-    ensures many { λ r. ⌜ r ≡ length (allowedList (now (smaller .entry)) (now (larger .entry)) count (now (boundaries .entry)) (now (rows .entry)) (now (verdicts .entry)) n) ⌝ }
+    ensures many { λ r. ⌜ r ≡ length (allowedList (now (smaller .entry)) (now (larger .entry)) count (now (boundaries .entry)) (now (rows .entry))
+        (now (verdicts .entry)) n) ⌝ }
     ensures list { λ _. ⌜ now (listed .exit)
         ≡ overwrite (flatRanked (allowedList (now (smaller .entry)) (now (larger .entry)) count (now (boundaries .entry)) (now (rows .entry)) (now (verdicts .entry)) n))
         (now (listed .entry)) ⌝ }

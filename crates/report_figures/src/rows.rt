@@ -57,8 +57,8 @@ pub fn count_unnamed(output: &[u64], kept: usize, count: usize) -> u64
 // The distance of two pixels, squared.
 fn square_apart(a: u64, b: u64) -> u64
     requires { ⌜ (a ≤ maxPixel) × (b ≤ maxPixel) ⌝ }
-    ensures { λ r. ⌜ r ≡ squareApart a b ⌝ }
-    ensures { λ r. ⌜ r ≤ maxPixel * maxPixel ⌝ }
+    ensures answer { λ r. ⌜ r ≡ squareApart a b ⌝ }
+    ensures bound { λ r. ⌜ r ≤ maxPixel * maxPixel ⌝ }
 {
     let apart = if a <= b { b - a } else { a - b };
     apart * apart
@@ -66,10 +66,10 @@ fn square_apart(a: u64, b: u64) -> u64
 
 // The squared length of row k.
 fn squared_length(output: &[u64], k: usize) -> u64
-    requires { ⌜ numbersPerRow * (k + 1) ≤ length (now output) ⌝ }
-    requires { ⌜ PixelSegment (rowAt (now output) (numbersPerRow * k) .line) ⌝ }
-    ensures { λ r. ⌜ r ≡ squaredLength (rowAt (now (output .entry)) (numbersPerRow * k) .line) ⌝ }
-    ensures { λ r. ⌜ r ≤ maxSquare ⌝ }
+    requires output_room { ⌜ numbersPerRow * (k + 1) ≤ length (now output) ⌝ }
+    requires pixels { ⌜ PixelSegment (rowAt (now output) (numbersPerRow * k) .line) ⌝ }
+    ensures answer { λ r. ⌜ r ≡ squaredLength (rowAt (now (output .entry)) (numbersPerRow * k) .line) ⌝ }
+    ensures bound { λ r. ⌜ r ≤ maxSquare ⌝ }
 {
     let row = ROW_SIZE * k;
     let across = square_apart(output[row + 1], output[row + 3]);

@@ -38,7 +38,7 @@ pub record RestAnswer : Type 0 where
 abbrev pub withRounds : Answer → ℕ → RestAnswer
 withRounds a rounds = record { number = a .number; value = a .value; rounds = cond (eqb (a .number) 0) rounds 0 }
 
--- There is no pass to ask for; 16 stands "in the place of 4".
+-- There is no pass to ask for; 16 stands "in place of 4".
 unfoldable pub restVerdict : Lent → RestAnswer
 unfolding mapIn listsFault spansRefusal boundariesFault anchorsFault elevationsFault recordsFault pairsFault startMap roundsOf restRows
 restVerdict L =

@@ -457,7 +457,9 @@ pub fn read_within(
     boundaries: &mut [u64],
     anchors: &mut [u64],
 ) -> Answer
-    ensures { λ r. ⌜ Answered (readingWithin limit (now (bytes .entry)) (now (cells .entry)) (now (spans .entry)) (now (boundaries .entry)) (now (anchors .entry))) (now (cells .entry)) (now (spans .entry)) (now (boundaries .entry)) (now (anchors .entry)) r (now (cells .exit)) (now (spans .exit)) (now (boundaries .exit)) (now (anchors .exit)) ⌝ }
+    ensures { λ r. ⌜ Answered (readingWithin limit (now (bytes .entry)) (now (cells .entry)) (now (spans .entry)) (now (boundaries .entry))
+        (now (anchors .entry))) (now (cells .entry)) (now (spans .entry)) (now (boundaries .entry)) (now (anchors .entry)) r
+        (now (cells .exit)) (now (spans .exit)) (now (boundaries .exit)) (now (anchors .exit)) ⌝ }
 {
     match judge_sheet(bytes, limit) {
         SheetRead::Sound(plan) => {
@@ -496,7 +498,9 @@ pub fn read_sheet(
     boundaries: &mut [u64],
     anchors: &mut [u64],
 ) -> Answer
-    ensures { λ r. ⌜ Answered (readVerdict (now (bytes .entry)) (length (now (cells .entry))) (length (now (spans .entry))) (length (now (boundaries .entry))) (length (now (anchors .entry)))) (now (cells .entry)) (now (spans .entry)) (now (boundaries .entry)) (now (anchors .entry)) r (now (cells .exit)) (now (spans .exit)) (now (boundaries .exit)) (now (anchors .exit)) ⌝ }
+    ensures { λ r. ⌜ Answered (readVerdict (now (bytes .entry)) (length (now (cells .entry))) (length (now (spans .entry)))
+        (length (now (boundaries .entry))) (length (now (anchors .entry)))) (now (cells .entry)) (now (spans .entry)) (now (boundaries .entry))
+        (now (anchors .entry)) r (now (cells .exit)) (now (spans .exit)) (now (boundaries .exit)) (now (anchors .exit)) ⌝ }
 {
     read_within(
         bytes,

@@ -45,7 +45,9 @@ pub fn region_from(
     id: u32,
 ) -> Stretch
     requires { ⌜ ((M : Map) × Begins M width (now cells) (now labels) (now queue) from end id) ⌝ }
-    ensures { λ r. ⌜ ((M : Map) → Begins M width (now (cells .entry)) (now (labels .entry)) (now (queue .entry)) from end id → Made M (now (queue .entry)) id r) ⌝ }
+    ensures { λ r. ⌜ ((M : Map) →
+        Begins M width (now (cells .entry)) (now (labels .entry)) (now (queue .entry)) from end id →
+        Made M (now (queue .entry)) id r) ⌝ }
 {
     let mut region = Region::empty();
     let mut at = from;

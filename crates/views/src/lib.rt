@@ -31,9 +31,14 @@ pub fn view(
     smaller: &mut [u32; 256],
     larger: &mut [u32; 256],
 )
-    requires { ⌜ ((M : Map) × Partitioned M width needed (now labels) (now anchors) regions rows count (now tallies) (now pairs) (length (now masks)) (length (now queue))) ⌝ }
-    requires { ⌜ (length (now starts) ≡ maxEntries + 1) × (length (now smaller) ≡ maxEntries) × (length (now larger) ≡ maxEntries) ⌝ }
-    ensures { λ r. ⌜ ((M : Map) → Partitioned M width needed (now (labels .entry)) (now (anchors .entry)) regions rows count (now (tallies .entry)) (now (pairs .entry)) (length (now (masks .entry))) (length (now (queue .entry))) → Viewed M needed (now (pairs .entry)) (now (masks .entry)) (now (queue .entry)) (now (masks .exit)) (now (queue .exit)) (now (starts .exit)) (now (smaller .exit)) (now (larger .exit))) ⌝ }
+    requires partitioned { ⌜ ((M : Map) × Partitioned M width needed (now labels) (now anchors) regions rows count (now tallies) (now pairs)
+        (length (now masks)) (length (now queue))) ⌝ }
+    requires room { ⌜ (length (now starts) ≡ maxEntries + 1) × (length (now smaller) ≡ maxEntries) × (length (now larger) ≡ maxEntries) ⌝ }
+    ensures { λ r. ⌜ ((M : Map) →
+        Partitioned M width needed (now (labels .entry)) (now (anchors .entry)) regions rows count (now (tallies .entry)) (now (pairs .entry))
+        (length (now (masks .entry))) (length (now (queue .entry))) →
+        Viewed M needed (now (pairs .entry)) (now (masks .entry)) (now (queue .entry))
+        (now (masks .exit)) (now (queue .exit)) (now (starts .exit)) (now (smaller .exit)) (now (larger .exit))) ⌝ }
 {
     clear_scratch(masks, queue, regions);
     pair_starts(pairs, rows, count, starts);
@@ -53,7 +58,8 @@ pub fn finish(
     output: &mut [u64],
 ) -> usize
     requires { ⌜ Finishes needed count (now boundaries) (length (now masks)) (length (now queue)) (length (now output)) ⌝ }
-    ensures { λ r. ⌜ Finished needed count (now (boundaries .entry)) (now (removed .entry)) (now (masks .entry)) (now (queue .entry)) (now (output .entry)) (now (masks .exit)) (now (queue .exit)) (now (output .exit)) r ⌝ }
+    ensures { λ r. ⌜ Finished needed count (now (boundaries .entry)) (now (removed .entry)) (now (masks .entry)) (now (queue .entry))
+        (now (output .entry)) (now (masks .exit)) (now (queue .exit)) (now (output .exit)) r ⌝ }
 {
     clear_scratch(masks, queue, needed);
     canonical_output(boundaries, count, removed, output)

@@ -16,8 +16,30 @@ clear-masks-requires c κs = search needs
 clear-numbers-requires : tie.Need-clear-numbers-requires
 clear-numbers-requires c κs = search needs
 
+-- the state at `queue`, from the state at `queue2`
+abbrev to-queue : tie.After-queue2 → tie.After-queue
+to-queue c =
+    let at-clear-numbers-arg = c .before .before in
+    let at-clear-masks = at-clear-numbers-arg .before .before .before in
+    at-clear-masks .before .before .before
+
+-- the function's entry, from the state at `label-regions-arg2`
+abbrev to-entry : tie.After-label-regions-arg2 → tie.Start
+to-entry c =
+    let at-slice-known4 = c .before .before .before in
+    let at-slice-known = at-slice-known4 .before .before .before in
+    at-slice-known .before .before .before
+
 assess-spans-requires : tie.Need-assess-spans-requires
-assess-spans-requires c κs = (c .before .before .before .before .before .before .before .before .before .before .before .before .before .before .before .before .before .before .before .before .before .before .before .before .before .before .before .before .pre .checked, assess-asked (c .before .before .before .before .before .before .before .before .before .before .before .before .before .before .before .before .before .before .before .before .before .before .before .before .before .before .before .before .pre) (c .before .before .before .before .before .before .before .before .before .before .before .before .before .before .before .before .before .label-regions .kept .1 .1 .1 .1 .0))
+assess-spans-requires c κs =
+    let at-assess-spans-arg2 = c .before in
+    let at-queue2 = at-assess-spans-arg2 .before .before .before in
+    let at-queue = to-queue at-queue2 in
+    let at-masks = at-queue .before .before in
+    let at-label-regions = at-masks .before .before .before in
+    let at-label-regions-arg2 = at-label-regions .before .before in
+    let entry = to-entry at-label-regions-arg2 in
+    (entry .pre .checked, assess-asked (entry .pre) (at-label-regions .label-regions .kept .1 .1 .1 .1 .0))
 
 enum-told : tie.Need-enum-told
 enum-told c = search needs
@@ -44,7 +66,17 @@ same-length-5 : tie.Need-same-length-5
 same-length-5 c = search needs
 
 returns : tie.Need-returns
-returns c = divided-whole _ _ _ _ _ _ _ _ _ (c .before .before .before .before .before .before .before .before .before .before .before .before .before .before .before .before .before .before .before .before .before .before .before .before .label-regions .ensures) (c .before .before .before .before .before .before .before .before .before .before .before .before .before .before .before .before .clear-masks .ensures) (c .before .before .before .before .before .before .before .before .before .before .before .before .clear-numbers .ensures) (c .before .before .before .before .before .before .assess-spans .ensures) (c .enum-told .given .1)
+returns c =
+    let at-pairs = c .before .before .before in
+    let at-assess-spans = at-pairs .before .before .before in
+    let at-assess-spans-arg = at-assess-spans .before .before .before in
+    let at-clear-numbers = at-assess-spans-arg .before .before .before in
+    let at-masks2 = at-clear-numbers .before .before .before in
+    let at-clear-masks = at-masks2 .before in
+    let at-queue = at-clear-masks .before .before .before in
+    let at-masks = at-queue .before .before in
+    let at-label-regions = at-masks .before .before .before in
+    divided-whole _ _ _ _ _ _ _ _ _ (at-label-regions .label-regions .ensures) (at-clear-masks .clear-masks .ensures) (at-clear-numbers .clear-numbers .ensures) (at-assess-spans .assess-spans .ensures) (c .enum-told .given .1)
 
 same-length-6 : tie.Need-same-length-6
 same-length-6 c = search needs
@@ -62,7 +94,19 @@ same-length-10 : tie.Need-same-length-10
 same-length-10 c = search needs
 
 returns-2 : tie.Need-returns-2
-returns-2 c = divided-short _ _ _ _ _ _ _ _ _ (c .before .before .before .before .before .before .before .before .before .before .before .before .before .before .before .before .before .before .before .before .before .before .before .before .before .before .before .before .label-regions .ensures) (c .before .before .before .before .before .before .before .before .before .before .before .before .before .before .before .before .before .before .before .before .clear-masks .ensures) (c .before .before .before .before .before .before .before .before .before .before .before .before .before .before .before .before .clear-numbers .ensures) (c .before .before .before .before .before .before .before .before .before .before .assess-spans .ensures) (c .before .before .before .before .enum-told2 .given .1) (c .before .before .clear-numbers2 .ensures)
+returns-2 c =
+    let at-pairs2 = c .before in
+    let at-enum-told2 = at-pairs2 .before .before .before in
+    let at-pairs = at-enum-told2 .before .before .before in
+    let at-assess-spans = at-pairs .before .before .before in
+    let at-assess-spans-arg = at-assess-spans .before .before .before in
+    let at-clear-numbers = at-assess-spans-arg .before .before .before in
+    let at-masks2 = at-clear-numbers .before .before .before in
+    let at-clear-masks = at-masks2 .before in
+    let at-queue = at-clear-masks .before .before .before in
+    let at-masks = at-queue .before .before in
+    let at-label-regions = at-masks .before .before .before in
+    divided-short _ _ _ _ _ _ _ _ _ (at-label-regions .label-regions .ensures) (at-clear-masks .clear-masks .ensures) (at-clear-numbers .clear-numbers .ensures) (at-assess-spans .assess-spans .ensures) (at-enum-told2 .enum-told2 .given .1) (c .before .before .clear-numbers2 .ensures)
 
 pub divide-spec : {M : Type 1} → statement M
 divide-spec =

@@ -24,7 +24,11 @@ enum-told : tie.Need-enum-told
 enum-told c = search needs
 
 divide-requires : tie.Need-divide-requires
-divide-requires c κs = early-fit _ _ _ _ _ _ _ _ (sym (says (c .before .before .before .before .before .before .before .checks-before .ensures) (c .before .before .before .before .before .enum-told .given .1)))
+divide-requires c κs =
+    let at-divide-arg3 = c .before .before in
+    let at-enum-told = at-divide-arg3 .before .before .before in
+    let at-checks-before = at-enum-told .before .before in
+    early-fit _ _ _ _ _ _ _ _ (sym (says (at-checks-before .checks-before .ensures) (at-enum-told .enum-told .given .1)))
 
 returns : tie.Need-returns
 returns c = ran-refused _ _ _ _ _ _ _ _ _ _ _ (says (c .before .before .before .checks-before .ensures) (c .before .check .given .1))
@@ -45,7 +49,15 @@ same-length-5 : tie.Need-same-length-5
 same-length-5 c = search needs
 
 returns-2 : tie.Need-returns-2
-returns-2 c = (c .before .before .before .before .before .before .before .before .before .before .divide .ensures) (says (c .before .before .before .before .before .before .before .before .before .before .before .before .before .before .before .before .before .before .checks-before .ensures) (c .before .before .before .before .before .before .before .before .before .before .before .before .before .before .before .before .enum-told .given .1))
+returns-2 c =
+    let at-tallies = c .before .before .before in
+    let at-queue = at-tallies .before .before in
+    let at-masks = at-queue .before .before in
+    let at-divide = at-masks .before .before .before in
+    let at-divide-arg3 = at-divide .before .before .before in
+    let at-enum-told = at-divide-arg3 .before .before .before in
+    let at-checks-before = at-enum-told .before .before in
+    (at-divide .divide .ensures) (says (at-checks-before .checks-before .ensures) (at-enum-told .enum-told .given .1))
 
 pub partition-spec : {M : Type 1} → statement M
 partition-spec =

@@ -13,7 +13,9 @@ use Rattle.assessments.proofs.assess_cell.Tie as tie
 
 -- the function's entry, from its first call on
 abbrev entry : tie.After-is-near → tie.Start
-entry c = c .before .before .before .before
+entry c =
+    let at-slice-known = c .before in
+    at-slice-known .before .before .before
 
 asked : (s : tie.Start) → let a = s .args in CellAsked (a .width) (a .height) (a .cells .now) (a .g) (a .x) (a .y)
 asked s = let p = s .pre .0 in record { narrow = p .0 .narrow; short = p .0 .short; cellsLong = p .0 .cellsLong; sound = p .1; inX = p .2; inY = p .3 }

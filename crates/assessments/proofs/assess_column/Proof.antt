@@ -27,7 +27,9 @@ pick-requires c κs = search needs
 
 -- the function's entry, from its first call on
 abbrev entry : tie.After-pick Inv-loop μ-loop → tie.Start Inv-loop μ-loop
-entry c = c .before .before .before .before
+entry c =
+    let at-slice-known = c .before in
+    at-slice-known .before .before .before
 
 minor-range-requires : tie.Need-minor-range-requires Inv-loop μ-loop
 minor-range-requires c κs =

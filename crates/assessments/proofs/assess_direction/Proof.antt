@@ -24,7 +24,9 @@ add-is-set c = search needs
 -- the direction leads to a cell of the grid
 module _ (c : tie.Else1) where
   abbrev entry : tie.Start
-  entry = c .before .before .before .before
+  entry =
+      let at-is-set = c .before in
+      at-is-set .before .before .before
 
   is-in : isSet (entry .args .mask) (bitOf (at (entry .args .dx) (entry .args .dy))) ≡ true
   is-in = sym (c .before .is-set .ensures) ∙ not-false _ (c .if1 .left)

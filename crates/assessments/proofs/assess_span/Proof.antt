@@ -28,7 +28,9 @@ pick-requires c κs = search needs
 
 -- the function's entry, from its first call on
 abbrev entry : tie.After-new Inv-loop μ-loop → tie.Start Inv-loop μ-loop
-entry c = c .before .before .before .before
+entry c =
+    let at-slice-known = c .before in
+    at-slice-known .before .before .before
 
 axis-range-requires : tie.Need-axis-range-requires Inv-loop μ-loop
 axis-range-requires c κs =

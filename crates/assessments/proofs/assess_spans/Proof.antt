@@ -17,7 +17,9 @@ abbrev μ-loop : tie.MeasureT-loop
 
 -- the function's entry, from the loop's head
 abbrev entry : tie.At-loop Inv-loop μ-loop → tie.Start Inv-loop μ-loop
-entry c = c .before .before .before .before .before .before
+entry c =
+    let at-shared-slice-known3 = c .before .before .before in
+    at-shared-slice-known3 .before .before .before
 
 loop-holds : tie.Need-loop-holds Inv-loop μ-loop
 loop-holds c = (omega arith, before-first)
@@ -37,7 +39,9 @@ assess-span-requires c κs =
 
 -- the turn's begin, from its end
 abbrev turn : tie.After-slice-known3 Inv-loop μ-loop → tie.In-loop Inv-loop μ-loop
-turn c = c .before .before .before .before .before
+turn c =
+    let at-assess-span = c .before .before in
+    at-assess-span .before .before .before
 
 -- the span's two tallies are there
 room : (c : tie.In-loop Inv-loop μ-loop) → 2 * (c .before .loop .s + 1) ≤ length (entry (c .before) .args .tallies .now)

@@ -40,12 +40,21 @@ add-t19 c = search needs
 same-length : tie.Need-same-length
 same-length c = search needs
 
+-- the state at `insert-pair`, from the state at `struct-known3`
+abbrev to-insert-pair : tie.After-struct-known3 → tie.After-insert-pair
+to-insert-pair c =
+    let at-struct-known2 = c .before in
+    at-struct-known2 .before .before .before
+
 returns-2 : tie.Need-returns-2
-returns-2 c =
-    let i = c .before .before .before .before in (
-      record { rows = i .insert-pair .ensures .0; fewer = search needs; few = search needs },
-      assesses-apart _ _ (i .before .before .before .before .if1 .left) (i .before .before .min .ensures) (i .before .max .ensures) (i .insert-pair .ensures .1),
-    )
+returns-2 c = (
+  record { rows = to-insert-pair c .insert-pair .ensures .0; fewer = search needs; few = search needs },
+  (
+      let at-insert-pair = to-insert-pair c in
+      let at-min = at-insert-pair .before .before in
+      assesses-apart _ _ (at-min .before .before .if1 .left) (at-min .min .ensures) (at-insert-pair .before .max .ensures) (at-insert-pair .insert-pair .ensures .1)
+      ),
+)
 
 pub assess-step-spec : {M : Type 1} → statement M
 assess-step-spec =

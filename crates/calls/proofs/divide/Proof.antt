@@ -32,7 +32,15 @@ same-length-4 : tie.Need-same-length-4
 same-length-4 c = search needs
 
 returns : tie.Need-returns
-returns c = λ pass boundaries anchors output e. refused-records pass _ _ _ _ boundaries anchors _ output _ _ _ _ _ e (c .before .before .before .before .before .before .before .before .before .before .before .before .before .before .before .before .before .before .label-regions .ensures) (c .before .before .before .before .before .before .before .before .before .before .before .if1 .taken) (c .before .before .before .before .before .before .before .before .clear-scratch .ensures .0) (c .before .before .before .before .before .before .before .before .clear-scratch .ensures .1) (c .before .before .clear-numbers .ensures)
+returns c =
+    let at-clear-numbers = c .before .before in
+    let at-queue2 = at-clear-numbers .before .before .before in
+    let at-clear-scratch = at-queue2 .before .before .before in
+    let at-if1 = at-clear-scratch .before .before .before in
+    let at-queue = at-if1 .before .before in
+    let at-masks = at-queue .before .before in
+    let at-label-regions = at-masks .before .before .before in
+    λ pass boundaries anchors output e. refused-records pass _ _ _ _ boundaries anchors _ output _ _ _ _ _ e (at-label-regions .label-regions .ensures) (at-if1 .if1 .taken) (at-clear-scratch .clear-scratch .ensures .0) (at-clear-scratch .clear-scratch .ensures .1) (at-clear-numbers .clear-numbers .ensures)
 
 assess-spans-requires : tie.Need-assess-spans-requires
 assess-spans-requires c κs = search needs
@@ -65,7 +73,16 @@ same-length-9 : tie.Need-same-length-9
 same-length-9 c = search needs
 
 returns-2 : tie.Need-returns-2
-returns-2 c = λ pass boundaries anchors output e. all-ready pass _ _ _ _ boundaries anchors _ output _ _ _ _ _ e (c .before .before .before .before .before .before .before .before .before .before .before .before .before .before .before .before .before .before .label-regions .ensures) (c .before .before .before .before .before .before .before .before .before .before .before .if1 .left) (c .before .before .before .before .before .before .before .assess-spans .ensures) (c .before .rows .given .1)
+returns-2 c =
+    let at-rows = c .before in
+    let at-pairs = at-rows .before .before .before in
+    let at-assess-spans = at-pairs .before .before .before in
+    let at-assess-spans-arg2 = at-assess-spans .before .before in
+    let at-if1 = at-assess-spans-arg2 .before .before in
+    let at-queue = at-if1 .before .before in
+    let at-masks = at-queue .before .before in
+    let at-label-regions = at-masks .before .before .before in
+    λ pass boundaries anchors output e. all-ready pass _ _ _ _ boundaries anchors _ output _ _ _ _ _ e (at-label-regions .label-regions .ensures) (at-if1 .if1 .left) (at-assess-spans .assess-spans .ensures) (at-rows .rows .given .1)
 
 same-length-10 : tie.Need-same-length-10
 same-length-10 c = search needs
@@ -83,7 +100,19 @@ same-length-14 : tie.Need-same-length-14
 same-length-14 c = search needs
 
 returns-3 : tie.Need-returns-3
-returns-3 c = λ pass boundaries anchors output e. refused-pairs pass _ _ _ _ boundaries anchors _ output _ _ _ _ _ e (c .before .before .before .before .before .before .before .before .before .before .before .before .before .before .before .before .before .before .before .before .before .before .before .before .before .before .before .before .label-regions .ensures) (c .before .before .before .before .before .before .before .before .before .before .before .before .before .before .before .before .before .before .before .before .before .if1 .left) (c .before .before .before .before .before .before .before .before .before .before .before .before .before .before .before .before .before .assess-spans .ensures) (c .before .before .before .before .before .before .before .before .before .before .before .enum-told .given .1) (c .before .before .before .before .before .before .before .before .clear-scratch2 .ensures .0) (c .before .before .before .before .before .before .before .before .clear-scratch2 .ensures .1) (c .before .before .clear-numbers2 .ensures)
+returns-3 c =
+    let at-clear-numbers2 = c .before .before in
+    let at-queue3 = at-clear-numbers2 .before .before .before in
+    let at-clear-scratch2 = at-queue3 .before .before .before in
+    let at-enum-told = at-clear-scratch2 .before .before .before in
+    let at-pairs = at-enum-told .before .before .before in
+    let at-assess-spans = at-pairs .before .before .before in
+    let at-assess-spans-arg2 = at-assess-spans .before .before in
+    let at-if1 = at-assess-spans-arg2 .before .before in
+    let at-queue = at-if1 .before .before in
+    let at-masks = at-queue .before .before in
+    let at-label-regions = at-masks .before .before .before in
+    λ pass boundaries anchors output e. refused-pairs pass _ _ _ _ boundaries anchors _ output _ _ _ _ _ e (at-label-regions .label-regions .ensures) (at-if1 .if1 .left) (at-assess-spans .assess-spans .ensures) (at-enum-told .enum-told .given .1) (at-clear-scratch2 .clear-scratch2 .ensures .0) (at-clear-scratch2 .clear-scratch2 .ensures .1) (at-clear-numbers2 .clear-numbers2 .ensures)
 
 pub divide-spec : {M : Type 1} → statement M
 divide-spec =

@@ -24,7 +24,11 @@ enum-told : tie.Need-enum-told
 enum-told c = search needs
 
 divide-requires : tie.Need-divide-requires
-divide-requires c κs = early-fits _ _ _ _ _ _ _ _ _ _ _ _ (sym (says (c .before .before .before .before .before .before .before .checks-before .ensures) (c .before .before .before .before .before .enum-told .given .1)))
+divide-requires c κs =
+    let at-divide-arg3 = c .before .before in
+    let at-enum-told = at-divide-arg3 .before .before .before in
+    let at-checks-before = at-enum-told .before .before in
+    early-fits _ _ _ _ _ _ _ _ _ _ _ _ (sym (says (at-checks-before .checks-before .ensures) (at-enum-told .enum-told .given .1)))
 
 returns : tie.Need-returns
 returns c = refused-before _ _ _ _ _ _ _ _ _ _ _ _ _ _ _ _ (says (c .before .before .before .checks-before .ensures) (c .before .check .given .1))
@@ -44,8 +48,21 @@ same-length-4 c = search needs
 same-length-5 : tie.Need-same-length-5
 same-length-5 c = search needs
 
+-- the state at `divide`, from the state at `pairs`
+abbrev to-divide : tie.After-pairs → tie.After-divide
+to-divide c =
+    let at-slice-known8 = c .before .before .before in
+    let at-masks = at-slice-known8 .before .before .before in
+    at-masks .before .before .before
+
 returns-2 : tie.Need-returns-2
-returns-2 c = (c .before .before .before .before .before .before .before .before .before .before .divide .ensures) _ _ _ _ (says (c .before .before .before .before .before .before .before .before .before .before .before .before .before .before .before .before .before .before .checks-before .ensures) (c .before .before .before .before .before .before .before .before .before .before .before .before .before .before .before .before .enum-told .given .1))
+returns-2 c =
+    let at-pairs = c .before in
+    let at-divide = to-divide at-pairs in
+    let at-divide-arg3 = at-divide .before .before .before in
+    let at-enum-told = at-divide-arg3 .before .before .before in
+    let at-checks-before = at-enum-told .before .before in
+    (at-divide .divide .ensures) _ _ _ _ (says (at-checks-before .checks-before .ensures) (at-enum-told .enum-told .given .1))
 
 pub prepare-spec : {M : Type 1} → statement M
 prepare-spec =

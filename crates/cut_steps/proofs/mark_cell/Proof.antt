@@ -17,13 +17,18 @@ use Rattle.cut_steps.proofs.mark_cell.Tie as tie
 
 -- the function's entry, from its call of `cut_directions` on
 abbrev entry : tie.After-cut-directions → tie.Start
-entry c = c .before .before .before .before .before
+entry c =
+    let at-is-near = c .before .before in
+    at-is-near .before .before .before
 
 is-near-requires : tie.Need-is-near-requires
 is-near-requires c κs = search needs
 
 returns : tie.Need-returns
-returns c = cell-none (c .before .before .before .before .pre) (c .before .is-near .ensures .1 (not-true _ (c .if1 .taken))) refl
+returns c =
+    let at-is-near = c .before in
+    let start = at-is-near .before .before .before in
+    cell-none (start .pre) (at-is-near .is-near .ensures .1 (not-true _ (c .if1 .taken))) refl
 
 cut-directions-requires : tie.Need-cut-directions-requires
 cut-directions-requires c κs = let k = c .before in (cell-asked (k .before .before .before .pre), k .is-near .ensures .0 (not-false _ (c .if1 .left)))

@@ -64,7 +64,9 @@ sub-mark c = search needs
 
 -- the place past the test, from the second mark
 abbrev past : tie.After-mark-arg2 → tie.Then1
-past c = c .before .before .before .before .before
+past c =
+    let at-masks = c .before .before in
+    at-masks .before .before .before
 
 mark-requires-2 : tie.Need-mark-requires-2
 mark-requires-2 c κs =

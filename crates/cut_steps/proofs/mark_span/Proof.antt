@@ -51,7 +51,9 @@ mark-column-requires c κs =
 
 -- the turn's begin, from its end
 abbrev turn : tie.After-slice-known2 Inv-loop μ-loop → tie.In-loop Inv-loop μ-loop
-turn c = c .before .before .before .before
+turn c =
+    let at-masks = c .before in
+    at-masks .before .before .before
 
 add-k : tie.Need-add-k Inv-loop μ-loop
 add-k c = search needs

@@ -18,7 +18,9 @@ abbrev μ-loop : tie.MeasureT-loop
 
 -- the function's entry, from the loop on
 abbrev entry : tie.At-loop Inv-loop μ-loop → tie.Start Inv-loop μ-loop
-entry c = c .before .before .before .before
+entry c =
+    let at-slice-known = c .before in
+    at-slice-known .before .before .before
 
 loop-holds : tie.Need-loop-holds Inv-loop μ-loop
 unfolding gather
@@ -36,7 +38,9 @@ mark-span-requires c κs =
 
 -- the turn's begin, from its end
 abbrev turn : tie.After-slice-known2 Inv-loop μ-loop → tie.In-loop Inv-loop μ-loop
-turn c = c .before .before .before .before .before
+turn c =
+    let at-mark-span = c .before .before in
+    at-mark-span .before .before .before
 
 add-i : tie.Need-add-i Inv-loop μ-loop
 add-i c = omega (arith, turn c .loop-test .taken)
@@ -46,8 +50,10 @@ loop-less c = omega (arith, turn c .loop-test .taken)
 
 loop-again : tie.Need-loop-again Inv-loop μ-loop
 loop-again c =
+    let at-masks = c .before in
+    let at-span-at = at-masks .before .before .before in
     let t = turn c in
-    (omega (arith, t .loop-test .taken), spans-more (entry (t .before) .pre .0) (t .loop-test .taken) (c .before .before .before .before .span-at .ensures) (t .before .loop .inv .1) (c .before .before .mark-span .ensures))
+    (omega (arith, t .loop-test .taken), spans-more (entry (t .before) .pre .0) (t .loop-test .taken) (at-span-at .span-at .ensures) (t .before .loop .inv .1) (c .before .before .mark-span .ensures))
 
 same-length : tie.Need-same-length Inv-loop μ-loop
 same-length c = c .before .loop .inv .1 .long

@@ -17,14 +17,22 @@ abbrev μ-loop : tie.MeasureT-loop
 
 -- the function's entry, from a turn's begin
 abbrev entry : tie.In-loop Inv-loop μ-loop → tie.Start Inv-loop μ-loop
-entry c = c .before .before .before .before .before .before
+entry c =
+    let at-slice-known = c .before .before .before in
+    at-slice-known .before .before .before
 
 -- the turn's begin, from its end
 abbrev turn : tie.After-slice-known4 Inv-loop μ-loop → tie.In-loop Inv-loop μ-loop
-turn c = c .before .before .before .before .before .before .before
+turn c =
+    let at-queue = c .before in
+    let at-spread = at-queue .before .before .before in
+    at-spread .before .before .before
 
 loop-holds : tie.Need-loop-holds Inv-loop μ-loop
-loop-holds c = ran-start (c .before .before .before .before .pre .state)
+loop-holds c =
+    let at-slice-known = c .before in
+    let start = at-slice-known .before .before .before in
+    ran-start (start .pre .state)
 
 spread-requires : tie.Need-spread-requires Inv-loop μ-loop
 spread-requires c κs =
@@ -37,7 +45,10 @@ loop-less : tie.Need-loop-less Inv-loop μ-loop
 loop-less c = omega (arith, turn c .loop-test .taken, tail-le (turn c .before .loop .inv .state))
 
 loop-again : tie.Need-loop-again Inv-loop μ-loop
-loop-again c = ran-then (turn c .before .loop .inv) (c .before .before .before .before .spread .ensures)
+loop-again c =
+    let at-queue = c .before in
+    let at-spread = at-queue .before .before .before in
+    ran-then (turn c .before .loop .inv) (at-spread .spread .ensures)
 
 same-length : tie.Need-same-length Inv-loop μ-loop
 same-length c = c .before .loop .inv .labels .long

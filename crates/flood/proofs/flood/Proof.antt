@@ -20,16 +20,22 @@ abbrev μ-loop : tie.MeasureT-loop
 
 -- the function's entry, from a turn's begin
 abbrev entry : tie.In-loop Inv-loop μ-loop → tie.Start Inv-loop μ-loop
-entry c = c .before .before .before .before .before .before
+entry c =
+    let at-slice-known = c .before .before .before in
+    at-slice-known .before .before .before
 
 mul-n : tie.Need-mul-n Inv-loop μ-loop
-mul-n c = omega (arith, few-of (c .before .before .before .before .pre .0))
+mul-n c =
+    let at-slice-known = c .before in
+    let start = at-slice-known .before .before .before in
+    omega (arith, few-of (start .pre .0))
 
 loop-holds : tie.Need-loop-holds Inv-loop μ-loop
 loop-holds c =
-    let s = c .before .before .before .before in (
+    let at-slice-known = c .before in
+    let start = at-slice-known .before .before .before in (
       omega arith,
-      outer-start (graphOf (gridOf (s .args .width) (s .args .height) (s .args .cells .now)) (s .args .masks .now)) _ _ (s .pre .0 .labelsLong) (s .pre .0 .queueLong) (s .pre .0 .zeros),
+      outer-start (graphOf (gridOf (start .args .width) (start .args .height) (start .args .cells .now)) (start .args .masks .now)) _ _ (start .pre .0 .labelsLong) (start .pre .0 .queueLong) (start .pre .0 .zeros),
     )
 
 shared-slice-read-if1 : tie.Need-shared-slice-read-if1 Inv-loop μ-loop
@@ -39,34 +45,67 @@ mul-if2 : tie.Need-mul-if2 Inv-loop μ-loop
 mul-if2 c = omega (arith, c .before .before .loop-test .taken, few-of (entry (c .before .before) .pre .0))
 
 slice-read-if2 : tie.Need-slice-read-if2 Inv-loop μ-loop
-slice-read-if2 c = omega (arith, c .before .before .before .loop-test .taken, c .before .before .before .before .loop .inv .1 .state .long)
+slice-read-if2 c =
+    let turn = c .before .before .before in
+    let at-loop = turn .before in
+    omega (arith, turn .loop-test .taken, at-loop .loop .inv .1 .state .long)
 
 add-id : tie.Need-add-id Inv-loop μ-loop
-add-id c = omega (arith, ids-le (c .before .before .before .before .before .loop .inv .1), c .before .before .before .before .loop-test .taken, few-of (entry (c .before .before .before .before) .pre .0))
+add-id c =
+    let at-if1 = c .before .before in
+    let turn = at-if1 .before .before in
+    let at-loop = turn .before in
+    omega (arith, ids-le (at-loop .loop .inv .1), turn .loop-test .taken, few-of (entry turn .pre .0))
 
 mul-labels : tie.Need-mul-labels Inv-loop μ-loop
-mul-labels c = omega (arith, c .before .before .before .before .loop-test .taken, few-of (entry (c .before .before .before .before) .pre .0))
+mul-labels c =
+    let at-if1 = c .before .before in
+    let turn = at-if1 .before .before in
+    omega (arith, turn .loop-test .taken, few-of (entry turn .pre .0))
 
 slice-write-labels : tie.Need-slice-write-labels Inv-loop μ-loop
-slice-write-labels c = omega (arith, c .before .before .before .before .loop-test .taken, c .before .before .before .before .before .loop .inv .1 .state .long)
+slice-write-labels c =
+    let at-if1 = c .before .before in
+    let turn = at-if1 .before .before in
+    let at-loop = turn .before in
+    omega (arith, turn .loop-test .taken, at-loop .loop .inv .1 .state .long)
 
 cast-queue : tie.Need-cast-queue Inv-loop μ-loop
-cast-queue c = omega (arith, c .before .before .before .before .loop-test .taken, few-of (entry (c .before .before .before .before) .pre .0))
+cast-queue c =
+    let at-if1 = c .before .before in
+    let turn = at-if1 .before .before in
+    omega (arith, turn .loop-test .taken, few-of (entry turn .pre .0))
 
 mul-queue : tie.Need-mul-queue Inv-loop μ-loop
-mul-queue c = omega (arith, seed-room (laws-of (entry (c .before .before .before .before) .pre)) (c .before .before .before .before .before .loop .inv .1) (c .before .before .before .before .loop-test .taken) (c .if2 .taken), few-of (entry (c .before .before .before .before) .pre .0))
+mul-queue c =
+    let at-if1 = c .before .before in
+    let turn = at-if1 .before .before in
+    let at-loop = turn .before in
+    omega (arith, seed-room (laws-of (entry turn .pre)) (at-loop .loop .inv .1) (turn .loop-test .taken) (c .if2 .taken), few-of (entry turn .pre .0))
 
 slice-write-queue : tie.Need-slice-write-queue Inv-loop μ-loop
-slice-write-queue c = omega (arith, seed-room (laws-of (entry (c .before .before .before .before) .pre)) (c .before .before .before .before .before .loop .inv .1) (c .before .before .before .before .loop-test .taken) (c .if2 .taken), c .before .before .before .before .before .loop .inv .1 .state .room)
+slice-write-queue c =
+    let at-if1 = c .before .before in
+    let turn = at-if1 .before .before in
+    let at-loop = turn .before in
+    omega (arith, seed-room (laws-of (entry turn .pre)) (at-loop .loop .inv .1) (turn .loop-test .taken) (c .if2 .taken), at-loop .loop .inv .1 .state .room)
 
 add-drain : tie.Need-add-drain Inv-loop μ-loop
-add-drain c = omega (arith, seed-room (laws-of (entry (c .before .before .before .before .before .before) .pre)) (c .before .before .before .before .before .before .before .loop .inv .1) (c .before .before .before .before .before .before .loop-test .taken) (c .before .before .if2 .taken), few-of (entry (c .before .before .before .before .before .before) .pre .0))
+add-drain c =
+    let at-slice-known3 = c .before .before .before in
+    let turn = at-slice-known3 .before .before .before in
+    let at-loop = turn .before in
+    omega (arith, seed-room (laws-of (entry turn .pre)) (at-loop .loop .inv .1) (turn .loop-test .taken) (c .before .before .if2 .taken), few-of (entry turn .pre .0))
 
 drain-requires : tie.Need-drain-requires Inv-loop μ-loop
 drain-requires c κs =
+    let at-if2 = c .before .before in
+    let at-if1 = at-if2 .before .before in
+    let turn = at-if1 .before .before in
+    let at-loop = turn .before in
     record {
-      grid = grid-of (entry (c .before .before .before .before .before .before) .pre .0) (entry (c .before .before .before .before .before .before) .pre .1);
-      state = seed (laws-of (entry (c .before .before .before .before .before .before) .pre)) (c .before .before .before .before .before .before .before .loop .inv .1) (c .before .before .before .before .before .before .loop-test .taken) (eq-eqb _ _ (c .before .before .before .before .if1 .taken)) (c .before .before .if2 .taken);
+      grid = grid-of (entry turn .pre .0) (entry turn .pre .1);
+      state = seed (laws-of (entry turn .pre)) (at-loop .loop .inv .1) (turn .loop-test .taken) (eq-eqb _ _ (at-if1 .if1 .taken)) (at-if2 .if2 .taken);
       busy = omega arith;
       some = omega arith;
     }

@@ -24,13 +24,19 @@ add-if4 : tie.Need-add-if4
 add-if4 c = search needs
 
 returns-4 : tie.Need-returns-4
-returns-4 c = let a = c .before .before .before .before .args in says-no (a .width) (a .height) (a .x) (a .y) (a .dx) (a .dy) (λ i. omega (arith, c .if4 .taken, i .right))
+returns-4 c =
+    let at-if3 = c .before in
+    let entry = at-if3 .before .before .before in
+    let a = entry .args in says-no (a .width) (a .height) (a .x) (a .y) (a .dx) (a .dy) (λ i. omega (arith, c .if4 .taken, i .right))
 
 add-result : tie.Need-add-result
 add-result c = search needs
 
 returns-5 : tie.Need-returns-5
-returns-5 c = let a = c .before .before .before .before .args in says-last (a .width) (a .height) (a .x) (a .y) (a .dx) (a .dy) (c .before .before .if2 .left) (c .before .if3 .left) (c .if4 .left)
+returns-5 c =
+    let at-if3 = c .before in
+    let entry = at-if3 .before .before .before in
+    let a = entry .args in says-last (a .width) (a .height) (a .x) (a .y) (a .dx) (a .dy) (c .before .before .if2 .left) (at-if3 .if3 .left) (c .if4 .left)
 
 pub is-inside-spec : {M : Type 1} → statement M
 is-inside-spec =

@@ -44,22 +44,35 @@ shared-slice-read-if2 : tie.Need-shared-slice-read-if2
 shared-slice-read-if2 c = omega (arith, cells (c .before .before .before), c .before .before .before .pre .cellsLong)
 
 returns-2 : tie.Need-returns-2
-returns-2 c = let a = c .before .before .before .before .args in side-blocked (a .width) (a .height) (a .cells .now) (a .x) (a .y) (a .dx) (a .dy) (c .if2 .taken)
+returns-2 c =
+    let at-if1 = c .before .before in
+    let entry = at-if1 .before .before in
+    let a = entry .args in side-blocked (a .width) (a .height) (a .cells .now) (a .x) (a .y) (a .dx) (a .dy) (c .if2 .taken)
 
 mul-result : tie.Need-mul-result
-mul-result c = omega (arith, cells (c .before .before .before .before))
+mul-result c =
+    let at-if1 = c .before .before in
+    let entry = at-if1 .before .before in
+    omega (arith, cells entry)
 
 add-result : tie.Need-add-result
-add-result c = omega (arith, cells (c .before .before .before .before))
+add-result c =
+    let at-if1 = c .before .before in
+    let entry = at-if1 .before .before in
+    omega (arith, cells entry)
 
 shared-slice-read-result : tie.Need-shared-slice-read-result
-shared-slice-read-result c = omega (arith, cells (c .before .before .before .before .before), c .before .before .before .before .before .pre .cellsLong)
+shared-slice-read-result c =
+    let at-if1 = c .before .before .before in
+    let entry = at-if1 .before .before in
+    omega (arith, cells entry, entry .pre .cellsLong)
 
 returns-3 : tie.Need-returns-3
 returns-3 c =
-    let s = c .before .before .before .before .before in
-    let a = s .args in
-    under-decides (a .width) (a .height) (a .cells .now) (a .x) (a .y) (a .dx) (a .dy) (s .pre .nearby) (s .pre .inside) (s .pre .walks) (c .before .before .before .if1 .left) (c .before .if2 .left)
+    let at-if1 = c .before .before .before in
+    let entry = at-if1 .before .before in
+    let a = entry .args in
+    under-decides (a .width) (a .height) (a .cells .now) (a .x) (a .y) (a .dx) (a .dy) (entry .pre .nearby) (entry .pre .inside) (entry .pre .walks) (at-if1 .if1 .left) (c .before .if2 .left)
 
 pub is-step-spec : {M : Type 1} → statement M
 is-step-spec =

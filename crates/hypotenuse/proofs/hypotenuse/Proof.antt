@@ -47,7 +47,13 @@ module _ (c : tie.After-bits-of2) where
 first-in : (c : tie.Then1) → patternInRange (a (c .before .before)) ≡ true
 first-in c = sym (c .before .in-range .ensures) ∙ c .if1 .taken
 
-second-in : (c : tie.Then2) → patternInRange (b (c .before .before .before .before)) ≡ true
+-- the state at `bits-of2`, from the state at `if2`
+abbrev to-bits-of2 : tie.Then2 → tie.After-bits-of2
+to-bits-of2 c =
+    let at-in-range2 = c .before in
+    at-in-range2 .before .before .before
+
+second-in : (c : tie.Then2) → patternInRange (b (to-bits-of2 c)) ≡ true
 second-in c = sym (c .before .in-range2 .ensures) ∙ c .if2 .taken
 
 bits-of-requires : tie.Need-bits-of-requires
@@ -70,11 +76,16 @@ float-from-bits-t8 c = no-nan (c .hypotenuse-pattern .result) (le-of-lt (c .hypo
 
 returns : tie.Need-returns
 returns c =
-    let r = root-of (c .before .before .before .before .before) (first-in (c .before .before .before)) (second-in (c .before)) in
+    let at-in-range2 = c .before .before in
+    let at-bits-of2 = at-in-range2 .before .before .before in
+    let r = root-of at-bits-of2 (first-in (c .before .before .before)) (second-in (c .before)) in
     (r .0, c .hypotenuse-pattern .ensures .0 ∙ r .1)
 
 returns-2 : tie.Need-returns-2
-returns-2 c = second-refused (c .before .before .before .before) (first-in (c .before .before)) (sym (c .before .in-range2 .ensures) ∙ c .if2 .left)
+returns-2 c =
+    let at-in-range2 = c .before in
+    let at-bits-of2 = at-in-range2 .before .before .before in
+    second-refused at-bits-of2 (first-in (c .before .before)) (sym (at-in-range2 .in-range2 .ensures) ∙ c .if2 .left)
 
 returns-3 : tie.Need-returns-3
 returns-3 c = first-refused (c .before .before) (sym (c .before .in-range .ensures) ∙ c .if1 .left)

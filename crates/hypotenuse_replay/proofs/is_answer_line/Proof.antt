@@ -101,20 +101,29 @@ number-requires-4 c κs = search needs
 
 returns-3 : tie.Need-returns-3
 returns-3 c =
-    let a = c .before .before .before .before .before in
-    let b = a .before .before in
-    let e = b .before .before .before .before .before in
-    ap (λ (t : Bool). t && eqb (b .answer-of .result .root) (c .before .number4 .result)) (sym (eq-eqb (b .answer-of .result .number) (a .number3 .result) (c .before .before .before .if3 .taken)))
-    ∙ compared (now (e .before .before .before .args .s)) (e .before .if1 .left) (e .if2 .left) (b .before .before .before .number .result) (b .before .number2 .result) (a .number3 .result) (c .before .number4 .result) (b .answer-of .result .number) (b .answer-of .result .root) (b .before .before .before .number .ensures) (b .before .number2 .ensures) (a .number3 .ensures) (c .before .number4 .ensures) (b .answer-of .ensures .0) (b .answer-of .ensures .1)
+    let at-if3 = c .before .before .before in
+    let at-number3 = at-if3 .before .before in
+    let at-answer-of = at-number3 .before .before in
+    let at-number2 = at-answer-of .before in
+    let at-number = at-number2 .before .before in
+    let at-if2 = at-number .before .before in
+    let at-if1 = at-if2 .before in
+    let entry = at-if1 .before .before in
+    ap (λ (t : Bool). t && eqb (at-answer-of .answer-of .result .root) (c .before .number4 .result)) (sym (eq-eqb (at-answer-of .answer-of .result .number) (at-number3 .number3 .result) (at-if3 .if3 .taken)))
+    ∙ compared (now (entry .args .s)) (at-if1 .if1 .left) (at-if2 .if2 .left) (at-number .number .result) (at-number2 .number2 .result) (at-number3 .number3 .result) (c .before .number4 .result) (at-answer-of .answer-of .result .number) (at-answer-of .answer-of .result .root) (at-number .number .ensures) (at-number2 .number2 .ensures) (at-number3 .number3 .ensures) (c .before .number4 .ensures) (at-answer-of .answer-of .ensures .0) (at-answer-of .answer-of .ensures .1)
 
 returns-4 : tie.Need-returns-4
 returns-4 c =
-    let a = c .before .before in
-    let b = a .before .before in
-    let e = b .before .before .before .before .before in
-    let l = now (e .before .before .before .args .s) in
-    ap (λ (t : Bool). t && eqb (b .answer-of .result .root) (digitsAfter 16 0 (part (length l - 16) (length l) l))) (sym (ne-eqb (b .answer-of .result .number) (a .number3 .result) (c .if3 .left)))
-    ∙ compared l (e .before .if1 .left) (e .if2 .left) (b .before .before .before .number .result) (b .before .number2 .result) (a .number3 .result) (digitsAfter 16 0 (part (length l - 16) (length l) l)) (b .answer-of .result .number) (b .answer-of .result .root) (b .before .before .before .number .ensures) (b .before .number2 .ensures) (a .number3 .ensures) refl (b .answer-of .ensures .0) (b .answer-of .ensures .1)
+    let at-struct-known = c .before in
+    let at-answer-of = at-struct-known .before .before .before in
+    let at-number2 = at-answer-of .before in
+    let at-number = at-number2 .before .before in
+    let at-if2 = at-number .before .before in
+    let at-if1 = at-if2 .before in
+    let entry = at-if1 .before .before in
+    let l = now (entry .args .s) in
+    ap (λ (t : Bool). t && eqb (at-answer-of .answer-of .result .root) (digitsAfter 16 0 (part (length l - 16) (length l) l))) (sym (ne-eqb (at-answer-of .answer-of .result .number) (c .before .before .number3 .result) (c .if3 .left)))
+    ∙ compared l (at-if1 .if1 .left) (at-if2 .if2 .left) (at-number .number .result) (at-number2 .number2 .result) (c .before .before .number3 .result) (digitsAfter 16 0 (part (length l - 16) (length l) l)) (at-answer-of .answer-of .result .number) (at-answer-of .answer-of .result .root) (at-number .number .ensures) (at-number2 .number2 .ensures) (c .before .before .number3 .ensures) refl (at-answer-of .answer-of .ensures .0) (at-answer-of .answer-of .ensures .1)
 
 pub is-answer-line-spec : {M : Type 1} → statement M
 is-answer-line-spec =

@@ -54,9 +54,10 @@ digit-requires c κs = omega arith
 
 add-n : tie.Need-add-n Inv-loop μ-loop
 add-n c =
+    let turn = c .before .before in
+    let entry = turn .before .before .before in
     let l = c .before .before .before .loop in
-    let z = c .before .before .before .before .before in
-    omega (arith, grows (l .n) (z .args .base) (c .digit .result) (l .i) (l .inv .1) (z .pre .1) (c .digit .ensures .1), word (l .i + 1) (omega (arith, z .pre .0)))
+    omega (arith, grows (l .n) (entry .args .base) (c .digit .result) (l .i) (l .inv .1) (entry .pre .1) (c .digit .ensures .1), word (l .i + 1) (omega (arith, entry .pre .0)))
 
 add-i : tie.Need-add-i Inv-loop μ-loop
 add-i c = omega arith
@@ -66,13 +67,14 @@ loop-less c = omega arith
 
 loop-again : tie.Need-loop-again Inv-loop μ-loop
 loop-again c =
+    let turn = c .before .before in
+    let entry = turn .before .before .before in
     let l = c .before .before .before .loop in
-    let z = c .before .before .before .before .before in
-    let s = now (z .args .s) in
-    let more : digitsAfter (z .args .base) (l .n * z .args .base + c .digit .result) (drop (l .i + 1) s) ≡ digitsAfter (z .args .base) 0 s =
-    ap (λ (d : ℕ). digitsAfter (z .args .base) (l .n * z .args .base + d) (drop (l .i + 1) s)) (c .digit .ensures .0)
-    ∙ sym (step (z .args .base) (l .n) s (l .i) (c .before .before .loop-test .taken)) ∙ l .inv .0 in
-    (more, grows (l .n) (z .args .base) (c .digit .result) (l .i) (l .inv .1) (z .pre .1) (c .digit .ensures .1), omega arith)
+    let s = now (entry .args .s) in
+    let more : digitsAfter (entry .args .base) (l .n * entry .args .base + c .digit .result) (drop (l .i + 1) s) ≡ digitsAfter (entry .args .base) 0 s =
+    ap (λ (d : ℕ). digitsAfter (entry .args .base) (l .n * entry .args .base + d) (drop (l .i + 1) s)) (c .digit .ensures .0)
+    ∙ sym (step (entry .args .base) (l .n) s (l .i) (turn .loop-test .taken)) ∙ l .inv .0 in
+    (more, grows (l .n) (entry .args .base) (c .digit .result) (l .i) (l .inv .1) (entry .pre .1) (c .digit .ensures .1), omega arith)
 
 returns : tie.Need-returns Inv-loop μ-loop
 returns c =

@@ -150,9 +150,11 @@ loop-less c = omega arith
 
 loop-again : tie.Need-loop-again Inv-loop μ-loop
 loop-again c =
+    let turn = c .before .before in
+    let entry = turn .before .before .before in
     let l = c .before .before .before .loop in
-    let s = now (c .before .before .before .before .before .args .s) in
-    let h = c .before .before .loop-test .taken in
+    let s = now (entry .args .s) in
+    let h = turn .loop-test .taken in
     ⊎-elim
     (λ w.
     at-end s _ _ (l .lines) (l .answers) (l .start) (l .i) (l .inv) h (w .0 .taken) (c .if1 .lines) (c .if1 .answers) (c .if1 .start) (w .4)

@@ -6,8 +6,8 @@ use mathlib.Core.Bool.{false}
 use borrow.Author.Needs.{needs}
 use borrow.Author.Tests.{eq-eqb, ne-eqb}
 use Rattle.ramp_interiors.specs.Owners.{entryAt}
+use Rattle.context.proofs.Rows.{from-more}
 use Rattle.interior_regions.specs.Places.{isNamed}
-use Rattle.ramp_interiors.proofs.RowScans.{from-more}
 use Rattle.interior_regions.proofs.next_inside.Statement.{statement}
 use Rattle.interior_regions.proofs.next_inside.Tie as tie
 
@@ -21,21 +21,28 @@ loop-holds : tie.Need-loop-holds Inv-loop μ-loop
 loop-holds c = (search needs, search needs, λ j a b. absurd (omega arith))
 
 region-at-requires : tie.Need-region-at-requires Inv-loop μ-loop
-region-at-requires c κs = (_, c .before .before .before .before .pre .1 (c .before .loop .k) (c .before .loop .inv .0) (c .loop-test .taken))
+region-at-requires c κs =
+    let at-loop = c .before in
+    let entry = at-loop .before .before .before in
+    (_, entry .pre .1 (at-loop .loop .k) (at-loop .loop .inv .0) (c .loop-test .taken))
 
 parent-of-requires : tie.Need-parent-of-requires Inv-loop μ-loop
 parent-of-requires c κs =
-    let h = c .before .before .before .before .before .pre .1 (c .before .before .loop .k) (c .before .before .loop .inv .0) (c .before .loop-test .taken) in
+    let at-loop = c .before .before in
+    let entry = at-loop .before .before .before in
+    let h = entry .pre .1 (at-loop .loop .k) (at-loop .loop .inv .0) (c .before .loop-test .taken) in
     (omega (arith, h .from, c .region-at .ensures), omega (arith, h .upto, c .region-at .ensures))
 
 returns : tie.Need-returns Inv-loop μ-loop
 returns c =
-    let a = c .before .before .before .before in
+    let at-parent-of = c .before in
+    let at-loop = at-parent-of .before .before .before in
+    let entry = at-loop .before .before .before in
     record {
-      rising = a .loop .inv .0;
-      upto = a .loop .inv .1;
-      found = λ q. eq-eqb _ _ (ap (entryAt (a .before .before .before .args .names .now)) (sym (c .before .before .region-at .ensures)) ∙ sym (c .before .parent-of .ensures) ∙ c .if1 .taken);
-      before = a .loop .inv .2;
+      rising = at-loop .loop .inv .0;
+      upto = at-loop .loop .inv .1;
+      found = λ q. eq-eqb _ _ (ap (entryAt (entry .args .names .now)) (sym (c .before .before .region-at .ensures)) ∙ sym (at-parent-of .parent-of .ensures) ∙ c .if1 .taken);
+      before = at-loop .loop .inv .2;
     }
 
 add-k : tie.Need-add-k Inv-loop μ-loop
@@ -46,12 +53,13 @@ loop-less c = search needs
 
 loop-again : tie.Need-loop-again Inv-loop μ-loop
 loop-again c =
-    let a = c .before .before .before .before in
-    let s = a .before .before .before in (
-      omega (arith, a .loop .inv .0),
+    let at-parent-of = c .before in
+    let at-loop = at-parent-of .before .before .before in
+    let entry = at-loop .before .before .before in (
+      omega (arith, at-loop .loop .inv .0),
       omega (arith, c .before .before .before .loop-test .taken),
-      from-more (λ k. isNamed (s .args .pairs .now) (s .args .names .now) (s .args .name) k ≡ false) _ _ (a .loop .inv .2)
-          (ne-eqb _ _ (λ e. c .if1 .left (c .before .parent-of .ensures ∙ ap (entryAt (s .args .names .now)) (c .before .before .region-at .ensures) ∙ e))),
+      from-more (λ k. isNamed (entry .args .pairs .now) (entry .args .names .now) (entry .args .name) k ≡ false) _ _ (at-loop .loop .inv .2)
+          (ne-eqb _ _ (λ e. c .if1 .left (at-parent-of .parent-of .ensures ∙ ap (entryAt (entry .args .names .now)) (c .before .before .region-at .ensures) ∙ e))),
     )
 
 returns-2 : tie.Need-returns-2 Inv-loop μ-loop

@@ -20,8 +20,10 @@ within-radius-requires c κs =
 returns : tie.Need-returns
 unfolding bridgeOf
 returns c =
-    let s = recordOf (c .before .before .before .before .args .pocket) in
-    let near : c .before .within-radius .result ≡ withinRadius s (center (segmentFrom (c .before .before .before .before .args .a) (c .before .before .before .before .args .b))) = c .before .within-radius .ensures ∙ ap (withinRadius s) (c .before .before .center .ensures) in
+    let at-within-radius = c .before in
+    let entry = at-within-radius .before .before .before in
+    let s = recordOf (entry .args .pocket) in
+    let near : at-within-radius .within-radius .result ≡ withinRadius s (center (segmentFrom (entry .args .a) (entry .args .b))) = at-within-radius .within-radius .ensures ∙ ap (withinRadius s) (c .before .before .center .ensures) in
     λ i. no-ramp (s .rampCells) i && (near i && c .is-strictly-flat .ensures i)
 
 pub bridge-region-spec : {M : Type 1} → statement M

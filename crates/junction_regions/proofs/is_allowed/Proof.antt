@@ -18,26 +18,51 @@ bit-le false = omega arith
 
 bridge-region-requires : tie.Need-bridge-region-requires
 bridge-region-requires c κs =
-    let (C, h) = c .before .before .before .before .before .before .before .before .pre in
-    let ends = row-pixels h (ends-are h (c .before .before .before .wide .ensures) (c .before .before .endpoints-of .ensures)) in
+    let at-wide = c .before .before .before in
+    let at-shared-slice-known2 = at-wide .before .before .before in
+    let entry = at-shared-slice-known2 .before .before in
+    let (C, h) = entry .pre in
+    let ends = row-pixels h (ends-are h (at-wide .wide .ensures) (c .before .before .endpoints-of .ensures)) in
     (first-on h .edges, (limits (ends .first), limits (ends .second)))
 
 returns : tie.Need-returns
-returns c = λ C h. allowed-bridge h (ends-are h (c .before .before .before .before .wide .ensures) (c .before .before .before .endpoints-of .ensures)) (c .before .if1 .taken) (c .bridge-region .ensures)
+returns c =
+    let at-endpoints-of = c .before .before .before in
+    let at-wide = at-endpoints-of .before in
+    λ C h. allowed-bridge h (ends-are h (at-wide .wide .ensures) (at-endpoints-of .endpoints-of .ensures)) (c .before .if1 .taken) (c .bridge-region .ensures)
+
+-- the function's entry, from the state at `endpoints-of`
+abbrev to-entry : tie.After-endpoints-of → tie.Start
+to-entry c =
+    let at-shared-slice-known3 = c .before .before .before in
+    at-shared-slice-known3 .before .before .before
 
 add-anchored : tie.Need-add-anchored
 add-anchored c =
-    let a = c .before .before .before .before .before .before .before .before .before .before .before .before .args in
+    let at-shared-slice-known6 = c .before .before .before in
+    let at-endpoints-of = at-shared-slice-known6 .before .before .before in
+    let entry = to-entry at-endpoints-of in
+    let a = entry .args in
     omega (arith, c .before .before .anchored-bit .ensures, c .anchored-bit2 .ensures, bit-le (markAt (a .marks .now) (rowAt (a .rows .now) (a .k) .first)), bit-le (markAt (a .marks .now) (rowAt (a .rows .now) (a .k) .second)))
 
 union-regions-requires : tie.Need-union-regions-requires
 union-regions-requires c κs =
-    let (C, h) = c .before .before .before .before .before .before .before .before .before .before .before .before .pre in
-    let ends = row-pixels h (ends-are h (c .before .before .before .before .before .before .before .wide .ensures) (c .before .before .before .before .before .before .endpoints-of .ensures)) in
+    let at-shared-slice-known6 = c .before .before .before in
+    let at-endpoints-of = at-shared-slice-known6 .before .before .before in
+    let at-wide = at-endpoints-of .before in
+    let at-shared-slice-known3 = at-wide .before .before in
+    let entry = at-shared-slice-known3 .before .before .before in
+    let (C, h) = entry .pre in
+    let ends = row-pixels h (ends-are h (at-wide .wide .ensures) (at-endpoints-of .endpoints-of .ensures)) in
     (first-on h, (second-on h, (limits (ends .first), limits (ends .second))))
 
 returns-2 : tie.Need-returns-2
-returns-2 c = λ C h. allowed-union h (ends-are h (c .before .before .before .before .before .before .before .before .wide .ensures) (c .before .before .before .before .before .before .before .endpoints-of .ensures)) (c .before .before .before .before .before .if1 .left) (ap₂ _+_ (c .before .before .before .anchored-bit .ensures) (c .before .anchored-bit2 .ensures)) (c .union-regions .ensures)
+returns-2 c =
+    let at-anchored-bit = c .before .before .before in
+    let at-if1 = at-anchored-bit .before .before in
+    let at-endpoints-of = at-if1 .before .before in
+    let at-wide = at-endpoints-of .before in
+    λ C h. allowed-union h (ends-are h (at-wide .wide .ensures) (at-endpoints-of .endpoints-of .ensures)) (at-if1 .if1 .left) (ap₂ _+_ (at-anchored-bit .anchored-bit .ensures) (c .before .anchored-bit2 .ensures)) (c .union-regions .ensures)
 
 pub is-allowed-spec : {M : Type 1} → statement M
 is-allowed-spec =

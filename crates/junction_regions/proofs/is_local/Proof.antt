@@ -23,7 +23,9 @@ within-radius-requires-2 c κs =
 
 returns-2 : tie.Need-returns-2
 returns-2 c =
-    local-middle (recordOf (c .before .before .before .before .args .first)) (recordOf (c .before .before .before .before .args .second)) (segmentFrom (c .before .before .before .before .args .a) (c .before .before .before .before .args .b)) (c .before .before .before .if1 .left) (c .before .before .center .ensures) (c .before .within-radius .ensures) (c .within-radius2 .ensures)
+    let at-within-radius = c .before in
+    let entry = at-within-radius .before .before .before in
+    local-middle (recordOf (entry .args .first)) (recordOf (entry .args .second)) (segmentFrom (entry .args .a) (entry .args .b)) (c .before .before .before .if1 .left) (c .before .before .center .ensures) (at-within-radius .within-radius .ensures) (c .within-radius2 .ensures)
 
 pub is-local-spec : {M : Type 1} → statement M
 is-local-spec =

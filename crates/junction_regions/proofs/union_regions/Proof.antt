@@ -10,7 +10,10 @@ is-local-requires : tie.Need-is-local-requires
 is-local-requires c κs = (c .before .before .pre .0 .edges, (c .before .before .pre .1 .0 .edges, c .before .before .pre .1 .1))
 
 same-dominance-requires : tie.Need-same-dominance-requires
-same-dominance-requires c κs = (c .before .before .before .before .pre .0 .counted, c .before .before .before .before .pre .1 .0 .counted)
+same-dominance-requires c κs =
+    let at-is-local = c .before in
+    let entry = at-is-local .before .before .before in
+    (entry .pre .0 .counted, entry .pre .1 .0 .counted)
 
 returns : tie.Need-returns
 unfolding unionOf

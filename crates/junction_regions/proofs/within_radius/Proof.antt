@@ -14,10 +14,15 @@ use Rattle.junction_regions.proofs.within_radius.Tie as tie
 returns : tie.Need-returns
 unfolding withinRadius nearMiddle
 returns c =
-    let middle = pointForm (c .before .before .before .before .before .before .before .before .before .before .args .middle) in
-    corners-tested (λ p. DistanceInRange p middle) (nearMiddle middle) (c .before .before .before .before .before .before .before .before .before .corners .result) _ (recordOf (c .before .before .before .before .before .before .before .before .before .before .args .region)) (c .before .before .before .before .before .before .before .before .before .corners .ensures)
-    (all-map (λ p h. distance-in-range p middle (pixel-half h) (c .before .before .before .before .before .before .before .before .before .before .pre .1)) (corners-pixel (c .before .before .before .before .before .before .before .before .before .before .pre .0)))
-    (c .before .before .before .before .before .before .near-middle .ensures) (c .before .before .before .before .near-middle2 .ensures) (c .before .before .near-middle3 .ensures) (c .near-middle4 .ensures)
+    let at-near-middle3 = c .before .before in
+    let at-near-middle2 = at-near-middle3 .before .before in
+    let at-near-middle = at-near-middle2 .before .before in
+    let at-corners = at-near-middle .before .before .before in
+    let entry = at-corners .before in
+    let middle = pointForm (entry .args .middle) in
+    corners-tested (λ p. DistanceInRange p middle) (nearMiddle middle) (at-corners .corners .result) _ (recordOf (entry .args .region)) (at-corners .corners .ensures)
+    (all-map (λ p h. distance-in-range p middle (pixel-half h) (entry .pre .1)) (corners-pixel (entry .pre .0)))
+    (at-near-middle .near-middle .ensures) (at-near-middle2 .near-middle2 .ensures) (at-near-middle3 .near-middle3 .ensures) (c .near-middle4 .ensures)
 
 pub within-radius-spec : {M : Type 1} → statement M
 within-radius-spec =

@@ -20,15 +20,22 @@ use Rattle.junction_regions.proofs.within_span_radius.Tie as tie
 returns : tie.Need-returns
 unfolding withinSpanRadius nearSpan
 returns c =
-    let a = pointForm (c .before .before .before .before .before .before .before .before .before .before .point .result) in
-    let b = pointForm (c .before .before .before .before .before .before .before .before .before .point2 .result) in
-    let s = recordOf (c .before .before .before .before .before .before .before .before .before .before .before .before .args .region) in
-    let ha = subst⁻¹ PixelPoint (c .before .before .before .before .before .before .before .before .before .before .point .ensures) (point-pixel (pixel (c .before .before .before .before .before .before .before .before .before .before .before .before .pre .1 .0))) in
-    let hb = subst⁻¹ PixelPoint (c .before .before .before .before .before .before .before .before .before .point2 .ensures) (point-pixel (pixel (c .before .before .before .before .before .before .before .before .before .before .before .before .pre .1 .1))) in
-    corners-tested (λ p. DistanceInRange p (nearestPoint p a b)) (nearSpan a b) (c .before .before .before .before .before .before .before .before .before .before .before .corners .result) _ s (c .before .before .before .before .before .before .before .before .before .before .before .corners .ensures)
-    (all-map (λ p h. point-segment-in-range p a b h ha hb) (corners-pixel (c .before .before .before .before .before .before .before .before .before .before .before .before .pre .0)))
-    (c .before .before .before .before .before .before .near-span .ensures) (c .before .before .before .before .near-span2 .ensures) (c .before .before .near-span3 .ensures) (c .near-span4 .ensures)
-    ∙ ap₂ (λ a b. ltb 0 (s .cells) && all (nearSpan a b) (corners s)) (c .before .before .before .before .before .before .before .before .before .before .point .ensures) (c .before .before .before .before .before .before .before .before .before .point2 .ensures)
+    let at-near-span3 = c .before .before in
+    let at-near-span2 = at-near-span3 .before .before in
+    let at-near-span = at-near-span2 .before .before in
+    let at-point2 = at-near-span .before .before .before in
+    let at-point = at-point2 .before in
+    let at-corners = at-point .before in
+    let entry = at-corners .before in
+    let a = pointForm (at-point .point .result) in
+    let b = pointForm (at-point2 .point2 .result) in
+    let s = recordOf (entry .args .region) in
+    let ha = subst⁻¹ PixelPoint (at-point .point .ensures) (point-pixel (pixel (entry .pre .1 .0))) in
+    let hb = subst⁻¹ PixelPoint (at-point2 .point2 .ensures) (point-pixel (pixel (entry .pre .1 .1))) in
+    corners-tested (λ p. DistanceInRange p (nearestPoint p a b)) (nearSpan a b) (at-corners .corners .result) _ s (at-corners .corners .ensures)
+    (all-map (λ p h. point-segment-in-range p a b h ha hb) (corners-pixel (entry .pre .0)))
+    (at-near-span .near-span .ensures) (at-near-span2 .near-span2 .ensures) (at-near-span3 .near-span3 .ensures) (c .near-span4 .ensures)
+    ∙ ap₂ (λ a b. ltb 0 (s .cells) && all (nearSpan a b) (corners s)) (at-point .point .ensures) (at-point2 .point2 .ensures)
 
 pub within-span-radius-spec : {M : Type 1} → statement M
 within-span-radius-spec =

@@ -23,10 +23,11 @@ same-length c = search needs
 returns : tie.Need-returns
 unfolding text keptLine
 returns c =
-    let p2 = c .before .before in
-    let p1 = p2 .before .before .before .before in
-    let s = p1 .before .before .before .before .before .before in
-    (kept-printed (s .args .output .now) (s .args .kept) (s .args .count) (s .pre .1) (search needs) (p1 .put-line .ensures .0) (p2 .put-rows .ensures .0), search needs)
+    let at-put-rows-arg = c .before .before .before in
+    let at-put-line = at-put-rows-arg .before .before .before in
+    let at-put-line-arg = at-put-line .before .before .before in
+    let entry = at-put-line-arg .before .before .before in
+    (kept-printed (entry .args .output .now) (entry .args .kept) (entry .args .count) (entry .pre .1) (search needs) (at-put-line .put-line .ensures .0) (c .before .before .put-rows .ensures .0), search needs)
 
 pub print-kept-spec : {M : Type 1} → statement M
 print-kept-spec =

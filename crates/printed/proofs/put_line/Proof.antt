@@ -20,13 +20,21 @@ same-length : tie.Need-same-length
 same-length c = search needs
 
 returns : tie.Need-returns
-returns c =
-    let p4 = c .before .before in
-    let p3 = p4 .before .before .before .before in
-    let p2 = p3 .before .before .before .before in
-    let p1 = p2 .before .before .before .before in
-    let a = p1 .before .before .before .before .before .args in
-    (line-put (a .first .now) (a .second .now) (a .m) (a .n) (p1 .put-text .ensures) (p2 .put-decimal .ensures .0) (p3 .put-text2 .ensures) (p4 .put-number .ensures .0), search needs)
+returns c = (
+  (
+      let at-put-number-arg = c .before .before .before in
+      let at-put-text2 = at-put-number-arg .before .before .before in
+      let at-out2 = at-put-text2 .before .before .before in
+      let at-put-decimal = at-out2 .before in
+      let at-out = at-put-decimal .before .before .before in
+      let at-put-text = at-out .before in
+      let at-shared-slice-known2 = at-put-text .before .before in
+      let entry = at-shared-slice-known2 .before .before .before in
+      let a = entry .args in
+      line-put (a .first .now) (a .second .now) (a .m) (a .n) (at-put-text .put-text .ensures) (at-put-decimal .put-decimal .ensures .0) (at-put-text2 .put-text2 .ensures) (c .before .before .put-number .ensures .0)
+      ),
+  search needs,
+)
 
 pub put-line-spec : {M : Type 1} → statement M
 put-line-spec =

@@ -70,14 +70,24 @@ same-length : tie.Need-same-length
 same-length c = search needs
 
 returns : tie.Need-returns
-returns c =
-    let p5 = c .before .before in
-    let p4 = p5 .before .before .before .before .before in
-    let p3 = p4 .before .before .before .before .before in
-    let p2 = p3 .before .before .before .before .before in
-    let p1 = p2 .before .before .before .before .before in
-    let a = p1 .before .before .before .before .before .args in
-    (row-put (rowAt (a .output .now) (5 * a .k)) (p1 .put-number .ensures .0) (p2 .put-number2 .ensures .0) (p3 .put-number3 .ensures .0) (p4 .put-number4 .ensures .0) (p5 .put-number5 .ensures .0), search needs)
+returns c = (
+  (
+      let at-out5 = c .before in
+      let at-put-number-arg5 = at-out5 .before .before .before in
+      let at-put-number4 = at-put-number-arg5 .before .before .before in
+      let at-put-number-arg4 = at-put-number4 .before .before in
+      let at-put-number3 = at-put-number-arg4 .before .before .before in
+      let at-put-number-arg3 = at-put-number3 .before .before in
+      let at-put-number2 = at-put-number-arg3 .before .before .before in
+      let at-put-number-arg2 = at-put-number2 .before .before in
+      let at-put-number = at-put-number-arg2 .before .before .before in
+      let at-put-number-arg = at-put-number .before .before in
+      let entry = at-put-number-arg .before .before .before in
+      let a = entry .args in
+      row-put (rowAt (a .output .now) (5 * a .k)) (at-put-number .put-number .ensures .0) (at-put-number2 .put-number2 .ensures .0) (at-put-number3 .put-number3 .ensures .0) (at-put-number4 .put-number4 .ensures .0) (c .before .before .put-number5 .ensures .0)
+      ),
+  search needs,
+)
 
 pub put-row-spec : {M : Type 1} → statement M
 put-row-spec =

@@ -51,8 +51,7 @@ list-row-requires : tie.Need-list-row-requires Inv-loop μ-loop
 list-row-requires c κs =
     let turn = c .before .before .before in
     let rows-in = entry turn .pre .1 .1 in
-    let k = turn .before .loop .k in
-    (
+    let k = turn .before .loop .k in (
       asked turn,
       record {
         rank-in = omega (arith, turn .loop-test .taken, entry turn .pre .1 .0);

@@ -23,8 +23,7 @@ list-in-order-requires c κs =
     let rank = c .before .before .before in
     let known = rank .before .before .before in
     let h = known .before .before .before .pre in
-    let r = rank .rank-proposals .ensures .0 in
-    (
+    let r = rank .rank-proposals .ensures .0 in (
       record { few = h .few; whole = h .whole; small = h .small; below = h .below; ordered = omega (arith, rank .rank-proposals .kept .1 .1 .1 .0); room = h .room },
       (r .1, r .0),
     )
@@ -41,8 +40,7 @@ returns c =
     let known = rank .before .before .before in
     let entry = known .before .before .before in
     let a = entry .args in
-    let ranks = rank .rank-proposals .ensures .1 in
-    (
+    let ranks = rank .rank-proposals .ensures .1 in (
       listed-count (a .smaller .now) (a .larger .now) (a .count) (a .rows .now) _ (rank .rank-proposals .result) _ ranks,
       called .list-in-order .ensures ∙ ap (λ all. overwrite (flatRanked (listedFrom (a .smaller .now) (a .larger .now) (a .count) all)) (a .listed .now)) ranks,
     )

@@ -68,9 +68,10 @@ returns c =
     let stored = c .before .before in
     let read = stored .before .before .before in
     let named = read .before .before .before in
-    let entry = named .before .before .before .before in
+    let at-taken-number = named .before in
+    let entry = at-taken-number .before .before .before in
     stored .put-row .ensures
-    ∙ (λ i. sets (entry .args .listed .now) (6 * entry .args .k) (row (entry .args .rows .now) (entry .args .p) (named .before .taken-number .ensures i) (named .named-rank .ensures i)))
+    ∙ (λ i. sets (entry .args .listed .now) (6 * entry .args .k) (row (entry .args .rows .now) (entry .args .p) (at-taken-number .taken-number .ensures i) (named .named-rank .ensures i)))
 
 pub put-ranked-spec : {M : Type 1} → statement M
 put-ranked-spec =

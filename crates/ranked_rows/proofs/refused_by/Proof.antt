@@ -30,8 +30,7 @@ loop-holds c = (λ l a b. absurd (omega arith), omega arith)
 blocks-requires : tie.Need-blocks-requires Inv-loop μ-loop
 blocks-requires c κs =
     let s = entry c in
-    let q = s .pre .1 .rows-in (c .before .loop .r) (c .loop-test .taken) in
-    (
+    let q = s .pre .1 .rows-in (c .before .loop .r) (c .loop-test .taken) in (
       (omega (arith, c .loop-test .taken, s .pre .1 .rank-in, s .pre .0 .few, s .pre .0 .ordered), omega (arith, c .loop-test .taken, s .pre .1 .rank-in, s .pre .0 .few, s .pre .0 .room)),
       record {
         small = s .pre .0 .small;

@@ -73,10 +73,11 @@ is-before-requires-3 c κs = tt
 
 returns : tie.Need-returns
 returns c =
-    let p2 = c .before .before .before in
-    let p1 = p2 .before .before .before in
-    let start = p1 .before .before .before .before in
-    lt-pair (start .args .pairs .now) (3 * (start .args .i - 1)) (3 * start .args .i) (p1 .is-before .ensures) (p2 .is-before2 .ensures) (c .is-before3 .ensures)
+    let at-is-before2 = c .before .before .before in
+    let at-is-before = at-is-before2 .before .before .before in
+    let at-shared-slice-known2 = at-is-before .before .before in
+    let start = at-shared-slice-known2 .before .before in
+    lt-pair (start .args .pairs .now) (3 * (start .args .i - 1)) (3 * start .args .i) (at-is-before .is-before .ensures) (at-is-before2 .is-before2 .ensures) (c .is-before3 .ensures)
 
 pub pair-ascends-spec : {M : Type 1} → statement M
 pair-ascends-spec = tie.close (tie.spec sub-a mul-a mul-b add-is-before mul-is-before shared-slice-read-is-before add-is-before-2 mul-is-before-2 shared-slice-read-is-before-2 is-before-requires add-is-before-3 mul-is-before-3 shared-slice-read-is-before-3 add-is-before-4 mul-is-before-4 shared-slice-read-is-before-4 is-before-requires-2 mul-is-before-5 shared-slice-read-is-before-5 mul-is-before-6 shared-slice-read-is-before-6 is-before-requires-3 returns)

@@ -27,11 +27,11 @@ same-length c = search needs
 
 returns : tie.Need-returns
 returns c =
-    let put = c .before .before in
-    let counted = put .before .before .before .before in
+    let at-put-numbers-arg = c .before .before .before in
+    let counted = at-put-numbers-arg .before .before .before in
     let given = counted .before .before in
     let start = given .before .before in
-    list-put (start .args .size) (start .args .numbers .now) (counted .put-shortest .ensures) (put .put-numbers .ensures)
+    list-put (start .args .size) (start .args .numbers .now) (counted .put-shortest .ensures) (c .before .before .put-numbers .ensures)
 
 pub put-list-spec : {M : Type 1} → statement M
 put-list-spec = tie.close (tie.spec div-put-shortest put-shortest-requires put-numbers-requires same-length returns)

@@ -115,12 +115,13 @@ is-before-requires-5 c κs = tt
 
 returns : tie.Need-returns
 returns c =
-    let p4 = c .before .before .before in
-    let p3 = p4 .before .before .before in
-    let p2 = p3 .before .before .before in
-    let p1 = p2 .before .before .before in
-    let start = p1 .before .before .before .before in
-    lt-row (start .args .rows .now) (5 * (start .args .i - 1)) (5 * start .args .i) (p1 .is-before .ensures) (p2 .is-before2 .ensures) (p3 .is-before3 .ensures) (p4 .is-before4 .ensures) (c .is-before5 .ensures)
+    let at-is-before4 = c .before .before .before in
+    let at-is-before3 = at-is-before4 .before .before .before in
+    let at-is-before2 = at-is-before3 .before .before .before in
+    let at-is-before = at-is-before2 .before .before .before in
+    let at-shared-slice-known3 = at-is-before .before in
+    let start = at-shared-slice-known3 .before .before .before in
+    lt-row (start .args .rows .now) (5 * (start .args .i - 1)) (5 * start .args .i) (at-is-before .is-before .ensures) (at-is-before2 .is-before2 .ensures) (at-is-before3 .is-before3 .ensures) (at-is-before4 .is-before4 .ensures) (c .is-before5 .ensures)
 
 pub row-ascends-spec : {M : Type 1} → statement M
 row-ascends-spec = tie.close (tie.spec sub-a mul-a mul-b mul-is-before shared-slice-read-is-before mul-is-before-2 shared-slice-read-is-before-2 is-before-requires add-is-before mul-is-before-3 shared-slice-read-is-before-3 add-is-before-2 mul-is-before-4 shared-slice-read-is-before-4 is-before-requires-2 add-is-before-3 mul-is-before-5 shared-slice-read-is-before-5 add-is-before-4 mul-is-before-6 shared-slice-read-is-before-6 is-before-requires-3 add-is-before-5 mul-is-before-7 shared-slice-read-is-before-7 add-is-before-6 mul-is-before-8 shared-slice-read-is-before-8 is-before-requires-4 add-is-before-7 mul-is-before-9 shared-slice-read-is-before-9 add-is-before-8 mul-is-before-10 shared-slice-read-is-before-10 is-before-requires-5 returns)

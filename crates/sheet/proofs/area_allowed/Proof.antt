@@ -19,7 +19,10 @@ returns-2 : tie.Need-returns-2
 returns-2 c = simp (sym (c .before .before .before .is-side .ensures) ∙ not-false _ (c .before .before .if1 .left), sym (c .before .is-side2 .ensures) ∙ not-true _ (c .if2 .taken))
 
 mul-result : tie.Need-mul-result
-mul-result c = omega (arith, sides-product (c .before .before .before .before .args .width) (c .before .before .before .before .args .height) (side-most _ (sym (c .before .before .before .is-side .ensures) ∙ not-false _ (c .before .before .if1 .left))) (side-most _ (sym (c .before .is-side2 .ensures) ∙ not-false _ (c .if2 .left))))
+mul-result c =
+    let at-is-side2 = c .before in
+    let entry = at-is-side2 .before .before .before in
+    omega (arith, sides-product (entry .args .width) (entry .args .height) (side-most _ (sym (c .before .before .before .is-side .ensures) ∙ not-false _ (c .before .before .if1 .left))) (side-most _ (sym (at-is-side2 .is-side2 .ensures) ∙ not-false _ (c .if2 .left))))
 
 returns-3 : tie.Need-returns-3
 returns-3 c = simp (sym (c .before .before .before .is-side .ensures) ∙ not-false _ (c .before .before .if1 .left), sym (c .before .is-side2 .ensures) ∙ not-false _ (c .if2 .left))

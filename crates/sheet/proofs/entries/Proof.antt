@@ -18,10 +18,17 @@ enum-known-written : tie.Need-enum-known-written
 enum-known-written c = c .match .keys1
 
 mul-length : tie.Need-mul-length
-mul-length c = omega (arith, mul-le-mul (c .if1 .taken) (c .before .before .before .before .before .before .pre .1))
+mul-length c =
+    let at-match-keys1 = c .before .before .before in
+    let entry = at-match-keys1 .before .before .before in
+    omega (arith, mul-le-mul (c .if1 .taken) (entry .pre .1))
 
 judge-requires : tie.Need-judge-requires
-judge-requires c κs = ends-inside keeps-number _ _ (c .before .before .before .before .before .before .pre .0) (as-number _ _ (c .before .before .before .before .item .ensures ∙ ap (itemOf _) (c .before .before .written .given .1)))
+judge-requires c κs =
+    let at-known-told = c .before in
+    let at-item = at-known-told .before .before .before in
+    let entry = at-item .before .before in
+    ends-inside keeps-number _ _ (entry .pre .0) (as-number _ _ (at-item .item .ensures ∙ ap (itemOf _) (c .before .before .written .given .1)))
 
 enum-known-next : tie.Need-enum-known-next
 enum-known-next c = c .match2 .keys1
@@ -34,16 +41,28 @@ enum-known-place-2 c = c .match .keys2
 
 returns : tie.Need-returns
 returns c =
-    entries-found _ _ _ (as-number _ _ (c .before .before .before .before .before .before .before .before .item .ensures ∙ ap (itemOf _) (c .before .before .before .before .before .before .written .given .1)))
-    (c .before .before .before .before .if1 .taken) (c .before .before .before .before .before .before .before .before .before .before .pre .0) (subst (Told _ _) (c .before .next .given .1) (c .before .before .before .judge .ensures))
+    let at-next = c .before in
+    let at-if1 = at-next .before .before .before in
+    let at-written = at-if1 .before .before in
+    let at-item = at-written .before .before in
+    let entry = at-item .before .before in
+    entries-found _ _ _ (as-number _ _ (at-item .item .ensures ∙ ap (itemOf _) (at-written .written .given .1)))
+    (at-if1 .if1 .taken) (entry .pre .0) (subst (Told _ _) (at-next .next .given .1) (c .before .before .before .judge .ensures))
 
 returns-2 : tie.Need-returns-2
 returns-2 c =
-    entries-faulty _ _ _ (as-number _ _ (c .before .before .before .before .before .before .before .before .item .ensures ∙ ap (itemOf _) (c .before .before .before .before .before .before .written .given .1)))
-    (c .before .before .before .before .if1 .taken) (subst (Told _ _) (c .before .place .given .1) (c .before .before .before .judge .ensures))
+    let at-place = c .before in
+    let at-if1 = at-place .before .before .before in
+    let at-written = at-if1 .before .before in
+    let at-item = at-written .before .before in
+    entries-faulty _ _ _ (as-number _ _ (at-item .item .ensures ∙ ap (itemOf _) (at-written .written .given .1)))
+    (at-if1 .if1 .taken) (subst (Told _ _) (at-place .place .given .1) (c .before .before .before .judge .ensures))
 
 returns-3 : tie.Need-returns-3
-returns-3 c = count-over _ _ _ (as-number _ _ (c .before .before .before .before .item .ensures ∙ ap (itemOf _) (c .before .before .written .given .1))) (c .if1 .left)
+returns-3 c =
+    let at-known-told = c .before in
+    let at-item = at-known-told .before .before .before in
+    count-over _ _ _ (as-number _ _ (at-item .item .ensures ∙ ap (itemOf _) (c .before .before .written .given .1))) (c .if1 .left)
 
 returns-4 : tie.Need-returns-4
 returns-4 c = count-fails _ _ _ (as-number _ _ (c .before .before .before .item .ensures ∙ ap (itemOf _) (c .before .place2 .given .1)))

@@ -19,10 +19,16 @@ enum-told-2 : tie.Need-enum-told-2
 enum-told-2 c = c .match .keys3
 
 returns : tie.Need-returns
-returns c = upTo-allowed _ _ _ (c .before .before .before .before .number-at .ensures ∙ ap (numberOf _ _) (c .before .before .value .given .1)) (c .if1 .taken)
+returns c =
+    let at-known-told = c .before in
+    let at-number-at = at-known-told .before .before .before in
+    upTo-allowed _ _ _ (at-number-at .number-at .ensures ∙ ap (numberOf _ _) (c .before .before .value .given .1)) (c .if1 .taken)
 
 returns-2 : tie.Need-returns-2
-returns-2 c = upTo-over _ _ _ (c .before .before .before .before .number-at .ensures ∙ ap (numberOf _ _) (c .before .before .value .given .1)) (c .if1 .left)
+returns-2 c =
+    let at-known-told = c .before in
+    let at-number-at = at-known-told .before .before .before in
+    upTo-over _ _ _ (at-number-at .number-at .ensures ∙ ap (numberOf _ _) (c .before .before .value .given .1)) (c .if1 .left)
 
 returns-3 : tie.Need-returns-3
 returns-3 c = upTo-failed _ _ _ (c .before .before .number-at .ensures ∙ ap (numberOf _ _) (c .enum-told .given .1))

@@ -31,16 +31,22 @@ loop-less c = search needs
 
 loop-again : tie.Need-loop-again Inv-loop μ-loop
 loop-again c =
-    judging-goes-on (c .before .before .before .before .before .loop .inv) (c .before .before .before .before .loop-test .taken) (keeps-upTo _)
-    (c .before .before .before .item .ensures ∙ ap (itemOf _) (c .before .behind .given .1))
+    let at-behind = c .before in
+    let turn = at-behind .before .before .before in
+    let at-loop = turn .before in
+    judging-goes-on (at-loop .loop .inv) (turn .loop-test .taken) (keeps-upTo _)
+    (c .before .before .before .item .ensures ∙ ap (itemOf _) (at-behind .behind .given .1))
 
 enum-known-place : tie.Need-enum-known-place Inv-loop μ-loop
 enum-known-place c = c .match .keys2
 
 returns : tie.Need-returns Inv-loop μ-loop
 returns c =
-    judging-stops (c .before .before .before .before .before .loop .inv) (c .before .before .before .before .loop-test .taken)
-    (c .before .before .before .item .ensures ∙ ap (itemOf _) (c .before .place .given .1))
+    let at-place = c .before in
+    let turn = at-place .before .before .before in
+    let at-loop = turn .before in
+    judging-stops (at-loop .loop .inv) (turn .loop-test .taken)
+    (c .before .before .before .item .ensures ∙ ap (itemOf _) (at-place .place .given .1))
 
 returns-2 : tie.Need-returns-2 Inv-loop μ-loop
 returns-2 c = judging-ends (c .before .loop .inv) (c .loop-test .left)

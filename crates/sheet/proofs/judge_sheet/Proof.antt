@@ -25,7 +25,11 @@ mul-lists : tie.Need-mul-lists
 mul-lists c = omega (arith, sides-product _ _ ((subst (SidesTold _ _ _) (c .before .width .given .1) (c .before .before .before .sides .ensures)) .wide) ((subst (SidesTold _ _ _) (c .before .width .given .1) (c .before .before .before .sides .ensures)) .high))
 
 lists-requires : tie.Need-lists-requires
-lists-requires c κs = sides-inside (opening-inside _ (c .before .before .before .before .before .before .before .opening .ensures ∙ ap (itemOf _) (c .before .before .before .before .before .pass .given .1))) (subst (SidesTold _ _ _) (c .before .width .given .1) (c .before .before .before .sides .ensures))
+lists-requires c κs =
+    let at-match2-keys1 = c .before .before in
+    let at-pass = at-match2-keys1 .before .before .before in
+    let at-opening = at-pass .before .before in
+    sides-inside (opening-inside _ (at-opening .opening .ensures ∙ ap (itemOf _) (at-pass .pass .given .1))) (subst (SidesTold _ _ _) (c .before .width .given .1) (c .before .before .before .sides .ensures))
 
 enum-known-parts : tie.Need-enum-known-parts
 enum-known-parts c = c .match3 .keys1
@@ -41,19 +45,32 @@ enum-known-place c = c .match .keys2
 
 returns : tie.Need-returns
 returns c =
-    sheet-found _ _ (c .before .before .before .before .before .before .before .before .before .before .before .opening .ensures ∙ ap (itemOf _) (c .before .before .before .before .before .before .before .before .before .pass .given .1))
-    (subst (SidesTold _ _ _) (c .before .before .before .before .before .width .given .1) (c .before .before .before .before .before .before .before .sides .ensures))
+    let at-match3-keys1 = c .before .before in
+    let at-width = at-match3-keys1 .before .before .before in
+    let at-sides = at-width .before .before in
+    let at-pass = at-sides .before .before in
+    let at-opening = at-pass .before .before in
+    sheet-found _ _ (at-opening .opening .ensures ∙ ap (itemOf _) (at-pass .pass .given .1))
+    (subst (SidesTold _ _ _) (at-width .width .given .1) (at-sides .sides .ensures))
     (subst (ListsTold _ _ _) (c .before .parts .given .1) (c .before .before .before .lists .ensures))
 
 returns-2 : tie.Need-returns-2
 returns-2 c =
-    sheet-lists _ _ (c .before .before .before .before .before .before .before .before .before .before .before .opening .ensures ∙ ap (itemOf _) (c .before .before .before .before .before .before .before .before .before .pass .given .1))
-    ((subst (SidesTold _ _ _) (c .before .before .before .before .before .width .given .1) (c .before .before .before .before .before .before .before .sides .ensures)) .same)
+    let at-match3-keys2 = c .before .before in
+    let at-width = at-match3-keys2 .before .before .before in
+    let at-sides = at-width .before .before in
+    let at-pass = at-sides .before .before in
+    let at-opening = at-pass .before .before in
+    sheet-lists _ _ (at-opening .opening .ensures ∙ ap (itemOf _) (at-pass .pass .given .1))
+    ((subst (SidesTold _ _ _) (at-width .width .given .1) (at-sides .sides .ensures)) .same)
     (subst (ListsTold _ _ _) (c .before .refusal .given .1) (c .before .before .before .lists .ensures))
 
 returns-3 : tie.Need-returns-3
 returns-3 c =
-    sheet-sides _ _ (c .before .before .before .before .before .before .before .opening .ensures ∙ ap (itemOf _) (c .before .before .before .before .before .pass .given .1)) (subst (SidesTold _ _ _) (c .before .refusal2 .given .1) (c .before .before .before .sides .ensures))
+    let at-match2-keys2 = c .before .before in
+    let at-pass = at-match2-keys2 .before .before .before in
+    let at-opening = at-pass .before .before in
+    sheet-sides _ _ (at-opening .opening .ensures ∙ ap (itemOf _) (at-pass .pass .given .1)) (subst (SidesTold _ _ _) (c .before .refusal2 .given .1) (c .before .before .before .sides .ensures))
 
 returns-4 : tie.Need-returns-4
 returns-4 c = sheet-opening _ _ (c .before .before .before .opening .ensures ∙ ap (itemOf _) (c .before .place .given .1))

@@ -16,18 +16,25 @@ enum-known-kind c = c .match .keys1
 
 item-requires-2 : tie.Need-item-requires-2
 item-requires-2 c κs =
-    ends-inside keeps-number _ 0 (search needs) (as-number _ _ (c .before .before .before .before .item .ensures ∙ ap (itemOf _) (c .before .before .kind .given .1)))
+    let at-known-told = c .before in
+    let at-item = at-known-told .before .before .before in
+    ends-inside keeps-number _ 0 (search needs) (as-number _ _ (at-item .item .ensures ∙ ap (itemOf _) (c .before .before .kind .given .1)))
 
 enum-known-place : tie.Need-enum-known-place
 enum-known-place c = c .match .keys2
 
 returns : tie.Need-returns
 returns c =
-    opening-goes-on 0 _ (as-number _ _ (c .before .before .before .before .before .item .ensures ∙ ap (itemOf _) (c .before .before .before .kind .given .1))) (c .before .if1 .taken)
+    let at-known-told = c .before .before in
+    let at-item = at-known-told .before .before .before in
+    opening-goes-on 0 _ (as-number _ _ (at-item .item .ensures ∙ ap (itemOf _) (c .before .before .before .kind .given .1))) (c .before .if1 .taken)
     ∙ as-number _ _ (c .item2 .ensures)
 
 returns-2 : tie.Need-returns-2
-returns-2 c = opening-other 0 _ (as-number _ _ (c .before .before .before .before .item .ensures ∙ ap (itemOf _) (c .before .before .kind .given .1))) (c .if1 .left)
+returns-2 c =
+    let at-known-told = c .before in
+    let at-item = at-known-told .before .before .before in
+    opening-other 0 _ (as-number _ _ (at-item .item .ensures ∙ ap (itemOf _) (c .before .before .kind .given .1))) (c .if1 .left)
 
 returns-3 : tie.Need-returns-3
 returns-3 c = opening-fails 0 _ (as-number _ _ (c .before .before .before .item .ensures ∙ ap (itemOf _) (c .before .place .given .1)))

@@ -21,7 +21,11 @@ same-length-4 c = search needs
 
 returns : tie.Need-returns
 unfolding readVerdict
-returns c = c .before .before .before .before .before .before .before .before .read-within .ensures
+returns c =
+    let at-boundaries = c .before .before .before in
+    let at-spans = at-boundaries .before .before in
+    let at-read-within = at-spans .before .before .before in
+    at-read-within .read-within .ensures
 
 pub read-sheet-spec : {M : Type 1} → statement M
 read-sheet-spec =

@@ -16,10 +16,15 @@ fits-requires : tie.Need-fits-requires
 fits-requires c κs = tt
 
 fill-requires : tie.Need-fill-requires
-fill-requires c κs = (
-  (subst (SheetTold _ _) (c .before .before .before .before .before .before .before .before .plan .given .1) (c .before .before .before .before .before .before .before .before .before .before .judge-sheet .ensures)) .held,
-  room-known (sym (c .before .before .before .before .before .fits2 .ensures) ∙ c .before .before .before .before .if1 .taken),
-)
+fill-requires c κs =
+    let at-fill-arg3 = c .before in
+    let at-if1 = at-fill-arg3 .before .before .before in
+    let at-fits2 = at-if1 .before in
+    let at-plan = at-fits2 .before .before .before in
+    let at-judge-sheet = at-plan .before .before in (
+      (subst (SheetTold _ _) (at-plan .plan .given .1) (at-judge-sheet .judge-sheet .ensures)) .held,
+      room-known (sym (at-fits2 .fits2 .ensures) ∙ at-if1 .if1 .taken),
+    )
 
 header-of-requires : tie.Need-header-of-requires
 header-of-requires c κs = tt
@@ -41,12 +46,24 @@ same-length-4 c = search needs
 
 returns : tie.Need-returns
 returns c =
-    answered-read (subst (SheetTold _ _) (c .before .before .before .before .before .before .before .before .before .before .before .before .before .before .before .before .before .before .plan .given .1) (c .before .before .before .before .before .before .before .before .before .before .before .before .before .before .before .before .before .before .before .before .judge-sheet .ensures)) _ _ _ _
-    (sym (c .before .before .before .before .before .before .before .before .before .before .before .before .before .before .before .fits2 .ensures) ∙ c .before .before .before .before .before .before .before .before .before .before .before .before .before .before .if1 .taken) (c .header-of .ensures) (c .before .before .before .before .before .before .before .before .before .fill .ensures .0) (c .before .before .before .before .before .before .before .before .before .fill .ensures .1 .0)
-    (c .before .before .before .before .before .before .before .before .before .fill .ensures .1 .1 .0) (c .before .before .before .before .before .before .before .before .before .fill .ensures .1 .1 .1)
+    let at-slice-known7 = c .before .before .before in
+    let at-spans = at-slice-known7 .before .before .before in
+    let at-fill = at-spans .before .before .before in
+    let at-fill-arg3 = at-fill .before .before in
+    let at-if1 = at-fill-arg3 .before .before .before in
+    let at-fits2 = at-if1 .before in
+    let at-plan = at-fits2 .before .before .before in
+    let at-judge-sheet = at-plan .before .before in
+    answered-read (subst (SheetTold _ _) (at-plan .plan .given .1) (at-judge-sheet .judge-sheet .ensures)) _ _ _ _
+    (sym (at-fits2 .fits2 .ensures) ∙ at-if1 .if1 .taken) (c .header-of .ensures) (at-fill .fill .ensures .0) (at-fill .fill .ensures .1 .0)
+    (at-fill .fill .ensures .1 .1 .0) (at-fill .fill .ensures .1 .1 .1)
 
 returns-2 : tie.Need-returns-2
-returns-2 c = answered-short (subst (SheetTold _ _) (c .before .before .before .before .plan .given .1) (c .before .before .before .before .before .before .judge-sheet .ensures)) _ _ _ _ (sym (c .before .fits2 .ensures) ∙ c .if1 .left)
+returns-2 c =
+    let at-fits2 = c .before in
+    let at-plan = at-fits2 .before .before .before in
+    let at-judge-sheet = at-plan .before .before in
+    answered-short (subst (SheetTold _ _) (at-plan .plan .given .1) (at-judge-sheet .judge-sheet .ensures)) _ _ _ _ (sym (at-fits2 .fits2 .ensures) ∙ c .if1 .left)
 
 returns-3 : tie.Need-returns-3
 returns-3 c = answered-refused _ _ (subst (SheetTold _ _) (c .before .refusal .given .1) (c .before .before .before .judge-sheet .ensures))

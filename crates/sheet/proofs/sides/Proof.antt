@@ -17,7 +17,9 @@ enum-known-width c = c .match .keys1
 
 item-requires-2 : tie.Need-item-requires-2
 item-requires-2 c κs =
-    ends-inside keeps-number _ _ (c .before .before .before .before .before .pre) (as-number _ _ (c .before .before .before .item .ensures ∙ ap (itemOf _) (c .before .width .given .1)))
+    let at-match-keys1 = c .before .before in
+    let entry = at-match-keys1 .before .before .before in
+    ends-inside keeps-number _ _ (entry .pre) (as-number _ _ (c .before .before .before .item .ensures ∙ ap (itemOf _) (c .before .width .given .1)))
 
 enum-known-height : tie.Need-enum-known-height
 enum-known-height c = c .match2 .keys1
@@ -33,15 +35,27 @@ enum-known-place-2 c = c .match .keys2
 
 returns : tie.Need-returns
 returns c =
-    sides-found _ _ _ (as-number _ _ (c .before .before .before .before .before .before .before .before .before .item .ensures ∙ ap (itemOf _) (c .before .before .before .before .before .before .before .width .given .1)))
-    (as-number _ _ (c .before .before .before .before .before .item2 .ensures ∙ ap (itemOf _) (c .before .before .before .height .given .1))) (sym (c .before .area-allowed .ensures) ∙ c .if1 .taken)
+    let at-known-told2 = c .before .before in
+    let at-item2 = at-known-told2 .before .before .before in
+    let at-width = at-item2 .before .before in
+    let at-item = at-width .before .before in
+    sides-found _ _ _ (as-number _ _ (at-item .item .ensures ∙ ap (itemOf _) (at-width .width .given .1)))
+    (as-number _ _ (at-item2 .item2 .ensures ∙ ap (itemOf _) (c .before .before .before .height .given .1))) (sym (c .before .area-allowed .ensures) ∙ c .if1 .taken)
 
 returns-2 : tie.Need-returns-2
-returns-2 c = area-fails _ _ _ (as-number _ _ (c .before .before .before .before .before .before .before .before .before .item .ensures ∙ ap (itemOf _) (c .before .before .before .before .before .before .before .width .given .1))) (as-number _ _ (c .before .before .before .before .before .item2 .ensures ∙ ap (itemOf _) (c .before .before .before .height .given .1))) (sym (c .before .area-allowed .ensures) ∙ c .if1 .left)
+returns-2 c =
+    let at-known-told2 = c .before .before in
+    let at-item2 = at-known-told2 .before .before .before in
+    let at-width = at-item2 .before .before in
+    let at-item = at-width .before .before in
+    area-fails _ _ _ (as-number _ _ (at-item .item .ensures ∙ ap (itemOf _) (at-width .width .given .1))) (as-number _ _ (at-item2 .item2 .ensures ∙ ap (itemOf _) (c .before .before .before .height .given .1))) (sym (c .before .area-allowed .ensures) ∙ c .if1 .left)
 
 returns-3 : tie.Need-returns-3
 returns-3 c =
-    height-fails _ _ _ (as-number _ _ (c .before .before .before .before .before .before .before .item .ensures ∙ ap (itemOf _) (c .before .before .before .before .before .width .given .1)))
+    let at-match2-keys2 = c .before .before in
+    let at-width = at-match2-keys2 .before .before .before in
+    let at-item = at-width .before .before in
+    height-fails _ _ _ (as-number _ _ (at-item .item .ensures ∙ ap (itemOf _) (at-width .width .given .1)))
     (as-number _ _ (c .before .before .before .item2 .ensures ∙ ap (itemOf _) (c .before .place .given .1)))
 
 returns-4 : tie.Need-returns-4

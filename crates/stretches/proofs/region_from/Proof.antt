@@ -20,7 +20,9 @@ abbrev μ-loop : tie.MeasureT-loop
 
 -- the function's entry and the cell, from a turn's begin and from where the cell is read
 abbrev entry : tie.In-loop Inv-loop μ-loop → tie.Start Inv-loop μ-loop
-entry c = c .before .before .before .before .before .before
+entry c =
+    let at-shared-slice-known3 = c .before .before .before in
+    at-shared-slice-known3 .before .before .before
 
 abbrev cell : (c : tie.After-wide Inv-loop μ-loop) → Cell (entry (c .before .before) .pre .1) (c .before .before .before .loop .at) (c .wide .result)
 cell c = cell-at (entry (c .before .before) .pre .1) (c .before .before .before .loop .at) (c .before .before .loop-test .taken) (c .wide .ensures)
@@ -55,10 +57,16 @@ returns c =
     reading-made b _ h (reading-stops b h (turn .loop-test .taken) (read .wide .ensures) (c .if1 .taken))
 
 rem-with-cell : tie.Need-rem-with-cell Inv-loop μ-loop
-rem-with-cell c = omega (arith, wide (entry (c .before .before .before .before) .pre .1))
+rem-with-cell c =
+    let at-wide = c .before .before in
+    let turn = at-wide .before .before in
+    omega (arith, wide (entry turn .pre .1))
 
 div-with-cell : tie.Need-div-with-cell Inv-loop μ-loop
-div-with-cell c = omega (arith, wide (entry (c .before .before .before .before) .pre .1))
+div-with-cell c =
+    let at-wide = c .before .before in
+    let turn = at-wide .before .before in
+    omega (arith, wide (entry turn .pre .1))
 
 shared-slice-read-with-cell : tie.Need-shared-slice-read-with-cell Inv-loop μ-loop
 shared-slice-read-with-cell c = omega (arith, cell (c .before .before .before) .byte)
@@ -79,10 +87,12 @@ loop-less c = search needs
 
 loop-again : tie.Need-loop-again Inv-loop μ-loop
 loop-again c =
-    λ M b.
-    let read = c .before .before .before .before in
+    let at-if1 = c .before .before in
+    let read = at-if1 .before .before in
     let turn = read .before .before in
-    reading-more b (turn .before .loop .inv M b) (turn .loop-test .taken) (read .wide .ensures) (c .before .before .if1 .left) (c .with-cell .ensures)
+    let at-loop = turn .before in
+    λ M b.
+    reading-more b (at-loop .loop .inv M b) (turn .loop-test .taken) (read .wide .ensures) (at-if1 .if1 .left) (c .with-cell .ensures)
 
 returns-2 : tie.Need-returns-2 Inv-loop μ-loop
 returns-2 c =

@@ -42,10 +42,12 @@ loop-less c = search needs
 
 loop-again : tie.Need-loop-again Inv-loop μ-loop
 loop-again c =
+    let turn = c .before .before in
+    let entry = turn .before .before .before in
     let at = c .before .before .before .loop in (
       search needs,
       omega (arith, c .last-bit .ensures .1),
-      count-more (λ i. isWalkable (getD (c .before .before .before .before .before .args .cells .now) i 0)) (at .i) (at .inv .2) (c .last-bit .ensures .0),
+      count-more (λ i. isWalkable (getD (entry .args .cells .now) i 0)) (at .i) (at .inv .2) (c .last-bit .ensures .0),
     )
 
 returns : tie.Need-returns Inv-loop μ-loop

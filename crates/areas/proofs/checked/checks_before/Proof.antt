@@ -41,10 +41,18 @@ is-whole-requires c κs = search needs
 
 returns-3 : tie.Need-returns-3
 unfolding earlyRefusal
-returns-3 c = next (passes 1 (c .before .before .before .before .before .sides-fit .ensures) (c .before .before .before .before .if1 .left)) (next (passes 2 (c .before .before .before .cells-fit .ensures) (c .before .before .if2 .left)) (here _ (refuses 3 (c .before .is-whole .ensures) (c .if3 .taken))))
+returns-3 c =
+    let at-is-whole = c .before in
+    let at-if1 = at-is-whole .before .before .before in
+    let at-sides-fit = at-if1 .before in
+    next (passes 1 (at-sides-fit .sides-fit .ensures) (at-if1 .if1 .left)) (next (passes 2 (c .before .before .before .cells-fit .ensures) (c .before .before .if2 .left)) (here _ (refuses 3 (at-is-whole .is-whole .ensures) (c .if3 .taken))))
 
 spans-fault-requires : tie.Need-spans-fault-requires
-spans-fault-requires c κs = sides-within _ _ (c .before .before .before .before .before .sides-fit .ensures) (c .before .before .before .before .if1 .left)
+spans-fault-requires c κs =
+    let at-is-whole = c .before in
+    let at-if1 = at-is-whole .before .before .before in
+    let at-sides-fit = at-if1 .before in
+    sides-within _ _ (at-sides-fit .sides-fit .ensures) (at-if1 .if1 .left)
 
 enum-known-span : tie.Need-enum-known-span
 enum-known-span c = search needs
@@ -60,21 +68,45 @@ room-requires c κs = search needs
 
 returns-4 : tie.Need-returns-4
 unfolding earlyRefusal
-returns-4 c = next (passes 1 (c .before .before .before .before .before .before .before .before .before .sides-fit .ensures) (c .before .before .before .before .before .before .before .before .if1 .left)) (next (passes 2 (c .before .before .before .before .before .before .before .cells-fit .ensures) (c .before .before .before .before .before .before .if2 .left)) (next (passes 3 (c .before .before .before .before .before .is-whole .ensures) (c .before .before .before .before .if3 .left)) (here _ (sym (c .before .before .before .spans-fault .ensures) ∙ ap spans.refusalOf (c .before .span .given .1)))))
+returns-4 c =
+    let at-span = c .before in
+    let at-if3 = at-span .before .before .before in
+    let at-is-whole = at-if3 .before in
+    let at-if2 = at-is-whole .before in
+    let at-cells-fit = at-if2 .before in
+    let at-if1 = at-cells-fit .before in
+    let at-sides-fit = at-if1 .before in
+    next (passes 1 (at-sides-fit .sides-fit .ensures) (at-if1 .if1 .left)) (next (passes 2 (at-cells-fit .cells-fit .ensures) (at-if2 .if2 .left)) (next (passes 3 (at-is-whole .is-whole .ensures) (at-if3 .if3 .left)) (here _ (sym (c .before .before .before .spans-fault .ensures) ∙ ap spans.refusalOf (at-span .span .given .1)))))
 
 returns-5 : tie.Need-returns-5
 unfolding earlyRefusal
-returns-5 c = next (passes 1 (c .before .before .before .before .before .before .before .before .before .sides-fit .ensures) (c .before .before .before .before .before .before .before .before .if1 .left)) (next (passes 2 (c .before .before .before .before .before .before .before .cells-fit .ensures) (c .before .before .before .before .before .before .if2 .left)) (next (passes 3 (c .before .before .before .before .before .is-whole .ensures) (c .before .before .before .before .if3 .left)) (here _ (sym (c .before .before .before .spans-fault .ensures) ∙ ap spans.refusalOf (c .before .span2 .given .1)))))
+returns-5 c =
+    let at-span2 = c .before in
+    let at-if3 = at-span2 .before .before .before in
+    let at-is-whole = at-if3 .before in
+    let at-if2 = at-is-whole .before in
+    let at-cells-fit = at-if2 .before in
+    let at-if1 = at-cells-fit .before in
+    let at-sides-fit = at-if1 .before in
+    next (passes 1 (at-sides-fit .sides-fit .ensures) (at-if1 .if1 .left)) (next (passes 2 (at-cells-fit .cells-fit .ensures) (at-if2 .if2 .left)) (next (passes 3 (at-is-whole .is-whole .ensures) (at-if3 .if3 .left)) (here _ (sym (c .before .before .before .spans-fault .ensures) ∙ ap spans.refusalOf (at-span2 .span2 .given .1)))))
 
 returns-6 : tie.Need-returns-6
 unfolding earlyRefusal
 returns-6 c =
-    let a = c .before .before .before .before .before .before .before .before .before .before .before .before .args in
-    next (passes 1 (c .before .before .before .before .before .before .before .before .before .sides-fit .ensures) (c .before .before .before .before .before .before .before .before .if1 .left))
-    (next (passes 2 (c .before .before .before .before .before .before .before .cells-fit .ensures) (c .before .before .before .before .before .before .if2 .left))
-    (next (passes 3 (c .before .before .before .before .before .is-whole .ensures) (c .before .before .before .before .if3 .left))
-    (next (sym (c .before .before .before .spans-fault .ensures) ∙ ap spans.refusalOf (c .before .enum-told .given .1))
-    (room-counted (length (now (a .cells))) (a .width * a .height) (length (now (a .spans)) / numbersPerSpan) (a .labels) (a .masks) (a .queue) (a .tallies) (c .before .before .before .before .before .before .before .cells-fit .ensures) (c .before .before .before .before .before .before .if2 .left) (c .room .ensures)))))
+    let at-spans-fault = c .before .before .before in
+    let at-if3 = at-spans-fault .before in
+    let at-is-whole = at-if3 .before in
+    let at-if2 = at-is-whole .before in
+    let at-cells-fit = at-if2 .before in
+    let at-if1 = at-cells-fit .before in
+    let at-sides-fit = at-if1 .before in
+    let entry = at-sides-fit .before .before .before in
+    let a = entry .args in
+    next (passes 1 (at-sides-fit .sides-fit .ensures) (at-if1 .if1 .left))
+    (next (passes 2 (at-cells-fit .cells-fit .ensures) (at-if2 .if2 .left))
+    (next (passes 3 (at-is-whole .is-whole .ensures) (at-if3 .if3 .left))
+    (next (sym (at-spans-fault .spans-fault .ensures) ∙ ap spans.refusalOf (c .before .enum-told .given .1))
+    (room-counted (length (now (a .cells))) (a .width * a .height) (length (now (a .spans)) / numbersPerSpan) (a .labels) (a .masks) (a .queue) (a .tallies) (at-cells-fit .cells-fit .ensures) (at-if2 .if2 .left) (c .room .ensures)))))
 
 pub checks-before-spec : {M : Type 1} → statement M
 checks-before-spec =

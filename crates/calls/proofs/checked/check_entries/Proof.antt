@@ -48,7 +48,11 @@ enum-known-boundary c = search needs
 
 returns-3 : tie.Need-returns-3
 unfolding entriesRefusal
-returns-3 c = next (spans-say (c .before .before .before .before .before .before .spans-fault .ensures) (c .before .before .before .before .enum-told .given .1)) (here _ (says 7 (c .before .before .before .boundaries-fault .ensures) (c .before .boundary .given .1)))
+returns-3 c =
+    let at-boundary = c .before in
+    let at-enum-told = at-boundary .before .before .before in
+    let at-spans-fault = at-enum-told .before .before in
+    next (spans-say (at-spans-fault .spans-fault .ensures) (at-enum-told .enum-told .given .1)) (here _ (says 7 (c .before .before .before .boundaries-fault .ensures) (at-boundary .boundary .given .1)))
 
 enum-told-2 : tie.Need-enum-told-2
 enum-told-2 c = search needs
@@ -61,7 +65,13 @@ enum-known-anchor c = search needs
 
 returns-4 : tie.Need-returns-4
 unfolding entriesRefusal
-returns-4 c = next (spans-say (c .before .before .before .before .before .before .before .before .before .spans-fault .ensures) (c .before .before .before .before .before .before .before .enum-told .given .1)) (next (says 7 (c .before .before .before .before .before .before .boundaries-fault .ensures) (c .before .before .before .before .enum-told2 .given .1)) (here _ (says 8 (c .before .before .before .anchors-fault .ensures) (c .before .anchor .given .1))))
+returns-4 c =
+    let at-anchor = c .before in
+    let at-enum-told2 = at-anchor .before .before .before in
+    let at-boundaries-fault = at-enum-told2 .before .before in
+    let at-enum-told = at-boundaries-fault .before in
+    let at-spans-fault = at-enum-told .before .before in
+    next (spans-say (at-spans-fault .spans-fault .ensures) (at-enum-told .enum-told .given .1)) (next (says 7 (at-boundaries-fault .boundaries-fault .ensures) (at-enum-told2 .enum-told2 .given .1)) (here _ (says 8 (c .before .before .before .anchors-fault .ensures) (at-anchor .anchor .given .1))))
 
 enum-told-3 : tie.Need-enum-told-3
 enum-told-3 c = search needs
@@ -74,14 +84,29 @@ enum-known-cell c = search needs
 
 returns-5 : tie.Need-returns-5
 unfolding entriesRefusal
-returns-5 c = next (spans-say (c .before .before .before .before .before .before .before .before .before .before .before .before .spans-fault .ensures) (c .before .before .before .before .before .before .before .before .before .before .enum-told .given .1)) (next (says 7 (c .before .before .before .before .before .before .before .before .before .boundaries-fault .ensures) (c .before .before .before .before .before .before .before .enum-told2 .given .1)) (next (says 8 (c .before .before .before .before .before .before .anchors-fault .ensures) (c .before .before .before .before .enum-told3 .given .1)) (sym (says 9 (c .before .before .before .elevations-fault .ensures) (c .before .cell .given .1)))))
+returns-5 c =
+    let at-cell = c .before in
+    let at-enum-told3 = at-cell .before .before .before in
+    let at-anchors-fault = at-enum-told3 .before .before in
+    let at-enum-told2 = at-anchors-fault .before in
+    let at-boundaries-fault = at-enum-told2 .before .before in
+    let at-enum-told = at-boundaries-fault .before in
+    let at-spans-fault = at-enum-told .before .before in
+    next (spans-say (at-spans-fault .spans-fault .ensures) (at-enum-told .enum-told .given .1)) (next (says 7 (at-boundaries-fault .boundaries-fault .ensures) (at-enum-told2 .enum-told2 .given .1)) (next (says 8 (at-anchors-fault .anchors-fault .ensures) (at-enum-told3 .enum-told3 .given .1)) (sym (says 9 (c .before .before .before .elevations-fault .ensures) (at-cell .cell .given .1)))))
 
 enum-told-4 : tie.Need-enum-told-4
 enum-told-4 c = search needs
 
 returns-6 : tie.Need-returns-6
 unfolding entriesRefusal
-returns-6 c = next (spans-say (c .before .before .before .before .before .before .before .before .before .before .before .spans-fault .ensures) (c .before .before .before .before .before .before .before .before .before .enum-told .given .1)) (next (says 7 (c .before .before .before .before .before .before .before .before .boundaries-fault .ensures) (c .before .before .before .before .before .before .enum-told2 .given .1)) (next (says 8 (c .before .before .before .before .before .anchors-fault .ensures) (c .before .before .before .enum-told3 .given .1)) (sym (says 9 (c .before .before .elevations-fault .ensures) (c .enum-told4 .given .1)))))
+returns-6 c =
+    let at-elevations-fault = c .before .before in
+    let at-anchors-fault = at-elevations-fault .before .before .before in
+    let at-enum-told2 = at-anchors-fault .before in
+    let at-boundaries-fault = at-enum-told2 .before .before in
+    let at-enum-told = at-boundaries-fault .before in
+    let at-spans-fault = at-enum-told .before .before in
+    next (spans-say (at-spans-fault .spans-fault .ensures) (at-enum-told .enum-told .given .1)) (next (says 7 (at-boundaries-fault .boundaries-fault .ensures) (at-enum-told2 .enum-told2 .given .1)) (next (says 8 (at-anchors-fault .anchors-fault .ensures) (c .before .before .before .enum-told3 .given .1)) (sym (says 9 (at-elevations-fault .elevations-fault .ensures) (c .enum-told4 .given .1)))))
 
 pub check-entries-spec : {M : Type 1} → statement M
 check-entries-spec =

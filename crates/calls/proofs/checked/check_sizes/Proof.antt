@@ -26,18 +26,34 @@ all-whole-requires c κs = search needs
 
 returns-3 : tie.Need-returns-3
 unfolding sizesRefusal
-returns-3 c = next (passes 1 (c .before .before .before .before .before .sides-fit .ensures) (c .before .before .before .before .if1 .left)) (next (passes 2 (c .before .before .before .cells-fit .ensures) (c .before .before .if2 .left)) (here _ (refuses 3 (c .before .all-whole .ensures) (c .if3 .taken))))
+returns-3 c =
+    let at-all-whole = c .before in
+    let at-if1 = at-all-whole .before .before .before in
+    let at-sides-fit = at-if1 .before in
+    next (passes 1 (at-sides-fit .sides-fit .ensures) (at-if1 .if1 .left)) (next (passes 2 (c .before .before .before .cells-fit .ensures) (c .before .before .if2 .left)) (here _ (refuses 3 (at-all-whole .all-whole .ensures) (c .if3 .taken))))
 
 pass-fits-requires : tie.Need-pass-fits-requires
 pass-fits-requires c κs = search needs
 
 returns-4 : tie.Need-returns-4
 unfolding sizesRefusal
-returns-4 c = next (passes 1 (c .before .before .before .before .before .before .before .sides-fit .ensures) (c .before .before .before .before .before .before .if1 .left)) (next (passes 2 (c .before .before .before .before .before .cells-fit .ensures) (c .before .before .before .before .if2 .left)) (next (passes 3 (c .before .before .before .all-whole .ensures) (c .before .before .if3 .left)) (sym (refuses 4 (c .before .pass-fits .ensures) (c .if4 .taken)))))
+returns-4 c =
+    let at-pass-fits = c .before in
+    let at-if2 = at-pass-fits .before .before .before in
+    let at-cells-fit = at-if2 .before in
+    let at-if1 = at-cells-fit .before in
+    let at-sides-fit = at-if1 .before in
+    next (passes 1 (at-sides-fit .sides-fit .ensures) (at-if1 .if1 .left)) (next (passes 2 (at-cells-fit .cells-fit .ensures) (at-if2 .if2 .left)) (next (passes 3 (c .before .before .before .all-whole .ensures) (c .before .before .if3 .left)) (sym (refuses 4 (at-pass-fits .pass-fits .ensures) (c .if4 .taken)))))
 
 returns-5 : tie.Need-returns-5
 unfolding sizesRefusal
-returns-5 c = next (passes 1 (c .before .before .before .before .before .before .before .sides-fit .ensures) (c .before .before .before .before .before .before .if1 .left)) (next (passes 2 (c .before .before .before .before .before .cells-fit .ensures) (c .before .before .before .before .if2 .left)) (next (passes 3 (c .before .before .before .all-whole .ensures) (c .before .before .if3 .left)) (sym (passes 4 (c .before .pass-fits .ensures) (c .if4 .left)))))
+returns-5 c =
+    let at-pass-fits = c .before in
+    let at-if2 = at-pass-fits .before .before .before in
+    let at-cells-fit = at-if2 .before in
+    let at-if1 = at-cells-fit .before in
+    let at-sides-fit = at-if1 .before in
+    next (passes 1 (at-sides-fit .sides-fit .ensures) (at-if1 .if1 .left)) (next (passes 2 (at-cells-fit .cells-fit .ensures) (at-if2 .if2 .left)) (next (passes 3 (c .before .before .before .all-whole .ensures) (c .before .before .if3 .left)) (sym (passes 4 (at-pass-fits .pass-fits .ensures) (c .if4 .left)))))
 
 pub check-sizes-spec : {M : Type 1} → statement M
 check-sizes-spec =

@@ -48,7 +48,11 @@ enum-known-number-2 c = search needs
 
 returns-2 : tie.Need-returns-2
 unfolding earlyRefusal
-returns-2 c = next (says (c .before .before .before .before .before .before .check-sizes .ensures) (c .before .before .before .before .enum-told .given .1)) (here _ (says (c .before .before .before .check-entries .ensures) (c .before .number2 .given .1)))
+returns-2 c =
+    let at-number2 = c .before in
+    let at-enum-told = at-number2 .before .before .before in
+    let at-check-sizes = at-enum-told .before .before in
+    next (says (at-check-sizes .check-sizes .ensures) (at-enum-told .enum-told .given .1)) (here _ (says (c .before .before .before .check-entries .ensures) (at-number2 .number2 .given .1)))
 
 enum-told-2 : tie.Need-enum-told-2
 enum-told-2 c = search needs
@@ -59,11 +63,16 @@ check-room-requires c κs = search needs
 returns-3 : tie.Need-returns-3
 unfolding earlyRefusal
 returns-3 c =
-    let a = c .before .before .before .before .before .before .before .before .before .before .before .args in
-    next (says (c .before .before .before .before .before .before .check-sizes .ensures) (c .before .before .before .before .enum-told .given .1))
-    (next (says (c .before .before .before .check-entries .ensures) (c .before .enum-told2 .given .1))
+    let at-check-entries = c .before .before .before in
+    let at-enum-told = at-check-entries .before in
+    let at-check-sizes = at-enum-told .before .before in
+    let at-shared-slice-known3 = at-check-sizes .before .before in
+    let entry = at-shared-slice-known3 .before .before .before in
+    let a = entry .args in
+    next (says (at-check-sizes .check-sizes .ensures) (at-enum-told .enum-told .given .1))
+    (next (says (at-check-entries .check-entries .ensures) (c .before .enum-told2 .given .1))
     (room-counted (a .pass) (a .width) (a .height) (now (a .cells)) (now (a .spans)) (now (a .boundaries)) (now (a .anchors)) (a .labels) (a .masks) (a .queue) (a .tallies) (a .output)
-    (says (c .before .before .before .before .before .before .check-sizes .ensures) (c .before .before .before .before .enum-told .given .1)) (c .check-room .ensures)))
+    (says (at-check-sizes .check-sizes .ensures) (at-enum-told .enum-told .given .1)) (c .check-room .ensures)))
 
 pub checks-before-spec : {M : Type 1} → statement M
 checks-before-spec =

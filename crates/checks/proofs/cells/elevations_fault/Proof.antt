@@ -35,9 +35,11 @@ elevation-fits-requires c κs = search needs
 returns : tie.Need-returns Inv-loop μ-loop
 unfolding elevationsFault
 returns c =
-    let l = c .before .before .before .before in
-    let cells = now (l .before .before .args .cells) in
-    sym (first-faulty (fits cells) (length cells) (l .loop .i) (search needs) (l .loop .inv .1) (c .before .elevation-fits .ensures) (c .if1 .taken))
+    let at-elevation-fits = c .before in
+    let at-loop = at-elevation-fits .before .before .before in
+    let entry = at-loop .before .before in
+    let cells = now (entry .args .cells) in
+    sym (first-faulty (fits cells) (length cells) (at-loop .loop .i) (search needs) (at-loop .loop .inv .1) (at-elevation-fits .elevation-fits .ensures) (c .if1 .taken))
 
 add-i : tie.Need-add-i Inv-loop μ-loop
 add-i c = search needs
@@ -47,8 +49,10 @@ loop-less c = search needs
 
 loop-again : tie.Need-loop-again Inv-loop μ-loop
 loop-again c =
-    let l = c .before .before .before .before in
-    (search needs, none-faulty-more (fits (now (l .before .before .args .cells))) (l .loop .i) (l .loop .inv .1) (c .before .elevation-fits .ensures) (c .if1 .left))
+    let at-elevation-fits = c .before in
+    let at-loop = at-elevation-fits .before .before .before in
+    let entry = at-loop .before .before in
+    (search needs, none-faulty-more (fits (now (entry .args .cells))) (at-loop .loop .i) (at-loop .loop .inv .1) (at-elevation-fits .elevation-fits .ensures) (c .if1 .left))
 
 returns-2 : tie.Need-returns-2 Inv-loop μ-loop
 unfolding elevationsFault

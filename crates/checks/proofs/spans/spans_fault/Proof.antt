@@ -76,14 +76,18 @@ endpoints-differ-requires c κs = search needs
 returns : tie.Need-returns Inv-loop μ-loop
 unfolding spansRefusal
 returns c =
-    let l = c .before .before .before .before in
-    sym (first-found (at (l .before)) (count (l .before)) (l .loop .i) (refusal 5 (l .loop .i)) (search needs) (l .loop .inv .1) (is-outside (c .before) (c .if1 .taken)))
+    let at-endpoints-differ = c .before in
+    let at-loop = at-endpoints-differ .before .before .before in
+    let at-shared-slice-known = at-loop .before in
+    sym (first-found (at at-shared-slice-known) (count at-shared-slice-known) (at-loop .loop .i) (refusal 5 (at-loop .loop .i)) (search needs) (at-loop .loop .inv .1) (is-outside at-endpoints-differ (c .if1 .taken)))
 
 returns-2 : tie.Need-returns-2 Inv-loop μ-loop
 unfolding spansRefusal
 returns-2 c =
-    let l = c .before .before .before .before .before in
-    sym (first-found (at (l .before)) (count (l .before)) (l .loop .i) (refusal 6 (l .loop .i)) (search needs) (l .loop .inv .1) (is-inside (c .before .before) (c .before .if1 .left) (c .if2 .taken)))
+    let at-endpoints-differ = c .before .before in
+    let at-loop = at-endpoints-differ .before .before .before in
+    let at-shared-slice-known = at-loop .before in
+    sym (first-found (at at-shared-slice-known) (count at-shared-slice-known) (at-loop .loop .i) (refusal 6 (at-loop .loop .i)) (search needs) (at-loop .loop .inv .1) (is-inside at-endpoints-differ (c .before .if1 .left) (c .if2 .taken)))
 
 add-i : tie.Need-add-i Inv-loop μ-loop
 add-i c = search needs
@@ -93,8 +97,10 @@ loop-less c = search needs
 
 loop-again : tie.Need-loop-again Inv-loop μ-loop
 loop-again c =
-    let l = c .before .before .before .before .before in
-    (search needs, none-below-more (at (l .before)) (l .loop .i) (l .loop .inv .1) (is-inside (c .before .before) (c .before .if1 .left) (c .if2 .left)))
+    let at-endpoints-differ = c .before .before in
+    let at-loop = at-endpoints-differ .before .before .before in
+    let at-shared-slice-known = at-loop .before in
+    (search needs, none-below-more (at at-shared-slice-known) (at-loop .loop .i) (at-loop .loop .inv .1) (is-inside at-endpoints-differ (c .before .if1 .left) (c .if2 .left)))
 
 returns-3 : tie.Need-returns-3 Inv-loop μ-loop
 unfolding spansRefusal

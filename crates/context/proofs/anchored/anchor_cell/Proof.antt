@@ -35,13 +35,22 @@ index-of-requires-2 : tie.Need-index-of-requires-2
 index-of-requires-2 c κs = search needs
 
 mul-result : tie.Need-mul-result
-mul-result c = omega (arith, row-small _ (c .index-of2 .ensures) (c .before .before .before .before .before .pre .1 .1) (c .before .before .before .before .before .pre .0 .0))
+mul-result c =
+    let at-index-of = c .before .before in
+    let entry = at-index-of .before .before .before in
+    omega (arith, row-small _ (c .index-of2 .ensures) (entry .pre .1 .1) (entry .pre .0 .0))
 
 add-result : tie.Need-add-result
-add-result c = omega (arith, row-small _ (c .index-of2 .ensures) (c .before .before .before .before .before .pre .1 .1) (c .before .before .before .before .before .pre .0 .0), c .before .before .index-of .ensures, c .before .before .before .before .before .pre .1 .0)
+add-result c =
+    let at-index-of = c .before .before in
+    let entry = at-index-of .before .before .before in
+    omega (arith, row-small _ (c .index-of2 .ensures) (entry .pre .1 .1) (entry .pre .0 .0), at-index-of .index-of .ensures, entry .pre .1 .0)
 
 returns : tie.Need-returns
-returns c = ap₂ (λ y x. y * c .before .before .before .before .before .args .width + x) (c .index-of2 .ensures) (c .before .before .index-of .ensures)
+returns c =
+    let at-index-of = c .before .before in
+    let entry = at-index-of .before .before .before in
+    ap₂ (λ y x. y * entry .args .width + x) (c .index-of2 .ensures) (at-index-of .index-of .ensures)
 
 pub anchor-cell-spec : {M : Type 1} → statement M
 anchor-cell-spec =

@@ -24,7 +24,8 @@ same-length c = search needs
 
 returns : tie.Need-returns
 returns c =
-    let start = c .before .before .before .before .before .before in
+    let at-count-regions-arg = c .before .before .before in
+    let start = at-count-regions-arg .before .before .before in
     let counted = c .before .before .count-regions .ensures in (
       (λ C e r P. whole-shown (start .args .pairs .now) (start .args .starts .now) (start .args .count) (start .args .regions) (start .args .counts .now) (start .pre .1 .0) counted C e r P (start .pre .1 .1)),
       whole-beyond (start .args .pairs .now) (start .args .starts .now) (start .args .count) (start .args .regions) (start .args .counts .now) (start .pre .1 .0) counted,

@@ -38,8 +38,11 @@ shared-slice-read-count-region-2 c = search needs
 
 count-region-requires-2 : tie.Need-count-region-requires-2
 count-region-requires-2 c κs =
-    let start = c .before .before .before .before .before .before .before .before .before in
-    let done = c .before .before .before .before .count-region in
+    let at-counts = c .before .before .before in
+    let at-count-region = at-counts .before in
+    let at-count-region-arg = at-count-region .before .before in
+    let start = at-count-region-arg .before .before .before in
+    let done = at-count-region .count-region in
     let few = start .pre .1 .0 in (
       (
         start .pre .0 .hi-pos,
@@ -55,9 +58,13 @@ same-length c = search needs
 returns : tie.Need-returns
 unfolding countPair
 returns c =
-    let start = c .before .before .before .before .before .before .before .before .before .before .before .before in
+    let at-counts2 = c .before in
+    let at-count-region-arg2 = at-counts2 .before .before .before in
+    let at-count-region = at-count-region-arg2 .before .before .before in
+    let at-count-region-arg = at-count-region .before .before in
+    let start = at-count-region-arg .before .before .before in
     c .before .before .count-region2 .ensures
-    ∙ ap (λ l. countRegion (start .args .span) l (getD (start .args .pairs .now) (numbersPerPair * start .args .k + 2) 0)) (c .before .before .before .before .before .before .before .count-region .ensures)
+    ∙ ap (λ l. countRegion (start .args .span) l (getD (start .args .pairs .now) (numbersPerPair * start .args .k + 2) 0)) (at-count-region .count-region .ensures)
 
 pub count-pair-spec : {M : Type 1} → statement M
 count-pair-spec =

@@ -16,7 +16,10 @@ same-length : tie.Need-same-length
 same-length c = search needs
 
 returns : tie.Need-returns
-returns c = c .before .before .unpack .ensures ∙ ap (map unpacked) (c .before .before .before .before .before .before .count-spans .ensures)
+returns c =
+    let at-unpack-arg = c .before .before .before in
+    let at-count-spans = at-unpack-arg .before .before .before in
+    c .before .before .unpack .ensures ∙ ap (map unpacked) (at-count-spans .count-spans .ensures)
 
 pub count-regions-spec : {M : Type 1} → statement M
 count-regions-spec = tie.close (tie.spec count-spans-requires unpack-requires same-length returns)

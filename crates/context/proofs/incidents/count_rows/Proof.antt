@@ -21,8 +21,9 @@ loop-holds c = (search needs, search needs, rows-none _ _ _ _)
 
 count-pair-requires : tie.Need-count-pair-requires Inv-loop μ-loop
 count-pair-requires c κs =
-    let start = c .before .before .before .before .before in
-    let at = c .before .before .loop in
+    let at-loop = c .before .before in
+    let start = at-loop .before .before .before in
+    let at = at-loop .loop in
     let few = start .pre .1 .1 .0 in
     let named = start .pre .1 .0 (at .k) (at .inv .0) (c .before .loop-test .taken) in (
       subst (λ n. NamedRow (start .args .pairs .now) n (at .k)) (sym (rows-length _ _ _ _ (at .k) (at .inv .2))) named,
@@ -37,16 +38,19 @@ loop-less c = search needs
 
 loop-again : tie.Need-loop-again Inv-loop μ-loop
 loop-again c =
-    let at = c .before .before .before .before .before .loop in
-    (search needs, search needs, rows-more _ _ _ _ (at .k) (at .inv .0) (at .inv .2) (c .before .before .count-pair .ensures))
+    let at-count-pair = c .before .before in
+    let at-loop = at-count-pair .before .before .before in
+    let at = at-loop .loop in
+    (search needs, search needs, rows-more _ _ _ _ (at .k) (at .inv .0) (at .inv .2) (at-count-pair .count-pair .ensures))
 
 same-length : tie.Need-same-length Inv-loop μ-loop
 same-length c = rows-length _ _ _ _ (c .before .loop .k) (c .before .loop .inv .2)
 
 returns : tie.Need-returns Inv-loop μ-loop
 returns c =
-    let at = c .before .loop in
-    let start = c .before .before .before .before in
+    let at-loop = c .before in
+    let start = at-loop .before .before .before in
+    let at = at-loop .loop in
     let done : at .k ≡ start .args .end = omega (arith, at .inv .1, c .loop-test .left) in
     at .inv .2 ∙ ap (λ k. countPairs (start .args .span) (start .args .counts .now) (pairsBetween (start .args .pairs .now) (start .args .first) k)) done
 

@@ -40,8 +40,10 @@ cast-count-rows c = search needs
 
 count-rows-requires : tie.Need-count-rows-requires Inv-loop μ-loop
 count-rows-requires c κs =
-    let start = c .before .before .before .before .before .before .before in
-    let at = c .before .before .before .before .loop in
+    let at-end = c .before in
+    let at-loop = at-end .before .before .before in
+    let start = at-loop .before .before .before in
+    let at = at-loop .loop in
     let rows = start .pre .0 in
     let l = c .before .before .before .loop-test .taken in
     let same = ap length (at .inv .1) ∙ spans-length _ (at .i) _ in (
@@ -59,15 +61,20 @@ loop-less : tie.Need-loop-less Inv-loop μ-loop
 loop-less c = search needs
 
 loop-again : tie.Need-loop-again Inv-loop μ-loop
-loop-again c = (search needs, spans-more _ _ _ (c .before .before .before .before .before .before .before .loop .inv .1) (c .before .before .count-rows .ensures))
+loop-again c =
+    let at-counts = c .before in
+    let at-end = at-counts .before .before .before in
+    let at-loop = at-end .before .before .before in
+    (search needs, spans-more _ _ _ (at-loop .loop .inv .1) (c .before .before .count-rows .ensures))
 
 same-length : tie.Need-same-length Inv-loop μ-loop
 same-length c = ap length (c .before .loop .inv .1) ∙ spans-length _ (c .before .loop .i) _
 
 returns : tie.Need-returns Inv-loop μ-loop
 returns c =
-    let start = c .before .before .before .before in
-    let at = c .before .loop in
+    let at-loop = c .before in
+    let start = at-loop .before .before .before in
+    let at = at-loop .loop in
     let done : at .i ≡ start .args .count = omega (arith, at .inv .0, c .loop-test .left) in
     at .inv .1 ∙ ap (λ n. countSpans (spanPairs (start .args .pairs .now) (start .args .starts .now)) n (start .args .counts .now)) done
 

@@ -42,13 +42,15 @@ names-region-requires c κs = search needs
 
 returns : tie.Need-returns Inv-loop μ-loop
 returns c =
-    let start = c .before .before .before .before .before .before .before in
+    let at-names-region = c .before in
+    let at-end = at-names-region .before .before .before in
+    let start = at-end .before .before .before in
     let at = c .before .before .before .loop in
     λ C P l.
     sym
     (incident-is P (start .args .i) (start .args .r) l
     ∙ between-any (contains (start .args .r)) (start .args .pairs .now) _ (at .k) _ (at .inv .0) (c .before .before .loop-test .taken)
-    (sym (c .before .names-region .ensures) ∙ c .if1 .taken))
+    (sym (at-names-region .names-region .ensures) ∙ c .if1 .taken))
 
 add-k : tie.Need-add-k Inv-loop μ-loop
 add-k c = search needs
@@ -58,16 +60,19 @@ loop-less c = search needs
 
 loop-again : tie.Need-loop-again Inv-loop μ-loop
 loop-again c =
-    let start = c .before .before .before .before .before .before .before in
+    let at-names-region = c .before in
+    let at-end = at-names-region .before .before .before in
+    let start = at-end .before .before .before in
     let at = c .before .before .before .loop in (
       search needs,
       search needs,
-      none-more (contains (start .args .r)) (start .args .pairs .now) _ (at .k) (at .inv .0) (at .inv .2) (sym (c .before .names-region .ensures) ∙ c .if1 .left),
+      none-more (contains (start .args .r)) (start .args .pairs .now) _ (at .k) (at .inv .0) (at .inv .2) (sym (at-names-region .names-region .ensures) ∙ c .if1 .left),
     )
 
 returns-2 : tie.Need-returns-2 Inv-loop μ-loop
 returns-2 c =
-    let start = c .before .before .before .before .before in
+    let at-end = c .before .before in
+    let start = at-end .before .before .before in
     let at = c .before .loop in
     λ C P l.
     let done : getD (start .args .starts .now) (start .args .i + 1) 0 ≡ at .k = omega (arith, at .inv .1, c .loop-test .left) in

@@ -23,7 +23,10 @@ loop-holds : tie.Need-loop-holds Inv-loop μ-loop
 loop-holds c = (search needs, c .before .before .pre .1 .0 .0, c .before .before .pre .1 .0 .1, λ C e T P j h. absurd (omega arith))
 
 full-pair-requires : tie.Need-full-pair-requires Inv-loop μ-loop
-full-pair-requires c κs = (search needs, c .before .before .before .before .pre .1 .1 (c .before .loop .i) (search needs))
+full-pair-requires c κs =
+    let at-loop = c .before in
+    let entry = at-loop .before .before .before in
+    (search needs, entry .pre .1 .1 (at-loop .loop .i) (search needs))
 
 smaller-of-requires : tie.Need-smaller-of-requires Inv-loop μ-loop
 smaller-of-requires c κs = search needs
@@ -51,7 +54,9 @@ loop-less c = search needs
 
 loop-again : tie.Need-loop-again Inv-loop μ-loop
 loop-again c =
-    let at = c .before .before .before .before .loop in
+    let at-smaller-of = c .before in
+    let at-loop = at-smaller-of .before .before .before in
+    let at = at-loop .loop in
     let inv = at .inv in (
       search needs,
       simp length-set (inv .1),
@@ -60,9 +65,9 @@ loop-again c =
           let l : at .i < C .count = omega (arith, e, c .before .before .before .loop-test .taken) in
           let m : at .i < length (at .smaller) = omega (arith, inv .1, e, T .few) in
           let n : at .i < length (at .larger) = omega (arith, inv .2, e, T .few) in
-          stored-more C (at .smaller) (at .larger) (at .i) (c .before .smaller-of .result) (c .larger-of .result) m n (inv .3 C e T P)
+          stored-more C (at .smaller) (at .larger) (at .i) (at-smaller-of .smaller-of .result) (c .larger-of .result) m n (inv .3 C e T P)
           (pair-stored C P l (c .before .before .full-pair .result) (c .before .before .full-pair .ensures C T P l)
-          ∙ ap₂ optionalPair (sym (c .before .smaller-of .ensures)) (sym (c .larger-of .ensures))),
+          ∙ ap₂ optionalPair (sym (at-smaller-of .smaller-of .ensures)) (sym (c .larger-of .ensures))),
     )
 
 returns : tie.Need-returns Inv-loop μ-loop

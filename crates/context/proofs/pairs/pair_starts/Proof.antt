@@ -40,14 +40,16 @@ loop-less c = search needs
 
 loop-again : tie.Need-loop-again Inv-loop μ-loop
 loop-again c =
+    let turn = c .before in
+    let entry = turn .before .before .before in
     let at = c .before .before .loop in
     let inv = at .inv in (
       search needs,
       c .span-end .ensures .upto,
       simp length-set (inv .2),
       λ C R. (
-        next-is R (at .s) (at .k) (c .span-end .result) (c .before .loop-test .taken) (inv .3 C R .0) (c .span-end .ensures),
-        starts-more C (at .starts) (at .s) (at .k) (omega (arith, inv .2, c .before .before .before .before .pre .1 .0)) (inv .3 C R .0) (inv .3 C R .1),
+        next-is R (at .s) (at .k) (c .span-end .result) (turn .loop-test .taken) (inv .3 C R .0) (c .span-end .ensures),
+        starts-more C (at .starts) (at .s) (at .k) (omega (arith, inv .2, entry .pre .1 .0)) (inv .3 C R .0) (inv .3 C R .1),
       ),
     )
 

@@ -40,7 +40,10 @@ loop-less : tie.Need-loop-less Inv-loop μ-loop
 loop-less c = search needs
 
 loop-again : tie.Need-loop-again Inv-loop μ-loop
-loop-again c = (search needs, search needs, from-more _ _ _ (c .before .before .before .before .loop .inv .2) (search needs))
+loop-again c =
+    let at-wide = c .before in
+    let at-loop = at-wide .before .before .before in
+    (search needs, search needs, from-more _ _ _ (at-loop .loop .inv .2) (search needs))
 
 returns-2 : tie.Need-returns-2 Inv-loop μ-loop
 returns-2 c = search needs

@@ -61,12 +61,16 @@ one-at-requires-4 : tie.Need-one-at-requires-4
 one-at-requires-4 c κs = search needs
 
 add-t23 : tie.Need-add-t23
-add-t23 c = omega (arith, c .before .before .before .before .pre .0 3, c .one-at4 .ensures .1)
+add-t23 c =
+    let at-one-at3 = c .before in
+    let entry = at-one-at3 .before .before .before in
+    omega (arith, entry .pre .0 3, c .one-at4 .ensures .1)
 
 returns : tie.Need-returns
 returns c =
-    let start = c .before .before .before .before in
-    more-four (start .args .t1) (start .args .e) (start .good .0 .1 .0 .1) (start .pre .1) (c .before .before .before .one-at .ensures .0) (c .before .before .one-at2 .ensures .0) (c .before .one-at3 .ensures .0) (c .one-at4 .ensures .0)
+    let at-one-at3 = c .before in
+    let start = at-one-at3 .before .before .before in
+    more-four (start .args .t1) (start .args .e) (start .good .0 .1 .0 .1) (start .pre .1) (c .before .before .before .one-at .ensures .0) (c .before .before .one-at2 .ensures .0) (at-one-at3 .one-at3 .ensures .0) (c .one-at4 .ensures .0)
 
 pub one-more-spec : {M : Type 1} → statement M
 one-more-spec =

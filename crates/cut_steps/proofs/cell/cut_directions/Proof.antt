@@ -30,8 +30,11 @@ onward-mask-requires c κs = search needs
 
 returns : tie.Need-returns
 returns c =
-    let a = entry (c .before .before .before .before .before) .args in
-    four-directions (a .width) (a .height) (a .cells .now) (segmentOf (a .g)) (a .x) (a .y) (c .before .before .before .before .is-cut-east .ensures) (c .before .before .before .is-cut-onward .ensures) (c .before .before .is-cut-onward2 .ensures) (c .before .is-cut-onward3 .ensures) (c .onward-mask .ensures)
+    let at-is-cut-onward3 = c .before in
+    let at-is-cut-east = at-is-cut-onward3 .before .before .before in
+    let at-is-inner = at-is-cut-east .before in
+    let a = entry at-is-inner .args in
+    four-directions (a .width) (a .height) (a .cells .now) (segmentOf (a .g)) (a .x) (a .y) (at-is-cut-east .is-cut-east .ensures) (c .before .before .before .is-cut-onward .ensures) (c .before .before .is-cut-onward2 .ensures) (at-is-cut-onward3 .is-cut-onward3 .ensures) (c .onward-mask .ensures)
 
 pub cut-directions-spec : {M : Type 1} → statement M
 cut-directions-spec =

@@ -54,10 +54,12 @@ cuts-requires c κs =
 
 returns-3 : tie.Need-returns-3
 returns-3 c =
-    let s = entry (c .before .before .before .before) in
+    let at-is-step = c .before .before in
+    let at-is-inside = at-is-step .before .before in
+    let s = entry at-is-inside in
     let a = s .args in
     c .cuts .ensures
-    ∙ onward-cut (gridOf (a .width) (a .height) (a .cells .now)) (segmentOf (a .g)) (at (a .x) (a .y)) (at (a .dx) (a .dy)) (sym (c .before .before .is-step .ensures) ∙ not-false _ (c .before .if2 .left)) (s .pre .0 .onward)
+    ∙ onward-cut (gridOf (a .width) (a .height) (a .cells .now)) (segmentOf (a .g)) (at (a .x) (a .y)) (at (a .dx) (a .dy)) (sym (at-is-step .is-step .ensures) ∙ not-false _ (c .before .if2 .left)) (s .pre .0 .onward)
 
 pub is-cut-onward-spec : {M : Type 1} → statement M
 is-cut-onward-spec =

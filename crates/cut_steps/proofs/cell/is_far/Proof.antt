@@ -36,9 +36,10 @@ exceeds-requires-2 c κs = search needs
 
 returns : tie.Need-returns
 returns c =
-    let k = c .before .before .before .before .before in
-    let s = k .before in
-    far-span (s .pre .0) (at (s .args .x) (s .args .y)) (toZ-ofZ (record { sfits = k .side-of .ok }) ∙ k .side-of .ensures) refl refl (c .before .before .exceeds .ensures) (c .before .not-negative .ensures) (c .exceeds2 .ensures)
+    let at-exceeds = c .before .before in
+    let at-side-of = at-exceeds .before .before .before in
+    let entry = at-side-of .before in
+    far-span (entry .pre .0) (at (entry .args .x) (entry .args .y)) (toZ-ofZ (record { sfits = at-side-of .side-of .ok }) ∙ at-side-of .side-of .ensures) refl refl (at-exceeds .exceeds .ensures) (c .before .not-negative .ensures) (c .exceeds2 .ensures)
 
 pub is-far-spec : {M : Type 1} → statement M
 is-far-spec =

@@ -40,16 +40,23 @@ walks-south-requires : tie.Need-walks-south-requires
 walks-south-requires c κs = search needs
 
 returns-3 : tie.Need-returns-3
-returns-3 c = let k = c .before .before .before .before in ((λ e. walks (entry k .pre) (k .if1 .left)), λ e. absurd (true≢false e))
+returns-3 c =
+    let at-walks-south = c .before in
+    let at-if1 = at-walks-south .before .before .before in
+    ((λ e. walks (entry at-if1 .pre) (at-if1 .if1 .left)), λ e. absurd (true≢false e))
 
 is-far-eastward-requires : tie.Need-is-far-eastward-requires
-is-far-eastward-requires c κs = in-limits (entry (c .before .before .before .before) .pre)
+is-far-eastward-requires c κs =
+    let at-walks-south = c .before in
+    let at-if1 = at-walks-south .before .before .before in
+    in-limits (entry at-if1 .pre)
 
 returns-4 : tie.Need-returns-4
 returns-4 c =
-    let k = c .before .before .before .before .before in
-    let a = entry k .args in
-    ((λ e. walks (entry k .pre) (k .if1 .left)), λ e. east-directions (a .width) (a .height) (a .cells .now) (segmentOf (a .g)) (a .x) (a .y) (sym (c .before .before .walks-south .ensures) ∙ c .before .if3 .left) (c .is-far-eastward .ensures (not-false _ e)))
+    let at-walks-south = c .before .before in
+    let at-if1 = at-walks-south .before .before .before in
+    let a = entry at-if1 .args in
+    ((λ e. walks (entry at-if1 .pre) (at-if1 .if1 .left)), λ e. east-directions (a .width) (a .height) (a .cells .now) (segmentOf (a .g)) (a .x) (a .y) (sym (at-walks-south .walks-south .ensures) ∙ c .before .if3 .left) (c .is-far-eastward .ensures (not-false _ e)))
 
 pub is-near-spec : {M : Type 1} → statement M
 is-near-spec =

@@ -14,10 +14,16 @@ unfolding canonical
 by-test s e = ap (λ t. cond t (record { a = s .b; b = s .a }) s) (sym e)
 
 returns : tie.Need-returns
-returns c = by-test (segmentForm (c .before .before .before .before .args .s)) (sym (c .before .precedes .ensures) ∙ c .if1 .taken)
+returns c =
+    let at-precedes = c .before in
+    let entry = at-precedes .before .before .before in
+    by-test (segmentForm (entry .args .s)) (sym (at-precedes .precedes .ensures) ∙ c .if1 .taken)
 
 returns-2 : tie.Need-returns-2
-returns-2 c = by-test (segmentForm (c .before .before .before .before .args .s)) (sym (c .before .precedes .ensures) ∙ c .if1 .left)
+returns-2 c =
+    let at-precedes = c .before in
+    let entry = at-precedes .before .before .before in
+    by-test (segmentForm (entry .args .s)) (sym (at-precedes .precedes .ensures) ∙ c .if1 .left)
 
 pub canonical-spec : {M : Type 1} → statement M
 canonical-spec = tie.close (tie.spec precedes-requires returns returns-2)

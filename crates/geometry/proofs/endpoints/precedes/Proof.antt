@@ -54,12 +54,16 @@ by-keys s t l r d e f g =
 
 returns : tie.Need-returns
 returns c =
-    let ends = c .before .before .before .before .before .before in
-    let left = ends .before .canonical in
+    let at-struct-known3 = c .before .before in
+    let at-precedes = at-struct-known3 .before .before .before in
+    let ends = at-precedes .before in
+    let at-canonical = ends .before in
+    let entry = at-canonical .before in
+    let left = at-canonical .canonical in
     let right = ends .canonical2 in
-    let s = ends .before .before .args in
+    let s = entry .args in
     by-keys (segmentForm (s .s)) (segmentForm (s .t)) (segmentForm (left .result)) (segmentForm (right .result)) (left .ensures) (right .ensures)
-    (c .before .before .before .before .before .precedes .ensures) (c .precedes2 .ensures)
+    (at-precedes .precedes .ensures) (c .precedes2 .ensures)
 
 pub precedes-spec : {M : Type 1} → statement M
 precedes-spec =

@@ -10,8 +10,9 @@ hypot-requires c κs = tt
 
 returns : tie.Need-returns
 returns c =
-    let s = c .before .before .before .before .before in
-    λ h. c .hypot .ensures ∙ distance-value (pointForm (s .args .p)) (pointForm (s .args .q)) h
+    let at-struct-known3 = c .before .before in
+    let entry = at-struct-known3 .before .before .before in
+    λ h. c .hypot .ensures ∙ distance-value (pointForm (entry .args .p)) (pointForm (entry .args .q)) h
 
 pub distance-spec : {M : Type 1} → statement M
 distance-spec = tie.close (tie.spec hypot-requires returns)

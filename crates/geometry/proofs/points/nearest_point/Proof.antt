@@ -8,9 +8,11 @@ part-before-requires c κs = tt
 
 returns : tie.Need-returns
 returns c =
-    let part = c .before .before .before .before .before .before in
-    let a = part .before .args .a in
-    let b = part .before .args .b in
+    let at-struct-known3 = c .before .before .before in
+    let part = at-struct-known3 .before .before .before in
+    let entry = part .before in
+    let a = entry .args .a in
+    let b = entry .args .b in
     λ i.
     record {
       px = add binary64 (a .x) (mul binary64 (part .part-before .ensures i) (sub binary64 (b .x) (a .x)));

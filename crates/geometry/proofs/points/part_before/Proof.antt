@@ -18,7 +18,10 @@ returns : tie.Need-returns
 returns c = zero-is ∙ by-test _ _ (c .if1 .taken)
 
 returns-2 : tie.Need-returns-2
-returns-2 c = c .clamp01 .ensures ∙ by-test _ _ (c .before .before .before .before .before .if1 .left)
+returns-2 c =
+    let at-struct-known7 = c .before .before in
+    let at-if1 = at-struct-known7 .before .before .before in
+    c .clamp01 .ensures ∙ by-test _ _ (at-if1 .if1 .left)
 
 pub part-before-spec : {M : Type 1} → statement M
 part-before-spec = tie.close (tie.spec clamp01-requires returns returns-2)

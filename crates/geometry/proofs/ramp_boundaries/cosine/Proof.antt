@@ -22,9 +22,11 @@ fabs-requires c κs = tt
 
 returns : tie.Need-returns
 returns c =
-    let d = c .before in
-    quotient-of (add binary64) (d .before .before .before .before .args .lengths) (d .before .before .before .difference .ensures) (d .before .before .difference2 .ensures)
-    (d .before .difference3 .ensures) (d .difference4 .ensures) (c .fabs .ensures)
+    let at-difference4 = c .before in
+    let at-difference = at-difference4 .before .before .before in
+    let entry = at-difference .before in
+    quotient-of (add binary64) (entry .args .lengths) (at-difference .difference .ensures) (c .before .before .before .difference2 .ensures)
+    (c .before .before .difference3 .ensures) (at-difference4 .difference4 .ensures) (c .fabs .ensures)
 
 pub cosine-spec : {M : Type 1} → statement M
 cosine-spec =

@@ -21,9 +21,10 @@ point-segment-distance-requires c κs = tt
 
 returns : tie.Need-returns
 returns c =
-    let s = c .before .before .before .before in
-    segment-distance-at (c .before .before .before .point .ensures) (c .before .before .point2 .ensures) (c .before .point3 .ensures)
-    (point-segment-in-range _ _ _ (point-pixel (pixel (s .pre .0))) (point-pixel (pixel (s .pre .1))) (point-pixel (pixel (s .pre .2))))
+    let at-point3 = c .before in
+    let entry = at-point3 .before .before .before in
+    segment-distance-at (c .before .before .before .point .ensures) (c .before .before .point2 .ensures) (at-point3 .point3 .ensures)
+    (point-segment-in-range _ _ _ (point-pixel (pixel (entry .pre .0))) (point-pixel (pixel (entry .pre .1))) (point-pixel (pixel (entry .pre .2))))
     (c .point-segment-distance .ensures)
 
 pub endpoint-distance-spec : {M : Type 1} → statement M

@@ -66,21 +66,29 @@ module _ {y z : ℤ} (fit : mag z < 2 ^ 63) (e : z ≡ y) where
 returns : tie.Need-returns
 unfolding intersects
 returns c =
-    let sides = c .before .before .before .before .before .before .before .before in
-    let start = sides .before .before .before .before in
+    let at-signum3 = c .before in
+    let at-touches4 = at-signum3 .before .before .before in
+    let at-touches3 = at-touches4 .before in
+    let at-touches2 = at-touches3 .before in
+    let at-touches = at-touches2 .before in
+    let sides = at-touches .before in
+    let at-cross3 = sides .before in
+    let at-cross2 = at-cross3 .before in
+    let at-cross = at-cross2 .before in
+    let start = at-cross .before in
     let s = segmentForm (start .args .left) in
     let t = segmentForm (start .args .right) in
-    let first = sides .before .before .before .cross in
-    let second = sides .before .before .cross2 in
-    let third = sides .before .cross3 in
+    let first = at-cross .cross in
+    let second = at-cross2 .cross2 in
+    let third = at-cross3 .cross3 in
     let fourth = sides .cross4 in
     λ i.
-    touching (first .ok) (first .ensures) (s .a) (s .b) (t .a) (c .before .before .before .before .before .before .before .touches .ensures) i
-    || touching (second .ok) (second .ensures) (s .a) (s .b) (t .b) (c .before .before .before .before .before .before .touches2 .ensures) i
-    || touching (third .ok) (third .ensures) (t .a) (t .b) (s .a) (c .before .before .before .before .before .touches3 .ensures) i
-    || touching (fourth .ok) (fourth .ensures) (t .a) (t .b) (s .b) (c .before .before .before .before .touches4 .ensures) i
+    touching (first .ok) (first .ensures) (s .a) (s .b) (t .a) (at-touches .touches .ensures) i
+    || touching (second .ok) (second .ensures) (s .a) (s .b) (t .b) (at-touches2 .touches2 .ensures) i
+    || touching (third .ok) (third .ensures) (t .a) (t .b) (s .a) (at-touches3 .touches3 .ensures) i
+    || touching (fourth .ok) (fourth .ensures) (t .a) (t .b) (s .b) (at-touches4 .touches4 .ensures) i
     || not (eqb (sign (first .ok) (first .ensures) (c .before .before .before .signum .ensures) i) (sign (second .ok) (second .ensures) (c .before .before .signum2 .ensures) i))
-    && not (eqb (sign (third .ok) (third .ensures) (c .before .signum3 .ensures) i) (sign (fourth .ok) (fourth .ensures) (c .signum4 .ensures) i))
+    && not (eqb (sign (third .ok) (third .ensures) (at-signum3 .signum3 .ensures) i) (sign (fourth .ok) (fourth .ensures) (c .signum4 .ensures) i))
 
 pub intersects-spec : {M : Type 1} → statement M
 intersects-spec =

@@ -78,23 +78,32 @@ returns-2 c =
     answer (e .before .before) (near-starts e) (sym (c .if2 .taken) ∙ (λ i. lt (max-representative-offset-is i) (c .before .offset2 .ensures i))) refl refl
 
 length-requires : tie.Need-length-requires
-length-requires c κs = s-in (c .before .before .before .before)
+length-requires c κs =
+    let at-offset2 = c .before in
+    let at-canonical2 = at-offset2 .before .before .before in
+    s-in at-canonical2
 
 length-requires-2 : tie.Need-length-requires-2
-length-requires-2 c κs = t-in (c .before .before .before .before .before)
+length-requires-2 c κs =
+    let at-offset2 = c .before .before in
+    let at-canonical2 = at-offset2 .before .before .before in
+    t-in at-canonical2
 
 cosine-requires : tie.Need-cosine-requires
 cosine-requires c κs =
-    let d = c .before .before .before .before .before .before in
-    (s-in d, t-in d)
+    let at-offset2 = c .before .before .before in
+    let at-canonical2 = at-offset2 .before .before .before in
+    (s-in at-canonical2, t-in at-canonical2)
 
 returns-3 : tie.Need-returns-3
 returns-3 c =
-    let e = c .before .before .before in
-    let d = e .before .before .before .before in
-    let product : mul binary64 (c .before .before .length .result) (c .before .length2 .result) ≡ lengths (S d) (T d) = λ i. mul binary64 (c .before .before .length .ensures i) (c .before .length2 .ensures i) in
-    answer d (near-starts (e .before .before)) (sym (e .if2 .left) ∙ (λ i. lt (max-representative-offset-is i) (e .before .offset2 .ensures i))) (λ i. lt (zero-is i) (product i))
-    ((λ i. le (min-parallel-cosine-is i) (c .cosine .ensures i)) ∙ (λ i. le minParallelCosine (div binary64 (fabs (dotOf (S d) (T d))) (product i))))
+    let at-length2 = c .before in
+    let at-offset2 = at-length2 .before .before .before in
+    let at-if1 = at-offset2 .before in
+    let at-canonical2 = at-if1 .before .before in
+    let product : mul binary64 (c .before .before .length .result) (at-length2 .length2 .result) ≡ lengths (S at-canonical2) (T at-canonical2) = λ i. mul binary64 (c .before .before .length .ensures i) (at-length2 .length2 .ensures i) in
+    answer at-canonical2 (near-starts at-if1) (sym (c .before .before .before .if2 .left) ∙ (λ i. lt (max-representative-offset-is i) (at-offset2 .offset2 .ensures i))) (λ i. lt (zero-is i) (product i))
+    ((λ i. le (min-parallel-cosine-is i) (c .cosine .ensures i)) ∙ (λ i. le minParallelCosine (div binary64 (fabs (dotOf (S at-canonical2) (T at-canonical2))) (product i))))
 
 pub is-nearby-parallel-representative-spec : {M : Type 1} → statement M
 is-nearby-parallel-representative-spec =

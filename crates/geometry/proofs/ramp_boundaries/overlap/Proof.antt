@@ -43,9 +43,13 @@ by-parts n {first} {second} {a} {b} {least} {greatest} {upper} {lower} da db dl 
 
 returns : tie.Need-returns
 returns c =
-    let m = c .before .before .before .before in
-    by-parts (m .before .before .before .args .ramp-length) (m .before .before .project .ensures) (m .before .project2 .ensures) (m .fmin .ensures) (c .before .before .before .fmax .ensures)
-    (c .before .before .fmin2 .ensures) (c .before .fmax2 .ensures) (c .fmax3 .ensures)
+    let at-fmax2 = c .before in
+    let at-fmin = at-fmax2 .before .before .before in
+    let at-project2 = at-fmin .before in
+    let at-project = at-project2 .before in
+    let entry = at-project .before in
+    by-parts (entry .args .ramp-length) (at-project .project .ensures) (at-project2 .project2 .ensures) (at-fmin .fmin .ensures) (c .before .before .before .fmax .ensures)
+    (c .before .before .fmin2 .ensures) (at-fmax2 .fmax2 .ensures) (c .fmax3 .ensures)
 
 pub overlap-spec : {M : Type 1} → statement M
 overlap-spec =

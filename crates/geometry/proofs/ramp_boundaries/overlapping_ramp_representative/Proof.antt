@@ -72,23 +72,40 @@ long-ramp c = sym (c .if1 .left) ∙ (λ i. eq (c .before .before .length .ensur
 
 returns-2 : tie.Need-returns-2
 returns-2 c =
-    answer (c .before .before .before .before) (long-ramp (c .before)) (sym (c .if2 .taken) ∙ (λ i. eq (c .before .before .length2 .ensures i) (zero-is i))) refl refl refl
+    let at-length = c .before .before .before in
+    let at-canonical2 = at-length .before in
+    answer at-canonical2 (long-ramp (c .before)) (sym (c .if2 .taken) ∙ (λ i. eq (c .before .before .length2 .ensures i) (zero-is i))) refl refl refl
 
-long-candidate : (c : tie.Else2) → false ≡ isPoint (S (c .before .before .before .before))
+-- the state at `canonical2`, from the state at `if2`
+abbrev to-canonical2 : tie.Else2 → tie.After-canonical2
+to-canonical2 c =
+    let at-length = c .before .before .before in
+    at-length .before
+
+long-candidate : (c : tie.Else2) → false ≡ isPoint (S (to-canonical2 c))
 long-candidate c = sym (c .if2 .left) ∙ (λ i. eq (c .before .before .length2 .ensures i) (zero-is i))
 
 cosine-requires : tie.Need-cosine-requires
 cosine-requires c κs =
-    let d = c .before .before .before .before in
-    (t-in d, s-in d)
+    let at-length = c .before .before .before in
+    let at-canonical2 = at-length .before in
+    (t-in at-canonical2, s-in at-canonical2)
+
+-- the state at `length`, from the state at `cosine`
+abbrev to-length : tie.After-cosine → tie.After-length
+to-length c =
+    let at-length2 = c .before .before .before in
+    at-length2 .before
 
 -- the third test, and the two lengths
 module _ (c : tie.After-cosine) where
   abbrev ends : tie.After-canonical2
-  ends = c .before .before .before .before .before
+  ends =
+      let at-length2 = c .before .before .before in
+      at-length2 .before .before
 
-  ramp-length-is : c .before .before .before .before .length .result ≡ lengthOf (T ends)
-  ramp-length-is = c .before .before .before .before .length .ensures
+  ramp-length-is : to-length c .length .result ≡ lengthOf (T ends)
+  ramp-length-is = to-length c .length .ensures
 
   candidate-length-is : c .before .before .before .length2 .result ≡ lengthOf (S ends)
   candidate-length-is = c .before .before .before .length2 .ensures

@@ -18,10 +18,12 @@ difference-requires-4 c κs = search needs
 
 returns : tie.Need-returns
 returns c =
+    let at-difference3 = c .before in
+    let entry = at-difference3 .before .before .before in
     λ i.
     div binary64
-    (add binary64 (mul binary64 (c .before .before .before .difference .ensures i) (c .before .before .difference2 .ensures i)) (mul binary64 (c .before .difference3 .ensures i) (c .difference4 .ensures i)))
-    (c .before .before .before .before .args .ramp-length)
+    (add binary64 (mul binary64 (c .before .before .before .difference .ensures i) (c .before .before .difference2 .ensures i)) (mul binary64 (at-difference3 .difference3 .ensures i) (c .difference4 .ensures i)))
+    (entry .args .ramp-length)
 
 pub project-spec : {M : Type 1} → statement M
 project-spec =

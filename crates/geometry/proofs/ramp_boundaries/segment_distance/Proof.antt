@@ -65,12 +65,17 @@ fmin-requires-3 c κs = tt
 
 returns-2 : tie.Need-returns-2
 returns-2 c =
-    let first = c .before .before .before .before .before .before in
+    let at-fmin2 = c .before in
+    let at-endpoint-distance3 = at-fmin2 .before .before .before in
+    let at-endpoint-distance2 = at-endpoint-distance3 .before in
+    let first = at-endpoint-distance2 .before in
     let test = first .before in
-    let start = test .before .before .args in
-    least (first .endpoint-distance .ensures) (c .before .before .before .before .before .endpoint-distance2 .ensures) (c .before .before .before .before .endpoint-distance3 .ensures)
-    (c .before .before .before .endpoint-distance4 .ensures) (c .before .before .fmin .ensures) (c .before .fmin2 .ensures) (c .fmin3 .ensures)
-    ∙ by-test (segmentForm (start .left)) (segmentForm (start .right)) (test .before .intersects .ensures) (test .if1 .left)
+    let at-intersects = test .before in
+    let entry = at-intersects .before in
+    let start = entry .args in
+    least (first .endpoint-distance .ensures) (at-endpoint-distance2 .endpoint-distance2 .ensures) (at-endpoint-distance3 .endpoint-distance3 .ensures)
+    (c .before .before .before .endpoint-distance4 .ensures) (c .before .before .fmin .ensures) (at-fmin2 .fmin2 .ensures) (c .fmin3 .ensures)
+    ∙ by-test (segmentForm (start .left)) (segmentForm (start .right)) (at-intersects .intersects .ensures) (test .if1 .left)
 
 pub segment-distance-spec : {M : Type 1} → statement M
 segment-distance-spec =

@@ -18,7 +18,9 @@ use Rattle.hypotenuse.proofs.patterns.near_pattern.Tie as tie
 
 module _ (c : tie.After-square2) where
   abbrev entry : tie.Start
-  entry = c .before .before .before .before
+  entry =
+      let at-kept = c .before in
+      at-kept .before .before .before
 
   -- the smaller square in the larger one's unit, and what is below that
   abbrev kept : ℕ
@@ -32,6 +34,12 @@ module _ (c : tie.After-square2) where
 
   sum-lt : wide (c .square2 .result) + kept < 2 ^ 110
   sum-lt = omega (arith, c .square2 .ensures .0, double-le (entry .args .x) (entry .pre .1), double-le (entry .args .y) (entry .pre .2), high-le _ _ _ _ cut-is)
+
+-- the state at `shifted`, from the state at `floor-root`
+abbrev to-shifted : tie.After-floor-root → tie.After-shifted
+to-shifted c =
+    let at-sum = c .before in
+    at-sum .before .before .before
 
 module _ (c : tie.After-floor-root) where
   abbrev k : ℕ
@@ -62,7 +70,7 @@ module _ (c : tie.After-floor-root) where
         gap-k = given .4;
         k-lt = given .5;
         shifted = cut-is (c .before .before);
-        lost-lt = c .before .before .before .before .shifted .ensures .2;
+        lost-lt = to-shifted c .shifted .ensures .2;
         sum = c .before .sum .ensures .0 ∙ ap (λ (z : ℕ). z + kept (c .before .before)) (c .before .before .square2 .ensures .0);
         root = c .floor-root .ensures .sum;
         rest-le = c .floor-root .ensures .below;

@@ -76,13 +76,14 @@ near-pattern-requires c κs =
 
 returns-3 : tie.Need-returns-3
 returns-3 c =
-    let z = c .before .before .before .before in
-    let b = z .args .larger in
-    let s = z .args .smaller in
-    let n = normal b (z .pre .0) (c .before .before .before .if1 .left) in
-    let m = normal-near b s (z .pre .1 .0) (n .0) (c .before .before .if2 .left) in
+    let at-guess = c .before in
+    let entry = at-guess .before .before .before in
+    let b = entry .args .larger in
+    let s = entry .args .smaller in
+    let n = normal b (entry .pre .0) (c .before .before .before .if1 .left) in
+    let m = normal-near b s (entry .pre .1 .0) (n .0) (c .before .before .if2 .left) in
     let x = magnitude-of b (b / 2 ^ 52 - 1) (omega arith) refl in
-    let y = magnitude-of s (b / 2 ^ 52 - 1 - (b / 2 ^ 52 - s / 2 ^ 52)) (omega arith) (omega (arith, z .pre .1 .1)) in
+    let y = magnitude-of s (b / 2 ^ 52 - 1 - (b / 2 ^ 52 - s / 2 ^ 52)) (omega arith) (omega (arith, entry .pre .1 .1)) in
     (c .near-pattern .ensures .0 ∙ (λ i. rootOf (x i * x i + y i * y i)), c .near-pattern .ensures .1)
 
 pub root-pattern-spec : {M : Type 1} → statement M

@@ -67,13 +67,16 @@ loop-less c = omega arith
 
 loop-again : tie.Need-loop-again Inv-loop μ-loop
 loop-again c =
-    let l = c .before .before .before .before .loop in
-    let F = wide (c .before .before .before .before .before .args .f) in
+    let at-less = c .before in
+    let at-loop = at-less .before .before .before in
+    let entry = at-loop .before in
+    let l = at-loop .loop in
+    let F = wide (entry .args .f) in
     let half = l .width / 2 in
     let h = halved (l .counter) (c .before .before .before .loop-test .taken) in
     let even : l .width ≡ half + half = omega arith in
     let s = c .before .before .square in
-    let t = c .before .less in
+    let t = at-less .less in
     ⊎-elim
     (λ w. let u = upper F (l .root) (l .width) half (c .if1 .root) even (l .inv .1) (omega (arith, ltb-false F (wide (s .result)) (sym (t .ensures) ∙ not-true (t .result) (w .0 .taken)), s .ensures .0)) (w .1) in (u .0, u .1, omega arith, omega arith, omega arith))
     (λ w. let u = lower F (l .root) (l .width) half (c .if1 .root) even (l .inv .0) (omega (arith, ltb-true F (wide (s .result)) (sym (t .ensures) ∙ not-false (t .result) (w .0 .left)), s .ensures .0)) (w .1) in (u .0, u .1, omega arith, omega arith, omega arith))
@@ -91,8 +94,10 @@ difference-requires c κs =
 
 returns : tie.Need-returns Inv-loop μ-loop
 returns c =
+    let at-square2 = c .before in
+    let entry = at-square2 .before .before .before in
     let l = c .before .before .before .loop in
-    let F = wide (c .before .before .before .before .args .f) in
+    let F = wide (entry .args .f) in
     let next : F < (l .root + 1) * (l .root + 1) = subst (λ (x : ℕ). F < (l .root + x) * (l .root + x)) (l .inv .2 ∙ last (l .counter) (c .before .before .loop-test .left)) (l .inv .1) in
     omega (arith, square-next (l .root))
 

@@ -21,21 +21,34 @@ wide-requires : tie.Need-wide-requires
 wide-requires c κs = search needs
 
 shared-slice-read-own : tie.Need-shared-slice-read-own
-shared-slice-read-own c = omega (arith, c .before .wide .ensures, c .before .before .before .before .before .before .before .pre .0 .below (c .before .before .before .before .before .before .before .args .p) (c .before .before .before .before .before .before .before .pre .1 .0 .1), c .before .before .before .before .before .before .before .pre .0 .reserved-long)
+shared-slice-read-own c =
+    let at-wide = c .before in
+    let at-shared-slice-known3 = at-wide .before .before .before in
+    let entry = at-shared-slice-known3 .before .before .before in
+    omega (arith, at-wide .wide .ensures, entry .pre .0 .below (entry .args .p) (entry .pre .1 .0 .1), entry .pre .0 .reserved-long)
 
 port-taken-requires : tie.Need-port-taken-requires
 port-taken-requires c κs =
-    let h = c .before .before .before .before .before .before .before .pre .0 in
-    record { whole = omega (arith, h .whole, c .before .before .before .before .before .before .before .pre .1 .0 .1); small = h .small; removed-long = h .removed-long; reserved-long = h .reserved-long; index-in = h .below (c .before .before .before .before .before .before .before .args .p) (c .before .before .before .before .before .before .before .pre .1 .0 .1) }
+    let at-wide = c .before in
+    let at-shared-slice-known3 = at-wide .before .before .before in
+    let entry = at-shared-slice-known3 .before .before .before in
+    let h = entry .pre .0 in
+    record { whole = omega (arith, h .whole, entry .pre .1 .0 .1); small = h .small; removed-long = h .removed-long; reserved-long = h .reserved-long; index-in = h .below (entry .args .p) (entry .pre .1 .0 .1) }
 
 region-taken-requires : tie.Need-region-taken-requires
-region-taken-requires c κs = ((c .before .before .before .before .before .before .before .before .pre .0 .whole, (c .before .before .before .before .before .before .before .before .pre .1 .0 .1, omega (arith, c .before .before .before .before .before .before .before .before .pre .1 .0 .0, c .before .before .before .before .before .before .before .before .pre .0 .few, c .before .before .before .before .before .before .before .before .pre .0 .room))), c .before .before .before .before .before .before .before .before .pre .1 .1)
+region-taken-requires c κs =
+    let at-wide = c .before .before in
+    let at-shared-slice-known3 = at-wide .before .before .before in
+    let entry = at-shared-slice-known3 .before .before .before in
+    ((entry .pre .0 .whole, (entry .pre .1 .0 .1, omega (arith, entry .pre .1 .0 .0, entry .pre .0 .few, entry .pre .0 .room))), entry .pre .1 .1)
 
 returns : tie.Need-returns
 returns c chosen st =
-    let s = c .before .before .before .before .before .before .before .before .before in
-    refused (s .args .smaller .now) (s .args .larger .now) (s .args .rows .now) (s .args .taken .now) (s .args .removed .now) (s .args .reserved .now) (s .args .count) (s .args .n) (s .args .t) chosen st (s .args .p) (s .pre .0 .below) (s .pre .1 .0 .1)
-    (c .before .port-taken .ensures) (ap (λ i. getD (s .args .reserved .now) i false) (c .before .before .before .wide .ensures)) (c .region-taken .ensures)
+    let at-wide = c .before .before .before in
+    let at-shared-slice-known3 = at-wide .before .before .before in
+    let entry = at-shared-slice-known3 .before .before .before in
+    refused (entry .args .smaller .now) (entry .args .larger .now) (entry .args .rows .now) (entry .args .taken .now) (entry .args .removed .now) (entry .args .reserved .now) (entry .args .count) (entry .args .n) (entry .args .t) chosen st (entry .args .p) (entry .pre .0 .below) (entry .pre .1 .0 .1)
+    (c .before .port-taken .ensures) (ap (λ i. getD (entry .args .reserved .now) i false) (at-wide .wide .ensures)) (c .region-taken .ensures)
 
 pub is-refused-spec : {M : Type 1} → statement M
 is-refused-spec =

@@ -92,8 +92,18 @@ mul-if1 c = search needs
 shared-slice-read-if1 : tie.Need-shared-slice-read-if1
 shared-slice-read-if1 c = search needs
 
+-- the function's entry, from the state at `shared-slice-known9`
+abbrev to-entry : tie.After-shared-slice-known9 → tie.Start
+to-entry c =
+    let at-shared-slice-known6 = c .before .before .before in
+    let at-shared-slice-known3 = at-shared-slice-known6 .before .before .before in
+    at-shared-slice-known3 .before .before .before
+
 returns : tie.Need-returns
-returns c = with-union-taken (rowAt (c .before .before .before .before .before .before .before .before .before .before .args .rows .now) (c .before .before .before .before .before .before .before .before .before .before .args .q)) (rowAt (c .before .before .before .before .before .before .before .before .before .before .args .rows .now) (c .before .before .before .before .before .before .before .before .before .before .args .p)) (rowAt (c .before .before .before .before .before .before .before .before .before .before .args .rows .now) (c .before .before .before .before .before .before .before .before .before .before .args .q) .kind) (rowAt (c .before .before .before .before .before .before .before .before .before .before .args .rows .now) (c .before .before .before .before .before .before .before .before .before .before .args .p) .kind) (c .if1 .taken)
+returns c =
+    let at-shared-slice-known9 = c .before in
+    let entry = to-entry at-shared-slice-known9 in
+    with-union-taken (rowAt (entry .args .rows .now) (entry .args .q)) (rowAt (entry .args .rows .now) (entry .args .p)) (rowAt (entry .args .rows .now) (entry .args .q) .kind) (rowAt (entry .args .rows .now) (entry .args .p) .kind) (c .if1 .taken)
 
 add-if2 : tie.Need-add-if2
 add-if2 c = search needs
@@ -105,10 +115,16 @@ shared-slice-read-if2 : tie.Need-shared-slice-read-if2
 shared-slice-read-if2 c = search needs
 
 returns-2 : tie.Need-returns-2
-returns-2 c = with-union (rowAt (c .before .before .before .before .before .before .before .before .before .before .before .before .args .rows .now) (c .before .before .before .before .before .before .before .before .before .before .before .before .args .q)) (rowAt (c .before .before .before .before .before .before .before .before .before .before .before .before .args .rows .now) (c .before .before .before .before .before .before .before .before .before .before .before .before .args .p)) (rowAt (c .before .before .before .before .before .before .before .before .before .before .before .before .args .rows .now) (c .before .before .before .before .before .before .before .before .before .before .before .before .args .q) .kind) (rowAt (c .before .before .before .before .before .before .before .before .before .before .before .before .args .rows .now) (c .before .before .before .before .before .before .before .before .before .before .before .before .args .p) .kind) (c .if2 .taken)
+returns-2 c =
+    let at-shared-slice-known9 = c .before .before .before in
+    let entry = to-entry at-shared-slice-known9 in
+    with-union (rowAt (entry .args .rows .now) (entry .args .q)) (rowAt (entry .args .rows .now) (entry .args .p)) (rowAt (entry .args .rows .now) (entry .args .q) .kind) (rowAt (entry .args .rows .now) (entry .args .p) .kind) (c .if2 .taken)
 
 returns-3 : tie.Need-returns-3
-returns-3 c = two-bridges (rowAt (c .before .before .before .before .before .before .before .before .before .before .before .before .args .rows .now) (c .before .before .before .before .before .before .before .before .before .before .before .before .args .q)) (rowAt (c .before .before .before .before .before .before .before .before .before .before .before .before .args .rows .now) (c .before .before .before .before .before .before .before .before .before .before .before .before .args .p)) (rowAt (c .before .before .before .before .before .before .before .before .before .before .before .before .args .rows .now) (c .before .before .before .before .before .before .before .before .before .before .before .before .args .q) .kind) (rowAt (c .before .before .before .before .before .before .before .before .before .before .before .before .args .rows .now) (c .before .before .before .before .before .before .before .before .before .before .before .before .args .p) .kind) (c .before .before .if1 .left) (c .if2 .left)
+returns-3 c =
+    let at-shared-slice-known9 = c .before .before .before in
+    let entry = to-entry at-shared-slice-known9 in
+    two-bridges (rowAt (entry .args .rows .now) (entry .args .q)) (rowAt (entry .args .rows .now) (entry .args .p)) (rowAt (entry .args .rows .now) (entry .args .q) .kind) (rowAt (entry .args .rows .now) (entry .args .p) .kind) (c .before .before .if1 .left) (c .if2 .left)
 
 pub region-conflict-spec : {M : Type 1} → statement M
 region-conflict-spec =

@@ -29,9 +29,26 @@ abbrev μ-loop : tie.MeasureT-loop
 μ-loop rows taken n t p k₀ k =
     t - k
 
+-- the function's entry, from the state at `region-conflict`
+abbrev to-entry : tie.After-region-conflict Inv-loop μ-loop → tie.Start Inv-loop μ-loop
+to-entry c =
+    let at-wide = c .before in
+    let at-loop = at-wide .before .before .before in
+    at-loop .before .before .before
+
+-- the loop's head, from the state at `region-conflict`
+abbrev to-loop : tie.After-region-conflict Inv-loop μ-loop → tie.At-loop Inv-loop μ-loop
+to-loop c =
+    let at-wide = c .before in
+    at-wide .before .before .before
+
 -- what was tested
-tested : (c : tie.After-region-conflict Inv-loop μ-loop) → against (c .before .before .before .before .before .before .before .args .rows .now) (c .before .before .before .before .before .before .before .args .p) (rowAt (c .before .before .before .before .before .before .before .args .rows .now) (getD (c .before .before .before .before .before .before .before .args .taken .now) (c .before .before .before .before .loop .k) 0)) ≡ c .region-conflict .result
-tested c = sym (c .region-conflict .ensures ∙ ap (λ q. against (c .before .before .before .before .before .before .before .args .rows .now) (c .before .before .before .before .before .before .before .args .p) (rowAt (c .before .before .before .before .before .before .before .args .rows .now) q)) (c .before .wide .ensures))
+tested : (c : tie.After-region-conflict Inv-loop μ-loop) → against (to-entry c .args .rows .now) (to-entry c .args .p) (rowAt (to-entry c .args .rows .now) (getD (to-entry c .args .taken .now) (to-loop c .loop .k) 0)) ≡ c .region-conflict .result
+tested c =
+    let at-wide = c .before in
+    let at-loop = at-wide .before .before .before in
+    let entry = at-loop .before .before .before in
+    sym (c .region-conflict .ensures ∙ ap (λ q. against (entry .args .rows .now) (entry .args .p) (rowAt (entry .args .rows .now) q)) (at-wide .wide .ensures))
 
 loop-holds : tie.Need-loop-holds Inv-loop μ-loop
 unfolding anyBelow
@@ -41,22 +58,29 @@ mul-wide : tie.Need-mul-wide Inv-loop μ-loop
 mul-wide c = search needs
 
 shared-slice-read-wide : tie.Need-shared-slice-read-wide Inv-loop μ-loop
-shared-slice-read-wide c = omega (arith, c .before .loop-test .taken, c .before .before .before .before .before .pre .0 .1 .1)
+shared-slice-read-wide c =
+    let at-loop = c .before .before in
+    let entry = at-loop .before .before .before in
+    omega (arith, c .before .loop-test .taken, entry .pre .0 .1 .1)
 
 wide-requires : tie.Need-wide-requires Inv-loop μ-loop
 wide-requires c κs = search needs
 
 region-conflict-requires : tie.Need-region-conflict-requires Inv-loop μ-loop
 region-conflict-requires c κs =
-    let s = c .before .before .before .before .before .before in
-    let q = s .pre .1 (c .before .before .before .loop .k) (c .before .before .loop-test .taken) in
-    (omega (arith, c .wide .ensures, q, s .pre .0 .0), omega (arith, s .pre .0))
+    let at-loop = c .before .before .before in
+    let entry = at-loop .before .before .before in
+    let q = entry .pre .1 (at-loop .loop .k) (c .before .before .loop-test .taken) in
+    (omega (arith, c .wide .ensures, q, entry .pre .0 .0), omega (arith, entry .pre .0))
 
 returns : tie.Need-returns Inv-loop μ-loop
 returns c =
-    let s = c .before .before .before .before .before .before .before .before in
-    sym (any-taken (against (s .args .rows .now) (s .args .p)) (s .args .rows .now) (s .args .taken .now) (s .args .t)
-    ∙ below-at (s .args .t) (λ j. against (s .args .rows .now) (s .args .p) (rowAt (s .args .rows .now) (getD (s .args .taken .now) j 0))) (c .before .before .before .before .before .loop .k) (c .before .before .before .before .loop-test .taken) (tested (c .before) ∙ c .if1 .taken))
+    let at-region-conflict = c .before in
+    let turn = at-region-conflict .before .before .before in
+    let at-loop = turn .before in
+    let entry = at-loop .before .before .before in
+    sym (any-taken (against (entry .args .rows .now) (entry .args .p)) (entry .args .rows .now) (entry .args .taken .now) (entry .args .t)
+    ∙ below-at (entry .args .t) (λ j. against (entry .args .rows .now) (entry .args .p) (rowAt (entry .args .rows .now) (getD (entry .args .taken .now) j 0))) (at-loop .loop .k) (turn .loop-test .taken) (tested at-region-conflict ∙ c .if1 .taken))
 
 add-k : tie.Need-add-k Inv-loop μ-loop
 add-k c = search needs
@@ -66,14 +90,18 @@ loop-less c = search needs
 
 loop-again : tie.Need-loop-again Inv-loop μ-loop
 loop-again c =
-    let s = c .before .before .before .before .before .before .before .before in
-    (omega (arith, c .before .before .before .before .loop-test .taken), any-none (λ j. against (s .args .rows .now) (s .args .p) (rowAt (s .args .rows .now) (getD (s .args .taken .now) j 0))) (c .before .before .before .before .before .loop .k) (c .before .before .before .before .before .loop .inv .1) (tested (c .before) ∙ c .if1 .left))
+    let at-region-conflict = c .before in
+    let turn = at-region-conflict .before .before .before in
+    let at-loop = turn .before in
+    let entry = at-loop .before .before .before in
+    (omega (arith, turn .loop-test .taken), any-none (λ j. against (entry .args .rows .now) (entry .args .p) (rowAt (entry .args .rows .now) (getD (entry .args .taken .now) j 0))) (at-loop .loop .k) (at-loop .loop .inv .1) (tested at-region-conflict ∙ c .if1 .left))
 
 returns-2 : tie.Need-returns-2 Inv-loop μ-loop
 returns-2 c =
-    let s = c .before .before .before .before in
-    sym (any-taken (against (s .args .rows .now) (s .args .p)) (s .args .rows .now) (s .args .taken .now) (s .args .t)
-    ∙ ap (λ k. anyBelow k (λ j. against (s .args .rows .now) (s .args .p) (rowAt (s .args .rows .now) (getD (s .args .taken .now) j 0)))) (le-antisymm (c .loop-test .left) (c .before .loop .inv .0)) ∙ c .before .loop .inv .1)
+    let at-loop = c .before in
+    let entry = at-loop .before .before .before in
+    sym (any-taken (against (entry .args .rows .now) (entry .args .p)) (entry .args .rows .now) (entry .args .taken .now) (entry .args .t)
+    ∙ ap (λ k. anyBelow k (λ j. against (entry .args .rows .now) (entry .args .p) (rowAt (entry .args .rows .now) (getD (entry .args .taken .now) j 0)))) (le-antisymm (c .loop-test .left) (at-loop .loop .inv .0)) ∙ at-loop .loop .inv .1)
 
 pub region-taken-spec : {M : Type 1} → statement M
 region-taken-spec =

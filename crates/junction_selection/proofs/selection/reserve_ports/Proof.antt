@@ -21,13 +21,22 @@ loop-holds : tie.Need-loop-holds Inv-loop μ-loop
 loop-holds c = (omega arith, marked-start _ _)
 
 slice-read-reserved : tie.Need-slice-read-reserved Inv-loop μ-loop
-slice-read-reserved c = omega (arith, c .before .loop-test .taken, c .before .before .loop .inv .1 .long, c .before .before .before .before .before .pre .1)
+slice-read-reserved c =
+    let at-loop = c .before .before in
+    let entry = at-loop .before .before .before in
+    omega (arith, c .before .loop-test .taken, at-loop .loop .inv .1 .long, entry .pre .1)
 
 reserves-requires : tie.Need-reserves-requires Inv-loop μ-loop
-reserves-requires c κs = (c .before .before .before .before .before .pre .0, omega (arith, c .before .loop-test .taken, c .before .before .before .before .before .pre .1))
+reserves-requires c κs =
+    let at-loop = c .before .before in
+    let entry = at-loop .before .before .before in
+    (entry .pre .0, omega (arith, c .before .loop-test .taken, entry .pre .1))
 
 slice-write-reserved : tie.Need-slice-write-reserved Inv-loop μ-loop
-slice-write-reserved c = omega (arith, c .before .before .loop-test .taken, c .before .before .before .loop .inv .1 .long, c .before .before .before .before .before .before .pre .1)
+slice-write-reserved c =
+    let at-loop = c .before .before .before in
+    let entry = at-loop .before .before .before in
+    omega (arith, c .before .before .loop-test .taken, at-loop .loop .inv .1 .long, entry .pre .1)
 
 add-j : tie.Need-add-j Inv-loop μ-loop
 add-j c = search needs
@@ -36,7 +45,10 @@ loop-less : tie.Need-loop-less Inv-loop μ-loop
 loop-less c = search needs
 
 loop-again : tie.Need-loop-again Inv-loop μ-loop
-loop-again c = (omega (arith, c .before .before .loop-test .taken), marked-more (c .before .before .before .loop .inv .1) (omega (arith, c .before .before .loop-test .taken, c .before .before .before .before .before .before .pre .1)) (c .reserves .ensures))
+loop-again c =
+    let at-loop = c .before .before .before in
+    let entry = at-loop .before .before .before in
+    (omega (arith, c .before .before .loop-test .taken), marked-more (at-loop .loop .inv .1) (omega (arith, c .before .before .loop-test .taken, entry .pre .1)) (c .reserves .ensures))
 
 same-length : tie.Need-same-length Inv-loop μ-loop
 same-length c = c .before .loop .inv .1 .long

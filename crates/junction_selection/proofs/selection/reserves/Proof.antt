@@ -68,9 +68,12 @@ names-region-requires-2 c κs = search needs
 returns : tie.Need-returns
 unfolding reservesAt names
 returns c =
-    let s = c .before .before .before .before .before .before .before .before .before .before in
-    λ t. (c .before .before .names-region .ensures t || eqb (rowAt (s .args .rows .now) (s .args .p) .kind) 0 && c .names-region2 .ensures t)
-    && not (eqb (rowAt (s .args .rows .now) (s .args .p) .kind) 0 && eqb (s .args .j) (c .before .before .before .before .before .before .before .wide .ensures t))
+    let at-names-region = c .before .before in
+    let at-b = at-names-region .before .before in
+    let at-wide = at-b .before .before .before in
+    let entry = at-wide .before .before .before in
+    λ t. (at-names-region .names-region .ensures t || eqb (rowAt (entry .args .rows .now) (entry .args .p) .kind) 0 && c .names-region2 .ensures t)
+    && not (eqb (rowAt (entry .args .rows .now) (entry .args .p) .kind) 0 && eqb (entry .args .j) (at-wide .wide .ensures t))
 
 pub reserves-spec : {M : Type 1} → statement M
 reserves-spec =

@@ -29,10 +29,14 @@ slice-aggregate-select-ranked-3 c = search needs
 
 select-ranked-requires : tie.Need-select-ranked-requires
 select-ranked-requires c κs =
-    let h = c .before .before .before .before .before .before .before .before .before .before .before .pre in
-    let r = c .before .before .before .before .before .rank-proposals .ensures in (
+    let at-order3 = c .before .before .before in
+    let at-rank-proposals = at-order3 .before .before in
+    let at-shared-slice-known3 = at-rank-proposals .before .before .before in
+    let entry = at-shared-slice-known3 .before .before .before in
+    let h = entry .pre in
+    let r = at-rank-proposals .rank-proposals .ensures in (
       record { few = h .few; whole = h .whole; small = h .small; removed-long = h .removed-long; reserved-long = h .small; room = omega arith; below = h .below },
-      ((r .0 .1, omega (arith, r .0 .1, h .few, c .before .before .before .before .before .rank-proposals .kept .1 .1 .1 .0)), (r .0 .0, (h .clear, λ j l. none-set 256 j))),
+      ((r .0 .1, omega (arith, r .0 .1, h .few, at-rank-proposals .rank-proposals .kept .1 .1 .1 .0)), (r .0 .0, (h .clear, λ j l. none-set 256 j))),
     )
 
 same-length : tie.Need-same-length
@@ -41,8 +45,13 @@ same-length c = search needs
 returns : tie.Need-returns
 unfolding removedAt selectedOf
 returns c j l =
-    let s = c .before .before .before .before .before .before .before .before .before .before .before .before .before .before .before .before in
-    c .before .before .before .before .select-ranked .ensures j l ∙ ap (λ m. any (λ q. eqb j (q .index)) (select (conflictAt (s .args .smaller .now) (s .args .larger .now) (s .args .count)) [] m)) (c .before .before .before .before .before .before .before .before .before .before .rank-proposals .ensures .1)
+    let at-reserved2 = c .before in
+    let at-select-ranked = at-reserved2 .before .before .before in
+    let at-select-ranked-arg = at-select-ranked .before .before .before in
+    let at-rank-proposals = at-select-ranked-arg .before .before .before in
+    let at-shared-slice-known3 = at-rank-proposals .before .before .before in
+    let entry = at-shared-slice-known3 .before .before .before in
+    at-select-ranked .select-ranked .ensures j l ∙ ap (λ m. any (λ q. eqb j (q .index)) (select (conflictAt (entry .args .smaller .now) (entry .args .larger .now) (entry .args .count)) [] m)) (at-rank-proposals .rank-proposals .ensures .1)
 
 pub select-proposals-spec : {M : Type 1} → statement M
 select-proposals-spec =

@@ -26,24 +26,33 @@ abbrev μ-loop : tie.MeasureT-loop
 
 loop-holds : tie.Need-loop-holds Inv-loop μ-loop
 loop-holds c =
-    let s = c .before .before .before .before .before in
-    (omega arith, (omega arith, (refl, (refl, (refl, standing-start _ _ _ _ (s .args .order .now) _ _ _ _ (s .pre .1 .1 .1 .0) (s .pre .1 .1 .1 .1))))))
+    let at-slice-known = c .before .before in
+    let entry = at-slice-known .before .before .before in
+    (omega arith, (omega arith, (refl, (refl, (refl, standing-start _ _ _ _ (entry .args .order .now) _ _ _ _ (entry .pre .1 .1 .1 .0) (entry .pre .1 .1 .1 .1))))))
 
 mul-wide : tie.Need-mul-wide Inv-loop μ-loop
 mul-wide c = search needs
 
 shared-slice-read-wide : tie.Need-shared-slice-read-wide Inv-loop μ-loop
-shared-slice-read-wide c = omega (arith, c .before .loop-test .taken, c .before .before .before .before .before .before .before .before .pre .1 .0)
+shared-slice-read-wide c =
+    let at-loop = c .before .before in
+    let at-slice-known = at-loop .before .before .before in
+    let entry = at-slice-known .before .before .before in
+    omega (arith, c .before .loop-test .taken, entry .pre .1 .0)
 
 wide-requires : tie.Need-wide-requires Inv-loop μ-loop
 wide-requires c κs = search needs
 
 take-if-free-requires : tie.Need-take-if-free-requires Inv-loop μ-loop
 take-if-free-requires c κs =
-    let s = c .before .before .before .before .before .before .before .before .before .before .before .before in
-    let i = c .before .before .before .before .before .before .loop .inv in (
-      selecting-of _ _ _ (s .pre .0) (i .1 .1 .0) (i .1 .1 .1 .0) (i .1 .1 .1 .1 .0),
-      ((omega (arith, i .1 .0, c .before .before .before .before .before .loop-test .taken, s .pre .1 .0), omega (arith, c .before .before .before .wide .ensures, s .pre .1 .1 .0 (c .before .before .before .before .before .before .loop .k) (c .before .before .before .before .before .loop-test .taken))), i .1 .1 .1 .1 .1 .rows-in),
+    let at-wide = c .before .before .before in
+    let turn = at-wide .before .before in
+    let at-loop = turn .before in
+    let at-slice-known = at-loop .before .before .before in
+    let entry = at-slice-known .before .before .before in
+    let i = at-loop .loop .inv in (
+      selecting-of _ _ _ (entry .pre .0) (i .1 .1 .0) (i .1 .1 .1 .0) (i .1 .1 .1 .1 .0),
+      ((omega (arith, i .1 .0, turn .loop-test .taken, entry .pre .1 .0), omega (arith, at-wide .wide .ensures, entry .pre .1 .1 .0 (at-loop .loop .k) (turn .loop-test .taken))), i .1 .1 .1 .1 .1 .rows-in),
     )
 
 add-k : tie.Need-add-k Inv-loop μ-loop
@@ -54,11 +63,17 @@ loop-less c = search needs
 
 loop-again : tie.Need-loop-again Inv-loop μ-loop
 loop-again c =
-    let s = c .before .before .before .before .before .before .before .before .before .before .before .before .before .before .before .before .before .before .before in
-    let l = c .before .before .before .before .before .before .before .before .before .before .before .before .before in
-    let i = l .loop .inv in
-    let a = c .before .before .before .before .before .before .take-if-free in (
-      omega (arith, c .before .before .before .before .before .before .before .before .before .before .before .before .loop-test .taken),
+    let at-reserved = c .before .before .before in
+    let at-take-if-free = at-reserved .before .before .before in
+    let at-take-if-free-arg2 = at-take-if-free .before .before in
+    let at-wide = at-take-if-free-arg2 .before .before in
+    let turn = at-wide .before .before in
+    let at-loop = turn .before in
+    let at-slice-known = at-loop .before .before .before in
+    let entry = at-slice-known .before .before .before in
+    let i = at-loop .loop .inv in
+    let a = at-take-if-free .take-if-free in (
+      omega (arith, turn .loop-test .taken),
       (
         omega (arith, a .ensures .1, i .1 .0),
         (
@@ -68,8 +83,8 @@ loop-again c =
             (
               a .kept .1 .1 .1 .1 .1 .0 ∙ i .1 .1 .1 .1 .0,
               standing-as (a .ensures .0 _ (i .1 .1 .1 .1 .1))
-                  (ap (λ p. grown (conflictAt (s .args .smaller .now) (s .args .larger .now) (s .args .count)) (selectedOf (s .args .smaller .now) (s .args .larger .now) (s .args .rows .now) (s .args .order .now) (s .args .count) (l .loop .k)) (rowAt (s .args .rows .now) p)) (c .before .before .before .before .before .before .before .before .before .before .wide .ensures)
-                  ∙ sym (selected-next (s .args .smaller .now) (s .args .larger .now) (s .args .rows .now) (s .args .order .now) (s .args .count) (l .loop .k))),
+                  (ap (λ p. grown (conflictAt (entry .args .smaller .now) (entry .args .larger .now) (entry .args .count)) (selectedOf (entry .args .smaller .now) (entry .args .larger .now) (entry .args .rows .now) (entry .args .order .now) (entry .args .count) (at-loop .loop .k)) (rowAt (entry .args .rows .now) p)) (at-wide .wide .ensures)
+                  ∙ sym (selected-next (entry .args .smaller .now) (entry .args .larger .now) (entry .args .rows .now) (entry .args .order .now) (entry .args .count) (at-loop .loop .k))),
             ),
           ),
         ),
@@ -87,9 +102,11 @@ same-length-3 c = c .before .loop .inv .1 .1 .1 .1 .0
 
 returns : tie.Need-returns Inv-loop μ-loop
 returns c j h =
-    let s = c .before .before .before .before .before .before .before in
-    c .before .loop .inv .1 .1 .1 .1 .1 .removed-at j h
-    ∙ ap (λ k. any (λ q. eqb j (q .index)) (selectedOf (s .args .smaller .now) (s .args .larger .now) (s .args .rows .now) (s .args .order .now) (s .args .count) k)) (le-antisymm (c .before .loop .inv .0) (c .loop-test .left))
+    let at-loop = c .before in
+    let at-slice-known = at-loop .before .before .before in
+    let entry = at-slice-known .before .before .before in
+    at-loop .loop .inv .1 .1 .1 .1 .1 .removed-at j h
+    ∙ ap (λ k. any (λ q. eqb j (q .index)) (selectedOf (entry .args .smaller .now) (entry .args .larger .now) (entry .args .rows .now) (entry .args .order .now) (entry .args .count) k)) (le-antisymm (at-loop .loop .inv .0) (c .loop-test .left))
 
 pub select-ranked-spec : {M : Type 1} → statement M
 select-ranked-spec =

@@ -31,13 +31,18 @@ region-beyond-requires c κs = search needs
 
 returns : tie.Need-returns
 returns c =
-    let s = c .before .before .before .before .before .before .before .before in
-    all-near (s .args .boundaries .now) (s .args .smaller .now) (s .args .larger .now) (s .args .r) (s .args .i) (s .args .k) (s .args .t) (c .before .before .before .before .before .before .is-near-port .ensures) (c .before .before .before .before .before .is-near-port2 .ensures) (c .before .before .before .before .is-near-port3 .ensures) (c .before .before .before .if1 .taken) (c .region-beyond .ensures)
+    let at-if1 = c .before .before .before in
+    let at-is-near-port3 = at-if1 .before in
+    let at-is-near-port2 = at-is-near-port3 .before in
+    let at-is-near-port = at-is-near-port2 .before in
+    let entry = at-is-near-port .before .before in
+    all-near (entry .args .boundaries .now) (entry .args .smaller .now) (entry .args .larger .now) (entry .args .r) (entry .args .i) (entry .args .k) (entry .args .t) (at-is-near-port .is-near-port .ensures) (at-is-near-port2 .is-near-port2 .ensures) (at-is-near-port3 .is-near-port3 .ensures) (at-if1 .if1 .taken) (c .region-beyond .ensures)
 
 returns-2 : tie.Need-returns-2
 returns-2 c =
-    let s = c .before .before .before .before .before in
-    not-near (s .args .boundaries .now) (s .args .smaller .now) (s .args .larger .now) (s .args .r) (s .args .i) (s .args .k) (s .args .t) (c .before .before .before .is-near-port .ensures) (c .before .before .is-near-port2 .ensures) (c .before .is-near-port3 .ensures) (c .if1 .left)
+    let at-is-near-port2 = c .before .before in
+    let entry = at-is-near-port2 .before .before .before in
+    not-near (entry .args .boundaries .now) (entry .args .smaller .now) (entry .args .larger .now) (entry .args .r) (entry .args .i) (entry .args .k) (entry .args .t) (c .before .before .before .is-near-port .ensures) (at-is-near-port2 .is-near-port2 .ensures) (c .before .is-near-port3 .ensures) (c .if1 .left)
 
 pub bridge-if-near-spec : {M : Type 1} → statement M
 bridge-if-near-spec =

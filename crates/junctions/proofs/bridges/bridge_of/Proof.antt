@@ -29,9 +29,20 @@ module _ (s : tie.Start) where
   abbrev marks : List ℕ
   marks = s .args .marks .now
 
+-- the function's entry, from the state at `if2`
+abbrev to-entry : tie.Else2 → tie.Start
+to-entry c =
+    let at-anchored-bit = c .before in
+    let at-shared-slice-known3 = at-anchored-bit .before .before .before in
+    at-shared-slice-known3 .before .before .before
+
 -- the pocket is not anchored
-free : (c : tie.Else2) → markAt (marks (c .before .before .before .before .before .before .before)) (c .before .before .before .before .before .before .before .args .r) ≡ false
-free c = bit-other (markAt (marks (c .before .before .before .before .before .before .before)) (c .before .before .before .before .before .before .before .args .r)) (λ e. c .if2 .left (c .before .anchored-bit .ensures ∙ e))
+free : (c : tie.Else2) → markAt (marks (to-entry c)) (to-entry c .args .r) ≡ false
+free c =
+    let at-anchored-bit = c .before in
+    let at-shared-slice-known3 = at-anchored-bit .before .before .before in
+    let entry = at-shared-slice-known3 .before .before .before in
+    bit-other (markAt (marks entry) (entry .args .r)) (λ e. c .if2 .left (at-anchored-bit .anchored-bit .ensures ∙ e))
 
 sub-if1 : tie.Need-sub-if1
 sub-if1 c = search needs
@@ -40,65 +51,129 @@ mul-if1 : tie.Need-mul-if1
 mul-if1 c = search needs
 
 shared-slice-read-if1 : tie.Need-shared-slice-read-if1
-shared-slice-read-if1 c = omega (arith, c .before .before .before .before .pre .1, c .before .before .before .before .pre .0 .countsLong)
+shared-slice-read-if1 c =
+    let at-shared-slice-known3 = c .before in
+    let entry = at-shared-slice-known3 .before .before .before in
+    omega (arith, entry .pre .1, entry .pre .0 .countsLong)
 
 returns : tie.Need-returns
 returns c =
-    let s = c .before .before .before .before .before in
-    other-count (boundaries s) (smaller s) (larger s) (marks s) (counts s) (s .args .r) (s .args .count) (c .if1 .taken)
+    let at-shared-slice-known3 = c .before .before in
+    let entry = at-shared-slice-known3 .before .before .before in
+    other-count (boundaries entry) (smaller entry) (larger entry) (marks entry) (counts entry) (entry .args .r) (entry .args .count) (c .if1 .taken)
 
 anchored-bit-requires : tie.Need-anchored-bit-requires
-anchored-bit-requires c κs = omega (arith, c .before .before .before .before .before .pre .1, c .before .before .before .before .before .pre .0 .marksLong)
+anchored-bit-requires c κs =
+    let at-shared-slice-known3 = c .before .before in
+    let entry = at-shared-slice-known3 .before .before .before in
+    omega (arith, entry .pre .1, entry .pre .0 .marksLong)
 
 returns-2 : tie.Need-returns-2
 returns-2 c =
-    let s = c .before .before .before .before .before .before .before in
-    is-anchored (boundaries s) (smaller s) (larger s) (marks s) (counts s) (s .args .r) (s .args .count) (bit-one (markAt (marks s) (s .args .r)) (sym (c .before .anchored-bit .ensures) ∙ c .if2 .taken))
+    let at-anchored-bit = c .before in
+    let at-shared-slice-known3 = at-anchored-bit .before .before .before in
+    let entry = at-shared-slice-known3 .before .before .before in
+    is-anchored (boundaries entry) (smaller entry) (larger entry) (marks entry) (counts entry) (entry .args .r) (entry .args .count) (bit-one (markAt (marks entry) (entry .args .r)) (sym (at-anchored-bit .anchored-bit .ensures) ∙ c .if2 .taken))
 
 next-port-requires : tie.Need-next-port-requires
-next-port-requires c κs = c .before .before .before .before .before .before .before .pre .0 .bounds
+next-port-requires c κs =
+    let at-anchored-bit = c .before in
+    let at-shared-slice-known3 = at-anchored-bit .before .before .before in
+    let entry = at-shared-slice-known3 .before .before .before in
+    entry .pre .0 .bounds
 
 add-next-port : tie.Need-add-next-port
-add-next-port c = omega (arith, c .next-port .ensures .within, c .before .before .before .before .before .before .before .before .pre .0 .bounds .few)
+add-next-port c =
+    let at-anchored-bit = c .before .before in
+    let at-shared-slice-known3 = at-anchored-bit .before .before .before in
+    let entry = at-shared-slice-known3 .before .before .before in
+    omega (arith, c .next-port .ensures .within, entry .pre .0 .bounds .few)
 
 next-port-requires-2 : tie.Need-next-port-requires-2
-next-port-requires-2 c κs = c .before .before .before .before .before .before .before .before .pre .0 .bounds
+next-port-requires-2 c κs =
+    let at-anchored-bit = c .before .before in
+    let at-shared-slice-known3 = at-anchored-bit .before .before .before in
+    let entry = at-shared-slice-known3 .before .before .before in
+    entry .pre .0 .bounds
 
 add-next-port-2 : tie.Need-add-next-port-2
-add-next-port-2 c = omega (arith, c .next-port2 .ensures .within, c .before .before .before .before .before .before .before .before .before .pre .0 .bounds .few)
+add-next-port-2 c =
+    let at-anchored-bit = c .before .before .before in
+    let at-shared-slice-known3 = at-anchored-bit .before .before .before in
+    let entry = at-shared-slice-known3 .before .before .before in
+    omega (arith, c .next-port2 .ensures .within, entry .pre .0 .bounds .few)
 
 next-port-requires-3 : tie.Need-next-port-requires-3
-next-port-requires-3 c κs = c .before .before .before .before .before .before .before .before .before .pre .0 .bounds
+next-port-requires-3 c κs =
+    let at-anchored-bit = c .before .before .before in
+    let at-shared-slice-known3 = at-anchored-bit .before .before .before in
+    let entry = at-shared-slice-known3 .before .before .before in
+    entry .pre .0 .bounds
 
 returns-3 : tie.Need-returns-3
 returns-3 c =
-    let s = c .before .before .before .before .before .before .before .before .before .before .before in
-    other-length (boundaries s) (smaller s) (larger s) (marks s) (counts s) (s .args .r) (s .args .count) (c .before .before .before .before .before .before .if1 .left) (free (c .before .before .before .before))
-    (less-found (isPocketPort (smaller s) (larger s) (s .args .r) (boundaries s)) (s .args .count) (c .before .before .before .next-port .ensures) (c .before .before .next-port2 .ensures) (c .before .next-port3 .ensures) (c .if3 .taken))
+    let at-next-port3 = c .before in
+    let at-if2 = at-next-port3 .before .before .before in
+    let at-if1 = at-if2 .before .before in
+    let at-shared-slice-known3 = at-if1 .before .before in
+    let entry = at-shared-slice-known3 .before .before .before in
+    other-length (boundaries entry) (smaller entry) (larger entry) (marks entry) (counts entry) (entry .args .r) (entry .args .count) (at-if1 .if1 .left) (free at-if2)
+    (less-found (isPocketPort (smaller entry) (larger entry) (entry .args .r) (boundaries entry)) (entry .args .count) (c .before .before .before .next-port .ensures) (c .before .before .next-port2 .ensures) (at-next-port3 .next-port3 .ensures) (c .if3 .taken))
+
+-- the function's entry, from the state at `next-port2`
+abbrev to-entry-from-next-port2 : tie.After-next-port2 → tie.Start
+to-entry-from-next-port2 c =
+    let at-anchored-bit = c .before .before .before in
+    let at-shared-slice-known3 = at-anchored-bit .before .before .before in
+    at-shared-slice-known3 .before .before .before
 
 add-next-port-3 : tie.Need-add-next-port-3
-add-next-port-3 c = omega (arith, c .before .next-port3 .ensures .within, c .before .before .before .before .before .before .before .before .before .before .before .pre .0 .bounds .few)
+add-next-port-3 c =
+    let at-next-port2 = c .before .before in
+    let entry = to-entry-from-next-port2 at-next-port2 in
+    omega (arith, c .before .next-port3 .ensures .within, entry .pre .0 .bounds .few)
 
 next-port-requires-4 : tie.Need-next-port-requires-4
-next-port-requires-4 c κs = c .before .before .before .before .before .before .before .before .before .before .before .pre .0 .bounds
+next-port-requires-4 c κs =
+    let at-next-port2 = c .before .before in
+    let entry = to-entry-from-next-port2 at-next-port2 in
+    entry .pre .0 .bounds
 
 returns-4 : tie.Need-returns-4
 returns-4 c =
-    let s = c .before .before .before .before .before .before .before .before .before .before .before .before .before in
-    other-length (boundaries s) (smaller s) (larger s) (marks s) (counts s) (s .args .r) (s .args .count) (c .before .before .before .before .before .before .before .before .if1 .left) (free (c .before .before .before .before .before .before))
-    (more-found (isPocketPort (smaller s) (larger s) (s .args .r) (boundaries s)) (s .args .count) (c .before .before .before .before .before .next-port .ensures) (c .before .before .before .before .next-port2 .ensures) (c .before .before .before .next-port3 .ensures) (c .before .next-port4 .ensures) (c .before .before .if3 .left) (c .if4 .taken))
+    let at-next-port4 = c .before in
+    let at-next-port2 = at-next-port4 .before .before .before in
+    let at-next-port = at-next-port2 .before in
+    let at-if2 = at-next-port .before in
+    let at-if1 = at-if2 .before .before in
+    let at-shared-slice-known3 = at-if1 .before .before in
+    let entry = at-shared-slice-known3 .before .before .before in
+    other-length (boundaries entry) (smaller entry) (larger entry) (marks entry) (counts entry) (entry .args .r) (entry .args .count) (at-if1 .if1 .left) (free at-if2)
+    (more-found (isPocketPort (smaller entry) (larger entry) (entry .args .r) (boundaries entry)) (entry .args .count) (at-next-port .next-port .ensures) (at-next-port2 .next-port2 .ensures) (c .before .before .before .next-port3 .ensures) (at-next-port4 .next-port4 .ensures) (c .before .before .if3 .left) (c .if4 .taken))
 
 bridge-of-three-requires : tie.Need-bridge-of-three-requires
 bridge-of-three-requires c κs =
-    let s = c .before .before .before .before .before .before .before .before .before .before .before .before .before in
-    let l = in-order (isPocketPort (smaller s) (larger s) (s .args .r) (boundaries s)) (s .args .count) (c .before .before .before .before .before .next-port .ensures) (c .before .before .before .before .next-port2 .ensures) (c .before .before .before .next-port3 .ensures) (c .before .before .if3 .left) in
-    (s .pre .0 .bounds, (s .pre .0 .pairs, (s .pre .0 .marksLong, (port-at (boundaries s) (smaller s) (larger s) (s .args .r) (s .args .count) _ (l .0) (c .before .before .before .before .before .next-port .ensures .found (l .0)), (port-at (boundaries s) (smaller s) (larger s) (s .args .r) (s .args .count) _ (l .1) (c .before .before .before .before .next-port2 .ensures .found (l .1)), port-at (boundaries s) (smaller s) (larger s) (s .args .r) (s .args .count) _ (c .before .before .if3 .left) (c .before .before .before .next-port3 .ensures .found (c .before .before .if3 .left)))))))
+    let at-next-port4 = c .before in
+    let at-next-port2 = at-next-port4 .before .before .before in
+    let at-next-port = at-next-port2 .before in
+    let at-anchored-bit = at-next-port .before .before in
+    let at-shared-slice-known3 = at-anchored-bit .before .before .before in
+    let entry = at-shared-slice-known3 .before .before .before in
+    let l = in-order (isPocketPort (smaller entry) (larger entry) (entry .args .r) (boundaries entry)) (entry .args .count) (at-next-port .next-port .ensures) (at-next-port2 .next-port2 .ensures) (c .before .before .before .next-port3 .ensures) (c .before .before .if3 .left) in
+    (entry .pre .0 .bounds, (entry .pre .0 .pairs, (entry .pre .0 .marksLong, (port-at (boundaries entry) (smaller entry) (larger entry) (entry .args .r) (entry .args .count) _ (l .0) (at-next-port .next-port .ensures .found (l .0)), (port-at (boundaries entry) (smaller entry) (larger entry) (entry .args .r) (entry .args .count) _ (l .1) (at-next-port2 .next-port2 .ensures .found (l .1)), port-at (boundaries entry) (smaller entry) (larger entry) (entry .args .r) (entry .args .count) _ (c .before .before .if3 .left) (c .before .before .before .next-port3 .ensures .found (c .before .before .if3 .left)))))))
 
 returns-5 : tie.Need-returns-5
 returns-5 c =
-    let s = c .before .before .before .before .before .before .before .before .before .before .before .before .before .before in
-    of-three (boundaries s) (smaller s) (larger s) (marks s) (counts s) (s .args .r) (s .args .count) (c .before .before .before .before .before .before .before .before .before .if1 .left) (free (c .before .before .before .before .before .before .before)) _ _ _
-    (three-found (isPocketPort (smaller s) (larger s) (s .args .r) (boundaries s)) (s .args .count) (c .before .before .before .before .before .before .next-port .ensures) (c .before .before .before .before .before .next-port2 .ensures) (c .before .before .before .before .next-port3 .ensures) (c .before .before .next-port4 .ensures) (c .before .before .before .if3 .left) (c .before .if4 .left))
+    let at-next-port4 = c .before .before in
+    let at-next-port3 = at-next-port4 .before .before in
+    let at-next-port2 = at-next-port3 .before in
+    let at-next-port = at-next-port2 .before in
+    let at-if2 = at-next-port .before in
+    let at-if1 = at-if2 .before .before in
+    let at-shared-slice-known3 = at-if1 .before .before in
+    let entry = at-shared-slice-known3 .before .before .before in
+    of-three (boundaries entry) (smaller entry) (larger entry) (marks entry) (counts entry) (entry .args .r) (entry .args .count) (at-if1 .if1 .left) (free at-if2) _ _ _
+    (three-found (isPocketPort (smaller entry) (larger entry) (entry .args .r) (boundaries entry)) (entry .args .count) (at-next-port .next-port .ensures) (at-next-port2 .next-port2 .ensures) (at-next-port3 .next-port3 .ensures) (at-next-port4 .next-port4 .ensures) (c .before .before .before .if3 .left) (c .before .if4 .left))
     (c .bridge-of-three .ensures)
 
 pub bridge-of-spec : {M : Type 1} → statement M

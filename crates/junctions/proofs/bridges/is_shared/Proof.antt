@@ -56,18 +56,31 @@ element-copy-out-region-beyond-6 c = search needs
 region-beyond-requires-3 : tie.Need-region-beyond-requires-3
 region-beyond-requires-3 c κs = search needs
 
+-- the function's entry, from the state at `region-beyond2`
+abbrev to-entry : tie.After-region-beyond2 → tie.Start
+to-entry c =
+    let at-region-beyond = c .before .before .before in
+    let at-region-beyond-arg2 = at-region-beyond .before in
+    at-region-beyond-arg2 .before .before .before
+
 anchored-bit-requires : tie.Need-anchored-bit-requires
 anchored-bit-requires c κs =
-    let s = c .before .before .before .before .before .before .before .before .before .before in
-    let t = s .pre .1 .1 .1 .1 in
-    let n = s .pre .1 .0 .named (s .args .t) (t .below) (t .full) in
-    beyond-within (s .args .r) (length (s .args .marks .now)) (record { lo = getD (s .args .smaller .now) (s .args .t) 0; hi = getD (s .args .larger .now) (s .args .t) 0 }) (c .region-beyond3 .ensures) (t .full) (n .0) (omega (arith, n, s .pre .0))
+    let at-region-beyond2 = c .before .before .before in
+    let entry = to-entry at-region-beyond2 in
+    let t = entry .pre .1 .1 .1 .1 in
+    let n = entry .pre .1 .0 .named (entry .args .t) (t .below) (t .full) in
+    beyond-within (entry .args .r) (length (entry .args .marks .now)) (record { lo = getD (entry .args .smaller .now) (entry .args .t) 0; hi = getD (entry .args .larger .now) (entry .args .t) 0 }) (c .region-beyond3 .ensures) (t .full) (n .0) (omega (arith, n, entry .pre .0))
 
 returns : tie.Need-returns
 unfolding isSharedAt
 returns c =
-    λ x. eqb (c .before .before .before .before .before .before .before .region-beyond .ensures x) (c .before .before .before .before .region-beyond2 .ensures x) && not (eqb (c .before .region-beyond3 .ensures x) (c .before .before .before .before .before .before .before .region-beyond .ensures x))
-    && (ap (λ n. eqb n 1) (c .anchored-bit .ensures) ∙ bit-is-one (markAt (c .before .before .before .before .before .before .before .before .before .before .before .args .marks .now) (c .before .region-beyond3 .result)) ∙ ap (markAt (c .before .before .before .before .before .before .before .before .before .before .before .args .marks .now)) (c .before .region-beyond3 .ensures)) x
+    let at-region-beyond3 = c .before in
+    let at-region-beyond2 = at-region-beyond3 .before .before .before in
+    let at-region-beyond = at-region-beyond2 .before .before .before in
+    let at-region-beyond-arg = at-region-beyond .before .before in
+    let entry = at-region-beyond-arg .before .before in
+    λ x. eqb (at-region-beyond .region-beyond .ensures x) (at-region-beyond2 .region-beyond2 .ensures x) && not (eqb (at-region-beyond3 .region-beyond3 .ensures x) (at-region-beyond .region-beyond .ensures x))
+    && (ap (λ n. eqb n 1) (c .anchored-bit .ensures) ∙ bit-is-one (markAt (entry .args .marks .now) (at-region-beyond3 .region-beyond3 .result)) ∙ ap (markAt (entry .args .marks .now)) (at-region-beyond3 .region-beyond3 .ensures)) x
 
 pub is-shared-spec : {M : Type 1} → statement M
 is-shared-spec =

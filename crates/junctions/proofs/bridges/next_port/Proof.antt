@@ -23,10 +23,27 @@ abbrev μ-loop : tie.MeasureT-loop
 loop-holds : tie.Need-loop-holds Inv-loop μ-loop
 loop-holds c = (omega arith, λ l a b. absurd (omega arith))
 
+-- the function's entry, from the state at `names-region`
+abbrev to-entry : tie.After-names-region Inv-loop μ-loop → tie.Start Inv-loop μ-loop
+to-entry c =
+    let at-names-region-arg2 = c .before in
+    let turn = at-names-region-arg2 .before .before .before in
+    turn .before .before .before
+
+-- the loop's head, from the state at `names-region`
+abbrev to-loop : tie.After-names-region Inv-loop μ-loop → tie.At-loop Inv-loop μ-loop
+to-loop c =
+    let at-names-region-arg = c .before .before in
+    at-names-region-arg .before .before .before
+
 -- what was tested of boundary j
-tested : (c : tie.After-names-region Inv-loop μ-loop) → isPocketPort (c .before .before .before .before .before .before .before .args .smaller .now) (c .before .before .before .before .before .before .before .args .larger .now) (c .before .before .before .before .before .before .before .args .r) (c .before .before .before .before .before .before .before .args .boundaries .now) (c .before .before .before .before .before .loop .j) ≡ (c .names-region .result && noRampAt (c .before .before .before .before .before .before .before .args .boundaries .now) (c .before .before .before .before .before .loop .j))
+tested : (c : tie.After-names-region Inv-loop μ-loop) → isPocketPort (to-entry c .args .smaller .now) (to-entry c .args .larger .now) (to-entry c .args .r) (to-entry c .args .boundaries .now) (to-loop c .loop .j) ≡ (c .names-region .result && noRampAt (to-entry c .args .boundaries .now) (to-loop c .loop .j))
 unfolding isPocketPort names
-tested c = ap (λ b. b && noRampAt (c .before .before .before .before .before .before .before .args .boundaries .now) (c .before .before .before .before .before .loop .j)) (sym (c .names-region .ensures))
+tested c =
+    let at-names-region-arg = c .before .before in
+    let at-loop = at-names-region-arg .before .before .before in
+    let entry = at-loop .before .before in
+    ap (λ b. b && noRampAt (entry .args .boundaries .now) (at-loop .loop .j)) (sym (c .names-region .ensures))
 
 mul-plain : tie.Need-mul-plain Inv-loop μ-loop
 mul-plain c = search needs
@@ -56,7 +73,11 @@ names-region-requires : tie.Need-names-region-requires Inv-loop μ-loop
 names-region-requires c κs = search needs
 
 returns : tie.Need-returns Inv-loop μ-loop
-returns c = first-here _ _ (c .before .before .before .before .before .before .loop .inv .1) (c .before .before .before .before .before .before .loop .inv .0) (c .before .before .before .before .before .loop-test .taken) (tested (c .before) ∙ c .if1 .taken)
+returns c =
+    let at-names-region-arg2 = c .before .before in
+    let turn = at-names-region-arg2 .before .before .before in
+    let at-loop = turn .before in
+    first-here _ _ (at-loop .loop .inv .1) (at-loop .loop .inv .0) (turn .loop-test .taken) (tested (c .before) ∙ c .if1 .taken)
 
 add-j : tie.Need-add-j Inv-loop μ-loop
 add-j c = search needs
@@ -65,7 +86,10 @@ loop-less : tie.Need-loop-less Inv-loop μ-loop
 loop-less c = search needs
 
 loop-again : tie.Need-loop-again Inv-loop μ-loop
-loop-again c = (omega (arith, c .before .before .before .before .before .before .loop .inv .0), none-more _ _ (c .before .before .before .before .before .before .loop .inv .1) (tested (c .before) ∙ c .if1 .left))
+loop-again c =
+    let at-names-region-arg = c .before .before .before in
+    let at-loop = at-names-region-arg .before .before .before in
+    (omega (arith, at-loop .loop .inv .0), none-more _ _ (at-loop .loop .inv .1) (tested (c .before) ∙ c .if1 .left))
 
 returns-2 : tie.Need-returns-2 Inv-loop μ-loop
 returns-2 c = first-nowhere _ _ (c .before .loop .inv .1) (c .loop-test .left)

@@ -19,11 +19,17 @@ is-twice-as-wide-requires-2 : tie.Need-is-twice-as-wide-requires-2
 is-twice-as-wide-requires-2 c κs = (c .before .before .before .pre .0, (c .before .before .before .pre .1 .1 .0, c .before .before .before .pre .1 .0))
 
 bridge-if-near-requires-2 : tie.Need-bridge-if-near-requires-2
-bridge-if-near-requires-2 c κs = (c .before .before .before .before .before .pre .0, (c .before .before .before .before .before .pre .1 .1 .0, (c .before .before .before .before .before .pre .1 .0, c .before .before .before .before .before .pre .1 .1 .1)))
+bridge-if-near-requires-2 c κs =
+    let at-is-twice-as-wide = c .before .before .before in
+    let entry = at-is-twice-as-wide .before .before in
+    (entry .pre .0, (entry .pre .1 .1 .0, (entry .pre .1 .0, entry .pre .1 .1 .1)))
 
 returns-2 : tie.Need-returns-2
 unfolding pickAt
-returns-2 c = passed _ (c .before .before .before .before .is-twice-as-wide .ensures) (c .before .before .before .if1 .left) (chosen _ (c .before .before .is-twice-as-wide2 .ensures) (c .before .if2 .taken) (c .bridge-if-near2 .ensures))
+returns-2 c =
+    let at-is-twice-as-wide2 = c .before .before in
+    let at-is-twice-as-wide = at-is-twice-as-wide2 .before .before in
+    passed _ (at-is-twice-as-wide .is-twice-as-wide .ensures) (c .before .before .before .if1 .left) (chosen _ (at-is-twice-as-wide2 .is-twice-as-wide2 .ensures) (c .before .if2 .taken) (c .bridge-if-near2 .ensures))
 
 returns-3 : tie.Need-returns-3
 unfolding pickAt

@@ -16,10 +16,11 @@ use Rattle.junctions.proofs.distances.is_near_port.Tie as tie
 returns : tie.Need-returns
 unfolding isNear
 returns c =
-    let s = c .before .before .before .before in
-    let l = s .args .boundaries .now in
-    centers-within (ofBits binary64 0x4078000000000000) (s .pre .0 .pixels) (s .pre .1 .pixels) (c .before .before .center-of .ensures) (c .before .center-of2 .ensures) (c .within-distance .ensures)
-    ∙ ap (withinDistance (center (segmentAt l (numbersPerBoundary * s .args .i))) (center (segmentAt l (numbersPerBoundary * s .args .j)))) port-limit-is
+    let at-center-of2 = c .before in
+    let entry = at-center-of2 .before .before .before in
+    let l = entry .args .boundaries .now in
+    centers-within (ofBits binary64 0x4078000000000000) (entry .pre .0 .pixels) (entry .pre .1 .pixels) (c .before .before .center-of .ensures) (at-center-of2 .center-of2 .ensures) (c .within-distance .ensures)
+    ∙ ap (withinDistance (center (segmentAt l (numbersPerBoundary * entry .args .i))) (center (segmentAt l (numbersPerBoundary * entry .args .j)))) port-limit-is
 
 pub is-near-port-spec : {M : Type 1} → statement M
 is-near-port-spec = tie.close (tie.spec (λ c κs. search needs) (λ c κs. search needs) (λ c κs. search needs) returns)

@@ -10,9 +10,10 @@ use Rattle.junctions.proofs.distances.port_passes.Tie as tie
 returns : tie.Need-returns
 unfolding passesAt
 returns c =
-    let s = c .before .before .before .before in
-    let l = s .args .boundaries .now in
-    ap (λ b. (not (s .args .one) || leb (widthAt l (s .args .j)) (widthAt l (s .args .i))) && b) (c .is-near-port .ensures)
+    let at-shared-slice-known3 = c .before in
+    let entry = at-shared-slice-known3 .before .before .before in
+    let l = entry .args .boundaries .now in
+    ap (λ b. (not (entry .args .one) || leb (widthAt l (entry .args .j)) (widthAt l (entry .args .i))) && b) (c .is-near-port .ensures)
 
 pub port-passes-spec : {M : Type 1} → statement M
 port-passes-spec =

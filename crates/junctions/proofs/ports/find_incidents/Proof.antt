@@ -59,12 +59,12 @@ loop-less c = search needs
 loop-again : tie.Need-loop-again Inv-loop μ-loop
 unfolding names
 loop-again c =
-    let q = c .before in
-    let l = q .before .before .before .before .before in (
+    let at-b = c .before .before .before in
+    let at-loop = at-b .before .before .before in (
       search needs,
       ⊎-elim
-          (λ w. rw (w .1, w .2) (simp length-set (l .loop .inv .1 .0), listed-named _ _ _ (l .loop .inv .1 .1) (omega (arith, l .loop .inv .1)) (ap₂ _||_ (sym (q .before .names-region .ensures)) (sym (q .names-region2 .ensures)) ∙ w .0 .taken)))
-          (λ w. rw (w .1, w .2) (l .loop .inv .1 .0, listed-other _ _ _ (l .loop .inv .1 .1) (ap₂ _||_ (sym (q .before .names-region .ensures)) (sym (q .names-region2 .ensures)) ∙ w .0 .left)))
+          (λ w. rw (w .1, w .2) (simp length-set (at-loop .loop .inv .1 .0), listed-named _ _ _ (at-loop .loop .inv .1 .1) (omega (arith, at-loop .loop .inv .1)) (ap₂ _||_ (sym (c .before .before .names-region .ensures)) (sym (c .before .names-region2 .ensures)) ∙ w .0 .taken)))
+          (λ w. rw (w .1, w .2) (at-loop .loop .inv .1 .0, listed-other _ _ _ (at-loop .loop .inv .1 .1) (ap₂ _||_ (sym (c .before .before .names-region .ensures)) (sym (c .before .names-region2 .ensures)) ∙ w .0 .left)))
           (c .if1 .came),
     )
 

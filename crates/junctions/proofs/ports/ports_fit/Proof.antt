@@ -68,7 +68,9 @@ module _ (s : tie.Start Inv-loop μ-loop Inv-regions μ-regions) where
 -- at a turn over one region
 module _ (c : tie.After-region-of Inv-loop μ-loop Inv-regions μ-regions) where
   abbrev start : tie.Start Inv-loop μ-loop Inv-regions μ-regions
-  start = c .before .before .before .before .before .before
+  start =
+      let at-hi = c .before .before .before in
+      at-hi .before .before .before
 
   abbrev side : ℕ
   side = c .before .before .regions .side
@@ -105,9 +107,18 @@ all-met : (l : tie.At-loop Inv-loop μ-loop Inv-regions μ-regions) →
     s .args .n ≤ l .loop .k → Met (smaller s) (larger s) (s .args .index) (union s) (region (l .before)) (s .args .count) (l .loop .met)
 all-met l = passed-all _ _ _ (start (l .before) .pre .1 .1 .1) (l .loop .inv .1 .1) (l .loop .inv .0)
 
+-- the state at `region-of`, from the state at `wide2`
+abbrev to-region-of : tie.After-wide2 Inv-loop μ-loop Inv-regions μ-regions → tie.After-region-of Inv-loop μ-loop Inv-regions μ-regions
+to-region-of c =
+    let at-wide = c .before .before in
+    at-wide .before .before .before
+
 -- what the region's count was compared with
-compared : (c : tie.After-wide2 Inv-loop μ-loop Inv-regions μ-regions) → c .wide2 .result ≡ getD (counts (start (c .before .before .before .before .before))) (region (c .before .before .before .before .before) - 1) 0
-compared c = c .wide2 .ensures ∙ ap (λ r. getD (counts (start (c .before .before .before .before .before))) (r - 1) 0) (c .before .before .wide .ensures)
+compared : (c : tie.After-wide2 Inv-loop μ-loop Inv-regions μ-regions) → c .wide2 .result ≡ getD (counts (start (to-region-of c))) (region (to-region-of c) - 1) 0
+compared c =
+    let at-wide = c .before .before in
+    let at-region-of = at-wide .before .before .before in
+    c .wide2 .ensures ∙ ap (λ r. getD (counts (start at-region-of)) (r - 1) 0) (at-wide .wide .ensures)
 
 mul-lo : tie.Need-mul-lo Inv-loop μ-loop Inv-regions μ-regions
 mul-lo c = search needs
@@ -157,8 +168,9 @@ fits-union-requires c κs = search needs
 
 add-met : tie.Need-add-met Inv-loop μ-loop Inv-regions μ-regions
 add-met c =
-    let w = c .before .before .before .before .before .before in
-    omega (arith, entry w .below, met-few _ _ _ _ _ (turn w .loop .inv .1 .1 .upTo _ (entry w .rank-is)))
+    let at-names-region = c .before .before .before in
+    let at-wide8 = at-names-region .before .before .before in
+    omega (arith, entry at-wide8 .below, met-few _ _ _ _ _ (turn at-wide8 .loop .inv .1 .1 .upTo _ (entry at-wide8 .rank-is)))
 
 add-k : tie.Need-add-k Inv-loop μ-loop Inv-regions μ-regions
 add-k c = search needs
@@ -192,7 +204,10 @@ mul-wide : tie.Need-mul-wide Inv-loop μ-loop Inv-regions μ-regions
 mul-wide c = search needs
 
 shared-slice-read-wide : tie.Need-shared-slice-read-wide Inv-loop μ-loop Inv-regions μ-regions
-shared-slice-read-wide c = omega (arith, counted (c .before .before .before .before), c .before .wide .ensures)
+shared-slice-read-wide c =
+    let at-wide = c .before in
+    let at-region-of = at-wide .before .before .before in
+    omega (arith, counted at-region-of, at-wide .wide .ensures)
 
 wide-requires-2 : tie.Need-wide-requires-2 Inv-loop μ-loop Inv-regions μ-regions
 wide-requires-2 c κs = search needs
@@ -205,20 +220,24 @@ regions-less c = search needs
 
 regions-again : tie.Need-regions-again Inv-loop μ-loop Inv-regions μ-regions
 regions-again c =
-    let l = c .before .before .before .before .before in
-    let r = l .before in (
+    let at-wide2 = c .before in
+    let left-loop = at-wide2 .before .before .before in
+    let at-loop = left-loop .before in
+    let at-region-of = at-loop .before in
+    let at-regions = at-region-of .before .before in (
       search needs,
       (
-        l .loop .inv .1 .0,
-        all-more (fits (start r)) (side r) (r .before .before .regions .inv .1 .1)
-            (sided r (region-passes _ _ _ _ _ _ _ (all-met l (c .before .before .before .before .loop-test .left)) (c .if3 .left ∙ compared (c .before)))),
+        at-loop .loop .inv .1 .0,
+        all-more (fits (start at-region-of)) (side at-region-of) (at-regions .regions .inv .1 .1)
+            (sided at-region-of (region-passes _ _ _ _ _ _ _ (all-met at-loop (left-loop .loop-test .left)) (c .if3 .left ∙ compared at-wide2))),
       ),
     )
 
 returns : tie.Need-returns Inv-loop μ-loop Inv-regions μ-regions
 returns c =
-    let r = c .before in
-    walked (r .before .before .before .before) (r .regions .inv .0) (c .regions-test .left) (r .regions .inv .1 .0) (r .regions .inv .1 .1)
+    let at-hi = c .before .before in
+    let entry = at-hi .before .before .before in
+    walked entry (c .before .regions .inv .0) (c .regions-test .left) (c .before .regions .inv .1 .0) (c .before .regions .inv .1 .1)
 
 returns-2 : tie.Need-returns-2 Inv-loop μ-loop Inv-regions μ-regions
 returns-2 c =
@@ -231,11 +250,14 @@ returns-2 c =
 
 returns-3 : tie.Need-returns-3 Inv-loop μ-loop Inv-regions μ-regions
 returns-3 c =
-    let l = c .before .before .before .before .before in
-    let r = l .before in
-    let s = start r in
-    stopped s (r .before .regions-test .taken)
-    (sided r (region-short (smaller s) (larger s) (s .args .index) (union s) (region r) (counts s) (s .args .count) (all-met l (c .before .before .before .before .loop-test .left)) (λ e. c .if3 .taken (e ∙ sym (compared (c .before))))))
+    let at-wide2 = c .before in
+    let left-loop = at-wide2 .before .before .before in
+    let at-loop = left-loop .before in
+    let at-region-of = at-loop .before in
+    let turn-regions = at-region-of .before in
+    let s = start at-region-of in
+    stopped s (turn-regions .regions-test .taken)
+    (sided at-region-of (region-short (smaller s) (larger s) (s .args .index) (union s) (region at-region-of) (counts s) (s .args .count) (all-met at-loop (left-loop .loop-test .left)) (λ e. c .if3 .taken (e ∙ sym (compared at-wide2)))))
 
 pub ports-fit-spec : {M : Type 1} → statement M
 ports-fit-spec =

@@ -17,15 +17,22 @@ enum-known-index c = search needs
 
 push-proposal-requires : tie.Need-push-proposal-requires
 push-proposal-requires c κs =
-    let s = c .before .before .before .before .before .before .before .before .before in
-    let e = ap (bridgeForm (s .args .r)) (sym (c .before .before .index .given .1)) ∙ c .before .before .before .before .bridge-of .ensures in
-    ((one-more (s .args .n) maxProposals e (s .pre .1 .1 .0), omega (arith, bridge-found (s .args .boundaries .now) (s .args .smaller .now) (s .args .larger .now) (s .args .marks .now) (s .args .r) (s .args .count) (s .args .regions) (s .pre .0 .pairs) (s .pre .1 .0 .0) (s .pre .1 .0 .1) (s .args .counts .now) e .index-in, s .pre .0 .bounds .few)), s .pre .1 .1 .1)
+    let at-known-told = c .before in
+    let at-bridge-of = at-known-told .before .before .before in
+    let at-shared-slice-known3 = at-bridge-of .before .before in
+    let entry = at-shared-slice-known3 .before .before .before in
+    let e = ap (bridgeForm (entry .args .r)) (sym (c .before .before .index .given .1)) ∙ at-bridge-of .bridge-of .ensures in
+    ((one-more (entry .args .n) maxProposals e (entry .pre .1 .1 .0), omega (arith, bridge-found (entry .args .boundaries .now) (entry .args .smaller .now) (entry .args .larger .now) (entry .args .marks .now) (entry .args .r) (entry .args .count) (entry .args .regions) (entry .pre .0 .pairs) (entry .pre .1 .0 .0) (entry .pre .1 .0 .1) (entry .args .counts .now) e .index-in, entry .pre .0 .bounds .few)), entry .pre .1 .1 .1)
 
 add-result : tie.Need-add-result
 add-result c =
-    let s = c .before .before .before .before .before .before .before .before .before .before .before .before in
-    let e = ap (bridgeForm (s .args .r)) (sym (c .before .before .before .before .before .index .given .1)) ∙ c .before .before .before .before .before .before .before .bridge-of .ensures in
-    omega (arith, one-more (s .args .n) maxProposals e (s .pre .1 .1 .0))
+    let at-push-proposal = c .before .before in
+    let at-index = at-push-proposal .before .before .before in
+    let at-bridge-of = at-index .before .before in
+    let at-shared-slice-known3 = at-bridge-of .before .before in
+    let entry = at-shared-slice-known3 .before .before .before in
+    let e = ap (bridgeForm (entry .args .r)) (sym (at-index .index .given .1)) ∙ at-bridge-of .bridge-of .ensures in
+    omega (arith, one-more (entry .args .n) maxProposals e (entry .pre .1 .1 .0))
 
 enum-told : tie.Need-enum-told
 enum-told c = search needs
@@ -35,15 +42,21 @@ same-length c = search needs
 
 returns : tie.Need-returns
 returns c =
-    let s = c .before .before .before .before .before .before .before .before .before .before .before .before in
-    let e = ap (bridgeForm (s .args .r)) (sym (c .before .before .before .before .before .index .given .1)) ∙ c .before .before .before .before .before .before .before .bridge-of .ensures in
-    (proposal-added (rowsOf (s .args .rows .now) (s .args .n)) _ (c .before .before .push-proposal .ensures) e, one-longer (s .args .n) e)
+    let at-push-proposal = c .before .before in
+    let at-index = at-push-proposal .before .before .before in
+    let at-bridge-of = at-index .before .before in
+    let at-shared-slice-known3 = at-bridge-of .before .before in
+    let entry = at-shared-slice-known3 .before .before .before in
+    let e = ap (bridgeForm (entry .args .r)) (sym (at-index .index .given .1)) ∙ at-bridge-of .bridge-of .ensures in
+    (proposal-added (rowsOf (entry .args .rows .now) (entry .args .n)) _ (at-push-proposal .push-proposal .ensures) e, one-longer (entry .args .n) e)
 
 returns-2 : tie.Need-returns-2
 returns-2 c =
-    let s = c .before .before .before .before .before .before .before in
-    let e = ap (bridgeForm (s .args .r)) (sym (c .enum-told .given .1)) ∙ c .before .before .bridge-of .ensures in
-    (proposal-left (rowsOf (s .args .rows .now) (s .args .n)) e, no-longer (s .args .n) e)
+    let at-match-keys2 = c .before in
+    let at-shared-slice-known3 = at-match-keys2 .before .before .before in
+    let entry = at-shared-slice-known3 .before .before .before in
+    let e = ap (bridgeForm (entry .args .r)) (sym (c .enum-told .given .1)) ∙ c .before .before .bridge-of .ensures in
+    (proposal-left (rowsOf (entry .args .rows .now) (entry .args .n)) e, no-longer (entry .args .n) e)
 
 pub add-bridge-spec : {M : Type 1} → statement M
 add-bridge-spec =

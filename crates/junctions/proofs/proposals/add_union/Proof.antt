@@ -23,18 +23,37 @@ element-copy-out-push-proposal-2 : tie.Need-element-copy-out-push-proposal-2
 element-copy-out-push-proposal-2 c = search needs
 
 push-proposal-requires : tie.Need-push-proposal-requires
-push-proposal-requires c κs = ((omega (arith, c .before .before .before .before .before .before .before .before .before .pre .1 .0, c .before .before .before .before .before .before .before .before .before .pre .0 .bounds .few), omega (arith, c .before .before .before .before .before .before .before .before .before .pre .1 .0, c .before .before .before .before .before .before .before .before .before .pre .0 .bounds .few)), c .before .before .before .before .before .before .before .before .before .pre .1 .1)
+push-proposal-requires c κs =
+    let at-if1 = c .before .before .before in
+    let at-shared-slice-known3 = at-if1 .before .before .before in
+    let entry = at-shared-slice-known3 .before .before .before in
+    ((omega (arith, entry .pre .1 .0, entry .pre .0 .bounds .few), omega (arith, entry .pre .1 .0, entry .pre .0 .bounds .few)), entry .pre .1 .1)
+
+-- the function's entry, from the state at `is-union`
+abbrev to-entry : tie.After-is-union → tie.Start
+to-entry c =
+    let at-shared-slice-known3 = c .before .before in
+    at-shared-slice-known3 .before .before .before
 
 add-result : tie.Need-add-result
-add-result c = omega (arith, c .before .before .before .before .before .before .before .before .before .before .before .before .pre .1 .0, c .before .before .before .before .before .before .before .before .before .before .before .before .pre .0 .bounds .few)
+add-result c =
+    let at-rows = c .before in
+    let at-push-proposal-arg2 = at-rows .before .before .before in
+    let at-is-union = at-push-proposal-arg2 .before .before .before in
+    let entry = to-entry at-is-union in
+    omega (arith, entry .pre .1 .0, entry .pre .0 .bounds .few)
 
 same-length : tie.Need-same-length
 same-length c = search needs
 
 returns : tie.Need-returns
 returns c =
-    let s = c .before .before .before .before .before .before .before .before .before .before .before .before .args in (
-      row-added (rowsOf (s .rows .now) (s .n)) (record { index = s .i; kind = 0; first = getD (s .smaller .now) (s .i) 0; second = getD (s .larger .now) (s .i) 0 }) (c .before .before .push-proposal .ensures) (c .before .before .before .before .before .before .before .is-union .ensures) (c .before .before .before .before .before .before .if1 .taken),
+    let at-push-proposal-arg3 = c .before .before .before in
+    let at-if1 = at-push-proposal-arg3 .before .before .before in
+    let at-is-union = at-if1 .before in
+    let entry = to-entry at-is-union in
+    let s = entry .args in (
+      row-added (rowsOf (s .rows .now) (s .n)) (record { index = s .i; kind = 0; first = getD (s .smaller .now) (s .i) 0; second = getD (s .larger .now) (s .i) 0 }) (c .before .before .push-proposal .ensures) (at-is-union .is-union .ensures) (at-if1 .if1 .taken),
       omega arith,
     )
 

@@ -49,19 +49,27 @@ few s k =
 
 loop-holds : tie.Need-loop-holds Inv-loop μ-loop
 unfolding collect
-loop-holds c = (omega arith, (refl, (sym (add-zero (c .before .before .before .before .args .unions)), sym (append-nil _))))
+loop-holds c =
+    let at-shared-slice-known3 = c .before in
+    let entry = at-shared-slice-known3 .before .before .before in
+    (omega arith, (refl, (sym (add-zero (entry .args .unions)), sym (append-nil _))))
 
 add-add-bridge : tie.Need-add-add-bridge Inv-loop μ-loop
 add-add-bridge c = search needs
 
 cast-add-bridge : tie.Need-cast-add-bridge Inv-loop μ-loop
-cast-add-bridge c = omega (arith, c .before .loop-test .taken, c .before .before .before .before .before .before .before .pre .0 .labels)
+cast-add-bridge c =
+    let turn = c .before in
+    let at-shared-slice-known3 = turn .before .before .before in
+    let entry = at-shared-slice-known3 .before .before .before in
+    omega (arith, turn .loop-test .taken, entry .pre .0 .labels)
 
 add-bridge-requires : tie.Need-add-bridge-requires Inv-loop μ-loop
 add-bridge-requires c κs =
-    let s = c .before .before .before .before .before .before .before in
-    let l = c .before .before in
-    (s .pre .0, ((omega arith, omega (arith, c .before .loop-test .taken)), (omega (arith, few s (l .loop .k), l .loop .inv .1 .1 .0, ap (λ o. length (toList o)) (found-at s (l .loop .k))), omega (arith, s .pre .1 .1, l .loop .inv .1 .0))))
+    let turn = c .before in
+    let at-shared-slice-known3 = turn .before .before .before in
+    let entry = at-shared-slice-known3 .before .before .before in
+    (entry .pre .0, ((omega arith, omega (arith, turn .loop-test .taken)), (omega (arith, few entry (c .before .before .loop .k), c .before .before .loop .inv .1 .1 .0, ap (λ o. length (toList o)) (found-at entry (c .before .before .loop .k))), omega (arith, entry .pre .1 .1, c .before .before .loop .inv .1 .0))))
 
 add-k : tie.Need-add-k Inv-loop μ-loop
 add-k c = search needs
@@ -71,16 +79,18 @@ loop-less c = search needs
 
 loop-again : tie.Need-loop-again Inv-loop μ-loop
 loop-again c =
-    let s = c .before .before .before .before .before .before .before .before .before .before in
-    let l = c .before .before .before .before .before in
-    let a = c .before .before .add-bridge in (
+    let at-add-bridge = c .before .before in
+    let at-loop = at-add-bridge .before .before .before in
+    let at-shared-slice-known3 = at-loop .before .before in
+    let entry = at-shared-slice-known3 .before .before .before in
+    let a = at-add-bridge .add-bridge in (
       search needs,
       (
-        a .kept .1 .1 .1 .1 .1 .1 .1 .0 ∙ l .loop .inv .1 .0,
+        a .kept .1 .1 .1 .1 .1 .1 .1 .0 ∙ at-loop .loop .inv .1 .0,
         (
-          omega (arith, a .ensures .1, l .loop .inv .1 .1 .0, ap (λ o. length (toList o)) (found-at s (l .loop .k)), ap length (collect-next (found s) (l .loop .k)), length-append (collect (l .loop .k) (found s)) (toList (found s (l .loop .k)))),
-          a .ensures .0 ∙ ap₂ (λ m o. m ++ toList o) (l .loop .inv .1 .1 .1) (found-at s (l .loop .k)) ∙ append-assoc (rowsOf (s .args .rows .now) (s .args .unions)) (collect (l .loop .k) (found s)) (toList (found s (l .loop .k)))
-              ∙ ap (λ m. rowsOf (s .args .rows .now) (s .args .unions) ++ m) (sym (collect-next (found s) (l .loop .k))),
+          omega (arith, a .ensures .1, at-loop .loop .inv .1 .1 .0, ap (λ o. length (toList o)) (found-at entry (at-loop .loop .k)), ap length (collect-next (found entry) (at-loop .loop .k)), length-append (collect (at-loop .loop .k) (found entry)) (toList (found entry (at-loop .loop .k)))),
+          a .ensures .0 ∙ ap₂ (λ m o. m ++ toList o) (at-loop .loop .inv .1 .1 .1) (found-at entry (at-loop .loop .k)) ∙ append-assoc (rowsOf (entry .args .rows .now) (entry .args .unions)) (collect (at-loop .loop .k) (found entry)) (toList (found entry (at-loop .loop .k)))
+              ∙ ap (λ m. rowsOf (entry .args .rows .now) (entry .args .unions) ++ m) (sym (collect-next (found entry) (at-loop .loop .k))),
         ),
       ),
     )
@@ -90,10 +100,10 @@ same-length c = c .before .loop .inv .1 .0
 
 returns : tie.Need-returns Inv-loop μ-loop
 returns c =
-    let s = c .before .before .before .before .before .before in
-    let l = c .before in (
-      l .loop .inv .1 .1 .1 ∙ ap (λ k. rowsOf (s .args .rows .now) (s .args .unions) ++ collect k (found s)) (le-antisymm (l .loop .inv .0) (c .loop-test .left)),
-      omega (arith, l .loop .inv .1 .1 .0, few s (l .loop .k)),
+    let at-shared-slice-known3 = c .before .before .before in
+    let entry = at-shared-slice-known3 .before .before .before in (
+      c .before .loop .inv .1 .1 .1 ∙ ap (λ k. rowsOf (entry .args .rows .now) (entry .args .unions) ++ collect k (found entry)) (le-antisymm (c .before .loop .inv .0) (c .loop-test .left)),
+      omega (arith, c .before .loop .inv .1 .1 .0, few entry (c .before .loop .k)),
     )
 
 pub find-bridges-spec : {M : Type 1} → statement M

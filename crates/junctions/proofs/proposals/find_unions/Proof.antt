@@ -33,7 +33,11 @@ unfolding collect
 loop-holds c = (omega arith, (omega arith, (refl, rows-none _)))
 
 add-union-requires : tie.Need-add-union-requires Inv-loop μ-loop
-add-union-requires c κs = (c .before .before .before .before .before .before .before .pre .0, ((c .before .loop-test .taken, c .before .before .loop .inv .1 .0), omega (arith, c .before .before .before .before .before .before .before .pre .1, c .before .before .loop .inv .1 .1 .0)))
+add-union-requires c κs =
+    let turn = c .before in
+    let at-shared-slice-known3 = turn .before .before .before in
+    let entry = at-shared-slice-known3 .before .before .before in
+    (entry .pre .0, ((turn .loop-test .taken, c .before .before .loop .inv .1 .0), omega (arith, entry .pre .1, c .before .before .loop .inv .1 .1 .0)))
 
 add-i : tie.Need-add-i Inv-loop μ-loop
 add-i c = search needs
@@ -43,14 +47,17 @@ loop-less c = search needs
 
 loop-again : tie.Need-loop-again Inv-loop μ-loop
 loop-again c =
-    let l = c .before .before .before .before .before in
-    let f = unions (c .before .before .before .before .before .before .before .before .before .before) in (
+    let at-add-union = c .before .before in
+    let at-loop = at-add-union .before .before .before in
+    let at-shared-slice-known3 = at-loop .before .before in
+    let entry = at-shared-slice-known3 .before .before .before in
+    let f = unions entry in (
       search needs,
       (
-        omega (arith, c .before .before .add-union .ensures .1, l .loop .inv .1 .0),
+        omega (arith, at-add-union .add-union .ensures .1, at-loop .loop .inv .1 .0),
         (
-          c .before .before .add-union .kept .1 .1 .1 .1 .1 .1 .1 .0 ∙ l .loop .inv .1 .1 .0,
-          c .before .before .add-union .ensures .0 ∙ ap (λ m. m ++ toList (f (l .loop .i))) (l .loop .inv .1 .1 .1) ∙ sym (collect-next f (l .loop .i)),
+          at-add-union .add-union .kept .1 .1 .1 .1 .1 .1 .1 .0 ∙ at-loop .loop .inv .1 .1 .0,
+          at-add-union .add-union .ensures .0 ∙ ap (λ m. m ++ toList (f (at-loop .loop .i))) (at-loop .loop .inv .1 .1 .1) ∙ sym (collect-next f (at-loop .loop .i)),
         ),
       ),
     )
@@ -59,7 +66,10 @@ same-length : tie.Need-same-length Inv-loop μ-loop
 same-length c = c .before .loop .inv .1 .1 .0
 
 returns : tie.Need-returns Inv-loop μ-loop
-returns c = (c .before .loop .inv .1 .1 .1 ∙ ap (λ n. collect n (unions (c .before .before .before .before .before .before))) (le-antisymm (c .before .loop .inv .0) (c .loop-test .left)), omega (arith, c .before .loop .inv .0, c .before .loop .inv .1 .0))
+returns c =
+    let at-shared-slice-known3 = c .before .before .before in
+    let entry = at-shared-slice-known3 .before .before .before in
+    (c .before .loop .inv .1 .1 .1 ∙ ap (λ n. collect n (unions entry)) (le-antisymm (c .before .loop .inv .0) (c .loop-test .left)), omega (arith, c .before .loop .inv .0, c .before .loop .inv .1 .0))
 
 pub find-unions-spec : {M : Type 1} → statement M
 find-unions-spec =

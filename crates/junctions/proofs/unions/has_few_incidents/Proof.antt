@@ -36,8 +36,11 @@ is-below-five-requires c κs = search needs
 
 returns : tie.Need-returns
 returns c =
-    let counts = c .before .before .before .before .before .before .args .counts .now in
-    c .is-below-five .ensures ∙ ap₂ (λ x y. ltb (getD counts (x - 1) 0 + getD counts (y - 1) 0) 5) (c .before .before .before .before .wide .ensures) (c .before .before .wide2 .ensures)
+    let at-wide2 = c .before .before in
+    let at-wide = at-wide2 .before .before in
+    let entry = at-wide .before .before in
+    let counts = entry .args .counts .now in
+    c .is-below-five .ensures ∙ ap₂ (λ x y. ltb (getD counts (x - 1) 0 + getD counts (y - 1) 0) 5) (at-wide .wide .ensures) (at-wide2 .wide2 .ensures)
 
 pub has-few-incidents-spec : {M : Type 1} → statement M
 has-few-incidents-spec =

@@ -21,16 +21,22 @@ Inv-loop smaller larger count index incidents n lo hi exteriors₀ k₀ exterior
 abbrev μ-loop : tie.MeasureT-loop
 μ-loop smaller larger count index incidents n lo hi exteriors₀ k₀ exteriors k = n - k
 
+-- the function's entry, from the state at `wide8`
+abbrev to-entry : tie.After-wide8 Inv-loop μ-loop → tie.Start Inv-loop μ-loop
+to-entry c =
+    let at-loop = c .before .before .before in
+    at-loop .before .before .before
+
 -- at a turn over one entry
 module _ (w : tie.After-wide8 Inv-loop μ-loop) where
   abbrev smaller : List ℕ
-  smaller = w .before .before .before .before .before .before .args .smaller .now
+  smaller = to-entry w .args .smaller .now
 
   abbrev larger : List ℕ
-  larger = w .before .before .before .before .before .before .args .larger .now
+  larger = to-entry w .args .larger .now
 
   abbrev index : ℕ
-  index = w .before .before .before .before .before .before .args .index
+  index = to-entry w .args .index
 
   abbrev union : Pair
   union = record { lo = getD smaller index 0; hi = getD larger index 0 }
@@ -38,8 +44,8 @@ module _ (w : tie.After-wide8 Inv-loop μ-loop) where
   abbrev j : ℕ
   j = w .wide8 .result
 
-  entry : Entry smaller larger union (w .before .before .before .before .before .before .args .count) (w .before .before .before .loop .k) j
-  entry = entry-at _ _ _ (w .before .before .before .before .before .before .pre .1) (w .before .before .loop-test .taken) (w .wide8 .ensures)
+  entry : Entry smaller larger union (to-entry w .args .count) (w .before .before .before .loop .k) j
+  entry = entry-at _ _ _ (to-entry w .pre .1) (w .before .before .loop-test .taken) (w .wide8 .ensures)
 
   surveyed : Surveyed smaller larger index union j (w .before .before .before .loop .exteriors)
   surveyed = w .before .before .before .loop .inv .1 .upTo j (entry .rank-is)
@@ -91,7 +97,10 @@ exterior-of-requires : tie.Need-exterior-of-requires Inv-loop μ-loop
 exterior-of-requires c κs = search needs
 
 with-requires : tie.Need-with-requires Inv-loop μ-loop
-with-requires c κs = surveyed (c .before .before .before .before .before) .few
+with-requires c κs =
+    let at-is-port = c .before .before in
+    let at-wide8 = at-is-port .before .before .before in
+    surveyed at-wide8 .few
 
 add-k : tie.Need-add-k Inv-loop μ-loop
 add-k c = search needs

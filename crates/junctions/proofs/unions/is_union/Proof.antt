@@ -58,8 +58,9 @@ element-copy-out-hi c = search needs
 
 returns : tie.Need-returns
 returns c =
-    let s = c .before .before .before .before .before .before in
-    no-pair (boundaries s) (smaller s) (larger s) (counts s) (marks s) (s .args .count) (s .args .index) (c .if1 .taken)
+    let at-shared-slice-known3 = c .before .before .before in
+    let entry = at-shared-slice-known3 .before .before .before in
+    no-pair (boundaries entry) (smaller entry) (larger entry) (counts entry) (marks entry) (entry .args .count) (entry .args .index) (c .if1 .taken)
 
 mul-if2 : tie.Need-mul-if2
 mul-if2 c = search needs
@@ -75,30 +76,61 @@ shared-slice-read-if2 c = search needs
 
 returns-2 : tie.Need-returns-2
 returns-2 c =
-    let s = c .before .before .before .before .before .before .before .before in
-    has-ramp (boundaries s) (smaller s) (larger s) (counts s) (marks s) (s .args .count) (s .args .index) (c .before .before .if1 .left) (ne-eqb _ 0 (c .if2 .taken))
+    let at-hi = c .before .before .before in
+    let at-shared-slice-known2 = at-hi .before .before .before in
+    let entry = at-shared-slice-known2 .before .before in
+    has-ramp (boundaries entry) (smaller entry) (larger entry) (counts entry) (marks entry) (entry .args .count) (entry .args .index) (c .before .before .if1 .left) (ne-eqb _ 0 (c .if2 .taken))
 
 anchored-bit-requires : tie.Need-anchored-bit-requires
-anchored-bit-requires c κs = omega (arith, named (c .before .before .before .before .before .before .before .before) (c .before .before .if1 .left), c .before .before .before .before .before .before .before .before .pre .0 .marksLong)
+anchored-bit-requires c κs =
+    let at-hi = c .before .before .before in
+    let at-shared-slice-known2 = at-hi .before .before .before in
+    let entry = at-shared-slice-known2 .before .before in
+    omega (arith, named entry (c .before .before .if1 .left), entry .pre .0 .marksLong)
 
 anchored-bit-requires-2 : tie.Need-anchored-bit-requires-2
-anchored-bit-requires-2 c κs = omega (arith, named (c .before .before .before .before .before .before .before .before .before) (c .before .before .before .if1 .left), c .before .before .before .before .before .before .before .before .before .pre .0 .marksLong)
+anchored-bit-requires-2 c κs =
+    let at-if1 = c .before .before .before in
+    let at-shared-slice-known3 = at-if1 .before .before .before in
+    let entry = at-shared-slice-known3 .before .before .before in
+    omega (arith, named entry (at-if1 .if1 .left), entry .pre .0 .marksLong)
+
+-- the function's entry, from the state at `anchored-bit`
+abbrev to-entry : tie.After-anchored-bit → tie.Start
+to-entry c =
+    let at-if1 = c .before .before .before in
+    let at-shared-slice-known3 = at-if1 .before .before .before in
+    at-shared-slice-known3 .before .before .before
 
 add-anchored : tie.Need-add-anchored
-add-anchored c = omega (arith, c .anchored-bit2 .ensures, c .before .anchored-bit .ensures, bit-le (markAt (marks (c .before .before .before .before .before .before .before .before .before .before)) (lo (c .before .before .before .before .before .before .before .before .before .before))), bit-le (markAt (marks (c .before .before .before .before .before .before .before .before .before .before)) (hi (c .before .before .before .before .before .before .before .before .before .before))))
+add-anchored c =
+    let at-anchored-bit = c .before in
+    let entry = to-entry at-anchored-bit in
+    omega (arith, c .anchored-bit2 .ensures, at-anchored-bit .anchored-bit .ensures, bit-le (markAt (marks entry) (lo entry)), bit-le (markAt (marks entry) (hi entry)))
 
 returns-3 : tie.Need-returns-3
 returns-3 c =
-    let s = c .before .before .before .before .before .before .before .before .before .before .before in
-    both-anchored (boundaries s) (smaller s) (larger s) (counts s) (marks s) (s .args .count) (s .args .index) (c .before .before .before .before .before .if1 .left) (eq-eqb _ 0 (c .before .before .before .if2 .left)) (omega (arith, c .if3 .taken, c .before .anchored-bit2 .ensures, c .before .before .anchored-bit .ensures))
+    let at-anchored-bit = c .before .before in
+    let at-if1 = at-anchored-bit .before .before .before in
+    let at-shared-slice-known3 = at-if1 .before .before .before in
+    let entry = at-shared-slice-known3 .before .before .before in
+    both-anchored (boundaries entry) (smaller entry) (larger entry) (counts entry) (marks entry) (entry .args .count) (entry .args .index) (at-if1 .if1 .left) (eq-eqb _ 0 (c .before .before .before .if2 .left)) (omega (arith, c .if3 .taken, c .before .anchored-bit2 .ensures, at-anchored-bit .anchored-bit .ensures))
+
+-- the state at `if1`, from the state at `if3`
+abbrev to-if1 : tie.Else3 → tie.Else1
+to-if1 c =
+    let at-anchored-bit = c .before .before in
+    at-anchored-bit .before .before .before
 
 -- past the first three tests: a full pair with no ramp, at most one of whose regions is anchored
 module _ (e : tie.Else3) where
   abbrev start : tie.Start
-  start = e .before .before .before .before .before .before .before .before .before .before .before
+  start =
+      let at-anchored-bit = e .before .before in
+      to-entry at-anchored-bit
 
   abbrev pair : lo start ≡ 0 → ⊥
-  pair = e .before .before .before .before .before .if1 .left
+  pair = to-if1 e .if1 .left
 
   abbrev plain : noRampAt (boundaries start) (start .args .index) ≡ true
   plain = eq-eqb _ 0 (e .before .before .before .if2 .left)
@@ -131,36 +163,51 @@ find-incidents-requires c κs = search needs
 
 ports-fit-requires : tie.Need-ports-fit-requires
 ports-fit-requires c κs =
-    let e = c .before .before .before .before .before in
-    let s = start e in
-    ((s .pre .0 .bounds .few, s .pre .1), (counted e .0, (counted e .1, c .before .find-incidents .ensures)))
+    let at-incidents = c .before .before in
+    let at-if3 = at-incidents .before .before .before in
+    let s = start at-if3 in
+    ((s .pre .0 .bounds .few, s .pre .1), (counted at-if3 .0, (counted at-if3 .1, c .before .find-incidents .ensures)))
 
 returns-5 : tie.Need-returns-5
 returns-5 c =
-    let e = c .before .before .before .before .before .before .before in
-    let s = start e in
-    is-unfit (boundaries s) (smaller s) (larger s) (counts s) (marks s) (s .args .count) (s .args .index) (pair e) (plain e) (anchored e) (c .before .ports-fit .ensures) (c .if5 .taken)
+    let at-ports-fit = c .before in
+    let at-incidents = at-ports-fit .before .before .before in
+    let at-if3 = at-incidents .before .before .before in
+    let s = start at-if3 in
+    is-unfit (boundaries s) (smaller s) (larger s) (counts s) (marks s) (s .args .count) (s .args .index) (pair at-if3) (plain at-if3) (anchored at-if3) (at-ports-fit .ports-fit .ensures) (c .if5 .taken)
 
 has-three-exteriors-requires : tie.Need-has-three-exteriors-requires
 has-three-exteriors-requires c κs = search needs
 
 returns-6 : tie.Need-returns-6
 returns-6 c =
-    let e = c .before .before .before .before .before .before .before .before .before .before in
-    let s = start e in
-    too-few (boundaries s) (smaller s) (larger s) (counts s) (marks s) (s .args .count) (s .args .index) (pair e) (plain e) (anchored e) (c .before .before .before .before .ports-fit .ensures) (c .before .before .before .if5 .left) (c .before .has-three-exteriors .ensures) (c .if6 .taken)
+    let at-has-three-exteriors = c .before in
+    let at-ports-fit = at-has-three-exteriors .before .before .before in
+    let at-incidents = at-ports-fit .before .before .before in
+    let at-if3 = at-incidents .before .before .before in
+    let s = start at-if3 in
+    too-few (boundaries s) (smaller s) (larger s) (counts s) (marks s) (s .args .count) (s .args .index) (pair at-if3) (plain at-if3) (anchored at-if3) (at-ports-fit .ports-fit .ensures) (c .before .before .before .if5 .left) (at-has-three-exteriors .has-three-exteriors .ensures) (c .if6 .taken)
 
 ports-pass-requires : tie.Need-ports-pass-requires
 ports-pass-requires c κs =
-    let s = start (c .before .before .before .before .before .before .before .before .before .before .before) in
-    (s .pre .0 .bounds, (s .pre .1, c .before .before .before .before .before .before .before .find-incidents .ensures))
+    let at-incidents3 = c .before .before .before in
+    let at-incidents2 = at-incidents3 .before .before .before in
+    let at-find-incidents = at-incidents2 .before in
+    let at-incidents = at-find-incidents .before in
+    let at-if3 = at-incidents .before .before .before in
+    let s = start at-if3 in
+    (s .pre .0 .bounds, (s .pre .1, at-find-incidents .find-incidents .ensures))
 
 returns-7 : tie.Need-returns-7
 returns-7 c =
-    let e = c .before .before .before .before .before .before .before .before .before .before .before .before in
-    let s = start e in
-    by-ports (boundaries s) (smaller s) (larger s) (counts s) (marks s) (s .args .count) (s .args .index) (pair e) (plain e) (anchored e) (c .before .before .before .before .before .before .ports-fit .ensures) (c .before .before .before .before .before .if5 .left) (c .before .before .before .has-three-exteriors .ensures) (c .before .before .if6 .left)
-    (c .ports-pass .ensures ∙ ap (λ n. portsPass (boundaries s) (smaller s) (larger s) (s .args .count) (s .args .index) (union s) (eqb n 1)) (marked e))
+    let at-has-three-exteriors = c .before .before .before in
+    let at-if5 = at-has-three-exteriors .before .before in
+    let at-ports-fit = at-if5 .before in
+    let at-incidents = at-ports-fit .before .before .before in
+    let at-if3 = at-incidents .before .before .before in
+    let s = start at-if3 in
+    by-ports (boundaries s) (smaller s) (larger s) (counts s) (marks s) (s .args .count) (s .args .index) (pair at-if3) (plain at-if3) (anchored at-if3) (at-ports-fit .ports-fit .ensures) (at-if5 .if5 .left) (at-has-three-exteriors .has-three-exteriors .ensures) (c .before .before .if6 .left)
+    (c .ports-pass .ensures ∙ ap (λ n. portsPass (boundaries s) (smaller s) (larger s) (s .args .count) (s .args .index) (union s) (eqb n 1)) (marked at-if3))
 
 pub is-union-spec : {M : Type 1} → statement M
 is-union-spec =

@@ -4,7 +4,6 @@ use mathlib.Core.Bool.{false, Bool, true, not, _||_}
 use lib.ListN.{getD}
 use Rattle.junctions.proofs.Lists.{placed}
 use Rattle.junctions.proofs.Incidents.{Passed, passed-start, passed-next, passed-all, Entry, entry-at, no-port}
-use Rattle.junctions.proofs.Shapes.{negated-true, negated-false}
 use Prim.Native.Nat.{ℕ, _+_, _-_, _≤_}
 use mathlib.Core.Logic.{⊎-elim}
 use mathlib.Core.Path.{_≡_, refl, sym, ap, ap₂, _∙_}
@@ -15,6 +14,7 @@ use Rattle.laws.specs.ListLaws.ScanSteps.{all-more, all-fails}
 use Rattle.junctions.specs.Ports.{isPort, names, namesEither}
 use Rattle.junctions.specs.Unions.{passesAt, portsPass}
 use borrow.Author.Needs.{needs}
+use borrow.Author.Tests.{not-true, not-false}
 use Rattle.junctions.proofs.unions.ports_pass.Statement.{statement}
 use Rattle.junctions.proofs.unions.ports_pass.Tie as tie
 
@@ -23,10 +23,10 @@ passing boundaries smaller larger index lo hi one j = not (isPort smaller larger
 
 -- of a boundary, by what the two tests returned
 passing-fails : {a b t : Bool} → a ≡ true → t ≡ b → not t ≡ true → (not a || b) ≡ false
-passing-fails {b} {t} e q h = ap₂ (λ x y. not x || y) e (sym q ∙ negated-true t h)
+passing-fails {b} {t} e q h = ap₂ (λ x y. not x || y) e (sym q ∙ not-true t h)
 
 passing-port : {a b t : Bool} → a ≡ true → t ≡ b → not t ≡ false → (not a || b) ≡ true
-passing-port {b} {t} e q h = ap₂ (λ x y. not x || y) e (sym q ∙ negated-false t h)
+passing-port {b} {t} e q h = ap₂ (λ x y. not x || y) e (sym q ∙ not-false t h)
 
 passing-other : {a : Bool} (b : Bool) → a ≡ false → (not a || b) ≡ true
 passing-other b e = ap (λ x. not x || b) e
@@ -59,7 +59,10 @@ module _ (s : tie.Start Inv-loop μ-loop) where
 -- at a turn over one entry
 module _ (w : tie.After-wide8 Inv-loop μ-loop) where
   abbrev start : tie.Start Inv-loop μ-loop
-  start = w .before .before .before .before .before .before .before
+  start =
+      let at-loop = w .before .before .before in
+      let at-hi = at-loop .before in
+      at-hi .before .before .before
 
   abbrev j : ℕ
   j = w .wide8 .result
@@ -113,8 +116,9 @@ is-port-requires c κs = search needs
 
 port-passes-requires : tie.Need-port-passes-requires Inv-loop μ-loop
 port-passes-requires c κs =
-    let w = c .before .before .before .before in
-    (placed (start w .pre .0) (start w .pre .1 .0), placed (start w .pre .0) (entry w .below))
+    let at-is-port = c .before in
+    let at-wide8 = at-is-port .before .before .before in
+    (placed (start at-wide8 .pre .0) (start at-wide8 .pre .1 .0), placed (start at-wide8 .pre .0) (entry at-wide8 .below))
 
 returns : tie.Need-returns Inv-loop μ-loop
 unfolding portsPass
@@ -145,8 +149,9 @@ loop-again c =
 returns-2 : tie.Need-returns-2 Inv-loop μ-loop
 unfolding portsPass
 returns-2 c =
-    let l = c .before in
-    sym (passed-all _ _ _ (l .before .before .before .before .pre .1 .1) (l .loop .inv .1) (l .loop .inv .0) (c .loop-test .left))
+    let at-hi = c .before .before in
+    let entry = at-hi .before .before .before in
+    sym (passed-all _ _ _ (entry .pre .1 .1) (c .before .loop .inv .1) (c .before .loop .inv .0) (c .loop-test .left))
 
 pub ports-pass-spec : {M : Type 1} → statement M
 ports-pass-spec =

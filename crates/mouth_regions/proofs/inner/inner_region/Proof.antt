@@ -27,16 +27,20 @@ side-of-requires c κs = search needs
 
 returns : tie.Need-returns
 returns c =
-    let s = c .before .before .before .before .before .args in
+    let at-row-at = c .before .before in
+    let entry = at-row-at .before .before .before in
+    let s = entry .args in
     let r = regionAt (s .pairs .now) (getD (s .starts .now) (s .m) 0) (s .k) in
-    let e = c .before .side-of .ensures ∙ ap (λ q. cond (eqb (s .k % 2) 0) (q .lo) (q .hi)) (c .before .before .row-at .ensures) in
+    let e = c .before .side-of .ensures ∙ ap (λ q. cond (eqb (s .k % 2) 0) (q .lo) (q .hi)) (at-row-at .row-at .ensures) in
     sym (ap (λ b. cond b 0 r) (eq-eqb r (s .outer) (sym e ∙ c .if1 .taken)))
 
 returns-2 : tie.Need-returns-2
 returns-2 c =
-    let s = c .before .before .before .before .before .args in
+    let at-row-at = c .before .before in
+    let entry = at-row-at .before .before .before in
+    let s = entry .args in
     let r = regionAt (s .pairs .now) (getD (s .starts .now) (s .m) 0) (s .k) in
-    let e = c .before .side-of .ensures ∙ ap (λ q. cond (eqb (s .k % 2) 0) (q .lo) (q .hi)) (c .before .before .row-at .ensures) in
+    let e = c .before .side-of .ensures ∙ ap (λ q. cond (eqb (s .k % 2) 0) (q .lo) (q .hi)) (at-row-at .row-at .ensures) in
     e ∙ sym (ap (λ b. cond b 0 r) (ne-eqb r (s .outer) (λ h. c .if1 .left (e ∙ h))))
 
 pub inner-region-spec : {M : Type 1} → statement M

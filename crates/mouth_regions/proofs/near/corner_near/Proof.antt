@@ -18,9 +18,11 @@ distance-requires-2 c κs = search needs
 
 returns-2 : tie.Need-returns-2
 returns-2 c =
-    let s = c .before .before .before .before .args in
+    let at-distance = c .before .before .before in
+    let entry = at-distance .before in
+    let s = entry .args in
     λ hr hm.
-    near-mouth (pointForm (s .ramp)) (pointForm (s .mouth)) (pointForm (s .corner)) (s .broad) (c .before .before .before .distance .ensures hr) (c .before .before .if1 .left) (c .distance2 .ensures hm)
+    near-mouth (pointForm (s .ramp)) (pointForm (s .mouth)) (pointForm (s .corner)) (s .broad) (at-distance .distance .ensures hr) (c .before .before .if1 .left) (c .distance2 .ensures hm)
     (c .before .if2 .taken)
 
 returns-3 : tie.Need-returns-3

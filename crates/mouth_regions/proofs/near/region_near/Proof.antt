@@ -51,19 +51,25 @@ corner-near-requires-4 c κs = search needs
 returns : tie.Need-returns
 unfolding regionNear corners
 returns c =
-    let s = c .before .before .before .before .before .before .before .before .before .before .before .before in
-    let R = recordOf (s .args .region) in
-    let l = s .args .boundaries .now in
-    let ramp = segmentAt l (numbersPerBoundary * s .args .a) in
-    let mouth = segmentAt l (numbersPerBoundary * s .args .m) in
-    let at = corner-is pointForm (c .before .before .before .before .before .before .before .before .corners .result) R (c .before .before .before .before .before .before .before .before .corners .ensures) in
+    let at-corner-near3 = c .before .before in
+    let at-corner-near2 = at-corner-near3 .before .before in
+    let at-corner-near = at-corner-near2 .before .before in
+    let at-corners = at-corner-near .before .before in
+    let at-center-of2 = at-corners .before in
+    let at-center-of = at-center-of2 .before in
+    let entry = at-center-of .before .before in
+    let R = recordOf (entry .args .region) in
+    let l = entry .args .boundaries .now in
+    let ramp = segmentAt l (numbersPerBoundary * entry .args .a) in
+    let mouth = segmentAt l (numbersPerBoundary * entry .args .m) in
+    let at = corner-is pointForm (at-corners .corners .result) R (at-corners .corners .ensures) in
     λ C S hm ha h.
-    all-corners (cornerNear (center ramp) (center mouth) (s .args .broad)) R (center ramp) (center ramp) (center ramp) (center ramp)
-    (near-at (s .args .broad) (at 0 _) (c .before .before .before .before .before .before .before .before .before .before .center-of .ensures) (c .before .before .before .before .before .before .before .before .before .center-of2 .ensures) (corner-pixel R h 0 (lit< tt) (center ramp)) (s .pre .1 .pixels) (s .pre .0 .pixels) (c .before .before .before .before .before .before .corner-near .ensures))
-    (near-at (s .args .broad) (at 1 _) (c .before .before .before .before .before .before .before .before .before .before .center-of .ensures) (c .before .before .before .before .before .before .before .before .before .center-of2 .ensures) (corner-pixel R h 1 (lit< tt) (center ramp)) (s .pre .1 .pixels) (s .pre .0 .pixels) (c .before .before .before .before .corner-near2 .ensures))
-    (near-at (s .args .broad) (at 2 _) (c .before .before .before .before .before .before .before .before .before .before .center-of .ensures) (c .before .before .before .before .before .before .before .before .before .center-of2 .ensures) (corner-pixel R h 2 (lit< tt) (center ramp)) (s .pre .1 .pixels) (s .pre .0 .pixels) (c .before .before .corner-near3 .ensures))
-    (near-at (s .args .broad) (at 3 _) (c .before .before .before .before .before .before .before .before .before .before .center-of .ensures) (c .before .before .before .before .before .before .before .before .before .center-of2 .ensures) (corner-pixel R h 3 (lit< tt) (center ramp)) (s .pre .1 .pixels) (s .pre .0 .pixels) (c .corner-near4 .ensures))
-    ∙ sym (λ i. all (cornerNear (center (S .at (s .args .a) ha i .endpoints)) (center (S .at (s .args .m) hm i .endpoints)) (s .args .broad)) (corners R))
+    all-corners (cornerNear (center ramp) (center mouth) (entry .args .broad)) R (center ramp) (center ramp) (center ramp) (center ramp)
+    (near-at (entry .args .broad) (at 0 _) (at-center-of .center-of .ensures) (at-center-of2 .center-of2 .ensures) (corner-pixel R h 0 (lit< tt) (center ramp)) (entry .pre .1 .pixels) (entry .pre .0 .pixels) (at-corner-near .corner-near .ensures))
+    (near-at (entry .args .broad) (at 1 _) (at-center-of .center-of .ensures) (at-center-of2 .center-of2 .ensures) (corner-pixel R h 1 (lit< tt) (center ramp)) (entry .pre .1 .pixels) (entry .pre .0 .pixels) (at-corner-near2 .corner-near2 .ensures))
+    (near-at (entry .args .broad) (at 2 _) (at-center-of .center-of .ensures) (at-center-of2 .center-of2 .ensures) (corner-pixel R h 2 (lit< tt) (center ramp)) (entry .pre .1 .pixels) (entry .pre .0 .pixels) (at-corner-near3 .corner-near3 .ensures))
+    (near-at (entry .args .broad) (at 3 _) (at-center-of .center-of .ensures) (at-center-of2 .center-of2 .ensures) (corner-pixel R h 3 (lit< tt) (center ramp)) (entry .pre .1 .pixels) (entry .pre .0 .pixels) (c .corner-near4 .ensures))
+    ∙ sym (λ i. all (cornerNear (center (S .at (entry .args .a) ha i .endpoints)) (center (S .at (entry .args .m) hm i .endpoints)) (entry .args .broad)) (corners R))
 
 pub region-near-spec : {M : Type 1} → statement M
 region-near-spec =

@@ -20,14 +20,18 @@ loop-holds : tie.Need-loop-holds Inv-loop μ-loop
 loop-holds c = (search needs, (search needs, none-marked _ _ _ _))
 
 row-at-requires : tie.Need-row-at-requires Inv-loop μ-loop
-row-at-requires c κs = c .before .before .before .before .before .pre .1 (c .before .before .loop .k) (c .before .before .loop .inv .0) (c .before .loop-test .taken) .inside
+row-at-requires c κs =
+    let at-loop = c .before .before in
+    let entry = at-loop .before .before .before in
+    entry .pre .1 (at-loop .loop .k) (at-loop .loop .inv .0) (c .before .loop-test .taken) .inside
 
 hold-row-requires : tie.Need-hold-row-requires Inv-loop μ-loop
 hold-row-requires c κs =
-    let s = c .before .before .before .before .before .before in
-    let at = c .before .before .before .loop in
+    let at-loop = c .before .before .before in
+    let entry = at-loop .before .before .before in
+    let at = at-loop .loop in
     let same = ap length (at .inv .1 .1) ∙ inner-length _ _ _ in
-    let n = subst (λ l. NamedRow (s .args .pairs .now) l (at .k)) (sym same) (s .pre .1 (at .k) (at .inv .0) (c .before .before .loop-test .taken)) in
+    let n = subst (λ l. NamedRow (entry .args .pairs .now) l (at .k)) (sym same) (entry .pre .1 (at .k) (at .inv .0) (c .before .before .loop-test .taken)) in
     let lo = named-lo (c .row-at .ensures) n n in
     let hi = named-hi (c .row-at .ensures) n n in
     ((lo .0, lo .1 .0), (hi .0, hi .1 .0))
@@ -40,16 +44,20 @@ loop-less c = search needs
 
 loop-again : tie.Need-loop-again Inv-loop μ-loop
 loop-again c =
-    let at = c .before .before .before .before .before .before .loop in
-    (search needs, (search needs, row-marked _ _ _ _ (at .k) (at .inv .0) (at .inv .1 .1) (c .before .before .before .row-at .ensures) (c .before .before .hold-row .ensures)))
+    let at-row-at = c .before .before .before in
+    let at-loop = at-row-at .before .before .before in
+    let at = at-loop .loop in
+    (search needs, (search needs, row-marked _ _ _ _ (at .k) (at .inv .0) (at .inv .1 .1) (at-row-at .row-at .ensures) (c .before .before .hold-row .ensures)))
 
 same-length : tie.Need-same-length Inv-loop μ-loop
 same-length c = ap length (c .before .loop .inv .1 .1) ∙ inner-length _ _ _
 
 returns : tie.Need-returns Inv-loop μ-loop
 returns c =
-    let s = c .before .before .before .before .args in
-    let at = c .before .loop in
+    let at-loop = c .before in
+    let entry = at-loop .before .before .before in
+    let s = entry .args in
+    let at = at-loop .loop in
     at .inv .1 .1 ∙ ap (marked (s .outer) (s .marks .now) (s .pairs .now) (s .first)) (le-antisymm (at .inv .1 .0) (c .loop-test .left))
 
 pub hold-inner-spec : {M : Type 1} → statement M

@@ -16,8 +16,11 @@ same-length c = search needs
 returns : tie.Need-returns
 unfolding markInner
 returns c =
-    let s = c .before .before .before .before .before .before .args in
-    c .before .before .hold-region .ensures ∙ sym (ap (λ b. cond b (s .marks .now) (markHeld 2 (s .marks .now) (s .r))) (ne-eqb (s .r) (s .outer) (c .before .before .before .before .if1 .taken)))
+    let at-marks = c .before in
+    let at-if1 = at-marks .before .before .before in
+    let entry = at-if1 .before .before in
+    let s = entry .args in
+    c .before .before .hold-region .ensures ∙ sym (ap (λ b. cond b (s .marks .now) (markHeld 2 (s .marks .now) (s .r))) (ne-eqb (s .r) (s .outer) (at-if1 .if1 .taken)))
 
 returns-2 : tie.Need-returns-2
 unfolding markInner

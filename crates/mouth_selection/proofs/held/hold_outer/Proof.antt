@@ -15,16 +15,22 @@ outer-hold-requires : tie.Need-outer-hold-requires
 outer-hold-requires c κs = search needs
 
 hold-region-requires : tie.Need-hold-region-requires
-hold-region-requires c κs = (omega (arith, c .before .before .if1 .taken), (c .before .before .before .before .pre, hold-le (eqb (c .before .before .before .before .args .kind) triangular) (c .outer-hold .ensures)))
+hold-region-requires c κs =
+    let at-if1 = c .before .before in
+    let entry = at-if1 .before .before in
+    (omega (arith, at-if1 .if1 .taken), (entry .pre, hold-le (eqb (entry .args .kind) triangular) (c .outer-hold .ensures)))
 
 same-length : tie.Need-same-length
 same-length c = search needs
 
 returns : tie.Need-returns
 returns c =
-    let s = c .before .before .before .before .before .before .before .args in
-    c .before .before .hold-region .ensures ∙ ap (λ h. markHeld h (s .marks .now) (s .outer)) (c .before .before .before .outer-hold .ensures)
-    ∙ sym (ap (λ b. cond b (s .marks .now) (markHeld (cond (eqb (s .kind) triangular) 2 1) (s .marks .now) (s .outer))) (ne-eqb (s .outer) 0 (c .before .before .before .before .before .if1 .taken)))
+    let at-hold-region = c .before .before in
+    let at-if1 = at-hold-region .before .before .before in
+    let entry = at-if1 .before .before in
+    let s = entry .args in
+    at-hold-region .hold-region .ensures ∙ ap (λ h. markHeld h (s .marks .now) (s .outer)) (c .before .before .before .outer-hold .ensures)
+    ∙ sym (ap (λ b. cond b (s .marks .now) (markHeld (cond (eqb (s .kind) triangular) 2 1) (s .marks .now) (s .outer))) (ne-eqb (s .outer) 0 (at-if1 .if1 .taken)))
 
 returns-2 : tie.Need-returns-2
 returns-2 c =

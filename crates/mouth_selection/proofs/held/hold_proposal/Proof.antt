@@ -38,17 +38,25 @@ element-copy-out-end c = search needs
 
 hold-inner-requires : tie.Need-hold-inner-requires
 hold-inner-requires c κs =
-    let s = c .before .before .before .before .before .before .before .before .before in
-    let same = same-long (eqb (s .args .outer) 0) (s .args .marks .now) _ (s .args .outer) (c .before .before .before .before .before .hold-outer .ensures) in
-    (s .pre .0 .rising, λ k l u. subst (λ n. NamedRow (s .args .pairs .now) n k) same (s .pre .1 .0 k l u))
+    let at-first = c .before .before in
+    let at-hold-outer = at-first .before .before .before in
+    let at-slice-known = at-hold-outer .before .before in
+    let entry = at-slice-known .before .before in
+    let same = same-long (eqb (entry .args .outer) 0) (entry .args .marks .now) _ (entry .args .outer) (at-hold-outer .hold-outer .ensures) in
+    (entry .pre .0 .rising, λ k l u. subst (λ n. NamedRow (entry .args .pairs .now) n k) same (entry .pre .1 .0 k l u))
 
 same-length : tie.Need-same-length
 same-length c = search needs
 
 returns : tie.Need-returns
 returns c =
-    let s = c .before .before .before .before .before .before .before .before .before .before .before .before .args in
-    c .before .before .hold-inner .ensures ∙ ap (λ l. markInner (s .outer) l (regionsOf (rowsOf (s .pairs .now) (s .starts .now) (s .m)))) (c .before .before .before .before .before .before .before .before .hold-outer .ensures)
+    let at-hold-inner = c .before .before in
+    let at-first = at-hold-inner .before .before .before in
+    let at-hold-outer = at-first .before .before .before in
+    let at-slice-known = at-hold-outer .before .before in
+    let entry = at-slice-known .before .before in
+    let s = entry .args in
+    at-hold-inner .hold-inner .ensures ∙ ap (λ l. markInner (s .outer) l (regionsOf (rowsOf (s .pairs .now) (s .starts .now) (s .m)))) (at-hold-outer .hold-outer .ensures)
 
 pub hold-proposal-spec : {M : Type 1} → statement M
 hold-proposal-spec =

@@ -18,8 +18,11 @@ same-length c = search needs
 returns : tie.Need-returns
 unfolding markInner
 returns c =
-    let s = c .before .before .before .before .before .before .before .before .before .args in
-    c .before .before .hold-inner-region2 .ensures ∙ ap (λ l. markInner (s .outer) l (s .p .hi ∷ [])) (c .before .before .before .before .before .before .hold-inner-region .ensures)
+    let at-hold-inner-region-arg2 = c .before .before .before in
+    let at-hold-inner-region = at-hold-inner-region-arg2 .before .before .before in
+    let entry = at-hold-inner-region .before .before .before in
+    let s = entry .args in
+    c .before .before .hold-inner-region2 .ensures ∙ ap (λ l. markInner (s .outer) l (s .p .hi ∷ [])) (at-hold-inner-region .hold-inner-region .ensures)
 
 pub hold-row-spec : {M : Type 1} → statement M
 hold-row-spec =

@@ -33,29 +33,43 @@ unfolding any
 loop-holds c = (search needs, (search needs, ap (any (rowHeld (c .before .before .args .marks .now) (c .before .before .args .outer))) (between-none _ _)))
 
 row-at-requires : tie.Need-row-at-requires Inv-loop μ-loop
-row-at-requires c κs = c .before .before .before .before .pre .1 (c .before .loop .k) (c .before .loop .inv .0) (c .loop-test .taken) .inside
+row-at-requires c κs =
+    let at-loop = c .before in
+    let entry = at-loop .before .before .before in
+    entry .pre .1 (at-loop .loop .k) (at-loop .loop .inv .0) (c .loop-test .taken) .inside
 
 is-held-requires : tie.Need-is-held-requires Inv-loop μ-loop
 is-held-requires c κs =
-    let n = c .before .before .before .before .before .before .pre .1 (c .before .before .before .loop .k) (c .before .before .before .loop .inv .0) (c .before .before .loop-test .taken) in
+    let at-loop = c .before .before .before in
+    let entry = at-loop .before .before .before in
+    let n = entry .pre .1 (at-loop .loop .k) (at-loop .loop .inv .0) (c .before .before .loop-test .taken) in
     let h = named-lo (c .before .row-at .ensures) n n in
     (h .0, (h .1 .0, lit≤ tt))
 
 is-held-requires-2 : tie.Need-is-held-requires-2 Inv-loop μ-loop
 is-held-requires-2 c κs =
-    let n = c .before .before .before .before .before .before .before .before .pre .1 (c .before .before .before .before .before .loop .k) (c .before .before .before .before .before .loop .inv .0) (c .before .before .before .before .loop-test .taken) in
+    let at-is-held = c .before in
+    let turn = at-is-held .before .before .before in
+    let at-loop = turn .before in
+    let entry = at-loop .before .before .before in
+    let n = entry .pre .1 (at-loop .loop .k) (at-loop .loop .inv .0) (turn .loop-test .taken) in
     let h = named-hi (c .before .before .before .row-at .ensures) n n in
     (h .0, (h .1 .0, lit≤ tt))
 
 returns : tie.Need-returns Inv-loop μ-loop
 returns c =
-    let s = c .before .before .before .before .before .before .before .before .before .before .args in
-    let at = c .before .before .before .before .before .before .before .loop in
+    let at-struct-known2 = c .before .before in
+    let at-row-at = at-struct-known2 .before .before .before in
+    let turn = at-row-at .before in
+    let at-loop = turn .before in
+    let entry = at-loop .before .before .before in
+    let s = entry .args in
+    let at = at-loop .loop in
     let f = rowHeld (s .marks .now) (s .outer) in
-    let p = c .before .before .before .before .before .row-at .result in
+    let p = at-row-at .row-at .result in
     sym (any-regions (regionHeld (s .marks .now) (s .outer)) (pairsBetween (s .pairs .now) (s .first) (s .end))
-    ∙ between-any f (s .pairs .now) (s .first) (at .k) (s .end) (at .inv .0) (c .before .before .before .before .before .before .loop-test .taken)
-    (sym (ap f (c .before .before .before .before .before .row-at .ensures)) ∙ sym (λ i. not (eqb (p .lo) (s .outer)) && c .before .before .before .is-held .ensures i || not (eqb (p .hi) (s .outer)) && c .before .is-held2 .ensures i) ∙ c .if1 .taken))
+    ∙ between-any f (s .pairs .now) (s .first) (at .k) (s .end) (at .inv .0) (turn .loop-test .taken)
+    (sym (ap f (at-row-at .row-at .ensures)) ∙ sym (λ i. not (eqb (p .lo) (s .outer)) && c .before .before .before .is-held .ensures i || not (eqb (p .hi) (s .outer)) && c .before .is-held2 .ensures i) ∙ c .if1 .taken))
 
 add-k : tie.Need-add-k Inv-loop μ-loop
 add-k c = search needs
@@ -65,22 +79,28 @@ loop-less c = search needs
 
 loop-again : tie.Need-loop-again Inv-loop μ-loop
 loop-again c =
-    let s = c .before .before .before .before .before .before .before .before .before .before .args in
-    let at = c .before .before .before .before .before .before .before .loop in
+    let at-struct-known2 = c .before .before in
+    let at-row-at = at-struct-known2 .before .before .before in
+    let at-loop = at-row-at .before .before in
+    let entry = at-loop .before .before .before in
+    let s = entry .args in
+    let at = at-loop .loop in
     let f = rowHeld (s .marks .now) (s .outer) in
-    let p = c .before .before .before .before .before .row-at .result in (
+    let p = at-row-at .row-at .result in (
       search needs,
       (
         search needs,
         none-more f (s .pairs .now) (s .first) (at .k) (at .inv .0) (at .inv .1 .1)
-            (sym (ap f (c .before .before .before .before .before .row-at .ensures)) ∙ sym (λ i. not (eqb (p .lo) (s .outer)) && c .before .before .before .is-held .ensures i || not (eqb (p .hi) (s .outer)) && c .before .is-held2 .ensures i) ∙ c .if1 .left),
+            (sym (ap f (at-row-at .row-at .ensures)) ∙ sym (λ i. not (eqb (p .lo) (s .outer)) && c .before .before .before .is-held .ensures i || not (eqb (p .hi) (s .outer)) && c .before .is-held2 .ensures i) ∙ c .if1 .left),
       ),
     )
 
 returns-2 : tie.Need-returns-2 Inv-loop μ-loop
 returns-2 c =
-    let s = c .before .before .before .before .args in
-    let at = c .before .loop in
+    let at-loop = c .before in
+    let entry = at-loop .before .before .before in
+    let s = entry .args in
+    let at = at-loop .loop in
     sym (any-regions (regionHeld (s .marks .now) (s .outer)) (pairsBetween (s .pairs .now) (s .first) (s .end))
     ∙ ap (λ n. any (rowHeld (s .marks .now) (s .outer)) (pairsBetween (s .pairs .now) (s .first) n)) (le-antisymm (c .loop-test .left) (at .inv .1 .0)) ∙ at .inv .1 .1)
 

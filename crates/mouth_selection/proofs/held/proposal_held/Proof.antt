@@ -20,15 +20,18 @@ outer-hold-requires c κs = search needs
 
 is-held-requires : tie.Need-is-held-requires
 is-held-requires c κs =
-    let s = c .before .before .before .before in
-    (omega (arith, c .before .if1 .taken), (s .pre .1 .1, hold-le (eqb (s .args .kind) triangular) (c .outer-hold .ensures)))
+    let at-if1 = c .before in
+    let entry = at-if1 .before .before .before in
+    (omega (arith, at-if1 .if1 .taken), (entry .pre .1 .1, hold-le (eqb (entry .args .kind) triangular) (c .outer-hold .ensures)))
 
 returns : tie.Need-returns
 returns c =
-    let s = c .before .before .before .before .before .before .args in
+    let at-if1 = c .before .before .before in
+    let entry = at-if1 .before .before .before in
+    let s = entry .args in
     λ C T a P H l h.
     held-by C T (s .marks .now) H (s .m) a (s .outer) (s .kind) (P .named (s .m) l) h
-    (sym (ap₂ (λ b n. not b && leb 3 (holdAt (s .marks .now) (s .outer) + n)) (ne-eqb (s .outer) 0 (c .before .before .before .if1 .taken)) (sym (c .before .before .outer-hold .ensures)) ∙ sym (c .before .is-held .ensures) ∙ c .if2 .taken))
+    (sym (ap₂ (λ b n. not b && leb 3 (holdAt (s .marks .now) (s .outer) + n)) (ne-eqb (s .outer) 0 (at-if1 .if1 .taken)) (sym (c .before .before .outer-hold .ensures)) ∙ sym (c .before .is-held .ensures) ∙ c .if2 .taken))
     refl
 
 mul-first : tie.Need-mul-first
@@ -51,13 +54,15 @@ inner-held-requires c κs = search needs
 
 returns-2 : tie.Need-returns-2
 returns-2 c =
-    let s = c .before .before .before .before .before .before .args in
+    let at-if1 = c .before .before .before in
+    let entry = at-if1 .before .before .before in
+    let s = entry .args in
     let test : Bool → ℕ → Bool = λ b n. not b && leb 3 (holdAt (s .marks .now) (s .outer) + n) in
     λ C T a P H l h.
     held-by C T (s .marks .now) H (s .m) a (s .outer) (s .kind) (P .named (s .m) l) h
     (sym (⊎-elim
     (λ w. ap₂ test (ne-eqb (s .outer) 0 (w .0 .taken)) (sym (w .1 .ensures)) ∙ sym (w .2 .ensures) ∙ w .3 .left)
-    (λ w. ap (λ b. test b (cond (eqb (s .kind) triangular) 2 1)) (eq-eqb (s .outer) 0 (w .left))) (c .before .before .before .if1 .came)))
+    (λ w. ap (λ b. test b (cond (eqb (s .kind) triangular) 2 1)) (eq-eqb (s .outer) 0 (w .left))) (at-if1 .if1 .came)))
     (c .inner-held .ensures ∙ ap (λ r. any (λ t. not (eqb t (s .outer)) && leb 3 (holdAt (s .marks .now) t + 2)) (regionsOf r)) (sym (P .at (s .m) l)))
 
 pub proposal-held-spec : {M : Type 1} → statement M

@@ -23,16 +23,24 @@ precedes-requires c κs = search needs
 
 returns-2 : tie.Need-returns-2
 returns-2 c =
-    let s = c .before .before .before .before .before .before .args in
-    by-mouth (s .boundaries .now) (s .left) (s .right) (s .m) (s .a) (s .k) (s .b) (c .before .before .before .before .if1 .left) (sym (c .before .precedes .ensures ∙ ap₂ (λ s t. listLt (endpointsKey s) (endpointsKey t)) (c .before .before .before .segment-of .ensures) (c .before .before .segment-of2 .ensures)) ∙ c .if2 .taken)
+    let at-precedes = c .before in
+    let at-if1 = at-precedes .before .before .before in
+    let entry = at-if1 .before .before in
+    let s = entry .args in
+    by-mouth (s .boundaries .now) (s .left) (s .right) (s .m) (s .a) (s .k) (s .b) (at-if1 .if1 .left) (sym (at-precedes .precedes .ensures ∙ ap₂ (λ s t. listLt (endpointsKey s) (endpointsKey t)) (c .before .before .before .segment-of .ensures) (c .before .before .segment-of2 .ensures)) ∙ c .if2 .taken)
 
 precedes-requires-2 : tie.Need-precedes-requires-2
 precedes-requires-2 c κs = search needs
 
 returns-3 : tie.Need-returns-3
 returns-3 c =
-    let s = c .before .before .before .before .before .before .before .before .args in
-    by-other (s .boundaries .now) (s .left) (s .right) (s .m) (s .a) (s .k) (s .b) (c .before .before .before .before .before .before .if1 .left) (sym (c .before .precedes2 .ensures ∙ ap₂ (λ s t. listLt (endpointsKey s) (endpointsKey t)) (c .before .before .before .before .segment-of2 .ensures) (c .before .before .before .before .before .segment-of .ensures)) ∙ c .if3 .taken)
+    let at-precedes2 = c .before in
+    let at-segment-of2 = at-precedes2 .before .before .before in
+    let at-segment-of = at-segment-of2 .before in
+    let at-if1 = at-segment-of .before in
+    let entry = at-if1 .before .before in
+    let s = entry .args in
+    by-other (s .boundaries .now) (s .left) (s .right) (s .m) (s .a) (s .k) (s .b) (at-if1 .if1 .left) (sym (at-precedes2 .precedes2 .ensures ∙ ap₂ (λ s t. listLt (endpointsKey s) (endpointsKey t)) (at-segment-of2 .segment-of2 .ensures) (at-segment-of .segment-of .ensures)) ∙ c .if3 .taken)
 
 segment-of-requires-3 : tie.Need-segment-of-requires-3
 segment-of-requires-3 c κs = search needs
@@ -45,10 +53,18 @@ precedes-requires-3 c κs = search needs
 
 returns-4 : tie.Need-returns-4
 returns-4 c =
-    let s = c .before .before .before .before .before .before .before .before .before .before .before .args in
-    (c .precedes3 .ensures ∙ ap₂ (λ s t. listLt (endpointsKey s) (endpointsKey t)) (c .before .before .segment-of3 .ensures) (c .before .segment-of4 .ensures))
-    ∙ by-ramp (s .boundaries .now) (s .left) (s .right) (s .m) (s .a) (s .k) (s .b) (c .before .before .before .before .before .before .before .before .before .if1 .left) (sym (c .before .before .before .before .before .before .precedes .ensures ∙ ap₂ (λ s t. listLt (endpointsKey s) (endpointsKey t)) (c .before .before .before .before .before .before .before .before .segment-of .ensures) (c .before .before .before .before .before .before .before .segment-of2 .ensures)) ∙ c .before .before .before .before .before .if2 .left)
-    (sym (c .before .before .before .before .precedes2 .ensures ∙ ap₂ (λ s t. listLt (endpointsKey s) (endpointsKey t)) (c .before .before .before .before .before .before .before .segment-of2 .ensures) (c .before .before .before .before .before .before .before .before .segment-of .ensures)) ∙ c .before .before .before .if3 .left)
+    let at-segment-of4 = c .before in
+    let at-precedes2 = at-segment-of4 .before .before .before in
+    let at-if2 = at-precedes2 .before in
+    let at-precedes = at-if2 .before in
+    let at-segment-of2 = at-precedes .before in
+    let at-segment-of = at-segment-of2 .before in
+    let at-if1 = at-segment-of .before in
+    let entry = at-if1 .before .before in
+    let s = entry .args in
+    (c .precedes3 .ensures ∙ ap₂ (λ s t. listLt (endpointsKey s) (endpointsKey t)) (c .before .before .segment-of3 .ensures) (at-segment-of4 .segment-of4 .ensures))
+    ∙ by-ramp (s .boundaries .now) (s .left) (s .right) (s .m) (s .a) (s .k) (s .b) (at-if1 .if1 .left) (sym (at-precedes .precedes .ensures ∙ ap₂ (λ s t. listLt (endpointsKey s) (endpointsKey t)) (at-segment-of .segment-of .ensures) (at-segment-of2 .segment-of2 .ensures)) ∙ at-if2 .if2 .left)
+    (sym (at-precedes2 .precedes2 .ensures ∙ ap₂ (λ s t. listLt (endpointsKey s) (endpointsKey t)) (at-segment-of2 .segment-of2 .ensures) (at-segment-of .segment-of .ensures)) ∙ c .before .before .before .if3 .left)
 
 pub ranks-before-spec : {M : Type 1} → statement M
 ranks-before-spec =

@@ -3,7 +3,7 @@ use Prim.Native.Nat.{_<_}
 use native.Mathlib.Omega.{arith}
 use mathlib.Core.Path.{refl, sym, _∙_}
 use lib.Arith.{lt-of-le-ne}
-use Rattle.ramp_boundaries.proofs.RowLists.{negated-true, negated-false}
+use borrow.Author.Tests.{not-true, not-false}
 use Rattle.mouth_selection.proofs.RoundLaws.{passed-over, first-found, one-better}
 use Rattle.mouth_selection.proofs.selection.better_entry.Statement.{statement}
 use Rattle.mouth_selection.proofs.selection.better_entry.Tie as tie
@@ -15,46 +15,55 @@ entry-left-requires c κs =
 
 returns : tie.Need-returns
 returns c =
-    let t = c .before .before .before .before .before in
-    let s = t .args in
-    (t .pre .1 .1, λ C T B P L S. passed-over C (s .mouths .now) (s .ramps .now) (s .outers .now) (s .kinds .now) T (s .near .now) (s .n) (s .best) (s .k) (t .pre .1 .0) (sym (c .before .entry-left .ensures C T P S (L .mouth (s .k) (t .pre .1 .0)) (L .ramp (s .k) (t .pre .1 .0)) (L .outer (s .k) (t .pre .1 .0))) ∙ negated-true _ (c .if1 .taken)))
+    let at-shared-slice-known3 = c .before .before in
+    let entry = at-shared-slice-known3 .before .before .before in
+    let s = entry .args in
+    (entry .pre .1 .1, λ C T B P L S. passed-over C (s .mouths .now) (s .ramps .now) (s .outers .now) (s .kinds .now) T (s .near .now) (s .n) (s .best) (s .k) (entry .pre .1 .0) (sym (c .before .entry-left .ensures C T P S (L .mouth (s .k) (entry .pre .1 .0)) (L .ramp (s .k) (entry .pre .1 .0)) (L .outer (s .k) (entry .pre .1 .0))) ∙ not-true _ (c .if1 .taken)))
 
 returns-2 : tie.Need-returns-2
 returns-2 c =
-    let t = c .before .before .before .before .before .before in
-    let s = t .args in
-    (omega (arith, t .pre .1 .0), λ C T B P L S. first-found C (s .mouths .now) (s .ramps .now) (s .outers .now) (s .kinds .now) T (s .near .now) (s .n) (s .best) (s .k) (t .pre .1 .0) (sym (c .before .before .entry-left .ensures C T P S (L .mouth (s .k) (t .pre .1 .0)) (L .ramp (s .k) (t .pre .1 .0)) (L .outer (s .k) (t .pre .1 .0))) ∙ negated-false _ (c .before .if1 .left)) (c .if2 .taken))
+    let at-shared-slice-known3 = c .before .before .before in
+    let entry = at-shared-slice-known3 .before .before .before in
+    let s = entry .args in
+    (omega (arith, entry .pre .1 .0), λ C T B P L S. first-found C (s .mouths .now) (s .ramps .now) (s .outers .now) (s .kinds .now) T (s .near .now) (s .n) (s .best) (s .k) (entry .pre .1 .0) (sym (c .before .before .entry-left .ensures C T P S (L .mouth (s .k) (entry .pre .1 .0)) (L .ramp (s .k) (entry .pre .1 .0)) (L .outer (s .k) (entry .pre .1 .0))) ∙ not-false _ (c .before .if1 .left)) (c .if2 .taken))
 
 entry-before-requires : tie.Need-entry-before-requires
 entry-before-requires c κs =
-    let t = c .before .before .before .before .before .before in
-    let s = t .args in
-    let hb : s .best < s .n = lt-of-le-ne (t .pre .1 .1) (c .if2 .left) in (
-      (omega (arith, t .pre .0 .few, t .pre .1 .0), omega (arith, t .pre .0 .few, hb)),
+    let at-shared-slice-known3 = c .before .before .before in
+    let entry = at-shared-slice-known3 .before .before .before in
+    let s = entry .args in
+    let hb : s .best < s .n = lt-of-le-ne (entry .pre .1 .1) (c .if2 .left) in (
+      (omega (arith, entry .pre .0 .few, entry .pre .1 .0), omega (arith, entry .pre .0 .few, hb)),
       (
-        (t .pre .0 .mouth (s .k) (t .pre .1 .0), t .pre .0 .ramp (s .k) (t .pre .1 .0)),
-        (t .pre .0 .mouth (s .best) hb, t .pre .0 .ramp (s .best) hb),
+        (entry .pre .0 .mouth (s .k) (entry .pre .1 .0), entry .pre .0 .ramp (s .k) (entry .pre .1 .0)),
+        (entry .pre .0 .mouth (s .best) hb, entry .pre .0 .ramp (s .best) hb),
       ),
     )
 
 returns-3 : tie.Need-returns-3
 returns-3 c =
-    let t = c .before .before .before .before .before .before .before .before in
-    let s = t .args in
-    let hb : s .best < s .n = lt-of-le-ne (t .pre .1 .1) (c .before .before .if2 .left) in (
-      omega (arith, t .pre .1 .0),
+    let at-entry-before = c .before in
+    let at-entry-left = at-entry-before .before .before .before in
+    let at-shared-slice-known2 = at-entry-left .before .before in
+    let entry = at-shared-slice-known2 .before .before in
+    let s = entry .args in
+    let hb : s .best < s .n = lt-of-le-ne (entry .pre .1 .1) (c .before .before .if2 .left) in (
+      omega (arith, entry .pre .1 .0),
       λ C T B P L S.
-          one-better C (s .mouths .now) (s .ramps .now) (s .outers .now) (s .kinds .now) T (s .near .now) (s .n) (s .best) (s .k) (t .pre .1 .0) B L hb (c .before .entry-before .ensures) (sym (c .before .before .before .before .entry-left .ensures C T P S (L .mouth (s .k) (t .pre .1 .0)) (L .ramp (s .k) (t .pre .1 .0)) (L .outer (s .k) (t .pre .1 .0))) ∙ negated-false _ (c .before .before .before .if1 .left)) (s .k) (c .if3 .taken) (t .pre .1 .0) refl,
+          one-better C (s .mouths .now) (s .ramps .now) (s .outers .now) (s .kinds .now) T (s .near .now) (s .n) (s .best) (s .k) (entry .pre .1 .0) B L hb (at-entry-before .entry-before .ensures) (sym (at-entry-left .entry-left .ensures C T P S (L .mouth (s .k) (entry .pre .1 .0)) (L .ramp (s .k) (entry .pre .1 .0)) (L .outer (s .k) (entry .pre .1 .0))) ∙ not-false _ (c .before .before .before .if1 .left)) (s .k) (c .if3 .taken) (entry .pre .1 .0) refl,
     )
 
 returns-4 : tie.Need-returns-4
 returns-4 c =
-    let t = c .before .before .before .before .before .before .before .before in
-    let s = t .args in
-    let hb : s .best < s .n = lt-of-le-ne (t .pre .1 .1) (c .before .before .if2 .left) in (
-      t .pre .1 .1,
+    let at-entry-before = c .before in
+    let at-entry-left = at-entry-before .before .before .before in
+    let at-shared-slice-known2 = at-entry-left .before .before in
+    let entry = at-shared-slice-known2 .before .before in
+    let s = entry .args in
+    let hb : s .best < s .n = lt-of-le-ne (entry .pre .1 .1) (c .before .before .if2 .left) in (
+      entry .pre .1 .1,
       λ C T B P L S.
-          one-better C (s .mouths .now) (s .ramps .now) (s .outers .now) (s .kinds .now) T (s .near .now) (s .n) (s .best) (s .k) (t .pre .1 .0) B L hb (c .before .entry-before .ensures) (sym (c .before .before .before .before .entry-left .ensures C T P S (L .mouth (s .k) (t .pre .1 .0)) (L .ramp (s .k) (t .pre .1 .0)) (L .outer (s .k) (t .pre .1 .0))) ∙ negated-false _ (c .before .before .before .if1 .left)) (s .best) (c .if3 .left) hb refl,
+          one-better C (s .mouths .now) (s .ramps .now) (s .outers .now) (s .kinds .now) T (s .near .now) (s .n) (s .best) (s .k) (entry .pre .1 .0) B L hb (at-entry-before .entry-before .ensures) (sym (at-entry-left .entry-left .ensures C T P S (L .mouth (s .k) (entry .pre .1 .0)) (L .ramp (s .k) (entry .pre .1 .0)) (L .outer (s .k) (entry .pre .1 .0))) ∙ not-false _ (c .before .before .before .if1 .left)) (s .best) (c .if3 .left) hb refl,
     )
 
 pub better-entry-spec : {M : Type 1} → statement M

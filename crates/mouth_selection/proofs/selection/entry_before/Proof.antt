@@ -48,9 +48,14 @@ ranks-before-requires c κs = search needs
 
 returns : tie.Need-returns
 returns c =
-    let s = c .before .before .before .before .before .before .before .before .before .before .before .before .args in
+    let at-index3 = c .before .before .before in
+    let at-index2 = at-index3 .before .before .before in
+    let at-index = at-index2 .before .before in
+    let at-ranks-before-arg = at-index .before .before in
+    let entry = at-ranks-before-arg .before .before in
+    let s = entry .args in
     c .ranks-before .ensures
-    ∙ (λ i. listLt (keyAt (s .boundaries .now) (getD (s .separations .now) (s .k) 0) (c .before .before .before .before .before .before .before .before .index .ensures .0 i) (c .before .before .before .before .before .before .index2 .ensures .0 i)) (keyAt (s .boundaries .now) (getD (s .separations .now) (s .j) 0) (c .before .before .before .index3 .ensures .0 i) (c .before .index4 .ensures .0 i)))
+    ∙ (λ i. listLt (keyAt (s .boundaries .now) (getD (s .separations .now) (s .k) 0) (at-index .index .ensures .0 i) (at-index2 .index2 .ensures .0 i)) (keyAt (s .boundaries .now) (getD (s .separations .now) (s .j) 0) (at-index3 .index3 .ensures .0 i) (c .before .index4 .ensures .0 i)))
 
 pub entry-before-spec : {M : Type 1} → statement M
 entry-before-spec =

@@ -6,8 +6,8 @@ use lib.ListN.{getD}
 use Rattle.ramp_boundaries.specs.Candidates.{proposalOf}
 use Rattle.mouth_selection.specs.Held.{isRefused}
 use Rattle.mouth_selection.specs.Entries.{SafeEntry}
-use Rattle.ramp_boundaries.proofs.RowLists.{negated-true, negated-false}
 use borrow.Author.Needs.{needs}
+use borrow.Author.Tests.{not-true, not-false}
 use Rattle.mouth_selection.proofs.selection.entry_left.Statement.{statement}
 use Rattle.mouth_selection.proofs.selection.entry_left.Tie as tie
 
@@ -16,10 +16,12 @@ element-copy-out-if1 c = search needs
 
 returns : tie.Need-returns
 returns c =
-    let s = c .before .before .before .before .args in
+    let at-if12 = c .before in
+    let entry = at-if12 .before .before .before in
+    let s = entry .args in
     λ C T P S hm ha h.
     sym (ap (λ b. b && not (isRefused C T (proposalOf C (getD (s .mouths .now) (s .k) 0) (getD (s .ramps .now) (s .k) 0) (getD (s .outers .now) (s .k) 0) (getD (s .kinds .now) (s .k) 0))))
-    (negated-true (getD (s .near .now) (s .k) false) (c .if1 .taken)))
+    (not-true (getD (s .near .now) (s .k) false) (c .if1 .taken)))
 
 element-copy-out-index : tie.Need-element-copy-out-index
 element-copy-out-index c = search needs
@@ -44,18 +46,26 @@ element-copy-out-is-left-2 c = search needs
 
 is-left-requires : tie.Need-is-left-requires
 is-left-requires c κs =
-    let s = c .before .before .before .before .before .before .before .before .before .before in
-    let e = subst (λ m. SafeEntry (s .args .pairs .now) (s .args .starts .now) (s .args .marks .now) m (getD (s .args .outers .now) (s .args .k) 0)) (sym (c .before .before .before .before .index .ensures .0)) (s .pre .1) in
-    (e .stretch, (e .rows, (e .marked, c .before .before .index2 .ensures .1)))
+    let at-index2 = c .before .before in
+    let at-index = at-index2 .before .before in
+    let at-if12 = at-index .before .before .before in
+    let entry = at-if12 .before .before .before in
+    let e = subst (λ m. SafeEntry (entry .args .pairs .now) (entry .args .starts .now) (entry .args .marks .now) m (getD (entry .args .outers .now) (entry .args .k) 0)) (sym (at-index .index .ensures .0)) (entry .pre .1) in
+    (e .stretch, (e .rows, (e .marked, at-index2 .index2 .ensures .1)))
 
 returns-2 : tie.Need-returns-2
 returns-2 c =
-    let s = c .before .before .before .before .before .before .before .before .before .before .before .args in
+    let at-index2 = c .before .before .before in
+    let at-index = at-index2 .before .before in
+    let at-if1 = at-index .before .before in
+    let at-if12 = at-if1 .before in
+    let entry = at-if12 .before .before .before in
+    let s = entry .args in
     λ C T P S hm ha h.
-    c .is-left .ensures C T P S (subst (λ m. m < C .count) (sym (c .before .before .before .before .before .index .ensures .0)) hm) (subst (λ a. a < C .count) (sym (c .before .before .before .index2 .ensures .0)) ha) h
-    ∙ (λ i. not (isRefused C T (proposalOf C (c .before .before .before .before .before .index .ensures .0 i) (c .before .before .before .index2 .ensures .0 i) (getD (s .outers .now) (s .k) 0) (getD (s .kinds .now) (s .k) 0))))
+    c .is-left .ensures C T P S (subst (λ m. m < C .count) (sym (at-index .index .ensures .0)) hm) (subst (λ a. a < C .count) (sym (at-index2 .index2 .ensures .0)) ha) h
+    ∙ (λ i. not (isRefused C T (proposalOf C (at-index .index .ensures .0 i) (at-index2 .index2 .ensures .0 i) (getD (s .outers .now) (s .k) 0) (getD (s .kinds .now) (s .k) 0))))
     ∙ sym (ap (λ b. b && not (isRefused C T (proposalOf C (getD (s .mouths .now) (s .k) 0) (getD (s .ramps .now) (s .k) 0) (getD (s .outers .now) (s .k) 0) (getD (s .kinds .now) (s .k) 0))))
-    (negated-false (getD (s .near .now) (s .k) false) (c .before .before .before .before .before .before .before .if1 .left)))
+    (not-false (getD (s .near .now) (s .k) false) (at-if1 .if1 .left)))
 
 pub entry-left-spec : {M : Type 1} → statement M
 entry-left-spec =

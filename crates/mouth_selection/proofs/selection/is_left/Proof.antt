@@ -10,7 +10,9 @@ element-copy-out-if1 c = search needs
 
 returns : tie.Need-returns
 returns c =
-    let s = c .before .before .before .before .args in
+    let at-if12 = c .before in
+    let entry = at-if12 .before .before .before in
+    let s = entry .args in
     λ C T P S hm ha h. left-by C T (s .m) (s .a) (s .outer) (s .kind) (sym (S .gone (s .m) hm) ∙ c .if1 .taken) refl refl
 
 element-copy-out-if2 : tie.Need-element-copy-out-if2
@@ -18,7 +20,9 @@ element-copy-out-if2 c = search needs
 
 returns-2 : tie.Need-returns-2
 returns-2 c =
-    let s = c .before .before .before .before .before .before .args in
+    let at-if12 = c .before .before .before in
+    let entry = at-if12 .before .before .before in
+    let s = entry .args in
     λ C T P S hm ha h.
     left-by C T (s .m) (s .a) (s .outer) (s .kind) (sym (S .gone (s .m) hm) ∙ c .before .before .if1 .left) (sym (S .ends (s .a) ha) ∙ c .if2 .taken) refl
 
@@ -27,9 +31,12 @@ proposal-held-requires c κs = search needs
 
 returns-3 : tie.Need-returns-3
 returns-3 c =
-    let s = c .before .before .before .before .before .before .before .args in
+    let at-if2 = c .before in
+    let at-if12 = at-if2 .before .before .before in
+    let entry = at-if12 .before .before .before in
+    let s = entry .args in
     λ C T P S hm ha h.
-    left-by C T (s .m) (s .a) (s .outer) (s .kind) (sym (S .gone (s .m) hm) ∙ c .before .before .before .if1 .left) (sym (S .ends (s .a) ha) ∙ c .before .if2 .left)
+    left-by C T (s .m) (s .a) (s .outer) (s .kind) (sym (S .gone (s .m) hm) ∙ c .before .before .before .if1 .left) (sym (S .ends (s .a) ha) ∙ at-if2 .if2 .left)
     (sym (c .proposal-held .ensures C T (s .a) P (S .holds) hm h))
 
 pub is-left-spec : {M : Type 1} → statement M

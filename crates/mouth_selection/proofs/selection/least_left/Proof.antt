@@ -30,7 +30,10 @@ loop-holds c =
     (omega arith, (omega arith, λ C T B P L S. round-start C (s .mouths .now) (s .ramps .now) (s .outers .now) (s .kinds .now) T (s .near .now) (s .n)))
 
 better-entry-requires : tie.Need-better-entry-requires Inv-loop μ-loop
-better-entry-requires c κs = (c .before .before .before .before .before .pre, (c .loop-test .taken, c .before .loop .inv .0))
+better-entry-requires c κs =
+    let at-shared-slice-known3 = c .before .before in
+    let entry = at-shared-slice-known3 .before .before .before in
+    (entry .pre, (c .loop-test .taken, c .before .loop .inv .0))
 
 add-k : tie.Need-add-k Inv-loop μ-loop
 add-k c = search needs
@@ -40,7 +43,9 @@ loop-less c = search needs
 
 loop-again : tie.Need-loop-again Inv-loop μ-loop
 loop-again c =
-    let s = c .before .before .before .before .before .before .args in
+    let at-shared-slice-known3 = c .before .before .before in
+    let entry = at-shared-slice-known3 .before .before .before in
+    let s = entry .args in
     let at = c .before .before .loop in (
       c .better-entry .ensures .0,
       (
@@ -52,7 +57,9 @@ loop-again c =
 
 returns : tie.Need-returns Inv-loop μ-loop
 returns c =
-    let s = c .before .before .before .before .before .args in
+    let at-shared-slice-known3 = c .before .before in
+    let entry = at-shared-slice-known3 .before .before .before in
+    let s = entry .args in
     let at = c .before .loop in
     (at .inv .0, λ C T B P L S. at .inv .1 .1 C T B P L S ∙ ap (λ k. leastAmong C T (nearEntries C (s .mouths .now) (s .ramps .now) (s .outers .now) (s .kinds .now) (s .near .now) k)) (le-antisymm (at .inv .1 .0) (c .loop-test .left)))
 

@@ -7,8 +7,9 @@ use Rattle.mouth_selection.proofs.selection.select_mouths.Tie as tie
 
 take-all-requires : tie.Need-take-all-requires
 take-all-requires c κs =
-    let s = c .before .before .before .before .before .before in
-    (s .pre .0, ((refl, s .pre .1 .0), (s .pre .1 .1, none-used 256)))
+    let at-slice-known = c .before .before .before in
+    let entry = at-slice-known .before .before .before in
+    (entry .pre .0, ((refl, entry .pre .1 .0), (entry .pre .1 .1, none-used 256)))
 
 same-length : tie.Need-same-length
 same-length c = search needs

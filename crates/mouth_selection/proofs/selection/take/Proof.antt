@@ -31,20 +31,23 @@ same-length c = search needs
 returns : tie.Need-returns
 unfolding proposalOf
 returns c =
-    let s = c .before .before .before .before .before .before .before .before .before in
-    let m = s .args .m in
-    let a = s .args .a in
-    let outer = s .args .outer in
-    let kind = s .args .kind in
-    let marks = s .args .marks .now in (
+    let at-marks = c .before in
+    let at-use-end = at-marks .before .before .before in
+    let at-slice-known = at-use-end .before .before in
+    let entry = at-slice-known .before .before .before in
+    let m = entry .args .m in
+    let a = entry .args .a in
+    let outer = entry .args .outer in
+    let kind = entry .args .kind in
+    let marks = entry .args .marks .now in (
       λ C T n B P long S hm ho free.
           let p = proposalOf C m a outer kind in
-          let ha : a < C .count = subst (λ k. a < k) (sym n) (s .pre .1 .0 .0 .0) in
+          let ha : a < C .count = subst (λ k. a < k) (sym n) (entry .pre .1 .0 .0 .0) in
           record {
-            gone = λ i hi. mouth-taken T p (s .args .removed .now) m i refl (omega (arith, s .pre .1 .0 .1, s .pre .1 .1 .0 .within)) (S .gone i hi);
+            gone = λ i hi. mouth-taken T p (entry .args .removed .now) m i refl (omega (arith, entry .pre .1 .0 .1, entry .pre .1 .1 .0 .within)) (S .gone i hi);
             ends = λ j hj.
-                c .before .before .before .before .use-end .ensures .0 j
-                ∙ ap (λ b. getD (s .args .used .now) j false || b && sameEnd (s .args .boundaries .now) a j) (lt-ltb j (s .args .count) (subst (λ k. j < k) n hj))
+                at-use-end .use-end .ensures .0 j
+                ∙ ap (λ b. getD (entry .args .used .now) j false || b && sameEnd (entry .args .boundaries .now) a j) (lt-ltb j (entry .args .count) (subst (λ k. j < k) n hj))
                 ∙ end-taken B T p a j refl ha hj (S .ends j hj);
             holds =
                 subst (HeldMarks C (T ++ (p ∷ [])))
@@ -54,7 +57,7 @@ returns c =
           },
       (
         ap length (c .before .before .hold-proposal .ensures) ∙ inner-length _ _ _ ∙ outer-length (eqb outer 0) marks _ outer,
-        (c .before .before .before .before .use-end .ensures .1, length-set (s .args .removed .now) m true ∙ s .pre .1 .0 .1),
+        (at-use-end .use-end .ensures .1, length-set (entry .args .removed .now) m true ∙ entry .pre .1 .0 .1),
       ),
     )
 

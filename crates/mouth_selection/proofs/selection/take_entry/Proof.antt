@@ -33,23 +33,33 @@ element-copy-out-take-2 c = search needs
 
 take-requires : tie.Need-take-requires
 take-requires c κs =
-    let s = c .before .before .before .before .before .before .before .before .before .before .before .before in
-    let e = subst (λ m. SafeEntry (s .args .pairs .now) (s .args .starts .now) (s .args .marks .now) m (getD (s .args .outers .now) (s .args .k) 0)) (sym (c .before .before .before .before .before .before .before .index .ensures .0)) (s .pre .1 .1) in
-    (s .pre .0 .1, (((subst (λ a. a < s .args .count) (sym (c .before .before .before .before .before .index2 .ensures .0)) (s .pre .1 .0 .0), s .pre .1 .0 .1 .0), s .pre .1 .0 .1 .1), (e .stretch, (e .rows, e .marked))))
+    let at-take-arg3 = c .before .before in
+    let at-index2 = at-take-arg3 .before .before .before in
+    let at-index = at-index2 .before .before in
+    let at-slice-known = at-index .before .before in
+    let entry = at-slice-known .before .before .before in
+    let e = subst (λ m. SafeEntry (entry .args .pairs .now) (entry .args .starts .now) (entry .args .marks .now) m (getD (entry .args .outers .now) (entry .args .k) 0)) (sym (at-index .index .ensures .0)) (entry .pre .1 .1) in
+    (entry .pre .0 .1, (((subst (λ a. a < entry .args .count) (sym (at-index2 .index2 .ensures .0)) (entry .pre .1 .0 .0), entry .pre .1 .0 .1 .0), entry .pre .1 .0 .1 .1), (e .stretch, (e .rows, e .marked))))
 
 same-length : tie.Need-same-length
 same-length c = search needs
 
 returns : tie.Need-returns
 returns c =
-    let s = c .before .before .before .before .before .before .before .before .before .before .before .before .before .before .before .args in
-    let em = c .before .before .before .before .before .before .before .before .before .before .index .ensures .0 in
-    let ea = c .before .before .before .before .before .before .before .before .index2 .ensures .0 in (
+    let at-take = c .before .before in
+    let at-take-arg3 = at-take .before .before .before in
+    let at-index2 = at-take-arg3 .before .before .before in
+    let at-index = at-index2 .before .before in
+    let at-slice-known = at-index .before .before in
+    let entry = at-slice-known .before .before .before in
+    let s = entry .args in
+    let em = at-index .index .ensures .0 in
+    let ea = at-index2 .index2 .ensures .0 in (
       λ C T n B P long S hm ho free.
           taken-at T (λ i. proposalOf C (em i) (ea i) (getD (s .outers .now) (s .k) 0) (getD (s .kinds .now) (s .k) 0))
-          (c .before .before .take .ensures .0 C T n B P long S (subst (λ m. m < C .count) (sym em) hm) ho
+          (at-take .take .ensures .0 C T n B P long S (subst (λ m. m < C .count) (sym em) hm) ho
           ((λ i. isRefused C T (proposalOf C (em i) (ea i) (getD (s .outers .now) (s .k) 0) (getD (s .kinds .now) (s .k) 0))) ∙ free)),
-      c .before .before .take .ensures .1,
+      at-take .take .ensures .1,
     )
 
 pub take-entry-spec : {M : Type 1} → statement M

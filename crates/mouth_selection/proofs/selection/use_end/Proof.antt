@@ -37,9 +37,11 @@ loop-less c = search needs
 
 loop-again : tie.Need-loop-again Inv-loop μ-loop
 loop-again c =
-    let s = c .before .before .before .before .before .args in
+    let turn = c .before .before in
+    let entry = turn .before .before .before in
+    let s = entry .args in
     let at = c .before .before .before .loop in
-    (search needs, (length-set (at .used) (at .j) _ ∙ at .inv .1 .0, ends-more (s .boundaries .now) (s .a) (s .used .now) (at .used) (at .j) (omega (arith, at .inv .1 .0, c .before .before .loop-test .taken, c .before .before .before .before .before .pre .0 .0)) (at .inv .1 .1) (c .before .same-end .ensures)))
+    (search needs, (length-set (at .used) (at .j) _ ∙ at .inv .1 .0, ends-more (s .boundaries .now) (s .a) (s .used .now) (at .used) (at .j) (omega (arith, at .inv .1 .0, turn .loop-test .taken, entry .pre .0 .0)) (at .inv .1 .1) (c .before .same-end .ensures)))
 
 returns : tie.Need-returns Inv-loop μ-loop
 returns c =

@@ -32,30 +32,39 @@ returns c =
 
 returns-2 : tie.Need-returns-2
 returns-2 c =
-    let s = c .before .before .before .before .before .before .args in
+    let at-s = c .before .before .before in
+    let entry = at-s .before .before .before in
+    let s = entry .args in
     λ C P l h e.
-    sym (ap (singleAt (pairForm (c .before .before .before .s .given .0 .0))) (c .if1 .taken))
-    ∙ from-single (C .pairs (s .m)) (pairForm (s .q)) (s .s) e (P .named (s .m) l) (c .before .before .before .s .given .1) (c .before .shared-region .ensures C P l h)
+    sym (ap (singleAt (pairForm (at-s .s .given .0 .0))) (c .if1 .taken))
+    ∙ from-single (C .pairs (s .m)) (pairForm (s .q)) (s .s) e (P .named (s .m) l) (at-s .s .given .1) (c .before .shared-region .ensures C P l h)
 
 returns-3 : tie.Need-returns-3
 returns-3 c =
-    let s = c .before .before .before .before .before .before .before .args in
+    let at-known-told = c .before .before .before in
+    let at-s = at-known-told .before in
+    let entry = at-s .before .before .before in
+    let s = entry .args in
     λ C P l h e.
-    single-found (pairForm (c .before .before .before .before .s .given .0 .0)) (c .before .before .shared-region .result) (c .before .if1 .left) (c .other-region .ensures)
-    ∙ from-single (C .pairs (s .m)) (pairForm (s .q)) (s .s) e (P .named (s .m) l) (c .before .before .before .before .s .given .1) (c .before .before .shared-region .ensures C P l h)
+    single-found (pairForm (at-s .s .given .0 .0)) (c .before .before .shared-region .result) (c .before .if1 .left) (c .other-region .ensures)
+    ∙ from-single (C .pairs (s .m)) (pairForm (s .q)) (s .s) e (P .named (s .m) l) (at-s .s .given .1) (c .before .before .shared-region .ensures C P l h)
 
 returns-4 : tie.Need-returns-4
 returns-4 c =
-    let s = c .before .before .before .before .before .before .args in
+    let at-s2 = c .before .before .before in
+    let entry = at-s2 .before .before .before in
+    let s = entry .args in
     λ C P l h e.
-    sym (ap (starAt (c .before .before .before .s2 .given .0 .0)) (c .if2 .taken)) ∙ from-star (C .pairs (s .m)) (pairForm (s .q)) (s .s) e (c .before .before .before .s2 .given .1) (c .before .shared-region2 .ensures C P l h)
+    sym (ap (starAt (at-s2 .s2 .given .0 .0)) (c .if2 .taken)) ∙ from-star (C .pairs (s .m)) (pairForm (s .q)) (s .s) e (at-s2 .s2 .given .1) (c .before .shared-region2 .ensures C P l h)
 
 returns-5 : tie.Need-returns-5
 returns-5 c =
-    let s = c .before .before .before .before .before .before .args in
+    let at-s2 = c .before .before .before in
+    let entry = at-s2 .before .before .before in
+    let s = entry .args in
     λ C P l h e.
-    star-found (c .before .before .before .s2 .given .0 .0) (c .before .shared-region2 .result) (c .if2 .left)
-    ∙ from-star (C .pairs (s .m)) (pairForm (s .q)) (s .s) e (c .before .before .before .s2 .given .1) (c .before .shared-region2 .ensures C P l h)
+    star-found (at-s2 .s2 .given .0 .0) (c .before .shared-region2 .result) (c .if2 .left)
+    ∙ from-star (C .pairs (s .m)) (pairForm (s .q)) (s .s) e (at-s2 .s2 .given .1) (c .before .shared-region2 .ensures C P l h)
 
 pub approach-from-spec : {M : Type 1} → statement M
 approach-from-spec =

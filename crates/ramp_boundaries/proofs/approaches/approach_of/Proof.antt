@@ -27,14 +27,19 @@ approach-from-requires c κs = search needs
 
 returns : tie.Need-returns
 returns c =
-    let s = c .before .before .before .before .before .args in
-    λ C T P l k. ap (λ o. approachOf o (mouthShape true (C .pairs (s .m)))) (sym (ap fullPairOf (c .enum-told .given .1)) ∙ c .before .before .full-pair .ensures C T P k)
+    let at-full-pair = c .before .before in
+    let entry = at-full-pair .before .before .before in
+    let s = entry .args in
+    λ C T P l k. ap (λ o. approachOf o (mouthShape true (C .pairs (s .m)))) (sym (ap fullPairOf (c .enum-told .given .1)) ∙ at-full-pair .full-pair .ensures C T P k)
 
 returns-2 : tie.Need-returns-2
 returns-2 c =
-    let s = c .before .before .before .before .before .before .before .before .args in
+    let at-known-told = c .before .before in
+    let at-full-pair = at-known-told .before .before .before in
+    let entry = at-full-pair .before .before .before in
+    let s = entry .args in
     λ C T P l k.
-    let e = sym (ap fullPairOf (c .before .before .before .lo .given .1)) ∙ c .before .before .before .before .before .full-pair .ensures C T P k in
+    let e = sym (ap fullPairOf (c .before .before .before .lo .given .1)) ∙ at-full-pair .full-pair .ensures C T P k in
     c .approach-from .ensures C P l (all-of-one (full-pairs C (s .a) _ e) (P .named (s .a) k) .1 .0)
     (ap (λ r. shapeForm r (c .before .star .result)) (P .at (s .m) l) ∙ c .before .star .ensures ∙ sym (ap (mouthShape true) (P .at (s .m) l)))
     ∙ ap (λ o. approachOf o (mouthShape true (C .pairs (s .m)))) e

@@ -35,7 +35,10 @@ shared-slice-read-if1 : tie.Need-shared-slice-read-if1 Inv-loop μ-loop
 shared-slice-read-if1 c = search needs
 
 returns : tie.Need-returns Inv-loop μ-loop
-returns c = sym (below-at (c .before .before .before .before .args .count) (rampAt (c .before .before .before .before .args .boundaries .now)) (c .before .before .before .loop .i) (c .before .before .loop-test .taken) (ap not (ne-eqb _ 0 (c .if1 .taken))))
+returns c =
+    let at-loop = c .before .before .before in
+    let entry = at-loop .before in
+    sym (below-at (entry .args .count) (rampAt (entry .args .boundaries .now)) (at-loop .loop .i) (c .before .before .loop-test .taken) (ap not (ne-eqb _ 0 (c .if1 .taken))))
 
 add-i : tie.Need-add-i Inv-loop μ-loop
 add-i c = search needs
@@ -44,7 +47,10 @@ loop-less : tie.Need-loop-less Inv-loop μ-loop
 loop-less c = search needs
 
 loop-again : tie.Need-loop-again Inv-loop μ-loop
-loop-again c = (search needs, any-none (rampAt (c .before .before .before .before .args .boundaries .now)) (c .before .before .before .loop .i) (c .before .before .before .loop .inv .1) (ap not (eq-eqb _ 0 (c .if1 .left))))
+loop-again c =
+    let at-loop = c .before .before .before in
+    let entry = at-loop .before in
+    (search needs, any-none (rampAt (entry .args .boundaries .now)) (at-loop .loop .i) (at-loop .loop .inv .1) (ap not (eq-eqb _ 0 (c .if1 .left))))
 
 returns-2 : tie.Need-returns-2 Inv-loop μ-loop
 returns-2 c = sym (ap (λ n. anyBelow n (rampAt (c .before .before .args .boundaries .now))) (le-antisymm (c .loop-test .left) (c .before .loop .inv .0)) ∙ c .before .loop .inv .1)

@@ -28,13 +28,20 @@ abbrev μ-loop : tie.MeasureT-loop
 μ-loop boundaries tallies pairs starts counts marks count mouths₀ ramps₀ outers₀ kinds₀ separations₀ n₀ a₀ mouths ramps outers kinds separations n a = count - a
 
 loop-holds : tie.Need-loop-holds Inv-loop μ-loop
-loop-holds c = (search needs, (omega arith, (c .before .before .before .before .before .pre .1, λ C S T. filled-empty (of C (c .before .before .before .before .before .args .count)))))
+loop-holds c =
+    let at-shared-slice-known3 = c .before .before in
+    let entry = at-shared-slice-known3 .before .before .before in
+    (search needs, (omega arith, (entry .pre .1, λ C S T. filled-empty (of C (entry .args .count)))))
 
 push-ramp-requires : tie.Need-push-ramp-requires Inv-loop μ-loop
 push-ramp-requires c κs =
-    let s = c .before .before .before .before .before .before .before .before .before .before .before .before in
-    let at = c .before .before .before .before .before .before .loop in
-    (s .pre .0, (at .inv .1 .1 .0, (at .inv .1 .0, c .before .before .before .before .before .loop-test .taken)))
+    let at-push-ramp-arg3 = c .before .before in
+    let turn = at-push-ramp-arg3 .before .before .before in
+    let at-loop = turn .before in
+    let at-shared-slice-known3 = at-loop .before .before .before in
+    let entry = at-shared-slice-known3 .before .before .before in
+    let at = at-loop .loop in
+    (entry .pre .0, (at .inv .1 .1 .0, (at .inv .1 .0, turn .loop-test .taken)))
 
 add-a : tie.Need-add-a Inv-loop μ-loop
 add-a c = search needs
@@ -44,14 +51,18 @@ loop-less c = search needs
 
 loop-again : tie.Need-loop-again Inv-loop μ-loop
 loop-again c =
-    let s = c .before .before .before .before .before .before .before .before .before .before .before .before .before in
-    let at = c .before .before .before .before .before .before .before .loop in (
+    let at-push-ramp-arg3 = c .before .before .before in
+    let turn = at-push-ramp-arg3 .before .before .before in
+    let at-loop = turn .before in
+    let at-shared-slice-known3 = at-loop .before .before .before in
+    let entry = at-shared-slice-known3 .before .before .before in
+    let at = at-loop .loop in (
       search needs,
       (
         c .push-ramp .ensures .0,
         (
           c .push-ramp .ensures .1 .0,
-          λ C S T. filled-as (c .push-ramp .ensures .1 .1 C (gather (at .a) (of C (s .args .count))) S T (at .inv .1 .1 .1 C S T)) (ramp-list (of C (s .args .count)) (at .a)),
+          λ C S T. filled-as (c .push-ramp .ensures .1 .1 C (gather (at .a) (of C (entry .args .count))) S T (at .inv .1 .1 .1 C S T)) (ramp-list (of C (entry .args .count)) (at .a)),
         ),
       ),
     )
@@ -59,14 +70,16 @@ loop-again c =
 returns : tie.Need-returns Inv-loop μ-loop
 unfolding candidates
 returns c =
-    let s = c .before .before .before .before .before .before .before in
-    let at = c .before .loop in
+    let at-loop = c .before in
+    let at-shared-slice-known3 = at-loop .before .before .before in
+    let entry = at-shared-slice-known3 .before .before .before in
+    let at = at-loop .loop in
     let same = le-antisymm (at .inv .0) (c .loop-test .left) in
-    let f = plainAt (s .args .boundaries .now) in (
-      le-trans (subst (λ a. at .n ≤ countBelow a (rampAt (s .args .boundaries .now)) * countBelow (s .args .count) f) same (at .inv .1 .0)) (all-fit f (s .args .count) (omega (arith, s .pre .0 .shows .bounds .few, s .pre .0 .shows .counted))),
+    let f = plainAt (entry .args .boundaries .now) in (
+      le-trans (subst (λ a. at .n ≤ countBelow a (rampAt (entry .args .boundaries .now)) * countBelow (entry .args .count) f) same (at .inv .1 .0)) (all-fit f (entry .args .count) (omega (arith, entry .pre .0 .shows .bounds .few, entry .pre .0 .shows .counted))),
       (
         at .inv .1 .1 .0,
-        λ C S T. filled-as (at .inv .1 .1 .1 C S T) (ap (λ a. gather a (of C (s .args .count))) same ∙ ap (λ n. gather n (of C n)) (sym (S .counted))),
+        λ C S T. filled-as (at .inv .1 .1 .1 C S T) (ap (λ a. gather a (of C (entry .args .count))) same ∙ ap (λ n. gather n (of C n)) (sym (S .counted))),
       ),
     )
 

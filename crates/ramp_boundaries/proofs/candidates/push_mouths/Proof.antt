@@ -29,13 +29,20 @@ abbrev μ-loop : tie.MeasureT-loop
 
 loop-holds : tie.Need-loop-holds Inv-loop μ-loop
 unfolding countBelow
-loop-holds c = (search needs, (omega arith, (c .before .before .before .before .before .pre .1 .0, λ C l S T ramp cut E F. filled-as F (first-list l (mouthCandidate C (c .before .before .before .before .before .args .a))))))
+loop-holds c =
+    let at-shared-slice-known3 = c .before .before in
+    let entry = at-shared-slice-known3 .before .before .before in
+    (search needs, (omega arith, (entry .pre .1 .0, λ C l S T ramp cut E F. filled-as F (first-list l (mouthCandidate C (entry .args .a))))))
 
 push-plain-requires : tie.Need-push-plain-requires Inv-loop μ-loop
 push-plain-requires c κs =
-    let s = c .before .before .before .before .before .before .before .before .before .before .before .before in
-    let at = c .before .before .before .before .before .before .loop in
-    (s .pre .0, (at .inv .1 .1 .0, (omega (arith, at .inv .1 .0, s .pre .1 .1 .0, count-upto (plainAt (s .args .boundaries .now)) (at .m) (s .args .count) (c .before .before .before .before .before .loop-test .taken)), (c .before .before .before .before .before .loop-test .taken, s .pre .1 .1 .1))))
+    let at-push-plain-arg3 = c .before .before in
+    let turn = at-push-plain-arg3 .before .before .before in
+    let at-loop = turn .before in
+    let at-shared-slice-known3 = at-loop .before .before .before in
+    let entry = at-shared-slice-known3 .before .before .before in
+    let at = at-loop .loop in
+    (entry .pre .0, (at .inv .1 .1 .0, (omega (arith, at .inv .1 .0, entry .pre .1 .1 .0, count-upto (plainAt (entry .args .boundaries .now)) (at .m) (entry .args .count) (turn .loop-test .taken)), (turn .loop-test .taken, entry .pre .1 .1 .1))))
 
 add-m : tie.Need-add-m Inv-loop μ-loop
 add-m c = search needs
@@ -45,27 +52,33 @@ loop-less c = search needs
 
 loop-again : tie.Need-loop-again Inv-loop μ-loop
 loop-again c =
-    let s = c .before .before .before .before .before .before .before .before .before .before .before .before .before in
-    let at = c .before .before .before .before .before .before .before .loop in (
+    let at-push-plain-arg3 = c .before .before .before in
+    let turn = at-push-plain-arg3 .before .before .before in
+    let at-loop = turn .before in
+    let at-shared-slice-known3 = at-loop .before .before .before in
+    let entry = at-shared-slice-known3 .before .before .before in
+    let at = at-loop .loop in (
       search needs,
       (
-        omega (arith, c .push-plain .ensures .0, at .inv .1 .0, count-next (plainAt (s .args .boundaries .now)) (at .m)),
+        omega (arith, c .push-plain .ensures .0, at .inv .1 .0, count-next (plainAt (entry .args .boundaries .now)) (at .m)),
         (
           c .push-plain .ensures .1 .0,
-          λ C l S T ramp cut E F. filled-as (c .push-plain .ensures .1 .1 C (l ++ collect (at .m) (mouthCandidate C (s .args .a))) S T ramp cut E (at .inv .1 .1 .1 C l S T ramp cut E F)) (next-list l (mouthCandidate C (s .args .a)) (at .m)),
+          λ C l S T ramp cut E F. filled-as (c .push-plain .ensures .1 .1 C (l ++ collect (at .m) (mouthCandidate C (entry .args .a))) S T ramp cut E (at .inv .1 .1 .1 C l S T ramp cut E F)) (next-list l (mouthCandidate C (entry .args .a)) (at .m)),
         ),
       ),
     )
 
 returns : tie.Need-returns Inv-loop μ-loop
 returns c =
-    let s = c .before .before .before .before .before .before .before in
-    let at = c .before .loop in
+    let at-loop = c .before in
+    let at-shared-slice-known3 = at-loop .before .before .before in
+    let entry = at-shared-slice-known3 .before .before .before in
+    let at = at-loop .loop in
     let same = le-antisymm (at .inv .0) (c .loop-test .left) in (
-      subst (λ m. at .n ≤ s .args .first + countBelow m (plainAt (s .args .boundaries .now))) same (at .inv .1 .0),
+      subst (λ m. at .n ≤ entry .args .first + countBelow m (plainAt (entry .args .boundaries .now))) same (at .inv .1 .0),
       (
         at .inv .1 .1 .0,
-        λ C l S T ramp cut E F. filled-as (at .inv .1 .1 .1 C l S T ramp cut E F) (ap (λ m. l ++ collect m (mouthCandidate C (s .args .a))) same),
+        λ C l S T ramp cut E F. filled-as (at .inv .1 .1 .1 C l S T ramp cut E F) (ap (λ m. l ++ collect m (mouthCandidate C (entry .args .a))) same),
       ),
     )
 

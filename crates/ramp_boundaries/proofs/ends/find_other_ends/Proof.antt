@@ -26,14 +26,18 @@ other-end-incident-requires-2 c κs = search needs
 
 returns : tie.Need-returns
 returns c =
-    let s = c .before .before .before .before .before .before in
-    λ C n S T P. none-asked C (s .args .a) _ (sym (ap fullPairOf (c .enum-told .given .1)) ∙ c .before .before .full-pair .ensures C T P (below n (s .pre .0 .1)))
+    let at-shared-slice-known3 = c .before .before .before in
+    let entry = at-shared-slice-known3 .before .before .before in
+    λ C n S T P. none-asked C (entry .args .a) _ (sym (ap fullPairOf (c .enum-told .given .1)) ∙ c .before .before .full-pair .ensures C T P (below n (entry .pre .0 .1)))
 
 returns-2 : tie.Need-returns-2
 returns-2 c =
-    let s = c .before .before .before .before .before .before .before .before .before in
+    let at-known-told = c .before .before in
+    let at-full-pair = at-known-told .before .before .before in
+    let at-shared-slice-known2 = at-full-pair .before .before in
+    let entry = at-shared-slice-known2 .before .before in
     λ C n S T P.
-    both-found C (s .args .a) _ (sym (ap fullPairOf (c .before .before .before .lo .given .1)) ∙ c .before .before .before .before .before .full-pair .ensures C T P (below n (s .pre .0 .1)))
+    both-found C (entry .args .a) _ (sym (ap fullPairOf (c .before .before .before .lo .given .1)) ∙ at-full-pair .full-pair .ensures C T P (below n (entry .pre .0 .1)))
     (c .before .other-end-incident .ensures C n S P)
     (c .other-end-incident2 .ensures C n S P)
 

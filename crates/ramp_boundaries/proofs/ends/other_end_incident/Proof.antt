@@ -30,19 +30,25 @@ is-other-end-requires : tie.Need-is-other-end-requires Inv-loop μ-loop
 is-other-end-requires c κs = search needs
 
 is-incident-requires : tie.Need-is-incident-requires Inv-loop μ-loop
-is-incident-requires c κs = c .before .before .before .before .before .before .pre .1 (c .before .before .before .loop .j) (c .before .before .loop-test .taken)
+is-incident-requires c κs =
+    let at-loop = c .before .before .before in
+    let entry = at-loop .before .before .before in
+    entry .pre .1 (at-loop .loop .j) (c .before .before .loop-test .taken)
 
 returns : tie.Need-returns Inv-loop μ-loop
 unfolding otherEndIncident
 returns c =
-    let s = c .before .before .before .before .before .before .before .before in
-    let j = c .before .before .before .before .before .loop .j in
+    let at-is-incident = c .before in
+    let turn = at-is-incident .before .before .before in
+    let at-loop = turn .before in
+    let entry = at-loop .before .before .before in
+    let j = at-loop .loop .j in
     λ C n S P.
-    let hj : j < C .count = subst (λ k. j < k) (sym n) (c .before .before .before .before .loop-test .taken) in
-    let ha : s .args .a < C .count = subst (λ k. s .args .a < k) (sym n) (s .pre .0 .1) in
-    sym (below-at (C .count) (isOtherEnd C (s .args .a) (s .args .r)) j hj
-    (sym (other-end-is S j (s .args .a) (s .args .r) hj ha)
-    ∙ ap₂ _&&_ (sym (c .before .before .before .is-other-end .ensures) ∙ c .before .before .if1 .taken) (sym (c .before .is-incident .ensures C P hj) ∙ c .if2 .taken)))
+    let hj : j < C .count = subst (λ k. j < k) (sym n) (turn .loop-test .taken) in
+    let ha : entry .args .a < C .count = subst (λ k. entry .args .a < k) (sym n) (entry .pre .0 .1) in
+    sym (below-at (C .count) (isOtherEnd C (entry .args .a) (entry .args .r)) j hj
+    (sym (other-end-is S j (entry .args .a) (entry .args .r) hj ha)
+    ∙ ap₂ _&&_ (sym (c .before .before .before .is-other-end .ensures) ∙ c .before .before .if1 .taken) (sym (at-is-incident .is-incident .ensures C P hj) ∙ c .if2 .taken)))
 
 add-j : tie.Need-add-j Inv-loop μ-loop
 add-j c = search needs
@@ -52,23 +58,25 @@ loop-less c = search needs
 
 loop-again : tie.Need-loop-again Inv-loop μ-loop
 loop-again c =
-    let s = c .before .before .before .before .before .before in
-    let j = c .before .before .before .loop .j in (
+    let at-loop = c .before .before .before in
+    let entry = at-loop .before .before .before in
+    let j = at-loop .loop .j in (
       search needs,
       λ C n S P.
           let hj : j < C .count = subst (λ k. j < k) (sym n) (c .before .before .loop-test .taken) in
-          let ha : s .args .a < C .count = subst (λ k. s .args .a < k) (sym n) (s .pre .0 .1) in
-          any-none (isOtherEnd C (s .args .a) (s .args .r)) j (c .before .before .before .loop .inv .1 C n S P)
-          (sym (other-end-is S j (s .args .a) (s .args .r) hj ha)
+          let ha : entry .args .a < C .count = subst (λ k. entry .args .a < k) (sym n) (entry .pre .0 .1) in
+          any-none (isOtherEnd C (entry .args .a) (entry .args .r)) j (at-loop .loop .inv .1 C n S P)
+          (sym (other-end-is S j (entry .args .a) (entry .args .r) hj ha)
           ∙ ⊎-elim (λ w. ap₂ _&&_ (sym (c .before .is-other-end .ensures) ∙ w .0 .taken) (sym (w .1 .ensures C P hj) ∙ w .2 .left))
-          (λ w. ap (λ b. b && isIncident C j (s .args .r)) (sym (c .before .is-other-end .ensures) ∙ w .left)) (c .if1 .came)),
+          (λ w. ap (λ b. b && isIncident C j (entry .args .r)) (sym (c .before .is-other-end .ensures) ∙ w .left)) (c .if1 .came)),
     )
 
 returns-2 : tie.Need-returns-2 Inv-loop μ-loop
 unfolding otherEndIncident
 returns-2 c =
-    let s = c .before .before .before .before in
-    λ C n S P. sym (ap (λ k. anyBelow k (isOtherEnd C (s .args .a) (s .args .r))) (n ∙ le-antisymm (c .loop-test .left) (c .before .loop .inv .0)) ∙ c .before .loop .inv .1 C n S P)
+    let at-loop = c .before in
+    let entry = at-loop .before .before .before in
+    λ C n S P. sym (ap (λ k. anyBelow k (isOtherEnd C (entry .args .a) (entry .args .r))) (n ∙ le-antisymm (c .loop-test .left) (at-loop .loop .inv .0)) ∙ at-loop .loop .inv .1 C n S P)
 
 pub other-end-incident-spec : {M : Type 1} → statement M
 other-end-incident-spec =

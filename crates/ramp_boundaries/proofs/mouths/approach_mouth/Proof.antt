@@ -18,10 +18,12 @@ other-end-at-requires c κs = search needs
 
 single-mouth-requires : tie.Need-single-mouth-requires
 single-mouth-requires c κs =
-    let s = c .before .before .before .before .before .before .before in
+    let at-known-told = c .before in
+    let at-shared-slice-known3 = at-known-told .before .before .before in
+    let entry = at-shared-slice-known3 .before .before .before in
     let k = c .before .before .approach .given .1 in
-    let n = subst (Within (length (s .args .counts .now))) k (s .pre .1 .1 .0) in
-    let t = subst (Within (length (s .args .marks .now))) k (s .pre .1 .1 .1) in
+    let n = subst (Within (length (entry .args .counts .now))) k (entry .pre .1 .1 .0) in
+    let t = subst (Within (length (entry .args .marks .now))) k (entry .pre .1 .1 .1) in
     (t .0, (t .1 .0, (t .1 .1, n .1 .1)))
 
 enum-known-approach-2 : tie.Need-enum-known-approach-2
@@ -32,28 +34,38 @@ other-end-at-requires-2 c κs = search needs
 
 star-mouth-requires : tie.Need-star-mouth-requires
 star-mouth-requires c κs =
-    let s = c .before .before .before .before .before .before .before in
-    let n = subst (Within (length (s .args .counts .now))) (c .before .before .approach2 .given .1) (s .pre .1 .1 .0) in
-    (s .pre .0, (s .pre .1 .0, n .1))
+    let at-known-told2 = c .before in
+    let at-shared-slice-known3 = at-known-told2 .before .before .before in
+    let entry = at-shared-slice-known3 .before .before .before in
+    let n = subst (Within (length (entry .args .counts .now))) (c .before .before .approach2 .given .1) (entry .pre .1 .1 .0) in
+    (entry .pre .0, (entry .pre .1 .0, n .1))
 
 returns : tie.Need-returns
 unfolding approachMouth
 returns c =
-    let s = c .before .before .before .before .before .args in
+    let at-shared-slice-known3 = c .before .before in
+    let entry = at-shared-slice-known3 .before .before .before in
+    let s = entry .args in
     λ C a P I A l n e w o. ap (approachMouth C (s .m) a) (sym (c .enum-told .given .1))
 
 returns-2 : tie.Need-returns-2
 returns-2 c =
-    let s = c .before .before .before .before .before .before .before .before .args in
-    let k = c .before .before .before .approach .given .1 in
+    let at-approach = c .before .before .before in
+    let at-shared-slice-known2 = at-approach .before .before .before in
+    let entry = at-shared-slice-known2 .before .before in
+    let s = entry .args in
+    let k = at-approach .approach .given .1 in
     λ C a P I A l n e w o.
     let h = subst (Within (C .regions)) k n in
     c .single-mouth .ensures C (s .m) a I A (h .0 .1, h .1 .1) (c .before .other-end-at .ensures ∙ subst (EndKnown C a (s .ends)) k e) w o ∙ ap (approachMouth C (s .m) a) (sym k)
 
 returns-3 : tie.Need-returns-3
 returns-3 c =
-    let s = c .before .before .before .before .before .before .before .before .args in
-    let k = c .before .before .before .approach2 .given .1 in
+    let at-approach2 = c .before .before .before in
+    let at-shared-slice-known2 = at-approach2 .before .before .before in
+    let entry = at-shared-slice-known2 .before .before in
+    let s = entry .args in
+    let k = at-approach2 .approach2 .given .1 in
     λ C a P I A l n e w o.
     c .star-mouth .ensures C a P I A l (subst (Within (C .regions)) k n .1 .1) (c .before .other-end-at2 .ensures ∙ subst (EndKnown C a (s .ends)) k e) w o ∙ ap (approachMouth C (s .m) a) (sym k)
 

@@ -13,8 +13,10 @@ incident-count-requires c κs = search needs
 
 returns : tie.Need-returns
 returns c =
-    let s = c .before .before .before .before .args in
-    λ i. eqb (s .s) (s .outer) || not (c .before .is-anchored .ensures i) && (eqb (s .s) (s .r) || eqb (c .incident-count .ensures i) 1)
+    let at-is-anchored = c .before in
+    let entry = at-is-anchored .before .before .before in
+    let s = entry .args in
+    λ i. eqb (s .s) (s .outer) || not (at-is-anchored .is-anchored .ensures i) && (eqb (s .s) (s .r) || eqb (c .incident-count .ensures i) 1)
 
 pub region-fits-spec : {M : Type 1} → statement M
 region-fits-spec = tie.close (tie.spec is-anchored-requires incident-count-requires returns)

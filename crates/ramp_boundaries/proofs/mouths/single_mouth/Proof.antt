@@ -11,10 +11,11 @@ is-anchored-requires c κs = search needs
 
 returns : tie.Need-returns
 returns c =
-    let s = c .before .before .before .before in
+    let at-is-anchored = c .before in
+    let entry = at-is-anchored .before .before .before in
     λ C m a I A n b w o.
-    single-by C m a (s .args .outer) (s .args .r)
-    (anchored-shown A (s .args .r) (s .pre .1 .0) (n .1) (c .before .is-anchored .ensures) ∙ c .if1 .taken)
+    single-by C m a (entry .args .outer) (entry .args .r)
+    (anchored-shown A (entry .args .r) (entry .pre .1 .0) (n .1) (at-is-anchored .is-anchored .ensures) ∙ c .if1 .taken)
     (refl)
     (refl)
     (refl)
@@ -27,43 +28,56 @@ is-anchored-requires-2 c κs = search needs
 
 returns-2 : tie.Need-returns-2
 returns-2 c =
-    let s = c .before .before .before .before .before .before .before in
+    let at-is-anchored2 = c .before in
+    let at-is-anchored = at-is-anchored2 .before .before .before in
+    let entry = at-is-anchored .before .before .before in
     λ C m a I A n b w o.
-    single-by C m a (s .args .outer) (s .args .r)
-    (anchored-shown A (s .args .r) (s .pre .1 .0) (n .1) (c .before .before .before .before .is-anchored .ensures) ∙ c .before .before .before .if1 .left)
-    ((λ i. sym o i && ((anchored-shown A (s .args .outer) (s .pre .0 .0) (n .0) (c .before .is-anchored2 .ensures)) i || not ((two-shown A I (s .args .r) (s .pre .1 .0) (n .1) (c .before .before .incident-count .ensures)) i))) ∙ c .if2 .taken)
+    single-by C m a (entry .args .outer) (entry .args .r)
+    (anchored-shown A (entry .args .r) (entry .pre .1 .0) (n .1) (at-is-anchored .is-anchored .ensures) ∙ c .before .before .before .if1 .left)
+    ((λ i. sym o i && ((anchored-shown A (entry .args .outer) (entry .pre .0 .0) (n .0) (at-is-anchored2 .is-anchored2 .ensures)) i || not ((two-shown A I (entry .args .r) (entry .pre .1 .0) (n .1) (c .before .before .incident-count .ensures)) i))) ∙ c .if2 .taken)
     (refl)
     (refl)
 
 returns-3 : tie.Need-returns-3
 returns-3 c =
-    let s = c .before .before .before .before .before .before .before .before in
+    let at-incident-count = c .before .before .before in
+    let at-if1 = at-incident-count .before in
+    let at-is-anchored = at-if1 .before in
+    let entry = at-is-anchored .before .before .before in
     λ C m a I A n b w o.
-    single-by C m a (s .args .outer) (s .args .r)
-    (anchored-shown A (s .args .r) (s .pre .1 .0) (n .1) (c .before .before .before .before .before .is-anchored .ensures) ∙ c .before .before .before .before .if1 .left)
-    ((λ i. sym o i && ((anchored-shown A (s .args .outer) (s .pre .0 .0) (n .0) (c .before .before .is-anchored2 .ensures)) i || not ((two-shown A I (s .args .r) (s .pre .1 .0) (n .1) (c .before .before .before .incident-count .ensures)) i))) ∙ c .before .if2 .left)
+    single-by C m a (entry .args .outer) (entry .args .r)
+    (anchored-shown A (entry .args .r) (entry .pre .1 .0) (n .1) (at-is-anchored .is-anchored .ensures) ∙ at-if1 .if1 .left)
+    ((λ i. sym o i && ((anchored-shown A (entry .args .outer) (entry .pre .0 .0) (n .0) (c .before .before .is-anchored2 .ensures)) i || not ((two-shown A I (entry .args .r) (entry .pre .1 .0) (n .1) (at-incident-count .incident-count .ensures)) i))) ∙ c .before .if2 .left)
     (sym b ∙ c .if3 .taken)
     (refl)
 
 returns-4 : tie.Need-returns-4
 returns-4 c =
-    let s = c .before .before .before .before .before .before .before .before .before in
+    let at-is-anchored2 = c .before .before .before in
+    let at-incident-count = at-is-anchored2 .before in
+    let at-if1 = at-incident-count .before in
+    let at-is-anchored = at-if1 .before in
+    let entry = at-is-anchored .before .before .before in
     λ C m a I A n b w o.
-    single-by C m a (s .args .outer) (s .args .r)
-    (anchored-shown A (s .args .r) (s .pre .1 .0) (n .1) (c .before .before .before .before .before .before .is-anchored .ensures) ∙ c .before .before .before .before .before .if1 .left)
-    ((λ i. sym o i && ((anchored-shown A (s .args .outer) (s .pre .0 .0) (n .0) (c .before .before .before .is-anchored2 .ensures)) i || not ((two-shown A I (s .args .r) (s .pre .1 .0) (n .1) (c .before .before .before .before .incident-count .ensures)) i))) ∙ c .before .before .if2 .left)
+    single-by C m a (entry .args .outer) (entry .args .r)
+    (anchored-shown A (entry .args .r) (entry .pre .1 .0) (n .1) (at-is-anchored .is-anchored .ensures) ∙ at-if1 .if1 .left)
+    ((λ i. sym o i && ((anchored-shown A (entry .args .outer) (entry .pre .0 .0) (n .0) (at-is-anchored2 .is-anchored2 .ensures)) i || not ((two-shown A I (entry .args .r) (entry .pre .1 .0) (n .1) (at-incident-count .incident-count .ensures)) i))) ∙ c .before .before .if2 .left)
     (sym b ∙ c .before .if3 .left)
-    ((λ i. (sym w i || sym o i) && (two-shown A I (s .args .r) (s .pre .1 .0) (n .1) (c .before .before .before .before .incident-count .ensures)) i) ∙ c .if4 .taken)
+    ((λ i. (sym w i || sym o i) && (two-shown A I (entry .args .r) (entry .pre .1 .0) (n .1) (at-incident-count .incident-count .ensures)) i) ∙ c .if4 .taken)
 
 returns-5 : tie.Need-returns-5
 returns-5 c =
-    let s = c .before .before .before .before .before .before .before .before .before in
+    let at-is-anchored2 = c .before .before .before in
+    let at-incident-count = at-is-anchored2 .before in
+    let at-if1 = at-incident-count .before in
+    let at-is-anchored = at-if1 .before in
+    let entry = at-is-anchored .before .before .before in
     λ C m a I A n b w o.
-    single-by C m a (s .args .outer) (s .args .r)
-    (anchored-shown A (s .args .r) (s .pre .1 .0) (n .1) (c .before .before .before .before .before .before .is-anchored .ensures) ∙ c .before .before .before .before .before .if1 .left)
-    ((λ i. sym o i && ((anchored-shown A (s .args .outer) (s .pre .0 .0) (n .0) (c .before .before .before .is-anchored2 .ensures)) i || not ((two-shown A I (s .args .r) (s .pre .1 .0) (n .1) (c .before .before .before .before .incident-count .ensures)) i))) ∙ c .before .before .if2 .left)
+    single-by C m a (entry .args .outer) (entry .args .r)
+    (anchored-shown A (entry .args .r) (entry .pre .1 .0) (n .1) (at-is-anchored .is-anchored .ensures) ∙ at-if1 .if1 .left)
+    ((λ i. sym o i && ((anchored-shown A (entry .args .outer) (entry .pre .0 .0) (n .0) (at-is-anchored2 .is-anchored2 .ensures)) i || not ((two-shown A I (entry .args .r) (entry .pre .1 .0) (n .1) (at-incident-count .incident-count .ensures)) i))) ∙ c .before .before .if2 .left)
     (sym b ∙ c .before .if3 .left)
-    ((λ i. (sym w i || sym o i) && (two-shown A I (s .args .r) (s .pre .1 .0) (n .1) (c .before .before .before .before .incident-count .ensures)) i) ∙ c .if4 .left)
+    ((λ i. (sym w i || sym o i) && (two-shown A I (entry .args .r) (entry .pre .1 .0) (n .1) (at-incident-count .incident-count .ensures)) i) ∙ c .if4 .left)
 
 pub single-mouth-spec : {M : Type 1} → statement M
 single-mouth-spec =

@@ -35,29 +35,45 @@ row-at-requires : tie.Need-row-at-requires
 row-at-requires c κs = first-named (c .before .before .before) .inside
 
 add-row-at : tie.Need-add-row-at
-add-row-at c = omega (arith, second-named (c .before .before .before .before) .inside)
+add-row-at c =
+    let at-first = c .before in
+    let entry = at-first .before .before .before in
+    omega (arith, second-named entry .inside)
 
 row-at-requires-2 : tie.Need-row-at-requires-2
-row-at-requires-2 c κs = second-named (c .before .before .before .before) .inside
+row-at-requires-2 c κs =
+    let at-first = c .before in
+    let entry = at-first .before .before .before in
+    second-named entry .inside
 
 with-region-requires : tie.Need-with-region-requires
 with-region-requires c κs =
-    let n = named-lo (c .before .row-at .ensures) (first-named (c .before .before .before .before .before)) (first-named (c .before .before .before .before .before)) in
+    let at-first = c .before .before in
+    let entry = at-first .before .before .before in
+    let n = named-lo (c .before .row-at .ensures) (first-named entry) (first-named entry) in
     (n .0, n .1 .0)
 
 with-region-requires-2 : tie.Need-with-region-requires-2
 with-region-requires-2 c κs =
-    let n = named-hi (c .before .before .row-at .ensures) (first-named (c .before .before .before .before .before .before)) (first-named (c .before .before .before .before .before .before)) in
+    let at-first = c .before .before .before in
+    let entry = at-first .before .before .before in
+    let n = named-hi (c .before .before .row-at .ensures) (first-named entry) (first-named entry) in
     (n .0, n .1 .0)
 
 with-region-requires-3 : tie.Need-with-region-requires-3
 with-region-requires-3 c κs =
-    let n = named-lo (c .before .before .row-at2 .ensures) (second-named (c .before .before .before .before .before .before .before)) (second-named (c .before .before .before .before .before .before .before)) in
+    let at-with-region = c .before in
+    let at-first = at-with-region .before .before .before in
+    let entry = at-first .before .before .before in
+    let n = named-lo (c .before .before .row-at2 .ensures) (second-named entry) (second-named entry) in
     (n .0, n .1 .0)
 
 with-region-requires-4 : tie.Need-with-region-requires-4
 with-region-requires-4 c κs =
-    let n = named-hi (c .before .before .before .row-at2 .ensures) (second-named (c .before .before .before .before .before .before .before .before)) (second-named (c .before .before .before .before .before .before .before .before)) in
+    let at-with-region = c .before .before in
+    let at-first = at-with-region .before .before .before in
+    let entry = at-first .before .before .before in
+    let n = named-hi (c .before .before .before .row-at2 .ensures) (second-named entry) (second-named entry) in
     (n .0, n .1 .0)
 
 enum-told : tie.Need-enum-told
@@ -71,39 +87,58 @@ enum-told-2 c = search needs
 
 returns : tie.Need-returns
 returns c =
-    let s = c .before .before .before .before .before .before .before .before .before .before .before in
+    let at-match-keys1 = c .before in
+    let at-with-region2 = at-match-keys1 .before .before .before in
+    let at-with-region = at-with-region2 .before in
+    let at-row-at2 = at-with-region .before in
+    let at-row-at = at-row-at2 .before in
+    let at-first = at-row-at .before in
+    let entry = at-first .before .before .before in
     λ C a P A l.
-    let two = between-two (s .args .pairs .now) _ _ (s .pre .0 .1) in
-    let rows = P .at (s .args .m) l ∙ two ∙ sym (two-rows (c .before .before .before .before .before .before .before .row-at .ensures) (c .before .before .before .before .before .before .row-at2 .ensures)) in
+    let two = between-two (entry .args .pairs .now) _ _ (entry .pre .0 .1) in
+    let rows = P .at (entry .args .m) l ∙ two ∙ sym (two-rows (at-row-at .row-at .ensures) (at-row-at2 .row-at2 .ensures)) in
     let found =
     ap (λ l. outersOf (filter (C .anchored) (distinctRegions l))) rows
-    ∙ found-is A (pairForm (c .before .before .before .before .before .before .before .row-at .result)) (pairForm (c .before .before .before .before .before .before .row-at2 .result)) (subst (All (Named (C .regions))) rows (P .named (s .args .m) l))
-    (c .before .before .before .before .before .with-region .ensures) (c .before .before .before .before .with-region2 .ensures) (c .before .before .before .with-region3 .ensures) (c .before .before .with-region4 .ensures) in
-    triangle-none C (s .args .m) a (distinct-named (P .named (s .args .m) l)) (found ∙ c .enum-told .given .1)
+    ∙ found-is A (pairForm (at-row-at .row-at .result)) (pairForm (at-row-at2 .row-at2 .result)) (subst (All (Named (C .regions))) rows (P .named (entry .args .m) l))
+    (at-with-region .with-region .ensures) (at-with-region2 .with-region2 .ensures) (c .before .before .before .with-region3 .ensures) (c .before .before .with-region4 .ensures) in
+    triangle-none C (entry .args .m) a (distinct-named (P .named (entry .args .m) l)) (found ∙ c .enum-told .given .1)
 
 returns-2 : tie.Need-returns-2
 returns-2 c =
-    let s = c .before .before .before .before .before .before .before .before .before .before .before .before in
+    let at-r = c .before in
+    let at-with-region3 = at-r .before .before .before in
+    let at-with-region2 = at-with-region3 .before in
+    let at-with-region = at-with-region2 .before in
+    let at-row-at2 = at-with-region .before in
+    let at-row-at = at-row-at2 .before in
+    let at-first = at-row-at .before in
+    let entry = at-first .before .before .before in
     λ C a P A l.
-    let two = between-two (s .args .pairs .now) _ _ (s .pre .0 .1) in
-    let rows = P .at (s .args .m) l ∙ two ∙ sym (two-rows (c .before .before .before .before .before .before .before .before .row-at .ensures) (c .before .before .before .before .before .before .before .row-at2 .ensures)) in
+    let two = between-two (entry .args .pairs .now) _ _ (entry .pre .0 .1) in
+    let rows = P .at (entry .args .m) l ∙ two ∙ sym (two-rows (at-row-at .row-at .ensures) (at-row-at2 .row-at2 .ensures)) in
     let found =
     ap (λ l. outersOf (filter (C .anchored) (distinctRegions l))) rows
-    ∙ found-is A (pairForm (c .before .before .before .before .before .before .before .before .row-at .result)) (pairForm (c .before .before .before .before .before .before .before .row-at2 .result)) (subst (All (Named (C .regions))) rows (P .named (s .args .m) l))
-    (c .before .before .before .before .before .before .with-region .ensures) (c .before .before .before .before .before .with-region2 .ensures) (c .before .before .before .before .with-region3 .ensures) (c .before .before .before .with-region4 .ensures) in
-    triangle-one C (s .args .m) a (distinct-named (P .named (s .args .m) l)) _ (one-at-least C (s .args .m) a (distinct-named (P .named (s .args .m) l)) _ (found ∙ c .before .r .given .1)) (found ∙ c .before .r .given .1)
+    ∙ found-is A (pairForm (at-row-at .row-at .result)) (pairForm (at-row-at2 .row-at2 .result)) (subst (All (Named (C .regions))) rows (P .named (entry .args .m) l))
+    (at-with-region .with-region .ensures) (at-with-region2 .with-region2 .ensures) (at-with-region3 .with-region3 .ensures) (c .before .before .before .with-region4 .ensures) in
+    triangle-one C (entry .args .m) a (distinct-named (P .named (entry .args .m) l)) _ (one-at-least C (entry .args .m) a (distinct-named (P .named (entry .args .m) l)) _ (found ∙ at-r .r .given .1)) (found ∙ at-r .r .given .1)
 
 returns-3 : tie.Need-returns-3
 returns-3 c =
-    let s = c .before .before .before .before .before .before .before .before .before .before .before in
+    let at-match-keys3 = c .before in
+    let at-with-region2 = at-match-keys3 .before .before .before in
+    let at-with-region = at-with-region2 .before in
+    let at-row-at2 = at-with-region .before in
+    let at-row-at = at-row-at2 .before in
+    let at-first = at-row-at .before in
+    let entry = at-first .before .before .before in
     λ C a P A l.
-    let two = between-two (s .args .pairs .now) _ _ (s .pre .0 .1) in
-    let rows = P .at (s .args .m) l ∙ two ∙ sym (two-rows (c .before .before .before .before .before .before .before .row-at .ensures) (c .before .before .before .before .before .before .row-at2 .ensures)) in
+    let two = between-two (entry .args .pairs .now) _ _ (entry .pre .0 .1) in
+    let rows = P .at (entry .args .m) l ∙ two ∙ sym (two-rows (at-row-at .row-at .ensures) (at-row-at2 .row-at2 .ensures)) in
     let found =
     ap (λ l. outersOf (filter (C .anchored) (distinctRegions l))) rows
-    ∙ found-is A (pairForm (c .before .before .before .before .before .before .before .row-at .result)) (pairForm (c .before .before .before .before .before .before .row-at2 .result)) (subst (All (Named (C .regions))) rows (P .named (s .args .m) l))
-    (c .before .before .before .before .before .with-region .ensures) (c .before .before .before .before .with-region2 .ensures) (c .before .before .before .with-region3 .ensures) (c .before .before .with-region4 .ensures) in
-    triangle-several C (s .args .m) a (distinct-named (P .named (s .args .m) l)) (found ∙ c .enum-told2 .given .1)
+    ∙ found-is A (pairForm (at-row-at .row-at .result)) (pairForm (at-row-at2 .row-at2 .result)) (subst (All (Named (C .regions))) rows (P .named (entry .args .m) l))
+    (at-with-region .with-region .ensures) (at-with-region2 .with-region2 .ensures) (c .before .before .before .with-region3 .ensures) (c .before .before .with-region4 .ensures) in
+    triangle-several C (entry .args .m) a (distinct-named (P .named (entry .args .m) l)) (found ∙ c .enum-told2 .given .1)
 
 pub triangle-mouth-spec : {M : Type 1} → statement M
 triangle-mouth-spec =

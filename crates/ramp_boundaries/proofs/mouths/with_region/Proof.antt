@@ -1,10 +1,9 @@
 -- `mouths::with_region` meets its contract, by what was found before. Assumes nothing.
 use mathlib.Core.Path.{sym, ap, ap₂, _∙_}
 use mathlib.Core.Bool.{cond}
-use borrow.Author.Tests.{eq-eqb, ne-eqb}
+use borrow.Author.Tests.{eq-eqb, ne-eqb, not-true, not-false}
 use Rattle.ramp_boundaries.specs.Outers.{withRegion}
 use Rattle.ramp_boundaries.specs.declared.mouths.Outers.the-variants as outers
-use Rattle.ramp_boundaries.proofs.RowLists.{negated-true, negated-false}
 use borrow.Author.Needs.{needs}
 use Rattle.ramp_boundaries.proofs.mouths.with_region.Statement.{statement}
 use Rattle.ramp_boundaries.proofs.mouths.with_region.Tie as tie
@@ -15,7 +14,7 @@ is-anchored-requires c κs = search needs
 returns : tie.Need-returns
 returns c =
     let s = c .before .before .before .args in
-    sym (ap (λ b. cond b (withRegion (s .found) (s .r)) (s .found)) (sym (c .before .is-anchored .ensures) ∙ negated-true _ (c .if1 .taken)))
+    sym (ap (λ b. cond b (withRegion (s .found) (s .r)) (s .found)) (sym (c .before .is-anchored .ensures) ∙ not-true _ (c .if1 .taken)))
 
 enum-told : tie.Need-enum-told
 enum-told c = search needs
@@ -28,25 +27,37 @@ enum-told-2 c = search needs
 
 returns-2 : tie.Need-returns-2
 returns-2 c =
-    let s = c .before .before .before .before .before .args in
-    sym (ap₂ (λ b o. cond b (withRegion o (s .r)) o) (sym (c .before .before .before .is-anchored .ensures) ∙ negated-false _ (c .before .before .if1 .left)) (c .enum-told .given .1))
+    let at-is-anchored = c .before .before .before in
+    let entry = at-is-anchored .before .before in
+    let s = entry .args in
+    sym (ap₂ (λ b o. cond b (withRegion o (s .r)) o) (sym (at-is-anchored .is-anchored .ensures) ∙ not-false _ (c .before .before .if1 .left)) (c .enum-told .given .1))
 
 returns-3 : tie.Need-returns-3
 returns-3 c =
-    let s = c .before .before .before .before .before .before .before .args in
-    sym (ap₂ (λ b o. cond b (withRegion o (s .r)) o) (sym (c .before .before .before .before .before .is-anchored .ensures) ∙ negated-false _ (c .before .before .before .before .if1 .left)) (c .before .before .found .given .1)
+    let at-known-told = c .before in
+    let at-if1 = at-known-told .before .before .before in
+    let at-is-anchored = at-if1 .before in
+    let entry = at-is-anchored .before .before in
+    let s = entry .args in
+    sym (ap₂ (λ b o. cond b (withRegion o (s .r)) o) (sym (at-is-anchored .is-anchored .ensures) ∙ not-false _ (at-if1 .if1 .left)) (c .before .before .found .given .1)
     ∙ ap (λ b. cond b (outers.One (c .before .before .found .given .0 .0)) outers.Several) (eq-eqb _ (s .r) (c .if2 .taken)))
 
 returns-4 : tie.Need-returns-4
 returns-4 c =
-    let s = c .before .before .before .before .before .before .before .args in
-    sym (ap₂ (λ b o. cond b (withRegion o (s .r)) o) (sym (c .before .before .before .before .before .is-anchored .ensures) ∙ negated-false _ (c .before .before .before .before .if1 .left)) (c .before .before .found .given .1)
+    let at-known-told = c .before in
+    let at-if1 = at-known-told .before .before .before in
+    let at-is-anchored = at-if1 .before in
+    let entry = at-is-anchored .before .before in
+    let s = entry .args in
+    sym (ap₂ (λ b o. cond b (withRegion o (s .r)) o) (sym (at-is-anchored .is-anchored .ensures) ∙ not-false _ (at-if1 .if1 .left)) (c .before .before .found .given .1)
     ∙ ap (λ b. cond b (outers.One (c .before .before .found .given .0 .0)) outers.Several) (ne-eqb _ (s .r) (c .if2 .left)))
 
 returns-5 : tie.Need-returns-5
 returns-5 c =
-    let s = c .before .before .before .before .before .args in
-    sym (ap₂ (λ b o. cond b (withRegion o (s .r)) o) (sym (c .before .before .before .is-anchored .ensures) ∙ negated-false _ (c .before .before .if1 .left)) (c .enum-told2 .given .1))
+    let at-is-anchored = c .before .before .before in
+    let entry = at-is-anchored .before .before in
+    let s = entry .args in
+    sym (ap₂ (λ b o. cond b (withRegion o (s .r)) o) (sym (at-is-anchored .is-anchored .ensures) ∙ not-false _ (c .before .before .if1 .left)) (c .enum-told2 .given .1))
 
 pub with-region-spec : {M : Type 1} → statement M
 with-region-spec =

@@ -33,11 +33,17 @@ contains-requires-8 c κs = search needs
 
 returns : tie.Need-returns
 returns c =
-    let s = c .before .before .before .before .before .before .before .before .args in
+    let at-contains7 = c .before in
+    let at-contains4 = at-contains7 .before .before .before in
+    let at-contains3 = at-contains4 .before in
+    let at-contains2 = at-contains3 .before in
+    let at-contains = at-contains2 .before in
+    let entry = at-contains .before in
+    let s = entry .args in
     (λ i.
-    (((c .before .before .before .before .before .before .before .contains .ensures i || c .before .before .before .before .before .before .contains2 .ensures i) && (c .before .before .before .before .before .contains3 .ensures i || c .before .before .before .before .contains4 .ensures i))
+    (((at-contains .contains .ensures i || at-contains2 .contains2 .ensures i) && (at-contains3 .contains3 .ensures i || at-contains4 .contains4 .ensures i))
     && (c .before .before .before .contains5 .ensures i || c .before .before .contains6 .ensures i))
-    && (c .before .contains7 .ensures i || c .contains8 .ensures i))
+    && (at-contains7 .contains7 .ensures i || c .contains8 .ensures i))
     ∙ named-in-all (pairForm (s .p)) (pairForm (s .q)) (pairForm (s .s)) (pairForm (s .t))
 
 pub all-named-spec : {M : Type 1} → statement M

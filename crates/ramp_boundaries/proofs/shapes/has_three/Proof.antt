@@ -16,14 +16,16 @@ contains-requires-2 c κs = search needs
 
 returns : tie.Need-returns
 returns c =
-    let p = c .before .before .before .before .args .p in
-    let q = c .before .before .before .before .args .q in
+    let at-contains2 = c .before in
+    let entry = at-contains2 .before .before .before in
+    let p = entry .args .p in
+    let q = entry .args .q in
     let second = not (eqb (p .hi) (p .lo)) in
     let newer = not (eqb (q .hi) (q .lo)) in
     (λ i.
-    (((second && not (c .before .before .contains .ensures i)) && not (not (c .before .contains2 .ensures i) && newer))
-    || ((second && not (not (c .before .before .contains .ensures i))) && (not (c .before .contains2 .ensures i) && newer)))
-    || ((not second && not (c .before .before .contains .ensures i)) && (not (c .before .contains2 .ensures i) && newer)))
+    (((second && not (c .before .before .contains .ensures i)) && not (not (at-contains2 .contains2 .ensures i) && newer))
+    || ((second && not (not (c .before .before .contains .ensures i))) && (not (at-contains2 .contains2 .ensures i) && newer)))
+    || ((not second && not (c .before .before .contains .ensures i)) && (not (at-contains2 .contains2 .ensures i) && newer)))
     ∙ three-distinct (pairForm p) (pairForm q)
 
 pub has-three-spec : {M : Type 1} → statement M

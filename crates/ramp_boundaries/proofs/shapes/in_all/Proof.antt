@@ -6,8 +6,9 @@ use mathlib.Core.Bool.{true}
 use Rattle.definitions.specs.Scan.{all}
 use Rattle.definitions.specs.Grid.{contains}
 use Rattle.context.specs.Shown.{pairsBetween}
-use Rattle.ramp_boundaries.proofs.RowLists.{all-none, all-one-more, all-one-fails, negated-true, negated-false}
+use Rattle.ramp_boundaries.proofs.RowLists.{all-none, all-one-more, all-one-fails}
 use borrow.Author.Needs.{needs}
+use borrow.Author.Tests.{not-true, not-false}
 use Rattle.ramp_boundaries.proofs.shapes.in_all.Statement.{statement}
 use Rattle.ramp_boundaries.proofs.shapes.in_all.Tie as tie
 
@@ -28,10 +29,13 @@ contains-requires c κs = search needs
 
 returns : tie.Need-returns Inv-loop μ-loop
 returns c =
-    let s = c .before .before .before .before .before .before .args in
-    let at = c .before .before .before .before .loop in
+    let at-contains = c .before in
+    let at-loop = at-contains .before .before .before in
+    let entry = at-loop .before .before in
+    let s = entry .args in
+    let at = at-loop .loop in
     sym (all-one-fails (contains (s .r)) (s .pairs .now) (s .first) (at .k) (s .end) (at .inv .0) (c .before .before .before .loop-test .taken)
-    (sym (c .before .contains .ensures ∙ ap (contains (s .r)) (c .before .before .row-at .ensures)) ∙ negated-true _ (c .if1 .taken)))
+    (sym (at-contains .contains .ensures ∙ ap (contains (s .r)) (c .before .before .row-at .ensures)) ∙ not-true _ (c .if1 .taken)))
 
 add-k : tie.Need-add-k Inv-loop μ-loop
 add-k c = search needs
@@ -41,13 +45,16 @@ loop-less c = search needs
 
 loop-again : tie.Need-loop-again Inv-loop μ-loop
 loop-again c =
-    let s = c .before .before .before .before .before .before .args in
-    let at = c .before .before .before .before .loop in (
+    let at-contains = c .before in
+    let at-loop = at-contains .before .before .before in
+    let entry = at-loop .before .before in
+    let s = entry .args in
+    let at = at-loop .loop in (
       search needs,
       (
         search needs,
         all-one-more (contains (s .r)) (s .pairs .now) (s .first) (at .k) (at .inv .0) (at .inv .1 .1)
-            (sym (c .before .contains .ensures ∙ ap (contains (s .r)) (c .before .before .row-at .ensures)) ∙ negated-false _ (c .if1 .left)),
+            (sym (at-contains .contains .ensures ∙ ap (contains (s .r)) (c .before .before .row-at .ensures)) ∙ not-false _ (c .if1 .left)),
       ),
     )
 

@@ -20,9 +20,11 @@ pair-eq-requires-4 c κs = search needs
 
 returns : tie.Need-returns
 returns c =
-    let s = c .before .before .before .before .args in
+    let at-pair-eq3 = c .before in
+    let entry = at-pair-eq3 .before .before .before in
+    let s = entry .args in
     one-common (pairForm (s .p)) (pairForm (s .q)) (pairForm (s .s)) (pairForm (s .t))
-    (λ i. c .before .before .before .pair-eq .ensures i || c .before .before .pair-eq2 .ensures i) (λ i. c .before .pair-eq3 .ensures i || c .pair-eq4 .ensures i)
+    (λ i. c .before .before .before .pair-eq .ensures i || c .before .before .pair-eq2 .ensures i) (λ i. at-pair-eq3 .pair-eq3 .ensures i || c .pair-eq4 .ensures i)
 
 pub one-edge-spec : {M : Type 1} → statement M
 one-edge-spec =

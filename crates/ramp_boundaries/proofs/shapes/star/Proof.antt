@@ -28,7 +28,10 @@ sub-if1 c = search needs
 
 returns : tie.Need-returns
 unfolding mouthShape
-returns c = sym (ap (mouthShape true) (between-zero (c .before .before .before .before .args .pairs .now) _ _ (c .if1 .taken)))
+returns c =
+    let at-end = c .before in
+    let entry = at-end .before .before .before in
+    sym (ap (mouthShape true) (between-zero (entry .args .pairs .now) _ _ (c .if1 .taken)))
 
 sub-if2 : tie.Need-sub-if2
 sub-if2 c = search needs
@@ -38,7 +41,10 @@ row-at-requires c κs = search needs
 
 returns-2 : tie.Need-returns-2
 unfolding mouthShape
-returns-2 c = sym (ap (mouthShape true) (between-one (c .before .before .before .before .before .before .args .pairs .now) _ _ (c .before .if2 .taken) ∙ ap (λ p. p ∷ []) (sym (c .row-at .ensures))))
+returns-2 c =
+    let at-end = c .before .before .before in
+    let entry = at-end .before .before .before in
+    sym (ap (mouthShape true) (between-one (entry .args .pairs .now) _ _ (c .before .if2 .taken) ∙ ap (λ p. p ∷ []) (sym (c .row-at .ensures))))
 
 star-of-requires : tie.Need-star-of-requires
 star-of-requires c κs = search needs

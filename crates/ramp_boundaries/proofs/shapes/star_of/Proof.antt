@@ -18,29 +18,37 @@ in-all-requires-2 c κs = search needs
 returns : tie.Need-returns
 unfolding starFrom
 returns c =
-    let s = c .before .before .before .before .before .before in
-    star-shape (s .args .pairs .now) (s .args .first) (s .args .end) (s .pre .0) {p = pairForm (c .before .before .before .before .row-at .result)} (c .before .before .before .before .row-at .ensures) (c .before .before .before .in-all .ensures) (c .before .before .in-all2 .ensures)
+    let at-in-all = c .before .before .before in
+    let at-row-at = at-in-all .before in
+    let entry = at-row-at .before .before in
+    star-shape (entry .args .pairs .now) (entry .args .first) (entry .args .end) (entry .pre .0) {p = pairForm (at-row-at .row-at .result)} (at-row-at .row-at .ensures) (at-in-all .in-all .ensures) (c .before .before .in-all2 .ensures)
     (c .before .if1 .taken) (c .if2 .taken)
 
 returns-2 : tie.Need-returns-2
 unfolding starFrom
 returns-2 c =
-    let s = c .before .before .before .before .before .before in
-    star-shape (s .args .pairs .now) (s .args .first) (s .args .end) (s .pre .0) {p = pairForm (c .before .before .before .before .row-at .result)} (c .before .before .before .before .row-at .ensures) (c .before .before .before .in-all .ensures) (c .before .before .in-all2 .ensures)
+    let at-in-all = c .before .before .before in
+    let at-row-at = at-in-all .before in
+    let entry = at-row-at .before .before in
+    star-shape (entry .args .pairs .now) (entry .args .first) (entry .args .end) (entry .pre .0) {p = pairForm (at-row-at .row-at .result)} (at-row-at .row-at .ensures) (at-in-all .in-all .ensures) (c .before .before .in-all2 .ensures)
     (c .before .if1 .taken) (c .if2 .left)
 
 returns-3 : tie.Need-returns-3
 unfolding starFrom
 returns-3 c =
-    let s = c .before .before .before .before .before .before in
-    star-shape (s .args .pairs .now) (s .args .first) (s .args .end) (s .pre .0) {p = pairForm (c .before .before .before .before .row-at .result)} (c .before .before .before .before .row-at .ensures) (c .before .before .before .in-all .ensures) (c .before .before .in-all2 .ensures)
+    let at-in-all = c .before .before .before in
+    let at-row-at = at-in-all .before in
+    let entry = at-row-at .before .before in
+    star-shape (entry .args .pairs .now) (entry .args .first) (entry .args .end) (entry .pre .0) {p = pairForm (at-row-at .row-at .result)} (at-row-at .row-at .ensures) (at-in-all .in-all .ensures) (c .before .before .in-all2 .ensures)
     (c .before .if1 .left) (c .if3 .taken)
 
 returns-4 : tie.Need-returns-4
 unfolding starFrom
 returns-4 c =
-    let s = c .before .before .before .before .before .before in
-    star-shape (s .args .pairs .now) (s .args .first) (s .args .end) (s .pre .0) {p = pairForm (c .before .before .before .before .row-at .result)} (c .before .before .before .before .row-at .ensures) (c .before .before .before .in-all .ensures) (c .before .before .in-all2 .ensures)
+    let at-in-all = c .before .before .before in
+    let at-row-at = at-in-all .before in
+    let entry = at-row-at .before .before in
+    star-shape (entry .args .pairs .now) (entry .args .first) (entry .args .end) (entry .pre .0) {p = pairForm (at-row-at .row-at .result)} (at-row-at .row-at .ensures) (at-in-all .in-all .ensures) (c .before .before .in-all2 .ensures)
     (c .before .if1 .left) (c .if3 .left)
 
 pub star-of-spec : {M : Type 1} → statement M

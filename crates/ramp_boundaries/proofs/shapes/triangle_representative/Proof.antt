@@ -37,7 +37,9 @@ sub-if1 c = search needs
 
 returns : tie.Need-returns
 returns c =
-    let s = c .before .before .before .before .before .args in
+    let at-ramp = c .before .before in
+    let entry = at-ramp .before .before .before in
+    let s = entry .args in
     no-mouth-triangle _ (rowsOf (s .pairs .now) (s .starts .now) (s .a)) (λ e. c .if1 .taken (sym (between-length (s .pairs .now) _ _) ∙ e))
 
 add-if2 : tie.Need-add-if2
@@ -54,7 +56,10 @@ sub-if2 c = search needs
 
 returns-2 : tie.Need-returns-2
 returns-2 c =
-    let s = c .before .before .before .before .before .before .before .args in
+    let at-if22 = c .before in
+    let at-ramp = at-if22 .before .before .before in
+    let entry = at-ramp .before .before .before in
+    let s = entry .args in
     no-ramp-triangle (rowsOf (s .pairs .now) (s .starts .now) (s .m)) _ (λ e. c .if2 .taken (sym (between-length (s .pairs .now) _ _) ∙ e))
 
 row-at-requires : tie.Need-row-at-requires
@@ -80,11 +85,17 @@ is-triangle-requires c κs = search needs
 
 returns-3 : tie.Need-returns-3
 returns-3 c =
-    let s = c .before .before .before .before .before .before .before .before .before .before .before .before .args in
-    let mouth = between-two (s .pairs .now) (getD (s .starts .now) (s .m) 0) (getD (s .starts .now) (s .m + 1) 0) (c .before .before .before .before .before .before .before .if1 .left) in
-    let ramp = between-two (s .pairs .now) (getD (s .starts .now) (s .a) 0) (getD (s .starts .now) (s .a + 1) 0) (c .before .before .before .before .before .if2 .left) in
-    let l = mouth ∙ sym (two-rows (c .before .before .before .before .row-at .ensures) (c .before .before .before .row-at2 .ensures)) in
-    let m = ramp ∙ sym (two-rows (c .before .before .row-at3 .ensures) (c .before .row-at4 .ensures)) in
+    let at-row-at4 = c .before in
+    let at-row-at = at-row-at4 .before .before .before in
+    let at-if2 = at-row-at .before in
+    let at-if1 = at-if2 .before .before in
+    let at-ramp = at-if1 .before .before in
+    let entry = at-ramp .before .before .before in
+    let s = entry .args in
+    let mouth = between-two (s .pairs .now) (getD (s .starts .now) (s .m) 0) (getD (s .starts .now) (s .m + 1) 0) (at-if1 .if1 .left) in
+    let ramp = between-two (s .pairs .now) (getD (s .starts .now) (s .a) 0) (getD (s .starts .now) (s .a + 1) 0) (at-if2 .if2 .left) in
+    let l = mouth ∙ sym (two-rows (at-row-at .row-at .ensures) (c .before .before .before .row-at2 .ensures)) in
+    let m = ramp ∙ sym (two-rows (c .before .before .row-at3 .ensures) (at-row-at4 .row-at4 .ensures)) in
     ap₂ triangleRepresentative l m ∙ c .is-triangle .ensures ∙ ap (onlyIf (c .is-triangle .result)) (ap distinctRegions (sym l))
 
 pub triangle-representative-spec : {M : Type 1} → statement M

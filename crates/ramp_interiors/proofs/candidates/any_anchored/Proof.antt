@@ -20,17 +20,27 @@ abbrev μ-loop : tie.MeasureT-loop
 -- at a turn
 module _ (c : tie.In-loop Inv-loop μ-loop) where
   abbrev start : tie.Start Inv-loop μ-loop
-  start = c .before .before .before .before
+  start =
+      let at-loop = c .before in
+      at-loop .before .before .before
 
   abbrev marked : Bool
   marked = pairMarked (start .args .marks .now) (pairAt (start .args .pairs .now) (c .before .loop .k))
 
+-- a turn's begin, from the state at `is-anchored2`
+abbrev to-turn : tie.After-is-anchored2 Inv-loop μ-loop → tie.In-loop Inv-loop μ-loop
+to-turn c =
+    let at-larger-at = c .before in
+    at-larger-at .before .before .before
+
 -- what was found is what the test asks of the row
-found : (c : tie.After-is-anchored2 Inv-loop μ-loop) → (c .before .before .is-anchored .result || c .is-anchored2 .result) ≡ marked (c .before .before .before .before)
+found : (c : tie.After-is-anchored2 Inv-loop μ-loop) → (c .before .before .is-anchored .result || c .is-anchored2 .result) ≡ marked (to-turn c)
 found c =
-    let s = start (c .before .before .before .before) in
+    let at-larger-at = c .before in
+    let turn = at-larger-at .before .before .before in
+    let s = start turn in
     ap₂ _||_ (c .before .before .is-anchored .ensures ∙ ap (isMarked (s .args .marks .now)) (c .before .before .before .smaller-at .ensures))
-    (c .is-anchored2 .ensures ∙ ap (isMarked (s .args .marks .now)) (c .before .larger-at .ensures))
+    (c .is-anchored2 .ensures ∙ ap (isMarked (s .args .marks .now)) (at-larger-at .larger-at .ensures))
 
 loop-holds : tie.Need-loop-holds Inv-loop μ-loop
 loop-holds c = (search needs, search needs, any-rows-none _ _ _)
@@ -55,8 +65,10 @@ is-anchored-requires-2 c κs =
 
 returns : tie.Need-returns Inv-loop μ-loop
 returns c =
-    let t = c .before .before .before .before .before in
-    sym (any-rows-at _ _ _ _ _ (t .before .loop .inv .0) (t .loop-test .taken) (sym (found (c .before)) ∙ c .if1 .taken))
+    let at-larger-at = c .before .before in
+    let turn = at-larger-at .before .before .before in
+    let at-loop = turn .before in
+    sym (any-rows-at _ _ _ _ _ (at-loop .loop .inv .0) (turn .loop-test .taken) (sym (found (c .before)) ∙ c .if1 .taken))
 
 add-k : tie.Need-add-k Inv-loop μ-loop
 add-k c = search needs
@@ -66,8 +78,9 @@ loop-less c = search needs
 
 loop-again : tie.Need-loop-again Inv-loop μ-loop
 loop-again c =
-    let t = c .before .before .before .before .before in
-    (search needs, search needs, any-rows-next _ _ _ _ (t .before .loop .inv .0) ∙ ap₂ _||_ (t .before .loop .inv .2) (sym (found (c .before)) ∙ c .if1 .left))
+    let at-is-anchored = c .before .before .before in
+    let at-loop = at-is-anchored .before .before .before in
+    (search needs, search needs, any-rows-next _ _ _ _ (at-loop .loop .inv .0) ∙ ap₂ _||_ (at-loop .loop .inv .2) (sym (found (c .before)) ∙ c .if1 .left))
 
 returns-2 : tie.Need-returns-2 Inv-loop μ-loop
 returns-2 c = sym (sym (any-rows-end _ _ _ (c .before .loop .inv .1) (c .loop-test .left)) ∙ c .before .loop .inv .2)

@@ -24,13 +24,18 @@ abbrev μ-loop : tie.MeasureT-loop
 -- whether r is its own name
 module _ (c : tie.After-parent-of Inv-loop μ-loop) where
   abbrev entry : tie.Start Inv-loop μ-loop
-  entry = c .before .before .before .before
+  entry =
+      let at-shared-slice-known3 = c .before in
+      at-shared-slice-known3 .before .before .before
 
   own : (C : Context) → Mapped C (entry .args .pairs .now) (entry .args .starts .now) (entry .args .names .now) (entry .args .marks .now) (entry .args .r) → eqb (c .parent-of .result) (entry .args .r) ≡ eqb (componentOf C (components C) (entry .args .r)) (entry .args .r)
   own C M = ap (λ n. eqb n (entry .args .r)) (c .parent-of .ensures) ∙ M .told .at (entry .args .r) (M .from) (M .upto)
 
 abbrev start : tie.In-loop Inv-loop μ-loop → tie.Start Inv-loop μ-loop
-start c = c .before .before .before .before .before .before .before
+start c =
+    let at-loop = c .before in
+    let at-shared-slice-known3 = at-loop .before .before .before in
+    at-shared-slice-known3 .before .before .before
 
 few : (c : tie.In-loop Inv-loop μ-loop) → c .before .loop .i < 256
 few c = omega (arith, c .loop-test .taken, start c .pre .1 .1, start c .pre .1 .0 .paired .few)
@@ -70,8 +75,10 @@ one-if-requires c κs = search needs
 
 add-edges : tie.Need-add-edges Inv-loop μ-loop
 add-edges c =
-    let t = c .before .before .before .before in
-    omega (arith, few t, t .before .loop .inv .1, c .one-if .ensures .1)
+    let at-owner = c .before .before .before in
+    let turn = at-owner .before in
+    let at-loop = turn .before in
+    omega (arith, few turn, at-loop .loop .inv .1, c .one-if .ensures .1)
 
 add-i : tie.Need-add-i Inv-loop μ-loop
 add-i c = search needs
@@ -81,13 +88,15 @@ loop-less c = search needs
 
 loop-again : tie.Need-loop-again Inv-loop μ-loop
 loop-again c =
-    let t = c .before .before .before .before in
-    let i = t .before .loop .i in (
-      omega (arith, t .loop-test .taken),
-      omega (arith, t .before .loop .inv .1, c .one-if .ensures .1),
+    let at-owner = c .before .before .before in
+    let turn = at-owner .before in
+    let at-loop = turn .before in
+    let i = at-loop .loop .i in (
+      omega (arith, turn .loop-test .taken),
+      omega (arith, at-loop .loop .inv .1, c .one-if .ensures .1),
       λ C M e O.
-          let l : i < C .count = omega (arith, e, t .loop-test .taken) in
-          let w = t .before .loop .inv .2 C M e O in
+          let l : i < C .count = omega (arith, e, turn .loop-test .taken) in
+          let w = at-loop .loop .inv .2 C M e O in
           survey-more C _ i (M .from) (M .upto) (O i l) (w .0) (w .1) (sym (c .before .before .spoils .ensures C M l (O i l)) ∙ c .before .if2 .left) (c .one-if .ensures .0),
     )
 

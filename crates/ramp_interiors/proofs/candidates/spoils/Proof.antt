@@ -23,8 +23,9 @@ element-copy-out-any-anchored-2 c = search needs
 
 any-anchored-requires : tie.Need-any-anchored-requires
 any-anchored-requires c κs =
-    let s = c .before .before .before .before .before .before in
-    shown-walkable (s .pre .1 .0 .paired) (s .pre .1 .0 .marked .long) (s .args .i) (s .pre .1 .1)
+    let at-shared-slice-known3 = c .before .before .before in
+    let entry = at-shared-slice-known3 .before .before .before in
+    shown-walkable (entry .pre .1 .0 .paired) (entry .pre .1 .0 .marked .long) (entry .args .i) (entry .pre .1 .1)
 
 returns : tie.Need-returns
 returns c =
@@ -48,8 +49,10 @@ element-copy-out-touches-2 c = search needs
 
 touches-requires : tie.Need-touches-requires
 touches-requires c κs =
-    let s = c .before .before .before .before .before .before .before in
-    shown-walkable (s .pre .1 .0 .paired) (s .pre .1 .0 .told .long) (s .args .i) (s .pre .1 .1)
+    let at-if1 = c .before .before .before in
+    let at-shared-slice-known3 = at-if1 .before in
+    let entry = at-shared-slice-known3 .before .before .before in
+    shown-walkable (entry .pre .1 .0 .paired) (entry .pre .1 .0 .told .long) (entry .args .i) (entry .pre .1 .1)
 
 returns-2 : tie.Need-returns-2
 returns-2 c =

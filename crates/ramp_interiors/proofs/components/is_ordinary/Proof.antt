@@ -25,7 +25,9 @@ full-cut-requires c κs = search needs
 returns : tie.Need-returns
 unfolding isOrdinary
 returns c =
-    λ C B T l. ap₂ (λ k f. eqb k 0 && f) (sym (ap (λ b. b .kind) (B .at (c .before .before .before .before .args .i) l))) (c .full-cut .ensures C T l)
+    let at-shared-slice-known3 = c .before in
+    let entry = at-shared-slice-known3 .before .before .before in
+    λ C B T l. ap₂ (λ k f. eqb k 0 && f) (sym (ap (λ b. b .kind) (B .at (entry .args .i) l))) (c .full-cut .ensures C T l)
 
 pub is-ordinary-spec : {M : Type 1} → statement M
 is-ordinary-spec =

@@ -23,24 +23,29 @@ lesser-requires c κs = search needs
 
 set-parent-requires : tie.Need-set-parent-requires
 set-parent-requires c κs =
-    let b = c .before .before .before .before .before in
-    let a = b .before .before .before .before in
-    let pre = a .before .before .before .pre in
-    let A = a .root-of .ensures (pre .0) (pre .1 .0) (pre .1 .1 .lowUpto) in
-    greatest-placed (pre .1 .1) A (b .root-of2 .ensures (pre .0) (A .parented) (pre .1 .1 .highUpto)) (c .before .greater .ensures)
+    let at-set-parent-arg = c .before .before in
+    let at-root-of2 = at-set-parent-arg .before .before .before in
+    let at-parents = at-root-of2 .before .before .before in
+    let at-root-of = at-parents .before in
+    let entry = at-root-of .before .before .before in
+    let pre = entry .pre in
+    let A = at-root-of .root-of .ensures (pre .0) (pre .1 .0) (pre .1 .1 .lowUpto) in
+    greatest-placed (pre .1 .1) A (at-root-of2 .root-of2 .ensures (pre .0) (A .parented) (pre .1 .1 .highUpto)) (c .before .greater .ensures)
 
 same-length : tie.Need-same-length
 same-length c = search needs
 
 returns : tie.Need-returns
 returns c =
-    let s = c .before .before in
-    let g = s .before .before in
-    let b = g .before .before .before .before in
-    let a = b .before .before .before .before in
+    let at-parents3 = c .before in
+    let at-greater = at-parents3 .before .before .before in
+    let at-parents2 = at-greater .before .before .before in
+    let at-root-of2 = at-parents2 .before in
+    let at-parents = at-root-of2 .before .before .before in
+    let at-root-of = at-parents .before in
     λ cs P w.
-    let A = a .root-of .ensures cs P (w .lowUpto) in
-    joined w A (b .root-of2 .ensures cs (A .parented) (w .highUpto)) (g .greater .ensures) (s .before .lesser .ensures) (s .set-parent .ensures)
+    let A = at-root-of .root-of .ensures cs P (w .lowUpto) in
+    joined w A (at-root-of2 .root-of2 .ensures cs (A .parented) (w .highUpto)) (at-greater .greater .ensures) (c .before .before .before .lesser .ensures) (c .before .before .set-parent .ensures)
 
 pub join-spec : {M : Type 1} → statement M
 join-spec =

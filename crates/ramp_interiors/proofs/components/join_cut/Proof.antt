@@ -27,21 +27,24 @@ element-copy-out-join-pairs-2 c = search needs
 
 join-pairs-requires : tie.Need-join-pairs-requires
 join-pairs-requires c κs =
-    let s = c .before .before .before .before .before .before .before .before .before in
-    let g = s .pre .1 .0 .paired in
-    let l = s .pre .1 .1 .0 in
-    let w = shown-stretch g (s .args .i) l in
-    let f = s .pre .1 .1 .1 in
-    ((w .rising, w .long), (f .0, (f .1 .0, rows-placed g (s .args .i) l (length (f .0)) (f .1 .1))))
+    let at-if1 = c .before .before .before in
+    let at-shared-slice-known2 = at-if1 .before .before .before in
+    let entry = at-shared-slice-known2 .before .before .before in
+    let g = entry .pre .1 .0 .paired in
+    let l = entry .pre .1 .1 .0 in
+    let w = shown-stretch g (entry .args .i) l in
+    let f = entry .pre .1 .1 .1 in
+    ((w .rising, w .long), (f .0, (f .1 .0, rows-placed g (entry .args .i) l (length (f .0)) (f .1 .1))))
 
 same-length : tie.Need-same-length
 same-length c = search needs
 
 returns : tie.Need-returns
 returns c =
-    let j = c .before .before in
-    let o = j .before .before .before .before in
-    λ C cs G l P e. cut-joins C _ (G .paired) l (o .before .is-ordinary .ensures C (G .bounds) (G .tallied) l) (o .if1 .taken) (j .join-pairs .ensures cs P (rows-placed (G .paired) _ l (length cs) e))
+    let at-join-pairs-arg3 = c .before .before .before in
+    let at-if1 = at-join-pairs-arg3 .before .before .before in
+    let at-is-ordinary = at-if1 .before in
+    λ C cs G l P e. cut-joins C _ (G .paired) l (at-is-ordinary .is-ordinary .ensures C (G .bounds) (G .tallied) l) (at-if1 .if1 .taken) (c .before .before .join-pairs .ensures cs P (rows-placed (G .paired) _ l (length cs) e))
 
 returns-2 : tie.Need-returns-2
 returns-2 c = λ C cs G l P e. cut-idle C _ (c .before .is-ordinary .ensures C (G .bounds) (G .tallied) l) (c .if1 .left) (merged-start P)

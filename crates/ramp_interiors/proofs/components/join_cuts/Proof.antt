@@ -23,11 +23,12 @@ loop-holds c = (search needs, λ C G e P. cuts-start C P)
 
 join-cut-requires : tie.Need-join-cut-requires Inv-loop μ-loop
 join-cut-requires c κs =
-    let t = c .before in
-    let s = t .before .before .before .before .before .before in
-    let C = s .pre .0 in
-    let m = t .before .loop .inv .1 C (s .pre .1 .0) (s .pre .1 .1 .0) (s .pre .1 .1 .1) in
-    (C, (s .pre .1 .0, (omega (arith, s .pre .1 .1 .0, t .loop-test .taken), (mergeAll (alone C) (gather (t .before .loop .i) (linksOf C)), (m .parented, cuts-size C _ m)))))
+    let turn = c .before in
+    let at-shared-slice-known2 = turn .before .before .before in
+    let entry = at-shared-slice-known2 .before .before .before in
+    let C = entry .pre .0 in
+    let m = c .before .before .loop .inv .1 C (entry .pre .1 .0) (entry .pre .1 .1 .0) (entry .pre .1 .1 .1) in
+    (C, (entry .pre .1 .0, (omega (arith, entry .pre .1 .1 .0, turn .loop-test .taken), (mergeAll (alone C) (gather (c .before .before .loop .i) (linksOf C)), (m .parented, cuts-size C _ m)))))
 
 add-i : tie.Need-add-i Inv-loop μ-loop
 add-i c = search needs
@@ -37,18 +38,21 @@ loop-less c = search needs
 
 loop-again : tie.Need-loop-again Inv-loop μ-loop
 loop-again c =
-    let t = c .before .before .before .before in
-    let i = t .before .loop .i in (
+    let at-parents = c .before in
+    let turn = at-parents .before .before .before in
+    let at-loop = turn .before in
+    let i = at-loop .loop .i in (
       search needs,
       λ C G e P.
-          let m = t .before .loop .inv .1 C G e P in
-          cuts-more C i m (c .before .before .join-cut .ensures C _ G (omega (arith, e, t .loop-test .taken)) (m .parented) (cuts-size C i m)),
+          let m = at-loop .loop .inv .1 C G e P in
+          cuts-more C i m (c .before .before .join-cut .ensures C _ G (omega (arith, e, turn .loop-test .taken)) (m .parented) (cuts-size C i m)),
     )
 
 same-length : tie.Need-same-length Inv-loop μ-loop
 same-length c =
-    let s = c .before .before .before .before .before .before in
-    c .before .loop .inv .1 (s .pre .0) (s .pre .1 .0) (s .pre .1 .1 .0) (s .pre .1 .1 .1) .beyond .long
+    let at-shared-slice-known2 = c .before .before .before in
+    let entry = at-shared-slice-known2 .before .before .before in
+    c .before .loop .inv .1 (entry .pre .0) (entry .pre .1 .0) (entry .pre .1 .1 .0) (entry .pre .1 .1 .1) .beyond .long
 
 returns : tie.Need-returns Inv-loop μ-loop
 returns c = λ C G e P. cuts-end C _ (c .before .loop .inv .1 C G e P) e (c .before .loop .inv .0) (c .loop-test .left)

@@ -19,7 +19,9 @@ abbrev μ-loop : tie.MeasureT-loop
 -- of the names that the caller has, at a turn
 module _ (c : tie.In-loop Inv-loop μ-loop) where
   abbrev start : tie.Start Inv-loop μ-loop
-  start = c .before .before .before .before
+  start =
+      let at-loop = c .before in
+      at-loop .before .before .before
 
   abbrev names : List ℕ
   names = start .pre .1 .0
@@ -66,8 +68,9 @@ loop-again c =
 
 same-length : tie.Need-same-length Inv-loop μ-loop
 same-length c =
-    let s = c .before .before .before .before in
-    c .before .loop .inv .2 (s .pre .1 .0) (s .pre .1 .1 .0) (s .pre .1 .1 .1) .beyond .long
+    let at-loop = c .before in
+    let entry = at-loop .before .before .before in
+    at-loop .loop .inv .2 (entry .pre .1 .0) (entry .pre .1 .1 .0) (entry .pre .1 .1 .1) .beyond .long
 
 returns : tie.Need-returns Inv-loop μ-loop
 returns c = λ cs P w. rows-end _ _ _ _ _ (c .before .loop .inv .2 cs P w) (c .before .loop .inv .1) (c .loop-test .left)

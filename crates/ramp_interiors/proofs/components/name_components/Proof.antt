@@ -13,19 +13,26 @@ prepare-requires c κs = search needs
 
 join-cuts-requires : tie.Need-join-cuts-requires
 join-cuts-requires c κs =
-    let p = c .before .before .before .before .before in
-    let L = p .before .before .before .before .before .before .before .before .pre .1 in
-    let C = p .before .before .before .before .before .before .before .before .pre .0 in
-    (C, (L .given, (L .counted, p .prepare .ensures .0 C (L .labelled) (L .anchored) (L .incidents) .parented)))
+    let at-counts = c .before .before in
+    let at-prepare = at-counts .before .before .before in
+    let at-prepare-arg = at-prepare .before .before in
+    let at-shared-slice-known3 = at-prepare-arg .before .before .before in
+    let entry = at-shared-slice-known3 .before .before .before in
+    let L = entry .pre .1 in
+    let C = entry .pre .0 in
+    (C, (L .given, (L .counted, at-prepare .prepare .ensures .0 C (L .labelled) (L .anchored) (L .incidents) .parented)))
 
 flatten-requires : tie.Need-flatten-requires
 flatten-requires c κs =
-    let j = c .before .before .before in
-    let p = j .before .before .before .before .before .before in
-    let s = p .before .before .before .before .before .before .before .before in
-    let C = s .pre .0 in
-    let L = s .pre .1 in
-    let m = j .join-cuts .ensures C (L .given) (L .counted) (p .prepare .ensures .0 C (L .labelled) (L .anchored) (L .incidents) .parented) in
+    let at-join-cuts = c .before .before .before in
+    let at-counts = at-join-cuts .before .before .before in
+    let at-prepare = at-counts .before .before .before in
+    let at-prepare-arg = at-prepare .before .before in
+    let at-shared-slice-known3 = at-prepare-arg .before .before .before in
+    let entry = at-shared-slice-known3 .before .before .before in
+    let C = entry .pre .0 in
+    let L = entry .pre .1 in
+    let m = at-join-cuts .join-cuts .ensures C (L .given) (L .counted) (at-prepare .prepare .ensures .0 C (L .labelled) (L .anchored) (L .incidents) .parented) in
     (components C, (components-parented C m, components-size C ∙ ap suc (L .labelled)))
 
 same-length : tie.Need-same-length
@@ -36,17 +43,20 @@ same-length-2 c = search needs
 
 returns : tie.Need-returns
 returns c =
-    let f = c .before .before in
-    let j = f .before .before .before .before in
-    let p = j .before .before .before .before .before .before in
-    let s = p .before .before .before .before .before .before .before .before in
-    let L = s .pre .1 in
-    let was = p .prepare .ensures in (
+    let at-flatten-arg = c .before .before .before in
+    let at-join-cuts = at-flatten-arg .before .before .before in
+    let at-counts = at-join-cuts .before .before .before in
+    let at-prepare = at-counts .before .before .before in
+    let at-prepare-arg = at-prepare .before .before in
+    let at-shared-slice-known3 = at-prepare-arg .before .before .before in
+    let entry = at-shared-slice-known3 .before .before .before in
+    let L = entry .pre .1 in
+    let was = at-prepare .prepare .ensures in (
       λ C M.
           let r = was .0 C (M .labelled) (M .anchored) (M .incidents) in
-          let m = j .join-cuts .ensures C (M .given) (M .counted) (r .parented) in
-          record { marked = r .marked; named = f .flatten .ensures .0 (components C) (components-parented C m) (components-size C ∙ ap suc (M .labelled)) },
-      (was .1 .0, beyond-then (was .1 .1) (beyond-then (components-beyond (s .pre .0) (j .join-cuts .ensures (s .pre .0) (L .given) (L .counted) (was .0 (s .pre .0) (L .labelled) (L .anchored) (L .incidents) .parented)) (L .labelled)) (f .flatten .ensures .1))),
+          let m = at-join-cuts .join-cuts .ensures C (M .given) (M .counted) (r .parented) in
+          record { marked = r .marked; named = c .before .before .flatten .ensures .0 (components C) (components-parented C m) (components-size C ∙ ap suc (M .labelled)) },
+      (was .1 .0, beyond-then (was .1 .1) (beyond-then (components-beyond (entry .pre .0) (at-join-cuts .join-cuts .ensures (entry .pre .0) (L .given) (L .counted) (was .0 (entry .pre .0) (L .labelled) (L .anchored) (L .incidents) .parented)) (L .labelled)) (c .before .before .flatten .ensures .1))),
     )
 
 pub name-components-spec : {M : Type 1} → statement M

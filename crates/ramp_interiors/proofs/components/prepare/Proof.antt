@@ -64,13 +64,14 @@ loop-less c = search needs
 
 loop-again : tie.Need-loop-again Inv-loop μ-loop
 loop-again c =
-    let t = c .before .before .before in
-    let inv = t .before .loop .inv in
-    let s = t .before .before .before .before in
-    let k = t .before .loop .k in
-    let within : k < s .args .regions = t .loop-test .taken in
-    let in-marks : k < length (t .before .loop .marks) = omega (arith, inv .1 .long, s .pre .0) in
-    let in-counts : k < length (t .before .loop .counts) = omega (arith, inv .2 .long, s .pre .1) in (
+    let turn = c .before .before .before in
+    let at-loop = turn .before in
+    let entry = at-loop .before .before .before in
+    let inv = at-loop .loop .inv in
+    let k = at-loop .loop .k in
+    let within : k < entry .args .regions = turn .loop-test .taken in
+    let in-marks : k < length (at-loop .loop .marks) = omega (arith, inv .1 .long, entry .pre .0) in
+    let in-counts : k < length (at-loop .loop .counts) = omega (arith, inv .2 .long, entry .pre .1) in (
       omega arith,
       beyond-then (inv .1) (beyond-set _ _ _ _ within),
       beyond-then (inv .2) (beyond-set _ _ _ _ within),
@@ -86,8 +87,10 @@ same-length-2 c = search needs
 
 returns : tie.Need-returns Inv-loop μ-loop
 returns c =
-    let inv = c .before .loop .inv in
-    let pre = c .before .before .before .before .pre in (
+    let at-loop = c .before in
+    let entry = at-loop .before .before .before in
+    let inv = at-loop .loop .inv in
+    let pre = entry .pre in (
       λ C e A I. prepared C (inv .3) (inv .4) (omega (arith, e, c .loop-test .left)) (omega (arith, e, pre .0, inv .1 .long)) (omega (arith, e, pre .1, inv .2 .long)) A I,
       (inv .1, inv .2),
     )

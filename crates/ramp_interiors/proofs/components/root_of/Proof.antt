@@ -19,7 +19,9 @@ abbrev μ-loop : tie.MeasureT-loop
 -- at the loop's test
 module _ (c : tie.At-loop Inv-loop μ-loop) where
   abbrev start : tie.Start Inv-loop μ-loop
-  start = c .before .before .before .before
+  start =
+      let at-parent-of = c .before in
+      at-parent-of .before .before .before
 
   -- the names that the caller has
   abbrev names : List ℕ
@@ -49,8 +51,9 @@ parent-of-requires-2 c κs =
 
 set-parent-requires : tie.Need-set-parent-requires Inv-loop μ-loop
 set-parent-requires c κs =
-    let a = c .before .before .before .before in
-    way-in (within a) (way a)
+    let at-parent-of2 = c .before in
+    let at-loop = at-parent-of2 .before .before .before in
+    way-in (within at-loop) (way at-loop)
 
 parent-of-requires-3 : tie.Need-parent-of-requires-3 Inv-loop μ-loop
 parent-of-requires-3 c κs =
@@ -63,18 +66,21 @@ parent-of-requires-3 c κs =
 
 loop-less : tie.Need-loop-less Inv-loop μ-loop
 loop-less c =
-    let f = c .before .before .before .before .before .before in
-    let a = f .before .before .before in
-    omega (arith, above-in (within a) (way a) .1, f .parent-of2 .ensures ∙ parent-is a, lt-of-le-ne (parent-le (within a) (way a)) (λ e. f .before .before .loop-test .taken (a .loop .inv .0 ∙ e)))
+    let at-parents = c .before .before .before in
+    let at-parent-of2 = at-parents .before .before .before in
+    let turn = at-parent-of2 .before .before in
+    let at-loop = turn .before in
+    omega (arith, above-in (within at-loop) (way at-loop) .1, at-parent-of2 .parent-of2 .ensures ∙ parent-is at-loop, lt-of-le-ne (parent-le (within at-loop) (way at-loop)) (λ e. turn .loop-test .taken (at-loop .loop .inv .0 ∙ e)))
 
 loop-again : tie.Need-loop-again Inv-loop μ-loop
 loop-again c =
-    let s = c .before .before .before .before in
-    let f = s .before .before in
-    let a = f .before .before .before in (
+    let at-parents = c .before .before .before in
+    let at-set-parent = at-parents .before in
+    let at-parent-of2 = at-set-parent .before .before in
+    let at-loop = at-parent-of2 .before .before .before in (
       c .parent-of3 .ensures,
-      λ cs P l. subst (λ ps. Way cs (start a .args .parents .now) (start a .args .r) ps (f .parent-of2 .result)) (sym (s .set-parent .ensures))
-          (way-step l (a .loop .inv .1 cs P l) (f .parent-of2 .result) (f .parent-of2 .ensures ∙ parent-is a)),
+      λ cs P l. subst (λ ps. Way cs (start at-loop .args .parents .now) (start at-loop .args .r) ps (at-parent-of2 .parent-of2 .result)) (sym (at-set-parent .set-parent .ensures))
+          (way-step l (at-loop .loop .inv .1 cs P l) (at-parent-of2 .parent-of2 .result) (at-parent-of2 .parent-of2 .ensures ∙ parent-is at-loop)),
     )
 
 same-length : tie.Need-same-length Inv-loop μ-loop

@@ -1,15 +1,15 @@
--- `fits::elevations_fit` meets its contract. The invariant: the elevations passed fit. Assumes nothing.
+-- `fits::elevations_fit` meets its contract. The invariant: the elevations not-false fit. Assumes nothing.
 use Prim.Native.Nat.{_-_, _≤_}
 use native.Mathlib.Omega.{arith}
 use mathlib.Core.Path.{_≡_, refl, sym, ap, _∙_}
 use mathlib.Core.Bool.{true}
 use borrow.Author.Needs.{needs}
+use borrow.Author.Tests.{not-true, not-false}
 use Rattle.definitions.specs.Scan.{allBelow}
 use Rattle.laws.specs.ListLaws.ScanSteps.{all-more, all-fails}
 use Rattle.ramp_interiors.specs.Fits.{elevationFits}
 use Rattle.ramp_interiors.proofs.fits.elevations_fit.Statement.{statement}
 use Rattle.ramp_interiors.proofs.fits.elevations_fit.Tie as tie
-use Rattle.ramp_interiors.proofs.Bools.{negated, passed}
 
 abbrev Inv-loop : tie.InvT-loop
 Inv-loop mask lower upper e₀ e = (e ≤ 8) × (allBelow e (elevationFits mask lower upper) ≡ true)
@@ -27,7 +27,7 @@ elevation-fits-requires c κs = search needs
 returns : tie.Need-returns Inv-loop μ-loop
 returns c =
     let t = c .before .before in
-    sym (all-fails (elevationFits _ _ _) 8 (t .before .loop .e) (t .loop-test .taken) (sym (c .before .elevation-fits .ensures) ∙ negated _ (c .if1 .taken)))
+    sym (all-fails (elevationFits _ _ _) 8 (t .before .loop .e) (t .loop-test .taken) (sym (c .before .elevation-fits .ensures) ∙ not-true _ (c .if1 .taken)))
 
 add-e : tie.Need-add-e Inv-loop μ-loop
 add-e c = search needs
@@ -38,7 +38,7 @@ loop-less c = search needs
 loop-again : tie.Need-loop-again Inv-loop μ-loop
 loop-again c =
     let t = c .before .before in
-    (omega (arith, t .loop-test .taken), all-more (elevationFits _ _ _) (t .before .loop .e) (t .before .loop .inv .1) (sym (c .before .elevation-fits .ensures) ∙ passed _ (c .if1 .left)))
+    (omega (arith, t .loop-test .taken), all-more (elevationFits _ _ _) (t .before .loop .e) (t .before .loop .inv .1) (sym (c .before .elevation-fits .ensures) ∙ not-false _ (c .if1 .left)))
 
 returns-2 : tie.Need-returns-2 Inv-loop μ-loop
 returns-2 c =

@@ -27,7 +27,9 @@ abbrev μ-loop : tie.MeasureT-loop
 -- at a turn: what the row names has a mark
 module _ (c : tie.In-loop Inv-loop μ-loop) where
   abbrev start : tie.Start Inv-loop μ-loop
-  start = c .before .before .before .before
+  start =
+      let at-loop = c .before in
+      at-loop .before .before .before
 
   marks-in : {x n : ℕ} → (1 ≤ x) × (x ≤ length (start .args .marks .now)) → n ≡ length (start .args .marks .now) → (1 ≤ x) × (x ≤ n)
   marks-in h l = (h .0, omega (arith, h .1))
@@ -45,14 +47,18 @@ clear-exterior-requires c κs =
 
 larger-at-requires : tie.Need-larger-at-requires Inv-loop μ-loop
 larger-at-requires c κs =
-    let t = c .before .before .before .before .before .before in
-    row-in (start t .pre) (t .before .loop .inv .0) (t .loop-test .taken)
+    let at-clear-exterior = c .before .before .before in
+    let turn = at-clear-exterior .before .before .before in
+    let at-loop = turn .before in
+    row-in (start turn .pre) (at-loop .loop .inv .0) (turn .loop-test .taken)
 
 clear-exterior-requires-2 : tie.Need-clear-exterior-requires-2 Inv-loop μ-loop
 clear-exterior-requires-2 c κs =
-    let m = c .before .before .before .before in
-    let t = m .before .before .before in
-    marks-in t (high-in (start t .pre) (t .before .loop .inv .0) (t .loop-test .taken) (c .larger-at .ensures)) (m .clear-exterior .ensures .1 ∙ t .before .loop .inv .2)
+    let at-marks = c .before .before .before in
+    let at-clear-exterior = at-marks .before in
+    let turn = at-clear-exterior .before .before .before in
+    let at-loop = turn .before in
+    marks-in turn (high-in (start turn .pre) (at-loop .loop .inv .0) (turn .loop-test .taken) (c .larger-at .ensures)) (at-clear-exterior .clear-exterior .ensures .1 ∙ at-loop .loop .inv .2)
 
 add-k : tie.Need-add-k Inv-loop μ-loop
 add-k c = search needs
@@ -62,15 +68,17 @@ loop-less c = search needs
 
 loop-again : tie.Need-loop-again Inv-loop μ-loop
 loop-again c =
-    let n = c .before .before in
-    let l = n .before in
-    let m = l .before .before .before .before in
-    let t = m .before .before .before in (
-      omega (arith, t .before .loop .inv .0),
-      omega (arith, t .loop-test .taken),
-      n .clear-exterior2 .ensures .1 ∙ m .clear-exterior .ensures .1 ∙ t .before .loop .inv .2,
+    let at-larger-at = c .before .before .before in
+    let at-marks = at-larger-at .before .before .before in
+    let at-clear-exterior = at-marks .before in
+    let at-smaller-at = at-clear-exterior .before in
+    let turn = at-smaller-at .before .before in
+    let at-loop = turn .before in (
+      omega (arith, at-loop .loop .inv .0),
+      omega (arith, turn .loop-test .taken),
+      c .before .before .clear-exterior2 .ensures .1 ∙ at-clear-exterior .clear-exterior .ensures .1 ∙ at-loop .loop .inv .2,
       λ C rs w M.
-          clearing-more C _ _ _ _ w (t .before .loop .k) (t .before .loop .inv .0) (t .loop-test .taken) (m .before .smaller-at .ensures) (l .larger-at .ensures) (t .before .loop .inv .3 C rs w M) (m .clear-exterior .ensures .0) (n .clear-exterior2 .ensures .0),
+          clearing-more C _ _ _ _ w (at-loop .loop .k) (at-loop .loop .inv .0) (turn .loop-test .taken) (at-smaller-at .smaller-at .ensures) (at-larger-at .larger-at .ensures) (at-loop .loop .inv .3 C rs w M) (at-clear-exterior .clear-exterior .ensures .0) (c .before .before .clear-exterior2 .ensures .0),
     )
 
 same-length : tie.Need-same-length Inv-loop μ-loop

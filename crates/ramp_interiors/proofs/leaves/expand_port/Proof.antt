@@ -14,23 +14,36 @@ mark-exteriors-requires c κs = search needs
 
 expand-rows-requires : tie.Need-expand-rows-requires
 expand-rows-requires c κs =
-    let m = c .before .before .before .before in
-    let s = m .before .before .before .before .before .before in
-    (s .pre .0, (s .pre .1 .0, (s .pre .1 .1 .0, omega (arith, s .pre .1 .1 .1, m .mark-exteriors .ensures .1))))
+    let at-marks = c .before .before .before in
+    let at-mark-exteriors = at-marks .before in
+    let at-shared-slice-known = at-mark-exteriors .before .before .before in
+    let entry = at-shared-slice-known .before .before .before in
+    (entry .pre .0, (entry .pre .1 .0, (entry .pre .1 .1 .0, omega (arith, entry .pre .1 .1 .1, at-mark-exteriors .mark-exteriors .ensures .1))))
+
+-- the function's entry, from the state at `marks`
+abbrev to-entry : tie.After-marks → tie.Start
+to-entry c =
+    let at-mark-exteriors = c .before in
+    let at-shared-slice-known = at-mark-exteriors .before .before .before in
+    at-shared-slice-known .before .before .before
 
 rows-split-requires : tie.Need-rows-split-requires
 rows-split-requires c κs =
-    let x = c .before .before .before in
-    let m = x .before .before .before .before .before in
-    let s = m .before .before .before .before .before .before in
-    walk-more (s .pre .1 .0) (omega (arith, s .pre .1 .1 .0, x .expand-rows .ensures .1))
+    let at-expand-rows = c .before .before .before in
+    let at-expand-rows-arg2 = at-expand-rows .before in
+    let at-marks = at-expand-rows-arg2 .before .before .before in
+    let entry = to-entry at-marks in
+    walk-more (entry .pre .1 .0) (omega (arith, entry .pre .1 .1 .0, at-expand-rows .expand-rows .ensures .1))
 
 clear-exteriors-requires : tie.Need-clear-exteriors-requires
 clear-exteriors-requires c κs =
-    let x = c .before .before .before .before .before in
-    let m = x .before .before .before .before .before in
-    let s = m .before .before .before .before .before .before in
-    walk-more (s .pre .1 .0) (omega (arith, s .pre .1 .1 .1, m .mark-exteriors .ensures .1))
+    let at-rows-split = c .before in
+    let at-names = at-rows-split .before .before .before in
+    let at-expand-rows-arg = at-names .before .before .before in
+    let at-mark-exteriors = at-expand-rows-arg .before .before .before in
+    let at-shared-slice-known = at-mark-exteriors .before .before .before in
+    let entry = at-shared-slice-known .before .before .before in
+    walk-more (entry .pre .1 .0) (omega (arith, entry .pre .1 .1 .1, at-mark-exteriors .mark-exteriors .ensures .1))
 
 same-length : tie.Need-same-length
 same-length c = search needs
@@ -40,15 +53,17 @@ same-length-2 c = search needs
 
 returns : tie.Need-returns
 returns c =
-    let z = c .before .before in
-    let y = z .before .before in
-    let x = y .before .before .before .before in
-    let m = x .before .before .before .before .before in (
+    let at-marks2 = c .before in
+    let at-rows-split = at-marks2 .before .before .before in
+    let at-names = at-rows-split .before .before .before in
+    let at-expand-rows = at-names .before in
+    let at-expand-rows-arg = at-expand-rows .before .before in
+    let at-mark-exteriors = at-expand-rows-arg .before .before .before in (
       λ C i rs v P I M.
-          let E = m .mark-exteriors .ensures .0 C rs (P .walk) I M in
-          let H = x .expand-rows .ensures .0 C i rs (exteriors rs (pairsBetween _ _ _)) v P I (E .marked) in
-          port-walked C i _ rs v _ _ _ P E H (y .rows-split .ensures C _ (P .walk) (H .inside)) (z .clear-exteriors .ensures .0 C rs (P .walk) (E .marked)),
-      (x .expand-rows .ensures .1, z .clear-exteriors .ensures .1 ∙ m .mark-exteriors .ensures .1),
+          let E = at-mark-exteriors .mark-exteriors .ensures .0 C rs (P .walk) I M in
+          let H = at-expand-rows .expand-rows .ensures .0 C i rs (exteriors rs (pairsBetween _ _ _)) v P I (E .marked) in
+          port-walked C i _ rs v _ _ _ P E H (at-rows-split .rows-split .ensures C _ (P .walk) (H .inside)) (c .before .before .clear-exteriors .ensures .0 C rs (P .walk) (E .marked)),
+      (at-expand-rows .expand-rows .ensures .1, c .before .before .clear-exteriors .ensures .1 ∙ at-mark-exteriors .mark-exteriors .ensures .1),
     )
 
 pub expand-port-spec : {M : Type 1} → statement M

@@ -47,10 +47,18 @@ returns-2 c =
 choose-requires : tie.Need-choose-requires
 choose-requires c κs = search needs
 
+-- the function's entry, from the state at `is-exterior2`
+abbrev to-entry : tie.After-is-exterior2 → tie.Start
+to-entry c =
+    let at-parent-of2 = c .before .before .before in
+    let at-parent-of-arg = at-parent-of2 .before .before .before in
+    at-parent-of-arg .before .before .before
+
 is-leaf-requires : tie.Need-is-leaf-requires
 is-leaf-requires c κs =
-    let s = c .before .before .before .before .before .before .before .before .before .before .before in
-    chosen-in (c .before .before .before .is-exterior .result) (c .choose .ensures) (s .pre .0 .0, s .pre .0 .1 .1) (s .pre .1 .0, s .pre .1 .1 .1)
+    let at-is-exterior2 = c .before .before in
+    let entry = to-entry at-is-exterior2 in
+    chosen-in (c .before .before .before .is-exterior .result) (c .choose .ensures) (entry .pre .0 .0, entry .pre .0 .1 .1) (entry .pre .1 .0, entry .pre .1 .1 .1)
 
 same-length-3 : tie.Need-same-length-3
 same-length-3 c = search needs
@@ -65,9 +73,12 @@ returns-3 c =
 
 set-parent-requires : tie.Need-set-parent-requires
 set-parent-requires c κs =
-    let h = c .before .before .before in
-    let s = h .before .before .before .before .before .before .before .before .before .before .before in
-    chosen-in (h .before .before .before .is-exterior .result) (h .choose .ensures) (s .pre .0 .0, s .pre .0 .1 .0) (s .pre .1 .0, s .pre .1 .1 .0)
+    let at-choose = c .before .before .before in
+    let at-is-exterior = at-choose .before .before .before in
+    let at-parent-of2 = at-is-exterior .before .before in
+    let at-parent-of-arg = at-parent-of2 .before .before .before in
+    let entry = at-parent-of-arg .before .before .before in
+    chosen-in (at-is-exterior .is-exterior .result) (at-choose .choose .ensures) (entry .pre .0 .0, entry .pre .0 .1 .0) (entry .pre .1 .0, entry .pre .1 .1 .0)
 
 same-length-4 : tie.Need-same-length-4
 same-length-4 c = search needs

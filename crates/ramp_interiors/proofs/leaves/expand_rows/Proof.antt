@@ -28,7 +28,9 @@ abbrev μ-loop : tie.MeasureT-loop
 -- at a turn: what the row names has a name and a mark
 module _ (c : tie.In-loop Inv-loop μ-loop) where
   abbrev start : tie.Start Inv-loop μ-loop
-  start = c .before .before .before .before .before
+  start =
+      let at-shared-slice-known2 = c .before .before in
+      at-shared-slice-known2 .before .before .before
 
   both-in : {x n m : ℕ} → (1 ≤ x) × (x ≤ start .pre .0) → start .pre .0 ≤ n → start .pre .0 ≤ m → (1 ≤ x) × ((x ≤ n) × (x ≤ m))
   both-in h k l = (h .0, (omega (arith, h .1), omega (arith, h .1)))

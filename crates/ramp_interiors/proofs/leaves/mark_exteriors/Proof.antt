@@ -27,7 +27,9 @@ abbrev μ-loop : tie.MeasureT-loop
 -- at a turn: what the row names has a name and a mark
 module _ (c : tie.In-loop Inv-loop μ-loop) where
   abbrev start : tie.Start Inv-loop μ-loop
-  start = c .before .before .before .before .before
+  start =
+      let at-shared-slice-known2 = c .before .before in
+      at-shared-slice-known2 .before .before .before
 
   abbrev walk : Walkable (start .args .pairs .now) (start .args .first) (start .args .end) (start .pre .0)
   walk = start .pre .1 .0
@@ -62,15 +64,19 @@ parent-of-requires-2 c κs =
 
 mark-exterior-requires : tie.Need-mark-exterior-requires Inv-loop μ-loop
 mark-exterior-requires c κs =
-    let t = c .before .before .before .before .before in
-    longer t (high-in (walk t) (up t) (in-rows t) (c .before .before .before .larger-at .ensures)) (omega (arith, t .before .loop .inv .2, start t .pre .1 .1 .1))
+    let at-parent-of = c .before .before in
+    let turn = at-parent-of .before .before .before in
+    let at-loop = turn .before in
+    longer turn (high-in (walk turn) (up turn) (in-rows turn) (c .before .before .before .larger-at .ensures)) (omega (arith, at-loop .loop .inv .2, start turn .pre .1 .1 .1))
 
 mark-exterior-requires-2 : tie.Need-mark-exterior-requires-2 Inv-loop μ-loop
 mark-exterior-requires-2 c κs =
-    let m = c .before .before .before in
-    let s = m .before .before .before .before .before in
-    let t = s .before in
-    longer t (low-in (walk t) (up t) (in-rows t) (s .smaller-at .ensures)) (omega (arith, m .mark-exterior .ensures .1, t .before .loop .inv .2, start t .pre .1 .1 .1))
+    let at-marks = c .before .before in
+    let at-parent-of2 = at-marks .before .before .before in
+    let at-smaller-at = at-parent-of2 .before .before .before in
+    let turn = at-smaller-at .before in
+    let at-loop = turn .before in
+    longer turn (low-in (walk turn) (up turn) (in-rows turn) (at-smaller-at .smaller-at .ensures)) (omega (arith, c .before .before .before .mark-exterior .ensures .1, at-loop .loop .inv .2, start turn .pre .1 .1 .1))
 
 add-k : tie.Need-add-k Inv-loop μ-loop
 add-k c = search needs
@@ -80,16 +86,19 @@ loop-less c = search needs
 
 loop-again : tie.Need-loop-again Inv-loop μ-loop
 loop-again c =
-    let n = c .before .before in
-    let m = n .before .before .before .before in
-    let p = m .before .before in
-    let l = p .before .before in
-    let t = l .before .before in (
-      omega (arith, up t),
-      omega (arith, in-rows t),
-      n .mark-exterior2 .ensures .1 ∙ m .mark-exterior .ensures .1 ∙ t .before .loop .inv .2,
+    let at-mark-exterior-arg2 = c .before .before .before in
+    let at-mark-exterior = at-mark-exterior-arg2 .before .before .before in
+    let at-parent-of2 = at-mark-exterior .before .before in
+    let at-parent-of = at-parent-of2 .before in
+    let at-larger-at = at-parent-of .before in
+    let at-smaller-at = at-larger-at .before in
+    let turn = at-smaller-at .before in
+    let at-loop = turn .before in (
+      omega (arith, up turn),
+      omega (arith, in-rows turn),
+      c .before .before .mark-exterior2 .ensures .1 ∙ at-mark-exterior .mark-exterior .ensures .1 ∙ at-loop .loop .inv .2,
       λ C rs w I M.
-          marking-more C rs _ _ _ _ _ I w (t .before .loop .k) (up t) (in-rows t) (l .before .smaller-at .ensures) (l .larger-at .ensures) (p .before .parent-of .ensures) (p .parent-of2 .ensures) (t .before .loop .inv .3 C rs w I M) (m .mark-exterior .ensures .0) (n .mark-exterior2 .ensures .0),
+          marking-more C rs _ _ _ _ _ I w (at-loop .loop .k) (up turn) (in-rows turn) (at-smaller-at .smaller-at .ensures) (at-larger-at .larger-at .ensures) (at-parent-of .parent-of .ensures) (at-parent-of2 .parent-of2 .ensures) (at-loop .loop .inv .3 C rs w I M) (at-mark-exterior .mark-exterior .ensures .0) (c .before .before .mark-exterior2 .ensures .0),
     )
 
 same-length : tie.Need-same-length Inv-loop μ-loop

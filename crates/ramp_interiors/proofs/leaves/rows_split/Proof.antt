@@ -24,7 +24,9 @@ abbrev μ-loop : tie.MeasureT-loop
 μ-loop names pairs first end r k₀ k = end - k
 
 abbrev start : tie.In-loop Inv-loop μ-loop → tie.Start Inv-loop μ-loop
-start c = c .before .before .before .before
+start c =
+    let at-loop = c .before in
+    at-loop .before .before .before
 
 loop-holds : tie.Need-loop-holds Inv-loop μ-loop
 loop-holds c = (search needs, search needs, λ C rs w I. all-rows-none _ _ _)

@@ -27,11 +27,22 @@ module _ (c : tie.At-loop Inv-loop μ-loop) where
   first-row = c .before
 
   abbrev start : tie.Start Inv-loop μ-loop
-  start = c .before .before .before .before .before .before
+  start =
+      let at-if1 = c .before .before .before in
+      at-if1 .before .before .before
+
+-- the function's entry, from the state at `parent-of`
+abbrev to-entry : tie.After-parent-of Inv-loop μ-loop → tie.Start Inv-loop μ-loop
+to-entry c =
+    let at-if1 = c .before .before in
+    at-if1 .before .before .before
 
 -- the name of the first row
-first-named : (c : tie.After-parent-of Inv-loop μ-loop) → lowNamed (c .before .before .before .before .before .args .names .now) (c .parent-of .result) (pairAt (c .before .before .before .before .before .args .pairs .now) (c .before .before .before .before .before .args .first)) ≡ true
-first-named c = eq-eqb _ _ (sym (c .parent-of .ensures ∙ ap (λ x. getD (c .before .before .before .before .before .args .names .now) (x - 1) 0) (c .before .smaller-at .ensures)))
+first-named : (c : tie.After-parent-of Inv-loop μ-loop) → lowNamed (to-entry c .args .names .now) (c .parent-of .result) (pairAt (to-entry c .args .pairs .now) (to-entry c .args .first)) ≡ true
+first-named c =
+    let at-if1 = c .before .before in
+    let entry = at-if1 .before .before .before in
+    eq-eqb _ _ (sym (c .parent-of .ensures ∙ ap (λ x. getD (entry .args .names .now) (x - 1) 0) (c .before .smaller-at .ensures)))
 
 -- there is a row
 some-row : (c : tie.Else1 Inv-loop μ-loop) → c .before .before .before .args .first < c .before .before .before .args .end
@@ -50,14 +61,16 @@ smaller-at-requires : tie.Need-smaller-at-requires Inv-loop μ-loop
 smaller-at-requires c κs = row-in (c .before .before .before .pre) (omega arith) (some-row c)
 
 parent-of-requires : tie.Need-parent-of-requires Inv-loop μ-loop
-parent-of-requires c κs = low-in (c .before .before .before .before .pre) (omega arith) (some-row (c .before)) (c .smaller-at .ensures)
+parent-of-requires c κs =
+    let at-if1 = c .before in
+    let entry = at-if1 .before .before .before in
+    low-in (entry .pre) (omega arith) (some-row at-if1) (c .smaller-at .ensures)
 
 add-k : tie.Need-add-k Inv-loop μ-loop
 add-k c = search needs
 
 loop-holds : tie.Need-loop-holds Inv-loop μ-loop
 loop-holds c =
-    let s = c .before .before .before .before .before in
     (omega arith, omega (arith, some-row (c .before .before)), all-rows-next _ _ _ _ (omega arith) ∙ ap₂ _&&_ (all-rows-none _ _ _) (first-named c))
 
 smaller-at-requires-2 : tie.Need-smaller-at-requires-2 Inv-loop μ-loop

@@ -21,17 +21,21 @@ abbrev μ-loop : tie.MeasureT-loop
 -- there are few boundaries
 few : (c : tie.In-loop Inv-loop μ-loop) → c .before .loop .i < length (c .before .loop .owners)
 few c =
-    let s = c .before .before .before .before .before .before in
-    omega (arith, c .loop-test .taken, c .before .loop .inv .1, s .pre .0 .1 .1, s .pre .0 .1 .0 .given .bounds .few)
+    let at-shared-slice-known3 = c .before .before .before in
+    let entry = at-shared-slice-known3 .before .before .before in
+    omega (arith, c .loop-test .taken, c .before .loop .inv .1, entry .pre .0 .1 .1, entry .pre .0 .1 .0 .given .bounds .few)
 
 loop-holds : tie.Need-loop-holds Inv-loop μ-loop
 loop-holds c =
-    (search needs, c .before .before .before .before .pre .1, λ C K e j l. absurd (omega arith))
+    let at-shared-slice-known3 = c .before in
+    let entry = at-shared-slice-known3 .before .before .before in
+    (search needs, entry .pre .1, λ C K e j l. absurd (omega arith))
 
 owner-of-requires : tie.Need-owner-of-requires Inv-loop μ-loop
 owner-of-requires c κs =
-    let s = c .before .before .before .before .before .before in
-    (s .pre .0 .0, (s .pre .0 .1 .0, omega (arith, s .pre .0 .1 .1, c .loop-test .taken)))
+    let at-shared-slice-known3 = c .before .before .before in
+    let entry = at-shared-slice-known3 .before .before .before in
+    (entry .pre .0 .0, (entry .pre .0 .1 .0, omega (arith, entry .pre .0 .1 .1, c .loop-test .taken)))
 
 mul-owners : tie.Need-mul-owners Inv-loop μ-loop
 mul-owners c = search needs

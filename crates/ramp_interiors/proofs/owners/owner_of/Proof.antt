@@ -27,9 +27,11 @@ element-copy-out-common-name-2 c = search needs
 
 common-name-requires : tie.Need-common-name-requires
 common-name-requires c κs =
-    let s = c .before .before .before .before .before .before .before .before in
-    let K = s .pre .1 .0 in
-    shown-walkable (K .given .paired) (names-long (s .pre .0) (K .named)) (s .args .i) (s .pre .1 .1)
+    let at-is-ordinary = c .before .before .before in
+    let at-shared-slice-known2 = at-is-ordinary .before .before .before in
+    let entry = at-shared-slice-known2 .before .before in
+    let K = entry .pre .1 .0 in
+    shown-walkable (K .given .paired) (names-long (entry .pre .0) (K .named)) (entry .args .i) (entry .pre .1 .1)
 
 returns : tie.Need-returns
 returns c =

@@ -22,18 +22,27 @@ abbrev μ-loop : tie.MeasureT-loop
 -- at a turn
 module _ (c : tie.In-loop Inv-loop μ-loop) where
   abbrev start : tie.Start Inv-loop μ-loop
-  start = c .before .before .before .before
+  start =
+      let at-loop = c .before in
+      at-loop .before .before .before
 
   abbrev named : Bool
   named = pairNamed (start .args .names .now) (start .args .r) (pairAt (start .args .pairs .now) (c .before .loop .k))
 
+-- a turn's begin, from the state at `parent-of2`
+abbrev to-turn : tie.After-parent-of2 Inv-loop μ-loop → tie.In-loop Inv-loop μ-loop
+to-turn c =
+    let at-larger-at = c .before in
+    at-larger-at .before .before .before
+
 -- what was compared is what the test asks of the row
-compared : (c : tie.After-parent-of2 Inv-loop μ-loop) → (eqb (c .before .before .parent-of .result) (start (c .before .before .before .before) .args .r) || eqb (c .parent-of2 .result) (start (c .before .before .before .before) .args .r)) ≡ named (c .before .before .before .before)
+compared : (c : tie.After-parent-of2 Inv-loop μ-loop) → (eqb (c .before .before .parent-of .result) (start (to-turn c) .args .r) || eqb (c .parent-of2 .result) (start (to-turn c) .args .r)) ≡ named (to-turn c)
 compared c =
-    let t = c .before .before .before .before in
-    let s = start t in
+    let at-larger-at = c .before in
+    let turn = at-larger-at .before .before .before in
+    let s = start turn in
     λ j. eqb ((c .before .before .parent-of .ensures ∙ ap (λ x. getD (s .args .names .now) (x - 1) 0) (c .before .before .before .smaller-at .ensures)) j) (s .args .r)
-    || eqb ((c .parent-of2 .ensures ∙ ap (λ x. getD (s .args .names .now) (x - 1) 0) (c .before .larger-at .ensures)) j) (s .args .r)
+    || eqb ((c .parent-of2 .ensures ∙ ap (λ x. getD (s .args .names .now) (x - 1) 0) (at-larger-at .larger-at .ensures)) j) (s .args .r)
 
 loop-holds : tie.Need-loop-holds Inv-loop μ-loop
 loop-holds c = (search needs, search needs, any-rows-none _ _ _)
@@ -58,8 +67,10 @@ parent-of-requires-2 c κs =
 
 returns : tie.Need-returns Inv-loop μ-loop
 returns c =
-    let t = c .before .before .before .before .before in
-    sym (any-rows-at _ _ _ _ _ (t .before .loop .inv .0) (t .loop-test .taken) (sym (compared (c .before)) ∙ c .if1 .taken))
+    let at-larger-at = c .before .before in
+    let turn = at-larger-at .before .before .before in
+    let at-loop = turn .before in
+    sym (any-rows-at _ _ _ _ _ (at-loop .loop .inv .0) (turn .loop-test .taken) (sym (compared (c .before)) ∙ c .if1 .taken))
 
 add-k : tie.Need-add-k Inv-loop μ-loop
 add-k c = search needs
@@ -69,8 +80,9 @@ loop-less c = search needs
 
 loop-again : tie.Need-loop-again Inv-loop μ-loop
 loop-again c =
-    let t = c .before .before .before .before .before in
-    (search needs, search needs, any-rows-next _ _ _ _ (t .before .loop .inv .0) ∙ ap₂ _||_ (t .before .loop .inv .2) (sym (compared (c .before)) ∙ c .if1 .left))
+    let at-parent-of = c .before .before .before in
+    let at-loop = at-parent-of .before .before .before in
+    (search needs, search needs, any-rows-next _ _ _ _ (at-loop .loop .inv .0) ∙ ap₂ _||_ (at-loop .loop .inv .2) (sym (compared (c .before)) ∙ c .if1 .left))
 
 returns-2 : tie.Need-returns-2 Inv-loop μ-loop
 returns-2 c = sym (sym (any-rows-end _ _ _ (c .before .loop .inv .1) (c .loop-test .left)) ∙ c .before .loop .inv .2)

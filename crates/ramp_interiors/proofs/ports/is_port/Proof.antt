@@ -16,7 +16,9 @@ returns c = λ C M l o h. port-own C _ _ (M .from) (M .upto) o l h (c .if1 .take
 
 returns-2 : tie.Need-returns-2
 returns-2 c =
-    let v = c .before .before .before .before .before .args .owner in
+    let at-shared-slice-known3 = c .before .before in
+    let entry = at-shared-slice-known3 .before .before .before in
+    let v = entry .args .owner in
     let t = both (not (eqb v 0)) (not (eqb v several)) (c .if2 .taken) in
     λ C M l o h. port-elsewhere M _ l o h (c .before .if1 .left) (eqb-false v 0 (not-true (eqb v 0) (t .0))) (eqb-false v several (not-true (eqb v several) (t .1)))
 
@@ -37,11 +39,16 @@ element-copy-out-touches-2 c = search needs
 
 touches-requires : tie.Need-touches-requires
 touches-requires c κs =
-    let s = c .before .before .before .before .before .before .before in
-    shown-walkable (s .pre .1 .0 .paired) (s .pre .1 .0 .told .long) (s .args .i) (s .pre .1 .1)
+    let at-if1 = c .before .before .before in
+    let at-shared-slice-known3 = at-if1 .before in
+    let entry = at-shared-slice-known3 .before .before .before in
+    shown-walkable (entry .pre .1 .0 .paired) (entry .pre .1 .0 .told .long) (entry .args .i) (entry .pre .1 .1)
 
 returns-3 : tie.Need-returns-3
-returns-3 c = λ C M l o h. c .touches .ensures ∙ touches-is M _ l ∙ port-other C _ _ (M .from) (M .upto) o l h (c .before .before .before .before .if1 .left)
+returns-3 c =
+    let at-if2 = c .before .before .before in
+    let at-if1 = at-if2 .before in
+    λ C M l o h. c .touches .ensures ∙ touches-is M _ l ∙ port-other C _ _ (M .from) (M .upto) o l h (at-if1 .if1 .left)
 
 pub is-port-spec : {M : Type 1} → statement M
 is-port-spec =

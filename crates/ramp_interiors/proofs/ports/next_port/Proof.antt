@@ -5,9 +5,9 @@ use mathlib.Core.Path.{_≡_, sym, _∙_}
 use mathlib.Core.Bool.{true, false}
 use borrow.Author.Needs.{needs}
 use Rattle.definitions.specs.Context.{Context}
+use Rattle.context.proofs.Rows.{from-more}
 use Rattle.ramp_interiors.specs.Owners.{Owners}
 use Rattle.ramp_interiors.specs.Candidates.{Mapped, candidate, port}
-use Rattle.ramp_interiors.proofs.RowScans.{from-more}
 use Rattle.ramp_interiors.proofs.ports.next_port.Statement.{statement}
 use Rattle.ramp_interiors.proofs.ports.next_port.Tie as tie
 
@@ -25,13 +25,15 @@ mul-is-port c = search needs
 
 element-copy-out-is-port : tie.Need-element-copy-out-is-port Inv-loop μ-loop
 element-copy-out-is-port c =
-    let s = c .before .before .before .before .before in
-    omega (arith, c .loop-test .taken, s .pre .0 .1 .1, s .pre .0 .1 .0 .paired .few)
+    let at-shared-slice-known3 = c .before .before in
+    let entry = at-shared-slice-known3 .before .before .before in
+    omega (arith, c .loop-test .taken, entry .pre .0 .1 .1, entry .pre .0 .1 .0 .paired .few)
 
 is-port-requires : tie.Need-is-port-requires Inv-loop μ-loop
 is-port-requires c κs =
-    let s = c .before .before .before .before .before .before in
-    (s .pre .0 .0, (s .pre .0 .1 .0, omega (arith, s .pre .0 .1 .1, c .before .loop-test .taken)))
+    let at-shared-slice-known3 = c .before .before .before in
+    let entry = at-shared-slice-known3 .before .before .before in
+    (entry .pre .0 .0, (entry .pre .0 .1 .0, omega (arith, entry .pre .0 .1 .1, c .before .loop-test .taken)))
 
 returns : tie.Need-returns Inv-loop μ-loop
 returns c =
@@ -56,13 +58,16 @@ loop-less c = search needs
 
 loop-again : tie.Need-loop-again Inv-loop μ-loop
 loop-again c =
-    let t = c .before .before .before in
-    let i = t .before .loop .i in (
-      omega (arith, t .before .loop .inv .0),
-      omega (arith, t .loop-test .taken),
+    let at-is-port = c .before in
+    let at-loop = at-is-port .before .before .before in
+    let at-shared-slice-known2 = at-loop .before .before in
+    let entry = at-shared-slice-known2 .before .before in
+    let i = at-loop .loop .i in (
+      omega (arith, at-loop .loop .inv .0),
+      omega (arith, c .before .before .before .loop-test .taken),
       λ C M e O h.
-          let l : i < C .count = omega (arith, e, t .loop-test .taken) in
-          from-more (λ k. port C (t .before .before .before .before .before .args .r) k ≡ false) _ _ (t .before .loop .inv .2 C M e O h) (sym (c .before .is-port .ensures C M l (O i l) h) ∙ c .if1 .left),
+          let l : i < C .count = omega (arith, e, c .before .before .before .loop-test .taken) in
+          from-more (λ k. port C (entry .args .r) k ≡ false) _ _ (at-loop .loop .inv .2 C M e O h) (sym (at-is-port .is-port .ensures C M l (O i l) h) ∙ c .if1 .left),
     )
 
 returns-2 : tie.Need-returns-2 Inv-loop μ-loop

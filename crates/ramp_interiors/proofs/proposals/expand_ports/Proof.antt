@@ -42,10 +42,14 @@ element-copy-out-expand-port-4 c = search needs
 
 expand-port-requires-2 : tie.Need-expand-port-requires-2
 expand-port-requires-2 c κs =
-    let e = c .before .before .before .before .before .before .before .before in
-    let s = e .before .before .before .before .before .before .before .before in
-    let w = s .pre .1 .reachable in
-    (w .0, (w .1 .0, (omega (arith, w .1 .1 .0, e .expand-port .ensures .1 .0), omega (arith, w .1 .1 .1, e .expand-port .ensures .1 .1))))
+    let at-expand-port-arg6 = c .before .before in
+    let at-marks = at-expand-port-arg6 .before .before .before in
+    let at-expand-port = at-marks .before .before .before in
+    let at-expand-port-arg3 = at-expand-port .before .before in
+    let at-shared-slice-known = at-expand-port-arg3 .before .before .before in
+    let entry = at-shared-slice-known .before .before .before in
+    let w = entry .pre .1 .reachable in
+    (w .0, (w .1 .0, (omega (arith, w .1 .1 .0, at-expand-port .expand-port .ensures .1 .0), omega (arith, w .1 .1 .1, at-expand-port .expand-port .ensures .1 .1))))
 
 same-length : tie.Need-same-length
 same-length c = search needs
@@ -55,12 +59,15 @@ same-length-2 c = search needs
 
 returns : tie.Need-returns
 returns c =
-    let f = c .before .before .before .before in
-    let e = f .before .before .before .before .before .before .before .before .before in (
+    let at-marks2 = c .before in
+    let at-expand-port2 = at-marks2 .before .before .before in
+    let at-expand-port-arg6 = at-expand-port2 .before .before .before in
+    let at-marks = at-expand-port-arg6 .before .before .before in
+    let at-expand-port = at-marks .before .before .before in (
       λ C rs P l m I M.
-          let A = e .expand-port .ensures .0 C _ rs true (shown-ported P _ l) I M in
-          both-walked A (f .expand-port2 .ensures .0 C _ _ _ (shown-ported P _ m) (A .held .inside) (A .cleared .marked)),
-      (f .expand-port2 .ensures .1 .0 ∙ e .expand-port .ensures .1 .0, f .expand-port2 .ensures .1 .1 ∙ e .expand-port .ensures .1 .1),
+          let A = at-expand-port .expand-port .ensures .0 C _ rs true (shown-ported P _ l) I M in
+          both-walked A (at-expand-port2 .expand-port2 .ensures .0 C _ _ _ (shown-ported P _ m) (A .held .inside) (A .cleared .marked)),
+      (at-expand-port2 .expand-port2 .ensures .1 .0 ∙ at-expand-port .expand-port .ensures .1 .0, at-expand-port2 .expand-port2 .ensures .1 .1 ∙ at-expand-port .expand-port .ensures .1 .1),
     )
 
 pub expand-ports-spec : {M : Type 1} → statement M

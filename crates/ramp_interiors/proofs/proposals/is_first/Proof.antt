@@ -51,9 +51,9 @@ loop-less c = search needs
 
 loop-again : tie.Need-loop-again Inv-loop μ-loop
 loop-again c =
-    let t = c .before .before in
-    let s = t .before .before .before .before in
-    (omega (arith, t .loop-test .taken), any-none (λ k. eqb (getD (s .args .owners .now) k 0) (getD (s .args .owners .now) (s .args .i) 0)) (t .before .loop .j) (t .before .loop .inv .1) (ne-eqb _ _ (c .if2 .left)))
+    let at-loop = c .before .before .before in
+    let entry = at-loop .before .before .before in
+    (omega (arith, c .before .before .loop-test .taken), any-none (λ k. eqb (getD (entry .args .owners .now) k 0) (getD (entry .args .owners .now) (entry .args .i) 0)) (at-loop .loop .j) (at-loop .loop .inv .1) (ne-eqb _ _ (c .if2 .left)))
 
 returns-3 : tie.Need-returns-3 Inv-loop μ-loop
 returns-3 c =

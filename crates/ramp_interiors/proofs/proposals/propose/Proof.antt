@@ -9,21 +9,37 @@ use Rattle.ramp_interiors.specs.Proposals.{Facing}
 use Rattle.ramp_interiors.specs.declared.ports.Ports.the-variants as ports
 use Rattle.ramp_interiors.proofs.ProposalLaws.{no-candidate, no-ports, component-inside, ports-below, unfit, ports-valid, ports-invalid, facing-listed, facing-reachable}
 use borrow.Author.Needs.{needs}
+use borrow.Author.Tests.{not-false}
 use Rattle.ramp_interiors.proofs.proposals.propose.Statement.{statement}
 use Rattle.ramp_interiors.proofs.proposals.propose.Tie as tie
-use Rattle.ramp_interiors.proofs.Bools.{passed}
 
 -- the lists as they were handed in, for a context
 abbrev Shown : tie.Start → Context → Type 0
 Shown s C = Facing C (s .args .boundaries .now) (s .args .tallies .now) (s .args .pairs .now) (s .args .starts .now) (s .args .names .now) (s .args .marks .now) (s .args .owners .now) (s .args .count) (s .args .r)
 
+-- the function's entry, from the state at `is-candidate`
+abbrev to-entry : tie.After-is-candidate → tie.Start
+to-entry c =
+    let at-slice-known2 = c .before .before .before in
+    let at-shared-slice-known2 = at-slice-known2 .before .before .before in
+    at-shared-slice-known2 .before .before
+
+-- the state at `is-candidate`, from the state at `find-ports`
+abbrev to-is-candidate : tie.After-find-ports → tie.After-is-candidate
+to-is-candidate c =
+    let at-if1 = c .before .before .before in
+    at-if1 .before
+
 -- after `find_ports`
 module _ (c : tie.After-find-ports) where
   abbrev start : tie.Start
-  start = c .before .before .before .before .before .before .before .before .before .before .before .before
+  start =
+      let at-if1 = c .before .before .before in
+      let at-is-candidate = at-if1 .before in
+      to-entry at-is-candidate
 
   is-candidate : (C : Context) → Shown start C → candidate C (start .args .r) ≡ true
-  is-candidate C F = sym (c .before .before .before .before .is-candidate .ensures C (F .mapped) (F .counted) (F .owned)) ∙ passed _ (c .before .before .before .if1 .left)
+  is-candidate C F = sym (to-is-candidate c .is-candidate .ensures C (F .mapped) (F .counted) (F .owned)) ∙ not-false _ (c .before .before .before .if1 .left)
 
   found-ports : (C : Context) → Shown start C → c .find-ports .result ≡ twoPorts (componentPorts C (components C) (start .args .r))
   found-ports C F = c .find-ports .ensures C (F .mapped) (F .counted) (F .owned) (is-candidate C F)
@@ -41,8 +57,10 @@ module _ (c : tie.After-known-told) where
 
 is-candidate-requires : tie.Need-is-candidate-requires
 is-candidate-requires c κs =
-    let s = c .before .before .before .before .before .before .before in
-    (s .pre .0, (s .pre .1 .mapped, s .pre .1 .counted))
+    let at-is-candidate-arg = c .before in
+    let at-shared-slice-known3 = at-is-candidate-arg .before .before .before in
+    let entry = at-shared-slice-known3 .before .before .before in
+    (entry .pre .0, (entry .pre .1 .mapped, entry .pre .1 .counted))
 
 same-length : tie.Need-same-length
 same-length c = search needs
@@ -55,8 +73,9 @@ returns c = (λ C F. no-candidate F (c .before .is-candidate .ensures C (F .mapp
 
 find-ports-requires : tie.Need-find-ports-requires
 find-ports-requires c κs =
-    let s = c .before .before .before .before .before .before .before .before .before .before .before in
-    (s .pre .0, (s .pre .1 .mapped, s .pre .1 .counted))
+    let at-is-candidate = c .before .before .before in
+    let entry = to-entry at-is-candidate in
+    (entry .pre .0, (entry .pre .1 .mapped, entry .pre .1 .counted))
 
 enum-told : tie.Need-enum-told
 enum-told c = search needs
@@ -87,9 +106,10 @@ returns-2 c =
 
 expand-ports-requires : tie.Need-expand-ports-requires
 expand-ports-requires c κs =
-    let k = c .before .before .before .before in
-    let s = start (asked k) in
-    let l = below k (s .pre .0) (s .pre .1) in
+    let at-ports-fit = c .before .before .before in
+    let at-known-told = at-ports-fit .before in
+    let s = start (asked at-known-told) in
+    let l = below at-known-told (s .pre .0) (s .pre .1) in
     (facing-reachable (s .pre .1) _ (l .0), facing-reachable (s .pre .1) _ (l .1))
 
 same-length-5 : tie.Need-same-length-5
@@ -111,14 +131,16 @@ same-length-8 c = search needs
 
 returns-4 : tie.Need-returns-4
 returns-4 c =
-    let x = c .before .before .before .before .before in
-    let o = x .before .before .before in
-    let k = o .before .before in (
+    let at-marks = c .before .before in
+    let at-expand-ports = at-marks .before .before .before in
+    let at-if2 = at-expand-ports .before .before .before in
+    let at-ports-fit = at-if2 .before in
+    let at-known-told = at-ports-fit .before in (
       λ C F.
-          let l = below k C F in
-          ports-valid F (is-candidate (asked k) C F) (two-found k C F) (o .before .ports-fit .ensures C (F .given .bounds) (F .given .tallied) (l .0) (l .1)) (o .if2 .left)
-          (x .expand-ports .ensures .0 C _ (F .given .paired) (l .0) (l .1) (component-inside F (is-candidate (asked k) C F)) (F .mapped .marked)) (c .if3 .taken),
-      x .expand-ports .ensures .1,
+          let l = below at-known-told C F in
+          ports-valid F (is-candidate (asked at-known-told) C F) (two-found at-known-told C F) (at-ports-fit .ports-fit .ensures C (F .given .bounds) (F .given .tallied) (l .0) (l .1)) (at-if2 .if2 .left)
+          (at-expand-ports .expand-ports .ensures .0 C _ (F .given .paired) (l .0) (l .1) (component-inside F (is-candidate (asked at-known-told) C F)) (F .mapped .marked)) (c .if3 .taken),
+      at-expand-ports .expand-ports .ensures .1,
     )
 
 same-length-9 : tie.Need-same-length-9
@@ -129,14 +151,16 @@ same-length-10 c = search needs
 
 returns-5 : tie.Need-returns-5
 returns-5 c =
-    let x = c .before .before .before .before .before in
-    let o = x .before .before .before in
-    let k = o .before .before in (
+    let at-marks = c .before .before in
+    let at-expand-ports = at-marks .before .before .before in
+    let at-if2 = at-expand-ports .before .before .before in
+    let at-ports-fit = at-if2 .before in
+    let at-known-told = at-ports-fit .before in (
       λ C F.
-          let l = below k C F in
-          ports-invalid F (is-candidate (asked k) C F) (two-found k C F) (o .before .ports-fit .ensures C (F .given .bounds) (F .given .tallied) (l .0) (l .1)) (o .if2 .left)
-          (x .expand-ports .ensures .0 C _ (F .given .paired) (l .0) (l .1) (component-inside F (is-candidate (asked k) C F)) (F .mapped .marked)) (c .if3 .left),
-      x .expand-ports .ensures .1,
+          let l = below at-known-told C F in
+          ports-invalid F (is-candidate (asked at-known-told) C F) (two-found at-known-told C F) (at-ports-fit .ports-fit .ensures C (F .given .bounds) (F .given .tallied) (l .0) (l .1)) (at-if2 .if2 .left)
+          (at-expand-ports .expand-ports .ensures .0 C _ (F .given .paired) (l .0) (l .1) (component-inside F (is-candidate (asked at-known-told) C F)) (F .mapped .marked)) (c .if3 .left),
+      at-expand-ports .expand-ports .ensures .1,
     )
 
 pub propose-spec : {M : Type 1} → statement M

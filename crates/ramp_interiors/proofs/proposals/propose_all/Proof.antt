@@ -23,15 +23,19 @@ abbrev μ-loop : tie.MeasureT-loop
 -- at a turn
 module _ (c : tie.In-loop Inv-loop μ-loop) where
   abbrev start : tie.Start Inv-loop μ-loop
-  start = c .before .before .before .before .before .before .before
+  start =
+      let at-loop = c .before in
+      let at-shared-slice-known3 = at-loop .before .before .before in
+      at-shared-slice-known3 .before .before .before
 
   few : c .before .loop .i < maxEntries
   few = omega (arith, c .loop-test .taken, start .pre .0 .1 .0 .counted, start .pre .0 .1 .0 .given .bounds .few)
 
 loop-holds : tie.Need-loop-holds Inv-loop μ-loop
 loop-holds c =
-    let s = c .before .before .before .before .before in
-    (search needs, refl, refl, s .pre .1 .0, s .pre .1 .1, λ C was wasMarks W P. (P, λ j l. absurd (omega arith)))
+    let at-shared-slice-known3 = c .before .before in
+    let entry = at-shared-slice-known3 .before .before .before in
+    (search needs, refl, refl, entry .pre .1 .0, entry .pre .1 .1, λ C was wasMarks W P. (P, λ j l. absurd (omega arith)))
 
 propose-at-requires : tie.Need-propose-at-requires Inv-loop μ-loop
 propose-at-requires c κs =
@@ -49,13 +53,21 @@ mul-firsts : tie.Need-mul-firsts Inv-loop μ-loop
 mul-firsts c = search needs
 
 element-write-firsts : tie.Need-element-write-firsts Inv-loop μ-loop
-element-write-firsts c = few (c .before .before .before .before .before .before .before .before .before)
+element-write-firsts c =
+    let at-marks = c .before .before .before in
+    let at-propose-at = at-marks .before .before .before in
+    let turn = at-propose-at .before .before .before in
+    few turn
 
 mul-seconds : tie.Need-mul-seconds Inv-loop μ-loop
 mul-seconds c = search needs
 
 element-write-seconds : tie.Need-element-write-seconds Inv-loop μ-loop
-element-write-seconds c = few (c .before .before .before .before .before .before .before .before .before)
+element-write-seconds c =
+    let at-marks = c .before .before .before in
+    let at-propose-at = at-marks .before .before .before in
+    let turn = at-propose-at .before .before .before in
+    few turn
 
 add-i : tie.Need-add-i Inv-loop μ-loop
 add-i c = search needs
@@ -65,20 +77,21 @@ loop-less c = search needs
 
 loop-again : tie.Need-loop-again Inv-loop μ-loop
 loop-again c =
-    let f = c .before in
-    let p = f .before .before .before .before .before in
-    let t = p .before .before .before in
-    let inv = t .before .loop .inv in
-    let i = t .before .loop .i in (
-      omega (arith, t .loop-test .taken),
-      p .propose-at .ensures .1 .0 ∙ inv .1,
-      p .propose-at .ensures .1 .1 ∙ inv .2,
+    let at-marks = c .before .before .before in
+    let at-propose-at = at-marks .before .before .before in
+    let turn = at-propose-at .before .before .before in
+    let at-loop = turn .before in
+    let inv = at-loop .loop .inv in
+    let i = at-loop .loop .i in (
+      omega (arith, turn .loop-test .taken),
+      at-propose-at .propose-at .ensures .1 .0 ∙ inv .1,
+      at-propose-at .propose-at .ensures .1 .1 ∙ inv .2,
       simp length-set (inv .3),
       simp length-set (inv .4),
       λ C was wasMarks W P.
           let w = inv .5 C was wasMarks W P in
-          let n = p .propose-at .ensures .0 C was wasMarks W (w .0) in
-          (n .0, found-more C _ (t .before .loop .firsts) (t .before .loop .seconds) i (w .1) (omega (arith, few t, inv .3)) (omega (arith, few t, inv .4)) (f .first-of .ensures) (c .second-of .ensures) (n .1)),
+          let n = at-propose-at .propose-at .ensures .0 C was wasMarks W (w .0) in
+          (n .0, found-more C _ (at-loop .loop .firsts) (at-loop .loop .seconds) i (w .1) (omega (arith, few turn, inv .3)) (omega (arith, few turn, inv .4)) (c .before .first-of .ensures) (c .second-of .ensures) (n .1)),
     )
 
 same-length : tie.Need-same-length Inv-loop μ-loop
@@ -89,13 +102,14 @@ same-length-2 c = c .before .loop .inv .2
 
 returns : tie.Need-returns Inv-loop μ-loop
 returns c =
-    let a = c .before in
-    let s = a .before .before .before .before .before .before in (
+    let at-loop = c .before in
+    let at-shared-slice-known3 = at-loop .before .before .before in
+    let entry = at-shared-slice-known3 .before .before .before in (
       λ C was wasMarks W P.
-          let w = a .loop .inv .5 C was wasMarks W P in
-          let same : a .loop .i ≡ C .count = omega (arith, a .loop .inv .0, c .loop-test .left, W .counted) in
-          (subst (λ n. Progress C (s .args .owners .now) was (a .loop .names) wasMarks (a .loop .marks) n) same (w .0), subst (λ n. FoundAll C (s .args .owners .now) (a .loop .firsts) (a .loop .seconds) n) same (w .1)),
-      (a .loop .inv .1, a .loop .inv .2),
+          let w = at-loop .loop .inv .5 C was wasMarks W P in
+          let same : at-loop .loop .i ≡ C .count = omega (arith, at-loop .loop .inv .0, c .loop-test .left, W .counted) in
+          (subst (λ n. Progress C (entry .args .owners .now) was (at-loop .loop .names) wasMarks (at-loop .loop .marks) n) same (w .0), subst (λ n. FoundAll C (entry .args .owners .now) (at-loop .loop .firsts) (at-loop .loop .seconds) n) same (w .1)),
+      (at-loop .loop .inv .1, at-loop .loop .inv .2),
     )
 
 pub propose-all-spec : {M : Type 1} → statement M

@@ -16,13 +16,20 @@ mul-propose c = search needs
 element-copy-out-propose : tie.Need-element-copy-out-propose
 element-copy-out-propose c = search needs
 
+-- the function's entry, from the state at `is-first`
+abbrev to-entry : tie.After-is-first → tie.Start
+to-entry c =
+    let at-shared-slice-known3 = c .before .before .before in
+    at-shared-slice-known3 .before .before .before
+
 propose-requires : tie.Need-propose-requires
 propose-requires c κs =
-    let f = c .before .before .before .before in
-    let s = f .before .before .before .before .before .before in
-    let w = s .pre .1 in
-    let l : s .args .i < w .0 .count = omega (arith, s .pre .0, w .1 .0 .counted) in
-    (w .0, facing (w .1 .0) (s .args .i) l (w .1 .1) (f .is-first .ensures) (c .before .before .before .if1 .taken))
+    let at-if1 = c .before .before .before in
+    let at-is-first = at-if1 .before in
+    let entry = to-entry at-is-first in
+    let w = entry .pre .1 in
+    let l : entry .args .i < w .0 .count = omega (arith, entry .pre .0, w .1 .0 .counted) in
+    (w .0, facing (w .1 .0) (entry .args .i) l (w .1 .1) (at-is-first .is-first .ensures) (at-if1 .if1 .taken))
 
 same-length : tie.Need-same-length
 same-length c = search needs
@@ -32,23 +39,26 @@ same-length-2 c = search needs
 
 returns : tie.Need-returns
 returns c =
-    let p = c .before .before .before .before in
-    let t = p .before .before .before .before in
-    let f = t .before in
-    let s = f .before .before .before .before .before .before in (
+    let at-marks = c .before in
+    let at-propose = at-marks .before .before .before in
+    let at-propose-arg2 = at-propose .before .before in
+    let at-if1 = at-propose-arg2 .before .before in
+    let at-is-first = at-if1 .before in
+    let entry = to-entry at-is-first in (
       λ C was wasMarks W P.
-          let l : s .args .i < C .count = omega (arith, s .pre .0, W .counted) in
-          found-proposed W (s .args .i) l P (f .is-first .ensures) (t .if1 .taken) (p .propose .ensures .0 C (facing W (s .args .i) l P (f .is-first .ensures) (t .if1 .taken))),
-      p .propose .ensures .1,
+          let l : entry .args .i < C .count = omega (arith, entry .pre .0, W .counted) in
+          found-proposed W (entry .args .i) l P (at-is-first .is-first .ensures) (at-if1 .if1 .taken) (at-propose .propose .ensures .0 C (facing W (entry .args .i) l P (at-is-first .is-first .ensures) (at-if1 .if1 .taken))),
+      at-propose .propose .ensures .1,
     )
 
 returns-2 : tie.Need-returns-2
 returns-2 c =
-    let f = c .before in
-    let s = f .before .before .before .before .before .before in (
+    let at-is-first = c .before in
+    let at-shared-slice-known3 = at-is-first .before .before .before in
+    let entry = at-shared-slice-known3 .before .before .before in (
       λ C was wasMarks W P.
-          let l : s .args .i < C .count = omega (arith, s .pre .0, W .counted) in
-          found-nothing W (s .args .i) l P (f .is-first .ensures) (c .if1 .left),
+          let l : entry .args .i < C .count = omega (arith, entry .pre .0, W .counted) in
+          found-nothing W (entry .args .i) l P (at-is-first .is-first .ensures) (c .if1 .left),
       (refl, refl),
     )
 

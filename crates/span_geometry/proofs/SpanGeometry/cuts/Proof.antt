@@ -28,25 +28,43 @@ not-negative-requires c κs = tt
 not-negative-requires-2 : tie.Need-not-negative-requires-2
 not-negative-requires-2 c κs = tt
 
+-- the function's entry, from the state at `not-negative2`
+abbrev to-entry : tie.After-not-negative2 → tie.Start
+to-entry c =
+    let at-cross = c .before .before .before in
+    at-cross .before .before .before
+
+-- the state at `cell-center2`, from the state at `not-negative2`
+abbrev to-cell-center2 : tie.After-not-negative2 → tie.After-cell-center2
+to-cell-center2 c =
+    let at-not-negative = c .before in
+    at-not-negative .before .before .before
+
+-- the state at `cell-center`, from the state at `not-negative2`
+abbrev to-cell-center : tie.After-not-negative2 → tie.After-cell-center
+to-cell-center c =
+    let at-cross2 = c .before .before in
+    at-cross2 .before .before .before
+
 -- the two sides, and whether they are the same
 module _ (c : tie.After-not-negative2) where
   abbrev S : Segment
-  S = segmentOf (c .before .before .before .before .before .before .args .self)
+  S = segmentOf (to-entry c .args .self)
 
   abbrev P : Position
-  P = at (c .before .before .before .before .before .before .args .from-x) (c .before .before .before .before .before .before .args .from-y)
+  P = at (to-entry c .args .from-x) (to-entry c .args .from-y)
 
   abbrev Q : Position
-  Q = at (c .before .before .before .before .before .before .args .to-x) (c .before .before .before .before .before .before .args .to-y)
+  Q = at (to-entry c .args .to-x) (to-entry c .args .to-y)
 
   abbrev sameSide : Bool
   sameSide = Bool·beq (nonNeg (cross (S .a) (S .b) (cellCenter P))) (nonNeg (cross (S .a) (S .b) (cellCenter Q)))
 
-  from-is : pointOf (c .before .before .before .before .before .cell-center .result) ≡ cellCenter P
-  from-is = c .before .before .before .before .before .cell-center .ensures .0
+  from-is : pointOf (to-cell-center c .cell-center .result) ≡ cellCenter P
+  from-is = to-cell-center c .cell-center .ensures .0
 
-  to-is : pointOf (c .before .before .before .before .cell-center2 .result) ≡ cellCenter Q
-  to-is = c .before .before .before .before .cell-center2 .ensures .0
+  to-is : pointOf (to-cell-center2 c .cell-center2 .result) ≡ cellCenter Q
+  to-is = to-cell-center2 c .cell-center2 .ensures .0
 
   side-is : Bool·beq (c .before .not-negative .result) (c .not-negative2 .result) ≡ sameSide
   side-is =

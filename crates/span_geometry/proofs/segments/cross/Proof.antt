@@ -52,20 +52,32 @@ mul-result c = subst⁻¹ (SFits w64) (across-read c) (fits {k = maxPixel * maxP
 difference-requires-4 : tie.Need-difference-requires-4
 difference-requires-4 c κs = (c .before .before .before .pre .2 .x-in, c .before .before .before .pre .0 .x-in)
 
-along-read : (c : tie.After-difference4) → along-bits c ≡ along (c .before .before .before .before)
+-- the function's entry, from the state at `difference4`
+abbrev to-entry : tie.After-difference4 → tie.Start
+to-entry c =
+    let at-difference3 = c .before in
+    at-difference3 .before .before .before
+
+along-read : (c : tie.After-difference4) → along-bits c ≡ along (to-entry c)
 along-read c = λ i. given (c .before .before .difference2 .ok) (c .before .before .difference2 .ensures) i *ℤ given (c .difference4 .ok) (c .difference4 .ensures) i
 
 mul-result-2 : tie.Need-mul-result-2
-mul-result-2 c = subst⁻¹ (SFits w64) (along-read c) (fits {k = maxPixel * maxPixel} tt (along-in (c .before .before .before .before)))
+mul-result-2 c =
+    let at-difference3 = c .before in
+    let entry = at-difference3 .before .before .before in
+    subst⁻¹ (SFits w64) (along-read c) (fits {k = maxPixel * maxPixel} tt (along-in entry))
 
-read : (c : tie.After-difference4) → toZ w64 (ofZ w64 (across-bits (c .before))) -ℤ toZ w64 (ofZ w64 (along-bits c)) ≡ across (c .before .before .before .before) -ℤ along (c .before .before .before .before)
+read : (c : tie.After-difference4) → toZ w64 (ofZ w64 (across-bits (c .before))) -ℤ toZ w64 (ofZ w64 (along-bits c)) ≡ across (to-entry c) -ℤ along (to-entry c)
 read c = λ i. (toZ-ofZ (mul-result (c .before)) ∙ across-read (c .before)) i -ℤ (toZ-ofZ (mul-result-2 c) ∙ along-read c) i
 
 difference-in : (s : tie.Start) → natAbs (across s -ℤ along s) ≤ maxPixel * maxPixel + maxPixel * maxPixel
 difference-in s = omega (arith, natAbs-difference (across s) (along s), across-in s, along-in s)
 
 sub-result : tie.Need-sub-result
-sub-result c = subst⁻¹ (SFits w64) (read c) (fits {k = maxPixel * maxPixel + maxPixel * maxPixel} tt (difference-in (c .before .before .before .before)))
+sub-result c =
+    let at-difference3 = c .before in
+    let entry = at-difference3 .before .before .before in
+    subst⁻¹ (SFits w64) (read c) (fits {k = maxPixel * maxPixel + maxPixel * maxPixel} tt (difference-in entry))
 
 returns : tie.Need-returns
 unfolding cross

@@ -20,9 +20,11 @@ max-requires-2 c κs = tt
 returns : tie.Need-returns
 unfolding onSegment
 returns c =
-    let right = c .before .before .before .before .before in
+    let at-struct-known3 = c .before .before in
+    let right = at-struct-known3 .before .before .before in
     let left = right .before .before in
-    let point = left .before .args .point in
+    let entry = left .before in
+    let point = entry .args .point in
     λ i.
     leb (left .min .ensures i) (point .x) && leb (point .x) (right .max .ensures i) && leb (c .before .before .before .min2 .ensures i) (point .y)
     && leb (point .y) (c .before .max2 .ensures i)

@@ -40,19 +40,25 @@ touches-requires-3 c κs = tt
 touches-requires-4 : tie.Need-touches-requires-4
 touches-requires-4 c κs = tt
 
+-- the function's entry, from the state at `cross4`
+abbrev to-entry : tie.After-cross4 → tie.Start
+to-entry c =
+    let at-cross3 = c .before in
+    at-cross3 .before .before .before
+
 -- the four side values, as their bits are read
 module _ (c : tie.After-cross4) where
   abbrev A : Position
-  A = pointOf (c .before .before .before .before .args .a)
+  A = pointOf (to-entry c .args .a)
 
   abbrev B : Position
-  B = pointOf (c .before .before .before .before .args .b)
+  B = pointOf (to-entry c .args .b)
 
   abbrev C : Position
-  C = pointOf (c .before .before .before .before .args .c)
+  C = pointOf (to-entry c .args .c)
 
   abbrev D : Position
-  D = pointOf (c .before .before .before .before .args .d)
+  D = pointOf (to-entry c .args .d)
 
   abc : toZ w64 (ofZ w64 (c .before .before .before .cross .result)) ≡ cross A B C
   abc = given (c .before .before .before .cross .ok) (c .before .before .before .cross .ensures)
@@ -86,14 +92,16 @@ returns c = let k = c .before in λ i. answer (k .before .before) ((sym (c .if1 
 returns-2 : tie.Need-returns-2
 unfolding segmentsIntersect
 returns-2 c =
-    let k = c .before .before .before .before in
-    let s = k .before .before .before in
+    let at-touches3 = c .before in
+    let at-if1 = at-touches3 .before .before .before in
+    let at-strictly-opposite2 = at-if1 .before in
+    let at-cross4 = at-strictly-opposite2 .before .before in
     (λ i.
-    (c .before .before .before .touches .ensures ∙ (λ j. isZero (abc s j) && onSegment (A s) (B s) (C s))) i
-    || (c .before .before .touches2 .ensures ∙ (λ j. isZero (abd s j) && onSegment (A s) (B s) (D s))) i
-    || (c .before .touches3 .ensures ∙ (λ j. isZero (cda s j) && onSegment (C s) (D s) (A s))) i
-    || (c .touches4 .ensures ∙ (λ j. isZero (cdb s j) && onSegment (C s) (D s) (B s))) i)
-    ∙ (λ i. answer s ((sym (k .if1 .left) ∙ crossing (k .before)) i))
+    (c .before .before .before .touches .ensures ∙ (λ j. isZero (abc at-cross4 j) && onSegment (A at-cross4) (B at-cross4) (C at-cross4))) i
+    || (c .before .before .touches2 .ensures ∙ (λ j. isZero (abd at-cross4 j) && onSegment (A at-cross4) (B at-cross4) (D at-cross4))) i
+    || (at-touches3 .touches3 .ensures ∙ (λ j. isZero (cda at-cross4 j) && onSegment (C at-cross4) (D at-cross4) (A at-cross4))) i
+    || (c .touches4 .ensures ∙ (λ j. isZero (cdb at-cross4 j) && onSegment (C at-cross4) (D at-cross4) (B at-cross4))) i)
+    ∙ (λ i. answer at-cross4 ((sym (at-if1 .if1 .left) ∙ crossing at-strictly-opposite2) i))
 
 pub segments-intersect-spec : {M : Type 1} → statement M
 segments-intersect-spec =

@@ -57,10 +57,16 @@ begins : (s : tie.Start) → s .args .self .minor0 * (s .args .self .major1 - s 
 begins s = lt-of-le-of-lt (start-in (s .args .self .major0) (s .pre .0 .minor0-in) (s .pre .0 .major-in)) (lit< tt)
 
 mul-start : tie.Need-mul-start
-mul-start c = record { fits = omega (arith, begins (c .before .before .before .before .before)) }
+mul-start c =
+    let at-min = c .before .before in
+    let entry = at-min .before .before .before in
+    record { fits = omega (arith, begins entry) }
 
 cast-line : tie.Need-cast-line
-cast-line c = record { sfits = begins (c .before .before .before .before .before) }
+cast-line c =
+    let at-min = c .before .before in
+    let entry = at-min .before .before .before in
+    record { sfits = begins entry }
 
 difference-requires : tie.Need-difference-requires
 difference-requires c κs = search needs
@@ -68,9 +74,24 @@ difference-requires c κs = search needs
 difference-requires-2 : tie.Need-difference-requires-2
 difference-requires-2 c κs = search needs
 
+-- the state at `min`, from the state at `difference2`
+abbrev to-min : tie.After-difference2 → tie.After-min
+to-min c =
+    let at-difference = c .before in
+    at-difference .before .before .before
+
+-- the state at `middle-of`, from the state at `difference2`
+abbrev to-middle-of : tie.After-difference2 → tie.After-middle-of
+to-middle-of c =
+    let at-struct-known2 = c .before .before in
+    at-struct-known2 .before .before .before
+
 module _ (c : tie.After-difference2) where
   abbrev entry : tie.Start
-  entry = c .before .before .before .before .before .before .before
+  entry =
+      let at-difference = c .before in
+      let at-min = at-difference .before .before .before in
+      at-min .before .before .before
 
   abbrev productBits : ℤ
   productBits = toZ w64 (ofZ w64 (c .before .difference .result)) *ℤ toZ w64 (ofZ w64 (c .difference2 .result))
@@ -81,7 +102,7 @@ module _ (c : tie.After-difference2) where
   reached-is : c .before .before .before .max .result ≡ reached entry
   reached-is =
       c .before .before .before .max .ensures
-      ∙ (λ i. max (entry .args .self .major0) ((c .before .before .before .before .min .ensures ∙ (λ j. min (c .before .before .before .before .before .middle-of .ensures j) (entry .args .self .major1))) i))
+      ∙ (λ i. max (entry .args .self .major0) ((to-min c .min .ensures ∙ (λ j. min (to-middle-of c .middle-of .ensures j) (entry .args .self .major1))) i))
 
   product-is : productBits ≡ product
   product-is =

@@ -92,10 +92,16 @@ returns : tie.Need-returns
 returns c = let s = c .before .before .before in by-columns (s .args .g) (s .pre .0) (s .pre .1) (omega arith)
 
 returns-2 : tie.Need-returns-2
-returns-2 c = let s = c .before .before .before .before .before in growing (s .args .g) (s .pre .0) (s .pre .1) (omega arith) (c .if2 .taken)
+returns-2 c =
+    let at-abs-diff2 = c .before .before .before in
+    let entry = at-abs-diff2 .before .before in
+    growing (entry .args .g) (entry .pre .0) (entry .pre .1) (omega arith) (c .if2 .taken)
 
 returns-3 : tie.Need-returns-3
-returns-3 c = let s = c .before .before .before .before .before in falling (s .args .g) (s .pre .0) (s .pre .1) (omega arith) (c .if2 .left)
+returns-3 c =
+    let at-abs-diff2 = c .before .before .before in
+    let entry = at-abs-diff2 .before .before in
+    falling (entry .args .g) (entry .pre .0) (entry .pre .1) (omega arith) (c .if2 .left)
 
 pub new-spec : {M : Type 1} → statement M
 new-spec = tie.close (tie.spec abs-diff-requires abs-diff-requires-2 returns returns-2 returns-3)
