@@ -1,6 +1,5 @@
 pub mod NumberBytes
 pub mod ReaderBytes
-pub mod SheetBytes
 pub mod SheetsEqual
 pub mod ResultsEqual
 pub mod Refusing

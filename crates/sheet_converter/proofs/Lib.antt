@@ -1,0 +1,6 @@
+pub mod Kinds
+pub mod Walking
+pub mod Same
+pub mod Cutting
+pub mod Answering
+pub mod Lists
