@@ -5,3 +5,6 @@ pub mod Examples
 pub mod WrittenReads
 pub mod Before
 pub mod Converted
+pub mod Limited
+pub mod Numbered
+pub mod Calls

@@ -7,3 +7,4 @@ pub mod SheetCalls
 pub mod ResultCalls
 pub mod Examples
 pub mod ReaderCalls
+pub mod ConvertedPrints

@@ -8,7 +8,8 @@ use denote.Ref.{now}
 use Rattle.definitions.specs.Lists.{overwrite}
 use Rattle.definitions.specs.Sheet.{hasSpans, endpointsIn}
 use Rattle.sheet.specs.Parts.{partOf}
-use Rattle.sheet.proofs.Answering.{spans-stored}
+use Rattle.sheet.proofs.Filling.{held-length}
+use Rattle.sheet.proofs.Answering.{stored-long, spans-stored}
 use borrow.Author.Needs.{needs}
 use Rattle.sheet.proofs.fill.Statement.{statement}
 use Rattle.sheet.proofs.fill.Tie as tie
@@ -39,7 +40,7 @@ fill-spans-requires c κs =
     let past-14 = past-11 .before .before .before in
     let past-17 = past-14 .before .before .before in
     let at-start = past-17 .before .before .before in
-    (at-start .pre .0 .spans, (omega (arith, at-start .pre .1 .for-boundaries, at-fill-numbers .fill-numbers .kept .0), at-start .pre .1 .for-spans))
+    (at-start .pre .0 .spans, (omega (arith, stored-long _ _ (at-fill-numbers .fill-numbers .ensures), held-length (at-start .pre .0 .boundaries)), at-start .pre .1 .for-spans))
 
 fill-numbers-requires-2 : tie.Need-fill-numbers-requires-2
 fill-numbers-requires-2 c κs =
