@@ -43,18 +43,18 @@ record Accepted (s : Sheet) (value : ℕ) : Type 0 where
   pub whole : (isWhole numbersPerBoundary (s .boundaries) && isWhole numbersPerAnchor (s .anchors)) ≡ true
   pub size : value ≡ length (sheetBytes 3 s)
 
+abbrev byTests : ℕ → Bool → Bool → Bool → Bool → Answer
+byTests size a b c d = firstRefusal (refusal 1 (unless a) ∷ refusal 2 (unless b) ∷ refusal 3 (unless c) ∷ refusal 10 (unless d) ∷ []) size
+
 accepted : (s : Sheet) (room : ℕ) → writeVerdict s room .number ≡ 0 → Accepted s (writeVerdict s room .value)
 unfolding writeVerdict
 accepted s room h =
     go (isSide (s .width) && isSide (s .height)) refl (eqb (length (s .cells)) (s .width * s .height)) refl
     (isWhole numbersPerBoundary (s .boundaries) && isWhole numbersPerAnchor (s .anchors)) refl (leb (length (sheetBytes 3 s)) room) h
   where
-    abbrev answer : Bool → Bool → Bool → Bool → Answer
-    answer a b c d = firstRefusal (refusal 1 (unless a) ∷ refusal 2 (unless b) ∷ refusal 3 (unless c) ∷ refusal 10 (unless d) ∷ []) (length (sheetBytes 3 s))
-
     go : (a : Bool) → (isSide (s .width) && isSide (s .height)) ≡ a → (b : Bool) → eqb (length (s .cells)) (s .width * s .height) ≡ b
         → (c : Bool) → (isWhole numbersPerBoundary (s .boundaries) && isWhole numbersPerAnchor (s .anchors)) ≡ c → (d : Bool)
-        → answer a b c d .number ≡ 0 → Accepted s (answer a b c d .value)
+        → byTests (length (sheetBytes 3 s)) a b c d .number ≡ 0 → Accepted s (byTests (length (sheetBytes 3 s)) a b c d .value)
     go true e true f true g true h = record { sides = e; filled = f; whole = g; size = refl }
     go true e true f true g false h = absurd (omega arith)
     go true e true f false g d h = absurd (omega arith)
@@ -116,6 +116,9 @@ record Answered (s : Sheet) (value : ℕ) : Type 0 where
   pub one : isOneList s ≡ true
   pub size : value ≡ length (sheetBytes 3 s)
 
+abbrev checks : Option Refusal → Option Refusal → Option Refusal → Option Refusal → Option Refusal → Bool → Bool → List (Option Refusal)
+checks a b c d e t u = a ∷ b ∷ c ∷ d ∷ e ∷ refusal 22 (unless t) ∷ refusal 10 (unless u) ∷ []
+
 answered : (s : Sheet) (room : ℕ) → convertAnswer (wellFormed s) room .number ≡ 0 → Answered s (convertAnswer (wellFormed s) room .value)
 unfolding convertAnswer
 answered s room h =
@@ -123,15 +126,12 @@ answered s room h =
     _ (numbered-refusal 7 (boundariesFault (s .width) (s .height) (s .boundaries)) (omega arith)) _ (numbered-refusal 8 (anchorsFault (s .width) (s .height) (s .anchors)) (omega arith))
     _ (numbered-refusal 9 (elevationsFault (s .cells)) (omega arith)) (isOneList s) refl (leb (length (sheetBytes 3 s)) room) h
   where
-    abbrev list : Option Refusal → Option Refusal → Option Refusal → Option Refusal → Option Refusal → Bool → Bool → List (Option Refusal)
-    list a b c d e t u = a ∷ b ∷ c ∷ d ∷ e ∷ refusal 22 (unless t) ∷ refusal 10 (unless u) ∷ []
-
     never : {r : Refusal} → Numbered (some r) → r .number ≡ 0 → ⊥
     never N z = omega (arith, N .above refl)
 
     go : (a : Option Refusal) → Numbered a → (b : Option Refusal) → Numbered b → (c : Option Refusal) → Numbered c → (d : Option Refusal) → Numbered d
-        → (e : Option Refusal) → Numbered e → (t : Bool) → isOneList s ≡ t → (u : Bool) → firstRefusal (list a b c d e t u) (length (sheetBytes 3 s)) .number ≡ 0
-        → Answered s (firstRefusal (list a b c d e t u) (length (sheetBytes 3 s)) .value)
+        → (e : Option Refusal) → Numbered e → (t : Bool) → isOneList s ≡ t → (u : Bool) → firstRefusal (checks a b c d e t u) (length (sheetBytes 3 s)) .number ≡ 0
+        → Answered s (firstRefusal (checks a b c d e t u) (length (sheetBytes 3 s)) .value)
     go none A none B none C none D none E true f true h = record { one = f; size = refl }
     go none A none B none C none D none E true f false h = absurd (omega arith)
     go none A none B none C none D none E false f u h = absurd (omega arith)
@@ -144,7 +144,7 @@ answered s room h =
 -- a reading that is refused is not answered 0: the numbers of the reader are above it
 converted : (bytes : List ℕ) (room : ℕ) → ((refusal place : ℕ) → readKind1 bytes ≡ refused refusal place → 0 < refusal)
     → convertVerdict bytes room .number ≡ 0 → Converted bytes (convertVerdict bytes room .value)
-unfolding convertVerdict
+unfolding convertVerdict readKind1 convertAnswer
 converted bytes room above h = go (readKind1 bytes) refl h
   where
     same : {s : Sheet} (r : Read ℕ) (x : Reading) → ofKind1 r x ≡ wellFormed s → x ≡ wellFormed s
@@ -156,7 +156,6 @@ converted bytes room above h = go (readKind1 bytes) refl h
     same (failed n p) x e = e
 
     go : (r : Reading) → readKind1 bytes ≡ r → convertAnswer r room .number ≡ 0 → Converted bytes (convertAnswer r room .value)
-    unfolding readKind1 convertAnswer
     go (wellFormed s) e z =
         let A = answered s room z in
         record { stated = s; reads = same (number 0 bytes) (readSheet plainCellLimit bytes) e; kind-1 = e; one = A .one; size = A .size }

@@ -55,11 +55,14 @@ gives-behind written pass width height count =
 within : Sheet → ℕ → Reading
 within s limit = cond (leb (s .width * s .height) limit) (wellFormed s) (refused 1 0)
 
-module _ (first limit : ℕ) {s : Sheet} where
-  atArea : ℕ → ℕ → ℕ → ℕ → ℕ → ℕ → List ℕ → Read Sheet
-  atArea most written pass width height offset bytes =
-      andThen (check (isSide width && isSide height && leb (width * height) most) 1 0 (width * height) offset bytes) (behind written pass width height)
+unfoldable atArea : ℕ → ℕ → ℕ → ℕ → ℕ → Reader Sheet
+atArea most written pass width height offset bytes =
+    andThen (check (isSide width && isSide height && leb (width * height) most) 1 0 (width * height) offset bytes) (behind written pass width height)
 
+abbrev atWidth : ℕ → ℕ → ℕ → Reader Sheet
+atWidth most written pass offset bytes = andThen (number offset bytes) (λ width o m. andThen (number o m) (atArea most written pass width))
+
+module _ (first limit : ℕ) {s : Sheet} where
   area-limited : (written pass width height offset : ℕ) (bytes : List ℕ) → reading (atArea first written pass width height offset bytes) ≡ wellFormed s
       → reading (atArea limit written pass width height offset bytes) ≡ within s limit
   unfolding atArea within
@@ -94,9 +97,6 @@ module _ (first limit : ℕ) {s : Sheet} where
       → reading (andThen r (atArea limit written pass width)) ≡ within s limit
   height-limited written pass width (found height o m) h = area-limited written pass width height o m h
   height-limited written pass width (failed n place) h = absurd (not-read h)
-
-  abbrev atWidth : ℕ → ℕ → ℕ → Reader Sheet
-  atWidth most written pass offset bytes = andThen (number offset bytes) (λ width o m. andThen (number o m) (atArea most written pass width))
 
   width-limited : (written pass : ℕ) (r : Read ℕ) → reading (andThen r (λ width o m. andThen (number o m) (atArea first written pass width))) ≡ wellFormed s
       → reading (andThen r (λ width o m. andThen (number o m) (atArea limit written pass width))) ≡ within s limit

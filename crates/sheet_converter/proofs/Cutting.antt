@@ -132,7 +132,6 @@ module _ {bytes : List ℕ} {plan : Plan} (B : Bytes bytes) (S : SheetHeld plain
       ∙ ap (λ l. shortest (plan .kind) ++ (middle ++ (l ++ lists))) same-spans
     where
       same-spans : spansBytes (hasSpans (plan .kind)) (sheetOf bytes plan .spans) ≡ spans
-      unfolding spans
       same-spans = rw k refl
 
   -- so behind the spans stand the other lists

@@ -6,7 +6,7 @@ use mathlib.Core.List.{List}
 use lib.Dec.{eqb}
 use borrow.Author.Tests.{eq-eqb, ne-eqb, eqb-true, not-false}
 use Rattle.definitions.specs.SheetNumber.{Read, found, failed, number}
-use Rattle.definitions.specs.Sheet.{give, andThen, isMapKind, kind, Reading, refused, readSheet, plainCellLimit}
+use Rattle.definitions.specs.Sheet.{give, andThen, judged, isMapKind, kind, Reading, refused, readSheet, plainCellLimit}
 use Rattle.laws.specs.SheetReading.SheetLaws.{not-found}
 use Rattle.sheet.specs.Parts.{Opening, opening}
 use Rattle.map_sheets.specs.Converting.{ofKind1, readKind1}
@@ -65,7 +65,7 @@ pub opened-kind : (bytes : List ℕ) {o : Opening} {at : ℕ} {rest : List ℕ} 
 opened-kind = opening-number
 
 pub opened-1 : (bytes : List ℕ) {o : Opening} {at : ℕ} {rest : List ℕ} → opening 0 bytes ≡ found o at rest → isOther (number 0 bytes) ≡ false → o .kind ≡ 1
-unfolding opening kind
+unfolding opening kind judged
 opened-1 bytes {o} {at} {rest} h n = go (number 0 bytes) refl
   where
     go : (r : Read ℕ) → number 0 bytes ≡ r → o .kind ≡ 1

@@ -40,7 +40,7 @@ fill-spans-requires c κs =
     let past-14 = past-11 .before .before .before in
     let past-17 = past-14 .before .before .before in
     let at-start = past-17 .before .before .before in
-    (at-start .pre .0 .spans, (omega (arith, stored-long _ _ (at-fill-numbers .fill-numbers .ensures), held-length (at-start .pre .0 .boundaries)), at-start .pre .1 .for-spans))
+    (at-start .pre .0 .spans, (omega (arith, stored-long (partOf (now (at-start .args .bytes)) (at-start .args .parts .boundaries)) (at-start .args .boundaries .now) (at-fill-numbers .fill-numbers .ensures), held-length (at-start .pre .0 .boundaries)), at-start .pre .1 .for-spans))
 
 fill-numbers-requires-2 : tie.Need-fill-numbers-requires-2
 fill-numbers-requires-2 c κs =
