@@ -148,9 +148,9 @@ unfolding convertVerdict readKind1 convertAnswer
 converted bytes room above h = go (readKind1 bytes) refl h
   where
     same : {s : Sheet} (r : Read ℕ) (x : Reading) → ofKind1 r x ≡ wellFormed s → x ≡ wellFormed s
-    same (found k o m) x e = pick (eqb k 1) e
+    same {s} (found k o m) x e = pick (eqb k 1) e
       where
-        pick : (t : Bool) → cond t x (refused 14 0) ≡ wellFormed _ → x ≡ wellFormed _
+        pick : (t : Bool) → cond t x (refused 14 0) ≡ wellFormed s → x ≡ wellFormed s
         pick true e = e
         pick false e = absurd (let z : _≡_ {A = ℕ} 0 1 = cc in omega arith)
     same (failed n p) x e = e

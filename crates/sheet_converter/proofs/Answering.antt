@@ -22,7 +22,7 @@ use Rattle.map_sheets.specs.Writing.{writtenAtExit}
 use Rattle.map_sheets.specs.Numbered.{Numbered, numbered-or, numbered-refusal, numbered-spans}
 use Rattle.map_sheets.specs.Converting.{sameNumbers, isOneList, readKind1, convertAnswer, convertVerdict, convertedBytes, Converts}
 use Rattle.sheet_converter.specs.Contract.{isOther, listsRefusal, mapRefusal, refusalFor, cutOut, ConvertsPlan}
-use Rattle.sheet_converter.proofs.Kinds.{read-other, read-same}
+use Rattle.sheet_converter.proofs.FirstNumber.{read-other, read-same}
 
 abbrev answer : ℕ → ℕ → Answer
 answer number value = record { number = number; value = value }

@@ -21,7 +21,7 @@ use Rattle.sheets_equal.specs.NumberBytes.{Bytes}
 use Rattle.sheets_equal.specs.ReaderBytes.{Reads, reads-number, reads-give, reads-then, reads-check-then, reads-times}
 use Rattle.sheets_equal.specs.SheetsEqual.{reads-cell, reads-kind, reads-spans, kindOf, read-written}
 use Rattle.sheet_converter.specs.Contract.{cutOut, Cut}
-use Rattle.sheet_converter.proofs.Kinds.{opened-kind}
+use Rattle.sheet_converter.proofs.FirstNumber.{opened-kind}
 
 -- numbers of a slice of bytes are bytes
 pub bytes-known : (l : List ℕ) → ((i : ℕ) → getD l i 0 < 256) → Bytes l

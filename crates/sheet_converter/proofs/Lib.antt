@@ -1,4 +1,4 @@
-pub mod Kinds
+pub mod FirstNumber
 pub mod Walking
 pub mod Same
 pub mod Cutting
