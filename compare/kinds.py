@@ -15,14 +15,10 @@ import package  # noqa: F401
 import damage
 import generate
 from plan import spice
-from jenwyllt import kept_list
+from padded import FILL, Library
 from jenwyllt._library import U8, U64, lent
 from jenwyllt.new_sheet import CONVERT_SHEET, WRITE_SHEET
-from jenwyllt.refusal import Refusal
-from jenwyllt.sheet import READ_SHEET
 from jenwyllt.unproved import sheet_bytes
-
-FILL = 9                                         # what a lent list holds
 
 
 # ---- sheets
@@ -67,24 +63,11 @@ def written(function, *arguments, room):
     return (answer.number, answer.value), bytes(out)
 
 
-def read(data):
-    lists = [lent(U8, bytes([FILL]) * len(data)), *(lent(U64, [FILL] * len(data)) for _ in range(3))]
-    answer = READ_SHEET(lent(U8, data), *lists)
-    return (answer.number, answer.place), [list(each) for each in lists]
-
-
-def printed(data):
-    try:
-        return kept_list.printed(data)
-    except Refusal as refusal:
-        return f'refused {refusal.number} at {refusal.place}\n'
-
-
 # ---- the run
 
 class Run:
     def __init__(self):
-        self.counts, self.differences = Counter(), 0
+        self.asked, self.counts, self.differences = Library(), Counter(), 0
 
     def same(self, what, data, ours, theirs):
         if ours != theirs:
@@ -96,7 +79,7 @@ class Run:
         data = changed(r, sheet_bytes.sheet_of(m, kind))
         lists = [[FILL] * len(data) for _ in range(4)]
         answer = sheet_bytes.read_sheet(data, *lists)[0]
-        self.same('read', data, read(data), (answer, lists))
+        self.same('read', data, self.asked.read(data), (answer, lists))
         self.counts['read', answer[0]] += 1
         whole = sheet_bytes.convert_sheet(data, len(data))[1]
         for room in {0, len(data), len(whole or b''), max(0, len(whole or b'') - 1)}:
@@ -104,9 +87,9 @@ class Run:
             self.same('convert', data, written(CONVERT_SHEET, lent(U8, data), room=room), (answer, filled(made, room)))
         self.counts['convert', sheet_bytes.convert_sheet(data, len(data))[0][0]] += 1
         expected = sheet_bytes.keptlist(data)
-        self.same('printed', data, printed(data), expected)
+        self.same('printed', data, self.asked.keptlist(data), expected)
         if whole is not None:
-            self.same('printed of the conversion', data, printed(whole), expected)
+            self.same('printed of the conversion', data, self.asked.keptlist(whole), expected)
 
     def map(self, m, room):
         lists = lent(U8, bytes(m.cells)), lent(U64, m.boundaries), lent(U64, m.anchors)

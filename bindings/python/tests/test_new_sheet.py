@@ -3,10 +3,13 @@ import random
 import unittest
 
 from jenwyllt import Refusal, convert_sheet, kept_boundaries, read_sheet, sheet_bytes, write_sheet
+from jenwyllt._library import U8, U64, Function, lent
+from jenwyllt.new_sheet import CONVERT_SHEET, WRITE_SHEET
 from jenwyllt.sheet import Sheet
 from jenwyllt.unproved import sheet_bytes as rendering
 
-from .files import stored_maps
+from .files import ROOT, stored_maps
+from .test_command import run
 from .test_sheet_text import made_up
 
 
@@ -41,6 +44,44 @@ class Written(unittest.TestCase):
             with self.assertRaises(Refusal) as caught:
                 write_sheet(sheet)
             self.assertEqual((caught.exception.number, caught.exception.place), (number, 0))
+
+
+def stored(what: str) -> list[list[str]]:
+    """the words behind this one, of the lines of vectors/kinds.txt that begin with it"""
+    return [words[1:] for words in map(str.split, (ROOT / 'vectors' / 'kinds.txt').read_text().splitlines()) if words[0] == what]
+
+
+def of_hex(word: str) -> bytes:
+    return b'' if word == '-' else bytes.fromhex(word)
+
+
+def into(function: Function, *arguments: object, room: int) -> tuple[int, int, str]:
+    """number, value, and what was written into a list of so many nines, or - where it stayed as it was"""
+    out = lent(U8, b'\x09' * room)
+    answer = function(*arguments, out)
+    made = bytes(out)[:answer.value] if answer.number == 0 else b''
+    assert bytes(out)[len(made):] == b'\x09' * (room - len(made))
+    return answer.number, answer.value, made.hex() if answer.number == 0 else '-'
+
+
+class Stored(unittest.TestCase):
+    def test_convert(self) -> None:
+        for data, room, number, value, made in stored('convert'):
+            self.assertEqual(into(CONVERT_SHEET, lent(U8, of_hex(data)), room=int(room)), (int(number), int(value), made), data)
+
+    def test_write(self) -> None:
+        def numbers(word: str) -> list[int]:
+            return [] if word == '-' else list(map(int, word.split(',')))
+        for *sides, cells, boundaries, anchors, room, number, value, made in stored('write'):
+            lists = lent(U8, of_hex(cells)), lent(U64, numbers(boundaries)), lent(U64, numbers(anchors))
+            self.assertEqual(into(WRITE_SHEET, *map(int, sides), *lists, room=int(room)), (int(number), int(value), made))
+
+    def test_prints(self) -> None:
+        for data, *printed in stored('prints'):
+            done = run('keptlist', '-', data=of_hex(data))
+            expected = ' '.join(printed).replace('/', '\n')
+            said = done.stdout.decode() if done.returncode == 0 else done.stderr.decode().split('standard input: ')[1].split(':')[0] + '\n'
+            self.assertEqual(said, expected, data)
 
 
 class Converted(unittest.TestCase):

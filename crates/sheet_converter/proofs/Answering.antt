@@ -12,7 +12,7 @@ use borrow.Author.Tests.{le-leb, lt-leb}
 use Rattle.definitions.specs.Refusals.{Refusal, orElse, unless, passFault, spansRefusal, boundariesFault, anchorsFault, elevationsFault}
 use Rattle.definitions.specs.Verdict.{Answer, refusal, firstRefusal}
 use Rattle.definitions.specs.SheetNumber.{number}
-use Rattle.definitions.specs.Sheet.{Sheet, Reading, wellFormed, refused, readSheet, plainCellLimit}
+use Rattle.definitions.specs.Sheet.{endpointsOf, Sheet, Reading, wellFormed, refused, readSheet, plainCellLimit}
 use Rattle.laws.specs.ListLaws.Overwritten.{sets-overwrite}
 use Rattle.sheet.specs.declared.Plan.{Plan}
 use Rattle.sheet.specs.Parts.{sheetOf}
@@ -36,7 +36,7 @@ numbered-map s =
     (numbered-or _ _
     (numbered-or _ _ (numbered-spans (s .width) (s .height) (s .spans))
     (numbered-or _ _ (numbered-refusal 7 (boundariesFault (s .width) (s .height) (s .boundaries)) (omega arith)) (numbered-refusal 8 (anchorsFault (s .width) (s .height) (s .anchors)) (omega arith))))
-    (numbered-or _ _ (numbered-refusal 9 (elevationsFault (s .cells)) (omega arith)) (numbered-refusal 22 _ (omega arith))))
+    (numbered-or _ _ (numbered-refusal 9 (elevationsFault (s .cells)) (omega arith)) (numbered-refusal 22 (unless (sameNumbers (s .spans) (endpointsOf (s .boundaries)))) (omega arith))))
 
 -- ---- a sheet that was found
 
@@ -72,7 +72,7 @@ module _ (bytes : List ℕ) (plan : Plan) (lent : List ℕ) where
   unfolding byRefusal s
   plan-refused {number} {place} e =
       record {
-        said = sym (answered s (length lent) ∙ ap (λ o. byRefusal o _ (length (sheetBytes 3 s))) (sym e));
+        said = sym (answered s (length lent) ∙ ap (λ o. byRefusal o (refusal 10 (unless (leb (length (sheetBytes 3 s)) (length lent)))) (length (sheetBytes 3 s))) (sym e));
         left = go number (numbered-map s .above (sym e));
       }
     where
@@ -85,7 +85,7 @@ module _ (bytes : List ℕ) (plan : Plan) (lent : List ℕ) where
         → convertAnswer (wellFormed (sheetOf bytes plan)) (length lent) ≡ firstRefusal (refusal 10 (unless t) ∷ []) (length (sheetBytes 3 s))
     unfolding byRefusal s
     by-room t e =
-        answered s (length lent) ∙ ap (λ o. byRefusal o _ (length (sheetBytes 3 s))) (sym none-found)
+        answered s (length lent) ∙ ap (λ o. byRefusal o (refusal 10 (unless (leb (length (sheetBytes 3 s)) (length lent)))) (length (sheetBytes 3 s))) (sym none-found)
         ∙ ap (λ t. firstRefusal (refusal 10 (unless t) ∷ []) (length (sheetBytes 3 s))) e
 
     pub plan-short : length lent < length (sheetBytes 3 (sheetOf bytes plan)) → ConvertsPlan bytes plan lent (answer 10 0) lent

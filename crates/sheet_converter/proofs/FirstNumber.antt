@@ -4,7 +4,7 @@ use mathlib.Core.Path.{_≡_, refl, sym, ap, _∙_}
 use mathlib.Core.Bool.{Bool, true, false, not, cond}
 use mathlib.Core.List.{List}
 use lib.Dec.{eqb}
-use borrow.Author.Tests.{eq-eqb, ne-eqb, eqb-true, not-false}
+use borrow.Author.Tests.{eqb-true, not-false}
 use Rattle.definitions.specs.SheetNumber.{Read, found, failed, number}
 use Rattle.definitions.specs.Sheet.{give, andThen, judged, isMapKind, kind, Reading, refused, readSheet, plainCellLimit}
 use Rattle.laws.specs.SheetReading.SheetLaws.{not-found}
@@ -16,11 +16,8 @@ use Rattle.sheet_converter.specs.Contract.{isOther}
 
 -- ---- what `number_at` tells
 
-pub other-found : {r : Read ℕ} {value next : ℕ} {rest : List ℕ} → r ≡ found value next rest → (value ≡ 1 → ⊥) → true ≡ isOther r
-other-found {value = value} h k = sym (ap isOther h ∙ ap not (ne-eqb value 1 k))
-
-pub kind-1-found : {r : Read ℕ} {value next : ℕ} {rest : List ℕ} → r ≡ found value next rest → value ≡ 1 → false ≡ isOther r
-kind-1-found {value = value} h k = sym (ap isOther h ∙ ap not (eq-eqb value 1 k))
+pub kind-told : {r : Read ℕ} {value next : ℕ} {rest : List ℕ} → r ≡ found value next rest → not (eqb value 1) ≡ isOther r
+kind-told h = sym (ap isOther h)
 
 pub no-kind : {r : Read ℕ} {refusal place : ℕ} → r ≡ failed refusal place → false ≡ isOther r
 no-kind h = sym (ap isOther h)

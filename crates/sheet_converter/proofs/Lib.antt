@@ -4,3 +4,4 @@ pub mod Same
 pub mod Cutting
 pub mod Answering
 pub mod Lists
+pub mod Copying

@@ -51,10 +51,10 @@ part-taken bytes part {filled} old H e =
     ap (λ n. take n filled) (sym (held-length H)) ∙ ap (take (length l)) e ∙ take-append-seam l (drop (length l) old)
 
 -- so the checks are of what the sheet states
-pub checks-same : {bytes : List ℕ} {plan : Plan} → plan .kind ≡ 1 → {spans boundaries anchors : List ℕ} {o : Option Refusal}
+pub checks-same : (bytes : List ℕ) (plan : Plan) → plan .kind ≡ 1 → {spans boundaries anchors : List ℕ} {o : Option Refusal}
     → spans ≡ partOf bytes (plan .parts .spans) → boundaries ≡ partOf bytes (plan .parts .boundaries) → anchors ≡ partOf bytes (plan .parts .anchors)
     → o ≡ mapRefusal (plan .pass) (plan .width) (plan .height) (cellsIn bytes (plan .parts)) spans boundaries anchors → o ≡ refusalFor (sheetOf bytes plan)
-checks-same {bytes} {plan} k {spans} {boundaries} {anchors} a b c e =
+checks-same bytes plan k {spans} {boundaries} {anchors} a b c e =
     let cells = cellsIn bytes (plan .parts) in
     let stated = stated-1 k (partOf bytes (plan .parts .spans)) (partOf bytes (plan .parts .boundaries)) in
     e ∙ (λ i. mapRefusal (plan .pass) (plan .width) (plan .height) cells ((a ∙ sym stated) i) (b i) (c i))

@@ -31,6 +31,15 @@ module _ (s : Sheet) (lent : List ℕ) where
   size : ℕ
   size = length (sheetBytes 3 s)
 
+  filled₀ : Bool
+  filled₀ = eqb (length (s .cells)) (s .width * s .height)
+
+  whole₀ : Bool
+  whole₀ = isWhole numbersPerBoundary (s .boundaries) && isWhole numbersPerAnchor (s .anchors)
+
+  room₀ : Bool
+  room₀ = leb size (length lent)
+
   by-tests : (a b c d : Bool) → Answer
   by-tests a b c d = firstRefusal (refusal 1 (unless a) ∷ refusal 2 (unless b) ∷ refusal 3 (unless c) ∷ refusal 10 (unless d) ∷ []) size
 
@@ -42,18 +51,18 @@ module _ (s : Sheet) (lent : List ℕ) where
 
   module _ {a : Bool} (p : a ≡ (isSide (s .width) && isSide (s .height))) where
     pub writes-1 : a ≡ false → Writes s lent (answer 1 0) lent
-    unfolding by-tests
-    writes-1 e = record { said = sym (verdict-is p refl refl refl ∙ ap (λ t. by-tests t _ _ _) e); left = refl }
+    unfolding by-tests filled₀ whole₀ room₀
+    writes-1 e = record { said = sym (verdict-is p refl refl refl ∙ ap (λ t. by-tests t filled₀ whole₀ room₀) e); left = refl }
 
     module _ (sides : a ≡ true) {b : Bool} (q : b ≡ eqb (length (s .cells)) (s .width * s .height)) where
       pub writes-2 : b ≡ false → Writes s lent (answer 2 0) lent
-      unfolding by-tests
-      writes-2 e = record { said = sym (verdict-is p q refl refl ∙ (λ i. by-tests (sides i) (e i) _ _)); left = refl }
+      unfolding by-tests whole₀ room₀
+      writes-2 e = record { said = sym (verdict-is p q refl refl ∙ (λ i. by-tests (sides i) (e i) whole₀ room₀)); left = refl }
 
       module _ (filled : b ≡ true) {c : Bool} (r : c ≡ (isWhole numbersPerBoundary (s .boundaries) && isWhole numbersPerAnchor (s .anchors))) where
         pub writes-3 : c ≡ false → Writes s lent (answer 3 0) lent
-        unfolding by-tests
-        writes-3 e = record { said = sym (verdict-is p q r refl ∙ (λ i. by-tests (sides i) (filled i) (e i) _)); left = refl }
+        unfolding by-tests room₀
+        writes-3 e = record { said = sym (verdict-is p q r refl ∙ (λ i. by-tests (sides i) (filled i) (e i) room₀)); left = refl }
 
         module _ (whole : c ≡ true) {d : Bool} (t : d ≡ leb (length (sheetBytes 3 s)) (length lent)) where
           pub writes-10 : d ≡ false → Writes s lent (answer 10 0) lent

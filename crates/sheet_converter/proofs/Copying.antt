@@ -1,0 +1,20 @@
+-- Bytes that are copied one by one: those from i on, stored from there on, make the whole. Assumes nothing.
+use Prim.Native.Nat.{ℕ, suc, _+_, _≤_, _<_}
+use native.Mathlib.Omega.{arith}
+use native.Mathlib.Numerals.{add-one}
+use mathlib.Core.Path.{_≡_, sym, ap, ap₂, _∙_}
+use mathlib.Core.List.{List}
+use lib.ListN.{length, drop, getD, set, drop-of-length-le}
+use lib.Seq.{sets, drop-cons}
+use Rattle.put_shortest.specs.Answers.{Put}
+
+pub copied-more : (bytes out : List ℕ) (at i : ℕ) → i < length bytes
+    → sets (set out (at + i) (getD bytes i 0)) (at + (i + 1)) (drop (i + 1) bytes) ≡ sets out (at + i) (drop i bytes)
+copied-more bytes out at i h =
+    let e : at + (i + 1) ≡ suc (at + i) = omega arith in
+    ap₂ (sets (set out (at + i) (getD bytes i 0))) e (ap (λ n. drop n bytes) (add-one i)) ∙ ap (sets out (at + i)) (sym (drop-cons bytes i 0 h))
+
+pub copied-all : (bytes old out : List ℕ) (at i : ℕ) → i ≤ length bytes → length bytes ≤ i → sets out (at + i) (drop i bytes) ≡ sets old at bytes
+    → Put old at bytes out (at + i)
+copied-all bytes old out at i h k e =
+    record { stored = sym (ap (sets out (at + i)) (drop-of-length-le bytes k)) ∙ e; next-is = omega arith }
