@@ -1,11 +1,11 @@
 -- Bytes that are copied one by one: those from i on, stored from there on, make the whole. Assumes nothing.
-use Prim.Native.Nat.{ℕ, suc, _+_, _≤_, _<_}
+use Prim.Native.Nat.{ℕ, suc, _+_, _-_, _≤_, _<_}
 use native.Mathlib.Omega.{arith}
 use native.Mathlib.Numerals.{add-one}
 use mathlib.Core.Path.{_≡_, sym, ap, ap₂, _∙_}
 use mathlib.Core.List.{List}
-use lib.ListN.{length, drop, getD, set, drop-of-length-le}
-use lib.Seq.{sets, drop-cons}
+use lib.ListN.{length, take, drop, getD, set, length-drop, drop-of-length-le}
+use lib.Seq.{sets, length-sets, drop-cons, length-take-le}
 use Rattle.put_shortest.specs.Answers.{Put}
 
 pub copied-more : (bytes out : List ℕ) (at i : ℕ) → i < length bytes
@@ -18,3 +18,14 @@ pub copied-all : (bytes old out : List ℕ) (at i : ℕ) → i ≤ length bytes 
     → Put old at bytes out (at + i)
 copied-all bytes old out at i h k e =
     record { stored = sym (ap (sets out (at + i)) (drop-of-length-le bytes k)) ∙ e; next-is = omega arith }
+
+-- ---- lengths
+
+pub put-long : {old new bytes : List ℕ} {at next : ℕ} → Put old at bytes new next → length new ≡ length old
+put-long {old} {bytes = bytes} {at} P = ap length (P .stored) ∙ length-sets old at bytes
+
+pub front-long : (bytes : List ℕ) (front : ℕ) → 1 ≤ front → front ≤ length bytes → length (take (front - 1) (drop 1 bytes)) ≡ front - 1
+front-long bytes front h k = length-take-le (front - 1) (drop 1 bytes) (omega (arith, length-drop 1 bytes))
+
+pub back-long : (bytes : List ℕ) (back : ℕ) → length (drop back bytes) ≡ length bytes - back
+back-long bytes back = length-drop back bytes

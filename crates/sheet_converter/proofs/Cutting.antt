@@ -163,12 +163,16 @@ module _ {bytes : List ℕ} {plan : Plan} (B : Bytes bytes) (S : SheetHeld plain
       ∙ length-append (shortest 3 ++ take (front - 1) (drop 1 bytes)) (drop back bytes)
       ∙ omega (arith, length-append (shortest 3) (take (front - 1) (drop 1 bytes)), ap length kept, middle-long, length-drop back bytes)
 
+  pub cut-ordered : plan .parts .front ≤ plan .parts .back
+  unfolding front back
+  cut-ordered = omega (arith, spans-long)
+
   pub cut-known : {room : ℕ} → plan .parts .front + (length bytes - plan .parts .back) ≤ room → Cut (plan .parts .front) (plan .parts .back) bytes room
   unfolding front back
   cut-known h =
       record {
         begun = omega (arith, middle-long);
-        ordered = omega (arith, spans-long);
+        ordered = cut-ordered;
         inside = S .stands .spans-stand .spans-inside;
         fits = h;
       }

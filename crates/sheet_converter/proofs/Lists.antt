@@ -1,17 +1,18 @@
 -- The lists of a sheet of kind 1 that was judged: they fit the arrays that they are stored in, and what is stored is what the sheet states. Assumes nothing.
-use Prim.Native.Nat.{ℕ, _*_, _≤_}
+use Prim.Native.Nat.{ℕ, _*_, _/_, _≤_}
 use native.Mathlib.Omega.{arith}
 use mathlib.Core.Path.{_≡_, refl, sym, ap, _∙_}
 use mathlib.Core.Option.{Option}
 use mathlib.Core.List.{List}
 use lib.ListN.{length, take, drop}
 use lib.Seq.{take-append-seam}
-use Rattle.definitions.specs.Limits.{maxSide}
+use Rattle.definitions.specs.Limits.{maxSide, numbersPerSpan, numbersPerBoundary}
 use Rattle.definitions.specs.Lists.{overwrite}
 use Rattle.definitions.specs.Refusals.{Refusal}
 use Rattle.definitions.specs.SheetNumber.{number}
-use Rattle.definitions.specs.Sheet.{hasSpans, spansStated, plainCellLimit}
+use Rattle.definitions.specs.Sheet.{hasSpans, spansStated, endpointsIn, endpointsOf, plainCellLimit}
 use Rattle.laws.specs.SheetReading.SheetSizes.{sized}
+use Rattle.laws.specs.SheetReading.Endpoints.{endpoints-long}
 use Rattle.sheet.specs.declared.Part.{Part}
 use Rattle.sheet.specs.declared.Plan.{Plan}
 use Rattle.sheet.specs.Numbers.{Held}
@@ -58,3 +59,12 @@ checks-same bytes plan k {spans} {boundaries} {anchors} a b c e =
     let cells = cellsIn bytes (plan .parts) in
     let stated = stated-1 k (partOf bytes (plan .parts .spans)) (partOf bytes (plan .parts .boundaries)) in
     e ∙ (λ i. mapRefusal (plan .pass) (plan .width) (plan .height) cells ((a ∙ sym stated) i) (b i) (c i))
+
+-- the endpoints that were stored, so many as there are
+pub ends-taken : (boundaries : List ℕ) {ends : List ℕ} (old : List ℕ) → ends ≡ overwrite (endpointsIn (length boundaries / numbersPerBoundary) boundaries) old
+    → take (numbersPerSpan * (length boundaries / numbersPerBoundary)) ends ≡ endpointsOf boundaries
+unfolding endpointsOf
+ends-taken boundaries {ends} old e =
+    let n = length boundaries / numbersPerBoundary in
+    let l = endpointsIn n boundaries in
+    ap (λ m. take m ends) (sym (endpoints-long n boundaries)) ∙ ap (take (length l)) e ∙ take-append-seam l (drop (length l) old)
