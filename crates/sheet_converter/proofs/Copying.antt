@@ -2,10 +2,10 @@
 use Prim.Native.Nat.{ℕ, suc, _+_, _-_, _≤_, _<_}
 use native.Mathlib.Omega.{arith}
 use native.Mathlib.Numerals.{add-one}
-use mathlib.Core.Path.{_≡_, sym, ap, ap₂, _∙_}
+use mathlib.Core.Path.{_≡_, sym, ap, ap₂, subst, _∙_}
 use mathlib.Core.List.{List}
 use lib.ListN.{length, take, drop, getD, set, length-drop, drop-of-length-le}
-use lib.Seq.{sets, length-sets, drop-cons, length-take-le}
+use lib.Seq.{sets, take-all, length-sets, drop-cons, length-take-le}
 use Rattle.put_shortest.specs.Answers.{Put}
 
 pub copied-more : (bytes out : List ℕ) (at i : ℕ) → i < length bytes
@@ -18,6 +18,13 @@ pub copied-all : (bytes old out : List ℕ) (at i : ℕ) → i ≤ length bytes 
     → Put old at bytes out (at + i)
 copied-all bytes old out at i h k e =
     record { stored = sym (ap (sets out (at + i)) (drop-of-length-le bytes k)) ∙ e; next-is = omega arith }
+
+-- a part that goes to the end
+pub put-whole : (bytes : List ℕ) (back : ℕ) {old new : List ℕ} {at next : ℕ} → Put old at (take (length bytes - back) (drop back bytes)) new next
+    → Put old at (drop back bytes) new next
+put-whole bytes back {old} {new} {at} {next} P =
+    let all = take-all (length bytes - back) (drop back bytes) (omega (arith, length-drop back bytes)) in
+    subst (λ l. Put old at l new next) all P
 
 -- ---- lengths
 

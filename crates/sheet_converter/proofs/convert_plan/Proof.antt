@@ -38,7 +38,7 @@ add-if1 c =
     let past-3 = c .before .before .before in
     let at-shared-slice-known = past-3 .before .before in
     let at-start = at-shared-slice-known .before in
-    omega (arith, at-start .pre .0 .stands .spans-stand .spans-inside, cut-ordered (bytes-known (now (at-start .args .bytes)) (at-shared-slice-known .shared-slice-known .given)) (at-start .pre .0) (at-start .pre .1))
+    omega (arith, at-start .pre .0 .stands .spans-stand .spans-inside, cut-ordered (bytes-known (now (at-start .args .bytes)) (λ i. omega (arith, at-shared-slice-known .shared-slice-known .given i))) (at-start .pre .0) (at-start .pre .1))
 
 returns-2 : tie.Need-returns-2
 returns-2 c =
@@ -46,7 +46,7 @@ returns-2 c =
     let at-plan-check = at-enum-told .before .before in
     let at-shared-slice-known = at-plan-check .before .before in
     let at-start = at-shared-slice-known .before in
-    plan-short (now (at-start .args .bytes)) (at-start .args .plan) (at-start .args .out .now) (sym (ap refusalOf (at-enum-told .enum-told .given .1)) ∙ at-plan-check .plan-check .ensures) (omega (arith, c .if1 .taken, cut-long (bytes-known (now (at-start .args .bytes)) (at-shared-slice-known .shared-slice-known .given)) (at-start .pre .0) (at-start .pre .1)))
+    plan-short (now (at-start .args .bytes)) (at-start .args .plan) (at-start .args .out .now) (sym (ap refusalOf (at-enum-told .enum-told .given .1)) ∙ at-plan-check .plan-check .ensures) (omega (arith, c .if1 .taken, cut-long (bytes-known (now (at-start .args .bytes)) (λ i. omega (arith, at-shared-slice-known .shared-slice-known .given i))) (at-start .pre .0) (at-start .pre .1)))
 
 put-converted-requires : tie.Need-put-converted-requires
 put-converted-requires c κs =
@@ -54,7 +54,7 @@ put-converted-requires c κs =
     let past-4 = at-if1 .before .before .before in
     let at-shared-slice-known = past-4 .before .before .before in
     let at-start = at-shared-slice-known .before in
-    cut-known (bytes-known (now (at-start .args .bytes)) (at-shared-slice-known .shared-slice-known .given)) (at-start .pre .0) (at-start .pre .1) (at-if1 .if1 .left)
+    cut-known (bytes-known (now (at-start .args .bytes)) (λ i. omega (arith, at-shared-slice-known .shared-slice-known .given i))) (at-start .pre .0) (at-start .pre .1) (at-if1 .if1 .left)
 
 same-length : tie.Need-same-length
 same-length c = search needs
@@ -68,7 +68,7 @@ returns-3 c =
     let at-shared-slice-known = at-plan-check .before .before in
     let at-start = at-shared-slice-known .before in
     plan-put (now (at-start .args .bytes)) (at-start .args .plan) (at-start .args .out .now) (sym (ap refusalOf (at-enum-told .enum-told .given .1)) ∙ at-plan-check .plan-check .ensures)
-    (omega (arith, at-if1 .if1 .left, cut-long (bytes-known (now (at-start .args .bytes)) (at-shared-slice-known .shared-slice-known .given)) (at-start .pre .0) (at-start .pre .1))) (cut-is (bytes-known (now (at-start .args .bytes)) (at-shared-slice-known .shared-slice-known .given)) (at-start .pre .0) (at-start .pre .1)) (at-put-converted .put-converted .ensures)
+    (omega (arith, at-if1 .if1 .left, cut-long (bytes-known (now (at-start .args .bytes)) (λ i. omega (arith, at-shared-slice-known .shared-slice-known .given i))) (at-start .pre .0) (at-start .pre .1))) (cut-is (bytes-known (now (at-start .args .bytes)) (λ i. omega (arith, at-shared-slice-known .shared-slice-known .given i))) (at-start .pre .0) (at-start .pre .1)) (at-put-converted .put-converted .ensures)
 
 pub convert-plan-spec : {M : Type 1} → statement M
 convert-plan-spec =

@@ -4,7 +4,7 @@ use denote.Ref.{now}
 use Rattle.results.specs.Shortest.{shortestWithin, shortest}
 use Rattle.result_writer.proofs.Placing.{put-then}
 use Rattle.sheet_converter.specs.Contract.{cutOut}
-use Rattle.sheet_converter.proofs.Copying.{put-long, front-long, back-long}
+use Rattle.sheet_converter.proofs.Copying.{put-long, put-whole, front-long, back-long}
 use borrow.Author.Needs.{needs}
 use Rattle.sheet_converter.proofs.put_converted.Statement.{statement}
 use Rattle.sheet_converter.proofs.put_converted.Tie as tie
@@ -93,7 +93,10 @@ returns c =
     let at-put-bytes = past-5 .before .before in
     let past-10 = at-put-bytes .before .before .before in
     let at-put-shortest = past-10 .before .before in
-    put-then (put-then (at-put-shortest .put-shortest .ensures) (at-put-bytes .put-bytes .ensures)) (at-put-bytes2 .put-bytes2 .ensures)
+    let past-15 = at-put-shortest .before .before .before in
+    let at-start = past-15 .before in
+    let bytes = now (at-start .args .bytes) in
+    put-then (put-then (at-put-shortest .put-shortest .ensures) (at-put-bytes .put-bytes .ensures)) (put-whole bytes (at-start .args .back) (at-put-bytes2 .put-bytes2 .ensures))
 
 pub put-converted-spec : {M : Type 1} → statement M
 put-converted-spec =
