@@ -1,5 +1,5 @@
-/* Regions of a walk grid cut by spans, the boundaries that a pass keeps, how far boundaries are apart, the reader of sheets, the writer of result sheets,
-   the line of an accession record, the maps in the pool on a day, the year's figures, the share behind dominance, and the correctly rounded hypotenuse.
+/* Regions of a walk grid cut by spans, the boundaries that a pass keeps, how far boundaries are apart, the reader, the writer and the converter of sheets, the writer of
+   result sheets,   the line of an accession record, the maps in the pool on a day, the year's figures, the share behind dominance, and the correctly rounded hypotenuse.
    The library is for x86-64 Linux: libjenwyllt.a and libjenwyllt.so, which tools/build_library.sh writes to target/lib. It keeps no state and allocates
    nothing; from outside it needs only `memset`.
    Every function is proved to meet the definitions of crates/definitions, crates/separations, crates/catalogue, crates/results and crates/report for every
@@ -57,7 +57,8 @@ enum jenwyllt_refusal {
     JENWYLLT_RESULT = 15,
     JENWYLLT_ACCESSION = 17,
     JENWYLLT_DATE = 18,
-    JENWYLLT_TERM = 19
+    JENWYLLT_TERM = 19,
+    JENWYLLT_TWO_LISTS = 22
 };
 
 /* A list is lent as a pointer to its first entry and its length. The pointer is aligned and not null, even where the length is 0. Lists do not overlap,
@@ -277,8 +278,9 @@ struct jenwyllt_sheet {
     uint64_t anchors;
 };
 
-/* Reads a sheet of kind 1, a map as bytes: kind, pass, width, height, the cells, then spans, boundaries and anchors, each list behind its count. A number
-   stands in groups of seven bits, least first, the top bit set on all but its last byte, in its shortest form: zero is the byte 0. So one map has one sheet.
+/* Reads a sheet of kind 1 or 3, a map as bytes: kind, pass, width, height, the cells, then spans, boundaries and anchors, each list behind its count. A sheet of
+   kind 3 has no span count and no spans: its boundaries serve as spans, and the spans are filled with their endpoints as written. A number stands in groups of
+   seven bits, least first, the top bit set on all but its last byte, in its shortest form: zero is the byte 0. So one map has one sheet of a kind.
 
    Read:
      bytes       the sheet
@@ -291,14 +293,14 @@ struct jenwyllt_sheet {
 
    Number 0: the sheet was read. Otherwise the number says why not; reading stops at the first fault:
 
-     number  cause                                                                  place
-     14      the bytes end early                                                    their length
-     14      a number over ten groups or 64 bits, a kind not 1, a cell over 255     its first byte
-     14      a padded number: its last byte, behind others, is 0                    its first byte
-     14      bytes are left over                                                    the first of them
-     1       a side is 0 or over 1024                                               0
-     3       over 256 spans, boundaries or anchors                                  0
-     10      a list is too short, tested last                                       0
+     number  cause                                                                       place
+     14      the bytes end early                                                         their length
+     14      a number over ten groups or 64 bits, a kind not 1 or 3, a cell over 255     its first byte
+     14      a padded number: its last byte, behind others, is 0                         its first byte
+     14      bytes are left over                                                         the first of them
+     1       a side is 0 or over 1024                                                    0
+     3       over 256 spans, boundaries or anchors                                       0
+     10      a list is too short, tested last                                            0
 
    With any of these every list stays as it was. What else a pass asks of a map is not tested here, but by the functions above. */
 struct jenwyllt_sheet jenwyllt_read_sheet(
@@ -307,6 +309,50 @@ struct jenwyllt_sheet jenwyllt_read_sheet(
     uint64_t *spans, size_t spans_length,
     uint64_t *boundaries, size_t boundaries_length,
     uint64_t *anchors, size_t anchors_length);
+
+/* Writes a map as a sheet of kind 3, in shortest form; it is read back with the endpoints of its boundaries as spans. Any pass and any entries are written.
+
+   Read, whole:
+     cells, boundaries, anchors   as for `jenwyllt_kept_boundaries`
+   Filled; it may be longer than needed, and what it holds behind the sheet stays:
+     out         the sheet
+
+   Number 0: the value is how many bytes were written. Otherwise the number says why not; the first of these causes that applies is given, and the list stays
+   as it was:
+
+     number  cause                                                              value
+     1       a side is 0 or over 1024                                           0
+     2       the cells are not width * height                                   0
+     3       over 256 boundaries or anchors, or the last one is unfinished      0
+     10      the list is shorter than the sheet                                 0 */
+struct jenwyllt_answer jenwyllt_write_sheet(
+    uint64_t pass, uint64_t width, uint64_t height,
+    const uint8_t *cells, size_t cells_length,
+    const uint64_t *boundaries, size_t boundaries_length,
+    const uint64_t *anchors, size_t anchors_length,
+    uint8_t *out, size_t out_length);
+
+/* Converts a sheet of kind 1, whose spans are the endpoints of its boundaries as written, to kind 3. The new sheet states the same pass, sides and lists, so that
+   every answer to it is the same; it is shorter by the spans and their count.
+
+   Read:
+     bytes       the sheet
+   Filled; it may be longer than needed, and what it holds behind the sheet stays:
+     out         the sheet of kind 3
+
+   Number 0: the value is how many bytes were written. Otherwise the number says why not, and the list stays as it was. A kind that is not 1 is 14 at 0, whatever
+   follows it; then come 14, 1 and 3 as `jenwyllt_read_sheet` meets them, and of what was read the first of these causes that applies:
+
+     number  cause                                                              value
+     4 to 9  as for `jenwyllt_kept_boundaries`                                  as there
+     22      there are not as many spans as boundaries, or a span has other     0
+             endpoints than its boundary, or the same in the other order
+     10      the list is shorter than the new sheet                             0
+
+   A call needs 45 KiB of stack. */
+struct jenwyllt_answer jenwyllt_convert_sheet(
+    const uint8_t *bytes, size_t bytes_length,
+    uint8_t *out, size_t out_length);
 
 /* The elevation of most cells, and its share. Percent is the whole percent, rounded down, and the remainder what is left: count * 100 = percent * cells +
    remainder, with remainder below cells. Without cells there is no share, and both are 0. */

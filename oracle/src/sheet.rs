@@ -1,4 +1,4 @@
-//! The reader of sheets of kind 1, written from document 01 and request 3 of document 02.
+//! The reader of sheets of kinds 1 and 3, written from document 01 and requests 3 and 12 of document 02.
 
 /// A refusal of document 01's table: its number, and the place returned with it.
 #[derive(Debug, Clone, Copy, PartialEq, Eq)]
@@ -50,7 +50,8 @@ pub fn read(sheet: &[u8], limits: ReadLimits) -> Result<Map, Refusal> {
     }
     let mut reader = Reader { sheet, offset: 0 };
     let first = reader.offset;
-    if reader.number()? != 1 {
+    let kind = reader.number()?;
+    if kind != 1 && kind != 3 {
         return Err(Refusal::new(14, first));
     }
     let pass = reader.number()?;
@@ -66,13 +67,19 @@ pub fn read(sheet: &[u8], limits: ReadLimits) -> Result<Map, Refusal> {
         let cell = reader.number()?;
         cells.push(u8::try_from(cell).map_err(|_| Refusal::new(14, first))?);
     }
-    let spans = reader.entries(SPAN_NUMBERS)?;
+    let held = if kind == 1 { Some(reader.entries(SPAN_NUMBERS)?) } else { None };
     let boundaries = reader.entries(BOUNDARY_NUMBERS)?;
     let anchors = reader.entries(ANCHOR_NUMBERS)?;
     if reader.offset < sheet.len() {
         return Err(Refusal::new(14, reader.offset));
     }
+    let spans = held.unwrap_or_else(|| endpoints(&boundaries));
     Ok(Map { pass, width, height, cells, spans, boundaries, anchors })
+}
+
+/// The boundaries as spans, as written: the spans of a sheet of kind 3.
+fn endpoints(boundaries: &[u64]) -> Vec<u64> {
+    boundaries.chunks_exact(BOUNDARY_NUMBERS).flat_map(|boundary| boundary[..SPAN_NUMBERS].to_vec()).collect()
 }
 
 struct Reader<'a> {

@@ -5,7 +5,7 @@ import itertools
 from collections.abc import Iterator
 
 from .refusal import WORDS, Cause, Refusal
-from .sheet import ANCHOR_NUMBERS, BOUNDARY_NUMBERS, KIND, MOST_ENTRIES, SPAN_NUMBERS, Boundary, Point, Sheet, Span
+from .sheet import ANCHOR_NUMBERS, BOUNDARY_NUMBERS, KIND, MOST_ENTRIES, OLD_KIND, SPAN_NUMBERS, Boundary, Point, Sheet, Span, read_sheet
 
 WIDEST = 65536
 LONGEST_NUMBER = 10                 # bytes
@@ -50,7 +50,7 @@ def is_over(values: list[int]) -> bool:
     if len(values) < 4:
         return False
     at = 4 + values[2] * values[3]
-    for size in (SPAN_NUMBERS, BOUNDARY_NUMBERS, ANCHOR_NUMBERS):
+    for size in (SPAN_NUMBERS, BOUNDARY_NUMBERS, ANCHOR_NUMBERS)[values[0] == KIND:]:
         if len(values) <= at:
             return False
         at += 1 + size * values[at]
@@ -73,7 +73,8 @@ def sheet_words(data: bytes, place: int) -> str:
     if wrong:
         return f'the number at byte {place} {wrong}'
     if not before:
-        return f'the sheet is of kind {value}, not {KIND}' if value < UNLIKELY_KIND else f'this is neither a sheet of kind {KIND} nor a text'
+        kinds = f'{OLD_KIND} or {KIND}'
+        return f'the sheet is of kind {value}, not {kinds}' if value < UNLIKELY_KIND else f'this is neither a sheet of kind {kinds} nor a text'
     return f'cell {len(before) - 4} is {value}, over 255'
 
 
@@ -140,3 +141,28 @@ def explained(refusal: Refusal, data: bytes = b'', sheet: Sheet | None = None) -
     if refusal.number == Cause.SIDES and opened:
         return Refusal(refusal.number, refusal.place, f'{opened[2]} by {opened[3]} cells: a side is 0 or over 1,024')
     return refusal
+
+
+# ---- a sheet that is not converted
+
+def other_span(sheet: Sheet) -> str:
+    """the first span that is not its boundary's line as written, or that only one of the two is there; nothing where there is none"""
+    for place, (span, boundary) in enumerate(itertools.zip_longest(sheet.spans, sheet.boundaries)):
+        if span is None or boundary is None:
+            return f'there are {len(sheet.spans)} spans and {len(sheet.boundaries)} boundaries'
+        if span != boundary.span:
+            return f'span {place} goes {ends_words(span)}, and boundary {place} {ends_words(boundary.span)}'
+    return ''
+
+
+def explained_conversion(refusal: Refusal, data: bytes) -> Refusal:
+    """the same refusal of the converter in words about these bytes"""
+    kind = next(numbers_of(data), (0, None, ''))[1]
+    if refusal.number == Cause.SHEET and kind not in (None, OLD_KIND):
+        return Refusal(refusal.number, refusal.place, f'the sheet is of kind {kind}, and only kind {OLD_KIND} is converted')
+    if refusal.number in (Cause.SHEET, Cause.SIDES, Cause.ENTRIES):
+        return explained(refusal, data)
+    sheet = read_sheet(data)
+    if refusal.number == Cause.TWO_LISTS:
+        return Refusal(refusal.number, refusal.place, f'{WORDS[refusal.number]}: {other_span(sheet)}')
+    return explained(refusal, sheet=sheet)

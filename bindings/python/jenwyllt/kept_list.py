@@ -3,7 +3,7 @@ from __future__ import annotations
 
 from .explained import opening
 from .refusal import Cause, Refusal
-from .sheet import KIND, MOST_SIDE, Sheet, Span
+from .sheet import KIND, MOST_SIDE, OLD_KIND, Sheet, Span
 
 # What the program keptlist takes and lends.
 MOST_BYTES, MOST_CELLS, RECORDS, PAIR_ROWS = 65_536, 4_096, 512, 2_048
@@ -15,7 +15,7 @@ def refuse_too_large(data: bytes) -> None:
     if len(data) > MOST_BYTES:
         raise Refusal(Cause.SHEET, MOST_BYTES, f'the sheet has {len(data):,} bytes, and keptlist takes {MOST_BYTES:,}; --large takes more')
     opened = opening(data)
-    if opened and opened[0] == KIND and all(1 <= side <= MOST_SIDE for side in opened[2:]) and opened[2] * opened[3] > MOST_CELLS:
+    if opened and opened[0] in (OLD_KIND, KIND) and all(1 <= side <= MOST_SIDE for side in opened[2:]) and opened[2] * opened[3] > MOST_CELLS:
         raise Refusal(Cause.SIDES, 0, f'{opened[2]} by {opened[3]} cells are over the {MOST_CELLS:,} of keptlist; --large takes more')
 
 

@@ -1,4 +1,4 @@
-"""Maps as people and programs hold them, and sheets of kind 1, a map as bytes."""
+"""Maps as people and programs hold them, and sheets of kinds 1 and 3, a map as bytes."""
 from __future__ import annotations
 
 import ctypes
@@ -11,7 +11,7 @@ from typing import NamedTuple
 from ._library import U8, U64, Function, ListOf, lent
 from .refusal import Refusal
 
-KIND = 1
+OLD_KIND, KIND = 1, 3               # with spans of their own, and with the boundaries as spans; the second is written now
 MOST_SIDE = 1024
 MOST_ENTRIES = 256
 PIXELS_PER_CELL = 8
@@ -86,7 +86,7 @@ class Boundary:
 
 @dataclass(frozen=True)
 class Sheet:
-    """what a sheet of kind 1 holds. Beyond its form nothing is tested: endpoints may lie off the map"""
+    """what a sheet of kind 1 or 3 holds. Beyond its form nothing is tested: endpoints may lie off the map"""
     pass_number: int
     width: int                      # in cells
     height: int
@@ -122,9 +122,9 @@ def number_bytes(value: int) -> bytes:
 
 
 def sheet_bytes(sheet: Sheet) -> bytes:
-    """the sheet of kind 1, every number in its shortest form"""
+    """the old sheet, of kind 1, every number in its shortest form: for maps whose spans are not their boundaries' endpoints"""
     lists: tuple[Sequence[Span] | Sequence[Boundary] | Sequence[Point], ...] = (sheet.spans, sheet.boundaries, sheet.anchors)
-    numbers = [KIND, sheet.pass_number, sheet.width, sheet.height, *sheet.cells]
+    numbers = [OLD_KIND, sheet.pass_number, sheet.width, sheet.height, *sheet.cells]
     for entries in lists:
         numbers += [len(entries), *flat(entries)]
     return b''.join(map(number_bytes, numbers))

@@ -24,8 +24,8 @@ What else a sheet can hold: `kind N ID LOWER UPPER` in place of `lower` or `uppe
 64 bits of a double, 0x and 16 digits; and a line `spans` for spans of their own: all `span` lines then stand behind it and are the list of spans in order,
 as many as there are, and the boundaries give none. Numbers are decimal, or hexadecimal with 0x, below 2^64.
 
-Every well-formed sheet can be printed, and what is printed gives the same sheet again (with every number in its shortest form). Whether the entries fit the
-map is not asked here: keptlist says so."""
+Every well-formed sheet can be printed. A sheet of kind 3, whose boundaries are its spans, is written from its text again; a text whose spans are others can be run
+and drawn, and is not written. Whether the entries fit the map is not asked here: keptlist says so."""
 
 DRAWN = {'#': 0, '0': 1, '1': 5, '2': 9, '3': 13, 'a': 3, 'b': 7, 'c': 11, 'd': 15}
 CHARACTER = {cell: character for character, cell in DRAWN.items()}

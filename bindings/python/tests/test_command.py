@@ -81,6 +81,31 @@ class Answers(Trial):
         printed = json.loads(run('sheet', 'print', '--json', made).stdout)
         self.assertEqual((printed['pass'], printed['width'], len(printed['boundaries']), printed['boundaries'][0]['kind']), (1, 24, 8, 2))
 
+    def test_convert(self) -> None:
+        old, made = EXAMPLES / 'case_j.sheet', self.folder / 'new.sheet'
+        self.answers('', 'sheet', 'convert', old, '-o', made)
+        self.assertEqual((old.read_bytes()[0], made.read_bytes()[0], len(made.read_bytes())), (1, 3, 103))
+        self.assertEqual(run('sheet', 'write', EXAMPLES / 'case_j.txt').stdout, made.read_bytes())
+        self.answers((EXAMPLES / 'case_j.kept').read_text(), 'keptlist', made)
+        self.assertEqual(run('sheet', 'print', made).stdout, run('sheet', 'print', old).stdout)
+        self.fails(1, f'jenwyllt: {made}: refused 14 at 0: the sheet is of kind 3, and only kind 1 is converted', 'sheet', 'convert', made)
+        turned = bytes([1, 3, 1, 1, 1, 1, 8, 8, 0, 0, 1, 0, 0, 8, 8, 0, 0, 0, 0, 0, 0])
+        said = 'the spans are not the endpoints of the boundaries as written, so that the sheet cannot be converted'
+        self.fails(1, f'jenwyllt: standard input: refused 22 at 0: {said}: span 0 goes from 8 8 to 0 0, and boundary 0 from 0 0 to 8 8',
+                   'sheet', 'convert', data=turned)
+        self.fails(1, 'jenwyllt: standard input: refused 4 at 0: the pass is 9, not 1, 2 or 3', 'sheet', 'convert', data=turned[:1] + b'\x09' + turned[2:])
+
+    def test_other_spans(self) -> None:
+        """a text whose spans are not the lines of its boundaries is run and drawn, and not written"""
+        said = 'a sheet of kind 3 holds no spans but the lines of its boundaries'
+        text = (EXAMPLES / 'case_j.txt').read_text()
+        other = self.file('other.txt', text + 'span 16 16 24 15\n')
+        self.fails(1, f'jenwyllt: {other}: {said}: span 4 goes from 16 16 to 24 15, and boundary 4 from 16 16 to 24 16', 'sheet', 'write', other)
+        none = self.file('none.txt', text + 'spans\n')
+        self.fails(1, f'jenwyllt: {none}: {said}: there are 0 spans and 5 boundaries', 'sheet', 'write', none)
+        same = self.file('same.txt', text + 'span 16 16 24 16\n')
+        self.assertEqual(run('sheet', 'write', same).stdout, run('sheet', 'write', EXAMPLES / 'case_j.txt').stdout)
+
     def test_draw(self) -> None:
         picture = (PICTURES / 'mouths.svg').read_text()
         self.answers(picture, 'draw', EXAMPLES / 'mouths.txt')
@@ -149,10 +174,11 @@ class Refusals(Trial):
 
     def test_sheets(self) -> None:
         for data, said in (
-                (b'', '14 at 0: there are no bytes'), (b'\2\1\1', '14 at 0: the sheet is of kind 2, not 1'),
-                (b'\x89PNG\r\n', '14 at 0: this is neither a sheet of kind 1 nor a text'), (b'\1\1\1\1', '14 at 4: the sheet ends early, behind 4 bytes'),
+                (b'', '14 at 0: there are no bytes'), (b'\2\1\1', '14 at 0: the sheet is of kind 2, not 1 or 3'),
+                (b'\x89PNG\r\n', '14 at 0: this is neither a sheet of kind 1 or 3 nor a text'), (b'\1\1\1\1', '14 at 4: the sheet ends early, behind 4 bytes'),
                 (b'\1' + b'\xff' * 10, '14 at 1: the number at byte 1 is over 64 bits'), (b'\1\1\1\1\xac\2\0\0\0', '14 at 4: cell 0 is 300, over 255'),
                 (b'\1\1\1\1\1\0\0\0\0\0', '14 at 8: the sheet is over at byte 8, and 2 bytes are left'),
+                (b'\3\1\1\1\1\0\0\0', '14 at 7: the sheet is over at byte 7, and 1 bytes are left'),
                 (b'\1\1\1\1\1\0\0\0\x80\x80', '14 at 8: the sheet is over at byte 8, and 2 bytes are left'),
                 (b'\1\1\1\1\1\0\0\0\x80\0', '14 at 8: the sheet is over at byte 8, and 2 bytes are left'),
                 (b'\1\1\x81\0\1\1\0\0\0', '14 at 2: the number at byte 2 is padded: it ends in a group of zero'),

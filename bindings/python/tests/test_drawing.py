@@ -2,7 +2,7 @@
 import unittest
 import xml.etree.ElementTree as ElementTree
 
-from jenwyllt import Sheet, kept_boundaries, read_sheet, sheet_bytes
+from jenwyllt import Sheet, kept_boundaries, read_sheet, sheet_bytes, write_sheet
 from jenwyllt.drawing import KEPT, REMOVED, Picture
 from jenwyllt.kept_list import UNPROVED, WrongList, read_kept
 from jenwyllt.sheet_text import sheet_of
@@ -47,7 +47,8 @@ class Pictures(unittest.TestCase):
         self.assertGreaterEqual(len(NAMES), 4)
         for name in NAMES:
             text, data, kept = ((EXAMPLES / f'{name}.{kind}').read_bytes() for kind in ('txt', 'sheet', 'kept'))
-            self.assertEqual(sheet_bytes(sheet_of(text.decode())), data, name)
+            writer = sheet_bytes if name == 'case_j' else write_sheet             # one stays of the old kind
+            self.assertEqual(writer(sheet_of(text.decode())), data, name)
             self.assertEqual(kept_boundaries(read_sheet(data)).printed(), kept.decode(), name)
             self.assertEqual(drawn(read_sheet(data)), (PICTURES / f'{name}.svg').read_text(), name)
 

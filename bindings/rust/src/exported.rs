@@ -188,6 +188,22 @@ unsafe extern "C" {
         anchors_length: usize,
     ) -> SheetAnswer;
 
+    pub fn jenwyllt_write_sheet(
+        pass: u64,
+        width: u64,
+        height: u64,
+        cells: *const u8,
+        cells_length: usize,
+        boundaries: *const u64,
+        boundaries_length: usize,
+        anchors: *const u64,
+        anchors_length: usize,
+        out: *mut u8,
+        out_length: usize,
+    ) -> Answer;
+
+    pub fn jenwyllt_convert_sheet(bytes: *const u8, bytes_length: usize, out: *mut u8, out_length: usize) -> Answer;
+
     pub fn jenwyllt_report_line(
         records: *const u64,
         records_length: usize,

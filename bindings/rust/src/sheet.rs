@@ -1,7 +1,7 @@
-//! The reader of sheets of kind 1: a map as bytes.
+//! The reader of sheets of kinds 1 and 3, a map as bytes; the writer of kind 3, and the converter of kind 1 to kind 3.
 
-use crate::entries::flat_mut;
-use crate::exported::jenwyllt_read_sheet;
+use crate::entries::{flat, flat_mut};
+use crate::exported::{jenwyllt_convert_sheet, jenwyllt_read_sheet, jenwyllt_write_sheet};
 use crate::{Boundary, Point, Refusal, Span};
 
 const MOST_CELLS: usize = 1024 * 1024;
@@ -56,7 +56,7 @@ pub struct SheetLists<'a> {
     pub anchors: &'a mut [u64],
 }
 
-/// Reads a sheet.
+/// Reads a sheet. Of kind 3 the boundaries serve as spans.
 ///
 /// Refuses 14, 1 and 3; reading stops at the first fault.
 ///
@@ -135,4 +135,100 @@ pub fn read_sheet_into(bytes: &[u8], lists: SheetLists<'_>) -> Result<Header, Re
         }),
         number => Err(Refusal { number, place: answer.place }),
     }
+}
+
+/// Writes a map as a sheet of kind 3, which states the endpoints of its boundaries as spans: those of `sheet` are not looked at.
+///
+/// Refuses 1, 2 and 3.
+///
+/// ```
+/// use jenwyllt::{Boundary, Sheet, read_sheet, write_sheet};
+///
+/// let boundary = Boundary::from([8, 0, 8, 8, 8.0f64.to_bits(), 0, 0, 0, 0]);
+/// let map = Sheet {
+///     pass: 3,
+///     width: 2,
+///     height: 1,
+///     cells: vec![1, 1],
+///     spans: vec![[8, 0, 8, 8].into()],
+///     boundaries: vec![boundary],
+///     anchors: vec![],
+/// };
+/// let bytes = write_sheet(&map).unwrap();
+/// assert_eq!(bytes[0], 3);
+/// assert_eq!(read_sheet(&bytes), Ok(map));
+/// ```
+pub fn write_sheet(sheet: &Sheet) -> Result<Vec<u8>, Refusal> {
+    let Sheet { pass, width, height, cells, boundaries, anchors, .. } = sheet;
+    // A cell takes two bytes at most, every other number ten.
+    let mut out = vec![0; 2 * cells.len() + 10 * (6 + 9 * boundaries.len() + 2 * anchors.len())];
+    let size = write_sheet_into(*pass, *width, *height, cells, flat(boundaries), flat(anchors), &mut out)?;
+    out.truncate(size);
+    Ok(out)
+}
+
+/// The same with lists of numbers that the caller lends; gives how many bytes were written.
+///
+/// Refuses 10 too, where `out` is too short. With any refusal it stays as it was.
+///
+/// ```
+/// let mut out = [9; 8];
+/// assert_eq!(jenwyllt::write_sheet_into(3, 1, 1, &[1], &[], &[], &mut out), Ok(7));
+/// assert_eq!(out, [3, 3, 1, 1, 1, 0, 0, 9]);
+/// ```
+pub fn write_sheet_into(
+    pass: u64,
+    width: u64,
+    height: u64,
+    cells: &[u8],
+    boundaries: &[u64],
+    anchors: &[u64],
+    out: &mut [u8],
+) -> Result<usize, Refusal> {
+    // SAFETY: as in `read_sheet_into`.
+    let answer = unsafe {
+        jenwyllt_write_sheet(
+            pass,
+            width,
+            height,
+            cells.as_ptr(),
+            cells.len(),
+            boundaries.as_ptr(),
+            boundaries.len(),
+            anchors.as_ptr(),
+            anchors.len(),
+            out.as_mut_ptr(),
+            out.len(),
+        )
+    };
+    answer.result().map(|size| size as usize)
+}
+
+/// Converts a sheet of kind 1, whose spans are the endpoints of its boundaries as written, to kind 3.
+///
+/// Refuses any other kind as 14 at 0, then 14, 1 and 3 as [`read_sheet`] and 4 to 9 as [`kept_boundaries`](crate::kept_boundaries),
+/// and then 22, where the two lists differ.
+///
+/// ```
+/// let old = [1, 3, 1, 1, 1, 0, 0, 0];
+/// assert_eq!(jenwyllt::convert_sheet(&old), Ok(vec![3, 3, 1, 1, 1, 0, 0]));
+///
+/// let refusal = jenwyllt::convert_sheet(&[1, 3, 1, 1, 1, 1, 0, 0, 8, 8, 0, 0]).unwrap_err();
+/// assert_eq!((refusal.number, refusal.place), (22, 0));
+/// ```
+pub fn convert_sheet(bytes: &[u8]) -> Result<Vec<u8>, Refusal> {
+    // The new sheet is shorter than the old one.
+    let mut out = vec![0; bytes.len()];
+    let size = convert_sheet_into(bytes, &mut out)?;
+    out.truncate(size);
+    Ok(out)
+}
+
+/// The same with a list that the caller lends; gives how many bytes were written.
+///
+/// Refuses 10 too, last, where `out` is too short. With any refusal it stays as it was.
+pub fn convert_sheet_into(bytes: &[u8], out: &mut [u8]) -> Result<usize, Refusal> {
+    // SAFETY: as in `read_sheet_into`.
+    let answer = unsafe { jenwyllt_convert_sheet(bytes.as_ptr(), bytes.len(), out.as_mut_ptr(), out.len()) };
+    answer.result().map(|size| size as usize)
 }

@@ -8,7 +8,7 @@ ghost use Rattle.definitions.specs.Refusals.{elevationsFault};
 ghost use Rattle.checks.specs.Answers.{placeOf};
 
 // "walkable cell of elevation 4 or more"
-fn elevation_fits(cell: u8) -> bool
+pub fn elevation_fits(cell: u8) -> bool
     ensures { λ r. ⌜ r ≡ not (isWalkable cell && leb 4 (elevation cell)) ⌝ }
 {
     !((cell % 2 == 1) & (4 <= cell / 4))

@@ -1,12 +1,15 @@
 -- The sheet: what a list of bytes holds or why it is refused, and what the operation that only reads answers and leaves in the lists lent to it.
--- Quotations are of document 01, 'The sheet and the printed list', where no other place is named. Assumes nothing.
-use Prim.Native.Nat.{ℕ, zero, suc, _*_}
-use mathlib.Core.Bool.{Bool, true, false, _&&_, cond}
+-- A sheet of kind 1 holds spans of its own; in one of kind 3 the boundaries serve as spans. Quotations are of document 01, 'The sheet and the printed list',
+-- where no other place is named; 'request 12' is of document 02. Assumes nothing.
+use Prim.Native.Nat.{ℕ, zero, suc, _*_, _/_}
+use mathlib.Core.Bool.{Bool, true, false, _&&_, _||_, cond}
 use mathlib.Core.List.{List, [], _∷_}
 use lib.ListN.{length}
 use lib.Dec.{leb, eqb}
 use Rattle.definitions.specs.Limits.{isSide, maxEntries, numbersPerSpan, numbersPerBoundary, numbersPerAnchor}
 use Rattle.definitions.specs.Lists.{overwrite}
+use Rattle.definitions.specs.Scan.{gather}
+use Rattle.definitions.specs.Grid.{Segment, segmentAt}
 use Rattle.definitions.specs.SheetNumber.{Read, found, failed, number}
 
 -- ---- the limits
@@ -54,14 +57,18 @@ times (suc n) item = do
 
 -- ---- the parts of a sheet
 
--- "a kind other than 1 and a cell over 255 are refused 14 at their first byte", once they are read
+-- "a kind other than 1 and a cell over 255 are refused 14 at their first byte", once they are read; request 12 adds kind 3
 unfoldable pub judged : (ℕ → Bool) → Reader ℕ
 unfolding number
 judged ok offset bytes = andThen (number offset bytes) (λ value. check (ok value) 14 offset value)
 
+-- the kinds of a sheet that states a map
+abbrev pub isMapKind : ℕ → Bool
+isMapKind kind = eqb kind 1 || eqb kind 3
+
 unfoldable pub kind : Reader ℕ
 unfolding judged
-kind = judged (λ value. eqb value 1)
+kind = judged isMapKind
 
 unfoldable pub cell : Reader ℕ
 unfolding judged
@@ -79,6 +86,32 @@ entries size = do
   written ← number
   count ← check (leb written maxEntries) 3 0 written
   times (count * size) number
+
+-- Request 12: kind 3 is "kind 1 without span count and spans"
+abbrev pub hasSpans : ℕ → Bool
+hasSpans kind = eqb kind 1
+
+-- the span count and the spans, where the sheet has them
+abbrev pub spansHeld : Bool → Reader (List ℕ)
+spansHeld true = entries numbersPerSpan
+spansHeld false = give []
+
+abbrev pub endpoints : Segment → List ℕ
+endpoints s = s .a .x ∷ s .a .y ∷ s .b .x ∷ s .b .y ∷ []
+
+-- the endpoints of the first boundaries, so many of them, as written
+unfoldable pub endpointsIn : ℕ → List ℕ → List ℕ
+unfolding gather
+endpointsIn count boundaries = gather count (λ i. endpoints (segmentAt boundaries (numbersPerBoundary * i)))
+
+unfoldable pub endpointsOf : List ℕ → List ℕ
+unfolding endpointsIn
+endpointsOf boundaries = endpointsIn (length boundaries / numbersPerBoundary) boundaries
+
+-- Request 12: "the boundaries serving as spans, which reading fills from them", where the sheet has none of its own
+abbrev pub spansStated : Bool → List ℕ → List ℕ → List ℕ
+spansStated true spans boundaries = spans
+spansStated false spans boundaries = endpointsOf boundaries
 
 -- "Bytes left over make refusal 14, at the first of them."
 abbrev pub end : Reader (Unit {0})
@@ -99,19 +132,28 @@ pub record Sheet : Type 0 where
 
 -- "In order: kind 1, pass, width, height, cells, span count, spans, boundary count, boundaries, anchor count, anchors."
 unfoldable pub sheet : ℕ → Reader Sheet
-unfolding kind number cell times entries
+unfolding kind number cell times entries endpointsOf
 sheet cellLimit = do
-  _ ← kind
+  written ← kind
   pass ← number
   width ← number
   height ← number
   count ← area cellLimit width height
   cells ← times count cell
-  spans ← entries numbersPerSpan
+  spans ← spansHeld (hasSpans written)
   boundaries ← entries numbersPerBoundary
   anchors ← entries numbersPerAnchor
   _ ← end
-  give (record { pass = pass; width = width; height = height; cells = cells; spans = spans; boundaries = boundaries; anchors = anchors })
+  give
+    (record {
+      pass = pass;
+      width = width;
+      height = height;
+      cells = cells;
+      spans = spansStated (hasSpans written) spans boundaries;
+      boundaries = boundaries;
+      anchors = anchors;
+    })
 
 -- what the bytes hold, or the number and the place of their refusal
 pub data Reading : Type 0 where

@@ -98,9 +98,11 @@ sheetExamples =
     ∷ plain (1 ∷ 3 ∷ 1 ∷ 1 ∷ 1 ∷ 129 ∷ 130 ∷ 0 ∷ []) gives refused 14 5
     -- bytes left over
     ∷ plain (1 ∷ 3 ∷ 1 ∷ 1 ∷ 1 ∷ 0 ∷ 0 ∷ 0 ∷ 0 ∷ 0 ∷ []) gives refused 14 8
-    -- no bytes; a kind other than 1, though nothing follows; an unfinished kind
+    -- no bytes; a kind other than 1 and 3, though nothing follows; an unfinished kind
     ∷ plain [] gives refused 14 0
     ∷ plain (2 ∷ []) gives refused 14 0
+    ∷ plain (4 ∷ []) gives refused 14 0
+    ∷ plain (3 ∷ []) gives refused 14 1
     ∷ plain (0 ∷ 3 ∷ 1 ∷ 1 ∷ 1 ∷ 0 ∷ 0 ∷ 0 ∷ []) gives refused 14 0
     ∷ plain (130 ∷ []) gives refused 14 1
     -- a side outside, once both are read, whatever follows
@@ -131,10 +133,66 @@ pub sheet-examples : map (λ e. e .computed) sheetExamples ≡ map (λ e. e .exp
 unfolding sheetExamples
 sheet-examples = refl
 
+-- ---- kind 3
+
+-- the small sheet with no span count and no spans: its boundary is its one span, as written
+abbrev pub smallBytes3 : List ℕ
+smallBytes3 =
+    3 ∷ 2 ∷ 2 ∷ 1 ∷ 1 ∷ 255 ∷ 1
+    ∷ 1 ∷ 8 ∷ 0 ∷ 8 ∷ 8 ∷ 172 ∷ 2 ∷ 1 ∷ 7 ∷ 0 ∷ 1
+    ∷ 1 ∷ 1 ∷ 0 ∷ []
+
+abbrev pub small3 : Sheet
+small3 =
+    record {
+      pass = 2;
+      width = 2;
+      height = 1;
+      cells = 1 ∷ 255 ∷ [];
+      spans = 8 ∷ 0 ∷ 8 ∷ 8 ∷ [];
+      boundaries = 8 ∷ 0 ∷ 8 ∷ 8 ∷ 300 ∷ 1 ∷ 7 ∷ 0 ∷ 1 ∷ [];
+      anchors = 1 ∷ 0 ∷ [];
+    }
+
+-- two boundaries, the second with its greater endpoint first; it stays so
+abbrev pub turned : List ℕ
+turned = 0 ∷ 0 ∷ 8 ∷ 8 ∷ 5 ∷ 0 ∷ 0 ∷ 0 ∷ 0 ∷ 8 ∷ 7 ∷ 0 ∷ 1 ∷ 6 ∷ 0 ∷ 0 ∷ 0 ∷ 0 ∷ []
+
+unfoldable pub kind3Examples : List (Example Reading)
+unfolding plain readSheet
+kind3Examples =
+    plain smallBytes3 gives wellFormed small3
+    ∷ plain (3 ∷ 3 ∷ 1 ∷ 1 ∷ 1 ∷ 0 ∷ 0 ∷ []) gives wellFormed (oneCell 3)
+    -- a span count is a boundary count to it, and what is then left over is refused
+    ∷ plain (3 ∷ 3 ∷ 1 ∷ 1 ∷ 1 ∷ 0 ∷ 0 ∷ 0 ∷ []) gives refused 14 7
+    ∷ plain (131 ∷ 0 ∷ 3 ∷ 1 ∷ 1 ∷ 1 ∷ 0 ∷ 0 ∷ []) gives refused 14 0
+    ∷ plain (3 ∷ 3 ∷ 1 ∷ 1 ∷ 1 ∷ 129 ∷ 2 ∷ []) gives refused 3 0
+    ∷ plain (3 ∷ 3 ∷ 0 ∷ 1 ∷ []) gives refused 1 0
+    ∷ plain (3 ∷ 1 ∷ 1 ∷ 1 ∷ 0 ∷ 2 ∷ turned ++ (0 ∷ [])) gives
+    wellFormed
+    (record {
+      pass = 1;
+      width = 1;
+      height = 1;
+      cells = 0 ∷ [];
+      spans = 0 ∷ 0 ∷ 8 ∷ 8 ∷ 8 ∷ 7 ∷ 0 ∷ 1 ∷ [];
+      boundaries = turned;
+      anchors = [];
+    })
+    ∷ []
+
+pub kind3-examples : map (λ e. e .computed) kind3Examples ≡ map (λ e. e .expected) kind3Examples
+unfolding kind3Examples
+kind3-examples = refl
+
 -- each beginning of the small sheet ends early, at its length
 pub early-ends : map (λ n. plain (take n smallBytes)) (run 0 (length smallBytes)) ≡ map (λ n. refused 14 n) (run 0 (length smallBytes))
 unfolding plain run
 early-ends = refl
+
+pub early-ends-3 : map (λ n. plain (take n smallBytes3)) (run 0 (length smallBytes3)) ≡ map (λ n. refused 14 n) (run 0 (length smallBytes3))
+unfolding plain run
+early-ends-3 = refl
 
 -- ---- case J
 
@@ -187,6 +245,9 @@ verdictExamples =
     ∷ readVerdict smallBytes 2 7 9 2 gives refused 10 0
     ∷ readVerdict smallBytes 2 8 8 2 gives refused 10 0
     ∷ readVerdict smallBytes 2 8 9 1 gives refused 10 0
+    -- a sheet of kind 3 needs room for the spans that it does not hold
+    ∷ readVerdict smallBytes3 2 4 9 2 gives wellFormed small3
+    ∷ readVerdict smallBytes3 2 3 9 2 gives refused 10 0
     ∷ readVerdict (smallBytes ++ (0 ∷ [])) 0 0 0 0 gives refused 14 30
     ∷ []
 

@@ -24,7 +24,7 @@ use Rattle.definitions.specs.Context.{Context, contextOf, endpointsKey}
 use Rattle.definitions.specs.Junctions.{boundaryKey, unionRegions}
 use Rattle.definitions.specs.Refusals.{widthFits}
 use Rattle.definitions.specs.Verdict.{Lent, Answer, mapIn, verdict}
-use Rattle.definitions.specs.Printed.{keptlist, text}
+use Rattle.definitions.specs.Printed.{maxSheetBytes, keptlist, text}
 use Rattle.definitions.specs.SheetNumber.{found, number}
 use Rattle.definitions.specs.Sheet.{Sheet, readSheet}
 use Rattle.definitions.specs.Sheet as sheet
@@ -89,7 +89,14 @@ use Rattle.sheet.specs.Answers.{answerNumber}
 use Rattle.sheet.specs.declared.Answer.{Answer as ReadAnswer}
 use Rattle.sheets_equal.specs.NumberBytes.{Bytes}
 use Rattle.sheets_equal.specs.NumberBytes as numbers
+use Rattle.sheets_equal.specs.SheetsEqual.{kindOf}
 use Rattle.sheets_equal.specs.SheetsEqual as sheets
+use Rattle.sheets_equal.specs.ConvertedPrints as conversions
+use Rattle.map_sheets.specs.Writing.{Writes as WritesSheet}
+use Rattle.map_sheets.specs.Converting.{Converts}
+use Rattle.map_sheets.specs.Before as before
+use Rattle.map_sheets.specs.Calls.{InMemory as SheetInMemory}
+use Rattle.map_sheets.specs.Calls as new-sheets
 use Rattle.sheets_equal.specs.SheetCalls.{Called as ReadCall, held}
 use Rattle.sheets_equal.specs.SheetCalls as sheet-calls
 use Rattle.sheets_equal.specs.ResultsEqual as results
@@ -207,9 +214,9 @@ unions-as-rust = unions.passes-is
 pub number-bytes : (offset : ℕ) (bytes : List ℕ) {v next : ℕ} {rest : List ℕ} → Bytes bytes → number offset bytes ≡ found v next rest → bytes ≡ shortest v ++ rest
 number-bytes = numbers.number-bytes
 
--- "Two accepted sheets of kind 1 are then equal bytes exactly when they state the same pass, sides and map lists", whatever the limit of cells
-pub sheets-equal : (cellLimit : ℕ) (a b : List ℕ) {s t : Sheet} → Bytes a → Bytes b → readSheet cellLimit a ≡ sheet.wellFormed s → readSheet cellLimit b ≡ sheet.wellFormed t
-    → (a ≡ b) ↔ (s ≡ t)
+-- "Two accepted sheets of kind 1 are then equal bytes exactly when they state the same pass, sides and map lists", whatever the limit of cells; and two of kind 3
+pub sheets-equal : (cellLimit : ℕ) (a b : List ℕ) {s t : Sheet} → Bytes a → Bytes b → kindOf a ≡ kindOf b
+    → readSheet cellLimit a ≡ sheet.wellFormed s → readSheet cellLimit b ≡ sheet.wellFormed t → (a ≡ b) ↔ (s ≡ t)
 sheets-equal = sheets.sheets-equal
 
 -- the same over two calls of the reader that answered 0, of what their callers then have
@@ -217,7 +224,7 @@ pub sheet-calls-equal : (a : List ℕ) {cells spans boundaries anchors : List �
     (b : List ℕ) {cells₂ spans₂ boundaries₂ anchors₂ : List ℕ} {answer₂ : ReadAnswer} {cells₂′ spans₂′ boundaries₂′ anchors₂′ : List ℕ}
     → ReadCall a cells spans boundaries anchors answer cells′ spans′ boundaries′ anchors′ → answerNumber answer ≡ 0
     → ReadCall b cells₂ spans₂ boundaries₂ anchors₂ answer₂ cells₂′ spans₂′ boundaries₂′ anchors₂′ → answerNumber answer₂ ≡ 0
-    → Bytes a → Bytes b
+    → Bytes a → Bytes b → kindOf a ≡ kindOf b
     → (a ≡ b) ↔ (held answer cells′ spans′ boundaries′ anchors′ ≡ held answer₂ cells₂′ spans₂′ boundaries₂′ anchors₂′)
 sheet-calls-equal = sheet-calls.calls-equal
 
@@ -338,3 +345,23 @@ report-beyond = orders.beyond
 -- the mean is exact
 pub report-mean-exact : (accepted kept : ℕ) (m : Mean) → meanOf accepted kept ≡ some m → IsMean accepted kept m
 report-mean-exact = means.mean-exact
+-- ---- request 12: sheets without spans of their own
+
+-- "what it writes reads as itself": a call of the writer that met its contract and answered 0, with the boundaries' endpoints as spans
+pub sheet-written : {s : Sheet} {lent lent′ : List ℕ} {answer : Answer} → SheetInMemory s → s .spans ≡ sheet.endpointsOf (s .boundaries)
+    → WritesSheet s lent answer lent′ → answer .number ≡ 0 → readSheet sheet.plainCellLimit (take (answer .value) lent′) ≡ sheet.wellFormed s
+sheet-written = new-sheets.written-call
+
+-- "Old kind 1 sheets with equal lists convert to kind 3": a call of the converter that answered 0 wrote a sheet that states the same, within any limit of cells
+pub converted-reads : {bytes lent lent′ : List ℕ} {answer : Answer} → Converts bytes lent answer lent′ → answer .number ≡ 0
+    → (limit : ℕ) → readSheet limit (take (answer .value) lent′) ≡ readSheet limit bytes
+converted-reads = conversions.converted-reads
+
+-- "and give equal rows": and `keptlist` prints the same for both, for old sheets of the length that it takes
+pub converted-prints : {bytes lent lent′ : List ℕ} {answer : Answer} → Bytes bytes → length bytes ≤ maxSheetBytes → Converts bytes lent answer lent′ → answer .number ≡ 0
+    → keptlist (take (answer .value) lent′) ≡ keptlist bytes
+converted-prints = conversions.converted-prints
+
+-- "still read and still get the answer they had": bytes that begin with kind 1 read as by the grammar of before
+pub kind-1-stays : (limit next : ℕ) (bytes rest : List ℕ) → number 0 bytes ≡ found 1 next rest → readSheet limit bytes ≡ before.readBefore limit bytes
+kind-1-stays = before.kind-1-stays

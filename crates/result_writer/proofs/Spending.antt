@@ -68,7 +68,7 @@ spent-twice (Left l) a b = go (leb a l) refl (leb b (l - a)) refl
         let x : l < a = leb-false a l e in
         rw (lt-leb (a + b) l (omega arith)) refl
 
-spent-then : (room : Room) (a b : ℕ) {r s : Room} → r ≡ spent room a → s ≡ spent r b → s ≡ spent room (a + b)
+pub spent-then : (room : Room) (a b : ℕ) {r s : Room} → r ≡ spent room a → s ≡ spent r b → s ≡ spent room (a + b)
 spent-then room a b e f = f ∙ ap (λ r. spent r b) e ∙ spent-twice room a b
 
 pub spent-none : {room : Room} (size : ℕ) → room ≡ Short → Short ≡ spent room size

@@ -166,7 +166,7 @@ fn is_finished(tallies: usize, pairs: usize, rows: usize) -> bool
 // ---- the room
 
 // How many bytes a number takes.
-fn group_count(n: u64) -> usize
+pub fn group_count(n: u64) -> usize
     ensures { λ r. ⌜ r ≡ length (shortest n) ⌝ }
 {
     let mut left = n;
@@ -185,7 +185,7 @@ pub enum Room {
 }
 
 // Takes the size of a number.
-fn spend_number(room: Room, n: u64) -> Room
+pub fn spend_number(room: Room, n: u64) -> Room
     ensures { λ r. ⌜ r ≡ spent room (length (shortest n)) ⌝ }
 {
     let Room::Left(left) = room else {
@@ -219,7 +219,7 @@ fn spend_numbers(room: Room, numbers: &[u64]) -> Room
 }
 
 // Takes the size of a count of entries, each of `size` numbers, and of the numbers.
-fn spend_list(room: Room, size: usize, numbers: &[u64]) -> Room
+pub fn spend_list(room: Room, size: usize, numbers: &[u64]) -> Room
     requires { ⌜ 1 ≤ size ⌝ }
     ensures { λ r. ⌜ r ≡ spent room (length (listBytes size (now (numbers .entry)))) ⌝ }
 {
@@ -271,7 +271,7 @@ fn put_numbers(out: &mut [u8], at: usize, numbers: &[u64]) -> usize
 }
 
 // Writes a count of entries, each of `size` numbers, and the numbers.
-fn put_list(out: &mut [u8], at: usize, size: usize, numbers: &[u64]) -> usize
+pub fn put_list(out: &mut [u8], at: usize, size: usize, numbers: &[u64]) -> usize
     requires { ⌜ (1 ≤ size) × (at + length (listBytes size (now numbers)) ≤ length (now out)) ⌝ }
     ensures { λ r. ⌜ Put (now (out .entry)) at (listBytes size (now (numbers .entry))) (now (out .exit)) r ⌝ }
 {

@@ -1,27 +1,33 @@
 -- The parts of a sheet, reader by reader: each chain fails as its first failing part and otherwise goes on with the next. Assumes nothing.
 use Prim.Native.Nat.{ℕ, _*_, _≤_, _<_}
 use mathlib.Core.Path.{_≡_, refl, sym, ap, _∙_}
-use mathlib.Core.Bool.{true, false, _&&_}
+use mathlib.Core.Bool.{Bool, true, false, _&&_}
 use mathlib.Core.List.{List, [], _∷_}
-use lib.Dec.{leb, eqb}
-use borrow.Author.Tests.{le-leb, lt-leb, eq-eqb, ne-eqb}
+use lib.Dec.{leb}
+use borrow.Author.Tests.{le-leb, lt-leb}
 use Rattle.definitions.specs.Limits.{isSide, maxEntries, numbersPerSpan, numbersPerBoundary, numbersPerAnchor}
 use Rattle.definitions.specs.SheetNumber.{Read, found, failed, number}
-use Rattle.definitions.specs.Sheet.{Reader, andThen, give, times, judged, kind, cell, area, entries, end, Sheet, wellFormed, refused, reading, sheet, readSheet}
+use Rattle.definitions.specs.Sheet.{Reader, andThen, give, times, judged, isMapKind, kind, cell, area, entries, hasSpans, spansHeld, spansStated, end, Sheet, wellFormed, refused, reading, sheet, readSheet}
 use Rattle.laws.specs.SheetReading.SheetLaws.{Keeps, keeps-number, keeps-judged, keeps-then, keeps-check, then-found, then-failed}
-use Rattle.sheet.specs.Parts.{opening, Extent, sides, Content, lists}
+use Rattle.sheet.specs.Parts.{Opening, opening, Extent, sides, Content, lists}
 
 -- ---- the kind and the pass
 
 module _ (at : ℕ) (bytes : List ℕ) where
   module _ {value next : ℕ} {rest : List ℕ} (h : number at bytes ≡ found value next rest) where
-    pub opening-goes-on : value ≡ 1 → opening at bytes ≡ number next rest
-    unfolding opening kind judged
-    opening-goes-on k = rw (h, eq-eqb value 1 k)
+    module _ (k : isMapKind value ≡ true) where
+      pub opening-found : {pass behind : ℕ} {more : List ℕ} → number next rest ≡ found pass behind more
+          → opening at bytes ≡ found (record { kind = value; pass = pass }) behind more
+      unfolding opening kind judged
+      opening-found p = rw (h, k, p)
 
-    pub opening-other : (value ≡ 1 → ⊥) → opening at bytes ≡ failed 14 at
+      pub pass-fails : {refusal place : ℕ} → number next rest ≡ failed refusal place → opening at bytes ≡ failed refusal place
+      unfolding opening kind judged
+      pass-fails p = rw (h, k, p)
+
+    pub opening-other : isMapKind value ≡ false → opening at bytes ≡ failed 14 at
     unfolding opening kind judged
-    opening-other k = rw (h, ne-eqb value 1 k)
+    opening-other k = rw (h, k)
 
   pub opening-fails : {refusal place : ℕ} → number at bytes ≡ failed refusal place → opening at bytes ≡ failed refusal place
   unfolding opening kind judged
@@ -67,40 +73,48 @@ module _ (size at : ℕ) (bytes : List ℕ) where
 
 -- ---- the lists
 
-module _ (count at : ℕ) (bytes : List ℕ) where
-  pub cells-fail : {refusal place : ℕ} → times count cell at bytes ≡ failed refusal place → lists count at bytes ≡ failed refusal place
+module _ (own : Bool) (count at : ℕ) (bytes : List ℕ) where
+  pub cells-fail : {refusal place : ℕ} → times count cell at bytes ≡ failed refusal place → lists own count at bytes ≡ failed refusal place
   unfolding lists
   cells-fail h = rw h
 
   module _ {cells : List ℕ} {o₁ : ℕ} {r₁ : List ℕ} (h₁ : times count cell at bytes ≡ found cells o₁ r₁) where
-    pub spans-fail : {refusal place : ℕ} → entries numbersPerSpan o₁ r₁ ≡ failed refusal place → lists count at bytes ≡ failed refusal place
+    pub spans-fail : {refusal place : ℕ} → spansHeld own o₁ r₁ ≡ failed refusal place → lists own count at bytes ≡ failed refusal place
     unfolding lists
     spans-fail h = rw (h₁, h)
 
-    module _ {spans : List ℕ} {o₂ : ℕ} {r₂ : List ℕ} (h₂ : entries numbersPerSpan o₁ r₁ ≡ found spans o₂ r₂) where
-      pub boundaries-fail : {refusal place : ℕ} → entries numbersPerBoundary o₂ r₂ ≡ failed refusal place → lists count at bytes ≡ failed refusal place
+    module _ {spans : List ℕ} {o₂ : ℕ} {r₂ : List ℕ} (h₂ : spansHeld own o₁ r₁ ≡ found spans o₂ r₂) where
+      pub boundaries-fail : {refusal place : ℕ} → entries numbersPerBoundary o₂ r₂ ≡ failed refusal place → lists own count at bytes ≡ failed refusal place
       unfolding lists
       boundaries-fail h = rw (h₁, h₂, h)
 
       module _ {boundaries : List ℕ} {o₃ : ℕ} {r₃ : List ℕ} (h₃ : entries numbersPerBoundary o₂ r₂ ≡ found boundaries o₃ r₃) where
-        pub anchors-fail : {refusal place : ℕ} → entries numbersPerAnchor o₃ r₃ ≡ failed refusal place → lists count at bytes ≡ failed refusal place
+        pub anchors-fail : {refusal place : ℕ} → entries numbersPerAnchor o₃ r₃ ≡ failed refusal place → lists own count at bytes ≡ failed refusal place
         unfolding lists
         anchors-fail h = rw (h₁, h₂, h₃, h)
 
         module _ {anchors : List ℕ} {o₄ : ℕ} {r₄ : List ℕ} (h₄ : entries numbersPerAnchor o₃ r₃ ≡ found anchors o₄ r₄) where
-          pub bytes-left : {b : ℕ} {rest : List ℕ} → r₄ ≡ b ∷ rest → lists count at bytes ≡ failed 14 o₄
+          pub bytes-left : {b : ℕ} {rest : List ℕ} → r₄ ≡ b ∷ rest → lists own count at bytes ≡ failed 14 o₄
           unfolding lists
           bytes-left h = rw (h₁, h₂, h₃, h₄, h)
 
-          pub all-read : r₄ ≡ [] → lists count at bytes ≡ found (record { cells = cells; spans = spans; boundaries = boundaries; anchors = anchors }) o₄ []
+          pub all-read : r₄ ≡ [] → lists own count at bytes ≡ found (record { cells = cells; spans = spans; boundaries = boundaries; anchors = anchors }) o₄ []
           unfolding lists
           all-read h = rw (h₁, h₂, h₃, h₄, h)
 
 -- ---- the sheet
 
-abbrev sheetFrom : ℕ → Extent → Content → Sheet
-sheetFrom pass e l =
-    record { pass = pass; width = e .width; height = e .height; cells = l .cells; spans = l .spans; boundaries = l .boundaries; anchors = l .anchors }
+abbrev sheetFrom : Opening → Extent → Content → Sheet
+sheetFrom o e l =
+    record {
+      pass = o .pass;
+      width = e .width;
+      height = e .height;
+      cells = l .cells;
+      spans = spansStated (hasSpans (o .kind)) (l .spans) (l .boundaries);
+      boundaries = l .boundaries;
+      anchors = l .anchors;
+    }
 
 module _ {A B : Type 0} where
   -- readers that go on alike
@@ -117,17 +131,17 @@ module _ {A : Type 0} (B : Type 0) {C : Type 0} where
 
 -- the three parts, one behind the other
 in-parts : (limit at : ℕ) (bytes : List ℕ)
-    → andThen (opening at bytes) (λ pass o r. andThen (sides limit o r) (λ e o r. andThen (lists (e .cells) o r) (λ l. give (sheetFrom pass e l))))
+    → andThen (opening at bytes) (λ p o r. andThen (sides limit o r) (λ e o r. andThen (lists (hasSpans (p .kind)) (e .cells) o r) (λ l. give (sheetFrom p e l))))
     ≡ sheet limit at bytes
 unfolding sheet opening sides lists
 in-parts limit at bytes =
-    within ℕ (kind at bytes) _ _ (λ _ o r.
-    alike (number o r) (λ pass o r.
+    within Opening (kind at bytes) _ _ (λ written o r.
+    within Opening (number o r) _ _ (λ pass o r.
     within Extent (number o r) _ _ (λ width o r.
     within Extent (number o r) _ _ (λ height o r.
     within Extent (area limit width height o r) _ _ (λ count o r.
     within Content (times count cell o r) _ _ (λ cells o r.
-    within Content (entries numbersPerSpan o r) _ _ (λ spans o r.
+    within Content (spansHeld (hasSpans written) o r) _ _ (λ spans o r.
     within Content (entries numbersPerBoundary o r) _ _ (λ boundaries o r.
     within Content (entries numbersPerAnchor o r) _ _ (λ anchors o r.
     within Content (end o r) _ _ (λ _ o r. refl))))))))))
@@ -137,17 +151,17 @@ module _ (limit : ℕ) (bytes : List ℕ) where
   unfolding readSheet
   sheet-opening h = ap reading (sym (in-parts limit 0 bytes) ∙ then-failed _ h)
 
-  module _ {pass o₁ : ℕ} {r₁ : List ℕ} (h₁ : opening 0 bytes ≡ found pass o₁ r₁) where
+  module _ {p : Opening} {o₁ : ℕ} {r₁ : List ℕ} (h₁ : opening 0 bytes ≡ found p o₁ r₁) where
     pub sheet-sides : {refusal place : ℕ} → sides limit o₁ r₁ ≡ failed refusal place → readSheet limit bytes ≡ refused refusal place
     unfolding readSheet
     sheet-sides h = ap reading (sym (in-parts limit 0 bytes) ∙ then-found _ h₁ ∙ then-failed _ h)
 
     module _ {e : Extent} {o₂ : ℕ} {r₂ : List ℕ} (h₂ : sides limit o₁ r₁ ≡ found e o₂ r₂) where
-      pub sheet-lists : {refusal place : ℕ} → lists (e .cells) o₂ r₂ ≡ failed refusal place → readSheet limit bytes ≡ refused refusal place
+      pub sheet-lists : {refusal place : ℕ} → lists (hasSpans (p .kind)) (e .cells) o₂ r₂ ≡ failed refusal place → readSheet limit bytes ≡ refused refusal place
       unfolding readSheet
       sheet-lists h = ap reading (sym (in-parts limit 0 bytes) ∙ then-found _ h₁ ∙ then-found _ h₂ ∙ then-failed _ h)
 
-      pub sheet-read : {l : Content} {o₃ : ℕ} {r₃ : List ℕ} → lists (e .cells) o₂ r₂ ≡ found l o₃ r₃ → readSheet limit bytes ≡ wellFormed (sheetFrom pass e l)
+      pub sheet-read : {l : Content} {o₃ : ℕ} {r₃ : List ℕ} → lists (hasSpans (p .kind)) (e .cells) o₂ r₂ ≡ found l o₃ r₃ → readSheet limit bytes ≡ wellFormed (sheetFrom p e l)
       unfolding readSheet
       sheet-read h = ap reading (sym (in-parts limit 0 bytes) ∙ then-found _ h₁ ∙ then-found _ h₂ ∙ then-found _ h)
 
@@ -155,7 +169,7 @@ module _ (limit : ℕ) (bytes : List ℕ) where
 
 pub keeps-opening : Keeps opening
 unfolding opening kind
-keeps-opening = keeps-then kind (λ _. number) (keeps-judged (λ value. eqb value 1)) (λ _. keeps-number)
+keeps-opening = keeps-then kind _ (keeps-judged isMapKind) (λ written. keeps-then number _ keeps-number (λ pass. keeps-check true 0 0 _))
 
 pub keeps-sides : (limit : ℕ) → Keeps (sides limit)
 unfolding sides

@@ -5,5 +5,6 @@ pub mod Filling
 pub mod Limits
 pub mod Chains
 pub mod Found
+pub mod Endpoints
 pub mod Answering
 pub mod ShortNumbers

@@ -43,15 +43,15 @@ pub answer-place : (reading : Reading) → answerPlace (answerOf reading) ≡ re
 answer-place (wellFormed s) = refl
 answer-place (refused refusal place) = refl
 
--- the same header from where the lists stand
-abbrev pub headerIn : Plan → Header
-headerIn plan =
+-- the same header from where the lists stand, where the spans have `stated` numbers
+abbrev pub headerIn : Plan → ℕ → Header
+headerIn plan stated =
     let parts = plan .parts in
     record {
       pass = plan .pass;
       width = plan .width;
       height = plan .height;
-      spans = parts .spans .length / numbersPerSpan;
+      spans = stated / numbersPerSpan;
       boundaries = parts .boundaries .length / numbersPerBoundary;
       anchors = parts .anchors .length / numbersPerAnchor;
     }

@@ -1,17 +1,19 @@
-// The reader of a sheet of kind 1: what the bytes hold, or why they are refused. All bytes are judged before a list is filled, so a refusal leaves
-// every lent list as it was.
+// The reader of a sheet of kind 1 or 3: what the bytes hold, or why they are refused. All bytes are judged before a list is filled, so a refusal leaves
+// every lent list as it was. A sheet of kind 3 holds no spans: they are filled from its boundaries.
 ghost use mathlib.Core.Path.{_≡_};
-ghost use Prim.Native.Nat.{_*_, _≤_, _<_};
-ghost use mathlib.Core.Bool.{_&&_};
+ghost use Prim.Native.Nat.{_+_, _*_, _≤_, _<_};
+ghost use mathlib.Core.Bool.{_&&_, cond};
 ghost use lib.Dec.{leb, ltb};
 ghost use lib.ListN.{length, drop};
+ghost use lib.Seq.{sets};
 ghost use Rattle.definitions.specs.SheetNumber as grammar;
 ghost use Rattle.definitions.specs.Lists.{overwrite};
 ghost use Rattle.definitions.specs.Limits.{isSide};
-ghost use Rattle.definitions.specs.Sheet.{cell, readVerdict};
+ghost use Rattle.definitions.specs.Grid.{segmentAt};
+ghost use Rattle.definitions.specs.Sheet.{cell, entries, isMapKind, hasSpans, spansHeld, spansStated, endpoints, endpointsIn, readVerdict};
 ghost use Rattle.sheet.specs.Numbers.{numberOf, upTo, itemOf, itemsAt, Told, Held, valuesAt};
 ghost use Rattle.sheet.specs.Parts as parts;
-ghost use Rattle.sheet.specs.Parts.{SidesTold, EntriesTold, ListsTold, SheetTold, PartsHeld, partOf, cellsIn, roomIn, Room};
+ghost use Rattle.sheet.specs.Parts.{openingOf, SidesTold, PartTold, ListsTold, SheetTold, PartsHeld, partOf, cellsIn, statedLong, roomIn, Room};
 ghost use Rattle.sheet.specs.Answers.{headerIn, Answered, readingWithin};
 
 // ---- one number
@@ -92,7 +94,7 @@ pub fn number_at(bytes: &[u8], at: usize) -> NumberRead
 
 const MOST: u64 = 0xffff_ffff_ffff_ffff;
 
-const CELL_MOST: u64 = 255;
+pub const CELL_MOST: u64 = 255;
 
 // A number, with the offset behind it; or the place where the sheet is refused 14.
 pub enum ItemRead {
@@ -181,19 +183,33 @@ fn fill_cells(bytes: &[u8], at: usize, count: usize, out: &mut [u8])
 
 // ---- the parts of a sheet
 
-// The kind, which is to be 1, and the pass.
-fn opening(bytes: &[u8]) -> ItemRead
-    ensures { λ r. ⌜ parts.opening 0 (now (bytes .entry)) ≡ itemOf (now (bytes .entry)) r ⌝ }
+fn is_map_kind(kind: u64) -> bool
+    ensures { λ r. ⌜ r ≡ isMapKind kind ⌝ }
+{
+    (kind == 1) | (kind == 3)
+}
+
+// The kind, the pass and the offset behind them; or the place where the sheet is refused 14.
+enum OpeningRead {
+    Opened(u64, u64, usize),
+    Fault(usize),
+}
+
+fn opening(bytes: &[u8]) -> OpeningRead
+    ensures { λ r. ⌜ parts.opening 0 (now (bytes .entry)) ≡ openingOf (now (bytes .entry)) r ⌝ }
 {
     match item(bytes, 0, MOST) {
         ItemRead::Item(kind, next) => {
-            if kind == 1 {
-                item(bytes, next, MOST)
+            if is_map_kind(kind) {
+                match item(bytes, next, MOST) {
+                    ItemRead::Item(pass, behind) => OpeningRead::Opened(kind, pass, behind),
+                    ItemRead::Fault(place) => OpeningRead::Fault(place),
+                }
             } else {
-                ItemRead::Fault(0)
+                OpeningRead::Fault(0)
             }
         }
-        ItemRead::Fault(place) => ItemRead::Fault(place),
+        ItemRead::Fault(place) => OpeningRead::Fault(place),
     }
 }
 
@@ -244,9 +260,9 @@ fn sides(bytes: &[u8], at: usize, limit: u64) -> SidesRead
 }
 
 // Where the numbers of a list stand, and how many there are.
-struct Part {
-    first: usize,
-    length: usize,
+pub struct Part {
+    pub first: usize,
+    pub length: usize,
 }
 
 // A list and the offset behind it; or the refusal.
@@ -260,7 +276,7 @@ const ENTRIES_MOST: u64 = 256;
 // A count and so many entries, each of `size` numbers.
 fn entries(bytes: &[u8], at: usize, size: usize) -> EntriesRead
     requires { ⌜ (at ≤ length (now bytes)) × (size ≤ 9) ⌝ }
-    ensures { λ r. ⌜ EntriesTold (now (bytes .entry)) at size r ⌝ }
+    ensures { λ r. ⌜ PartTold (entries size) (now (bytes .entry)) at r ⌝ }
 {
     match item(bytes, at, MOST) {
         ItemRead::Item(written, first) => {
@@ -284,11 +300,32 @@ const BOUNDARY_SIZE: usize = 9;
 
 const ANCHOR_SIZE: usize = 2;
 
-struct Parts {
-    cells: Part,
-    spans: Part,
-    boundaries: Part,
-    anchors: Part,
+// The spans that a sheet holds, which is none where its boundaries serve as spans.
+fn spans_held(bytes: &[u8], at: usize, own: bool) -> EntriesRead
+    requires { ⌜ at ≤ length (now bytes) ⌝ }
+    ensures { λ r. ⌜ PartTold (spansHeld own) (now (bytes .entry)) at r ⌝ }
+{
+    if own {
+        entries(bytes, at, SPAN_SIZE)
+    } else {
+        EntriesRead::Entries(
+            Part {
+                first: at,
+                length: 0,
+            },
+            at,
+        )
+    }
+}
+
+// `front` is where the cells end and the spans' count begins, `back` where the spans end.
+pub struct Parts {
+    pub cells: Part,
+    pub spans: Part,
+    pub boundaries: Part,
+    pub anchors: Part,
+    pub front: usize,
+    pub back: usize,
 }
 
 // Where the lists stand; or the refusal.
@@ -297,13 +334,13 @@ enum ListsRead {
     Refused(u32, usize),
 }
 
-// The cells, the three lists, and the end of the bytes behind them.
-fn lists(bytes: &[u8], at: usize, area: usize) -> ListsRead
+// The cells, the lists, and the end of the bytes behind them; with spans or without.
+fn lists(bytes: &[u8], at: usize, area: usize, own: bool) -> ListsRead
     requires { ⌜ at ≤ length (now bytes) ⌝ }
-    ensures { λ r. ⌜ ListsTold (now (bytes .entry)) at area r ⌝ }
+    ensures { λ r. ⌜ ListsTold own (now (bytes .entry)) at area r ⌝ }
 {
     match judge(bytes, at, area, CELL_MOST) {
-        Judged::Behind(a) => match entries(bytes, a, SPAN_SIZE) {
+        Judged::Behind(a) => match spans_held(bytes, a, own) {
             EntriesRead::Entries(spans, b) => match entries(bytes, b, BOUNDARY_SIZE) {
                 EntriesRead::Entries(boundaries, c) => match entries(bytes, c, ANCHOR_SIZE) {
                     EntriesRead::Entries(anchors, d) => {
@@ -318,6 +355,8 @@ fn lists(bytes: &[u8], at: usize, area: usize) -> ListsRead
                                 spans,
                                 boundaries,
                                 anchors,
+                                front: a,
+                                back: b,
                             })
                         }
                     }
@@ -333,28 +372,35 @@ fn lists(bytes: &[u8], at: usize, area: usize) -> ListsRead
 
 // ---- the sheet
 
-// What was found by judging: the pass, both sides, and where the cells and the lists stand.
-struct Plan {
-    pass: u64,
-    width: usize,
-    height: usize,
-    parts: Parts,
+// What was found by judging: the kind, the pass, both sides, and where the cells and the lists stand.
+pub struct Plan {
+    pub kind: u64,
+    pub pass: u64,
+    pub width: usize,
+    pub height: usize,
+    pub parts: Parts,
 }
 
 // A plan; or the refusal.
-enum SheetRead {
+pub enum SheetRead {
     Sound(Plan),
     Refused(u32, usize),
 }
 
 // Judges the whole of the bytes, with at most `limit` cells.
-fn judge_sheet(bytes: &[u8], limit: u64) -> SheetRead
+pub fn judge_sheet(bytes: &[u8], limit: u64) -> SheetRead
     ensures { λ r. ⌜ SheetTold limit (now (bytes .entry)) r ⌝ }
 {
     match opening(bytes) {
-        ItemRead::Item(pass, at) => match sides(bytes, at, limit) {
-            SidesRead::Sides(width, height, cells) => match lists(bytes, cells, width * height) {
+        OpeningRead::Opened(kind, pass, at) => match sides(bytes, at, limit) {
+            SidesRead::Sides(width, height, cells) => match lists(
+                bytes,
+                cells,
+                width * height,
+                kind == 1,
+            ) {
                 ListsRead::Lists(parts) => SheetRead::Sound(Plan {
+                    kind,
                     pass,
                     width,
                     height,
@@ -364,7 +410,7 @@ fn judge_sheet(bytes: &[u8], limit: u64) -> SheetRead
             },
             SidesRead::Refused(refusal, place) => SheetRead::Refused(refusal, place),
         },
-        ItemRead::Fault(place) => SheetRead::Refused(14, place),
+        OpeningRead::Fault(place) => SheetRead::Refused(14, place),
     }
 }
 
@@ -385,18 +431,37 @@ pub enum Answer {
     Refused(u32, usize),
 }
 
-// Lists of these lengths have room for the sheet.
-fn fits(parts: Parts, cells: usize, spans: usize, boundaries: usize, anchors: usize) -> bool
-    ensures { λ r. ⌜ r ≡ roomIn parts cells spans boundaries anchors ⌝ }
+// How many numbers the spans have: those that the sheet holds, or four for each boundary.
+fn stated_length(kind: u64, parts: Parts) -> usize
+    ensures { λ r. ⌜ r ≡ statedLong kind parts ⌝ }
+{
+    let b = parts.spans;
+    let c = parts.boundaries;
+    if kind == 1 {
+        b.length
+    } else {
+        c.length / BOUNDARY_SIZE * SPAN_SIZE
+    }
+}
+
+// Lists of these lengths have room for the sheet, whose spans have so many numbers.
+fn fits(
+    parts: Parts,
+    stated: usize,
+    cells: usize,
+    spans: usize,
+    boundaries: usize,
+    anchors: usize,
+) -> bool
+    ensures { λ r. ⌜ r ≡ roomIn parts stated cells spans boundaries anchors ⌝ }
 {
     let a = parts.cells;
-    let b = parts.spans;
     let c = parts.boundaries;
     let d = parts.anchors;
     if cells < a.length {
         return false;
     }
-    if spans < b.length {
+    if spans < stated {
         return false;
     }
     if boundaries < c.length {
@@ -405,9 +470,56 @@ fn fits(parts: Parts, cells: usize, spans: usize, boundaries: usize, anchors: us
     d.length <= anchors
 }
 
+// Stores the endpoints of boundary i as span i.
+fn put_endpoints(boundaries: &[u64], i: usize, spans: &mut [u64])
+    requires { ⌜ (9 * i + 9 ≤ length (now boundaries)) × (4 * i + 4 ≤ length (now spans)) ⌝ }
+    ensures { λ r. ⌜ now (spans .exit) ≡ sets (now (spans .entry)) (4 * i) (endpoints (segmentAt (now (boundaries .entry)) (9 * i))) ⌝ }
+{
+    let k = BOUNDARY_SIZE * i;
+    let place = SPAN_SIZE * i;
+    spans[place] = boundaries[k];
+    spans[place + 1] = boundaries[k + 1];
+    spans[place + 2] = boundaries[k + 2];
+    spans[place + 3] = boundaries[k + 3];
+}
+
+// Stores the endpoints of the first boundaries, so many of them, as spans.
+pub fn fill_endpoints(boundaries: &[u64], count: usize, spans: &mut [u64])
+    requires { ⌜ (9 * count ≤ length (now boundaries)) × (4 * count ≤ length (now spans)) ⌝ }
+    ensures { λ r. ⌜ now (spans .exit) ≡ overwrite (endpointsIn count (now (boundaries .entry))) (now (spans .entry)) ⌝ }
+{
+    let mut i = 0;
+    while i < count {
+        put_endpoints(boundaries, i, &mut *spans);
+        i += 1;
+    }
+}
+
+// Stores the spans that were judged before, or the endpoints of the boundaries.
+fn fill_spans(
+    bytes: &[u8],
+    kind: u64,
+    part: Part,
+    boundaries: &[u64],
+    count: usize,
+    spans: &mut [u64],
+)
+    requires { ⌜ Held grammar.number (now bytes) (part .first) (part .length) ⌝ }
+    requires { ⌜ (9 * count ≤ length (now boundaries)) × (cond (hasSpans kind) (part .length) (4 * count) ≤ length (now spans)) ⌝ }
+    ensures { λ r. ⌜ now (spans .exit)
+        ≡ overwrite (cond (hasSpans kind) (partOf (now (bytes .entry)) part) (endpointsIn count (now (boundaries .entry)))) (now (spans .entry)) ⌝ }
+{
+    if kind == 1 {
+        fill_numbers(bytes, part.first, part.length, &mut *spans);
+        return;
+    }
+    fill_endpoints(boundaries, count, &mut *spans);
+}
+
 // Fills the lists with what was judged before.
 fn fill(
     bytes: &[u8],
+    kind: u64,
     parts: Parts,
     cells: &mut [u8],
     spans: &mut [u64],
@@ -415,9 +527,11 @@ fn fill(
     anchors: &mut [u64],
 )
     requires { ⌜ PartsHeld (now bytes) parts ⌝ }
-    requires { ⌜ Room parts (length (now cells)) (length (now spans)) (length (now boundaries)) (length (now anchors)) ⌝ }
+    requires { ⌜ Room parts (statedLong kind parts) (length (now cells)) (length (now spans)) (length (now boundaries)) (length (now anchors)) ⌝ }
     ensures { λ r. ⌜ now (cells .exit) ≡ overwrite (cellsIn (now (bytes .entry)) parts) (now (cells .entry)) ⌝ }
-    ensures { λ r. ⌜ now (spans .exit) ≡ overwrite (partOf (now (bytes .entry)) (parts .spans)) (now (spans .entry)) ⌝ }
+    ensures { λ r. ⌜ now (spans .exit)
+        ≡ overwrite (spansStated (hasSpans kind) (partOf (now (bytes .entry)) (parts .spans)) (partOf (now (bytes .entry)) (parts .boundaries)))
+        (now (spans .entry)) ⌝ }
     ensures { λ r. ⌜ now (boundaries .exit) ≡ overwrite (partOf (now (bytes .entry)) (parts .boundaries)) (now (boundaries .entry)) ⌝ }
     ensures { λ r. ⌜ now (anchors .exit) ≡ overwrite (partOf (now (bytes .entry)) (parts .anchors)) (now (anchors .entry)) ⌝ }
 {
@@ -426,23 +540,29 @@ fn fill(
     let c = parts.boundaries;
     let d = parts.anchors;
     fill_cells(bytes, a.first, a.length, &mut *cells);
-    fill_numbers(bytes, b.first, b.length, &mut *spans);
     fill_numbers(bytes, c.first, c.length, &mut *boundaries);
+    fill_spans(
+        bytes,
+        kind,
+        b,
+        &*boundaries,
+        c.length / BOUNDARY_SIZE,
+        &mut *spans,
+    );
     fill_numbers(bytes, d.first, d.length, &mut *anchors);
 }
 
-fn header_of(plan: Plan) -> Header
-    ensures { λ r. ⌜ r ≡ headerIn plan ⌝ }
+fn header_of(plan: Plan, stated: usize) -> Header
+    ensures { λ r. ⌜ r ≡ headerIn plan stated ⌝ }
 {
     let parts = plan.parts;
-    let b = parts.spans;
     let c = parts.boundaries;
     let d = parts.anchors;
     Header {
         pass: plan.pass,
         width: plan.width,
         height: plan.height,
-        spans: b.length / SPAN_SIZE,
+        spans: stated / SPAN_SIZE,
         boundaries: c.length / BOUNDARY_SIZE,
         anchors: d.length / ANCHOR_SIZE,
     }
@@ -464,8 +584,10 @@ pub fn read_within(
     match judge_sheet(bytes, limit) {
         SheetRead::Sound(plan) => {
             let parts = plan.parts;
+            let stated = stated_length(plan.kind, parts);
             if fits(
                 parts,
+                stated,
                 cells.len(),
                 spans.len(),
                 boundaries.len(),
@@ -473,13 +595,14 @@ pub fn read_within(
             ) {
                 fill(
                     bytes,
+                    plan.kind,
                     parts,
                     &mut *cells,
                     &mut *spans,
                     &mut *boundaries,
                     &mut *anchors,
                 );
-                Answer::Read(header_of(plan))
+                Answer::Read(header_of(plan, stated))
             } else {
                 Answer::Refused(10, 0)
             }
@@ -488,7 +611,7 @@ pub fn read_within(
     }
 }
 
-const PLAIN_CELL_LIMIT: u64 = 1_048_576;
+pub const PLAIN_CELL_LIMIT: u64 = 1_048_576;
 
 // Reads a sheet into the lists: document 01's reading alone.
 pub fn read_sheet(

@@ -1,6 +1,5 @@
 pub mod NumberBytes
 pub mod ReaderBytes
-pub mod SheetBytes
 pub mod SheetsEqual
 pub mod ResultsEqual
 pub mod Refusing
@@ -8,3 +7,4 @@ pub mod SheetCalls
 pub mod ResultCalls
 pub mod Examples
 pub mod ReaderCalls
+pub mod ConvertedPrints

@@ -8,7 +8,7 @@ use lib.Dec.{leb, eqb}
 use borrow.Author.Tests.{leb-true, leb-false}
 use Rattle.definitions.specs.Limits.{isSide, maxEntries, numbersPerSpan, numbersPerBoundary, numbersPerAnchor, talliesPerSpan, numbersPerPair, numbersPerRow}
 use Rattle.definitions.specs.SheetNumber.{Read, found, failed, withGroup, illFormed, groups, number}
-use Rattle.definitions.specs.Sheet.{Reader, give, check, andThen, _>>=_, times, judged, kind, cell, area, entries, end, sheet}
+use Rattle.definitions.specs.Sheet.{Reader, give, check, andThen, _>>=_, times, judged, isMapKind, kind, cell, area, entries, hasSpans, spansHeld, end, sheet}
 use Rattle.laws.specs.SheetReading.SheetLaws.{groups-bad, groups-more, groups-last}
 use Rattle.results.specs.Result as results
 
@@ -73,7 +73,7 @@ unfolding times
 refuses-times item k zero = refuses-give []
 refuses-times item k (suc n) = refuses-then item _ k (λ value. refuses-then (times n item) _ (refuses-times item k n) (λ values. refuses-give (value ∷ values)))
 
--- ---- a sheet of kind 1
+-- ---- a sheet of kind 1 or 3
 
 refuses-entries : (size : ℕ) → Refuses (entries size)
 unfolding entries
@@ -81,16 +81,20 @@ refuses-entries size =
     refuses-then number _ refuses-number
     (λ written. refuses-then (check (leb written maxEntries) 3 0 written) _ (refuses-check (leb written maxEntries) 3 0 written (omega arith)) (λ count. refuses-times number refuses-number (count * size)))
 
+refuses-spans : (own : Bool) → Refuses (spansHeld own)
+refuses-spans true = refuses-entries numbersPerSpan
+refuses-spans false = refuses-give []
+
 pub refuses-sheet : (limit : ℕ) → Refuses (sheet limit)
 unfolding sheet kind cell
 refuses-sheet limit =
-    refuses-then kind _ (refuses-judged (λ value. eqb value 1)) (λ _.
+    refuses-then kind _ (refuses-judged isMapKind) (λ written.
     refuses-then number _ refuses-number (λ pass.
     refuses-then number _ refuses-number (λ w.
     refuses-then number _ refuses-number (λ h.
     refuses-then (area limit w h) _ (refuses-check (isSide w && isSide h && leb (w * h) limit) 1 0 (w * h) (omega arith)) (λ n.
     refuses-then (times n cell) _ (refuses-times cell (refuses-judged (λ value. leb value 255)) n) (λ cells.
-    refuses-then (entries numbersPerSpan) _ (refuses-entries numbersPerSpan) (λ spans.
+    refuses-then (spansHeld (hasSpans written)) _ (refuses-spans (hasSpans written)) (λ spans.
     refuses-then (entries numbersPerBoundary) _ (refuses-entries numbersPerBoundary) (λ boundaries.
     refuses-then (entries numbersPerAnchor) _ (refuses-entries numbersPerAnchor) (λ anchors.
     refuses-then end _ refuses-end (λ _. refuses-give _))))))))))

@@ -20,7 +20,7 @@ use Rattle.sheet.specs.declared.Answer.{Answer}
 use Rattle.sheet.specs.declared.Answer.the-variants as answers
 use Rattle.sheets_equal.specs.NumberBytes.{Bytes}
 use Rattle.sheets_equal.specs.Refusing.{refuses-sheet}
-use Rattle.sheets_equal.specs.SheetsEqual.{sheets-equal}
+use Rattle.sheets_equal.specs.SheetsEqual.{kindOf, sheets-equal}
 
 -- a call: the bytes, the lists at entry, the answer, and the lists at exit
 abbrev pub Called : List ℕ → List ℕ → List ℕ → List ℕ → List ℕ → Answer → List ℕ → List ℕ → List ℕ → List ℕ → Type 0
@@ -106,11 +106,11 @@ call-reads bytes {cells} {spans} {boundaries} {anchors} {answer} {cells′} {spa
 
 -- ---- two calls
 
--- "equal bytes exactly when they state the same pass, sides and map lists"
+-- "equal bytes exactly when they state the same pass, sides and map lists", of two sheets of one kind
 pub calls-equal : (a : List ℕ) {cells spans boundaries anchors : List ℕ} {answer : Answer} {cells′ spans′ boundaries′ anchors′ : List ℕ}
     (b : List ℕ) {cells₂ spans₂ boundaries₂ anchors₂ : List ℕ} {answer₂ : Answer} {cells₂′ spans₂′ boundaries₂′ anchors₂′ : List ℕ}
     → Called a cells spans boundaries anchors answer cells′ spans′ boundaries′ anchors′ → answerNumber answer ≡ 0
     → Called b cells₂ spans₂ boundaries₂ anchors₂ answer₂ cells₂′ spans₂′ boundaries₂′ anchors₂′ → answerNumber answer₂ ≡ 0
-    → Bytes a → Bytes b
+    → Bytes a → Bytes b → kindOf a ≡ kindOf b
     → (a ≡ b) ↔ (held answer cells′ spans′ boundaries′ anchors′ ≡ held answer₂ cells₂′ spans₂′ boundaries₂′ anchors₂′)
-calls-equal a b C c D d A B = sheets-equal plainCellLimit a b A B (call-reads a C c) (call-reads b D d)
+calls-equal a b C c D d A B k = sheets-equal plainCellLimit a b A B k (call-reads a C c) (call-reads b D d)

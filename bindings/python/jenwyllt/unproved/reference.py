@@ -1017,6 +1017,22 @@ def record_of(stats):
             stats.ramp_cells, stats.elevations, tuple(stats.elevation_counts))
 
 
+def entry_fault(m):
+    """checks 4 to 9"""
+    if m.pass_number not in (1, 2, 3):
+        return 4, 0
+    fault = faulty_span(m) or faulty_boundary(m)
+    if fault:
+        return fault
+    for i, (x, y) in enumerate(groups(m.anchors, 2)):
+        if x >= m.width or y >= m.height:
+            return 8, i
+    for i, cell in enumerate(m.cells):
+        if cell & 1 and cell >> 2 >= 4:
+            return 9, i
+    return None
+
+
 def early_refusal(m, lent, whole):
     """checks 1 to 10; `whole` is false where only the partition is asked for"""
     if not (1 <= m.width <= 1024 and 1 <= m.height <= 1024):
@@ -1026,21 +1042,9 @@ def early_refusal(m, lent, whole):
     lists = [(m.spans, 4)] + ([(m.boundaries, 9), (m.anchors, 2)] if whole else [])
     if any(len(numbers) // size > MOST or len(numbers) % size for numbers, size in lists):
         return 3, 0
-    if whole and m.pass_number not in (1, 2, 3):
-        return 4, 0
-    fault = faulty_span(m)
+    fault = entry_fault(m) if whole else faulty_span(m)
     if fault:
         return fault
-    if whole:
-        fault = faulty_boundary(m)
-        if fault:
-            return fault
-        for i, (x, y) in enumerate(groups(m.anchors, 2)):
-            if x >= m.width or y >= m.height:
-                return 8, i
-        for i, cell in enumerate(m.cells):
-            if cell & 1 and cell >> 2 >= 4:
-                return 9, i
     n = len(m.cells)
     if (len(lent.labels) < n or len(lent.masks) < n or len(lent.queue) < n
             or len(lent.tallies) < 2 * (len(m.spans) // 4)

@@ -1,4 +1,5 @@
-"""The sheet as bytes: writer, reader, and what `keptlist` prints. Written from the scope paper, 'The sheet and the printed list', and from request 3."""
+"""The sheet as bytes: writer, reader, converter, and what `keptlist` prints. Written from the scope paper, 'The sheet and the printed list', and from requests 3
+and 12."""
 from . import reference
 from .reference import Lent, Map
 
@@ -30,13 +31,32 @@ def number_bytes(value, extra=0):
 
 
 def sheet_numbers(m, kind=1):
-    """the numbers of a well-formed sheet in order"""
-    return ([kind, m.pass_number, m.width, m.height] + list(m.cells) + [len(m.spans) // 4] + list(m.spans)
+    """the numbers of a well-formed sheet in order; one of kind 3 has no spans"""
+    spans = [] if kind == 3 else [len(m.spans) // 4] + list(m.spans)
+    return ([kind, m.pass_number, m.width, m.height] + list(m.cells) + spans
             + [len(m.boundaries) // 9] + list(m.boundaries) + [len(m.anchors) // 2] + list(m.anchors))
 
 
-def sheet_of(m):
-    return b''.join(number_bytes(n) for n in sheet_numbers(m))
+def sheet_of(m, kind=1):
+    return b''.join(number_bytes(n) for n in sheet_numbers(m, kind))
+
+
+def endpoints_of(boundaries):
+    """the boundaries as spans, as written"""
+    return [n for k in range(0, len(boundaries) - 8, 9) for n in boundaries[k:k + 4]]
+
+
+def write_sheet(pass_number, width, height, cells, boundaries, anchors, room):
+    """the writer, which gives kind 3 only: (number, value) and the bytes, or None where it refuses"""
+    if not (1 <= width <= 1024 and 1 <= height <= 1024):
+        return (1, 0), None
+    if len(cells) != width * height:
+        return (2, 0), None
+    for numbers, size in ((boundaries, 9), (anchors, 2)):
+        if len(numbers) % size or len(numbers) // size > 256:
+            return (3, 0), None
+    data = sheet_of(Map(pass_number, width, height, cells, endpoints_of(boundaries), boundaries, anchors), 3)
+    return ((10, 0), None) if len(data) > room else ((0, len(data)), data)
 
 
 # ---- the reader
@@ -78,18 +98,19 @@ class Reader:
 def read(data, most_cells=1024 * 1024):
     """a Map, or Refused"""
     r = Reader(data)
-    r.number_within(lambda kind: kind == 1)
+    kind = r.number_within(lambda kind: kind in (1, 3))
     pass_number = r.number()
     width = r.number()
     height = r.number()
     if not (1 <= width <= 1024 and 1 <= height <= 1024) or width * height > most_cells:
         raise Refused(1, 0)
     cells = [r.number_within(lambda cell: cell <= 255) for _ in range(width * height)]
-    spans = r.entries(4)
+    held = r.entries(4) if kind == 1 else []
     boundaries = r.entries(9)
     anchors = r.entries(2)
     if r.at < len(data):
         raise Refused(14, r.at)
+    spans = held if kind == 1 else endpoints_of(boundaries)
     return Map(pass_number, width, height, cells, spans, boundaries, anchors)
 
 
@@ -104,6 +125,23 @@ def read_sheet(data, cells, spans, boundaries, anchors):
     for lent, read_ones in ((cells, m.cells), (spans, m.spans), (boundaries, m.boundaries), (anchors, m.anchors)):
         reference.put(lent, read_ones)
     return (0, 0), m
+
+
+def convert_sheet(data, room):
+    """the converter of kind 1 to kind 3: (number, value) and the bytes, or None where it refuses"""
+    try:
+        if Reader(data).number() != 1:
+            raise Refused(14, 0)
+        m = read(data)
+    except Refused as r:
+        return (r.number, r.place), None
+    early = reference.entry_fault(m)
+    if early:
+        return early, None
+    if m.spans != endpoints_of(m.boundaries):
+        return (22, 0), None
+    made = sheet_of(m, 3)
+    return ((10, 0), None) if len(made) > room else ((0, len(made)), made)
 
 
 # ---- the program

@@ -1,18 +1,19 @@
 -- How long the lists of a sheet are that was read: as its sides and its counts have it, and within the limits. So lent lists of the limits' lengths have
 -- room for every sheet. Assumes nothing.
-use Prim.Native.Nat.{ℕ, _*_, _≤_}
+use Prim.Native.Nat.{ℕ, _*_, _/_, _≤_}
 use native.Mathlib.Omega.{arith}
 use mathlib.Core.Path.{_≡_, refl, subst, _∙_}
-use mathlib.Core.Bool.{Bool, true, false, _&&_}
+use mathlib.Core.Bool.{Bool, true, false, _&&_, false≢true}
 use mathlib.Core.List.{List}
 use lib.ListN.{length}
 use lib.Dec.{leb}
 use borrow.Author.Tests.{leb-true, le-leb}
 use Rattle.definitions.specs.Limits.{isSide, maxSide, maxEntries, numbersPerSpan, numbersPerBoundary, numbersPerAnchor}
 use Rattle.definitions.specs.SheetNumber.{Read, found, failed, number}
-use Rattle.definitions.specs.Sheet.{Reader, give, check, andThen, times, kind, cell, area, entries, end, Sheet, Reading, wellFormed, refused, reading, sheet, readSheet, roomFor}
+use Rattle.definitions.specs.Sheet.{Reader, give, check, andThen, times, kind, cell, area, entries, hasSpans, spansHeld, spansStated, endpointsOf, end, Sheet, Reading, wellFormed, refused, reading, sheet, readSheet, roomFor}
 use Rattle.laws.specs.ListLaws.Tests.{both}
 use Rattle.laws.specs.SheetReading.SheetLaws.{not-found, times-length}
+use Rattle.laws.specs.SheetReading.Endpoints.{endpoints-long}
 
 -- ---- what holds of every value that a reader finds
 
@@ -29,7 +30,7 @@ module _ {A : Type 0} where
       same : {v : A} {offset next : ℕ} {bytes rest : List ℕ} → found value offset bytes ≡ found v next rest → value ≡ v
       same h = cc
 
-  gives-check : (P : A → Type 0) (ok : Bool) (refusal place : ℕ) (value : A) → (ok ≡ true → P value) → Gives (check ok refusal place value) P
+  pub gives-check : (P : A → Type 0) (ok : Bool) (refusal place : ℕ) (value : A) → (ok ≡ true → P value) → Gives (check ok refusal place value) P
   gives-check P true refusal place value p = gives-value P value (p refl)
   gives-check P false refusal place value p = record { holds = λ offset bytes h. absurd (not-found h) }
 
@@ -58,6 +59,19 @@ gives-entries size =
     gives-then number _ _ _ (gives-any number)
     (λ written _. gives-then (check (leb written maxEntries) 3 0 written) _ (λ count. count ≤ maxEntries) _ (gives-check _ (leb written maxEntries) 3 0 written (leb-true written maxEntries))
     (λ count few. record { holds = λ offset bytes h. record { count = count; few = few; long = times-length number (count * size) offset bytes h } }))
+
+-- the spans that a sheet of kind 1 holds are whole entries
+pub gives-spans : (own : Bool) → Gives (spansHeld own) (λ l. own ≡ true → Entries numbersPerSpan l)
+gives-spans true = record { holds = λ offset bytes h e. gives-entries numbersPerSpan .holds offset bytes h }
+gives-spans false = record { holds = λ offset bytes h e. absurd (false≢true e) }
+
+-- and so are those of kind 3, as many as there are boundaries
+pub spans-stated : (own : Bool) {spans boundaries : List ℕ} → (own ≡ true → Entries numbersPerSpan spans) → Entries numbersPerBoundary boundaries
+    → Entries numbersPerSpan (spansStated own spans boundaries)
+unfolding endpointsOf
+spans-stated true s b = s refl
+spans-stated false {boundaries = boundaries} s b =
+    record { count = b .count; few = b .few; long = endpoints-long (length boundaries / numbersPerBoundary) boundaries ∙ omega (arith, b .long) }
 
 -- ---- a sheet
 
@@ -90,17 +104,26 @@ gives-area limit w h =
 gives-sheet : (limit : ℕ) → Gives (sheet limit) (Sized limit)
 unfolding sheet
 gives-sheet limit =
-    gives-then kind _ _ _ (gives-any kind) (λ _ _.
+    gives-then kind _ _ _ (gives-any kind) (λ written _.
     gives-then number _ _ _ (gives-any number) (λ pass _.
     gives-then number _ _ _ (gives-any number) (λ w _.
     gives-then number _ _ _ (gives-any number) (λ h _.
     gives-then (area limit w h) _ _ _ (gives-area limit w h) (λ n a.
     gives-then (times n cell) _ _ _ (gives-times n cell) (λ cells l.
-    gives-then (entries numbersPerSpan) _ _ _ (gives-entries numbersPerSpan) (λ spans s.
+    gives-then (spansHeld (hasSpans written)) _ _ _ (gives-spans (hasSpans written)) (λ spans s.
     gives-then (entries numbersPerBoundary) _ _ _ (gives-entries numbersPerBoundary) (λ boundaries b.
     gives-then (entries numbersPerAnchor) _ _ _ (gives-entries numbersPerAnchor) (λ anchors c.
     gives-then end _ _ _ (gives-any end) (λ _ _.
-    gives-value (Sized limit) _ (record { wide = a .wide; high = a .high; area-few = a .few; cells-long = l ∙ a .is; spans = s; boundaries = b; anchors = c })))))))))))
+    gives-value (Sized limit) _
+    (record {
+      wide = a .wide;
+      high = a .high;
+      area-few = a .few;
+      cells-long = l ∙ a .is;
+      spans = spans-stated (hasSpans written) s b;
+      boundaries = b;
+      anchors = c;
+    })))))))))))
 
 pub sized : (limit : ℕ) (bytes : List ℕ) {s : Sheet} → readSheet limit bytes ≡ wellFormed s → Sized limit s
 unfolding readSheet

@@ -18,7 +18,7 @@ use Rattle.definitions.specs.Refusals.{Refusal, orElse, firstBelow, unless, sid
 use Rattle.definitions.specs.Rows.{rowsOf}
 use Rattle.definitions.specs.Verdict.{Lent, mapIn, refusal, firstRefusal, recordsFault, pairsFault, partitionHasRoom, verdict}
 use Rattle.definitions.specs.SheetNumber.{Read, found, failed, withGroup, continued, illFormed, groups, number}
-use Rattle.definitions.specs.Sheet.{Reader, give, check, andThen, times, judged, kind, cell, area, entries, end, Sheet, Reading, wellFormed, refused, reading, sheet, readSheet, roomFor, readVerdict, plainCellLimit, keptlistCellLimit}
+use Rattle.definitions.specs.Sheet.{Reader, give, check, andThen, times, judged, isMapKind, kind, cell, area, entries, hasSpans, spansHeld, end, Sheet, Reading, wellFormed, refused, reading, sheet, readSheet, roomFor, readVerdict, plainCellLimit, keptlistCellLimit}
 use Rattle.definitions.specs.Printed.{maxSheetBytes, lentFor}
 use Rattle.laws.specs.ListLaws.Lists.{All, done, more}
 use Rattle.laws.specs.ListLaws.Tests.{both}
@@ -138,13 +138,17 @@ entries-low size offset bytes =
     then-low _ (number-low offset bytes)
     (λ written o m. then-low _ (check-low (leb written maxEntries) 3 0 written (omega arith) o m) (λ count p k. times-low (count * size) number number-low p k))
 
+spans-held-low : (own : Bool) (offset : ℕ) (bytes : List ℕ) → LowRead (spansHeld own offset bytes)
+spans-held-low true offset bytes = entries-low numbersPerSpan offset bytes
+spans-held-low false offset bytes = value
+
 end-low : (offset : ℕ) (bytes : List ℕ) → LowRead (end offset bytes)
 end-low offset [] = value
 end-low offset (b ∷ rest) = low-read {n = 14} (omega arith)
 
 kind-low : (offset : ℕ) (bytes : List ℕ) → LowRead (kind offset bytes)
 unfolding kind
-kind-low = judged-low (λ a. eqb a 1)
+kind-low = judged-low isMapKind
 
 cell-low : (offset : ℕ) (bytes : List ℕ) → LowRead (cell offset bytes)
 unfolding cell
@@ -156,13 +160,13 @@ area-low limit width height = check-low (isSide width && isSide height && leb (w
 sheet-low : (limit offset : ℕ) (bytes : List ℕ) → LowRead (sheet limit offset bytes)
 unfolding sheet
 sheet-low limit offset bytes =
-    then-low _ (kind-low offset bytes) (λ _ o₁ b₁.
+    then-low _ (kind-low offset bytes) (λ written o₁ b₁.
     then-low _ (number-low o₁ b₁) (λ pass o₂ b₂.
     then-low _ (number-low o₂ b₂) (λ width o₃ b₃.
     then-low _ (number-low o₃ b₃) (λ height o₄ b₄.
     then-low _ (area-low limit width height o₄ b₄) (λ count o₅ b₅.
     then-low _ (times-low count cell cell-low o₅ b₅) (λ cells o₆ b₆.
-    then-low _ (entries-low numbersPerSpan o₆ b₆) (λ spans o₇ b₇.
+    then-low _ (spans-held-low (hasSpans written) o₆ b₆) (λ spans o₇ b₇.
     then-low _ (entries-low numbersPerBoundary o₇ b₇) (λ boundaries o₈ b₈.
     then-low _ (entries-low numbersPerAnchor o₈ b₈) (λ anchors o₉ b₉.
     then-low _ (end-low o₉ b₉) (λ _ o b. value))))))))))

@@ -1,0 +1,10 @@
+pub mod SheetBytes
+pub mod Writing
+pub mod Converting
+pub mod Examples
+pub mod WrittenReads
+pub mod Before
+pub mod Converted
+pub mod Limited
+pub mod Numbered
+pub mod Calls
