@@ -36,12 +36,16 @@ slice-aggregate-print : tie.Need-slice-aggregate-print
 slice-aggregate-print c = search needs
 
 print-requires : tie.Need-print-requires
-print-requires c κs =
-    let at-kept = c .before .before .before in
-    let at-output2 = at-kept .before .before .before in
-    let at-queue2 = at-output2 .before .before .before in
-    let call = at-queue2 .before .before .before in
-    (ran-fits (ran-says (at-kept .kept .given .1) (call .kept-boundaries-here .ensures .ran)), search needs)
+print-requires c κs = (
+  (
+      let at-kept = c .before .before .before in
+      let at-output2 = at-kept .before .before .before in
+      let at-queue2 = at-output2 .before .before .before in
+      let call = at-queue2 .before .before .before in
+      ran-fits (ran-says (at-kept .kept .given .1) (call .kept-boundaries-here .ensures .ran))
+      ),
+  search needs,
+)
 
 enum-known-number : tie.Need-enum-known-number
 enum-known-number c = search needs
@@ -50,12 +54,16 @@ slice-aggregate-print-2 : tie.Need-slice-aggregate-print-2
 slice-aggregate-print-2 c = search needs
 
 print-requires-2 : tie.Need-print-requires-2
-print-requires-2 c κs =
-    let at-number = c .before .before .before in
-    let at-output2 = at-number .before .before .before in
-    let at-queue2 = at-output2 .before .before .before in
-    let call = at-queue2 .before .before .before in
-    (ran-fits (ran-says (at-number .number .given .1) (call .kept-boundaries-here .ensures .ran)), search needs)
+print-requires-2 c κs = (
+  (
+      let at-number = c .before .before .before in
+      let at-output2 = at-number .before .before .before in
+      let at-queue2 = at-output2 .before .before .before in
+      let call = at-queue2 .before .before .before in
+      ran-fits (ran-says (at-number .number .given .1) (call .kept-boundaries-here .ensures .ran))
+      ),
+  search needs,
+)
 
 same-length : tie.Need-same-length
 same-length c = search needs

@@ -53,13 +53,14 @@ loop-less c = search needs
 
 loop-again : tie.Need-loop-again Inv-loop μ-loop
 loop-again c =
+    let put = c .before .before .put-numbers in
+    let at-loop =
     let at-put-numbers = c .before .before in
     let in-turn = at-put-numbers .before .before .before in
-    let at-loop = in-turn .before in
+    in-turn .before in
+    let turn = at-loop .loop in
     let counted = at-loop .before in
     let start = counted .before .before .before in
-    let turn = at-loop .loop in
-    let put = at-put-numbers .put-numbers in
     let inside : turn .i < length (start .args .t1) = omega (arith, counted .least2 .ensures, counted .before .least .ensures, start .good .0) in (
       omega arith,
       search needs,
