@@ -33,7 +33,9 @@ pub extern "C" fn jenwyllt_partition(
     tallies: &mut [u32],
     pairs: &mut [u32],
 ) -> JenwylltAnswer
-    ensures { λ r. ⌜ Partitions (given width height (now (cells .entry)) (now (spans .entry)) (now (labels .entry)) (now (masks .entry)) (now (queue .entry)) (now (tallies .entry)) (now (pairs .entry))) r (now (labels .exit)) (now (masks .exit)) (now (queue .exit)) (now (tallies .exit)) (now (pairs .exit)) ⌝ }
+    ensures { λ r. ⌜ Partitions (given width height (now (cells .entry)) (now (spans .entry)) (now (labels .entry)) (now (masks .entry))
+        (now (queue .entry)) (now (tallies .entry)) (now (pairs .entry))) r
+        (now (labels .exit)) (now (masks .exit)) (now (queue .exit)) (now (tallies .exit)) (now (pairs .exit)) ⌝ }
 {
     match partition(
         width,
@@ -108,7 +110,9 @@ pub extern "C" fn jenwyllt_read_sheet(
     boundaries: &mut [u64],
     anchors: &mut [u64],
 ) -> JenwylltSheet
-    ensures { λ r. ⌜ Reads (readVerdict (now (bytes .entry)) (length (now (cells .entry))) (length (now (spans .entry))) (length (now (boundaries .entry))) (length (now (anchors .entry)))) (now (cells .entry)) (now (spans .entry)) (now (boundaries .entry)) (now (anchors .entry)) r (now (cells .exit)) (now (spans .exit)) (now (boundaries .exit)) (now (anchors .exit)) ⌝ }
+    ensures { λ r. ⌜ Reads (readVerdict (now (bytes .entry)) (length (now (cells .entry))) (length (now (spans .entry)))
+        (length (now (boundaries .entry))) (length (now (anchors .entry)))) (now (cells .entry)) (now (spans .entry)) (now (boundaries .entry))
+        (now (anchors .entry)) r (now (cells .exit)) (now (spans .exit)) (now (boundaries .exit)) (now (anchors .exit)) ⌝ }
 {
     match read_sheet(bytes, cells, spans, boundaries, anchors) {
         Reading::Read(header) => opened(header),

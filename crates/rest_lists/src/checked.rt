@@ -25,7 +25,8 @@ pub fn rest_checks(
     tallies: usize,
     output: usize,
 ) -> Check
-    ensures { λ r. ⌜ refusalOf r ≡ restEarly width height (now (cells .entry)) (now (spans .entry)) (now (boundaries .entry)) (now (anchors .entry)) labels masks queue tallies output ⌝ }
+    ensures { λ r. ⌜ refusalOf r ≡ restEarly width height (now (cells .entry)) (now (spans .entry)) (now (boundaries .entry)) (now (anchors .entry))
+        labels masks queue tallies output ⌝ }
 {
     if let Check::Refused(number, place) = check_sizes(
         1,

@@ -52,7 +52,8 @@ fn put_spans(rows: &[u64], count: usize, spans: &mut [u64])
 // The boundary that row k names, with the row's endpoints, at place k.
 fn put_boundary(lent: &[u64], rows: &[u64], k: usize, boundaries: &mut [u64])
     requires { ⌜ (5 * k + 5 ≤ length (now rows)) × (9 * k + 9 ≤ length (now boundaries)) × NamedIn (now lent) (rowAt (now rows) (5 * k)) ⌝ }
-    ensures { λ r. ⌜ now (boundaries .exit) ≡ sets (now (boundaries .entry)) (9 * k) (flatBoundary (turnedIn (now (lent .entry)) (rowAt (now (rows .entry)) (5 * k)))) ⌝ }
+    ensures { λ r. ⌜ now (boundaries .exit)
+        ≡ sets (now (boundaries .entry)) (9 * k) (flatBoundary (turnedIn (now (lent .entry)) (rowAt (now (rows .entry)) (5 * k)))) ⌝ }
 {
     let at = ROW_SIZE * k;
     let place = BOUNDARY_SIZE * k;

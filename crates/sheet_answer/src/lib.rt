@@ -38,7 +38,9 @@ fn read(
 ) -> Before
     requires { ⌜ ListsLong (length (now cells)) (length (now spans)) (length (now boundaries)) (length (now anchors)) ⌝ }
     requires { ⌜ outRoom ≤ length (now out) ⌝ }
-    ensures { λ r. ⌜ Begun (keptlistReading (now (bytes .entry))) (now (cells .entry)) (now (spans .entry)) (now (boundaries .entry)) (now (anchors .entry)) (now (out .entry)) r (now (cells .exit)) (now (spans .exit)) (now (boundaries .exit)) (now (anchors .exit)) (now (out .exit)) ⌝ }
+    ensures { λ r. ⌜ Begun (keptlistReading (now (bytes .entry))) (now (cells .entry)) (now (spans .entry)) (now (boundaries .entry))
+        (now (anchors .entry)) (now (out .entry)) r (now (cells .exit)) (now (spans .exit)) (now (boundaries .exit)) (now (anchors .exit))
+        (now (out .exit)) ⌝ }
 {
     if SHEET_BYTES_MOST < bytes.len() {
         return Before::Printed(print_refused(&mut *out, 14, SHEET_BYTES_MOST as u64));
@@ -95,7 +97,9 @@ fn answer(
     out: &mut [u8],
 ) -> usize
     requires { ⌜ outRoom ≤ length (now out) ⌝ }
-    ensures { λ r. ⌜ Printed (printing.printedReading (wellFormed (sheetFrom pass width height (now (cells .entry)) (now (spans .entry)) (now (boundaries .entry)) (now (anchors .entry))))) (now (out .entry)) (now (out .exit)) r ⌝ }
+    ensures { λ r. ⌜ Printed (printing.printedReading
+        (wellFormed (sheetFrom pass width height (now (cells .entry)) (now (spans .entry)) (now (boundaries .entry)) (now (anchors .entry)))))
+        (now (out .entry)) (now (out .exit)) r ⌝ }
 {
     let mut labels = [0u32; 4096];
     let mut masks = [0u16; 4096];
@@ -144,7 +148,9 @@ fn answer_held(
 ) -> usize
     requires { ⌜ SheetHeld header (now cells) (now spans) (now boundaries) (now anchors) ⌝ }
     requires { ⌜ outRoom ≤ length (now out) ⌝ }
-    ensures { λ r. ⌜ Printed (printing.printedReading (wellFormed (sheetIn header (now (cells .entry)) (now (spans .entry)) (now (boundaries .entry)) (now (anchors .entry))))) (now (out .entry)) (now (out .exit)) r ⌝ }
+    ensures { λ r. ⌜ Printed (printing.printedReading
+        (wellFormed (sheetIn header (now (cells .entry)) (now (spans .entry)) (now (boundaries .entry)) (now (anchors .entry))))) (now (out .entry))
+        (now (out .exit)) r ⌝ }
 {
     let area = header.width * header.height;
     let spans_end = SPAN_SIZE * header.spans;

@@ -26,7 +26,10 @@ pub fn interior_fits(
     interior: Interior,
 ) -> bool
     requires { ⌜ ((C : Context) × Asks C (now records) (now boundaries) (now pairs) (now names) interior) ⌝ }
-    ensures { λ r. ⌜ ((C : Context) → Asks C (now (records .entry)) (now (boundaries .entry)) (now (pairs .entry)) (now (names .entry)) interior → r ≡ interiorFits C (now (pairs .entry)) (now (names .entry)) (interior .name) (interior .begin) (interior .first) (interior .second) (interior .end)) ⌝ }
+    ensures { λ r. ⌜ ((C : Context) →
+        Asks C (now (records .entry)) (now (boundaries .entry)) (now (pairs .entry)) (now (names .entry)) interior →
+        r ≡ interiorFits C (now (pairs .entry)) (now (names .entry)) (interior .name) (interior .begin) (interior .first) (interior .second)
+        (interior .end)) ⌝ }
 {
     let reach = reach_of(boundaries, interior.first, interior.second);
     let mut fits = true;
@@ -54,9 +57,13 @@ pub fn judge_interiors(
     count: usize,
     removed: &mut [bool; 256],
 )
-    requires { ⌜ ((C : Context) × Judges C (now records) (now boundaries) (now pairs) (now starts) (now names) (now owners) (now firsts) (now seconds) count) ⌝ }
+    requires { ⌜ ((C : Context) × Judges C (now records) (now boundaries) (now pairs) (now starts) (now names) (now owners) (now firsts) (now seconds)
+        count) ⌝ }
     requires { ⌜ (length (now removed) ≡ maxEntries) × Unmarked (now removed) count ⌝ }
-    ensures { λ _. ⌜ ((C : Context) → Judges C (now (records .entry)) (now (boundaries .entry)) (now (pairs .entry)) (now (starts .entry)) (now (names .entry)) (now (owners .entry)) (now (firsts .entry)) (now (seconds .entry)) count → Collapsed C count (now (removed .exit))) ⌝ }
+    ensures { λ _. ⌜ ((C : Context) →
+        Judges C (now (records .entry)) (now (boundaries .entry)) (now (pairs .entry)) (now (starts .entry)) (now (names .entry))
+        (now (owners .entry)) (now (firsts .entry)) (now (seconds .entry)) count →
+        Collapsed C count (now (removed .exit))) ⌝ }
 {
     let mut i = 0;
     while i < count {
@@ -82,7 +89,10 @@ pub fn collapse_ramp_interiors(
 )
     requires { ⌜ ((C : Context) × Collapses C (now records) (now boundaries) (now tallies) (now pairs) (now starts) count regions (now marks) (now counts)) ⌝ }
     requires { ⌜ (length (now removed) ≡ maxEntries) × Unmarked (now removed) count ⌝ }
-    ensures { λ _. ⌜ ((C : Context) → Collapses C (now (records .entry)) (now (boundaries .entry)) (now (tallies .entry)) (now (pairs .entry)) (now (starts .entry)) count regions (now (marks .entry)) (now (counts .entry)) → Collapsed C count (now (removed .exit))) ⌝ }
+    ensures { λ _. ⌜ ((C : Context) →
+        Collapses C (now (records .entry)) (now (boundaries .entry)) (now (tallies .entry)) (now (pairs .entry)) (now (starts .entry)) count regions
+        (now (marks .entry)) (now (counts .entry)) →
+        Collapsed C count (now (removed .exit))) ⌝ }
 {
     let mut owners = [0u32; 256];
     let mut firsts = [0usize; 256];

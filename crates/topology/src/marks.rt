@@ -27,9 +27,13 @@ pub fn removed_marks(
     counts: &mut [u32],
     removed: &mut [bool; 256],
 )
-    requires { ⌜ ((C : Context) × Shows C (now records) regions count (now boundaries) (now tallies) (now pairs) (now starts) (now smaller) (now larger) (now marks) (now counts)) ⌝ }
+    requires { ⌜ ((C : Context) × Shows C (now records) regions count (now boundaries) (now tallies) (now pairs) (now starts) (now smaller)
+        (now larger) (now marks) (now counts)) ⌝ }
     requires { ⌜ IsPass pass × NoMarks (now removed) ⌝ }
-    ensures { λ _. ⌜ ((C : Context) → Shows C (now (records .entry)) regions count (now (boundaries .entry)) (now (tallies .entry)) (now (pairs .entry)) (now (starts .entry)) (now (smaller .entry)) (now (larger .entry)) (now (marks .entry)) (now (counts .entry)) → Removed pass C (now (removed .exit))) ⌝ }
+    ensures { λ _. ⌜ ((C : Context) →
+        Shows C (now (records .entry)) regions count (now (boundaries .entry)) (now (tallies .entry)) (now (pairs .entry)) (now (starts .entry))
+        (now (smaller .entry)) (now (larger .entry)) (now (marks .entry)) (now (counts .entry)) →
+        Removed pass C (now (removed .exit))) ⌝ }
 {
     if pass == 1 {
         replace_ramp_mouths(
@@ -92,9 +96,14 @@ pub fn mark_removed(
     queue: &mut [u32],
     removed: &mut [bool; 256],
 )
-    requires { ⌜ ((M : Map) × Lent M (now records) width needed (now labels) (now anchors) regions rows count (now boundaries) (now tallies) (now pairs) (length (now masks)) (length (now queue))) ⌝ }
+    requires { ⌜ ((M : Map) × Lent M (now records) width needed (now labels) (now anchors) regions rows count (now boundaries) (now tallies)
+        (now pairs) (length (now masks)) (length (now queue))) ⌝ }
     requires { ⌜ IsPass pass × NoMarks (now removed) ⌝ }
-    ensures { λ _. ⌜ ((M : Map) → Lent M (now (records .entry)) width needed (now (labels .entry)) (now (anchors .entry)) regions rows count (now (boundaries .entry)) (now (tallies .entry)) (now (pairs .entry)) (length (now (masks .entry))) (length (now (queue .entry))) → MarkedFor pass M needed count (now (boundaries .entry)) (now (masks .entry)) (now (queue .entry)) (now (masks .exit)) (now (queue .exit)) (now (removed .entry)) (now (removed .exit))) ⌝ }
+    ensures { λ _. ⌜ ((M : Map) →
+        Lent M (now (records .entry)) width needed (now (labels .entry)) (now (anchors .entry)) regions rows count (now (boundaries .entry))
+        (now (tallies .entry)) (now (pairs .entry)) (length (now (masks .entry))) (length (now (queue .entry))) →
+        MarkedFor pass M needed count (now (boundaries .entry)) (now (masks .entry)) (now (queue .entry))
+        (now (masks .exit)) (now (queue .exit)) (now (removed .entry)) (now (removed .exit))) ⌝ }
 {
     if boundaries.len() / NUMBERS_PER_BOUNDARY != count {
         return;

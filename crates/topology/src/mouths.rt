@@ -33,7 +33,9 @@ pub fn corners_near(
     kind: u8,
 ) -> bool
     requires { ⌜ ((C : Context) × Locates C (now records) (now boundaries) (now pairs) (now starts) m a) ⌝ }
-    ensures { λ r. ⌜ ((C : Context) → Locates C (now (records .entry)) (now (boundaries .entry)) (now (pairs .entry)) (now (starts .entry)) m a → r ≡ cornersNear C (proposalOf C m a outer kind)) ⌝ }
+    ensures { λ r. ⌜ ((C : Context) →
+        Locates C (now (records .entry)) (now (boundaries .entry)) (now (pairs .entry)) (now (starts .entry)) m a →
+        r ≡ cornersNear C (proposalOf C m a outer kind)) ⌝ }
 {
     let count = places(pairs, starts, m);
     let mut k = 0;
@@ -65,7 +67,10 @@ pub fn mark_near(
 )
     requires { ⌜ ((C : Context) × NearAsked C (now records) (now boundaries) (now pairs) (now starts) (now mouths) (now ramps) n) ⌝ }
     requires { ⌜ length (now near) ≡ maxCandidates ⌝ }
-    ensures { λ _. ⌜ ((C : Context) → NearAsked C (now (records .entry)) (now (boundaries .entry)) (now (pairs .entry)) (now (starts .entry)) (now (mouths .entry)) (now (ramps .entry)) n → NearMarked C (now (mouths .entry)) (now (ramps .entry)) (now (outers .entry)) (now (kinds .entry)) n (now (near .exit))) ⌝ }
+    ensures { λ _. ⌜ ((C : Context) →
+        NearAsked C (now (records .entry)) (now (boundaries .entry)) (now (pairs .entry)) (now (starts .entry)) (now (mouths .entry))
+        (now (ramps .entry)) n →
+        NearMarked C (now (mouths .entry)) (now (ramps .entry)) (now (outers .entry)) (now (kinds .entry)) n (now (near .exit))) ⌝ }
 {
     let mut k = 0;
     while k < n {
@@ -98,7 +103,10 @@ pub fn replace_ramp_mouths(
 )
     requires { ⌜ ((C : Context) × Replaces C (now records) (now boundaries) (now tallies) (now pairs) (now starts) count (now marks) (now counts)) ⌝ }
     requires { ⌜ NoMarks (now removed) ⌝ }
-    ensures { λ _. ⌜ ((C : Context) → Replaces C (now (records .entry)) (now (boundaries .entry)) (now (tallies .entry)) (now (pairs .entry)) (now (starts .entry)) count (now (marks .entry)) (now (counts .entry)) → Replaced C count (now (removed .exit))) ⌝ }
+    ensures { λ _. ⌜ ((C : Context) →
+        Replaces C (now (records .entry)) (now (boundaries .entry)) (now (tallies .entry)) (now (pairs .entry)) (now (starts .entry)) count
+        (now (marks .entry)) (now (counts .entry)) →
+        Replaced C count (now (removed .exit))) ⌝ }
 {
     // Tested first: the lists below are a quarter of a megabyte.
     if !any_ramp(boundaries, count) {

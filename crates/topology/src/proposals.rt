@@ -26,7 +26,9 @@ pub fn allow_proposals(
 )
     requires { ⌜ ((C : Context) × Allows C (now records) (now boundaries) (now marks) (now rows) n) ⌝ }
     requires { ⌜ length (now allowed) ≡ maxProposals ⌝ }
-    ensures { λ _. ⌜ ((C : Context) → Allows C (now (records .entry)) (now (boundaries .entry)) (now (marks .entry)) (now (rows .entry)) n → Allowed C (now (rows .entry)) n (now (allowed .exit))) ⌝ }
+    ensures { λ _. ⌜ ((C : Context) →
+        Allows C (now (records .entry)) (now (boundaries .entry)) (now (marks .entry)) (now (rows .entry)) n →
+        Allowed C (now (rows .entry)) n (now (allowed .exit))) ⌝ }
 {
     let mut k = 0;
     while k < n {
@@ -52,7 +54,10 @@ pub fn remove_junction_boundaries(
 )
     requires { ⌜ ((C : Context) × Passes C (now records) (now boundaries) (now smaller) (now larger) (now counts) (now marks) count regions) ⌝ }
     requires { ⌜ Unmarked (now removed) count ⌝ }
-    ensures { λ _. ⌜ ((C : Context) → Passes C (now (records .entry)) (now (boundaries .entry)) (now (smaller .entry)) (now (larger .entry)) (now (counts .entry)) (now (marks .entry)) count regions → Removes C count (now (removed .exit))) ⌝ }
+    ensures { λ _. ⌜ ((C : Context) →
+        Passes C (now (records .entry)) (now (boundaries .entry)) (now (smaller .entry)) (now (larger .entry)) (now (counts .entry))
+        (now (marks .entry)) count regions →
+        Removes C count (now (removed .exit))) ⌝ }
 {
     let mut rows = [0u32; NUMBERS_PER_PROPOSAL * MAX_PROPOSALS];
     let mut allowed = [false; MAX_PROPOSALS];

@@ -18,7 +18,9 @@ pub fn fill(
     queue: &[u32],
 )
     requires { ⌜ ((M : Map) × Fills M (length (now records)) regions width (now cells) (now labels) (now queue)) ⌝ }
-    ensures { λ _. ⌜ ((M : Map) → Fills M (length (now (records .entry))) regions width (now (cells .entry)) (now (labels .entry)) (now (queue .entry)) → Filled M (now (records .entry)) (now (records .exit))) ⌝ }
+    ensures { λ _. ⌜ ((M : Map) →
+        Fills M (length (now (records .entry))) regions width (now (cells .entry)) (now (labels .entry)) (now (queue .entry)) →
+        Filled M (now (records .entry)) (now (records .exit))) ⌝ }
 {
     let end = walkable_count(cells);
     let mut from = 0;

@@ -31,7 +31,13 @@ same-length-5 : tie.Need-same-length-5
 same-length-5 c = search needs
 
 returns : tie.Need-returns
-returns c = answered _ (c .before .before .before .before .before .before .before .before .before .before .before .before .before .partition .ensures) (ap answerOf (c .before .count .given .1))
+returns c =
+    let at-slice-known10 = c .before .before .before in
+    let at-tallies = at-slice-known10 .before .before .before in
+    let at-queue = at-tallies .before .before in
+    let at-masks = at-queue .before .before in
+    let at-partition = at-masks .before .before .before in
+    answered _ (at-partition .partition .ensures) (ap answerOf (c .before .count .given .1))
 
 same-length-6 : tie.Need-same-length-6
 same-length-6 c = search needs
@@ -49,7 +55,13 @@ same-length-10 : tie.Need-same-length-10
 same-length-10 c = search needs
 
 returns-2 : tie.Need-returns-2
-returns-2 c = answered _ (c .before .before .before .before .before .before .before .before .before .before .before .before .before .partition .ensures) (ap answerOf (c .before .number .given .1))
+returns-2 c =
+    let at-slice-known10 = c .before .before .before in
+    let at-tallies = at-slice-known10 .before .before .before in
+    let at-queue = at-tallies .before .before in
+    let at-masks = at-queue .before .before in
+    let at-partition = at-masks .before .before .before in
+    answered _ (at-partition .partition .ensures) (ap answerOf (c .before .number .given .1))
 
 pub jenwyllt-partition-spec : {M : Type 1} → statement M
 jenwyllt-partition-spec =

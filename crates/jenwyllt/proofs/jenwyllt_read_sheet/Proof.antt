@@ -32,7 +32,12 @@ same-length-4 : tie.Need-same-length-4
 same-length-4 c = search needs
 
 returns : tie.Need-returns
-returns c = sheet-answered (c .before .before .before .before .before .before .before .before .before .before .before .before .read-sheet .ensures) (c .before .before .header .given .1) (c .opened .ensures)
+returns c =
+    let at-match-keys1 = c .before .before .before in
+    let at-slice-known7 = at-match-keys1 .before .before .before in
+    let at-spans = at-slice-known7 .before .before .before in
+    let at-read-sheet = at-spans .before .before .before in
+    sheet-answered (at-read-sheet .read-sheet .ensures) (c .before .before .header .given .1) (c .opened .ensures)
 
 same-length-5 : tie.Need-same-length-5
 same-length-5 c = search needs
@@ -47,7 +52,12 @@ same-length-8 : tie.Need-same-length-8
 same-length-8 c = search needs
 
 returns-2 : tie.Need-returns-2
-returns-2 c = sheet-answered (c .before .before .before .before .before .before .before .before .before .before .before .before .read-sheet .ensures) (c .before .before .number .given .1) (c .refused .ensures)
+returns-2 c =
+    let at-match-keys2 = c .before .before .before in
+    let at-slice-known7 = at-match-keys2 .before .before .before in
+    let at-spans = at-slice-known7 .before .before .before in
+    let at-read-sheet = at-spans .before .before .before in
+    sheet-answered (at-read-sheet .read-sheet .ensures) (c .before .before .number .given .1) (c .refused .ensures)
 
 pub jenwyllt-read-sheet-spec : {M : Type 1} → statement M
 jenwyllt-read-sheet-spec =

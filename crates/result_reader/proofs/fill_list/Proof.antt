@@ -9,7 +9,8 @@ mul-fill-numbers c = omega (arith, c .before .before .before .pre .1)
 
 fill-numbers-requires : tie.Need-fill-numbers-requires
 fill-numbers-requires c κs =
-    let start = c .before .before .before .before in
+    let at-struct-known = c .before in
+    let start = at-struct-known .before .before .before in
     (start .pre .0 .held, start .pre .1)
 
 same-length : tie.Need-same-length

@@ -36,9 +36,16 @@ slice-aggregate-print : tie.Need-slice-aggregate-print
 slice-aggregate-print c = search needs
 
 print-requires : tie.Need-print-requires
-print-requires c κs =
-    let call = c .before .before .before .before .before .before .before .before .before .before .before .before in
-    (ran-fits (ran-says (c .before .before .before .kept .given .1) (call .kept-boundaries-here .ensures .ran)), search needs)
+print-requires c κs = (
+  (
+      let at-kept = c .before .before .before in
+      let at-output2 = at-kept .before .before .before in
+      let at-queue2 = at-output2 .before .before .before in
+      let call = at-queue2 .before .before .before in
+      ran-fits (ran-says (at-kept .kept .given .1) (call .kept-boundaries-here .ensures .ran))
+      ),
+  search needs,
+)
 
 enum-known-number : tie.Need-enum-known-number
 enum-known-number c = search needs
@@ -47,27 +54,40 @@ slice-aggregate-print-2 : tie.Need-slice-aggregate-print-2
 slice-aggregate-print-2 c = search needs
 
 print-requires-2 : tie.Need-print-requires-2
-print-requires-2 c κs =
-    let call = c .before .before .before .before .before .before .before .before .before .before .before .before in
-    (ran-fits (ran-says (c .before .before .before .number .given .1) (call .kept-boundaries-here .ensures .ran)), search needs)
+print-requires-2 c κs = (
+  (
+      let at-number = c .before .before .before in
+      let at-output2 = at-number .before .before .before in
+      let at-queue2 = at-output2 .before .before .before in
+      let call = at-queue2 .before .before .before in
+      ran-fits (ran-says (at-number .number .given .1) (call .kept-boundaries-here .ensures .ran))
+      ),
+  search needs,
+)
 
 same-length : tie.Need-same-length
 same-length c = search needs
 
 returns : tie.Need-returns
 returns c =
-    let printed = c .before .before in
-    let call = printed .before .before .before .before .before .before .before .before .before .before .before .before .before in
-    ran-printed (ran-says (printed .before .before .before .before .kept .given .1) (call .kept-boundaries-here .ensures .ran)) _ refl (printed .print .ensures)
+    let at-print-arg = c .before .before .before in
+    let at-kept = at-print-arg .before .before .before in
+    let at-output2 = at-kept .before .before .before in
+    let at-queue2 = at-output2 .before .before .before in
+    let call = at-queue2 .before .before .before in
+    ran-printed (ran-says (at-kept .kept .given .1) (call .kept-boundaries-here .ensures .ran)) _ refl (c .before .before .print .ensures)
 
 same-length-2 : tie.Need-same-length-2
 same-length-2 c = search needs
 
 returns-2 : tie.Need-returns-2
 returns-2 c =
-    let printed = c .before .before in
-    let call = printed .before .before .before .before .before .before .before .before .before .before .before .before .before in
-    ran-printed (ran-says (printed .before .before .before .before .number .given .1) (call .kept-boundaries-here .ensures .ran)) _ refl (printed .print2 .ensures)
+    let at-print-arg2 = c .before .before .before in
+    let at-number = at-print-arg2 .before .before .before in
+    let at-output2 = at-number .before .before .before in
+    let at-queue2 = at-output2 .before .before .before in
+    let call = at-queue2 .before .before .before in
+    ran-printed (ran-says (at-number .number .given .1) (call .kept-boundaries-here .ensures .ran)) _ refl (c .before .before .print2 .ensures)
 
 pub answer-spec : {M : Type 1} → statement M
 answer-spec =

@@ -7,7 +7,9 @@ use Rattle.sheet_answer.proofs.print.Tie as tie
 
 print-kept-requires : tie.Need-print-kept-requires
 print-kept-requires c κs =
-    let fit = c .before .before .before .before .pre .0 (c .before .if1 .taken) in
+    let at-if1 = c .before in
+    let entry = at-if1 .before .before .before in
+    let fit = entry .pre .0 (at-if1 .if1 .taken) in
     (omega (arith, fit .0), fit .1)
 
 print-refused-requires : tie.Need-print-refused-requires
@@ -17,13 +19,19 @@ same-length : tie.Need-same-length
 same-length c = search needs
 
 returns : tie.Need-returns
-returns c = printed-kept _ _ _ _ (c .before .before .before .before .if1 .taken) (c .before .before .print-kept .ensures .0)
+returns c =
+    let at-out = c .before in
+    let at-if1 = at-out .before .before .before in
+    printed-kept _ _ _ _ (at-if1 .if1 .taken) (c .before .before .print-kept .ensures .0)
 
 same-length-2 : tie.Need-same-length-2
 same-length-2 c = search needs
 
 returns-2 : tie.Need-returns-2
-returns-2 c = printed-refusal _ _ _ _ (c .before .before .before .before .if1 .left) (c .before .before .print-refused .ensures .0)
+returns-2 c =
+    let at-out2 = c .before in
+    let at-if1 = at-out2 .before .before .before in
+    printed-refusal _ _ _ _ (at-if1 .if1 .left) (c .before .before .print-refused .ensures .0)
 
 pub print-spec : {M : Type 1} → statement M
 print-spec =

@@ -12,7 +12,10 @@ same-length : tie.Need-same-length
 same-length c = search needs
 
 returns : tie.Need-returns
-returns c = begun-long _ _ _ _ _ (c .before .before .before .before .if1 .taken) (c .before .before .print-refused .ensures .0)
+returns c =
+    let at-out = c .before in
+    let at-if1 = at-out .before .before .before in
+    begun-long _ _ _ _ _ (at-if1 .if1 .taken) (c .before .before .print-refused .ensures .0)
 
 read-within-requires : tie.Need-read-within-requires
 read-within-requires c κs = search needs
@@ -41,11 +44,23 @@ same-length-4 c = search needs
 same-length-5 : tie.Need-same-length-5
 same-length-5 c = search needs
 
+-- the function's entry, from the state at `if1`
+abbrev to-entry : tie.Else1 → tie.Start
+to-entry c =
+    let at-slice-known5 = c .before in
+    let at-slice-known2 = at-slice-known5 .before .before .before in
+    at-slice-known2 .before .before .before
+
 returns-2 : tie.Need-returns-2
 returns-2 c =
-    let read = c .before .before .before .before .before .before .before .before .before .before .before in
-    let few = read .before .before .before .before .before in
-    begun-read _ _ _ _ _ (few .if1 .left) (few .before .before .before .before .before .before .before .pre .0) (read .read-within .ensures) (c .before .header .given .1)
+    let at-slice-known10 = c .before .before .before in
+    let at-boundaries = at-slice-known10 .before .before .before in
+    let at-spans = at-boundaries .before .before in
+    let read = at-spans .before .before .before in
+    let at-read-within-arg3 = read .before .before in
+    let few = at-read-within-arg3 .before .before .before in
+    let entry = to-entry few in
+    begun-read _ _ _ _ _ (few .if1 .left) (entry .pre .0) (read .read-within .ensures) (c .before .header .given .1)
 
 same-length-6 : tie.Need-same-length-6
 same-length-6 c = search needs
@@ -64,11 +79,17 @@ same-length-10 c = search needs
 
 returns-3 : tie.Need-returns-3
 returns-3 c =
-    let put = c .before .before in
-    let number = put .before .before in
-    let read = number .before .before .before .before .before .before .before .before .before .before .before in
-    let few = read .before .before .before .before .before in
-    begun-refused _ _ _ _ _ (few .if1 .left) (few .before .before .before .before .before .before .before .pre .0) (read .read-within .ensures) _ _ (number .before .number .given .1) (put .print-refused2 .ensures .0)
+    let at-out2 = c .before in
+    let number = at-out2 .before .before .before in
+    let at-number = number .before in
+    let at-anchors = at-number .before .before .before in
+    let at-boundaries = at-anchors .before .before in
+    let at-spans = at-boundaries .before .before in
+    let read = at-spans .before .before .before in
+    let at-read-within-arg3 = read .before .before in
+    let few = at-read-within-arg3 .before .before .before in
+    let entry = to-entry few in
+    begun-refused _ _ _ _ _ (few .if1 .left) (entry .pre .0) (read .read-within .ensures) _ _ (at-number .number .given .1) (c .before .before .print-refused2 .ensures .0)
 
 pub read-spec : {M : Type 1} → statement M
 read-spec =

@@ -1,6 +1,5 @@
 -- `neighbours::find_neighbours` meets its contract. The loop's invariant (`Joined`): the first k pairs are joined, and every region is to itself. Assumes nothing.
 use Prim.Native.Nat.{_-_}
-use native.Mathlib.Omega.{arith}
 use Rattle.game_solver.proofs.Stepping.{Joined, joined-none, joined-more, joined-near}
 use borrow.Author.Needs.{needs}
 use Rattle.game_solver.proofs.neighbours.find_neighbours.Statement.{statement}
@@ -43,7 +42,9 @@ join-pair-requires : tie.Need-join-pair-requires Inv-loop μ-loop
 join-pair-requires c κs =
     let turn = c .before .before .before in
     let head = turn .before in
-    (head .before .before .before .before .pre .0, head .loop .inv .long)
+    let at-join-selves = head .before in
+    let entry = at-join-selves .before .before .before in
+    (entry .pre .0, head .loop .inv .long)
 
 add-k : tie.Need-add-k Inv-loop μ-loop
 add-k c = search needs
@@ -53,8 +54,10 @@ loop-less c = search needs
 
 loop-again : tie.Need-loop-again Inv-loop μ-loop
 loop-again c =
-    let turn = c .before .before .before .before in
-    joined-more _ _ _ _ _ (turn .before .loop .inv) (turn .loop-test .taken) (c .join-pair .ensures .1) (c .join-pair .ensures .0)
+    let at-shared-slice-known3 = c .before in
+    let turn = at-shared-slice-known3 .before .before .before in
+    let at-loop = turn .before in
+    joined-more _ _ _ _ _ (at-loop .loop .inv) (turn .loop-test .taken) (c .join-pair .ensures .1) (c .join-pair .ensures .0)
 
 returns : tie.Need-returns Inv-loop μ-loop
 returns c = (λ goal. joined-near _ _ _ _ goal (c .before .loop .inv) (c .loop-test .left), c .before .loop .inv .long)

@@ -1,7 +1,7 @@
 -- `verdicts::serves` meets its contract, by who is to move. Assumes nothing.
 use Prim.Native.Nat.{suc}
 use native.Mathlib.Omega.{arith}
-use mathlib.Core.Path.{_≡_, sym, ap, _∙_}
+use mathlib.Core.Path.{sym, ap, _∙_}
 use mathlib.Core.Bool.{_&&_}
 use lib.Dec.{eqb, ltb}
 use lib.ListN.{getD}
@@ -29,12 +29,17 @@ element-copy-out-has : tie.Need-element-copy-out-has
 element-copy-out-has c = search needs
 
 has-requires : tie.Need-has-requires
-has-requires c κs = c .before .before .before .before .pre .3
+has-requires c κs =
+    let at-there = c .before in
+    let entry = at-there .before .before .before in
+    entry .pre .3
 
 rank-place-requires-2 : tie.Need-rank-place-requires-2
 rank-place-requires-2 c κs =
-    let chosen = c .before .before .before .before in
-    (chosen .before .pre .0, chosen .before .pre .1, omega arith)
+    let at-rank-place = c .before .before .before in
+    let chosen = at-rank-place .before in
+    let entry = chosen .before in
+    (entry .pre .0, entry .pre .1, omega arith)
 
 mul-result : tie.Need-mul-result
 mul-result c = search needs

@@ -45,8 +45,9 @@ loop-less c = search needs
 loop-again : tie.Need-loop-again Inv-loop μ-loop
 loop-again c =
     let turn = c .before .loop in
-    let start = c .before .before .before .before .args in
-    let n = c .before .before .numbers-of in (
+    let at-numbers-of = c .before .before in
+    let start = at-numbers-of .before .before .args in
+    let n = at-numbers-of .numbers-of in (
       omega arith,
       length-set (turn .numbers) (start .at + turn .i) (getD (n .result) (turn .i) 0) ∙ turn .inv .1,
       ap (λ l. set l (start .at + turn .i) (getD (n .result) (turn .i) 0)) (turn .inv .2)
@@ -59,8 +60,9 @@ same-length c = search needs
 returns : tie.Need-returns Inv-loop μ-loop
 returns c =
     let turn = c .before .loop in
-    let start = c .before .before .before .before .args in
-    turn .inv .2 ∙ numbers-all (start .numbers .now) (start .at) (turn .i) (c .before .before .numbers-of .ensures) (omega arith)
+    let at-numbers-of = c .before .before in
+    let start = at-numbers-of .before .before .args in
+    turn .inv .2 ∙ numbers-all (start .numbers .now) (start .at) (turn .i) (at-numbers-of .numbers-of .ensures) (omega arith)
 
 pub put-numbers-spec : {M : Type 1} → statement M
 put-numbers-spec = tie.close (tie.spec Inv-loop μ-loop numbers-of-requires loop-holds mul-numbers array-read-numbers add-numbers mul-numbers-2 slice-write-numbers add-i loop-less loop-again same-length returns)

@@ -1,5 +1,5 @@
 -- `topology::numbers::put_records` meets its contract. The loop's invariant: the first i records are written, one behind the other, and nothing else. Assumes nothing.
-use Prim.Native.Nat.{_+_, _*_, _-_, _≤_, _<_}
+use Prim.Native.Nat.{_*_, _-_, _≤_, _<_}
 use native.Mathlib.Omega.{arith}
 use mathlib.Core.Path.{_≡_, refl, ap, _∙_}
 use mathlib.Core.List.{map}
@@ -53,10 +53,14 @@ loop-less c = search needs
 
 loop-again : tie.Need-loop-again Inv-loop μ-loop
 loop-again c =
-    let turn = c .before .before .before .before .before .before .loop in
-    let counted = c .before .before .before .before .before .before .before in
-    let start = counted .before .before .before in
     let put = c .before .before .put-numbers in
+    let at-loop =
+    let at-put-numbers = c .before .before in
+    let in-turn = at-put-numbers .before .before .before in
+    in-turn .before in
+    let turn = at-loop .loop in
+    let counted = at-loop .before in
+    let start = counted .before .before .before in
     let inside : turn .i < length (start .args .t1) = omega (arith, counted .least2 .ensures, counted .before .least .ensures, start .good .0) in (
       omega arith,
       search needs,
