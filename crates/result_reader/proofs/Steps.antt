@@ -10,41 +10,28 @@ use Rattle.results.specs.Result.{Entry, outOfTurn, inTurn, turns, ascentFault}
 use Rattle.result_writer.specs.Contract.{turnOf}
 use Rattle.result_writer.specs.declared.Turn.{Turn}
 use Rattle.result_writer.specs.declared.Turn.the-variants.{Started as Next, Out}
-use Rattle.result_reader.specs.Walks.{turnedAt, turnedOf, turnsFrom, keyIn, keyTail, keyNumbers, keyWritten, ascentOf, faultBehind, ascentFrom}
-use Rattle.result_reader.specs.declared.Turned.{Turned}
-use Rattle.result_reader.specs.declared.Turned.the-variants.{Started, OutAt}
+use Rattle.result_reader.specs.Walks.{turnedAt, turnsFrom, keyIn, keyTail, keyNumbers, keyWritten, ascentOf, faultBehind, ascentFrom}
+use Rattle.result_reader.specs.declared.Turned.the-variants.{Started}
 use Rattle.result_reader.specs.declared.Key.{Key}
 use Rattle.result_reader.specs.declared.Ascent.{Ascent}
 use Rattle.result_reader.specs.declared.Ascent.the-variants.{Empty, Last, BrokenAt}
 
 -- ---- labels
 
-turn-step : (regions label place : ℕ) (s : Turned) (es : List Entry)
-    → turnsFrom regions (turnedOf regions s label place) es ≡ turnsFrom regions s (record { place = place; numbers = label ∷ [] } ∷ es)
+turn-step : (regions label place n : ℕ) (es : List Entry)
+    → turnsFrom regions (turnedAt place (turnOf regions n label)) es ≡ turnsFrom regions (Started n) (record { place = place; numbers = label ∷ [] } ∷ es)
 unfolding turnsFrom turns
-turn-step regions label place (Started n) es = go (leb label n) (inTurn regions n label)
+turn-step regions label place n es = go (leb label n) (inTurn regions n label)
   where
     go : (t u : Bool) → turnsFrom regions (turnedAt place (cond t (Next n) (cond u (Next (n + 1)) Out))) es
         ≡ cond t (turns regions n es) (cond u (turns regions (n + 1) es) (outOfTurn place))
     go true u = refl
     go false true = refl
     go false false = refl
-turn-step regions label place (OutAt first) es = refl
 
-pub turn-next : (regions label place : ℕ) (s t : Turned) → t ≡ turnedOf regions s label place → (es : List Entry)
-    → turnsFrom regions t es ≡ turnsFrom regions s (record { place = place; numbers = label ∷ [] } ∷ es)
-turn-next regions label place s t e es = ap (λ u. turnsFrom regions u es) e ∙ turn-step regions label place s es
-
-pub turned-started : (regions label place : ℕ) {n m : ℕ} {state : Turned} {turn : Turn} → state ≡ Started n → turn ≡ turnOf regions n label → turn ≡ Next m
-    → Started m ≡ turnedOf regions state label place
-turned-started regions label place e f g = sym (ap (λ s. turnedOf regions s label place) e ∙ ap (turnedAt place) (sym f ∙ g))
-
-pub turned-out : (regions label place : ℕ) {n : ℕ} {state : Turned} {turn : Turn} → state ≡ Started n → turn ≡ turnOf regions n label → turn ≡ Out
-    → OutAt place ≡ turnedOf regions state label place
-turned-out regions label place e f g = sym (ap (λ s. turnedOf regions s label place) e ∙ ap (turnedAt place) (sym f ∙ g))
-
-pub turned-broken : (regions label place : ℕ) {first : ℕ} {state : Turned} → state ≡ OutAt first → OutAt first ≡ turnedOf regions state label place
-turned-broken regions label place e = sym (ap (λ s. turnedOf regions s label place) e)
+pub turn-next : (regions label place n : ℕ) {turn told : Turn} → turn ≡ turnOf regions n label → turn ≡ told → (es : List Entry)
+    → turnsFrom regions (turnedAt place told) es ≡ turnsFrom regions (Started n) (record { place = place; numbers = label ∷ [] } ∷ es)
+turn-next regions label place n e g es = ap (λ t. turnsFrom regions (turnedAt place t) es) (sym g ∙ e) ∙ turn-step regions label place n es
 
 -- ---- pairs and rows
 

@@ -10,7 +10,6 @@ use Rattle.definitions.specs.Limits.{numbersPerPair, numbersPerRow}
 use Rattle.definitions.specs.SheetNumber.{Read, found, failed}
 use Rattle.definitions.specs.Sort.{listLt}
 use Rattle.results.specs.Result.{Entry, Turns, outOfTurn, timesEntry, turns, ascentFault, pairKey, rowKey}
-use Rattle.result_writer.specs.Contract.{turnOf}
 use Rattle.result_writer.specs.declared.Turn.{Turn}
 use Rattle.result_writer.specs.declared.Turn.the-variants.{Started as Next, Out}
 use Rattle.result_reader.specs.declared.Turned.{Turned}
@@ -56,14 +55,10 @@ module _ {S X : Type 0} (from : S → List Entry → X) (size : ℕ) (bytes : Li
 
 -- ---- labels
 
+-- one label more, at this place
 abbrev pub turnedAt : ℕ → Turn → Turned
 turnedAt place (Next n) = Started n
 turnedAt place Out = OutAt place
-
--- one label more
-abbrev pub turnedOf : ℕ → Turned → ℕ → ℕ → Turned
-turnedOf regions (Started n) label place = turnedAt place (turnOf regions n label)
-turnedOf regions (OutAt first) label place = OutAt first
 
 unfoldable pub turnsFrom : ℕ → Turned → List Entry → Turns
 unfolding turns

@@ -4,7 +4,7 @@
 ghost use mathlib.Core.Path.{_≡_};
 ghost use mathlib.Core.Bool.{true, false};
 ghost use mathlib.Core.List.{[]};
-ghost use Prim.Native.Nat.{_*_, _≤_};
+ghost use Prim.Native.Nat.{ℕ, _*_, _≤_};
 ghost use lib.ListN.{length, drop};
 ghost use Rattle.definitions.specs.Limits.{talliesPerSpan, numbersPerPair, numbersPerRow};
 ghost use Rattle.definitions.specs.Lists.{overwrite};
@@ -14,11 +14,11 @@ ghost use Rattle.definitions.specs.Sheet.{times};
 ghost use Rattle.definitions.specs.Sort.{listLt};
 ghost use Rattle.sheet.specs.Numbers.{itemsAt, Told};
 ghost use Rattle.results.specs.Result.{labelsFault};
-ghost use Rattle.result_reader.specs.Walks.{turnedOf, turnsFrom, turnsWalk, Walks};
+ghost use Rattle.result_reader.specs.Walks.{turnsFrom, turnsWalk, Walks};
 ghost use Rattle.result_reader.specs.Walks.{keyTail, keyNumbers, keySize, twoOf, keyOf, ascentOf, ascentFrom, ascentWalk};
 ghost use Rattle.result_reader.specs.Parts.{breachOf, turnsFault, noFault, keyFault, ListTold, OpeningTold, FrontTold, BackTold, ResultTold};
 ghost use Rattle.result_reader.specs.Parts.{planBy, PlanHeld, PartHeld, partNumbers, roomIn, Room};
-ghost use Rattle.result_reader.specs.declared.Turned.the-variants.{Started};
+ghost use Rattle.result_reader.specs.declared.Turned.the-variants.{Started, OutAt};
 ghost use Rattle.result_reader.specs.declared.Ascent.the-variants.{Empty};
 ghost use Rattle.result_reader.specs.Contract.{answerIn, refusedAt, Reads};
 use result_writer::Turn;
@@ -40,23 +40,21 @@ pub enum Turned {
     OutAt(usize),
 }
 
-// One label more, at this place.
-fn turn(state: Turned, regions: u64, label: u64, place: usize) -> Turned
-    ensures { λ r. ⌜ r ≡ turnedOf regions state label place ⌝ }
-{
-    match state {
-        Turned::Started(n) => match after_label(regions, n, label) {
-            Turn::Started(m) => Turned::Started(m),
-            Turn::Out => Turned::OutAt(place),
-        },
-        Turned::OutAt(first) => Turned::OutAt(first),
-    }
-}
-
 // The offset behind the labels and how far they are in turn; or the place where the sheet is refused 14.
 pub enum TurnsRead {
     Turns(usize, Turned),
     Fault(usize),
+}
+
+// Walks `count` labels behind one that is out of turn: no rule is asked of them.
+fn walk_behind(bytes: &[u8], at: usize, count: u64, place: usize) -> TurnsRead
+    requires { ⌜ at ≤ length (now bytes) ⌝ }
+    ensures { λ r. ⌜ ((regions : ℕ) → Walks (turnsFrom regions) 1 (now (bytes .entry)) (OutAt place) at count (turnsWalk r)) ⌝ }
+{
+    match judge(bytes, at, count as usize, MOST) {
+        Judged::Behind(next) => TurnsRead::Turns(next, Turned::OutAt(place)),
+        Judged::Faulty(fault) => TurnsRead::Fault(fault),
+    }
 }
 
 // Walks `count` labels.
@@ -66,20 +64,25 @@ fn walk_labels(bytes: &[u8], at: usize, count: u64, regions: u64) -> TurnsRead
 {
     let mut next = at;
     let mut left = count;
-    let mut state = Turned::Started(0);
+    let mut started: u64 = 0;
     while 0 < left {
         left -= 1;
         match item(bytes, next, MOST) {
-            ItemRead::Item(label, behind) => {
-                state = turn(state, regions, label, next);
-                next = behind;
-            }
+            ItemRead::Item(label, behind) => match after_label(regions, started, label) {
+                Turn::Started(n) => {
+                    started = n;
+                    next = behind;
+                }
+                Turn::Out => {
+                    return walk_behind(bytes, behind, left, next);
+                }
+            },
             ItemRead::Fault(place) => {
                 return TurnsRead::Fault(place);
             }
         }
     }
-    TurnsRead::Turns(next, state)
+    TurnsRead::Turns(next, Turned::Started(started))
 }
 
 // ---- pairs and rows

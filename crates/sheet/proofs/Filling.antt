@@ -22,15 +22,21 @@ held-length {item} {bytes} {at} {count} H = go (times count item at (drop at byt
     go (found values next rest) e h = times-length item count at (drop at bytes) e
     go (failed refusal place) e h = absurd (let z : _≡_ {A = ℕ} 0 1 = cc in omega arith)
 
-pub record Filling (item : Reader ℕ) (bytes out₀ : List ℕ) (at count : ℕ) (out : List ℕ) (next i : ℕ) : Type 0 where
+-- `goal` is the list that is wanted
+pub record Filling (item : Reader ℕ) (bytes out₀ goal : List ℕ) (count : ℕ) (out : List ℕ) (next i : ℕ) : Type 0 where
   pub few : i ≤ count
   pub held : Held item bytes next (count - i)
   pub long : length out ≡ length out₀
   pub room : count ≤ length out₀
-  pub same : sets out i (valuesAt item bytes next (count - i)) ≡ overwrite (valuesAt item bytes at count) out₀
+  pub same : sets out i (valuesAt item bytes next (count - i)) ≡ goal
 
 module _ {item : Reader ℕ} {bytes out₀ : List ℕ} {at count : ℕ} where
-  pub filling-starts : Held item bytes at count → count ≤ length out₀ → Filling item bytes out₀ at count out₀ at 0
+  -- from place i on
+  pub filling-from : {i : ℕ} → i ≤ count → Held item bytes at (count - i) → count ≤ length out₀
+      → Filling item bytes out₀ (sets out₀ i (valuesAt item bytes at (count - i))) count out₀ at i
+  filling-from h H k = record { few = h; held = H; long = refl; room = k; same = refl }
+
+  pub filling-starts : Held item bytes at count → count ≤ length out₀ → Filling item bytes out₀ (overwrite (valuesAt item bytes at count) out₀) count out₀ at 0
   filling-starts H h =
       let e : count - 0 ≡ count = omega arith in
       let l : length (valuesAt item bytes at count) ≡ count = held-length H in
@@ -42,12 +48,16 @@ module _ {item : Reader ℕ} {bytes out₀ : List ℕ} {at count : ℕ} where
         same = rw e (sets-eq (valuesAt item bytes at count) out₀ 0 (omega arith) ∙ ap (λ n. valuesAt item bytes at count ++ drop n out₀) (zero-add (length (valuesAt item bytes at count))));
       }
 
-  module _ {out : List ℕ} {next i : ℕ} (F : Filling item bytes out₀ at count out next i) where
-    pub filling-ends : count ≤ i → out ≡ overwrite (valuesAt item bytes at count) out₀
+module _ {item : Reader ℕ} {bytes out₀ goal : List ℕ} {count : ℕ} where
+  module _ {out : List ℕ} {next i : ℕ} (F : Filling item bytes out₀ goal count out next i) where
+    pub filling-ends : count ≤ i → out ≡ goal
     unfolding itemsAt times
     filling-ends h =
         let e : count - i ≡ 0 = omega arith in
         (rw e at (F .same))
+
+    pub filling-room : count ≤ length out
+    filling-room = omega (arith, F .room, F .long)
 
     module _ (h : i < count) where
       one-more : suc (count - (i + 1)) ≡ count - i
@@ -61,14 +71,22 @@ module _ {item : Reader ℕ} {bytes out₀ : List ℕ} {at count : ℕ} where
           let z : _≡_ {A = ℕ} 0 1 = cc (F .held .all) in
           omega arith
 
-      pub filling-goes-on : Keeps item → {value behind : ℕ} → item next (drop next bytes) ≡ found value behind (drop behind bytes) → Filling item bytes out₀ at count (set out i value) behind (i + 1)
+      pub filling-held : Held item bytes next 1
+      unfolding itemsAt times
+      filling-held = go (item next (drop next bytes)) refl
+        where
+          go : (r : Read ℕ) → item next (drop next bytes) ≡ r → Held item bytes next 1
+          go (found value behind rest) e = record { inside = F .held .inside; all = ap isFound (times-found item 0 next (drop next bytes) e) }
+          go (failed refusal place) e = absurd (filling-never-stops e)
+
+      pub filling-goes-on : Keeps item → {value behind : ℕ} → item next (drop next bytes) ≡ found value behind (drop behind bytes) → Filling item bytes out₀ goal count (set out i value) behind (i + 1)
       unfolding itemsAt
       filling-goes-on k {value} {behind} e = go (times (count - (i + 1)) item behind (drop behind bytes)) refl
         where
           begun : times (count - i) item next (drop next bytes) ≡ andThen (times (count - (i + 1)) item behind (drop behind bytes)) (λ values. give (value ∷ values))
           begun = ap (λ n. times n item next (drop next bytes)) (sym one-more) ∙ times-found item (count - (i + 1)) next (drop next bytes) e
 
-          go : (r : Read (List ℕ)) → times (count - (i + 1)) item behind (drop behind bytes) ≡ r → Filling item bytes out₀ at count (set out i value) behind (i + 1)
+          go : (r : Read (List ℕ)) → times (count - (i + 1)) item behind (drop behind bytes) ≡ r → Filling item bytes out₀ goal count (set out i value) behind (i + 1)
           go (found values last rest) q =
               let v : valuesIn (times (count - i) item next (drop next bytes)) ≡ value ∷ values = ap valuesIn (begun ∙ ap (λ r. andThen r (λ values. give (value ∷ values))) q) in
               record {

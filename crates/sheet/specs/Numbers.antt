@@ -5,12 +5,14 @@ use mathlib.Core.Bool.{Bool, true, false}
 use mathlib.Core.List.{List, []}
 use lib.ListN.{length, drop}
 use lib.Dec.{leb}
-use Rattle.definitions.specs.SheetNumber.{Read, found, failed}
+use Rattle.definitions.specs.SheetNumber.{Read, found, failed, number}
 use Rattle.definitions.specs.Sheet.{Reader, judged, times}
 use Rattle.sheet.specs.declared.NumberRead.{NumberRead}
 use Rattle.sheet.specs.declared.NumberRead.the-variants.{Value, Bad, Short}
 use Rattle.sheet.specs.declared.ItemRead.{ItemRead}
 use Rattle.sheet.specs.declared.ItemRead.the-variants.{Item, Fault}
+use Rattle.sheet.specs.declared.ShortRead.{ShortRead}
+use Rattle.sheet.specs.declared.ShortRead.the-variants.{Number, Longer}
 use Rattle.sheet.specs.declared.Judged.{Judged}
 use Rattle.sheet.specs.declared.Judged.the-variants.{Behind, Faulty}
 
@@ -28,6 +30,11 @@ upTo most = judged (λ value. leb value most)
 abbrev pub itemOf : List ℕ → ItemRead → Read ℕ
 itemOf bytes (Item value next) = found value next (drop next bytes)
 itemOf bytes (Fault place) = failed 14 place
+
+-- a number of one byte or of two is what the grammar reads there; of a longer one nothing is said
+abbrev pub ShortTold : List ℕ → ℕ → ShortRead → Type 0
+ShortTold bytes at (Number value next) = number at (drop at bytes) ≡ found value next (drop next bytes)
+ShortTold bytes at Longer = Unit {0}
 
 -- ---- runs
 

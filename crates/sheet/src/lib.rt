@@ -1,7 +1,7 @@
 // The reader of a sheet of kind 1 or 3: what the bytes hold, or why they are refused. All bytes are judged before a list is filled, so a refusal leaves
 // every lent list as it was. A sheet of kind 3 holds no spans: they are filled from its boundaries.
 ghost use mathlib.Core.Path.{_≡_};
-ghost use Prim.Native.Nat.{_+_, _*_, _≤_, _<_};
+ghost use Prim.Native.Nat.{_+_, _-_, _*_, _≤_, _<_};
 ghost use mathlib.Core.Bool.{_&&_, cond};
 ghost use lib.Dec.{leb, ltb};
 ghost use lib.ListN.{length, drop};
@@ -11,7 +11,7 @@ ghost use Rattle.definitions.specs.Lists.{overwrite};
 ghost use Rattle.definitions.specs.Limits.{isSide};
 ghost use Rattle.definitions.specs.Grid.{segmentAt};
 ghost use Rattle.definitions.specs.Sheet.{cell, entries, isMapKind, hasSpans, spansHeld, spansStated, endpoints, endpointsIn, readVerdict};
-ghost use Rattle.sheet.specs.Numbers.{numberOf, upTo, itemOf, itemsAt, Told, Held, valuesAt};
+ghost use Rattle.sheet.specs.Numbers.{numberOf, upTo, itemOf, itemsAt, Told, ShortTold, Held, valuesAt};
 ghost use Rattle.sheet.specs.Parts as parts;
 ghost use Rattle.sheet.specs.Parts.{openingOf, SidesTold, PartTold, ListsTold, SheetTold, PartsHeld, partOf, cellsIn, statedLong, roomIn, Room};
 ghost use Rattle.sheet.specs.Answers.{headerIn, Answered, readingWithin};
@@ -147,7 +147,46 @@ pub fn judge(bytes: &[u8], at: usize, count: usize, most: u64) -> Judged
     Judged::Behind(next)
 }
 
-// Stores `count` numbers that were judged before.
+// A number of one byte or of two, with the offset behind it; or that the number there is longer.
+enum ShortRead {
+    Number(u64, usize),
+    Longer,
+}
+
+// The number at an offset where one was judged before: its bytes are there, and its last one is not a 0 that pads it.
+fn short_at(bytes: &[u8], at: usize) -> ShortRead
+    requires { ⌜ Held grammar.number (now bytes) at 1 ⌝ }
+    ensures { λ r. ⌜ ShortTold (now (bytes .entry)) at r ⌝ }
+{
+    let first = wide(bytes[at]);
+    if first < 128 {
+        return ShortRead::Number(first, at + 1);
+    }
+    let second = wide(bytes[at + 1]);
+    if second < 128 {
+        return ShortRead::Number(first % 128 + second * 128, at + 2);
+    }
+    ShortRead::Longer
+}
+
+// Stores numbers that were judged before, from place `first` of the list up to `count`.
+fn fill_rest(bytes: &[u8], at: usize, first: usize, count: usize, out: &mut [u64])
+    requires { ⌜ (Held grammar.number (now bytes) at (count - first)) × (first ≤ count) × (count ≤ length (now out)) ⌝ }
+    ensures { λ r. ⌜ now (out .exit) ≡ sets (now (out .entry)) first (valuesAt grammar.number (now (bytes .entry)) at (count - first)) ⌝ }
+{
+    let mut next = at;
+    let mut i = first;
+    while i < count {
+        let ItemRead::Item(value, behind) = item(bytes, next, MOST) else {
+            return;
+        };
+        out[i] = value;
+        next = behind;
+        i += 1;
+    }
+}
+
+// Stores `count` numbers that were judged before. Short ones are stored in a loop of their own, which is left at the first that is longer.
 pub fn fill_numbers(bytes: &[u8], at: usize, count: usize, out: &mut [u64])
     requires { ⌜ (Held grammar.number (now bytes) at count) × (count ≤ length (now out)) ⌝ }
     ensures { λ r. ⌜ now (out .exit) ≡ overwrite (valuesAt grammar.number (now (bytes .entry)) at count) (now (out .entry)) ⌝ }
@@ -155,7 +194,8 @@ pub fn fill_numbers(bytes: &[u8], at: usize, count: usize, out: &mut [u64])
     let mut next = at;
     let mut i = 0;
     while i < count {
-        let ItemRead::Item(value, behind) = item(bytes, next, MOST) else {
+        let ShortRead::Number(value, behind) = short_at(bytes, next) else {
+            fill_rest(bytes, next, i, count, &mut *out);
             return;
         };
         out[i] = value;

@@ -4,15 +4,16 @@ use Prim.Native.Nat.{_-_}
 use mathlib.Core.Path.{ap, _∙_}
 use native.Mathlib.Omega.{arith}
 use borrow.Author.Needs.{needs}
+use Rattle.definitions.specs.Lists.{overwrite}
 use Rattle.definitions.specs.Sheet.{cell}
-use Rattle.sheet.specs.Numbers.{itemOf}
+use Rattle.sheet.specs.Numbers.{itemOf, valuesAt}
 use Rattle.sheet.proofs.Items.{as-cell, upTo-most, keeps-cell}
 use Rattle.sheet.proofs.Filling.{Filling, filling-starts, filling-ends, filling-never-stops, filling-goes-on}
 use Rattle.sheet.proofs.fill_cells.Statement.{statement}
 use Rattle.sheet.proofs.fill_cells.Tie as tie
 
 abbrev Inv-loop : tie.InvT-loop
-Inv-loop bytes at count out₀ next₀ i₀ out next i = Filling cell bytes out₀ at count out next i
+Inv-loop bytes at count out₀ next₀ i₀ out next i = Filling cell bytes out₀ (overwrite (valuesAt cell bytes at count) out₀) count out next i
 
 abbrev μ-loop : tie.MeasureT-loop
 μ-loop bytes at count out₀ next₀ i₀ out next i = count - i

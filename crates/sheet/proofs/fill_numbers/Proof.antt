@@ -1,18 +1,18 @@
--- `sheet::fill_numbers` meets its contract. The loop's invariant is `Filling`: storing the numbers that are left makes the list that is wanted. What was judged is
--- not refused, so the loop is not left early. The measure is how many are left. Assumes nothing.
+-- `sheet::fill_numbers` meets its contract. The loop's invariant is `Filling`: storing the numbers that are left makes the list that is wanted. Where the loop is
+-- left early, `fill_rest` stores them. The measure is how many are left. Assumes nothing.
 use Prim.Native.Nat.{_-_}
-use mathlib.Core.Path.{ap, _∙_}
+use mathlib.Core.Path.{_∙_, subst}
 use borrow.Author.Needs.{needs}
 use Rattle.definitions.specs.SheetNumber.{number}
-use Rattle.sheet.specs.Numbers.{itemOf}
+use Rattle.definitions.specs.Lists.{overwrite}
+use Rattle.sheet.specs.Numbers.{valuesAt, ShortTold}
 use Rattle.laws.specs.SheetReading.SheetLaws.{keeps-number}
-use Rattle.sheet.proofs.Items.{as-number}
-use Rattle.sheet.proofs.Filling.{Filling, filling-starts, filling-ends, filling-never-stops, filling-goes-on}
+use Rattle.sheet.proofs.Filling.{Filling, filling-starts, filling-ends, filling-room, filling-held, filling-goes-on}
 use Rattle.sheet.proofs.fill_numbers.Statement.{statement}
 use Rattle.sheet.proofs.fill_numbers.Tie as tie
 
 abbrev Inv-loop : tie.InvT-loop
-Inv-loop bytes at count out₀ next₀ i₀ out next i = Filling number bytes out₀ at count out next i
+Inv-loop bytes at count out₀ next₀ i₀ out next i = Filling number bytes out₀ (overwrite (valuesAt number bytes at count) out₀) count out next i
 
 abbrev μ-loop : tie.MeasureT-loop
 μ-loop bytes at count out₀ next₀ i₀ out next i = count - i
@@ -20,8 +20,8 @@ abbrev μ-loop : tie.MeasureT-loop
 loop-holds : tie.Need-loop-holds Inv-loop μ-loop
 loop-holds c = filling-starts (c .before .before .pre .0) (c .before .before .pre .1)
 
-item-requires : tie.Need-item-requires Inv-loop μ-loop
-item-requires c κs = c .before .loop .inv .held .inside
+short-at-requires : tie.Need-short-at-requires Inv-loop μ-loop
+short-at-requires c κs = filling-held (c .before .loop .inv) (c .loop-test .taken)
 
 enum-known-value : tie.Need-enum-known-value Inv-loop μ-loop
 enum-known-value c = c .match .keys1
@@ -29,19 +29,21 @@ enum-known-value c = c .match .keys1
 enum-told : tie.Need-enum-told Inv-loop μ-loop
 enum-told c = c .match .keys2
 
+fill-rest-requires : tie.Need-fill-rest-requires Inv-loop μ-loop
+fill-rest-requires c κs =
+    let read = c .before .before .before in
+    let filling = read .before .before .loop .inv in
+    (filling .held, filling .few, filling-room filling)
+
 same-length : tie.Need-same-length Inv-loop μ-loop
-same-length c =
-    let at-match-keys2 = c .before in
-    let at-loop = at-match-keys2 .before .before .before in
-    at-loop .loop .inv .long
+same-length c = search needs
 
 returns : tie.Need-returns Inv-loop μ-loop
 returns c =
-    let at-match-keys2 = c .before in
-    let at-loop = at-match-keys2 .before .before .before in
-    absurd
-    (filling-never-stops (at-loop .loop .inv) (c .before .before .before .loop-test .taken)
-    (as-number _ _ (c .before .before .item .ensures ∙ ap (itemOf _) (c .enum-told .given .1))))
+    let stored = c .before .before in
+    let longer = stored .before .before in
+    let read = longer .before .before in
+    stored .fill-rest .ensures ∙ read .before .before .loop .inv .same
 
 mul-out : tie.Need-mul-out Inv-loop μ-loop
 mul-out c = search needs
@@ -57,11 +59,10 @@ loop-less c = search needs
 
 loop-again : tie.Need-loop-again Inv-loop μ-loop
 loop-again c =
-    let at-value = c .before in
-    let turn = at-value .before .before .before in
-    let at-loop = turn .before in
-    filling-goes-on (at-loop .loop .inv) (turn .loop-test .taken) keeps-number
-    (as-number _ _ (c .before .before .before .item .ensures ∙ ap (itemOf _) (at-value .value .given .1)))
+    let known = c .before in
+    let read = known .before .before in
+    let turn = read .before in
+    filling-goes-on (turn .before .loop .inv) (turn .loop-test .taken) keeps-number (subst (ShortTold _ _) (known .value .given .1) (read .short-at .ensures))
 
 same-length-2 : tie.Need-same-length-2 Inv-loop μ-loop
 same-length-2 c = c .before .loop .inv .long
@@ -76,9 +77,10 @@ fill-numbers-spec =
     Inv-loop
     μ-loop
     loop-holds
-    item-requires
+    short-at-requires
     enum-known-value
     enum-told
+    fill-rest-requires
     same-length
     returns
     mul-out
