@@ -6,6 +6,7 @@ from .hypotenuse import hypot, hypotenuse
 from .kept import Kept, Region, Row, kept_boundaries
 from .partition import Pair, Partition, Tally, partition
 from .pool import Date, Entry, Term, maps_of_day
+from .ranked import Ranked, RankedProposal, ranked_junctions
 from .refusal import Cause, Refusal
 from .report import Figures, Mean, Report, empty_report, mean_kept, report_run
 from .results import RunResult, read_result, write_result
@@ -14,6 +15,6 @@ from .sheet import Boundary, Kind, Point, Sheet, Span, read_sheet, sheet_bytes
 
 __version__ = '0.2.0'
 __all__ = [
-    'Accession', 'Boundary', 'Cause', 'Date', 'Dominance', 'Entry', 'Figures', 'Kept', 'Kind', 'Mean', 'NotBuilt', 'Pair', 'Partition', 'Point', 'Refusal', 'Region', 'Report', 'Row', 'RunResult',
-    'Separation', 'Share', 'Sheet', 'Span', 'Tally', 'Term', 'dominance', 'empty_report', 'hypot', 'hypotenuse', 'kept_boundaries', 'maps_of_day', 'mean_kept', 'partition', 'read_result',
+    'Accession', 'Boundary', 'Cause', 'Date', 'Dominance', 'Entry', 'Figures', 'Kept', 'Kind', 'Mean', 'NotBuilt', 'Pair', 'Partition', 'Point', 'Ranked', 'RankedProposal', 'Refusal', 'Region', 'Report', 'Row', 'RunResult',
+    'Separation', 'Share', 'Sheet', 'Span', 'Tally', 'Term', 'dominance', 'empty_report', 'hypot', 'hypotenuse', 'kept_boundaries', 'maps_of_day', 'mean_kept', 'partition', 'ranked_junctions', 'read_result',
     'read_sheet', 'report_line', 'report_run', 'separations', 'sheet_bytes', 'write_result']

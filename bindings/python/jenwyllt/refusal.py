@@ -24,6 +24,7 @@ class Cause(enum.IntEnum):
     ACCESSION = 17
     DATE = 18
     TERM = 19
+    RANKED = 21
 
 
 WORDS: dict[int, str] = {
@@ -45,6 +46,7 @@ WORDS: dict[int, str] = {
     Cause.ACCESSION: 'the accession record breaks a rule',
     Cause.DATE: 'a date of the term, or at the number of terms the day asked for, is not a day from 2000 to 2099',
     Cause.TERM: 'the term is empty or overlaps an earlier term of its map',
+    Cause.RANKED: 'there are more proposals than rows of the ranked list',
 }
 
 

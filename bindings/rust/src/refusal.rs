@@ -51,6 +51,7 @@ causes! {
     Accession = 17, "the accession record breaks a rule";
     Date = 18, "a date of the term, or at the number of terms the day asked for, is not a day from 2000 to 2099";
     Term = 19, "the term is empty or overlaps an earlier term of its map";
+    Ranked = 21, "there are more proposals than rows of the ranked list";
 }
 
 /// A refusal: the number of its cause, and the place of the first fault (the span, boundary, anchor, cell or byte), 0 where the
