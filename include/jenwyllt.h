@@ -1,4 +1,4 @@
-/* Regions of a walk grid cut by spans, the boundaries that a pass keeps, how far boundaries are apart, the reader, the writer and the converter of sheets, the writer of
+/* Regions of a walk grid cut by spans, the boundaries that a pass keeps, the ranked junction list, how far boundaries are apart, the reader, the writer and the converter of sheets, the writer of
    result sheets,   the line of an accession record, the maps in the pool on a day, the year's figures, the share behind dominance, and the correctly rounded hypotenuse.
    The library is for x86-64 Linux: libjenwyllt.a and libjenwyllt.so, which tools/build_library.sh writes to target/lib. It keeps no state and allocates
    nothing; from outside it needs only `memset`.
@@ -32,6 +32,7 @@ enum jenwyllt_size {
     JENWYLLT_ACCESSION_NUMBERS = 4,
     JENWYLLT_TERM_NUMBERS = 7,
     JENWYLLT_ENTRY_NUMBERS = 4,
+    JENWYLLT_RANKED_NUMBERS = 6,
     JENWYLLT_PIXELS_PER_CELL = 8,
     JENWYLLT_MOST_SIDE = 1024,
     JENWYLLT_MOST_ENTRIES = 256
@@ -58,6 +59,7 @@ enum jenwyllt_refusal {
     JENWYLLT_ACCESSION = 17,
     JENWYLLT_DATE = 18,
     JENWYLLT_TERM = 19,
+    JENWYLLT_RANKED = 21,
     JENWYLLT_TWO_LISTS = 22
 };
 
@@ -168,6 +170,47 @@ struct jenwyllt_answer jenwyllt_kept_boundaries(
     uint32_t *pairs, size_t pairs_length,
     struct jenwyllt_region *records, size_t records_length,
     uint64_t *output, size_t output_length);
+
+/* Number 0, a count of rows kept and a count of proposals; or a refusal's number and place, and 0. */
+struct jenwyllt_ranked_answer {
+    uint64_t number;
+    uint64_t value;
+    uint64_t proposals;
+};
+
+/* A call of pass 3 that also gives its ranked list: every proposal that reaches the ranking, in rank order, with what became of it. It is the greedy choice step
+   by step: from the first rank on each proposal is taken that conflicts with none taken before.
+
+   Read, and filled, as for `jenwyllt_kept_boundaries` with pass 3, and besides:
+     ranked      rows of 6, rank 0 first: kind (0 a union, 1 a bridge), boundary, two regions (of a union its pair, the smaller first; of a bridge its pocket and
+                 the exterior), 1 where the proposal was taken and 0 where it was refused, and the rank of the earliest taken proposal that it conflicts with, 0
+                 for a taken one. That rank is below its own. Rows that are not needed stay as they were. There are at most 426.
+
+   The ports of a proposal are in the rows of pairs: of a union all boundaries of its two regions but its own, of a bridge all three of its pocket. Taken proposals
+   have no port in common, none's boundary is another's port, and the boundaries of the taken ones are those that pass 3 removes. Where there are not as many
+   boundaries as spans, there is no proposal.
+
+   Number 0: the value is the count of rows of the output, and so many proposals stand in the list. Otherwise the number says why not: one of those of
+   `jenwyllt_kept_boundaries` but 4, with the same place and the same lists at exit and the ranked list as it was; or, behind all others,
+
+     number  cause                                                                            value
+     21      there are more proposals than rows of the ranked list                            0
+
+   With 21 the ranked list is zero over its whole length, the output stays as it was, and the other lists are as on success. */
+struct jenwyllt_ranked_answer jenwyllt_ranked_junctions(
+    uint64_t width, uint64_t height,
+    const uint8_t *cells, size_t cells_length,
+    const uint64_t *spans, size_t spans_length,
+    const uint64_t *boundaries, size_t boundaries_length,
+    const uint64_t *anchors, size_t anchors_length,
+    uint32_t *labels, size_t labels_length,
+    uint16_t *masks, size_t masks_length,
+    uint32_t *queue, size_t queue_length,
+    uint32_t *tallies, size_t tallies_length,
+    uint32_t *pairs, size_t pairs_length,
+    struct jenwyllt_region *records, size_t records_length,
+    uint64_t *output, size_t output_length,
+    uint32_t *ranked, size_t ranked_length);
 
 /* The separation of each two boundaries of a map: the distance of the two segments in pixels, as pass 1 works it out in doubles, and the square of the exact
    distance as a fraction of whole numbers. A separation is within 2^-32 pixel of the root of its fraction, and 0.0 exactly when the two share a point;

@@ -17,7 +17,24 @@ fn main() {
     let crate_modules = copy(&from, &to, "pub", &["areas"]);
     let topology_modules = copy(&from, &to, "mod", &["topology/context", "topology/ramp_boundaries", "topology/junctions"]);
     write(&to.join("crate_modules.rs"), &crate_modules);
-    write(&to.join("topology_modules.rs"), &topology_modules);
+    write(&to.join("topology_modules.rs"), &(topology_modules + &watched(&to)));
+}
+
+/// A second copy of the junction pass, with a line behind its sort and a module below it, and the lines that declare it. What pass 3 answers comes from the copy that has
+/// neither.
+fn watched(to: &Path) -> String {
+    println!("cargo::rerun-if-changed=src/topology/ranking.rs");
+    let text =
+        fs::read_to_string(to.join("junctions.rs")).unwrap_or_else(|error| stop(&format!("cannot read the copy: {error}")));
+    let behind_sort = "    });\n\n    let mut removed = BTreeSet::new();\n";
+    if text.matches(behind_sort).count() != 1 {
+        stop("the sort of select_proposals does not stand where it did");
+    }
+    let seen = text.replace(behind_sort, "    });\n    ranking::seen(&ranked);\n\n    let mut removed = BTreeSet::new();\n");
+    let ranking = Path::new(&env::var_os("CARGO_MANIFEST_DIR").expect("cargo sets it")).join("src/topology/ranking.rs");
+    let target = to.join("watched_junctions.rs");
+    write(&target, &format!("{seen}\n#[path = {:?}]\npub mod ranking;\n", ranking.display().to_string()));
+    format!("#[allow(dead_code)]\n#[path = {:?}]\nmod watched_junctions;\n", target.display().to_string())
 }
 
 /// Copies each named file and returns the lines that declare them as modules.

@@ -6,6 +6,7 @@ mod hypotenuse;
 mod maps;
 mod ours;
 mod pool;
+mod ranked;
 mod stack;
 mod timing;
 
@@ -19,7 +20,7 @@ use std::time::Duration;
 use timing::{Timing, time};
 
 const PASSES: [u64; 3] = [1, 2, 3];
-const USAGE: &str = "usage: bench [SECONDS a measurement] [NAME of a map...], or bench alone SECONDS NAME..., or bench once MAP rust|ours|none CALL";
+const USAGE: &str = "usage: bench [SECONDS a measurement] [NAME of a map...], or bench alone SECONDS NAME..., or bench ranked SECONDS NAME..., or bench once MAP rust|ours|none CALL";
 
 fn main() {
     let arguments: Vec<String> = std::env::args().skip(1).collect();
@@ -35,6 +36,11 @@ fn main() {
         && word == "alone"
     {
         return alone(seconds.parse().unwrap_or_else(|_| usage()), names);
+    }
+    if let [word, seconds, names @ ..] = &arguments[..]
+        && word == "ranked"
+    {
+        return ranked::run(Duration::from_secs_f64(seconds.parse().unwrap_or_else(|_| usage())), names);
     }
     let budget = match arguments.first().map(|word| word.parse::<f64>()) {
         None => Duration::from_millis(300),

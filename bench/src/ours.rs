@@ -13,6 +13,7 @@ pub struct Lent {
     pub pairs: Vec<u32>,
     pub records: Vec<Region>,
     pub output: Vec<u64>,
+    pub ranked: Vec<u32>,
 }
 
 impl Lent {
@@ -25,6 +26,7 @@ impl Lent {
             pairs: vec![0; 3 * pair_rows],
             records: vec![Region::default(); regions],
             output: vec![0; 5 * 256],
+            ranked: vec![0; 6 * 426],
         }
     }
 
@@ -52,6 +54,14 @@ pub fn kept_boundaries(map: &Map, lent: &mut Lent) -> Result<u64, Refusal> {
     call(map, lent.lists())
 }
 
+/// Runs pass 3 with its ranked list.
+pub fn ranked_junctions(map: &Map, lent: &mut Lent) -> Result<u64, Refusal> {
+    let mut ranked = std::mem::take(&mut lent.ranked);
+    let answer = jenwyllt::ranked_junctions_into(read(map), lent.lists(), &mut ranked);
+    lent.ranked = ranked;
+    answer.map(|(kept, _)| kept)
+}
+
 /// The same call with one pair row too few: it partitions the map and is refused 12.
 pub fn refused(map: &Map, lent: &mut Lent) -> Result<u64, Refusal> {
     let KeptLists { partition, records, output } = lent.lists();
@@ -61,7 +71,11 @@ pub fn refused(map: &Map, lent: &mut Lent) -> Result<u64, Refusal> {
 }
 
 fn call(map: &Map, lists: KeptLists) -> Result<u64, Refusal> {
-    let map = jenwyllt::Map {
+    jenwyllt::kept_boundaries_into(read(map), lists)
+}
+
+fn read(map: &Map) -> jenwyllt::Map<'_> {
+    jenwyllt::Map {
         pass: map.pass,
         width: map.width,
         height: map.height,
@@ -69,8 +83,7 @@ fn call(map: &Map, lists: KeptLists) -> Result<u64, Refusal> {
         spans: &map.spans,
         boundaries: &map.boundaries,
         anchors: &map.anchors,
-    };
-    jenwyllt::kept_boundaries_into(map, lists)
+    }
 }
 
 /// A record as the oracle has it.

@@ -27,6 +27,7 @@ pub fn run() {
     for pass in crate::PASSES {
         println!("{:<22} {:>12}", format!("whole call, pass {pass}"), largest(ours::kept_boundaries, pass));
     }
+    println!("{:<22} {:>12}", "pass 3, ranked list", largest(ours::ranked_junctions, 3));
     println!("{:<22} {:>12}", "maps of a day", used(crate::pool::mixed_call()) - idle);
 }
 

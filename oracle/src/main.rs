@@ -6,7 +6,8 @@ use std::fmt::{Display, Write as _};
 use std::io::{self, BufRead, Read, Write};
 use std::process::ExitCode;
 
-const USAGE: &str = "usage: oracle kept|full|partition|read|hypot [--many] [--cells N] [--bytes N] [--records N] [--pairs N]";
+const USAGE: &str =
+    "usage: oracle kept|full|ranked|partition|read|hypot [--many] [--cells N] [--bytes N] [--records N] [--pairs N]";
 
 /// A command that reads sheets: what it prints for one of them.
 type Answering = fn(&[u8], &Limits) -> String;
@@ -42,6 +43,7 @@ fn run(arguments: Vec<String>) -> Result<(), String> {
     let (answer, mut limits): (Answering, Limits) = match command.as_str() {
         "kept" => (kept, Limits::KEPTLIST),
         "full" => (full, Limits::PLAIN),
+        "ranked" => (ranked, Limits::PLAIN),
         "partition" => (partition, Limits::PLAIN),
         "read" => (read, Limits::PLAIN),
         "hypot" if options.is_empty() => return hypot(),
@@ -156,6 +158,24 @@ fn full(sheet: &[u8], limits: &Limits) -> String {
             }
             object(&fields)
         }
+        Answer::Refused(refusal) => bare(refusal),
+    }
+}
+
+fn ranked(sheet: &[u8], limits: &Limits) -> String {
+    let answer = match sheet::read(sheet, limits.read) {
+        Ok(map) => harness::ranked(&map, limits.room),
+        Err(refusal) => Answer::Refused(refusal),
+    };
+    match answer {
+        Answer::Done((Kept { rows, .. }, list)) => object(&[
+            ("number", "0".into()),
+            ("value", rows.len().to_string()),
+            ("proposals", list.len().to_string()),
+            ("ranked", self::list(list.iter().map(self::list))),
+            ("rows", self::list(rows.iter().map(self::list))),
+        ]),
+        Answer::Short(number, _) => bare(Refusal::new(number, 0)),
         Answer::Refused(refusal) => bare(refusal),
     }
 }

@@ -7,6 +7,7 @@ from .kept import Kept, Region, Row, kept_boundaries
 from .new_sheet import convert_sheet, write_sheet
 from .partition import Pair, Partition, Tally, partition
 from .pool import Date, Entry, Term, maps_of_day
+from .ranked import Ranked, RankedProposal, ranked_junctions
 from .refusal import Cause, Refusal
 from .report import Figures, Mean, Report, empty_report, mean_kept, report_run, report_sheet
 from .results import RunResult, read_result, write_result
@@ -15,5 +16,4 @@ from .sheet import Boundary, Kind, Point, Sheet, Span, read_sheet, sheet_bytes
 
 __version__ = '0.2.0'
 __all__ = [
-    'Accession', 'Boundary', 'Cause', 'Date', 'Dominance', 'Entry', 'Figures', 'Kept', 'Kind', 'Mean', 'NotBuilt', 'Pair', 'Partition', 'Point', 'Refusal', 'Region', 'Report', 'Row', 'RunResult',
-    'Separation', 'Share', 'Sheet', 'Span', 'Tally', 'Term', 'convert_sheet', 'dominance', 'empty_report', 'hypot', 'hypotenuse', 'kept_boundaries', 'maps_of_day', 'mean_kept', 'partition', 'read_result', 'read_sheet', 'report_line', 'report_run', 'report_sheet', 'separations', 'sheet_bytes', 'write_result', 'write_sheet']
+    'Accession', 'Boundary', 'Cause', 'Date', 'Dominance', 'Entry', 'Figures', 'Kept', 'Kind', 'Mean', 'NotBuilt', 'Pair', 'Partition', 'Point', 'Ranked', 'RankedProposal', 'Refusal', 'Region', 'Report', 'Row', 'RunResult', 'Separation', 'Share', 'Sheet', 'Span', 'Tally', 'Term', 'convert_sheet', 'dominance', 'empty_report', 'hypot', 'hypotenuse', 'kept_boundaries', 'maps_of_day', 'mean_kept', 'partition', 'ranked_junctions', 'read_result', 'read_sheet', 'report_line', 'report_run', 'report_sheet', 'separations', 'sheet_bytes', 'write_result', 'write_sheet']

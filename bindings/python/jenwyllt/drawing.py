@@ -13,6 +13,7 @@ from typing import Any
 from xml.sax.saxutils import escape
 
 from .partition import Partition
+from .ranked import Ranked
 from .sheet import PIXELS_PER_CELL, Sheet, Span
 
 SMALLEST_CELL, LARGEST_CELL, WIDEST = 12, 80, 960             # a cell's side in the picture, and how wide a map is to be
@@ -137,7 +138,11 @@ class Picture:
             self.line(boundaries[number].span, **(KEPT_LOOK if number in self.kept else REMOVED_LOOK))
         for number in order:
             x, y = (sum(both) / 2 / PIXELS_PER_CELL * self.cell for both in zip(*boundaries[number].span))
-            self.tag(x, y, f'{number}{("", "L", "U")[boundaries[number].kind]}', number in self.kept)
+            self.tag(x, y, self.words_of(number), number in self.kept)
+
+    def words_of(self, number: int) -> str:
+        """what stands on a boundary"""
+        return f'{number}{("", "L", "U")[self.sheet.boundaries[number].kind]}'
 
     def spans_elsewhere(self) -> list[Span]:
         spans, boundaries = self.sheet.spans, self.sheet.boundaries
@@ -198,3 +203,23 @@ class Picture:
     def region_sample(self, y: float) -> None:
         self.put('rect', x=0, y=y - 9, width=32, height=18, fill=GROUND[0], stroke=OUTLINE, stroke_width=2)
         self.write(16, y, 1, 13, fill_opacity=0.6)
+
+
+class RankedPicture(Picture):
+    """of pass 3 with its ranked list: behind a boundary's number stand the ranks of the proposals to remove it, with a cross where they were refused"""
+
+    def __init__(self, sheet: Sheet, ranked: Ranked, title: str | None = None, proved: bool = True):
+        self.ranked = ranked
+        super().__init__(sheet, ranked.kept.partition, [row.number for row in ranked.kept.rows], title, proved)
+
+    def words_of(self, number: int) -> str:
+        ranks = [f'{rank}{"" if proposal.taken else "×"}' for rank, proposal in enumerate(self.ranked.proposals) if proposal.boundary == number]
+        return super().words_of(number) + (f' #{" #".join(ranks)}' if ranks else '')
+
+    def legend(self) -> list[tuple[str, Callable[[float], None]]]:
+        entries = super().legend()
+        if self.ranked.proposals:
+            entries.append(('proposed, with its rank', lambda y: self.tag(16, y, '#0', False)))
+        if not all(proposal.taken for proposal in self.ranked.proposals):
+            entries.append(('proposed and refused', lambda y: self.tag(16, y, '#1×', True)))
+        return entries

@@ -25,6 +25,7 @@ class Cause(enum.IntEnum):
     DATE = 18
     TERM = 19
     TWO_LISTS = 22
+    RANKED = 21
 
 
 WORDS: dict[int, str] = {
@@ -47,6 +48,7 @@ WORDS: dict[int, str] = {
     Cause.DATE: 'a date of the term, or at the number of terms the day asked for, is not a day from 2000 to 2099',
     Cause.TERM: 'the term is empty or overlaps an earlier term of its map',
     Cause.TWO_LISTS: 'the spans are not the endpoints of the boundaries as written, so that the sheet cannot be converted',
+    Cause.RANKED: 'there are more proposals than rows of the ranked list',
 }
 
 

@@ -1,10 +1,10 @@
 //! Safe calls of the library `jenwyllt`, which is proved to meet its definitions for every input: the regions of a map cut by
-//! spans, the boundaries that a pass keeps, how far boundaries are apart, the reader, the writer and the converter of sheets, the
+//! spans, the boundaries that a pass keeps, the ranked junction list, how far boundaries are apart, the reader, the writer and the converter of sheets, the
 //! line of an accession record, the maps in the pool on a day, the year's figures, the share behind dominance, and the correctly
 //! rounded hypotenuse.
 //!
-//! [`partition`], [`kept_boundaries`], [`separations`], [`read_sheet`], [`report_line`] and [`maps_of_day`] make the lists that the
-//! library fills. [`partition_into`], [`kept_boundaries_into`], [`separations_into`], [`read_sheet_into`], [`report_line_into`] and
+//! [`partition`], [`kept_boundaries`], [`ranked_junctions`], [`separations`], [`read_sheet`], [`report_line`] and [`maps_of_day`] make the lists that the
+//! library fills. [`partition_into`], [`kept_boundaries_into`], [`ranked_junctions_into`], [`separations_into`], [`read_sheet_into`], [`report_line_into`] and
 //! [`maps_of_day_into`] take lists of numbers that the caller lends and allocate nothing. A list of any content and length is a
 //! valid argument: what does not fit is answered by a [`Refusal`].
 //!
@@ -21,6 +21,7 @@ mod hypotenuse;
 mod kept;
 mod partition;
 mod pool;
+mod ranked;
 mod refusal;
 mod report;
 mod results;
@@ -34,6 +35,7 @@ pub use hypotenuse::{hypot, hypotenuse};
 pub use kept::{KeptBoundaries, KeptLists, Map, Region, kept_boundaries, kept_boundaries_into};
 pub use partition::{Partition, PartitionLists, partition, partition_into};
 pub use pool::{Entry, maps_of_day, maps_of_day_into};
+pub use ranked::{RankedJunctions, RankedProposal, ranked_junctions, ranked_junctions_into};
 pub use refusal::{Cause, Refusal};
 pub use report::{Figures, Mean, Report, read_for_report, report_run, report_sheet};
 pub use results::{ResultHeader, ResultLists, RunResult, read_result, read_result_into, write_result, write_result_into};

@@ -52,6 +52,7 @@ causes! {
     Date = 18, "a date of the term, or at the number of terms the day asked for, is not a day from 2000 to 2099";
     Term = 19, "the term is empty or overlaps an earlier term of its map";
     TwoLists = 22, "the spans are not the endpoints of the boundaries as written, so that the sheet cannot be converted";
+    Ranked = 21, "there are more proposals than rows of the ranked list";
 }
 
 /// A refusal: the number of its cause, and the place of the first fault (the span, boundary, anchor, cell or byte), 0 where the

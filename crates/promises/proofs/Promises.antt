@@ -13,7 +13,7 @@ use lib.Ieee.{Float, binary64, toBits}
 use Rattle.definitions.specs.Lists.{overwrite}
 use Rattle.definitions.specs.Scan.{all, anyBelow}
 use Rattle.definitions.specs.Sort.{listLt}
-use Rattle.definitions.specs.Grid.{Map, Boundary, Pair, Segment, cellCount, mapOf}
+use Rattle.definitions.specs.Grid.{Map, Boundary, Pair, Segment, cellCount, mapOf, spanCount}
 use Rattle.definitions.specs.Partition.{labels, regionCount}
 use Rattle.definitions.specs.Hypotenuse.{inRange, sumOfSquares}
 use Rattle.definitions.specs.Nearest.{Nearest}
@@ -21,7 +21,8 @@ use Rattle.definitions.specs.TotalOrder.{totalOrder}
 use Rattle.definitions.specs.RegionRecord.{hasRamp, Share, IsShare, shareOf}
 use Rattle.definitions.specs.RampGeometry.{intersects}
 use Rattle.definitions.specs.Context.{Context, contextOf, endpointsKey}
-use Rattle.definitions.specs.Junctions.{boundaryKey, unionRegions}
+use Rattle.definitions.specs.Junctions.{boundaryKey, unionRegions, conflict}
+use Rattle.definitions.specs.Rows.{removedOf}
 use Rattle.definitions.specs.Refusals.{widthFits}
 use Rattle.definitions.specs.Verdict.{Lent, Answer, mapIn, verdict}
 use Rattle.definitions.specs.Printed.{maxSheetBytes, keptlist, text}
@@ -59,7 +60,13 @@ use Rattle.island_calls.specs.RustPartition.{AsRust}
 use Rattle.island_calls.specs.RustPartition as partitions
 use Rattle.record_sums.specs.Totals.{AddUp}
 use Rattle.record_sums.specs.Theorem as sums
+use Rattle.ranked_list.specs.RankedList.{rankedOf}
+use Rattle.ranked_list.specs.RankedAnswers.{RankedAnswer}
+use Rattle.ranked_list.specs.RankedLaws.{chosen}
+use Rattle.ranked_list.specs.RankedCalls.{rankedIn, Greedy}
+use Rattle.ranked_list.specs.RankedCalls as ranks
 use Rattle.topology.specs.Answers.{RanOver}
+use Rattle.topology.specs.Ranked.{RankedOver}
 use Rattle.island_theorem.specs.Theorem.{SameOnIsland}
 use Rattle.island_theorem.specs.Theorem as calls
 use Rattle.separations.specs.Distance.{SharePoint, ExactSquare, exactSquare}
@@ -318,6 +325,28 @@ exact-square = separations.exactSquare-is
 
 pub intersects-exactly : (s t : Segment) → (intersects s t ≡ true) ↔ SharePoint s t
 intersects-exactly = separations.intersects-exactly
+
+-- ---- request 11: what a call that gave the ranked junction list left in it, where it returned 0
+
+module _ {w h : ℕ} {cells spans boundaries anchors l m q t p : List ℕ} {s : List Region} {o k : List ℕ}
+    {a : RankedAnswer} {l₁ m₁ q₁ t₁ p₁ : List ℕ} {s₁ : List Region} {o₁ k₁ : List ℕ}
+    (call : RankedOver w h cells spans boundaries anchors l m q t p s o k a l₁ m₁ q₁ t₁ p₁ s₁ o₁ k₁) (success : a .number ≡ 0) where
+  -- "every junction proposal that reaches the ranking, in rank order"
+  pub call-lists : rankedIn (a .proposals) k₁ ≡ rankedOf (mapOf w h cells spans boundaries anchors)
+  unfolding mapIn
+  call-lists = ranks.call-lists (call .ran) success
+
+  -- exactly the proposals that are ranked; taken ones keep apart; a refused one names the earliest taken one that conflicts with it
+  pub call-greedy : eqb (length (mapOf w h cells spans boundaries anchors .boundaries)) (spanCount (mapOf w h cells spans boundaries anchors)) ≡ true
+      → Greedy (contextOf (mapOf w h cells spans boundaries anchors)) (rankedIn (a .proposals) k₁)
+  unfolding mapIn
+  call-greedy = ranks.call-greedy (call .ran) success
+
+  -- "pass 3 removes just theirs"
+  pub call-removes : map (λ p. p .index) (chosen (conflict (contextOf (mapOf w h cells spans boundaries anchors))) (rankedIn (a .proposals) k₁))
+      ≡ removedOf 3 (mapOf w h cells spans boundaries anchors)
+  unfolding mapIn
+  call-removes = ranks.call-removes (call .ran) success
 
 -- ---- request 13: every report that runs of calls and sheets were added to from the empty one
 

@@ -7,17 +7,15 @@ use mathlib.Core.Bool.{Bool, false}
 use mathlib.Core.List.{List}
 use lib.ListN.{length, getD, set, length-set}
 use lib.Seq.{getD-set-same, getD-set-other}
-use Rattle.definitions.specs.Scan.{filter}
 use Rattle.definitions.specs.Context.{Context}
-use Rattle.definitions.specs.Junctions.{proposals}
 use Rattle.context.specs.declared.Region.{Region}
 use Rattle.context.specs.OneMore.{last-or}
-use Rattle.junctions.specs.Rows.{maxProposals, numbersPerProposal, rowAt, rowsOf, RowFits, isAllowed}
+use Rattle.junctions.specs.Rows.{maxProposals, numbersPerProposal, rowAt, RowFits, isAllowed}
 use Rattle.junction_selection.specs.Taken.{Judged, removedAt}
 use Rattle.junction_selection.proofs.Passing.{pass-removed}
 use Rattle.junction_regions.specs.Asked.{Asked}
 use Rattle.topology.specs.Held.{record-is}
-use Rattle.topology.specs.Proposals.{Allows, Allowed, Passes, Unmarked, Removes}
+use Rattle.topology.specs.Proposals.{Allows, Allowed, Passes, Proposed, Unmarked, Removes}
 
 -- the records of row k's regions were read at i and j
 pub asked : {C : Context} {records : List Region} {boundaries marks rows : List ℕ} {n k i j : ℕ} {first second : Region} → Allows C records boundaries marks rows n → k < n
@@ -54,19 +52,21 @@ module _ {C : Context} {records : List Region} {boundaries smaller larger counts
         fits = λ k l. rw (h .shown .counted, h .shown .labelled) (fits k l);
       }
 
-  pub pass-judged : {allowed marked : List Bool} → length allowed ≡ maxProposals → Unmarked marked count → Judged boundaries rows allowed marked count n
-  pass-judged e u =
+-- the rows are what pass 3 proposes
+module _ {C : Context} {records : List Region} {boundaries smaller larger counts marks rows : List ℕ} {allowed : List Bool} {count regions n : ℕ}
+    (h : Passes C records boundaries smaller larger counts marks count regions) (p : Proposed C count regions rows allowed n) where
+  pub pass-judged : {marked : List Bool} → numbersPerProposal * maxProposals ≤ length rows → Unmarked marked count → Judged boundaries rows allowed marked count n
+  pass-judged room u =
       record {
-        few = few;
-        whole = omega arith;
+        few = p .few;
+        whole = omega (arith, p .few);
         long = omega (arith, h .shown .bounds .long, h .shown .counted);
         small = omega (arith, h .shown .bounds .few, h .shown .counted);
-        below = λ k l. fits k l .index-in;
-        judged = omega (arith, e);
+        below = λ k l. p .fits k l .index-in;
+        judged = omega (arith, p .few, p .judged .long);
         removed-long = u .long;
         clear = u .clear;
       }
 
-  pub pass-removes : {allowed marked : List Bool} → filter (isAllowed C) (rowsOf rows n) ≡ proposals C → Allowed C rows n allowed
-      → ((j : ℕ) → j < count → getD marked j false ≡ removedAt boundaries smaller larger rows allowed count n j) → Removes C count marked
-  pass-removes {allowed} {marked} are a selected = record { at = pass-removed boundaries smaller larger counts marks rows allowed marked count regions n C (h .shown) are (a .at) selected }
+  pub pass-removes : {marked : List Bool} → ((j : ℕ) → j < count → getD marked j false ≡ removedAt boundaries smaller larger rows allowed count n j) → Removes C count marked
+  pass-removes {marked} selected = record { at = pass-removed boundaries smaller larger counts marks rows allowed marked count regions n C (h .shown) (p .are) (p .judged .at) selected }

@@ -3,6 +3,7 @@ pub mod interiors
 pub mod marks
 pub mod mouths
 pub mod proposals
+pub mod ranked
 pub mod records
 pub mod runs
 pub mod slice

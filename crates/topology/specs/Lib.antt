@@ -7,4 +7,5 @@ pub mod Marks
 pub mod Mouths
 pub mod Numbers
 pub mod Proposals
+pub mod Ranked
 pub mod Reports

@@ -1,16 +1,16 @@
--- The words of the contracts of `allow_proposals` and `remove_junction_boundaries`. Definitions only; assumes nothing.
+-- The words of the contracts of `allow_proposals`, `allowed_proposals` and `remove_junction_boundaries`. Definitions only; assumes nothing.
 use Prim.Native.Nat.{ℕ, _*_, _≤_, _<_}
 use mathlib.Core.Path.{_≡_}
 use mathlib.Core.Bool.{Bool, false}
 use mathlib.Core.List.{List}
 use lib.ListN.{length, getD}
-use Rattle.definitions.specs.Scan.{member}
+use Rattle.definitions.specs.Scan.{member, filter}
 use Rattle.definitions.specs.Context.{Context}
-use Rattle.definitions.specs.Junctions.{removed}
+use Rattle.definitions.specs.Junctions.{proposals, removed}
 use Rattle.context.specs.declared.Region.{Region}
 use Rattle.context.specs.Records.{Counted}
 use Rattle.junctions.specs.Lent.{Shows}
-use Rattle.junctions.specs.Rows.{maxProposals, numbersPerProposal, rowAt, RowFits, isAllowed}
+use Rattle.junctions.specs.Rows.{maxProposals, numbersPerProposal, rowAt, rowsOf, RowFits, isAllowed}
 use Rattle.junction_regions.specs.Asked.{Told}
 use Rattle.topology.specs.Held.{HoldsRecords}
 
@@ -32,6 +32,13 @@ pub record Passes (C : Context) (records : List Region) (boundaries smaller larg
   pub shown : Shows boundaries smaller larger counts marks count regions C
   pub held : HoldsRecords C records
   pub counted : (r : ℕ) → Counted (C .region r)
+
+-- n rows are what pass 3 proposes of C before records are asked, and the marks say which of them the records allow
+pub record Proposed (C : Context) (count regions : ℕ) (rows : List ℕ) (allowed : List Bool) (n : ℕ) : Type 0 where
+  pub few : n ≤ maxProposals
+  pub fits : (k : ℕ) → k < n → RowFits count regions (rowAt rows k)
+  pub are : filter (isAllowed C) (rowsOf rows n) ≡ proposals C
+  pub judged : Allowed C rows n allowed
 
 -- room for a mark of each boundary, and none is marked
 pub record Unmarked (marked : List Bool) (count : ℕ) : Type 0 where

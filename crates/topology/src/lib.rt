@@ -6,6 +6,7 @@ pub mod marks;
 pub mod mouths;
 pub mod numbers;
 pub mod proposals;
+pub mod ranked;
 pub mod records;
 pub mod runs;
 pub mod slice;

@@ -10,10 +10,11 @@ use junctions::proposals::MAX_PROPOSALS;
 use junctions::proposals::NUMBERS_PER_PROPOSAL;
 use junctions::proposals::find_proposals;
 ghost use mathlib.Core.Path.{_≡_};
+ghost use Prim.Native.Nat.{_*_, _≤_};
 ghost use lib.ListN.{length};
 ghost use Rattle.definitions.specs.Context.{Context};
-ghost use Rattle.junctions.specs.Rows.{maxProposals};
-ghost use Rattle.topology.specs.Proposals.{Allows, Allowed, Passes, Unmarked, Removes};
+ghost use Rattle.junctions.specs.Rows.{maxProposals, numbersPerProposal};
+ghost use Rattle.topology.specs.Proposals.{Allows, Allowed, Passes, Proposed, Unmarked, Removes};
 
 // Which of the n proposals of pass 3 the records of their regions allow.
 pub fn allow_proposals(
@@ -40,6 +41,39 @@ pub fn allow_proposals(
     }
 }
 
+// The proposals of pass 3, as rows, and which of them the records of their regions allow; gives how many rows there are.
+pub fn allowed_proposals(
+    records: &[Region],
+    regions: usize,
+    count: usize,
+    boundaries: &[u64],
+    smaller: &[u32; 256],
+    larger: &[u32; 256],
+    counts: &[u32],
+    marks: &[u16],
+    rows: &mut [u32],
+    allowed: &mut [bool; MAX_PROPOSALS],
+) -> usize
+    requires { ⌜ ((C : Context) × Passes C (now records) (now boundaries) (now smaller) (now larger) (now counts) (now marks) count regions) ⌝ }
+    requires { ⌜ (numbersPerProposal * maxProposals ≤ length (now rows)) × (length (now allowed) ≡ maxProposals) ⌝ }
+    ensures { λ n. ⌜ ((C : Context)
+        → Passes C (now (records .entry)) (now (boundaries .entry)) (now (smaller .entry)) (now (larger .entry)) (now (counts .entry)) (now (marks .entry)) count regions
+        → Proposed C count regions (now (rows .exit)) (now (allowed .exit)) n) ⌝ }
+{
+    let n = find_proposals(
+        boundaries,
+        smaller,
+        larger,
+        counts,
+        marks,
+        count,
+        regions,
+        rows,
+    );
+    allow_proposals(records, boundaries, marks, rows, n, allowed);
+    n
+}
+
 // Pass 3: marks the boundaries that it removes. No boundary is marked before.
 pub fn remove_junction_boundaries(
     records: &[Region],
@@ -61,17 +95,18 @@ pub fn remove_junction_boundaries(
 {
     let mut rows = [0u32; NUMBERS_PER_PROPOSAL * MAX_PROPOSALS];
     let mut allowed = [false; MAX_PROPOSALS];
-    let n = find_proposals(
+    let n = allowed_proposals(
+        records,
+        regions,
+        count,
         boundaries,
         smaller,
         larger,
         counts,
         marks,
-        count,
-        regions,
         &mut rows,
+        &mut allowed,
     );
-    allow_proposals(records, boundaries, marks, &rows, n, &mut allowed);
     select_proposals(
         boundaries,
         smaller,

@@ -3,7 +3,7 @@
 
 use super::context::PartitionContext;
 use super::{RampBoundary, RampSide, TopologyBase, TopologyBoundary};
-use super::{junctions, ramp_boundaries};
+use super::{junctions, ramp_boundaries, watched_junctions};
 use crate::sheet::{ANCHOR_NUMBERS, BOUNDARY_NUMBERS, Map, Refusal, SPAN_NUMBERS};
 use crate::{BoundarySpan, PixelPosition, SpanPartition, TerrainCell, TerrainGrid, WalkPosition, table};
 
@@ -73,6 +73,20 @@ pub fn run(map: &Map, room: Room) -> Answer<Kept> {
     Answer::Done(Kept { records: records(&context), partition, rows })
 }
 
+/// The call of pass 3 with its ranked list, whatever pass the map has; the list has room for all.
+pub fn ranked(map: &Map, room: Room) -> Answer<(Kept, Vec<[u64; 6]>)> {
+    let map = Map { pass: 3, ..map.clone() };
+    match run(&map, room) {
+        Answer::Done(kept) => {
+            let original = Original::new(&map);
+            let list = original.ranking(&original.context(&original.partition()));
+            Answer::Done((kept, list))
+        }
+        Answer::Short(number, partition) => Answer::Short(number, partition),
+        Answer::Refused(refusal) => Answer::Refused(refusal),
+    }
+}
+
 /// Partitioning alone.
 pub fn partition(map: &Map, room: Room) -> Answer<Partition> {
     if let Err(refusal) = table::check_partition(map) {
@@ -124,6 +138,13 @@ impl Original {
             3 => junctions::remove_junction_boundaries(&self.boundaries, &context.0),
             _ => unreachable!("check 4 passed"),
         }
+    }
+
+    /// The ranked list, by the copy that is watched; what it keeps must be what pass 3 keeps.
+    pub fn ranking(&self, context: &Context<'_>) -> Vec<[u64; 6]> {
+        let (kept, list) = watched_junctions::ranking::rows(&self.boundaries, &context.0);
+        assert_eq!(kept, self.pass(3, context), "the watched copy keeps what the other does");
+        list
     }
 }
 

@@ -1,0 +1,4 @@
+pub mod Copying
+pub mod Numbers
+pub mod Proposing
+pub mod Exits
