@@ -1,9 +1,10 @@
-/* Regions of a walk grid cut by spans, the boundaries that a pass keeps, the ranked junction list, how far boundaries are apart, the reader, the writer and the converter of sheets, the writer of
-   result sheets,   the line of an accession record, the maps in the pool on a day, the year's figures, the share behind dominance, and the correctly rounded hypotenuse.
+/* Regions of a walk grid cut by spans, the boundaries that a pass keeps, the ranked junction list, how far boundaries are apart, the reader, the writer and the
+   converter of sheets, writer and reader of result sheets, the line of an accession record, the maps in the pool on a day, the year's figures, the share behind
+   dominance, and the correctly rounded hypotenuse.
    The library is for x86-64 Linux: libjenwyllt.a and libjenwyllt.so, which tools/build_library.sh writes to target/lib. It keeps no state and allocates
    nothing; from outside it needs only `memset`.
-   Every function is proved to meet the definitions of crates/definitions, crates/separations, crates/catalogue, crates/results and crates/report for every
-   input that keeps to what stands here. */
+   Every function is proved to meet the definitions of crates/definitions, crates/separations, crates/catalogue, crates/results, crates/map_sheets and
+   crates/report for every input that keeps to what stands here. */
 #ifndef JENWYLLT_H
 #define JENWYLLT_H
 
@@ -392,7 +393,7 @@ struct jenwyllt_answer jenwyllt_write_sheet(
              endpoints than its boundary, or the same in the other order
      10      the list is shorter than the new sheet                             0
 
-   A call needs 45 KiB of stack. */
+   A call needs 38 KiB of stack. */
 struct jenwyllt_answer jenwyllt_convert_sheet(
     const uint8_t *bytes, size_t bytes_length,
     uint8_t *out, size_t out_length);

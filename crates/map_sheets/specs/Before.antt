@@ -1,7 +1,7 @@
 -- Old sheets "still read and still get the answer they had" (document 02, request 12): bytes that begin with kind 1 read exactly as by the grammar of before the
 -- request, which knew no other kind. Assumes nothing.
 use Prim.Native.Nat.{ℕ}
-use mathlib.Core.Path.{_≡_, refl, ap}
+use mathlib.Core.Path.{_≡_, refl}
 use mathlib.Core.List.{List}
 use lib.Dec.{eqb}
 use Rattle.definitions.specs.Limits.{numbersPerSpan, numbersPerBoundary, numbersPerAnchor}

@@ -13,7 +13,7 @@ use lib.Seq.{take-append-seam}
 use borrow.Author.Tests.{leb-true, eqb-true, le-leb}
 use native.Mathlib.Nat.{mul-le-mul}
 use Rattle.definitions.specs.Limits.{isSide, maxSide, maxEntries, numbersPerBoundary, numbersPerAnchor}
-use Rattle.definitions.specs.Refusals.{Refusal, unless, isWhole, passFault, spansRefusal, boundariesFault, anchorsFault, elevationsFault}
+use Rattle.definitions.specs.Refusals.{Refusal, unless, isWhole, passFault, boundariesFault, anchorsFault, elevationsFault}
 use Rattle.definitions.specs.Verdict.{Answer, refusal, firstRefusal}
 use Rattle.definitions.specs.Sheet.{Sheet, Reading, wellFormed, refused, readSheet, plainCellLimit, endpointsOf}
 use Rattle.definitions.specs.SheetNumber.{Read, found, failed, number}
@@ -21,7 +21,7 @@ use Rattle.laws.specs.ListLaws.Lists.{All}
 use Rattle.laws.specs.ListLaws.Tests.{both}
 use Rattle.results.specs.WrittenReads.{Words}
 use Rattle.map_sheets.specs.SheetBytes.{sheetBytes}
-use Rattle.map_sheets.specs.Writing.{stating, writeVerdict, writtenAtExit, Writes}
+use Rattle.map_sheets.specs.Writing.{writeVerdict, writtenAtExit, Writes}
 use Rattle.map_sheets.specs.Converting.{isOneList, ofKind1, readKind1, convertAnswer, convertVerdict, convertedBytes, Converts}
 use Rattle.map_sheets.specs.WrittenReads.{Writable, written-reads}
 use Rattle.map_sheets.specs.Converted.{converted-states}

@@ -1,6 +1,6 @@
 -- "Old kind 1 sheets with equal lists convert to kind 3 and give equal rows" (document 02, request 12), over the definitions: the conversion states the same pass, sides
 -- and lists, for any limit of cells, so that every answer to it is the same. Assumes nothing.
-use Prim.Native.Nat.{ℕ, zero, suc, _*_, _/_, _^_, _<_, _≤_}
+use Prim.Native.Nat.{ℕ, zero, suc, _*_, _^_, _<_, _≤_}
 use native.Mathlib.Omega.{arith}
 use mathlib.Core.Path.{_≡_, refl, ap, subst, _∙_}
 use mathlib.Core.Bool.{true, false, _&&_, false≢true}
@@ -10,7 +10,7 @@ use lib.ListN.{length}
 use borrow.Author.Tests.{leb-true, eqb-true}
 use Rattle.definitions.specs.Limits.{isSide, maxEntries, numbersPerBoundary, numbersPerAnchor}
 use Rattle.definitions.specs.SheetNumber.{Read, found, failed, number}
-use Rattle.definitions.specs.Sheet.{Reader, give, check, andThen, times, judged, kind, cell, area, entries, hasSpans, spansHeld, endpointsOf, end, Sheet, wellFormed, refused, reading, sheet, readSheet}
+use Rattle.definitions.specs.Sheet.{Reader, give, check, andThen, times, judged, kind, cell, area, entries, hasSpans, spansHeld, endpointsOf, end, Sheet, wellFormed, reading, sheet, readSheet}
 use Rattle.laws.specs.ListLaws.Lists.{All, done, more}
 use Rattle.laws.specs.ListLaws.Tests.{both}
 use Rattle.laws.specs.SheetReading.SheetLaws.{not-found, number-below, times-length}

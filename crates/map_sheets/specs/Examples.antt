@@ -2,10 +2,10 @@
 -- Assumes nothing.
 use Prim.Native.Nat.{ℕ}
 use mathlib.Core.Path.{_≡_, refl}
-use mathlib.Core.Bool.{Bool, true, false}
+use mathlib.Core.Bool.{true, false}
 use mathlib.Core.List.{List, [], _∷_, _++_, map}
-use lib.ListN.{length, drop}
-use Rattle.definitions.specs.Sheet.{Reading, wellFormed, readSheet, keptlistCellLimit}
+use lib.ListN.{drop}
+use Rattle.definitions.specs.Sheet.{wellFormed, readSheet, keptlistCellLimit}
 use Rattle.definitions.specs.SheetExamples.{Example, _gives_, sheetJ, bytesJ, small, smallBytes, small3, smallBytes3, oneCell}
 use Rattle.definitions.specs.Verdict.{Answer}
 use Rattle.map_sheets.specs.SheetBytes.{sheetBytes}

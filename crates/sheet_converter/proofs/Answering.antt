@@ -12,7 +12,7 @@ use borrow.Author.Tests.{le-leb, lt-leb}
 use Rattle.definitions.specs.Refusals.{Refusal, orElse, unless, passFault, spansRefusal, boundariesFault, anchorsFault, elevationsFault}
 use Rattle.definitions.specs.Verdict.{Answer, refusal, firstRefusal}
 use Rattle.definitions.specs.SheetNumber.{number}
-use Rattle.definitions.specs.Sheet.{endpointsOf, Sheet, Reading, wellFormed, refused, readSheet, plainCellLimit}
+use Rattle.definitions.specs.Sheet.{endpointsOf, Sheet, wellFormed, refused, readSheet, plainCellLimit}
 use Rattle.laws.specs.ListLaws.Overwritten.{sets-overwrite}
 use Rattle.sheet.specs.declared.Plan.{Plan}
 use Rattle.sheet.specs.Parts.{sheetOf}
@@ -21,7 +21,7 @@ use Rattle.map_sheets.specs.SheetBytes.{sheetBytes}
 use Rattle.map_sheets.specs.Writing.{writtenAtExit}
 use Rattle.map_sheets.specs.Numbered.{Numbered, numbered-or, numbered-refusal, numbered-spans}
 use Rattle.map_sheets.specs.Converting.{sameNumbers, isOneList, readKind1, convertAnswer, convertVerdict, convertedBytes, Converts}
-use Rattle.sheet_converter.specs.Contract.{isOther, listsRefusal, mapRefusal, refusalFor, cutOut, ConvertsPlan}
+use Rattle.sheet_converter.specs.Contract.{isOther, listsRefusal, mapRefusal, refusalFor, ConvertsPlan}
 use Rattle.sheet_converter.proofs.FirstNumber.{read-other, read-same}
 
 abbrev answer : ℕ → ℕ → Answer

@@ -3,16 +3,16 @@
 use Prim.Native.Nat.{ℕ, suc, _+_, _-_, _*_, _≤_, _<_}
 use native.Mathlib.Omega.{arith}
 use mathlib.Core.Path.{_≡_, refl, sym, ap, subst, _∙_}
-use mathlib.Core.Bool.{true, _&&_}
+use mathlib.Core.Bool.{_&&_}
 use mathlib.Core.List.{List, [], _∷_, _++_, append-assoc}
 use lib.Dec.{leb}
 use lib.ListN.{length, take, drop, getD, length-append, length-drop}
-use lib.Seq.{take-append-seam, drop-append-seam, length-take-le}
-use Rattle.definitions.specs.Limits.{isSide, numbersPerSpan, numbersPerBoundary, numbersPerAnchor}
+use lib.Seq.{take-append-seam, drop-append-seam}
+use Rattle.definitions.specs.Limits.{isSide, numbersPerBoundary, numbersPerAnchor}
 use Rattle.definitions.specs.Scan.{concatMap}
 use Rattle.definitions.specs.SheetNumber.{number}
 use Rattle.definitions.specs.Sheet.{give, kind, hasSpans, plainCellLimit}
-use Rattle.laws.specs.ListLaws.Lists.{All, done, more, all-split}
+use Rattle.laws.specs.ListLaws.Lists.{done, more, all-split}
 use Rattle.results.specs.Shortest.{shortestWithin, shortest, listBytes}
 use Rattle.sheet.specs.declared.Plan.{Plan}
 use Rattle.sheet.specs.Parts.{Opening, opening, Extent, sides, partOf, cellsIn, sheetOf, SheetHeld}

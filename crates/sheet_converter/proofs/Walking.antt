@@ -5,7 +5,7 @@ use native.Mathlib.Nat.{add-zero}
 use mathlib.Core.Path.{_≡_, refl, sym, ap, _∙_}
 use mathlib.Core.Bool.{true, false}
 use mathlib.Core.List.{List, _∷_}
-use lib.ListN.{length, drop, getD}
+use lib.ListN.{drop, getD}
 use lib.Seq.{drop-drop, getD-drop}
 use Rattle.definitions.specs.SheetNumber.{Read, found, failed}
 use Rattle.definitions.specs.Sheet.{andThen, give, times, cell}

@@ -1,5 +1,5 @@
-// The converter of sheets of kind 1 to kind 3: bytes to bytes, or why a sheet is not converted. All is judged before a byte is written, so that a refusal leaves the
-// lent list as it was. In shortest form the new sheet is the old one with kind 3 in front and the spans cut out.
+// The converter of sheets of kind 1 to kind 3: bytes to bytes, or why a sheet is not converted. All is judged before a byte is written, so that a refusal
+// leaves the lent list as it was. In shortest form the new sheet is the old one with kind 3 in front and the spans cut out.
 ghost use mathlib.Core.Path.{_≡_};
 ghost use Prim.Native.Nat.{_+_, _-_, _≤_};
 ghost use lib.ListN.{length};
@@ -55,13 +55,7 @@ fn is_other_kind(bytes: &[u8]) -> bool
 // ---- the checks
 
 // Checks 5 to 8.
-fn lists_check(
-    width: u64,
-    height: u64,
-    spans: &[u64],
-    boundaries: &[u64],
-    anchors: &[u64],
-) -> Check
+fn lists_check(width: u64, height: u64, spans: &[u64], boundaries: &[u64], anchors: &[u64]) -> Check
     requires { ⌜ (width ≤ maxSide) × (height ≤ maxSide) ⌝ }
     ensures { λ r. ⌜ refusalOf r ≡ listsRefusal width height (now (spans .entry)) (now (boundaries .entry)) (now (anchors .entry)) ⌝ }
 {
@@ -133,13 +127,7 @@ fn is_one_list(spans: &[u64], boundaries: &[u64]) -> bool
 }
 
 // Checks 4 to 9, and then 22, of a sheet whose cells stand in the bytes.
-fn map_check(
-    bytes: &[u8],
-    plan: Plan,
-    spans: &[u64],
-    boundaries: &[u64],
-    anchors: &[u64],
-) -> Check
+fn map_check(bytes: &[u8], plan: Plan, spans: &[u64], boundaries: &[u64], anchors: &[u64]) -> Check
     requires sides { ⌜ (plan .width ≤ maxSide) × (plan .height ≤ maxSide) ⌝ }
     requires cells { ⌜ Held cell (now bytes) (plan .parts .cells .first) (plan .parts .cells .length) ⌝ }
     requires few { ⌜ length (now boundaries) ≤ 2304 ⌝ }

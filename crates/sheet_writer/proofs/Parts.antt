@@ -1,7 +1,7 @@
 -- The parts of a sheet of kind 3, one behind the other: how long they are together, what they take from a room, and their bytes put. Assumes nothing.
 use Prim.Native.Nat.{ℕ, _+_}
 use mathlib.Core.Path.{_≡_, refl, sym, ap, _∙_}
-use mathlib.Core.List.{List, [], _++_, append-nil}
+use mathlib.Core.List.{List, _++_, append-nil}
 use lib.ListN.{length, length-append}
 use lib.Seq.{length-sets}
 use Rattle.definitions.specs.Limits.{numbersPerBoundary, numbersPerAnchor}

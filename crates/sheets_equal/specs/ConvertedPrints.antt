@@ -3,7 +3,7 @@
 -- longer one `keptlist` says `refused 14 at 65536`, while its conversion may be short enough to be read.
 use Prim.Native.Nat.{ℕ, _+_, _<_, _≤_}
 use native.Mathlib.Omega.{arith}
-use mathlib.Core.Path.{_≡_, refl, sym, ap, subst, _∙_}
+use mathlib.Core.Path.{_≡_, refl, sym, ap, _∙_}
 use mathlib.Core.Logic.{_⊎_, inl, inr}
 use mathlib.Core.Bool.{Bool, true, false, cond}
 use mathlib.Core.List.{List, [], _++_}
@@ -14,7 +14,7 @@ use Rattle.definitions.specs.Limits.{numbersPerSpan, numbersPerBoundary, number
 use Rattle.definitions.specs.Scan.{concatMap}
 use Rattle.definitions.specs.Printed.{maxSheetBytes, printedReading, keptlist}
 use Rattle.definitions.specs.SheetNumber.{Read, found, failed, number}
-use Rattle.definitions.specs.Sheet.{Sheet, Reading, wellFormed, refused, reading, sheet, readSheet, plainCellLimit, keptlistCellLimit}
+use Rattle.definitions.specs.Sheet.{Sheet, wellFormed, refused, reading, sheet, readSheet, plainCellLimit, keptlistCellLimit}
 use Rattle.definitions.specs.Verdict.{Answer}
 use Rattle.results.specs.Shortest.{shortestWithin, shortest, listBytes}
 use Rattle.map_sheets.specs.SheetBytes.{sheetBytes}

@@ -22,7 +22,6 @@ use Rattle.map_sheets.specs.SheetBytes.{spansBytes, sheetBytes}
 use Rattle.sheets_equal.specs.NumberBytes.{Bytes}
 use Rattle.sheets_equal.specs.ReaderBytes.{Reads, reads-number, reads-give, reads-then, reads-check-then, reads-times, reads-end, judged-is, Ends, ends-then, ends-end}
 
-
 -- ---- the parts
 
 pub reads-cell : Reads [] cell shortest

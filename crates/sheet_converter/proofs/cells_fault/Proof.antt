@@ -28,7 +28,7 @@ abbrev fits : List ℕ → ℕ → Bool
 fits cells i = fitting (getD cells i 0)
 
 abbrev Inv-loop : tie.InvT-loop
-Inv-loop bytes at count next₀ i₀ next i = 
+Inv-loop bytes at count next₀ i₀ next i =
     Walking bytes at count next i × (firstFaulty i (fits (valuesAt cell bytes at count)) ≡ none)
 
 abbrev μ-loop : tie.MeasureT-loop
@@ -93,10 +93,11 @@ loop-again c =
     let at-item = at-value .before .before in
     let at-loop-test = at-item .before in
     let at-loop = at-loop-test .before in
-    let at-start = at-loop .before .before in
-    (walking-goes-on (at-loop .loop .inv .0) (at-loop-test .loop-test .taken) (as-cell _ _ (at-item .item .ensures ∙ ap (itemOf _) (at-value .value .given .1))),
+    let at-start = at-loop .before .before in (
+      walking-goes-on (at-loop .loop .inv .0) (at-loop-test .loop-test .taken) (as-cell _ _ (at-item .item .ensures ∙ ap (itemOf _) (at-value .value .given .1))),
       none-faulty-more (fits (valuesAt cell (now (at-start .args .bytes)) (at-start .args .at) (at-start .args .count))) (at-loop .loop .i) (at-loop .loop .inv .1)
-      (at-elevation-fits .elevation-fits .ensures ∙ ap fitting (sym (walking-cell (at-loop .loop .inv .0) (at-loop-test .loop-test .taken) (as-cell _ _ (at-item .item .ensures ∙ ap (itemOf _) (at-value .value .given .1)))))) (c .if1 .left))
+          (at-elevation-fits .elevation-fits .ensures ∙ ap fitting (sym (walking-cell (at-loop .loop .inv .0) (at-loop-test .loop-test .taken) (as-cell _ _ (at-item .item .ensures ∙ ap (itemOf _) (at-value .value .given .1)))))) (c .if1 .left),
+    )
 
 returns-3 : tie.Need-returns-3 Inv-loop μ-loop
 unfolding elevationsFault

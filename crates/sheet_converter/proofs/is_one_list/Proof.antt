@@ -1,5 +1,4 @@
 -- `sheet_converter::is_one_list` meets its contract: the endpoints are stored in an array of zeros, and its first numbers are compared. Assumes nothing.
-use Prim.Native.Nat.{_/_}
 use native.Mathlib.Omega.{arith}
 use mathlib.Core.Path.{sym, ap, _∙_}
 use lib.Seq.{length-take-le}

@@ -13,7 +13,7 @@ use Rattle.sheet_converter.proofs.put_bytes.Statement.{statement}
 use Rattle.sheet_converter.proofs.put_bytes.Tie as tie
 
 abbrev Inv-loop : tie.InvT-loop
-Inv-loop out₀ at bytes i₀ out i = 
+Inv-loop out₀ at bytes i₀ out i =
     (i ≤ length bytes) × (length out ≡ length out₀) × (sets out (at + i) (drop i bytes) ≡ sets out₀ at bytes)
 
 abbrev μ-loop : tie.MeasureT-loop

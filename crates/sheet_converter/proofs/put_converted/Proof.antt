@@ -43,8 +43,16 @@ put-bytes-requires c κs =
     let at-put-shortest = past-3 .before in
     let past-7 = at-put-shortest .before .before .before in
     let at-start = past-7 .before in
-    omega (arith, at-start .pre .begun, at-start .pre .ordered, at-start .pre .inside, at-start .pre .fits, front-long (now (at-start .args .bytes)) (at-start .args .front) (at-start .pre .begun) (omega (arith, at-start .pre .ordered, at-start .pre .inside)),
-    at-put-shortest .put-shortest .ensures .next-is, put-long (at-put-shortest .put-shortest .ensures))
+    omega (
+      arith,
+      at-start .pre .begun,
+      at-start .pre .ordered,
+      at-start .pre .inside,
+      at-start .pre .fits,
+      front-long (now (at-start .args .bytes)) (at-start .args .front) (at-start .pre .begun) (omega (arith, at-start .pre .ordered, at-start .pre .inside)),
+      at-put-shortest .put-shortest .ensures .next-is,
+      put-long (at-put-shortest .put-shortest .ensures),
+    )
 
 sub-put-bytes-2 : tie.Need-sub-put-bytes-2
 sub-put-bytes-2 c =
@@ -79,8 +87,19 @@ put-bytes-requires-2 c κs =
     let at-put-shortest = past-7 .before .before in
     let past-12 = at-put-shortest .before .before .before in
     let at-start = past-12 .before in
-    omega (arith, at-start .pre .begun, at-start .pre .ordered, at-start .pre .inside, at-start .pre .fits, front-long (now (at-start .args .bytes)) (at-start .args .front) (at-start .pre .begun) (omega (arith, at-start .pre .ordered, at-start .pre .inside)),
-    back-long (now (at-start .args .bytes)) (at-start .args .back), at-put-shortest .put-shortest .ensures .next-is, put-long (at-put-shortest .put-shortest .ensures), at-put-bytes .put-bytes .ensures .next-is, put-long (at-put-bytes .put-bytes .ensures))
+    omega (
+      arith,
+      at-start .pre .begun,
+      at-start .pre .ordered,
+      at-start .pre .inside,
+      at-start .pre .fits,
+      front-long (now (at-start .args .bytes)) (at-start .args .front) (at-start .pre .begun) (omega (arith, at-start .pre .ordered, at-start .pre .inside)),
+      back-long (now (at-start .args .bytes)) (at-start .args .back),
+      at-put-shortest .put-shortest .ensures .next-is,
+      put-long (at-put-shortest .put-shortest .ensures),
+      at-put-bytes .put-bytes .ensures .next-is,
+      put-long (at-put-bytes .put-bytes .ensures),
+    )
 
 same-length : tie.Need-same-length
 same-length c = search needs

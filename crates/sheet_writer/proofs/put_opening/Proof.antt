@@ -22,8 +22,15 @@ put-shortest-requires-3 c κs =
     let past-6 = at-put-shortest2 .before .before .before in
     let at-put-shortest = past-6 .before in
     let at-start = at-put-shortest .before .before .before in
-    omega (arith, at-start .pre, opening-length (at-start .args .pass) (at-start .args .width) (at-start .args .height),
-    at-put-shortest .put-shortest .ensures .next-is, at-put-shortest .put-shortest .kept .0, at-put-shortest2 .put-shortest2 .ensures .next-is, at-put-shortest2 .put-shortest2 .kept .0)
+    omega (
+      arith,
+      at-start .pre,
+      opening-length (at-start .args .pass) (at-start .args .width) (at-start .args .height),
+      at-put-shortest .put-shortest .ensures .next-is,
+      at-put-shortest .put-shortest .kept .0,
+      at-put-shortest2 .put-shortest2 .ensures .next-is,
+      at-put-shortest2 .put-shortest2 .kept .0,
+    )
 
 put-shortest-requires-4 : tie.Need-put-shortest-requires-4
 put-shortest-requires-4 c κs =
@@ -33,9 +40,17 @@ put-shortest-requires-4 c κs =
     let past-10 = at-put-shortest2 .before .before .before in
     let at-put-shortest = past-10 .before in
     let at-start = at-put-shortest .before .before .before in
-    omega (arith, at-start .pre, opening-length (at-start .args .pass) (at-start .args .width) (at-start .args .height),
-    at-put-shortest .put-shortest .ensures .next-is, at-put-shortest .put-shortest .kept .0, at-put-shortest2 .put-shortest2 .ensures .next-is, at-put-shortest2 .put-shortest2 .kept .0,
-    at-put-shortest3 .put-shortest3 .ensures .next-is, at-put-shortest3 .put-shortest3 .kept .0)
+    omega (
+      arith,
+      at-start .pre,
+      opening-length (at-start .args .pass) (at-start .args .width) (at-start .args .height),
+      at-put-shortest .put-shortest .ensures .next-is,
+      at-put-shortest .put-shortest .kept .0,
+      at-put-shortest2 .put-shortest2 .ensures .next-is,
+      at-put-shortest2 .put-shortest2 .kept .0,
+      at-put-shortest3 .put-shortest3 .ensures .next-is,
+      at-put-shortest3 .put-shortest3 .kept .0,
+    )
 
 same-length : tie.Need-same-length
 same-length c = search needs

@@ -17,8 +17,13 @@ put-cells-requires c κs =
     let at-put-opening = c .before .before .before in
     let past-6 = at-put-opening .before .before .before in
     let at-start = past-6 .before .before .before in
-    omega (arith, at-start .pre, sheet-length (at-start .args .pass) (at-start .args .width) (at-start .args .height) (now (at-start .args .cells)) (now (at-start .args .boundaries)) (now (at-start .args .anchors)),
-    at-put-opening .put-opening .ensures .next-is, put-long (at-put-opening .put-opening .ensures))
+    omega (
+      arith,
+      at-start .pre,
+      sheet-length (at-start .args .pass) (at-start .args .width) (at-start .args .height) (now (at-start .args .cells)) (now (at-start .args .boundaries)) (now (at-start .args .anchors)),
+      at-put-opening .put-opening .ensures .next-is,
+      put-long (at-put-opening .put-opening .ensures),
+    )
 
 put-list-requires : tie.Need-put-list-requires
 put-list-requires c κs =
@@ -26,9 +31,18 @@ put-list-requires c κs =
     let past-6 = at-put-cells .before .before .before in
     let at-put-opening = past-6 .before in
     let past-10 = at-put-opening .before .before .before in
-    let at-start = past-10 .before .before .before in
-    (omega arith, omega (arith, at-start .pre, sheet-length (at-start .args .pass) (at-start .args .width) (at-start .args .height) (now (at-start .args .cells)) (now (at-start .args .boundaries)) (now (at-start .args .anchors)),
-    at-put-opening .put-opening .ensures .next-is, put-long (at-put-opening .put-opening .ensures), at-put-cells .put-cells .ensures .next-is, put-long (at-put-cells .put-cells .ensures)))
+    let at-start = past-10 .before .before .before in (
+      omega arith,
+      omega (
+        arith,
+        at-start .pre,
+        sheet-length (at-start .args .pass) (at-start .args .width) (at-start .args .height) (now (at-start .args .cells)) (now (at-start .args .boundaries)) (now (at-start .args .anchors)),
+        at-put-opening .put-opening .ensures .next-is,
+        put-long (at-put-opening .put-opening .ensures),
+        at-put-cells .put-cells .ensures .next-is,
+        put-long (at-put-cells .put-cells .ensures),
+      ),
+    )
 
 put-list-requires-2 : tie.Need-put-list-requires-2
 put-list-requires-2 c κs =
@@ -38,10 +52,20 @@ put-list-requires-2 c κs =
     let past-10 = at-put-cells .before .before .before in
     let at-put-opening = past-10 .before in
     let past-14 = at-put-opening .before .before .before in
-    let at-start = past-14 .before .before .before in
-    (omega arith, omega (arith, at-start .pre, sheet-length (at-start .args .pass) (at-start .args .width) (at-start .args .height) (now (at-start .args .cells)) (now (at-start .args .boundaries)) (now (at-start .args .anchors)),
-    at-put-opening .put-opening .ensures .next-is, put-long (at-put-opening .put-opening .ensures), at-put-cells .put-cells .ensures .next-is, put-long (at-put-cells .put-cells .ensures),
-    at-put-list .put-list .ensures .next-is, put-long (at-put-list .put-list .ensures)))
+    let at-start = past-14 .before .before .before in (
+      omega arith,
+      omega (
+        arith,
+        at-start .pre,
+        sheet-length (at-start .args .pass) (at-start .args .width) (at-start .args .height) (now (at-start .args .cells)) (now (at-start .args .boundaries)) (now (at-start .args .anchors)),
+        at-put-opening .put-opening .ensures .next-is,
+        put-long (at-put-opening .put-opening .ensures),
+        at-put-cells .put-cells .ensures .next-is,
+        put-long (at-put-cells .put-cells .ensures),
+        at-put-list .put-list .ensures .next-is,
+        put-long (at-put-list .put-list .ensures),
+      ),
+    )
 
 same-length : tie.Need-same-length
 same-length c = search needs
