@@ -20,7 +20,8 @@ loop-holds c = searching-starts _ _ _ _ (c .pre .0 .few) (c .pre .1)
 
 sweep-requires : tie.Need-sweep-requires Inv-loop μ-loop
 sweep-requires c κs =
-    let turn = c .before .before .before .before in
+    let copied = c .before .before in
+    let turn = copied .before .before in
     let head = turn .before in
     (head .before .pre .0, head .loop .inv .runnerLong, head .loop .inv .guardLong)
 
@@ -35,7 +36,8 @@ returns c =
     let at-guards = c .before in
     let at-runners = at-guards .before .before .before in
     let at-sweep = at-runners .before .before .before in
-    let turn = at-sweep .before .before .before .before .before in
+    let lent = at-sweep .before .before .before in
+    let turn = lent .before .before in
     let head = turn .before in
     (searching-still _ _ _ _ _ _ _ _ _ (head .before .pre .0 .few) (head .loop .inv) (at-sweep .sweep .ensures .0) (at-runners .are-same .ensures) (at-guards .are-same2 .ensures) (c .if1 .taken), head .loop .inv .long)
 
@@ -45,9 +47,11 @@ add-moves c = search needs
 put-ranks-requires : tie.Need-put-ranks-requires Inv-loop μ-loop
 put-ranks-requires c κs =
     let changed = c .before .before .before in
-    let at-runners = changed .before .before .before .before in
+    let at-guards = changed .before in
+    let at-runners = at-guards .before .before .before in
     let at-sweep = at-runners .before .before .before in
-    let turn = at-sweep .before .before .before .before .before in
+    let lent = at-sweep .before .before .before in
+    let turn = lent .before .before in
     turn .before .loop .inv .long
 
 loop-less : tie.Need-loop-less Inv-loop μ-loop
@@ -55,10 +59,13 @@ loop-less c = search needs
 
 loop-again : tie.Need-loop-again Inv-loop μ-loop
 loop-again c =
-    let changed = c .before .before .before .before in
-    let at-runners = changed .before .before .before .before in
+    let counted = c .before .before in
+    let changed = counted .before .before in
+    let at-guards = changed .before in
+    let at-runners = at-guards .before .before .before in
     let at-sweep = at-runners .before .before .before in
-    let turn = at-sweep .before .before .before .before .before in
+    let lent = at-sweep .before .before .before in
+    let turn = lent .before .before in
     let head = turn .before in
     searching-more _ _ _ _ _ _ _ _ _ _ (head .before .pre .0 .few) (head .loop .inv) (turn .loop-test .taken) (at-sweep .sweep .ensures .0) (at-sweep .sweep .ensures .1 .0) (at-sweep .sweep .ensures .1 .1) (c .put-ranks .ensures .0) (c .put-ranks .ensures .1)
 
