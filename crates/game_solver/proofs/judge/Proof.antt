@@ -23,8 +23,8 @@ returns : tie.Need-returns
 returns c = λ pairs near.
     let at-put = c .before .before in
     let lent = at-put .before .before in
-    let at-search = lent .before .before in
-    let start = at-search .before .before in
+    let at-search = lent .before in
+    let start = at-search .before .before .before in
     let given = start .pre in
     let a = start .args in
     solved (a .regions) pairs _ _ (a .verdicts .now) _ (a .goal) (given .0) (given .1) (given .2) (given .3) near (at-search .search .ensures .0) (at-put .put-verdicts .ensures)
