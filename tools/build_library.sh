@@ -4,7 +4,7 @@
 # stands where neither the crate nor one below it has changed. RT_JOBS says how many crates are built at a time (2 without it); those that take longest
 # come first.
 set -eu
-EXPORTS="topology accession result_reader result_writer pool report_figures report_reading jenwyllt separation_list elevations"
+EXPORTS="topology accession result_reader game_solver result_writer pool report_figures report_reading jenwyllt separation_list elevations"
 
 cd "$(dirname "$0")/.."
 lib=target/lib

@@ -24,6 +24,8 @@ class Cause(enum.IntEnum):
     ACCESSION = 17
     DATE = 18
     TERM = 19
+    GRAPH = 23
+    GOAL = 24
 
 
 WORDS: dict[int, str] = {
@@ -45,6 +47,8 @@ WORDS: dict[int, str] = {
     Cause.ACCESSION: 'the accession record breaks a rule',
     Cause.DATE: 'a date of the term, or at the number of terms the day asked for, is not a day from 2000 to 2099',
     Cause.TERM: 'the term is empty or overlaps an earlier term of its map',
+    Cause.GRAPH: 'there are more than 32 regions',
+    Cause.GOAL: 'the goal is no region of the graph',
 }
 
 

@@ -148,6 +148,15 @@ unsafe extern "C" {
         output_length: usize,
     ) -> Answer;
 
+    pub fn jenwyllt_solve_game(
+        regions: u64,
+        pairs: *const u32,
+        pairs_length: usize,
+        goal: u64,
+        verdicts: *mut u32,
+        verdicts_length: usize,
+    ) -> Answer;
+
     pub fn jenwyllt_read_result(
         bytes: *const u8,
         bytes_length: usize,

@@ -51,6 +51,8 @@ causes! {
     Accession = 17, "the accession record breaks a rule";
     Date = 18, "a date of the term, or at the number of terms the day asked for, is not a day from 2000 to 2099";
     Term = 19, "the term is empty or overlaps an earlier term of its map";
+    Graph = 23, "there are more than 32 regions";
+    Goal = 24, "the goal is no region of the graph";
 }
 
 /// A refusal: the number of its cause, and the place of the first fault (the span, boundary, anchor, cell or byte), 0 where the

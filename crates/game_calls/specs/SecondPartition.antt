@@ -74,7 +74,7 @@ module _ (L : Lent) (A : Accepted L) (E : listsFault (L .spans) (L .boundaries) 
           absurd (omega (arith, ltb-true size (length (L .boundaries) / 9) (r .1), lent-count L rest-checked))
       go false e = ltb-false size spans e
 
-  same-count : spans ≡ size
+  pub same-count : spans ≡ size
   same-count = omega (arith, boundaries-enough, spans-enough L rest-checked)
 
   -- the spans are the boundaries' endpoints, as written

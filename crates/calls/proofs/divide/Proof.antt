@@ -1,6 +1,6 @@
 -- `calls::divide` meets its contract: labels, scratch and assessed spans, put together in Preparing. Assumes nothing.
-use native.Mathlib.Omega.{arith}
 use Rattle.calls.proofs.Preparing.{refused-records, refused-pairs, all-ready}
+use native.Mathlib.Omega.{arith}
 use borrow.Author.Needs.{needs}
 use Rattle.calls.proofs.divide.Statement.{statement}
 use Rattle.calls.proofs.divide.Tie as tie
