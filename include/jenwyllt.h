@@ -60,6 +60,7 @@ enum jenwyllt_refusal {
     JENWYLLT_RANGE = 13,
     JENWYLLT_SHEET = 14,
     JENWYLLT_RESULT = 15,
+    JENWYLLT_LISTS = 16,
     JENWYLLT_ACCESSION = 17,
     JENWYLLT_DATE = 18,
     JENWYLLT_TERM = 19,
@@ -224,6 +225,49 @@ struct jenwyllt_answer jenwyllt_solve_game(
     uint64_t regions,
     const uint32_t *pairs, size_t pairs_length,
     uint64_t goal,
+    uint32_t *verdicts, size_t verdicts_length);
+
+/* Number 0, how many rows are kept and the regions of the kept graph; or a refusal's number and place, and 0. */
+struct jenwyllt_game_answer {
+    uint64_t number;
+    uint64_t value;
+    uint64_t regions;
+};
+
+/* Runner and guard on the kept graph of a map: the map is cut by its spans and its pass run, as by `jenwyllt_kept_boundaries`; then it is cut again by the boundaries
+   that the pass keeps, as written, in list order. The regions of this second partition are those of the game, and each of its pairs is an edge.
+
+   Read: as for `jenwyllt_kept_boundaries`, spans and boundaries being one list, and
+     goal      a region of the second partition, from 1
+   Filled; each may be longer than needed, and what it holds before does not matter:
+     labels, masks, queue, tallies, pairs, records   of the second partition; tallies, pairs and records zero where only the first filled
+     output    the rows of the kept boundaries
+     verdicts  as for `jenwyllt_solve_game`
+
+   The causes of a refusal are those of `jenwyllt_kept_boundaries`, in their order, with these:
+
+     number  cause                                                                            value
+     16      behind 4: a span and its boundary differ in an endpoint as written, or one of    the first such number
+             them is missing
+     10      verdicts are shorter than JENWYLLT_VERDICTS_LENGTH, too                          0
+     23      behind 12: the second partition has more than 32 regions                         0
+     24      the goal is 0 or above its regions                                               0
+
+   11 and 12 come of the first partition alone. With 23 and 24 the lists are as on success, and the verdicts as they were; with 16 every list stays as it was. */
+struct jenwyllt_game_answer jenwyllt_runner_and_guard(
+    uint64_t pass, uint64_t width, uint64_t height,
+    const uint8_t *cells, size_t cells_length,
+    const uint64_t *spans, size_t spans_length,
+    const uint64_t *boundaries, size_t boundaries_length,
+    const uint64_t *anchors, size_t anchors_length,
+    uint64_t goal,
+    uint32_t *labels, size_t labels_length,
+    uint16_t *masks, size_t masks_length,
+    uint32_t *queue, size_t queue_length,
+    uint32_t *tallies, size_t tallies_length,
+    uint32_t *pairs, size_t pairs_length,
+    struct jenwyllt_region *records, size_t records_length,
+    uint64_t *output, size_t output_length,
     uint32_t *verdicts, size_t verdicts_length);
 
 /* Writes what a run found as a sheet of kind 2, a result: 2, the region count, then labels, tallies, pairs and kept rows, each list behind its count of

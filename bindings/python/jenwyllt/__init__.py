@@ -2,7 +2,7 @@
 from ._library import NotBuilt
 from .accession import Accession, report_line
 from .dominance import Dominance, Share, dominance
-from .game import Game, Verdict, Winner, solve_game
+from .game import Game, Verdict, Winner, runner_and_guard, solve_game
 from .hypotenuse import hypot, hypotenuse
 from .kept import Kept, Region, Row, kept_boundaries
 from .partition import Pair, Partition, Tally, partition
@@ -17,4 +17,4 @@ __version__ = '0.2.0'
 __all__ = [
     'Accession', 'Boundary', 'Cause', 'Date', 'Dominance', 'Entry', 'Figures', 'Game', 'Kept', 'Kind', 'Mean', 'NotBuilt', 'Pair', 'Partition', 'Point', 'Refusal', 'Region', 'Report', 'Row', 'RunResult',
     'Separation', 'Share', 'Sheet', 'Span', 'Tally', 'Term', 'Verdict', 'Winner', 'dominance', 'empty_report', 'hypot', 'hypotenuse', 'kept_boundaries', 'maps_of_day', 'mean_kept', 'partition', 'read_result',
-    'read_sheet', 'report_line', 'report_run', 'separations', 'sheet_bytes', 'solve_game', 'write_result']
+    'read_sheet', 'report_line', 'report_run', 'runner_and_guard', 'separations', 'sheet_bytes', 'solve_game', 'write_result']

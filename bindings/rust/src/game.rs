@@ -1,7 +1,7 @@
 //! Runner and guard on a graph.
 
-use crate::Refusal;
-use crate::exported::jenwyllt_solve_game;
+use crate::exported::{jenwyllt_runner_and_guard, jenwyllt_solve_game};
+use crate::{KeptLists, Map, PartitionLists, Refusal};
 
 /// How many numbers the list of verdicts has room for: 3 for each place of 32 regions.
 pub const VERDICTS_LENGTH: usize = 6144;
@@ -80,4 +80,61 @@ pub fn solve_game_into(regions: u64, pairs: &[u32], goal: u64, verdicts: &mut [u
     // proved for lists of any content and length, keeps no pointer and does not unwind.
     let answer = unsafe { jenwyllt_solve_game(regions, pairs.as_ptr(), pairs.len(), goal, verdicts.as_mut_ptr(), verdicts.len()) };
     answer.result()
+}
+
+/// How many rows are kept, and the regions of the kept graph.
+#[derive(Debug, Clone, Copy, PartialEq, Eq)]
+pub struct Played {
+    /// Rows of the output.
+    pub kept: u64,
+    /// Of the second partition.
+    pub regions: u64,
+}
+
+/// Runner and guard on the kept graph of a map, into lists that the caller lends: the lists of the partition and the records are those of the second
+/// partition, as include/jenwyllt.h says.
+///
+/// Refuses 1 to 12, 16, 23 and 24.
+pub fn runner_and_guard_into(map: Map<'_>, goal: u64, lists: KeptLists<'_>, verdicts: &mut [u32]) -> Result<Played, Refusal> {
+    let Map { pass, width, height, cells, spans, boundaries, anchors } = map;
+    let KeptLists { partition: PartitionLists { labels, masks, queue, tallies, pairs }, records, output } = lists;
+    // SAFETY: each pointer and length is a slice's own, so it is aligned, not null, and valid for that length, for writes where the
+    // function fills; slices lent as `&mut` overlap no other, and nothing else uses them before the call returns. `Region` has the
+    // layout of the header. The function is proved for lists of any content and length, keeps no pointer and does not unwind.
+    let answer = unsafe {
+        jenwyllt_runner_and_guard(
+            pass,
+            width,
+            height,
+            cells.as_ptr(),
+            cells.len(),
+            spans.as_ptr(),
+            spans.len(),
+            boundaries.as_ptr(),
+            boundaries.len(),
+            anchors.as_ptr(),
+            anchors.len(),
+            goal,
+            labels.as_mut_ptr(),
+            labels.len(),
+            masks.as_mut_ptr(),
+            masks.len(),
+            queue.as_mut_ptr(),
+            queue.len(),
+            tallies.as_mut_ptr(),
+            tallies.len(),
+            pairs.as_mut_ptr(),
+            pairs.len(),
+            records.as_mut_ptr(),
+            records.len(),
+            output.as_mut_ptr(),
+            output.len(),
+            verdicts.as_mut_ptr(),
+            verdicts.len(),
+        )
+    };
+    match answer.number {
+        0 => Ok(Played { kept: answer.value, regions: answer.regions }),
+        number => Err(Refusal { number, place: answer.value }),
+    }
 }

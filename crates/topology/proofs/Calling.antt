@@ -97,7 +97,7 @@ module _ {pass w h : ℕ} {cells spans boundaries anchors : List ℕ} {room outp
       -- ---- what they leave
 
       module _ {m₂ q₂ : List ℕ} {removed : List Bool} (K : MarkedFor pass M (h * w) (length spans / numbersPerSpan) boundaries m′ q′ m₂ q₂ (replicate maxEntries false) removed) where
-        marked : Marked pass M removed
+        pub marked : Marked pass M removed
         marked =
             ⊎-elim
             (λ e. marked-equal pass w h cells spans boundaries anchors e removed (K .equal e))

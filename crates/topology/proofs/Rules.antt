@@ -30,6 +30,7 @@ pub use borrow.Rule.Local.{g-back-sc, g-back-shr, g-drop-sref, home-of, mem-whol
 pub use borrow.Rule.LocalCopy.{t-val-copy}
 pub use borrow.Rule.Reborrow.{g-back-mref, t-mref-relend}
 pub use borrow.Rule.Scalar.{g-room, holds-sc, oAt, oBig, oBool, oFld, oInt, oUnit, reads-sc, room-sc, t-op1, t-op2, t-use}
+pub use borrow.Rule.Slice.Know.{g-sl-known}
 pub use borrow.Rule.Slice.Mut.{msleft, mslice, reads-mslice, reads-mslice-len}
 pub use borrow.Rule.Slice.Part.{g-back-slᵖ, mslice-owedP, t-sl-relendᵖ}
 pub use borrow.Rule.Slice.Relend.{asMut, asShr, g-back-sl, mslice-owed, msptr, reads-owed-len, ssptr, t-sl-aggregate, t-sl-relend}
