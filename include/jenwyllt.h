@@ -1,10 +1,10 @@
-/* Regions of a walk grid cut by spans, the boundaries that a pass keeps, the ranked junction list, how far boundaries are apart, the reader, the writer and the
-   converter of sheets, writer and reader of result sheets, the line of an accession record, the maps in the pool on a day, the year's figures, the share behind
-   dominance, and the correctly rounded hypotenuse.
+/* Regions of a walk grid cut by spans, the boundaries that a pass keeps, the ranked junction list, runner and guard, how far boundaries are apart, the reader,
+   the writer and the converter of sheets, writer and reader of result sheets, the line of an accession record, the maps in the pool on a day, the year's
+   figures, the share behind dominance, and the correctly rounded hypotenuse.
    The library is for x86-64 Linux: libjenwyllt.a and libjenwyllt.so, which tools/build_library.sh writes to target/lib. It keeps no state and allocates
    nothing; from outside it needs only `memset`.
-   Every function is proved to meet the definitions of crates/definitions, crates/separations, crates/catalogue, crates/results, crates/map_sheets and
-   crates/report for every input that keeps to what stands here. */
+   Every function is proved to meet the definitions of crates/definitions, crates/separations, crates/catalogue, crates/results, crates/map_sheets,
+   crates/report, crates/ranked_list, crates/game and crates/game_calls for every input that keeps to what stands here. */
 #ifndef JENWYLLT_H
 #define JENWYLLT_H
 
@@ -34,6 +34,10 @@ enum jenwyllt_size {
     JENWYLLT_TERM_NUMBERS = 7,
     JENWYLLT_ENTRY_NUMBERS = 4,
     JENWYLLT_RANKED_NUMBERS = 6,
+    JENWYLLT_EDGE_NUMBERS = 2,
+    JENWYLLT_VERDICT_NUMBERS = 3,
+    JENWYLLT_MOST_GAME_REGIONS = 32,
+    JENWYLLT_VERDICTS_LENGTH = 6144,
     JENWYLLT_PIXELS_PER_CELL = 8,
     JENWYLLT_MOST_SIDE = 1024,
     JENWYLLT_MOST_ENTRIES = 256
@@ -57,11 +61,14 @@ enum jenwyllt_refusal {
     JENWYLLT_RANGE = 13,
     JENWYLLT_SHEET = 14,
     JENWYLLT_RESULT = 15,
+    JENWYLLT_LISTS = 16,
     JENWYLLT_ACCESSION = 17,
     JENWYLLT_DATE = 18,
     JENWYLLT_TERM = 19,
     JENWYLLT_RANKED = 21,
-    JENWYLLT_TWO_LISTS = 22
+    JENWYLLT_TWO_LISTS = 22,
+    JENWYLLT_GRAPH = 23,
+    JENWYLLT_GOAL = 24
 };
 
 /* A list is lent as a pointer to its first entry and its length. The pointer is aligned and not null, even where the length is 0. Lists do not overlap,
@@ -236,6 +243,76 @@ struct jenwyllt_answer jenwyllt_separations(
     uint64_t width, uint64_t height,
     const uint64_t *boundaries, size_t boundaries_length,
     uint64_t *output, size_t output_length);
+
+/* Runner and guard on a graph of up to 32 regions, numbered from 1. Both move by turns along edges or stay, the runner first. The runner wins on the goal, the guard
+   on the runner's region at any time, which is judged before the goal, and where play never ends. The verdicts hold for all ways of play.
+
+   Read:
+     regions   how many
+     pairs     2 an edge: the regions that it joins, either way. A pair that names 0 or a number above `regions` is no edge.
+     goal      a region
+   Filled; it may be longer than needed, and what it holds behind the last verdict stays:
+     verdicts  3 a place: the winner, 1 for the runner and 2 for the guard; the fewest moves of both sides in which the runner can force a win, 0 for the guard; the
+               least region that serves a winner who is to move, 0 where play is over or the winner is not to move. A runner who goes by these regions wins within
+               the fewest moves, a guard in every play. The place of runner r, guard g and t, 0 with the runner to move and 1 with the guard, stands at
+               3 * (2 * ((r - 1) * regions + g - 1) + t).
+
+   Number 0: the value is the count of verdicts, 2 * regions * regions. Otherwise the number says why not; the first of these causes that applies is given, and
+   the list stays as it was:
+
+     number  cause                                                        value
+     3       the last pair is unfinished                                  0
+     10      verdicts are shorter than JENWYLLT_VERDICTS_LENGTH           0
+     23      there are more than 32 regions                               0
+     24      the goal is 0 or above `regions`                             0 */
+struct jenwyllt_answer jenwyllt_solve_game(
+    uint64_t regions,
+    const uint32_t *pairs, size_t pairs_length,
+    uint64_t goal,
+    uint32_t *verdicts, size_t verdicts_length);
+
+/* Number 0, how many rows are kept and the regions of the kept graph; or a refusal's number and place, and 0. */
+struct jenwyllt_game_answer {
+    uint64_t number;
+    uint64_t value;
+    uint64_t regions;
+};
+
+/* Runner and guard on the kept graph of a map: the map is cut by its spans and its pass run, as by `jenwyllt_kept_boundaries`; then it is cut again by the boundaries
+   that the pass keeps, as written, in list order. The regions of this second partition are those of the game, and each of its pairs is an edge.
+
+   Read: as for `jenwyllt_kept_boundaries`, spans and boundaries being one list, and
+     goal      a region of the second partition, from 1
+   Filled; each may be longer than needed, and what it holds before does not matter:
+     labels, masks, queue, tallies, pairs, records   of the second partition; tallies, pairs and records zero where only the first filled
+     output    the rows of the kept boundaries
+     verdicts  as for `jenwyllt_solve_game`
+
+   The causes of a refusal are those of `jenwyllt_kept_boundaries`, in their order, with these:
+
+     number  cause                                                                            value
+     16      behind 4: a span and its boundary differ in an endpoint as written, or one of    the first such number
+             them is missing
+     10      verdicts are shorter than JENWYLLT_VERDICTS_LENGTH, too                          0
+     23      behind 12: the second partition has more than 32 regions                         0
+     24      the goal is 0 or above its regions                                               0
+
+   11 and 12 come of the first partition alone. With 23 and 24 the lists are as on success, and the verdicts as they were; with 16 every list stays as it was. */
+struct jenwyllt_game_answer jenwyllt_runner_and_guard(
+    uint64_t pass, uint64_t width, uint64_t height,
+    const uint8_t *cells, size_t cells_length,
+    const uint64_t *spans, size_t spans_length,
+    const uint64_t *boundaries, size_t boundaries_length,
+    const uint64_t *anchors, size_t anchors_length,
+    uint64_t goal,
+    uint32_t *labels, size_t labels_length,
+    uint16_t *masks, size_t masks_length,
+    uint32_t *queue, size_t queue_length,
+    uint32_t *tallies, size_t tallies_length,
+    uint32_t *pairs, size_t pairs_length,
+    struct jenwyllt_region *records, size_t records_length,
+    uint64_t *output, size_t output_length,
+    uint32_t *verdicts, size_t verdicts_length);
 
 /* Writes what a run found as a sheet of kind 2, a result: 2, the region count, then labels, tallies, pairs and kept rows, each list behind its count of
    entries. A number stands in groups of seven bits, least first, the top bit set on all but its last byte, in its shortest form.

@@ -4,7 +4,7 @@
 # stands where neither the crate nor one below it has changed. RT_JOBS says how many crates are built at a time (2 without it); those that take longest
 # come first.
 set -eu
-EXPORTS="topology report_sheets accession result_reader result_writer pool report_figures report_reading jenwyllt separation_list elevations sheet_writer sheet_converter"
+EXPORTS="topology report_sheets accession result_reader result_writer pool report_figures report_reading jenwyllt separation_list elevations sheet_writer sheet_converter game_solver"
 
 cd "$(dirname "$0")/.."
 lib=target/lib

@@ -21,11 +21,14 @@ class Cause(enum.IntEnum):
     RANGE = 13
     SHEET = 14
     RESULT = 15
+    LISTS = 16
     ACCESSION = 17
     DATE = 18
     TERM = 19
-    TWO_LISTS = 22
     RANKED = 21
+    TWO_LISTS = 22
+    GRAPH = 23
+    GOAL = 24
 
 
 WORDS: dict[int, str] = {
@@ -44,11 +47,14 @@ WORDS: dict[int, str] = {
     Cause.RANGE: 'an argument is neither zero nor of a magnitude from 2^-64 to 2^15',
     Cause.SHEET: 'the sheet is ill formed',
     Cause.RESULT: 'the result breaks a rule: pairs or rows do not ascend, or labels do not start each new number in turn up to the region count',
+    Cause.LISTS: 'the span and the boundary of this number are not there both, or differ in an endpoint as written',
     Cause.ACCESSION: 'the accession record breaks a rule',
     Cause.DATE: 'a date of the term, or at the number of terms the day asked for, is not a day from 2000 to 2099',
     Cause.TERM: 'the term is empty or overlaps an earlier term of its map',
-    Cause.TWO_LISTS: 'the spans are not the endpoints of the boundaries as written, so that the sheet cannot be converted',
     Cause.RANKED: 'there are more proposals than rows of the ranked list',
+    Cause.TWO_LISTS: 'the spans are not the endpoints of the boundaries as written, so that the sheet cannot be converted',
+    Cause.GRAPH: 'there are more than 32 regions',
+    Cause.GOAL: 'the goal is no region of the graph',
 }
 
 

@@ -67,6 +67,14 @@ pub struct DominanceAnswer {
     pub remainder: u64,
 }
 
+/// Number 0, the count of rows and the regions of the kept graph, or a refusal's number and place.
+#[repr(C)]
+pub struct GameAnswer {
+    pub number: u64,
+    pub value: u64,
+    pub regions: u64,
+}
+
 /// The mean of a pass, where there is one.
 #[repr(C)]
 pub struct MeanAnswer {
@@ -184,6 +192,46 @@ unsafe extern "C" {
         output: *mut u64,
         output_length: usize,
     ) -> Answer;
+
+    pub fn jenwyllt_solve_game(
+        regions: u64,
+        pairs: *const u32,
+        pairs_length: usize,
+        goal: u64,
+        verdicts: *mut u32,
+        verdicts_length: usize,
+    ) -> Answer;
+
+    pub fn jenwyllt_runner_and_guard(
+        pass: u64,
+        width: u64,
+        height: u64,
+        cells: *const u8,
+        cells_length: usize,
+        spans: *const u64,
+        spans_length: usize,
+        boundaries: *const u64,
+        boundaries_length: usize,
+        anchors: *const u64,
+        anchors_length: usize,
+        goal: u64,
+        labels: *mut u32,
+        labels_length: usize,
+        masks: *mut u16,
+        masks_length: usize,
+        queue: *mut u32,
+        queue_length: usize,
+        tallies: *mut u32,
+        tallies_length: usize,
+        pairs: *mut u32,
+        pairs_length: usize,
+        records: *mut Region,
+        records_length: usize,
+        output: *mut u64,
+        output_length: usize,
+        verdicts: *mut u32,
+        verdicts_length: usize,
+    ) -> GameAnswer;
 
     pub fn jenwyllt_read_result(
         bytes: *const u8,

@@ -48,11 +48,14 @@ causes! {
     Range = 13, "an argument is neither zero nor of a magnitude from 2^-64 to 2^15";
     Sheet = 14, "the sheet is ill formed";
     Result = 15, "the result breaks a rule: pairs or rows do not ascend, or labels do not start each new number in turn up to the region count";
+    Lists = 16, "the span and the boundary of this number are not there both, or differ in an endpoint as written";
     Accession = 17, "the accession record breaks a rule";
     Date = 18, "a date of the term, or at the number of terms the day asked for, is not a day from 2000 to 2099";
     Term = 19, "the term is empty or overlaps an earlier term of its map";
-    TwoLists = 22, "the spans are not the endpoints of the boundaries as written, so that the sheet cannot be converted";
     Ranked = 21, "there are more proposals than rows of the ranked list";
+    TwoLists = 22, "the spans are not the endpoints of the boundaries as written, so that the sheet cannot be converted";
+    Graph = 23, "there are more than 32 regions";
+    Goal = 24, "the goal is no region of the graph";
 }
 
 /// A refusal: the number of its cause, and the place of the first fault (the span, boundary, anchor, cell or byte), 0 where the

@@ -112,7 +112,7 @@ module _ (pass w h : ℕ) (cells spans boundaries anchors l m q t p : List ℕ) 
     pub masks : m′ ≡ zeroed (h * w) m
     pub queue : q′ ≡ zeroed (h * w) q
 
-  verdict-late : none ≡ early → verdict L ≡ firstRefusal late kept
+  pub verdict-late : none ≡ early → verdict L ≡ firstRefusal late kept
   verdict-late e = verdict-early ∙ ap (λ x. firstRefusal (x ∷ late) kept) (sym e)
 
   module _ (e : none ≡ early) (few : regionCount M ≤ length s) where

@@ -132,22 +132,26 @@ pub record Entry (v : List ℕ) (c : ℕ) (w : Verdict) : Type 0 where
   pub moves : getD v (numbersPerVerdict * c + 1) 0 ≡ w .moves
   pub region : getD v (numbersPerVerdict * c + 2) 0 ≡ w .region
 
-pub entries-judged : (regions : ℕ) (pairs : List ℕ) (goal : ℕ) (old : List ℕ) (a : Answer) (v : List ℕ) → Solves regions pairs goal old a v → a .number ≡ 0
-    → (x : Place) → Inside (graphOf regions pairs goal) x → (w : Verdict) × Judged (graphOf regions pairs goal) x w × Entry v (numberOf (graphOf regions pairs goal) x) w
-unfolding verdictsAtExit three
-entries-judged regions pairs goal old a v S z x i = (verdictOf G x, judged G x i, record { winner = entry 0 (omega arith); moves = entry 1 (omega arith); region = entry 2 (omega arith) })
+-- of any list that the verdicts are written to
+pub entries-filled : (G : Game) (old v : List ℕ) → v ≡ overwrite (verdictNumbers G (placeCount (G .regions))) old
+    → (x : Place) → Inside G x → (w : Verdict) × Judged G x w × Entry v (numberOf G x) w
+unfolding three
+entries-filled G old v filled x i = (verdictOf G x, judged G x i, record { winner = entry 0 (omega arith); moves = entry 1 (omega arith); region = entry 2 (omega arith) })
   where
-    G : Game
-    G = graphOf regions pairs goal
-
     n : ℕ
     n = placeCount (G .regions)
-
-    filled : v ≡ overwrite (verdictNumbers G n) old
-    filled = S .atExit ∙ ap (λ b. cond b (overwrite (verdictNumbers G n) old) old) (eq-eqb (a .number) 0 z)
 
     entry : (j : ℕ) → j < 3 → getD v (3 * numberOf G x + j) 0 ≡ getD (numbersOf (verdictOf G x)) j 0
     entry j h =
         ap (λ l. getD l (3 * numberOf G x + j) 0) filled
         ∙ List·getD-append (verdictNumbers G n) (drop (length (verdictNumbers G n)) old) 0 (3 * numberOf G x + j) (omega (arith, numbers-length G n, number-below G x i))
         ∙ number-at G n (numberOf G x) j (number-below G x i) h ∙ ap (λ y. getD (numbersOf (verdictOf G y)) j 0) (place-back G x i)
+
+-- where the call is accepted, they are
+pub written : (G : Game) (old v : List ℕ) (number : ℕ) → v ≡ verdictsAtExit G old number → number ≡ 0 → v ≡ overwrite (verdictNumbers G (placeCount (G .regions))) old
+unfolding verdictsAtExit
+written G old v number e z = e ∙ ap (λ b. cond b (overwrite (verdictNumbers G (placeCount (G .regions))) old) old) (eq-eqb number 0 z)
+
+pub entries-judged : (regions : ℕ) (pairs : List ℕ) (goal : ℕ) (old : List ℕ) (a : Answer) (v : List ℕ) → Solves regions pairs goal old a v → a .number ≡ 0
+    → (x : Place) → Inside (graphOf regions pairs goal) x → (w : Verdict) × Judged (graphOf regions pairs goal) x w × Entry v (numberOf (graphOf regions pairs goal) x) w
+entries-judged regions pairs goal old a v S z = entries-filled (graphOf regions pairs goal) old v (written (graphOf regions pairs goal) old v (a .number) (S .atExit) z)

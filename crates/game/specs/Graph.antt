@@ -7,6 +7,7 @@ use mathlib.Core.Option.{Option}
 use mathlib.Core.List.{List, [], _∷_}
 use lib.ListN.{length, getD}
 use lib.Dec.{eqb, leb}
+use Rattle.definitions.specs.Limits.{numbersPerPair}
 use Rattle.definitions.specs.Scan.{anyBelow, gather}
 use Rattle.definitions.specs.Lists.{overwrite}
 use Rattle.definitions.specs.Refusals.{unless}
@@ -39,6 +40,12 @@ graphOf regions pairs goal =
       edge = λ a b. isRegion regions a && isRegion regions b && anyJoins pairs (length pairs / numbersPerEdge) a b;
       goal = goal;
     }
+
+-- The edges of a map's graph: "an edge for each pair of a kept boundary". A row of pairs is a span, the smaller region and the larger; these are the two regions of
+-- each of the first n rows, one pair behind the other.
+unfoldable pub edgesIn : List ℕ → ℕ → List ℕ
+unfolding gather
+edgesIn rows n = gather n (λ k. getD rows (numbersPerPair * k + 1) 0 ∷ getD rows (numbersPerPair * k + 2) 0 ∷ [])
 
 -- ---- the answer
 

@@ -21,6 +21,7 @@ use Rattle.game.specs.Sweeps.{Least, least-is}
 use Rattle.game.specs.Ranks.{isFound, servesBy, verdictBy}
 use Rattle.game.specs.RankLaws.{verdict-by}
 use Rattle.game.specs.Graph.{placeAt, numbersOf, placeCount, graphOf, verdictNumbers}
+use Rattle.game.specs.EntryLaws.{numbers-length}
 use Rattle.game_solver.specs.Words.{bitAt, Near, Plays, rankPlace, rankAt, Ranked, at, verdictsBy}
 
 -- ---- the least
@@ -340,21 +341,13 @@ verdicts-are G ranks R some (suc n) h = ap₂ _++_ (verdicts-are G ranks R some 
         region : (d : ℕ) → d < G .regions → isRegion (G .regions) (suc d) ≡ true
         region d l = ap₂ _&&_ (le-leb 1 (suc d) (omega arith)) (le-leb (suc d) (G .regions) (omega arith))
 
-pub numbers-length : (G : Game) (n : ℕ) → length (verdictNumbers G n) ≡ 3 * n
-unfolding verdictNumbers gather
-numbers-length G zero = refl
-numbers-length G (suc n) = length-append (verdictNumbers G n) (numbersOf (verdictOf G (placeAt (G .regions) n))) ∙ ap (λ m. m + 3) (numbers-length G n) ∙ more
-  where
-    more : 3 * n + 3 ≡ 3 * suc n
-    more = omega arith
-
 pub solved : (regions : ℕ) (pairs near ranks old v : List ℕ) (goal : ℕ) → regions ≤ 32 → 1 ≤ goal → goal ≤ regions → 6144 ≤ length old
-    → ((g : ℕ) → Near (graphOf regions pairs g) near) → ((G : Game) → Plays near regions (goal - 1) G → Ranked G ranks)
+    → Near (graphOf regions pairs goal) near → ((G : Game) → Plays near regions (goal - 1) G → Ranked G ranks)
     → ((G : Game) → Plays near regions (goal - 1) G → v ≡ sets old 0 (verdictsBy G ranks (placeCount regions)))
     → v ≡ overwrite (verdictNumbers (graphOf regions pairs goal) (placeCount regions)) old
 unfolding graphOf
 solved regions pairs near ranks old v goal few h k room n r e =
-    let P = graph-plays regions pairs near goal h (n goal) in
+    let P = graph-plays regions pairs near goal h n in
     let G = graphOf regions pairs goal in
     e G P ∙ ap (λ l. sets old 0 l) (verdicts-are G ranks (r G P) (omega arith) (placeCount regions) (le-refl (placeCount regions)))
     ∙ sets-overwrite old (verdictNumbers G (placeCount regions)) (omega (arith, numbers-length G (placeCount regions), places-few regions few))

@@ -1,10 +1,12 @@
 // Runner and guard over a graph as plain lists: who can force a win from every place of both and either to move, in how few moves, and by which least region.
 ghost use mathlib.Core.Path.{_≡_};
 ghost use mathlib.Core.List.{List};
-ghost use Prim.Native.Nat.{ℕ, _≤_};
+ghost use Prim.Native.Nat.{ℕ, _*_, _≤_};
 ghost use lib.ListN.{length};
+ghost use Rattle.definitions.specs.Limits.{numbersPerPair};
 ghost use Rattle.definitions.specs.Lists.{overwrite};
-ghost use Rattle.game.specs.Graph.{graphOf, maxGameRegions, verdictsRoom, placeCount, solveAnswer, verdictNumbers, Solves};
+ghost use Rattle.game.specs.Graph.{graphOf, edgesIn, maxGameRegions, verdictsRoom, placeCount, solveAnswer, verdictNumbers, Solves};
+ghost use Rattle.game_solver.specs.Words.{Near};
 ghost use Rattle.game_solver.specs.Forms.{answerIn};
 
 pub mod neighbours;
@@ -13,6 +15,7 @@ pub mod sets;
 pub mod verdicts;
 
 use crate::neighbours::find_neighbours;
+use crate::neighbours::find_row_neighbours;
 use crate::search::search;
 use crate::verdicts::put_verdicts;
 
@@ -57,17 +60,38 @@ fn verdict(regions: u64, pairs: usize, goal: u64, room: usize) -> Answer
     }
 }
 
-// The verdicts of a graph of up to 32 regions, whose goal is one of them.
+// The verdicts of a graph of up to 32 regions, whose goal is one of them, by the steps from each region.
+fn judge(near: &[u32; 32], regions: usize, goal: usize, verdicts: &mut [u32])
+    requires { ⌜ (regions ≤ maxGameRegions) × (1 ≤ goal) × (goal ≤ regions) × (verdictsRoom ≤ length (now verdicts)) ⌝ }
+    ensures { λ r. ⌜ ((pairs : List ℕ) → Near (graphOf regions pairs goal) (now (near .entry)) → now (verdicts .exit)
+        ≡ overwrite (verdictNumbers (graphOf regions pairs goal) (placeCount regions)) (now (verdicts .entry))) ⌝ }
+{
+    let mut ranks = [0u32; 2048];
+    search(near, regions, goal - 1, &mut ranks);
+    put_verdicts(near, &ranks, regions, goal - 1, verdicts);
+}
+
+// The same of a graph of these pairs.
 pub fn solve(regions: usize, pairs: &[u32], goal: usize, verdicts: &mut [u32])
     requires { ⌜ (regions ≤ maxGameRegions) × (1 ≤ goal) × (goal ≤ regions) × (verdictsRoom ≤ length (now verdicts)) ⌝ }
     ensures { λ r. ⌜ now (verdicts .exit)
         ≡ overwrite (verdictNumbers (graphOf regions (now (pairs .entry)) goal) (placeCount regions)) (now (verdicts .entry)) ⌝ }
 {
     let mut near = [0u32; 32];
-    let mut ranks = [0u32; 2048];
     find_neighbours(regions, pairs, &mut near);
-    search(&near, regions, goal - 1, &mut ranks);
-    put_verdicts(&near, &ranks, regions, goal - 1, verdicts);
+    judge(&near, regions, goal, verdicts);
+}
+
+// And of the graph of a map, whose first `count` rows of span, smaller and larger region are its pairs.
+pub fn solve_rows(regions: usize, rows: &[u32], count: usize, goal: usize, verdicts: &mut [u32])
+    requires { ⌜ (regions ≤ maxGameRegions) × (1 ≤ goal) × (goal ≤ regions) × (verdictsRoom ≤ length (now verdicts)) ⌝ }
+    requires { ⌜ numbersPerPair * count ≤ length (now rows) ⌝ }
+    ensures { λ r. ⌜ now (verdicts .exit)
+        ≡ overwrite (verdictNumbers (graphOf regions (edgesIn (now (rows .entry)) count) goal) (placeCount regions)) (now (verdicts .entry)) ⌝ }
+{
+    let mut near = [0u32; 32];
+    find_row_neighbours(regions, rows, count, &mut near);
+    judge(&near, regions, goal, verdicts);
 }
 
 // For other languages too: include/jenwyllt.h declares it as jenwyllt_solve_game.

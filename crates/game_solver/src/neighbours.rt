@@ -1,11 +1,12 @@
 // Where a step leads from each region of a graph: along an edge, or nowhere else.
 ghost use mathlib.Core.Path.{_≡_};
 ghost use mathlib.Core.Bool.{_&&_, _||_};
-ghost use Prim.Native.Nat.{ℕ, suc, _≤_, _<_};
+ghost use Prim.Native.Nat.{ℕ, suc, _*_, _≤_, _<_};
 ghost use lib.Dec.{eqb};
 ghost use lib.ListN.{length};
+ghost use Rattle.definitions.specs.Limits.{numbersPerPair};
 ghost use Rattle.game.specs.Game.{isRegion};
-ghost use Rattle.game.specs.Graph.{joins, graphOf};
+ghost use Rattle.game.specs.Graph.{joins, graphOf, edgesIn};
 ghost use Rattle.game_solver.specs.Words.{bitAt, Near};
 use crate::sets::with;
 
@@ -65,6 +66,20 @@ pub fn find_neighbours(regions: usize, pairs: &[u32], near: &mut [u32; 32])
     let mut k = 0;
     while k < count {
         join_pair(near, regions, pairs[2 * k], pairs[2 * k + 1]);
+        k += 1;
+    }
+}
+
+// The steps of the graph of the first `count` rows of span, smaller and larger region.
+pub fn find_row_neighbours(regions: usize, rows: &[u32], count: usize, near: &mut [u32; 32])
+    requires { ⌜ (regions ≤ 32) × (length (now near) ≡ 32) × (numbersPerPair * count ≤ length (now rows)) ⌝ }
+    ensures { λ r. ⌜ ((goal : ℕ) → Near (graphOf regions (edgesIn (now (rows .entry)) count) goal) (now (near .exit))) ⌝ }
+    ensures { λ r. ⌜ length (now (near .exit)) ≡ 32 ⌝ }
+{
+    join_selves(near);
+    let mut k = 0;
+    while k < count {
+        join_pair(near, regions, rows[3 * k + 1], rows[3 * k + 2]);
         k += 1;
     }
 }

@@ -111,7 +111,7 @@ checks-passed L (more one (more two (more three (more sixteen (more five (more s
 pub rest-accepted : (L : Lent) → restVerdict L .number ≡ 0 → RestAccepted L
 rest-accepted L h = checks-passed L (none-refused (length (restRows (mapIn L))) (checks-numbered L) (unfold restVerdict in h))
 
-all-none : {l : List (Option Refusal)} (count : ℕ) → All (λ r. r ≡ none) l → firstRefusal l count ≡ record { number = 0; value = count }
+pub all-none : {l : List (Option Refusal)} (count : ℕ) → All (λ r. r ≡ none) l → firstRefusal l count ≡ record { number = 0; value = count }
 all-none count done = refl
 all-none count (more {l = l} e a) = ap (λ r. firstRefusal (r ∷ l) count) e ∙ all-none count a
 
@@ -174,13 +174,13 @@ turned-differ s k = go (positionLt (s .b) (s .a))
     go false = k
 
 -- 5 and 6 of one span
-abbrev outsideAt : ℕ → ℕ → ℕ → Segment → Option Refusal
+abbrev pub outsideAt : ℕ → ℕ → ℕ → Segment → Option Refusal
 outsideAt w h i s = onlyIf (not (bothOnMap w h s)) (record { number = 5; place = i })
 
-abbrev equalAt : ℕ → Segment → Option Refusal
+abbrev pub equalAt : ℕ → Segment → Option Refusal
 equalAt i s = onlyIf (not (endpointsDiffer s)) (record { number = 6; place = i })
 
-abbrev spanRefusal : ℕ → ℕ → List ℕ → ℕ → Option Refusal
+abbrev pub spanRefusal : ℕ → ℕ → List ℕ → ℕ → Option Refusal
 spanRefusal w h spans i = orElse (outsideAt w h i (segmentAt spans (4 * i))) (equalAt i (segmentAt spans (4 * i)))
 
 -- ---- the kept boundaries of an accepted run
@@ -204,28 +204,28 @@ module _ (L : Lent) (A : RestChecked L) where
   abbrev lentSpans : ℕ
   lentSpans = length (L .spans) / numbersPerSpan
 
-  lent-count : size ≡ length (L .boundaries) / 9
+  pub lent-count : size ≡ length (L .boundaries) / 9
   lent-count = boundary-count L
 
-  lent-boundary : (i : ℕ) → i < size → boundaryOf M i ≡ boundaryAt (L .boundaries) (9 * i)
+  pub lent-boundary : (i : ℕ) → i < size → boundaryOf M i ≡ boundaryAt (L .boundaries) (9 * i)
   unfolding boundaryOf mapIn mapOf
   lent-boundary i k = getD-tab (λ i. boundaryAt (L .boundaries) (9 * i)) noBoundary (length (L .boundaries) / 9) i (omega (arith, lent-count))
 
-  lent-fits : (i : ℕ) → i < size → boundaryFits w h (boundaryOf M i) ≡ true
+  pub lent-fits : (i : ℕ) → i < size → boundaryFits w h (boundaryOf M i) ≡ true
   lent-fits i k =
       ap (boundaryFits w h) (lent-boundary i k)
       ∙ none-faulty (λ k. boundaryFits w h (boundaryAt (L .boundaries) (9 * k))) (length (L .boundaries) / 9) (unfold boundariesFault in (A .boundaries)) i (omega (arith, lent-count))
 
   -- 16 found no fault: what is a boundary is a span, with the same endpoints
-  abbrev agrees : ℕ → Bool
+  abbrev pub agrees : ℕ → Bool
   agrees i =
       ltb i lentSpans && ltb i (length (L .boundaries) / 9) && samePoint (segmentAt (L .spans) (4 * i) .a) (segmentAt (L .boundaries) (9 * i) .a)
       && samePoint (segmentAt (L .spans) (4 * i) .b) (segmentAt (L .boundaries) (9 * i) .b)
 
-  agree : (i : ℕ) → i < max lentSpans (length (L .boundaries) / 9) → agrees i ≡ true
+  pub agree : (i : ℕ) → i < max lentSpans (length (L .boundaries) / 9) → agrees i ≡ true
   agree i k = none-faulty agrees (max lentSpans (length (L .boundaries) / 9)) (unfold listsFault in (A .lists)) i k
 
-  spans-enough : size ≤ lentSpans
+  pub spans-enough : size ≤ lentSpans
   spans-enough = go (ltb lentSpans size) refl
     where
       go : (b : Bool) → ltb lentSpans size ≡ b → size ≤ lentSpans
@@ -242,7 +242,7 @@ module _ (L : Lent) (A : RestChecked L) where
       let b = both (eqb (p .x) (q .x)) (eqb (p .y) (q .y)) e in
       λ t. record { x = eqb-true (p .x) (q .x) (b .0) t; y = eqb-true (p .y) (q .y) (b .1) t }
 
-  lent-span : (i : ℕ) → i < size → segmentAt (L .spans) (4 * i) ≡ boundaryOf M i .endpoints
+  pub lent-span : (i : ℕ) → i < size → segmentAt (L .spans) (4 * i) ≡ boundaryOf M i .endpoints
   lent-span i k =
       let s = segmentAt (L .spans) (4 * i) in
       let b = segmentAt (L .boundaries) (9 * i) in
@@ -252,7 +252,7 @@ module _ (L : Lent) (A : RestChecked L) where
       let second = same-point (s .b) (b .b) (p .1) in
       (λ t. record { a = first t; b = second t }) ∙ sym (ap (λ c. c .endpoints) (lent-boundary i k))
 
-  lent-differ : (i : ℕ) → i < size → endpointsDiffer (boundaryOf M i .endpoints) ≡ true
+  pub lent-differ : (i : ℕ) → i < size → endpointsDiffer (boundaryOf M i .endpoints) ≡ true
   lent-differ i k =
       let none-there : firstBelow lentSpans (spanRefusal w h (L .spans)) ≡ none = unfold spansRefusal in (A .spans) in
       let at : orElse (outsideAt w h i (segmentAt (L .spans) (4 * i))) (equalAt i (segmentAt (L .spans) (4 * i))) ≡ none = none-at (spanRefusal w h (L .spans)) lentSpans none-there i (omega (arith, k, spans-enough)) in

@@ -1,3 +1,4 @@
+pub mod games
 pub mod here
 pub mod interiors
 pub mod marks

@@ -9,3 +9,4 @@ pub mod Numbers
 pub mod Proposals
 pub mod Ranked
 pub mod Reports
+pub mod Games

@@ -1,5 +1,6 @@
 // The call that runs a pass. The modules hold the functions that see the lent slice of region records; all other work on records is done on them by value.
 pub mod entries;
+pub mod games;
 pub mod here;
 pub mod interiors;
 pub mod marks;

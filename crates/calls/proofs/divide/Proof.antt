@@ -1,5 +1,6 @@
 -- `calls::divide` meets its contract: labels, scratch and assessed spans, put together in Preparing. Assumes nothing.
 use Rattle.calls.proofs.Preparing.{refused-records, refused-pairs, all-ready}
+use native.Mathlib.Omega.{arith}
 use borrow.Author.Needs.{needs}
 use Rattle.calls.proofs.divide.Statement.{statement}
 use Rattle.calls.proofs.divide.Tie as tie
@@ -40,7 +41,8 @@ returns c =
     let at-queue = at-if1 .before .before in
     let at-masks = at-queue .before .before in
     let at-label-regions = at-masks .before .before .before in
-    λ pass boundaries anchors output e. refused-records pass _ _ _ _ boundaries anchors _ output _ _ _ _ _ e (at-label-regions .label-regions .ensures) (at-if1 .if1 .taken) (at-clear-scratch .clear-scratch .ensures .0) (at-clear-scratch .clear-scratch .ensures .1) (at-clear-numbers .clear-numbers .ensures)
+    ((λ pass boundaries anchors output e. refused-records pass _ _ _ _ boundaries anchors _ output _ _ _ _ _ e (at-label-regions .label-regions .ensures) (at-if1 .if1 .taken) (at-clear-scratch .clear-scratch .ensures .0) (at-clear-scratch .clear-scratch .ensures .1) (at-clear-numbers .clear-numbers .ensures)), omega arith)
+
 
 assess-spans-requires : tie.Need-assess-spans-requires
 assess-spans-requires c κs = search needs
@@ -82,7 +84,8 @@ returns-2 c =
     let at-queue = at-if1 .before .before in
     let at-masks = at-queue .before .before in
     let at-label-regions = at-masks .before .before .before in
-    λ pass boundaries anchors output e. all-ready pass _ _ _ _ boundaries anchors _ output _ _ _ _ _ e (at-label-regions .label-regions .ensures) (at-if1 .if1 .left) (at-assess-spans .assess-spans .ensures) (at-rows .rows .given .1)
+    ((λ pass boundaries anchors output e. all-ready pass _ _ _ _ boundaries anchors _ output _ _ _ _ _ e (at-label-regions .label-regions .ensures) (at-if1 .if1 .left) (at-assess-spans .assess-spans .ensures) (at-rows .rows .given .1)), tt)
+
 
 same-length-10 : tie.Need-same-length-10
 same-length-10 c = search needs
@@ -112,7 +115,8 @@ returns-3 c =
     let at-queue = at-if1 .before .before in
     let at-masks = at-queue .before .before in
     let at-label-regions = at-masks .before .before .before in
-    λ pass boundaries anchors output e. refused-pairs pass _ _ _ _ boundaries anchors _ output _ _ _ _ _ e (at-label-regions .label-regions .ensures) (at-if1 .if1 .left) (at-assess-spans .assess-spans .ensures) (at-enum-told .enum-told .given .1) (at-clear-scratch2 .clear-scratch2 .ensures .0) (at-clear-scratch2 .clear-scratch2 .ensures .1) (at-clear-numbers2 .clear-numbers2 .ensures)
+    ((λ pass boundaries anchors output e. refused-pairs pass _ _ _ _ boundaries anchors _ output _ _ _ _ _ e (at-label-regions .label-regions .ensures) (at-if1 .if1 .left) (at-assess-spans .assess-spans .ensures) (at-enum-told .enum-told .given .1) (at-clear-scratch2 .clear-scratch2 .ensures .0) (at-clear-scratch2 .clear-scratch2 .ensures .1) (at-clear-numbers2 .clear-numbers2 .ensures)), omega arith)
+
 
 pub divide-spec : {M : Type 1} → statement M
 divide-spec =

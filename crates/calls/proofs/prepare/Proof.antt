@@ -62,7 +62,7 @@ returns-2 c =
     let at-divide-arg3 = at-divide .before .before .before in
     let at-enum-told = at-divide-arg3 .before .before .before in
     let at-checks-before = at-enum-told .before .before in
-    (at-divide .divide .ensures) _ _ _ _ (says (at-checks-before .checks-before .ensures) (at-enum-told .enum-told .given .1))
+    (at-divide .divide .ensures .0) _ _ _ _ (says (at-checks-before .checks-before .ensures) (at-enum-told .enum-told .given .1))
 
 pub prepare-spec : {M : Type 1} → statement M
 prepare-spec =

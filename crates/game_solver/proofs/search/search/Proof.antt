@@ -1,5 +1,9 @@
 -- `search::search` meets its contract. The loop's invariant (`Searched`): the sets have the places won within fewer than `moves` moves, and just these have ranks. Assumes nothing.
-use Prim.Native.Nat.{_-_}
+use Prim.Native.Nat.{suc, _+_, _-_, _≤_}
+use native.Mathlib.Omega.{arith}
+use mathlib.Core.Path.{_≡_, sym, ap₂, subst, _∙_}
+use mathlib.Core.Bool.{_&&_}
+use lib.ListN.{length, length-replicate}
 use Rattle.game_solver.proofs.Searching.{Searching, searching-starts, searching-more, searching-still, searching-ends}
 use borrow.Author.Needs.{needs}
 use Rattle.game_solver.proofs.search.search.Statement.{statement}
@@ -16,11 +20,10 @@ loop-holds c = searching-starts _ _ _ _ (c .pre .0 .few) (c .pre .1)
 
 sweep-requires : tie.Need-sweep-requires Inv-loop μ-loop
 sweep-requires c κs =
-    let at-runner = c .before in
-    let turn = at-runner .before .before .before in
+    let copied = c .before .before in
+    let turn = copied .before .before in
     let head = turn .before in
-    let entry = head .before in
-    (entry .pre .0, head .loop .inv .runnerLong, head .loop .inv .guardLong)
+    (head .before .pre .0, head .loop .inv .runnerLong, head .loop .inv .guardLong)
 
 are-same-requires : tie.Need-are-same-requires Inv-loop μ-loop
 are-same-requires c κs = search needs
@@ -33,41 +36,38 @@ returns c =
     let at-guards = c .before in
     let at-runners = at-guards .before .before .before in
     let at-sweep = at-runners .before .before .before in
-    let at-runner = at-sweep .before .before in
-    let turn = at-runner .before .before .before in
+    let lent = at-sweep .before .before .before in
+    let turn = lent .before .before in
     let head = turn .before in
-    let entry = head .before in
-    (searching-still _ _ _ _ _ _ _ _ _ (entry .pre .0 .few) (head .loop .inv) (at-sweep .sweep .ensures .0) (at-runners .are-same .ensures) (at-guards .are-same2 .ensures) (c .if1 .taken), head .loop .inv .long)
+    (searching-still _ _ _ _ _ _ _ _ _ (head .before .pre .0 .few) (head .loop .inv) (at-sweep .sweep .ensures .0) (at-runners .are-same .ensures) (at-guards .are-same2 .ensures) (c .if1 .taken), head .loop .inv .long)
 
 add-moves : tie.Need-add-moves Inv-loop μ-loop
 add-moves c = search needs
 
 put-ranks-requires : tie.Need-put-ranks-requires Inv-loop μ-loop
 put-ranks-requires c κs =
-    let at-guard3 = c .before in
-    let at-are-same2 = at-guard3 .before .before .before in
-    let at-runners = at-are-same2 .before .before .before in
+    let changed = c .before .before .before in
+    let at-guards = changed .before in
+    let at-runners = at-guards .before .before .before in
     let at-sweep = at-runners .before .before .before in
-    let at-runner = at-sweep .before .before in
-    let turn = at-runner .before .before .before in
-    let at-loop = turn .before in
-    at-loop .loop .inv .long
+    let lent = at-sweep .before .before .before in
+    let turn = lent .before .before in
+    turn .before .loop .inv .long
 
 loop-less : tie.Need-loop-less Inv-loop μ-loop
 loop-less c = search needs
 
 loop-again : tie.Need-loop-again Inv-loop μ-loop
 loop-again c =
-    let at-runner3 = c .before .before .before in
-    let changed = at-runner3 .before in
-    let at-old-guard2 = changed .before .before in
-    let at-runners = at-old-guard2 .before .before in
+    let counted = c .before .before in
+    let changed = counted .before .before in
+    let at-guards = changed .before in
+    let at-runners = at-guards .before .before .before in
     let at-sweep = at-runners .before .before .before in
-    let at-runner = at-sweep .before .before in
-    let turn = at-runner .before .before .before in
+    let lent = at-sweep .before .before .before in
+    let turn = lent .before .before in
     let head = turn .before in
-    let entry = head .before in
-    searching-more _ _ _ _ _ _ _ _ _ _ (entry .pre .0 .few) (head .loop .inv) (turn .loop-test .taken) (at-sweep .sweep .ensures .0) (at-sweep .sweep .ensures .1 .0) (at-sweep .sweep .ensures .1 .1) (c .put-ranks .ensures .0) (c .put-ranks .ensures .1)
+    searching-more _ _ _ _ _ _ _ _ _ _ (head .before .pre .0 .few) (head .loop .inv) (turn .loop-test .taken) (at-sweep .sweep .ensures .0) (at-sweep .sweep .ensures .1 .0) (at-sweep .sweep .ensures .1 .1) (c .put-ranks .ensures .0) (c .put-ranks .ensures .1)
 
 returns-2 : tie.Need-returns-2 Inv-loop μ-loop
 returns-2 c =

@@ -1,0 +1,83 @@
+"""Runner and guard on a graph: who can force a win from every place, in how few moves, and by which region."""
+from __future__ import annotations
+
+import ctypes
+import enum
+from collections.abc import Iterable
+from typing import NamedTuple
+
+from ._library import U8, U16, U32, U64, Function, ListOf, lent
+from .kept import ROW_NUMBERS, Region
+from .partition import Answer, Room
+from .refusal import Refusal
+from .sheet import Sheet, flat, grouped
+
+VERDICT_NUMBERS = 3
+MOST_GAME_REGIONS = 32
+VERDICTS_LENGTH = VERDICT_NUMBERS * 2 * MOST_GAME_REGIONS ** 2
+
+
+class Winner(enum.IntEnum):
+    RUNNER = 1
+    GUARD = 2
+
+
+class Verdict(NamedTuple):
+    """of a place, for all ways of play"""
+    winner: Winner
+    moves: int                      # the fewest of both sides in which the runner can force a win; 0 for the guard
+    region: int                     # the least that serves a winner who is to move; 0 where play is over or the winner is not to move
+
+
+class Game(NamedTuple):
+    regions: int
+    goal: int
+    verdicts: list[Verdict]
+
+    def at(self, runner: int, guard: int, runners_turn: bool) -> Verdict:
+        """where both stand on these regions, from 1"""
+        if not (1 <= runner <= self.regions and 1 <= guard <= self.regions):
+            raise ValueError(f'{runner}, {guard}: the regions are 1 to {self.regions}')
+        return self.verdicts[2 * ((runner - 1) * self.regions + guard - 1) + (not runners_turn)]
+
+
+SOLVE_GAME = Function('jenwyllt_solve_game', Answer, regions=U64, pairs=ListOf(U32), goal=U64, verdicts=ListOf(U32, filled=True))
+
+
+def verdicts_in(numbers: Iterable[int]) -> list[Verdict]:
+    return [Verdict(Winner(winner), moves, region) for winner, moves, region in grouped(list(numbers), VERDICT_NUMBERS)]
+
+
+def solve_game(regions: int, edges: Iterable[tuple[int, int]], goal: int) -> Game:
+    """on a graph of up to 32 regions, numbered from 1; an edge that names another number is none. Refused 23 or 24"""
+    verdicts = lent(U32, VERDICTS_LENGTH)
+    count = SOLVE_GAME(regions, lent(U32, [number for edge in edges for number in edge]), goal, verdicts).count()
+    return Game(regions, goal, verdicts_in(verdicts[:VERDICT_NUMBERS * count]))
+
+
+class GameAnswer(ctypes.Structure):
+    """number 0, the count of rows and the regions of the kept graph, or a refusal's number and place"""
+    _fields_ = [('number', U64), ('value', U64), ('regions', U64)]
+
+
+RUNNER_AND_GUARD = Function(
+    'jenwyllt_runner_and_guard', GameAnswer, **{'pass': U64}, width=U64, height=U64, cells=ListOf(U8), spans=ListOf(U64), boundaries=ListOf(U64), anchors=ListOf(U64),
+    goal=U64, labels=ListOf(U32, filled=True), masks=ListOf(U16, filled=True), queue=ListOf(U32, filled=True), tallies=ListOf(U32, filled=True),
+    pairs=ListOf(U32, filled=True), records=ListOf(Region, filled=True), output=ListOf(U64, filled=True), verdicts=ListOf(U32, filled=True))
+
+
+def runner_and_guard(sheet: Sheet, goal: int) -> Game:
+    """on the kept graph of a map, for the pass of its sheet. Refused 1 to 9, 16, 23 or 24"""
+    room = Room(len(sheet.cells), len(sheet.spans))
+    read = lent(U8, sheet.cells), *(lent(U64, flat(entries)) for entries in (sheet.spans, sheet.boundaries, sheet.anchors))
+    records, output = lent(Region, len(sheet.cells)), lent(U64, ROW_NUMBERS * len(sheet.boundaries))
+    verdicts = lent(U32, VERDICTS_LENGTH)
+
+    def call() -> int:
+        answer = RUNNER_AND_GUARD(sheet.pass_number, sheet.width, sheet.height, *read, goal, *room.lists(), records, output, verdicts)
+        if answer.number:
+            raise Refusal(answer.number, answer.value)
+        return answer.regions
+
+    regions = room.filled_by(call)
+    return Game(regions, goal, verdicts_in(verdicts[:VERDICT_NUMBERS * 2 * regions ** 2]))

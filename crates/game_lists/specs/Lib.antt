@@ -1,0 +1,4 @@
+pub mod Early
+pub mod Forms
+pub mod Prepared
+pub mod Kept

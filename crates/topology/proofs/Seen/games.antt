@@ -1,0 +1,2 @@
+pub mod run_kept
+pub mod topology_runner_and_guard

@@ -1,0 +1,170 @@
+// The call that plays on the kept graph of a map (document 02, request 14): a pass, the partition by what it keeps, and the game.
+use crate::marks::mark_removed;
+use crate::records::fill;
+use crate::records::renew;
+use calls::Prepared;
+use checks::limits::NUMBERS_PER_BOUNDARY;
+use checks::limits::NUMBERS_PER_SPAN;
+use context::Region;
+use game_lists::checked::prepare_game;
+use game_lists::kept::divide_kept;
+use game_lists::play::GameAnswer;
+use game_lists::play::play;
+use game_lists::play::refused;
+use views::finish;
+ghost use lib.ListN.{length};
+ghost use Rattle.game_lists.specs.Forms.{answerIn};
+ghost use Rattle.topology.specs.Games.{Begun, RunsKept, RanKept, PlayedOver};
+
+// How many rows are kept, and the regions and rows of pairs of the kept graph.
+pub struct Second {
+    pub kept: usize,
+    pub regions: usize,
+    pub rows: usize,
+}
+
+// Behind the first partition: runs the pass, partitions again by what it keeps, and writes the rows.
+pub fn run_kept(
+    pass: u64,
+    records: &mut [Region],
+    width: usize,
+    height: usize,
+    cells: &[u8],
+    spans: &[u64],
+    boundaries: &[u64],
+    anchors: &[u64],
+    regions: usize,
+    rows: usize,
+    labels: &mut [u32],
+    masks: &mut [u16],
+    queue: &mut [u32],
+    tallies: &mut [u32],
+    pairs: &mut [u32],
+    output: &mut [u64],
+) -> Second
+    requires { ⌜ ((B : Begun) × RunsKept B pass width height (now cells) (now spans) (now boundaries) (now anchors)
+        (length (now records)) (length (now output)) regions rows (now labels) (now masks) (now queue) (now tallies) (now pairs)) ⌝ }
+    ensures { λ r. ⌜ ((B : Begun) → RunsKept B pass width height
+        (now (cells .entry)) (now (spans .entry)) (now (boundaries .entry)) (now (anchors .entry))
+        (length (now (records .entry))) (length (now (output .entry))) regions rows
+        (now (labels .entry)) (now (masks .entry)) (now (queue .entry)) (now (tallies .entry)) (now (pairs .entry))
+        → RanKept B pass width height (now (cells .entry)) (now (spans .entry)) (now (boundaries .entry)) (now (anchors .entry))
+        (now (records .entry)) (now (output .entry)) r
+        (now (labels .exit)) (now (masks .exit)) (now (queue .exit)) (now (tallies .exit)) (now (pairs .exit))
+        (now (records .exit)) (now (output .exit))) ⌝ }
+{
+    let needed = height * width;
+    let room = records.len();
+    let mut removed = [false; 256];
+    fill(records, regions, width, cells, labels, queue);
+    mark_removed(
+        pass,
+        records,
+        width,
+        needed,
+        labels,
+        anchors,
+        regions,
+        rows,
+        spans.len() / NUMBERS_PER_SPAN,
+        boundaries,
+        tallies,
+        pairs,
+        masks,
+        queue,
+        &mut removed,
+    );
+    let graph = divide_kept(
+        width, height, cells, spans, &removed, rows, room, labels, masks, queue, tallies, pairs,
+    );
+    renew(
+        records,
+        regions,
+        graph.regions,
+        width,
+        cells,
+        labels,
+        queue,
+    );
+    let kept = finish(
+        needed,
+        boundaries.len() / NUMBERS_PER_BOUNDARY,
+        boundaries,
+        &removed,
+        masks,
+        queue,
+        output,
+    );
+    Second {
+        kept,
+        regions: graph.regions,
+        rows: graph.rows,
+    }
+}
+
+// For callers in any language.
+#[no_mangle]
+pub extern "C" fn topology_runner_and_guard(
+    pass: u64,
+    width: u64,
+    height: u64,
+    cells: &[u8],
+    spans: &[u64],
+    boundaries: &[u64],
+    anchors: &[u64],
+    goal: u64,
+    labels: &mut [u32],
+    masks: &mut [u16],
+    queue: &mut [u32],
+    tallies: &mut [u32],
+    pairs: &mut [u32],
+    records: &mut [Region],
+    output: &mut [u64],
+    verdicts: &mut [u32],
+) -> GameAnswer
+    ensures { λ r. ⌜ PlayedOver pass width height
+        (now (cells .entry)) (now (spans .entry)) (now (boundaries .entry)) (now (anchors .entry)) goal
+        (now (labels .entry)) (now (masks .entry)) (now (queue .entry)) (now (tallies .entry)) (now (pairs .entry))
+        (now (records .entry)) (now (output .entry)) (now (verdicts .entry)) (answerIn r)
+        (now (labels .exit)) (now (masks .exit)) (now (queue .exit)) (now (tallies .exit)) (now (pairs .exit))
+        (now (records .exit)) (now (output .exit)) (now (verdicts .exit)) ⌝ }
+{
+    let room = records.len();
+    let lent = output.len();
+    let table = verdicts.len();
+    let prepared = prepare_game(
+        pass, width, height, cells, spans, boundaries, anchors, room, lent, table, labels, masks,
+        queue, tallies, pairs,
+    );
+    match prepared {
+        Prepared::Refused(number, place) => refused(number, place as u64),
+        Prepared::Ready(regions, rows) => {
+            let second = run_kept(
+                pass,
+                records,
+                width as usize,
+                height as usize,
+                cells,
+                spans,
+                boundaries,
+                anchors,
+                regions,
+                rows,
+                labels,
+                masks,
+                queue,
+                tallies,
+                pairs,
+                output,
+            );
+            play(
+                second.kept,
+                second.regions,
+                goal,
+                pairs,
+                second.rows,
+                verdicts,
+            )
+        }
+    }
+}
