@@ -28,12 +28,12 @@ use Rattle.topology.specs.Filled.{Fills, Filled}
 -- ---- lists
 
 module _ {A B : Type 0} (f : A → B) where
-  map-set : (l : List A) (i : ℕ) (a : A) → map f (set l i a) ≡ set (map f l) i (f a)
+  pub map-set : (l : List A) (i : ℕ) (a : A) → map f (set l i a) ≡ set (map f l) i (f a)
   map-set [] i a = refl
   map-set (x ∷ l) zero a = refl
   map-set (x ∷ l) (suc i) a = ap {B = List B} (λ r. f x ∷ r) (map-set l i a)
 
-  map-drop : (n : ℕ) (l : List A) → drop n (map f l) ≡ map f (drop n l)
+  pub map-drop : (n : ℕ) (l : List A) → drop n (map f l) ≡ map f (drop n l)
   map-drop zero l = refl
   map-drop (suc n) [] = refl
   map-drop (suc n) (x ∷ l) = map-drop n l

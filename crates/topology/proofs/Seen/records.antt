@@ -1,1 +1,3 @@
+pub mod clear_records
 pub mod fill
+pub mod renew
