@@ -44,3 +44,8 @@ abbrev pub DividedAs : (w h : ℕ) (cells spans : List ℕ) (room : ℕ) (l m q 
 DividedAs w h cells spans room l m q t p r l′ m′ q′ t′ p′ =
     (pass : ℕ) (boundaries anchors : List ℕ) (output : ℕ) → none ≡ earlyRefusal pass w h cells spans boundaries anchors (length l) (length m) (length q) (length t) output
     → PreparedAs pass w h cells spans boundaries anchors room output l m q t p r l′ m′ q′ t′ p′
+
+-- a refusal has a number
+abbrev pub RefusedLate : Prepared → Type 0
+RefusedLate (Refused number place) = 1 ≤ number
+RefusedLate (Ready regions rows) = Unit {0}

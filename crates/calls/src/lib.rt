@@ -14,7 +14,7 @@ use checks::limits::NUMBERS_PER_SPAN;
 use scratch::clear_scratch;
 ghost use lib.ListN.{length};
 ghost use Rattle.areas.specs.Fit.{Fit};
-ghost use Rattle.calls.specs.Prepared.{PreparedAs, DividedAs};
+ghost use Rattle.calls.specs.Prepared.{PreparedAs, DividedAs, RefusedLate};
 
 // A refusal with its number and place, or how many regions and rows of pairs there are.
 pub enum Prepared {
@@ -24,7 +24,7 @@ pub enum Prepared {
 
 // Labels, tallies and pairs of lists that no check before 11 refuses. Where there are more regions than records, the answer is refusal 11; where there are more pairs
 // than rows, 12. Otherwise the queue is left with the walkable cells, region by region.
-fn divide(
+pub fn divide(
     width: usize,
     height: usize,
     cells: &[u8],
@@ -38,6 +38,7 @@ fn divide(
 ) -> Prepared
     requires { ⌜ Fit width height (now cells) (now spans) (length (now labels)) (length (now masks)) (length (now queue)) (length (now tallies)) ⌝ }
     ensures { λ r. ⌜ DividedAs width height (now (cells .entry)) (now (spans .entry)) room (now (labels .entry)) (now (masks .entry)) (now (queue .entry)) (now (tallies .entry)) (now (pairs .entry)) r (now (labels .exit)) (now (masks .exit)) (now (queue .exit)) (now (tallies .exit)) (now (pairs .exit)) ⌝ }
+    ensures { λ r. ⌜ RefusedLate r ⌝ }
 {
     let needed = height * width;
     let regions = label_regions(width, height, cells, spans, labels, masks, queue);

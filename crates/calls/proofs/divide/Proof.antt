@@ -1,5 +1,6 @@
 -- `calls::divide` meets its contract: labels, scratch and assessed spans, put together in Preparing. Assumes nothing.
 use Rattle.calls.proofs.Preparing.{refused-records, refused-pairs, all-ready}
+use native.Mathlib.Omega.{arith}
 use borrow.Author.Needs.{needs}
 use Rattle.calls.proofs.divide.Statement.{statement}
 use Rattle.calls.proofs.divide.Tie as tie
@@ -32,7 +33,7 @@ same-length-4 : tie.Need-same-length-4
 same-length-4 c = search needs
 
 returns : tie.Need-returns
-returns c = λ pass boundaries anchors output e. refused-records pass _ _ _ _ boundaries anchors _ output _ _ _ _ _ e (c .before .before .before .before .before .before .before .before .before .before .before .before .before .before .before .before .before .before .label-regions .ensures) (c .before .before .before .before .before .before .before .before .before .before .before .if1 .taken) (c .before .before .before .before .before .before .before .before .clear-scratch .ensures .0) (c .before .before .before .before .before .before .before .before .clear-scratch .ensures .1) (c .before .before .clear-numbers .ensures)
+returns c = (λ pass boundaries anchors output e. refused-records pass _ _ _ _ boundaries anchors _ output _ _ _ _ _ e (c .before .before .before .before .before .before .before .before .before .before .before .before .before .before .before .before .before .before .label-regions .ensures) (c .before .before .before .before .before .before .before .before .before .before .before .if1 .taken) (c .before .before .before .before .before .before .before .before .clear-scratch .ensures .0) (c .before .before .before .before .before .before .before .before .clear-scratch .ensures .1) (c .before .before .clear-numbers .ensures), omega arith)
 
 assess-spans-requires : tie.Need-assess-spans-requires
 assess-spans-requires c κs = search needs
@@ -65,7 +66,7 @@ same-length-9 : tie.Need-same-length-9
 same-length-9 c = search needs
 
 returns-2 : tie.Need-returns-2
-returns-2 c = λ pass boundaries anchors output e. all-ready pass _ _ _ _ boundaries anchors _ output _ _ _ _ _ e (c .before .before .before .before .before .before .before .before .before .before .before .before .before .before .before .before .before .before .label-regions .ensures) (c .before .before .before .before .before .before .before .before .before .before .before .if1 .left) (c .before .before .before .before .before .before .before .assess-spans .ensures) (c .before .rows .given .1)
+returns-2 c = (λ pass boundaries anchors output e. all-ready pass _ _ _ _ boundaries anchors _ output _ _ _ _ _ e (c .before .before .before .before .before .before .before .before .before .before .before .before .before .before .before .before .before .before .label-regions .ensures) (c .before .before .before .before .before .before .before .before .before .before .before .if1 .left) (c .before .before .before .before .before .before .before .assess-spans .ensures) (c .before .rows .given .1), tt)
 
 same-length-10 : tie.Need-same-length-10
 same-length-10 c = search needs
@@ -83,7 +84,7 @@ same-length-14 : tie.Need-same-length-14
 same-length-14 c = search needs
 
 returns-3 : tie.Need-returns-3
-returns-3 c = λ pass boundaries anchors output e. refused-pairs pass _ _ _ _ boundaries anchors _ output _ _ _ _ _ e (c .before .before .before .before .before .before .before .before .before .before .before .before .before .before .before .before .before .before .before .before .before .before .before .before .before .before .before .before .label-regions .ensures) (c .before .before .before .before .before .before .before .before .before .before .before .before .before .before .before .before .before .before .before .before .before .if1 .left) (c .before .before .before .before .before .before .before .before .before .before .before .before .before .before .before .before .before .assess-spans .ensures) (c .before .before .before .before .before .before .before .before .before .before .before .enum-told .given .1) (c .before .before .before .before .before .before .before .before .clear-scratch2 .ensures .0) (c .before .before .before .before .before .before .before .before .clear-scratch2 .ensures .1) (c .before .before .clear-numbers2 .ensures)
+returns-3 c = (λ pass boundaries anchors output e. refused-pairs pass _ _ _ _ boundaries anchors _ output _ _ _ _ _ e (c .before .before .before .before .before .before .before .before .before .before .before .before .before .before .before .before .before .before .before .before .before .before .before .before .before .before .before .before .label-regions .ensures) (c .before .before .before .before .before .before .before .before .before .before .before .before .before .before .before .before .before .before .before .before .before .if1 .left) (c .before .before .before .before .before .before .before .before .before .before .before .before .before .before .before .before .before .assess-spans .ensures) (c .before .before .before .before .before .before .before .before .before .before .before .enum-told .given .1) (c .before .before .before .before .before .before .before .before .clear-scratch2 .ensures .0) (c .before .before .before .before .before .before .before .before .clear-scratch2 .ensures .1) (c .before .before .clear-numbers2 .ensures), omega arith)
 
 pub divide-spec : {M : Type 1} → statement M
 divide-spec =

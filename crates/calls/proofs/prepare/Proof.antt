@@ -45,7 +45,7 @@ same-length-5 : tie.Need-same-length-5
 same-length-5 c = search needs
 
 returns-2 : tie.Need-returns-2
-returns-2 c = (c .before .before .before .before .before .before .before .before .before .before .divide .ensures) _ _ _ _ (says (c .before .before .before .before .before .before .before .before .before .before .before .before .before .before .before .before .before .before .checks-before .ensures) (c .before .before .before .before .before .before .before .before .before .before .before .before .before .before .before .before .enum-told .given .1))
+returns-2 c = (c .before .before .before .before .before .before .before .before .before .before .divide .ensures .0) _ _ _ _ (says (c .before .before .before .before .before .before .before .before .before .before .before .before .before .before .before .before .before .before .checks-before .ensures) (c .before .before .before .before .before .before .before .before .before .before .before .before .before .before .before .before .enum-told .given .1))
 
 pub prepare-spec : {M : Type 1} → statement M
 prepare-spec =
