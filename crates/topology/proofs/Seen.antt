@@ -6,4 +6,5 @@ pub mod proposals
 pub mod records
 pub mod runs
 pub mod slice
+pub mod to_rest
 pub mod topology_kept_boundaries

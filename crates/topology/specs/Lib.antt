@@ -8,3 +8,4 @@ pub mod Mouths
 pub mod Numbers
 pub mod Proposals
 pub mod Reports
+pub mod Rest

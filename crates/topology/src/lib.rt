@@ -9,6 +9,7 @@ pub mod proposals;
 pub mod records;
 pub mod runs;
 pub mod slice;
+pub mod to_rest;
 
 use calls::Prepared;
 use calls::prepare;

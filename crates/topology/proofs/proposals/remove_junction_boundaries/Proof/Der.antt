@@ -102,9 +102,6 @@ module _ (κs : Lfts 7) (qs : Shares 7) where
   abbrev row26 : Row
   row26 = msleft (rtF fBool) (tyRef erased mut tyBool)
 
-  abbrev row27 : Row
-  row27 = any-gone (tyInt w64)
-
   abbrev pub G5 : Cx
   G5 = patched ((10, row1) ∷ []) ([]) G0
 
@@ -169,7 +166,7 @@ module _ (κs : Lfts 7) (qs : Shares 7) where
   G54 = patched ((0, row15) ∷ (12, row8) ∷ []) ([]) G0
 
   abbrev pub G57 : Cx
-  G57 = patched ((0, row15) ∷ (2, row27) ∷ (3, row27) ∷ []) ([]) G0
+  G57 = patched ((0, row15) ∷ (2, (any-gone (ty 2))) ∷ (3, (any-gone (ty 3))) ∷ []) ([]) G0
 
 module _ {M : Type 1} (𝓤 : URA M) (H : Heap 𝓤) (A : Atoms 𝓤) (W : Given 𝓤 H A) (𝓣 : Tables 𝓤 H)
     (known0 : Knows 𝓤 H A W 𝓣 6 K0.ps K0.r R0.Asked R0.Learnt "junctions::proposals::find_proposals") (known1 : Knows 𝓤 H A W 𝓣 5 K1.ps K1.r R1.Asked R1.Learnt "topology::proposals::allow_proposals") (known2 : Knows 𝓤 H A W 𝓣 6 K2.ps K2.r R2.Asked R2.Learnt "junction_selection::selection::select_proposals") (κs : Lfts 7) (qs : Shares 7) (bs : List ℕ) where
