@@ -59,6 +59,18 @@ pub record RestAccepted (L : Lent) : Type 0 where
   pub records : recordsFault L (startMap (mapIn L)) ≡ none
   pub pairs : pairsFault L (startMap (mapIn L)) ≡ none
 
+-- a call that runs a pass and that no check before 11 refuses
+pub record Unfaulted (I : Lent) : Type 0 where
+  pub sides : sidesFault (I .width) (I .height) ≡ none
+  pub cells : cellsFault (I .width) (I .height) (I .cells) ≡ none
+  pub whole : (isWhole numbersPerSpan (I .spans) && isWhole numbersPerBoundary (I .boundaries) && isWhole numbersPerAnchor (I .anchors)) ≡ true
+  pub pass : passFault (I .pass) ≡ none
+  pub spans : spansRefusal (I .width) (I .height) (I .spans) ≡ none
+  pub boundaries : boundariesFault (I .width) (I .height) (I .boundaries) ≡ none
+  pub anchors : anchorsFault (I .width) (I .height) (I .anchors) ≡ none
+  pub elevations : elevationsFault (I .cells) ≡ none
+  pub room : (partitionHasRoom I && outputRoom (length (I .boundaries) / numbersPerBoundary) (length (I .output))) ≡ true
+
 -- the checks of `restVerdict`, in its order
 abbrev checks : Lent → List (Option Refusal)
 checks L =
@@ -308,10 +320,10 @@ module _ (L : Lent) (A : RestChecked L) where
     unfolding mapIn mapOf startMap keptMap mapWith
     inner-map = flat-map w h (L .cells) (L .anchors) (K .spans) (K .boundaries)
 
-    kept-few : length ps ≤ size
+    pub kept-few : length ps ≤ size
     kept-few = omega (arith, run-fewer M reached .spans, kept-count S ps, start-count M)
 
-    at-most-256 : size ≤ 256
+    pub at-most-256 : size ≤ 256
     at-most-256 =
         let p = both (isWhole numbersPerSpan (L .spans) && isWhole numbersPerBoundary (L .boundaries)) (isWhole numbersPerAnchor (L .anchors)) (A .whole) in
         let q = both (isWhole numbersPerSpan (L .spans)) (isWhole numbersPerBoundary (L .boundaries)) (p .0) in
@@ -380,6 +392,21 @@ module _ (L : Lent) (A : RestChecked L) where
         (le-leb (2 * (length (flatSpans (K .spans)) / 4)) (length tallies) (omega (arith, span-count (K .spans), spans-kept, kept-few, spans-enough, leb-true (2 * lentSpans) (length (L .tallies)) (q .1), talliesLong))))
         (le-leb (5 * (length (flatBoundaries (K .boundaries)) / 9)) (length output) (omega (arith, flat.boundary-count (K .boundaries), kept-boundaries S ps, kept-few, at-most-256, outputLong)))
 
+    -- no check before 11 refuses the call
+    pub inner-unfaulted : Unfaulted inner
+    inner-unfaulted =
+        record {
+          sides = A .sides;
+          cells = A .cells;
+          whole = whole;
+          pass = isPass;
+          spans = spans-fit;
+          boundaries = boundaries-fit;
+          anchors = A .anchors;
+          elevations = A .elevations;
+          room = room;
+        }
+
     -- the call without a fault before 11, whose two answers are given
     inner-with : recordsFault inner (mapIn inner) ≡ none → pairsFault inner (mapIn inner) ≡ none → Accepted inner
     inner-with eleven twelve =
@@ -428,7 +455,7 @@ module _ (L : Lent) (A : RestChecked L) where
     -- ---- the first call
 
     module _ (isFirst : ps ≡ run 0 (length (S .boundaries))) where
-      first-map : mapIn inner ≡ S
+      pub first-map : mapIn inner ≡ S
       first-map = inner-map ∙ ap (keptMap S) isFirst ∙ start-kept M
 
       -- it is refused 11 or 12 exactly when the run is

@@ -61,12 +61,12 @@ part-five at l h =
 
 -- ---- one row more
 
-concat-append : (f : Row → List ℕ) (l m : List Row) → concatMap f (l ++ m) ≡ concatMap f l ++ concatMap f m
+pub concat-append : {A : Type 0} (f : A → List ℕ) (l m : List A) → concatMap f (l ++ m) ≡ concatMap f l ++ concatMap f m
 unfolding concatMap
 concat-append f [] m = refl
 concat-append f (r ∷ l) m = ap (λ t. f r ++ t) (concat-append f l m) ∙ sym (append-assoc (f r) (concatMap f l) (concatMap f m))
 
-concat-length : (f : Row → List ℕ) (size : ℕ) → ((r : Row) → length (f r) ≡ size) → ((n : ℕ) → size * suc n ≡ size + size * n) → size * 0 ≡ 0 → (l : List Row)
+pub concat-length : {A : Type 0} (f : A → List ℕ) (size : ℕ) → ((r : A) → length (f r) ≡ size) → ((n : ℕ) → size * suc n ≡ size + size * n) → size * 0 ≡ 0 → (l : List A)
     → length (concatMap f l) ≡ size * length l
 unfolding concatMap
 concat-length f size long step none [] = sym none

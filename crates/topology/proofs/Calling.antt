@@ -27,7 +27,7 @@ use Rattle.views.proofs.AfterPartition.{ready-shown, ready-boundaries, ready-pa
 use Rattle.views.proofs.Viewing as viewing
 use Rattle.views.proofs.Closing.{marked-equal, marked-none, ran-kept}
 use Rattle.topology.specs.Filled.{Fills, Filled}
-use Rattle.topology.specs.Held.{filled-held, map-counted}
+use Rattle.topology.specs.Held.{HoldsRecords, filled-held, map-counted}
 use Rattle.topology.specs.Mouths.{NoMarks}
 use Rattle.topology.specs.Marks.{MapContext, IsPass, Lent, MarkedFor}
 use Rattle.topology.specs.Answers.{RanOver}
@@ -89,10 +89,14 @@ module _ {pass w h : ℕ} {cells spans boundaries anchors : List ℕ} {room outp
     pub ready-fills : length q′ ≡ length q → Fills M room regions w cells l′ q′
     ready-fills long = record { shown = ready-shown R long; count = R .count; enough = R .enough }
 
+    -- records that hold the map's
+    pub ready-shows : {s′ : List Region} → HoldsRecords (contextOf M) s′ → length m′ ≡ length m → length q′ ≡ length q
+        → Lent M s′ w (h * w) l′ anchors regions rows (length spans / numbersPerSpan) boundaries t′ p′ (length m′) (length q′)
+    ready-shows held lm lq = record { onMap = map-context; partitioned = ready-partitioned R lm lq; held = held; bounds = ready-boundaries R }
+
     module _ {s s′ : List Region} (F : Filled M s s′) where
       pub ready-lent : length m′ ≡ length m → length q′ ≡ length q → Lent M s′ w (h * w) l′ anchors regions rows (length spans / numbersPerSpan) boundaries t′ p′ (length m′) (length q′)
-      ready-lent lm lq =
-          record { onMap = map-context; partitioned = ready-partitioned R lm lq; held = filled-held F; bounds = ready-boundaries R }
+      ready-lent lm lq = ready-shows (filled-held F) lm lq
 
       -- ---- what they leave
 

@@ -34,7 +34,7 @@ pub use borrow.Rule.Slice.Know.{g-sl-known}
 pub use borrow.Rule.Slice.Mut.{msleft, mslice, reads-mslice, reads-mslice-len}
 pub use borrow.Rule.Slice.Part.{g-back-slᵖ, mslice-owedP, t-sl-relendᵖ}
 pub use borrow.Rule.Slice.Relend.{asMut, asShr, g-back-sl, mslice-owed, msptr, reads-owed-len, ssptr, t-sl-aggregate, t-sl-relend}
-pub use borrow.Rule.Slice.Reshare.{g-back-sl-shr, mslice-owedS, reads-owedS-len, t-sl-reshare}
+pub use borrow.Rule.Slice.Reshare.{g-back-sl-shr, g-back-sl-shrᵖ, mslice-owedS, mslice-owedSᵖ, reads-owedS-len, t-sl-reshare, t-sl-reshareᵖ}
 pub use borrow.Rule.Slice.Shared.{lenV, reads-sslice, reads-sslice-len, room-sslice}
 pub use borrow.Rule.Token.Open.{puts-whole, takes-whole}
 pub use borrow.Rule.WayLend.{g-way-back, puts-open, wt-mref, wt-mut}

@@ -8,4 +8,5 @@ pub mod ranked
 pub mod records
 pub mod runs
 pub mod slice
+pub mod to_rest
 pub mod topology_kept_boundaries

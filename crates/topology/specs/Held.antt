@@ -30,7 +30,7 @@ module _ {C : Context} {records : List Region} (h : HoldsRecords C records) {i r
   record-is {s} read = ap recordOf (read s) ∙ ap (λ i. recordOf (getD records i s)) e ∙ h .at r from to s
 
 -- `rest` is what stands beyond them
-held-first : (C : Context) (records : List Region) (rest : List def.Region) → map recordOf records ≡ recordsOf C ++ rest → HoldsRecords C records
+pub held-first : (C : Context) (records : List Region) (rest : List def.Region) → map recordOf records ≡ recordsOf C ++ rest → HoldsRecords C records
 unfolding recordsOf run
 held-first C records rest e =
     record {

@@ -10,3 +10,4 @@ pub mod Proposals
 pub mod Ranked
 pub mod Reports
 pub mod Games
+pub mod Rest

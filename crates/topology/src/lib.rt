@@ -11,6 +11,7 @@ pub mod ranked;
 pub mod records;
 pub mod runs;
 pub mod slice;
+pub mod to_rest;
 
 use calls::Prepared;
 use calls::prepare;

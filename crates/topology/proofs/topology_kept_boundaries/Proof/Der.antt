@@ -204,9 +204,6 @@ module _ (κs : Lfts 11) (qs : Shares 11) where
   abbrev row69 : Row
   row69 = msleft (rtF (fInt w64)) (tyRef erased mut (tyInt w64))
 
-  abbrev row70 : Row
-  row70 = any-gone (tyInt w64)
-
   abbrev pub G14 : Cx
   G14 = patched ((15, row1) ∷ (16, row1) ∷ []) ((11, alive) ∷ []) G0
 
@@ -412,10 +409,10 @@ module _ (κs : Lfts 11) (qs : Shares 11) where
   G192 = patched ((0, row20) ∷ (36, row20) ∷ []) ([]) G0
 
   abbrev pub G195 : Cx
-  G195 = patched ((0, row20) ∷ (1, row70) ∷ (2, row70) ∷ []) ([]) G0
+  G195 = patched ((0, row20) ∷ (1, (any-gone (ty 1))) ∷ (2, (any-gone (ty 2))) ∷ []) ([]) G0
 
   abbrev pub G196 : Cx
-  G196 = patched ((0, row20) ∷ (1, row70) ∷ (2, row70) ∷ (3, row70) ∷ []) ([]) G0
+  G196 = patched ((0, row20) ∷ (1, (any-gone (ty 1))) ∷ (2, (any-gone (ty 2))) ∷ (3, (any-gone (ty 3))) ∷ []) ([]) G0
 
   abbrev pub Γ-from-match : Cx
   Γ-from-match = G50

@@ -125,9 +125,6 @@ module _ (κs : Lfts 11) (qs : Shares 11) where
   abbrev row33 : Row
   row33 = whole (Declared.row Answer.the-type)
 
-  abbrev row34 : Row
-  row34 = any-gone (tyInt w64)
-
   abbrev pub G13 : Cx
   G13 = patched ((16, row1) ∷ []) ([]) G0
 
@@ -201,10 +198,10 @@ module _ (κs : Lfts 11) (qs : Shares 11) where
   G78 = patched ((0, row33) ∷ (16, row1) ∷ (18, row24) ∷ []) ([]) G0
 
   abbrev pub G81 : Cx
-  G81 = patched ((0, row33) ∷ (1, row34) ∷ []) ([]) G0
+  G81 = patched ((0, row33) ∷ (1, (any-gone (ty 1))) ∷ []) ([]) G0
 
   abbrev pub G84 : Cx
-  G84 = patched ((0, row33) ∷ (1, row34) ∷ (2, row34) ∷ (3, row34) ∷ (13, row34) ∷ []) ([]) G0
+  G84 = patched ((0, row33) ∷ (1, (any-gone (ty 1))) ∷ (2, (any-gone (ty 2))) ∷ (3, (any-gone (ty 3))) ∷ (13, (any-gone (ty 13))) ∷ []) ([]) G0
 
   abbrev pub Γ-from-put : Cx
   Γ-from-put = G65

@@ -122,9 +122,6 @@ module _ (κs : Lfts 8) (qs : Shares 8) where
   abbrev row33 : Row
   row33 = mleft (Array (rtF fBool) 256) (tyRef erased mut (tyArray tyBool 256))
 
-  abbrev row34 : Row
-  row34 = any-gone (tyInt w64)
-
   abbrev pub G7 : Cx
   G7 = patched ((11, row1) ∷ []) ([]) G0
 
@@ -204,7 +201,7 @@ module _ (κs : Lfts 8) (qs : Shares 8) where
   G76 = patched ((10, row31) ∷ (27, row33) ∷ []) ((7, off) ∷ (17, dead) ∷ []) G0
 
   abbrev pub G81 : Cx
-  G81 = patched ((0, row17) ∷ (2, row34) ∷ (3, row34) ∷ []) ([]) G0
+  G81 = patched ((0, row17) ∷ (2, (any-gone (ty 2))) ∷ (3, (any-gone (ty 3))) ∷ []) ([]) G0
 
 module _ {M : Type 1} (𝓤 : URA M) (H : Heap 𝓤) (A : Atoms 𝓤) (W : Given 𝓤 H A) (𝓣 : Tables 𝓤 H)
     (known0 : Knows 𝓤 H A W 𝓣 9 K0.ps K0.r R0.Asked R0.Learnt "interior_regions::find_interiors") (known1 : Knows 𝓤 H A W 𝓣 9 K1.ps K1.r R1.Asked R1.Learnt "topology::interiors::judge_interiors") (κs : Lfts 8) (qs : Shares 8) (bs : List ℕ) where

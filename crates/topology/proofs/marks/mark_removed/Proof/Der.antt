@@ -42,100 +42,97 @@ module _ (κs : Lfts 9) (qs : Shares 9) where
   row3 = sc-here sUnit
 
   abbrev row4 : Row
-  row4 = any-gone (tyInt w64)
+  row4 = whole (Array (rtF (fInt w64)) 257)
 
   abbrev row5 : Row
-  row5 = whole (Array (rtF (fInt w64)) 257)
+  row5 = arrF (rtF (fInt w64)) 257 0
 
   abbrev row6 : Row
-  row6 = arrF (rtF (fInt w64)) 257 0
+  row6 = whole (Array (rtF (fInt w32)) 256)
 
   abbrev row7 : Row
-  row7 = whole (Array (rtF (fInt w32)) 256)
+  row7 = arrF (rtF (fInt w32)) 256 0
 
   abbrev row8 : Row
-  row8 = arrF (rtF (fInt w32)) 256 0
+  row8 = mslice-owed (rtF (fInt w16)) (tyRef (named 6) mut (tyInt w16)) 6 9 (lease (κs .1 .1 .1 .1 .1 .1 .0) (qs .1 .1 .1 .1 .1 .1 .0))
 
-  abbrev row9 : Row
-  row9 = mslice-owed (rtF (fInt w16)) (tyRef (named 6) mut (tyInt w16)) 6 9 (lease (κs .1 .1 .1 .1 .1 .1 .0) (qs .1 .1 .1 .1 .1 .1 .0))
+  abbrev row10 : Row
+  row10 = mslice (rtF (fInt w16)) (tyRef erased mut (tyInt w16)) 9
 
   abbrev row11 : Row
-  row11 = mslice (rtF (fInt w16)) (tyRef erased mut (tyInt w16)) 9
+  row11 = mslice-owed (rtF (fInt w32)) (tyRef (named 7) mut (tyInt w32)) 7 10 (lease (κs .1 .1 .1 .1 .1 .1 .1 .0) (qs .1 .1 .1 .1 .1 .1 .1 .0))
 
-  abbrev row12 : Row
-  row12 = mslice-owed (rtF (fInt w32)) (tyRef (named 7) mut (tyInt w32)) 7 10 (lease (κs .1 .1 .1 .1 .1 .1 .1 .0) (qs .1 .1 .1 .1 .1 .1 .1 .0))
+  abbrev row13 : Row
+  row13 = mslice (rtF (fInt w32)) (tyRef erased mut (tyInt w32)) 10
 
   abbrev row14 : Row
-  row14 = mslice (rtF (fInt w32)) (tyRef erased mut (tyInt w32)) 10
+  row14 = sc-owed (Array (rtF (fInt w64)) 257) 11
 
   abbrev row15 : Row
-  row15 = sc-owed (Array (rtF (fInt w64)) 257) 11
+  row15 = mref (Array (rtF (fInt w64)) 257) (tyRef erased mut (tyArray (tyInt w64) 257)) 11
 
   abbrev row16 : Row
-  row16 = mref (Array (rtF (fInt w64)) 257) (tyRef erased mut (tyArray (tyInt w64) 257)) 11
+  row16 = sc-owed (Array (rtF (fInt w32)) 256) 12
 
   abbrev row17 : Row
-  row17 = sc-owed (Array (rtF (fInt w32)) 256) 12
+  row17 = mref (Array (rtF (fInt w32)) 256) (tyRef erased mut (tyArray (tyInt w32) 256)) 12
 
   abbrev row18 : Row
-  row18 = mref (Array (rtF (fInt w32)) 256) (tyRef erased mut (tyArray (tyInt w32) 256)) 12
+  row18 = sc-owed (Array (rtF (fInt w32)) 256) 13
 
   abbrev row19 : Row
-  row19 = sc-owed (Array (rtF (fInt w32)) 256) 13
+  row19 = mref (Array (rtF (fInt w32)) 256) (tyRef erased mut (tyArray (tyInt w32) 256)) 13
 
   abbrev row20 : Row
-  row20 = mref (Array (rtF (fInt w32)) 256) (tyRef erased mut (tyArray (tyInt w32) 256)) 13
+  row20 = msleft (rtF (fInt w16)) (tyRef erased mut (tyInt w16))
 
   abbrev row21 : Row
-  row21 = msleft (rtF (fInt w16)) (tyRef erased mut (tyInt w16))
+  row21 = msleft (rtF (fInt w32)) (tyRef erased mut (tyInt w32))
 
   abbrev row22 : Row
-  row22 = msleft (rtF (fInt w32)) (tyRef erased mut (tyInt w32))
+  row22 = mleft (Array (rtF (fInt w64)) 257) (tyRef erased mut (tyArray (tyInt w64) 257))
 
   abbrev row23 : Row
-  row23 = mleft (Array (rtF (fInt w64)) 257) (tyRef erased mut (tyArray (tyInt w64) 257))
+  row23 = mleft (Array (rtF (fInt w32)) 256) (tyRef erased mut (tyArray (tyInt w32) 256))
 
   abbrev row24 : Row
-  row24 = mleft (Array (rtF (fInt w32)) 256) (tyRef erased mut (tyArray (tyInt w32) 256))
+  row24 = sc-shr (arrF (rtF (fInt w64)) 257 0) (Array (rtF (fInt w64)) 257) (λ x. x) 14
 
   abbrev row25 : Row
-  row25 = sc-shr (arrF (rtF (fInt w64)) 257 0) (Array (rtF (fInt w64)) 257) (λ x. x) 14
+  row25 = sref (Array (rtF (fInt w64)) 257) (tyRef erased imm (tyArray (tyInt w64) 257)) 14
 
   abbrev row26 : Row
-  row26 = sref (Array (rtF (fInt w64)) 257) (tyRef erased imm (tyArray (tyInt w64) 257)) 14
+  row26 = sc-shr (arrF (rtF (fInt w32)) 256 0) (Array (rtF (fInt w32)) 256) (λ x. x) 15
 
   abbrev row27 : Row
-  row27 = sc-shr (arrF (rtF (fInt w32)) 256 0) (Array (rtF (fInt w32)) 256) (λ x. x) 15
+  row27 = sref (Array (rtF (fInt w32)) 256) (tyRef erased imm (tyArray (tyInt w32) 256)) 15
 
   abbrev row28 : Row
-  row28 = sref (Array (rtF (fInt w32)) 256) (tyRef erased imm (tyArray (tyInt w32) 256)) 15
+  row28 = sc-shr (arrF (rtF (fInt w32)) 256 0) (Array (rtF (fInt w32)) 256) (λ x. x) 16
 
   abbrev row29 : Row
-  row29 = sc-shr (arrF (rtF (fInt w32)) 256 0) (Array (rtF (fInt w32)) 256) (λ x. x) 16
+  row29 = sref (Array (rtF (fInt w32)) 256) (tyRef erased imm (tyArray (tyInt w32) 256)) 16
 
   abbrev row30 : Row
-  row30 = sref (Array (rtF (fInt w32)) 256) (tyRef erased imm (tyArray (tyInt w32) 256)) 16
+  row30 = mslice-owedP (rtF (fInt w16)) (tyRef (named 6) mut (tyInt w16)) 6 17 (lease (κs .1 .1 .1 .1 .1 .1 .0) (qs .1 .1 .1 .1 .1 .1 .0))
 
-  abbrev row31 : Row
-  row31 = mslice-owedP (rtF (fInt w16)) (tyRef (named 6) mut (tyInt w16)) 6 17 (lease (κs .1 .1 .1 .1 .1 .1 .0) (qs .1 .1 .1 .1 .1 .1 .0))
+  abbrev row32 : Row
+  row32 = mslice (rtF (fInt w16)) (tyRef erased mut (tyInt w16)) 17
 
   abbrev row33 : Row
-  row33 = mslice (rtF (fInt w16)) (tyRef erased mut (tyInt w16)) 17
+  row33 = mslice-owedP (rtF (fInt w32)) (tyRef (named 7) mut (tyInt w32)) 7 18 (lease (κs .1 .1 .1 .1 .1 .1 .1 .0) (qs .1 .1 .1 .1 .1 .1 .1 .0))
 
-  abbrev row34 : Row
-  row34 = mslice-owedP (rtF (fInt w32)) (tyRef (named 7) mut (tyInt w32)) 7 18 (lease (κs .1 .1 .1 .1 .1 .1 .1 .0) (qs .1 .1 .1 .1 .1 .1 .1 .0))
+  abbrev row35 : Row
+  row35 = mslice (rtF (fInt w32)) (tyRef erased mut (tyInt w32)) 18
 
   abbrev row36 : Row
-  row36 = mslice (rtF (fInt w32)) (tyRef erased mut (tyInt w32)) 18
+  row36 = mref-owed (Array (rtF fBool) 256) (tyRef (named 8) mut (tyArray tyBool 256)) 8 19 (lease (κs .1 .1 .1 .1 .1 .1 .1 .1 .0) (qs .1 .1 .1 .1 .1 .1 .1 .1 .0))
 
   abbrev row37 : Row
-  row37 = mref-owed (Array (rtF fBool) 256) (tyRef (named 8) mut (tyArray tyBool 256)) 8 19 (lease (κs .1 .1 .1 .1 .1 .1 .1 .1 .0) (qs .1 .1 .1 .1 .1 .1 .1 .1 .0))
+  row37 = mref (Array (rtF fBool) 256) (tyRef erased mut (tyArray tyBool 256)) 19
 
   abbrev row38 : Row
-  row38 = mref (Array (rtF fBool) 256) (tyRef erased mut (tyArray tyBool 256)) 19
-
-  abbrev row39 : Row
-  row39 = mleft (Array (rtF fBool) 256) (tyRef erased mut (tyArray tyBool 256))
+  row38 = mleft (Array (rtF fBool) 256) (tyRef erased mut (tyArray tyBool 256))
 
   abbrev pub G11 : Cx
   G11 = patched ((20, row1) ∷ []) ([]) G0
@@ -150,103 +147,103 @@ module _ (κs : Lfts 9) (qs : Shares 9) where
   G16 = patched ((0, row3) ∷ []) ([]) G0
 
   abbrev pub G17 : Cx
-  G17 = patched ((0, row3) ∷ (1, row4) ∷ []) ([]) G0
+  G17 = patched ((0, row3) ∷ (1, (any-gone (ty 1))) ∷ []) ([]) G0
 
   abbrev pub G18 : Cx
-  G18 = patched ((0, row3) ∷ (1, row4) ∷ (3, row4) ∷ []) ([]) G0
+  G18 = patched ((0, row3) ∷ (1, (any-gone (ty 1))) ∷ (3, (any-gone (ty 3))) ∷ []) ([]) G0
 
   abbrev pub G19 : Cx
-  G19 = patched ((0, row3) ∷ (1, row4) ∷ (3, row4) ∷ (4, row4) ∷ []) ([]) G0
+  G19 = patched ((0, row3) ∷ (1, (any-gone (ty 1))) ∷ (3, (any-gone (ty 3))) ∷ (4, (any-gone (ty 4))) ∷ []) ([]) G0
 
   abbrev pub G20 : Cx
-  G20 = patched ((0, row3) ∷ (1, row4) ∷ (3, row4) ∷ (4, row4) ∷ (7, row4) ∷ []) ([]) G0
+  G20 = patched ((0, row3) ∷ (1, (any-gone (ty 1))) ∷ (3, (any-gone (ty 3))) ∷ (4, (any-gone (ty 4))) ∷ (7, (any-gone (ty 7))) ∷ []) ([]) G0
 
   abbrev pub G21 : Cx
-  G21 = patched ((0, row3) ∷ (1, row4) ∷ (3, row4) ∷ (4, row4) ∷ (7, row4) ∷ (8, row4) ∷ []) ([]) G0
+  G21 = patched ((0, row3) ∷ (1, (any-gone (ty 1))) ∷ (3, (any-gone (ty 3))) ∷ (4, (any-gone (ty 4))) ∷ (7, (any-gone (ty 7))) ∷ (8, (any-gone (ty 8))) ∷ []) ([]) G0
 
   abbrev pub G22 : Cx
-  G22 = patched ((0, row3) ∷ (1, row4) ∷ (3, row4) ∷ (4, row4) ∷ (7, row4) ∷ (8, row4) ∷ (9, row4) ∷ []) ([]) G0
+  G22 = patched ((0, row3) ∷ (1, (any-gone (ty 1))) ∷ (3, (any-gone (ty 3))) ∷ (4, (any-gone (ty 4))) ∷ (7, (any-gone (ty 7))) ∷ (8, (any-gone (ty 8))) ∷ (9, (any-gone (ty 9))) ∷ []) ([]) G0
 
   abbrev pub G24 : Cx
-  G24 = patched ((16, row5) ∷ []) ([]) G0
+  G24 = patched ((16, row4) ∷ []) ([]) G0
 
   abbrev pub G26 : Cx
-  G26 = patched ((16, row6) ∷ (17, row7) ∷ []) ([]) G0
+  G26 = patched ((16, row5) ∷ (17, row6) ∷ []) ([]) G0
 
   abbrev pub G28 : Cx
-  G28 = patched ((16, row6) ∷ (17, row8) ∷ (18, row7) ∷ []) ([]) G0
+  G28 = patched ((16, row5) ∷ (17, row7) ∷ (18, row6) ∷ []) ([]) G0
 
   abbrev pub G29 : Cx
-  G29 = patched ((16, row6) ∷ (17, row8) ∷ (18, row8) ∷ []) ([]) G0
+  G29 = patched ((16, row5) ∷ (17, row7) ∷ (18, row7) ∷ []) ([]) G0
 
   abbrev pub G32 : Cx
-  G32 = patched ((13, row9) ∷ (16, row6) ∷ (17, row8) ∷ (18, row8) ∷ (24, row11) ∷ []) ((6, off) ∷ (9, alive) ∷ []) G0
+  G32 = patched ((13, row8) ∷ (16, row5) ∷ (17, row7) ∷ (18, row7) ∷ (24, row10) ∷ []) ((6, off) ∷ (9, alive) ∷ []) G0
 
   abbrev pub G35 : Cx
-  G35 = patched ((13, row9) ∷ (14, row12) ∷ (16, row6) ∷ (17, row8) ∷ (18, row8) ∷ (24, row11) ∷ (26, row14) ∷ []) ((6, off) ∷ (7, off) ∷ (9, alive) ∷ (10, alive) ∷ []) G0
+  G35 = patched ((13, row8) ∷ (14, row11) ∷ (16, row5) ∷ (17, row7) ∷ (18, row7) ∷ (24, row10) ∷ (26, row13) ∷ []) ((6, off) ∷ (7, off) ∷ (9, alive) ∷ (10, alive) ∷ []) G0
 
   abbrev pub G38 : Cx
-  G38 = patched ((13, row9) ∷ (14, row12) ∷ (16, row15) ∷ (17, row8) ∷ (18, row8) ∷ (24, row11) ∷ (26, row14) ∷ (27, row16) ∷ []) ((6, off) ∷ (7, off) ∷ (9, alive) ∷ (10, alive) ∷ (11, alive) ∷ (12, alive) ∷ []) G0
+  G38 = patched ((13, row8) ∷ (14, row11) ∷ (16, row14) ∷ (17, row7) ∷ (18, row7) ∷ (24, row10) ∷ (26, row13) ∷ (27, row15) ∷ []) ((6, off) ∷ (7, off) ∷ (9, alive) ∷ (10, alive) ∷ (11, alive) ∷ (12, alive) ∷ []) G0
 
   abbrev pub G41 : Cx
-  G41 = patched ((13, row9) ∷ (14, row12) ∷ (16, row15) ∷ (17, row17) ∷ (18, row19) ∷ (24, row11) ∷ (26, row14) ∷ (27, row16) ∷ (28, row18) ∷ (29, row20) ∷ []) ((6, off) ∷ (7, off) ∷ (9, alive) ∷ (10, alive) ∷ (11, alive) ∷ (12, alive) ∷ (13, alive) ∷ []) G0
+  G41 = patched ((13, row8) ∷ (14, row11) ∷ (16, row14) ∷ (17, row16) ∷ (18, row18) ∷ (24, row10) ∷ (26, row13) ∷ (27, row15) ∷ (28, row17) ∷ (29, row19) ∷ []) ((6, off) ∷ (7, off) ∷ (9, alive) ∷ (10, alive) ∷ (11, alive) ∷ (12, alive) ∷ (13, alive) ∷ []) G0
 
   abbrev pub G42 : Cx
-  G42 = patched ((13, row9) ∷ (14, row12) ∷ (16, row15) ∷ (17, row17) ∷ (18, row19) ∷ (22, row3) ∷ (24, row21) ∷ (26, row22) ∷ (27, row23) ∷ (28, row24) ∷ (29, row24) ∷ []) ((6, off) ∷ (7, off) ∷ (9, alive) ∷ (10, alive) ∷ (11, alive) ∷ (12, alive) ∷ (13, alive) ∷ []) G0
+  G42 = patched ((13, row8) ∷ (14, row11) ∷ (16, row14) ∷ (17, row16) ∷ (18, row18) ∷ (22, row3) ∷ (24, row20) ∷ (26, row21) ∷ (27, row22) ∷ (28, row23) ∷ (29, row23) ∷ []) ((6, off) ∷ (7, off) ∷ (9, alive) ∷ (10, alive) ∷ (11, alive) ∷ (12, alive) ∷ (13, alive) ∷ []) G0
 
   abbrev pub G45 : Cx
-  G45 = patched ((14, row12) ∷ (16, row15) ∷ (17, row17) ∷ (18, row19) ∷ (26, row22) ∷ (27, row23) ∷ (28, row24) ∷ (29, row24) ∷ []) ((7, off) ∷ (9, dead) ∷ (10, alive) ∷ (11, alive) ∷ (12, alive) ∷ (13, alive) ∷ []) G0
+  G45 = patched ((14, row11) ∷ (16, row14) ∷ (17, row16) ∷ (18, row18) ∷ (26, row21) ∷ (27, row22) ∷ (28, row23) ∷ (29, row23) ∷ []) ((7, off) ∷ (9, dead) ∷ (10, alive) ∷ (11, alive) ∷ (12, alive) ∷ (13, alive) ∷ []) G0
 
   abbrev pub G49 : Cx
-  G49 = patched ((16, row15) ∷ (17, row17) ∷ (18, row19) ∷ (27, row23) ∷ (28, row24) ∷ (29, row24) ∷ []) ((10, dead) ∷ (11, alive) ∷ (12, alive) ∷ (13, alive) ∷ []) G0
+  G49 = patched ((16, row14) ∷ (17, row16) ∷ (18, row18) ∷ (27, row22) ∷ (28, row23) ∷ (29, row23) ∷ []) ((10, dead) ∷ (11, alive) ∷ (12, alive) ∷ (13, alive) ∷ []) G0
 
   abbrev pub G53 : Cx
-  G53 = patched ((16, row6) ∷ (17, row17) ∷ (18, row19) ∷ (28, row24) ∷ (29, row24) ∷ []) ((11, dead) ∷ (12, alive) ∷ (13, alive) ∷ []) G0
+  G53 = patched ((16, row5) ∷ (17, row16) ∷ (18, row18) ∷ (28, row23) ∷ (29, row23) ∷ []) ((11, dead) ∷ (12, alive) ∷ (13, alive) ∷ []) G0
 
   abbrev pub G56 : Cx
-  G56 = patched ((16, row6) ∷ (17, row8) ∷ (18, row19) ∷ (29, row24) ∷ []) ((12, dead) ∷ (13, alive) ∷ []) G0
+  G56 = patched ((16, row5) ∷ (17, row7) ∷ (18, row18) ∷ (29, row23) ∷ []) ((12, dead) ∷ (13, alive) ∷ []) G0
 
   abbrev pub G59 : Cx
-  G59 = patched ((16, row6) ∷ (17, row8) ∷ (18, row8) ∷ []) ((13, dead) ∷ []) G0
+  G59 = patched ((16, row5) ∷ (17, row7) ∷ (18, row7) ∷ []) ((13, dead) ∷ []) G0
 
   abbrev pub G63 : Cx
-  G63 = patched ((16, row25) ∷ (17, row8) ∷ (18, row8) ∷ (30, row26) ∷ []) ((14, alive) ∷ (15, alive) ∷ []) G0
+  G63 = patched ((16, row24) ∷ (17, row7) ∷ (18, row7) ∷ (30, row25) ∷ []) ((14, alive) ∷ (15, alive) ∷ []) G0
 
   abbrev pub G66 : Cx
-  G66 = patched ((16, row25) ∷ (17, row27) ∷ (18, row29) ∷ (30, row26) ∷ (31, row28) ∷ (32, row30) ∷ []) ((14, alive) ∷ (15, alive) ∷ (16, alive) ∷ []) G0
+  G66 = patched ((16, row24) ∷ (17, row26) ∷ (18, row28) ∷ (30, row25) ∷ (31, row27) ∷ (32, row29) ∷ []) ((14, alive) ∷ (15, alive) ∷ (16, alive) ∷ []) G0
 
   abbrev pub G69 : Cx
-  G69 = patched ((13, row31) ∷ (16, row25) ∷ (17, row27) ∷ (18, row29) ∷ (30, row26) ∷ (31, row28) ∷ (32, row30) ∷ (34, row33) ∷ []) ((6, off) ∷ (14, alive) ∷ (15, alive) ∷ (16, alive) ∷ (17, alive) ∷ []) G0
+  G69 = patched ((13, row30) ∷ (16, row24) ∷ (17, row26) ∷ (18, row28) ∷ (30, row25) ∷ (31, row27) ∷ (32, row29) ∷ (34, row32) ∷ []) ((6, off) ∷ (14, alive) ∷ (15, alive) ∷ (16, alive) ∷ (17, alive) ∷ []) G0
 
   abbrev pub G72 : Cx
-  G72 = patched ((13, row31) ∷ (14, row34) ∷ (16, row25) ∷ (17, row27) ∷ (18, row29) ∷ (30, row26) ∷ (31, row28) ∷ (32, row30) ∷ (34, row33) ∷ (36, row36) ∷ []) ((6, off) ∷ (7, off) ∷ (14, alive) ∷ (15, alive) ∷ (16, alive) ∷ (17, alive) ∷ (18, alive) ∷ []) G0
+  G72 = patched ((13, row30) ∷ (14, row33) ∷ (16, row24) ∷ (17, row26) ∷ (18, row28) ∷ (30, row25) ∷ (31, row27) ∷ (32, row29) ∷ (34, row32) ∷ (36, row35) ∷ []) ((6, off) ∷ (7, off) ∷ (14, alive) ∷ (15, alive) ∷ (16, alive) ∷ (17, alive) ∷ (18, alive) ∷ []) G0
 
   abbrev pub G74 : Cx
-  G74 = patched ((13, row31) ∷ (14, row34) ∷ (15, row37) ∷ (16, row25) ∷ (17, row27) ∷ (18, row29) ∷ (30, row26) ∷ (31, row28) ∷ (32, row30) ∷ (34, row33) ∷ (36, row36) ∷ (37, row38) ∷ []) ((6, off) ∷ (7, off) ∷ (8, off) ∷ (14, alive) ∷ (15, alive) ∷ (16, alive) ∷ (17, alive) ∷ (18, alive) ∷ (19, alive) ∷ []) G0
+  G74 = patched ((13, row30) ∷ (14, row33) ∷ (15, row36) ∷ (16, row24) ∷ (17, row26) ∷ (18, row28) ∷ (30, row25) ∷ (31, row27) ∷ (32, row29) ∷ (34, row32) ∷ (36, row35) ∷ (37, row37) ∷ []) ((6, off) ∷ (7, off) ∷ (8, off) ∷ (14, alive) ∷ (15, alive) ∷ (16, alive) ∷ (17, alive) ∷ (18, alive) ∷ (19, alive) ∷ []) G0
 
   abbrev pub G75 : Cx
-  G75 = patched ((13, row31) ∷ (14, row34) ∷ (15, row37) ∷ (16, row25) ∷ (17, row27) ∷ (18, row29) ∷ (22, row3) ∷ (30, row26) ∷ (31, row28) ∷ (32, row30) ∷ (34, row21) ∷ (36, row22) ∷ (37, row39) ∷ []) ((6, off) ∷ (7, off) ∷ (8, off) ∷ (14, alive) ∷ (15, alive) ∷ (16, alive) ∷ (17, alive) ∷ (18, alive) ∷ (19, alive) ∷ []) G0
+  G75 = patched ((13, row30) ∷ (14, row33) ∷ (15, row36) ∷ (16, row24) ∷ (17, row26) ∷ (18, row28) ∷ (22, row3) ∷ (30, row25) ∷ (31, row27) ∷ (32, row29) ∷ (34, row20) ∷ (36, row21) ∷ (37, row38) ∷ []) ((6, off) ∷ (7, off) ∷ (8, off) ∷ (14, alive) ∷ (15, alive) ∷ (16, alive) ∷ (17, alive) ∷ (18, alive) ∷ (19, alive) ∷ []) G0
 
   abbrev pub G78 : Cx
-  G78 = patched ((13, row31) ∷ (14, row34) ∷ (15, row37) ∷ (16, row25) ∷ (17, row27) ∷ (18, row29) ∷ (22, row3) ∷ (34, row21) ∷ (36, row22) ∷ (37, row39) ∷ []) ((6, off) ∷ (7, off) ∷ (8, off) ∷ (14, alive) ∷ (15, alive) ∷ (16, alive) ∷ (17, alive) ∷ (18, alive) ∷ (19, alive) ∷ []) G0
+  G78 = patched ((13, row30) ∷ (14, row33) ∷ (15, row36) ∷ (16, row24) ∷ (17, row26) ∷ (18, row28) ∷ (22, row3) ∷ (34, row20) ∷ (36, row21) ∷ (37, row38) ∷ []) ((6, off) ∷ (7, off) ∷ (8, off) ∷ (14, alive) ∷ (15, alive) ∷ (16, alive) ∷ (17, alive) ∷ (18, alive) ∷ (19, alive) ∷ []) G0
 
   abbrev pub G81 : Cx
-  G81 = patched ((13, row31) ∷ (14, row34) ∷ (15, row37) ∷ (16, row6) ∷ (17, row27) ∷ (18, row29) ∷ (34, row21) ∷ (36, row22) ∷ (37, row39) ∷ []) ((6, off) ∷ (7, off) ∷ (8, off) ∷ (14, dead) ∷ (15, alive) ∷ (16, alive) ∷ (17, alive) ∷ (18, alive) ∷ (19, alive) ∷ []) G0
+  G81 = patched ((13, row30) ∷ (14, row33) ∷ (15, row36) ∷ (16, row5) ∷ (17, row26) ∷ (18, row28) ∷ (34, row20) ∷ (36, row21) ∷ (37, row38) ∷ []) ((6, off) ∷ (7, off) ∷ (8, off) ∷ (14, dead) ∷ (15, alive) ∷ (16, alive) ∷ (17, alive) ∷ (18, alive) ∷ (19, alive) ∷ []) G0
 
   abbrev pub G84 : Cx
-  G84 = patched ((13, row31) ∷ (14, row34) ∷ (15, row37) ∷ (17, row27) ∷ (18, row29) ∷ (34, row21) ∷ (36, row22) ∷ (37, row39) ∷ []) ((6, off) ∷ (7, off) ∷ (8, off) ∷ (15, dead) ∷ (16, alive) ∷ (17, alive) ∷ (18, alive) ∷ (19, alive) ∷ []) G0
+  G84 = patched ((13, row30) ∷ (14, row33) ∷ (15, row36) ∷ (17, row26) ∷ (18, row28) ∷ (34, row20) ∷ (36, row21) ∷ (37, row38) ∷ []) ((6, off) ∷ (7, off) ∷ (8, off) ∷ (15, dead) ∷ (16, alive) ∷ (17, alive) ∷ (18, alive) ∷ (19, alive) ∷ []) G0
 
   abbrev pub G87 : Cx
-  G87 = patched ((13, row31) ∷ (14, row34) ∷ (15, row37) ∷ (18, row29) ∷ (34, row21) ∷ (36, row22) ∷ (37, row39) ∷ []) ((6, off) ∷ (7, off) ∷ (8, off) ∷ (16, alive) ∷ (17, alive) ∷ (18, alive) ∷ (19, alive) ∷ []) G0
+  G87 = patched ((13, row30) ∷ (14, row33) ∷ (15, row36) ∷ (18, row28) ∷ (34, row20) ∷ (36, row21) ∷ (37, row38) ∷ []) ((6, off) ∷ (7, off) ∷ (8, off) ∷ (16, alive) ∷ (17, alive) ∷ (18, alive) ∷ (19, alive) ∷ []) G0
 
   abbrev pub G90 : Cx
-  G90 = patched ((13, row31) ∷ (14, row34) ∷ (15, row37) ∷ (18, row8) ∷ (34, row21) ∷ (36, row22) ∷ (37, row39) ∷ []) ((6, off) ∷ (7, off) ∷ (8, off) ∷ (17, alive) ∷ (18, alive) ∷ (19, alive) ∷ []) G0
+  G90 = patched ((13, row30) ∷ (14, row33) ∷ (15, row36) ∷ (18, row7) ∷ (34, row20) ∷ (36, row21) ∷ (37, row38) ∷ []) ((6, off) ∷ (7, off) ∷ (8, off) ∷ (17, alive) ∷ (18, alive) ∷ (19, alive) ∷ []) G0
 
   abbrev pub G93 : Cx
-  G93 = patched ((14, row34) ∷ (15, row37) ∷ (36, row22) ∷ (37, row39) ∷ []) ((7, off) ∷ (8, off) ∷ (17, dead) ∷ (18, alive) ∷ (19, alive) ∷ []) G0
+  G93 = patched ((14, row33) ∷ (15, row36) ∷ (36, row21) ∷ (37, row38) ∷ []) ((7, off) ∷ (8, off) ∷ (17, dead) ∷ (18, alive) ∷ (19, alive) ∷ []) G0
 
   abbrev pub G97 : Cx
-  G97 = patched ((15, row37) ∷ (37, row39) ∷ []) ((8, off) ∷ (18, dead) ∷ (19, alive) ∷ []) G0
+  G97 = patched ((15, row36) ∷ (37, row38) ∷ []) ((8, off) ∷ (18, dead) ∷ (19, alive) ∷ []) G0
 
   abbrev pub G101 : Cx
   G101 = patched ([]) ((19, dead) ∷ []) G0

@@ -47,169 +47,166 @@ module _ (κs : Lfts 8) (qs : Shares 8) where
   row2 = sc-here sUnit
 
   abbrev row3 : Row
-  row3 = any-gone (tyInt w64)
+  row3 = whole (Array (rtF (fInt w8)) 16384)
 
   abbrev row4 : Row
-  row4 = whole (Array (rtF (fInt w8)) 16384)
+  row4 = arrF (rtF (fInt w8)) 16384 0
 
   abbrev row5 : Row
-  row5 = arrF (rtF (fInt w8)) 16384 0
+  row5 = whole (Array (rtF (fInt w32)) 16384)
 
   abbrev row6 : Row
-  row6 = whole (Array (rtF (fInt w32)) 16384)
+  row6 = arrF (rtF (fInt w32)) 16384 0
 
   abbrev row7 : Row
-  row7 = arrF (rtF (fInt w32)) 16384 0
+  row7 = whole (Array (rtF (fInt w64)) 16384)
 
   abbrev row8 : Row
-  row8 = whole (Array (rtF (fInt w64)) 16384)
+  row8 = arrF (rtF (fInt w64)) 16384 0
 
   abbrev row9 : Row
-  row9 = arrF (rtF (fInt w64)) 16384 0
+  row9 = whole (Array (rtF fBool) 16384)
 
   abbrev row10 : Row
-  row10 = whole (Array (rtF fBool) 16384)
+  row10 = arrF (rtF fBool) 16384 0
 
   abbrev row11 : Row
-  row11 = arrF (rtF fBool) 16384 0
+  row11 = mslice-owedS (rtF (fInt w16)) (tyRef (named 5) mut (tyInt w16)) 5 8 (lease (κs .1 .1 .1 .1 .1 .0) (qs .1 .1 .1 .1 .1 .0))
 
   abbrev row12 : Row
-  row12 = mslice-owedS (rtF (fInt w16)) (tyRef (named 5) mut (tyInt w16)) 5 8 (lease (κs .1 .1 .1 .1 .1 .0) (qs .1 .1 .1 .1 .1 .0))
+  row12 = ssptr (rtF (fInt w16)) (tyRef erased imm (tyInt w16)) 8
 
   abbrev row13 : Row
-  row13 = ssptr (rtF (fInt w16)) (tyRef erased imm (tyInt w16)) 8
+  row13 = sslice (rtF (fInt w16)) (tyRef erased imm (tyInt w16)) 8
 
   abbrev row14 : Row
-  row14 = sslice (rtF (fInt w16)) (tyRef erased imm (tyInt w16)) 8
+  row14 = sc-owed (Array (rtF (fInt w8)) 16384) 9
 
   abbrev row15 : Row
-  row15 = sc-owed (Array (rtF (fInt w8)) 16384) 9
+  row15 = mref (Array (rtF (fInt w8)) 16384) (tyRef erased mut (tyArray (tyInt w8) 16384)) 9
 
   abbrev row16 : Row
-  row16 = mref (Array (rtF (fInt w8)) 16384) (tyRef erased mut (tyArray (tyInt w8) 16384)) 9
+  row16 = sc-owed (Array (rtF (fInt w8)) 16384) 10
 
   abbrev row17 : Row
-  row17 = sc-owed (Array (rtF (fInt w8)) 16384) 10
+  row17 = mref (Array (rtF (fInt w8)) 16384) (tyRef erased mut (tyArray (tyInt w8) 16384)) 10
 
   abbrev row18 : Row
-  row18 = mref (Array (rtF (fInt w8)) 16384) (tyRef erased mut (tyArray (tyInt w8) 16384)) 10
+  row18 = sc-owed (Array (rtF (fInt w32)) 16384) 11
 
   abbrev row19 : Row
-  row19 = sc-owed (Array (rtF (fInt w32)) 16384) 11
+  row19 = mref (Array (rtF (fInt w32)) 16384) (tyRef erased mut (tyArray (tyInt w32) 16384)) 11
 
   abbrev row20 : Row
-  row20 = mref (Array (rtF (fInt w32)) 16384) (tyRef erased mut (tyArray (tyInt w32) 16384)) 11
+  row20 = sc-owed (Array (rtF (fInt w8)) 16384) 12
 
   abbrev row21 : Row
-  row21 = sc-owed (Array (rtF (fInt w8)) 16384) 12
+  row21 = mref (Array (rtF (fInt w8)) 16384) (tyRef erased mut (tyArray (tyInt w8) 16384)) 12
 
   abbrev row22 : Row
-  row22 = mref (Array (rtF (fInt w8)) 16384) (tyRef erased mut (tyArray (tyInt w8) 16384)) 12
+  row22 = sc-owed (Array (rtF (fInt w64)) 16384) 13
 
   abbrev row23 : Row
-  row23 = sc-owed (Array (rtF (fInt w64)) 16384) 13
+  row23 = mref (Array (rtF (fInt w64)) 16384) (tyRef erased mut (tyArray (tyInt w64) 16384)) 13
 
   abbrev row24 : Row
-  row24 = mref (Array (rtF (fInt w64)) 16384) (tyRef erased mut (tyArray (tyInt w64) 16384)) 13
+  row24 = sc-here (sInt w64)
 
   abbrev row25 : Row
-  row25 = sc-here (sInt w64)
+  row25 = mleft (Array (rtF (fInt w8)) 16384) (tyRef erased mut (tyArray (tyInt w8) 16384))
 
   abbrev row26 : Row
-  row26 = mleft (Array (rtF (fInt w8)) 16384) (tyRef erased mut (tyArray (tyInt w8) 16384))
+  row26 = mleft (Array (rtF (fInt w32)) 16384) (tyRef erased mut (tyArray (tyInt w32) 16384))
 
   abbrev row27 : Row
-  row27 = mleft (Array (rtF (fInt w32)) 16384) (tyRef erased mut (tyArray (tyInt w32) 16384))
+  row27 = mleft (Array (rtF (fInt w64)) 16384) (tyRef erased mut (tyArray (tyInt w64) 16384))
 
   abbrev row28 : Row
-  row28 = mleft (Array (rtF (fInt w64)) 16384) (tyRef erased mut (tyArray (tyInt w64) 16384))
+  row28 = sc-shr (arrF (rtF (fInt w8)) 16384 0) (Array (rtF (fInt w8)) 16384) (λ x. x) 14
 
   abbrev row29 : Row
-  row29 = sc-shr (arrF (rtF (fInt w8)) 16384 0) (Array (rtF (fInt w8)) 16384) (λ x. x) 14
+  row29 = sref (Array (rtF (fInt w8)) 16384) (tyRef erased imm (tyArray (tyInt w8) 16384)) 14
 
   abbrev row30 : Row
-  row30 = sref (Array (rtF (fInt w8)) 16384) (tyRef erased imm (tyArray (tyInt w8) 16384)) 14
+  row30 = sc-shr (arrF (rtF (fInt w8)) 16384 0) (Array (rtF (fInt w8)) 16384) (λ x. x) 15
 
   abbrev row31 : Row
-  row31 = sc-shr (arrF (rtF (fInt w8)) 16384 0) (Array (rtF (fInt w8)) 16384) (λ x. x) 15
+  row31 = sref (Array (rtF (fInt w8)) 16384) (tyRef erased imm (tyArray (tyInt w8) 16384)) 15
 
   abbrev row32 : Row
-  row32 = sref (Array (rtF (fInt w8)) 16384) (tyRef erased imm (tyArray (tyInt w8) 16384)) 15
+  row32 = sc-shr (arrF (rtF (fInt w32)) 16384 0) (Array (rtF (fInt w32)) 16384) (λ x. x) 16
 
   abbrev row33 : Row
-  row33 = sc-shr (arrF (rtF (fInt w32)) 16384 0) (Array (rtF (fInt w32)) 16384) (λ x. x) 16
+  row33 = sref (Array (rtF (fInt w32)) 16384) (tyRef erased imm (tyArray (tyInt w32) 16384)) 16
 
   abbrev row34 : Row
-  row34 = sref (Array (rtF (fInt w32)) 16384) (tyRef erased imm (tyArray (tyInt w32) 16384)) 16
+  row34 = sc-shr (arrF (rtF (fInt w8)) 16384 0) (Array (rtF (fInt w8)) 16384) (λ x. x) 17
 
   abbrev row35 : Row
-  row35 = sc-shr (arrF (rtF (fInt w8)) 16384 0) (Array (rtF (fInt w8)) 16384) (λ x. x) 17
+  row35 = sref (Array (rtF (fInt w8)) 16384) (tyRef erased imm (tyArray (tyInt w8) 16384)) 17
 
   abbrev row36 : Row
-  row36 = sref (Array (rtF (fInt w8)) 16384) (tyRef erased imm (tyArray (tyInt w8) 16384)) 17
+  row36 = sc-owed (Array (rtF fBool) 16384) 18
 
   abbrev row37 : Row
-  row37 = sc-owed (Array (rtF fBool) 16384) 18
+  row37 = mref (Array (rtF fBool) 16384) (tyRef erased mut (tyArray tyBool 16384)) 18
 
   abbrev row38 : Row
-  row38 = mref (Array (rtF fBool) 16384) (tyRef erased mut (tyArray tyBool 16384)) 18
+  row38 = mleft (Array (rtF fBool) 16384) (tyRef erased mut (tyArray tyBool 16384))
 
   abbrev row39 : Row
-  row39 = mleft (Array (rtF fBool) 16384) (tyRef erased mut (tyArray tyBool 16384))
+  row39 = mslice-owed (rtF (fInt w16)) (tyRef (named 5) mut (tyInt w16)) 5 19 (lease (κs .1 .1 .1 .1 .1 .0) (qs .1 .1 .1 .1 .1 .0))
 
-  abbrev row40 : Row
-  row40 = mslice-owed (rtF (fInt w16)) (tyRef (named 5) mut (tyInt w16)) 5 19 (lease (κs .1 .1 .1 .1 .1 .0) (qs .1 .1 .1 .1 .1 .0))
+  abbrev row41 : Row
+  row41 = mslice (rtF (fInt w16)) (tyRef erased mut (tyInt w16)) 19
 
   abbrev row42 : Row
-  row42 = mslice (rtF (fInt w16)) (tyRef erased mut (tyInt w16)) 19
+  row42 = mref-owed (Array (rtF fBool) 256) (tyRef (named 7) mut (tyArray tyBool 256)) 7 20 (lease (κs .1 .1 .1 .1 .1 .1 .1 .0) (qs .1 .1 .1 .1 .1 .1 .1 .0))
 
   abbrev row43 : Row
-  row43 = mref-owed (Array (rtF fBool) 256) (tyRef (named 7) mut (tyArray tyBool 256)) 7 20 (lease (κs .1 .1 .1 .1 .1 .1 .1 .0) (qs .1 .1 .1 .1 .1 .1 .1 .0))
+  row43 = mref (Array (rtF fBool) 256) (tyRef erased mut (tyArray tyBool 256)) 20
 
   abbrev row44 : Row
-  row44 = mref (Array (rtF fBool) 256) (tyRef erased mut (tyArray tyBool 256)) 20
+  row44 = sc-shr (arrF (rtF (fInt w8)) 16384 0) (Array (rtF (fInt w8)) 16384) (λ x. x) 21
 
   abbrev row45 : Row
-  row45 = sc-shr (arrF (rtF (fInt w8)) 16384 0) (Array (rtF (fInt w8)) 16384) (λ x. x) 21
+  row45 = sref (Array (rtF (fInt w8)) 16384) (tyRef erased imm (tyArray (tyInt w8) 16384)) 21
 
   abbrev row46 : Row
-  row46 = sref (Array (rtF (fInt w8)) 16384) (tyRef erased imm (tyArray (tyInt w8) 16384)) 21
+  row46 = sc-shr (arrF (rtF (fInt w8)) 16384 0) (Array (rtF (fInt w8)) 16384) (λ x. x) 22
 
   abbrev row47 : Row
-  row47 = sc-shr (arrF (rtF (fInt w8)) 16384 0) (Array (rtF (fInt w8)) 16384) (λ x. x) 22
+  row47 = sref (Array (rtF (fInt w8)) 16384) (tyRef erased imm (tyArray (tyInt w8) 16384)) 22
 
   abbrev row48 : Row
-  row48 = sref (Array (rtF (fInt w8)) 16384) (tyRef erased imm (tyArray (tyInt w8) 16384)) 22
+  row48 = sc-shr (arrF (rtF (fInt w32)) 16384 0) (Array (rtF (fInt w32)) 16384) (λ x. x) 23
 
   abbrev row49 : Row
-  row49 = sc-shr (arrF (rtF (fInt w32)) 16384 0) (Array (rtF (fInt w32)) 16384) (λ x. x) 23
+  row49 = sref (Array (rtF (fInt w32)) 16384) (tyRef erased imm (tyArray (tyInt w32) 16384)) 23
 
   abbrev row50 : Row
-  row50 = sref (Array (rtF (fInt w32)) 16384) (tyRef erased imm (tyArray (tyInt w32) 16384)) 23
+  row50 = sc-shr (arrF (rtF (fInt w8)) 16384 0) (Array (rtF (fInt w8)) 16384) (λ x. x) 24
 
   abbrev row51 : Row
-  row51 = sc-shr (arrF (rtF (fInt w8)) 16384 0) (Array (rtF (fInt w8)) 16384) (λ x. x) 24
+  row51 = sref (Array (rtF (fInt w8)) 16384) (tyRef erased imm (tyArray (tyInt w8) 16384)) 24
 
   abbrev row52 : Row
-  row52 = sref (Array (rtF (fInt w8)) 16384) (tyRef erased imm (tyArray (tyInt w8) 16384)) 24
+  row52 = sc-shr (arrF (rtF (fInt w64)) 16384 0) (Array (rtF (fInt w64)) 16384) (λ x. x) 25
 
   abbrev row53 : Row
-  row53 = sc-shr (arrF (rtF (fInt w64)) 16384 0) (Array (rtF (fInt w64)) 16384) (λ x. x) 25
+  row53 = sref (Array (rtF (fInt w64)) 16384) (tyRef erased imm (tyArray (tyInt w64) 16384)) 25
 
   abbrev row54 : Row
-  row54 = sref (Array (rtF (fInt w64)) 16384) (tyRef erased imm (tyArray (tyInt w64) 16384)) 25
+  row54 = sc-shr (arrF (rtF fBool) 16384 0) (Array (rtF fBool) 16384) (λ x. x) 26
 
   abbrev row55 : Row
-  row55 = sc-shr (arrF (rtF fBool) 16384 0) (Array (rtF fBool) 16384) (λ x. x) 26
+  row55 = sref (Array (rtF fBool) 16384) (tyRef erased imm (tyArray tyBool 16384)) 26
 
   abbrev row56 : Row
-  row56 = sref (Array (rtF fBool) 16384) (tyRef erased imm (tyArray tyBool 16384)) 26
+  row56 = msleft (rtF (fInt w16)) (tyRef erased mut (tyInt w16))
 
   abbrev row57 : Row
-  row57 = msleft (rtF (fInt w16)) (tyRef erased mut (tyInt w16))
-
-  abbrev row58 : Row
-  row58 = mleft (Array (rtF fBool) 256) (tyRef erased mut (tyArray tyBool 256))
+  row57 = mleft (Array (rtF fBool) 256) (tyRef erased mut (tyArray tyBool 256))
 
   abbrev pub G7 : Cx
   G7 = patched ((17, row1) ∷ []) ([]) G0
@@ -224,154 +221,154 @@ module _ (κs : Lfts 8) (qs : Shares 8) where
   G12 = patched ((0, row2) ∷ []) ([]) G0
 
   abbrev pub G13 : Cx
-  G13 = patched ((0, row2) ∷ (2, row3) ∷ []) ([]) G0
+  G13 = patched ((0, row2) ∷ (2, (any-gone (ty 2))) ∷ []) ([]) G0
 
   abbrev pub G15 : Cx
-  G15 = patched ((10, row4) ∷ []) ([]) G0
+  G15 = patched ((10, row3) ∷ []) ([]) G0
 
   abbrev pub G17 : Cx
-  G17 = patched ((10, row5) ∷ (11, row4) ∷ []) ([]) G0
+  G17 = patched ((10, row4) ∷ (11, row3) ∷ []) ([]) G0
 
   abbrev pub G19 : Cx
-  G19 = patched ((10, row5) ∷ (11, row5) ∷ (12, row6) ∷ []) ([]) G0
+  G19 = patched ((10, row4) ∷ (11, row4) ∷ (12, row5) ∷ []) ([]) G0
 
   abbrev pub G21 : Cx
-  G21 = patched ((10, row5) ∷ (11, row5) ∷ (12, row7) ∷ (13, row4) ∷ []) ([]) G0
+  G21 = patched ((10, row4) ∷ (11, row4) ∷ (12, row6) ∷ (13, row3) ∷ []) ([]) G0
 
   abbrev pub G23 : Cx
-  G23 = patched ((10, row5) ∷ (11, row5) ∷ (12, row7) ∷ (13, row5) ∷ (14, row8) ∷ []) ([]) G0
+  G23 = patched ((10, row4) ∷ (11, row4) ∷ (12, row6) ∷ (13, row4) ∷ (14, row7) ∷ []) ([]) G0
 
   abbrev pub G25 : Cx
-  G25 = patched ((10, row5) ∷ (11, row5) ∷ (12, row7) ∷ (13, row5) ∷ (14, row9) ∷ (15, row10) ∷ []) ([]) G0
+  G25 = patched ((10, row4) ∷ (11, row4) ∷ (12, row6) ∷ (13, row4) ∷ (14, row8) ∷ (15, row9) ∷ []) ([]) G0
 
   abbrev pub G28 : Cx
-  G28 = patched ((7, row12) ∷ (10, row5) ∷ (11, row5) ∷ (12, row7) ∷ (13, row5) ∷ (14, row9) ∷ (15, row11) ∷ (19, row13) ∷ []) ((5, off) ∷ (8, alive) ∷ []) G0
+  G28 = patched ((7, row11) ∷ (10, row4) ∷ (11, row4) ∷ (12, row6) ∷ (13, row4) ∷ (14, row8) ∷ (15, row10) ∷ (19, row12) ∷ []) ((5, off) ∷ (8, alive) ∷ []) G0
 
   abbrev pub G31 : Cx
-  G31 = patched ((7, row12) ∷ (10, row15) ∷ (11, row5) ∷ (12, row7) ∷ (13, row5) ∷ (14, row9) ∷ (15, row11) ∷ (20, row14) ∷ (21, row16) ∷ []) ((5, off) ∷ (8, alive) ∷ (9, alive) ∷ []) G0
+  G31 = patched ((7, row11) ∷ (10, row14) ∷ (11, row4) ∷ (12, row6) ∷ (13, row4) ∷ (14, row8) ∷ (15, row10) ∷ (20, row13) ∷ (21, row15) ∷ []) ((5, off) ∷ (8, alive) ∷ (9, alive) ∷ []) G0
 
   abbrev pub G34 : Cx
-  G34 = patched ((7, row12) ∷ (10, row15) ∷ (11, row17) ∷ (12, row7) ∷ (13, row5) ∷ (14, row9) ∷ (15, row11) ∷ (20, row14) ∷ (21, row16) ∷ (22, row18) ∷ []) ((5, off) ∷ (8, alive) ∷ (9, alive) ∷ (10, alive) ∷ (11, alive) ∷ []) G0
+  G34 = patched ((7, row11) ∷ (10, row14) ∷ (11, row16) ∷ (12, row6) ∷ (13, row4) ∷ (14, row8) ∷ (15, row10) ∷ (20, row13) ∷ (21, row15) ∷ (22, row17) ∷ []) ((5, off) ∷ (8, alive) ∷ (9, alive) ∷ (10, alive) ∷ (11, alive) ∷ []) G0
 
   abbrev pub G37 : Cx
-  G37 = patched ((7, row12) ∷ (10, row15) ∷ (11, row17) ∷ (12, row19) ∷ (13, row21) ∷ (14, row9) ∷ (15, row11) ∷ (20, row14) ∷ (21, row16) ∷ (22, row18) ∷ (23, row20) ∷ (24, row22) ∷ []) ((5, off) ∷ (8, alive) ∷ (9, alive) ∷ (10, alive) ∷ (11, alive) ∷ (12, alive) ∷ []) G0
+  G37 = patched ((7, row11) ∷ (10, row14) ∷ (11, row16) ∷ (12, row18) ∷ (13, row20) ∷ (14, row8) ∷ (15, row10) ∷ (20, row13) ∷ (21, row15) ∷ (22, row17) ∷ (23, row19) ∷ (24, row21) ∷ []) ((5, off) ∷ (8, alive) ∷ (9, alive) ∷ (10, alive) ∷ (11, alive) ∷ (12, alive) ∷ []) G0
 
   abbrev pub G39 : Cx
-  G39 = patched ((7, row12) ∷ (10, row15) ∷ (11, row17) ∷ (12, row19) ∷ (13, row21) ∷ (14, row23) ∷ (15, row11) ∷ (20, row14) ∷ (21, row16) ∷ (22, row18) ∷ (23, row20) ∷ (24, row22) ∷ (25, row24) ∷ []) ((5, off) ∷ (8, alive) ∷ (9, alive) ∷ (10, alive) ∷ (11, alive) ∷ (12, alive) ∷ (13, alive) ∷ []) G0
+  G39 = patched ((7, row11) ∷ (10, row14) ∷ (11, row16) ∷ (12, row18) ∷ (13, row20) ∷ (14, row22) ∷ (15, row10) ∷ (20, row13) ∷ (21, row15) ∷ (22, row17) ∷ (23, row19) ∷ (24, row21) ∷ (25, row23) ∷ []) ((5, off) ∷ (8, alive) ∷ (9, alive) ∷ (10, alive) ∷ (11, alive) ∷ (12, alive) ∷ (13, alive) ∷ []) G0
 
   abbrev pub G40 : Cx
-  G40 = patched ((7, row12) ∷ (10, row15) ∷ (11, row17) ∷ (12, row19) ∷ (13, row21) ∷ (14, row23) ∷ (15, row11) ∷ (16, row25) ∷ (20, row14) ∷ (21, row26) ∷ (22, row26) ∷ (23, row27) ∷ (24, row26) ∷ (25, row28) ∷ []) ((5, off) ∷ (8, alive) ∷ (9, alive) ∷ (10, alive) ∷ (11, alive) ∷ (12, alive) ∷ (13, alive) ∷ []) G0
+  G40 = patched ((7, row11) ∷ (10, row14) ∷ (11, row16) ∷ (12, row18) ∷ (13, row20) ∷ (14, row22) ∷ (15, row10) ∷ (16, row24) ∷ (20, row13) ∷ (21, row25) ∷ (22, row25) ∷ (23, row26) ∷ (24, row25) ∷ (25, row27) ∷ []) ((5, off) ∷ (8, alive) ∷ (9, alive) ∷ (10, alive) ∷ (11, alive) ∷ (12, alive) ∷ (13, alive) ∷ []) G0
 
   abbrev pub G43 : Cx
-  G43 = patched ((10, row15) ∷ (11, row17) ∷ (12, row19) ∷ (13, row21) ∷ (14, row23) ∷ (15, row11) ∷ (16, row25) ∷ (21, row26) ∷ (22, row26) ∷ (23, row27) ∷ (24, row26) ∷ (25, row28) ∷ []) ((8, dead) ∷ (9, alive) ∷ (10, alive) ∷ (11, alive) ∷ (12, alive) ∷ (13, alive) ∷ []) G0
+  G43 = patched ((10, row14) ∷ (11, row16) ∷ (12, row18) ∷ (13, row20) ∷ (14, row22) ∷ (15, row10) ∷ (16, row24) ∷ (21, row25) ∷ (22, row25) ∷ (23, row26) ∷ (24, row25) ∷ (25, row27) ∷ []) ((8, dead) ∷ (9, alive) ∷ (10, alive) ∷ (11, alive) ∷ (12, alive) ∷ (13, alive) ∷ []) G0
 
   abbrev pub G46 : Cx
-  G46 = patched ((10, row5) ∷ (11, row17) ∷ (12, row19) ∷ (13, row21) ∷ (14, row23) ∷ (15, row11) ∷ (16, row25) ∷ (22, row26) ∷ (23, row27) ∷ (24, row26) ∷ (25, row28) ∷ []) ((9, dead) ∷ (10, alive) ∷ (11, alive) ∷ (12, alive) ∷ (13, alive) ∷ []) G0
+  G46 = patched ((10, row4) ∷ (11, row16) ∷ (12, row18) ∷ (13, row20) ∷ (14, row22) ∷ (15, row10) ∷ (16, row24) ∷ (22, row25) ∷ (23, row26) ∷ (24, row25) ∷ (25, row27) ∷ []) ((9, dead) ∷ (10, alive) ∷ (11, alive) ∷ (12, alive) ∷ (13, alive) ∷ []) G0
 
   abbrev pub G49 : Cx
-  G49 = patched ((10, row5) ∷ (11, row5) ∷ (12, row19) ∷ (13, row21) ∷ (14, row23) ∷ (15, row11) ∷ (16, row25) ∷ (23, row27) ∷ (24, row26) ∷ (25, row28) ∷ []) ((10, dead) ∷ (11, alive) ∷ (12, alive) ∷ (13, alive) ∷ []) G0
+  G49 = patched ((10, row4) ∷ (11, row4) ∷ (12, row18) ∷ (13, row20) ∷ (14, row22) ∷ (15, row10) ∷ (16, row24) ∷ (23, row26) ∷ (24, row25) ∷ (25, row27) ∷ []) ((10, dead) ∷ (11, alive) ∷ (12, alive) ∷ (13, alive) ∷ []) G0
 
   abbrev pub G52 : Cx
-  G52 = patched ((10, row5) ∷ (11, row5) ∷ (12, row7) ∷ (13, row21) ∷ (14, row23) ∷ (15, row11) ∷ (16, row25) ∷ (24, row26) ∷ (25, row28) ∷ []) ((11, dead) ∷ (12, alive) ∷ (13, alive) ∷ []) G0
+  G52 = patched ((10, row4) ∷ (11, row4) ∷ (12, row6) ∷ (13, row20) ∷ (14, row22) ∷ (15, row10) ∷ (16, row24) ∷ (24, row25) ∷ (25, row27) ∷ []) ((11, dead) ∷ (12, alive) ∷ (13, alive) ∷ []) G0
 
   abbrev pub G55 : Cx
-  G55 = patched ((10, row5) ∷ (11, row5) ∷ (12, row7) ∷ (13, row5) ∷ (14, row23) ∷ (15, row11) ∷ (16, row25) ∷ (25, row28) ∷ []) ((12, dead) ∷ (13, alive) ∷ []) G0
+  G55 = patched ((10, row4) ∷ (11, row4) ∷ (12, row6) ∷ (13, row4) ∷ (14, row22) ∷ (15, row10) ∷ (16, row24) ∷ (25, row27) ∷ []) ((12, dead) ∷ (13, alive) ∷ []) G0
 
   abbrev pub G58 : Cx
-  G58 = patched ((10, row5) ∷ (11, row5) ∷ (12, row7) ∷ (13, row5) ∷ (14, row9) ∷ (15, row11) ∷ (16, row25) ∷ []) ((13, dead) ∷ []) G0
+  G58 = patched ((10, row4) ∷ (11, row4) ∷ (12, row6) ∷ (13, row4) ∷ (14, row8) ∷ (15, row10) ∷ (16, row24) ∷ []) ((13, dead) ∷ []) G0
 
   abbrev pub G59 : Cx
-  G59 = patched ((10, row5) ∷ (11, row5) ∷ (12, row7) ∷ (13, row5) ∷ (14, row9) ∷ (15, row11) ∷ (16, row25) ∷ []) ([]) G0
+  G59 = patched ((10, row4) ∷ (11, row4) ∷ (12, row6) ∷ (13, row4) ∷ (14, row8) ∷ (15, row10) ∷ (16, row24) ∷ []) ([]) G0
 
   abbrev pub G62 : Cx
-  G62 = patched ((10, row29) ∷ (11, row5) ∷ (12, row7) ∷ (13, row5) ∷ (14, row9) ∷ (15, row11) ∷ (16, row25) ∷ (27, row30) ∷ []) ((14, alive) ∷ (15, alive) ∷ []) G0
+  G62 = patched ((10, row28) ∷ (11, row4) ∷ (12, row6) ∷ (13, row4) ∷ (14, row8) ∷ (15, row10) ∷ (16, row24) ∷ (27, row29) ∷ []) ((14, alive) ∷ (15, alive) ∷ []) G0
 
   abbrev pub G65 : Cx
-  G65 = patched ((10, row29) ∷ (11, row31) ∷ (12, row33) ∷ (13, row5) ∷ (14, row9) ∷ (15, row11) ∷ (16, row25) ∷ (27, row30) ∷ (28, row32) ∷ (29, row34) ∷ []) ((14, alive) ∷ (15, alive) ∷ (16, alive) ∷ []) G0
+  G65 = patched ((10, row28) ∷ (11, row30) ∷ (12, row32) ∷ (13, row4) ∷ (14, row8) ∷ (15, row10) ∷ (16, row24) ∷ (27, row29) ∷ (28, row31) ∷ (29, row33) ∷ []) ((14, alive) ∷ (15, alive) ∷ (16, alive) ∷ []) G0
 
   abbrev pub G68 : Cx
-  G68 = patched ((10, row29) ∷ (11, row31) ∷ (12, row33) ∷ (13, row35) ∷ (14, row9) ∷ (15, row11) ∷ (16, row25) ∷ (27, row30) ∷ (28, row32) ∷ (29, row34) ∷ (30, row36) ∷ []) ((14, alive) ∷ (15, alive) ∷ (16, alive) ∷ (17, alive) ∷ (18, alive) ∷ []) G0
+  G68 = patched ((10, row28) ∷ (11, row30) ∷ (12, row32) ∷ (13, row34) ∷ (14, row8) ∷ (15, row10) ∷ (16, row24) ∷ (27, row29) ∷ (28, row31) ∷ (29, row33) ∷ (30, row35) ∷ []) ((14, alive) ∷ (15, alive) ∷ (16, alive) ∷ (17, alive) ∷ (18, alive) ∷ []) G0
 
   abbrev pub G69 : Cx
-  G69 = patched ((10, row29) ∷ (11, row31) ∷ (12, row33) ∷ (13, row35) ∷ (14, row9) ∷ (15, row37) ∷ (16, row25) ∷ (27, row30) ∷ (28, row32) ∷ (29, row34) ∷ (30, row36) ∷ (31, row38) ∷ []) ((14, alive) ∷ (15, alive) ∷ (16, alive) ∷ (17, alive) ∷ (18, alive) ∷ []) G0
+  G69 = patched ((10, row28) ∷ (11, row30) ∷ (12, row32) ∷ (13, row34) ∷ (14, row8) ∷ (15, row36) ∷ (16, row24) ∷ (27, row29) ∷ (28, row31) ∷ (29, row33) ∷ (30, row35) ∷ (31, row37) ∷ []) ((14, alive) ∷ (15, alive) ∷ (16, alive) ∷ (17, alive) ∷ (18, alive) ∷ []) G0
 
   abbrev pub G70 : Cx
-  G70 = patched ((10, row29) ∷ (11, row31) ∷ (12, row33) ∷ (13, row35) ∷ (14, row9) ∷ (15, row37) ∷ (16, row25) ∷ (26, row2) ∷ (27, row30) ∷ (28, row32) ∷ (29, row34) ∷ (30, row36) ∷ (31, row39) ∷ []) ((14, alive) ∷ (15, alive) ∷ (16, alive) ∷ (17, alive) ∷ (18, alive) ∷ []) G0
+  G70 = patched ((10, row28) ∷ (11, row30) ∷ (12, row32) ∷ (13, row34) ∷ (14, row8) ∷ (15, row36) ∷ (16, row24) ∷ (26, row2) ∷ (27, row29) ∷ (28, row31) ∷ (29, row33) ∷ (30, row35) ∷ (31, row38) ∷ []) ((14, alive) ∷ (15, alive) ∷ (16, alive) ∷ (17, alive) ∷ (18, alive) ∷ []) G0
 
   abbrev pub G73 : Cx
-  G73 = patched ((10, row29) ∷ (11, row31) ∷ (12, row33) ∷ (13, row35) ∷ (14, row9) ∷ (15, row37) ∷ (16, row25) ∷ (26, row2) ∷ (30, row36) ∷ (31, row39) ∷ []) ((14, alive) ∷ (15, alive) ∷ (16, alive) ∷ (17, alive) ∷ (18, alive) ∷ []) G0
+  G73 = patched ((10, row28) ∷ (11, row30) ∷ (12, row32) ∷ (13, row34) ∷ (14, row8) ∷ (15, row36) ∷ (16, row24) ∷ (26, row2) ∷ (30, row35) ∷ (31, row38) ∷ []) ((14, alive) ∷ (15, alive) ∷ (16, alive) ∷ (17, alive) ∷ (18, alive) ∷ []) G0
 
   abbrev pub G76 : Cx
-  G76 = patched ((10, row29) ∷ (11, row31) ∷ (12, row33) ∷ (13, row35) ∷ (14, row9) ∷ (15, row37) ∷ (16, row25) ∷ (31, row39) ∷ []) ((14, dead) ∷ (15, alive) ∷ (16, alive) ∷ (17, alive) ∷ (18, alive) ∷ []) G0
+  G76 = patched ((10, row28) ∷ (11, row30) ∷ (12, row32) ∷ (13, row34) ∷ (14, row8) ∷ (15, row36) ∷ (16, row24) ∷ (31, row38) ∷ []) ((14, dead) ∷ (15, alive) ∷ (16, alive) ∷ (17, alive) ∷ (18, alive) ∷ []) G0
 
   abbrev pub G79 : Cx
-  G79 = patched ((10, row5) ∷ (11, row31) ∷ (12, row33) ∷ (13, row35) ∷ (14, row9) ∷ (15, row37) ∷ (16, row25) ∷ (31, row39) ∷ []) ((15, dead) ∷ (16, alive) ∷ (17, alive) ∷ (18, alive) ∷ []) G0
+  G79 = patched ((10, row4) ∷ (11, row30) ∷ (12, row32) ∷ (13, row34) ∷ (14, row8) ∷ (15, row36) ∷ (16, row24) ∷ (31, row38) ∷ []) ((15, dead) ∷ (16, alive) ∷ (17, alive) ∷ (18, alive) ∷ []) G0
 
   abbrev pub G82 : Cx
-  G82 = patched ((10, row5) ∷ (11, row5) ∷ (12, row33) ∷ (13, row35) ∷ (14, row9) ∷ (15, row37) ∷ (16, row25) ∷ (31, row39) ∷ []) ((16, dead) ∷ (17, alive) ∷ (18, alive) ∷ []) G0
+  G82 = patched ((10, row4) ∷ (11, row4) ∷ (12, row32) ∷ (13, row34) ∷ (14, row8) ∷ (15, row36) ∷ (16, row24) ∷ (31, row38) ∷ []) ((16, dead) ∷ (17, alive) ∷ (18, alive) ∷ []) G0
 
   abbrev pub G85 : Cx
-  G85 = patched ((10, row5) ∷ (11, row5) ∷ (12, row7) ∷ (13, row35) ∷ (14, row9) ∷ (15, row37) ∷ (16, row25) ∷ (31, row39) ∷ []) ((17, dead) ∷ (18, alive) ∷ []) G0
+  G85 = patched ((10, row4) ∷ (11, row4) ∷ (12, row6) ∷ (13, row34) ∷ (14, row8) ∷ (15, row36) ∷ (16, row24) ∷ (31, row38) ∷ []) ((17, dead) ∷ (18, alive) ∷ []) G0
 
   abbrev pub G88 : Cx
-  G88 = patched ((10, row5) ∷ (11, row5) ∷ (12, row7) ∷ (13, row5) ∷ (14, row9) ∷ (15, row37) ∷ (16, row25) ∷ (31, row39) ∷ []) ((18, dead) ∷ []) G0
+  G88 = patched ((10, row4) ∷ (11, row4) ∷ (12, row6) ∷ (13, row4) ∷ (14, row8) ∷ (15, row36) ∷ (16, row24) ∷ (31, row38) ∷ []) ((18, dead) ∷ []) G0
 
   abbrev pub G93 : Cx
-  G93 = patched ((7, row40) ∷ (10, row5) ∷ (11, row5) ∷ (12, row7) ∷ (13, row5) ∷ (14, row9) ∷ (15, row11) ∷ (16, row25) ∷ (33, row42) ∷ []) ((5, off) ∷ (19, alive) ∷ []) G0
+  G93 = patched ((7, row39) ∷ (10, row4) ∷ (11, row4) ∷ (12, row6) ∷ (13, row4) ∷ (14, row8) ∷ (15, row10) ∷ (16, row24) ∷ (33, row41) ∷ []) ((5, off) ∷ (19, alive) ∷ []) G0
 
   abbrev pub G96 : Cx
-  G96 = patched ((7, row40) ∷ (9, row43) ∷ (10, row5) ∷ (11, row5) ∷ (12, row7) ∷ (13, row5) ∷ (14, row9) ∷ (15, row11) ∷ (16, row25) ∷ (33, row42) ∷ (34, row44) ∷ []) ((5, off) ∷ (7, off) ∷ (19, alive) ∷ (20, alive) ∷ (21, alive) ∷ []) G0
+  G96 = patched ((7, row39) ∷ (9, row42) ∷ (10, row4) ∷ (11, row4) ∷ (12, row6) ∷ (13, row4) ∷ (14, row8) ∷ (15, row10) ∷ (16, row24) ∷ (33, row41) ∷ (34, row43) ∷ []) ((5, off) ∷ (7, off) ∷ (19, alive) ∷ (20, alive) ∷ (21, alive) ∷ []) G0
 
   abbrev pub G99 : Cx
-  G99 = patched ((7, row40) ∷ (9, row43) ∷ (10, row45) ∷ (11, row47) ∷ (12, row7) ∷ (13, row5) ∷ (14, row9) ∷ (15, row11) ∷ (16, row25) ∷ (33, row42) ∷ (34, row44) ∷ (35, row46) ∷ (36, row48) ∷ []) ((5, off) ∷ (7, off) ∷ (19, alive) ∷ (20, alive) ∷ (21, alive) ∷ (22, alive) ∷ []) G0
+  G99 = patched ((7, row39) ∷ (9, row42) ∷ (10, row44) ∷ (11, row46) ∷ (12, row6) ∷ (13, row4) ∷ (14, row8) ∷ (15, row10) ∷ (16, row24) ∷ (33, row41) ∷ (34, row43) ∷ (35, row45) ∷ (36, row47) ∷ []) ((5, off) ∷ (7, off) ∷ (19, alive) ∷ (20, alive) ∷ (21, alive) ∷ (22, alive) ∷ []) G0
 
   abbrev pub G102 : Cx
-  G102 = patched ((7, row40) ∷ (9, row43) ∷ (10, row45) ∷ (11, row47) ∷ (12, row49) ∷ (13, row5) ∷ (14, row9) ∷ (15, row11) ∷ (16, row25) ∷ (33, row42) ∷ (34, row44) ∷ (35, row46) ∷ (36, row48) ∷ (37, row50) ∷ []) ((5, off) ∷ (7, off) ∷ (19, alive) ∷ (20, alive) ∷ (21, alive) ∷ (22, alive) ∷ (23, alive) ∷ (24, alive) ∷ []) G0
+  G102 = patched ((7, row39) ∷ (9, row42) ∷ (10, row44) ∷ (11, row46) ∷ (12, row48) ∷ (13, row4) ∷ (14, row8) ∷ (15, row10) ∷ (16, row24) ∷ (33, row41) ∷ (34, row43) ∷ (35, row45) ∷ (36, row47) ∷ (37, row49) ∷ []) ((5, off) ∷ (7, off) ∷ (19, alive) ∷ (20, alive) ∷ (21, alive) ∷ (22, alive) ∷ (23, alive) ∷ (24, alive) ∷ []) G0
 
   abbrev pub G105 : Cx
-  G105 = patched ((7, row40) ∷ (9, row43) ∷ (10, row45) ∷ (11, row47) ∷ (12, row49) ∷ (13, row51) ∷ (14, row53) ∷ (15, row11) ∷ (16, row25) ∷ (33, row42) ∷ (34, row44) ∷ (35, row46) ∷ (36, row48) ∷ (37, row50) ∷ (38, row52) ∷ (39, row54) ∷ []) ((5, off) ∷ (7, off) ∷ (19, alive) ∷ (20, alive) ∷ (21, alive) ∷ (22, alive) ∷ (23, alive) ∷ (24, alive) ∷ (25, alive) ∷ []) G0
+  G105 = patched ((7, row39) ∷ (9, row42) ∷ (10, row44) ∷ (11, row46) ∷ (12, row48) ∷ (13, row50) ∷ (14, row52) ∷ (15, row10) ∷ (16, row24) ∷ (33, row41) ∷ (34, row43) ∷ (35, row45) ∷ (36, row47) ∷ (37, row49) ∷ (38, row51) ∷ (39, row53) ∷ []) ((5, off) ∷ (7, off) ∷ (19, alive) ∷ (20, alive) ∷ (21, alive) ∷ (22, alive) ∷ (23, alive) ∷ (24, alive) ∷ (25, alive) ∷ []) G0
 
   abbrev pub G107 : Cx
-  G107 = patched ((7, row40) ∷ (9, row43) ∷ (10, row45) ∷ (11, row47) ∷ (12, row49) ∷ (13, row51) ∷ (14, row53) ∷ (15, row55) ∷ (16, row25) ∷ (33, row42) ∷ (34, row44) ∷ (35, row46) ∷ (36, row48) ∷ (37, row50) ∷ (38, row52) ∷ (39, row54) ∷ (40, row56) ∷ []) ((5, off) ∷ (7, off) ∷ (19, alive) ∷ (20, alive) ∷ (21, alive) ∷ (22, alive) ∷ (23, alive) ∷ (24, alive) ∷ (25, alive) ∷ (26, alive) ∷ []) G0
+  G107 = patched ((7, row39) ∷ (9, row42) ∷ (10, row44) ∷ (11, row46) ∷ (12, row48) ∷ (13, row50) ∷ (14, row52) ∷ (15, row54) ∷ (16, row24) ∷ (33, row41) ∷ (34, row43) ∷ (35, row45) ∷ (36, row47) ∷ (37, row49) ∷ (38, row51) ∷ (39, row53) ∷ (40, row55) ∷ []) ((5, off) ∷ (7, off) ∷ (19, alive) ∷ (20, alive) ∷ (21, alive) ∷ (22, alive) ∷ (23, alive) ∷ (24, alive) ∷ (25, alive) ∷ (26, alive) ∷ []) G0
 
   abbrev pub G108 : Cx
-  G108 = patched ((7, row40) ∷ (9, row43) ∷ (10, row45) ∷ (11, row47) ∷ (12, row49) ∷ (13, row51) ∷ (14, row53) ∷ (15, row55) ∷ (16, row25) ∷ (26, row2) ∷ (33, row57) ∷ (34, row58) ∷ (35, row46) ∷ (36, row48) ∷ (37, row50) ∷ (38, row52) ∷ (39, row54) ∷ (40, row56) ∷ []) ((5, off) ∷ (7, off) ∷ (19, alive) ∷ (20, alive) ∷ (21, alive) ∷ (22, alive) ∷ (23, alive) ∷ (24, alive) ∷ (25, alive) ∷ (26, alive) ∷ []) G0
+  G108 = patched ((7, row39) ∷ (9, row42) ∷ (10, row44) ∷ (11, row46) ∷ (12, row48) ∷ (13, row50) ∷ (14, row52) ∷ (15, row54) ∷ (16, row24) ∷ (26, row2) ∷ (33, row56) ∷ (34, row57) ∷ (35, row45) ∷ (36, row47) ∷ (37, row49) ∷ (38, row51) ∷ (39, row53) ∷ (40, row55) ∷ []) ((5, off) ∷ (7, off) ∷ (19, alive) ∷ (20, alive) ∷ (21, alive) ∷ (22, alive) ∷ (23, alive) ∷ (24, alive) ∷ (25, alive) ∷ (26, alive) ∷ []) G0
 
   abbrev pub G111 : Cx
-  G111 = patched ((7, row40) ∷ (9, row43) ∷ (10, row45) ∷ (11, row47) ∷ (12, row49) ∷ (13, row51) ∷ (14, row53) ∷ (15, row55) ∷ (16, row25) ∷ (26, row2) ∷ (33, row57) ∷ (34, row58) ∷ (38, row52) ∷ (39, row54) ∷ (40, row56) ∷ []) ((5, off) ∷ (7, off) ∷ (19, alive) ∷ (20, alive) ∷ (21, alive) ∷ (22, alive) ∷ (23, alive) ∷ (24, alive) ∷ (25, alive) ∷ (26, alive) ∷ []) G0
+  G111 = patched ((7, row39) ∷ (9, row42) ∷ (10, row44) ∷ (11, row46) ∷ (12, row48) ∷ (13, row50) ∷ (14, row52) ∷ (15, row54) ∷ (16, row24) ∷ (26, row2) ∷ (33, row56) ∷ (34, row57) ∷ (38, row51) ∷ (39, row53) ∷ (40, row55) ∷ []) ((5, off) ∷ (7, off) ∷ (19, alive) ∷ (20, alive) ∷ (21, alive) ∷ (22, alive) ∷ (23, alive) ∷ (24, alive) ∷ (25, alive) ∷ (26, alive) ∷ []) G0
 
   abbrev pub G114 : Cx
-  G114 = patched ((7, row40) ∷ (9, row43) ∷ (10, row45) ∷ (11, row47) ∷ (12, row49) ∷ (13, row51) ∷ (14, row53) ∷ (15, row55) ∷ (16, row25) ∷ (26, row2) ∷ (33, row57) ∷ (34, row58) ∷ []) ((5, off) ∷ (7, off) ∷ (19, alive) ∷ (20, alive) ∷ (21, alive) ∷ (22, alive) ∷ (23, alive) ∷ (24, alive) ∷ (25, alive) ∷ (26, alive) ∷ []) G0
+  G114 = patched ((7, row39) ∷ (9, row42) ∷ (10, row44) ∷ (11, row46) ∷ (12, row48) ∷ (13, row50) ∷ (14, row52) ∷ (15, row54) ∷ (16, row24) ∷ (26, row2) ∷ (33, row56) ∷ (34, row57) ∷ []) ((5, off) ∷ (7, off) ∷ (19, alive) ∷ (20, alive) ∷ (21, alive) ∷ (22, alive) ∷ (23, alive) ∷ (24, alive) ∷ (25, alive) ∷ (26, alive) ∷ []) G0
 
   abbrev pub G117 : Cx
-  G117 = patched ((9, row43) ∷ (10, row45) ∷ (11, row47) ∷ (12, row49) ∷ (13, row51) ∷ (14, row53) ∷ (15, row55) ∷ (16, row25) ∷ (34, row58) ∷ []) ((7, off) ∷ (19, dead) ∷ (20, alive) ∷ (21, alive) ∷ (22, alive) ∷ (23, alive) ∷ (24, alive) ∷ (25, alive) ∷ (26, alive) ∷ []) G0
+  G117 = patched ((9, row42) ∷ (10, row44) ∷ (11, row46) ∷ (12, row48) ∷ (13, row50) ∷ (14, row52) ∷ (15, row54) ∷ (16, row24) ∷ (34, row57) ∷ []) ((7, off) ∷ (19, dead) ∷ (20, alive) ∷ (21, alive) ∷ (22, alive) ∷ (23, alive) ∷ (24, alive) ∷ (25, alive) ∷ (26, alive) ∷ []) G0
 
   abbrev pub G121 : Cx
-  G121 = patched ((10, row45) ∷ (11, row47) ∷ (12, row49) ∷ (13, row51) ∷ (14, row53) ∷ (15, row55) ∷ (16, row25) ∷ []) ((20, dead) ∷ (21, alive) ∷ (22, alive) ∷ (23, alive) ∷ (24, alive) ∷ (25, alive) ∷ (26, alive) ∷ []) G0
+  G121 = patched ((10, row44) ∷ (11, row46) ∷ (12, row48) ∷ (13, row50) ∷ (14, row52) ∷ (15, row54) ∷ (16, row24) ∷ []) ((20, dead) ∷ (21, alive) ∷ (22, alive) ∷ (23, alive) ∷ (24, alive) ∷ (25, alive) ∷ (26, alive) ∷ []) G0
 
   abbrev pub G124 : Cx
-  G124 = patched ((10, row5) ∷ (11, row47) ∷ (12, row49) ∷ (13, row51) ∷ (14, row53) ∷ (15, row55) ∷ (16, row25) ∷ []) ((21, dead) ∷ (22, alive) ∷ (23, alive) ∷ (24, alive) ∷ (25, alive) ∷ (26, alive) ∷ []) G0
+  G124 = patched ((10, row4) ∷ (11, row46) ∷ (12, row48) ∷ (13, row50) ∷ (14, row52) ∷ (15, row54) ∷ (16, row24) ∷ []) ((21, dead) ∷ (22, alive) ∷ (23, alive) ∷ (24, alive) ∷ (25, alive) ∷ (26, alive) ∷ []) G0
 
   abbrev pub G127 : Cx
-  G127 = patched ((11, row47) ∷ (12, row49) ∷ (13, row51) ∷ (14, row53) ∷ (15, row55) ∷ (16, row25) ∷ []) ((22, dead) ∷ (23, alive) ∷ (24, alive) ∷ (25, alive) ∷ (26, alive) ∷ []) G0
+  G127 = patched ((11, row46) ∷ (12, row48) ∷ (13, row50) ∷ (14, row52) ∷ (15, row54) ∷ (16, row24) ∷ []) ((22, dead) ∷ (23, alive) ∷ (24, alive) ∷ (25, alive) ∷ (26, alive) ∷ []) G0
 
   abbrev pub G130 : Cx
-  G130 = patched ((12, row49) ∷ (13, row51) ∷ (14, row53) ∷ (15, row55) ∷ (16, row25) ∷ []) ((23, alive) ∷ (24, alive) ∷ (25, alive) ∷ (26, alive) ∷ []) G0
+  G130 = patched ((12, row48) ∷ (13, row50) ∷ (14, row52) ∷ (15, row54) ∷ (16, row24) ∷ []) ((23, alive) ∷ (24, alive) ∷ (25, alive) ∷ (26, alive) ∷ []) G0
 
   abbrev pub G133 : Cx
-  G133 = patched ((12, row7) ∷ (13, row51) ∷ (14, row53) ∷ (15, row55) ∷ (16, row25) ∷ []) ((24, alive) ∷ (25, alive) ∷ (26, alive) ∷ []) G0
+  G133 = patched ((12, row6) ∷ (13, row50) ∷ (14, row52) ∷ (15, row54) ∷ (16, row24) ∷ []) ((24, alive) ∷ (25, alive) ∷ (26, alive) ∷ []) G0
 
   abbrev pub G136 : Cx
-  G136 = patched ((13, row5) ∷ (14, row53) ∷ (15, row55) ∷ (16, row25) ∷ []) ((24, dead) ∷ (25, alive) ∷ (26, alive) ∷ []) G0
+  G136 = patched ((13, row4) ∷ (14, row52) ∷ (15, row54) ∷ (16, row24) ∷ []) ((24, dead) ∷ (25, alive) ∷ (26, alive) ∷ []) G0
 
   abbrev pub G139 : Cx
-  G139 = patched ((14, row53) ∷ (15, row55) ∷ (16, row25) ∷ []) ((25, dead) ∷ (26, alive) ∷ []) G0
+  G139 = patched ((14, row52) ∷ (15, row54) ∷ (16, row24) ∷ []) ((25, dead) ∷ (26, alive) ∷ []) G0
 
   abbrev pub G142 : Cx
-  G142 = patched ((15, row55) ∷ (16, row25) ∷ []) ((26, alive) ∷ []) G0
+  G142 = patched ((15, row54) ∷ (16, row24) ∷ []) ((26, alive) ∷ []) G0
 
   abbrev pub G145 : Cx
-  G145 = patched ((15, row11) ∷ (16, row25) ∷ []) ([]) G0
+  G145 = patched ((15, row10) ∷ (16, row24) ∷ []) ([]) G0
 
   abbrev pub Γ-from-near : Cx
   Γ-from-near = G59
