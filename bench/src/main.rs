@@ -6,6 +6,7 @@ mod hypotenuse;
 mod maps;
 mod ours;
 mod pool;
+mod rest;
 mod stack;
 mod timing;
 
@@ -50,6 +51,9 @@ fn main() {
     }
     if wanted("hypotenuse") {
         hypotenuse::run(budget);
+    }
+    if wanted("rest") {
+        rest::run(budget, |name| arguments.len() < 3 || wanted(name));
     }
     if wanted("accession") {
         accession::run(budget);

@@ -1,6 +1,6 @@
 //! Our libraries on the oracle's maps, through the safe calls of ../bindings/rust.
 
-use jenwyllt::{KeptLists, PartitionLists, Refusal, Region};
+use jenwyllt::{KeptLists, PartitionLists, Refusal, Region, RestCounts};
 use oracle::sheet::Map;
 use oracle::topology::harness::Record;
 
@@ -61,7 +61,16 @@ pub fn refused(map: &Map, lent: &mut Lent) -> Result<u64, Refusal> {
 }
 
 fn call(map: &Map, lists: KeptLists) -> Result<u64, Refusal> {
-    let map = jenwyllt::Map {
+    jenwyllt::kept_boundaries_into(read(map), lists)
+}
+
+/// Runs the passes to rest.
+pub fn run_to_rest(map: &Map, lent: &mut Lent) -> Result<RestCounts, Refusal> {
+    jenwyllt::run_to_rest_into(read(map), lent.lists())
+}
+
+fn read(map: &Map) -> jenwyllt::Map<'_> {
+    jenwyllt::Map {
         pass: map.pass,
         width: map.width,
         height: map.height,
@@ -69,8 +78,7 @@ fn call(map: &Map, lists: KeptLists) -> Result<u64, Refusal> {
         spans: &map.spans,
         boundaries: &map.boundaries,
         anchors: &map.anchors,
-    };
-    jenwyllt::kept_boundaries_into(map, lists)
+    }
 }
 
 /// A record as the oracle has it.

@@ -137,7 +137,11 @@ class Picture:
             self.line(boundaries[number].span, **(KEPT_LOOK if number in self.kept else REMOVED_LOOK))
         for number in order:
             x, y = (sum(both) / 2 / PIXELS_PER_CELL * self.cell for both in zip(*boundaries[number].span))
-            self.tag(x, y, f'{number}{("", "L", "U")[boundaries[number].kind]}', number in self.kept)
+            self.tag(x, y, self.mark(number), number in self.kept)
+
+    def mark(self, number: int) -> str:
+        """what stands on a boundary"""
+        return f'{number}{("", "L", "U")[self.sheet.boundaries[number].kind]}'
 
     def spans_elsewhere(self) -> list[Span]:
         spans, boundaries = self.sheet.spans, self.sheet.boundaries

@@ -21,6 +21,7 @@ class Cause(enum.IntEnum):
     RANGE = 13
     SHEET = 14
     RESULT = 15
+    LISTS = 16
     ACCESSION = 17
     DATE = 18
     TERM = 19
@@ -42,6 +43,7 @@ WORDS: dict[int, str] = {
     Cause.RANGE: 'an argument is neither zero nor of a magnitude from 2^-64 to 2^15',
     Cause.SHEET: 'the sheet is ill formed',
     Cause.RESULT: 'the result breaks a rule: pairs or rows do not ascend, or labels do not start each new number in turn up to the region count',
+    Cause.LISTS: 'the span and the boundary of this number are not there both, or differ in an endpoint as written',
     Cause.ACCESSION: 'the accession record breaks a rule',
     Cause.DATE: 'a date of the term, or at the number of terms the day asked for, is not a day from 2000 to 2099',
     Cause.TERM: 'the term is empty or overlaps an earlier term of its map',

@@ -48,6 +48,7 @@ causes! {
     Range = 13, "an argument is neither zero nor of a magnitude from 2^-64 to 2^15";
     Sheet = 14, "the sheet is ill formed";
     Result = 15, "the result breaks a rule: pairs or rows do not ascend, or labels do not start each new number in turn up to the region count";
+    Lists = 16, "the span and the boundary of this number are not there both, or differ in an endpoint as written";
     Accession = 17, "the accession record breaks a rule";
     Date = 18, "a date of the term, or at the number of terms the day asked for, is not a day from 2000 to 2099";
     Term = 19, "the term is empty or overlaps an earlier term of its map";
