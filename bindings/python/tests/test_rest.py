@@ -74,7 +74,7 @@ class Runs(unittest.TestCase):
 
 class Command(Trial):
     def test_words(self) -> None:
-        self.answers('kept 4 of 5 in 2 rounds\nround 1: pass 3 removes 0\nround 2: none is removed\n1 8 8 8 16\n2 8 8 16 8\n4 16 16 24 16\n3 24 8 24 16\n',
+        self.answers('kept 3 of 5 in 3 rounds\nround 1: pass 3 removes 0\nround 2: pass 3 removes 1\nround 3: none is removed\n2 8 8 16 8\n4 16 16 24 16\n3 24 8 24 16\n',
                      'rest', EXAMPLES / 'case_j.txt')
 
     def test_picture(self) -> None:
