@@ -1,4 +1,4 @@
-/* Regions of a walk grid cut by spans, the boundaries that a pass keeps, the ranked junction list, runner and guard, how far boundaries are apart, the reader,
+/* Regions of a walk grid cut by spans, the boundaries that a pass keeps, the passes run to rest, the ranked junction list, runner and guard, how far boundaries are apart, the reader,
    the writer and the converter of sheets, writer and reader of result sheets, the line of an accession record, the maps in the pool on a day, the year's
    figures, the share behind dominance, and the correctly rounded hypotenuse.
    The library is for x86-64 Linux: libjenwyllt.a and libjenwyllt.so, which tools/build_library.sh writes to target/lib. It keeps no state and allocates
@@ -219,6 +219,50 @@ struct jenwyllt_ranked_answer jenwyllt_ranked_junctions(
     struct jenwyllt_region *records, size_t records_length,
     uint64_t *output, size_t output_length,
     uint32_t *ranked, size_t ranked_length);
+
+/* Number 0, how many rows are kept and how many rounds were run; or a refusal's number and place, and 0. */
+struct jenwyllt_rest {
+    uint64_t number;
+    uint64_t value;
+    uint64_t rounds;
+};
+
+/* Runs the passes to rest: passes 1, 2 and 3 in a round, each on the map cut by the boundaries that are still kept, until a round removes none. Every pass
+   takes these in the order of rows, the smaller endpoint first. The last round counts; every other removes at least one, so that there are at most 257.
+
+   Read:
+     cells, spans, boundaries, anchors   as for `jenwyllt_kept_boundaries`; spans and boundaries are one list: equally many, with the same endpoints as written
+   Filled; each may be longer than needed, and what it holds before does not matter:
+     labels, masks, queue, tallies, pairs, records   as for `jenwyllt_kept_boundaries`, of the last pass: span k is row k of the output. Entries of tallies,
+                 pairs and records behind them that an earlier pass filled are zero.
+     output      rows of 5 as for `jenwyllt_kept_boundaries`; the number is that of the boundary as lent. What it holds behind the last row stays.
+
+   Number 0: the value is the count of rows. Otherwise the number says why not; the first of these causes that applies is given:
+
+     number  cause                                                                            value
+     1 to 3  as for `jenwyllt_kept_boundaries`                                                0
+     16      a span and its boundary differ in an endpoint, or one of them is missing         the first such number
+     5 to 9  as for `jenwyllt_kept_boundaries`, of the lists as lent                          the first faulty one
+     10      labels, masks, queue, tallies or output are too short                            0
+     11      there are more regions than records                                              0
+     12      there are more pairs than rows                                                   0
+
+   11 and 12 come of the first pass, which has the most of both. With 1 to 10 and 16 every list stays as it was. With 11 labels are filled, and masks, queue
+   and tallies are zero; with 12 labels and tallies are filled, masks and queue are zero, and pairs are zero over the whole list, all of the first pass; the
+   other lists stay as they were. */
+struct jenwyllt_rest jenwyllt_run_to_rest(
+    uint64_t width, uint64_t height,
+    const uint8_t *cells, size_t cells_length,
+    const uint64_t *spans, size_t spans_length,
+    const uint64_t *boundaries, size_t boundaries_length,
+    const uint64_t *anchors, size_t anchors_length,
+    uint32_t *labels, size_t labels_length,
+    uint16_t *masks, size_t masks_length,
+    uint32_t *queue, size_t queue_length,
+    uint32_t *tallies, size_t tallies_length,
+    uint32_t *pairs, size_t pairs_length,
+    struct jenwyllt_region *records, size_t records_length,
+    uint64_t *output, size_t output_length);
 
 /* The separation of each two boundaries of a map: the distance of the two segments in pixels, as pass 1 works it out in doubles, and the square of the exact
    distance as a fraction of whole numbers. A separation is within 2^-32 pixel of the root of its fraction, and 0.0 exactly when the two share a point;

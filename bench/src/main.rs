@@ -7,6 +7,7 @@ mod maps;
 mod ours;
 mod pool;
 mod ranked;
+mod rest;
 mod stack;
 mod timing;
 
@@ -56,6 +57,9 @@ fn main() {
     }
     if wanted("hypotenuse") {
         hypotenuse::run(budget);
+    }
+    if wanted("rest") {
+        rest::run(budget, |name| arguments.len() < 3 || wanted(name));
     }
     if wanted("accession") {
         accession::run(budget);

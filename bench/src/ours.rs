@@ -1,6 +1,6 @@
 //! Our libraries on the oracle's maps, through the safe calls of ../bindings/rust.
 
-use jenwyllt::{KeptLists, PartitionLists, Refusal, Region};
+use jenwyllt::{KeptLists, PartitionLists, Refusal, Region, RestCounts};
 use oracle::sheet::Map;
 use oracle::topology::harness::Record;
 
@@ -72,6 +72,11 @@ pub fn refused(map: &Map, lent: &mut Lent) -> Result<u64, Refusal> {
 
 fn call(map: &Map, lists: KeptLists) -> Result<u64, Refusal> {
     jenwyllt::kept_boundaries_into(read(map), lists)
+}
+
+/// Runs the passes to rest.
+pub fn run_to_rest(map: &Map, lent: &mut Lent) -> Result<RestCounts, Refusal> {
+    jenwyllt::run_to_rest_into(read(map), lent.lists())
 }
 
 fn read(map: &Map) -> jenwyllt::Map<'_> {

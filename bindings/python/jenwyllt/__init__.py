@@ -11,10 +11,11 @@ from .pool import Date, Entry, Term, maps_of_day
 from .ranked import Ranked, RankedProposal, ranked_junctions
 from .refusal import Cause, Refusal
 from .report import Figures, Mean, Report, empty_report, mean_kept, report_run, report_sheet
+from .rest import Rested, run_to_rest
 from .results import RunResult, read_result, write_result
 from .separations import Separation, separations
 from .sheet import Boundary, Kind, Point, Sheet, Span, read_sheet, sheet_bytes
 
 __version__ = '0.2.0'
 __all__ = [
-    'Accession', 'Boundary', 'Cause', 'Date', 'Dominance', 'Entry', 'Figures', 'Game', 'Kept', 'Kind', 'Mean', 'NotBuilt', 'Pair', 'Partition', 'Point', 'Ranked', 'RankedProposal', 'Refusal', 'Region', 'Report', 'Row', 'RunResult', 'Separation', 'Share', 'Sheet', 'Span', 'Tally', 'Term', 'Verdict', 'Winner', 'convert_sheet', 'dominance', 'empty_report', 'hypot', 'hypotenuse', 'kept_boundaries', 'maps_of_day', 'mean_kept', 'partition', 'ranked_junctions', 'read_result', 'read_sheet', 'report_line', 'report_run', 'report_sheet', 'runner_and_guard', 'separations', 'sheet_bytes', 'solve_game', 'write_result', 'write_sheet']
+    'Accession', 'Boundary', 'Cause', 'Date', 'Dominance', 'Entry', 'Figures', 'Game', 'Kept', 'Kind', 'Mean', 'NotBuilt', 'Pair', 'Partition', 'Point', 'Ranked', 'RankedProposal', 'Refusal', 'Region', 'Report', 'Rested', 'Row', 'RunResult', 'Separation', 'Share', 'Sheet', 'Span', 'Tally', 'Term', 'Verdict', 'Winner', 'convert_sheet', 'dominance', 'empty_report', 'hypot', 'hypotenuse', 'kept_boundaries', 'maps_of_day', 'mean_kept', 'partition', 'ranked_junctions', 'read_result', 'read_sheet', 'report_line', 'report_run', 'report_sheet', 'run_to_rest', 'runner_and_guard', 'separations', 'sheet_bytes', 'solve_game', 'write_result', 'write_sheet']

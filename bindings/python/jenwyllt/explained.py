@@ -128,7 +128,17 @@ def map_words(number: int, place: int, sheet: Sheet) -> str:
     if number == Cause.ELEVATION:
         row, column = divmod(place, sheet.width)
         return f'cell {place}, column {column} of row {row}, is walkable and of elevation {sheet.cells[place] // 4}, over {MOST_ELEVATION}'
+    if number == Cause.LISTS:
+        return lists_words(place, sheet)
     return WORDS[number]
+
+
+def lists_words(place: int, sheet: Sheet) -> str:
+    """of refusal 16: which list ends there, or how the two entries differ"""
+    spans, boundaries = sheet.spans, sheet.boundaries
+    if place >= min(len(spans), len(boundaries)):
+        return f'there are {len(spans)} spans and {len(boundaries)} boundaries, and they must be one list'
+    return f'span {place} goes {ends_words(spans[place])}, and boundary {place} {ends_words(boundaries[place].span)}: they must be one list, endpoints as written'
 
 
 def explained(refusal: Refusal, data: bytes = b'', sheet: Sheet | None = None) -> Refusal:

@@ -2,11 +2,12 @@
 from __future__ import annotations
 
 import ctypes
+from collections.abc import Callable
 from dataclasses import dataclass
 from typing import Any, NamedTuple
 
 from ._library import DOUBLE, SIZE, U8, U16, U32, U64, Function, ListOf, lent
-from .partition import Answer, Partition, Room
+from .partition import Answer, Made, Partition, Room
 from .refusal import Cause, Refusal
 from .sheet import Point, Sheet, flat, grouped
 
@@ -57,24 +58,42 @@ KEPT_BOUNDARIES = Function(
     pairs=ListOf(U32, filled=True), records=ListOf(Region, filled=True), output=ListOf(U64, filled=True))
 
 
+class CallRoom:
+    """what a call on a map reads, and the lists that it fills. Without `records` or `pair_rows` there are as many in the end as it takes"""
+
+    def __init__(self, sheet: Sheet, records: int | None = None, pair_rows: int | None = None):
+        self.room = Room(len(sheet.cells), len(sheet.spans), pair_rows)
+        self.read = lent(U8, sheet.cells), *(lent(U64, flat(entries)) for entries in (sheet.spans, sheet.boundaries, sheet.anchors))
+        self.output = lent(U64, ROW_NUMBERS * len(sheet.boundaries))
+        self.records = lent(Region, 1 + 2 * len(sheet.spans) if records is None else records)
+        self.grows = records is None
+
+    def lists(self) -> tuple[ctypes.Array[Any], ...]:
+        return *self.read, *self.room.lists(), self.records, self.output
+
+    def filled_by(self, call: Callable[[], Made]) -> Made:
+        """what a call answers; where there are more regions than records, or more pairs than rows, and the room grows, the call is made again"""
+        try:
+            return self.room.filled_by(call)
+        except Refusal as refusal:
+            if refusal.number != Cause.REGIONS or not self.grows:
+                raise
+        # The labels are filled.
+        self.records = lent(Region, max(self.room.labels))
+        return self.room.filled_by(call)
+
+    def rows(self, count: int) -> list[Row]:
+        return [Row(number, Point(*ends[:2]), Point(*ends[2:])) for number, *ends in grouped(self.output[:ROW_NUMBERS * count], ROW_NUMBERS)]
+
+    def partition(self) -> Partition:
+        return self.room.partition(max(self.room.labels))
+
+    def region_records(self) -> list[Region]:
+        return [Region.from_buffer_copy(record) for record in self.records[:max(self.room.labels)]]
+
+
 def kept_boundaries(sheet: Sheet, records: int | None = None, pair_rows: int | None = None) -> Kept:
     """cuts the map by its spans and runs its pass. Refused 1 to 9; with as many records or pair rows as are given, 11 and 12 too"""
-    room = Room(len(sheet.cells), len(sheet.spans), pair_rows)
-    read = lent(U8, sheet.cells), *(lent(U64, flat(entries)) for entries in (sheet.spans, sheet.boundaries, sheet.anchors))
-    output = lent(U64, ROW_NUMBERS * len(sheet.boundaries))
-    lent_records = lent(Region, 1 + 2 * len(sheet.spans) if records is None else records)
-
-    def call() -> int:
-        return KEPT_BOUNDARIES(sheet.pass_number, sheet.width, sheet.height, *read, *room.lists(), lent_records, output).count()
-
-    try:
-        count = room.filled_by(call)
-    except Refusal as refusal:
-        if refusal.number != Cause.REGIONS or records is not None:
-            raise
-        # The labels are filled.
-        lent_records = lent(Region, max(room.labels))
-        count = room.filled_by(call)
-    regions = max(room.labels)
-    rows = [Row(number, Point(*ends[:2]), Point(*ends[2:])) for number, *ends in grouped(output[:ROW_NUMBERS * count], ROW_NUMBERS)]
-    return Kept(rows, len(sheet.boundaries), room.partition(regions), [Region.from_buffer_copy(record) for record in lent_records[:regions]])
+    room = CallRoom(sheet, records, pair_rows)
+    count = room.filled_by(lambda: KEPT_BOUNDARIES(sheet.pass_number, sheet.width, sheet.height, *room.lists()).count())
+    return Kept(room.rows(count), len(sheet.boundaries), room.partition(), room.region_records())

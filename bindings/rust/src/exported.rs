@@ -26,6 +26,14 @@ pub struct RankedAnswer {
     pub proposals: u64,
 }
 
+/// Number 0, how many rows are kept and how many rounds were run, or a refusal's number and place.
+#[repr(C)]
+pub struct RestAnswer {
+    pub number: u64,
+    pub value: u64,
+    pub rounds: u64,
+}
+
 /// What a sheet opens with, or a refusal's number and place.
 #[repr(C)]
 pub struct SheetAnswer {
@@ -183,6 +191,33 @@ unsafe extern "C" {
         ranked: *mut u32,
         ranked_length: usize,
     ) -> RankedAnswer;
+
+    pub fn jenwyllt_run_to_rest(
+        width: u64,
+        height: u64,
+        cells: *const u8,
+        cells_length: usize,
+        spans: *const u64,
+        spans_length: usize,
+        boundaries: *const u64,
+        boundaries_length: usize,
+        anchors: *const u64,
+        anchors_length: usize,
+        labels: *mut u32,
+        labels_length: usize,
+        masks: *mut u16,
+        masks_length: usize,
+        queue: *mut u32,
+        queue_length: usize,
+        tallies: *mut u32,
+        tallies_length: usize,
+        pairs: *mut u32,
+        pairs_length: usize,
+        records: *mut Region,
+        records_length: usize,
+        output: *mut u64,
+        output_length: usize,
+    ) -> RestAnswer;
 
     pub fn jenwyllt_separations(
         width: u64,

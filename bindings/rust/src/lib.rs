@@ -1,7 +1,7 @@
 //! Safe calls of the library `jenwyllt`, which is proved to meet its definitions for every input: the regions of a map cut by
-//! spans, the boundaries that a pass keeps, the ranked junction list, how far boundaries are apart, the reader, the writer and the converter of sheets, the
-//! line of an accession record, the maps in the pool on a day, the year's figures, the share behind dominance, and the correctly
-//! rounded hypotenuse.
+//! spans, the boundaries that a pass keeps, the passes run to rest, the ranked junction list, runner and guard, how far boundaries
+//! are apart, the reader, the writer and the converter of sheets, the line of an accession record, the maps in the pool on a day,
+//! the year's figures, the share behind dominance, and the correctly rounded hypotenuse.
 //!
 //! [`partition`], [`kept_boundaries`], [`ranked_junctions`], [`separations`], [`read_sheet`], [`report_line`] and [`maps_of_day`] make the lists that the
 //! library fills. [`partition_into`], [`kept_boundaries_into`], [`ranked_junctions_into`], [`separations_into`], [`read_sheet_into`], [`report_line_into`] and
@@ -25,6 +25,7 @@ mod pool;
 mod ranked;
 mod refusal;
 mod report;
+mod rest;
 mod results;
 mod separations;
 mod sheet;
@@ -40,6 +41,7 @@ pub use pool::{Entry, maps_of_day, maps_of_day_into};
 pub use ranked::{RankedJunctions, RankedProposal, ranked_junctions, ranked_junctions_into};
 pub use refusal::{Cause, Refusal};
 pub use report::{Figures, Mean, Report, read_for_report, report_run, report_sheet};
+pub use rest::{RestCounts, Rested, run_to_rest, run_to_rest_into};
 pub use results::{ResultHeader, ResultLists, RunResult, read_result, read_result_into, write_result, write_result_into};
 pub use separations::{Separation, separations, separations_into};
 pub use sheet::{

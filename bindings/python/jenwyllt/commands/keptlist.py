@@ -6,7 +6,7 @@ import json
 from typing import Any
 
 from ..drawing import Picture
-from ..kept import Kept
+from ..kept import Kept, Row
 from ..kept_list import PAIR_ROWS, RECORDS, UNPROVED, refuse_too_large
 from ..refusal import Refusal
 from ..sheet import Sheet
@@ -43,8 +43,12 @@ def as_json(name: str, proved: bool, said: dict[str, Any]) -> str:
     return json.dumps({'file': name, 'proved': proved, **said}) + '\n'
 
 
+def row_json(row: Row) -> dict[str, Any]:
+    return {'number': row.number, 'from': row.start, 'to': row.end}
+
+
 def kept_json(kept: Kept) -> dict[str, Any]:
-    return {'boundaries': kept.boundaries, 'kept': [{'number': row.number, 'from': row.start, 'to': row.end} for row in kept.rows]}
+    return {'boundaries': kept.boundaries, 'kept': [row_json(row) for row in kept.rows]}
 
 
 def refusal_json(wrong: Refusal | Wrong) -> dict[str, Any]:
