@@ -1,0 +1,34 @@
+"""`jenwyllt page`: a map to look at, as one HTML file."""
+from __future__ import annotations
+
+import argparse
+
+from ..explained import explained
+from ..page import page
+from ..refusal import Refusal
+from ..sheet_text import Wrong
+from . import _maps, _streams
+from ._answers import PROVED
+
+NAME = 'page'
+HELP = 'make a page (HTML) to look at: terrain, regions, boundaries, why each went, the rounds of running to rest, and the game'
+EXAMPLE = '''
+jenwyllt page examples/case_j.txt -o case_j.html
+'''
+
+
+def add_arguments(parser: argparse.ArgumentParser) -> None:
+    parser.add_argument('map', nargs='?', default='-', metavar='MAP', help=_maps.MAP_HELP)
+    parser.add_argument('-o', '--output', default='-', metavar='PAGE', help='without it standard output')
+    parser.add_argument('--title', help="without it the map's name and pass")
+
+
+def run(args: argparse.Namespace) -> int:
+    try:
+        sheet = _maps.read(PROVED, _maps.sheet_data(args.map))
+        title = args.title or f'{_streams.shown(args.map)}, pass {sheet.pass_number}'
+        made = page(sheet, title)
+    except (Refusal, Wrong) as wrong:
+        raise _maps.refused(args.map, wrong) from wrong
+    _streams.write(args.output, made)
+    return 0
