@@ -3,7 +3,7 @@ from __future__ import annotations
 
 import base64
 import json
-from collections.abc import Callable, Iterable, Sequence
+from collections.abc import Iterable, Sequence
 from html import escape
 from itertools import groupby
 from pathlib import Path
@@ -12,10 +12,12 @@ from typing import Any
 from .dominance import dominance
 from .drawing import look_of
 from .explained import explained
+from .game import MOST_GAME_REGIONS, solve_game
 from .kept import Kept, kept_boundaries
-from .partition import Pair
+from .partition import partition
+from .ranked import conflict_words, ports_of, ranked_junctions
 from .refusal import Refusal
-from .rest import PASSES, by_turns, canonical, run_to_rest
+from .rest import PASSES, by_turns, run_to_rest
 from .separations import BOUND_WORDS, separations
 from .sheet import Sheet, number_bytes
 
@@ -30,11 +32,6 @@ def run_lengths(values: Iterable[int]) -> str:
 
 def in_words(refusal: Refusal, sheet: Sheet) -> dict[str, Any]:
     return {'words': str(explained(refusal, sheet=sheet))}
-
-
-def incidents(pairs: Sequence[Pair], regions: Sequence[int]) -> list[int]:
-    """the boundaries with a pair that names one of these regions, ascending"""
-    return sorted({pair.span for pair in pairs if pair.smaller in regions or pair.larger in regions})
 
 
 def merged(before: Sequence[int], after: Sequence[int], regions: int) -> list[int] | None:
@@ -57,16 +54,41 @@ def rest_data(sheet: Sheet, labels: Sequence[int], regions: int) -> dict[str, An
     rounds, rows = by_turns(sheet)
     if (rows, len(rounds)) != (rested.rows, rested.rounds):
         raise ValueError('the passes called by turns do not end in the rows of the run')
-    steps, gone, into = [], set(), list(range(1, regions + 1)) if regions <= MERGED else None
+    steps: list[dict[str, Any]] = []
+    gone: set[int] = set()
+    into = list(range(1, regions + 1)) if regions <= MERGED else None
     for k, each in enumerate(rounds, 1):
         for pass_number, removed in zip(PASSES, each.removed):
             if removed and into is not None:
                 gone |= set(removed)
-                kept = [boundary for number, boundary in enumerate(sheet.boundaries) if number not in gone]
-                cut = kept_boundaries(Sheet(pass_number, sheet.width, sheet.height, sheet.cells, tuple(canonical(b).span for b in kept), tuple(kept), sheet.anchors))
-                into = merged(labels, cut.partition.labels, regions)
+                left = [boundary.span for number, boundary in enumerate(sheet.boundaries) if number not in gone]
+                into = merged(labels, partition(sheet.width, sheet.height, sheet.cells, left).labels, regions)
             steps.append({'round': k, 'pass': pass_number, 'removed': removed, 'merged': into})
     return {'kept': len(rows), 'rounds': len(rounds), 'steps': steps}
+
+
+def ranked_data(sheet: Sheet) -> dict[str, Any]:
+    """the ranked junction list of pass 3, with ports, which stand in the pairs, and why a refused one was refused"""
+    try:
+        ranked = ranked_junctions(sheet)
+    except Refusal as refusal:
+        return in_words(refusal, sheet)
+    cut, rows = ranked.kept.partition, []
+    for rank, proposal in enumerate(ranked.proposals):
+        rows.append({'kind': 'bridge' if proposal.bridge else 'union', 'boundary': proposal.boundary, 'regions': [proposal.first, proposal.second],
+                     'ports': ports_of(proposal, cut), 'taken': proposal.taken,
+                     **({} if proposal.taken else {'by': proposal.by, 'because': conflict_words(rank, ranked.proposals, cut)})})
+    return {'rows': rows}
+
+
+def game_data(sheet: Sheet, kept: Sequence[int]) -> dict[str, Any]:
+    """the kept graph, the map cut by its kept boundaries alone, as written, in list order, and the verdicts of every goal"""
+    cut = partition(sheet.width, sheet.height, sheet.cells, [sheet.boundaries[number].span for number in sorted(kept)])
+    if not 1 <= cut.regions <= MOST_GAME_REGIONS:
+        return {'words': f'The kept graph has {cut.regions} regions; the game is played on 1 to {MOST_GAME_REGIONS}.'}
+    edges = [(pair.smaller, pair.larger) for pair in cut.pairs]
+    verdicts = [[number for verdict in solve_game(cut.regions, edges, goal).verdicts for number in verdict] for goal in range(1, cut.regions + 1)]
+    return {'regions': cut.regions, 'labels': run_lengths(cut.labels), 'pairs': [list(pair) for pair in cut.pairs], 'verdicts': verdicts}
 
 
 def separations_data(sheet: Sheet) -> dict[str, Any]:
@@ -99,7 +121,7 @@ def page_data(sheet: Sheet, title: str) -> dict[str, Any]:
         [list(span.numbers()) for span, boundary in zip(sheet.spans, sheet.boundaries) if span != boundary.span],
         'anchors': sorted(set(map(tuple, sheet.anchors))), 'pairs': [list(pair) for pair in first.partition.pairs],
         'regions': [region_data(record) for record in first.records], 'passes': passes, 'rest': rest, 'separations': separations_data(sheet),
-        'ranked': ranked_data(sheet), 'game': game_data(sheet)}
+        'ranked': ranked_data(sheet), 'game': game_data(sheet, [row.number for row in first.rows])}
 
 
 def page(sheet: Sheet, title: str) -> str:
