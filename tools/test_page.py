@@ -152,7 +152,7 @@ class Shown:
             self.browser.click(f'#rank-{rank}')
             ports = ports_of(proposal, ranked.kept.partition)
             words = self.browser.text('#chosen')
-            self.same(f'rank {rank}, ports drawn', self.browser.run('return document.querySelectorAll("#lines line.port").length'), len(ports))
+            self.same(f'rank {rank}, ports drawn', self.browser.run('return [...document.querySelectorAll("#lines line.port")].map(e => Number(e.dataset.port))'), ports)
             self.same(f'rank {rank}, ports named', all(f'boundary {port}' in words for port in ports), True)
             if not proposal.taken:
                 self.browser.click(f'#rank-{rank} a.to-rank')
