@@ -23,12 +23,19 @@ def add_arguments(parser: argparse.ArgumentParser) -> None:
     parser.add_argument('--title', help="without it the map's name and pass")
 
 
+def made(name: str, title: str | None) -> str:
+    """the page; a refusal is in words about the map"""
+    sheet = _maps.read(PROVED, _maps.sheet_data(name))
+    try:
+        return page(sheet, title or f'{_streams.shown(name)}, pass {sheet.pass_number}')
+    except Refusal as refusal:
+        raise explained(refusal, sheet=sheet) from None
+
+
 def run(args: argparse.Namespace) -> int:
     try:
-        sheet = _maps.read(PROVED, _maps.sheet_data(args.map))
-        title = args.title or f'{_streams.shown(args.map)}, pass {sheet.pass_number}'
-        made = page(sheet, title)
+        text = made(args.map, args.title)
     except (Refusal, Wrong) as wrong:
         raise _maps.refused(args.map, wrong) from wrong
-    _streams.write(args.output, made)
+    _streams.write(args.output, text)
     return 0
