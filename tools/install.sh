@@ -38,7 +38,7 @@ sed -e "s|@PREFIX@|$prefix|" -e "s|@VERSION@|$version|" include/jenwyllt.pc.in >
 
 put 755 target/bin/keptlist bin
 rm -rf "$prefix/lib/jenwyllt"
-(cd bindings/python && find jenwyllt -name '*.py' -o -name py.typed) | while IFS= read -r module; do
+(cd bindings/python && find jenwyllt -name '*.py' -o -name '*.html' -o -name py.typed) | while IFS= read -r module; do
     put 644 "bindings/python/$module" "lib/jenwyllt/$(dirname "$module")"
 done
 # The same script as in the checkout, which finds the package beside the library.

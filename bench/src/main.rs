@@ -17,11 +17,12 @@ use maps::Named;
 use oracle::sheet::Map;
 use oracle::table::check_pass;
 use oracle::topology::harness::{self, Answer, Context, Original, Room, row};
+use std::io::Write;
 use std::time::Duration;
 use timing::{Timing, time};
 
 const PASSES: [u64; 3] = [1, 2, 3];
-const USAGE: &str = "usage: bench [SECONDS a measurement] [NAME of a map...], or bench alone SECONDS NAME..., or bench ranked SECONDS NAME..., or bench once MAP rust|ours|none CALL";
+const USAGE: &str = "usage: bench [SECONDS a measurement] [NAME of a map...], or bench alone SECONDS NAME..., or bench ranked SECONDS NAME..., or bench once MAP rust|ours|none CALL, or bench sheet MAP";
 
 fn main() {
     let arguments: Vec<String> = std::env::args().skip(1).collect();
@@ -32,6 +33,11 @@ fn main() {
         && word == "once"
     {
         return once(map, whose, call);
+    }
+    if let [word, map] = &arguments[..]
+        && word == "sheet"
+    {
+        return sheet(map);
     }
     if let [word, seconds, names @ ..] = &arguments[..]
         && word == "alone"
@@ -93,6 +99,29 @@ fn once(map: &str, whose: &str, call: &str) {
             _ => usage(),
         }
     });
+}
+
+/// Writes a map as a sheet of kind 1 to standard output.
+fn sheet(map: &str) {
+    let maps = maps::all();
+    let Map { pass, width, height, cells, spans, boundaries, anchors } = &maps.iter().find(|named| named.name == map).unwrap_or_else(|| usage()).map;
+    let lists = [(spans, 4), (boundaries, 9), (anchors, 2)];
+    let mut numbers = vec![1, *pass, *width, *height];
+    numbers.extend(cells.iter().map(|cell| u64::from(*cell)));
+    for (list, size) in lists {
+        numbers.push((list.len() / size) as u64);
+        numbers.extend(list);
+    }
+    let mut bytes = vec![];
+    for mut number in numbers {
+        // Groups of seven bits, least first, the top bit set on all but the last.
+        while number > 127 {
+            bytes.push((number % 128) as u8 | 128);
+            number /= 128;
+        }
+        bytes.push(number as u8);
+    }
+    std::io::stdout().write_all(&bytes).expect("standard output");
 }
 
 /// Each pass of the maps, with no calls beside those that it is told from: many more rounds in the same time.
