@@ -24,7 +24,7 @@ pub enum Prepared {
 
 // Labels, tallies and pairs of lists that no check before 11 refuses. Where there are more regions than records, the answer is refusal 11; where there are more pairs
 // than rows, 12. Otherwise the queue is left with the walkable cells, region by region.
-fn divide(
+pub fn divide(
     width: usize,
     height: usize,
     cells: &[u8],
