@@ -1,10 +1,10 @@
 -- "each one accepted gets the rows of a run with its lists alone": where neither the shared lists nor a desk's own are refused, the answer, the output and every shared list are
 -- those of the call of its pass with its lists alone. The partition reads neither boundaries nor anchors (Terrain). Assumes nothing.
-use Prim.Native.Nat.{_*_, _/_}
+use Prim.Native.Nat.{ℕ, _*_, _/_}
 use mathlib.Core.Path.{_≡_, sym, ap, ap₂, _∙_}
 use mathlib.Core.Bool.{Bool, true, _&&_}
 use mathlib.Core.Option.{none}
-use mathlib.Core.List.{[], _∷_}
+use mathlib.Core.List.{List, [], _∷_}
 use lib.ListN.{length}
 use lib.Dec.{leb}
 use Rattle.definitions.specs.Limits.{numbersPerSpan, numbersPerBoundary, numbersPerAnchor, numbersPerPair}
@@ -53,29 +53,30 @@ shared-passed S h =
       twelve = g .1;
     }
 
-pub record DeskPassed (S : Shared) (D : Desk) : Type 0 where
-  pub three : (isWhole numbersPerBoundary (D .boundaries) && isWhole numbersPerAnchor (D .anchors)) ≡ true
-  pub four : refusal 4 (passFault (D .pass)) ≡ none
-  pub seven : refusal 7 (boundariesFault (S .width) (S .height) (D .boundaries)) ≡ none
-  pub twenty : deskFault (S .spans) (D .boundaries) ≡ none
-  pub eight : refusal 8 (anchorsFault (S .width) (S .height) (D .anchors)) ≡ none
-  pub ten : outputRoom (length (D .boundaries) / numbersPerBoundary) (length (D .output)) ≡ true
+pub record OwnPassed (w h : ℕ) (spans : List ℕ) (pass : ℕ) (boundaries anchors : List ℕ) (output : ℕ) : Type 0 where
+  pub three : (isWhole numbersPerBoundary boundaries && isWhole numbersPerAnchor anchors) ≡ true
+  pub four : refusal 4 (passFault pass) ≡ none
+  pub seven : refusal 7 (boundariesFault w h boundaries) ≡ none
+  pub twenty : deskFault spans boundaries ≡ none
+  pub eight : refusal 8 (anchorsFault w h anchors) ≡ none
+  pub ten : outputRoom (length boundaries / numbersPerBoundary) output ≡ true
 
-pub desk-passed : (S : Shared) (D : Desk) → deskRefusal S D ≡ none → DeskPassed S D
+pub own-passed : (w h : ℕ) (spans : List ℕ) (pass : ℕ) (boundaries anchors : List ℕ) (output : ℕ)
+    → ownRefusal w h spans pass boundaries anchors output ≡ none → OwnPassed w h spans pass boundaries anchors output
 unfolding ownRefusal
-desk-passed S D h =
-    let a = or-else-none _ _ h in
+own-passed w h spans pass boundaries anchors output e =
+    let a = or-else-none _ _ e in
     let b = or-else-none _ _ (a .1) in
     let c = or-else-none _ _ (b .1) in
     let d = or-else-none _ _ (c .1) in
-    let e = or-else-none _ _ (d .1) in
+    let f = or-else-none _ _ (d .1) in
     record {
       three = no-fault _ 0 (refusal-none 3 _ (a .0));
       four = b .0;
       seven = c .0;
       twenty = refusal-none 20 _ (d .0);
-      eight = e .0;
-      ten = no-fault _ 0 (refusal-none 10 _ (e .1));
+      eight = f .0;
+      ten = no-fault _ 0 (refusal-none 10 _ (f .1));
     }
 
 -- 3 and 10, of all lists
@@ -101,8 +102,8 @@ answer-alone S D h k = ap (λ o. answerFrom o (length (rowsOf (D .pass) (mapIn (
     s : SharedPassed S
     s = shared-passed S h
 
-    d : DeskPassed S D
-    d = desk-passed S D k
+    d : OwnPassed (S .width) (S .height) (S .spans) (D .pass) (D .boundaries) (D .anchors) (length (D .output))
+    d = own-passed (S .width) (S .height) (S .spans) (D .pass) (D .boundaries) (D .anchors) (length (D .output)) k
 
     eleven : refusal 11 (recordsFault (alone S D) (mapIn (alone S D))) ≡ none
     eleven = ap (refusal 11) (eleven-same S D) ∙ s .eleven

@@ -106,7 +106,7 @@ own-last : (k : ℕ) (p : Option ℕ) (n : ℕ) → answerFrom (refusal (suc k) 
 own-last k none n h = refl
 own-last k (some x) n h = absurd (omega (arith, h))
 
-own-numbered : (w h : ℕ) (spans : List ℕ) (pass : ℕ) (boundaries anchors : List ℕ) (output n : ℕ)
+pub own-numbered : (w h : ℕ) (spans : List ℕ) (pass : ℕ) (boundaries anchors : List ℕ) (output n : ℕ)
     → answerFrom (ownRefusal w h spans pass boundaries anchors output) n .number ≡ 0 → ownRefusal w h spans pass boundaries anchors output ≡ none
 unfolding ownRefusal
 own-numbered w h spans pass boundaries anchors output n =
@@ -115,6 +115,11 @@ own-numbered w h spans pass boundaries anchors output n =
     (own-or 6 (boundariesFault w h boundaries) _ n
     (own-or 19 (deskFault spans boundaries) _ n
     (own-or 7 (anchorsFault w h anchors) _ n (own-last 9 (unless (outputRoom (length boundaries / numbersPerBoundary) output)) n)))))
+
+-- an answer that is not 0 is its refusal
+pub refused-is : (x : Option Refusal) (number place : ℕ) → _≡_ {A = Answer} (record { number = number; value = place }) (answerFrom x 0) → (number ≡ 0 → ⊥) → x ≡ some (record { number = number; place = place })
+refused-is none number place e positive = absurd (positive (ap (λ (a : Answer). a .number) e))
+refused-is (some r) number place e positive = λ i. some (record { number = sym (ap (λ (a : Answer). a .number) e) i; place = sym (ap (λ (a : Answer). a .value) e) i })
 
 neither : (x y : Option Refusal) (n : ℕ) → (answerFrom x 0 .number ≡ 0 → x ≡ none) → (answerFrom y n .number ≡ 0 → y ≡ none) → answerFrom (orElse x y) n .number ≡ 0 → (x ≡ none) × (y ≡ none)
 neither none y n f g h = (refl, g h)
