@@ -1,0 +1,2 @@
+mod SharedRefusals
+pub mod DeskReady
