@@ -15,8 +15,7 @@ use Rattle.topology.proofs.to_rest.pass_kept.Proof.Der.{close}
 pub pass-kept-spec : {M : Type 1} → statement M
 pass-kept-spec = close (λ w κs qs a good pre bs.
     let P = pre .1 .1 in
-    let T = P .stands in
-    (
+    let T = P .stands in (
       record { fits = omega (arith, kept-few T) },
       (
         bounds-long T,

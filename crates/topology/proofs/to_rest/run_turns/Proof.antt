@@ -31,48 +31,122 @@ abbrev μ : MeasureT-loop
 
 pub run-turns-spec : {M : Type 1} → statement M
 run-turns-spec = close Inv μ (λ world κs qs a good pre bs.
-    let c = a .1 .1 .1 .1 .1 in
-    (
+    let c = a .1 .1 .1 .1 .1 in (
       λ κ. tt,
       λ f. (
         (
-          (c .0 .now, c .1 .0 .now, c .1 .1 .0 .now, c .1 .1 .1 .0 .now, c .1 .1 .1 .1 .0 .now, c .1 .1 .1 .1 .1 .0 .now, c .1 .1 .1 .1 .1 .1 .0 .now, c .1 .1 .1 .1 .1 .1 .1 .0 .now,
-            c .1 .1 .1 .1 .1 .1 .1 .1 .0 .now, a .1 .1 .1 .1 .0, f .1),
+          (
+            c .0 .now,
+            c .1 .0 .now,
+            c .1 .1 .0 .now,
+            c .1 .1 .1 .0 .now,
+            c .1 .1 .1 .1 .0 .now,
+            c .1 .1 .1 .1 .1 .0 .now,
+            c .1 .1 .1 .1 .1 .1 .0 .now,
+            c .1 .1 .1 .1 .1 .1 .1 .0 .now,
+            c .1 .1 .1 .1 .1 .1 .1 .1 .0 .now,
+            a .1 .1 .1 .1 .0,
+            f .1,
+          ),
           refl,
           ((refl, refl, refl, refl, refl, refl, refl, refl, refl), λ O s E. run-starts E (f .5)),
         ),
         λ vs inv.
             let E = pre .2 in
-            let R = inv .1 _ _ E in
-            (
+            let R = inv .1 _ _ E in (
               tt,
               (
-                λ t γ₁. (refl, λ γ₂. (refl, λ γ₃. (refl, λ γ₄. (refl, λ γ₅. (refl, λ γ₆. (refl, λ γ₇. (refl, λ γ₈. (refl, λ γ₉. (refl, (
-                  λ κ. (run-pass R, (_, _, _, R .stands)),
-                  λ k. (refl, λ l₁. (refl, λ l₂. (refl, λ l₃. (refl, λ l₄. (refl, λ l₅. (refl, λ l₆. (refl, λ l₇. (refl, λ l₈. (refl, λ l₉. (
-                    tt,
-                    (
-                      λ κ. run-next R,
-                      λ u.
-                          let last = k .2 .1 .1 .1 .1 .1 .1 .1 in
-                          let going = ltb-true _ _ t in
-                          let long = inv .0 in (
-                            _,
-                            run-lower R (start-few E) going (u .1) (k .5 _ _ _ (R .stands)) refl (u .5),
-                            (
-                              (last .0, last .1 .0, last .1 .1 .0, last .1 .1 .1 .0, last .1 .1 .1 .1 .0, last .1 .1 .1 .1 .1 .0, last .1 .1 .1 .1 .1 .1 .0, last .1 .1 .1 .1 .1 .1 .1 .0,
-                                last .1 .1 .1 .1 .1 .1 .1 .1 .0, k .1, u .1),
+                λ t γ₁. (
+                  refl,
+                  λ γ₂. (
+                    refl,
+                    λ γ₃. (
+                      refl,
+                      λ γ₄. (
+                        refl,
+                        λ γ₅. (
+                          refl,
+                          λ γ₆. (
+                            refl,
+                            λ γ₇. (
                               refl,
-                              (
-                                (l₁ ∙ long .0, l₂ ∙ long .1, l₃ ∙ long .2, l₄ ∙ long .3, l₅ ∙ long .4, l₆ ∙ long .5, l₇ ∙ long .6, l₈ ∙ long .7, l₉ ∙ long .8),
-                                λ O s E′. let R′ = inv .1 O s E′ in run-turn R′ (start-few E′) going (u .1) (k .5 _ _ _ (R′ .stands)) refl (u .5),
+                              λ γ₈. (
+                                refl,
+                                λ γ₉. (
+                                  refl,
+                                  (
+                                    λ κ. (run-pass R, (_, _, _, R .stands)),
+                                    λ k. (
+                                      refl,
+                                      λ l₁. (
+                                        refl,
+                                        λ l₂. (
+                                          refl,
+                                          λ l₃. (
+                                            refl,
+                                            λ l₄. (
+                                              refl,
+                                              λ l₅. (
+                                                refl,
+                                                λ l₆. (
+                                                  refl,
+                                                  λ l₇. (
+                                                    refl,
+                                                    λ l₈. (
+                                                      refl,
+                                                      λ l₉. (
+                                                        tt,
+                                                        (
+                                                          λ κ. run-next R,
+                                                          λ u.
+                                                              let last = k .2 .1 .1 .1 .1 .1 .1 .1 in
+                                                              let going = ltb-true _ _ t in
+                                                              let long = inv .0 in (
+                                                                _,
+                                                                run-lower R (start-few E) going (u .1) (k .5 _ _ _ (R .stands)) refl (u .5),
+                                                                (
+                                                                  (
+                                                                    last .0,
+                                                                    last .1 .0,
+                                                                    last .1 .1 .0,
+                                                                    last .1 .1 .1 .0,
+                                                                    last .1 .1 .1 .1 .0,
+                                                                    last .1 .1 .1 .1 .1 .0,
+                                                                    last .1 .1 .1 .1 .1 .1 .0,
+                                                                    last .1 .1 .1 .1 .1 .1 .1 .0,
+                                                                    last .1 .1 .1 .1 .1 .1 .1 .1 .0,
+                                                                    k .1,
+                                                                    u .1,
+                                                                  ),
+                                                                  refl,
+                                                                  (
+                                                                    (l₁ ∙ long .0, l₂ ∙ long .1, l₃ ∙ long .2, l₄ ∙ long .3, l₅ ∙ long .4, l₆ ∙ long .5, l₇ ∙ long .6, l₈ ∙ long .7, l₉ ∙ long .8),
+                                                                    λ O s E′. let R′ = inv .1 O s E′ in run-turn R′ (start-few E′) going (u .1) (k .5 _ _ _ (R′ .stands)) refl (u .5),
+                                                                  ),
+                                                                  refl,
+                                                                ),
+                                                              ),
+                                                        ),
+                                                      ),
+                                                    ),
+                                                  ),
+                                                ),
+                                              ),
+                                            ),
+                                          ),
+                                        ),
+                                      ),
+                                    ),
+                                  ),
+                                ),
                               ),
-                              refl,
                             ),
                           ),
+                        ),
+                      ),
                     ),
-                  )))))))))),
-                )))))))))),
+                  ),
+                ),
                 λ f. (
                   λ κ. R .turns .rounds,
                   λ r.

@@ -134,14 +134,32 @@ module _ (w : World) (κs : Lfts 11) (qs : Shares 11) (bs : List ℕ) (a : Args 
       ap (vint w64) (sym ln),
       λ γ₂. (
         ap (vint w64) (sym le),
-        λ γ₃. (refl, λ γ₄. (refl, λ γ₅. (refl, (
-          λ κ. (rest-scratch R, rest-room R),
-          λ f. (refl, λ l₁. (refl, λ l₂. (refl, λ l₃. (
-            parts tt tt refl refl
-                (parts refl refl (fixed (long .0)) (fixed (l₁ ∙ long .1)) (parts (fixed (l₂ ∙ long .2)) (fixed (long .3)) (fixed (long .4)) (fixed ss) (fixed l₃, tt))),
-            rest-over R (f .5 .0 .0) (f .5 .0 .1) (f .5 .1),
-          )))),
-        )))),
+        λ γ₃. (
+          refl,
+          λ γ₄. (
+            refl,
+            λ γ₅. (
+              refl,
+              (
+                λ κ. (rest-scratch R, rest-room R),
+                λ f. (
+                  refl,
+                  λ l₁. (
+                    refl,
+                    λ l₂. (
+                      refl,
+                      λ l₃. (
+                        parts tt tt refl refl
+                            (parts refl refl (fixed (long .0)) (fixed (l₁ ∙ long .1)) (parts (fixed (l₂ ∙ long .2)) (fixed (long .3)) (fixed (long .4)) (fixed ss) (fixed l₃, tt))),
+                        rest-over R (f .5 .0 .0) (f .5 .0 .1) (f .5 .1),
+                      ),
+                    ),
+                  ),
+                ),
+              ),
+            ),
+          ),
+        ),
       ),
     ),
   )
@@ -153,23 +171,68 @@ module _ (w : World) (κs : Lfts 11) (qs : Shares 11) (bs : List ℕ) (a : Args 
       → Long κs a l m q t p → length s ≡ length (records κs a) → length n ≡ 256 → length e ≡ 1024 → length d ≡ 2304
       → from-turns-at w κs qs bs .Φ past-match (at-turns κs qs a l m q t p n e d s regions rows)
   turning l m q t p n e d s regions rows T long ss ln le ld =
-      λ γ₁. (refl, λ γ₂. (refl, λ γ₃. (refl, λ γ₄. (refl, λ γ₅. (refl, λ γ₆. (refl, λ γ₇. (
-        ap (vint w64) (sym ln),
-        λ γ₈. (
-          ap (vint w64) (sym le),
-          λ γ₉. (
-            ap (vint w64) (sym ld),
-            (
-              λ κ. (_, _, T),
-              λ r. (refl, λ l₁. (refl, λ l₂. (refl, λ l₃. (refl, λ l₄. (refl, λ l₅. (refl, λ l₆. (refl, λ l₇. (refl, λ l₈. (refl, λ l₉.
-                  let last = r .2 .1 .1 .1 .1 .1 in
-                  finishing (last .0) (last .1 .0) (last .1 .1 .0) (last .1 .1 .1 .0) (last .1 .1 .1 .1 .0) (last .1 .1 .1 .1 .1 .1 .0) (last .1 .1 .1 .1 .1 .1 .1 .0)
-                  (last .1 .1 .1 .1 .1 .1 .1 .1 .0) (last .1 .1 .1 .1 .1 .0) regions rows (r .1) (r .5 _ _ T)
-                  (l₁ ∙ long .0, l₂ ∙ long .1, l₃ ∙ long .2, l₄ ∙ long .3, l₅ ∙ long .4) (l₆ ∙ ss) l₇ l₈))))))))),
+      λ γ₁. (
+        refl,
+        λ γ₂. (
+          refl,
+          λ γ₃. (
+            refl,
+            λ γ₄. (
+              refl,
+              λ γ₅. (
+                refl,
+                λ γ₆. (
+                  refl,
+                  λ γ₇. (
+                    ap (vint w64) (sym ln),
+                    λ γ₈. (
+                      ap (vint w64) (sym le),
+                      λ γ₉. (
+                        ap (vint w64) (sym ld),
+                        (
+                          λ κ. (_, _, T),
+                          λ r. (
+                            refl,
+                            λ l₁. (
+                              refl,
+                              λ l₂. (
+                                refl,
+                                λ l₃. (
+                                  refl,
+                                  λ l₄. (
+                                    refl,
+                                    λ l₅. (
+                                      refl,
+                                      λ l₆. (
+                                        refl,
+                                        λ l₇. (
+                                          refl,
+                                          λ l₈. (
+                                            refl,
+                                            λ l₉.
+                                                let last = r .2 .1 .1 .1 .1 .1 in
+                                                finishing (last .0) (last .1 .0) (last .1 .1 .0) (last .1 .1 .1 .0) (last .1 .1 .1 .1 .0) (last .1 .1 .1 .1 .1 .1 .0) (last .1 .1 .1 .1 .1 .1 .1 .0)
+                                                (last .1 .1 .1 .1 .1 .1 .1 .1 .0) (last .1 .1 .1 .1 .1 .0) regions rows (r .1) (r .5 _ _ T)
+                                                (l₁ ∙ long .0, l₂ ∙ long .1, l₃ ∙ long .2, l₄ ∙ long .3, l₅ ∙ long .4) (l₆ ∙ ss) l₇ l₈,
+                                          ),
+                                        ),
+                                      ),
+                                    ),
+                                  ),
+                                ),
+                              ),
+                            ),
+                          ),
+                        ),
+                      ),
+                    ),
+                  ),
+                ),
+              ),
             ),
           ),
         ),
-      )))))))
+      )
 
   -- from the match on
   matching : (l m q t p n e d : List ℕ) (r′ : Prepared) → IsBegun κs a r′ l m q t p n e d → Long κs a l m q t p → length n ≡ 256 → length e ≡ 1024 → length d ≡ 2304
@@ -190,11 +253,23 @@ module _ (w : World) (κs : Lfts 11) (qs : Shares 11) (bs : List ℕ) (a : Args 
             let begun = begun-when B (v .1) in
             let fills = begun-fills begun (long .2) in (
               lit< tt,
-              λ γ₁. (refl, λ γ₂. (refl, λ γ₃. (refl, (
-                λ κ. (_, fills),
-                λ f. (refl, λ ss.
-                    turning l m q t p n e d (f .2 .0) _ _ (stands-first begun (output κs a) refl refl (f .5 _ fills) ss (long .0) (long .1) (long .2) (long .3) (long .4)) long ss ln le ld),
-              )))),
+              λ γ₁. (
+                refl,
+                λ γ₂. (
+                  refl,
+                  λ γ₃. (
+                    refl,
+                    (
+                      λ κ. (_, fills),
+                      λ f. (
+                        refl,
+                        λ ss.
+                            turning l m q t p n e d (f .2 .0) _ _ (stands-first begun (output κs a) refl refl (f .5 _ fills) ss (long .0) (long .1) (long .2) (long .3) (long .4)) long ss ln le ld,
+                      ),
+                    ),
+                  ),
+                ),
+              ),
             ),
       ),
       each-below 2 (λ j. (Unit {0} × (OneOf (0 ∷ []) j → ⊥)) × (OneOf (1 ∷ []) j → ⊥) → ⊥) (λ n. n .1 refl, (λ n. n .0 .1 refl, tt))
@@ -203,19 +278,58 @@ module _ (w : World) (κs : Lfts 11) (qs : Shares 11) (bs : List ℕ) (a : Args 
   )
 
 pub topology-run-to-rest-spec : {M : Type 1} → statement M
-topology-run-to-rest-spec = close (λ w κs qs a good pre bs. λ γ₁. (refl, λ γ₂. (refl, λ γ₃. (refl, λ γ₄. (refl, λ γ₅. (refl, λ γ₆. (
+topology-run-to-rest-spec = close (λ w κs qs a good pre bs. λ γ₁. (
   refl,
-  λ γ₇. (
+  λ γ₂. (
     refl,
-    λ γ₈. (
+    λ γ₃. (
       refl,
-      (
-        λ κ. (omega arith, omega arith, omega arith),
-        λ r. (refl, λ l₁. (refl, λ l₂. (refl, λ l₃. (refl, λ l₄. (refl, λ l₅. (refl, λ l₆. (refl, λ l₇. (refl, λ l₈.
-            let last = r .2 .1 .1 .1 .1 .1 .1 .1 .1 in
-            matching w κs qs bs a (last .0) (last .1 .0) (last .1 .1 .0) (last .1 .1 .1 .0) (last .1 .1 .1 .1 .0) (last .1 .1 .1 .1 .1 .0) (last .1 .1 .1 .1 .1 .1 .0) (last .1 .1 .1 .1 .1 .1 .1 .0)
-            (r .1) (r .5) (l₁, l₂, l₃, l₄, l₅) l₆ l₇ l₈)))))))),
+      λ γ₄. (
+        refl,
+        λ γ₅. (
+          refl,
+          λ γ₆. (
+            refl,
+            λ γ₇. (
+              refl,
+              λ γ₈. (
+                refl,
+                (
+                  λ κ. (omega arith, omega arith, omega arith),
+                  λ r. (
+                    refl,
+                    λ l₁. (
+                      refl,
+                      λ l₂. (
+                        refl,
+                        λ l₃. (
+                          refl,
+                          λ l₄. (
+                            refl,
+                            λ l₅. (
+                              refl,
+                              λ l₆. (
+                                refl,
+                                λ l₇. (
+                                  refl,
+                                  λ l₈.
+                                      let last = r .2 .1 .1 .1 .1 .1 .1 .1 .1 in
+                                      matching w κs qs bs a (last .0) (last .1 .0) (last .1 .1 .0) (last .1 .1 .1 .0) (last .1 .1 .1 .1 .0) (last .1 .1 .1 .1 .1 .0) (last .1 .1 .1 .1 .1 .1 .0) (last .1 .1 .1 .1 .1 .1 .1 .0)
+                                      (r .1) (r .5) (l₁, l₂, l₃, l₄, l₅) l₆ l₇ l₈,
+                                ),
+                              ),
+                            ),
+                          ),
+                        ),
+                      ),
+                    ),
+                  ),
+                ),
+              ),
+            ),
+          ),
+        ),
       ),
     ),
   ),
-)))))))
+))
