@@ -271,7 +271,7 @@ module _ (pass w h : ℕ) (cells spans boundaries anchors l m q t p : List ℕ) 
     unfolding verdictsAtExit
     played-late {number} {place} some-number ran =
         let a = answers-late (recordsFault L (mapIn L)) (pairsFault L (mapIn L)) (refusal 23 (graphFault regions) ∷ refusal 24 (goalFault regions goal) ∷ []) number place some-number
-            (ran .answer ∙ verdict-late pass w h cells spans boundaries anchors l m q t p s o past) in
+        (ran .answer ∙ verdict-late pass w h cells spans boundaries anchors l m q t p s o past) in
         let S = a .0 in
         record {
           answer =

@@ -112,10 +112,10 @@ module _ (L : Lent) {removed : List Bool} {rows room : ℕ} {l m q t p : List �
       pub not-refused : {number place : ℕ} → RefusedLate r → r ≡ Refused number place → ⊥
       not-refused {number} {place} late e =
           let ran = subst (λ a. PreparedAs 1 (L .width) (L .height) (L .cells) kept bs (L .anchors) room 1280 l m q t₁ p₁ a l′ m′ q′ t′ p′) e prepared records output
-              (length-replicate room emptyRegion) (length-replicate {A = ℕ} 1280 0) in
+          (length-replicate room emptyRegion) (length-replicate {A = ℕ} 1280 0) in
           let kept-0 = verdict-kept 1 (L .width) (L .height) (L .cells) kept bs (L .anchors) l m q t₁ p₁ records output
-              (early ∙ ap (earlyRefusal 1 (L .width) (L .height) (L .cells) kept bs (L .anchors) (length l) (length m) (length q) (length t₁)) (sym (length-replicate {A = ℕ} 1280 0)))
-              (omega (arith, regions-few, length-replicate room emptyRegion)) pairs-few in
+          (early ∙ ap (earlyRefusal 1 (L .width) (L .height) (L .cells) kept bs (L .anchors) (length l) (length m) (length q) (length t₁)) (sym (length-replicate {A = ℕ} 1280 0)))
+          (omega (arith, regions-few, length-replicate room emptyRegion)) pairs-few in
           omega (arith, subst RefusedLate e late, ap (λ (a : Answer). a .number) (ran .answer ∙ kept-0))
 
       spans-lent : spanCount M ≡ spans

@@ -45,7 +45,7 @@ module _ {pass w h : ℕ} {cells spans boundaries anchors : List ℕ} {room outp
       → PlayedOver pass w h cells spans boundaries anchors goal l m q t p s o v a l′ m′ q′ t′ p′ s o v
   refused-over {number = number} {place = place} goal s o v prepared e long wide table is =
       let at : GamePreparedAs pass w h cells spans boundaries anchors room output verdicts l m q t p (Refused number place) l′ m′ q′ t′ p′
-          = subst (λ r. GamePreparedAs pass w h cells spans boundaries anchors room output verdicts l m q t p r l′ m′ q′ t′ p′) e prepared in
+      = subst (λ r. GamePreparedAs pass w h cells spans boundaries anchors room output verdicts l m q t p r l′ m′ q′ t′ p′) e prepared in
       subst (λ b. PlayedOver pass w h cells spans boundaries anchors goal l m q t p s o v b l′ m′ q′ t′ p′ s o v) (sym is)
       (record { played = at goal (map recordOf s) o v (length-map s recordOf ∙ long) wide table; beyond = refl })
 
@@ -82,7 +82,7 @@ module _ {pass w h : ℕ} {cells spans boundaries anchors : List ℕ} {room outp
           → PlayedOver pass w h cells spans boundaries anchors goal l m q t p s o v a l₂ m₂ q₂ t₂ p₂ s₂ o₂ v₂
       played-over goal v {a} {v₂} long wide table answer filled =
           let early : none ≡ gameEarly pass w h cells spans boundaries anchors (length l) (length m) (length q) (length t) (length o) (length v)
-              = ready-early G ∙ ap₂ (gameEarly pass w h cells spans boundaries anchors (length l) (length m) (length q) (length t)) (sym wide) (sym table) in
+          = ready-early G ∙ ap₂ (gameEarly pass w h cells spans boundaries anchors (length l) (length m) (length q) (length t)) (sym wide) (sym table) in
           let few : regionCount M ≤ length (map recordOf s) = omega (arith, G .ready .enough, length-map s recordOf, long) in
           let is : a ≡ lateAnswer (length (rowsOf pass M)) (regionCount K) goal = answer ∙ ap₂ (λ k n. lateAnswer k n goal) (R .kept) (R .regions) in
           let verdicts-are : v₂ ≡ verdictsAtExit (keptGame pass M goal) v (a .number) = filled ∙ ap (λ g. verdictsAtExit g v (a .number)) (same-game goal) in

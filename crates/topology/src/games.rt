@@ -75,17 +75,20 @@ pub fn run_kept(
         &mut removed,
     );
     let graph = divide_kept(
-        width, height, cells, spans, &removed, rows, room, labels, masks, queue, tallies, pairs,
-    );
-    renew(
-        records,
-        regions,
-        graph.regions,
         width,
+        height,
         cells,
+        spans,
+        &removed,
+        rows,
+        room,
         labels,
+        masks,
         queue,
+        tallies,
+        pairs,
     );
+    renew(records, regions, graph.regions, width, cells, labels, queue);
     let kept = finish(
         needed,
         boundaries.len() / NUMBERS_PER_BOUNDARY,
@@ -133,8 +136,21 @@ pub extern "C" fn topology_runner_and_guard(
     let lent = output.len();
     let table = verdicts.len();
     let prepared = prepare_game(
-        pass, width, height, cells, spans, boundaries, anchors, room, lent, table, labels, masks,
-        queue, tallies, pairs,
+        pass,
+        width,
+        height,
+        cells,
+        spans,
+        boundaries,
+        anchors,
+        room,
+        lent,
+        table,
+        labels,
+        masks,
+        queue,
+        tallies,
+        pairs,
     );
     match prepared {
         Prepared::Refused(number, place) => refused(number, place as u64),
