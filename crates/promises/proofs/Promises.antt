@@ -11,7 +11,7 @@ use lib.ListN.{length, getD, take}
 use lib.Dec.{eqb}
 use lib.Ieee.{Float, binary64, toBits}
 use Rattle.definitions.specs.Lists.{overwrite}
-use Rattle.definitions.specs.Scan.{all, anyBelow}
+use Rattle.definitions.specs.Scan.{all, anyBelow, run}
 use Rattle.definitions.specs.Sort.{listLt}
 use Rattle.definitions.specs.Grid.{Map, Boundary, Pair, Segment, cellCount, mapOf, spanCount}
 use Rattle.definitions.specs.Partition.{labels, regionCount}
@@ -33,6 +33,7 @@ use Rattle.definitions.specs.Cases as cases
 use Rattle.definitions.specs.SheetExamples.{bytesJ}
 use Rattle.definitions.specs.CaseJ as case-j
 use Rattle.laws.specs.ListLaws.Lists.{All}
+use Rattle.laws.specs.ListLaws.FlatRows.{rowsIn}
 use Rattle.laws.specs.RegionLaws.Shares as shares
 use Rattle.laws.specs.FloatLaws.WidthOrder as widths
 use Rattle.laws.specs.RustContext.RampFlag.{flagAfter}
@@ -66,6 +67,21 @@ use Rattle.ranked_list.specs.RankedLaws.{chosen}
 use Rattle.ranked_list.specs.RankedCalls.{rankedIn, Greedy}
 use Rattle.ranked_list.specs.RankedCalls as ranks
 use Rattle.topology.specs.Answers.{RanOver}
+use Rattle.topology.specs.Rest.{RestRanOver}
+use Rattle.rest_definitions.specs.RowOrder.{startMap}
+use Rattle.rest_definitions.specs.Rest.{rested}
+use Rattle.rest_definitions.specs.RestVerdict.{RestAnswer}
+use Rattle.rest.specs.Rounds.{Rests}
+use Rattle.rest.specs.RestCalls.{SameAtRest, SameAsLent}
+use Rattle.rest.specs.RestCalls as rest
+use Rattle.game.specs.Game.{Place, Inside}
+use Rattle.game.specs.Play as play
+use Rattle.game.specs.EntryLaws.{Entry}
+use Rattle.game.specs.EntryLaws as entries
+use Rattle.game_calls.specs.KeptGraph.{keptGame}
+use Rattle.game_calls.specs.GameVerdict.{GameAnswer}
+use Rattle.game_calls.specs.GameExit.{Played}
+use Rattle.game_calls.specs.GameCalls as games
 use Rattle.topology.specs.Ranked.{RankedOver}
 use Rattle.island_theorem.specs.Theorem.{SameOnIsland}
 use Rattle.island_theorem.specs.Theorem as calls
@@ -394,3 +410,49 @@ converted-prints = conversions.converted-prints
 -- "still read and still get the answer they had": bytes that begin with kind 1 read as by the grammar of before
 pub kind-1-stays : (limit next : ℕ) (bytes rest : List ℕ) → number 0 bytes ≡ found 1 next rest → readSheet limit bytes ≡ before.readBefore limit bytes
 kind-1-stays = before.kind-1-stays
+
+-- ---- request 4: what calls that ran to rest and were accepted left
+
+module _
+    {w h : ℕ} {cells spans boundaries anchors l m q t p : List ℕ} {s : List Region} {o : List ℕ} {a : RestAnswer} {l′ m′ q′ t′ p′ : List ℕ} {s′ : List Region} {o′ : List ℕ}
+    (call : RestRanOver w h cells spans boundaries anchors l m q t p s o a l′ m′ q′ t′ p′ s′ o′) (success : a .number ≡ 0) where
+  abbrev M : Map
+  M = mapOf w h cells spans boundaries anchors
+
+  -- each round but the last removes at least one, the last none, and they are at most 257
+  pub rest-rounds : Rests (startMap M) (run 0 (length (startMap M .boundaries))) (a .rounds) (rested (startMap M) .places)
+  unfolding mapIn
+  rest-rounds = rest.rest-rounds (call .ran) success
+
+  pub rest-rounds-257 : a .rounds ≤ 257
+  rest-rounds-257 = rest.rest-rounds-257 (call .ran) success
+
+-- of any two: the island's rows are alike and in the same order, and a boundary is kept exactly when its counterpart is
+module _
+    {w h : ℕ} {cells spans boundaries anchors l m q t p : List ℕ} {s : List Region} {o : List ℕ} {a : RestAnswer} {l′ m′ q′ t′ p′ : List ℕ} {s′ : List Region} {o′ : List ℕ}
+    {w₁ h₁ : ℕ} {cells₁ spans₁ boundaries₁ anchors₁ l₁ m₁ q₁ t₁ p₁ : List ℕ} {s₁ : List Region} {o₁ : List ℕ} {a₁ : RestAnswer} {l₁′ m₁′ q₁′ t₁′ p₁′ : List ℕ} {s₁′ : List Region} {o₁′ : List ℕ}
+    (call : RestRanOver w h cells spans boundaries anchors l m q t p s o a l′ m′ q′ t′ p′ s′ o′)
+    (call₁ : RestRanOver w₁ h₁ cells₁ spans₁ boundaries₁ anchors₁ l₁ m₁ q₁ t₁ p₁ s₁ o₁ a₁ l₁′ m₁′ q₁′ t₁′ p₁′ s₁′ o₁′)
+    (success : a .number ≡ 0) (success₁ : a₁ .number ≡ 0) (isl : ℕ → Bool) where
+  abbrev A : Map
+  A = mapOf w h cells spans boundaries anchors
+
+  abbrev B : Map
+  B = mapOf w₁ h₁ cells₁ spans₁ boundaries₁ anchors₁
+
+  -- with the premises of the starting maps in row order
+  pub rest-island-calls : Alike (startMap A) (startMap B) isl → SameAtRest A B isl (rowsIn (a .value) o′) (rowsIn (a₁ .value) o₁′)
+  unfolding mapIn
+  rest-island-calls alike = rest.rest-island-calls (call .ran) (call₁ .ran) success success₁ isl alike
+
+  -- with those of the maps as lent
+  pub rest-island-lent-calls : Alike A B isl → SameAsLent A B isl (rowsIn (a .value) o′) (rowsIn (a₁ .value) o₁′)
+  unfolding mapIn
+  rest-island-lent-calls alike = rest.rest-island-lent-calls (call .ran) (call₁ .ran) success success₁ isl alike
+
+-- ---- request 14: what each entry of the lent verdicts says once a call is accepted, over all ways of play
+
+pub game-entries : {L : Lent} {goal : ℕ} {v : List ℕ} {a : GameAnswer} {l m q t p : List ℕ} {s : List Region} {o v′ : List ℕ}
+    → Played L goal v a l m q t p s o v′ → a .number ≡ 0 → (x : Place) → Inside (keptGame (L .pass) (mapIn L) goal) x
+    → (w : play.Verdict) × play.Judged (keptGame (L .pass) (mapIn L) goal) x w × Entry v′ (entries.numberOf (keptGame (L .pass) (mapIn L) goal) x) w
+game-entries played success = games.played-entries played success

@@ -220,10 +220,7 @@ module _ (κs : Lfts 11) (qs : Shares 11) where
   row77 = whole (row (apartT Second.the-type))
 
   abbrev row78 : Row
-  row78 = any-gone (tyInt w64)
-
-  abbrev row79 : Row
-  row79 = whole (row Second.the-type)
+  row78 = whole (row Second.the-type)
 
   abbrev pub G14 : Cx
   G14 = patched ((17, row1) ∷ (18, row1) ∷ (19, row2) ∷ []) ([]) G0
@@ -403,16 +400,16 @@ module _ (κs : Lfts 11) (qs : Shares 11) where
   G190 = patched ((0, row77) ∷ (20, row55) ∷ (21, row1) ∷ []) ([]) G0
 
   abbrev pub G193 : Cx
-  G193 = patched ((0, row77) ∷ (1, row78) ∷ []) ([]) G0
+  G193 = patched ((0, row77) ∷ (1, (any-gone (ty 1))) ∷ []) ([]) G0
 
   abbrev pub G196 : Cx
-  G196 = patched ((0, row77) ∷ (1, row78) ∷ (3, row78) ∷ (4, row78) ∷ (9, row78) ∷ []) ([]) G0
+  G196 = patched ((0, row77) ∷ (1, (any-gone (ty 1))) ∷ (3, (any-gone (ty 3))) ∷ (4, (any-gone (ty 4))) ∷ (9, (any-gone (ty 9))) ∷ []) ([]) G0
 
   abbrev pub G197 : Cx
-  G197 = patched ((0, row77) ∷ (1, row78) ∷ (3, row78) ∷ (4, row78) ∷ (9, row78) ∷ (10, row78) ∷ []) ([]) G0
+  G197 = patched ((0, row77) ∷ (1, (any-gone (ty 1))) ∷ (3, (any-gone (ty 3))) ∷ (4, (any-gone (ty 4))) ∷ (9, (any-gone (ty 9))) ∷ (10, (any-gone (ty 10))) ∷ []) ([]) G0
 
   abbrev pub G198 : Cx
-  G198 = patched ((0, row79) ∷ (1, row78) ∷ (3, row78) ∷ (4, row78) ∷ (9, row78) ∷ (10, row78) ∷ []) ([]) G0
+  G198 = patched ((0, row78) ∷ (1, (any-gone (ty 1))) ∷ (3, (any-gone (ty 3))) ∷ (4, (any-gone (ty 4))) ∷ (9, (any-gone (ty 9))) ∷ (10, (any-gone (ty 10))) ∷ []) ([]) G0
 
   abbrev pub Γ-from-marks : Cx
   Γ-from-marks = G15

@@ -92,9 +92,6 @@ module _ (κs : Lfts 7) (qs : Shares 7) where
   abbrev row23 : Row
   row23 = msleft (rtF fBool) (tyRef erased mut tyBool)
 
-  abbrev row24 : Row
-  row24 = any-gone (tyInt w64)
-
   abbrev pub G5 : Cx
   G5 = patched ((10, row1) ∷ []) ([]) G0
 
@@ -147,7 +144,7 @@ module _ (κs : Lfts 7) (qs : Shares 7) where
   G45 = patched ((0, row22) ∷ (12, row10) ∷ []) ([]) G0
 
   abbrev pub G48 : Cx
-  G48 = patched ((0, row22) ∷ (2, row24) ∷ (3, row24) ∷ []) ([]) G0
+  G48 = patched ((0, row22) ∷ (2, (any-gone (ty 2))) ∷ (3, (any-gone (ty 3))) ∷ []) ([]) G0
 
 module _ {M : Type 1} (𝓤 : URA M) (H : Heap 𝓤) (A : Atoms 𝓤) (W : Given 𝓤 H A) (𝓣 : Tables 𝓤 H)
     (known0 : Knows 𝓤 H A W 𝓣 8 K0.ps K0.r R0.Asked R0.Learnt "topology::proposals::allowed_proposals") (known1 : Knows 𝓤 H A W 𝓣 6 K1.ps K1.r R1.Asked R1.Learnt "junction_selection::selection::select_proposals") (κs : Lfts 7) (qs : Shares 7) (bs : List ℕ) where

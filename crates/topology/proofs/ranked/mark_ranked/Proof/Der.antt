@@ -39,115 +39,112 @@ module _ (κs : Lfts 10) (qs : Shares 10) where
   row2 = sc-here sBool
 
   abbrev row3 : Row
-  row3 = any-gone (tyInt w64)
+  row3 = whole (Array (rtF (fInt w64)) 257)
 
   abbrev row4 : Row
-  row4 = whole (Array (rtF (fInt w64)) 257)
+  row4 = arrF (rtF (fInt w64)) 257 0
 
   abbrev row5 : Row
-  row5 = arrF (rtF (fInt w64)) 257 0
+  row5 = whole (Array (rtF (fInt w32)) 256)
 
   abbrev row6 : Row
-  row6 = whole (Array (rtF (fInt w32)) 256)
+  row6 = arrF (rtF (fInt w32)) 256 0
 
   abbrev row7 : Row
-  row7 = arrF (rtF (fInt w32)) 256 0
+  row7 = mslice-owed (rtF (fInt w16)) (tyRef (named 6) mut (tyInt w16)) 6 10 (lease (κs .1 .1 .1 .1 .1 .1 .0) (qs .1 .1 .1 .1 .1 .1 .0))
 
   abbrev row8 : Row
-  row8 = mslice-owed (rtF (fInt w16)) (tyRef (named 6) mut (tyInt w16)) 6 10 (lease (κs .1 .1 .1 .1 .1 .1 .0) (qs .1 .1 .1 .1 .1 .1 .0))
+  row8 = msptr (rtF (fInt w16)) (tyRef erased mut (tyInt w16)) 10
 
   abbrev row9 : Row
-  row9 = msptr (rtF (fInt w16)) (tyRef erased mut (tyInt w16)) 10
+  row9 = mslice (rtF (fInt w16)) (tyRef erased mut (tyInt w16)) 10
 
   abbrev row10 : Row
-  row10 = mslice (rtF (fInt w16)) (tyRef erased mut (tyInt w16)) 10
+  row10 = mslice-owed (rtF (fInt w32)) (tyRef (named 7) mut (tyInt w32)) 7 11 (lease (κs .1 .1 .1 .1 .1 .1 .1 .0) (qs .1 .1 .1 .1 .1 .1 .1 .0))
 
   abbrev row11 : Row
-  row11 = mslice-owed (rtF (fInt w32)) (tyRef (named 7) mut (tyInt w32)) 7 11 (lease (κs .1 .1 .1 .1 .1 .1 .1 .0) (qs .1 .1 .1 .1 .1 .1 .1 .0))
+  row11 = msptr (rtF (fInt w32)) (tyRef erased mut (tyInt w32)) 11
 
   abbrev row12 : Row
-  row12 = msptr (rtF (fInt w32)) (tyRef erased mut (tyInt w32)) 11
+  row12 = mslice (rtF (fInt w32)) (tyRef erased mut (tyInt w32)) 11
 
   abbrev row13 : Row
-  row13 = mslice (rtF (fInt w32)) (tyRef erased mut (tyInt w32)) 11
+  row13 = sc-owed (Array (rtF (fInt w64)) 257) 12
 
   abbrev row14 : Row
-  row14 = sc-owed (Array (rtF (fInt w64)) 257) 12
+  row14 = mref (Array (rtF (fInt w64)) 257) (tyRef erased mut (tyArray (tyInt w64) 257)) 12
 
   abbrev row15 : Row
-  row15 = mref (Array (rtF (fInt w64)) 257) (tyRef erased mut (tyArray (tyInt w64) 257)) 12
+  row15 = sc-owed (Array (rtF (fInt w32)) 256) 13
 
   abbrev row16 : Row
-  row16 = sc-owed (Array (rtF (fInt w32)) 256) 13
+  row16 = mref (Array (rtF (fInt w32)) 256) (tyRef erased mut (tyArray (tyInt w32) 256)) 13
 
   abbrev row17 : Row
-  row17 = mref (Array (rtF (fInt w32)) 256) (tyRef erased mut (tyArray (tyInt w32) 256)) 13
+  row17 = sc-owed (Array (rtF (fInt w32)) 256) 14
 
   abbrev row18 : Row
-  row18 = sc-owed (Array (rtF (fInt w32)) 256) 14
+  row18 = mref (Array (rtF (fInt w32)) 256) (tyRef erased mut (tyArray (tyInt w32) 256)) 14
 
   abbrev row19 : Row
-  row19 = mref (Array (rtF (fInt w32)) 256) (tyRef erased mut (tyArray (tyInt w32) 256)) 14
+  row19 = sc-here sUnit
 
   abbrev row20 : Row
-  row20 = sc-here sUnit
+  row20 = msleft (rtF (fInt w16)) (tyRef erased mut (tyInt w16))
 
   abbrev row21 : Row
-  row21 = msleft (rtF (fInt w16)) (tyRef erased mut (tyInt w16))
+  row21 = msleft (rtF (fInt w32)) (tyRef erased mut (tyInt w32))
 
   abbrev row22 : Row
-  row22 = msleft (rtF (fInt w32)) (tyRef erased mut (tyInt w32))
+  row22 = mleft (Array (rtF (fInt w64)) 257) (tyRef erased mut (tyArray (tyInt w64) 257))
 
   abbrev row23 : Row
-  row23 = mleft (Array (rtF (fInt w64)) 257) (tyRef erased mut (tyArray (tyInt w64) 257))
+  row23 = mleft (Array (rtF (fInt w32)) 256) (tyRef erased mut (tyArray (tyInt w32) 256))
 
   abbrev row24 : Row
-  row24 = mleft (Array (rtF (fInt w32)) 256) (tyRef erased mut (tyArray (tyInt w32) 256))
+  row24 = sc-shr (arrF (rtF (fInt w32)) 256 0) (Array (rtF (fInt w32)) 256) (λ x. x) 15
 
   abbrev row25 : Row
-  row25 = sc-shr (arrF (rtF (fInt w32)) 256 0) (Array (rtF (fInt w32)) 256) (λ x. x) 15
+  row25 = sref (Array (rtF (fInt w32)) 256) (tyRef erased imm (tyArray (tyInt w32) 256)) 15
 
   abbrev row26 : Row
-  row26 = sref (Array (rtF (fInt w32)) 256) (tyRef erased imm (tyArray (tyInt w32) 256)) 15
+  row26 = sc-shr (arrF (rtF (fInt w32)) 256 0) (Array (rtF (fInt w32)) 256) (λ x. x) 16
 
   abbrev row27 : Row
-  row27 = sc-shr (arrF (rtF (fInt w32)) 256 0) (Array (rtF (fInt w32)) 256) (λ x. x) 16
+  row27 = sref (Array (rtF (fInt w32)) 256) (tyRef erased imm (tyArray (tyInt w32) 256)) 16
 
   abbrev row28 : Row
-  row28 = sref (Array (rtF (fInt w32)) 256) (tyRef erased imm (tyArray (tyInt w32) 256)) 16
+  row28 = mslice-owedS (rtF (fInt w32)) (tyRef (named 7) mut (tyInt w32)) 7 17 (lease (κs .1 .1 .1 .1 .1 .1 .1 .0) (qs .1 .1 .1 .1 .1 .1 .1 .0))
 
   abbrev row29 : Row
-  row29 = mslice-owedS (rtF (fInt w32)) (tyRef (named 7) mut (tyInt w32)) 7 17 (lease (κs .1 .1 .1 .1 .1 .1 .1 .0) (qs .1 .1 .1 .1 .1 .1 .1 .0))
+  row29 = ssptr (rtF (fInt w32)) (tyRef erased imm (tyInt w32)) 17
 
   abbrev row30 : Row
-  row30 = ssptr (rtF (fInt w32)) (tyRef erased imm (tyInt w32)) 17
+  row30 = sslice (rtF (fInt w32)) (tyRef erased imm (tyInt w32)) 17
 
   abbrev row31 : Row
-  row31 = sslice (rtF (fInt w32)) (tyRef erased imm (tyInt w32)) 17
+  row31 = mslice-owedS (rtF (fInt w16)) (tyRef (named 6) mut (tyInt w16)) 6 18 (lease (κs .1 .1 .1 .1 .1 .1 .0) (qs .1 .1 .1 .1 .1 .1 .0))
 
   abbrev row32 : Row
-  row32 = mslice-owedS (rtF (fInt w16)) (tyRef (named 6) mut (tyInt w16)) 6 18 (lease (κs .1 .1 .1 .1 .1 .1 .0) (qs .1 .1 .1 .1 .1 .1 .0))
+  row32 = ssptr (rtF (fInt w16)) (tyRef erased imm (tyInt w16)) 18
 
   abbrev row33 : Row
-  row33 = ssptr (rtF (fInt w16)) (tyRef erased imm (tyInt w16)) 18
+  row33 = sslice (rtF (fInt w16)) (tyRef erased imm (tyInt w16)) 18
 
   abbrev row34 : Row
-  row34 = sslice (rtF (fInt w16)) (tyRef erased imm (tyInt w16)) 18
+  row34 = mref-owed (Array (rtF fBool) 256) (tyRef (named 8) mut (tyArray tyBool 256)) 8 19 (lease (κs .1 .1 .1 .1 .1 .1 .1 .1 .0) (qs .1 .1 .1 .1 .1 .1 .1 .1 .0))
 
   abbrev row35 : Row
-  row35 = mref-owed (Array (rtF fBool) 256) (tyRef (named 8) mut (tyArray tyBool 256)) 8 19 (lease (κs .1 .1 .1 .1 .1 .1 .1 .1 .0) (qs .1 .1 .1 .1 .1 .1 .1 .1 .0))
+  row35 = mref (Array (rtF fBool) 256) (tyRef erased mut (tyArray tyBool 256)) 19
 
   abbrev row36 : Row
-  row36 = mref (Array (rtF fBool) 256) (tyRef erased mut (tyArray tyBool 256)) 19
+  row36 = mslice-owed (rtF (fInt w32)) (tyRef (named 9) mut (tyInt w32)) 9 20 (lease (κs .1 .1 .1 .1 .1 .1 .1 .1 .1 .0) (qs .1 .1 .1 .1 .1 .1 .1 .1 .1 .0))
 
-  abbrev row37 : Row
-  row37 = mslice-owed (rtF (fInt w32)) (tyRef (named 9) mut (tyInt w32)) 9 20 (lease (κs .1 .1 .1 .1 .1 .1 .1 .1 .1 .0) (qs .1 .1 .1 .1 .1 .1 .1 .1 .1 .0))
+  abbrev row38 : Row
+  row38 = mslice (rtF (fInt w32)) (tyRef erased mut (tyInt w32)) 20
 
   abbrev row39 : Row
-  row39 = mslice (rtF (fInt w32)) (tyRef erased mut (tyInt w32)) 20
-
-  abbrev row40 : Row
-  row40 = mleft (Array (rtF fBool) 256) (tyRef erased mut (tyArray tyBool 256))
+  row39 = mleft (Array (rtF fBool) 256) (tyRef erased mut (tyArray tyBool 256))
 
   abbrev pub G12 : Cx
   G12 = patched ((20, row1) ∷ []) ([]) G0
@@ -162,103 +159,103 @@ module _ (κs : Lfts 10) (qs : Shares 10) where
   G17 = patched ((0, row1) ∷ []) ([]) G0
 
   abbrev pub G18 : Cx
-  G18 = patched ((0, row1) ∷ (2, row3) ∷ []) ([]) G0
+  G18 = patched ((0, row1) ∷ (2, (any-gone (ty 2))) ∷ []) ([]) G0
 
   abbrev pub G19 : Cx
-  G19 = patched ((0, row1) ∷ (2, row3) ∷ (3, row3) ∷ []) ([]) G0
+  G19 = patched ((0, row1) ∷ (2, (any-gone (ty 2))) ∷ (3, (any-gone (ty 3))) ∷ []) ([]) G0
 
   abbrev pub G20 : Cx
-  G20 = patched ((0, row1) ∷ (2, row3) ∷ (3, row3) ∷ (6, row3) ∷ []) ([]) G0
+  G20 = patched ((0, row1) ∷ (2, (any-gone (ty 2))) ∷ (3, (any-gone (ty 3))) ∷ (6, (any-gone (ty 6))) ∷ []) ([]) G0
 
   abbrev pub G21 : Cx
-  G21 = patched ((0, row1) ∷ (2, row3) ∷ (3, row3) ∷ (6, row3) ∷ (7, row3) ∷ []) ([]) G0
+  G21 = patched ((0, row1) ∷ (2, (any-gone (ty 2))) ∷ (3, (any-gone (ty 3))) ∷ (6, (any-gone (ty 6))) ∷ (7, (any-gone (ty 7))) ∷ []) ([]) G0
 
   abbrev pub G22 : Cx
-  G22 = patched ((0, row1) ∷ (2, row3) ∷ (3, row3) ∷ (6, row3) ∷ (7, row3) ∷ (8, row3) ∷ []) ([]) G0
+  G22 = patched ((0, row1) ∷ (2, (any-gone (ty 2))) ∷ (3, (any-gone (ty 3))) ∷ (6, (any-gone (ty 6))) ∷ (7, (any-gone (ty 7))) ∷ (8, (any-gone (ty 8))) ∷ []) ([]) G0
 
   abbrev pub G24 : Cx
-  G24 = patched ((16, row4) ∷ []) ([]) G0
+  G24 = patched ((16, row3) ∷ []) ([]) G0
 
   abbrev pub G26 : Cx
-  G26 = patched ((16, row5) ∷ (17, row6) ∷ []) ([]) G0
+  G26 = patched ((16, row4) ∷ (17, row5) ∷ []) ([]) G0
 
   abbrev pub G28 : Cx
-  G28 = patched ((16, row5) ∷ (17, row7) ∷ (18, row6) ∷ []) ([]) G0
+  G28 = patched ((16, row4) ∷ (17, row6) ∷ (18, row5) ∷ []) ([]) G0
 
   abbrev pub G31 : Cx
-  G31 = patched ((12, row8) ∷ (16, row5) ∷ (17, row7) ∷ (18, row7) ∷ (23, row9) ∷ []) ((6, off) ∷ (10, alive) ∷ []) G0
+  G31 = patched ((12, row7) ∷ (16, row4) ∷ (17, row6) ∷ (18, row6) ∷ (23, row8) ∷ []) ((6, off) ∷ (10, alive) ∷ []) G0
 
   abbrev pub G34 : Cx
-  G34 = patched ((12, row8) ∷ (13, row11) ∷ (16, row5) ∷ (17, row7) ∷ (18, row7) ∷ (24, row10) ∷ (25, row12) ∷ []) ((6, off) ∷ (7, off) ∷ (10, alive) ∷ (11, alive) ∷ []) G0
+  G34 = patched ((12, row7) ∷ (13, row10) ∷ (16, row4) ∷ (17, row6) ∷ (18, row6) ∷ (24, row9) ∷ (25, row11) ∷ []) ((6, off) ∷ (7, off) ∷ (10, alive) ∷ (11, alive) ∷ []) G0
 
   abbrev pub G37 : Cx
-  G37 = patched ((12, row8) ∷ (13, row11) ∷ (16, row14) ∷ (17, row7) ∷ (18, row7) ∷ (24, row10) ∷ (26, row13) ∷ (27, row15) ∷ []) ((6, off) ∷ (7, off) ∷ (10, alive) ∷ (11, alive) ∷ (12, alive) ∷ []) G0
+  G37 = patched ((12, row7) ∷ (13, row10) ∷ (16, row13) ∷ (17, row6) ∷ (18, row6) ∷ (24, row9) ∷ (26, row12) ∷ (27, row14) ∷ []) ((6, off) ∷ (7, off) ∷ (10, alive) ∷ (11, alive) ∷ (12, alive) ∷ []) G0
 
   abbrev pub G40 : Cx
-  G40 = patched ((12, row8) ∷ (13, row11) ∷ (16, row14) ∷ (17, row16) ∷ (18, row7) ∷ (24, row10) ∷ (26, row13) ∷ (27, row15) ∷ (28, row17) ∷ []) ((6, off) ∷ (7, off) ∷ (10, alive) ∷ (11, alive) ∷ (12, alive) ∷ (13, alive) ∷ (14, alive) ∷ []) G0
+  G40 = patched ((12, row7) ∷ (13, row10) ∷ (16, row13) ∷ (17, row15) ∷ (18, row6) ∷ (24, row9) ∷ (26, row12) ∷ (27, row14) ∷ (28, row16) ∷ []) ((6, off) ∷ (7, off) ∷ (10, alive) ∷ (11, alive) ∷ (12, alive) ∷ (13, alive) ∷ (14, alive) ∷ []) G0
 
   abbrev pub G41 : Cx
-  G41 = patched ((12, row8) ∷ (13, row11) ∷ (16, row14) ∷ (17, row16) ∷ (18, row18) ∷ (24, row10) ∷ (26, row13) ∷ (27, row15) ∷ (28, row17) ∷ (29, row19) ∷ []) ((6, off) ∷ (7, off) ∷ (10, alive) ∷ (11, alive) ∷ (12, alive) ∷ (13, alive) ∷ (14, alive) ∷ []) G0
+  G41 = patched ((12, row7) ∷ (13, row10) ∷ (16, row13) ∷ (17, row15) ∷ (18, row17) ∷ (24, row9) ∷ (26, row12) ∷ (27, row14) ∷ (28, row16) ∷ (29, row18) ∷ []) ((6, off) ∷ (7, off) ∷ (10, alive) ∷ (11, alive) ∷ (12, alive) ∷ (13, alive) ∷ (14, alive) ∷ []) G0
 
   abbrev pub G42 : Cx
-  G42 = patched ((12, row8) ∷ (13, row11) ∷ (16, row14) ∷ (17, row16) ∷ (18, row18) ∷ (22, row20) ∷ (24, row21) ∷ (26, row22) ∷ (27, row23) ∷ (28, row24) ∷ (29, row24) ∷ []) ((6, off) ∷ (7, off) ∷ (10, alive) ∷ (11, alive) ∷ (12, alive) ∷ (13, alive) ∷ (14, alive) ∷ []) G0
+  G42 = patched ((12, row7) ∷ (13, row10) ∷ (16, row13) ∷ (17, row15) ∷ (18, row17) ∷ (22, row19) ∷ (24, row20) ∷ (26, row21) ∷ (27, row22) ∷ (28, row23) ∷ (29, row23) ∷ []) ((6, off) ∷ (7, off) ∷ (10, alive) ∷ (11, alive) ∷ (12, alive) ∷ (13, alive) ∷ (14, alive) ∷ []) G0
 
   abbrev pub G45 : Cx
-  G45 = patched ((13, row11) ∷ (16, row14) ∷ (17, row16) ∷ (18, row18) ∷ (26, row22) ∷ (27, row23) ∷ (28, row24) ∷ (29, row24) ∷ []) ((7, off) ∷ (10, dead) ∷ (11, alive) ∷ (12, alive) ∷ (13, alive) ∷ (14, alive) ∷ []) G0
+  G45 = patched ((13, row10) ∷ (16, row13) ∷ (17, row15) ∷ (18, row17) ∷ (26, row21) ∷ (27, row22) ∷ (28, row23) ∷ (29, row23) ∷ []) ((7, off) ∷ (10, dead) ∷ (11, alive) ∷ (12, alive) ∷ (13, alive) ∷ (14, alive) ∷ []) G0
 
   abbrev pub G49 : Cx
-  G49 = patched ((16, row14) ∷ (17, row16) ∷ (18, row18) ∷ (27, row23) ∷ (28, row24) ∷ (29, row24) ∷ []) ((11, dead) ∷ (12, alive) ∷ (13, alive) ∷ (14, alive) ∷ []) G0
+  G49 = patched ((16, row13) ∷ (17, row15) ∷ (18, row17) ∷ (27, row22) ∷ (28, row23) ∷ (29, row23) ∷ []) ((11, dead) ∷ (12, alive) ∷ (13, alive) ∷ (14, alive) ∷ []) G0
 
   abbrev pub G53 : Cx
-  G53 = patched ((16, row5) ∷ (17, row16) ∷ (18, row18) ∷ (28, row24) ∷ (29, row24) ∷ []) ((12, dead) ∷ (13, alive) ∷ (14, alive) ∷ []) G0
+  G53 = patched ((16, row4) ∷ (17, row15) ∷ (18, row17) ∷ (28, row23) ∷ (29, row23) ∷ []) ((12, dead) ∷ (13, alive) ∷ (14, alive) ∷ []) G0
 
   abbrev pub G56 : Cx
-  G56 = patched ((17, row16) ∷ (18, row18) ∷ (28, row24) ∷ (29, row24) ∷ []) ((13, dead) ∷ (14, alive) ∷ []) G0
+  G56 = patched ((17, row15) ∷ (18, row17) ∷ (28, row23) ∷ (29, row23) ∷ []) ((13, dead) ∷ (14, alive) ∷ []) G0
 
   abbrev pub G59 : Cx
-  G59 = patched ((17, row7) ∷ (18, row18) ∷ (29, row24) ∷ []) ((14, dead) ∷ []) G0
+  G59 = patched ((17, row6) ∷ (18, row17) ∷ (29, row23) ∷ []) ((14, dead) ∷ []) G0
 
   abbrev pub G61 : Cx
-  G61 = patched ((17, row7) ∷ (18, row7) ∷ []) ([]) G0
+  G61 = patched ((17, row6) ∷ (18, row6) ∷ []) ([]) G0
 
   abbrev pub G64 : Cx
-  G64 = patched ((17, row25) ∷ (18, row7) ∷ (30, row26) ∷ []) ((15, alive) ∷ (16, alive) ∷ []) G0
+  G64 = patched ((17, row24) ∷ (18, row6) ∷ (30, row25) ∷ []) ((15, alive) ∷ (16, alive) ∷ []) G0
 
   abbrev pub G67 : Cx
-  G67 = patched ((13, row29) ∷ (17, row25) ∷ (18, row27) ∷ (30, row26) ∷ (31, row28) ∷ (32, row30) ∷ []) ((7, off) ∷ (15, alive) ∷ (16, alive) ∷ (17, alive) ∷ []) G0
+  G67 = patched ((13, row28) ∷ (17, row24) ∷ (18, row26) ∷ (30, row25) ∷ (31, row27) ∷ (32, row29) ∷ []) ((7, off) ∷ (15, alive) ∷ (16, alive) ∷ (17, alive) ∷ []) G0
 
   abbrev pub G70 : Cx
-  G70 = patched ((12, row32) ∷ (13, row29) ∷ (17, row25) ∷ (18, row27) ∷ (30, row26) ∷ (31, row28) ∷ (33, row31) ∷ (34, row33) ∷ []) ((6, off) ∷ (7, off) ∷ (15, alive) ∷ (16, alive) ∷ (17, alive) ∷ (18, alive) ∷ []) G0
+  G70 = patched ((12, row31) ∷ (13, row28) ∷ (17, row24) ∷ (18, row26) ∷ (30, row25) ∷ (31, row27) ∷ (33, row30) ∷ (34, row32) ∷ []) ((6, off) ∷ (7, off) ∷ (15, alive) ∷ (16, alive) ∷ (17, alive) ∷ (18, alive) ∷ []) G0
 
   abbrev pub G73 : Cx
-  G73 = patched ((12, row32) ∷ (13, row29) ∷ (14, row35) ∷ (17, row25) ∷ (18, row27) ∷ (30, row26) ∷ (31, row28) ∷ (33, row31) ∷ (35, row34) ∷ (36, row36) ∷ []) ((6, off) ∷ (7, off) ∷ (8, off) ∷ (15, alive) ∷ (16, alive) ∷ (17, alive) ∷ (18, alive) ∷ (19, alive) ∷ []) G0
+  G73 = patched ((12, row31) ∷ (13, row28) ∷ (14, row34) ∷ (17, row24) ∷ (18, row26) ∷ (30, row25) ∷ (31, row27) ∷ (33, row30) ∷ (35, row33) ∷ (36, row35) ∷ []) ((6, off) ∷ (7, off) ∷ (8, off) ∷ (15, alive) ∷ (16, alive) ∷ (17, alive) ∷ (18, alive) ∷ (19, alive) ∷ []) G0
 
   abbrev pub G76 : Cx
-  G76 = patched ((12, row32) ∷ (13, row29) ∷ (14, row35) ∷ (15, row37) ∷ (17, row25) ∷ (18, row27) ∷ (30, row26) ∷ (31, row28) ∷ (33, row31) ∷ (35, row34) ∷ (36, row36) ∷ (38, row39) ∷ []) ((6, off) ∷ (7, off) ∷ (8, off) ∷ (9, off) ∷ (15, alive) ∷ (16, alive) ∷ (17, alive) ∷ (18, alive) ∷ (19, alive) ∷ (20, alive) ∷ []) G0
+  G76 = patched ((12, row31) ∷ (13, row28) ∷ (14, row34) ∷ (15, row36) ∷ (17, row24) ∷ (18, row26) ∷ (30, row25) ∷ (31, row27) ∷ (33, row30) ∷ (35, row33) ∷ (36, row35) ∷ (38, row38) ∷ []) ((6, off) ∷ (7, off) ∷ (8, off) ∷ (9, off) ∷ (15, alive) ∷ (16, alive) ∷ (17, alive) ∷ (18, alive) ∷ (19, alive) ∷ (20, alive) ∷ []) G0
 
   abbrev pub G77 : Cx
-  G77 = patched ((0, row1) ∷ (12, row32) ∷ (13, row29) ∷ (14, row35) ∷ (15, row37) ∷ (17, row25) ∷ (18, row27) ∷ (30, row26) ∷ (31, row28) ∷ (33, row31) ∷ (35, row34) ∷ (36, row40) ∷ (38, row22) ∷ []) ((6, off) ∷ (7, off) ∷ (8, off) ∷ (9, off) ∷ (15, alive) ∷ (16, alive) ∷ (17, alive) ∷ (18, alive) ∷ (19, alive) ∷ (20, alive) ∷ []) G0
+  G77 = patched ((0, row1) ∷ (12, row31) ∷ (13, row28) ∷ (14, row34) ∷ (15, row36) ∷ (17, row24) ∷ (18, row26) ∷ (30, row25) ∷ (31, row27) ∷ (33, row30) ∷ (35, row33) ∷ (36, row39) ∷ (38, row21) ∷ []) ((6, off) ∷ (7, off) ∷ (8, off) ∷ (9, off) ∷ (15, alive) ∷ (16, alive) ∷ (17, alive) ∷ (18, alive) ∷ (19, alive) ∷ (20, alive) ∷ []) G0
 
   abbrev pub G80 : Cx
-  G80 = patched ((0, row1) ∷ (12, row32) ∷ (13, row29) ∷ (14, row35) ∷ (15, row37) ∷ (17, row25) ∷ (18, row27) ∷ (35, row34) ∷ (36, row40) ∷ (38, row22) ∷ []) ((6, off) ∷ (7, off) ∷ (8, off) ∷ (9, off) ∷ (15, alive) ∷ (16, alive) ∷ (17, alive) ∷ (18, alive) ∷ (19, alive) ∷ (20, alive) ∷ []) G0
+  G80 = patched ((0, row1) ∷ (12, row31) ∷ (13, row28) ∷ (14, row34) ∷ (15, row36) ∷ (17, row24) ∷ (18, row26) ∷ (35, row33) ∷ (36, row39) ∷ (38, row21) ∷ []) ((6, off) ∷ (7, off) ∷ (8, off) ∷ (9, off) ∷ (15, alive) ∷ (16, alive) ∷ (17, alive) ∷ (18, alive) ∷ (19, alive) ∷ (20, alive) ∷ []) G0
 
   abbrev pub G83 : Cx
-  G83 = patched ((0, row1) ∷ (12, row32) ∷ (13, row29) ∷ (14, row35) ∷ (15, row37) ∷ (17, row7) ∷ (18, row27) ∷ (36, row40) ∷ (38, row22) ∷ []) ((6, off) ∷ (7, off) ∷ (8, off) ∷ (9, off) ∷ (15, dead) ∷ (16, alive) ∷ (17, alive) ∷ (18, alive) ∷ (19, alive) ∷ (20, alive) ∷ []) G0
+  G83 = patched ((0, row1) ∷ (12, row31) ∷ (13, row28) ∷ (14, row34) ∷ (15, row36) ∷ (17, row6) ∷ (18, row26) ∷ (36, row39) ∷ (38, row21) ∷ []) ((6, off) ∷ (7, off) ∷ (8, off) ∷ (9, off) ∷ (15, dead) ∷ (16, alive) ∷ (17, alive) ∷ (18, alive) ∷ (19, alive) ∷ (20, alive) ∷ []) G0
 
   abbrev pub G86 : Cx
-  G86 = patched ((0, row1) ∷ (12, row32) ∷ (13, row29) ∷ (14, row35) ∷ (15, row37) ∷ (18, row27) ∷ (36, row40) ∷ (38, row22) ∷ []) ((6, off) ∷ (7, off) ∷ (8, off) ∷ (9, off) ∷ (16, dead) ∷ (17, alive) ∷ (18, alive) ∷ (19, alive) ∷ (20, alive) ∷ []) G0
+  G86 = patched ((0, row1) ∷ (12, row31) ∷ (13, row28) ∷ (14, row34) ∷ (15, row36) ∷ (18, row26) ∷ (36, row39) ∷ (38, row21) ∷ []) ((6, off) ∷ (7, off) ∷ (8, off) ∷ (9, off) ∷ (16, dead) ∷ (17, alive) ∷ (18, alive) ∷ (19, alive) ∷ (20, alive) ∷ []) G0
 
   abbrev pub G89 : Cx
-  G89 = patched ((0, row1) ∷ (12, row32) ∷ (13, row29) ∷ (14, row35) ∷ (15, row37) ∷ (36, row40) ∷ (38, row22) ∷ []) ((6, off) ∷ (7, off) ∷ (8, off) ∷ (9, off) ∷ (17, alive) ∷ (18, alive) ∷ (19, alive) ∷ (20, alive) ∷ []) G0
+  G89 = patched ((0, row1) ∷ (12, row31) ∷ (13, row28) ∷ (14, row34) ∷ (15, row36) ∷ (36, row39) ∷ (38, row21) ∷ []) ((6, off) ∷ (7, off) ∷ (8, off) ∷ (9, off) ∷ (17, alive) ∷ (18, alive) ∷ (19, alive) ∷ (20, alive) ∷ []) G0
 
   abbrev pub G92 : Cx
-  G92 = patched ((0, row1) ∷ (12, row32) ∷ (14, row35) ∷ (15, row37) ∷ (36, row40) ∷ (38, row22) ∷ []) ((6, off) ∷ (8, off) ∷ (9, off) ∷ (18, alive) ∷ (19, alive) ∷ (20, alive) ∷ []) G0
+  G92 = patched ((0, row1) ∷ (12, row31) ∷ (14, row34) ∷ (15, row36) ∷ (36, row39) ∷ (38, row21) ∷ []) ((6, off) ∷ (8, off) ∷ (9, off) ∷ (18, alive) ∷ (19, alive) ∷ (20, alive) ∷ []) G0
 
   abbrev pub G95 : Cx
-  G95 = patched ((0, row1) ∷ (14, row35) ∷ (15, row37) ∷ (36, row40) ∷ (38, row22) ∷ []) ((8, off) ∷ (9, off) ∷ (19, alive) ∷ (20, alive) ∷ []) G0
+  G95 = patched ((0, row1) ∷ (14, row34) ∷ (15, row36) ∷ (36, row39) ∷ (38, row21) ∷ []) ((8, off) ∷ (9, off) ∷ (19, alive) ∷ (20, alive) ∷ []) G0
 
   abbrev pub G98 : Cx
-  G98 = patched ((0, row1) ∷ (15, row37) ∷ (38, row22) ∷ []) ((9, off) ∷ (20, alive) ∷ []) G0
+  G98 = patched ((0, row1) ∷ (15, row36) ∷ (38, row21) ∷ []) ((9, off) ∷ (20, alive) ∷ []) G0
 
   abbrev pub Γ-after-test : Cx
   Γ-after-test = G0

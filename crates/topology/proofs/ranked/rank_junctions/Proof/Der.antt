@@ -114,9 +114,6 @@ module _ (κs : Lfts 8) (qs : Shares 8) where
   abbrev row32 : Row
   row32 = mslice (rtF (fInt w32)) (tyRef erased mut (tyInt w32)) 15
 
-  abbrev row33 : Row
-  row33 = any-gone (tyInt w64)
-
   abbrev pub G6 : Cx
   G6 = patched ((11, row1) ∷ []) ([]) G0
 
@@ -190,10 +187,10 @@ module _ (κs : Lfts 8) (qs : Shares 8) where
   G65 = patched ((0, row10) ∷ (10, row30) ∷ (29, row11) ∷ []) ((7, off) ∷ (15, dead) ∷ []) G0
 
   abbrev pub G69 : Cx
-  G69 = patched ((0, row10) ∷ (2, row33) ∷ []) ([]) G0
+  G69 = patched ((0, row10) ∷ (2, (any-gone (ty 2))) ∷ []) ([]) G0
 
   abbrev pub G70 : Cx
-  G70 = patched ((0, row10) ∷ (2, row33) ∷ (3, row33) ∷ []) ([]) G0
+  G70 = patched ((0, row10) ∷ (2, (any-gone (ty 2))) ∷ (3, (any-gone (ty 3))) ∷ []) ([]) G0
 
 module _ {M : Type 1} (𝓤 : URA M) (H : Heap 𝓤) (A : Atoms 𝓤) (W : Given 𝓤 H A) (𝓣 : Tables 𝓤 H)
     (known0 : Knows 𝓤 H A W 𝓣 8 K0.ps K0.r R0.Asked R0.Learnt "topology::proposals::allowed_proposals") (known1 : Knows 𝓤 H A W 𝓣 6 K1.ps K1.r R1.Asked R1.Learnt "junction_selection::selection::select_proposals") (known2 : Knows 𝓤 H A W 𝓣 6 K2.ps K2.r R2.Asked R2.Learnt "ranked_rows::list_ranked") (κs : Lfts 8) (qs : Shares 8) (bs : List ℕ) where

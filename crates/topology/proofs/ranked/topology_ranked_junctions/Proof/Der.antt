@@ -228,9 +228,6 @@ module _ (κs : Lfts 12) (qs : Shares 12) where
   abbrev row80 : Row
   row80 = msleft (rtF (fInt w64)) (tyRef erased mut (tyInt w64))
 
-  abbrev row81 : Row
-  row81 = any-gone (tyInt w64)
-
   abbrev pub G15 : Cx
   G15 = patched ((15, row1) ∷ (16, row1) ∷ []) ((12, alive) ∷ []) G0
 
@@ -499,7 +496,7 @@ module _ (κs : Lfts 12) (qs : Shares 12) where
   G211 = patched ((0, row20) ∷ (37, row20) ∷ []) ([]) G0
 
   abbrev pub G214 : Cx
-  G214 = patched ((0, row20) ∷ (1, row81) ∷ (2, row81) ∷ []) ([]) G0
+  G214 = patched ((0, row20) ∷ (1, (any-gone (ty 1))) ∷ (2, (any-gone (ty 2))) ∷ []) ([]) G0
 
   abbrev pub Γ-from-match : Cx
   Γ-from-match = G51
