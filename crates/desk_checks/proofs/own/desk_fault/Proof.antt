@@ -40,7 +40,8 @@ returns : tie.Need-returns Inv-loop μ-loop
 unfolding deskFault
 returns c =
     let l = c .before .before .before in
-    let start = l .before .before .before .before .args in
+    let counted = l .before .before in
+    let start = counted .before .before .args in
     sym (first-faulty (liesOn (now (start .spans)) (now (start .boundaries))) (count (now (start .spans)) (now (start .boundaries))) (l .loop .i) (omega (arith, l .before .greater .ensures)) (l .loop .inv .1) (c .before .lies-on .ensures) (c .if1 .taken))
 
 add-i : tie.Need-add-i Inv-loop μ-loop
@@ -52,14 +53,16 @@ loop-less c = search needs
 loop-again : tie.Need-loop-again Inv-loop μ-loop
 loop-again c =
     let l = c .before .before .before in
-    let start = l .before .before .before .before .args in
+    let counted = l .before .before in
+    let start = counted .before .before .args in
     (search needs, none-faulty-more (liesOn (now (start .spans)) (now (start .boundaries))) (l .loop .i) (l .loop .inv .1) (c .before .lies-on .ensures) (c .if1 .left))
 
 returns-2 : tie.Need-returns-2 Inv-loop μ-loop
 unfolding deskFault
 returns-2 c =
     let l = c .before in
-    let start = l .before .before .before .before .args in
+    let counted = l .before .before in
+    let start = counted .before .before .args in
     sym (none-faulty-end (liesOn (now (start .spans)) (now (start .boundaries))) (count (now (start .spans)) (now (start .boundaries))) (l .loop .i) (omega (arith, l .before .greater .ensures)) (omega (arith, l .before .greater .ensures)) (l .loop .inv .1))
 
 pub desk-fault-spec : {M : Type 1} → statement M

@@ -32,7 +32,8 @@ enum-told c = search needs
 
 divide-requires : tie.Need-divide-requires
 divide-requires c κs =
-    let at-match = c .before .before .before .before .before in
+    let at-arguments = c .before .before in
+    let at-match = at-arguments .before .before .before in
     early-fits _ _ _ _ _ _ _ _ _ _ _ _ (sym (says (at-match .before .before .checks-before .ensures) (at-match .enum-told .given .1)))
 
 returns : tie.Need-returns
@@ -55,8 +56,13 @@ same-length-5 c = search needs
 
 returns-2 : tie.Need-returns-2
 returns-2 c =
-    let at-divide = c .before .before .before .before .before .before .before .before .before .before in
-    let at-match = at-divide .before .before .before .before .before .before in
+    let at-pairs = c .before .before in
+    let at-tallies = at-pairs .before .before in
+    let at-queue = at-tallies .before .before in
+    let at-masks = at-queue .before .before in
+    let at-divide = at-masks .before .before in
+    let at-arguments = at-divide .before .before .before in
+    let at-match = at-arguments .before .before .before in
     let at-checks = at-match .before .before in
     let last = at-divide .divide .last .1 .1 .1 .1 .1 in
     let lists = at-checks .before .before .before in
@@ -65,7 +71,7 @@ returns-2 c =
     let args = read .before .before .args in
     divided-shared _ _ _ _ (now (args .labels)) (now (args .masks)) (now (args .queue)) (now (args .tallies)) (now (args .pairs))
     (says (at-checks .checks-before .ensures) (at-match .enum-told .given .1)) (args .room) (at-divide .divide .result)
-    (last .0) (last .1 .0) (last .1 .1 .0) (last .1 .1 .1 .0) (last .1 .1 .1 .1 .0) (at-divide .divide .ensures)
+    (last .0) (last .1 .0) (last .1 .1 .0) (last .1 .1 .1 .0) (last .1 .1 .1 .1 .0) (at-divide .divide .ensures .0)
 
 pub prepare-shared-spec : {M : Type 1} → statement M
 prepare-shared-spec =
