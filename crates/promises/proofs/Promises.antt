@@ -68,6 +68,7 @@ use Rattle.ranked_list.specs.RankedCalls.{rankedIn, Greedy}
 use Rattle.ranked_list.specs.RankedCalls as ranks
 use Rattle.topology.specs.Answers.{RanOver}
 use Rattle.topology.specs.Rest.{RestRanOver}
+use Rattle.topology.specs.Games.{PlayedOver}
 use Rattle.rest_definitions.specs.RowOrder.{startMap}
 use Rattle.rest_definitions.specs.Rest.{rested}
 use Rattle.rest_definitions.specs.RestVerdict.{RestAnswer}
@@ -80,7 +81,6 @@ use Rattle.game.specs.EntryLaws.{Entry}
 use Rattle.game.specs.EntryLaws as entries
 use Rattle.game_calls.specs.KeptGraph.{keptGame}
 use Rattle.game_calls.specs.GameVerdict.{GameAnswer}
-use Rattle.game_calls.specs.GameExit.{Played}
 use Rattle.game_calls.specs.GameCalls as games
 use Rattle.topology.specs.Ranked.{RankedOver}
 use Rattle.island_theorem.specs.Theorem.{SameOnIsland}
@@ -452,7 +452,12 @@ module _
 
 -- ---- request 14: what each entry of the lent verdicts says once a call is accepted, over all ways of play
 
-pub game-entries : {L : Lent} {goal : ℕ} {v : List ℕ} {a : GameAnswer} {l m q t p : List ℕ} {s : List Region} {o v′ : List ℕ}
-    → Played L goal v a l m q t p s o v′ → a .number ≡ 0 → (x : Place) → Inside (keptGame (L .pass) (mapIn L) goal) x
-    → (w : play.Verdict) × play.Judged (keptGame (L .pass) (mapIn L) goal) x w × Entry v′ (entries.numberOf (keptGame (L .pass) (mapIn L) goal) x) w
-game-entries played success = games.played-entries played success
+module _
+    {pass w h : ℕ} {cells spans boundaries anchors : List ℕ} {goal : ℕ} {l m q t p : List ℕ} {s : List Region} {o v : List ℕ} {a : GameAnswer}
+    {l′ m′ q′ t′ p′ : List ℕ} {s′ : List Region} {o′ v′ : List ℕ}
+    (call : PlayedOver pass w h cells spans boundaries anchors goal l m q t p s o v a l′ m′ q′ t′ p′ s′ o′ v′) (success : a .number ≡ 0) where
+  pub game-entries : (x : Place) → Inside (keptGame pass (mapOf w h cells spans boundaries anchors) goal) x
+      → (w₁ : play.Verdict) × play.Judged (keptGame pass (mapOf w h cells spans boundaries anchors) goal) x w₁
+      × Entry v′ (entries.numberOf (keptGame pass (mapOf w h cells spans boundaries anchors) goal) x) w₁
+  unfolding mapIn
+  game-entries = games.played-entries (call .played) success
