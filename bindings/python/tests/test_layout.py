@@ -23,7 +23,7 @@ from .files import ROOT
 
 
 # Crates with the definitions of operations that the library does not have yet: no call answers with the numbers that they alone give.
-COMING = {'rest_definitions', 'rest', 'rest_lists'}
+COMING = {'desks', 'desk_checks'}
 
 
 def numbers_in_definitions() -> set[int]:

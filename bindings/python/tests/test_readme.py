@@ -21,13 +21,21 @@ class Readme(unittest.TestCase):
     def test_first_command(self) -> None:
         """the library is built already when the tests run: what stands behind it"""
         build, asked = BLOCKS[0].strip().split(' && ')
-        self.assertEqual((build, BLOCKS[2].strip()), ('tools/build_library.sh', './test.sh'))
+        self.assertEqual((build, BLOCKS[3].strip()), ('tools/build_library.sh', './test.sh'))
         done = self.shell(asked)
         self.assertEqual((done.returncode, done.stdout), (0, (EXAMPLES / 'case_j.kept').read_text()))
         self.assertEqual(done.stdout, re.sub('^    ', '', BLOCKS[1], flags=re.M))
 
+    def test_page(self) -> None:
+        line = BLOCKS[2].strip()
+        self.assertIn(' page examples/case_j.sheet -o target/case_j.html', line)
+        with tempfile.TemporaryDirectory() as folder:
+            made = Path(folder) / 'case_j.html'
+            self.assertEqual(self.shell(line.replace('target/case_j.html', str(made))).returncode, 0)
+            self.assertIn('<!DOCTYPE html>', made.read_text())
+
     def test_picture(self) -> None:
-        line = BLOCKS[3].strip()
+        line = BLOCKS[4].strip()
         self.assertIn(' --draw target/mouths.svg', line)
         with tempfile.TemporaryDirectory() as folder:
             picture = Path(folder) / 'mouths.svg'
@@ -35,7 +43,7 @@ class Readme(unittest.TestCase):
             self.assertEqual(picture.read_text(), (PICTURES / 'mouths.svg').read_text())
 
     def test_refusal(self) -> None:
-        asked, said = (line.strip() for line in BLOCKS[4].strip().split('\n'))
+        asked, said = (line.strip() for line in BLOCKS[5].strip().split('\n'))
         with tempfile.TemporaryDirectory() as folder:
             (Path(folder) / 'bad.txt').write_text(BAD)
             done = self.shell(asked.removeprefix('$ ').replace('tools/', f'{ROOT}/tools/'), Path(folder))

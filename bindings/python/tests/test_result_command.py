@@ -115,7 +115,7 @@ class Command(Trial):
         refused = json.loads(run('result', '--print', '--json', result).stdout)['refused']
         self.assertEqual((refused['number'], refused['place']), (15, 4))
         self.fails(1, 'jenwyllt: standard input: refused 14 at 0: the sheet is of kind 1, not 2', 'result', '--print', data=(EXAMPLES / 'case_j.sheet').read_bytes())
-        self.fails(1, 'jenwyllt: standard input: refused 14 at 0: the sheet is of kind 2, not 1', 'result', data=b'\2\0\0\0\0\0')
+        self.fails(1, 'jenwyllt: standard input: refused 14 at 0: the sheet is of kind 2, not 1 or 3', 'result', data=b'\2\0\0\0\0\0')
 
     def test_wrong_use(self) -> None:
         example = EXAMPLES / 'case_j.txt'
