@@ -198,19 +198,18 @@ def tested(browser: Browser, path: Path, folder: Path, pictures: Path | None) ->
     made.write_text(page(sheet, path.stem))
     size = made.stat().st_size
     browser.open(made)
-    first = browser.run('return [document.body.dataset.ready, performance.getEntriesByType("paint").map(e => e.startTime), performance.now()]')
+    ready = browser.run('return document.body.dataset.ready')
     shown = Shown(browser, path.stem, sheet)
-    shown.same('ready', first[0], 'yes')
-    painted = min(first[1], default=first[2]) / 1000
+    drawn = float(ready) / 1000
     shown.same('size', size < MOST_BYTES, True)
-    shown.same('first picture', painted < MOST_SECONDS, True)
+    shown.same('first picture', drawn < MOST_SECONDS, True)
     for step in (shown.passes, shown.layers, shown.rounds, shown.ranked, shown.apart, shown.game):
         step()
     if pictures:
         browser.run('S.view = String(D.pass); S.layers.graph = false; const taken = D.ranked.rows ? D.ranked.rows.findIndex(row => row.taken) : -1;'
                     'if (taken >= 0) showRank(taken); everything(); window.scrollTo(0, 0)')
         browser.picture(pictures / f'page_{path.stem}.png')
-    print(f'{path.stem}: {size:,} bytes, first picture after {painted:.2f} s, {shown.faults} faults')
+    print(f'{path.stem}: {size:,} bytes, drawn after {drawn:.2f} s, {shown.faults} faults')
     return shown.faults
 
 

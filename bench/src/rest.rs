@@ -15,15 +15,18 @@ const NUMBERS_PER_ROW: usize = 5;
 pub fn run(budget: Duration, wanted: impl Fn(&str) -> bool) {
     println!("\nrunning to rest, microseconds, least of many runs\n");
     println!(
-        "{:<18} {:>7} {:>7} {:>14} {:>14} {:>7} {:>14} {:>7}",
+        "{:<24} {:>7} {:>7} {:>14} {:>14} {:>7} {:>14} {:>7}",
         "", "rounds", "kept", "Rust by turns", "run_to_rest", "ratio", "our 3 calls", "ratio"
     );
     for named in maps::all().iter().filter(|named| wanted(named.name)) {
-        one(named.name, &starting(&named.map), budget);
+        let kept = one(named.name, &starting(&named.map), budget);
+        // What is kept rests at once.
+        one(&format!("{} at rest", named.name), &kept, budget);
     }
 }
 
-fn one(name: &str, map: &Map, budget: Duration) {
+/// Gives the map of what is kept.
+fn one(name: &str, map: &Map, budget: Duration) -> Map {
     let original = Original::new(map);
     let partition = original.partition();
     let pairs = partition.boundaries().iter().map(|entry| entry.region_pairs.len()).sum();
@@ -45,12 +48,15 @@ fn one(name: &str, map: &Map, budget: Duration) {
     }
     let [rust, rest, calls] = [0, 1, 2].map(|place| times[place].least());
     println!(
-        "{name:<18} {:>7} {:>7} {rust:>14.1} {rest:>14.1} {:>7.2} {calls:>14.1} {:>7.2}",
+        "{name:<24} {:>7} {:>7} {rust:>14.1} {rest:>14.1} {:>7.2} {calls:>14.1} {:>7.2}",
         counts.rounds,
         counts.kept,
         rest / rust,
         rest / calls
     );
+    let boundary = |number: u64| map.boundaries.chunks(NUMBERS_PER_BOUNDARY).nth(number as usize).expect("a boundary's number").to_vec();
+    let numbers = lent.borrow().output.iter().step_by(NUMBERS_PER_ROW).take(counts.kept as usize).copied().collect::<Vec<_>>();
+    with(map, &numbers.into_iter().map(boundary).collect::<Vec<_>>())
 }
 
 /// The map with its boundaries in row order, the smaller endpoint first, and these as spans: what every run begins with.
