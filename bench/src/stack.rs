@@ -28,6 +28,7 @@ pub fn run() {
         println!("{:<22} {:>12}", format!("whole call, pass {pass}"), largest(ours::kept_boundaries, pass));
     }
     println!("{:<22} {:>12}", "pass 3, ranked list", largest(ours::ranked_junctions, 3));
+    println!("{:<22} {:>12}", "running to rest", largest(|map, lent| ours::run_to_rest(map, lent).map(|counts| counts.kept), 1));
     println!("{:<22} {:>12}", "maps of a day", used(crate::pool::mixed_call()) - idle);
 }
 
