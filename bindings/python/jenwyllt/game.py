@@ -7,10 +7,10 @@ from collections.abc import Iterable
 from typing import NamedTuple
 
 from ._library import U8, U16, U32, U64, Function, ListOf, lent
-from .kept import ROW_NUMBERS, Region
-from .partition import Answer, Room
+from .kept import CallRoom, Region
+from .partition import Answer
 from .refusal import Refusal
-from .sheet import Sheet, flat, grouped
+from .sheet import Sheet, grouped
 
 VERDICT_NUMBERS = 3
 MOST_GAME_REGIONS = 32
@@ -68,13 +68,10 @@ RUNNER_AND_GUARD = Function(
 
 def runner_and_guard(sheet: Sheet, goal: int) -> Game:
     """on the kept graph of a map, for the pass of its sheet. Refused 1 to 9, 16, 23 or 24"""
-    room = Room(len(sheet.cells), len(sheet.spans))
-    read = lent(U8, sheet.cells), *(lent(U64, flat(entries)) for entries in (sheet.spans, sheet.boundaries, sheet.anchors))
-    records, output = lent(Region, len(sheet.cells)), lent(U64, ROW_NUMBERS * len(sheet.boundaries))
-    verdicts = lent(U32, VERDICTS_LENGTH)
+    room, verdicts = CallRoom(sheet), lent(U32, VERDICTS_LENGTH)
 
     def call() -> int:
-        answer = RUNNER_AND_GUARD(sheet.pass_number, sheet.width, sheet.height, *read, goal, *room.lists(), records, output, verdicts)
+        answer = RUNNER_AND_GUARD(sheet.pass_number, sheet.width, sheet.height, *room.read, goal, *room.filled(), verdicts)
         if answer.number:
             raise Refusal(answer.number, answer.value)
         return answer.regions

@@ -68,8 +68,11 @@ class CallRoom:
         self.records = lent(Region, 1 + 2 * len(sheet.spans) if records is None else records)
         self.grows = records is None
 
+    def filled(self) -> tuple[ctypes.Array[Any], ...]:
+        return *self.room.lists(), self.records, self.output
+
     def lists(self) -> tuple[ctypes.Array[Any], ...]:
-        return *self.read, *self.room.lists(), self.records, self.output
+        return *self.read, *self.filled()
 
     def filled_by(self, call: Callable[[], Made]) -> Made:
         """what a call answers; where there are more regions than records, or more pairs than rows, and the room grows, the call is made again"""

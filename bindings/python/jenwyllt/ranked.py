@@ -6,10 +6,10 @@ from dataclasses import dataclass
 from typing import NamedTuple
 
 from ._library import U8, U16, U32, U64, Function, ListOf, lent
-from .kept import ROW_NUMBERS, Kept, Region, Row
-from .partition import Partition, Room
-from .refusal import Cause, Refusal
-from .sheet import Point, Sheet, flat, grouped
+from .kept import CallRoom, Kept, Region
+from .partition import Partition
+from .refusal import Refusal
+from .sheet import Sheet, grouped
 
 RANKED_NUMBERS = 6
 MOST_PROPOSALS = 426                # 256 unions and 170 bridges
@@ -62,25 +62,9 @@ RANKED_JUNCTIONS = Function(
 def ranked_junctions(sheet: Sheet, rows: int = MOST_PROPOSALS) -> Ranked:
     """cuts the map by its spans and runs pass 3, whatever pass the sheet names, with its ranked list. Refused 1 to 3 and 5 to 9; with fewer rows than there are
     proposals 21"""
-    room = Room(len(sheet.cells), len(sheet.spans))
-    read = lent(U8, sheet.cells), *(lent(U64, flat(entries)) for entries in (sheet.spans, sheet.boundaries, sheet.anchors))
-    output, ranked = lent(U64, ROW_NUMBERS * len(sheet.boundaries)), lent(U32, RANKED_NUMBERS * rows)
-    records = lent(Region, 1 + 2 * len(sheet.spans))
-
-    def call() -> tuple[int, int]:
-        return RANKED_JUNCTIONS(sheet.width, sheet.height, *read, *room.lists(), records, output, ranked).counts()
-
-    try:
-        kept, proposals = room.filled_by(call)
-    except Refusal as refusal:
-        if refusal.number != Cause.REGIONS:
-            raise
-        # The labels are filled.
-        records = lent(Region, max(room.labels))
-        kept, proposals = room.filled_by(call)
-    regions = max(room.labels)
-    those = [Row(number, Point(*ends[:2]), Point(*ends[2:])) for number, *ends in grouped(output[:ROW_NUMBERS * kept], ROW_NUMBERS)]
-    found = Kept(those, len(sheet.boundaries), room.partition(regions), [Region.from_buffer_copy(record) for record in records[:regions]])
+    room, ranked = CallRoom(sheet), lent(U32, RANKED_NUMBERS * rows)
+    kept, proposals = room.filled_by(lambda: RANKED_JUNCTIONS(sheet.width, sheet.height, *room.lists(), ranked).counts())
+    found = Kept(room.rows(kept), len(sheet.boundaries), room.partition(), room.region_records())
     return Ranked(found, [RankedProposal.of_numbers(six) for six in grouped(ranked[:RANKED_NUMBERS * proposals], RANKED_NUMBERS)])
 
 
