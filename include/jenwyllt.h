@@ -616,7 +616,7 @@ struct jenwyllt_reported {
 
 /* Reads a sheet, runs its pass and adds the run, with the limits of the program `keptlist`: a sheet of over 65,536 bytes is refused 14 at 65536, one of over
    4,096 cells 1, a map of over 512 regions 11 and one of over 2,048 pairs 12. Nothing else is lent. A report of 10,000 runs or more: number 3, value 0,
-   nothing is read, and the report stays as it was. A call needs 422 KiB of stack. */
+   nothing is read, and the report stays as it was. A call needs 418 KiB of stack. */
 struct jenwyllt_reported jenwyllt_report_sheet(
     struct jenwyllt_report report,
     const uint8_t *bytes, size_t bytes_length);

@@ -74,6 +74,11 @@ fn call(map: &Map, lists: KeptLists) -> Result<u64, Refusal> {
     jenwyllt::kept_boundaries_into(read(map), lists)
 }
 
+/// Runs the map's pass and adds the run to an empty report.
+pub fn report_run(map: &Map, lent: &mut Lent) -> Result<u64, Refusal> {
+    jenwyllt::report_run(&mut jenwyllt::Report::empty(), read(map), lent.lists())
+}
+
 /// Runs the passes to rest.
 pub fn run_to_rest(map: &Map, lent: &mut Lent) -> Result<RestCounts, Refusal> {
     jenwyllt::run_to_rest_into(read(map), lent.lists())

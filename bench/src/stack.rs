@@ -29,7 +29,20 @@ pub fn run() {
     }
     println!("{:<22} {:>12}", "pass 3, ranked list", largest(ours::ranked_junctions, 3));
     println!("{:<22} {:>12}", "running to rest", largest(|map, lent| ours::run_to_rest(map, lent).map(|counts| counts.kept), 1));
+    println!("{:<22} {:>12}", "report of a run", crate::PASSES.map(|pass| largest(ours::report_run, pass)).into_iter().max().unwrap_or(0));
+    println!("{:<22} {:>12}", "report of a sheet", sheets().iter().map(|bytes| used(|| reported(bytes)) - idle).max().unwrap_or(0));
     println!("{:<22} {:>12}", "maps of a day", used(crate::pool::mixed_call()) - idle);
+}
+
+/// The sheets of examples/, one or more for each pass.
+fn sheets() -> Vec<Vec<u8>> {
+    let folder = std::path::Path::new(env!("CARGO_MANIFEST_DIR")).join("../examples");
+    let names = ["case_j", "mouths", "interiors", "junctions"];
+    names.map(|name| std::fs::read(folder.join(name).with_extension("sheet")).expect("a sheet of examples/")).into()
+}
+
+fn reported(bytes: &[u8]) {
+    assert!(jenwyllt::report_sheet(&mut jenwyllt::Report::empty(), bytes).is_ok());
 }
 
 unsafe extern "C" {
