@@ -16,7 +16,7 @@ use Rattle.catalogue.specs.Accession.{Accession, numbersPerAccession, accession
 use Rattle.catalogue.specs.Line.{lineOf, flatLine, lineVerdict, lineAtExit}
 use Rattle.catalogue.specs.AccessionLaws.Newest.{newest-length}
 use Rattle.catalogue.specs.AccessionLaws.MapLine.{isOfMap, mapLine}
-use Rattle.accession.specs.Answers.{roomVerdict, roomExit}
+use Rattle.accession.specs.Contract.{roomVerdict, roomExit}
 
 abbrev answer : ℕ → ℕ → Answer
 answer number value = record { number = number; value = value }

@@ -12,7 +12,7 @@ use rules::first_broken;
 ghost use mathlib.Core.Path.{_≡_};
 ghost use lib.ListN.{length};
 ghost use Rattle.catalogue.specs.Line.{lineVerdict, lineAtExit};
-ghost use Rattle.accession.specs.Answers.{answerIn};
+ghost use Rattle.accession.specs.Contract.{answerIn};
 
 // "Report the whole line of an own number": 3 for a last entry unfinished, 17 at the first record that breaks a rule, 10 where the line does not fit.
 #[no_mangle]

@@ -17,7 +17,7 @@ ghost use Rattle.catalogue.specs.Accession.{numbersPerAccession, flatAccession,
 ghost use Rattle.catalogue.specs.Line.{flatLine, lineVerdict, lineAtExit};
 ghost use Rattle.catalogue.specs.AccessionLaws.Newest.{one};
 ghost use Rattle.catalogue.specs.AccessionLaws.MapLine.{isOfMap, mapLine};
-ghost use Rattle.accession.specs.Answers.{answerIn, Finds, roomVerdict, roomExit};
+ghost use Rattle.accession.specs.Contract.{answerIn, Finds, roomVerdict, roomExit};
 
 // Number 0 and the count of records in the line, or a refusal's number and place.
 #[repr(C)]

@@ -10,7 +10,7 @@ ghost use Prim.Native.Nat.{ℕ, _≤_, _<_, _^_};
 ghost use lib.ListN.{length, getD};
 ghost use Rattle.catalogue.specs.Accession.{accessionCount, ownAscends, accessionsFault};
 ghost use Rattle.catalogue.specs.AccessionLaws.Chain.{follows};
-ghost use Rattle.accession.specs.Answers.{placeOf};
+ghost use Rattle.accession.specs.Contract.{placeOf};
 
 // The position of the first record that breaks a rule; `placeOf` of specs/Answers.antt gives what it says.
 pub enum Broken {

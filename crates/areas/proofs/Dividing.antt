@@ -15,7 +15,7 @@ use Rattle.laws.specs.RegionLaws.Regions.{labels-length}
 use Rattle.flood.specs.Contract.{Flooded}
 use Rattle.assessments.specs.declared.Assessed.{Assessed}
 use Rattle.assessments.specs.declared.Assessed.the-variants.{Rows, TooMany}
-use Rattle.assessments.specs.Answer.{AssessAsked, Answers, SpansAssessed}
+use Rattle.assessments.specs.Contract.{AssessAsked, Answers, SpansAssessed}
 use Rattle.areas.specs.declared.Partitioned.the-variants.{Regions, Refused}
 use Rattle.areas.specs.Contract.{given, earlyRefusal, Ran}
 use Rattle.areas.specs.Fit.{Fit}

@@ -1,28 +1,28 @@
-// Replays stored cases of the partition. Standard input is one case after the other: the numbers that `lent_lists` names, and a sheet, which gives the cells and
+// Replays stored cases of the partition. Standard input is one case after the other: the numbers that `replay_lists` names, and a sheet, which gives the cells and
 // the spans. Of each case it writes the answer and what the lists hold.
 use areas::Partitioned;
 use areas::partition;
 use io::large_buffer;
 use io::write_all;
-use lent_lists::CASES;
-use lent_lists::CELLS;
-use lent_lists::HEIGHT;
-use lent_lists::LABELS;
-use lent_lists::MASKS;
-use lent_lists::OPENING;
-use lent_lists::PAIRS;
-use lent_lists::QUEUE;
-use lent_lists::SPANS;
-use lent_lists::TALLIES;
-use lent_lists::WIDTH;
-use lent_lists::masks_before;
-use lent_lists::number;
-use lent_lists::number_within;
-use lent_lists::numbers_before;
-use lent_lists::read_bytes;
-use lent_lists::read_opening;
-use lent_lists::write_partition;
 use libc::STDOUT_FILENO;
+use replay_lists::CASES;
+use replay_lists::CELLS;
+use replay_lists::HEIGHT;
+use replay_lists::LABELS;
+use replay_lists::MASKS;
+use replay_lists::OPENING;
+use replay_lists::PAIRS;
+use replay_lists::QUEUE;
+use replay_lists::SPANS;
+use replay_lists::TALLIES;
+use replay_lists::WIDTH;
+use replay_lists::masks_before;
+use replay_lists::number;
+use replay_lists::number_within;
+use replay_lists::numbers_before;
+use replay_lists::read_bytes;
+use replay_lists::read_opening;
+use replay_lists::write_partition;
 use sheet::Answer;
 use sheet::read_sheet;
 ghost use Prim.Native.Nat.{_≤_};

@@ -25,7 +25,7 @@ use Rattle.cut_steps.specs.CutLaws.{span-count, cut-steps-span}
 use Rattle.cut_steps.specs.Prefixes.{gather-ext}
 use Rattle.cut_steps.proofs.Spans.{cutListed}
 use Rattle.laws.specs.RegionLaws.PairRows.{rowsFor}
-use Rattle.assessments.specs.Answer.{Labelled}
+use Rattle.assessments.specs.Contract.{Labelled}
 
 -- ---- labels that agree at the cells of steps
 

@@ -19,7 +19,7 @@ use Rattle.cut_steps.proofs.Spans.{cutListed}
 use Rattle.laws.specs.RegionLaws.PairRows.{rowsFor}
 use Rattle.assessments.specs.Held.{roomOf, Held}
 use Rattle.assessments.specs.Assess.{nothing, maxEdges, Counting, Gathered, Assesses, Lent}
-use Rattle.assessments.specs.Answer.{AssessAsked, Answers, SpansAssessed}
+use Rattle.assessments.specs.Contract.{AssessAsked, Answers, SpansAssessed}
 use Rattle.assessments.specs.declared.BoundaryAssessment.{BoundaryAssessment}
 use Rattle.assessments.specs.declared.Assessed.{Assessed}
 use Rattle.assessments.specs.declared.Assessed.the-variants.{Rows, TooMany}

@@ -1,3 +1,3 @@
 pub mod Held
 pub mod Assess
-pub mod Answer
+pub mod Contract

@@ -26,7 +26,7 @@ ghost use Rattle.cut_steps.specs.CutSteps.{cutFrom, cutSpan};
 ghost use Rattle.cut_steps.specs.Columns.{ColumnAsked, cutColumn};
 ghost use Rattle.assessments.specs.Held.{pairOf, roomOf};
 ghost use Rattle.assessments.specs.Assess.{nothing, maxCellEdges, maxLineEdges, maxEdges, Counting, Assesses, stepIn, stepsIn, Leads, Lent};
-ghost use Rattle.assessments.specs.Answer.{AssessAsked, SpansAssessed};
+ghost use Rattle.assessments.specs.Contract.{AssessAsked, SpansAssessed};
 
 pub const TALLIES_PER_SPAN: usize = 2;
 

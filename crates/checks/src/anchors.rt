@@ -7,7 +7,7 @@ ghost use Prim.Native.Nat.{_+_, _<_};
 ghost use lib.Dec.{ltb};
 ghost use lib.ListN.{length, getD};
 ghost use Rattle.definitions.specs.Refusals.{anchorsFault};
-ghost use Rattle.checks.specs.Answers.{placeOf};
+ghost use Rattle.checks.specs.Contract.{placeOf};
 
 // "anchor outside the grid", of the two numbers from k on.
 fn anchor_fits(width: u64, height: u64, anchors: &[u64], k: usize) -> bool

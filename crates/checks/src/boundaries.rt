@@ -9,7 +9,7 @@ ghost use lib.ListN.{length};
 ghost use Rattle.definitions.specs.Limits.{maxSide};
 ghost use Rattle.definitions.specs.Grid.{boundaryAt};
 ghost use Rattle.definitions.specs.Refusals.{widthFits, rampFits, boundaryFits, boundariesFault};
-ghost use Rattle.checks.specs.Answers.{placeOf};
+ghost use Rattle.checks.specs.Contract.{placeOf};
 
 // "width not finite, sign bit set, or over 65,536": one comparison, as the bits of an infinity, of a NaN and of what has its sign set are larger.
 pub fn width_fits(bits: u64) -> bool

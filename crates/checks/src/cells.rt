@@ -5,7 +5,7 @@ ghost use mathlib.Core.Bool.{_&&_, not};
 ghost use lib.Dec.{leb};
 ghost use Rattle.definitions.specs.Grid.{isWalkable, elevation};
 ghost use Rattle.definitions.specs.Refusals.{elevationsFault};
-ghost use Rattle.checks.specs.Answers.{placeOf};
+ghost use Rattle.checks.specs.Contract.{placeOf};
 
 // "walkable cell of elevation 4 or more"
 pub fn elevation_fits(cell: u8) -> bool

@@ -7,7 +7,7 @@ ghost use lib.ListN.{length};
 ghost use Rattle.definitions.specs.Limits.{maxSide};
 ghost use Rattle.definitions.specs.Grid.{segmentAt};
 ghost use Rattle.definitions.specs.Refusals.{bothOnMap, endpointsDiffer, spansRefusal};
-ghost use Rattle.checks.specs.Answers.{refusalOf};
+ghost use Rattle.checks.specs.Contract.{refusalOf};
 
 // The first faulty span; `refusalOf` of specs/Answers.antt gives its number.
 pub enum SpanFault {

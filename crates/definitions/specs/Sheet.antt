@@ -145,15 +145,15 @@ sheet cellLimit = do
   anchors ← entries numbersPerAnchor
   _ ← end
   give
-    (record {
-      pass = pass;
-      width = width;
-      height = height;
-      cells = cells;
-      spans = spansStated (hasSpans written) spans boundaries;
-      boundaries = boundaries;
-      anchors = anchors;
-    })
+      (record {
+        pass = pass;
+        width = width;
+        height = height;
+        cells = cells;
+        spans = spansStated (hasSpans written) spans boundaries;
+        boundaries = boundaries;
+        anchors = anchors;
+      })
 
 -- what the bytes hold, or the number and the place of their refusal
 pub data Reading : Type 0 where

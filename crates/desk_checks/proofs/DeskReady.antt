@@ -16,10 +16,10 @@ use Rattle.definitions.specs.Verdict.{Answer, refusal}
 use Rattle.laws.specs.ListLaws.Tests.{both}
 use Rattle.laws.specs.TableLaws.AcceptedCalls.{Accepted, accepted}
 use Rattle.flood.specs.Contract.{walkableCount, Grouped}
-use Rattle.calls.specs.Early.{sizesRefusal, entriesRefusal, earlyRefusal}
-use Rattle.calls.specs.Contract.{given}
-use Rattle.calls.specs.Prepared.{ReadyAs}
-use Rattle.calls.proofs.Exits.{verdict-kept}
+use Rattle.call_partition.specs.Early.{sizesRefusal, entriesRefusal, earlyRefusal}
+use Rattle.call_partition.specs.Contract.{given}
+use Rattle.call_partition.specs.Prepared.{ReadyAs}
+use Rattle.call_partition.proofs.Exits.{verdict-kept}
 use Rattle.desks.specs.Desks.{ownRefusal}
 use Rattle.desks.specs.Terrain.{regions-same, labels-same, rows-same, tallies-same}
 use Rattle.desks.specs.Alone.{OwnPassed, own-passed, all-three}

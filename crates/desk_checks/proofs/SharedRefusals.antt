@@ -23,12 +23,12 @@ use Rattle.laws.specs.ListLaws.NoFault.{found}
 use Rattle.laws.specs.ListLaws.SortedMembers.{length-sort}
 use Rattle.laws.specs.TableLaws.AcceptedCalls.{Accepted, accepted, accepted-count}
 use Rattle.laws.specs.TableLaws.KeptRows.{rows-few, boundary-count}
-use Rattle.calls.specs.declared.Prepared.{Prepared}
-use Rattle.calls.specs.declared.Prepared.the-variants.{Refused, Ready}
-use Rattle.calls.specs.Early.{sizesRefusal, entriesRefusal, hasRoom, earlyRefusal}
-use Rattle.calls.specs.Contract.{given, Ran}
-use Rattle.calls.specs.Prepared.{DividedAs}
-use Rattle.calls.proofs.Exits.{ran-refused}
+use Rattle.call_partition.specs.declared.Prepared.{Prepared}
+use Rattle.call_partition.specs.declared.Prepared.the-variants.{Refused, Ready}
+use Rattle.call_partition.specs.Early.{sizesRefusal, entriesRefusal, hasRoom, earlyRefusal}
+use Rattle.call_partition.specs.Contract.{given, Ran}
+use Rattle.call_partition.specs.Prepared.{DividedAs}
+use Rattle.call_partition.proofs.Exits.{ran-refused}
 use Rattle.desks.specs.Desks.{Shared, terrain, sharedRefusal, answerFrom}
 use Rattle.desks.specs.SharedCalls.{shared-as-call, refused-is}
 use Rattle.desk_checks.specs.AloneCalls.{terrain-left}

@@ -6,7 +6,7 @@ use mathlib.Core.List.{List}
 use Rattle.definitions.specs.RegionRecord.{Region}
 use Rattle.definitions.specs.Verdict.{Answer}
 use Rattle.definitions.specs.AtExit.{callExit}
-use Rattle.calls.specs.Contract.{Ran}
+use Rattle.call_partition.specs.Contract.{Ran}
 use Rattle.desks.specs.Desks.{Shared, Desk, alone, terrain, sharedExit, Served, LeftShared, RanBoth}
 use Rattle.desks.specs.SharedCalls.{shared-as-call, answered-passes}
 use Rattle.desks.specs.Alone.{answer-alone, labels-alone, masks-alone, queue-alone, tallies-alone, pairs-alone, records-alone, output-alone}

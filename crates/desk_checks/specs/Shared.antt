@@ -5,9 +5,9 @@ use mathlib.Core.Option.{some}
 use mathlib.Core.List.{List, []}
 use lib.ListN.{length}
 use Rattle.definitions.specs.RegionRecord.{Region}
-use Rattle.calls.specs.declared.Prepared.{Prepared}
-use Rattle.calls.specs.declared.Prepared.the-variants.{Refused, Ready}
-use Rattle.calls.specs.Prepared.{ReadyAs}
+use Rattle.call_partition.specs.declared.Prepared.{Prepared}
+use Rattle.call_partition.specs.declared.Prepared.the-variants.{Refused, Ready}
+use Rattle.call_partition.specs.Prepared.{ReadyAs}
 use Rattle.desks.specs.Desks.{Shared, sharedRefusal, LeftShared}
 
 -- what is lent to both desks

@@ -15,9 +15,9 @@ ghost use Prim.Native.Nat.{_+_, _≤_, _<_, max};
 ghost use lib.ListN.{length};
 ghost use Rattle.definitions.specs.Limits.{maxSide, numbersPerBoundary, numbersPerAnchor};
 ghost use Rattle.definitions.specs.Grid.{segmentAt};
-ghost use Rattle.checks.specs.Answers.{placeOf};
+ghost use Rattle.checks.specs.Contract.{placeOf};
 ghost use Rattle.areas.specs.Answers.{refusalOf};
-ghost use Rattle.calls.specs.Early.{isWholeOf};
+ghost use Rattle.call_partition.specs.Early.{isWholeOf};
 ghost use Rattle.desks.specs.Desks.{isSpan, deskFault, ownRefusal};
 ghost use Rattle.desk_checks.specs.Own.{liesOn, placesRefusal};
 

@@ -1,8 +1,8 @@
 // What comes before the records that both desks share: the checks of the shared lists, labels, tallies and pairs. The boundaries and anchors of neither desk are looked at.
 use areas::checked::Check;
-use calls::Prepared;
-use calls::checked::checks_before;
-use calls::divide;
+use call_partition::Prepared;
+use call_partition::checked::checks_before;
+use call_partition::divide;
 ghost use Rattle.desk_checks.specs.Shared.{SharedAs};
 
 // A pass that the checks let through: none is run here.

@@ -24,9 +24,9 @@ use Rattle.definitions.specs.AtExit.{stageOf, untouched, complete, talliesOf, r
 use Rattle.laws.specs.ListLaws.NoFault.{no-fault, or-else-none}
 use Rattle.laws.specs.TableLaws.AcceptedCalls.{refusal-none}
 use Rattle.areas.proofs.FirstRefusal.{first-joined}
-use Rattle.calls.specs.Early.{sizesRefusal, entriesRefusal, hasRoom, earlyRefusal}
-use Rattle.calls.specs.Contract.{given, Ran}
-use Rattle.calls.proofs.Exits.{verdict-late}
+use Rattle.call_partition.specs.Early.{sizesRefusal, entriesRefusal, hasRoom, earlyRefusal}
+use Rattle.call_partition.specs.Contract.{given, Ran}
+use Rattle.call_partition.proofs.Exits.{verdict-late}
 use Rattle.rest_definitions.specs.RestVerdict.{listsFault}
 use Rattle.rest_definitions.specs.RestExit.{labelsRested, talliesRested, pairsRested, recordsRested}
 use Rattle.game.specs.Graph.{verdictsRoom, placeCount, graphFault, goalFault, verdictNumbers, verdictsAtExit}

@@ -24,12 +24,12 @@ use Rattle.laws.specs.ListLaws.NoFault.{no-fault}
 use Rattle.laws.specs.TableLaws.AcceptedCalls.{Accepted}
 use Rattle.flood.specs.Contract.{Grouped}
 use Rattle.areas.specs.Fit.{Fit}
-use Rattle.calls.specs.declared.Prepared.{Prepared}
-use Rattle.calls.specs.declared.Prepared.the-variants.{Refused, Ready}
-use Rattle.calls.specs.Early.{earlyRefusal}
-use Rattle.calls.specs.Prepared.{ReadyAs, PreparedAs, DividedAs, RefusedLate}
-use Rattle.calls.proofs.EarlyFits.{early-fits}
-use Rattle.calls.proofs.Exits.{verdict-kept}
+use Rattle.call_partition.specs.declared.Prepared.{Prepared}
+use Rattle.call_partition.specs.declared.Prepared.the-variants.{Refused, Ready}
+use Rattle.call_partition.specs.Early.{earlyRefusal}
+use Rattle.call_partition.specs.Prepared.{ReadyAs, PreparedAs, DividedAs, RefusedLate}
+use Rattle.call_partition.proofs.EarlyFits.{early-fits}
+use Rattle.call_partition.proofs.Exits.{verdict-kept}
 use Rattle.rest_definitions.specs.RestVerdict.{listsFault}
 use Rattle.rest.specs.FlatLists.{flatSpans, flatBoundaries}
 use Rattle.rest_lists.specs.Blocks.{leftBlocks}

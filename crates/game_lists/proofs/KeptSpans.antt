@@ -29,7 +29,7 @@ use Rattle.laws.specs.TableLaws.KeptRows.{collect-few}
 use Rattle.laws.specs.TableLaws.AcceptedCalls.{Accepted, fits-parts}
 use Rattle.cut_steps.specs.Prefixes.{concat-append, concat-map, gather-ext}
 use Rattle.areas.proofs.Chain.{next}
-use Rattle.calls.specs.Early.{sizesRefusal, entriesRefusal, earlyRefusal}
+use Rattle.call_partition.specs.Early.{sizesRefusal, entriesRefusal, earlyRefusal}
 use Rattle.rest_definitions.specs.RowOrder.{mapWith}
 use Rattle.rest_definitions.specs.Rest.{keptMap}
 use Rattle.rest_definitions.specs.RestVerdict.{listsFault}

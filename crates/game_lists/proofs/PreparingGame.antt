@@ -6,11 +6,11 @@ use mathlib.Core.List.{List}
 use lib.ListN.{length}
 use Rattle.definitions.specs.RegionRecord.{Region}
 use Rattle.areas.specs.Fit.{Fit}
-use Rattle.calls.specs.declared.Prepared.{Prepared}
-use Rattle.calls.specs.declared.Prepared.the-variants.{Refused, Ready}
-use Rattle.calls.specs.Contract.{given}
-use Rattle.calls.specs.Prepared.{DividedAs, RefusedLate}
-use Rattle.calls.proofs.EarlyFits.{early-fits}
+use Rattle.call_partition.specs.declared.Prepared.{Prepared}
+use Rattle.call_partition.specs.declared.Prepared.the-variants.{Refused, Ready}
+use Rattle.call_partition.specs.Contract.{given}
+use Rattle.call_partition.specs.Prepared.{DividedAs, RefusedLate}
+use Rattle.call_partition.proofs.EarlyFits.{early-fits}
 use Rattle.game_calls.specs.GameExit.{Played}
 use Rattle.game_lists.specs.Early.{gameEarly}
 use Rattle.game_lists.specs.Prepared.{GamePreparedAs}

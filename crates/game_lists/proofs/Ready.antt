@@ -14,7 +14,7 @@ use Rattle.definitions.specs.Verdict.{refusal}
 use Rattle.laws.specs.ListLaws.NoFault.{or-else-none}
 use Rattle.cut_steps.specs.Prefixes.{gather-ext}
 use Rattle.areas.proofs.Chain.{next}
-use Rattle.calls.specs.Early.{sizesRefusal, earlyRefusal}
+use Rattle.call_partition.specs.Early.{sizesRefusal, earlyRefusal}
 use Rattle.game.specs.Graph.{verdictsRoom, edgesIn}
 use Rattle.game_lists.specs.Early.{gameEarly}
 use Rattle.game_lists.specs.Prepared.{GameReady}

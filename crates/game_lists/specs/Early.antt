@@ -5,7 +5,7 @@ use mathlib.Core.List.{List}
 use lib.Dec.{leb}
 use Rattle.definitions.specs.Refusals.{Refusal, orElse, unless}
 use Rattle.definitions.specs.Verdict.{refusal}
-use Rattle.calls.specs.Early.{sizesRefusal, earlyRefusal}
+use Rattle.call_partition.specs.Early.{sizesRefusal, earlyRefusal}
 use Rattle.rest_definitions.specs.RestVerdict.{listsFault}
 use Rattle.game.specs.Graph.{verdictsRoom}
 

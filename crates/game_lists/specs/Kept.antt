@@ -17,7 +17,7 @@ use Rattle.definitions.specs.Verdict.{Lent, mapIn, pairRowsOf}
 use Rattle.definitions.specs.AtExit.{talliesOf}
 use Rattle.laws.specs.TableLaws.AcceptedCalls.{Accepted}
 use Rattle.flood.specs.Contract.{Grouped}
-use Rattle.calls.specs.Contract.{given}
+use Rattle.call_partition.specs.Contract.{given}
 use Rattle.rest_definitions.specs.RestVerdict.{listsFault}
 use Rattle.game_calls.specs.KeptGraph.{graphMap}
 use Rattle.game_lists.specs.declared.kept.Graph.{Graph}

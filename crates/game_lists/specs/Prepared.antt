@@ -6,10 +6,10 @@ use mathlib.Core.Option.{none}
 use mathlib.Core.List.{List}
 use lib.ListN.{length}
 use Rattle.definitions.specs.RegionRecord.{Region}
-use Rattle.calls.specs.declared.Prepared.{Prepared}
-use Rattle.calls.specs.declared.Prepared.the-variants.{Refused, Ready}
-use Rattle.calls.specs.Contract.{given}
-use Rattle.calls.specs.Prepared.{ReadyAs}
+use Rattle.call_partition.specs.declared.Prepared.{Prepared}
+use Rattle.call_partition.specs.declared.Prepared.the-variants.{Refused, Ready}
+use Rattle.call_partition.specs.Contract.{given}
+use Rattle.call_partition.specs.Prepared.{ReadyAs}
 use Rattle.rest_definitions.specs.RestVerdict.{listsFault}
 use Rattle.game.specs.Graph.{verdictsRoom}
 use Rattle.game_calls.specs.GameExit.{Played}

@@ -1,9 +1,9 @@
 // The checks of the call before its first partition, in their order: 1 to 4, 16, and 5 to 10; and this partition.
 use areas::checked::Check;
-use calls::Prepared;
-use calls::checked::check_sizes;
-use calls::checked::checks_before;
-use calls::divide;
+use call_partition::Prepared;
+use call_partition::checked::check_sizes;
+use call_partition::checked::checks_before;
+use call_partition::divide;
 use checks::Fault;
 use rest_lists::lists::lists_fault;
 ghost use mathlib.Core.Path.{_≡_};

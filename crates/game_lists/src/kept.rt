@@ -1,8 +1,8 @@
 // The partition by what a pass keeps, over the lists that the first partition filled.
 use areas::clear::clear_numbers;
 use assessments::TALLIES_PER_SPAN;
-use calls::Prepared;
-use calls::divide;
+use call_partition::Prepared;
+use call_partition::divide;
 use checks::limits::NUMBERS_PER_SPAN;
 use rest_lists::blocks::copy_block;
 use rest_lists::blocks::keep_blocks;

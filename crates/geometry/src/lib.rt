@@ -4,7 +4,7 @@
 pub mod endpoints;
 pub mod numbers;
 pub mod points;
-pub mod ramp_boundaries;
+pub mod ramp_geometry;
 
 use span_geometry::PixelPosition;
 

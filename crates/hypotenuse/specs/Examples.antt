@@ -4,7 +4,7 @@ use Prim.Native.Nat.{ℕ}
 use lib.Ieee.{binary64, ofBits}
 use Rattle.definitions.specs.Hypotenuse.{hypotNumber, hypotValue}
 use Rattle.definitions.specs.Geometry.{float}
-use Rattle.hypotenuse.specs.Answers.{Allowed, is-root, is-refused}
+use Rattle.hypotenuse.specs.Contract.{Allowed, is-root, is-refused}
 use Rattle.hypotenuse.specs.declared.Answer.{Answer}
 use Rattle.hypotenuse.specs.declared.Answer.the-variants.{Root, Refused}
 

@@ -1,6 +1,6 @@
 pub mod Wide
 pub mod Roots
 pub mod Rounding
-pub mod Answers
+pub mod Contract
 pub mod Examples
 pub mod RootNearest

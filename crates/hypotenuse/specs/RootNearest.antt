@@ -7,7 +7,7 @@ use Rattle.definitions.specs.Hypotenuse.{inRange, sumOfSquares}
 use Rattle.definitions.specs.Nearest.{Nearest}
 use Rattle.laws.specs.FloatLaws.Hypotenuse.{hypotOf-nearest}
 use Rattle.hypotenuse.specs.declared.Answer.{Answer}
-use Rattle.hypotenuse.specs.Answers.{numberOf, valueOf, Allowed, root-in-range}
+use Rattle.hypotenuse.specs.Contract.{numberOf, valueOf, Allowed, root-in-range}
 
 pub root-nearest : (x y : Float) (r : Answer) → inRange x ≡ true → inRange y ≡ true → Allowed x y r
     → (numberOf r ≡ 0) × Nearest (sumOfSquares x y) (toBits binary64 (valueOf r))

@@ -1,7 +1,7 @@
 // The hypotenuse, correctly rounded: the double nearest to the root of the sum of two squares, ties to the even significand. It is worked out from the bits, in bounded time.
 ghost use mathlib.Core.Path.{_≡_};
 ghost use Rattle.definitions.specs.Hypotenuse.{hypotNumber, hypotValue};
-ghost use Rattle.hypotenuse.specs.Answers.{numberOf, valueOf};
+ghost use Rattle.hypotenuse.specs.Contract.{numberOf, valueOf};
 
 mod patterns;
 mod root;

@@ -20,15 +20,15 @@ use Rattle.laws.specs.ListLaws.ScanSteps.{all-intro, any-fails-at}
 use Rattle.laws.specs.SetLaws.Sets.{member-all}
 use Rattle.laws.specs.RustContext.SoundContext.{Sound}
 use Rattle.context.specs.Shown.{ShownPairs}
-use Rattle.ramp_interiors.specs.Owners.{several, edge, Owners}
-use Rattle.ramp_interiors.specs.Leaves.{Inside}
-use Rattle.ramp_interiors.specs.Proposals.{expandedOf, proposedPorts, isFirst, foundPorts, recordsFit}
-use Rattle.ramp_interiors.specs.declared.ports.Ports.the-variants as ports
-use Rattle.ramp_interiors.proofs.RowScans.{all-holds}
-use Rattle.ramp_interiors.proofs.CandidateLaws.{edge-owned, candidate-unspoilt}
-use Rattle.ramp_interiors.proofs.NoConflict.{Fit}
-use Rattle.ramp_interiors.proofs.Removed.{fit-of, removed-none, removed-owned, proposal-is}
-use Rattle.ramp_interiors.proofs.ProgressLaws.{first-region, proposed-two, found-first, is-first}
+use Rattle.interior_proposals.specs.Owners.{several, edge, Owners}
+use Rattle.interior_proposals.specs.Leaves.{Inside}
+use Rattle.interior_proposals.specs.Proposals.{expandedOf, proposedPorts, isFirst, foundPorts, recordsFit}
+use Rattle.interior_proposals.specs.declared.ports.Ports.the-variants as ports
+use Rattle.interior_proposals.proofs.RowScans.{all-holds}
+use Rattle.interior_proposals.proofs.CandidateLaws.{edge-owned, candidate-unspoilt}
+use Rattle.interior_proposals.proofs.NoConflict.{Fit}
+use Rattle.interior_proposals.proofs.Removed.{fit-of, removed-none, removed-owned, proposal-is}
+use Rattle.interior_proposals.proofs.ProgressLaws.{first-region, proposed-two, found-first, is-first}
 use Rattle.interior_regions.specs.Places.{regionAt, isNamed, fitsAt, rampAt, interiorFits}
 use Rattle.interior_regions.specs.Marks.{accepted, markedBefore, EndOf}
 use Rattle.interior_regions.proofs.PlaceLaws.{place-readable, Placed, incident-placed, Spanned, expanded-incident}

@@ -19,13 +19,13 @@ use Rattle.laws.specs.ListLaws.Below.{below-first}
 use Rattle.laws.specs.RustContext.SoundContext.{Sound}
 use Rattle.laws.specs.RustInteriors.ComponentRegions.{named, inside-named}
 use Rattle.context.specs.Shown.{ShownPairs, pairAt, pairsBetween}
-use Rattle.ramp_interiors.specs.Owners.{edge}
-use Rattle.ramp_interiors.specs.Proposals.{own, expandedOf}
-use Rattle.ramp_interiors.proofs.RowScans.{any-rows-none, any-rows-next, between-at}
-use Rattle.ramp_interiors.proofs.CandidateLaws.{within}
-use Rattle.ramp_interiors.proofs.ProposalLaws.{candidate-edge}
-use Rattle.ramp_interiors.proofs.Apart.{port-leaf}
-use Rattle.ramp_interiors.proofs.NoConflict.{Fit, region-inside, named-incident}
+use Rattle.interior_proposals.specs.Owners.{edge}
+use Rattle.interior_proposals.specs.Proposals.{own, expandedOf}
+use Rattle.interior_proposals.proofs.RowScans.{any-rows-none, any-rows-next, between-at}
+use Rattle.interior_proposals.proofs.CandidateLaws.{within}
+use Rattle.interior_proposals.proofs.ProposalLaws.{candidate-edge}
+use Rattle.interior_proposals.proofs.Apart.{port-leaf}
+use Rattle.interior_proposals.proofs.NoConflict.{Fit, region-inside, named-incident}
 use Rattle.interior_regions.specs.Places.{regionAt, Readable}
 
 -- ---- rows

@@ -5,12 +5,12 @@ use mathlib.Core.Path.{ap}
 use mathlib.Core.List.{List}
 use lib.Dec.{eqb}
 use Rattle.definitions.specs.Context.{Context}
-use Rattle.ramp_interiors.specs.Given.{Lent, Known, Kept}
-use Rattle.ramp_interiors.specs.Owners.{Owners}
-use Rattle.ramp_interiors.specs.Proposals.{Progress, Owning}
-use Rattle.ramp_interiors.proofs.Forests.{beyond-same}
-use Rattle.ramp_interiors.proofs.Walks.{names-long}
-use Rattle.ramp_interiors.proofs.Preparing.{components-size}
+use Rattle.interior_proposals.specs.Given.{Lent, Known, Kept}
+use Rattle.interior_proposals.specs.Owners.{Owners}
+use Rattle.interior_proposals.specs.Proposals.{Progress, Owning}
+use Rattle.interior_proposals.proofs.Forests.{beyond-same}
+use Rattle.interior_proposals.proofs.Walks.{names-long}
+use Rattle.interior_proposals.proofs.Preparing.{components-size}
 
 module _ {C : Context} {boundaries tallies pairs starts marks counts : List ℕ} {count regions : ℕ} (L : Lent C boundaries tallies pairs starts count regions marks counts) where
   pub lent-kept : {nowMarks names : List ℕ} → Known C nowMarks names → Kept C boundaries tallies pairs starts names

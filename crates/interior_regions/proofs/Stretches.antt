@@ -5,9 +5,9 @@ use mathlib.Core.Path.{_≡_, refl, sym, ap, ap₂, subst, _∙_}
 use mathlib.Core.List.{List}
 use lib.ListN.{getD}
 use Rattle.definitions.specs.Context.{Context}
-use Rattle.ramp_interiors.specs.Proposals.{noPort, firstOf, secondOf, foundPorts}
-use Rattle.ramp_interiors.specs.declared.ports.Ports.{Ports}
-use Rattle.ramp_interiors.specs.declared.ports.Ports.the-variants as ports
+use Rattle.interior_proposals.specs.Proposals.{noPort, firstOf, secondOf, foundPorts}
+use Rattle.interior_proposals.specs.declared.ports.Ports.{Ports}
+use Rattle.interior_proposals.specs.declared.ports.Ports.the-variants as ports
 use Rattle.interior_regions.specs.Places.{interiorFits}
 use Rattle.interior_regions.specs.Marks.{Interiors, Stretched, EndOf}
 use Rattle.interior_regions.proofs.PlaceLaws.{starts-rise, place-readable, Spanned}

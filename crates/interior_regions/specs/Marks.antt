@@ -9,7 +9,7 @@ use Rattle.definitions.specs.Limits.{maxSide}
 use Rattle.definitions.specs.Scan.{anyBelow}
 use Rattle.definitions.specs.Context.{Context}
 use Rattle.laws.specs.FloatLaws.Pixels.{PixelContext}
-use Rattle.ramp_interiors.specs.Proposals.{foundPorts, Settled, Owning, FoundAll, recordsFit}
+use Rattle.interior_proposals.specs.Proposals.{foundPorts, Settled, Owning, FoundAll, recordsFit}
 use Rattle.interior_regions.specs.Places.{AllReadable, interiorFits}
 use Rattle.interior_regions.specs.declared.Interior.{Interior}
 

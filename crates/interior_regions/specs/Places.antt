@@ -10,7 +10,7 @@ use Rattle.definitions.specs.Scan.{anyBelow, allBelow}
 use Rattle.definitions.specs.RegionRecord.{hasRamp}
 use Rattle.definitions.specs.Context.{Context}
 use Rattle.definitions.specs.RampInteriors.{regionFits}
-use Rattle.ramp_interiors.specs.Owners.{entryAt}
+use Rattle.interior_proposals.specs.Owners.{entryAt}
 
 -- the region at place k
 abbrev pub regionAt : List ℕ → ℕ → ℕ

@@ -1,10 +1,10 @@
 // What pass 2, `collapse_ramp_interiors` of ramp_boundaries.rs, does for a component that is proposed, but for its records: the regions of its interior one by
 // one, and the marks of its edges.
-use ramp_interiors::components::name_components;
-use ramp_interiors::components::parent_of;
-use ramp_interiors::owners::find_owners;
-use ramp_interiors::proposals::NO_PORT;
-use ramp_interiors::proposals::propose_all;
+use interior_proposals::components::name_components;
+use interior_proposals::components::parent_of;
+use interior_proposals::owners::find_owners;
+use interior_proposals::proposals::NO_PORT;
+use interior_proposals::proposals::propose_all;
 ghost use mathlib.Core.Path.{_≡_};
 ghost use mathlib.Core.Bool.{false, _&&_, _||_};
 ghost use Prim.Native.Nat.{ℕ, _-_, _≤_, _<_, min, max};
@@ -14,7 +14,7 @@ ghost use Rattle.definitions.specs.Limits.{maxEntries};
 ghost use Rattle.definitions.specs.Context.{Context};
 ghost use mathlib.Core.List.{List};
 ghost use Rattle.laws.specs.FloatLaws.Pixels.{PixelContext};
-ghost use Rattle.ramp_interiors.specs.Given.{Lent, SomeLent};
+ghost use Rattle.interior_proposals.specs.Given.{Lent, SomeLent};
 ghost use Rattle.interior_regions.specs.Marks.{Interiors, SomeInteriors, Stretched, EndOf};
 ghost use Rattle.interior_regions.specs.Places.{regionAt, Readable, AllReadable, NextInside};
 

@@ -9,7 +9,7 @@ use Rattle.definitions.specs.Rows.{Row, rowsOf}
 use Rattle.definitions.specs.Verdict.{Lent, Answer, mapIn}
 use Rattle.definitions.specs.Cases.{threeCells, fourCells}
 use Rattle.definitions.specs.CaseJ.{mapJ, row, rowsJ}
-use Rattle.calls.specs.Contract.{Ran}
+use Rattle.call_partition.specs.Contract.{Ran}
 use Rattle.island_calls.specs.Outputs.{rowsHeld}
 use Rattle.island_calls.specs.RowsAtExit.{rows-held}
 

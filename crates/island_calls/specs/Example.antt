@@ -13,7 +13,7 @@ use Rattle.definitions.specs.CaseJ.{row}
 use Rattle.definitions.specs.Cases.{regionOfCounts}
 use Rattle.island.specs.Premises.{cutsIsland, rankOf, Alike, islandOnly}
 use Rattle.island.specs.Example as maps
-use Rattle.calls.specs.Contract.{Ran}
+use Rattle.call_partition.specs.Contract.{Ran}
 use Rattle.island_calls.specs.Outputs.{rowsHeld}
 use Rattle.island_calls.specs.RowsAtExit.{rows-held}
 use Rattle.island_calls.specs.Theorem.{island-outputs}

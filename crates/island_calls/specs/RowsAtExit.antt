@@ -19,7 +19,7 @@ use Rattle.laws.specs.ListLaws.Scans.{picked, any-picked}
 use Rattle.laws.specs.ListLaws.SortedMembers.{any-sort}
 use Rattle.laws.specs.SetLaws.Sets.{numbersBelow, member-below}
 use Rattle.laws.specs.TableLaws.AcceptedCalls.{accepted}
-use Rattle.calls.specs.Contract.{Ran}
+use Rattle.call_partition.specs.Contract.{Ran}
 use Rattle.island_calls.specs.Outputs.{rowsHeld, hasRow}
 
 -- "Success returns 0 and the count of rows kept"

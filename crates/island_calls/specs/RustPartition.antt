@@ -22,7 +22,7 @@ use Rattle.areas.specs.Answers.{answerOf}
 use Rattle.areas.specs.Contract as alone
 use Rattle.areas.proofs.Leaving.{Leaves}
 use Rattle.areas.proofs.Early.{spans-leave}
-use Rattle.calls.specs.Contract.{Ran}
+use Rattle.call_partition.specs.Contract.{Ran}
 use Rattle.rust_partition.specs.Literal.PartitionBySpans.{SpanPartition, partitionBySpans, talliesHeld, pairRowsHeld}
 use Rattle.rust_partition.specs.PartitionAsRust.{Grid, call-grid, partition-grid, rust-labels, rust-areas, rust-tallies, rust-pairs}
 

@@ -19,7 +19,7 @@ use Rattle.laws.specs.TableLaws.AcceptedCalls.{accepted}
 use Rattle.laws.specs.RustPasses.RampRows.{replaceRampMouths, collapseRampInteriors}
 use Rattle.laws.specs.RustPasses.JunctionRows.{removeJunctionBoundaries}
 use Rattle.laws.specs.RustPasses.Accepted.{accepted-mouths, accepted-interiors, accepted-junctions}
-use Rattle.calls.specs.Contract.{Ran}
+use Rattle.call_partition.specs.Contract.{Ran}
 use Rattle.island_calls.specs.Outputs.{rowsHeld}
 use Rattle.island_calls.specs.RowsAtExit.{rows-held}
 

@@ -17,7 +17,7 @@ use Rattle.definitions.specs.Verdict.{Lent, Answer, mapIn}
 use Rattle.island.specs.Premises.{Island, Alike, cutsIsland, rankOf, islandOnly}
 use Rattle.island.specs.Restrict.{cuts-lt}
 use Rattle.island.specs.Theorem.{island-rows, island-kept}
-use Rattle.calls.specs.Contract.{Ran}
+use Rattle.call_partition.specs.Contract.{Ran}
 use Rattle.island_calls.specs.Outputs.{rowsHeld, hasRow}
 use Rattle.island_calls.specs.RowsAtExit.{rows-held, row-kept}
 

@@ -12,14 +12,14 @@ use Rattle.definitions.specs.Rows.{Row}
 use Rattle.definitions.specs.Verdict.{Answer, mapIn}
 use Rattle.context.specs.declared.Region.{Region}
 use Rattle.context.specs.Records.{recordOf}
-use Rattle.calls.specs.Contract.{given}
+use Rattle.call_partition.specs.Contract.{given}
 use Rattle.rust_partition.specs.Literal.PartitionBySpans.{partitionBySpans}
 use Rattle.island.specs.Premises.{Alike, cutsIsland, rankOf, islandOnly}
 use Rattle.island_calls.specs.Outputs.{rowsHeld, hasRow}
 use Rattle.island_calls.specs.RustRows.{rustRows, call-rows}
 use Rattle.island_calls.specs.RustPartition.{AsRust, call-partition}
 use Rattle.island_calls.specs.Theorem.{island-outputs, island-kept-boundaries}
-use Rattle.topology.specs.Answers.{RanOver}
+use Rattle.topology.specs.Contract.{RanOver}
 
 -- what demand 3 says of the rows of two outputs, each of its own map
 pub record SameOnIsland (M M′ : Map) (isl : ℕ → Bool) (rows rows′ : List Row) : Type 0 where

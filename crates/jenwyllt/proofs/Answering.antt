@@ -8,7 +8,7 @@ use Rattle.areas.specs.Answers.{answerOf}
 use Rattle.areas.specs.Contract.{Ran}
 use Rattle.areas.specs.declared.Partitioned.{Partitioned}
 use Rattle.definitions.specs.Sheet.{Reading}
-use Rattle.sheet.specs.Answers.{Answered}
+use Rattle.sheet.specs.Contract.{Answered}
 use Rattle.sheet.specs.declared.Answer.{Answer as SheetAnswer}
 use Rattle.jenwyllt.specs.Contract.{answerIn, Partitions, sheetIn, Reads}
 use Rattle.jenwyllt.specs.declared.JenwylltAnswer.{JenwylltAnswer}

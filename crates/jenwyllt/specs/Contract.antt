@@ -6,7 +6,7 @@ use mathlib.Core.List.{List}
 use Rattle.definitions.specs.Verdict.{Lent, Answer, partitionVerdict}
 use Rattle.definitions.specs.AtExit.{partitionExit}
 use Rattle.definitions.specs.Sheet.{Reading, atExit}
-use Rattle.sheet.specs.Answers.{answerOf}
+use Rattle.sheet.specs.Contract.{answerOf}
 use Rattle.sheet.specs.declared.Answer.{Answer as SheetAnswer}
 use Rattle.sheet.specs.declared.Answer.the-variants.{Read, Refused}
 use Rattle.jenwyllt.specs.declared.JenwylltAnswer.{JenwylltAnswer}

@@ -13,8 +13,8 @@ use Rattle.definitions.specs.Context.{Context}
 use Rattle.laws.specs.FloatLaws.Pixels.{PixelRegion, PixelSegment}
 use Rattle.context.specs.declared.Region.{Region}
 use Rattle.context.specs.Records.{recordOf, Counted}
-use Rattle.junctions.specs.Unions.{markAt}
-use Rattle.junctions.specs.Rows.{rowAt, isAllowed, bridgeRegion}
+use Rattle.junction_proposals.specs.Unions.{markAt}
+use Rattle.junction_proposals.specs.Rows.{rowAt, isAllowed, bridgeRegion}
 use Rattle.junction_regions.specs.Tests.{isLocal, unionOf, bridgeOf}
 use Rattle.junction_regions.specs.Asked.{OnMap, Asked}
 

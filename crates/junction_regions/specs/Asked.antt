@@ -9,7 +9,7 @@ use Rattle.laws.specs.FloatLaws.Pixels.{PixelRegion, PixelContext}
 use Rattle.context.specs.declared.Region.{Region}
 use Rattle.context.specs.Records.{recordOf, Counted}
 use Rattle.context.specs.Shown.{ShownBoundaries, ShownAnchored}
-use Rattle.junctions.specs.Rows.{numbersPerProposal, rowAt, RowFits}
+use Rattle.junction_proposals.specs.Rows.{numbersPerProposal, rowAt, RowFits}
 
 -- the record of a region of a map
 pub record OnMap (s : def.Region) : Type 0 where

@@ -13,7 +13,7 @@ use Rattle.laws.specs.ListLaws.Lists.{All, done, more}
 use Rattle.laws.specs.ListLaws.Below.{below-none, below-ext}
 use Rattle.laws.specs.ListLaws.Scans.{any-picked}
 use Rattle.laws.specs.ListLaws.ScanSteps.{any-either, any-one}
-use Rattle.junctions.specs.Rows.{rowAt}
+use Rattle.junction_proposals.specs.Rows.{rowAt}
 use Rattle.junction_selection.specs.Ranks.{orderOf, reservesAt, conflictAt}
 
 -- ---- regions

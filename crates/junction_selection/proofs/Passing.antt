@@ -7,10 +7,10 @@ use lib.ListN.{getD}
 use Rattle.definitions.specs.Scan.{filter, member}
 use Rattle.definitions.specs.Context.{Context}
 use Rattle.definitions.specs.Junctions.{proposals, removed}
-use Rattle.junctions.specs.Lent.{Shows}
-use Rattle.junctions.specs.Rows.{rowAt, rowsOf, isAllowed}
+use Rattle.junction_proposals.specs.Lent.{Shows}
+use Rattle.junction_proposals.specs.Rows.{rowAt, rowsOf, isAllowed}
 use Rattle.junction_selection.specs.Taken.{removedAt}
-use Rattle.junctions.proofs.Proposing.{shows-own}
+use Rattle.junction_proposals.proofs.Proposing.{shows-own}
 use Rattle.junction_selection.proofs.Removing.{removed-is}
 use Rattle.junction_selection.proofs.ReservedPorts.{proposals-reserve}
 

@@ -15,12 +15,12 @@ use Rattle.laws.specs.ListLaws.Lists.{All, done}
 use Rattle.laws.specs.ListLaws.Below.{below-ext}
 use Rattle.laws.specs.OrderLaws.StableSort.{all-sort, map-sort}
 use Rattle.laws.specs.OrderLaws.Selection.{map-select}
-use Rattle.junctions.specs.Lent.{Shows}
-use Rattle.junctions.specs.Rows.{rowAt, rowsOf, isAllowed}
+use Rattle.junction_proposals.specs.Lent.{Shows}
+use Rattle.junction_proposals.specs.Rows.{rowAt, rowsOf, isAllowed}
 use Rattle.junction_selection.specs.Ranks.{keyAt, ranksAt, allowedOf, reservesAt, conflictAt}
 use Rattle.junction_selection.specs.Taken.{removedAt}
-use Rattle.junctions.proofs.UnionRows.{filter-only}
-use Rattle.junctions.proofs.Proposing.{collect-filter}
+use Rattle.junction_proposals.proofs.UnionRows.{filter-only}
+use Rattle.junction_proposals.proofs.Proposing.{collect-filter}
 
 -- ---- orders and conflicts that agree
 

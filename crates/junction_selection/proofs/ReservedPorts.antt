@@ -17,11 +17,11 @@ use Rattle.laws.specs.ListLaws.ScansOfAll.{collect-below}
 use Rattle.laws.specs.ListLaws.Options.{OnO, absent, present, on-only, on-cond, on-list}
 use Rattle.laws.specs.SetLaws.Sets.{numbersBelow, below-all, all-below}
 use Rattle.laws.specs.RustJunctions.FormedProposals.{full-all}
-use Rattle.junctions.specs.Lent.{Shows}
-use Rattle.junctions.specs.Ports.{names}
+use Rattle.junction_proposals.specs.Lent.{Shows}
+use Rattle.junction_proposals.specs.Ports.{names}
 use Rattle.junction_selection.specs.Ranks.{reservesAt}
-use Rattle.junctions.proofs.PortLaws.{full-incident, named-incident, names-is, walk-is, region-ports}
-use Rattle.junctions.proofs.UnionRows.{of-some}
+use Rattle.junction_proposals.proofs.PortLaws.{full-incident, named-incident, names-is, walk-is, region-ports}
+use Rattle.junction_proposals.proofs.UnionRows.{of-some}
 use Rattle.junction_selection.proofs.Removing.{Reserving}
 
 third-of : (a b c x n y w : Bool) → (a && b && c && x && n && y && w) ≡ true → c ≡ true

@@ -17,7 +17,7 @@ use Rattle.laws.specs.ListLaws.Below.{below-ext}
 use Rattle.laws.specs.ListLaws.Scans.{collect-ext}
 use Rattle.laws.specs.ListLaws.ScansOfAll.{collect-below}
 use Rattle.laws.specs.ListLaws.ScanSteps.{collect-next}
-use Rattle.junctions.specs.Rows.{rowAt}
+use Rattle.junction_proposals.specs.Rows.{rowAt}
 use Rattle.junction_selection.specs.Ranks.{orderOf, reservesAt, conflictAt, selectedOf, Rows}
 use Rattle.junction_selection.specs.Taken.{Standing}
 use Rattle.junction_selection.proofs.Conflicts.{removedBy, reservedBy, refused-is}

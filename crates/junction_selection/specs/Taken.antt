@@ -9,7 +9,7 @@ use Rattle.definitions.specs.Limits.{numbersPerBoundary}
 use Rattle.definitions.specs.Scan.{any}
 use Rattle.definitions.specs.Sort.{sort, select}
 use Rattle.definitions.specs.Junctions.{Proposal}
-use Rattle.junctions.specs.Rows.{maxProposals, numbersPerProposal, rowAt}
+use Rattle.junction_proposals.specs.Rows.{maxProposals, numbersPerProposal, rowAt}
 use Rattle.junction_selection.specs.Ranks.{ranksAt, orderOf, allowedOf, reservesAt, conflictAt, Rows}
 
 -- row p is whole, and there is a mark for each boundary

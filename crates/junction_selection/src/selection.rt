@@ -1,9 +1,9 @@
 // `select_proposals`: a proposal is taken unless it conflicts with one taken before.
 use crate::ranks::rank_proposals;
-use junctions::ports::names_region;
-use junctions::ports::wide;
-use junctions::proposals::MAX_PROPOSALS;
-use junctions::proposals::NUMBERS_PER_PROPOSAL;
+use junction_proposals::ports::names_region;
+use junction_proposals::ports::wide;
+use junction_proposals::proposals::MAX_PROPOSALS;
+use junction_proposals::proposals::NUMBERS_PER_PROPOSAL;
 ghost use mathlib.Core.Path.{_≡_};
 ghost use mathlib.Core.Bool.{false, _&&_, _||_, cond};
 ghost use mathlib.Core.List.{List, [], _∷_, _++_};
@@ -12,7 +12,7 @@ ghost use lib.ListN.{length, getD};
 ghost use lib.Dec.{eqb};
 ghost use Rattle.definitions.specs.Scan.{any, anyBelow};
 ghost use Rattle.definitions.specs.Junctions.{Proposal, regionConflict};
-ghost use Rattle.junctions.specs.Rows.{numbersPerProposal, rowAt};
+ghost use Rattle.junction_proposals.specs.Rows.{numbersPerProposal, rowAt};
 ghost use Rattle.junction_selection.specs.Ranks.{orderOf, reservesAt, conflictAt, selectedOf, Rows};
 ghost use Rattle.junction_selection.specs.Taken.{Within, Selecting, Standing, Judged, removedAt};
 

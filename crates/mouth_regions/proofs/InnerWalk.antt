@@ -17,13 +17,13 @@ use Rattle.context.specs.Shown.{pairAt, pairsBetween, ShownPairs}
 use Rattle.context.specs.Rows.{NamedRow}
 use Rattle.context.specs.ShownLaws.{shown-rows}
 use Rattle.context.proofs.Counting.{between-none, between-more}
-use Rattle.ramp_boundaries.specs.Rows.{innerOf}
+use Rattle.mouth_proposals.specs.Rows.{innerOf}
 use Rattle.mouth_regions.specs.Inner.{placesOf, regionAt, innerAt}
 use Rattle.mouth_regions.specs.Near.{cornerNear, regionNear}
-use Rattle.ramp_boundaries.specs.Candidates.{proposalOf, broad}
-use Rattle.ramp_boundaries.proofs.RowLists.{all-regions}
-use Rattle.ramp_boundaries.proofs.ShapeTests.{all-distinct}
-use Rattle.ramp_boundaries.proofs.ShapedMouths.{all-of-filter}
+use Rattle.mouth_proposals.specs.Candidates.{proposalOf, broad}
+use Rattle.mouth_proposals.proofs.RowLists.{all-regions}
+use Rattle.mouth_proposals.proofs.ShapeTests.{all-distinct}
+use Rattle.mouth_proposals.proofs.ShapedMouths.{all-of-filter}
 
 -- ---- row by row
 

@@ -1,6 +1,6 @@
 // The inner regions of a proposal, one by one: `inner-all` of proofs/InnerWalk.antt says that a walk over the places asks all of them.
-use ramp_boundaries::shapes::Pair;
-use ramp_boundaries::shapes::row_at;
+use mouth_proposals::shapes::Pair;
+use mouth_proposals::shapes::row_at;
 ghost use mathlib.Core.Path.{_≡_};
 ghost use mathlib.Core.Bool.{cond};
 ghost use Prim.Native.Nat.{_%_, _<_};

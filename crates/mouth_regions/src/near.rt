@@ -3,7 +3,7 @@ use context::Region;
 use geometry::Point;
 use geometry::points::center;
 use geometry::points::distance;
-use ramp_boundaries::measures::segment_of;
+use mouth_proposals::measures::segment_of;
 ghost use mathlib.Core.Path.{_≡_};
 ghost use Prim.Native.Nat.{_*_, _<_};
 ghost use Rattle.definitions.specs.Limits.{numbersPerBoundary};
@@ -15,7 +15,7 @@ ghost use Rattle.laws.specs.FloatLaws.DistanceRange.{DistanceInRange};
 ghost use Rattle.context.specs.Shown.{ShownBoundaries};
 ghost use Rattle.context.specs.Records.{recordOf};
 ghost use Rattle.geometry.specs.Forms.{pointForm};
-ghost use Rattle.ramp_boundaries.specs.Lent.{Placed};
+ghost use Rattle.mouth_proposals.specs.Lent.{Placed};
 ghost use Rattle.mouth_regions.specs.Near.{cornerNear, regionNear};
 
 const MAX_APPROACH_RADIUS: f64 = 512.0;

@@ -18,11 +18,11 @@ use Rattle.laws.specs.ListLaws.ListsAsSets.{any-addAll}
 use Rattle.laws.specs.NumberLaws.Comparisons.{le-or-lt}
 use Rattle.context.specs.Shown.{pairAt, pairsBetween}
 use Rattle.context.proofs.Counting.{between-none, between-more}
-use Rattle.ramp_boundaries.specs.Rows.{innerOf}
-use Rattle.ramp_boundaries.specs.Candidates.{triangular, proposalOf}
+use Rattle.mouth_proposals.specs.Rows.{innerOf}
+use Rattle.mouth_proposals.specs.Candidates.{triangular, proposalOf}
 use Rattle.mouth_selection.specs.Held.{held, isHeld, holdAt, markHeld, markInner, HeldMarks}
-use Rattle.ramp_boundaries.proofs.ApproachLaws.{Named}
-use Rattle.ramp_boundaries.proofs.Fitting.{all-named-regions}
+use Rattle.mouth_proposals.proofs.ApproachLaws.{Named}
+use Rattle.mouth_proposals.proofs.Fitting.{all-named-regions}
 
 -- ---- lengths, and one row more
 

@@ -12,11 +12,11 @@ use Rattle.definitions.specs.MouthShapes.{mouthShape}
 use Rattle.definitions.specs.Context.{Context, fullCut, fullPair, noRamp}
 use Rattle.definitions.specs.RampMouths.{MouthProposal, maxMouthDistance, retain, broadMouth, nearbyRepresentative, overlayRepresentative, shapedMouth, triangle, triangleOr, cornersNear, isLocal, mouthProposal, proposals}
 use Rattle.laws.specs.ListLaws.Lists.{filter-append}
-use Rattle.ramp_boundaries.specs.Candidates.{foundMouth, mouthCandidate, candidates}
+use Rattle.mouth_proposals.specs.Candidates.{foundMouth, mouthCandidate, candidates}
 use Rattle.mouth_selection.specs.Held.{held, HeldMarks}
-use Rattle.ramp_boundaries.specs.Lent.{Shows}
+use Rattle.mouth_proposals.specs.Lent.{Shows}
 use Rattle.mouth_selection.specs.Selecting.{Selects}
-use Rattle.ramp_boundaries.specs.Listed.{entryAt, Filled}
+use Rattle.mouth_proposals.specs.Listed.{entryAt, Filled}
 use Rattle.mouth_selection.specs.Entries.{nearEntries}
 
 module _ (C : Context) where

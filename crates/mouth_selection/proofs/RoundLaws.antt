@@ -14,10 +14,10 @@ use Rattle.definitions.specs.RampMouths.{MouthProposal, key, ranksBefore}
 use Rattle.laws.specs.ListLaws.Lists.{filter-append}
 use Rattle.laws.specs.ListLaws.ScanSteps.{collect-next}
 use Rattle.context.specs.Shown.{ShownBoundaries}
-use Rattle.ramp_boundaries.specs.Candidates.{proposalOf}
+use Rattle.mouth_proposals.specs.Candidates.{proposalOf}
 use Rattle.mouth_selection.specs.Held.{isRefused}
 use Rattle.mouth_selection.specs.Keys.{keyAt}
-use Rattle.ramp_boundaries.specs.Listed.{Listed, entryAt}
+use Rattle.mouth_proposals.specs.Listed.{Listed, entryAt}
 use Rattle.mouth_selection.specs.Entries.{entryIf, nearEntries}
 use Rattle.mouth_selection.specs.Rounds.{better, leastFrom, leastAmong, betterOf}
 use Rattle.mouth_selection.proofs.Greedy.{least-last}

@@ -21,11 +21,11 @@ use Rattle.laws.specs.OrderLaws.ListOrder.{eqb-sym}
 use Rattle.laws.specs.RustMouths.Triangles.{any-regions}
 use Rattle.laws.specs.ListLaws.Tests.{neither}
 use Rattle.context.specs.Shown.{ShownBoundaries}
-use Rattle.ramp_boundaries.specs.Candidates.{triangular, proposalOf}
+use Rattle.mouth_proposals.specs.Candidates.{triangular, proposalOf}
 use Rattle.mouth_selection.specs.Held.{held, isUsed, isHeld, isRefused, holdAt, markHeld, markInner, HeldMarks, sameEnd, endMark}
-use Rattle.ramp_boundaries.proofs.Distinct.{member-inner}
-use Rattle.ramp_boundaries.proofs.ApproachLaws.{Named}
-use Rattle.ramp_boundaries.proofs.Fitting.{all-named-regions}
+use Rattle.mouth_proposals.proofs.Distinct.{member-inner}
+use Rattle.mouth_proposals.proofs.ApproachLaws.{Named}
+use Rattle.mouth_proposals.proofs.Fitting.{all-named-regions}
 use Rattle.mouth_selection.proofs.Marks.{held-length}
 
 -- ---- what is left

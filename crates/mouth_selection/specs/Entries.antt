@@ -10,7 +10,7 @@ use Rattle.definitions.specs.Scan.{collect, onlyIf}
 use Rattle.definitions.specs.Context.{Context}
 use Rattle.definitions.specs.RampMouths.{MouthProposal}
 use Rattle.context.specs.Rows.{Stretch, NamedRow}
-use Rattle.ramp_boundaries.specs.Listed.{maxCandidates, entryAt}
+use Rattle.mouth_proposals.specs.Listed.{maxCandidates, entryAt}
 
 module _ (C : Context) (mouths ramps outers kinds : List ℕ) where
   -- those of the first n that are near

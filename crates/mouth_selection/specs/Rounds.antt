@@ -8,7 +8,7 @@ use Rattle.definitions.specs.Scan.{filter}
 use Rattle.definitions.specs.Context.{Context}
 use Rattle.definitions.specs.RampMouths.{MouthProposal, ranksBefore}
 use Rattle.mouth_selection.specs.Held.{isRefused}
-use Rattle.ramp_boundaries.specs.Listed.{entryAt}
+use Rattle.mouth_proposals.specs.Listed.{entryAt}
 
 module _ {A : Type 0} (lt : A → A → Bool) where
   -- of two elements that are level the earlier

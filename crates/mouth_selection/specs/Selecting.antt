@@ -9,7 +9,7 @@ use Rattle.definitions.specs.Context.{Context}
 use Rattle.definitions.specs.RampMouths.{removed}
 use Rattle.context.specs.Shown.{ShownBoundaries, ShownPairs}
 use Rattle.mouth_selection.specs.Held.{HeldMarks}
-use Rattle.ramp_boundaries.specs.Listed.{Listed}
+use Rattle.mouth_proposals.specs.Listed.{Listed}
 
 -- the pass removes boundary i
 abbrev pub isRemoved : Context → ℕ → Bool

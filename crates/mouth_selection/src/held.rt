@@ -1,8 +1,8 @@
 // Regions that taken proposals hold. Half of a region's mark says how: 2 where nothing else may name it, 1 where other mouths may lie outside it too, 0 where none
 // names it. The odd part says that the region is anchored, and stays.
-use ramp_boundaries::mouths::TRIANGULAR;
-use ramp_boundaries::shapes::Pair;
-use ramp_boundaries::shapes::row_at;
+use mouth_proposals::mouths::TRIANGULAR;
+use mouth_proposals::shapes::Pair;
+use mouth_proposals::shapes::row_at;
 ghost use mathlib.Core.Path.{_≡_};
 ghost use mathlib.Core.Bool.{not, _&&_, cond};
 ghost use mathlib.Core.List.{List, [], _∷_};
@@ -15,8 +15,8 @@ ghost use Rattle.definitions.specs.Context.{Context};
 ghost use Rattle.definitions.specs.RampMouths.{MouthProposal};
 ghost use Rattle.context.specs.Shown.{pairsBetween, ShownPairs};
 ghost use Rattle.context.specs.Rows.{Stretch, NamedRow};
-ghost use Rattle.ramp_boundaries.specs.Rows.{rowsOf};
-ghost use Rattle.ramp_boundaries.specs.Candidates.{triangular, proposalOf};
+ghost use Rattle.mouth_proposals.specs.Rows.{rowsOf};
+ghost use Rattle.mouth_proposals.specs.Candidates.{triangular, proposalOf};
 ghost use Rattle.mouth_selection.specs.Held.{holdAt, HeldMarks, isHeld, markHeld, markInner};
 
 // How a proposal of this kind holds the region outside.

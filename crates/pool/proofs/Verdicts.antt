@@ -24,7 +24,7 @@ use Rattle.pool_entries.specs.Steps.{blank, RecordsShown}
 use Rattle.pool_entries.proofs.Spreading.{entries-length}
 use Rattle.pool_entries.proofs.Showing.{entriesOf-length}
 use Rattle.pool.specs.declared.Pool.the-variants.{Maps, Refused}
-use Rattle.pool.specs.Answers.{listsRefusal, outputBy, Listed}
+use Rattle.pool.specs.Contract.{listsRefusal, outputBy, Listed}
 
 -- ---- the lists
 

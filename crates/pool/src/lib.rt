@@ -13,7 +13,7 @@ ghost use mathlib.Core.Option.{none};
 ghost use lib.ListN.{length};
 ghost use Rattle.catalogue.specs.Terms.{termsRefusal};
 ghost use Rattle.catalogue.specs.Pool.{poolVerdict, poolAtExit};
-ghost use Rattle.pool.specs.Answers.{date, answerOf, exported, refusalOf, listsRefusal, Listed};
+ghost use Rattle.pool.specs.Contract.{date, answerOf, exported, refusalOf, listsRefusal, Listed};
 
 const TERM_SIZE: usize = 7;
 

@@ -14,7 +14,7 @@ use Rattle.definitions.specs.Sort.{sort}
 use Rattle.laws.specs.ListLaws.SortedMembers.{any-sort}
 use Rattle.laws.specs.OrderLaws.ListOrder.{Three, less, same, over, three}
 use Rattle.catalogue.specs.Terms.{Days, termAt, daysOf, overlap}
-use Rattle.pool_terms.specs.Answers.{firstIn, endIn}
+use Rattle.pool_terms.specs.Contract.{firstIn, endIn}
 use Rattle.pool_faults.specs.Apart.{Apart, Precedes, positionIn, Positions, Following, AllApart}
 
 and-no : (b : Bool) → (b && false) ≡ false

@@ -15,7 +15,7 @@ use Rattle.definitions.specs.Refusals.{Refusal, firstBelow}
 use Rattle.laws.specs.ListLaws.Below.{below-none}
 use Rattle.laws.specs.ListLaws.NoFault.{found, none-at}
 use Rattle.catalogue.specs.Terms.{Days, termAt, daysOf, isEmpty, overlap, overlapsEarlier, termFault}
-use Rattle.pool_terms.specs.Answers.{sharing, firstIn, endIn}
+use Rattle.pool_terms.specs.Contract.{sharing, firstIn, endIn}
 use Rattle.pool_faults.specs.Apart.{Sound, Faultless, ApartTo}
 use Rattle.pool_faults.specs.Ends.{Latest}
 

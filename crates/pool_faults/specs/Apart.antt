@@ -8,7 +8,7 @@ use mathlib.Core.List.{List}
 use lib.ListN.{length, getD}
 use Rattle.definitions.specs.Refusals.{firstBelow}
 use Rattle.catalogue.specs.Terms.{Days, termAt, daysOf, termFault}
-use Rattle.pool_terms.specs.Answers.{sharing, firstIn, endIn}
+use Rattle.pool_terms.specs.Contract.{sharing, firstIn, endIn}
 use Rattle.pool_faults.specs.declared.apart.Taken.{Taken}
 use Rattle.pool_faults.specs.declared.apart.Taken.the-variants as taken
 

@@ -5,7 +5,7 @@ use mathlib.Core.Path.{_≡_}
 use mathlib.Core.List.{List}
 use lib.ListN.{length, getD}
 use Rattle.catalogue.specs.Terms.{termAt, daysOf}
-use Rattle.pool_terms.specs.Answers.{endIn}
+use Rattle.pool_terms.specs.Contract.{endIn}
 
 -- of the first i terms, none ends later than its slot says
 pub record Latest (terms : List ℕ) (i : ℕ) (ends : List ℕ) : Type 0 where

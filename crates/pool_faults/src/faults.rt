@@ -12,7 +12,7 @@ ghost use mathlib.Core.Option.{none};
 ghost use Prim.Native.Nat.{_+_, _*_, _%_, _≤_, _<_};
 ghost use lib.ListN.{length};
 ghost use Rattle.catalogue.specs.Terms.{numbersPerTerm, termAt, daysOf, termFault, termsRefusal};
-ghost use Rattle.pool_terms.specs.Answers.{refusalIn};
+ghost use Rattle.pool_terms.specs.Contract.{refusalIn};
 ghost use Rattle.pool_faults.specs.Ends.{Latest};
 ghost use Rattle.pool_faults.specs.Apart.{Sound, Faultless};
 

@@ -3,7 +3,7 @@ ghost use mathlib.Core.Path.{_≡_};
 ghost use mathlib.Core.Bool.{true};
 ghost use Prim.Native.Nat.{_≤_};
 ghost use Rattle.catalogue.specs.Dates.{isLeap, monthDays, isDay, daysBeforeMonth, dayNumber, dayOf, isLastEnd, endOf};
-ghost use Rattle.pool_terms.specs.Answers.{date, dayIn};
+ghost use Rattle.pool_terms.specs.Contract.{date, dayIn};
 
 const FIRST_YEAR: u64 = 2000;
 

@@ -6,7 +6,7 @@ ghost use mathlib.Core.Path.{_≡_};
 ghost use Prim.Native.Nat.{_+_, _*_, _≤_};
 ghost use lib.ListN.{length};
 ghost use Rattle.catalogue.specs.Terms.{numbersPerTerm, termAt, fromTo, daysOf, contains, overlapsEarlier, termFault};
-ghost use Rattle.pool_terms.specs.Answers.{dayIn, daysIn, firstIn, endIn, refusalIn, sharing};
+ghost use Rattle.pool_terms.specs.Contract.{dayIn, daysIn, firstIn, endIn, refusalIn, sharing};
 
 const TERM_SIZE: usize = 7;
 

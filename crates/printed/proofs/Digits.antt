@@ -11,7 +11,7 @@ use lib.ListN.{length, set, length-append, length-set}
 use lib.Seq.{sets}
 use Rattle.definitions.specs.Printed.{digits, decimal}
 use Rattle.laws.specs.ListLaws.Overwritten.{sets-append, sets-later}
-use Rattle.printed.specs.Answers.{mostDigits, Put}
+use Rattle.printed.specs.Contract.{mostDigits, Put}
 
 digits-last : (most n : ℕ) → n < 10 → digits (suc most) n ≡ (48 + n) ∷ []
 unfolding digits

@@ -12,7 +12,7 @@ use Rattle.definitions.specs.Scan.{concatMap}
 use Rattle.definitions.specs.Rows.{Row, flatRows}
 use Rattle.definitions.specs.Printed.{keptLine, rowLine}
 use Rattle.laws.specs.ListLaws.FlatRows.{flat-length, rowAt, rowsIn, rows-next, rows-of-flat}
-use Rattle.printed.specs.Answers.{rowRoom, Put, KeptPrinted}
+use Rattle.printed.specs.Contract.{rowRoom, Put, KeptPrinted}
 use Rattle.printed.proofs.Places.{put-then, printed}
 
 concat-last : (l : List Row) (r : Row) → concatMap rowLine (l ++ (r ∷ [])) ≡ concatMap rowLine l ++ rowLine r

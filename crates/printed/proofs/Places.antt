@@ -9,7 +9,7 @@ use lib.Seq.{sets, drop-cons}
 use Rattle.definitions.specs.Rows.{Row}
 use Rattle.definitions.specs.Printed.{text, decimal, rowLine}
 use Rattle.laws.specs.ListLaws.Overwritten.{sets-append, sets-overwrite}
-use Rattle.printed.specs.Answers.{Put, Printed}
+use Rattle.printed.specs.Contract.{Put, Printed}
 
 pub put-then : {old new new′ v w : List ℕ} {at next next′ : ℕ} → Put old at v new next → Put new next w new′ next′ → Put old at (v ++ w) new′ next′
 put-then {old} {new} {new′} {v} {w} {at} {next} P Q =

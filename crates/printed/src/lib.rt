@@ -7,7 +7,7 @@ ghost use Rattle.definitions.specs.Limits.{numbersPerRow};
 ghost use Rattle.definitions.specs.Scan.{concatMap};
 ghost use Rattle.definitions.specs.Printed.{text, decimal, refusedLine, rowLine};
 ghost use Rattle.laws.specs.ListLaws.FlatRows.{rowAt, rowsIn};
-ghost use Rattle.printed.specs.Answers.{mostDigits, rowRoom, lineRoom, Put, Printed, KeptPrinted};
+ghost use Rattle.printed.specs.Contract.{mostDigits, rowRoom, lineRoom, Put, Printed, KeptPrinted};
 
 const ROW_SIZE: usize = 5;
 

@@ -42,7 +42,7 @@ use Rattle.laws.specs.RustJunctions.Unions.{proposed}
 use Rattle.laws.specs.RustJunctions.UnionRegions.{unionPasses}
 use Rattle.laws.specs.RustJunctions.UnionRegions as unions
 use Rattle.hypotenuse.specs.declared.Answer as root
-use Rattle.hypotenuse.specs.Answers.{numberOf, valueOf, Allowed}
+use Rattle.hypotenuse.specs.Contract.{numberOf, valueOf, Allowed}
 use Rattle.hypotenuse.specs.RootNearest as nearest
 use Rattle.flood.specs.Walk.{directionAt}
 use Rattle.flood.specs.Inner.{placed, byteAt}
@@ -52,7 +52,7 @@ use Rattle.context.specs.Records.{recordOf}
 use Rattle.areas.specs.declared.Partitioned.{Partitioned}
 use Rattle.areas.specs.Answers.{answerOf}
 use Rattle.areas.specs.Contract as alone
-use Rattle.calls.specs.Contract.{given}
+use Rattle.call_partition.specs.Contract.{given}
 use Rattle.rust_partition.specs.Literal.PartitionBySpans.{partitionBySpans}
 use Rattle.island.specs.Premises.{Alike}
 use Rattle.island_calls.specs.Outputs.{rowsHeld}
@@ -66,7 +66,7 @@ use Rattle.ranked_list.specs.RankedAnswers.{RankedAnswer}
 use Rattle.ranked_list.specs.RankedLaws.{chosen}
 use Rattle.ranked_list.specs.RankedCalls.{rankedIn, Greedy}
 use Rattle.ranked_list.specs.RankedCalls as ranks
-use Rattle.topology.specs.Answers.{RanOver}
+use Rattle.topology.specs.Contract.{RanOver}
 use Rattle.topology.specs.Rest.{RestRanOver}
 use Rattle.topology.specs.Games.{PlayedOver}
 use Rattle.rest_definitions.specs.RowOrder.{startMap}
@@ -108,7 +108,7 @@ use Rattle.results.specs.ResultAnswers as answers
 use Rattle.results.specs.Shortest.{shortest}
 use Rattle.results.specs.Calls.{InMemory}
 use Rattle.results.specs.Calls as written
-use Rattle.sheet.specs.Answers.{answerNumber}
+use Rattle.sheet.specs.Contract.{answerNumber}
 use Rattle.sheet.specs.declared.Answer.{Answer as ReadAnswer}
 use Rattle.sheets_equal.specs.NumberBytes.{Bytes}
 use Rattle.sheets_equal.specs.NumberBytes as numbers
@@ -390,6 +390,7 @@ report-beyond = orders.beyond
 -- the mean is exact
 pub report-mean-exact : (accepted kept : ℕ) (m : Mean) → meanOf accepted kept ≡ some m → IsMean accepted kept m
 report-mean-exact = means.mean-exact
+
 -- ---- request 12: sheets without spans of their own
 
 -- "what it writes reads as itself": a call of the writer that met its contract and answered 0, with the boundaries' endpoints as spans

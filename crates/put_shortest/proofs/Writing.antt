@@ -9,7 +9,7 @@ use lib.ListN.{length, set, length-set}
 use lib.Seq.{sets}
 use Rattle.results.specs.Shortest.{shortestWithin, shortest}
 use Rattle.results.specs.ShortestSteps.{one-group, more-groups, some-groups}
-use Rattle.put_shortest.specs.Answers.{Put}
+use Rattle.put_shortest.specs.Contract.{Put}
 
 pub record Writing (old : List ℕ) (at n : ℕ) (new : List ℕ) (left place : ℕ) : Type 0 where
   pub fuel : ℕ

@@ -3,7 +3,7 @@ ghost use mathlib.Core.Path.{_≡_};
 ghost use Prim.Native.Nat.{_+_, _%_, _≤_, _<_};
 ghost use lib.ListN.{length};
 ghost use Rattle.results.specs.Shortest.{shortest};
-ghost use Rattle.put_shortest.specs.Answers.{Put};
+ghost use Rattle.put_shortest.specs.Contract.{Put};
 
 // The lowest group of a number, to be continued.
 fn continued(n: u64) -> u8

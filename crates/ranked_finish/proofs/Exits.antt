@@ -18,7 +18,7 @@ use Rattle.definitions.specs.Lists.{overwrite, zeroed}
 use Rattle.definitions.specs.Verdict.{Lent, mapIn, refusal, verdict}
 use Rattle.definitions.specs.AtExit.{complete, stageOf, recordsOf, labelsAtExit, scratchAtExit, talliesAtExit, pairsAtExit, recordsAtExit, exitWith, callExit}
 use Rattle.laws.specs.ListLaws.Lists.{length-run}
-use Rattle.calls.specs.Contract.{given, Ran}
+use Rattle.call_partition.specs.Contract.{given, Ran}
 use Rattle.ranked_list.specs.RankedList.{rankedOf, numbersPerRanked, flatRanked}
 use Rattle.ranked_list.specs.RankedAnswers.{RankedAnswer, rankedFault, rankedAfter, rankedVerdict, rankedStage, rankedExit, rankedListExit, RankedRan}
 use Rattle.ranked_finish.proofs.Numbers.{verdict-before}

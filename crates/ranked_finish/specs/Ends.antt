@@ -5,7 +5,7 @@ use mathlib.Core.Bool.{Bool}
 use mathlib.Core.List.{List}
 use lib.ListN.{length, take}
 use Rattle.definitions.specs.Lists.{overwrite, zeroed}
-use Rattle.views.specs.Finished.{Finished}
+use Rattle.pass_lists.specs.Finished.{Finished}
 use Rattle.ranked_list.specs.RankedList.{numbersPerRanked}
 use Rattle.ranked_list.specs.RankedAnswers as def
 use Rattle.ranked_finish.specs.declared.RankedAnswer.{RankedAnswer}

@@ -1,15 +1,15 @@
 // The end of the call that gives the ranked junction list, over plain lists: 21, or the rows kept and the list, once the proposals are counted and listed apart from
 // what was lent.
 use areas::clear::clear_numbers;
-use calls::scratch::clear_scratch;
+use call_partition::scratch::clear_scratch;
+use pass_lists::finish;
 use ranked_rows::NUMBERS_PER_RANKED;
-use views::finish;
 ghost use mathlib.Core.Path.{_≡_};
 ghost use Prim.Native.Nat.{_*_, _≤_};
 ghost use lib.ListN.{length, take};
 ghost use Rattle.definitions.specs.Lists.{overwrite, zeroed};
 ghost use Rattle.ranked_list.specs.RankedList.{numbersPerRanked};
-ghost use Rattle.views.specs.Finished.{Finishes};
+ghost use Rattle.pass_lists.specs.Finished.{Finishes};
 ghost use Rattle.ranked_finish.specs.Ends.{RankedRefused, RankedFinished};
 
 // The number is 0, the value how many rows are kept and there are so many proposals, or they are a refusal's number and place, and 0.

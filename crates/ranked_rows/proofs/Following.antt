@@ -13,8 +13,8 @@ use Rattle.definitions.specs.Scan.{collect}
 use Rattle.definitions.specs.Lists.{overwrite}
 use Rattle.definitions.specs.Junctions.{Proposal}
 use Rattle.laws.specs.ListLaws.Overwritten.{overwrite-more}
-use Rattle.junctions.specs.Bridges.{FirstFrom}
-use Rattle.junctions.specs.Rows.{rowAt}
+use Rattle.junction_proposals.specs.Bridges.{FirstFrom}
+use Rattle.junction_proposals.specs.Rows.{rowAt}
 use Rattle.junction_selection.specs.Ranks.{orderOf, conflictAt}
 use Rattle.ranked_list.specs.RankedList.{Listed, blocks, judged, judgedAfter, flatRanked}
 use Rattle.ranked_list.specs.RankedLaws.{row-at, judged-length}

@@ -11,7 +11,7 @@ use borrow.Author.Tests.{eq-eqb, ne-eqb}
 use Rattle.definitions.specs.Scan.{any, bit}
 use Rattle.definitions.specs.Junctions.{Proposal}
 use Rattle.laws.specs.ListLaws.Tests.{eqb-same}
-use Rattle.junctions.specs.Bridges.{FirstFrom}
+use Rattle.junction_proposals.specs.Bridges.{FirstFrom}
 use Rattle.ranked_list.specs.RankedList.{Listed, firstPlace, blocks, judged, judgedAfter, flatRanked}
 use Rattle.ranked_rows.specs.Contract.{rankedRow}
 

@@ -9,10 +9,10 @@ use Rattle.definitions.specs.Scan.{any, filter}
 use Rattle.definitions.specs.Context.{Context}
 use Rattle.definitions.specs.Junctions.{conflict, proposals, ranked}
 use Rattle.laws.specs.ListLaws.Lists.{All, done, more, all-append}
-use Rattle.junctions.specs.Lent.{Shows}
-use Rattle.junctions.specs.Rows.{rowAt, rowsOf, isAllowed}
+use Rattle.junction_proposals.specs.Lent.{Shows}
+use Rattle.junction_proposals.specs.Rows.{rowAt, rowsOf, isAllowed}
 use Rattle.junction_selection.specs.Ranks.{conflictAt}
-use Rattle.junctions.proofs.Proposing.{shows-own}
+use Rattle.junction_proposals.proofs.Proposing.{shows-own}
 use Rattle.junction_selection.proofs.Removing.{conflict-is, ranked-is, all-ranked, Reserving}
 use Rattle.junction_selection.proofs.ReservedPorts.{proposals-reserve}
 use Rattle.ranked_list.specs.RankedList.{Listed, firstPlace, blocks, judged, judgedAfter, rankedRows}

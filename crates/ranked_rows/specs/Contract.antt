@@ -11,7 +11,7 @@ use Rattle.definitions.specs.Scan.{bit}
 use Rattle.definitions.specs.Sort.{sort}
 use Rattle.definitions.specs.Lists.{overwrite}
 use Rattle.definitions.specs.Junctions.{Proposal}
-use Rattle.junctions.specs.Rows.{maxProposals, numbersPerProposal, rowAt}
+use Rattle.junction_proposals.specs.Rows.{maxProposals, numbersPerProposal, rowAt}
 use Rattle.junction_selection.specs.Ranks.{ranksAt, allowedOf, orderOf, conflictAt, Rows}
 use Rattle.ranked_list.specs.RankedList.{Listed, judgedAfter, numbersPerRanked, flatRanked}
 

@@ -1,10 +1,10 @@
 // The rows of the ranked junction list, from the proposals of pass 3 that the records of their regions allow, over plain lists.
+use junction_proposals::ports::wide;
+use junction_proposals::proposals::MAX_PROPOSALS;
+use junction_proposals::proposals::NUMBERS_PER_PROPOSAL;
 use junction_selection::ranks::rank_proposals;
 use junction_selection::selection::region_conflict;
 use junction_selection::selection::reserves;
-use junctions::ports::wide;
-use junctions::proposals::MAX_PROPOSALS;
-use junctions::proposals::NUMBERS_PER_PROPOSAL;
 ghost use mathlib.Core.Path.{_≡_};
 ghost use mathlib.Core.Bool.{_&&_, cond};
 ghost use mathlib.Core.List.{List, [], _∷_, _++_};
@@ -15,8 +15,8 @@ ghost use lib.Dec.{eqb};
 ghost use Rattle.definitions.specs.Scan.{anyBelow, bit};
 ghost use Rattle.definitions.specs.Lists.{overwrite};
 ghost use Rattle.definitions.specs.Junctions.{Proposal};
-ghost use Rattle.junctions.specs.Bridges.{FirstFrom};
-ghost use Rattle.junctions.specs.Rows.{numbersPerProposal, rowAt};
+ghost use Rattle.junction_proposals.specs.Bridges.{FirstFrom};
+ghost use Rattle.junction_proposals.specs.Rows.{numbersPerProposal, rowAt};
 ghost use Rattle.junction_selection.specs.Ranks.{reservesAt, conflictAt, orderOf, Rows};
 ghost use Rattle.ranked_list.specs.RankedList.{numbersPerRanked, flatRanked};
 ghost use Rattle.ranked_rows.specs.Contract.{TwoRows, Listing, RankOf, Allowed, blocksAt, rankedRow, Following, listedFrom, allowedList};

@@ -21,7 +21,7 @@ use Rattle.definitions.specs.AtExit.{recordsOf, callExit, exitWith, stageOf}
 use Rattle.laws.specs.ListLaws.Lists.{length-run}
 use Rattle.laws.specs.ListLaws.Below.{count-ext}
 use Rattle.laws.specs.RegionLaws.Regions.{label-range, label-blocked}
-use Rattle.calls.specs.Contract.{Ran}
+use Rattle.call_partition.specs.Contract.{Ran}
 use Rattle.record_sums.specs.Totals.{total, walkableCells, walkableRampCells, AddUp}
 use Rattle.record_sums.specs.ByLabel.{sumBelow, sum-first, count-by-label}
 

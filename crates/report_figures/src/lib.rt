@@ -1,6 +1,6 @@
 // The year's figures (document 02, request 13) by value: what the rows of an accepted run add, a report with a run more, and the mean of a pass.
-pub mod calls;
-pub mod rows;
+pub mod call_figures;
+pub mod row_lengths;
 pub mod sums;
 
 ghost use mathlib.Core.Path.{_≡_};

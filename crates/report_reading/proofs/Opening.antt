@@ -9,7 +9,7 @@ use lib.Dec.{ltb}
 use borrow.Author.Tests.{ltb-true, ltb-false, lt-ltb, le-ltb}
 use Rattle.definitions.specs.Sheet.{Reading, wellFormed, refused, keptlistCellLimit}
 use Rattle.definitions.specs.Printed.{maxSheetBytes}
-use Rattle.sheet.specs.Answers.{answerOf, readingWithin, Answered}
+use Rattle.sheet.specs.Contract.{answerOf, readingWithin, Answered}
 use Rattle.sheet.specs.declared.Header.{Header}
 use Rattle.sheet.specs.declared.Answer.{Answer}
 use Rattle.sheet.specs.declared.Answer.the-variants.{Read, Refused}

@@ -7,7 +7,7 @@ use lib.ListN.{length}
 use lib.Dec.{ltb}
 use Rattle.definitions.specs.Sheet.{Reading, wellFormed, refused, atExit, keptlistCellLimit}
 use Rattle.definitions.specs.Printed.{maxSheetBytes}
-use Rattle.sheet.specs.Answers.{answerOf, readingWithin}
+use Rattle.sheet.specs.Contract.{answerOf, readingWithin}
 use Rattle.sheet.specs.declared.Header.{Header}
 use Rattle.sheet.specs.declared.Answer.{Answer}
 use Rattle.sheet.specs.declared.Answer.the-variants.{Read, Refused}

@@ -13,14 +13,14 @@ use Rattle.definitions.specs.Sheet.{Reading, wellFormed, refused, keptlistCellL
 use Rattle.definitions.specs.Verdict as verdict
 use Rattle.definitions.specs.Printed.{maxSheetBytes, lentFor}
 use Rattle.laws.specs.SheetReading.SheetSizes.{room-enough}
-use Rattle.calls.specs.Contract.{given, Ran}
-use Rattle.topology.specs.Answers.{answerOf as call-says}
+use Rattle.call_partition.specs.Contract.{given, Ran}
+use Rattle.topology.specs.Contract.{answerOf as call-says}
 use Rattle.topology.specs.declared.Answer as call
-use Rattle.sheet.specs.Answers.{Answered, readingWithin, answerOf as sheet-says}
+use Rattle.sheet.specs.Contract.{Answered, readingWithin, answerOf as sheet-says}
 use Rattle.sheet.specs.declared.Header.{Header}
 use Rattle.sheet.specs.declared.Answer.{Answer}
 use Rattle.sheet.specs.declared.Answer.the-variants.{Read, Refused}
-use Rattle.sheet_answer.specs.Answers.{ListsLong, keptlistReading, sheetFrom, sheetIn, SheetHeld}
+use Rattle.sheet_answer.specs.Contract.{ListsLong, keptlistReading, sheetFrom, sheetIn, SheetHeld}
 use Rattle.sheet_answer.proofs.BeforeCall.{begun-read}
 use Rattle.sheet_answer.proofs.Whole.{SheetRead, begun-ready}
 use Rattle.report.specs.Runs.{readingRun, sheetReading, sheetRun}

@@ -1,20 +1,20 @@
 // A sheet that is read and run as `keptlist` does it, and added to a report (document 02, request 13). The lists that are lent to the call are local arrays of
 // zeros.
 ghost use Rattle.definitions.specs.Sheet.{wellFormed, refused};
-ghost use Rattle.sheet_answer.specs.Answers.{sheetFrom, sheetIn, SheetHeld};
+ghost use Rattle.sheet_answer.specs.Contract.{sheetFrom, sheetIn, SheetHeld};
 ghost use Rattle.report.specs.Runs.{sheetReading};
 ghost use Rattle.report_figures.specs.Forms.{reportForm};
 ghost use Rattle.report_sheets.specs.Contract.{AddedReading, SheetReported};
 use report_figures::Report;
 use report_figures::Reported;
-use report_figures::calls::answered;
-use report_figures::calls::beyond;
-use report_figures::calls::has_room;
+use report_figures::call_figures::answered;
+use report_figures::call_figures::beyond;
+use report_figures::call_figures::has_room;
 use report_figures::sums::with_refused;
 use report_reading::read_limited;
 use sheet::Answer;
 use sheet::Header;
-use topology::here::kept_boundaries_here;
+use topology::own_records::kept_boundaries_here;
 
 const REGIONS_MOST: usize = 512;
 

@@ -29,11 +29,11 @@ use Rattle.areas.specs.Fit.{Fit}
 use Rattle.areas.proofs.Leaving.{Leaves, leaves-or, leaves-refusal}
 use Rattle.areas.proofs.Early.{spans-leave}
 use Rattle.areas.proofs.FirstRefusal.{first-joined}
-use Rattle.calls.specs.Contract.{given, Ran}
-use Rattle.calls.specs.Early.{sizesRefusal, entriesRefusal, hasRoom}
-use Rattle.calls.specs.declared.Prepared.{Prepared}
-use Rattle.calls.specs.declared.Prepared.the-variants.{Refused, Ready}
-use Rattle.calls.specs.Prepared.{PreparedAs, DividedAs, RefusedLate}
+use Rattle.call_partition.specs.Contract.{given, Ran}
+use Rattle.call_partition.specs.Early.{sizesRefusal, entriesRefusal, hasRoom}
+use Rattle.call_partition.specs.declared.Prepared.{Prepared}
+use Rattle.call_partition.specs.declared.Prepared.the-variants.{Refused, Ready}
+use Rattle.call_partition.specs.Prepared.{PreparedAs, DividedAs, RefusedLate}
 use Rattle.rest_definitions.specs.RowOrder.{startMap}
 use Rattle.rest_definitions.specs.Rest.{keptMap, restRows, roundsOf, lastMap}
 use Rattle.rest_definitions.specs.RestVerdict.{RestAnswer, listsFault, withRounds, restVerdict}

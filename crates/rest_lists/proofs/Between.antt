@@ -19,7 +19,7 @@ use Rattle.laws.specs.ListLaws.Lists.{length-run}
 use Rattle.laws.specs.ListLaws.Overwritten.{overwrite-twice}
 use Rattle.laws.specs.RegionLaws.Regions.{labels-length}
 use Rattle.laws.specs.TableLaws.KeptRows.{boundary-count}
-use Rattle.calls.specs.Early.{earlyRefusal}
+use Rattle.call_partition.specs.Early.{earlyRefusal}
 use Rattle.rest_definitions.specs.RowOrder.{mapWith, startMap}
 use Rattle.rest_definitions.specs.Rest.{keptMap, passed}
 use Rattle.rest.specs.Clearing.{beyond-stays}

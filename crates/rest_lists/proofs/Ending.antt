@@ -20,7 +20,7 @@ use Rattle.definitions.specs.Verdict.{Lent, mapIn, refusal, firstRefusal, recor
 use Rattle.laws.specs.ListLaws.Lists.{all-map}
 use Rattle.laws.specs.ListLaws.Tests.{both}
 use Rattle.areas.specs.Fit.{Fit}
-use Rattle.calls.proofs.EarlyFits.{early-fits}
+use Rattle.call_partition.proofs.EarlyFits.{early-fits}
 use Rattle.rest_definitions.specs.RowOrder.{startRows, noRow, startMap}
 use Rattle.rest_definitions.specs.Rest.{rested, restRows, roundsOf, lastMap}
 use Rattle.rest_definitions.specs.RestVerdict.{RestAnswer, withRounds, restVerdict}

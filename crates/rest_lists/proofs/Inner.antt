@@ -22,11 +22,11 @@ use Rattle.laws.specs.ListLaws.NoFault.{no-fault}
 use Rattle.laws.specs.ListLaws.Tests.{both}
 use Rattle.areas.specs.Fit.{Fit}
 use Rattle.areas.proofs.Chain.{next}
-use Rattle.calls.specs.declared.Prepared.{Prepared}
-use Rattle.calls.specs.declared.Prepared.the-variants.{Refused, Ready}
-use Rattle.calls.specs.Early.{sizesRefusal, entriesRefusal, earlyRefusal}
-use Rattle.calls.specs.Prepared.{PreparedAs, DividedAs, RefusedLate}
-use Rattle.calls.proofs.EarlyFits.{early-fits}
+use Rattle.call_partition.specs.declared.Prepared.{Prepared}
+use Rattle.call_partition.specs.declared.Prepared.the-variants.{Refused, Ready}
+use Rattle.call_partition.specs.Early.{sizesRefusal, entriesRefusal, earlyRefusal}
+use Rattle.call_partition.specs.Prepared.{PreparedAs, DividedAs, RefusedLate}
+use Rattle.call_partition.proofs.EarlyFits.{early-fits}
 use Rattle.rest_definitions.specs.RowOrder.{startMap}
 use Rattle.rest_definitions.specs.Rest.{keptMap, passed}
 use Rattle.rest.specs.FewerPairs.{Reached, begun}
@@ -160,9 +160,9 @@ module _ {w h : ℕ} {cells anchors : List ℕ} {O : Origin} {s : List Region} {
           let n : 1 ≤ number = subst RefusedLate e late in
           let ran = subst (λ r. PreparedAs 1 w h cells (flatSpans (keptOf M places .spans)) (flatBoundaries (keptOf M places .boundaries)) anchors room rowsLong l m q t₀ p₀ r l′ m′ q′ t′ p′) e prepared s rowsOut (D .roomy) rows-out in
           let zero-is : number ≡ 0 =
-              ap (λ (a : Answer). a .number)
-              (ran .answer
-              ∙ inner-verdict L (D .accepted .checked) 1 refl places (D .reached) l m q t₀ p₀ s rowsOut (D .labels) (D .masks) (D .queue) t-long p-long refl (omega (arith, rows-out)) (D .accepted .records) (D .accepted .pairs)) in
+          ap (λ (a : Answer). a .number)
+          (ran .answer
+          ∙ inner-verdict L (D .accepted .checked) 1 refl places (D .reached) l m q t₀ p₀ s rowsOut (D .labels) (D .masks) (D .queue) t-long p-long refl (omega (arith, rows-out)) (D .accepted .records) (D .accepted .pairs)) in
           omega (arith, n, zero-is)
 
       pub redivided : {regions rows : ℕ} → r ≡ Ready regions rows

@@ -5,9 +5,9 @@ use mathlib.Core.List.{List}
 use lib.ListN.{length}
 use Rattle.definitions.specs.Grid.{mapOf}
 use Rattle.definitions.specs.RegionRecord.{Region}
-use Rattle.calls.specs.declared.Prepared.{Prepared}
-use Rattle.calls.specs.declared.Prepared.the-variants.{Refused, Ready}
-use Rattle.calls.specs.Contract.{given}
+use Rattle.call_partition.specs.declared.Prepared.{Prepared}
+use Rattle.call_partition.specs.declared.Prepared.the-variants.{Refused, Ready}
+use Rattle.call_partition.specs.Contract.{given}
 use Rattle.rest_definitions.specs.RowOrder.{startMap}
 use Rattle.rest.specs.InnerCalls.{RestAccepted}
 use Rattle.rest.specs.RestCalls.{RestRan}

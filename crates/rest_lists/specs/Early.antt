@@ -9,7 +9,7 @@ use Rattle.definitions.specs.Limits.{numbersPerSpan, numbersPerBoundary}
 use Rattle.definitions.specs.Grid.{segmentAt}
 use Rattle.definitions.specs.Refusals.{Refusal, orElse, unless}
 use Rattle.definitions.specs.Verdict.{refusal}
-use Rattle.calls.specs.Early.{sizesRefusal, entriesRefusal, hasRoom}
+use Rattle.call_partition.specs.Early.{sizesRefusal, entriesRefusal, hasRoom}
 use Rattle.rest_definitions.specs.RestVerdict.{samePoint, listsFault}
 
 -- both lists have an entry i, with the same endpoints as written

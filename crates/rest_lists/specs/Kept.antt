@@ -11,8 +11,8 @@ use Rattle.definitions.specs.RegionRecord.{Region}
 use Rattle.definitions.specs.Context.{contextOf}
 use Rattle.definitions.specs.Lists.{zeroed}
 use Rattle.definitions.specs.Verdict.{Lent, mapIn, pairRowsOf}
-use Rattle.calls.specs.Contract.{given}
-use Rattle.calls.specs.Prepared.{ReadyAs}
+use Rattle.call_partition.specs.Contract.{given}
+use Rattle.call_partition.specs.Prepared.{ReadyAs}
 use Rattle.rest_definitions.specs.RowOrder.{startRows, noRow, startMap}
 use Rattle.rest_definitions.specs.Rest.{keptMap}
 use Rattle.rest.specs.FewerPairs.{Reached}

@@ -2,8 +2,8 @@
 use crate::checked::rest_checks;
 use crate::start::start_lists;
 use areas::checked::Check;
-use calls::Prepared;
-use calls::divide;
+use call_partition::Prepared;
+use call_partition::divide;
 use checks::limits::NUMBERS_PER_BOUNDARY;
 use checks::limits::NUMBERS_PER_SPAN;
 ghost use Prim.Native.Nat.{_≤_};

@@ -1,9 +1,9 @@
 // The checks of a run to rest before its first pass, in their order: 1 to 3, 16, and 5 to 10.
 use crate::lists::lists_fault;
 use areas::checked::Check;
-use calls::checked::check_entries;
-use calls::checked::check_room;
-use calls::checked::check_sizes;
+use call_partition::checked::check_entries;
+use call_partition::checked::check_room;
+use call_partition::checked::check_sizes;
 use checks::Fault;
 use checks::limits::NUMBERS_PER_BOUNDARY;
 use checks::limits::NUMBERS_PER_SPAN;

@@ -7,7 +7,7 @@ ghost use mathlib.Core.Bool.{_&&_};
 ghost use Prim.Native.Nat.{_+_, _<_, max};
 ghost use lib.ListN.{length};
 ghost use Rattle.definitions.specs.Grid.{segmentAt};
-ghost use Rattle.checks.specs.Answers.{placeOf};
+ghost use Rattle.checks.specs.Contract.{placeOf};
 ghost use Rattle.rest_definitions.specs.RestVerdict.{samePoint, listsFault};
 ghost use Rattle.rest_lists.specs.Early.{agreesAt};
 

@@ -13,7 +13,7 @@ use Rattle.definitions.specs.Limits.{numbersPerPair, numbersPerRow}
 use Rattle.laws.specs.ListLaws.Overwritten.{sets-overwrite}
 use Rattle.results.specs.Result.{Result, turns, labelsFault, ascentFault, pairKey, rowKey, rulesFault}
 use Rattle.results.specs.ResultAnswers.{entriesIn, placed, isFinished, resultBytes, writeVerdict, Writes}
-use Rattle.put_shortest.specs.Answers.{Put}
+use Rattle.put_shortest.specs.Contract.{Put}
 
 -- ---- the rules
 

@@ -12,7 +12,7 @@ use Rattle.results.specs.Shortest.{shortest, listBytes}
 use Rattle.results.specs.Result.{Result}
 use Rattle.results.specs.ResultAnswers.{resultBytes}
 use Rattle.definitions.specs.Limits.{talliesPerSpan, numbersPerPair, numbersPerRow}
-use Rattle.put_shortest.specs.Answers.{Put}
+use Rattle.put_shortest.specs.Contract.{Put}
 use Rattle.result_writer.proofs.Spending.{next-length}
 
 pub put-then : {old new new′ v w : List ℕ} {at next next′ : ℕ} → Put old at v new next → Put new next w new′ next′ → Put old at (v ++ w) new′ next′

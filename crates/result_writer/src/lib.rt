@@ -13,7 +13,7 @@ ghost use Rattle.definitions.specs.Sort.{listLt};
 ghost use Rattle.results.specs.Shortest.{shortest, listBytes};
 ghost use Rattle.results.specs.Result.{turns, labelsFault, ascentFault, pairKey, rowKey, rulesFault};
 ghost use Rattle.results.specs.ResultAnswers.{entriesIn, placed, resultBytes, Writes};
-ghost use Rattle.put_shortest.specs.Answers.{Put};
+ghost use Rattle.put_shortest.specs.Contract.{Put};
 ghost use Rattle.result_writer.specs.Contract.{turnOf, pairAt, rowAt, Neighbours, spent, resultIn, answerIn};
 use put_shortest::put_shortest;
 

@@ -25,7 +25,7 @@ use Rattle.laws.specs.ListLaws.Lists.{All}
 use Rattle.laws.specs.ListLaws.FlatRows.{flat-length}
 use Rattle.laws.specs.TableLaws.AcceptedCalls.{accepted-count}
 use Rattle.laws.specs.RegionLaws.Regions.{labels-length}
-use Rattle.calls.specs.Contract.{Ran}
+use Rattle.call_partition.specs.Contract.{Ran}
 use Rattle.results.specs.Result.{Result, rulesFault}
 use Rattle.results.specs.ResultAnswers.{wellFormed, readResult, resultBytes, placed, isFinished, writeVerdict, writtenAtExit, Writes}
 use Rattle.results.specs.Calls.{InMemory, written-call}

@@ -19,7 +19,7 @@ use checks::sizes::is_whole;
 use checks::sizes::sides_fit;
 use exact_squares::exact_square;
 use geometry::Segment;
-use geometry::ramp_boundaries::segment_distance;
+use geometry::ramp_geometry::segment_distance;
 use span_geometry::PixelPosition;
 
 const NUMBERS_PER_SEPARATION: usize = 5;

@@ -15,7 +15,7 @@ use Rattle.laws.specs.ListLaws.Tests.{both}
 use Rattle.laws.specs.SheetReading.Endpoints.{endpoints-long, endpoints-same}
 use Rattle.sheet.specs.Numbers.{Held}
 use Rattle.sheet.specs.Parts.{partOf, cellsIn, sheetOf, PartsHeld, SheetHeld, statedLong, roomIn, Room}
-use Rattle.sheet.specs.Answers.{headerOf, headerIn, Answered, readingWithin}
+use Rattle.sheet.specs.Contract.{headerOf, headerIn, Answered, readingWithin}
 use Rattle.sheet.specs.declared.Part.{Part}
 use Rattle.sheet.specs.declared.Parts.{Parts}
 use Rattle.sheet.specs.declared.Plan.{Plan}

@@ -14,7 +14,7 @@ ghost use Rattle.definitions.specs.Sheet.{cell, entries, isMapKind, hasSpans, s
 ghost use Rattle.sheet.specs.Numbers.{numberOf, upTo, itemOf, itemsAt, Told, ShortTold, Held, valuesAt};
 ghost use Rattle.sheet.specs.Parts as parts;
 ghost use Rattle.sheet.specs.Parts.{openingOf, SidesTold, PartTold, ListsTold, SheetTold, PartsHeld, partOf, cellsIn, statedLong, roomIn, Room};
-ghost use Rattle.sheet.specs.Answers.{headerIn, Answered, readingWithin};
+ghost use Rattle.sheet.specs.Contract.{headerIn, Answered, readingWithin};
 
 // ---- one number
 

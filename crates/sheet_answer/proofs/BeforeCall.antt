@@ -7,12 +7,12 @@ use lib.ListN.{length}
 use borrow.Author.Tests.{lt-ltb, le-ltb}
 use Rattle.definitions.specs.Sheet.{Reading, wellFormed, refused, keptlistCellLimit}
 use Rattle.definitions.specs.Printed.{maxSheetBytes, refusedLine}
-use Rattle.sheet.specs.Answers.{Answered, readingWithin}
+use Rattle.sheet.specs.Contract.{Answered, readingWithin}
 use Rattle.sheet.specs.declared.Header.{Header}
 use Rattle.sheet.specs.declared.Answer.{Answer}
 use Rattle.sheet.specs.declared.Answer.the-variants.{Read, Refused}
-use Rattle.printed.specs.Answers.{Printed}
-use Rattle.sheet_answer.specs.Answers.{keptlistReading, ListsLong, Begun}
+use Rattle.printed.specs.Contract.{Printed}
+use Rattle.sheet_answer.specs.Contract.{keptlistReading, ListsLong, Begun}
 use Rattle.sheet_answer.specs.declared.Before.the-variants.{Printed as WasPrinted, Ready}
 use Rattle.laws.specs.SheetReading.SheetSizes.{room-enough}
 

@@ -8,11 +8,11 @@ use Rattle.definitions.specs.RegionRecord.{Region, emptyRegion}
 use Rattle.definitions.specs.Sheet.{wellFormed}
 use Rattle.definitions.specs.Verdict as verdict
 use Rattle.definitions.specs.Printed.{lentFor, printedReading}
-use Rattle.printed.specs.Answers.{Printed}
-use Rattle.calls.specs.Contract.{given, Ran}
-use Rattle.topology.specs.Answers.{answerOf}
+use Rattle.printed.specs.Contract.{Printed}
+use Rattle.call_partition.specs.Contract.{given, Ran}
+use Rattle.topology.specs.Contract.{answerOf}
 use Rattle.topology.specs.declared.Answer.{Answer}
-use Rattle.sheet_answer.specs.Answers.{RowsFit, AnswerPrinted, sheetFrom}
+use Rattle.sheet_answer.specs.Contract.{RowsFit, AnswerPrinted, sheetFrom}
 use Rattle.sheet_answer.proofs.Whole.{sheet-fits, sheet-printed}
 
 -- what the program lends for a sheet of these parts, as lists of zeros

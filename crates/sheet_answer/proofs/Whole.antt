@@ -20,10 +20,10 @@ use Rattle.laws.specs.ListLaws.FlatRows.{flat-length}
 use Rattle.laws.specs.SheetReading.SheetSizes.{Sized, sized}
 use Rattle.laws.specs.TableLaws.AcceptedCalls.{accepted-count}
 use Rattle.laws.specs.TableLaws.KeptRows.{boundary-count, rows-have-room}
-use Rattle.sheet.specs.Answers.{headerOf}
+use Rattle.sheet.specs.Contract.{headerOf}
 use Rattle.sheet.specs.declared.Header.{Header}
-use Rattle.printed.specs.Answers.{Printed}
-use Rattle.sheet_answer.specs.Answers.{keptlistReading, Begun, RowsFit, AnswerPrinted, sheetFrom, sheetIn, Inside, SheetHeld}
+use Rattle.printed.specs.Contract.{Printed}
+use Rattle.sheet_answer.specs.Contract.{keptlistReading, Begun, RowsFit, AnswerPrinted, sheetFrom, sheetIn, Inside, SheetHeld}
 use Rattle.sheet_answer.specs.declared.Before.{Before}
 use Rattle.sheet_answer.specs.declared.Before.the-variants.{Printed as WasPrinted, Ready}
 

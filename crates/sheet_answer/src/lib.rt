@@ -5,14 +5,14 @@ ghost use Prim.Native.Nat.{_≤_};
 ghost use lib.ListN.{length};
 ghost use Rattle.definitions.specs.Sheet.{wellFormed};
 ghost use Rattle.definitions.specs.Printed as printing;
-ghost use Rattle.printed.specs.Answers.{Printed};
-ghost use Rattle.sheet_answer.specs.Answers.{outRoom, keptlistReading, ListsLong, Begun, RowsFit, AnswerPrinted, sheetFrom, sheetIn, Inside, SheetHeld};
+ghost use Rattle.printed.specs.Contract.{Printed};
+ghost use Rattle.sheet_answer.specs.Contract.{outRoom, keptlistReading, ListsLong, Begun, RowsFit, AnswerPrinted, sheetFrom, sheetIn, Inside, SheetHeld};
 use printed::print_kept;
 use printed::print_refused;
 use sheet::Answer;
 use sheet::Header;
 use sheet::read_within;
-use topology::here::kept_boundaries_here;
+use topology::own_records::kept_boundaries_here;
 
 const SHEET_BYTES_MOST: usize = 65_536;
 

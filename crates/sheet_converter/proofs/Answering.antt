@@ -16,7 +16,7 @@ use Rattle.definitions.specs.Sheet.{endpointsOf, Sheet, wellFormed, refused, re
 use Rattle.laws.specs.ListLaws.Overwritten.{sets-overwrite}
 use Rattle.sheet.specs.declared.Plan.{Plan}
 use Rattle.sheet.specs.Parts.{sheetOf}
-use Rattle.put_shortest.specs.Answers.{Put}
+use Rattle.put_shortest.specs.Contract.{Put}
 use Rattle.map_sheets.specs.SheetBytes.{sheetBytes}
 use Rattle.map_sheets.specs.Writing.{writtenAtExit}
 use Rattle.map_sheets.specs.Numbered.{Numbered, numbered-or, numbered-refusal, numbered-spans}

@@ -6,7 +6,7 @@ use mathlib.Core.Path.{_≡_, sym, ap, ap₂, subst, _∙_}
 use mathlib.Core.List.{List}
 use lib.ListN.{length, take, drop, getD, set, length-drop, drop-of-length-le}
 use lib.Seq.{sets, take-all, length-sets, drop-cons, length-take-le}
-use Rattle.put_shortest.specs.Answers.{Put}
+use Rattle.put_shortest.specs.Contract.{Put}
 
 pub copied-more : (bytes out : List ℕ) (at i : ℕ) → i < length bytes
     → sets (set out (at + i) (getD bytes i 0)) (at + (i + 1)) (drop (i + 1) bytes) ≡ sets out (at + i) (drop i bytes)

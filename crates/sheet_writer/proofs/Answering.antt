@@ -15,7 +15,7 @@ use Rattle.laws.specs.ListLaws.Tests.{both}
 use Rattle.laws.specs.ListLaws.Overwritten.{sets-overwrite}
 use Rattle.map_sheets.specs.SheetBytes.{sheetBytes}
 use Rattle.map_sheets.specs.Writing.{writeVerdict, Writes}
-use Rattle.put_shortest.specs.Answers.{Put}
+use Rattle.put_shortest.specs.Contract.{Put}
 
 abbrev answer : ℕ → ℕ → Answer
 answer number value = record { number = number; value = value }

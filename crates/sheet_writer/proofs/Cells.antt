@@ -5,7 +5,7 @@ use mathlib.Core.Path.{_≡_, sym, ap, subst, _∙_}
 use mathlib.Core.List.{List}
 use lib.ListN.{length, getD}
 use Rattle.results.specs.Shortest.{shortest}
-use Rattle.put_shortest.specs.Answers.{Put}
+use Rattle.put_shortest.specs.Contract.{Put}
 use Rattle.result_writer.proofs.Placing.{Placing, placing-room, placing-goes-on}
 
 pub cell-size : (cells : List ℕ) (i : ℕ) {n size : ℕ} → n ≡ getD cells i 0 → size ≡ length (shortest n) → size ≡ length (shortest (getD cells i 0))

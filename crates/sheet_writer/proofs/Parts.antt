@@ -9,7 +9,7 @@ use Rattle.definitions.specs.Scan.{concatMap}
 use Rattle.results.specs.Shortest.{shortest, listBytes}
 use Rattle.map_sheets.specs.SheetBytes.{sheetBytes}
 use Rattle.map_sheets.specs.Writing.{stating}
-use Rattle.put_shortest.specs.Answers.{Put}
+use Rattle.put_shortest.specs.Contract.{Put}
 use Rattle.result_writer.specs.Contract.{spent}
 use Rattle.result_writer.specs.declared.Room.{Room}
 use Rattle.result_writer.proofs.Spending.{spent-then}

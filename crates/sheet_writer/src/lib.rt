@@ -10,7 +10,7 @@ ghost use Rattle.definitions.specs.Scan.{concatMap};
 ghost use Rattle.results.specs.Shortest.{shortest};
 ghost use Rattle.map_sheets.specs.SheetBytes.{sheetBytes};
 ghost use Rattle.map_sheets.specs.Writing.{stating, Writes};
-ghost use Rattle.put_shortest.specs.Answers.{Put};
+ghost use Rattle.put_shortest.specs.Contract.{Put};
 ghost use Rattle.result_writer.specs.Contract.{spent, answerIn};
 ghost use Rattle.sheet_writer.specs.Contract.{opening};
 use checks::limits::NUMBERS_PER_ANCHOR;

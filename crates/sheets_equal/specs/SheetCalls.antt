@@ -15,7 +15,7 @@ use Rattle.definitions.specs.Lists.{overwrite}
 use Rattle.definitions.specs.SheetNumber.{Read, found, failed}
 use Rattle.definitions.specs.Sheet.{Sheet, Reading, wellFormed, refused, reading, sheet, readSheet, plainCellLimit, readVerdict, roomFor, readingNumber, atExit}
 use Rattle.laws.specs.SheetReading.SheetSizes.{Sized, sized}
-use Rattle.sheet.specs.Answers.{Answered, answerOf, answerNumber, answer-number}
+use Rattle.sheet.specs.Contract.{Answered, answerOf, answerNumber, answer-number}
 use Rattle.sheet.specs.declared.Answer.{Answer}
 use Rattle.sheet.specs.declared.Answer.the-variants as answers
 use Rattle.sheets_equal.specs.NumberBytes.{Bytes}

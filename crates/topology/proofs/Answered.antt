@@ -9,9 +9,9 @@ use Rattle.definitions.specs.RegionRecord.{emptyRegion}
 use Rattle.definitions.specs.Verdict as verdict
 use Rattle.context.specs.declared.Region.{Region}
 use Rattle.context.specs.Records.{recordOf}
-use Rattle.calls.specs.Contract.{given, Ran}
+use Rattle.call_partition.specs.Contract.{given, Ran}
 use Rattle.topology.specs.Numbers.{withRecords}
-use Rattle.topology.specs.Answers.{RanOver, recordsHere, RanHere}
+use Rattle.topology.specs.Contract.{RanOver, recordsHere, RanHere}
 
 -- ---- records that are all alike
 

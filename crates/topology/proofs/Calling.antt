@@ -18,19 +18,19 @@ use Rattle.laws.specs.FloatLaws.MapPixels.{side-bounds, lent-on-map, map-pixel}
 use Rattle.context.specs.declared.Region.{Region}
 use Rattle.context.specs.Records.{recordOf, maxCells}
 use Rattle.context.specs.OneMore.{same-or}
-use Rattle.calls.specs.declared.Prepared.{Prepared}
-use Rattle.calls.specs.declared.Prepared.the-variants.{Refused, Ready}
-use Rattle.calls.specs.Prepared.{ReadyAs, PreparedAs}
-use Rattle.views.specs.Finished.{Finished, Marked}
-use Rattle.views.proofs.AfterChecks.{ready-accepted, ready-sides, ready-sound, ready-checked}
-use Rattle.views.proofs.AfterPartition.{ready-shown, ready-boundaries, ready-partitioned}
-use Rattle.views.proofs.Viewing as viewing
-use Rattle.views.proofs.Closing.{marked-equal, marked-none, ran-kept}
+use Rattle.call_partition.specs.declared.Prepared.{Prepared}
+use Rattle.call_partition.specs.declared.Prepared.the-variants.{Refused, Ready}
+use Rattle.call_partition.specs.Prepared.{ReadyAs, PreparedAs}
+use Rattle.pass_lists.specs.Finished.{Finished, Marked}
+use Rattle.pass_lists.proofs.AfterChecks.{ready-accepted, ready-sides, ready-sound, ready-checked}
+use Rattle.pass_lists.proofs.AfterPartition.{ready-shown, ready-boundaries, ready-partitioned}
+use Rattle.pass_lists.proofs.Viewing as viewing
+use Rattle.pass_lists.proofs.Closing.{marked-equal, marked-none, ran-kept}
 use Rattle.topology.specs.Filled.{Fills, Filled}
 use Rattle.topology.specs.Held.{HoldsRecords, filled-held, map-counted}
 use Rattle.topology.specs.Mouths.{NoMarks}
 use Rattle.topology.specs.Marks.{MapContext, IsPass, Lent, MarkedFor}
-use Rattle.topology.specs.Answers.{RanOver}
+use Rattle.topology.specs.Contract.{RanOver}
 
 -- ---- the marks before the pass
 

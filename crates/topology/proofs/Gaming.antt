@@ -29,10 +29,10 @@ use Rattle.stretches.specs.Queue.{Shown}
 use Rattle.stretches.specs.AfterFlood.{low-elevations}
 use Rattle.context.specs.declared.Region.{Region}
 use Rattle.context.specs.Records.{recordOf}
-use Rattle.views.specs.Finished.{Finishes, Finished}
-use Rattle.views.proofs.AfterChecks.{ready-accepted, ready-sides, ready-fit}
-use Rattle.views.proofs.AfterPartition.{ready-finishes, spans-lent}
-use Rattle.views.proofs.Closing.{kept-rows}
+use Rattle.pass_lists.specs.Finished.{Finishes, Finished}
+use Rattle.pass_lists.proofs.AfterChecks.{ready-accepted, ready-sides, ready-fit}
+use Rattle.pass_lists.proofs.AfterPartition.{ready-finishes, spans-lent}
+use Rattle.pass_lists.proofs.Closing.{kept-rows}
 use Rattle.rest_definitions.specs.RowOrder.{mapWith}
 use Rattle.rest_definitions.specs.Rest.{keptMap}
 use Rattle.rest.specs.Clearing.{beyond-stays}

@@ -16,7 +16,7 @@ use Rattle.laws.specs.ListLaws.Below.{below-none}
 use Rattle.laws.specs.ListLaws.ScanSteps.{any-next, all-next, all-intro}
 use Rattle.laws.specs.FloatLaws.Pixels.{PixelSegment}
 use Rattle.context.specs.declared.Region.{Region}
-use Rattle.ramp_interiors.specs.Fits.{Placed}
+use Rattle.interior_proposals.specs.Fits.{Placed}
 use Rattle.interior_regions.specs.declared.Interior.{Interior}
 use Rattle.interior_regions.specs.Places.{regionAt, AllReadable, isNamed, NextInside, fitsAt, rampAt, interiorFits}
 use Rattle.interior_regions.specs.Marks.{accepted, markedBefore, Stretched}

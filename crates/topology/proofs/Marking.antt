@@ -13,8 +13,8 @@ use Rattle.definitions.specs.Grid.{Map}
 use Rattle.definitions.specs.Context.{Context, contextOf}
 use Rattle.context.specs.declared.Region.{Region}
 use Rattle.context.specs.Rows.{Beyond}
-use Rattle.views.specs.Viewed.{Viewed}
-use Rattle.views.proofs.Viewing.{regions-within}
+use Rattle.pass_lists.specs.Contract.{Viewed}
+use Rattle.pass_lists.proofs.Viewing.{regions-within}
 use Rattle.topology.specs.Marks.{Shows, Removed, Lent, MarkedFor}
 
 -- a change up to n, and then one of the first k, which have become l

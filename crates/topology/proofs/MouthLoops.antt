@@ -21,11 +21,11 @@ use Rattle.context.specs.OneMore.{last-or}
 use Rattle.context.specs.Shown.{ShownBoundaries}
 use Rattle.context.specs.Rows.{NamedRow}
 use Rattle.context.specs.ShownLaws.{shown-rows}
-use Rattle.ramp_boundaries.specs.Candidates.{broad, proposalOf, candidates}
+use Rattle.mouth_proposals.specs.Candidates.{broad, proposalOf, candidates}
 use Rattle.mouth_regions.specs.Inner.{placesOf, regionAt, innerAt}
 use Rattle.mouth_regions.specs.Near.{regionNear}
-use Rattle.ramp_boundaries.specs.Listed.{rampAt, entryAt, Filled}
-use Rattle.ramp_boundaries.proofs.NoRamps.{nothing-removed}
+use Rattle.mouth_proposals.specs.Listed.{rampAt, entryAt, Filled}
+use Rattle.mouth_proposals.proofs.NoRamps.{nothing-removed}
 use Rattle.mouth_selection.specs.Selecting.{Selects}
 use Rattle.mouth_regions.proofs.InnerWalk.{corners-near}
 use Rattle.mouth_selection.proofs.ProposalLists.{fresh-marks, selects}

@@ -15,8 +15,8 @@ use Rattle.definitions.specs.Verdict.{pairRowsOf}
 use Rattle.definitions.specs.AtExit.{complete}
 use Rattle.context.specs.declared.Region.{Region}
 use Rattle.context.specs.Records.{recordOf}
-use Rattle.calls.specs.declared.Prepared.{Prepared}
-use Rattle.calls.specs.declared.Prepared.the-variants.{Refused, Ready}
+use Rattle.call_partition.specs.declared.Prepared.{Prepared}
+use Rattle.call_partition.specs.declared.Prepared.the-variants.{Refused, Ready}
 use Rattle.game.specs.Graph.{graphFault, goalFault, edgesIn, graphOf, verdictsAtExit}
 use Rattle.game_calls.specs.KeptGraph.{graphMap, keptGame}
 use Rattle.game_calls.specs.GameVerdict.{GameAnswer}

@@ -10,7 +10,7 @@ use lib.Seq.{getD-set-same, getD-set-other}
 use Rattle.definitions.specs.Context.{Context}
 use Rattle.context.specs.declared.Region.{Region}
 use Rattle.context.specs.OneMore.{last-or}
-use Rattle.junctions.specs.Rows.{maxProposals, numbersPerProposal, rowAt, RowFits, isAllowed}
+use Rattle.junction_proposals.specs.Rows.{maxProposals, numbersPerProposal, rowAt, RowFits, isAllowed}
 use Rattle.junction_selection.specs.Taken.{Judged, removedAt}
 use Rattle.junction_selection.proofs.Passing.{pass-removed}
 use Rattle.junction_regions.specs.Asked.{Asked}

@@ -18,12 +18,12 @@ use Rattle.definitions.specs.Verdict.{mapIn}
 use Rattle.context.specs.declared.Region.{Region}
 use Rattle.context.specs.Records.{recordOf}
 use Rattle.context.specs.OneMore.{same-or}
-use Rattle.calls.specs.declared.Prepared.{Prepared}
-use Rattle.calls.specs.declared.Prepared.the-variants.{Refused}
-use Rattle.calls.specs.Prepared.{ReadyAs, PreparedAs}
-use Rattle.views.specs.Finished.{Finished}
-use Rattle.views.proofs.AfterPartition.{spans-lent, boundaries-lent}
-use Rattle.views.proofs.Closing.{ran-kept}
+use Rattle.call_partition.specs.declared.Prepared.{Prepared}
+use Rattle.call_partition.specs.declared.Prepared.the-variants.{Refused}
+use Rattle.call_partition.specs.Prepared.{ReadyAs, PreparedAs}
+use Rattle.pass_lists.specs.Finished.{Finished}
+use Rattle.pass_lists.proofs.AfterPartition.{spans-lent, boundaries-lent}
+use Rattle.pass_lists.proofs.Closing.{ran-kept}
 use Rattle.ranked_list.specs.RankedList.{numbersPerRanked, rankedRows, rankedOf, flatRanked}
 use Rattle.ranked_rows.proofs.Judging.{flat-length}
 use Rattle.ranked_finish.specs.declared.RankedAnswer.{RankedAnswer}

@@ -8,7 +8,7 @@ use lib.ListN.{length}
 use Rattle.definitions.specs.Lists.{overwrite}
 use Rattle.definitions.specs.Context.{Context}
 use Rattle.context.specs.declared.Region.{Region}
-use Rattle.junctions.specs.Rows.{maxProposals, numbersPerProposal}
+use Rattle.junction_proposals.specs.Rows.{maxProposals, numbersPerProposal}
 use Rattle.ranked_list.specs.RankedList.{numbersPerRanked, rankedRows, flatRanked}
 use Rattle.ranked_rows.specs.Contract as rows
 use Rattle.ranked_rows.specs.Contract.{allowedList}

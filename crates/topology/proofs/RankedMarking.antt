@@ -10,7 +10,7 @@ use Rattle.definitions.specs.Grid.{Map}
 use Rattle.definitions.specs.Context.{Context, contextOf}
 use Rattle.definitions.specs.Rows.{removedBy}
 use Rattle.context.specs.declared.Region.{Region}
-use Rattle.views.specs.Viewed.{Viewed}
+use Rattle.pass_lists.specs.Contract.{Viewed}
 use Rattle.ranked_list.specs.RankedList.{flatRanked}
 use Rattle.topology.specs.Mouths.{NoMarks}
 use Rattle.topology.specs.Proposals.{Passes, Unmarked}

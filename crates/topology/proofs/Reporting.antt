@@ -11,7 +11,7 @@ use Rattle.definitions.specs.Limits.{numbersPerBoundary}
 use Rattle.definitions.specs.Verdict as verdict
 use Rattle.context.specs.declared.Region.{Region}
 use Rattle.context.specs.Records.{recordOf}
-use Rattle.calls.specs.Contract.{given}
+use Rattle.call_partition.specs.Contract.{given}
 use Rattle.report.specs.Runs.{runOf}
 use Rattle.report.specs.Report.{maxRuns, sum64, addedBy}
 use Rattle.report.specs.ReportLaws.Order as order
@@ -20,7 +20,7 @@ use Rattle.report_figures.specs.declared.Reported.{Reported}
 use Rattle.report_figures.specs.Forms.{reportForm}
 use Rattle.report_figures.specs.Calls.{CallLeft, ReportedCall}
 use Rattle.report_figures.proofs.Called.{call-left, call-added}
-use Rattle.topology.specs.Answers.{exported, RanOver}
+use Rattle.topology.specs.Contract.{exported, RanOver}
 use Rattle.topology.specs.Reports.{Beyond, ReportedOver}
 use Rattle.topology.specs.declared.TopologyAnswer.{TopologyAnswer}
 

@@ -18,9 +18,9 @@ use Rattle.definitions.specs.Lists.{overwrite, zeroed}
 use Rattle.laws.specs.ListLaws.Lists.{length-run}
 use Rattle.context.specs.declared.Region.{Region}
 use Rattle.context.specs.Records.{recordOf}
-use Rattle.calls.specs.declared.Prepared.{Prepared}
-use Rattle.calls.specs.declared.Prepared.the-variants.{Refused, Ready}
-use Rattle.calls.specs.Contract.{given}
+use Rattle.call_partition.specs.declared.Prepared.{Prepared}
+use Rattle.call_partition.specs.declared.Prepared.the-variants.{Refused, Ready}
+use Rattle.call_partition.specs.Contract.{given}
 use Rattle.rest_definitions.specs.RowOrder.{startMap}
 use Rattle.rest.specs.FlatLists.{flatSpans, flatBoundaries}
 use Rattle.rest.specs.Runs.{start-kept}

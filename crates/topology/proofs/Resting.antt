@@ -22,8 +22,8 @@ use Rattle.definitions.specs.Verdict.{mapIn, recordsFault}
 use Rattle.laws.specs.ListLaws.NoFault.{no-fault}
 use Rattle.context.specs.declared.Region.{Region}
 use Rattle.context.specs.Records.{recordOf}
-use Rattle.views.proofs.AfterChecks.{ready-fit}
-use Rattle.views.proofs.Closing.{marked-equal}
+use Rattle.pass_lists.proofs.AfterChecks.{ready-fit}
+use Rattle.pass_lists.proofs.Closing.{marked-equal}
 use Rattle.rest_definitions.specs.RowOrder.{startMap}
 use Rattle.rest_definitions.specs.Rest.{passed}
 use Rattle.rest.specs.FlatLists.{flatSpans, flatBoundaries, span-count}

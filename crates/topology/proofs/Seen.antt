@@ -1,9 +1,9 @@
 pub mod games
-pub mod here
-pub mod interiors
+pub mod own_records
+pub mod interior_pass
 pub mod marks
-pub mod mouths
-pub mod proposals
+pub mod mouth_pass
+pub mod junction_pass
 pub mod ranked
 pub mod records
 pub mod runs

@@ -16,7 +16,7 @@ use Rattle.definitions.specs.Verdict.{pairRowsOf}
 use Rattle.definitions.specs.AtExit.{Stage, untouched, labelled, tallied, complete, talliesOf, recordsOf}
 use Rattle.context.specs.declared.Region.{Region}
 use Rattle.context.specs.Records.{recordOf}
-use Rattle.calls.specs.Contract.{given}
+use Rattle.call_partition.specs.Contract.{given}
 use Rattle.game_calls.specs.KeptGraph.{graphMap}
 use Rattle.game_calls.specs.GameVerdict.{GameAnswer}
 use Rattle.game_calls.specs.GameExit.{gameStage, Played}

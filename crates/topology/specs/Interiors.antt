@@ -10,7 +10,7 @@ use Rattle.definitions.specs.RampInteriors.{removed}
 use Rattle.laws.specs.FloatLaws.Pixels.{PixelContext}
 use Rattle.context.specs.declared.Region.{Region}
 use Rattle.context.specs.Shown.{ShownBoundaries}
-use Rattle.ramp_interiors.specs.Given.{Lent}
+use Rattle.interior_proposals.specs.Given.{Lent}
 use Rattle.interior_regions.specs.declared.Interior.{Interior}
 use Rattle.interior_regions.specs.Places.{AllReadable}
 use Rattle.interior_regions.specs.Marks as interiors

@@ -1,5 +1,5 @@
 -- The words of the contracts of the functions that see the lent slice of region records.
-pub mod Answers
+pub mod Contract
 pub mod Filled
 pub mod Held
 pub mod Interiors

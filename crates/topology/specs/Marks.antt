@@ -14,8 +14,8 @@ use Rattle.context.specs.declared.Region.{Region}
 use Rattle.context.specs.Records.{maxCells, Counted}
 use Rattle.context.specs.Rows.{Beyond}
 use Rattle.context.specs.Shown.{ShownBoundaries, ShownTallies, ShownPairs, ShownFullPairs, ShownAnchored, ShownIncidents}
-use Rattle.views.specs.Viewed.{Partitioned, FreshMarks}
-use Rattle.views.specs.Finished.{MarkedBy}
+use Rattle.pass_lists.specs.Contract.{Partitioned, FreshMarks}
+use Rattle.pass_lists.specs.Finished.{MarkedBy}
 use Rattle.topology.specs.Held.{HoldsRecords}
 
 -- what the context of a map that passes the checks always meets

@@ -11,8 +11,8 @@ use Rattle.definitions.specs.RampMouths.{cornersNear, removed}
 use Rattle.laws.specs.FloatLaws.Pixels.{PixelContext}
 use Rattle.context.specs.declared.Region.{Region}
 use Rattle.context.specs.Shown.{ShownBoundaries, ShownTallies, ShownPairs}
-use Rattle.ramp_boundaries.specs.Lent.{Placed, Shows}
-use Rattle.ramp_boundaries.specs.Listed.{maxCandidates, entryAt}
+use Rattle.mouth_proposals.specs.Lent.{Placed, Shows}
+use Rattle.mouth_proposals.specs.Listed.{maxCandidates, entryAt}
 use Rattle.topology.specs.Held.{HoldsRecords}
 
 -- the lists and the records show C, of which m and a are boundaries

@@ -9,8 +9,8 @@ use Rattle.definitions.specs.Context.{Context}
 use Rattle.definitions.specs.Junctions.{proposals, removed}
 use Rattle.context.specs.declared.Region.{Region}
 use Rattle.context.specs.Records.{Counted}
-use Rattle.junctions.specs.Lent.{Shows}
-use Rattle.junctions.specs.Rows.{maxProposals, numbersPerProposal, rowAt, rowsOf, RowFits, isAllowed}
+use Rattle.junction_proposals.specs.Lent.{Shows}
+use Rattle.junction_proposals.specs.Rows.{maxProposals, numbersPerProposal, rowAt, rowsOf, RowFits, isAllowed}
 use Rattle.junction_regions.specs.Asked.{Told}
 use Rattle.topology.specs.Held.{HoldsRecords}
 

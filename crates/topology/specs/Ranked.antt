@@ -14,12 +14,12 @@ use Rattle.definitions.specs.Context.{Context, contextOf}
 use Rattle.definitions.specs.Junctions.{Proposal}
 use Rattle.context.specs.declared.Region.{Region}
 use Rattle.context.specs.Records.{recordOf}
-use Rattle.calls.specs.Contract.{given}
+use Rattle.call_partition.specs.Contract.{given}
 use Rattle.ranked_list.specs.RankedList.{Listed, rankedRows, flatRanked}
 use Rattle.ranked_list.specs.RankedAnswers.{RankedAnswer, RankedRan}
 use Rattle.topology.specs.Proposals.{Removes}
 use Rattle.topology.specs.Marks.{MarkedFor}
-use Rattle.topology.specs.Answers.{written}
+use Rattle.topology.specs.Contract.{written}
 
 -- the list, which was `was`, has the n rows in front
 pub record Lists (rows : List (Listed Proposal)) (was listed : List ℕ) (n : ℕ) : Type 0 where

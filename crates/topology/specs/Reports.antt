@@ -4,12 +4,12 @@ use mathlib.Core.Path.{_≡_}
 use mathlib.Core.List.{List, map}
 use Rattle.context.specs.declared.Region.{Region}
 use Rattle.context.specs.Records.{recordOf}
-use Rattle.calls.specs.Contract.{given}
+use Rattle.call_partition.specs.Contract.{given}
 use Rattle.report.specs.Runs.{runOf}
 use Rattle.report.specs.Report.{Report, maxRuns, addRun}
 use Rattle.report_figures.specs.declared.Reported.{Reported}
 use Rattle.report_figures.specs.Forms.{reportForm}
-use Rattle.topology.specs.Answers.{RanOver}
+use Rattle.topology.specs.Contract.{RanOver}
 
 -- a run beyond the last: the answer and every list
 pub record Beyond (l m q t p : List ℕ) (s : List Region) (o : List ℕ) (r : Reported) (l′ m′ q′ t′ p′ : List ℕ) (s′ : List Region) (o′ : List ℕ) : Type 0 where

@@ -11,7 +11,7 @@ use Rattle.definitions.specs.Context.{contextOf}
 use Rattle.definitions.specs.AtExit.{recordsOf}
 use Rattle.context.specs.declared.Region.{Region}
 use Rattle.context.specs.Records.{recordOf}
-use Rattle.calls.specs.Contract.{given}
+use Rattle.call_partition.specs.Contract.{given}
 use Rattle.rest_definitions.specs.RowOrder.{startMap}
 use Rattle.rest_definitions.specs.Rest.{passed, rested}
 use Rattle.rest_definitions.specs.RestVerdict as def

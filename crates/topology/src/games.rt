@@ -2,7 +2,7 @@
 use crate::marks::mark_removed;
 use crate::records::fill;
 use crate::records::renew;
-use calls::Prepared;
+use call_partition::Prepared;
 use checks::limits::NUMBERS_PER_BOUNDARY;
 use checks::limits::NUMBERS_PER_SPAN;
 use context::Region;
@@ -11,7 +11,7 @@ use game_lists::kept::divide_kept;
 use game_lists::play::GameAnswer;
 use game_lists::play::play;
 use game_lists::play::refused;
-use views::finish;
+use pass_lists::finish;
 ghost use lib.ListN.{length};
 ghost use Rattle.game_lists.specs.Forms.{answerIn};
 ghost use Rattle.topology.specs.Games.{Begun, RunsKept, RanKept, PlayedOver};

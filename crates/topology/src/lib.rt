@@ -1,28 +1,28 @@
 // The call that runs a pass. The modules hold the functions that see the lent slice of region records; all other work on records is done on them by value.
 pub mod entries;
 pub mod games;
-pub mod here;
-pub mod interiors;
+pub mod interior_pass;
+pub mod junction_pass;
 pub mod marks;
-pub mod mouths;
+pub mod mouth_pass;
 pub mod numbers;
-pub mod proposals;
+pub mod own_records;
 pub mod ranked;
 pub mod records;
 pub mod runs;
 pub mod slice;
 pub mod to_rest;
 
-use calls::Prepared;
-use calls::prepare;
+use call_partition::Prepared;
+use call_partition::prepare;
 use checks::limits::NUMBERS_PER_BOUNDARY;
 use checks::limits::NUMBERS_PER_SPAN;
 use context::Region;
 use marks::mark_removed;
+use pass_lists::finish;
 use records::fill;
-use views::finish;
 ghost use mathlib.Core.Path.{_≡_};
-ghost use Rattle.topology.specs.Answers.{answerOf, exported, RanOver};
+ghost use Rattle.topology.specs.Contract.{answerOf, exported, RanOver};
 
 // The number is 0 and the value how many rows are kept, or they are a refusal's number and place.
 #[repr(C)]

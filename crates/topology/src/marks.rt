@@ -1,10 +1,10 @@
 // The marks of the boundaries that the pass of a call removes.
-use crate::interiors::collapse_ramp_interiors;
-use crate::mouths::replace_ramp_mouths;
-use crate::proposals::remove_junction_boundaries;
+use crate::interior_pass::collapse_ramp_interiors;
+use crate::junction_pass::remove_junction_boundaries;
+use crate::mouth_pass::replace_ramp_mouths;
 use checks::limits::NUMBERS_PER_BOUNDARY;
 use context::Region;
-use views::view;
+use pass_lists::view;
 ghost use lib.ListN.{length};
 ghost use Rattle.definitions.specs.Grid.{Map};
 ghost use Rattle.definitions.specs.Context.{Context};

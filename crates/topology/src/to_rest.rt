@@ -2,7 +2,7 @@
 use crate::marks::mark_removed;
 use crate::records::fill;
 use crate::records::renew;
-use calls::Prepared;
+use call_partition::Prepared;
 use checks::limits::NUMBERS_PER_BOUNDARY;
 use context::Region;
 use rest_lists::begin::begin_rest;

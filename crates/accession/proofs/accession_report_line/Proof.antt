@@ -7,7 +7,7 @@ use denote.Ref.{now}
 use borrow.Author.Needs.{needs}
 use borrow.Author.Tests.{eq-eqb, ne-eqb}
 use Rattle.catalogue.specs.Accession.{numbersPerAccession, isFinished}
-use Rattle.accession.specs.Answers.{placeOf}
+use Rattle.accession.specs.Contract.{placeOf}
 use Rattle.accession.proofs.Reporting.{unfinished, broken}
 use Rattle.accession.proofs.accession_report_line.Statement.{statement}
 use Rattle.accession.proofs.accession_report_line.Tie as tie

@@ -7,7 +7,7 @@ use lib.Dec.{T}
 use lib.Ieee.{Float, binary64, isNan, ofBits, toBits}
 use Rattle.definitions.specs.Hypotenuse.{hypotNumber, hypotValue}
 use Rattle.laws.specs.FloatLaws.Hypotenuse.{hypotValue-clear}
-use Rattle.hypotenuse.specs.Answers.{numberOf, valueOf}
+use Rattle.hypotenuse.specs.Contract.{numberOf, valueOf}
 use Rattle.hypotenuse_replay.specs.Lines.{numberOfBits, rootOfBits}
 use Rattle.hypotenuse_replay.proofs.answer_of.Statement.{statement}
 use Rattle.hypotenuse_replay.proofs.answer_of.Tie as tie

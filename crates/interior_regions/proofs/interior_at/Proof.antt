@@ -4,7 +4,7 @@ use native.Mathlib.Omega.{arith}
 use mathlib.Core.Path.{_≡_, ap, _∙_}
 use lib.ListN.{length, getD}
 use Rattle.definitions.specs.Limits.{maxEntries}
-use Rattle.ramp_interiors.specs.Proposals.{noPort}
+use Rattle.interior_proposals.specs.Proposals.{noPort}
 use Rattle.interior_regions.proofs.PlaceLaws.{starts-fit}
 use Rattle.interior_regions.proofs.Stretches.{stretched-none, ports-below, stretched-two}
 use borrow.Author.Needs.{needs}

@@ -5,7 +5,7 @@ use mathlib.Core.Path.{_≡_, sym, ap, _∙_}
 use mathlib.Core.Bool.{false}
 use borrow.Author.Needs.{needs}
 use borrow.Author.Tests.{eq-eqb, ne-eqb}
-use Rattle.ramp_interiors.specs.Owners.{entryAt}
+use Rattle.interior_proposals.specs.Owners.{entryAt}
 use Rattle.context.proofs.Rows.{from-more}
 use Rattle.interior_regions.specs.Places.{isNamed}
 use Rattle.interior_regions.proofs.next_inside.Statement.{statement}

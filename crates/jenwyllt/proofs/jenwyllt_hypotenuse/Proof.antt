@@ -2,7 +2,7 @@
 use borrow.Author.Needs.{needs}
 use mathlib.Core.Path.{sym, ap, _∙_}
 use lib.Ieee.{ofBits}
-use Rattle.hypotenuse.specs.Answers.{numberOf, valueOf}
+use Rattle.hypotenuse.specs.Contract.{numberOf, valueOf}
 use Rattle.jenwyllt.proofs.jenwyllt_hypotenuse.Statement.{statement}
 use Rattle.jenwyllt.proofs.jenwyllt_hypotenuse.Tie as tie
 

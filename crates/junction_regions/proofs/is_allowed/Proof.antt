@@ -6,8 +6,8 @@ use mathlib.Core.Bool.{Bool, true, false}
 use borrow.Author.Needs.{needs}
 use Rattle.definitions.specs.Scan.{bit}
 use Rattle.geometry.specs.Ends.{limits}
-use Rattle.junctions.specs.Unions.{markAt}
-use Rattle.junctions.specs.Rows.{rowAt}
+use Rattle.junction_proposals.specs.Unions.{markAt}
+use Rattle.junction_proposals.specs.Rows.{rowAt}
 use Rattle.junction_regions.proofs.Rows.{ends-are, row-pixels, first-on, second-on, allowed-bridge, allowed-union}
 use Rattle.junction_regions.proofs.is_allowed.Statement.{statement}
 use Rattle.junction_regions.proofs.is_allowed.Tie as tie

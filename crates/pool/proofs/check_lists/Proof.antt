@@ -1,6 +1,6 @@
 -- `pool::check_lists` meets its contract: 3, then 17, then the terms. Assumes nothing.
 use mathlib.Core.Path.{sym, ap, _∙_}
-use Rattle.accession.specs.Answers.{placeOf}
+use Rattle.accession.specs.Contract.{placeOf}
 use Rattle.pool.proofs.Verdicts.{terms-unfinished, records-unfinished, record-broken, records-fine}
 use borrow.Author.Needs.{needs}
 use Rattle.pool.proofs.check_lists.Statement.{statement}

@@ -1,6 +1,6 @@
 -- `pool::check_terms` meets its contract, by that of `terms_fault`. Assumes nothing.
 use mathlib.Core.Path.{sym, ap, _∙_}
-use Rattle.pool_terms.specs.Answers.{refusalIn}
+use Rattle.pool_terms.specs.Contract.{refusalIn}
 use borrow.Author.Needs.{needs}
 use Rattle.pool.proofs.check_terms.Statement.{statement}
 use Rattle.pool.proofs.check_terms.Tie as tie

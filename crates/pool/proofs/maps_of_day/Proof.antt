@@ -1,7 +1,7 @@
 -- `pool::maps_of_day` meets its contract: the checks in their order, and then the listing. Assumes nothing.
 use mathlib.Core.Path.{refl, sym, ap, _∙_}
-use Rattle.pool_terms.specs.Answers.{dayIn}
-use Rattle.pool.specs.Answers.{date, answerOf, refusalOf}
+use Rattle.pool_terms.specs.Contract.{dayIn}
+use Rattle.pool.specs.Contract.{date, answerOf, refusalOf}
 use Rattle.pool.proofs.Verdicts.{lists-refused, day-refused, day-listed, listed-at-exit, terms-fine}
 use borrow.Author.Needs.{needs}
 use Rattle.pool.proofs.maps_of_day.Statement.{statement}

@@ -1,7 +1,7 @@
 -- `pool::pool_maps_of_day` meets its contract, by that of `maps_of_day`. Assumes nothing.
 use mathlib.Core.Path.{sym, ap, _∙_}
 use Rattle.catalogue.specs.Pool.{poolAtExit}
-use Rattle.pool.specs.Answers.{date, answerOf}
+use Rattle.pool.specs.Contract.{date, answerOf}
 use borrow.Author.Needs.{needs}
 use Rattle.pool.proofs.pool_maps_of_day.Statement.{statement}
 use Rattle.pool.proofs.pool_maps_of_day.Tie as tie

@@ -3,7 +3,7 @@ use Prim.Native.Nat.{ℕ, _*_}
 use mathlib.Core.Path.{_∙_}
 use mathlib.Core.List.{List, [], _∷_}
 use lib.Seq.{sets}
-use Rattle.junctions.specs.Rows.{rowAt}
+use Rattle.junction_proposals.specs.Rows.{rowAt}
 use borrow.Author.Needs.{needs}
 use Rattle.ranked_rows.proofs.put_ranked.Statement.{statement}
 use Rattle.ranked_rows.proofs.put_ranked.Tie as tie

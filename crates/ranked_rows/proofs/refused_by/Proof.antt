@@ -3,7 +3,7 @@ use Prim.Native.Nat.{_-_, _≤_}
 use native.Mathlib.Omega.{arith}
 use mathlib.Core.Path.{sym, _∙_}
 use lib.ListN.{getD}
-use Rattle.junctions.proofs.FirstFound.{NoneFrom, none-more, first-here, first-nowhere}
+use Rattle.junction_proposals.proofs.FirstFound.{NoneFrom, none-more, first-here, first-nowhere}
 use Rattle.ranked_rows.specs.Contract.{blocksAt}
 use borrow.Author.Needs.{needs}
 use Rattle.ranked_rows.proofs.refused_by.Statement.{statement}

@@ -8,7 +8,7 @@ use mathlib.Core.List.{List}
 use Rattle.definitions.specs.Scan.{anyBelow}
 use Rattle.laws.specs.ListLaws.Below.{below-at}
 use Rattle.laws.specs.ListLaws.ScanSteps.{any-none}
-use Rattle.junctions.specs.Rows.{rowAt}
+use Rattle.junction_proposals.specs.Rows.{rowAt}
 use Rattle.junction_selection.specs.Ranks.{reservesAt}
 use borrow.Author.Needs.{needs}
 use Rattle.ranked_rows.proofs.share_port.Statement.{statement}

@@ -1,7 +1,7 @@
 -- `verdict` meets its contract: the four checks, in the definition's order. Assumes nothing.
 use mathlib.Core.Path.{sym, ap, _∙_}
 use borrow.Author.Tests.{not-true, not-false}
-use Rattle.checks.specs.Answers.{placeOf}
+use Rattle.checks.specs.Contract.{placeOf}
 use Rattle.separation_list.proofs.Answering.{sides-le, entries-le, sides-refused, sizes-refused, boundary-refused, room-answered}
 use borrow.Author.Needs.{needs}
 use Rattle.separation_list.proofs.verdict.Statement.{statement}

@@ -16,7 +16,7 @@ use Rattle.sheet.proofs.fill_endpoints.Statement.{statement}
 use Rattle.sheet.proofs.fill_endpoints.Tie as tie
 
 abbrev Inv-loop : tie.InvT-loop
-Inv-loop boundaries count spans₀ i₀ spans i = 
+Inv-loop boundaries count spans₀ i₀ spans i =
     (i ≤ count) × (length spans ≡ length spans₀) × (spans ≡ overwrite (endpointsIn i boundaries) spans₀)
 
 abbrev μ-loop : tie.MeasureT-loop

@@ -31,9 +31,11 @@ entries-requires c κs =
     let at-spans-held = at-spans .before .before in
     let at-a = at-spans-held .before .before in
     let at-judge = at-a .before .before in
-    let at-start = at-judge .before .before in
-    ((part-inside (keeps-spans (at-start .args .own)) (cells-inside (at-start .args .own) _ _ _ (at-start .pre) (subst (Told _ _) (at-a .a .given .1) (at-judge .judge .ensures)))
-    (subst (PartTold _ _ _) (at-spans .spans .given .1) (at-spans-held .spans-held .ensures))), omega arith)
+    let at-start = at-judge .before .before in (
+      (part-inside (keeps-spans (at-start .args .own)) (cells-inside (at-start .args .own) _ _ _ (at-start .pre) (subst (Told _ _) (at-a .a .given .1) (at-judge .judge .ensures)))
+          (subst (PartTold _ _ _) (at-spans .spans .given .1) (at-spans-held .spans-held .ensures))),
+      omega arith,
+    )
 
 enum-known-boundaries : tie.Need-enum-known-boundaries
 enum-known-boundaries c = search needs
@@ -46,10 +48,12 @@ entries-requires-2 c κs =
     let at-spans-held = at-spans .before .before in
     let at-a = at-spans-held .before .before in
     let at-judge = at-a .before .before in
-    let at-start = at-judge .before .before in
-    ((part-inside (keeps-entries 9) (part-inside (keeps-spans (at-start .args .own)) (cells-inside (at-start .args .own) _ _ _ (at-start .pre) (subst (Told _ _) (at-a .a .given .1) (at-judge .judge .ensures)))
-    (subst (PartTold _ _ _) (at-spans .spans .given .1) (at-spans-held .spans-held .ensures)))
-    (subst (PartTold _ _ _) (at-boundaries .boundaries .given .1) (at-entries .entries .ensures))), omega arith)
+    let at-start = at-judge .before .before in (
+      (part-inside (keeps-entries 9) (part-inside (keeps-spans (at-start .args .own)) (cells-inside (at-start .args .own) _ _ _ (at-start .pre) (subst (Told _ _) (at-a .a .given .1) (at-judge .judge .ensures)))
+          (subst (PartTold _ _ _) (at-spans .spans .given .1) (at-spans-held .spans-held .ensures)))
+          (subst (PartTold _ _ _) (at-boundaries .boundaries .given .1) (at-entries .entries .ensures))),
+      omega arith,
+    )
 
 enum-known-anchors : tie.Need-enum-known-anchors
 enum-known-anchors c = search needs

@@ -6,7 +6,7 @@ use Rattle.definitions.specs.Refusals.{Refusal}
 use Rattle.definitions.specs.Verdict.{refusal}
 use Rattle.checks.specs.declared.Fault.{Fault}
 use Rattle.checks.specs.declared.spans.SpanFault.{SpanFault}
-use Rattle.checks.specs.Answers.{placeOf, refusalOf}
+use Rattle.checks.specs.Contract.{placeOf, refusalOf}
 use Rattle.areas.proofs.Chain.{here, next}
 use Rattle.sheet_converter.specs.Contract.{listsRefusal}
 use borrow.Author.Needs.{needs}

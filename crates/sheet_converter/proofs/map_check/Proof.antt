@@ -5,7 +5,7 @@ use mathlib.Core.Option.{Option}
 use Rattle.definitions.specs.Refusals.{Refusal}
 use Rattle.definitions.specs.Verdict.{refusal}
 use Rattle.checks.specs.declared.Fault.{Fault}
-use Rattle.checks.specs.Answers.{placeOf}
+use Rattle.checks.specs.Contract.{placeOf}
 use Rattle.areas.specs.declared.checked.Check.{Check}
 use Rattle.areas.specs.Answers.{refusalOf}
 use Rattle.areas.proofs.Chain.{passes, refuses, here, next}

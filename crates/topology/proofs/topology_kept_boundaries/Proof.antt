@@ -20,10 +20,10 @@ use borrow.Rule.Slice.Mut.{setVals}
 use Rattle.definitions.specs.Limits.{maxEntries, numbersPerSpan}
 use Rattle.definitions.specs.Grid.{Map, mapOf}
 use Rattle.context.specs.declared.Region.{Region}
-use Rattle.calls.specs.declared.Prepared.{Prepared}
-use Rattle.calls.specs.Prepared.{ReadyAs, PreparedAs}
-use Rattle.calls.proofs.Prepared as prepared
-use Rattle.views.proofs.AfterPartition.{ready-finishes}
+use Rattle.call_partition.specs.declared.Prepared.{Prepared}
+use Rattle.call_partition.specs.Prepared.{ReadyAs, PreparedAs}
+use Rattle.call_partition.proofs.Prepared as prepared
+use Rattle.pass_lists.proofs.AfterPartition.{ready-finishes}
 use Rattle.topology.specs.Filled.{Filled}
 use Rattle.topology.specs.Marks.{MarkedFor}
 use Rattle.topology.proofs.Calling.{no-marks, when-ready, when-refused, needed-few, is-pass, ready-fills, ready-lent, ran-over}

@@ -7,7 +7,7 @@ use denote.Ref.{now}
 use borrow.Author.Needs.{needs}
 use Rattle.catalogue.specs.Line.{lineOf}
 use Rattle.catalogue.specs.AccessionLaws.MapLine.{mapLine, line-of-record, line-unknown}
-use Rattle.accession.specs.Answers.{Finds, roomVerdict}
+use Rattle.accession.specs.Contract.{Finds, roomVerdict}
 use Rattle.accession.specs.declared.line.Found.the-variants.{At}
 use Rattle.accession.proofs.Reporting.{ten-left, unknown, exit-left, exit-unknown}
 use Rattle.accession.proofs.line.report_kept.Statement.{statement}

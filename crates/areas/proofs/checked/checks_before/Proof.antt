@@ -11,7 +11,7 @@ use borrow.Author.Tests.{eqb-true, not-false}
 use Rattle.definitions.specs.Limits.{numbersPerSpan}
 use Rattle.definitions.specs.Refusals.{Refusal, unless, partitionRoom}
 use Rattle.definitions.specs.Verdict.{refusal}
-use Rattle.checks.specs.Answers as spans
+use Rattle.checks.specs.Contract as spans
 use Rattle.checks.proofs.SidesWithin.{sides-within}
 use Rattle.areas.specs.Contract.{earlyRefusal}
 use Rattle.areas.proofs.Chain.{passes, refuses, here, next}

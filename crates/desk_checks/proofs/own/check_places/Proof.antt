@@ -4,7 +4,7 @@ use mathlib.Core.Path.{_≡_, sym, ap, _∙_}
 use mathlib.Core.Option.{Option}
 use Rattle.definitions.specs.Verdict.{refusal}
 use Rattle.checks.specs.declared.Fault.{Fault}
-use Rattle.checks.specs.Answers.{placeOf}
+use Rattle.checks.specs.Contract.{placeOf}
 use Rattle.areas.proofs.Chain.{here, next, passes, refuses}
 use borrow.Author.Needs.{needs}
 use Rattle.desk_checks.proofs.own.check_places.Statement.{statement}

@@ -5,7 +5,7 @@ use denote.Ref.{now}
 use Rattle.definitions.specs.Refusals.{Refusal}
 use Rattle.areas.specs.declared.checked.Check.{Check}
 use Rattle.areas.specs.Answers.{refusalOf}
-use Rattle.calls.proofs.EarlyFits.{early-fits}
+use Rattle.call_partition.proofs.EarlyFits.{early-fits}
 use Rattle.desk_checks.proofs.SharedRefusals.{refused-early, divided-shared}
 use borrow.Author.Needs.{needs}
 use Rattle.desk_checks.proofs.shared.prepare_shared.Statement.{statement}

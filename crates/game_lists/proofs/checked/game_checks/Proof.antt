@@ -7,7 +7,7 @@ use borrow.Author.Tests.{le-leb, lt-leb}
 use Rattle.definitions.specs.Refusals.{Refusal, unless}
 use Rattle.definitions.specs.Verdict.{refusal}
 use Rattle.checks.specs.declared.Fault.{Fault}
-use Rattle.checks.specs.Answers.{placeOf}
+use Rattle.checks.specs.Contract.{placeOf}
 use Rattle.areas.specs.declared.checked.Check.{Check}
 use Rattle.areas.specs.Answers.{refusalOf}
 use Rattle.areas.proofs.Chain.{here, next}

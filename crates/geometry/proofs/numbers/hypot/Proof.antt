@@ -2,7 +2,7 @@
 use borrow.Author.Needs.{needs}
 use mathlib.Core.Path.{sym, ap, _∙_}
 use lib.Ieee.{ofBits}
-use Rattle.hypotenuse.specs.Answers.{valueOf}
+use Rattle.hypotenuse.specs.Contract.{valueOf}
 use Rattle.geometry.proofs.numbers.hypot.Statement.{statement}
 use Rattle.geometry.proofs.numbers.hypot.Tie as tie
 

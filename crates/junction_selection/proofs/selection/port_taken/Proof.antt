@@ -10,7 +10,7 @@ use lib.ListN.{getD}
 use Rattle.definitions.specs.Scan.{anyBelow}
 use Rattle.laws.specs.ListLaws.Below.{below-at}
 use Rattle.laws.specs.ListLaws.ScanSteps.{any-none}
-use Rattle.junctions.specs.Rows.{rowAt}
+use Rattle.junction_proposals.specs.Rows.{rowAt}
 use Rattle.junction_selection.specs.Ranks.{reservesAt}
 use borrow.Author.Needs.{needs}
 use Rattle.junction_selection.proofs.selection.port_taken.Statement.{statement}

@@ -1,5 +1,5 @@
 -- `junction_selection::selection::region_conflict` meets its contract, by the kinds of the two proposals. Assumes nothing.
-use Rattle.junctions.specs.Rows.{rowAt}
+use Rattle.junction_proposals.specs.Rows.{rowAt}
 use Rattle.junction_selection.proofs.Conflicts.{with-union-taken, with-union, two-bridges}
 use borrow.Author.Needs.{needs}
 use Rattle.junction_selection.proofs.selection.region_conflict.Statement.{statement}

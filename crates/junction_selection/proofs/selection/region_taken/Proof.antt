@@ -11,7 +11,7 @@ use Rattle.definitions.specs.Scan.{anyBelow}
 use Rattle.definitions.specs.Junctions.{Proposal, regionConflict}
 use Rattle.laws.specs.ListLaws.Below.{below-at}
 use Rattle.laws.specs.ListLaws.ScanSteps.{any-none}
-use Rattle.junctions.specs.Rows.{rowAt}
+use Rattle.junction_proposals.specs.Rows.{rowAt}
 use Rattle.junction_selection.proofs.Conflicts.{any-taken}
 use borrow.Author.Needs.{needs}
 use Rattle.junction_selection.proofs.selection.region_taken.Statement.{statement}

@@ -1,8 +1,8 @@
 -- `junction_selection::selection::reserves` meets its contract, from what its callees ensure. Assumes nothing.
 use mathlib.Core.Bool.{not, _&&_, _||_}
 use lib.Dec.{eqb}
-use Rattle.junctions.specs.Ports.{names}
-use Rattle.junctions.specs.Rows.{rowAt}
+use Rattle.junction_proposals.specs.Ports.{names}
+use Rattle.junction_proposals.specs.Rows.{rowAt}
 use Rattle.junction_selection.specs.Ranks.{reservesAt}
 use borrow.Author.Needs.{needs}
 use Rattle.junction_selection.proofs.selection.reserves.Statement.{statement}

@@ -7,7 +7,7 @@ use mathlib.Core.Path.{_≡_, refl, sym, ap, _∙_}
 use lib.ListN.{length}
 use lib.Dec.{eqb}
 use Rattle.definitions.specs.Scan.{any}
-use Rattle.junctions.specs.Rows.{rowAt}
+use Rattle.junction_proposals.specs.Rows.{rowAt}
 use Rattle.junction_selection.specs.Ranks.{conflictAt, selectedOf}
 use Rattle.junction_selection.specs.Taken.{Standing}
 use Rattle.junction_selection.proofs.Lists.{selecting-of}

@@ -2,7 +2,7 @@
 use mathlib.Core.Path.{ap, _∙_}
 use Rattle.definitions.specs.Geometry.{center}
 use Rattle.geometry.specs.Ends.{limits}
-use Rattle.ramp_boundaries.proofs.Measured.{pixels-at}
+use Rattle.mouth_proposals.proofs.Measured.{pixels-at}
 use borrow.Author.Needs.{needs}
 use Rattle.mouth_regions.proofs.near.center_of.Statement.{statement}
 use Rattle.mouth_regions.proofs.near.center_of.Tie as tie

@@ -4,7 +4,7 @@ use native.Mathlib.Nat.{le-antisymm}
 use mathlib.Core.Path.{_≡_, sym, ap, _∙_, subst}
 use lib.ListN.{length}
 use Rattle.context.specs.Rows.{NamedRow}
-use Rattle.ramp_boundaries.proofs.RowLists.{named-lo, named-hi}
+use Rattle.mouth_proposals.proofs.RowLists.{named-lo, named-hi}
 use Rattle.mouth_selection.proofs.Marks.{inner-length, marked, none-marked, row-marked}
 use borrow.Author.Needs.{needs}
 use Rattle.mouth_selection.proofs.held.hold_inner.Statement.{statement}

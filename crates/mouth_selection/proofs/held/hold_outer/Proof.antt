@@ -4,7 +4,7 @@ use mathlib.Core.Path.{sym, ap, _∙_}
 use mathlib.Core.Bool.{cond}
 use lib.Dec.{eqb}
 use borrow.Author.Tests.{eq-eqb, ne-eqb}
-use Rattle.ramp_boundaries.specs.Candidates.{triangular}
+use Rattle.mouth_proposals.specs.Candidates.{triangular}
 use Rattle.mouth_selection.specs.Held.{markHeld}
 use Rattle.mouth_selection.proofs.Marks.{hold-le}
 use borrow.Author.Needs.{needs}

@@ -7,7 +7,7 @@ use lib.ListN.{length}
 use lib.Dec.{eqb}
 use Rattle.definitions.specs.MouthShapes.{regionsOf}
 use Rattle.context.specs.Rows.{NamedRow}
-use Rattle.ramp_boundaries.specs.Rows.{rowsOf}
+use Rattle.mouth_proposals.specs.Rows.{rowsOf}
 use Rattle.mouth_selection.specs.Held.{markHeld, markInner}
 use Rattle.mouth_selection.proofs.Marks.{held-length}
 use borrow.Author.Needs.{needs}

@@ -11,7 +11,7 @@ use Rattle.laws.specs.RustMouths.Triangles.{any-regions}
 use Rattle.context.specs.Shown.{pairsBetween}
 use Rattle.context.proofs.Counting.{between-none, between-any, none-more}
 use Rattle.mouth_selection.specs.Held.{holdAt}
-use Rattle.ramp_boundaries.proofs.RowLists.{named-lo, named-hi}
+use Rattle.mouth_proposals.proofs.RowLists.{named-lo, named-hi}
 use borrow.Author.Needs.{needs}
 use Rattle.mouth_selection.proofs.held.inner_held.Statement.{statement}
 use Rattle.mouth_selection.proofs.held.inner_held.Tie as tie

@@ -8,7 +8,7 @@ use lib.Dec.{eqb, leb}
 use borrow.Author.Tests.{eq-eqb, ne-eqb}
 use Rattle.definitions.specs.Scan.{any}
 use Rattle.definitions.specs.MouthShapes.{regionsOf}
-use Rattle.ramp_boundaries.specs.Candidates.{triangular}
+use Rattle.mouth_proposals.specs.Candidates.{triangular}
 use Rattle.mouth_selection.specs.Held.{holdAt}
 use Rattle.mouth_selection.proofs.Marks.{hold-le, held-by}
 use borrow.Author.Needs.{needs}

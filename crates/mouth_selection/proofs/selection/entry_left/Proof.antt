@@ -3,7 +3,7 @@ use Prim.Native.Nat.{_<_}
 use mathlib.Core.Path.{sym, ap, _∙_, subst}
 use mathlib.Core.Bool.{false, not, _&&_}
 use lib.ListN.{getD}
-use Rattle.ramp_boundaries.specs.Candidates.{proposalOf}
+use Rattle.mouth_proposals.specs.Candidates.{proposalOf}
 use Rattle.mouth_selection.specs.Held.{isRefused}
 use Rattle.mouth_selection.specs.Entries.{SafeEntry}
 use borrow.Author.Needs.{needs}

@@ -8,7 +8,7 @@ use Rattle.definitions.specs.Context.{Context}
 use Rattle.definitions.specs.RampMouths.{MouthProposal}
 use Rattle.context.specs.Shown.{ShownBoundaries, ShownPairs}
 use Rattle.mouth_selection.specs.Held.{TakenState}
-use Rattle.ramp_boundaries.specs.Listed.{Listed}
+use Rattle.mouth_proposals.specs.Listed.{Listed}
 use Rattle.mouth_selection.specs.Entries.{entryIf, nearEntries}
 use Rattle.mouth_selection.specs.Rounds.{leastAmong}
 use Rattle.mouth_selection.proofs.RoundLaws.{round-start, round-more}

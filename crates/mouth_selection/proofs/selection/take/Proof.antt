@@ -8,7 +8,7 @@ use lib.ListN.{length, getD, length-set}
 use lib.Dec.{eqb}
 use borrow.Author.Tests.{lt-ltb}
 use Rattle.definitions.specs.MouthShapes.{regionsOf}
-use Rattle.ramp_boundaries.specs.Candidates.{triangular, proposalOf}
+use Rattle.mouth_proposals.specs.Candidates.{triangular, proposalOf}
 use Rattle.mouth_selection.specs.Held.{HeldMarks, sameEnd, markHeld, markInner}
 use Rattle.mouth_selection.proofs.Marks.{inner-length, outer-length}
 use Rattle.mouth_selection.proofs.TakenLaws.{refused-parts, mouth-taken, end-taken, held-taken}

@@ -11,9 +11,9 @@ use lib.ListN.{length, getD}
 use Rattle.definitions.specs.Scan.{countBelow}
 use Rattle.definitions.specs.Context.{Context}
 use Rattle.definitions.specs.RampMouths.{MouthProposal}
-use Rattle.ramp_boundaries.specs.Candidates.{proposalOf}
+use Rattle.mouth_proposals.specs.Candidates.{proposalOf}
 use Rattle.mouth_selection.specs.Held.{isRefused}
-use Rattle.ramp_boundaries.specs.Listed.{entryAt}
+use Rattle.mouth_proposals.specs.Listed.{entryAt}
 use Rattle.mouth_selection.specs.Entries.{entryIf, nearEntries}
 use Rattle.mouth_selection.specs.Rounds.{leastAmong}
 use Rattle.mouth_selection.specs.Selecting.{Selects}

@@ -2,7 +2,7 @@
 use Prim.Native.Nat.{_<_}
 use mathlib.Core.Path.{sym, _∙_, subst}
 use lib.ListN.{getD}
-use Rattle.ramp_boundaries.specs.Candidates.{proposalOf}
+use Rattle.mouth_proposals.specs.Candidates.{proposalOf}
 use Rattle.mouth_selection.specs.Held.{isRefused}
 use Rattle.mouth_selection.specs.Entries.{SafeEntry}
 use Rattle.mouth_selection.proofs.SelectionLaws.{taken-at}

@@ -3,7 +3,7 @@ use mathlib.Core.Path.{sym, ap, _∙_}
 use mathlib.Core.Bool.{false≢true}
 use borrow.Author.Tests.{leb-true}
 use Rattle.catalogue.specs.Terms.{termAt, termFault}
-use Rattle.pool_terms.specs.Answers.{daysIn}
+use Rattle.pool_terms.specs.Contract.{daysIn}
 use Rattle.pool_faults.proofs.TermScan.{free-of-fault}
 use borrow.Author.Needs.{needs}
 use Rattle.pool_faults.proofs.faults.passes.Statement.{statement}

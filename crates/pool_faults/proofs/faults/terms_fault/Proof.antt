@@ -3,7 +3,7 @@ use Prim.Native.Nat.{_-_, _≤_}
 use mathlib.Core.Path.{sym, ap, _∙_}
 use Rattle.laws.specs.ListLaws.FirstBelow.{none-below-more, none-below-end, first-found}
 use Rattle.catalogue.specs.Terms.{termsRefusal}
-use Rattle.pool_terms.specs.Answers.{refusalIn}
+use Rattle.pool_terms.specs.Contract.{refusalIn}
 use Rattle.pool_faults.specs.Apart.{Faultless}
 use borrow.Author.Needs.{needs}
 use Rattle.pool_faults.proofs.faults.terms_fault.Statement.{statement}

@@ -1,6 +1,6 @@
 -- `terms::first_in` meets its contract, by that of `term_days`. Assumes nothing.
 use mathlib.Core.Path.{sym, ap, _∙_}
-use Rattle.pool_terms.specs.Answers.{daysIn, firstIn}
+use Rattle.pool_terms.specs.Contract.{daysIn, firstIn}
 use borrow.Author.Needs.{needs}
 use Rattle.pool_terms.proofs.terms.first_in.Statement.{statement}
 use Rattle.pool_terms.proofs.terms.first_in.Tie as tie

@@ -6,7 +6,7 @@ use Rattle.definitions.specs.Scan.{anyBelow}
 use Rattle.laws.specs.ListLaws.Below.{below-at}
 use Rattle.laws.specs.ListLaws.ScanSteps.{any-none}
 use Rattle.catalogue.specs.Terms.{termAt, overlapsEarlier}
-use Rattle.pool_terms.specs.Answers.{sharing}
+use Rattle.pool_terms.specs.Contract.{sharing}
 use Rattle.pool_terms.proofs.TermScan.{any-end}
 use borrow.Author.Needs.{needs}
 use Rattle.pool_terms.proofs.terms.overlaps_earlier.Statement.{statement}

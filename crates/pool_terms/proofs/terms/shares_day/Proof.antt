@@ -3,7 +3,7 @@ use mathlib.Core.Path.{sym, ap, ap₂, _∙_}
 use mathlib.Core.Bool.{_&&_}
 use borrow.Author.Tests.{eq-eqb, ne-eqb, lt-ltb, le-ltb}
 use Rattle.catalogue.specs.Terms.{termAt, overlap}
-use Rattle.pool_terms.specs.Answers.{daysIn}
+use Rattle.pool_terms.specs.Contract.{daysIn}
 use borrow.Author.Needs.{needs}
 use Rattle.pool_terms.proofs.terms.shares_day.Statement.{statement}
 use Rattle.pool_terms.proofs.terms.shares_day.Tie as tie

@@ -70,9 +70,14 @@ mul-end c =
     let told = past-9 .before .enum-told in
     let checks = past-12 .rest-checks in
     let given = past-24 .before .args in
-    record { fits = omega (arith, count-few (given .width) (given .height) (now (given .cells)) (now (given .spans)) (now (given .boundaries)) (now (given .anchors)) (given .room) (given .output)
-    (given .labels .now) (given .masks .now) (given .queue .now) (given .tallies .now) (given .pairs .now)
-    (says (checks .ensures) (told .given .1))) }
+    record {
+      fits = omega (
+        arith,
+        count-few (given .width) (given .height) (now (given .cells)) (now (given .spans)) (now (given .boundaries)) (now (given .anchors)) (given .room) (given .output)
+            (given .labels .now) (given .masks .now) (given .queue .now) (given .tallies .now) (given .pairs .now)
+            (says (checks .ensures) (told .given .1)),
+      );
+    }
 
 slice-reshare-prefix-divide : tie.Need-slice-reshare-prefix-divide
 slice-reshare-prefix-divide c =

@@ -11,12 +11,12 @@ use Rattle.definitions.specs.Limits.{numbersPerSpan, numbersPerBoundary}
 use Rattle.definitions.specs.Refusals.{Refusal, unless, partitionRoom, outputRoom}
 use Rattle.definitions.specs.Verdict.{refusal}
 use Rattle.checks.specs.declared.Fault.{Fault}
-use Rattle.checks.specs.Answers.{placeOf}
+use Rattle.checks.specs.Contract.{placeOf}
 use Rattle.areas.specs.declared.checked.Check.{Check}
 use Rattle.areas.specs.Answers.{refusalOf}
 use Rattle.areas.proofs.Chain.{here, next}
-use Rattle.calls.specs.Early.{sizesRefusal}
-use Rattle.calls.proofs.SizesPassed.{sizes-fit}
+use Rattle.call_partition.specs.Early.{sizesRefusal}
+use Rattle.call_partition.proofs.SizesPassed.{sizes-fit}
 use Rattle.rest_lists.specs.Early.{restEarly}
 use Rattle.rest_lists.proofs.checked.rest_checks.Statement.{statement}
 use Rattle.rest_lists.proofs.checked.rest_checks.Tie as tie

@@ -14,8 +14,8 @@ use borrow.Fn.World.{World}
 use borrow.Table.Typed.{Mo, Want, withNext, wantNext}
 use borrow.Rule.Slice.Mut.{setVals}
 use Rattle.context.specs.declared.Region.{Region}
-use Rattle.calls.specs.declared.Prepared.{Prepared}
-use Rattle.calls.proofs.Prepared as prepared
+use Rattle.call_partition.specs.declared.Prepared.{Prepared}
+use Rattle.call_partition.proofs.Prepared as prepared
 use Rattle.game_lists.specs.Prepared.{GameReady, GamePreparedAs}
 use Rattle.topology.specs.declared.games.Second.{Second}
 use Rattle.topology.specs.Games.{RanKept}

@@ -17,7 +17,7 @@ use borrow.Table.Typed.{Mo}
 use borrow.Rule.Slice.Mut.{setVals}
 use Rattle.definitions.specs.Limits.{numbersPerBoundary}
 use Rattle.definitions.specs.Grid.{Map}
-use Rattle.views.specs.Viewed.{Partitioned, Viewed}
+use Rattle.pass_lists.specs.Contract.{Partitioned, Viewed}
 use Rattle.topology.proofs.Marking.{unmarked-lent, marks-long, counts-long, lent-shows, marked-lent}
 use Rattle.topology.proofs.Steps.{fixed, parts}
 use Rattle.topology.proofs.marks.mark_removed.Statement.{statement}

@@ -14,7 +14,7 @@ use borrow.Table.Typed.{Mo}
 use borrow.Rule.Slice.Mut.{setVals}
 use Rattle.definitions.specs.Limits.{numbersPerBoundary}
 use Rattle.definitions.specs.Grid.{Map}
-use Rattle.views.specs.Viewed.{Partitioned, Viewed}
+use Rattle.pass_lists.specs.Contract.{Partitioned, Viewed}
 use Rattle.topology.proofs.RankedMarking.{unranked-lent, unmarked-here, lent-passes, ranked-lent}
 use Rattle.topology.proofs.Steps.{same, fixed, parts}
 use Rattle.topology.proofs.ranked.mark_ranked.Statement.{statement}

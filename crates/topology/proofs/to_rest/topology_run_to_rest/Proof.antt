@@ -19,8 +19,8 @@ use borrow.Fn.World.{World}
 use borrow.Table.Typed.{Mo, Want, withNext, wantNext}
 use borrow.Rule.Slice.Mut.{setVals}
 use Rattle.context.specs.declared.Region.{Region}
-use Rattle.calls.specs.declared.Prepared.{Prepared}
-use Rattle.calls.proofs.Prepared as prepared
+use Rattle.call_partition.specs.declared.Prepared.{Prepared}
+use Rattle.call_partition.proofs.Prepared as prepared
 use Rattle.rest_lists.proofs.kept.Standing.{struct}
 use Rattle.rest_lists.specs.declared.kept.Standing.{Standing}
 use Rattle.rest_lists.specs.Begun.{Begun, BegunAs}

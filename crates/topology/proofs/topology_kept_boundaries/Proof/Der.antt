@@ -1,8 +1,8 @@
 -- The derivation of `Rattle.topology.proofs.topology_kept_boundaries` in steps. Made by compare/twin.
 use Rattle.topology.proofs.Rules.{Array, Atoms, Cx, Dens, Env, EnvOf, Given, Heap, Known, Lfts, List, Mo, Outs, Row, Shares, Tables, Ty, URA, Want, World, [], _∷_, alive, any-gone, apartT, arr-mem, arrF, as-is, asMut, asShr, bool-lawful, bool-makes, cRf, cStruct, dead, div, erased, fBool, fInt, false, field, folds, g-as-by, g-back-sc, g-back-shr, g-back-sl, g-back-sl-shr, g-begin, g-drop-sref, g-end, g-enum-known, g-forget, g-known-told, g-room, getD, holds-sc, home-of, imm, init, is-wt, lease, lenV, makes-mem, mem-arr, mem-whole, mleft, mref, msleft, mslice, mslice-owed, mslice-owedS, msptr, mul, mut, named, oAt, oBool, oFld, oInt, off, pointee, reads-enum, reads-mref, reads-mslice, reads-mslice-len, reads-owed-len, reads-owedS-len, reads-payload, reads-sc, reads-sref, reads-sslice, reads-sslice-len, reads-tag, refl, room-arr, room-gone, room-sc, room-sslice, room-whole, rtF, sInt, sUnit, sc-here, sc-owed, sc-shr, some, spares-sref, spares-sslice, sref, sslice, ssptr, sub-id, suc, t-call-plain, t-op2, t-repeat, t-sc-borrow, t-sc-share, t-sl-aggregate, t-sl-relend, t-sl-reshare, t-struct-make, t-use, t-val-copy, tagOf, told-none, tyArray, tyBool, tyInt, tyR, tyRef, tyUnit, tysP, u64-wt, unsigned, vAt, valS, variant, vcons, vint, vnil, w16, w32, w64, w8, wantQ, whole, whole-arr, whole-mem, withNext, yields-copy, Γin, Δret, ℕ}
-use Rattle.calls.proofs.Prepared.{enum}
-use Rattle.calls.proofs.Prepared as Prepared
-use Rattle.calls.proofs.Prepared.Laws as Laws
+use Rattle.call_partition.proofs.Prepared.{enum}
+use Rattle.call_partition.proofs.Prepared as Prepared
+use Rattle.call_partition.proofs.Prepared.Laws as Laws
 use Rattle.context.proofs.Region as twin-0
 use Rattle.topology.proofs.TopologyAnswer.{struct}
 use Rattle.topology.proofs.TopologyAnswer as TopologyAnswer
@@ -10,10 +10,10 @@ use Rattle.topology.proofs.TopologyAnswer.Laws as Laws'
 use borrow.Fn.Plain.{Known as Knows}
 use denote.Enum.Declared as Declared
 use denote.Struct.Declared as Declared'
-use Rattle.calls.proofs.prepare.Kinds as K0
-use Rattle.calls.proofs.prepare.Reads as R0
-use Rattle.calls.proofs.prepare.Symbol as S0
-use Rattle.calls.proofs.prepare.Met as M0
+use Rattle.call_partition.proofs.prepare.Kinds as K0
+use Rattle.call_partition.proofs.prepare.Reads as R0
+use Rattle.call_partition.proofs.prepare.Symbol as S0
+use Rattle.call_partition.proofs.prepare.Met as M0
 use Rattle.topology.proofs.Seen.records.fill.Kinds as K1
 use Rattle.topology.proofs.Seen.records.fill.Reads as R1
 use Rattle.topology.proofs.records.fill.Symbol as S1
@@ -22,10 +22,10 @@ use Rattle.topology.proofs.Seen.marks.mark_removed.Kinds as K2
 use Rattle.topology.proofs.Seen.marks.mark_removed.Reads as R2
 use Rattle.topology.proofs.marks.mark_removed.Symbol as S2
 use Rattle.topology.proofs.marks.mark_removed.Met as M2
-use Rattle.views.proofs.finish.Kinds as K3
-use Rattle.views.proofs.finish.Reads as R3
-use Rattle.views.proofs.finish.Symbol as S3
-use Rattle.views.proofs.finish.Met as M3
+use Rattle.pass_lists.proofs.finish.Kinds as K3
+use Rattle.pass_lists.proofs.finish.Reads as R3
+use Rattle.pass_lists.proofs.finish.Symbol as S3
+use Rattle.pass_lists.proofs.finish.Met as M3
 use Rattle.topology.proofs.Seen.topology_kept_boundaries.Kinds.{ps, r}
 use Rattle.topology.proofs.topology_kept_boundaries.Code as code
 use contract.Running
@@ -427,7 +427,7 @@ module _ (κs : Lfts 11) (qs : Shares 11) where
   Γ-from-answer = G30
 
 module _ {M : Type 1} (𝓤 : URA M) (H : Heap 𝓤) (A : Atoms 𝓤) (W : Given 𝓤 H A) (𝓣 : Tables 𝓤 H)
-    (known0 : Knows 𝓤 H A W 𝓣 9 K0.ps K0.r R0.Asked R0.Learnt "calls::prepare") (known1 : Knows 𝓤 H A W 𝓣 4 K1.ps K1.r R1.Asked R1.Learnt "topology::records::fill") (known2 : Knows 𝓤 H A W 𝓣 9 K2.ps K2.r R2.Asked R2.Learnt "topology::marks::mark_removed") (known3 : Knows 𝓤 H A W 𝓣 5 K3.ps K3.r R3.Asked R3.Learnt "views::finish") (κs : Lfts 11) (qs : Shares 11) (bs : List ℕ) where
+    (known0 : Knows 𝓤 H A W 𝓣 9 K0.ps K0.r R0.Asked R0.Learnt "call_partition::prepare") (known1 : Knows 𝓤 H A W 𝓣 4 K1.ps K1.r R1.Asked R1.Learnt "topology::records::fill") (known2 : Knows 𝓤 H A W 𝓣 9 K2.ps K2.r R2.Asked R2.Learnt "topology::marks::mark_removed") (known3 : Knows 𝓤 H A W 𝓣 5 K3.ps K3.r R3.Asked R3.Learnt "pass_lists::finish") (κs : Lfts 11) (qs : Shares 11) (bs : List ℕ) where
   abbrev E : Env 𝓤 H
   E = EnvOf 𝓤 H (tyR r ∷ tysP ps xs) bs
 
@@ -458,7 +458,7 @@ module _ {M : Type 1} (𝓤 : URA M) (H : Heap 𝓤) (A : Atoms 𝓤) (W : Given
       ghosts _ (G159 κs qs) (g-begin 𝓤 H A W E _ 29 _) $
       stmt (G159 κs qs) _ (t-sl-relend 𝓤 H A W E (rtF (fInt w64)) 𝓣 (G159 κs qs) 14 65 10 29 (tyRef (named 10) mut (tyInt w64)) (tyRef erased mut (tyInt w64)) (lease (κs .1 .1 .1 .1 .1 .1 .1 .1 .1 .1 .0) (qs .1 .1 .1 .1 .1 .1 .1 .1 .1 .1 .0)) 0 (λ x. x) (as-is 𝓤 H A (mslice (rtF (fInt w64)) (tyRef (named 10) mut (tyInt w64)) 10)) (room-gone 𝓤 H A (tyRef erased mut (tyInt w64))) refl tt refl refl refl (λ b o. tt)) $
       stmt _ (G161 κs qs) (t-sl-aggregate 𝓤 H A W E (rtF (fInt w64)) 𝓣 (asMut (rtF (fInt w64))) _ 65 66 29 (tyRef erased mut (tyInt w64)) (tyRef erased mut (tyInt w64)) (λ x. x) (oFld 14 (field 1 ∷ []) (tyInt w64) 8 (λ v. lenV (v .0))) (as-is 𝓤 H A (msptr (rtF (fInt w64)) (tyRef erased mut (tyInt w64)) 29)) (room-gone 𝓤 H A _) (reads-owed-len 𝓤 H A W (rtF (fInt w64)) (tyRef (named 10) mut (tyInt w64)) 10 29 (lease (κs .1 .1 .1 .1 .1 .1 .1 .1 .1 .1 .0) (qs .1 .1 .1 .1 .1 .1 .1 .1 .1 .1 .0)) 8 refl, refl) refl refl (λ b o k. tt)) $
-      stmt (G161 κs qs) (G162 κs qs) (t-call-plain 𝓤 H A W 𝓣 5 K3.ps K3.r R3.Asked R3.Learnt "views::finish" known3 E (λ pos β. β) (G161 κs qs) (vAt 23 (λ x. x), (vAt 50 (λ x. x), (record { pos = 6; ty = tyRef (named 2) imm (tyInt w64); ref = λ x. x }, (record { pos = 60; ty = tyRef erased imm (tyArray tyBool 256); ref = λ x. x }, (record { pos = 62; ty = tyRef erased mut (tyInt w16); ref = λ x. x }, (record { pos = 64; ty = tyRef erased mut (tyInt w32); ref = λ x. x }, (record { pos = 66; ty = tyRef erased mut (tyInt w64); ref = λ x. x }, tt))))))) 25 (2 ∷ 26 ∷ 27 ∷ 28 ∷ 29 ∷ []) (sub-id 𝓤 H A W ((G161 κs qs) .slots)) ((reads-sc 𝓤 H A W (sInt w64), refl), ((reads-sc 𝓤 H A W (sInt w64), refl), (spares-sslice 𝓤 H A W (rtF (fInt w64)) (tyRef (named 2) imm (tyInt w64)) 2, reads-sslice 𝓤 H A W (rtF (fInt w64)) (tyRef (named 2) imm (tyInt w64)) 2, refl, (spares-sref 𝓤 H A W (Array (rtF fBool) 256) (tyRef erased imm (tyArray tyBool 256)) 26, reads-sref 𝓤 H A W (Array (rtF fBool) 256) (tyRef erased imm (tyArray tyBool 256)) 26, refl, (as-is 𝓤 H A (mslice (rtF (fInt w16)) (tyRef erased mut (tyInt w16)) 27), reads-mslice 𝓤 H A W (rtF (fInt w16)) (tyRef erased mut (tyInt w16)) 27, refl, (as-is 𝓤 H A (mslice (rtF (fInt w32)) (tyRef erased mut (tyInt w32)) 28), reads-mslice 𝓤 H A W (rtF (fInt w32)) (tyRef erased mut (tyInt w32)) 28, refl, (as-is 𝓤 H A (mslice (rtF (fInt w64)) (tyRef erased mut (tyInt w64)) 29), reads-mslice 𝓤 H A W (rtF (fInt w64)) (tyRef erased mut (tyInt w64)) 29, refl, tt))))))) (room-gone 𝓤 H A (tyInt w64)) _ refl) $
+      stmt (G161 κs qs) (G162 κs qs) (t-call-plain 𝓤 H A W 𝓣 5 K3.ps K3.r R3.Asked R3.Learnt "pass_lists::finish" known3 E (λ pos β. β) (G161 κs qs) (vAt 23 (λ x. x), (vAt 50 (λ x. x), (record { pos = 6; ty = tyRef (named 2) imm (tyInt w64); ref = λ x. x }, (record { pos = 60; ty = tyRef erased imm (tyArray tyBool 256); ref = λ x. x }, (record { pos = 62; ty = tyRef erased mut (tyInt w16); ref = λ x. x }, (record { pos = 64; ty = tyRef erased mut (tyInt w32); ref = λ x. x }, (record { pos = 66; ty = tyRef erased mut (tyInt w64); ref = λ x. x }, tt))))))) 25 (2 ∷ 26 ∷ 27 ∷ 28 ∷ 29 ∷ []) (sub-id 𝓤 H A W ((G161 κs qs) .slots)) ((reads-sc 𝓤 H A W (sInt w64), refl), ((reads-sc 𝓤 H A W (sInt w64), refl), (spares-sslice 𝓤 H A W (rtF (fInt w64)) (tyRef (named 2) imm (tyInt w64)) 2, reads-sslice 𝓤 H A W (rtF (fInt w64)) (tyRef (named 2) imm (tyInt w64)) 2, refl, (spares-sref 𝓤 H A W (Array (rtF fBool) 256) (tyRef erased imm (tyArray tyBool 256)) 26, reads-sref 𝓤 H A W (Array (rtF fBool) 256) (tyRef erased imm (tyArray tyBool 256)) 26, refl, (as-is 𝓤 H A (mslice (rtF (fInt w16)) (tyRef erased mut (tyInt w16)) 27), reads-mslice 𝓤 H A W (rtF (fInt w16)) (tyRef erased mut (tyInt w16)) 27, refl, (as-is 𝓤 H A (mslice (rtF (fInt w32)) (tyRef erased mut (tyInt w32)) 28), reads-mslice 𝓤 H A W (rtF (fInt w32)) (tyRef erased mut (tyInt w32)) 28, refl, (as-is 𝓤 H A (mslice (rtF (fInt w64)) (tyRef erased mut (tyInt w64)) 29), reads-mslice 𝓤 H A W (rtF (fInt w64)) (tyRef erased mut (tyInt w64)) 29, refl, tt))))))) (room-gone 𝓤 H A (tyInt w64)) _ refl) $
       ghosts (G162 κs qs) _ (g-drop-sref 𝓤 H A W E (G162 κs qs) 60 26 (Array (rtF fBool) 256) (tyRef erased imm (tyArray tyBool 256)) (λ x. x) (as-is 𝓤 H A (sref (Array (rtF fBool) 256) (tyRef erased imm (tyArray tyBool 256)) 26))) $
       ghosts _ _ (g-room 𝓤 H A W E _ 50 (tyInt w64) (room-sc 𝓤 H A W (sInt w64))) $
       ghosts _ (G165 κs qs) (g-end 𝓤 H A W E _ 26 refl) $
@@ -600,7 +600,7 @@ module _ {M : Type 1} (𝓤 : URA M) (H : Heap 𝓤) (A : Atoms 𝓤) (W : Given
       ghosts _ (G26 κs qs) (g-begin 𝓤 H A W E _ 15 _) $
       stmt (G26 κs qs) _ (t-sl-relend 𝓤 H A W E (rtF (fInt w32)) 𝓣 (G26 κs qs) 12 34 8 15 (tyRef (named 8) mut (tyInt w32)) (tyRef erased mut (tyInt w32)) (lease (κs .1 .1 .1 .1 .1 .1 .1 .1 .0) (qs .1 .1 .1 .1 .1 .1 .1 .1 .0)) 0 (λ x. x) (as-is 𝓤 H A (mslice (rtF (fInt w32)) (tyRef (named 8) mut (tyInt w32)) 8)) (room-gone 𝓤 H A (tyRef erased mut (tyInt w32))) refl tt refl refl refl (λ b o. tt)) $
       stmt _ (G28 κs qs) (t-sl-aggregate 𝓤 H A W E (rtF (fInt w32)) 𝓣 (asMut (rtF (fInt w32))) _ 34 35 15 (tyRef erased mut (tyInt w32)) (tyRef erased mut (tyInt w32)) (λ x. x) (oFld 12 (field 1 ∷ []) (tyInt w64) 8 (λ v. lenV (v .0))) (as-is 𝓤 H A (msptr (rtF (fInt w32)) (tyRef erased mut (tyInt w32)) 15)) (room-gone 𝓤 H A _) (reads-owed-len 𝓤 H A W (rtF (fInt w32)) (tyRef (named 8) mut (tyInt w32)) 8 15 (lease (κs .1 .1 .1 .1 .1 .1 .1 .1 .0) (qs .1 .1 .1 .1 .1 .1 .1 .1 .0)) 8 refl, refl) refl refl (λ b o k. tt)) $
-      stmt (G28 κs qs) (G29 κs qs) (t-call-plain 𝓤 H A W 𝓣 9 K0.ps K0.r R0.Asked R0.Learnt "calls::prepare" known0 E (λ pos β. β) (G28 κs qs) (vAt 1 (λ x. x), (vAt 2 (λ x. x), (vAt 3 (λ x. x), (record { pos = 4; ty = tyRef (named 0) imm (tyInt w8); ref = λ x. x }, (record { pos = 5; ty = tyRef (named 1) imm (tyInt w64); ref = λ x. x }, (record { pos = 6; ty = tyRef (named 2) imm (tyInt w64); ref = λ x. x }, (record { pos = 7; ty = tyRef (named 3) imm (tyInt w64); ref = λ x. x }, (vAt 15 (λ x. x), (vAt 16 (λ x. x), (record { pos = 27; ty = tyRef erased mut (tyInt w32); ref = λ x. x }, (record { pos = 29; ty = tyRef erased mut (tyInt w16); ref = λ x. x }, (record { pos = 31; ty = tyRef erased mut (tyInt w32); ref = λ x. x }, (record { pos = 33; ty = tyRef erased mut (tyInt w32); ref = λ x. x }, (record { pos = 35; ty = tyRef erased mut (tyInt w32); ref = λ x. x }, tt)))))))))))))) 17 (0 ∷ 1 ∷ 2 ∷ 3 ∷ 11 ∷ 12 ∷ 13 ∷ 14 ∷ 15 ∷ []) (sub-id 𝓤 H A W ((G28 κs qs) .slots)) ((reads-sc 𝓤 H A W (sInt w64), refl), ((reads-sc 𝓤 H A W (sInt w64), refl), ((reads-sc 𝓤 H A W (sInt w64), refl), (spares-sslice 𝓤 H A W (rtF (fInt w8)) (tyRef (named 0) imm (tyInt w8)) 0, reads-sslice 𝓤 H A W (rtF (fInt w8)) (tyRef (named 0) imm (tyInt w8)) 0, refl, (spares-sslice 𝓤 H A W (rtF (fInt w64)) (tyRef (named 1) imm (tyInt w64)) 1, reads-sslice 𝓤 H A W (rtF (fInt w64)) (tyRef (named 1) imm (tyInt w64)) 1, refl, (spares-sslice 𝓤 H A W (rtF (fInt w64)) (tyRef (named 2) imm (tyInt w64)) 2, reads-sslice 𝓤 H A W (rtF (fInt w64)) (tyRef (named 2) imm (tyInt w64)) 2, refl, (spares-sslice 𝓤 H A W (rtF (fInt w64)) (tyRef (named 3) imm (tyInt w64)) 3, reads-sslice 𝓤 H A W (rtF (fInt w64)) (tyRef (named 3) imm (tyInt w64)) 3, refl, ((reads-sc 𝓤 H A W (sInt w64), refl), ((reads-sc 𝓤 H A W (sInt w64), refl), (as-is 𝓤 H A (mslice (rtF (fInt w32)) (tyRef erased mut (tyInt w32)) 11), reads-mslice 𝓤 H A W (rtF (fInt w32)) (tyRef erased mut (tyInt w32)) 11, refl, (as-is 𝓤 H A (mslice (rtF (fInt w16)) (tyRef erased mut (tyInt w16)) 12), reads-mslice 𝓤 H A W (rtF (fInt w16)) (tyRef erased mut (tyInt w16)) 12, refl, (as-is 𝓤 H A (mslice (rtF (fInt w32)) (tyRef erased mut (tyInt w32)) 13), reads-mslice 𝓤 H A W (rtF (fInt w32)) (tyRef erased mut (tyInt w32)) 13, refl, (as-is 𝓤 H A (mslice (rtF (fInt w32)) (tyRef erased mut (tyInt w32)) 14), reads-mslice 𝓤 H A W (rtF (fInt w32)) (tyRef erased mut (tyInt w32)) 14, refl, (as-is 𝓤 H A (mslice (rtF (fInt w32)) (tyRef erased mut (tyInt w32)) 15), reads-mslice 𝓤 H A W (rtF (fInt w32)) (tyRef erased mut (tyInt w32)) 15, refl, tt)))))))))))))) (room-gone 𝓤 H A _) _ refl) $
+      stmt (G28 κs qs) (G29 κs qs) (t-call-plain 𝓤 H A W 𝓣 9 K0.ps K0.r R0.Asked R0.Learnt "call_partition::prepare" known0 E (λ pos β. β) (G28 κs qs) (vAt 1 (λ x. x), (vAt 2 (λ x. x), (vAt 3 (λ x. x), (record { pos = 4; ty = tyRef (named 0) imm (tyInt w8); ref = λ x. x }, (record { pos = 5; ty = tyRef (named 1) imm (tyInt w64); ref = λ x. x }, (record { pos = 6; ty = tyRef (named 2) imm (tyInt w64); ref = λ x. x }, (record { pos = 7; ty = tyRef (named 3) imm (tyInt w64); ref = λ x. x }, (vAt 15 (λ x. x), (vAt 16 (λ x. x), (record { pos = 27; ty = tyRef erased mut (tyInt w32); ref = λ x. x }, (record { pos = 29; ty = tyRef erased mut (tyInt w16); ref = λ x. x }, (record { pos = 31; ty = tyRef erased mut (tyInt w32); ref = λ x. x }, (record { pos = 33; ty = tyRef erased mut (tyInt w32); ref = λ x. x }, (record { pos = 35; ty = tyRef erased mut (tyInt w32); ref = λ x. x }, tt)))))))))))))) 17 (0 ∷ 1 ∷ 2 ∷ 3 ∷ 11 ∷ 12 ∷ 13 ∷ 14 ∷ 15 ∷ []) (sub-id 𝓤 H A W ((G28 κs qs) .slots)) ((reads-sc 𝓤 H A W (sInt w64), refl), ((reads-sc 𝓤 H A W (sInt w64), refl), ((reads-sc 𝓤 H A W (sInt w64), refl), (spares-sslice 𝓤 H A W (rtF (fInt w8)) (tyRef (named 0) imm (tyInt w8)) 0, reads-sslice 𝓤 H A W (rtF (fInt w8)) (tyRef (named 0) imm (tyInt w8)) 0, refl, (spares-sslice 𝓤 H A W (rtF (fInt w64)) (tyRef (named 1) imm (tyInt w64)) 1, reads-sslice 𝓤 H A W (rtF (fInt w64)) (tyRef (named 1) imm (tyInt w64)) 1, refl, (spares-sslice 𝓤 H A W (rtF (fInt w64)) (tyRef (named 2) imm (tyInt w64)) 2, reads-sslice 𝓤 H A W (rtF (fInt w64)) (tyRef (named 2) imm (tyInt w64)) 2, refl, (spares-sslice 𝓤 H A W (rtF (fInt w64)) (tyRef (named 3) imm (tyInt w64)) 3, reads-sslice 𝓤 H A W (rtF (fInt w64)) (tyRef (named 3) imm (tyInt w64)) 3, refl, ((reads-sc 𝓤 H A W (sInt w64), refl), ((reads-sc 𝓤 H A W (sInt w64), refl), (as-is 𝓤 H A (mslice (rtF (fInt w32)) (tyRef erased mut (tyInt w32)) 11), reads-mslice 𝓤 H A W (rtF (fInt w32)) (tyRef erased mut (tyInt w32)) 11, refl, (as-is 𝓤 H A (mslice (rtF (fInt w16)) (tyRef erased mut (tyInt w16)) 12), reads-mslice 𝓤 H A W (rtF (fInt w16)) (tyRef erased mut (tyInt w16)) 12, refl, (as-is 𝓤 H A (mslice (rtF (fInt w32)) (tyRef erased mut (tyInt w32)) 13), reads-mslice 𝓤 H A W (rtF (fInt w32)) (tyRef erased mut (tyInt w32)) 13, refl, (as-is 𝓤 H A (mslice (rtF (fInt w32)) (tyRef erased mut (tyInt w32)) 14), reads-mslice 𝓤 H A W (rtF (fInt w32)) (tyRef erased mut (tyInt w32)) 14, refl, (as-is 𝓤 H A (mslice (rtF (fInt w32)) (tyRef erased mut (tyInt w32)) 15), reads-mslice 𝓤 H A W (rtF (fInt w32)) (tyRef erased mut (tyInt w32)) 15, refl, tt)))))))))))))) (room-gone 𝓤 H A _) _ refl) $
       first (G29 κs qs) (G30 κs qs) (
       ghosts (G29 κs qs) _ (g-end 𝓤 H A W E (G29 κs qs) 11 refl) $
       ghosts _ _ (g-back-sl 𝓤 H A W E (rtF (fInt w32)) _ 27 8 4 11 (tyRef (named 4) mut (tyInt w32)) (tyRef erased mut (tyInt w32)) (lease (κs .1 .1 .1 .1 .0) (qs .1 .1 .1 .1 .0)) (λ x. x) (λ x. x) (as-is 𝓤 H A (msleft (rtF (fInt w32)) (tyRef erased mut (tyInt w32)))) (as-is 𝓤 H A (mslice-owed (rtF (fInt w32)) (tyRef (named 4) mut (tyInt w32)) 4 11 (lease (κs .1 .1 .1 .1 .0) (qs .1 .1 .1 .1 .0)))) refl refl) $
@@ -622,8 +622,8 @@ module _ {M : Type 1} (𝓤 : URA M) (H : Heap 𝓤) (A : Atoms 𝓤) (W : Given
 
 -- the derivations at a model
 module _ (w : World) where
-  abbrev known0-at : Knows (w .𝓤) (w .H) (w .𝓖 .A) (Wof w) (𝓣of w code.env) 9 K0.ps K0.r R0.Asked R0.Learnt "calls::prepare"
-  known0-at = R0.known w code.env S0.name S0.routine code.calls-calls·prepare (M0.met (w .𝓤) (w .H) (w .𝓜) (w .𝓖) (w .𝓡))
+  abbrev known0-at : Knows (w .𝓤) (w .H) (w .𝓖 .A) (Wof w) (𝓣of w code.env) 9 K0.ps K0.r R0.Asked R0.Learnt "call_partition::prepare"
+  known0-at = R0.known w code.env S0.name S0.routine code.calls-call-partition·prepare (M0.met (w .𝓤) (w .H) (w .𝓜) (w .𝓖) (w .𝓡))
 
   abbrev known1-at : Knows (w .𝓤) (w .H) (w .𝓖 .A) (Wof w) (𝓣of w code.env) 4 K1.ps K1.r R1.Asked R1.Learnt "topology::records::fill"
   known1-at = R1.known w code.env S1.name S1.routine code.calls-topology·records·fill (M1.met (w .𝓤) (w .H) (w .𝓜) (w .𝓖) (w .𝓡))
@@ -631,8 +631,8 @@ module _ (w : World) where
   abbrev known2-at : Knows (w .𝓤) (w .H) (w .𝓖 .A) (Wof w) (𝓣of w code.env) 9 K2.ps K2.r R2.Asked R2.Learnt "topology::marks::mark_removed"
   known2-at = R2.known w code.env S2.name S2.routine code.calls-topology·marks·mark-removed (M2.met (w .𝓤) (w .H) (w .𝓜) (w .𝓖) (w .𝓡))
 
-  abbrev known3-at : Knows (w .𝓤) (w .H) (w .𝓖 .A) (Wof w) (𝓣of w code.env) 5 K3.ps K3.r R3.Asked R3.Learnt "views::finish"
-  known3-at = R3.known w code.env S3.name S3.routine code.calls-views·finish (M3.met (w .𝓤) (w .H) (w .𝓜) (w .𝓖) (w .𝓡))
+  abbrev known3-at : Knows (w .𝓤) (w .H) (w .𝓖 .A) (Wof w) (𝓣of w code.env) 5 K3.ps K3.r R3.Asked R3.Learnt "pass_lists::finish"
+  known3-at = R3.known w code.env S3.name S3.routine code.calls-pass-lists·finish (M3.met (w .𝓤) (w .H) (w .𝓜) (w .𝓖) (w .𝓡))
 
 module _ (w : World) (κs : Lfts 11) (qs : Shares 11) (bs : List ℕ) where
   abbrev pub from-answer-at : Der (Wof w) (𝓣of w code.env) (EnvOf (w .𝓤) (w .H) (tyR r ∷ tysP ps xs) bs) (G30 κs qs) (past 14 (code.function .body)) (Δret 11 ps r xs m κs qs)

@@ -22,10 +22,10 @@ use Rattle.topology.proofs.Seen.records.renew.Kinds as K3
 use Rattle.topology.proofs.Seen.records.renew.Reads as R3
 use Rattle.topology.proofs.records.renew.Symbol as S3
 use Rattle.topology.proofs.records.renew.Met as M3
-use Rattle.views.proofs.finish.Kinds as K4
-use Rattle.views.proofs.finish.Reads as R4
-use Rattle.views.proofs.finish.Symbol as S4
-use Rattle.views.proofs.finish.Met as M4
+use Rattle.pass_lists.proofs.finish.Kinds as K4
+use Rattle.pass_lists.proofs.finish.Reads as R4
+use Rattle.pass_lists.proofs.finish.Symbol as S4
+use Rattle.pass_lists.proofs.finish.Met as M4
 use Rattle.topology.proofs.Seen.games.run_kept.Kinds.{ps, r}
 use Rattle.topology.proofs.games.run_kept.Code as code
 use contract.Running
@@ -424,7 +424,7 @@ module _ (κs : Lfts 11) (qs : Shares 11) where
   Γ-from-finish = G132
 
 module _ {M : Type 1} (𝓤 : URA M) (H : Heap 𝓤) (A : Atoms 𝓤) (W : Given 𝓤 H A) (𝓣 : Tables 𝓤 H)
-    (known0 : Knows 𝓤 H A W 𝓣 4 K0.ps K0.r R0.Asked R0.Learnt "topology::records::fill") (known1 : Knows 𝓤 H A W 𝓣 9 K1.ps K1.r R1.Asked R1.Learnt "topology::marks::mark_removed") (known2 : Knows 𝓤 H A W 𝓣 8 K2.ps K2.r R2.Asked R2.Learnt "game_lists::kept::divide_kept") (known3 : Knows 𝓤 H A W 𝓣 4 K3.ps K3.r R3.Asked R3.Learnt "topology::records::renew") (known4 : Knows 𝓤 H A W 𝓣 5 K4.ps K4.r R4.Asked R4.Learnt "views::finish") (κs : Lfts 11) (qs : Shares 11) (bs : List ℕ) where
+    (known0 : Knows 𝓤 H A W 𝓣 4 K0.ps K0.r R0.Asked R0.Learnt "topology::records::fill") (known1 : Knows 𝓤 H A W 𝓣 9 K1.ps K1.r R1.Asked R1.Learnt "topology::marks::mark_removed") (known2 : Knows 𝓤 H A W 𝓣 8 K2.ps K2.r R2.Asked R2.Learnt "game_lists::kept::divide_kept") (known3 : Knows 𝓤 H A W 𝓣 4 K3.ps K3.r R3.Asked R3.Learnt "topology::records::renew") (known4 : Knows 𝓤 H A W 𝓣 5 K4.ps K4.r R4.Asked R4.Learnt "pass_lists::finish") (κs : Lfts 11) (qs : Shares 11) (bs : List ℕ) where
   abbrev E : Env 𝓤 H
   E = EnvOf 𝓤 H (tyR r ∷ tysP ps xs) bs
 
@@ -444,7 +444,7 @@ module _ {M : Type 1} (𝓤 : URA M) (H : Heap 𝓤) (A : Atoms 𝓤) (W : Given
       ghosts _ (G166 κs qs) (g-begin 𝓤 H A W E _ 33 _) $
       stmt (G166 κs qs) _ (t-sl-relend 𝓤 H A W E (rtF (fInt w64)) 𝓣 (G166 κs qs) 16 66 10 33 (tyRef (named 10) mut (tyInt w64)) (tyRef erased mut (tyInt w64)) (lease (κs .1 .1 .1 .1 .1 .1 .1 .1 .1 .1 .0) (qs .1 .1 .1 .1 .1 .1 .1 .1 .1 .1 .0)) 0 (λ x. x) (as-is 𝓤 H A (mslice (rtF (fInt w64)) (tyRef (named 10) mut (tyInt w64)) 10)) (room-gone 𝓤 H A (tyRef erased mut (tyInt w64))) refl tt refl refl refl (λ b o. tt)) $
       stmt _ (G168 κs qs) (t-sl-aggregate 𝓤 H A W E (rtF (fInt w64)) 𝓣 (asMut (rtF (fInt w64))) _ 66 67 33 (tyRef erased mut (tyInt w64)) (tyRef erased mut (tyInt w64)) (λ x. x) (oFld 16 (field 1 ∷ []) (tyInt w64) 8 (λ v. lenV (v .0))) (as-is 𝓤 H A (msptr (rtF (fInt w64)) (tyRef erased mut (tyInt w64)) 33)) (room-gone 𝓤 H A _) (reads-owed-len 𝓤 H A W (rtF (fInt w64)) (tyRef (named 10) mut (tyInt w64)) 10 33 (lease (κs .1 .1 .1 .1 .1 .1 .1 .1 .1 .1 .0) (qs .1 .1 .1 .1 .1 .1 .1 .1 .1 .1 .0)) 8 refl, refl) refl refl (λ b o k. tt)) $
-      stmt (G168 κs qs) (G169 κs qs) (t-call-plain 𝓤 H A W 𝓣 5 K4.ps K4.r R4.Asked R4.Learnt "views::finish" known4 E (λ pos β. β) (G168 κs qs) (vAt 17 (λ x. x), (vAt 33 (λ x. x), (record { pos = 7; ty = tyRef (named 3) imm (tyInt w64); ref = λ x. x }, (record { pos = 61; ty = tyRef erased imm (tyArray tyBool 256); ref = λ x. x }, (record { pos = 63; ty = tyRef erased mut (tyInt w16); ref = λ x. x }, (record { pos = 65; ty = tyRef erased mut (tyInt w32); ref = λ x. x }, (record { pos = 67; ty = tyRef erased mut (tyInt w64); ref = λ x. x }, tt))))))) 21 (3 ∷ 30 ∷ 31 ∷ 32 ∷ 33 ∷ []) (sub-id 𝓤 H A W ((G168 κs qs) .slots)) ((reads-sc 𝓤 H A W (sInt w64), refl), ((reads-sc 𝓤 H A W (sInt w64), refl), (spares-sslice 𝓤 H A W (rtF (fInt w64)) (tyRef (named 3) imm (tyInt w64)) 3, reads-sslice 𝓤 H A W (rtF (fInt w64)) (tyRef (named 3) imm (tyInt w64)) 3, refl, (spares-sref 𝓤 H A W (Array (rtF fBool) 256) (tyRef erased imm (tyArray tyBool 256)) 30, reads-sref 𝓤 H A W (Array (rtF fBool) 256) (tyRef erased imm (tyArray tyBool 256)) 30, refl, (as-is 𝓤 H A (mslice (rtF (fInt w16)) (tyRef erased mut (tyInt w16)) 31), reads-mslice 𝓤 H A W (rtF (fInt w16)) (tyRef erased mut (tyInt w16)) 31, refl, (as-is 𝓤 H A (mslice (rtF (fInt w32)) (tyRef erased mut (tyInt w32)) 32), reads-mslice 𝓤 H A W (rtF (fInt w32)) (tyRef erased mut (tyInt w32)) 32, refl, (as-is 𝓤 H A (mslice (rtF (fInt w64)) (tyRef erased mut (tyInt w64)) 33), reads-mslice 𝓤 H A W (rtF (fInt w64)) (tyRef erased mut (tyInt w64)) 33, refl, tt))))))) (room-gone 𝓤 H A (tyInt w64)) _ refl) $
+      stmt (G168 κs qs) (G169 κs qs) (t-call-plain 𝓤 H A W 𝓣 5 K4.ps K4.r R4.Asked R4.Learnt "pass_lists::finish" known4 E (λ pos β. β) (G168 κs qs) (vAt 17 (λ x. x), (vAt 33 (λ x. x), (record { pos = 7; ty = tyRef (named 3) imm (tyInt w64); ref = λ x. x }, (record { pos = 61; ty = tyRef erased imm (tyArray tyBool 256); ref = λ x. x }, (record { pos = 63; ty = tyRef erased mut (tyInt w16); ref = λ x. x }, (record { pos = 65; ty = tyRef erased mut (tyInt w32); ref = λ x. x }, (record { pos = 67; ty = tyRef erased mut (tyInt w64); ref = λ x. x }, tt))))))) 21 (3 ∷ 30 ∷ 31 ∷ 32 ∷ 33 ∷ []) (sub-id 𝓤 H A W ((G168 κs qs) .slots)) ((reads-sc 𝓤 H A W (sInt w64), refl), ((reads-sc 𝓤 H A W (sInt w64), refl), (spares-sslice 𝓤 H A W (rtF (fInt w64)) (tyRef (named 3) imm (tyInt w64)) 3, reads-sslice 𝓤 H A W (rtF (fInt w64)) (tyRef (named 3) imm (tyInt w64)) 3, refl, (spares-sref 𝓤 H A W (Array (rtF fBool) 256) (tyRef erased imm (tyArray tyBool 256)) 30, reads-sref 𝓤 H A W (Array (rtF fBool) 256) (tyRef erased imm (tyArray tyBool 256)) 30, refl, (as-is 𝓤 H A (mslice (rtF (fInt w16)) (tyRef erased mut (tyInt w16)) 31), reads-mslice 𝓤 H A W (rtF (fInt w16)) (tyRef erased mut (tyInt w16)) 31, refl, (as-is 𝓤 H A (mslice (rtF (fInt w32)) (tyRef erased mut (tyInt w32)) 32), reads-mslice 𝓤 H A W (rtF (fInt w32)) (tyRef erased mut (tyInt w32)) 32, refl, (as-is 𝓤 H A (mslice (rtF (fInt w64)) (tyRef erased mut (tyInt w64)) 33), reads-mslice 𝓤 H A W (rtF (fInt w64)) (tyRef erased mut (tyInt w64)) 33, refl, tt))))))) (room-gone 𝓤 H A (tyInt w64)) _ refl) $
       ghosts (G169 κs qs) _ (g-drop-sref 𝓤 H A W E (G169 κs qs) 61 30 (Array (rtF fBool) 256) (tyRef erased imm (tyArray tyBool 256)) (λ x. x) (as-is 𝓤 H A (sref (Array (rtF fBool) 256) (tyRef erased imm (tyArray tyBool 256)) 30))) $
       ghosts _ _ (g-room 𝓤 H A W E _ 33 (tyInt w64) (room-sc 𝓤 H A W (sInt w64))) $
       ghosts _ (G172 κs qs) (g-end 𝓤 H A W E _ 30 refl) $
@@ -639,8 +639,8 @@ module _ (w : World) where
   abbrev known3-at : Knows (w .𝓤) (w .H) (w .𝓖 .A) (Wof w) (𝓣of w code.env) 4 K3.ps K3.r R3.Asked R3.Learnt "topology::records::renew"
   known3-at = R3.known w code.env S3.name S3.routine code.calls-topology·records·renew (M3.met (w .𝓤) (w .H) (w .𝓜) (w .𝓖) (w .𝓡))
 
-  abbrev known4-at : Knows (w .𝓤) (w .H) (w .𝓖 .A) (Wof w) (𝓣of w code.env) 5 K4.ps K4.r R4.Asked R4.Learnt "views::finish"
-  known4-at = R4.known w code.env S4.name S4.routine code.calls-views·finish (M4.met (w .𝓤) (w .H) (w .𝓜) (w .𝓖) (w .𝓡))
+  abbrev known4-at : Knows (w .𝓤) (w .H) (w .𝓖 .A) (Wof w) (𝓣of w code.env) 5 K4.ps K4.r R4.Asked R4.Learnt "pass_lists::finish"
+  known4-at = R4.known w code.env S4.name S4.routine code.calls-pass-lists·finish (M4.met (w .𝓤) (w .H) (w .𝓜) (w .𝓖) (w .𝓡))
 
 module _ (w : World) (κs : Lfts 11) (qs : Shares 11) (bs : List ℕ) where
   abbrev pub from-finish-at : Der (Wof w) (𝓣of w code.env) (EnvOf (w .𝓤) (w .H) (tyR r ∷ tysP ps xs) bs) (G132 κs qs) (past 45 (code.function .body)) (Δret 11 ps r xs m κs qs)

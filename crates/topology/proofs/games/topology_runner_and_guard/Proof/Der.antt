@@ -1,8 +1,8 @@
 -- The derivation of `Rattle.topology.proofs.games.topology_runner_and_guard` in steps. Made by compare/twin.
 use Rattle.topology.proofs.Rules.{Atoms, Cx, Dens, Env, EnvOf, Given, Heap, Known, Lfts, List, Mo, Outs, Row, Shares, Tables, Ty, URA, Want, World, [], _∷_, alive, any-gone, as-is, asMut, asShr, cStruct, dead, erased, fInt, field, g-back-sl, g-back-sl-shr, g-begin, g-end, g-enum-known, g-forget, g-known-told, g-room, g-sl-known, getD, holds-sc, imm, init, lease, lenV, lit<, makes-mem, mem-whole, msleft, mslice, mslice-owed, mslice-owedS, msptr, mut, named, oAt, oFld, off, pointee, reads-enum, reads-field, reads-mslice, reads-mslice-len, reads-owed-len, reads-owedS-len, reads-payload, reads-sc, reads-sslice, reads-tag, refl, room-gone, room-sc, room-sslice, room-whole, rtF, sInt, sc-here, some, spares-sslice, sslice, ssptr, sub-id, suc, t-call-plain, t-sl-aggregate, t-sl-relend, t-sl-reshare, t-use, t-val-copy, tagOf, told-none, tyInt, tyR, tyRef, tyUnit, tysP, vAt, vFld, valS, variant, vcons, vint, vnil, w16, w32, w64, w8, wantQ, whole, whole-mem, withNext, yields-copy, Γin, Δret, ℕ}
-use Rattle.calls.proofs.Prepared.{enum}
-use Rattle.calls.proofs.Prepared as Prepared
-use Rattle.calls.proofs.Prepared.Laws as Laws
+use Rattle.call_partition.proofs.Prepared.{enum}
+use Rattle.call_partition.proofs.Prepared as Prepared
+use Rattle.call_partition.proofs.Prepared.Laws as Laws
 use Rattle.context.proofs.Region as twin-0
 use Rattle.game_lists.proofs.play.GameAnswer as GameAnswer
 use Rattle.game_lists.proofs.play.GameAnswer.Laws as Laws'

@@ -2,10 +2,10 @@
 use Rattle.topology.proofs.Rules.{Array, Atoms, Cx, Dens, Env, EnvOf, Given, Heap, Lfts, List, Mo, Outs, Row, Shares, Tables, Ty, URA, Want, World, [], _∷_, alive, any-gone, arr-mem, arrF, as-is, asMut, cRf, dead, div, erased, fBool, fInt, field, g-as-by, g-back-mref, g-back-sc, g-back-shr, g-back-sl, g-back-slᵖ, g-begin, g-drop-sref, g-end, g-forget, g-room, getD, holds-sc, home-of, imm, init, lease, lenV, lit<, mem-arr, mleft, mref, mref-owed, msleft, mslice, mslice-owed, mslice-owedP, msptr, mut, named, ne, oAt, oFld, oInt, oUnit, off, pointee, reads-mref, reads-mslice, reads-owed-len, reads-sc, reads-sref, reads-sslice, reads-sslice-len, refl, room-arr, room-gone, room-sc, rtF, sBool, sInt, sUnit, sc-here, sc-owed, sc-shr, spares-sref, spares-sslice, sref, sub-id, suc, t-call-plain, t-mref-relend, t-op2, t-repeat, t-sc-borrow, t-sc-share, t-sl-aggregate, t-sl-relend, t-sl-relendᵖ, t-use, told-none, tyArray, tyBool, tyInt, tyR, tyRef, tyUnit, tysP, uint-lawful, uint-makes, unsigned, vAt, valS, w16, w32, w64, wantQ, whole, whole-arr, Γin, Δret, ℕ}
 use Rattle.context.proofs.Region as twin-0
 use borrow.Fn.Plain.{Known as Knows}
-use Rattle.views.proofs.view.Kinds as K0
-use Rattle.views.proofs.view.Reads as R0
-use Rattle.views.proofs.view.Symbol as S0
-use Rattle.views.proofs.view.Met as M0
+use Rattle.pass_lists.proofs.view.Kinds as K0
+use Rattle.pass_lists.proofs.view.Reads as R0
+use Rattle.pass_lists.proofs.view.Symbol as S0
+use Rattle.pass_lists.proofs.view.Met as M0
 use Rattle.topology.proofs.Seen.marks.removed_marks.Kinds as K1
 use Rattle.topology.proofs.Seen.marks.removed_marks.Reads as R1
 use Rattle.topology.proofs.marks.removed_marks.Symbol as S1
@@ -255,7 +255,7 @@ module _ (κs : Lfts 9) (qs : Shares 9) where
   Γ-after-view = G29
 
 module _ {M : Type 1} (𝓤 : URA M) (H : Heap 𝓤) (A : Atoms 𝓤) (W : Given 𝓤 H A) (𝓣 : Tables 𝓤 H)
-    (known0 : Knows 𝓤 H A W 𝓣 9 K0.ps K0.r R0.Asked R0.Learnt "views::view") (known1 : Knows 𝓤 H A W 𝓣 10 K1.ps K1.r R1.Asked R1.Learnt "topology::marks::removed_marks") (κs : Lfts 9) (qs : Shares 9) (bs : List ℕ) where
+    (known0 : Knows 𝓤 H A W 𝓣 9 K0.ps K0.r R0.Asked R0.Learnt "pass_lists::view") (known1 : Knows 𝓤 H A W 𝓣 10 K1.ps K1.r R1.Asked R1.Learnt "topology::marks::removed_marks") (κs : Lfts 9) (qs : Shares 9) (bs : List ℕ) where
   abbrev E : Env 𝓤 H
   E = EnvOf 𝓤 H (tyR r ∷ tysP ps xs) bs
 
@@ -330,7 +330,7 @@ module _ {M : Type 1} (𝓤 : URA M) (H : Heap 𝓤) (A : Atoms 𝓤) (W : Given
       stmt (G38 κs qs) _ (t-sc-borrow 𝓤 H A W E 𝓣 (G38 κs qs) 17 28 12 (Array (rtF (fInt w32)) 256) (tyRef erased mut (tyArray (tyInt w32) 256)) (λ x. x) (mem-arr 𝓤 H A W (rtF (fInt w32)) 256) (room-gone 𝓤 H A (tyRef erased mut (tyArray (tyInt w32) 256))) refl (λ b o. tt)) $
       ghosts _ _ (g-begin 𝓤 H A W E _ 13 _) $
       stmt _ (G41 κs qs) (t-sc-borrow 𝓤 H A W E 𝓣 _ 18 29 13 (Array (rtF (fInt w32)) 256) (tyRef erased mut (tyArray (tyInt w32) 256)) (λ x. x) (mem-arr 𝓤 H A W (rtF (fInt w32)) 256) (room-gone 𝓤 H A (tyRef erased mut (tyArray (tyInt w32) 256))) refl (λ b o. tt)) $
-      stmt (G41 κs qs) (G42 κs qs) (t-call-plain 𝓤 H A W 𝓣 9 K0.ps K0.r R0.Asked R0.Learnt "views::view" known0 E (λ pos β. β) (G41 κs qs) (vAt 3 (λ x. x), (vAt 4 (λ x. x), (record { pos = 5; ty = tyRef (named 1) imm (tyInt w32); ref = λ x. x }, (record { pos = 6; ty = tyRef (named 2) imm (tyInt w64); ref = λ x. x }, (vAt 7 (λ x. x), (vAt 8 (λ x. x), (vAt 9 (λ x. x), (record { pos = 11; ty = tyRef (named 4) imm (tyInt w32); ref = λ x. x }, (record { pos = 12; ty = tyRef (named 5) imm (tyInt w32); ref = λ x. x }, (record { pos = 24; ty = tyRef erased mut (tyInt w16); ref = λ x. x }, (record { pos = 26; ty = tyRef erased mut (tyInt w32); ref = λ x. x }, (record { pos = 27; ty = tyRef erased mut (tyArray (tyInt w64) 257); ref = λ x. x }, (record { pos = 28; ty = tyRef erased mut (tyArray (tyInt w32) 256); ref = λ x. x }, (record { pos = 29; ty = tyRef erased mut (tyArray (tyInt w32) 256); ref = λ x. x }, tt)))))))))))))) 22 (1 ∷ 2 ∷ 4 ∷ 5 ∷ 9 ∷ 10 ∷ 11 ∷ 12 ∷ 13 ∷ []) (sub-id 𝓤 H A W ((G41 κs qs) .slots)) ((reads-sc 𝓤 H A W (sInt w64), refl), ((reads-sc 𝓤 H A W (sInt w64), refl), (spares-sslice 𝓤 H A W (rtF (fInt w32)) (tyRef (named 1) imm (tyInt w32)) 1, reads-sslice 𝓤 H A W (rtF (fInt w32)) (tyRef (named 1) imm (tyInt w32)) 1, refl, (spares-sslice 𝓤 H A W (rtF (fInt w64)) (tyRef (named 2) imm (tyInt w64)) 2, reads-sslice 𝓤 H A W (rtF (fInt w64)) (tyRef (named 2) imm (tyInt w64)) 2, refl, ((reads-sc 𝓤 H A W (sInt w64), refl), ((reads-sc 𝓤 H A W (sInt w64), refl), ((reads-sc 𝓤 H A W (sInt w64), refl), (spares-sslice 𝓤 H A W (rtF (fInt w32)) (tyRef (named 4) imm (tyInt w32)) 4, reads-sslice 𝓤 H A W (rtF (fInt w32)) (tyRef (named 4) imm (tyInt w32)) 4, refl, (spares-sslice 𝓤 H A W (rtF (fInt w32)) (tyRef (named 5) imm (tyInt w32)) 5, reads-sslice 𝓤 H A W (rtF (fInt w32)) (tyRef (named 5) imm (tyInt w32)) 5, refl, (as-is 𝓤 H A (mslice (rtF (fInt w16)) (tyRef erased mut (tyInt w16)) 9), reads-mslice 𝓤 H A W (rtF (fInt w16)) (tyRef erased mut (tyInt w16)) 9, refl, (as-is 𝓤 H A (mslice (rtF (fInt w32)) (tyRef erased mut (tyInt w32)) 10), reads-mslice 𝓤 H A W (rtF (fInt w32)) (tyRef erased mut (tyInt w32)) 10, refl, (as-is 𝓤 H A (mref (Array (rtF (fInt w64)) 257) (tyRef erased mut (tyArray (tyInt w64) 257)) 11), reads-mref 𝓤 H A W (Array (rtF (fInt w64)) 257) (tyRef erased mut (tyArray (tyInt w64) 257)) 11, refl, (as-is 𝓤 H A (mref (Array (rtF (fInt w32)) 256) (tyRef erased mut (tyArray (tyInt w32) 256)) 12), reads-mref 𝓤 H A W (Array (rtF (fInt w32)) 256) (tyRef erased mut (tyArray (tyInt w32) 256)) 12, refl, (as-is 𝓤 H A (mref (Array (rtF (fInt w32)) 256) (tyRef erased mut (tyArray (tyInt w32) 256)) 13), reads-mref 𝓤 H A W (Array (rtF (fInt w32)) 256) (tyRef erased mut (tyArray (tyInt w32) 256)) 13, refl, tt)))))))))))))) (room-gone 𝓤 H A tyUnit) _ refl) $
+      stmt (G41 κs qs) (G42 κs qs) (t-call-plain 𝓤 H A W 𝓣 9 K0.ps K0.r R0.Asked R0.Learnt "pass_lists::view" known0 E (λ pos β. β) (G41 κs qs) (vAt 3 (λ x. x), (vAt 4 (λ x. x), (record { pos = 5; ty = tyRef (named 1) imm (tyInt w32); ref = λ x. x }, (record { pos = 6; ty = tyRef (named 2) imm (tyInt w64); ref = λ x. x }, (vAt 7 (λ x. x), (vAt 8 (λ x. x), (vAt 9 (λ x. x), (record { pos = 11; ty = tyRef (named 4) imm (tyInt w32); ref = λ x. x }, (record { pos = 12; ty = tyRef (named 5) imm (tyInt w32); ref = λ x. x }, (record { pos = 24; ty = tyRef erased mut (tyInt w16); ref = λ x. x }, (record { pos = 26; ty = tyRef erased mut (tyInt w32); ref = λ x. x }, (record { pos = 27; ty = tyRef erased mut (tyArray (tyInt w64) 257); ref = λ x. x }, (record { pos = 28; ty = tyRef erased mut (tyArray (tyInt w32) 256); ref = λ x. x }, (record { pos = 29; ty = tyRef erased mut (tyArray (tyInt w32) 256); ref = λ x. x }, tt)))))))))))))) 22 (1 ∷ 2 ∷ 4 ∷ 5 ∷ 9 ∷ 10 ∷ 11 ∷ 12 ∷ 13 ∷ []) (sub-id 𝓤 H A W ((G41 κs qs) .slots)) ((reads-sc 𝓤 H A W (sInt w64), refl), ((reads-sc 𝓤 H A W (sInt w64), refl), (spares-sslice 𝓤 H A W (rtF (fInt w32)) (tyRef (named 1) imm (tyInt w32)) 1, reads-sslice 𝓤 H A W (rtF (fInt w32)) (tyRef (named 1) imm (tyInt w32)) 1, refl, (spares-sslice 𝓤 H A W (rtF (fInt w64)) (tyRef (named 2) imm (tyInt w64)) 2, reads-sslice 𝓤 H A W (rtF (fInt w64)) (tyRef (named 2) imm (tyInt w64)) 2, refl, ((reads-sc 𝓤 H A W (sInt w64), refl), ((reads-sc 𝓤 H A W (sInt w64), refl), ((reads-sc 𝓤 H A W (sInt w64), refl), (spares-sslice 𝓤 H A W (rtF (fInt w32)) (tyRef (named 4) imm (tyInt w32)) 4, reads-sslice 𝓤 H A W (rtF (fInt w32)) (tyRef (named 4) imm (tyInt w32)) 4, refl, (spares-sslice 𝓤 H A W (rtF (fInt w32)) (tyRef (named 5) imm (tyInt w32)) 5, reads-sslice 𝓤 H A W (rtF (fInt w32)) (tyRef (named 5) imm (tyInt w32)) 5, refl, (as-is 𝓤 H A (mslice (rtF (fInt w16)) (tyRef erased mut (tyInt w16)) 9), reads-mslice 𝓤 H A W (rtF (fInt w16)) (tyRef erased mut (tyInt w16)) 9, refl, (as-is 𝓤 H A (mslice (rtF (fInt w32)) (tyRef erased mut (tyInt w32)) 10), reads-mslice 𝓤 H A W (rtF (fInt w32)) (tyRef erased mut (tyInt w32)) 10, refl, (as-is 𝓤 H A (mref (Array (rtF (fInt w64)) 257) (tyRef erased mut (tyArray (tyInt w64) 257)) 11), reads-mref 𝓤 H A W (Array (rtF (fInt w64)) 257) (tyRef erased mut (tyArray (tyInt w64) 257)) 11, refl, (as-is 𝓤 H A (mref (Array (rtF (fInt w32)) 256) (tyRef erased mut (tyArray (tyInt w32) 256)) 12), reads-mref 𝓤 H A W (Array (rtF (fInt w32)) 256) (tyRef erased mut (tyArray (tyInt w32) 256)) 12, refl, (as-is 𝓤 H A (mref (Array (rtF (fInt w32)) 256) (tyRef erased mut (tyArray (tyInt w32) 256)) 13), reads-mref 𝓤 H A W (Array (rtF (fInt w32)) 256) (tyRef erased mut (tyArray (tyInt w32) 256)) 13, refl, tt)))))))))))))) (room-gone 𝓤 H A tyUnit) _ refl) $
       ghosts (G42 κs qs) _ (g-room 𝓤 H A W E (G42 κs qs) 22 tyUnit (room-sc 𝓤 H A W sUnit)) $
       ghosts _ _ (g-end 𝓤 H A W E _ 9 refl) $
       ghosts _ (G45 κs qs) (g-back-sl 𝓤 H A W E (rtF (fInt w16)) _ 24 13 6 9 (tyRef (named 6) mut (tyInt w16)) (tyRef erased mut (tyInt w16)) (lease (κs .1 .1 .1 .1 .1 .1 .0) (qs .1 .1 .1 .1 .1 .1 .0)) (λ x. x) (λ x. x) (as-is 𝓤 H A (msleft (rtF (fInt w16)) (tyRef erased mut (tyInt w16)))) (as-is 𝓤 H A (mslice-owed (rtF (fInt w16)) (tyRef (named 6) mut (tyInt w16)) 6 9 (lease (κs .1 .1 .1 .1 .1 .1 .0) (qs .1 .1 .1 .1 .1 .1 .0)))) refl refl) $
@@ -373,8 +373,8 @@ module _ {M : Type 1} (𝓤 : URA M) (H : Heap 𝓤) (A : Atoms 𝓤) (W : Given
 
 -- the derivations at a model
 module _ (w : World) where
-  abbrev known0-at : Knows (w .𝓤) (w .H) (w .𝓖 .A) (Wof w) (𝓣of w code.env) 9 K0.ps K0.r R0.Asked R0.Learnt "views::view"
-  known0-at = R0.known w code.env S0.name S0.routine code.calls-views·view (M0.met (w .𝓤) (w .H) (w .𝓜) (w .𝓖) (w .𝓡))
+  abbrev known0-at : Knows (w .𝓤) (w .H) (w .𝓖 .A) (Wof w) (𝓣of w code.env) 9 K0.ps K0.r R0.Asked R0.Learnt "pass_lists::view"
+  known0-at = R0.known w code.env S0.name S0.routine code.calls-pass-lists·view (M0.met (w .𝓤) (w .H) (w .𝓜) (w .𝓖) (w .𝓡))
 
   abbrev known1-at : Knows (w .𝓤) (w .H) (w .𝓖 .A) (Wof w) (𝓣of w code.env) 10 K1.ps K1.r R1.Asked R1.Learnt "topology::marks::removed_marks"
   known1-at = R1.known w code.env S1.name S1.routine code.calls-topology·marks·removed-marks (M1.met (w .𝓤) (w .H) (w .𝓜) (w .𝓖) (w .𝓡))

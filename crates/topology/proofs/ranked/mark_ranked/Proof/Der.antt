@@ -2,10 +2,10 @@
 use Rattle.topology.proofs.Rules.{Array, Atoms, Cx, Dens, Env, EnvOf, Given, Heap, Lfts, List, Mo, Outs, Row, Shares, Tables, Ty, URA, Want, World, [], _∷_, alive, any-gone, arr-mem, arrF, as-is, asMut, asShr, cRf, dead, div, erased, fBool, fInt, field, g-as-by, g-back-mref, g-back-sc, g-back-shr, g-back-sl, g-back-sl-shr, g-begin, g-drop-sref, g-end, g-forget, g-room, getD, holds-sc, home-of, imm, init, lease, lenV, lit<, mem-arr, mleft, mref, mref-owed, msleft, mslice, mslice-owed, mslice-owedS, msptr, mut, named, ne, oAt, oFld, oInt, off, pointee, reads-mref, reads-mslice, reads-owed-len, reads-owedS-len, reads-sc, reads-sref, reads-sslice, reads-sslice-len, refl, room-arr, room-gone, room-sc, room-sslice, rtF, sBool, sInt, sUnit, sc-here, sc-owed, sc-shr, spares-sref, spares-sslice, sref, sslice, ssptr, sub-id, suc, t-call-plain, t-mref-relend, t-op2, t-repeat, t-sc-borrow, t-sc-share, t-sl-aggregate, t-sl-relend, t-sl-reshare, t-use, told-none, tyArray, tyBool, tyInt, tyR, tyRef, tyUnit, tysP, uint-lawful, uint-makes, unsigned, vAt, valS, w16, w32, w64, wantQ, whole, whole-arr, Γin, Δret, ℕ}
 use Rattle.context.proofs.Region as twin-0
 use borrow.Fn.Plain.{Known as Knows}
-use Rattle.views.proofs.view.Kinds as K0
-use Rattle.views.proofs.view.Reads as R0
-use Rattle.views.proofs.view.Symbol as S0
-use Rattle.views.proofs.view.Met as M0
+use Rattle.pass_lists.proofs.view.Kinds as K0
+use Rattle.pass_lists.proofs.view.Reads as R0
+use Rattle.pass_lists.proofs.view.Symbol as S0
+use Rattle.pass_lists.proofs.view.Met as M0
 use Rattle.topology.proofs.Seen.ranked.rank_junctions.Kinds as K1
 use Rattle.topology.proofs.Seen.ranked.rank_junctions.Reads as R1
 use Rattle.topology.proofs.ranked.rank_junctions.Symbol as S1
@@ -264,7 +264,7 @@ module _ (κs : Lfts 10) (qs : Shares 10) where
   Γ-after-view = G61
 
 module _ {M : Type 1} (𝓤 : URA M) (H : Heap 𝓤) (A : Atoms 𝓤) (W : Given 𝓤 H A) (𝓣 : Tables 𝓤 H)
-    (known0 : Knows 𝓤 H A W 𝓣 9 K0.ps K0.r R0.Asked R0.Learnt "views::view") (known1 : Knows 𝓤 H A W 𝓣 8 K1.ps K1.r R1.Asked R1.Learnt "topology::ranked::rank_junctions") (κs : Lfts 10) (qs : Shares 10) (bs : List ℕ) where
+    (known0 : Knows 𝓤 H A W 𝓣 9 K0.ps K0.r R0.Asked R0.Learnt "pass_lists::view") (known1 : Knows 𝓤 H A W 𝓣 8 K1.ps K1.r R1.Asked R1.Learnt "topology::ranked::rank_junctions") (κs : Lfts 10) (qs : Shares 10) (bs : List ℕ) where
   abbrev E : Env 𝓤 H
   E = EnvOf 𝓤 H (tyR r ∷ tysP ps xs) bs
 
@@ -337,7 +337,7 @@ module _ {M : Type 1} (𝓤 : URA M) (H : Heap 𝓤) (A : Atoms 𝓤) (W : Given
       stmt _ _ (t-sc-borrow 𝓤 H A W E 𝓣 _ 17 28 13 (Array (rtF (fInt w32)) 256) (tyRef erased mut (tyArray (tyInt w32) 256)) (λ x. x) (mem-arr 𝓤 H A W (rtF (fInt w32)) 256) (room-gone 𝓤 H A (tyRef erased mut (tyArray (tyInt w32) 256))) refl (λ b o. tt)) $
       ghosts _ (G40 κs qs) (g-begin 𝓤 H A W E _ 14 _) $
       stmt (G40 κs qs) (G41 κs qs) (t-sc-borrow 𝓤 H A W E 𝓣 (G40 κs qs) 18 29 14 (Array (rtF (fInt w32)) 256) (tyRef erased mut (tyArray (tyInt w32) 256)) (λ x. x) (mem-arr 𝓤 H A W (rtF (fInt w32)) 256) (room-gone 𝓤 H A (tyRef erased mut (tyArray (tyInt w32) 256))) refl (λ b o. tt)) $
-      stmt (G41 κs qs) (G42 κs qs) (t-call-plain 𝓤 H A W 𝓣 9 K0.ps K0.r R0.Asked R0.Learnt "views::view" known0 E (λ pos β. β) (G41 κs qs) (vAt 2 (λ x. x), (vAt 3 (λ x. x), (record { pos = 4; ty = tyRef (named 1) imm (tyInt w32); ref = λ x. x }, (record { pos = 5; ty = tyRef (named 2) imm (tyInt w64); ref = λ x. x }, (vAt 6 (λ x. x), (vAt 7 (λ x. x), (vAt 8 (λ x. x), (record { pos = 10; ty = tyRef (named 4) imm (tyInt w32); ref = λ x. x }, (record { pos = 11; ty = tyRef (named 5) imm (tyInt w32); ref = λ x. x }, (record { pos = 24; ty = tyRef erased mut (tyInt w16); ref = λ x. x }, (record { pos = 26; ty = tyRef erased mut (tyInt w32); ref = λ x. x }, (record { pos = 27; ty = tyRef erased mut (tyArray (tyInt w64) 257); ref = λ x. x }, (record { pos = 28; ty = tyRef erased mut (tyArray (tyInt w32) 256); ref = λ x. x }, (record { pos = 29; ty = tyRef erased mut (tyArray (tyInt w32) 256); ref = λ x. x }, tt)))))))))))))) 22 (1 ∷ 2 ∷ 4 ∷ 5 ∷ 10 ∷ 11 ∷ 12 ∷ 13 ∷ 14 ∷ []) (sub-id 𝓤 H A W ((G41 κs qs) .slots)) ((reads-sc 𝓤 H A W (sInt w64), refl), ((reads-sc 𝓤 H A W (sInt w64), refl), (spares-sslice 𝓤 H A W (rtF (fInt w32)) (tyRef (named 1) imm (tyInt w32)) 1, reads-sslice 𝓤 H A W (rtF (fInt w32)) (tyRef (named 1) imm (tyInt w32)) 1, refl, (spares-sslice 𝓤 H A W (rtF (fInt w64)) (tyRef (named 2) imm (tyInt w64)) 2, reads-sslice 𝓤 H A W (rtF (fInt w64)) (tyRef (named 2) imm (tyInt w64)) 2, refl, ((reads-sc 𝓤 H A W (sInt w64), refl), ((reads-sc 𝓤 H A W (sInt w64), refl), ((reads-sc 𝓤 H A W (sInt w64), refl), (spares-sslice 𝓤 H A W (rtF (fInt w32)) (tyRef (named 4) imm (tyInt w32)) 4, reads-sslice 𝓤 H A W (rtF (fInt w32)) (tyRef (named 4) imm (tyInt w32)) 4, refl, (spares-sslice 𝓤 H A W (rtF (fInt w32)) (tyRef (named 5) imm (tyInt w32)) 5, reads-sslice 𝓤 H A W (rtF (fInt w32)) (tyRef (named 5) imm (tyInt w32)) 5, refl, (as-is 𝓤 H A (mslice (rtF (fInt w16)) (tyRef erased mut (tyInt w16)) 10), reads-mslice 𝓤 H A W (rtF (fInt w16)) (tyRef erased mut (tyInt w16)) 10, refl, (as-is 𝓤 H A (mslice (rtF (fInt w32)) (tyRef erased mut (tyInt w32)) 11), reads-mslice 𝓤 H A W (rtF (fInt w32)) (tyRef erased mut (tyInt w32)) 11, refl, (as-is 𝓤 H A (mref (Array (rtF (fInt w64)) 257) (tyRef erased mut (tyArray (tyInt w64) 257)) 12), reads-mref 𝓤 H A W (Array (rtF (fInt w64)) 257) (tyRef erased mut (tyArray (tyInt w64) 257)) 12, refl, (as-is 𝓤 H A (mref (Array (rtF (fInt w32)) 256) (tyRef erased mut (tyArray (tyInt w32) 256)) 13), reads-mref 𝓤 H A W (Array (rtF (fInt w32)) 256) (tyRef erased mut (tyArray (tyInt w32) 256)) 13, refl, (as-is 𝓤 H A (mref (Array (rtF (fInt w32)) 256) (tyRef erased mut (tyArray (tyInt w32) 256)) 14), reads-mref 𝓤 H A W (Array (rtF (fInt w32)) 256) (tyRef erased mut (tyArray (tyInt w32) 256)) 14, refl, tt)))))))))))))) (room-gone 𝓤 H A tyUnit) _ refl) $
+      stmt (G41 κs qs) (G42 κs qs) (t-call-plain 𝓤 H A W 𝓣 9 K0.ps K0.r R0.Asked R0.Learnt "pass_lists::view" known0 E (λ pos β. β) (G41 κs qs) (vAt 2 (λ x. x), (vAt 3 (λ x. x), (record { pos = 4; ty = tyRef (named 1) imm (tyInt w32); ref = λ x. x }, (record { pos = 5; ty = tyRef (named 2) imm (tyInt w64); ref = λ x. x }, (vAt 6 (λ x. x), (vAt 7 (λ x. x), (vAt 8 (λ x. x), (record { pos = 10; ty = tyRef (named 4) imm (tyInt w32); ref = λ x. x }, (record { pos = 11; ty = tyRef (named 5) imm (tyInt w32); ref = λ x. x }, (record { pos = 24; ty = tyRef erased mut (tyInt w16); ref = λ x. x }, (record { pos = 26; ty = tyRef erased mut (tyInt w32); ref = λ x. x }, (record { pos = 27; ty = tyRef erased mut (tyArray (tyInt w64) 257); ref = λ x. x }, (record { pos = 28; ty = tyRef erased mut (tyArray (tyInt w32) 256); ref = λ x. x }, (record { pos = 29; ty = tyRef erased mut (tyArray (tyInt w32) 256); ref = λ x. x }, tt)))))))))))))) 22 (1 ∷ 2 ∷ 4 ∷ 5 ∷ 10 ∷ 11 ∷ 12 ∷ 13 ∷ 14 ∷ []) (sub-id 𝓤 H A W ((G41 κs qs) .slots)) ((reads-sc 𝓤 H A W (sInt w64), refl), ((reads-sc 𝓤 H A W (sInt w64), refl), (spares-sslice 𝓤 H A W (rtF (fInt w32)) (tyRef (named 1) imm (tyInt w32)) 1, reads-sslice 𝓤 H A W (rtF (fInt w32)) (tyRef (named 1) imm (tyInt w32)) 1, refl, (spares-sslice 𝓤 H A W (rtF (fInt w64)) (tyRef (named 2) imm (tyInt w64)) 2, reads-sslice 𝓤 H A W (rtF (fInt w64)) (tyRef (named 2) imm (tyInt w64)) 2, refl, ((reads-sc 𝓤 H A W (sInt w64), refl), ((reads-sc 𝓤 H A W (sInt w64), refl), ((reads-sc 𝓤 H A W (sInt w64), refl), (spares-sslice 𝓤 H A W (rtF (fInt w32)) (tyRef (named 4) imm (tyInt w32)) 4, reads-sslice 𝓤 H A W (rtF (fInt w32)) (tyRef (named 4) imm (tyInt w32)) 4, refl, (spares-sslice 𝓤 H A W (rtF (fInt w32)) (tyRef (named 5) imm (tyInt w32)) 5, reads-sslice 𝓤 H A W (rtF (fInt w32)) (tyRef (named 5) imm (tyInt w32)) 5, refl, (as-is 𝓤 H A (mslice (rtF (fInt w16)) (tyRef erased mut (tyInt w16)) 10), reads-mslice 𝓤 H A W (rtF (fInt w16)) (tyRef erased mut (tyInt w16)) 10, refl, (as-is 𝓤 H A (mslice (rtF (fInt w32)) (tyRef erased mut (tyInt w32)) 11), reads-mslice 𝓤 H A W (rtF (fInt w32)) (tyRef erased mut (tyInt w32)) 11, refl, (as-is 𝓤 H A (mref (Array (rtF (fInt w64)) 257) (tyRef erased mut (tyArray (tyInt w64) 257)) 12), reads-mref 𝓤 H A W (Array (rtF (fInt w64)) 257) (tyRef erased mut (tyArray (tyInt w64) 257)) 12, refl, (as-is 𝓤 H A (mref (Array (rtF (fInt w32)) 256) (tyRef erased mut (tyArray (tyInt w32) 256)) 13), reads-mref 𝓤 H A W (Array (rtF (fInt w32)) 256) (tyRef erased mut (tyArray (tyInt w32) 256)) 13, refl, (as-is 𝓤 H A (mref (Array (rtF (fInt w32)) 256) (tyRef erased mut (tyArray (tyInt w32) 256)) 14), reads-mref 𝓤 H A W (Array (rtF (fInt w32)) 256) (tyRef erased mut (tyArray (tyInt w32) 256)) 14, refl, tt)))))))))))))) (room-gone 𝓤 H A tyUnit) _ refl) $
       ghosts (G42 κs qs) _ (g-room 𝓤 H A W E (G42 κs qs) 22 tyUnit (room-sc 𝓤 H A W sUnit)) $
       ghosts _ _ (g-end 𝓤 H A W E _ 10 refl) $
       ghosts _ (G45 κs qs) (g-back-sl 𝓤 H A W E (rtF (fInt w16)) _ 24 12 6 10 (tyRef (named 6) mut (tyInt w16)) (tyRef erased mut (tyInt w16)) (lease (κs .1 .1 .1 .1 .1 .1 .0) (qs .1 .1 .1 .1 .1 .1 .0)) (λ x. x) (λ x. x) (as-is 𝓤 H A (msleft (rtF (fInt w16)) (tyRef erased mut (tyInt w16)))) (as-is 𝓤 H A (mslice-owed (rtF (fInt w16)) (tyRef (named 6) mut (tyInt w16)) 6 10 (lease (κs .1 .1 .1 .1 .1 .1 .0) (qs .1 .1 .1 .1 .1 .1 .0)))) refl refl) $
@@ -380,8 +380,8 @@ module _ {M : Type 1} (𝓤 : URA M) (H : Heap 𝓤) (A : Atoms 𝓤) (W : Given
 
 -- the derivations at a model
 module _ (w : World) where
-  abbrev known0-at : Knows (w .𝓤) (w .H) (w .𝓖 .A) (Wof w) (𝓣of w code.env) 9 K0.ps K0.r R0.Asked R0.Learnt "views::view"
-  known0-at = R0.known w code.env S0.name S0.routine code.calls-views·view (M0.met (w .𝓤) (w .H) (w .𝓜) (w .𝓖) (w .𝓡))
+  abbrev known0-at : Knows (w .𝓤) (w .H) (w .𝓖 .A) (Wof w) (𝓣of w code.env) 9 K0.ps K0.r R0.Asked R0.Learnt "pass_lists::view"
+  known0-at = R0.known w code.env S0.name S0.routine code.calls-pass-lists·view (M0.met (w .𝓤) (w .H) (w .𝓜) (w .𝓖) (w .𝓡))
 
   abbrev known1-at : Knows (w .𝓤) (w .H) (w .𝓖 .A) (Wof w) (𝓣of w code.env) 8 K1.ps K1.r R1.Asked R1.Learnt "topology::ranked::rank_junctions"
   known1-at = R1.known w code.env S1.name S1.routine code.calls-topology·ranked·rank-junctions (M1.met (w .𝓤) (w .H) (w .𝓜) (w .𝓖) (w .𝓡))

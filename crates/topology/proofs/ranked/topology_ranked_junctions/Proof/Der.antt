@@ -1,8 +1,8 @@
 -- The derivation of `Rattle.topology.proofs.ranked.topology_ranked_junctions` in steps. Made by compare/twin.
 use Rattle.topology.proofs.Rules.{Array, Atoms, Cx, Dens, Env, EnvOf, Given, Heap, Known, Lfts, List, Mo, Outs, Row, Shares, Tables, Ty, URA, Want, World, [], _∷_, alive, any-gone, apartT, arr-mem, arr-owed, arr-shr, arrF, as-is, asMut, asShr, bool-lawful, bool-makes, cRf, cStruct, dead, div, erased, fBool, fInt, false, field, folds, g-as-by, g-back-arr, g-back-arr-shr, g-back-sc, g-back-shr, g-back-sl, g-back-sl-shr, g-begin, g-drop-sref, g-end, g-enum-known, g-forget, g-known-told, g-room, g-sl-known, getD, holds-sc, home-of, imm, init, is-wt, lease, lenV, lit<, makes-mem, mem-arr, mem-whole, mleft, mref, msleft, mslice, mslice-owed, mslice-owedS, msptr, mul, mut, named, oAt, oBig, oBool, oFld, oInt, off, pointee, reads-enum, reads-mref, reads-mslice, reads-mslice-len, reads-owed-len, reads-owedS-len, reads-payload, reads-sc, reads-sref, reads-sslice, reads-sslice-len, reads-tag, refl, room-arr, room-gone, room-sc, room-sslice, room-whole, rtF, sInt, sUnit, sc-here, sc-owed, sc-shr, some, spares-sref, spares-sslice, sref, sslice, ssptr, sub-id, suc, t-arr-borrow, t-arr-share, t-call-plain, t-op2, t-repeat, t-sc-borrow, t-sc-share, t-sl-aggregate, t-sl-relend, t-sl-reshare, t-struct-make, t-use, t-val-copy, tagOf, told-none, tyArray, tyBool, tyInt, tyR, tyRef, tyUnit, tysP, u64-wt, uint-lawful, uint-makes, unsigned, vAt, vLit, valS, variant, vcons, vint, vnil, w16, w32, w64, w8, wantQ, whole, whole-arr, whole-mem, withNext, yields-copy, Γin, Δret, ℕ}
-use Rattle.calls.proofs.Prepared.{enum}
-use Rattle.calls.proofs.Prepared as Prepared
-use Rattle.calls.proofs.Prepared.Laws as Laws
+use Rattle.call_partition.proofs.Prepared.{enum}
+use Rattle.call_partition.proofs.Prepared as Prepared
+use Rattle.call_partition.proofs.Prepared.Laws as Laws
 use Rattle.context.proofs.Region as twin-0
 use Rattle.ranked_finish.proofs.RankedAnswer.{struct}
 use Rattle.ranked_finish.proofs.RankedAnswer as RankedAnswer
@@ -10,10 +10,10 @@ use Rattle.ranked_finish.proofs.RankedAnswer.Laws as Laws'
 use borrow.Fn.Plain.{Known as Knows}
 use denote.Enum.Declared as Declared
 use denote.Struct.Declared as Declared'
-use Rattle.calls.proofs.prepare.Kinds as K0
-use Rattle.calls.proofs.prepare.Reads as R0
-use Rattle.calls.proofs.prepare.Symbol as S0
-use Rattle.calls.proofs.prepare.Met as M0
+use Rattle.call_partition.proofs.prepare.Kinds as K0
+use Rattle.call_partition.proofs.prepare.Reads as R0
+use Rattle.call_partition.proofs.prepare.Symbol as S0
+use Rattle.call_partition.proofs.prepare.Met as M0
 use Rattle.topology.proofs.Seen.records.fill.Kinds as K1
 use Rattle.topology.proofs.Seen.records.fill.Reads as R1
 use Rattle.topology.proofs.records.fill.Symbol as S1
@@ -511,7 +511,7 @@ module _ (κs : Lfts 12) (qs : Shares 12) where
   Γ-from-answer = G31
 
 module _ {M : Type 1} (𝓤 : URA M) (H : Heap 𝓤) (A : Atoms 𝓤) (W : Given 𝓤 H A) (𝓣 : Tables 𝓤 H)
-    (known0 : Knows 𝓤 H A W 𝓣 9 K0.ps K0.r R0.Asked R0.Learnt "calls::prepare") (known1 : Knows 𝓤 H A W 𝓣 4 K1.ps K1.r R1.Asked R1.Learnt "topology::records::fill") (known2 : Knows 𝓤 H A W 𝓣 10 K2.ps K2.r R2.Asked R2.Learnt "topology::ranked::mark_ranked") (known3 : Knows 𝓤 H A W 𝓣 7 K3.ps K3.r R3.Asked R3.Learnt "ranked_finish::finish_ranked") (κs : Lfts 12) (qs : Shares 12) (bs : List ℕ) where
+    (known0 : Knows 𝓤 H A W 𝓣 9 K0.ps K0.r R0.Asked R0.Learnt "call_partition::prepare") (known1 : Knows 𝓤 H A W 𝓣 4 K1.ps K1.r R1.Asked R1.Learnt "topology::records::fill") (known2 : Knows 𝓤 H A W 𝓣 10 K2.ps K2.r R2.Asked R2.Learnt "topology::ranked::mark_ranked") (known3 : Knows 𝓤 H A W 𝓣 7 K3.ps K3.r R3.Asked R3.Learnt "ranked_finish::finish_ranked") (κs : Lfts 12) (qs : Shares 12) (bs : List ℕ) where
   abbrev E : Env 𝓤 H
   E = EnvOf 𝓤 H (tyR r ∷ tysP ps xs) bs
 
@@ -679,7 +679,7 @@ module _ {M : Type 1} (𝓤 : URA M) (H : Heap 𝓤) (A : Atoms 𝓤) (W : Given
       ghosts _ (G27 κs qs) (g-begin 𝓤 H A W E _ 16 _) $
       stmt (G27 κs qs) _ (t-sl-relend 𝓤 H A W E (rtF (fInt w32)) 𝓣 (G27 κs qs) 11 35 8 16 (tyRef (named 8) mut (tyInt w32)) (tyRef erased mut (tyInt w32)) (lease (κs .1 .1 .1 .1 .1 .1 .1 .1 .0) (qs .1 .1 .1 .1 .1 .1 .1 .1 .0)) 0 (λ x. x) (as-is 𝓤 H A (mslice (rtF (fInt w32)) (tyRef (named 8) mut (tyInt w32)) 8)) (room-gone 𝓤 H A (tyRef erased mut (tyInt w32))) refl tt refl refl refl (λ b o. tt)) $
       stmt _ (G29 κs qs) (t-sl-aggregate 𝓤 H A W E (rtF (fInt w32)) 𝓣 (asMut (rtF (fInt w32))) _ 35 36 16 (tyRef erased mut (tyInt w32)) (tyRef erased mut (tyInt w32)) (λ x. x) (oFld 11 (field 1 ∷ []) (tyInt w64) 8 (λ v. lenV (v .0))) (as-is 𝓤 H A (msptr (rtF (fInt w32)) (tyRef erased mut (tyInt w32)) 16)) (room-gone 𝓤 H A _) (reads-owed-len 𝓤 H A W (rtF (fInt w32)) (tyRef (named 8) mut (tyInt w32)) 8 16 (lease (κs .1 .1 .1 .1 .1 .1 .1 .1 .0) (qs .1 .1 .1 .1 .1 .1 .1 .1 .0)) 8 refl, refl) refl refl (λ b o k. tt)) $
-      stmt (G29 κs qs) (G30 κs qs) (t-call-plain 𝓤 H A W 𝓣 9 K0.ps K0.r R0.Asked R0.Learnt "calls::prepare" known0 E (λ pos β. β) (G29 κs qs) (vLit 3, (vAt 1 (λ x. x), (vAt 2 (λ x. x), (record { pos = 3; ty = tyRef (named 0) imm (tyInt w8); ref = λ x. x }, (record { pos = 4; ty = tyRef (named 1) imm (tyInt w64); ref = λ x. x }, (record { pos = 5; ty = tyRef (named 2) imm (tyInt w64); ref = λ x. x }, (record { pos = 6; ty = tyRef (named 3) imm (tyInt w64); ref = λ x. x }, (vAt 15 (λ x. x), (vAt 16 (λ x. x), (record { pos = 28; ty = tyRef erased mut (tyInt w32); ref = λ x. x }, (record { pos = 30; ty = tyRef erased mut (tyInt w16); ref = λ x. x }, (record { pos = 32; ty = tyRef erased mut (tyInt w32); ref = λ x. x }, (record { pos = 34; ty = tyRef erased mut (tyInt w32); ref = λ x. x }, (record { pos = 36; ty = tyRef erased mut (tyInt w32); ref = λ x. x }, tt)))))))))))))) 17 (0 ∷ 1 ∷ 2 ∷ 3 ∷ 12 ∷ 13 ∷ 14 ∷ 15 ∷ 16 ∷ []) (sub-id 𝓤 H A W ((G29 κs qs) .slots)) (tt, ((reads-sc 𝓤 H A W (sInt w64), refl), ((reads-sc 𝓤 H A W (sInt w64), refl), (spares-sslice 𝓤 H A W (rtF (fInt w8)) (tyRef (named 0) imm (tyInt w8)) 0, reads-sslice 𝓤 H A W (rtF (fInt w8)) (tyRef (named 0) imm (tyInt w8)) 0, refl, (spares-sslice 𝓤 H A W (rtF (fInt w64)) (tyRef (named 1) imm (tyInt w64)) 1, reads-sslice 𝓤 H A W (rtF (fInt w64)) (tyRef (named 1) imm (tyInt w64)) 1, refl, (spares-sslice 𝓤 H A W (rtF (fInt w64)) (tyRef (named 2) imm (tyInt w64)) 2, reads-sslice 𝓤 H A W (rtF (fInt w64)) (tyRef (named 2) imm (tyInt w64)) 2, refl, (spares-sslice 𝓤 H A W (rtF (fInt w64)) (tyRef (named 3) imm (tyInt w64)) 3, reads-sslice 𝓤 H A W (rtF (fInt w64)) (tyRef (named 3) imm (tyInt w64)) 3, refl, ((reads-sc 𝓤 H A W (sInt w64), refl), ((reads-sc 𝓤 H A W (sInt w64), refl), (as-is 𝓤 H A (mslice (rtF (fInt w32)) (tyRef erased mut (tyInt w32)) 12), reads-mslice 𝓤 H A W (rtF (fInt w32)) (tyRef erased mut (tyInt w32)) 12, refl, (as-is 𝓤 H A (mslice (rtF (fInt w16)) (tyRef erased mut (tyInt w16)) 13), reads-mslice 𝓤 H A W (rtF (fInt w16)) (tyRef erased mut (tyInt w16)) 13, refl, (as-is 𝓤 H A (mslice (rtF (fInt w32)) (tyRef erased mut (tyInt w32)) 14), reads-mslice 𝓤 H A W (rtF (fInt w32)) (tyRef erased mut (tyInt w32)) 14, refl, (as-is 𝓤 H A (mslice (rtF (fInt w32)) (tyRef erased mut (tyInt w32)) 15), reads-mslice 𝓤 H A W (rtF (fInt w32)) (tyRef erased mut (tyInt w32)) 15, refl, (as-is 𝓤 H A (mslice (rtF (fInt w32)) (tyRef erased mut (tyInt w32)) 16), reads-mslice 𝓤 H A W (rtF (fInt w32)) (tyRef erased mut (tyInt w32)) 16, refl, tt)))))))))))))) (room-gone 𝓤 H A _) _ refl) $
+      stmt (G29 κs qs) (G30 κs qs) (t-call-plain 𝓤 H A W 𝓣 9 K0.ps K0.r R0.Asked R0.Learnt "call_partition::prepare" known0 E (λ pos β. β) (G29 κs qs) (vLit 3, (vAt 1 (λ x. x), (vAt 2 (λ x. x), (record { pos = 3; ty = tyRef (named 0) imm (tyInt w8); ref = λ x. x }, (record { pos = 4; ty = tyRef (named 1) imm (tyInt w64); ref = λ x. x }, (record { pos = 5; ty = tyRef (named 2) imm (tyInt w64); ref = λ x. x }, (record { pos = 6; ty = tyRef (named 3) imm (tyInt w64); ref = λ x. x }, (vAt 15 (λ x. x), (vAt 16 (λ x. x), (record { pos = 28; ty = tyRef erased mut (tyInt w32); ref = λ x. x }, (record { pos = 30; ty = tyRef erased mut (tyInt w16); ref = λ x. x }, (record { pos = 32; ty = tyRef erased mut (tyInt w32); ref = λ x. x }, (record { pos = 34; ty = tyRef erased mut (tyInt w32); ref = λ x. x }, (record { pos = 36; ty = tyRef erased mut (tyInt w32); ref = λ x. x }, tt)))))))))))))) 17 (0 ∷ 1 ∷ 2 ∷ 3 ∷ 12 ∷ 13 ∷ 14 ∷ 15 ∷ 16 ∷ []) (sub-id 𝓤 H A W ((G29 κs qs) .slots)) (tt, ((reads-sc 𝓤 H A W (sInt w64), refl), ((reads-sc 𝓤 H A W (sInt w64), refl), (spares-sslice 𝓤 H A W (rtF (fInt w8)) (tyRef (named 0) imm (tyInt w8)) 0, reads-sslice 𝓤 H A W (rtF (fInt w8)) (tyRef (named 0) imm (tyInt w8)) 0, refl, (spares-sslice 𝓤 H A W (rtF (fInt w64)) (tyRef (named 1) imm (tyInt w64)) 1, reads-sslice 𝓤 H A W (rtF (fInt w64)) (tyRef (named 1) imm (tyInt w64)) 1, refl, (spares-sslice 𝓤 H A W (rtF (fInt w64)) (tyRef (named 2) imm (tyInt w64)) 2, reads-sslice 𝓤 H A W (rtF (fInt w64)) (tyRef (named 2) imm (tyInt w64)) 2, refl, (spares-sslice 𝓤 H A W (rtF (fInt w64)) (tyRef (named 3) imm (tyInt w64)) 3, reads-sslice 𝓤 H A W (rtF (fInt w64)) (tyRef (named 3) imm (tyInt w64)) 3, refl, ((reads-sc 𝓤 H A W (sInt w64), refl), ((reads-sc 𝓤 H A W (sInt w64), refl), (as-is 𝓤 H A (mslice (rtF (fInt w32)) (tyRef erased mut (tyInt w32)) 12), reads-mslice 𝓤 H A W (rtF (fInt w32)) (tyRef erased mut (tyInt w32)) 12, refl, (as-is 𝓤 H A (mslice (rtF (fInt w16)) (tyRef erased mut (tyInt w16)) 13), reads-mslice 𝓤 H A W (rtF (fInt w16)) (tyRef erased mut (tyInt w16)) 13, refl, (as-is 𝓤 H A (mslice (rtF (fInt w32)) (tyRef erased mut (tyInt w32)) 14), reads-mslice 𝓤 H A W (rtF (fInt w32)) (tyRef erased mut (tyInt w32)) 14, refl, (as-is 𝓤 H A (mslice (rtF (fInt w32)) (tyRef erased mut (tyInt w32)) 15), reads-mslice 𝓤 H A W (rtF (fInt w32)) (tyRef erased mut (tyInt w32)) 15, refl, (as-is 𝓤 H A (mslice (rtF (fInt w32)) (tyRef erased mut (tyInt w32)) 16), reads-mslice 𝓤 H A W (rtF (fInt w32)) (tyRef erased mut (tyInt w32)) 16, refl, tt)))))))))))))) (room-gone 𝓤 H A _) _ refl) $
       first (G30 κs qs) (G31 κs qs) (
       ghosts (G30 κs qs) _ (g-end 𝓤 H A W E (G30 κs qs) 12 refl) $
       ghosts _ _ (g-back-sl 𝓤 H A W E (rtF (fInt w32)) _ 28 7 4 12 (tyRef (named 4) mut (tyInt w32)) (tyRef erased mut (tyInt w32)) (lease (κs .1 .1 .1 .1 .0) (qs .1 .1 .1 .1 .0)) (λ x. x) (λ x. x) (as-is 𝓤 H A (msleft (rtF (fInt w32)) (tyRef erased mut (tyInt w32)))) (as-is 𝓤 H A (mslice-owed (rtF (fInt w32)) (tyRef (named 4) mut (tyInt w32)) 4 12 (lease (κs .1 .1 .1 .1 .0) (qs .1 .1 .1 .1 .0)))) refl refl) $
@@ -701,8 +701,8 @@ module _ {M : Type 1} (𝓤 : URA M) (H : Heap 𝓤) (A : Atoms 𝓤) (W : Given
 
 -- the derivations at a model
 module _ (w : World) where
-  abbrev known0-at : Knows (w .𝓤) (w .H) (w .𝓖 .A) (Wof w) (𝓣of w code.env) 9 K0.ps K0.r R0.Asked R0.Learnt "calls::prepare"
-  known0-at = R0.known w code.env S0.name S0.routine code.calls-calls·prepare (M0.met (w .𝓤) (w .H) (w .𝓜) (w .𝓖) (w .𝓡))
+  abbrev known0-at : Knows (w .𝓤) (w .H) (w .𝓖 .A) (Wof w) (𝓣of w code.env) 9 K0.ps K0.r R0.Asked R0.Learnt "call_partition::prepare"
+  known0-at = R0.known w code.env S0.name S0.routine code.calls-call-partition·prepare (M0.met (w .𝓤) (w .H) (w .𝓜) (w .𝓖) (w .𝓡))
 
   abbrev known1-at : Knows (w .𝓤) (w .H) (w .𝓖 .A) (Wof w) (𝓣of w code.env) 4 K1.ps K1.r R1.Asked R1.Learnt "topology::records::fill"
   known1-at = R1.known w code.env S1.name S1.routine code.calls-topology·records·fill (M1.met (w .𝓤) (w .H) (w .𝓜) (w .𝓖) (w .𝓡))

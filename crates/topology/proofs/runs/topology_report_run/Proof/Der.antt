@@ -8,10 +8,10 @@ use Rattle.report_figures.proofs.Reported.Laws as Laws'
 use Rattle.topology.proofs.TopologyAnswer as TopologyAnswer
 use Rattle.topology.proofs.TopologyAnswer.Laws as Laws''
 use borrow.Fn.Plain.{Known as Knows}
-use Rattle.report_figures.proofs.calls.has_room.Kinds as K0
-use Rattle.report_figures.proofs.calls.has_room.Reads as R0
-use Rattle.report_figures.proofs.calls.has_room.Symbol as S0
-use Rattle.report_figures.proofs.calls.has_room.Met as M0
+use Rattle.report_figures.proofs.call_figures.has_room.Kinds as K0
+use Rattle.report_figures.proofs.call_figures.has_room.Reads as R0
+use Rattle.report_figures.proofs.call_figures.has_room.Symbol as S0
+use Rattle.report_figures.proofs.call_figures.has_room.Met as M0
 use Rattle.topology.proofs.Seen.topology_kept_boundaries.Kinds as K1
 use Rattle.topology.proofs.Seen.topology_kept_boundaries.Reads as R1
 use Rattle.topology.proofs.topology_kept_boundaries.Symbol as S1
@@ -20,10 +20,10 @@ use Rattle.topology.proofs.runs.added.Kinds as K2
 use Rattle.topology.proofs.runs.added.Reads as R2
 use Rattle.topology.proofs.runs.added.Symbol as S2
 use Rattle.topology.proofs.runs.added.Met as M2
-use Rattle.report_figures.proofs.calls.beyond.Kinds as K3
-use Rattle.report_figures.proofs.calls.beyond.Reads as R3
-use Rattle.report_figures.proofs.calls.beyond.Symbol as S3
-use Rattle.report_figures.proofs.calls.beyond.Met as M3
+use Rattle.report_figures.proofs.call_figures.beyond.Kinds as K3
+use Rattle.report_figures.proofs.call_figures.beyond.Reads as R3
+use Rattle.report_figures.proofs.call_figures.beyond.Symbol as S3
+use Rattle.report_figures.proofs.call_figures.beyond.Met as M3
 use Rattle.topology.proofs.Seen.runs.topology_report_run.Kinds.{ps, r}
 use Rattle.topology.proofs.runs.topology_report_run.Code as code
 use contract.Running
@@ -200,7 +200,7 @@ module _ (κs : Lfts 11) (qs : Shares 11) where
   Γ-from-added = G63
 
 module _ {M : Type 1} (𝓤 : URA M) (H : Heap 𝓤) (A : Atoms 𝓤) (W : Given 𝓤 H A) (𝓣 : Tables 𝓤 H)
-    (known0 : Knows 𝓤 H A W 𝓣 0 K0.ps K0.r R0.Asked R0.Learnt "report_figures::calls::has_room") (known1 : Knows 𝓤 H A W 𝓣 11 K1.ps K1.r R1.Asked R1.Learnt "topology::topology_kept_boundaries") (known2 : Knows 𝓤 H A W 𝓣 2 K2.ps K2.r R2.Asked R2.Learnt "topology::runs::added") (known3 : Knows 𝓤 H A W 𝓣 0 K3.ps K3.r R3.Asked R3.Learnt "report_figures::calls::beyond") (κs : Lfts 11) (qs : Shares 11) (bs : List ℕ) where
+    (known0 : Knows 𝓤 H A W 𝓣 0 K0.ps K0.r R0.Asked R0.Learnt "report_figures::call_figures::has_room") (known1 : Knows 𝓤 H A W 𝓣 11 K1.ps K1.r R1.Asked R1.Learnt "topology::topology_kept_boundaries") (known2 : Knows 𝓤 H A W 𝓣 2 K2.ps K2.r R2.Asked R2.Learnt "topology::runs::added") (known3 : Knows 𝓤 H A W 𝓣 0 K3.ps K3.r R3.Asked R3.Learnt "report_figures::call_figures::beyond") (κs : Lfts 11) (qs : Shares 11) (bs : List ℕ) where
   abbrev E : Env 𝓤 H
   E = EnvOf 𝓤 H (tyR r ∷ tysP ps xs) bs
 
@@ -213,7 +213,7 @@ module _ {M : Type 1} (𝓤 : URA M) (H : Heap 𝓤) (A : Atoms 𝓤) (W : Given
 
   abbrev pub d : Der W 𝓣 E (Γin 11 ps r xs m κs qs) (code.function .body) (Δret 11 ps r xs m κs qs)
   d =
-      stmt (G0 κs qs) (G12 κs qs) (t-call-plain 𝓤 H A W 𝓣 0 K0.ps K0.r R0.Asked R0.Learnt "report_figures::calls::has_room" known0 E (λ pos β. β) (G0 κs qs) (record { pos = 1; st = []; d = 0; at = λ x. x }, tt) 17 [] (sub-id 𝓤 H A W ((G0 κs qs) .slots)) ((yields-copy 𝓤 H A W (λ ρ. Unit) (row Report.the-type) refl (cStruct Report.the-type Laws.the-laws Laws.the-copy .copy 𝓤 H A W) (whole (row Report.the-type)) (λ x. x) (λ x. x) (λ ρ told. mem-whole 𝓤 H A W (row Report.the-type) ρ) (λ ρ told. whole-mem 𝓤 H A W (row Report.the-type) ρ), refl), tt) (room-gone 𝓤 H A tyBool) tt refl) $
+      stmt (G0 κs qs) (G12 κs qs) (t-call-plain 𝓤 H A W 𝓣 0 K0.ps K0.r R0.Asked R0.Learnt "report_figures::call_figures::has_room" known0 E (λ pos β. β) (G0 κs qs) (record { pos = 1; st = []; d = 0; at = λ x. x }, tt) 17 [] (sub-id 𝓤 H A W ((G0 κs qs) .slots)) ((yields-copy 𝓤 H A W (λ ρ. Unit) (row Report.the-type) refl (cStruct Report.the-type Laws.the-laws Laws.the-copy .copy 𝓤 H A W) (whole (row Report.the-type)) (λ x. x) (λ x. x) (λ ρ told. mem-whole 𝓤 H A W (row Report.the-type) ρ) (λ ρ told. whole-mem 𝓤 H A W (row Report.the-type) ρ), refl), tt) (room-gone 𝓤 H A tyBool) tt refl) $
       first (G12 κs qs) (G13 κs qs) (
       test (G12 κs qs) 17 (λ x. x) (reads-sc 𝓤 H A W sBool) refl (
       ghosts (G12 κs qs) (G0 κs qs) (g-room 𝓤 H A W E (G12 κs qs) 17 tyBool (room-sc 𝓤 H A W sBool)) $
@@ -262,7 +262,7 @@ module _ {M : Type 1} (𝓤 : URA M) (H : Heap 𝓤) (A : Atoms 𝓤) (W : Given
       ghosts _ (G63 κs qs) (g-forget 𝓤 H A W E _ 17 dead refl) $
       from-added) (
       ghosts (G12 κs qs) (G0 κs qs) (g-room 𝓤 H A W E (G12 κs qs) 17 tyBool (room-sc 𝓤 H A W sBool)) $
-      last (G0 κs qs) (G13 κs qs) (then W (G0 κs qs) (G75 κs qs) (G13 κs qs) (t-call-plain 𝓤 H A W 𝓣 0 K3.ps K3.r R3.Asked R3.Learnt "report_figures::calls::beyond" known3 E (λ pos β. β) (G0 κs qs) (record { pos = 1; st = []; d = 0; at = λ x. x }, tt) 18 [] (sub-id 𝓤 H A W ((G0 κs qs) .slots)) ((yields-copy 𝓤 H A W (λ ρ. Unit) (row Report.the-type) refl (cStruct Report.the-type Laws.the-laws Laws.the-copy .copy 𝓤 H A W) (whole (row Report.the-type)) (λ x. x) (λ x. x) (λ ρ told. mem-whole 𝓤 H A W (row Report.the-type) ρ) (λ ρ told. whole-mem 𝓤 H A W (row Report.the-type) ρ), refl), tt) (room-gone 𝓤 H A _) tt refl) (g-room 𝓤 H A W E (G75 κs qs) 1 _ (room-whole 𝓤 H A W (row Report.the-type) _ refl))))) $
+      last (G0 κs qs) (G13 κs qs) (then W (G0 κs qs) (G75 κs qs) (G13 κs qs) (t-call-plain 𝓤 H A W 𝓣 0 K3.ps K3.r R3.Asked R3.Learnt "report_figures::call_figures::beyond" known3 E (λ pos β. β) (G0 κs qs) (record { pos = 1; st = []; d = 0; at = λ x. x }, tt) 18 [] (sub-id 𝓤 H A W ((G0 κs qs) .slots)) ((yields-copy 𝓤 H A W (λ ρ. Unit) (row Report.the-type) refl (cStruct Report.the-type Laws.the-laws Laws.the-copy .copy 𝓤 H A W) (whole (row Report.the-type)) (λ x. x) (λ x. x) (λ ρ told. mem-whole 𝓤 H A W (row Report.the-type) ρ) (λ ρ told. whole-mem 𝓤 H A W (row Report.the-type) ρ), refl), tt) (room-gone 𝓤 H A _) tt refl) (g-room 𝓤 H A W E (G75 κs qs) 1 _ (room-whole 𝓤 H A W (row Report.the-type) _ refl))))) $
       stmt (G13 κs qs) _ (t-val-copy 𝓤 H A W E 𝓣 (λ ρ. Unit) (G13 κs qs) 18 0 (row Reported.the-type) _ _ (whole (row Reported.the-type)) (whole (row Reported.the-type)) (λ x. x) (λ x. x) (λ x. x) refl (told-none 𝓤 H A ((G13 κs qs) .slots)) (yields-copy 𝓤 H A W (λ ρ. Unit) (row Reported.the-type) refl (cStruct Reported.the-type Laws'.the-laws Laws'.the-copy .copy 𝓤 H A W) (whole (row Reported.the-type)) (λ x. x) (λ x. x) (λ ρ told. mem-whole 𝓤 H A W (row Reported.the-type) ρ) (λ ρ told. whole-mem 𝓤 H A W (row Reported.the-type) ρ)) (room-gone 𝓤 H A _) (makes-mem 𝓤 H A W (λ ρ. Unit) (row Reported.the-type) refl (whole (row Reported.the-type)) (λ x. x) (λ ρ told. whole-mem 𝓤 H A W (row Reported.the-type) ρ)) refl refl) $
       ghosts _ _ (g-room 𝓤 H A W E _ 18 _ (room-whole 𝓤 H A W (row Reported.the-type) _ refl)) $
       ghosts _ (G79 κs qs) (g-room 𝓤 H A W E _ 2 (tyInt w64) (room-sc 𝓤 H A W (sInt w64))) $
@@ -272,8 +272,8 @@ module _ {M : Type 1} (𝓤 : URA M) (H : Heap 𝓤) (A : Atoms 𝓤) (W : Given
 
 -- the derivations at a model
 module _ (w : World) where
-  abbrev known0-at : Knows (w .𝓤) (w .H) (w .𝓖 .A) (Wof w) (𝓣of w code.env) 0 K0.ps K0.r R0.Asked R0.Learnt "report_figures::calls::has_room"
-  known0-at = R0.known w code.env S0.name S0.routine code.calls-report-figures·calls·has-room (M0.met (w .𝓤) (w .H) (w .𝓜) (w .𝓖) (w .𝓡))
+  abbrev known0-at : Knows (w .𝓤) (w .H) (w .𝓖 .A) (Wof w) (𝓣of w code.env) 0 K0.ps K0.r R0.Asked R0.Learnt "report_figures::call_figures::has_room"
+  known0-at = R0.known w code.env S0.name S0.routine code.calls-report-figures·call-figures·has-room (M0.met (w .𝓤) (w .H) (w .𝓜) (w .𝓖) (w .𝓡))
 
   abbrev known1-at : Knows (w .𝓤) (w .H) (w .𝓖 .A) (Wof w) (𝓣of w code.env) 11 K1.ps K1.r R1.Asked R1.Learnt "topology::topology_kept_boundaries"
   known1-at = R1.known w code.env S1.name S1.routine code.calls-topology·topology-kept-boundaries (M1.met (w .𝓤) (w .H) (w .𝓜) (w .𝓖) (w .𝓡))
@@ -281,8 +281,8 @@ module _ (w : World) where
   abbrev known2-at : Knows (w .𝓤) (w .H) (w .𝓖 .A) (Wof w) (𝓣of w code.env) 2 K2.ps K2.r R2.Asked R2.Learnt "topology::runs::added"
   known2-at = R2.known w code.env S2.name S2.routine code.calls-topology·runs·added (M2.met (w .𝓤) (w .H) (w .𝓜) (w .𝓖) (w .𝓡))
 
-  abbrev known3-at : Knows (w .𝓤) (w .H) (w .𝓖 .A) (Wof w) (𝓣of w code.env) 0 K3.ps K3.r R3.Asked R3.Learnt "report_figures::calls::beyond"
-  known3-at = R3.known w code.env S3.name S3.routine code.calls-report-figures·calls·beyond (M3.met (w .𝓤) (w .H) (w .𝓜) (w .𝓖) (w .𝓡))
+  abbrev known3-at : Knows (w .𝓤) (w .H) (w .𝓖 .A) (Wof w) (𝓣of w code.env) 0 K3.ps K3.r R3.Asked R3.Learnt "report_figures::call_figures::beyond"
+  known3-at = R3.known w code.env S3.name S3.routine code.calls-report-figures·call-figures·beyond (M3.met (w .𝓤) (w .H) (w .𝓜) (w .𝓖) (w .𝓡))
 
 module _ (w : World) (κs : Lfts 11) (qs : Shares 11) (bs : List ℕ) where
   abbrev pub from-added-at : Der (Wof w) (𝓣of w code.env) (EnvOf (w .𝓤) (w .H) (tyR r ∷ tysP ps xs) bs) (G63 κs qs) (past 15 (then-of (head-of (past 1 (code.function .body))))) (withNext (some (G13 κs qs)) (Δret 11 ps r xs m κs qs))

@@ -1,8 +1,8 @@
 -- The derivation of `Rattle.topology.proofs.to_rest.topology_run_to_rest` in steps. Made by compare/twin.
 use Rattle.topology.proofs.Rules.{Array, Atoms, Cx, Dens, Env, EnvOf, Given, Heap, Known, Lfts, List, Mo, Outs, Row, Shares, Tables, Ty, URA, Want, World, [], _∷_, alive, any-gone, apartT, arr-owed, arr-shr, arrF, as-is, asMut, asShr, cRf, cStruct, dead, div, erased, fInt, field, fieldV, folds, g-as-by, g-back-arr, g-back-arr-shr, g-back-sl, g-back-sl-shr, g-begin, g-end, g-enum-known, g-forget, g-known-told, g-room, getD, holds-sc, imm, init, is-wt, lease, lenV, lit<, makes-mem, mem-whole, msleft, mslice, mslice-owed, mslice-owedS, msptr, mul, mut, named, oAt, oBig, oFld, oInt, off, pointee, reads-enum, reads-field, reads-mslice, reads-mslice-len, reads-owed-len, reads-owedS-len, reads-payload, reads-sc, reads-sslice, reads-sslice-len, reads-tag, refl, room-arr, room-gone, room-sc, room-sslice, room-whole, rtF, sInt, sUnit, sc-here, some, spares-sslice, sslice, ssptr, sub-id, suc, t-arr-borrow, t-arr-share, t-call-plain, t-op2, t-repeat, t-sl-aggregate, t-sl-relend, t-sl-reshare, t-struct-make, t-use, t-val-copy, tagOf, told-none, tyArray, tyInt, tyR, tyRef, tyUnit, tysP, u64-wt, uint-lawful, uint-makes, unsigned, vAt, valS, variant, vcons, vint, vnil, w16, w32, w64, w8, wantQ, whole, whole-arr, whole-mem, withNext, yields-copy, Γin, Δret, ℕ}
-use Rattle.calls.proofs.Prepared.{enum}
-use Rattle.calls.proofs.Prepared as Prepared
-use Rattle.calls.proofs.Prepared.Laws as Laws
+use Rattle.call_partition.proofs.Prepared.{enum}
+use Rattle.call_partition.proofs.Prepared as Prepared
+use Rattle.call_partition.proofs.Prepared.Laws as Laws
 use Rattle.context.proofs.Region as twin-0
 use Rattle.rest_lists.proofs.kept.Standing as Standing
 use Rattle.rest_lists.proofs.kept.Standing.Laws as Laws'

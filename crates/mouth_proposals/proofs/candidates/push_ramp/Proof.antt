@@ -1,0 +1,105 @@
+-- `candidates::push_ramp` meets its contract, by its tests. Assumes nothing.
+use native.Mathlib.Omega.{arith}
+use mathlib.Core.Path.{sym, _∙_}
+use borrow.Author.Tests.{eq-eqb, ne-eqb, not-true, not-false}
+use Rattle.mouth_proposals.specs.Candidates.{mouthCandidate}
+use Rattle.mouth_proposals.specs.Listed.{plainAt}
+use Rattle.mouth_proposals.proofs.SafeLists.{below, stretch-at, tallies-at, rows-counted, kind-shown}
+use Rattle.mouth_proposals.proofs.CandidateRoom.{ramp-fits, ramp-counted, none-counted, filled-as, same-list, no-ramp-none, no-cut-none}
+use borrow.Author.Needs.{needs}
+use Rattle.mouth_proposals.proofs.candidates.push_ramp.Statement.{statement}
+use Rattle.mouth_proposals.proofs.candidates.push_ramp.Tie as tie
+
+mul-if1 : tie.Need-mul-if1
+mul-if1 c = search needs
+
+add-if1 : tie.Need-add-if1
+add-if1 c = search needs
+
+mul-if1-2 : tie.Need-mul-if1-2
+mul-if1-2 c = search needs
+
+shared-slice-read-if1 : tie.Need-shared-slice-read-if1
+shared-slice-read-if1 c = search needs
+
+returns : tie.Need-returns
+returns c =
+    let at-shared-slice-known6 = c .before in
+    let at-shared-slice-known3 = at-shared-slice-known6 .before .before .before in
+    let entry = at-shared-slice-known3 .before .before .before in (
+      none-counted (plainAt (entry .args .boundaries .now)) (entry .args .count) (omega (arith, entry .pre .0 .shows .bounds .few, entry .pre .0 .shows .counted)) (entry .args .a) (entry .args .n) (entry .pre .1 .1 .0),
+      (
+        entry .pre .1 .0,
+        λ C l S T F. filled-as F (same-list l (mouthCandidate C (entry .args .a)) (entry .args .count) (λ m. no-ramp-none C (entry .args .a) m (kind-shown (S .bounds) (entry .args .a) (below (S .counted) (entry .pre .1 .1 .1)) ∙ eq-eqb _ 0 (c .if1 .taken)))),
+      ),
+    )
+
+full-cut-requires : tie.Need-full-cut-requires
+full-cut-requires c κs =
+    let at-shared-slice-known6 = c .before in
+    let at-shared-slice-known3 = at-shared-slice-known6 .before .before .before in
+    let entry = at-shared-slice-known3 .before .before .before in
+    tallies-at (entry .pre .0) (entry .pre .1 .1 .1)
+
+returns-2 : tie.Need-returns-2
+returns-2 c =
+    let at-shared-slice-known6 = c .before .before .before in
+    let at-shared-slice-known3 = at-shared-slice-known6 .before .before .before in
+    let entry = at-shared-slice-known3 .before .before .before in (
+      none-counted (plainAt (entry .args .boundaries .now)) (entry .args .count) (omega (arith, entry .pre .0 .shows .bounds .few, entry .pre .0 .shows .counted)) (entry .args .a) (entry .args .n) (entry .pre .1 .1 .0),
+      (
+        entry .pre .1 .0,
+        λ C l S T F. filled-as F (same-list l (mouthCandidate C (entry .args .a)) (entry .args .count) (λ m. no-cut-none C (entry .args .a) m (sym (c .before .full-cut .ensures C T (below (S .counted) (entry .pre .1 .1 .1))) ∙ not-true _ (c .if2 .taken)))),
+      ),
+    )
+
+find-other-ends-requires : tie.Need-find-other-ends-requires
+find-other-ends-requires c κs =
+    let at-shared-slice-known6 = c .before .before .before in
+    let at-shared-slice-known3 = at-shared-slice-known6 .before .before .before in
+    let entry = at-shared-slice-known3 .before .before .before in
+    ((rows-counted (entry .pre .0), entry .pre .1 .1 .1), (tallies-at (entry .pre .0) (entry .pre .1 .1 .1), λ i l. stretch-at (entry .pre .0) l))
+
+push-mouths-requires : tie.Need-push-mouths-requires
+push-mouths-requires c κs =
+    let at-push-mouths-arg3 = c .before .before in
+    let at-find-other-ends = at-push-mouths-arg3 .before .before .before in
+    let at-if1 = at-find-other-ends .before .before .before in
+    let at-shared-slice-known6 = at-if1 .before in
+    let at-shared-slice-known3 = at-shared-slice-known6 .before .before .before in
+    let entry = at-shared-slice-known3 .before .before .before in
+    (entry .pre .0, (entry .pre .1 .0, (ramp-fits (plainAt (entry .args .boundaries .now)) (entry .args .count) (omega (arith, entry .pre .0 .shows .bounds .few, entry .pre .0 .shows .counted)) (entry .args .a) (entry .args .n) (entry .pre .1 .1 .1) (ne-eqb _ 0 (at-if1 .if1 .left)) (entry .pre .1 .1 .0), entry .pre .1 .1 .1)))
+
+returns-3 : tie.Need-returns-3
+returns-3 c =
+    let at-push-mouths-arg3 = c .before .before .before in
+    let at-find-other-ends = at-push-mouths-arg3 .before .before .before in
+    let at-if2 = at-find-other-ends .before in
+    let at-full-cut = at-if2 .before in
+    let at-if1 = at-full-cut .before in
+    let at-shared-slice-known5 = at-if1 .before .before in
+    let at-shared-slice-known3 = at-shared-slice-known5 .before .before in
+    let entry = at-shared-slice-known3 .before .before .before in (
+      ramp-counted (plainAt (entry .args .boundaries .now)) (entry .args .count) (omega (arith, entry .pre .0 .shows .bounds .few, entry .pre .0 .shows .counted)) (entry .args .a) (entry .args .n) _ (ne-eqb _ 0 (at-if1 .if1 .left)) (entry .pre .1 .1 .0) (c .push-mouths .ensures .0),
+      (
+        c .push-mouths .ensures .1 .0,
+        λ C l S T F.
+            let la = below (S .counted) (entry .pre .1 .1 .1) in
+            c .push-mouths .ensures .1 .1 C l S T (kind-shown (S .bounds) (entry .args .a) la ∙ ne-eqb _ 0 (at-if1 .if1 .left)) (sym (at-full-cut .full-cut .ensures C T la) ∙ not-false _ (at-if2 .if2 .left)) (at-find-other-ends .find-other-ends .ensures C (S .counted) (S .bounds) T (S .rows)) F,
+      ),
+    )
+
+pub push-ramp-spec : {M : Type 1} → statement M
+push-ramp-spec =
+    tie.close
+    (tie.spec
+    mul-if1
+    add-if1
+    mul-if1-2
+    shared-slice-read-if1
+    returns
+    full-cut-requires
+    returns-2
+    find-other-ends-requires
+    push-mouths-requires
+    returns-3)

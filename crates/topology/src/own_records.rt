@@ -1,0 +1,68 @@
+// The call with records of its own, for callers that lend plain lists alone.
+use crate::Answer;
+use crate::answer_of;
+use crate::numbers::RECORDS_HERE;
+use crate::numbers::least;
+use crate::numbers::put_records;
+use crate::topology_kept_boundaries;
+use context::Region;
+ghost use mathlib.Core.Path.{_≡_};
+ghost use mathlib.Core.List.{map};
+ghost use lib.ListN.{replicate};
+ghost use Rattle.definitions.specs.RegionRecord.{emptyRegion};
+ghost use Rattle.context.specs.Records.{recordOf};
+ghost use Rattle.topology.specs.Contract.{answerOf, recordsHere, RanHere};
+
+fn empty_records() -> [Region; RECORDS_HERE]
+    ensures { λ r. ⌜ map recordOf r ≡ replicate recordsHere emptyRegion ⌝ }
+{
+    let empty = Region::empty();
+    [empty; RECORDS_HERE]
+}
+
+// The call with `room` records, at most 512. They are empty at entry and, as far as there is room, written in numbers at the end.
+pub fn kept_boundaries_here(
+    pass: u64,
+    width: u64,
+    height: u64,
+    cells: &[u8],
+    spans: &[u64],
+    boundaries: &[u64],
+    anchors: &[u64],
+    labels: &mut [u32],
+    masks: &mut [u16],
+    queue: &mut [u32],
+    tallies: &mut [u32],
+    pairs: &mut [u32],
+    room: usize,
+    output: &mut [u64],
+    numbers: &mut [u64],
+) -> Answer
+    ensures { λ r. ⌜ RanHere pass width height
+        (now (cells .entry)) (now (spans .entry)) (now (boundaries .entry)) (now (anchors .entry)) room
+        (now (labels .entry)) (now (masks .entry)) (now (queue .entry)) (now (tallies .entry)) (now (pairs .entry))
+        (now (output .entry)) (now (numbers .entry)) (answerOf r)
+        (now (labels .exit)) (now (masks .exit)) (now (queue .exit)) (now (tallies .exit)) (now (pairs .exit))
+        (now (output .exit)) (now (numbers .exit)) ⌝ }
+{
+    let lent = least(room, RECORDS_HERE);
+    let mut records: [Region; RECORDS_HERE] = empty_records();
+    let answer = topology_kept_boundaries(
+        pass,
+        width,
+        height,
+        cells,
+        spans,
+        boundaries,
+        anchors,
+        labels,
+        masks,
+        queue,
+        tallies,
+        pairs,
+        &mut records[..lent],
+        output,
+    );
+    put_records(records, lent, numbers);
+    answer_of(answer)
+}

@@ -1,2 +1,0 @@
-pub mod Viewed
-pub mod Finished
