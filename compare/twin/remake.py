@@ -17,7 +17,7 @@ import twin
 from close import close
 from cut import cut
 from rules import shared
-from seen import Kinds, reads
+from seen import Kinds, cited, reads
 from steps import steps
 from thin import thin
 from twin import HEADER, ROOT, WORK, read, write
@@ -58,10 +58,8 @@ def seen(derived):
         names = ['Seen'] + f.split('/')
         for i in range(1, len(names)):
             below.setdefault('/'.join(names[:i]), set()).add(names[i])
-        below['/'.join(names)] = {'Kinds', 'Reads'}
-        kinds = Kinds(derived.text(f, 'Kinds'), proofs)
-        files[f'Seen/{f}/Kinds.antt'] = kinds.text()
-        files[f'Seen/{f}/Reads.antt'] = reads(derived.text(f, 'Reads'), kinds.count, f, proofs)
+        kinds = Kinds(derived.text(f, 'Kinds'), f, proofs)
+        files[f'Seen/{f}.antt'] = kinds.text(reads(derived.text(f, 'Reads'), kinds.count, f))
     for module, names in below.items():
         files[f'{module}.antt'] = ''.join(f'pub mod {n}\n' for n in sorted(names))
     return files
@@ -70,10 +68,10 @@ def seen(derived):
 def made(crate, of):
     """The derived files of a crate: the path of each below its proofs, and its text."""
     derived = twin.derive_all(crate, of['records'], of['base'], of['made'])
-    texts = {f'{f}/Proof/Der.antt': derivation(derived, f, of['cut'].get(f)) for f in derived.walked}
+    texts = {f'{f}/Proof/Der.antt': cited(derivation(derived, f, of['cut'].get(f))) for f in derived.walked}
+    texts.update(seen(derived))
     texts, rules = shared(texts, f'Rattle.{crate}.proofs.Rules')
     texts['Rules.antt'] = f'{HEADER}\n{rules}'
-    texts.update(seen(derived))
     work = f'{WORK}/derived/{crate}'
     shutil.rmtree(work, ignore_errors=True)
     for path, text in texts.items():

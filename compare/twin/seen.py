@@ -1,7 +1,6 @@
 """Seen: what a derivation cites of each function over a slice of structs, as a contract of Contracts.antt.
 
-    Seen/F/Kinds.antt    the kinds of F's parameters and of its result
-    Seen/F/Reads.antt    F's contract: its clauses, each read as a plain fact, and what a caller shows and learns
+    Seen/F.antt    the kinds of F's parameters and of its result; F's contract: its clauses, each read as a plain fact, and what a caller shows and learns
 """
 import re
 
@@ -11,13 +10,15 @@ from twin import HEADER, module_of
 
 LIST = ('mathlib.Core.List', ['List', '[]', '_∷_'])
 KINDS = 'borrow.Fn.Kinds'
+CITED = {'mathlib.Core.Path': ['refl'], 'borrow.Fn.Kinds': ['In', 'Out'], 'borrow.Fn.Picked': ['KnownAs']}  # by every contract
 READINGS = ['nothing', 'stated', 'read-join _ _ stated stated']  # of a contract with that many clauses
 
 
 class Kinds:
     """A Kinds.antt as the borrow checker prints it, in short."""
 
-    def __init__(self, text, proofs):
+    def __init__(self, text, function, proofs):
+        self.function = module_of(function)
         self.uses, self.proofs, self.imports = antt.imports(text), proofs, antt.Imports()
         self.count = re.search(r'\.PK (\d+)', text)[1]
         body = dict(re.findall(r'(?ms)^(ps|r) =(.*?)(?=\n\n|\Z)', text))
@@ -60,18 +61,23 @@ class Kinds:
             return ' '.join([self.show(term[1][0])] + [f'({s})' if ' ' in s else s for s in map(self.show, term[1][1:])])
         raise ValueError(f'a kind with {term}')
 
-    def text(self):
+    def text(self, contract):
         self.imports.add(*LIST[:1], *LIST[1])
         self.imports.add(KINDS, 'PK', 'RK')
+        for module, names in CITED.items():
+            self.imports.add(module, *names)
+        self.imports.add(f'{self.proofs}.Contracts', 'Contract', *(word for word in ('nothing', 'stated') if word in contract))
+        if 'read-join' in contract:
+            self.imports.add('borrow.Fn.Read', 'read-join')
         params = ''.join(f'    {kind} ∷\n' for kind in self.params)
         return (
-            f'{HEADER}\n{self.imports.text()}\n'
+            f'{HEADER}\n{self.imports.text()}use {self.proofs}.Contracts as contracts\nuse {self.proofs}.{self.function}.{{clauses}}\n\n'
             f'abbrev pub ps : List (PK {self.count})\nps =\n{params}    []\n\n'
-            f'abbrev pub r : RK {self.count}\nr = {self.result}\n'
+            f'abbrev pub r : RK {self.count}\nr = {self.result}\n{contract}'
         )
 
 
-def reads(text, count, function, proofs):
+def reads(text, count, function):
     """F's contract. Its `requires` and its `ensures` have at most two clauses, each a fact."""
 
     def reading(what):
@@ -79,18 +85,8 @@ def reads(text, count, function, proofs):
 
     if re.search(r'(?m)^  abbrev pub (requires|ensures)-3·read ', text) or re.search(r'Ghost = (?!Unit)', text):
         raise ValueError(f'{function}: a contract that Seen does not write')
-    f = module_of(function)
     given = '(w .𝓤) (w .H) (w .𝓖 .A) (w .𝓜 .mem) (w .𝓡 .run) κs a'
-    return f'''{HEADER}
-use mathlib.Core.Path.{{refl}}
-use borrow.Fn.Kinds.{{In, Out}}
-use borrow.Fn.Picked.{{KnownAs}}
-use borrow.Fn.Read.{{read-join}}
-use {proofs}.Contracts as contracts
-use {proofs}.Contracts.{{Contract, nothing, stated}}
-use {proofs}.Seen.{f}.Kinds.{{ps, r}}
-use {proofs}.{f}.{{clauses}}
-
+    return f'''
 abbrev pub the-contract : Contract {count} ps r
 the-contract = record {{
   requires = λ κs a g w. clauses {given} .requires g;
@@ -112,3 +108,13 @@ Learnt = contracts.Learnt the-contract
 pub known : KnownAs {count} ps r (Unit {{0}}) (the-contract .requires) (the-contract .ensures) Asked Learnt
 known = contracts.known the-contract
 '''
+
+
+def cited(text):
+    """A derivation that cites Seen: what the borrow checker has in two files, Kinds and Reads, is one there."""
+    text = re.sub(r'(?m)^use (Rattle·\S+\.Seen\.\S+)\.Kinds\.\{ps, r\}\n', '', re.sub(
+        r'(?m)^use (Rattle·\S+\.Seen\.\S+)\.Reads\.\{the-contract\}$', r'use \1.{ps, r, the-contract}', text))
+    for k in re.findall(r'(?m)^use Rattle·\S+\.Seen\.\S+\.Reads as R(\d+)$', text):
+        text = re.sub(rf'(?m)^use Rattle·\S+\.Seen\.\S+\.Reads as R{k}\n', '', text)
+        text = re.sub(rf'(?<![\w·])R{k}\.', f'K{k}.', text)
+    return re.sub(r'(?m)^use (Rattle·\S+\.Seen\.\S+)\.Kinds as ', r'use \1 as ', text)

@@ -32,7 +32,7 @@ use Rattle.call_partition.proofs.EarlyFits.{early-fits}
 use Rattle.call_partition.proofs.Exits.{verdict-kept}
 use Rattle.rest_definitions.specs.RestVerdict.{listsFault}
 use Rattle.rest.specs.FlatLists.{flatSpans, flatBoundaries}
-use Rattle.rest_lists.specs.Blocks.{leftBlocks}
+use Rattle.boundary_blocks.specs.Blocks.{leftBlocks}
 use Rattle.game_calls.specs.KeptGraph.{graphMap}
 use Rattle.game_calls.specs.SecondPartition.{second-records, second-pairs}
 use Rattle.game_lists.specs.declared.kept.Graph.{Graph}

@@ -38,9 +38,9 @@ use Rattle.rest.specs.KeptMaps.{kept-count, kept-boundaries, kept-boundary, kep
 use Rattle.rest.specs.FlatLists.{flatSegment, flatSpans, flatBoundaries, flat-spans-length, flat-boundaries-length, span-count, span-at, boundary-at, flat-map}
 use Rattle.rest.specs.FlatLists as flat
 use Rattle.rest.specs.InnerCalls.{lent-count, lent-fits, lent-span, lent-differ, spanRefusal, outsideAt, equalAt}
-use Rattle.rest_lists.specs.Blocks.{part, isLeft, leftBlock, leftBlocks, leftCount}
-use Rattle.rest_lists.proofs.Keeping.{left-length, left-few}
-use Rattle.rest_lists.proofs.Placing.{part-four}
+use Rattle.boundary_blocks.specs.Blocks.{part, isLeft, leftBlock, leftBlocks, leftCount}
+use Rattle.boundary_blocks.proofs.Keeping.{left-length, left-few}
+use Rattle.boundary_blocks.proofs.Placing.{part-four}
 use Rattle.game_calls.specs.KeptGraph.{keptNumbers, graphMap}
 use Rattle.game_calls.specs.SecondPartition.{rest-checked, same-count, second-fewer}
 

@@ -1,16 +1,16 @@
 // The partition by what a pass keeps, over the lists that the first partition filled.
 use areas::clear::clear_numbers;
 use assessments::TALLIES_PER_SPAN;
+use boundary_blocks::blocks::copy_block;
+use boundary_blocks::blocks::keep_blocks;
 use call_partition::Prepared;
 use call_partition::divide;
 use checks::limits::NUMBERS_PER_SPAN;
-use rest_lists::blocks::copy_block;
-use rest_lists::blocks::keep_blocks;
 ghost use mathlib.Core.Path.{_≡_};
 ghost use Prim.Native.Nat.{_*_, _/_, _≤_};
 ghost use lib.ListN.{length, take};
 ghost use Rattle.definitions.specs.Limits.{maxEntries, numbersPerSpan};
-ghost use Rattle.rest_lists.specs.Blocks.{leftBlocks, leftCount};
+ghost use Rattle.boundary_blocks.specs.Blocks.{leftBlocks, leftCount};
 ghost use Rattle.game_lists.specs.Kept.{Source, lentOf, Divides, DividedKept};
 
 const NUMBERS_PER_PAIR: usize = 3;

@@ -32,7 +32,7 @@ use Rattle.rest.specs.Runs.{reached-ascends, run-fewer}
 use Rattle.rest.specs.InnerCalls.{RestAccepted, checked-answer, lent-count}
 use Rattle.rest.specs.RestCalls.{RestRan}
 use Rattle.rest_lists.specs.declared.kept.Standing.{Standing}
-use Rattle.rest_lists.specs.Start.{rowsAt}
+use Rattle.boundary_blocks.specs.Start.{rowsAt}
 use Rattle.rest_lists.specs.Kept.{numberBlock, endsBlock, Origin, lentTo, mapLent, keptOf, rowsLong, KeptLists}
 use Rattle.rest_lists.proofs.Holding.{begins-long, rows-kept}
 use Rattle.rest_lists.proofs.Between.{flat-kept}

@@ -24,10 +24,10 @@ use Rattle.rest.specs.FlatLists.{flatSegment, flatBoundary, flatSpans, flatBoun
 use Rattle.rest.specs.Runs.{all-entries}
 use Rattle.rest.specs.Picking.{getD-mapped, places}
 use Rattle.rest.specs.StartMaps.{Names, start-names, start-length, start-boundaries, start-boundary}
-use Rattle.rest_lists.specs.Blocks.{part, isLeft, leftBlock, leftBlocks, leftCount}
-use Rattle.rest_lists.specs.Start.{rowsOfAll, turnedIn, numbersOf, endsOf, turnedOf, placeRow, rowsAt}
+use Rattle.boundary_blocks.specs.Blocks.{part, isLeft, leftBlock, leftBlocks, leftCount}
+use Rattle.boundary_blocks.specs.Start.{rowsOfAll, turnedIn, numbersOf, endsOf, turnedOf, placeRow, rowsAt}
 use Rattle.rest_lists.specs.Kept.{numberBlock, endsBlock, boundaryBlock, BeginsWith, Holds, keptOf, allPlaces}
-use Rattle.rest_lists.proofs.Placing.{concat-append, concat-length, part-one, part-four}
+use Rattle.boundary_blocks.proofs.Placing.{concat-append, concat-length, part-one, part-four}
 
 -- ---- blocks
 

@@ -1,9 +1,6 @@
 pub mod Beginning
 pub mod Between
-pub mod Copying
 pub mod Ending
 pub mod Holding
 pub mod Inner
-pub mod Keeping
-pub mod Placing
 pub mod Turned

@@ -1,7 +1,7 @@
 // A run to rest before its first pass.
 use crate::checked::rest_checks;
-use crate::start::start_lists;
 use areas::checked::Check;
+use boundary_blocks::start::start_lists;
 use call_partition::Prepared;
 use call_partition::divide;
 use checks::limits::NUMBERS_PER_BOUNDARY;

@@ -1,8 +1,8 @@
 // Between the passes of a run to rest: what a pass leaves, its partition, and the end.
-use crate::blocks::keep_blocks;
-use crate::start::put_rows;
 use areas::clear::clear_numbers;
 use assessments::TALLIES_PER_SPAN;
+use boundary_blocks::blocks::keep_blocks;
+use boundary_blocks::start::put_rows;
 use call_partition::Prepared;
 use call_partition::divide;
 use call_partition::scratch::clear_scratch;
@@ -16,9 +16,9 @@ ghost use Rattle.definitions.specs.Limits.{maxEntries};
 ghost use Rattle.definitions.specs.Lists.{overwrite, zeroed};
 ghost use Rattle.definitions.specs.RegionRecord.{Region};
 ghost use Rattle.definitions.specs.Rows.{flatRows};
-ghost use Rattle.rest_lists.specs.Blocks.{leftBlocks, leftCount};
+ghost use Rattle.boundary_blocks.specs.Blocks.{leftBlocks, leftCount};
 ghost use Rattle.rest_lists.specs.Kept.{Origin, Divides, Redivided};
-ghost use Rattle.rest_lists.specs.Start.{rowsAt};
+ghost use Rattle.boundary_blocks.specs.Start.{rowsAt};
 
 const NUMBERS_PER_PAIR: usize = 3;
 

@@ -28,7 +28,7 @@ use Rattle.rest.specs.RestCalls.{RestRan}
 use Rattle.rest_lists.specs.declared.kept.Standing.{Standing}
 use Rattle.rest_lists.specs.Kept.{Origin, mapLent, keptOf, allPlaces}
 use Rattle.rest_lists.specs.Begun.{Begun, BegunAs}
-use Rattle.rest_lists.specs.Start.{rowsAt}
+use Rattle.boundary_blocks.specs.Start.{rowsAt}
 use Rattle.rest_lists.proofs.Between.{flat-kept, kept-starts}
 use Rattle.rest_lists.proofs.Ending.{numbers-fit, ends-fit, output-fits, masks-fit, queue-fit, rest-ran}
 use Rattle.topology.specs.declared.to_rest.RestAnswer.{RestAnswer}

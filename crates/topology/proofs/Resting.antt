@@ -32,7 +32,7 @@ use Rattle.rest.specs.FewerPairs.{Fewer, passedBy}
 use Rattle.rest.specs.KeptMaps.{kept-count, kept-boundaries}
 use Rattle.rest.specs.Runs.{run-fewer}
 use Rattle.rest_lists.specs.declared.kept.Standing.{Standing}
-use Rattle.rest_lists.specs.Blocks.{leftBlocks, leftCount}
+use Rattle.boundary_blocks.specs.Blocks.{leftBlocks, leftCount}
 use Rattle.rest_lists.specs.Kept.{numberBlock, endsBlock, boundaryBlock, Origin, mapLent, keptOf, Holds, Divides, Redivided, SameFrom, KeptLists}
 use Rattle.rest_lists.proofs.Holding.{begins-front, begins-long, flat-bounds, left-count, kept-left}
 use Rattle.rest_lists.proofs.Between.{flat-kept, all-kept, kept-still, kept-divides, kept-again}

@@ -8,14 +8,18 @@ pub use borrow.Fn.Call.{pin-lease, sub-id}
 pub use borrow.Fn.Enter.{tysP}
 pub use borrow.Fn.Frame.{EnvOf}
 pub use borrow.Fn.Function.{init, Γin, Δret}
-pub use borrow.Fn.Kinds.{Dens, tyR}
+pub use borrow.Fn.Kinds.{Dens, In, Out, PK, RK, pMut, pNum, pShr, rBool, rNum, rUnit, tyR}
+pub use borrow.Fn.Picked.{KnownAs}
 pub use borrow.Fn.Plain.{t-call-plain}
+pub use borrow.Fn.Read.{read-join}
 pub use borrow.Fn.World.{World}
 pub use borrow.Kind.Array.{arr-yields, eStruct, eStruct-laws}
 pub use borrow.Kind.Bool.{bAt}
+pub use borrow.Kind.MutSlice.{pMutS}
 pub use borrow.Kind.Num.{vAt, vFld, vLit}
 pub use borrow.Kind.ShrRef.{spares-sref}
-pub use borrow.Kind.ShrSlice.{spares-sslice}
+pub use borrow.Kind.ShrSlice.{pShrS, spares-sslice}
+pub use borrow.Kind.Value.{pVal, rVal}
 pub use borrow.Rule.Array.AsSlice.{fz-lent-sl, puts-none-sl, t-way-lend-slice}
 pub use borrow.Rule.Array.Borrow.{g-back-arr, t-arr-borrow}
 pub use borrow.Rule.Array.Init.{room-arr}

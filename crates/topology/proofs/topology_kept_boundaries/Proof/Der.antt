@@ -14,23 +14,20 @@ use Rattle.call_partition.proofs.prepare.Kinds as K0
 use Rattle.call_partition.proofs.prepare.Reads as R0
 use Rattle.call_partition.proofs.prepare.Symbol as S0
 use Rattle.call_partition.proofs.prepare.Met as M0
-use Rattle.topology.proofs.Seen.records.fill.Kinds as K1
-use Rattle.topology.proofs.Seen.records.fill.Reads as R1
+use Rattle.topology.proofs.Seen.records.fill as K1
 use Rattle.topology.proofs.records.fill.Symbol as S1
 use Rattle.topology.proofs.records.fill.Met as M1
-use Rattle.topology.proofs.Seen.marks.mark_removed.Kinds as K2
-use Rattle.topology.proofs.Seen.marks.mark_removed.Reads as R2
+use Rattle.topology.proofs.Seen.marks.mark_removed as K2
 use Rattle.topology.proofs.marks.mark_removed.Symbol as S2
 use Rattle.topology.proofs.marks.mark_removed.Met as M2
 use Rattle.pass_lists.proofs.finish.Kinds as K3
 use Rattle.pass_lists.proofs.finish.Reads as R3
 use Rattle.pass_lists.proofs.finish.Symbol as S3
 use Rattle.pass_lists.proofs.finish.Met as M3
-use Rattle.topology.proofs.Seen.topology_kept_boundaries.Kinds.{ps, r}
 use Rattle.topology.proofs.topology_kept_boundaries.Code as code
 use contract.Running
 use Rattle.topology.proofs.Contracts.{Answers, Post, Pre, Wof, met, 𝓣of}
-use Rattle.topology.proofs.Seen.topology_kept_boundaries.Reads.{the-contract}
+use Rattle.topology.proofs.Seen.topology_kept_boundaries.{ps, r, the-contract}
 use Rattle.topology.proofs.topology_kept_boundaries.Key as key
 use Rattle.topology.proofs.topology_kept_boundaries.Statement.{statement}
 use Rattle.topology.proofs.Steps.{Der, _$_, arm-of, first, ghosts, head-of, homes, last, past, patched, rets, stmt, switches, then, typesPast}
@@ -54,32 +51,23 @@ module _ (κs : Lfts 11) (qs : Shares 11) where
   abbrev row2 : Row
   row2 = mslice-owed (rtF (fInt w32)) (tyRef (named 4) mut (tyInt w32)) 4 11 (lease (κs .1 .1 .1 .1 .0) (qs .1 .1 .1 .1 .0))
 
-  abbrev row4 : Row
-  row4 = mslice (rtF (fInt w32)) (tyRef erased mut (tyInt w32)) 11
+  abbrev row4 : ℕ → Row
+  row4 k = mslice (rtF (fInt w32)) (tyRef erased mut (tyInt w32)) k
 
-  abbrev row5 : Row
-  row5 = mslice-owed (rtF (fInt w16)) (tyRef (named 5) mut (tyInt w16)) 5 12 (lease (κs .1 .1 .1 .1 .1 .0) (qs .1 .1 .1 .1 .1 .0))
+  abbrev row5 : ℕ → Row
+  row5 k = mslice-owed (rtF (fInt w16)) (tyRef (named 5) mut (tyInt w16)) 5 k (lease (κs .1 .1 .1 .1 .1 .0) (qs .1 .1 .1 .1 .1 .0))
 
-  abbrev row7 : Row
-  row7 = mslice (rtF (fInt w16)) (tyRef erased mut (tyInt w16)) 12
+  abbrev row7 : ℕ → Row
+  row7 k = mslice (rtF (fInt w16)) (tyRef erased mut (tyInt w16)) k
 
-  abbrev row8 : Row
-  row8 = mslice-owed (rtF (fInt w32)) (tyRef (named 6) mut (tyInt w32)) 6 13 (lease (κs .1 .1 .1 .1 .1 .1 .0) (qs .1 .1 .1 .1 .1 .1 .0))
-
-  abbrev row10 : Row
-  row10 = mslice (rtF (fInt w32)) (tyRef erased mut (tyInt w32)) 13
+  abbrev row8 : ℕ → Row
+  row8 k = mslice-owed (rtF (fInt w32)) (tyRef (named 6) mut (tyInt w32)) 6 k (lease (κs .1 .1 .1 .1 .1 .1 .0) (qs .1 .1 .1 .1 .1 .1 .0))
 
   abbrev row11 : Row
   row11 = mslice-owed (rtF (fInt w32)) (tyRef (named 7) mut (tyInt w32)) 7 14 (lease (κs .1 .1 .1 .1 .1 .1 .1 .0) (qs .1 .1 .1 .1 .1 .1 .1 .0))
 
-  abbrev row13 : Row
-  row13 = mslice (rtF (fInt w32)) (tyRef erased mut (tyInt w32)) 14
-
   abbrev row14 : Row
   row14 = mslice-owed (rtF (fInt w32)) (tyRef (named 8) mut (tyInt w32)) 8 15 (lease (κs .1 .1 .1 .1 .1 .1 .1 .1 .0) (qs .1 .1 .1 .1 .1 .1 .1 .1 .0))
-
-  abbrev row16 : Row
-  row16 = mslice (rtF (fInt w32)) (tyRef erased mut (tyInt w32)) 15
 
   abbrev row17 : Row
   row17 = whole (Declared.row Prepared.the-type)
@@ -93,14 +81,11 @@ module _ (κs : Lfts 11) (qs : Shares 11) where
   abbrev row20 : Row
   row20 = whole (Declared'.row TopologyAnswer.the-type)
 
-  abbrev row21 : Row
-  row21 = whole (Known enum 0)
+  abbrev row21 : ℕ → Row
+  row21 k = whole (Known enum k)
 
   abbrev row22 : Row
   row22 = whole (Declared'.row (apartT TopologyAnswer.the-type))
-
-  abbrev row23 : Row
-  row23 = whole (Known enum 1)
 
   abbrev row24 : Row
   row24 = whole (Array (rtF fBool) 256)
@@ -114,17 +99,14 @@ module _ (κs : Lfts 11) (qs : Shares 11) where
   abbrev row28 : Row
   row28 = mslice twin-0.the-row (tyRef erased mut (pointee (twin-0.the-row .written))) 16
 
-  abbrev row29 : Row
-  row29 = mslice-owedS (rtF (fInt w32)) (tyRef (named 4) mut (tyInt w32)) 4 17 (lease (κs .1 .1 .1 .1 .0) (qs .1 .1 .1 .1 .0))
+  abbrev row29 : ℕ → Row
+  row29 k = mslice-owedS (rtF (fInt w32)) (tyRef (named 4) mut (tyInt w32)) 4 k (lease (κs .1 .1 .1 .1 .0) (qs .1 .1 .1 .1 .0))
 
-  abbrev row31 : Row
-  row31 = sslice (rtF (fInt w32)) (tyRef erased imm (tyInt w32)) 17
+  abbrev row31 : ℕ → Row
+  row31 k = sslice (rtF (fInt w32)) (tyRef erased imm (tyInt w32)) k
 
   abbrev row32 : Row
   row32 = mslice-owedS (rtF (fInt w32)) (tyRef (named 6) mut (tyInt w32)) 6 18 (lease (κs .1 .1 .1 .1 .1 .1 .0) (qs .1 .1 .1 .1 .1 .1 .0))
-
-  abbrev row34 : Row
-  row34 = sslice (rtF (fInt w32)) (tyRef erased imm (tyInt w32)) 18
 
   abbrev row35 : Row
   row35 = sc-here sUnit
@@ -138,35 +120,11 @@ module _ (κs : Lfts 11) (qs : Shares 11) where
   abbrev row39 : Row
   row39 = sslice twin-0.the-row (tyRef erased imm (pointee (twin-0.the-row .written))) 19
 
-  abbrev row40 : Row
-  row40 = mslice-owedS (rtF (fInt w32)) (tyRef (named 4) mut (tyInt w32)) 4 20 (lease (κs .1 .1 .1 .1 .0) (qs .1 .1 .1 .1 .0))
-
-  abbrev row42 : Row
-  row42 = sslice (rtF (fInt w32)) (tyRef erased imm (tyInt w32)) 20
-
   abbrev row43 : Row
   row43 = mslice-owedS (rtF (fInt w32)) (tyRef (named 7) mut (tyInt w32)) 7 21 (lease (κs .1 .1 .1 .1 .1 .1 .1 .0) (qs .1 .1 .1 .1 .1 .1 .1 .0))
 
-  abbrev row45 : Row
-  row45 = sslice (rtF (fInt w32)) (tyRef erased imm (tyInt w32)) 21
-
   abbrev row46 : Row
   row46 = mslice-owedS (rtF (fInt w32)) (tyRef (named 8) mut (tyInt w32)) 8 22 (lease (κs .1 .1 .1 .1 .1 .1 .1 .1 .0) (qs .1 .1 .1 .1 .1 .1 .1 .1 .0))
-
-  abbrev row48 : Row
-  row48 = sslice (rtF (fInt w32)) (tyRef erased imm (tyInt w32)) 22
-
-  abbrev row49 : Row
-  row49 = mslice-owed (rtF (fInt w16)) (tyRef (named 5) mut (tyInt w16)) 5 23 (lease (κs .1 .1 .1 .1 .1 .0) (qs .1 .1 .1 .1 .1 .0))
-
-  abbrev row51 : Row
-  row51 = mslice (rtF (fInt w16)) (tyRef erased mut (tyInt w16)) 23
-
-  abbrev row52 : Row
-  row52 = mslice-owed (rtF (fInt w32)) (tyRef (named 6) mut (tyInt w32)) 6 24 (lease (κs .1 .1 .1 .1 .1 .1 .0) (qs .1 .1 .1 .1 .1 .1 .0))
-
-  abbrev row54 : Row
-  row54 = mslice (rtF (fInt w32)) (tyRef erased mut (tyInt w32)) 24
 
   abbrev row55 : Row
   row55 = sc-owed (Array (rtF fBool) 256) 25
@@ -183,18 +141,6 @@ module _ (κs : Lfts 11) (qs : Shares 11) where
   abbrev row59 : Row
   row59 = sref (Array (rtF fBool) 256) (tyRef erased imm (tyArray tyBool 256)) 26
 
-  abbrev row60 : Row
-  row60 = mslice-owed (rtF (fInt w16)) (tyRef (named 5) mut (tyInt w16)) 5 27 (lease (κs .1 .1 .1 .1 .1 .0) (qs .1 .1 .1 .1 .1 .0))
-
-  abbrev row62 : Row
-  row62 = mslice (rtF (fInt w16)) (tyRef erased mut (tyInt w16)) 27
-
-  abbrev row63 : Row
-  row63 = mslice-owed (rtF (fInt w32)) (tyRef (named 6) mut (tyInt w32)) 6 28 (lease (κs .1 .1 .1 .1 .1 .1 .0) (qs .1 .1 .1 .1 .1 .1 .0))
-
-  abbrev row65 : Row
-  row65 = mslice (rtF (fInt w32)) (tyRef erased mut (tyInt w32)) 28
-
   abbrev row66 : Row
   row66 = mslice-owed (rtF (fInt w64)) (tyRef (named 10) mut (tyInt w64)) 10 29 (lease (κs .1 .1 .1 .1 .1 .1 .1 .1 .1 .1 .0) (qs .1 .1 .1 .1 .1 .1 .1 .1 .1 .1 .0))
 
@@ -208,31 +154,31 @@ module _ (κs : Lfts 11) (qs : Shares 11) where
   G14 = patched ((15, row1) ∷ (16, row1) ∷ []) ((11, alive) ∷ []) G0
 
   abbrev pub G17 : Cx
-  G17 = patched ((8, row2) ∷ (15, row1) ∷ (16, row1) ∷ (27, row4) ∷ []) ((4, off) ∷ (11, alive) ∷ (12, alive) ∷ []) G0
+  G17 = patched ((8, row2) ∷ (15, row1) ∷ (16, row1) ∷ (27, row4 11) ∷ []) ((4, off) ∷ (11, alive) ∷ (12, alive) ∷ []) G0
 
   abbrev pub G20 : Cx
-  G20 = patched ((8, row2) ∷ (9, row5) ∷ (15, row1) ∷ (16, row1) ∷ (27, row4) ∷ (29, row7) ∷ []) ((4, off) ∷ (5, off) ∷ (11, alive) ∷ (12, alive) ∷ (13, alive) ∷ []) G0
+  G20 = patched ((8, row2) ∷ (9, row5 12) ∷ (15, row1) ∷ (16, row1) ∷ (27, row4 11) ∷ (29, row7 12) ∷ []) ((4, off) ∷ (5, off) ∷ (11, alive) ∷ (12, alive) ∷ (13, alive) ∷ []) G0
 
   abbrev pub G23 : Cx
-  G23 = patched ((8, row2) ∷ (9, row5) ∷ (10, row8) ∷ (15, row1) ∷ (16, row1) ∷ (27, row4) ∷ (29, row7) ∷ (31, row10) ∷ []) ((4, off) ∷ (5, off) ∷ (6, off) ∷ (11, alive) ∷ (12, alive) ∷ (13, alive) ∷ (14, alive) ∷ []) G0
+  G23 = patched ((8, row2) ∷ (9, row5 12) ∷ (10, row8 13) ∷ (15, row1) ∷ (16, row1) ∷ (27, row4 11) ∷ (29, row7 12) ∷ (31, row4 13) ∷ []) ((4, off) ∷ (5, off) ∷ (6, off) ∷ (11, alive) ∷ (12, alive) ∷ (13, alive) ∷ (14, alive) ∷ []) G0
 
   abbrev pub G26 : Cx
-  G26 = patched ((8, row2) ∷ (9, row5) ∷ (10, row8) ∷ (11, row11) ∷ (15, row1) ∷ (16, row1) ∷ (27, row4) ∷ (29, row7) ∷ (31, row10) ∷ (33, row13) ∷ []) ((4, off) ∷ (5, off) ∷ (6, off) ∷ (7, off) ∷ (11, alive) ∷ (12, alive) ∷ (13, alive) ∷ (14, alive) ∷ (15, alive) ∷ []) G0
+  G26 = patched ((8, row2) ∷ (9, row5 12) ∷ (10, row8 13) ∷ (11, row11) ∷ (15, row1) ∷ (16, row1) ∷ (27, row4 11) ∷ (29, row7 12) ∷ (31, row4 13) ∷ (33, row4 14) ∷ []) ((4, off) ∷ (5, off) ∷ (6, off) ∷ (7, off) ∷ (11, alive) ∷ (12, alive) ∷ (13, alive) ∷ (14, alive) ∷ (15, alive) ∷ []) G0
 
   abbrev pub G28 : Cx
-  G28 = patched ((8, row2) ∷ (9, row5) ∷ (10, row8) ∷ (11, row11) ∷ (12, row14) ∷ (15, row1) ∷ (16, row1) ∷ (27, row4) ∷ (29, row7) ∷ (31, row10) ∷ (33, row13) ∷ (35, row16) ∷ []) ((4, off) ∷ (5, off) ∷ (6, off) ∷ (7, off) ∷ (8, off) ∷ (11, alive) ∷ (12, alive) ∷ (13, alive) ∷ (14, alive) ∷ (15, alive) ∷ []) G0
+  G28 = patched ((8, row2) ∷ (9, row5 12) ∷ (10, row8 13) ∷ (11, row11) ∷ (12, row14) ∷ (15, row1) ∷ (16, row1) ∷ (27, row4 11) ∷ (29, row7 12) ∷ (31, row4 13) ∷ (33, row4 14) ∷ (35, row4 15) ∷ []) ((4, off) ∷ (5, off) ∷ (6, off) ∷ (7, off) ∷ (8, off) ∷ (11, alive) ∷ (12, alive) ∷ (13, alive) ∷ (14, alive) ∷ (15, alive) ∷ []) G0
 
   abbrev pub G29 : Cx
-  G29 = patched ((8, row2) ∷ (9, row5) ∷ (10, row8) ∷ (11, row11) ∷ (12, row14) ∷ (15, row1) ∷ (16, row1) ∷ (17, row17) ∷ (27, row18) ∷ (29, row19) ∷ (31, row18) ∷ (33, row18) ∷ (35, row18) ∷ []) ((4, off) ∷ (5, off) ∷ (6, off) ∷ (7, off) ∷ (8, off) ∷ (11, alive) ∷ (12, alive) ∷ (13, alive) ∷ (14, alive) ∷ (15, alive) ∷ []) G0
+  G29 = patched ((8, row2) ∷ (9, row5 12) ∷ (10, row8 13) ∷ (11, row11) ∷ (12, row14) ∷ (15, row1) ∷ (16, row1) ∷ (17, row17) ∷ (27, row18) ∷ (29, row19) ∷ (31, row18) ∷ (33, row18) ∷ (35, row18) ∷ []) ((4, off) ∷ (5, off) ∷ (6, off) ∷ (7, off) ∷ (8, off) ∷ (11, alive) ∷ (12, alive) ∷ (13, alive) ∷ (14, alive) ∷ (15, alive) ∷ []) G0
 
   abbrev pub G30 : Cx
   G30 = patched ((15, row1) ∷ (16, row1) ∷ (36, row20) ∷ []) ([]) G0
 
   abbrev pub G34 : Cx
-  G34 = patched ((9, row5) ∷ (10, row8) ∷ (11, row11) ∷ (12, row14) ∷ (15, row1) ∷ (16, row1) ∷ (17, row17) ∷ (29, row19) ∷ (31, row18) ∷ (33, row18) ∷ (35, row18) ∷ []) ((5, off) ∷ (6, off) ∷ (7, off) ∷ (8, off) ∷ (12, alive) ∷ (13, alive) ∷ (14, alive) ∷ (15, alive) ∷ []) G0
+  G34 = patched ((9, row5 12) ∷ (10, row8 13) ∷ (11, row11) ∷ (12, row14) ∷ (15, row1) ∷ (16, row1) ∷ (17, row17) ∷ (29, row19) ∷ (31, row18) ∷ (33, row18) ∷ (35, row18) ∷ []) ((5, off) ∷ (6, off) ∷ (7, off) ∷ (8, off) ∷ (12, alive) ∷ (13, alive) ∷ (14, alive) ∷ (15, alive) ∷ []) G0
 
   abbrev pub G38 : Cx
-  G38 = patched ((10, row8) ∷ (11, row11) ∷ (12, row14) ∷ (15, row1) ∷ (16, row1) ∷ (17, row17) ∷ (31, row18) ∷ (33, row18) ∷ (35, row18) ∷ []) ((6, off) ∷ (7, off) ∷ (8, off) ∷ (13, alive) ∷ (14, alive) ∷ (15, alive) ∷ []) G0
+  G38 = patched ((10, row8 13) ∷ (11, row11) ∷ (12, row14) ∷ (15, row1) ∷ (16, row1) ∷ (17, row17) ∷ (31, row18) ∷ (33, row18) ∷ (35, row18) ∷ []) ((6, off) ∷ (7, off) ∷ (8, off) ∷ (13, alive) ∷ (14, alive) ∷ (15, alive) ∷ []) G0
 
   abbrev pub G42 : Cx
   G42 = patched ((11, row11) ∷ (12, row14) ∷ (15, row1) ∷ (16, row1) ∷ (17, row17) ∷ (33, row18) ∷ (35, row18) ∷ []) ((7, off) ∷ (8, off) ∷ (14, alive) ∷ (15, alive) ∷ []) G0
@@ -244,7 +190,7 @@ module _ (κs : Lfts 11) (qs : Shares 11) where
   G50 = patched ((15, row1) ∷ (16, row1) ∷ (17, row17) ∷ []) ([]) G0
 
   abbrev pub G51 : Cx
-  G51 = patched ((15, row1) ∷ (16, row1) ∷ (17, row21) ∷ []) ([]) G0
+  G51 = patched ((15, row1) ∷ (16, row1) ∷ (17, row21 0) ∷ []) ([]) G0
 
   abbrev pub G55 : Cx
   G55 = patched ((15, row1) ∷ (16, row1) ∷ (18, row1) ∷ (19, row1) ∷ []) ([]) G0
@@ -265,7 +211,7 @@ module _ (κs : Lfts 11) (qs : Shares 11) where
   G60 = patched ((15, row1) ∷ (16, row1) ∷ (36, row22) ∷ []) ([]) G0
 
   abbrev pub G62 : Cx
-  G62 = patched ((15, row1) ∷ (16, row1) ∷ (17, row23) ∷ []) ([]) G0
+  G62 = patched ((15, row1) ∷ (16, row1) ∷ (17, row21 1) ∷ []) ([]) G0
 
   abbrev pub G66 : Cx
   G66 = patched ((15, row1) ∷ (16, row1) ∷ (20, row1) ∷ (21, row1) ∷ []) ([]) G0
@@ -283,19 +229,19 @@ module _ (κs : Lfts 11) (qs : Shares 11) where
   G75 = patched ((13, row26) ∷ (15, row1) ∷ (16, row1) ∷ (20, row1) ∷ (21, row1) ∷ (22, row1) ∷ (23, row1) ∷ (24, row25) ∷ (41, row28) ∷ []) ((9, off) ∷ (16, alive) ∷ []) G0
 
   abbrev pub G78 : Cx
-  G78 = patched ((8, row29) ∷ (13, row26) ∷ (15, row1) ∷ (16, row1) ∷ (20, row1) ∷ (21, row1) ∷ (22, row1) ∷ (23, row1) ∷ (24, row25) ∷ (41, row28) ∷ (43, row31) ∷ []) ((4, off) ∷ (9, off) ∷ (16, alive) ∷ (17, alive) ∷ []) G0
+  G78 = patched ((8, row29 17) ∷ (13, row26) ∷ (15, row1) ∷ (16, row1) ∷ (20, row1) ∷ (21, row1) ∷ (22, row1) ∷ (23, row1) ∷ (24, row25) ∷ (41, row28) ∷ (43, row31 17) ∷ []) ((4, off) ∷ (9, off) ∷ (16, alive) ∷ (17, alive) ∷ []) G0
 
   abbrev pub G81 : Cx
-  G81 = patched ((8, row29) ∷ (10, row32) ∷ (13, row26) ∷ (15, row1) ∷ (16, row1) ∷ (20, row1) ∷ (21, row1) ∷ (22, row1) ∷ (23, row1) ∷ (24, row25) ∷ (41, row28) ∷ (43, row31) ∷ (45, row34) ∷ []) ((4, off) ∷ (6, off) ∷ (9, off) ∷ (16, alive) ∷ (17, alive) ∷ (18, alive) ∷ []) G0
+  G81 = patched ((8, row29 17) ∷ (10, row32) ∷ (13, row26) ∷ (15, row1) ∷ (16, row1) ∷ (20, row1) ∷ (21, row1) ∷ (22, row1) ∷ (23, row1) ∷ (24, row25) ∷ (41, row28) ∷ (43, row31 17) ∷ (45, row31 18) ∷ []) ((4, off) ∷ (6, off) ∷ (9, off) ∷ (16, alive) ∷ (17, alive) ∷ (18, alive) ∷ []) G0
 
   abbrev pub G82 : Cx
-  G82 = patched ((8, row29) ∷ (10, row32) ∷ (13, row26) ∷ (15, row1) ∷ (16, row1) ∷ (20, row1) ∷ (21, row1) ∷ (22, row1) ∷ (23, row1) ∷ (24, row25) ∷ (39, row35) ∷ (41, row36) ∷ (43, row31) ∷ (45, row34) ∷ []) ((4, off) ∷ (6, off) ∷ (9, off) ∷ (16, alive) ∷ (17, alive) ∷ (18, alive) ∷ []) G0
+  G82 = patched ((8, row29 17) ∷ (10, row32) ∷ (13, row26) ∷ (15, row1) ∷ (16, row1) ∷ (20, row1) ∷ (21, row1) ∷ (22, row1) ∷ (23, row1) ∷ (24, row25) ∷ (39, row35) ∷ (41, row36) ∷ (43, row31 17) ∷ (45, row31 18) ∷ []) ((4, off) ∷ (6, off) ∷ (9, off) ∷ (16, alive) ∷ (17, alive) ∷ (18, alive) ∷ []) G0
 
   abbrev pub G85 : Cx
-  G85 = patched ((8, row29) ∷ (10, row32) ∷ (13, row26) ∷ (15, row1) ∷ (16, row1) ∷ (20, row1) ∷ (21, row1) ∷ (22, row1) ∷ (23, row1) ∷ (24, row25) ∷ (41, row36) ∷ []) ((4, off) ∷ (6, off) ∷ (9, off) ∷ (16, alive) ∷ (17, alive) ∷ (18, alive) ∷ []) G0
+  G85 = patched ((8, row29 17) ∷ (10, row32) ∷ (13, row26) ∷ (15, row1) ∷ (16, row1) ∷ (20, row1) ∷ (21, row1) ∷ (22, row1) ∷ (23, row1) ∷ (24, row25) ∷ (41, row36) ∷ []) ((4, off) ∷ (6, off) ∷ (9, off) ∷ (16, alive) ∷ (17, alive) ∷ (18, alive) ∷ []) G0
 
   abbrev pub G88 : Cx
-  G88 = patched ((8, row29) ∷ (10, row32) ∷ (15, row1) ∷ (16, row1) ∷ (20, row1) ∷ (21, row1) ∷ (22, row1) ∷ (23, row1) ∷ (24, row25) ∷ []) ((4, off) ∷ (6, off) ∷ (17, alive) ∷ (18, alive) ∷ []) G0
+  G88 = patched ((8, row29 17) ∷ (10, row32) ∷ (15, row1) ∷ (16, row1) ∷ (20, row1) ∷ (21, row1) ∷ (22, row1) ∷ (23, row1) ∷ (24, row25) ∷ []) ((4, off) ∷ (6, off) ∷ (17, alive) ∷ (18, alive) ∷ []) G0
 
   abbrev pub G91 : Cx
   G91 = patched ((10, row32) ∷ (15, row1) ∷ (16, row1) ∷ (20, row1) ∷ (21, row1) ∷ (22, row1) ∷ (23, row1) ∷ (24, row25) ∷ []) ((6, off) ∷ (18, alive) ∷ []) G0
@@ -304,49 +250,49 @@ module _ (κs : Lfts 11) (qs : Shares 11) where
   G97 = patched ((13, row37) ∷ (15, row1) ∷ (16, row1) ∷ (20, row1) ∷ (21, row1) ∷ (22, row1) ∷ (23, row1) ∷ (24, row25) ∷ (47, row39) ∷ []) ((9, off) ∷ (19, alive) ∷ []) G0
 
   abbrev pub G100 : Cx
-  G100 = patched ((8, row40) ∷ (13, row37) ∷ (15, row1) ∷ (16, row1) ∷ (20, row1) ∷ (21, row1) ∷ (22, row1) ∷ (23, row1) ∷ (24, row25) ∷ (47, row39) ∷ (49, row42) ∷ []) ((4, off) ∷ (9, off) ∷ (19, alive) ∷ (20, alive) ∷ []) G0
+  G100 = patched ((8, row29 20) ∷ (13, row37) ∷ (15, row1) ∷ (16, row1) ∷ (20, row1) ∷ (21, row1) ∷ (22, row1) ∷ (23, row1) ∷ (24, row25) ∷ (47, row39) ∷ (49, row31 20) ∷ []) ((4, off) ∷ (9, off) ∷ (19, alive) ∷ (20, alive) ∷ []) G0
 
   abbrev pub G103 : Cx
-  G103 = patched ((8, row40) ∷ (13, row37) ∷ (15, row1) ∷ (16, row1) ∷ (20, row1) ∷ (21, row1) ∷ (22, row1) ∷ (23, row1) ∷ (24, row25) ∷ (47, row39) ∷ (49, row42) ∷ (50, row1) ∷ []) ((4, off) ∷ (9, off) ∷ (19, alive) ∷ (20, alive) ∷ []) G0
+  G103 = patched ((8, row29 20) ∷ (13, row37) ∷ (15, row1) ∷ (16, row1) ∷ (20, row1) ∷ (21, row1) ∷ (22, row1) ∷ (23, row1) ∷ (24, row25) ∷ (47, row39) ∷ (49, row31 20) ∷ (50, row1) ∷ []) ((4, off) ∷ (9, off) ∷ (19, alive) ∷ (20, alive) ∷ []) G0
 
   abbrev pub G106 : Cx
-  G106 = patched ((8, row40) ∷ (11, row43) ∷ (13, row37) ∷ (15, row1) ∷ (16, row1) ∷ (20, row1) ∷ (21, row1) ∷ (22, row1) ∷ (23, row1) ∷ (24, row25) ∷ (47, row39) ∷ (49, row42) ∷ (50, row1) ∷ (52, row45) ∷ []) ((4, off) ∷ (7, off) ∷ (9, off) ∷ (19, alive) ∷ (20, alive) ∷ (21, alive) ∷ []) G0
+  G106 = patched ((8, row29 20) ∷ (11, row43) ∷ (13, row37) ∷ (15, row1) ∷ (16, row1) ∷ (20, row1) ∷ (21, row1) ∷ (22, row1) ∷ (23, row1) ∷ (24, row25) ∷ (47, row39) ∷ (49, row31 20) ∷ (50, row1) ∷ (52, row31 21) ∷ []) ((4, off) ∷ (7, off) ∷ (9, off) ∷ (19, alive) ∷ (20, alive) ∷ (21, alive) ∷ []) G0
 
   abbrev pub G109 : Cx
-  G109 = patched ((8, row40) ∷ (11, row43) ∷ (12, row46) ∷ (13, row37) ∷ (15, row1) ∷ (16, row1) ∷ (20, row1) ∷ (21, row1) ∷ (22, row1) ∷ (23, row1) ∷ (24, row25) ∷ (47, row39) ∷ (49, row42) ∷ (50, row1) ∷ (52, row45) ∷ (54, row48) ∷ []) ((4, off) ∷ (7, off) ∷ (8, off) ∷ (9, off) ∷ (19, alive) ∷ (20, alive) ∷ (21, alive) ∷ (22, alive) ∷ []) G0
+  G109 = patched ((8, row29 20) ∷ (11, row43) ∷ (12, row46) ∷ (13, row37) ∷ (15, row1) ∷ (16, row1) ∷ (20, row1) ∷ (21, row1) ∷ (22, row1) ∷ (23, row1) ∷ (24, row25) ∷ (47, row39) ∷ (49, row31 20) ∷ (50, row1) ∷ (52, row31 21) ∷ (54, row31 22) ∷ []) ((4, off) ∷ (7, off) ∷ (8, off) ∷ (9, off) ∷ (19, alive) ∷ (20, alive) ∷ (21, alive) ∷ (22, alive) ∷ []) G0
 
   abbrev pub G112 : Cx
-  G112 = patched ((8, row40) ∷ (9, row49) ∷ (11, row43) ∷ (12, row46) ∷ (13, row37) ∷ (15, row1) ∷ (16, row1) ∷ (20, row1) ∷ (21, row1) ∷ (22, row1) ∷ (23, row1) ∷ (24, row25) ∷ (47, row39) ∷ (49, row42) ∷ (50, row1) ∷ (52, row45) ∷ (54, row48) ∷ (56, row51) ∷ []) ((4, off) ∷ (5, off) ∷ (7, off) ∷ (8, off) ∷ (9, off) ∷ (19, alive) ∷ (20, alive) ∷ (21, alive) ∷ (22, alive) ∷ (23, alive) ∷ []) G0
+  G112 = patched ((8, row29 20) ∷ (9, row5 23) ∷ (11, row43) ∷ (12, row46) ∷ (13, row37) ∷ (15, row1) ∷ (16, row1) ∷ (20, row1) ∷ (21, row1) ∷ (22, row1) ∷ (23, row1) ∷ (24, row25) ∷ (47, row39) ∷ (49, row31 20) ∷ (50, row1) ∷ (52, row31 21) ∷ (54, row31 22) ∷ (56, row7 23) ∷ []) ((4, off) ∷ (5, off) ∷ (7, off) ∷ (8, off) ∷ (9, off) ∷ (19, alive) ∷ (20, alive) ∷ (21, alive) ∷ (22, alive) ∷ (23, alive) ∷ []) G0
 
   abbrev pub G115 : Cx
-  G115 = patched ((8, row40) ∷ (9, row49) ∷ (10, row52) ∷ (11, row43) ∷ (12, row46) ∷ (13, row37) ∷ (15, row1) ∷ (16, row1) ∷ (20, row1) ∷ (21, row1) ∷ (22, row1) ∷ (23, row1) ∷ (24, row25) ∷ (47, row39) ∷ (49, row42) ∷ (50, row1) ∷ (52, row45) ∷ (54, row48) ∷ (56, row51) ∷ (58, row54) ∷ []) ((4, off) ∷ (5, off) ∷ (6, off) ∷ (7, off) ∷ (8, off) ∷ (9, off) ∷ (19, alive) ∷ (20, alive) ∷ (21, alive) ∷ (22, alive) ∷ (23, alive) ∷ (24, alive) ∷ []) G0
+  G115 = patched ((8, row29 20) ∷ (9, row5 23) ∷ (10, row8 24) ∷ (11, row43) ∷ (12, row46) ∷ (13, row37) ∷ (15, row1) ∷ (16, row1) ∷ (20, row1) ∷ (21, row1) ∷ (22, row1) ∷ (23, row1) ∷ (24, row25) ∷ (47, row39) ∷ (49, row31 20) ∷ (50, row1) ∷ (52, row31 21) ∷ (54, row31 22) ∷ (56, row7 23) ∷ (58, row4 24) ∷ []) ((4, off) ∷ (5, off) ∷ (6, off) ∷ (7, off) ∷ (8, off) ∷ (9, off) ∷ (19, alive) ∷ (20, alive) ∷ (21, alive) ∷ (22, alive) ∷ (23, alive) ∷ (24, alive) ∷ []) G0
 
   abbrev pub G117 : Cx
-  G117 = patched ((8, row40) ∷ (9, row49) ∷ (10, row52) ∷ (11, row43) ∷ (12, row46) ∷ (13, row37) ∷ (15, row1) ∷ (16, row1) ∷ (20, row1) ∷ (21, row1) ∷ (22, row1) ∷ (23, row1) ∷ (24, row55) ∷ (47, row39) ∷ (49, row42) ∷ (50, row1) ∷ (52, row45) ∷ (54, row48) ∷ (56, row51) ∷ (58, row54) ∷ (59, row56) ∷ []) ((4, off) ∷ (5, off) ∷ (6, off) ∷ (7, off) ∷ (8, off) ∷ (9, off) ∷ (19, alive) ∷ (20, alive) ∷ (21, alive) ∷ (22, alive) ∷ (23, alive) ∷ (24, alive) ∷ (25, alive) ∷ []) G0
+  G117 = patched ((8, row29 20) ∷ (9, row5 23) ∷ (10, row8 24) ∷ (11, row43) ∷ (12, row46) ∷ (13, row37) ∷ (15, row1) ∷ (16, row1) ∷ (20, row1) ∷ (21, row1) ∷ (22, row1) ∷ (23, row1) ∷ (24, row55) ∷ (47, row39) ∷ (49, row31 20) ∷ (50, row1) ∷ (52, row31 21) ∷ (54, row31 22) ∷ (56, row7 23) ∷ (58, row4 24) ∷ (59, row56) ∷ []) ((4, off) ∷ (5, off) ∷ (6, off) ∷ (7, off) ∷ (8, off) ∷ (9, off) ∷ (19, alive) ∷ (20, alive) ∷ (21, alive) ∷ (22, alive) ∷ (23, alive) ∷ (24, alive) ∷ (25, alive) ∷ []) G0
 
   abbrev pub G118 : Cx
-  G118 = patched ((8, row40) ∷ (9, row49) ∷ (10, row52) ∷ (11, row43) ∷ (12, row46) ∷ (13, row37) ∷ (15, row1) ∷ (16, row1) ∷ (20, row1) ∷ (21, row1) ∷ (22, row1) ∷ (23, row1) ∷ (24, row55) ∷ (39, row35) ∷ (47, row39) ∷ (49, row42) ∷ (50, row1) ∷ (52, row45) ∷ (54, row48) ∷ (56, row19) ∷ (58, row18) ∷ (59, row57) ∷ []) ((4, off) ∷ (5, off) ∷ (6, off) ∷ (7, off) ∷ (8, off) ∷ (9, off) ∷ (19, alive) ∷ (20, alive) ∷ (21, alive) ∷ (22, alive) ∷ (23, alive) ∷ (24, alive) ∷ (25, alive) ∷ []) G0
+  G118 = patched ((8, row29 20) ∷ (9, row5 23) ∷ (10, row8 24) ∷ (11, row43) ∷ (12, row46) ∷ (13, row37) ∷ (15, row1) ∷ (16, row1) ∷ (20, row1) ∷ (21, row1) ∷ (22, row1) ∷ (23, row1) ∷ (24, row55) ∷ (39, row35) ∷ (47, row39) ∷ (49, row31 20) ∷ (50, row1) ∷ (52, row31 21) ∷ (54, row31 22) ∷ (56, row19) ∷ (58, row18) ∷ (59, row57) ∷ []) ((4, off) ∷ (5, off) ∷ (6, off) ∷ (7, off) ∷ (8, off) ∷ (9, off) ∷ (19, alive) ∷ (20, alive) ∷ (21, alive) ∷ (22, alive) ∷ (23, alive) ∷ (24, alive) ∷ (25, alive) ∷ []) G0
 
   abbrev pub G121 : Cx
-  G121 = patched ((8, row40) ∷ (9, row49) ∷ (10, row52) ∷ (11, row43) ∷ (12, row46) ∷ (13, row37) ∷ (15, row1) ∷ (16, row1) ∷ (20, row1) ∷ (21, row1) ∷ (22, row1) ∷ (23, row1) ∷ (24, row55) ∷ (39, row35) ∷ (50, row1) ∷ (54, row48) ∷ (56, row19) ∷ (58, row18) ∷ (59, row57) ∷ []) ((4, off) ∷ (5, off) ∷ (6, off) ∷ (7, off) ∷ (8, off) ∷ (9, off) ∷ (19, alive) ∷ (20, alive) ∷ (21, alive) ∷ (22, alive) ∷ (23, alive) ∷ (24, alive) ∷ (25, alive) ∷ []) G0
+  G121 = patched ((8, row29 20) ∷ (9, row5 23) ∷ (10, row8 24) ∷ (11, row43) ∷ (12, row46) ∷ (13, row37) ∷ (15, row1) ∷ (16, row1) ∷ (20, row1) ∷ (21, row1) ∷ (22, row1) ∷ (23, row1) ∷ (24, row55) ∷ (39, row35) ∷ (50, row1) ∷ (54, row31 22) ∷ (56, row19) ∷ (58, row18) ∷ (59, row57) ∷ []) ((4, off) ∷ (5, off) ∷ (6, off) ∷ (7, off) ∷ (8, off) ∷ (9, off) ∷ (19, alive) ∷ (20, alive) ∷ (21, alive) ∷ (22, alive) ∷ (23, alive) ∷ (24, alive) ∷ (25, alive) ∷ []) G0
 
   abbrev pub G124 : Cx
-  G124 = patched ((8, row40) ∷ (9, row49) ∷ (10, row52) ∷ (11, row43) ∷ (12, row46) ∷ (13, row37) ∷ (15, row1) ∷ (16, row1) ∷ (20, row1) ∷ (21, row1) ∷ (22, row1) ∷ (23, row1) ∷ (24, row55) ∷ (56, row19) ∷ (58, row18) ∷ (59, row57) ∷ []) ((4, off) ∷ (5, off) ∷ (6, off) ∷ (7, off) ∷ (8, off) ∷ (9, off) ∷ (19, alive) ∷ (20, alive) ∷ (21, alive) ∷ (22, alive) ∷ (23, alive) ∷ (24, alive) ∷ (25, alive) ∷ []) G0
+  G124 = patched ((8, row29 20) ∷ (9, row5 23) ∷ (10, row8 24) ∷ (11, row43) ∷ (12, row46) ∷ (13, row37) ∷ (15, row1) ∷ (16, row1) ∷ (20, row1) ∷ (21, row1) ∷ (22, row1) ∷ (23, row1) ∷ (24, row55) ∷ (56, row19) ∷ (58, row18) ∷ (59, row57) ∷ []) ((4, off) ∷ (5, off) ∷ (6, off) ∷ (7, off) ∷ (8, off) ∷ (9, off) ∷ (19, alive) ∷ (20, alive) ∷ (21, alive) ∷ (22, alive) ∷ (23, alive) ∷ (24, alive) ∷ (25, alive) ∷ []) G0
 
   abbrev pub G127 : Cx
-  G127 = patched ((8, row40) ∷ (9, row49) ∷ (10, row52) ∷ (11, row43) ∷ (12, row46) ∷ (15, row1) ∷ (16, row1) ∷ (20, row1) ∷ (21, row1) ∷ (22, row1) ∷ (23, row1) ∷ (24, row55) ∷ (56, row19) ∷ (58, row18) ∷ (59, row57) ∷ []) ((4, off) ∷ (5, off) ∷ (6, off) ∷ (7, off) ∷ (8, off) ∷ (20, alive) ∷ (21, alive) ∷ (22, alive) ∷ (23, alive) ∷ (24, alive) ∷ (25, alive) ∷ []) G0
+  G127 = patched ((8, row29 20) ∷ (9, row5 23) ∷ (10, row8 24) ∷ (11, row43) ∷ (12, row46) ∷ (15, row1) ∷ (16, row1) ∷ (20, row1) ∷ (21, row1) ∷ (22, row1) ∷ (23, row1) ∷ (24, row55) ∷ (56, row19) ∷ (58, row18) ∷ (59, row57) ∷ []) ((4, off) ∷ (5, off) ∷ (6, off) ∷ (7, off) ∷ (8, off) ∷ (20, alive) ∷ (21, alive) ∷ (22, alive) ∷ (23, alive) ∷ (24, alive) ∷ (25, alive) ∷ []) G0
 
   abbrev pub G130 : Cx
-  G130 = patched ((9, row49) ∷ (10, row52) ∷ (11, row43) ∷ (12, row46) ∷ (15, row1) ∷ (16, row1) ∷ (20, row1) ∷ (21, row1) ∷ (22, row1) ∷ (23, row1) ∷ (24, row55) ∷ (56, row19) ∷ (58, row18) ∷ (59, row57) ∷ []) ((5, off) ∷ (6, off) ∷ (7, off) ∷ (8, off) ∷ (21, alive) ∷ (22, alive) ∷ (23, alive) ∷ (24, alive) ∷ (25, alive) ∷ []) G0
+  G130 = patched ((9, row5 23) ∷ (10, row8 24) ∷ (11, row43) ∷ (12, row46) ∷ (15, row1) ∷ (16, row1) ∷ (20, row1) ∷ (21, row1) ∷ (22, row1) ∷ (23, row1) ∷ (24, row55) ∷ (56, row19) ∷ (58, row18) ∷ (59, row57) ∷ []) ((5, off) ∷ (6, off) ∷ (7, off) ∷ (8, off) ∷ (21, alive) ∷ (22, alive) ∷ (23, alive) ∷ (24, alive) ∷ (25, alive) ∷ []) G0
 
   abbrev pub G133 : Cx
-  G133 = patched ((9, row49) ∷ (10, row52) ∷ (12, row46) ∷ (15, row1) ∷ (16, row1) ∷ (20, row1) ∷ (21, row1) ∷ (22, row1) ∷ (23, row1) ∷ (24, row55) ∷ (56, row19) ∷ (58, row18) ∷ (59, row57) ∷ []) ((5, off) ∷ (6, off) ∷ (8, off) ∷ (22, alive) ∷ (23, alive) ∷ (24, alive) ∷ (25, alive) ∷ []) G0
+  G133 = patched ((9, row5 23) ∷ (10, row8 24) ∷ (12, row46) ∷ (15, row1) ∷ (16, row1) ∷ (20, row1) ∷ (21, row1) ∷ (22, row1) ∷ (23, row1) ∷ (24, row55) ∷ (56, row19) ∷ (58, row18) ∷ (59, row57) ∷ []) ((5, off) ∷ (6, off) ∷ (8, off) ∷ (22, alive) ∷ (23, alive) ∷ (24, alive) ∷ (25, alive) ∷ []) G0
 
   abbrev pub G136 : Cx
-  G136 = patched ((9, row49) ∷ (10, row52) ∷ (15, row1) ∷ (16, row1) ∷ (20, row1) ∷ (21, row1) ∷ (22, row1) ∷ (23, row1) ∷ (24, row55) ∷ (56, row19) ∷ (58, row18) ∷ (59, row57) ∷ []) ((5, off) ∷ (6, off) ∷ (23, alive) ∷ (24, alive) ∷ (25, alive) ∷ []) G0
+  G136 = patched ((9, row5 23) ∷ (10, row8 24) ∷ (15, row1) ∷ (16, row1) ∷ (20, row1) ∷ (21, row1) ∷ (22, row1) ∷ (23, row1) ∷ (24, row55) ∷ (56, row19) ∷ (58, row18) ∷ (59, row57) ∷ []) ((5, off) ∷ (6, off) ∷ (23, alive) ∷ (24, alive) ∷ (25, alive) ∷ []) G0
 
   abbrev pub G140 : Cx
-  G140 = patched ((10, row52) ∷ (15, row1) ∷ (16, row1) ∷ (20, row1) ∷ (21, row1) ∷ (22, row1) ∷ (23, row1) ∷ (24, row55) ∷ (58, row18) ∷ (59, row57) ∷ []) ((6, off) ∷ (24, alive) ∷ (25, alive) ∷ []) G0
+  G140 = patched ((10, row8 24) ∷ (15, row1) ∷ (16, row1) ∷ (20, row1) ∷ (21, row1) ∷ (22, row1) ∷ (23, row1) ∷ (24, row55) ∷ (58, row18) ∷ (59, row57) ∷ []) ((6, off) ∷ (24, alive) ∷ (25, alive) ∷ []) G0
 
   abbrev pub G144 : Cx
   G144 = patched ((15, row1) ∷ (16, row1) ∷ (20, row1) ∷ (21, row1) ∷ (22, row1) ∷ (23, row1) ∷ (24, row55) ∷ (59, row57) ∷ []) ((25, alive) ∷ []) G0
@@ -358,25 +304,25 @@ module _ (κs : Lfts 11) (qs : Shares 11) where
   G153 = patched ((15, row1) ∷ (16, row1) ∷ (20, row1) ∷ (21, row1) ∷ (22, row1) ∷ (23, row1) ∷ (24, row58) ∷ (50, row1) ∷ (60, row59) ∷ []) ((26, alive) ∷ (27, alive) ∷ []) G0
 
   abbrev pub G156 : Cx
-  G156 = patched ((9, row60) ∷ (15, row1) ∷ (16, row1) ∷ (20, row1) ∷ (21, row1) ∷ (22, row1) ∷ (23, row1) ∷ (24, row58) ∷ (50, row1) ∷ (60, row59) ∷ (62, row62) ∷ []) ((5, off) ∷ (26, alive) ∷ (27, alive) ∷ (28, alive) ∷ []) G0
+  G156 = patched ((9, row5 27) ∷ (15, row1) ∷ (16, row1) ∷ (20, row1) ∷ (21, row1) ∷ (22, row1) ∷ (23, row1) ∷ (24, row58) ∷ (50, row1) ∷ (60, row59) ∷ (62, row7 27) ∷ []) ((5, off) ∷ (26, alive) ∷ (27, alive) ∷ (28, alive) ∷ []) G0
 
   abbrev pub G159 : Cx
-  G159 = patched ((9, row60) ∷ (10, row63) ∷ (15, row1) ∷ (16, row1) ∷ (20, row1) ∷ (21, row1) ∷ (22, row1) ∷ (23, row1) ∷ (24, row58) ∷ (50, row1) ∷ (60, row59) ∷ (62, row62) ∷ (64, row65) ∷ []) ((5, off) ∷ (6, off) ∷ (26, alive) ∷ (27, alive) ∷ (28, alive) ∷ (29, alive) ∷ []) G0
+  G159 = patched ((9, row5 27) ∷ (10, row8 28) ∷ (15, row1) ∷ (16, row1) ∷ (20, row1) ∷ (21, row1) ∷ (22, row1) ∷ (23, row1) ∷ (24, row58) ∷ (50, row1) ∷ (60, row59) ∷ (62, row7 27) ∷ (64, row4 28) ∷ []) ((5, off) ∷ (6, off) ∷ (26, alive) ∷ (27, alive) ∷ (28, alive) ∷ (29, alive) ∷ []) G0
 
   abbrev pub G161 : Cx
-  G161 = patched ((9, row60) ∷ (10, row63) ∷ (14, row66) ∷ (15, row1) ∷ (16, row1) ∷ (20, row1) ∷ (21, row1) ∷ (22, row1) ∷ (23, row1) ∷ (24, row58) ∷ (50, row1) ∷ (60, row59) ∷ (62, row62) ∷ (64, row65) ∷ (66, row68) ∷ []) ((5, off) ∷ (6, off) ∷ (10, off) ∷ (26, alive) ∷ (27, alive) ∷ (28, alive) ∷ (29, alive) ∷ []) G0
+  G161 = patched ((9, row5 27) ∷ (10, row8 28) ∷ (14, row66) ∷ (15, row1) ∷ (16, row1) ∷ (20, row1) ∷ (21, row1) ∷ (22, row1) ∷ (23, row1) ∷ (24, row58) ∷ (50, row1) ∷ (60, row59) ∷ (62, row7 27) ∷ (64, row4 28) ∷ (66, row68) ∷ []) ((5, off) ∷ (6, off) ∷ (10, off) ∷ (26, alive) ∷ (27, alive) ∷ (28, alive) ∷ (29, alive) ∷ []) G0
 
   abbrev pub G162 : Cx
-  G162 = patched ((9, row60) ∷ (10, row63) ∷ (14, row66) ∷ (15, row1) ∷ (16, row1) ∷ (20, row1) ∷ (21, row1) ∷ (22, row1) ∷ (23, row1) ∷ (24, row58) ∷ (25, row1) ∷ (50, row1) ∷ (60, row59) ∷ (62, row19) ∷ (64, row18) ∷ (66, row69) ∷ []) ((5, off) ∷ (6, off) ∷ (10, off) ∷ (26, alive) ∷ (27, alive) ∷ (28, alive) ∷ (29, alive) ∷ []) G0
+  G162 = patched ((9, row5 27) ∷ (10, row8 28) ∷ (14, row66) ∷ (15, row1) ∷ (16, row1) ∷ (20, row1) ∷ (21, row1) ∷ (22, row1) ∷ (23, row1) ∷ (24, row58) ∷ (25, row1) ∷ (50, row1) ∷ (60, row59) ∷ (62, row19) ∷ (64, row18) ∷ (66, row69) ∷ []) ((5, off) ∷ (6, off) ∷ (10, off) ∷ (26, alive) ∷ (27, alive) ∷ (28, alive) ∷ (29, alive) ∷ []) G0
 
   abbrev pub G165 : Cx
-  G165 = patched ((9, row60) ∷ (10, row63) ∷ (14, row66) ∷ (15, row1) ∷ (16, row1) ∷ (20, row1) ∷ (21, row1) ∷ (22, row1) ∷ (23, row1) ∷ (24, row58) ∷ (25, row1) ∷ (62, row19) ∷ (64, row18) ∷ (66, row69) ∷ []) ((5, off) ∷ (6, off) ∷ (10, off) ∷ (26, dead) ∷ (27, alive) ∷ (28, alive) ∷ (29, alive) ∷ []) G0
+  G165 = patched ((9, row5 27) ∷ (10, row8 28) ∷ (14, row66) ∷ (15, row1) ∷ (16, row1) ∷ (20, row1) ∷ (21, row1) ∷ (22, row1) ∷ (23, row1) ∷ (24, row58) ∷ (25, row1) ∷ (62, row19) ∷ (64, row18) ∷ (66, row69) ∷ []) ((5, off) ∷ (6, off) ∷ (10, off) ∷ (26, dead) ∷ (27, alive) ∷ (28, alive) ∷ (29, alive) ∷ []) G0
 
   abbrev pub G168 : Cx
-  G168 = patched ((9, row60) ∷ (10, row63) ∷ (14, row66) ∷ (15, row1) ∷ (16, row1) ∷ (20, row1) ∷ (21, row1) ∷ (22, row1) ∷ (23, row1) ∷ (25, row1) ∷ (62, row19) ∷ (64, row18) ∷ (66, row69) ∷ []) ((5, off) ∷ (6, off) ∷ (10, off) ∷ (27, alive) ∷ (28, alive) ∷ (29, alive) ∷ []) G0
+  G168 = patched ((9, row5 27) ∷ (10, row8 28) ∷ (14, row66) ∷ (15, row1) ∷ (16, row1) ∷ (20, row1) ∷ (21, row1) ∷ (22, row1) ∷ (23, row1) ∷ (25, row1) ∷ (62, row19) ∷ (64, row18) ∷ (66, row69) ∷ []) ((5, off) ∷ (6, off) ∷ (10, off) ∷ (27, alive) ∷ (28, alive) ∷ (29, alive) ∷ []) G0
 
   abbrev pub G172 : Cx
-  G172 = patched ((10, row63) ∷ (14, row66) ∷ (15, row1) ∷ (16, row1) ∷ (20, row1) ∷ (21, row1) ∷ (22, row1) ∷ (23, row1) ∷ (25, row1) ∷ (64, row18) ∷ (66, row69) ∷ []) ((6, off) ∷ (10, off) ∷ (28, alive) ∷ (29, alive) ∷ []) G0
+  G172 = patched ((10, row8 28) ∷ (14, row66) ∷ (15, row1) ∷ (16, row1) ∷ (20, row1) ∷ (21, row1) ∷ (22, row1) ∷ (23, row1) ∷ (25, row1) ∷ (64, row18) ∷ (66, row69) ∷ []) ((6, off) ∷ (10, off) ∷ (28, alive) ∷ (29, alive) ∷ []) G0
 
   abbrev pub G176 : Cx
   G176 = patched ((14, row66) ∷ (15, row1) ∷ (16, row1) ∷ (20, row1) ∷ (21, row1) ∷ (22, row1) ∷ (23, row1) ∷ (25, row1) ∷ (66, row69) ∷ []) ((10, off) ∷ (29, alive) ∷ []) G0
@@ -427,7 +373,7 @@ module _ (κs : Lfts 11) (qs : Shares 11) where
   Γ-from-answer = G30
 
 module _ {M : Type 1} (𝓤 : URA M) (H : Heap 𝓤) (A : Atoms 𝓤) (W : Given 𝓤 H A) (𝓣 : Tables 𝓤 H)
-    (known0 : Knows 𝓤 H A W 𝓣 9 K0.ps K0.r R0.Asked R0.Learnt "call_partition::prepare") (known1 : Knows 𝓤 H A W 𝓣 4 K1.ps K1.r R1.Asked R1.Learnt "topology::records::fill") (known2 : Knows 𝓤 H A W 𝓣 9 K2.ps K2.r R2.Asked R2.Learnt "topology::marks::mark_removed") (known3 : Knows 𝓤 H A W 𝓣 5 K3.ps K3.r R3.Asked R3.Learnt "pass_lists::finish") (κs : Lfts 11) (qs : Shares 11) (bs : List ℕ) where
+    (known0 : Knows 𝓤 H A W 𝓣 9 K0.ps K0.r R0.Asked R0.Learnt "call_partition::prepare") (known1 : Knows 𝓤 H A W 𝓣 4 K1.ps K1.r K1.Asked K1.Learnt "topology::records::fill") (known2 : Knows 𝓤 H A W 𝓣 9 K2.ps K2.r K2.Asked K2.Learnt "topology::marks::mark_removed") (known3 : Knows 𝓤 H A W 𝓣 5 K3.ps K3.r R3.Asked R3.Learnt "pass_lists::finish") (κs : Lfts 11) (qs : Shares 11) (bs : List ℕ) where
   abbrev E : Env 𝓤 H
   E = EnvOf 𝓤 H (tyR r ∷ tysP ps xs) bs
 
@@ -502,7 +448,7 @@ module _ {M : Type 1} (𝓤 : URA M) (H : Heap 𝓤) (A : Atoms 𝓤) (W : Given
       stmt _ (G115 κs qs) (t-sl-aggregate 𝓤 H A W E (rtF (fInt w32)) 𝓣 (asMut (rtF (fInt w32))) _ 57 58 24 (tyRef erased mut (tyInt w32)) (tyRef erased mut (tyInt w32)) (λ x. x) (oFld 10 (field 1 ∷ []) (tyInt w64) 8 (λ v. lenV (v .0))) (as-is 𝓤 H A (msptr (rtF (fInt w32)) (tyRef erased mut (tyInt w32)) 24)) (room-gone 𝓤 H A _) (reads-owed-len 𝓤 H A W (rtF (fInt w32)) (tyRef (named 6) mut (tyInt w32)) 6 24 (lease (κs .1 .1 .1 .1 .1 .1 .0) (qs .1 .1 .1 .1 .1 .1 .0)) 8 refl, refl) refl refl (λ b o k. tt)) $
       ghosts (G115 κs qs) _ (g-begin 𝓤 H A W E (G115 κs qs) 25 _) $
       stmt _ (G117 κs qs) (t-sc-borrow 𝓤 H A W E 𝓣 _ 24 59 25 (Array (rtF fBool) 256) (tyRef erased mut (tyArray tyBool 256)) (λ x. x) (mem-arr 𝓤 H A W (rtF fBool) 256) (room-gone 𝓤 H A (tyRef erased mut (tyArray tyBool 256))) refl (λ b o. tt)) $
-      stmt (G117 κs qs) (G118 κs qs) (t-call-plain 𝓤 H A W 𝓣 9 K2.ps K2.r R2.Asked R2.Learnt "topology::marks::mark_removed" known2 E (λ pos β. β) (G117 κs qs) (vAt 1 (λ x. x), (record { pos = 47; ty = tyRef erased imm (pointee (twin-0.the-row .written)); ref = λ x. x }, (vAt 22 (λ x. x), (vAt 23 (λ x. x), (record { pos = 49; ty = tyRef erased imm (tyInt w32); ref = λ x. x }, (record { pos = 7; ty = tyRef (named 3) imm (tyInt w64); ref = λ x. x }, (vAt 20 (λ x. x), (vAt 21 (λ x. x), (vAt 50 (λ x. x), (record { pos = 6; ty = tyRef (named 2) imm (tyInt w64); ref = λ x. x }, (record { pos = 52; ty = tyRef erased imm (tyInt w32); ref = λ x. x }, (record { pos = 54; ty = tyRef erased imm (tyInt w32); ref = λ x. x }, (record { pos = 56; ty = tyRef erased mut (tyInt w16); ref = λ x. x }, (record { pos = 58; ty = tyRef erased mut (tyInt w32); ref = λ x. x }, (record { pos = 59; ty = tyRef erased mut (tyArray tyBool 256); ref = λ x. x }, tt))))))))))))))) 39 (19 ∷ 20 ∷ 3 ∷ 2 ∷ 21 ∷ 22 ∷ 23 ∷ 24 ∷ 25 ∷ []) (sub-id 𝓤 H A W ((G117 κs qs) .slots)) ((reads-sc 𝓤 H A W (sInt w64), refl), (spares-sslice 𝓤 H A W twin-0.the-row (tyRef erased imm (pointee (twin-0.the-row .written))) 19, reads-sslice 𝓤 H A W twin-0.the-row (tyRef erased imm (pointee (twin-0.the-row .written))) 19, refl, ((reads-sc 𝓤 H A W (sInt w64), refl), ((reads-sc 𝓤 H A W (sInt w64), refl), (spares-sslice 𝓤 H A W (rtF (fInt w32)) (tyRef erased imm (tyInt w32)) 20, reads-sslice 𝓤 H A W (rtF (fInt w32)) (tyRef erased imm (tyInt w32)) 20, refl, (spares-sslice 𝓤 H A W (rtF (fInt w64)) (tyRef (named 3) imm (tyInt w64)) 3, reads-sslice 𝓤 H A W (rtF (fInt w64)) (tyRef (named 3) imm (tyInt w64)) 3, refl, ((reads-sc 𝓤 H A W (sInt w64), refl), ((reads-sc 𝓤 H A W (sInt w64), refl), ((reads-sc 𝓤 H A W (sInt w64), refl), (spares-sslice 𝓤 H A W (rtF (fInt w64)) (tyRef (named 2) imm (tyInt w64)) 2, reads-sslice 𝓤 H A W (rtF (fInt w64)) (tyRef (named 2) imm (tyInt w64)) 2, refl, (spares-sslice 𝓤 H A W (rtF (fInt w32)) (tyRef erased imm (tyInt w32)) 21, reads-sslice 𝓤 H A W (rtF (fInt w32)) (tyRef erased imm (tyInt w32)) 21, refl, (spares-sslice 𝓤 H A W (rtF (fInt w32)) (tyRef erased imm (tyInt w32)) 22, reads-sslice 𝓤 H A W (rtF (fInt w32)) (tyRef erased imm (tyInt w32)) 22, refl, (as-is 𝓤 H A (mslice (rtF (fInt w16)) (tyRef erased mut (tyInt w16)) 23), reads-mslice 𝓤 H A W (rtF (fInt w16)) (tyRef erased mut (tyInt w16)) 23, refl, (as-is 𝓤 H A (mslice (rtF (fInt w32)) (tyRef erased mut (tyInt w32)) 24), reads-mslice 𝓤 H A W (rtF (fInt w32)) (tyRef erased mut (tyInt w32)) 24, refl, (as-is 𝓤 H A (mref (Array (rtF fBool) 256) (tyRef erased mut (tyArray tyBool 256)) 25), reads-mref 𝓤 H A W (Array (rtF fBool) 256) (tyRef erased mut (tyArray tyBool 256)) 25, refl, tt))))))))))))))) (room-gone 𝓤 H A tyUnit) _ refl) $
+      stmt (G117 κs qs) (G118 κs qs) (t-call-plain 𝓤 H A W 𝓣 9 K2.ps K2.r K2.Asked K2.Learnt "topology::marks::mark_removed" known2 E (λ pos β. β) (G117 κs qs) (vAt 1 (λ x. x), (record { pos = 47; ty = tyRef erased imm (pointee (twin-0.the-row .written)); ref = λ x. x }, (vAt 22 (λ x. x), (vAt 23 (λ x. x), (record { pos = 49; ty = tyRef erased imm (tyInt w32); ref = λ x. x }, (record { pos = 7; ty = tyRef (named 3) imm (tyInt w64); ref = λ x. x }, (vAt 20 (λ x. x), (vAt 21 (λ x. x), (vAt 50 (λ x. x), (record { pos = 6; ty = tyRef (named 2) imm (tyInt w64); ref = λ x. x }, (record { pos = 52; ty = tyRef erased imm (tyInt w32); ref = λ x. x }, (record { pos = 54; ty = tyRef erased imm (tyInt w32); ref = λ x. x }, (record { pos = 56; ty = tyRef erased mut (tyInt w16); ref = λ x. x }, (record { pos = 58; ty = tyRef erased mut (tyInt w32); ref = λ x. x }, (record { pos = 59; ty = tyRef erased mut (tyArray tyBool 256); ref = λ x. x }, tt))))))))))))))) 39 (19 ∷ 20 ∷ 3 ∷ 2 ∷ 21 ∷ 22 ∷ 23 ∷ 24 ∷ 25 ∷ []) (sub-id 𝓤 H A W ((G117 κs qs) .slots)) ((reads-sc 𝓤 H A W (sInt w64), refl), (spares-sslice 𝓤 H A W twin-0.the-row (tyRef erased imm (pointee (twin-0.the-row .written))) 19, reads-sslice 𝓤 H A W twin-0.the-row (tyRef erased imm (pointee (twin-0.the-row .written))) 19, refl, ((reads-sc 𝓤 H A W (sInt w64), refl), ((reads-sc 𝓤 H A W (sInt w64), refl), (spares-sslice 𝓤 H A W (rtF (fInt w32)) (tyRef erased imm (tyInt w32)) 20, reads-sslice 𝓤 H A W (rtF (fInt w32)) (tyRef erased imm (tyInt w32)) 20, refl, (spares-sslice 𝓤 H A W (rtF (fInt w64)) (tyRef (named 3) imm (tyInt w64)) 3, reads-sslice 𝓤 H A W (rtF (fInt w64)) (tyRef (named 3) imm (tyInt w64)) 3, refl, ((reads-sc 𝓤 H A W (sInt w64), refl), ((reads-sc 𝓤 H A W (sInt w64), refl), ((reads-sc 𝓤 H A W (sInt w64), refl), (spares-sslice 𝓤 H A W (rtF (fInt w64)) (tyRef (named 2) imm (tyInt w64)) 2, reads-sslice 𝓤 H A W (rtF (fInt w64)) (tyRef (named 2) imm (tyInt w64)) 2, refl, (spares-sslice 𝓤 H A W (rtF (fInt w32)) (tyRef erased imm (tyInt w32)) 21, reads-sslice 𝓤 H A W (rtF (fInt w32)) (tyRef erased imm (tyInt w32)) 21, refl, (spares-sslice 𝓤 H A W (rtF (fInt w32)) (tyRef erased imm (tyInt w32)) 22, reads-sslice 𝓤 H A W (rtF (fInt w32)) (tyRef erased imm (tyInt w32)) 22, refl, (as-is 𝓤 H A (mslice (rtF (fInt w16)) (tyRef erased mut (tyInt w16)) 23), reads-mslice 𝓤 H A W (rtF (fInt w16)) (tyRef erased mut (tyInt w16)) 23, refl, (as-is 𝓤 H A (mslice (rtF (fInt w32)) (tyRef erased mut (tyInt w32)) 24), reads-mslice 𝓤 H A W (rtF (fInt w32)) (tyRef erased mut (tyInt w32)) 24, refl, (as-is 𝓤 H A (mref (Array (rtF fBool) 256) (tyRef erased mut (tyArray tyBool 256)) 25), reads-mref 𝓤 H A W (Array (rtF fBool) 256) (tyRef erased mut (tyArray tyBool 256)) 25, refl, tt))))))))))))))) (room-gone 𝓤 H A tyUnit) _ refl) $
       ghosts (G118 κs qs) _ (g-room 𝓤 H A W E (G118 κs qs) 47 _ (room-sslice 𝓤 H A W twin-0.the-row (tyRef erased imm (pointee (twin-0.the-row .written))) 19)) $
       ghosts _ _ (g-room 𝓤 H A W E _ 49 _ (room-sslice 𝓤 H A W (rtF (fInt w32)) (tyRef erased imm (tyInt w32)) 20)) $
       ghosts _ (G121 κs qs) (g-room 𝓤 H A W E _ 52 _ (room-sslice 𝓤 H A W (rtF (fInt w32)) (tyRef erased imm (tyInt w32)) 21)) $
@@ -563,7 +509,7 @@ module _ {M : Type 1} (𝓤 : URA M) (H : Heap 𝓤) (A : Atoms 𝓤) (W : Given
               ghosts (G78 κs qs) _ (g-begin 𝓤 H A W E (G78 κs qs) 18 _) $
               stmt _ _ (t-sl-reshare 𝓤 H A W E (rtF (fInt w32)) 𝓣 _ 10 44 6 18 (tyRef (named 6) mut (tyInt w32)) (tyRef erased imm (tyInt w32)) (lease (κs .1 .1 .1 .1 .1 .1 .0) (qs .1 .1 .1 .1 .1 .1 .0)) 0 (λ x. x) (as-is 𝓤 H A (mslice (rtF (fInt w32)) (tyRef (named 6) mut (tyInt w32)) 6)) (room-gone 𝓤 H A (tyRef erased imm (tyInt w32))) refl tt refl refl refl (λ b o. tt)) $
               stmt _ (G81 κs qs) (t-sl-aggregate 𝓤 H A W E (rtF (fInt w32)) 𝓣 (asShr (rtF (fInt w32))) _ 44 45 18 (tyRef erased imm (tyInt w32)) (tyRef erased imm (tyInt w32)) (λ x. x) (oFld 10 (field 1 ∷ []) (tyInt w64) 8 (λ v. lenV (v .0))) (as-is 𝓤 H A (ssptr (rtF (fInt w32)) (tyRef erased imm (tyInt w32)) 18)) (room-gone 𝓤 H A _) (reads-owedS-len 𝓤 H A W (rtF (fInt w32)) (tyRef (named 6) mut (tyInt w32)) 6 18 (lease (κs .1 .1 .1 .1 .1 .1 .0) (qs .1 .1 .1 .1 .1 .1 .0)) 8 refl, refl) refl refl (λ b o k. tt)) $
-              stmt (G81 κs qs) (G82 κs qs) (t-call-plain 𝓤 H A W 𝓣 4 K1.ps K1.r R1.Asked R1.Learnt "topology::records::fill" known1 E (λ pos β. β) (G81 κs qs) (record { pos = 41; ty = tyRef erased mut (pointee (twin-0.the-row .written)); ref = λ x. x }, (vAt 20 (λ x. x), (vAt 22 (λ x. x), (record { pos = 4; ty = tyRef (named 0) imm (tyInt w8); ref = λ x. x }, (record { pos = 43; ty = tyRef erased imm (tyInt w32); ref = λ x. x }, (record { pos = 45; ty = tyRef erased imm (tyInt w32); ref = λ x. x }, tt)))))) 39 (16 ∷ 0 ∷ 17 ∷ 18 ∷ []) (sub-id 𝓤 H A W ((G81 κs qs) .slots)) (as-is 𝓤 H A (mslice twin-0.the-row (tyRef erased mut (pointee (twin-0.the-row .written))) 16), reads-mslice 𝓤 H A W twin-0.the-row (tyRef erased mut (pointee (twin-0.the-row .written))) 16, refl, ((reads-sc 𝓤 H A W (sInt w64), refl), ((reads-sc 𝓤 H A W (sInt w64), refl), (spares-sslice 𝓤 H A W (rtF (fInt w8)) (tyRef (named 0) imm (tyInt w8)) 0, reads-sslice 𝓤 H A W (rtF (fInt w8)) (tyRef (named 0) imm (tyInt w8)) 0, refl, (spares-sslice 𝓤 H A W (rtF (fInt w32)) (tyRef erased imm (tyInt w32)) 17, reads-sslice 𝓤 H A W (rtF (fInt w32)) (tyRef erased imm (tyInt w32)) 17, refl, (spares-sslice 𝓤 H A W (rtF (fInt w32)) (tyRef erased imm (tyInt w32)) 18, reads-sslice 𝓤 H A W (rtF (fInt w32)) (tyRef erased imm (tyInt w32)) 18, refl, tt)))))) (room-gone 𝓤 H A tyUnit) _ refl) $
+              stmt (G81 κs qs) (G82 κs qs) (t-call-plain 𝓤 H A W 𝓣 4 K1.ps K1.r K1.Asked K1.Learnt "topology::records::fill" known1 E (λ pos β. β) (G81 κs qs) (record { pos = 41; ty = tyRef erased mut (pointee (twin-0.the-row .written)); ref = λ x. x }, (vAt 20 (λ x. x), (vAt 22 (λ x. x), (record { pos = 4; ty = tyRef (named 0) imm (tyInt w8); ref = λ x. x }, (record { pos = 43; ty = tyRef erased imm (tyInt w32); ref = λ x. x }, (record { pos = 45; ty = tyRef erased imm (tyInt w32); ref = λ x. x }, tt)))))) 39 (16 ∷ 0 ∷ 17 ∷ 18 ∷ []) (sub-id 𝓤 H A W ((G81 κs qs) .slots)) (as-is 𝓤 H A (mslice twin-0.the-row (tyRef erased mut (pointee (twin-0.the-row .written))) 16), reads-mslice 𝓤 H A W twin-0.the-row (tyRef erased mut (pointee (twin-0.the-row .written))) 16, refl, ((reads-sc 𝓤 H A W (sInt w64), refl), ((reads-sc 𝓤 H A W (sInt w64), refl), (spares-sslice 𝓤 H A W (rtF (fInt w8)) (tyRef (named 0) imm (tyInt w8)) 0, reads-sslice 𝓤 H A W (rtF (fInt w8)) (tyRef (named 0) imm (tyInt w8)) 0, refl, (spares-sslice 𝓤 H A W (rtF (fInt w32)) (tyRef erased imm (tyInt w32)) 17, reads-sslice 𝓤 H A W (rtF (fInt w32)) (tyRef erased imm (tyInt w32)) 17, refl, (spares-sslice 𝓤 H A W (rtF (fInt w32)) (tyRef erased imm (tyInt w32)) 18, reads-sslice 𝓤 H A W (rtF (fInt w32)) (tyRef erased imm (tyInt w32)) 18, refl, tt)))))) (room-gone 𝓤 H A tyUnit) _ refl) $
               ghosts (G82 κs qs) _ (g-room 𝓤 H A W E (G82 κs qs) 43 _ (room-sslice 𝓤 H A W (rtF (fInt w32)) (tyRef erased imm (tyInt w32)) 17)) $
               ghosts _ _ (g-room 𝓤 H A W E _ 45 _ (room-sslice 𝓤 H A W (rtF (fInt w32)) (tyRef erased imm (tyInt w32)) 18)) $
               ghosts _ (G85 κs qs) (g-room 𝓤 H A W E _ 39 tyUnit (room-sc 𝓤 H A W sUnit)) $
@@ -625,11 +571,11 @@ module _ (w : World) where
   abbrev known0-at : Knows (w .𝓤) (w .H) (w .𝓖 .A) (Wof w) (𝓣of w code.env) 9 K0.ps K0.r R0.Asked R0.Learnt "call_partition::prepare"
   known0-at = R0.known w code.env S0.name S0.routine code.calls-call-partition·prepare (M0.met (w .𝓤) (w .H) (w .𝓜) (w .𝓖) (w .𝓡))
 
-  abbrev known1-at : Knows (w .𝓤) (w .H) (w .𝓖 .A) (Wof w) (𝓣of w code.env) 4 K1.ps K1.r R1.Asked R1.Learnt "topology::records::fill"
-  known1-at = R1.known w code.env S1.name S1.routine code.calls-topology·records·fill (M1.met (w .𝓤) (w .H) (w .𝓜) (w .𝓖) (w .𝓡))
+  abbrev known1-at : Knows (w .𝓤) (w .H) (w .𝓖 .A) (Wof w) (𝓣of w code.env) 4 K1.ps K1.r K1.Asked K1.Learnt "topology::records::fill"
+  known1-at = K1.known w code.env S1.name S1.routine code.calls-topology·records·fill (M1.met (w .𝓤) (w .H) (w .𝓜) (w .𝓖) (w .𝓡))
 
-  abbrev known2-at : Knows (w .𝓤) (w .H) (w .𝓖 .A) (Wof w) (𝓣of w code.env) 9 K2.ps K2.r R2.Asked R2.Learnt "topology::marks::mark_removed"
-  known2-at = R2.known w code.env S2.name S2.routine code.calls-topology·marks·mark-removed (M2.met (w .𝓤) (w .H) (w .𝓜) (w .𝓖) (w .𝓡))
+  abbrev known2-at : Knows (w .𝓤) (w .H) (w .𝓖 .A) (Wof w) (𝓣of w code.env) 9 K2.ps K2.r K2.Asked K2.Learnt "topology::marks::mark_removed"
+  known2-at = K2.known w code.env S2.name S2.routine code.calls-topology·marks·mark-removed (M2.met (w .𝓤) (w .H) (w .𝓜) (w .𝓖) (w .𝓡))
 
   abbrev known3-at : Knows (w .𝓤) (w .H) (w .𝓖 .A) (Wof w) (𝓣of w code.env) 5 K3.ps K3.r R3.Asked R3.Learnt "pass_lists::finish"
   known3-at = R3.known w code.env S3.name S3.routine code.calls-pass-lists·finish (M3.met (w .𝓤) (w .H) (w .𝓜) (w .𝓖) (w .𝓡))

@@ -6,31 +6,27 @@ use Rattle.game_lists.proofs.kept.Graph.Laws as Laws
 use Rattle.topology.proofs.games.Second as Second
 use Rattle.topology.proofs.games.Second.Laws as Laws'
 use borrow.Fn.Plain.{Known as Knows}
-use Rattle.topology.proofs.Seen.records.fill.Kinds as K0
-use Rattle.topology.proofs.Seen.records.fill.Reads as R0
+use Rattle.topology.proofs.Seen.records.fill as K0
 use Rattle.topology.proofs.records.fill.Symbol as S0
 use Rattle.topology.proofs.records.fill.Met as M0
-use Rattle.topology.proofs.Seen.marks.mark_removed.Kinds as K1
-use Rattle.topology.proofs.Seen.marks.mark_removed.Reads as R1
+use Rattle.topology.proofs.Seen.marks.mark_removed as K1
 use Rattle.topology.proofs.marks.mark_removed.Symbol as S1
 use Rattle.topology.proofs.marks.mark_removed.Met as M1
 use Rattle.game_lists.proofs.kept.divide_kept.Kinds as K2
 use Rattle.game_lists.proofs.kept.divide_kept.Reads as R2
 use Rattle.game_lists.proofs.kept.divide_kept.Symbol as S2
 use Rattle.game_lists.proofs.kept.divide_kept.Met as M2
-use Rattle.topology.proofs.Seen.records.renew.Kinds as K3
-use Rattle.topology.proofs.Seen.records.renew.Reads as R3
+use Rattle.topology.proofs.Seen.records.renew as K3
 use Rattle.topology.proofs.records.renew.Symbol as S3
 use Rattle.topology.proofs.records.renew.Met as M3
 use Rattle.pass_lists.proofs.finish.Kinds as K4
 use Rattle.pass_lists.proofs.finish.Reads as R4
 use Rattle.pass_lists.proofs.finish.Symbol as S4
 use Rattle.pass_lists.proofs.finish.Met as M4
-use Rattle.topology.proofs.Seen.games.run_kept.Kinds.{ps, r}
 use Rattle.topology.proofs.games.run_kept.Code as code
 use contract.Running
 use Rattle.topology.proofs.Contracts.{Answers, Post, Pre, Wof, met, 𝓣of}
-use Rattle.topology.proofs.Seen.games.run_kept.Reads.{the-contract}
+use Rattle.topology.proofs.Seen.games.run_kept.{ps, r, the-contract}
 use Rattle.topology.proofs.games.run_kept.Key as key
 use Rattle.topology.proofs.games.run_kept.Statement.{statement}
 use Rattle.topology.proofs.Steps.{Der, _$_, ghosts, homes, past, patched, rets, stmt, typesPast}
@@ -57,23 +53,20 @@ module _ (κs : Lfts 11) (qs : Shares 11) where
   abbrev row3 : Row
   row3 = arrF (rtF fBool) 256 0
 
-  abbrev row4 : Row
-  row4 = mslice-owed twin-0.the-row (tyRef (named 0) mut (pointee (twin-0.the-row .written))) 0 11 (lease (κs .0) (qs .0))
+  abbrev row4 : ℕ → Row
+  row4 k = mslice-owed twin-0.the-row (tyRef (named 0) mut (pointee (twin-0.the-row .written))) 0 k (lease (κs .0) (qs .0))
 
-  abbrev row6 : Row
-  row6 = mslice twin-0.the-row (tyRef erased mut (pointee (twin-0.the-row .written))) 11
+  abbrev row6 : ℕ → Row
+  row6 k = mslice twin-0.the-row (tyRef erased mut (pointee (twin-0.the-row .written))) k
 
-  abbrev row7 : Row
-  row7 = mslice-owedS (rtF (fInt w32)) (tyRef (named 5) mut (tyInt w32)) 5 12 (lease (κs .1 .1 .1 .1 .1 .0) (qs .1 .1 .1 .1 .1 .0))
+  abbrev row7 : ℕ → Row
+  row7 k = mslice-owedS (rtF (fInt w32)) (tyRef (named 5) mut (tyInt w32)) 5 k (lease (κs .1 .1 .1 .1 .1 .0) (qs .1 .1 .1 .1 .1 .0))
 
-  abbrev row9 : Row
-  row9 = sslice (rtF (fInt w32)) (tyRef erased imm (tyInt w32)) 12
+  abbrev row9 : ℕ → Row
+  row9 k = sslice (rtF (fInt w32)) (tyRef erased imm (tyInt w32)) k
 
-  abbrev row10 : Row
-  row10 = mslice-owedS (rtF (fInt w32)) (tyRef (named 7) mut (tyInt w32)) 7 13 (lease (κs .1 .1 .1 .1 .1 .1 .1 .0) (qs .1 .1 .1 .1 .1 .1 .1 .0))
-
-  abbrev row12 : Row
-  row12 = sslice (rtF (fInt w32)) (tyRef erased imm (tyInt w32)) 13
+  abbrev row10 : ℕ → Row
+  row10 k = mslice-owedS (rtF (fInt w32)) (tyRef (named 7) mut (tyInt w32)) 7 k (lease (κs .1 .1 .1 .1 .1 .1 .1 .0) (qs .1 .1 .1 .1 .1 .1 .1 .0))
 
   abbrev row13 : Row
   row13 = sc-here sUnit
@@ -87,35 +80,23 @@ module _ (κs : Lfts 11) (qs : Shares 11) where
   abbrev row17 : Row
   row17 = sslice twin-0.the-row (tyRef erased imm (pointee (twin-0.the-row .written))) 14
 
-  abbrev row18 : Row
-  row18 = mslice-owedS (rtF (fInt w32)) (tyRef (named 5) mut (tyInt w32)) 5 15 (lease (κs .1 .1 .1 .1 .1 .0) (qs .1 .1 .1 .1 .1 .0))
-
-  abbrev row20 : Row
-  row20 = sslice (rtF (fInt w32)) (tyRef erased imm (tyInt w32)) 15
-
   abbrev row21 : Row
   row21 = mslice-owedS (rtF (fInt w32)) (tyRef (named 8) mut (tyInt w32)) 8 16 (lease (κs .1 .1 .1 .1 .1 .1 .1 .1 .0) (qs .1 .1 .1 .1 .1 .1 .1 .1 .0))
-
-  abbrev row23 : Row
-  row23 = sslice (rtF (fInt w32)) (tyRef erased imm (tyInt w32)) 16
 
   abbrev row24 : Row
   row24 = mslice-owedS (rtF (fInt w32)) (tyRef (named 9) mut (tyInt w32)) 9 17 (lease (κs .1 .1 .1 .1 .1 .1 .1 .1 .1 .0) (qs .1 .1 .1 .1 .1 .1 .1 .1 .1 .0))
 
-  abbrev row26 : Row
-  row26 = sslice (rtF (fInt w32)) (tyRef erased imm (tyInt w32)) 17
+  abbrev row27 : ℕ → Row
+  row27 k = mslice-owed (rtF (fInt w16)) (tyRef (named 6) mut (tyInt w16)) 6 k (lease (κs .1 .1 .1 .1 .1 .1 .0) (qs .1 .1 .1 .1 .1 .1 .0))
 
-  abbrev row27 : Row
-  row27 = mslice-owed (rtF (fInt w16)) (tyRef (named 6) mut (tyInt w16)) 6 18 (lease (κs .1 .1 .1 .1 .1 .1 .0) (qs .1 .1 .1 .1 .1 .1 .0))
+  abbrev row29 : ℕ → Row
+  row29 k = mslice (rtF (fInt w16)) (tyRef erased mut (tyInt w16)) k
 
-  abbrev row29 : Row
-  row29 = mslice (rtF (fInt w16)) (tyRef erased mut (tyInt w16)) 18
+  abbrev row30 : ℕ → Row
+  row30 k = mslice-owed (rtF (fInt w32)) (tyRef (named 7) mut (tyInt w32)) 7 k (lease (κs .1 .1 .1 .1 .1 .1 .1 .0) (qs .1 .1 .1 .1 .1 .1 .1 .0))
 
-  abbrev row30 : Row
-  row30 = mslice-owed (rtF (fInt w32)) (tyRef (named 7) mut (tyInt w32)) 7 19 (lease (κs .1 .1 .1 .1 .1 .1 .1 .0) (qs .1 .1 .1 .1 .1 .1 .1 .0))
-
-  abbrev row32 : Row
-  row32 = mslice (rtF (fInt w32)) (tyRef erased mut (tyInt w32)) 19
+  abbrev row32 : ℕ → Row
+  row32 k = mslice (rtF (fInt w32)) (tyRef erased mut (tyInt w32)) k
 
   abbrev row33 : Row
   row33 = sc-owed (Array (rtF fBool) 256) 20
@@ -132,80 +113,23 @@ module _ (κs : Lfts 11) (qs : Shares 11) where
   abbrev row37 : Row
   row37 = mleft (Array (rtF fBool) 256) (tyRef erased mut (tyArray tyBool 256))
 
-  abbrev row38 : Row
-  row38 = sc-shr (arrF (rtF fBool) 256 0) (Array (rtF fBool) 256) (λ x. x) 21
+  abbrev row38 : ℕ → Row
+  row38 k = sc-shr (arrF (rtF fBool) 256 0) (Array (rtF fBool) 256) (λ x. x) k
 
-  abbrev row39 : Row
-  row39 = sref (Array (rtF fBool) 256) (tyRef erased imm (tyArray tyBool 256)) 21
+  abbrev row39 : ℕ → Row
+  row39 k = sref (Array (rtF fBool) 256) (tyRef erased imm (tyArray tyBool 256)) k
 
   abbrev row40 : Row
   row40 = mslice-owed (rtF (fInt w32)) (tyRef (named 5) mut (tyInt w32)) 5 22 (lease (κs .1 .1 .1 .1 .1 .0) (qs .1 .1 .1 .1 .1 .0))
 
-  abbrev row42 : Row
-  row42 = mslice (rtF (fInt w32)) (tyRef erased mut (tyInt w32)) 22
-
-  abbrev row43 : Row
-  row43 = mslice-owed (rtF (fInt w16)) (tyRef (named 6) mut (tyInt w16)) 6 23 (lease (κs .1 .1 .1 .1 .1 .1 .0) (qs .1 .1 .1 .1 .1 .1 .0))
-
-  abbrev row45 : Row
-  row45 = mslice (rtF (fInt w16)) (tyRef erased mut (tyInt w16)) 23
-
-  abbrev row46 : Row
-  row46 = mslice-owed (rtF (fInt w32)) (tyRef (named 7) mut (tyInt w32)) 7 24 (lease (κs .1 .1 .1 .1 .1 .1 .1 .0) (qs .1 .1 .1 .1 .1 .1 .1 .0))
-
-  abbrev row48 : Row
-  row48 = mslice (rtF (fInt w32)) (tyRef erased mut (tyInt w32)) 24
-
   abbrev row49 : Row
   row49 = mslice-owed (rtF (fInt w32)) (tyRef (named 8) mut (tyInt w32)) 8 25 (lease (κs .1 .1 .1 .1 .1 .1 .1 .1 .0) (qs .1 .1 .1 .1 .1 .1 .1 .1 .0))
-
-  abbrev row51 : Row
-  row51 = mslice (rtF (fInt w32)) (tyRef erased mut (tyInt w32)) 25
 
   abbrev row52 : Row
   row52 = mslice-owed (rtF (fInt w32)) (tyRef (named 9) mut (tyInt w32)) 9 26 (lease (κs .1 .1 .1 .1 .1 .1 .1 .1 .1 .0) (qs .1 .1 .1 .1 .1 .1 .1 .1 .1 .0))
 
-  abbrev row54 : Row
-  row54 = mslice (rtF (fInt w32)) (tyRef erased mut (tyInt w32)) 26
-
   abbrev row55 : Row
   row55 = whole (row Graph.the-type)
-
-  abbrev row56 : Row
-  row56 = mslice-owed twin-0.the-row (tyRef (named 0) mut (pointee (twin-0.the-row .written))) 0 27 (lease (κs .0) (qs .0))
-
-  abbrev row58 : Row
-  row58 = mslice twin-0.the-row (tyRef erased mut (pointee (twin-0.the-row .written))) 27
-
-  abbrev row59 : Row
-  row59 = mslice-owedS (rtF (fInt w32)) (tyRef (named 5) mut (tyInt w32)) 5 28 (lease (κs .1 .1 .1 .1 .1 .0) (qs .1 .1 .1 .1 .1 .0))
-
-  abbrev row61 : Row
-  row61 = sslice (rtF (fInt w32)) (tyRef erased imm (tyInt w32)) 28
-
-  abbrev row62 : Row
-  row62 = mslice-owedS (rtF (fInt w32)) (tyRef (named 7) mut (tyInt w32)) 7 29 (lease (κs .1 .1 .1 .1 .1 .1 .1 .0) (qs .1 .1 .1 .1 .1 .1 .1 .0))
-
-  abbrev row64 : Row
-  row64 = sslice (rtF (fInt w32)) (tyRef erased imm (tyInt w32)) 29
-
-  abbrev row65 : Row
-  row65 = sc-shr (arrF (rtF fBool) 256 0) (Array (rtF fBool) 256) (λ x. x) 30
-
-  abbrev row66 : Row
-  row66 = sref (Array (rtF fBool) 256) (tyRef erased imm (tyArray tyBool 256)) 30
-
-  abbrev row67 : Row
-  row67 = mslice-owed (rtF (fInt w16)) (tyRef (named 6) mut (tyInt w16)) 6 31 (lease (κs .1 .1 .1 .1 .1 .1 .0) (qs .1 .1 .1 .1 .1 .1 .0))
-
-  abbrev row69 : Row
-  row69 = mslice (rtF (fInt w16)) (tyRef erased mut (tyInt w16)) 31
-
-  abbrev row70 : Row
-  row70 = mslice-owed (rtF (fInt w32)) (tyRef (named 7) mut (tyInt w32)) 7 32 (lease (κs .1 .1 .1 .1 .1 .1 .1 .0) (qs .1 .1 .1 .1 .1 .1 .1 .0))
-
-  abbrev row72 : Row
-  row72 = mslice (rtF (fInt w32)) (tyRef erased mut (tyInt w32)) 32
 
   abbrev row73 : Row
   row73 = mslice-owed (rtF (fInt w64)) (tyRef (named 10) mut (tyInt w64)) 10 33 (lease (κs .1 .1 .1 .1 .1 .1 .1 .1 .1 .1 .0) (qs .1 .1 .1 .1 .1 .1 .1 .1 .1 .1 .0))
@@ -229,106 +153,106 @@ module _ (κs : Lfts 11) (qs : Shares 11) where
   G15 = patched ((17, row1) ∷ (18, row1) ∷ (19, row3) ∷ []) ([]) G0
 
   abbrev pub G18 : Cx
-  G18 = patched ((2, row4) ∷ (17, row1) ∷ (18, row1) ∷ (19, row3) ∷ (24, row6) ∷ []) ((0, off) ∷ (11, alive) ∷ []) G0
+  G18 = patched ((2, row4 11) ∷ (17, row1) ∷ (18, row1) ∷ (19, row3) ∷ (24, row6 11) ∷ []) ((0, off) ∷ (11, alive) ∷ []) G0
 
   abbrev pub G21 : Cx
-  G21 = patched ((2, row4) ∷ (11, row7) ∷ (17, row1) ∷ (18, row1) ∷ (19, row3) ∷ (24, row6) ∷ (26, row9) ∷ []) ((0, off) ∷ (5, off) ∷ (11, alive) ∷ (12, alive) ∷ []) G0
+  G21 = patched ((2, row4 11) ∷ (11, row7 12) ∷ (17, row1) ∷ (18, row1) ∷ (19, row3) ∷ (24, row6 11) ∷ (26, row9 12) ∷ []) ((0, off) ∷ (5, off) ∷ (11, alive) ∷ (12, alive) ∷ []) G0
 
   abbrev pub G24 : Cx
-  G24 = patched ((2, row4) ∷ (11, row7) ∷ (13, row10) ∷ (17, row1) ∷ (18, row1) ∷ (19, row3) ∷ (24, row6) ∷ (26, row9) ∷ (28, row12) ∷ []) ((0, off) ∷ (5, off) ∷ (7, off) ∷ (11, alive) ∷ (12, alive) ∷ (13, alive) ∷ []) G0
+  G24 = patched ((2, row4 11) ∷ (11, row7 12) ∷ (13, row10 13) ∷ (17, row1) ∷ (18, row1) ∷ (19, row3) ∷ (24, row6 11) ∷ (26, row9 12) ∷ (28, row9 13) ∷ []) ((0, off) ∷ (5, off) ∷ (7, off) ∷ (11, alive) ∷ (12, alive) ∷ (13, alive) ∷ []) G0
 
   abbrev pub G25 : Cx
-  G25 = patched ((2, row4) ∷ (11, row7) ∷ (13, row10) ∷ (17, row1) ∷ (18, row1) ∷ (19, row3) ∷ (22, row13) ∷ (24, row14) ∷ (26, row9) ∷ (28, row12) ∷ []) ((0, off) ∷ (5, off) ∷ (7, off) ∷ (11, alive) ∷ (12, alive) ∷ (13, alive) ∷ []) G0
+  G25 = patched ((2, row4 11) ∷ (11, row7 12) ∷ (13, row10 13) ∷ (17, row1) ∷ (18, row1) ∷ (19, row3) ∷ (22, row13) ∷ (24, row14) ∷ (26, row9 12) ∷ (28, row9 13) ∷ []) ((0, off) ∷ (5, off) ∷ (7, off) ∷ (11, alive) ∷ (12, alive) ∷ (13, alive) ∷ []) G0
 
   abbrev pub G28 : Cx
-  G28 = patched ((2, row4) ∷ (11, row7) ∷ (13, row10) ∷ (17, row1) ∷ (18, row1) ∷ (19, row3) ∷ (24, row14) ∷ []) ((0, off) ∷ (5, off) ∷ (7, off) ∷ (11, alive) ∷ (12, alive) ∷ (13, alive) ∷ []) G0
+  G28 = patched ((2, row4 11) ∷ (11, row7 12) ∷ (13, row10 13) ∷ (17, row1) ∷ (18, row1) ∷ (19, row3) ∷ (24, row14) ∷ []) ((0, off) ∷ (5, off) ∷ (7, off) ∷ (11, alive) ∷ (12, alive) ∷ (13, alive) ∷ []) G0
 
   abbrev pub G31 : Cx
-  G31 = patched ((11, row7) ∷ (13, row10) ∷ (17, row1) ∷ (18, row1) ∷ (19, row3) ∷ []) ((5, off) ∷ (7, off) ∷ (12, alive) ∷ (13, alive) ∷ []) G0
+  G31 = patched ((11, row7 12) ∷ (13, row10 13) ∷ (17, row1) ∷ (18, row1) ∷ (19, row3) ∷ []) ((5, off) ∷ (7, off) ∷ (12, alive) ∷ (13, alive) ∷ []) G0
 
   abbrev pub G34 : Cx
-  G34 = patched ((13, row10) ∷ (17, row1) ∷ (18, row1) ∷ (19, row3) ∷ []) ((7, off) ∷ (13, alive) ∷ []) G0
+  G34 = patched ((13, row10 13) ∷ (17, row1) ∷ (18, row1) ∷ (19, row3) ∷ []) ((7, off) ∷ (13, alive) ∷ []) G0
 
   abbrev pub G40 : Cx
   G40 = patched ((2, row15) ∷ (17, row1) ∷ (18, row1) ∷ (19, row3) ∷ (30, row17) ∷ []) ((0, off) ∷ (14, alive) ∷ []) G0
 
   abbrev pub G43 : Cx
-  G43 = patched ((2, row15) ∷ (11, row18) ∷ (17, row1) ∷ (18, row1) ∷ (19, row3) ∷ (30, row17) ∷ (32, row20) ∷ []) ((0, off) ∷ (5, off) ∷ (14, alive) ∷ (15, alive) ∷ []) G0
+  G43 = patched ((2, row15) ∷ (11, row7 15) ∷ (17, row1) ∷ (18, row1) ∷ (19, row3) ∷ (30, row17) ∷ (32, row9 15) ∷ []) ((0, off) ∷ (5, off) ∷ (14, alive) ∷ (15, alive) ∷ []) G0
 
   abbrev pub G46 : Cx
-  G46 = patched ((2, row15) ∷ (11, row18) ∷ (17, row1) ∷ (18, row1) ∷ (19, row3) ∷ (30, row17) ∷ (32, row20) ∷ (34, row1) ∷ []) ((0, off) ∷ (5, off) ∷ (14, alive) ∷ (15, alive) ∷ []) G0
+  G46 = patched ((2, row15) ∷ (11, row7 15) ∷ (17, row1) ∷ (18, row1) ∷ (19, row3) ∷ (30, row17) ∷ (32, row9 15) ∷ (34, row1) ∷ []) ((0, off) ∷ (5, off) ∷ (14, alive) ∷ (15, alive) ∷ []) G0
 
   abbrev pub G49 : Cx
-  G49 = patched ((2, row15) ∷ (11, row18) ∷ (14, row21) ∷ (17, row1) ∷ (18, row1) ∷ (19, row3) ∷ (30, row17) ∷ (32, row20) ∷ (34, row1) ∷ (36, row23) ∷ []) ((0, off) ∷ (5, off) ∷ (8, off) ∷ (14, alive) ∷ (15, alive) ∷ (16, alive) ∷ []) G0
+  G49 = patched ((2, row15) ∷ (11, row7 15) ∷ (14, row21) ∷ (17, row1) ∷ (18, row1) ∷ (19, row3) ∷ (30, row17) ∷ (32, row9 15) ∷ (34, row1) ∷ (36, row9 16) ∷ []) ((0, off) ∷ (5, off) ∷ (8, off) ∷ (14, alive) ∷ (15, alive) ∷ (16, alive) ∷ []) G0
 
   abbrev pub G52 : Cx
-  G52 = patched ((2, row15) ∷ (11, row18) ∷ (14, row21) ∷ (15, row24) ∷ (17, row1) ∷ (18, row1) ∷ (19, row3) ∷ (30, row17) ∷ (32, row20) ∷ (34, row1) ∷ (36, row23) ∷ (38, row26) ∷ []) ((0, off) ∷ (5, off) ∷ (8, off) ∷ (9, off) ∷ (14, alive) ∷ (15, alive) ∷ (16, alive) ∷ (17, alive) ∷ []) G0
+  G52 = patched ((2, row15) ∷ (11, row7 15) ∷ (14, row21) ∷ (15, row24) ∷ (17, row1) ∷ (18, row1) ∷ (19, row3) ∷ (30, row17) ∷ (32, row9 15) ∷ (34, row1) ∷ (36, row9 16) ∷ (38, row9 17) ∷ []) ((0, off) ∷ (5, off) ∷ (8, off) ∷ (9, off) ∷ (14, alive) ∷ (15, alive) ∷ (16, alive) ∷ (17, alive) ∷ []) G0
 
   abbrev pub G55 : Cx
-  G55 = patched ((2, row15) ∷ (11, row18) ∷ (12, row27) ∷ (14, row21) ∷ (15, row24) ∷ (17, row1) ∷ (18, row1) ∷ (19, row3) ∷ (30, row17) ∷ (32, row20) ∷ (34, row1) ∷ (36, row23) ∷ (38, row26) ∷ (40, row29) ∷ []) ((0, off) ∷ (5, off) ∷ (6, off) ∷ (8, off) ∷ (9, off) ∷ (14, alive) ∷ (15, alive) ∷ (16, alive) ∷ (17, alive) ∷ (18, alive) ∷ []) G0
+  G55 = patched ((2, row15) ∷ (11, row7 15) ∷ (12, row27 18) ∷ (14, row21) ∷ (15, row24) ∷ (17, row1) ∷ (18, row1) ∷ (19, row3) ∷ (30, row17) ∷ (32, row9 15) ∷ (34, row1) ∷ (36, row9 16) ∷ (38, row9 17) ∷ (40, row29 18) ∷ []) ((0, off) ∷ (5, off) ∷ (6, off) ∷ (8, off) ∷ (9, off) ∷ (14, alive) ∷ (15, alive) ∷ (16, alive) ∷ (17, alive) ∷ (18, alive) ∷ []) G0
 
   abbrev pub G58 : Cx
-  G58 = patched ((2, row15) ∷ (11, row18) ∷ (12, row27) ∷ (13, row30) ∷ (14, row21) ∷ (15, row24) ∷ (17, row1) ∷ (18, row1) ∷ (19, row3) ∷ (30, row17) ∷ (32, row20) ∷ (34, row1) ∷ (36, row23) ∷ (38, row26) ∷ (40, row29) ∷ (42, row32) ∷ []) ((0, off) ∷ (5, off) ∷ (6, off) ∷ (7, off) ∷ (8, off) ∷ (9, off) ∷ (14, alive) ∷ (15, alive) ∷ (16, alive) ∷ (17, alive) ∷ (18, alive) ∷ (19, alive) ∷ []) G0
+  G58 = patched ((2, row15) ∷ (11, row7 15) ∷ (12, row27 18) ∷ (13, row30 19) ∷ (14, row21) ∷ (15, row24) ∷ (17, row1) ∷ (18, row1) ∷ (19, row3) ∷ (30, row17) ∷ (32, row9 15) ∷ (34, row1) ∷ (36, row9 16) ∷ (38, row9 17) ∷ (40, row29 18) ∷ (42, row32 19) ∷ []) ((0, off) ∷ (5, off) ∷ (6, off) ∷ (7, off) ∷ (8, off) ∷ (9, off) ∷ (14, alive) ∷ (15, alive) ∷ (16, alive) ∷ (17, alive) ∷ (18, alive) ∷ (19, alive) ∷ []) G0
 
   abbrev pub G60 : Cx
-  G60 = patched ((2, row15) ∷ (11, row18) ∷ (12, row27) ∷ (13, row30) ∷ (14, row21) ∷ (15, row24) ∷ (17, row1) ∷ (18, row1) ∷ (19, row33) ∷ (30, row17) ∷ (32, row20) ∷ (34, row1) ∷ (36, row23) ∷ (38, row26) ∷ (40, row29) ∷ (42, row32) ∷ (43, row34) ∷ []) ((0, off) ∷ (5, off) ∷ (6, off) ∷ (7, off) ∷ (8, off) ∷ (9, off) ∷ (14, alive) ∷ (15, alive) ∷ (16, alive) ∷ (17, alive) ∷ (18, alive) ∷ (19, alive) ∷ (20, alive) ∷ []) G0
+  G60 = patched ((2, row15) ∷ (11, row7 15) ∷ (12, row27 18) ∷ (13, row30 19) ∷ (14, row21) ∷ (15, row24) ∷ (17, row1) ∷ (18, row1) ∷ (19, row33) ∷ (30, row17) ∷ (32, row9 15) ∷ (34, row1) ∷ (36, row9 16) ∷ (38, row9 17) ∷ (40, row29 18) ∷ (42, row32 19) ∷ (43, row34) ∷ []) ((0, off) ∷ (5, off) ∷ (6, off) ∷ (7, off) ∷ (8, off) ∷ (9, off) ∷ (14, alive) ∷ (15, alive) ∷ (16, alive) ∷ (17, alive) ∷ (18, alive) ∷ (19, alive) ∷ (20, alive) ∷ []) G0
 
   abbrev pub G61 : Cx
-  G61 = patched ((2, row15) ∷ (11, row18) ∷ (12, row27) ∷ (13, row30) ∷ (14, row21) ∷ (15, row24) ∷ (17, row1) ∷ (18, row1) ∷ (19, row33) ∷ (22, row13) ∷ (30, row17) ∷ (32, row20) ∷ (34, row1) ∷ (36, row23) ∷ (38, row26) ∷ (40, row35) ∷ (42, row36) ∷ (43, row37) ∷ []) ((0, off) ∷ (5, off) ∷ (6, off) ∷ (7, off) ∷ (8, off) ∷ (9, off) ∷ (14, alive) ∷ (15, alive) ∷ (16, alive) ∷ (17, alive) ∷ (18, alive) ∷ (19, alive) ∷ (20, alive) ∷ []) G0
+  G61 = patched ((2, row15) ∷ (11, row7 15) ∷ (12, row27 18) ∷ (13, row30 19) ∷ (14, row21) ∷ (15, row24) ∷ (17, row1) ∷ (18, row1) ∷ (19, row33) ∷ (22, row13) ∷ (30, row17) ∷ (32, row9 15) ∷ (34, row1) ∷ (36, row9 16) ∷ (38, row9 17) ∷ (40, row35) ∷ (42, row36) ∷ (43, row37) ∷ []) ((0, off) ∷ (5, off) ∷ (6, off) ∷ (7, off) ∷ (8, off) ∷ (9, off) ∷ (14, alive) ∷ (15, alive) ∷ (16, alive) ∷ (17, alive) ∷ (18, alive) ∷ (19, alive) ∷ (20, alive) ∷ []) G0
 
   abbrev pub G64 : Cx
-  G64 = patched ((2, row15) ∷ (11, row18) ∷ (12, row27) ∷ (13, row30) ∷ (14, row21) ∷ (15, row24) ∷ (17, row1) ∷ (18, row1) ∷ (19, row33) ∷ (22, row13) ∷ (34, row1) ∷ (38, row26) ∷ (40, row35) ∷ (42, row36) ∷ (43, row37) ∷ []) ((0, off) ∷ (5, off) ∷ (6, off) ∷ (7, off) ∷ (8, off) ∷ (9, off) ∷ (14, alive) ∷ (15, alive) ∷ (16, alive) ∷ (17, alive) ∷ (18, alive) ∷ (19, alive) ∷ (20, alive) ∷ []) G0
+  G64 = patched ((2, row15) ∷ (11, row7 15) ∷ (12, row27 18) ∷ (13, row30 19) ∷ (14, row21) ∷ (15, row24) ∷ (17, row1) ∷ (18, row1) ∷ (19, row33) ∷ (22, row13) ∷ (34, row1) ∷ (38, row9 17) ∷ (40, row35) ∷ (42, row36) ∷ (43, row37) ∷ []) ((0, off) ∷ (5, off) ∷ (6, off) ∷ (7, off) ∷ (8, off) ∷ (9, off) ∷ (14, alive) ∷ (15, alive) ∷ (16, alive) ∷ (17, alive) ∷ (18, alive) ∷ (19, alive) ∷ (20, alive) ∷ []) G0
 
   abbrev pub G67 : Cx
-  G67 = patched ((2, row15) ∷ (11, row18) ∷ (12, row27) ∷ (13, row30) ∷ (14, row21) ∷ (15, row24) ∷ (17, row1) ∷ (18, row1) ∷ (19, row33) ∷ (40, row35) ∷ (42, row36) ∷ (43, row37) ∷ []) ((0, off) ∷ (5, off) ∷ (6, off) ∷ (7, off) ∷ (8, off) ∷ (9, off) ∷ (14, alive) ∷ (15, alive) ∷ (16, alive) ∷ (17, alive) ∷ (18, alive) ∷ (19, alive) ∷ (20, alive) ∷ []) G0
+  G67 = patched ((2, row15) ∷ (11, row7 15) ∷ (12, row27 18) ∷ (13, row30 19) ∷ (14, row21) ∷ (15, row24) ∷ (17, row1) ∷ (18, row1) ∷ (19, row33) ∷ (40, row35) ∷ (42, row36) ∷ (43, row37) ∷ []) ((0, off) ∷ (5, off) ∷ (6, off) ∷ (7, off) ∷ (8, off) ∷ (9, off) ∷ (14, alive) ∷ (15, alive) ∷ (16, alive) ∷ (17, alive) ∷ (18, alive) ∷ (19, alive) ∷ (20, alive) ∷ []) G0
 
   abbrev pub G70 : Cx
-  G70 = patched ((11, row18) ∷ (12, row27) ∷ (13, row30) ∷ (14, row21) ∷ (15, row24) ∷ (17, row1) ∷ (18, row1) ∷ (19, row33) ∷ (40, row35) ∷ (42, row36) ∷ (43, row37) ∷ []) ((5, off) ∷ (6, off) ∷ (7, off) ∷ (8, off) ∷ (9, off) ∷ (15, alive) ∷ (16, alive) ∷ (17, alive) ∷ (18, alive) ∷ (19, alive) ∷ (20, alive) ∷ []) G0
+  G70 = patched ((11, row7 15) ∷ (12, row27 18) ∷ (13, row30 19) ∷ (14, row21) ∷ (15, row24) ∷ (17, row1) ∷ (18, row1) ∷ (19, row33) ∷ (40, row35) ∷ (42, row36) ∷ (43, row37) ∷ []) ((5, off) ∷ (6, off) ∷ (7, off) ∷ (8, off) ∷ (9, off) ∷ (15, alive) ∷ (16, alive) ∷ (17, alive) ∷ (18, alive) ∷ (19, alive) ∷ (20, alive) ∷ []) G0
 
   abbrev pub G73 : Cx
-  G73 = patched ((12, row27) ∷ (13, row30) ∷ (14, row21) ∷ (15, row24) ∷ (17, row1) ∷ (18, row1) ∷ (19, row33) ∷ (40, row35) ∷ (42, row36) ∷ (43, row37) ∷ []) ((6, off) ∷ (7, off) ∷ (8, off) ∷ (9, off) ∷ (16, alive) ∷ (17, alive) ∷ (18, alive) ∷ (19, alive) ∷ (20, alive) ∷ []) G0
+  G73 = patched ((12, row27 18) ∷ (13, row30 19) ∷ (14, row21) ∷ (15, row24) ∷ (17, row1) ∷ (18, row1) ∷ (19, row33) ∷ (40, row35) ∷ (42, row36) ∷ (43, row37) ∷ []) ((6, off) ∷ (7, off) ∷ (8, off) ∷ (9, off) ∷ (16, alive) ∷ (17, alive) ∷ (18, alive) ∷ (19, alive) ∷ (20, alive) ∷ []) G0
 
   abbrev pub G76 : Cx
-  G76 = patched ((12, row27) ∷ (13, row30) ∷ (15, row24) ∷ (17, row1) ∷ (18, row1) ∷ (19, row33) ∷ (40, row35) ∷ (42, row36) ∷ (43, row37) ∷ []) ((6, off) ∷ (7, off) ∷ (9, off) ∷ (17, alive) ∷ (18, alive) ∷ (19, alive) ∷ (20, alive) ∷ []) G0
+  G76 = patched ((12, row27 18) ∷ (13, row30 19) ∷ (15, row24) ∷ (17, row1) ∷ (18, row1) ∷ (19, row33) ∷ (40, row35) ∷ (42, row36) ∷ (43, row37) ∷ []) ((6, off) ∷ (7, off) ∷ (9, off) ∷ (17, alive) ∷ (18, alive) ∷ (19, alive) ∷ (20, alive) ∷ []) G0
 
   abbrev pub G79 : Cx
-  G79 = patched ((12, row27) ∷ (13, row30) ∷ (17, row1) ∷ (18, row1) ∷ (19, row33) ∷ (40, row35) ∷ (42, row36) ∷ (43, row37) ∷ []) ((6, off) ∷ (7, off) ∷ (18, alive) ∷ (19, alive) ∷ (20, alive) ∷ []) G0
+  G79 = patched ((12, row27 18) ∷ (13, row30 19) ∷ (17, row1) ∷ (18, row1) ∷ (19, row33) ∷ (40, row35) ∷ (42, row36) ∷ (43, row37) ∷ []) ((6, off) ∷ (7, off) ∷ (18, alive) ∷ (19, alive) ∷ (20, alive) ∷ []) G0
 
   abbrev pub G83 : Cx
-  G83 = patched ((13, row30) ∷ (17, row1) ∷ (18, row1) ∷ (19, row33) ∷ (42, row36) ∷ (43, row37) ∷ []) ((7, off) ∷ (19, alive) ∷ (20, alive) ∷ []) G0
+  G83 = patched ((13, row30 19) ∷ (17, row1) ∷ (18, row1) ∷ (19, row33) ∷ (42, row36) ∷ (43, row37) ∷ []) ((7, off) ∷ (19, alive) ∷ (20, alive) ∷ []) G0
 
   abbrev pub G87 : Cx
   G87 = patched ((17, row1) ∷ (18, row1) ∷ (19, row33) ∷ (43, row37) ∷ []) ((20, alive) ∷ []) G0
 
   abbrev pub G93 : Cx
-  G93 = patched ((17, row1) ∷ (18, row1) ∷ (19, row38) ∷ (44, row39) ∷ []) ((21, alive) ∷ (22, alive) ∷ []) G0
+  G93 = patched ((17, row1) ∷ (18, row1) ∷ (19, row38 21) ∷ (44, row39 21) ∷ []) ((21, alive) ∷ (22, alive) ∷ []) G0
 
   abbrev pub G96 : Cx
-  G96 = patched ((11, row40) ∷ (17, row1) ∷ (18, row1) ∷ (19, row38) ∷ (44, row39) ∷ (46, row42) ∷ []) ((5, off) ∷ (21, alive) ∷ (22, alive) ∷ (23, alive) ∷ []) G0
+  G96 = patched ((11, row40) ∷ (17, row1) ∷ (18, row1) ∷ (19, row38 21) ∷ (44, row39 21) ∷ (46, row32 22) ∷ []) ((5, off) ∷ (21, alive) ∷ (22, alive) ∷ (23, alive) ∷ []) G0
 
   abbrev pub G99 : Cx
-  G99 = patched ((11, row40) ∷ (12, row43) ∷ (17, row1) ∷ (18, row1) ∷ (19, row38) ∷ (44, row39) ∷ (46, row42) ∷ (48, row45) ∷ []) ((5, off) ∷ (6, off) ∷ (21, alive) ∷ (22, alive) ∷ (23, alive) ∷ (24, alive) ∷ []) G0
+  G99 = patched ((11, row40) ∷ (12, row27 23) ∷ (17, row1) ∷ (18, row1) ∷ (19, row38 21) ∷ (44, row39 21) ∷ (46, row32 22) ∷ (48, row29 23) ∷ []) ((5, off) ∷ (6, off) ∷ (21, alive) ∷ (22, alive) ∷ (23, alive) ∷ (24, alive) ∷ []) G0
 
   abbrev pub G102 : Cx
-  G102 = patched ((11, row40) ∷ (12, row43) ∷ (13, row46) ∷ (17, row1) ∷ (18, row1) ∷ (19, row38) ∷ (44, row39) ∷ (46, row42) ∷ (48, row45) ∷ (50, row48) ∷ []) ((5, off) ∷ (6, off) ∷ (7, off) ∷ (21, alive) ∷ (22, alive) ∷ (23, alive) ∷ (24, alive) ∷ (25, alive) ∷ []) G0
+  G102 = patched ((11, row40) ∷ (12, row27 23) ∷ (13, row30 24) ∷ (17, row1) ∷ (18, row1) ∷ (19, row38 21) ∷ (44, row39 21) ∷ (46, row32 22) ∷ (48, row29 23) ∷ (50, row32 24) ∷ []) ((5, off) ∷ (6, off) ∷ (7, off) ∷ (21, alive) ∷ (22, alive) ∷ (23, alive) ∷ (24, alive) ∷ (25, alive) ∷ []) G0
 
   abbrev pub G105 : Cx
-  G105 = patched ((11, row40) ∷ (12, row43) ∷ (13, row46) ∷ (14, row49) ∷ (17, row1) ∷ (18, row1) ∷ (19, row38) ∷ (44, row39) ∷ (46, row42) ∷ (48, row45) ∷ (50, row48) ∷ (52, row51) ∷ []) ((5, off) ∷ (6, off) ∷ (7, off) ∷ (8, off) ∷ (21, alive) ∷ (22, alive) ∷ (23, alive) ∷ (24, alive) ∷ (25, alive) ∷ (26, alive) ∷ []) G0
+  G105 = patched ((11, row40) ∷ (12, row27 23) ∷ (13, row30 24) ∷ (14, row49) ∷ (17, row1) ∷ (18, row1) ∷ (19, row38 21) ∷ (44, row39 21) ∷ (46, row32 22) ∷ (48, row29 23) ∷ (50, row32 24) ∷ (52, row32 25) ∷ []) ((5, off) ∷ (6, off) ∷ (7, off) ∷ (8, off) ∷ (21, alive) ∷ (22, alive) ∷ (23, alive) ∷ (24, alive) ∷ (25, alive) ∷ (26, alive) ∷ []) G0
 
   abbrev pub G107 : Cx
-  G107 = patched ((11, row40) ∷ (12, row43) ∷ (13, row46) ∷ (14, row49) ∷ (15, row52) ∷ (17, row1) ∷ (18, row1) ∷ (19, row38) ∷ (44, row39) ∷ (46, row42) ∷ (48, row45) ∷ (50, row48) ∷ (52, row51) ∷ (54, row54) ∷ []) ((5, off) ∷ (6, off) ∷ (7, off) ∷ (8, off) ∷ (9, off) ∷ (21, alive) ∷ (22, alive) ∷ (23, alive) ∷ (24, alive) ∷ (25, alive) ∷ (26, alive) ∷ []) G0
+  G107 = patched ((11, row40) ∷ (12, row27 23) ∷ (13, row30 24) ∷ (14, row49) ∷ (15, row52) ∷ (17, row1) ∷ (18, row1) ∷ (19, row38 21) ∷ (44, row39 21) ∷ (46, row32 22) ∷ (48, row29 23) ∷ (50, row32 24) ∷ (52, row32 25) ∷ (54, row32 26) ∷ []) ((5, off) ∷ (6, off) ∷ (7, off) ∷ (8, off) ∷ (9, off) ∷ (21, alive) ∷ (22, alive) ∷ (23, alive) ∷ (24, alive) ∷ (25, alive) ∷ (26, alive) ∷ []) G0
 
   abbrev pub G108 : Cx
-  G108 = patched ((11, row40) ∷ (12, row43) ∷ (13, row46) ∷ (14, row49) ∷ (15, row52) ∷ (17, row1) ∷ (18, row1) ∷ (19, row38) ∷ (20, row55) ∷ (44, row39) ∷ (46, row36) ∷ (48, row35) ∷ (50, row36) ∷ (52, row36) ∷ (54, row36) ∷ []) ((5, off) ∷ (6, off) ∷ (7, off) ∷ (8, off) ∷ (9, off) ∷ (21, alive) ∷ (22, alive) ∷ (23, alive) ∷ (24, alive) ∷ (25, alive) ∷ (26, alive) ∷ []) G0
+  G108 = patched ((11, row40) ∷ (12, row27 23) ∷ (13, row30 24) ∷ (14, row49) ∷ (15, row52) ∷ (17, row1) ∷ (18, row1) ∷ (19, row38 21) ∷ (20, row55) ∷ (44, row39 21) ∷ (46, row36) ∷ (48, row35) ∷ (50, row36) ∷ (52, row36) ∷ (54, row36) ∷ []) ((5, off) ∷ (6, off) ∷ (7, off) ∷ (8, off) ∷ (9, off) ∷ (21, alive) ∷ (22, alive) ∷ (23, alive) ∷ (24, alive) ∷ (25, alive) ∷ (26, alive) ∷ []) G0
 
   abbrev pub G111 : Cx
-  G111 = patched ((11, row40) ∷ (12, row43) ∷ (13, row46) ∷ (14, row49) ∷ (15, row52) ∷ (17, row1) ∷ (18, row1) ∷ (19, row3) ∷ (20, row55) ∷ (46, row36) ∷ (48, row35) ∷ (50, row36) ∷ (52, row36) ∷ (54, row36) ∷ []) ((5, off) ∷ (6, off) ∷ (7, off) ∷ (8, off) ∷ (9, off) ∷ (21, dead) ∷ (22, alive) ∷ (23, alive) ∷ (24, alive) ∷ (25, alive) ∷ (26, alive) ∷ []) G0
+  G111 = patched ((11, row40) ∷ (12, row27 23) ∷ (13, row30 24) ∷ (14, row49) ∷ (15, row52) ∷ (17, row1) ∷ (18, row1) ∷ (19, row3) ∷ (20, row55) ∷ (46, row36) ∷ (48, row35) ∷ (50, row36) ∷ (52, row36) ∷ (54, row36) ∷ []) ((5, off) ∷ (6, off) ∷ (7, off) ∷ (8, off) ∷ (9, off) ∷ (21, dead) ∷ (22, alive) ∷ (23, alive) ∷ (24, alive) ∷ (25, alive) ∷ (26, alive) ∷ []) G0
 
   abbrev pub G114 : Cx
-  G114 = patched ((12, row43) ∷ (13, row46) ∷ (14, row49) ∷ (15, row52) ∷ (17, row1) ∷ (18, row1) ∷ (19, row3) ∷ (20, row55) ∷ (48, row35) ∷ (50, row36) ∷ (52, row36) ∷ (54, row36) ∷ []) ((6, off) ∷ (7, off) ∷ (8, off) ∷ (9, off) ∷ (22, dead) ∷ (23, alive) ∷ (24, alive) ∷ (25, alive) ∷ (26, alive) ∷ []) G0
+  G114 = patched ((12, row27 23) ∷ (13, row30 24) ∷ (14, row49) ∷ (15, row52) ∷ (17, row1) ∷ (18, row1) ∷ (19, row3) ∷ (20, row55) ∷ (48, row35) ∷ (50, row36) ∷ (52, row36) ∷ (54, row36) ∷ []) ((6, off) ∷ (7, off) ∷ (8, off) ∷ (9, off) ∷ (22, dead) ∷ (23, alive) ∷ (24, alive) ∷ (25, alive) ∷ (26, alive) ∷ []) G0
 
   abbrev pub G118 : Cx
-  G118 = patched ((13, row46) ∷ (14, row49) ∷ (15, row52) ∷ (17, row1) ∷ (18, row1) ∷ (19, row3) ∷ (20, row55) ∷ (50, row36) ∷ (52, row36) ∷ (54, row36) ∷ []) ((7, off) ∷ (8, off) ∷ (9, off) ∷ (23, dead) ∷ (24, alive) ∷ (25, alive) ∷ (26, alive) ∷ []) G0
+  G118 = patched ((13, row30 24) ∷ (14, row49) ∷ (15, row52) ∷ (17, row1) ∷ (18, row1) ∷ (19, row3) ∷ (20, row55) ∷ (50, row36) ∷ (52, row36) ∷ (54, row36) ∷ []) ((7, off) ∷ (8, off) ∷ (9, off) ∷ (23, dead) ∷ (24, alive) ∷ (25, alive) ∷ (26, alive) ∷ []) G0
 
   abbrev pub G122 : Cx
   G122 = patched ((14, row49) ∷ (15, row52) ∷ (17, row1) ∷ (18, row1) ∷ (19, row3) ∷ (20, row55) ∷ (52, row36) ∷ (54, row36) ∷ []) ((8, off) ∷ (9, off) ∷ (24, dead) ∷ (25, alive) ∷ (26, alive) ∷ []) G0
@@ -343,52 +267,52 @@ module _ (κs : Lfts 11) (qs : Shares 11) where
   G132 = patched ((17, row1) ∷ (18, row1) ∷ (19, row3) ∷ (20, row55) ∷ []) ([]) G0
 
   abbrev pub G135 : Cx
-  G135 = patched ((2, row56) ∷ (17, row1) ∷ (18, row1) ∷ (19, row3) ∷ (20, row55) ∷ (56, row58) ∷ []) ((0, off) ∷ (27, alive) ∷ []) G0
+  G135 = patched ((2, row4 27) ∷ (17, row1) ∷ (18, row1) ∷ (19, row3) ∷ (20, row55) ∷ (56, row6 27) ∷ []) ((0, off) ∷ (27, alive) ∷ []) G0
 
   abbrev pub G138 : Cx
-  G138 = patched ((2, row56) ∷ (11, row59) ∷ (17, row1) ∷ (18, row1) ∷ (19, row3) ∷ (20, row55) ∷ (56, row58) ∷ (58, row61) ∷ []) ((0, off) ∷ (5, off) ∷ (27, alive) ∷ (28, alive) ∷ []) G0
+  G138 = patched ((2, row4 27) ∷ (11, row7 28) ∷ (17, row1) ∷ (18, row1) ∷ (19, row3) ∷ (20, row55) ∷ (56, row6 27) ∷ (58, row9 28) ∷ []) ((0, off) ∷ (5, off) ∷ (27, alive) ∷ (28, alive) ∷ []) G0
 
   abbrev pub G141 : Cx
-  G141 = patched ((2, row56) ∷ (11, row59) ∷ (13, row62) ∷ (17, row1) ∷ (18, row1) ∷ (19, row3) ∷ (20, row55) ∷ (56, row58) ∷ (58, row61) ∷ (60, row64) ∷ []) ((0, off) ∷ (5, off) ∷ (7, off) ∷ (27, alive) ∷ (28, alive) ∷ (29, alive) ∷ []) G0
+  G141 = patched ((2, row4 27) ∷ (11, row7 28) ∷ (13, row10 29) ∷ (17, row1) ∷ (18, row1) ∷ (19, row3) ∷ (20, row55) ∷ (56, row6 27) ∷ (58, row9 28) ∷ (60, row9 29) ∷ []) ((0, off) ∷ (5, off) ∷ (7, off) ∷ (27, alive) ∷ (28, alive) ∷ (29, alive) ∷ []) G0
 
   abbrev pub G142 : Cx
-  G142 = patched ((2, row56) ∷ (11, row59) ∷ (13, row62) ∷ (17, row1) ∷ (18, row1) ∷ (19, row3) ∷ (20, row55) ∷ (22, row13) ∷ (56, row14) ∷ (58, row61) ∷ (60, row64) ∷ []) ((0, off) ∷ (5, off) ∷ (7, off) ∷ (27, alive) ∷ (28, alive) ∷ (29, alive) ∷ []) G0
+  G142 = patched ((2, row4 27) ∷ (11, row7 28) ∷ (13, row10 29) ∷ (17, row1) ∷ (18, row1) ∷ (19, row3) ∷ (20, row55) ∷ (22, row13) ∷ (56, row14) ∷ (58, row9 28) ∷ (60, row9 29) ∷ []) ((0, off) ∷ (5, off) ∷ (7, off) ∷ (27, alive) ∷ (28, alive) ∷ (29, alive) ∷ []) G0
 
   abbrev pub G145 : Cx
-  G145 = patched ((2, row56) ∷ (11, row59) ∷ (13, row62) ∷ (17, row1) ∷ (18, row1) ∷ (19, row3) ∷ (20, row55) ∷ (56, row14) ∷ []) ((0, off) ∷ (5, off) ∷ (7, off) ∷ (27, alive) ∷ (28, alive) ∷ (29, alive) ∷ []) G0
+  G145 = patched ((2, row4 27) ∷ (11, row7 28) ∷ (13, row10 29) ∷ (17, row1) ∷ (18, row1) ∷ (19, row3) ∷ (20, row55) ∷ (56, row14) ∷ []) ((0, off) ∷ (5, off) ∷ (7, off) ∷ (27, alive) ∷ (28, alive) ∷ (29, alive) ∷ []) G0
 
   abbrev pub G148 : Cx
-  G148 = patched ((11, row59) ∷ (13, row62) ∷ (17, row1) ∷ (18, row1) ∷ (19, row3) ∷ (20, row55) ∷ []) ((5, off) ∷ (7, off) ∷ (28, alive) ∷ (29, alive) ∷ []) G0
+  G148 = patched ((11, row7 28) ∷ (13, row10 29) ∷ (17, row1) ∷ (18, row1) ∷ (19, row3) ∷ (20, row55) ∷ []) ((5, off) ∷ (7, off) ∷ (28, alive) ∷ (29, alive) ∷ []) G0
 
   abbrev pub G151 : Cx
-  G151 = patched ((13, row62) ∷ (17, row1) ∷ (18, row1) ∷ (19, row3) ∷ (20, row55) ∷ []) ((7, off) ∷ (29, alive) ∷ []) G0
+  G151 = patched ((13, row10 29) ∷ (17, row1) ∷ (18, row1) ∷ (19, row3) ∷ (20, row55) ∷ []) ((7, off) ∷ (29, alive) ∷ []) G0
 
   abbrev pub G157 : Cx
   G157 = patched ((17, row1) ∷ (18, row1) ∷ (19, row3) ∷ (20, row55) ∷ (33, row1) ∷ []) ([]) G0
 
   abbrev pub G160 : Cx
-  G160 = patched ((17, row1) ∷ (18, row1) ∷ (19, row65) ∷ (20, row55) ∷ (33, row1) ∷ (61, row66) ∷ []) ((30, alive) ∷ (31, alive) ∷ []) G0
+  G160 = patched ((17, row1) ∷ (18, row1) ∷ (19, row38 30) ∷ (20, row55) ∷ (33, row1) ∷ (61, row39 30) ∷ []) ((30, alive) ∷ (31, alive) ∷ []) G0
 
   abbrev pub G163 : Cx
-  G163 = patched ((12, row67) ∷ (17, row1) ∷ (18, row1) ∷ (19, row65) ∷ (20, row55) ∷ (33, row1) ∷ (61, row66) ∷ (63, row69) ∷ []) ((6, off) ∷ (30, alive) ∷ (31, alive) ∷ (32, alive) ∷ []) G0
+  G163 = patched ((12, row27 31) ∷ (17, row1) ∷ (18, row1) ∷ (19, row38 30) ∷ (20, row55) ∷ (33, row1) ∷ (61, row39 30) ∷ (63, row29 31) ∷ []) ((6, off) ∷ (30, alive) ∷ (31, alive) ∷ (32, alive) ∷ []) G0
 
   abbrev pub G166 : Cx
-  G166 = patched ((12, row67) ∷ (13, row70) ∷ (17, row1) ∷ (18, row1) ∷ (19, row65) ∷ (20, row55) ∷ (33, row1) ∷ (61, row66) ∷ (63, row69) ∷ (65, row72) ∷ []) ((6, off) ∷ (7, off) ∷ (30, alive) ∷ (31, alive) ∷ (32, alive) ∷ (33, alive) ∷ []) G0
+  G166 = patched ((12, row27 31) ∷ (13, row30 32) ∷ (17, row1) ∷ (18, row1) ∷ (19, row38 30) ∷ (20, row55) ∷ (33, row1) ∷ (61, row39 30) ∷ (63, row29 31) ∷ (65, row32 32) ∷ []) ((6, off) ∷ (7, off) ∷ (30, alive) ∷ (31, alive) ∷ (32, alive) ∷ (33, alive) ∷ []) G0
 
   abbrev pub G168 : Cx
-  G168 = patched ((12, row67) ∷ (13, row70) ∷ (16, row73) ∷ (17, row1) ∷ (18, row1) ∷ (19, row65) ∷ (20, row55) ∷ (33, row1) ∷ (61, row66) ∷ (63, row69) ∷ (65, row72) ∷ (67, row75) ∷ []) ((6, off) ∷ (7, off) ∷ (10, off) ∷ (30, alive) ∷ (31, alive) ∷ (32, alive) ∷ (33, alive) ∷ []) G0
+  G168 = patched ((12, row27 31) ∷ (13, row30 32) ∷ (16, row73) ∷ (17, row1) ∷ (18, row1) ∷ (19, row38 30) ∷ (20, row55) ∷ (33, row1) ∷ (61, row39 30) ∷ (63, row29 31) ∷ (65, row32 32) ∷ (67, row75) ∷ []) ((6, off) ∷ (7, off) ∷ (10, off) ∷ (30, alive) ∷ (31, alive) ∷ (32, alive) ∷ (33, alive) ∷ []) G0
 
   abbrev pub G169 : Cx
-  G169 = patched ((12, row67) ∷ (13, row70) ∷ (16, row73) ∷ (17, row1) ∷ (18, row1) ∷ (19, row65) ∷ (20, row55) ∷ (21, row1) ∷ (33, row1) ∷ (61, row66) ∷ (63, row35) ∷ (65, row36) ∷ (67, row76) ∷ []) ((6, off) ∷ (7, off) ∷ (10, off) ∷ (30, alive) ∷ (31, alive) ∷ (32, alive) ∷ (33, alive) ∷ []) G0
+  G169 = patched ((12, row27 31) ∷ (13, row30 32) ∷ (16, row73) ∷ (17, row1) ∷ (18, row1) ∷ (19, row38 30) ∷ (20, row55) ∷ (21, row1) ∷ (33, row1) ∷ (61, row39 30) ∷ (63, row35) ∷ (65, row36) ∷ (67, row76) ∷ []) ((6, off) ∷ (7, off) ∷ (10, off) ∷ (30, alive) ∷ (31, alive) ∷ (32, alive) ∷ (33, alive) ∷ []) G0
 
   abbrev pub G172 : Cx
-  G172 = patched ((12, row67) ∷ (13, row70) ∷ (16, row73) ∷ (17, row1) ∷ (18, row1) ∷ (19, row65) ∷ (20, row55) ∷ (21, row1) ∷ (63, row35) ∷ (65, row36) ∷ (67, row76) ∷ []) ((6, off) ∷ (7, off) ∷ (10, off) ∷ (30, dead) ∷ (31, alive) ∷ (32, alive) ∷ (33, alive) ∷ []) G0
+  G172 = patched ((12, row27 31) ∷ (13, row30 32) ∷ (16, row73) ∷ (17, row1) ∷ (18, row1) ∷ (19, row38 30) ∷ (20, row55) ∷ (21, row1) ∷ (63, row35) ∷ (65, row36) ∷ (67, row76) ∷ []) ((6, off) ∷ (7, off) ∷ (10, off) ∷ (30, dead) ∷ (31, alive) ∷ (32, alive) ∷ (33, alive) ∷ []) G0
 
   abbrev pub G175 : Cx
-  G175 = patched ((12, row67) ∷ (13, row70) ∷ (16, row73) ∷ (17, row1) ∷ (18, row1) ∷ (20, row55) ∷ (21, row1) ∷ (63, row35) ∷ (65, row36) ∷ (67, row76) ∷ []) ((6, off) ∷ (7, off) ∷ (10, off) ∷ (31, alive) ∷ (32, alive) ∷ (33, alive) ∷ []) G0
+  G175 = patched ((12, row27 31) ∷ (13, row30 32) ∷ (16, row73) ∷ (17, row1) ∷ (18, row1) ∷ (20, row55) ∷ (21, row1) ∷ (63, row35) ∷ (65, row36) ∷ (67, row76) ∷ []) ((6, off) ∷ (7, off) ∷ (10, off) ∷ (31, alive) ∷ (32, alive) ∷ (33, alive) ∷ []) G0
 
   abbrev pub G179 : Cx
-  G179 = patched ((13, row70) ∷ (16, row73) ∷ (17, row1) ∷ (18, row1) ∷ (20, row55) ∷ (21, row1) ∷ (65, row36) ∷ (67, row76) ∷ []) ((7, off) ∷ (10, off) ∷ (32, alive) ∷ (33, alive) ∷ []) G0
+  G179 = patched ((13, row30 32) ∷ (16, row73) ∷ (17, row1) ∷ (18, row1) ∷ (20, row55) ∷ (21, row1) ∷ (65, row36) ∷ (67, row76) ∷ []) ((7, off) ∷ (10, off) ∷ (32, alive) ∷ (33, alive) ∷ []) G0
 
   abbrev pub G183 : Cx
   G183 = patched ((16, row73) ∷ (17, row1) ∷ (18, row1) ∷ (20, row55) ∷ (21, row1) ∷ (67, row76) ∷ []) ((10, off) ∷ (33, alive) ∷ []) G0
@@ -424,7 +348,7 @@ module _ (κs : Lfts 11) (qs : Shares 11) where
   Γ-from-finish = G132
 
 module _ {M : Type 1} (𝓤 : URA M) (H : Heap 𝓤) (A : Atoms 𝓤) (W : Given 𝓤 H A) (𝓣 : Tables 𝓤 H)
-    (known0 : Knows 𝓤 H A W 𝓣 4 K0.ps K0.r R0.Asked R0.Learnt "topology::records::fill") (known1 : Knows 𝓤 H A W 𝓣 9 K1.ps K1.r R1.Asked R1.Learnt "topology::marks::mark_removed") (known2 : Knows 𝓤 H A W 𝓣 8 K2.ps K2.r R2.Asked R2.Learnt "game_lists::kept::divide_kept") (known3 : Knows 𝓤 H A W 𝓣 4 K3.ps K3.r R3.Asked R3.Learnt "topology::records::renew") (known4 : Knows 𝓤 H A W 𝓣 5 K4.ps K4.r R4.Asked R4.Learnt "pass_lists::finish") (κs : Lfts 11) (qs : Shares 11) (bs : List ℕ) where
+    (known0 : Knows 𝓤 H A W 𝓣 4 K0.ps K0.r K0.Asked K0.Learnt "topology::records::fill") (known1 : Knows 𝓤 H A W 𝓣 9 K1.ps K1.r K1.Asked K1.Learnt "topology::marks::mark_removed") (known2 : Knows 𝓤 H A W 𝓣 8 K2.ps K2.r R2.Asked R2.Learnt "game_lists::kept::divide_kept") (known3 : Knows 𝓤 H A W 𝓣 4 K3.ps K3.r K3.Asked K3.Learnt "topology::records::renew") (known4 : Knows 𝓤 H A W 𝓣 5 K4.ps K4.r R4.Asked R4.Learnt "pass_lists::finish") (κs : Lfts 11) (qs : Shares 11) (bs : List ℕ) where
   abbrev E : Env 𝓤 H
   E = EnvOf 𝓤 H (tyR r ∷ tysP ps xs) bs
 
@@ -484,7 +408,7 @@ module _ {M : Type 1} (𝓤 : URA M) (H : Heap 𝓤) (A : Atoms 𝓤) (W : Given
       ghosts (G138 κs qs) _ (g-begin 𝓤 H A W E (G138 κs qs) 29 _) $
       stmt _ _ (t-sl-reshare 𝓤 H A W E (rtF (fInt w32)) 𝓣 _ 13 59 7 29 (tyRef (named 7) mut (tyInt w32)) (tyRef erased imm (tyInt w32)) (lease (κs .1 .1 .1 .1 .1 .1 .1 .0) (qs .1 .1 .1 .1 .1 .1 .1 .0)) 0 (λ x. x) (as-is 𝓤 H A (mslice (rtF (fInt w32)) (tyRef (named 7) mut (tyInt w32)) 7)) (room-gone 𝓤 H A (tyRef erased imm (tyInt w32))) refl tt refl refl refl (λ b o. tt)) $
       stmt _ (G141 κs qs) (t-sl-aggregate 𝓤 H A W E (rtF (fInt w32)) 𝓣 (asShr (rtF (fInt w32))) _ 59 60 29 (tyRef erased imm (tyInt w32)) (tyRef erased imm (tyInt w32)) (λ x. x) (oFld 13 (field 1 ∷ []) (tyInt w64) 8 (λ v. lenV (v .0))) (as-is 𝓤 H A (ssptr (rtF (fInt w32)) (tyRef erased imm (tyInt w32)) 29)) (room-gone 𝓤 H A _) (reads-owedS-len 𝓤 H A W (rtF (fInt w32)) (tyRef (named 7) mut (tyInt w32)) 7 29 (lease (κs .1 .1 .1 .1 .1 .1 .1 .0) (qs .1 .1 .1 .1 .1 .1 .1 .0)) 8 refl, refl) refl refl (λ b o k. tt)) $
-      stmt (G141 κs qs) (G142 κs qs) (t-call-plain 𝓤 H A W 𝓣 4 K3.ps K3.r R3.Asked R3.Learnt "topology::records::renew" known3 E (λ pos β. β) (G141 κs qs) (record { pos = 56; ty = tyRef erased mut (pointee (twin-0.the-row .written)); ref = λ x. x }, (vAt 9 (λ x. x), (vFld 20 (field 0 ∷ []) 0 (λ x. Graph.struct .as-values x .0), (vAt 3 (λ x. x), (record { pos = 5; ty = tyRef (named 1) imm (tyInt w8); ref = λ x. x }, (record { pos = 58; ty = tyRef erased imm (tyInt w32); ref = λ x. x }, (record { pos = 60; ty = tyRef erased imm (tyInt w32); ref = λ x. x }, tt))))))) 22 (27 ∷ 1 ∷ 28 ∷ 29 ∷ []) (sub-id 𝓤 H A W ((G141 κs qs) .slots)) (as-is 𝓤 H A (mslice twin-0.the-row (tyRef erased mut (pointee (twin-0.the-row .written))) 27), reads-mslice 𝓤 H A W twin-0.the-row (tyRef erased mut (pointee (twin-0.the-row .written))) 27, refl, ((reads-sc 𝓤 H A W (sInt w64), refl), ((reads-field 𝓤 H A W Graph.the-type Laws.the-laws 0 (tyInt w64) 0 refl, refl), ((reads-sc 𝓤 H A W (sInt w64), refl), (spares-sslice 𝓤 H A W (rtF (fInt w8)) (tyRef (named 1) imm (tyInt w8)) 1, reads-sslice 𝓤 H A W (rtF (fInt w8)) (tyRef (named 1) imm (tyInt w8)) 1, refl, (spares-sslice 𝓤 H A W (rtF (fInt w32)) (tyRef erased imm (tyInt w32)) 28, reads-sslice 𝓤 H A W (rtF (fInt w32)) (tyRef erased imm (tyInt w32)) 28, refl, (spares-sslice 𝓤 H A W (rtF (fInt w32)) (tyRef erased imm (tyInt w32)) 29, reads-sslice 𝓤 H A W (rtF (fInt w32)) (tyRef erased imm (tyInt w32)) 29, refl, tt))))))) (room-gone 𝓤 H A tyUnit) _ refl) $
+      stmt (G141 κs qs) (G142 κs qs) (t-call-plain 𝓤 H A W 𝓣 4 K3.ps K3.r K3.Asked K3.Learnt "topology::records::renew" known3 E (λ pos β. β) (G141 κs qs) (record { pos = 56; ty = tyRef erased mut (pointee (twin-0.the-row .written)); ref = λ x. x }, (vAt 9 (λ x. x), (vFld 20 (field 0 ∷ []) 0 (λ x. Graph.struct .as-values x .0), (vAt 3 (λ x. x), (record { pos = 5; ty = tyRef (named 1) imm (tyInt w8); ref = λ x. x }, (record { pos = 58; ty = tyRef erased imm (tyInt w32); ref = λ x. x }, (record { pos = 60; ty = tyRef erased imm (tyInt w32); ref = λ x. x }, tt))))))) 22 (27 ∷ 1 ∷ 28 ∷ 29 ∷ []) (sub-id 𝓤 H A W ((G141 κs qs) .slots)) (as-is 𝓤 H A (mslice twin-0.the-row (tyRef erased mut (pointee (twin-0.the-row .written))) 27), reads-mslice 𝓤 H A W twin-0.the-row (tyRef erased mut (pointee (twin-0.the-row .written))) 27, refl, ((reads-sc 𝓤 H A W (sInt w64), refl), ((reads-field 𝓤 H A W Graph.the-type Laws.the-laws 0 (tyInt w64) 0 refl, refl), ((reads-sc 𝓤 H A W (sInt w64), refl), (spares-sslice 𝓤 H A W (rtF (fInt w8)) (tyRef (named 1) imm (tyInt w8)) 1, reads-sslice 𝓤 H A W (rtF (fInt w8)) (tyRef (named 1) imm (tyInt w8)) 1, refl, (spares-sslice 𝓤 H A W (rtF (fInt w32)) (tyRef erased imm (tyInt w32)) 28, reads-sslice 𝓤 H A W (rtF (fInt w32)) (tyRef erased imm (tyInt w32)) 28, refl, (spares-sslice 𝓤 H A W (rtF (fInt w32)) (tyRef erased imm (tyInt w32)) 29, reads-sslice 𝓤 H A W (rtF (fInt w32)) (tyRef erased imm (tyInt w32)) 29, refl, tt))))))) (room-gone 𝓤 H A tyUnit) _ refl) $
       ghosts (G142 κs qs) _ (g-room 𝓤 H A W E (G142 κs qs) 58 _ (room-sslice 𝓤 H A W (rtF (fInt w32)) (tyRef erased imm (tyInt w32)) 28)) $
       ghosts _ _ (g-room 𝓤 H A W E _ 60 _ (room-sslice 𝓤 H A W (rtF (fInt w32)) (tyRef erased imm (tyInt w32)) 29)) $
       ghosts _ (G145 κs qs) (g-room 𝓤 H A W E _ 22 tyUnit (room-sc 𝓤 H A W sUnit)) $
@@ -565,7 +489,7 @@ module _ {M : Type 1} (𝓤 : URA M) (H : Heap 𝓤) (A : Atoms 𝓤) (W : Given
       stmt _ (G58 κs qs) (t-sl-aggregate 𝓤 H A W E (rtF (fInt w32)) 𝓣 (asMut (rtF (fInt w32))) _ 41 42 19 (tyRef erased mut (tyInt w32)) (tyRef erased mut (tyInt w32)) (λ x. x) (oFld 13 (field 1 ∷ []) (tyInt w64) 8 (λ v. lenV (v .0))) (as-is 𝓤 H A (msptr (rtF (fInt w32)) (tyRef erased mut (tyInt w32)) 19)) (room-gone 𝓤 H A _) (reads-owed-len 𝓤 H A W (rtF (fInt w32)) (tyRef (named 7) mut (tyInt w32)) 7 19 (lease (κs .1 .1 .1 .1 .1 .1 .1 .0) (qs .1 .1 .1 .1 .1 .1 .1 .0)) 8 refl, refl) refl refl (λ b o k. tt)) $
       ghosts (G58 κs qs) _ (g-begin 𝓤 H A W E (G58 κs qs) 20 _) $
       stmt _ (G60 κs qs) (t-sc-borrow 𝓤 H A W E 𝓣 _ 19 43 20 (Array (rtF fBool) 256) (tyRef erased mut (tyArray tyBool 256)) (λ x. x) (mem-arr 𝓤 H A W (rtF fBool) 256) (room-gone 𝓤 H A (tyRef erased mut (tyArray tyBool 256))) refl (λ b o. tt)) $
-      stmt (G60 κs qs) (G61 κs qs) (t-call-plain 𝓤 H A W 𝓣 9 K1.ps K1.r R1.Asked R1.Learnt "topology::marks::mark_removed" known1 E (λ pos β. β) (G60 κs qs) (vAt 1 (λ x. x), (record { pos = 30; ty = tyRef erased imm (pointee (twin-0.the-row .written)); ref = λ x. x }, (vAt 3 (λ x. x), (vAt 17 (λ x. x), (record { pos = 32; ty = tyRef erased imm (tyInt w32); ref = λ x. x }, (record { pos = 8; ty = tyRef (named 4) imm (tyInt w64); ref = λ x. x }, (vAt 9 (λ x. x), (vAt 10 (λ x. x), (vAt 34 (λ x. x), (record { pos = 7; ty = tyRef (named 3) imm (tyInt w64); ref = λ x. x }, (record { pos = 36; ty = tyRef erased imm (tyInt w32); ref = λ x. x }, (record { pos = 38; ty = tyRef erased imm (tyInt w32); ref = λ x. x }, (record { pos = 40; ty = tyRef erased mut (tyInt w16); ref = λ x. x }, (record { pos = 42; ty = tyRef erased mut (tyInt w32); ref = λ x. x }, (record { pos = 43; ty = tyRef erased mut (tyArray tyBool 256); ref = λ x. x }, tt))))))))))))))) 22 (14 ∷ 15 ∷ 4 ∷ 3 ∷ 16 ∷ 17 ∷ 18 ∷ 19 ∷ 20 ∷ []) (sub-id 𝓤 H A W ((G60 κs qs) .slots)) ((reads-sc 𝓤 H A W (sInt w64), refl), (spares-sslice 𝓤 H A W twin-0.the-row (tyRef erased imm (pointee (twin-0.the-row .written))) 14, reads-sslice 𝓤 H A W twin-0.the-row (tyRef erased imm (pointee (twin-0.the-row .written))) 14, refl, ((reads-sc 𝓤 H A W (sInt w64), refl), ((reads-sc 𝓤 H A W (sInt w64), refl), (spares-sslice 𝓤 H A W (rtF (fInt w32)) (tyRef erased imm (tyInt w32)) 15, reads-sslice 𝓤 H A W (rtF (fInt w32)) (tyRef erased imm (tyInt w32)) 15, refl, (spares-sslice 𝓤 H A W (rtF (fInt w64)) (tyRef (named 4) imm (tyInt w64)) 4, reads-sslice 𝓤 H A W (rtF (fInt w64)) (tyRef (named 4) imm (tyInt w64)) 4, refl, ((reads-sc 𝓤 H A W (sInt w64), refl), ((reads-sc 𝓤 H A W (sInt w64), refl), ((reads-sc 𝓤 H A W (sInt w64), refl), (spares-sslice 𝓤 H A W (rtF (fInt w64)) (tyRef (named 3) imm (tyInt w64)) 3, reads-sslice 𝓤 H A W (rtF (fInt w64)) (tyRef (named 3) imm (tyInt w64)) 3, refl, (spares-sslice 𝓤 H A W (rtF (fInt w32)) (tyRef erased imm (tyInt w32)) 16, reads-sslice 𝓤 H A W (rtF (fInt w32)) (tyRef erased imm (tyInt w32)) 16, refl, (spares-sslice 𝓤 H A W (rtF (fInt w32)) (tyRef erased imm (tyInt w32)) 17, reads-sslice 𝓤 H A W (rtF (fInt w32)) (tyRef erased imm (tyInt w32)) 17, refl, (as-is 𝓤 H A (mslice (rtF (fInt w16)) (tyRef erased mut (tyInt w16)) 18), reads-mslice 𝓤 H A W (rtF (fInt w16)) (tyRef erased mut (tyInt w16)) 18, refl, (as-is 𝓤 H A (mslice (rtF (fInt w32)) (tyRef erased mut (tyInt w32)) 19), reads-mslice 𝓤 H A W (rtF (fInt w32)) (tyRef erased mut (tyInt w32)) 19, refl, (as-is 𝓤 H A (mref (Array (rtF fBool) 256) (tyRef erased mut (tyArray tyBool 256)) 20), reads-mref 𝓤 H A W (Array (rtF fBool) 256) (tyRef erased mut (tyArray tyBool 256)) 20, refl, tt))))))))))))))) (room-gone 𝓤 H A tyUnit) _ refl) $
+      stmt (G60 κs qs) (G61 κs qs) (t-call-plain 𝓤 H A W 𝓣 9 K1.ps K1.r K1.Asked K1.Learnt "topology::marks::mark_removed" known1 E (λ pos β. β) (G60 κs qs) (vAt 1 (λ x. x), (record { pos = 30; ty = tyRef erased imm (pointee (twin-0.the-row .written)); ref = λ x. x }, (vAt 3 (λ x. x), (vAt 17 (λ x. x), (record { pos = 32; ty = tyRef erased imm (tyInt w32); ref = λ x. x }, (record { pos = 8; ty = tyRef (named 4) imm (tyInt w64); ref = λ x. x }, (vAt 9 (λ x. x), (vAt 10 (λ x. x), (vAt 34 (λ x. x), (record { pos = 7; ty = tyRef (named 3) imm (tyInt w64); ref = λ x. x }, (record { pos = 36; ty = tyRef erased imm (tyInt w32); ref = λ x. x }, (record { pos = 38; ty = tyRef erased imm (tyInt w32); ref = λ x. x }, (record { pos = 40; ty = tyRef erased mut (tyInt w16); ref = λ x. x }, (record { pos = 42; ty = tyRef erased mut (tyInt w32); ref = λ x. x }, (record { pos = 43; ty = tyRef erased mut (tyArray tyBool 256); ref = λ x. x }, tt))))))))))))))) 22 (14 ∷ 15 ∷ 4 ∷ 3 ∷ 16 ∷ 17 ∷ 18 ∷ 19 ∷ 20 ∷ []) (sub-id 𝓤 H A W ((G60 κs qs) .slots)) ((reads-sc 𝓤 H A W (sInt w64), refl), (spares-sslice 𝓤 H A W twin-0.the-row (tyRef erased imm (pointee (twin-0.the-row .written))) 14, reads-sslice 𝓤 H A W twin-0.the-row (tyRef erased imm (pointee (twin-0.the-row .written))) 14, refl, ((reads-sc 𝓤 H A W (sInt w64), refl), ((reads-sc 𝓤 H A W (sInt w64), refl), (spares-sslice 𝓤 H A W (rtF (fInt w32)) (tyRef erased imm (tyInt w32)) 15, reads-sslice 𝓤 H A W (rtF (fInt w32)) (tyRef erased imm (tyInt w32)) 15, refl, (spares-sslice 𝓤 H A W (rtF (fInt w64)) (tyRef (named 4) imm (tyInt w64)) 4, reads-sslice 𝓤 H A W (rtF (fInt w64)) (tyRef (named 4) imm (tyInt w64)) 4, refl, ((reads-sc 𝓤 H A W (sInt w64), refl), ((reads-sc 𝓤 H A W (sInt w64), refl), ((reads-sc 𝓤 H A W (sInt w64), refl), (spares-sslice 𝓤 H A W (rtF (fInt w64)) (tyRef (named 3) imm (tyInt w64)) 3, reads-sslice 𝓤 H A W (rtF (fInt w64)) (tyRef (named 3) imm (tyInt w64)) 3, refl, (spares-sslice 𝓤 H A W (rtF (fInt w32)) (tyRef erased imm (tyInt w32)) 16, reads-sslice 𝓤 H A W (rtF (fInt w32)) (tyRef erased imm (tyInt w32)) 16, refl, (spares-sslice 𝓤 H A W (rtF (fInt w32)) (tyRef erased imm (tyInt w32)) 17, reads-sslice 𝓤 H A W (rtF (fInt w32)) (tyRef erased imm (tyInt w32)) 17, refl, (as-is 𝓤 H A (mslice (rtF (fInt w16)) (tyRef erased mut (tyInt w16)) 18), reads-mslice 𝓤 H A W (rtF (fInt w16)) (tyRef erased mut (tyInt w16)) 18, refl, (as-is 𝓤 H A (mslice (rtF (fInt w32)) (tyRef erased mut (tyInt w32)) 19), reads-mslice 𝓤 H A W (rtF (fInt w32)) (tyRef erased mut (tyInt w32)) 19, refl, (as-is 𝓤 H A (mref (Array (rtF fBool) 256) (tyRef erased mut (tyArray tyBool 256)) 20), reads-mref 𝓤 H A W (Array (rtF fBool) 256) (tyRef erased mut (tyArray tyBool 256)) 20, refl, tt))))))))))))))) (room-gone 𝓤 H A tyUnit) _ refl) $
       ghosts (G61 κs qs) _ (g-room 𝓤 H A W E (G61 κs qs) 30 _ (room-sslice 𝓤 H A W twin-0.the-row (tyRef erased imm (pointee (twin-0.the-row .written))) 14)) $
       ghosts _ _ (g-room 𝓤 H A W E _ 32 _ (room-sslice 𝓤 H A W (rtF (fInt w32)) (tyRef erased imm (tyInt w32)) 15)) $
       ghosts _ (G64 κs qs) (g-room 𝓤 H A W E _ 36 _ (room-sslice 𝓤 H A W (rtF (fInt w32)) (tyRef erased imm (tyInt w32)) 16)) $
@@ -610,7 +534,7 @@ module _ {M : Type 1} (𝓤 : URA M) (H : Heap 𝓤) (A : Atoms 𝓤) (W : Given
       ghosts (G21 κs qs) _ (g-begin 𝓤 H A W E (G21 κs qs) 13 _) $
       stmt _ _ (t-sl-reshare 𝓤 H A W E (rtF (fInt w32)) 𝓣 _ 13 27 7 13 (tyRef (named 7) mut (tyInt w32)) (tyRef erased imm (tyInt w32)) (lease (κs .1 .1 .1 .1 .1 .1 .1 .0) (qs .1 .1 .1 .1 .1 .1 .1 .0)) 0 (λ x. x) (as-is 𝓤 H A (mslice (rtF (fInt w32)) (tyRef (named 7) mut (tyInt w32)) 7)) (room-gone 𝓤 H A (tyRef erased imm (tyInt w32))) refl tt refl refl refl (λ b o. tt)) $
       stmt _ (G24 κs qs) (t-sl-aggregate 𝓤 H A W E (rtF (fInt w32)) 𝓣 (asShr (rtF (fInt w32))) _ 27 28 13 (tyRef erased imm (tyInt w32)) (tyRef erased imm (tyInt w32)) (λ x. x) (oFld 13 (field 1 ∷ []) (tyInt w64) 8 (λ v. lenV (v .0))) (as-is 𝓤 H A (ssptr (rtF (fInt w32)) (tyRef erased imm (tyInt w32)) 13)) (room-gone 𝓤 H A _) (reads-owedS-len 𝓤 H A W (rtF (fInt w32)) (tyRef (named 7) mut (tyInt w32)) 7 13 (lease (κs .1 .1 .1 .1 .1 .1 .1 .0) (qs .1 .1 .1 .1 .1 .1 .1 .0)) 8 refl, refl) refl refl (λ b o k. tt)) $
-      stmt (G24 κs qs) (G25 κs qs) (t-call-plain 𝓤 H A W 𝓣 4 K0.ps K0.r R0.Asked R0.Learnt "topology::records::fill" known0 E (λ pos β. β) (G24 κs qs) (record { pos = 24; ty = tyRef erased mut (pointee (twin-0.the-row .written)); ref = λ x. x }, (vAt 9 (λ x. x), (vAt 3 (λ x. x), (record { pos = 5; ty = tyRef (named 1) imm (tyInt w8); ref = λ x. x }, (record { pos = 26; ty = tyRef erased imm (tyInt w32); ref = λ x. x }, (record { pos = 28; ty = tyRef erased imm (tyInt w32); ref = λ x. x }, tt)))))) 22 (11 ∷ 1 ∷ 12 ∷ 13 ∷ []) (sub-id 𝓤 H A W ((G24 κs qs) .slots)) (as-is 𝓤 H A (mslice twin-0.the-row (tyRef erased mut (pointee (twin-0.the-row .written))) 11), reads-mslice 𝓤 H A W twin-0.the-row (tyRef erased mut (pointee (twin-0.the-row .written))) 11, refl, ((reads-sc 𝓤 H A W (sInt w64), refl), ((reads-sc 𝓤 H A W (sInt w64), refl), (spares-sslice 𝓤 H A W (rtF (fInt w8)) (tyRef (named 1) imm (tyInt w8)) 1, reads-sslice 𝓤 H A W (rtF (fInt w8)) (tyRef (named 1) imm (tyInt w8)) 1, refl, (spares-sslice 𝓤 H A W (rtF (fInt w32)) (tyRef erased imm (tyInt w32)) 12, reads-sslice 𝓤 H A W (rtF (fInt w32)) (tyRef erased imm (tyInt w32)) 12, refl, (spares-sslice 𝓤 H A W (rtF (fInt w32)) (tyRef erased imm (tyInt w32)) 13, reads-sslice 𝓤 H A W (rtF (fInt w32)) (tyRef erased imm (tyInt w32)) 13, refl, tt)))))) (room-gone 𝓤 H A tyUnit) _ refl) $
+      stmt (G24 κs qs) (G25 κs qs) (t-call-plain 𝓤 H A W 𝓣 4 K0.ps K0.r K0.Asked K0.Learnt "topology::records::fill" known0 E (λ pos β. β) (G24 κs qs) (record { pos = 24; ty = tyRef erased mut (pointee (twin-0.the-row .written)); ref = λ x. x }, (vAt 9 (λ x. x), (vAt 3 (λ x. x), (record { pos = 5; ty = tyRef (named 1) imm (tyInt w8); ref = λ x. x }, (record { pos = 26; ty = tyRef erased imm (tyInt w32); ref = λ x. x }, (record { pos = 28; ty = tyRef erased imm (tyInt w32); ref = λ x. x }, tt)))))) 22 (11 ∷ 1 ∷ 12 ∷ 13 ∷ []) (sub-id 𝓤 H A W ((G24 κs qs) .slots)) (as-is 𝓤 H A (mslice twin-0.the-row (tyRef erased mut (pointee (twin-0.the-row .written))) 11), reads-mslice 𝓤 H A W twin-0.the-row (tyRef erased mut (pointee (twin-0.the-row .written))) 11, refl, ((reads-sc 𝓤 H A W (sInt w64), refl), ((reads-sc 𝓤 H A W (sInt w64), refl), (spares-sslice 𝓤 H A W (rtF (fInt w8)) (tyRef (named 1) imm (tyInt w8)) 1, reads-sslice 𝓤 H A W (rtF (fInt w8)) (tyRef (named 1) imm (tyInt w8)) 1, refl, (spares-sslice 𝓤 H A W (rtF (fInt w32)) (tyRef erased imm (tyInt w32)) 12, reads-sslice 𝓤 H A W (rtF (fInt w32)) (tyRef erased imm (tyInt w32)) 12, refl, (spares-sslice 𝓤 H A W (rtF (fInt w32)) (tyRef erased imm (tyInt w32)) 13, reads-sslice 𝓤 H A W (rtF (fInt w32)) (tyRef erased imm (tyInt w32)) 13, refl, tt)))))) (room-gone 𝓤 H A tyUnit) _ refl) $
       ghosts (G25 κs qs) _ (g-room 𝓤 H A W E (G25 κs qs) 26 _ (room-sslice 𝓤 H A W (rtF (fInt w32)) (tyRef erased imm (tyInt w32)) 12)) $
       ghosts _ _ (g-room 𝓤 H A W E _ 28 _ (room-sslice 𝓤 H A W (rtF (fInt w32)) (tyRef erased imm (tyInt w32)) 13)) $
       ghosts _ (G28 κs qs) (g-room 𝓤 H A W E _ 22 tyUnit (room-sc 𝓤 H A W sUnit)) $
@@ -627,17 +551,17 @@ module _ {M : Type 1} (𝓤 : URA M) (H : Heap 𝓤) (A : Atoms 𝓤) (W : Given
 
 -- the derivations at a model
 module _ (w : World) where
-  abbrev known0-at : Knows (w .𝓤) (w .H) (w .𝓖 .A) (Wof w) (𝓣of w code.env) 4 K0.ps K0.r R0.Asked R0.Learnt "topology::records::fill"
-  known0-at = R0.known w code.env S0.name S0.routine code.calls-topology·records·fill (M0.met (w .𝓤) (w .H) (w .𝓜) (w .𝓖) (w .𝓡))
+  abbrev known0-at : Knows (w .𝓤) (w .H) (w .𝓖 .A) (Wof w) (𝓣of w code.env) 4 K0.ps K0.r K0.Asked K0.Learnt "topology::records::fill"
+  known0-at = K0.known w code.env S0.name S0.routine code.calls-topology·records·fill (M0.met (w .𝓤) (w .H) (w .𝓜) (w .𝓖) (w .𝓡))
 
-  abbrev known1-at : Knows (w .𝓤) (w .H) (w .𝓖 .A) (Wof w) (𝓣of w code.env) 9 K1.ps K1.r R1.Asked R1.Learnt "topology::marks::mark_removed"
-  known1-at = R1.known w code.env S1.name S1.routine code.calls-topology·marks·mark-removed (M1.met (w .𝓤) (w .H) (w .𝓜) (w .𝓖) (w .𝓡))
+  abbrev known1-at : Knows (w .𝓤) (w .H) (w .𝓖 .A) (Wof w) (𝓣of w code.env) 9 K1.ps K1.r K1.Asked K1.Learnt "topology::marks::mark_removed"
+  known1-at = K1.known w code.env S1.name S1.routine code.calls-topology·marks·mark-removed (M1.met (w .𝓤) (w .H) (w .𝓜) (w .𝓖) (w .𝓡))
 
   abbrev known2-at : Knows (w .𝓤) (w .H) (w .𝓖 .A) (Wof w) (𝓣of w code.env) 8 K2.ps K2.r R2.Asked R2.Learnt "game_lists::kept::divide_kept"
   known2-at = R2.known w code.env S2.name S2.routine code.calls-game-lists·kept·divide-kept (M2.met (w .𝓤) (w .H) (w .𝓜) (w .𝓖) (w .𝓡))
 
-  abbrev known3-at : Knows (w .𝓤) (w .H) (w .𝓖 .A) (Wof w) (𝓣of w code.env) 4 K3.ps K3.r R3.Asked R3.Learnt "topology::records::renew"
-  known3-at = R3.known w code.env S3.name S3.routine code.calls-topology·records·renew (M3.met (w .𝓤) (w .H) (w .𝓜) (w .𝓖) (w .𝓡))
+  abbrev known3-at : Knows (w .𝓤) (w .H) (w .𝓖 .A) (Wof w) (𝓣of w code.env) 4 K3.ps K3.r K3.Asked K3.Learnt "topology::records::renew"
+  known3-at = K3.known w code.env S3.name S3.routine code.calls-topology·records·renew (M3.met (w .𝓤) (w .H) (w .𝓜) (w .𝓖) (w .𝓡))
 
   abbrev known4-at : Knows (w .𝓤) (w .H) (w .𝓖 .A) (Wof w) (𝓣of w code.env) 5 K4.ps K4.r R4.Asked R4.Learnt "pass_lists::finish"
   known4-at = R4.known w code.env S4.name S4.routine code.calls-pass-lists·finish (M4.met (w .𝓤) (w .H) (w .𝓜) (w .𝓖) (w .𝓡))

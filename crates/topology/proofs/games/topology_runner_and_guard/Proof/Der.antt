@@ -20,19 +20,17 @@ use Rattle.game_lists.proofs.play.refused.Kinds as K1
 use Rattle.game_lists.proofs.play.refused.Reads as R1
 use Rattle.game_lists.proofs.play.refused.Symbol as S1
 use Rattle.game_lists.proofs.play.refused.Met as M1
-use Rattle.topology.proofs.Seen.games.run_kept.Kinds as K2
-use Rattle.topology.proofs.Seen.games.run_kept.Reads as R2
+use Rattle.topology.proofs.Seen.games.run_kept as K2
 use Rattle.topology.proofs.games.run_kept.Symbol as S2
 use Rattle.topology.proofs.games.run_kept.Met as M2
 use Rattle.game_lists.proofs.play.play.Kinds as K3
 use Rattle.game_lists.proofs.play.play.Reads as R3
 use Rattle.game_lists.proofs.play.play.Symbol as S3
 use Rattle.game_lists.proofs.play.play.Met as M3
-use Rattle.topology.proofs.Seen.games.topology_runner_and_guard.Kinds.{ps, r}
 use Rattle.topology.proofs.games.topology_runner_and_guard.Code as code
 use contract.Running
 use Rattle.topology.proofs.Contracts.{Answers, Post, Pre, Wof, met, 𝓣of}
-use Rattle.topology.proofs.Seen.games.topology_runner_and_guard.Reads.{the-contract}
+use Rattle.topology.proofs.Seen.games.topology_runner_and_guard.{ps, r, the-contract}
 use Rattle.topology.proofs.games.topology_runner_and_guard.Key as key
 use Rattle.topology.proofs.games.topology_runner_and_guard.Statement.{statement}
 use Rattle.topology.proofs.Steps.{Der, _$_, arm-of, first, ghosts, head-of, homes, last, past, patched, rets, stmt, switches, then, typesPast}
@@ -53,35 +51,26 @@ module _ (κs : Lfts 12) (qs : Shares 12) where
   abbrev row1 : Row
   row1 = sc-here (sInt w64)
 
-  abbrev row2 : Row
-  row2 = mslice-owed (rtF (fInt w32)) (tyRef (named 4) mut (tyInt w32)) 4 12 (lease (κs .1 .1 .1 .1 .0) (qs .1 .1 .1 .1 .0))
+  abbrev row2 : ℕ → Row
+  row2 k = mslice-owed (rtF (fInt w32)) (tyRef (named 4) mut (tyInt w32)) 4 k (lease (κs .1 .1 .1 .1 .0) (qs .1 .1 .1 .1 .0))
 
-  abbrev row4 : Row
-  row4 = mslice (rtF (fInt w32)) (tyRef erased mut (tyInt w32)) 12
+  abbrev row4 : ℕ → Row
+  row4 k = mslice (rtF (fInt w32)) (tyRef erased mut (tyInt w32)) k
 
-  abbrev row5 : Row
-  row5 = mslice-owed (rtF (fInt w16)) (tyRef (named 5) mut (tyInt w16)) 5 13 (lease (κs .1 .1 .1 .1 .1 .0) (qs .1 .1 .1 .1 .1 .0))
+  abbrev row5 : ℕ → Row
+  row5 k = mslice-owed (rtF (fInt w16)) (tyRef (named 5) mut (tyInt w16)) 5 k (lease (κs .1 .1 .1 .1 .1 .0) (qs .1 .1 .1 .1 .1 .0))
 
-  abbrev row7 : Row
-  row7 = mslice (rtF (fInt w16)) (tyRef erased mut (tyInt w16)) 13
+  abbrev row7 : ℕ → Row
+  row7 k = mslice (rtF (fInt w16)) (tyRef erased mut (tyInt w16)) k
 
-  abbrev row8 : Row
-  row8 = mslice-owed (rtF (fInt w32)) (tyRef (named 6) mut (tyInt w32)) 6 14 (lease (κs .1 .1 .1 .1 .1 .1 .0) (qs .1 .1 .1 .1 .1 .1 .0))
+  abbrev row8 : ℕ → Row
+  row8 k = mslice-owed (rtF (fInt w32)) (tyRef (named 6) mut (tyInt w32)) 6 k (lease (κs .1 .1 .1 .1 .1 .1 .0) (qs .1 .1 .1 .1 .1 .1 .0))
 
-  abbrev row10 : Row
-  row10 = mslice (rtF (fInt w32)) (tyRef erased mut (tyInt w32)) 14
+  abbrev row11 : ℕ → Row
+  row11 k = mslice-owed (rtF (fInt w32)) (tyRef (named 7) mut (tyInt w32)) 7 k (lease (κs .1 .1 .1 .1 .1 .1 .1 .0) (qs .1 .1 .1 .1 .1 .1 .1 .0))
 
-  abbrev row11 : Row
-  row11 = mslice-owed (rtF (fInt w32)) (tyRef (named 7) mut (tyInt w32)) 7 15 (lease (κs .1 .1 .1 .1 .1 .1 .1 .0) (qs .1 .1 .1 .1 .1 .1 .1 .0))
-
-  abbrev row13 : Row
-  row13 = mslice (rtF (fInt w32)) (tyRef erased mut (tyInt w32)) 15
-
-  abbrev row14 : Row
-  row14 = mslice-owed (rtF (fInt w32)) (tyRef (named 8) mut (tyInt w32)) 8 16 (lease (κs .1 .1 .1 .1 .1 .1 .1 .1 .0) (qs .1 .1 .1 .1 .1 .1 .1 .1 .0))
-
-  abbrev row16 : Row
-  row16 = mslice (rtF (fInt w32)) (tyRef erased mut (tyInt w32)) 16
+  abbrev row14 : ℕ → Row
+  row14 k = mslice-owed (rtF (fInt w32)) (tyRef (named 8) mut (tyInt w32)) 8 k (lease (κs .1 .1 .1 .1 .1 .1 .1 .1 .0) (qs .1 .1 .1 .1 .1 .1 .1 .1 .0))
 
   abbrev row17 : Row
   row17 = whole (Declared.row Prepared.the-type)
@@ -95,47 +84,14 @@ module _ (κs : Lfts 12) (qs : Shares 12) where
   abbrev row20 : Row
   row20 = whole (Declared'.row GameAnswer.the-type)
 
-  abbrev row21 : Row
-  row21 = whole (Known enum 0)
-
-  abbrev row22 : Row
-  row22 = whole (Known enum 1)
+  abbrev row21 : ℕ → Row
+  row21 k = whole (Known enum k)
 
   abbrev row23 : Row
   row23 = mslice-owed twin-0.the-row (tyRef (named 9) mut (pointee (twin-0.the-row .written))) 9 17 (lease (κs .1 .1 .1 .1 .1 .1 .1 .1 .1 .0) (qs .1 .1 .1 .1 .1 .1 .1 .1 .1 .0))
 
   abbrev row25 : Row
   row25 = mslice twin-0.the-row (tyRef erased mut (pointee (twin-0.the-row .written))) 17
-
-  abbrev row26 : Row
-  row26 = mslice-owed (rtF (fInt w32)) (tyRef (named 4) mut (tyInt w32)) 4 18 (lease (κs .1 .1 .1 .1 .0) (qs .1 .1 .1 .1 .0))
-
-  abbrev row28 : Row
-  row28 = mslice (rtF (fInt w32)) (tyRef erased mut (tyInt w32)) 18
-
-  abbrev row29 : Row
-  row29 = mslice-owed (rtF (fInt w16)) (tyRef (named 5) mut (tyInt w16)) 5 19 (lease (κs .1 .1 .1 .1 .1 .0) (qs .1 .1 .1 .1 .1 .0))
-
-  abbrev row31 : Row
-  row31 = mslice (rtF (fInt w16)) (tyRef erased mut (tyInt w16)) 19
-
-  abbrev row32 : Row
-  row32 = mslice-owed (rtF (fInt w32)) (tyRef (named 6) mut (tyInt w32)) 6 20 (lease (κs .1 .1 .1 .1 .1 .1 .0) (qs .1 .1 .1 .1 .1 .1 .0))
-
-  abbrev row34 : Row
-  row34 = mslice (rtF (fInt w32)) (tyRef erased mut (tyInt w32)) 20
-
-  abbrev row35 : Row
-  row35 = mslice-owed (rtF (fInt w32)) (tyRef (named 7) mut (tyInt w32)) 7 21 (lease (κs .1 .1 .1 .1 .1 .1 .1 .0) (qs .1 .1 .1 .1 .1 .1 .1 .0))
-
-  abbrev row37 : Row
-  row37 = mslice (rtF (fInt w32)) (tyRef erased mut (tyInt w32)) 21
-
-  abbrev row38 : Row
-  row38 = mslice-owed (rtF (fInt w32)) (tyRef (named 8) mut (tyInt w32)) 8 22 (lease (κs .1 .1 .1 .1 .1 .1 .1 .1 .0) (qs .1 .1 .1 .1 .1 .1 .1 .1 .0))
-
-  abbrev row40 : Row
-  row40 = mslice (rtF (fInt w32)) (tyRef erased mut (tyInt w32)) 22
 
   abbrev row41 : Row
   row41 = mslice-owed (rtF (fInt w64)) (tyRef (named 10) mut (tyInt w64)) 10 23 (lease (κs .1 .1 .1 .1 .1 .1 .1 .1 .1 .1 .0) (qs .1 .1 .1 .1 .1 .1 .1 .1 .1 .1 .0))
@@ -161,50 +117,47 @@ module _ (κs : Lfts 12) (qs : Shares 12) where
   abbrev row50 : Row
   row50 = mslice-owed (rtF (fInt w32)) (tyRef (named 11) mut (tyInt w32)) 11 25 (lease (κs .1 .1 .1 .1 .1 .1 .1 .1 .1 .1 .1 .0) (qs .1 .1 .1 .1 .1 .1 .1 .1 .1 .1 .1 .0))
 
-  abbrev row52 : Row
-  row52 = mslice (rtF (fInt w32)) (tyRef erased mut (tyInt w32)) 25
-
   abbrev pub G15 : Cx
   G15 = patched ((17, row1) ∷ (18, row1) ∷ (19, row1) ∷ []) ([]) G0
 
   abbrev pub G18 : Cx
-  G18 = patched ((9, row2) ∷ (17, row1) ∷ (18, row1) ∷ (19, row1) ∷ (27, row4) ∷ []) ((4, off) ∷ (12, alive) ∷ []) G0
+  G18 = patched ((9, row2 12) ∷ (17, row1) ∷ (18, row1) ∷ (19, row1) ∷ (27, row4 12) ∷ []) ((4, off) ∷ (12, alive) ∷ []) G0
 
   abbrev pub G21 : Cx
-  G21 = patched ((9, row2) ∷ (10, row5) ∷ (17, row1) ∷ (18, row1) ∷ (19, row1) ∷ (27, row4) ∷ (29, row7) ∷ []) ((4, off) ∷ (5, off) ∷ (12, alive) ∷ (13, alive) ∷ []) G0
+  G21 = patched ((9, row2 12) ∷ (10, row5 13) ∷ (17, row1) ∷ (18, row1) ∷ (19, row1) ∷ (27, row4 12) ∷ (29, row7 13) ∷ []) ((4, off) ∷ (5, off) ∷ (12, alive) ∷ (13, alive) ∷ []) G0
 
   abbrev pub G24 : Cx
-  G24 = patched ((9, row2) ∷ (10, row5) ∷ (11, row8) ∷ (17, row1) ∷ (18, row1) ∷ (19, row1) ∷ (27, row4) ∷ (29, row7) ∷ (31, row10) ∷ []) ((4, off) ∷ (5, off) ∷ (6, off) ∷ (12, alive) ∷ (13, alive) ∷ (14, alive) ∷ []) G0
+  G24 = patched ((9, row2 12) ∷ (10, row5 13) ∷ (11, row8 14) ∷ (17, row1) ∷ (18, row1) ∷ (19, row1) ∷ (27, row4 12) ∷ (29, row7 13) ∷ (31, row4 14) ∷ []) ((4, off) ∷ (5, off) ∷ (6, off) ∷ (12, alive) ∷ (13, alive) ∷ (14, alive) ∷ []) G0
 
   abbrev pub G27 : Cx
-  G27 = patched ((9, row2) ∷ (10, row5) ∷ (11, row8) ∷ (12, row11) ∷ (17, row1) ∷ (18, row1) ∷ (19, row1) ∷ (27, row4) ∷ (29, row7) ∷ (31, row10) ∷ (33, row13) ∷ []) ((4, off) ∷ (5, off) ∷ (6, off) ∷ (7, off) ∷ (12, alive) ∷ (13, alive) ∷ (14, alive) ∷ (15, alive) ∷ []) G0
+  G27 = patched ((9, row2 12) ∷ (10, row5 13) ∷ (11, row8 14) ∷ (12, row11 15) ∷ (17, row1) ∷ (18, row1) ∷ (19, row1) ∷ (27, row4 12) ∷ (29, row7 13) ∷ (31, row4 14) ∷ (33, row4 15) ∷ []) ((4, off) ∷ (5, off) ∷ (6, off) ∷ (7, off) ∷ (12, alive) ∷ (13, alive) ∷ (14, alive) ∷ (15, alive) ∷ []) G0
 
   abbrev pub G30 : Cx
-  G30 = patched ((9, row2) ∷ (10, row5) ∷ (11, row8) ∷ (12, row11) ∷ (13, row14) ∷ (17, row1) ∷ (18, row1) ∷ (19, row1) ∷ (27, row4) ∷ (29, row7) ∷ (31, row10) ∷ (33, row13) ∷ (35, row16) ∷ []) ((4, off) ∷ (5, off) ∷ (6, off) ∷ (7, off) ∷ (8, off) ∷ (12, alive) ∷ (13, alive) ∷ (14, alive) ∷ (15, alive) ∷ (16, alive) ∷ []) G0
+  G30 = patched ((9, row2 12) ∷ (10, row5 13) ∷ (11, row8 14) ∷ (12, row11 15) ∷ (13, row14 16) ∷ (17, row1) ∷ (18, row1) ∷ (19, row1) ∷ (27, row4 12) ∷ (29, row7 13) ∷ (31, row4 14) ∷ (33, row4 15) ∷ (35, row4 16) ∷ []) ((4, off) ∷ (5, off) ∷ (6, off) ∷ (7, off) ∷ (8, off) ∷ (12, alive) ∷ (13, alive) ∷ (14, alive) ∷ (15, alive) ∷ (16, alive) ∷ []) G0
 
   abbrev pub G31 : Cx
-  G31 = patched ((9, row2) ∷ (10, row5) ∷ (11, row8) ∷ (12, row11) ∷ (13, row14) ∷ (17, row1) ∷ (18, row1) ∷ (19, row1) ∷ (20, row17) ∷ (27, row18) ∷ (29, row19) ∷ (31, row18) ∷ (33, row18) ∷ (35, row18) ∷ []) ((4, off) ∷ (5, off) ∷ (6, off) ∷ (7, off) ∷ (8, off) ∷ (12, alive) ∷ (13, alive) ∷ (14, alive) ∷ (15, alive) ∷ (16, alive) ∷ []) G0
+  G31 = patched ((9, row2 12) ∷ (10, row5 13) ∷ (11, row8 14) ∷ (12, row11 15) ∷ (13, row14 16) ∷ (17, row1) ∷ (18, row1) ∷ (19, row1) ∷ (20, row17) ∷ (27, row18) ∷ (29, row19) ∷ (31, row18) ∷ (33, row18) ∷ (35, row18) ∷ []) ((4, off) ∷ (5, off) ∷ (6, off) ∷ (7, off) ∷ (8, off) ∷ (12, alive) ∷ (13, alive) ∷ (14, alive) ∷ (15, alive) ∷ (16, alive) ∷ []) G0
 
   abbrev pub G32 : Cx
   G32 = patched ((17, row1) ∷ (18, row1) ∷ (19, row1) ∷ (36, row20) ∷ []) ([]) G0
 
   abbrev pub G36 : Cx
-  G36 = patched ((10, row5) ∷ (11, row8) ∷ (12, row11) ∷ (13, row14) ∷ (17, row1) ∷ (18, row1) ∷ (19, row1) ∷ (20, row17) ∷ (29, row19) ∷ (31, row18) ∷ (33, row18) ∷ (35, row18) ∷ []) ((5, off) ∷ (6, off) ∷ (7, off) ∷ (8, off) ∷ (13, alive) ∷ (14, alive) ∷ (15, alive) ∷ (16, alive) ∷ []) G0
+  G36 = patched ((10, row5 13) ∷ (11, row8 14) ∷ (12, row11 15) ∷ (13, row14 16) ∷ (17, row1) ∷ (18, row1) ∷ (19, row1) ∷ (20, row17) ∷ (29, row19) ∷ (31, row18) ∷ (33, row18) ∷ (35, row18) ∷ []) ((5, off) ∷ (6, off) ∷ (7, off) ∷ (8, off) ∷ (13, alive) ∷ (14, alive) ∷ (15, alive) ∷ (16, alive) ∷ []) G0
 
   abbrev pub G40 : Cx
-  G40 = patched ((11, row8) ∷ (12, row11) ∷ (13, row14) ∷ (17, row1) ∷ (18, row1) ∷ (19, row1) ∷ (20, row17) ∷ (31, row18) ∷ (33, row18) ∷ (35, row18) ∷ []) ((6, off) ∷ (7, off) ∷ (8, off) ∷ (14, alive) ∷ (15, alive) ∷ (16, alive) ∷ []) G0
+  G40 = patched ((11, row8 14) ∷ (12, row11 15) ∷ (13, row14 16) ∷ (17, row1) ∷ (18, row1) ∷ (19, row1) ∷ (20, row17) ∷ (31, row18) ∷ (33, row18) ∷ (35, row18) ∷ []) ((6, off) ∷ (7, off) ∷ (8, off) ∷ (14, alive) ∷ (15, alive) ∷ (16, alive) ∷ []) G0
 
   abbrev pub G44 : Cx
-  G44 = patched ((12, row11) ∷ (13, row14) ∷ (17, row1) ∷ (18, row1) ∷ (19, row1) ∷ (20, row17) ∷ (33, row18) ∷ (35, row18) ∷ []) ((7, off) ∷ (8, off) ∷ (15, alive) ∷ (16, alive) ∷ []) G0
+  G44 = patched ((12, row11 15) ∷ (13, row14 16) ∷ (17, row1) ∷ (18, row1) ∷ (19, row1) ∷ (20, row17) ∷ (33, row18) ∷ (35, row18) ∷ []) ((7, off) ∷ (8, off) ∷ (15, alive) ∷ (16, alive) ∷ []) G0
 
   abbrev pub G48 : Cx
-  G48 = patched ((13, row14) ∷ (17, row1) ∷ (18, row1) ∷ (19, row1) ∷ (20, row17) ∷ (35, row18) ∷ []) ((8, off) ∷ (16, alive) ∷ []) G0
+  G48 = patched ((13, row14 16) ∷ (17, row1) ∷ (18, row1) ∷ (19, row1) ∷ (20, row17) ∷ (35, row18) ∷ []) ((8, off) ∷ (16, alive) ∷ []) G0
 
   abbrev pub G52 : Cx
   G52 = patched ((17, row1) ∷ (18, row1) ∷ (19, row1) ∷ (20, row17) ∷ []) ([]) G0
 
   abbrev pub G53 : Cx
-  G53 = patched ((17, row1) ∷ (18, row1) ∷ (19, row1) ∷ (20, row21) ∷ []) ([]) G0
+  G53 = patched ((17, row1) ∷ (18, row1) ∷ (19, row1) ∷ (20, row21 0) ∷ []) ([]) G0
 
   abbrev pub G57 : Cx
   G57 = patched ((17, row1) ∷ (18, row1) ∷ (19, row1) ∷ (21, row1) ∷ (22, row1) ∷ []) ([]) G0
@@ -222,7 +175,7 @@ module _ (κs : Lfts 12) (qs : Shares 12) where
   G61 = patched ((17, row1) ∷ (18, row1) ∷ (19, row1) ∷ (36, row20) ∷ (37, row1) ∷ []) ([]) G0
 
   abbrev pub G63 : Cx
-  G63 = patched ((17, row1) ∷ (18, row1) ∷ (19, row1) ∷ (20, row22) ∷ []) ([]) G0
+  G63 = patched ((17, row1) ∷ (18, row1) ∷ (19, row1) ∷ (20, row21 1) ∷ []) ([]) G0
 
   abbrev pub G67 : Cx
   G67 = patched ((17, row1) ∷ (18, row1) ∷ (19, row1) ∷ (23, row1) ∷ (24, row1) ∷ []) ([]) G0
@@ -234,43 +187,43 @@ module _ (κs : Lfts 12) (qs : Shares 12) where
   G73 = patched ((14, row23) ∷ (17, row1) ∷ (18, row1) ∷ (19, row1) ∷ (23, row1) ∷ (24, row1) ∷ (39, row25) ∷ (40, row1) ∷ (41, row1) ∷ []) ((9, off) ∷ (17, alive) ∷ (18, alive) ∷ []) G0
 
   abbrev pub G76 : Cx
-  G76 = patched ((9, row26) ∷ (14, row23) ∷ (17, row1) ∷ (18, row1) ∷ (19, row1) ∷ (23, row1) ∷ (24, row1) ∷ (39, row25) ∷ (40, row1) ∷ (41, row1) ∷ (43, row28) ∷ []) ((4, off) ∷ (9, off) ∷ (17, alive) ∷ (18, alive) ∷ (19, alive) ∷ []) G0
+  G76 = patched ((9, row2 18) ∷ (14, row23) ∷ (17, row1) ∷ (18, row1) ∷ (19, row1) ∷ (23, row1) ∷ (24, row1) ∷ (39, row25) ∷ (40, row1) ∷ (41, row1) ∷ (43, row4 18) ∷ []) ((4, off) ∷ (9, off) ∷ (17, alive) ∷ (18, alive) ∷ (19, alive) ∷ []) G0
 
   abbrev pub G79 : Cx
-  G79 = patched ((9, row26) ∷ (10, row29) ∷ (14, row23) ∷ (17, row1) ∷ (18, row1) ∷ (19, row1) ∷ (23, row1) ∷ (24, row1) ∷ (39, row25) ∷ (40, row1) ∷ (41, row1) ∷ (43, row28) ∷ (45, row31) ∷ []) ((4, off) ∷ (5, off) ∷ (9, off) ∷ (17, alive) ∷ (18, alive) ∷ (19, alive) ∷ (20, alive) ∷ []) G0
+  G79 = patched ((9, row2 18) ∷ (10, row5 19) ∷ (14, row23) ∷ (17, row1) ∷ (18, row1) ∷ (19, row1) ∷ (23, row1) ∷ (24, row1) ∷ (39, row25) ∷ (40, row1) ∷ (41, row1) ∷ (43, row4 18) ∷ (45, row7 19) ∷ []) ((4, off) ∷ (5, off) ∷ (9, off) ∷ (17, alive) ∷ (18, alive) ∷ (19, alive) ∷ (20, alive) ∷ []) G0
 
   abbrev pub G82 : Cx
-  G82 = patched ((9, row26) ∷ (10, row29) ∷ (11, row32) ∷ (14, row23) ∷ (17, row1) ∷ (18, row1) ∷ (19, row1) ∷ (23, row1) ∷ (24, row1) ∷ (39, row25) ∷ (40, row1) ∷ (41, row1) ∷ (43, row28) ∷ (45, row31) ∷ (47, row34) ∷ []) ((4, off) ∷ (5, off) ∷ (6, off) ∷ (9, off) ∷ (17, alive) ∷ (18, alive) ∷ (19, alive) ∷ (20, alive) ∷ (21, alive) ∷ []) G0
+  G82 = patched ((9, row2 18) ∷ (10, row5 19) ∷ (11, row8 20) ∷ (14, row23) ∷ (17, row1) ∷ (18, row1) ∷ (19, row1) ∷ (23, row1) ∷ (24, row1) ∷ (39, row25) ∷ (40, row1) ∷ (41, row1) ∷ (43, row4 18) ∷ (45, row7 19) ∷ (47, row4 20) ∷ []) ((4, off) ∷ (5, off) ∷ (6, off) ∷ (9, off) ∷ (17, alive) ∷ (18, alive) ∷ (19, alive) ∷ (20, alive) ∷ (21, alive) ∷ []) G0
 
   abbrev pub G85 : Cx
-  G85 = patched ((9, row26) ∷ (10, row29) ∷ (11, row32) ∷ (12, row35) ∷ (14, row23) ∷ (17, row1) ∷ (18, row1) ∷ (19, row1) ∷ (23, row1) ∷ (24, row1) ∷ (39, row25) ∷ (40, row1) ∷ (41, row1) ∷ (43, row28) ∷ (45, row31) ∷ (47, row34) ∷ (49, row37) ∷ []) ((4, off) ∷ (5, off) ∷ (6, off) ∷ (7, off) ∷ (9, off) ∷ (17, alive) ∷ (18, alive) ∷ (19, alive) ∷ (20, alive) ∷ (21, alive) ∷ (22, alive) ∷ []) G0
+  G85 = patched ((9, row2 18) ∷ (10, row5 19) ∷ (11, row8 20) ∷ (12, row11 21) ∷ (14, row23) ∷ (17, row1) ∷ (18, row1) ∷ (19, row1) ∷ (23, row1) ∷ (24, row1) ∷ (39, row25) ∷ (40, row1) ∷ (41, row1) ∷ (43, row4 18) ∷ (45, row7 19) ∷ (47, row4 20) ∷ (49, row4 21) ∷ []) ((4, off) ∷ (5, off) ∷ (6, off) ∷ (7, off) ∷ (9, off) ∷ (17, alive) ∷ (18, alive) ∷ (19, alive) ∷ (20, alive) ∷ (21, alive) ∷ (22, alive) ∷ []) G0
 
   abbrev pub G88 : Cx
-  G88 = patched ((9, row26) ∷ (10, row29) ∷ (11, row32) ∷ (12, row35) ∷ (13, row38) ∷ (14, row23) ∷ (17, row1) ∷ (18, row1) ∷ (19, row1) ∷ (23, row1) ∷ (24, row1) ∷ (39, row25) ∷ (40, row1) ∷ (41, row1) ∷ (43, row28) ∷ (45, row31) ∷ (47, row34) ∷ (49, row37) ∷ (51, row40) ∷ []) ((4, off) ∷ (5, off) ∷ (6, off) ∷ (7, off) ∷ (8, off) ∷ (9, off) ∷ (17, alive) ∷ (18, alive) ∷ (19, alive) ∷ (20, alive) ∷ (21, alive) ∷ (22, alive) ∷ (23, alive) ∷ []) G0
+  G88 = patched ((9, row2 18) ∷ (10, row5 19) ∷ (11, row8 20) ∷ (12, row11 21) ∷ (13, row14 22) ∷ (14, row23) ∷ (17, row1) ∷ (18, row1) ∷ (19, row1) ∷ (23, row1) ∷ (24, row1) ∷ (39, row25) ∷ (40, row1) ∷ (41, row1) ∷ (43, row4 18) ∷ (45, row7 19) ∷ (47, row4 20) ∷ (49, row4 21) ∷ (51, row4 22) ∷ []) ((4, off) ∷ (5, off) ∷ (6, off) ∷ (7, off) ∷ (8, off) ∷ (9, off) ∷ (17, alive) ∷ (18, alive) ∷ (19, alive) ∷ (20, alive) ∷ (21, alive) ∷ (22, alive) ∷ (23, alive) ∷ []) G0
 
   abbrev pub G90 : Cx
-  G90 = patched ((9, row26) ∷ (10, row29) ∷ (11, row32) ∷ (12, row35) ∷ (13, row38) ∷ (14, row23) ∷ (15, row41) ∷ (17, row1) ∷ (18, row1) ∷ (19, row1) ∷ (23, row1) ∷ (24, row1) ∷ (39, row25) ∷ (40, row1) ∷ (41, row1) ∷ (43, row28) ∷ (45, row31) ∷ (47, row34) ∷ (49, row37) ∷ (51, row40) ∷ (53, row43) ∷ []) ((4, off) ∷ (5, off) ∷ (6, off) ∷ (7, off) ∷ (8, off) ∷ (9, off) ∷ (10, off) ∷ (17, alive) ∷ (18, alive) ∷ (19, alive) ∷ (20, alive) ∷ (21, alive) ∷ (22, alive) ∷ (23, alive) ∷ []) G0
+  G90 = patched ((9, row2 18) ∷ (10, row5 19) ∷ (11, row8 20) ∷ (12, row11 21) ∷ (13, row14 22) ∷ (14, row23) ∷ (15, row41) ∷ (17, row1) ∷ (18, row1) ∷ (19, row1) ∷ (23, row1) ∷ (24, row1) ∷ (39, row25) ∷ (40, row1) ∷ (41, row1) ∷ (43, row4 18) ∷ (45, row7 19) ∷ (47, row4 20) ∷ (49, row4 21) ∷ (51, row4 22) ∷ (53, row43) ∷ []) ((4, off) ∷ (5, off) ∷ (6, off) ∷ (7, off) ∷ (8, off) ∷ (9, off) ∷ (10, off) ∷ (17, alive) ∷ (18, alive) ∷ (19, alive) ∷ (20, alive) ∷ (21, alive) ∷ (22, alive) ∷ (23, alive) ∷ []) G0
 
   abbrev pub G91 : Cx
-  G91 = patched ((9, row26) ∷ (10, row29) ∷ (11, row32) ∷ (12, row35) ∷ (13, row38) ∷ (14, row23) ∷ (15, row41) ∷ (17, row1) ∷ (18, row1) ∷ (19, row1) ∷ (23, row1) ∷ (24, row1) ∷ (25, row44) ∷ (39, row45) ∷ (40, row1) ∷ (41, row1) ∷ (43, row18) ∷ (45, row19) ∷ (47, row18) ∷ (49, row18) ∷ (51, row18) ∷ (53, row46) ∷ []) ((4, off) ∷ (5, off) ∷ (6, off) ∷ (7, off) ∷ (8, off) ∷ (9, off) ∷ (10, off) ∷ (17, alive) ∷ (18, alive) ∷ (19, alive) ∷ (20, alive) ∷ (21, alive) ∷ (22, alive) ∷ (23, alive) ∷ []) G0
+  G91 = patched ((9, row2 18) ∷ (10, row5 19) ∷ (11, row8 20) ∷ (12, row11 21) ∷ (13, row14 22) ∷ (14, row23) ∷ (15, row41) ∷ (17, row1) ∷ (18, row1) ∷ (19, row1) ∷ (23, row1) ∷ (24, row1) ∷ (25, row44) ∷ (39, row45) ∷ (40, row1) ∷ (41, row1) ∷ (43, row18) ∷ (45, row19) ∷ (47, row18) ∷ (49, row18) ∷ (51, row18) ∷ (53, row46) ∷ []) ((4, off) ∷ (5, off) ∷ (6, off) ∷ (7, off) ∷ (8, off) ∷ (9, off) ∷ (10, off) ∷ (17, alive) ∷ (18, alive) ∷ (19, alive) ∷ (20, alive) ∷ (21, alive) ∷ (22, alive) ∷ (23, alive) ∷ []) G0
 
   abbrev pub G94 : Cx
-  G94 = patched ((9, row26) ∷ (10, row29) ∷ (11, row32) ∷ (12, row35) ∷ (13, row38) ∷ (14, row23) ∷ (15, row41) ∷ (17, row1) ∷ (18, row1) ∷ (19, row1) ∷ (23, row1) ∷ (24, row1) ∷ (25, row44) ∷ (39, row45) ∷ (43, row18) ∷ (45, row19) ∷ (47, row18) ∷ (49, row18) ∷ (51, row18) ∷ (53, row46) ∷ []) ((4, off) ∷ (5, off) ∷ (6, off) ∷ (7, off) ∷ (8, off) ∷ (9, off) ∷ (10, off) ∷ (17, dead) ∷ (18, alive) ∷ (19, alive) ∷ (20, alive) ∷ (21, alive) ∷ (22, alive) ∷ (23, alive) ∷ []) G0
+  G94 = patched ((9, row2 18) ∷ (10, row5 19) ∷ (11, row8 20) ∷ (12, row11 21) ∷ (13, row14 22) ∷ (14, row23) ∷ (15, row41) ∷ (17, row1) ∷ (18, row1) ∷ (19, row1) ∷ (23, row1) ∷ (24, row1) ∷ (25, row44) ∷ (39, row45) ∷ (43, row18) ∷ (45, row19) ∷ (47, row18) ∷ (49, row18) ∷ (51, row18) ∷ (53, row46) ∷ []) ((4, off) ∷ (5, off) ∷ (6, off) ∷ (7, off) ∷ (8, off) ∷ (9, off) ∷ (10, off) ∷ (17, dead) ∷ (18, alive) ∷ (19, alive) ∷ (20, alive) ∷ (21, alive) ∷ (22, alive) ∷ (23, alive) ∷ []) G0
 
   abbrev pub G97 : Cx
-  G97 = patched ((9, row26) ∷ (10, row29) ∷ (11, row32) ∷ (12, row35) ∷ (13, row38) ∷ (15, row41) ∷ (17, row1) ∷ (18, row1) ∷ (19, row1) ∷ (23, row1) ∷ (24, row1) ∷ (25, row44) ∷ (43, row18) ∷ (45, row19) ∷ (47, row18) ∷ (49, row18) ∷ (51, row18) ∷ (53, row46) ∷ []) ((4, off) ∷ (5, off) ∷ (6, off) ∷ (7, off) ∷ (8, off) ∷ (10, off) ∷ (18, dead) ∷ (19, alive) ∷ (20, alive) ∷ (21, alive) ∷ (22, alive) ∷ (23, alive) ∷ []) G0
+  G97 = patched ((9, row2 18) ∷ (10, row5 19) ∷ (11, row8 20) ∷ (12, row11 21) ∷ (13, row14 22) ∷ (15, row41) ∷ (17, row1) ∷ (18, row1) ∷ (19, row1) ∷ (23, row1) ∷ (24, row1) ∷ (25, row44) ∷ (43, row18) ∷ (45, row19) ∷ (47, row18) ∷ (49, row18) ∷ (51, row18) ∷ (53, row46) ∷ []) ((4, off) ∷ (5, off) ∷ (6, off) ∷ (7, off) ∷ (8, off) ∷ (10, off) ∷ (18, dead) ∷ (19, alive) ∷ (20, alive) ∷ (21, alive) ∷ (22, alive) ∷ (23, alive) ∷ []) G0
 
   abbrev pub G101 : Cx
-  G101 = patched ((10, row29) ∷ (11, row32) ∷ (12, row35) ∷ (13, row38) ∷ (15, row41) ∷ (17, row1) ∷ (18, row1) ∷ (19, row1) ∷ (23, row1) ∷ (24, row1) ∷ (25, row44) ∷ (45, row19) ∷ (47, row18) ∷ (49, row18) ∷ (51, row18) ∷ (53, row46) ∷ []) ((5, off) ∷ (6, off) ∷ (7, off) ∷ (8, off) ∷ (10, off) ∷ (19, dead) ∷ (20, alive) ∷ (21, alive) ∷ (22, alive) ∷ (23, alive) ∷ []) G0
+  G101 = patched ((10, row5 19) ∷ (11, row8 20) ∷ (12, row11 21) ∷ (13, row14 22) ∷ (15, row41) ∷ (17, row1) ∷ (18, row1) ∷ (19, row1) ∷ (23, row1) ∷ (24, row1) ∷ (25, row44) ∷ (45, row19) ∷ (47, row18) ∷ (49, row18) ∷ (51, row18) ∷ (53, row46) ∷ []) ((5, off) ∷ (6, off) ∷ (7, off) ∷ (8, off) ∷ (10, off) ∷ (19, dead) ∷ (20, alive) ∷ (21, alive) ∷ (22, alive) ∷ (23, alive) ∷ []) G0
 
   abbrev pub G105 : Cx
-  G105 = patched ((11, row32) ∷ (12, row35) ∷ (13, row38) ∷ (15, row41) ∷ (17, row1) ∷ (18, row1) ∷ (19, row1) ∷ (23, row1) ∷ (24, row1) ∷ (25, row44) ∷ (47, row18) ∷ (49, row18) ∷ (51, row18) ∷ (53, row46) ∷ []) ((6, off) ∷ (7, off) ∷ (8, off) ∷ (10, off) ∷ (20, dead) ∷ (21, alive) ∷ (22, alive) ∷ (23, alive) ∷ []) G0
+  G105 = patched ((11, row8 20) ∷ (12, row11 21) ∷ (13, row14 22) ∷ (15, row41) ∷ (17, row1) ∷ (18, row1) ∷ (19, row1) ∷ (23, row1) ∷ (24, row1) ∷ (25, row44) ∷ (47, row18) ∷ (49, row18) ∷ (51, row18) ∷ (53, row46) ∷ []) ((6, off) ∷ (7, off) ∷ (8, off) ∷ (10, off) ∷ (20, dead) ∷ (21, alive) ∷ (22, alive) ∷ (23, alive) ∷ []) G0
 
   abbrev pub G109 : Cx
-  G109 = patched ((12, row35) ∷ (13, row38) ∷ (15, row41) ∷ (17, row1) ∷ (18, row1) ∷ (19, row1) ∷ (23, row1) ∷ (24, row1) ∷ (25, row44) ∷ (49, row18) ∷ (51, row18) ∷ (53, row46) ∷ []) ((7, off) ∷ (8, off) ∷ (10, off) ∷ (21, dead) ∷ (22, alive) ∷ (23, alive) ∷ []) G0
+  G109 = patched ((12, row11 21) ∷ (13, row14 22) ∷ (15, row41) ∷ (17, row1) ∷ (18, row1) ∷ (19, row1) ∷ (23, row1) ∷ (24, row1) ∷ (25, row44) ∷ (49, row18) ∷ (51, row18) ∷ (53, row46) ∷ []) ((7, off) ∷ (8, off) ∷ (10, off) ∷ (21, dead) ∷ (22, alive) ∷ (23, alive) ∷ []) G0
 
   abbrev pub G113 : Cx
-  G113 = patched ((13, row38) ∷ (15, row41) ∷ (17, row1) ∷ (18, row1) ∷ (19, row1) ∷ (23, row1) ∷ (24, row1) ∷ (25, row44) ∷ (51, row18) ∷ (53, row46) ∷ []) ((8, off) ∷ (10, off) ∷ (22, dead) ∷ (23, alive) ∷ []) G0
+  G113 = patched ((13, row14 22) ∷ (15, row41) ∷ (17, row1) ∷ (18, row1) ∷ (19, row1) ∷ (23, row1) ∷ (24, row1) ∷ (25, row44) ∷ (51, row18) ∷ (53, row46) ∷ []) ((8, off) ∷ (10, off) ∷ (22, dead) ∷ (23, alive) ∷ []) G0
 
   abbrev pub G117 : Cx
   G117 = patched ((15, row41) ∷ (17, row1) ∷ (18, row1) ∷ (19, row1) ∷ (23, row1) ∷ (24, row1) ∷ (25, row44) ∷ (53, row46) ∷ []) ((10, off) ∷ (23, dead) ∷ []) G0
@@ -282,7 +235,7 @@ module _ (κs : Lfts 12) (qs : Shares 12) where
   G123 = patched ((13, row47) ∷ (17, row1) ∷ (18, row1) ∷ (19, row1) ∷ (23, row1) ∷ (24, row1) ∷ (25, row44) ∷ (55, row49) ∷ []) ((8, off) ∷ (24, alive) ∷ []) G0
 
   abbrev pub G126 : Cx
-  G126 = patched ((13, row47) ∷ (16, row50) ∷ (17, row1) ∷ (18, row1) ∷ (19, row1) ∷ (23, row1) ∷ (24, row1) ∷ (25, row44) ∷ (55, row49) ∷ (57, row52) ∷ []) ((8, off) ∷ (11, off) ∷ (24, alive) ∷ (25, alive) ∷ []) G0
+  G126 = patched ((13, row47) ∷ (16, row50) ∷ (17, row1) ∷ (18, row1) ∷ (19, row1) ∷ (23, row1) ∷ (24, row1) ∷ (25, row44) ∷ (55, row49) ∷ (57, row4 25) ∷ []) ((8, off) ∷ (11, off) ∷ (24, alive) ∷ (25, alive) ∷ []) G0
 
   abbrev pub G127 : Cx
   G127 = patched ((13, row47) ∷ (16, row50) ∷ (17, row1) ∷ (18, row1) ∷ (19, row1) ∷ (23, row1) ∷ (24, row1) ∷ (25, row44) ∷ (36, row20) ∷ (55, row49) ∷ (57, row18) ∷ []) ((8, off) ∷ (11, off) ∷ (24, alive) ∷ (25, alive) ∷ []) G0
@@ -333,7 +286,7 @@ module _ (κs : Lfts 12) (qs : Shares 12) where
   Γ-from-answer = G32
 
 module _ {M : Type 1} (𝓤 : URA M) (H : Heap 𝓤) (A : Atoms 𝓤) (W : Given 𝓤 H A) (𝓣 : Tables 𝓤 H)
-    (known0 : Knows 𝓤 H A W 𝓣 9 K0.ps K0.r R0.Asked R0.Learnt "game_lists::checked::prepare_game") (known1 : Knows 𝓤 H A W 𝓣 0 K1.ps K1.r R1.Asked R1.Learnt "game_lists::play::refused") (known2 : Knows 𝓤 H A W 𝓣 11 K2.ps K2.r R2.Asked R2.Learnt "topology::games::run_kept") (known3 : Knows 𝓤 H A W 𝓣 2 K3.ps K3.r R3.Asked R3.Learnt "game_lists::play::play") (κs : Lfts 12) (qs : Shares 12) (bs : List ℕ) where
+    (known0 : Knows 𝓤 H A W 𝓣 9 K0.ps K0.r R0.Asked R0.Learnt "game_lists::checked::prepare_game") (known1 : Knows 𝓤 H A W 𝓣 0 K1.ps K1.r R1.Asked R1.Learnt "game_lists::play::refused") (known2 : Knows 𝓤 H A W 𝓣 11 K2.ps K2.r K2.Asked K2.Learnt "topology::games::run_kept") (known3 : Knows 𝓤 H A W 𝓣 2 K3.ps K3.r R3.Asked R3.Learnt "game_lists::play::play") (κs : Lfts 12) (qs : Shares 12) (bs : List ℕ) where
   abbrev E : Env 𝓤 H
   E = EnvOf 𝓤 H (tyR r ∷ tysP ps xs) bs
 
@@ -399,7 +352,7 @@ module _ {M : Type 1} (𝓤 : URA M) (H : Heap 𝓤) (A : Atoms 𝓤) (W : Given
               ghosts _ (G88 κs qs) (g-begin 𝓤 H A W E _ 23 _) $
               stmt (G88 κs qs) _ (t-sl-relend 𝓤 H A W E (rtF (fInt w64)) 𝓣 (G88 κs qs) 15 52 10 23 (tyRef (named 10) mut (tyInt w64)) (tyRef erased mut (tyInt w64)) (lease (κs .1 .1 .1 .1 .1 .1 .1 .1 .1 .1 .0) (qs .1 .1 .1 .1 .1 .1 .1 .1 .1 .1 .0)) 0 (λ x. x) (as-is 𝓤 H A (mslice (rtF (fInt w64)) (tyRef (named 10) mut (tyInt w64)) 10)) (room-gone 𝓤 H A (tyRef erased mut (tyInt w64))) refl tt refl refl refl (λ b o. tt)) $
               stmt _ (G90 κs qs) (t-sl-aggregate 𝓤 H A W E (rtF (fInt w64)) 𝓣 (asMut (rtF (fInt w64))) _ 52 53 23 (tyRef erased mut (tyInt w64)) (tyRef erased mut (tyInt w64)) (λ x. x) (oFld 15 (field 1 ∷ []) (tyInt w64) 8 (λ v. lenV (v .0))) (as-is 𝓤 H A (msptr (rtF (fInt w64)) (tyRef erased mut (tyInt w64)) 23)) (room-gone 𝓤 H A _) (reads-owed-len 𝓤 H A W (rtF (fInt w64)) (tyRef (named 10) mut (tyInt w64)) 10 23 (lease (κs .1 .1 .1 .1 .1 .1 .1 .1 .1 .1 .0) (qs .1 .1 .1 .1 .1 .1 .1 .1 .1 .1 .0)) 8 refl, refl) refl refl (λ b o k. tt)) $
-              stmt (G90 κs qs) (G91 κs qs) (t-call-plain 𝓤 H A W 𝓣 11 K2.ps K2.r R2.Asked R2.Learnt "topology::games::run_kept" known2 E (λ pos β. β) (G90 κs qs) (vAt 1 (λ x. x), (record { pos = 39; ty = tyRef erased mut (pointee (twin-0.the-row .written)); ref = λ x. x }, (vAt 40 (λ x. x), (vAt 41 (λ x. x), (record { pos = 4; ty = tyRef (named 0) imm (tyInt w8); ref = λ x. x }, (record { pos = 5; ty = tyRef (named 1) imm (tyInt w64); ref = λ x. x }, (record { pos = 6; ty = tyRef (named 2) imm (tyInt w64); ref = λ x. x }, (record { pos = 7; ty = tyRef (named 3) imm (tyInt w64); ref = λ x. x }, (vAt 23 (λ x. x), (vAt 24 (λ x. x), (record { pos = 43; ty = tyRef erased mut (tyInt w32); ref = λ x. x }, (record { pos = 45; ty = tyRef erased mut (tyInt w16); ref = λ x. x }, (record { pos = 47; ty = tyRef erased mut (tyInt w32); ref = λ x. x }, (record { pos = 49; ty = tyRef erased mut (tyInt w32); ref = λ x. x }, (record { pos = 51; ty = tyRef erased mut (tyInt w32); ref = λ x. x }, (record { pos = 53; ty = tyRef erased mut (tyInt w64); ref = λ x. x }, tt)))))))))))))))) 25 (17 ∷ 0 ∷ 1 ∷ 2 ∷ 3 ∷ 18 ∷ 19 ∷ 20 ∷ 21 ∷ 22 ∷ 23 ∷ []) (sub-id 𝓤 H A W ((G90 κs qs) .slots)) ((reads-sc 𝓤 H A W (sInt w64), refl), (as-is 𝓤 H A (mslice twin-0.the-row (tyRef erased mut (pointee (twin-0.the-row .written))) 17), reads-mslice 𝓤 H A W twin-0.the-row (tyRef erased mut (pointee (twin-0.the-row .written))) 17, refl, ((reads-sc 𝓤 H A W (sInt w64), refl), ((reads-sc 𝓤 H A W (sInt w64), refl), (spares-sslice 𝓤 H A W (rtF (fInt w8)) (tyRef (named 0) imm (tyInt w8)) 0, reads-sslice 𝓤 H A W (rtF (fInt w8)) (tyRef (named 0) imm (tyInt w8)) 0, refl, (spares-sslice 𝓤 H A W (rtF (fInt w64)) (tyRef (named 1) imm (tyInt w64)) 1, reads-sslice 𝓤 H A W (rtF (fInt w64)) (tyRef (named 1) imm (tyInt w64)) 1, refl, (spares-sslice 𝓤 H A W (rtF (fInt w64)) (tyRef (named 2) imm (tyInt w64)) 2, reads-sslice 𝓤 H A W (rtF (fInt w64)) (tyRef (named 2) imm (tyInt w64)) 2, refl, (spares-sslice 𝓤 H A W (rtF (fInt w64)) (tyRef (named 3) imm (tyInt w64)) 3, reads-sslice 𝓤 H A W (rtF (fInt w64)) (tyRef (named 3) imm (tyInt w64)) 3, refl, ((reads-sc 𝓤 H A W (sInt w64), refl), ((reads-sc 𝓤 H A W (sInt w64), refl), (as-is 𝓤 H A (mslice (rtF (fInt w32)) (tyRef erased mut (tyInt w32)) 18), reads-mslice 𝓤 H A W (rtF (fInt w32)) (tyRef erased mut (tyInt w32)) 18, refl, (as-is 𝓤 H A (mslice (rtF (fInt w16)) (tyRef erased mut (tyInt w16)) 19), reads-mslice 𝓤 H A W (rtF (fInt w16)) (tyRef erased mut (tyInt w16)) 19, refl, (as-is 𝓤 H A (mslice (rtF (fInt w32)) (tyRef erased mut (tyInt w32)) 20), reads-mslice 𝓤 H A W (rtF (fInt w32)) (tyRef erased mut (tyInt w32)) 20, refl, (as-is 𝓤 H A (mslice (rtF (fInt w32)) (tyRef erased mut (tyInt w32)) 21), reads-mslice 𝓤 H A W (rtF (fInt w32)) (tyRef erased mut (tyInt w32)) 21, refl, (as-is 𝓤 H A (mslice (rtF (fInt w32)) (tyRef erased mut (tyInt w32)) 22), reads-mslice 𝓤 H A W (rtF (fInt w32)) (tyRef erased mut (tyInt w32)) 22, refl, (as-is 𝓤 H A (mslice (rtF (fInt w64)) (tyRef erased mut (tyInt w64)) 23), reads-mslice 𝓤 H A W (rtF (fInt w64)) (tyRef erased mut (tyInt w64)) 23, refl, tt)))))))))))))))) (room-gone 𝓤 H A _) _ refl) $
+              stmt (G90 κs qs) (G91 κs qs) (t-call-plain 𝓤 H A W 𝓣 11 K2.ps K2.r K2.Asked K2.Learnt "topology::games::run_kept" known2 E (λ pos β. β) (G90 κs qs) (vAt 1 (λ x. x), (record { pos = 39; ty = tyRef erased mut (pointee (twin-0.the-row .written)); ref = λ x. x }, (vAt 40 (λ x. x), (vAt 41 (λ x. x), (record { pos = 4; ty = tyRef (named 0) imm (tyInt w8); ref = λ x. x }, (record { pos = 5; ty = tyRef (named 1) imm (tyInt w64); ref = λ x. x }, (record { pos = 6; ty = tyRef (named 2) imm (tyInt w64); ref = λ x. x }, (record { pos = 7; ty = tyRef (named 3) imm (tyInt w64); ref = λ x. x }, (vAt 23 (λ x. x), (vAt 24 (λ x. x), (record { pos = 43; ty = tyRef erased mut (tyInt w32); ref = λ x. x }, (record { pos = 45; ty = tyRef erased mut (tyInt w16); ref = λ x. x }, (record { pos = 47; ty = tyRef erased mut (tyInt w32); ref = λ x. x }, (record { pos = 49; ty = tyRef erased mut (tyInt w32); ref = λ x. x }, (record { pos = 51; ty = tyRef erased mut (tyInt w32); ref = λ x. x }, (record { pos = 53; ty = tyRef erased mut (tyInt w64); ref = λ x. x }, tt)))))))))))))))) 25 (17 ∷ 0 ∷ 1 ∷ 2 ∷ 3 ∷ 18 ∷ 19 ∷ 20 ∷ 21 ∷ 22 ∷ 23 ∷ []) (sub-id 𝓤 H A W ((G90 κs qs) .slots)) ((reads-sc 𝓤 H A W (sInt w64), refl), (as-is 𝓤 H A (mslice twin-0.the-row (tyRef erased mut (pointee (twin-0.the-row .written))) 17), reads-mslice 𝓤 H A W twin-0.the-row (tyRef erased mut (pointee (twin-0.the-row .written))) 17, refl, ((reads-sc 𝓤 H A W (sInt w64), refl), ((reads-sc 𝓤 H A W (sInt w64), refl), (spares-sslice 𝓤 H A W (rtF (fInt w8)) (tyRef (named 0) imm (tyInt w8)) 0, reads-sslice 𝓤 H A W (rtF (fInt w8)) (tyRef (named 0) imm (tyInt w8)) 0, refl, (spares-sslice 𝓤 H A W (rtF (fInt w64)) (tyRef (named 1) imm (tyInt w64)) 1, reads-sslice 𝓤 H A W (rtF (fInt w64)) (tyRef (named 1) imm (tyInt w64)) 1, refl, (spares-sslice 𝓤 H A W (rtF (fInt w64)) (tyRef (named 2) imm (tyInt w64)) 2, reads-sslice 𝓤 H A W (rtF (fInt w64)) (tyRef (named 2) imm (tyInt w64)) 2, refl, (spares-sslice 𝓤 H A W (rtF (fInt w64)) (tyRef (named 3) imm (tyInt w64)) 3, reads-sslice 𝓤 H A W (rtF (fInt w64)) (tyRef (named 3) imm (tyInt w64)) 3, refl, ((reads-sc 𝓤 H A W (sInt w64), refl), ((reads-sc 𝓤 H A W (sInt w64), refl), (as-is 𝓤 H A (mslice (rtF (fInt w32)) (tyRef erased mut (tyInt w32)) 18), reads-mslice 𝓤 H A W (rtF (fInt w32)) (tyRef erased mut (tyInt w32)) 18, refl, (as-is 𝓤 H A (mslice (rtF (fInt w16)) (tyRef erased mut (tyInt w16)) 19), reads-mslice 𝓤 H A W (rtF (fInt w16)) (tyRef erased mut (tyInt w16)) 19, refl, (as-is 𝓤 H A (mslice (rtF (fInt w32)) (tyRef erased mut (tyInt w32)) 20), reads-mslice 𝓤 H A W (rtF (fInt w32)) (tyRef erased mut (tyInt w32)) 20, refl, (as-is 𝓤 H A (mslice (rtF (fInt w32)) (tyRef erased mut (tyInt w32)) 21), reads-mslice 𝓤 H A W (rtF (fInt w32)) (tyRef erased mut (tyInt w32)) 21, refl, (as-is 𝓤 H A (mslice (rtF (fInt w32)) (tyRef erased mut (tyInt w32)) 22), reads-mslice 𝓤 H A W (rtF (fInt w32)) (tyRef erased mut (tyInt w32)) 22, refl, (as-is 𝓤 H A (mslice (rtF (fInt w64)) (tyRef erased mut (tyInt w64)) 23), reads-mslice 𝓤 H A W (rtF (fInt w64)) (tyRef erased mut (tyInt w64)) 23, refl, tt)))))))))))))))) (room-gone 𝓤 H A _) _ refl) $
               ghosts (G91 κs qs) _ (g-room 𝓤 H A W E (G91 κs qs) 40 (tyInt w64) (room-sc 𝓤 H A W (sInt w64))) $
               ghosts _ _ (g-room 𝓤 H A W E _ 41 (tyInt w64) (room-sc 𝓤 H A W (sInt w64))) $
               ghosts _ (G94 κs qs) (g-end 𝓤 H A W E _ 17 refl) $
@@ -476,8 +429,8 @@ module _ (w : World) where
   abbrev known1-at : Knows (w .𝓤) (w .H) (w .𝓖 .A) (Wof w) (𝓣of w code.env) 0 K1.ps K1.r R1.Asked R1.Learnt "game_lists::play::refused"
   known1-at = R1.known w code.env S1.name S1.routine code.calls-game-lists·play·refused (M1.met (w .𝓤) (w .H) (w .𝓜) (w .𝓖) (w .𝓡))
 
-  abbrev known2-at : Knows (w .𝓤) (w .H) (w .𝓖 .A) (Wof w) (𝓣of w code.env) 11 K2.ps K2.r R2.Asked R2.Learnt "topology::games::run_kept"
-  known2-at = R2.known w code.env S2.name S2.routine code.calls-topology·games·run-kept (M2.met (w .𝓤) (w .H) (w .𝓜) (w .𝓖) (w .𝓡))
+  abbrev known2-at : Knows (w .𝓤) (w .H) (w .𝓖 .A) (Wof w) (𝓣of w code.env) 11 K2.ps K2.r K2.Asked K2.Learnt "topology::games::run_kept"
+  known2-at = K2.known w code.env S2.name S2.routine code.calls-topology·games·run-kept (M2.met (w .𝓤) (w .H) (w .𝓜) (w .𝓖) (w .𝓡))
 
   abbrev known3-at : Knows (w .𝓤) (w .H) (w .𝓖 .A) (Wof w) (𝓣of w code.env) 2 K3.ps K3.r R3.Asked R3.Learnt "game_lists::play::play"
   known3-at = R3.known w code.env S3.name S3.routine code.calls-game-lists·play·play (M3.met (w .𝓤) (w .H) (w .𝓜) (w .𝓖) (w .𝓡))

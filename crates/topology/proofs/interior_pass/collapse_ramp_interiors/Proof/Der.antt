@@ -6,15 +6,13 @@ use Rattle.interior_regions.proofs.find_interiors.Kinds as K0
 use Rattle.interior_regions.proofs.find_interiors.Reads as R0
 use Rattle.interior_regions.proofs.find_interiors.Symbol as S0
 use Rattle.interior_regions.proofs.find_interiors.Met as M0
-use Rattle.topology.proofs.Seen.interior_pass.judge_interiors.Kinds as K1
-use Rattle.topology.proofs.Seen.interior_pass.judge_interiors.Reads as R1
+use Rattle.topology.proofs.Seen.interior_pass.judge_interiors as K1
 use Rattle.topology.proofs.interior_pass.judge_interiors.Symbol as S1
 use Rattle.topology.proofs.interior_pass.judge_interiors.Met as M1
-use Rattle.topology.proofs.Seen.interior_pass.collapse_ramp_interiors.Kinds.{ps, r}
 use Rattle.topology.proofs.interior_pass.collapse_ramp_interiors.Code as code
 use contract.Running
 use Rattle.topology.proofs.Contracts.{Answers, Post, Pre, Wof, met, 𝓣of}
-use Rattle.topology.proofs.Seen.interior_pass.collapse_ramp_interiors.Reads.{the-contract}
+use Rattle.topology.proofs.Seen.interior_pass.collapse_ramp_interiors.{ps, r, the-contract}
 use Rattle.topology.proofs.interior_pass.collapse_ramp_interiors.Key as key
 use Rattle.topology.proofs.interior_pass.collapse_ramp_interiors.Statement.{statement}
 use Rattle.topology.proofs.Steps.{Der, _$_, ghosts, homes, patched, rets, stmt, typesPast}
@@ -62,17 +60,11 @@ module _ (κs : Lfts 8) (qs : Shares 8) where
   abbrev row12 : Row
   row12 = mref (Array (rtF (fInt w32)) 256) (tyRef erased mut (tyArray (tyInt w32) 256)) 10
 
-  abbrev row13 : Row
-  row13 = sc-owed (Array (rtF (fInt w64)) 256) 11
+  abbrev row13 : ℕ → Row
+  row13 k = sc-owed (Array (rtF (fInt w64)) 256) k
 
-  abbrev row14 : Row
-  row14 = mref (Array (rtF (fInt w64)) 256) (tyRef erased mut (tyArray (tyInt w64) 256)) 11
-
-  abbrev row15 : Row
-  row15 = sc-owed (Array (rtF (fInt w64)) 256) 12
-
-  abbrev row16 : Row
-  row16 = mref (Array (rtF (fInt w64)) 256) (tyRef erased mut (tyArray (tyInt w64) 256)) 12
+  abbrev row14 : ℕ → Row
+  row14 k = mref (Array (rtF (fInt w64)) 256) (tyRef erased mut (tyArray (tyInt w64) 256)) k
 
   abbrev row17 : Row
   row17 = sc-here sUnit
@@ -101,17 +93,11 @@ module _ (κs : Lfts 8) (qs : Shares 8) where
   abbrev row26 : Row
   row26 = sref (Array (rtF (fInt w32)) 256) (tyRef erased imm (tyArray (tyInt w32) 256)) 14
 
-  abbrev row27 : Row
-  row27 = sc-shr (arrF (rtF (fInt w64)) 256 0) (Array (rtF (fInt w64)) 256) (λ x. x) 15
+  abbrev row27 : ℕ → Row
+  row27 k = sc-shr (arrF (rtF (fInt w64)) 256 0) (Array (rtF (fInt w64)) 256) (λ x. x) k
 
-  abbrev row28 : Row
-  row28 = sref (Array (rtF (fInt w64)) 256) (tyRef erased imm (tyArray (tyInt w64) 256)) 15
-
-  abbrev row29 : Row
-  row29 = sc-shr (arrF (rtF (fInt w64)) 256 0) (Array (rtF (fInt w64)) 256) (λ x. x) 16
-
-  abbrev row30 : Row
-  row30 = sref (Array (rtF (fInt w64)) 256) (tyRef erased imm (tyArray (tyInt w64) 256)) 16
+  abbrev row28 : ℕ → Row
+  row28 k = sref (Array (rtF (fInt w64)) 256) (tyRef erased imm (tyArray (tyInt w64) 256)) k
 
   abbrev row31 : Row
   row31 = mref-owed (Array (rtF fBool) 256) (tyRef (named 7) mut (tyArray tyBool 256)) 7 17 (lease (κs .1 .1 .1 .1 .1 .1 .1 .0) (qs .1 .1 .1 .1 .1 .1 .1 .0))
@@ -144,22 +130,22 @@ module _ (κs : Lfts 8) (qs : Shares 8) where
   G21 = patched ((8, row5) ∷ (9, row8) ∷ (11, row11) ∷ (12, row4) ∷ (13, row4) ∷ (16, row7) ∷ (18, row10) ∷ (19, row12) ∷ []) ((5, off) ∷ (6, off) ∷ (8, alive) ∷ (9, alive) ∷ (10, alive) ∷ (11, alive) ∷ []) G0
 
   abbrev pub G24 : Cx
-  G24 = patched ((8, row5) ∷ (9, row8) ∷ (11, row11) ∷ (12, row13) ∷ (13, row15) ∷ (16, row7) ∷ (18, row10) ∷ (19, row12) ∷ (20, row14) ∷ (21, row16) ∷ []) ((5, off) ∷ (6, off) ∷ (8, alive) ∷ (9, alive) ∷ (10, alive) ∷ (11, alive) ∷ (12, alive) ∷ []) G0
+  G24 = patched ((8, row5) ∷ (9, row8) ∷ (11, row11) ∷ (12, row13 11) ∷ (13, row13 12) ∷ (16, row7) ∷ (18, row10) ∷ (19, row12) ∷ (20, row14 11) ∷ (21, row14 12) ∷ []) ((5, off) ∷ (6, off) ∷ (8, alive) ∷ (9, alive) ∷ (10, alive) ∷ (11, alive) ∷ (12, alive) ∷ []) G0
 
   abbrev pub G25 : Cx
-  G25 = patched ((8, row5) ∷ (9, row8) ∷ (11, row11) ∷ (12, row13) ∷ (13, row15) ∷ (14, row17) ∷ (16, row18) ∷ (18, row19) ∷ (19, row20) ∷ (20, row21) ∷ (21, row21) ∷ []) ((5, off) ∷ (6, off) ∷ (8, alive) ∷ (9, alive) ∷ (10, alive) ∷ (11, alive) ∷ (12, alive) ∷ []) G0
+  G25 = patched ((8, row5) ∷ (9, row8) ∷ (11, row11) ∷ (12, row13 11) ∷ (13, row13 12) ∷ (14, row17) ∷ (16, row18) ∷ (18, row19) ∷ (19, row20) ∷ (20, row21) ∷ (21, row21) ∷ []) ((5, off) ∷ (6, off) ∷ (8, alive) ∷ (9, alive) ∷ (10, alive) ∷ (11, alive) ∷ (12, alive) ∷ []) G0
 
   abbrev pub G28 : Cx
-  G28 = patched ((9, row8) ∷ (11, row11) ∷ (12, row13) ∷ (13, row15) ∷ (18, row19) ∷ (19, row20) ∷ (20, row21) ∷ (21, row21) ∷ []) ((6, off) ∷ (8, dead) ∷ (9, alive) ∷ (10, alive) ∷ (11, alive) ∷ (12, alive) ∷ []) G0
+  G28 = patched ((9, row8) ∷ (11, row11) ∷ (12, row13 11) ∷ (13, row13 12) ∷ (18, row19) ∷ (19, row20) ∷ (20, row21) ∷ (21, row21) ∷ []) ((6, off) ∷ (8, dead) ∷ (9, alive) ∷ (10, alive) ∷ (11, alive) ∷ (12, alive) ∷ []) G0
 
   abbrev pub G32 : Cx
-  G32 = patched ((11, row11) ∷ (12, row13) ∷ (13, row15) ∷ (19, row20) ∷ (20, row21) ∷ (21, row21) ∷ []) ((9, dead) ∷ (10, alive) ∷ (11, alive) ∷ (12, alive) ∷ []) G0
+  G32 = patched ((11, row11) ∷ (12, row13 11) ∷ (13, row13 12) ∷ (19, row20) ∷ (20, row21) ∷ (21, row21) ∷ []) ((9, dead) ∷ (10, alive) ∷ (11, alive) ∷ (12, alive) ∷ []) G0
 
   abbrev pub G36 : Cx
-  G36 = patched ((11, row2) ∷ (12, row13) ∷ (13, row15) ∷ (20, row21) ∷ (21, row21) ∷ []) ((10, dead) ∷ (11, alive) ∷ (12, alive) ∷ []) G0
+  G36 = patched ((11, row2) ∷ (12, row13 11) ∷ (13, row13 12) ∷ (20, row21) ∷ (21, row21) ∷ []) ((10, dead) ∷ (11, alive) ∷ (12, alive) ∷ []) G0
 
   abbrev pub G39 : Cx
-  G39 = patched ((11, row2) ∷ (12, row4) ∷ (13, row15) ∷ (21, row21) ∷ []) ((11, dead) ∷ (12, alive) ∷ []) G0
+  G39 = patched ((11, row2) ∷ (12, row4) ∷ (13, row13 12) ∷ (21, row21) ∷ []) ((11, dead) ∷ (12, alive) ∷ []) G0
 
   abbrev pub G42 : Cx
   G42 = patched ((11, row2) ∷ (12, row4) ∷ (13, row4) ∷ []) ((12, dead) ∷ []) G0
@@ -171,28 +157,28 @@ module _ (κs : Lfts 8) (qs : Shares 8) where
   G49 = patched ((9, row22) ∷ (11, row25) ∷ (12, row4) ∷ (13, row4) ∷ (23, row24) ∷ (24, row26) ∷ []) ((6, off) ∷ (13, alive) ∷ (14, alive) ∷ (15, alive) ∷ []) G0
 
   abbrev pub G52 : Cx
-  G52 = patched ((9, row22) ∷ (11, row25) ∷ (12, row27) ∷ (13, row29) ∷ (23, row24) ∷ (24, row26) ∷ (25, row28) ∷ (26, row30) ∷ []) ((6, off) ∷ (13, alive) ∷ (14, alive) ∷ (15, alive) ∷ (16, alive) ∷ []) G0
+  G52 = patched ((9, row22) ∷ (11, row25) ∷ (12, row27 15) ∷ (13, row27 16) ∷ (23, row24) ∷ (24, row26) ∷ (25, row28 15) ∷ (26, row28 16) ∷ []) ((6, off) ∷ (13, alive) ∷ (14, alive) ∷ (15, alive) ∷ (16, alive) ∷ []) G0
 
   abbrev pub G54 : Cx
-  G54 = patched ((9, row22) ∷ (10, row31) ∷ (11, row25) ∷ (12, row27) ∷ (13, row29) ∷ (23, row24) ∷ (24, row26) ∷ (25, row28) ∷ (26, row30) ∷ (27, row32) ∷ []) ((6, off) ∷ (7, off) ∷ (13, alive) ∷ (14, alive) ∷ (15, alive) ∷ (16, alive) ∷ (17, alive) ∷ []) G0
+  G54 = patched ((9, row22) ∷ (10, row31) ∷ (11, row25) ∷ (12, row27 15) ∷ (13, row27 16) ∷ (23, row24) ∷ (24, row26) ∷ (25, row28 15) ∷ (26, row28 16) ∷ (27, row32) ∷ []) ((6, off) ∷ (7, off) ∷ (13, alive) ∷ (14, alive) ∷ (15, alive) ∷ (16, alive) ∷ (17, alive) ∷ []) G0
 
   abbrev pub G55 : Cx
-  G55 = patched ((9, row22) ∷ (10, row31) ∷ (11, row25) ∷ (12, row27) ∷ (13, row29) ∷ (14, row17) ∷ (23, row24) ∷ (24, row26) ∷ (25, row28) ∷ (26, row30) ∷ (27, row33) ∷ []) ((6, off) ∷ (7, off) ∷ (13, alive) ∷ (14, alive) ∷ (15, alive) ∷ (16, alive) ∷ (17, alive) ∷ []) G0
+  G55 = patched ((9, row22) ∷ (10, row31) ∷ (11, row25) ∷ (12, row27 15) ∷ (13, row27 16) ∷ (14, row17) ∷ (23, row24) ∷ (24, row26) ∷ (25, row28 15) ∷ (26, row28 16) ∷ (27, row33) ∷ []) ((6, off) ∷ (7, off) ∷ (13, alive) ∷ (14, alive) ∷ (15, alive) ∷ (16, alive) ∷ (17, alive) ∷ []) G0
 
   abbrev pub G58 : Cx
-  G58 = patched ((9, row22) ∷ (10, row31) ∷ (11, row25) ∷ (12, row27) ∷ (13, row29) ∷ (14, row17) ∷ (26, row30) ∷ (27, row33) ∷ []) ((6, off) ∷ (7, off) ∷ (13, alive) ∷ (14, alive) ∷ (15, alive) ∷ (16, alive) ∷ (17, alive) ∷ []) G0
+  G58 = patched ((9, row22) ∷ (10, row31) ∷ (11, row25) ∷ (12, row27 15) ∷ (13, row27 16) ∷ (14, row17) ∷ (26, row28 16) ∷ (27, row33) ∷ []) ((6, off) ∷ (7, off) ∷ (13, alive) ∷ (14, alive) ∷ (15, alive) ∷ (16, alive) ∷ (17, alive) ∷ []) G0
 
   abbrev pub G61 : Cx
-  G61 = patched ((9, row22) ∷ (10, row31) ∷ (11, row25) ∷ (12, row27) ∷ (13, row29) ∷ (27, row33) ∷ []) ((6, off) ∷ (7, off) ∷ (13, dead) ∷ (14, alive) ∷ (15, alive) ∷ (16, alive) ∷ (17, alive) ∷ []) G0
+  G61 = patched ((9, row22) ∷ (10, row31) ∷ (11, row25) ∷ (12, row27 15) ∷ (13, row27 16) ∷ (27, row33) ∷ []) ((6, off) ∷ (7, off) ∷ (13, dead) ∷ (14, alive) ∷ (15, alive) ∷ (16, alive) ∷ (17, alive) ∷ []) G0
 
   abbrev pub G64 : Cx
-  G64 = patched ((10, row31) ∷ (11, row25) ∷ (12, row27) ∷ (13, row29) ∷ (27, row33) ∷ []) ((7, off) ∷ (14, dead) ∷ (15, alive) ∷ (16, alive) ∷ (17, alive) ∷ []) G0
+  G64 = patched ((10, row31) ∷ (11, row25) ∷ (12, row27 15) ∷ (13, row27 16) ∷ (27, row33) ∷ []) ((7, off) ∷ (14, dead) ∷ (15, alive) ∷ (16, alive) ∷ (17, alive) ∷ []) G0
 
   abbrev pub G67 : Cx
-  G67 = patched ((10, row31) ∷ (12, row27) ∷ (13, row29) ∷ (27, row33) ∷ []) ((7, off) ∷ (15, alive) ∷ (16, alive) ∷ (17, alive) ∷ []) G0
+  G67 = patched ((10, row31) ∷ (12, row27 15) ∷ (13, row27 16) ∷ (27, row33) ∷ []) ((7, off) ∷ (15, alive) ∷ (16, alive) ∷ (17, alive) ∷ []) G0
 
   abbrev pub G70 : Cx
-  G70 = patched ((10, row31) ∷ (12, row4) ∷ (13, row29) ∷ (27, row33) ∷ []) ((7, off) ∷ (16, alive) ∷ (17, alive) ∷ []) G0
+  G70 = patched ((10, row31) ∷ (12, row4) ∷ (13, row27 16) ∷ (27, row33) ∷ []) ((7, off) ∷ (16, alive) ∷ (17, alive) ∷ []) G0
 
   abbrev pub G73 : Cx
   G73 = patched ((10, row31) ∷ (13, row4) ∷ (27, row33) ∷ []) ((7, off) ∷ (16, dead) ∷ (17, alive) ∷ []) G0
@@ -204,7 +190,7 @@ module _ (κs : Lfts 8) (qs : Shares 8) where
   G81 = patched ((0, row17) ∷ (2, (any-gone (ty 2))) ∷ (3, (any-gone (ty 3))) ∷ []) ([]) G0
 
 module _ {M : Type 1} (𝓤 : URA M) (H : Heap 𝓤) (A : Atoms 𝓤) (W : Given 𝓤 H A) (𝓣 : Tables 𝓤 H)
-    (known0 : Knows 𝓤 H A W 𝓣 9 K0.ps K0.r R0.Asked R0.Learnt "interior_regions::find_interiors") (known1 : Knows 𝓤 H A W 𝓣 9 K1.ps K1.r R1.Asked R1.Learnt "topology::interior_pass::judge_interiors") (κs : Lfts 8) (qs : Shares 8) (bs : List ℕ) where
+    (known0 : Knows 𝓤 H A W 𝓣 9 K0.ps K0.r R0.Asked R0.Learnt "interior_regions::find_interiors") (known1 : Knows 𝓤 H A W 𝓣 9 K1.ps K1.r K1.Asked K1.Learnt "topology::interior_pass::judge_interiors") (κs : Lfts 8) (qs : Shares 8) (bs : List ℕ) where
   abbrev E : Env 𝓤 H
   E = EnvOf 𝓤 H (tyR r ∷ tysP ps xs) bs
 
@@ -256,7 +242,7 @@ module _ {M : Type 1} (𝓤 : URA M) (H : Heap 𝓤) (A : Atoms 𝓤) (W : Given
       stmt _ (G52 κs qs) (t-sc-share 𝓤 H A W E 𝓣 _ 13 26 16 (Array (rtF (fInt w64)) 256) (tyRef erased imm (tyArray (tyInt w64) 256)) (λ x. x) (mem-arr 𝓤 H A W (rtF (fInt w64)) 256) (room-gone 𝓤 H A (tyRef erased imm (tyArray (tyInt w64) 256))) refl (λ b o. tt)) $
       ghosts (G52 κs qs) _ (g-begin 𝓤 H A W E (G52 κs qs) 17 _) $
       stmt _ (G54 κs qs) (t-mref-relend 𝓤 H A W E 𝓣 _ 10 27 7 17 (Array (rtF fBool) 256) (tyArray tyBool 256) (tyRef (named 7) mut (tyArray tyBool 256)) (tyRef erased mut (tyArray tyBool 256)) (lease (κs .1 .1 .1 .1 .1 .1 .1 .0) (qs .1 .1 .1 .1 .1 .1 .1 .0)) (λ x. x) (as-is 𝓤 H A (mref (Array (rtF fBool) 256) (tyRef (named 7) mut (tyArray tyBool 256)) 7)) (room-gone 𝓤 H A (tyRef erased mut (tyArray tyBool 256))) refl tt refl refl (λ b o. tt)) $
-      stmt (G54 κs qs) (G55 κs qs) (t-call-plain 𝓤 H A W 𝓣 9 K1.ps K1.r R1.Asked R1.Learnt "topology::interior_pass::judge_interiors" known1 E (λ pos β. β) (G54 κs qs) (record { pos = 1; ty = tyRef (named 0) imm (pointee (twin-0.the-row .written)); ref = λ x. x }, (record { pos = 4; ty = tyRef (named 1) imm (tyInt w64); ref = λ x. x }, (record { pos = 6; ty = tyRef (named 3) imm (tyInt w32); ref = λ x. x }, (record { pos = 7; ty = tyRef (named 4) imm (tyArray (tyInt w64) 257); ref = λ x. x }, (record { pos = 23; ty = tyRef erased imm (tyInt w32); ref = λ x. x }, (record { pos = 24; ty = tyRef erased imm (tyArray (tyInt w32) 256); ref = λ x. x }, (record { pos = 25; ty = tyRef erased imm (tyArray (tyInt w64) 256); ref = λ x. x }, (record { pos = 26; ty = tyRef erased imm (tyArray (tyInt w64) 256); ref = λ x. x }, (vAt 3 (λ x. x), (record { pos = 27; ty = tyRef erased mut (tyArray tyBool 256); ref = λ x. x }, tt)))))))))) 14 (0 ∷ 1 ∷ 3 ∷ 4 ∷ 13 ∷ 14 ∷ 15 ∷ 16 ∷ 17 ∷ []) (sub-id 𝓤 H A W ((G54 κs qs) .slots)) (spares-sslice 𝓤 H A W twin-0.the-row (tyRef (named 0) imm (pointee (twin-0.the-row .written))) 0, reads-sslice 𝓤 H A W twin-0.the-row (tyRef (named 0) imm (pointee (twin-0.the-row .written))) 0, refl, (spares-sslice 𝓤 H A W (rtF (fInt w64)) (tyRef (named 1) imm (tyInt w64)) 1, reads-sslice 𝓤 H A W (rtF (fInt w64)) (tyRef (named 1) imm (tyInt w64)) 1, refl, (spares-sslice 𝓤 H A W (rtF (fInt w32)) (tyRef (named 3) imm (tyInt w32)) 3, reads-sslice 𝓤 H A W (rtF (fInt w32)) (tyRef (named 3) imm (tyInt w32)) 3, refl, (spares-sref 𝓤 H A W (Array (rtF (fInt w64)) 257) (tyRef (named 4) imm (tyArray (tyInt w64) 257)) 4, reads-sref 𝓤 H A W (Array (rtF (fInt w64)) 257) (tyRef (named 4) imm (tyArray (tyInt w64) 257)) 4, refl, (spares-sslice 𝓤 H A W (rtF (fInt w32)) (tyRef erased imm (tyInt w32)) 13, reads-sslice 𝓤 H A W (rtF (fInt w32)) (tyRef erased imm (tyInt w32)) 13, refl, (spares-sref 𝓤 H A W (Array (rtF (fInt w32)) 256) (tyRef erased imm (tyArray (tyInt w32) 256)) 14, reads-sref 𝓤 H A W (Array (rtF (fInt w32)) 256) (tyRef erased imm (tyArray (tyInt w32) 256)) 14, refl, (spares-sref 𝓤 H A W (Array (rtF (fInt w64)) 256) (tyRef erased imm (tyArray (tyInt w64) 256)) 15, reads-sref 𝓤 H A W (Array (rtF (fInt w64)) 256) (tyRef erased imm (tyArray (tyInt w64) 256)) 15, refl, (spares-sref 𝓤 H A W (Array (rtF (fInt w64)) 256) (tyRef erased imm (tyArray (tyInt w64) 256)) 16, reads-sref 𝓤 H A W (Array (rtF (fInt w64)) 256) (tyRef erased imm (tyArray (tyInt w64) 256)) 16, refl, ((reads-sc 𝓤 H A W (sInt w64), refl), (as-is 𝓤 H A (mref (Array (rtF fBool) 256) (tyRef erased mut (tyArray tyBool 256)) 17), reads-mref 𝓤 H A W (Array (rtF fBool) 256) (tyRef erased mut (tyArray tyBool 256)) 17, refl, tt)))))))))) (room-gone 𝓤 H A tyUnit) _ refl) $
+      stmt (G54 κs qs) (G55 κs qs) (t-call-plain 𝓤 H A W 𝓣 9 K1.ps K1.r K1.Asked K1.Learnt "topology::interior_pass::judge_interiors" known1 E (λ pos β. β) (G54 κs qs) (record { pos = 1; ty = tyRef (named 0) imm (pointee (twin-0.the-row .written)); ref = λ x. x }, (record { pos = 4; ty = tyRef (named 1) imm (tyInt w64); ref = λ x. x }, (record { pos = 6; ty = tyRef (named 3) imm (tyInt w32); ref = λ x. x }, (record { pos = 7; ty = tyRef (named 4) imm (tyArray (tyInt w64) 257); ref = λ x. x }, (record { pos = 23; ty = tyRef erased imm (tyInt w32); ref = λ x. x }, (record { pos = 24; ty = tyRef erased imm (tyArray (tyInt w32) 256); ref = λ x. x }, (record { pos = 25; ty = tyRef erased imm (tyArray (tyInt w64) 256); ref = λ x. x }, (record { pos = 26; ty = tyRef erased imm (tyArray (tyInt w64) 256); ref = λ x. x }, (vAt 3 (λ x. x), (record { pos = 27; ty = tyRef erased mut (tyArray tyBool 256); ref = λ x. x }, tt)))))))))) 14 (0 ∷ 1 ∷ 3 ∷ 4 ∷ 13 ∷ 14 ∷ 15 ∷ 16 ∷ 17 ∷ []) (sub-id 𝓤 H A W ((G54 κs qs) .slots)) (spares-sslice 𝓤 H A W twin-0.the-row (tyRef (named 0) imm (pointee (twin-0.the-row .written))) 0, reads-sslice 𝓤 H A W twin-0.the-row (tyRef (named 0) imm (pointee (twin-0.the-row .written))) 0, refl, (spares-sslice 𝓤 H A W (rtF (fInt w64)) (tyRef (named 1) imm (tyInt w64)) 1, reads-sslice 𝓤 H A W (rtF (fInt w64)) (tyRef (named 1) imm (tyInt w64)) 1, refl, (spares-sslice 𝓤 H A W (rtF (fInt w32)) (tyRef (named 3) imm (tyInt w32)) 3, reads-sslice 𝓤 H A W (rtF (fInt w32)) (tyRef (named 3) imm (tyInt w32)) 3, refl, (spares-sref 𝓤 H A W (Array (rtF (fInt w64)) 257) (tyRef (named 4) imm (tyArray (tyInt w64) 257)) 4, reads-sref 𝓤 H A W (Array (rtF (fInt w64)) 257) (tyRef (named 4) imm (tyArray (tyInt w64) 257)) 4, refl, (spares-sslice 𝓤 H A W (rtF (fInt w32)) (tyRef erased imm (tyInt w32)) 13, reads-sslice 𝓤 H A W (rtF (fInt w32)) (tyRef erased imm (tyInt w32)) 13, refl, (spares-sref 𝓤 H A W (Array (rtF (fInt w32)) 256) (tyRef erased imm (tyArray (tyInt w32) 256)) 14, reads-sref 𝓤 H A W (Array (rtF (fInt w32)) 256) (tyRef erased imm (tyArray (tyInt w32) 256)) 14, refl, (spares-sref 𝓤 H A W (Array (rtF (fInt w64)) 256) (tyRef erased imm (tyArray (tyInt w64) 256)) 15, reads-sref 𝓤 H A W (Array (rtF (fInt w64)) 256) (tyRef erased imm (tyArray (tyInt w64) 256)) 15, refl, (spares-sref 𝓤 H A W (Array (rtF (fInt w64)) 256) (tyRef erased imm (tyArray (tyInt w64) 256)) 16, reads-sref 𝓤 H A W (Array (rtF (fInt w64)) 256) (tyRef erased imm (tyArray (tyInt w64) 256)) 16, refl, ((reads-sc 𝓤 H A W (sInt w64), refl), (as-is 𝓤 H A (mref (Array (rtF fBool) 256) (tyRef erased mut (tyArray tyBool 256)) 17), reads-mref 𝓤 H A W (Array (rtF fBool) 256) (tyRef erased mut (tyArray tyBool 256)) 17, refl, tt)))))))))) (room-gone 𝓤 H A tyUnit) _ refl) $
       ghosts (G55 κs qs) _ (g-room 𝓤 H A W E (G55 κs qs) 23 _ (room-sslice 𝓤 H A W (rtF (fInt w32)) (tyRef erased imm (tyInt w32)) 13)) $
       ghosts _ _ (g-drop-sref 𝓤 H A W E _ 24 14 (Array (rtF (fInt w32)) 256) (tyRef erased imm (tyArray (tyInt w32) 256)) (λ x. x) (as-is 𝓤 H A (sref (Array (rtF (fInt w32)) 256) (tyRef erased imm (tyArray (tyInt w32) 256)) 14))) $
       ghosts _ (G58 κs qs) (g-drop-sref 𝓤 H A W E _ 25 15 (Array (rtF (fInt w64)) 256) (tyRef erased imm (tyArray (tyInt w64) 256)) (λ x. x) (as-is 𝓤 H A (sref (Array (rtF (fInt w64)) 256) (tyRef erased imm (tyArray (tyInt w64) 256)) 15))) $
@@ -290,8 +276,8 @@ module _ (w : World) where
   abbrev known0-at : Knows (w .𝓤) (w .H) (w .𝓖 .A) (Wof w) (𝓣of w code.env) 9 K0.ps K0.r R0.Asked R0.Learnt "interior_regions::find_interiors"
   known0-at = R0.known w code.env S0.name S0.routine code.calls-interior-regions·find-interiors (M0.met (w .𝓤) (w .H) (w .𝓜) (w .𝓖) (w .𝓡))
 
-  abbrev known1-at : Knows (w .𝓤) (w .H) (w .𝓖 .A) (Wof w) (𝓣of w code.env) 9 K1.ps K1.r R1.Asked R1.Learnt "topology::interior_pass::judge_interiors"
-  known1-at = R1.known w code.env S1.name S1.routine code.calls-topology·interior-pass·judge-interiors (M1.met (w .𝓤) (w .H) (w .𝓜) (w .𝓖) (w .𝓡))
+  abbrev known1-at : Knows (w .𝓤) (w .H) (w .𝓖 .A) (Wof w) (𝓣of w code.env) 9 K1.ps K1.r K1.Asked K1.Learnt "topology::interior_pass::judge_interiors"
+  known1-at = K1.known w code.env S1.name S1.routine code.calls-topology·interior-pass·judge-interiors (M1.met (w .𝓤) (w .H) (w .𝓜) (w .𝓖) (w .𝓡))
 
 module _ (w : World) (κs : Lfts 8) (qs : Shares 8) (bs : List ℕ) where
   abbrev pub d-at : Der (Wof w) (𝓣of w code.env) (EnvOf (w .𝓤) (w .H) (tyR r ∷ tysP ps xs) bs) (Γin 8 ps r xs m κs qs) (code.function .body) (Δret 8 ps r xs m κs qs)

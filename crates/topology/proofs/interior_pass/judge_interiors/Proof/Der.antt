@@ -9,19 +9,17 @@ use Rattle.interior_regions.proofs.interior_at.Kinds as K0
 use Rattle.interior_regions.proofs.interior_at.Reads as R0
 use Rattle.interior_regions.proofs.interior_at.Symbol as S0
 use Rattle.interior_regions.proofs.interior_at.Met as M0
-use Rattle.topology.proofs.Seen.interior_pass.interior_fits.Kinds as K1
-use Rattle.topology.proofs.Seen.interior_pass.interior_fits.Reads as R1
+use Rattle.topology.proofs.Seen.interior_pass.interior_fits as K1
 use Rattle.topology.proofs.interior_pass.interior_fits.Symbol as S1
 use Rattle.topology.proofs.interior_pass.interior_fits.Met as M1
 use Rattle.interior_regions.proofs.mark_edges.Kinds as K2
 use Rattle.interior_regions.proofs.mark_edges.Reads as R2
 use Rattle.interior_regions.proofs.mark_edges.Symbol as S2
 use Rattle.interior_regions.proofs.mark_edges.Met as M2
-use Rattle.topology.proofs.Seen.interior_pass.judge_interiors.Kinds.{ps, r}
 use Rattle.topology.proofs.interior_pass.judge_interiors.Code as code
 use contract.Running
 use Rattle.topology.proofs.Contracts.{Answers, Post, Pre, Wof, met, 𝓣of}
-use Rattle.topology.proofs.Seen.interior_pass.judge_interiors.Reads.{the-contract}
+use Rattle.topology.proofs.Seen.interior_pass.judge_interiors.{ps, r, the-contract}
 use Rattle.topology.proofs.interior_pass.judge_interiors.Key as key
 use Rattle.topology.proofs.interior_pass.judge_interiors.Statement.{statement}
 use Rattle.topology.proofs.Steps.{Der, _$_, blocks, exits1, first, ghosts, homes, last, loops, patched, rets, skips, stmt, test, then, typesPast}
@@ -94,7 +92,7 @@ module _ (κs : Lfts 9) (qs : Shares 9) where
   G25 = patched ((0, row6) ∷ (9, (any-gone (ty 9))) ∷ []) ([]) G0
 
 module _ {M : Type 1} (𝓤 : URA M) (H : Heap 𝓤) (A : Atoms 𝓤) (W : Given 𝓤 H A) (𝓣 : Tables 𝓤 H) (Inv·0 : InvT-loop) (μ·0 : MeasureT-loop)
-    (known0 : Knows 𝓤 H A W 𝓣 5 K0.ps K0.r R0.Asked R0.Learnt "interior_regions::interior_at") (known1 : Knows 𝓤 H A W 𝓣 4 K1.ps K1.r R1.Asked R1.Learnt "topology::interior_pass::interior_fits") (known2 : Knows 𝓤 H A W 𝓣 2 K2.ps K2.r R2.Asked R2.Learnt "interior_regions::mark_edges") (κs : Lfts 9) (qs : Shares 9) (bs : List ℕ) where
+    (known0 : Knows 𝓤 H A W 𝓣 5 K0.ps K0.r R0.Asked R0.Learnt "interior_regions::interior_at") (known1 : Knows 𝓤 H A W 𝓣 4 K1.ps K1.r K1.Asked K1.Learnt "topology::interior_pass::interior_fits") (known2 : Knows 𝓤 H A W 𝓣 2 K2.ps K2.r R2.Asked R2.Learnt "interior_regions::mark_edges") (κs : Lfts 9) (qs : Shares 9) (bs : List ℕ) where
   abbrev E : Env 𝓤 H
   E = EnvOf 𝓤 H (tyR r ∷ tysP ps xs) bs
 
@@ -112,7 +110,7 @@ module _ {M : Type 1} (𝓤 : URA M) (H : Heap 𝓤) (A : Atoms 𝓤) (W : Given
       ghosts (G7 κs qs) (G5 κs qs) (g-room 𝓤 H A W E (G7 κs qs) 14 tyBool (room-sc 𝓤 H A W sBool)) $
       exits1)) $
       stmt (G5 κs qs) (G11 κs qs) (t-call-plain 𝓤 H A W 𝓣 5 K0.ps K0.r R0.Asked R0.Learnt "interior_regions::interior_at" known0 E (λ pos β. β) (G5 κs qs) (record { pos = 3; ty = tyRef (named 2) imm (tyInt w32); ref = λ x. x }, (record { pos = 4; ty = tyRef (named 3) imm (tyArray (tyInt w64) 257); ref = λ x. x }, (record { pos = 6; ty = tyRef (named 5) imm (tyArray (tyInt w32) 256); ref = λ x. x }, (record { pos = 7; ty = tyRef (named 6) imm (tyArray (tyInt w64) 256); ref = λ x. x }, (record { pos = 8; ty = tyRef (named 7) imm (tyArray (tyInt w64) 256); ref = λ x. x }, (vAt 9 (λ x. x), (vAt 11 (λ x. x), tt))))))) 12 (2 ∷ 3 ∷ 5 ∷ 6 ∷ 7 ∷ []) (sub-id 𝓤 H A W ((G5 κs qs) .slots)) (spares-sslice 𝓤 H A W (rtF (fInt w32)) (tyRef (named 2) imm (tyInt w32)) 2, reads-sslice 𝓤 H A W (rtF (fInt w32)) (tyRef (named 2) imm (tyInt w32)) 2, refl, (spares-sref 𝓤 H A W (Array (rtF (fInt w64)) 257) (tyRef (named 3) imm (tyArray (tyInt w64) 257)) 3, reads-sref 𝓤 H A W (Array (rtF (fInt w64)) 257) (tyRef (named 3) imm (tyArray (tyInt w64) 257)) 3, refl, (spares-sref 𝓤 H A W (Array (rtF (fInt w32)) 256) (tyRef (named 5) imm (tyArray (tyInt w32) 256)) 5, reads-sref 𝓤 H A W (Array (rtF (fInt w32)) 256) (tyRef (named 5) imm (tyArray (tyInt w32) 256)) 5, refl, (spares-sref 𝓤 H A W (Array (rtF (fInt w64)) 256) (tyRef (named 6) imm (tyArray (tyInt w64) 256)) 6, reads-sref 𝓤 H A W (Array (rtF (fInt w64)) 256) (tyRef (named 6) imm (tyArray (tyInt w64) 256)) 6, refl, (spares-sref 𝓤 H A W (Array (rtF (fInt w64)) 256) (tyRef (named 7) imm (tyArray (tyInt w64) 256)) 7, reads-sref 𝓤 H A W (Array (rtF (fInt w64)) 256) (tyRef (named 7) imm (tyArray (tyInt w64) 256)) 7, refl, ((reads-sc 𝓤 H A W (sInt w64), refl), ((reads-sc 𝓤 H A W (sInt w64), refl), tt))))))) (room-gone 𝓤 H A _) _ refl) $
-      stmt (G11 κs qs) (G12 κs qs) (t-call-plain 𝓤 H A W 𝓣 4 K1.ps K1.r R1.Asked R1.Learnt "topology::interior_pass::interior_fits" known1 E (λ pos β. β) (G11 κs qs) (record { pos = 1; ty = tyRef (named 0) imm (pointee (twin-0.the-row .written)); ref = λ x. x }, (record { pos = 2; ty = tyRef (named 1) imm (tyInt w64); ref = λ x. x }, (record { pos = 3; ty = tyRef (named 2) imm (tyInt w32); ref = λ x. x }, (record { pos = 5; ty = tyRef (named 4) imm (tyInt w32); ref = λ x. x }, (record { pos = 12; st = []; d = 0; at = λ x. x }, tt))))) 13 (0 ∷ 1 ∷ 2 ∷ 4 ∷ []) (sub-id 𝓤 H A W ((G11 κs qs) .slots)) (spares-sslice 𝓤 H A W twin-0.the-row (tyRef (named 0) imm (pointee (twin-0.the-row .written))) 0, reads-sslice 𝓤 H A W twin-0.the-row (tyRef (named 0) imm (pointee (twin-0.the-row .written))) 0, refl, (spares-sslice 𝓤 H A W (rtF (fInt w64)) (tyRef (named 1) imm (tyInt w64)) 1, reads-sslice 𝓤 H A W (rtF (fInt w64)) (tyRef (named 1) imm (tyInt w64)) 1, refl, (spares-sslice 𝓤 H A W (rtF (fInt w32)) (tyRef (named 2) imm (tyInt w32)) 2, reads-sslice 𝓤 H A W (rtF (fInt w32)) (tyRef (named 2) imm (tyInt w32)) 2, refl, (spares-sslice 𝓤 H A W (rtF (fInt w32)) (tyRef (named 4) imm (tyInt w32)) 4, reads-sslice 𝓤 H A W (rtF (fInt w32)) (tyRef (named 4) imm (tyInt w32)) 4, refl, ((yields-copy 𝓤 H A W (λ ρ. Unit) (row Interior.the-type) refl (cStruct Interior.the-type Laws.the-laws Laws.the-copy .copy 𝓤 H A W) (whole (row Interior.the-type)) (λ x. x) (λ x. x) (λ ρ told. mem-whole 𝓤 H A W (row Interior.the-type) ρ) (λ ρ told. whole-mem 𝓤 H A W (row Interior.the-type) ρ), refl), tt))))) (room-gone 𝓤 H A tyBool) _ refl) $
+      stmt (G11 κs qs) (G12 κs qs) (t-call-plain 𝓤 H A W 𝓣 4 K1.ps K1.r K1.Asked K1.Learnt "topology::interior_pass::interior_fits" known1 E (λ pos β. β) (G11 κs qs) (record { pos = 1; ty = tyRef (named 0) imm (pointee (twin-0.the-row .written)); ref = λ x. x }, (record { pos = 2; ty = tyRef (named 1) imm (tyInt w64); ref = λ x. x }, (record { pos = 3; ty = tyRef (named 2) imm (tyInt w32); ref = λ x. x }, (record { pos = 5; ty = tyRef (named 4) imm (tyInt w32); ref = λ x. x }, (record { pos = 12; st = []; d = 0; at = λ x. x }, tt))))) 13 (0 ∷ 1 ∷ 2 ∷ 4 ∷ []) (sub-id 𝓤 H A W ((G11 κs qs) .slots)) (spares-sslice 𝓤 H A W twin-0.the-row (tyRef (named 0) imm (pointee (twin-0.the-row .written))) 0, reads-sslice 𝓤 H A W twin-0.the-row (tyRef (named 0) imm (pointee (twin-0.the-row .written))) 0, refl, (spares-sslice 𝓤 H A W (rtF (fInt w64)) (tyRef (named 1) imm (tyInt w64)) 1, reads-sslice 𝓤 H A W (rtF (fInt w64)) (tyRef (named 1) imm (tyInt w64)) 1, refl, (spares-sslice 𝓤 H A W (rtF (fInt w32)) (tyRef (named 2) imm (tyInt w32)) 2, reads-sslice 𝓤 H A W (rtF (fInt w32)) (tyRef (named 2) imm (tyInt w32)) 2, refl, (spares-sslice 𝓤 H A W (rtF (fInt w32)) (tyRef (named 4) imm (tyInt w32)) 4, reads-sslice 𝓤 H A W (rtF (fInt w32)) (tyRef (named 4) imm (tyInt w32)) 4, refl, ((yields-copy 𝓤 H A W (λ ρ. Unit) (row Interior.the-type) refl (cStruct Interior.the-type Laws.the-laws Laws.the-copy .copy 𝓤 H A W) (whole (row Interior.the-type)) (λ x. x) (λ x. x) (λ ρ told. mem-whole 𝓤 H A W (row Interior.the-type) ρ) (λ ρ told. whole-mem 𝓤 H A W (row Interior.the-type) ρ), refl), tt))))) (room-gone 𝓤 H A tyBool) _ refl) $
       ghosts (G12 κs qs) _ (g-begin 𝓤 H A W E (G12 κs qs) 9 _) $
       stmt _ (G14 κs qs) (t-mref-relend 𝓤 H A W E 𝓣 _ 10 16 8 9 (Array (rtF fBool) 256) (tyArray tyBool 256) (tyRef (named 8) mut (tyArray tyBool 256)) (tyRef erased mut (tyArray tyBool 256)) (lease (κs .1 .1 .1 .1 .1 .1 .1 .1 .0) (qs .1 .1 .1 .1 .1 .1 .1 .1 .0)) (λ x. x) (as-is 𝓤 H A (mref (Array (rtF fBool) 256) (tyRef (named 8) mut (tyArray tyBool 256)) 8)) (room-gone 𝓤 H A (tyRef erased mut (tyArray tyBool 256))) refl tt refl refl (λ b o. tt)) $
       stmt (G14 κs qs) (G15 κs qs) (t-call-plain 𝓤 H A W 𝓣 2 K2.ps K2.r R2.Asked R2.Learnt "interior_regions::mark_edges" known2 E (λ pos β. β) (G14 κs qs) (record { pos = 6; ty = tyRef (named 5) imm (tyArray (tyInt w32) 256); ref = λ x. x }, (vAt 9 (λ x. x), (vFld 12 (field 0 ∷ []) 0 (λ x. struct .as-values x .0), (bAt 13 (λ x. x), (record { pos = 16; ty = tyRef erased mut (tyArray tyBool 256); ref = λ x. x }, tt))))) 15 (5 ∷ 9 ∷ []) (sub-id 𝓤 H A W ((G14 κs qs) .slots)) (spares-sref 𝓤 H A W (Array (rtF (fInt w32)) 256) (tyRef (named 5) imm (tyArray (tyInt w32) 256)) 5, reads-sref 𝓤 H A W (Array (rtF (fInt w32)) 256) (tyRef (named 5) imm (tyArray (tyInt w32) 256)) 5, refl, ((reads-sc 𝓤 H A W (sInt w64), refl), ((reads-field 𝓤 H A W Interior.the-type Laws.the-laws 0 (tyInt w32) 0 refl, refl), ((reads-sc 𝓤 H A W sBool, refl), (as-is 𝓤 H A (mref (Array (rtF fBool) 256) (tyRef erased mut (tyArray tyBool 256)) 9), reads-mref 𝓤 H A W (Array (rtF fBool) 256) (tyRef erased mut (tyArray tyBool 256)) 9, refl, tt))))) (room-gone 𝓤 H A tyUnit) _ refl) $
@@ -132,8 +130,8 @@ module _ (w : World) where
   abbrev known0-at : Knows (w .𝓤) (w .H) (w .𝓖 .A) (Wof w) (𝓣of w code.env) 5 K0.ps K0.r R0.Asked R0.Learnt "interior_regions::interior_at"
   known0-at = R0.known w code.env S0.name S0.routine code.calls-interior-regions·interior-at (M0.met (w .𝓤) (w .H) (w .𝓜) (w .𝓖) (w .𝓡))
 
-  abbrev known1-at : Knows (w .𝓤) (w .H) (w .𝓖 .A) (Wof w) (𝓣of w code.env) 4 K1.ps K1.r R1.Asked R1.Learnt "topology::interior_pass::interior_fits"
-  known1-at = R1.known w code.env S1.name S1.routine code.calls-topology·interior-pass·interior-fits (M1.met (w .𝓤) (w .H) (w .𝓜) (w .𝓖) (w .𝓡))
+  abbrev known1-at : Knows (w .𝓤) (w .H) (w .𝓖 .A) (Wof w) (𝓣of w code.env) 4 K1.ps K1.r K1.Asked K1.Learnt "topology::interior_pass::interior_fits"
+  known1-at = K1.known w code.env S1.name S1.routine code.calls-topology·interior-pass·interior-fits (M1.met (w .𝓤) (w .H) (w .𝓜) (w .𝓖) (w .𝓡))
 
   abbrev known2-at : Knows (w .𝓤) (w .H) (w .𝓖 .A) (Wof w) (𝓣of w code.env) 2 K2.ps K2.r R2.Asked R2.Learnt "interior_regions::mark_edges"
   known2-at = R2.known w code.env S2.name S2.routine code.calls-interior-regions·mark-edges (M2.met (w .𝓤) (w .H) (w .𝓜) (w .𝓖) (w .𝓡))

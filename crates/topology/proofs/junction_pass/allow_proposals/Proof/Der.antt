@@ -7,8 +7,7 @@ use Rattle.junction_regions.proofs.first_place.Kinds as K0
 use Rattle.junction_regions.proofs.first_place.Reads as R0
 use Rattle.junction_regions.proofs.first_place.Symbol as S0
 use Rattle.junction_regions.proofs.first_place.Met as M0
-use Rattle.topology.proofs.Seen.slice.record_at.Kinds as K1
-use Rattle.topology.proofs.Seen.slice.record_at.Reads as R1
+use Rattle.topology.proofs.Seen.slice.record_at as K1
 use Rattle.topology.proofs.slice.record_at.Symbol as S1
 use Rattle.topology.proofs.slice.record_at.Met as M1
 use Rattle.junction_regions.proofs.second_place.Kinds as K2
@@ -23,11 +22,10 @@ use Rattle.topology.proofs.entries.put_allowed.Kinds as K4
 use Rattle.topology.proofs.entries.put_allowed.Reads as R4
 use Rattle.topology.proofs.entries.put_allowed.Symbol as S4
 use Rattle.topology.proofs.entries.put_allowed.Met as M4
-use Rattle.topology.proofs.Seen.junction_pass.allow_proposals.Kinds.{ps, r}
 use Rattle.topology.proofs.junction_pass.allow_proposals.Code as code
 use contract.Running
 use Rattle.topology.proofs.Contracts.{Answers, Post, Pre, Wof, met, 𝓣of}
-use Rattle.topology.proofs.Seen.junction_pass.allow_proposals.Reads.{the-contract}
+use Rattle.topology.proofs.Seen.junction_pass.allow_proposals.{ps, r, the-contract}
 use Rattle.topology.proofs.junction_pass.allow_proposals.Key as key
 use Rattle.topology.proofs.junction_pass.allow_proposals.Statement.{statement}
 use Rattle.topology.proofs.Steps.{Der, _$_, blocks, exits1, first, ghosts, homes, last, loops, patched, rets, skips, stmt, test, then, typesPast}
@@ -112,7 +110,7 @@ module _ (κs : Lfts 5) (qs : Shares 5) where
   G31 = patched ((0, row6) ∷ (5, (any-gone (ty 5))) ∷ []) ([]) G0
 
 module _ {M : Type 1} (𝓤 : URA M) (H : Heap 𝓤) (A : Atoms 𝓤) (W : Given 𝓤 H A) (𝓣 : Tables 𝓤 H) (Inv·0 : InvT-loop) (μ·0 : MeasureT-loop)
-    (known0 : Knows 𝓤 H A W 𝓣 1 K0.ps K0.r R0.Asked R0.Learnt "junction_regions::first_place") (known1 : Knows 𝓤 H A W 𝓣 1 K1.ps K1.r R1.Asked R1.Learnt "topology::slice::record_at") (known2 : Knows 𝓤 H A W 𝓣 1 K2.ps K2.r R2.Asked R2.Learnt "junction_regions::second_place") (known3 : Knows 𝓤 H A W 𝓣 3 K3.ps K3.r R3.Asked R3.Learnt "junction_regions::is_allowed") (known4 : Knows 𝓤 H A W 𝓣 1 K4.ps K4.r R4.Asked R4.Learnt "topology::entries::put_allowed") (κs : Lfts 5) (qs : Shares 5) (bs : List ℕ) where
+    (known0 : Knows 𝓤 H A W 𝓣 1 K0.ps K0.r R0.Asked R0.Learnt "junction_regions::first_place") (known1 : Knows 𝓤 H A W 𝓣 1 K1.ps K1.r K1.Asked K1.Learnt "topology::slice::record_at") (known2 : Knows 𝓤 H A W 𝓣 1 K2.ps K2.r R2.Asked R2.Learnt "junction_regions::second_place") (known3 : Knows 𝓤 H A W 𝓣 3 K3.ps K3.r R3.Asked R3.Learnt "junction_regions::is_allowed") (known4 : Knows 𝓤 H A W 𝓣 1 K4.ps K4.r R4.Asked R4.Learnt "topology::entries::put_allowed") (κs : Lfts 5) (qs : Shares 5) (bs : List ℕ) where
   abbrev E : Env 𝓤 H
   E = EnvOf 𝓤 H (tyR r ∷ tysP ps xs) bs
 
@@ -130,10 +128,10 @@ module _ {M : Type 1} (𝓤 : URA M) (H : Heap 𝓤) (A : Atoms 𝓤) (W : Given
       ghosts (G7 κs qs) (G5 κs qs) (g-room 𝓤 H A W E (G7 κs qs) 11 tyBool (room-sc 𝓤 H A W sBool)) $
       exits1)) $
       stmt (G5 κs qs) (G11 κs qs) (t-call-plain 𝓤 H A W 𝓣 1 K0.ps K0.r R0.Asked R0.Learnt "junction_regions::first_place" known0 E (λ pos β. β) (G5 κs qs) (record { pos = 4; ty = tyRef (named 3) imm (tyInt w32); ref = λ x. x }, (vAt 7 (λ x. x), tt)) 12 (3 ∷ []) (sub-id 𝓤 H A W ((G5 κs qs) .slots)) (spares-sslice 𝓤 H A W (rtF (fInt w32)) (tyRef (named 3) imm (tyInt w32)) 3, reads-sslice 𝓤 H A W (rtF (fInt w32)) (tyRef (named 3) imm (tyInt w32)) 3, refl, ((reads-sc 𝓤 H A W (sInt w64), refl), tt)) (room-gone 𝓤 H A (tyInt w64)) _ refl) $
-      stmt (G11 κs qs) (G12 κs qs) (t-call-plain 𝓤 H A W 𝓣 1 K1.ps K1.r R1.Asked R1.Learnt "topology::slice::record_at" known1 E (λ pos β. β) (G11 κs qs) (record { pos = 1; ty = tyRef (named 0) imm (pointee (Region.the-row .written)); ref = λ x. x }, (vAt 12 (λ x. x), tt)) 8 (0 ∷ []) (sub-id 𝓤 H A W ((G11 κs qs) .slots)) (spares-sslice 𝓤 H A W Region.the-row (tyRef (named 0) imm (pointee (Region.the-row .written))) 0, reads-sslice 𝓤 H A W Region.the-row (tyRef (named 0) imm (pointee (Region.the-row .written))) 0, refl, ((reads-sc 𝓤 H A W (sInt w64), refl), tt)) (room-gone 𝓤 H A _) _ refl) $
+      stmt (G11 κs qs) (G12 κs qs) (t-call-plain 𝓤 H A W 𝓣 1 K1.ps K1.r K1.Asked K1.Learnt "topology::slice::record_at" known1 E (λ pos β. β) (G11 κs qs) (record { pos = 1; ty = tyRef (named 0) imm (pointee (Region.the-row .written)); ref = λ x. x }, (vAt 12 (λ x. x), tt)) 8 (0 ∷ []) (sub-id 𝓤 H A W ((G11 κs qs) .slots)) (spares-sslice 𝓤 H A W Region.the-row (tyRef (named 0) imm (pointee (Region.the-row .written))) 0, reads-sslice 𝓤 H A W Region.the-row (tyRef (named 0) imm (pointee (Region.the-row .written))) 0, refl, ((reads-sc 𝓤 H A W (sInt w64), refl), tt)) (room-gone 𝓤 H A _) _ refl) $
       ghosts (G12 κs qs) (G13 κs qs) (g-room 𝓤 H A W E (G12 κs qs) 12 (tyInt w64) (room-sc 𝓤 H A W (sInt w64))) $
       stmt (G13 κs qs) (G12 κs qs) (t-call-plain 𝓤 H A W 𝓣 1 K2.ps K2.r R2.Asked R2.Learnt "junction_regions::second_place" known2 E (λ pos β. β) (G13 κs qs) (record { pos = 4; ty = tyRef (named 3) imm (tyInt w32); ref = λ x. x }, (vAt 7 (λ x. x), tt)) 12 (3 ∷ []) (sub-id 𝓤 H A W ((G13 κs qs) .slots)) (spares-sslice 𝓤 H A W (rtF (fInt w32)) (tyRef (named 3) imm (tyInt w32)) 3, reads-sslice 𝓤 H A W (rtF (fInt w32)) (tyRef (named 3) imm (tyInt w32)) 3, refl, ((reads-sc 𝓤 H A W (sInt w64), refl), tt)) (room-gone 𝓤 H A (tyInt w64)) _ refl) $
-      stmt (G12 κs qs) (G15 κs qs) (t-call-plain 𝓤 H A W 𝓣 1 K1.ps K1.r R1.Asked R1.Learnt "topology::slice::record_at" known1 E (λ pos β. β) (G12 κs qs) (record { pos = 1; ty = tyRef (named 0) imm (pointee (Region.the-row .written)); ref = λ x. x }, (vAt 12 (λ x. x), tt)) 9 (0 ∷ []) (sub-id 𝓤 H A W ((G12 κs qs) .slots)) (spares-sslice 𝓤 H A W Region.the-row (tyRef (named 0) imm (pointee (Region.the-row .written))) 0, reads-sslice 𝓤 H A W Region.the-row (tyRef (named 0) imm (pointee (Region.the-row .written))) 0, refl, ((reads-sc 𝓤 H A W (sInt w64), refl), tt)) (room-gone 𝓤 H A _) _ refl) $
+      stmt (G12 κs qs) (G15 κs qs) (t-call-plain 𝓤 H A W 𝓣 1 K1.ps K1.r K1.Asked K1.Learnt "topology::slice::record_at" known1 E (λ pos β. β) (G12 κs qs) (record { pos = 1; ty = tyRef (named 0) imm (pointee (Region.the-row .written)); ref = λ x. x }, (vAt 12 (λ x. x), tt)) 9 (0 ∷ []) (sub-id 𝓤 H A W ((G12 κs qs) .slots)) (spares-sslice 𝓤 H A W Region.the-row (tyRef (named 0) imm (pointee (Region.the-row .written))) 0, reads-sslice 𝓤 H A W Region.the-row (tyRef (named 0) imm (pointee (Region.the-row .written))) 0, refl, ((reads-sc 𝓤 H A W (sInt w64), refl), tt)) (room-gone 𝓤 H A _) _ refl) $
       ghosts (G15 κs qs) (G16 κs qs) (g-room 𝓤 H A W E (G15 κs qs) 12 (tyInt w64) (room-sc 𝓤 H A W (sInt w64))) $
       stmt (G16 κs qs) (G17 κs qs) (t-call-plain 𝓤 H A W 𝓣 3 K3.ps K3.r R3.Asked R3.Learnt "junction_regions::is_allowed" known3 E (λ pos β. β) (G16 κs qs) (record { pos = 2; ty = tyRef (named 1) imm (tyInt w64); ref = λ x. x }, (record { pos = 3; ty = tyRef (named 2) imm (tyInt w16); ref = λ x. x }, (record { pos = 4; ty = tyRef (named 3) imm (tyInt w32); ref = λ x. x }, (vAt 7 (λ x. x), (record { pos = 8; st = []; d = 0; at = λ x. x }, (record { pos = 9; st = []; d = 0; at = λ x. x }, tt)))))) 10 (1 ∷ 2 ∷ 3 ∷ []) (sub-id 𝓤 H A W ((G16 κs qs) .slots)) (spares-sslice 𝓤 H A W (rtF (fInt w64)) (tyRef (named 1) imm (tyInt w64)) 1, reads-sslice 𝓤 H A W (rtF (fInt w64)) (tyRef (named 1) imm (tyInt w64)) 1, refl, (spares-sslice 𝓤 H A W (rtF (fInt w16)) (tyRef (named 2) imm (tyInt w16)) 2, reads-sslice 𝓤 H A W (rtF (fInt w16)) (tyRef (named 2) imm (tyInt w16)) 2, refl, (spares-sslice 𝓤 H A W (rtF (fInt w32)) (tyRef (named 3) imm (tyInt w32)) 3, reads-sslice 𝓤 H A W (rtF (fInt w32)) (tyRef (named 3) imm (tyInt w32)) 3, refl, ((reads-sc 𝓤 H A W (sInt w64), refl), ((yields-copy 𝓤 H A W (λ ρ. Unit) (row Region.the-type) refl (cStruct Region.the-type Laws.the-laws Laws.the-copy .copy 𝓤 H A W) (whole (row Region.the-type)) (λ x. x) (λ x. x) (λ ρ told. mem-whole 𝓤 H A W (row Region.the-type) ρ) (λ ρ told. whole-mem 𝓤 H A W (row Region.the-type) ρ), refl), ((yields-copy 𝓤 H A W (λ ρ. Unit) (row Region.the-type) refl (cStruct Region.the-type Laws.the-laws Laws.the-copy .copy 𝓤 H A W) (whole (row Region.the-type)) (λ x. x) (λ x. x) (λ ρ told. mem-whole 𝓤 H A W (row Region.the-type) ρ) (λ ρ told. whole-mem 𝓤 H A W (row Region.the-type) ρ), refl), tt)))))) (room-gone 𝓤 H A tyBool) _ refl) $
       ghosts (G17 κs qs) _ (g-room 𝓤 H A W E (G17 κs qs) 8 _ (room-whole 𝓤 H A W (row Region.the-type) _ refl)) $
@@ -156,8 +154,8 @@ module _ (w : World) where
   abbrev known0-at : Knows (w .𝓤) (w .H) (w .𝓖 .A) (Wof w) (𝓣of w code.env) 1 K0.ps K0.r R0.Asked R0.Learnt "junction_regions::first_place"
   known0-at = R0.known w code.env S0.name S0.routine code.calls-junction-regions·first-place (M0.met (w .𝓤) (w .H) (w .𝓜) (w .𝓖) (w .𝓡))
 
-  abbrev known1-at : Knows (w .𝓤) (w .H) (w .𝓖 .A) (Wof w) (𝓣of w code.env) 1 K1.ps K1.r R1.Asked R1.Learnt "topology::slice::record_at"
-  known1-at = R1.known w code.env S1.name S1.routine code.calls-topology·slice·record-at (M1.met (w .𝓤) (w .H) (w .𝓜) (w .𝓖) (w .𝓡))
+  abbrev known1-at : Knows (w .𝓤) (w .H) (w .𝓖 .A) (Wof w) (𝓣of w code.env) 1 K1.ps K1.r K1.Asked K1.Learnt "topology::slice::record_at"
+  known1-at = K1.known w code.env S1.name S1.routine code.calls-topology·slice·record-at (M1.met (w .𝓤) (w .H) (w .𝓜) (w .𝓖) (w .𝓡))
 
   abbrev known2-at : Knows (w .𝓤) (w .H) (w .𝓖 .A) (Wof w) (𝓣of w code.env) 1 K2.ps K2.r R2.Asked R2.Learnt "junction_regions::second_place"
   known2-at = R2.known w code.env S2.name S2.routine code.calls-junction-regions·second-place (M2.met (w .𝓤) (w .H) (w .𝓜) (w .𝓖) (w .𝓡))

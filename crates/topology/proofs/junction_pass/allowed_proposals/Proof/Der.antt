@@ -6,15 +6,13 @@ use Rattle.junction_proposals.proofs.proposals.find_proposals.Kinds as K0
 use Rattle.junction_proposals.proofs.proposals.find_proposals.Reads as R0
 use Rattle.junction_proposals.proofs.proposals.find_proposals.Symbol as S0
 use Rattle.junction_proposals.proofs.proposals.find_proposals.Met as M0
-use Rattle.topology.proofs.Seen.junction_pass.allow_proposals.Kinds as K1
-use Rattle.topology.proofs.Seen.junction_pass.allow_proposals.Reads as R1
+use Rattle.topology.proofs.Seen.junction_pass.allow_proposals as K1
 use Rattle.topology.proofs.junction_pass.allow_proposals.Symbol as S1
 use Rattle.topology.proofs.junction_pass.allow_proposals.Met as M1
-use Rattle.topology.proofs.Seen.junction_pass.allowed_proposals.Kinds.{ps, r}
 use Rattle.topology.proofs.junction_pass.allowed_proposals.Code as code
 use contract.Running
 use Rattle.topology.proofs.Contracts.{Answers, Post, Pre, Wof, met, 𝓣of}
-use Rattle.topology.proofs.Seen.junction_pass.allowed_proposals.Reads.{the-contract}
+use Rattle.topology.proofs.Seen.junction_pass.allowed_proposals.{ps, r, the-contract}
 use Rattle.topology.proofs.junction_pass.allowed_proposals.Key as key
 use Rattle.topology.proofs.junction_pass.allowed_proposals.Statement.{statement}
 use Rattle.topology.proofs.Steps.{Der, _$_, ghosts, homes, patched, rets, stmt, typesPast}
@@ -93,7 +91,7 @@ module _ (κs : Lfts 8) (qs : Shares 8) where
   G31 = patched ((0, row4) ∷ (2, (any-gone (ty 2))) ∷ (3, (any-gone (ty 3))) ∷ []) ([]) G0
 
 module _ {M : Type 1} (𝓤 : URA M) (H : Heap 𝓤) (A : Atoms 𝓤) (W : Given 𝓤 H A) (𝓣 : Tables 𝓤 H)
-    (known0 : Knows 𝓤 H A W 𝓣 6 K0.ps K0.r R0.Asked R0.Learnt "junction_proposals::proposals::find_proposals") (known1 : Knows 𝓤 H A W 𝓣 5 K1.ps K1.r R1.Asked R1.Learnt "topology::junction_pass::allow_proposals") (κs : Lfts 8) (qs : Shares 8) (bs : List ℕ) where
+    (known0 : Knows 𝓤 H A W 𝓣 6 K0.ps K0.r R0.Asked R0.Learnt "junction_proposals::proposals::find_proposals") (known1 : Knows 𝓤 H A W 𝓣 5 K1.ps K1.r K1.Asked K1.Learnt "topology::junction_pass::allow_proposals") (κs : Lfts 8) (qs : Shares 8) (bs : List ℕ) where
   abbrev E : Env 𝓤 H
   E = EnvOf 𝓤 H (tyR r ∷ tysP ps xs) bs
 
@@ -111,7 +109,7 @@ module _ {M : Type 1} (𝓤 : URA M) (H : Heap 𝓤) (A : Atoms 𝓤) (W : Given
       stmt _ (G16 κs qs) (t-sl-aggregate 𝓤 H A W E (rtF (fInt w32)) 𝓣 (asShr (rtF (fInt w32))) _ 15 16 9 (tyRef erased imm (tyInt w32)) (tyRef erased imm (tyInt w32)) (λ x. x) (oFld 9 (field 1 ∷ []) (tyInt w64) 8 (λ v. lenV (v .0))) (as-is 𝓤 H A (ssptr (rtF (fInt w32)) (tyRef erased imm (tyInt w32)) 9)) (room-gone 𝓤 H A _) (reads-owedS-len 𝓤 H A W (rtF (fInt w32)) (tyRef (named 6) mut (tyInt w32)) 6 9 (lease (κs .1 .1 .1 .1 .1 .1 .0) (qs .1 .1 .1 .1 .1 .1 .0)) 8 refl, refl) refl refl (λ b o k. tt)) $
       ghosts (G16 κs qs) _ (g-begin 𝓤 H A W E (G16 κs qs) 10 _) $
       stmt _ (G18 κs qs) (t-mref-relend 𝓤 H A W E 𝓣 _ 10 17 7 10 (Array (rtF fBool) 426) (tyArray tyBool 426) (tyRef (named 7) mut (tyArray tyBool 426)) (tyRef erased mut (tyArray tyBool 426)) (lease (κs .1 .1 .1 .1 .1 .1 .1 .0) (qs .1 .1 .1 .1 .1 .1 .1 .0)) (λ x. x) (as-is 𝓤 H A (mref (Array (rtF fBool) 426) (tyRef (named 7) mut (tyArray tyBool 426)) 7)) (room-gone 𝓤 H A (tyRef erased mut (tyArray tyBool 426))) refl tt refl refl (λ b o. tt)) $
-      stmt (G18 κs qs) (G19 κs qs) (t-call-plain 𝓤 H A W 𝓣 5 K1.ps K1.r R1.Asked R1.Learnt "topology::junction_pass::allow_proposals" known1 E (λ pos β. β) (G18 κs qs) (record { pos = 1; ty = tyRef (named 0) imm (pointee (twin-0.the-row .written)); ref = λ x. x }, (record { pos = 4; ty = tyRef (named 1) imm (tyInt w64); ref = λ x. x }, (record { pos = 8; ty = tyRef (named 5) imm (tyInt w16); ref = λ x. x }, (record { pos = 16; ty = tyRef erased imm (tyInt w32); ref = λ x. x }, (vAt 11 (λ x. x), (record { pos = 17; ty = tyRef erased mut (tyArray tyBool 426); ref = λ x. x }, tt)))))) 14 (0 ∷ 1 ∷ 5 ∷ 9 ∷ 10 ∷ []) (sub-id 𝓤 H A W ((G18 κs qs) .slots)) (spares-sslice 𝓤 H A W twin-0.the-row (tyRef (named 0) imm (pointee (twin-0.the-row .written))) 0, reads-sslice 𝓤 H A W twin-0.the-row (tyRef (named 0) imm (pointee (twin-0.the-row .written))) 0, refl, (spares-sslice 𝓤 H A W (rtF (fInt w64)) (tyRef (named 1) imm (tyInt w64)) 1, reads-sslice 𝓤 H A W (rtF (fInt w64)) (tyRef (named 1) imm (tyInt w64)) 1, refl, (spares-sslice 𝓤 H A W (rtF (fInt w16)) (tyRef (named 5) imm (tyInt w16)) 5, reads-sslice 𝓤 H A W (rtF (fInt w16)) (tyRef (named 5) imm (tyInt w16)) 5, refl, (spares-sslice 𝓤 H A W (rtF (fInt w32)) (tyRef erased imm (tyInt w32)) 9, reads-sslice 𝓤 H A W (rtF (fInt w32)) (tyRef erased imm (tyInt w32)) 9, refl, ((reads-sc 𝓤 H A W (sInt w64), refl), (as-is 𝓤 H A (mref (Array (rtF fBool) 426) (tyRef erased mut (tyArray tyBool 426)) 10), reads-mref 𝓤 H A W (Array (rtF fBool) 426) (tyRef erased mut (tyArray tyBool 426)) 10, refl, tt)))))) (room-gone 𝓤 H A tyUnit) _ refl) $
+      stmt (G18 κs qs) (G19 κs qs) (t-call-plain 𝓤 H A W 𝓣 5 K1.ps K1.r K1.Asked K1.Learnt "topology::junction_pass::allow_proposals" known1 E (λ pos β. β) (G18 κs qs) (record { pos = 1; ty = tyRef (named 0) imm (pointee (twin-0.the-row .written)); ref = λ x. x }, (record { pos = 4; ty = tyRef (named 1) imm (tyInt w64); ref = λ x. x }, (record { pos = 8; ty = tyRef (named 5) imm (tyInt w16); ref = λ x. x }, (record { pos = 16; ty = tyRef erased imm (tyInt w32); ref = λ x. x }, (vAt 11 (λ x. x), (record { pos = 17; ty = tyRef erased mut (tyArray tyBool 426); ref = λ x. x }, tt)))))) 14 (0 ∷ 1 ∷ 5 ∷ 9 ∷ 10 ∷ []) (sub-id 𝓤 H A W ((G18 κs qs) .slots)) (spares-sslice 𝓤 H A W twin-0.the-row (tyRef (named 0) imm (pointee (twin-0.the-row .written))) 0, reads-sslice 𝓤 H A W twin-0.the-row (tyRef (named 0) imm (pointee (twin-0.the-row .written))) 0, refl, (spares-sslice 𝓤 H A W (rtF (fInt w64)) (tyRef (named 1) imm (tyInt w64)) 1, reads-sslice 𝓤 H A W (rtF (fInt w64)) (tyRef (named 1) imm (tyInt w64)) 1, refl, (spares-sslice 𝓤 H A W (rtF (fInt w16)) (tyRef (named 5) imm (tyInt w16)) 5, reads-sslice 𝓤 H A W (rtF (fInt w16)) (tyRef (named 5) imm (tyInt w16)) 5, refl, (spares-sslice 𝓤 H A W (rtF (fInt w32)) (tyRef erased imm (tyInt w32)) 9, reads-sslice 𝓤 H A W (rtF (fInt w32)) (tyRef erased imm (tyInt w32)) 9, refl, ((reads-sc 𝓤 H A W (sInt w64), refl), (as-is 𝓤 H A (mref (Array (rtF fBool) 426) (tyRef erased mut (tyArray tyBool 426)) 10), reads-mref 𝓤 H A W (Array (rtF fBool) 426) (tyRef erased mut (tyArray tyBool 426)) 10, refl, tt)))))) (room-gone 𝓤 H A tyUnit) _ refl) $
       ghosts (G19 κs qs) _ (g-room 𝓤 H A W E (G19 κs qs) 16 _ (room-sslice 𝓤 H A W (rtF (fInt w32)) (tyRef erased imm (tyInt w32)) 9)) $
       ghosts _ _ (g-room 𝓤 H A W E _ 14 tyUnit (room-sc 𝓤 H A W sUnit)) $
       ghosts _ (G22 κs qs) (g-end 𝓤 H A W E _ 9 refl) $
@@ -131,8 +129,8 @@ module _ (w : World) where
   abbrev known0-at : Knows (w .𝓤) (w .H) (w .𝓖 .A) (Wof w) (𝓣of w code.env) 6 K0.ps K0.r R0.Asked R0.Learnt "junction_proposals::proposals::find_proposals"
   known0-at = R0.known w code.env S0.name S0.routine code.calls-junction-proposals·proposals·find-proposals (M0.met (w .𝓤) (w .H) (w .𝓜) (w .𝓖) (w .𝓡))
 
-  abbrev known1-at : Knows (w .𝓤) (w .H) (w .𝓖 .A) (Wof w) (𝓣of w code.env) 5 K1.ps K1.r R1.Asked R1.Learnt "topology::junction_pass::allow_proposals"
-  known1-at = R1.known w code.env S1.name S1.routine code.calls-topology·junction-pass·allow-proposals (M1.met (w .𝓤) (w .H) (w .𝓜) (w .𝓖) (w .𝓡))
+  abbrev known1-at : Knows (w .𝓤) (w .H) (w .𝓖 .A) (Wof w) (𝓣of w code.env) 5 K1.ps K1.r K1.Asked K1.Learnt "topology::junction_pass::allow_proposals"
+  known1-at = K1.known w code.env S1.name S1.routine code.calls-topology·junction-pass·allow-proposals (M1.met (w .𝓤) (w .H) (w .𝓜) (w .𝓖) (w .𝓡))
 
 module _ (w : World) (κs : Lfts 8) (qs : Shares 8) (bs : List ℕ) where
   abbrev pub d-at : Der (Wof w) (𝓣of w code.env) (EnvOf (w .𝓤) (w .H) (tyR r ∷ tysP ps xs) bs) (Γin 8 ps r xs m κs qs) (code.function .body) (Δret 8 ps r xs m κs qs)

@@ -2,19 +2,17 @@
 use Rattle.topology.proofs.Rules.{Array, Atoms, Cx, Dens, Env, EnvOf, Given, Heap, Lfts, List, Mo, Outs, Row, Shares, Tables, Ty, URA, Want, World, [], _∷_, _≡_, alive, any-gone, arr-mem, arr-owed, arr-shr, arrF, as-is, asMut, asShr, bool-lawful, bool-makes, cRf, dead, deref, drop, erased, fBool, fInt, false, fz-lent-sl, fz-open, g-as-by, g-back-arr, g-back-arr-shr, g-back-sc, g-begin, g-end, g-forget, g-room, g-way-back, getD, held, holds-sc, imm, init, lease, lft, lit<, mem-arr, mleft, mref, mref-mem, msleft, mslice, msptr, mut, named, oBig, oBool, oInt, oUnit, off, out, pin-lease, pointee, puts-none-sl, puts-open, puts-whole, reads-mref, reads-mslice, reads-sc, reads-sref, reads-sslice, refl, room-arr, room-gone, room-sc, room-sslice, rtF, sInt, sUnit, sc-here, sc-owed, set, setLife, setRow, spares-sref, spares-sslice, spotOf, sslice, ssptr, sub-id, suc, t-arr-borrow, t-arr-share, t-call-plain, t-repeat, t-sc-borrow, t-sl-aggregate, t-use, t-way-lend-slice, takes-whole, told-none, tyArray, tyBool, tyInt, tyR, tyRef, tyUnit, tysP, uint-lawful, uint-makes, vAt, valS, w16, w32, w64, wantQ, whole, whole-arr, wt-mref, wt-mut, Γin, Δret, ℕ}
 use Rattle.context.proofs.Region as twin-0
 use borrow.Fn.Plain.{Known as Knows}
-use Rattle.topology.proofs.Seen.junction_pass.allowed_proposals.Kinds as K0
-use Rattle.topology.proofs.Seen.junction_pass.allowed_proposals.Reads as R0
+use Rattle.topology.proofs.Seen.junction_pass.allowed_proposals as K0
 use Rattle.topology.proofs.junction_pass.allowed_proposals.Symbol as S0
 use Rattle.topology.proofs.junction_pass.allowed_proposals.Met as M0
 use Rattle.junction_selection.proofs.selection.select_proposals.Kinds as K1
 use Rattle.junction_selection.proofs.selection.select_proposals.Reads as R1
 use Rattle.junction_selection.proofs.selection.select_proposals.Symbol as S1
 use Rattle.junction_selection.proofs.selection.select_proposals.Met as M1
-use Rattle.topology.proofs.Seen.junction_pass.remove_junction_boundaries.Kinds.{ps, r}
 use Rattle.topology.proofs.junction_pass.remove_junction_boundaries.Code as code
 use contract.Running
 use Rattle.topology.proofs.Contracts.{Answers, Post, Pre, Wof, met, 𝓣of}
-use Rattle.topology.proofs.Seen.junction_pass.remove_junction_boundaries.Reads.{the-contract}
+use Rattle.topology.proofs.Seen.junction_pass.remove_junction_boundaries.{ps, r, the-contract}
 use Rattle.topology.proofs.junction_pass.remove_junction_boundaries.Key as key
 use Rattle.topology.proofs.junction_pass.remove_junction_boundaries.Statement.{statement}
 use Rattle.topology.proofs.Steps.{Der, _$_, ghosts, homes, patched, rets, stmt, typesPast}
@@ -147,7 +145,7 @@ module _ (κs : Lfts 7) (qs : Shares 7) where
   G48 = patched ((0, row22) ∷ (2, (any-gone (ty 2))) ∷ (3, (any-gone (ty 3))) ∷ []) ([]) G0
 
 module _ {M : Type 1} (𝓤 : URA M) (H : Heap 𝓤) (A : Atoms 𝓤) (W : Given 𝓤 H A) (𝓣 : Tables 𝓤 H)
-    (known0 : Knows 𝓤 H A W 𝓣 8 K0.ps K0.r R0.Asked R0.Learnt "topology::junction_pass::allowed_proposals") (known1 : Knows 𝓤 H A W 𝓣 6 K1.ps K1.r R1.Asked R1.Learnt "junction_selection::selection::select_proposals") (κs : Lfts 7) (qs : Shares 7) (bs : List ℕ) where
+    (known0 : Knows 𝓤 H A W 𝓣 8 K0.ps K0.r K0.Asked K0.Learnt "topology::junction_pass::allowed_proposals") (known1 : Knows 𝓤 H A W 𝓣 6 K1.ps K1.r R1.Asked R1.Learnt "junction_selection::selection::select_proposals") (κs : Lfts 7) (qs : Shares 7) (bs : List ℕ) where
   abbrev E : Env 𝓤 H
   E = EnvOf 𝓤 H (tyR r ∷ tysP ps xs) bs
 
@@ -162,7 +160,7 @@ module _ {M : Type 1} (𝓤 : URA M) (H : Heap 𝓤) (A : Atoms 𝓤) (W : Given
       stmt (G10 κs qs) _ (t-sl-aggregate 𝓤 H A W E (rtF (fInt w32)) 𝓣 (asMut (rtF (fInt w32))) (G10 κs qs) 13 14 7 (tyRef erased mut (tyArray (tyInt w32) 1704)) (tyRef erased mut (tyInt w32)) (λ x. x) (oBig w64 1704) (as-is 𝓤 H A (msptr (rtF (fInt w32)) (tyRef erased mut (tyArray (tyInt w32) 1704)) 7)) (room-gone 𝓤 H A _) record { lower = record { fits = lit< tt } } refl refl (λ b o k. tt)) $
       ghosts _ _ (g-begin 𝓤 H A W E _ 8 _) $
       stmt _ (G13 κs qs) (t-sc-borrow 𝓤 H A W E 𝓣 _ 11 15 8 (Array (rtF fBool) 426) (tyRef erased mut (tyArray tyBool 426)) (λ x. x) (mem-arr 𝓤 H A W (rtF fBool) 426) (room-gone 𝓤 H A (tyRef erased mut (tyArray tyBool 426))) refl (λ b o. tt)) $
-      stmt (G13 κs qs) (G14 κs qs) (t-call-plain 𝓤 H A W 𝓣 8 K0.ps K0.r R0.Asked R0.Learnt "topology::junction_pass::allowed_proposals" known0 E (λ pos β. β) (G13 κs qs) (record { pos = 1; ty = tyRef (named 0) imm (pointee (twin-0.the-row .written)); ref = λ x. x }, (vAt 2 (λ x. x), (vAt 3 (λ x. x), (record { pos = 4; ty = tyRef (named 1) imm (tyInt w64); ref = λ x. x }, (record { pos = 5; ty = tyRef (named 2) imm (tyArray (tyInt w32) 256); ref = λ x. x }, (record { pos = 6; ty = tyRef (named 3) imm (tyArray (tyInt w32) 256); ref = λ x. x }, (record { pos = 7; ty = tyRef (named 4) imm (tyInt w32); ref = λ x. x }, (record { pos = 8; ty = tyRef (named 5) imm (tyInt w16); ref = λ x. x }, (record { pos = 14; ty = tyRef erased mut (tyInt w32); ref = λ x. x }, (record { pos = 15; ty = tyRef erased mut (tyArray tyBool 426); ref = λ x. x }, tt)))))))))) 12 (0 ∷ 1 ∷ 2 ∷ 3 ∷ 4 ∷ 5 ∷ 7 ∷ 8 ∷ []) (sub-id 𝓤 H A W ((G13 κs qs) .slots)) (spares-sslice 𝓤 H A W twin-0.the-row (tyRef (named 0) imm (pointee (twin-0.the-row .written))) 0, reads-sslice 𝓤 H A W twin-0.the-row (tyRef (named 0) imm (pointee (twin-0.the-row .written))) 0, refl, ((reads-sc 𝓤 H A W (sInt w64), refl), ((reads-sc 𝓤 H A W (sInt w64), refl), (spares-sslice 𝓤 H A W (rtF (fInt w64)) (tyRef (named 1) imm (tyInt w64)) 1, reads-sslice 𝓤 H A W (rtF (fInt w64)) (tyRef (named 1) imm (tyInt w64)) 1, refl, (spares-sref 𝓤 H A W (Array (rtF (fInt w32)) 256) (tyRef (named 2) imm (tyArray (tyInt w32) 256)) 2, reads-sref 𝓤 H A W (Array (rtF (fInt w32)) 256) (tyRef (named 2) imm (tyArray (tyInt w32) 256)) 2, refl, (spares-sref 𝓤 H A W (Array (rtF (fInt w32)) 256) (tyRef (named 3) imm (tyArray (tyInt w32) 256)) 3, reads-sref 𝓤 H A W (Array (rtF (fInt w32)) 256) (tyRef (named 3) imm (tyArray (tyInt w32) 256)) 3, refl, (spares-sslice 𝓤 H A W (rtF (fInt w32)) (tyRef (named 4) imm (tyInt w32)) 4, reads-sslice 𝓤 H A W (rtF (fInt w32)) (tyRef (named 4) imm (tyInt w32)) 4, refl, (spares-sslice 𝓤 H A W (rtF (fInt w16)) (tyRef (named 5) imm (tyInt w16)) 5, reads-sslice 𝓤 H A W (rtF (fInt w16)) (tyRef (named 5) imm (tyInt w16)) 5, refl, (as-is 𝓤 H A (mslice (rtF (fInt w32)) (tyRef erased mut (tyInt w32)) 7), reads-mslice 𝓤 H A W (rtF (fInt w32)) (tyRef erased mut (tyInt w32)) 7, refl, (as-is 𝓤 H A (mref (Array (rtF fBool) 426) (tyRef erased mut (tyArray tyBool 426)) 8), reads-mref 𝓤 H A W (Array (rtF fBool) 426) (tyRef erased mut (tyArray tyBool 426)) 8, refl, tt)))))))))) (room-gone 𝓤 H A (tyInt w64)) _ refl) $
+      stmt (G13 κs qs) (G14 κs qs) (t-call-plain 𝓤 H A W 𝓣 8 K0.ps K0.r K0.Asked K0.Learnt "topology::junction_pass::allowed_proposals" known0 E (λ pos β. β) (G13 κs qs) (record { pos = 1; ty = tyRef (named 0) imm (pointee (twin-0.the-row .written)); ref = λ x. x }, (vAt 2 (λ x. x), (vAt 3 (λ x. x), (record { pos = 4; ty = tyRef (named 1) imm (tyInt w64); ref = λ x. x }, (record { pos = 5; ty = tyRef (named 2) imm (tyArray (tyInt w32) 256); ref = λ x. x }, (record { pos = 6; ty = tyRef (named 3) imm (tyArray (tyInt w32) 256); ref = λ x. x }, (record { pos = 7; ty = tyRef (named 4) imm (tyInt w32); ref = λ x. x }, (record { pos = 8; ty = tyRef (named 5) imm (tyInt w16); ref = λ x. x }, (record { pos = 14; ty = tyRef erased mut (tyInt w32); ref = λ x. x }, (record { pos = 15; ty = tyRef erased mut (tyArray tyBool 426); ref = λ x. x }, tt)))))))))) 12 (0 ∷ 1 ∷ 2 ∷ 3 ∷ 4 ∷ 5 ∷ 7 ∷ 8 ∷ []) (sub-id 𝓤 H A W ((G13 κs qs) .slots)) (spares-sslice 𝓤 H A W twin-0.the-row (tyRef (named 0) imm (pointee (twin-0.the-row .written))) 0, reads-sslice 𝓤 H A W twin-0.the-row (tyRef (named 0) imm (pointee (twin-0.the-row .written))) 0, refl, ((reads-sc 𝓤 H A W (sInt w64), refl), ((reads-sc 𝓤 H A W (sInt w64), refl), (spares-sslice 𝓤 H A W (rtF (fInt w64)) (tyRef (named 1) imm (tyInt w64)) 1, reads-sslice 𝓤 H A W (rtF (fInt w64)) (tyRef (named 1) imm (tyInt w64)) 1, refl, (spares-sref 𝓤 H A W (Array (rtF (fInt w32)) 256) (tyRef (named 2) imm (tyArray (tyInt w32) 256)) 2, reads-sref 𝓤 H A W (Array (rtF (fInt w32)) 256) (tyRef (named 2) imm (tyArray (tyInt w32) 256)) 2, refl, (spares-sref 𝓤 H A W (Array (rtF (fInt w32)) 256) (tyRef (named 3) imm (tyArray (tyInt w32) 256)) 3, reads-sref 𝓤 H A W (Array (rtF (fInt w32)) 256) (tyRef (named 3) imm (tyArray (tyInt w32) 256)) 3, refl, (spares-sslice 𝓤 H A W (rtF (fInt w32)) (tyRef (named 4) imm (tyInt w32)) 4, reads-sslice 𝓤 H A W (rtF (fInt w32)) (tyRef (named 4) imm (tyInt w32)) 4, refl, (spares-sslice 𝓤 H A W (rtF (fInt w16)) (tyRef (named 5) imm (tyInt w16)) 5, reads-sslice 𝓤 H A W (rtF (fInt w16)) (tyRef (named 5) imm (tyInt w16)) 5, refl, (as-is 𝓤 H A (mslice (rtF (fInt w32)) (tyRef erased mut (tyInt w32)) 7), reads-mslice 𝓤 H A W (rtF (fInt w32)) (tyRef erased mut (tyInt w32)) 7, refl, (as-is 𝓤 H A (mref (Array (rtF fBool) 426) (tyRef erased mut (tyArray tyBool 426)) 8), reads-mref 𝓤 H A W (Array (rtF fBool) 426) (tyRef erased mut (tyArray tyBool 426)) 8, refl, tt)))))))))) (room-gone 𝓤 H A (tyInt w64)) _ refl) $
       ghosts (G14 κs qs) _ (g-end 𝓤 H A W E (G14 κs qs) 7 refl) $
       ghosts _ _ (g-back-arr 𝓤 H A W E (rtF (fInt w32)) _ 14 10 7 1704 (tyRef erased mut (tyInt w32)) (λ x. x) (λ x. x) (as-is 𝓤 H A (msleft (rtF (fInt w32)) (tyRef erased mut (tyInt w32)))) (as-is 𝓤 H A (arr-owed (rtF (fInt w32)) 1704 7)) refl) $
       ghosts _ (G17 κs qs) (g-forget 𝓤 H A W E _ 7 dead refl) $
@@ -201,8 +199,8 @@ module _ {M : Type 1} (𝓤 : URA M) (H : Heap 𝓤) (A : Atoms 𝓤) (W : Given
 
 -- the derivations at a model
 module _ (w : World) where
-  abbrev known0-at : Knows (w .𝓤) (w .H) (w .𝓖 .A) (Wof w) (𝓣of w code.env) 8 K0.ps K0.r R0.Asked R0.Learnt "topology::junction_pass::allowed_proposals"
-  known0-at = R0.known w code.env S0.name S0.routine code.calls-topology·junction-pass·allowed-proposals (M0.met (w .𝓤) (w .H) (w .𝓜) (w .𝓖) (w .𝓡))
+  abbrev known0-at : Knows (w .𝓤) (w .H) (w .𝓖 .A) (Wof w) (𝓣of w code.env) 8 K0.ps K0.r K0.Asked K0.Learnt "topology::junction_pass::allowed_proposals"
+  known0-at = K0.known w code.env S0.name S0.routine code.calls-topology·junction-pass·allowed-proposals (M0.met (w .𝓤) (w .H) (w .𝓜) (w .𝓖) (w .𝓡))
 
   abbrev known1-at : Knows (w .𝓤) (w .H) (w .𝓖 .A) (Wof w) (𝓣of w code.env) 6 K1.ps K1.r R1.Asked R1.Learnt "junction_selection::selection::select_proposals"
   known1-at = R1.known w code.env S1.name S1.routine code.calls-junction-selection·selection·select-proposals (M1.met (w .𝓤) (w .H) (w .𝓜) (w .𝓖) (w .𝓡))

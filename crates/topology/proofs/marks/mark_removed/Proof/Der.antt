@@ -6,15 +6,13 @@ use Rattle.pass_lists.proofs.view.Kinds as K0
 use Rattle.pass_lists.proofs.view.Reads as R0
 use Rattle.pass_lists.proofs.view.Symbol as S0
 use Rattle.pass_lists.proofs.view.Met as M0
-use Rattle.topology.proofs.Seen.marks.removed_marks.Kinds as K1
-use Rattle.topology.proofs.Seen.marks.removed_marks.Reads as R1
+use Rattle.topology.proofs.Seen.marks.removed_marks as K1
 use Rattle.topology.proofs.marks.removed_marks.Symbol as S1
 use Rattle.topology.proofs.marks.removed_marks.Met as M1
-use Rattle.topology.proofs.Seen.marks.mark_removed.Kinds.{ps, r}
 use Rattle.topology.proofs.marks.mark_removed.Code as code
 use contract.Running
 use Rattle.topology.proofs.Contracts.{Answers, Post, Pre, Wof, met, 𝓣of}
-use Rattle.topology.proofs.Seen.marks.mark_removed.Reads.{the-contract}
+use Rattle.topology.proofs.Seen.marks.mark_removed.{ps, r, the-contract}
 use Rattle.topology.proofs.marks.mark_removed.Key as key
 use Rattle.topology.proofs.marks.mark_removed.Statement.{statement}
 use Rattle.topology.proofs.Steps.{Der, _$_, first, ghosts, homes, past, patched, rets, skips, stmt, test, typesPast}
@@ -56,14 +54,14 @@ module _ (κs : Lfts 9) (qs : Shares 9) where
   abbrev row8 : Row
   row8 = mslice-owed (rtF (fInt w16)) (tyRef (named 6) mut (tyInt w16)) 6 9 (lease (κs .1 .1 .1 .1 .1 .1 .0) (qs .1 .1 .1 .1 .1 .1 .0))
 
-  abbrev row10 : Row
-  row10 = mslice (rtF (fInt w16)) (tyRef erased mut (tyInt w16)) 9
+  abbrev row10 : ℕ → Row
+  row10 k = mslice (rtF (fInt w16)) (tyRef erased mut (tyInt w16)) k
 
   abbrev row11 : Row
   row11 = mslice-owed (rtF (fInt w32)) (tyRef (named 7) mut (tyInt w32)) 7 10 (lease (κs .1 .1 .1 .1 .1 .1 .1 .0) (qs .1 .1 .1 .1 .1 .1 .1 .0))
 
-  abbrev row13 : Row
-  row13 = mslice (rtF (fInt w32)) (tyRef erased mut (tyInt w32)) 10
+  abbrev row13 : ℕ → Row
+  row13 k = mslice (rtF (fInt w32)) (tyRef erased mut (tyInt w32)) k
 
   abbrev row14 : Row
   row14 = sc-owed (Array (rtF (fInt w64)) 257) 11
@@ -71,17 +69,11 @@ module _ (κs : Lfts 9) (qs : Shares 9) where
   abbrev row15 : Row
   row15 = mref (Array (rtF (fInt w64)) 257) (tyRef erased mut (tyArray (tyInt w64) 257)) 11
 
-  abbrev row16 : Row
-  row16 = sc-owed (Array (rtF (fInt w32)) 256) 12
+  abbrev row16 : ℕ → Row
+  row16 k = sc-owed (Array (rtF (fInt w32)) 256) k
 
-  abbrev row17 : Row
-  row17 = mref (Array (rtF (fInt w32)) 256) (tyRef erased mut (tyArray (tyInt w32) 256)) 12
-
-  abbrev row18 : Row
-  row18 = sc-owed (Array (rtF (fInt w32)) 256) 13
-
-  abbrev row19 : Row
-  row19 = mref (Array (rtF (fInt w32)) 256) (tyRef erased mut (tyArray (tyInt w32) 256)) 13
+  abbrev row17 : ℕ → Row
+  row17 k = mref (Array (rtF (fInt w32)) 256) (tyRef erased mut (tyArray (tyInt w32) 256)) k
 
   abbrev row20 : Row
   row20 = msleft (rtF (fInt w16)) (tyRef erased mut (tyInt w16))
@@ -101,29 +93,17 @@ module _ (κs : Lfts 9) (qs : Shares 9) where
   abbrev row25 : Row
   row25 = sref (Array (rtF (fInt w64)) 257) (tyRef erased imm (tyArray (tyInt w64) 257)) 14
 
-  abbrev row26 : Row
-  row26 = sc-shr (arrF (rtF (fInt w32)) 256 0) (Array (rtF (fInt w32)) 256) (λ x. x) 15
+  abbrev row26 : ℕ → Row
+  row26 k = sc-shr (arrF (rtF (fInt w32)) 256 0) (Array (rtF (fInt w32)) 256) (λ x. x) k
 
-  abbrev row27 : Row
-  row27 = sref (Array (rtF (fInt w32)) 256) (tyRef erased imm (tyArray (tyInt w32) 256)) 15
-
-  abbrev row28 : Row
-  row28 = sc-shr (arrF (rtF (fInt w32)) 256 0) (Array (rtF (fInt w32)) 256) (λ x. x) 16
-
-  abbrev row29 : Row
-  row29 = sref (Array (rtF (fInt w32)) 256) (tyRef erased imm (tyArray (tyInt w32) 256)) 16
+  abbrev row27 : ℕ → Row
+  row27 k = sref (Array (rtF (fInt w32)) 256) (tyRef erased imm (tyArray (tyInt w32) 256)) k
 
   abbrev row30 : Row
   row30 = mslice-owedP (rtF (fInt w16)) (tyRef (named 6) mut (tyInt w16)) 6 17 (lease (κs .1 .1 .1 .1 .1 .1 .0) (qs .1 .1 .1 .1 .1 .1 .0))
 
-  abbrev row32 : Row
-  row32 = mslice (rtF (fInt w16)) (tyRef erased mut (tyInt w16)) 17
-
   abbrev row33 : Row
   row33 = mslice-owedP (rtF (fInt w32)) (tyRef (named 7) mut (tyInt w32)) 7 18 (lease (κs .1 .1 .1 .1 .1 .1 .1 .0) (qs .1 .1 .1 .1 .1 .1 .1 .0))
-
-  abbrev row35 : Row
-  row35 = mslice (rtF (fInt w32)) (tyRef erased mut (tyInt w32)) 18
 
   abbrev row36 : Row
   row36 = mref-owed (Array (rtF fBool) 256) (tyRef (named 8) mut (tyArray tyBool 256)) 8 19 (lease (κs .1 .1 .1 .1 .1 .1 .1 .1 .0) (qs .1 .1 .1 .1 .1 .1 .1 .1 .0))
@@ -177,31 +157,31 @@ module _ (κs : Lfts 9) (qs : Shares 9) where
   G29 = patched ((16, row5) ∷ (17, row7) ∷ (18, row7) ∷ []) ([]) G0
 
   abbrev pub G32 : Cx
-  G32 = patched ((13, row8) ∷ (16, row5) ∷ (17, row7) ∷ (18, row7) ∷ (24, row10) ∷ []) ((6, off) ∷ (9, alive) ∷ []) G0
+  G32 = patched ((13, row8) ∷ (16, row5) ∷ (17, row7) ∷ (18, row7) ∷ (24, row10 9) ∷ []) ((6, off) ∷ (9, alive) ∷ []) G0
 
   abbrev pub G35 : Cx
-  G35 = patched ((13, row8) ∷ (14, row11) ∷ (16, row5) ∷ (17, row7) ∷ (18, row7) ∷ (24, row10) ∷ (26, row13) ∷ []) ((6, off) ∷ (7, off) ∷ (9, alive) ∷ (10, alive) ∷ []) G0
+  G35 = patched ((13, row8) ∷ (14, row11) ∷ (16, row5) ∷ (17, row7) ∷ (18, row7) ∷ (24, row10 9) ∷ (26, row13 10) ∷ []) ((6, off) ∷ (7, off) ∷ (9, alive) ∷ (10, alive) ∷ []) G0
 
   abbrev pub G38 : Cx
-  G38 = patched ((13, row8) ∷ (14, row11) ∷ (16, row14) ∷ (17, row7) ∷ (18, row7) ∷ (24, row10) ∷ (26, row13) ∷ (27, row15) ∷ []) ((6, off) ∷ (7, off) ∷ (9, alive) ∷ (10, alive) ∷ (11, alive) ∷ (12, alive) ∷ []) G0
+  G38 = patched ((13, row8) ∷ (14, row11) ∷ (16, row14) ∷ (17, row7) ∷ (18, row7) ∷ (24, row10 9) ∷ (26, row13 10) ∷ (27, row15) ∷ []) ((6, off) ∷ (7, off) ∷ (9, alive) ∷ (10, alive) ∷ (11, alive) ∷ (12, alive) ∷ []) G0
 
   abbrev pub G41 : Cx
-  G41 = patched ((13, row8) ∷ (14, row11) ∷ (16, row14) ∷ (17, row16) ∷ (18, row18) ∷ (24, row10) ∷ (26, row13) ∷ (27, row15) ∷ (28, row17) ∷ (29, row19) ∷ []) ((6, off) ∷ (7, off) ∷ (9, alive) ∷ (10, alive) ∷ (11, alive) ∷ (12, alive) ∷ (13, alive) ∷ []) G0
+  G41 = patched ((13, row8) ∷ (14, row11) ∷ (16, row14) ∷ (17, row16 12) ∷ (18, row16 13) ∷ (24, row10 9) ∷ (26, row13 10) ∷ (27, row15) ∷ (28, row17 12) ∷ (29, row17 13) ∷ []) ((6, off) ∷ (7, off) ∷ (9, alive) ∷ (10, alive) ∷ (11, alive) ∷ (12, alive) ∷ (13, alive) ∷ []) G0
 
   abbrev pub G42 : Cx
-  G42 = patched ((13, row8) ∷ (14, row11) ∷ (16, row14) ∷ (17, row16) ∷ (18, row18) ∷ (22, row3) ∷ (24, row20) ∷ (26, row21) ∷ (27, row22) ∷ (28, row23) ∷ (29, row23) ∷ []) ((6, off) ∷ (7, off) ∷ (9, alive) ∷ (10, alive) ∷ (11, alive) ∷ (12, alive) ∷ (13, alive) ∷ []) G0
+  G42 = patched ((13, row8) ∷ (14, row11) ∷ (16, row14) ∷ (17, row16 12) ∷ (18, row16 13) ∷ (22, row3) ∷ (24, row20) ∷ (26, row21) ∷ (27, row22) ∷ (28, row23) ∷ (29, row23) ∷ []) ((6, off) ∷ (7, off) ∷ (9, alive) ∷ (10, alive) ∷ (11, alive) ∷ (12, alive) ∷ (13, alive) ∷ []) G0
 
   abbrev pub G45 : Cx
-  G45 = patched ((14, row11) ∷ (16, row14) ∷ (17, row16) ∷ (18, row18) ∷ (26, row21) ∷ (27, row22) ∷ (28, row23) ∷ (29, row23) ∷ []) ((7, off) ∷ (9, dead) ∷ (10, alive) ∷ (11, alive) ∷ (12, alive) ∷ (13, alive) ∷ []) G0
+  G45 = patched ((14, row11) ∷ (16, row14) ∷ (17, row16 12) ∷ (18, row16 13) ∷ (26, row21) ∷ (27, row22) ∷ (28, row23) ∷ (29, row23) ∷ []) ((7, off) ∷ (9, dead) ∷ (10, alive) ∷ (11, alive) ∷ (12, alive) ∷ (13, alive) ∷ []) G0
 
   abbrev pub G49 : Cx
-  G49 = patched ((16, row14) ∷ (17, row16) ∷ (18, row18) ∷ (27, row22) ∷ (28, row23) ∷ (29, row23) ∷ []) ((10, dead) ∷ (11, alive) ∷ (12, alive) ∷ (13, alive) ∷ []) G0
+  G49 = patched ((16, row14) ∷ (17, row16 12) ∷ (18, row16 13) ∷ (27, row22) ∷ (28, row23) ∷ (29, row23) ∷ []) ((10, dead) ∷ (11, alive) ∷ (12, alive) ∷ (13, alive) ∷ []) G0
 
   abbrev pub G53 : Cx
-  G53 = patched ((16, row5) ∷ (17, row16) ∷ (18, row18) ∷ (28, row23) ∷ (29, row23) ∷ []) ((11, dead) ∷ (12, alive) ∷ (13, alive) ∷ []) G0
+  G53 = patched ((16, row5) ∷ (17, row16 12) ∷ (18, row16 13) ∷ (28, row23) ∷ (29, row23) ∷ []) ((11, dead) ∷ (12, alive) ∷ (13, alive) ∷ []) G0
 
   abbrev pub G56 : Cx
-  G56 = patched ((16, row5) ∷ (17, row7) ∷ (18, row18) ∷ (29, row23) ∷ []) ((12, dead) ∷ (13, alive) ∷ []) G0
+  G56 = patched ((16, row5) ∷ (17, row7) ∷ (18, row16 13) ∷ (29, row23) ∷ []) ((12, dead) ∷ (13, alive) ∷ []) G0
 
   abbrev pub G59 : Cx
   G59 = patched ((16, row5) ∷ (17, row7) ∷ (18, row7) ∷ []) ((13, dead) ∷ []) G0
@@ -210,31 +190,31 @@ module _ (κs : Lfts 9) (qs : Shares 9) where
   G63 = patched ((16, row24) ∷ (17, row7) ∷ (18, row7) ∷ (30, row25) ∷ []) ((14, alive) ∷ (15, alive) ∷ []) G0
 
   abbrev pub G66 : Cx
-  G66 = patched ((16, row24) ∷ (17, row26) ∷ (18, row28) ∷ (30, row25) ∷ (31, row27) ∷ (32, row29) ∷ []) ((14, alive) ∷ (15, alive) ∷ (16, alive) ∷ []) G0
+  G66 = patched ((16, row24) ∷ (17, row26 15) ∷ (18, row26 16) ∷ (30, row25) ∷ (31, row27 15) ∷ (32, row27 16) ∷ []) ((14, alive) ∷ (15, alive) ∷ (16, alive) ∷ []) G0
 
   abbrev pub G69 : Cx
-  G69 = patched ((13, row30) ∷ (16, row24) ∷ (17, row26) ∷ (18, row28) ∷ (30, row25) ∷ (31, row27) ∷ (32, row29) ∷ (34, row32) ∷ []) ((6, off) ∷ (14, alive) ∷ (15, alive) ∷ (16, alive) ∷ (17, alive) ∷ []) G0
+  G69 = patched ((13, row30) ∷ (16, row24) ∷ (17, row26 15) ∷ (18, row26 16) ∷ (30, row25) ∷ (31, row27 15) ∷ (32, row27 16) ∷ (34, row10 17) ∷ []) ((6, off) ∷ (14, alive) ∷ (15, alive) ∷ (16, alive) ∷ (17, alive) ∷ []) G0
 
   abbrev pub G72 : Cx
-  G72 = patched ((13, row30) ∷ (14, row33) ∷ (16, row24) ∷ (17, row26) ∷ (18, row28) ∷ (30, row25) ∷ (31, row27) ∷ (32, row29) ∷ (34, row32) ∷ (36, row35) ∷ []) ((6, off) ∷ (7, off) ∷ (14, alive) ∷ (15, alive) ∷ (16, alive) ∷ (17, alive) ∷ (18, alive) ∷ []) G0
+  G72 = patched ((13, row30) ∷ (14, row33) ∷ (16, row24) ∷ (17, row26 15) ∷ (18, row26 16) ∷ (30, row25) ∷ (31, row27 15) ∷ (32, row27 16) ∷ (34, row10 17) ∷ (36, row13 18) ∷ []) ((6, off) ∷ (7, off) ∷ (14, alive) ∷ (15, alive) ∷ (16, alive) ∷ (17, alive) ∷ (18, alive) ∷ []) G0
 
   abbrev pub G74 : Cx
-  G74 = patched ((13, row30) ∷ (14, row33) ∷ (15, row36) ∷ (16, row24) ∷ (17, row26) ∷ (18, row28) ∷ (30, row25) ∷ (31, row27) ∷ (32, row29) ∷ (34, row32) ∷ (36, row35) ∷ (37, row37) ∷ []) ((6, off) ∷ (7, off) ∷ (8, off) ∷ (14, alive) ∷ (15, alive) ∷ (16, alive) ∷ (17, alive) ∷ (18, alive) ∷ (19, alive) ∷ []) G0
+  G74 = patched ((13, row30) ∷ (14, row33) ∷ (15, row36) ∷ (16, row24) ∷ (17, row26 15) ∷ (18, row26 16) ∷ (30, row25) ∷ (31, row27 15) ∷ (32, row27 16) ∷ (34, row10 17) ∷ (36, row13 18) ∷ (37, row37) ∷ []) ((6, off) ∷ (7, off) ∷ (8, off) ∷ (14, alive) ∷ (15, alive) ∷ (16, alive) ∷ (17, alive) ∷ (18, alive) ∷ (19, alive) ∷ []) G0
 
   abbrev pub G75 : Cx
-  G75 = patched ((13, row30) ∷ (14, row33) ∷ (15, row36) ∷ (16, row24) ∷ (17, row26) ∷ (18, row28) ∷ (22, row3) ∷ (30, row25) ∷ (31, row27) ∷ (32, row29) ∷ (34, row20) ∷ (36, row21) ∷ (37, row38) ∷ []) ((6, off) ∷ (7, off) ∷ (8, off) ∷ (14, alive) ∷ (15, alive) ∷ (16, alive) ∷ (17, alive) ∷ (18, alive) ∷ (19, alive) ∷ []) G0
+  G75 = patched ((13, row30) ∷ (14, row33) ∷ (15, row36) ∷ (16, row24) ∷ (17, row26 15) ∷ (18, row26 16) ∷ (22, row3) ∷ (30, row25) ∷ (31, row27 15) ∷ (32, row27 16) ∷ (34, row20) ∷ (36, row21) ∷ (37, row38) ∷ []) ((6, off) ∷ (7, off) ∷ (8, off) ∷ (14, alive) ∷ (15, alive) ∷ (16, alive) ∷ (17, alive) ∷ (18, alive) ∷ (19, alive) ∷ []) G0
 
   abbrev pub G78 : Cx
-  G78 = patched ((13, row30) ∷ (14, row33) ∷ (15, row36) ∷ (16, row24) ∷ (17, row26) ∷ (18, row28) ∷ (22, row3) ∷ (34, row20) ∷ (36, row21) ∷ (37, row38) ∷ []) ((6, off) ∷ (7, off) ∷ (8, off) ∷ (14, alive) ∷ (15, alive) ∷ (16, alive) ∷ (17, alive) ∷ (18, alive) ∷ (19, alive) ∷ []) G0
+  G78 = patched ((13, row30) ∷ (14, row33) ∷ (15, row36) ∷ (16, row24) ∷ (17, row26 15) ∷ (18, row26 16) ∷ (22, row3) ∷ (34, row20) ∷ (36, row21) ∷ (37, row38) ∷ []) ((6, off) ∷ (7, off) ∷ (8, off) ∷ (14, alive) ∷ (15, alive) ∷ (16, alive) ∷ (17, alive) ∷ (18, alive) ∷ (19, alive) ∷ []) G0
 
   abbrev pub G81 : Cx
-  G81 = patched ((13, row30) ∷ (14, row33) ∷ (15, row36) ∷ (16, row5) ∷ (17, row26) ∷ (18, row28) ∷ (34, row20) ∷ (36, row21) ∷ (37, row38) ∷ []) ((6, off) ∷ (7, off) ∷ (8, off) ∷ (14, dead) ∷ (15, alive) ∷ (16, alive) ∷ (17, alive) ∷ (18, alive) ∷ (19, alive) ∷ []) G0
+  G81 = patched ((13, row30) ∷ (14, row33) ∷ (15, row36) ∷ (16, row5) ∷ (17, row26 15) ∷ (18, row26 16) ∷ (34, row20) ∷ (36, row21) ∷ (37, row38) ∷ []) ((6, off) ∷ (7, off) ∷ (8, off) ∷ (14, dead) ∷ (15, alive) ∷ (16, alive) ∷ (17, alive) ∷ (18, alive) ∷ (19, alive) ∷ []) G0
 
   abbrev pub G84 : Cx
-  G84 = patched ((13, row30) ∷ (14, row33) ∷ (15, row36) ∷ (17, row26) ∷ (18, row28) ∷ (34, row20) ∷ (36, row21) ∷ (37, row38) ∷ []) ((6, off) ∷ (7, off) ∷ (8, off) ∷ (15, dead) ∷ (16, alive) ∷ (17, alive) ∷ (18, alive) ∷ (19, alive) ∷ []) G0
+  G84 = patched ((13, row30) ∷ (14, row33) ∷ (15, row36) ∷ (17, row26 15) ∷ (18, row26 16) ∷ (34, row20) ∷ (36, row21) ∷ (37, row38) ∷ []) ((6, off) ∷ (7, off) ∷ (8, off) ∷ (15, dead) ∷ (16, alive) ∷ (17, alive) ∷ (18, alive) ∷ (19, alive) ∷ []) G0
 
   abbrev pub G87 : Cx
-  G87 = patched ((13, row30) ∷ (14, row33) ∷ (15, row36) ∷ (18, row28) ∷ (34, row20) ∷ (36, row21) ∷ (37, row38) ∷ []) ((6, off) ∷ (7, off) ∷ (8, off) ∷ (16, alive) ∷ (17, alive) ∷ (18, alive) ∷ (19, alive) ∷ []) G0
+  G87 = patched ((13, row30) ∷ (14, row33) ∷ (15, row36) ∷ (18, row26 16) ∷ (34, row20) ∷ (36, row21) ∷ (37, row38) ∷ []) ((6, off) ∷ (7, off) ∷ (8, off) ∷ (16, alive) ∷ (17, alive) ∷ (18, alive) ∷ (19, alive) ∷ []) G0
 
   abbrev pub G90 : Cx
   G90 = patched ((13, row30) ∷ (14, row33) ∷ (15, row36) ∷ (18, row7) ∷ (34, row20) ∷ (36, row21) ∷ (37, row38) ∷ []) ((6, off) ∷ (7, off) ∷ (8, off) ∷ (17, alive) ∷ (18, alive) ∷ (19, alive) ∷ []) G0
@@ -255,7 +235,7 @@ module _ (κs : Lfts 9) (qs : Shares 9) where
   Γ-after-view = G29
 
 module _ {M : Type 1} (𝓤 : URA M) (H : Heap 𝓤) (A : Atoms 𝓤) (W : Given 𝓤 H A) (𝓣 : Tables 𝓤 H)
-    (known0 : Knows 𝓤 H A W 𝓣 9 K0.ps K0.r R0.Asked R0.Learnt "pass_lists::view") (known1 : Knows 𝓤 H A W 𝓣 10 K1.ps K1.r R1.Asked R1.Learnt "topology::marks::removed_marks") (κs : Lfts 9) (qs : Shares 9) (bs : List ℕ) where
+    (known0 : Knows 𝓤 H A W 𝓣 9 K0.ps K0.r R0.Asked R0.Learnt "pass_lists::view") (known1 : Knows 𝓤 H A W 𝓣 10 K1.ps K1.r K1.Asked K1.Learnt "topology::marks::removed_marks") (κs : Lfts 9) (qs : Shares 9) (bs : List ℕ) where
   abbrev E : Env 𝓤 H
   E = EnvOf 𝓤 H (tyR r ∷ tysP ps xs) bs
 
@@ -275,7 +255,7 @@ module _ {M : Type 1} (𝓤 : URA M) (H : Heap 𝓤) (A : Atoms 𝓤) (W : Given
       stmt _ (G72 κs qs) (t-sl-aggregate 𝓤 H A W E (rtF (fInt w32)) 𝓣 (asMut (rtF (fInt w32))) _ 35 36 18 (tyRef erased mut (tyInt w32)) (tyRef erased mut (tyInt w32)) (λ x. x) (oAt 7 (tyInt w64) (valS (sInt w64))) (as-is 𝓤 H A (msptr (rtF (fInt w32)) (tyRef erased mut (tyInt w32)) 18)) (room-gone 𝓤 H A _) (reads-sc 𝓤 H A W (sInt w64), refl) refl refl (λ b o k. tt)) $
       ghosts (G72 κs qs) _ (g-begin 𝓤 H A W E (G72 κs qs) 19 _) $
       stmt _ (G74 κs qs) (t-mref-relend 𝓤 H A W E 𝓣 _ 15 37 8 19 (Array (rtF fBool) 256) (tyArray tyBool 256) (tyRef (named 8) mut (tyArray tyBool 256)) (tyRef erased mut (tyArray tyBool 256)) (lease (κs .1 .1 .1 .1 .1 .1 .1 .1 .0) (qs .1 .1 .1 .1 .1 .1 .1 .1 .0)) (λ x. x) (as-is 𝓤 H A (mref (Array (rtF fBool) 256) (tyRef (named 8) mut (tyArray tyBool 256)) 8)) (room-gone 𝓤 H A (tyRef erased mut (tyArray tyBool 256))) refl tt refl refl (λ b o. tt)) $
-      stmt (G74 κs qs) (G75 κs qs) (t-call-plain 𝓤 H A W 𝓣 10 K1.ps K1.r R1.Asked R1.Learnt "topology::marks::removed_marks" known1 E (λ pos β. β) (G74 κs qs) (vAt 1 (λ x. x), (record { pos = 2; ty = tyRef (named 0) imm (pointee (twin-0.the-row .written)); ref = λ x. x }, (vAt 7 (λ x. x), (vAt 9 (λ x. x), (record { pos = 10; ty = tyRef (named 3) imm (tyInt w64); ref = λ x. x }, (record { pos = 11; ty = tyRef (named 4) imm (tyInt w32); ref = λ x. x }, (record { pos = 12; ty = tyRef (named 5) imm (tyInt w32); ref = λ x. x }, (record { pos = 30; ty = tyRef erased imm (tyArray (tyInt w64) 257); ref = λ x. x }, (record { pos = 31; ty = tyRef erased imm (tyArray (tyInt w32) 256); ref = λ x. x }, (record { pos = 32; ty = tyRef erased imm (tyArray (tyInt w32) 256); ref = λ x. x }, (record { pos = 34; ty = tyRef erased mut (tyInt w16); ref = λ x. x }, (record { pos = 36; ty = tyRef erased mut (tyInt w32); ref = λ x. x }, (record { pos = 37; ty = tyRef erased mut (tyArray tyBool 256); ref = λ x. x }, tt))))))))))))) 22 (0 ∷ 3 ∷ 4 ∷ 5 ∷ 14 ∷ 15 ∷ 16 ∷ 17 ∷ 18 ∷ 19 ∷ []) (sub-id 𝓤 H A W ((G74 κs qs) .slots)) ((reads-sc 𝓤 H A W (sInt w64), refl), (spares-sslice 𝓤 H A W twin-0.the-row (tyRef (named 0) imm (pointee (twin-0.the-row .written))) 0, reads-sslice 𝓤 H A W twin-0.the-row (tyRef (named 0) imm (pointee (twin-0.the-row .written))) 0, refl, ((reads-sc 𝓤 H A W (sInt w64), refl), ((reads-sc 𝓤 H A W (sInt w64), refl), (spares-sslice 𝓤 H A W (rtF (fInt w64)) (tyRef (named 3) imm (tyInt w64)) 3, reads-sslice 𝓤 H A W (rtF (fInt w64)) (tyRef (named 3) imm (tyInt w64)) 3, refl, (spares-sslice 𝓤 H A W (rtF (fInt w32)) (tyRef (named 4) imm (tyInt w32)) 4, reads-sslice 𝓤 H A W (rtF (fInt w32)) (tyRef (named 4) imm (tyInt w32)) 4, refl, (spares-sslice 𝓤 H A W (rtF (fInt w32)) (tyRef (named 5) imm (tyInt w32)) 5, reads-sslice 𝓤 H A W (rtF (fInt w32)) (tyRef (named 5) imm (tyInt w32)) 5, refl, (spares-sref 𝓤 H A W (Array (rtF (fInt w64)) 257) (tyRef erased imm (tyArray (tyInt w64) 257)) 14, reads-sref 𝓤 H A W (Array (rtF (fInt w64)) 257) (tyRef erased imm (tyArray (tyInt w64) 257)) 14, refl, (spares-sref 𝓤 H A W (Array (rtF (fInt w32)) 256) (tyRef erased imm (tyArray (tyInt w32) 256)) 15, reads-sref 𝓤 H A W (Array (rtF (fInt w32)) 256) (tyRef erased imm (tyArray (tyInt w32) 256)) 15, refl, (spares-sref 𝓤 H A W (Array (rtF (fInt w32)) 256) (tyRef erased imm (tyArray (tyInt w32) 256)) 16, reads-sref 𝓤 H A W (Array (rtF (fInt w32)) 256) (tyRef erased imm (tyArray (tyInt w32) 256)) 16, refl, (as-is 𝓤 H A (mslice (rtF (fInt w16)) (tyRef erased mut (tyInt w16)) 17), reads-mslice 𝓤 H A W (rtF (fInt w16)) (tyRef erased mut (tyInt w16)) 17, refl, (as-is 𝓤 H A (mslice (rtF (fInt w32)) (tyRef erased mut (tyInt w32)) 18), reads-mslice 𝓤 H A W (rtF (fInt w32)) (tyRef erased mut (tyInt w32)) 18, refl, (as-is 𝓤 H A (mref (Array (rtF fBool) 256) (tyRef erased mut (tyArray tyBool 256)) 19), reads-mref 𝓤 H A W (Array (rtF fBool) 256) (tyRef erased mut (tyArray tyBool 256)) 19, refl, tt))))))))))))) (room-gone 𝓤 H A tyUnit) _ refl) $
+      stmt (G74 κs qs) (G75 κs qs) (t-call-plain 𝓤 H A W 𝓣 10 K1.ps K1.r K1.Asked K1.Learnt "topology::marks::removed_marks" known1 E (λ pos β. β) (G74 κs qs) (vAt 1 (λ x. x), (record { pos = 2; ty = tyRef (named 0) imm (pointee (twin-0.the-row .written)); ref = λ x. x }, (vAt 7 (λ x. x), (vAt 9 (λ x. x), (record { pos = 10; ty = tyRef (named 3) imm (tyInt w64); ref = λ x. x }, (record { pos = 11; ty = tyRef (named 4) imm (tyInt w32); ref = λ x. x }, (record { pos = 12; ty = tyRef (named 5) imm (tyInt w32); ref = λ x. x }, (record { pos = 30; ty = tyRef erased imm (tyArray (tyInt w64) 257); ref = λ x. x }, (record { pos = 31; ty = tyRef erased imm (tyArray (tyInt w32) 256); ref = λ x. x }, (record { pos = 32; ty = tyRef erased imm (tyArray (tyInt w32) 256); ref = λ x. x }, (record { pos = 34; ty = tyRef erased mut (tyInt w16); ref = λ x. x }, (record { pos = 36; ty = tyRef erased mut (tyInt w32); ref = λ x. x }, (record { pos = 37; ty = tyRef erased mut (tyArray tyBool 256); ref = λ x. x }, tt))))))))))))) 22 (0 ∷ 3 ∷ 4 ∷ 5 ∷ 14 ∷ 15 ∷ 16 ∷ 17 ∷ 18 ∷ 19 ∷ []) (sub-id 𝓤 H A W ((G74 κs qs) .slots)) ((reads-sc 𝓤 H A W (sInt w64), refl), (spares-sslice 𝓤 H A W twin-0.the-row (tyRef (named 0) imm (pointee (twin-0.the-row .written))) 0, reads-sslice 𝓤 H A W twin-0.the-row (tyRef (named 0) imm (pointee (twin-0.the-row .written))) 0, refl, ((reads-sc 𝓤 H A W (sInt w64), refl), ((reads-sc 𝓤 H A W (sInt w64), refl), (spares-sslice 𝓤 H A W (rtF (fInt w64)) (tyRef (named 3) imm (tyInt w64)) 3, reads-sslice 𝓤 H A W (rtF (fInt w64)) (tyRef (named 3) imm (tyInt w64)) 3, refl, (spares-sslice 𝓤 H A W (rtF (fInt w32)) (tyRef (named 4) imm (tyInt w32)) 4, reads-sslice 𝓤 H A W (rtF (fInt w32)) (tyRef (named 4) imm (tyInt w32)) 4, refl, (spares-sslice 𝓤 H A W (rtF (fInt w32)) (tyRef (named 5) imm (tyInt w32)) 5, reads-sslice 𝓤 H A W (rtF (fInt w32)) (tyRef (named 5) imm (tyInt w32)) 5, refl, (spares-sref 𝓤 H A W (Array (rtF (fInt w64)) 257) (tyRef erased imm (tyArray (tyInt w64) 257)) 14, reads-sref 𝓤 H A W (Array (rtF (fInt w64)) 257) (tyRef erased imm (tyArray (tyInt w64) 257)) 14, refl, (spares-sref 𝓤 H A W (Array (rtF (fInt w32)) 256) (tyRef erased imm (tyArray (tyInt w32) 256)) 15, reads-sref 𝓤 H A W (Array (rtF (fInt w32)) 256) (tyRef erased imm (tyArray (tyInt w32) 256)) 15, refl, (spares-sref 𝓤 H A W (Array (rtF (fInt w32)) 256) (tyRef erased imm (tyArray (tyInt w32) 256)) 16, reads-sref 𝓤 H A W (Array (rtF (fInt w32)) 256) (tyRef erased imm (tyArray (tyInt w32) 256)) 16, refl, (as-is 𝓤 H A (mslice (rtF (fInt w16)) (tyRef erased mut (tyInt w16)) 17), reads-mslice 𝓤 H A W (rtF (fInt w16)) (tyRef erased mut (tyInt w16)) 17, refl, (as-is 𝓤 H A (mslice (rtF (fInt w32)) (tyRef erased mut (tyInt w32)) 18), reads-mslice 𝓤 H A W (rtF (fInt w32)) (tyRef erased mut (tyInt w32)) 18, refl, (as-is 𝓤 H A (mref (Array (rtF fBool) 256) (tyRef erased mut (tyArray tyBool 256)) 19), reads-mref 𝓤 H A W (Array (rtF fBool) 256) (tyRef erased mut (tyArray tyBool 256)) 19, refl, tt))))))))))))) (room-gone 𝓤 H A tyUnit) _ refl) $
       ghosts (G75 κs qs) _ (g-drop-sref 𝓤 H A W E (G75 κs qs) 30 14 (Array (rtF (fInt w64)) 257) (tyRef erased imm (tyArray (tyInt w64) 257)) (λ x. x) (as-is 𝓤 H A (sref (Array (rtF (fInt w64)) 257) (tyRef erased imm (tyArray (tyInt w64) 257)) 14))) $
       ghosts _ _ (g-drop-sref 𝓤 H A W E _ 31 15 (Array (rtF (fInt w32)) 256) (tyRef erased imm (tyArray (tyInt w32) 256)) (λ x. x) (as-is 𝓤 H A (sref (Array (rtF (fInt w32)) 256) (tyRef erased imm (tyArray (tyInt w32) 256)) 15))) $
       ghosts _ (G78 κs qs) (g-drop-sref 𝓤 H A W E _ 32 16 (Array (rtF (fInt w32)) 256) (tyRef erased imm (tyArray (tyInt w32) 256)) (λ x. x) (as-is 𝓤 H A (sref (Array (rtF (fInt w32)) 256) (tyRef erased imm (tyArray (tyInt w32) 256)) 16))) $
@@ -376,8 +356,8 @@ module _ (w : World) where
   abbrev known0-at : Knows (w .𝓤) (w .H) (w .𝓖 .A) (Wof w) (𝓣of w code.env) 9 K0.ps K0.r R0.Asked R0.Learnt "pass_lists::view"
   known0-at = R0.known w code.env S0.name S0.routine code.calls-pass-lists·view (M0.met (w .𝓤) (w .H) (w .𝓜) (w .𝓖) (w .𝓡))
 
-  abbrev known1-at : Knows (w .𝓤) (w .H) (w .𝓖 .A) (Wof w) (𝓣of w code.env) 10 K1.ps K1.r R1.Asked R1.Learnt "topology::marks::removed_marks"
-  known1-at = R1.known w code.env S1.name S1.routine code.calls-topology·marks·removed-marks (M1.met (w .𝓤) (w .H) (w .𝓜) (w .𝓖) (w .𝓡))
+  abbrev known1-at : Knows (w .𝓤) (w .H) (w .𝓖 .A) (Wof w) (𝓣of w code.env) 10 K1.ps K1.r K1.Asked K1.Learnt "topology::marks::removed_marks"
+  known1-at = K1.known w code.env S1.name S1.routine code.calls-topology·marks·removed-marks (M1.met (w .𝓤) (w .H) (w .𝓜) (w .𝓖) (w .𝓡))
 
 module _ (w : World) (κs : Lfts 9) (qs : Shares 9) (bs : List ℕ) where
   abbrev pub after-view-at : Der (Wof w) (𝓣of w code.env) (EnvOf (w .𝓤) (w .H) (tyR r ∷ tysP ps xs) bs) (G29 κs qs) (past 15 (code.function .body)) (Δret 9 ps r xs m κs qs)

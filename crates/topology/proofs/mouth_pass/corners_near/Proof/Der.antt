@@ -15,19 +15,17 @@ use Rattle.context.proofs.pairs.wide.Kinds as K2
 use Rattle.context.proofs.pairs.wide.Reads as R2
 use Rattle.context.proofs.pairs.wide.Symbol as S2
 use Rattle.context.proofs.pairs.wide.Met as M2
-use Rattle.topology.proofs.Seen.slice.record_at.Kinds as K3
-use Rattle.topology.proofs.Seen.slice.record_at.Reads as R3
+use Rattle.topology.proofs.Seen.slice.record_at as K3
 use Rattle.topology.proofs.slice.record_at.Symbol as S3
 use Rattle.topology.proofs.slice.record_at.Met as M3
 use Rattle.mouth_regions.proofs.near.region_near.Kinds as K4
 use Rattle.mouth_regions.proofs.near.region_near.Reads as R4
 use Rattle.mouth_regions.proofs.near.region_near.Symbol as S4
 use Rattle.mouth_regions.proofs.near.region_near.Met as M4
-use Rattle.topology.proofs.Seen.mouth_pass.corners_near.Kinds.{ps, r}
 use Rattle.topology.proofs.mouth_pass.corners_near.Code as code
 use contract.Running
 use Rattle.topology.proofs.Contracts.{Answers, Post, Pre, Wof, met, 𝓣of}
-use Rattle.topology.proofs.Seen.mouth_pass.corners_near.Reads.{the-contract}
+use Rattle.topology.proofs.Seen.mouth_pass.corners_near.{ps, r, the-contract}
 use Rattle.topology.proofs.mouth_pass.corners_near.Key as key
 use Rattle.topology.proofs.mouth_pass.corners_near.Statement.{statement}
 use Rattle.topology.proofs.Steps.{Der, _$_, blocks, exits1, first, ghosts, homes, last, loops, patched, rets, skips, stmt, test, then, typesPast}
@@ -118,7 +116,7 @@ module _ (κs : Lfts 4) (qs : Shares 4) where
   G44 = patched ((0, row2) ∷ (5, (any-gone (ty 5))) ∷ (6, (any-gone (ty 6))) ∷ (7, (any-gone (ty 7))) ∷ []) ([]) G0
 
 module _ {M : Type 1} (𝓤 : URA M) (H : Heap 𝓤) (A : Atoms 𝓤) (W : Given 𝓤 H A) (𝓣 : Tables 𝓤 H) (Inv·0 : InvT-loop) (μ·0 : MeasureT-loop)
-    (known0 : Knows 𝓤 H A W 𝓣 2 K0.ps K0.r R0.Asked R0.Learnt "mouth_regions::inner::places") (known1 : Knows 𝓤 H A W 𝓣 2 K1.ps K1.r R1.Asked R1.Learnt "mouth_regions::inner::inner_region") (known2 : Knows 𝓤 H A W 𝓣 0 K2.ps K2.r R2.Asked R2.Learnt "context::pairs::wide") (known3 : Knows 𝓤 H A W 𝓣 1 K3.ps K3.r R3.Asked R3.Learnt "topology::slice::record_at") (known4 : Knows 𝓤 H A W 𝓣 1 K4.ps K4.r R4.Asked R4.Learnt "mouth_regions::near::region_near") (κs : Lfts 4) (qs : Shares 4) (bs : List ℕ) where
+    (known0 : Knows 𝓤 H A W 𝓣 2 K0.ps K0.r R0.Asked R0.Learnt "mouth_regions::inner::places") (known1 : Knows 𝓤 H A W 𝓣 2 K1.ps K1.r R1.Asked R1.Learnt "mouth_regions::inner::inner_region") (known2 : Knows 𝓤 H A W 𝓣 0 K2.ps K2.r R2.Asked R2.Learnt "context::pairs::wide") (known3 : Knows 𝓤 H A W 𝓣 1 K3.ps K3.r K3.Asked K3.Learnt "topology::slice::record_at") (known4 : Knows 𝓤 H A W 𝓣 1 K4.ps K4.r R4.Asked R4.Learnt "mouth_regions::near::region_near") (κs : Lfts 4) (qs : Shares 4) (bs : List ℕ) where
   abbrev E : Env 𝓤 H
   E = EnvOf 𝓤 H (tyR r ∷ tysP ps xs) bs
 
@@ -144,7 +142,7 @@ module _ {M : Type 1} (𝓤 : URA M) (H : Heap 𝓤) (A : Atoms 𝓤) (W : Given
       test (G14 κs qs) 13 (λ x. x) (reads-sc 𝓤 H A W sBool) refl (
       ghosts (G14 κs qs) (G13 κs qs) (g-room 𝓤 H A W E (G14 κs qs) 13 tyBool (room-sc 𝓤 H A W sBool)) $
       stmt (G13 κs qs) (G17 κs qs) (t-op2 𝓤 H A W E 𝓣 (G13 κs qs) (sub unsigned) (oAt 11 (tyInt w64) (valS (sInt w64))) (oInt w64 _) 15 (sc-here (sInt w64)) (tyInt w64) (valS (sInt w64)) (sInt w64 .of) (reads-sc 𝓤 H A W (sInt w64), refl) tt (room-gone 𝓤 H A (tyInt w64)) (holds-sc 𝓤 H A W (sInt w64)) refl (λ u. refl) (λ u. tt)) $
-      stmt (G17 κs qs) (G18 κs qs) (t-call-plain 𝓤 H A W 𝓣 1 K3.ps K3.r R3.Asked R3.Learnt "topology::slice::record_at" known3 E (λ pos β. β) (G17 κs qs) (record { pos = 1; ty = tyRef (named 0) imm (pointee (Region.the-row .written)); ref = λ x. x }, (vAt 15 (λ x. x), tt)) 12 (0 ∷ []) (sub-id 𝓤 H A W ((G17 κs qs) .slots)) (spares-sslice 𝓤 H A W Region.the-row (tyRef (named 0) imm (pointee (Region.the-row .written))) 0, reads-sslice 𝓤 H A W Region.the-row (tyRef (named 0) imm (pointee (Region.the-row .written))) 0, refl, ((reads-sc 𝓤 H A W (sInt w64), refl), tt)) (room-gone 𝓤 H A _) _ refl) $
+      stmt (G17 κs qs) (G18 κs qs) (t-call-plain 𝓤 H A W 𝓣 1 K3.ps K3.r K3.Asked K3.Learnt "topology::slice::record_at" known3 E (λ pos β. β) (G17 κs qs) (record { pos = 1; ty = tyRef (named 0) imm (pointee (Region.the-row .written)); ref = λ x. x }, (vAt 15 (λ x. x), tt)) 12 (0 ∷ []) (sub-id 𝓤 H A W ((G17 κs qs) .slots)) (spares-sslice 𝓤 H A W Region.the-row (tyRef (named 0) imm (pointee (Region.the-row .written))) 0, reads-sslice 𝓤 H A W Region.the-row (tyRef (named 0) imm (pointee (Region.the-row .written))) 0, refl, ((reads-sc 𝓤 H A W (sInt w64), refl), tt)) (room-gone 𝓤 H A _) _ refl) $
       ghosts (G18 κs qs) _ (g-room 𝓤 H A W E (G18 κs qs) 15 (tyInt w64) (room-sc 𝓤 H A W (sInt w64))) $
       stmt _ (G20 κs qs) (t-op2 𝓤 H A W E 𝓣 _ eq (oAt 8 (tyInt w8) (valS (sInt w8))) (oInt w8 _) 17 (sc-here sBool) tyBool (valS sBool) (sBool .of) (reads-sc 𝓤 H A W (sInt w8), refl) tt (room-gone 𝓤 H A tyBool) (holds-sc 𝓤 H A W sBool) refl (λ u. refl) (λ u. tt)) $
       stmt (G20 κs qs) (G21 κs qs) (t-call-plain 𝓤 H A W 𝓣 1 K4.ps K4.r R4.Asked R4.Learnt "mouth_regions::near::region_near" known4 E (λ pos β. β) (G20 κs qs) (record { pos = 12; st = []; d = 0; at = λ x. x }, (record { pos = 2; ty = tyRef (named 1) imm (tyInt w64); ref = λ x. x }, (vAt 5 (λ x. x), (vAt 6 (λ x. x), (bAt 17 (λ x. x), tt))))) 16 (1 ∷ []) (sub-id 𝓤 H A W ((G20 κs qs) .slots)) ((yields-copy 𝓤 H A W (λ ρ. Unit) (row Region.the-type) refl (cStruct Region.the-type Laws.the-laws Laws.the-copy .copy 𝓤 H A W) (whole (row Region.the-type)) (λ x. x) (λ x. x) (λ ρ told. mem-whole 𝓤 H A W (row Region.the-type) ρ) (λ ρ told. whole-mem 𝓤 H A W (row Region.the-type) ρ), refl), (spares-sslice 𝓤 H A W (rtF (fInt w64)) (tyRef (named 1) imm (tyInt w64)) 1, reads-sslice 𝓤 H A W (rtF (fInt w64)) (tyRef (named 1) imm (tyInt w64)) 1, refl, ((reads-sc 𝓤 H A W (sInt w64), refl), ((reads-sc 𝓤 H A W (sInt w64), refl), ((reads-sc 𝓤 H A W sBool, refl), tt))))) (room-gone 𝓤 H A tyBool) _ refl) $
@@ -188,8 +186,8 @@ module _ (w : World) where
   abbrev known2-at : Knows (w .𝓤) (w .H) (w .𝓖 .A) (Wof w) (𝓣of w code.env) 0 K2.ps K2.r R2.Asked R2.Learnt "context::pairs::wide"
   known2-at = R2.known w code.env S2.name S2.routine code.calls-context·pairs·wide (M2.met (w .𝓤) (w .H) (w .𝓜) (w .𝓖) (w .𝓡))
 
-  abbrev known3-at : Knows (w .𝓤) (w .H) (w .𝓖 .A) (Wof w) (𝓣of w code.env) 1 K3.ps K3.r R3.Asked R3.Learnt "topology::slice::record_at"
-  known3-at = R3.known w code.env S3.name S3.routine code.calls-topology·slice·record-at (M3.met (w .𝓤) (w .H) (w .𝓜) (w .𝓖) (w .𝓡))
+  abbrev known3-at : Knows (w .𝓤) (w .H) (w .𝓖 .A) (Wof w) (𝓣of w code.env) 1 K3.ps K3.r K3.Asked K3.Learnt "topology::slice::record_at"
+  known3-at = K3.known w code.env S3.name S3.routine code.calls-topology·slice·record-at (M3.met (w .𝓤) (w .H) (w .𝓜) (w .𝓖) (w .𝓡))
 
   abbrev known4-at : Knows (w .𝓤) (w .H) (w .𝓖 .A) (Wof w) (𝓣of w code.env) 1 K4.ps K4.r R4.Asked R4.Learnt "mouth_regions::near::region_near"
   known4-at = R4.known w code.env S4.name S4.routine code.calls-mouth-regions·near·region-near (M4.met (w .𝓤) (w .H) (w .𝓜) (w .𝓖) (w .𝓡))

@@ -14,19 +14,17 @@ use Rattle.topology.proofs.entries.kind_at.Kinds as K2
 use Rattle.topology.proofs.entries.kind_at.Reads as R2
 use Rattle.topology.proofs.entries.kind_at.Symbol as S2
 use Rattle.topology.proofs.entries.kind_at.Met as M2
-use Rattle.topology.proofs.Seen.mouth_pass.corners_near.Kinds as K3
-use Rattle.topology.proofs.Seen.mouth_pass.corners_near.Reads as R3
+use Rattle.topology.proofs.Seen.mouth_pass.corners_near as K3
 use Rattle.topology.proofs.mouth_pass.corners_near.Symbol as S3
 use Rattle.topology.proofs.mouth_pass.corners_near.Met as M3
 use Rattle.topology.proofs.entries.put_near.Kinds as K4
 use Rattle.topology.proofs.entries.put_near.Reads as R4
 use Rattle.topology.proofs.entries.put_near.Symbol as S4
 use Rattle.topology.proofs.entries.put_near.Met as M4
-use Rattle.topology.proofs.Seen.mouth_pass.mark_near.Kinds.{ps, r}
 use Rattle.topology.proofs.mouth_pass.mark_near.Code as code
 use contract.Running
 use Rattle.topology.proofs.Contracts.{Answers, Post, Pre, Wof, met, 𝓣of}
-use Rattle.topology.proofs.Seen.mouth_pass.mark_near.Reads.{the-contract}
+use Rattle.topology.proofs.Seen.mouth_pass.mark_near.{ps, r, the-contract}
 use Rattle.topology.proofs.mouth_pass.mark_near.Key as key
 use Rattle.topology.proofs.mouth_pass.mark_near.Statement.{statement}
 use Rattle.topology.proofs.Steps.{Der, _$_, blocks, exits1, first, ghosts, homes, last, loops, patched, rets, skips, stmt, test, then, typesPast}
@@ -114,7 +112,7 @@ module _ (κs : Lfts 9) (qs : Shares 9) where
   G30 = patched ((0, row7) ∷ (9, (any-gone (ty 9))) ∷ []) ([]) G0
 
 module _ {M : Type 1} (𝓤 : URA M) (H : Heap 𝓤) (A : Atoms 𝓤) (W : Given 𝓤 H A) (𝓣 : Tables 𝓤 H) (Inv·0 : InvT-loop) (μ·0 : MeasureT-loop)
-    (known0 : Knows 𝓤 H A W 𝓣 1 K0.ps K0.r R0.Asked R0.Learnt "topology::entries::index_at") (known1 : Knows 𝓤 H A W 𝓣 1 K1.ps K1.r R1.Asked R1.Learnt "topology::entries::region_at") (known2 : Knows 𝓤 H A W 𝓣 1 K2.ps K2.r R2.Asked R2.Learnt "topology::entries::kind_at") (known3 : Knows 𝓤 H A W 𝓣 4 K3.ps K3.r R3.Asked R3.Learnt "topology::mouth_pass::corners_near") (known4 : Knows 𝓤 H A W 𝓣 1 K4.ps K4.r R4.Asked R4.Learnt "topology::entries::put_near") (κs : Lfts 9) (qs : Shares 9) (bs : List ℕ) where
+    (known0 : Knows 𝓤 H A W 𝓣 1 K0.ps K0.r R0.Asked R0.Learnt "topology::entries::index_at") (known1 : Knows 𝓤 H A W 𝓣 1 K1.ps K1.r R1.Asked R1.Learnt "topology::entries::region_at") (known2 : Knows 𝓤 H A W 𝓣 1 K2.ps K2.r R2.Asked R2.Learnt "topology::entries::kind_at") (known3 : Knows 𝓤 H A W 𝓣 4 K3.ps K3.r K3.Asked K3.Learnt "topology::mouth_pass::corners_near") (known4 : Knows 𝓤 H A W 𝓣 1 K4.ps K4.r R4.Asked R4.Learnt "topology::entries::put_near") (κs : Lfts 9) (qs : Shares 9) (bs : List ℕ) where
   abbrev E : Env 𝓤 H
   E = EnvOf 𝓤 H (tyR r ∷ tysP ps xs) bs
 
@@ -135,7 +133,7 @@ module _ {M : Type 1} (𝓤 : URA M) (H : Heap 𝓤) (A : Atoms 𝓤) (W : Given
       stmt (G10 κs qs) (G11 κs qs) (t-call-plain 𝓤 H A W 𝓣 1 K0.ps K0.r R0.Asked R0.Learnt "topology::entries::index_at" known0 E (λ pos β. β) (G10 κs qs) (record { pos = 6; ty = tyRef (named 5) imm (tyArray (tyInt w8) 16384); ref = λ x. x }, (vAt 11 (λ x. x), tt)) 15 (5 ∷ []) (sub-id 𝓤 H A W ((G10 κs qs) .slots)) (spares-sref 𝓤 H A W (Array (rtF (fInt w8)) 16384) (tyRef (named 5) imm (tyArray (tyInt w8) 16384)) 5, reads-sref 𝓤 H A W (Array (rtF (fInt w8)) 16384) (tyRef (named 5) imm (tyArray (tyInt w8) 16384)) 5, refl, ((reads-sc 𝓤 H A W (sInt w64), refl), tt)) (room-gone 𝓤 H A (tyInt w64)) _ refl) $
       stmt (G11 κs qs) (G12 κs qs) (t-call-plain 𝓤 H A W 𝓣 1 K1.ps K1.r R1.Asked R1.Learnt "topology::entries::region_at" known1 E (λ pos β. β) (G11 κs qs) (record { pos = 7; ty = tyRef (named 6) imm (tyArray (tyInt w32) 16384); ref = λ x. x }, (vAt 11 (λ x. x), tt)) 16 (6 ∷ []) (sub-id 𝓤 H A W ((G11 κs qs) .slots)) (spares-sref 𝓤 H A W (Array (rtF (fInt w32)) 16384) (tyRef (named 6) imm (tyArray (tyInt w32) 16384)) 6, reads-sref 𝓤 H A W (Array (rtF (fInt w32)) 16384) (tyRef (named 6) imm (tyArray (tyInt w32) 16384)) 6, refl, ((reads-sc 𝓤 H A W (sInt w64), refl), tt)) (room-gone 𝓤 H A (tyInt w32)) _ refl) $
       stmt (G12 κs qs) (G13 κs qs) (t-call-plain 𝓤 H A W 𝓣 1 K2.ps K2.r R2.Asked R2.Learnt "topology::entries::kind_at" known2 E (λ pos β. β) (G12 κs qs) (record { pos = 8; ty = tyRef (named 7) imm (tyArray (tyInt w8) 16384); ref = λ x. x }, (vAt 11 (λ x. x), tt)) 17 (7 ∷ []) (sub-id 𝓤 H A W ((G12 κs qs) .slots)) (spares-sref 𝓤 H A W (Array (rtF (fInt w8)) 16384) (tyRef (named 7) imm (tyArray (tyInt w8) 16384)) 7, reads-sref 𝓤 H A W (Array (rtF (fInt w8)) 16384) (tyRef (named 7) imm (tyArray (tyInt w8) 16384)) 7, refl, ((reads-sc 𝓤 H A W (sInt w64), refl), tt)) (room-gone 𝓤 H A (tyInt w8)) _ refl) $
-      stmt (G13 κs qs) (G14 κs qs) (t-call-plain 𝓤 H A W 𝓣 4 K3.ps K3.r R3.Asked R3.Learnt "topology::mouth_pass::corners_near" known3 E (λ pos β. β) (G13 κs qs) (record { pos = 1; ty = tyRef (named 0) imm (pointee (twin-0.the-row .written)); ref = λ x. x }, (record { pos = 2; ty = tyRef (named 1) imm (tyInt w64); ref = λ x. x }, (record { pos = 3; ty = tyRef (named 2) imm (tyInt w32); ref = λ x. x }, (record { pos = 4; ty = tyRef (named 3) imm (tyArray (tyInt w64) 257); ref = λ x. x }, (vAt 14 (λ x. x), (vAt 15 (λ x. x), (vAt 16 (λ x. x), (vAt 17 (λ x. x), tt)))))))) 12 (0 ∷ 1 ∷ 2 ∷ 3 ∷ []) (sub-id 𝓤 H A W ((G13 κs qs) .slots)) (spares-sslice 𝓤 H A W twin-0.the-row (tyRef (named 0) imm (pointee (twin-0.the-row .written))) 0, reads-sslice 𝓤 H A W twin-0.the-row (tyRef (named 0) imm (pointee (twin-0.the-row .written))) 0, refl, (spares-sslice 𝓤 H A W (rtF (fInt w64)) (tyRef (named 1) imm (tyInt w64)) 1, reads-sslice 𝓤 H A W (rtF (fInt w64)) (tyRef (named 1) imm (tyInt w64)) 1, refl, (spares-sslice 𝓤 H A W (rtF (fInt w32)) (tyRef (named 2) imm (tyInt w32)) 2, reads-sslice 𝓤 H A W (rtF (fInt w32)) (tyRef (named 2) imm (tyInt w32)) 2, refl, (spares-sref 𝓤 H A W (Array (rtF (fInt w64)) 257) (tyRef (named 3) imm (tyArray (tyInt w64) 257)) 3, reads-sref 𝓤 H A W (Array (rtF (fInt w64)) 257) (tyRef (named 3) imm (tyArray (tyInt w64) 257)) 3, refl, ((reads-sc 𝓤 H A W (sInt w64), refl), ((reads-sc 𝓤 H A W (sInt w64), refl), ((reads-sc 𝓤 H A W (sInt w32), refl), ((reads-sc 𝓤 H A W (sInt w8), refl), tt)))))))) (room-gone 𝓤 H A tyBool) _ refl) $
+      stmt (G13 κs qs) (G14 κs qs) (t-call-plain 𝓤 H A W 𝓣 4 K3.ps K3.r K3.Asked K3.Learnt "topology::mouth_pass::corners_near" known3 E (λ pos β. β) (G13 κs qs) (record { pos = 1; ty = tyRef (named 0) imm (pointee (twin-0.the-row .written)); ref = λ x. x }, (record { pos = 2; ty = tyRef (named 1) imm (tyInt w64); ref = λ x. x }, (record { pos = 3; ty = tyRef (named 2) imm (tyInt w32); ref = λ x. x }, (record { pos = 4; ty = tyRef (named 3) imm (tyArray (tyInt w64) 257); ref = λ x. x }, (vAt 14 (λ x. x), (vAt 15 (λ x. x), (vAt 16 (λ x. x), (vAt 17 (λ x. x), tt)))))))) 12 (0 ∷ 1 ∷ 2 ∷ 3 ∷ []) (sub-id 𝓤 H A W ((G13 κs qs) .slots)) (spares-sslice 𝓤 H A W twin-0.the-row (tyRef (named 0) imm (pointee (twin-0.the-row .written))) 0, reads-sslice 𝓤 H A W twin-0.the-row (tyRef (named 0) imm (pointee (twin-0.the-row .written))) 0, refl, (spares-sslice 𝓤 H A W (rtF (fInt w64)) (tyRef (named 1) imm (tyInt w64)) 1, reads-sslice 𝓤 H A W (rtF (fInt w64)) (tyRef (named 1) imm (tyInt w64)) 1, refl, (spares-sslice 𝓤 H A W (rtF (fInt w32)) (tyRef (named 2) imm (tyInt w32)) 2, reads-sslice 𝓤 H A W (rtF (fInt w32)) (tyRef (named 2) imm (tyInt w32)) 2, refl, (spares-sref 𝓤 H A W (Array (rtF (fInt w64)) 257) (tyRef (named 3) imm (tyArray (tyInt w64) 257)) 3, reads-sref 𝓤 H A W (Array (rtF (fInt w64)) 257) (tyRef (named 3) imm (tyArray (tyInt w64) 257)) 3, refl, ((reads-sc 𝓤 H A W (sInt w64), refl), ((reads-sc 𝓤 H A W (sInt w64), refl), ((reads-sc 𝓤 H A W (sInt w32), refl), ((reads-sc 𝓤 H A W (sInt w8), refl), tt)))))))) (room-gone 𝓤 H A tyBool) _ refl) $
       ghosts (G14 κs qs) _ (g-room 𝓤 H A W E (G14 κs qs) 14 (tyInt w64) (room-sc 𝓤 H A W (sInt w64))) $
       ghosts _ _ (g-room 𝓤 H A W E _ 15 (tyInt w64) (room-sc 𝓤 H A W (sInt w64))) $
       ghosts _ (G17 κs qs) (g-room 𝓤 H A W E _ 16 (tyInt w32) (room-sc 𝓤 H A W (sInt w32))) $
@@ -164,8 +162,8 @@ module _ (w : World) where
   abbrev known2-at : Knows (w .𝓤) (w .H) (w .𝓖 .A) (Wof w) (𝓣of w code.env) 1 K2.ps K2.r R2.Asked R2.Learnt "topology::entries::kind_at"
   known2-at = R2.known w code.env S2.name S2.routine code.calls-topology·entries·kind-at (M2.met (w .𝓤) (w .H) (w .𝓜) (w .𝓖) (w .𝓡))
 
-  abbrev known3-at : Knows (w .𝓤) (w .H) (w .𝓖 .A) (Wof w) (𝓣of w code.env) 4 K3.ps K3.r R3.Asked R3.Learnt "topology::mouth_pass::corners_near"
-  known3-at = R3.known w code.env S3.name S3.routine code.calls-topology·mouth-pass·corners-near (M3.met (w .𝓤) (w .H) (w .𝓜) (w .𝓖) (w .𝓡))
+  abbrev known3-at : Knows (w .𝓤) (w .H) (w .𝓖 .A) (Wof w) (𝓣of w code.env) 4 K3.ps K3.r K3.Asked K3.Learnt "topology::mouth_pass::corners_near"
+  known3-at = K3.known w code.env S3.name S3.routine code.calls-topology·mouth-pass·corners-near (M3.met (w .𝓤) (w .H) (w .𝓜) (w .𝓖) (w .𝓡))
 
   abbrev known4-at : Knows (w .𝓤) (w .H) (w .𝓖 .A) (Wof w) (𝓣of w code.env) 1 K4.ps K4.r R4.Asked R4.Learnt "topology::entries::put_near"
   known4-at = R4.known w code.env S4.name S4.routine code.calls-topology·entries·put-near (M4.met (w .𝓤) (w .H) (w .𝓜) (w .𝓖) (w .𝓡))

@@ -10,19 +10,17 @@ use Rattle.mouth_proposals.proofs.candidates.push_candidates.Kinds as K1
 use Rattle.mouth_proposals.proofs.candidates.push_candidates.Reads as R1
 use Rattle.mouth_proposals.proofs.candidates.push_candidates.Symbol as S1
 use Rattle.mouth_proposals.proofs.candidates.push_candidates.Met as M1
-use Rattle.topology.proofs.Seen.mouth_pass.mark_near.Kinds as K2
-use Rattle.topology.proofs.Seen.mouth_pass.mark_near.Reads as R2
+use Rattle.topology.proofs.Seen.mouth_pass.mark_near as K2
 use Rattle.topology.proofs.mouth_pass.mark_near.Symbol as S2
 use Rattle.topology.proofs.mouth_pass.mark_near.Met as M2
 use Rattle.mouth_selection.proofs.selection.select_mouths.Kinds as K3
 use Rattle.mouth_selection.proofs.selection.select_mouths.Reads as R3
 use Rattle.mouth_selection.proofs.selection.select_mouths.Symbol as S3
 use Rattle.mouth_selection.proofs.selection.select_mouths.Met as M3
-use Rattle.topology.proofs.Seen.mouth_pass.replace_ramp_mouths.Kinds.{ps, r}
 use Rattle.topology.proofs.mouth_pass.replace_ramp_mouths.Code as code
 use contract.Running
 use Rattle.topology.proofs.Contracts.{Answers, Post, Pre, Wof, met, 𝓣of}
-use Rattle.topology.proofs.Seen.mouth_pass.replace_ramp_mouths.Reads.{the-contract}
+use Rattle.topology.proofs.Seen.mouth_pass.replace_ramp_mouths.{ps, r, the-contract}
 use Rattle.topology.proofs.mouth_pass.replace_ramp_mouths.Key as key
 use Rattle.topology.proofs.mouth_pass.replace_ramp_mouths.Statement.{statement}
 use Rattle.topology.proofs.Steps.{Der, _$_, first, ghosts, homes, past, patched, rets, skips, stmt, test, typesPast}
@@ -79,29 +77,17 @@ module _ (κs : Lfts 8) (qs : Shares 8) where
   abbrev row13 : Row
   row13 = sslice (rtF (fInt w16)) (tyRef erased imm (tyInt w16)) 8
 
-  abbrev row14 : Row
-  row14 = sc-owed (Array (rtF (fInt w8)) 16384) 9
+  abbrev row14 : ℕ → Row
+  row14 k = sc-owed (Array (rtF (fInt w8)) 16384) k
 
-  abbrev row15 : Row
-  row15 = mref (Array (rtF (fInt w8)) 16384) (tyRef erased mut (tyArray (tyInt w8) 16384)) 9
-
-  abbrev row16 : Row
-  row16 = sc-owed (Array (rtF (fInt w8)) 16384) 10
-
-  abbrev row17 : Row
-  row17 = mref (Array (rtF (fInt w8)) 16384) (tyRef erased mut (tyArray (tyInt w8) 16384)) 10
+  abbrev row15 : ℕ → Row
+  row15 k = mref (Array (rtF (fInt w8)) 16384) (tyRef erased mut (tyArray (tyInt w8) 16384)) k
 
   abbrev row18 : Row
   row18 = sc-owed (Array (rtF (fInt w32)) 16384) 11
 
   abbrev row19 : Row
   row19 = mref (Array (rtF (fInt w32)) 16384) (tyRef erased mut (tyArray (tyInt w32) 16384)) 11
-
-  abbrev row20 : Row
-  row20 = sc-owed (Array (rtF (fInt w8)) 16384) 12
-
-  abbrev row21 : Row
-  row21 = mref (Array (rtF (fInt w8)) 16384) (tyRef erased mut (tyArray (tyInt w8) 16384)) 12
 
   abbrev row22 : Row
   row22 = sc-owed (Array (rtF (fInt w64)) 16384) 13
@@ -121,29 +107,17 @@ module _ (κs : Lfts 8) (qs : Shares 8) where
   abbrev row27 : Row
   row27 = mleft (Array (rtF (fInt w64)) 16384) (tyRef erased mut (tyArray (tyInt w64) 16384))
 
-  abbrev row28 : Row
-  row28 = sc-shr (arrF (rtF (fInt w8)) 16384 0) (Array (rtF (fInt w8)) 16384) (λ x. x) 14
+  abbrev row28 : ℕ → Row
+  row28 k = sc-shr (arrF (rtF (fInt w8)) 16384 0) (Array (rtF (fInt w8)) 16384) (λ x. x) k
 
-  abbrev row29 : Row
-  row29 = sref (Array (rtF (fInt w8)) 16384) (tyRef erased imm (tyArray (tyInt w8) 16384)) 14
+  abbrev row29 : ℕ → Row
+  row29 k = sref (Array (rtF (fInt w8)) 16384) (tyRef erased imm (tyArray (tyInt w8) 16384)) k
 
-  abbrev row30 : Row
-  row30 = sc-shr (arrF (rtF (fInt w8)) 16384 0) (Array (rtF (fInt w8)) 16384) (λ x. x) 15
+  abbrev row32 : ℕ → Row
+  row32 k = sc-shr (arrF (rtF (fInt w32)) 16384 0) (Array (rtF (fInt w32)) 16384) (λ x. x) k
 
-  abbrev row31 : Row
-  row31 = sref (Array (rtF (fInt w8)) 16384) (tyRef erased imm (tyArray (tyInt w8) 16384)) 15
-
-  abbrev row32 : Row
-  row32 = sc-shr (arrF (rtF (fInt w32)) 16384 0) (Array (rtF (fInt w32)) 16384) (λ x. x) 16
-
-  abbrev row33 : Row
-  row33 = sref (Array (rtF (fInt w32)) 16384) (tyRef erased imm (tyArray (tyInt w32) 16384)) 16
-
-  abbrev row34 : Row
-  row34 = sc-shr (arrF (rtF (fInt w8)) 16384 0) (Array (rtF (fInt w8)) 16384) (λ x. x) 17
-
-  abbrev row35 : Row
-  row35 = sref (Array (rtF (fInt w8)) 16384) (tyRef erased imm (tyArray (tyInt w8) 16384)) 17
+  abbrev row33 : ℕ → Row
+  row33 k = sref (Array (rtF (fInt w32)) 16384) (tyRef erased imm (tyArray (tyInt w32) 16384)) k
 
   abbrev row36 : Row
   row36 = sc-owed (Array (rtF fBool) 16384) 18
@@ -165,30 +139,6 @@ module _ (κs : Lfts 8) (qs : Shares 8) where
 
   abbrev row43 : Row
   row43 = mref (Array (rtF fBool) 256) (tyRef erased mut (tyArray tyBool 256)) 20
-
-  abbrev row44 : Row
-  row44 = sc-shr (arrF (rtF (fInt w8)) 16384 0) (Array (rtF (fInt w8)) 16384) (λ x. x) 21
-
-  abbrev row45 : Row
-  row45 = sref (Array (rtF (fInt w8)) 16384) (tyRef erased imm (tyArray (tyInt w8) 16384)) 21
-
-  abbrev row46 : Row
-  row46 = sc-shr (arrF (rtF (fInt w8)) 16384 0) (Array (rtF (fInt w8)) 16384) (λ x. x) 22
-
-  abbrev row47 : Row
-  row47 = sref (Array (rtF (fInt w8)) 16384) (tyRef erased imm (tyArray (tyInt w8) 16384)) 22
-
-  abbrev row48 : Row
-  row48 = sc-shr (arrF (rtF (fInt w32)) 16384 0) (Array (rtF (fInt w32)) 16384) (λ x. x) 23
-
-  abbrev row49 : Row
-  row49 = sref (Array (rtF (fInt w32)) 16384) (tyRef erased imm (tyArray (tyInt w32) 16384)) 23
-
-  abbrev row50 : Row
-  row50 = sc-shr (arrF (rtF (fInt w8)) 16384 0) (Array (rtF (fInt w8)) 16384) (λ x. x) 24
-
-  abbrev row51 : Row
-  row51 = sref (Array (rtF (fInt w8)) 16384) (tyRef erased imm (tyArray (tyInt w8) 16384)) 24
 
   abbrev row52 : Row
   row52 = sc-shr (arrF (rtF (fInt w64)) 16384 0) (Array (rtF (fInt w64)) 16384) (λ x. x) 25
@@ -245,31 +195,31 @@ module _ (κs : Lfts 8) (qs : Shares 8) where
   G28 = patched ((7, row11) ∷ (10, row4) ∷ (11, row4) ∷ (12, row6) ∷ (13, row4) ∷ (14, row8) ∷ (15, row10) ∷ (19, row12) ∷ []) ((5, off) ∷ (8, alive) ∷ []) G0
 
   abbrev pub G31 : Cx
-  G31 = patched ((7, row11) ∷ (10, row14) ∷ (11, row4) ∷ (12, row6) ∷ (13, row4) ∷ (14, row8) ∷ (15, row10) ∷ (20, row13) ∷ (21, row15) ∷ []) ((5, off) ∷ (8, alive) ∷ (9, alive) ∷ []) G0
+  G31 = patched ((7, row11) ∷ (10, row14 9) ∷ (11, row4) ∷ (12, row6) ∷ (13, row4) ∷ (14, row8) ∷ (15, row10) ∷ (20, row13) ∷ (21, row15 9) ∷ []) ((5, off) ∷ (8, alive) ∷ (9, alive) ∷ []) G0
 
   abbrev pub G34 : Cx
-  G34 = patched ((7, row11) ∷ (10, row14) ∷ (11, row16) ∷ (12, row6) ∷ (13, row4) ∷ (14, row8) ∷ (15, row10) ∷ (20, row13) ∷ (21, row15) ∷ (22, row17) ∷ []) ((5, off) ∷ (8, alive) ∷ (9, alive) ∷ (10, alive) ∷ (11, alive) ∷ []) G0
+  G34 = patched ((7, row11) ∷ (10, row14 9) ∷ (11, row14 10) ∷ (12, row6) ∷ (13, row4) ∷ (14, row8) ∷ (15, row10) ∷ (20, row13) ∷ (21, row15 9) ∷ (22, row15 10) ∷ []) ((5, off) ∷ (8, alive) ∷ (9, alive) ∷ (10, alive) ∷ (11, alive) ∷ []) G0
 
   abbrev pub G37 : Cx
-  G37 = patched ((7, row11) ∷ (10, row14) ∷ (11, row16) ∷ (12, row18) ∷ (13, row20) ∷ (14, row8) ∷ (15, row10) ∷ (20, row13) ∷ (21, row15) ∷ (22, row17) ∷ (23, row19) ∷ (24, row21) ∷ []) ((5, off) ∷ (8, alive) ∷ (9, alive) ∷ (10, alive) ∷ (11, alive) ∷ (12, alive) ∷ []) G0
+  G37 = patched ((7, row11) ∷ (10, row14 9) ∷ (11, row14 10) ∷ (12, row18) ∷ (13, row14 12) ∷ (14, row8) ∷ (15, row10) ∷ (20, row13) ∷ (21, row15 9) ∷ (22, row15 10) ∷ (23, row19) ∷ (24, row15 12) ∷ []) ((5, off) ∷ (8, alive) ∷ (9, alive) ∷ (10, alive) ∷ (11, alive) ∷ (12, alive) ∷ []) G0
 
   abbrev pub G39 : Cx
-  G39 = patched ((7, row11) ∷ (10, row14) ∷ (11, row16) ∷ (12, row18) ∷ (13, row20) ∷ (14, row22) ∷ (15, row10) ∷ (20, row13) ∷ (21, row15) ∷ (22, row17) ∷ (23, row19) ∷ (24, row21) ∷ (25, row23) ∷ []) ((5, off) ∷ (8, alive) ∷ (9, alive) ∷ (10, alive) ∷ (11, alive) ∷ (12, alive) ∷ (13, alive) ∷ []) G0
+  G39 = patched ((7, row11) ∷ (10, row14 9) ∷ (11, row14 10) ∷ (12, row18) ∷ (13, row14 12) ∷ (14, row22) ∷ (15, row10) ∷ (20, row13) ∷ (21, row15 9) ∷ (22, row15 10) ∷ (23, row19) ∷ (24, row15 12) ∷ (25, row23) ∷ []) ((5, off) ∷ (8, alive) ∷ (9, alive) ∷ (10, alive) ∷ (11, alive) ∷ (12, alive) ∷ (13, alive) ∷ []) G0
 
   abbrev pub G40 : Cx
-  G40 = patched ((7, row11) ∷ (10, row14) ∷ (11, row16) ∷ (12, row18) ∷ (13, row20) ∷ (14, row22) ∷ (15, row10) ∷ (16, row24) ∷ (20, row13) ∷ (21, row25) ∷ (22, row25) ∷ (23, row26) ∷ (24, row25) ∷ (25, row27) ∷ []) ((5, off) ∷ (8, alive) ∷ (9, alive) ∷ (10, alive) ∷ (11, alive) ∷ (12, alive) ∷ (13, alive) ∷ []) G0
+  G40 = patched ((7, row11) ∷ (10, row14 9) ∷ (11, row14 10) ∷ (12, row18) ∷ (13, row14 12) ∷ (14, row22) ∷ (15, row10) ∷ (16, row24) ∷ (20, row13) ∷ (21, row25) ∷ (22, row25) ∷ (23, row26) ∷ (24, row25) ∷ (25, row27) ∷ []) ((5, off) ∷ (8, alive) ∷ (9, alive) ∷ (10, alive) ∷ (11, alive) ∷ (12, alive) ∷ (13, alive) ∷ []) G0
 
   abbrev pub G43 : Cx
-  G43 = patched ((10, row14) ∷ (11, row16) ∷ (12, row18) ∷ (13, row20) ∷ (14, row22) ∷ (15, row10) ∷ (16, row24) ∷ (21, row25) ∷ (22, row25) ∷ (23, row26) ∷ (24, row25) ∷ (25, row27) ∷ []) ((8, dead) ∷ (9, alive) ∷ (10, alive) ∷ (11, alive) ∷ (12, alive) ∷ (13, alive) ∷ []) G0
+  G43 = patched ((10, row14 9) ∷ (11, row14 10) ∷ (12, row18) ∷ (13, row14 12) ∷ (14, row22) ∷ (15, row10) ∷ (16, row24) ∷ (21, row25) ∷ (22, row25) ∷ (23, row26) ∷ (24, row25) ∷ (25, row27) ∷ []) ((8, dead) ∷ (9, alive) ∷ (10, alive) ∷ (11, alive) ∷ (12, alive) ∷ (13, alive) ∷ []) G0
 
   abbrev pub G46 : Cx
-  G46 = patched ((10, row4) ∷ (11, row16) ∷ (12, row18) ∷ (13, row20) ∷ (14, row22) ∷ (15, row10) ∷ (16, row24) ∷ (22, row25) ∷ (23, row26) ∷ (24, row25) ∷ (25, row27) ∷ []) ((9, dead) ∷ (10, alive) ∷ (11, alive) ∷ (12, alive) ∷ (13, alive) ∷ []) G0
+  G46 = patched ((10, row4) ∷ (11, row14 10) ∷ (12, row18) ∷ (13, row14 12) ∷ (14, row22) ∷ (15, row10) ∷ (16, row24) ∷ (22, row25) ∷ (23, row26) ∷ (24, row25) ∷ (25, row27) ∷ []) ((9, dead) ∷ (10, alive) ∷ (11, alive) ∷ (12, alive) ∷ (13, alive) ∷ []) G0
 
   abbrev pub G49 : Cx
-  G49 = patched ((10, row4) ∷ (11, row4) ∷ (12, row18) ∷ (13, row20) ∷ (14, row22) ∷ (15, row10) ∷ (16, row24) ∷ (23, row26) ∷ (24, row25) ∷ (25, row27) ∷ []) ((10, dead) ∷ (11, alive) ∷ (12, alive) ∷ (13, alive) ∷ []) G0
+  G49 = patched ((10, row4) ∷ (11, row4) ∷ (12, row18) ∷ (13, row14 12) ∷ (14, row22) ∷ (15, row10) ∷ (16, row24) ∷ (23, row26) ∷ (24, row25) ∷ (25, row27) ∷ []) ((10, dead) ∷ (11, alive) ∷ (12, alive) ∷ (13, alive) ∷ []) G0
 
   abbrev pub G52 : Cx
-  G52 = patched ((10, row4) ∷ (11, row4) ∷ (12, row6) ∷ (13, row20) ∷ (14, row22) ∷ (15, row10) ∷ (16, row24) ∷ (24, row25) ∷ (25, row27) ∷ []) ((11, dead) ∷ (12, alive) ∷ (13, alive) ∷ []) G0
+  G52 = patched ((10, row4) ∷ (11, row4) ∷ (12, row6) ∷ (13, row14 12) ∷ (14, row22) ∷ (15, row10) ∷ (16, row24) ∷ (24, row25) ∷ (25, row27) ∷ []) ((11, dead) ∷ (12, alive) ∷ (13, alive) ∷ []) G0
 
   abbrev pub G55 : Cx
   G55 = patched ((10, row4) ∷ (11, row4) ∷ (12, row6) ∷ (13, row4) ∷ (14, row22) ∷ (15, row10) ∷ (16, row24) ∷ (25, row27) ∷ []) ((12, dead) ∷ (13, alive) ∷ []) G0
@@ -281,34 +231,34 @@ module _ (κs : Lfts 8) (qs : Shares 8) where
   G59 = patched ((10, row4) ∷ (11, row4) ∷ (12, row6) ∷ (13, row4) ∷ (14, row8) ∷ (15, row10) ∷ (16, row24) ∷ []) ([]) G0
 
   abbrev pub G62 : Cx
-  G62 = patched ((10, row28) ∷ (11, row4) ∷ (12, row6) ∷ (13, row4) ∷ (14, row8) ∷ (15, row10) ∷ (16, row24) ∷ (27, row29) ∷ []) ((14, alive) ∷ (15, alive) ∷ []) G0
+  G62 = patched ((10, row28 14) ∷ (11, row4) ∷ (12, row6) ∷ (13, row4) ∷ (14, row8) ∷ (15, row10) ∷ (16, row24) ∷ (27, row29 14) ∷ []) ((14, alive) ∷ (15, alive) ∷ []) G0
 
   abbrev pub G65 : Cx
-  G65 = patched ((10, row28) ∷ (11, row30) ∷ (12, row32) ∷ (13, row4) ∷ (14, row8) ∷ (15, row10) ∷ (16, row24) ∷ (27, row29) ∷ (28, row31) ∷ (29, row33) ∷ []) ((14, alive) ∷ (15, alive) ∷ (16, alive) ∷ []) G0
+  G65 = patched ((10, row28 14) ∷ (11, row28 15) ∷ (12, row32 16) ∷ (13, row4) ∷ (14, row8) ∷ (15, row10) ∷ (16, row24) ∷ (27, row29 14) ∷ (28, row29 15) ∷ (29, row33 16) ∷ []) ((14, alive) ∷ (15, alive) ∷ (16, alive) ∷ []) G0
 
   abbrev pub G68 : Cx
-  G68 = patched ((10, row28) ∷ (11, row30) ∷ (12, row32) ∷ (13, row34) ∷ (14, row8) ∷ (15, row10) ∷ (16, row24) ∷ (27, row29) ∷ (28, row31) ∷ (29, row33) ∷ (30, row35) ∷ []) ((14, alive) ∷ (15, alive) ∷ (16, alive) ∷ (17, alive) ∷ (18, alive) ∷ []) G0
+  G68 = patched ((10, row28 14) ∷ (11, row28 15) ∷ (12, row32 16) ∷ (13, row28 17) ∷ (14, row8) ∷ (15, row10) ∷ (16, row24) ∷ (27, row29 14) ∷ (28, row29 15) ∷ (29, row33 16) ∷ (30, row29 17) ∷ []) ((14, alive) ∷ (15, alive) ∷ (16, alive) ∷ (17, alive) ∷ (18, alive) ∷ []) G0
 
   abbrev pub G69 : Cx
-  G69 = patched ((10, row28) ∷ (11, row30) ∷ (12, row32) ∷ (13, row34) ∷ (14, row8) ∷ (15, row36) ∷ (16, row24) ∷ (27, row29) ∷ (28, row31) ∷ (29, row33) ∷ (30, row35) ∷ (31, row37) ∷ []) ((14, alive) ∷ (15, alive) ∷ (16, alive) ∷ (17, alive) ∷ (18, alive) ∷ []) G0
+  G69 = patched ((10, row28 14) ∷ (11, row28 15) ∷ (12, row32 16) ∷ (13, row28 17) ∷ (14, row8) ∷ (15, row36) ∷ (16, row24) ∷ (27, row29 14) ∷ (28, row29 15) ∷ (29, row33 16) ∷ (30, row29 17) ∷ (31, row37) ∷ []) ((14, alive) ∷ (15, alive) ∷ (16, alive) ∷ (17, alive) ∷ (18, alive) ∷ []) G0
 
   abbrev pub G70 : Cx
-  G70 = patched ((10, row28) ∷ (11, row30) ∷ (12, row32) ∷ (13, row34) ∷ (14, row8) ∷ (15, row36) ∷ (16, row24) ∷ (26, row2) ∷ (27, row29) ∷ (28, row31) ∷ (29, row33) ∷ (30, row35) ∷ (31, row38) ∷ []) ((14, alive) ∷ (15, alive) ∷ (16, alive) ∷ (17, alive) ∷ (18, alive) ∷ []) G0
+  G70 = patched ((10, row28 14) ∷ (11, row28 15) ∷ (12, row32 16) ∷ (13, row28 17) ∷ (14, row8) ∷ (15, row36) ∷ (16, row24) ∷ (26, row2) ∷ (27, row29 14) ∷ (28, row29 15) ∷ (29, row33 16) ∷ (30, row29 17) ∷ (31, row38) ∷ []) ((14, alive) ∷ (15, alive) ∷ (16, alive) ∷ (17, alive) ∷ (18, alive) ∷ []) G0
 
   abbrev pub G73 : Cx
-  G73 = patched ((10, row28) ∷ (11, row30) ∷ (12, row32) ∷ (13, row34) ∷ (14, row8) ∷ (15, row36) ∷ (16, row24) ∷ (26, row2) ∷ (30, row35) ∷ (31, row38) ∷ []) ((14, alive) ∷ (15, alive) ∷ (16, alive) ∷ (17, alive) ∷ (18, alive) ∷ []) G0
+  G73 = patched ((10, row28 14) ∷ (11, row28 15) ∷ (12, row32 16) ∷ (13, row28 17) ∷ (14, row8) ∷ (15, row36) ∷ (16, row24) ∷ (26, row2) ∷ (30, row29 17) ∷ (31, row38) ∷ []) ((14, alive) ∷ (15, alive) ∷ (16, alive) ∷ (17, alive) ∷ (18, alive) ∷ []) G0
 
   abbrev pub G76 : Cx
-  G76 = patched ((10, row28) ∷ (11, row30) ∷ (12, row32) ∷ (13, row34) ∷ (14, row8) ∷ (15, row36) ∷ (16, row24) ∷ (31, row38) ∷ []) ((14, dead) ∷ (15, alive) ∷ (16, alive) ∷ (17, alive) ∷ (18, alive) ∷ []) G0
+  G76 = patched ((10, row28 14) ∷ (11, row28 15) ∷ (12, row32 16) ∷ (13, row28 17) ∷ (14, row8) ∷ (15, row36) ∷ (16, row24) ∷ (31, row38) ∷ []) ((14, dead) ∷ (15, alive) ∷ (16, alive) ∷ (17, alive) ∷ (18, alive) ∷ []) G0
 
   abbrev pub G79 : Cx
-  G79 = patched ((10, row4) ∷ (11, row30) ∷ (12, row32) ∷ (13, row34) ∷ (14, row8) ∷ (15, row36) ∷ (16, row24) ∷ (31, row38) ∷ []) ((15, dead) ∷ (16, alive) ∷ (17, alive) ∷ (18, alive) ∷ []) G0
+  G79 = patched ((10, row4) ∷ (11, row28 15) ∷ (12, row32 16) ∷ (13, row28 17) ∷ (14, row8) ∷ (15, row36) ∷ (16, row24) ∷ (31, row38) ∷ []) ((15, dead) ∷ (16, alive) ∷ (17, alive) ∷ (18, alive) ∷ []) G0
 
   abbrev pub G82 : Cx
-  G82 = patched ((10, row4) ∷ (11, row4) ∷ (12, row32) ∷ (13, row34) ∷ (14, row8) ∷ (15, row36) ∷ (16, row24) ∷ (31, row38) ∷ []) ((16, dead) ∷ (17, alive) ∷ (18, alive) ∷ []) G0
+  G82 = patched ((10, row4) ∷ (11, row4) ∷ (12, row32 16) ∷ (13, row28 17) ∷ (14, row8) ∷ (15, row36) ∷ (16, row24) ∷ (31, row38) ∷ []) ((16, dead) ∷ (17, alive) ∷ (18, alive) ∷ []) G0
 
   abbrev pub G85 : Cx
-  G85 = patched ((10, row4) ∷ (11, row4) ∷ (12, row6) ∷ (13, row34) ∷ (14, row8) ∷ (15, row36) ∷ (16, row24) ∷ (31, row38) ∷ []) ((17, dead) ∷ (18, alive) ∷ []) G0
+  G85 = patched ((10, row4) ∷ (11, row4) ∷ (12, row6) ∷ (13, row28 17) ∷ (14, row8) ∷ (15, row36) ∷ (16, row24) ∷ (31, row38) ∷ []) ((17, dead) ∷ (18, alive) ∷ []) G0
 
   abbrev pub G88 : Cx
   G88 = patched ((10, row4) ∷ (11, row4) ∷ (12, row6) ∷ (13, row4) ∷ (14, row8) ∷ (15, row36) ∷ (16, row24) ∷ (31, row38) ∷ []) ((18, dead) ∷ []) G0
@@ -320,43 +270,43 @@ module _ (κs : Lfts 8) (qs : Shares 8) where
   G96 = patched ((7, row39) ∷ (9, row42) ∷ (10, row4) ∷ (11, row4) ∷ (12, row6) ∷ (13, row4) ∷ (14, row8) ∷ (15, row10) ∷ (16, row24) ∷ (33, row41) ∷ (34, row43) ∷ []) ((5, off) ∷ (7, off) ∷ (19, alive) ∷ (20, alive) ∷ (21, alive) ∷ []) G0
 
   abbrev pub G99 : Cx
-  G99 = patched ((7, row39) ∷ (9, row42) ∷ (10, row44) ∷ (11, row46) ∷ (12, row6) ∷ (13, row4) ∷ (14, row8) ∷ (15, row10) ∷ (16, row24) ∷ (33, row41) ∷ (34, row43) ∷ (35, row45) ∷ (36, row47) ∷ []) ((5, off) ∷ (7, off) ∷ (19, alive) ∷ (20, alive) ∷ (21, alive) ∷ (22, alive) ∷ []) G0
+  G99 = patched ((7, row39) ∷ (9, row42) ∷ (10, row28 21) ∷ (11, row28 22) ∷ (12, row6) ∷ (13, row4) ∷ (14, row8) ∷ (15, row10) ∷ (16, row24) ∷ (33, row41) ∷ (34, row43) ∷ (35, row29 21) ∷ (36, row29 22) ∷ []) ((5, off) ∷ (7, off) ∷ (19, alive) ∷ (20, alive) ∷ (21, alive) ∷ (22, alive) ∷ []) G0
 
   abbrev pub G102 : Cx
-  G102 = patched ((7, row39) ∷ (9, row42) ∷ (10, row44) ∷ (11, row46) ∷ (12, row48) ∷ (13, row4) ∷ (14, row8) ∷ (15, row10) ∷ (16, row24) ∷ (33, row41) ∷ (34, row43) ∷ (35, row45) ∷ (36, row47) ∷ (37, row49) ∷ []) ((5, off) ∷ (7, off) ∷ (19, alive) ∷ (20, alive) ∷ (21, alive) ∷ (22, alive) ∷ (23, alive) ∷ (24, alive) ∷ []) G0
+  G102 = patched ((7, row39) ∷ (9, row42) ∷ (10, row28 21) ∷ (11, row28 22) ∷ (12, row32 23) ∷ (13, row4) ∷ (14, row8) ∷ (15, row10) ∷ (16, row24) ∷ (33, row41) ∷ (34, row43) ∷ (35, row29 21) ∷ (36, row29 22) ∷ (37, row33 23) ∷ []) ((5, off) ∷ (7, off) ∷ (19, alive) ∷ (20, alive) ∷ (21, alive) ∷ (22, alive) ∷ (23, alive) ∷ (24, alive) ∷ []) G0
 
   abbrev pub G105 : Cx
-  G105 = patched ((7, row39) ∷ (9, row42) ∷ (10, row44) ∷ (11, row46) ∷ (12, row48) ∷ (13, row50) ∷ (14, row52) ∷ (15, row10) ∷ (16, row24) ∷ (33, row41) ∷ (34, row43) ∷ (35, row45) ∷ (36, row47) ∷ (37, row49) ∷ (38, row51) ∷ (39, row53) ∷ []) ((5, off) ∷ (7, off) ∷ (19, alive) ∷ (20, alive) ∷ (21, alive) ∷ (22, alive) ∷ (23, alive) ∷ (24, alive) ∷ (25, alive) ∷ []) G0
+  G105 = patched ((7, row39) ∷ (9, row42) ∷ (10, row28 21) ∷ (11, row28 22) ∷ (12, row32 23) ∷ (13, row28 24) ∷ (14, row52) ∷ (15, row10) ∷ (16, row24) ∷ (33, row41) ∷ (34, row43) ∷ (35, row29 21) ∷ (36, row29 22) ∷ (37, row33 23) ∷ (38, row29 24) ∷ (39, row53) ∷ []) ((5, off) ∷ (7, off) ∷ (19, alive) ∷ (20, alive) ∷ (21, alive) ∷ (22, alive) ∷ (23, alive) ∷ (24, alive) ∷ (25, alive) ∷ []) G0
 
   abbrev pub G107 : Cx
-  G107 = patched ((7, row39) ∷ (9, row42) ∷ (10, row44) ∷ (11, row46) ∷ (12, row48) ∷ (13, row50) ∷ (14, row52) ∷ (15, row54) ∷ (16, row24) ∷ (33, row41) ∷ (34, row43) ∷ (35, row45) ∷ (36, row47) ∷ (37, row49) ∷ (38, row51) ∷ (39, row53) ∷ (40, row55) ∷ []) ((5, off) ∷ (7, off) ∷ (19, alive) ∷ (20, alive) ∷ (21, alive) ∷ (22, alive) ∷ (23, alive) ∷ (24, alive) ∷ (25, alive) ∷ (26, alive) ∷ []) G0
+  G107 = patched ((7, row39) ∷ (9, row42) ∷ (10, row28 21) ∷ (11, row28 22) ∷ (12, row32 23) ∷ (13, row28 24) ∷ (14, row52) ∷ (15, row54) ∷ (16, row24) ∷ (33, row41) ∷ (34, row43) ∷ (35, row29 21) ∷ (36, row29 22) ∷ (37, row33 23) ∷ (38, row29 24) ∷ (39, row53) ∷ (40, row55) ∷ []) ((5, off) ∷ (7, off) ∷ (19, alive) ∷ (20, alive) ∷ (21, alive) ∷ (22, alive) ∷ (23, alive) ∷ (24, alive) ∷ (25, alive) ∷ (26, alive) ∷ []) G0
 
   abbrev pub G108 : Cx
-  G108 = patched ((7, row39) ∷ (9, row42) ∷ (10, row44) ∷ (11, row46) ∷ (12, row48) ∷ (13, row50) ∷ (14, row52) ∷ (15, row54) ∷ (16, row24) ∷ (26, row2) ∷ (33, row56) ∷ (34, row57) ∷ (35, row45) ∷ (36, row47) ∷ (37, row49) ∷ (38, row51) ∷ (39, row53) ∷ (40, row55) ∷ []) ((5, off) ∷ (7, off) ∷ (19, alive) ∷ (20, alive) ∷ (21, alive) ∷ (22, alive) ∷ (23, alive) ∷ (24, alive) ∷ (25, alive) ∷ (26, alive) ∷ []) G0
+  G108 = patched ((7, row39) ∷ (9, row42) ∷ (10, row28 21) ∷ (11, row28 22) ∷ (12, row32 23) ∷ (13, row28 24) ∷ (14, row52) ∷ (15, row54) ∷ (16, row24) ∷ (26, row2) ∷ (33, row56) ∷ (34, row57) ∷ (35, row29 21) ∷ (36, row29 22) ∷ (37, row33 23) ∷ (38, row29 24) ∷ (39, row53) ∷ (40, row55) ∷ []) ((5, off) ∷ (7, off) ∷ (19, alive) ∷ (20, alive) ∷ (21, alive) ∷ (22, alive) ∷ (23, alive) ∷ (24, alive) ∷ (25, alive) ∷ (26, alive) ∷ []) G0
 
   abbrev pub G111 : Cx
-  G111 = patched ((7, row39) ∷ (9, row42) ∷ (10, row44) ∷ (11, row46) ∷ (12, row48) ∷ (13, row50) ∷ (14, row52) ∷ (15, row54) ∷ (16, row24) ∷ (26, row2) ∷ (33, row56) ∷ (34, row57) ∷ (38, row51) ∷ (39, row53) ∷ (40, row55) ∷ []) ((5, off) ∷ (7, off) ∷ (19, alive) ∷ (20, alive) ∷ (21, alive) ∷ (22, alive) ∷ (23, alive) ∷ (24, alive) ∷ (25, alive) ∷ (26, alive) ∷ []) G0
+  G111 = patched ((7, row39) ∷ (9, row42) ∷ (10, row28 21) ∷ (11, row28 22) ∷ (12, row32 23) ∷ (13, row28 24) ∷ (14, row52) ∷ (15, row54) ∷ (16, row24) ∷ (26, row2) ∷ (33, row56) ∷ (34, row57) ∷ (38, row29 24) ∷ (39, row53) ∷ (40, row55) ∷ []) ((5, off) ∷ (7, off) ∷ (19, alive) ∷ (20, alive) ∷ (21, alive) ∷ (22, alive) ∷ (23, alive) ∷ (24, alive) ∷ (25, alive) ∷ (26, alive) ∷ []) G0
 
   abbrev pub G114 : Cx
-  G114 = patched ((7, row39) ∷ (9, row42) ∷ (10, row44) ∷ (11, row46) ∷ (12, row48) ∷ (13, row50) ∷ (14, row52) ∷ (15, row54) ∷ (16, row24) ∷ (26, row2) ∷ (33, row56) ∷ (34, row57) ∷ []) ((5, off) ∷ (7, off) ∷ (19, alive) ∷ (20, alive) ∷ (21, alive) ∷ (22, alive) ∷ (23, alive) ∷ (24, alive) ∷ (25, alive) ∷ (26, alive) ∷ []) G0
+  G114 = patched ((7, row39) ∷ (9, row42) ∷ (10, row28 21) ∷ (11, row28 22) ∷ (12, row32 23) ∷ (13, row28 24) ∷ (14, row52) ∷ (15, row54) ∷ (16, row24) ∷ (26, row2) ∷ (33, row56) ∷ (34, row57) ∷ []) ((5, off) ∷ (7, off) ∷ (19, alive) ∷ (20, alive) ∷ (21, alive) ∷ (22, alive) ∷ (23, alive) ∷ (24, alive) ∷ (25, alive) ∷ (26, alive) ∷ []) G0
 
   abbrev pub G117 : Cx
-  G117 = patched ((9, row42) ∷ (10, row44) ∷ (11, row46) ∷ (12, row48) ∷ (13, row50) ∷ (14, row52) ∷ (15, row54) ∷ (16, row24) ∷ (34, row57) ∷ []) ((7, off) ∷ (19, dead) ∷ (20, alive) ∷ (21, alive) ∷ (22, alive) ∷ (23, alive) ∷ (24, alive) ∷ (25, alive) ∷ (26, alive) ∷ []) G0
+  G117 = patched ((9, row42) ∷ (10, row28 21) ∷ (11, row28 22) ∷ (12, row32 23) ∷ (13, row28 24) ∷ (14, row52) ∷ (15, row54) ∷ (16, row24) ∷ (34, row57) ∷ []) ((7, off) ∷ (19, dead) ∷ (20, alive) ∷ (21, alive) ∷ (22, alive) ∷ (23, alive) ∷ (24, alive) ∷ (25, alive) ∷ (26, alive) ∷ []) G0
 
   abbrev pub G121 : Cx
-  G121 = patched ((10, row44) ∷ (11, row46) ∷ (12, row48) ∷ (13, row50) ∷ (14, row52) ∷ (15, row54) ∷ (16, row24) ∷ []) ((20, dead) ∷ (21, alive) ∷ (22, alive) ∷ (23, alive) ∷ (24, alive) ∷ (25, alive) ∷ (26, alive) ∷ []) G0
+  G121 = patched ((10, row28 21) ∷ (11, row28 22) ∷ (12, row32 23) ∷ (13, row28 24) ∷ (14, row52) ∷ (15, row54) ∷ (16, row24) ∷ []) ((20, dead) ∷ (21, alive) ∷ (22, alive) ∷ (23, alive) ∷ (24, alive) ∷ (25, alive) ∷ (26, alive) ∷ []) G0
 
   abbrev pub G124 : Cx
-  G124 = patched ((10, row4) ∷ (11, row46) ∷ (12, row48) ∷ (13, row50) ∷ (14, row52) ∷ (15, row54) ∷ (16, row24) ∷ []) ((21, dead) ∷ (22, alive) ∷ (23, alive) ∷ (24, alive) ∷ (25, alive) ∷ (26, alive) ∷ []) G0
+  G124 = patched ((10, row4) ∷ (11, row28 22) ∷ (12, row32 23) ∷ (13, row28 24) ∷ (14, row52) ∷ (15, row54) ∷ (16, row24) ∷ []) ((21, dead) ∷ (22, alive) ∷ (23, alive) ∷ (24, alive) ∷ (25, alive) ∷ (26, alive) ∷ []) G0
 
   abbrev pub G127 : Cx
-  G127 = patched ((11, row46) ∷ (12, row48) ∷ (13, row50) ∷ (14, row52) ∷ (15, row54) ∷ (16, row24) ∷ []) ((22, dead) ∷ (23, alive) ∷ (24, alive) ∷ (25, alive) ∷ (26, alive) ∷ []) G0
+  G127 = patched ((11, row28 22) ∷ (12, row32 23) ∷ (13, row28 24) ∷ (14, row52) ∷ (15, row54) ∷ (16, row24) ∷ []) ((22, dead) ∷ (23, alive) ∷ (24, alive) ∷ (25, alive) ∷ (26, alive) ∷ []) G0
 
   abbrev pub G130 : Cx
-  G130 = patched ((12, row48) ∷ (13, row50) ∷ (14, row52) ∷ (15, row54) ∷ (16, row24) ∷ []) ((23, alive) ∷ (24, alive) ∷ (25, alive) ∷ (26, alive) ∷ []) G0
+  G130 = patched ((12, row32 23) ∷ (13, row28 24) ∷ (14, row52) ∷ (15, row54) ∷ (16, row24) ∷ []) ((23, alive) ∷ (24, alive) ∷ (25, alive) ∷ (26, alive) ∷ []) G0
 
   abbrev pub G133 : Cx
-  G133 = patched ((12, row6) ∷ (13, row50) ∷ (14, row52) ∷ (15, row54) ∷ (16, row24) ∷ []) ((24, alive) ∷ (25, alive) ∷ (26, alive) ∷ []) G0
+  G133 = patched ((12, row6) ∷ (13, row28 24) ∷ (14, row52) ∷ (15, row54) ∷ (16, row24) ∷ []) ((24, alive) ∷ (25, alive) ∷ (26, alive) ∷ []) G0
 
   abbrev pub G136 : Cx
   G136 = patched ((13, row4) ∷ (14, row52) ∷ (15, row54) ∷ (16, row24) ∷ []) ((24, dead) ∷ (25, alive) ∷ (26, alive) ∷ []) G0
@@ -377,7 +327,7 @@ module _ (κs : Lfts 8) (qs : Shares 8) where
   Γ-from-select = G59
 
 module _ {M : Type 1} (𝓤 : URA M) (H : Heap 𝓤) (A : Atoms 𝓤) (W : Given 𝓤 H A) (𝓣 : Tables 𝓤 H)
-    (known0 : Knows 𝓤 H A W 𝓣 1 K0.ps K0.r R0.Asked R0.Learnt "mouth_proposals::candidates::any_ramp") (known1 : Knows 𝓤 H A W 𝓣 11 K1.ps K1.r R1.Asked R1.Learnt "mouth_proposals::candidates::push_candidates") (known2 : Knows 𝓤 H A W 𝓣 9 K2.ps K2.r R2.Asked R2.Learnt "topology::mouth_pass::mark_near") (known3 : Knows 𝓤 H A W 𝓣 11 K3.ps K3.r R3.Asked R3.Learnt "mouth_selection::selection::select_mouths") (κs : Lfts 8) (qs : Shares 8) (bs : List ℕ) where
+    (known0 : Knows 𝓤 H A W 𝓣 1 K0.ps K0.r R0.Asked R0.Learnt "mouth_proposals::candidates::any_ramp") (known1 : Knows 𝓤 H A W 𝓣 11 K1.ps K1.r R1.Asked R1.Learnt "mouth_proposals::candidates::push_candidates") (known2 : Knows 𝓤 H A W 𝓣 9 K2.ps K2.r K2.Asked K2.Learnt "topology::mouth_pass::mark_near") (known3 : Knows 𝓤 H A W 𝓣 11 K3.ps K3.r R3.Asked R3.Learnt "mouth_selection::selection::select_mouths") (κs : Lfts 8) (qs : Shares 8) (bs : List ℕ) where
   abbrev E : Env 𝓤 H
   E = EnvOf 𝓤 H (tyR r ∷ tysP ps xs) bs
 
@@ -455,7 +405,7 @@ module _ {M : Type 1} (𝓤 : URA M) (H : Heap 𝓤) (A : Atoms 𝓤) (W : Given
       stmt _ _ (t-sc-share 𝓤 H A W E 𝓣 _ 13 30 17 (Array (rtF (fInt w8)) 16384) (tyRef erased imm (tyArray (tyInt w8) 16384)) (λ x. x) (mem-arr 𝓤 H A W (rtF (fInt w8)) 16384) (room-gone 𝓤 H A (tyRef erased imm (tyArray (tyInt w8) 16384))) refl (λ b o. tt)) $
       ghosts _ (G68 κs qs) (g-begin 𝓤 H A W E _ 18 _) $
       stmt (G68 κs qs) (G69 κs qs) (t-sc-borrow 𝓤 H A W E 𝓣 (G68 κs qs) 15 31 18 (Array (rtF fBool) 16384) (tyRef erased mut (tyArray tyBool 16384)) (λ x. x) (mem-arr 𝓤 H A W (rtF fBool) 16384) (room-gone 𝓤 H A (tyRef erased mut (tyArray tyBool 16384))) refl (λ b o. tt)) $
-      stmt (G69 κs qs) (G70 κs qs) (t-call-plain 𝓤 H A W 𝓣 9 K2.ps K2.r R2.Asked R2.Learnt "topology::mouth_pass::mark_near" known2 E (λ pos β. β) (G69 κs qs) (record { pos = 1; ty = tyRef (named 0) imm (pointee (twin-0.the-row .written)); ref = λ x. x }, (record { pos = 3; ty = tyRef (named 1) imm (tyInt w64); ref = λ x. x }, (record { pos = 5; ty = tyRef (named 3) imm (tyInt w32); ref = λ x. x }, (record { pos = 6; ty = tyRef (named 4) imm (tyArray (tyInt w64) 257); ref = λ x. x }, (record { pos = 27; ty = tyRef erased imm (tyArray (tyInt w8) 16384); ref = λ x. x }, (record { pos = 28; ty = tyRef erased imm (tyArray (tyInt w8) 16384); ref = λ x. x }, (record { pos = 29; ty = tyRef erased imm (tyArray (tyInt w32) 16384); ref = λ x. x }, (record { pos = 30; ty = tyRef erased imm (tyArray (tyInt w8) 16384); ref = λ x. x }, (vAt 16 (λ x. x), (record { pos = 31; ty = tyRef erased mut (tyArray tyBool 16384); ref = λ x. x }, tt)))))))))) 26 (0 ∷ 1 ∷ 3 ∷ 4 ∷ 14 ∷ 15 ∷ 16 ∷ 17 ∷ 18 ∷ []) (sub-id 𝓤 H A W ((G69 κs qs) .slots)) (spares-sslice 𝓤 H A W twin-0.the-row (tyRef (named 0) imm (pointee (twin-0.the-row .written))) 0, reads-sslice 𝓤 H A W twin-0.the-row (tyRef (named 0) imm (pointee (twin-0.the-row .written))) 0, refl, (spares-sslice 𝓤 H A W (rtF (fInt w64)) (tyRef (named 1) imm (tyInt w64)) 1, reads-sslice 𝓤 H A W (rtF (fInt w64)) (tyRef (named 1) imm (tyInt w64)) 1, refl, (spares-sslice 𝓤 H A W (rtF (fInt w32)) (tyRef (named 3) imm (tyInt w32)) 3, reads-sslice 𝓤 H A W (rtF (fInt w32)) (tyRef (named 3) imm (tyInt w32)) 3, refl, (spares-sref 𝓤 H A W (Array (rtF (fInt w64)) 257) (tyRef (named 4) imm (tyArray (tyInt w64) 257)) 4, reads-sref 𝓤 H A W (Array (rtF (fInt w64)) 257) (tyRef (named 4) imm (tyArray (tyInt w64) 257)) 4, refl, (spares-sref 𝓤 H A W (Array (rtF (fInt w8)) 16384) (tyRef erased imm (tyArray (tyInt w8) 16384)) 14, reads-sref 𝓤 H A W (Array (rtF (fInt w8)) 16384) (tyRef erased imm (tyArray (tyInt w8) 16384)) 14, refl, (spares-sref 𝓤 H A W (Array (rtF (fInt w8)) 16384) (tyRef erased imm (tyArray (tyInt w8) 16384)) 15, reads-sref 𝓤 H A W (Array (rtF (fInt w8)) 16384) (tyRef erased imm (tyArray (tyInt w8) 16384)) 15, refl, (spares-sref 𝓤 H A W (Array (rtF (fInt w32)) 16384) (tyRef erased imm (tyArray (tyInt w32) 16384)) 16, reads-sref 𝓤 H A W (Array (rtF (fInt w32)) 16384) (tyRef erased imm (tyArray (tyInt w32) 16384)) 16, refl, (spares-sref 𝓤 H A W (Array (rtF (fInt w8)) 16384) (tyRef erased imm (tyArray (tyInt w8) 16384)) 17, reads-sref 𝓤 H A W (Array (rtF (fInt w8)) 16384) (tyRef erased imm (tyArray (tyInt w8) 16384)) 17, refl, ((reads-sc 𝓤 H A W (sInt w64), refl), (as-is 𝓤 H A (mref (Array (rtF fBool) 16384) (tyRef erased mut (tyArray tyBool 16384)) 18), reads-mref 𝓤 H A W (Array (rtF fBool) 16384) (tyRef erased mut (tyArray tyBool 16384)) 18, refl, tt)))))))))) (room-gone 𝓤 H A tyUnit) _ refl) $
+      stmt (G69 κs qs) (G70 κs qs) (t-call-plain 𝓤 H A W 𝓣 9 K2.ps K2.r K2.Asked K2.Learnt "topology::mouth_pass::mark_near" known2 E (λ pos β. β) (G69 κs qs) (record { pos = 1; ty = tyRef (named 0) imm (pointee (twin-0.the-row .written)); ref = λ x. x }, (record { pos = 3; ty = tyRef (named 1) imm (tyInt w64); ref = λ x. x }, (record { pos = 5; ty = tyRef (named 3) imm (tyInt w32); ref = λ x. x }, (record { pos = 6; ty = tyRef (named 4) imm (tyArray (tyInt w64) 257); ref = λ x. x }, (record { pos = 27; ty = tyRef erased imm (tyArray (tyInt w8) 16384); ref = λ x. x }, (record { pos = 28; ty = tyRef erased imm (tyArray (tyInt w8) 16384); ref = λ x. x }, (record { pos = 29; ty = tyRef erased imm (tyArray (tyInt w32) 16384); ref = λ x. x }, (record { pos = 30; ty = tyRef erased imm (tyArray (tyInt w8) 16384); ref = λ x. x }, (vAt 16 (λ x. x), (record { pos = 31; ty = tyRef erased mut (tyArray tyBool 16384); ref = λ x. x }, tt)))))))))) 26 (0 ∷ 1 ∷ 3 ∷ 4 ∷ 14 ∷ 15 ∷ 16 ∷ 17 ∷ 18 ∷ []) (sub-id 𝓤 H A W ((G69 κs qs) .slots)) (spares-sslice 𝓤 H A W twin-0.the-row (tyRef (named 0) imm (pointee (twin-0.the-row .written))) 0, reads-sslice 𝓤 H A W twin-0.the-row (tyRef (named 0) imm (pointee (twin-0.the-row .written))) 0, refl, (spares-sslice 𝓤 H A W (rtF (fInt w64)) (tyRef (named 1) imm (tyInt w64)) 1, reads-sslice 𝓤 H A W (rtF (fInt w64)) (tyRef (named 1) imm (tyInt w64)) 1, refl, (spares-sslice 𝓤 H A W (rtF (fInt w32)) (tyRef (named 3) imm (tyInt w32)) 3, reads-sslice 𝓤 H A W (rtF (fInt w32)) (tyRef (named 3) imm (tyInt w32)) 3, refl, (spares-sref 𝓤 H A W (Array (rtF (fInt w64)) 257) (tyRef (named 4) imm (tyArray (tyInt w64) 257)) 4, reads-sref 𝓤 H A W (Array (rtF (fInt w64)) 257) (tyRef (named 4) imm (tyArray (tyInt w64) 257)) 4, refl, (spares-sref 𝓤 H A W (Array (rtF (fInt w8)) 16384) (tyRef erased imm (tyArray (tyInt w8) 16384)) 14, reads-sref 𝓤 H A W (Array (rtF (fInt w8)) 16384) (tyRef erased imm (tyArray (tyInt w8) 16384)) 14, refl, (spares-sref 𝓤 H A W (Array (rtF (fInt w8)) 16384) (tyRef erased imm (tyArray (tyInt w8) 16384)) 15, reads-sref 𝓤 H A W (Array (rtF (fInt w8)) 16384) (tyRef erased imm (tyArray (tyInt w8) 16384)) 15, refl, (spares-sref 𝓤 H A W (Array (rtF (fInt w32)) 16384) (tyRef erased imm (tyArray (tyInt w32) 16384)) 16, reads-sref 𝓤 H A W (Array (rtF (fInt w32)) 16384) (tyRef erased imm (tyArray (tyInt w32) 16384)) 16, refl, (spares-sref 𝓤 H A W (Array (rtF (fInt w8)) 16384) (tyRef erased imm (tyArray (tyInt w8) 16384)) 17, reads-sref 𝓤 H A W (Array (rtF (fInt w8)) 16384) (tyRef erased imm (tyArray (tyInt w8) 16384)) 17, refl, ((reads-sc 𝓤 H A W (sInt w64), refl), (as-is 𝓤 H A (mref (Array (rtF fBool) 16384) (tyRef erased mut (tyArray tyBool 16384)) 18), reads-mref 𝓤 H A W (Array (rtF fBool) 16384) (tyRef erased mut (tyArray tyBool 16384)) 18, refl, tt)))))))))) (room-gone 𝓤 H A tyUnit) _ refl) $
       ghosts (G70 κs qs) _ (g-drop-sref 𝓤 H A W E (G70 κs qs) 27 14 (Array (rtF (fInt w8)) 16384) (tyRef erased imm (tyArray (tyInt w8) 16384)) (λ x. x) (as-is 𝓤 H A (sref (Array (rtF (fInt w8)) 16384) (tyRef erased imm (tyArray (tyInt w8) 16384)) 14))) $
       ghosts _ _ (g-drop-sref 𝓤 H A W E _ 28 15 (Array (rtF (fInt w8)) 16384) (tyRef erased imm (tyArray (tyInt w8) 16384)) (λ x. x) (as-is 𝓤 H A (sref (Array (rtF (fInt w8)) 16384) (tyRef erased imm (tyArray (tyInt w8) 16384)) 15))) $
       ghosts _ (G73 κs qs) (g-drop-sref 𝓤 H A W E _ 29 16 (Array (rtF (fInt w32)) 16384) (tyRef erased imm (tyArray (tyInt w32) 16384)) (λ x. x) (as-is 𝓤 H A (sref (Array (rtF (fInt w32)) 16384) (tyRef erased imm (tyArray (tyInt w32) 16384)) 16))) $
@@ -546,8 +496,8 @@ module _ (w : World) where
   abbrev known1-at : Knows (w .𝓤) (w .H) (w .𝓖 .A) (Wof w) (𝓣of w code.env) 11 K1.ps K1.r R1.Asked R1.Learnt "mouth_proposals::candidates::push_candidates"
   known1-at = R1.known w code.env S1.name S1.routine code.calls-mouth-proposals·candidates·push-candidates (M1.met (w .𝓤) (w .H) (w .𝓜) (w .𝓖) (w .𝓡))
 
-  abbrev known2-at : Knows (w .𝓤) (w .H) (w .𝓖 .A) (Wof w) (𝓣of w code.env) 9 K2.ps K2.r R2.Asked R2.Learnt "topology::mouth_pass::mark_near"
-  known2-at = R2.known w code.env S2.name S2.routine code.calls-topology·mouth-pass·mark-near (M2.met (w .𝓤) (w .H) (w .𝓜) (w .𝓖) (w .𝓡))
+  abbrev known2-at : Knows (w .𝓤) (w .H) (w .𝓖 .A) (Wof w) (𝓣of w code.env) 9 K2.ps K2.r K2.Asked K2.Learnt "topology::mouth_pass::mark_near"
+  known2-at = K2.known w code.env S2.name S2.routine code.calls-topology·mouth-pass·mark-near (M2.met (w .𝓤) (w .H) (w .𝓜) (w .𝓖) (w .𝓡))
 
   abbrev known3-at : Knows (w .𝓤) (w .H) (w .𝓖 .A) (Wof w) (𝓣of w code.env) 11 K3.ps K3.r R3.Asked R3.Learnt "mouth_selection::selection::select_mouths"
   known3-at = R3.known w code.env S3.name S3.routine code.calls-mouth-selection·selection·select-mouths (M3.met (w .𝓤) (w .H) (w .𝓜) (w .𝓖) (w .𝓡))

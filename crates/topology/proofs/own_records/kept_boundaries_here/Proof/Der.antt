@@ -16,8 +16,7 @@ use Rattle.topology.proofs.own_records.empty_records.Kinds as K1
 use Rattle.topology.proofs.own_records.empty_records.Reads as R1
 use Rattle.topology.proofs.own_records.empty_records.Symbol as S1
 use Rattle.topology.proofs.own_records.empty_records.Met as M1
-use Rattle.topology.proofs.Seen.topology_kept_boundaries.Kinds as K2
-use Rattle.topology.proofs.Seen.topology_kept_boundaries.Reads as R2
+use Rattle.topology.proofs.Seen.topology_kept_boundaries as K2
 use Rattle.topology.proofs.topology_kept_boundaries.Symbol as S2
 use Rattle.topology.proofs.topology_kept_boundaries.Met as M2
 use Rattle.topology.proofs.numbers.put_records.Kinds as K3
@@ -28,11 +27,10 @@ use Rattle.topology.proofs.answer_of.Kinds as K4
 use Rattle.topology.proofs.answer_of.Reads as R4
 use Rattle.topology.proofs.answer_of.Symbol as S4
 use Rattle.topology.proofs.answer_of.Met as M4
-use Rattle.topology.proofs.Seen.own_records.kept_boundaries_here.Kinds.{ps, r}
 use Rattle.topology.proofs.own_records.kept_boundaries_here.Code as code
 use contract.Running
 use Rattle.topology.proofs.Contracts.{Answers, Post, Pre, Wof, met, 𝓣of}
-use Rattle.topology.proofs.Seen.own_records.kept_boundaries_here.Reads.{the-contract}
+use Rattle.topology.proofs.Seen.own_records.kept_boundaries_here.{ps, r, the-contract}
 use Rattle.topology.proofs.own_records.kept_boundaries_here.Key as key
 use Rattle.topology.proofs.own_records.kept_boundaries_here.Statement.{statement}
 use Rattle.topology.proofs.Steps.{Der, _$_, ghosts, homes, past, patched, rets, stmt, typesPast}
@@ -59,8 +57,8 @@ module _ (κs : Lfts 11) (qs : Shares 11) where
   abbrev row3 : Row
   row3 = mslice-owed (rtF (fInt w32)) (tyRef (named 4) mut (tyInt w32)) 4 11 (lease (κs .1 .1 .1 .1 .0) (qs .1 .1 .1 .1 .0))
 
-  abbrev row5 : Row
-  row5 = mslice (rtF (fInt w32)) (tyRef erased mut (tyInt w32)) 11
+  abbrev row5 : ℕ → Row
+  row5 k = mslice (rtF (fInt w32)) (tyRef erased mut (tyInt w32)) k
 
   abbrev row6 : Row
   row6 = mslice-owed (rtF (fInt w16)) (tyRef (named 5) mut (tyInt w16)) 5 12 (lease (κs .1 .1 .1 .1 .1 .0) (qs .1 .1 .1 .1 .1 .0))
@@ -71,20 +69,11 @@ module _ (κs : Lfts 11) (qs : Shares 11) where
   abbrev row9 : Row
   row9 = mslice-owed (rtF (fInt w32)) (tyRef (named 6) mut (tyInt w32)) 6 13 (lease (κs .1 .1 .1 .1 .1 .1 .0) (qs .1 .1 .1 .1 .1 .1 .0))
 
-  abbrev row11 : Row
-  row11 = mslice (rtF (fInt w32)) (tyRef erased mut (tyInt w32)) 13
-
   abbrev row12 : Row
   row12 = mslice-owed (rtF (fInt w32)) (tyRef (named 7) mut (tyInt w32)) 7 14 (lease (κs .1 .1 .1 .1 .1 .1 .1 .0) (qs .1 .1 .1 .1 .1 .1 .1 .0))
 
-  abbrev row14 : Row
-  row14 = mslice (rtF (fInt w32)) (tyRef erased mut (tyInt w32)) 14
-
   abbrev row15 : Row
   row15 = mslice-owed (rtF (fInt w32)) (tyRef (named 8) mut (tyInt w32)) 8 15 (lease (κs .1 .1 .1 .1 .1 .1 .1 .1 .0) (qs .1 .1 .1 .1 .1 .1 .1 .1 .0))
-
-  abbrev row17 : Row
-  row17 = mslice (rtF (fInt w32)) (tyRef erased mut (tyInt w32)) 15
 
   abbrev row18 : Row
   row18 = arr-owedP twin-0.the-row 512 16
@@ -95,8 +84,8 @@ module _ (κs : Lfts 11) (qs : Shares 11) where
   abbrev row21 : Row
   row21 = mslice-owed (rtF (fInt w64)) (tyRef (named 9) mut (tyInt w64)) 9 17 (lease (κs .1 .1 .1 .1 .1 .1 .1 .1 .1 .0) (qs .1 .1 .1 .1 .1 .1 .1 .1 .1 .0))
 
-  abbrev row23 : Row
-  row23 = mslice (rtF (fInt w64)) (tyRef erased mut (tyInt w64)) 17
+  abbrev row23 : ℕ → Row
+  row23 k = mslice (rtF (fInt w64)) (tyRef erased mut (tyInt w64)) k
 
   abbrev row24 : Row
   row24 = whole (Declared'.row TopologyAnswer.the-type)
@@ -116,9 +105,6 @@ module _ (κs : Lfts 11) (qs : Shares 11) where
   abbrev row29 : Row
   row29 = mslice-owed (rtF (fInt w64)) (tyRef (named 10) mut (tyInt w64)) 10 18 (lease (κs .1 .1 .1 .1 .1 .1 .1 .1 .1 .1 .0) (qs .1 .1 .1 .1 .1 .1 .1 .1 .1 .1 .0))
 
-  abbrev row31 : Row
-  row31 = mslice (rtF (fInt w64)) (tyRef erased mut (tyInt w64)) 18
-
   abbrev row32 : Row
   row32 = sc-here sUnit
 
@@ -135,25 +121,25 @@ module _ (κs : Lfts 11) (qs : Shares 11) where
   G17 = patched ((16, row1) ∷ (17, row2) ∷ []) ((11, alive) ∷ []) G0
 
   abbrev pub G20 : Cx
-  G20 = patched ((8, row3) ∷ (16, row1) ∷ (17, row2) ∷ (21, row5) ∷ []) ((4, off) ∷ (11, alive) ∷ (12, alive) ∷ []) G0
+  G20 = patched ((8, row3) ∷ (16, row1) ∷ (17, row2) ∷ (21, row5 11) ∷ []) ((4, off) ∷ (11, alive) ∷ (12, alive) ∷ []) G0
 
   abbrev pub G23 : Cx
-  G23 = patched ((8, row3) ∷ (9, row6) ∷ (16, row1) ∷ (17, row2) ∷ (21, row5) ∷ (23, row8) ∷ []) ((4, off) ∷ (5, off) ∷ (11, alive) ∷ (12, alive) ∷ (13, alive) ∷ []) G0
+  G23 = patched ((8, row3) ∷ (9, row6) ∷ (16, row1) ∷ (17, row2) ∷ (21, row5 11) ∷ (23, row8) ∷ []) ((4, off) ∷ (5, off) ∷ (11, alive) ∷ (12, alive) ∷ (13, alive) ∷ []) G0
 
   abbrev pub G26 : Cx
-  G26 = patched ((8, row3) ∷ (9, row6) ∷ (10, row9) ∷ (16, row1) ∷ (17, row2) ∷ (21, row5) ∷ (23, row8) ∷ (25, row11) ∷ []) ((4, off) ∷ (5, off) ∷ (6, off) ∷ (11, alive) ∷ (12, alive) ∷ (13, alive) ∷ (14, alive) ∷ []) G0
+  G26 = patched ((8, row3) ∷ (9, row6) ∷ (10, row9) ∷ (16, row1) ∷ (17, row2) ∷ (21, row5 11) ∷ (23, row8) ∷ (25, row5 13) ∷ []) ((4, off) ∷ (5, off) ∷ (6, off) ∷ (11, alive) ∷ (12, alive) ∷ (13, alive) ∷ (14, alive) ∷ []) G0
 
   abbrev pub G29 : Cx
-  G29 = patched ((8, row3) ∷ (9, row6) ∷ (10, row9) ∷ (11, row12) ∷ (16, row1) ∷ (17, row2) ∷ (21, row5) ∷ (23, row8) ∷ (25, row11) ∷ (27, row14) ∷ []) ((4, off) ∷ (5, off) ∷ (6, off) ∷ (7, off) ∷ (11, alive) ∷ (12, alive) ∷ (13, alive) ∷ (14, alive) ∷ (15, alive) ∷ []) G0
+  G29 = patched ((8, row3) ∷ (9, row6) ∷ (10, row9) ∷ (11, row12) ∷ (16, row1) ∷ (17, row2) ∷ (21, row5 11) ∷ (23, row8) ∷ (25, row5 13) ∷ (27, row5 14) ∷ []) ((4, off) ∷ (5, off) ∷ (6, off) ∷ (7, off) ∷ (11, alive) ∷ (12, alive) ∷ (13, alive) ∷ (14, alive) ∷ (15, alive) ∷ []) G0
 
   abbrev pub G32 : Cx
-  G32 = patched ((8, row3) ∷ (9, row6) ∷ (10, row9) ∷ (11, row12) ∷ (12, row15) ∷ (16, row1) ∷ (17, row2) ∷ (21, row5) ∷ (23, row8) ∷ (25, row11) ∷ (27, row14) ∷ (29, row17) ∷ []) ((4, off) ∷ (5, off) ∷ (6, off) ∷ (7, off) ∷ (8, off) ∷ (11, alive) ∷ (12, alive) ∷ (13, alive) ∷ (14, alive) ∷ (15, alive) ∷ (16, alive) ∷ []) G0
+  G32 = patched ((8, row3) ∷ (9, row6) ∷ (10, row9) ∷ (11, row12) ∷ (12, row15) ∷ (16, row1) ∷ (17, row2) ∷ (21, row5 11) ∷ (23, row8) ∷ (25, row5 13) ∷ (27, row5 14) ∷ (29, row5 15) ∷ []) ((4, off) ∷ (5, off) ∷ (6, off) ∷ (7, off) ∷ (8, off) ∷ (11, alive) ∷ (12, alive) ∷ (13, alive) ∷ (14, alive) ∷ (15, alive) ∷ (16, alive) ∷ []) G0
 
   abbrev pub G35 : Cx
-  G35 = patched ((8, row3) ∷ (9, row6) ∷ (10, row9) ∷ (11, row12) ∷ (12, row15) ∷ (16, row1) ∷ (17, row18) ∷ (21, row5) ∷ (23, row8) ∷ (25, row11) ∷ (27, row14) ∷ (29, row17) ∷ (31, row20) ∷ []) ((4, off) ∷ (5, off) ∷ (6, off) ∷ (7, off) ∷ (8, off) ∷ (11, alive) ∷ (12, alive) ∷ (13, alive) ∷ (14, alive) ∷ (15, alive) ∷ (16, alive) ∷ (17, alive) ∷ []) G0
+  G35 = patched ((8, row3) ∷ (9, row6) ∷ (10, row9) ∷ (11, row12) ∷ (12, row15) ∷ (16, row1) ∷ (17, row18) ∷ (21, row5 11) ∷ (23, row8) ∷ (25, row5 13) ∷ (27, row5 14) ∷ (29, row5 15) ∷ (31, row20) ∷ []) ((4, off) ∷ (5, off) ∷ (6, off) ∷ (7, off) ∷ (8, off) ∷ (11, alive) ∷ (12, alive) ∷ (13, alive) ∷ (14, alive) ∷ (15, alive) ∷ (16, alive) ∷ (17, alive) ∷ []) G0
 
   abbrev pub G37 : Cx
-  G37 = patched ((8, row3) ∷ (9, row6) ∷ (10, row9) ∷ (11, row12) ∷ (12, row15) ∷ (14, row21) ∷ (16, row1) ∷ (17, row18) ∷ (21, row5) ∷ (23, row8) ∷ (25, row11) ∷ (27, row14) ∷ (29, row17) ∷ (31, row20) ∷ (33, row23) ∷ []) ((4, off) ∷ (5, off) ∷ (6, off) ∷ (7, off) ∷ (8, off) ∷ (9, off) ∷ (11, alive) ∷ (12, alive) ∷ (13, alive) ∷ (14, alive) ∷ (15, alive) ∷ (16, alive) ∷ (17, alive) ∷ []) G0
+  G37 = patched ((8, row3) ∷ (9, row6) ∷ (10, row9) ∷ (11, row12) ∷ (12, row15) ∷ (14, row21) ∷ (16, row1) ∷ (17, row18) ∷ (21, row5 11) ∷ (23, row8) ∷ (25, row5 13) ∷ (27, row5 14) ∷ (29, row5 15) ∷ (31, row20) ∷ (33, row23 17) ∷ []) ((4, off) ∷ (5, off) ∷ (6, off) ∷ (7, off) ∷ (8, off) ∷ (9, off) ∷ (11, alive) ∷ (12, alive) ∷ (13, alive) ∷ (14, alive) ∷ (15, alive) ∷ (16, alive) ∷ (17, alive) ∷ []) G0
 
   abbrev pub G38 : Cx
   G38 = patched ((8, row3) ∷ (9, row6) ∷ (10, row9) ∷ (11, row12) ∷ (12, row15) ∷ (14, row21) ∷ (16, row1) ∷ (17, row18) ∷ (18, row24) ∷ (21, row25) ∷ (23, row26) ∷ (25, row25) ∷ (27, row25) ∷ (29, row25) ∷ (31, row27) ∷ (33, row28) ∷ []) ((4, off) ∷ (5, off) ∷ (6, off) ∷ (7, off) ∷ (8, off) ∷ (9, off) ∷ (11, alive) ∷ (12, alive) ∷ (13, alive) ∷ (14, alive) ∷ (15, alive) ∷ (16, alive) ∷ (17, alive) ∷ []) G0
@@ -183,7 +169,7 @@ module _ (κs : Lfts 11) (qs : Shares 11) where
   G68 = patched ((16, row1) ∷ (18, row24) ∷ (19, row2) ∷ []) ((18, alive) ∷ []) G0
 
   abbrev pub G70 : Cx
-  G70 = patched ((15, row29) ∷ (16, row1) ∷ (18, row24) ∷ (19, row2) ∷ (36, row31) ∷ []) ((10, off) ∷ (18, alive) ∷ []) G0
+  G70 = patched ((15, row29) ∷ (16, row1) ∷ (18, row24) ∷ (19, row2) ∷ (36, row23 18) ∷ []) ((10, off) ∷ (18, alive) ∷ []) G0
 
   abbrev pub G71 : Cx
   G71 = patched ((15, row29) ∷ (16, row1) ∷ (18, row24) ∷ (19, row2) ∷ (34, row32) ∷ (36, row28) ∷ []) ((10, off) ∷ (18, alive) ∷ []) G0
@@ -207,7 +193,7 @@ module _ (κs : Lfts 11) (qs : Shares 11) where
   Γ-from-put = G65
 
 module _ {M : Type 1} (𝓤 : URA M) (H : Heap 𝓤) (A : Atoms 𝓤) (W : Given 𝓤 H A) (𝓣 : Tables 𝓤 H)
-    (known0 : Knows 𝓤 H A W 𝓣 0 K0.ps K0.r R0.Asked R0.Learnt "topology::numbers::least") (known1 : Knows 𝓤 H A W 𝓣 0 K1.ps K1.r R1.Asked R1.Learnt "topology::own_records::empty_records") (known2 : Knows 𝓤 H A W 𝓣 11 K2.ps K2.r R2.Asked R2.Learnt "topology::topology_kept_boundaries") (known3 : Knows 𝓤 H A W 𝓣 1 K3.ps K3.r R3.Asked R3.Learnt "topology::numbers::put_records") (known4 : Knows 𝓤 H A W 𝓣 0 K4.ps K4.r R4.Asked R4.Learnt "topology::answer_of") (κs : Lfts 11) (qs : Shares 11) (bs : List ℕ) where
+    (known0 : Knows 𝓤 H A W 𝓣 0 K0.ps K0.r R0.Asked R0.Learnt "topology::numbers::least") (known1 : Knows 𝓤 H A W 𝓣 0 K1.ps K1.r R1.Asked R1.Learnt "topology::own_records::empty_records") (known2 : Knows 𝓤 H A W 𝓣 11 K2.ps K2.r K2.Asked K2.Learnt "topology::topology_kept_boundaries") (known3 : Knows 𝓤 H A W 𝓣 1 K3.ps K3.r R3.Asked R3.Learnt "topology::numbers::put_records") (known4 : Knows 𝓤 H A W 𝓣 0 K4.ps K4.r R4.Asked R4.Learnt "topology::answer_of") (κs : Lfts 11) (qs : Shares 11) (bs : List ℕ) where
   abbrev E : Env 𝓤 H
   E = EnvOf 𝓤 H (tyR r ∷ tysP ps xs) bs
 
@@ -260,7 +246,7 @@ module _ {M : Type 1} (𝓤 : URA M) (H : Heap 𝓤) (A : Atoms 𝓤) (W : Given
       ghosts _ (G35 κs qs) (g-begin 𝓤 H A W E _ 17 _) $
       stmt (G35 κs qs) _ (t-sl-relend 𝓤 H A W E (rtF (fInt w64)) 𝓣 (G35 κs qs) 14 32 9 17 (tyRef (named 9) mut (tyInt w64)) (tyRef erased mut (tyInt w64)) (lease (κs .1 .1 .1 .1 .1 .1 .1 .1 .1 .0) (qs .1 .1 .1 .1 .1 .1 .1 .1 .1 .0)) 0 (λ x. x) (as-is 𝓤 H A (mslice (rtF (fInt w64)) (tyRef (named 9) mut (tyInt w64)) 9)) (room-gone 𝓤 H A (tyRef erased mut (tyInt w64))) refl tt refl refl refl (λ b o. tt)) $
       stmt _ (G37 κs qs) (t-sl-aggregate 𝓤 H A W E (rtF (fInt w64)) 𝓣 (asMut (rtF (fInt w64))) _ 32 33 17 (tyRef erased mut (tyInt w64)) (tyRef erased mut (tyInt w64)) (λ x. x) (oFld 14 (field 1 ∷ []) (tyInt w64) 8 (λ v. lenV (v .0))) (as-is 𝓤 H A (msptr (rtF (fInt w64)) (tyRef erased mut (tyInt w64)) 17)) (room-gone 𝓤 H A _) (reads-owed-len 𝓤 H A W (rtF (fInt w64)) (tyRef (named 9) mut (tyInt w64)) 9 17 (lease (κs .1 .1 .1 .1 .1 .1 .1 .1 .1 .0) (qs .1 .1 .1 .1 .1 .1 .1 .1 .1 .0)) 8 refl, refl) refl refl (λ b o k. tt)) $
-      stmt (G37 κs qs) (G38 κs qs) (t-call-plain 𝓤 H A W 𝓣 11 K2.ps K2.r R2.Asked R2.Learnt "topology::topology_kept_boundaries" known2 E (λ pos β. β) (G37 κs qs) (vAt 1 (λ x. x), (vAt 2 (λ x. x), (vAt 3 (λ x. x), (record { pos = 4; ty = tyRef (named 0) imm (tyInt w8); ref = λ x. x }, (record { pos = 5; ty = tyRef (named 1) imm (tyInt w64); ref = λ x. x }, (record { pos = 6; ty = tyRef (named 2) imm (tyInt w64); ref = λ x. x }, (record { pos = 7; ty = tyRef (named 3) imm (tyInt w64); ref = λ x. x }, (record { pos = 21; ty = tyRef erased mut (tyInt w32); ref = λ x. x }, (record { pos = 23; ty = tyRef erased mut (tyInt w16); ref = λ x. x }, (record { pos = 25; ty = tyRef erased mut (tyInt w32); ref = λ x. x }, (record { pos = 27; ty = tyRef erased mut (tyInt w32); ref = λ x. x }, (record { pos = 29; ty = tyRef erased mut (tyInt w32); ref = λ x. x }, (record { pos = 31; ty = tyRef erased mut (pointee (twin-0.the-row .written)); ref = λ x. x }, (record { pos = 33; ty = tyRef erased mut (tyInt w64); ref = λ x. x }, tt)))))))))))))) 18 (0 ∷ 1 ∷ 2 ∷ 3 ∷ 11 ∷ 12 ∷ 13 ∷ 14 ∷ 15 ∷ 16 ∷ 17 ∷ []) (sub-id 𝓤 H A W ((G37 κs qs) .slots)) ((reads-sc 𝓤 H A W (sInt w64), refl), ((reads-sc 𝓤 H A W (sInt w64), refl), ((reads-sc 𝓤 H A W (sInt w64), refl), (spares-sslice 𝓤 H A W (rtF (fInt w8)) (tyRef (named 0) imm (tyInt w8)) 0, reads-sslice 𝓤 H A W (rtF (fInt w8)) (tyRef (named 0) imm (tyInt w8)) 0, refl, (spares-sslice 𝓤 H A W (rtF (fInt w64)) (tyRef (named 1) imm (tyInt w64)) 1, reads-sslice 𝓤 H A W (rtF (fInt w64)) (tyRef (named 1) imm (tyInt w64)) 1, refl, (spares-sslice 𝓤 H A W (rtF (fInt w64)) (tyRef (named 2) imm (tyInt w64)) 2, reads-sslice 𝓤 H A W (rtF (fInt w64)) (tyRef (named 2) imm (tyInt w64)) 2, refl, (spares-sslice 𝓤 H A W (rtF (fInt w64)) (tyRef (named 3) imm (tyInt w64)) 3, reads-sslice 𝓤 H A W (rtF (fInt w64)) (tyRef (named 3) imm (tyInt w64)) 3, refl, (as-is 𝓤 H A (mslice (rtF (fInt w32)) (tyRef erased mut (tyInt w32)) 11), reads-mslice 𝓤 H A W (rtF (fInt w32)) (tyRef erased mut (tyInt w32)) 11, refl, (as-is 𝓤 H A (mslice (rtF (fInt w16)) (tyRef erased mut (tyInt w16)) 12), reads-mslice 𝓤 H A W (rtF (fInt w16)) (tyRef erased mut (tyInt w16)) 12, refl, (as-is 𝓤 H A (mslice (rtF (fInt w32)) (tyRef erased mut (tyInt w32)) 13), reads-mslice 𝓤 H A W (rtF (fInt w32)) (tyRef erased mut (tyInt w32)) 13, refl, (as-is 𝓤 H A (mslice (rtF (fInt w32)) (tyRef erased mut (tyInt w32)) 14), reads-mslice 𝓤 H A W (rtF (fInt w32)) (tyRef erased mut (tyInt w32)) 14, refl, (as-is 𝓤 H A (mslice (rtF (fInt w32)) (tyRef erased mut (tyInt w32)) 15), reads-mslice 𝓤 H A W (rtF (fInt w32)) (tyRef erased mut (tyInt w32)) 15, refl, (as-is 𝓤 H A (mslice twin-0.the-row (tyRef erased mut (pointee (twin-0.the-row .written))) 16), reads-mslice 𝓤 H A W twin-0.the-row (tyRef erased mut (pointee (twin-0.the-row .written))) 16, refl, (as-is 𝓤 H A (mslice (rtF (fInt w64)) (tyRef erased mut (tyInt w64)) 17), reads-mslice 𝓤 H A W (rtF (fInt w64)) (tyRef erased mut (tyInt w64)) 17, refl, tt)))))))))))))) (room-gone 𝓤 H A _) _ refl) $
+      stmt (G37 κs qs) (G38 κs qs) (t-call-plain 𝓤 H A W 𝓣 11 K2.ps K2.r K2.Asked K2.Learnt "topology::topology_kept_boundaries" known2 E (λ pos β. β) (G37 κs qs) (vAt 1 (λ x. x), (vAt 2 (λ x. x), (vAt 3 (λ x. x), (record { pos = 4; ty = tyRef (named 0) imm (tyInt w8); ref = λ x. x }, (record { pos = 5; ty = tyRef (named 1) imm (tyInt w64); ref = λ x. x }, (record { pos = 6; ty = tyRef (named 2) imm (tyInt w64); ref = λ x. x }, (record { pos = 7; ty = tyRef (named 3) imm (tyInt w64); ref = λ x. x }, (record { pos = 21; ty = tyRef erased mut (tyInt w32); ref = λ x. x }, (record { pos = 23; ty = tyRef erased mut (tyInt w16); ref = λ x. x }, (record { pos = 25; ty = tyRef erased mut (tyInt w32); ref = λ x. x }, (record { pos = 27; ty = tyRef erased mut (tyInt w32); ref = λ x. x }, (record { pos = 29; ty = tyRef erased mut (tyInt w32); ref = λ x. x }, (record { pos = 31; ty = tyRef erased mut (pointee (twin-0.the-row .written)); ref = λ x. x }, (record { pos = 33; ty = tyRef erased mut (tyInt w64); ref = λ x. x }, tt)))))))))))))) 18 (0 ∷ 1 ∷ 2 ∷ 3 ∷ 11 ∷ 12 ∷ 13 ∷ 14 ∷ 15 ∷ 16 ∷ 17 ∷ []) (sub-id 𝓤 H A W ((G37 κs qs) .slots)) ((reads-sc 𝓤 H A W (sInt w64), refl), ((reads-sc 𝓤 H A W (sInt w64), refl), ((reads-sc 𝓤 H A W (sInt w64), refl), (spares-sslice 𝓤 H A W (rtF (fInt w8)) (tyRef (named 0) imm (tyInt w8)) 0, reads-sslice 𝓤 H A W (rtF (fInt w8)) (tyRef (named 0) imm (tyInt w8)) 0, refl, (spares-sslice 𝓤 H A W (rtF (fInt w64)) (tyRef (named 1) imm (tyInt w64)) 1, reads-sslice 𝓤 H A W (rtF (fInt w64)) (tyRef (named 1) imm (tyInt w64)) 1, refl, (spares-sslice 𝓤 H A W (rtF (fInt w64)) (tyRef (named 2) imm (tyInt w64)) 2, reads-sslice 𝓤 H A W (rtF (fInt w64)) (tyRef (named 2) imm (tyInt w64)) 2, refl, (spares-sslice 𝓤 H A W (rtF (fInt w64)) (tyRef (named 3) imm (tyInt w64)) 3, reads-sslice 𝓤 H A W (rtF (fInt w64)) (tyRef (named 3) imm (tyInt w64)) 3, refl, (as-is 𝓤 H A (mslice (rtF (fInt w32)) (tyRef erased mut (tyInt w32)) 11), reads-mslice 𝓤 H A W (rtF (fInt w32)) (tyRef erased mut (tyInt w32)) 11, refl, (as-is 𝓤 H A (mslice (rtF (fInt w16)) (tyRef erased mut (tyInt w16)) 12), reads-mslice 𝓤 H A W (rtF (fInt w16)) (tyRef erased mut (tyInt w16)) 12, refl, (as-is 𝓤 H A (mslice (rtF (fInt w32)) (tyRef erased mut (tyInt w32)) 13), reads-mslice 𝓤 H A W (rtF (fInt w32)) (tyRef erased mut (tyInt w32)) 13, refl, (as-is 𝓤 H A (mslice (rtF (fInt w32)) (tyRef erased mut (tyInt w32)) 14), reads-mslice 𝓤 H A W (rtF (fInt w32)) (tyRef erased mut (tyInt w32)) 14, refl, (as-is 𝓤 H A (mslice (rtF (fInt w32)) (tyRef erased mut (tyInt w32)) 15), reads-mslice 𝓤 H A W (rtF (fInt w32)) (tyRef erased mut (tyInt w32)) 15, refl, (as-is 𝓤 H A (mslice twin-0.the-row (tyRef erased mut (pointee (twin-0.the-row .written))) 16), reads-mslice 𝓤 H A W twin-0.the-row (tyRef erased mut (pointee (twin-0.the-row .written))) 16, refl, (as-is 𝓤 H A (mslice (rtF (fInt w64)) (tyRef erased mut (tyInt w64)) 17), reads-mslice 𝓤 H A W (rtF (fInt w64)) (tyRef erased mut (tyInt w64)) 17, refl, tt)))))))))))))) (room-gone 𝓤 H A _) _ refl) $
       ghosts (G38 κs qs) _ (g-end 𝓤 H A W E (G38 κs qs) 11 refl) $
       ghosts _ _ (g-back-sl 𝓤 H A W E (rtF (fInt w32)) _ 21 8 4 11 (tyRef (named 4) mut (tyInt w32)) (tyRef erased mut (tyInt w32)) (lease (κs .1 .1 .1 .1 .0) (qs .1 .1 .1 .1 .0)) (λ x. x) (λ x. x) (as-is 𝓤 H A (msleft (rtF (fInt w32)) (tyRef erased mut (tyInt w32)))) (as-is 𝓤 H A (mslice-owed (rtF (fInt w32)) (tyRef (named 4) mut (tyInt w32)) 4 11 (lease (κs .1 .1 .1 .1 .0) (qs .1 .1 .1 .1 .0)))) refl refl) $
       ghosts _ (G42 κs qs) (g-forget 𝓤 H A W E _ 11 dead refl) $
@@ -292,8 +278,8 @@ module _ (w : World) where
   abbrev known1-at : Knows (w .𝓤) (w .H) (w .𝓖 .A) (Wof w) (𝓣of w code.env) 0 K1.ps K1.r R1.Asked R1.Learnt "topology::own_records::empty_records"
   known1-at = R1.known w code.env S1.name S1.routine code.calls-topology·own-records·empty-records (M1.met (w .𝓤) (w .H) (w .𝓜) (w .𝓖) (w .𝓡))
 
-  abbrev known2-at : Knows (w .𝓤) (w .H) (w .𝓖 .A) (Wof w) (𝓣of w code.env) 11 K2.ps K2.r R2.Asked R2.Learnt "topology::topology_kept_boundaries"
-  known2-at = R2.known w code.env S2.name S2.routine code.calls-topology·topology-kept-boundaries (M2.met (w .𝓤) (w .H) (w .𝓜) (w .𝓖) (w .𝓡))
+  abbrev known2-at : Knows (w .𝓤) (w .H) (w .𝓖 .A) (Wof w) (𝓣of w code.env) 11 K2.ps K2.r K2.Asked K2.Learnt "topology::topology_kept_boundaries"
+  known2-at = K2.known w code.env S2.name S2.routine code.calls-topology·topology-kept-boundaries (M2.met (w .𝓤) (w .H) (w .𝓜) (w .𝓖) (w .𝓡))
 
   abbrev known3-at : Knows (w .𝓤) (w .H) (w .𝓖 .A) (Wof w) (𝓣of w code.env) 1 K3.ps K3.r R3.Asked R3.Learnt "topology::numbers::put_records"
   known3-at = R3.known w code.env S3.name S3.routine code.calls-topology·numbers·put-records (M3.met (w .𝓤) (w .H) (w .𝓜) (w .𝓖) (w .𝓡))

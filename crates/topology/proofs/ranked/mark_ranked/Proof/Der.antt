@@ -6,15 +6,13 @@ use Rattle.pass_lists.proofs.view.Kinds as K0
 use Rattle.pass_lists.proofs.view.Reads as R0
 use Rattle.pass_lists.proofs.view.Symbol as S0
 use Rattle.pass_lists.proofs.view.Met as M0
-use Rattle.topology.proofs.Seen.ranked.rank_junctions.Kinds as K1
-use Rattle.topology.proofs.Seen.ranked.rank_junctions.Reads as R1
+use Rattle.topology.proofs.Seen.ranked.rank_junctions as K1
 use Rattle.topology.proofs.ranked.rank_junctions.Symbol as S1
 use Rattle.topology.proofs.ranked.rank_junctions.Met as M1
-use Rattle.topology.proofs.Seen.ranked.mark_ranked.Kinds.{ps, r}
 use Rattle.topology.proofs.ranked.mark_ranked.Code as code
 use contract.Running
 use Rattle.topology.proofs.Contracts.{Answers, Post, Pre, Wof, met, 𝓣of}
-use Rattle.topology.proofs.Seen.ranked.mark_ranked.Reads.{the-contract}
+use Rattle.topology.proofs.Seen.ranked.mark_ranked.{ps, r, the-contract}
 use Rattle.topology.proofs.ranked.mark_ranked.Key as key
 use Rattle.topology.proofs.ranked.mark_ranked.Statement.{statement}
 use Rattle.topology.proofs.Steps.{Der, _$_, first, ghosts, homes, past, patched, rets, skips, stmt, test, typesPast}
@@ -65,8 +63,8 @@ module _ (κs : Lfts 10) (qs : Shares 10) where
   abbrev row11 : Row
   row11 = msptr (rtF (fInt w32)) (tyRef erased mut (tyInt w32)) 11
 
-  abbrev row12 : Row
-  row12 = mslice (rtF (fInt w32)) (tyRef erased mut (tyInt w32)) 11
+  abbrev row12 : ℕ → Row
+  row12 k = mslice (rtF (fInt w32)) (tyRef erased mut (tyInt w32)) k
 
   abbrev row13 : Row
   row13 = sc-owed (Array (rtF (fInt w64)) 257) 12
@@ -74,17 +72,11 @@ module _ (κs : Lfts 10) (qs : Shares 10) where
   abbrev row14 : Row
   row14 = mref (Array (rtF (fInt w64)) 257) (tyRef erased mut (tyArray (tyInt w64) 257)) 12
 
-  abbrev row15 : Row
-  row15 = sc-owed (Array (rtF (fInt w32)) 256) 13
+  abbrev row15 : ℕ → Row
+  row15 k = sc-owed (Array (rtF (fInt w32)) 256) k
 
-  abbrev row16 : Row
-  row16 = mref (Array (rtF (fInt w32)) 256) (tyRef erased mut (tyArray (tyInt w32) 256)) 13
-
-  abbrev row17 : Row
-  row17 = sc-owed (Array (rtF (fInt w32)) 256) 14
-
-  abbrev row18 : Row
-  row18 = mref (Array (rtF (fInt w32)) 256) (tyRef erased mut (tyArray (tyInt w32) 256)) 14
+  abbrev row16 : ℕ → Row
+  row16 k = mref (Array (rtF (fInt w32)) 256) (tyRef erased mut (tyArray (tyInt w32) 256)) k
 
   abbrev row19 : Row
   row19 = sc-here sUnit
@@ -101,17 +93,11 @@ module _ (κs : Lfts 10) (qs : Shares 10) where
   abbrev row23 : Row
   row23 = mleft (Array (rtF (fInt w32)) 256) (tyRef erased mut (tyArray (tyInt w32) 256))
 
-  abbrev row24 : Row
-  row24 = sc-shr (arrF (rtF (fInt w32)) 256 0) (Array (rtF (fInt w32)) 256) (λ x. x) 15
+  abbrev row24 : ℕ → Row
+  row24 k = sc-shr (arrF (rtF (fInt w32)) 256 0) (Array (rtF (fInt w32)) 256) (λ x. x) k
 
-  abbrev row25 : Row
-  row25 = sref (Array (rtF (fInt w32)) 256) (tyRef erased imm (tyArray (tyInt w32) 256)) 15
-
-  abbrev row26 : Row
-  row26 = sc-shr (arrF (rtF (fInt w32)) 256 0) (Array (rtF (fInt w32)) 256) (λ x. x) 16
-
-  abbrev row27 : Row
-  row27 = sref (Array (rtF (fInt w32)) 256) (tyRef erased imm (tyArray (tyInt w32) 256)) 16
+  abbrev row25 : ℕ → Row
+  row25 k = sref (Array (rtF (fInt w32)) 256) (tyRef erased imm (tyArray (tyInt w32) 256)) k
 
   abbrev row28 : Row
   row28 = mslice-owedS (rtF (fInt w32)) (tyRef (named 7) mut (tyInt w32)) 7 17 (lease (κs .1 .1 .1 .1 .1 .1 .1 .0) (qs .1 .1 .1 .1 .1 .1 .1 .0))
@@ -139,9 +125,6 @@ module _ (κs : Lfts 10) (qs : Shares 10) where
 
   abbrev row36 : Row
   row36 = mslice-owed (rtF (fInt w32)) (tyRef (named 9) mut (tyInt w32)) 9 20 (lease (κs .1 .1 .1 .1 .1 .1 .1 .1 .1 .0) (qs .1 .1 .1 .1 .1 .1 .1 .1 .1 .0))
-
-  abbrev row38 : Row
-  row38 = mslice (rtF (fInt w32)) (tyRef erased mut (tyInt w32)) 20
 
   abbrev row39 : Row
   row39 = mleft (Array (rtF fBool) 256) (tyRef erased mut (tyArray tyBool 256))
@@ -189,61 +172,61 @@ module _ (κs : Lfts 10) (qs : Shares 10) where
   G34 = patched ((12, row7) ∷ (13, row10) ∷ (16, row4) ∷ (17, row6) ∷ (18, row6) ∷ (24, row9) ∷ (25, row11) ∷ []) ((6, off) ∷ (7, off) ∷ (10, alive) ∷ (11, alive) ∷ []) G0
 
   abbrev pub G37 : Cx
-  G37 = patched ((12, row7) ∷ (13, row10) ∷ (16, row13) ∷ (17, row6) ∷ (18, row6) ∷ (24, row9) ∷ (26, row12) ∷ (27, row14) ∷ []) ((6, off) ∷ (7, off) ∷ (10, alive) ∷ (11, alive) ∷ (12, alive) ∷ []) G0
+  G37 = patched ((12, row7) ∷ (13, row10) ∷ (16, row13) ∷ (17, row6) ∷ (18, row6) ∷ (24, row9) ∷ (26, row12 11) ∷ (27, row14) ∷ []) ((6, off) ∷ (7, off) ∷ (10, alive) ∷ (11, alive) ∷ (12, alive) ∷ []) G0
 
   abbrev pub G40 : Cx
-  G40 = patched ((12, row7) ∷ (13, row10) ∷ (16, row13) ∷ (17, row15) ∷ (18, row6) ∷ (24, row9) ∷ (26, row12) ∷ (27, row14) ∷ (28, row16) ∷ []) ((6, off) ∷ (7, off) ∷ (10, alive) ∷ (11, alive) ∷ (12, alive) ∷ (13, alive) ∷ (14, alive) ∷ []) G0
+  G40 = patched ((12, row7) ∷ (13, row10) ∷ (16, row13) ∷ (17, row15 13) ∷ (18, row6) ∷ (24, row9) ∷ (26, row12 11) ∷ (27, row14) ∷ (28, row16 13) ∷ []) ((6, off) ∷ (7, off) ∷ (10, alive) ∷ (11, alive) ∷ (12, alive) ∷ (13, alive) ∷ (14, alive) ∷ []) G0
 
   abbrev pub G41 : Cx
-  G41 = patched ((12, row7) ∷ (13, row10) ∷ (16, row13) ∷ (17, row15) ∷ (18, row17) ∷ (24, row9) ∷ (26, row12) ∷ (27, row14) ∷ (28, row16) ∷ (29, row18) ∷ []) ((6, off) ∷ (7, off) ∷ (10, alive) ∷ (11, alive) ∷ (12, alive) ∷ (13, alive) ∷ (14, alive) ∷ []) G0
+  G41 = patched ((12, row7) ∷ (13, row10) ∷ (16, row13) ∷ (17, row15 13) ∷ (18, row15 14) ∷ (24, row9) ∷ (26, row12 11) ∷ (27, row14) ∷ (28, row16 13) ∷ (29, row16 14) ∷ []) ((6, off) ∷ (7, off) ∷ (10, alive) ∷ (11, alive) ∷ (12, alive) ∷ (13, alive) ∷ (14, alive) ∷ []) G0
 
   abbrev pub G42 : Cx
-  G42 = patched ((12, row7) ∷ (13, row10) ∷ (16, row13) ∷ (17, row15) ∷ (18, row17) ∷ (22, row19) ∷ (24, row20) ∷ (26, row21) ∷ (27, row22) ∷ (28, row23) ∷ (29, row23) ∷ []) ((6, off) ∷ (7, off) ∷ (10, alive) ∷ (11, alive) ∷ (12, alive) ∷ (13, alive) ∷ (14, alive) ∷ []) G0
+  G42 = patched ((12, row7) ∷ (13, row10) ∷ (16, row13) ∷ (17, row15 13) ∷ (18, row15 14) ∷ (22, row19) ∷ (24, row20) ∷ (26, row21) ∷ (27, row22) ∷ (28, row23) ∷ (29, row23) ∷ []) ((6, off) ∷ (7, off) ∷ (10, alive) ∷ (11, alive) ∷ (12, alive) ∷ (13, alive) ∷ (14, alive) ∷ []) G0
 
   abbrev pub G45 : Cx
-  G45 = patched ((13, row10) ∷ (16, row13) ∷ (17, row15) ∷ (18, row17) ∷ (26, row21) ∷ (27, row22) ∷ (28, row23) ∷ (29, row23) ∷ []) ((7, off) ∷ (10, dead) ∷ (11, alive) ∷ (12, alive) ∷ (13, alive) ∷ (14, alive) ∷ []) G0
+  G45 = patched ((13, row10) ∷ (16, row13) ∷ (17, row15 13) ∷ (18, row15 14) ∷ (26, row21) ∷ (27, row22) ∷ (28, row23) ∷ (29, row23) ∷ []) ((7, off) ∷ (10, dead) ∷ (11, alive) ∷ (12, alive) ∷ (13, alive) ∷ (14, alive) ∷ []) G0
 
   abbrev pub G49 : Cx
-  G49 = patched ((16, row13) ∷ (17, row15) ∷ (18, row17) ∷ (27, row22) ∷ (28, row23) ∷ (29, row23) ∷ []) ((11, dead) ∷ (12, alive) ∷ (13, alive) ∷ (14, alive) ∷ []) G0
+  G49 = patched ((16, row13) ∷ (17, row15 13) ∷ (18, row15 14) ∷ (27, row22) ∷ (28, row23) ∷ (29, row23) ∷ []) ((11, dead) ∷ (12, alive) ∷ (13, alive) ∷ (14, alive) ∷ []) G0
 
   abbrev pub G53 : Cx
-  G53 = patched ((16, row4) ∷ (17, row15) ∷ (18, row17) ∷ (28, row23) ∷ (29, row23) ∷ []) ((12, dead) ∷ (13, alive) ∷ (14, alive) ∷ []) G0
+  G53 = patched ((16, row4) ∷ (17, row15 13) ∷ (18, row15 14) ∷ (28, row23) ∷ (29, row23) ∷ []) ((12, dead) ∷ (13, alive) ∷ (14, alive) ∷ []) G0
 
   abbrev pub G56 : Cx
-  G56 = patched ((17, row15) ∷ (18, row17) ∷ (28, row23) ∷ (29, row23) ∷ []) ((13, dead) ∷ (14, alive) ∷ []) G0
+  G56 = patched ((17, row15 13) ∷ (18, row15 14) ∷ (28, row23) ∷ (29, row23) ∷ []) ((13, dead) ∷ (14, alive) ∷ []) G0
 
   abbrev pub G59 : Cx
-  G59 = patched ((17, row6) ∷ (18, row17) ∷ (29, row23) ∷ []) ((14, dead) ∷ []) G0
+  G59 = patched ((17, row6) ∷ (18, row15 14) ∷ (29, row23) ∷ []) ((14, dead) ∷ []) G0
 
   abbrev pub G61 : Cx
   G61 = patched ((17, row6) ∷ (18, row6) ∷ []) ([]) G0
 
   abbrev pub G64 : Cx
-  G64 = patched ((17, row24) ∷ (18, row6) ∷ (30, row25) ∷ []) ((15, alive) ∷ (16, alive) ∷ []) G0
+  G64 = patched ((17, row24 15) ∷ (18, row6) ∷ (30, row25 15) ∷ []) ((15, alive) ∷ (16, alive) ∷ []) G0
 
   abbrev pub G67 : Cx
-  G67 = patched ((13, row28) ∷ (17, row24) ∷ (18, row26) ∷ (30, row25) ∷ (31, row27) ∷ (32, row29) ∷ []) ((7, off) ∷ (15, alive) ∷ (16, alive) ∷ (17, alive) ∷ []) G0
+  G67 = patched ((13, row28) ∷ (17, row24 15) ∷ (18, row24 16) ∷ (30, row25 15) ∷ (31, row25 16) ∷ (32, row29) ∷ []) ((7, off) ∷ (15, alive) ∷ (16, alive) ∷ (17, alive) ∷ []) G0
 
   abbrev pub G70 : Cx
-  G70 = patched ((12, row31) ∷ (13, row28) ∷ (17, row24) ∷ (18, row26) ∷ (30, row25) ∷ (31, row27) ∷ (33, row30) ∷ (34, row32) ∷ []) ((6, off) ∷ (7, off) ∷ (15, alive) ∷ (16, alive) ∷ (17, alive) ∷ (18, alive) ∷ []) G0
+  G70 = patched ((12, row31) ∷ (13, row28) ∷ (17, row24 15) ∷ (18, row24 16) ∷ (30, row25 15) ∷ (31, row25 16) ∷ (33, row30) ∷ (34, row32) ∷ []) ((6, off) ∷ (7, off) ∷ (15, alive) ∷ (16, alive) ∷ (17, alive) ∷ (18, alive) ∷ []) G0
 
   abbrev pub G73 : Cx
-  G73 = patched ((12, row31) ∷ (13, row28) ∷ (14, row34) ∷ (17, row24) ∷ (18, row26) ∷ (30, row25) ∷ (31, row27) ∷ (33, row30) ∷ (35, row33) ∷ (36, row35) ∷ []) ((6, off) ∷ (7, off) ∷ (8, off) ∷ (15, alive) ∷ (16, alive) ∷ (17, alive) ∷ (18, alive) ∷ (19, alive) ∷ []) G0
+  G73 = patched ((12, row31) ∷ (13, row28) ∷ (14, row34) ∷ (17, row24 15) ∷ (18, row24 16) ∷ (30, row25 15) ∷ (31, row25 16) ∷ (33, row30) ∷ (35, row33) ∷ (36, row35) ∷ []) ((6, off) ∷ (7, off) ∷ (8, off) ∷ (15, alive) ∷ (16, alive) ∷ (17, alive) ∷ (18, alive) ∷ (19, alive) ∷ []) G0
 
   abbrev pub G76 : Cx
-  G76 = patched ((12, row31) ∷ (13, row28) ∷ (14, row34) ∷ (15, row36) ∷ (17, row24) ∷ (18, row26) ∷ (30, row25) ∷ (31, row27) ∷ (33, row30) ∷ (35, row33) ∷ (36, row35) ∷ (38, row38) ∷ []) ((6, off) ∷ (7, off) ∷ (8, off) ∷ (9, off) ∷ (15, alive) ∷ (16, alive) ∷ (17, alive) ∷ (18, alive) ∷ (19, alive) ∷ (20, alive) ∷ []) G0
+  G76 = patched ((12, row31) ∷ (13, row28) ∷ (14, row34) ∷ (15, row36) ∷ (17, row24 15) ∷ (18, row24 16) ∷ (30, row25 15) ∷ (31, row25 16) ∷ (33, row30) ∷ (35, row33) ∷ (36, row35) ∷ (38, row12 20) ∷ []) ((6, off) ∷ (7, off) ∷ (8, off) ∷ (9, off) ∷ (15, alive) ∷ (16, alive) ∷ (17, alive) ∷ (18, alive) ∷ (19, alive) ∷ (20, alive) ∷ []) G0
 
   abbrev pub G77 : Cx
-  G77 = patched ((0, row1) ∷ (12, row31) ∷ (13, row28) ∷ (14, row34) ∷ (15, row36) ∷ (17, row24) ∷ (18, row26) ∷ (30, row25) ∷ (31, row27) ∷ (33, row30) ∷ (35, row33) ∷ (36, row39) ∷ (38, row21) ∷ []) ((6, off) ∷ (7, off) ∷ (8, off) ∷ (9, off) ∷ (15, alive) ∷ (16, alive) ∷ (17, alive) ∷ (18, alive) ∷ (19, alive) ∷ (20, alive) ∷ []) G0
+  G77 = patched ((0, row1) ∷ (12, row31) ∷ (13, row28) ∷ (14, row34) ∷ (15, row36) ∷ (17, row24 15) ∷ (18, row24 16) ∷ (30, row25 15) ∷ (31, row25 16) ∷ (33, row30) ∷ (35, row33) ∷ (36, row39) ∷ (38, row21) ∷ []) ((6, off) ∷ (7, off) ∷ (8, off) ∷ (9, off) ∷ (15, alive) ∷ (16, alive) ∷ (17, alive) ∷ (18, alive) ∷ (19, alive) ∷ (20, alive) ∷ []) G0
 
   abbrev pub G80 : Cx
-  G80 = patched ((0, row1) ∷ (12, row31) ∷ (13, row28) ∷ (14, row34) ∷ (15, row36) ∷ (17, row24) ∷ (18, row26) ∷ (35, row33) ∷ (36, row39) ∷ (38, row21) ∷ []) ((6, off) ∷ (7, off) ∷ (8, off) ∷ (9, off) ∷ (15, alive) ∷ (16, alive) ∷ (17, alive) ∷ (18, alive) ∷ (19, alive) ∷ (20, alive) ∷ []) G0
+  G80 = patched ((0, row1) ∷ (12, row31) ∷ (13, row28) ∷ (14, row34) ∷ (15, row36) ∷ (17, row24 15) ∷ (18, row24 16) ∷ (35, row33) ∷ (36, row39) ∷ (38, row21) ∷ []) ((6, off) ∷ (7, off) ∷ (8, off) ∷ (9, off) ∷ (15, alive) ∷ (16, alive) ∷ (17, alive) ∷ (18, alive) ∷ (19, alive) ∷ (20, alive) ∷ []) G0
 
   abbrev pub G83 : Cx
-  G83 = patched ((0, row1) ∷ (12, row31) ∷ (13, row28) ∷ (14, row34) ∷ (15, row36) ∷ (17, row6) ∷ (18, row26) ∷ (36, row39) ∷ (38, row21) ∷ []) ((6, off) ∷ (7, off) ∷ (8, off) ∷ (9, off) ∷ (15, dead) ∷ (16, alive) ∷ (17, alive) ∷ (18, alive) ∷ (19, alive) ∷ (20, alive) ∷ []) G0
+  G83 = patched ((0, row1) ∷ (12, row31) ∷ (13, row28) ∷ (14, row34) ∷ (15, row36) ∷ (17, row6) ∷ (18, row24 16) ∷ (36, row39) ∷ (38, row21) ∷ []) ((6, off) ∷ (7, off) ∷ (8, off) ∷ (9, off) ∷ (15, dead) ∷ (16, alive) ∷ (17, alive) ∷ (18, alive) ∷ (19, alive) ∷ (20, alive) ∷ []) G0
 
   abbrev pub G86 : Cx
-  G86 = patched ((0, row1) ∷ (12, row31) ∷ (13, row28) ∷ (14, row34) ∷ (15, row36) ∷ (18, row26) ∷ (36, row39) ∷ (38, row21) ∷ []) ((6, off) ∷ (7, off) ∷ (8, off) ∷ (9, off) ∷ (16, dead) ∷ (17, alive) ∷ (18, alive) ∷ (19, alive) ∷ (20, alive) ∷ []) G0
+  G86 = patched ((0, row1) ∷ (12, row31) ∷ (13, row28) ∷ (14, row34) ∷ (15, row36) ∷ (18, row24 16) ∷ (36, row39) ∷ (38, row21) ∷ []) ((6, off) ∷ (7, off) ∷ (8, off) ∷ (9, off) ∷ (16, dead) ∷ (17, alive) ∷ (18, alive) ∷ (19, alive) ∷ (20, alive) ∷ []) G0
 
   abbrev pub G89 : Cx
   G89 = patched ((0, row1) ∷ (12, row31) ∷ (13, row28) ∷ (14, row34) ∷ (15, row36) ∷ (36, row39) ∷ (38, row21) ∷ []) ((6, off) ∷ (7, off) ∷ (8, off) ∷ (9, off) ∷ (17, alive) ∷ (18, alive) ∷ (19, alive) ∷ (20, alive) ∷ []) G0
@@ -264,7 +247,7 @@ module _ (κs : Lfts 10) (qs : Shares 10) where
   Γ-after-view = G61
 
 module _ {M : Type 1} (𝓤 : URA M) (H : Heap 𝓤) (A : Atoms 𝓤) (W : Given 𝓤 H A) (𝓣 : Tables 𝓤 H)
-    (known0 : Knows 𝓤 H A W 𝓣 9 K0.ps K0.r R0.Asked R0.Learnt "pass_lists::view") (known1 : Knows 𝓤 H A W 𝓣 8 K1.ps K1.r R1.Asked R1.Learnt "topology::ranked::rank_junctions") (κs : Lfts 10) (qs : Shares 10) (bs : List ℕ) where
+    (known0 : Knows 𝓤 H A W 𝓣 9 K0.ps K0.r R0.Asked R0.Learnt "pass_lists::view") (known1 : Knows 𝓤 H A W 𝓣 8 K1.ps K1.r K1.Asked K1.Learnt "topology::ranked::rank_junctions") (κs : Lfts 10) (qs : Shares 10) (bs : List ℕ) where
   abbrev E : Env 𝓤 H
   E = EnvOf 𝓤 H (tyR r ∷ tysP ps xs) bs
 
@@ -285,7 +268,7 @@ module _ {M : Type 1} (𝓤 : URA M) (H : Heap 𝓤) (A : Atoms 𝓤) (W : Given
       ghosts (G73 κs qs) _ (g-begin 𝓤 H A W E (G73 κs qs) 20 _) $
       stmt _ _ (t-sl-relend 𝓤 H A W E (rtF (fInt w32)) 𝓣 _ 15 37 9 20 (tyRef (named 9) mut (tyInt w32)) (tyRef erased mut (tyInt w32)) (lease (κs .1 .1 .1 .1 .1 .1 .1 .1 .1 .0) (qs .1 .1 .1 .1 .1 .1 .1 .1 .1 .0)) 0 (λ x. x) (as-is 𝓤 H A (mslice (rtF (fInt w32)) (tyRef (named 9) mut (tyInt w32)) 9)) (room-gone 𝓤 H A (tyRef erased mut (tyInt w32))) refl tt refl refl refl (λ b o. tt)) $
       stmt _ (G76 κs qs) (t-sl-aggregate 𝓤 H A W E (rtF (fInt w32)) 𝓣 (asMut (rtF (fInt w32))) _ 37 38 20 (tyRef erased mut (tyInt w32)) (tyRef erased mut (tyInt w32)) (λ x. x) (oFld 15 (field 1 ∷ []) (tyInt w64) 8 (λ v. lenV (v .0))) (as-is 𝓤 H A (msptr (rtF (fInt w32)) (tyRef erased mut (tyInt w32)) 20)) (room-gone 𝓤 H A _) (reads-owed-len 𝓤 H A W (rtF (fInt w32)) (tyRef (named 9) mut (tyInt w32)) 9 20 (lease (κs .1 .1 .1 .1 .1 .1 .1 .1 .1 .0) (qs .1 .1 .1 .1 .1 .1 .1 .1 .1 .0)) 8 refl, refl) refl refl (λ b o k. tt)) $
-      stmt (G76 κs qs) (G77 κs qs) (t-call-plain 𝓤 H A W 𝓣 8 K1.ps K1.r R1.Asked R1.Learnt "topology::ranked::rank_junctions" known1 E (λ pos β. β) (G76 κs qs) (record { pos = 1; ty = tyRef (named 0) imm (pointee (twin-0.the-row .written)); ref = λ x. x }, (vAt 6 (λ x. x), (vAt 8 (λ x. x), (record { pos = 9; ty = tyRef (named 3) imm (tyInt w64); ref = λ x. x }, (record { pos = 30; ty = tyRef erased imm (tyArray (tyInt w32) 256); ref = λ x. x }, (record { pos = 31; ty = tyRef erased imm (tyArray (tyInt w32) 256); ref = λ x. x }, (record { pos = 33; ty = tyRef erased imm (tyInt w32); ref = λ x. x }, (record { pos = 35; ty = tyRef erased imm (tyInt w16); ref = λ x. x }, (record { pos = 36; ty = tyRef erased mut (tyArray tyBool 256); ref = λ x. x }, (record { pos = 38; ty = tyRef erased mut (tyInt w32); ref = λ x. x }, tt)))))))))) 0 (0 ∷ 3 ∷ 15 ∷ 16 ∷ 17 ∷ 18 ∷ 19 ∷ 20 ∷ []) (sub-id 𝓤 H A W ((G76 κs qs) .slots)) (spares-sslice 𝓤 H A W twin-0.the-row (tyRef (named 0) imm (pointee (twin-0.the-row .written))) 0, reads-sslice 𝓤 H A W twin-0.the-row (tyRef (named 0) imm (pointee (twin-0.the-row .written))) 0, refl, ((reads-sc 𝓤 H A W (sInt w64), refl), ((reads-sc 𝓤 H A W (sInt w64), refl), (spares-sslice 𝓤 H A W (rtF (fInt w64)) (tyRef (named 3) imm (tyInt w64)) 3, reads-sslice 𝓤 H A W (rtF (fInt w64)) (tyRef (named 3) imm (tyInt w64)) 3, refl, (spares-sref 𝓤 H A W (Array (rtF (fInt w32)) 256) (tyRef erased imm (tyArray (tyInt w32) 256)) 15, reads-sref 𝓤 H A W (Array (rtF (fInt w32)) 256) (tyRef erased imm (tyArray (tyInt w32) 256)) 15, refl, (spares-sref 𝓤 H A W (Array (rtF (fInt w32)) 256) (tyRef erased imm (tyArray (tyInt w32) 256)) 16, reads-sref 𝓤 H A W (Array (rtF (fInt w32)) 256) (tyRef erased imm (tyArray (tyInt w32) 256)) 16, refl, (spares-sslice 𝓤 H A W (rtF (fInt w32)) (tyRef erased imm (tyInt w32)) 17, reads-sslice 𝓤 H A W (rtF (fInt w32)) (tyRef erased imm (tyInt w32)) 17, refl, (spares-sslice 𝓤 H A W (rtF (fInt w16)) (tyRef erased imm (tyInt w16)) 18, reads-sslice 𝓤 H A W (rtF (fInt w16)) (tyRef erased imm (tyInt w16)) 18, refl, (as-is 𝓤 H A (mref (Array (rtF fBool) 256) (tyRef erased mut (tyArray tyBool 256)) 19), reads-mref 𝓤 H A W (Array (rtF fBool) 256) (tyRef erased mut (tyArray tyBool 256)) 19, refl, (as-is 𝓤 H A (mslice (rtF (fInt w32)) (tyRef erased mut (tyInt w32)) 20), reads-mslice 𝓤 H A W (rtF (fInt w32)) (tyRef erased mut (tyInt w32)) 20, refl, tt)))))))))) (room-gone 𝓤 H A (tyInt w64)) _ refl) $
+      stmt (G76 κs qs) (G77 κs qs) (t-call-plain 𝓤 H A W 𝓣 8 K1.ps K1.r K1.Asked K1.Learnt "topology::ranked::rank_junctions" known1 E (λ pos β. β) (G76 κs qs) (record { pos = 1; ty = tyRef (named 0) imm (pointee (twin-0.the-row .written)); ref = λ x. x }, (vAt 6 (λ x. x), (vAt 8 (λ x. x), (record { pos = 9; ty = tyRef (named 3) imm (tyInt w64); ref = λ x. x }, (record { pos = 30; ty = tyRef erased imm (tyArray (tyInt w32) 256); ref = λ x. x }, (record { pos = 31; ty = tyRef erased imm (tyArray (tyInt w32) 256); ref = λ x. x }, (record { pos = 33; ty = tyRef erased imm (tyInt w32); ref = λ x. x }, (record { pos = 35; ty = tyRef erased imm (tyInt w16); ref = λ x. x }, (record { pos = 36; ty = tyRef erased mut (tyArray tyBool 256); ref = λ x. x }, (record { pos = 38; ty = tyRef erased mut (tyInt w32); ref = λ x. x }, tt)))))))))) 0 (0 ∷ 3 ∷ 15 ∷ 16 ∷ 17 ∷ 18 ∷ 19 ∷ 20 ∷ []) (sub-id 𝓤 H A W ((G76 κs qs) .slots)) (spares-sslice 𝓤 H A W twin-0.the-row (tyRef (named 0) imm (pointee (twin-0.the-row .written))) 0, reads-sslice 𝓤 H A W twin-0.the-row (tyRef (named 0) imm (pointee (twin-0.the-row .written))) 0, refl, ((reads-sc 𝓤 H A W (sInt w64), refl), ((reads-sc 𝓤 H A W (sInt w64), refl), (spares-sslice 𝓤 H A W (rtF (fInt w64)) (tyRef (named 3) imm (tyInt w64)) 3, reads-sslice 𝓤 H A W (rtF (fInt w64)) (tyRef (named 3) imm (tyInt w64)) 3, refl, (spares-sref 𝓤 H A W (Array (rtF (fInt w32)) 256) (tyRef erased imm (tyArray (tyInt w32) 256)) 15, reads-sref 𝓤 H A W (Array (rtF (fInt w32)) 256) (tyRef erased imm (tyArray (tyInt w32) 256)) 15, refl, (spares-sref 𝓤 H A W (Array (rtF (fInt w32)) 256) (tyRef erased imm (tyArray (tyInt w32) 256)) 16, reads-sref 𝓤 H A W (Array (rtF (fInt w32)) 256) (tyRef erased imm (tyArray (tyInt w32) 256)) 16, refl, (spares-sslice 𝓤 H A W (rtF (fInt w32)) (tyRef erased imm (tyInt w32)) 17, reads-sslice 𝓤 H A W (rtF (fInt w32)) (tyRef erased imm (tyInt w32)) 17, refl, (spares-sslice 𝓤 H A W (rtF (fInt w16)) (tyRef erased imm (tyInt w16)) 18, reads-sslice 𝓤 H A W (rtF (fInt w16)) (tyRef erased imm (tyInt w16)) 18, refl, (as-is 𝓤 H A (mref (Array (rtF fBool) 256) (tyRef erased mut (tyArray tyBool 256)) 19), reads-mref 𝓤 H A W (Array (rtF fBool) 256) (tyRef erased mut (tyArray tyBool 256)) 19, refl, (as-is 𝓤 H A (mslice (rtF (fInt w32)) (tyRef erased mut (tyInt w32)) 20), reads-mslice 𝓤 H A W (rtF (fInt w32)) (tyRef erased mut (tyInt w32)) 20, refl, tt)))))))))) (room-gone 𝓤 H A (tyInt w64)) _ refl) $
       ghosts (G77 κs qs) _ (g-drop-sref 𝓤 H A W E (G77 κs qs) 30 15 (Array (rtF (fInt w32)) 256) (tyRef erased imm (tyArray (tyInt w32) 256)) (λ x. x) (as-is 𝓤 H A (sref (Array (rtF (fInt w32)) 256) (tyRef erased imm (tyArray (tyInt w32) 256)) 15))) $
       ghosts _ _ (g-drop-sref 𝓤 H A W E _ 31 16 (Array (rtF (fInt w32)) 256) (tyRef erased imm (tyArray (tyInt w32) 256)) (λ x. x) (as-is 𝓤 H A (sref (Array (rtF (fInt w32)) 256) (tyRef erased imm (tyArray (tyInt w32) 256)) 16))) $
       ghosts _ (G80 κs qs) (g-room 𝓤 H A W E _ 33 _ (room-sslice 𝓤 H A W (rtF (fInt w32)) (tyRef erased imm (tyInt w32)) 17)) $
@@ -383,8 +366,8 @@ module _ (w : World) where
   abbrev known0-at : Knows (w .𝓤) (w .H) (w .𝓖 .A) (Wof w) (𝓣of w code.env) 9 K0.ps K0.r R0.Asked R0.Learnt "pass_lists::view"
   known0-at = R0.known w code.env S0.name S0.routine code.calls-pass-lists·view (M0.met (w .𝓤) (w .H) (w .𝓜) (w .𝓖) (w .𝓡))
 
-  abbrev known1-at : Knows (w .𝓤) (w .H) (w .𝓖 .A) (Wof w) (𝓣of w code.env) 8 K1.ps K1.r R1.Asked R1.Learnt "topology::ranked::rank_junctions"
-  known1-at = R1.known w code.env S1.name S1.routine code.calls-topology·ranked·rank-junctions (M1.met (w .𝓤) (w .H) (w .𝓜) (w .𝓖) (w .𝓡))
+  abbrev known1-at : Knows (w .𝓤) (w .H) (w .𝓖 .A) (Wof w) (𝓣of w code.env) 8 K1.ps K1.r K1.Asked K1.Learnt "topology::ranked::rank_junctions"
+  known1-at = K1.known w code.env S1.name S1.routine code.calls-topology·ranked·rank-junctions (M1.met (w .𝓤) (w .H) (w .𝓜) (w .𝓖) (w .𝓡))
 
 module _ (w : World) (κs : Lfts 10) (qs : Shares 10) (bs : List ℕ) where
   abbrev pub after-view-at : Der (Wof w) (𝓣of w code.env) (EnvOf (w .𝓤) (w .H) (tyR r ∷ tysP ps xs) bs) (G61 κs qs) (past 15 (code.function .body)) (Δret 10 ps r xs m κs qs)

@@ -2,8 +2,7 @@
 use Rattle.topology.proofs.Rules.{Array, Atoms, Cx, Dens, Env, EnvOf, Given, Heap, Lfts, List, Mo, Outs, Row, Shares, Tables, Ty, URA, Want, World, [], _∷_, _≡_, alive, any-gone, arr-mem, arr-owed, arr-shr, arrF, as-is, asMut, asShr, bool-lawful, bool-makes, cRf, dead, deref, drop, erased, fBool, fInt, false, field, fz-lent-sl, fz-open, g-as-by, g-back-arr, g-back-arr-shr, g-back-sc, g-back-sl, g-begin, g-end, g-forget, g-room, g-way-back, getD, held, imm, init, lease, lenV, lft, lit<, mem-arr, mleft, mref, mref-mem, msleft, mslice, mslice-owed, msptr, mut, named, oBig, oBool, oFld, oInt, off, out, pin-lease, pointee, puts-none-sl, puts-open, puts-whole, reads-mref, reads-mslice, reads-owed-len, reads-sc, reads-sref, reads-sslice, refl, room-arr, room-gone, room-sc, room-sslice, rtF, sInt, sUnit, sc-here, sc-owed, set, setLife, setRow, spares-sref, spares-sslice, spotOf, sslice, ssptr, sub-id, suc, t-arr-borrow, t-arr-share, t-call-plain, t-repeat, t-sc-borrow, t-sl-aggregate, t-sl-relend, t-way-lend-slice, takes-whole, told-none, tyArray, tyBool, tyInt, tyR, tyRef, tyUnit, tysP, uint-lawful, uint-makes, vAt, w16, w32, w64, wantQ, whole, whole-arr, wt-mref, wt-mut, Γin, Δret, ℕ}
 use Rattle.context.proofs.Region as twin-0
 use borrow.Fn.Plain.{Known as Knows}
-use Rattle.topology.proofs.Seen.junction_pass.allowed_proposals.Kinds as K0
-use Rattle.topology.proofs.Seen.junction_pass.allowed_proposals.Reads as R0
+use Rattle.topology.proofs.Seen.junction_pass.allowed_proposals as K0
 use Rattle.topology.proofs.junction_pass.allowed_proposals.Symbol as S0
 use Rattle.topology.proofs.junction_pass.allowed_proposals.Met as M0
 use Rattle.junction_selection.proofs.selection.select_proposals.Kinds as K1
@@ -14,11 +13,10 @@ use Rattle.ranked_rows.proofs.list_ranked.Kinds as K2
 use Rattle.ranked_rows.proofs.list_ranked.Reads as R2
 use Rattle.ranked_rows.proofs.list_ranked.Symbol as S2
 use Rattle.ranked_rows.proofs.list_ranked.Met as M2
-use Rattle.topology.proofs.Seen.ranked.rank_junctions.Kinds.{ps, r}
 use Rattle.topology.proofs.ranked.rank_junctions.Code as code
 use contract.Running
 use Rattle.topology.proofs.Contracts.{Answers, Post, Pre, Wof, met, 𝓣of}
-use Rattle.topology.proofs.Seen.ranked.rank_junctions.Reads.{the-contract}
+use Rattle.topology.proofs.Seen.ranked.rank_junctions.{ps, r, the-contract}
 use Rattle.topology.proofs.ranked.rank_junctions.Key as key
 use Rattle.topology.proofs.ranked.rank_junctions.Statement.{statement}
 use Rattle.topology.proofs.Steps.{Der, _$_, ghosts, homes, patched, rets, stmt, typesPast}
@@ -54,8 +52,8 @@ module _ (κs : Lfts 8) (qs : Shares 8) where
   abbrev row6 : Row
   row6 = msptr (rtF (fInt w32)) (tyRef erased mut (tyArray (tyInt w32) 1704)) 8
 
-  abbrev row7 : Row
-  row7 = mslice (rtF (fInt w32)) (tyRef erased mut (tyInt w32)) 8
+  abbrev row7 : ℕ → Row
+  row7 k = mslice (rtF (fInt w32)) (tyRef erased mut (tyInt w32)) k
 
   abbrev row8 : Row
   row8 = sc-owed (Array (rtF fBool) 426) 9
@@ -72,17 +70,17 @@ module _ (κs : Lfts 8) (qs : Shares 8) where
   abbrev row12 : Row
   row12 = mleft (Array (rtF fBool) 426) (tyRef erased mut (tyArray tyBool 426))
 
-  abbrev row13 : Row
-  row13 = arr-shr (rtF (fInt w32)) 1704 10
+  abbrev row13 : ℕ → Row
+  row13 k = arr-shr (rtF (fInt w32)) 1704 k
 
-  abbrev row15 : Row
-  row15 = sslice (rtF (fInt w32)) (tyRef erased imm (tyInt w32)) 10
+  abbrev row15 : ℕ → Row
+  row15 k = sslice (rtF (fInt w32)) (tyRef erased imm (tyInt w32)) k
 
-  abbrev row16 : Row
-  row16 = arr-shr (rtF fBool) 426 11
+  abbrev row16 : ℕ → Row
+  row16 k = arr-shr (rtF fBool) 426 k
 
-  abbrev row18 : Row
-  row18 = sslice (rtF fBool) (tyRef erased imm tyBool) 11
+  abbrev row18 : ℕ → Row
+  row18 k = sslice (rtF fBool) (tyRef erased imm tyBool) k
 
   abbrev row19 : Row
   row19 = held (fz-open erased 6 (κs .1 .1 .1 .1 .1 .1 .0) (lease (κs .1 .1 .1 .1 .1 .1 .0) (qs .1 .1 .1 .1 .1 .1 .0)) (fz-lent-sl (rtF fBool) 256 12))
@@ -96,23 +94,8 @@ module _ (κs : Lfts 8) (qs : Shares 8) where
   abbrev row23 : Row
   row23 = msleft (rtF fBool) (tyRef erased mut tyBool)
 
-  abbrev row24 : Row
-  row24 = arr-shr (rtF (fInt w32)) 1704 13
-
-  abbrev row26 : Row
-  row26 = sslice (rtF (fInt w32)) (tyRef erased imm (tyInt w32)) 13
-
-  abbrev row27 : Row
-  row27 = arr-shr (rtF fBool) 426 14
-
-  abbrev row29 : Row
-  row29 = sslice (rtF fBool) (tyRef erased imm tyBool) 14
-
   abbrev row30 : Row
   row30 = mslice-owed (rtF (fInt w32)) (tyRef (named 7) mut (tyInt w32)) 7 15 (lease (κs .1 .1 .1 .1 .1 .1 .1 .0) (qs .1 .1 .1 .1 .1 .1 .1 .0))
-
-  abbrev row32 : Row
-  row32 = mslice (rtF (fInt w32)) (tyRef erased mut (tyInt w32)) 15
 
   abbrev pub G6 : Cx
   G6 = patched ((11, row1) ∷ []) ([]) G0
@@ -124,7 +107,7 @@ module _ (κs : Lfts 8) (qs : Shares 8) where
   G11 = patched ((11, row5) ∷ (12, row4) ∷ (14, row6) ∷ []) ((8, alive) ∷ []) G0
 
   abbrev pub G14 : Cx
-  G14 = patched ((11, row5) ∷ (12, row8) ∷ (15, row7) ∷ (16, row9) ∷ []) ((8, alive) ∷ (9, alive) ∷ []) G0
+  G14 = patched ((11, row5) ∷ (12, row8) ∷ (15, row7 8) ∷ (16, row9) ∷ []) ((8, alive) ∷ (9, alive) ∷ []) G0
 
   abbrev pub G15 : Cx
   G15 = patched ((11, row5) ∷ (12, row8) ∷ (13, row10) ∷ (15, row11) ∷ (16, row12) ∷ []) ((8, alive) ∷ (9, alive) ∷ []) G0
@@ -136,25 +119,25 @@ module _ (κs : Lfts 8) (qs : Shares 8) where
   G21 = patched ((11, row2) ∷ (12, row4) ∷ (13, row10) ∷ []) ([]) G0
 
   abbrev pub G24 : Cx
-  G24 = patched ((11, row13) ∷ (12, row4) ∷ (13, row10) ∷ (19, row15) ∷ []) ((10, alive) ∷ []) G0
+  G24 = patched ((11, row13 10) ∷ (12, row4) ∷ (13, row10) ∷ (19, row15 10) ∷ []) ((10, alive) ∷ []) G0
 
   abbrev pub G27 : Cx
-  G27 = patched ((11, row13) ∷ (12, row16) ∷ (13, row10) ∷ (19, row15) ∷ (21, row18) ∷ []) ((10, alive) ∷ (11, alive) ∷ []) G0
+  G27 = patched ((11, row13 10) ∷ (12, row16 11) ∷ (13, row10) ∷ (19, row15 10) ∷ (21, row18 11) ∷ []) ((10, alive) ∷ (11, alive) ∷ []) G0
 
   abbrev pub G28 : Cx
-  G28 = patched ((11, row13) ∷ (12, row16) ∷ (13, row10) ∷ (19, row15) ∷ (21, row18) ∷ []) ((10, alive) ∷ (11, alive) ∷ (12, alive) ∷ []) G0
+  G28 = patched ((11, row13 10) ∷ (12, row16 11) ∷ (13, row10) ∷ (19, row15 10) ∷ (21, row18 11) ∷ []) ((10, alive) ∷ (11, alive) ∷ (12, alive) ∷ []) G0
 
   abbrev pub G30 : Cx
-  G30 = patched ((9, row19) ∷ (11, row13) ∷ (12, row16) ∷ (13, row10) ∷ (19, row15) ∷ (21, row18) ∷ (23, row21) ∷ []) ((6, off) ∷ (10, alive) ∷ (11, alive) ∷ (12, alive) ∷ []) G0
+  G30 = patched ((9, row19) ∷ (11, row13 10) ∷ (12, row16 11) ∷ (13, row10) ∷ (19, row15 10) ∷ (21, row18 11) ∷ (23, row21) ∷ []) ((6, off) ∷ (10, alive) ∷ (11, alive) ∷ (12, alive) ∷ []) G0
 
   abbrev pub G31 : Cx
-  G31 = patched ((9, row19) ∷ (11, row13) ∷ (12, row16) ∷ (13, row10) ∷ (17, row22) ∷ (19, row15) ∷ (21, row18) ∷ (23, row23) ∷ []) ((6, off) ∷ (10, alive) ∷ (11, alive) ∷ (12, alive) ∷ []) G0
+  G31 = patched ((9, row19) ∷ (11, row13 10) ∷ (12, row16 11) ∷ (13, row10) ∷ (17, row22) ∷ (19, row15 10) ∷ (21, row18 11) ∷ (23, row23) ∷ []) ((6, off) ∷ (10, alive) ∷ (11, alive) ∷ (12, alive) ∷ []) G0
 
   abbrev pub G34 : Cx
-  G34 = patched ((9, row19) ∷ (11, row13) ∷ (12, row16) ∷ (13, row10) ∷ (23, row23) ∷ []) ((6, off) ∷ (10, alive) ∷ (11, alive) ∷ (12, alive) ∷ []) G0
+  G34 = patched ((9, row19) ∷ (11, row13 10) ∷ (12, row16 11) ∷ (13, row10) ∷ (23, row23) ∷ []) ((6, off) ∷ (10, alive) ∷ (11, alive) ∷ (12, alive) ∷ []) G0
 
   abbrev pub G37 : Cx
-  G37 = patched ((9, row19) ∷ (11, row2) ∷ (12, row16) ∷ (13, row10) ∷ (23, row23) ∷ []) ((6, off) ∷ (11, alive) ∷ (12, alive) ∷ []) G0
+  G37 = patched ((9, row19) ∷ (11, row2) ∷ (12, row16 11) ∷ (13, row10) ∷ (23, row23) ∷ []) ((6, off) ∷ (11, alive) ∷ (12, alive) ∷ []) G0
 
   abbrev pub G40 : Cx
   G40 = patched ((9, row19) ∷ (11, row2) ∷ (12, row4) ∷ (13, row10) ∷ (23, row23) ∷ []) ((6, off) ∷ (12, alive) ∷ []) G0
@@ -163,22 +146,22 @@ module _ (κs : Lfts 8) (qs : Shares 8) where
   G41 = patched ((9, row19) ∷ (11, row2) ∷ (12, row4) ∷ (13, row10) ∷ (23, row23) ∷ []) ((6, off) ∷ (12, dead) ∷ []) G0
 
   abbrev pub G46 : Cx
-  G46 = patched ((11, row24) ∷ (12, row4) ∷ (13, row10) ∷ (25, row26) ∷ []) ((13, alive) ∷ []) G0
+  G46 = patched ((11, row13 13) ∷ (12, row4) ∷ (13, row10) ∷ (25, row15 13) ∷ []) ((13, alive) ∷ []) G0
 
   abbrev pub G49 : Cx
-  G49 = patched ((11, row24) ∷ (12, row27) ∷ (13, row10) ∷ (25, row26) ∷ (27, row29) ∷ []) ((13, alive) ∷ (14, alive) ∷ []) G0
+  G49 = patched ((11, row13 13) ∷ (12, row16 14) ∷ (13, row10) ∷ (25, row15 13) ∷ (27, row18 14) ∷ []) ((13, alive) ∷ (14, alive) ∷ []) G0
 
   abbrev pub G52 : Cx
-  G52 = patched ((10, row30) ∷ (11, row24) ∷ (12, row27) ∷ (13, row10) ∷ (25, row26) ∷ (27, row29) ∷ (29, row32) ∷ []) ((7, off) ∷ (13, alive) ∷ (14, alive) ∷ (15, alive) ∷ []) G0
+  G52 = patched ((10, row30) ∷ (11, row13 13) ∷ (12, row16 14) ∷ (13, row10) ∷ (25, row15 13) ∷ (27, row18 14) ∷ (29, row7 15) ∷ []) ((7, off) ∷ (13, alive) ∷ (14, alive) ∷ (15, alive) ∷ []) G0
 
   abbrev pub G53 : Cx
-  G53 = patched ((0, row10) ∷ (10, row30) ∷ (11, row24) ∷ (12, row27) ∷ (13, row10) ∷ (25, row26) ∷ (27, row29) ∷ (29, row11) ∷ []) ((7, off) ∷ (13, alive) ∷ (14, alive) ∷ (15, alive) ∷ []) G0
+  G53 = patched ((0, row10) ∷ (10, row30) ∷ (11, row13 13) ∷ (12, row16 14) ∷ (13, row10) ∷ (25, row15 13) ∷ (27, row18 14) ∷ (29, row11) ∷ []) ((7, off) ∷ (13, alive) ∷ (14, alive) ∷ (15, alive) ∷ []) G0
 
   abbrev pub G56 : Cx
-  G56 = patched ((0, row10) ∷ (10, row30) ∷ (11, row24) ∷ (12, row27) ∷ (29, row11) ∷ []) ((7, off) ∷ (13, alive) ∷ (14, alive) ∷ (15, alive) ∷ []) G0
+  G56 = patched ((0, row10) ∷ (10, row30) ∷ (11, row13 13) ∷ (12, row16 14) ∷ (29, row11) ∷ []) ((7, off) ∷ (13, alive) ∷ (14, alive) ∷ (15, alive) ∷ []) G0
 
   abbrev pub G59 : Cx
-  G59 = patched ((0, row10) ∷ (10, row30) ∷ (11, row2) ∷ (12, row27) ∷ (29, row11) ∷ []) ((7, off) ∷ (14, alive) ∷ (15, alive) ∷ []) G0
+  G59 = patched ((0, row10) ∷ (10, row30) ∷ (11, row2) ∷ (12, row16 14) ∷ (29, row11) ∷ []) ((7, off) ∷ (14, alive) ∷ (15, alive) ∷ []) G0
 
   abbrev pub G62 : Cx
   G62 = patched ((0, row10) ∷ (10, row30) ∷ (12, row4) ∷ (29, row11) ∷ []) ((7, off) ∷ (14, dead) ∷ (15, alive) ∷ []) G0
@@ -193,7 +176,7 @@ module _ (κs : Lfts 8) (qs : Shares 8) where
   G70 = patched ((0, row10) ∷ (2, (any-gone (ty 2))) ∷ (3, (any-gone (ty 3))) ∷ []) ([]) G0
 
 module _ {M : Type 1} (𝓤 : URA M) (H : Heap 𝓤) (A : Atoms 𝓤) (W : Given 𝓤 H A) (𝓣 : Tables 𝓤 H)
-    (known0 : Knows 𝓤 H A W 𝓣 8 K0.ps K0.r R0.Asked R0.Learnt "topology::junction_pass::allowed_proposals") (known1 : Knows 𝓤 H A W 𝓣 6 K1.ps K1.r R1.Asked R1.Learnt "junction_selection::selection::select_proposals") (known2 : Knows 𝓤 H A W 𝓣 6 K2.ps K2.r R2.Asked R2.Learnt "ranked_rows::list_ranked") (κs : Lfts 8) (qs : Shares 8) (bs : List ℕ) where
+    (known0 : Knows 𝓤 H A W 𝓣 8 K0.ps K0.r K0.Asked K0.Learnt "topology::junction_pass::allowed_proposals") (known1 : Knows 𝓤 H A W 𝓣 6 K1.ps K1.r R1.Asked R1.Learnt "junction_selection::selection::select_proposals") (known2 : Knows 𝓤 H A W 𝓣 6 K2.ps K2.r R2.Asked R2.Learnt "ranked_rows::list_ranked") (κs : Lfts 8) (qs : Shares 8) (bs : List ℕ) where
   abbrev E : Env 𝓤 H
   E = EnvOf 𝓤 H (tyR r ∷ tysP ps xs) bs
 
@@ -208,7 +191,7 @@ module _ {M : Type 1} (𝓤 : URA M) (H : Heap 𝓤) (A : Atoms 𝓤) (W : Given
       stmt (G11 κs qs) _ (t-sl-aggregate 𝓤 H A W E (rtF (fInt w32)) 𝓣 (asMut (rtF (fInt w32))) (G11 κs qs) 14 15 8 (tyRef erased mut (tyArray (tyInt w32) 1704)) (tyRef erased mut (tyInt w32)) (λ x. x) (oBig w64 1704) (as-is 𝓤 H A (msptr (rtF (fInt w32)) (tyRef erased mut (tyArray (tyInt w32) 1704)) 8)) (room-gone 𝓤 H A _) record { lower = record { fits = lit< tt } } refl refl (λ b o k. tt)) $
       ghosts _ _ (g-begin 𝓤 H A W E _ 9 _) $
       stmt _ (G14 κs qs) (t-sc-borrow 𝓤 H A W E 𝓣 _ 12 16 9 (Array (rtF fBool) 426) (tyRef erased mut (tyArray tyBool 426)) (λ x. x) (mem-arr 𝓤 H A W (rtF fBool) 426) (room-gone 𝓤 H A (tyRef erased mut (tyArray tyBool 426))) refl (λ b o. tt)) $
-      stmt (G14 κs qs) (G15 κs qs) (t-call-plain 𝓤 H A W 𝓣 8 K0.ps K0.r R0.Asked R0.Learnt "topology::junction_pass::allowed_proposals" known0 E (λ pos β. β) (G14 κs qs) (record { pos = 1; ty = tyRef (named 0) imm (pointee (twin-0.the-row .written)); ref = λ x. x }, (vAt 2 (λ x. x), (vAt 3 (λ x. x), (record { pos = 4; ty = tyRef (named 1) imm (tyInt w64); ref = λ x. x }, (record { pos = 5; ty = tyRef (named 2) imm (tyArray (tyInt w32) 256); ref = λ x. x }, (record { pos = 6; ty = tyRef (named 3) imm (tyArray (tyInt w32) 256); ref = λ x. x }, (record { pos = 7; ty = tyRef (named 4) imm (tyInt w32); ref = λ x. x }, (record { pos = 8; ty = tyRef (named 5) imm (tyInt w16); ref = λ x. x }, (record { pos = 15; ty = tyRef erased mut (tyInt w32); ref = λ x. x }, (record { pos = 16; ty = tyRef erased mut (tyArray tyBool 426); ref = λ x. x }, tt)))))))))) 13 (0 ∷ 1 ∷ 2 ∷ 3 ∷ 4 ∷ 5 ∷ 8 ∷ 9 ∷ []) (sub-id 𝓤 H A W ((G14 κs qs) .slots)) (spares-sslice 𝓤 H A W twin-0.the-row (tyRef (named 0) imm (pointee (twin-0.the-row .written))) 0, reads-sslice 𝓤 H A W twin-0.the-row (tyRef (named 0) imm (pointee (twin-0.the-row .written))) 0, refl, ((reads-sc 𝓤 H A W (sInt w64), refl), ((reads-sc 𝓤 H A W (sInt w64), refl), (spares-sslice 𝓤 H A W (rtF (fInt w64)) (tyRef (named 1) imm (tyInt w64)) 1, reads-sslice 𝓤 H A W (rtF (fInt w64)) (tyRef (named 1) imm (tyInt w64)) 1, refl, (spares-sref 𝓤 H A W (Array (rtF (fInt w32)) 256) (tyRef (named 2) imm (tyArray (tyInt w32) 256)) 2, reads-sref 𝓤 H A W (Array (rtF (fInt w32)) 256) (tyRef (named 2) imm (tyArray (tyInt w32) 256)) 2, refl, (spares-sref 𝓤 H A W (Array (rtF (fInt w32)) 256) (tyRef (named 3) imm (tyArray (tyInt w32) 256)) 3, reads-sref 𝓤 H A W (Array (rtF (fInt w32)) 256) (tyRef (named 3) imm (tyArray (tyInt w32) 256)) 3, refl, (spares-sslice 𝓤 H A W (rtF (fInt w32)) (tyRef (named 4) imm (tyInt w32)) 4, reads-sslice 𝓤 H A W (rtF (fInt w32)) (tyRef (named 4) imm (tyInt w32)) 4, refl, (spares-sslice 𝓤 H A W (rtF (fInt w16)) (tyRef (named 5) imm (tyInt w16)) 5, reads-sslice 𝓤 H A W (rtF (fInt w16)) (tyRef (named 5) imm (tyInt w16)) 5, refl, (as-is 𝓤 H A (mslice (rtF (fInt w32)) (tyRef erased mut (tyInt w32)) 8), reads-mslice 𝓤 H A W (rtF (fInt w32)) (tyRef erased mut (tyInt w32)) 8, refl, (as-is 𝓤 H A (mref (Array (rtF fBool) 426) (tyRef erased mut (tyArray tyBool 426)) 9), reads-mref 𝓤 H A W (Array (rtF fBool) 426) (tyRef erased mut (tyArray tyBool 426)) 9, refl, tt)))))))))) (room-gone 𝓤 H A (tyInt w64)) _ refl) $
+      stmt (G14 κs qs) (G15 κs qs) (t-call-plain 𝓤 H A W 𝓣 8 K0.ps K0.r K0.Asked K0.Learnt "topology::junction_pass::allowed_proposals" known0 E (λ pos β. β) (G14 κs qs) (record { pos = 1; ty = tyRef (named 0) imm (pointee (twin-0.the-row .written)); ref = λ x. x }, (vAt 2 (λ x. x), (vAt 3 (λ x. x), (record { pos = 4; ty = tyRef (named 1) imm (tyInt w64); ref = λ x. x }, (record { pos = 5; ty = tyRef (named 2) imm (tyArray (tyInt w32) 256); ref = λ x. x }, (record { pos = 6; ty = tyRef (named 3) imm (tyArray (tyInt w32) 256); ref = λ x. x }, (record { pos = 7; ty = tyRef (named 4) imm (tyInt w32); ref = λ x. x }, (record { pos = 8; ty = tyRef (named 5) imm (tyInt w16); ref = λ x. x }, (record { pos = 15; ty = tyRef erased mut (tyInt w32); ref = λ x. x }, (record { pos = 16; ty = tyRef erased mut (tyArray tyBool 426); ref = λ x. x }, tt)))))))))) 13 (0 ∷ 1 ∷ 2 ∷ 3 ∷ 4 ∷ 5 ∷ 8 ∷ 9 ∷ []) (sub-id 𝓤 H A W ((G14 κs qs) .slots)) (spares-sslice 𝓤 H A W twin-0.the-row (tyRef (named 0) imm (pointee (twin-0.the-row .written))) 0, reads-sslice 𝓤 H A W twin-0.the-row (tyRef (named 0) imm (pointee (twin-0.the-row .written))) 0, refl, ((reads-sc 𝓤 H A W (sInt w64), refl), ((reads-sc 𝓤 H A W (sInt w64), refl), (spares-sslice 𝓤 H A W (rtF (fInt w64)) (tyRef (named 1) imm (tyInt w64)) 1, reads-sslice 𝓤 H A W (rtF (fInt w64)) (tyRef (named 1) imm (tyInt w64)) 1, refl, (spares-sref 𝓤 H A W (Array (rtF (fInt w32)) 256) (tyRef (named 2) imm (tyArray (tyInt w32) 256)) 2, reads-sref 𝓤 H A W (Array (rtF (fInt w32)) 256) (tyRef (named 2) imm (tyArray (tyInt w32) 256)) 2, refl, (spares-sref 𝓤 H A W (Array (rtF (fInt w32)) 256) (tyRef (named 3) imm (tyArray (tyInt w32) 256)) 3, reads-sref 𝓤 H A W (Array (rtF (fInt w32)) 256) (tyRef (named 3) imm (tyArray (tyInt w32) 256)) 3, refl, (spares-sslice 𝓤 H A W (rtF (fInt w32)) (tyRef (named 4) imm (tyInt w32)) 4, reads-sslice 𝓤 H A W (rtF (fInt w32)) (tyRef (named 4) imm (tyInt w32)) 4, refl, (spares-sslice 𝓤 H A W (rtF (fInt w16)) (tyRef (named 5) imm (tyInt w16)) 5, reads-sslice 𝓤 H A W (rtF (fInt w16)) (tyRef (named 5) imm (tyInt w16)) 5, refl, (as-is 𝓤 H A (mslice (rtF (fInt w32)) (tyRef erased mut (tyInt w32)) 8), reads-mslice 𝓤 H A W (rtF (fInt w32)) (tyRef erased mut (tyInt w32)) 8, refl, (as-is 𝓤 H A (mref (Array (rtF fBool) 426) (tyRef erased mut (tyArray tyBool 426)) 9), reads-mref 𝓤 H A W (Array (rtF fBool) 426) (tyRef erased mut (tyArray tyBool 426)) 9, refl, tt)))))))))) (room-gone 𝓤 H A (tyInt w64)) _ refl) $
       ghosts (G15 κs qs) _ (g-end 𝓤 H A W E (G15 κs qs) 8 refl) $
       ghosts _ _ (g-back-arr 𝓤 H A W E (rtF (fInt w32)) _ 15 11 8 1704 (tyRef erased mut (tyInt w32)) (λ x. x) (λ x. x) (as-is 𝓤 H A (msleft (rtF (fInt w32)) (tyRef erased mut (tyInt w32)))) (as-is 𝓤 H A (arr-owed (rtF (fInt w32)) 1704 8)) refl) $
       ghosts _ (G18 κs qs) (g-forget 𝓤 H A W E _ 8 dead refl) $
@@ -267,8 +250,8 @@ module _ {M : Type 1} (𝓤 : URA M) (H : Heap 𝓤) (A : Atoms 𝓤) (W : Given
 
 -- the derivations at a model
 module _ (w : World) where
-  abbrev known0-at : Knows (w .𝓤) (w .H) (w .𝓖 .A) (Wof w) (𝓣of w code.env) 8 K0.ps K0.r R0.Asked R0.Learnt "topology::junction_pass::allowed_proposals"
-  known0-at = R0.known w code.env S0.name S0.routine code.calls-topology·junction-pass·allowed-proposals (M0.met (w .𝓤) (w .H) (w .𝓜) (w .𝓖) (w .𝓡))
+  abbrev known0-at : Knows (w .𝓤) (w .H) (w .𝓖 .A) (Wof w) (𝓣of w code.env) 8 K0.ps K0.r K0.Asked K0.Learnt "topology::junction_pass::allowed_proposals"
+  known0-at = K0.known w code.env S0.name S0.routine code.calls-topology·junction-pass·allowed-proposals (M0.met (w .𝓤) (w .H) (w .𝓜) (w .𝓖) (w .𝓡))
 
   abbrev known1-at : Knows (w .𝓤) (w .H) (w .𝓖 .A) (Wof w) (𝓣of w code.env) 6 K1.ps K1.r R1.Asked R1.Learnt "junction_selection::selection::select_proposals"
   known1-at = R1.known w code.env S1.name S1.routine code.calls-junction-selection·selection·select-proposals (M1.met (w .𝓤) (w .H) (w .𝓜) (w .𝓖) (w .𝓡))

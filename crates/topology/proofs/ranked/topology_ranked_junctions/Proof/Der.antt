@@ -14,23 +14,20 @@ use Rattle.call_partition.proofs.prepare.Kinds as K0
 use Rattle.call_partition.proofs.prepare.Reads as R0
 use Rattle.call_partition.proofs.prepare.Symbol as S0
 use Rattle.call_partition.proofs.prepare.Met as M0
-use Rattle.topology.proofs.Seen.records.fill.Kinds as K1
-use Rattle.topology.proofs.Seen.records.fill.Reads as R1
+use Rattle.topology.proofs.Seen.records.fill as K1
 use Rattle.topology.proofs.records.fill.Symbol as S1
 use Rattle.topology.proofs.records.fill.Met as M1
-use Rattle.topology.proofs.Seen.ranked.mark_ranked.Kinds as K2
-use Rattle.topology.proofs.Seen.ranked.mark_ranked.Reads as R2
+use Rattle.topology.proofs.Seen.ranked.mark_ranked as K2
 use Rattle.topology.proofs.ranked.mark_ranked.Symbol as S2
 use Rattle.topology.proofs.ranked.mark_ranked.Met as M2
 use Rattle.ranked_finish.proofs.finish_ranked.Kinds as K3
 use Rattle.ranked_finish.proofs.finish_ranked.Reads as R3
 use Rattle.ranked_finish.proofs.finish_ranked.Symbol as S3
 use Rattle.ranked_finish.proofs.finish_ranked.Met as M3
-use Rattle.topology.proofs.Seen.ranked.topology_ranked_junctions.Kinds.{ps, r}
 use Rattle.topology.proofs.ranked.topology_ranked_junctions.Code as code
 use contract.Running
 use Rattle.topology.proofs.Contracts.{Answers, Post, Pre, Wof, met, 𝓣of}
-use Rattle.topology.proofs.Seen.ranked.topology_ranked_junctions.Reads.{the-contract}
+use Rattle.topology.proofs.Seen.ranked.topology_ranked_junctions.{ps, r, the-contract}
 use Rattle.topology.proofs.ranked.topology_ranked_junctions.Key as key
 use Rattle.topology.proofs.ranked.topology_ranked_junctions.Statement.{statement}
 use Rattle.topology.proofs.Steps.{Der, _$_, arm-of, first, ghosts, head-of, homes, last, past, patched, rets, stmt, switches, then, typesPast}
@@ -54,32 +51,23 @@ module _ (κs : Lfts 12) (qs : Shares 12) where
   abbrev row2 : Row
   row2 = mslice-owed (rtF (fInt w32)) (tyRef (named 4) mut (tyInt w32)) 4 12 (lease (κs .1 .1 .1 .1 .0) (qs .1 .1 .1 .1 .0))
 
-  abbrev row4 : Row
-  row4 = mslice (rtF (fInt w32)) (tyRef erased mut (tyInt w32)) 12
+  abbrev row4 : ℕ → Row
+  row4 k = mslice (rtF (fInt w32)) (tyRef erased mut (tyInt w32)) k
 
-  abbrev row5 : Row
-  row5 = mslice-owed (rtF (fInt w16)) (tyRef (named 5) mut (tyInt w16)) 5 13 (lease (κs .1 .1 .1 .1 .1 .0) (qs .1 .1 .1 .1 .1 .0))
+  abbrev row5 : ℕ → Row
+  row5 k = mslice-owed (rtF (fInt w16)) (tyRef (named 5) mut (tyInt w16)) 5 k (lease (κs .1 .1 .1 .1 .1 .0) (qs .1 .1 .1 .1 .1 .0))
 
-  abbrev row7 : Row
-  row7 = mslice (rtF (fInt w16)) (tyRef erased mut (tyInt w16)) 13
+  abbrev row7 : ℕ → Row
+  row7 k = mslice (rtF (fInt w16)) (tyRef erased mut (tyInt w16)) k
 
-  abbrev row8 : Row
-  row8 = mslice-owed (rtF (fInt w32)) (tyRef (named 6) mut (tyInt w32)) 6 14 (lease (κs .1 .1 .1 .1 .1 .1 .0) (qs .1 .1 .1 .1 .1 .1 .0))
-
-  abbrev row10 : Row
-  row10 = mslice (rtF (fInt w32)) (tyRef erased mut (tyInt w32)) 14
+  abbrev row8 : ℕ → Row
+  row8 k = mslice-owed (rtF (fInt w32)) (tyRef (named 6) mut (tyInt w32)) 6 k (lease (κs .1 .1 .1 .1 .1 .1 .0) (qs .1 .1 .1 .1 .1 .1 .0))
 
   abbrev row11 : Row
   row11 = mslice-owed (rtF (fInt w32)) (tyRef (named 7) mut (tyInt w32)) 7 15 (lease (κs .1 .1 .1 .1 .1 .1 .1 .0) (qs .1 .1 .1 .1 .1 .1 .1 .0))
 
-  abbrev row13 : Row
-  row13 = mslice (rtF (fInt w32)) (tyRef erased mut (tyInt w32)) 15
-
   abbrev row14 : Row
   row14 = mslice-owed (rtF (fInt w32)) (tyRef (named 8) mut (tyInt w32)) 8 16 (lease (κs .1 .1 .1 .1 .1 .1 .1 .1 .0) (qs .1 .1 .1 .1 .1 .1 .1 .1 .0))
-
-  abbrev row16 : Row
-  row16 = mslice (rtF (fInt w32)) (tyRef erased mut (tyInt w32)) 16
 
   abbrev row17 : Row
   row17 = whole (Declared.row Prepared.the-type)
@@ -93,14 +81,11 @@ module _ (κs : Lfts 12) (qs : Shares 12) where
   abbrev row20 : Row
   row20 = whole (Declared'.row RankedAnswer.the-type)
 
-  abbrev row21 : Row
-  row21 = whole (Known enum 0)
+  abbrev row21 : ℕ → Row
+  row21 k = whole (Known enum k)
 
   abbrev row22 : Row
   row22 = whole (Declared'.row (apartT RankedAnswer.the-type))
-
-  abbrev row23 : Row
-  row23 = whole (Known enum 1)
 
   abbrev row24 : Row
   row24 = whole (Array (rtF fBool) 256)
@@ -120,17 +105,14 @@ module _ (κs : Lfts 12) (qs : Shares 12) where
   abbrev row30 : Row
   row30 = mslice twin-0.the-row (tyRef erased mut (pointee (twin-0.the-row .written))) 17
 
-  abbrev row31 : Row
-  row31 = mslice-owedS (rtF (fInt w32)) (tyRef (named 4) mut (tyInt w32)) 4 18 (lease (κs .1 .1 .1 .1 .0) (qs .1 .1 .1 .1 .0))
+  abbrev row31 : ℕ → Row
+  row31 k = mslice-owedS (rtF (fInt w32)) (tyRef (named 4) mut (tyInt w32)) 4 k (lease (κs .1 .1 .1 .1 .0) (qs .1 .1 .1 .1 .0))
 
-  abbrev row33 : Row
-  row33 = sslice (rtF (fInt w32)) (tyRef erased imm (tyInt w32)) 18
+  abbrev row33 : ℕ → Row
+  row33 k = sslice (rtF (fInt w32)) (tyRef erased imm (tyInt w32)) k
 
   abbrev row34 : Row
   row34 = mslice-owedS (rtF (fInt w32)) (tyRef (named 6) mut (tyInt w32)) 6 19 (lease (κs .1 .1 .1 .1 .1 .1 .0) (qs .1 .1 .1 .1 .1 .1 .0))
-
-  abbrev row36 : Row
-  row36 = sslice (rtF (fInt w32)) (tyRef erased imm (tyInt w32)) 19
 
   abbrev row37 : Row
   row37 = sc-here sUnit
@@ -144,35 +126,11 @@ module _ (κs : Lfts 12) (qs : Shares 12) where
   abbrev row41 : Row
   row41 = sslice twin-0.the-row (tyRef erased imm (pointee (twin-0.the-row .written))) 20
 
-  abbrev row42 : Row
-  row42 = mslice-owedS (rtF (fInt w32)) (tyRef (named 4) mut (tyInt w32)) 4 21 (lease (κs .1 .1 .1 .1 .0) (qs .1 .1 .1 .1 .0))
-
-  abbrev row44 : Row
-  row44 = sslice (rtF (fInt w32)) (tyRef erased imm (tyInt w32)) 21
-
   abbrev row45 : Row
   row45 = mslice-owedS (rtF (fInt w32)) (tyRef (named 7) mut (tyInt w32)) 7 22 (lease (κs .1 .1 .1 .1 .1 .1 .1 .0) (qs .1 .1 .1 .1 .1 .1 .1 .0))
 
-  abbrev row47 : Row
-  row47 = sslice (rtF (fInt w32)) (tyRef erased imm (tyInt w32)) 22
-
   abbrev row48 : Row
   row48 = mslice-owedS (rtF (fInt w32)) (tyRef (named 8) mut (tyInt w32)) 8 23 (lease (κs .1 .1 .1 .1 .1 .1 .1 .1 .0) (qs .1 .1 .1 .1 .1 .1 .1 .1 .0))
-
-  abbrev row50 : Row
-  row50 = sslice (rtF (fInt w32)) (tyRef erased imm (tyInt w32)) 23
-
-  abbrev row51 : Row
-  row51 = mslice-owed (rtF (fInt w16)) (tyRef (named 5) mut (tyInt w16)) 5 24 (lease (κs .1 .1 .1 .1 .1 .0) (qs .1 .1 .1 .1 .1 .0))
-
-  abbrev row53 : Row
-  row53 = mslice (rtF (fInt w16)) (tyRef erased mut (tyInt w16)) 24
-
-  abbrev row54 : Row
-  row54 = mslice-owed (rtF (fInt w32)) (tyRef (named 6) mut (tyInt w32)) 6 25 (lease (κs .1 .1 .1 .1 .1 .1 .0) (qs .1 .1 .1 .1 .1 .1 .0))
-
-  abbrev row56 : Row
-  row56 = mslice (rtF (fInt w32)) (tyRef erased mut (tyInt w32)) 25
 
   abbrev row57 : Row
   row57 = sc-owed (Array (rtF fBool) 256) 26
@@ -182,9 +140,6 @@ module _ (κs : Lfts 12) (qs : Shares 12) where
 
   abbrev row59 : Row
   row59 = arr-owed (rtF (fInt w32)) 2556 27
-
-  abbrev row61 : Row
-  row61 = mslice (rtF (fInt w32)) (tyRef erased mut (tyInt w32)) 27
 
   abbrev row62 : Row
   row62 = mleft (Array (rtF fBool) 256) (tyRef erased mut (tyArray tyBool 256))
@@ -198,21 +153,6 @@ module _ (κs : Lfts 12) (qs : Shares 12) where
   abbrev row65 : Row
   row65 = arr-shr (rtF (fInt w32)) 2556 29
 
-  abbrev row67 : Row
-  row67 = sslice (rtF (fInt w32)) (tyRef erased imm (tyInt w32)) 29
-
-  abbrev row68 : Row
-  row68 = mslice-owed (rtF (fInt w16)) (tyRef (named 5) mut (tyInt w16)) 5 30 (lease (κs .1 .1 .1 .1 .1 .0) (qs .1 .1 .1 .1 .1 .0))
-
-  abbrev row70 : Row
-  row70 = mslice (rtF (fInt w16)) (tyRef erased mut (tyInt w16)) 30
-
-  abbrev row71 : Row
-  row71 = mslice-owed (rtF (fInt w32)) (tyRef (named 6) mut (tyInt w32)) 6 31 (lease (κs .1 .1 .1 .1 .1 .1 .0) (qs .1 .1 .1 .1 .1 .1 .0))
-
-  abbrev row73 : Row
-  row73 = mslice (rtF (fInt w32)) (tyRef erased mut (tyInt w32)) 31
-
   abbrev row74 : Row
   row74 = mslice-owed (rtF (fInt w64)) (tyRef (named 10) mut (tyInt w64)) 10 32 (lease (κs .1 .1 .1 .1 .1 .1 .1 .1 .1 .1 .0) (qs .1 .1 .1 .1 .1 .1 .1 .1 .1 .1 .0))
 
@@ -222,9 +162,6 @@ module _ (κs : Lfts 12) (qs : Shares 12) where
   abbrev row77 : Row
   row77 = mslice-owed (rtF (fInt w32)) (tyRef (named 11) mut (tyInt w32)) 11 33 (lease (κs .1 .1 .1 .1 .1 .1 .1 .1 .1 .1 .1 .0) (qs .1 .1 .1 .1 .1 .1 .1 .1 .1 .1 .1 .0))
 
-  abbrev row79 : Row
-  row79 = mslice (rtF (fInt w32)) (tyRef erased mut (tyInt w32)) 33
-
   abbrev row80 : Row
   row80 = msleft (rtF (fInt w64)) (tyRef erased mut (tyInt w64))
 
@@ -232,31 +169,31 @@ module _ (κs : Lfts 12) (qs : Shares 12) where
   G15 = patched ((15, row1) ∷ (16, row1) ∷ []) ((12, alive) ∷ []) G0
 
   abbrev pub G18 : Cx
-  G18 = patched ((7, row2) ∷ (15, row1) ∷ (16, row1) ∷ (28, row4) ∷ []) ((4, off) ∷ (12, alive) ∷ (13, alive) ∷ []) G0
+  G18 = patched ((7, row2) ∷ (15, row1) ∷ (16, row1) ∷ (28, row4 12) ∷ []) ((4, off) ∷ (12, alive) ∷ (13, alive) ∷ []) G0
 
   abbrev pub G21 : Cx
-  G21 = patched ((7, row2) ∷ (8, row5) ∷ (15, row1) ∷ (16, row1) ∷ (28, row4) ∷ (30, row7) ∷ []) ((4, off) ∷ (5, off) ∷ (12, alive) ∷ (13, alive) ∷ (14, alive) ∷ []) G0
+  G21 = patched ((7, row2) ∷ (8, row5 13) ∷ (15, row1) ∷ (16, row1) ∷ (28, row4 12) ∷ (30, row7 13) ∷ []) ((4, off) ∷ (5, off) ∷ (12, alive) ∷ (13, alive) ∷ (14, alive) ∷ []) G0
 
   abbrev pub G24 : Cx
-  G24 = patched ((7, row2) ∷ (8, row5) ∷ (9, row8) ∷ (15, row1) ∷ (16, row1) ∷ (28, row4) ∷ (30, row7) ∷ (32, row10) ∷ []) ((4, off) ∷ (5, off) ∷ (6, off) ∷ (12, alive) ∷ (13, alive) ∷ (14, alive) ∷ (15, alive) ∷ []) G0
+  G24 = patched ((7, row2) ∷ (8, row5 13) ∷ (9, row8 14) ∷ (15, row1) ∷ (16, row1) ∷ (28, row4 12) ∷ (30, row7 13) ∷ (32, row4 14) ∷ []) ((4, off) ∷ (5, off) ∷ (6, off) ∷ (12, alive) ∷ (13, alive) ∷ (14, alive) ∷ (15, alive) ∷ []) G0
 
   abbrev pub G27 : Cx
-  G27 = patched ((7, row2) ∷ (8, row5) ∷ (9, row8) ∷ (10, row11) ∷ (15, row1) ∷ (16, row1) ∷ (28, row4) ∷ (30, row7) ∷ (32, row10) ∷ (34, row13) ∷ []) ((4, off) ∷ (5, off) ∷ (6, off) ∷ (7, off) ∷ (12, alive) ∷ (13, alive) ∷ (14, alive) ∷ (15, alive) ∷ (16, alive) ∷ []) G0
+  G27 = patched ((7, row2) ∷ (8, row5 13) ∷ (9, row8 14) ∷ (10, row11) ∷ (15, row1) ∷ (16, row1) ∷ (28, row4 12) ∷ (30, row7 13) ∷ (32, row4 14) ∷ (34, row4 15) ∷ []) ((4, off) ∷ (5, off) ∷ (6, off) ∷ (7, off) ∷ (12, alive) ∷ (13, alive) ∷ (14, alive) ∷ (15, alive) ∷ (16, alive) ∷ []) G0
 
   abbrev pub G29 : Cx
-  G29 = patched ((7, row2) ∷ (8, row5) ∷ (9, row8) ∷ (10, row11) ∷ (11, row14) ∷ (15, row1) ∷ (16, row1) ∷ (28, row4) ∷ (30, row7) ∷ (32, row10) ∷ (34, row13) ∷ (36, row16) ∷ []) ((4, off) ∷ (5, off) ∷ (6, off) ∷ (7, off) ∷ (8, off) ∷ (12, alive) ∷ (13, alive) ∷ (14, alive) ∷ (15, alive) ∷ (16, alive) ∷ []) G0
+  G29 = patched ((7, row2) ∷ (8, row5 13) ∷ (9, row8 14) ∷ (10, row11) ∷ (11, row14) ∷ (15, row1) ∷ (16, row1) ∷ (28, row4 12) ∷ (30, row7 13) ∷ (32, row4 14) ∷ (34, row4 15) ∷ (36, row4 16) ∷ []) ((4, off) ∷ (5, off) ∷ (6, off) ∷ (7, off) ∷ (8, off) ∷ (12, alive) ∷ (13, alive) ∷ (14, alive) ∷ (15, alive) ∷ (16, alive) ∷ []) G0
 
   abbrev pub G30 : Cx
-  G30 = patched ((7, row2) ∷ (8, row5) ∷ (9, row8) ∷ (10, row11) ∷ (11, row14) ∷ (15, row1) ∷ (16, row1) ∷ (17, row17) ∷ (28, row18) ∷ (30, row19) ∷ (32, row18) ∷ (34, row18) ∷ (36, row18) ∷ []) ((4, off) ∷ (5, off) ∷ (6, off) ∷ (7, off) ∷ (8, off) ∷ (12, alive) ∷ (13, alive) ∷ (14, alive) ∷ (15, alive) ∷ (16, alive) ∷ []) G0
+  G30 = patched ((7, row2) ∷ (8, row5 13) ∷ (9, row8 14) ∷ (10, row11) ∷ (11, row14) ∷ (15, row1) ∷ (16, row1) ∷ (17, row17) ∷ (28, row18) ∷ (30, row19) ∷ (32, row18) ∷ (34, row18) ∷ (36, row18) ∷ []) ((4, off) ∷ (5, off) ∷ (6, off) ∷ (7, off) ∷ (8, off) ∷ (12, alive) ∷ (13, alive) ∷ (14, alive) ∷ (15, alive) ∷ (16, alive) ∷ []) G0
 
   abbrev pub G31 : Cx
   G31 = patched ((15, row1) ∷ (16, row1) ∷ (37, row20) ∷ []) ([]) G0
 
   abbrev pub G35 : Cx
-  G35 = patched ((8, row5) ∷ (9, row8) ∷ (10, row11) ∷ (11, row14) ∷ (15, row1) ∷ (16, row1) ∷ (17, row17) ∷ (30, row19) ∷ (32, row18) ∷ (34, row18) ∷ (36, row18) ∷ []) ((5, off) ∷ (6, off) ∷ (7, off) ∷ (8, off) ∷ (13, alive) ∷ (14, alive) ∷ (15, alive) ∷ (16, alive) ∷ []) G0
+  G35 = patched ((8, row5 13) ∷ (9, row8 14) ∷ (10, row11) ∷ (11, row14) ∷ (15, row1) ∷ (16, row1) ∷ (17, row17) ∷ (30, row19) ∷ (32, row18) ∷ (34, row18) ∷ (36, row18) ∷ []) ((5, off) ∷ (6, off) ∷ (7, off) ∷ (8, off) ∷ (13, alive) ∷ (14, alive) ∷ (15, alive) ∷ (16, alive) ∷ []) G0
 
   abbrev pub G39 : Cx
-  G39 = patched ((9, row8) ∷ (10, row11) ∷ (11, row14) ∷ (15, row1) ∷ (16, row1) ∷ (17, row17) ∷ (32, row18) ∷ (34, row18) ∷ (36, row18) ∷ []) ((6, off) ∷ (7, off) ∷ (8, off) ∷ (14, alive) ∷ (15, alive) ∷ (16, alive) ∷ []) G0
+  G39 = patched ((9, row8 14) ∷ (10, row11) ∷ (11, row14) ∷ (15, row1) ∷ (16, row1) ∷ (17, row17) ∷ (32, row18) ∷ (34, row18) ∷ (36, row18) ∷ []) ((6, off) ∷ (7, off) ∷ (8, off) ∷ (14, alive) ∷ (15, alive) ∷ (16, alive) ∷ []) G0
 
   abbrev pub G43 : Cx
   G43 = patched ((10, row11) ∷ (11, row14) ∷ (15, row1) ∷ (16, row1) ∷ (17, row17) ∷ (34, row18) ∷ (36, row18) ∷ []) ((7, off) ∷ (8, off) ∷ (15, alive) ∷ (16, alive) ∷ []) G0
@@ -268,7 +205,7 @@ module _ (κs : Lfts 12) (qs : Shares 12) where
   G51 = patched ((15, row1) ∷ (16, row1) ∷ (17, row17) ∷ []) ([]) G0
 
   abbrev pub G52 : Cx
-  G52 = patched ((15, row1) ∷ (16, row1) ∷ (17, row21) ∷ []) ([]) G0
+  G52 = patched ((15, row1) ∷ (16, row1) ∷ (17, row21 0) ∷ []) ([]) G0
 
   abbrev pub G56 : Cx
   G56 = patched ((15, row1) ∷ (16, row1) ∷ (18, row1) ∷ (19, row1) ∷ []) ([]) G0
@@ -289,7 +226,7 @@ module _ (κs : Lfts 12) (qs : Shares 12) where
   G61 = patched ((15, row1) ∷ (16, row1) ∷ (37, row22) ∷ []) ([]) G0
 
   abbrev pub G63 : Cx
-  G63 = patched ((15, row1) ∷ (16, row1) ∷ (17, row23) ∷ []) ([]) G0
+  G63 = patched ((15, row1) ∷ (16, row1) ∷ (17, row21 1) ∷ []) ([]) G0
 
   abbrev pub G67 : Cx
   G67 = patched ((15, row1) ∷ (16, row1) ∷ (20, row1) ∷ (21, row1) ∷ []) ([]) G0
@@ -310,19 +247,19 @@ module _ (κs : Lfts 12) (qs : Shares 12) where
   G78 = patched ((12, row28) ∷ (15, row1) ∷ (16, row1) ∷ (20, row1) ∷ (21, row1) ∷ (22, row1) ∷ (23, row1) ∷ (24, row25) ∷ (25, row27) ∷ (42, row30) ∷ []) ((9, off) ∷ (17, alive) ∷ []) G0
 
   abbrev pub G81 : Cx
-  G81 = patched ((7, row31) ∷ (12, row28) ∷ (15, row1) ∷ (16, row1) ∷ (20, row1) ∷ (21, row1) ∷ (22, row1) ∷ (23, row1) ∷ (24, row25) ∷ (25, row27) ∷ (42, row30) ∷ (44, row33) ∷ []) ((4, off) ∷ (9, off) ∷ (17, alive) ∷ (18, alive) ∷ []) G0
+  G81 = patched ((7, row31 18) ∷ (12, row28) ∷ (15, row1) ∷ (16, row1) ∷ (20, row1) ∷ (21, row1) ∷ (22, row1) ∷ (23, row1) ∷ (24, row25) ∷ (25, row27) ∷ (42, row30) ∷ (44, row33 18) ∷ []) ((4, off) ∷ (9, off) ∷ (17, alive) ∷ (18, alive) ∷ []) G0
 
   abbrev pub G84 : Cx
-  G84 = patched ((7, row31) ∷ (9, row34) ∷ (12, row28) ∷ (15, row1) ∷ (16, row1) ∷ (20, row1) ∷ (21, row1) ∷ (22, row1) ∷ (23, row1) ∷ (24, row25) ∷ (25, row27) ∷ (42, row30) ∷ (44, row33) ∷ (46, row36) ∷ []) ((4, off) ∷ (6, off) ∷ (9, off) ∷ (17, alive) ∷ (18, alive) ∷ (19, alive) ∷ []) G0
+  G84 = patched ((7, row31 18) ∷ (9, row34) ∷ (12, row28) ∷ (15, row1) ∷ (16, row1) ∷ (20, row1) ∷ (21, row1) ∷ (22, row1) ∷ (23, row1) ∷ (24, row25) ∷ (25, row27) ∷ (42, row30) ∷ (44, row33 18) ∷ (46, row33 19) ∷ []) ((4, off) ∷ (6, off) ∷ (9, off) ∷ (17, alive) ∷ (18, alive) ∷ (19, alive) ∷ []) G0
 
   abbrev pub G85 : Cx
-  G85 = patched ((7, row31) ∷ (9, row34) ∷ (12, row28) ∷ (15, row1) ∷ (16, row1) ∷ (20, row1) ∷ (21, row1) ∷ (22, row1) ∷ (23, row1) ∷ (24, row25) ∷ (25, row27) ∷ (40, row37) ∷ (42, row38) ∷ (44, row33) ∷ (46, row36) ∷ []) ((4, off) ∷ (6, off) ∷ (9, off) ∷ (17, alive) ∷ (18, alive) ∷ (19, alive) ∷ []) G0
+  G85 = patched ((7, row31 18) ∷ (9, row34) ∷ (12, row28) ∷ (15, row1) ∷ (16, row1) ∷ (20, row1) ∷ (21, row1) ∷ (22, row1) ∷ (23, row1) ∷ (24, row25) ∷ (25, row27) ∷ (40, row37) ∷ (42, row38) ∷ (44, row33 18) ∷ (46, row33 19) ∷ []) ((4, off) ∷ (6, off) ∷ (9, off) ∷ (17, alive) ∷ (18, alive) ∷ (19, alive) ∷ []) G0
 
   abbrev pub G88 : Cx
-  G88 = patched ((7, row31) ∷ (9, row34) ∷ (12, row28) ∷ (15, row1) ∷ (16, row1) ∷ (20, row1) ∷ (21, row1) ∷ (22, row1) ∷ (23, row1) ∷ (24, row25) ∷ (25, row27) ∷ (42, row38) ∷ []) ((4, off) ∷ (6, off) ∷ (9, off) ∷ (17, alive) ∷ (18, alive) ∷ (19, alive) ∷ []) G0
+  G88 = patched ((7, row31 18) ∷ (9, row34) ∷ (12, row28) ∷ (15, row1) ∷ (16, row1) ∷ (20, row1) ∷ (21, row1) ∷ (22, row1) ∷ (23, row1) ∷ (24, row25) ∷ (25, row27) ∷ (42, row38) ∷ []) ((4, off) ∷ (6, off) ∷ (9, off) ∷ (17, alive) ∷ (18, alive) ∷ (19, alive) ∷ []) G0
 
   abbrev pub G91 : Cx
-  G91 = patched ((7, row31) ∷ (9, row34) ∷ (15, row1) ∷ (16, row1) ∷ (20, row1) ∷ (21, row1) ∷ (22, row1) ∷ (23, row1) ∷ (24, row25) ∷ (25, row27) ∷ []) ((4, off) ∷ (6, off) ∷ (18, alive) ∷ (19, alive) ∷ []) G0
+  G91 = patched ((7, row31 18) ∷ (9, row34) ∷ (15, row1) ∷ (16, row1) ∷ (20, row1) ∷ (21, row1) ∷ (22, row1) ∷ (23, row1) ∷ (24, row25) ∷ (25, row27) ∷ []) ((4, off) ∷ (6, off) ∷ (18, alive) ∷ (19, alive) ∷ []) G0
 
   abbrev pub G94 : Cx
   G94 = patched ((9, row34) ∷ (15, row1) ∷ (16, row1) ∷ (20, row1) ∷ (21, row1) ∷ (22, row1) ∷ (23, row1) ∷ (24, row25) ∷ (25, row27) ∷ []) ((6, off) ∷ (19, alive) ∷ []) G0
@@ -331,52 +268,52 @@ module _ (κs : Lfts 12) (qs : Shares 12) where
   G100 = patched ((12, row39) ∷ (15, row1) ∷ (16, row1) ∷ (20, row1) ∷ (21, row1) ∷ (22, row1) ∷ (23, row1) ∷ (24, row25) ∷ (25, row27) ∷ (48, row41) ∷ []) ((9, off) ∷ (20, alive) ∷ []) G0
 
   abbrev pub G103 : Cx
-  G103 = patched ((7, row42) ∷ (12, row39) ∷ (15, row1) ∷ (16, row1) ∷ (20, row1) ∷ (21, row1) ∷ (22, row1) ∷ (23, row1) ∷ (24, row25) ∷ (25, row27) ∷ (48, row41) ∷ (50, row44) ∷ []) ((4, off) ∷ (9, off) ∷ (20, alive) ∷ (21, alive) ∷ []) G0
+  G103 = patched ((7, row31 21) ∷ (12, row39) ∷ (15, row1) ∷ (16, row1) ∷ (20, row1) ∷ (21, row1) ∷ (22, row1) ∷ (23, row1) ∷ (24, row25) ∷ (25, row27) ∷ (48, row41) ∷ (50, row33 21) ∷ []) ((4, off) ∷ (9, off) ∷ (20, alive) ∷ (21, alive) ∷ []) G0
 
   abbrev pub G106 : Cx
-  G106 = patched ((7, row42) ∷ (12, row39) ∷ (15, row1) ∷ (16, row1) ∷ (20, row1) ∷ (21, row1) ∷ (22, row1) ∷ (23, row1) ∷ (24, row25) ∷ (25, row27) ∷ (48, row41) ∷ (50, row44) ∷ (51, row1) ∷ []) ((4, off) ∷ (9, off) ∷ (20, alive) ∷ (21, alive) ∷ []) G0
+  G106 = patched ((7, row31 21) ∷ (12, row39) ∷ (15, row1) ∷ (16, row1) ∷ (20, row1) ∷ (21, row1) ∷ (22, row1) ∷ (23, row1) ∷ (24, row25) ∷ (25, row27) ∷ (48, row41) ∷ (50, row33 21) ∷ (51, row1) ∷ []) ((4, off) ∷ (9, off) ∷ (20, alive) ∷ (21, alive) ∷ []) G0
 
   abbrev pub G109 : Cx
-  G109 = patched ((7, row42) ∷ (10, row45) ∷ (12, row39) ∷ (15, row1) ∷ (16, row1) ∷ (20, row1) ∷ (21, row1) ∷ (22, row1) ∷ (23, row1) ∷ (24, row25) ∷ (25, row27) ∷ (48, row41) ∷ (50, row44) ∷ (51, row1) ∷ (53, row47) ∷ []) ((4, off) ∷ (7, off) ∷ (9, off) ∷ (20, alive) ∷ (21, alive) ∷ (22, alive) ∷ []) G0
+  G109 = patched ((7, row31 21) ∷ (10, row45) ∷ (12, row39) ∷ (15, row1) ∷ (16, row1) ∷ (20, row1) ∷ (21, row1) ∷ (22, row1) ∷ (23, row1) ∷ (24, row25) ∷ (25, row27) ∷ (48, row41) ∷ (50, row33 21) ∷ (51, row1) ∷ (53, row33 22) ∷ []) ((4, off) ∷ (7, off) ∷ (9, off) ∷ (20, alive) ∷ (21, alive) ∷ (22, alive) ∷ []) G0
 
   abbrev pub G112 : Cx
-  G112 = patched ((7, row42) ∷ (10, row45) ∷ (11, row48) ∷ (12, row39) ∷ (15, row1) ∷ (16, row1) ∷ (20, row1) ∷ (21, row1) ∷ (22, row1) ∷ (23, row1) ∷ (24, row25) ∷ (25, row27) ∷ (48, row41) ∷ (50, row44) ∷ (51, row1) ∷ (53, row47) ∷ (55, row50) ∷ []) ((4, off) ∷ (7, off) ∷ (8, off) ∷ (9, off) ∷ (20, alive) ∷ (21, alive) ∷ (22, alive) ∷ (23, alive) ∷ []) G0
+  G112 = patched ((7, row31 21) ∷ (10, row45) ∷ (11, row48) ∷ (12, row39) ∷ (15, row1) ∷ (16, row1) ∷ (20, row1) ∷ (21, row1) ∷ (22, row1) ∷ (23, row1) ∷ (24, row25) ∷ (25, row27) ∷ (48, row41) ∷ (50, row33 21) ∷ (51, row1) ∷ (53, row33 22) ∷ (55, row33 23) ∷ []) ((4, off) ∷ (7, off) ∷ (8, off) ∷ (9, off) ∷ (20, alive) ∷ (21, alive) ∷ (22, alive) ∷ (23, alive) ∷ []) G0
 
   abbrev pub G115 : Cx
-  G115 = patched ((7, row42) ∷ (8, row51) ∷ (10, row45) ∷ (11, row48) ∷ (12, row39) ∷ (15, row1) ∷ (16, row1) ∷ (20, row1) ∷ (21, row1) ∷ (22, row1) ∷ (23, row1) ∷ (24, row25) ∷ (25, row27) ∷ (48, row41) ∷ (50, row44) ∷ (51, row1) ∷ (53, row47) ∷ (55, row50) ∷ (57, row53) ∷ []) ((4, off) ∷ (5, off) ∷ (7, off) ∷ (8, off) ∷ (9, off) ∷ (20, alive) ∷ (21, alive) ∷ (22, alive) ∷ (23, alive) ∷ (24, alive) ∷ []) G0
+  G115 = patched ((7, row31 21) ∷ (8, row5 24) ∷ (10, row45) ∷ (11, row48) ∷ (12, row39) ∷ (15, row1) ∷ (16, row1) ∷ (20, row1) ∷ (21, row1) ∷ (22, row1) ∷ (23, row1) ∷ (24, row25) ∷ (25, row27) ∷ (48, row41) ∷ (50, row33 21) ∷ (51, row1) ∷ (53, row33 22) ∷ (55, row33 23) ∷ (57, row7 24) ∷ []) ((4, off) ∷ (5, off) ∷ (7, off) ∷ (8, off) ∷ (9, off) ∷ (20, alive) ∷ (21, alive) ∷ (22, alive) ∷ (23, alive) ∷ (24, alive) ∷ []) G0
 
   abbrev pub G118 : Cx
-  G118 = patched ((7, row42) ∷ (8, row51) ∷ (9, row54) ∷ (10, row45) ∷ (11, row48) ∷ (12, row39) ∷ (15, row1) ∷ (16, row1) ∷ (20, row1) ∷ (21, row1) ∷ (22, row1) ∷ (23, row1) ∷ (24, row25) ∷ (25, row27) ∷ (48, row41) ∷ (50, row44) ∷ (51, row1) ∷ (53, row47) ∷ (55, row50) ∷ (57, row53) ∷ (59, row56) ∷ []) ((4, off) ∷ (5, off) ∷ (6, off) ∷ (7, off) ∷ (8, off) ∷ (9, off) ∷ (20, alive) ∷ (21, alive) ∷ (22, alive) ∷ (23, alive) ∷ (24, alive) ∷ (25, alive) ∷ []) G0
+  G118 = patched ((7, row31 21) ∷ (8, row5 24) ∷ (9, row8 25) ∷ (10, row45) ∷ (11, row48) ∷ (12, row39) ∷ (15, row1) ∷ (16, row1) ∷ (20, row1) ∷ (21, row1) ∷ (22, row1) ∷ (23, row1) ∷ (24, row25) ∷ (25, row27) ∷ (48, row41) ∷ (50, row33 21) ∷ (51, row1) ∷ (53, row33 22) ∷ (55, row33 23) ∷ (57, row7 24) ∷ (59, row4 25) ∷ []) ((4, off) ∷ (5, off) ∷ (6, off) ∷ (7, off) ∷ (8, off) ∷ (9, off) ∷ (20, alive) ∷ (21, alive) ∷ (22, alive) ∷ (23, alive) ∷ (24, alive) ∷ (25, alive) ∷ []) G0
 
   abbrev pub G121 : Cx
-  G121 = patched ((7, row42) ∷ (8, row51) ∷ (9, row54) ∷ (10, row45) ∷ (11, row48) ∷ (12, row39) ∷ (15, row1) ∷ (16, row1) ∷ (20, row1) ∷ (21, row1) ∷ (22, row1) ∷ (23, row1) ∷ (24, row57) ∷ (25, row27) ∷ (48, row41) ∷ (50, row44) ∷ (51, row1) ∷ (53, row47) ∷ (55, row50) ∷ (57, row53) ∷ (59, row56) ∷ (60, row58) ∷ []) ((4, off) ∷ (5, off) ∷ (6, off) ∷ (7, off) ∷ (8, off) ∷ (9, off) ∷ (20, alive) ∷ (21, alive) ∷ (22, alive) ∷ (23, alive) ∷ (24, alive) ∷ (25, alive) ∷ (26, alive) ∷ (27, alive) ∷ []) G0
+  G121 = patched ((7, row31 21) ∷ (8, row5 24) ∷ (9, row8 25) ∷ (10, row45) ∷ (11, row48) ∷ (12, row39) ∷ (15, row1) ∷ (16, row1) ∷ (20, row1) ∷ (21, row1) ∷ (22, row1) ∷ (23, row1) ∷ (24, row57) ∷ (25, row27) ∷ (48, row41) ∷ (50, row33 21) ∷ (51, row1) ∷ (53, row33 22) ∷ (55, row33 23) ∷ (57, row7 24) ∷ (59, row4 25) ∷ (60, row58) ∷ []) ((4, off) ∷ (5, off) ∷ (6, off) ∷ (7, off) ∷ (8, off) ∷ (9, off) ∷ (20, alive) ∷ (21, alive) ∷ (22, alive) ∷ (23, alive) ∷ (24, alive) ∷ (25, alive) ∷ (26, alive) ∷ (27, alive) ∷ []) G0
 
   abbrev pub G123 : Cx
-  G123 = patched ((7, row42) ∷ (8, row51) ∷ (9, row54) ∷ (10, row45) ∷ (11, row48) ∷ (12, row39) ∷ (15, row1) ∷ (16, row1) ∷ (20, row1) ∷ (21, row1) ∷ (22, row1) ∷ (23, row1) ∷ (24, row57) ∷ (25, row59) ∷ (48, row41) ∷ (50, row44) ∷ (51, row1) ∷ (53, row47) ∷ (55, row50) ∷ (57, row53) ∷ (59, row56) ∷ (60, row58) ∷ (62, row61) ∷ []) ((4, off) ∷ (5, off) ∷ (6, off) ∷ (7, off) ∷ (8, off) ∷ (9, off) ∷ (20, alive) ∷ (21, alive) ∷ (22, alive) ∷ (23, alive) ∷ (24, alive) ∷ (25, alive) ∷ (26, alive) ∷ (27, alive) ∷ []) G0
+  G123 = patched ((7, row31 21) ∷ (8, row5 24) ∷ (9, row8 25) ∷ (10, row45) ∷ (11, row48) ∷ (12, row39) ∷ (15, row1) ∷ (16, row1) ∷ (20, row1) ∷ (21, row1) ∷ (22, row1) ∷ (23, row1) ∷ (24, row57) ∷ (25, row59) ∷ (48, row41) ∷ (50, row33 21) ∷ (51, row1) ∷ (53, row33 22) ∷ (55, row33 23) ∷ (57, row7 24) ∷ (59, row4 25) ∷ (60, row58) ∷ (62, row4 27) ∷ []) ((4, off) ∷ (5, off) ∷ (6, off) ∷ (7, off) ∷ (8, off) ∷ (9, off) ∷ (20, alive) ∷ (21, alive) ∷ (22, alive) ∷ (23, alive) ∷ (24, alive) ∷ (25, alive) ∷ (26, alive) ∷ (27, alive) ∷ []) G0
 
   abbrev pub G124 : Cx
-  G124 = patched ((7, row42) ∷ (8, row51) ∷ (9, row54) ∷ (10, row45) ∷ (11, row48) ∷ (12, row39) ∷ (15, row1) ∷ (16, row1) ∷ (20, row1) ∷ (21, row1) ∷ (22, row1) ∷ (23, row1) ∷ (24, row57) ∷ (25, row59) ∷ (26, row1) ∷ (48, row41) ∷ (50, row44) ∷ (51, row1) ∷ (53, row47) ∷ (55, row50) ∷ (57, row19) ∷ (59, row18) ∷ (60, row62) ∷ (62, row18) ∷ []) ((4, off) ∷ (5, off) ∷ (6, off) ∷ (7, off) ∷ (8, off) ∷ (9, off) ∷ (20, alive) ∷ (21, alive) ∷ (22, alive) ∷ (23, alive) ∷ (24, alive) ∷ (25, alive) ∷ (26, alive) ∷ (27, alive) ∷ []) G0
+  G124 = patched ((7, row31 21) ∷ (8, row5 24) ∷ (9, row8 25) ∷ (10, row45) ∷ (11, row48) ∷ (12, row39) ∷ (15, row1) ∷ (16, row1) ∷ (20, row1) ∷ (21, row1) ∷ (22, row1) ∷ (23, row1) ∷ (24, row57) ∷ (25, row59) ∷ (26, row1) ∷ (48, row41) ∷ (50, row33 21) ∷ (51, row1) ∷ (53, row33 22) ∷ (55, row33 23) ∷ (57, row19) ∷ (59, row18) ∷ (60, row62) ∷ (62, row18) ∷ []) ((4, off) ∷ (5, off) ∷ (6, off) ∷ (7, off) ∷ (8, off) ∷ (9, off) ∷ (20, alive) ∷ (21, alive) ∷ (22, alive) ∷ (23, alive) ∷ (24, alive) ∷ (25, alive) ∷ (26, alive) ∷ (27, alive) ∷ []) G0
 
   abbrev pub G127 : Cx
-  G127 = patched ((7, row42) ∷ (8, row51) ∷ (9, row54) ∷ (10, row45) ∷ (11, row48) ∷ (12, row39) ∷ (15, row1) ∷ (16, row1) ∷ (20, row1) ∷ (21, row1) ∷ (22, row1) ∷ (23, row1) ∷ (24, row57) ∷ (25, row59) ∷ (26, row1) ∷ (51, row1) ∷ (55, row50) ∷ (57, row19) ∷ (59, row18) ∷ (60, row62) ∷ (62, row18) ∷ []) ((4, off) ∷ (5, off) ∷ (6, off) ∷ (7, off) ∷ (8, off) ∷ (9, off) ∷ (20, alive) ∷ (21, alive) ∷ (22, alive) ∷ (23, alive) ∷ (24, alive) ∷ (25, alive) ∷ (26, alive) ∷ (27, alive) ∷ []) G0
+  G127 = patched ((7, row31 21) ∷ (8, row5 24) ∷ (9, row8 25) ∷ (10, row45) ∷ (11, row48) ∷ (12, row39) ∷ (15, row1) ∷ (16, row1) ∷ (20, row1) ∷ (21, row1) ∷ (22, row1) ∷ (23, row1) ∷ (24, row57) ∷ (25, row59) ∷ (26, row1) ∷ (51, row1) ∷ (55, row33 23) ∷ (57, row19) ∷ (59, row18) ∷ (60, row62) ∷ (62, row18) ∷ []) ((4, off) ∷ (5, off) ∷ (6, off) ∷ (7, off) ∷ (8, off) ∷ (9, off) ∷ (20, alive) ∷ (21, alive) ∷ (22, alive) ∷ (23, alive) ∷ (24, alive) ∷ (25, alive) ∷ (26, alive) ∷ (27, alive) ∷ []) G0
 
   abbrev pub G130 : Cx
-  G130 = patched ((7, row42) ∷ (8, row51) ∷ (9, row54) ∷ (10, row45) ∷ (11, row48) ∷ (12, row39) ∷ (15, row1) ∷ (16, row1) ∷ (20, row1) ∷ (21, row1) ∷ (22, row1) ∷ (23, row1) ∷ (24, row57) ∷ (25, row59) ∷ (26, row1) ∷ (57, row19) ∷ (59, row18) ∷ (60, row62) ∷ (62, row18) ∷ []) ((4, off) ∷ (5, off) ∷ (6, off) ∷ (7, off) ∷ (8, off) ∷ (9, off) ∷ (20, dead) ∷ (21, alive) ∷ (22, alive) ∷ (23, alive) ∷ (24, alive) ∷ (25, alive) ∷ (26, alive) ∷ (27, alive) ∷ []) G0
+  G130 = patched ((7, row31 21) ∷ (8, row5 24) ∷ (9, row8 25) ∷ (10, row45) ∷ (11, row48) ∷ (12, row39) ∷ (15, row1) ∷ (16, row1) ∷ (20, row1) ∷ (21, row1) ∷ (22, row1) ∷ (23, row1) ∷ (24, row57) ∷ (25, row59) ∷ (26, row1) ∷ (57, row19) ∷ (59, row18) ∷ (60, row62) ∷ (62, row18) ∷ []) ((4, off) ∷ (5, off) ∷ (6, off) ∷ (7, off) ∷ (8, off) ∷ (9, off) ∷ (20, dead) ∷ (21, alive) ∷ (22, alive) ∷ (23, alive) ∷ (24, alive) ∷ (25, alive) ∷ (26, alive) ∷ (27, alive) ∷ []) G0
 
   abbrev pub G133 : Cx
-  G133 = patched ((7, row42) ∷ (8, row51) ∷ (9, row54) ∷ (10, row45) ∷ (11, row48) ∷ (15, row1) ∷ (16, row1) ∷ (20, row1) ∷ (21, row1) ∷ (22, row1) ∷ (23, row1) ∷ (24, row57) ∷ (25, row59) ∷ (26, row1) ∷ (57, row19) ∷ (59, row18) ∷ (60, row62) ∷ (62, row18) ∷ []) ((4, off) ∷ (5, off) ∷ (6, off) ∷ (7, off) ∷ (8, off) ∷ (21, dead) ∷ (22, alive) ∷ (23, alive) ∷ (24, alive) ∷ (25, alive) ∷ (26, alive) ∷ (27, alive) ∷ []) G0
+  G133 = patched ((7, row31 21) ∷ (8, row5 24) ∷ (9, row8 25) ∷ (10, row45) ∷ (11, row48) ∷ (15, row1) ∷ (16, row1) ∷ (20, row1) ∷ (21, row1) ∷ (22, row1) ∷ (23, row1) ∷ (24, row57) ∷ (25, row59) ∷ (26, row1) ∷ (57, row19) ∷ (59, row18) ∷ (60, row62) ∷ (62, row18) ∷ []) ((4, off) ∷ (5, off) ∷ (6, off) ∷ (7, off) ∷ (8, off) ∷ (21, dead) ∷ (22, alive) ∷ (23, alive) ∷ (24, alive) ∷ (25, alive) ∷ (26, alive) ∷ (27, alive) ∷ []) G0
 
   abbrev pub G136 : Cx
-  G136 = patched ((8, row51) ∷ (9, row54) ∷ (10, row45) ∷ (11, row48) ∷ (15, row1) ∷ (16, row1) ∷ (20, row1) ∷ (21, row1) ∷ (22, row1) ∷ (23, row1) ∷ (24, row57) ∷ (25, row59) ∷ (26, row1) ∷ (57, row19) ∷ (59, row18) ∷ (60, row62) ∷ (62, row18) ∷ []) ((5, off) ∷ (6, off) ∷ (7, off) ∷ (8, off) ∷ (22, dead) ∷ (23, alive) ∷ (24, alive) ∷ (25, alive) ∷ (26, alive) ∷ (27, alive) ∷ []) G0
+  G136 = patched ((8, row5 24) ∷ (9, row8 25) ∷ (10, row45) ∷ (11, row48) ∷ (15, row1) ∷ (16, row1) ∷ (20, row1) ∷ (21, row1) ∷ (22, row1) ∷ (23, row1) ∷ (24, row57) ∷ (25, row59) ∷ (26, row1) ∷ (57, row19) ∷ (59, row18) ∷ (60, row62) ∷ (62, row18) ∷ []) ((5, off) ∷ (6, off) ∷ (7, off) ∷ (8, off) ∷ (22, dead) ∷ (23, alive) ∷ (24, alive) ∷ (25, alive) ∷ (26, alive) ∷ (27, alive) ∷ []) G0
 
   abbrev pub G139 : Cx
-  G139 = patched ((8, row51) ∷ (9, row54) ∷ (11, row48) ∷ (15, row1) ∷ (16, row1) ∷ (20, row1) ∷ (21, row1) ∷ (22, row1) ∷ (23, row1) ∷ (24, row57) ∷ (25, row59) ∷ (26, row1) ∷ (57, row19) ∷ (59, row18) ∷ (60, row62) ∷ (62, row18) ∷ []) ((5, off) ∷ (6, off) ∷ (8, off) ∷ (23, dead) ∷ (24, alive) ∷ (25, alive) ∷ (26, alive) ∷ (27, alive) ∷ []) G0
+  G139 = patched ((8, row5 24) ∷ (9, row8 25) ∷ (11, row48) ∷ (15, row1) ∷ (16, row1) ∷ (20, row1) ∷ (21, row1) ∷ (22, row1) ∷ (23, row1) ∷ (24, row57) ∷ (25, row59) ∷ (26, row1) ∷ (57, row19) ∷ (59, row18) ∷ (60, row62) ∷ (62, row18) ∷ []) ((5, off) ∷ (6, off) ∷ (8, off) ∷ (23, dead) ∷ (24, alive) ∷ (25, alive) ∷ (26, alive) ∷ (27, alive) ∷ []) G0
 
   abbrev pub G142 : Cx
-  G142 = patched ((8, row51) ∷ (9, row54) ∷ (15, row1) ∷ (16, row1) ∷ (20, row1) ∷ (21, row1) ∷ (22, row1) ∷ (23, row1) ∷ (24, row57) ∷ (25, row59) ∷ (26, row1) ∷ (57, row19) ∷ (59, row18) ∷ (60, row62) ∷ (62, row18) ∷ []) ((5, off) ∷ (6, off) ∷ (24, dead) ∷ (25, alive) ∷ (26, alive) ∷ (27, alive) ∷ []) G0
+  G142 = patched ((8, row5 24) ∷ (9, row8 25) ∷ (15, row1) ∷ (16, row1) ∷ (20, row1) ∷ (21, row1) ∷ (22, row1) ∷ (23, row1) ∷ (24, row57) ∷ (25, row59) ∷ (26, row1) ∷ (57, row19) ∷ (59, row18) ∷ (60, row62) ∷ (62, row18) ∷ []) ((5, off) ∷ (6, off) ∷ (24, dead) ∷ (25, alive) ∷ (26, alive) ∷ (27, alive) ∷ []) G0
 
   abbrev pub G146 : Cx
-  G146 = patched ((9, row54) ∷ (15, row1) ∷ (16, row1) ∷ (20, row1) ∷ (21, row1) ∷ (22, row1) ∷ (23, row1) ∷ (24, row57) ∷ (25, row59) ∷ (26, row1) ∷ (59, row18) ∷ (60, row62) ∷ (62, row18) ∷ []) ((6, off) ∷ (25, dead) ∷ (26, alive) ∷ (27, alive) ∷ []) G0
+  G146 = patched ((9, row8 25) ∷ (15, row1) ∷ (16, row1) ∷ (20, row1) ∷ (21, row1) ∷ (22, row1) ∷ (23, row1) ∷ (24, row57) ∷ (25, row59) ∷ (26, row1) ∷ (59, row18) ∷ (60, row62) ∷ (62, row18) ∷ []) ((6, off) ∷ (25, dead) ∷ (26, alive) ∷ (27, alive) ∷ []) G0
 
   abbrev pub G150 : Cx
   G150 = patched ((15, row1) ∷ (16, row1) ∷ (20, row1) ∷ (21, row1) ∷ (22, row1) ∷ (23, row1) ∷ (24, row57) ∷ (25, row59) ∷ (26, row1) ∷ (60, row62) ∷ (62, row18) ∷ []) ((26, dead) ∷ (27, alive) ∷ []) G0
@@ -394,82 +331,82 @@ module _ (κs : Lfts 12) (qs : Shares 12) where
   G161 = patched ((15, row1) ∷ (16, row1) ∷ (20, row1) ∷ (21, row1) ∷ (22, row1) ∷ (23, row1) ∷ (24, row63) ∷ (25, row27) ∷ (26, row1) ∷ (51, row1) ∷ (63, row64) ∷ []) ((28, alive) ∷ (29, alive) ∷ []) G0
 
   abbrev pub G164 : Cx
-  G164 = patched ((15, row1) ∷ (16, row1) ∷ (20, row1) ∷ (21, row1) ∷ (22, row1) ∷ (23, row1) ∷ (24, row63) ∷ (25, row65) ∷ (26, row1) ∷ (51, row1) ∷ (63, row64) ∷ (65, row67) ∷ []) ((28, alive) ∷ (29, alive) ∷ (30, alive) ∷ []) G0
+  G164 = patched ((15, row1) ∷ (16, row1) ∷ (20, row1) ∷ (21, row1) ∷ (22, row1) ∷ (23, row1) ∷ (24, row63) ∷ (25, row65) ∷ (26, row1) ∷ (51, row1) ∷ (63, row64) ∷ (65, row33 29) ∷ []) ((28, alive) ∷ (29, alive) ∷ (30, alive) ∷ []) G0
 
   abbrev pub G167 : Cx
-  G167 = patched ((8, row68) ∷ (15, row1) ∷ (16, row1) ∷ (20, row1) ∷ (21, row1) ∷ (22, row1) ∷ (23, row1) ∷ (24, row63) ∷ (25, row65) ∷ (26, row1) ∷ (51, row1) ∷ (63, row64) ∷ (65, row67) ∷ (67, row70) ∷ []) ((5, off) ∷ (28, alive) ∷ (29, alive) ∷ (30, alive) ∷ (31, alive) ∷ []) G0
+  G167 = patched ((8, row5 30) ∷ (15, row1) ∷ (16, row1) ∷ (20, row1) ∷ (21, row1) ∷ (22, row1) ∷ (23, row1) ∷ (24, row63) ∷ (25, row65) ∷ (26, row1) ∷ (51, row1) ∷ (63, row64) ∷ (65, row33 29) ∷ (67, row7 30) ∷ []) ((5, off) ∷ (28, alive) ∷ (29, alive) ∷ (30, alive) ∷ (31, alive) ∷ []) G0
 
   abbrev pub G170 : Cx
-  G170 = patched ((8, row68) ∷ (9, row71) ∷ (15, row1) ∷ (16, row1) ∷ (20, row1) ∷ (21, row1) ∷ (22, row1) ∷ (23, row1) ∷ (24, row63) ∷ (25, row65) ∷ (26, row1) ∷ (51, row1) ∷ (63, row64) ∷ (65, row67) ∷ (67, row70) ∷ (69, row73) ∷ []) ((5, off) ∷ (6, off) ∷ (28, alive) ∷ (29, alive) ∷ (30, alive) ∷ (31, alive) ∷ (32, alive) ∷ []) G0
+  G170 = patched ((8, row5 30) ∷ (9, row8 31) ∷ (15, row1) ∷ (16, row1) ∷ (20, row1) ∷ (21, row1) ∷ (22, row1) ∷ (23, row1) ∷ (24, row63) ∷ (25, row65) ∷ (26, row1) ∷ (51, row1) ∷ (63, row64) ∷ (65, row33 29) ∷ (67, row7 30) ∷ (69, row4 31) ∷ []) ((5, off) ∷ (6, off) ∷ (28, alive) ∷ (29, alive) ∷ (30, alive) ∷ (31, alive) ∷ (32, alive) ∷ []) G0
 
   abbrev pub G173 : Cx
-  G173 = patched ((8, row68) ∷ (9, row71) ∷ (13, row74) ∷ (15, row1) ∷ (16, row1) ∷ (20, row1) ∷ (21, row1) ∷ (22, row1) ∷ (23, row1) ∷ (24, row63) ∷ (25, row65) ∷ (26, row1) ∷ (51, row1) ∷ (63, row64) ∷ (65, row67) ∷ (67, row70) ∷ (69, row73) ∷ (71, row76) ∷ []) ((5, off) ∷ (6, off) ∷ (10, off) ∷ (28, alive) ∷ (29, alive) ∷ (30, alive) ∷ (31, alive) ∷ (32, alive) ∷ (33, alive) ∷ []) G0
+  G173 = patched ((8, row5 30) ∷ (9, row8 31) ∷ (13, row74) ∷ (15, row1) ∷ (16, row1) ∷ (20, row1) ∷ (21, row1) ∷ (22, row1) ∷ (23, row1) ∷ (24, row63) ∷ (25, row65) ∷ (26, row1) ∷ (51, row1) ∷ (63, row64) ∷ (65, row33 29) ∷ (67, row7 30) ∷ (69, row4 31) ∷ (71, row76) ∷ []) ((5, off) ∷ (6, off) ∷ (10, off) ∷ (28, alive) ∷ (29, alive) ∷ (30, alive) ∷ (31, alive) ∷ (32, alive) ∷ (33, alive) ∷ []) G0
 
   abbrev pub G175 : Cx
-  G175 = patched ((8, row68) ∷ (9, row71) ∷ (13, row74) ∷ (14, row77) ∷ (15, row1) ∷ (16, row1) ∷ (20, row1) ∷ (21, row1) ∷ (22, row1) ∷ (23, row1) ∷ (24, row63) ∷ (25, row65) ∷ (26, row1) ∷ (51, row1) ∷ (63, row64) ∷ (65, row67) ∷ (67, row70) ∷ (69, row73) ∷ (71, row76) ∷ (73, row79) ∷ []) ((5, off) ∷ (6, off) ∷ (10, off) ∷ (11, off) ∷ (28, alive) ∷ (29, alive) ∷ (30, alive) ∷ (31, alive) ∷ (32, alive) ∷ (33, alive) ∷ []) G0
+  G175 = patched ((8, row5 30) ∷ (9, row8 31) ∷ (13, row74) ∷ (14, row77) ∷ (15, row1) ∷ (16, row1) ∷ (20, row1) ∷ (21, row1) ∷ (22, row1) ∷ (23, row1) ∷ (24, row63) ∷ (25, row65) ∷ (26, row1) ∷ (51, row1) ∷ (63, row64) ∷ (65, row33 29) ∷ (67, row7 30) ∷ (69, row4 31) ∷ (71, row76) ∷ (73, row4 33) ∷ []) ((5, off) ∷ (6, off) ∷ (10, off) ∷ (11, off) ∷ (28, alive) ∷ (29, alive) ∷ (30, alive) ∷ (31, alive) ∷ (32, alive) ∷ (33, alive) ∷ []) G0
 
   abbrev pub G176 : Cx
-  G176 = patched ((8, row68) ∷ (9, row71) ∷ (13, row74) ∷ (14, row77) ∷ (15, row1) ∷ (16, row1) ∷ (20, row1) ∷ (21, row1) ∷ (22, row1) ∷ (23, row1) ∷ (24, row63) ∷ (25, row65) ∷ (26, row1) ∷ (37, row20) ∷ (51, row1) ∷ (63, row64) ∷ (65, row67) ∷ (67, row19) ∷ (69, row18) ∷ (71, row80) ∷ (73, row18) ∷ []) ((5, off) ∷ (6, off) ∷ (10, off) ∷ (11, off) ∷ (28, alive) ∷ (29, alive) ∷ (30, alive) ∷ (31, alive) ∷ (32, alive) ∷ (33, alive) ∷ []) G0
+  G176 = patched ((8, row5 30) ∷ (9, row8 31) ∷ (13, row74) ∷ (14, row77) ∷ (15, row1) ∷ (16, row1) ∷ (20, row1) ∷ (21, row1) ∷ (22, row1) ∷ (23, row1) ∷ (24, row63) ∷ (25, row65) ∷ (26, row1) ∷ (37, row20) ∷ (51, row1) ∷ (63, row64) ∷ (65, row33 29) ∷ (67, row19) ∷ (69, row18) ∷ (71, row80) ∷ (73, row18) ∷ []) ((5, off) ∷ (6, off) ∷ (10, off) ∷ (11, off) ∷ (28, alive) ∷ (29, alive) ∷ (30, alive) ∷ (31, alive) ∷ (32, alive) ∷ (33, alive) ∷ []) G0
 
   abbrev pub G177 : Cx
-  G177 = patched ((8, row68) ∷ (9, row71) ∷ (13, row74) ∷ (14, row77) ∷ (15, row1) ∷ (16, row1) ∷ (20, row1) ∷ (21, row1) ∷ (22, row1) ∷ (23, row1) ∷ (24, row63) ∷ (25, row65) ∷ (26, row1) ∷ (37, row20) ∷ (51, row1) ∷ (65, row67) ∷ (67, row19) ∷ (69, row18) ∷ (71, row80) ∷ (73, row18) ∷ []) ((5, off) ∷ (6, off) ∷ (10, off) ∷ (11, off) ∷ (28, alive) ∷ (29, alive) ∷ (30, alive) ∷ (31, alive) ∷ (32, alive) ∷ (33, alive) ∷ []) G0
+  G177 = patched ((8, row5 30) ∷ (9, row8 31) ∷ (13, row74) ∷ (14, row77) ∷ (15, row1) ∷ (16, row1) ∷ (20, row1) ∷ (21, row1) ∷ (22, row1) ∷ (23, row1) ∷ (24, row63) ∷ (25, row65) ∷ (26, row1) ∷ (37, row20) ∷ (51, row1) ∷ (65, row33 29) ∷ (67, row19) ∷ (69, row18) ∷ (71, row80) ∷ (73, row18) ∷ []) ((5, off) ∷ (6, off) ∷ (10, off) ∷ (11, off) ∷ (28, alive) ∷ (29, alive) ∷ (30, alive) ∷ (31, alive) ∷ (32, alive) ∷ (33, alive) ∷ []) G0
 
   abbrev pub G178 : Cx
-  G178 = patched ((8, row68) ∷ (9, row71) ∷ (13, row74) ∷ (14, row77) ∷ (15, row1) ∷ (16, row1) ∷ (20, row1) ∷ (21, row1) ∷ (22, row1) ∷ (23, row1) ∷ (24, row63) ∷ (25, row65) ∷ (26, row1) ∷ (37, row20) ∷ (51, row1) ∷ (67, row19) ∷ (69, row18) ∷ (71, row80) ∷ (73, row18) ∷ []) ((5, off) ∷ (6, off) ∷ (10, off) ∷ (11, off) ∷ (28, alive) ∷ (29, alive) ∷ (30, alive) ∷ (31, alive) ∷ (32, alive) ∷ (33, alive) ∷ []) G0
+  G178 = patched ((8, row5 30) ∷ (9, row8 31) ∷ (13, row74) ∷ (14, row77) ∷ (15, row1) ∷ (16, row1) ∷ (20, row1) ∷ (21, row1) ∷ (22, row1) ∷ (23, row1) ∷ (24, row63) ∷ (25, row65) ∷ (26, row1) ∷ (37, row20) ∷ (51, row1) ∷ (67, row19) ∷ (69, row18) ∷ (71, row80) ∷ (73, row18) ∷ []) ((5, off) ∷ (6, off) ∷ (10, off) ∷ (11, off) ∷ (28, alive) ∷ (29, alive) ∷ (30, alive) ∷ (31, alive) ∷ (32, alive) ∷ (33, alive) ∷ []) G0
 
   abbrev pub G179 : Cx
-  G179 = patched ((8, row68) ∷ (9, row71) ∷ (13, row74) ∷ (14, row77) ∷ (15, row1) ∷ (16, row1) ∷ (21, row1) ∷ (22, row1) ∷ (23, row1) ∷ (24, row63) ∷ (25, row65) ∷ (26, row1) ∷ (37, row20) ∷ (51, row1) ∷ (67, row19) ∷ (69, row18) ∷ (71, row80) ∷ (73, row18) ∷ []) ((5, off) ∷ (6, off) ∷ (10, off) ∷ (11, off) ∷ (28, alive) ∷ (29, alive) ∷ (30, alive) ∷ (31, alive) ∷ (32, alive) ∷ (33, alive) ∷ []) G0
+  G179 = patched ((8, row5 30) ∷ (9, row8 31) ∷ (13, row74) ∷ (14, row77) ∷ (15, row1) ∷ (16, row1) ∷ (21, row1) ∷ (22, row1) ∷ (23, row1) ∷ (24, row63) ∷ (25, row65) ∷ (26, row1) ∷ (37, row20) ∷ (51, row1) ∷ (67, row19) ∷ (69, row18) ∷ (71, row80) ∷ (73, row18) ∷ []) ((5, off) ∷ (6, off) ∷ (10, off) ∷ (11, off) ∷ (28, alive) ∷ (29, alive) ∷ (30, alive) ∷ (31, alive) ∷ (32, alive) ∷ (33, alive) ∷ []) G0
 
   abbrev pub G180 : Cx
-  G180 = patched ((8, row68) ∷ (9, row71) ∷ (13, row74) ∷ (14, row77) ∷ (15, row1) ∷ (16, row1) ∷ (22, row1) ∷ (23, row1) ∷ (24, row63) ∷ (25, row65) ∷ (26, row1) ∷ (37, row20) ∷ (51, row1) ∷ (67, row19) ∷ (69, row18) ∷ (71, row80) ∷ (73, row18) ∷ []) ((5, off) ∷ (6, off) ∷ (10, off) ∷ (11, off) ∷ (28, alive) ∷ (29, alive) ∷ (30, alive) ∷ (31, alive) ∷ (32, alive) ∷ (33, alive) ∷ []) G0
+  G180 = patched ((8, row5 30) ∷ (9, row8 31) ∷ (13, row74) ∷ (14, row77) ∷ (15, row1) ∷ (16, row1) ∷ (22, row1) ∷ (23, row1) ∷ (24, row63) ∷ (25, row65) ∷ (26, row1) ∷ (37, row20) ∷ (51, row1) ∷ (67, row19) ∷ (69, row18) ∷ (71, row80) ∷ (73, row18) ∷ []) ((5, off) ∷ (6, off) ∷ (10, off) ∷ (11, off) ∷ (28, alive) ∷ (29, alive) ∷ (30, alive) ∷ (31, alive) ∷ (32, alive) ∷ (33, alive) ∷ []) G0
 
   abbrev pub G181 : Cx
-  G181 = patched ((8, row68) ∷ (9, row71) ∷ (13, row74) ∷ (14, row77) ∷ (15, row1) ∷ (16, row1) ∷ (23, row1) ∷ (24, row63) ∷ (25, row65) ∷ (26, row1) ∷ (37, row20) ∷ (51, row1) ∷ (67, row19) ∷ (69, row18) ∷ (71, row80) ∷ (73, row18) ∷ []) ((5, off) ∷ (6, off) ∷ (10, off) ∷ (11, off) ∷ (28, alive) ∷ (29, alive) ∷ (30, alive) ∷ (31, alive) ∷ (32, alive) ∷ (33, alive) ∷ []) G0
+  G181 = patched ((8, row5 30) ∷ (9, row8 31) ∷ (13, row74) ∷ (14, row77) ∷ (15, row1) ∷ (16, row1) ∷ (23, row1) ∷ (24, row63) ∷ (25, row65) ∷ (26, row1) ∷ (37, row20) ∷ (51, row1) ∷ (67, row19) ∷ (69, row18) ∷ (71, row80) ∷ (73, row18) ∷ []) ((5, off) ∷ (6, off) ∷ (10, off) ∷ (11, off) ∷ (28, alive) ∷ (29, alive) ∷ (30, alive) ∷ (31, alive) ∷ (32, alive) ∷ (33, alive) ∷ []) G0
 
   abbrev pub G182 : Cx
-  G182 = patched ((8, row68) ∷ (9, row71) ∷ (13, row74) ∷ (14, row77) ∷ (15, row1) ∷ (16, row1) ∷ (24, row63) ∷ (25, row65) ∷ (26, row1) ∷ (37, row20) ∷ (51, row1) ∷ (67, row19) ∷ (69, row18) ∷ (71, row80) ∷ (73, row18) ∷ []) ((5, off) ∷ (6, off) ∷ (10, off) ∷ (11, off) ∷ (28, alive) ∷ (29, alive) ∷ (30, alive) ∷ (31, alive) ∷ (32, alive) ∷ (33, alive) ∷ []) G0
+  G182 = patched ((8, row5 30) ∷ (9, row8 31) ∷ (13, row74) ∷ (14, row77) ∷ (15, row1) ∷ (16, row1) ∷ (24, row63) ∷ (25, row65) ∷ (26, row1) ∷ (37, row20) ∷ (51, row1) ∷ (67, row19) ∷ (69, row18) ∷ (71, row80) ∷ (73, row18) ∷ []) ((5, off) ∷ (6, off) ∷ (10, off) ∷ (11, off) ∷ (28, alive) ∷ (29, alive) ∷ (30, alive) ∷ (31, alive) ∷ (32, alive) ∷ (33, alive) ∷ []) G0
 
   abbrev pub G183 : Cx
-  G183 = patched ((8, row68) ∷ (9, row71) ∷ (13, row74) ∷ (14, row77) ∷ (15, row1) ∷ (16, row1) ∷ (24, row63) ∷ (25, row65) ∷ (37, row20) ∷ (51, row1) ∷ (67, row19) ∷ (69, row18) ∷ (71, row80) ∷ (73, row18) ∷ []) ((5, off) ∷ (6, off) ∷ (10, off) ∷ (11, off) ∷ (28, alive) ∷ (29, alive) ∷ (30, alive) ∷ (31, alive) ∷ (32, alive) ∷ (33, alive) ∷ []) G0
+  G183 = patched ((8, row5 30) ∷ (9, row8 31) ∷ (13, row74) ∷ (14, row77) ∷ (15, row1) ∷ (16, row1) ∷ (24, row63) ∷ (25, row65) ∷ (37, row20) ∷ (51, row1) ∷ (67, row19) ∷ (69, row18) ∷ (71, row80) ∷ (73, row18) ∷ []) ((5, off) ∷ (6, off) ∷ (10, off) ∷ (11, off) ∷ (28, alive) ∷ (29, alive) ∷ (30, alive) ∷ (31, alive) ∷ (32, alive) ∷ (33, alive) ∷ []) G0
 
   abbrev pub G184 : Cx
-  G184 = patched ((8, row68) ∷ (9, row71) ∷ (13, row74) ∷ (14, row77) ∷ (15, row1) ∷ (16, row1) ∷ (24, row63) ∷ (25, row65) ∷ (37, row20) ∷ (67, row19) ∷ (69, row18) ∷ (71, row80) ∷ (73, row18) ∷ []) ((5, off) ∷ (6, off) ∷ (10, off) ∷ (11, off) ∷ (28, alive) ∷ (29, alive) ∷ (30, alive) ∷ (31, alive) ∷ (32, alive) ∷ (33, alive) ∷ []) G0
+  G184 = patched ((8, row5 30) ∷ (9, row8 31) ∷ (13, row74) ∷ (14, row77) ∷ (15, row1) ∷ (16, row1) ∷ (24, row63) ∷ (25, row65) ∷ (37, row20) ∷ (67, row19) ∷ (69, row18) ∷ (71, row80) ∷ (73, row18) ∷ []) ((5, off) ∷ (6, off) ∷ (10, off) ∷ (11, off) ∷ (28, alive) ∷ (29, alive) ∷ (30, alive) ∷ (31, alive) ∷ (32, alive) ∷ (33, alive) ∷ []) G0
 
   abbrev pub G185 : Cx
-  G185 = patched ((8, row68) ∷ (9, row71) ∷ (13, row74) ∷ (14, row77) ∷ (15, row1) ∷ (16, row1) ∷ (24, row63) ∷ (25, row65) ∷ (37, row20) ∷ (67, row19) ∷ (69, row18) ∷ (71, row80) ∷ (73, row18) ∷ []) ((5, off) ∷ (6, off) ∷ (10, off) ∷ (11, off) ∷ (28, dead) ∷ (29, alive) ∷ (30, alive) ∷ (31, alive) ∷ (32, alive) ∷ (33, alive) ∷ []) G0
+  G185 = patched ((8, row5 30) ∷ (9, row8 31) ∷ (13, row74) ∷ (14, row77) ∷ (15, row1) ∷ (16, row1) ∷ (24, row63) ∷ (25, row65) ∷ (37, row20) ∷ (67, row19) ∷ (69, row18) ∷ (71, row80) ∷ (73, row18) ∷ []) ((5, off) ∷ (6, off) ∷ (10, off) ∷ (11, off) ∷ (28, dead) ∷ (29, alive) ∷ (30, alive) ∷ (31, alive) ∷ (32, alive) ∷ (33, alive) ∷ []) G0
 
   abbrev pub G186 : Cx
-  G186 = patched ((8, row68) ∷ (9, row71) ∷ (13, row74) ∷ (14, row77) ∷ (15, row1) ∷ (16, row1) ∷ (24, row25) ∷ (25, row65) ∷ (37, row20) ∷ (67, row19) ∷ (69, row18) ∷ (71, row80) ∷ (73, row18) ∷ []) ((5, off) ∷ (6, off) ∷ (10, off) ∷ (11, off) ∷ (28, dead) ∷ (29, alive) ∷ (30, alive) ∷ (31, alive) ∷ (32, alive) ∷ (33, alive) ∷ []) G0
+  G186 = patched ((8, row5 30) ∷ (9, row8 31) ∷ (13, row74) ∷ (14, row77) ∷ (15, row1) ∷ (16, row1) ∷ (24, row25) ∷ (25, row65) ∷ (37, row20) ∷ (67, row19) ∷ (69, row18) ∷ (71, row80) ∷ (73, row18) ∷ []) ((5, off) ∷ (6, off) ∷ (10, off) ∷ (11, off) ∷ (28, dead) ∷ (29, alive) ∷ (30, alive) ∷ (31, alive) ∷ (32, alive) ∷ (33, alive) ∷ []) G0
 
   abbrev pub G187 : Cx
-  G187 = patched ((8, row68) ∷ (9, row71) ∷ (13, row74) ∷ (14, row77) ∷ (15, row1) ∷ (16, row1) ∷ (24, row25) ∷ (25, row65) ∷ (37, row20) ∷ (67, row19) ∷ (69, row18) ∷ (71, row80) ∷ (73, row18) ∷ []) ((5, off) ∷ (6, off) ∷ (10, off) ∷ (11, off) ∷ (29, alive) ∷ (30, alive) ∷ (31, alive) ∷ (32, alive) ∷ (33, alive) ∷ []) G0
+  G187 = patched ((8, row5 30) ∷ (9, row8 31) ∷ (13, row74) ∷ (14, row77) ∷ (15, row1) ∷ (16, row1) ∷ (24, row25) ∷ (25, row65) ∷ (37, row20) ∷ (67, row19) ∷ (69, row18) ∷ (71, row80) ∷ (73, row18) ∷ []) ((5, off) ∷ (6, off) ∷ (10, off) ∷ (11, off) ∷ (29, alive) ∷ (30, alive) ∷ (31, alive) ∷ (32, alive) ∷ (33, alive) ∷ []) G0
 
   abbrev pub G188 : Cx
-  G188 = patched ((8, row68) ∷ (9, row71) ∷ (13, row74) ∷ (14, row77) ∷ (15, row1) ∷ (16, row1) ∷ (25, row65) ∷ (37, row20) ∷ (67, row19) ∷ (69, row18) ∷ (71, row80) ∷ (73, row18) ∷ []) ((5, off) ∷ (6, off) ∷ (10, off) ∷ (11, off) ∷ (29, alive) ∷ (30, alive) ∷ (31, alive) ∷ (32, alive) ∷ (33, alive) ∷ []) G0
+  G188 = patched ((8, row5 30) ∷ (9, row8 31) ∷ (13, row74) ∷ (14, row77) ∷ (15, row1) ∷ (16, row1) ∷ (25, row65) ∷ (37, row20) ∷ (67, row19) ∷ (69, row18) ∷ (71, row80) ∷ (73, row18) ∷ []) ((5, off) ∷ (6, off) ∷ (10, off) ∷ (11, off) ∷ (29, alive) ∷ (30, alive) ∷ (31, alive) ∷ (32, alive) ∷ (33, alive) ∷ []) G0
 
   abbrev pub G189 : Cx
-  G189 = patched ((8, row68) ∷ (9, row71) ∷ (13, row74) ∷ (14, row77) ∷ (15, row1) ∷ (16, row1) ∷ (25, row65) ∷ (37, row20) ∷ (67, row19) ∷ (69, row18) ∷ (71, row80) ∷ (73, row18) ∷ []) ((5, off) ∷ (6, off) ∷ (10, off) ∷ (11, off) ∷ (29, dead) ∷ (30, alive) ∷ (31, alive) ∷ (32, alive) ∷ (33, alive) ∷ []) G0
+  G189 = patched ((8, row5 30) ∷ (9, row8 31) ∷ (13, row74) ∷ (14, row77) ∷ (15, row1) ∷ (16, row1) ∷ (25, row65) ∷ (37, row20) ∷ (67, row19) ∷ (69, row18) ∷ (71, row80) ∷ (73, row18) ∷ []) ((5, off) ∷ (6, off) ∷ (10, off) ∷ (11, off) ∷ (29, dead) ∷ (30, alive) ∷ (31, alive) ∷ (32, alive) ∷ (33, alive) ∷ []) G0
 
   abbrev pub G190 : Cx
-  G190 = patched ((8, row68) ∷ (9, row71) ∷ (13, row74) ∷ (14, row77) ∷ (15, row1) ∷ (16, row1) ∷ (25, row27) ∷ (37, row20) ∷ (67, row19) ∷ (69, row18) ∷ (71, row80) ∷ (73, row18) ∷ []) ((5, off) ∷ (6, off) ∷ (10, off) ∷ (11, off) ∷ (29, dead) ∷ (30, alive) ∷ (31, alive) ∷ (32, alive) ∷ (33, alive) ∷ []) G0
+  G190 = patched ((8, row5 30) ∷ (9, row8 31) ∷ (13, row74) ∷ (14, row77) ∷ (15, row1) ∷ (16, row1) ∷ (25, row27) ∷ (37, row20) ∷ (67, row19) ∷ (69, row18) ∷ (71, row80) ∷ (73, row18) ∷ []) ((5, off) ∷ (6, off) ∷ (10, off) ∷ (11, off) ∷ (29, dead) ∷ (30, alive) ∷ (31, alive) ∷ (32, alive) ∷ (33, alive) ∷ []) G0
 
   abbrev pub G191 : Cx
-  G191 = patched ((8, row68) ∷ (9, row71) ∷ (13, row74) ∷ (14, row77) ∷ (15, row1) ∷ (16, row1) ∷ (25, row27) ∷ (37, row20) ∷ (67, row19) ∷ (69, row18) ∷ (71, row80) ∷ (73, row18) ∷ []) ((5, off) ∷ (6, off) ∷ (10, off) ∷ (11, off) ∷ (30, alive) ∷ (31, alive) ∷ (32, alive) ∷ (33, alive) ∷ []) G0
+  G191 = patched ((8, row5 30) ∷ (9, row8 31) ∷ (13, row74) ∷ (14, row77) ∷ (15, row1) ∷ (16, row1) ∷ (25, row27) ∷ (37, row20) ∷ (67, row19) ∷ (69, row18) ∷ (71, row80) ∷ (73, row18) ∷ []) ((5, off) ∷ (6, off) ∷ (10, off) ∷ (11, off) ∷ (30, alive) ∷ (31, alive) ∷ (32, alive) ∷ (33, alive) ∷ []) G0
 
   abbrev pub G192 : Cx
-  G192 = patched ((8, row68) ∷ (9, row71) ∷ (13, row74) ∷ (14, row77) ∷ (15, row1) ∷ (16, row1) ∷ (37, row20) ∷ (67, row19) ∷ (69, row18) ∷ (71, row80) ∷ (73, row18) ∷ []) ((5, off) ∷ (6, off) ∷ (10, off) ∷ (11, off) ∷ (30, alive) ∷ (31, alive) ∷ (32, alive) ∷ (33, alive) ∷ []) G0
+  G192 = patched ((8, row5 30) ∷ (9, row8 31) ∷ (13, row74) ∷ (14, row77) ∷ (15, row1) ∷ (16, row1) ∷ (37, row20) ∷ (67, row19) ∷ (69, row18) ∷ (71, row80) ∷ (73, row18) ∷ []) ((5, off) ∷ (6, off) ∷ (10, off) ∷ (11, off) ∷ (30, alive) ∷ (31, alive) ∷ (32, alive) ∷ (33, alive) ∷ []) G0
 
   abbrev pub G193 : Cx
-  G193 = patched ((8, row68) ∷ (9, row71) ∷ (13, row74) ∷ (14, row77) ∷ (15, row1) ∷ (16, row1) ∷ (37, row20) ∷ (67, row19) ∷ (69, row18) ∷ (71, row80) ∷ (73, row18) ∷ []) ((5, off) ∷ (6, off) ∷ (10, off) ∷ (11, off) ∷ (30, dead) ∷ (31, alive) ∷ (32, alive) ∷ (33, alive) ∷ []) G0
+  G193 = patched ((8, row5 30) ∷ (9, row8 31) ∷ (13, row74) ∷ (14, row77) ∷ (15, row1) ∷ (16, row1) ∷ (37, row20) ∷ (67, row19) ∷ (69, row18) ∷ (71, row80) ∷ (73, row18) ∷ []) ((5, off) ∷ (6, off) ∷ (10, off) ∷ (11, off) ∷ (30, dead) ∷ (31, alive) ∷ (32, alive) ∷ (33, alive) ∷ []) G0
 
   abbrev pub G194 : Cx
-  G194 = patched ((9, row71) ∷ (13, row74) ∷ (14, row77) ∷ (15, row1) ∷ (16, row1) ∷ (37, row20) ∷ (69, row18) ∷ (71, row80) ∷ (73, row18) ∷ []) ((6, off) ∷ (10, off) ∷ (11, off) ∷ (30, dead) ∷ (31, alive) ∷ (32, alive) ∷ (33, alive) ∷ []) G0
+  G194 = patched ((9, row8 31) ∷ (13, row74) ∷ (14, row77) ∷ (15, row1) ∷ (16, row1) ∷ (37, row20) ∷ (69, row18) ∷ (71, row80) ∷ (73, row18) ∷ []) ((6, off) ∷ (10, off) ∷ (11, off) ∷ (30, dead) ∷ (31, alive) ∷ (32, alive) ∷ (33, alive) ∷ []) G0
 
   abbrev pub G196 : Cx
-  G196 = patched ((9, row71) ∷ (13, row74) ∷ (14, row77) ∷ (15, row1) ∷ (16, row1) ∷ (37, row20) ∷ (69, row18) ∷ (71, row80) ∷ (73, row18) ∷ []) ((6, off) ∷ (10, off) ∷ (11, off) ∷ (31, alive) ∷ (32, alive) ∷ (33, alive) ∷ []) G0
+  G196 = patched ((9, row8 31) ∷ (13, row74) ∷ (14, row77) ∷ (15, row1) ∷ (16, row1) ∷ (37, row20) ∷ (69, row18) ∷ (71, row80) ∷ (73, row18) ∷ []) ((6, off) ∷ (10, off) ∷ (11, off) ∷ (31, alive) ∷ (32, alive) ∷ (33, alive) ∷ []) G0
 
   abbrev pub G197 : Cx
-  G197 = patched ((9, row71) ∷ (13, row74) ∷ (14, row77) ∷ (15, row1) ∷ (16, row1) ∷ (37, row20) ∷ (69, row18) ∷ (71, row80) ∷ (73, row18) ∷ []) ((6, off) ∷ (10, off) ∷ (11, off) ∷ (31, dead) ∷ (32, alive) ∷ (33, alive) ∷ []) G0
+  G197 = patched ((9, row8 31) ∷ (13, row74) ∷ (14, row77) ∷ (15, row1) ∷ (16, row1) ∷ (37, row20) ∷ (69, row18) ∷ (71, row80) ∷ (73, row18) ∷ []) ((6, off) ∷ (10, off) ∷ (11, off) ∷ (31, dead) ∷ (32, alive) ∷ (33, alive) ∷ []) G0
 
   abbrev pub G198 : Cx
   G198 = patched ((13, row74) ∷ (14, row77) ∷ (15, row1) ∷ (16, row1) ∷ (37, row20) ∷ (71, row80) ∷ (73, row18) ∷ []) ((10, off) ∷ (11, off) ∷ (31, dead) ∷ (32, alive) ∷ (33, alive) ∷ []) G0
@@ -511,7 +448,7 @@ module _ (κs : Lfts 12) (qs : Shares 12) where
   Γ-from-answer = G31
 
 module _ {M : Type 1} (𝓤 : URA M) (H : Heap 𝓤) (A : Atoms 𝓤) (W : Given 𝓤 H A) (𝓣 : Tables 𝓤 H)
-    (known0 : Knows 𝓤 H A W 𝓣 9 K0.ps K0.r R0.Asked R0.Learnt "call_partition::prepare") (known1 : Knows 𝓤 H A W 𝓣 4 K1.ps K1.r R1.Asked R1.Learnt "topology::records::fill") (known2 : Knows 𝓤 H A W 𝓣 10 K2.ps K2.r R2.Asked R2.Learnt "topology::ranked::mark_ranked") (known3 : Knows 𝓤 H A W 𝓣 7 K3.ps K3.r R3.Asked R3.Learnt "ranked_finish::finish_ranked") (κs : Lfts 12) (qs : Shares 12) (bs : List ℕ) where
+    (known0 : Knows 𝓤 H A W 𝓣 9 K0.ps K0.r R0.Asked R0.Learnt "call_partition::prepare") (known1 : Knows 𝓤 H A W 𝓣 4 K1.ps K1.r K1.Asked K1.Learnt "topology::records::fill") (known2 : Knows 𝓤 H A W 𝓣 10 K2.ps K2.r K2.Asked K2.Learnt "topology::ranked::mark_ranked") (known3 : Knows 𝓤 H A W 𝓣 7 K3.ps K3.r R3.Asked R3.Learnt "ranked_finish::finish_ranked") (κs : Lfts 12) (qs : Shares 12) (bs : List ℕ) where
   abbrev E : Env 𝓤 H
   E = EnvOf 𝓤 H (tyR r ∷ tysP ps xs) bs
 
@@ -577,7 +514,7 @@ module _ {M : Type 1} (𝓤 : URA M) (H : Heap 𝓤) (A : Atoms 𝓤) (W : Given
       ghosts _ (G121 κs qs) (g-begin 𝓤 H A W E _ 27 _) $
       stmt (G121 κs qs) _ (t-arr-borrow 𝓤 H A W E 𝓣 (rtF (fInt w32)) (G121 κs qs) 25 61 2556 27 (tyRef erased mut (tyArray (tyInt w32) 2556)) (λ x. x) (as-is 𝓤 H A (arrF (rtF (fInt w32)) 2556 0)) (room-gone 𝓤 H A (tyRef erased mut (tyArray (tyInt w32) 2556))) refl (λ b o. tt) (lit< tt, lit< tt)) $
       stmt _ (G123 κs qs) (t-sl-aggregate 𝓤 H A W E (rtF (fInt w32)) 𝓣 (asMut (rtF (fInt w32))) _ 61 62 27 (tyRef erased mut (tyArray (tyInt w32) 2556)) (tyRef erased mut (tyInt w32)) (λ x. x) (oBig w64 2556) (as-is 𝓤 H A (msptr (rtF (fInt w32)) (tyRef erased mut (tyArray (tyInt w32) 2556)) 27)) (room-gone 𝓤 H A _) record { lower = record { fits = lit< tt } } refl refl (λ b o k. tt)) $
-      stmt (G123 κs qs) (G124 κs qs) (t-call-plain 𝓤 H A W 𝓣 10 K2.ps K2.r R2.Asked R2.Learnt "topology::ranked::mark_ranked" known2 E (λ pos β. β) (G123 κs qs) (record { pos = 48; ty = tyRef erased imm (pointee (twin-0.the-row .written)); ref = λ x. x }, (vAt 22 (λ x. x), (vAt 23 (λ x. x), (record { pos = 50; ty = tyRef erased imm (tyInt w32); ref = λ x. x }, (record { pos = 6; ty = tyRef (named 3) imm (tyInt w64); ref = λ x. x }, (vAt 20 (λ x. x), (vAt 21 (λ x. x), (vAt 51 (λ x. x), (record { pos = 5; ty = tyRef (named 2) imm (tyInt w64); ref = λ x. x }, (record { pos = 53; ty = tyRef erased imm (tyInt w32); ref = λ x. x }, (record { pos = 55; ty = tyRef erased imm (tyInt w32); ref = λ x. x }, (record { pos = 57; ty = tyRef erased mut (tyInt w16); ref = λ x. x }, (record { pos = 59; ty = tyRef erased mut (tyInt w32); ref = λ x. x }, (record { pos = 60; ty = tyRef erased mut (tyArray tyBool 256); ref = λ x. x }, (record { pos = 62; ty = tyRef erased mut (tyInt w32); ref = λ x. x }, tt))))))))))))))) 26 (20 ∷ 21 ∷ 3 ∷ 2 ∷ 22 ∷ 23 ∷ 24 ∷ 25 ∷ 26 ∷ 27 ∷ []) (sub-id 𝓤 H A W ((G123 κs qs) .slots)) (spares-sslice 𝓤 H A W twin-0.the-row (tyRef erased imm (pointee (twin-0.the-row .written))) 20, reads-sslice 𝓤 H A W twin-0.the-row (tyRef erased imm (pointee (twin-0.the-row .written))) 20, refl, ((reads-sc 𝓤 H A W (sInt w64), refl), ((reads-sc 𝓤 H A W (sInt w64), refl), (spares-sslice 𝓤 H A W (rtF (fInt w32)) (tyRef erased imm (tyInt w32)) 21, reads-sslice 𝓤 H A W (rtF (fInt w32)) (tyRef erased imm (tyInt w32)) 21, refl, (spares-sslice 𝓤 H A W (rtF (fInt w64)) (tyRef (named 3) imm (tyInt w64)) 3, reads-sslice 𝓤 H A W (rtF (fInt w64)) (tyRef (named 3) imm (tyInt w64)) 3, refl, ((reads-sc 𝓤 H A W (sInt w64), refl), ((reads-sc 𝓤 H A W (sInt w64), refl), ((reads-sc 𝓤 H A W (sInt w64), refl), (spares-sslice 𝓤 H A W (rtF (fInt w64)) (tyRef (named 2) imm (tyInt w64)) 2, reads-sslice 𝓤 H A W (rtF (fInt w64)) (tyRef (named 2) imm (tyInt w64)) 2, refl, (spares-sslice 𝓤 H A W (rtF (fInt w32)) (tyRef erased imm (tyInt w32)) 22, reads-sslice 𝓤 H A W (rtF (fInt w32)) (tyRef erased imm (tyInt w32)) 22, refl, (spares-sslice 𝓤 H A W (rtF (fInt w32)) (tyRef erased imm (tyInt w32)) 23, reads-sslice 𝓤 H A W (rtF (fInt w32)) (tyRef erased imm (tyInt w32)) 23, refl, (as-is 𝓤 H A (mslice (rtF (fInt w16)) (tyRef erased mut (tyInt w16)) 24), reads-mslice 𝓤 H A W (rtF (fInt w16)) (tyRef erased mut (tyInt w16)) 24, refl, (as-is 𝓤 H A (mslice (rtF (fInt w32)) (tyRef erased mut (tyInt w32)) 25), reads-mslice 𝓤 H A W (rtF (fInt w32)) (tyRef erased mut (tyInt w32)) 25, refl, (as-is 𝓤 H A (mref (Array (rtF fBool) 256) (tyRef erased mut (tyArray tyBool 256)) 26), reads-mref 𝓤 H A W (Array (rtF fBool) 256) (tyRef erased mut (tyArray tyBool 256)) 26, refl, (as-is 𝓤 H A (mslice (rtF (fInt w32)) (tyRef erased mut (tyInt w32)) 27), reads-mslice 𝓤 H A W (rtF (fInt w32)) (tyRef erased mut (tyInt w32)) 27, refl, tt))))))))))))))) (room-gone 𝓤 H A (tyInt w64)) _ refl) $
+      stmt (G123 κs qs) (G124 κs qs) (t-call-plain 𝓤 H A W 𝓣 10 K2.ps K2.r K2.Asked K2.Learnt "topology::ranked::mark_ranked" known2 E (λ pos β. β) (G123 κs qs) (record { pos = 48; ty = tyRef erased imm (pointee (twin-0.the-row .written)); ref = λ x. x }, (vAt 22 (λ x. x), (vAt 23 (λ x. x), (record { pos = 50; ty = tyRef erased imm (tyInt w32); ref = λ x. x }, (record { pos = 6; ty = tyRef (named 3) imm (tyInt w64); ref = λ x. x }, (vAt 20 (λ x. x), (vAt 21 (λ x. x), (vAt 51 (λ x. x), (record { pos = 5; ty = tyRef (named 2) imm (tyInt w64); ref = λ x. x }, (record { pos = 53; ty = tyRef erased imm (tyInt w32); ref = λ x. x }, (record { pos = 55; ty = tyRef erased imm (tyInt w32); ref = λ x. x }, (record { pos = 57; ty = tyRef erased mut (tyInt w16); ref = λ x. x }, (record { pos = 59; ty = tyRef erased mut (tyInt w32); ref = λ x. x }, (record { pos = 60; ty = tyRef erased mut (tyArray tyBool 256); ref = λ x. x }, (record { pos = 62; ty = tyRef erased mut (tyInt w32); ref = λ x. x }, tt))))))))))))))) 26 (20 ∷ 21 ∷ 3 ∷ 2 ∷ 22 ∷ 23 ∷ 24 ∷ 25 ∷ 26 ∷ 27 ∷ []) (sub-id 𝓤 H A W ((G123 κs qs) .slots)) (spares-sslice 𝓤 H A W twin-0.the-row (tyRef erased imm (pointee (twin-0.the-row .written))) 20, reads-sslice 𝓤 H A W twin-0.the-row (tyRef erased imm (pointee (twin-0.the-row .written))) 20, refl, ((reads-sc 𝓤 H A W (sInt w64), refl), ((reads-sc 𝓤 H A W (sInt w64), refl), (spares-sslice 𝓤 H A W (rtF (fInt w32)) (tyRef erased imm (tyInt w32)) 21, reads-sslice 𝓤 H A W (rtF (fInt w32)) (tyRef erased imm (tyInt w32)) 21, refl, (spares-sslice 𝓤 H A W (rtF (fInt w64)) (tyRef (named 3) imm (tyInt w64)) 3, reads-sslice 𝓤 H A W (rtF (fInt w64)) (tyRef (named 3) imm (tyInt w64)) 3, refl, ((reads-sc 𝓤 H A W (sInt w64), refl), ((reads-sc 𝓤 H A W (sInt w64), refl), ((reads-sc 𝓤 H A W (sInt w64), refl), (spares-sslice 𝓤 H A W (rtF (fInt w64)) (tyRef (named 2) imm (tyInt w64)) 2, reads-sslice 𝓤 H A W (rtF (fInt w64)) (tyRef (named 2) imm (tyInt w64)) 2, refl, (spares-sslice 𝓤 H A W (rtF (fInt w32)) (tyRef erased imm (tyInt w32)) 22, reads-sslice 𝓤 H A W (rtF (fInt w32)) (tyRef erased imm (tyInt w32)) 22, refl, (spares-sslice 𝓤 H A W (rtF (fInt w32)) (tyRef erased imm (tyInt w32)) 23, reads-sslice 𝓤 H A W (rtF (fInt w32)) (tyRef erased imm (tyInt w32)) 23, refl, (as-is 𝓤 H A (mslice (rtF (fInt w16)) (tyRef erased mut (tyInt w16)) 24), reads-mslice 𝓤 H A W (rtF (fInt w16)) (tyRef erased mut (tyInt w16)) 24, refl, (as-is 𝓤 H A (mslice (rtF (fInt w32)) (tyRef erased mut (tyInt w32)) 25), reads-mslice 𝓤 H A W (rtF (fInt w32)) (tyRef erased mut (tyInt w32)) 25, refl, (as-is 𝓤 H A (mref (Array (rtF fBool) 256) (tyRef erased mut (tyArray tyBool 256)) 26), reads-mref 𝓤 H A W (Array (rtF fBool) 256) (tyRef erased mut (tyArray tyBool 256)) 26, refl, (as-is 𝓤 H A (mslice (rtF (fInt w32)) (tyRef erased mut (tyInt w32)) 27), reads-mslice 𝓤 H A W (rtF (fInt w32)) (tyRef erased mut (tyInt w32)) 27, refl, tt))))))))))))))) (room-gone 𝓤 H A (tyInt w64)) _ refl) $
       ghosts (G124 κs qs) _ (g-room 𝓤 H A W E (G124 κs qs) 48 _ (room-sslice 𝓤 H A W twin-0.the-row (tyRef erased imm (pointee (twin-0.the-row .written))) 20)) $
       ghosts _ _ (g-room 𝓤 H A W E _ 50 _ (room-sslice 𝓤 H A W (rtF (fInt w32)) (tyRef erased imm (tyInt w32)) 21)) $
       ghosts _ (G127 κs qs) (g-room 𝓤 H A W E _ 53 _ (room-sslice 𝓤 H A W (rtF (fInt w32)) (tyRef erased imm (tyInt w32)) 22)) $
@@ -642,7 +579,7 @@ module _ {M : Type 1} (𝓤 : URA M) (H : Heap 𝓤) (A : Atoms 𝓤) (W : Given
               ghosts (G81 κs qs) _ (g-begin 𝓤 H A W E (G81 κs qs) 19 _) $
               stmt _ _ (t-sl-reshare 𝓤 H A W E (rtF (fInt w32)) 𝓣 _ 9 45 6 19 (tyRef (named 6) mut (tyInt w32)) (tyRef erased imm (tyInt w32)) (lease (κs .1 .1 .1 .1 .1 .1 .0) (qs .1 .1 .1 .1 .1 .1 .0)) 0 (λ x. x) (as-is 𝓤 H A (mslice (rtF (fInt w32)) (tyRef (named 6) mut (tyInt w32)) 6)) (room-gone 𝓤 H A (tyRef erased imm (tyInt w32))) refl tt refl refl refl (λ b o. tt)) $
               stmt _ (G84 κs qs) (t-sl-aggregate 𝓤 H A W E (rtF (fInt w32)) 𝓣 (asShr (rtF (fInt w32))) _ 45 46 19 (tyRef erased imm (tyInt w32)) (tyRef erased imm (tyInt w32)) (λ x. x) (oFld 9 (field 1 ∷ []) (tyInt w64) 8 (λ v. lenV (v .0))) (as-is 𝓤 H A (ssptr (rtF (fInt w32)) (tyRef erased imm (tyInt w32)) 19)) (room-gone 𝓤 H A _) (reads-owedS-len 𝓤 H A W (rtF (fInt w32)) (tyRef (named 6) mut (tyInt w32)) 6 19 (lease (κs .1 .1 .1 .1 .1 .1 .0) (qs .1 .1 .1 .1 .1 .1 .0)) 8 refl, refl) refl refl (λ b o k. tt)) $
-              stmt (G84 κs qs) (G85 κs qs) (t-call-plain 𝓤 H A W 𝓣 4 K1.ps K1.r R1.Asked R1.Learnt "topology::records::fill" known1 E (λ pos β. β) (G84 κs qs) (record { pos = 42; ty = tyRef erased mut (pointee (twin-0.the-row .written)); ref = λ x. x }, (vAt 20 (λ x. x), (vAt 22 (λ x. x), (record { pos = 3; ty = tyRef (named 0) imm (tyInt w8); ref = λ x. x }, (record { pos = 44; ty = tyRef erased imm (tyInt w32); ref = λ x. x }, (record { pos = 46; ty = tyRef erased imm (tyInt w32); ref = λ x. x }, tt)))))) 40 (17 ∷ 0 ∷ 18 ∷ 19 ∷ []) (sub-id 𝓤 H A W ((G84 κs qs) .slots)) (as-is 𝓤 H A (mslice twin-0.the-row (tyRef erased mut (pointee (twin-0.the-row .written))) 17), reads-mslice 𝓤 H A W twin-0.the-row (tyRef erased mut (pointee (twin-0.the-row .written))) 17, refl, ((reads-sc 𝓤 H A W (sInt w64), refl), ((reads-sc 𝓤 H A W (sInt w64), refl), (spares-sslice 𝓤 H A W (rtF (fInt w8)) (tyRef (named 0) imm (tyInt w8)) 0, reads-sslice 𝓤 H A W (rtF (fInt w8)) (tyRef (named 0) imm (tyInt w8)) 0, refl, (spares-sslice 𝓤 H A W (rtF (fInt w32)) (tyRef erased imm (tyInt w32)) 18, reads-sslice 𝓤 H A W (rtF (fInt w32)) (tyRef erased imm (tyInt w32)) 18, refl, (spares-sslice 𝓤 H A W (rtF (fInt w32)) (tyRef erased imm (tyInt w32)) 19, reads-sslice 𝓤 H A W (rtF (fInt w32)) (tyRef erased imm (tyInt w32)) 19, refl, tt)))))) (room-gone 𝓤 H A tyUnit) _ refl) $
+              stmt (G84 κs qs) (G85 κs qs) (t-call-plain 𝓤 H A W 𝓣 4 K1.ps K1.r K1.Asked K1.Learnt "topology::records::fill" known1 E (λ pos β. β) (G84 κs qs) (record { pos = 42; ty = tyRef erased mut (pointee (twin-0.the-row .written)); ref = λ x. x }, (vAt 20 (λ x. x), (vAt 22 (λ x. x), (record { pos = 3; ty = tyRef (named 0) imm (tyInt w8); ref = λ x. x }, (record { pos = 44; ty = tyRef erased imm (tyInt w32); ref = λ x. x }, (record { pos = 46; ty = tyRef erased imm (tyInt w32); ref = λ x. x }, tt)))))) 40 (17 ∷ 0 ∷ 18 ∷ 19 ∷ []) (sub-id 𝓤 H A W ((G84 κs qs) .slots)) (as-is 𝓤 H A (mslice twin-0.the-row (tyRef erased mut (pointee (twin-0.the-row .written))) 17), reads-mslice 𝓤 H A W twin-0.the-row (tyRef erased mut (pointee (twin-0.the-row .written))) 17, refl, ((reads-sc 𝓤 H A W (sInt w64), refl), ((reads-sc 𝓤 H A W (sInt w64), refl), (spares-sslice 𝓤 H A W (rtF (fInt w8)) (tyRef (named 0) imm (tyInt w8)) 0, reads-sslice 𝓤 H A W (rtF (fInt w8)) (tyRef (named 0) imm (tyInt w8)) 0, refl, (spares-sslice 𝓤 H A W (rtF (fInt w32)) (tyRef erased imm (tyInt w32)) 18, reads-sslice 𝓤 H A W (rtF (fInt w32)) (tyRef erased imm (tyInt w32)) 18, refl, (spares-sslice 𝓤 H A W (rtF (fInt w32)) (tyRef erased imm (tyInt w32)) 19, reads-sslice 𝓤 H A W (rtF (fInt w32)) (tyRef erased imm (tyInt w32)) 19, refl, tt)))))) (room-gone 𝓤 H A tyUnit) _ refl) $
               ghosts (G85 κs qs) _ (g-room 𝓤 H A W E (G85 κs qs) 44 _ (room-sslice 𝓤 H A W (rtF (fInt w32)) (tyRef erased imm (tyInt w32)) 18)) $
               ghosts _ _ (g-room 𝓤 H A W E _ 46 _ (room-sslice 𝓤 H A W (rtF (fInt w32)) (tyRef erased imm (tyInt w32)) 19)) $
               ghosts _ (G88 κs qs) (g-room 𝓤 H A W E _ 40 tyUnit (room-sc 𝓤 H A W sUnit)) $
@@ -704,11 +641,11 @@ module _ (w : World) where
   abbrev known0-at : Knows (w .𝓤) (w .H) (w .𝓖 .A) (Wof w) (𝓣of w code.env) 9 K0.ps K0.r R0.Asked R0.Learnt "call_partition::prepare"
   known0-at = R0.known w code.env S0.name S0.routine code.calls-call-partition·prepare (M0.met (w .𝓤) (w .H) (w .𝓜) (w .𝓖) (w .𝓡))
 
-  abbrev known1-at : Knows (w .𝓤) (w .H) (w .𝓖 .A) (Wof w) (𝓣of w code.env) 4 K1.ps K1.r R1.Asked R1.Learnt "topology::records::fill"
-  known1-at = R1.known w code.env S1.name S1.routine code.calls-topology·records·fill (M1.met (w .𝓤) (w .H) (w .𝓜) (w .𝓖) (w .𝓡))
+  abbrev known1-at : Knows (w .𝓤) (w .H) (w .𝓖 .A) (Wof w) (𝓣of w code.env) 4 K1.ps K1.r K1.Asked K1.Learnt "topology::records::fill"
+  known1-at = K1.known w code.env S1.name S1.routine code.calls-topology·records·fill (M1.met (w .𝓤) (w .H) (w .𝓜) (w .𝓖) (w .𝓡))
 
-  abbrev known2-at : Knows (w .𝓤) (w .H) (w .𝓖 .A) (Wof w) (𝓣of w code.env) 10 K2.ps K2.r R2.Asked R2.Learnt "topology::ranked::mark_ranked"
-  known2-at = R2.known w code.env S2.name S2.routine code.calls-topology·ranked·mark-ranked (M2.met (w .𝓤) (w .H) (w .𝓜) (w .𝓖) (w .𝓡))
+  abbrev known2-at : Knows (w .𝓤) (w .H) (w .𝓖 .A) (Wof w) (𝓣of w code.env) 10 K2.ps K2.r K2.Asked K2.Learnt "topology::ranked::mark_ranked"
+  known2-at = K2.known w code.env S2.name S2.routine code.calls-topology·ranked·mark-ranked (M2.met (w .𝓤) (w .H) (w .𝓜) (w .𝓖) (w .𝓡))
 
   abbrev known3-at : Knows (w .𝓤) (w .H) (w .𝓖 .A) (Wof w) (𝓣of w code.env) 7 K3.ps K3.r R3.Asked R3.Learnt "ranked_finish::finish_ranked"
   known3-at = R3.known w code.env S3.name S3.routine code.calls-ranked-finish·finish-ranked (M3.met (w .𝓤) (w .H) (w .𝓜) (w .𝓖) (w .𝓡))

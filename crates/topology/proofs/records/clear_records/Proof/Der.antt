@@ -7,15 +7,13 @@ use Rattle.context.proofs.Region.empty.Kinds as K0
 use Rattle.context.proofs.Region.empty.Reads as R0
 use Rattle.context.proofs.Region.empty.Symbol as S0
 use Rattle.context.proofs.Region.empty.Met as M0
-use Rattle.topology.proofs.Seen.slice.put_record.Kinds as K1
-use Rattle.topology.proofs.Seen.slice.put_record.Reads as R1
+use Rattle.topology.proofs.Seen.slice.put_record as K1
 use Rattle.topology.proofs.slice.put_record.Symbol as S1
 use Rattle.topology.proofs.slice.put_record.Met as M1
-use Rattle.topology.proofs.Seen.records.clear_records.Kinds.{ps, r}
 use Rattle.topology.proofs.records.clear_records.Code as code
 use contract.Running
 use Rattle.topology.proofs.Contracts.{Answers, Post, Pre, Wof, met, 𝓣of}
-use Rattle.topology.proofs.Seen.records.clear_records.Reads.{the-contract}
+use Rattle.topology.proofs.Seen.records.clear_records.{ps, r, the-contract}
 use Rattle.topology.proofs.records.clear_records.Key as key
 use Rattle.topology.proofs.records.clear_records.Statement.{statement}
 use Rattle.topology.proofs.Steps.{Der, _$_, blocks, exits1, first, ghosts, homes, last, loops, patched, rets, skips, stmt, test, typesPast}
@@ -85,7 +83,7 @@ module _ (κs : Lfts 1) (qs : Shares 1) where
   G21 = patched ((0, row7) ∷ (2, (any-gone (ty 2))) ∷ []) ([]) G0
 
 module _ {M : Type 1} (𝓤 : URA M) (H : Heap 𝓤) (A : Atoms 𝓤) (W : Given 𝓤 H A) (𝓣 : Tables 𝓤 H) (Inv·0 : InvT-loop) (μ·0 : MeasureT-loop)
-    (known0 : Knows 𝓤 H A W 𝓣 0 K0.ps K0.r R0.Asked R0.Learnt "context::Region::empty") (known1 : Knows 𝓤 H A W 𝓣 1 K1.ps K1.r R1.Asked R1.Learnt "topology::slice::put_record") (κs : Lfts 1) (qs : Shares 1) (bs : List ℕ) where
+    (known0 : Knows 𝓤 H A W 𝓣 0 K0.ps K0.r R0.Asked R0.Learnt "context::Region::empty") (known1 : Knows 𝓤 H A W 𝓣 1 K1.ps K1.r K1.Asked K1.Learnt "topology::slice::put_record") (κs : Lfts 1) (qs : Shares 1) (bs : List ℕ) where
   abbrev E : Env 𝓤 H
   E = EnvOf 𝓤 H (tyR r ∷ tysP ps xs) bs
 
@@ -107,7 +105,7 @@ module _ {M : Type 1} (𝓤 : URA M) (H : Heap 𝓤) (A : Atoms 𝓤) (W : Given
       ghosts (G3 κs qs) _ (g-begin 𝓤 H A W E (G3 κs qs) 1 _) $
       stmt _ _ (t-sl-relend 𝓤 H A W E Region.the-row 𝓣 _ 1 7 0 1 (tyRef (named 0) mut (pointee (Region.the-row .written))) (tyRef erased mut (pointee (Region.the-row .written))) (lease (κs .0) (qs .0)) 0 (λ x. x) (as-is 𝓤 H A (mslice Region.the-row (tyRef (named 0) mut (pointee (Region.the-row .written))) 0)) (room-gone 𝓤 H A (tyRef erased mut (pointee (Region.the-row .written)))) refl tt refl refl refl (λ b o. tt)) $
       stmt _ (G12 κs qs) (t-sl-aggregate 𝓤 H A W E Region.the-row 𝓣 (asMut Region.the-row) _ 7 8 1 (tyRef erased mut (pointee (Region.the-row .written))) (tyRef erased mut (pointee (Region.the-row .written))) (λ x. x) (oFld 1 (field 1 ∷ []) (tyInt w64) 8 (λ v. lenV (v .0))) (as-is 𝓤 H A (msptr Region.the-row (tyRef erased mut (pointee (Region.the-row .written))) 1)) (room-gone 𝓤 H A _) (reads-owed-len 𝓤 H A W Region.the-row (tyRef (named 0) mut (pointee (Region.the-row .written))) 0 1 (lease (κs .0) (qs .0)) 8 refl, refl) refl refl (λ b o k. tt)) $
-      stmt (G12 κs qs) (G13 κs qs) (t-call-plain 𝓤 H A W 𝓣 1 K1.ps K1.r R1.Asked R1.Learnt "topology::slice::put_record" known1 E (λ pos β. β) (G12 κs qs) (record { pos = 8; ty = tyRef erased mut (pointee (Region.the-row .written)); ref = λ x. x }, (vAt 4 (λ x. x), (record { pos = 3; st = []; d = 0; at = λ x. x }, tt))) 6 (1 ∷ []) (sub-id 𝓤 H A W ((G12 κs qs) .slots)) (as-is 𝓤 H A (mslice Region.the-row (tyRef erased mut (pointee (Region.the-row .written))) 1), reads-mslice 𝓤 H A W Region.the-row (tyRef erased mut (pointee (Region.the-row .written))) 1, refl, ((reads-sc 𝓤 H A W (sInt w64), refl), ((yields-copy 𝓤 H A W (λ ρ. Unit) (row Region.the-type) refl (cStruct Region.the-type Laws.the-laws Laws.the-copy .copy 𝓤 H A W) (whole (row Region.the-type)) (λ x. x) (λ x. x) (λ ρ told. mem-whole 𝓤 H A W (row Region.the-type) ρ) (λ ρ told. whole-mem 𝓤 H A W (row Region.the-type) ρ), refl), tt))) (room-gone 𝓤 H A tyUnit) _ refl) $
+      stmt (G12 κs qs) (G13 κs qs) (t-call-plain 𝓤 H A W 𝓣 1 K1.ps K1.r K1.Asked K1.Learnt "topology::slice::put_record" known1 E (λ pos β. β) (G12 κs qs) (record { pos = 8; ty = tyRef erased mut (pointee (Region.the-row .written)); ref = λ x. x }, (vAt 4 (λ x. x), (record { pos = 3; st = []; d = 0; at = λ x. x }, tt))) 6 (1 ∷ []) (sub-id 𝓤 H A W ((G12 κs qs) .slots)) (as-is 𝓤 H A (mslice Region.the-row (tyRef erased mut (pointee (Region.the-row .written))) 1), reads-mslice 𝓤 H A W Region.the-row (tyRef erased mut (pointee (Region.the-row .written))) 1, refl, ((reads-sc 𝓤 H A W (sInt w64), refl), ((yields-copy 𝓤 H A W (λ ρ. Unit) (row Region.the-type) refl (cStruct Region.the-type Laws.the-laws Laws.the-copy .copy 𝓤 H A W) (whole (row Region.the-type)) (λ x. x) (λ x. x) (λ ρ told. mem-whole 𝓤 H A W (row Region.the-type) ρ) (λ ρ told. whole-mem 𝓤 H A W (row Region.the-type) ρ), refl), tt))) (room-gone 𝓤 H A tyUnit) _ refl) $
       ghosts (G13 κs qs) _ (g-room 𝓤 H A W E (G13 κs qs) 6 tyUnit (room-sc 𝓤 H A W sUnit)) $
       ghosts _ _ (g-end 𝓤 H A W E _ 1 refl) $
       ghosts _ (G16 κs qs) (g-back-sl 𝓤 H A W E Region.the-row _ 8 1 0 1 (tyRef (named 0) mut (pointee (Region.the-row .written))) (tyRef erased mut (pointee (Region.the-row .written))) (lease (κs .0) (qs .0)) (λ x. x) (λ x. x) (as-is 𝓤 H A (msleft Region.the-row (tyRef erased mut (pointee (Region.the-row .written))))) (as-is 𝓤 H A (mslice-owed Region.the-row (tyRef (named 0) mut (pointee (Region.the-row .written))) 0 1 (lease (κs .0) (qs .0)))) refl refl) $
@@ -123,8 +121,8 @@ module _ (w : World) where
   abbrev known0-at : Knows (w .𝓤) (w .H) (w .𝓖 .A) (Wof w) (𝓣of w code.env) 0 K0.ps K0.r R0.Asked R0.Learnt "context::Region::empty"
   known0-at = R0.known w code.env S0.name S0.routine code.calls-context·Region·empty (M0.met (w .𝓤) (w .H) (w .𝓜) (w .𝓖) (w .𝓡))
 
-  abbrev known1-at : Knows (w .𝓤) (w .H) (w .𝓖 .A) (Wof w) (𝓣of w code.env) 1 K1.ps K1.r R1.Asked R1.Learnt "topology::slice::put_record"
-  known1-at = R1.known w code.env S1.name S1.routine code.calls-topology·slice·put-record (M1.met (w .𝓤) (w .H) (w .𝓜) (w .𝓖) (w .𝓡))
+  abbrev known1-at : Knows (w .𝓤) (w .H) (w .𝓖 .A) (Wof w) (𝓣of w code.env) 1 K1.ps K1.r K1.Asked K1.Learnt "topology::slice::put_record"
+  known1-at = K1.known w code.env S1.name S1.routine code.calls-topology·slice·put-record (M1.met (w .𝓤) (w .H) (w .𝓜) (w .𝓖) (w .𝓡))
 
 module _ (w : World) (Inv·0 : InvT-loop) (μ·0 : MeasureT-loop) (κs : Lfts 1) (qs : Shares 1) (bs : List ℕ) where
   abbrev pub d-at : Der (Wof w) (𝓣of w code.env) (EnvOf (w .𝓤) (w .H) (tyR r ∷ tysP ps xs) bs) (Γin 1 ps r xs m κs qs) (code.function .body) (Δret 1 ps r xs m κs qs)

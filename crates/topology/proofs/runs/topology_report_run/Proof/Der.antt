@@ -12,8 +12,7 @@ use Rattle.report_figures.proofs.call_figures.has_room.Kinds as K0
 use Rattle.report_figures.proofs.call_figures.has_room.Reads as R0
 use Rattle.report_figures.proofs.call_figures.has_room.Symbol as S0
 use Rattle.report_figures.proofs.call_figures.has_room.Met as M0
-use Rattle.topology.proofs.Seen.topology_kept_boundaries.Kinds as K1
-use Rattle.topology.proofs.Seen.topology_kept_boundaries.Reads as R1
+use Rattle.topology.proofs.Seen.topology_kept_boundaries as K1
 use Rattle.topology.proofs.topology_kept_boundaries.Symbol as S1
 use Rattle.topology.proofs.topology_kept_boundaries.Met as M1
 use Rattle.topology.proofs.runs.added.Kinds as K2
@@ -24,11 +23,10 @@ use Rattle.report_figures.proofs.call_figures.beyond.Kinds as K3
 use Rattle.report_figures.proofs.call_figures.beyond.Reads as R3
 use Rattle.report_figures.proofs.call_figures.beyond.Symbol as S3
 use Rattle.report_figures.proofs.call_figures.beyond.Met as M3
-use Rattle.topology.proofs.Seen.runs.topology_report_run.Kinds.{ps, r}
 use Rattle.topology.proofs.runs.topology_report_run.Code as code
 use contract.Running
 use Rattle.topology.proofs.Contracts.{Answers, Post, Pre, Wof, met, 𝓣of}
-use Rattle.topology.proofs.Seen.runs.topology_report_run.Reads.{the-contract}
+use Rattle.topology.proofs.Seen.runs.topology_report_run.{ps, r, the-contract}
 use Rattle.topology.proofs.runs.topology_report_run.Key as key
 use Rattle.topology.proofs.runs.topology_report_run.Statement.{statement}
 use Rattle.topology.proofs.Steps.{Der, _$_, first, ghosts, head-of, homes, last, past, patched, rets, stmt, test, then, then-of, typesPast}
@@ -55,8 +53,8 @@ module _ (κs : Lfts 11) (qs : Shares 11) where
   abbrev row3 : Row
   row3 = mslice-owed (rtF (fInt w32)) (tyRef (named 4) mut (tyInt w32)) 4 11 (lease (κs .1 .1 .1 .1 .0) (qs .1 .1 .1 .1 .0))
 
-  abbrev row5 : Row
-  row5 = mslice (rtF (fInt w32)) (tyRef erased mut (tyInt w32)) 11
+  abbrev row5 : ℕ → Row
+  row5 k = mslice (rtF (fInt w32)) (tyRef erased mut (tyInt w32)) k
 
   abbrev row6 : Row
   row6 = mslice-owed (rtF (fInt w16)) (tyRef (named 5) mut (tyInt w16)) 5 12 (lease (κs .1 .1 .1 .1 .1 .0) (qs .1 .1 .1 .1 .1 .0))
@@ -67,20 +65,11 @@ module _ (κs : Lfts 11) (qs : Shares 11) where
   abbrev row9 : Row
   row9 = mslice-owed (rtF (fInt w32)) (tyRef (named 6) mut (tyInt w32)) 6 13 (lease (κs .1 .1 .1 .1 .1 .1 .0) (qs .1 .1 .1 .1 .1 .1 .0))
 
-  abbrev row11 : Row
-  row11 = mslice (rtF (fInt w32)) (tyRef erased mut (tyInt w32)) 13
-
   abbrev row12 : Row
   row12 = mslice-owed (rtF (fInt w32)) (tyRef (named 7) mut (tyInt w32)) 7 14 (lease (κs .1 .1 .1 .1 .1 .1 .1 .0) (qs .1 .1 .1 .1 .1 .1 .1 .0))
 
-  abbrev row14 : Row
-  row14 = mslice (rtF (fInt w32)) (tyRef erased mut (tyInt w32)) 14
-
   abbrev row15 : Row
   row15 = mslice-owed (rtF (fInt w32)) (tyRef (named 8) mut (tyInt w32)) 8 15 (lease (κs .1 .1 .1 .1 .1 .1 .1 .1 .0) (qs .1 .1 .1 .1 .1 .1 .1 .1 .0))
-
-  abbrev row17 : Row
-  row17 = mslice (rtF (fInt w32)) (tyRef erased mut (tyInt w32)) 15
 
   abbrev row18 : Row
   row18 = mslice-owed twin-0.the-row (tyRef (named 9) mut (pointee (twin-0.the-row .written))) 9 16 (lease (κs .1 .1 .1 .1 .1 .1 .1 .1 .1 .0) (qs .1 .1 .1 .1 .1 .1 .1 .1 .1 .0))
@@ -122,25 +111,25 @@ module _ (κs : Lfts 11) (qs : Shares 11) where
   G13 = patched ((1, (any-gone (ty 1))) ∷ (18, row2) ∷ []) ([]) G0
 
   abbrev pub G17 : Cx
-  G17 = patched ((9, row3) ∷ (20, row5) ∷ []) ((4, off) ∷ (11, alive) ∷ []) G0
+  G17 = patched ((9, row3) ∷ (20, row5 11) ∷ []) ((4, off) ∷ (11, alive) ∷ []) G0
 
   abbrev pub G20 : Cx
-  G20 = patched ((9, row3) ∷ (10, row6) ∷ (20, row5) ∷ (22, row8) ∷ []) ((4, off) ∷ (5, off) ∷ (11, alive) ∷ (12, alive) ∷ []) G0
+  G20 = patched ((9, row3) ∷ (10, row6) ∷ (20, row5 11) ∷ (22, row8) ∷ []) ((4, off) ∷ (5, off) ∷ (11, alive) ∷ (12, alive) ∷ []) G0
 
   abbrev pub G23 : Cx
-  G23 = patched ((9, row3) ∷ (10, row6) ∷ (11, row9) ∷ (20, row5) ∷ (22, row8) ∷ (24, row11) ∷ []) ((4, off) ∷ (5, off) ∷ (6, off) ∷ (11, alive) ∷ (12, alive) ∷ (13, alive) ∷ []) G0
+  G23 = patched ((9, row3) ∷ (10, row6) ∷ (11, row9) ∷ (20, row5 11) ∷ (22, row8) ∷ (24, row5 13) ∷ []) ((4, off) ∷ (5, off) ∷ (6, off) ∷ (11, alive) ∷ (12, alive) ∷ (13, alive) ∷ []) G0
 
   abbrev pub G26 : Cx
-  G26 = patched ((9, row3) ∷ (10, row6) ∷ (11, row9) ∷ (12, row12) ∷ (20, row5) ∷ (22, row8) ∷ (24, row11) ∷ (26, row14) ∷ []) ((4, off) ∷ (5, off) ∷ (6, off) ∷ (7, off) ∷ (11, alive) ∷ (12, alive) ∷ (13, alive) ∷ (14, alive) ∷ []) G0
+  G26 = patched ((9, row3) ∷ (10, row6) ∷ (11, row9) ∷ (12, row12) ∷ (20, row5 11) ∷ (22, row8) ∷ (24, row5 13) ∷ (26, row5 14) ∷ []) ((4, off) ∷ (5, off) ∷ (6, off) ∷ (7, off) ∷ (11, alive) ∷ (12, alive) ∷ (13, alive) ∷ (14, alive) ∷ []) G0
 
   abbrev pub G29 : Cx
-  G29 = patched ((9, row3) ∷ (10, row6) ∷ (11, row9) ∷ (12, row12) ∷ (13, row15) ∷ (20, row5) ∷ (22, row8) ∷ (24, row11) ∷ (26, row14) ∷ (28, row17) ∷ []) ((4, off) ∷ (5, off) ∷ (6, off) ∷ (7, off) ∷ (8, off) ∷ (11, alive) ∷ (12, alive) ∷ (13, alive) ∷ (14, alive) ∷ (15, alive) ∷ []) G0
+  G29 = patched ((9, row3) ∷ (10, row6) ∷ (11, row9) ∷ (12, row12) ∷ (13, row15) ∷ (20, row5 11) ∷ (22, row8) ∷ (24, row5 13) ∷ (26, row5 14) ∷ (28, row5 15) ∷ []) ((4, off) ∷ (5, off) ∷ (6, off) ∷ (7, off) ∷ (8, off) ∷ (11, alive) ∷ (12, alive) ∷ (13, alive) ∷ (14, alive) ∷ (15, alive) ∷ []) G0
 
   abbrev pub G32 : Cx
-  G32 = patched ((9, row3) ∷ (10, row6) ∷ (11, row9) ∷ (12, row12) ∷ (13, row15) ∷ (14, row18) ∷ (20, row5) ∷ (22, row8) ∷ (24, row11) ∷ (26, row14) ∷ (28, row17) ∷ (30, row20) ∷ []) ((4, off) ∷ (5, off) ∷ (6, off) ∷ (7, off) ∷ (8, off) ∷ (9, off) ∷ (11, alive) ∷ (12, alive) ∷ (13, alive) ∷ (14, alive) ∷ (15, alive) ∷ (16, alive) ∷ []) G0
+  G32 = patched ((9, row3) ∷ (10, row6) ∷ (11, row9) ∷ (12, row12) ∷ (13, row15) ∷ (14, row18) ∷ (20, row5 11) ∷ (22, row8) ∷ (24, row5 13) ∷ (26, row5 14) ∷ (28, row5 15) ∷ (30, row20) ∷ []) ((4, off) ∷ (5, off) ∷ (6, off) ∷ (7, off) ∷ (8, off) ∷ (9, off) ∷ (11, alive) ∷ (12, alive) ∷ (13, alive) ∷ (14, alive) ∷ (15, alive) ∷ (16, alive) ∷ []) G0
 
   abbrev pub G35 : Cx
-  G35 = patched ((9, row3) ∷ (10, row6) ∷ (11, row9) ∷ (12, row12) ∷ (13, row15) ∷ (14, row18) ∷ (15, row21) ∷ (20, row5) ∷ (22, row8) ∷ (24, row11) ∷ (26, row14) ∷ (28, row17) ∷ (30, row20) ∷ (32, row23) ∷ []) ((4, off) ∷ (5, off) ∷ (6, off) ∷ (7, off) ∷ (8, off) ∷ (9, off) ∷ (10, off) ∷ (11, alive) ∷ (12, alive) ∷ (13, alive) ∷ (14, alive) ∷ (15, alive) ∷ (16, alive) ∷ (17, alive) ∷ []) G0
+  G35 = patched ((9, row3) ∷ (10, row6) ∷ (11, row9) ∷ (12, row12) ∷ (13, row15) ∷ (14, row18) ∷ (15, row21) ∷ (20, row5 11) ∷ (22, row8) ∷ (24, row5 13) ∷ (26, row5 14) ∷ (28, row5 15) ∷ (30, row20) ∷ (32, row23) ∷ []) ((4, off) ∷ (5, off) ∷ (6, off) ∷ (7, off) ∷ (8, off) ∷ (9, off) ∷ (10, off) ∷ (11, alive) ∷ (12, alive) ∷ (13, alive) ∷ (14, alive) ∷ (15, alive) ∷ (16, alive) ∷ (17, alive) ∷ []) G0
 
   abbrev pub G36 : Cx
   G36 = patched ((9, row3) ∷ (10, row6) ∷ (11, row9) ∷ (12, row12) ∷ (13, row15) ∷ (14, row18) ∷ (15, row21) ∷ (16, row24) ∷ (20, row25) ∷ (22, row26) ∷ (24, row25) ∷ (26, row25) ∷ (28, row25) ∷ (30, row27) ∷ (32, row28) ∷ []) ((4, off) ∷ (5, off) ∷ (6, off) ∷ (7, off) ∷ (8, off) ∷ (9, off) ∷ (10, off) ∷ (11, alive) ∷ (12, alive) ∷ (13, alive) ∷ (14, alive) ∷ (15, alive) ∷ (16, alive) ∷ (17, alive) ∷ []) G0
@@ -200,7 +189,7 @@ module _ (κs : Lfts 11) (qs : Shares 11) where
   Γ-from-added = G63
 
 module _ {M : Type 1} (𝓤 : URA M) (H : Heap 𝓤) (A : Atoms 𝓤) (W : Given 𝓤 H A) (𝓣 : Tables 𝓤 H)
-    (known0 : Knows 𝓤 H A W 𝓣 0 K0.ps K0.r R0.Asked R0.Learnt "report_figures::call_figures::has_room") (known1 : Knows 𝓤 H A W 𝓣 11 K1.ps K1.r R1.Asked R1.Learnt "topology::topology_kept_boundaries") (known2 : Knows 𝓤 H A W 𝓣 2 K2.ps K2.r R2.Asked R2.Learnt "topology::runs::added") (known3 : Knows 𝓤 H A W 𝓣 0 K3.ps K3.r R3.Asked R3.Learnt "report_figures::call_figures::beyond") (κs : Lfts 11) (qs : Shares 11) (bs : List ℕ) where
+    (known0 : Knows 𝓤 H A W 𝓣 0 K0.ps K0.r R0.Asked R0.Learnt "report_figures::call_figures::has_room") (known1 : Knows 𝓤 H A W 𝓣 11 K1.ps K1.r K1.Asked K1.Learnt "topology::topology_kept_boundaries") (known2 : Knows 𝓤 H A W 𝓣 2 K2.ps K2.r R2.Asked R2.Learnt "topology::runs::added") (known3 : Knows 𝓤 H A W 𝓣 0 K3.ps K3.r R3.Asked R3.Learnt "report_figures::call_figures::beyond") (κs : Lfts 11) (qs : Shares 11) (bs : List ℕ) where
   abbrev E : Env 𝓤 H
   E = EnvOf 𝓤 H (tyR r ∷ tysP ps xs) bs
 
@@ -238,7 +227,7 @@ module _ {M : Type 1} (𝓤 : URA M) (H : Heap 𝓤) (A : Atoms 𝓤) (W : Given
       ghosts (G32 κs qs) _ (g-begin 𝓤 H A W E (G32 κs qs) 17 _) $
       stmt _ _ (t-sl-relend 𝓤 H A W E (rtF (fInt w64)) 𝓣 _ 15 31 10 17 (tyRef (named 10) mut (tyInt w64)) (tyRef erased mut (tyInt w64)) (lease (κs .1 .1 .1 .1 .1 .1 .1 .1 .1 .1 .0) (qs .1 .1 .1 .1 .1 .1 .1 .1 .1 .1 .0)) 0 (λ x. x) (as-is 𝓤 H A (mslice (rtF (fInt w64)) (tyRef (named 10) mut (tyInt w64)) 10)) (room-gone 𝓤 H A (tyRef erased mut (tyInt w64))) refl tt refl refl refl (λ b o. tt)) $
       stmt _ (G35 κs qs) (t-sl-aggregate 𝓤 H A W E (rtF (fInt w64)) 𝓣 (asMut (rtF (fInt w64))) _ 31 32 17 (tyRef erased mut (tyInt w64)) (tyRef erased mut (tyInt w64)) (λ x. x) (oFld 15 (field 1 ∷ []) (tyInt w64) 8 (λ v. lenV (v .0))) (as-is 𝓤 H A (msptr (rtF (fInt w64)) (tyRef erased mut (tyInt w64)) 17)) (room-gone 𝓤 H A _) (reads-owed-len 𝓤 H A W (rtF (fInt w64)) (tyRef (named 10) mut (tyInt w64)) 10 17 (lease (κs .1 .1 .1 .1 .1 .1 .1 .1 .1 .1 .0) (qs .1 .1 .1 .1 .1 .1 .1 .1 .1 .1 .0)) 8 refl, refl) refl refl (λ b o k. tt)) $
-      stmt (G35 κs qs) (G36 κs qs) (t-call-plain 𝓤 H A W 𝓣 11 K1.ps K1.r R1.Asked R1.Learnt "topology::topology_kept_boundaries" known1 E (λ pos β. β) (G35 κs qs) (vAt 2 (λ x. x), (vAt 3 (λ x. x), (vAt 4 (λ x. x), (record { pos = 5; ty = tyRef (named 0) imm (tyInt w8); ref = λ x. x }, (record { pos = 6; ty = tyRef (named 1) imm (tyInt w64); ref = λ x. x }, (record { pos = 7; ty = tyRef (named 2) imm (tyInt w64); ref = λ x. x }, (record { pos = 8; ty = tyRef (named 3) imm (tyInt w64); ref = λ x. x }, (record { pos = 20; ty = tyRef erased mut (tyInt w32); ref = λ x. x }, (record { pos = 22; ty = tyRef erased mut (tyInt w16); ref = λ x. x }, (record { pos = 24; ty = tyRef erased mut (tyInt w32); ref = λ x. x }, (record { pos = 26; ty = tyRef erased mut (tyInt w32); ref = λ x. x }, (record { pos = 28; ty = tyRef erased mut (tyInt w32); ref = λ x. x }, (record { pos = 30; ty = tyRef erased mut (pointee (twin-0.the-row .written)); ref = λ x. x }, (record { pos = 32; ty = tyRef erased mut (tyInt w64); ref = λ x. x }, tt)))))))))))))) 16 (0 ∷ 1 ∷ 2 ∷ 3 ∷ 11 ∷ 12 ∷ 13 ∷ 14 ∷ 15 ∷ 16 ∷ 17 ∷ []) (sub-id 𝓤 H A W ((G35 κs qs) .slots)) ((reads-sc 𝓤 H A W (sInt w64), refl), ((reads-sc 𝓤 H A W (sInt w64), refl), ((reads-sc 𝓤 H A W (sInt w64), refl), (spares-sslice 𝓤 H A W (rtF (fInt w8)) (tyRef (named 0) imm (tyInt w8)) 0, reads-sslice 𝓤 H A W (rtF (fInt w8)) (tyRef (named 0) imm (tyInt w8)) 0, refl, (spares-sslice 𝓤 H A W (rtF (fInt w64)) (tyRef (named 1) imm (tyInt w64)) 1, reads-sslice 𝓤 H A W (rtF (fInt w64)) (tyRef (named 1) imm (tyInt w64)) 1, refl, (spares-sslice 𝓤 H A W (rtF (fInt w64)) (tyRef (named 2) imm (tyInt w64)) 2, reads-sslice 𝓤 H A W (rtF (fInt w64)) (tyRef (named 2) imm (tyInt w64)) 2, refl, (spares-sslice 𝓤 H A W (rtF (fInt w64)) (tyRef (named 3) imm (tyInt w64)) 3, reads-sslice 𝓤 H A W (rtF (fInt w64)) (tyRef (named 3) imm (tyInt w64)) 3, refl, (as-is 𝓤 H A (mslice (rtF (fInt w32)) (tyRef erased mut (tyInt w32)) 11), reads-mslice 𝓤 H A W (rtF (fInt w32)) (tyRef erased mut (tyInt w32)) 11, refl, (as-is 𝓤 H A (mslice (rtF (fInt w16)) (tyRef erased mut (tyInt w16)) 12), reads-mslice 𝓤 H A W (rtF (fInt w16)) (tyRef erased mut (tyInt w16)) 12, refl, (as-is 𝓤 H A (mslice (rtF (fInt w32)) (tyRef erased mut (tyInt w32)) 13), reads-mslice 𝓤 H A W (rtF (fInt w32)) (tyRef erased mut (tyInt w32)) 13, refl, (as-is 𝓤 H A (mslice (rtF (fInt w32)) (tyRef erased mut (tyInt w32)) 14), reads-mslice 𝓤 H A W (rtF (fInt w32)) (tyRef erased mut (tyInt w32)) 14, refl, (as-is 𝓤 H A (mslice (rtF (fInt w32)) (tyRef erased mut (tyInt w32)) 15), reads-mslice 𝓤 H A W (rtF (fInt w32)) (tyRef erased mut (tyInt w32)) 15, refl, (as-is 𝓤 H A (mslice twin-0.the-row (tyRef erased mut (pointee (twin-0.the-row .written))) 16), reads-mslice 𝓤 H A W twin-0.the-row (tyRef erased mut (pointee (twin-0.the-row .written))) 16, refl, (as-is 𝓤 H A (mslice (rtF (fInt w64)) (tyRef erased mut (tyInt w64)) 17), reads-mslice 𝓤 H A W (rtF (fInt w64)) (tyRef erased mut (tyInt w64)) 17, refl, tt)))))))))))))) (room-gone 𝓤 H A _) _ refl) $
+      stmt (G35 κs qs) (G36 κs qs) (t-call-plain 𝓤 H A W 𝓣 11 K1.ps K1.r K1.Asked K1.Learnt "topology::topology_kept_boundaries" known1 E (λ pos β. β) (G35 κs qs) (vAt 2 (λ x. x), (vAt 3 (λ x. x), (vAt 4 (λ x. x), (record { pos = 5; ty = tyRef (named 0) imm (tyInt w8); ref = λ x. x }, (record { pos = 6; ty = tyRef (named 1) imm (tyInt w64); ref = λ x. x }, (record { pos = 7; ty = tyRef (named 2) imm (tyInt w64); ref = λ x. x }, (record { pos = 8; ty = tyRef (named 3) imm (tyInt w64); ref = λ x. x }, (record { pos = 20; ty = tyRef erased mut (tyInt w32); ref = λ x. x }, (record { pos = 22; ty = tyRef erased mut (tyInt w16); ref = λ x. x }, (record { pos = 24; ty = tyRef erased mut (tyInt w32); ref = λ x. x }, (record { pos = 26; ty = tyRef erased mut (tyInt w32); ref = λ x. x }, (record { pos = 28; ty = tyRef erased mut (tyInt w32); ref = λ x. x }, (record { pos = 30; ty = tyRef erased mut (pointee (twin-0.the-row .written)); ref = λ x. x }, (record { pos = 32; ty = tyRef erased mut (tyInt w64); ref = λ x. x }, tt)))))))))))))) 16 (0 ∷ 1 ∷ 2 ∷ 3 ∷ 11 ∷ 12 ∷ 13 ∷ 14 ∷ 15 ∷ 16 ∷ 17 ∷ []) (sub-id 𝓤 H A W ((G35 κs qs) .slots)) ((reads-sc 𝓤 H A W (sInt w64), refl), ((reads-sc 𝓤 H A W (sInt w64), refl), ((reads-sc 𝓤 H A W (sInt w64), refl), (spares-sslice 𝓤 H A W (rtF (fInt w8)) (tyRef (named 0) imm (tyInt w8)) 0, reads-sslice 𝓤 H A W (rtF (fInt w8)) (tyRef (named 0) imm (tyInt w8)) 0, refl, (spares-sslice 𝓤 H A W (rtF (fInt w64)) (tyRef (named 1) imm (tyInt w64)) 1, reads-sslice 𝓤 H A W (rtF (fInt w64)) (tyRef (named 1) imm (tyInt w64)) 1, refl, (spares-sslice 𝓤 H A W (rtF (fInt w64)) (tyRef (named 2) imm (tyInt w64)) 2, reads-sslice 𝓤 H A W (rtF (fInt w64)) (tyRef (named 2) imm (tyInt w64)) 2, refl, (spares-sslice 𝓤 H A W (rtF (fInt w64)) (tyRef (named 3) imm (tyInt w64)) 3, reads-sslice 𝓤 H A W (rtF (fInt w64)) (tyRef (named 3) imm (tyInt w64)) 3, refl, (as-is 𝓤 H A (mslice (rtF (fInt w32)) (tyRef erased mut (tyInt w32)) 11), reads-mslice 𝓤 H A W (rtF (fInt w32)) (tyRef erased mut (tyInt w32)) 11, refl, (as-is 𝓤 H A (mslice (rtF (fInt w16)) (tyRef erased mut (tyInt w16)) 12), reads-mslice 𝓤 H A W (rtF (fInt w16)) (tyRef erased mut (tyInt w16)) 12, refl, (as-is 𝓤 H A (mslice (rtF (fInt w32)) (tyRef erased mut (tyInt w32)) 13), reads-mslice 𝓤 H A W (rtF (fInt w32)) (tyRef erased mut (tyInt w32)) 13, refl, (as-is 𝓤 H A (mslice (rtF (fInt w32)) (tyRef erased mut (tyInt w32)) 14), reads-mslice 𝓤 H A W (rtF (fInt w32)) (tyRef erased mut (tyInt w32)) 14, refl, (as-is 𝓤 H A (mslice (rtF (fInt w32)) (tyRef erased mut (tyInt w32)) 15), reads-mslice 𝓤 H A W (rtF (fInt w32)) (tyRef erased mut (tyInt w32)) 15, refl, (as-is 𝓤 H A (mslice twin-0.the-row (tyRef erased mut (pointee (twin-0.the-row .written))) 16), reads-mslice 𝓤 H A W twin-0.the-row (tyRef erased mut (pointee (twin-0.the-row .written))) 16, refl, (as-is 𝓤 H A (mslice (rtF (fInt w64)) (tyRef erased mut (tyInt w64)) 17), reads-mslice 𝓤 H A W (rtF (fInt w64)) (tyRef erased mut (tyInt w64)) 17, refl, tt)))))))))))))) (room-gone 𝓤 H A _) _ refl) $
       ghosts (G36 κs qs) _ (g-end 𝓤 H A W E (G36 κs qs) 11 refl) $
       ghosts _ _ (g-back-sl 𝓤 H A W E (rtF (fInt w32)) _ 20 9 4 11 (tyRef (named 4) mut (tyInt w32)) (tyRef erased mut (tyInt w32)) (lease (κs .1 .1 .1 .1 .0) (qs .1 .1 .1 .1 .0)) (λ x. x) (λ x. x) (as-is 𝓤 H A (msleft (rtF (fInt w32)) (tyRef erased mut (tyInt w32)))) (as-is 𝓤 H A (mslice-owed (rtF (fInt w32)) (tyRef (named 4) mut (tyInt w32)) 4 11 (lease (κs .1 .1 .1 .1 .0) (qs .1 .1 .1 .1 .0)))) refl refl) $
       ghosts _ (G40 κs qs) (g-forget 𝓤 H A W E _ 11 dead refl) $
@@ -275,8 +264,8 @@ module _ (w : World) where
   abbrev known0-at : Knows (w .𝓤) (w .H) (w .𝓖 .A) (Wof w) (𝓣of w code.env) 0 K0.ps K0.r R0.Asked R0.Learnt "report_figures::call_figures::has_room"
   known0-at = R0.known w code.env S0.name S0.routine code.calls-report-figures·call-figures·has-room (M0.met (w .𝓤) (w .H) (w .𝓜) (w .𝓖) (w .𝓡))
 
-  abbrev known1-at : Knows (w .𝓤) (w .H) (w .𝓖 .A) (Wof w) (𝓣of w code.env) 11 K1.ps K1.r R1.Asked R1.Learnt "topology::topology_kept_boundaries"
-  known1-at = R1.known w code.env S1.name S1.routine code.calls-topology·topology-kept-boundaries (M1.met (w .𝓤) (w .H) (w .𝓜) (w .𝓖) (w .𝓡))
+  abbrev known1-at : Knows (w .𝓤) (w .H) (w .𝓖 .A) (Wof w) (𝓣of w code.env) 11 K1.ps K1.r K1.Asked K1.Learnt "topology::topology_kept_boundaries"
+  known1-at = K1.known w code.env S1.name S1.routine code.calls-topology·topology-kept-boundaries (M1.met (w .𝓤) (w .H) (w .𝓜) (w .𝓖) (w .𝓡))
 
   abbrev known2-at : Knows (w .𝓤) (w .H) (w .𝓖 .A) (Wof w) (𝓣of w code.env) 2 K2.ps K2.r R2.Asked R2.Learnt "topology::runs::added"
   known2-at = R2.known w code.env S2.name S2.routine code.calls-topology·runs·added (M2.met (w .𝓤) (w .H) (w .𝓜) (w .𝓖) (w .𝓡))

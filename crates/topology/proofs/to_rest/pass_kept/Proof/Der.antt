@@ -5,19 +5,17 @@ use Rattle.rest_lists.proofs.kept.Standing.{struct}
 use Rattle.rest_lists.proofs.kept.Standing as Standing
 use Rattle.rest_lists.proofs.kept.Standing.Laws as Laws
 use borrow.Fn.Plain.{Known as Knows}
-use Rattle.topology.proofs.Seen.marks.mark_removed.Kinds as K0
-use Rattle.topology.proofs.Seen.marks.mark_removed.Reads as R0
+use Rattle.topology.proofs.Seen.marks.mark_removed as K0
 use Rattle.topology.proofs.marks.mark_removed.Symbol as S0
 use Rattle.topology.proofs.marks.mark_removed.Met as M0
 use Rattle.rest_lists.proofs.kept.keep_left.Kinds as K1
 use Rattle.rest_lists.proofs.kept.keep_left.Reads as R1
 use Rattle.rest_lists.proofs.kept.keep_left.Symbol as S1
 use Rattle.rest_lists.proofs.kept.keep_left.Met as M1
-use Rattle.topology.proofs.Seen.to_rest.pass_kept.Kinds.{ps, r}
 use Rattle.topology.proofs.to_rest.pass_kept.Code as code
 use contract.Running
 use Rattle.topology.proofs.Contracts.{Answers, Post, Pre, Wof, met, 𝓣of}
-use Rattle.topology.proofs.Seen.to_rest.pass_kept.Reads.{the-contract}
+use Rattle.topology.proofs.Seen.to_rest.pass_kept.{ps, r, the-contract}
 use Rattle.topology.proofs.to_rest.pass_kept.Key as key
 use Rattle.topology.proofs.to_rest.pass_kept.Statement.{statement}
 use Rattle.topology.proofs.Steps.{Der, _$_, ghosts, homes, past, patched, rets, stmt, typesPast}
@@ -83,20 +81,14 @@ module _ (κs : Lfts 10) (qs : Shares 10) where
   abbrev row19 : Row
   row19 = mslice-owed (rtF (fInt w64)) (tyRef (named 7) mut (tyInt w64)) 7 14 (lease (κs .1 .1 .1 .1 .1 .1 .1 .0) (qs .1 .1 .1 .1 .1 .1 .1 .0))
 
-  abbrev row21 : Row
-  row21 = mslice (rtF (fInt w64)) (tyRef erased mut (tyInt w64)) 14
+  abbrev row21 : ℕ → Row
+  row21 k = mslice (rtF (fInt w64)) (tyRef erased mut (tyInt w64)) k
 
   abbrev row22 : Row
   row22 = mslice-owed (rtF (fInt w64)) (tyRef (named 8) mut (tyInt w64)) 8 15 (lease (κs .1 .1 .1 .1 .1 .1 .1 .1 .0) (qs .1 .1 .1 .1 .1 .1 .1 .1 .0))
 
-  abbrev row24 : Row
-  row24 = mslice (rtF (fInt w64)) (tyRef erased mut (tyInt w64)) 15
-
   abbrev row25 : Row
   row25 = mslice-owed (rtF (fInt w64)) (tyRef (named 9) mut (tyInt w64)) 9 16 (lease (κs .1 .1 .1 .1 .1 .1 .1 .1 .1 .0) (qs .1 .1 .1 .1 .1 .1 .1 .1 .1 .0))
-
-  abbrev row27 : Row
-  row27 = mslice (rtF (fInt w64)) (tyRef erased mut (tyInt w64)) 16
 
   abbrev row28 : Row
   row28 = sc-shr (arrF (rtF fBool) 256 0) (Array (rtF fBool) 256) (λ x. x) 17
@@ -141,16 +133,16 @@ module _ (κs : Lfts 10) (qs : Shares 10) where
   G40 = patched ((15, row13) ∷ (16, row3) ∷ (24, row18) ∷ []) ((13, dead) ∷ []) G0
 
   abbrev pub G45 : Cx
-  G45 = patched ((12, row19) ∷ (15, row2) ∷ (16, row3) ∷ (26, row21) ∷ []) ((7, off) ∷ (14, alive) ∷ []) G0
+  G45 = patched ((12, row19) ∷ (15, row2) ∷ (16, row3) ∷ (26, row21 14) ∷ []) ((7, off) ∷ (14, alive) ∷ []) G0
 
   abbrev pub G48 : Cx
-  G48 = patched ((12, row19) ∷ (13, row22) ∷ (15, row2) ∷ (16, row3) ∷ (26, row21) ∷ (28, row24) ∷ []) ((7, off) ∷ (8, off) ∷ (14, alive) ∷ (15, alive) ∷ []) G0
+  G48 = patched ((12, row19) ∷ (13, row22) ∷ (15, row2) ∷ (16, row3) ∷ (26, row21 14) ∷ (28, row21 15) ∷ []) ((7, off) ∷ (8, off) ∷ (14, alive) ∷ (15, alive) ∷ []) G0
 
   abbrev pub G51 : Cx
-  G51 = patched ((12, row19) ∷ (13, row22) ∷ (14, row25) ∷ (15, row2) ∷ (16, row3) ∷ (26, row21) ∷ (28, row24) ∷ (30, row27) ∷ []) ((7, off) ∷ (8, off) ∷ (9, off) ∷ (14, alive) ∷ (15, alive) ∷ (16, alive) ∷ []) G0
+  G51 = patched ((12, row19) ∷ (13, row22) ∷ (14, row25) ∷ (15, row2) ∷ (16, row3) ∷ (26, row21 14) ∷ (28, row21 15) ∷ (30, row21 16) ∷ []) ((7, off) ∷ (8, off) ∷ (9, off) ∷ (14, alive) ∷ (15, alive) ∷ (16, alive) ∷ []) G0
 
   abbrev pub G53 : Cx
-  G53 = patched ((12, row19) ∷ (13, row22) ∷ (14, row25) ∷ (15, row28) ∷ (16, row3) ∷ (26, row21) ∷ (28, row24) ∷ (30, row27) ∷ (31, row29) ∷ []) ((7, off) ∷ (8, off) ∷ (9, off) ∷ (14, alive) ∷ (15, alive) ∷ (16, alive) ∷ (17, alive) ∷ []) G0
+  G53 = patched ((12, row19) ∷ (13, row22) ∷ (14, row25) ∷ (15, row28) ∷ (16, row3) ∷ (26, row21 14) ∷ (28, row21 15) ∷ (30, row21 16) ∷ (31, row29) ∷ []) ((7, off) ∷ (8, off) ∷ (9, off) ∷ (14, alive) ∷ (15, alive) ∷ (16, alive) ∷ (17, alive) ∷ []) G0
 
   abbrev pub G54 : Cx
   G54 = patched ((0, row3) ∷ (12, row19) ∷ (13, row22) ∷ (14, row25) ∷ (15, row28) ∷ (16, row3) ∷ (26, row30) ∷ (28, row30) ∷ (30, row30) ∷ (31, row29) ∷ []) ((7, off) ∷ (8, off) ∷ (9, off) ∷ (14, alive) ∷ (15, alive) ∷ (16, alive) ∷ (17, alive) ∷ []) G0
@@ -180,7 +172,7 @@ module _ (κs : Lfts 10) (qs : Shares 10) where
   Γ-from-keep = G14
 
 module _ {M : Type 1} (𝓤 : URA M) (H : Heap 𝓤) (A : Atoms 𝓤) (W : Given 𝓤 H A) (𝓣 : Tables 𝓤 H)
-    (known0 : Knows 𝓤 H A W 𝓣 9 K0.ps K0.r R0.Asked R0.Learnt "topology::marks::mark_removed") (known1 : Knows 𝓤 H A W 𝓣 4 K1.ps K1.r R1.Asked R1.Learnt "rest_lists::kept::keep_left") (κs : Lfts 10) (qs : Shares 10) (bs : List ℕ) where
+    (known0 : Knows 𝓤 H A W 𝓣 9 K0.ps K0.r K0.Asked K0.Learnt "topology::marks::mark_removed") (known1 : Knows 𝓤 H A W 𝓣 4 K1.ps K1.r R1.Asked R1.Learnt "rest_lists::kept::keep_left") (κs : Lfts 10) (qs : Shares 10) (bs : List ℕ) where
   abbrev E : Env 𝓤 H
   E = EnvOf 𝓤 H (tyR r ∷ tysP ps xs) bs
 
@@ -235,7 +227,7 @@ module _ {M : Type 1} (𝓤 : URA M) (H : Heap 𝓤) (A : Atoms 𝓤) (W : Given
       stmt _ (G23 κs qs) (t-sl-aggregate 𝓤 H A W E (rtF (fInt w32)) 𝓣 (asMut (rtF (fInt w32))) _ 22 23 12 (tyRef erased mut (tyInt w32)) (tyRef erased mut (tyInt w32)) (λ x. x) (oFld 11 (field 1 ∷ []) (tyInt w64) 8 (λ v. lenV (v .0))) (as-is 𝓤 H A (msptr (rtF (fInt w32)) (tyRef erased mut (tyInt w32)) 12)) (room-gone 𝓤 H A _) (reads-owed-len 𝓤 H A W (rtF (fInt w32)) (tyRef (named 6) mut (tyInt w32)) 6 12 (lease (κs .1 .1 .1 .1 .1 .1 .0) (qs .1 .1 .1 .1 .1 .1 .0)) 8 refl, refl) refl refl (λ b o k. tt)) $
       ghosts (G23 κs qs) _ (g-begin 𝓤 H A W E (G23 κs qs) 13 _) $
       stmt _ (G25 κs qs) (t-sc-borrow 𝓤 H A W E 𝓣 _ 15 24 13 (Array (rtF fBool) 256) (tyRef erased mut (tyArray tyBool 256)) (λ x. x) (mem-arr 𝓤 H A W (rtF fBool) 256) (room-gone 𝓤 H A (tyRef erased mut (tyArray tyBool 256))) refl (λ b o. tt)) $
-      stmt (G25 κs qs) (G26 κs qs) (t-call-plain 𝓤 H A W 𝓣 9 K0.ps K0.r R0.Asked R0.Learnt "topology::marks::mark_removed" known0 E (λ pos β. β) (G25 κs qs) (vAt 1 (λ x. x), (record { pos = 2; ty = tyRef (named 0) imm (pointee (twin-0.the-row .written)); ref = λ x. x }, (vAt 3 (λ x. x), (vAt 4 (λ x. x), (record { pos = 5; ty = tyRef (named 1) imm (tyInt w32); ref = λ x. x }, (record { pos = 6; ty = tyRef (named 2) imm (tyInt w64); ref = λ x. x }, (vFld 7 (field 1 ∷ []) 8 (λ x. struct .as-values x .1 .0), (vFld 7 (field 2 ∷ []) 16 (λ x. struct .as-values x .1 .1 .0), (vFld 7 (field 0 ∷ []) 0 (λ x. struct .as-values x .0), (record { pos = 19; ty = tyRef erased imm (tyInt w64); ref = λ x. x }, (record { pos = 8; ty = tyRef (named 3) imm (tyInt w32); ref = λ x. x }, (record { pos = 9; ty = tyRef (named 4) imm (tyInt w32); ref = λ x. x }, (record { pos = 21; ty = tyRef erased mut (tyInt w16); ref = λ x. x }, (record { pos = 23; ty = tyRef erased mut (tyInt w32); ref = λ x. x }, (record { pos = 24; ty = tyRef erased mut (tyArray tyBool 256); ref = λ x. x }, tt))))))))))))))) 17 (0 ∷ 1 ∷ 2 ∷ 10 ∷ 3 ∷ 4 ∷ 11 ∷ 12 ∷ 13 ∷ []) (sub-id 𝓤 H A W ((G25 κs qs) .slots)) ((reads-sc 𝓤 H A W (sInt w64), refl), (spares-sslice 𝓤 H A W twin-0.the-row (tyRef (named 0) imm (pointee (twin-0.the-row .written))) 0, reads-sslice 𝓤 H A W twin-0.the-row (tyRef (named 0) imm (pointee (twin-0.the-row .written))) 0, refl, ((reads-sc 𝓤 H A W (sInt w64), refl), ((reads-sc 𝓤 H A W (sInt w64), refl), (spares-sslice 𝓤 H A W (rtF (fInt w32)) (tyRef (named 1) imm (tyInt w32)) 1, reads-sslice 𝓤 H A W (rtF (fInt w32)) (tyRef (named 1) imm (tyInt w32)) 1, refl, (spares-sslice 𝓤 H A W (rtF (fInt w64)) (tyRef (named 2) imm (tyInt w64)) 2, reads-sslice 𝓤 H A W (rtF (fInt w64)) (tyRef (named 2) imm (tyInt w64)) 2, refl, ((reads-field 𝓤 H A W Standing.the-type Laws.the-laws 1 (tyInt w64) 8 refl, refl), ((reads-field 𝓤 H A W Standing.the-type Laws.the-laws 2 (tyInt w64) 16 refl, refl), ((reads-field 𝓤 H A W Standing.the-type Laws.the-laws 0 (tyInt w64) 0 refl, refl), (spares-sslice 𝓤 H A W (rtF (fInt w64)) (tyRef erased imm (tyInt w64)) 10, reads-sslice 𝓤 H A W (rtF (fInt w64)) (tyRef erased imm (tyInt w64)) 10, refl, (spares-sslice 𝓤 H A W (rtF (fInt w32)) (tyRef (named 3) imm (tyInt w32)) 3, reads-sslice 𝓤 H A W (rtF (fInt w32)) (tyRef (named 3) imm (tyInt w32)) 3, refl, (spares-sslice 𝓤 H A W (rtF (fInt w32)) (tyRef (named 4) imm (tyInt w32)) 4, reads-sslice 𝓤 H A W (rtF (fInt w32)) (tyRef (named 4) imm (tyInt w32)) 4, refl, (as-is 𝓤 H A (mslice (rtF (fInt w16)) (tyRef erased mut (tyInt w16)) 11), reads-mslice 𝓤 H A W (rtF (fInt w16)) (tyRef erased mut (tyInt w16)) 11, refl, (as-is 𝓤 H A (mslice (rtF (fInt w32)) (tyRef erased mut (tyInt w32)) 12), reads-mslice 𝓤 H A W (rtF (fInt w32)) (tyRef erased mut (tyInt w32)) 12, refl, (as-is 𝓤 H A (mref (Array (rtF fBool) 256) (tyRef erased mut (tyArray tyBool 256)) 13), reads-mref 𝓤 H A W (Array (rtF fBool) 256) (tyRef erased mut (tyArray tyBool 256)) 13, refl, tt))))))))))))))) (room-gone 𝓤 H A tyUnit) _ refl) $
+      stmt (G25 κs qs) (G26 κs qs) (t-call-plain 𝓤 H A W 𝓣 9 K0.ps K0.r K0.Asked K0.Learnt "topology::marks::mark_removed" known0 E (λ pos β. β) (G25 κs qs) (vAt 1 (λ x. x), (record { pos = 2; ty = tyRef (named 0) imm (pointee (twin-0.the-row .written)); ref = λ x. x }, (vAt 3 (λ x. x), (vAt 4 (λ x. x), (record { pos = 5; ty = tyRef (named 1) imm (tyInt w32); ref = λ x. x }, (record { pos = 6; ty = tyRef (named 2) imm (tyInt w64); ref = λ x. x }, (vFld 7 (field 1 ∷ []) 8 (λ x. struct .as-values x .1 .0), (vFld 7 (field 2 ∷ []) 16 (λ x. struct .as-values x .1 .1 .0), (vFld 7 (field 0 ∷ []) 0 (λ x. struct .as-values x .0), (record { pos = 19; ty = tyRef erased imm (tyInt w64); ref = λ x. x }, (record { pos = 8; ty = tyRef (named 3) imm (tyInt w32); ref = λ x. x }, (record { pos = 9; ty = tyRef (named 4) imm (tyInt w32); ref = λ x. x }, (record { pos = 21; ty = tyRef erased mut (tyInt w16); ref = λ x. x }, (record { pos = 23; ty = tyRef erased mut (tyInt w32); ref = λ x. x }, (record { pos = 24; ty = tyRef erased mut (tyArray tyBool 256); ref = λ x. x }, tt))))))))))))))) 17 (0 ∷ 1 ∷ 2 ∷ 10 ∷ 3 ∷ 4 ∷ 11 ∷ 12 ∷ 13 ∷ []) (sub-id 𝓤 H A W ((G25 κs qs) .slots)) ((reads-sc 𝓤 H A W (sInt w64), refl), (spares-sslice 𝓤 H A W twin-0.the-row (tyRef (named 0) imm (pointee (twin-0.the-row .written))) 0, reads-sslice 𝓤 H A W twin-0.the-row (tyRef (named 0) imm (pointee (twin-0.the-row .written))) 0, refl, ((reads-sc 𝓤 H A W (sInt w64), refl), ((reads-sc 𝓤 H A W (sInt w64), refl), (spares-sslice 𝓤 H A W (rtF (fInt w32)) (tyRef (named 1) imm (tyInt w32)) 1, reads-sslice 𝓤 H A W (rtF (fInt w32)) (tyRef (named 1) imm (tyInt w32)) 1, refl, (spares-sslice 𝓤 H A W (rtF (fInt w64)) (tyRef (named 2) imm (tyInt w64)) 2, reads-sslice 𝓤 H A W (rtF (fInt w64)) (tyRef (named 2) imm (tyInt w64)) 2, refl, ((reads-field 𝓤 H A W Standing.the-type Laws.the-laws 1 (tyInt w64) 8 refl, refl), ((reads-field 𝓤 H A W Standing.the-type Laws.the-laws 2 (tyInt w64) 16 refl, refl), ((reads-field 𝓤 H A W Standing.the-type Laws.the-laws 0 (tyInt w64) 0 refl, refl), (spares-sslice 𝓤 H A W (rtF (fInt w64)) (tyRef erased imm (tyInt w64)) 10, reads-sslice 𝓤 H A W (rtF (fInt w64)) (tyRef erased imm (tyInt w64)) 10, refl, (spares-sslice 𝓤 H A W (rtF (fInt w32)) (tyRef (named 3) imm (tyInt w32)) 3, reads-sslice 𝓤 H A W (rtF (fInt w32)) (tyRef (named 3) imm (tyInt w32)) 3, refl, (spares-sslice 𝓤 H A W (rtF (fInt w32)) (tyRef (named 4) imm (tyInt w32)) 4, reads-sslice 𝓤 H A W (rtF (fInt w32)) (tyRef (named 4) imm (tyInt w32)) 4, refl, (as-is 𝓤 H A (mslice (rtF (fInt w16)) (tyRef erased mut (tyInt w16)) 11), reads-mslice 𝓤 H A W (rtF (fInt w16)) (tyRef erased mut (tyInt w16)) 11, refl, (as-is 𝓤 H A (mslice (rtF (fInt w32)) (tyRef erased mut (tyInt w32)) 12), reads-mslice 𝓤 H A W (rtF (fInt w32)) (tyRef erased mut (tyInt w32)) 12, refl, (as-is 𝓤 H A (mref (Array (rtF fBool) 256) (tyRef erased mut (tyArray tyBool 256)) 13), reads-mref 𝓤 H A W (Array (rtF fBool) 256) (tyRef erased mut (tyArray tyBool 256)) 13, refl, tt))))))))))))))) (room-gone 𝓤 H A tyUnit) _ refl) $
       ghosts (G26 κs qs) _ (g-room 𝓤 H A W E (G26 κs qs) 19 _ (room-sslice 𝓤 H A W (rtF (fInt w64)) (tyRef erased imm (tyInt w64)) 10)) $
       ghosts _ _ (g-room 𝓤 H A W E _ 17 tyUnit (room-sc 𝓤 H A W sUnit)) $
       ghosts _ (G29 κs qs) (g-end 𝓤 H A W E _ 10 refl) $
@@ -254,8 +246,8 @@ module _ {M : Type 1} (𝓤 : URA M) (H : Heap 𝓤) (A : Atoms 𝓤) (W : Given
 
 -- the derivations at a model
 module _ (w : World) where
-  abbrev known0-at : Knows (w .𝓤) (w .H) (w .𝓖 .A) (Wof w) (𝓣of w code.env) 9 K0.ps K0.r R0.Asked R0.Learnt "topology::marks::mark_removed"
-  known0-at = R0.known w code.env S0.name S0.routine code.calls-topology·marks·mark-removed (M0.met (w .𝓤) (w .H) (w .𝓜) (w .𝓖) (w .𝓡))
+  abbrev known0-at : Knows (w .𝓤) (w .H) (w .𝓖 .A) (Wof w) (𝓣of w code.env) 9 K0.ps K0.r K0.Asked K0.Learnt "topology::marks::mark_removed"
+  known0-at = K0.known w code.env S0.name S0.routine code.calls-topology·marks·mark-removed (M0.met (w .𝓤) (w .H) (w .𝓜) (w .𝓖) (w .𝓡))
 
   abbrev known1-at : Knows (w .𝓤) (w .H) (w .𝓖 .A) (Wof w) (𝓣of w code.env) 4 K1.ps K1.r R1.Asked R1.Learnt "rest_lists::kept::keep_left"
   known1-at = R1.known w code.env S1.name S1.routine code.calls-rest-lists·kept·keep-left (M1.met (w .𝓤) (w .H) (w .𝓜) (w .𝓖) (w .𝓡))

@@ -12,8 +12,7 @@ use Rattle.rest_lists.proofs.turns.first_turn.Kinds as K0
 use Rattle.rest_lists.proofs.turns.first_turn.Reads as R0
 use Rattle.rest_lists.proofs.turns.first_turn.Symbol as S0
 use Rattle.rest_lists.proofs.turns.first_turn.Met as M0
-use Rattle.topology.proofs.Seen.to_rest.turn_once.Kinds as K1
-use Rattle.topology.proofs.Seen.to_rest.turn_once.Reads as R1
+use Rattle.topology.proofs.Seen.to_rest.turn_once as K1
 use Rattle.topology.proofs.to_rest.turn_once.Symbol as S1
 use Rattle.topology.proofs.to_rest.turn_once.Met as M1
 use Rattle.rest_lists.proofs.turns.next_turn.Kinds as K2
@@ -24,11 +23,10 @@ use Rattle.rest_lists.proofs.turns.rounds_of.Kinds as K3
 use Rattle.rest_lists.proofs.turns.rounds_of.Reads as R3
 use Rattle.rest_lists.proofs.turns.rounds_of.Symbol as S3
 use Rattle.rest_lists.proofs.turns.rounds_of.Met as M3
-use Rattle.topology.proofs.Seen.to_rest.run_turns.Kinds.{ps, r}
 use Rattle.topology.proofs.to_rest.run_turns.Code as code
 use contract.Running
 use Rattle.topology.proofs.Contracts.{Answers, Post, Pre, Wof, met, 𝓣of}
-use Rattle.topology.proofs.Seen.to_rest.run_turns.Reads.{the-contract}
+use Rattle.topology.proofs.Seen.to_rest.run_turns.{ps, r, the-contract}
 use Rattle.topology.proofs.to_rest.run_turns.Key as key
 use Rattle.topology.proofs.to_rest.run_turns.Statement.{statement}
 use Rattle.topology.proofs.Steps.{Der, _$_, blocks, exits1, first, ghosts, homes, last, loops, patched, rets, skips, stmt, test, then, typesPast}
@@ -64,8 +62,8 @@ module _ (κs : Lfts 11) (qs : Shares 11) where
   abbrev row4 : Row
   row4 = mslice-owed (rtF (fInt w32)) (tyRef (named 2) mut (tyInt w32)) 2 11 (lease (κs .1 .1 .0) (qs .1 .1 .0))
 
-  abbrev row6 : Row
-  row6 = mslice (rtF (fInt w32)) (tyRef erased mut (tyInt w32)) 11
+  abbrev row6 : ℕ → Row
+  row6 k = mslice (rtF (fInt w32)) (tyRef erased mut (tyInt w32)) k
 
   abbrev row7 : Row
   row7 = mslice-owed (rtF (fInt w16)) (tyRef (named 3) mut (tyInt w16)) 3 12 (lease (κs .1 .1 .1 .0) (qs .1 .1 .1 .0))
@@ -76,20 +74,11 @@ module _ (κs : Lfts 11) (qs : Shares 11) where
   abbrev row10 : Row
   row10 = mslice-owed (rtF (fInt w32)) (tyRef (named 4) mut (tyInt w32)) 4 13 (lease (κs .1 .1 .1 .1 .0) (qs .1 .1 .1 .1 .0))
 
-  abbrev row12 : Row
-  row12 = mslice (rtF (fInt w32)) (tyRef erased mut (tyInt w32)) 13
-
   abbrev row13 : Row
   row13 = mslice-owed (rtF (fInt w32)) (tyRef (named 5) mut (tyInt w32)) 5 14 (lease (κs .1 .1 .1 .1 .1 .0) (qs .1 .1 .1 .1 .1 .0))
 
-  abbrev row15 : Row
-  row15 = mslice (rtF (fInt w32)) (tyRef erased mut (tyInt w32)) 14
-
   abbrev row16 : Row
   row16 = mslice-owed (rtF (fInt w32)) (tyRef (named 6) mut (tyInt w32)) 6 15 (lease (κs .1 .1 .1 .1 .1 .1 .0) (qs .1 .1 .1 .1 .1 .1 .0))
-
-  abbrev row18 : Row
-  row18 = mslice (rtF (fInt w32)) (tyRef erased mut (tyInt w32)) 15
 
   abbrev row19 : Row
   row19 = mslice-owed twin-0.the-row (tyRef (named 7) mut (pointee (twin-0.the-row .written))) 7 16 (lease (κs .1 .1 .1 .1 .1 .1 .1 .0) (qs .1 .1 .1 .1 .1 .1 .1 .0))
@@ -100,20 +89,14 @@ module _ (κs : Lfts 11) (qs : Shares 11) where
   abbrev row22 : Row
   row22 = mslice-owed (rtF (fInt w64)) (tyRef (named 8) mut (tyInt w64)) 8 17 (lease (κs .1 .1 .1 .1 .1 .1 .1 .1 .0) (qs .1 .1 .1 .1 .1 .1 .1 .1 .0))
 
-  abbrev row24 : Row
-  row24 = mslice (rtF (fInt w64)) (tyRef erased mut (tyInt w64)) 17
+  abbrev row24 : ℕ → Row
+  row24 k = mslice (rtF (fInt w64)) (tyRef erased mut (tyInt w64)) k
 
   abbrev row25 : Row
   row25 = mslice-owed (rtF (fInt w64)) (tyRef (named 9) mut (tyInt w64)) 9 18 (lease (κs .1 .1 .1 .1 .1 .1 .1 .1 .1 .0) (qs .1 .1 .1 .1 .1 .1 .1 .1 .1 .0))
 
-  abbrev row27 : Row
-  row27 = mslice (rtF (fInt w64)) (tyRef erased mut (tyInt w64)) 18
-
   abbrev row28 : Row
   row28 = mslice-owed (rtF (fInt w64)) (tyRef (named 10) mut (tyInt w64)) 10 19 (lease (κs .1 .1 .1 .1 .1 .1 .1 .1 .1 .1 .0) (qs .1 .1 .1 .1 .1 .1 .1 .1 .1 .1 .0))
-
-  abbrev row30 : Row
-  row30 = mslice (rtF (fInt w64)) (tyRef erased mut (tyInt w64)) 19
 
   abbrev row31 : Row
   row31 = msleft (rtF (fInt w32)) (tyRef erased mut (tyInt w32))
@@ -149,31 +132,31 @@ module _ (κs : Lfts 11) (qs : Shares 11) where
   G16 = patched ((15, row1) ∷ (16, row2) ∷ (18, row3) ∷ []) ([]) G0
 
   abbrev pub G23 : Cx
-  G23 = patched ((6, row4) ∷ (15, row1) ∷ (16, row2) ∷ (20, row6) ∷ []) ((2, off) ∷ (11, alive) ∷ []) G0
+  G23 = patched ((6, row4) ∷ (15, row1) ∷ (16, row2) ∷ (20, row6 11) ∷ []) ((2, off) ∷ (11, alive) ∷ []) G0
 
   abbrev pub G26 : Cx
-  G26 = patched ((6, row4) ∷ (7, row7) ∷ (15, row1) ∷ (16, row2) ∷ (20, row6) ∷ (22, row9) ∷ []) ((2, off) ∷ (3, off) ∷ (11, alive) ∷ (12, alive) ∷ []) G0
+  G26 = patched ((6, row4) ∷ (7, row7) ∷ (15, row1) ∷ (16, row2) ∷ (20, row6 11) ∷ (22, row9) ∷ []) ((2, off) ∷ (3, off) ∷ (11, alive) ∷ (12, alive) ∷ []) G0
 
   abbrev pub G29 : Cx
-  G29 = patched ((6, row4) ∷ (7, row7) ∷ (8, row10) ∷ (15, row1) ∷ (16, row2) ∷ (20, row6) ∷ (22, row9) ∷ (24, row12) ∷ []) ((2, off) ∷ (3, off) ∷ (4, off) ∷ (11, alive) ∷ (12, alive) ∷ (13, alive) ∷ []) G0
+  G29 = patched ((6, row4) ∷ (7, row7) ∷ (8, row10) ∷ (15, row1) ∷ (16, row2) ∷ (20, row6 11) ∷ (22, row9) ∷ (24, row6 13) ∷ []) ((2, off) ∷ (3, off) ∷ (4, off) ∷ (11, alive) ∷ (12, alive) ∷ (13, alive) ∷ []) G0
 
   abbrev pub G32 : Cx
-  G32 = patched ((6, row4) ∷ (7, row7) ∷ (8, row10) ∷ (9, row13) ∷ (15, row1) ∷ (16, row2) ∷ (20, row6) ∷ (22, row9) ∷ (24, row12) ∷ (26, row15) ∷ []) ((2, off) ∷ (3, off) ∷ (4, off) ∷ (5, off) ∷ (11, alive) ∷ (12, alive) ∷ (13, alive) ∷ (14, alive) ∷ []) G0
+  G32 = patched ((6, row4) ∷ (7, row7) ∷ (8, row10) ∷ (9, row13) ∷ (15, row1) ∷ (16, row2) ∷ (20, row6 11) ∷ (22, row9) ∷ (24, row6 13) ∷ (26, row6 14) ∷ []) ((2, off) ∷ (3, off) ∷ (4, off) ∷ (5, off) ∷ (11, alive) ∷ (12, alive) ∷ (13, alive) ∷ (14, alive) ∷ []) G0
 
   abbrev pub G35 : Cx
-  G35 = patched ((6, row4) ∷ (7, row7) ∷ (8, row10) ∷ (9, row13) ∷ (10, row16) ∷ (15, row1) ∷ (16, row2) ∷ (20, row6) ∷ (22, row9) ∷ (24, row12) ∷ (26, row15) ∷ (28, row18) ∷ []) ((2, off) ∷ (3, off) ∷ (4, off) ∷ (5, off) ∷ (6, off) ∷ (11, alive) ∷ (12, alive) ∷ (13, alive) ∷ (14, alive) ∷ (15, alive) ∷ []) G0
+  G35 = patched ((6, row4) ∷ (7, row7) ∷ (8, row10) ∷ (9, row13) ∷ (10, row16) ∷ (15, row1) ∷ (16, row2) ∷ (20, row6 11) ∷ (22, row9) ∷ (24, row6 13) ∷ (26, row6 14) ∷ (28, row6 15) ∷ []) ((2, off) ∷ (3, off) ∷ (4, off) ∷ (5, off) ∷ (6, off) ∷ (11, alive) ∷ (12, alive) ∷ (13, alive) ∷ (14, alive) ∷ (15, alive) ∷ []) G0
 
   abbrev pub G38 : Cx
-  G38 = patched ((6, row4) ∷ (7, row7) ∷ (8, row10) ∷ (9, row13) ∷ (10, row16) ∷ (11, row19) ∷ (15, row1) ∷ (16, row2) ∷ (20, row6) ∷ (22, row9) ∷ (24, row12) ∷ (26, row15) ∷ (28, row18) ∷ (30, row21) ∷ []) ((2, off) ∷ (3, off) ∷ (4, off) ∷ (5, off) ∷ (6, off) ∷ (7, off) ∷ (11, alive) ∷ (12, alive) ∷ (13, alive) ∷ (14, alive) ∷ (15, alive) ∷ (16, alive) ∷ []) G0
+  G38 = patched ((6, row4) ∷ (7, row7) ∷ (8, row10) ∷ (9, row13) ∷ (10, row16) ∷ (11, row19) ∷ (15, row1) ∷ (16, row2) ∷ (20, row6 11) ∷ (22, row9) ∷ (24, row6 13) ∷ (26, row6 14) ∷ (28, row6 15) ∷ (30, row21) ∷ []) ((2, off) ∷ (3, off) ∷ (4, off) ∷ (5, off) ∷ (6, off) ∷ (7, off) ∷ (11, alive) ∷ (12, alive) ∷ (13, alive) ∷ (14, alive) ∷ (15, alive) ∷ (16, alive) ∷ []) G0
 
   abbrev pub G41 : Cx
-  G41 = patched ((6, row4) ∷ (7, row7) ∷ (8, row10) ∷ (9, row13) ∷ (10, row16) ∷ (11, row19) ∷ (12, row22) ∷ (15, row1) ∷ (16, row2) ∷ (20, row6) ∷ (22, row9) ∷ (24, row12) ∷ (26, row15) ∷ (28, row18) ∷ (30, row21) ∷ (32, row24) ∷ []) ((2, off) ∷ (3, off) ∷ (4, off) ∷ (5, off) ∷ (6, off) ∷ (7, off) ∷ (8, off) ∷ (11, alive) ∷ (12, alive) ∷ (13, alive) ∷ (14, alive) ∷ (15, alive) ∷ (16, alive) ∷ (17, alive) ∷ []) G0
+  G41 = patched ((6, row4) ∷ (7, row7) ∷ (8, row10) ∷ (9, row13) ∷ (10, row16) ∷ (11, row19) ∷ (12, row22) ∷ (15, row1) ∷ (16, row2) ∷ (20, row6 11) ∷ (22, row9) ∷ (24, row6 13) ∷ (26, row6 14) ∷ (28, row6 15) ∷ (30, row21) ∷ (32, row24 17) ∷ []) ((2, off) ∷ (3, off) ∷ (4, off) ∷ (5, off) ∷ (6, off) ∷ (7, off) ∷ (8, off) ∷ (11, alive) ∷ (12, alive) ∷ (13, alive) ∷ (14, alive) ∷ (15, alive) ∷ (16, alive) ∷ (17, alive) ∷ []) G0
 
   abbrev pub G44 : Cx
-  G44 = patched ((6, row4) ∷ (7, row7) ∷ (8, row10) ∷ (9, row13) ∷ (10, row16) ∷ (11, row19) ∷ (12, row22) ∷ (13, row25) ∷ (15, row1) ∷ (16, row2) ∷ (20, row6) ∷ (22, row9) ∷ (24, row12) ∷ (26, row15) ∷ (28, row18) ∷ (30, row21) ∷ (32, row24) ∷ (34, row27) ∷ []) ((2, off) ∷ (3, off) ∷ (4, off) ∷ (5, off) ∷ (6, off) ∷ (7, off) ∷ (8, off) ∷ (9, off) ∷ (11, alive) ∷ (12, alive) ∷ (13, alive) ∷ (14, alive) ∷ (15, alive) ∷ (16, alive) ∷ (17, alive) ∷ (18, alive) ∷ []) G0
+  G44 = patched ((6, row4) ∷ (7, row7) ∷ (8, row10) ∷ (9, row13) ∷ (10, row16) ∷ (11, row19) ∷ (12, row22) ∷ (13, row25) ∷ (15, row1) ∷ (16, row2) ∷ (20, row6 11) ∷ (22, row9) ∷ (24, row6 13) ∷ (26, row6 14) ∷ (28, row6 15) ∷ (30, row21) ∷ (32, row24 17) ∷ (34, row24 18) ∷ []) ((2, off) ∷ (3, off) ∷ (4, off) ∷ (5, off) ∷ (6, off) ∷ (7, off) ∷ (8, off) ∷ (9, off) ∷ (11, alive) ∷ (12, alive) ∷ (13, alive) ∷ (14, alive) ∷ (15, alive) ∷ (16, alive) ∷ (17, alive) ∷ (18, alive) ∷ []) G0
 
   abbrev pub G47 : Cx
-  G47 = patched ((6, row4) ∷ (7, row7) ∷ (8, row10) ∷ (9, row13) ∷ (10, row16) ∷ (11, row19) ∷ (12, row22) ∷ (13, row25) ∷ (14, row28) ∷ (15, row1) ∷ (16, row2) ∷ (20, row6) ∷ (22, row9) ∷ (24, row12) ∷ (26, row15) ∷ (28, row18) ∷ (30, row21) ∷ (32, row24) ∷ (34, row27) ∷ (36, row30) ∷ []) ((2, off) ∷ (3, off) ∷ (4, off) ∷ (5, off) ∷ (6, off) ∷ (7, off) ∷ (8, off) ∷ (9, off) ∷ (10, off) ∷ (11, alive) ∷ (12, alive) ∷ (13, alive) ∷ (14, alive) ∷ (15, alive) ∷ (16, alive) ∷ (17, alive) ∷ (18, alive) ∷ (19, alive) ∷ []) G0
+  G47 = patched ((6, row4) ∷ (7, row7) ∷ (8, row10) ∷ (9, row13) ∷ (10, row16) ∷ (11, row19) ∷ (12, row22) ∷ (13, row25) ∷ (14, row28) ∷ (15, row1) ∷ (16, row2) ∷ (20, row6 11) ∷ (22, row9) ∷ (24, row6 13) ∷ (26, row6 14) ∷ (28, row6 15) ∷ (30, row21) ∷ (32, row24 17) ∷ (34, row24 18) ∷ (36, row24 19) ∷ []) ((2, off) ∷ (3, off) ∷ (4, off) ∷ (5, off) ∷ (6, off) ∷ (7, off) ∷ (8, off) ∷ (9, off) ∷ (10, off) ∷ (11, alive) ∷ (12, alive) ∷ (13, alive) ∷ (14, alive) ∷ (15, alive) ∷ (16, alive) ∷ (17, alive) ∷ (18, alive) ∷ (19, alive) ∷ []) G0
 
   abbrev pub G48 : Cx
   G48 = patched ((6, row4) ∷ (7, row7) ∷ (8, row10) ∷ (9, row13) ∷ (10, row16) ∷ (11, row19) ∷ (12, row22) ∷ (13, row25) ∷ (14, row28) ∷ (15, row1) ∷ (16, row2) ∷ (17, row1) ∷ (20, row31) ∷ (22, row32) ∷ (24, row31) ∷ (26, row31) ∷ (28, row31) ∷ (30, row33) ∷ (32, row34) ∷ (34, row34) ∷ (36, row34) ∷ []) ((2, off) ∷ (3, off) ∷ (4, off) ∷ (5, off) ∷ (6, off) ∷ (7, off) ∷ (8, off) ∷ (9, off) ∷ (10, off) ∷ (11, alive) ∷ (12, alive) ∷ (13, alive) ∷ (14, alive) ∷ (15, alive) ∷ (16, alive) ∷ (17, alive) ∷ (18, alive) ∷ (19, alive) ∷ []) G0
@@ -227,7 +210,7 @@ module _ (κs : Lfts 11) (qs : Shares 11) where
   G101 = patched ((0, row37) ∷ (1, (any-gone (ty 1))) ∷ (2, (any-gone (ty 2))) ∷ (5, (any-gone (ty 5))) ∷ []) ([]) G0
 
 module _ {M : Type 1} (𝓤 : URA M) (H : Heap 𝓤) (A : Atoms 𝓤) (W : Given 𝓤 H A) (𝓣 : Tables 𝓤 H) (Inv·0 : InvT-loop) (μ·0 : MeasureT-loop)
-    (known0 : Knows 𝓤 H A W 𝓣 0 K0.ps K0.r R0.Asked R0.Learnt "rest_lists::turns::first_turn") (known1 : Knows 𝓤 H A W 𝓣 11 K1.ps K1.r R1.Asked R1.Learnt "topology::to_rest::turn_once") (known2 : Knows 𝓤 H A W 𝓣 0 K2.ps K2.r R2.Asked R2.Learnt "rest_lists::turns::next_turn") (known3 : Knows 𝓤 H A W 𝓣 0 K3.ps K3.r R3.Asked R3.Learnt "rest_lists::turns::rounds_of") (κs : Lfts 11) (qs : Shares 11) (bs : List ℕ) where
+    (known0 : Knows 𝓤 H A W 𝓣 0 K0.ps K0.r R0.Asked R0.Learnt "rest_lists::turns::first_turn") (known1 : Knows 𝓤 H A W 𝓣 11 K1.ps K1.r K1.Asked K1.Learnt "topology::to_rest::turn_once") (known2 : Knows 𝓤 H A W 𝓣 0 K2.ps K2.r R2.Asked R2.Learnt "rest_lists::turns::next_turn") (known3 : Knows 𝓤 H A W 𝓣 0 K3.ps K3.r R3.Asked R3.Learnt "rest_lists::turns::rounds_of") (κs : Lfts 11) (qs : Shares 11) (bs : List ℕ) where
   abbrev E : Env 𝓤 H
   E = EnvOf 𝓤 H (tyR r ∷ tysP ps xs) bs
 
@@ -273,7 +256,7 @@ module _ {M : Type 1} (𝓤 : URA M) (H : Heap 𝓤) (A : Atoms 𝓤) (W : Given
       ghosts (G44 κs qs) _ (g-begin 𝓤 H A W E (G44 κs qs) 19 _) $
       stmt _ _ (t-sl-relend 𝓤 H A W E (rtF (fInt w64)) 𝓣 _ 14 35 10 19 (tyRef (named 10) mut (tyInt w64)) (tyRef erased mut (tyInt w64)) (lease (κs .1 .1 .1 .1 .1 .1 .1 .1 .1 .1 .0) (qs .1 .1 .1 .1 .1 .1 .1 .1 .1 .1 .0)) 0 (λ x. x) (as-is 𝓤 H A (mslice (rtF (fInt w64)) (tyRef (named 10) mut (tyInt w64)) 10)) (room-gone 𝓤 H A (tyRef erased mut (tyInt w64))) refl tt refl refl refl (λ b o. tt)) $
       stmt _ (G47 κs qs) (t-sl-aggregate 𝓤 H A W E (rtF (fInt w64)) 𝓣 (asMut (rtF (fInt w64))) _ 35 36 19 (tyRef erased mut (tyInt w64)) (tyRef erased mut (tyInt w64)) (λ x. x) (oFld 14 (field 1 ∷ []) (tyInt w64) 8 (λ v. lenV (v .0))) (as-is 𝓤 H A (msptr (rtF (fInt w64)) (tyRef erased mut (tyInt w64)) 19)) (room-gone 𝓤 H A _) (reads-owed-len 𝓤 H A W (rtF (fInt w64)) (tyRef (named 10) mut (tyInt w64)) 10 19 (lease (κs .1 .1 .1 .1 .1 .1 .1 .1 .1 .1 .0) (qs .1 .1 .1 .1 .1 .1 .1 .1 .1 .1 .0)) 8 refl, refl) refl refl (λ b o k. tt)) $
-      stmt (G47 κs qs) (G48 κs qs) (t-call-plain 𝓤 H A W 𝓣 11 K1.ps K1.r R1.Asked R1.Learnt "topology::to_rest::turn_once" known1 E (λ pos β. β) (G47 κs qs) (vFld 16 (field 0 ∷ []) 0 (λ x. Turn.struct .as-values x .0), (vAt 1 (λ x. x), (vAt 2 (λ x. x), (record { pos = 3; ty = tyRef (named 0) imm (tyInt w8); ref = λ x. x }, (record { pos = 4; ty = tyRef (named 1) imm (tyInt w64); ref = λ x. x }, (record { pos = 5; st = []; d = 0; at = λ x. x }, (record { pos = 15; st = []; d = 0; at = λ x. x }, (record { pos = 20; ty = tyRef erased mut (tyInt w32); ref = λ x. x }, (record { pos = 22; ty = tyRef erased mut (tyInt w16); ref = λ x. x }, (record { pos = 24; ty = tyRef erased mut (tyInt w32); ref = λ x. x }, (record { pos = 26; ty = tyRef erased mut (tyInt w32); ref = λ x. x }, (record { pos = 28; ty = tyRef erased mut (tyInt w32); ref = λ x. x }, (record { pos = 30; ty = tyRef erased mut (pointee (twin-0.the-row .written)); ref = λ x. x }, (record { pos = 32; ty = tyRef erased mut (tyInt w64); ref = λ x. x }, (record { pos = 34; ty = tyRef erased mut (tyInt w64); ref = λ x. x }, (record { pos = 36; ty = tyRef erased mut (tyInt w64); ref = λ x. x }, tt)))))))))))))))) 17 (0 ∷ 1 ∷ 11 ∷ 12 ∷ 13 ∷ 14 ∷ 15 ∷ 16 ∷ 17 ∷ 18 ∷ 19 ∷ []) (sub-id 𝓤 H A W ((G47 κs qs) .slots)) ((reads-field 𝓤 H A W Turn.the-type Laws'.the-laws 0 (tyInt w64) 0 refl, refl), ((reads-sc 𝓤 H A W (sInt w64), refl), ((reads-sc 𝓤 H A W (sInt w64), refl), (spares-sslice 𝓤 H A W (rtF (fInt w8)) (tyRef (named 0) imm (tyInt w8)) 0, reads-sslice 𝓤 H A W (rtF (fInt w8)) (tyRef (named 0) imm (tyInt w8)) 0, refl, (spares-sslice 𝓤 H A W (rtF (fInt w64)) (tyRef (named 1) imm (tyInt w64)) 1, reads-sslice 𝓤 H A W (rtF (fInt w64)) (tyRef (named 1) imm (tyInt w64)) 1, refl, ((yields-copy 𝓤 H A W (λ ρ. Unit) (row Standing.the-type) refl (cStruct Standing.the-type Laws.the-laws Laws.the-copy .copy 𝓤 H A W) (whole (row Standing.the-type)) (λ x. x) (λ x. x) (λ ρ told. mem-whole 𝓤 H A W (row Standing.the-type) ρ) (λ ρ told. whole-mem 𝓤 H A W (row Standing.the-type) ρ), refl), ((yields-copy 𝓤 H A W (λ ρ. Unit) (row Standing.the-type) refl (cStruct Standing.the-type Laws.the-laws Laws.the-copy .copy 𝓤 H A W) (whole (row Standing.the-type)) (λ x. x) (λ x. x) (λ ρ told. mem-whole 𝓤 H A W (row Standing.the-type) ρ) (λ ρ told. whole-mem 𝓤 H A W (row Standing.the-type) ρ), refl), (as-is 𝓤 H A (mslice (rtF (fInt w32)) (tyRef erased mut (tyInt w32)) 11), reads-mslice 𝓤 H A W (rtF (fInt w32)) (tyRef erased mut (tyInt w32)) 11, refl, (as-is 𝓤 H A (mslice (rtF (fInt w16)) (tyRef erased mut (tyInt w16)) 12), reads-mslice 𝓤 H A W (rtF (fInt w16)) (tyRef erased mut (tyInt w16)) 12, refl, (as-is 𝓤 H A (mslice (rtF (fInt w32)) (tyRef erased mut (tyInt w32)) 13), reads-mslice 𝓤 H A W (rtF (fInt w32)) (tyRef erased mut (tyInt w32)) 13, refl, (as-is 𝓤 H A (mslice (rtF (fInt w32)) (tyRef erased mut (tyInt w32)) 14), reads-mslice 𝓤 H A W (rtF (fInt w32)) (tyRef erased mut (tyInt w32)) 14, refl, (as-is 𝓤 H A (mslice (rtF (fInt w32)) (tyRef erased mut (tyInt w32)) 15), reads-mslice 𝓤 H A W (rtF (fInt w32)) (tyRef erased mut (tyInt w32)) 15, refl, (as-is 𝓤 H A (mslice twin-0.the-row (tyRef erased mut (pointee (twin-0.the-row .written))) 16), reads-mslice 𝓤 H A W twin-0.the-row (tyRef erased mut (pointee (twin-0.the-row .written))) 16, refl, (as-is 𝓤 H A (mslice (rtF (fInt w64)) (tyRef erased mut (tyInt w64)) 17), reads-mslice 𝓤 H A W (rtF (fInt w64)) (tyRef erased mut (tyInt w64)) 17, refl, (as-is 𝓤 H A (mslice (rtF (fInt w64)) (tyRef erased mut (tyInt w64)) 18), reads-mslice 𝓤 H A W (rtF (fInt w64)) (tyRef erased mut (tyInt w64)) 18, refl, (as-is 𝓤 H A (mslice (rtF (fInt w64)) (tyRef erased mut (tyInt w64)) 19), reads-mslice 𝓤 H A W (rtF (fInt w64)) (tyRef erased mut (tyInt w64)) 19, refl, tt)))))))))))))))) (room-gone 𝓤 H A _) _ refl) $
+      stmt (G47 κs qs) (G48 κs qs) (t-call-plain 𝓤 H A W 𝓣 11 K1.ps K1.r K1.Asked K1.Learnt "topology::to_rest::turn_once" known1 E (λ pos β. β) (G47 κs qs) (vFld 16 (field 0 ∷ []) 0 (λ x. Turn.struct .as-values x .0), (vAt 1 (λ x. x), (vAt 2 (λ x. x), (record { pos = 3; ty = tyRef (named 0) imm (tyInt w8); ref = λ x. x }, (record { pos = 4; ty = tyRef (named 1) imm (tyInt w64); ref = λ x. x }, (record { pos = 5; st = []; d = 0; at = λ x. x }, (record { pos = 15; st = []; d = 0; at = λ x. x }, (record { pos = 20; ty = tyRef erased mut (tyInt w32); ref = λ x. x }, (record { pos = 22; ty = tyRef erased mut (tyInt w16); ref = λ x. x }, (record { pos = 24; ty = tyRef erased mut (tyInt w32); ref = λ x. x }, (record { pos = 26; ty = tyRef erased mut (tyInt w32); ref = λ x. x }, (record { pos = 28; ty = tyRef erased mut (tyInt w32); ref = λ x. x }, (record { pos = 30; ty = tyRef erased mut (pointee (twin-0.the-row .written)); ref = λ x. x }, (record { pos = 32; ty = tyRef erased mut (tyInt w64); ref = λ x. x }, (record { pos = 34; ty = tyRef erased mut (tyInt w64); ref = λ x. x }, (record { pos = 36; ty = tyRef erased mut (tyInt w64); ref = λ x. x }, tt)))))))))))))))) 17 (0 ∷ 1 ∷ 11 ∷ 12 ∷ 13 ∷ 14 ∷ 15 ∷ 16 ∷ 17 ∷ 18 ∷ 19 ∷ []) (sub-id 𝓤 H A W ((G47 κs qs) .slots)) ((reads-field 𝓤 H A W Turn.the-type Laws'.the-laws 0 (tyInt w64) 0 refl, refl), ((reads-sc 𝓤 H A W (sInt w64), refl), ((reads-sc 𝓤 H A W (sInt w64), refl), (spares-sslice 𝓤 H A W (rtF (fInt w8)) (tyRef (named 0) imm (tyInt w8)) 0, reads-sslice 𝓤 H A W (rtF (fInt w8)) (tyRef (named 0) imm (tyInt w8)) 0, refl, (spares-sslice 𝓤 H A W (rtF (fInt w64)) (tyRef (named 1) imm (tyInt w64)) 1, reads-sslice 𝓤 H A W (rtF (fInt w64)) (tyRef (named 1) imm (tyInt w64)) 1, refl, ((yields-copy 𝓤 H A W (λ ρ. Unit) (row Standing.the-type) refl (cStruct Standing.the-type Laws.the-laws Laws.the-copy .copy 𝓤 H A W) (whole (row Standing.the-type)) (λ x. x) (λ x. x) (λ ρ told. mem-whole 𝓤 H A W (row Standing.the-type) ρ) (λ ρ told. whole-mem 𝓤 H A W (row Standing.the-type) ρ), refl), ((yields-copy 𝓤 H A W (λ ρ. Unit) (row Standing.the-type) refl (cStruct Standing.the-type Laws.the-laws Laws.the-copy .copy 𝓤 H A W) (whole (row Standing.the-type)) (λ x. x) (λ x. x) (λ ρ told. mem-whole 𝓤 H A W (row Standing.the-type) ρ) (λ ρ told. whole-mem 𝓤 H A W (row Standing.the-type) ρ), refl), (as-is 𝓤 H A (mslice (rtF (fInt w32)) (tyRef erased mut (tyInt w32)) 11), reads-mslice 𝓤 H A W (rtF (fInt w32)) (tyRef erased mut (tyInt w32)) 11, refl, (as-is 𝓤 H A (mslice (rtF (fInt w16)) (tyRef erased mut (tyInt w16)) 12), reads-mslice 𝓤 H A W (rtF (fInt w16)) (tyRef erased mut (tyInt w16)) 12, refl, (as-is 𝓤 H A (mslice (rtF (fInt w32)) (tyRef erased mut (tyInt w32)) 13), reads-mslice 𝓤 H A W (rtF (fInt w32)) (tyRef erased mut (tyInt w32)) 13, refl, (as-is 𝓤 H A (mslice (rtF (fInt w32)) (tyRef erased mut (tyInt w32)) 14), reads-mslice 𝓤 H A W (rtF (fInt w32)) (tyRef erased mut (tyInt w32)) 14, refl, (as-is 𝓤 H A (mslice (rtF (fInt w32)) (tyRef erased mut (tyInt w32)) 15), reads-mslice 𝓤 H A W (rtF (fInt w32)) (tyRef erased mut (tyInt w32)) 15, refl, (as-is 𝓤 H A (mslice twin-0.the-row (tyRef erased mut (pointee (twin-0.the-row .written))) 16), reads-mslice 𝓤 H A W twin-0.the-row (tyRef erased mut (pointee (twin-0.the-row .written))) 16, refl, (as-is 𝓤 H A (mslice (rtF (fInt w64)) (tyRef erased mut (tyInt w64)) 17), reads-mslice 𝓤 H A W (rtF (fInt w64)) (tyRef erased mut (tyInt w64)) 17, refl, (as-is 𝓤 H A (mslice (rtF (fInt w64)) (tyRef erased mut (tyInt w64)) 18), reads-mslice 𝓤 H A W (rtF (fInt w64)) (tyRef erased mut (tyInt w64)) 18, refl, (as-is 𝓤 H A (mslice (rtF (fInt w64)) (tyRef erased mut (tyInt w64)) 19), reads-mslice 𝓤 H A W (rtF (fInt w64)) (tyRef erased mut (tyInt w64)) 19, refl, tt)))))))))))))))) (room-gone 𝓤 H A _) _ refl) $
       ghosts (G48 κs qs) _ (g-end 𝓤 H A W E (G48 κs qs) 11 refl) $
       ghosts _ _ (g-back-sl 𝓤 H A W E (rtF (fInt w32)) _ 20 6 2 11 (tyRef (named 2) mut (tyInt w32)) (tyRef erased mut (tyInt w32)) (lease (κs .1 .1 .0) (qs .1 .1 .0)) (λ x. x) (λ x. x) (as-is 𝓤 H A (msleft (rtF (fInt w32)) (tyRef erased mut (tyInt w32)))) (as-is 𝓤 H A (mslice-owed (rtF (fInt w32)) (tyRef (named 2) mut (tyInt w32)) 2 11 (lease (κs .1 .1 .0) (qs .1 .1 .0)))) refl refl) $
       ghosts _ (G52 κs qs) (g-forget 𝓤 H A W E _ 11 dead refl) $
@@ -323,8 +306,8 @@ module _ (w : World) where
   abbrev known0-at : Knows (w .𝓤) (w .H) (w .𝓖 .A) (Wof w) (𝓣of w code.env) 0 K0.ps K0.r R0.Asked R0.Learnt "rest_lists::turns::first_turn"
   known0-at = R0.known w code.env S0.name S0.routine code.calls-rest-lists·turns·first-turn (M0.met (w .𝓤) (w .H) (w .𝓜) (w .𝓖) (w .𝓡))
 
-  abbrev known1-at : Knows (w .𝓤) (w .H) (w .𝓖 .A) (Wof w) (𝓣of w code.env) 11 K1.ps K1.r R1.Asked R1.Learnt "topology::to_rest::turn_once"
-  known1-at = R1.known w code.env S1.name S1.routine code.calls-topology·to-rest·turn-once (M1.met (w .𝓤) (w .H) (w .𝓜) (w .𝓖) (w .𝓡))
+  abbrev known1-at : Knows (w .𝓤) (w .H) (w .𝓖 .A) (Wof w) (𝓣of w code.env) 11 K1.ps K1.r K1.Asked K1.Learnt "topology::to_rest::turn_once"
+  known1-at = K1.known w code.env S1.name S1.routine code.calls-topology·to-rest·turn-once (M1.met (w .𝓤) (w .H) (w .𝓜) (w .𝓖) (w .𝓡))
 
   abbrev known2-at : Knows (w .𝓤) (w .H) (w .𝓖 .A) (Wof w) (𝓣of w code.env) 0 K2.ps K2.r R2.Asked R2.Learnt "rest_lists::turns::next_turn"
   known2-at = R2.known w code.env S2.name S2.routine code.calls-rest-lists·turns·next-turn (M2.met (w .𝓤) (w .H) (w .𝓜) (w .𝓖) (w .𝓡))

@@ -15,23 +15,20 @@ use Rattle.rest_lists.proofs.begin.begin_rest.Kinds as K0
 use Rattle.rest_lists.proofs.begin.begin_rest.Reads as R0
 use Rattle.rest_lists.proofs.begin.begin_rest.Symbol as S0
 use Rattle.rest_lists.proofs.begin.begin_rest.Met as M0
-use Rattle.topology.proofs.Seen.records.fill.Kinds as K1
-use Rattle.topology.proofs.Seen.records.fill.Reads as R1
+use Rattle.topology.proofs.Seen.records.fill as K1
 use Rattle.topology.proofs.records.fill.Symbol as S1
 use Rattle.topology.proofs.records.fill.Met as M1
-use Rattle.topology.proofs.Seen.to_rest.run_turns.Kinds as K2
-use Rattle.topology.proofs.Seen.to_rest.run_turns.Reads as R2
+use Rattle.topology.proofs.Seen.to_rest.run_turns as K2
 use Rattle.topology.proofs.to_rest.run_turns.Symbol as S2
 use Rattle.topology.proofs.to_rest.run_turns.Met as M2
 use Rattle.rest_lists.proofs.kept.finish_rest.Kinds as K3
 use Rattle.rest_lists.proofs.kept.finish_rest.Reads as R3
 use Rattle.rest_lists.proofs.kept.finish_rest.Symbol as S3
 use Rattle.rest_lists.proofs.kept.finish_rest.Met as M3
-use Rattle.topology.proofs.Seen.to_rest.topology_run_to_rest.Kinds.{ps, r}
 use Rattle.topology.proofs.to_rest.topology_run_to_rest.Code as code
 use contract.Running
 use Rattle.topology.proofs.Contracts.{Answers, Post, Pre, Wof, met, 𝓣of}
-use Rattle.topology.proofs.Seen.to_rest.topology_run_to_rest.Reads.{the-contract}
+use Rattle.topology.proofs.Seen.to_rest.topology_run_to_rest.{ps, r, the-contract}
 use Rattle.topology.proofs.to_rest.topology_run_to_rest.Key as key
 use Rattle.topology.proofs.to_rest.topology_run_to_rest.Statement.{statement}
 use Rattle.topology.proofs.Steps.{Der, _$_, arm-of, first, ghosts, head-of, homes, last, past, patched, rets, stmt, switches, then, typesPast}
@@ -52,95 +49,59 @@ module _ (κs : Lfts 11) (qs : Shares 11) where
   abbrev row1 : Row
   row1 = sc-here (sInt w64)
 
-  abbrev row2 : Row
-  row2 = whole (Array (rtF (fInt w64)) 256)
+  abbrev row2 : ℕ → Row
+  row2 k = whole (Array (rtF (fInt w64)) k)
 
-  abbrev row3 : Row
-  row3 = arrF (rtF (fInt w64)) 256 0
+  abbrev row3 : ℕ → Row
+  row3 k = arrF (rtF (fInt w64)) k 0
 
-  abbrev row4 : Row
-  row4 = whole (Array (rtF (fInt w64)) 1024)
+  abbrev row8 : ℕ → Row
+  row8 k = mslice-owed (rtF (fInt w32)) (tyRef (named 4) mut (tyInt w32)) 4 k (lease (κs .1 .1 .1 .1 .0) (qs .1 .1 .1 .1 .0))
 
-  abbrev row5 : Row
-  row5 = arrF (rtF (fInt w64)) 1024 0
+  abbrev row9 : ℕ → Row
+  row9 k = msptr (rtF (fInt w32)) (tyRef erased mut (tyInt w32)) k
 
-  abbrev row6 : Row
-  row6 = whole (Array (rtF (fInt w64)) 2304)
+  abbrev row10 : ℕ → Row
+  row10 k = mslice (rtF (fInt w32)) (tyRef erased mut (tyInt w32)) k
 
-  abbrev row7 : Row
-  row7 = arrF (rtF (fInt w64)) 2304 0
-
-  abbrev row8 : Row
-  row8 = mslice-owed (rtF (fInt w32)) (tyRef (named 4) mut (tyInt w32)) 4 11 (lease (κs .1 .1 .1 .1 .0) (qs .1 .1 .1 .1 .0))
-
-  abbrev row9 : Row
-  row9 = msptr (rtF (fInt w32)) (tyRef erased mut (tyInt w32)) 11
-
-  abbrev row10 : Row
-  row10 = mslice (rtF (fInt w32)) (tyRef erased mut (tyInt w32)) 11
-
-  abbrev row11 : Row
-  row11 = mslice-owed (rtF (fInt w16)) (tyRef (named 5) mut (tyInt w16)) 5 12 (lease (κs .1 .1 .1 .1 .1 .0) (qs .1 .1 .1 .1 .1 .0))
+  abbrev row11 : ℕ → Row
+  row11 k = mslice-owed (rtF (fInt w16)) (tyRef (named 5) mut (tyInt w16)) 5 k (lease (κs .1 .1 .1 .1 .1 .0) (qs .1 .1 .1 .1 .1 .0))
 
   abbrev row12 : Row
   row12 = msptr (rtF (fInt w16)) (tyRef erased mut (tyInt w16)) 12
 
-  abbrev row13 : Row
-  row13 = mslice (rtF (fInt w16)) (tyRef erased mut (tyInt w16)) 12
+  abbrev row13 : ℕ → Row
+  row13 k = mslice (rtF (fInt w16)) (tyRef erased mut (tyInt w16)) k
 
-  abbrev row14 : Row
-  row14 = mslice-owed (rtF (fInt w32)) (tyRef (named 6) mut (tyInt w32)) 6 13 (lease (κs .1 .1 .1 .1 .1 .1 .0) (qs .1 .1 .1 .1 .1 .1 .0))
+  abbrev row14 : ℕ → Row
+  row14 k = mslice-owed (rtF (fInt w32)) (tyRef (named 6) mut (tyInt w32)) 6 k (lease (κs .1 .1 .1 .1 .1 .1 .0) (qs .1 .1 .1 .1 .1 .1 .0))
 
-  abbrev row15 : Row
-  row15 = msptr (rtF (fInt w32)) (tyRef erased mut (tyInt w32)) 13
+  abbrev row17 : ℕ → Row
+  row17 k = mslice-owed (rtF (fInt w32)) (tyRef (named 7) mut (tyInt w32)) 7 k (lease (κs .1 .1 .1 .1 .1 .1 .1 .0) (qs .1 .1 .1 .1 .1 .1 .1 .0))
 
-  abbrev row16 : Row
-  row16 = mslice (rtF (fInt w32)) (tyRef erased mut (tyInt w32)) 13
+  abbrev row20 : ℕ → Row
+  row20 k = mslice-owed (rtF (fInt w32)) (tyRef (named 8) mut (tyInt w32)) 8 k (lease (κs .1 .1 .1 .1 .1 .1 .1 .1 .0) (qs .1 .1 .1 .1 .1 .1 .1 .1 .0))
 
-  abbrev row17 : Row
-  row17 = mslice-owed (rtF (fInt w32)) (tyRef (named 7) mut (tyInt w32)) 7 14 (lease (κs .1 .1 .1 .1 .1 .1 .1 .0) (qs .1 .1 .1 .1 .1 .1 .1 .0))
-
-  abbrev row18 : Row
-  row18 = msptr (rtF (fInt w32)) (tyRef erased mut (tyInt w32)) 14
-
-  abbrev row19 : Row
-  row19 = mslice (rtF (fInt w32)) (tyRef erased mut (tyInt w32)) 14
-
-  abbrev row20 : Row
-  row20 = mslice-owed (rtF (fInt w32)) (tyRef (named 8) mut (tyInt w32)) 8 15 (lease (κs .1 .1 .1 .1 .1 .1 .1 .1 .0) (qs .1 .1 .1 .1 .1 .1 .1 .1 .0))
-
-  abbrev row21 : Row
-  row21 = msptr (rtF (fInt w32)) (tyRef erased mut (tyInt w32)) 15
-
-  abbrev row22 : Row
-  row22 = mslice (rtF (fInt w32)) (tyRef erased mut (tyInt w32)) 15
-
-  abbrev row23 : Row
-  row23 = arr-owed (rtF (fInt w64)) 256 16
+  abbrev row23 : ℕ → Row
+  row23 k = arr-owed (rtF (fInt w64)) 256 k
 
   abbrev row24 : Row
   row24 = msptr (rtF (fInt w64)) (tyRef erased mut (tyArray (tyInt w64) 256)) 16
 
-  abbrev row25 : Row
-  row25 = mslice (rtF (fInt w64)) (tyRef erased mut (tyInt w64)) 16
+  abbrev row25 : ℕ → Row
+  row25 k = mslice (rtF (fInt w64)) (tyRef erased mut (tyInt w64)) k
 
-  abbrev row26 : Row
-  row26 = arr-owed (rtF (fInt w64)) 1024 17
+  abbrev row26 : ℕ → Row
+  row26 k = arr-owed (rtF (fInt w64)) 1024 k
 
   abbrev row27 : Row
   row27 = msptr (rtF (fInt w64)) (tyRef erased mut (tyArray (tyInt w64) 1024)) 17
 
-  abbrev row28 : Row
-  row28 = mslice (rtF (fInt w64)) (tyRef erased mut (tyInt w64)) 17
-
-  abbrev row29 : Row
-  row29 = arr-owed (rtF (fInt w64)) 2304 18
+  abbrev row29 : ℕ → Row
+  row29 k = arr-owed (rtF (fInt w64)) 2304 k
 
   abbrev row30 : Row
   row30 = msptr (rtF (fInt w64)) (tyRef erased mut (tyArray (tyInt w64) 2304)) 18
-
-  abbrev row31 : Row
-  row31 = mslice (rtF (fInt w64)) (tyRef erased mut (tyInt w64)) 18
 
   abbrev row32 : Row
   row32 = whole (Declared.row Prepared.the-type)
@@ -157,35 +118,29 @@ module _ (κs : Lfts 11) (qs : Shares 11) where
   abbrev row36 : Row
   row36 = whole (Declared'.row RestAnswer.the-type)
 
-  abbrev row37 : Row
-  row37 = whole (Known enum 0)
+  abbrev row37 : ℕ → Row
+  row37 k = whole (Known enum k)
 
   abbrev row38 : Row
   row38 = whole (Declared'.row (apartT RestAnswer.the-type))
 
-  abbrev row39 : Row
-  row39 = whole (Known enum 1)
-
   abbrev row40 : Row
   row40 = whole (Declared'.row (apartT Standing.the-type))
 
-  abbrev row41 : Row
-  row41 = mslice-owed twin-0.the-row (tyRef (named 9) mut (pointee (twin-0.the-row .written))) 9 19 (lease (κs .1 .1 .1 .1 .1 .1 .1 .1 .1 .0) (qs .1 .1 .1 .1 .1 .1 .1 .1 .1 .0))
+  abbrev row41 : ℕ → Row
+  row41 k = mslice-owed twin-0.the-row (tyRef (named 9) mut (pointee (twin-0.the-row .written))) 9 k (lease (κs .1 .1 .1 .1 .1 .1 .1 .1 .1 .0) (qs .1 .1 .1 .1 .1 .1 .1 .1 .1 .0))
 
-  abbrev row43 : Row
-  row43 = mslice twin-0.the-row (tyRef erased mut (pointee (twin-0.the-row .written))) 19
+  abbrev row43 : ℕ → Row
+  row43 k = mslice twin-0.the-row (tyRef erased mut (pointee (twin-0.the-row .written))) k
 
   abbrev row44 : Row
   row44 = mslice-owedS (rtF (fInt w32)) (tyRef (named 4) mut (tyInt w32)) 4 20 (lease (κs .1 .1 .1 .1 .0) (qs .1 .1 .1 .1 .0))
 
-  abbrev row46 : Row
-  row46 = sslice (rtF (fInt w32)) (tyRef erased imm (tyInt w32)) 20
+  abbrev row46 : ℕ → Row
+  row46 k = sslice (rtF (fInt w32)) (tyRef erased imm (tyInt w32)) k
 
   abbrev row47 : Row
   row47 = mslice-owedS (rtF (fInt w32)) (tyRef (named 6) mut (tyInt w32)) 6 21 (lease (κs .1 .1 .1 .1 .1 .1 .0) (qs .1 .1 .1 .1 .1 .1 .0))
-
-  abbrev row49 : Row
-  row49 = sslice (rtF (fInt w32)) (tyRef erased imm (tyInt w32)) 21
 
   abbrev row50 : Row
   row50 = sc-here sUnit
@@ -193,164 +148,92 @@ module _ (κs : Lfts 11) (qs : Shares 11) where
   abbrev row51 : Row
   row51 = msleft twin-0.the-row (tyRef erased mut (pointee (twin-0.the-row .written)))
 
-  abbrev row52 : Row
-  row52 = mslice-owed (rtF (fInt w32)) (tyRef (named 4) mut (tyInt w32)) 4 22 (lease (κs .1 .1 .1 .1 .0) (qs .1 .1 .1 .1 .0))
-
-  abbrev row54 : Row
-  row54 = mslice (rtF (fInt w32)) (tyRef erased mut (tyInt w32)) 22
-
-  abbrev row55 : Row
-  row55 = mslice-owed (rtF (fInt w16)) (tyRef (named 5) mut (tyInt w16)) 5 23 (lease (κs .1 .1 .1 .1 .1 .0) (qs .1 .1 .1 .1 .1 .0))
-
-  abbrev row57 : Row
-  row57 = mslice (rtF (fInt w16)) (tyRef erased mut (tyInt w16)) 23
-
-  abbrev row58 : Row
-  row58 = mslice-owed (rtF (fInt w32)) (tyRef (named 6) mut (tyInt w32)) 6 24 (lease (κs .1 .1 .1 .1 .1 .1 .0) (qs .1 .1 .1 .1 .1 .1 .0))
-
-  abbrev row60 : Row
-  row60 = mslice (rtF (fInt w32)) (tyRef erased mut (tyInt w32)) 24
-
-  abbrev row61 : Row
-  row61 = mslice-owed (rtF (fInt w32)) (tyRef (named 7) mut (tyInt w32)) 7 25 (lease (κs .1 .1 .1 .1 .1 .1 .1 .0) (qs .1 .1 .1 .1 .1 .1 .1 .0))
-
-  abbrev row63 : Row
-  row63 = mslice (rtF (fInt w32)) (tyRef erased mut (tyInt w32)) 25
-
-  abbrev row64 : Row
-  row64 = mslice-owed (rtF (fInt w32)) (tyRef (named 8) mut (tyInt w32)) 8 26 (lease (κs .1 .1 .1 .1 .1 .1 .1 .1 .0) (qs .1 .1 .1 .1 .1 .1 .1 .1 .0))
-
-  abbrev row66 : Row
-  row66 = mslice (rtF (fInt w32)) (tyRef erased mut (tyInt w32)) 26
-
-  abbrev row67 : Row
-  row67 = mslice-owed twin-0.the-row (tyRef (named 9) mut (pointee (twin-0.the-row .written))) 9 27 (lease (κs .1 .1 .1 .1 .1 .1 .1 .1 .1 .0) (qs .1 .1 .1 .1 .1 .1 .1 .1 .1 .0))
-
-  abbrev row69 : Row
-  row69 = mslice twin-0.the-row (tyRef erased mut (pointee (twin-0.the-row .written))) 27
-
-  abbrev row70 : Row
-  row70 = arr-owed (rtF (fInt w64)) 256 28
-
-  abbrev row72 : Row
-  row72 = mslice (rtF (fInt w64)) (tyRef erased mut (tyInt w64)) 28
-
-  abbrev row73 : Row
-  row73 = arr-owed (rtF (fInt w64)) 1024 29
-
-  abbrev row75 : Row
-  row75 = mslice (rtF (fInt w64)) (tyRef erased mut (tyInt w64)) 29
-
-  abbrev row76 : Row
-  row76 = arr-owed (rtF (fInt w64)) 2304 30
-
-  abbrev row78 : Row
-  row78 = mslice (rtF (fInt w64)) (tyRef erased mut (tyInt w64)) 30
-
   abbrev row79 : Row
   row79 = whole (Declared'.row Standing.the-type)
 
   abbrev row80 : Row
   row80 = arr-shr (rtF (fInt w64)) 256 31
 
-  abbrev row82 : Row
-  row82 = sslice (rtF (fInt w64)) (tyRef erased imm (tyInt w64)) 31
+  abbrev row82 : ℕ → Row
+  row82 k = sslice (rtF (fInt w64)) (tyRef erased imm (tyInt w64)) k
 
   abbrev row83 : Row
   row83 = arr-shr (rtF (fInt w64)) 1024 32
 
-  abbrev row85 : Row
-  row85 = sslice (rtF (fInt w64)) (tyRef erased imm (tyInt w64)) 32
-
-  abbrev row86 : Row
-  row86 = mslice-owed (rtF (fInt w16)) (tyRef (named 5) mut (tyInt w16)) 5 33 (lease (κs .1 .1 .1 .1 .1 .0) (qs .1 .1 .1 .1 .1 .0))
-
-  abbrev row88 : Row
-  row88 = mslice (rtF (fInt w16)) (tyRef erased mut (tyInt w16)) 33
-
-  abbrev row89 : Row
-  row89 = mslice-owed (rtF (fInt w32)) (tyRef (named 6) mut (tyInt w32)) 6 34 (lease (κs .1 .1 .1 .1 .1 .1 .0) (qs .1 .1 .1 .1 .1 .1 .0))
-
-  abbrev row91 : Row
-  row91 = mslice (rtF (fInt w32)) (tyRef erased mut (tyInt w32)) 34
-
   abbrev row92 : Row
   row92 = mslice-owed (rtF (fInt w64)) (tyRef (named 10) mut (tyInt w64)) 10 35 (lease (κs .1 .1 .1 .1 .1 .1 .1 .1 .1 .1 .0) (qs .1 .1 .1 .1 .1 .1 .1 .1 .1 .1 .0))
 
-  abbrev row94 : Row
-  row94 = mslice (rtF (fInt w64)) (tyRef erased mut (tyInt w64)) 35
-
   abbrev pub G14 : Cx
-  G14 = patched ((14, row1) ∷ (15, row1) ∷ (16, row2) ∷ []) ([]) G0
+  G14 = patched ((14, row1) ∷ (15, row1) ∷ (16, row2 256) ∷ []) ([]) G0
 
   abbrev pub G16 : Cx
-  G16 = patched ((14, row1) ∷ (15, row1) ∷ (16, row3) ∷ (17, row4) ∷ []) ([]) G0
+  G16 = patched ((14, row1) ∷ (15, row1) ∷ (16, row3 256) ∷ (17, row2 1024) ∷ []) ([]) G0
 
   abbrev pub G18 : Cx
-  G18 = patched ((14, row1) ∷ (15, row1) ∷ (16, row3) ∷ (17, row5) ∷ (18, row6) ∷ []) ([]) G0
+  G18 = patched ((14, row1) ∷ (15, row1) ∷ (16, row3 256) ∷ (17, row3 1024) ∷ (18, row2 2304) ∷ []) ([]) G0
 
   abbrev pub G21 : Cx
-  G21 = patched ((7, row8) ∷ (14, row1) ∷ (15, row1) ∷ (16, row3) ∷ (17, row5) ∷ (18, row7) ∷ (28, row9) ∷ []) ((4, off) ∷ (11, alive) ∷ []) G0
+  G21 = patched ((7, row8 11) ∷ (14, row1) ∷ (15, row1) ∷ (16, row3 256) ∷ (17, row3 1024) ∷ (18, row3 2304) ∷ (28, row9 11) ∷ []) ((4, off) ∷ (11, alive) ∷ []) G0
 
   abbrev pub G24 : Cx
-  G24 = patched ((7, row8) ∷ (8, row11) ∷ (14, row1) ∷ (15, row1) ∷ (16, row3) ∷ (17, row5) ∷ (18, row7) ∷ (29, row10) ∷ (30, row12) ∷ []) ((4, off) ∷ (5, off) ∷ (11, alive) ∷ (12, alive) ∷ []) G0
+  G24 = patched ((7, row8 11) ∷ (8, row11 12) ∷ (14, row1) ∷ (15, row1) ∷ (16, row3 256) ∷ (17, row3 1024) ∷ (18, row3 2304) ∷ (29, row10 11) ∷ (30, row12) ∷ []) ((4, off) ∷ (5, off) ∷ (11, alive) ∷ (12, alive) ∷ []) G0
 
   abbrev pub G27 : Cx
-  G27 = patched ((7, row8) ∷ (8, row11) ∷ (9, row14) ∷ (14, row1) ∷ (15, row1) ∷ (16, row3) ∷ (17, row5) ∷ (18, row7) ∷ (29, row10) ∷ (31, row13) ∷ (32, row15) ∷ []) ((4, off) ∷ (5, off) ∷ (6, off) ∷ (11, alive) ∷ (12, alive) ∷ (13, alive) ∷ []) G0
+  G27 = patched ((7, row8 11) ∷ (8, row11 12) ∷ (9, row14 13) ∷ (14, row1) ∷ (15, row1) ∷ (16, row3 256) ∷ (17, row3 1024) ∷ (18, row3 2304) ∷ (29, row10 11) ∷ (31, row13 12) ∷ (32, row9 13) ∷ []) ((4, off) ∷ (5, off) ∷ (6, off) ∷ (11, alive) ∷ (12, alive) ∷ (13, alive) ∷ []) G0
 
   abbrev pub G30 : Cx
-  G30 = patched ((7, row8) ∷ (8, row11) ∷ (9, row14) ∷ (10, row17) ∷ (14, row1) ∷ (15, row1) ∷ (16, row3) ∷ (17, row5) ∷ (18, row7) ∷ (29, row10) ∷ (31, row13) ∷ (33, row16) ∷ (34, row18) ∷ []) ((4, off) ∷ (5, off) ∷ (6, off) ∷ (7, off) ∷ (11, alive) ∷ (12, alive) ∷ (13, alive) ∷ (14, alive) ∷ []) G0
+  G30 = patched ((7, row8 11) ∷ (8, row11 12) ∷ (9, row14 13) ∷ (10, row17 14) ∷ (14, row1) ∷ (15, row1) ∷ (16, row3 256) ∷ (17, row3 1024) ∷ (18, row3 2304) ∷ (29, row10 11) ∷ (31, row13 12) ∷ (33, row10 13) ∷ (34, row9 14) ∷ []) ((4, off) ∷ (5, off) ∷ (6, off) ∷ (7, off) ∷ (11, alive) ∷ (12, alive) ∷ (13, alive) ∷ (14, alive) ∷ []) G0
 
   abbrev pub G33 : Cx
-  G33 = patched ((7, row8) ∷ (8, row11) ∷ (9, row14) ∷ (10, row17) ∷ (11, row20) ∷ (14, row1) ∷ (15, row1) ∷ (16, row3) ∷ (17, row5) ∷ (18, row7) ∷ (29, row10) ∷ (31, row13) ∷ (33, row16) ∷ (35, row19) ∷ (36, row21) ∷ []) ((4, off) ∷ (5, off) ∷ (6, off) ∷ (7, off) ∷ (8, off) ∷ (11, alive) ∷ (12, alive) ∷ (13, alive) ∷ (14, alive) ∷ (15, alive) ∷ []) G0
+  G33 = patched ((7, row8 11) ∷ (8, row11 12) ∷ (9, row14 13) ∷ (10, row17 14) ∷ (11, row20 15) ∷ (14, row1) ∷ (15, row1) ∷ (16, row3 256) ∷ (17, row3 1024) ∷ (18, row3 2304) ∷ (29, row10 11) ∷ (31, row13 12) ∷ (33, row10 13) ∷ (35, row10 14) ∷ (36, row9 15) ∷ []) ((4, off) ∷ (5, off) ∷ (6, off) ∷ (7, off) ∷ (8, off) ∷ (11, alive) ∷ (12, alive) ∷ (13, alive) ∷ (14, alive) ∷ (15, alive) ∷ []) G0
 
   abbrev pub G36 : Cx
-  G36 = patched ((7, row8) ∷ (8, row11) ∷ (9, row14) ∷ (10, row17) ∷ (11, row20) ∷ (14, row1) ∷ (15, row1) ∷ (16, row23) ∷ (17, row5) ∷ (18, row7) ∷ (29, row10) ∷ (31, row13) ∷ (33, row16) ∷ (35, row19) ∷ (37, row22) ∷ (38, row24) ∷ []) ((4, off) ∷ (5, off) ∷ (6, off) ∷ (7, off) ∷ (8, off) ∷ (11, alive) ∷ (12, alive) ∷ (13, alive) ∷ (14, alive) ∷ (15, alive) ∷ (16, alive) ∷ []) G0
+  G36 = patched ((7, row8 11) ∷ (8, row11 12) ∷ (9, row14 13) ∷ (10, row17 14) ∷ (11, row20 15) ∷ (14, row1) ∷ (15, row1) ∷ (16, row23 16) ∷ (17, row3 1024) ∷ (18, row3 2304) ∷ (29, row10 11) ∷ (31, row13 12) ∷ (33, row10 13) ∷ (35, row10 14) ∷ (37, row10 15) ∷ (38, row24) ∷ []) ((4, off) ∷ (5, off) ∷ (6, off) ∷ (7, off) ∷ (8, off) ∷ (11, alive) ∷ (12, alive) ∷ (13, alive) ∷ (14, alive) ∷ (15, alive) ∷ (16, alive) ∷ []) G0
 
   abbrev pub G39 : Cx
-  G39 = patched ((7, row8) ∷ (8, row11) ∷ (9, row14) ∷ (10, row17) ∷ (11, row20) ∷ (14, row1) ∷ (15, row1) ∷ (16, row23) ∷ (17, row26) ∷ (18, row7) ∷ (29, row10) ∷ (31, row13) ∷ (33, row16) ∷ (35, row19) ∷ (37, row22) ∷ (39, row25) ∷ (40, row27) ∷ []) ((4, off) ∷ (5, off) ∷ (6, off) ∷ (7, off) ∷ (8, off) ∷ (11, alive) ∷ (12, alive) ∷ (13, alive) ∷ (14, alive) ∷ (15, alive) ∷ (16, alive) ∷ (17, alive) ∷ []) G0
+  G39 = patched ((7, row8 11) ∷ (8, row11 12) ∷ (9, row14 13) ∷ (10, row17 14) ∷ (11, row20 15) ∷ (14, row1) ∷ (15, row1) ∷ (16, row23 16) ∷ (17, row26 17) ∷ (18, row3 2304) ∷ (29, row10 11) ∷ (31, row13 12) ∷ (33, row10 13) ∷ (35, row10 14) ∷ (37, row10 15) ∷ (39, row25 16) ∷ (40, row27) ∷ []) ((4, off) ∷ (5, off) ∷ (6, off) ∷ (7, off) ∷ (8, off) ∷ (11, alive) ∷ (12, alive) ∷ (13, alive) ∷ (14, alive) ∷ (15, alive) ∷ (16, alive) ∷ (17, alive) ∷ []) G0
 
   abbrev pub G42 : Cx
-  G42 = patched ((7, row8) ∷ (8, row11) ∷ (9, row14) ∷ (10, row17) ∷ (11, row20) ∷ (14, row1) ∷ (15, row1) ∷ (16, row23) ∷ (17, row26) ∷ (18, row29) ∷ (29, row10) ∷ (31, row13) ∷ (33, row16) ∷ (35, row19) ∷ (37, row22) ∷ (39, row25) ∷ (41, row28) ∷ (42, row30) ∷ []) ((4, off) ∷ (5, off) ∷ (6, off) ∷ (7, off) ∷ (8, off) ∷ (11, alive) ∷ (12, alive) ∷ (13, alive) ∷ (14, alive) ∷ (15, alive) ∷ (16, alive) ∷ (17, alive) ∷ (18, alive) ∷ []) G0
+  G42 = patched ((7, row8 11) ∷ (8, row11 12) ∷ (9, row14 13) ∷ (10, row17 14) ∷ (11, row20 15) ∷ (14, row1) ∷ (15, row1) ∷ (16, row23 16) ∷ (17, row26 17) ∷ (18, row29 18) ∷ (29, row10 11) ∷ (31, row13 12) ∷ (33, row10 13) ∷ (35, row10 14) ∷ (37, row10 15) ∷ (39, row25 16) ∷ (41, row25 17) ∷ (42, row30) ∷ []) ((4, off) ∷ (5, off) ∷ (6, off) ∷ (7, off) ∷ (8, off) ∷ (11, alive) ∷ (12, alive) ∷ (13, alive) ∷ (14, alive) ∷ (15, alive) ∷ (16, alive) ∷ (17, alive) ∷ (18, alive) ∷ []) G0
 
   abbrev pub G43 : Cx
-  G43 = patched ((7, row8) ∷ (8, row11) ∷ (9, row14) ∷ (10, row17) ∷ (11, row20) ∷ (14, row1) ∷ (15, row1) ∷ (16, row23) ∷ (17, row26) ∷ (18, row29) ∷ (29, row10) ∷ (31, row13) ∷ (33, row16) ∷ (35, row19) ∷ (37, row22) ∷ (39, row25) ∷ (41, row28) ∷ (43, row31) ∷ []) ((4, off) ∷ (5, off) ∷ (6, off) ∷ (7, off) ∷ (8, off) ∷ (11, alive) ∷ (12, alive) ∷ (13, alive) ∷ (14, alive) ∷ (15, alive) ∷ (16, alive) ∷ (17, alive) ∷ (18, alive) ∷ []) G0
+  G43 = patched ((7, row8 11) ∷ (8, row11 12) ∷ (9, row14 13) ∷ (10, row17 14) ∷ (11, row20 15) ∷ (14, row1) ∷ (15, row1) ∷ (16, row23 16) ∷ (17, row26 17) ∷ (18, row29 18) ∷ (29, row10 11) ∷ (31, row13 12) ∷ (33, row10 13) ∷ (35, row10 14) ∷ (37, row10 15) ∷ (39, row25 16) ∷ (41, row25 17) ∷ (43, row25 18) ∷ []) ((4, off) ∷ (5, off) ∷ (6, off) ∷ (7, off) ∷ (8, off) ∷ (11, alive) ∷ (12, alive) ∷ (13, alive) ∷ (14, alive) ∷ (15, alive) ∷ (16, alive) ∷ (17, alive) ∷ (18, alive) ∷ []) G0
 
   abbrev pub G44 : Cx
-  G44 = patched ((7, row8) ∷ (8, row11) ∷ (9, row14) ∷ (10, row17) ∷ (11, row20) ∷ (14, row1) ∷ (15, row1) ∷ (16, row23) ∷ (17, row26) ∷ (18, row29) ∷ (19, row32) ∷ (29, row33) ∷ (31, row34) ∷ (33, row33) ∷ (35, row33) ∷ (37, row33) ∷ (39, row35) ∷ (41, row35) ∷ (43, row35) ∷ []) ((4, off) ∷ (5, off) ∷ (6, off) ∷ (7, off) ∷ (8, off) ∷ (11, alive) ∷ (12, alive) ∷ (13, alive) ∷ (14, alive) ∷ (15, alive) ∷ (16, alive) ∷ (17, alive) ∷ (18, alive) ∷ []) G0
+  G44 = patched ((7, row8 11) ∷ (8, row11 12) ∷ (9, row14 13) ∷ (10, row17 14) ∷ (11, row20 15) ∷ (14, row1) ∷ (15, row1) ∷ (16, row23 16) ∷ (17, row26 17) ∷ (18, row29 18) ∷ (19, row32) ∷ (29, row33) ∷ (31, row34) ∷ (33, row33) ∷ (35, row33) ∷ (37, row33) ∷ (39, row35) ∷ (41, row35) ∷ (43, row35) ∷ []) ((4, off) ∷ (5, off) ∷ (6, off) ∷ (7, off) ∷ (8, off) ∷ (11, alive) ∷ (12, alive) ∷ (13, alive) ∷ (14, alive) ∷ (15, alive) ∷ (16, alive) ∷ (17, alive) ∷ (18, alive) ∷ []) G0
 
   abbrev pub G45 : Cx
   G45 = patched ((14, row1) ∷ (15, row1) ∷ (44, row36) ∷ []) ([]) G0
 
   abbrev pub G49 : Cx
-  G49 = patched ((8, row11) ∷ (9, row14) ∷ (10, row17) ∷ (11, row20) ∷ (14, row1) ∷ (15, row1) ∷ (16, row23) ∷ (17, row26) ∷ (18, row29) ∷ (19, row32) ∷ (31, row34) ∷ (33, row33) ∷ (35, row33) ∷ (37, row33) ∷ (39, row35) ∷ (41, row35) ∷ (43, row35) ∷ []) ((5, off) ∷ (6, off) ∷ (7, off) ∷ (8, off) ∷ (12, alive) ∷ (13, alive) ∷ (14, alive) ∷ (15, alive) ∷ (16, alive) ∷ (17, alive) ∷ (18, alive) ∷ []) G0
+  G49 = patched ((8, row11 12) ∷ (9, row14 13) ∷ (10, row17 14) ∷ (11, row20 15) ∷ (14, row1) ∷ (15, row1) ∷ (16, row23 16) ∷ (17, row26 17) ∷ (18, row29 18) ∷ (19, row32) ∷ (31, row34) ∷ (33, row33) ∷ (35, row33) ∷ (37, row33) ∷ (39, row35) ∷ (41, row35) ∷ (43, row35) ∷ []) ((5, off) ∷ (6, off) ∷ (7, off) ∷ (8, off) ∷ (12, alive) ∷ (13, alive) ∷ (14, alive) ∷ (15, alive) ∷ (16, alive) ∷ (17, alive) ∷ (18, alive) ∷ []) G0
 
   abbrev pub G53 : Cx
-  G53 = patched ((9, row14) ∷ (10, row17) ∷ (11, row20) ∷ (14, row1) ∷ (15, row1) ∷ (16, row23) ∷ (17, row26) ∷ (18, row29) ∷ (19, row32) ∷ (33, row33) ∷ (35, row33) ∷ (37, row33) ∷ (39, row35) ∷ (41, row35) ∷ (43, row35) ∷ []) ((6, off) ∷ (7, off) ∷ (8, off) ∷ (13, alive) ∷ (14, alive) ∷ (15, alive) ∷ (16, alive) ∷ (17, alive) ∷ (18, alive) ∷ []) G0
+  G53 = patched ((9, row14 13) ∷ (10, row17 14) ∷ (11, row20 15) ∷ (14, row1) ∷ (15, row1) ∷ (16, row23 16) ∷ (17, row26 17) ∷ (18, row29 18) ∷ (19, row32) ∷ (33, row33) ∷ (35, row33) ∷ (37, row33) ∷ (39, row35) ∷ (41, row35) ∷ (43, row35) ∷ []) ((6, off) ∷ (7, off) ∷ (8, off) ∷ (13, alive) ∷ (14, alive) ∷ (15, alive) ∷ (16, alive) ∷ (17, alive) ∷ (18, alive) ∷ []) G0
 
   abbrev pub G57 : Cx
-  G57 = patched ((10, row17) ∷ (11, row20) ∷ (14, row1) ∷ (15, row1) ∷ (16, row23) ∷ (17, row26) ∷ (18, row29) ∷ (19, row32) ∷ (35, row33) ∷ (37, row33) ∷ (39, row35) ∷ (41, row35) ∷ (43, row35) ∷ []) ((7, off) ∷ (8, off) ∷ (14, alive) ∷ (15, alive) ∷ (16, alive) ∷ (17, alive) ∷ (18, alive) ∷ []) G0
+  G57 = patched ((10, row17 14) ∷ (11, row20 15) ∷ (14, row1) ∷ (15, row1) ∷ (16, row23 16) ∷ (17, row26 17) ∷ (18, row29 18) ∷ (19, row32) ∷ (35, row33) ∷ (37, row33) ∷ (39, row35) ∷ (41, row35) ∷ (43, row35) ∷ []) ((7, off) ∷ (8, off) ∷ (14, alive) ∷ (15, alive) ∷ (16, alive) ∷ (17, alive) ∷ (18, alive) ∷ []) G0
 
   abbrev pub G61 : Cx
-  G61 = patched ((11, row20) ∷ (14, row1) ∷ (15, row1) ∷ (16, row23) ∷ (17, row26) ∷ (18, row29) ∷ (19, row32) ∷ (37, row33) ∷ (39, row35) ∷ (41, row35) ∷ (43, row35) ∷ []) ((8, off) ∷ (15, alive) ∷ (16, alive) ∷ (17, alive) ∷ (18, alive) ∷ []) G0
+  G61 = patched ((11, row20 15) ∷ (14, row1) ∷ (15, row1) ∷ (16, row23 16) ∷ (17, row26 17) ∷ (18, row29 18) ∷ (19, row32) ∷ (37, row33) ∷ (39, row35) ∷ (41, row35) ∷ (43, row35) ∷ []) ((8, off) ∷ (15, alive) ∷ (16, alive) ∷ (17, alive) ∷ (18, alive) ∷ []) G0
 
   abbrev pub G65 : Cx
-  G65 = patched ((14, row1) ∷ (15, row1) ∷ (16, row23) ∷ (17, row26) ∷ (18, row29) ∷ (19, row32) ∷ (39, row35) ∷ (41, row35) ∷ (43, row35) ∷ []) ((16, alive) ∷ (17, alive) ∷ (18, alive) ∷ []) G0
+  G65 = patched ((14, row1) ∷ (15, row1) ∷ (16, row23 16) ∷ (17, row26 17) ∷ (18, row29 18) ∷ (19, row32) ∷ (39, row35) ∷ (41, row35) ∷ (43, row35) ∷ []) ((16, alive) ∷ (17, alive) ∷ (18, alive) ∷ []) G0
 
   abbrev pub G68 : Cx
-  G68 = patched ((14, row1) ∷ (15, row1) ∷ (16, row3) ∷ (17, row26) ∷ (18, row29) ∷ (19, row32) ∷ (41, row35) ∷ (43, row35) ∷ []) ((17, alive) ∷ (18, alive) ∷ []) G0
+  G68 = patched ((14, row1) ∷ (15, row1) ∷ (16, row3 256) ∷ (17, row26 17) ∷ (18, row29 18) ∷ (19, row32) ∷ (41, row35) ∷ (43, row35) ∷ []) ((17, alive) ∷ (18, alive) ∷ []) G0
 
   abbrev pub G71 : Cx
-  G71 = patched ((14, row1) ∷ (15, row1) ∷ (16, row3) ∷ (17, row5) ∷ (18, row29) ∷ (19, row32) ∷ (43, row35) ∷ []) ((18, alive) ∷ []) G0
+  G71 = patched ((14, row1) ∷ (15, row1) ∷ (16, row3 256) ∷ (17, row3 1024) ∷ (18, row29 18) ∷ (19, row32) ∷ (43, row35) ∷ []) ((18, alive) ∷ []) G0
 
   abbrev pub G74 : Cx
-  G74 = patched ((14, row1) ∷ (15, row1) ∷ (16, row3) ∷ (17, row5) ∷ (18, row7) ∷ (19, row32) ∷ []) ([]) G0
+  G74 = patched ((14, row1) ∷ (15, row1) ∷ (16, row3 256) ∷ (17, row3 1024) ∷ (18, row3 2304) ∷ (19, row32) ∷ []) ([]) G0
 
   abbrev pub G75 : Cx
-  G75 = patched ((14, row1) ∷ (15, row1) ∷ (16, row3) ∷ (17, row5) ∷ (18, row7) ∷ (19, row37) ∷ []) ([]) G0
+  G75 = patched ((14, row1) ∷ (15, row1) ∷ (16, row3 256) ∷ (17, row3 1024) ∷ (18, row3 2304) ∷ (19, row37 0) ∷ []) ([]) G0
 
   abbrev pub G79 : Cx
-  G79 = patched ((14, row1) ∷ (15, row1) ∷ (19, row37) ∷ []) ([]) G0
+  G79 = patched ((14, row1) ∷ (15, row1) ∷ (19, row37 0) ∷ []) ([]) G0
 
   abbrev pub G82 : Cx
   G82 = patched ((14, row1) ∷ (15, row1) ∷ (20, row1) ∷ (21, row1) ∷ []) ([]) G0
@@ -371,139 +254,139 @@ module _ (κs : Lfts 11) (qs : Shares 11) where
   G87 = patched ((14, row1) ∷ (15, row1) ∷ (44, row38) ∷ []) ([]) G0
 
   abbrev pub G89 : Cx
-  G89 = patched ((14, row1) ∷ (15, row1) ∷ (16, row3) ∷ (17, row5) ∷ (18, row7) ∷ (19, row39) ∷ []) ([]) G0
+  G89 = patched ((14, row1) ∷ (15, row1) ∷ (16, row3 256) ∷ (17, row3 1024) ∷ (18, row3 2304) ∷ (19, row37 1) ∷ []) ([]) G0
 
   abbrev pub G93 : Cx
-  G93 = patched ((14, row1) ∷ (15, row1) ∷ (16, row3) ∷ (17, row5) ∷ (18, row7) ∷ (22, row1) ∷ (23, row1) ∷ []) ([]) G0
+  G93 = patched ((14, row1) ∷ (15, row1) ∷ (16, row3 256) ∷ (17, row3 1024) ∷ (18, row3 2304) ∷ (22, row1) ∷ (23, row1) ∷ []) ([]) G0
 
   abbrev pub G96 : Cx
-  G96 = patched ((14, row1) ∷ (15, row1) ∷ (16, row3) ∷ (17, row5) ∷ (18, row7) ∷ (22, row1) ∷ (23, row1) ∷ (24, row1) ∷ (25, row1) ∷ (46, row1) ∷ []) ([]) G0
+  G96 = patched ((14, row1) ∷ (15, row1) ∷ (16, row3 256) ∷ (17, row3 1024) ∷ (18, row3 2304) ∷ (22, row1) ∷ (23, row1) ∷ (24, row1) ∷ (25, row1) ∷ (46, row1) ∷ []) ([]) G0
 
   abbrev pub G99 : Cx
-  G99 = patched ((14, row1) ∷ (15, row1) ∷ (16, row3) ∷ (17, row5) ∷ (18, row7) ∷ (22, row1) ∷ (23, row1) ∷ (24, row1) ∷ (25, row1) ∷ (26, row40) ∷ (47, row1) ∷ []) ([]) G0
+  G99 = patched ((14, row1) ∷ (15, row1) ∷ (16, row3 256) ∷ (17, row3 1024) ∷ (18, row3 2304) ∷ (22, row1) ∷ (23, row1) ∷ (24, row1) ∷ (25, row1) ∷ (26, row40) ∷ (47, row1) ∷ []) ([]) G0
 
   abbrev pub G100 : Cx
-  G100 = patched ((14, row1) ∷ (15, row1) ∷ (16, row3) ∷ (17, row5) ∷ (18, row7) ∷ (22, row1) ∷ (23, row1) ∷ (24, row1) ∷ (25, row1) ∷ (26, row40) ∷ []) ([]) G0
+  G100 = patched ((14, row1) ∷ (15, row1) ∷ (16, row3 256) ∷ (17, row3 1024) ∷ (18, row3 2304) ∷ (22, row1) ∷ (23, row1) ∷ (24, row1) ∷ (25, row1) ∷ (26, row40) ∷ []) ([]) G0
 
   abbrev pub G103 : Cx
-  G103 = patched ((12, row41) ∷ (14, row1) ∷ (15, row1) ∷ (16, row3) ∷ (17, row5) ∷ (18, row7) ∷ (22, row1) ∷ (23, row1) ∷ (24, row1) ∷ (25, row1) ∷ (26, row40) ∷ (50, row43) ∷ []) ((9, off) ∷ (19, alive) ∷ []) G0
+  G103 = patched ((12, row41 19) ∷ (14, row1) ∷ (15, row1) ∷ (16, row3 256) ∷ (17, row3 1024) ∷ (18, row3 2304) ∷ (22, row1) ∷ (23, row1) ∷ (24, row1) ∷ (25, row1) ∷ (26, row40) ∷ (50, row43 19) ∷ []) ((9, off) ∷ (19, alive) ∷ []) G0
 
   abbrev pub G106 : Cx
-  G106 = patched ((7, row44) ∷ (12, row41) ∷ (14, row1) ∷ (15, row1) ∷ (16, row3) ∷ (17, row5) ∷ (18, row7) ∷ (22, row1) ∷ (23, row1) ∷ (24, row1) ∷ (25, row1) ∷ (26, row40) ∷ (50, row43) ∷ (52, row46) ∷ []) ((4, off) ∷ (9, off) ∷ (19, alive) ∷ (20, alive) ∷ []) G0
+  G106 = patched ((7, row44) ∷ (12, row41 19) ∷ (14, row1) ∷ (15, row1) ∷ (16, row3 256) ∷ (17, row3 1024) ∷ (18, row3 2304) ∷ (22, row1) ∷ (23, row1) ∷ (24, row1) ∷ (25, row1) ∷ (26, row40) ∷ (50, row43 19) ∷ (52, row46 20) ∷ []) ((4, off) ∷ (9, off) ∷ (19, alive) ∷ (20, alive) ∷ []) G0
 
   abbrev pub G109 : Cx
-  G109 = patched ((7, row44) ∷ (9, row47) ∷ (12, row41) ∷ (14, row1) ∷ (15, row1) ∷ (16, row3) ∷ (17, row5) ∷ (18, row7) ∷ (22, row1) ∷ (23, row1) ∷ (24, row1) ∷ (25, row1) ∷ (26, row40) ∷ (50, row43) ∷ (52, row46) ∷ (54, row49) ∷ []) ((4, off) ∷ (6, off) ∷ (9, off) ∷ (19, alive) ∷ (20, alive) ∷ (21, alive) ∷ []) G0
+  G109 = patched ((7, row44) ∷ (9, row47) ∷ (12, row41 19) ∷ (14, row1) ∷ (15, row1) ∷ (16, row3 256) ∷ (17, row3 1024) ∷ (18, row3 2304) ∷ (22, row1) ∷ (23, row1) ∷ (24, row1) ∷ (25, row1) ∷ (26, row40) ∷ (50, row43 19) ∷ (52, row46 20) ∷ (54, row46 21) ∷ []) ((4, off) ∷ (6, off) ∷ (9, off) ∷ (19, alive) ∷ (20, alive) ∷ (21, alive) ∷ []) G0
 
   abbrev pub G110 : Cx
-  G110 = patched ((7, row44) ∷ (9, row47) ∷ (12, row41) ∷ (14, row1) ∷ (15, row1) ∷ (16, row3) ∷ (17, row5) ∷ (18, row7) ∷ (22, row1) ∷ (23, row1) ∷ (24, row1) ∷ (25, row1) ∷ (26, row40) ∷ (48, row50) ∷ (50, row51) ∷ (52, row46) ∷ (54, row49) ∷ []) ((4, off) ∷ (6, off) ∷ (9, off) ∷ (19, alive) ∷ (20, alive) ∷ (21, alive) ∷ []) G0
+  G110 = patched ((7, row44) ∷ (9, row47) ∷ (12, row41 19) ∷ (14, row1) ∷ (15, row1) ∷ (16, row3 256) ∷ (17, row3 1024) ∷ (18, row3 2304) ∷ (22, row1) ∷ (23, row1) ∷ (24, row1) ∷ (25, row1) ∷ (26, row40) ∷ (48, row50) ∷ (50, row51) ∷ (52, row46 20) ∷ (54, row46 21) ∷ []) ((4, off) ∷ (6, off) ∷ (9, off) ∷ (19, alive) ∷ (20, alive) ∷ (21, alive) ∷ []) G0
 
   abbrev pub G113 : Cx
-  G113 = patched ((7, row44) ∷ (9, row47) ∷ (12, row41) ∷ (14, row1) ∷ (15, row1) ∷ (16, row3) ∷ (17, row5) ∷ (18, row7) ∷ (22, row1) ∷ (23, row1) ∷ (24, row1) ∷ (25, row1) ∷ (26, row40) ∷ (50, row51) ∷ []) ((4, off) ∷ (6, off) ∷ (9, off) ∷ (19, alive) ∷ (20, alive) ∷ (21, alive) ∷ []) G0
+  G113 = patched ((7, row44) ∷ (9, row47) ∷ (12, row41 19) ∷ (14, row1) ∷ (15, row1) ∷ (16, row3 256) ∷ (17, row3 1024) ∷ (18, row3 2304) ∷ (22, row1) ∷ (23, row1) ∷ (24, row1) ∷ (25, row1) ∷ (26, row40) ∷ (50, row51) ∷ []) ((4, off) ∷ (6, off) ∷ (9, off) ∷ (19, alive) ∷ (20, alive) ∷ (21, alive) ∷ []) G0
 
   abbrev pub G116 : Cx
-  G116 = patched ((7, row44) ∷ (9, row47) ∷ (14, row1) ∷ (15, row1) ∷ (16, row3) ∷ (17, row5) ∷ (18, row7) ∷ (22, row1) ∷ (23, row1) ∷ (24, row1) ∷ (25, row1) ∷ (26, row40) ∷ []) ((4, off) ∷ (6, off) ∷ (20, alive) ∷ (21, alive) ∷ []) G0
+  G116 = patched ((7, row44) ∷ (9, row47) ∷ (14, row1) ∷ (15, row1) ∷ (16, row3 256) ∷ (17, row3 1024) ∷ (18, row3 2304) ∷ (22, row1) ∷ (23, row1) ∷ (24, row1) ∷ (25, row1) ∷ (26, row40) ∷ []) ((4, off) ∷ (6, off) ∷ (20, alive) ∷ (21, alive) ∷ []) G0
 
   abbrev pub G119 : Cx
-  G119 = patched ((9, row47) ∷ (14, row1) ∷ (15, row1) ∷ (16, row3) ∷ (17, row5) ∷ (18, row7) ∷ (22, row1) ∷ (23, row1) ∷ (24, row1) ∷ (25, row1) ∷ (26, row40) ∷ []) ((6, off) ∷ (21, alive) ∷ []) G0
+  G119 = patched ((9, row47) ∷ (14, row1) ∷ (15, row1) ∷ (16, row3 256) ∷ (17, row3 1024) ∷ (18, row3 2304) ∷ (22, row1) ∷ (23, row1) ∷ (24, row1) ∷ (25, row1) ∷ (26, row40) ∷ []) ((6, off) ∷ (21, alive) ∷ []) G0
 
   abbrev pub G125 : Cx
-  G125 = patched ((7, row52) ∷ (14, row1) ∷ (15, row1) ∷ (16, row3) ∷ (17, row5) ∷ (18, row7) ∷ (22, row1) ∷ (23, row1) ∷ (24, row1) ∷ (25, row1) ∷ (26, row40) ∷ (56, row54) ∷ []) ((4, off) ∷ (22, alive) ∷ []) G0
+  G125 = patched ((7, row8 22) ∷ (14, row1) ∷ (15, row1) ∷ (16, row3 256) ∷ (17, row3 1024) ∷ (18, row3 2304) ∷ (22, row1) ∷ (23, row1) ∷ (24, row1) ∷ (25, row1) ∷ (26, row40) ∷ (56, row10 22) ∷ []) ((4, off) ∷ (22, alive) ∷ []) G0
 
   abbrev pub G128 : Cx
-  G128 = patched ((7, row52) ∷ (8, row55) ∷ (14, row1) ∷ (15, row1) ∷ (16, row3) ∷ (17, row5) ∷ (18, row7) ∷ (22, row1) ∷ (23, row1) ∷ (24, row1) ∷ (25, row1) ∷ (26, row40) ∷ (56, row54) ∷ (58, row57) ∷ []) ((4, off) ∷ (5, off) ∷ (22, alive) ∷ (23, alive) ∷ []) G0
+  G128 = patched ((7, row8 22) ∷ (8, row11 23) ∷ (14, row1) ∷ (15, row1) ∷ (16, row3 256) ∷ (17, row3 1024) ∷ (18, row3 2304) ∷ (22, row1) ∷ (23, row1) ∷ (24, row1) ∷ (25, row1) ∷ (26, row40) ∷ (56, row10 22) ∷ (58, row13 23) ∷ []) ((4, off) ∷ (5, off) ∷ (22, alive) ∷ (23, alive) ∷ []) G0
 
   abbrev pub G131 : Cx
-  G131 = patched ((7, row52) ∷ (8, row55) ∷ (9, row58) ∷ (14, row1) ∷ (15, row1) ∷ (16, row3) ∷ (17, row5) ∷ (18, row7) ∷ (22, row1) ∷ (23, row1) ∷ (24, row1) ∷ (25, row1) ∷ (26, row40) ∷ (56, row54) ∷ (58, row57) ∷ (60, row60) ∷ []) ((4, off) ∷ (5, off) ∷ (6, off) ∷ (22, alive) ∷ (23, alive) ∷ (24, alive) ∷ []) G0
+  G131 = patched ((7, row8 22) ∷ (8, row11 23) ∷ (9, row14 24) ∷ (14, row1) ∷ (15, row1) ∷ (16, row3 256) ∷ (17, row3 1024) ∷ (18, row3 2304) ∷ (22, row1) ∷ (23, row1) ∷ (24, row1) ∷ (25, row1) ∷ (26, row40) ∷ (56, row10 22) ∷ (58, row13 23) ∷ (60, row10 24) ∷ []) ((4, off) ∷ (5, off) ∷ (6, off) ∷ (22, alive) ∷ (23, alive) ∷ (24, alive) ∷ []) G0
 
   abbrev pub G134 : Cx
-  G134 = patched ((7, row52) ∷ (8, row55) ∷ (9, row58) ∷ (10, row61) ∷ (14, row1) ∷ (15, row1) ∷ (16, row3) ∷ (17, row5) ∷ (18, row7) ∷ (22, row1) ∷ (23, row1) ∷ (24, row1) ∷ (25, row1) ∷ (26, row40) ∷ (56, row54) ∷ (58, row57) ∷ (60, row60) ∷ (62, row63) ∷ []) ((4, off) ∷ (5, off) ∷ (6, off) ∷ (7, off) ∷ (22, alive) ∷ (23, alive) ∷ (24, alive) ∷ (25, alive) ∷ []) G0
+  G134 = patched ((7, row8 22) ∷ (8, row11 23) ∷ (9, row14 24) ∷ (10, row17 25) ∷ (14, row1) ∷ (15, row1) ∷ (16, row3 256) ∷ (17, row3 1024) ∷ (18, row3 2304) ∷ (22, row1) ∷ (23, row1) ∷ (24, row1) ∷ (25, row1) ∷ (26, row40) ∷ (56, row10 22) ∷ (58, row13 23) ∷ (60, row10 24) ∷ (62, row10 25) ∷ []) ((4, off) ∷ (5, off) ∷ (6, off) ∷ (7, off) ∷ (22, alive) ∷ (23, alive) ∷ (24, alive) ∷ (25, alive) ∷ []) G0
 
   abbrev pub G137 : Cx
-  G137 = patched ((7, row52) ∷ (8, row55) ∷ (9, row58) ∷ (10, row61) ∷ (11, row64) ∷ (14, row1) ∷ (15, row1) ∷ (16, row3) ∷ (17, row5) ∷ (18, row7) ∷ (22, row1) ∷ (23, row1) ∷ (24, row1) ∷ (25, row1) ∷ (26, row40) ∷ (56, row54) ∷ (58, row57) ∷ (60, row60) ∷ (62, row63) ∷ (64, row66) ∷ []) ((4, off) ∷ (5, off) ∷ (6, off) ∷ (7, off) ∷ (8, off) ∷ (22, alive) ∷ (23, alive) ∷ (24, alive) ∷ (25, alive) ∷ (26, alive) ∷ []) G0
+  G137 = patched ((7, row8 22) ∷ (8, row11 23) ∷ (9, row14 24) ∷ (10, row17 25) ∷ (11, row20 26) ∷ (14, row1) ∷ (15, row1) ∷ (16, row3 256) ∷ (17, row3 1024) ∷ (18, row3 2304) ∷ (22, row1) ∷ (23, row1) ∷ (24, row1) ∷ (25, row1) ∷ (26, row40) ∷ (56, row10 22) ∷ (58, row13 23) ∷ (60, row10 24) ∷ (62, row10 25) ∷ (64, row10 26) ∷ []) ((4, off) ∷ (5, off) ∷ (6, off) ∷ (7, off) ∷ (8, off) ∷ (22, alive) ∷ (23, alive) ∷ (24, alive) ∷ (25, alive) ∷ (26, alive) ∷ []) G0
 
   abbrev pub G140 : Cx
-  G140 = patched ((7, row52) ∷ (8, row55) ∷ (9, row58) ∷ (10, row61) ∷ (11, row64) ∷ (12, row67) ∷ (14, row1) ∷ (15, row1) ∷ (16, row3) ∷ (17, row5) ∷ (18, row7) ∷ (22, row1) ∷ (23, row1) ∷ (24, row1) ∷ (25, row1) ∷ (26, row40) ∷ (56, row54) ∷ (58, row57) ∷ (60, row60) ∷ (62, row63) ∷ (64, row66) ∷ (66, row69) ∷ []) ((4, off) ∷ (5, off) ∷ (6, off) ∷ (7, off) ∷ (8, off) ∷ (9, off) ∷ (22, alive) ∷ (23, alive) ∷ (24, alive) ∷ (25, alive) ∷ (26, alive) ∷ (27, alive) ∷ []) G0
+  G140 = patched ((7, row8 22) ∷ (8, row11 23) ∷ (9, row14 24) ∷ (10, row17 25) ∷ (11, row20 26) ∷ (12, row41 27) ∷ (14, row1) ∷ (15, row1) ∷ (16, row3 256) ∷ (17, row3 1024) ∷ (18, row3 2304) ∷ (22, row1) ∷ (23, row1) ∷ (24, row1) ∷ (25, row1) ∷ (26, row40) ∷ (56, row10 22) ∷ (58, row13 23) ∷ (60, row10 24) ∷ (62, row10 25) ∷ (64, row10 26) ∷ (66, row43 27) ∷ []) ((4, off) ∷ (5, off) ∷ (6, off) ∷ (7, off) ∷ (8, off) ∷ (9, off) ∷ (22, alive) ∷ (23, alive) ∷ (24, alive) ∷ (25, alive) ∷ (26, alive) ∷ (27, alive) ∷ []) G0
 
   abbrev pub G143 : Cx
-  G143 = patched ((7, row52) ∷ (8, row55) ∷ (9, row58) ∷ (10, row61) ∷ (11, row64) ∷ (12, row67) ∷ (14, row1) ∷ (15, row1) ∷ (16, row70) ∷ (17, row5) ∷ (18, row7) ∷ (22, row1) ∷ (23, row1) ∷ (24, row1) ∷ (25, row1) ∷ (26, row40) ∷ (56, row54) ∷ (58, row57) ∷ (60, row60) ∷ (62, row63) ∷ (64, row66) ∷ (66, row69) ∷ (68, row72) ∷ []) ((4, off) ∷ (5, off) ∷ (6, off) ∷ (7, off) ∷ (8, off) ∷ (9, off) ∷ (22, alive) ∷ (23, alive) ∷ (24, alive) ∷ (25, alive) ∷ (26, alive) ∷ (27, alive) ∷ (28, alive) ∷ []) G0
+  G143 = patched ((7, row8 22) ∷ (8, row11 23) ∷ (9, row14 24) ∷ (10, row17 25) ∷ (11, row20 26) ∷ (12, row41 27) ∷ (14, row1) ∷ (15, row1) ∷ (16, row23 28) ∷ (17, row3 1024) ∷ (18, row3 2304) ∷ (22, row1) ∷ (23, row1) ∷ (24, row1) ∷ (25, row1) ∷ (26, row40) ∷ (56, row10 22) ∷ (58, row13 23) ∷ (60, row10 24) ∷ (62, row10 25) ∷ (64, row10 26) ∷ (66, row43 27) ∷ (68, row25 28) ∷ []) ((4, off) ∷ (5, off) ∷ (6, off) ∷ (7, off) ∷ (8, off) ∷ (9, off) ∷ (22, alive) ∷ (23, alive) ∷ (24, alive) ∷ (25, alive) ∷ (26, alive) ∷ (27, alive) ∷ (28, alive) ∷ []) G0
 
   abbrev pub G146 : Cx
-  G146 = patched ((7, row52) ∷ (8, row55) ∷ (9, row58) ∷ (10, row61) ∷ (11, row64) ∷ (12, row67) ∷ (14, row1) ∷ (15, row1) ∷ (16, row70) ∷ (17, row73) ∷ (18, row7) ∷ (22, row1) ∷ (23, row1) ∷ (24, row1) ∷ (25, row1) ∷ (26, row40) ∷ (56, row54) ∷ (58, row57) ∷ (60, row60) ∷ (62, row63) ∷ (64, row66) ∷ (66, row69) ∷ (68, row72) ∷ (70, row75) ∷ []) ((4, off) ∷ (5, off) ∷ (6, off) ∷ (7, off) ∷ (8, off) ∷ (9, off) ∷ (22, alive) ∷ (23, alive) ∷ (24, alive) ∷ (25, alive) ∷ (26, alive) ∷ (27, alive) ∷ (28, alive) ∷ (29, alive) ∷ []) G0
+  G146 = patched ((7, row8 22) ∷ (8, row11 23) ∷ (9, row14 24) ∷ (10, row17 25) ∷ (11, row20 26) ∷ (12, row41 27) ∷ (14, row1) ∷ (15, row1) ∷ (16, row23 28) ∷ (17, row26 29) ∷ (18, row3 2304) ∷ (22, row1) ∷ (23, row1) ∷ (24, row1) ∷ (25, row1) ∷ (26, row40) ∷ (56, row10 22) ∷ (58, row13 23) ∷ (60, row10 24) ∷ (62, row10 25) ∷ (64, row10 26) ∷ (66, row43 27) ∷ (68, row25 28) ∷ (70, row25 29) ∷ []) ((4, off) ∷ (5, off) ∷ (6, off) ∷ (7, off) ∷ (8, off) ∷ (9, off) ∷ (22, alive) ∷ (23, alive) ∷ (24, alive) ∷ (25, alive) ∷ (26, alive) ∷ (27, alive) ∷ (28, alive) ∷ (29, alive) ∷ []) G0
 
   abbrev pub G149 : Cx
-  G149 = patched ((7, row52) ∷ (8, row55) ∷ (9, row58) ∷ (10, row61) ∷ (11, row64) ∷ (12, row67) ∷ (14, row1) ∷ (15, row1) ∷ (16, row70) ∷ (17, row73) ∷ (18, row76) ∷ (22, row1) ∷ (23, row1) ∷ (24, row1) ∷ (25, row1) ∷ (26, row40) ∷ (56, row54) ∷ (58, row57) ∷ (60, row60) ∷ (62, row63) ∷ (64, row66) ∷ (66, row69) ∷ (68, row72) ∷ (70, row75) ∷ (72, row78) ∷ []) ((4, off) ∷ (5, off) ∷ (6, off) ∷ (7, off) ∷ (8, off) ∷ (9, off) ∷ (22, alive) ∷ (23, alive) ∷ (24, alive) ∷ (25, alive) ∷ (26, alive) ∷ (27, alive) ∷ (28, alive) ∷ (29, alive) ∷ (30, alive) ∷ []) G0
+  G149 = patched ((7, row8 22) ∷ (8, row11 23) ∷ (9, row14 24) ∷ (10, row17 25) ∷ (11, row20 26) ∷ (12, row41 27) ∷ (14, row1) ∷ (15, row1) ∷ (16, row23 28) ∷ (17, row26 29) ∷ (18, row29 30) ∷ (22, row1) ∷ (23, row1) ∷ (24, row1) ∷ (25, row1) ∷ (26, row40) ∷ (56, row10 22) ∷ (58, row13 23) ∷ (60, row10 24) ∷ (62, row10 25) ∷ (64, row10 26) ∷ (66, row43 27) ∷ (68, row25 28) ∷ (70, row25 29) ∷ (72, row25 30) ∷ []) ((4, off) ∷ (5, off) ∷ (6, off) ∷ (7, off) ∷ (8, off) ∷ (9, off) ∷ (22, alive) ∷ (23, alive) ∷ (24, alive) ∷ (25, alive) ∷ (26, alive) ∷ (27, alive) ∷ (28, alive) ∷ (29, alive) ∷ (30, alive) ∷ []) G0
 
   abbrev pub G150 : Cx
-  G150 = patched ((7, row52) ∷ (8, row55) ∷ (9, row58) ∷ (10, row61) ∷ (11, row64) ∷ (12, row67) ∷ (14, row1) ∷ (15, row1) ∷ (16, row70) ∷ (17, row73) ∷ (18, row76) ∷ (22, row1) ∷ (23, row1) ∷ (24, row1) ∷ (25, row1) ∷ (26, row79) ∷ (56, row54) ∷ (58, row57) ∷ (60, row60) ∷ (62, row63) ∷ (64, row66) ∷ (66, row69) ∷ (68, row72) ∷ (70, row75) ∷ (72, row78) ∷ []) ((4, off) ∷ (5, off) ∷ (6, off) ∷ (7, off) ∷ (8, off) ∷ (9, off) ∷ (22, alive) ∷ (23, alive) ∷ (24, alive) ∷ (25, alive) ∷ (26, alive) ∷ (27, alive) ∷ (28, alive) ∷ (29, alive) ∷ (30, alive) ∷ []) G0
+  G150 = patched ((7, row8 22) ∷ (8, row11 23) ∷ (9, row14 24) ∷ (10, row17 25) ∷ (11, row20 26) ∷ (12, row41 27) ∷ (14, row1) ∷ (15, row1) ∷ (16, row23 28) ∷ (17, row26 29) ∷ (18, row29 30) ∷ (22, row1) ∷ (23, row1) ∷ (24, row1) ∷ (25, row1) ∷ (26, row79) ∷ (56, row10 22) ∷ (58, row13 23) ∷ (60, row10 24) ∷ (62, row10 25) ∷ (64, row10 26) ∷ (66, row43 27) ∷ (68, row25 28) ∷ (70, row25 29) ∷ (72, row25 30) ∷ []) ((4, off) ∷ (5, off) ∷ (6, off) ∷ (7, off) ∷ (8, off) ∷ (9, off) ∷ (22, alive) ∷ (23, alive) ∷ (24, alive) ∷ (25, alive) ∷ (26, alive) ∷ (27, alive) ∷ (28, alive) ∷ (29, alive) ∷ (30, alive) ∷ []) G0
 
   abbrev pub G151 : Cx
-  G151 = patched ((7, row52) ∷ (8, row55) ∷ (9, row58) ∷ (10, row61) ∷ (11, row64) ∷ (12, row67) ∷ (14, row1) ∷ (15, row1) ∷ (16, row70) ∷ (17, row73) ∷ (18, row76) ∷ (22, row1) ∷ (23, row1) ∷ (24, row1) ∷ (25, row1) ∷ (26, row79) ∷ (27, row36) ∷ (56, row33) ∷ (58, row34) ∷ (60, row33) ∷ (62, row33) ∷ (64, row33) ∷ (66, row51) ∷ (68, row35) ∷ (70, row35) ∷ (72, row35) ∷ []) ((4, off) ∷ (5, off) ∷ (6, off) ∷ (7, off) ∷ (8, off) ∷ (9, off) ∷ (22, alive) ∷ (23, alive) ∷ (24, alive) ∷ (25, alive) ∷ (26, alive) ∷ (27, alive) ∷ (28, alive) ∷ (29, alive) ∷ (30, alive) ∷ []) G0
+  G151 = patched ((7, row8 22) ∷ (8, row11 23) ∷ (9, row14 24) ∷ (10, row17 25) ∷ (11, row20 26) ∷ (12, row41 27) ∷ (14, row1) ∷ (15, row1) ∷ (16, row23 28) ∷ (17, row26 29) ∷ (18, row29 30) ∷ (22, row1) ∷ (23, row1) ∷ (24, row1) ∷ (25, row1) ∷ (26, row79) ∷ (27, row36) ∷ (56, row33) ∷ (58, row34) ∷ (60, row33) ∷ (62, row33) ∷ (64, row33) ∷ (66, row51) ∷ (68, row35) ∷ (70, row35) ∷ (72, row35) ∷ []) ((4, off) ∷ (5, off) ∷ (6, off) ∷ (7, off) ∷ (8, off) ∷ (9, off) ∷ (22, alive) ∷ (23, alive) ∷ (24, alive) ∷ (25, alive) ∷ (26, alive) ∷ (27, alive) ∷ (28, alive) ∷ (29, alive) ∷ (30, alive) ∷ []) G0
 
   abbrev pub G154 : Cx
-  G154 = patched ((8, row55) ∷ (9, row58) ∷ (10, row61) ∷ (11, row64) ∷ (12, row67) ∷ (14, row1) ∷ (15, row1) ∷ (16, row70) ∷ (17, row73) ∷ (18, row76) ∷ (22, row1) ∷ (23, row1) ∷ (24, row1) ∷ (25, row1) ∷ (27, row36) ∷ (58, row34) ∷ (60, row33) ∷ (62, row33) ∷ (64, row33) ∷ (66, row51) ∷ (68, row35) ∷ (70, row35) ∷ (72, row35) ∷ []) ((5, off) ∷ (6, off) ∷ (7, off) ∷ (8, off) ∷ (9, off) ∷ (22, dead) ∷ (23, alive) ∷ (24, alive) ∷ (25, alive) ∷ (26, alive) ∷ (27, alive) ∷ (28, alive) ∷ (29, alive) ∷ (30, alive) ∷ []) G0
+  G154 = patched ((8, row11 23) ∷ (9, row14 24) ∷ (10, row17 25) ∷ (11, row20 26) ∷ (12, row41 27) ∷ (14, row1) ∷ (15, row1) ∷ (16, row23 28) ∷ (17, row26 29) ∷ (18, row29 30) ∷ (22, row1) ∷ (23, row1) ∷ (24, row1) ∷ (25, row1) ∷ (27, row36) ∷ (58, row34) ∷ (60, row33) ∷ (62, row33) ∷ (64, row33) ∷ (66, row51) ∷ (68, row35) ∷ (70, row35) ∷ (72, row35) ∷ []) ((5, off) ∷ (6, off) ∷ (7, off) ∷ (8, off) ∷ (9, off) ∷ (22, dead) ∷ (23, alive) ∷ (24, alive) ∷ (25, alive) ∷ (26, alive) ∷ (27, alive) ∷ (28, alive) ∷ (29, alive) ∷ (30, alive) ∷ []) G0
 
   abbrev pub G158 : Cx
-  G158 = patched ((9, row58) ∷ (10, row61) ∷ (11, row64) ∷ (12, row67) ∷ (14, row1) ∷ (15, row1) ∷ (16, row70) ∷ (17, row73) ∷ (18, row76) ∷ (22, row1) ∷ (23, row1) ∷ (24, row1) ∷ (25, row1) ∷ (27, row36) ∷ (60, row33) ∷ (62, row33) ∷ (64, row33) ∷ (66, row51) ∷ (68, row35) ∷ (70, row35) ∷ (72, row35) ∷ []) ((6, off) ∷ (7, off) ∷ (8, off) ∷ (9, off) ∷ (23, dead) ∷ (24, alive) ∷ (25, alive) ∷ (26, alive) ∷ (27, alive) ∷ (28, alive) ∷ (29, alive) ∷ (30, alive) ∷ []) G0
+  G158 = patched ((9, row14 24) ∷ (10, row17 25) ∷ (11, row20 26) ∷ (12, row41 27) ∷ (14, row1) ∷ (15, row1) ∷ (16, row23 28) ∷ (17, row26 29) ∷ (18, row29 30) ∷ (22, row1) ∷ (23, row1) ∷ (24, row1) ∷ (25, row1) ∷ (27, row36) ∷ (60, row33) ∷ (62, row33) ∷ (64, row33) ∷ (66, row51) ∷ (68, row35) ∷ (70, row35) ∷ (72, row35) ∷ []) ((6, off) ∷ (7, off) ∷ (8, off) ∷ (9, off) ∷ (23, dead) ∷ (24, alive) ∷ (25, alive) ∷ (26, alive) ∷ (27, alive) ∷ (28, alive) ∷ (29, alive) ∷ (30, alive) ∷ []) G0
 
   abbrev pub G162 : Cx
-  G162 = patched ((10, row61) ∷ (11, row64) ∷ (12, row67) ∷ (14, row1) ∷ (15, row1) ∷ (16, row70) ∷ (17, row73) ∷ (18, row76) ∷ (22, row1) ∷ (23, row1) ∷ (24, row1) ∷ (25, row1) ∷ (27, row36) ∷ (62, row33) ∷ (64, row33) ∷ (66, row51) ∷ (68, row35) ∷ (70, row35) ∷ (72, row35) ∷ []) ((7, off) ∷ (8, off) ∷ (9, off) ∷ (24, dead) ∷ (25, alive) ∷ (26, alive) ∷ (27, alive) ∷ (28, alive) ∷ (29, alive) ∷ (30, alive) ∷ []) G0
+  G162 = patched ((10, row17 25) ∷ (11, row20 26) ∷ (12, row41 27) ∷ (14, row1) ∷ (15, row1) ∷ (16, row23 28) ∷ (17, row26 29) ∷ (18, row29 30) ∷ (22, row1) ∷ (23, row1) ∷ (24, row1) ∷ (25, row1) ∷ (27, row36) ∷ (62, row33) ∷ (64, row33) ∷ (66, row51) ∷ (68, row35) ∷ (70, row35) ∷ (72, row35) ∷ []) ((7, off) ∷ (8, off) ∷ (9, off) ∷ (24, dead) ∷ (25, alive) ∷ (26, alive) ∷ (27, alive) ∷ (28, alive) ∷ (29, alive) ∷ (30, alive) ∷ []) G0
 
   abbrev pub G166 : Cx
-  G166 = patched ((11, row64) ∷ (12, row67) ∷ (14, row1) ∷ (15, row1) ∷ (16, row70) ∷ (17, row73) ∷ (18, row76) ∷ (22, row1) ∷ (23, row1) ∷ (24, row1) ∷ (25, row1) ∷ (27, row36) ∷ (64, row33) ∷ (66, row51) ∷ (68, row35) ∷ (70, row35) ∷ (72, row35) ∷ []) ((8, off) ∷ (9, off) ∷ (25, dead) ∷ (26, alive) ∷ (27, alive) ∷ (28, alive) ∷ (29, alive) ∷ (30, alive) ∷ []) G0
+  G166 = patched ((11, row20 26) ∷ (12, row41 27) ∷ (14, row1) ∷ (15, row1) ∷ (16, row23 28) ∷ (17, row26 29) ∷ (18, row29 30) ∷ (22, row1) ∷ (23, row1) ∷ (24, row1) ∷ (25, row1) ∷ (27, row36) ∷ (64, row33) ∷ (66, row51) ∷ (68, row35) ∷ (70, row35) ∷ (72, row35) ∷ []) ((8, off) ∷ (9, off) ∷ (25, dead) ∷ (26, alive) ∷ (27, alive) ∷ (28, alive) ∷ (29, alive) ∷ (30, alive) ∷ []) G0
 
   abbrev pub G170 : Cx
-  G170 = patched ((12, row67) ∷ (14, row1) ∷ (15, row1) ∷ (16, row70) ∷ (17, row73) ∷ (18, row76) ∷ (22, row1) ∷ (23, row1) ∷ (24, row1) ∷ (25, row1) ∷ (27, row36) ∷ (66, row51) ∷ (68, row35) ∷ (70, row35) ∷ (72, row35) ∷ []) ((9, off) ∷ (26, dead) ∷ (27, alive) ∷ (28, alive) ∷ (29, alive) ∷ (30, alive) ∷ []) G0
+  G170 = patched ((12, row41 27) ∷ (14, row1) ∷ (15, row1) ∷ (16, row23 28) ∷ (17, row26 29) ∷ (18, row29 30) ∷ (22, row1) ∷ (23, row1) ∷ (24, row1) ∷ (25, row1) ∷ (27, row36) ∷ (66, row51) ∷ (68, row35) ∷ (70, row35) ∷ (72, row35) ∷ []) ((9, off) ∷ (26, dead) ∷ (27, alive) ∷ (28, alive) ∷ (29, alive) ∷ (30, alive) ∷ []) G0
 
   abbrev pub G174 : Cx
-  G174 = patched ((14, row1) ∷ (15, row1) ∷ (16, row70) ∷ (17, row73) ∷ (18, row76) ∷ (22, row1) ∷ (23, row1) ∷ (24, row1) ∷ (25, row1) ∷ (27, row36) ∷ (68, row35) ∷ (70, row35) ∷ (72, row35) ∷ []) ((27, dead) ∷ (28, alive) ∷ (29, alive) ∷ (30, alive) ∷ []) G0
+  G174 = patched ((14, row1) ∷ (15, row1) ∷ (16, row23 28) ∷ (17, row26 29) ∷ (18, row29 30) ∷ (22, row1) ∷ (23, row1) ∷ (24, row1) ∷ (25, row1) ∷ (27, row36) ∷ (68, row35) ∷ (70, row35) ∷ (72, row35) ∷ []) ((27, dead) ∷ (28, alive) ∷ (29, alive) ∷ (30, alive) ∷ []) G0
 
   abbrev pub G177 : Cx
-  G177 = patched ((14, row1) ∷ (15, row1) ∷ (16, row3) ∷ (17, row73) ∷ (18, row76) ∷ (22, row1) ∷ (23, row1) ∷ (24, row1) ∷ (25, row1) ∷ (27, row36) ∷ (70, row35) ∷ (72, row35) ∷ []) ((28, dead) ∷ (29, alive) ∷ (30, alive) ∷ []) G0
+  G177 = patched ((14, row1) ∷ (15, row1) ∷ (16, row3 256) ∷ (17, row26 29) ∷ (18, row29 30) ∷ (22, row1) ∷ (23, row1) ∷ (24, row1) ∷ (25, row1) ∷ (27, row36) ∷ (70, row35) ∷ (72, row35) ∷ []) ((28, dead) ∷ (29, alive) ∷ (30, alive) ∷ []) G0
 
   abbrev pub G180 : Cx
-  G180 = patched ((14, row1) ∷ (15, row1) ∷ (16, row3) ∷ (17, row5) ∷ (18, row76) ∷ (22, row1) ∷ (23, row1) ∷ (24, row1) ∷ (25, row1) ∷ (27, row36) ∷ (72, row35) ∷ []) ((29, dead) ∷ (30, alive) ∷ []) G0
+  G180 = patched ((14, row1) ∷ (15, row1) ∷ (16, row3 256) ∷ (17, row3 1024) ∷ (18, row29 30) ∷ (22, row1) ∷ (23, row1) ∷ (24, row1) ∷ (25, row1) ∷ (27, row36) ∷ (72, row35) ∷ []) ((29, dead) ∷ (30, alive) ∷ []) G0
 
   abbrev pub G183 : Cx
-  G183 = patched ((14, row1) ∷ (15, row1) ∷ (16, row3) ∷ (17, row5) ∷ (18, row7) ∷ (22, row1) ∷ (23, row1) ∷ (24, row1) ∷ (25, row1) ∷ (27, row36) ∷ []) ((30, dead) ∷ []) G0
+  G183 = patched ((14, row1) ∷ (15, row1) ∷ (16, row3 256) ∷ (17, row3 1024) ∷ (18, row3 2304) ∷ (22, row1) ∷ (23, row1) ∷ (24, row1) ∷ (25, row1) ∷ (27, row36) ∷ []) ((30, dead) ∷ []) G0
 
   abbrev pub G185 : Cx
-  G185 = patched ((14, row1) ∷ (15, row1) ∷ (16, row3) ∷ (17, row5) ∷ (22, row1) ∷ (23, row1) ∷ (24, row1) ∷ (25, row1) ∷ (27, row36) ∷ []) ([]) G0
+  G185 = patched ((14, row1) ∷ (15, row1) ∷ (16, row3 256) ∷ (17, row3 1024) ∷ (22, row1) ∷ (23, row1) ∷ (24, row1) ∷ (25, row1) ∷ (27, row36) ∷ []) ([]) G0
 
   abbrev pub G188 : Cx
-  G188 = patched ((14, row1) ∷ (15, row1) ∷ (16, row3) ∷ (17, row5) ∷ (22, row1) ∷ (23, row1) ∷ (24, row1) ∷ (25, row1) ∷ (27, row36) ∷ (46, row1) ∷ (47, row1) ∷ []) ((31, alive) ∷ []) G0
+  G188 = patched ((14, row1) ∷ (15, row1) ∷ (16, row3 256) ∷ (17, row3 1024) ∷ (22, row1) ∷ (23, row1) ∷ (24, row1) ∷ (25, row1) ∷ (27, row36) ∷ (46, row1) ∷ (47, row1) ∷ []) ((31, alive) ∷ []) G0
 
   abbrev pub G191 : Cx
-  G191 = patched ((14, row1) ∷ (15, row1) ∷ (16, row80) ∷ (17, row5) ∷ (22, row1) ∷ (23, row1) ∷ (24, row1) ∷ (25, row1) ∷ (27, row36) ∷ (46, row1) ∷ (47, row1) ∷ (74, row82) ∷ []) ((31, alive) ∷ (32, alive) ∷ []) G0
+  G191 = patched ((14, row1) ∷ (15, row1) ∷ (16, row80) ∷ (17, row3 1024) ∷ (22, row1) ∷ (23, row1) ∷ (24, row1) ∷ (25, row1) ∷ (27, row36) ∷ (46, row1) ∷ (47, row1) ∷ (74, row82 31) ∷ []) ((31, alive) ∷ (32, alive) ∷ []) G0
 
   abbrev pub G194 : Cx
-  G194 = patched ((14, row1) ∷ (15, row1) ∷ (16, row80) ∷ (17, row83) ∷ (22, row1) ∷ (23, row1) ∷ (24, row1) ∷ (25, row1) ∷ (27, row36) ∷ (46, row1) ∷ (47, row1) ∷ (74, row82) ∷ (76, row85) ∷ []) ((31, alive) ∷ (32, alive) ∷ (33, alive) ∷ []) G0
+  G194 = patched ((14, row1) ∷ (15, row1) ∷ (16, row80) ∷ (17, row83) ∷ (22, row1) ∷ (23, row1) ∷ (24, row1) ∷ (25, row1) ∷ (27, row36) ∷ (46, row1) ∷ (47, row1) ∷ (74, row82 31) ∷ (76, row82 32) ∷ []) ((31, alive) ∷ (32, alive) ∷ (33, alive) ∷ []) G0
 
   abbrev pub G197 : Cx
-  G197 = patched ((8, row86) ∷ (14, row1) ∷ (15, row1) ∷ (16, row80) ∷ (17, row83) ∷ (22, row1) ∷ (23, row1) ∷ (24, row1) ∷ (25, row1) ∷ (27, row36) ∷ (46, row1) ∷ (47, row1) ∷ (74, row82) ∷ (76, row85) ∷ (78, row88) ∷ []) ((5, off) ∷ (31, alive) ∷ (32, alive) ∷ (33, alive) ∷ (34, alive) ∷ []) G0
+  G197 = patched ((8, row11 33) ∷ (14, row1) ∷ (15, row1) ∷ (16, row80) ∷ (17, row83) ∷ (22, row1) ∷ (23, row1) ∷ (24, row1) ∷ (25, row1) ∷ (27, row36) ∷ (46, row1) ∷ (47, row1) ∷ (74, row82 31) ∷ (76, row82 32) ∷ (78, row13 33) ∷ []) ((5, off) ∷ (31, alive) ∷ (32, alive) ∷ (33, alive) ∷ (34, alive) ∷ []) G0
 
   abbrev pub G200 : Cx
-  G200 = patched ((8, row86) ∷ (9, row89) ∷ (14, row1) ∷ (15, row1) ∷ (16, row80) ∷ (17, row83) ∷ (22, row1) ∷ (23, row1) ∷ (24, row1) ∷ (25, row1) ∷ (27, row36) ∷ (46, row1) ∷ (47, row1) ∷ (74, row82) ∷ (76, row85) ∷ (78, row88) ∷ (80, row91) ∷ []) ((5, off) ∷ (6, off) ∷ (31, alive) ∷ (32, alive) ∷ (33, alive) ∷ (34, alive) ∷ (35, alive) ∷ []) G0
+  G200 = patched ((8, row11 33) ∷ (9, row14 34) ∷ (14, row1) ∷ (15, row1) ∷ (16, row80) ∷ (17, row83) ∷ (22, row1) ∷ (23, row1) ∷ (24, row1) ∷ (25, row1) ∷ (27, row36) ∷ (46, row1) ∷ (47, row1) ∷ (74, row82 31) ∷ (76, row82 32) ∷ (78, row13 33) ∷ (80, row10 34) ∷ []) ((5, off) ∷ (6, off) ∷ (31, alive) ∷ (32, alive) ∷ (33, alive) ∷ (34, alive) ∷ (35, alive) ∷ []) G0
 
   abbrev pub G202 : Cx
-  G202 = patched ((8, row86) ∷ (9, row89) ∷ (13, row92) ∷ (14, row1) ∷ (15, row1) ∷ (16, row80) ∷ (17, row83) ∷ (22, row1) ∷ (23, row1) ∷ (24, row1) ∷ (25, row1) ∷ (27, row36) ∷ (46, row1) ∷ (47, row1) ∷ (74, row82) ∷ (76, row85) ∷ (78, row88) ∷ (80, row91) ∷ (82, row94) ∷ []) ((5, off) ∷ (6, off) ∷ (10, off) ∷ (31, alive) ∷ (32, alive) ∷ (33, alive) ∷ (34, alive) ∷ (35, alive) ∷ []) G0
+  G202 = patched ((8, row11 33) ∷ (9, row14 34) ∷ (13, row92) ∷ (14, row1) ∷ (15, row1) ∷ (16, row80) ∷ (17, row83) ∷ (22, row1) ∷ (23, row1) ∷ (24, row1) ∷ (25, row1) ∷ (27, row36) ∷ (46, row1) ∷ (47, row1) ∷ (74, row82 31) ∷ (76, row82 32) ∷ (78, row13 33) ∷ (80, row10 34) ∷ (82, row25 35) ∷ []) ((5, off) ∷ (6, off) ∷ (10, off) ∷ (31, alive) ∷ (32, alive) ∷ (33, alive) ∷ (34, alive) ∷ (35, alive) ∷ []) G0
 
   abbrev pub G203 : Cx
-  G203 = patched ((8, row86) ∷ (9, row89) ∷ (13, row92) ∷ (14, row1) ∷ (15, row1) ∷ (16, row80) ∷ (17, row83) ∷ (22, row1) ∷ (23, row1) ∷ (24, row1) ∷ (25, row1) ∷ (27, row36) ∷ (46, row1) ∷ (47, row1) ∷ (48, row50) ∷ (74, row82) ∷ (76, row85) ∷ (78, row34) ∷ (80, row33) ∷ (82, row35) ∷ []) ((5, off) ∷ (6, off) ∷ (10, off) ∷ (31, alive) ∷ (32, alive) ∷ (33, alive) ∷ (34, alive) ∷ (35, alive) ∷ []) G0
+  G203 = patched ((8, row11 33) ∷ (9, row14 34) ∷ (13, row92) ∷ (14, row1) ∷ (15, row1) ∷ (16, row80) ∷ (17, row83) ∷ (22, row1) ∷ (23, row1) ∷ (24, row1) ∷ (25, row1) ∷ (27, row36) ∷ (46, row1) ∷ (47, row1) ∷ (48, row50) ∷ (74, row82 31) ∷ (76, row82 32) ∷ (78, row34) ∷ (80, row33) ∷ (82, row35) ∷ []) ((5, off) ∷ (6, off) ∷ (10, off) ∷ (31, alive) ∷ (32, alive) ∷ (33, alive) ∷ (34, alive) ∷ (35, alive) ∷ []) G0
 
   abbrev pub G206 : Cx
-  G206 = patched ((8, row86) ∷ (9, row89) ∷ (13, row92) ∷ (14, row1) ∷ (15, row1) ∷ (16, row80) ∷ (17, row83) ∷ (22, row1) ∷ (23, row1) ∷ (24, row1) ∷ (25, row1) ∷ (27, row36) ∷ (47, row1) ∷ (48, row50) ∷ (78, row34) ∷ (80, row33) ∷ (82, row35) ∷ []) ((5, off) ∷ (6, off) ∷ (10, off) ∷ (31, alive) ∷ (32, alive) ∷ (33, alive) ∷ (34, alive) ∷ (35, alive) ∷ []) G0
+  G206 = patched ((8, row11 33) ∷ (9, row14 34) ∷ (13, row92) ∷ (14, row1) ∷ (15, row1) ∷ (16, row80) ∷ (17, row83) ∷ (22, row1) ∷ (23, row1) ∷ (24, row1) ∷ (25, row1) ∷ (27, row36) ∷ (47, row1) ∷ (48, row50) ∷ (78, row34) ∷ (80, row33) ∷ (82, row35) ∷ []) ((5, off) ∷ (6, off) ∷ (10, off) ∷ (31, alive) ∷ (32, alive) ∷ (33, alive) ∷ (34, alive) ∷ (35, alive) ∷ []) G0
 
   abbrev pub G209 : Cx
-  G209 = patched ((8, row86) ∷ (9, row89) ∷ (13, row92) ∷ (14, row1) ∷ (15, row1) ∷ (16, row80) ∷ (17, row83) ∷ (22, row1) ∷ (23, row1) ∷ (24, row1) ∷ (25, row1) ∷ (27, row36) ∷ (78, row34) ∷ (80, row33) ∷ (82, row35) ∷ []) ((5, off) ∷ (6, off) ∷ (10, off) ∷ (31, dead) ∷ (32, alive) ∷ (33, alive) ∷ (34, alive) ∷ (35, alive) ∷ []) G0
+  G209 = patched ((8, row11 33) ∷ (9, row14 34) ∷ (13, row92) ∷ (14, row1) ∷ (15, row1) ∷ (16, row80) ∷ (17, row83) ∷ (22, row1) ∷ (23, row1) ∷ (24, row1) ∷ (25, row1) ∷ (27, row36) ∷ (78, row34) ∷ (80, row33) ∷ (82, row35) ∷ []) ((5, off) ∷ (6, off) ∷ (10, off) ∷ (31, dead) ∷ (32, alive) ∷ (33, alive) ∷ (34, alive) ∷ (35, alive) ∷ []) G0
 
   abbrev pub G212 : Cx
-  G212 = patched ((8, row86) ∷ (9, row89) ∷ (13, row92) ∷ (14, row1) ∷ (15, row1) ∷ (17, row83) ∷ (22, row1) ∷ (23, row1) ∷ (24, row1) ∷ (25, row1) ∷ (27, row36) ∷ (78, row34) ∷ (80, row33) ∷ (82, row35) ∷ []) ((5, off) ∷ (6, off) ∷ (10, off) ∷ (32, alive) ∷ (33, alive) ∷ (34, alive) ∷ (35, alive) ∷ []) G0
+  G212 = patched ((8, row11 33) ∷ (9, row14 34) ∷ (13, row92) ∷ (14, row1) ∷ (15, row1) ∷ (17, row83) ∷ (22, row1) ∷ (23, row1) ∷ (24, row1) ∷ (25, row1) ∷ (27, row36) ∷ (78, row34) ∷ (80, row33) ∷ (82, row35) ∷ []) ((5, off) ∷ (6, off) ∷ (10, off) ∷ (32, alive) ∷ (33, alive) ∷ (34, alive) ∷ (35, alive) ∷ []) G0
 
   abbrev pub G215 : Cx
-  G215 = patched ((8, row86) ∷ (9, row89) ∷ (13, row92) ∷ (14, row1) ∷ (15, row1) ∷ (17, row5) ∷ (22, row1) ∷ (23, row1) ∷ (24, row1) ∷ (25, row1) ∷ (27, row36) ∷ (78, row34) ∷ (80, row33) ∷ (82, row35) ∷ []) ((5, off) ∷ (6, off) ∷ (10, off) ∷ (33, alive) ∷ (34, alive) ∷ (35, alive) ∷ []) G0
+  G215 = patched ((8, row11 33) ∷ (9, row14 34) ∷ (13, row92) ∷ (14, row1) ∷ (15, row1) ∷ (17, row3 1024) ∷ (22, row1) ∷ (23, row1) ∷ (24, row1) ∷ (25, row1) ∷ (27, row36) ∷ (78, row34) ∷ (80, row33) ∷ (82, row35) ∷ []) ((5, off) ∷ (6, off) ∷ (10, off) ∷ (33, alive) ∷ (34, alive) ∷ (35, alive) ∷ []) G0
 
   abbrev pub G218 : Cx
-  G218 = patched ((9, row89) ∷ (13, row92) ∷ (14, row1) ∷ (15, row1) ∷ (22, row1) ∷ (23, row1) ∷ (24, row1) ∷ (25, row1) ∷ (27, row36) ∷ (80, row33) ∷ (82, row35) ∷ []) ((6, off) ∷ (10, off) ∷ (33, dead) ∷ (34, alive) ∷ (35, alive) ∷ []) G0
+  G218 = patched ((9, row14 34) ∷ (13, row92) ∷ (14, row1) ∷ (15, row1) ∷ (22, row1) ∷ (23, row1) ∷ (24, row1) ∷ (25, row1) ∷ (27, row36) ∷ (80, row33) ∷ (82, row35) ∷ []) ((6, off) ∷ (10, off) ∷ (33, dead) ∷ (34, alive) ∷ (35, alive) ∷ []) G0
 
   abbrev pub G222 : Cx
   G222 = patched ((13, row92) ∷ (14, row1) ∷ (15, row1) ∷ (22, row1) ∷ (23, row1) ∷ (24, row1) ∷ (25, row1) ∷ (27, row36) ∷ (82, row35) ∷ []) ((10, off) ∷ (34, dead) ∷ (35, alive) ∷ []) G0
@@ -548,7 +431,7 @@ module _ (κs : Lfts 11) (qs : Shares 11) where
   Γ-from-answer = G45
 
 module _ {M : Type 1} (𝓤 : URA M) (H : Heap 𝓤) (A : Atoms 𝓤) (W : Given 𝓤 H A) (𝓣 : Tables 𝓤 H)
-    (known0 : Knows 𝓤 H A W 𝓣 12 K0.ps K0.r R0.Asked R0.Learnt "rest_lists::begin::begin_rest") (known1 : Knows 𝓤 H A W 𝓣 4 K1.ps K1.r R1.Asked R1.Learnt "topology::records::fill") (known2 : Knows 𝓤 H A W 𝓣 11 K2.ps K2.r R2.Asked R2.Learnt "topology::to_rest::run_turns") (known3 : Knows 𝓤 H A W 𝓣 5 K3.ps K3.r R3.Asked R3.Learnt "rest_lists::kept::finish_rest") (κs : Lfts 11) (qs : Shares 11) (bs : List ℕ) where
+    (known0 : Knows 𝓤 H A W 𝓣 12 K0.ps K0.r R0.Asked R0.Learnt "rest_lists::begin::begin_rest") (known1 : Knows 𝓤 H A W 𝓣 4 K1.ps K1.r K1.Asked K1.Learnt "topology::records::fill") (known2 : Knows 𝓤 H A W 𝓣 11 K2.ps K2.r K2.Asked K2.Learnt "topology::to_rest::run_turns") (known3 : Knows 𝓤 H A W 𝓣 5 K3.ps K3.r R3.Asked R3.Learnt "rest_lists::kept::finish_rest") (κs : Lfts 11) (qs : Shares 11) (bs : List ℕ) where
   abbrev E : Env 𝓤 H
   E = EnvOf 𝓤 H (tyR r ∷ tysP ps xs) bs
 
@@ -636,7 +519,7 @@ module _ {M : Type 1} (𝓤 : URA M) (H : Heap 𝓤) (A : Atoms 𝓤) (W : Given
       stmt _ _ (t-arr-borrow 𝓤 H A W E 𝓣 (rtF (fInt w64)) _ 18 71 2304 30 (tyRef erased mut (tyArray (tyInt w64) 2304)) (λ x. x) (as-is 𝓤 H A (arrF (rtF (fInt w64)) 2304 0)) (room-gone 𝓤 H A (tyRef erased mut (tyArray (tyInt w64) 2304))) refl (λ b o. tt) (lit< tt, lit< tt)) $
       stmt _ (G149 κs qs) (t-sl-aggregate 𝓤 H A W E (rtF (fInt w64)) 𝓣 (asMut (rtF (fInt w64))) _ 71 72 30 (tyRef erased mut (tyArray (tyInt w64) 2304)) (tyRef erased mut (tyInt w64)) (λ x. x) (oBig w64 2304) (as-is 𝓤 H A (msptr (rtF (fInt w64)) (tyRef erased mut (tyArray (tyInt w64) 2304)) 30)) (room-gone 𝓤 H A _) record { lower = record { fits = lit< tt } } refl refl (λ b o k. tt)) $
       ghosts (G149 κs qs) (G150 κs qs) (g-as-by 𝓤 H A W E (λ ρ. Unit) (G149 κs qs) 26 (whole (Declared'.row Standing.the-type)) (λ v. Standing.struct .make v tt) (told-none 𝓤 H A ((G149 κs qs) .slots)) (λ ρ told v b. folds 𝓤 H A Standing.the-type (Standing.struct .Ghost) (Standing.struct .make) (λ v g. refl) ρ v tt b)) $
-      stmt (G150 κs qs) (G151 κs qs) (t-call-plain 𝓤 H A W 𝓣 11 K2.ps K2.r R2.Asked R2.Learnt "topology::to_rest::run_turns" known2 E (λ pos β. β) (G150 κs qs) (vAt 24 (λ x. x), (vAt 25 (λ x. x), (record { pos = 3; ty = tyRef (named 0) imm (tyInt w8); ref = λ x. x }, (record { pos = 6; ty = tyRef (named 3) imm (tyInt w64); ref = λ x. x }, (record { pos = 26; st = []; d = 0; at = λ x. x }, (record { pos = 56; ty = tyRef erased mut (tyInt w32); ref = λ x. x }, (record { pos = 58; ty = tyRef erased mut (tyInt w16); ref = λ x. x }, (record { pos = 60; ty = tyRef erased mut (tyInt w32); ref = λ x. x }, (record { pos = 62; ty = tyRef erased mut (tyInt w32); ref = λ x. x }, (record { pos = 64; ty = tyRef erased mut (tyInt w32); ref = λ x. x }, (record { pos = 66; ty = tyRef erased mut (pointee (twin-0.the-row .written)); ref = λ x. x }, (record { pos = 68; ty = tyRef erased mut (tyInt w64); ref = λ x. x }, (record { pos = 70; ty = tyRef erased mut (tyInt w64); ref = λ x. x }, (record { pos = 72; ty = tyRef erased mut (tyInt w64); ref = λ x. x }, tt)))))))))))))) 27 (0 ∷ 3 ∷ 22 ∷ 23 ∷ 24 ∷ 25 ∷ 26 ∷ 27 ∷ 28 ∷ 29 ∷ 30 ∷ []) (sub-id 𝓤 H A W ((G150 κs qs) .slots)) ((reads-sc 𝓤 H A W (sInt w64), refl), ((reads-sc 𝓤 H A W (sInt w64), refl), (spares-sslice 𝓤 H A W (rtF (fInt w8)) (tyRef (named 0) imm (tyInt w8)) 0, reads-sslice 𝓤 H A W (rtF (fInt w8)) (tyRef (named 0) imm (tyInt w8)) 0, refl, (spares-sslice 𝓤 H A W (rtF (fInt w64)) (tyRef (named 3) imm (tyInt w64)) 3, reads-sslice 𝓤 H A W (rtF (fInt w64)) (tyRef (named 3) imm (tyInt w64)) 3, refl, ((yields-copy 𝓤 H A W (λ ρ. Unit) (Declared'.row Standing.the-type) refl (cStruct Standing.the-type Laws'.the-laws Laws'.the-copy .copy 𝓤 H A W) (whole (Declared'.row Standing.the-type)) (λ x. x) (λ x. x) (λ ρ told. mem-whole 𝓤 H A W (Declared'.row Standing.the-type) ρ) (λ ρ told. whole-mem 𝓤 H A W (Declared'.row Standing.the-type) ρ), refl), (as-is 𝓤 H A (mslice (rtF (fInt w32)) (tyRef erased mut (tyInt w32)) 22), reads-mslice 𝓤 H A W (rtF (fInt w32)) (tyRef erased mut (tyInt w32)) 22, refl, (as-is 𝓤 H A (mslice (rtF (fInt w16)) (tyRef erased mut (tyInt w16)) 23), reads-mslice 𝓤 H A W (rtF (fInt w16)) (tyRef erased mut (tyInt w16)) 23, refl, (as-is 𝓤 H A (mslice (rtF (fInt w32)) (tyRef erased mut (tyInt w32)) 24), reads-mslice 𝓤 H A W (rtF (fInt w32)) (tyRef erased mut (tyInt w32)) 24, refl, (as-is 𝓤 H A (mslice (rtF (fInt w32)) (tyRef erased mut (tyInt w32)) 25), reads-mslice 𝓤 H A W (rtF (fInt w32)) (tyRef erased mut (tyInt w32)) 25, refl, (as-is 𝓤 H A (mslice (rtF (fInt w32)) (tyRef erased mut (tyInt w32)) 26), reads-mslice 𝓤 H A W (rtF (fInt w32)) (tyRef erased mut (tyInt w32)) 26, refl, (as-is 𝓤 H A (mslice twin-0.the-row (tyRef erased mut (pointee (twin-0.the-row .written))) 27), reads-mslice 𝓤 H A W twin-0.the-row (tyRef erased mut (pointee (twin-0.the-row .written))) 27, refl, (as-is 𝓤 H A (mslice (rtF (fInt w64)) (tyRef erased mut (tyInt w64)) 28), reads-mslice 𝓤 H A W (rtF (fInt w64)) (tyRef erased mut (tyInt w64)) 28, refl, (as-is 𝓤 H A (mslice (rtF (fInt w64)) (tyRef erased mut (tyInt w64)) 29), reads-mslice 𝓤 H A W (rtF (fInt w64)) (tyRef erased mut (tyInt w64)) 29, refl, (as-is 𝓤 H A (mslice (rtF (fInt w64)) (tyRef erased mut (tyInt w64)) 30), reads-mslice 𝓤 H A W (rtF (fInt w64)) (tyRef erased mut (tyInt w64)) 30, refl, tt)))))))))))))) (room-gone 𝓤 H A _) _ refl) $
+      stmt (G150 κs qs) (G151 κs qs) (t-call-plain 𝓤 H A W 𝓣 11 K2.ps K2.r K2.Asked K2.Learnt "topology::to_rest::run_turns" known2 E (λ pos β. β) (G150 κs qs) (vAt 24 (λ x. x), (vAt 25 (λ x. x), (record { pos = 3; ty = tyRef (named 0) imm (tyInt w8); ref = λ x. x }, (record { pos = 6; ty = tyRef (named 3) imm (tyInt w64); ref = λ x. x }, (record { pos = 26; st = []; d = 0; at = λ x. x }, (record { pos = 56; ty = tyRef erased mut (tyInt w32); ref = λ x. x }, (record { pos = 58; ty = tyRef erased mut (tyInt w16); ref = λ x. x }, (record { pos = 60; ty = tyRef erased mut (tyInt w32); ref = λ x. x }, (record { pos = 62; ty = tyRef erased mut (tyInt w32); ref = λ x. x }, (record { pos = 64; ty = tyRef erased mut (tyInt w32); ref = λ x. x }, (record { pos = 66; ty = tyRef erased mut (pointee (twin-0.the-row .written)); ref = λ x. x }, (record { pos = 68; ty = tyRef erased mut (tyInt w64); ref = λ x. x }, (record { pos = 70; ty = tyRef erased mut (tyInt w64); ref = λ x. x }, (record { pos = 72; ty = tyRef erased mut (tyInt w64); ref = λ x. x }, tt)))))))))))))) 27 (0 ∷ 3 ∷ 22 ∷ 23 ∷ 24 ∷ 25 ∷ 26 ∷ 27 ∷ 28 ∷ 29 ∷ 30 ∷ []) (sub-id 𝓤 H A W ((G150 κs qs) .slots)) ((reads-sc 𝓤 H A W (sInt w64), refl), ((reads-sc 𝓤 H A W (sInt w64), refl), (spares-sslice 𝓤 H A W (rtF (fInt w8)) (tyRef (named 0) imm (tyInt w8)) 0, reads-sslice 𝓤 H A W (rtF (fInt w8)) (tyRef (named 0) imm (tyInt w8)) 0, refl, (spares-sslice 𝓤 H A W (rtF (fInt w64)) (tyRef (named 3) imm (tyInt w64)) 3, reads-sslice 𝓤 H A W (rtF (fInt w64)) (tyRef (named 3) imm (tyInt w64)) 3, refl, ((yields-copy 𝓤 H A W (λ ρ. Unit) (Declared'.row Standing.the-type) refl (cStruct Standing.the-type Laws'.the-laws Laws'.the-copy .copy 𝓤 H A W) (whole (Declared'.row Standing.the-type)) (λ x. x) (λ x. x) (λ ρ told. mem-whole 𝓤 H A W (Declared'.row Standing.the-type) ρ) (λ ρ told. whole-mem 𝓤 H A W (Declared'.row Standing.the-type) ρ), refl), (as-is 𝓤 H A (mslice (rtF (fInt w32)) (tyRef erased mut (tyInt w32)) 22), reads-mslice 𝓤 H A W (rtF (fInt w32)) (tyRef erased mut (tyInt w32)) 22, refl, (as-is 𝓤 H A (mslice (rtF (fInt w16)) (tyRef erased mut (tyInt w16)) 23), reads-mslice 𝓤 H A W (rtF (fInt w16)) (tyRef erased mut (tyInt w16)) 23, refl, (as-is 𝓤 H A (mslice (rtF (fInt w32)) (tyRef erased mut (tyInt w32)) 24), reads-mslice 𝓤 H A W (rtF (fInt w32)) (tyRef erased mut (tyInt w32)) 24, refl, (as-is 𝓤 H A (mslice (rtF (fInt w32)) (tyRef erased mut (tyInt w32)) 25), reads-mslice 𝓤 H A W (rtF (fInt w32)) (tyRef erased mut (tyInt w32)) 25, refl, (as-is 𝓤 H A (mslice (rtF (fInt w32)) (tyRef erased mut (tyInt w32)) 26), reads-mslice 𝓤 H A W (rtF (fInt w32)) (tyRef erased mut (tyInt w32)) 26, refl, (as-is 𝓤 H A (mslice twin-0.the-row (tyRef erased mut (pointee (twin-0.the-row .written))) 27), reads-mslice 𝓤 H A W twin-0.the-row (tyRef erased mut (pointee (twin-0.the-row .written))) 27, refl, (as-is 𝓤 H A (mslice (rtF (fInt w64)) (tyRef erased mut (tyInt w64)) 28), reads-mslice 𝓤 H A W (rtF (fInt w64)) (tyRef erased mut (tyInt w64)) 28, refl, (as-is 𝓤 H A (mslice (rtF (fInt w64)) (tyRef erased mut (tyInt w64)) 29), reads-mslice 𝓤 H A W (rtF (fInt w64)) (tyRef erased mut (tyInt w64)) 29, refl, (as-is 𝓤 H A (mslice (rtF (fInt w64)) (tyRef erased mut (tyInt w64)) 30), reads-mslice 𝓤 H A W (rtF (fInt w64)) (tyRef erased mut (tyInt w64)) 30, refl, tt)))))))))))))) (room-gone 𝓤 H A _) _ refl) $
       ghosts (G151 κs qs) _ (g-room 𝓤 H A W E (G151 κs qs) 26 _ (room-whole 𝓤 H A W (Declared'.row Standing.the-type) _ refl)) $
       ghosts _ _ (g-end 𝓤 H A W E _ 22 refl) $
       ghosts _ (G154 κs qs) (g-back-sl 𝓤 H A W E (rtF (fInt w32)) _ 56 7 4 22 (tyRef (named 4) mut (tyInt w32)) (tyRef erased mut (tyInt w32)) (lease (κs .1 .1 .1 .1 .0) (qs .1 .1 .1 .1 .0)) (λ x. x) (λ x. x) (as-is 𝓤 H A (msleft (rtF (fInt w32)) (tyRef erased mut (tyInt w32)))) (as-is 𝓤 H A (mslice-owed (rtF (fInt w32)) (tyRef (named 4) mut (tyInt w32)) 4 22 (lease (κs .1 .1 .1 .1 .0) (qs .1 .1 .1 .1 .0)))) refl refl) $
@@ -703,7 +586,7 @@ module _ {M : Type 1} (𝓤 : URA M) (H : Heap 𝓤) (A : Atoms 𝓤) (W : Given
               ghosts (G106 κs qs) _ (g-begin 𝓤 H A W E (G106 κs qs) 21 _) $
               stmt _ _ (t-sl-reshare 𝓤 H A W E (rtF (fInt w32)) 𝓣 _ 9 53 6 21 (tyRef (named 6) mut (tyInt w32)) (tyRef erased imm (tyInt w32)) (lease (κs .1 .1 .1 .1 .1 .1 .0) (qs .1 .1 .1 .1 .1 .1 .0)) 0 (λ x. x) (as-is 𝓤 H A (mslice (rtF (fInt w32)) (tyRef (named 6) mut (tyInt w32)) 6)) (room-gone 𝓤 H A (tyRef erased imm (tyInt w32))) refl tt refl refl refl (λ b o. tt)) $
               stmt _ (G109 κs qs) (t-sl-aggregate 𝓤 H A W E (rtF (fInt w32)) 𝓣 (asShr (rtF (fInt w32))) _ 53 54 21 (tyRef erased imm (tyInt w32)) (tyRef erased imm (tyInt w32)) (λ x. x) (oFld 9 (field 1 ∷ []) (tyInt w64) 8 (λ v. lenV (v .0))) (as-is 𝓤 H A (ssptr (rtF (fInt w32)) (tyRef erased imm (tyInt w32)) 21)) (room-gone 𝓤 H A _) (reads-owedS-len 𝓤 H A W (rtF (fInt w32)) (tyRef (named 6) mut (tyInt w32)) 6 21 (lease (κs .1 .1 .1 .1 .1 .1 .0) (qs .1 .1 .1 .1 .1 .1 .0)) 8 refl, refl) refl refl (λ b o k. tt)) $
-              stmt (G109 κs qs) (G110 κs qs) (t-call-plain 𝓤 H A W 𝓣 4 K1.ps K1.r R1.Asked R1.Learnt "topology::records::fill" known1 E (λ pos β. β) (G109 κs qs) (record { pos = 50; ty = tyRef erased mut (pointee (twin-0.the-row .written)); ref = λ x. x }, (vAt 22 (λ x. x), (vAt 24 (λ x. x), (record { pos = 3; ty = tyRef (named 0) imm (tyInt w8); ref = λ x. x }, (record { pos = 52; ty = tyRef erased imm (tyInt w32); ref = λ x. x }, (record { pos = 54; ty = tyRef erased imm (tyInt w32); ref = λ x. x }, tt)))))) 48 (19 ∷ 0 ∷ 20 ∷ 21 ∷ []) (sub-id 𝓤 H A W ((G109 κs qs) .slots)) (as-is 𝓤 H A (mslice twin-0.the-row (tyRef erased mut (pointee (twin-0.the-row .written))) 19), reads-mslice 𝓤 H A W twin-0.the-row (tyRef erased mut (pointee (twin-0.the-row .written))) 19, refl, ((reads-sc 𝓤 H A W (sInt w64), refl), ((reads-sc 𝓤 H A W (sInt w64), refl), (spares-sslice 𝓤 H A W (rtF (fInt w8)) (tyRef (named 0) imm (tyInt w8)) 0, reads-sslice 𝓤 H A W (rtF (fInt w8)) (tyRef (named 0) imm (tyInt w8)) 0, refl, (spares-sslice 𝓤 H A W (rtF (fInt w32)) (tyRef erased imm (tyInt w32)) 20, reads-sslice 𝓤 H A W (rtF (fInt w32)) (tyRef erased imm (tyInt w32)) 20, refl, (spares-sslice 𝓤 H A W (rtF (fInt w32)) (tyRef erased imm (tyInt w32)) 21, reads-sslice 𝓤 H A W (rtF (fInt w32)) (tyRef erased imm (tyInt w32)) 21, refl, tt)))))) (room-gone 𝓤 H A tyUnit) _ refl) $
+              stmt (G109 κs qs) (G110 κs qs) (t-call-plain 𝓤 H A W 𝓣 4 K1.ps K1.r K1.Asked K1.Learnt "topology::records::fill" known1 E (λ pos β. β) (G109 κs qs) (record { pos = 50; ty = tyRef erased mut (pointee (twin-0.the-row .written)); ref = λ x. x }, (vAt 22 (λ x. x), (vAt 24 (λ x. x), (record { pos = 3; ty = tyRef (named 0) imm (tyInt w8); ref = λ x. x }, (record { pos = 52; ty = tyRef erased imm (tyInt w32); ref = λ x. x }, (record { pos = 54; ty = tyRef erased imm (tyInt w32); ref = λ x. x }, tt)))))) 48 (19 ∷ 0 ∷ 20 ∷ 21 ∷ []) (sub-id 𝓤 H A W ((G109 κs qs) .slots)) (as-is 𝓤 H A (mslice twin-0.the-row (tyRef erased mut (pointee (twin-0.the-row .written))) 19), reads-mslice 𝓤 H A W twin-0.the-row (tyRef erased mut (pointee (twin-0.the-row .written))) 19, refl, ((reads-sc 𝓤 H A W (sInt w64), refl), ((reads-sc 𝓤 H A W (sInt w64), refl), (spares-sslice 𝓤 H A W (rtF (fInt w8)) (tyRef (named 0) imm (tyInt w8)) 0, reads-sslice 𝓤 H A W (rtF (fInt w8)) (tyRef (named 0) imm (tyInt w8)) 0, refl, (spares-sslice 𝓤 H A W (rtF (fInt w32)) (tyRef erased imm (tyInt w32)) 20, reads-sslice 𝓤 H A W (rtF (fInt w32)) (tyRef erased imm (tyInt w32)) 20, refl, (spares-sslice 𝓤 H A W (rtF (fInt w32)) (tyRef erased imm (tyInt w32)) 21, reads-sslice 𝓤 H A W (rtF (fInt w32)) (tyRef erased imm (tyInt w32)) 21, refl, tt)))))) (room-gone 𝓤 H A tyUnit) _ refl) $
               ghosts (G110 κs qs) _ (g-room 𝓤 H A W E (G110 κs qs) 52 _ (room-sslice 𝓤 H A W (rtF (fInt w32)) (tyRef erased imm (tyInt w32)) 20)) $
               ghosts _ _ (g-room 𝓤 H A W E _ 54 _ (room-sslice 𝓤 H A W (rtF (fInt w32)) (tyRef erased imm (tyInt w32)) 21)) $
               ghosts _ (G113 κs qs) (g-room 𝓤 H A W E _ 48 tyUnit (room-sc 𝓤 H A W sUnit)) $
@@ -789,11 +672,11 @@ module _ (w : World) where
   abbrev known0-at : Knows (w .𝓤) (w .H) (w .𝓖 .A) (Wof w) (𝓣of w code.env) 12 K0.ps K0.r R0.Asked R0.Learnt "rest_lists::begin::begin_rest"
   known0-at = R0.known w code.env S0.name S0.routine code.calls-rest-lists·begin·begin-rest (M0.met (w .𝓤) (w .H) (w .𝓜) (w .𝓖) (w .𝓡))
 
-  abbrev known1-at : Knows (w .𝓤) (w .H) (w .𝓖 .A) (Wof w) (𝓣of w code.env) 4 K1.ps K1.r R1.Asked R1.Learnt "topology::records::fill"
-  known1-at = R1.known w code.env S1.name S1.routine code.calls-topology·records·fill (M1.met (w .𝓤) (w .H) (w .𝓜) (w .𝓖) (w .𝓡))
+  abbrev known1-at : Knows (w .𝓤) (w .H) (w .𝓖 .A) (Wof w) (𝓣of w code.env) 4 K1.ps K1.r K1.Asked K1.Learnt "topology::records::fill"
+  known1-at = K1.known w code.env S1.name S1.routine code.calls-topology·records·fill (M1.met (w .𝓤) (w .H) (w .𝓜) (w .𝓖) (w .𝓡))
 
-  abbrev known2-at : Knows (w .𝓤) (w .H) (w .𝓖 .A) (Wof w) (𝓣of w code.env) 11 K2.ps K2.r R2.Asked R2.Learnt "topology::to_rest::run_turns"
-  known2-at = R2.known w code.env S2.name S2.routine code.calls-topology·to-rest·run-turns (M2.met (w .𝓤) (w .H) (w .𝓜) (w .𝓖) (w .𝓡))
+  abbrev known2-at : Knows (w .𝓤) (w .H) (w .𝓖 .A) (Wof w) (𝓣of w code.env) 11 K2.ps K2.r K2.Asked K2.Learnt "topology::to_rest::run_turns"
+  known2-at = K2.known w code.env S2.name S2.routine code.calls-topology·to-rest·run-turns (M2.met (w .𝓤) (w .H) (w .𝓜) (w .𝓖) (w .𝓡))
 
   abbrev known3-at : Knows (w .𝓤) (w .H) (w .𝓖 .A) (Wof w) (𝓣of w code.env) 5 K3.ps K3.r R3.Asked R3.Learnt "rest_lists::kept::finish_rest"
   known3-at = R3.known w code.env S3.name S3.routine code.calls-rest-lists·kept·finish-rest (M3.met (w .𝓤) (w .H) (w .𝓜) (w .𝓖) (w .𝓡))

@@ -5,23 +5,20 @@ use Rattle.rest_lists.proofs.kept.Standing.{struct}
 use Rattle.rest_lists.proofs.kept.Standing as Standing
 use Rattle.rest_lists.proofs.kept.Standing.Laws as Laws
 use borrow.Fn.Plain.{Known as Knows}
-use Rattle.topology.proofs.Seen.to_rest.pass_kept.Kinds as K0
-use Rattle.topology.proofs.Seen.to_rest.pass_kept.Reads as R0
+use Rattle.topology.proofs.Seen.to_rest.pass_kept as K0
 use Rattle.topology.proofs.to_rest.pass_kept.Symbol as S0
 use Rattle.topology.proofs.to_rest.pass_kept.Met as M0
 use Rattle.rest_lists.proofs.kept.divide_again.Kinds as K1
 use Rattle.rest_lists.proofs.kept.divide_again.Reads as R1
 use Rattle.rest_lists.proofs.kept.divide_again.Symbol as S1
 use Rattle.rest_lists.proofs.kept.divide_again.Met as M1
-use Rattle.topology.proofs.Seen.records.renew.Kinds as K2
-use Rattle.topology.proofs.Seen.records.renew.Reads as R2
+use Rattle.topology.proofs.Seen.records.renew as K2
 use Rattle.topology.proofs.records.renew.Symbol as S2
 use Rattle.topology.proofs.records.renew.Met as M2
-use Rattle.topology.proofs.Seen.to_rest.turn_once.Kinds.{ps, r}
 use Rattle.topology.proofs.to_rest.turn_once.Code as code
 use contract.Running
 use Rattle.topology.proofs.Contracts.{Answers, Post, Pre, Wof, met, 𝓣of}
-use Rattle.topology.proofs.Seen.to_rest.turn_once.Reads.{the-contract}
+use Rattle.topology.proofs.Seen.to_rest.turn_once.{ps, r, the-contract}
 use Rattle.topology.proofs.to_rest.turn_once.Key as key
 use Rattle.topology.proofs.to_rest.turn_once.Statement.{statement}
 use Rattle.topology.proofs.Steps.{Der, _$_, first, ghosts, homes, past, patched, rets, skips, stmt, test, typesPast}
@@ -48,77 +45,53 @@ module _ (κs : Lfts 11) (qs : Shares 11) where
   abbrev row4 : Row
   row4 = sc-here (sInt w64)
 
-  abbrev row5 : Row
-  row5 = mslice-owedS (rtF (fInt w32)) (tyRef (named 2) mut (tyInt w32)) 2 12 (lease (κs .1 .1 .0) (qs .1 .1 .0))
+  abbrev row5 : ℕ → Row
+  row5 k = mslice-owedS (rtF (fInt w32)) (tyRef (named 2) mut (tyInt w32)) 2 k (lease (κs .1 .1 .0) (qs .1 .1 .0))
 
-  abbrev row6 : Row
-  row6 = ssptr (rtF (fInt w32)) (tyRef erased imm (tyInt w32)) 12
+  abbrev row6 : ℕ → Row
+  row6 k = ssptr (rtF (fInt w32)) (tyRef erased imm (tyInt w32)) k
 
-  abbrev row7 : Row
-  row7 = sslice (rtF (fInt w32)) (tyRef erased imm (tyInt w32)) 12
+  abbrev row7 : ℕ → Row
+  row7 k = sslice (rtF (fInt w32)) (tyRef erased imm (tyInt w32)) k
 
   abbrev row8 : Row
   row8 = mslice-owedS (rtF (fInt w32)) (tyRef (named 5) mut (tyInt w32)) 5 13 (lease (κs .1 .1 .1 .1 .1 .0) (qs .1 .1 .1 .1 .1 .0))
 
-  abbrev row9 : Row
-  row9 = ssptr (rtF (fInt w32)) (tyRef erased imm (tyInt w32)) 13
-
-  abbrev row10 : Row
-  row10 = sslice (rtF (fInt w32)) (tyRef erased imm (tyInt w32)) 13
-
   abbrev row11 : Row
   row11 = mslice-owedS (rtF (fInt w32)) (tyRef (named 6) mut (tyInt w32)) 6 14 (lease (κs .1 .1 .1 .1 .1 .1 .0) (qs .1 .1 .1 .1 .1 .1 .0))
 
-  abbrev row12 : Row
-  row12 = ssptr (rtF (fInt w32)) (tyRef erased imm (tyInt w32)) 14
+  abbrev row14 : ℕ → Row
+  row14 k = mslice-owed (rtF (fInt w16)) (tyRef (named 3) mut (tyInt w16)) 3 k (lease (κs .1 .1 .1 .0) (qs .1 .1 .1 .0))
 
-  abbrev row13 : Row
-  row13 = sslice (rtF (fInt w32)) (tyRef erased imm (tyInt w32)) 14
+  abbrev row15 : ℕ → Row
+  row15 k = msptr (rtF (fInt w16)) (tyRef erased mut (tyInt w16)) k
 
-  abbrev row14 : Row
-  row14 = mslice-owed (rtF (fInt w16)) (tyRef (named 3) mut (tyInt w16)) 3 15 (lease (κs .1 .1 .1 .0) (qs .1 .1 .1 .0))
+  abbrev row16 : ℕ → Row
+  row16 k = mslice (rtF (fInt w16)) (tyRef erased mut (tyInt w16)) k
 
-  abbrev row15 : Row
-  row15 = msptr (rtF (fInt w16)) (tyRef erased mut (tyInt w16)) 15
+  abbrev row17 : ℕ → Row
+  row17 k = mslice-owed (rtF (fInt w32)) (tyRef (named 4) mut (tyInt w32)) 4 k (lease (κs .1 .1 .1 .1 .0) (qs .1 .1 .1 .1 .0))
 
-  abbrev row16 : Row
-  row16 = mslice (rtF (fInt w16)) (tyRef erased mut (tyInt w16)) 15
+  abbrev row18 : ℕ → Row
+  row18 k = msptr (rtF (fInt w32)) (tyRef erased mut (tyInt w32)) k
 
-  abbrev row17 : Row
-  row17 = mslice-owed (rtF (fInt w32)) (tyRef (named 4) mut (tyInt w32)) 4 16 (lease (κs .1 .1 .1 .1 .0) (qs .1 .1 .1 .1 .0))
-
-  abbrev row18 : Row
-  row18 = msptr (rtF (fInt w32)) (tyRef erased mut (tyInt w32)) 16
-
-  abbrev row19 : Row
-  row19 = mslice (rtF (fInt w32)) (tyRef erased mut (tyInt w32)) 16
+  abbrev row19 : ℕ → Row
+  row19 k = mslice (rtF (fInt w32)) (tyRef erased mut (tyInt w32)) k
 
   abbrev row20 : Row
   row20 = mslice-owed (rtF (fInt w64)) (tyRef (named 8) mut (tyInt w64)) 8 17 (lease (κs .1 .1 .1 .1 .1 .1 .1 .1 .0) (qs .1 .1 .1 .1 .1 .1 .1 .1 .0))
 
-  abbrev row21 : Row
-  row21 = msptr (rtF (fInt w64)) (tyRef erased mut (tyInt w64)) 17
+  abbrev row21 : ℕ → Row
+  row21 k = msptr (rtF (fInt w64)) (tyRef erased mut (tyInt w64)) k
 
-  abbrev row22 : Row
-  row22 = mslice (rtF (fInt w64)) (tyRef erased mut (tyInt w64)) 17
+  abbrev row22 : ℕ → Row
+  row22 k = mslice (rtF (fInt w64)) (tyRef erased mut (tyInt w64)) k
 
   abbrev row23 : Row
   row23 = mslice-owed (rtF (fInt w64)) (tyRef (named 9) mut (tyInt w64)) 9 18 (lease (κs .1 .1 .1 .1 .1 .1 .1 .1 .1 .0) (qs .1 .1 .1 .1 .1 .1 .1 .1 .1 .0))
 
-  abbrev row24 : Row
-  row24 = msptr (rtF (fInt w64)) (tyRef erased mut (tyInt w64)) 18
-
-  abbrev row25 : Row
-  row25 = mslice (rtF (fInt w64)) (tyRef erased mut (tyInt w64)) 18
-
   abbrev row26 : Row
   row26 = mslice-owed (rtF (fInt w64)) (tyRef (named 10) mut (tyInt w64)) 10 19 (lease (κs .1 .1 .1 .1 .1 .1 .1 .1 .1 .1 .0) (qs .1 .1 .1 .1 .1 .1 .1 .1 .1 .1 .0))
-
-  abbrev row27 : Row
-  row27 = msptr (rtF (fInt w64)) (tyRef erased mut (tyInt w64)) 19
-
-  abbrev row28 : Row
-  row28 = mslice (rtF (fInt w64)) (tyRef erased mut (tyInt w64)) 19
 
   abbrev row29 : Row
   row29 = msleft (rtF (fInt w16)) (tyRef erased mut (tyInt w16))
@@ -147,47 +120,11 @@ module _ (κs : Lfts 11) (qs : Shares 11) where
   abbrev row37 : Row
   row37 = mslice-owed (rtF (fInt w32)) (tyRef (named 2) mut (tyInt w32)) 2 21 (lease (κs .1 .1 .0) (qs .1 .1 .0))
 
-  abbrev row38 : Row
-  row38 = msptr (rtF (fInt w32)) (tyRef erased mut (tyInt w32)) 21
-
-  abbrev row39 : Row
-  row39 = mslice (rtF (fInt w32)) (tyRef erased mut (tyInt w32)) 21
-
-  abbrev row40 : Row
-  row40 = mslice-owed (rtF (fInt w16)) (tyRef (named 3) mut (tyInt w16)) 3 22 (lease (κs .1 .1 .1 .0) (qs .1 .1 .1 .0))
-
-  abbrev row41 : Row
-  row41 = msptr (rtF (fInt w16)) (tyRef erased mut (tyInt w16)) 22
-
-  abbrev row42 : Row
-  row42 = mslice (rtF (fInt w16)) (tyRef erased mut (tyInt w16)) 22
-
-  abbrev row43 : Row
-  row43 = mslice-owed (rtF (fInt w32)) (tyRef (named 4) mut (tyInt w32)) 4 23 (lease (κs .1 .1 .1 .1 .0) (qs .1 .1 .1 .1 .0))
-
-  abbrev row44 : Row
-  row44 = msptr (rtF (fInt w32)) (tyRef erased mut (tyInt w32)) 23
-
-  abbrev row45 : Row
-  row45 = mslice (rtF (fInt w32)) (tyRef erased mut (tyInt w32)) 23
-
   abbrev row46 : Row
   row46 = mslice-owed (rtF (fInt w32)) (tyRef (named 5) mut (tyInt w32)) 5 24 (lease (κs .1 .1 .1 .1 .1 .0) (qs .1 .1 .1 .1 .1 .0))
 
-  abbrev row47 : Row
-  row47 = msptr (rtF (fInt w32)) (tyRef erased mut (tyInt w32)) 24
-
-  abbrev row48 : Row
-  row48 = mslice (rtF (fInt w32)) (tyRef erased mut (tyInt w32)) 24
-
   abbrev row49 : Row
   row49 = mslice-owed (rtF (fInt w32)) (tyRef (named 6) mut (tyInt w32)) 6 25 (lease (κs .1 .1 .1 .1 .1 .1 .0) (qs .1 .1 .1 .1 .1 .1 .0))
-
-  abbrev row50 : Row
-  row50 = msptr (rtF (fInt w32)) (tyRef erased mut (tyInt w32)) 25
-
-  abbrev row51 : Row
-  row51 = mslice (rtF (fInt w32)) (tyRef erased mut (tyInt w32)) 25
 
   abbrev row52 : Row
   row52 = mslice-owed twin-0.the-row (tyRef (named 7) mut (pointee (twin-0.the-row .written))) 7 26 (lease (κs .1 .1 .1 .1 .1 .1 .1 .0) (qs .1 .1 .1 .1 .1 .1 .1 .0))
@@ -195,17 +132,8 @@ module _ (κs : Lfts 11) (qs : Shares 11) where
   abbrev row54 : Row
   row54 = mslice twin-0.the-row (tyRef erased mut (pointee (twin-0.the-row .written))) 26
 
-  abbrev row55 : Row
-  row55 = mslice-owedS (rtF (fInt w32)) (tyRef (named 2) mut (tyInt w32)) 2 27 (lease (κs .1 .1 .0) (qs .1 .1 .0))
-
-  abbrev row57 : Row
-  row57 = sslice (rtF (fInt w32)) (tyRef erased imm (tyInt w32)) 27
-
   abbrev row58 : Row
   row58 = mslice-owedS (rtF (fInt w32)) (tyRef (named 4) mut (tyInt w32)) 4 28 (lease (κs .1 .1 .1 .1 .0) (qs .1 .1 .1 .1 .0))
-
-  abbrev row60 : Row
-  row60 = sslice (rtF (fInt w32)) (tyRef erased imm (tyInt w32)) 28
 
   abbrev row61 : Row
   row61 = sc-here sUnit
@@ -217,55 +145,55 @@ module _ (κs : Lfts 11) (qs : Shares 11) where
   G14 = patched ((13, row1) ∷ (21, row3) ∷ []) ((7, off) ∷ (11, alive) ∷ []) G0
 
   abbrev pub G17 : Cx
-  G17 = patched ((8, row5) ∷ (13, row1) ∷ (21, row3) ∷ (22, row4) ∷ (23, row6) ∷ []) ((2, off) ∷ (7, off) ∷ (11, alive) ∷ (12, alive) ∷ []) G0
+  G17 = patched ((8, row5 12) ∷ (13, row1) ∷ (21, row3) ∷ (22, row4) ∷ (23, row6 12) ∷ []) ((2, off) ∷ (7, off) ∷ (11, alive) ∷ (12, alive) ∷ []) G0
 
   abbrev pub G20 : Cx
-  G20 = patched ((8, row5) ∷ (11, row8) ∷ (13, row1) ∷ (21, row3) ∷ (22, row4) ∷ (24, row7) ∷ (25, row9) ∷ []) ((2, off) ∷ (5, off) ∷ (7, off) ∷ (11, alive) ∷ (12, alive) ∷ (13, alive) ∷ []) G0
+  G20 = patched ((8, row5 12) ∷ (11, row8) ∷ (13, row1) ∷ (21, row3) ∷ (22, row4) ∷ (24, row7 12) ∷ (25, row6 13) ∷ []) ((2, off) ∷ (5, off) ∷ (7, off) ∷ (11, alive) ∷ (12, alive) ∷ (13, alive) ∷ []) G0
 
   abbrev pub G23 : Cx
-  G23 = patched ((8, row5) ∷ (11, row8) ∷ (12, row11) ∷ (13, row1) ∷ (21, row3) ∷ (22, row4) ∷ (24, row7) ∷ (26, row10) ∷ (27, row12) ∷ []) ((2, off) ∷ (5, off) ∷ (6, off) ∷ (7, off) ∷ (11, alive) ∷ (12, alive) ∷ (13, alive) ∷ (14, alive) ∷ []) G0
+  G23 = patched ((8, row5 12) ∷ (11, row8) ∷ (12, row11) ∷ (13, row1) ∷ (21, row3) ∷ (22, row4) ∷ (24, row7 12) ∷ (26, row7 13) ∷ (27, row6 14) ∷ []) ((2, off) ∷ (5, off) ∷ (6, off) ∷ (7, off) ∷ (11, alive) ∷ (12, alive) ∷ (13, alive) ∷ (14, alive) ∷ []) G0
 
   abbrev pub G26 : Cx
-  G26 = patched ((8, row5) ∷ (9, row14) ∷ (11, row8) ∷ (12, row11) ∷ (13, row1) ∷ (21, row3) ∷ (22, row4) ∷ (24, row7) ∷ (26, row10) ∷ (28, row13) ∷ (29, row15) ∷ []) ((2, off) ∷ (3, off) ∷ (5, off) ∷ (6, off) ∷ (7, off) ∷ (11, alive) ∷ (12, alive) ∷ (13, alive) ∷ (14, alive) ∷ (15, alive) ∷ []) G0
+  G26 = patched ((8, row5 12) ∷ (9, row14 15) ∷ (11, row8) ∷ (12, row11) ∷ (13, row1) ∷ (21, row3) ∷ (22, row4) ∷ (24, row7 12) ∷ (26, row7 13) ∷ (28, row7 14) ∷ (29, row15 15) ∷ []) ((2, off) ∷ (3, off) ∷ (5, off) ∷ (6, off) ∷ (7, off) ∷ (11, alive) ∷ (12, alive) ∷ (13, alive) ∷ (14, alive) ∷ (15, alive) ∷ []) G0
 
   abbrev pub G29 : Cx
-  G29 = patched ((8, row5) ∷ (9, row14) ∷ (10, row17) ∷ (11, row8) ∷ (12, row11) ∷ (13, row1) ∷ (21, row3) ∷ (22, row4) ∷ (24, row7) ∷ (26, row10) ∷ (28, row13) ∷ (30, row16) ∷ (31, row18) ∷ []) ((2, off) ∷ (3, off) ∷ (4, off) ∷ (5, off) ∷ (6, off) ∷ (7, off) ∷ (11, alive) ∷ (12, alive) ∷ (13, alive) ∷ (14, alive) ∷ (15, alive) ∷ (16, alive) ∷ []) G0
+  G29 = patched ((8, row5 12) ∷ (9, row14 15) ∷ (10, row17 16) ∷ (11, row8) ∷ (12, row11) ∷ (13, row1) ∷ (21, row3) ∷ (22, row4) ∷ (24, row7 12) ∷ (26, row7 13) ∷ (28, row7 14) ∷ (30, row16 15) ∷ (31, row18 16) ∷ []) ((2, off) ∷ (3, off) ∷ (4, off) ∷ (5, off) ∷ (6, off) ∷ (7, off) ∷ (11, alive) ∷ (12, alive) ∷ (13, alive) ∷ (14, alive) ∷ (15, alive) ∷ (16, alive) ∷ []) G0
 
   abbrev pub G32 : Cx
-  G32 = patched ((8, row5) ∷ (9, row14) ∷ (10, row17) ∷ (11, row8) ∷ (12, row11) ∷ (13, row1) ∷ (14, row20) ∷ (21, row3) ∷ (22, row4) ∷ (24, row7) ∷ (26, row10) ∷ (28, row13) ∷ (30, row16) ∷ (32, row19) ∷ (33, row21) ∷ []) ((2, off) ∷ (3, off) ∷ (4, off) ∷ (5, off) ∷ (6, off) ∷ (7, off) ∷ (8, off) ∷ (11, alive) ∷ (12, alive) ∷ (13, alive) ∷ (14, alive) ∷ (15, alive) ∷ (16, alive) ∷ (17, alive) ∷ []) G0
+  G32 = patched ((8, row5 12) ∷ (9, row14 15) ∷ (10, row17 16) ∷ (11, row8) ∷ (12, row11) ∷ (13, row1) ∷ (14, row20) ∷ (21, row3) ∷ (22, row4) ∷ (24, row7 12) ∷ (26, row7 13) ∷ (28, row7 14) ∷ (30, row16 15) ∷ (32, row19 16) ∷ (33, row21 17) ∷ []) ((2, off) ∷ (3, off) ∷ (4, off) ∷ (5, off) ∷ (6, off) ∷ (7, off) ∷ (8, off) ∷ (11, alive) ∷ (12, alive) ∷ (13, alive) ∷ (14, alive) ∷ (15, alive) ∷ (16, alive) ∷ (17, alive) ∷ []) G0
 
   abbrev pub G35 : Cx
-  G35 = patched ((8, row5) ∷ (9, row14) ∷ (10, row17) ∷ (11, row8) ∷ (12, row11) ∷ (13, row1) ∷ (14, row20) ∷ (15, row23) ∷ (21, row3) ∷ (22, row4) ∷ (24, row7) ∷ (26, row10) ∷ (28, row13) ∷ (30, row16) ∷ (32, row19) ∷ (34, row22) ∷ (35, row24) ∷ []) ((2, off) ∷ (3, off) ∷ (4, off) ∷ (5, off) ∷ (6, off) ∷ (7, off) ∷ (8, off) ∷ (9, off) ∷ (11, alive) ∷ (12, alive) ∷ (13, alive) ∷ (14, alive) ∷ (15, alive) ∷ (16, alive) ∷ (17, alive) ∷ (18, alive) ∷ []) G0
+  G35 = patched ((8, row5 12) ∷ (9, row14 15) ∷ (10, row17 16) ∷ (11, row8) ∷ (12, row11) ∷ (13, row1) ∷ (14, row20) ∷ (15, row23) ∷ (21, row3) ∷ (22, row4) ∷ (24, row7 12) ∷ (26, row7 13) ∷ (28, row7 14) ∷ (30, row16 15) ∷ (32, row19 16) ∷ (34, row22 17) ∷ (35, row21 18) ∷ []) ((2, off) ∷ (3, off) ∷ (4, off) ∷ (5, off) ∷ (6, off) ∷ (7, off) ∷ (8, off) ∷ (9, off) ∷ (11, alive) ∷ (12, alive) ∷ (13, alive) ∷ (14, alive) ∷ (15, alive) ∷ (16, alive) ∷ (17, alive) ∷ (18, alive) ∷ []) G0
 
   abbrev pub G38 : Cx
-  G38 = patched ((8, row5) ∷ (9, row14) ∷ (10, row17) ∷ (11, row8) ∷ (12, row11) ∷ (13, row1) ∷ (14, row20) ∷ (15, row23) ∷ (16, row26) ∷ (21, row3) ∷ (22, row4) ∷ (24, row7) ∷ (26, row10) ∷ (28, row13) ∷ (30, row16) ∷ (32, row19) ∷ (34, row22) ∷ (36, row25) ∷ (37, row27) ∷ []) ((2, off) ∷ (3, off) ∷ (4, off) ∷ (5, off) ∷ (6, off) ∷ (7, off) ∷ (8, off) ∷ (9, off) ∷ (10, off) ∷ (11, alive) ∷ (12, alive) ∷ (13, alive) ∷ (14, alive) ∷ (15, alive) ∷ (16, alive) ∷ (17, alive) ∷ (18, alive) ∷ (19, alive) ∷ []) G0
+  G38 = patched ((8, row5 12) ∷ (9, row14 15) ∷ (10, row17 16) ∷ (11, row8) ∷ (12, row11) ∷ (13, row1) ∷ (14, row20) ∷ (15, row23) ∷ (16, row26) ∷ (21, row3) ∷ (22, row4) ∷ (24, row7 12) ∷ (26, row7 13) ∷ (28, row7 14) ∷ (30, row16 15) ∷ (32, row19 16) ∷ (34, row22 17) ∷ (36, row22 18) ∷ (37, row21 19) ∷ []) ((2, off) ∷ (3, off) ∷ (4, off) ∷ (5, off) ∷ (6, off) ∷ (7, off) ∷ (8, off) ∷ (9, off) ∷ (10, off) ∷ (11, alive) ∷ (12, alive) ∷ (13, alive) ∷ (14, alive) ∷ (15, alive) ∷ (16, alive) ∷ (17, alive) ∷ (18, alive) ∷ (19, alive) ∷ []) G0
 
   abbrev pub G39 : Cx
-  G39 = patched ((8, row5) ∷ (9, row14) ∷ (10, row17) ∷ (11, row8) ∷ (12, row11) ∷ (13, row1) ∷ (14, row20) ∷ (15, row23) ∷ (16, row26) ∷ (21, row3) ∷ (22, row4) ∷ (24, row7) ∷ (26, row10) ∷ (28, row13) ∷ (30, row16) ∷ (32, row19) ∷ (34, row22) ∷ (36, row25) ∷ (38, row28) ∷ []) ((2, off) ∷ (3, off) ∷ (4, off) ∷ (5, off) ∷ (6, off) ∷ (7, off) ∷ (8, off) ∷ (9, off) ∷ (10, off) ∷ (11, alive) ∷ (12, alive) ∷ (13, alive) ∷ (14, alive) ∷ (15, alive) ∷ (16, alive) ∷ (17, alive) ∷ (18, alive) ∷ (19, alive) ∷ []) G0
+  G39 = patched ((8, row5 12) ∷ (9, row14 15) ∷ (10, row17 16) ∷ (11, row8) ∷ (12, row11) ∷ (13, row1) ∷ (14, row20) ∷ (15, row23) ∷ (16, row26) ∷ (21, row3) ∷ (22, row4) ∷ (24, row7 12) ∷ (26, row7 13) ∷ (28, row7 14) ∷ (30, row16 15) ∷ (32, row19 16) ∷ (34, row22 17) ∷ (36, row22 18) ∷ (38, row22 19) ∷ []) ((2, off) ∷ (3, off) ∷ (4, off) ∷ (5, off) ∷ (6, off) ∷ (7, off) ∷ (8, off) ∷ (9, off) ∷ (10, off) ∷ (11, alive) ∷ (12, alive) ∷ (13, alive) ∷ (14, alive) ∷ (15, alive) ∷ (16, alive) ∷ (17, alive) ∷ (18, alive) ∷ (19, alive) ∷ []) G0
 
   abbrev pub G40 : Cx
-  G40 = patched ((8, row5) ∷ (9, row14) ∷ (10, row17) ∷ (11, row8) ∷ (12, row11) ∷ (13, row1) ∷ (14, row20) ∷ (15, row23) ∷ (16, row26) ∷ (17, row4) ∷ (21, row3) ∷ (22, row4) ∷ (24, row7) ∷ (26, row10) ∷ (28, row13) ∷ (30, row29) ∷ (32, row30) ∷ (34, row31) ∷ (36, row31) ∷ (38, row31) ∷ []) ((2, off) ∷ (3, off) ∷ (4, off) ∷ (5, off) ∷ (6, off) ∷ (7, off) ∷ (8, off) ∷ (9, off) ∷ (10, off) ∷ (11, alive) ∷ (12, alive) ∷ (13, alive) ∷ (14, alive) ∷ (15, alive) ∷ (16, alive) ∷ (17, alive) ∷ (18, alive) ∷ (19, alive) ∷ []) G0
+  G40 = patched ((8, row5 12) ∷ (9, row14 15) ∷ (10, row17 16) ∷ (11, row8) ∷ (12, row11) ∷ (13, row1) ∷ (14, row20) ∷ (15, row23) ∷ (16, row26) ∷ (17, row4) ∷ (21, row3) ∷ (22, row4) ∷ (24, row7 12) ∷ (26, row7 13) ∷ (28, row7 14) ∷ (30, row29) ∷ (32, row30) ∷ (34, row31) ∷ (36, row31) ∷ (38, row31) ∷ []) ((2, off) ∷ (3, off) ∷ (4, off) ∷ (5, off) ∷ (6, off) ∷ (7, off) ∷ (8, off) ∷ (9, off) ∷ (10, off) ∷ (11, alive) ∷ (12, alive) ∷ (13, alive) ∷ (14, alive) ∷ (15, alive) ∷ (16, alive) ∷ (17, alive) ∷ (18, alive) ∷ (19, alive) ∷ []) G0
 
   abbrev pub G43 : Cx
-  G43 = patched ((8, row5) ∷ (9, row14) ∷ (10, row17) ∷ (11, row8) ∷ (12, row11) ∷ (13, row1) ∷ (14, row20) ∷ (15, row23) ∷ (16, row26) ∷ (17, row4) ∷ (22, row4) ∷ (28, row13) ∷ (30, row29) ∷ (32, row30) ∷ (34, row31) ∷ (36, row31) ∷ (38, row31) ∷ []) ((2, off) ∷ (3, off) ∷ (4, off) ∷ (5, off) ∷ (6, off) ∷ (7, off) ∷ (8, off) ∷ (9, off) ∷ (10, off) ∷ (11, alive) ∷ (12, alive) ∷ (13, alive) ∷ (14, alive) ∷ (15, alive) ∷ (16, alive) ∷ (17, alive) ∷ (18, alive) ∷ (19, alive) ∷ []) G0
+  G43 = patched ((8, row5 12) ∷ (9, row14 15) ∷ (10, row17 16) ∷ (11, row8) ∷ (12, row11) ∷ (13, row1) ∷ (14, row20) ∷ (15, row23) ∷ (16, row26) ∷ (17, row4) ∷ (22, row4) ∷ (28, row7 14) ∷ (30, row29) ∷ (32, row30) ∷ (34, row31) ∷ (36, row31) ∷ (38, row31) ∷ []) ((2, off) ∷ (3, off) ∷ (4, off) ∷ (5, off) ∷ (6, off) ∷ (7, off) ∷ (8, off) ∷ (9, off) ∷ (10, off) ∷ (11, alive) ∷ (12, alive) ∷ (13, alive) ∷ (14, alive) ∷ (15, alive) ∷ (16, alive) ∷ (17, alive) ∷ (18, alive) ∷ (19, alive) ∷ []) G0
 
   abbrev pub G46 : Cx
-  G46 = patched ((8, row5) ∷ (9, row14) ∷ (10, row17) ∷ (11, row8) ∷ (12, row11) ∷ (13, row1) ∷ (14, row20) ∷ (15, row23) ∷ (16, row26) ∷ (17, row4) ∷ (30, row29) ∷ (32, row30) ∷ (34, row31) ∷ (36, row31) ∷ (38, row31) ∷ []) ((2, off) ∷ (3, off) ∷ (4, off) ∷ (5, off) ∷ (6, off) ∷ (7, off) ∷ (8, off) ∷ (9, off) ∷ (10, off) ∷ (11, dead) ∷ (12, alive) ∷ (13, alive) ∷ (14, alive) ∷ (15, alive) ∷ (16, alive) ∷ (17, alive) ∷ (18, alive) ∷ (19, alive) ∷ []) G0
+  G46 = patched ((8, row5 12) ∷ (9, row14 15) ∷ (10, row17 16) ∷ (11, row8) ∷ (12, row11) ∷ (13, row1) ∷ (14, row20) ∷ (15, row23) ∷ (16, row26) ∷ (17, row4) ∷ (30, row29) ∷ (32, row30) ∷ (34, row31) ∷ (36, row31) ∷ (38, row31) ∷ []) ((2, off) ∷ (3, off) ∷ (4, off) ∷ (5, off) ∷ (6, off) ∷ (7, off) ∷ (8, off) ∷ (9, off) ∷ (10, off) ∷ (11, dead) ∷ (12, alive) ∷ (13, alive) ∷ (14, alive) ∷ (15, alive) ∷ (16, alive) ∷ (17, alive) ∷ (18, alive) ∷ (19, alive) ∷ []) G0
 
   abbrev pub G49 : Cx
-  G49 = patched ((8, row5) ∷ (9, row14) ∷ (10, row17) ∷ (11, row8) ∷ (12, row11) ∷ (14, row20) ∷ (15, row23) ∷ (16, row26) ∷ (17, row4) ∷ (30, row29) ∷ (32, row30) ∷ (34, row31) ∷ (36, row31) ∷ (38, row31) ∷ []) ((2, off) ∷ (3, off) ∷ (4, off) ∷ (5, off) ∷ (6, off) ∷ (8, off) ∷ (9, off) ∷ (10, off) ∷ (12, dead) ∷ (13, alive) ∷ (14, alive) ∷ (15, alive) ∷ (16, alive) ∷ (17, alive) ∷ (18, alive) ∷ (19, alive) ∷ []) G0
+  G49 = patched ((8, row5 12) ∷ (9, row14 15) ∷ (10, row17 16) ∷ (11, row8) ∷ (12, row11) ∷ (14, row20) ∷ (15, row23) ∷ (16, row26) ∷ (17, row4) ∷ (30, row29) ∷ (32, row30) ∷ (34, row31) ∷ (36, row31) ∷ (38, row31) ∷ []) ((2, off) ∷ (3, off) ∷ (4, off) ∷ (5, off) ∷ (6, off) ∷ (8, off) ∷ (9, off) ∷ (10, off) ∷ (12, dead) ∷ (13, alive) ∷ (14, alive) ∷ (15, alive) ∷ (16, alive) ∷ (17, alive) ∷ (18, alive) ∷ (19, alive) ∷ []) G0
 
   abbrev pub G52 : Cx
-  G52 = patched ((9, row14) ∷ (10, row17) ∷ (11, row8) ∷ (12, row11) ∷ (14, row20) ∷ (15, row23) ∷ (16, row26) ∷ (17, row4) ∷ (30, row29) ∷ (32, row30) ∷ (34, row31) ∷ (36, row31) ∷ (38, row31) ∷ []) ((3, off) ∷ (4, off) ∷ (5, off) ∷ (6, off) ∷ (8, off) ∷ (9, off) ∷ (10, off) ∷ (13, dead) ∷ (14, alive) ∷ (15, alive) ∷ (16, alive) ∷ (17, alive) ∷ (18, alive) ∷ (19, alive) ∷ []) G0
+  G52 = patched ((9, row14 15) ∷ (10, row17 16) ∷ (11, row8) ∷ (12, row11) ∷ (14, row20) ∷ (15, row23) ∷ (16, row26) ∷ (17, row4) ∷ (30, row29) ∷ (32, row30) ∷ (34, row31) ∷ (36, row31) ∷ (38, row31) ∷ []) ((3, off) ∷ (4, off) ∷ (5, off) ∷ (6, off) ∷ (8, off) ∷ (9, off) ∷ (10, off) ∷ (13, dead) ∷ (14, alive) ∷ (15, alive) ∷ (16, alive) ∷ (17, alive) ∷ (18, alive) ∷ (19, alive) ∷ []) G0
 
   abbrev pub G55 : Cx
-  G55 = patched ((9, row14) ∷ (10, row17) ∷ (12, row11) ∷ (14, row20) ∷ (15, row23) ∷ (16, row26) ∷ (17, row4) ∷ (30, row29) ∷ (32, row30) ∷ (34, row31) ∷ (36, row31) ∷ (38, row31) ∷ []) ((3, off) ∷ (4, off) ∷ (6, off) ∷ (8, off) ∷ (9, off) ∷ (10, off) ∷ (14, dead) ∷ (15, alive) ∷ (16, alive) ∷ (17, alive) ∷ (18, alive) ∷ (19, alive) ∷ []) G0
+  G55 = patched ((9, row14 15) ∷ (10, row17 16) ∷ (12, row11) ∷ (14, row20) ∷ (15, row23) ∷ (16, row26) ∷ (17, row4) ∷ (30, row29) ∷ (32, row30) ∷ (34, row31) ∷ (36, row31) ∷ (38, row31) ∷ []) ((3, off) ∷ (4, off) ∷ (6, off) ∷ (8, off) ∷ (9, off) ∷ (10, off) ∷ (14, dead) ∷ (15, alive) ∷ (16, alive) ∷ (17, alive) ∷ (18, alive) ∷ (19, alive) ∷ []) G0
 
   abbrev pub G58 : Cx
-  G58 = patched ((9, row14) ∷ (10, row17) ∷ (14, row20) ∷ (15, row23) ∷ (16, row26) ∷ (17, row4) ∷ (30, row29) ∷ (32, row30) ∷ (34, row31) ∷ (36, row31) ∷ (38, row31) ∷ []) ((3, off) ∷ (4, off) ∷ (8, off) ∷ (9, off) ∷ (10, off) ∷ (15, dead) ∷ (16, alive) ∷ (17, alive) ∷ (18, alive) ∷ (19, alive) ∷ []) G0
+  G58 = patched ((9, row14 15) ∷ (10, row17 16) ∷ (14, row20) ∷ (15, row23) ∷ (16, row26) ∷ (17, row4) ∷ (30, row29) ∷ (32, row30) ∷ (34, row31) ∷ (36, row31) ∷ (38, row31) ∷ []) ((3, off) ∷ (4, off) ∷ (8, off) ∷ (9, off) ∷ (10, off) ∷ (15, dead) ∷ (16, alive) ∷ (17, alive) ∷ (18, alive) ∷ (19, alive) ∷ []) G0
 
   abbrev pub G62 : Cx
-  G62 = patched ((10, row17) ∷ (14, row20) ∷ (15, row23) ∷ (16, row26) ∷ (17, row4) ∷ (32, row30) ∷ (34, row31) ∷ (36, row31) ∷ (38, row31) ∷ []) ((4, off) ∷ (8, off) ∷ (9, off) ∷ (10, off) ∷ (16, dead) ∷ (17, alive) ∷ (18, alive) ∷ (19, alive) ∷ []) G0
+  G62 = patched ((10, row17 16) ∷ (14, row20) ∷ (15, row23) ∷ (16, row26) ∷ (17, row4) ∷ (32, row30) ∷ (34, row31) ∷ (36, row31) ∷ (38, row31) ∷ []) ((4, off) ∷ (8, off) ∷ (9, off) ∷ (10, off) ∷ (16, dead) ∷ (17, alive) ∷ (18, alive) ∷ (19, alive) ∷ []) G0
 
   abbrev pub G66 : Cx
   G66 = patched ((14, row20) ∷ (15, row23) ∷ (16, row26) ∷ (17, row4) ∷ (34, row31) ∷ (36, row31) ∷ (38, row31) ∷ []) ((8, off) ∷ (9, off) ∷ (10, off) ∷ (17, dead) ∷ (18, alive) ∷ (19, alive) ∷ []) G0
@@ -298,34 +226,34 @@ module _ (κs : Lfts 11) (qs : Shares 11) where
   G93 = patched ((7, (any-gone (ty 7))) ∷ (15, row34) ∷ (17, row4) ∷ (18, row4) ∷ (40, row35) ∷ []) ((9, off) ∷ (20, alive) ∷ []) G0
 
   abbrev pub G96 : Cx
-  G96 = patched ((7, (any-gone (ty 7))) ∷ (8, row37) ∷ (15, row34) ∷ (17, row4) ∷ (18, row4) ∷ (41, row36) ∷ (42, row38) ∷ []) ((2, off) ∷ (9, off) ∷ (20, alive) ∷ (21, alive) ∷ []) G0
+  G96 = patched ((7, (any-gone (ty 7))) ∷ (8, row37) ∷ (15, row34) ∷ (17, row4) ∷ (18, row4) ∷ (41, row36) ∷ (42, row18 21) ∷ []) ((2, off) ∷ (9, off) ∷ (20, alive) ∷ (21, alive) ∷ []) G0
 
   abbrev pub G99 : Cx
-  G99 = patched ((7, (any-gone (ty 7))) ∷ (8, row37) ∷ (9, row40) ∷ (15, row34) ∷ (17, row4) ∷ (18, row4) ∷ (41, row36) ∷ (43, row39) ∷ (44, row41) ∷ []) ((2, off) ∷ (3, off) ∷ (9, off) ∷ (20, alive) ∷ (21, alive) ∷ (22, alive) ∷ []) G0
+  G99 = patched ((7, (any-gone (ty 7))) ∷ (8, row37) ∷ (9, row14 22) ∷ (15, row34) ∷ (17, row4) ∷ (18, row4) ∷ (41, row36) ∷ (43, row19 21) ∷ (44, row15 22) ∷ []) ((2, off) ∷ (3, off) ∷ (9, off) ∷ (20, alive) ∷ (21, alive) ∷ (22, alive) ∷ []) G0
 
   abbrev pub G102 : Cx
-  G102 = patched ((7, (any-gone (ty 7))) ∷ (8, row37) ∷ (9, row40) ∷ (10, row43) ∷ (15, row34) ∷ (17, row4) ∷ (18, row4) ∷ (41, row36) ∷ (43, row39) ∷ (45, row42) ∷ (46, row44) ∷ []) ((2, off) ∷ (3, off) ∷ (4, off) ∷ (9, off) ∷ (20, alive) ∷ (21, alive) ∷ (22, alive) ∷ (23, alive) ∷ []) G0
+  G102 = patched ((7, (any-gone (ty 7))) ∷ (8, row37) ∷ (9, row14 22) ∷ (10, row17 23) ∷ (15, row34) ∷ (17, row4) ∷ (18, row4) ∷ (41, row36) ∷ (43, row19 21) ∷ (45, row16 22) ∷ (46, row18 23) ∷ []) ((2, off) ∷ (3, off) ∷ (4, off) ∷ (9, off) ∷ (20, alive) ∷ (21, alive) ∷ (22, alive) ∷ (23, alive) ∷ []) G0
 
   abbrev pub G105 : Cx
-  G105 = patched ((7, (any-gone (ty 7))) ∷ (8, row37) ∷ (9, row40) ∷ (10, row43) ∷ (11, row46) ∷ (15, row34) ∷ (17, row4) ∷ (18, row4) ∷ (41, row36) ∷ (43, row39) ∷ (45, row42) ∷ (47, row45) ∷ (48, row47) ∷ []) ((2, off) ∷ (3, off) ∷ (4, off) ∷ (5, off) ∷ (9, off) ∷ (20, alive) ∷ (21, alive) ∷ (22, alive) ∷ (23, alive) ∷ (24, alive) ∷ []) G0
+  G105 = patched ((7, (any-gone (ty 7))) ∷ (8, row37) ∷ (9, row14 22) ∷ (10, row17 23) ∷ (11, row46) ∷ (15, row34) ∷ (17, row4) ∷ (18, row4) ∷ (41, row36) ∷ (43, row19 21) ∷ (45, row16 22) ∷ (47, row19 23) ∷ (48, row18 24) ∷ []) ((2, off) ∷ (3, off) ∷ (4, off) ∷ (5, off) ∷ (9, off) ∷ (20, alive) ∷ (21, alive) ∷ (22, alive) ∷ (23, alive) ∷ (24, alive) ∷ []) G0
 
   abbrev pub G108 : Cx
-  G108 = patched ((7, (any-gone (ty 7))) ∷ (8, row37) ∷ (9, row40) ∷ (10, row43) ∷ (11, row46) ∷ (12, row49) ∷ (15, row34) ∷ (17, row4) ∷ (18, row4) ∷ (41, row36) ∷ (43, row39) ∷ (45, row42) ∷ (47, row45) ∷ (49, row48) ∷ (50, row50) ∷ []) ((2, off) ∷ (3, off) ∷ (4, off) ∷ (5, off) ∷ (6, off) ∷ (9, off) ∷ (20, alive) ∷ (21, alive) ∷ (22, alive) ∷ (23, alive) ∷ (24, alive) ∷ (25, alive) ∷ []) G0
+  G108 = patched ((7, (any-gone (ty 7))) ∷ (8, row37) ∷ (9, row14 22) ∷ (10, row17 23) ∷ (11, row46) ∷ (12, row49) ∷ (15, row34) ∷ (17, row4) ∷ (18, row4) ∷ (41, row36) ∷ (43, row19 21) ∷ (45, row16 22) ∷ (47, row19 23) ∷ (49, row19 24) ∷ (50, row18 25) ∷ []) ((2, off) ∷ (3, off) ∷ (4, off) ∷ (5, off) ∷ (6, off) ∷ (9, off) ∷ (20, alive) ∷ (21, alive) ∷ (22, alive) ∷ (23, alive) ∷ (24, alive) ∷ (25, alive) ∷ []) G0
 
   abbrev pub G109 : Cx
-  G109 = patched ((7, (any-gone (ty 7))) ∷ (8, row37) ∷ (9, row40) ∷ (10, row43) ∷ (11, row46) ∷ (12, row49) ∷ (15, row34) ∷ (17, row4) ∷ (18, row4) ∷ (41, row36) ∷ (43, row39) ∷ (45, row42) ∷ (47, row45) ∷ (49, row48) ∷ (51, row51) ∷ []) ((2, off) ∷ (3, off) ∷ (4, off) ∷ (5, off) ∷ (6, off) ∷ (9, off) ∷ (20, alive) ∷ (21, alive) ∷ (22, alive) ∷ (23, alive) ∷ (24, alive) ∷ (25, alive) ∷ []) G0
+  G109 = patched ((7, (any-gone (ty 7))) ∷ (8, row37) ∷ (9, row14 22) ∷ (10, row17 23) ∷ (11, row46) ∷ (12, row49) ∷ (15, row34) ∷ (17, row4) ∷ (18, row4) ∷ (41, row36) ∷ (43, row19 21) ∷ (45, row16 22) ∷ (47, row19 23) ∷ (49, row19 24) ∷ (51, row19 25) ∷ []) ((2, off) ∷ (3, off) ∷ (4, off) ∷ (5, off) ∷ (6, off) ∷ (9, off) ∷ (20, alive) ∷ (21, alive) ∷ (22, alive) ∷ (23, alive) ∷ (24, alive) ∷ (25, alive) ∷ []) G0
 
   abbrev pub G110 : Cx
-  G110 = patched ((7, (any-gone (ty 7))) ∷ (8, row37) ∷ (9, row40) ∷ (10, row43) ∷ (11, row46) ∷ (12, row49) ∷ (15, row34) ∷ (17, row4) ∷ (18, row4) ∷ (19, row33) ∷ (41, row36) ∷ (43, row30) ∷ (45, row29) ∷ (47, row30) ∷ (49, row30) ∷ (51, row30) ∷ []) ((2, off) ∷ (3, off) ∷ (4, off) ∷ (5, off) ∷ (6, off) ∷ (9, off) ∷ (20, alive) ∷ (21, alive) ∷ (22, alive) ∷ (23, alive) ∷ (24, alive) ∷ (25, alive) ∷ []) G0
+  G110 = patched ((7, (any-gone (ty 7))) ∷ (8, row37) ∷ (9, row14 22) ∷ (10, row17 23) ∷ (11, row46) ∷ (12, row49) ∷ (15, row34) ∷ (17, row4) ∷ (18, row4) ∷ (19, row33) ∷ (41, row36) ∷ (43, row30) ∷ (45, row29) ∷ (47, row30) ∷ (49, row30) ∷ (51, row30) ∷ []) ((2, off) ∷ (3, off) ∷ (4, off) ∷ (5, off) ∷ (6, off) ∷ (9, off) ∷ (20, alive) ∷ (21, alive) ∷ (22, alive) ∷ (23, alive) ∷ (24, alive) ∷ (25, alive) ∷ []) G0
 
   abbrev pub G113 : Cx
-  G113 = patched ((7, (any-gone (ty 7))) ∷ (8, row37) ∷ (9, row40) ∷ (10, row43) ∷ (11, row46) ∷ (12, row49) ∷ (17, row4) ∷ (18, row4) ∷ (19, row33) ∷ (43, row30) ∷ (45, row29) ∷ (47, row30) ∷ (49, row30) ∷ (51, row30) ∷ []) ((2, off) ∷ (3, off) ∷ (4, off) ∷ (5, off) ∷ (6, off) ∷ (20, dead) ∷ (21, alive) ∷ (22, alive) ∷ (23, alive) ∷ (24, alive) ∷ (25, alive) ∷ []) G0
+  G113 = patched ((7, (any-gone (ty 7))) ∷ (8, row37) ∷ (9, row14 22) ∷ (10, row17 23) ∷ (11, row46) ∷ (12, row49) ∷ (17, row4) ∷ (18, row4) ∷ (19, row33) ∷ (43, row30) ∷ (45, row29) ∷ (47, row30) ∷ (49, row30) ∷ (51, row30) ∷ []) ((2, off) ∷ (3, off) ∷ (4, off) ∷ (5, off) ∷ (6, off) ∷ (20, dead) ∷ (21, alive) ∷ (22, alive) ∷ (23, alive) ∷ (24, alive) ∷ (25, alive) ∷ []) G0
 
   abbrev pub G116 : Cx
-  G116 = patched ((7, (any-gone (ty 7))) ∷ (9, row40) ∷ (10, row43) ∷ (11, row46) ∷ (12, row49) ∷ (17, row4) ∷ (18, row4) ∷ (19, row33) ∷ (45, row29) ∷ (47, row30) ∷ (49, row30) ∷ (51, row30) ∷ []) ((3, off) ∷ (4, off) ∷ (5, off) ∷ (6, off) ∷ (21, dead) ∷ (22, alive) ∷ (23, alive) ∷ (24, alive) ∷ (25, alive) ∷ []) G0
+  G116 = patched ((7, (any-gone (ty 7))) ∷ (9, row14 22) ∷ (10, row17 23) ∷ (11, row46) ∷ (12, row49) ∷ (17, row4) ∷ (18, row4) ∷ (19, row33) ∷ (45, row29) ∷ (47, row30) ∷ (49, row30) ∷ (51, row30) ∷ []) ((3, off) ∷ (4, off) ∷ (5, off) ∷ (6, off) ∷ (21, dead) ∷ (22, alive) ∷ (23, alive) ∷ (24, alive) ∷ (25, alive) ∷ []) G0
 
   abbrev pub G120 : Cx
-  G120 = patched ((7, (any-gone (ty 7))) ∷ (10, row43) ∷ (11, row46) ∷ (12, row49) ∷ (17, row4) ∷ (18, row4) ∷ (19, row33) ∷ (47, row30) ∷ (49, row30) ∷ (51, row30) ∷ []) ((4, off) ∷ (5, off) ∷ (6, off) ∷ (22, dead) ∷ (23, alive) ∷ (24, alive) ∷ (25, alive) ∷ []) G0
+  G120 = patched ((7, (any-gone (ty 7))) ∷ (10, row17 23) ∷ (11, row46) ∷ (12, row49) ∷ (17, row4) ∷ (18, row4) ∷ (19, row33) ∷ (47, row30) ∷ (49, row30) ∷ (51, row30) ∷ []) ((4, off) ∷ (5, off) ∷ (6, off) ∷ (22, dead) ∷ (23, alive) ∷ (24, alive) ∷ (25, alive) ∷ []) G0
 
   abbrev pub G124 : Cx
   G124 = patched ((7, (any-gone (ty 7))) ∷ (11, row46) ∷ (12, row49) ∷ (17, row4) ∷ (18, row4) ∷ (19, row33) ∷ (49, row30) ∷ (51, row30) ∷ []) ((5, off) ∷ (6, off) ∷ (23, dead) ∷ (24, alive) ∷ (25, alive) ∷ []) G0
@@ -343,19 +271,19 @@ module _ (κs : Lfts 11) (qs : Shares 11) where
   G137 = patched ((7, (any-gone (ty 7))) ∷ (13, row52) ∷ (17, row4) ∷ (18, row4) ∷ (19, row33) ∷ (54, row54) ∷ []) ((7, off) ∷ (26, alive) ∷ []) G0
 
   abbrev pub G140 : Cx
-  G140 = patched ((7, (any-gone (ty 7))) ∷ (8, row55) ∷ (13, row52) ∷ (17, row4) ∷ (18, row4) ∷ (19, row33) ∷ (54, row54) ∷ (56, row57) ∷ []) ((2, off) ∷ (7, off) ∷ (26, alive) ∷ (27, alive) ∷ []) G0
+  G140 = patched ((7, (any-gone (ty 7))) ∷ (8, row5 27) ∷ (13, row52) ∷ (17, row4) ∷ (18, row4) ∷ (19, row33) ∷ (54, row54) ∷ (56, row7 27) ∷ []) ((2, off) ∷ (7, off) ∷ (26, alive) ∷ (27, alive) ∷ []) G0
 
   abbrev pub G143 : Cx
-  G143 = patched ((7, (any-gone (ty 7))) ∷ (8, row55) ∷ (10, row58) ∷ (13, row52) ∷ (17, row4) ∷ (18, row4) ∷ (19, row33) ∷ (54, row54) ∷ (56, row57) ∷ (58, row60) ∷ []) ((2, off) ∷ (4, off) ∷ (7, off) ∷ (26, alive) ∷ (27, alive) ∷ (28, alive) ∷ []) G0
+  G143 = patched ((7, (any-gone (ty 7))) ∷ (8, row5 27) ∷ (10, row58) ∷ (13, row52) ∷ (17, row4) ∷ (18, row4) ∷ (19, row33) ∷ (54, row54) ∷ (56, row7 27) ∷ (58, row7 28) ∷ []) ((2, off) ∷ (4, off) ∷ (7, off) ∷ (26, alive) ∷ (27, alive) ∷ (28, alive) ∷ []) G0
 
   abbrev pub G144 : Cx
-  G144 = patched ((7, (any-gone (ty 7))) ∷ (8, row55) ∷ (10, row58) ∷ (13, row52) ∷ (17, row4) ∷ (18, row4) ∷ (19, row33) ∷ (52, row61) ∷ (54, row62) ∷ (56, row57) ∷ (58, row60) ∷ []) ((2, off) ∷ (4, off) ∷ (7, off) ∷ (26, alive) ∷ (27, alive) ∷ (28, alive) ∷ []) G0
+  G144 = patched ((7, (any-gone (ty 7))) ∷ (8, row5 27) ∷ (10, row58) ∷ (13, row52) ∷ (17, row4) ∷ (18, row4) ∷ (19, row33) ∷ (52, row61) ∷ (54, row62) ∷ (56, row7 27) ∷ (58, row7 28) ∷ []) ((2, off) ∷ (4, off) ∷ (7, off) ∷ (26, alive) ∷ (27, alive) ∷ (28, alive) ∷ []) G0
 
   abbrev pub G147 : Cx
-  G147 = patched ((6, (any-gone (ty 6))) ∷ (7, (any-gone (ty 7))) ∷ (8, row55) ∷ (10, row58) ∷ (13, row52) ∷ (17, row4) ∷ (18, row4) ∷ (19, row33) ∷ (52, row61) ∷ (54, row62) ∷ []) ((2, off) ∷ (4, off) ∷ (7, off) ∷ (26, alive) ∷ (27, alive) ∷ (28, alive) ∷ []) G0
+  G147 = patched ((6, (any-gone (ty 6))) ∷ (7, (any-gone (ty 7))) ∷ (8, row5 27) ∷ (10, row58) ∷ (13, row52) ∷ (17, row4) ∷ (18, row4) ∷ (19, row33) ∷ (52, row61) ∷ (54, row62) ∷ []) ((2, off) ∷ (4, off) ∷ (7, off) ∷ (26, alive) ∷ (27, alive) ∷ (28, alive) ∷ []) G0
 
   abbrev pub G150 : Cx
-  G150 = patched ((6, (any-gone (ty 6))) ∷ (7, (any-gone (ty 7))) ∷ (8, row55) ∷ (10, row58) ∷ (17, row4) ∷ (18, row4) ∷ (19, row33) ∷ []) ((2, off) ∷ (4, off) ∷ (26, dead) ∷ (27, alive) ∷ (28, alive) ∷ []) G0
+  G150 = patched ((6, (any-gone (ty 6))) ∷ (7, (any-gone (ty 7))) ∷ (8, row5 27) ∷ (10, row58) ∷ (17, row4) ∷ (18, row4) ∷ (19, row33) ∷ []) ((2, off) ∷ (4, off) ∷ (26, dead) ∷ (27, alive) ∷ (28, alive) ∷ []) G0
 
   abbrev pub G153 : Cx
   G153 = patched ((6, (any-gone (ty 6))) ∷ (7, (any-gone (ty 7))) ∷ (10, row58) ∷ (17, row4) ∷ (18, row4) ∷ (19, row33) ∷ []) ((4, off) ∷ (27, dead) ∷ (28, alive) ∷ []) G0
@@ -382,7 +310,7 @@ module _ (κs : Lfts 11) (qs : Shares 11) where
   Γ-from-renew = G134
 
 module _ {M : Type 1} (𝓤 : URA M) (H : Heap 𝓤) (A : Atoms 𝓤) (W : Given 𝓤 H A) (𝓣 : Tables 𝓤 H)
-    (known0 : Knows 𝓤 H A W 𝓣 10 K0.ps K0.r R0.Asked R0.Learnt "topology::to_rest::pass_kept") (known1 : Knows 𝓤 H A W 𝓣 7 K1.ps K1.r R1.Asked R1.Learnt "rest_lists::kept::divide_again") (known2 : Knows 𝓤 H A W 𝓣 4 K2.ps K2.r R2.Asked R2.Learnt "topology::records::renew") (κs : Lfts 11) (qs : Shares 11) (bs : List ℕ) where
+    (known0 : Knows 𝓤 H A W 𝓣 10 K0.ps K0.r K0.Asked K0.Learnt "topology::to_rest::pass_kept") (known1 : Knows 𝓤 H A W 𝓣 7 K1.ps K1.r R1.Asked R1.Learnt "rest_lists::kept::divide_again") (known2 : Knows 𝓤 H A W 𝓣 4 K2.ps K2.r K2.Asked K2.Learnt "topology::records::renew") (κs : Lfts 11) (qs : Shares 11) (bs : List ℕ) where
   abbrev E : Env 𝓤 H
   E = EnvOf 𝓤 H (tyR r ∷ tysP ps xs) bs
 
@@ -397,7 +325,7 @@ module _ {M : Type 1} (𝓤 : URA M) (H : Heap 𝓤) (A : Atoms 𝓤) (W : Given
       ghosts (G140 κs qs) _ (g-begin 𝓤 H A W E (G140 κs qs) 28 _) $
       stmt _ _ (t-sl-reshare 𝓤 H A W E (rtF (fInt w32)) 𝓣 _ 10 57 4 28 (tyRef (named 4) mut (tyInt w32)) (tyRef erased imm (tyInt w32)) (lease (κs .1 .1 .1 .1 .0) (qs .1 .1 .1 .1 .0)) 0 (λ x. x) (as-is 𝓤 H A (mslice (rtF (fInt w32)) (tyRef (named 4) mut (tyInt w32)) 4)) (room-gone 𝓤 H A (tyRef erased imm (tyInt w32))) refl tt refl refl refl (λ b o. tt)) $
       stmt _ (G143 κs qs) (t-sl-aggregate 𝓤 H A W E (rtF (fInt w32)) 𝓣 (asShr (rtF (fInt w32))) _ 57 58 28 (tyRef erased imm (tyInt w32)) (tyRef erased imm (tyInt w32)) (λ x. x) (oFld 10 (field 1 ∷ []) (tyInt w64) 8 (λ v. lenV (v .0))) (as-is 𝓤 H A (ssptr (rtF (fInt w32)) (tyRef erased imm (tyInt w32)) 28)) (room-gone 𝓤 H A _) (reads-owedS-len 𝓤 H A W (rtF (fInt w32)) (tyRef (named 4) mut (tyInt w32)) 4 28 (lease (κs .1 .1 .1 .1 .0) (qs .1 .1 .1 .1 .0)) 8 refl, refl) refl refl (λ b o k. tt)) $
-      stmt (G143 κs qs) (G144 κs qs) (t-call-plain 𝓤 H A W 𝓣 4 K2.ps K2.r R2.Asked R2.Learnt "topology::records::renew" known2 E (λ pos β. β) (G143 κs qs) (record { pos = 54; ty = tyRef erased mut (pointee (twin-0.the-row .written)); ref = λ x. x }, (vFld 6 (field 1 ∷ []) 8 (λ x. struct .as-values x .1 .0), (vFld 19 (field 1 ∷ []) 8 (λ x. struct .as-values x .1 .0), (vAt 2 (λ x. x), (record { pos = 4; ty = tyRef (named 0) imm (tyInt w8); ref = λ x. x }, (record { pos = 56; ty = tyRef erased imm (tyInt w32); ref = λ x. x }, (record { pos = 58; ty = tyRef erased imm (tyInt w32); ref = λ x. x }, tt))))))) 52 (26 ∷ 0 ∷ 27 ∷ 28 ∷ []) (sub-id 𝓤 H A W ((G143 κs qs) .slots)) (as-is 𝓤 H A (mslice twin-0.the-row (tyRef erased mut (pointee (twin-0.the-row .written))) 26), reads-mslice 𝓤 H A W twin-0.the-row (tyRef erased mut (pointee (twin-0.the-row .written))) 26, refl, ((reads-field 𝓤 H A W Standing.the-type Laws.the-laws 1 (tyInt w64) 8 refl, refl), ((reads-field 𝓤 H A W Standing.the-type Laws.the-laws 1 (tyInt w64) 8 refl, refl), ((reads-sc 𝓤 H A W (sInt w64), refl), (spares-sslice 𝓤 H A W (rtF (fInt w8)) (tyRef (named 0) imm (tyInt w8)) 0, reads-sslice 𝓤 H A W (rtF (fInt w8)) (tyRef (named 0) imm (tyInt w8)) 0, refl, (spares-sslice 𝓤 H A W (rtF (fInt w32)) (tyRef erased imm (tyInt w32)) 27, reads-sslice 𝓤 H A W (rtF (fInt w32)) (tyRef erased imm (tyInt w32)) 27, refl, (spares-sslice 𝓤 H A W (rtF (fInt w32)) (tyRef erased imm (tyInt w32)) 28, reads-sslice 𝓤 H A W (rtF (fInt w32)) (tyRef erased imm (tyInt w32)) 28, refl, tt))))))) (room-gone 𝓤 H A tyUnit) _ refl) $
+      stmt (G143 κs qs) (G144 κs qs) (t-call-plain 𝓤 H A W 𝓣 4 K2.ps K2.r K2.Asked K2.Learnt "topology::records::renew" known2 E (λ pos β. β) (G143 κs qs) (record { pos = 54; ty = tyRef erased mut (pointee (twin-0.the-row .written)); ref = λ x. x }, (vFld 6 (field 1 ∷ []) 8 (λ x. struct .as-values x .1 .0), (vFld 19 (field 1 ∷ []) 8 (λ x. struct .as-values x .1 .0), (vAt 2 (λ x. x), (record { pos = 4; ty = tyRef (named 0) imm (tyInt w8); ref = λ x. x }, (record { pos = 56; ty = tyRef erased imm (tyInt w32); ref = λ x. x }, (record { pos = 58; ty = tyRef erased imm (tyInt w32); ref = λ x. x }, tt))))))) 52 (26 ∷ 0 ∷ 27 ∷ 28 ∷ []) (sub-id 𝓤 H A W ((G143 κs qs) .slots)) (as-is 𝓤 H A (mslice twin-0.the-row (tyRef erased mut (pointee (twin-0.the-row .written))) 26), reads-mslice 𝓤 H A W twin-0.the-row (tyRef erased mut (pointee (twin-0.the-row .written))) 26, refl, ((reads-field 𝓤 H A W Standing.the-type Laws.the-laws 1 (tyInt w64) 8 refl, refl), ((reads-field 𝓤 H A W Standing.the-type Laws.the-laws 1 (tyInt w64) 8 refl, refl), ((reads-sc 𝓤 H A W (sInt w64), refl), (spares-sslice 𝓤 H A W (rtF (fInt w8)) (tyRef (named 0) imm (tyInt w8)) 0, reads-sslice 𝓤 H A W (rtF (fInt w8)) (tyRef (named 0) imm (tyInt w8)) 0, refl, (spares-sslice 𝓤 H A W (rtF (fInt w32)) (tyRef erased imm (tyInt w32)) 27, reads-sslice 𝓤 H A W (rtF (fInt w32)) (tyRef erased imm (tyInt w32)) 27, refl, (spares-sslice 𝓤 H A W (rtF (fInt w32)) (tyRef erased imm (tyInt w32)) 28, reads-sslice 𝓤 H A W (rtF (fInt w32)) (tyRef erased imm (tyInt w32)) 28, refl, tt))))))) (room-gone 𝓤 H A tyUnit) _ refl) $
       ghosts (G144 κs qs) _ (g-room 𝓤 H A W E (G144 κs qs) 56 _ (room-sslice 𝓤 H A W (rtF (fInt w32)) (tyRef erased imm (tyInt w32)) 27)) $
       ghosts _ _ (g-room 𝓤 H A W E _ 58 _ (room-sslice 𝓤 H A W (rtF (fInt w32)) (tyRef erased imm (tyInt w32)) 28)) $
       ghosts _ (G147 κs qs) (g-room 𝓤 H A W E _ 6 _ (room-whole 𝓤 H A W (row Standing.the-type) _ refl)) $
@@ -512,7 +440,7 @@ module _ {M : Type 1} (𝓤 : URA M) (H : Heap 𝓤) (A : Atoms 𝓤) (W : Given
       ghosts _ _ (g-begin 𝓤 H A W E _ 19 _) $
       stmt _ (G38 κs qs) (t-sl-relend 𝓤 H A W E (rtF (fInt w64)) 𝓣 _ 16 37 10 19 (tyRef (named 10) mut (tyInt w64)) (tyRef erased mut (tyInt w64)) (lease (κs .1 .1 .1 .1 .1 .1 .1 .1 .1 .1 .0) (qs .1 .1 .1 .1 .1 .1 .1 .1 .1 .1 .0)) 0 (λ x. x) (as-is 𝓤 H A (mslice (rtF (fInt w64)) (tyRef (named 10) mut (tyInt w64)) 10)) (room-gone 𝓤 H A (tyRef erased mut (tyInt w64))) refl tt refl refl refl (λ b o. tt)) $
       stmt (G38 κs qs) (G39 κs qs) (t-sl-aggregate 𝓤 H A W E (rtF (fInt w64)) 𝓣 (asMut (rtF (fInt w64))) (G38 κs qs) 37 38 19 (tyRef erased mut (tyInt w64)) (tyRef erased mut (tyInt w64)) (λ x. x) (oFld 16 (field 1 ∷ []) (tyInt w64) 8 (λ v. lenV (v .0))) (as-is 𝓤 H A (msptr (rtF (fInt w64)) (tyRef erased mut (tyInt w64)) 19)) (room-gone 𝓤 H A _) (reads-owed-len 𝓤 H A W (rtF (fInt w64)) (tyRef (named 10) mut (tyInt w64)) 10 19 (lease (κs .1 .1 .1 .1 .1 .1 .1 .1 .1 .1 .0) (qs .1 .1 .1 .1 .1 .1 .1 .1 .1 .1 .0)) 8 refl, refl) refl refl (λ b o k. tt)) $
-      stmt (G39 κs qs) (G40 κs qs) (t-call-plain 𝓤 H A W 𝓣 10 K0.ps K0.r R0.Asked R0.Learnt "topology::to_rest::pass_kept" known0 E (λ pos β. β) (G39 κs qs) (vAt 1 (λ x. x), (record { pos = 21; ty = tyRef erased imm (pointee (twin-0.the-row .written)); ref = λ x. x }, (vAt 2 (λ x. x), (vAt 22 (λ x. x), (record { pos = 24; ty = tyRef erased imm (tyInt w32); ref = λ x. x }, (record { pos = 5; ty = tyRef (named 1) imm (tyInt w64); ref = λ x. x }, (record { pos = 7; st = []; d = 0; at = λ x. x }, (record { pos = 26; ty = tyRef erased imm (tyInt w32); ref = λ x. x }, (record { pos = 28; ty = tyRef erased imm (tyInt w32); ref = λ x. x }, (record { pos = 30; ty = tyRef erased mut (tyInt w16); ref = λ x. x }, (record { pos = 32; ty = tyRef erased mut (tyInt w32); ref = λ x. x }, (record { pos = 34; ty = tyRef erased mut (tyInt w64); ref = λ x. x }, (record { pos = 36; ty = tyRef erased mut (tyInt w64); ref = λ x. x }, (record { pos = 38; ty = tyRef erased mut (tyInt w64); ref = λ x. x }, tt)))))))))))))) 17 (11 ∷ 12 ∷ 1 ∷ 13 ∷ 14 ∷ 15 ∷ 16 ∷ 17 ∷ 18 ∷ 19 ∷ []) (sub-id 𝓤 H A W ((G39 κs qs) .slots)) ((reads-sc 𝓤 H A W (sInt w64), refl), (spares-sslice 𝓤 H A W twin-0.the-row (tyRef erased imm (pointee (twin-0.the-row .written))) 11, reads-sslice 𝓤 H A W twin-0.the-row (tyRef erased imm (pointee (twin-0.the-row .written))) 11, refl, ((reads-sc 𝓤 H A W (sInt w64), refl), ((reads-sc 𝓤 H A W (sInt w64), refl), (spares-sslice 𝓤 H A W (rtF (fInt w32)) (tyRef erased imm (tyInt w32)) 12, reads-sslice 𝓤 H A W (rtF (fInt w32)) (tyRef erased imm (tyInt w32)) 12, refl, (spares-sslice 𝓤 H A W (rtF (fInt w64)) (tyRef (named 1) imm (tyInt w64)) 1, reads-sslice 𝓤 H A W (rtF (fInt w64)) (tyRef (named 1) imm (tyInt w64)) 1, refl, ((yields-copy 𝓤 H A W (λ ρ. Unit) (row Standing.the-type) refl (cStruct Standing.the-type Laws.the-laws Laws.the-copy .copy 𝓤 H A W) (whole (row Standing.the-type)) (λ x. x) (λ x. x) (λ ρ told. mem-whole 𝓤 H A W (row Standing.the-type) ρ) (λ ρ told. whole-mem 𝓤 H A W (row Standing.the-type) ρ), refl), (spares-sslice 𝓤 H A W (rtF (fInt w32)) (tyRef erased imm (tyInt w32)) 13, reads-sslice 𝓤 H A W (rtF (fInt w32)) (tyRef erased imm (tyInt w32)) 13, refl, (spares-sslice 𝓤 H A W (rtF (fInt w32)) (tyRef erased imm (tyInt w32)) 14, reads-sslice 𝓤 H A W (rtF (fInt w32)) (tyRef erased imm (tyInt w32)) 14, refl, (as-is 𝓤 H A (mslice (rtF (fInt w16)) (tyRef erased mut (tyInt w16)) 15), reads-mslice 𝓤 H A W (rtF (fInt w16)) (tyRef erased mut (tyInt w16)) 15, refl, (as-is 𝓤 H A (mslice (rtF (fInt w32)) (tyRef erased mut (tyInt w32)) 16), reads-mslice 𝓤 H A W (rtF (fInt w32)) (tyRef erased mut (tyInt w32)) 16, refl, (as-is 𝓤 H A (mslice (rtF (fInt w64)) (tyRef erased mut (tyInt w64)) 17), reads-mslice 𝓤 H A W (rtF (fInt w64)) (tyRef erased mut (tyInt w64)) 17, refl, (as-is 𝓤 H A (mslice (rtF (fInt w64)) (tyRef erased mut (tyInt w64)) 18), reads-mslice 𝓤 H A W (rtF (fInt w64)) (tyRef erased mut (tyInt w64)) 18, refl, (as-is 𝓤 H A (mslice (rtF (fInt w64)) (tyRef erased mut (tyInt w64)) 19), reads-mslice 𝓤 H A W (rtF (fInt w64)) (tyRef erased mut (tyInt w64)) 19, refl, tt)))))))))))))) (room-gone 𝓤 H A (tyInt w64)) _ refl) $
+      stmt (G39 κs qs) (G40 κs qs) (t-call-plain 𝓤 H A W 𝓣 10 K0.ps K0.r K0.Asked K0.Learnt "topology::to_rest::pass_kept" known0 E (λ pos β. β) (G39 κs qs) (vAt 1 (λ x. x), (record { pos = 21; ty = tyRef erased imm (pointee (twin-0.the-row .written)); ref = λ x. x }, (vAt 2 (λ x. x), (vAt 22 (λ x. x), (record { pos = 24; ty = tyRef erased imm (tyInt w32); ref = λ x. x }, (record { pos = 5; ty = tyRef (named 1) imm (tyInt w64); ref = λ x. x }, (record { pos = 7; st = []; d = 0; at = λ x. x }, (record { pos = 26; ty = tyRef erased imm (tyInt w32); ref = λ x. x }, (record { pos = 28; ty = tyRef erased imm (tyInt w32); ref = λ x. x }, (record { pos = 30; ty = tyRef erased mut (tyInt w16); ref = λ x. x }, (record { pos = 32; ty = tyRef erased mut (tyInt w32); ref = λ x. x }, (record { pos = 34; ty = tyRef erased mut (tyInt w64); ref = λ x. x }, (record { pos = 36; ty = tyRef erased mut (tyInt w64); ref = λ x. x }, (record { pos = 38; ty = tyRef erased mut (tyInt w64); ref = λ x. x }, tt)))))))))))))) 17 (11 ∷ 12 ∷ 1 ∷ 13 ∷ 14 ∷ 15 ∷ 16 ∷ 17 ∷ 18 ∷ 19 ∷ []) (sub-id 𝓤 H A W ((G39 κs qs) .slots)) ((reads-sc 𝓤 H A W (sInt w64), refl), (spares-sslice 𝓤 H A W twin-0.the-row (tyRef erased imm (pointee (twin-0.the-row .written))) 11, reads-sslice 𝓤 H A W twin-0.the-row (tyRef erased imm (pointee (twin-0.the-row .written))) 11, refl, ((reads-sc 𝓤 H A W (sInt w64), refl), ((reads-sc 𝓤 H A W (sInt w64), refl), (spares-sslice 𝓤 H A W (rtF (fInt w32)) (tyRef erased imm (tyInt w32)) 12, reads-sslice 𝓤 H A W (rtF (fInt w32)) (tyRef erased imm (tyInt w32)) 12, refl, (spares-sslice 𝓤 H A W (rtF (fInt w64)) (tyRef (named 1) imm (tyInt w64)) 1, reads-sslice 𝓤 H A W (rtF (fInt w64)) (tyRef (named 1) imm (tyInt w64)) 1, refl, ((yields-copy 𝓤 H A W (λ ρ. Unit) (row Standing.the-type) refl (cStruct Standing.the-type Laws.the-laws Laws.the-copy .copy 𝓤 H A W) (whole (row Standing.the-type)) (λ x. x) (λ x. x) (λ ρ told. mem-whole 𝓤 H A W (row Standing.the-type) ρ) (λ ρ told. whole-mem 𝓤 H A W (row Standing.the-type) ρ), refl), (spares-sslice 𝓤 H A W (rtF (fInt w32)) (tyRef erased imm (tyInt w32)) 13, reads-sslice 𝓤 H A W (rtF (fInt w32)) (tyRef erased imm (tyInt w32)) 13, refl, (spares-sslice 𝓤 H A W (rtF (fInt w32)) (tyRef erased imm (tyInt w32)) 14, reads-sslice 𝓤 H A W (rtF (fInt w32)) (tyRef erased imm (tyInt w32)) 14, refl, (as-is 𝓤 H A (mslice (rtF (fInt w16)) (tyRef erased mut (tyInt w16)) 15), reads-mslice 𝓤 H A W (rtF (fInt w16)) (tyRef erased mut (tyInt w16)) 15, refl, (as-is 𝓤 H A (mslice (rtF (fInt w32)) (tyRef erased mut (tyInt w32)) 16), reads-mslice 𝓤 H A W (rtF (fInt w32)) (tyRef erased mut (tyInt w32)) 16, refl, (as-is 𝓤 H A (mslice (rtF (fInt w64)) (tyRef erased mut (tyInt w64)) 17), reads-mslice 𝓤 H A W (rtF (fInt w64)) (tyRef erased mut (tyInt w64)) 17, refl, (as-is 𝓤 H A (mslice (rtF (fInt w64)) (tyRef erased mut (tyInt w64)) 18), reads-mslice 𝓤 H A W (rtF (fInt w64)) (tyRef erased mut (tyInt w64)) 18, refl, (as-is 𝓤 H A (mslice (rtF (fInt w64)) (tyRef erased mut (tyInt w64)) 19), reads-mslice 𝓤 H A W (rtF (fInt w64)) (tyRef erased mut (tyInt w64)) 19, refl, tt)))))))))))))) (room-gone 𝓤 H A (tyInt w64)) _ refl) $
       ghosts (G40 κs qs) _ (g-room 𝓤 H A W E (G40 κs qs) 21 _ (room-sslice 𝓤 H A W twin-0.the-row (tyRef erased imm (pointee (twin-0.the-row .written))) 11)) $
       ghosts _ _ (g-room 𝓤 H A W E _ 24 _ (room-sslice 𝓤 H A W (rtF (fInt w32)) (tyRef erased imm (tyInt w32)) 12)) $
       ghosts _ (G43 κs qs) (g-room 𝓤 H A W E _ 26 _ (room-sslice 𝓤 H A W (rtF (fInt w32)) (tyRef erased imm (tyInt w32)) 13)) $
@@ -549,14 +477,14 @@ module _ {M : Type 1} (𝓤 : URA M) (H : Heap 𝓤) (A : Atoms 𝓤) (W : Given
 
 -- the derivations at a model
 module _ (w : World) where
-  abbrev known0-at : Knows (w .𝓤) (w .H) (w .𝓖 .A) (Wof w) (𝓣of w code.env) 10 K0.ps K0.r R0.Asked R0.Learnt "topology::to_rest::pass_kept"
-  known0-at = R0.known w code.env S0.name S0.routine code.calls-topology·to-rest·pass-kept (M0.met (w .𝓤) (w .H) (w .𝓜) (w .𝓖) (w .𝓡))
+  abbrev known0-at : Knows (w .𝓤) (w .H) (w .𝓖 .A) (Wof w) (𝓣of w code.env) 10 K0.ps K0.r K0.Asked K0.Learnt "topology::to_rest::pass_kept"
+  known0-at = K0.known w code.env S0.name S0.routine code.calls-topology·to-rest·pass-kept (M0.met (w .𝓤) (w .H) (w .𝓜) (w .𝓖) (w .𝓡))
 
   abbrev known1-at : Knows (w .𝓤) (w .H) (w .𝓖 .A) (Wof w) (𝓣of w code.env) 7 K1.ps K1.r R1.Asked R1.Learnt "rest_lists::kept::divide_again"
   known1-at = R1.known w code.env S1.name S1.routine code.calls-rest-lists·kept·divide-again (M1.met (w .𝓤) (w .H) (w .𝓜) (w .𝓖) (w .𝓡))
 
-  abbrev known2-at : Knows (w .𝓤) (w .H) (w .𝓖 .A) (Wof w) (𝓣of w code.env) 4 K2.ps K2.r R2.Asked R2.Learnt "topology::records::renew"
-  known2-at = R2.known w code.env S2.name S2.routine code.calls-topology·records·renew (M2.met (w .𝓤) (w .H) (w .𝓜) (w .𝓖) (w .𝓡))
+  abbrev known2-at : Knows (w .𝓤) (w .H) (w .𝓖 .A) (Wof w) (𝓣of w code.env) 4 K2.ps K2.r K2.Asked K2.Learnt "topology::records::renew"
+  known2-at = K2.known w code.env S2.name S2.routine code.calls-topology·records·renew (M2.met (w .𝓤) (w .H) (w .𝓜) (w .𝓖) (w .𝓡))
 
 module _ (w : World) (κs : Lfts 11) (qs : Shares 11) (bs : List ℕ) where
   abbrev pub from-renew-at : Der (Wof w) (𝓣of w code.env) (EnvOf (w .𝓤) (w .H) (tyR r ∷ tysP ps xs) bs) (G134 κs qs) (past 36 (code.function .body)) (Δret 11 ps r xs m κs qs)
