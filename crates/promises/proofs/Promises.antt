@@ -13,7 +13,7 @@ use lib.Ieee.{Float, binary64, toBits}
 use Rattle.definitions.specs.Lists.{overwrite}
 use Rattle.definitions.specs.Scan.{all, anyBelow, run}
 use Rattle.definitions.specs.Sort.{listLt}
-use Rattle.definitions.specs.Grid.{Map, Boundary, Pair, Segment, cellCount, mapOf, spanCount}
+use Rattle.definitions.specs.Grid.{Map, Boundary, Pair, Segment, cellCount, spanCount}
 use Rattle.definitions.specs.Partition.{labels, regionCount}
 use Rattle.definitions.specs.Hypotenuse.{inRange, sumOfSquares}
 use Rattle.definitions.specs.Nearest.{Nearest}
@@ -47,12 +47,10 @@ use Rattle.hypotenuse.specs.RootNearest as nearest
 use Rattle.flood.specs.Walk.{directionAt}
 use Rattle.flood.specs.Inner.{placed, byteAt}
 use Rattle.flood.proofs.Ways as ways
-use Rattle.context.specs.declared.Region.{Region}
 use Rattle.context.specs.Records.{recordOf}
 use Rattle.areas.specs.declared.Partitioned.{Partitioned}
 use Rattle.areas.specs.Answers.{answerOf}
 use Rattle.areas.specs.Contract as alone
-use Rattle.call_partition.specs.Contract.{given}
 use Rattle.rust_partition.specs.Literal.PartitionBySpans.{partitionBySpans}
 use Rattle.island.specs.Premises.{Alike}
 use Rattle.island_calls.specs.Outputs.{rowsHeld}
@@ -66,6 +64,7 @@ use Rattle.ranked_list.specs.RankedAnswers.{RankedAnswer}
 use Rattle.ranked_list.specs.RankedLaws.{chosen}
 use Rattle.ranked_list.specs.RankedCalls.{rankedIn, Greedy}
 use Rattle.ranked_list.specs.RankedCalls as ranks
+use Rattle.topology.specs.Lent.{LentLists, LeftLists, lentMap, lentCall}
 use Rattle.topology.specs.Contract.{RanOver}
 use Rattle.topology.specs.Rest.{RestRanOver}
 use Rattle.topology.specs.Games.{PlayedOver}
@@ -159,25 +158,21 @@ pub partition-alone : {L : Lent} {r : Partitioned} {l m q t p : List ℕ} → al
     → AsRust L (partitionBySpans (mapIn L)) l t p
 partition-alone = partitions.partition-alone
 
--- A call that runs a pass: the pass, what it read, what it was lent to fill, its answer a, and at exit what it was lent to fill. That every call meets `RanOver`,
--- whatever it is lent, is the contract of `topology_kept_boundaries`; this is demand 1.
-module _
-    {pass w h : ℕ} {cells spans boundaries anchors l m q t p : List ℕ} {s : List Region} {o : List ℕ}
-    {a : Answer} {l₁ m₁ q₁ t₁ p₁ : List ℕ} {s₁ : List Region} {o₁ : List ℕ}
-    (call : RanOver pass w h cells spans boundaries anchors l m q t p s o a l₁ m₁ q₁ t₁ p₁ s₁ o₁)
-    (success : a .number ≡ 0) where
+-- A call that runs a pass: the pass, what it was lent, its answer a, and what it left. That every call meets `RanOver`, whatever it is lent, is the contract of
+-- `topology_kept_boundaries`; this is demand 1.
+module _ {pass : ℕ} {L : LentLists} {a : Answer} {E : LeftLists} (call : RanOver pass L a E) (success : a .number ≡ 0) where
   -- "labels, assessments"
-  pub partition-as-rust : AsRust (given pass w h cells spans boundaries anchors l m q t p (map recordOf s) o) (partitionBySpans (mapOf w h cells spans boundaries anchors)) l₁ t₁ p₁
+  pub partition-as-rust : AsRust (lentCall pass L) (partitionBySpans (lentMap L)) (E .labels) (E .tallies) (E .pairs)
   partition-as-rust = calls.partition-as-rust call success
 
   -- "and kept rows equal its own"
-  pub rows-as-rust : rowsHeld a o₁ ≡ rustRows pass (mapOf w h cells spans boundaries anchors)
+  pub rows-as-rust : rowsHeld a (E .output) ≡ rustRows pass (lentMap L)
   rows-as-rust = calls.rows-as-rust call success
 
   -- ---- request 1: what a run found can always be stored
 
   abbrev pub runLeft : Result
-  runLeft = resultLeft (given pass w h cells spans boundaries anchors l m q t p (map recordOf s) o) a l₁ t₁ p₁ o₁
+  runLeft = resultLeft (lentCall pass L) a (E .labels) (E .tallies) (E .pairs) (E .output)
 
   pub run-keeps-rules : rulesFault (answers.placed runLeft) ≡ none
   run-keeps-rules = runs.call-keeps-rules (call .ran) success
@@ -189,14 +184,9 @@ module _
 
   -- ---- 3. Local: two calls of one pass, and an island under the premises of demand 3 (`Alike`)
 
-  module _
-      {w′ h′ : ℕ} {cells′ spans′ boundaries′ anchors′ l′ m′ q′ t′ p′ : List ℕ} {s′ : List Region} {o′ : List ℕ}
-      {a′ : Answer} {l₁′ m₁′ q₁′ t₁′ p₁′ : List ℕ} {s₁′ : List Region} {o₁′ : List ℕ}
-      (call′ : RanOver pass w′ h′ cells′ spans′ boundaries′ anchors′ l′ m′ q′ t′ p′ s′ o′ a′ l₁′ m₁′ q₁′ t₁′ p₁′ s₁′ o₁′)
-      (success′ : a′ .number ≡ 0)
-      (isl : ℕ → Bool)
-      (A : Alike (mapOf w h cells spans boundaries anchors) (mapOf w′ h′ cells′ spans′ boundaries′ anchors′) isl) where
-    pub island : SameOnIsland (mapOf w h cells spans boundaries anchors) (mapOf w′ h′ cells′ spans′ boundaries′ anchors′) isl (rowsHeld a o₁) (rowsHeld a′ o₁′)
+  module _ {L′ : LentLists} {a′ : Answer} {E′ : LeftLists} (call′ : RanOver pass L′ a′ E′) (success′ : a′ .number ≡ 0)
+      (isl : ℕ → Bool) (A : Alike (lentMap L) (lentMap L′) isl) where
+    pub island : SameOnIsland (lentMap L) (lentMap L′) isl (rowsHeld a (E .output)) (rowsHeld a′ (E′ .output))
     island = calls.island-theorem call success call′ success′ isl A
 
 -- ---- the cases of document 01
@@ -275,10 +265,8 @@ directions-as-bytes = ways.word-at
 -- ---- request 6: over a call that ran a pass and returned 0, the records at exit of the R regions add up to the grid: ramp cells to its walkable ramp cells, cells to its
 -- walkable cells. And the flag that the Rust's lines ask for is a count above zero.
 
-pub records-add-up : {pass w h : ℕ} {cells spans boundaries anchors l m q t p : List ℕ} {s : List Region} {o : List ℕ}
-    {a : Answer} {l₁ m₁ q₁ t₁ p₁ : List ℕ} {s₁ : List Region} {o₁ : List ℕ}
-    → RanOver pass w h cells spans boundaries anchors l m q t p s o a l₁ m₁ q₁ t₁ p₁ s₁ o₁ → a .number ≡ 0
-    → AddUp (mapOf w h cells spans boundaries anchors) (take (regionCount (mapOf w h cells spans boundaries anchors)) (map recordOf s₁))
+pub records-add-up : {pass : ℕ} {L : LentLists} {a : Answer} {E : LeftLists} → RanOver pass L a E → a .number ≡ 0
+    → AddUp (lentMap L) (take (regionCount (lentMap L)) (map recordOf (E .records)))
 unfolding mapIn
 records-add-up call success = sums.call-adds-up (call .ran) success
 
@@ -344,23 +332,19 @@ intersects-exactly = separations.intersects-exactly
 
 -- ---- request 11: what a call that gave the ranked junction list left in it, where it returned 0
 
-module _ {w h : ℕ} {cells spans boundaries anchors l m q t p : List ℕ} {s : List Region} {o k : List ℕ}
-    {a : RankedAnswer} {l₁ m₁ q₁ t₁ p₁ : List ℕ} {s₁ : List Region} {o₁ k₁ : List ℕ}
-    (call : RankedOver w h cells spans boundaries anchors l m q t p s o k a l₁ m₁ q₁ t₁ p₁ s₁ o₁ k₁) (success : a .number ≡ 0) where
+module _ {L : LentLists} {was : List ℕ} {a : RankedAnswer} {E : LeftLists} {list : List ℕ} (call : RankedOver L was a E list) (success : a .number ≡ 0) where
   -- "every junction proposal that reaches the ranking, in rank order"
-  pub call-lists : rankedIn (a .proposals) k₁ ≡ rankedOf (mapOf w h cells spans boundaries anchors)
+  pub call-lists : rankedIn (a .proposals) list ≡ rankedOf (lentMap L)
   unfolding mapIn
   call-lists = ranks.call-lists (call .ran) success
 
   -- exactly the proposals that are ranked; taken ones keep apart; a refused one names the earliest taken one that conflicts with it
-  pub call-greedy : eqb (length (mapOf w h cells spans boundaries anchors .boundaries)) (spanCount (mapOf w h cells spans boundaries anchors)) ≡ true
-      → Greedy (contextOf (mapOf w h cells spans boundaries anchors)) (rankedIn (a .proposals) k₁)
+  pub call-greedy : eqb (length (lentMap L .boundaries)) (spanCount (lentMap L)) ≡ true → Greedy (contextOf (lentMap L)) (rankedIn (a .proposals) list)
   unfolding mapIn
   call-greedy = ranks.call-greedy (call .ran) success
 
   -- "pass 3 removes just theirs"
-  pub call-removes : map (λ p. p .index) (chosen (conflict (contextOf (mapOf w h cells spans boundaries anchors))) (rankedIn (a .proposals) k₁))
-      ≡ removedOf 3 (mapOf w h cells spans boundaries anchors)
+  pub call-removes : map (λ p. p .index) (chosen (conflict (contextOf (lentMap L))) (rankedIn (a .proposals) list)) ≡ removedOf 3 (lentMap L)
   unfolding mapIn
   call-removes = ranks.call-removes (call .ran) success
 
@@ -414,51 +398,34 @@ kind-1-stays = before.kind-1-stays
 
 -- ---- request 4: what calls that ran to rest and were accepted left
 
-module _
-    {w h : ℕ} {cells spans boundaries anchors l m q t p : List ℕ} {s : List Region} {o : List ℕ} {a : RestAnswer} {l′ m′ q′ t′ p′ : List ℕ} {s′ : List Region} {o′ : List ℕ}
-    (call : RestRanOver w h cells spans boundaries anchors l m q t p s o a l′ m′ q′ t′ p′ s′ o′) (success : a .number ≡ 0) where
-  abbrev M : Map
-  M = mapOf w h cells spans boundaries anchors
-
+module _ {L : LentLists} {a : RestAnswer} {E : LeftLists} (call : RestRanOver L a E) (success : a .number ≡ 0) where
   -- each round but the last removes at least one, the last none, and they are at most 257
-  pub rest-rounds : Rests (startMap M) (run 0 (length (startMap M .boundaries))) (a .rounds) (rested (startMap M) .places)
+  pub rest-rounds : Rests (startMap (lentMap L)) (run 0 (length (startMap (lentMap L) .boundaries))) (a .rounds) (rested (startMap (lentMap L)) .places)
   unfolding mapIn
   rest-rounds = rest.rest-rounds (call .ran) success
 
   pub rest-rounds-257 : a .rounds ≤ 257
   rest-rounds-257 = rest.rest-rounds-257 (call .ran) success
 
--- of any two: the island's rows are alike and in the same order, and a boundary is kept exactly when its counterpart is
-module _
-    {w h : ℕ} {cells spans boundaries anchors l m q t p : List ℕ} {s : List Region} {o : List ℕ} {a : RestAnswer} {l′ m′ q′ t′ p′ : List ℕ} {s′ : List Region} {o′ : List ℕ}
-    {w₁ h₁ : ℕ} {cells₁ spans₁ boundaries₁ anchors₁ l₁ m₁ q₁ t₁ p₁ : List ℕ} {s₁ : List Region} {o₁ : List ℕ} {a₁ : RestAnswer} {l₁′ m₁′ q₁′ t₁′ p₁′ : List ℕ} {s₁′ : List Region} {o₁′ : List ℕ}
-    (call : RestRanOver w h cells spans boundaries anchors l m q t p s o a l′ m′ q′ t′ p′ s′ o′)
-    (call₁ : RestRanOver w₁ h₁ cells₁ spans₁ boundaries₁ anchors₁ l₁ m₁ q₁ t₁ p₁ s₁ o₁ a₁ l₁′ m₁′ q₁′ t₁′ p₁′ s₁′ o₁′)
-    (success : a .number ≡ 0) (success₁ : a₁ .number ≡ 0) (isl : ℕ → Bool) where
-  abbrev A : Map
-  A = mapOf w h cells spans boundaries anchors
+  -- of any two: the island's rows are alike and in the same order, and a boundary is kept exactly when its counterpart is
+  module _ {L′ : LentLists} {a′ : RestAnswer} {E′ : LeftLists} (call′ : RestRanOver L′ a′ E′) (success′ : a′ .number ≡ 0) (isl : ℕ → Bool) where
+    -- with the premises of the starting maps in row order
+    pub rest-island-calls : Alike (startMap (lentMap L)) (startMap (lentMap L′)) isl
+        → SameAtRest (lentMap L) (lentMap L′) isl (rowsIn (a .value) (E .output)) (rowsIn (a′ .value) (E′ .output))
+    unfolding mapIn
+    rest-island-calls alike = rest.rest-island-calls (call .ran) (call′ .ran) success success′ isl alike
 
-  abbrev B : Map
-  B = mapOf w₁ h₁ cells₁ spans₁ boundaries₁ anchors₁
-
-  -- with the premises of the starting maps in row order
-  pub rest-island-calls : Alike (startMap A) (startMap B) isl → SameAtRest A B isl (rowsIn (a .value) o′) (rowsIn (a₁ .value) o₁′)
-  unfolding mapIn
-  rest-island-calls alike = rest.rest-island-calls (call .ran) (call₁ .ran) success success₁ isl alike
-
-  -- with those of the maps as lent
-  pub rest-island-lent-calls : Alike A B isl → SameAsLent A B isl (rowsIn (a .value) o′) (rowsIn (a₁ .value) o₁′)
-  unfolding mapIn
-  rest-island-lent-calls alike = rest.rest-island-lent-calls (call .ran) (call₁ .ran) success success₁ isl alike
+    -- with those of the maps as lent
+    pub rest-island-lent-calls : Alike (lentMap L) (lentMap L′) isl
+        → SameAsLent (lentMap L) (lentMap L′) isl (rowsIn (a .value) (E .output)) (rowsIn (a′ .value) (E′ .output))
+    unfolding mapIn
+    rest-island-lent-calls alike = rest.rest-island-lent-calls (call .ran) (call′ .ran) success success′ isl alike
 
 -- ---- request 14: what each entry of the lent verdicts says once a call is accepted, over all ways of play
 
-module _
-    {pass w h : ℕ} {cells spans boundaries anchors : List ℕ} {goal : ℕ} {l m q t p : List ℕ} {s : List Region} {o v : List ℕ} {a : GameAnswer}
-    {l′ m′ q′ t′ p′ : List ℕ} {s′ : List Region} {o′ v′ : List ℕ}
-    (call : PlayedOver pass w h cells spans boundaries anchors goal l m q t p s o v a l′ m′ q′ t′ p′ s′ o′ v′) (success : a .number ≡ 0) where
-  pub game-entries : (x : Place) → Inside (keptGame pass (mapOf w h cells spans boundaries anchors) goal) x
-      → (w₁ : play.Verdict) × play.Judged (keptGame pass (mapOf w h cells spans boundaries anchors) goal) x w₁
-      × Entry v′ (entries.numberOf (keptGame pass (mapOf w h cells spans boundaries anchors) goal) x) w₁
+module _ {pass : ℕ} {L : LentLists} {goal : ℕ} {were : List ℕ} {a : GameAnswer} {E : LeftLists} {verdicts : List ℕ}
+    (call : PlayedOver pass L goal were a E verdicts) (success : a .number ≡ 0) where
+  pub game-entries : (x : Place) → Inside (keptGame pass (lentMap L) goal) x
+      → (w : play.Verdict) × play.Judged (keptGame pass (lentMap L) goal) x w × Entry verdicts (entries.numberOf (keptGame pass (lentMap L) goal) x) w
   unfolding mapIn
   game-entries = games.played-entries (call .played) success

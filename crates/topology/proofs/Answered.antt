@@ -6,12 +6,14 @@ use mathlib.Core.List.{List, [], _∷_, _++_, map}
 use lib.ListN.{length, take, replicate, length-replicate, length-map}
 use lib.Seq.{take-at}
 use Rattle.definitions.specs.RegionRecord.{emptyRegion}
+use Rattle.definitions.specs.RegionRecord as def
 use Rattle.definitions.specs.Verdict as verdict
 use Rattle.context.specs.declared.Region.{Region}
 use Rattle.context.specs.Records.{recordOf}
 use Rattle.call_partition.specs.Contract.{given, Ran}
 use Rattle.topology.specs.Numbers.{withRecords}
-use Rattle.topology.specs.Contract.{RanOver, recordsHere, RanHere}
+use Rattle.topology.specs.Lent.{LentLists, LeftLists}
+use Rattle.topology.specs.Contract.{RanOver, recordsHere, LentHere, LeftHere, hereCall, RanHere}
 
 -- ---- records that are all alike
 
@@ -40,18 +42,47 @@ module _ (room : ℕ) {n : ℕ} (s : List Region) (f : n ≡ min room recordsHer
 
 -- ---- the contract
 
-module _ {pass w h : ℕ} {cells spans boundaries anchors l m q t p : List ℕ} {s : List Region} {o l′ m′ q′ t′ p′ : List ℕ} {s′ : List Region} {o′ : List ℕ} where
-  -- k records s were lent, that were empty and are s′; then the first k of s′ and of what stands behind it were written in the numbers n
+-- what the call with its own records was lent, and what it leaves, where it lends L to the call and is left E
+abbrev pub lent-here : LentLists → (room : ℕ) (numbers : List ℕ) → LentHere
+lent-here L room numbers =
+    record {
+      width = L .width;
+      height = L .height;
+      cells = L .cells;
+      spans = L .spans;
+      boundaries = L .boundaries;
+      anchors = L .anchors;
+      labels = L .labels;
+      masks = L .masks;
+      queue = L .queue;
+      tallies = L .tallies;
+      pairs = L .pairs;
+      room = room;
+      output = L .output;
+      numbers = numbers;
+    }
+
+abbrev pub left-here : LeftLists → (numbers : List ℕ) → LeftHere
+left-here E numbers =
+    record { labels = E .labels; masks = E .masks; queue = E .queue; tallies = E .tallies; pairs = E .pairs; output = E .output; numbers = numbers }
+
+-- the call's own form of what was lent, with other records
+abbrev with-records : ℕ → LentLists → List def.Region → verdict.Lent
+with-records pass L records =
+    given pass (L .width) (L .height) (L .cells) (L .spans) (L .boundaries) (L .anchors) (L .labels) (L .masks) (L .queue) (L .tallies) (L .pairs) records (L .output)
+
+module _ {pass : ℕ} (L : LentLists) (E : LeftLists) where
+  -- k records were lent, that were empty; then the first k of those that are left and of what stands behind them were written in the numbers n
   pub ran-here : {a b : verdict.Answer} {n n′ : List ℕ} {k : ℕ} (room : ℕ) (rest : List Region) → k ≡ min room recordsHere
-      → RanOver pass w h cells spans boundaries anchors l m q t p s o a l′ m′ q′ t′ p′ s′ o′ → map recordOf s ≡ replicate k emptyRegion → length s′ ≡ k
-      → n′ ≡ withRecords (map recordOf (take k (s′ ++ rest))) n → b ≡ a
-      → RanHere pass w h cells spans boundaries anchors room l m q t p o n b l′ m′ q′ t′ p′ o′ n′
+      → RanOver pass L a E → map recordOf (L .records) ≡ replicate k emptyRegion → length (E .records) ≡ k
+      → n′ ≡ withRecords (map recordOf (take k (E .records ++ rest))) n → b ≡ a
+      → RanHere pass (lent-here L room n) b (left-here E n′)
   ran-here {a} {n = n} {k = k} room rest f r e long put same =
       record {
-        records = map recordOf s′;
+        records = map recordOf (E .records);
         ran =
-            subst (λ b. Ran (given pass w h cells spans boundaries anchors l m q t p (replicate (min room recordsHere) emptyRegion) o) b l′ m′ q′ t′ p′ (map recordOf s′) o′) (sym same)
-            (subst (λ k. Ran (given pass w h cells spans boundaries anchors l m q t p k o) a l′ m′ q′ t′ p′ (map recordOf s′) o′)
+            subst (λ b. Ran (hereCall pass (lent-here L room n)) b (E .labels) (E .masks) (E .queue) (E .tallies) (E .pairs) (map recordOf (E .records)) (E .output)) (sym same)
+            (subst (λ s. Ran (with-records pass L s) a (E .labels) (E .masks) (E .queue) (E .tallies) (E .pairs) (map recordOf (E .records)) (E .output))
             (e ∙ ap (λ n. replicate n emptyRegion) f) (r .ran));
-        numbers = put ∙ ap (λ l. withRecords (map recordOf l) n) (take-at s′ rest k long);
+        numbers = put ∙ ap (λ l. withRecords (map recordOf l) n) (take-at (E .records) rest k long);
       }

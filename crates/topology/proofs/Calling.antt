@@ -31,6 +31,7 @@ use Rattle.topology.specs.Held.{HoldsRecords, filled-held, map-counted}
 use Rattle.topology.specs.Mouths.{NoMarks}
 use Rattle.topology.specs.Marks.{MapContext, IsPass, Lent, MarkedFor}
 use Rattle.topology.specs.Contract.{RanOver}
+use Rattle.topology.proofs.Lending.{lends, leaves}
 
 -- ---- the marks before the pass
 
@@ -50,7 +51,7 @@ module _ {pass w h : ℕ} {cells spans boundaries anchors : List ℕ} {room outp
   when-ready a e = subst (λ r. PreparedAs pass w h cells spans boundaries anchors room output l m q t p r l′ m′ q′ t′ p′) e a
 
   pub when-refused : {r : Prepared} {number place : ℕ} (s : List Region) (o : List ℕ) → PreparedAs pass w h cells spans boundaries anchors room output l m q t p r l′ m′ q′ t′ p′ → r ≡ Refused number place → length s ≡ room → length o ≡ output
-      → RanOver pass w h cells spans boundaries anchors l m q t p s o (record { number = number; value = place }) l′ m′ q′ t′ p′ s o
+      → RanOver pass (lends w h cells spans boundaries anchors l m q t p s o) (record { number = number; value = place }) (leaves l′ m′ q′ t′ p′ s o)
   when-refused s o a e long wide =
       record {
         ran = subst (λ r. PreparedAs pass w h cells spans boundaries anchors room output l m q t p r l′ m′ q′ t′ p′) e a (map recordOf s) o (length-map s recordOf ∙ long) wide;
@@ -109,7 +110,7 @@ module _ {pass w h : ℕ} {cells spans boundaries anchors : List ℕ} {room outp
             (same-or (length boundaries / numbersPerBoundary) (length spans / numbersPerSpan))
 
         pub ran-over : {o m₃ q₃ o₃ : List ℕ} {n : ℕ} → length s ≡ room → length o ≡ output → Finished (h * w) (length boundaries / numbersPerBoundary) boundaries removed m₂ q₂ o m₃ q₃ o₃ n
-            → RanOver pass w h cells spans boundaries anchors l m q t p s o (record { number = 0; value = n }) l′ m₃ q₃ t′ p′ s′ o₃
+            → RanOver pass (lends w h cells spans boundaries anchors l m q t p s o) (record { number = 0; value = n }) (leaves l′ m₃ q₃ t′ p′ s′ o₃)
         ran-over {o} long wide fin =
             record {
               ran = ran-kept R (map recordOf s) o (length-map s recordOf ∙ long) wide (F .records) (K .masks .rest) (K .queue .rest) marked fin;

@@ -28,6 +28,7 @@ use Rattle.game_lists.proofs.Answering.{late-complete, played-complete}
 use Rattle.game_lists.proofs.Ready.{ready-early, kept-edges}
 use Rattle.topology.specs.declared.games.Second.{Second}
 use Rattle.topology.specs.Games.{Begun, RunsKept, RanKept, writtenAt, PlayedOver}
+use Rattle.topology.proofs.Lending.{lends, leaves}
 
 -- the lists as they were lent
 abbrev pub begun : ℕ → List ℕ → List ℕ → List ℕ → List ℕ → List ℕ → Begun
@@ -42,11 +43,11 @@ module _ {pass w h : ℕ} {cells spans boundaries anchors : List ℕ} {room outp
   pub refused-over : {r : Prepared} {number place : ℕ} (goal : ℕ) (s : List Region) (o v : List ℕ) {a : GameAnswer}
       → GamePreparedAs pass w h cells spans boundaries anchors room output verdicts l m q t p r l′ m′ q′ t′ p′ → r ≡ Refused number place
       → length s ≡ room → length o ≡ output → length v ≡ verdicts → a ≡ record { number = number; value = place; regions = 0 }
-      → PlayedOver pass w h cells spans boundaries anchors goal l m q t p s o v a l′ m′ q′ t′ p′ s o v
+      → PlayedOver pass (lends w h cells spans boundaries anchors l m q t p s o) goal v a (leaves l′ m′ q′ t′ p′ s o) v
   refused-over {number = number} {place = place} goal s o v prepared e long wide table is =
       let at : GamePreparedAs pass w h cells spans boundaries anchors room output verdicts l m q t p (Refused number place) l′ m′ q′ t′ p′
       = subst (λ r. GamePreparedAs pass w h cells spans boundaries anchors room output verdicts l m q t p r l′ m′ q′ t′ p′) e prepared in
-      subst (λ b. PlayedOver pass w h cells spans boundaries anchors goal l m q t p s o v b l′ m′ q′ t′ p′ s o v) (sym is)
+      subst (λ b. PlayedOver pass (lends w h cells spans boundaries anchors l m q t p s o) goal v b (leaves l′ m′ q′ t′ p′ s o) v) (sym is)
       (record { played = at goal (map recordOf s) o v (length-map s recordOf ∙ long) wide table; beyond = refl })
 
   module _ {regions rows : ℕ} (G : GameReady pass w h cells spans boundaries anchors room output verdicts l m q t p regions rows l′ m′ q′ t′ p′) where
@@ -79,7 +80,7 @@ module _ {pass w h : ℕ} {cells spans boundaries anchors : List ℕ} {room outp
 
       pub played-over : (goal : ℕ) (v : List ℕ) {a : GameAnswer} {v₂ : List ℕ} → length s ≡ room → length o ≡ output → length v ≡ verdicts
           → a ≡ lateAnswer (r .kept) (r .regions) goal → v₂ ≡ verdictsAtExit (graphOf (r .regions) (edgesIn p₂ (r .rows)) goal) v (a .number)
-          → PlayedOver pass w h cells spans boundaries anchors goal l m q t p s o v a l₂ m₂ q₂ t₂ p₂ s₂ o₂ v₂
+          → PlayedOver pass (lends w h cells spans boundaries anchors l m q t p s o) goal v a (leaves l₂ m₂ q₂ t₂ p₂ s₂ o₂) v₂
       played-over goal v {a} {v₂} long wide table answer filled =
           let early : none ≡ gameEarly pass w h cells spans boundaries anchors (length l) (length m) (length q) (length t) (length o) (length v)
           = ready-early G ∙ ap₂ (gameEarly pass w h cells spans boundaries anchors (length l) (length m) (length q) (length t)) (sym wide) (sym table) in

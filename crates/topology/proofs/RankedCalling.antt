@@ -31,6 +31,7 @@ use Rattle.ranked_finish.specs.Ends.{rankedForm, RankedFinished}
 use Rattle.ranked_finish.proofs.Exits.{ranked-done, ranked-short, refused-ran}
 use Rattle.topology.specs.Filled.{Filled}
 use Rattle.topology.specs.Ranked.{Lists, RankedFor, RankedOver}
+use Rattle.topology.proofs.Lending.{lends, leaves}
 use Rattle.topology.proofs.Calling.{marked}
 
 -- ---- the rows of the map: none, where counts differ
@@ -60,7 +61,7 @@ module _ (w h : ℕ) (cells spans boundaries anchors : List ℕ) where
 module _ {w h : ℕ} {cells spans boundaries anchors : List ℕ} {room output : ℕ} {l m q t p l′ m′ q′ t′ p′ : List ℕ} where
   pub refused-over : {r : Prepared} {number place : ℕ} (s : List Region) (o k : List ℕ) → PreparedAs 3 w h cells spans boundaries anchors room output l m q t p r l′ m′ q′ t′ p′
       → r ≡ Refused number place → length s ≡ room → length o ≡ output
-      → RankedOver w h cells spans boundaries anchors l m q t p s o k (record { number = number; value = place; proposals = 0 }) l′ m′ q′ t′ p′ s o k
+      → RankedOver (lends w h cells spans boundaries anchors l m q t p s o) k (record { number = number; value = place; proposals = 0 }) (leaves l′ m′ q′ t′ p′ s o) k
   refused-over s o k a e long wide =
       record {
         ran =
@@ -95,22 +96,22 @@ module _ {w h : ℕ} {cells spans boundaries anchors : List ℕ} {room output : 
     module _ {o k m₃ q₃ o₃ k₃ : List ℕ} {a : RankedAnswer} (long : length s ≡ room) (wide : length o ≡ output)
         (E : RankedFinished (h * w) (length boundaries / numbersPerBoundary) boundaries removed listed n m₂ q₂ o k a m₃ q₃ o₃ k₃) where
       by-room : (b : Bool) → leb n (length k / numbersPerRanked) ≡ b
-          → RankedOver w h cells spans boundaries anchors l m q t p s o k (rankedForm a) l′ m₃ q₃ t′ p′ s′ o₃ k₃
+          → RankedOver (lends w h cells spans boundaries anchors l m q t p s o) k (rankedForm a) (leaves l′ m₃ q₃ t′ p′ s′ o₃) k₃
       unfolding mapIn
       by-room true e =
           let enough = leb-true n (length k / numbersPerRanked) e in
           let W = E .enough enough in
           let ran = ran-kept R (map recordOf s) o (length-map s recordOf ∙ long) wide (F .records) (K .marked .masks .rest) (K .marked .queue .rest) (marked R F (K .marked)) (W .finished) in
-          subst (λ a. RankedOver w h cells spans boundaries anchors l m q t p s o k a l′ m₃ q₃ t′ p′ s′ o₃ k₃) (sym (W .answer))
+          subst (λ a. RankedOver (lends w h cells spans boundaries anchors l m q t p s o) k a (leaves l′ m₃ q₃ t′ p′ s′ o₃) k₃) (sym (W .answer))
           (record { ran = ranked-done k ran (lists .many) enough (W .list ∙ ap (λ l. overwrite l k) listed-first); beyond = F .beyond })
       by-room false e =
           let lack = leb-false n (length k / numbersPerRanked) e in
           let S = E .short lack in
           let fin : Finished (h * w) (length boundaries / numbersPerBoundary) boundaries removed m₂ q₂ o m₃ q₃ _ _ = record { masks = S .0 .masks; queue = S .0 .queue; output = refl; rows = refl } in
           let ran = ran-kept R (map recordOf s) o (length-map s recordOf ∙ long) wide (F .records) (K .marked .masks .rest) (K .marked .queue .rest) (marked R F (K .marked)) fin in
-          subst (λ x. RankedOver w h cells spans boundaries anchors l m q t p s o k (rankedForm a) l′ m₃ q₃ t′ p′ s′ x k₃) (sym (S .1))
-          (subst (λ a. RankedOver w h cells spans boundaries anchors l m q t p s o k a l′ m₃ q₃ t′ p′ s′ o k₃) (sym (S .0 .answer))
+          subst (λ x. RankedOver (lends w h cells spans boundaries anchors l m q t p s o) k (rankedForm a) (leaves l′ m₃ q₃ t′ p′ s′ x) k₃) (sym (S .1))
+          (subst (λ a. RankedOver (lends w h cells spans boundaries anchors l m q t p s o) k a (leaves l′ m₃ q₃ t′ p′ s′ o) k₃) (sym (S .0 .answer))
           (record { ran = ranked-short k ran (omega (arith, lack, lists .many)) (S .0 .list); beyond = F .beyond }))
 
-      pub ranked-over : RankedOver w h cells spans boundaries anchors l m q t p s o k (rankedForm a) l′ m₃ q₃ t′ p′ s′ o₃ k₃
+      pub ranked-over : RankedOver (lends w h cells spans boundaries anchors l m q t p s o) k (rankedForm a) (leaves l′ m₃ q₃ t′ p′ s′ o₃) k₃
       ranked-over = by-room (leb n (length k / numbersPerRanked)) refl

@@ -34,6 +34,7 @@ use Rattle.rest_lists.proofs.Ending.{numbers-fit, ends-fit, output-fits, masks-
 use Rattle.topology.specs.declared.to_rest.RestAnswer.{RestAnswer}
 use Rattle.topology.specs.Filled.{Fills, Filled}
 use Rattle.topology.specs.Rest.{restAnswer, restWritten, RestRanOver, Stands, RanToRest}
+use Rattle.topology.proofs.Lending.{lends, leaves}
 use Rattle.topology.proofs.Calling.{ready-fills}
 
 -- ---- before the first pass
@@ -46,7 +47,7 @@ module _ {w h : ℕ} {cells spans boundaries anchors l m q t p l′ m′ q′ t�
 
   pub refused-over : {s : List Region} {o : List ℕ} {r : Prepared} {number place : ℕ} (n b d : List ℕ)
       → BegunAs w h cells spans boundaries anchors (length s) (length o) l m q t p r l′ m′ q′ t′ p′ n b d → r ≡ Refused number place
-      → RestRanOver w h cells spans boundaries anchors l m q t p s o (record { number = number; value = place; rounds = 0 }) l′ m′ q′ t′ p′ s o
+      → RestRanOver (lends w h cells spans boundaries anchors l m q t p s o) (record { number = number; value = place; rounds = 0 }) (leaves l′ m′ q′ t′ p′ s o)
   refused-over {s} {o} n b d B e =
       record {
         ran = subst (λ r. BegunAs w h cells spans boundaries anchors (length s) (length o) l m q t p r l′ m′ q′ t′ p′ n b d) e B (map recordOf s) o (length-map s recordOf) refl;
@@ -117,7 +118,7 @@ module _ {w h : ℕ} {cells anchors : List ℕ} {O : Origin} {s : List Region} {
       (omega (arith, R .value, numbers-fit K), omega (arith, R .value, ends-fit K), omega (arith, R .value, output-fits K))
 
   pub rest-over : {m′ q′ o′ : List ℕ} → m′ ≡ zeroed (h * w) m → q′ ≡ zeroed (h * w) q → o′ ≡ overwrite (flatRows (rowsAt n b (a .value))) (O .output)
-      → RestRanOver w h cells (O .spans) (O .boundaries) anchors (O .labels) (O .masks) (O .queue) (O .tallies) (O .pairs) s (O .output) (restAnswer a) l m′ q′ t p rs o′
+      → RestRanOver (lends w h cells (O .spans) (O .boundaries) anchors (O .labels) (O .masks) (O .queue) (O .tallies) (O .pairs) s (O .output)) (restAnswer a) (leaves l m′ q′ t p rs o′)
   rest-over {m′} {q′} {o′} em eq eo =
       let T = R .stands in
       let K = T .lists in

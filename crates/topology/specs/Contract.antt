@@ -3,18 +3,17 @@ use Prim.Native.Nat.{ℕ, zero, suc, min}
 use mathlib.Core.Path.{_≡_}
 use mathlib.Core.List.{List, map}
 use lib.ListN.{drop, replicate}
-use Rattle.definitions.specs.Grid.{mapOf}
 use Rattle.definitions.specs.Partition.{regionCount}
 use Rattle.definitions.specs.RegionRecord.{emptyRegion}
 use Rattle.definitions.specs.RegionRecord as def
 use Rattle.definitions.specs.Verdict as verdict
-use Rattle.context.specs.declared.Region.{Region}
 use Rattle.context.specs.Records.{recordOf}
-use Rattle.call_partition.specs.Contract.{given, Ran}
+use Rattle.call_partition.specs.Contract.{Ran}
 use Rattle.topology.specs.declared.Answer.{Answer}
 use Rattle.topology.specs.declared.Answer.the-variants.{Kept, Refused}
 use Rattle.topology.specs.declared.TopologyAnswer.{TopologyAnswer}
 use Rattle.topology.specs.Numbers.{withRecords}
+use Rattle.topology.specs.Lent.{LentLists, LeftLists, lentMap, lentCall}
 
 abbrev pub answerOf : Answer → verdict.Answer
 answerOf (Kept rows) = record { number = 0; value = rows }
@@ -29,22 +28,66 @@ abbrev pub written : ℕ → ℕ → ℕ
 written zero n = n
 written (suc number) n = 0
 
--- What was lent, the answer, and at exit labels l′, masks m′, queue q′, tallies t′, pairs p′, records s′ and output o′. Records that are not written are as they were, not
--- only as `recordOf` shows them.
-pub record RanOver (pass w h : ℕ) (cells spans boundaries anchors l m q t p : List ℕ) (s : List Region) (o : List ℕ) (a : verdict.Answer)
-    (l′ m′ q′ t′ p′ : List ℕ) (s′ : List Region) (o′ : List ℕ) : Type 0 where
-  pub ran : Ran (given pass w h cells spans boundaries anchors l m q t p (map recordOf s) o) a l′ m′ q′ t′ p′ (map recordOf s′) o′
-  pub beyond :
-      drop (written (a .number) (regionCount (mapOf w h cells spans boundaries anchors))) s′
-      ≡ drop (written (a .number) (regionCount (mapOf w h cells spans boundaries anchors))) s
+-- What was lent, the answer, and what was left. Records that are not written are as they were, not only as `recordOf` shows them.
+pub record RanOver (pass : ℕ) (L : LentLists) (a : verdict.Answer) (E : LeftLists) : Type 0 where
+  pub ran : Ran (lentCall pass L) a (E .labels) (E .masks) (E .queue) (E .tallies) (E .pairs) (map recordOf (E .records)) (E .output)
+  pub beyond : drop (written (a .number) (regionCount (lentMap L))) (E .records) ≡ drop (written (a .number) (regionCount (lentMap L))) (L .records)
 
--- the call with records of its own has so many
+-- ---- the call with records of its own
+
+-- it has so many
 abbrev pub recordsHere : ℕ
 recordsHere = 512
 
--- With `room` of its records, or all where it has no more, that are empty at entry. Numbers n have become n′: the records at exit are written in front.
-pub record RanHere (pass w h : ℕ) (cells spans boundaries anchors : List ℕ) (room : ℕ) (l m q t p o n : List ℕ) (a : verdict.Answer)
-    (l′ m′ q′ t′ p′ o′ n′ : List ℕ) : Type 0 where
+-- what is lent to it: of its records as many as there is `room` for, and `numbers`, in which it writes them
+pub record LentHere : Type 0 where
+  pub width : ℕ
+  pub height : ℕ
+  pub cells : List ℕ
+  pub spans : List ℕ
+  pub boundaries : List ℕ
+  pub anchors : List ℕ
+  pub labels : List ℕ
+  pub masks : List ℕ
+  pub queue : List ℕ
+  pub tallies : List ℕ
+  pub pairs : List ℕ
+  pub room : ℕ
+  pub output : List ℕ
+  pub numbers : List ℕ
+
+-- the lists that it fills, at exit
+pub record LeftHere : Type 0 where
+  pub labels : List ℕ
+  pub masks : List ℕ
+  pub queue : List ℕ
+  pub tallies : List ℕ
+  pub pairs : List ℕ
+  pub output : List ℕ
+  pub numbers : List ℕ
+
+-- as the definitions have it: with `room` of its records, or all where it has no more, that are empty at entry
+abbrev pub hereCall : ℕ → LentHere → verdict.Lent
+hereCall pass L =
+    record {
+      pass = pass;
+      width = L .width;
+      height = L .height;
+      cells = L .cells;
+      spans = L .spans;
+      boundaries = L .boundaries;
+      anchors = L .anchors;
+      labels = L .labels;
+      masks = L .masks;
+      queue = L .queue;
+      tallies = L .tallies;
+      pairs = L .pairs;
+      records = replicate (min (L .room) recordsHere) emptyRegion;
+      output = L .output;
+    }
+
+-- the records at exit are written in front of the numbers
+pub record RanHere (pass : ℕ) (L : LentHere) (a : verdict.Answer) (E : LeftHere) : Type 0 where
   pub records : List def.Region
-  pub ran : Ran (given pass w h cells spans boundaries anchors l m q t p (replicate (min room recordsHere) emptyRegion) o) a l′ m′ q′ t′ p′ records o′
-  pub numbers : n′ ≡ withRecords records n
+  pub ran : Ran (hereCall pass L) a (E .labels) (E .masks) (E .queue) (E .tallies) (E .pairs) records (E .output)
+  pub numbers : E .numbers ≡ withRecords records (L .numbers)

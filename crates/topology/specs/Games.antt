@@ -16,12 +16,12 @@ use Rattle.definitions.specs.Verdict.{pairRowsOf}
 use Rattle.definitions.specs.AtExit.{Stage, untouched, labelled, tallied, complete, talliesOf, recordsOf}
 use Rattle.context.specs.declared.Region.{Region}
 use Rattle.context.specs.Records.{recordOf}
-use Rattle.call_partition.specs.Contract.{given}
 use Rattle.game_calls.specs.KeptGraph.{graphMap}
 use Rattle.game_calls.specs.GameVerdict.{GameAnswer}
 use Rattle.game_calls.specs.GameExit.{gameStage, Played}
 use Rattle.game_lists.specs.Prepared.{GameReady}
 use Rattle.topology.specs.declared.games.Second.{Second}
+use Rattle.topology.specs.Lent.{LentLists, LeftLists, lentMap, lentCall}
 
 -- ---- the call
 
@@ -32,13 +32,12 @@ writtenAt labelled n = 0
 writtenAt tallied n = 0
 writtenAt complete n = n
 
--- What was lent, the answer, and what was left. Records that are not written are as they were, not only as `recordOf` shows them.
-pub record PlayedOver (pass w h : ℕ) (cells spans boundaries anchors : List ℕ) (goal : ℕ) (l m q t p : List ℕ) (s : List Region) (o v : List ℕ) (a : GameAnswer)
-    (l′ m′ q′ t′ p′ : List ℕ) (s′ : List Region) (o′ v′ : List ℕ) : Type 0 where
-  pub played : Played (given pass w h cells spans boundaries anchors l m q t p (map recordOf s) o) goal v a l′ m′ q′ t′ p′ (map recordOf s′) o′ v′
+-- What was lent, with the goal and the verdicts as they `were`; the answer; and what was left, with the verdicts as they are. Records that are not written are as they were,
+-- not only as `recordOf` shows them.
+pub record PlayedOver (pass : ℕ) (L : LentLists) (goal : ℕ) (were : List ℕ) (a : GameAnswer) (E : LeftLists) (verdicts : List ℕ) : Type 0 where
+  pub played : Played (lentCall pass L) goal were a (E .labels) (E .masks) (E .queue) (E .tallies) (E .pairs) (map recordOf (E .records)) (E .output) verdicts
   pub beyond :
-      drop (writtenAt (gameStage (a .number)) (regionCount (mapOf w h cells spans boundaries anchors))) s′
-      ≡ drop (writtenAt (gameStage (a .number)) (regionCount (mapOf w h cells spans boundaries anchors))) s
+      drop (writtenAt (gameStage (a .number)) (regionCount (lentMap L))) (E .records) ≡ drop (writtenAt (gameStage (a .number)) (regionCount (lentMap L))) (L .records)
 
 -- ---- behind the first partition
 

@@ -3,6 +3,7 @@ pub mod Contract
 pub mod Filled
 pub mod Held
 pub mod Interiors
+pub mod Lent
 pub mod Marks
 pub mod Mouths
 pub mod Numbers

@@ -8,17 +8,16 @@ use lib.ListN.{length, drop}
 use lib.Dec.{eqb}
 use Rattle.definitions.specs.Limits.{numbersPerBoundary}
 use Rattle.definitions.specs.Lists.{overwrite}
-use Rattle.definitions.specs.Grid.{Map, mapOf}
+use Rattle.definitions.specs.Grid.{Map}
 use Rattle.definitions.specs.Partition.{regionCount}
 use Rattle.definitions.specs.Context.{Context, contextOf}
 use Rattle.definitions.specs.Junctions.{Proposal}
-use Rattle.context.specs.declared.Region.{Region}
 use Rattle.context.specs.Records.{recordOf}
-use Rattle.call_partition.specs.Contract.{given}
 use Rattle.ranked_list.specs.RankedList.{Listed, rankedRows, flatRanked}
 use Rattle.ranked_list.specs.RankedAnswers.{RankedAnswer, RankedRan}
 use Rattle.topology.specs.Proposals.{Removes}
 use Rattle.topology.specs.Marks.{MarkedFor}
+use Rattle.topology.specs.Lent.{LentLists, LeftLists, lentMap, lentCall}
 use Rattle.topology.specs.Contract.{written}
 
 -- the list, which was `was`, has the n rows in front
@@ -41,11 +40,8 @@ pub record RankedFor (M : Map) (needed count : ℕ) (boundaries m q m′ q′ : 
 abbrev pub rankedWritten : ℕ → ℕ → ℕ
 rankedWritten number n = cond (eqb number 21) n (written number n)
 
--- What was lent, the answer, and at exit labels l′, masks m′, queue q′, tallies t′, pairs p′, records s′, output o′ and the list k′. Records that are not written are as they
--- were, not only as `recordOf` shows them.
-pub record RankedOver (w h : ℕ) (cells spans boundaries anchors l m q t p : List ℕ) (s : List Region) (o k : List ℕ) (a : RankedAnswer)
-    (l′ m′ q′ t′ p′ : List ℕ) (s′ : List Region) (o′ k′ : List ℕ) : Type 0 where
-  pub ran : RankedRan (given 3 w h cells spans boundaries anchors l m q t p (map recordOf s) o) k a l′ m′ q′ t′ p′ (map recordOf s′) o′ k′
-  pub beyond :
-      drop (rankedWritten (a .number) (regionCount (mapOf w h cells spans boundaries anchors))) s′
-      ≡ drop (rankedWritten (a .number) (regionCount (mapOf w h cells spans boundaries anchors))) s
+-- What was lent, with the list as it `was`; the answer; and what was left, with the list as it is. Records that are not written are as they were, not only as `recordOf`
+-- shows them.
+pub record RankedOver (L : LentLists) (was : List ℕ) (a : RankedAnswer) (E : LeftLists) (list : List ℕ) : Type 0 where
+  pub ran : RankedRan (lentCall 3 L) was a (E .labels) (E .masks) (E .queue) (E .tallies) (E .pairs) (map recordOf (E .records)) (E .output) list
+  pub beyond : drop (rankedWritten (a .number) (regionCount (lentMap L))) (E .records) ≡ drop (rankedWritten (a .number) (regionCount (lentMap L))) (L .records)

@@ -4,14 +4,12 @@ use mathlib.Core.Path.{_≡_}
 use mathlib.Core.List.{List, map}
 use lib.ListN.{length, drop, replicate}
 use Rattle.definitions.specs.Lists.{overwrite}
-use Rattle.definitions.specs.Grid.{mapOf}
 use Rattle.definitions.specs.Partition.{regionCount}
 use Rattle.definitions.specs.RegionRecord.{emptyRegion}
 use Rattle.definitions.specs.Context.{contextOf}
 use Rattle.definitions.specs.AtExit.{recordsOf}
 use Rattle.context.specs.declared.Region.{Region}
 use Rattle.context.specs.Records.{recordOf}
-use Rattle.call_partition.specs.Contract.{given}
 use Rattle.rest_definitions.specs.RowOrder.{startMap}
 use Rattle.rest_definitions.specs.Rest.{passed, rested}
 use Rattle.rest_definitions.specs.RestVerdict as def
@@ -19,6 +17,7 @@ use Rattle.rest.specs.RestCalls.{RestRan}
 use Rattle.rest_lists.specs.declared.kept.Standing.{Standing}
 use Rattle.rest_lists.specs.Kept.{Origin, mapLent, keptOf, Holds, SameFrom, KeptLists}
 use Rattle.topology.specs.declared.to_rest.RestAnswer.{RestAnswer}
+use Rattle.topology.specs.Lent.{LentLists, LeftLists, lentMap, lentCall}
 
 -- as the exported call gives it
 abbrev pub restAnswer : RestAnswer → def.RestAnswer
@@ -29,14 +28,11 @@ abbrev pub restWritten : ℕ → ℕ → ℕ
 restWritten zero n = n
 restWritten (suc number) n = 0
 
--- What was lent, the answer, and at exit labels l′, masks m′, queue q′, tallies t′, pairs p′, records s′ and output o′. Records that are not written are as they were, not
--- only as `recordOf` shows them.
-pub record RestRanOver (w h : ℕ) (cells spans boundaries anchors l m q t p : List ℕ) (s : List Region) (o : List ℕ) (a : def.RestAnswer)
-    (l′ m′ q′ t′ p′ : List ℕ) (s′ : List Region) (o′ : List ℕ) : Type 0 where
-  pub ran : RestRan (given 1 w h cells spans boundaries anchors l m q t p (map recordOf s) o) a l′ m′ q′ t′ p′ (map recordOf s′) o′
+-- What was lent, the answer, and what was left. Records that are not written are as they were, not only as `recordOf` shows them.
+pub record RestRanOver (L : LentLists) (a : def.RestAnswer) (E : LeftLists) : Type 0 where
+  pub ran : RestRan (lentCall 1 L) a (E .labels) (E .masks) (E .queue) (E .tallies) (E .pairs) (map recordOf (E .records)) (E .output)
   pub beyond :
-      drop (restWritten (a .number) (regionCount (startMap (mapOf w h cells spans boundaries anchors)))) s′
-      ≡ drop (restWritten (a .number) (regionCount (startMap (mapOf w h cells spans boundaries anchors)))) s
+      drop (restWritten (a .number) (regionCount (startMap (lentMap L)))) (E .records) ≡ drop (restWritten (a .number) (regionCount (startMap (lentMap L)))) (L .records)
 
 -- ---- between the passes
 

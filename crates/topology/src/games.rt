@@ -125,12 +125,33 @@ pub extern "C" fn topology_runner_and_guard(
     output: &mut [u64],
     verdicts: &mut [u32],
 ) -> GameAnswer
-    ensures { λ r. ⌜ PlayedOver pass width height
-        (now (cells .entry)) (now (spans .entry)) (now (boundaries .entry)) (now (anchors .entry)) goal
-        (now (labels .entry)) (now (masks .entry)) (now (queue .entry)) (now (tallies .entry)) (now (pairs .entry))
-        (now (records .entry)) (now (output .entry)) (now (verdicts .entry)) (answerIn r)
-        (now (labels .exit)) (now (masks .exit)) (now (queue .exit)) (now (tallies .exit)) (now (pairs .exit))
-        (now (records .exit)) (now (output .exit)) (now (verdicts .exit)) ⌝ }
+    ensures { λ r. ⌜ PlayedOver pass
+        (record {
+          width = width;
+          height = height;
+          cells = now (cells .entry);
+          spans = now (spans .entry);
+          boundaries = now (boundaries .entry);
+          anchors = now (anchors .entry);
+          labels = now (labels .entry);
+          masks = now (masks .entry);
+          queue = now (queue .entry);
+          tallies = now (tallies .entry);
+          pairs = now (pairs .entry);
+          records = now (records .entry);
+          output = now (output .entry);
+        })
+        goal (now (verdicts .entry)) (answerIn r)
+        (record {
+          labels = now (labels .exit);
+          masks = now (masks .exit);
+          queue = now (queue .exit);
+          tallies = now (tallies .exit);
+          pairs = now (pairs .exit);
+          records = now (records .exit);
+          output = now (output .exit);
+        })
+        (now (verdicts .exit)) ⌝ }
 {
     let room = records.len();
     let lent = output.len();

@@ -57,9 +57,9 @@ pub fn judge_interiors(
     count: usize,
     removed: &mut [bool; 256],
 )
-    requires { ⌜ ((C : Context) × Judges C (now records) (now boundaries) (now pairs) (now starts) (now names) (now owners) (now firsts) (now seconds)
-        count) ⌝ }
-    requires { ⌜ (length (now removed) ≡ maxEntries) × Unmarked (now removed) count ⌝ }
+    requires interiors_found { ⌜ ((C : Context) × Judges C (now records) (now boundaries) (now pairs) (now starts) (now names)
+        (now owners) (now firsts) (now seconds) count) ⌝ }
+    requires none_marked { ⌜ (length (now removed) ≡ maxEntries) × Unmarked (now removed) count ⌝ }
     ensures { λ _. ⌜ ((C : Context) →
         Judges C (now (records .entry)) (now (boundaries .entry)) (now (pairs .entry)) (now (starts .entry)) (now (names .entry))
         (now (owners .entry)) (now (firsts .entry)) (now (seconds .entry)) count →
@@ -87,8 +87,9 @@ pub fn collapse_ramp_interiors(
     counts: &mut [u32],
     removed: &mut [bool; 256],
 )
-    requires { ⌜ ((C : Context) × Collapses C (now records) (now boundaries) (now tallies) (now pairs) (now starts) count regions (now marks) (now counts)) ⌝ }
-    requires { ⌜ (length (now removed) ≡ maxEntries) × Unmarked (now removed) count ⌝ }
+    requires lists_show { ⌜ ((C : Context) × Collapses C (now records) (now boundaries) (now tallies) (now pairs) (now starts)
+        count regions (now marks) (now counts)) ⌝ }
+    requires none_marked { ⌜ (length (now removed) ≡ maxEntries) × Unmarked (now removed) count ⌝ }
     ensures { λ _. ⌜ ((C : Context) →
         Collapses C (now (records .entry)) (now (boundaries .entry)) (now (tallies .entry)) (now (pairs .entry)) (now (starts .entry)) count regions
         (now (marks .entry)) (now (counts .entry)) →

@@ -25,8 +25,8 @@ pub fn allow_proposals(
     n: usize,
     allowed: &mut [bool; MAX_PROPOSALS],
 )
-    requires { ⌜ ((C : Context) × Allows C (now records) (now boundaries) (now marks) (now rows) n) ⌝ }
-    requires { ⌜ length (now allowed) ≡ maxProposals ⌝ }
+    requires rows_fit { ⌜ ((C : Context) × Allows C (now records) (now boundaries) (now marks) (now rows) n) ⌝ }
+    requires allowed_long { ⌜ length (now allowed) ≡ maxProposals ⌝ }
     ensures { λ _. ⌜ ((C : Context) →
         Allows C (now (records .entry)) (now (boundaries .entry)) (now (marks .entry)) (now (rows .entry)) n →
         Allowed C (now (rows .entry)) n (now (allowed .exit))) ⌝ }
@@ -54,10 +54,11 @@ pub fn allowed_proposals(
     rows: &mut [u32],
     allowed: &mut [bool; MAX_PROPOSALS],
 ) -> usize
-    requires { ⌜ ((C : Context) × Passes C (now records) (now boundaries) (now smaller) (now larger) (now counts) (now marks) count regions) ⌝ }
-    requires { ⌜ (numbersPerProposal * maxProposals ≤ length (now rows)) × (length (now allowed) ≡ maxProposals) ⌝ }
+    requires lists_show { ⌜ ((C : Context) × Passes C (now records) (now boundaries) (now smaller) (now larger) (now counts) (now marks) count regions) ⌝ }
+    requires room { ⌜ (numbersPerProposal * maxProposals ≤ length (now rows)) × (length (now allowed) ≡ maxProposals) ⌝ }
     ensures { λ n. ⌜ ((C : Context)
-        → Passes C (now (records .entry)) (now (boundaries .entry)) (now (smaller .entry)) (now (larger .entry)) (now (counts .entry)) (now (marks .entry)) count regions
+        → Passes C (now (records .entry)) (now (boundaries .entry)) (now (smaller .entry)) (now (larger .entry)) (now (counts .entry)) (now (marks .entry))
+        count regions
         → Proposed C count regions (now (rows .exit)) (now (allowed .exit)) n) ⌝ }
 {
     let n = find_proposals(
@@ -86,8 +87,8 @@ pub fn remove_junction_boundaries(
     marks: &[u16],
     removed: &mut [bool; 256],
 )
-    requires { ⌜ ((C : Context) × Passes C (now records) (now boundaries) (now smaller) (now larger) (now counts) (now marks) count regions) ⌝ }
-    requires { ⌜ Unmarked (now removed) count ⌝ }
+    requires lists_show { ⌜ ((C : Context) × Passes C (now records) (now boundaries) (now smaller) (now larger) (now counts) (now marks) count regions) ⌝ }
+    requires none_marked { ⌜ Unmarked (now removed) count ⌝ }
     ensures { λ _. ⌜ ((C : Context) →
         Passes C (now (records .entry)) (now (boundaries .entry)) (now (smaller .entry)) (now (larger .entry)) (now (counts .entry))
         (now (marks .entry)) count regions →

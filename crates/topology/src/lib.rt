@@ -65,12 +65,32 @@ pub extern "C" fn topology_kept_boundaries(
     records: &mut [Region],
     output: &mut [u64],
 ) -> TopologyAnswer
-    ensures { λ r. ⌜ RanOver pass width height
-        (now (cells .entry)) (now (spans .entry)) (now (boundaries .entry)) (now (anchors .entry))
-        (now (labels .entry)) (now (masks .entry)) (now (queue .entry)) (now (tallies .entry)) (now (pairs .entry))
-        (now (records .entry)) (now (output .entry)) (exported r)
-        (now (labels .exit)) (now (masks .exit)) (now (queue .exit)) (now (tallies .exit)) (now (pairs .exit))
-        (now (records .exit)) (now (output .exit)) ⌝ }
+    ensures { λ r. ⌜ RanOver pass
+        (record {
+          width = width;
+          height = height;
+          cells = now (cells .entry);
+          spans = now (spans .entry);
+          boundaries = now (boundaries .entry);
+          anchors = now (anchors .entry);
+          labels = now (labels .entry);
+          masks = now (masks .entry);
+          queue = now (queue .entry);
+          tallies = now (tallies .entry);
+          pairs = now (pairs .entry);
+          records = now (records .entry);
+          output = now (output .entry);
+        })
+        (exported r)
+        (record {
+          labels = now (labels .exit);
+          masks = now (masks .exit);
+          queue = now (queue .exit);
+          tallies = now (tallies .exit);
+          pairs = now (pairs .exit);
+          records = now (records .exit);
+          output = now (output .exit);
+        }) ⌝ }
 {
     let room = records.len();
     let lent = output.len();

@@ -27,9 +27,9 @@ pub fn removed_marks(
     counts: &mut [u32],
     removed: &mut [bool; 256],
 )
-    requires { ⌜ ((C : Context) × Shows C (now records) regions count (now boundaries) (now tallies) (now pairs) (now starts) (now smaller)
+    requires lists_show { ⌜ ((C : Context) × Shows C (now records) regions count (now boundaries) (now tallies) (now pairs) (now starts) (now smaller)
         (now larger) (now marks) (now counts)) ⌝ }
-    requires { ⌜ IsPass pass × NoMarks (now removed) ⌝ }
+    requires before_marking { ⌜ IsPass pass × NoMarks (now removed) ⌝ }
     ensures { λ _. ⌜ ((C : Context) →
         Shows C (now (records .entry)) regions count (now (boundaries .entry)) (now (tallies .entry)) (now (pairs .entry)) (now (starts .entry))
         (now (smaller .entry)) (now (larger .entry)) (now (marks .entry)) (now (counts .entry)) →
@@ -96,9 +96,9 @@ pub fn mark_removed(
     queue: &mut [u32],
     removed: &mut [bool; 256],
 )
-    requires { ⌜ ((M : Map) × Lent M (now records) width needed (now labels) (now anchors) regions rows count (now boundaries) (now tallies)
+    requires map_shown { ⌜ ((M : Map) × Lent M (now records) width needed (now labels) (now anchors) regions rows count (now boundaries) (now tallies)
         (now pairs) (length (now masks)) (length (now queue))) ⌝ }
-    requires { ⌜ IsPass pass × NoMarks (now removed) ⌝ }
+    requires before_marking { ⌜ IsPass pass × NoMarks (now removed) ⌝ }
     ensures { λ _. ⌜ ((M : Map) →
         Lent M (now (records .entry)) width needed (now (labels .entry)) (now (anchors .entry)) regions rows count (now (boundaries .entry))
         (now (tallies .entry)) (now (pairs .entry)) (length (now (masks .entry))) (length (now (queue .entry))) →

@@ -65,8 +65,8 @@ pub fn mark_near(
     n: usize,
     near: &mut [bool; 16384],
 )
-    requires { ⌜ ((C : Context) × NearAsked C (now records) (now boundaries) (now pairs) (now starts) (now mouths) (now ramps) n) ⌝ }
-    requires { ⌜ length (now near) ≡ maxCandidates ⌝ }
+    requires entries_fit { ⌜ ((C : Context) × NearAsked C (now records) (now boundaries) (now pairs) (now starts) (now mouths) (now ramps) n) ⌝ }
+    requires near_long { ⌜ length (now near) ≡ maxCandidates ⌝ }
     ensures { λ _. ⌜ ((C : Context) →
         NearAsked C (now (records .entry)) (now (boundaries .entry)) (now (pairs .entry)) (now (starts .entry)) (now (mouths .entry))
         (now (ramps .entry)) n →
@@ -101,8 +101,9 @@ pub fn replace_ramp_mouths(
     counts: &[u32],
     removed: &mut [bool; 256],
 )
-    requires { ⌜ ((C : Context) × Replaces C (now records) (now boundaries) (now tallies) (now pairs) (now starts) count (now marks) (now counts)) ⌝ }
-    requires { ⌜ NoMarks (now removed) ⌝ }
+    requires lists_show { ⌜ ((C : Context) × Replaces C (now records) (now boundaries) (now tallies) (now pairs) (now starts) count
+        (now marks) (now counts)) ⌝ }
+    requires none_marked { ⌜ NoMarks (now removed) ⌝ }
     ensures { λ _. ⌜ ((C : Context) →
         Replaces C (now (records .entry)) (now (boundaries .entry)) (now (tallies .entry)) (now (pairs .entry)) (now (starts .entry)) count
         (now (marks .entry)) (now (counts .entry)) →

@@ -38,12 +38,33 @@ pub fn kept_boundaries_here(
     output: &mut [u64],
     numbers: &mut [u64],
 ) -> Answer
-    ensures { λ r. ⌜ RanHere pass width height
-        (now (cells .entry)) (now (spans .entry)) (now (boundaries .entry)) (now (anchors .entry)) room
-        (now (labels .entry)) (now (masks .entry)) (now (queue .entry)) (now (tallies .entry)) (now (pairs .entry))
-        (now (output .entry)) (now (numbers .entry)) (answerOf r)
-        (now (labels .exit)) (now (masks .exit)) (now (queue .exit)) (now (tallies .exit)) (now (pairs .exit))
-        (now (output .exit)) (now (numbers .exit)) ⌝ }
+    ensures { λ r. ⌜ RanHere pass
+        (record {
+          width = width;
+          height = height;
+          cells = now (cells .entry);
+          spans = now (spans .entry);
+          boundaries = now (boundaries .entry);
+          anchors = now (anchors .entry);
+          labels = now (labels .entry);
+          masks = now (masks .entry);
+          queue = now (queue .entry);
+          tallies = now (tallies .entry);
+          pairs = now (pairs .entry);
+          room = room;
+          output = now (output .entry);
+          numbers = now (numbers .entry);
+        })
+        (answerOf r)
+        (record {
+          labels = now (labels .exit);
+          masks = now (masks .exit);
+          queue = now (queue .exit);
+          tallies = now (tallies .exit);
+          pairs = now (pairs .exit);
+          output = now (output .exit);
+          numbers = now (numbers .exit);
+        }) ⌝ }
 {
     let lent = least(room, RECORDS_HERE);
     let mut records: [Region; RECORDS_HERE] = empty_records();

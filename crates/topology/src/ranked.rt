@@ -39,10 +39,11 @@ pub fn rank_junctions(
     removed: &mut [bool; 256],
     listed: &mut [u32],
 ) -> usize
-    requires { ⌜ ((C : Context) × Passes C (now records) (now boundaries) (now smaller) (now larger) (now counts) (now marks) count regions) ⌝ }
-    requires { ⌜ Unmarked (now removed) count × (numbersPerRanked * maxProposals ≤ length (now listed)) ⌝ }
+    requires lists_show { ⌜ ((C : Context) × Passes C (now records) (now boundaries) (now smaller) (now larger) (now counts) (now marks) count regions) ⌝ }
+    requires before_ranking { ⌜ Unmarked (now removed) count × (numbersPerRanked * maxProposals ≤ length (now listed)) ⌝ }
     ensures { λ n. ⌜ ((C : Context)
-        → Passes C (now (records .entry)) (now (boundaries .entry)) (now (smaller .entry)) (now (larger .entry)) (now (counts .entry)) (now (marks .entry)) count regions
+        → Passes C (now (records .entry)) (now (boundaries .entry)) (now (smaller .entry)) (now (larger .entry)) (now (counts .entry)) (now (marks .entry))
+        count regions
         → Ranked C count (now (removed .exit)) (now (listed .entry)) (now (listed .exit)) n) ⌝ }
 {
     let mut rows = [0u32; NUMBERS_PER_PROPOSAL * MAX_PROPOSALS];
@@ -100,12 +101,12 @@ pub fn mark_ranked(
     removed: &mut [bool; 256],
     listed: &mut [u32],
 ) -> usize
-    requires { ⌜ ((M : Map) × Lent M (now records) width needed (now labels) (now anchors) regions rows count (now boundaries) (now tallies) (now pairs)
-        (length (now masks)) (length (now queue))) ⌝ }
-    requires { ⌜ NoMarks (now removed) × (numbersPerRanked * maxProposals ≤ length (now listed)) ⌝ }
+    requires map_shown { ⌜ ((M : Map) × Lent M (now records) width needed (now labels) (now anchors) regions rows count (now boundaries) (now tallies)
+        (now pairs) (length (now masks)) (length (now queue))) ⌝ }
+    requires before_ranking { ⌜ NoMarks (now removed) × (numbersPerRanked * maxProposals ≤ length (now listed)) ⌝ }
     ensures { λ n. ⌜ ((M : Map)
-        → Lent M (now (records .entry)) width needed (now (labels .entry)) (now (anchors .entry)) regions rows count (now (boundaries .entry)) (now (tallies .entry))
-        (now (pairs .entry)) (length (now (masks .entry))) (length (now (queue .entry)))
+        → Lent M (now (records .entry)) width needed (now (labels .entry)) (now (anchors .entry)) regions rows count (now (boundaries .entry))
+        (now (tallies .entry)) (now (pairs .entry)) (length (now (masks .entry))) (length (now (queue .entry)))
         → RankedFor M needed count (now (boundaries .entry)) (now (masks .entry)) (now (queue .entry)) (now (masks .exit)) (now (queue .exit))
         (now (removed .entry)) (now (removed .exit)) (now (listed .entry)) (now (listed .exit)) n) ⌝ }
 {
@@ -163,12 +164,33 @@ pub extern "C" fn topology_ranked_junctions(
     output: &mut [u64],
     ranked: &mut [u32],
 ) -> RankedAnswer
-    ensures { λ r. ⌜ RankedOver width height
-        (now (cells .entry)) (now (spans .entry)) (now (boundaries .entry)) (now (anchors .entry))
-        (now (labels .entry)) (now (masks .entry)) (now (queue .entry)) (now (tallies .entry)) (now (pairs .entry))
-        (now (records .entry)) (now (output .entry)) (now (ranked .entry)) (rankedForm r)
-        (now (labels .exit)) (now (masks .exit)) (now (queue .exit)) (now (tallies .exit)) (now (pairs .exit))
-        (now (records .exit)) (now (output .exit)) (now (ranked .exit)) ⌝ }
+    ensures { λ r. ⌜ RankedOver
+        (record {
+          width = width;
+          height = height;
+          cells = now (cells .entry);
+          spans = now (spans .entry);
+          boundaries = now (boundaries .entry);
+          anchors = now (anchors .entry);
+          labels = now (labels .entry);
+          masks = now (masks .entry);
+          queue = now (queue .entry);
+          tallies = now (tallies .entry);
+          pairs = now (pairs .entry);
+          records = now (records .entry);
+          output = now (output .entry);
+        })
+        (now (ranked .entry)) (rankedForm r)
+        (record {
+          labels = now (labels .exit);
+          masks = now (masks .exit);
+          queue = now (queue .exit);
+          tallies = now (tallies .exit);
+          pairs = now (pairs .exit);
+          records = now (records .exit);
+          output = now (output .exit);
+        })
+        (now (ranked .exit)) ⌝ }
 {
     let room = records.len();
     let lent = output.len();

@@ -58,8 +58,8 @@ pub fn renew(
     labels: &[u32],
     queue: &[u32],
 )
-    requires { ⌜ first ≤ length (now records) ⌝ }
-    requires { ⌜ ((M : Map) × Fills M (length (now records)) regions width (now cells) (now labels) (now queue)) ⌝ }
+    requires first_in { ⌜ first ≤ length (now records) ⌝ }
+    requires map_shown { ⌜ ((M : Map) × Fills M (length (now records)) regions width (now cells) (now labels) (now queue)) ⌝ }
     ensures { λ _. ⌜ ((M : Map) → Fills M (length (now (records .entry))) regions width
         (now (cells .entry)) (now (labels .entry)) (now (queue .entry))
         → Renewed M first (now (records .entry)) (now (records .exit))) ⌝ }

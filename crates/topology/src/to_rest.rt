@@ -47,8 +47,8 @@ pub fn pass_kept(
     spans: &mut [u64],
     boundaries: &mut [u64],
 ) -> usize
-    requires { ⌜ IsPass pass ⌝ }
-    requires { ⌜ ((U : Underway) × Passes U width needed (now anchors) standing (now labels) (now masks) (now queue) (now tallies) (now pairs)
+    requires is_pass { ⌜ IsPass pass ⌝ }
+    requires lists_stand { ⌜ ((U : Underway) × Passes U width needed (now anchors) standing (now labels) (now masks) (now queue) (now tallies) (now pairs)
         (now records) (now numbers) (now spans) (now boundaries)) ⌝ }
     ensures { λ r. ⌜ ((U : Underway) → Passes U width needed (now (anchors .entry)) standing
         (now (labels .entry)) (now (masks .entry)) (now (queue .entry)) (now (tallies .entry)) (now (pairs .entry))
@@ -97,10 +97,11 @@ pub fn turn_once(
     spans: &mut [u64],
     boundaries: &mut [u64],
 ) -> Standing
-    requires { ⌜ IsPass pass ⌝ }
-    requires { ⌜ ((O : Origin) × (s : List Region) × (places : List ℕ) × Stands width height (now cells) (now anchors) O s places first standing
+    requires is_pass { ⌜ IsPass pass ⌝ }
+    requires lists_stand { ⌜ ((O : Origin) × (s : List Region) × (places : List ℕ) × Stands width height (now cells) (now anchors) O s places first standing
         (now labels) (now masks) (now queue) (now tallies) (now pairs) (now records) (now numbers) (now spans) (now boundaries)) ⌝ }
-    ensures { λ r. ⌜ ((O : Origin) (s : List Region) (places : List ℕ) → Stands width height (now (cells .entry)) (now (anchors .entry)) O s places first standing
+    ensures { λ r. ⌜ ((O : Origin) (s : List Region) (places : List ℕ)
+        → Stands width height (now (cells .entry)) (now (anchors .entry)) O s places first standing
         (now (labels .entry)) (now (masks .entry)) (now (queue .entry)) (now (tallies .entry)) (now (pairs .entry))
         (now (records .entry)) (now (numbers .entry)) (now (spans .entry)) (now (boundaries .entry))
         → Stands width height (now (cells .entry)) (now (anchors .entry)) O s
@@ -230,12 +231,32 @@ pub extern "C" fn topology_run_to_rest(
     records: &mut [Region],
     output: &mut [u64],
 ) -> RestAnswer
-    ensures { λ r. ⌜ RestRanOver width height
-        (now (cells .entry)) (now (spans .entry)) (now (boundaries .entry)) (now (anchors .entry))
-        (now (labels .entry)) (now (masks .entry)) (now (queue .entry)) (now (tallies .entry)) (now (pairs .entry))
-        (now (records .entry)) (now (output .entry)) (restAnswer r)
-        (now (labels .exit)) (now (masks .exit)) (now (queue .exit)) (now (tallies .exit)) (now (pairs .exit))
-        (now (records .exit)) (now (output .exit)) ⌝ }
+    ensures { λ r. ⌜ RestRanOver
+        (record {
+          width = width;
+          height = height;
+          cells = now (cells .entry);
+          spans = now (spans .entry);
+          boundaries = now (boundaries .entry);
+          anchors = now (anchors .entry);
+          labels = now (labels .entry);
+          masks = now (masks .entry);
+          queue = now (queue .entry);
+          tallies = now (tallies .entry);
+          pairs = now (pairs .entry);
+          records = now (records .entry);
+          output = now (output .entry);
+        })
+        (restAnswer r)
+        (record {
+          labels = now (labels .exit);
+          masks = now (masks .exit);
+          queue = now (queue .exit);
+          tallies = now (tallies .exit);
+          pairs = now (pairs .exit);
+          records = now (records .exit);
+          output = now (output .exit);
+        }) ⌝ }
 {
     let room = records.len();
     let lent = output.len();

@@ -16,20 +16,21 @@ use Rattle.definitions.specs.RegionRecord.{emptyRegion}
 use Rattle.context.specs.declared.Region.{Region}
 use Rattle.context.specs.Records.{recordOf}
 use Rattle.topology.specs.declared.TopologyAnswer.{TopologyAnswer}
+use Rattle.topology.specs.Lent.{LentLists}
 use Rattle.topology.specs.Contract.{exported, RanOver, recordsHere}
+use Rattle.topology.proofs.Lending.{lends, leaves}
 use Rattle.topology.proofs.Answered.{first-empty, lent-long, ran-here}
 use Rattle.topology.proofs.Steps.{same, fixed, parts}
 use Rattle.topology.proofs.own_records.kept_boundaries_here.Statement.{statement}
 use Rattle.topology.proofs.own_records.kept_boundaries_here.Proof.Der.{Args, close, entry, wanted, from-put-at, Γ-from-put}
 
 module _ (κs : Lfts 11) (a : Args κs) where
-  -- the call was lent the records s and left the records s′
-  abbrev Ran : List Region → (b : TopologyAnswer) (l m q t p : List ℕ) → List Region → List ℕ → Type 0
-  Ran s b l m q t p s′ o =
-      RanOver (a .0) (a .1 .0) (a .1 .1 .0) (a .1 .1 .1 .0 .now) (a .1 .1 .1 .1 .0 .now) (a .1 .1 .1 .1 .1 .0 .now) (a .1 .1 .1 .1 .1 .1 .0 .now)
-      (a .1 .1 .1 .1 .1 .1 .1 .0 .now) (a .1 .1 .1 .1 .1 .1 .1 .1 .0 .now) (a .1 .1 .1 .1 .1 .1 .1 .1 .1 .0 .now)
-      (a .1 .1 .1 .1 .1 .1 .1 .1 .1 .1 .0 .now) (a .1 .1 .1 .1 .1 .1 .1 .1 .1 .1 .1 .0 .now) s (a .1 .1 .1 .1 .1 .1 .1 .1 .1 .1 .1 .1 .1 .0 .now)
-      (exported b) l m q t p s′ o
+  -- what the call was lent, with the records s
+  abbrev lent : List Region → LentLists
+  lent s =
+      let b = a .1 .1 .1 .1 .1 .1 .1 in
+      lends (a .1 .0) (a .1 .1 .0) (a .1 .1 .1 .0 .now) (a .1 .1 .1 .1 .0 .now) (a .1 .1 .1 .1 .1 .0 .now) (a .1 .1 .1 .1 .1 .1 .0 .now)
+      (b .0 .now) (b .1 .0 .now) (b .1 .1 .0 .now) (b .1 .1 .1 .0 .now) (b .1 .1 .1 .1 .0 .now) s (b .1 .1 .1 .1 .1 .1 .0 .now)
 
   -- the state after the call, with its n records and what stands behind them
   abbrev at-put : (qs : Shares 11) (l m q t p o : List ℕ) (n : ℕ) → List Region → TopologyAnswer → Mo (Γ-from-put κs qs)
@@ -47,7 +48,7 @@ module _ (w : World) (κs : Lfts 11) (qs : Shares 11) (bs : List ℕ) (a : Args 
     (sl : length l ≡ length (a .1 .1 .1 .1 .1 .1 .1 .0 .now)) (sm : length m′ ≡ length (a .1 .1 .1 .1 .1 .1 .1 .1 .0 .now))
     (sq : length q ≡ length (a .1 .1 .1 .1 .1 .1 .1 .1 .1 .0 .now)) (st : length t ≡ length (a .1 .1 .1 .1 .1 .1 .1 .1 .1 .1 .0 .now))
     (sp : length p ≡ length (a .1 .1 .1 .1 .1 .1 .1 .1 .1 .1 .1 .0 .now)) (so : length o ≡ length (a .1 .1 .1 .1 .1 .1 .1 .1 .1 .1 .1 .1 .1 .0 .now))
-    (ran : Ran κs a s b l m′ q t p s′ o) where
+    (ran : RanOver (a .0) (lent κs a s) (exported b) (leaves l m′ q t p s′ o)) where
   putting : from-put-at w κs qs bs .Φ (wanted κs qs a) (at-put κs a qs l m′ q t p o n (s′ ++ rest) b)
   putting = λ γ₁. same (
     λ κ. tt,
@@ -58,7 +59,7 @@ module _ (w : World) (κs : Lfts 11) (qs : Shares 11) (bs : List ℕ) (a : Args 
             (parts refl refl refl (fixed sl)
             (parts (fixed sm) (fixed sq) (fixed st) (fixed sp)
             (tt, (fixed so, (fixed l₁, tt))))),
-        ran-here (a .1 .1 .1 .1 .1 .1 .1 .1 .1 .1 .1 .1 .0) rest few ran empty long (e .5) (c .5),
+        ran-here (lent κs a s) (leaves l m′ q t p s′ o) (a .1 .1 .1 .1 .1 .1 .1 .1 .1 .1 .1 .1 .0) rest few ran empty long (e .5) (c .5),
       ),
     ),
   )

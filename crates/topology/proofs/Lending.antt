@@ -1,0 +1,26 @@
+-- What is lent to a call and what it leaves, put together for proofs that have the lists one by one. Assumes nothing.
+use Prim.Native.Nat.{ℕ}
+use mathlib.Core.List.{List}
+use Rattle.context.specs.declared.Region.{Region}
+use Rattle.topology.specs.Lent.{LentLists, LeftLists}
+
+abbrev pub lends : (w h : ℕ) (cells spans boundaries anchors l m q t p : List ℕ) → List Region → List ℕ → LentLists
+lends w h cells spans boundaries anchors l m q t p s o =
+    record {
+      width = w;
+      height = h;
+      cells = cells;
+      spans = spans;
+      boundaries = boundaries;
+      anchors = anchors;
+      labels = l;
+      masks = m;
+      queue = q;
+      tallies = t;
+      pairs = p;
+      records = s;
+      output = o;
+    }
+
+abbrev pub leaves : (l m q t p : List ℕ) → List Region → List ℕ → LeftLists
+leaves l m q t p s o = record { labels = l; masks = m; queue = q; tallies = t; pairs = p; records = s; output = o }
