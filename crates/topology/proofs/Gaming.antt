@@ -44,6 +44,7 @@ use Rattle.topology.specs.declared.games.Second.{Second}
 use Rattle.topology.specs.Filled.{Fills, Filled, Renewed}
 use Rattle.topology.specs.Marks.{IsPass, Lent, MarkedFor}
 use Rattle.topology.specs.Games.{Begun, RunsKept, RanKept}
+use Rattle.topology.proofs.Lending.{lends, leaves}
 use Rattle.topology.proofs.Calling.{is-pass, ready-fills, ready-lent, marked}
 
 -- two numbers a span
@@ -56,8 +57,12 @@ tallies-long : (C : Context) → length (talliesOf C) ≡ talliesPerSpan * C .co
 unfolding talliesOf
 tallies-long C = twos-long (C .removedEdges) (C .separatedEdges) (C .count)
 
-module _ {B : Begun} {pass w h : ℕ} {cells spans boundaries anchors : List ℕ} {room output regions rows : ℕ} {l m q t p : List ℕ}
-    (G : RunsKept B pass w h cells spans boundaries anchors room output regions rows l m q t p) where
+module _ {B : Begun} {pass w h : ℕ} {cells spans boundaries anchors : List ℕ} {regions rows : ℕ} {l m q t p : List ℕ} {s : List Region} {o : List ℕ}
+    (G : RunsKept B pass (lends w h cells spans boundaries anchors l m q t p s o) regions rows) where
+  -- how many records were lent
+  abbrev room : ℕ
+  room = length s
+
   abbrev M : Map
   M = mapOf w h cells spans boundaries anchors
 
@@ -85,10 +90,10 @@ module _ {B : Begun} {pass w h : ℕ} {cells spans boundaries anchors : List ℕ
         tallies = B .tallies;
         pairs = B .pairs;
         records = replicate room emptyRegion;
-        output = replicate output 0;
+        output = replicate (length o) 0;
       }
 
-  module _ {s s₁ : List Region} (long : length s ≡ room) (F : Filled M s s₁) where
+  module _ {s₁ : List Region} (F : Filled M s s₁) where
     pub runs-lent : Lent M s₁ w (h * w) l anchors regions rows (length spans / numbersPerSpan) boundaries t p (length m) (length q)
     runs-lent = ready-lent (G .ready .ready) F (G .masksLong) (G .queueLong)
 
@@ -145,13 +150,13 @@ module _ {B : Begun} {pass w h : ℕ} {cells spans boundaries anchors : List ℕ
             omega (arith, few, length-replicate room emptyRegion)
 
         pub runs-first : length s₁ ≡ length s → regions ≤ length s₁
-        runs-first e = omega (arith, G .ready .ready .count, G .ready .ready .enough, long, e)
+        runs-first e = omega (arith, G .ready .ready .count, G .ready .ready .enough, e)
 
         pub runs-renews : length s₁ ≡ length s → Fills K (length s₁) (g .regions) w cells l₃ q₃
         unfolding mapIn
-        runs-renews e = record { shown = shown; count = N .count; enough = omega (arith, regions-few, long, e) }
+        runs-renews e = record { shown = shown; count = N .count; enough = omega (arith, regions-few, e) }
 
-        pub runs-finishes : Finishes (h * w) (length boundaries / numbersPerBoundary) boundaries (length m₃) (length q₃) output
+        pub runs-finishes : Finishes (h * w) (length boundaries / numbersPerBoundary) boundaries (length m₃) (length q₃) (length o)
         runs-finishes = ready-finishes (G .ready .ready) (longM₃ ∙ longM ∙ G .masksLong) (longQ₃ ∙ longQ ∙ G .queueLong)
 
         -- ---- what they leave together
@@ -192,12 +197,12 @@ module _ {B : Begun} {pass w h : ℕ} {cells spans boundaries anchors : List ℕ
             ∙ ap (drop n) (F .records)
             ∙ beyond-stays n (recordsOf (contextOf M)) (map recordOf s) (omega (arith, records-first, length-replicate (regionCount M) emptyRegion))
 
-        pub ran-kept-graph : {s₂ : List Region} {o m₄ q₄ o₄ : List ℕ} {n : ℕ} → Renewed K regions s₁ s₂
+        pub ran-kept-graph : {s₂ : List Region} {m₄ q₄ o₄ : List ℕ} {n : ℕ} → Renewed K regions s₁ s₂
             → Finished (h * w) (length boundaries / numbersPerBoundary) boundaries removed m₃ q₃ o m₄ q₄ o₄ n
             → {r : Second} → r .kept ≡ n → r .regions ≡ g .regions → r .rows ≡ g .rows
-            → RanKept B pass w h cells spans boundaries anchors s o r l₃ m₄ q₄ t₃ p₃ s₂ o₄
+            → RanKept B pass (lends w h cells spans boundaries anchors l m q t p s o) r (leaves l₃ m₄ q₄ t₃ p₃ s₂ o₄)
         unfolding mapIn
-        ran-kept-graph {s₂} {o} E Fin same-kept same-regions same-rows =
+        ran-kept-graph {s₂} E Fin same-kept same-regions same-rows =
             let R = G .ready .ready in
             let k = kept-rows pass w h cells spans boundaries anchors removed (marked R F D) in
             record {

@@ -3,6 +3,7 @@ use Prim.Native.Nat.{ℕ}
 use mathlib.Core.List.{List}
 use Rattle.context.specs.declared.Region.{Region}
 use Rattle.topology.specs.Lent.{LentLists, LeftLists}
+use Rattle.topology.specs.Rest.{RunLists, PassLists}
 
 abbrev pub lends : (w h : ℕ) (cells spans boundaries anchors l m q t p : List ℕ) → List Region → List ℕ → LentLists
 lends w h cells spans boundaries anchors l m q t p s o =
@@ -24,3 +25,10 @@ lends w h cells spans boundaries anchors l m q t p s o =
 
 abbrev pub leaves : (l m q t p : List ℕ) → List Region → List ℕ → LeftLists
 leaves l m q t p s o = record { labels = l; masks = m; queue = q; tallies = t; pairs = p; records = s; output = o }
+
+-- of a run to rest: its lists, and those that a pass of it fills
+abbrev pub run-lists : (l m q t p : List ℕ) → List Region → (n b d : List ℕ) → RunLists
+run-lists l m q t p s n b d = record { labels = l; masks = m; queue = q; tallies = t; pairs = p; records = s; numbers = n; spans = b; boundaries = d }
+
+abbrev pub pass-lists : (m q n b d : List ℕ) → PassLists
+pass-lists m q n b d = record { masks = m; queue = q; numbers = n; spans = b; boundaries = d }

@@ -58,13 +58,16 @@ module _ {pass w h : ℕ} {cells spans boundaries anchors : List ℕ} {room outp
     K = graphMap pass M
 
     -- what `run_kept` asks
-    pub runs-ready : length l′ ≡ length l → length m′ ≡ length m → length q′ ≡ length q → length t′ ≡ length t → length p′ ≡ length p
-        → RunsKept (begun verdicts l m q t p) pass w h cells spans boundaries anchors room output regions rows l′ m′ q′ t′ p′
-    runs-ready longL longM longQ longT longP =
-        record { ready = G; labelsLong = longL; masksLong = longM; queueLong = longQ; talliesLong = longT; pairsLong = longP }
+    pub runs-ready : (s : List Region) (o : List ℕ) → length s ≡ room → length o ≡ output → length l′ ≡ length l → length m′ ≡ length m → length q′ ≡ length q → length t′ ≡ length t → length p′ ≡ length p
+        → RunsKept (begun verdicts l m q t p) pass (lends w h cells spans boundaries anchors l′ m′ q′ t′ p′ s o) regions rows
+    runs-ready s o long wide longL longM longQ longT longP =
+        let ready : GameReady pass w h cells spans boundaries anchors (length s) (length o) verdicts l m q t p regions rows l′ m′ q′ t′ p′
+        = subst (λ k. GameReady pass w h cells spans boundaries anchors k (length o) verdicts l m q t p regions rows l′ m′ q′ t′ p′) (sym long)
+        (subst (λ k. GameReady pass w h cells spans boundaries anchors room k verdicts l m q t p regions rows l′ m′ q′ t′ p′) (sym wide) G) in
+        record { ready = ready; labelsLong = longL; masksLong = longM; queueLong = longQ; talliesLong = longT; pairsLong = longP }
 
     module _ {s : List Region} {o : List ℕ} {r : Second} {l₂ m₂ q₂ t₂ p₂ : List ℕ} {s₂ : List Region} {o₂ : List ℕ}
-        (R : RanKept (begun verdicts l m q t p) pass w h cells spans boundaries anchors s o r l₂ m₂ q₂ t₂ p₂ s₂ o₂) where
+        (R : RanKept (begun verdicts l m q t p) pass (lends w h cells spans boundaries anchors l′ m′ q′ t′ p′ s o) r (leaves l₂ m₂ q₂ t₂ p₂ s₂ o₂)) where
       -- what `play` asks
       pub rows-fit : 3 * r .rows ≤ length p₂
       rows-fit =

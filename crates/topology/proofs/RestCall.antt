@@ -34,7 +34,7 @@ use Rattle.rest_lists.proofs.Ending.{numbers-fit, ends-fit, output-fits, masks-
 use Rattle.topology.specs.declared.to_rest.RestAnswer.{RestAnswer}
 use Rattle.topology.specs.Filled.{Fills, Filled}
 use Rattle.topology.specs.Rest.{restAnswer, restWritten, RestRanOver, Stands, RanToRest}
-use Rattle.topology.proofs.Lending.{lends, leaves}
+use Rattle.topology.proofs.Lending.{lends, leaves, run-lists}
 use Rattle.topology.proofs.Calling.{ready-fills}
 
 -- ---- before the first pass
@@ -93,7 +93,7 @@ module _ {w h : ℕ} {cells spans boundaries anchors : List ℕ} {room output : 
     filled = length-map (run 1 (regionCount startFlat)) (contextOf startFlat .region) ∙ length-run 1 (regionCount startFlat) ∙ sym (B .ready .count)
 
     pub stands-first : length rs ≡ length s → length l′ ≡ length l → length m′ ≡ length m → length q′ ≡ length q → length t′ ≡ length t → length p′ ≡ length p
-        → Stands w h cells anchors O s (allPlaces M) begins begins l′ m′ q′ t′ p′ rs n b d
+        → Stands w h cells anchors O s (allPlaces M) begins begins (run-lists l′ m′ q′ t′ p′ rs n b d)
     stands-first es el em eq et ep =
         record {
           lists = kept-starts B (map recordOf s) o rooms wide el em eq et ep;
@@ -108,7 +108,7 @@ module _ {w h : ℕ} {cells spans boundaries anchors : List ℕ} {room output : 
 -- ---- at rest
 
 module _ {w h : ℕ} {cells anchors : List ℕ} {O : Origin} {s : List Region} {first : Standing} {a : RestAnswer} {l m q t p : List ℕ} {rs : List Region} {n b d : List ℕ}
-    (R : RanToRest w h cells anchors O s first a l m q t p rs n b d) where
+    (R : RanToRest w h cells anchors O s first a (run-lists l m q t p rs n b d)) where
   pub rest-scratch : (h * w ≤ length m) × (h * w ≤ length q)
   rest-scratch = (masks-fit (R .stands .lists), queue-fit (R .stands .lists))
 

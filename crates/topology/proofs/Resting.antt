@@ -40,13 +40,14 @@ use Rattle.topology.specs.Filled.{Fills, Renewed}
 use Rattle.topology.specs.Held.{HoldsRecords, held-first}
 use Rattle.topology.specs.Marks.{Lent, MarkedFor}
 use Rattle.topology.specs.Rest.{Stands, Underway, Passes, Passed}
+use Rattle.topology.proofs.Lending.{run-lists, pass-lists}
 use Rattle.topology.proofs.Calling.{ready-shows, ready-fills}
 use Rattle.topology.proofs.Filling.{map-drop}
 
 -- ---- one pass
 
 module _ {w h : ℕ} {cells anchors : List ℕ} {O : Origin} {s : List Region} {places : List ℕ} {first standing : Standing}
-    {l m q t p : List ℕ} {rs : List Region} {n b d : List ℕ} (T : Stands w h cells anchors O s places first standing l m q t p rs n b d) where
+    {l m q t p : List ℕ} {rs : List Region} {n b d : List ℕ} (T : Stands w h cells anchors O s places first standing (run-lists l m q t p rs n b d)) where
   abbrev M : Map
   M = mapLent w h cells anchors O
 
@@ -119,7 +120,7 @@ module _ {w h : ℕ} {cells anchors : List ℕ} {O : Origin} {s : List Region} {
     abbrev after : List ℕ
     after = passed pass (startMap M) places
 
-    pub stands-still : left ≡ standing .kept → Stands w h cells anchors O s after first standing l m′ q′ t p rs n′ b′ d′
+    pub stands-still : left ≡ standing .kept → Stands w h cells anchors O s after first standing (run-lists l m′ q′ t p rs n′ b′ d′)
     stands-still e =
         record {
           lists = kept-still (T .lists) pass count held masks queue e;
@@ -162,7 +163,7 @@ module _ {w h : ℕ} {cells anchors : List ℕ} {O : Origin} {s : List Region} {
           (arith, ap regionCount (flat-kept w h cells anchors O after), run-fewer M (passedBy pass (T .lists .reached)) .regions, T .lists .firsts .regions)
 
       pub stands-again : {rs₂ : List Region} → length l₂ ≡ length l → length m₂ ≡ length m′ → length q₂ ≡ length q′ → length t₂ ≡ length t → length p₂ ≡ length p
-          → length rs₂ ≡ length rs → Renewed G (first .regions) rs rs₂ → Stands w h cells anchors O s after first r l₂ m₂ q₂ t₂ p₂ rs₂ n′ b′ d′
+          → length rs₂ ≡ length rs → Renewed G (first .regions) rs rs₂ → Stands w h cells anchors O s after first r (run-lists l₂ m₂ q₂ t₂ p₂ rs₂ n′ b′ d′)
       stands-again el em eq et ep es N =
           record {
             lists =
@@ -179,7 +180,7 @@ module _ {w h : ℕ} {cells anchors : List ℕ} {O : Origin} {s : List Region} {
 -- ---- a pass, of a run that it does not see
 
 module _ {U : Underway} {w needed : ℕ} {anchors : List ℕ} {standing : Standing} {l m q t p : List ℕ} {rs : List Region} {n b d : List ℕ}
-    (P : Passes U w needed anchors standing l m q t p rs n b d) where
+    (P : Passes U w needed anchors standing (run-lists l m q t p rs n b d)) where
   abbrev pub lentMap : Map
   lentMap = F (P .stands)
 
@@ -192,7 +193,7 @@ module _ {U : Underway} {w needed : ℕ} {anchors : List ℕ} {standing : Standi
       → MarkedFor pass lentMap needed (standing .kept) (take (9 * standing .kept) d) m q m′ q′ was removed
       → n′ ≡ overwrite (leftBlocks removed 1 n (standing .kept)) n → b′ ≡ overwrite (leftBlocks removed 4 b (standing .kept)) b
       → d′ ≡ overwrite (leftBlocks removed 9 d (standing .kept)) d → left ≡ leftCount removed (standing .kept)
-      → Passed pass U w needed anchors m q left m′ q′ n′ b′ d′
+      → Passed pass U w needed anchors m q left (pass-lists m′ q′ n′ b′ d′)
   pass-done {pass} {m′ = m′} {q′ = q′} {was = was} {removed = removed} marks en eb ed el =
       let T = P .stands in
       let here = subst (λ k. MarkedFor pass lentMap k (standing .kept) (take (9 * standing .kept) d) m q m′ q′ was removed) (P .cellsAre) marks in

@@ -22,6 +22,7 @@ use Rattle.rest_lists.proofs.Turned.{roundsAt, TurnsAt, turns-start, turns-next
 use Rattle.topology.specs.declared.to_rest.RestAnswer.{RestAnswer}
 use Rattle.topology.specs.Marks.{IsPass}
 use Rattle.topology.specs.Rest.{Stands, RanToRest}
+use Rattle.topology.proofs.Lending.{run-lists}
 use Rattle.topology.proofs.Resting.{kept-few}
 
 -- the starting map
@@ -32,13 +33,13 @@ startOf w h cells anchors O = startMap (mapLent w h cells anchors O)
 pub record RunsAt (w h : ℕ) (cells anchors : List ℕ) (O : Origin) (s : List Region) (first standing : Standing) (turn : Turn)
     (l m q t p : List ℕ) (rs : List Region) (n b d : List ℕ) : Type 0 where
   pub places : List ℕ
-  pub stands : Stands w h cells anchors O s places first standing l m q t p rs n b d
+  pub stands : Stands w h cells anchors O s places first standing (run-lists l m q t p rs n b d)
   pub turns : TurnsAt (startMap (mapLent w h cells anchors O)) (turnOf turn) places
 
 module _ {w h : ℕ} {cells anchors : List ℕ} {O : Origin} {s : List Region} {first : Standing} where
   -- the starting list has at most 256 entries
   module _ {l m q t p : List ℕ} {rs : List Region} {n b d : List ℕ}
-      (E : Stands w h cells anchors O s (allPlaces (mapLent w h cells anchors O)) first first l m q t p rs n b d) where
+      (E : Stands w h cells anchors O s (allPlaces (mapLent w h cells anchors O)) first first (run-lists l m q t p rs n b d)) where
     pub start-few : length ((startOf w h cells anchors O) .boundaries) ≤ 256
     start-few =
         let M = mapLent w h cells anchors O in
@@ -62,7 +63,7 @@ module _ {w h : ℕ} {cells anchors : List ℕ} {O : Origin} {s : List Region} {
 
     module _ (few : length ((startOf w h cells anchors O) .boundaries) ≤ 256) (going : turn .quiet < 3) {next : Standing} (turn′ : Turn) {removed : Bool}
         {l′ m′ q′ t′ p′ : List ℕ} {rs′ : List Region} {n′ b′ d′ : List ℕ}
-        (N : Stands w h cells anchors O s (passed (turn .pass) (startOf w h cells anchors O) (R .places)) first next l′ m′ q′ t′ p′ rs′ n′ b′ d′)
+        (N : Stands w h cells anchors O s (passed (turn .pass) (startOf w h cells anchors O) (R .places)) first next (run-lists l′ m′ q′ t′ p′ rs′ n′ b′ d′))
         (gone : removed ≡ not (eqb (next .kept) (standing .kept))) (after : turnOf turn′ ≡ turnAfter (turnOf turn) removed) where
       pub run-turn : RunsAt w h cells anchors O s first next turn′ l′ m′ q′ t′ p′ rs′ n′ b′ d′
       run-turn =
@@ -94,7 +95,7 @@ module _ {w h : ℕ} {cells anchors : List ℕ} {O : Origin} {s : List Region} {
               omega (arith, k, quiet, going, fewer)
 
     pub run-ends : ltb (turn .quiet) 3 ≡ false → {a : RestAnswer} → a .number ≡ 0 → a .value ≡ standing .kept
-        → a .rounds ≡ cond (eqb (turn .pass) 1) (turn .rounds) (turn .rounds + 1) → RanToRest w h cells anchors O s first a l m q t p rs n b d
+        → a .rounds ≡ cond (eqb (turn .pass) 1) (turn .rounds) (turn .rounds + 1) → RanToRest w h cells anchors O s first a (run-lists l m q t p rs n b d)
     run-ends f en ev er =
         let end = R .turns .over (omega (arith, ltb-false (turn .quiet) 3 f, R .turns .quiet)) in
         record {
@@ -102,5 +103,5 @@ module _ {w h : ℕ} {cells anchors : List ℕ} {O : Origin} {s : List Region} {
           number = en;
           value = ev;
           rounds = er ∙ end .1;
-          stands = subst (λ ps. Stands w h cells anchors O s ps first standing l m q t p rs n b d) (end .0) (R .stands);
+          stands = subst (λ ps. Stands w h cells anchors O s ps first standing (run-lists l m q t p rs n b d)) (end .0) (R .stands);
         }

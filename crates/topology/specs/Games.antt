@@ -6,7 +6,7 @@ use mathlib.Core.List.{List, map}
 use lib.ListN.{length, drop, replicate}
 use Rattle.definitions.specs.Limits.{talliesPerSpan, numbersPerPair}
 use Rattle.definitions.specs.Lists.{overwrite, zeroed}
-use Rattle.definitions.specs.Grid.{mapOf, spanCount}
+use Rattle.definitions.specs.Grid.{spanCount}
 use Rattle.definitions.specs.Partition.{regionCount}
 use Rattle.definitions.specs.Partition as partition
 use Rattle.definitions.specs.RegionRecord.{emptyRegion}
@@ -14,7 +14,6 @@ use Rattle.definitions.specs.Context.{contextOf}
 use Rattle.definitions.specs.Rows.{rowsOf, flatRows}
 use Rattle.definitions.specs.Verdict.{pairRowsOf}
 use Rattle.definitions.specs.AtExit.{Stage, untouched, labelled, tallied, complete, talliesOf, recordsOf}
-use Rattle.context.specs.declared.Region.{Region}
 use Rattle.context.specs.Records.{recordOf}
 use Rattle.game_calls.specs.KeptGraph.{graphMap}
 use Rattle.game_calls.specs.GameVerdict.{GameAnswer}
@@ -50,31 +49,30 @@ pub record Begun : Type 0 where
   pub tallies : List ℕ
   pub pairs : List ℕ
 
-pub record RunsKept (B : Begun) (pass w h : ℕ) (cells spans boundaries anchors : List ℕ) (room output regions rows : ℕ) (l m q t p : List ℕ) : Type 0 where
-  pub ready : GameReady pass w h cells spans boundaries anchors room output (B .verdicts) (B .labels) (B .masks) (B .queue) (B .tallies) (B .pairs) regions rows l m q t p
-  pub labelsLong : length l ≡ length (B .labels)
-  pub masksLong : length m ≡ length (B .masks)
-  pub queueLong : length q ≡ length (B .queue)
-  pub talliesLong : length t ≡ length (B .tallies)
-  pub pairsLong : length p ≡ length (B .pairs)
+-- L is what is lent behind the first partition
+pub record RunsKept (B : Begun) (pass : ℕ) (L : LentLists) (regions rows : ℕ) : Type 0 where
+  pub ready :
+      GameReady pass (L .width) (L .height) (L .cells) (L .spans) (L .boundaries) (L .anchors) (length (L .records)) (length (L .output)) (B .verdicts)
+      (B .labels) (B .masks) (B .queue) (B .tallies) (B .pairs) regions rows (L .labels) (L .masks) (L .queue) (L .tallies) (L .pairs)
+  pub labelsLong : length (L .labels) ≡ length (B .labels)
+  pub masksLong : length (L .masks) ≡ length (B .masks)
+  pub queueLong : length (L .queue) ≡ length (B .queue)
+  pub talliesLong : length (L .tallies) ≡ length (B .tallies)
+  pub pairsLong : length (L .pairs) ≡ length (B .pairs)
 
--- records s and output o have become s′ and o′, and the other lists are those of the second partition
-pub record RanKept (B : Begun) (pass w h : ℕ) (cells spans boundaries anchors : List ℕ) (s : List Region) (o : List ℕ) (r : Second)
-    (l′ m′ q′ t′ p′ : List ℕ) (s′ : List Region) (o′ : List ℕ) : Type 0 where
-  pub kept : r .kept ≡ length (rowsOf pass (mapOf w h cells spans boundaries anchors))
-  pub regions : r .regions ≡ regionCount (graphMap pass (mapOf w h cells spans boundaries anchors))
-  pub rows : numbersPerPair * r .rows ≡ length (pairRowsOf (contextOf (graphMap pass (mapOf w h cells spans boundaries anchors))))
-  pub labels : l′ ≡ overwrite (partition.labels (graphMap pass (mapOf w h cells spans boundaries anchors))) (B .labels)
-  pub masks : m′ ≡ zeroed (h * w) (B .masks)
-  pub queue : q′ ≡ zeroed (h * w) (B .queue)
-  pub tallies : t′
-      ≡ overwrite (talliesOf (contextOf (graphMap pass (mapOf w h cells spans boundaries anchors))))
-      (zeroed (talliesPerSpan * spanCount (mapOf w h cells spans boundaries anchors)) (B .tallies))
-  pub pairs : p′
-      ≡ overwrite (pairRowsOf (contextOf (graphMap pass (mapOf w h cells spans boundaries anchors))))
-      (zeroed (length (pairRowsOf (contextOf (mapOf w h cells spans boundaries anchors)))) (B .pairs))
-  pub records : map recordOf s′
-      ≡ overwrite (recordsOf (contextOf (graphMap pass (mapOf w h cells spans boundaries anchors))))
-      (overwrite (replicate (regionCount (mapOf w h cells spans boundaries anchors)) emptyRegion) (map recordOf s))
-  pub beyond : drop (regionCount (mapOf w h cells spans boundaries anchors)) s′ ≡ drop (regionCount (mapOf w h cells spans boundaries anchors)) s
-  pub output : o′ ≡ overwrite (flatRows (rowsOf pass (mapOf w h cells spans boundaries anchors))) o
+-- records and output are filled, and the other lists are those of the second partition
+pub record RanKept (B : Begun) (pass : ℕ) (L : LentLists) (r : Second) (E : LeftLists) : Type 0 where
+  pub kept : r .kept ≡ length (rowsOf pass (lentMap L))
+  pub regions : r .regions ≡ regionCount (graphMap pass (lentMap L))
+  pub rows : numbersPerPair * r .rows ≡ length (pairRowsOf (contextOf (graphMap pass (lentMap L))))
+  pub labels : E .labels ≡ overwrite (partition.labels (graphMap pass (lentMap L))) (B .labels)
+  pub masks : E .masks ≡ zeroed (L .height * L .width) (B .masks)
+  pub queue : E .queue ≡ zeroed (L .height * L .width) (B .queue)
+  pub tallies : E .tallies
+      ≡ overwrite (talliesOf (contextOf (graphMap pass (lentMap L)))) (zeroed (talliesPerSpan * spanCount (lentMap L)) (B .tallies))
+  pub pairs : E .pairs
+      ≡ overwrite (pairRowsOf (contextOf (graphMap pass (lentMap L)))) (zeroed (length (pairRowsOf (contextOf (lentMap L)))) (B .pairs))
+  pub records : map recordOf (E .records)
+      ≡ overwrite (recordsOf (contextOf (graphMap pass (lentMap L)))) (overwrite (replicate (regionCount (lentMap L)) emptyRegion) (map recordOf (L .records)))
+  pub beyond : drop (regionCount (lentMap L)) (E .records) ≡ drop (regionCount (lentMap L)) (L .records)
+  pub output : E .output ≡ overwrite (flatRows (rowsOf pass (lentMap L))) (L .output)

@@ -36,14 +36,27 @@ pub record RestRanOver (L : LentLists) (a : def.RestAnswer) (E : LeftLists) : Ty
 
 -- ---- between the passes
 
+-- The lists of a run. The last three have the numbers, spans and boundaries that are kept in front.
+pub record RunLists : Type 0 where
+  pub labels : List ℕ
+  pub masks : List ℕ
+  pub queue : List ℕ
+  pub tallies : List ℕ
+  pub pairs : List ℕ
+  pub records : List Region
+  pub numbers : List ℕ
+  pub spans : List ℕ
+  pub boundaries : List ℕ
+
 -- The lists stand as `KeptLists` says, and the records, that were lent as s, are those of what is kept, then empty ones as far as the first partition filled them.
-pub record Stands (w h : ℕ) (cells anchors : List ℕ) (O : Origin) (s : List Region) (places : List ℕ) (first standing : Standing)
-    (l m q t p : List ℕ) (rs : List Region) (n b d : List ℕ) : Type 0 where
-  pub lists : KeptLists w h cells anchors O (map recordOf s) places first standing l m q t p n b d
-  pub long : length rs ≡ length s
+pub record Stands (w h : ℕ) (cells anchors : List ℕ) (O : Origin) (s : List Region) (places : List ℕ) (first standing : Standing) (R : RunLists) : Type 0 where
+  pub lists :
+      KeptLists w h cells anchors O (map recordOf s) places first standing (R .labels) (R .masks) (R .queue) (R .tallies) (R .pairs) (R .numbers) (R .spans) (R .boundaries)
+  pub long : length (R .records) ≡ length s
   pub records :
-      map recordOf rs ≡ overwrite (recordsOf (contextOf (keptOf (mapLent w h cells anchors O) places))) (overwrite (replicate (first .regions) emptyRegion) (map recordOf s))
-  pub beyond : drop (first .regions) rs ≡ drop (first .regions) s
+      map recordOf (R .records)
+      ≡ overwrite (recordsOf (contextOf (keptOf (mapLent w h cells anchors O) places))) (overwrite (replicate (first .regions) emptyRegion) (map recordOf s))
+  pub beyond : drop (first .regions) (R .records) ≡ drop (first .regions) s
 
 -- ---- one pass
 
@@ -56,24 +69,33 @@ pub record Underway : Type 0 where
   pub places : List ℕ
   pub first : Standing
 
-pub record Passes (U : Underway) (w needed : ℕ) (anchors : List ℕ) (standing : Standing) (l m q t p : List ℕ) (rs : List Region) (n b d : List ℕ) : Type 0 where
+pub record Passes (U : Underway) (w needed : ℕ) (anchors : List ℕ) (standing : Standing) (R : RunLists) : Type 0 where
   pub cellsAre : needed ≡ U .height * w
-  pub stands : Stands w (U .height) (U .cells) anchors (U .origin) (U .lent) (U .places) (U .first) standing l m q t p rs n b d
+  pub stands : Stands w (U .height) (U .cells) anchors (U .origin) (U .lent) (U .places) (U .first) standing R
 
--- the pass leaves `left`, which the three lists hold; masks m and queue q have become m′ and q′, over the needed length alone
-pub record Passed (pass : ℕ) (U : Underway) (w needed : ℕ) (anchors m q : List ℕ) (left : ℕ) (m′ q′ n′ b′ d′ : List ℕ) : Type 0 where
+-- the lists of a run that a pass fills, at its exit
+pub record PassLists : Type 0 where
+  pub masks : List ℕ
+  pub queue : List ℕ
+  pub numbers : List ℕ
+  pub spans : List ℕ
+  pub boundaries : List ℕ
+
+-- the pass leaves `left`, which the three lists hold; masks, that were m, and queue, that was q, are others over the needed length alone
+pub record Passed (pass : ℕ) (U : Underway) (w needed : ℕ) (anchors m q : List ℕ) (left : ℕ) (E : PassLists) : Type 0 where
   pub count : left ≡ length (passed pass (startMap (mapLent w (U .height) (U .cells) anchors (U .origin))) (U .places))
-  pub held : Holds (mapLent w (U .height) (U .cells) anchors (U .origin)) (passed pass (startMap (mapLent w (U .height) (U .cells) anchors (U .origin))) (U .places)) n′ b′ d′
-  pub masks : SameFrom needed m m′
-  pub queue : SameFrom needed q q′
+  pub held :
+      Holds (mapLent w (U .height) (U .cells) anchors (U .origin)) (passed pass (startMap (mapLent w (U .height) (U .cells) anchors (U .origin))) (U .places))
+      (E .numbers) (E .spans) (E .boundaries)
+  pub masks : SameFrom needed m (E .masks)
+  pub queue : SameFrom needed q (E .queue)
 
 -- ---- the run
 
 -- what a run comes to, as its loop leaves it
-pub record RanToRest (w h : ℕ) (cells anchors : List ℕ) (O : Origin) (s : List Region) (first : Standing) (a : RestAnswer)
-    (l m q t p : List ℕ) (rs : List Region) (n b d : List ℕ) : Type 0 where
+pub record RanToRest (w h : ℕ) (cells anchors : List ℕ) (O : Origin) (s : List Region) (first : Standing) (a : RestAnswer) (R : RunLists) : Type 0 where
   pub standing : Standing
   pub number : a .number ≡ 0
   pub value : a .value ≡ standing .kept
   pub rounds : a .rounds ≡ rested (startMap (mapLent w h cells anchors O)) .rounds
-  pub stands : Stands w h cells anchors O s (rested (startMap (mapLent w h cells anchors O)) .places) first standing l m q t p rs n b d
+  pub stands : Stands w h cells anchors O s (rested (startMap (mapLent w h cells anchors O)) .places) first standing R

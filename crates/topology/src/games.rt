@@ -12,7 +12,6 @@ use game_lists::play::GameAnswer;
 use game_lists::play::play;
 use game_lists::play::refused;
 use pass_lists::finish;
-ghost use lib.ListN.{length};
 ghost use Rattle.game_lists.specs.Forms.{answerIn};
 ghost use Rattle.topology.specs.Games.{Begun, RunsKept, RanKept, PlayedOver};
 
@@ -42,16 +41,66 @@ pub fn run_kept(
     pairs: &mut [u32],
     output: &mut [u64],
 ) -> Second
-    requires { ⌜ ((B : Begun) × RunsKept B pass width height (now cells) (now spans) (now boundaries) (now anchors)
-        (length (now records)) (length (now output)) regions rows (now labels) (now masks) (now queue) (now tallies) (now pairs)) ⌝ }
-    ensures { λ r. ⌜ ((B : Begun) → RunsKept B pass width height
-        (now (cells .entry)) (now (spans .entry)) (now (boundaries .entry)) (now (anchors .entry))
-        (length (now (records .entry))) (length (now (output .entry))) regions rows
-        (now (labels .entry)) (now (masks .entry)) (now (queue .entry)) (now (tallies .entry)) (now (pairs .entry))
-        → RanKept B pass width height (now (cells .entry)) (now (spans .entry)) (now (boundaries .entry)) (now (anchors .entry))
-        (now (records .entry)) (now (output .entry)) r
-        (now (labels .exit)) (now (masks .exit)) (now (queue .exit)) (now (tallies .exit)) (now (pairs .exit))
-        (now (records .exit)) (now (output .exit))) ⌝ }
+    requires { ⌜ ((B : Begun) × RunsKept B pass
+        (record {
+          width = width;
+          height = height;
+          cells = now cells;
+          spans = now spans;
+          boundaries = now boundaries;
+          anchors = now anchors;
+          labels = now labels;
+          masks = now masks;
+          queue = now queue;
+          tallies = now tallies;
+          pairs = now pairs;
+          records = now records;
+          output = now output;
+        })
+        regions rows) ⌝ }
+    ensures { λ r. ⌜ ((B : Begun) → RunsKept B pass
+        (record {
+          width = width;
+          height = height;
+          cells = now (cells .entry);
+          spans = now (spans .entry);
+          boundaries = now (boundaries .entry);
+          anchors = now (anchors .entry);
+          labels = now (labels .entry);
+          masks = now (masks .entry);
+          queue = now (queue .entry);
+          tallies = now (tallies .entry);
+          pairs = now (pairs .entry);
+          records = now (records .entry);
+          output = now (output .entry);
+        })
+        regions rows
+        → RanKept B pass
+        (record {
+          width = width;
+          height = height;
+          cells = now (cells .entry);
+          spans = now (spans .entry);
+          boundaries = now (boundaries .entry);
+          anchors = now (anchors .entry);
+          labels = now (labels .entry);
+          masks = now (masks .entry);
+          queue = now (queue .entry);
+          tallies = now (tallies .entry);
+          pairs = now (pairs .entry);
+          records = now (records .entry);
+          output = now (output .entry);
+        })
+        r
+        (record {
+          labels = now (labels .exit);
+          masks = now (masks .exit);
+          queue = now (queue .exit);
+          tallies = now (tallies .exit);
+          pairs = now (pairs .exit);
+          records = now (records .exit);
+          output = now (output .exit);
+        })) ⌝ }
 {
     let needed = height * width;
     let room = records.len();

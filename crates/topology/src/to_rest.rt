@@ -48,13 +48,38 @@ pub fn pass_kept(
     boundaries: &mut [u64],
 ) -> usize
     requires is_pass { ⌜ IsPass pass ⌝ }
-    requires lists_stand { ⌜ ((U : Underway) × Passes U width needed (now anchors) standing (now labels) (now masks) (now queue) (now tallies) (now pairs)
-        (now records) (now numbers) (now spans) (now boundaries)) ⌝ }
+    requires lists_stand { ⌜ ((U : Underway) × Passes U width needed (now anchors) standing
+        (record {
+          labels = now labels;
+          masks = now masks;
+          queue = now queue;
+          tallies = now tallies;
+          pairs = now pairs;
+          records = now records;
+          numbers = now numbers;
+          spans = now spans;
+          boundaries = now boundaries;
+        })) ⌝ }
     ensures { λ r. ⌜ ((U : Underway) → Passes U width needed (now (anchors .entry)) standing
-        (now (labels .entry)) (now (masks .entry)) (now (queue .entry)) (now (tallies .entry)) (now (pairs .entry))
-        (now (records .entry)) (now (numbers .entry)) (now (spans .entry)) (now (boundaries .entry))
+        (record {
+          labels = now (labels .entry);
+          masks = now (masks .entry);
+          queue = now (queue .entry);
+          tallies = now (tallies .entry);
+          pairs = now (pairs .entry);
+          records = now (records .entry);
+          numbers = now (numbers .entry);
+          spans = now (spans .entry);
+          boundaries = now (boundaries .entry);
+        })
         → Passed pass U width needed (now (anchors .entry)) (now (masks .entry)) (now (queue .entry)) r
-        (now (masks .exit)) (now (queue .exit)) (now (numbers .exit)) (now (spans .exit)) (now (boundaries .exit))) ⌝ }
+        (record {
+          masks = now (masks .exit);
+          queue = now (queue .exit);
+          numbers = now (numbers .exit);
+          spans = now (spans .exit);
+          boundaries = now (boundaries .exit);
+        })) ⌝ }
 {
     let mut removed = [false; 256];
     let end = NUMBERS_PER_BOUNDARY * standing.kept;
@@ -99,15 +124,43 @@ pub fn turn_once(
 ) -> Standing
     requires is_pass { ⌜ IsPass pass ⌝ }
     requires lists_stand { ⌜ ((O : Origin) × (s : List Region) × (places : List ℕ) × Stands width height (now cells) (now anchors) O s places first standing
-        (now labels) (now masks) (now queue) (now tallies) (now pairs) (now records) (now numbers) (now spans) (now boundaries)) ⌝ }
+        (record {
+          labels = now labels;
+          masks = now masks;
+          queue = now queue;
+          tallies = now tallies;
+          pairs = now pairs;
+          records = now records;
+          numbers = now numbers;
+          spans = now spans;
+          boundaries = now boundaries;
+        })) ⌝ }
     ensures { λ r. ⌜ ((O : Origin) (s : List Region) (places : List ℕ)
         → Stands width height (now (cells .entry)) (now (anchors .entry)) O s places first standing
-        (now (labels .entry)) (now (masks .entry)) (now (queue .entry)) (now (tallies .entry)) (now (pairs .entry))
-        (now (records .entry)) (now (numbers .entry)) (now (spans .entry)) (now (boundaries .entry))
+        (record {
+          labels = now (labels .entry);
+          masks = now (masks .entry);
+          queue = now (queue .entry);
+          tallies = now (tallies .entry);
+          pairs = now (pairs .entry);
+          records = now (records .entry);
+          numbers = now (numbers .entry);
+          spans = now (spans .entry);
+          boundaries = now (boundaries .entry);
+        })
         → Stands width height (now (cells .entry)) (now (anchors .entry)) O s
         (passed pass (startMap (mapLent width height (now (cells .entry)) (now (anchors .entry)) O)) places) first r
-        (now (labels .exit)) (now (masks .exit)) (now (queue .exit)) (now (tallies .exit)) (now (pairs .exit))
-        (now (records .exit)) (now (numbers .exit)) (now (spans .exit)) (now (boundaries .exit))) ⌝ }
+        (record {
+          labels = now (labels .exit);
+          masks = now (masks .exit);
+          queue = now (queue .exit);
+          tallies = now (tallies .exit);
+          pairs = now (pairs .exit);
+          records = now (records .exit);
+          numbers = now (numbers .exit);
+          spans = now (spans .exit);
+          boundaries = now (boundaries .exit);
+        })) ⌝ }
 {
     let left = pass_kept(
         pass,
@@ -174,14 +227,42 @@ pub fn run_turns(
 ) -> RestAnswer
     requires { ⌜ ((O : Origin) × (s : List Region) × Stands width height (now cells) (now anchors) O s
         (allPlaces (mapLent width height (now cells) (now anchors) O)) first first
-        (now labels) (now masks) (now queue) (now tallies) (now pairs) (now records) (now numbers) (now spans) (now boundaries)) ⌝ }
+        (record {
+          labels = now labels;
+          masks = now masks;
+          queue = now queue;
+          tallies = now tallies;
+          pairs = now pairs;
+          records = now records;
+          numbers = now numbers;
+          spans = now spans;
+          boundaries = now boundaries;
+        })) ⌝ }
     ensures { λ r. ⌜ ((O : Origin) (s : List Region) → Stands width height (now (cells .entry)) (now (anchors .entry)) O s
         (allPlaces (mapLent width height (now (cells .entry)) (now (anchors .entry)) O)) first first
-        (now (labels .entry)) (now (masks .entry)) (now (queue .entry)) (now (tallies .entry)) (now (pairs .entry))
-        (now (records .entry)) (now (numbers .entry)) (now (spans .entry)) (now (boundaries .entry))
+        (record {
+          labels = now (labels .entry);
+          masks = now (masks .entry);
+          queue = now (queue .entry);
+          tallies = now (tallies .entry);
+          pairs = now (pairs .entry);
+          records = now (records .entry);
+          numbers = now (numbers .entry);
+          spans = now (spans .entry);
+          boundaries = now (boundaries .entry);
+        })
         → RanToRest width height (now (cells .entry)) (now (anchors .entry)) O s first r
-        (now (labels .exit)) (now (masks .exit)) (now (queue .exit)) (now (tallies .exit)) (now (pairs .exit))
-        (now (records .exit)) (now (numbers .exit)) (now (spans .exit)) (now (boundaries .exit))) ⌝ }
+        (record {
+          labels = now (labels .exit);
+          masks = now (masks .exit);
+          queue = now (queue .exit);
+          tallies = now (tallies .exit);
+          pairs = now (pairs .exit);
+          records = now (records .exit);
+          numbers = now (numbers .exit);
+          spans = now (spans .exit);
+          boundaries = now (boundaries .exit);
+        })) ⌝ }
 {
     let mut standing = first;
     let mut turn = first_turn();

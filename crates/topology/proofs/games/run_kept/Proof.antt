@@ -23,6 +23,7 @@ use Rattle.topology.specs.Filled.{Filled, Renewed}
 use Rattle.topology.specs.Marks.{MarkedFor}
 use Rattle.topology.specs.Games.{Begun, RunsKept}
 use Rattle.topology.proofs.Calling.{no-marks, needed-few}
+use Rattle.topology.proofs.Lending.{lends}
 use Rattle.topology.proofs.Gaming.{source, runs-fills, runs-pass, runs-lent, runs-divides, runs-first, runs-renews, runs-finishes, ran-kept-graph}
 use Rattle.topology.proofs.Steps.{same, fixed, parts}
 use Rattle.topology.proofs.games.run_kept.Statement.{statement}
@@ -64,8 +65,10 @@ module _ (κs : Lfts 11) (a : Args κs) where
   abbrev Runs : Begun → Type 0
   Runs B =
       let b = a .1 .1 .1 .1 .1 .1 .1 .1 .1 .1 in
-      RunsKept B pass width height cells spans boundaries (a .1 .1 .1 .1 .1 .1 .1 .0 .now) (length records) (length (b .1 .1 .1 .1 .1 .0 .now)) regions rows
-      (b .0 .now) (b .1 .0 .now) (b .1 .1 .0 .now) (b .1 .1 .1 .0 .now) (b .1 .1 .1 .1 .0 .now)
+      RunsKept B pass
+      (lends width height cells spans boundaries (a .1 .1 .1 .1 .1 .1 .1 .0 .now)
+      (b .0 .now) (b .1 .0 .now) (b .1 .1 .0 .now) (b .1 .1 .1 .0 .now) (b .1 .1 .1 .1 .0 .now) records (b .1 .1 .1 .1 .1 .0 .now))
+      regions rows
 
   -- the pass has marked what it removes, and masks and queue are now these
   abbrev Marks : List ℕ → List ℕ → List Bool → Type 0
@@ -124,13 +127,13 @@ module _ (w : World) (κs : Lfts 11) (qs : Shares 11) (bs : List ℕ) (a : Args 
       finishing s₂ longS₂ E = (
         lit< tt,
         λ γ₁ γ₂. same λ γ₃. same λ γ₄. same (
-          λ κ. runs-finishes (pre .1) refl F longM longQ D (N _ (pre .1)) longL₃ longM₃ longQ₃,
+          λ κ. runs-finishes (pre .1) F longM longQ D (N _ (pre .1)) longL₃ longM₃ longQ₃,
           λ e. same λ l₁. same λ l₂. same λ l₃′. (
             parts tt (fixed (longS₂ ∙ longS)) tt tt
                 (parts refl refl refl refl
                 (parts tt tt (fixed longL₃) (fixed (e .4 .1 .1 .1 .1 .0 ∙ longM₃ ∙ longM))
                 (parts (fixed (e .4 .1 .1 .1 .1 .1 .0 ∙ longQ₃ ∙ longQ)) (fixed longT₃) (fixed longP₃) (fixed l₃′) tt))),
-            λ B G. ran-kept-graph G refl F longM longQ D (N B G) longL₃ longM₃ longQ₃ E (e .5) refl refl refl,
+            λ B G. ran-kept-graph G F longM longQ D (N B G) longL₃ longM₃ longQ₃ E (e .5) refl refl refl,
           ),
         ),
       )
@@ -138,9 +141,9 @@ module _ (w : World) (κs : Lfts 11) (qs : Shares 11) (bs : List ℕ) (a : Args 
       -- from `renew` on
       renewing : from-renew-at w κs qs bs .Φ (wanted κs qs a) (at-graph κs qs a s₁ l₃ m₃ q₃ t₃ p₃ removed g)
       renewing =
-          let renews = runs-renews (pre .1) refl F longM longQ D (N _ (pre .1)) longL₃ longM₃ longQ₃ longS in
+          let renews = runs-renews (pre .1) F longM longQ D (N _ (pre .1)) longL₃ longM₃ longQ₃ longS in
           λ γ₁. same λ γ₂. same λ γ₃. same (
-            λ κ. (runs-first (pre .1) refl F longM longQ D (N _ (pre .1)) longL₃ longM₃ longQ₃ longS, (_, renews)),
+            λ κ. (runs-first (pre .1) F longM longQ D (N _ (pre .1)) longL₃ longM₃ longQ₃ longS, (_, renews)),
             λ e. same λ l. finishing (e .2 .0) l (e .5 _ renews),
           )
 
@@ -148,17 +151,17 @@ module _ (w : World) (κs : Lfts 11) (qs : Shares 11) (bs : List ℕ) (a : Args 
     dividing : from-divide-at w κs qs bs .Φ (wanted κs qs a) (at-part κs qs a s₁ b0 m₂ q₂ b3 b4 removed)
     dividing =
         λ γ₁ γ₂. same λ γ₃. same λ γ₄. same λ γ₅. same λ γ₆. same (
-          λ κ. (_, runs-divides (pre .1) refl F longM longQ D),
+          λ κ. (_, runs-divides (pre .1) F longM longQ D),
           λ d. same λ l₁. same λ l₂. same λ l₃. same λ l₄. same λ l₅.
               let last = d .2 .1 .1 .1 .1 .1 .1 .1 in
               renewing (d .1) (last .0) (last .1 .0) (last .1 .1 .0) (last .1 .1 .1 .0) (last .1 .1 .1 .1 .0)
-              (λ B G. d .5 _ (runs-divides G refl F longM longQ D)) l₁ l₂ l₃ l₄ l₅,
+              (λ B G. d .5 _ (runs-divides G F longM longQ D)) l₁ l₂ l₃ l₄ l₅,
         )
 
   -- from `mark_removed` on
   marking : from-marks-at w κs qs bs .Φ (wanted κs qs a) (at-part κs qs a s₁ b0 b1 b2 b3 b4 (replicate maxEntries false))
   marking =
-      let lent = runs-lent (pre .1) refl F in
+      let lent = runs-lent (pre .1) F in
       λ γ₁. same λ γ₂. same (
         lit< tt,
         λ γ₃. same λ γ₄. same λ γ₅. same λ γ₆. same λ γ₇. (

@@ -19,6 +19,7 @@ use Rattle.call_partition.proofs.Prepared as prepared
 use Rattle.game_lists.specs.Prepared.{GameReady, GamePreparedAs}
 use Rattle.topology.specs.declared.games.Second.{Second}
 use Rattle.topology.specs.Games.{RanKept}
+use Rattle.topology.proofs.Lending.{lends, leaves}
 use Rattle.topology.proofs.Playing.{game-ready, refused-over, runs-ready, rows-fit, played-over}
 use Rattle.topology.proofs.Steps.{same, fixed, parts}
 use Rattle.topology.proofs.games.topology_runner_and_guard.Statement.{statement}
@@ -91,8 +92,9 @@ module _ (w : World) (κs : Lfts 12) (qs : Shares 12) (bs : List ℕ) (a : Args 
     playing : (s₂ : List Region) (o₂ l₂ m₂ q₂ t₂ p₂ : List ℕ) (r : Second)
         → (let b = a .1 .1 .1 .1 .1 .1 .1 .1 in
         RanKept (record { verdicts = length (verdicts κs a); labels = b .0 .now; masks = b .1 .0 .now; queue = b .1 .1 .0 .now; tallies = b .1 .1 .1 .0 .now; pairs = b .1 .1 .1 .1 .0 .now })
-        (a .0) (a .1 .0) (a .1 .1 .0) (a .1 .1 .1 .0 .now) (a .1 .1 .1 .1 .0 .now) (a .1 .1 .1 .1 .1 .0 .now) (a .1 .1 .1 .1 .1 .1 .0 .now)
-        (records κs a) (output κs a) r l₂ m₂ q₂ t₂ p₂ s₂ o₂)
+        (a .0)
+        (lends (a .1 .0) (a .1 .1 .0) (a .1 .1 .1 .0 .now) (a .1 .1 .1 .1 .0 .now) (a .1 .1 .1 .1 .1 .0 .now) (a .1 .1 .1 .1 .1 .1 .0 .now)
+        l m₁ q₁ t p (records κs a) (output κs a)) r (leaves l₂ m₂ q₂ t₂ p₂ s₂ o₂))
         → Long κs a l₂ m₂ q₂ t₂ p₂ → length s₂ ≡ length (records κs a) → length o₂ ≡ length (output κs a)
         → from-play-at w κs qs bs .Φ past-match (at-play κs qs a l₂ m₂ q₂ t₂ p₂ s₂ o₂ regions rows r)
     playing s₂ o₂ l₂ m₂ q₂ t₂ p₂ r R long longS longO =
@@ -129,7 +131,7 @@ module _ (w : World) (κs : Lfts 12) (qs : Shares 12) (bs : List ℕ) (a : Args 
         one,
         λ v told.
             let G = game-ready P (v .1) in
-            let runs = runs-ready G (long .0) (long .1) (long .2) (long .3) (long .4) in
+            let runs = runs-ready G (records κs a) (output κs a) refl refl (long .0) (long .1) (long .2) (long .3) (long .4) in
             λ γ₁. same λ γ₂. same λ γ₃. same λ γ₄. same λ γ₅. same λ γ₆. same λ γ₇. same (
               λ κ. (_, runs),
               λ k. same λ l₁. same λ l₂. same λ l₃. same λ l₄. same λ l₅. same λ l₆. same λ l₇.

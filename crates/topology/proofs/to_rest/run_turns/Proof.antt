@@ -9,6 +9,7 @@ use borrow.Author.Tests.{ltb-true}
 use Rattle.context.specs.declared.Region.{Region}
 use Rattle.rest_lists.specs.Kept.{Origin, mapLent, allPlaces}
 use Rattle.topology.specs.Rest.{Stands}
+use Rattle.topology.proofs.Lending.{run-lists}
 use Rattle.topology.proofs.Running.{RunsAt, start-few, run-starts, run-pass, run-next, run-turn, run-lower, run-ends}
 use Rattle.topology.proofs.Steps.{fixed, parts}
 use Rattle.topology.proofs.to_rest.run_turns.Statement.{statement}
@@ -23,7 +24,7 @@ Long l m q t p rs n b d l′ m′ q′ t′ p′ rs′ n′ b′ d′ =
 abbrev Inv : InvT-loop
 Inv w h cells anchors first l₀ m₀ q₀ t₀ p₀ rs₀ n₀ b₀ d₀ standing₀ turn₀ l m q t p rs n b d standing turn =
     Long l m q t p rs n b d l₀ m₀ q₀ t₀ p₀ rs₀ n₀ b₀ d₀
-    × ((O : Origin) (s : List Region) → Stands w h cells anchors O s (allPlaces (mapLent w h cells anchors O)) first first l₀ m₀ q₀ t₀ p₀ rs₀ n₀ b₀ d₀
+    × ((O : Origin) (s : List Region) → Stands w h cells anchors O s (allPlaces (mapLent w h cells anchors O)) first first (run-lists l₀ m₀ q₀ t₀ p₀ rs₀ n₀ b₀ d₀)
     → RunsAt w h cells anchors O s first standing turn l m q t p rs n b d)
 
 abbrev μ : MeasureT-loop

@@ -28,6 +28,7 @@ use Rattle.rest_lists.specs.Kept.{Origin, mapLent, allPlaces}
 use Rattle.topology.specs.declared.to_rest.RestAnswer.{RestAnswer}
 use Rattle.topology.specs.Filled.{Filled}
 use Rattle.topology.specs.Rest.{Stands, RanToRest}
+use Rattle.topology.proofs.Lending.{run-lists}
 use Rattle.topology.proofs.Calling.{needed-few}
 use Rattle.topology.proofs.RestCall.{begun-when, refused-over, startFlat, begun-fills, stands-first, rest-scratch, rest-room, rest-over}
 use Rattle.topology.proofs.Steps.{fixed, parts}
@@ -125,7 +126,7 @@ module _ (w : World) (κs : Lfts 11) (qs : Shares 11) (bs : List ℕ) (a : Args 
 
   -- from `finish_rest` on
   finishing : (l m q t p n e d : List ℕ) (s : List Region) (regions rows : ℕ) (answer : RestAnswer)
-      → RanToRest (width κs a) (height κs a) (cells κs a) (anchors κs a) (lent κs a) (records κs a) (begins κs a regions rows) answer l m q t p s n e d
+      → RanToRest (width κs a) (height κs a) (cells κs a) (anchors κs a) (lent κs a) (records κs a) (begins κs a regions rows) answer (run-lists l m q t p s n e d)
       → Long κs a l m q t p → length s ≡ length (records κs a) → length n ≡ 256 → length e ≡ 1024
       → from-finish-at w κs qs bs .Φ past-match (at-finish κs qs a l m q t p n e s regions rows answer)
   finishing l m q t p n e d s regions rows answer R long ss ln le = (
@@ -167,7 +168,7 @@ module _ (w : World) (κs : Lfts 11) (qs : Shares 11) (bs : List ℕ) (a : Args 
   -- from the loop on
   turning : (l m q t p n e d : List ℕ) (s : List Region) (regions rows : ℕ)
       → Stands (width κs a) (height κs a) (cells κs a) (anchors κs a) (lent κs a) (records κs a)
-      (allPlaces (mapLent (width κs a) (height κs a) (cells κs a) (anchors κs a) (lent κs a))) (begins κs a regions rows) (begins κs a regions rows) l m q t p s n e d
+      (allPlaces (mapLent (width κs a) (height κs a) (cells κs a) (anchors κs a) (lent κs a))) (begins κs a regions rows) (begins κs a regions rows) (run-lists l m q t p s n e d)
       → Long κs a l m q t p → length s ≡ length (records κs a) → length n ≡ 256 → length e ≡ 1024 → length d ≡ 2304
       → from-turns-at w κs qs bs .Φ past-match (at-turns κs qs a l m q t p n e d s regions rows)
   turning l m q t p n e d s regions rows T long ss ln le ld =

@@ -17,6 +17,7 @@ use Rattle.context.specs.declared.Region.{Region}
 use Rattle.rest_lists.specs.declared.kept.Standing.{Standing}
 use Rattle.rest_lists.specs.Kept.{Origin, Divides, Redivided}
 use Rattle.topology.specs.Rest.{Stands, Underway, Passes, Passed}
+use Rattle.topology.proofs.Lending.{run-lists, pass-lists}
 use Rattle.topology.proofs.Calling.{needed-few}
 use Rattle.topology.proofs.Resting.{stands-still, asks-again, first-fits, again-fills, stands-again}
 use Rattle.topology.proofs.Steps.{same, fixed, parts}
@@ -50,25 +51,25 @@ module _ (κs : Lfts 11) (a : Args κs) where
   abbrev Here : Origin → List Region → List ℕ → Type 0
   Here O s places =
       let b = a .1 .1 .1 .1 .1 .1 .1 in
-      Stands width height cells anchors O s places first standing (b .0 .now) (b .1 .0 .now) (b .1 .1 .0 .now) (b .1 .1 .1 .0 .now) (b .1 .1 .1 .1 .0 .now) records
-      (b .1 .1 .1 .1 .1 .1 .0 .now) (b .1 .1 .1 .1 .1 .1 .1 .0 .now) (b .1 .1 .1 .1 .1 .1 .1 .1 .0 .now)
+      Stands width height cells anchors O s places first standing (run-lists (b .0 .now) (b .1 .0 .now) (b .1 .1 .0 .now) (b .1 .1 .1 .0 .now) (b .1 .1 .1 .1 .0 .now) records
+      (b .1 .1 .1 .1 .1 .1 .0 .now) (b .1 .1 .1 .1 .1 .1 .1 .0 .now) (b .1 .1 .1 .1 .1 .1 .1 .1 .0 .now))
 
   abbrev under : Origin → List Region → List ℕ → Underway
   under O s places = record { height = height; cells = cells; origin = O; lent = s; places = places; first = first }
 
   abbrev asked : {O : Origin} {s : List Region} {places : List ℕ} → Here O s places
       → let b = a .1 .1 .1 .1 .1 .1 .1 in
-      Passes (under O s places) width (height * width) anchors standing (b .0 .now) (b .1 .0 .now) (b .1 .1 .0 .now) (b .1 .1 .1 .0 .now) (b .1 .1 .1 .1 .0 .now) records
-      (b .1 .1 .1 .1 .1 .1 .0 .now) (b .1 .1 .1 .1 .1 .1 .1 .0 .now) (b .1 .1 .1 .1 .1 .1 .1 .1 .0 .now)
+      Passes (under O s places) width (height * width) anchors standing (run-lists (b .0 .now) (b .1 .0 .now) (b .1 .1 .0 .now) (b .1 .1 .1 .0 .now) (b .1 .1 .1 .1 .0 .now) records
+      (b .1 .1 .1 .1 .1 .1 .0 .now) (b .1 .1 .1 .1 .1 .1 .1 .0 .now) (b .1 .1 .1 .1 .1 .1 .1 .1 .0 .now))
   asked T = record { cellsAre = refl; stands = T }
 
   -- what the pass left
   abbrev Left : (left : ℕ) (m q n b d : List ℕ) → Type 0
   Left left m q n′ b′ d′ =
       let b = a .1 .1 .1 .1 .1 .1 .1 in
-      (U : Underway) → Passes U width (height * width) anchors standing (b .0 .now) (b .1 .0 .now) (b .1 .1 .0 .now) (b .1 .1 .1 .0 .now) (b .1 .1 .1 .1 .0 .now) records
-      (b .1 .1 .1 .1 .1 .1 .0 .now) (b .1 .1 .1 .1 .1 .1 .1 .0 .now) (b .1 .1 .1 .1 .1 .1 .1 .1 .0 .now)
-      → Passed (a .0) U width (height * width) anchors (b .1 .0 .now) (b .1 .1 .0 .now) left m q n′ b′ d′
+      (U : Underway) → Passes U width (height * width) anchors standing (run-lists (b .0 .now) (b .1 .0 .now) (b .1 .1 .0 .now) (b .1 .1 .1 .0 .now) (b .1 .1 .1 .1 .0 .now) records
+      (b .1 .1 .1 .1 .1 .1 .0 .now) (b .1 .1 .1 .1 .1 .1 .1 .0 .now) (b .1 .1 .1 .1 .1 .1 .1 .1 .0 .now))
+      → Passed (a .0) U width (height * width) anchors (b .1 .0 .now) (b .1 .1 .0 .now) left (pass-lists m q n′ b′ d′)
 
   -- the five lists that it moves are as long as they were
   abbrev Long : (m q n b d : List ℕ) → Type 0
