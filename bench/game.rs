@@ -51,11 +51,13 @@ fn plain(regions: usize, pairs: &[u32], goal: usize, verdicts: &mut [u32]) {
         if runner == was_runner && guard == was_guard {
             break;
         }
-        for r in 0..32 {
-            for g in 0..32 {
-                for (turn, set) in [runner[g], guard[g]].into_iter().enumerate() {
-                    if set >> r & 1 == 1 && ranks[r][g][turn] == 0 {
-                        ranks[r][g][turn] = moves;
+        for g in 0..regions {
+            for (turn, found) in [runner[g] & !was_runner[g], guard[g] & !was_guard[g]].into_iter().enumerate() {
+                if found != 0 {
+                    for (r, rank) in ranks.iter_mut().enumerate() {
+                        if found >> r & 1 == 1 {
+                            rank[g][turn] = moves;
+                        }
                     }
                 }
             }

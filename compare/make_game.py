@@ -1,8 +1,9 @@
-"""Makes vectors/game.txt: graphs of runner and guard and what `solve_game` must answer, by the independent solver game_reference.py.
+"""Makes vectors/game.txt and vectors/game_maps.txt: graphs of runner and guard and what `solve_game` must answer, by the independent solver
+game_reference.py; maps and what `runner_and_guard` must answer and leave in every list, by the rendering game_call_reference.py.
 
     python3 make_game.py [--check]
 
-With --check it says whether the file is as it makes it. The seed is fixed. vectors/README.md has the format.
+With --check it says whether the files are as it makes them. The seeds are fixed. vectors/README.md has the formats.
 """
 from __future__ import annotations
 
@@ -11,10 +12,17 @@ import sys
 from collections.abc import Iterator
 from pathlib import Path
 
+import package  # noqa: F401
+import game_cases
+from game_call_reference import play
 from game_graphs import cycle, graph, no_edges, path, random_pairs, star
+from game_maps import Call
 from game_reference import ROOM, solve_game
+from jenwyllt.unproved import sheet_bytes
+from jenwyllt.unproved.hypotenuse import double
+from jenwyllt.unproved.reference import LENT
 
-FILE = Path(__file__).resolve().parents[1] / 'vectors' / 'game.txt'
+VECTORS = Path(__file__).resolve().parents[1] / 'vectors'
 SEED = 14
 
 
@@ -44,6 +52,39 @@ def cases() -> Iterator[str]:
         yield case(regions, pairs, goal, room)
 
 
+def changed(entries: list, before: object) -> list:
+    """the front of a list at exit, up to the last entry that is not as it was"""
+    last = max((k for k, entry in enumerate(entries, 1) if entry != before), default=0)
+    return entries[:last]
+
+
+def record_numbers(record: tuple) -> list[int]:
+    cells, *edges, ramps, mask, counts = record
+    return [cells, *(int(double(edge)) for edge in edges), ramps, mask, *counts]
+
+
+def map_case(name: str, call: Call) -> str:
+    """the lines of a call on a map: what is told and lent, the answer, and of each list what is changed in front"""
+    data = sheet_bytes.sheet_of(call.map)
+    room = ' '.join(str(len(getattr(call.lists, each))) for each in LENT)
+    verdicts = [game_cases.BEFORE] * call.room
+    number, value, regions = play(call.map, call.lists, call.goal, verdicts)
+    lines = [f'map {name}', f'sheet {len(data)} {data.hex()}', f'goal {call.goal}', f'room {room} {call.room}', f'answer {number} {value} {regions}']
+    for each in (*LENT, 'verdicts'):
+        entries = verdicts if each == 'verdicts' else getattr(call.lists, each)
+        front = changed(entries, game_cases.RECORD_BEFORE if each == 'records' else game_cases.BEFORE)
+        if front:
+            numbers = [n for record in front for n in record_numbers(record)] if each == 'records' else front
+            lines.append(f'{each} {len(front)} {" ".join(map(str, numbers))}')
+    return '\n'.join(lines)
+
+
+def made() -> dict[str, str]:
+    """what each file holds"""
+    maps = [map_case(name, call) for name, call in game_cases.cases()]
+    return {'game.txt': ''.join(f'{line}\n' for line in cases()), 'game_maps.txt': ''.join(f'{lines}\n' for lines in maps)}
+
+
 def main(words: list[str]) -> int:
     if words == ['--help']:
         print(__doc__.strip())
@@ -51,14 +92,16 @@ def main(words: list[str]) -> int:
     if words not in ([], ['--check']):
         print('usage: make_game.py [--check]', file=sys.stderr)
         return 2
-    text = ''.join(f'{line}\n' for line in cases())
-    if words:
-        same = FILE.read_text() == text
-        print('as it is made' if same else 'not as it is made')
-        return 0 if same else 1
-    FILE.write_text(text)
-    print(f'{FILE.name}: {text.count(chr(10))} graphs')
-    return 0
+    same = True
+    for name, text in made().items():
+        if words:
+            stands = (VECTORS / name).exists() and (VECTORS / name).read_text() == text
+            print(f'{name}: {"as it is made" if stands else "not as it is made"}')
+            same = same and stands
+        else:
+            (VECTORS / name).write_text(text)
+            print(f'{name}: {len(text)} bytes')
+    return 0 if same else 1
 
 
 if __name__ == '__main__':

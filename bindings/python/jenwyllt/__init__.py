@@ -2,7 +2,7 @@
 from ._library import NotBuilt
 from .accession import Accession, report_line
 from .dominance import Dominance, Share, dominance
-from .game import Game, Verdict, Winner, runner_and_guard, solve_game
+from .game import Game, KeptGame, Verdict, Winner, runner_and_guard, solve_game
 from .hypotenuse import hypot, hypotenuse
 from .kept import Kept, Region, Row, kept_boundaries
 from .new_sheet import convert_sheet, write_sheet
@@ -18,4 +18,4 @@ from .sheet import Boundary, Kind, Point, Sheet, Span, read_sheet, sheet_bytes
 
 __version__ = '0.2.0'
 __all__ = [
-    'Accession', 'Boundary', 'Cause', 'Date', 'Dominance', 'Entry', 'Figures', 'Game', 'Kept', 'Kind', 'Mean', 'NotBuilt', 'Pair', 'Partition', 'Point', 'Ranked', 'RankedProposal', 'Refusal', 'Region', 'Report', 'Rested', 'Row', 'RunResult', 'Separation', 'Share', 'Sheet', 'Span', 'Tally', 'Term', 'Verdict', 'Winner', 'convert_sheet', 'dominance', 'empty_report', 'hypot', 'hypotenuse', 'kept_boundaries', 'maps_of_day', 'mean_kept', 'partition', 'ranked_junctions', 'read_result', 'read_sheet', 'report_line', 'report_run', 'report_sheet', 'run_to_rest', 'runner_and_guard', 'separations', 'sheet_bytes', 'solve_game', 'write_result', 'write_sheet']
+    'Accession', 'Boundary', 'Cause', 'Date', 'Dominance', 'Entry', 'Figures', 'Game', 'Kept', 'KeptGame', 'Kind', 'Mean', 'NotBuilt', 'Pair', 'Partition', 'Point', 'Ranked', 'RankedProposal', 'Refusal', 'Region', 'Report', 'Rested', 'Row', 'RunResult', 'Separation', 'Share', 'Sheet', 'Span', 'Tally', 'Term', 'Verdict', 'Winner', 'convert_sheet', 'dominance', 'empty_report', 'hypot', 'hypotenuse', 'kept_boundaries', 'maps_of_day', 'mean_kept', 'partition', 'ranked_junctions', 'read_result', 'read_sheet', 'report_line', 'report_run', 'report_sheet', 'run_to_rest', 'runner_and_guard', 'separations', 'sheet_bytes', 'solve_game', 'write_result', 'write_sheet']

@@ -117,16 +117,22 @@ class Picture:
         if path:
             self.put('path', d=''.join(path), stroke=OUTLINE, stroke_width=2, fill='none')
 
-    def region_numbers(self) -> None:
-        """each label at the cell of its region nearest to the middle of the region"""
+    def middles(self) -> dict[int, tuple[float, float]]:
+        """the cell of each region nearest to the middle of the region, by its label"""
         cells: dict[int, list[tuple[int, int]]] = {}
         for k, label in enumerate(self.labels):
             if label:
                 cells.setdefault(label, []).append((k % self.sheet.width, k // self.sheet.width))
+        out = {}
         for label, those in cells.items():
             cx, cy = (sum(c[i] for c in those) / len(those) for i in (0, 1))
             x, y = min(those, key=lambda c: (c[0] - cx) ** 2 + (c[1] - cy) ** 2)
-            self.write((x + 0.5) * self.cell, (y + 0.5) * self.cell, label, min(14, self.cell // 2), fill_opacity=0.6)
+            out[label] = ((x + 0.5) * self.cell, (y + 0.5) * self.cell)
+        return out
+
+    def region_numbers(self) -> None:
+        for label, (x, y) in self.middles().items():
+            self.write(x, y, label, min(14, self.cell // 2), fill_opacity=0.6)
 
     def lines(self) -> None:
         for span in self.spans_elsewhere():

@@ -1,14 +1,15 @@
-"""Runner and guard on a graph: who can force a win from every place, in how few moves, and by which region."""
+"""Runner and guard on a graph, and on the kept graph of a map: who can force a win from every place, in how few moves, and by which region."""
 from __future__ import annotations
 
 import ctypes
 import enum
 from collections.abc import Iterable
+from dataclasses import dataclass, replace
 from typing import NamedTuple
 
 from ._library import U8, U16, U32, U64, Function, ListOf, lent
-from .kept import CallRoom, Region
-from .partition import Answer
+from .kept import CallRoom, Region, Row
+from .partition import Answer, Partition
 from .refusal import Refusal
 from .sheet import Sheet, grouped
 
@@ -58,6 +59,9 @@ def solve_game(regions: int, edges: Iterable[tuple[int, int]], goal: int) -> Gam
 class GameAnswer(ctypes.Structure):
     """number 0, the count of rows and the regions of the kept graph, or a refusal's number and place"""
     _fields_ = [('number', U64), ('value', U64), ('regions', U64)]
+    number: int
+    value: int
+    regions: int
 
 
 RUNNER_AND_GUARD = Function(
@@ -66,15 +70,28 @@ RUNNER_AND_GUARD = Function(
     pairs=ListOf(U32, filled=True), records=ListOf(Region, filled=True), output=ListOf(U64, filled=True), verdicts=ListOf(U32, filled=True))
 
 
-def runner_and_guard(sheet: Sheet, goal: int) -> Game:
-    """on the kept graph of a map, for the pass of its sheet. Refused 1 to 9, 16, 23 or 24"""
-    room, verdicts = CallRoom(sheet), lent(U32, VERDICTS_LENGTH)
+@dataclass(frozen=True)
+class KeptGame:
+    """runner and guard on the kept graph of a map"""
+    game: Game
+    rows: list[Row]                 # that the pass keeps, ascending by endpoints; numbers are those of the sheet
+    boundaries: int                 # how many the map has
+    partition: Partition            # by what is kept, in the order of the sheet: its regions are those of the game, and its pairs the edges
+    records: list[Region]           # of each region of the partition, that of label 1 first
 
-    def call() -> int:
+
+def runner_and_guard(sheet: Sheet, goal: int, records: int | None = None, pair_rows: int | None = None) -> KeptGame:
+    """on the kept graph of a map, for the pass of its sheet. Refused 1 to 9, 16 where spans and boundaries are not one list, 23 or 24; with as many records or
+    pair rows as are given, 11 and 12 too"""
+    room, verdicts = CallRoom(sheet, records, pair_rows), lent(U32, VERDICTS_LENGTH)
+
+    def call() -> GameAnswer:
         answer = RUNNER_AND_GUARD(sheet.pass_number, sheet.width, sheet.height, *room.read, goal, *room.filled(), verdicts)
         if answer.number:
             raise Refusal(answer.number, answer.value)
-        return answer.regions
+        return answer
 
-    regions = room.filled_by(call)
-    return Game(regions, goal, verdicts_in(verdicts[:VERDICT_NUMBERS * 2 * regions ** 2]))
+    answer = room.filled_by(call)
+    second = room.partition()
+    return KeptGame(Game(answer.regions, goal, verdicts_in(verdicts[:VERDICT_NUMBERS * 2 * answer.regions ** 2])), room.rows(answer.value), len(sheet.boundaries),
+                    replace(second, tallies=second.tallies[:answer.value]), room.region_records())

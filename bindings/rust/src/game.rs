@@ -1,7 +1,9 @@
-//! Runner and guard on a graph.
+//! Runner and guard on a graph, and on the kept graph of a map.
 
+use crate::entries::flat_mut;
 use crate::exported::{jenwyllt_runner_and_guard, jenwyllt_solve_game};
-use crate::{KeptLists, Map, PartitionLists, Refusal};
+use crate::partition::Room;
+use crate::{Cause, KeptLists, Map, Partition, PartitionLists, Refusal, Region, Row, Sheet};
 
 /// How many numbers the list of verdicts has room for: 3 for each place of 32 regions.
 pub const VERDICTS_LENGTH: usize = 6144;
@@ -34,6 +36,11 @@ pub struct Game {
 }
 
 impl Game {
+    fn of(regions: usize, numbers: &[u32]) -> Game {
+        let verdicts = numbers.chunks_exact(3).take(2 * regions * regions).map(|three| [three[0], three[1], three[2]]).collect();
+        Game { regions, verdicts }
+    }
+
     /// How many regions the graph has.
     pub fn regions(&self) -> usize {
         self.regions
@@ -65,9 +72,8 @@ impl Game {
 /// ```
 pub fn solve_game(regions: u64, edges: &[[u32; 2]], goal: u64) -> Result<Game, Refusal> {
     let mut verdicts = vec![0; VERDICTS_LENGTH];
-    let count = solve_game_into(regions, edges.as_flattened(), goal, &mut verdicts)? as usize;
-    let verdicts = verdicts.chunks_exact(3).take(count).map(|three| [three[0], three[1], three[2]]).collect();
-    Ok(Game { regions: regions as usize, verdicts })
+    solve_game_into(regions, edges.as_flattened(), goal, &mut verdicts)?;
+    Ok(Game::of(regions as usize, &verdicts))
 }
 
 /// The same with a list that the caller lends; answers how many verdicts of three numbers were written, as include/jenwyllt.h says.
@@ -91,10 +97,70 @@ pub struct Played {
     pub regions: u64,
 }
 
-/// Runner and guard on the kept graph of a map, into lists that the caller lends: the lists of the partition and the records are those of the second
-/// partition, as include/jenwyllt.h says.
+/// Runner and guard on the kept graph of a map.
+#[derive(Debug, Clone, PartialEq)]
+pub struct KeptGame {
+    /// The verdicts.
+    pub game: Game,
+    /// The map cut again by the boundaries that the pass keeps, in the order of the sheet: its regions are those of the game, and its pairs the edges.
+    pub partition: Partition,
+    /// The record of each region of the partition, that of label 1 first.
+    pub records: Vec<Region>,
+    /// The boundaries that are kept, ascending by endpoints; numbers are those of the sheet.
+    pub rows: Vec<Row>,
+}
+
+/// Solves the game on the kept graph of a map, for the pass that the sheet names. The goal is a region of that graph, from 1.
 ///
-/// Refuses 1 to 12, 16, 23 and 24.
+/// Refuses 1 to 9, 16 where spans and boundaries are not one list, 23 and 24.
+///
+/// ```
+/// // Three cells in a row, cut behind the first and behind the second, where a ramp begins: its mouth goes, so that two regions are left.
+/// use jenwyllt::{Boundary, Cause, Winner, runner_and_guard};
+///
+/// let mouth = Boundary::new([8, 0, 8, 8], 8.0);
+/// let foot = Boundary { kind: Boundary::LOWER, ramp: 7, upper: 1, ..Boundary::new([16, 0, 16, 8], 8.0) };
+/// let sheet = jenwyllt::Sheet {
+///     pass: 1,
+///     width: 3,
+///     height: 1,
+///     cells: vec![1, 1, 1],
+///     spans: vec![mouth.span(), foot.span()],
+///     boundaries: vec![mouth, foot],
+///     anchors: vec![],
+/// };
+/// let kept = runner_and_guard(&sheet, 2).unwrap();
+/// assert_eq!((kept.game.regions(), &kept.partition.labels[..]), (2, &[1, 1, 2][..]));
+/// assert_eq!((kept.game.at(2, 1, true).winner, kept.game.at(1, 2, true).winner), (Winner::Runner, Winner::Guard));
+/// assert_eq!(runner_and_guard(&sheet, 3).unwrap_err().cause(), Some(Cause::Goal));
+/// ```
+pub fn runner_and_guard(sheet: &Sheet, goal: u64) -> Result<KeptGame, Refusal> {
+    let mut room = Room::new(sheet.cells.len(), sheet.spans.len());
+    let mut records = vec![Region::default(); 1 + 2 * sheet.spans.len()];
+    let mut rows = vec![Row::default(); sheet.boundaries.len()];
+    let mut verdicts = vec![0; VERDICTS_LENGTH];
+    loop {
+        let lists = KeptLists { partition: room.lists(), records: &mut records, output: flat_mut(&mut rows) };
+        let answer = runner_and_guard_into(sheet.into(), goal, lists, &mut verdicts);
+        if answer.is_err_and(|refusal| refusal.cause() == Some(Cause::Regions)) {
+            // The labels are filled, those of the first partition, which has the most regions.
+            records = vec![Region::default(); room.regions() as usize];
+        } else if !room.grown_for(answer.map(|played| played.kept)) {
+            let Played { kept, regions } = answer?;
+            rows.truncate(kept as usize);
+            records.truncate(regions as usize);
+            let mut partition = room.filled(regions);
+            partition.tallies.truncate(kept as usize);
+            return Ok(KeptGame { game: Game::of(regions as usize, &verdicts), partition, records, rows });
+        }
+    }
+}
+
+/// The same with lists that the caller lends: the lists of the partition and the records are those of the second partition, and zero where only the first
+/// filled, as include/jenwyllt.h says.
+///
+/// Refuses 10, 11 and 12 too. With 23 and 24 the lists but the verdicts are as on success; with 11 and 12 as for a pass; with any other refusal every list
+/// stays as it was.
 pub fn runner_and_guard_into(map: Map<'_>, goal: u64, lists: KeptLists<'_>, verdicts: &mut [u32]) -> Result<Played, Refusal> {
     let Map { pass, width, height, cells, spans, boundaries, anchors } = map;
     let KeptLists { partition: PartitionLists { labels, masks, queue, tallies, pairs }, records, output } = lists;

@@ -33,7 +33,7 @@ mod sheet;
 pub use accession::{report_line, report_line_into};
 pub use dominance::{Dominance, Share, dominance};
 pub use entries::{Accession, Boundary, Date, Pair, Point, Row, Span, Tally, Term};
-pub use game::{Game, Played, VERDICTS_LENGTH, Verdict, Winner, runner_and_guard_into, solve_game, solve_game_into};
+pub use game::{Game, KeptGame, Played, VERDICTS_LENGTH, Verdict, Winner, runner_and_guard, runner_and_guard_into, solve_game, solve_game_into};
 pub use hypotenuse::{hypot, hypotenuse};
 pub use kept::{KeptBoundaries, KeptLists, Map, Region, kept_boundaries, kept_boundaries_into};
 pub use partition::{Partition, PartitionLists, partition, partition_into};

@@ -1,6 +1,6 @@
 -- The loops of a sweep: a row of the runner's, a row of the guard's, all rows, and the ranks. Each invariant says what is done so far; the rest is as it was.
 -- Assumes nothing.
-use Prim.Native.Nat.{ℕ, zero, suc, _+_, _/_, _≤_, _<_}
+use Prim.Native.Nat.{ℕ, zero, suc, _+_, _*_, _/_, _%_, _≤_, _<_}
 use native.Mathlib.Omega.{arith}
 use mathlib.Core.Path.{_≡_, refl, sym, ap, ap₂, _∙_}
 use mathlib.Core.Bool.{Bool, true, false, not, _&&_, _||_, cond, or-false}
@@ -12,7 +12,7 @@ use borrow.Author.Tests.{eqb-true, eqb-false, eq-eqb, ne-eqb, ltb-true, ltb-fals
 use Rattle.definitions.specs.Scan.{allBelow}
 use Rattle.definitions.specs.RegionRecord.{hasBit}
 use Rattle.laws.specs.ListLaws.Below.{all-below-at}
-use Rattle.game_solver.specs.Words.{bitAt, runnerBit, guardBit, Swept, setFor, rankedBy}
+use Rattle.game_solver.specs.Words.{bitAt, runnerBit, guardBit, Swept, setFor, isNew, isFoundNow, rankedBy}
 
 pub zero-bit : (j : ℕ) → j < 32 → hasBit 0 j ≡ false
 unfolding allBelow
@@ -141,35 +141,159 @@ pub sweeping-ends : (near : List ℕ) (regions goal : ℕ) (runner guard : List 
     → Swept near regions goal runner guard runners guards
 sweeping-ends near regions goal runner guard k runners guards S h = record { runners = λ g j a b. S .ofRunner g j (omega arith) b; guards = λ g j a b. S .ofGuard g j (omega arith) b }
 
--- ---- the ranks
+-- ---- the ranks of one guard's region and turn: the places of the runner's regions below r are put
 
-pub record Ranking (runner guard : List ℕ) (rank : ℕ) (ranks₀ : List ℕ) (k : ℕ) (ranks : List ℕ) : Type 0 where
-  pub upto : k ≤ 2048
+none : (b : Bool) → (b && false) ≡ false
+none true = refl
+none false = refl
+
+pub record RankRow (old new at rank : ℕ) (ranks₀ : List ℕ) (r : ℕ) (ranks : List ℕ) : Type 0 where
+  pub upto : r ≤ 32
   pub long : length ranks ≡ 2048
-  pub put : (i : ℕ) → i < k → getD ranks i 0 ≡ rankedBy runner guard rank ranks₀ i
-  pub rest : (i : ℕ) → k ≤ i → getD ranks i 0 ≡ getD ranks₀ i 0
+  pub put : (i : ℕ) → i < 2048 → getD ranks i 0 ≡ cond (eqb (i % 64) at && (ltb (i / 64) r && isNew old new (i / 64))) rank (getD ranks₀ i 0)
 
-pub ranking-starts : (runner guard : List ℕ) (rank : ℕ) (ranks : List ℕ) → length ranks ≡ 2048 → Ranking runner guard rank ranks 0 ranks
-ranking-starts runner guard rank ranks l = record { upto = omega arith; long = l; put = λ i h. absurd (omega arith); rest = λ i h. refl }
-
-pub ranking-more : (runner guard : List ℕ) (rank : ℕ) (ranks₀ : List ℕ) (k : ℕ) (ranks : List ℕ) (set' v : ℕ) → Ranking runner guard rank ranks₀ k ranks → k < 2048
-    → set' ≡ setFor runner guard k → v ≡ cond (hasBit set' (k / 64) && eqb (getD ranks k 0) 0) rank (getD ranks k 0) → Ranking runner guard rank ranks₀ (k + 1) (set ranks k v)
-ranking-more runner guard rank ranks₀ k ranks set' v R h e f =
+pub row-starts : (old new at rank : ℕ) (ranks : List ℕ) → length ranks ≡ 2048 → RankRow old new at rank ranks 0 ranks
+row-starts old new at rank ranks l =
     record {
       upto = omega arith;
-      long = length-set ranks k v ∙ R .long;
-      put = λ i l. go i l (eqb i k) refl;
-      rest = λ i l. getD-set-other ranks k i v 0 (λ q. later q l) ∙ R .rest i (omega arith);
+      long = l;
+      put =
+          λ i h.
+          sym (ap (λ b. cond (eqb (i % 64) at && (b && isNew old new (i / 64))) rank (getD ranks i 0)) (le-ltb (i / 64) 0 (omega arith))
+          ∙ ap (λ b. cond b rank (getD ranks i 0)) (none (eqb (i % 64) at)));
     }
+
+pub row-more : (old new at rank : ℕ) (ranks₀ : List ℕ) (r : ℕ) (ranks : List ℕ) (v : ℕ) → at < 64 → RankRow old new at rank ranks₀ r ranks → r < 32
+    → v ≡ cond (isNew old new r) rank (getD ranks (64 * r + at) 0) → RankRow old new at rank ranks₀ (r + 1) (set ranks (64 * r + at) v)
+row-more old new at rank ranks₀ r ranks v few R h e =
+    record { upto = omega arith; long = length-set ranks (64 * r + at) v ∙ R .long; put = λ i l. go i l (eqb i (64 * r + at)) refl }
   where
-    later : {i : ℕ} → i ≡ k → k + 1 ≤ i → ⊥
-    later q l = omega arith
+    here : ℕ
+    here = 64 * r + at
 
-    told : v ≡ rankedBy runner guard rank ranks₀ k
-    told = f ∙ (λ i. cond (hasBit (e i) (k / 64) && eqb (R .rest k (omega arith) i) 0) rank (R .rest k (omega arith) i))
+    inside : here < length ranks
+    inside = omega (arith, R .long)
 
-    go : (i : ℕ) → i < k + 1 → (t : Bool) → eqb i k ≡ t → getD (set ranks k v) i 0 ≡ rankedBy runner guard rank ranks₀ i
+    -- the place that is put had the rank that it had before the row
+    had : (i : ℕ) → i < 2048 → i / 64 ≡ r → getD ranks i 0 ≡ getD ranks₀ i 0
+    had i l q =
+        R .put i l ∙ ap (λ b. cond (eqb (i % 64) at && (b && isNew old new (i / 64))) rank (getD ranks₀ i 0)) (le-ltb (i / 64) r (omega (arith, q)))
+        ∙ ap (λ b. cond b rank (getD ranks₀ i 0)) (none (eqb (i % 64) at))
+
+    -- one region more makes no difference elsewhere
+    elsewhere : (i : ℕ) → (i ≡ here → ⊥) → (eqb (i % 64) at && (ltb (i / 64) r && isNew old new (i / 64))) ≡ (eqb (i % 64) at && (ltb (i / 64) (r + 1) && isNew old new (i / 64)))
+    elsewhere i n = by (eqb (i % 64) at) refl (ltb (i / 64) r) refl
+      where
+        by : (a : Bool) → eqb (i % 64) at ≡ a → (b : Bool) → ltb (i / 64) r ≡ b → (a && (b && isNew old new (i / 64))) ≡ (a && (ltb (i / 64) (r + 1) && isNew old new (i / 64)))
+        by false p b q = refl
+        by true p true q = ap (λ b. b && isNew old new (i / 64)) (sym (lt-ltb (i / 64) (r + 1) (omega (arith, ltb-true (i / 64) r q))))
+        by true p false q = ap (λ b. b && isNew old new (i / 64)) (sym (le-ltb (i / 64) (r + 1) (beyond (eqb-true (i % 64) at p) (ltb-false (i / 64) r q))))
+          where
+            beyond : i % 64 ≡ at → r ≤ i / 64 → r + 1 ≤ i / 64
+            beyond m k = later (eqb (i / 64) r) refl
+              where
+                later : (t : Bool) → eqb (i / 64) r ≡ t → r + 1 ≤ i / 64
+                later true w = absurd (n (whole (eqb-true (i / 64) r w)))
+                  where
+                    whole : i / 64 ≡ r → i ≡ here
+                    whole w = omega (arith, m)
+                later false w = omega (arith, eqb-false (i / 64) r w)
+
+    go : (i : ℕ) → i < 2048 → (t : Bool) → eqb i here ≡ t
+        → getD (set ranks here v) i 0 ≡ cond (eqb (i % 64) at && (ltb (i / 64) (r + 1) && isNew old new (i / 64))) rank (getD ranks₀ i 0)
     go i l true q =
-        let p = eqb-true i k q in
-        ap (λ n. getD (set ranks k v) n 0) p ∙ getD-set-same ranks k v 0 (omega (arith, R .long)) ∙ told ∙ ap (rankedBy runner guard rank ranks₀) (sym p)
-    go i l false q = getD-set-other ranks k i v 0 (eqb-false i k q) ∙ R .put i (omega (arith, eqb-false i k q))
+        ap (λ n. getD (set ranks here v) n 0) p ∙ getD-set-same ranks here v 0 inside ∙ e
+        ∙ (λ j. cond (isNew old new (sym row j)) rank (getD ranks (sym p j) 0)) ∙ ap (cond (isNew old new (i / 64)) rank) (had i l row)
+        ∙ (λ j. cond (sym column j && (sym below j && isNew old new (i / 64))) rank (getD ranks₀ i 0))
+      where
+        p : i ≡ here
+        p = eqb-true i here q
+
+        row : i / 64 ≡ r
+        row = omega (arith, p)
+
+        column : eqb (i % 64) at ≡ true
+        column = eq-eqb (i % 64) at (omega (arith, p))
+
+        below : ltb (i / 64) (r + 1) ≡ true
+        below = lt-ltb (i / 64) (r + 1) (omega (arith, row))
+    go i l false q =
+        getD-set-other ranks here i v 0 (eqb-false i here q) ∙ R .put i l ∙ ap (λ b. cond b rank (getD ranks₀ i 0)) (elsewhere i (eqb-false i here q))
+
+pub row-ends : (old new at rank : ℕ) (ranks₀ : List ℕ) (r : ℕ) (ranks : List ℕ) → RankRow old new at rank ranks₀ r ranks → 32 ≤ r
+    → (i : ℕ) → i < 2048 → getD ranks i 0 ≡ cond (eqb (i % 64) at && isNew old new (i / 64)) rank (getD ranks₀ i 0)
+row-ends old new at rank ranks₀ r ranks R h i l =
+    R .put i l ∙ ap (λ b. cond (eqb (i % 64) at && (b && isNew old new (i / 64))) rank (getD ranks₀ i 0)) (lt-ltb (i / 64) r (omega arith))
+
+-- a set that is as it was has nothing new
+pub row-same : (old new at rank : ℕ) (ranks : List ℕ) → old ≡ new → (i : ℕ) → getD ranks i 0 ≡ cond (eqb (i % 64) at && isNew old new (i / 64)) rank (getD ranks i 0)
+row-same old new at rank ranks e i =
+    sym ((λ j. cond (eqb (i % 64) at && isNew (e j) new (i / 64)) rank (getD ranks i 0)) ∙ ap (λ b. cond (eqb (i % 64) at && b) rank (getD ranks i 0)) (never (hasBit new (i / 64)))
+    ∙ ap (λ b. cond b rank (getD ranks i 0)) (none (eqb (i % 64) at)))
+  where
+    never : (b : Bool) → (b && not b) ≡ false
+    never true = refl
+    never false = refl
+
+-- ---- all ranks: those of the first k guard's regions and turns are put
+
+pub record Ranking (runner guard runners guards : List ℕ) (rank : ℕ) (ranks₀ : List ℕ) (k : ℕ) (ranks : List ℕ) : Type 0 where
+  pub upto : k ≤ 64
+  pub long : length ranks ≡ 2048
+  pub put : (i : ℕ) → i < 2048 → getD ranks i 0 ≡ cond (ltb (i % 64) k && isFoundNow runner guard runners guards i) rank (getD ranks₀ i 0)
+
+pub ranking-starts : (runner guard runners guards : List ℕ) (rank : ℕ) (ranks : List ℕ) → length ranks ≡ 2048 → Ranking runner guard runners guards rank ranks 0 ranks
+ranking-starts runner guard runners guards rank ranks l =
+    record {
+      upto = omega arith;
+      long = l;
+      put = λ i h. sym (ap (λ b. cond (b && isFoundNow runner guard runners guards i) rank (getD ranks i 0)) (le-ltb (i % 64) 0 (omega arith)));
+    }
+
+-- the set of a place is that of its row
+set-of-row : (a b : List ℕ) (i k : ℕ) → i % 64 ≡ k → setFor a b k ≡ setFor a b i
+set-of-row a b i k e = λ j. cond (eqb (turn j) 0) (getD a (row j) 0) (getD b (row j) 0)
+  where
+    turn : k % 2 ≡ i % 2
+    turn = omega arith
+
+    row : k % 64 / 2 ≡ i % 64 / 2
+    row = omega arith
+
+pub ranking-more : (runner guard runners guards : List ℕ) (rank : ℕ) (ranks₀ : List ℕ) (k : ℕ) (ranks ranks' : List ℕ) (old new : ℕ)
+    → Ranking runner guard runners guards rank ranks₀ k ranks → k < 64 → old ≡ setFor runner guard k → new ≡ setFor runners guards k
+    → ((i : ℕ) → i < 2048 → getD ranks' i 0 ≡ cond (eqb (i % 64) k && isNew old new (i / 64)) rank (getD ranks i 0)) → length ranks' ≡ 2048
+    → Ranking runner guard runners guards rank ranks₀ (k + 1) ranks'
+ranking-more runner guard runners guards rank ranks₀ k ranks ranks' old new R h e f p m =
+    record { upto = omega arith; long = m; put = λ i l. p i l ∙ go i l (eqb (i % 64) k) refl }
+  where
+    found : ℕ → Bool
+    found i = isFoundNow runner guard runners guards i
+
+    go : (i : ℕ) → i < 2048 → (t : Bool) → eqb (i % 64) k ≡ t
+        → cond (eqb (i % 64) k && isNew old new (i / 64)) rank (getD ranks i 0) ≡ cond (ltb (i % 64) (k + 1) && found i) rank (getD ranks₀ i 0)
+    go i l true q =
+        (λ j. cond (q j && isNew (was j) (is j) (i / 64)) rank (getD ranks i 0))
+        ∙ ap (cond (found i) rank) (R .put i l ∙ ap (λ b. cond (b && found i) rank (getD ranks₀ i 0)) (le-ltb (i % 64) k (omega (arith, row))))
+        ∙ ap (λ b. cond (b && found i) rank (getD ranks₀ i 0)) (sym (lt-ltb (i % 64) (k + 1) (omega (arith, row))))
+      where
+        row : i % 64 ≡ k
+        row = eqb-true (i % 64) k q
+
+        was : old ≡ setFor runner guard i
+        was = e ∙ set-of-row runner guard i k row
+
+        is : new ≡ setFor runners guards i
+        is = f ∙ set-of-row runners guards i k row
+    go i l false q =
+        ap (λ b. cond (b && isNew old new (i / 64)) rank (getD ranks i 0)) q ∙ R .put i l
+        ∙ ap (λ b. cond (b && found i) rank (getD ranks₀ i 0)) (same (ltb (i % 64) k) refl)
+      where
+        same : (b : Bool) → ltb (i % 64) k ≡ b → b ≡ ltb (i % 64) (k + 1)
+        same true w = sym (lt-ltb (i % 64) (k + 1) (omega (arith, ltb-true (i % 64) k w)))
+        same false w = sym (le-ltb (i % 64) (k + 1) (omega (arith, ltb-false (i % 64) k w, eqb-false (i % 64) k q)))
+
+pub ranking-ends : (runner guard runners guards : List ℕ) (rank : ℕ) (ranks₀ : List ℕ) (k : ℕ) (ranks : List ℕ)
+    → Ranking runner guard runners guards rank ranks₀ k ranks → 64 ≤ k → (i : ℕ) → i < 2048 → getD ranks i 0 ≡ rankedBy runner guard runners guards rank ranks₀ i
+ranking-ends runner guard runners guards rank ranks₀ k ranks R h i l =
+    R .put i l ∙ ap (λ b. cond (b && isFoundNow runner guard runners guards i) rank (getD ranks₀ i 0)) (lt-ltb (i % 64) k (omega arith))

@@ -151,6 +151,36 @@ searched-none near regions goal few G P =
     below r g false h k = omega arith
 
 module _ (near : List ℕ) (regions goal : ℕ) (few : regions ≤ 32) (G : Game) (P : Plays near regions goal G) where
+  -- a place in its set, of sets that have the places won within fewer than m moves
+  set-is : (m : ℕ) (runners guards : List ℕ) → ((r g : ℕ) → r < regions → g < regions → bitAt runners g r ≡ wonBefore G m (at r g true))
+      → ((r g : ℕ) → r < regions → g < regions → bitAt guards g r ≡ wonBefore G m (at r g false))
+      → (r g : ℕ) (t : Bool) → r < regions → g < regions → hasBit (setFor runners guards (rankPlace r g t)) (rankPlace r g t / 64) ≡ wonBefore G m (at r g t)
+  set-is m runners guards e f r g true h l =
+      (λ i. hasBit (cond (even i) (getD runners (row i) 0) (getD guards (row i) 0)) (column i)) ∙ e r g h l
+    where
+      even : eqb ((64 * r + 2 * g + 0) % 2) 0 ≡ true
+      even = eq-eqb ((64 * r + 2 * g + 0) % 2) 0 (omega arith)
+
+      row : (64 * r + 2 * g + 0) % 64 / 2 ≡ g
+      row = omega arith
+
+      column : (64 * r + 2 * g + 0) / 64 ≡ r
+      column = omega arith
+  set-is m runners guards e f r g false h l =
+      (λ i. hasBit (cond (odd i) (getD runners (row i) 0) (getD guards (row i) 0)) (column i)) ∙ f r g h l
+    where
+      odd : eqb ((64 * r + 2 * g + 1) % 2) 0 ≡ false
+      odd = ne-eqb ((64 * r + 2 * g + 1) % 2) 0 (λ q. never q)
+        where
+          never : (64 * r + 2 * g + 1) % 2 ≡ 0 → ⊥
+          never q = omega arith
+
+      row : (64 * r + 2 * g + 1) % 64 / 2 ≡ g
+      row = omega arith
+
+      column : (64 * r + 2 * g + 1) / 64 ≡ r
+      column = omega arith
+
   -- the sets after a sweep
   module _ {k : ℕ} {runner guard ranks runners guards : List ℕ} (F : Found G regions k runner guard ranks) (S : Swept near regions goal runner guard runners guards) where
     runners-next : (r g : ℕ) → r < regions → g < regions → bitAt runners g r ≡ wonBefore G (suc k) (at r g true)
@@ -163,55 +193,31 @@ module _ (near : List ℕ) (regions goal : ℕ) (few : regions ≤ 32) (G : Game
         S .guards g r l h ∙ guard-bit-is near regions goal G P few (wonBefore G k) runner g r (λ d m e n. F .runners e d n m) (caught G k g true) l h
         ∙ sym (won-next G k (at r g false) (place-in near regions goal G P few r g false h l))
 
-    set-is : (r g : ℕ) (t : Bool) → r < regions → g < regions → hasBit (setFor runners guards (rankPlace r g t)) (rankPlace r g t / 64) ≡ wonBefore G (suc k) (at r g t)
-    set-is r g true h l =
-        (λ i. hasBit (cond (even i) (getD runners (row i) 0) (getD guards (row i) 0)) (column i)) ∙ runners-next r g h l
-      where
-        even : eqb ((64 * r + 2 * g + 0) % 2) 0 ≡ true
-        even = eq-eqb ((64 * r + 2 * g + 0) % 2) 0 (omega arith)
-
-        row : (64 * r + 2 * g + 0) % 64 / 2 ≡ g
-        row = omega arith
-
-        column : (64 * r + 2 * g + 0) / 64 ≡ r
-        column = omega arith
-    set-is r g false h l =
-        (λ i. hasBit (cond (odd i) (getD runners (row i) 0) (getD guards (row i) 0)) (column i)) ∙ guards-next r g h l
-      where
-        odd : eqb ((64 * r + 2 * g + 1) % 2) 0 ≡ false
-        odd = ne-eqb ((64 * r + 2 * g + 1) % 2) 0 (λ e. never e)
-          where
-            never : (64 * r + 2 * g + 1) % 2 ≡ 0 → ⊥
-            never e = omega arith
-
-        row : (64 * r + 2 * g + 1) % 64 / 2 ≡ g
-        row = omega arith
-
-        column : (64 * r + 2 * g + 1) / 64 ≡ r
-        column = omega arith
-
     below : (r g : ℕ) (t : Bool) → r < regions → g < regions → rankPlace r g t < 2048
     below r g true h l = omega arith
     below r g false h l = omega arith
 
-    ranked-next : (ranks' : List ℕ) → ((i : ℕ) → i < 2048 → getD ranks' i 0 ≡ rankedBy runners guards (suc k) ranks i)
+    ranked-next : (ranks' : List ℕ) → ((i : ℕ) → i < 2048 → getD ranks' i 0 ≡ rankedBy runner guard runners guards (suc k) ranks i)
         → (r g : ℕ) (t : Bool) → r < regions → g < regions → getD ranks' (rankPlace r g t) 0 ≡ cond (wonBefore G (suc k) (at r g t)) (suc (fewest G (at r g t))) 0
     ranked-next ranks' e r g t h l =
         e (rankPlace r g t) (below r g t h l)
-        ∙ (λ i. cond (set-is r g t h l i && eqb (F .ranked r g t h l i) 0) (suc k) (F .ranked r g t h l i))
+        ∙ (λ i. cond (is i && not (was i)) (suc k) (F .ranked r g t h l i))
         ∙ go (wonBefore G k (at r g t)) refl (wonBefore G (suc k) (at r g t)) refl
       where
+        was : hasBit (setFor runner guard (rankPlace r g t)) (rankPlace r g t / 64) ≡ wonBefore G k (at r g t)
+        was = set-is k runner guard (F .runners) (F .guards) r g t h l
+
+        is : hasBit (setFor runners guards (rankPlace r g t)) (rankPlace r g t / 64) ≡ wonBefore G (suc k) (at r g t)
+        is = set-is (suc k) runners guards runners-next guards-next r g t h l
+
         go : (a : Bool) → wonBefore G k (at r g t) ≡ a → (b : Bool) → wonBefore G (suc k) (at r g t) ≡ b
-            → cond (b && eqb (cond a (suc (fewest G (at r g t))) 0) 0) (suc k) (cond a (suc (fewest G (at r g t))) 0) ≡ cond b (suc (fewest G (at r g t))) 0
-        go true p true q = ap (λ b. cond b (suc k) (suc (fewest G (at r g t)))) (ne-eqb (suc (fewest G (at r g t))) 0 (λ e. never e))
-          where
-            never : {n : ℕ} → suc n ≡ 0 → ⊥
-            never e = omega arith
+            → cond (b && not a) (suc k) (cond a (suc (fewest G (at r g t))) 0) ≡ cond b (suc (fewest G (at r g t))) 0
+        go true p true q = refl
         go true p false q = absurd (false≢true (sym q ∙ won-more G k (at r g t) p))
         go false p true q = ap suc (sym (fewest-is G k (at r g t) (place-in near regions goal G P few r g t h l) p q))
         go false p false q = refl
 
-    pub found-next : (ranks' : List ℕ) → ((i : ℕ) → i < 2048 → getD ranks' i 0 ≡ rankedBy runners guards (suc k) ranks i) → Found G regions (suc k) runners guards ranks'
+    pub found-next : (ranks' : List ℕ) → ((i : ℕ) → i < 2048 → getD ranks' i 0 ≡ rankedBy runner guard runners guards (suc k) ranks i) → Found G regions (suc k) runners guards ranks'
     found-next ranks' e = record { runners = runners-next; guards = guards-next; ranked = ranked-next ranks' e }
 
   -- ---- the ranks at the end
@@ -279,7 +285,7 @@ searching-starts near regions goal ranks few e =
 
 pub searching-more : (near : List ℕ) (regions goal k : ℕ) (runner guard ranks runners guards ranks' : List ℕ) → regions ≤ 32 → Searching near regions goal k runner guard ranks → k < 2180
     → Swept near regions goal runner guard runners guards → length runners ≡ 32 → length guards ≡ 32
-    → ((i : ℕ) → i < 2048 → getD ranks' i 0 ≡ rankedBy runners guards (k + 1) ranks i) → length ranks' ≡ 2048 → Searching near regions goal (k + 1) runners guards ranks'
+    → ((i : ℕ) → i < 2048 → getD ranks' i 0 ≡ rankedBy runner guard runners guards (k + 1) ranks i) → length ranks' ≡ 2048 → Searching near regions goal (k + 1) runners guards ranks'
 searching-more near regions goal k runner guard ranks runners guards ranks' few S h w a b e l =
     record {
       upto = omega arith;
@@ -289,7 +295,7 @@ searching-more near regions goal k runner guard ranks runners guards ranks' few 
       found =
           λ G P.
           subst (λ n. Found G regions n runners guards ranks') next
-          (found-next near regions goal few G P (S .found G P) w ranks' (λ i m. e i m ∙ ap (λ n. rankedBy runners guards n ranks i) (sym next)));
+          (found-next near regions goal few G P (S .found G P) w ranks' (λ i m. e i m ∙ ap (λ n. rankedBy runner guard runners guards n ranks i) (sym next)));
     }
   where
     next : suc k ≡ k + 1

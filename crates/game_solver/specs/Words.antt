@@ -68,9 +68,17 @@ rankAt ranks x = getD ranks (rankPlace (x .runner - 1) (x .guard - 1) (x .runner
 abbrev pub setFor : List ℕ → List ℕ → ℕ → ℕ
 setFor runner guard i = cond (eqb (i % 2) 0) (getD runner (i % 64 / 2) 0) (getD guard (i % 64 / 2) 0)
 
--- a place that is in its set and has no rank gets this one
-abbrev pub rankedBy : List ℕ → List ℕ → ℕ → List ℕ → ℕ → ℕ
-rankedBy runner guard rank ranks i = cond (hasBit (setFor runner guard i) (i / 64) && eqb (getD ranks i 0) 0) rank (getD ranks i 0)
+-- region j + 1 is in the new set and not in the old one
+abbrev pub isNew : ℕ → ℕ → ℕ → Bool
+isNew old new j = hasBit new j && not (hasBit old j)
+
+-- the place of rank i is in its new set and not in its old one
+abbrev pub isFoundNow : List ℕ → List ℕ → List ℕ → List ℕ → ℕ → Bool
+isFoundNow runner guard runners guards i = isNew (setFor runner guard i) (setFor runners guards i) (i / 64)
+
+-- such a place gets this rank
+abbrev pub rankedBy : List ℕ → List ℕ → List ℕ → List ℕ → ℕ → List ℕ → ℕ → ℕ
+rankedBy runner guard runners guards rank ranks i = cond (isFoundNow runner guard runners guards i) rank (getD ranks i 0)
 
 -- the ranks are those of the game
 abbrev pub Ranked : Game → List ℕ → Type 0

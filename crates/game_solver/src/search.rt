@@ -2,12 +2,12 @@
 // wins. A place that a sweep finds gets one more than the sweep's moves as its rank; the sweeps end when one finds nothing.
 ghost use mathlib.Core.Path.{_≡_};
 ghost use mathlib.Core.Bool.{_&&_, cond};
-ghost use Prim.Native.Nat.{ℕ, suc, _≤_, _<_};
+ghost use Prim.Native.Nat.{ℕ, suc, _/_, _%_, _≤_, _<_};
 ghost use lib.Dec.{eqb};
 ghost use lib.ListN.{length, getD, replicate};
 ghost use Rattle.definitions.specs.RegionRecord.{hasBit};
 ghost use Rattle.game.specs.Game.{Game};
-ghost use Rattle.game_solver.specs.Words.{Sized, Plays, runnerBit, guardBit, Swept, setFor, rankedBy, Ranked};
+ghost use Rattle.game_solver.specs.Words.{Sized, Plays, runnerBit, guardBit, Swept, setFor, isNew, rankedBy, Ranked};
 use crate::sets::are_same;
 use crate::sets::common_if;
 use crate::sets::has;
@@ -16,8 +16,6 @@ use crate::sets::with_if;
 
 // One more than the places of 33 regions, of which each sweep but the last finds one, and one for the last.
 const MAX_SWEEPS: u32 = 2180;
-
-const RANKS: usize = 2048;
 
 const RANKS_PER_RUNNER: usize = 64;
 
@@ -90,28 +88,55 @@ fn set_for(runner: &[u32; 32], guard: &[u32; 32], i: usize) -> u32
     guard[g]
 }
 
-// A place that is in its set and has no rank gets one.
-fn rank_of(set: u32, r: usize, old: u32, rank: u32) -> u32
+// The rank of a place that is in the new set and not in the old one; of another the one that it had.
+fn rank_of(old: u32, new: u32, r: usize, had: u32, rank: u32) -> u32
     requires { ⌜ r < 32 ⌝ }
-    ensures { λ s. ⌜ s ≡ cond (hasBit set r && eqb old 0) rank old ⌝ }
+    ensures { λ s. ⌜ s ≡ cond (isNew old new r) rank had ⌝ }
 {
-    if has(set, r) & (old == 0) {
+    if has(new, r) & !has(old, r) {
         return rank;
     }
-    old
+    had
 }
 
-// Ranks the places that are found.
-fn put_ranks(runner: &[u32; 32], guard: &[u32; 32], rank: u32, ranks: &mut [u32; 2048])
-    requires { ⌜ length (now ranks) ≡ 2048 ⌝ }
-    ensures { λ r. ⌜ ((i : ℕ) → i < 2048 → getD (now (ranks .exit)) i 0 ≡ rankedBy (now (runner .entry)) (now (guard .entry)) rank (now (ranks .entry)) i) ⌝ }
+// Ranks the places of one guard's region and turn that are in the new set and not in the old one. `at` is where the first of them has its rank.
+fn put_row(old: u32, new: u32, at: usize, rank: u32, ranks: &mut [u32; 2048])
+    requires { ⌜ (at < 64) × (length (now ranks) ≡ 2048) ⌝ }
+    ensures { λ r. ⌜ ((i : ℕ) → i < 2048 → getD (now (ranks .exit)) i 0
+        ≡ cond (eqb (i % 64) at && isNew old new (i / 64)) rank (getD (now (ranks .entry)) i 0)) ⌝ }
     ensures { λ r. ⌜ length (now (ranks .exit)) ≡ 2048 ⌝ }
 {
-    let mut i = 0;
-    while i < RANKS {
-        let set = set_for(runner, guard, i);
-        ranks[i] = rank_of(set, i / RANKS_PER_RUNNER, ranks[i], rank);
-        i += 1;
+    if old == new {
+        return;
+    }
+    let mut r = 0;
+    while r < 32 {
+        let i = RANKS_PER_RUNNER * r + at;
+        ranks[i] = rank_of(old, new, r, ranks[i], rank);
+        r += 1;
+    }
+}
+
+// Ranks the places that a sweep found: those in its sets, `runners` and `guards`, and not in those before.
+fn put_ranks(
+    runner: &[u32; 32],
+    guard: &[u32; 32],
+    runners: &[u32; 32],
+    guards: &[u32; 32],
+    rank: u32,
+    ranks: &mut [u32; 2048],
+)
+    requires { ⌜ length (now ranks) ≡ 2048 ⌝ }
+    ensures { λ r. ⌜ ((i : ℕ) → i < 2048 → getD (now (ranks .exit)) i 0
+        ≡ rankedBy (now (runner .entry)) (now (guard .entry)) (now (runners .entry)) (now (guards .entry)) rank (now (ranks .entry)) i) ⌝ }
+    ensures { λ r. ⌜ length (now (ranks .exit)) ≡ 2048 ⌝ }
+{
+    let mut at = 0;
+    while at < RANKS_PER_RUNNER {
+        let old = set_for(runner, guard, at);
+        let new = set_for(runners, guards, at);
+        put_row(old, new, at, rank, ranks);
+        at += 1;
     }
 }
 
@@ -140,6 +165,6 @@ pub fn search(near: &[u32; 32], regions: usize, goal: usize, ranks: &mut [u32; 2
             return;
         }
         moves += 1;
-        put_ranks(&runner, &guard, moves, ranks);
+        put_ranks(&old_runner, &old_guard, &runner, &guard, moves, ranks);
     }
 }

@@ -36,10 +36,16 @@ fn serves(near: &[u32; 32], ranks: &[u32; 2048], r: usize, g: usize, turn: usize
         s ≡ servesBy G (rankAt (now (ranks .entry))) (at r g (eqb turn 0)) (suc d)) ⌝ }
 {
     if turn == 0 {
+        if !has(near[r], d) {
+            return false;
+        }
         let there = ranks[rank_place(d, g, 1)];
-        return has(near[r], d) & (0 < there) & (there < ranks[rank_place(r, g, 0)]);
+        return (0 < there) & (there < ranks[rank_place(r, g, 0)]);
     }
-    has(near[g], d) & (ranks[rank_place(r, d, 0)] == 0)
+    if !has(near[g], d) {
+        return false;
+    }
+    ranks[rank_place(r, d, 0)] == 0
 }
 
 // The least region that serves.

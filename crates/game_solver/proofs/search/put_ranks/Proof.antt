@@ -1,54 +1,50 @@
--- `search::put_ranks` meets its contract. The loop's invariant (`Ranking`): the ranks below i are put, the others are as they were. Assumes nothing.
+-- `search::put_ranks` meets its contract. The loop's invariant (`Ranking`): the places of the first rows, each a region of the guard and a turn, are put, the
+-- others are as they were. Assumes nothing.
 use Prim.Native.Nat.{_-_}
 use native.Mathlib.Omega.{arith}
-use Rattle.game_solver.proofs.Rows.{Ranking, ranking-starts, ranking-more}
+use Rattle.game_solver.proofs.Rows.{Ranking, ranking-starts, ranking-more, ranking-ends}
 use borrow.Author.Needs.{needs}
 use Rattle.game_solver.proofs.search.put_ranks.Statement.{statement}
 use Rattle.game_solver.proofs.search.put_ranks.Tie as tie
 
 abbrev Inv-loop : tie.InvT-loop
-Inv-loop runner guard rank ranks₀ i₀ ranks i = Ranking runner guard rank ranks₀ i ranks
+Inv-loop runner guard runners guards rank ranks₀ at₀ ranks at = Ranking runner guard runners guards rank ranks₀ at ranks
 
 abbrev μ-loop : tie.MeasureT-loop
-μ-loop runner guard rank ranks₀ i₀ ranks i = 2048 - i
+μ-loop runner guard runners guards rank ranks₀ at₀ ranks at = 64 - at
 
 loop-holds : tie.Need-loop-holds Inv-loop μ-loop
-loop-holds c = ranking-starts _ _ _ _ (c .pre)
+loop-holds c = ranking-starts _ _ _ _ _ _ (c .pre)
 
 set-for-requires : tie.Need-set-for-requires Inv-loop μ-loop
 set-for-requires c κs = search needs
 
-mul-rank-of : tie.Need-mul-rank-of Inv-loop μ-loop
-mul-rank-of c = search needs
+set-for-requires-2 : tie.Need-set-for-requires-2 Inv-loop μ-loop
+set-for-requires-2 c κs = search needs
 
-element-copy-out-rank-of : tie.Need-element-copy-out-rank-of Inv-loop μ-loop
-element-copy-out-rank-of c = search needs
+put-row-requires : tie.Need-put-row-requires Inv-loop μ-loop
+put-row-requires c κs =
+    let turn = c .before .before .before in
+    (turn .loop-test .taken, turn .before .loop .inv .long)
 
-rank-of-requires : tie.Need-rank-of-requires Inv-loop μ-loop
-rank-of-requires c κs = omega (arith, c .before .before .loop-test .taken)
-
-mul-ranks : tie.Need-mul-ranks Inv-loop μ-loop
-mul-ranks c = search needs
-
-element-write-ranks : tie.Need-element-write-ranks Inv-loop μ-loop
-element-write-ranks c = search needs
-
-add-i : tie.Need-add-i Inv-loop μ-loop
-add-i c = search needs
+add-at : tie.Need-add-at Inv-loop μ-loop
+add-at c = search needs
 
 loop-less : tie.Need-loop-less Inv-loop μ-loop
 loop-less c = search needs
 
 loop-again : tie.Need-loop-again Inv-loop μ-loop
 loop-again c =
-    let at-set = c .before .before in
-    let turn = at-set .before in
-    ranking-more _ _ _ _ _ _ _ _ (turn .before .loop .inv) (turn .loop-test .taken) (at-set .set-for .ensures) (c .rank-of .ensures)
+    let at-new = c .before .before in
+    let at-old = at-new .before in
+    let turn = at-old .before in
+    ranking-more _ _ _ _ _ _ _ _ _ _ _ (turn .before .loop .inv) (turn .loop-test .taken) (at-old .set-for .ensures) (at-new .set-for2 .ensures)
+    (c .put-row .ensures .0) (c .put-row .ensures .1)
 
 returns : tie.Need-returns Inv-loop μ-loop
 returns c =
     let end = c .before .loop .inv in
-    (λ i l. end .put i (omega (arith, c .loop-test .left)), end .long)
+    (ranking-ends _ _ _ _ _ _ _ _ end (c .loop-test .left), end .long)
 
 pub put-ranks-spec : {M : Type 1} → statement M
 put-ranks-spec =
@@ -58,12 +54,9 @@ put-ranks-spec =
     μ-loop
     loop-holds
     set-for-requires
-    mul-rank-of
-    element-copy-out-rank-of
-    rank-of-requires
-    mul-ranks
-    element-write-ranks
-    add-i
+    set-for-requires-2
+    put-row-requires
+    add-at
     loop-less
     loop-again
     returns)

@@ -46,7 +46,8 @@ add-moves c = search needs
 
 put-ranks-requires : tie.Need-put-ranks-requires Inv-loop μ-loop
 put-ranks-requires c κs =
-    let changed = c .before .before .before in
+    let old = c .before .before .before in
+    let changed = old .before .before in
     let at-guards = changed .before in
     let at-runners = at-guards .before .before .before in
     let at-sweep = at-runners .before .before .before in
@@ -59,8 +60,8 @@ loop-less c = search needs
 
 loop-again : tie.Need-loop-again Inv-loop μ-loop
 loop-again c =
-    let counted = c .before .before in
-    let changed = counted .before .before in
+    let old = c .before .before .before in
+    let changed = old .before .before .before in
     let at-guards = changed .before in
     let at-runners = at-guards .before .before .before in
     let at-sweep = at-runners .before .before .before in
