@@ -1,4 +1,4 @@
-// The first part of the call that runs a pass, over plain lists: the checks in the order of document 01's table, labels, tallies and pairs. Of records and output
+// The first part of the call that runs a pass, over plain lists: the checks in the order of the table of SPECIFICATION 4, labels, tallies and pairs. Of records and output
 // only the lengths matter here.
 pub mod checked;
 pub mod scratch;

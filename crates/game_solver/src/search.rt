@@ -68,8 +68,8 @@ fn sweep(
     guards: &mut [u32; 32],
 )
     requires { ⌜ Sized regions goal × (length (now runners) ≡ 32) × (length (now guards) ≡ 32) ⌝ }
-    ensures { λ r. ⌜ Swept (now (near .entry)) regions goal (now (runner .entry)) (now (guard .entry)) (now (runners .exit)) (now (guards .exit)) ⌝ }
-    ensures { λ r. ⌜ (length (now (runners .exit)) ≡ 32) × (length (now (guards .exit)) ≡ 32) ⌝ }
+    ensures swept { λ r. ⌜ Swept (now (near .entry)) regions goal (now (runner .entry)) (now (guard .entry)) (now (runners .exit)) (now (guards .exit)) ⌝ }
+    ensures lengths { λ r. ⌜ (length (now (runners .exit)) ≡ 32) × (length (now (guards .exit)) ≡ 32) ⌝ }
 {
     let mut g = 0;
     while g < regions {
@@ -104,8 +104,10 @@ fn rank_of(set: u32, r: usize, old: u32, rank: u32) -> u32
 // Ranks the places that are found.
 fn put_ranks(runner: &[u32; 32], guard: &[u32; 32], rank: u32, ranks: &mut [u32; 2048])
     requires { ⌜ length (now ranks) ≡ 2048 ⌝ }
-    ensures { λ r. ⌜ ((i : ℕ) → i < 2048 → getD (now (ranks .exit)) i 0 ≡ rankedBy (now (runner .entry)) (now (guard .entry)) rank (now (ranks .entry)) i) ⌝ }
-    ensures { λ r. ⌜ length (now (ranks .exit)) ≡ 2048 ⌝ }
+    ensures ranks { λ r. ⌜ ((i : ℕ) →
+        i < 2048 →
+        getD (now (ranks .exit)) i 0 ≡ rankedBy (now (runner .entry)) (now (guard .entry)) rank (now (ranks .entry)) i) ⌝ }
+    ensures ranks_length { λ r. ⌜ length (now (ranks .exit)) ≡ 2048 ⌝ }
 {
     let mut i = 0;
     while i < RANKS {
@@ -118,8 +120,8 @@ fn put_ranks(runner: &[u32; 32], guard: &[u32; 32], rank: u32, ranks: &mut [u32;
 // The ranks of all places.
 pub fn search(near: &[u32; 32], regions: usize, goal: usize, ranks: &mut [u32; 2048])
     requires { ⌜ Sized regions goal × (now ranks ≡ replicate 2048 0) ⌝ }
-    ensures { λ r. ⌜ ((G : Game) → Plays (now (near .entry)) regions goal G → Ranked G (now (ranks .exit))) ⌝ }
-    ensures { λ r. ⌜ length (now (ranks .exit)) ≡ 2048 ⌝ }
+    ensures ranked { λ r. ⌜ ((G : Game) → Plays (now (near .entry)) regions goal G → Ranked G (now (ranks .exit))) ⌝ }
+    ensures ranks_length { λ r. ⌜ length (now (ranks .exit)) ≡ 2048 ⌝ }
 {
     let mut runner = [0u32; 32];
     let mut guard = [0u32; 32];

@@ -1,5 +1,6 @@
 // The components of regions that ordinary full cuts join: a forest of parents in a lent list, in which every parent is no larger than its region.
 use context::pairs::full_cut;
+use geometry::boundaries::NUMBERS_PER_BOUNDARY;
 ghost use mathlib.Core.Path.{_≡_};
 ghost use mathlib.Core.List.{List, [], _∷_};
 ghost use Prim.Native.Nat.{ℕ, suc, _+_, _-_, _*_, _%_, _≤_, _<_, min, max};
@@ -10,10 +11,9 @@ ghost use Rattle.definitions.specs.Limits.{maxSide, numbersPerPair, numbersPerB
 ghost use Rattle.definitions.specs.Context.{Context};
 ghost use Rattle.definitions.specs.RampInteriors.{isOrdinary, links};
 ghost use Rattle.context.specs.Shown.{ShownBoundaries, ShownTallies, ShownAnchored, ShownIncidents, pairAt, pairsBetween};
-ghost use Rattle.interior_proposals.specs.Forest.{Beyond, Parented, Rooted, Found, Joinable, Placed, Merged, Rows, RowsJoinable, Forest, Names};
+ghost use Rattle.laws.specs.ListLaws.Beyond.{Beyond};
+ghost use Rattle.interior_proposals.specs.Forest.{Parented, Rooted, Found, Joinable, Placed, Merged, Rows, RowsJoinable, Forest, Names};
 ghost use Rattle.interior_proposals.specs.Given.{Given, Lent, SomeLent, flagsOf, alone, linksOf, CutJoinable, CutsJoinable, Prepared, Known};
-
-pub const NUMBERS_PER_BOUNDARY: usize = 9;
 
 pub const NUMBERS_PER_PAIR: usize = 3;
 

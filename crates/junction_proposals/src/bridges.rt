@@ -1,8 +1,8 @@
 // Bridges of a pocket, before its record is looked at.
-use crate::distances::NUMBERS_PER_BOUNDARY;
 use crate::distances::is_near_port;
 use crate::ports::names_region;
 use crate::unions::anchored_bit;
+use geometry::boundaries::NUMBERS_PER_BOUNDARY;
 ghost use mathlib.Core.Path.{_≡_};
 ghost use Prim.Native.Nat.{_≤_, _<_};
 ghost use lib.ListN.{length};

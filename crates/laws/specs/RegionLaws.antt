@@ -11,3 +11,4 @@ pub mod Edges
 pub mod GraphLaws
 pub mod PairRows
 pub mod Shares
+pub mod OneMore

@@ -1,12 +1,12 @@
 // The candidates of all ramps and mouths, as compact lists: ramp by ramp, then mouth by mouth.
 use crate::ends::OtherEnds;
 use crate::ends::find_other_ends;
-use crate::measures::NUMBERS_PER_BOUNDARY;
 use crate::measures::is_close;
 use crate::measures::separation_of;
 use crate::mouths::Candidate;
 use crate::mouths::mouth_candidate;
 use context::pairs::full_cut;
+use geometry::boundaries::NUMBERS_PER_BOUNDARY;
 ghost use mathlib.Core.Path.{_≡_};
 ghost use mathlib.Core.Bool.{false, true};
 ghost use mathlib.Core.List.{List, _++_};

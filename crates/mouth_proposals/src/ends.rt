@@ -1,8 +1,8 @@
 // Whether the other end of a ramp is an incident of a region: found once for both regions of the ramp's full pair, before its mouths are gone through.
-use crate::measures::NUMBERS_PER_BOUNDARY;
 use context::incidents::is_incident;
 use context::pairs::FullPair;
 use context::pairs::full_pair;
+use geometry::boundaries::NUMBERS_PER_BOUNDARY;
 ghost use mathlib.Core.Path.{_≡_};
 ghost use mathlib.Core.Bool.{not, _&&_};
 ghost use Prim.Native.Nat.{ℕ, _+_, _*_, _≤_, _<_};

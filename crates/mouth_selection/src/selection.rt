@@ -2,7 +2,7 @@
 use crate::held::hold_proposal;
 use crate::held::proposal_held;
 use crate::keys::ranks_before;
-use mouth_proposals::measures::NUMBERS_PER_BOUNDARY;
+use geometry::boundaries::NUMBERS_PER_BOUNDARY;
 ghost use mathlib.Core.Path.{_≡_};
 ghost use mathlib.Core.Bool.{false, not, _&&_};
 ghost use mathlib.Core.List.{List, [], _∷_, _++_};

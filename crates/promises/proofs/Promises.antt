@@ -199,7 +199,7 @@ module _
     pub island : SameOnIsland (mapOf w h cells spans boundaries anchors) (mapOf w′ h′ cells′ spans′ boundaries′ anchors′) isl (rowsHeld a o₁) (rowsHeld a′ o₁′)
     island = calls.island-theorem call success call′ success′ isl A
 
--- ---- the cases of document 01
+-- ---- the cases of SPECIFICATION 16
 
 pub cases-hold : all (λ b. b) cases.cases ≡ true
 cases-hold = cases.cases-hold

@@ -653,7 +653,7 @@ pub fn read_within(
 
 pub const PLAIN_CELL_LIMIT: u64 = 1_048_576;
 
-// Reads a sheet into the lists: document 01's reading alone.
+// Reads a sheet into the lists: the reading of SPECIFICATION 14 alone.
 pub fn read_sheet(
     bytes: &[u8],
     cells: &mut [u8],

@@ -19,7 +19,7 @@ use Rattle.flood.proofs.Used.{count-le}
 use Rattle.flood.proofs.StepTests.{cell-x, cell-y}
 use Rattle.context.specs.Records.{recordOf, maxCells, Counted, Fitting}
 use Rattle.context.specs.Cells.{addCell, addCellOf, recordFrom}
-use Rattle.context.specs.RecordFrom.{stretch-none, stretch-more, cells-from, counted-from}
+use Rattle.context.proofs.RecordFrom.{stretch-none, stretch-more, cells-from, counted-from}
 use Rattle.stretches.specs.declared.Stretch.{Stretch}
 use Rattle.stretches.specs.Queue.{labelAt, stretchStart}
 use Rattle.stretches.specs.QueueLaws.{start-rises, start-most, stretch-label, label-stretch, stretch-record}

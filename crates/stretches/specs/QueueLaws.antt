@@ -14,7 +14,7 @@ use Rattle.laws.specs.RegionLaws.Regions.{label-range, label-blocked}
 use Rattle.flood.specs.Contract.{walkableCount, Grouped}
 use Rattle.flood.proofs.Used.{count-le}
 use Rattle.context.specs.Cells.{recordFrom}
-use Rattle.context.specs.RecordFrom.{EachOnce, region-from}
+use Rattle.context.proofs.RecordFrom.{EachOnce, region-from}
 use Rattle.stretches.specs.Queue.{Shown, labelAt, stretchStart}
 use Rattle.stretches.specs.RisingRows.{smaller-most, smaller-before, smaller-from, smaller-place, smaller-past, smaller-none, smaller-all, smaller-rises}
 

@@ -90,7 +90,7 @@ record Area (limit w h count : ℕ) : Type 0 where
   pub few : w * h ≤ limit
   pub is : count ≡ w * h
 
-side-most : (side : ℕ) → isSide side ≡ true → side ≤ maxSide
+pub side-most : (side : ℕ) → isSide side ≡ true → side ≤ maxSide
 side-most side h = leb-true side maxSide (both (leb 1 side) (leb side maxSide) h .1)
 
 gives-area : (limit w h : ℕ) → Gives (area limit w h) (Area limit w h)

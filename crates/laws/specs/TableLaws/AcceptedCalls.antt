@@ -1,4 +1,4 @@
--- What is known of a call that runs a pass once its answer has number 0: no check of document 01's table finds a fault (`Accepted`). The argument: the number of a refusal is at
+-- What is known of a call that runs a pass once its answer has number 0: no check of the table of SPECIFICATION 4 finds a fault (`Accepted`). The argument: the number of a refusal is at
 -- least 1, so that a list of checks answered with 0 has no refusal in it. Of the boundaries it says that each passes check 7. Assumes nothing.
 use Prim.Native.Nat.{ℕ, zero, suc, _*_, _/_, _<_}
 use native.Mathlib.Omega.{arith}
@@ -19,11 +19,11 @@ use Rattle.laws.specs.ListLaws.NoFault.{found, no-fault, none-faulty}
 
 -- ---- no refusal has number 0
 
-data Numbered : Option Refusal → Type 0 where
+pub data Numbered : Option Refusal → Type 0 where
   nothing : Numbered none
   numbered : {r : Refusal} → 0 < r .number → Numbered (some r)
 
-refusal-numbered : (number : ℕ) (place : Option ℕ) → 0 < number → Numbered (refusal number place)
+pub refusal-numbered : (number : ℕ) (place : Option ℕ) → 0 < number → Numbered (refusal number place)
 refusal-numbered number none h = nothing
 refusal-numbered number (some place) h = numbered h
 
@@ -41,7 +41,7 @@ first-numbered zero f h = nothing
 first-numbered (suc n) f h = or-numbered (first-numbered n f h) (h n)
 
 -- numbers 5 and 6
-spans-numbered : (w h : ℕ) (spans : List ℕ) → Numbered (spansRefusal w h spans)
+pub spans-numbered : (w h : ℕ) (spans : List ℕ) → Numbered (spansRefusal w h spans)
 unfolding spansRefusal
 spans-numbered w h spans = first-numbered (length spans / numbersPerSpan) (λ i. at (segmentAt spans (numbersPerSpan * i)) i) (λ i. at-numbered (segmentAt spans (numbersPerSpan * i)) i)
   where
@@ -55,12 +55,12 @@ pub refusal-none : (number : ℕ) (place : Option ℕ) → refusal number place 
 refusal-none number none h = refl
 refusal-none number (some place) h = absurd (true≢false (ap found h))
 
-none-refused : {l : List (Option Refusal)} (count : ℕ) → All Numbered l → firstRefusal l count .number ≡ 0 → All (λ r. r ≡ none) l
+pub none-refused : {l : List (Option Refusal)} (count : ℕ) → All Numbered l → firstRefusal l count .number ≡ 0 → All (λ r. r ≡ none) l
 none-refused count done h = done
 none-refused count (more nothing a) h = more refl (none-refused count a h)
 none-refused count (more (numbered k) a) h = absurd (omega (arith, k, h))
 
-counted : {l : List (Option Refusal)} (count : ℕ) → All Numbered l → firstRefusal l count .number ≡ 0 → firstRefusal l count .value ≡ count
+pub counted : {l : List (Option Refusal)} (count : ℕ) → All Numbered l → firstRefusal l count .number ≡ 0 → firstRefusal l count .value ≡ count
 counted count done h = refl
 counted count (more nothing a) h = counted count a h
 counted count (more (numbered k) a) h = absurd (omega (arith, k, h))
