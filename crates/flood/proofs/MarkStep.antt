@@ -155,5 +155,3 @@ mark-adds M masks E long m a j h t l c d i s =
     added =
         ap (λ k. (eqb c a && eqb (bitOf d) (bitOf j)) || (eqb c b && eqb (bitOf d) k)) (sym (bit-opposite j (g .nearX) (g .nearY)))
         ∙ sym (mark-edge M c d a j s t l) ∙ sym (or-false _)
-
--- ---- what the flood asks of the masks can be met: masks of zeros are those of the map with no spans

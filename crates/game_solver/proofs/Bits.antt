@@ -1,12 +1,12 @@
 -- Bits of a number of 32: of one with a bit set, of what two have in common; and that one with no bit set is 0. Facts on the place of one bit are tests that
 -- compute. Assumes nothing.
-use Prim.Native.Nat.{ℕ, zero, suc, _+_, _*_, _/_, _%_, _^_, _≤_, _<_, min, max}
+use Prim.Native.Nat.{ℕ, zero, suc, _+_, _*_, _/_, _%_, _^_, _≤_, _<_, min}
 use native.Mathlib.Omega.{arith}
 use native.Mathlib.Nat.{pow-suc}
 use mathlib.Core.Path.{_≡_, refl, sym, ap, ap₂, _∙_, subst}
 use mathlib.Core.Bool.{Bool, true, false, not, _&&_, _||_, cond, false≢true}
 use lib.Dec.{eqb}
-use lib.Bits.{bitAnd, bitOr, and-step, or-step, and-shr, and-lt}
+use lib.Bits.{bitAnd, bitOr, and-step, and-shr, and-lt}
 use borrow.Author.Tests.{eqb-true, eqb-false, eq-eqb, ne-eqb}
 use Rattle.definitions.specs.Scan.{anyBelow, allBelow}
 use Rattle.definitions.specs.RegionRecord.{hasBit}
@@ -39,26 +39,11 @@ shifted-one k h = eqb-true _ _ (all-below-at 32 (λ k. eqb (1 * 2 ^ k % 42949672
 
 -- ---- the bits of both, and of either
 
-or-odd : (a b : ℕ) → bitOr a b % 2 ≡ max (a % 2) (b % 2)
-or-odd a b = ap (λ x. x % 2) (or-step a b) ∙ rest
-  where
-    rest : (bitOr (a / 2) (b / 2) * 2 + max (a % 2) (b % 2)) % 2 ≡ max (a % 2) (b % 2)
-    rest = omega arith
-
 and-odd : (a b : ℕ) → bitAnd a b % 2 ≡ min (a % 2) (b % 2)
 and-odd a b = ap (λ x. x % 2) (and-step a b) ∙ rest
   where
     rest : (bitAnd (a / 2) (b / 2) * 2 + min (a % 2) (b % 2)) % 2 ≡ min (a % 2) (b % 2)
     rest = omega arith
-
-either-bit : (x y : ℕ) → x < 2 → y < 2 → eqb (max x y) 1 ≡ (eqb x 1 || eqb y 1)
-either-bit zero zero h k = refl
-either-bit zero (suc zero) h k = refl
-either-bit (suc zero) zero h k = refl
-either-bit (suc zero) (suc zero) h k = refl
-either-bit (suc (suc x)) y h k = absurd (omega arith)
-either-bit zero (suc (suc y)) h k = absurd (omega arith)
-either-bit (suc zero) (suc (suc y)) h k = absurd (omega arith)
 
 both-bit : (x y : ℕ) → x < 2 → y < 2 → eqb (min x y) 1 ≡ (eqb x 1 && eqb y 1)
 both-bit zero zero h k = refl

@@ -124,9 +124,6 @@ module _ (C : Context) (i r : ℕ) (rs es : List ℕ) (v : Bool) {names marks : 
         x-incident : isIncident C i x ≡ true
         x-incident = of-row (λ y. isIncident C i y ≡ true) (W .lowIncident) (W .highIncident)
 
-        pub leaf-placed : {n : ℕ} → C .regions ≤ n → (1 ≤ x) × (x ≤ n)
-        leaf-placed l = (x-in .0, omega (arith, x-in .1))
-
         module _ {t : Bool} (u : t ≡ eqb (entryAt marks x % 4) 2) where
           passes : t ≡ (not (C .anchored x) && eqb (incidentCount C x) 1)
           passes = u ∙ leaf-is M x (x-in .0) (x-in .1)

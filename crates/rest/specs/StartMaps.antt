@@ -12,7 +12,7 @@ use lib.Dec.{eqb, ltb}
 use borrow.Author.Tests.{ltb-true, ltb-false, lt-ltb}
 use Rattle.definitions.specs.Scan.{any, filter, concatMap, collect, onlyIf, countBelow}
 use Rattle.definitions.specs.Sort.{listLt}
-use Rattle.definitions.specs.Grid.{Map, Position, Segment, Pair, Boundary, noSegment, noBoundary, canonical, spanCount, spanOf, boundaryOf, isStep, onward, edge}
+use Rattle.definitions.specs.Grid.{Map, Segment, Boundary, noSegment, noBoundary, canonical, spanCount, spanOf, boundaryOf, isStep, onward, edge}
 use Rattle.definitions.specs.Spans.{cuts, candidatePositions, cutSteps}
 use Rattle.definitions.specs.Rows.{Row, rowKey, rowsFrom}
 use Rattle.laws.specs.ListLaws.Lists.{All}
@@ -28,12 +28,6 @@ use Rattle.island.specs.Restrict.{cuts-lt}
 use Rattle.rest_definitions.specs.RowOrder.{startRows, noRow, turned, mapWith, startMap}
 use Rattle.rest.specs.Picking.{getD-mapped}
 use Rattle.rest.specs.KeptMaps.{cutBy}
-
--- ---- canonical endpoints are canonical
-
--- positions compare as pairs do
-abbrev asPair : Position → Pair
-asPair p = record { lo = p .x; hi = p .y }
 
 -- ---- the starting list
 

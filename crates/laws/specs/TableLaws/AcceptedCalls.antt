@@ -2,10 +2,10 @@
 -- least 1, so that a list of checks answered with 0 has no refusal in it. Of the boundaries it says that each passes check 7. Assumes nothing.
 use Prim.Native.Nat.{ℕ, zero, suc, _*_, _/_, _<_}
 use native.Mathlib.Omega.{arith}
-use mathlib.Core.Path.{_≡_, refl, ap}
+use mathlib.Core.Path.{_≡_, refl, sym, ap, subst}
 use mathlib.Core.Bool.{Bool, true, false, not, _&&_, true≢false}
 use mathlib.Core.List.{List, [], _∷_, map}
-use mathlib.Core.Option.{Option, none, some}
+use mathlib.Core.Option.{Option, none, some, Option·some-injective}
 use lib.ListN.{length}
 use Rattle.definitions.specs.Limits.{numbersPerSpan, numbersPerBoundary, numbersPerAnchor}
 use Rattle.definitions.specs.Scan.{onlyIf, run}
@@ -17,6 +17,12 @@ use Rattle.laws.specs.ListLaws.Tests.{both}
 use Rattle.laws.specs.ListLaws.Lists.{All, done, more, all-run}
 use Rattle.laws.specs.ListLaws.NoFault.{found, no-fault, none-faulty}
 
+-- ---- the first of several refusals
+
+pub or-else-assoc : {A : Type 0} (a b c : Option A) → orElse (orElse a b) c ≡ orElse a (orElse b c)
+or-else-assoc none b c = refl
+or-else-assoc (some x) b c = refl
+
 -- ---- no refusal has number 0
 
 pub data Numbered : Option Refusal → Type 0 where
@@ -27,7 +33,7 @@ pub refusal-numbered : (number : ℕ) (place : Option ℕ) → 0 < number → Nu
 refusal-numbered number none h = nothing
 refusal-numbered number (some place) h = numbered h
 
-or-numbered : {x y : Option Refusal} → Numbered x → Numbered y → Numbered (orElse x y)
+pub or-numbered : {x y : Option Refusal} → Numbered x → Numbered y → Numbered (orElse x y)
 or-numbered nothing k = k
 or-numbered (numbered h) k = numbered h
 
@@ -50,6 +56,10 @@ spans-numbered w h spans = first-numbered (length spans / numbersPerSpan) (λ i.
 
     at-numbered : (s : Segment) (i : ℕ) → Numbered (at s i)
     at-numbered s i = or-numbered (only-numbered (not (bothOnMap w h s)) 5 i (omega arith)) (only-numbered (not (endpointsDiffer s)) 6 i (omega arith))
+
+pub number-above : {o : Option Refusal} {r : Refusal} → Numbered o → o ≡ some r → 0 < r .number
+number-above nothing e = absurd (true≢false (ap found (sym e)))
+number-above (numbered h) e = subst (λ r. 0 < r .number) (Option·some-injective _ _ e) h
 
 pub refusal-none : (number : ℕ) (place : Option ℕ) → refusal number place ≡ none → place ≡ none
 refusal-none number none h = refl

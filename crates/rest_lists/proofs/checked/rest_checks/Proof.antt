@@ -1,6 +1,6 @@
 -- `rest_lists::checked::rest_checks` meets its contract: the refusals of its parts, one after the other. Assumes nothing.
 use Prim.Native.Nat.{ℕ, _*_, _/_}
-use mathlib.Core.Path.{_≡_, sym, ap, _∙_}
+use mathlib.Core.Path.{_≡_, ap, _∙_}
 use mathlib.Core.Bool.{_&&_}
 use mathlib.Core.Option.{Option, none}
 use mathlib.Core.List.{List}
@@ -10,18 +10,12 @@ use borrow.Author.Needs.{needs}
 use Rattle.definitions.specs.Limits.{numbersPerSpan, numbersPerBoundary}
 use Rattle.definitions.specs.Refusals.{Refusal, unless, partitionRoom, outputRoom}
 use Rattle.definitions.specs.Verdict.{refusal}
-use Rattle.checks.specs.declared.Fault.{Fault}
-use Rattle.checks.specs.Contract.{placeOf}
-use Rattle.areas.proofs.Chain.{here, next, said}
+use Rattle.areas.proofs.Chain.{here, next, said, place-said}
 use Rattle.call_partition.specs.Early.{sizesRefusal}
 use Rattle.call_partition.proofs.SizesPassed.{sizes-fit}
 use Rattle.rest_lists.specs.Early.{restEarly}
 use Rattle.rest_lists.proofs.checked.rest_checks.Statement.{statement}
 use Rattle.rest_lists.proofs.checked.rest_checks.Tie as tie
-
--- and what the answer of 16 said
-differs : {f v : Fault} {o : Option ℕ} → placeOf f ≡ o → f ≡ v → refusal 16 o ≡ refusal 16 (placeOf v)
-differs e g = ap (refusal 16) (sym e ∙ ap placeOf g)
 
 -- the cells are as many as the sides say
 room-counted : (w h : ℕ) (cells spans boundaries anchors : List ℕ) (l m q t u : ℕ) {o : Option Refusal} → sizesRefusal 1 w h cells spans boundaries anchors ≡ none
@@ -58,7 +52,7 @@ returns-2 c =
     let past-3 = c .before .before .before in
     let enum-told = past-3 .before .enum-told in
     let check-sizes = past-3 .before .before .before .check-sizes in
-    next (said (check-sizes .ensures) (enum-told .given .1)) (here _ (differs (lists-fault .ensures) (c .before .entry .given .1)))
+    next (said (check-sizes .ensures) (enum-told .given .1)) (here _ (place-said 16 (lists-fault .ensures) (c .before .entry .given .1)))
 
 enum-told-2 : tie.Need-enum-told-2
 enum-told-2 c = search needs
@@ -84,7 +78,7 @@ returns-3 c =
     let enum-told = past-6 .before .enum-told in
     let check-sizes = past-6 .before .before .before .check-sizes in
     next (said (check-sizes .ensures) (enum-told .given .1))
-    (next (differs (lists-fault .ensures) (enum-told2 .given .1)) (here _ (said (check-entries .ensures) (c .before .number2 .given .1))))
+    (next (place-said 16 (lists-fault .ensures) (enum-told2 .given .1)) (here _ (said (check-entries .ensures) (c .before .number2 .given .1))))
 
 enum-told-3 : tie.Need-enum-told-3
 enum-told-3 c = search needs
@@ -107,7 +101,7 @@ returns-4 c =
     let given = past-12 .before .before .args in
     let a = given in
     next (said (check-sizes .ensures) (enum-told .given .1))
-    (next (differs (lists-fault .ensures) (enum-told2 .given .1))
+    (next (place-said 16 (lists-fault .ensures) (enum-told2 .given .1))
     (next (said (check-entries .ensures) (c .before .enum-told3 .given .1))
     (room-counted (a .width) (a .height) (now (a .cells)) (now (a .spans)) (now (a .boundaries)) (now (a .anchors)) (a .labels) (a .masks) (a .queue) (a .tallies) (a .output)
     (said (check-sizes .ensures) (enum-told .given .1)) (c .check-room .ensures))))
