@@ -10,7 +10,7 @@ use lib.Arith.{digits-div, digits-mod}
 use borrow.Author.Tests.{ltb-true, ltb-false, leb-true, leb-false}
 use Rattle.definitions.specs.Scan.{allBelow, countBelow, bit}
 use Rattle.laws.specs.ListLaws.Tests.{both, same-test}
-use Rattle.laws.specs.ListLaws.ScanSteps.{count-le}
+use Rattle.laws.specs.ListLaws.ScanSteps.{count-le as count-top}
 use Rattle.game.specs.Game.{Game, Place, moveTo, isMove, runnerHasWon, isOver, Inside}
 use Rattle.game.specs.Places.{size, code, placeOf}
 use Rattle.game.specs.Search.{someMove, everyMove, sweep, winsWithin, sweeps}
@@ -156,7 +156,7 @@ module _ (G : Game) where
 
   found-top : (k : ℕ) → found k ≤ 2 * (size G * size G)
   unfolding found
-  found-top k = count-le (λ c. winsWithin G k (placeOf G c)) (2 * (size G * size G))
+  found-top k = count-top (λ c. winsWithin G k (placeOf G c)) (2 * (size G * size G))
 
   -- after k sweeps they have settled, or have found k places at least
   grows : (k : ℕ) → Still k ⊎ (k ≤ found k)

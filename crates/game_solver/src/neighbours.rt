@@ -73,8 +73,8 @@ pub fn find_neighbours(regions: usize, pairs: &[u32], near: &mut [u32; 32])
 // The steps of the graph of the first `count` rows of span, smaller and larger region.
 pub fn find_row_neighbours(regions: usize, rows: &[u32], count: usize, near: &mut [u32; 32])
     requires { ⌜ (regions ≤ 32) × (length (now near) ≡ 32) × (numbersPerPair * count ≤ length (now rows)) ⌝ }
-    ensures { λ r. ⌜ ((goal : ℕ) → Near (graphOf regions (edgesIn (now (rows .entry)) count) goal) (now (near .exit))) ⌝ }
-    ensures { λ r. ⌜ length (now (near .exit)) ≡ 32 ⌝ }
+    ensures near { λ r. ⌜ ((goal : ℕ) → Near (graphOf regions (edgesIn (now (rows .entry)) count) goal) (now (near .exit))) ⌝ }
+    ensures near_length { λ r. ⌜ length (now (near .exit)) ≡ 32 ⌝ }
 {
     join_selves(near);
     let mut k = 0;

@@ -1,4 +1,4 @@
-// The endpoints and the center of a boundary of a lent list, nine numbers each.
+// A boundary of a lent list, nine numbers each: which of them is which, its endpoints and its center. The first four are the endpoints.
 use crate::Point;
 use crate::Segment;
 use crate::points::center;
@@ -13,6 +13,19 @@ ghost use Rattle.geometry.specs.Forms.{pointForm, segmentForm};
 ghost use Rattle.geometry.specs.Placed.{Placed};
 
 pub const NUMBERS_PER_BOUNDARY: usize = 9;
+
+// The bits of its width.
+pub const WIDTH: usize = 4;
+
+// 0 without a ramp, 1 for a ramp's lower end, 2 for its upper one.
+pub const KIND: usize = 5;
+
+pub const RAMP: usize = 6;
+
+// The elevations of the ramp's ends.
+pub const LOWER: usize = 7;
+
+pub const UPPER: usize = 8;
 
 // The endpoints of boundary i as written.
 pub fn segment_of(boundaries: &[u64], i: usize) -> Segment

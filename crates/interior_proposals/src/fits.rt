@@ -2,7 +2,11 @@
 use context::Region;
 use context::pairs::full_cut;
 use geometry::Point;
+use geometry::boundaries::KIND;
+use geometry::boundaries::LOWER;
 use geometry::boundaries::NUMBERS_PER_BOUNDARY;
+use geometry::boundaries::RAMP;
+use geometry::boundaries::UPPER;
 use geometry::boundaries::center_of;
 use geometry::points::distance;
 ghost use mathlib.Core.Path.{_≡_};
@@ -42,13 +46,13 @@ pub fn ports_fit(boundaries: &[u64], tallies: &[u32], a: usize, b: usize) -> boo
 {
     let j = NUMBERS_PER_BOUNDARY * a;
     let k = NUMBERS_PER_BOUNDARY * b;
-    let first = boundaries[j + 5];
-    let second = boundaries[k + 5];
+    let first = boundaries[j + KIND];
+    let second = boundaries[k + KIND];
     (first != 0)
         & (second != 0)
         & full_cut(tallies, a)
         & full_cut(tallies, b)
-        & (boundaries[j + 6] == boundaries[k + 6])
+        & (boundaries[j + RAMP] == boundaries[k + RAMP])
         & (first != second)
 }
 
@@ -59,8 +63,8 @@ pub fn reach_of(boundaries: &[u64], a: usize, b: usize) -> Reach
 {
     let k = NUMBERS_PER_BOUNDARY * a;
     Reach {
-        lower: boundaries[k + 7],
-        upper: boundaries[k + 8],
+        lower: boundaries[k + LOWER],
+        upper: boundaries[k + UPPER],
         first: center_of(boundaries, a),
         second: center_of(boundaries, b),
     }

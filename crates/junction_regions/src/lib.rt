@@ -1,5 +1,6 @@
 // What pass 3, `remove_junction_boundaries` of junctions.rs, asks of the records of a proposal's regions, by value.
 use context::Region;
+use context::pairs::wide;
 use elevations::Share;
 use geometry::Point;
 use geometry::boundaries::segment_of;
@@ -7,7 +8,6 @@ use geometry::points::center;
 use geometry::points::point;
 use geometry::points::point_segment_distance;
 use junction_proposals::distances::within_distance;
-use junction_proposals::ports::wide;
 use junction_proposals::proposals::NUMBERS_PER_PROPOSAL;
 use junction_proposals::unions::anchored_bit;
 use span_geometry::PixelPosition;

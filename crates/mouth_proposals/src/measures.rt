@@ -1,5 +1,6 @@
 // What is measured of a mouth and a ramp, two boundaries of the list.
 use geometry::boundaries::NUMBERS_PER_BOUNDARY;
+use geometry::boundaries::WIDTH;
 use geometry::boundaries::segment_of;
 use geometry::numbers::fmax;
 use geometry::numbers::fmin;
@@ -25,7 +26,7 @@ fn width_of(boundaries: &[u64], i: usize) -> f64
     requires { ⌜ Placed (now boundaries) i ⌝ }
     ensures { λ r. ⌜ r ≡ ofBits binary64 (getD (now (boundaries .entry)) (numbersPerBoundary * i + 4) 0) ⌝ }
 {
-    f64::from_bits(boundaries[NUMBERS_PER_BOUNDARY * i + 4])
+    f64::from_bits(boundaries[NUMBERS_PER_BOUNDARY * i + WIDTH])
 }
 
 // Whether the mouth is twice as wide as the ramp, or wider.

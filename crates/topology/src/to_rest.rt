@@ -100,7 +100,8 @@ pub fn turn_once(
     requires { ⌜ IsPass pass ⌝ }
     requires { ⌜ ((O : Origin) × (s : List Region) × (places : List ℕ) × Stands width height (now cells) (now anchors) O s places first standing
         (now labels) (now masks) (now queue) (now tallies) (now pairs) (now records) (now numbers) (now spans) (now boundaries)) ⌝ }
-    ensures { λ r. ⌜ ((O : Origin) (s : List Region) (places : List ℕ) → Stands width height (now (cells .entry)) (now (anchors .entry)) O s places first standing
+    ensures { λ r. ⌜ ((O : Origin) (s : List Region) (places : List ℕ)
+        → Stands width height (now (cells .entry)) (now (anchors .entry)) O s places first standing
         (now (labels .entry)) (now (masks .entry)) (now (queue .entry)) (now (tallies .entry)) (now (pairs .entry))
         (now (records .entry)) (now (numbers .entry)) (now (spans .entry)) (now (boundaries .entry))
         → Stands width height (now (cells .entry)) (now (anchors .entry)) O s
