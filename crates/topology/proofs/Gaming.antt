@@ -27,7 +27,7 @@ use Rattle.laws.specs.RegionLaws.Tallies.{tallies-length}
 use Rattle.areas.proofs.Labelling.{zeroed-again}
 use Rattle.areas.proofs.Dividing.{labels-shown}
 use Rattle.stretches.specs.Queue.{Shown}
-use Rattle.stretches.specs.AfterFlood.{low-elevations}
+use Rattle.stretches.proofs.AfterFlood.{low-elevations}
 use Rattle.context.specs.declared.Region.{Region}
 use Rattle.context.specs.Records.{recordOf}
 use Rattle.pass_lists.specs.Finished.{Finishes, Finished}

@@ -16,7 +16,7 @@ use Rattle.flood.proofs.Used.{count-le}
 use Rattle.context.specs.Cells.{recordFrom}
 use Rattle.context.proofs.RecordFrom.{EachOnce, region-from}
 use Rattle.stretches.specs.Queue.{Shown, labelAt, stretchStart}
-use Rattle.stretches.specs.RisingRows.{smaller-most, smaller-before, smaller-from, smaller-place, smaller-past, smaller-none, smaller-rises}
+use Rattle.stretches.proofs.RisingRows.{smaller-most, smaller-before, smaller-from, smaller-place, smaller-past, smaller-none, smaller-rises}
 
 module _ (M : Map) (q : List ℕ) (g : Grouped M q) where
   -- ---- where the stretches lie
