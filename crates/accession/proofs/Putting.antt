@@ -4,8 +4,8 @@ use Prim.Native.Nat.{ℕ, suc, _+_, _-_, _*_, _≤_, _<_}
 use native.Mathlib.Omega.{arith}
 use mathlib.Core.Path.{_≡_, refl, sym, ap, subst, _∙_}
 use mathlib.Core.Bool.{Bool, true, false, true≢false, false≢true}
-use mathlib.Core.List.{List, [], _∷_, _++_, append-nil, append-assoc}
-use lib.ListN.{length, set, drop, length-append, length-drop}
+use mathlib.Core.List.{List, [], _++_, append-nil, append-assoc}
+use lib.ListN.{length, drop, length-append, length-drop}
 use lib.Seq.{sets}
 use Rattle.definitions.specs.Lists.{overwrite}
 use Rattle.definitions.specs.Scan.{countBelow, bit, collect, concatMap}
@@ -14,14 +14,6 @@ use Rattle.catalogue.specs.Accession.{Accession, numbersPerAccession, flatAcces
 use Rattle.catalogue.specs.Line.{reversed, flatLine}
 use Rattle.catalogue.specs.AccessionLaws.Newest.{one, newestFirst, newest-next, newest-length, flat-line-append, flat-line-length}
 use Rattle.catalogue.specs.AccessionLaws.MapLine.{isOfMap, mapLine}
-
--- four stores, one behind the other
-pub four-stores : (l : List ℕ) (k a b c d : ℕ) → set (set (set (set l k a) (k + 1) b) (k + 2) c) (k + 3) d ≡ sets l k (a ∷ b ∷ c ∷ d ∷ [])
-four-stores l k a b c d =
-    let p : k + 1 ≡ suc k = omega arith in
-    let q : k + 2 ≡ suc (suc k) = omega arith in
-    let r : k + 3 ≡ suc (suc (suc k)) = omega arith in
-    λ i. set (set (set (set l k a) (p i) b) (q i) c) (r i) d
 
 -- a record that is put, and one that is not
 module _ (l : List ℕ) (i : ℕ) (out : List ℕ) (k : ℕ) where

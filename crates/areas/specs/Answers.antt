@@ -1,4 +1,4 @@
--- What the answers of this crate say: document 01's number and value of each case. Assumes nothing.
+-- What the answers of this crate say: the number and value of each case (SPECIFICATION 4). Assumes nothing.
 use mathlib.Core.Option.{Option, none, some}
 use Rattle.definitions.specs.Refusals.{Refusal}
 use Rattle.definitions.specs.Verdict.{Answer}

@@ -1,4 +1,4 @@
-// The checks that come before the partition, in the order of document 01's table: 1, 2, 3, 5 and 6, 10.
+// The checks that come before the partition, in the order of the table of SPECIFICATION 4: 1, 2, 3, 5 and 6, 10.
 use checks::limits::NUMBERS_PER_SPAN;
 use checks::sizes::cells_fit;
 use checks::sizes::is_whole;

@@ -1,4 +1,4 @@
-// Clearing a lent list over the needed length: document 01, "Masks and queue are then zero over the needed length".
+// Clearing a lent list over the needed length: SPECIFICATION 3, in document 01's words "Masks and queue are then zero over the needed length".
 ghost use mathlib.Core.Path.{_≡_};
 ghost use Prim.Native.Nat.{_≤_};
 ghost use lib.ListN.{length};

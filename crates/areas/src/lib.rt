@@ -1,4 +1,4 @@
-// The partition of a map by spans, `partition_by_spans` of areas.rs, with the refusals of document 01's table.
+// The partition of a map by spans, `partition_by_spans` of areas.rs, with the refusals of the table of SPECIFICATION 4.
 pub mod checked;
 pub mod clear;
 pub mod labels;

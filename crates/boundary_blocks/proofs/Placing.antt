@@ -3,8 +3,7 @@ use Prim.Native.Nat.{ℕ, zero, suc, _+_, _*_, _≤_, _<_}
 use native.Mathlib.Omega.{arith}
 use native.Mathlib.Numerals.{add-one}
 use mathlib.Core.Path.{_≡_, refl, sym, ap, ap₂, subst, _∙_}
-use mathlib.Core.Bool.{Bool, true, false, not}
-use mathlib.Core.Option.{some}
+use mathlib.Core.Bool.{true, false, not}
 use mathlib.Core.List.{List, [], _∷_, _++_, append-assoc, append-nil}
 use lib.ListN.{length, getD, take, drop, replicate, length-append}
 use lib.Seq.{sets, drop-cons}
@@ -21,6 +20,7 @@ use Rattle.laws.specs.ListLaws.Scans.{picked-length, collect-ext}
 use Rattle.laws.specs.ListLaws.SortedMembers.{length-sort}
 use Rattle.laws.specs.ListLaws.ScansOfAll.{collect-below}
 use Rattle.laws.specs.OrderLaws.StableSort.{all-sort}
+use Rattle.laws.specs.ListLaws.Flags.{none-set}
 use Rattle.rows.specs.Contract.{notRemoved, keptRows}
 use Rattle.rest.specs.FlatLists.{flatSegment, flatBoundary}
 use Rattle.rest.specs.StartMaps.{count-all}
@@ -138,18 +138,12 @@ boundary-block lent rows old k h named =
 
 -- ---- the rows of all boundaries
 
--- with no mark set, the rows that are kept are all
-none-marked : (n i : ℕ) → getD (replicate n false) i false ≡ false
-none-marked zero i = refl
-none-marked (suc n) zero = refl
-none-marked (suc n) (suc i) = none-marked n i
-
 pub rows-all : (lent : List ℕ) (count n : ℕ) → keptRows lent count (replicate n false) ≡ rowsOfAll lent count
 unfolding rowsFrom rowsOfAll
 rows-all lent count n =
     let row : ℕ → Row = λ i. record { number = i; line = canonical (boundaryAt lent (9 * i) .endpoints) } in
     ap (sort (λ r s. listLt (rowKey r) (rowKey s)))
-    (collect-ext count (λ i. onlyIf (notRemoved (replicate n false) i) (row i)) (λ i. onlyIf true (row i)) (λ i h. ap (λ b. onlyIf (not b) (row i)) (none-marked n i)))
+    (collect-ext count (λ i. onlyIf (notRemoved (replicate n false) i) (row i)) (λ i. onlyIf true (row i)) (λ i h. ap (λ b. onlyIf (not b) (row i)) (none-set n i)))
 
 -- each names a boundary of the list
 rows-named : (lent : List ℕ) (count : ℕ) → 9 * count ≤ length lent → All (NamedIn lent) (rowsOfAll lent count)

@@ -35,8 +35,8 @@ fn move_block(list: &mut [u64], at: usize, place: usize, size: usize)
 // Moves block k behind the blocks that are kept so far, unless it is removed, and gives how many are kept then.
 fn keep_block(list: &mut [u64], size: usize, removed: &[bool; 256], k: usize, kept: usize) -> usize
     requires { ⌜ (kept ≤ k) × (k < maxEntries) × (size * kept ≤ size * k) × (size * k + size ≤ length (now list)) ⌝ }
-    ensures { λ r. ⌜ now (list .exit) ≡ sets (now (list .entry)) (size * kept) (leftBlock (now (removed .entry)) size (now (list .entry)) k) ⌝ }
-    ensures { λ r. ⌜ r ≡ kept + bit (isLeft (now (removed .entry)) k) ⌝ }
+    ensures list { λ r. ⌜ now (list .exit) ≡ sets (now (list .entry)) (size * kept) (leftBlock (now (removed .entry)) size (now (list .entry)) k) ⌝ }
+    ensures answer { λ r. ⌜ r ≡ kept + bit (isLeft (now (removed .entry)) k) ⌝ }
 {
     if removed[k] {
         return kept;
@@ -48,8 +48,8 @@ fn keep_block(list: &mut [u64], size: usize, removed: &[bool; 256], k: usize, ke
 // Moves the blocks that are not removed to the front, and gives how many there are.
 pub fn keep_blocks(list: &mut [u64], size: usize, removed: &[bool; 256], count: usize) -> usize
     requires { ⌜ (count ≤ maxEntries) × (size * count ≤ length (now list)) ⌝ }
-    ensures { λ r. ⌜ now (list .exit) ≡ overwrite (leftBlocks (now (removed .entry)) size (now (list .entry)) count) (now (list .entry)) ⌝ }
-    ensures { λ r. ⌜ r ≡ leftCount (now (removed .entry)) count ⌝ }
+    ensures list { λ r. ⌜ now (list .exit) ≡ overwrite (leftBlocks (now (removed .entry)) size (now (list .entry)) count) (now (list .entry)) ⌝ }
+    ensures answer { λ r. ⌜ r ≡ leftCount (now (removed .entry)) count ⌝ }
 {
     let mut kept = 0;
     let mut k = 0;

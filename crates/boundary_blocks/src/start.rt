@@ -88,11 +88,12 @@ pub fn start_lists(
     spans: &mut [u64],
     boundaries: &mut [u64],
 )
-    requires { ⌜ (count ≤ maxEntries) × (9 * count ≤ length (now lent)) ⌝ }
-    requires { ⌜ (count ≤ length (now numbers)) × (4 * count ≤ length (now spans)) × (9 * count ≤ length (now boundaries)) ⌝ }
-    ensures { λ r. ⌜ now (numbers .exit) ≡ overwrite (numbersOf (rowsOfAll (now (lent .entry)) count)) (now (numbers .entry)) ⌝ }
-    ensures { λ r. ⌜ now (spans .exit) ≡ overwrite (endsOf (rowsOfAll (now (lent .entry)) count)) (now (spans .entry)) ⌝ }
-    ensures { λ r. ⌜ now (boundaries .exit) ≡ overwrite (turnedOf (now (lent .entry)) (rowsOfAll (now (lent .entry)) count)) (now (boundaries .entry)) ⌝ }
+    requires sizes { ⌜ (count ≤ maxEntries) × (9 * count ≤ length (now lent)) ⌝ }
+    requires room { ⌜ (count ≤ length (now numbers)) × (4 * count ≤ length (now spans)) × (9 * count ≤ length (now boundaries)) ⌝ }
+    ensures numbers { λ r. ⌜ now (numbers .exit) ≡ overwrite (numbersOf (rowsOfAll (now (lent .entry)) count)) (now (numbers .entry)) ⌝ }
+    ensures spans { λ r. ⌜ now (spans .exit) ≡ overwrite (endsOf (rowsOfAll (now (lent .entry)) count)) (now (spans .entry)) ⌝ }
+    ensures boundaries { λ r. ⌜ now (boundaries .exit)
+        ≡ overwrite (turnedOf (now (lent .entry)) (rowsOfAll (now (lent .entry)) count)) (now (boundaries .entry)) ⌝ }
 {
     let none = [false; MOST_ROWS];
     let mut rows = [0u64; ROW_SIZE * MOST_ROWS];

@@ -18,14 +18,11 @@ use Rattle.definitions.specs.Rows.{rowsOf, flatRows}
 use Rattle.definitions.specs.Refusals.{Refusal, orElse, unless, sidesFault, cellsFault, isWhole, passFault, spansRefusal, boundariesFault, anchorsFault, elevationsFault}
 use Rattle.definitions.specs.Verdict.{Lent, mapIn, refusal, firstRefusal, pairRowsOf, recordsFault, pairsFault, verdict}
 use Rattle.definitions.specs.AtExit.{stageOf, untouched, talliesOf, recordsOf, recordsAtExit, outputAtExit, exitWith, callExit}
+use Rattle.laws.specs.TableLaws.AcceptedCalls.{or-else-assoc}
 use Rattle.areas.proofs.FirstRefusal.{first-joined}
 use Rattle.call_partition.specs.Contract.{given, Ran}
 use Rattle.call_partition.specs.Early.{sizesRefusal, entriesRefusal, hasRoom, earlyRefusal}
 use Rattle.call_partition.proofs.EarlyLeaves.{early-untouched}
-
-or-else-assoc : {A : Type 0} (a b c : Option A) → orElse (orElse a b) c ≡ orElse a (orElse b c)
-or-else-assoc none b c = refl
-or-else-assoc (some x) b c = refl
 
 module _ (pass w h : ℕ) (cells spans boundaries anchors l m q t p : List ℕ) (s : List Region) (o : List ℕ) where
   abbrev L : Lent

@@ -1,4 +1,4 @@
-// Checks 1 to 10 of document 01's table, in its order.
+// Checks 1 to 10 of the table of SPECIFICATION 4, in its order.
 use areas::checked::Check;
 use checks::Fault;
 use checks::anchors::anchors_fault;

@@ -1,4 +1,4 @@
-// The first part of the call that runs a pass, over plain lists: the checks in the order of document 01's table, labels, tallies and pairs. Of records and output
+// The first part of the call that runs a pass, over plain lists: the checks in the order of the table of SPECIFICATION 4, labels, tallies and pairs. Of records and output
 // only the lengths matter here.
 pub mod checked;
 pub mod scratch;
@@ -37,10 +37,10 @@ pub fn divide(
     pairs: &mut [u32],
 ) -> Prepared
     requires { ⌜ Fit width height (now cells) (now spans) (length (now labels)) (length (now masks)) (length (now queue)) (length (now tallies)) ⌝ }
-    ensures { λ r. ⌜ DividedAs width height (now (cells .entry)) (now (spans .entry)) room (now (labels .entry)) (now (masks .entry))
+    ensures divided { λ r. ⌜ DividedAs width height (now (cells .entry)) (now (spans .entry)) room (now (labels .entry)) (now (masks .entry))
         (now (queue .entry)) (now (tallies .entry)) (now (pairs .entry)) r
         (now (labels .exit)) (now (masks .exit)) (now (queue .exit)) (now (tallies .exit)) (now (pairs .exit)) ⌝ }
-    ensures { λ r. ⌜ RefusedLate r ⌝ }
+    ensures late { λ r. ⌜ RefusedLate r ⌝ }
 {
     let needed = height * width;
     let regions = label_regions(width, height, cells, spans, labels, masks, queue);

@@ -1,4 +1,4 @@
-// Masks and queue, which a call is lent to work in: document 01, "Masks and queue are then zero over the needed length".
+// Masks and queue, which a call is lent to work in: SPECIFICATION 3, in document 01's words "Masks and queue are then zero over the needed length".
 use areas::clear::clear_masks;
 use areas::clear::clear_numbers;
 ghost use mathlib.Core.Path.{_≡_};

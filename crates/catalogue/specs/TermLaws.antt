@@ -8,14 +8,10 @@ use mathlib.Core.List.{List}
 use lib.Dec.{eqb, ltb, leb}
 use borrow.Author.Tests.{leb-true, ltb-true, lt-ltb, eq-eqb}
 use Rattle.definitions.specs.Scan.{onlyIf}
-use Rattle.laws.specs.ListLaws.Tests.{both}
+use Rattle.laws.specs.ListLaws.Tests.{both, neither}
 use Rattle.laws.specs.ListLaws.ScanSteps.{any-fails-at}
 use Rattle.laws.specs.ListLaws.NoFault.{none-at}
 use Rattle.catalogue.specs.Terms.{termAt, termCount, Days, daysOf, isEmpty, overlap, contains, overlapsEarlier, termFault, termsRefusal}
-
-neither : (a b : Bool) → (a || b) ≡ false → (a ≡ false) × (b ≡ false)
-neither true b h = absurd (false≢true (sym h))
-neither false b h = (refl, h)
 
 not-kept : {A : Type 0} (b : Bool) (a : A) → onlyIf b a ≡ none → b ≡ false
 not-kept true a h = absurd (some-none h)

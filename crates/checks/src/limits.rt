@@ -1,4 +1,4 @@
-// The limits of document 01, 'Lists lent and filled', by the names of Limits.antt. The contracts of the checks tie the two.
+// The limits of SPECIFICATION 17, by the names of Limits.antt. The contracts of the checks tie the two.
 pub const MAX_SIDE: u64 = 1024;
 
 pub const MAX_ENTRIES: usize = 256;

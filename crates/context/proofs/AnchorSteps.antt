@@ -8,10 +8,9 @@ use mathlib.Core.List.{List, [], _∷_, _++_, map}
 use lib.ListN.{length, getD}
 use Rattle.definitions.specs.Limits.{maxSide}
 use Rattle.definitions.specs.Scan.{run}
-use Rattle.laws.specs.ListLaws.Lists.{map-append}
-use Rattle.context.specs.AnchorLaws.{marks-length}
+use Rattle.laws.specs.ListLaws.Lists.{map-append, run-last}
+use Rattle.context.proofs.AnchorLaws.{marks-length}
 use Rattle.context.specs.Anchors.{anchorCell, anchorCells, markLabel, markCells}
-use Rattle.context.proofs.Counting.{run-last}
 
 pub row-small : {y w : ℕ} (v : ℕ) → y ≡ v → v < maxSide → w ≤ maxSide → y * w ≤ maxSide * maxSide
 row-small {y} {w} v e h k =

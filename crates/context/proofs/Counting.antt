@@ -1,7 +1,6 @@
 -- Counting incidents in packed entries: what one region, one pair and one span do to the list, and that it counts every span once. Assumes nothing.
 use Prim.Native.Nat.{ℕ, zero, suc, _+_, _-_, _*_, _/_, _%_, _≤_, _<_, zero-le}
 use native.Mathlib.Omega.{arith}
-use native.Mathlib.Nat.{add-zero}
 use native.Mathlib.Numerals.{add-one}
 use mathlib.Core.Path.{_≡_, refl, sym, ap, ap₂, _∙_, subst}
 use mathlib.Core.Bool.{Bool, true, false, _||_, cond, or-true}
@@ -15,21 +14,12 @@ use Rattle.definitions.specs.Limits.{maxEntries}
 use Rattle.definitions.specs.Scan.{run, any, bit}
 use Rattle.definitions.specs.Grid.{Pair, contains}
 use Rattle.definitions.specs.Context.{Context, isIncident}
-use Rattle.laws.specs.ListLaws.Lists.{any-append}
-use Rattle.laws.specs.NumberLaws.Comparisons.{le-or-lt}
-use Rattle.context.specs.OneMore.{same-or, last-or}
+use Rattle.laws.specs.ListLaws.Lists.{any-append, run-last}
+use Rattle.laws.specs.NumberLaws.Comparisons.{le-or-lt, same-or, last-or}
 use Rattle.context.specs.Shown.{pairAt, pairsBetween, ShownPairs}
 use Rattle.context.specs.Packed.{packUnit, countedEntry, countRegion, countPair, countPairs, Packed}
 
 -- ---- rows in order
-
-pub run-last : (n k : ℕ) → run n (suc k) ≡ run n k ++ ((n + k) ∷ [])
-unfolding run
-run-last n zero = ap (λ m. m ∷ []) (sym (add-zero n))
-run-last n (suc k) = ap (_∷_ n) (run-last (suc n) k ∙ ap (λ m. run (suc n) k ++ (m ∷ [])) (next n k))
-  where
-    next : (n k : ℕ) → suc n + k ≡ n + suc k
-    next n k = omega arith
 
 map-last : (f : ℕ → Pair) (l : List ℕ) (m : ℕ) → map f (l ++ (m ∷ [])) ≡ map f l ++ (f m ∷ [])
 map-last f [] m = refl

@@ -15,9 +15,9 @@ use Rattle.definitions.specs.Scan.{run, onlyIf}
 use Rattle.definitions.specs.Grid.{Pair}
 use Rattle.definitions.specs.Context.{Context, onlyPair, fullCut, fullPair}
 use Rattle.laws.specs.ListLaws.Lists.{All, more, length-run}
+use Rattle.laws.specs.NumberLaws.Comparisons.{last-or}
 use Rattle.context.specs.declared.pairs.FullPair.{FullPair}
 use Rattle.context.specs.declared.pairs.FullPair.the-variants as full
-use Rattle.context.specs.OneMore.{last-or}
 use Rattle.context.specs.Shown.{pairAt, pairsBetween, ShownTallies, ShownPairs, optionalPair}
 use Rattle.context.specs.Rows.{fullPairOf, smallerOf, largerOf}
 
@@ -29,11 +29,11 @@ only-one true (p ∷ []) h = absurd (h refl)
 only-one true (p ∷ q ∷ l) h = refl
 only-one false l h = refl
 
-between-length : (rows : List ℕ) (first end : ℕ) → length (pairsBetween rows first end) ≡ end - first
+pub between-length : (rows : List ℕ) (first end : ℕ) → length (pairsBetween rows first end) ≡ end - first
 unfolding pairsBetween
 between-length rows first end = length-map (run first (end - first)) (pairAt rows) ∙ length-run first (end - first)
 
-between-one : (rows : List ℕ) (first end : ℕ) → end - first ≡ 1 → pairsBetween rows first end ≡ pairAt rows first ∷ []
+pub between-one : (rows : List ℕ) (first end : ℕ) → end - first ≡ 1 → pairsBetween rows first end ≡ pairAt rows first ∷ []
 unfolding pairsBetween run
 between-one rows first end h = ap (λ n. map (pairAt rows) (run first n)) h
 

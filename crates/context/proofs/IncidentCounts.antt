@@ -18,7 +18,7 @@ use Rattle.definitions.specs.Scan.{any, countBelow, bit}
 use Rattle.definitions.specs.Grid.{Pair, contains}
 use Rattle.definitions.specs.Context.{Context, isIncident, incidentCount}
 use Rattle.laws.specs.ListLaws.Lists.{All, done, more}
-use Rattle.context.specs.OneMore.{same-or}
+use Rattle.laws.specs.NumberLaws.Comparisons.{same-or}
 use Rattle.context.specs.Shown.{ShownPairs, ShownIncidents}
 use Rattle.context.specs.Packed.{packUnit, countedEntry, countRegion, countPair, countPairs, spanPairs, countSpans, unpacked, Packed}
 use Rattle.context.proofs.Counting.{region-length, pair-length, pairs-length, packed-pairs, packed-next, packed-zero}

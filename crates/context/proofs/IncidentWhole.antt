@@ -7,8 +7,9 @@ use lib.ListN.{length, getD, take, drop, length-map, List·getD-eq-default}
 use lib.Seq.{getD-take, length-take-le, length-front, drop-at}
 use Rattle.definitions.specs.Context.{Context}
 use Rattle.laws.specs.NumberLaws.Comparisons.{le-or-lt}
+use Rattle.laws.specs.ListLaws.Beyond.{Beyond}
 use Rattle.context.specs.Shown.{ShownPairs, ShownIncidents}
-use Rattle.context.specs.Rows.{NamedRows, Beyond}
+use Rattle.context.specs.Rows.{NamedRows}
 use Rattle.context.specs.Packed.{spanPairs, countSpans, unpacked}
 use Rattle.context.proofs.IncidentCounts.{spans-length, incidents-shown}
 

@@ -8,3 +8,7 @@ pub mod IncidentWhole
 pub mod Ones
 pub mod PairStarts
 pub mod Rows
+pub mod RecordLaws
+pub mod RecordFrom
+pub mod AnchorLaws
+pub mod ShownLaws

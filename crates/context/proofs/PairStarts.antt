@@ -14,8 +14,7 @@ use Rattle.definitions.specs.Scan.{run, gather, concatMap}
 use Rattle.definitions.specs.Grid.{Pair}
 use Rattle.definitions.specs.Context.{Context}
 use Rattle.definitions.specs.Verdict.{pairRowsOf}
-use Rattle.laws.specs.NumberLaws.Comparisons.{le-or-lt}
-use Rattle.context.specs.OneMore.{last-or}
+use Rattle.laws.specs.NumberLaws.Comparisons.{le-or-lt, last-or}
 use Rattle.context.specs.Shown.{pairAt, pairsBetween, ShownPairs}
 use Rattle.context.specs.Rows.{PairRows, SpanEnd}
 

@@ -3,7 +3,7 @@ use Prim.Native.Nat.{ℕ, _+_, _≤_, _<_}
 use native.Mathlib.Omega.{arith}
 use mathlib.Core.Path.{sym, subst}
 use mathlib.Core.Logic.{⊎-elim}
-use Rattle.context.specs.OneMore.{last-or}
+use Rattle.laws.specs.NumberLaws.Comparisons.{last-or}
 
 -- what holds from `first` on below k, and at k, holds below k + 1
 pub from-more : (P : ℕ → Type 0) (first k : ℕ) → ((j : ℕ) → first ≤ j → j < k → P j) → P k → (j : ℕ) → first ≤ j → j < k + 1 → P j

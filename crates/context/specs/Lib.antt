@@ -1,12 +1,7 @@
-pub mod AnchorLaws
 pub mod Anchors
 pub mod Cells
 pub mod OneElevation
-pub mod OneMore
 pub mod Packed
-pub mod RecordFrom
-pub mod RecordLaws
 pub mod Records
 pub mod Rows
 pub mod Shown
-pub mod ShownLaws

@@ -4,7 +4,7 @@ use Prim.Native.Nat.{ℕ, zero, suc, _+_, _<_}
 use native.Mathlib.Omega.{arith}
 use mathlib.Core.Path.{_≡_, refl, sym, ap, ap₂, _∙_, subst}
 use mathlib.Core.Bool.{Bool, true, false, not, _&&_, _||_, Bool·beq, or-true, true≢false}
-use mathlib.Core.Logic.{_⊎_, inl, inr, ⊎-elim}
+use mathlib.Core.Logic.{_⊎_, ⊎-elim}
 use mathlib.Core.List.{List}
 use lib.ListN.{getD}
 use lib.Dec.{eqb}
@@ -12,10 +12,11 @@ use borrow.Author.Tests.{eqb-true, eq-eqb, ne-eqb}
 use Rattle.definitions.specs.Scan.{anyBelow, countBelow, bit}
 use Rattle.definitions.specs.Grid.{Map, cellCount, cellAt, elevation}
 use Rattle.definitions.specs.RegionRecord.{hasBit, maskOf, regionOf, joinedOnes, strictlyFlat}
-use Rattle.laws.specs.ListLaws.Tests.{both, beq-same}
+use Rattle.laws.specs.ListLaws.Tests.{both, beq-same, or-split}
 use Rattle.laws.specs.ListLaws.Below.{below-at, below-first, below-none, count-ext}
-use Rattle.context.specs.OneMore.{OneMore, last-or, count-more, any-counted}
-use Rattle.context.specs.RecordLaws.{everyFour, four-at, maskOfBits}
+use Rattle.laws.specs.NumberLaws.Comparisons.{last-or}
+use Rattle.laws.specs.RegionLaws.OneMore.{OneMore, count-more, any-counted}
+use Rattle.laws.specs.ListLaws.FourFlags.{everyFour, four-at, maskOfBits}
 
 -- ---- exactly one number passes
 
@@ -95,10 +96,6 @@ pub record OneElevation (M : Map) (ls : List ℕ) (q r e : ℕ) : Type 0 where
   pub high : elevation (cellAt M cell) ≡ e
   pub all : (c : ℕ) → c < cellCount M → isOf ls q r c ≡ true → elevation (cellAt M c) ≡ e
 
-either : (a b : Bool) → (a || b) ≡ true → (a ≡ true) ⊎ (b ≡ true)
-either true b h = inl refl
-either false b h = inr h
-
 module _ (M : Map) (ls : List ℕ) where
   -- region l has a cell of elevation e
   abbrev hasElevation : ℕ → ℕ → Bool
@@ -129,21 +126,21 @@ module _ (M : Map) (ls : List ℕ) where
       (λ u.
       let (c, (l, (m, v))) = cell-of r e h u in
       record { cell = c; below = l; mine = ap (λ b. eqb (getD ls c 0) q || b) m ∙ or-true (eqb (getD ls c 0) q); high = v })
-      (either (hasBit (maskOf (hasElevation q)) e) (hasBit (maskOf (hasElevation r)) e) t)
+      (or-split (hasBit (maskOf (hasElevation q)) e) (hasBit (maskOf (hasElevation r)) e) t)
 
   -- a cell sets the bit
   cell-set : (q r c : ℕ) → c < cellCount M → elevation (cellAt M c) < 4 → isOf ls q r c ≡ true → inMasks q r (elevation (cellAt M c)) ≡ true
   cell-set q r c l h t =
       ⊎-elim (λ u. ap (λ b. b || hasBit (maskOf (hasElevation r)) (elevation (cellAt M c))) (set-by q u))
       (λ u. ap (λ b. hasBit (maskOf (hasElevation q)) (elevation (cellAt M c)) || b) (set-by r u) ∙ or-true (hasBit (maskOf (hasElevation q)) (elevation (cellAt M c))))
-      (either (eqb (getD ls c 0) q) (eqb (getD ls c 0) r) t)
+      (or-split (eqb (getD ls c 0) q) (eqb (getD ls c 0) r) t)
     where
       set-by : (k : ℕ) → eqb (getD ls c 0) k ≡ true → hasBit (maskOf (hasElevation k)) (elevation (cellAt M c)) ≡ true
       set-by k u =
           bit-at (hasElevation k) (elevation (cellAt M c)) h
           ∙ below-at (cellCount M) (λ d. eqb (getD ls d 0) k && eqb (elevation (cellAt M d)) (elevation (cellAt M c))) c l (ap₂ _&&_ u (eq-eqb (elevation (cellAt M c)) (elevation (cellAt M c)) refl))
 
-  -- elevations below 4, as check 9 of document 01's table leaves them
+  -- elevations below 4, as check 9 of the table of SPECIFICATION 4 leaves them
   module _ (q r : ℕ) (fits : (c : ℕ) → c < cellCount M → isOf ls q r c ≡ true → elevation (cellAt M c) < 4) where
     pub flat-one : strictlyFlat (regionOf M ls q) (regionOf M ls r) ≡ true → (e : ℕ) × OneElevation M ls q r e
     unfolding strictlyFlat joinedOnes regionOf

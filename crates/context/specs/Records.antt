@@ -31,7 +31,7 @@ pub record Counted (s : def.Region) : Type 0 where
   pub ramps : s .rampCells ≤ s .cells
   pub each : (e : ℕ) → elevationCount s e ≤ s .cells
 
--- a further cell at column x and row y of a map: check 9 of document 01's table keeps its elevation below 4
+-- a further cell at column x and row y of a map: check 9 of the table of SPECIFICATION 4 keeps its elevation below 4
 pub record Fitting (s : def.Region) (x y cell : ℕ) : Type 0 where
   pub room : s .cells < maxCells
   pub column : x < maxSide

@@ -3,7 +3,7 @@ use Prim.Native.Nat.{ℕ, _+_, _*_, _≤_, _<_}
 use mathlib.Core.Path.{_≡_}
 use mathlib.Core.Option.{Option, none, some}
 use mathlib.Core.List.{List}
-use lib.ListN.{length, getD, drop}
+use lib.ListN.{length, getD}
 use Rattle.definitions.specs.Limits.{maxEntries, numbersPerPair}
 use Rattle.definitions.specs.Grid.{Pair}
 use Rattle.definitions.specs.Lists.{overwrite}
@@ -47,11 +47,6 @@ pub record NamedRows (pairs starts : List ℕ) (count n : ℕ) : Type 0 where
   pub few : count ≤ maxEntries
   pub stretch : (i : ℕ) → i < count → Stretch pairs starts i
   pub named : (i : ℕ) → i < count → (k : ℕ) → getD starts i 0 ≤ k → k < getD starts (i + 1) 0 → NamedRow pairs n k
-
--- a list of the same length, that is as it was from n on
-pub record Beyond (n : ℕ) (was l : List ℕ) : Type 0 where
-  pub long : length l ≡ length was
-  pub rest : drop n l ≡ drop n was
 
 -- ---- a full pair
 

@@ -12,7 +12,8 @@ ghost use Rattle.definitions.specs.Limits.{maxEntries, numbersPerPair};
 ghost use Rattle.definitions.specs.Grid.{contains};
 ghost use Rattle.definitions.specs.Context.{Context, isIncident};
 ghost use Rattle.context.specs.Shown.{pairAt, pairsBetween, ShownPairs, ShownIncidents};
-ghost use Rattle.context.specs.Rows.{Stretch, NamedRow, NamedRows, Beyond};
+ghost use Rattle.laws.specs.ListLaws.Beyond.{Beyond};
+ghost use Rattle.context.specs.Rows.{Stretch, NamedRow, NamedRows};
 ghost use Rattle.context.specs.Packed.{packUnit, countedEntry, countRegion, countPair, countPairs, spanPairs, countSpans, unpacked, Packed};
 
 const PACK_UNIT: u32 = 512;

@@ -4,7 +4,7 @@ pub mod incidents;
 pub mod pairs;
 pub mod records;
 
-// The record of a region, as RegionStats of context.rs: document 01, 'Context'; its ramp cells are counted. Edges are in pixels; bit e of `elevations` says that a cell has elevation e.
+// The record of a region, as RegionStats of context.rs: SPECIFICATION 9; its ramp cells are counted. Edges are in pixels; bit e of `elevations` says that a cell has elevation e.
 #[repr(C)]
 pub struct Region {
     pub cells: usize,

@@ -100,8 +100,8 @@ impl Region {
 
     // The record with one cell more, which stands at column x and row y.
     pub fn with_cell(self, x: usize, y: usize, cell: u8) -> Self
-        requires { ⌜ Counted (recordOf self) ⌝ }
-        requires { ⌜ Fitting (recordOf self) x y cell ⌝ }
+        requires counted { ⌜ Counted (recordOf self) ⌝ }
+        requires fitting { ⌜ Fitting (recordOf self) x y cell ⌝ }
         ensures { λ r. ⌜ recordOf r ≡ addCell (recordOf self) x y cell ⌝ }
     {
         let first = self.cells == 0;

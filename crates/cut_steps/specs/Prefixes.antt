@@ -2,11 +2,11 @@
 -- Assumes nothing.
 use Prim.Native.Nat.{ℕ, zero, suc, _+_, _-_, _≤_, _<_}
 use native.Mathlib.Omega.{arith}
-use native.Mathlib.Nat.{add-zero}
 use mathlib.Core.Path.{_≡_, refl, sym, ap, ap₂, _∙_}
 use mathlib.Core.List.{List, [], _∷_, _++_, append-assoc, append-nil, map}
 use Rattle.definitions.specs.Scan.{concatMap, gather, run}
 use Rattle.definitions.specs.Spans.{rangeInclusive}
+use Rattle.laws.specs.ListLaws.Lists.{run-last}
 
 module _ {A B : Type 0} (f : A → List B) where
   pub concat-append : (l m : List A) → concatMap f (l ++ m) ≡ concatMap f l ++ concatMap f m
@@ -31,13 +31,6 @@ module _ {A B C : Type 0} (f : B → List C) where
 abbrev pub upTo : ℕ → ℕ → List ℕ
 upTo first m = run first (m - first)
 
-run-more : (n k : ℕ) → run n (suc k) ≡ run n k ++ ((n + k) ∷ [])
-unfolding run
-run-more n zero = ap {B = List ℕ} (λ x. x ∷ []) (sym (add-zero n))
-run-more n (suc k) =
-    let e : suc n + k ≡ n + suc k = omega arith in
-    ap {B = List ℕ} (λ r. n ∷ r) (run-more (suc n) k ∙ ap {B = List ℕ} (λ x. run (suc n) k ++ (x ∷ [])) e)
-
 module _ {B : Type 0} (f : ℕ → List B) (first : ℕ) where
   pub concat-none : concatMap f (upTo first first) ≡ []
   unfolding concatMap run
@@ -50,7 +43,7 @@ module _ {B : Type 0} (f : ℕ → List B) (first : ℕ) where
   concat-more m h =
       let e : m + 1 - first ≡ suc (m - first) = omega arith in
       let at : first + (m - first) ≡ m = omega arith in
-      ap (λ k. concatMap f (run first k)) e ∙ ap (concatMap f) (run-more first (m - first)) ∙ concat-append f (upTo first m) ((first + (m - first)) ∷ [])
+      ap (λ k. concatMap f (run first k)) e ∙ ap (concatMap f) (run-last first (m - first)) ∙ concat-append f (upTo first m) ((first + (m - first)) ∷ [])
       ∙ ap (λ r. concatMap f (upTo first m) ++ r) (append-nil (f (first + (m - first))) ∙ ap f at)
 
 -- m is the number that a loop from `first` to `last` is at; past the last one, all are done

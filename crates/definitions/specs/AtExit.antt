@@ -1,4 +1,4 @@
--- What each lent list holds at exit, for every answer, as document 01's table and the paragraph under it say; quotations are of these. Assumes nothing.
+-- What each lent list holds at exit, for every answer, as the table of SPECIFICATION 4 and the paragraph under it say; quotations are of document 01, which it restates. Assumes nothing.
 use Prim.Native.Nat.{ℕ, _*_}
 use mathlib.Core.Bool.{cond}
 use mathlib.Core.List.{List, [], _∷_, map}

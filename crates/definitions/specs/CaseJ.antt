@@ -1,4 +1,4 @@
--- Case J of document 01, computed: labels, pairs, kept rows, and what `keptlist` prints for its sheet.
+-- Case J (SPECIFICATION 18), computed: labels, pairs, kept rows, and what `keptlist` prints for its sheet.
 use Prim.Native.Nat.{ℕ}
 use mathlib.Core.Path.{_≡_, refl}
 use mathlib.Core.List.{[], _∷_, map}

@@ -1,4 +1,4 @@
--- The cases that document 01 marks P ('Edges of the thresholds'), in its order, as one list of tests on the definitions, and one theorem: each holds.
+-- The cases that document 01 marks P (SPECIFICATION 16), in its order, as one list of tests on the definitions, and one theorem: each holds.
 use Prim.Native.Nat.{ℕ, _-_}
 use mathlib.Core.Path.{_≡_, refl}
 use mathlib.Core.Bool.{Bool, true, false, not, cond}

@@ -1,4 +1,4 @@
--- What a pass reads (document 01, 'Context'; PartitionContext of context.rs with the boundaries): the boundaries and their assessments,
+-- What a pass reads (SPECIFICATION 9; PartitionContext of context.rs with the boundaries): the boundaries and their assessments,
 -- and of each region whether it is anchored and its record. A pass is a function of this and of nothing else. Assumes nothing.
 use Prim.Native.Nat.{ℕ}
 use mathlib.Core.Bool.{Bool, true, false, _&&_, cond}

@@ -1,4 +1,4 @@
--- Computed examples that a porter would get wrong: both sides of the thresholds that document 01 names and does not mark P, its four likely errors,
+-- Computed examples that a porter would get wrong: both sides of the thresholds (SPECIFICATION 16) that document 01 does not mark P, its four likely errors,
 -- ties of the hypotenuse, totalOrder of 24 doubles, unequal counts, an anchor on a blocked cell, the diagonal rule, a side value of zero,
 -- ramp cells counted region by region.
 use Prim.Native.Nat.{ℕ, _-_, _*_}

@@ -28,7 +28,7 @@ center s =
       py = div binary64 (add binary64 (float (s .a .y)) (float (s .b .y))) (float 2);
     }
 
--- the arguments never leave the range of the hypotenuse within a pass (document 01, 'Hypotenuse'), so that 13 cannot arise there
+-- the arguments never leave the range of the hypotenuse within a pass (SPECIFICATION 6), so that 13 cannot arise there
 unfoldable pub distance : Point → Point → Float
 unfolding hypotOf sub
 distance p q = hypotOf (sub binary64 (p .px) (q .px)) (sub binary64 (p .py) (q .py))

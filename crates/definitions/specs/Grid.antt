@@ -1,4 +1,4 @@
--- The map: what is lent (flat lists, document 01, 'Lists lent and filled') and what a reader thinks of (records); its cells; and the steps between them
+-- The map: what is lent (flat lists, SPECIFICATION 3) and what a reader thinks of (records); its cells; and the steps between them
 -- (`neighbors` of lib.rs). Assumes nothing: every test is total, and what the table of refusals excludes is excluded there.
 use Prim.Native.Nat.{ℕ, _+_, _-_, _*_, _/_, _%_}
 use mathlib.Core.Bool.{Bool, _&&_, _||_, cond}
@@ -46,7 +46,7 @@ contains r p = eqb (p .lo) r || eqb (p .hi) r
 
 -- ---- the map
 
--- TopologyBoundary of topology/mod.rs, as document 01's nine numbers. Kind 0 has no ramp, 1 is the Lower end of one, 2 the Upper.
+-- TopologyBoundary of topology/mod.rs, as the nine numbers of SPECIFICATION 2. Kind 0 has no ramp, 1 is the Lower end of one, 2 the Upper.
 pub record Boundary : Type 0 where
   pub endpoints : Segment
   pub widthBits : ℕ

@@ -1,4 +1,4 @@
--- The hypotenuse (document 01, 'Hypotenuse'): the double nearest to the exact root of the sum of squares, ties to the even significand,
+-- The hypotenuse (SPECIFICATION 6): the double nearest to the exact root of the sum of squares, ties to the even significand,
 -- as IEEE 754-2019 has `hypot` among its correctly rounded operations. Over whole numbers, by one comparison of squares. Assumes nothing.
 -- `Nearest.antt` says the same as a relation.
 use Prim.Native.Nat.{ℕ, zero, suc, _+_, _-_, _*_, _/_, _^_, compare}

@@ -1,4 +1,4 @@
--- The limits of document 01, 'Lists lent and filled'. Assumes nothing.
+-- The limits of SPECIFICATION 17. Assumes nothing.
 use Prim.Native.Nat.{ℕ}
 use mathlib.Core.Bool.{Bool, _&&_}
 use lib.Dec.{leb}

@@ -3,7 +3,7 @@ use Prim.Native.Nat.{ℕ}
 use mathlib.Core.List.{List, _++_}
 use lib.ListN.{length, drop, replicate}
 
--- document 01, 'Lists lent and filled': "the other lists hold their data, and entries beyond stay unchanged"
+-- document 01, which SPECIFICATION 3 restates: "the other lists hold their data, and entries beyond stay unchanged"
 abbrev pub overwrite : {A : Type 0} → List A → List A → List A
 overwrite new old = new ++ drop (length new) old
 

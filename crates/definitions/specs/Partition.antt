@@ -1,4 +1,4 @@
--- The partition (document 01, 'Partition'; `partition_by_spans`, `components` and `boundary_assessment` of areas.rs): regions, labels, tallies and pairs.
+-- The partition (SPECIFICATION 8; `partition_by_spans`, `components` and `boundary_assessment` of areas.rs): regions, labels, tallies and pairs.
 -- Regions are put by merging steps in place of the Rust's flood: no order of a queue is left to believe. Assumes nothing.
 use Prim.Native.Nat.{ℕ, suc, min, max}
 use mathlib.Core.Bool.{Bool, not, _&&_, cond}

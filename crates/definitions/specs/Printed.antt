@@ -1,4 +1,4 @@
--- What `keptlist` prints for the bytes that it reads (document 01, 'The sheet and the printed list'; quotations are of that part), as bytes.
+-- What `keptlist` prints for the bytes that it reads (SPECIFICATION 15; quotations are of document 01, which it restates), as bytes.
 -- Every line ends in a newline, the last too. Assumes nothing.
 use Prim.Native.Nat.{ℕ, zero, suc, _+_, _*_, _/_, _%_}
 use Prim.Native.Char.{code}

@@ -1,4 +1,4 @@
--- The checks of document 01's table that look at what is lent, numbers 1 to 10: each gives the first faulty place, or none. Quotations are of the table.
+-- The checks of the table of SPECIFICATION 4 that look at what is lent, numbers 1 to 10: each gives the first faulty place, or none. Quotations are of the table of SPECIFICATION 4.
 -- Assumes nothing; entries of the lists are 64-bit numbers and cells are bytes, as their element types have it.
 use Prim.Native.Nat.{ℕ, zero, suc, _+_, _*_, _/_, _%_, _^_}
 use mathlib.Core.Bool.{Bool, not, _&&_, _||_}

@@ -1,4 +1,4 @@
--- Region records (document 01, 'Context'; RegionStats of context.rs) and what is asked of one: corners, dominance (junctions.rs), flatness.
+-- Region records (SPECIFICATION 9; RegionStats of context.rs) and what is asked of one: corners, dominance (junctions.rs), flatness.
 -- Assumes nothing.
 use Prim.Native.Nat.{ℕ, zero, suc, _+_, _*_, _/_, _%_, _^_, _<_, min, max}
 use mathlib.Core.Path.{_≡_}

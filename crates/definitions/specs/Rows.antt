@@ -1,4 +1,4 @@
--- What a pass keeps, and the rows of the kept list (`canonical_output` of context.rs; document 01, 'Lists lent and filled'). Assumes nothing.
+-- What a pass keeps, and the rows of the kept list (`canonical_output` of context.rs; SPECIFICATION 3). Assumes nothing.
 use Prim.Native.Nat.{ℕ, zero, suc}
 use mathlib.Core.Bool.{Bool, not, cond}
 use mathlib.Core.List.{List, [], _∷_, _++_}

@@ -1,5 +1,5 @@
--- The table of refusals as one function: the answer to every input of the call that runs a pass and of the partition alone (document 01, 'Lists lent and
--- filled'). The lists at exit stand in AtExit.antt, the hypotenuse's answer in Hypotenuse.antt, the sheet reader's in Sheet.antt. Assumes nothing.
+-- The table of refusals as one function: the answer to every input of the call that runs a pass and of the partition alone (SPECIFICATION 3 and
+-- 4). The lists at exit stand in AtExit.antt, the hypotenuse's answer in Hypotenuse.antt, the sheet reader's in Sheet.antt. Assumes nothing.
 use Prim.Native.Nat.{ℕ, _*_, _/_}
 use mathlib.Core.Bool.{Bool, _&&_}
 use mathlib.Core.Option.{Option, none, some}

@@ -13,8 +13,9 @@ use lib.Bits.{bitOr, or-step, or-shr}
 use borrow.Author.Tests.{eqb-true, eq-eqb, ne-eqb}
 use Rattle.definitions.specs.Scan.{allBelow}
 use Rattle.laws.specs.ListLaws.Tests.{both}
+use Rattle.laws.specs.NumberLaws.Comparisons.{same-or}
 use Rattle.flood.specs.Masks.{cutBit, withBit}
-use Rattle.flood.proofs.Used.{same-or, last-or}
+use Rattle.flood.proofs.Used.{last-or}
 
 all-below : (f : ℕ → Bool) (n i : ℕ) → i < n → allBelow n f ≡ true → f i ≡ true
 unfolding allBelow
@@ -54,11 +55,6 @@ or-bit m j k h i = ap (λ x. eqb x 1) odd ∙ go (eqb j k) (m / 2 ^ j % 2) (omeg
 pub withBit-length : (masks : List ℕ) (c k : ℕ) → length (withBit masks c k) ≡ length masks
 unfolding withBit
 withBit-length masks c k = length-set masks c (bitOr (getD masks c 0) (2 ^ k))
-
--- no other mask changes
-pub withBit-other : (masks : List ℕ) (c k b : ℕ) → (b ≡ c → ⊥) → getD (withBit masks c k) b 0 ≡ getD masks b 0
-unfolding withBit
-withBit-other masks c k b e = getD-set-other masks c b (bitOr (getD masks c 0) (2 ^ k)) 0 e
 
 -- the bits after one is set
 pub mark-bit : (masks : List ℕ) (c k : ℕ) → c < length masks → k < 9 → (b j : ℕ) → j < 9 → cutBit (withBit masks c k) b j ≡ (cutBit masks b j || (eqb b c && eqb j k))

@@ -1,40 +1,28 @@
 -- Setting the two bits of a step adds exactly that step to the steps that the masks say are cut (`mark-adds`), and masks of zeros say that none is
 -- (`marks-none`): a loop that marks every cut step both ways ends with masks as the flood asks. A step is known by either of its cells with the direction from
 -- there, since a cell reaches another in one direction only, and a direction is known by its bit. Assumes nothing.
-use Prim.Native.Nat.{ℕ, _-_, _*_, _/_, _%_, _^_, _≤_, _<_, min, max}
+use Prim.Native.Nat.{ℕ, _-_, _/_, _%_, _^_, _≤_, _<_, min, max}
 use native.Mathlib.Omega.{arith}
 use native.Mathlib.Nat.{zero-div}
 use mathlib.Core.Path.{_≡_, refl, sym, ap, ap₂, _∙_}
 use mathlib.Core.Bool.{Bool, true, false, _&&_, _||_, or-false, or-assoc}
-use mathlib.Core.Logic.{_⊎_, inl, inr, ⊎-elim}
+use mathlib.Core.Logic.{_⊎_, ⊎-elim}
 use mathlib.Core.List.{List, [], _∷_, _++_}
 use lib.ListN.{length, getD}
 use lib.Dec.{eqb, ltb}
 use borrow.Author.Tests.{eqb-true, eq-eqb, ltb-true, ltb-false}
-use Rattle.definitions.specs.Scan.{any, gather}
-use Rattle.definitions.specs.Grid.{Map, Position, at, Pair, pairEq, spanCount, cellCount, toward, positionOf, isStep}
-use Rattle.definitions.specs.Partition.{cutAll}
-use Rattle.laws.specs.ListLaws.Tests.{both}
+use Rattle.definitions.specs.Scan.{any}
+use Rattle.definitions.specs.Grid.{Map, Position, at, Pair, pairEq, cellCount, toward, positionOf, isStep}
+use Rattle.laws.specs.ListLaws.Tests.{both, or-split, or-right, same-test}
 use Rattle.laws.specs.ListLaws.Lists.{any-append}
-use Rattle.laws.specs.RegionLaws.GraphLaws.{two-way}
 use Rattle.flood.specs.Masks.{bitOf, opposite, cutBit, withBit, reached, stepPair, Marks}
-use Rattle.flood.specs.Walk.{gridOf}
-use Rattle.flood.specs.Contract.{CutMap}
 use Rattle.flood.proofs.Square.{Four, four, Across, across}
 use Rattle.flood.proofs.Bits.{withBit-length, mark-bit}
 
 -- ---- tests by `||` and `&&`
 
-or-cases : (a b : Bool) → (a || b) ≡ true → (a ≡ true) ⊎ (b ≡ true)
-or-cases true b h = inl refl
-or-cases false b h = inr h
-
 or-left : (a b : Bool) → a ≡ true → (a || b) ≡ true
 or-left a b h = ap (λ x. x || b) h
-
-or-right : (a b : Bool) → b ≡ true → (a || b) ≡ true
-or-right true b h = refl
-or-right false b h = h
 
 eqs : (a b c d : ℕ) → a ≡ b → c ≡ d → (eqb a b && eqb c d) ≡ true
 eqs a b c d e f = ap₂ _&&_ (eq-eqb a b e) (eq-eqb c d f)
@@ -62,7 +50,7 @@ module _ (M : Map) where
 
   -- the step in direction d of c is the step in direction j of a, seen from a or from its other cell
   pub mark-edge : (c : ℕ) (d : Position) (a : ℕ) (j : Position) → isStep M (positionOf M c) d ≡ true → isStep M (positionOf M a) j ≡ true → a < reached M a j → pairEq (stepPair M c d) (record { lo = a; hi = reached M a j }) ≡ ((eqb c a && eqb (bitOf d) (bitOf j)) || (eqb c (reached M a j) && eqb (bitOf d) (bitOf (opposite j))))
-  mark-edge c d a j s t l = two-way (eqb (min c r) a && eqb (max c r) b) (first || second) found said
+  mark-edge c d a j s t l = same-test {a = eqb (min c r) a && eqb (max c r) b} {b = first || second} found said
     where
       b : ℕ
       b = reached M a j
@@ -107,7 +95,7 @@ module _ (M : Map) where
       near = four M (positionOf M c) d s .nearX
 
       said : (first || second) ≡ true → (eqb (min c r) a && eqb (max c r) b) ≡ true
-      said h = ⊎-elim one other (or-cases first second h)
+      said h = ⊎-elim one other (or-split first second h)
         where
           one : first ≡ true → (eqb (min c r) a && eqb (max c r) b) ≡ true
           one h =
@@ -167,9 +155,3 @@ mark-adds M masks E long m a j h t l c d i s =
     added =
         ap (λ k. (eqb c a && eqb (bitOf d) (bitOf j)) || (eqb c b && eqb (bitOf d) k)) (sym (bit-opposite j (g .nearX) (g .nearY)))
         ∙ sym (mark-edge M c d a j s t l) ∙ sym (or-false _)
-
--- ---- what the flood asks of the masks can be met: masks of zeros are those of the map with no spans
-
-pub cut-none : (w h : ℕ) (cells masks : List ℕ) → ((c : ℕ) → c < h * w → getD masks c 0 ≡ 0) → CutMap w h cells masks (gridOf w h cells)
-unfolding cutAll spanCount gather cellCount
-cut-none w h cells masks z = record { width = refl; height = refl; cells = refl; marks = marks-none (gridOf w h cells) masks z }

@@ -13,9 +13,10 @@ use borrow.Author.Tests.{ltb-true, ltb-false, eq-eqb, ne-eqb}
 use Rattle.definitions.specs.Scan.{countBelow}
 use Rattle.laws.specs.RegionLaws.GraphLaws.{Graph, Laws, root-walks}
 use Rattle.laws.specs.ListLaws.Below.{count-ext}
-use Rattle.flood.specs.State.{used, isName, label, State, Beyond, Ran}
+use Rattle.laws.specs.ListLaws.Beyond.{Beyond, beyond-same, beyond-set, beyond-then}
+use Rattle.flood.specs.State.{used, isName, label, State, Ran}
 use Rattle.flood.proofs.Used.{last-or, count-le, count-in, count-out, count-none, used-some, used-none, used-zero, used-same, used-keeps}
-use Rattle.flood.proofs.States.{label-walks, label-blocked, spare, used-walks, push, raise, beyond-same, beyond-set, beyond-then}
+use Rattle.flood.proofs.States.{label-walks, label-blocked, spare, used-walks, push, raise}
 
 -- The cells before `start` are done, and nothing waits. At entry the labels were `was`, and the queue was `waited`.
 pub record Outer (G : Graph) (was waited : List ℕ) (id : ℕ) (l q : List ℕ) (tail start : ℕ) : Type 0 where

@@ -8,10 +8,11 @@ use mathlib.Core.Bool.{Bool, true, false, true≢false}
 use mathlib.Core.Logic.{_⊎_, inr, ⊎-elim}
 use mathlib.Core.List.{List}
 use lib.ListN.{length, getD, set, length-set}
-use lib.Seq.{getD-set-same, getD-set-other, drop-set-lt}
+use lib.Seq.{getD-set-same, getD-set-other}
 use Rattle.definitions.specs.Scan.{countBelow}
 use Rattle.laws.specs.RegionLaws.GraphLaws.{Graph, Laws}
-use Rattle.flood.specs.State.{used, isName, label, State, Beyond, Ran, Visited, idle, taken}
+use Rattle.laws.specs.ListLaws.Beyond.{beyond-same, beyond-set, beyond-then}
+use Rattle.flood.specs.State.{used, isName, label, State, Ran, Visited, idle, taken}
 use Rattle.flood.proofs.Used.{last-or, count-le, count-lt, used-none, used-pos, used-same, used-keeps, used-new, count-set}
 
 -- ---- labels
@@ -169,15 +170,6 @@ module _ {G : Graph} {id : ℕ} {l q : List ℕ} {head d tail : ℕ} (S : State 
       }
 
 -- ---- what a part of the code leaves
-
-pub beyond-same : (n : ℕ) (l : List ℕ) → Beyond n l l
-beyond-same n l = record { long = refl; rest = refl }
-
-pub beyond-set : (n : ℕ) (l : List ℕ) (i v : ℕ) → i < n → Beyond n l (set l i v)
-beyond-set n l i v h = record { long = length-set l i v; rest = drop-set-lt n l i v h }
-
-pub beyond-then : {n : ℕ} {k l m : List ℕ} → Beyond n k l → Beyond n l m → Beyond n k m
-beyond-then a b = record { long = b .long ∙ a .long; rest = b .rest ∙ a .rest }
 
 module _ {G : Graph} {id : ℕ} where
   pub ran-start : {l q : List ℕ} {head d tail : ℕ} → State G id l q head d tail → Ran G id l q tail l q head d tail

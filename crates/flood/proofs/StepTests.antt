@@ -60,11 +60,6 @@ not-step M p d n = go (isStep M p d) refl
     go true e = absurd (n (four M p d e))
     go false e = refl
 
--- steps depend on the sides and the cells alone
-pub grid-step : (M : Map) (p d : Position) → isStep (gridOf (M .width) (M .height) (M .cells)) p d ≡ isStep M p d
-unfolding isStep walkable
-grid-step M p d = refl
-
 -- where there is a step the position in the direction is in the grid
 pub step-inside : (M : Map) (x y dx dy : ℕ) → isStep M (at x y) (at dx dy) ≡ true → Inside (M .width) (M .height) x y dx dy
 step-inside M x y dx dy s =

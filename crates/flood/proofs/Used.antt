@@ -10,19 +10,13 @@ use mathlib.Core.List.{List}
 use lib.ListN.{length, getD, set}
 use lib.Seq.{getD-set-same, getD-set-other}
 use lib.Arith.{lt-of-le-ne}
-use lib.Dec.{eqb, ltb}
-use borrow.Author.Tests.{ltb-true, ltb-false, lt-ltb, le-ltb, eqb-true, eqb-false}
+use lib.Dec.{ltb}
+use borrow.Author.Tests.{ltb-true, ltb-false, lt-ltb, le-ltb}
 use Rattle.definitions.specs.Scan.{countBelow, bit}
+use Rattle.laws.specs.NumberLaws.Comparisons.{same-or}
 use Rattle.flood.specs.State.{used}
 
 -- ---- numbers below one more
-
-pub same-or : (a b : ℕ) → (a ≡ b) ⊎ (a ≡ b → ⊥)
-same-or a b = go (eqb a b) refl
-  where
-    go : (t : Bool) → eqb a b ≡ t → (a ≡ b) ⊎ (a ≡ b → ⊥)
-    go true e = inl (eqb-true a b e)
-    go false e = inr (eqb-false a b e)
 
 pub last-or : (k m : ℕ) → k < m + 1 → (k ≡ m) ⊎ (k < m)
 last-or k m h = ⊎-elim (λ e. inl e) (λ e. inr (lt-of-le-ne (omega arith) e)) (same-or k m)

@@ -5,10 +5,11 @@ use Prim.Native.Nat.{ℕ, suc, _+_, _≤_, _<_}
 use mathlib.Core.Path.{_≡_}
 use mathlib.Core.Bool.{Bool, true, _&&_, cond}
 use mathlib.Core.List.{List}
-use lib.ListN.{length, getD, set, drop}
+use lib.ListN.{length, getD, set}
 use lib.Dec.{eqb, ltb}
 use Rattle.definitions.specs.Scan.{countBelow}
 use Rattle.laws.specs.RegionLaws.GraphLaws.{Graph}
+use Rattle.laws.specs.ListLaws.Beyond.{Beyond}
 
 -- cell c has a label
 unfoldable pub used : List ℕ → ℕ → Bool
@@ -47,11 +48,6 @@ pub record State (G : Graph) (id : ℕ) (l q : List ℕ) (head d tail : ℕ) : T
   pub part : (e : ℕ) → e < d → G .to (getD q head 0) e < G .n → used l (G .to (getD q head 0) e) ≡ true
 
 -- ---- what a part of the code leaves of the lists that it was handed
-
--- a list of the same length, that is as it was from n on
-pub record Beyond (n : ℕ) (was l : List ℕ) : Type 0 where
-  pub long : length l ≡ length was
-  pub rest : drop n l ≡ drop n was
 
 -- of labels `was` and a queue `waited` of `had` cells
 pub record Ran (G : Graph) (id : ℕ) (was waited : List ℕ) (had : ℕ) (l q : List ℕ) (head d tail : ℕ) : Type 0 where

@@ -10,6 +10,7 @@ use lib.Arith.{digits-div, digits-mod}
 use borrow.Author.Tests.{ltb-true, ltb-false, leb-true, leb-false}
 use Rattle.definitions.specs.Scan.{allBelow, countBelow, bit}
 use Rattle.laws.specs.ListLaws.Tests.{both, same-test}
+use Rattle.laws.specs.ListLaws.ScanSteps.{count-le as count-top}
 use Rattle.game.specs.Game.{Game, Place, moveTo, isMove, runnerHasWon, isOver, Inside}
 use Rattle.game.specs.Places.{size, code, placeOf}
 use Rattle.game.specs.Search.{someMove, everyMove, sweep, winsWithin, sweeps}
@@ -44,15 +45,6 @@ module _ (f g : ℕ → Bool) where
       go : (b : Bool) → ltb c n ≡ b → (c < n → f c ≡ g c) → f c ≡ g c
       go true e ih = ih (ltb-true c n e)
       go false e ih = subst (λ k. f k ≡ g k) (omega (arith, ltb-false c n e)) here
-
-pub count-top : (n : ℕ) (f : ℕ → Bool) → countBelow n f ≤ n
-unfolding countBelow
-count-top zero f = omega arith
-count-top (suc n) f = omega (arith, count-top n f, top (f n))
-  where
-    top : (b : Bool) → bit b ≤ 1
-    top true = omega arith
-    top false = omega arith
 
 module _ (G : Game) where
   -- ---- a sweep is no less where it starts from no less
@@ -164,7 +156,7 @@ module _ (G : Game) where
 
   found-top : (k : ℕ) → found k ≤ 2 * (size G * size G)
   unfolding found
-  found-top k = count-top (2 * (size G * size G)) (λ c. winsWithin G k (placeOf G c))
+  found-top k = count-top (λ c. winsWithin G k (placeOf G c)) (2 * (size G * size G))
 
   -- after k sweeps they have settled, or have found k places at least
   grows : (k : ℕ) → Still k ⊎ (k ≤ found k)

@@ -18,7 +18,7 @@ pub record Least (f : ℕ → Bool) (n : ℕ) (d : ℕ) : Type 0 where
   pub found : f d ≡ true
   pub none : (e : ℕ) → e < d → f e ≡ false
 
-none-at : (n : ℕ) (f : ℕ → Bool) → anyBelow n f ≡ false → (e : ℕ) → e < n → f e ≡ false
+pub none-at : (n : ℕ) (f : ℕ → Bool) → anyBelow n f ≡ false → (e : ℕ) → e < n → f e ≡ false
 none-at n f h e l = go (f e) refl
   where
     go : (b : Bool) → f e ≡ b → f e ≡ false

@@ -17,7 +17,7 @@ use Rattle.definitions.specs.Verdict.{Lent, mapIn, refusal, firstRefusal, recor
 use Rattle.laws.specs.ListLaws.Lists.{All, done, more}
 use Rattle.laws.specs.ListLaws.FlatRows.{rowsIn, rows-of-flat}
 use Rattle.rest_definitions.specs.RestVerdict.{listsFault}
-use Rattle.rest.specs.NumberedRefusals.{Numbered, refusal-numbered, spans-numbered, none-refused}
+use Rattle.laws.specs.TableLaws.AcceptedCalls.{Numbered, refusal-numbered, spans-numbered, none-refused}
 use Rattle.rest.specs.InnerCalls.{all-none}
 use Rattle.game.specs.Game.{Game, Place, Inside}
 use Rattle.game.specs.Play.{Verdict, Judged}

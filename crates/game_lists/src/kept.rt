@@ -27,8 +27,8 @@ pub struct Graph {
 // The spans that are not removed, in list order, and how many there are.
 fn kept_spans(spans: &[u64], removed: &[bool; 256], kept: &mut [u64]) -> usize
     requires { ⌜ (length (now spans) ≤ length (now kept)) × (length (now spans) / numbersPerSpan ≤ maxEntries) ⌝ }
-    ensures { λ r. ⌜ r ≡ leftCount (now (removed .entry)) (length (now (spans .entry)) / numbersPerSpan) ⌝ }
-    ensures { λ r. ⌜ take (numbersPerSpan * r) (now (kept .exit))
+    ensures answer { λ r. ⌜ r ≡ leftCount (now (removed .entry)) (length (now (spans .entry)) / numbersPerSpan) ⌝ }
+    ensures kept { λ r. ⌜ take (numbersPerSpan * r) (now (kept .exit))
         ≡ leftBlocks (now (removed .entry)) numbersPerSpan (now (spans .entry)) (length (now (spans .entry)) / numbersPerSpan) ⌝ }
 {
     let lent = spans.len();

@@ -55,8 +55,8 @@ pub fn play(
     verdicts: &mut [u32],
 ) -> GameAnswer
     requires { ⌜ (numbersPerPair * count ≤ length (now rows)) × (verdictsRoom ≤ length (now verdicts)) ⌝ }
-    ensures { λ r. ⌜ answerIn r ≡ lateAnswer kept regions goal ⌝ }
-    ensures { λ r. ⌜ now (verdicts .exit)
+    ensures answer { λ r. ⌜ answerIn r ≡ lateAnswer kept regions goal ⌝ }
+    ensures verdicts { λ r. ⌜ now (verdicts .exit)
         ≡ verdictsAtExit (graphOf regions (edgesIn (now (rows .entry)) count) goal) (now (verdicts .entry)) (answerIn r .number) ⌝ }
 {
     let answer = answered(kept, regions, goal);

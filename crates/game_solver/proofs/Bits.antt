@@ -1,17 +1,18 @@
 -- Bits of a number of 32: of one with a bit set, of what two have in common; and that one with no bit set is 0. Facts on the place of one bit are tests that
 -- compute. Assumes nothing.
-use Prim.Native.Nat.{ℕ, zero, suc, _+_, _*_, _/_, _%_, _^_, _≤_, _<_, min, max}
+use Prim.Native.Nat.{ℕ, zero, suc, _+_, _*_, _/_, _%_, _^_, _≤_, _<_, min}
 use native.Mathlib.Omega.{arith}
 use native.Mathlib.Nat.{pow-suc}
 use mathlib.Core.Path.{_≡_, refl, sym, ap, ap₂, _∙_, subst}
 use mathlib.Core.Bool.{Bool, true, false, not, _&&_, _||_, cond, false≢true}
 use lib.Dec.{eqb}
-use lib.Bits.{bitAnd, bitOr, and-step, or-step, and-shr, or-shr, and-lt}
+use lib.Bits.{bitAnd, bitOr, and-step, and-shr, and-lt}
 use borrow.Author.Tests.{eqb-true, eqb-false, eq-eqb, ne-eqb}
 use Rattle.definitions.specs.Scan.{anyBelow, allBelow}
 use Rattle.definitions.specs.RegionRecord.{hasBit}
-use Rattle.laws.specs.ListLaws.Tests.{same-test}
-use Rattle.laws.specs.ListLaws.Below.{below-at, below-ext, all-below-at}
+use Rattle.laws.specs.ListLaws.Below.{below-ext, all-below-at}
+use Rattle.laws.specs.RustContext.ElevationMasks.{or-bit}
+use Rattle.game.specs.Sweeps.{none-at}
 use Rattle.game_solver.specs.Words.{doMeet}
 
 -- ---- one bit
@@ -38,26 +39,11 @@ shifted-one k h = eqb-true _ _ (all-below-at 32 (λ k. eqb (1 * 2 ^ k % 42949672
 
 -- ---- the bits of both, and of either
 
-or-odd : (a b : ℕ) → bitOr a b % 2 ≡ max (a % 2) (b % 2)
-or-odd a b = ap (λ x. x % 2) (or-step a b) ∙ rest
-  where
-    rest : (bitOr (a / 2) (b / 2) * 2 + max (a % 2) (b % 2)) % 2 ≡ max (a % 2) (b % 2)
-    rest = omega arith
-
 and-odd : (a b : ℕ) → bitAnd a b % 2 ≡ min (a % 2) (b % 2)
 and-odd a b = ap (λ x. x % 2) (and-step a b) ∙ rest
   where
     rest : (bitAnd (a / 2) (b / 2) * 2 + min (a % 2) (b % 2)) % 2 ≡ min (a % 2) (b % 2)
     rest = omega arith
-
-either-bit : (x y : ℕ) → x < 2 → y < 2 → eqb (max x y) 1 ≡ (eqb x 1 || eqb y 1)
-either-bit zero zero h k = refl
-either-bit zero (suc zero) h k = refl
-either-bit (suc zero) zero h k = refl
-either-bit (suc zero) (suc zero) h k = refl
-either-bit (suc (suc x)) y h k = absurd (omega arith)
-either-bit zero (suc (suc y)) h k = absurd (omega arith)
-either-bit (suc zero) (suc (suc y)) h k = absurd (omega arith)
 
 both-bit : (x y : ℕ) → x < 2 → y < 2 → eqb (min x y) 1 ≡ (eqb x 1 && eqb y 1)
 both-bit zero zero h k = refl
@@ -67,9 +53,6 @@ both-bit (suc zero) (suc zero) h k = refl
 both-bit (suc (suc x)) y h k = absurd (omega arith)
 both-bit zero (suc (suc y)) h k = absurd (omega arith)
 both-bit (suc zero) (suc (suc y)) h k = absurd (omega arith)
-
-pub or-bit : (a b j : ℕ) → hasBit (bitOr a b) j ≡ (hasBit a j || hasBit b j)
-or-bit a b j = ap (λ x. eqb x 1) (ap (λ x. x % 2) (or-shr a b j) ∙ or-odd (a / 2 ^ j) (b / 2 ^ j)) ∙ either-bit (a / 2 ^ j % 2) (b / 2 ^ j % 2) (omega arith) (omega arith)
 
 pub and-bit : (a b j : ℕ) → hasBit (bitAnd a b) j ≡ (hasBit a j && hasBit b j)
 and-bit a b j = ap (λ x. eqb x 1) (ap (λ x. x % 2) (and-shr a b j) ∙ and-odd (a / 2 ^ j) (b / 2 ^ j)) ∙ both-bit (a / 2 ^ j % 2) (b / 2 ^ j % 2) (omega arith) (omega arith)
@@ -107,13 +90,6 @@ no-bits (suc k) n h none = omega (arith, no-bits k (n / 2) half (λ j l. sym (ha
         go true e = absurd (false≢true (sym (none 0 (omega arith)) ∙ one ∙ e))
         go false e = omega (arith, eqb-false (n % 2) 1 e)
 
-none-below : (n : ℕ) (f : ℕ → Bool) → anyBelow n f ≡ false → (j : ℕ) → j < n → f j ≡ false
-none-below n f h j l = go (f j) refl
-  where
-    go : (b : Bool) → f j ≡ b → f j ≡ false
-    go true e = absurd (false≢true (sym h ∙ below-at n f j l e))
-    go false e = e
-
 -- two sets meet where what they have in common is not 0
 pub meet-is : (a b : ℕ) → a < 4294967296 → b < 4294967296 → not (eqb (bitAnd a b) 0) ≡ doMeet a b
 unfolding doMeet allBelow
@@ -123,7 +99,7 @@ meet-is a b h k = go (doMeet a b) refl
     common d = hasBit a d && hasBit b d
 
     go : (t : Bool) → doMeet a b ≡ t → not (eqb (bitAnd a b) 0) ≡ t
-    go false e = ap not (eq-eqb (bitAnd a b) 0 (no-bits 32 (bitAnd a b) (and-lt 32 a b h k) (λ j l. and-bit a b j ∙ none-below 32 common e j l)))
+    go false e = ap not (eq-eqb (bitAnd a b) 0 (no-bits 32 (bitAnd a b) (and-lt 32 a b h k) (λ j l. and-bit a b j ∙ none-at 32 common e j l)))
     go true e = ap not (ne-eqb (bitAnd a b) 0 (λ z. false≢true (sym (nowhere z) ∙ e)))
       where
         nowhere : bitAnd a b ≡ 0 → anyBelow 32 common ≡ false

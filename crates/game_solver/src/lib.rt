@@ -84,8 +84,8 @@ pub fn solve(regions: usize, pairs: &[u32], goal: usize, verdicts: &mut [u32])
 
 // And of the graph of a map, whose first `count` rows of span, smaller and larger region are its pairs.
 pub fn solve_rows(regions: usize, rows: &[u32], count: usize, goal: usize, verdicts: &mut [u32])
-    requires { ⌜ (regions ≤ maxGameRegions) × (1 ≤ goal) × (goal ≤ regions) × (verdictsRoom ≤ length (now verdicts)) ⌝ }
-    requires { ⌜ numbersPerPair * count ≤ length (now rows) ⌝ }
+    requires sizes { ⌜ (regions ≤ maxGameRegions) × (1 ≤ goal) × (goal ≤ regions) × (verdictsRoom ≤ length (now verdicts)) ⌝ }
+    requires rows { ⌜ numbersPerPair * count ≤ length (now rows) ⌝ }
     ensures { λ r. ⌜ now (verdicts .exit)
         ≡ overwrite (verdictNumbers (graphOf regions (edgesIn (now (rows .entry)) count) goal) (placeCount regions)) (now (verdicts .entry)) ⌝ }
 {

@@ -20,8 +20,8 @@ fn is_region(regions: usize, d: u32) -> bool
 // A step from region a + 1 to region b + 1.
 fn join(near: &mut [u32; 32], a: usize, b: usize)
     requires { ⌜ (a < 32) × (b < 32) × (length (now near) ≡ 32) ⌝ }
-    ensures { λ r. ⌜ ((i j : ℕ) → i < 32 → j < 32 → bitAt (now (near .exit)) i j ≡ (bitAt (now (near .entry)) i j || (eqb i a && eqb j b))) ⌝ }
-    ensures { λ r. ⌜ length (now (near .exit)) ≡ 32 ⌝ }
+    ensures joined { λ r. ⌜ ((i j : ℕ) → i < 32 → j < 32 → bitAt (now (near .exit)) i j ≡ (bitAt (now (near .entry)) i j || (eqb i a && eqb j b))) ⌝ }
+    ensures near_length { λ r. ⌜ length (now (near .exit)) ≡ 32 ⌝ }
 {
     near[a] = with(near[a], b);
 }
@@ -29,9 +29,9 @@ fn join(near: &mut [u32; 32], a: usize, b: usize)
 // Steps both ways between the regions of a pair, if both are regions.
 fn join_pair(near: &mut [u32; 32], regions: usize, p: u32, q: u32)
     requires { ⌜ (regions ≤ 32) × (length (now near) ≡ 32) ⌝ }
-    ensures { λ r. ⌜ ((i j : ℕ) → i < 32 → j < 32 → bitAt (now (near .exit)) i j
+    ensures joined { λ r. ⌜ ((i j : ℕ) → i < 32 → j < 32 → bitAt (now (near .exit)) i j
         ≡ (bitAt (now (near .entry)) i j || (isRegion regions p && isRegion regions q && joins p q (suc i) (suc j)))) ⌝ }
-    ensures { λ r. ⌜ length (now (near .exit)) ≡ 32 ⌝ }
+    ensures near_length { λ r. ⌜ length (now (near .exit)) ≡ 32 ⌝ }
 {
     if !(is_region(regions, p) & is_region(regions, q)) {
         return;
@@ -45,8 +45,8 @@ fn join_pair(near: &mut [u32; 32], regions: usize, p: u32, q: u32)
 // Every region may be stayed on.
 fn join_selves(near: &mut [u32; 32])
     requires { ⌜ length (now near) ≡ 32 ⌝ }
-    ensures { λ r. ⌜ ((i j : ℕ) → i < 32 → j < 32 → bitAt (now (near .exit)) i j ≡ eqb j i) ⌝ }
-    ensures { λ r. ⌜ length (now (near .exit)) ≡ 32 ⌝ }
+    ensures joined { λ r. ⌜ ((i j : ℕ) → i < 32 → j < 32 → bitAt (now (near .exit)) i j ≡ eqb j i) ⌝ }
+    ensures near_length { λ r. ⌜ length (now (near .exit)) ≡ 32 ⌝ }
 {
     let mut i = 0;
     while i < 32 {
@@ -58,8 +58,8 @@ fn join_selves(near: &mut [u32; 32])
 // The steps of the graph of these pairs.
 pub fn find_neighbours(regions: usize, pairs: &[u32], near: &mut [u32; 32])
     requires { ⌜ (regions ≤ 32) × (length (now near) ≡ 32) ⌝ }
-    ensures { λ r. ⌜ ((goal : ℕ) → Near (graphOf regions (now (pairs .entry)) goal) (now (near .exit))) ⌝ }
-    ensures { λ r. ⌜ length (now (near .exit)) ≡ 32 ⌝ }
+    ensures near { λ r. ⌜ ((goal : ℕ) → Near (graphOf regions (now (pairs .entry)) goal) (now (near .exit))) ⌝ }
+    ensures near_length { λ r. ⌜ length (now (near .exit)) ≡ 32 ⌝ }
 {
     join_selves(near);
     let count = pairs.len() / 2;
@@ -73,8 +73,8 @@ pub fn find_neighbours(regions: usize, pairs: &[u32], near: &mut [u32; 32])
 // The steps of the graph of the first `count` rows of span, smaller and larger region.
 pub fn find_row_neighbours(regions: usize, rows: &[u32], count: usize, near: &mut [u32; 32])
     requires { ⌜ (regions ≤ 32) × (length (now near) ≡ 32) × (numbersPerPair * count ≤ length (now rows)) ⌝ }
-    ensures { λ r. ⌜ ((goal : ℕ) → Near (graphOf regions (edgesIn (now (rows .entry)) count) goal) (now (near .exit))) ⌝ }
-    ensures { λ r. ⌜ length (now (near .exit)) ≡ 32 ⌝ }
+    ensures near { λ r. ⌜ ((goal : ℕ) → Near (graphOf regions (edgesIn (now (rows .entry)) count) goal) (now (near .exit))) ⌝ }
+    ensures near_length { λ r. ⌜ length (now (near .exit)) ≡ 32 ⌝ }
 {
     join_selves(near);
     let mut k = 0;

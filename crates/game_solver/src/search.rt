@@ -66,8 +66,8 @@ fn sweep(
     guards: &mut [u32; 32],
 )
     requires { ⌜ Sized regions goal × (length (now runners) ≡ 32) × (length (now guards) ≡ 32) ⌝ }
-    ensures { λ r. ⌜ Swept (now (near .entry)) regions goal (now (runner .entry)) (now (guard .entry)) (now (runners .exit)) (now (guards .exit)) ⌝ }
-    ensures { λ r. ⌜ (length (now (runners .exit)) ≡ 32) × (length (now (guards .exit)) ≡ 32) ⌝ }
+    ensures swept { λ r. ⌜ Swept (now (near .entry)) regions goal (now (runner .entry)) (now (guard .entry)) (now (runners .exit)) (now (guards .exit)) ⌝ }
+    ensures lengths { λ r. ⌜ (length (now (runners .exit)) ≡ 32) × (length (now (guards .exit)) ≡ 32) ⌝ }
 {
     let mut g = 0;
     while g < regions {
@@ -102,9 +102,9 @@ fn rank_of(old: u32, new: u32, r: usize, had: u32, rank: u32) -> u32
 // Ranks the places of one guard's region and turn that are in the new set and not in the old one. `at` is where the first of them has its rank.
 fn put_row(old: u32, new: u32, at: usize, rank: u32, ranks: &mut [u32; 2048])
     requires { ⌜ (at < 64) × (length (now ranks) ≡ 2048) ⌝ }
-    ensures { λ r. ⌜ ((i : ℕ) → i < 2048 → getD (now (ranks .exit)) i 0
+    ensures ranks { λ r. ⌜ ((i : ℕ) → i < 2048 → getD (now (ranks .exit)) i 0
         ≡ cond (eqb (i % 64) at && isNew old new (i / 64)) rank (getD (now (ranks .entry)) i 0)) ⌝ }
-    ensures { λ r. ⌜ length (now (ranks .exit)) ≡ 2048 ⌝ }
+    ensures ranks_length { λ r. ⌜ length (now (ranks .exit)) ≡ 2048 ⌝ }
 {
     if old == new {
         return;
@@ -127,9 +127,9 @@ fn put_ranks(
     ranks: &mut [u32; 2048],
 )
     requires { ⌜ length (now ranks) ≡ 2048 ⌝ }
-    ensures { λ r. ⌜ ((i : ℕ) → i < 2048 → getD (now (ranks .exit)) i 0
+    ensures ranks { λ r. ⌜ ((i : ℕ) → i < 2048 → getD (now (ranks .exit)) i 0
         ≡ rankedBy (now (runner .entry)) (now (guard .entry)) (now (runners .entry)) (now (guards .entry)) rank (now (ranks .entry)) i) ⌝ }
-    ensures { λ r. ⌜ length (now (ranks .exit)) ≡ 2048 ⌝ }
+    ensures ranks_length { λ r. ⌜ length (now (ranks .exit)) ≡ 2048 ⌝ }
 {
     let mut at = 0;
     while at < RANKS_PER_RUNNER {
@@ -143,8 +143,8 @@ fn put_ranks(
 // The ranks of all places.
 pub fn search(near: &[u32; 32], regions: usize, goal: usize, ranks: &mut [u32; 2048])
     requires { ⌜ Sized regions goal × (now ranks ≡ replicate 2048 0) ⌝ }
-    ensures { λ r. ⌜ ((G : Game) → Plays (now (near .entry)) regions goal G → Ranked G (now (ranks .exit))) ⌝ }
-    ensures { λ r. ⌜ length (now (ranks .exit)) ≡ 2048 ⌝ }
+    ensures ranked { λ r. ⌜ ((G : Game) → Plays (now (near .entry)) regions goal G → Ranked G (now (ranks .exit))) ⌝ }
+    ensures ranks_length { λ r. ⌜ length (now (ranks .exit)) ≡ 2048 ⌝ }
 {
     let mut runner = [0u32; 32];
     let mut guard = [0u32; 32];

@@ -58,9 +58,9 @@ fn region_for(
     turn: usize,
 ) -> usize
     requires { ⌜ AtPlace regions r g turn ⌝ }
-    ensures { λ d. ⌜ ((G : Game) (goal : ℕ) → Plays (now (near .entry)) regions goal G →
+    ensures answer { λ d. ⌜ ((G : Game) (goal : ℕ) → Plays (now (near .entry)) regions goal G →
         d ≡ leastBelow (suc regions) (servesBy G (rankAt (now (ranks .entry))) (at r g (eqb turn 0)))) ⌝ }
-    ensures { λ d. ⌜ d ≤ 32 ⌝ }
+    ensures bound { λ d. ⌜ d ≤ 32 ⌝ }
 {
     let mut d = 1;
     while d < regions {
@@ -84,9 +84,9 @@ fn region_at(
     rank: u32,
 ) -> usize
     requires { ⌜ AtPlace regions r g turn ⌝ }
-    ensures { λ d. ⌜ ((G : Game) → Plays (now (near .entry)) regions goal G → rank ≡ rankAt (now (ranks .entry)) (at r g (eqb turn 0)) →
+    ensures answer { λ d. ⌜ ((G : Game) → Plays (now (near .entry)) regions goal G → rank ≡ rankAt (now (ranks .entry)) (at r g (eqb turn 0)) →
         d ≡ verdictBy G (rankAt (now (ranks .entry))) (at r g (eqb turn 0)) .region) ⌝ }
-    ensures { λ d. ⌜ d ≤ 32 ⌝ }
+    ensures bound { λ d. ⌜ d ≤ 32 ⌝ }
 {
     if (r == g) | (r == goal) {
         return 0;

@@ -1,4 +1,4 @@
--- The number and the value of each answer (document 01, 'Hypotenuse'), and what the contract of `hypotenuse` says in these words: it leaves one answer to each pair of doubles. Assumes nothing.
+-- The number and the value of each answer (SPECIFICATION 6), and what the contract of `hypotenuse` says in these words: it leaves one answer to each pair of doubles. Assumes nothing.
 use mathlib.Core.Path.{_≡_, refl, ap, _∙_}
 use mathlib.Core.Bool.{true, false, cond, _&&_}
 use Prim.Native.Nat.{ℕ}

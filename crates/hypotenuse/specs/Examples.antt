@@ -1,4 +1,4 @@
--- The one answer that the contract of `hypotenuse` allows at the examples of document 01, at a tie each way, and at the first doubles out of range. Assumes nothing.
+-- The one answer that the contract of `hypotenuse` allows at the examples of SPECIFICATION 6, at a tie each way, and at the first doubles out of range. Assumes nothing.
 use mathlib.Core.Path.{_≡_, refl}
 use Prim.Native.Nat.{ℕ}
 use lib.Ieee.{binary64, ofBits}

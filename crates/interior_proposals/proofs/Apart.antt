@@ -17,7 +17,8 @@ use Rattle.laws.specs.ListLaws.Tests.{both}
 use Rattle.laws.specs.ListLaws.Members.{all-at, any-member}
 use Rattle.laws.specs.ListLaws.Below.{below-at}
 use Rattle.laws.specs.ListLaws.NumberLists.{member-append}
-use Rattle.context.specs.OneMore.{last-or, any-counted}
+use Rattle.laws.specs.NumberLaws.Comparisons.{last-or}
+use Rattle.laws.specs.RegionLaws.OneMore.{any-counted}
 use Rattle.interior_proposals.specs.Leaves.{Single}
 use Rattle.interior_proposals.proofs.RowScans.{all-holds}
 

@@ -114,9 +114,6 @@ module _ (C : Context) (r : ℕ) where
     parts : ((named && (some && few)) ≡ true) × (not spoiltAny ≡ true)
     parts = both (named && (some && few)) (not spoiltAny) (sym candidate-is ∙ h)
 
-    pub candidate-own : eqb (componentOf C (components C) r) r ≡ true
-    candidate-own = both named (some && few) (parts .0) .0
-
     pub candidate-some : leb 1 (countBelow (C .count) (edge C r)) ≡ true
     candidate-some = both some few (both named (some && few) (parts .0) .1) .0
 

@@ -2,7 +2,7 @@
 use Prim.Native.Nat.{ℕ, _+_, _-_, _%_, _≤_, _<_}
 use mathlib.Core.Path.{_≡_, refl, sym, ap, ap₂, subst, _∙_}
 use mathlib.Core.Bool.{Bool, true, false, not, _&&_, _||_, cond, or-false, or-true, or-assoc, and-true, false≢true}
-use mathlib.Core.List.{List, [], _∷_, _++_, append-nil, append-assoc}
+use mathlib.Core.List.{List, [], _∷_, _++_, append-nil}
 use lib.ListN.{set}
 use lib.Dec.{eqb, leb}
 use Rattle.definitions.specs.Scan.{any, member, concatMap, bit}
@@ -11,27 +11,22 @@ use Rattle.definitions.specs.Context.{Context}
 use Rattle.definitions.specs.RampInteriors.{insideCount, pairExterior, exteriors}
 use Rattle.laws.specs.OrderLaws.ListOrder.{eqb-sym}
 use Rattle.laws.specs.ListLaws.NumberLists.{member-append}
+use Rattle.laws.specs.ListLaws.Beyond.{Beyond, beyond-same, beyond-then}
+use Rattle.laws.specs.RustJunctions.JunctionsAsRust.{concat-append}
 use Rattle.context.specs.Shown.{pairAt, pairsBetween}
-use Rattle.interior_proposals.specs.Forest.{Beyond}
 use Rattle.interior_proposals.specs.Given.{Marked}
 use Rattle.interior_proposals.specs.Owners.{Walkable, entryAt}
 use Rattle.interior_proposals.specs.Leaves.{Inside, Exteriored, Cleared}
 use Rattle.interior_proposals.proofs.RowScans.{between-none, between-next, between-end, any-rows-none, any-rows-next, any-rows-end, all-rows-next, all-rows-none}
-use Rattle.interior_proposals.proofs.Forests.{beyond-same, beyond-then}
 use Rattle.interior_proposals.proofs.Walks.{low-in, high-in}
 use Rattle.interior_proposals.proofs.MarkLaws.{marked-same, marked-on, marked-off, mark-beyond}
 
 -- ---- lists
 
-joined-append : {A B : Type 0} (f : A → List B) (l m : List A) → concatMap f (l ++ m) ≡ concatMap f l ++ concatMap f m
-unfolding concatMap
-joined-append f [] m = refl
-joined-append f (x ∷ l) m = ap (λ r. f x ++ r) (joined-append f l m) ∙ sym (append-assoc (f x) (concatMap f l) (concatMap f m))
-
 exteriors-last : (rs : List ℕ) (l : List Pair) (p : Pair) (x : ℕ) → member x (exteriors rs (l ++ (p ∷ []))) ≡ (member x (exteriors rs l) || member x (pairExterior rs p))
 unfolding exteriors concatMap
 exteriors-last rs l p x =
-    ap (member x) (joined-append (pairExterior rs) l (p ∷ []) ∙ ap (λ m. concatMap (pairExterior rs) l ++ m) (append-nil (pairExterior rs p)))
+    ap (member x) (concat-append (pairExterior rs) l (p ∷ []) ∙ ap (λ m. concatMap (pairExterior rs) l ++ m) (append-nil (pairExterior rs p)))
     ∙ member-append x (concatMap (pairExterior rs) l) (pairExterior rs p)
 
 -- ---- one pair, of which a and b say whether its regions are in rs

@@ -7,28 +7,20 @@ use mathlib.Core.Bool.{Bool, true, false, cond}
 use mathlib.Core.Logic.{⊎-elim}
 use mathlib.Core.List.{List, [], _∷_, _++_}
 use lib.ListN.{length, getD, set, length-set}
-use lib.Seq.{getD-set-same, getD-set-other, drop-set-lt}
+use lib.Seq.{getD-set-same, getD-set-other}
 use lib.Dec.{ltb}
 use borrow.Author.Tests.{ltb-true, ltb-false, eq-eqb, ne-eqb}
 use Rattle.definitions.specs.Grid.{Pair}
 use Rattle.definitions.specs.Partition.{merge, mergeAll}
 use Rattle.laws.specs.RegionLaws.Merging.{merged, merge-at, merge-length, mergeAll-length, merged-one}
 use Rattle.laws.specs.RegionLaws.MergingInside.{min-l, min-r, max-l, max-r}
-use Rattle.context.specs.OneMore.{same-or}
+use Rattle.laws.specs.ListLaws.Beyond.{Beyond, beyond-same, beyond-set, beyond-then}
+use Rattle.laws.specs.NumberLaws.Comparisons.{same-or}
 use Rattle.context.specs.Shown.{pairAt, pairsBetween}
-use Rattle.interior_proposals.specs.Forest.{Beyond, Parented, Found, Placed, Merged, Names}
+use Rattle.interior_proposals.specs.Forest.{Parented, Found, Placed, Merged, Names}
 use Rattle.interior_proposals.proofs.RowScans.{between-none, between-next, between-end}
 
 -- ---- what stays
-
-pub beyond-same : (n : ℕ) (l : List ℕ) → Beyond n l l
-beyond-same n l = record { long = refl; rest = refl }
-
-pub beyond-set : (n : ℕ) (l : List ℕ) (i v : ℕ) → i < n → Beyond n l (set l i v)
-beyond-set n l i v h = record { long = length-set l i v; rest = drop-set-lt n l i v h }
-
-pub beyond-then : {n : ℕ} {k l m : List ℕ} → Beyond n k l → Beyond n l m → Beyond n k m
-beyond-then a b = record { long = b .long ∙ a .long; rest = b .rest ∙ a .rest }
 
 -- ---- a new parent
 

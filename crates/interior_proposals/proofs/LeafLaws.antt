@@ -14,11 +14,12 @@ use Rattle.definitions.specs.Context.{Context, isIncident, incidentCount}
 use Rattle.definitions.specs.RampInteriors.{Expansion, insideCount, exteriors, invalid, addLeaf, expandPair, expandPairs, expandPort}
 use Rattle.laws.specs.ListLaws.Tests.{both}
 use Rattle.laws.specs.ListLaws.NumberLists.{member-append}
+use Rattle.laws.specs.ListLaws.Beyond.{beyond-same, beyond-set, beyond-then}
 use Rattle.interior_proposals.specs.Given.{Marked}
 use Rattle.context.specs.Shown.{pairAt, pairsBetween}
 use Rattle.interior_proposals.specs.Owners.{Walkable, entryAt}
 use Rattle.interior_proposals.specs.Leaves.{Inside, Single, Grown, Exteriored, Cleared, from, Held, Ported, RowOf, Walked}
-use Rattle.interior_proposals.proofs.Forests.{set-case, beyond-same, beyond-set, beyond-then}
+use Rattle.interior_proposals.proofs.Forests.{set-case}
 use Rattle.interior_proposals.proofs.RowScans.{between-none, between-next, between-end, any-rows-at}
 use Rattle.interior_proposals.proofs.Walks.{low-in, high-in}
 use Rattle.interior_proposals.proofs.MarkLaws.{exterior-is, leaf-is}
@@ -122,9 +123,6 @@ module _ (C : Context) (i r : ℕ) (rs es : List ℕ) (v : Bool) {names marks : 
 
         x-incident : isIncident C i x ≡ true
         x-incident = of-row (λ y. isIncident C i y ≡ true) (W .lowIncident) (W .highIncident)
-
-        pub leaf-placed : {n : ℕ} → C .regions ≤ n → (1 ≤ x) × (x ≤ n)
-        leaf-placed l = (x-in .0, omega (arith, x-in .1))
 
         module _ {t : Bool} (u : t ≡ eqb (entryAt marks x % 4) 2) where
           passes : t ≡ (not (C .anchored x) && eqb (incidentCount C x) 1)

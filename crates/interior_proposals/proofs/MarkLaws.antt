@@ -8,10 +8,10 @@ use lib.ListN.{length, set, length-set}
 use lib.Dec.{eqb, leb}
 use borrow.Author.Tests.{eq-eqb, ne-eqb}
 use Rattle.definitions.specs.Context.{Context, incidentCount}
-use Rattle.interior_proposals.specs.Forest.{Beyond}
+use Rattle.laws.specs.ListLaws.Beyond.{Beyond, beyond-set}
 use Rattle.interior_proposals.specs.Given.{flagsOf, Marked}
 use Rattle.interior_proposals.specs.Owners.{entryAt}
-use Rattle.interior_proposals.proofs.Forests.{set-case, beyond-set}
+use Rattle.interior_proposals.proofs.Forests.{set-case}
 
 -- ---- bits
 

@@ -10,7 +10,7 @@ use mathlib.Core.List.{List, [], _∷_, _++_, append-nil, append-assoc}
 use Rattle.definitions.specs.Scan.{collect, toList, onlyIf}
 use Rattle.definitions.specs.Context.{Context}
 use Rattle.definitions.specs.RampInteriors.{components, componentPorts}
-use Rattle.context.specs.OneMore.{last-or}
+use Rattle.laws.specs.NumberLaws.Comparisons.{last-or}
 use Rattle.interior_proposals.specs.Candidates.{port, NextPort, twoPorts}
 use Rattle.interior_proposals.specs.declared.ports.Ports.the-variants as ports
 

@@ -14,8 +14,9 @@ use Rattle.definitions.specs.Context.{Context}
 use Rattle.definitions.specs.RampInteriors.{isOrdinary, links, components}
 use Rattle.laws.specs.ListLaws.Lists.{All, length-run}
 use Rattle.laws.specs.RegionLaws.Merging.{run-at, mergeAll-length}
+use Rattle.laws.specs.ListLaws.Beyond.{Beyond}
 use Rattle.context.specs.Shown.{ShownAnchored, ShownIncidents, ShownPairs, pairAt, pairsBetween}
-use Rattle.interior_proposals.specs.Forest.{Beyond, Parented, Rows, Merged}
+use Rattle.interior_proposals.specs.Forest.{Parented, Rows, Merged}
 use Rattle.interior_proposals.specs.Given.{flagsOf, alone, linksOf, Prepared}
 use Rattle.interior_proposals.proofs.RowScans.{between-at}
 use Rattle.interior_proposals.proofs.Stored.{Stored}

@@ -16,17 +16,14 @@ use Rattle.laws.specs.ListLaws.Below.{below-at}
 use Rattle.laws.specs.ListLaws.ScanSteps.{any-next, any-fails-at}
 use Rattle.laws.specs.RustContext.SoundContext.{Sound}
 use Rattle.laws.specs.RustInteriors.ComponentRegions.{inside}
-use Rattle.context.specs.OneMore.{last-or}
-use Rattle.interior_proposals.specs.Given.{Known}
+use Rattle.laws.specs.ListLaws.Beyond.{beyond-same, beyond-then}
+use Rattle.laws.specs.NumberLaws.Comparisons.{last-or}
 use Rattle.interior_proposals.specs.Owners.{several, allIn, edge, Owners}
 use Rattle.interior_proposals.specs.Candidates.{Told, candidate}
 use Rattle.interior_proposals.specs.Leaves.{Inside}
 use Rattle.interior_proposals.specs.Proposals.{expandedOf, fittingPorts, proposedPorts, Facing, Leafed, Proposed, isFirst, firstOf, secondOf, foundPorts, Progress, Owning, FoundAll}
 use Rattle.interior_proposals.specs.declared.ports.Ports.{Ports}
 use Rattle.interior_proposals.specs.declared.ports.Ports.the-variants as ports
-use Rattle.interior_proposals.proofs.Forests.{beyond-same, beyond-then}
-use Rattle.interior_proposals.proofs.Preparing.{components-size}
-use Rattle.interior_proposals.proofs.Walks.{names-long}
 use Rattle.interior_proposals.proofs.Stored.{filled-more}
 use Rattle.interior_proposals.proofs.NoConflict.{Fit, regions-apart, loose-edge}
 use Rattle.interior_proposals.proofs.Removed.{fit-of}
@@ -232,13 +229,3 @@ found-more C owners firsts seconds i F k l d e q j m = (
 )
 
 -- ---- before the first boundary
-
-pub progress-start : {C : Context} {marks names : List ℕ} (owners : List ℕ) → Known C marks names → Progress C owners names names marks marks 0
-progress-start {C} {marks} {names} owners K =
-    record {
-      long = names-long C (K .named);
-      unmet = λ q a b e n. record { long = names-long C (K .named); at = λ x c d. ap (λ m. eqb m q) (K .named .at x c (omega (arith, components-size C))) };
-      settled = λ j l. absurd (omega arith);
-      beyond = beyond-same (C .regions) names;
-      cleared = record { marked = K .marked; beyond = beyond-same (C .regions) marks };
-    }

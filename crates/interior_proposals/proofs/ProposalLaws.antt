@@ -16,7 +16,8 @@ use Rattle.laws.specs.ListLaws.Lists.{All, done, more}
 use Rattle.laws.specs.ListLaws.ScanSteps.{all-intro}
 use Rattle.laws.specs.SetLaws.Sets.{numbersBelow, below-all}
 use Rattle.laws.specs.RustInteriors.ComponentRegions.{allInside, region-members}
-use Rattle.context.specs.OneMore.{any-counted}
+use Rattle.laws.specs.ListLaws.Beyond.{beyond-same, beyond-then}
+use Rattle.laws.specs.RegionLaws.OneMore.{any-counted}
 use Rattle.context.specs.Shown.{ShownPairs}
 use Rattle.interior_proposals.specs.Owners.{entryAt, allIn, edge}
 use Rattle.interior_proposals.specs.Candidates.{spoilsAt, candidate, port, twoPorts}
@@ -24,7 +25,6 @@ use Rattle.interior_proposals.specs.Fits.{Listed}
 use Rattle.interior_proposals.specs.Leaves.{Inside, PortReachable, Single, from, Ported, Walked, BothWalked}
 use Rattle.interior_proposals.specs.Proposals.{expandedOf, fittingPorts, proposedPorts, Facing, Leafed, Spread, Proposed}
 use Rattle.interior_proposals.specs.declared.ports.Ports.the-variants as ports
-use Rattle.interior_proposals.proofs.Forests.{beyond-same, beyond-then}
 use Rattle.interior_proposals.proofs.Walks.{shown-walkable}
 use Rattle.interior_proposals.proofs.CandidateLaws.{within, candidate-some, candidate-unspoilt}
 use Rattle.interior_proposals.proofs.Bools.{first-two}

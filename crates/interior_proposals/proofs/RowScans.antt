@@ -1,7 +1,6 @@
 -- The pairs of rows, row by row. Assumes nothing.
 use Prim.Native.Nat.{ℕ, zero, suc, _+_, _-_, _≤_, _<_}
 use native.Mathlib.Omega.{arith}
-use native.Mathlib.Nat.{add-zero}
 use mathlib.Core.Path.{_≡_, refl, sym, ap, subst, _∙_}
 use mathlib.Core.Bool.{Bool, true, false, _&&_, _||_, or-false, and-true, true≢false}
 use mathlib.Core.List.{List, [], _∷_, _++_, map}
@@ -9,17 +8,12 @@ use mathlib.Core.Logic.{⊎-elim}
 use lib.Arith.{lt-of-le-ne}
 use Rattle.definitions.specs.Scan.{run, any, all}
 use Rattle.definitions.specs.Grid.{Pair}
-use Rattle.laws.specs.ListLaws.Lists.{All, done, more, map-append, any-append}
+use Rattle.laws.specs.ListLaws.Lists.{All, done, more, map-append, any-append, run-last}
 use Rattle.laws.specs.ListLaws.Tests.{both}
 use Rattle.laws.specs.ListLaws.ScansOfAll.{all-append-test}
 use Rattle.laws.specs.ListLaws.Members.{any-failed}
-use Rattle.context.specs.OneMore.{same-or}
+use Rattle.laws.specs.NumberLaws.Comparisons.{same-or}
 use Rattle.context.specs.Shown.{pairAt, pairsBetween}
-
-run-last : (s n : ℕ) → run s (suc n) ≡ run s n ++ ((s + n) ∷ [])
-unfolding run
-run-last s zero = ap {B = List ℕ} (λ x. x ∷ []) (sym (add-zero s))
-run-last s (suc n) = ap {B = List ℕ} (λ l. s ∷ l) (run-last (suc s) n ∙ ap (λ x. run (suc s) n ++ (x ∷ [])) (omega arith))
 
 module _ (rows : List ℕ) (first : ℕ) where
   pub between-none : pairsBetween rows first first ≡ []

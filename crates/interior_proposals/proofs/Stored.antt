@@ -7,7 +7,7 @@ use mathlib.Core.List.{List}
 use lib.ListN.{length, getD, set}
 use lib.Seq.{getD-set-same, getD-set-other}
 use lib.Arith.{lt-of-le-ne}
-use Rattle.context.specs.OneMore.{same-or}
+use Rattle.laws.specs.NumberLaws.Comparisons.{same-or}
 
 pub record Stored (f : ℕ → ℕ) (was l : List ℕ) (k : ℕ) : Type 0 where
   pub done : (j : ℕ) → j < k → getD l j 0 ≡ f j

@@ -8,7 +8,7 @@ use Rattle.definitions.specs.Limits.{numbersPerPair}
 use Rattle.definitions.specs.Context.{Context}
 use Rattle.definitions.specs.RampInteriors.{components}
 use Rattle.context.specs.Shown.{pairAt, ShownPairs}
-use Rattle.context.specs.ShownLaws.{shown-stretch}
+use Rattle.context.proofs.ShownLaws.{shown-stretch}
 use Rattle.interior_proposals.specs.Forest.{Names}
 use Rattle.interior_proposals.specs.Owners.{Walkable}
 use Rattle.interior_proposals.proofs.Preparing.{rows-placed, components-size}

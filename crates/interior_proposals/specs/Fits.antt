@@ -7,19 +7,12 @@ use lib.ListN.{length}
 use lib.Dec.{eqb}
 use lib.Ieee.{le}
 use Rattle.definitions.specs.Limits.{numbersPerBoundary, talliesPerSpan}
-use Rattle.definitions.specs.Grid.{segmentAt}
 use Rattle.definitions.specs.Geometry.{Point, center, distance}
 use Rattle.definitions.specs.RegionRecord.{hasBit}
 use Rattle.definitions.specs.Context.{Context}
 use Rattle.definitions.specs.RampMouths.{maxApproachRadius}
-use Rattle.laws.specs.FloatLaws.Pixels.{PixelSegment}
 use Rattle.geometry.specs.Forms.{pointForm}
 use Rattle.interior_proposals.specs.declared.fits.Reach.{Reach}
-
--- boundary i stands in the list, with its endpoints on a map
-pub record Placed (boundaries : List ℕ) (i : ℕ) : Type 0 where
-  pub whole : numbersPerBoundary * i + 8 < length boundaries
-  pub pixels : PixelSegment (segmentAt boundaries (numbersPerBoundary * i))
 
 -- boundary i and its tallies stand in the lists
 pub record Listed (boundaries tallies : List ℕ) (i : ℕ) : Type 0 where

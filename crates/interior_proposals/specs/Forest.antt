@@ -2,15 +2,11 @@
 use Prim.Native.Nat.{ℕ, suc, _-_, _≤_, _<_}
 use mathlib.Core.Path.{_≡_}
 use mathlib.Core.List.{List}
-use lib.ListN.{length, getD, drop}
+use lib.ListN.{length, getD}
 use Rattle.definitions.specs.Grid.{Pair}
 use Rattle.definitions.specs.Partition.{mergeAll}
+use Rattle.laws.specs.ListLaws.Beyond.{Beyond}
 use Rattle.context.specs.Shown.{pairAt}
-
--- a list of the same length, that is as it was from n on
-pub record Beyond (n : ℕ) (was l : List ℕ) : Type 0 where
-  pub long : length l ≡ length was
-  pub rest : drop n l ≡ drop n was
 
 -- a parent is no larger than its region and has its name, and a region that is its own parent is its own name
 pub record Parented (cs ps : List ℕ) : Type 0 where

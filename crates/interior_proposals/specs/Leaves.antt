@@ -11,8 +11,8 @@ use Rattle.definitions.specs.Scan.{all, member}
 use Rattle.definitions.specs.Grid.{Pair}
 use Rattle.definitions.specs.Context.{Context, isIncident, incidentCount}
 use Rattle.definitions.specs.RampInteriors.{Expansion, insideCount, exteriors, expandPort}
+use Rattle.laws.specs.ListLaws.Beyond.{Beyond}
 use Rattle.context.specs.Shown.{pairsBetween}
-use Rattle.interior_proposals.specs.Forest.{Beyond}
 use Rattle.interior_proposals.specs.Given.{Marked}
 use Rattle.interior_proposals.specs.Owners.{Walkable, entryAt}
 

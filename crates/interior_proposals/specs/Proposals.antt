@@ -11,7 +11,7 @@ use Rattle.definitions.specs.Scan.{any, all, member, anyBelow}
 use Rattle.definitions.specs.RegionRecord.{hasRamp}
 use Rattle.definitions.specs.Context.{Context, noRamp}
 use Rattle.definitions.specs.RampInteriors.{Expansion, components, componentRegions, componentPorts, portsFit, regionFits, expandPort}
-use Rattle.interior_proposals.specs.Forest.{Beyond}
+use Rattle.laws.specs.ListLaws.Beyond.{Beyond}
 use Rattle.interior_proposals.specs.Given.{Given}
 use Rattle.interior_proposals.specs.Owners.{entryAt, several, edge, Owners}
 use Rattle.interior_proposals.specs.Candidates.{Told, Mapped, candidate}

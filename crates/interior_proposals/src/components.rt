@@ -1,5 +1,7 @@
 // The components of regions that ordinary full cuts join: a forest of parents in a lent list, in which every parent is no larger than its region.
 use context::pairs::full_cut;
+use geometry::boundaries::KIND;
+use geometry::boundaries::NUMBERS_PER_BOUNDARY;
 ghost use mathlib.Core.Path.{_≡_};
 ghost use mathlib.Core.List.{List, [], _∷_};
 ghost use Prim.Native.Nat.{ℕ, suc, _+_, _-_, _*_, _%_, _≤_, _<_, min, max};
@@ -10,10 +12,9 @@ ghost use Rattle.definitions.specs.Limits.{maxSide, numbersPerPair, numbersPerB
 ghost use Rattle.definitions.specs.Context.{Context};
 ghost use Rattle.definitions.specs.RampInteriors.{isOrdinary, links};
 ghost use Rattle.context.specs.Shown.{ShownBoundaries, ShownTallies, ShownAnchored, ShownIncidents, pairAt, pairsBetween};
-ghost use Rattle.interior_proposals.specs.Forest.{Beyond, Parented, Rooted, Found, Joinable, Placed, Merged, Rows, RowsJoinable, Forest, Names};
+ghost use Rattle.laws.specs.ListLaws.Beyond.{Beyond};
+ghost use Rattle.interior_proposals.specs.Forest.{Parented, Rooted, Found, Joinable, Placed, Merged, Rows, RowsJoinable, Forest, Names};
 ghost use Rattle.interior_proposals.specs.Given.{Given, Lent, SomeLent, flagsOf, alone, linksOf, CutJoinable, CutsJoinable, Prepared, Known};
-
-pub const NUMBERS_PER_BOUNDARY: usize = 9;
 
 pub const NUMBERS_PER_PAIR: usize = 3;
 
@@ -114,7 +115,7 @@ pub fn is_ordinary(boundaries: &[u64], tallies: &[u32], i: usize) -> bool
         i < C .count →
         r ≡ isOrdinary C i) ⌝ }
 {
-    (boundaries[NUMBERS_PER_BOUNDARY * i + 5] == 0) & full_cut(tallies, i)
+    (boundaries[NUMBERS_PER_BOUNDARY * i + KIND] == 0) & full_cut(tallies, i)
 }
 
 // Joins the regions of each pair of boundary i, if it is an ordinary full cut.

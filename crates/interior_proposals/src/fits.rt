@@ -1,17 +1,17 @@
 // What is asked of the two ports of a candidate, and of the record of each region about it.
-use crate::components::NUMBERS_PER_BOUNDARY;
 use context::Region;
 use context::pairs::full_cut;
 use geometry::Point;
-use geometry::points::center;
+use geometry::boundaries::KIND;
+use geometry::boundaries::LOWER;
+use geometry::boundaries::NUMBERS_PER_BOUNDARY;
+use geometry::boundaries::RAMP;
+use geometry::boundaries::UPPER;
+use geometry::boundaries::center_of;
 use geometry::points::distance;
-use span_geometry::PixelPosition;
 ghost use mathlib.Core.Path.{_≡_};
 ghost use Prim.Native.Nat.{ℕ, _*_, _<_};
-ghost use Rattle.definitions.specs.Limits.{numbersPerBoundary};
 ghost use Rattle.definitions.specs.Scan.{allBelow};
-ghost use Rattle.definitions.specs.Grid.{segmentAt};
-ghost use Rattle.definitions.specs.Geometry.{center};
 ghost use Rattle.definitions.specs.Context.{Context};
 ghost use Rattle.definitions.specs.RampInteriors.{portsFit, regionFits};
 ghost use Rattle.laws.specs.FloatLaws.DistanceRange.{DistanceInRange};
@@ -19,7 +19,8 @@ ghost use Rattle.laws.specs.FloatLaws.PassRange.{PassInRange};
 ghost use Rattle.geometry.specs.Forms.{pointForm};
 ghost use Rattle.context.specs.Shown.{ShownBoundaries, ShownTallies};
 ghost use Rattle.context.specs.Records.{recordOf};
-ghost use Rattle.interior_proposals.specs.Fits.{Placed, Listed, Aimed, elevationFits, isWithin};
+ghost use Rattle.interior_proposals.specs.Fits.{Listed, Aimed, elevationFits, isWithin};
+ghost use Rattle.geometry.specs.Placed.{Placed};
 
 const MAX_APPROACH_RADIUS: f64 = 512.0;
 
@@ -45,31 +46,14 @@ pub fn ports_fit(boundaries: &[u64], tallies: &[u32], a: usize, b: usize) -> boo
 {
     let j = NUMBERS_PER_BOUNDARY * a;
     let k = NUMBERS_PER_BOUNDARY * b;
-    let first = boundaries[j + 5];
-    let second = boundaries[k + 5];
+    let first = boundaries[j + KIND];
+    let second = boundaries[k + KIND];
     (first != 0)
         & (second != 0)
         & full_cut(tallies, a)
         & full_cut(tallies, b)
-        & (boundaries[j + 6] == boundaries[k + 6])
+        & (boundaries[j + RAMP] == boundaries[k + RAMP])
         & (first != second)
-}
-
-// The center of boundary i.
-fn center_of(boundaries: &[u64], i: usize) -> Point
-    requires { ⌜ Placed (now boundaries) i ⌝ }
-    ensures { λ r. ⌜ pointForm r ≡ center (segmentAt (now (boundaries .entry)) (numbersPerBoundary * i)) ⌝ }
-{
-    let k = NUMBERS_PER_BOUNDARY * i;
-    let a = PixelPosition {
-        x: boundaries[k],
-        y: boundaries[k + 1],
-    };
-    let b = PixelPosition {
-        x: boundaries[k + 2],
-        y: boundaries[k + 3],
-    };
-    center(a, b)
 }
 
 // The reach of the ports a and b.
@@ -79,8 +63,8 @@ pub fn reach_of(boundaries: &[u64], a: usize, b: usize) -> Reach
 {
     let k = NUMBERS_PER_BOUNDARY * a;
     Reach {
-        lower: boundaries[k + 7],
-        upper: boundaries[k + 8],
+        lower: boundaries[k + LOWER],
+        upper: boundaries[k + UPPER],
         first: center_of(boundaries, a),
         second: center_of(boundaries, b),
     }

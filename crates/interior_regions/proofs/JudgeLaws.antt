@@ -13,7 +13,7 @@ use Rattle.definitions.specs.Scan.{any, all, member, anyBelow, allBelow}
 use Rattle.definitions.specs.RegionRecord.{hasRamp}
 use Rattle.definitions.specs.Context.{Context}
 use Rattle.definitions.specs.RampInteriors.{regionFits, removed}
-use Rattle.laws.specs.ListLaws.Tests.{both, same-test}
+use Rattle.laws.specs.ListLaws.Tests.{both, same-test, or-right}
 use Rattle.laws.specs.ListLaws.Below.{below-at, below-first, below-none, all-below-at}
 use Rattle.laws.specs.ListLaws.ListsAsSets.{any-member}
 use Rattle.laws.specs.ListLaws.ScanSteps.{all-intro, any-fails-at}
@@ -34,10 +34,6 @@ use Rattle.interior_regions.specs.Marks.{accepted, markedBefore, EndOf}
 use Rattle.interior_regions.proofs.PlaceLaws.{place-readable, Placed, incident-placed, Spanned, expanded-incident}
 
 -- ---- tests of the members of a list
-
-or-right : (a b : Bool) → b ≡ true → (a || b) ≡ true
-or-right true b e = refl
-or-right false b e = e
 
 member-found : (f : ℕ → Bool) (l : List ℕ) → any f l ≡ true → (x : ℕ) × ((member x l ≡ true) × (f x ≡ true))
 unfolding any member

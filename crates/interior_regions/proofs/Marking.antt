@@ -9,7 +9,7 @@ use lib.ListN.{length, getD, set}
 use lib.Dec.{eqb}
 use lib.Seq.{getD-set-same, getD-set-other}
 use borrow.Author.Tests.{not-true, not-false}
-use Rattle.context.specs.OneMore.{last-or}
+use Rattle.laws.specs.NumberLaws.Comparisons.{last-or}
 
 -- the boundaries before j are marked besides where their owner has the name
 pub record Marking (owners : List ℕ) (name : ℕ) (was marked : List Bool) (j : ℕ) : Type 0 where

@@ -5,10 +5,10 @@ use mathlib.Core.Path.{ap}
 use mathlib.Core.List.{List}
 use lib.Dec.{eqb}
 use Rattle.definitions.specs.Context.{Context}
+use Rattle.laws.specs.ListLaws.Beyond.{beyond-same}
 use Rattle.interior_proposals.specs.Given.{Lent, Known, Kept}
 use Rattle.interior_proposals.specs.Owners.{Owners}
 use Rattle.interior_proposals.specs.Proposals.{Progress, Owning}
-use Rattle.interior_proposals.proofs.Forests.{beyond-same}
 use Rattle.interior_proposals.proofs.Walks.{names-long}
 use Rattle.interior_proposals.proofs.Preparing.{components-size}
 

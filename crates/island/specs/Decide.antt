@@ -4,11 +4,11 @@
 use Prim.Native.Nat.{ℕ, _<_}
 use native.Mathlib.Omega.{arith}
 use mathlib.Core.Path.{_≡_, refl, sym, ap, ap₂, _∙_}
-use mathlib.Core.Bool.{Bool, true, false, not, _&&_, _||_, Bool·beq, false≢true, true≢false, Bool·not-not}
+use mathlib.Core.Bool.{Bool, true, false, not, _&&_, _||_, Bool·beq, false≢true, true≢false}
 use mathlib.Core.List.{List, [], _∷_}
 use lib.ListN.{length, List·getD-eq-default}
 use lib.Dec.{eqb, ltb}
-use borrow.Author.Tests.{ltb-true, ltb-false, leb-true, eqb-true}
+use borrow.Author.Tests.{ltb-true, ltb-false, leb-true, eqb-true, not-true}
 use Rattle.definitions.specs.Scan.{allBelow}
 use Rattle.definitions.specs.Grid.{Map, Position, at, Segment, Boundary, noBoundary, index, cellCount, cellAt, walkable, toward, isStep, spanCount, spanOf, boundaryOf}
 use Rattle.laws.specs.ListLaws.Tests.{both, beq-same}
@@ -93,9 +93,6 @@ isAlike M M′ isl =
 implied : (a b : Bool) → implies a b ≡ true → a ≡ true → b ≡ true
 implied true b h k = h
 implied false b h k = absurd (false≢true k)
-
-not-true : (b : Bool) → not b ≡ true → b ≡ false
-not-true b h = sym (Bool·not-not b) ∙ ap not h
 
 all-places : (w h : ℕ) (f : Position → Bool) → allPlaces w h f ≡ true → (p : Position) → p .x < w → p .y < h → f p ≡ true
 unfolding allPlaces

@@ -1,4 +1,4 @@
--- The rows: whatever is kept alike inside, the rows of the boundaries inside are the small context's rows, in the same order, with ranks in the place of
+-- The rows: whatever is kept alike inside, the rows of the boundaries inside are the small context's rows, in the same order, with ranks in place of
 -- numbers. Rows are sorted by endpoints, then number, and ranks stand in the order of the numbers. Assumes a frame.
 use Prim.Native.Nat.{ℕ}
 use mathlib.Core.Path.{_≡_, refl, sym, ap, _∙_}

@@ -1,4 +1,4 @@
--- Demand 3: what is given of two maps and an island, and what is compared. Quotations are of document 01, 'From the arithmetic up', last paragraph.
+-- Demand 3: what is given of two maps and an island, and what is compared. Quotations are of document 01, which SPECIFICATION 5 restates.
 -- The theorem stands in `Theorem.antt`. Definitions only.
 use Prim.Native.Nat.{ℕ, _<_}
 use mathlib.Core.Path.{_≡_}
@@ -67,7 +67,7 @@ pub record Alike (M M′ : Map) (isl : ℕ → Bool) : Type 0 where
   pub island′ : Island M′ isl
 
 -- "Two rows are alike when their endpoints agree and their boundaries have the same rank among those cutting the island": a row with the rank
--- in the place of the number, so that alike rows are equal
+-- in place of the number, so that alike rows are equal
 abbrev pub ranked : Map → (ℕ → Bool) → Row → Row
 ranked M isl r = record { number = rankOf M isl (r .number); line = r .line }
 

@@ -1,4 +1,4 @@
--- The cases of document 01 that run a pass on a map, over calls: a call that was lent such a map and met the contract with number 0 holds these rows in its output,
+-- The cases of SPECIFICATION 16 and 18 that run a pass on a map, over calls: a call that was lent such a map and met the contract with number 0 holds these rows in its output,
 -- whatever lists it was lent to fill. The cases themselves are computed. Assumes nothing.
 use Prim.Native.Nat.{ℕ}
 use mathlib.Core.Path.{_≡_, refl, ap₂, _∙_}

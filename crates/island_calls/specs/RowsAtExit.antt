@@ -1,7 +1,7 @@
 -- What an output holds after a call that met the contract and returned 0: it holds the definitions' rows (`rows-held`), and a boundary of the list has a row
 -- exactly when the pass keeps it (`row-kept`). The argument: with no refusal the answer counts these rows, and they stand at the output's front. Assumes nothing.
 use Prim.Native.Nat.{ℕ, _<_}
-use mathlib.Core.Path.{_≡_, refl, sym, ap, _∙_}
+use mathlib.Core.Path.{_≡_, sym, ap, _∙_}
 use mathlib.Core.Bool.{Bool, not, _&&_}
 use mathlib.Core.List.{List, _++_}
 use lib.ListN.{length, drop}
@@ -12,22 +12,15 @@ use Rattle.definitions.specs.Sort.{listLt}
 use Rattle.definitions.specs.Grid.{Map, canonical, boundaryOf}
 use Rattle.definitions.specs.RegionRecord.{Region}
 use Rattle.definitions.specs.Rows.{Row, removedOf, isKept, rowKey, rowsFrom, rowsOf, flatRows}
-use Rattle.definitions.specs.Verdict.{Lent, Answer, mapIn, verdict}
+use Rattle.definitions.specs.Verdict.{Lent, Answer, mapIn}
 use Rattle.definitions.specs.AtExit.{callExit, exitWith, stageOf}
 use Rattle.laws.specs.ListLaws.FlatRows.{rows-of-flat}
 use Rattle.laws.specs.ListLaws.Scans.{picked, any-picked}
 use Rattle.laws.specs.ListLaws.SortedMembers.{any-sort}
 use Rattle.laws.specs.SetLaws.Sets.{numbersBelow, member-below}
-use Rattle.laws.specs.TableLaws.AcceptedCalls.{accepted}
+use Rattle.laws.specs.TableLaws.AcceptedCalls.{accepted-count}
 use Rattle.call_partition.specs.Contract.{Ran}
 use Rattle.island_calls.specs.Outputs.{rowsHeld, hasRow}
-
--- "Success returns 0 and the count of rows kept"
-pub accepted-count : (L : Lent) → verdict L .number ≡ 0 → verdict L .value ≡ length (rowsOf (L .pass) (mapIn L))
-unfolding verdict
-accepted-count L h =
-    let A = accepted L h in
-    rw (A .sides, A .cells, A .whole, A .pass, A .spans, A .boundaries, A .anchors, A .elevations, A .room, A .records, A .pairs) refl
 
 pub rows-held : {L : Lent} {a : Answer} {l m q t p : List ℕ} {s : List Region} {o : List ℕ} → Ran L a l m q t p s o → a .number ≡ 0 → rowsHeld a o ≡ rowsOf (L .pass) (mapIn L)
 unfolding callExit exitWith stageOf

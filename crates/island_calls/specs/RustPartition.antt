@@ -1,11 +1,10 @@
 -- DEMAND 2 over calls, its labels and assessments: a call that met the contract and returned 0 holds in its lists the labels, tallies and pairs that the Rust's own
 -- `partition_by_spans` gives for the map that it was lent, and so does a partition alone, which answers with as many regions as the Rust has areas. (The kept rows are `call-rows`, RustRows.) The proof: the lists hold the
 -- definitions' data, which are the Rust's (rust_partition, PartitionAsRust). Assumes nothing more.
-use Prim.Native.Nat.{ℕ, _<_}
+use Prim.Native.Nat.{ℕ}
 use native.Mathlib.Omega.{arith}
-use mathlib.Core.Path.{_≡_, refl, sym, ap, _∙_}
-use mathlib.Core.Bool.{Bool, true, false, true≢false}
-use mathlib.Core.Option.{Option, none, some}
+use mathlib.Core.Path.{_≡_, sym, ap, _∙_}
+use mathlib.Core.Option.{Option}
 use mathlib.Core.List.{List, [], _∷_}
 use lib.ListN.{length}
 use Rattle.definitions.specs.Limits.{numbersPerSpan}
@@ -14,14 +13,13 @@ use Rattle.definitions.specs.Lists.{overwrite}
 use Rattle.definitions.specs.Partition.{labels, regionCount}
 use Rattle.definitions.specs.Refusals.{Refusal, unless, sidesFault, cellsFault, isWhole, spansRefusal}
 use Rattle.definitions.specs.Context.{contextOf}
-use Rattle.definitions.specs.Verdict.{Lent, Answer, mapIn, pairRowsOf, refusal, firstRefusal, pairsFault, partitionHasRoom, partitionVerdict}
-use Rattle.definitions.specs.AtExit.{talliesOf, callExit, partitionExit, exitWith, Stage, untouched, labelled, tallied, complete, stageOf}
+use Rattle.definitions.specs.Verdict.{Lent, Answer, mapIn, pairRowsOf, refusal, pairsFault, partitionHasRoom, partitionVerdict}
+use Rattle.definitions.specs.AtExit.{talliesOf, callExit, partitionExit, exitWith, stageOf}
 use Rattle.laws.specs.ListLaws.Lists.{All, done, more}
+use Rattle.laws.specs.TableLaws.AcceptedCalls.{Numbered, refusal-numbered, spans-numbered, counted}
 use Rattle.areas.specs.declared.Partitioned.{Partitioned}
 use Rattle.areas.specs.Answers.{answerOf}
 use Rattle.areas.specs.Contract as alone
-use Rattle.areas.proofs.Leaving.{Leaves}
-use Rattle.areas.proofs.Early.{spans-leave}
 use Rattle.call_partition.specs.Contract.{Ran}
 use Rattle.rust_partition.specs.Literal.PartitionBySpans.{SpanPartition, partitionBySpans, talliesHeld, pairRowsHeld}
 use Rattle.rust_partition.specs.PartitionAsRust.{Grid, call-grid, partition-grid, rust-labels, rust-areas, rust-tallies, rust-pairs}
@@ -56,32 +54,6 @@ partition-alone {L} ran success =
 
 -- ---- the count that a partition alone answers with
 
--- no refusal has number 0
-abbrev Numbered : Option Refusal → Type 0
-Numbered none = Unit {0}
-Numbered (some r) = r .number ≡ 0 → ⊥
-
-plain : (number : ℕ) → 0 < number → (place : Option ℕ) → Numbered (refusal number place)
-plain number h none = tt
-plain number h (some place) = λ e. omega arith
-
--- success is the stage at which all lists are filled
-isComplete : Stage → Bool
-isComplete untouched = false
-isComplete labelled = false
-isComplete tallied = false
-isComplete complete = true
-
-leaving : (x : Option Refusal) → Leaves x → Numbered x
-unfolding Leaves isComplete stageOf
-leaving none h = tt
-leaving (some r) h = λ e. true≢false (ap (λ n. isComplete (stageOf n)) (sym e) ∙ ap isComplete h)
-
-counted : {l : List (Option Refusal)} (count : ℕ) → All Numbered l → firstRefusal l count .number ≡ 0 → firstRefusal l count .value ≡ count
-counted count done h = refl
-counted count (more {x = none} n a) h = counted count a h
-counted count (more {x = some r} n a) h = absurd (n h)
-
 -- the checks of `partitionVerdict`, in its order
 abbrev checks : Lent → List (Option Refusal)
 checks L =
@@ -95,11 +67,11 @@ checks L =
 
 checks-numbered : (L : Lent) → All Numbered (checks L)
 checks-numbered L =
-    more (plain 1 (omega arith) (sidesFault (L .width) (L .height)))
-    (more (plain 2 (omega arith) (cellsFault (L .width) (L .height) (L .cells)))
-    (more (plain 3 (omega arith) (unless (isWhole numbersPerSpan (L .spans))))
-    (more (leaving (spansRefusal (L .width) (L .height) (L .spans)) (spans-leave (L .width) (L .height) (L .spans)))
-    (more (plain 10 (omega arith) (unless (partitionHasRoom L))) (more (plain 12 (omega arith) (pairsFault L (mapIn L))) done)))))
+    more (refusal-numbered 1 (sidesFault (L .width) (L .height)) (omega arith))
+    (more (refusal-numbered 2 (cellsFault (L .width) (L .height) (L .cells)) (omega arith))
+    (more (refusal-numbered 3 (unless (isWhole numbersPerSpan (L .spans))) (omega arith))
+    (more (spans-numbered (L .width) (L .height) (L .spans))
+    (more (refusal-numbered 10 (unless (partitionHasRoom L)) (omega arith)) (more (refusal-numbered 12 (pairsFault L (mapIn L)) (omega arith)) done)))))
 
 verdict-count : (L : Lent) → partitionVerdict L .number ≡ 0 → partitionVerdict L .value ≡ regionCount (mapIn L)
 unfolding partitionVerdict

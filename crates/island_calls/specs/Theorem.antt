@@ -1,7 +1,7 @@
 -- DEMAND 3 over two calls. What is assumed, whole:
 --   each call met the contract of the call that runs a pass (`Ran`: the answer and every list at exit are the definitions', for what was lent to it) and returned 0;
 --   both were asked for one pass;
---   of the two maps that were lent and an island, the premises of document 01 hold (`Alike`, crates/island/specs/Premises.antt).
+--   of the two maps that were lent and an island, the premises of SPECIFICATION 5 hold (`Alike`, crates/island/specs/Premises.antt).
 -- Nothing is assumed of the lists that the calls fill: labels, masks, queue, tallies, pairs, records and output are each call's own, of any length and content.
 -- The proof: an output holds the definitions' rows (`rows-held`), of which the theorem is `island-rows` and `island-kept`.
 use Prim.Native.Nat.{ℕ, _<_}

@@ -1,7 +1,7 @@
 -- DEMAND 3, once and whole, over two calls of `topology_kept_boundaries`. What is assumed:
 --   each call ended as its contract says (`RanOver`, which every call meets for every input) and returned 0;
 --   both were asked for one pass;
---   of the two maps that were lent and an island, the premises of document 01 hold (`Alike`, crates/island/specs/Premises.antt).
+--   of the two maps that were lent and an island, the premises of SPECIFICATION 5 hold (`Alike`, crates/island/specs/Premises.antt).
 -- Nothing is assumed of the lists that the calls fill, nor of the records that they are lent. The proof: `RanOver` holds `Ran`, of which `island_calls` has the theorems.
 use Prim.Native.Nat.{ℕ}
 use mathlib.Core.Path.{_≡_, refl}

@@ -1,21 +1,17 @@
 -- What the functions of bridges.rt return, test by test, as the definitions of specs/Bridges.antt write it. Assumes nothing.
 use Prim.Native.Nat.{ℕ, _≤_, _<_}
 use native.Mathlib.Omega.{arith}
-use mathlib.Core.Path.{_≡_, refl, sym, ap, _∙_}
+use mathlib.Core.Path.{_≡_, sym, ap, _∙_}
 use mathlib.Core.Bool.{Bool, true, false, _&&_, cond}
 use mathlib.Core.Option.{none, some}
 use mathlib.Core.List.{List}
 use lib.Dec.{eqb}
-use Rattle.definitions.specs.Scan.{bit, onlyIf}
+use Rattle.definitions.specs.Scan.{onlyIf}
 use Rattle.definitions.specs.Grid.{Pair}
 use Rattle.definitions.specs.Context.{otherRegion}
 use Rattle.definitions.specs.Junctions.{Proposal}
 use Rattle.junction_proposals.specs.Unions.{isNear}
 use Rattle.junction_proposals.specs.Bridges.{beyondAt, nearAt}
-
-pub bit-is-one : (b : Bool) → eqb (bit b) 1 ≡ b
-bit-is-one true = refl
-bit-is-one false = refl
 
 -- both regions of a pair are labelled
 pub beyond-within : (r n : ℕ) (p : Pair) {x : ℕ} → x ≡ otherRegion r p → 1 ≤ p .lo → p .lo < p .hi → p .hi ≤ n → (1 ≤ x) × (x ≤ n)

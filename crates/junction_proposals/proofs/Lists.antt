@@ -2,7 +2,8 @@
 use Prim.Native.Nat.{ℕ, _<_}
 use native.Mathlib.Omega.{arith}
 use mathlib.Core.List.{List}
-use Rattle.junction_proposals.specs.Lent.{Placed, LentBoundaries}
+use Rattle.geometry.specs.Placed.{Placed}
+use Rattle.junction_proposals.specs.Lent.{LentBoundaries}
 
 pub placed : {boundaries : List ℕ} {count i : ℕ} → LentBoundaries boundaries count → i < count → Placed boundaries i
 placed {i} h l = record { whole = omega (arith, h .long); pixels = h .pixels i l }

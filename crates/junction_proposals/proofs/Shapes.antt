@@ -1,21 +1,16 @@
 -- The shape of a union, as `is_union` finds it: test by test, each return says what the whole test says. Assumes nothing.
 use Prim.Native.Nat.{ℕ, _+_, _-_, _≤_, _<_}
-use native.Mathlib.Omega.{arith}
 use mathlib.Core.Path.{_≡_, refl, sym, ap, _∙_}
 use mathlib.Core.Bool.{Bool, true, false, not, _&&_}
 use mathlib.Core.List.{List}
 use lib.ListN.{getD}
 use lib.Dec.{eqb, ltb, leb}
 use borrow.Author.Tests.{eq-eqb, ne-eqb, lt-ltb, le-ltb, not-true, not-false}
-use Rattle.definitions.specs.Scan.{countBelow, bit}
+use Rattle.definitions.specs.Scan.{countBelow}
 use Rattle.definitions.specs.Grid.{Pair}
 use Rattle.junction_proposals.specs.Ports.{walkFits}
 use Rattle.junction_proposals.specs.Unions.{noRampAt, marksOf, leadsAnew, portsPass, shapeAt, isUnionAt}
 use Rattle.junction_proposals.proofs.FewPorts.{few-ports}
-
-pub bit-le : (b : Bool) → bit b ≤ 1
-bit-le true = omega arith
-bit-le false = omega arith
 
 module _ (boundaries smaller larger counts marks : List ℕ) (count i : ℕ) where
   abbrev union : Pair

@@ -10,11 +10,6 @@ use Rattle.laws.specs.FloatLaws.Pixels.{PixelSegment, PixelContext}
 use Rattle.laws.specs.RustContext.SoundContext.{Sound}
 use Rattle.context.specs.Shown.{ShownBoundaries, ShownFullPairs, ShownIncidents, ShownAnchored}
 
--- boundary i stands in the list, with its endpoints on a map
-pub record Placed (boundaries : List ℕ) (i : ℕ) : Type 0 where
-  pub whole : numbersPerBoundary * i + 8 < length boundaries
-  pub pixels : PixelSegment (segmentAt boundaries (numbersPerBoundary * i))
-
 -- `count` boundaries; a width is finite, and its sign bit is clear
 pub record LentBoundaries (boundaries : List ℕ) (count : ℕ) : Type 0 where
   pub few : count ≤ maxEntries

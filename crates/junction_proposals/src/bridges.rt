@@ -1,8 +1,10 @@
 // Bridges of a pocket, before its record is looked at.
-use crate::distances::NUMBERS_PER_BOUNDARY;
 use crate::distances::is_near_port;
 use crate::ports::names_region;
 use crate::unions::anchored_bit;
+use geometry::boundaries::KIND;
+use geometry::boundaries::NUMBERS_PER_BOUNDARY;
+use geometry::boundaries::WIDTH;
 ghost use mathlib.Core.Path.{_≡_};
 ghost use Prim.Native.Nat.{_≤_, _<_};
 ghost use lib.ListN.{length};
@@ -29,8 +31,8 @@ pub fn is_twice_as_wide(boundaries: &[u64], count: usize, i: usize, k: usize) ->
     requires places { ⌜ (i < count) × (k < count) ⌝ }
     ensures { λ r. ⌜ r ≡ isTwiceAt (now (boundaries .entry)) i k ⌝ }
 {
-    let width = f64::from_bits(boundaries[NUMBERS_PER_BOUNDARY * i + 4]);
-    let other = f64::from_bits(boundaries[NUMBERS_PER_BOUNDARY * k + 4]);
+    let width = f64::from_bits(boundaries[NUMBERS_PER_BOUNDARY * i + WIDTH]);
+    let other = f64::from_bits(boundaries[NUMBERS_PER_BOUNDARY * k + WIDTH]);
     2.0 * other <= width
 }
 
@@ -155,7 +157,7 @@ pub fn next_port(
 {
     let mut j = from;
     while j < count {
-        let plain = boundaries[NUMBERS_PER_BOUNDARY * j + 5] == 0;
+        let plain = boundaries[NUMBERS_PER_BOUNDARY * j + KIND] == 0;
         if names_region(smaller[j], larger[j], r) & plain {
             return j;
         }

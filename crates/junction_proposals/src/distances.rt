@@ -1,20 +1,16 @@
 // How far boundaries and regions are apart.
 use geometry::Point;
-use geometry::points::center;
+use geometry::boundaries::NUMBERS_PER_BOUNDARY;
+use geometry::boundaries::WIDTH;
+use geometry::boundaries::center_of;
 use geometry::points::distance;
-use span_geometry::PixelPosition;
 ghost use mathlib.Core.Path.{_≡_};
 ghost use Prim.Native.Nat.{_*_};
-ghost use Rattle.definitions.specs.Limits.{numbersPerBoundary};
-ghost use Rattle.definitions.specs.Grid.{segmentAt};
-ghost use Rattle.definitions.specs.Geometry.{center};
 ghost use Rattle.definitions.specs.Junctions.{withinDistance};
 ghost use Rattle.laws.specs.FloatLaws.DistanceRange.{DistanceInRange};
 ghost use Rattle.geometry.specs.Forms.{pointForm};
-ghost use Rattle.junction_proposals.specs.Lent.{Placed};
 ghost use Rattle.junction_proposals.specs.Unions.{isNear, passesAt};
-
-pub const NUMBERS_PER_BOUNDARY: usize = 9;
+ghost use Rattle.geometry.specs.Placed.{Placed};
 
 const MAX_PORT_DISTANCE_PIXELS: f64 = 384.0;
 
@@ -22,23 +18,6 @@ pub fn within_distance(left: Point, right: Point, limit: f64) -> bool
     ensures { λ r. ⌜ (DistanceInRange (pointForm left) (pointForm right) → r ≡ withinDistance (pointForm left) (pointForm right) limit) ⌝ }
 {
     distance(left, right) <= limit
-}
-
-// The center of boundary i.
-pub fn center_of(boundaries: &[u64], i: usize) -> Point
-    requires { ⌜ Placed (now boundaries) i ⌝ }
-    ensures { λ r. ⌜ pointForm r ≡ center (segmentAt (now (boundaries .entry)) (numbersPerBoundary * i)) ⌝ }
-{
-    let k = NUMBERS_PER_BOUNDARY * i;
-    let a = PixelPosition {
-        x: boundaries[k],
-        y: boundaries[k + 1],
-    };
-    let b = PixelPosition {
-        x: boundaries[k + 2],
-        y: boundaries[k + 3],
-    };
-    center(a, b)
 }
 
 // Whether boundary j, a port, is near boundary i.
@@ -59,7 +38,7 @@ pub fn port_passes(boundaries: &[u64], one: bool, i: usize, j: usize) -> bool
     requires { ⌜ Placed (now boundaries) i × Placed (now boundaries) j ⌝ }
     ensures { λ r. ⌜ r ≡ passesAt (now (boundaries .entry)) one i j ⌝ }
 {
-    let own = boundaries[NUMBERS_PER_BOUNDARY * i + 4];
-    let other = boundaries[NUMBERS_PER_BOUNDARY * j + 4];
+    let own = boundaries[NUMBERS_PER_BOUNDARY * i + WIDTH];
+    let other = boundaries[NUMBERS_PER_BOUNDARY * j + WIDTH];
     (!one | (other <= own)) & is_near_port(boundaries, i, j)
 }

@@ -1,4 +1,5 @@
 // The ports of the two regions of a union.
+use context::pairs::wide;
 ghost use mathlib.Core.Path.{_≡_};
 ghost use Prim.Native.Nat.{_≤_, _<_};
 ghost use lib.ListN.{length, getD};
@@ -8,14 +9,7 @@ ghost use Rattle.definitions.specs.Junctions.{fitsUnion};
 ghost use Rattle.context.specs.Shown.{optionalPair};
 ghost use Rattle.junction_proposals.specs.Ports.{Listed, sideOf, walkFits};
 
-// A number of a slice as an index: in a function of its own it asks for no proof that the element fits.
-pub fn wide(x: u32) -> usize
-    ensures { λ r. ⌜ r ≡ x ⌝ }
-{
-    x as usize
-}
-
-// The same of a byte.
+// A byte of a slice as an index: in a function of its own it asks for no proof that the element fits.
 pub fn wide8(x: u8) -> usize
     ensures { λ r. ⌜ r ≡ x ⌝ }
 {

@@ -158,8 +158,8 @@ fn find_bridges(
     requires unions_within { ⌜ unions ≤ count ⌝ }
     requires rows_room { ⌜ numbersPerProposal * maxProposals ≤ length (now rows) ⌝ }
     ensures rows { λ x. ⌜ rowsOf (now (rows .exit)) x ≡ rowsOf (now (rows .entry)) unions
-        ++ collect regions (λ k. isBridgeAt (now (boundaries .entry)) (now (smaller .entry)) (now (larger .entry)) (now (marks .entry)) (suc k) (now (counts .entry))
-        count) ⌝ }
+        ++ collect regions (λ k. isBridgeAt (now (boundaries .entry)) (now (smaller .entry)) (now (larger .entry)) (now (marks .entry)) (suc k)
+        (now (counts .entry)) count) ⌝ }
     ensures bound { λ x. ⌜ x ≤ maxProposals ⌝ }
 {
     let mut n = unions;

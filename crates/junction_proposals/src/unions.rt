@@ -1,11 +1,12 @@
 // Unions of two regions, before their records are looked at.
-use crate::distances::NUMBERS_PER_BOUNDARY;
 use crate::distances::port_passes;
 use crate::ports::find_incidents;
 use crate::ports::names_region;
 use crate::ports::ports_fit;
-use crate::ports::wide;
 use crate::ports::wide8;
+use context::pairs::wide;
+use geometry::boundaries::KIND;
+use geometry::boundaries::NUMBERS_PER_BOUNDARY;
 ghost use mathlib.Core.Path.{_≡_};
 ghost use mathlib.Core.Bool.{not, _&&_, _||_};
 ghost use Prim.Native.Nat.{_*_, _+_, _-_, _≤_, _<_};
@@ -182,7 +183,7 @@ pub fn is_union(
     if lo == 0 {
         return false;
     }
-    if boundaries[NUMBERS_PER_BOUNDARY * index + 5] != 0 {
+    if boundaries[NUMBERS_PER_BOUNDARY * index + KIND] != 0 {
         return false;
     }
     let anchored = anchored_bit(marks, lo) + anchored_bit(marks, hi);

@@ -1,22 +1,19 @@
 // What pass 3, `remove_junction_boundaries` of junctions.rs, asks of the records of a proposal's regions, by value.
 use context::Region;
+use context::pairs::wide;
 use elevations::Share;
 use geometry::Point;
-use geometry::Segment;
+use geometry::boundaries::segment_of;
 use geometry::points::center;
 use geometry::points::point;
 use geometry::points::point_segment_distance;
-use junction_proposals::distances::NUMBERS_PER_BOUNDARY;
 use junction_proposals::distances::within_distance;
-use junction_proposals::ports::wide;
 use junction_proposals::proposals::NUMBERS_PER_PROPOSAL;
 use junction_proposals::unions::anchored_bit;
 use span_geometry::PixelPosition;
 ghost use mathlib.Core.Path.{_≡_};
 ghost use Prim.Native.Nat.{_+_, _-_, _*_, _≤_, _<_};
 ghost use lib.ListN.{length};
-ghost use Rattle.definitions.specs.Limits.{numbersPerBoundary};
-ghost use Rattle.definitions.specs.Grid.{segmentAt};
 ghost use Rattle.definitions.specs.RegionRecord.{accepts, sameDominance};
 ghost use Rattle.definitions.specs.Context.{Context};
 ghost use Rattle.definitions.specs.Junctions.{withinRadius, withinSpanRadius};
@@ -24,7 +21,7 @@ ghost use Rattle.laws.specs.FloatLaws.DistanceRange.{DistanceInRange, nearestPo
 ghost use Rattle.laws.specs.FloatLaws.Pixels.{PixelRegion, HalfPixelPoint};
 ghost use Rattle.span_geometry.specs.Shapes.{InLimits};
 ghost use Rattle.elevations.specs.Forms.{shareForm};
-ghost use Rattle.geometry.specs.Forms.{pointForm, segmentFrom, segmentForm};
+ghost use Rattle.geometry.specs.Forms.{pointForm, segmentFrom};
 ghost use Rattle.context.specs.Records.{recordOf, Counted};
 ghost use Rattle.junction_proposals.specs.Rows.{numbersPerProposal, rowAt, isAllowed};
 ghost use Rattle.junction_regions.specs.Tests.{nearMiddle, nearSpan, isLocal, unionOf, bridgeOf};
@@ -155,22 +152,6 @@ pub fn second_place(rows: &[u32], k: usize) -> usize
     wide(rows[NUMBERS_PER_PROPOSAL * k + 3]) - 1
 }
 
-fn endpoints_of(boundaries: &[u64], i: usize) -> Segment
-    requires { ⌜ numbersPerBoundary * i + 8 < length (now boundaries) ⌝ }
-    ensures { λ r. ⌜ segmentForm r ≡ segmentAt (now (boundaries .entry)) (numbersPerBoundary * i) ⌝ }
-{
-    let k = NUMBERS_PER_BOUNDARY * i;
-    let a = PixelPosition {
-        x: boundaries[k],
-        y: boundaries[k + 1],
-    };
-    let b = PixelPosition {
-        x: boundaries[k + 2],
-        y: boundaries[k + 3],
-    };
-    Segment { a, b }
-}
-
 // Whether the records of its two regions allow the proposal of row k.
 pub fn is_allowed(
     boundaries: &[u64],
@@ -186,7 +167,7 @@ pub fn is_allowed(
         r ≡ isAllowed C (rowAt (now (rows .entry)) k)) ⌝ }
 {
     let row = NUMBERS_PER_PROPOSAL * k;
-    let ends = endpoints_of(boundaries, wide(rows[row]));
+    let ends = segment_of(boundaries, wide(rows[row]));
     if rows[row + 1] != 0 {
         return bridge_region(first, ends.a, ends.b);
     }

@@ -1,10 +1,10 @@
 -- What is asked of the lists of ranks and of the selection, of other lists of the same lengths; marks of which none is set. Assumes nothing.
-use Prim.Native.Nat.{ℕ, zero, suc}
+use Prim.Native.Nat.{ℕ}
 use native.Mathlib.Omega.{arith}
-use mathlib.Core.Path.{_≡_, refl}
-use mathlib.Core.Bool.{Bool, false}
+use mathlib.Core.Path.{_≡_}
+use mathlib.Core.Bool.{Bool}
 use mathlib.Core.List.{List}
-use lib.ListN.{length, getD, replicate}
+use lib.ListN.{length}
 use Rattle.junction_selection.specs.Ranks.{Ranking}
 use Rattle.junction_selection.specs.Taken.{Selecting}
 
@@ -25,9 +25,3 @@ selecting-of taken removed reserved h a b c =
       room = omega (arith, h .room);
       below = h .below;
     }
-
--- marks of which none is set
-pub none-set : (n j : ℕ) → getD (replicate n false) j false ≡ false
-none-set zero j = refl
-none-set (suc n) zero = refl
-none-set (suc n) (suc j) = none-set n j

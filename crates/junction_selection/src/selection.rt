@@ -1,7 +1,7 @@
 // `select_proposals`: a proposal is taken unless it conflicts with one taken before.
 use crate::ranks::rank_proposals;
+use context::pairs::wide;
 use junction_proposals::ports::names_region;
-use junction_proposals::ports::wide;
 use junction_proposals::proposals::MAX_PROPOSALS;
 use junction_proposals::proposals::NUMBERS_PER_PROPOSAL;
 ghost use mathlib.Core.Path.{_≡_};

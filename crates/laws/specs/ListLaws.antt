@@ -17,3 +17,7 @@ pub mod NoFault
 pub mod FlatRows
 pub mod Overwritten
 pub mod Shifts
+pub mod Flags
+pub mod Stores
+pub mod Beyond
+pub mod FourFlags

@@ -9,3 +9,4 @@ pub mod PairOrder
 pub mod PairInsertion
 pub mod Halving
 pub mod PlacedInsertion
+pub mod Endpoints

@@ -10,4 +10,6 @@ pub mod PairLaws
 pub mod Edges
 pub mod GraphLaws
 pub mod PairRows
+pub mod Tallies
 pub mod Shares
+pub mod OneMore

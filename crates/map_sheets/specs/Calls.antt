@@ -12,7 +12,7 @@ use lib.ListN.{length, take, drop}
 use lib.Seq.{take-append-seam}
 use borrow.Author.Tests.{leb-true, eqb-true, le-leb}
 use native.Mathlib.Nat.{mul-le-mul}
-use Rattle.definitions.specs.Limits.{isSide, maxSide, maxEntries, numbersPerBoundary, numbersPerAnchor}
+use Rattle.definitions.specs.Limits.{isSide, maxEntries, numbersPerBoundary, numbersPerAnchor}
 use Rattle.definitions.specs.Refusals.{Refusal, unless, isWhole, passFault, boundariesFault, anchorsFault, elevationsFault}
 use Rattle.definitions.specs.Verdict.{Answer, refusal, firstRefusal}
 use Rattle.definitions.specs.Sheet.{Sheet, Reading, wellFormed, refused, readSheet, plainCellLimit, endpointsOf}
@@ -26,7 +26,8 @@ use Rattle.map_sheets.specs.Converting.{isOneList, ofKind1, readKind1, c
 use Rattle.map_sheets.specs.WrittenReads.{Writable, written-reads}
 use Rattle.map_sheets.specs.Converted.{converted-states}
 use Rattle.map_sheets.specs.Limited.{read-within}
-use Rattle.map_sheets.specs.Numbered.{Numbered, numbered-refusal, numbered-spans}
+use Rattle.laws.specs.TableLaws.AcceptedCalls.{Numbered, refusal-numbered, spans-numbered, number-above}
+use Rattle.laws.specs.SheetReading.SheetSizes.{sides-most}
 
 -- what lists in memory keep to
 pub record InMemory (s : Sheet) : Type 0 where
@@ -61,14 +62,9 @@ accepted s room h =
     go true e false f c g d h = absurd (omega arith)
     go false e b f c g d h = absurd (omega arith)
 
-sides-known : (w h : ℕ) → (isSide w && isSide h) ≡ true → (w ≤ maxSide) × (h ≤ maxSide)
-sides-known w h e =
-    let each = both (isSide w) (isSide h) e in
-    (leb-true w maxSide (both (leb 1 w) (leb w maxSide) (each .0) .1), leb-true h maxSide (both (leb 1 h) (leb h maxSide) (each .1) .1))
-
 writable : {s : Sheet} {value : ℕ} → InMemory s → Accepted s value → Writable plainCellLimit s
 writable {s} m A =
-    let k = sides-known (s .width) (s .height) (A .sides) in
+    let k = sides-most (s .width) (s .height) refl (A .sides) in
     let few : s .width * s .height ≤ plainCellLimit = mul-le-mul (k .0) (k .1) in
     let lists = both (isWhole numbersPerBoundary (s .boundaries)) (isWhole numbersPerAnchor (s .anchors)) (A .whole) in
     let b = both (eqb (length (s .boundaries) % numbersPerBoundary) 0) (leb (length (s .boundaries) / numbersPerBoundary) maxEntries) (lists .0) in
@@ -122,12 +118,12 @@ checks a b c d e t u = a ∷ b ∷ c ∷ d ∷ e ∷ refusal 22 (unless t) ∷ r
 answered : (s : Sheet) (room : ℕ) → convertAnswer (wellFormed s) room .number ≡ 0 → Answered s (convertAnswer (wellFormed s) room .value)
 unfolding convertAnswer
 answered s room h =
-    go _ (numbered-refusal 4 (passFault (s .pass)) (omega arith)) _ (numbered-spans (s .width) (s .height) (s .spans))
-    _ (numbered-refusal 7 (boundariesFault (s .width) (s .height) (s .boundaries)) (omega arith)) _ (numbered-refusal 8 (anchorsFault (s .width) (s .height) (s .anchors)) (omega arith))
-    _ (numbered-refusal 9 (elevationsFault (s .cells)) (omega arith)) (isOneList s) refl (leb (length (sheetBytes 3 s)) room) h
+    go _ (refusal-numbered 4 (passFault (s .pass)) (omega arith)) _ (spans-numbered (s .width) (s .height) (s .spans))
+    _ (refusal-numbered 7 (boundariesFault (s .width) (s .height) (s .boundaries)) (omega arith)) _ (refusal-numbered 8 (anchorsFault (s .width) (s .height) (s .anchors)) (omega arith))
+    _ (refusal-numbered 9 (elevationsFault (s .cells)) (omega arith)) (isOneList s) refl (leb (length (sheetBytes 3 s)) room) h
   where
     never : {r : Refusal} → Numbered (some r) → r .number ≡ 0 → ⊥
-    never N z = omega (arith, N .above refl)
+    never N z = omega (arith, number-above N refl)
 
     go : (a : Option Refusal) → Numbered a → (b : Option Refusal) → Numbered b → (c : Option Refusal) → Numbered c → (d : Option Refusal) → Numbered d
         → (e : Option Refusal) → Numbered e → (t : Bool) → isOneList s ≡ t → (u : Bool) → firstRefusal (checks a b c d e t u) (length (sheetBytes 3 s)) .number ≡ 0

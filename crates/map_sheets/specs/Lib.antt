@@ -6,5 +6,4 @@ pub mod WrittenReads
 pub mod Before
 pub mod Converted
 pub mod Limited
-pub mod Numbered
 pub mod Calls

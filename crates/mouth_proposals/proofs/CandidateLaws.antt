@@ -15,7 +15,7 @@ use Rattle.definitions.specs.RampMouths.{MouthProposal, maxMouthDistance, retai
 use Rattle.laws.specs.ListLaws.ScanSteps.{collect-next}
 use Rattle.laws.specs.ListLaws.Scans.{collect-ext}
 use Rattle.laws.specs.RustMouths.Separations.{Apart, separation-apart}
-use Rattle.context.specs.OneMore.{last-or}
+use Rattle.laws.specs.NumberLaws.Comparisons.{last-or}
 use Rattle.mouth_proposals.specs.Candidates.{proposalOf, foundMouth, mouthCandidate}
 use Rattle.mouth_proposals.specs.Listed.{maxCandidates, entryAt, Filled, Roomy, Wrote, Put}
 

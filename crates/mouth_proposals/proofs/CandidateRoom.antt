@@ -17,7 +17,7 @@ use Rattle.definitions.specs.MouthShapes.{mouthShape}
 use Rattle.definitions.specs.RampMouths.{MouthProposal, broadMouth, nearbyRepresentative, overlayRepresentative, shapedMouth, triangle, triangleOr}
 use Rattle.laws.specs.ListLaws.Below.{all-below-at}
 use Rattle.laws.specs.ListLaws.ScanSteps.{count-next, collect-next}
-use Rattle.context.specs.OneMore.{last-or}
+use Rattle.laws.specs.NumberLaws.Comparisons.{last-or}
 use Rattle.mouth_proposals.specs.Candidates.{foundMouth, mouthCandidate}
 use Rattle.mouth_proposals.specs.Listed.{maxCandidates, Filled}
 use Rattle.mouth_proposals.proofs.CandidateLaws.{none-found}

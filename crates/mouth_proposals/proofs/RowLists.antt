@@ -1,11 +1,10 @@
 -- The rows of a boundary as a list: its first element, the list of one or two rows, and tests of all of them row by row. Assumes nothing.
-use Prim.Native.Nat.{ℕ, zero, suc, _+_, _-_, _≤_, _<_}
+use Prim.Native.Nat.{ℕ, suc, _+_, _-_, _≤_, _<_}
 use native.Mathlib.Omega.{arith}
 use native.Mathlib.Numerals.{add-one}
 use mathlib.Core.Path.{_≡_, refl, sym, ap, ap₂, _∙_, subst⁻¹}
 use mathlib.Core.Bool.{Bool, true, false, not, _&&_, _||_}
 use mathlib.Core.List.{List, [], _∷_, map}
-use lib.ListN.{length}
 use Rattle.definitions.specs.Scan.{run, any, all}
 use Rattle.definitions.specs.Grid.{Pair}
 use Rattle.definitions.specs.MouthShapes.{regionsOf}
@@ -35,25 +34,12 @@ pub between-zero : (rows : List ℕ) (first end : ℕ) → end - first ≡ 0 →
 unfolding pairsBetween run
 between-zero rows first end e = ap (λ n. map (pairAt rows) (run first n)) e
 
-pub between-one : (rows : List ℕ) (first end : ℕ) → end - first ≡ 1 → pairsBetween rows first end ≡ pairAt rows first ∷ []
-unfolding pairsBetween run
-between-one rows first end e = ap (λ n. map (pairAt rows) (run first n)) e
-
 pub between-two : (rows : List ℕ) (first end : ℕ) → end - first ≡ 2 → pairsBetween rows first end ≡ pairAt rows first ∷ pairAt rows (first + 1) ∷ []
 unfolding pairsBetween run
 between-two rows first end e = ap (λ n. map (pairAt rows) (run first n)) e ∙ ap (λ k. pairAt rows first ∷ pairAt rows k ∷ []) (sym (add-one first))
 
 pub two-rows : {p q r s : Pair} → p ≡ r → q ≡ s → p ∷ q ∷ [] ≡ r ∷ s ∷ []
 two-rows e f = λ i. e i ∷ f i ∷ []
-
-length-mapped : (f : ℕ → Pair) (first n : ℕ) → length (map f (run first n)) ≡ n
-unfolding run
-length-mapped f first zero = refl
-length-mapped f first (suc n) = ap suc (length-mapped f (suc first) n)
-
-pub between-length : (rows : List ℕ) (first end : ℕ) → length (pairsBetween rows first end) ≡ end - first
-unfolding pairsBetween
-between-length rows first end = length-mapped (pairAt rows) first (end - first)
 
 -- ---- all of them, row by row
 

@@ -16,7 +16,7 @@ use Rattle.definitions.specs.Context.{Context, noRamp}
 use Rattle.definitions.specs.RampMouths.{broadMouth, nearbyRepresentative, overlayRepresentative, overlayOnly}
 use Rattle.context.specs.Shown.{ShownBoundaries, ShownPairs}
 use Rattle.context.specs.Rows.{Stretch, NamedRow}
-use Rattle.context.specs.ShownLaws.{shown-stretch, shown-rows}
+use Rattle.context.proofs.ShownLaws.{shown-stretch, shown-rows}
 use Rattle.mouth_proposals.specs.Lent.{Placed, Shown}
 use Rattle.mouth_proposals.specs.Rows.{rowsOf}
 use Rattle.mouth_proposals.specs.Candidates.{approachOf, Within}

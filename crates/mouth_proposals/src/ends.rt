@@ -1,8 +1,10 @@
 // Whether the other end of a ramp is an incident of a region: found once for both regions of the ramp's full pair, before its mouths are gone through.
-use crate::measures::NUMBERS_PER_BOUNDARY;
 use context::incidents::is_incident;
 use context::pairs::FullPair;
 use context::pairs::full_pair;
+use geometry::boundaries::KIND;
+use geometry::boundaries::NUMBERS_PER_BOUNDARY;
+use geometry::boundaries::RAMP;
 ghost use mathlib.Core.Path.{_≡_};
 ghost use mathlib.Core.Bool.{not, _&&_};
 ghost use Prim.Native.Nat.{ℕ, _+_, _*_, _≤_, _<_};
@@ -29,11 +31,11 @@ fn is_other_end(boundaries: &[u64], j: usize, a: usize) -> bool
         && (eqb (getD (now (boundaries .entry)) (numbersPerBoundary * j + 6) 0) (getD (now (boundaries .entry)) (numbersPerBoundary * a + 6) 0)
         && not (eqb (getD (now (boundaries .entry)) (numbersPerBoundary * j + 5) 0) (getD (now (boundaries .entry)) (numbersPerBoundary * a + 5) 0)))) ⌝ }
 {
-    let kind = boundaries[NUMBERS_PER_BOUNDARY * j + 5];
-    let id = boundaries[NUMBERS_PER_BOUNDARY * j + 6];
+    let kind = boundaries[NUMBERS_PER_BOUNDARY * j + KIND];
+    let id = boundaries[NUMBERS_PER_BOUNDARY * j + RAMP];
     (kind != 0)
-        & ((id == boundaries[NUMBERS_PER_BOUNDARY * a + 6])
-            & (kind != boundaries[NUMBERS_PER_BOUNDARY * a + 5]))
+        & ((id == boundaries[NUMBERS_PER_BOUNDARY * a + RAMP])
+            & (kind != boundaries[NUMBERS_PER_BOUNDARY * a + KIND]))
 }
 
 // Whether the other end of the ramp of boundary a is an incident of region r.

@@ -1,52 +1,32 @@
 // What is measured of a mouth and a ramp, two boundaries of the list.
-use geometry::Segment;
+use geometry::boundaries::NUMBERS_PER_BOUNDARY;
+use geometry::boundaries::WIDTH;
+use geometry::boundaries::segment_of;
 use geometry::numbers::fmax;
 use geometry::numbers::fmin;
 use geometry::ramp_geometry::is_nearby_parallel_representative;
 use geometry::ramp_geometry::overlapping_ramp_representative;
 use geometry::ramp_geometry::segment_distance;
-use span_geometry::PixelPosition;
 ghost use mathlib.Core.Path.{_≡_};
 ghost use mathlib.Core.Bool.{not};
 ghost use Prim.Native.Nat.{_*_, _+_, _<_};
-ghost use lib.ListN.{length, getD};
+ghost use lib.ListN.{getD};
 ghost use lib.Ieee.{binary64, lt, ofBits};
 ghost use Rattle.definitions.specs.Limits.{numbersPerBoundary};
-ghost use Rattle.definitions.specs.Grid.{segmentAt};
 ghost use Rattle.definitions.specs.Context.{Context};
 ghost use Rattle.definitions.specs.RampMouths.{maxMouthDistance, broadMouth, nearbyRepresentative, overlayRepresentative, separationOf};
 ghost use Rattle.context.specs.Shown.{ShownBoundaries};
-ghost use Rattle.geometry.specs.Forms.{segmentForm};
 ghost use Rattle.mouth_proposals.specs.Lent.{Placed};
-
-pub const NUMBERS_PER_BOUNDARY: usize = 9;
 
 const MAX_MOUTH_DISTANCE: f64 = 224.0;
 
 const MAX_OVERLAY_WIDTH_RATIO: f64 = 1.5;
 
-// The endpoints of boundary i as written.
-pub fn segment_of(boundaries: &[u64], i: usize) -> Segment
-    requires { ⌜ numbersPerBoundary * i + 8 < length (now boundaries) ⌝ }
-    ensures { λ r. ⌜ segmentForm r ≡ segmentAt (now (boundaries .entry)) (numbersPerBoundary * i) ⌝ }
-{
-    let k = NUMBERS_PER_BOUNDARY * i;
-    let a = PixelPosition {
-        x: boundaries[k],
-        y: boundaries[k + 1],
-    };
-    let b = PixelPosition {
-        x: boundaries[k + 2],
-        y: boundaries[k + 3],
-    };
-    Segment { a, b }
-}
-
 fn width_of(boundaries: &[u64], i: usize) -> f64
     requires { ⌜ Placed (now boundaries) i ⌝ }
     ensures { λ r. ⌜ r ≡ ofBits binary64 (getD (now (boundaries .entry)) (numbersPerBoundary * i + 4) 0) ⌝ }
 {
-    f64::from_bits(boundaries[NUMBERS_PER_BOUNDARY * i + 4])
+    f64::from_bits(boundaries[NUMBERS_PER_BOUNDARY * i + WIDTH])
 }
 
 // Whether the mouth is twice as wide as the ramp, or wider.

@@ -3,13 +3,14 @@ use crate::approaches::Approach;
 use crate::approaches::approach_of;
 use crate::ends::OtherEnds;
 use crate::ends::other_end_at;
-use crate::measures::NUMBERS_PER_BOUNDARY;
 use crate::measures::broad_mouth;
 use crate::measures::nearby_representative;
 use crate::measures::overlay_representative;
 use crate::shapes::row_at;
 use crate::shapes::triangle_representative;
 use context::pairs::full_cut;
+use geometry::boundaries::KIND;
+use geometry::boundaries::NUMBERS_PER_BOUNDARY;
 ghost use mathlib.Core.Path.{_≡_};
 ghost use mathlib.Core.Bool.{true, false, cond};
 ghost use Prim.Native.Nat.{ℕ, _+_, _-_, _≤_, _<_};
@@ -312,7 +313,7 @@ pub fn mouth_candidate(
         EndsOf C a ends →
         candidateForm C m a x ≡ foundMouth C a m) ⌝ }
 {
-    if boundaries[NUMBERS_PER_BOUNDARY * m + 5] != 0 {
+    if boundaries[NUMBERS_PER_BOUNDARY * m + KIND] != 0 {
         return Candidate::None;
     }
     if !full_cut(tallies, m) {

@@ -15,7 +15,7 @@ use Rattle.definitions.specs.RampMouths.{cornersNear}
 use Rattle.laws.specs.ListLaws.ScansOfAll.{all-append-test, all-ext}
 use Rattle.context.specs.Shown.{pairAt, pairsBetween, ShownPairs}
 use Rattle.context.specs.Rows.{NamedRow}
-use Rattle.context.specs.ShownLaws.{shown-rows}
+use Rattle.context.proofs.ShownLaws.{shown-rows}
 use Rattle.context.proofs.Counting.{between-none, between-more}
 use Rattle.mouth_proposals.specs.Rows.{innerOf}
 use Rattle.mouth_regions.specs.Inner.{placesOf, regionAt, innerAt}

@@ -1,14 +1,10 @@
 // Whether an inner region of a mouth lies near.
 use context::Region;
 use geometry::Point;
-use geometry::points::center;
+use geometry::boundaries::center_of;
 use geometry::points::distance;
-use mouth_proposals::measures::segment_of;
 ghost use mathlib.Core.Path.{_≡_};
-ghost use Prim.Native.Nat.{_*_, _<_};
-ghost use Rattle.definitions.specs.Limits.{numbersPerBoundary};
-ghost use Rattle.definitions.specs.Grid.{segmentAt};
-ghost use Rattle.definitions.specs.Geometry.{center};
+ghost use Prim.Native.Nat.{_<_};
 ghost use Rattle.definitions.specs.Context.{Context};
 ghost use Rattle.laws.specs.FloatLaws.Pixels.{PixelRegion};
 ghost use Rattle.laws.specs.FloatLaws.DistanceRange.{DistanceInRange};
@@ -19,14 +15,6 @@ ghost use Rattle.mouth_proposals.specs.Lent.{Placed};
 ghost use Rattle.mouth_regions.specs.Near.{cornerNear, regionNear};
 
 const MAX_APPROACH_RADIUS: f64 = 512.0;
-
-fn center_of(boundaries: &[u64], i: usize) -> Point
-    requires { ⌜ Placed (now boundaries) i ⌝ }
-    ensures { λ r. ⌜ pointForm r ≡ center (segmentAt (now (boundaries .entry)) (numbersPerBoundary * i)) ⌝ }
-{
-    let s = segment_of(boundaries, i);
-    center(s.a, s.b)
-}
 
 fn corner_near(ramp: Point, mouth: Point, broad: bool, corner: Point) -> bool
     ensures { λ r. ⌜ (DistanceInRange (pointForm corner) (pointForm ramp) →

@@ -1,12 +1,12 @@
 -- The rounds of the selection: what is known between them, that each leaves a mouth less, and that what was taken at the end is the definitions' choice. Assumes nothing.
-use Prim.Native.Nat.{ℕ, zero, suc, _≤_, _<_}
+use Prim.Native.Nat.{ℕ, _≤_, _<_}
 use native.Mathlib.Omega.{arith}
 use native.Mathlib.Nat.{le-trans}
 use mathlib.Core.Path.{_≡_, refl, sym, ap, _∙_, subst}
 use mathlib.Core.Bool.{Bool, true, false, not, _||_, cond, or-false, or-true, false≢true}
 use mathlib.Core.Option.{Option, none, some}
 use mathlib.Core.List.{List, [], _∷_, _++_, map}
-use lib.ListN.{length, getD, replicate}
+use lib.ListN.{length, getD}
 use lib.Dec.{eqb}
 use borrow.Author.Tests.{eq-eqb, ne-eqb}
 use Rattle.definitions.specs.Scan.{any, filter, member, countBelow}
@@ -21,8 +21,8 @@ use Rattle.laws.specs.ListLaws.Below.{count-ext}
 use Rattle.laws.specs.OrderLaws.ListOrder.{by-key}
 use Rattle.laws.specs.OrderLaws.StableSort.{Weak}
 use Rattle.laws.specs.ListLaws.Tests.{neither}
-use Rattle.context.specs.OneMore.{OneMore, count-more}
-use Rattle.context.specs.ShownLaws.{shown-stretch, shown-rows}
+use Rattle.laws.specs.RegionLaws.OneMore.{OneMore, count-more}
+use Rattle.context.proofs.ShownLaws.{shown-stretch, shown-rows}
 use Rattle.context.specs.Rows.{NamedRow}
 use Rattle.mouth_selection.specs.Held.{isUsed, isRefused, HeldMarks, TakenState}
 use Rattle.mouth_selection.specs.Entries.{SafeEntries}
@@ -168,8 +168,3 @@ fewer-left {C} same T p {was} {now} S U h e =
 
 pub taken-at : {C : Context} (T : List MouthProposal) {p q : MouthProposal} {removed used : List Bool} {marks : List ℕ} → p ≡ q → TakenState C (T ++ (p ∷ [])) removed used marks → TakenState C (T ++ (q ∷ [])) removed used marks
 taken-at {C} T {removed = removed} {used = used} {marks = marks} e S = subst (λ p. TakenState C (T ++ (p ∷ [])) removed used marks) e S
-
-pub none-used : (n i : ℕ) → getD (replicate n false) i false ≡ false
-none-used zero i = refl
-none-used (suc n) zero = refl
-none-used (suc n) (suc i) = none-used n i

@@ -1,6 +1,6 @@
 // The order in which proposals are taken.
+use geometry::boundaries::segment_of;
 use geometry::endpoints::precedes;
-use mouth_proposals::measures::segment_of;
 ghost use mathlib.Core.Path.{_≡_};
 ghost use Prim.Native.Nat.{_*_, _+_, _<_};
 ghost use lib.ListN.{length};

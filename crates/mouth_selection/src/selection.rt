@@ -2,7 +2,9 @@
 use crate::held::hold_proposal;
 use crate::held::proposal_held;
 use crate::keys::ranks_before;
-use mouth_proposals::measures::NUMBERS_PER_BOUNDARY;
+use geometry::boundaries::KIND;
+use geometry::boundaries::NUMBERS_PER_BOUNDARY;
+use geometry::boundaries::RAMP;
 ghost use mathlib.Core.Path.{_≡_};
 ghost use mathlib.Core.Bool.{false, not, _&&_};
 ghost use mathlib.Core.List.{List, [], _∷_, _++_};
@@ -27,8 +29,9 @@ fn same_end(boundaries: &[u64], i: usize, j: usize) -> bool
     requires { ⌜ (numbersPerBoundary * i + 8 < length (now boundaries)) × (numbersPerBoundary * j + 8 < length (now boundaries)) ⌝ }
     ensures { λ r. ⌜ r ≡ sameEnd (now (boundaries .entry)) i j ⌝ }
 {
-    (boundaries[NUMBERS_PER_BOUNDARY * i + 6] == boundaries[NUMBERS_PER_BOUNDARY * j + 6])
-        & (boundaries[NUMBERS_PER_BOUNDARY * i + 5] == boundaries[NUMBERS_PER_BOUNDARY * j + 5])
+    (boundaries[NUMBERS_PER_BOUNDARY * i + RAMP] == boundaries[NUMBERS_PER_BOUNDARY * j + RAMP])
+        & (boundaries[NUMBERS_PER_BOUNDARY * i + KIND]
+            == boundaries[NUMBERS_PER_BOUNDARY * j + KIND])
 }
 
 // Marks every boundary that is the ramp end of boundary a.

@@ -19,12 +19,11 @@ use Rattle.laws.specs.ListLaws.Tests.{both}
 use Rattle.laws.specs.ListLaws.NoFault.{no-fault, none-faulty}
 use Rattle.laws.specs.TableLaws.AcceptedCalls.{Accepted, accepted}
 use Rattle.laws.specs.FloatLaws.MapPixels.{side-bounds}
-use Rattle.laws.specs.FloatLaws.PassRange.{PassInRange}
 use Rattle.laws.specs.RustContext.SoundContext.{Sound}
 use Rattle.laws.specs.RustContext.SoundMaps.{map-sound}
 use Rattle.laws.specs.RustContext.CheckedContext.{Checked}
 use Rattle.laws.specs.RustContext.CheckedMaps.{map-checked}
-use Rattle.laws.specs.RustPasses.Accepted.{accepted-narrow, accepted-finite, accepted-checked, accepted-in-range}
+use Rattle.laws.specs.RustPasses.Accepted.{accepted-narrow, accepted-finite, accepted-checked}
 use Rattle.areas.specs.Fit.{Fit}
 use Rattle.context.specs.Anchors.{anchorCell}
 use Rattle.call_partition.specs.Early.{earlyRefusal}
@@ -99,7 +98,3 @@ module _ {pass w h : ℕ} {cells spans boundaries anchors : List ℕ} {room outp
   pub ready-checked : Checked (contextOf M)
   unfolding mapIn
   ready-checked = map-checked M (accepted-narrow L passes) (accepted-checked L passes)
-
-  pub ready-in-range : PassInRange (contextOf M)
-  unfolding mapIn
-  ready-in-range = accepted-in-range L passes

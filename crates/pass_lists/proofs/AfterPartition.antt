@@ -14,10 +14,10 @@ use Rattle.laws.specs.RegionLaws.Regions.{labels-length}
 use Rattle.laws.specs.FloatLaws.MapPixels.{side-bounds}
 use Rattle.areas.proofs.Dividing.{labels-shown}
 use Rattle.stretches.specs.Queue.{Shown}
-use Rattle.stretches.specs.AfterFlood.{low-elevations}
-use Rattle.context.specs.AnchorLaws.{map-anchors}
+use Rattle.stretches.proofs.AfterFlood.{low-elevations}
+use Rattle.context.proofs.AnchorLaws.{map-anchors}
 use Rattle.context.specs.Shown.{ShownBoundaries, ShownTallies}
-use Rattle.context.specs.ShownLaws.{map-rows}
+use Rattle.context.proofs.ShownLaws.{map-rows}
 use Rattle.call_partition.specs.Prepared.{ReadyAs}
 use Rattle.pass_lists.specs.Contract.{Partitioned}
 use Rattle.pass_lists.specs.Finished.{Finishes}

@@ -13,6 +13,7 @@ use Rattle.definitions.specs.Scan.{gather}
 use Rattle.definitions.specs.Lists.{overwrite}
 use Rattle.definitions.specs.Context.{Context}
 use Rattle.definitions.specs.AtExit.{talliesOf}
+use Rattle.laws.specs.RegionLaws.Tallies.{tallies-length}
 use Rattle.context.specs.Shown.{ShownTallies}
 
 module _ (f g : ℕ → ℕ) where
@@ -47,19 +48,15 @@ module _ (f g : ℕ → ℕ) where
           )
 
 module _ (C : Context) (old : List ℕ) {tallies : List ℕ} (filled : tallies ≡ overwrite (talliesOf C) old) where
-  tallies-length : length (talliesOf C) ≡ talliesPerSpan * C .count
-  unfolding talliesOf
-  tallies-length = twos-length (C .removedEdges) (C .separatedEdges) (C .count)
-
   front : (k : ℕ) → k < talliesPerSpan * C .count → getD tallies k 0 ≡ getD (talliesOf C) k 0
-  front k l = ap (λ t. getD t k 0) filled ∙ List·getD-append (talliesOf C) (drop (length (talliesOf C)) old) 0 k (omega (arith, tallies-length, l))
+  front k l = ap (λ t. getD t k 0) filled ∙ List·getD-append (talliesOf C) (drop (length (talliesOf C)) old) 0 k (omega (arith, tallies-length C, l))
 
   pub tallies-shown : C .count ≤ maxEntries → ShownTallies C tallies
   unfolding talliesOf
   tallies-shown few =
       record {
         few = few;
-        long = omega (arith, ap length filled, length-append (talliesOf C) (drop (length (talliesOf C)) old), tallies-length);
+        long = omega (arith, ap length filled, length-append (talliesOf C) (drop (length (talliesOf C)) old), tallies-length C);
         removed = λ i l. sym (front (talliesPerSpan * i) (omega (arith, l)) ∙ twos-at (C .removedEdges) (C .separatedEdges) (C .count) i l .0);
         separated = λ i l. sym (front (talliesPerSpan * i + 1) (omega (arith, l)) ∙ twos-at (C .removedEdges) (C .separatedEdges) (C .count) i l .1);
       }

@@ -16,13 +16,14 @@ use Rattle.definitions.specs.Context.{Context, contextOf}
 use Rattle.definitions.specs.Verdict.{pairRowsOf}
 use Rattle.laws.specs.ListLaws.Lists.{All, all-run}
 use Rattle.laws.specs.RegionLaws.Regions.{label-range, label-blocked}
+use Rattle.laws.specs.ListLaws.Beyond.{Beyond}
 use Rattle.flood.proofs.Used.{count-le}
 use Rattle.areas.proofs.Labelling.{zeroed-at, zeroed-rest}
 use Rattle.context.specs.Anchors.{anchorCell, anchorCells, markLabel, markCells, AnchorsFit}
-use Rattle.context.specs.AnchorLaws.{marked-beyond, marked-shown}
-use Rattle.context.specs.Rows.{Stretch, NamedRows, Beyond}
+use Rattle.context.proofs.AnchorLaws.{marked-beyond, marked-shown}
+use Rattle.context.specs.Rows.{Stretch, NamedRows}
 use Rattle.context.specs.Shown.{ShownTallies, ShownPairs, ShownFullPairs, ShownAnchored, ShownIncidents}
-use Rattle.context.specs.ShownLaws.{shown-stretch, shown-rows}
+use Rattle.context.proofs.ShownLaws.{shown-stretch, shown-rows}
 use Rattle.pass_lists.specs.Contract.{Partitioned, FreshMarks, Viewed}
 
 module _ (M : Map) where

@@ -8,8 +8,9 @@ use Rattle.definitions.specs.Grid.{Map, cellCount}
 use Rattle.definitions.specs.Partition.{regionCount}
 use Rattle.definitions.specs.Partition as partition
 use Rattle.definitions.specs.Context.{Context, contextOf}
+use Rattle.laws.specs.ListLaws.Beyond.{Beyond}
 use Rattle.context.specs.Anchors.{anchorCell, anchorCells}
-use Rattle.context.specs.Rows.{PairRows, Beyond}
+use Rattle.context.specs.Rows.{PairRows}
 use Rattle.context.specs.Shown.{ShownTallies, ShownPairs, ShownFullPairs, ShownAnchored, ShownIncidents}
 
 -- The lists are those of map M as the partition left them: its labels, tallies and rows of pairs, and its anchors as lent. Masks and queue, of these lengths, have room

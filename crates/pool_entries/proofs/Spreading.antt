@@ -16,13 +16,6 @@ use Rattle.catalogue.specs.Accession.{Accession}
 use Rattle.catalogue.specs.Pool.{entryOf}
 use Rattle.pool_entries.specs.Steps.{entriesBy, blank}
 
-pub four-stored : (l : List ℕ) (k v w x y : ℕ) → set (set (set (set l k v) (k + 1) w) (k + 2) x) (k + 3) y ≡ sets l k (v ∷ w ∷ x ∷ y ∷ [])
-four-stored l k v w x y =
-    let one : k + 1 ≡ suc k = omega arith in
-    let two : k + 2 ≡ suc (suc k) = omega arith in
-    let three : k + 3 ≡ suc (suc (suc k)) = omega arith in
-    (λ i. set (set (set (set l k v) (one i) w) (two i) x) (three i) y)
-
 entry-length : (m : ℕ) (o : Option Accession) → length (entryOf m o) ≡ 4
 entry-length m none = refl
 entry-length m (some r) = refl

@@ -4,7 +4,7 @@ use Prim.Native.Nat.{ℕ, zero, suc, _+_, _%_, _≤_, _<_}
 use native.Mathlib.Omega.{arith}
 use mathlib.Core.Path.{_≡_, refl, sym, ap, subst, _∙_}
 use mathlib.Core.Option.{Option, none, some}
-use mathlib.Core.Bool.{Bool, true, false, not, _&&_, _||_, true≢false}
+use mathlib.Core.Bool.{Bool, true, false, _&&_, _||_, true≢false}
 use mathlib.Core.List.{List}
 use lib.ListN.{length, getD, set, length-set}
 use lib.Seq.{getD-set-same, getD-set-other}
@@ -104,7 +104,3 @@ apart-faultless l (suc n) S A =
     go : (o : Option Days) → daysOf (termAt l n) ≡ o → firstIn o < endIn o → termFault l n o ≡ none
     go none e h = absurd (omega arith)
     go (some d) e h = rw (lt-leb (d .to) (d .from) h, below-none n (sharing l (termAt l n .onMap) d) (λ j b. A n j b (omega arith) d e)) refl
-
-pub not-false : (b : Bool) → not b ≡ false → b ≡ true
-not-false true e = refl
-not-false false e = absurd (true≢false e)

@@ -1,4 +1,4 @@
-// What `keptlist` prints, as bytes in a lent list: document 01, 'The sheet and the printed list'. Every line ends in a newline.
+// What `keptlist` prints, as bytes in a lent list: SPECIFICATION 14 and 15. Every line ends in a newline.
 ghost use mathlib.Core.Path.{_≡_};
 ghost use mathlib.Core.List.{[], _∷_, _++_};
 ghost use Prim.Native.Nat.{_+_, _*_, _≤_};

@@ -189,7 +189,7 @@ module _ {pass : ℕ} {L : LentLists} {a : Answer} {E : LeftLists} (call : RanOv
     pub island : SameOnIsland (lentMap L) (lentMap L′) isl (rowsHeld a (E .output)) (rowsHeld a′ (E′ .output))
     island = calls.island-theorem call success call′ success′ isl A
 
--- ---- the cases of document 01
+-- ---- the cases of SPECIFICATION 16
 
 pub cases-hold : all (λ b. b) cases.cases ≡ true
 cases-hold = cases.cases-hold

@@ -67,8 +67,8 @@ pub fn finish_ranked(
     output: &mut [u64],
     lent: &mut [u32],
 ) -> RankedAnswer
-    requires { ⌜ Finishes needed count (now boundaries) (length (now masks)) (length (now queue)) (length (now output)) ⌝ }
-    requires { ⌜ numbersPerRanked * n ≤ length (now listed) ⌝ }
+    requires finishes { ⌜ Finishes needed count (now boundaries) (length (now masks)) (length (now queue)) (length (now output)) ⌝ }
+    requires listed { ⌜ numbersPerRanked * n ≤ length (now listed) ⌝ }
     ensures { λ r. ⌜ RankedFinished needed count (now (boundaries .entry)) (now (removed .entry)) (now (listed .entry)) n
         (now (masks .entry)) (now (queue .entry)) (now (output .entry)) (now (lent .entry))
         r (now (masks .exit)) (now (queue .exit)) (now (output .exit)) (now (lent .exit)) ⌝ }

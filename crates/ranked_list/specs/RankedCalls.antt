@@ -8,16 +8,16 @@ use mathlib.Core.Option.{Option, none, some}
 use mathlib.Core.List.{List, [], _∷_, _++_, map}
 use lib.ListN.{length, getD, drop}
 use lib.Dec.{eqb}
-use Rattle.definitions.specs.Scan.{bit}
-use Rattle.definitions.specs.Grid.{Map, spanCount}
+use Rattle.definitions.specs.Grid.{spanCount}
 use Rattle.definitions.specs.RegionRecord.{Region}
 use Rattle.definitions.specs.Context.{Context, contextOf}
 use Rattle.definitions.specs.Junctions.{Proposal, conflict, ranked, removed, isReservedPort}
 use Rattle.definitions.specs.Rows.{removedOf, removedBy}
 use Rattle.definitions.specs.Verdict.{Lent, mapIn, verdict, refusal}
+use Rattle.laws.specs.ListLaws.Flags.{bit-is-one}
 use Rattle.ranked_list.specs.RankedList.{Listed, judged, judgedAfter, rankedRows, rankedOf, numbersPerRanked, flatRanked}
 use Rattle.ranked_list.specs.RankedAnswers.{RankedAnswer, rankedFault, rankedAfter, rankedVerdict, rankedListExit, RankedRan}
-use Rattle.ranked_list.specs.RankedLaws.{chosen, rows, row, judged-length, removed-are, taken-apart, refused-by, ports-apart}
+use Rattle.ranked_list.specs.RankedLaws.{chosen, rows, judged-length, removed-are, taken-apart, refused-by, ports-apart}
 use Rattle.ranked_list.specs.OneBoundary.{no-two}
 
 -- ---- the rows of a list of numbers
@@ -31,15 +31,11 @@ unfoldable pub rankedIn : ℕ → List ℕ → List (Listed Proposal)
 rankedIn zero l = []
 rankedIn (suc k) l = rankedAt l ∷ rankedIn k (drop numbersPerRanked l)
 
-bit-is : (b : Bool) → eqb (bit b) 1 ≡ b
-bit-is true = refl
-bit-is false = refl
-
 -- what rows were written is read
 pub ranked-of-flat : (l : List (Listed Proposal)) (rest : List ℕ) → rankedIn (length l) (flatRanked l ++ rest) ≡ l
 unfolding rankedIn flatRanked
 ranked-of-flat [] rest = refl
-ranked-of-flat (r ∷ l) rest = λ i. record { item = r .item; taken = bit-is (r .taken) i; by = r .by } ∷ ranked-of-flat l rest i
+ranked-of-flat (r ∷ l) rest = λ i. record { item = r .item; taken = bit-is-one (r .taken) i; by = r .by } ∷ ranked-of-flat l rest i
 
 -- ---- what the request says of the rows of a context
 

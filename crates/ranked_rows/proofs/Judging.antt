@@ -1,8 +1,8 @@
 -- The ranked list grows by one row at its end, a row's numbers say whether it was taken, and the first rank that blocks is what a row names. Assumes nothing.
-use Prim.Native.Nat.{ℕ, zero, suc, _+_, _*_, _≤_, _<_}
+use Prim.Native.Nat.{ℕ, zero, suc, _+_, _*_, _<_}
 use native.Mathlib.Omega.{arith}
-use mathlib.Core.Path.{_≡_, refl, sym, ap, ap₂, _∙_, subst}
-use mathlib.Core.Bool.{Bool, true, false, not, _&&_, _||_, cond, false≢true}
+use mathlib.Core.Path.{_≡_, refl, sym, ap, ap₂, _∙_}
+use mathlib.Core.Bool.{Bool, true, false, not, _||_, cond, false≢true}
 use mathlib.Core.List.{List, [], _∷_, _++_, append-nil, append-assoc}
 use lib.ListN.{length, getD, set}
 use lib.Seq.{sets}
@@ -11,6 +11,7 @@ use borrow.Author.Tests.{eq-eqb, ne-eqb}
 use Rattle.definitions.specs.Scan.{any, bit}
 use Rattle.definitions.specs.Junctions.{Proposal}
 use Rattle.laws.specs.ListLaws.Tests.{eqb-same}
+use Rattle.laws.specs.ListLaws.Flags.{bit-is-one}
 use Rattle.junction_proposals.specs.Bridges.{FirstFrom}
 use Rattle.ranked_list.specs.RankedList.{Listed, firstPlace, blocks, judged, judgedAfter, flatRanked}
 use Rattle.ranked_rows.specs.Contract.{rankedRow}
@@ -51,15 +52,11 @@ flat-length (r ∷ l) = omega (arith, flat-length l)
 
 -- ---- a row's numbers
 
-bit-is : (b : Bool) → eqb (bit b) 1 ≡ b
-bit-is true = refl
-bit-is false = refl
-
 -- the fifth number of a row says whether it was taken
 pub taken-number : (l : List (Listed Proposal)) (d : Listed Proposal) (r : ℕ) → r < length l → eqb (getD (flatRanked l) (6 * r + 4) 0) 1 ≡ getD l r d .taken
 unfolding flatRanked
 taken-number [] d r h = absurd (omega arith)
-taken-number (q ∷ l) d zero h = bit-is (q .taken)
+taken-number (q ∷ l) d zero h = bit-is-one (q .taken)
 taken-number (q ∷ l) d (suc r) h =
     let six : 6 * suc r + 4 ≡ suc (suc (suc (suc (suc (suc (6 * r + 4)))))) = omega arith in
     ap (λ n. eqb (getD (flatRanked (q ∷ l)) n 0) 1) six ∙ taken-number l d r (omega arith)

@@ -1,5 +1,5 @@
 // The rows of the ranked junction list, from the proposals of pass 3 that the records of their regions allow, over plain lists.
-use junction_proposals::ports::wide;
+use context::pairs::wide;
 use junction_proposals::proposals::MAX_PROPOSALS;
 use junction_proposals::proposals::NUMBERS_PER_PROPOSAL;
 use junction_selection::ranks::rank_proposals;
@@ -211,7 +211,8 @@ fn list_in_order(
     requires listing { ⌜ Listing (now rows) (now order) (now listed) count n ⌝ }
     requires places { ⌜ (m ≤ n) × Rows (now order) m n ⌝ }
     ensures { λ _. ⌜ now (listed .exit)
-        ≡ overwrite (flatRanked (listedFrom (now (smaller .entry)) (now (larger .entry)) count (orderOf (now (rows .entry)) (now (order .entry)) m))) (now (listed .entry)) ⌝ }
+        ≡ overwrite (flatRanked (listedFrom (now (smaller .entry)) (now (larger .entry)) count (orderOf (now (rows .entry)) (now (order .entry)) m)))
+        (now (listed .entry)) ⌝ }
 {
     for k in 0..m {
         list_row(
@@ -243,8 +244,8 @@ pub fn list_ranked(
     ensures many { λ r. ⌜ r ≡ length (allowedList (now (smaller .entry)) (now (larger .entry)) count (now (boundaries .entry)) (now (rows .entry))
         (now (verdicts .entry)) n) ⌝ }
     ensures list { λ _. ⌜ now (listed .exit)
-        ≡ overwrite (flatRanked (allowedList (now (smaller .entry)) (now (larger .entry)) count (now (boundaries .entry)) (now (rows .entry)) (now (verdicts .entry)) n))
-        (now (listed .entry)) ⌝ }
+        ≡ overwrite (flatRanked (allowedList (now (smaller .entry)) (now (larger .entry)) count (now (boundaries .entry)) (now (rows .entry))
+        (now (verdicts .entry)) n)) (now (listed .entry)) ⌝ }
 {
     let mut order = [0u32; MAX_PROPOSALS];
     let m = rank_proposals(boundaries, rows, verdicts, &mut order, count, n);

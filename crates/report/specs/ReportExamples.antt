@@ -1,4 +1,4 @@
--- Computed examples of request 13: what case J of document 01 adds, runs added in two orders, a run beyond the last, means, lengths, and sums that wrap.
+-- Computed examples of request 13: what case J (SPECIFICATION 18) adds, runs added in two orders, a run beyond the last, means, lengths, and sums that wrap.
 -- Assumes nothing.
 use Prim.Native.Nat.{ℕ, _-_, _^_}
 use mathlib.Core.Path.{_≡_, refl}

@@ -29,7 +29,7 @@ use Rattle.laws.specs.OrderLaws.ListOrder.{eqb-sym}
 use Rattle.rest_definitions.specs.RowOrder.{startRows, noRow, turned, mapWith, startMap}
 use Rattle.rest_definitions.specs.Rest.{keptMap, passed, restRows, roundsOf}
 use Rattle.rest_definitions.specs.RestVerdict.{listsFault, samePoint, withRounds, restVerdict}
-use Rattle.rest.specs.NumberedRefusals.{Numbered, refusal-numbered, spans-numbered, none-refused}
+use Rattle.laws.specs.TableLaws.AcceptedCalls.{Numbered, refusal-numbered, spans-numbered, none-refused}
 use Rattle.rest.specs.Picking.{first-none}
 use Rattle.rest.specs.StartMaps.{names, start-count, start-boundaries, start-boundary}
 use Rattle.rest.specs.KeptMaps.{kept-count, kept-boundaries, kept-boundary, kept-endpoints}

@@ -12,7 +12,6 @@ pub mod LentIsland
 pub mod PrintedIsland
 pub mod KeptAlike
 pub mod FlatLists
-pub mod NumberedRefusals
 pub mod InnerCalls
 pub mod Clearing
 pub mod Turning

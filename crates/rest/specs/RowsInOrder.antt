@@ -24,11 +24,12 @@ use Rattle.laws.specs.OrderLaws.Ranks.{rank, rank-mono}
 use Rattle.laws.specs.RegionLaws.Merging.{run-at}
 use Rattle.laws.specs.OrderLaws.StableSort.{Weak, After, Sorted, sort-sorted}
 use Rattle.laws.specs.OrderLaws.ListOrder.{by-key}
+use Rattle.laws.specs.OrderLaws.Endpoints.{canonical-twice}
 use Rattle.rest_definitions.specs.RowOrder.{startRows, noRow, turned, startMap}
 use Rattle.rest_definitions.specs.Rest.{keptMap, passed}
 use Rattle.rest.specs.Picking.{picked-same, picked-all, all-below}
 use Rattle.rest.specs.KeptMaps.{kept-boundaries, kept-boundary}
-use Rattle.rest.specs.StartMaps.{canonical-twice, start-length, start-boundaries, start-boundary, names}
+use Rattle.rest.specs.StartMaps.{start-length, start-boundaries, start-boundary, names}
 
 -- ---- sorting what is in order
 

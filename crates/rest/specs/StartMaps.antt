@@ -5,14 +5,14 @@ use Prim.Native.Nat.{ℕ, zero, suc, _+_, _<_}
 use native.Mathlib.Omega.{arith}
 use native.Mathlib.Numerals.{add-one}
 use mathlib.Core.Path.{_≡_, refl, sym, ap, ap₂, _∙_}
-use mathlib.Core.Bool.{Bool, true, false, not, _&&_, cond, true≢false}
+use mathlib.Core.Bool.{Bool, true, false, not, _&&_, true≢false}
 use mathlib.Core.List.{map}
 use lib.ListN.{length, getD, length-map, List·getD-eq-default}
 use lib.Dec.{eqb, ltb}
 use borrow.Author.Tests.{ltb-true, ltb-false, lt-ltb}
 use Rattle.definitions.specs.Scan.{any, filter, concatMap, collect, onlyIf, countBelow}
 use Rattle.definitions.specs.Sort.{listLt}
-use Rattle.definitions.specs.Grid.{Map, Position, positionLt, Segment, Pair, Boundary, noSegment, noBoundary, canonical, spanCount, spanOf, boundaryOf, isStep, onward, edge}
+use Rattle.definitions.specs.Grid.{Map, Segment, Boundary, noSegment, noBoundary, canonical, spanCount, spanOf, boundaryOf, isStep, onward, edge}
 use Rattle.definitions.specs.Spans.{cuts, candidatePositions, cutSteps}
 use Rattle.definitions.specs.Rows.{Row, rowKey, rowsFrom}
 use Rattle.laws.specs.ListLaws.Lists.{All}
@@ -22,29 +22,12 @@ use Rattle.laws.specs.ListLaws.ScansOfAll.{collect-below}
 use Rattle.laws.specs.ListLaws.Options.{on-only, on-list}
 use Rattle.laws.specs.ListLaws.SortedMembers.{length-sort}
 use Rattle.laws.specs.OrderLaws.StableSort.{all-sort}
-use Rattle.laws.specs.OrderLaws.PairOrder.{pair-weak}
+use Rattle.laws.specs.OrderLaws.Endpoints.{canonical-twice}
 use Rattle.island.specs.Premises.{cutsIsland, cutsRemainder, Island}
 use Rattle.island.specs.Restrict.{cuts-lt}
 use Rattle.rest_definitions.specs.RowOrder.{startRows, noRow, turned, mapWith, startMap}
 use Rattle.rest.specs.Picking.{getD-mapped}
 use Rattle.rest.specs.KeptMaps.{cutBy}
-
--- ---- canonical endpoints are canonical
-
--- positions compare as pairs do
-abbrev asPair : Position → Pair
-asPair p = record { lo = p .x; hi = p .y }
-
-pub canonical-twice : (s : Segment) → canonical (canonical s) ≡ canonical s
-unfolding canonical
-canonical-twice s = go (positionLt (s .b) (s .a)) refl
-  where
-    swapped : Segment
-    swapped = record { a = s .b; b = s .a }
-
-    go : (b : Bool) → positionLt (s .b) (s .a) ≡ b → canonical (cond b swapped s) ≡ cond b swapped s
-    go true h = ap (λ c. cond c s swapped) (pair-weak .asym (asPair (s .b)) (asPair (s .a)) h)
-    go false h = ap (λ c. cond c swapped s) h
 
 -- ---- the starting list
 

@@ -1,4 +1,4 @@
--- What each lent list holds after the call that runs to rest, for every answer. Unquoted lines are as in document 01's table (AtExit of definitions);
+-- What each lent list holds after the call that runs to rest, for every answer. Unquoted lines are as in the table of SPECIFICATION 4 (AtExit of definitions);
 -- quotations are of document 02, request 4. Definitions only. Assumes nothing.
 use Prim.Native.Nat.{ℕ, _*_}
 use mathlib.Core.List.{List}

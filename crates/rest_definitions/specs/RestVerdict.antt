@@ -1,4 +1,4 @@
--- The answer of the call that runs to rest, to every input (document 02, request 4; document 01's table). Refusals 5 to 9 name entries of the lists as lent;
+-- The answer of the call that runs to rest, to every input (document 02, request 4; SPECIFICATION 4). Refusals 5 to 9 name entries of the lists as lent;
 -- 11 and 12 come of the first pass alone, since no later pass has more regions or more pairs (`FewerPairs.antt`). Definitions only. Assumes nothing.
 use Prim.Native.Nat.{ℕ, _*_, _/_, max}
 use mathlib.Core.Bool.{Bool, _&&_, cond}

@@ -20,6 +20,7 @@ use Rattle.definitions.specs.Refusals.{Refusal, orElse, unless, sidesFault, cel
 use Rattle.definitions.specs.Verdict.{Lent, Answer, mapIn, refusal, firstRefusal, recordsFault, pairRowsOf, pairsFault, verdict}
 use Rattle.definitions.specs.AtExit.{Stage, stageOf, untouched, complete, talliesOf, scratchAtExit, callExit, exitWith}
 use Rattle.definitions.specs.Lists.{overwrite, zeroed}
+use Rattle.laws.specs.TableLaws.AcceptedCalls.{or-else-assoc}
 use Rattle.laws.specs.ListLaws.Lists.{length-run}
 use Rattle.laws.specs.ListLaws.NoFault.{no-fault, or-else-none}
 use Rattle.laws.specs.ListLaws.Tests.{both}
@@ -49,10 +50,6 @@ use Rattle.rest_lists.specs.Kept.{endsBlock, Holds, ReadyOf, rowsLong, k
 use Rattle.rest_lists.specs.Begun.{BegunAs}
 use Rattle.rest_lists.proofs.Holding.{begins-front, begins-long, flat-ends}
 use Rattle.rest_lists.proofs.Inner.{rowsOut, rows-out, inner-early, inner-fits}
-
-assoc : {A : Type 0} (a b c : Option A) → orElse (orElse a b) c ≡ orElse a (orElse b c)
-assoc none b c = refl
-assoc (some x) b c = refl
 
 -- a refusal has no rounds
 no-rounds : (a : Answer) (rounds : ℕ) → (a .number ≡ 0 → ⊥) → withRounds a rounds ≡ record { number = a .number; value = a .value; rounds = 0 }
@@ -89,16 +86,16 @@ module _ (w h : ℕ) (cells spans boundaries anchors : List ℕ) (l m q t o : �
   early-parts : restEarly w h cells spans boundaries anchors l m q t o ≡ one-by-one
   unfolding restEarly sizesRefusal entriesRefusal
   early-parts =
-      assoc (refusal 1 (sidesFault w h)) _ _
+      or-else-assoc (refusal 1 (sidesFault w h)) _ _
       ∙ ap (orElse (refusal 1 (sidesFault w h)))
-      (assoc (refusal 2 (cellsFault w h cells)) _ _
+      (or-else-assoc (refusal 2 (cellsFault w h cells)) _ _
       ∙ ap (orElse (refusal 2 (cellsFault w h cells)))
-      (assoc third (refusal 4 (passFault 1)) _
+      (or-else-assoc third (refusal 4 (passFault 1)) _
       ∙ ap (λ x. orElse third (orElse sixteen x))
-      (assoc (spansRefusal w h spans) _ _
+      (or-else-assoc (spansRefusal w h spans) _ _
       ∙ ap (orElse (spansRefusal w h spans))
-      (assoc (refusal 7 (boundariesFault w h boundaries)) _ _
-      ∙ ap (orElse (refusal 7 (boundariesFault w h boundaries))) (assoc (refusal 8 (anchorsFault w h anchors)) (refusal 9 (elevationsFault cells)) _)))))
+      (or-else-assoc (refusal 7 (boundariesFault w h boundaries)) _ _
+      ∙ ap (orElse (refusal 7 (boundariesFault w h boundaries))) (or-else-assoc (refusal 8 (anchorsFault w h anchors)) (refusal 9 (elevationsFault cells)) _)))))
 
   -- such a refusal leaves every list as it was
   early-leaves : Leaves one-by-one

@@ -1,17 +1,16 @@
 -- What stands between the passes (`KeptLists`), through a turn: before the first pass (`kept-starts`), behind a pass that removes none (`kept-still`), and behind one that removes some, once what is
 -- left is divided again (`kept-again`; `kept-divides` has what that asks). Each list is then the partition's data over the list as lent, since clearing forgets what earlier passes wrote and
 -- beyond what is cleared no pass writes. Assumes nothing.
-use Prim.Native.Nat.{ℕ, zero, suc, _*_, _/_, _≤_}
+use Prim.Native.Nat.{ℕ, _*_, _/_, _≤_}
 use native.Mathlib.Omega.{arith}
 use mathlib.Core.Path.{_≡_, refl, sym, ap, subst, _∙_}
-use mathlib.Core.List.{List, [], _∷_, _++_}
-use lib.ListN.{length, drop, replicate, length-replicate, length-append}
+use mathlib.Core.List.{List, _++_}
+use lib.ListN.{length, drop, replicate, length-replicate}
 use lib.Seq.{drop-at}
 use Rattle.definitions.specs.Grid.{Map, mapOf, cellCount, spanCount}
 use Rattle.definitions.specs.Partition.{labels, regionCount}
 use Rattle.definitions.specs.RegionRecord.{Region}
-use Rattle.definitions.specs.Scan.{gather}
-use Rattle.definitions.specs.Context.{Context, contextOf}
+use Rattle.definitions.specs.Context.{contextOf}
 use Rattle.definitions.specs.AtExit.{talliesOf}
 use Rattle.definitions.specs.Lists.{overwrite, zeroed}
 use Rattle.definitions.specs.Verdict.{Lent, mapIn, pairRowsOf}
@@ -19,6 +18,7 @@ use Rattle.laws.specs.ListLaws.Lists.{length-run}
 use Rattle.laws.specs.ListLaws.Overwritten.{overwrite-twice}
 use Rattle.laws.specs.RegionLaws.Regions.{labels-length}
 use Rattle.laws.specs.TableLaws.KeptRows.{boundary-count}
+use Rattle.laws.specs.RegionLaws.Tallies.{tallies-length}
 use Rattle.call_partition.specs.Early.{earlyRefusal}
 use Rattle.rest_definitions.specs.RowOrder.{mapWith, startMap}
 use Rattle.rest_definitions.specs.Rest.{keptMap, passed}
@@ -47,14 +47,6 @@ over-zeroed : (n : ℕ) (new old : List ℕ) → length new ≡ n → overwrite 
 over-zeroed n new old e =
     ap (λ r. new ++ r)
     (ap (λ m. drop m (zeroed n old)) e ∙ drop-at (replicate n 0) (drop n old) n (length-replicate {A = ℕ} n 0) ∙ ap (λ m. drop m old) (sym e))
-
-tallies-length : (C : Context) → length (talliesOf C) ≡ 2 * C .count
-unfolding talliesOf gather
-tallies-length C = two (C .count)
-  where
-    two : (n : ℕ) → length (gather n (λ s. C .removedEdges s ∷ C .separatedEdges s ∷ [])) ≡ 2 * n
-    two zero = refl
-    two (suc n) = omega (arith, length-append (gather n (λ s. C .removedEdges s ∷ C .separatedEdges s ∷ [])) (C .removedEdges n ∷ C .separatedEdges n ∷ []), two n)
 
 -- ---- the map of what is kept
 

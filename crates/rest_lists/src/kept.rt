@@ -38,10 +38,11 @@ pub fn keep_left(
     count: usize,
 ) -> usize
     requires { ⌜ (count ≤ maxEntries) × (count ≤ length (now numbers)) × (4 * count ≤ length (now spans)) × (9 * count ≤ length (now boundaries)) ⌝ }
-    ensures { λ r. ⌜ now (numbers .exit) ≡ overwrite (leftBlocks (now (removed .entry)) 1 (now (numbers .entry)) count) (now (numbers .entry)) ⌝ }
-    ensures { λ r. ⌜ now (spans .exit) ≡ overwrite (leftBlocks (now (removed .entry)) 4 (now (spans .entry)) count) (now (spans .entry)) ⌝ }
-    ensures { λ r. ⌜ now (boundaries .exit) ≡ overwrite (leftBlocks (now (removed .entry)) 9 (now (boundaries .entry)) count) (now (boundaries .entry)) ⌝ }
-    ensures { λ r. ⌜ r ≡ leftCount (now (removed .entry)) count ⌝ }
+    ensures numbers { λ r. ⌜ now (numbers .exit) ≡ overwrite (leftBlocks (now (removed .entry)) 1 (now (numbers .entry)) count) (now (numbers .entry)) ⌝ }
+    ensures spans { λ r. ⌜ now (spans .exit) ≡ overwrite (leftBlocks (now (removed .entry)) 4 (now (spans .entry)) count) (now (spans .entry)) ⌝ }
+    ensures boundaries { λ r. ⌜ now (boundaries .exit)
+        ≡ overwrite (leftBlocks (now (removed .entry)) 9 (now (boundaries .entry)) count) (now (boundaries .entry)) ⌝ }
+    ensures answer { λ r. ⌜ r ≡ leftCount (now (removed .entry)) count ⌝ }
 {
     keep_blocks(numbers, 1, removed, count);
     keep_blocks(spans, NUMBERS_PER_SPAN, removed, count);
@@ -64,9 +65,11 @@ pub fn divide_again(
     tallies: &mut [u32],
     pairs: &mut [u32],
 ) -> Standing
-    requires { ⌜ ((O : Origin) × (anchors : List ℕ) × (s : List Region) × (places : List ℕ) × Divides width height (now cells) anchors O s places (now spans) kept first room
+    requires { ⌜ ((O : Origin) × (anchors : List ℕ) × (s : List Region) × (places : List ℕ)
+        × Divides width height (now cells) anchors O s places (now spans) kept first room
         (now labels) (now masks) (now queue) (now tallies) (now pairs)) ⌝ }
-    ensures { λ r. ⌜ ((O : Origin) (anchors : List ℕ) (s : List Region) (places : List ℕ) → Divides width height (now (cells .entry)) anchors O s places (now (spans .entry)) kept first room
+    ensures { λ r. ⌜ ((O : Origin) (anchors : List ℕ) (s : List Region) (places : List ℕ)
+        → Divides width height (now (cells .entry)) anchors O s places (now (spans .entry)) kept first room
         (now (labels .entry)) (now (masks .entry)) (now (queue .entry)) (now (tallies .entry)) (now (pairs .entry))
         → Redivided width height (now (cells .entry)) anchors O places first room
         (now (labels .entry)) (now (masks .entry)) (now (queue .entry)) (now (tallies .entry)) (now (pairs .entry)) r
@@ -110,10 +113,10 @@ pub fn finish_rest(
     queue: &mut [u32],
     output: &mut [u64],
 )
-    requires { ⌜ (needed ≤ length (now masks)) × (needed ≤ length (now queue)) ⌝ }
-    requires { ⌜ (kept ≤ length (now numbers)) × (4 * kept ≤ length (now spans)) × (5 * kept ≤ length (now output)) ⌝ }
-    ensures { λ _. ⌜ (now (masks .exit) ≡ zeroed needed (now (masks .entry))) × (now (queue .exit) ≡ zeroed needed (now (queue .entry))) ⌝ }
-    ensures { λ _. ⌜ now (output .exit) ≡ overwrite (flatRows (rowsAt (now (numbers .entry)) (now (spans .entry)) kept)) (now (output .entry)) ⌝ }
+    requires scratch { ⌜ (needed ≤ length (now masks)) × (needed ≤ length (now queue)) ⌝ }
+    requires room { ⌜ (kept ≤ length (now numbers)) × (4 * kept ≤ length (now spans)) × (5 * kept ≤ length (now output)) ⌝ }
+    ensures scratch { λ _. ⌜ (now (masks .exit) ≡ zeroed needed (now (masks .entry))) × (now (queue .exit) ≡ zeroed needed (now (queue .entry))) ⌝ }
+    ensures output { λ _. ⌜ now (output .exit) ≡ overwrite (flatRows (rowsAt (now (numbers .entry)) (now (spans .entry)) kept)) (now (output .entry)) ⌝ }
 {
     clear_scratch(masks, queue, needed);
     put_rows(numbers, spans, kept, output);

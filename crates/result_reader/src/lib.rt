@@ -536,12 +536,12 @@ fn fill(
     pairs: &mut [u64],
     rows: &mut [u64],
 )
-    requires { ⌜ PlanHeld (now bytes) plan ⌝ }
-    requires { ⌜ Room plan (length (now labels)) (length (now tallies)) (length (now pairs)) (length (now rows)) ⌝ }
-    ensures { λ r. ⌜ now (labels .exit) ≡ overwrite (partNumbers 1 (now (bytes .entry)) (plan .labels)) (now (labels .entry)) ⌝ }
-    ensures { λ r. ⌜ now (tallies .exit) ≡ overwrite (partNumbers talliesPerSpan (now (bytes .entry)) (plan .tallies)) (now (tallies .entry)) ⌝ }
-    ensures { λ r. ⌜ now (pairs .exit) ≡ overwrite (partNumbers numbersPerPair (now (bytes .entry)) (plan .pairs)) (now (pairs .entry)) ⌝ }
-    ensures { λ r. ⌜ now (rows .exit) ≡ overwrite (partNumbers numbersPerRow (now (bytes .entry)) (plan .rows)) (now (rows .entry)) ⌝ }
+    requires held { ⌜ PlanHeld (now bytes) plan ⌝ }
+    requires room { ⌜ Room plan (length (now labels)) (length (now tallies)) (length (now pairs)) (length (now rows)) ⌝ }
+    ensures labels { λ r. ⌜ now (labels .exit) ≡ overwrite (partNumbers 1 (now (bytes .entry)) (plan .labels)) (now (labels .entry)) ⌝ }
+    ensures tallies { λ r. ⌜ now (tallies .exit) ≡ overwrite (partNumbers talliesPerSpan (now (bytes .entry)) (plan .tallies)) (now (tallies .entry)) ⌝ }
+    ensures pairs { λ r. ⌜ now (pairs .exit) ≡ overwrite (partNumbers numbersPerPair (now (bytes .entry)) (plan .pairs)) (now (pairs .entry)) ⌝ }
+    ensures rows { λ r. ⌜ now (rows .exit) ≡ overwrite (partNumbers numbersPerRow (now (bytes .entry)) (plan .rows)) (now (rows .entry)) ⌝ }
 {
     let a = plan.labels;
     let b = plan.tallies;

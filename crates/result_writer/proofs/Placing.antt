@@ -5,7 +5,7 @@ use native.Mathlib.Numerals.{add-one}
 use mathlib.Core.Path.{_≡_, refl, sym, ap, _∙_}
 use mathlib.Core.List.{List, [], _∷_, _++_}
 use lib.ListN.{length, drop, getD, length-append, drop-of-length-le}
-use lib.Seq.{sets, drop-cons}
+use lib.Seq.{sets, length-sets, drop-cons}
 use Rattle.definitions.specs.Scan.{concatMap}
 use Rattle.laws.specs.ListLaws.Overwritten.{sets-append}
 use Rattle.results.specs.Shortest.{shortest, listBytes}
@@ -14,6 +14,10 @@ use Rattle.results.specs.ResultAnswers.{resultBytes}
 use Rattle.definitions.specs.Limits.{talliesPerSpan, numbersPerPair, numbersPerRow}
 use Rattle.put_shortest.specs.Contract.{Put}
 use Rattle.result_writer.proofs.Spending.{next-length}
+
+-- putting bytes keeps the length
+pub put-long : {old new bytes : List ℕ} {at next : ℕ} → Put old at bytes new next → length new ≡ length old
+put-long {old} {bytes = bytes} {at} P = ap length (P .stored) ∙ length-sets old at bytes
 
 pub put-then : {old new new′ v w : List ℕ} {at next next′ : ℕ} → Put old at v new next → Put new next w new′ next′ → Put old at (v ++ w) new′ next′
 put-then {old} {new} {new′} {v} {w} {at} {next} P Q =

@@ -1,12 +1,12 @@
--- The room that numbers take: their groups while they are counted (`Counting`), the sizes while they are taken from the room (`Spending`), and the room for the
+-- The room that numbers take: their groups while they are counted (`CountingGroups`), the sizes while they are taken from the room (`Spending`), and the room for the
 -- whole sheet. Assumes nothing.
-use Prim.Native.Nat.{ℕ, zero, suc, _+_, _-_, _*_, _/_, _%_, _^_, _<_, _≤_}
+use Prim.Native.Nat.{ℕ, zero, suc, _+_, _-_, _*_, _/_, _^_, _<_, _≤_}
 use native.Mathlib.Omega.{arith}
 use native.Mathlib.Numerals.{add-one}
 use native.Mathlib.Nat.{pow-suc}
 use mathlib.Core.Path.{_≡_, refl, sym, ap, _∙_}
 use mathlib.Core.Bool.{Bool, true, false, cond}
-use mathlib.Core.List.{List, _∷_, _++_}
+use mathlib.Core.List.{List, _++_}
 use lib.Dec.{leb}
 use lib.ListN.{length, drop, getD, length-append, drop-of-length-le}
 use lib.Seq.{drop-cons}
@@ -24,21 +24,21 @@ use Rattle.result_writer.specs.declared.Room.the-variants.{Left, Short}
 -- ---- one number
 
 -- the groups of `left` are still to be counted
-pub record Counting (n left count : ℕ) : Type 0 where
+pub record CountingGroups (n left count : ℕ) : Type 0 where
   pub more : ℕ
   pub below : left < 128 ^ suc more
   pub fits : more + count ≡ 10
   pub same : length (shortestWithin (suc more) left) + count ≡ length (shortest n) + 1
 
-pub counting-starts : (n : ℕ) → n < 2 ^ 64 → Counting n n 1
+pub counting-starts : (n : ℕ) → n < 2 ^ 64 → CountingGroups n n 1
 unfolding shortest
 counting-starts n h = record { more = 9; below = omega arith; fits = refl; same = refl }
 
-module _ {n left count : ℕ} (C : Counting n left count) where
-  pub counting-goes-on : 128 ≤ left → Counting n (left / 128) (count + 1)
+module _ {n left count : ℕ} (C : CountingGroups n left count) where
+  pub counting-goes-on : 128 ≤ left → CountingGroups n (left / 128) (count + 1)
   counting-goes-on h = go (C .more) (C .below) (C .fits) (C .same)
     where
-      go : (m : ℕ) → left < 128 ^ suc m → m + count ≡ 10 → length (shortestWithin (suc m) left) + count ≡ length (shortest n) + 1 → Counting n (left / 128) (count + 1)
+      go : (m : ℕ) → left < 128 ^ suc m → m + count ≡ 10 → length (shortestWithin (suc m) left) + count ≡ length (shortest n) + 1 → CountingGroups n (left / 128) (count + 1)
       go zero b f s = absurd (omega arith)
       go (suc m) b f s =
           let power : 128 ^ suc (suc m) ≡ 128 ^ suc m * 128 = pow-suc 128 (suc m) in

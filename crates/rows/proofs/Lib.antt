@@ -1,5 +1,4 @@
 pub mod Comparing
-pub mod Storing
 pub mod Inserting
 pub mod Keys
 pub mod Collecting

@@ -25,12 +25,13 @@ use Rattle.laws.specs.ListLaws.Lists.{All}
 use Rattle.laws.specs.ListLaws.FlatRows.{flat-length}
 use Rattle.laws.specs.TableLaws.AcceptedCalls.{accepted-count}
 use Rattle.laws.specs.RegionLaws.Regions.{labels-length}
+use Rattle.laws.specs.RegionLaws.Tallies.{tallies-length}
 use Rattle.call_partition.specs.Contract.{Ran}
 use Rattle.results.specs.Result.{Result, rulesFault}
 use Rattle.results.specs.ResultAnswers.{wellFormed, readResult, resultBytes, placed, isFinished, writeVerdict, writtenAtExit, Writes}
 use Rattle.results.specs.Calls.{InMemory, written-call}
 use Rattle.run_results.specs.Held.{greatest, pairsHeld, regions-greatest, pairs-held}
-use Rattle.run_results.specs.RunResult.{runResult, run-keeps-rules, run-finished, tallies-length}
+use Rattle.run_results.specs.RunResult.{runResult, run-keeps-rules, run-finished}
 
 -- the rows that an output holds: of five numbers each, as many as the answer counts
 abbrev pub rowsLeft : Answer → List ℕ → List ℕ

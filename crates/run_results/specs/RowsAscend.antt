@@ -3,7 +3,7 @@
 use Prim.Native.Nat.{ℕ, zero, suc, _<_}
 use native.Mathlib.Omega.{arith}
 use mathlib.Core.Path.{_≡_, refl, sym, ap, ap₂, subst, _∙_}
-use mathlib.Core.Bool.{Bool, true, false, not, _&&_, _||_, cond, true≢false}
+use mathlib.Core.Bool.{Bool, true, false, not, _&&_, _||_, true≢false}
 use mathlib.Core.Option.{none}
 use mathlib.Core.List.{List, [], _∷_, _++_, map}
 use lib.Dec.{ltb, eqb}
@@ -12,7 +12,7 @@ use borrow.Author.Tests.{lt-ltb, le-ltb, eq-eqb}
 use Rattle.definitions.specs.Limits.{numbersPerRow}
 use Rattle.definitions.specs.Scan.{collect, toList, onlyIf, concatMap, member}
 use Rattle.definitions.specs.Sort.{sortOnto, sort, listLt}
-use Rattle.definitions.specs.Grid.{Map, Position, Segment, Boundary, positionLt, canonical, boundaryOf}
+use Rattle.definitions.specs.Grid.{Map, Segment, Boundary, canonical, boundaryOf}
 use Rattle.definitions.specs.Context.{endpointsKey}
 use Rattle.definitions.specs.Rows.{Row, rowsFrom, removedOf, rowsOf, flatRows}
 use Rattle.definitions.specs.Rows as rows
@@ -22,8 +22,8 @@ use Rattle.laws.specs.ListLaws.ScansOfAll.{collect-below}
 use Rattle.laws.specs.ListLaws.FlatRows.{flat-length}
 use Rattle.laws.specs.OrderLaws.StableSort.{all-sort}
 use Rattle.laws.specs.OrderLaws.ListOrder.{by-key, Three, less, same, over, three}
-use Rattle.laws.specs.OrderLaws.PairOrder.{pair-weak}
 use Rattle.laws.specs.RustContext.CanonicalOutput.{onto-append}
+use Rattle.laws.specs.OrderLaws.Endpoints.{canonical-twice}
 use Rattle.results.specs.Result.{ascentFault, rowKey}
 use Rattle.results.specs.ResultAnswers.{entriesIn}
 use Rattle.run_results.specs.Rises.{Rises, Apart, insert-rises}
@@ -84,17 +84,6 @@ module _ (kept : ℕ → Bool) (line : ℕ → Segment) where
       one r false = r
 
 -- ---- as they are written
-
-position-asym : (p q : Position) → positionLt p q ≡ true → positionLt q p ≡ false
-position-asym p q h = pair-weak .asym (record { lo = p .x; hi = p .y }) (record { lo = q .x; hi = q .y }) h
-
-canonical-twice : (s : Segment) → canonical (canonical s) ≡ canonical s
-unfolding canonical
-canonical-twice s = go (positionLt (s .b) (s .a)) refl
-  where
-    go : (t : Bool) → positionLt (s .b) (s .a) ≡ t → canonical (cond t (record { a = s .b; b = s .a }) s) ≡ cond t (record { a = s .b; b = s .a }) s
-    go true e = rw (position-asym (s .b) (s .a) e)
-    go false e = rw e
 
 abbrev IsCanonical : Row → Type 0
 IsCanonical r = canonical (r .line) ≡ r .line

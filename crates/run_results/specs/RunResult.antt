@@ -1,22 +1,21 @@
 -- What a pass finds of a map, as a result: it keeps the three rules of result sheets and its entries are finished, whatever the map and the pass. Quotations are of document 02,
 -- request 1. Assumes nothing.
-use Prim.Native.Nat.{ℕ, zero, suc, _*_, _%_}
+use Prim.Native.Nat.{ℕ, _%_}
 use native.Mathlib.Omega.{arith}
 use mathlib.Core.Path.{_≡_, refl}
 use mathlib.Core.Bool.{true}
 use mathlib.Core.Option.{Option, none}
-use mathlib.Core.List.{[], _∷_}
-use lib.ListN.{length, length-append}
+use lib.ListN.{length}
 use borrow.Author.Tests.{eq-eqb}
 use Rattle.definitions.specs.Limits.{talliesPerSpan, numbersPerPair, numbersPerRow}
-use Rattle.definitions.specs.Scan.{gather}
 use Rattle.definitions.specs.Grid.{Map}
 use Rattle.definitions.specs.Partition.{labels, regionCount}
-use Rattle.definitions.specs.Context.{Context, contextOf}
+use Rattle.definitions.specs.Context.{contextOf}
 use Rattle.definitions.specs.Rows.{rowsOf, flatRows}
 use Rattle.definitions.specs.Refusals.{orElse}
 use Rattle.definitions.specs.Verdict.{pairRowsOf}
 use Rattle.definitions.specs.AtExit.{talliesOf}
+use Rattle.laws.specs.RegionLaws.Tallies.{tallies-length}
 use Rattle.laws.specs.ListLaws.FlatRows.{flat-length}
 use Rattle.results.specs.Result.{Result, rulesFault}
 use Rattle.results.specs.ResultAnswers.{placed, isFinished}
@@ -43,14 +42,6 @@ run-keeps-rules pass M = all-none (labels-keep M) (pairs-keep M) (rows-keep pass
     all-none e f g = rw (e, f, g) refl
 
 -- ---- and each list has whole entries
-
-pub tallies-length : (C : Context) → length (talliesOf C) ≡ talliesPerSpan * C .count
-unfolding talliesOf
-tallies-length C = two (C .count)
-  where
-    two : (n : ℕ) → length (gather n (λ s. C .removedEdges s ∷ C .separatedEdges s ∷ [])) ≡ talliesPerSpan * n
-    two zero = refl
-    two (suc n) = omega (arith, length-append (gather n (λ s. C .removedEdges s ∷ C .separatedEdges s ∷ [])) (C .removedEdges n ∷ C .separatedEdges n ∷ []), two n)
 
 pub run-finished : (pass : ℕ) (M : Map) → isFinished (runResult pass M) ≡ true
 run-finished pass M =

@@ -1,4 +1,4 @@
--- The literal renderings computed: case J of document 01, and three small maps, of two regions and of one, in which the diagonal steps matter. Case J meets what the
+-- The literal renderings computed: case J (SPECIFICATION 18), and three small maps, of two regions and of one, in which the diagonal steps matter. Case J meets what the
 -- theorems assume (`case-j-grid`), and by them the computed labels are the definitions'. Assumes nothing.
 use Prim.Native.Nat.{ℕ}
 use native.Mathlib.Omega.{arith}

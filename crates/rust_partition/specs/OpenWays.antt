@@ -15,8 +15,7 @@ use Rattle.definitions.specs.Partition.{here, along, allSteps, cutAll, uncut, l
 use Rattle.laws.specs.ListLaws.Lists.{All, done, more, all-map, all-both, all-filter}
 use Rattle.laws.specs.ListLaws.Members.{all-at, all-members, all-mapped, filter-passes}
 use Rattle.laws.specs.ListLaws.Below.{gather-below, gather-at}
-use Rattle.laws.specs.ListLaws.Tests.{both}
-use Rattle.laws.specs.RegionLaws.GraphLaws.{two-way}
+use Rattle.laws.specs.ListLaws.Tests.{both, same-test}
 use Rattle.laws.specs.RegionLaws.Steps.{uncut-steps}
 use Rattle.laws.specs.RegionLaws.Regions.{labels-joined}
 use Rattle.flood.specs.Masks.{opposite, reached, stepPair}
@@ -127,7 +126,7 @@ module _ (M : Map) where
         one : (d : Position) → List·Memᴰ d directions × List·Memᴰ (opposite d) directions → isOpen c d ≡ true → g c ≡ g (reached M c d)
         one d m o =
             let b = open-back c d o in
-            two-way (g c) (g (reached M c d)) (λ u. all-at (shut c h u) (m .0) o)
+            same-test {a = g c} {b = g (reached M c d)} (λ u. all-at (shut c h u) (m .0) o)
             (λ u. ap g (sym (b .home)) ∙ all-at (shut (reached M c d) (open-inside c d o) u) (m .1) (b .isBack))
 
     pub uncut-level : All (λ e. g (e .lo) ≡ g (e .hi)) (uncut M)

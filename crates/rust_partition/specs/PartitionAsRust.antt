@@ -1,5 +1,5 @@
 -- `partition_by_spans` as the Rust writes it is the definitions' partition: its labels (`rust-labels`), how many areas it has (`rust-areas`), and its assessments, which are what
--- the context holds (`rust-assessments`); and in document 01's layout the tallies and the pair rows (`rust-tallies`, `rust-pairs`). Assumes of the map that its sides are at least 1
+-- the context holds (`rust-assessments`); and in the layout of SPECIFICATION 3 the tallies and the pair rows (`rust-tallies`, `rust-pairs`). Assumes of the map that its sides are at least 1
 -- and that it has a byte for each cell, as checks 1 and 2 have it: every accepted call and every accepted partition is lent such a map (`call-grid`, `partition-grid`).
 use Prim.Native.Nat.{ℕ, zero, suc, _+_, _*_, _≤_, _<_}
 use native.Mathlib.Omega.{arith}
@@ -94,7 +94,7 @@ module _ (M : Map) (G : Grid M) where
       ∙ map-map (λ edges. boundaryAssessment edges (labels M)) (cutSteps M) (run 0 (spanCount M))
       ∙ tab-ext (λ i. boundaryAssessment (cutSteps M i) (labels M)) (contextAssessment (contextOf M)) (spanCount M) span-assessed
 
-  -- ---- in document 01's layout
+  -- ---- in the layout of SPECIFICATION 3
 
   pub rust-tallies : talliesHeld (partitionBySpans M) ≡ talliesOf (contextOf M)
   unfolding talliesOf talliesHeld contextOf spanCount

@@ -10,18 +10,14 @@ use lib.Dec.{eqb, leb}
 use lib.ListN.{length}
 use lib.Seq.{sets}
 use borrow.Author.Tests.{leb-true, eq-eqb, ne-eqb}
-use Rattle.definitions.specs.Limits.{isSide, maxSide, maxEntries, numbersPerBoundary}
+use Rattle.definitions.specs.Limits.{isSide, maxEntries, numbersPerBoundary}
 use Rattle.definitions.specs.Lists.{overwrite}
 use Rattle.definitions.specs.Refusals.{unless, isWhole, boundariesFault}
 use Rattle.definitions.specs.Verdict.{Answer, refusal, firstRefusal}
 use Rattle.laws.specs.ListLaws.Tests.{both}
 use Rattle.laws.specs.ListLaws.Overwritten.{sets-overwrite}
-use Rattle.laws.specs.FloatLaws.MapPixels.{side-bounds}
 use Rattle.separations.specs.Listing.{boundaryCount, numbersPerSeparation, pairCount, separationRows, listVerdict, listAtExit}
 use Rattle.separation_list.specs.Contract.{maxPairs}
-
-pub sides-le : (w h : ℕ) {a : Bool} → a ≡ (isSide w && isSide h) → a ≡ true → (w ≤ maxSide) × (h ≤ maxSide)
-sides-le w h e f = let t = both (isSide w) (isSide h) (sym e ∙ f) in (side-bounds w (t .0) .1, side-bounds h (t .1) .1)
 
 pub entries-le : (boundaries : List ℕ) {b : Bool} → b ≡ isWhole numbersPerBoundary boundaries → b ≡ true → boundaryCount boundaries ≤ maxEntries
 entries-le boundaries e f =

@@ -7,7 +7,7 @@ use mathlib.Core.Path.{_≡_, refl, sym, ap, _∙_, subst}
 use mathlib.Core.Bool.{not}
 use mathlib.Core.List.{List, [], _∷_}
 use lib.Dec.{T}
-use lib.ListN.{set, length, length-append}
+use lib.ListN.{length, length-append}
 use lib.Seq.{sets}
 use lib.Ieee.{Float, binary64, toBits, isNan}
 use Rattle.definitions.specs.Grid.{Segment}
@@ -18,14 +18,6 @@ use Rattle.laws.specs.FloatLaws.FiniteSeparations.{separation-clear}
 use Rattle.separations.specs.Distance.{Fraction, exactSquare}
 use Rattle.separations.specs.Listing.{endsOf, separationRow, column, separationRows}
 use Rattle.separations.specs.ListingLaws.{column-length, rows-room}
-
-pub five-stored : (l : List ℕ) (k v w x y z : ℕ) → set (set (set (set (set l k v) (k + 1) w) (k + 2) x) (k + 3) y) (k + 4) z ≡ sets l k (v ∷ w ∷ x ∷ y ∷ z ∷ [])
-five-stored l k v w x y z =
-    let one : k + 1 ≡ suc k = omega arith in
-    let two : k + 2 ≡ suc (suc k) = omega arith in
-    let three : k + 3 ≡ suc (suc (suc k)) = omega arith in
-    let four : k + 4 ≡ suc (suc (suc (suc k))) = omega arith in
-    (λ i. set (set (set (set (set l k v) (one i) w) (two i) x) (three i) y) (four i) z)
 
 -- what is stored for a pair
 pub row-is : {s t s' t' : Segment} {x : Float} {f : Fraction} (i j : ℕ) → x ≡ segmentDistance s t → f ≡ exactSquare s t → s ≡ s' → t ≡ t'

@@ -19,8 +19,8 @@ use checks::sizes::is_whole;
 use checks::sizes::sides_fit;
 use exact_squares::exact_square;
 use geometry::Segment;
+use geometry::boundaries::segment_of;
 use geometry::ramp_geometry::segment_distance;
-use span_geometry::PixelPosition;
 
 const NUMBERS_PER_SEPARATION: usize = 5;
 
@@ -29,17 +29,7 @@ fn ends_of(boundaries: &[u64], i: usize) -> Segment
     requires { ⌜ i < boundaryCount (now boundaries) ⌝ }
     ensures { λ r. ⌜ segmentForm r ≡ endsOf (now (boundaries .entry)) i ⌝ }
 {
-    let k = NUMBERS_PER_BOUNDARY * i;
-    Segment {
-        a: PixelPosition {
-            x: boundaries[k],
-            y: boundaries[k + 1],
-        },
-        b: PixelPosition {
-            x: boundaries[k + 2],
-            y: boundaries[k + 3],
-        },
-    }
+    segment_of(boundaries, i)
 }
 
 // Five numbers, from a place on.

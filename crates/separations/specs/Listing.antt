@@ -1,6 +1,6 @@
 -- The list of separations that the route desk prints (document 02, request 10: "The route desk prints separations"): an operation that asks for sides and
 -- boundaries only, and gives for each two boundaries their numbers, the bits of their separation and the exact square. It needs no number above 14: what it
--- refuses stands in document 01's table, with an output too short for all pairs as 10. Definitions only. Assumes nothing.
+-- refuses stands in the table of SPECIFICATION 4, with an output too short for all pairs as 10. Definitions only. Assumes nothing.
 use mathlib.Core.Path.{_≡_}
 use mathlib.Core.Bool.{cond}
 use mathlib.Core.List.{List, [], _∷_}

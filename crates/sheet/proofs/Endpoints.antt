@@ -1,10 +1,10 @@
 -- Endpoints of boundaries stored as spans: four stores, one behind the other, and one span more; and which spans are stored, by the kind. Assumes nothing.
-use Prim.Native.Nat.{ℕ, suc, _+_, _*_, _≤_}
+use Prim.Native.Nat.{ℕ, _+_, _*_, _≤_}
 use native.Mathlib.Omega.{arith}
 use mathlib.Core.Path.{_≡_, sym, ap, subst, _∙_}
 use mathlib.Core.Bool.{cond}
-use mathlib.Core.List.{List, [], _∷_}
-use lib.ListN.{length, set}
+use mathlib.Core.List.{List}
+use lib.ListN.{length}
 use lib.Seq.{sets}
 use borrow.Author.Tests.{eq-eqb, ne-eqb}
 use Rattle.definitions.specs.Lists.{overwrite}
@@ -12,13 +12,6 @@ use Rattle.definitions.specs.Grid.{segmentAt}
 use Rattle.definitions.specs.Sheet.{hasSpans, endpoints, endpointsIn}
 use Rattle.laws.specs.ListLaws.Overwritten.{overwrite-more}
 use Rattle.laws.specs.SheetReading.Endpoints.{endpoints-long, endpoints-more}
-
-pub four-stored : (l : List ℕ) (k w x y z : ℕ) → set (set (set (set l k w) (k + 1) x) (k + 2) y) (k + 3) z ≡ sets l k (w ∷ x ∷ y ∷ z ∷ [])
-four-stored l k w x y z =
-    let one : k + 1 ≡ suc k = omega arith in
-    let two : k + 2 ≡ suc (suc k) = omega arith in
-    let three : k + 3 ≡ suc (suc (suc k)) = omega arith in
-    (λ i. set (set (set (set l k w) (one i) x) (two i) y) (three i) z)
 
 pub endpoints-stored : (i : ℕ) (boundaries old : List ℕ) → 4 * i + 4 ≤ length old
     → sets (overwrite (endpointsIn i boundaries) old) (4 * i) (endpoints (segmentAt boundaries (9 * i))) ≡ overwrite (endpointsIn (i + 1) boundaries) old

@@ -4,12 +4,9 @@ use mathlib.Core.Path.{_≡_}
 use mathlib.Core.Bool.{true, _&&_}
 use native.Mathlib.Nat.{mul-le-mul}
 use lib.Dec.{leb}
-use borrow.Author.Tests.{leb-true}
 use Rattle.definitions.specs.Limits.{isSide, maxSide}
 use Rattle.laws.specs.ListLaws.Tests.{both}
-
-pub side-most : (side : ℕ) → isSide side ≡ true → side ≤ maxSide
-side-most side h = leb-true side maxSide (both (leb 1 side) (leb side maxSide) h .1)
+use Rattle.laws.specs.SheetReading.SheetSizes.{side-most}
 
 module _ (width height limit : ℕ) (h : (isSide width && isSide height && leb (width * height) limit) ≡ true) where
   two-sides : (isSide width && isSide height) ≡ true

@@ -26,7 +26,7 @@ abbrev pub answerOf : Reading → Answer
 answerOf (wellFormed s) = Read (headerOf s)
 answerOf (refused refusal place) = Refused refusal place
 
--- document 01's number and place of an answer: "Success returns 0"
+-- the number and place (SPECIFICATION 4) of an answer: "Success returns 0"
 abbrev pub answerNumber : Answer → ℕ
 answerNumber (Read header) = 0
 answerNumber (Refused refusal place) = refusal

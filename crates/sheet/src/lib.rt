@@ -544,8 +544,8 @@ fn fill_spans(
     count: usize,
     spans: &mut [u64],
 )
-    requires { ⌜ Held grammar.number (now bytes) (part .first) (part .length) ⌝ }
-    requires { ⌜ (9 * count ≤ length (now boundaries)) × (cond (hasSpans kind) (part .length) (4 * count) ≤ length (now spans)) ⌝ }
+    requires held { ⌜ Held grammar.number (now bytes) (part .first) (part .length) ⌝ }
+    requires room { ⌜ (9 * count ≤ length (now boundaries)) × (cond (hasSpans kind) (part .length) (4 * count) ≤ length (now spans)) ⌝ }
     ensures { λ r. ⌜ now (spans .exit)
         ≡ overwrite (cond (hasSpans kind) (partOf (now (bytes .entry)) part) (endpointsIn count (now (boundaries .entry)))) (now (spans .entry)) ⌝ }
 {
@@ -566,14 +566,14 @@ fn fill(
     boundaries: &mut [u64],
     anchors: &mut [u64],
 )
-    requires { ⌜ PartsHeld (now bytes) parts ⌝ }
-    requires { ⌜ Room parts (statedLong kind parts) (length (now cells)) (length (now spans)) (length (now boundaries)) (length (now anchors)) ⌝ }
-    ensures { λ r. ⌜ now (cells .exit) ≡ overwrite (cellsIn (now (bytes .entry)) parts) (now (cells .entry)) ⌝ }
-    ensures { λ r. ⌜ now (spans .exit)
+    requires held { ⌜ PartsHeld (now bytes) parts ⌝ }
+    requires room { ⌜ Room parts (statedLong kind parts) (length (now cells)) (length (now spans)) (length (now boundaries)) (length (now anchors)) ⌝ }
+    ensures cells { λ r. ⌜ now (cells .exit) ≡ overwrite (cellsIn (now (bytes .entry)) parts) (now (cells .entry)) ⌝ }
+    ensures spans { λ r. ⌜ now (spans .exit)
         ≡ overwrite (spansStated (hasSpans kind) (partOf (now (bytes .entry)) (parts .spans)) (partOf (now (bytes .entry)) (parts .boundaries)))
         (now (spans .entry)) ⌝ }
-    ensures { λ r. ⌜ now (boundaries .exit) ≡ overwrite (partOf (now (bytes .entry)) (parts .boundaries)) (now (boundaries .entry)) ⌝ }
-    ensures { λ r. ⌜ now (anchors .exit) ≡ overwrite (partOf (now (bytes .entry)) (parts .anchors)) (now (anchors .entry)) ⌝ }
+    ensures boundaries { λ r. ⌜ now (boundaries .exit) ≡ overwrite (partOf (now (bytes .entry)) (parts .boundaries)) (now (boundaries .entry)) ⌝ }
+    ensures anchors { λ r. ⌜ now (anchors .exit) ≡ overwrite (partOf (now (bytes .entry)) (parts .anchors)) (now (anchors .entry)) ⌝ }
 {
     let a = parts.cells;
     let b = parts.spans;
@@ -653,7 +653,7 @@ pub fn read_within(
 
 pub const PLAIN_CELL_LIMIT: u64 = 1_048_576;
 
-// Reads a sheet into the lists: document 01's reading alone.
+// Reads a sheet into the lists: the reading of SPECIFICATION 14 alone.
 pub fn read_sheet(
     bytes: &[u8],
     cells: &mut [u8],

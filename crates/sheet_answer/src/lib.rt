@@ -36,8 +36,8 @@ fn read(
     anchors: &mut [u64],
     out: &mut [u8],
 ) -> Before
-    requires { ⌜ ListsLong (length (now cells)) (length (now spans)) (length (now boundaries)) (length (now anchors)) ⌝ }
-    requires { ⌜ outRoom ≤ length (now out) ⌝ }
+    requires lists_long { ⌜ ListsLong (length (now cells)) (length (now spans)) (length (now boundaries)) (length (now anchors)) ⌝ }
+    requires out_room { ⌜ outRoom ≤ length (now out) ⌝ }
     ensures { λ r. ⌜ Begun (keptlistReading (now (bytes .entry))) (now (cells .entry)) (now (spans .entry)) (now (boundaries .entry))
         (now (anchors .entry)) (now (out .entry)) r (now (cells .exit)) (now (spans .exit)) (now (boundaries .exit)) (now (anchors .exit))
         (now (out .exit)) ⌝ }
@@ -64,8 +64,8 @@ fn read(
 
 // Prints the call's answer: where its number is 0, so many rows of the output, of so many boundaries.
 fn print(number: u64, value: u64, output: &[u64], count: usize, out: &mut [u8]) -> usize
-    requires { ⌜ RowsFit number value (length (now output)) ⌝ }
-    requires { ⌜ outRoom ≤ length (now out) ⌝ }
+    requires rows_fit { ⌜ RowsFit number value (length (now output)) ⌝ }
+    requires out_room { ⌜ outRoom ≤ length (now out) ⌝ }
     ensures { λ r. ⌜ AnswerPrinted number value (now (output .entry)) count (now (out .entry)) (now (out .exit)) r ⌝ }
 {
     if number == 0 {
@@ -146,8 +146,8 @@ fn answer_held(
     anchors: &[u64],
     out: &mut [u8],
 ) -> usize
-    requires { ⌜ SheetHeld header (now cells) (now spans) (now boundaries) (now anchors) ⌝ }
-    requires { ⌜ outRoom ≤ length (now out) ⌝ }
+    requires sheet_held { ⌜ SheetHeld header (now cells) (now spans) (now boundaries) (now anchors) ⌝ }
+    requires out_room { ⌜ outRoom ≤ length (now out) ⌝ }
     ensures { λ r. ⌜ Printed (printing.printedReading
         (wellFormed (sheetIn header (now (cells .entry)) (now (spans .entry)) (now (boundaries .entry)) (now (anchors .entry))))) (now (out .entry))
         (now (out .exit)) r ⌝ }

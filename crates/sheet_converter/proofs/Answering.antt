@@ -19,7 +19,7 @@ use Rattle.sheet.specs.Parts.{sheetOf}
 use Rattle.put_shortest.specs.Contract.{Put}
 use Rattle.map_sheets.specs.SheetBytes.{sheetBytes}
 use Rattle.map_sheets.specs.Writing.{writtenAtExit}
-use Rattle.map_sheets.specs.Numbered.{Numbered, numbered-or, numbered-refusal, numbered-spans}
+use Rattle.laws.specs.TableLaws.AcceptedCalls.{Numbered, refusal-numbered, or-numbered, spans-numbered, number-above}
 use Rattle.map_sheets.specs.Converting.{sameNumbers, isOneList, readKind1, convertAnswer, convertVerdict, convertedBytes, Converts}
 use Rattle.sheet_converter.specs.Contract.{isOther, listsRefusal, mapRefusal, refusalFor, ConvertsPlan}
 use Rattle.sheet_converter.proofs.FirstNumber.{read-other, read-same}
@@ -32,11 +32,11 @@ answer number value = record { number = number; value = value }
 numbered-map : (s : Sheet) → Numbered (refusalFor s)
 unfolding mapRefusal listsRefusal
 numbered-map s =
-    numbered-or _ _ (numbered-refusal 4 (passFault (s .pass)) (omega arith))
-    (numbered-or _ _
-    (numbered-or _ _ (numbered-spans (s .width) (s .height) (s .spans))
-    (numbered-or _ _ (numbered-refusal 7 (boundariesFault (s .width) (s .height) (s .boundaries)) (omega arith)) (numbered-refusal 8 (anchorsFault (s .width) (s .height) (s .anchors)) (omega arith))))
-    (numbered-or _ _ (numbered-refusal 9 (elevationsFault (s .cells)) (omega arith)) (numbered-refusal 22 (unless (sameNumbers (s .spans) (endpointsOf (s .boundaries)))) (omega arith))))
+    or-numbered (refusal-numbered 4 (passFault (s .pass)) (omega arith))
+    (or-numbered
+    (or-numbered (spans-numbered (s .width) (s .height) (s .spans))
+    (or-numbered (refusal-numbered 7 (boundariesFault (s .width) (s .height) (s .boundaries)) (omega arith)) (refusal-numbered 8 (anchorsFault (s .width) (s .height) (s .anchors)) (omega arith))))
+    (or-numbered (refusal-numbered 9 (elevationsFault (s .cells)) (omega arith)) (refusal-numbered 22 (unless (sameNumbers (s .spans) (endpointsOf (s .boundaries)))) (omega arith))))
 
 -- ---- a sheet that was found
 
@@ -73,7 +73,7 @@ module _ (bytes : List ℕ) (plan : Plan) (lent : List ℕ) where
   plan-refused {number} {place} e =
       record {
         said = sym (answered s (length lent) ∙ ap (λ o. byRefusal o (refusal 10 (unless (leb (length (sheetBytes 3 s)) (length lent)))) (length (sheetBytes 3 s))) (sym e));
-        left = go number (numbered-map s .above (sym e));
+        left = go number (number-above (numbered-map s) (sym e));
       }
     where
       go : (n : ℕ) → 0 < n → lent ≡ writtenAtExit n (sheetBytes 3 (sheetOf bytes plan)) lent

@@ -5,7 +5,7 @@ use native.Mathlib.Numerals.{add-one}
 use mathlib.Core.Path.{_≡_, sym, ap, ap₂, subst, _∙_}
 use mathlib.Core.List.{List}
 use lib.ListN.{length, take, drop, getD, set, length-drop, drop-of-length-le}
-use lib.Seq.{sets, take-all, length-sets, drop-cons, length-take-le}
+use lib.Seq.{sets, take-all, drop-cons, length-take-le}
 use Rattle.put_shortest.specs.Contract.{Put}
 
 pub copied-more : (bytes out : List ℕ) (at i : ℕ) → i < length bytes
@@ -27,9 +27,6 @@ put-whole bytes back {old} {new} {at} {next} P =
     subst (λ l. Put old at l new next) all P
 
 -- ---- lengths
-
-pub put-long : {old new bytes : List ℕ} {at next : ℕ} → Put old at bytes new next → length new ≡ length old
-put-long {old} {bytes = bytes} {at} P = ap length (P .stored) ∙ length-sets old at bytes
 
 pub front-long : (bytes : List ℕ) (front : ℕ) → 1 ≤ front → front ≤ length bytes → length (take (front - 1) (drop 1 bytes)) ≡ front - 1
 front-long bytes front h k = length-take-le (front - 1) (drop 1 bytes) (omega (arith, length-drop 1 bytes))

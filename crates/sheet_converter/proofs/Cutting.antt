@@ -21,7 +21,7 @@ use Rattle.sheets_equal.specs.NumberBytes.{Bytes}
 use Rattle.sheets_equal.specs.ReaderBytes.{Reads, reads-number, reads-give, reads-then, reads-check-then, reads-times}
 use Rattle.sheets_equal.specs.SheetsEqual.{reads-cell, reads-kind, reads-spans, kindOf, read-written}
 use Rattle.sheet_converter.specs.Contract.{cutOut, Cut}
-use Rattle.sheet_converter.proofs.FirstNumber.{opened-kind}
+use Rattle.sheet_converter.proofs.FirstNumber.{opening-number}
 
 -- numbers of a slice of bytes are bytes
 pub bytes-known : (l : List ℕ) → ((i : ℕ) → getD l i 0 < 256) → Bytes l
@@ -125,7 +125,7 @@ module _ {bytes : List ℕ} {plan : Plan} (B : Bytes bytes) (S : SheetHeld plain
   unfolding middle spans lists sheetBytes kindOf
   stated =
       read-written plainCellLimit bytes B (S .same)
-      ∙ ap (λ n. sheetBytes n (sheetOf bytes plan)) (opened-kind bytes (S .stands .opened))
+      ∙ ap (λ n. sheetBytes n (sheetOf bytes plan)) (opening-number bytes (S .stands .opened))
       ∙ as-sheet (shortest (plan .kind)) (shortest (plan .pass)) (shortest (plan .width)) (shortest (plan .height)) (concatMap shortest (cellsIn bytes (plan .parts)))
       (spansBytes (hasSpans (plan .kind)) (sheetOf bytes plan .spans)) (listBytes numbersPerBoundary (partOf bytes (plan .parts .boundaries)))
       (listBytes numbersPerAnchor (partOf bytes (plan .parts .anchors)))

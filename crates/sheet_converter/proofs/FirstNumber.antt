@@ -42,7 +42,7 @@ read-same bytes h = by-kind (number 0 bytes) (readSheet plainCellLimit bytes) �
 
 -- ---- the kind that was found
 
-opening-number : (bytes : List ℕ) {o : Opening} {at : ℕ} {rest : List ℕ} → opening 0 bytes ≡ found o at rest → kindIn (number 0 bytes) ≡ o .kind
+pub opening-number : (bytes : List ℕ) {o : Opening} {at : ℕ} {rest : List ℕ} → opening 0 bytes ≡ found o at rest → kindIn (number 0 bytes) ≡ o .kind
 unfolding opening kind
 opening-number bytes {o} {at} {rest} h = outer (kind 0 bytes) refl h
   where
@@ -56,10 +56,6 @@ opening-number bytes {o} {at} {rest} h = outer (kind 0 bytes) refl h
         → andThen r (λ written o r. andThen (number o r) (λ pass. give (record { kind = written; pass = pass }))) ≡ found o at rest → kindIn (number 0 bytes) ≡ o .kind
     outer (found written next more) e q = ap kindIn (judged-is isMapKind 0 bytes e .0) ∙ inner written (number next more) q
     outer (failed refusal place) e q = absurd (not-found q)
-
--- its number, and 1 where no other kind was met
-pub opened-kind : (bytes : List ℕ) {o : Opening} {at : ℕ} {rest : List ℕ} → opening 0 bytes ≡ found o at rest → kindIn (number 0 bytes) ≡ o .kind
-opened-kind = opening-number
 
 pub opened-1 : (bytes : List ℕ) {o : Opening} {at : ℕ} {rest : List ℕ} → opening 0 bytes ≡ found o at rest → isOther (number 0 bytes) ≡ false → o .kind ≡ 1
 unfolding opening kind judged

@@ -7,11 +7,10 @@ use mathlib.Core.List.{List, [], _∷_}
 use lib.Dec.{leb, eqb}
 use lib.ListN.{length}
 use borrow.Author.Tests.{leb-true}
-use Rattle.definitions.specs.Limits.{isSide, maxSide, numbersPerBoundary, numbersPerAnchor}
+use Rattle.definitions.specs.Limits.{isSide, numbersPerBoundary, numbersPerAnchor}
 use Rattle.definitions.specs.Refusals.{unless, isWhole}
 use Rattle.definitions.specs.Verdict.{Answer, refusal, firstRefusal}
 use Rattle.definitions.specs.Sheet.{Sheet}
-use Rattle.laws.specs.ListLaws.Tests.{both}
 use Rattle.laws.specs.ListLaws.Overwritten.{sets-overwrite}
 use Rattle.map_sheets.specs.SheetBytes.{sheetBytes}
 use Rattle.map_sheets.specs.Writing.{writeVerdict, Writes}
@@ -19,12 +18,6 @@ use Rattle.put_shortest.specs.Contract.{Put}
 
 abbrev answer : ℕ → ℕ → Answer
 answer number value = record { number = number; value = value }
-
--- both sides are at most the largest
-pub sides-known : (width height : ℕ) {t : Bool} → t ≡ (isSide width && isSide height) → t ≡ true → (width ≤ maxSide) × (height ≤ maxSide)
-sides-known width height e f =
-    let each = both (isSide width) (isSide height) (sym e ∙ f) in
-    (leb-true width maxSide (both (leb 1 width) (leb width maxSide) (each .0) .1), leb-true height maxSide (both (leb 1 height) (leb height maxSide) (each .1) .1))
 
 -- the four tests
 module _ (s : Sheet) (lent : List ℕ) where

@@ -3,7 +3,6 @@ use Prim.Native.Nat.{ℕ, _+_}
 use mathlib.Core.Path.{_≡_, refl, sym, ap, _∙_}
 use mathlib.Core.List.{List, _++_, append-nil}
 use lib.ListN.{length, length-append}
-use lib.Seq.{length-sets}
 use Rattle.definitions.specs.Limits.{numbersPerBoundary, numbersPerAnchor}
 use Rattle.definitions.specs.Scan.{concatMap}
 use Rattle.results.specs.Shortest.{shortest, listBytes}
@@ -15,10 +14,6 @@ use Rattle.result_writer.specs.declared.Room.{Room}
 use Rattle.result_writer.proofs.Spending.{spent-then}
 use Rattle.result_writer.proofs.Placing.{put-then}
 use Rattle.sheet_writer.specs.Contract.{opening}
-
--- putting bytes keeps the length
-pub put-long : {old new bytes : List ℕ} {at next : ℕ} → Put old at bytes new next → length new ≡ length old
-put-long {old} {bytes = bytes} {at} P = ap length (P .stored) ∙ length-sets old at bytes
 
 -- ---- the opening
 

@@ -1,6 +1,6 @@
 -- A walk over a strip visits the candidate positions of its segment, in their order: by columns where x is the major axis, by rows where y is.
 -- The definition takes the least and the greatest coordinate along the major axis, which are those of the strip's two ends. Assumes nothing.
-use mathlib.Core.Path.{_≡_, refl, sym, ap, _∙_}
+use mathlib.Core.Path.{_≡_, refl, ap, _∙_}
 use mathlib.Core.Bool.{Bool, true, false, cond}
 use mathlib.Core.List.{List, map}
 use Prim.Native.Nat.{ℕ, _≤_, _<_, min, max}
@@ -9,8 +9,7 @@ use lib.Dec.{leb}
 use borrow.Author.Tests.{leb-true, leb-false}
 use Rattle.definitions.specs.Scan.{concatMap}
 use Rattle.definitions.specs.Grid.{Position, at, Segment}
-use Rattle.definitions.specs.Spans.{rangeInclusive, candidateAxisRange, candidateMinorRange, candidatePositions}
-use Rattle.span_geometry.specs.declared.strips.RangeInclusive.{RangeInclusive}
+use Rattle.definitions.specs.Spans.{candidateAxisRange, candidateMinorRange, candidatePositions}
 use Rattle.span_geometry.specs.declared.strips.Strip.{Strip}
 use Rattle.span_geometry.specs.Strips.{byColumns, stripByColumns, stripByRows, stripOf, lineOf}
 
@@ -66,11 +65,3 @@ module _ (w h : ℕ) (s : Segment) where
       go : (t : Bool) → byColumns s ≡ t → candidatePositions w h s ≡ walked w h (cond t (stripByColumns s) (stripByRows s))
       go true e = candidates-by-columns o e
       go false e = candidates-by-rows e
-
-  -- the same in terms of ranges that hold these numbers, as `Strip::axis_range` and `Strip::minor_range` give them
-  pub candidates-by-ranges :
-      s .a .x ≤ s .b .x → (axis : RangeInclusive) (minor : ℕ → RangeInclusive)
-      → rangeInclusive (axis .first) (axis .last) ≡ candidateAxisRange (stripOf s .major0) (stripOf s .major1) (majorSide (stripOf s) w h)
-      → ((k : ℕ) → rangeInclusive (minor k .first) (minor k .last) ≡ candidateMinorRange (lineOf (stripOf s) k) (minorSide (stripOf s) w h))
-      → candidatePositions w h s ≡ concatMap (λ k. map (cellOf (stripOf s) k) (rangeInclusive (minor k .first) (minor k .last))) (rangeInclusive (axis .first) (axis .last))
-  candidates-by-ranges o axis minor e f = candidates-by-strip o ∙ sym (λ i. concatMap (λ k. map (cellOf (stripOf s) k) (f k i)) (e i))

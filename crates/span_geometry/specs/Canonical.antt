@@ -24,14 +24,6 @@ not-before-x p q h = ltb-false (p .x) (q .x) (first (ltb (p .x) (q .x)) (eqb (p 
     first true t h = h
     first false t h = refl
 
-pub canonical-ordered : (s : Segment) → canonical s .a .x ≤ canonical s .b .x
-unfolding canonical
-canonical-ordered s = go (positionLt (s .b) (s .a)) (before-x (s .b) (s .a)) (not-before-x (s .b) (s .a))
-  where
-    go : (t : Bool) → (t ≡ true → s .b .x ≤ s .a .x) → (t ≡ false → s .a .x ≤ s .b .x) → cond t (record { a = s .b; b = s .a }) s .a .x ≤ cond t (record { a = s .b; b = s .a }) s .b .x
-    go true f g = f refl
-    go false f g = g refl
-
 pub canonical-differ : (s : Segment) → endpointsDiffer (canonical s) ≡ endpointsDiffer s
 unfolding canonical
 canonical-differ s = go (positionLt (s .b) (s .a))

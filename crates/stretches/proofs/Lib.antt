@@ -1,1 +1,4 @@
+pub mod RisingRows
+pub mod QueueLaws
+pub mod AfterFlood
 mod Reading

@@ -19,10 +19,10 @@ use Rattle.flood.proofs.Used.{count-le}
 use Rattle.flood.proofs.StepTests.{cell-x, cell-y}
 use Rattle.context.specs.Records.{recordOf, maxCells, Counted, Fitting}
 use Rattle.context.specs.Cells.{addCell, addCellOf, recordFrom}
-use Rattle.context.specs.RecordFrom.{stretch-none, stretch-more, cells-from, counted-from}
+use Rattle.context.proofs.RecordFrom.{stretch-none, stretch-more, cells-from, counted-from}
 use Rattle.stretches.specs.declared.Stretch.{Stretch}
 use Rattle.stretches.specs.Queue.{labelAt, stretchStart}
-use Rattle.stretches.specs.QueueLaws.{start-rises, start-most, stretch-label, label-stretch, stretch-record}
+use Rattle.stretches.proofs.QueueLaws.{start-rises, start-most, stretch-label, label-stretch, stretch-record}
 use Rattle.stretches.specs.Made.{Begins, Made}
 
 -- the record s is made of the stretch's cells before place `at`, which is not past the stretch

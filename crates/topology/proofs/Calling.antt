@@ -1,5 +1,5 @@
 -- The parts of `kept_boundaries`: what each asks, once the call is prepared (`ReadyAs`), and the contract from what they leave. Assumes nothing.
-use Prim.Native.Nat.{ℕ, zero, suc, _*_, _/_, _≤_}
+use Prim.Native.Nat.{ℕ, _*_, _/_, _≤_}
 use native.Mathlib.Omega.{arith}
 use native.Mathlib.Nat.{mul-le-mul}
 use mathlib.Core.Path.{_≡_, refl, ap, _∙_, subst}
@@ -15,9 +15,10 @@ use Rattle.definitions.specs.Context.{contextOf}
 use Rattle.laws.specs.ListLaws.Tests.{both}
 use Rattle.laws.specs.ListLaws.NoFault.{no-fault}
 use Rattle.laws.specs.FloatLaws.MapPixels.{side-bounds, lent-on-map, map-pixel}
+use Rattle.laws.specs.NumberLaws.Comparisons.{same-or}
+use Rattle.laws.specs.ListLaws.Flags.{none-set}
 use Rattle.context.specs.declared.Region.{Region}
 use Rattle.context.specs.Records.{recordOf, maxCells}
-use Rattle.context.specs.OneMore.{same-or}
 use Rattle.call_partition.specs.declared.Prepared.{Prepared}
 use Rattle.call_partition.specs.declared.Prepared.the-variants.{Refused, Ready}
 use Rattle.call_partition.specs.Prepared.{ReadyAs, PreparedAs}
@@ -35,13 +36,8 @@ use Rattle.topology.proofs.Lending.{lends, leaves}
 
 -- ---- the marks before the pass
 
-none-marked : (n i : ℕ) → getD (replicate n false) i false ≡ false
-none-marked zero i = refl
-none-marked (suc n) zero = refl
-none-marked (suc n) (suc i) = none-marked n i
-
 pub no-marks : NoMarks (replicate maxEntries false)
-no-marks = record { long = length-replicate {A = Bool} maxEntries false; clear = none-marked maxEntries }
+no-marks = record { long = length-replicate {A = Bool} maxEntries false; clear = none-set maxEntries }
 
 -- ---- the call
 
@@ -106,7 +102,7 @@ module _ {pass w h : ℕ} {cells spans boundaries anchors : List ℕ} {room outp
         marked =
             ⊎-elim
             (λ e. marked-equal pass w h cells spans boundaries anchors e removed (K .equal e))
-            (λ d. marked-none pass w h cells spans boundaries anchors d removed (λ i _. ap (λ r. getD r i false) (K .differ d) ∙ none-marked maxEntries i))
+            (λ d. marked-none pass w h cells spans boundaries anchors d removed (λ i _. ap (λ r. getD r i false) (K .differ d) ∙ none-set maxEntries i))
             (same-or (length boundaries / numbersPerBoundary) (length spans / numbersPerSpan))
 
         pub ran-over : {o m₃ q₃ o₃ : List ℕ} {n : ℕ} → length s ≡ room → length o ≡ output → Finished (h * w) (length boundaries / numbersPerBoundary) boundaries removed m₂ q₂ o m₃ q₃ o₃ n

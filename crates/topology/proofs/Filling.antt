@@ -21,7 +21,7 @@ use Rattle.context.specs.declared.Region.{Region}
 use Rattle.context.specs.Records.{recordOf, maxCells}
 use Rattle.stretches.specs.declared.Stretch.{Stretch}
 use Rattle.stretches.specs.Queue.{stretchStart}
-use Rattle.stretches.specs.QueueLaws.{start-first}
+use Rattle.stretches.proofs.QueueLaws.{start-first}
 use Rattle.stretches.specs.Made.{Begins, Made}
 use Rattle.topology.specs.Filled.{Fills, Filled}
 

@@ -1,32 +1,33 @@
 -- The parts of `run_kept`: what each asks, once the first partition is ready, and what they leave together (`ran-kept-graph`). Beyond what either partition fills each
 -- list is as it was lent, so that clearing as far as the first filled, and then filling anew, gives the lists of the contract. Assumes nothing.
-use Prim.Native.Nat.{ℕ, zero, suc, _*_, _/_, _≤_}
+use Prim.Native.Nat.{ℕ, _*_, _/_, _≤_}
 use native.Mathlib.Omega.{arith}
 use native.Mathlib.Nat.{le-refl}
 use mathlib.Core.Path.{_≡_, refl, sym, ap, ap₂, _∙_}
 use mathlib.Core.Bool.{Bool, false, _&&_}
 use mathlib.Core.Option.{none}
-use mathlib.Core.List.{List, [], _∷_, _++_, map}
-use lib.ListN.{length, drop, replicate, length-append, length-map, length-replicate}
+use mathlib.Core.List.{List, _++_, map}
+use lib.ListN.{length, drop, replicate, length-map, length-replicate}
 use lib.Dec.{leb}
 use borrow.Author.Tests.{leb-true}
 use Rattle.definitions.specs.Limits.{maxEntries, numbersPerSpan, numbersPerBoundary, numbersPerPair, talliesPerSpan}
-use Rattle.definitions.specs.Scan.{gather, run}
+use Rattle.definitions.specs.Scan.{run}
 use Rattle.definitions.specs.Lists.{overwrite, zeroed}
 use Rattle.definitions.specs.Grid.{Map, mapOf, cellCount, spanCount}
 use Rattle.definitions.specs.Partition.{labels, regionCount}
 use Rattle.definitions.specs.RegionRecord.{emptyRegion}
-use Rattle.definitions.specs.Context.{Context, contextOf}
+use Rattle.definitions.specs.Context.{contextOf}
 use Rattle.definitions.specs.Rows.{rowsOf, flatRows}
 use Rattle.definitions.specs.Verdict.{mapIn, pairRowsOf, recordsFault}
 use Rattle.definitions.specs.AtExit.{talliesOf, recordsOf}
 use Rattle.laws.specs.ListLaws.Lists.{length-run}
 use Rattle.laws.specs.ListLaws.NoFault.{no-fault}
 use Rattle.laws.specs.RegionLaws.Regions.{labels-length}
+use Rattle.laws.specs.RegionLaws.Tallies.{tallies-length}
 use Rattle.areas.proofs.Labelling.{zeroed-again}
 use Rattle.areas.proofs.Dividing.{labels-shown}
 use Rattle.stretches.specs.Queue.{Shown}
-use Rattle.stretches.specs.AfterFlood.{low-elevations}
+use Rattle.stretches.proofs.AfterFlood.{low-elevations}
 use Rattle.context.specs.declared.Region.{Region}
 use Rattle.context.specs.Records.{recordOf}
 use Rattle.pass_lists.specs.Finished.{Finishes, Finished}
@@ -46,16 +47,6 @@ use Rattle.topology.specs.Marks.{IsPass, Lent, MarkedFor}
 use Rattle.topology.specs.Games.{Begun, RunsKept, RanKept}
 use Rattle.topology.proofs.Lending.{lends, leaves}
 use Rattle.topology.proofs.Calling.{is-pass, ready-fills, ready-lent, marked}
-
--- two numbers a span
-twos-long : (f g : ℕ → ℕ) (n : ℕ) → length (gather n (λ s. f s ∷ g s ∷ [])) ≡ 2 * n
-unfolding gather
-twos-long f g zero = refl
-twos-long f g (suc n) = length-append (gather n (λ s. f s ∷ g s ∷ [])) (f n ∷ g n ∷ []) ∙ omega (arith, twos-long f g n)
-
-tallies-long : (C : Context) → length (talliesOf C) ≡ talliesPerSpan * C .count
-unfolding talliesOf
-tallies-long C = twos-long (C .removedEdges) (C .separatedEdges) (C .count)
 
 module _ {B : Begun} {pass w h : ℕ} {cells spans boundaries anchors : List ℕ} {regions rows : ℕ} {l m q t p : List ℕ} {s : List Region} {o : List ℕ}
     (G : RunsKept B pass (lends w h cells spans boundaries anchors l m q t p s o) regions rows) where
@@ -179,7 +170,7 @@ module _ {B : Begun} {pass w h : ℕ} {cells spans boundaries anchors : List ℕ
             let n = talliesPerSpan * spanCount M in
             zeroed-again n (B .tallies) t
             (ap (drop n) (G .ready .ready .tallied)
-            ∙ beyond-stays n (talliesOf (contextOf M)) (B .tallies) (omega (arith, tallies-long (contextOf M), count-is)))
+            ∙ beyond-stays n (talliesOf (contextOf M)) (B .tallies) (omega (arith, tallies-length (contextOf M), count-is)))
 
         pairs-same : zeroed (length (pairRowsOf (contextOf M))) p ≡ zeroed (length (pairRowsOf (contextOf M))) (B .pairs)
         pairs-same =

@@ -16,11 +16,11 @@ use Rattle.laws.specs.ListLaws.Below.{below-none}
 use Rattle.laws.specs.ListLaws.ScanSteps.{any-next, all-next, all-intro}
 use Rattle.laws.specs.FloatLaws.Pixels.{PixelSegment}
 use Rattle.context.specs.declared.Region.{Region}
-use Rattle.interior_proposals.specs.Fits.{Placed}
 use Rattle.interior_regions.specs.declared.Interior.{Interior}
 use Rattle.interior_regions.specs.Places.{regionAt, AllReadable, isNamed, NextInside, fitsAt, rampAt, interiorFits}
 use Rattle.interior_regions.specs.Marks.{accepted, markedBefore, Stretched}
 use Rattle.interior_regions.proofs.JudgeLaws.{marked-removed}
+use Rattle.geometry.specs.Placed.{Placed}
 use Rattle.topology.specs.Interiors.{Asks, Judges, Collapsed}
 use Rattle.topology.specs.Proposals.{Unmarked}
 

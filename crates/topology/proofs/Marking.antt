@@ -11,8 +11,8 @@ use lib.Seq.{length-take-le, length-front, getD-take, drop-drop, drop-at}
 use Rattle.definitions.specs.Limits.{numbersPerBoundary}
 use Rattle.definitions.specs.Grid.{Map}
 use Rattle.definitions.specs.Context.{Context, contextOf}
+use Rattle.laws.specs.ListLaws.Beyond.{Beyond}
 use Rattle.context.specs.declared.Region.{Region}
-use Rattle.context.specs.Rows.{Beyond}
 use Rattle.pass_lists.specs.Contract.{Viewed}
 use Rattle.pass_lists.proofs.Viewing.{regions-within}
 use Rattle.topology.specs.Marks.{Shows, Removed, Lent, MarkedFor}

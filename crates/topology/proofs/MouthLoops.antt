@@ -15,12 +15,12 @@ use Rattle.definitions.specs.Context.{Context}
 use Rattle.definitions.specs.RampMouths.{cornersNear}
 use Rattle.laws.specs.ListLaws.ScanSteps.{all-more, all-fails}
 use Rattle.laws.specs.FloatLaws.Pixels.{PixelRegion}
+use Rattle.laws.specs.NumberLaws.Comparisons.{last-or}
 use Rattle.context.specs.declared.Region.{Region}
 use Rattle.context.specs.Records.{recordOf}
-use Rattle.context.specs.OneMore.{last-or}
 use Rattle.context.specs.Shown.{ShownBoundaries}
 use Rattle.context.specs.Rows.{NamedRow}
-use Rattle.context.specs.ShownLaws.{shown-rows}
+use Rattle.context.proofs.ShownLaws.{shown-rows}
 use Rattle.mouth_proposals.specs.Candidates.{broad, proposalOf, candidates}
 use Rattle.mouth_regions.specs.Inner.{placesOf, regionAt, innerAt}
 use Rattle.mouth_regions.specs.Near.{regionNear}

@@ -8,8 +8,8 @@ use mathlib.Core.List.{List}
 use lib.ListN.{length, getD, set, length-set}
 use lib.Seq.{getD-set-same, getD-set-other}
 use Rattle.definitions.specs.Context.{Context}
+use Rattle.laws.specs.NumberLaws.Comparisons.{last-or}
 use Rattle.context.specs.declared.Region.{Region}
-use Rattle.context.specs.OneMore.{last-or}
 use Rattle.junction_proposals.specs.Rows.{maxProposals, numbersPerProposal, rowAt, RowFits, isAllowed}
 use Rattle.junction_selection.specs.Taken.{Judged, removedAt}
 use Rattle.junction_selection.proofs.Passing.{pass-removed}

@@ -17,7 +17,7 @@ use Rattle.definitions.specs.Context.{contextOf}
 use Rattle.definitions.specs.Verdict.{mapIn}
 use Rattle.context.specs.declared.Region.{Region}
 use Rattle.context.specs.Records.{recordOf}
-use Rattle.context.specs.OneMore.{same-or}
+use Rattle.laws.specs.NumberLaws.Comparisons.{same-or}
 use Rattle.call_partition.specs.declared.Prepared.{Prepared}
 use Rattle.call_partition.specs.declared.Prepared.the-variants.{Refused}
 use Rattle.call_partition.specs.Prepared.{ReadyAs, PreparedAs}

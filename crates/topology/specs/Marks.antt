@@ -10,9 +10,9 @@ use Rattle.definitions.specs.Context.{Context, contextOf}
 use Rattle.laws.specs.FloatLaws.Pixels.{PixelContext}
 use Rattle.laws.specs.RustContext.SoundContext.{Sound}
 use Rattle.laws.specs.RustContext.CheckedContext.{Checked}
+use Rattle.laws.specs.ListLaws.Beyond.{Beyond}
 use Rattle.context.specs.declared.Region.{Region}
 use Rattle.context.specs.Records.{maxCells, Counted}
-use Rattle.context.specs.Rows.{Beyond}
 use Rattle.context.specs.Shown.{ShownBoundaries, ShownTallies, ShownPairs, ShownFullPairs, ShownAnchored, ShownIncidents}
 use Rattle.pass_lists.specs.Contract.{Partitioned, FreshMarks}
 use Rattle.pass_lists.specs.Finished.{MarkedBy}

@@ -1,18 +1,11 @@
 -- `areas::partition` meets its contract: a check before it refuses, or the lists fit and are divided. Assumes nothing.
-use mathlib.Core.Path.{_≡_, sym, ap, _∙_}
-use mathlib.Core.Option.{Option}
-use Rattle.definitions.specs.Refusals.{Refusal}
-use Rattle.areas.specs.declared.checked.Check.{Check}
-use Rattle.areas.specs.Answers.{refusalOf}
+use mathlib.Core.Path.{sym}
 use Rattle.areas.proofs.Early.{early-fit}
 use Rattle.areas.proofs.Exits.{ran-refused}
 use borrow.Author.Needs.{needs}
 use Rattle.areas.proofs.partition.Statement.{statement}
 use Rattle.areas.proofs.partition.Tie as tie
-
--- what the checks' answer, known by its case, says
-says : {f v : Check} {o : Option Refusal} → refusalOf f ≡ o → f ≡ v → refusalOf v ≡ o
-says e g = sym (ap refusalOf g) ∙ e
+use Rattle.areas.proofs.Chain.{says}
 
 checks-before-requires : tie.Need-checks-before-requires
 checks-before-requires c κs = search needs

@@ -8,13 +8,13 @@ use mathlib.Core.Bool.{Bool, true, false, not, _&&_, cond, true≢false}
 use mathlib.Core.Option.{none}
 use mathlib.Core.List.{List}
 use lib.Dec.{eqb, ltb, leb}
-use borrow.Author.Tests.{eqb-true, eqb-false, eq-eqb, ne-eqb, ltb-true, ltb-false, le-ltb, le-leb, leb-true}
+use borrow.Author.Tests.{eqb-true, eqb-false, eq-eqb, ne-eqb, ltb-true, ltb-false, le-ltb, le-leb, leb-true, not-true}
 use Rattle.definitions.specs.Scan.{anyBelow}
 use Rattle.laws.specs.ListLaws.Tests.{both, same-test}
 use Rattle.laws.specs.ListLaws.Below.{below-at, below-none, below-first}
 use Rattle.laws.specs.ListLaws.ScanSteps.{any-fails-at}
 use Rattle.catalogue.specs.Accession.{accessionAt, accessionCount, onSameMap, ownAscends, dayStands, isFirst, supersedesFreely, keepsRules, accessionsFault}
-use Rattle.catalogue.specs.AccessionLaws.Current.{Keep, kept, not-true, supersededBelow, laterBelow, own-above, one-last, superseded-later}
+use Rattle.catalogue.specs.AccessionLaws.Current.{Keep, kept, supersededBelow, laterBelow, own-above, one-last, superseded-later}
 use Rattle.catalogue.specs.AccessionLaws.Last.{lastBelow, last-within, last-passes, none-behind}
 
 -- the last record of record i's map before it: one more than its position, or 0 where there is none
@@ -92,7 +92,7 @@ module _ (l : List ℕ) (i : ℕ) where
         go : (t : Bool) → ltb k j ≡ t → (u : Bool) → ltb j k ≡ u → accessionAt l j .day ≤ accessionAt l k .day
         go true p u q = absurd (true≢false (sym e ∙ behind j (ltb-true k j p) m))
         go false p true q =
-            let f = any-fails-at (λ j. onSameMap l k j && ltb (accessionAt l k .day) (accessionAt l j .day)) k (not-true day-rule) j (ltb-true j k q) in
+            let f = any-fails-at (λ j. onSameMap l k j && ltb (accessionAt l k .day) (accessionAt l j .day)) k (not-true _ day-rule) j (ltb-true j k q) in
             ltb-false (accessionAt l k .day) (accessionAt l j .day) (and-right f (at-k (ltb-true j k q)))
         go false p false q =
             let d : j ≡ k = omega (arith, ltb-false k j p, ltb-false j k q) in
@@ -106,7 +106,7 @@ module _ (l : List ℕ) (i : ℕ) where
         f j = onSameMap l i j && ltb (accessionAt l i .day) (accessionAt l j .day)
 
         there : dayStands l i ≡ true → leb (accessionAt l k .day) (accessionAt l i .day) ≡ true
-        there d = le-leb (accessionAt l k .day) (accessionAt l i .day) (ltb-false (accessionAt l i .day) (accessionAt l k .day) (and-right (any-fails-at f i (not-true d) k h) same-test-k))
+        there d = le-leb (accessionAt l k .day) (accessionAt l i .day) (ltb-false (accessionAt l i .day) (accessionAt l k .day) (and-right (any-fails-at f i (not-true _ d) k h) same-test-k))
 
         none-later : leb (accessionAt l k .day) (accessionAt l i .day) ≡ true → (j : ℕ) → j < i → (b : Bool) → onSameMap l i j ≡ b → (b && ltb (accessionAt l i .day) (accessionAt l j .day)) ≡ false
         none-later d j m false e = refl
@@ -141,7 +141,7 @@ module _ (l : List ℕ) (i : ℕ) where
             let r = both (onSameMap l i (F .place)) (eqb (accessionAt l (F .place) .own) s) (F .found) in
             let m : accessionAt l (F .place) .onMap ≡ accessionAt l i .onMap = eqb-true (accessionAt l (F .place) .onMap) (accessionAt l i .onMap) (r .0) in
             let o : accessionAt l (F .place) .own ≡ s = eqb-true (accessionAt l (F .place) .own) s (r .1) in
-            let unsuperseded : supersededBelow l i (F .place) ≡ false = rw o (not-true (p .1)) in
+            let unsuperseded : supersededBelow l i (F .place) ≡ false = rw o (not-true _ (p .1)) in
             let last : laterBelow l i (F .place) ≡ false = sym (superseded-later l i ok i (omega arith) (F .place) (F .below)) ∙ unsuperseded in
             let here : F .place ≡ k = one-last l i ok i (F .place) k (F .below) h (m ∙ sym same) last last-k in
             eq-eqb s (accessionAt l k .own) (sym o ∙ ap (λ j. accessionAt l j .own) here)

@@ -9,7 +9,7 @@ use mathlib.Core.Bool.{Bool, true, false, not, _&&_, _||_, cond, false≢true}
 use mathlib.Core.Option.{none}
 use mathlib.Core.List.{List}
 use lib.Dec.{eqb, ltb}
-use borrow.Author.Tests.{eqb-true, eqb-false, eq-eqb, ne-eqb, ltb-true, ltb-false, lt-ltb, le-ltb}
+use borrow.Author.Tests.{eqb-true, eqb-false, eq-eqb, ne-eqb, ltb-true, ltb-false, lt-ltb, le-ltb, not-true}
 use Rattle.definitions.specs.Scan.{anyBelow}
 use Rattle.laws.specs.ListLaws.Tests.{both}
 use Rattle.laws.specs.ListLaws.Below.{below-none, below-first}
@@ -29,13 +29,6 @@ supersededBelow l i a = anyBelow i (λ j. eqb (accessionAt l j .superseded) (acc
 unfoldable pub laterBelow : List ℕ → ℕ → ℕ → Bool
 unfolding anyBelow onSameMap
 laterBelow l i a = anyBelow i (λ j. ltb a j && onSameMap l a j)
-
-pub not-true : {b : Bool} → not b ≡ true → b ≡ false
-not-true {b} h = go b h
-  where
-    go : (b : Bool) → not b ≡ true → b ≡ false
-    go true h = absurd (false≢true h)
-    go false h = refl
 
 joined : (s t u v : Bool) → s ≡ t → (t ≡ false → u ≡ v) → (s || u) ≡ (t || v)
 joined true true u v e f = refl
@@ -106,7 +99,7 @@ module _ (l : List ℕ) (n : ℕ) (ok : Keep l n) where
         before = F .below;
         map = eqb-true (accessionAt l (F .place) .onMap) (accessionAt l i .onMap) (q .0);
         own = eqb-true (accessionAt l (F .place) .own) s (q .1);
-        free = not-true (p .1);
+        free = not-true _ (p .1);
       }
 
   -- a record with 0 has no earlier one of its map
@@ -114,7 +107,7 @@ module _ (l : List ℕ) (n : ℕ) (ok : Keep l n) where
   unfolding isFirst onSameMap
   no-earlier i h z j k e =
       let r : not (anyBelow i (onSameMap l i)) ≡ true = rw (eq-eqb (accessionAt l i .superseded) 0 z) at (last-rule i h) in
-      let f : eqb (accessionAt l j .onMap) (accessionAt l i .onMap) ≡ false = any-fails-at (onSameMap l i) i (not-true r) j k in
+      let f : eqb (accessionAt l j .onMap) (accessionAt l i .onMap) ≡ false = any-fails-at (onSameMap l i) i (not-true _ r) j k in
       eqb-false (accessionAt l j .onMap) (accessionAt l i .onMap) f e
 
   -- what is superseded came before
@@ -214,4 +207,4 @@ pub current-unique :
     (l : List ℕ) → accessionsFault l ≡ none → (a b : ℕ) → a < accessionCount l → b < accessionCount l → accessionAt l a .onMap ≡ accessionAt l b .onMap
     → isCurrent l a ≡ true → isCurrent l b ≡ true → a ≡ b
 current-unique l h a b k m e f g =
-    one-last l (accessionCount l) (kept l h) (accessionCount l) a b k m e (not-true (sym (current-last l h a k) ∙ f)) (not-true (sym (current-last l h b m) ∙ g))
+    one-last l (accessionCount l) (kept l h) (accessionCount l) a b k m e (not-true _ (sym (current-last l h a k) ∙ f)) (not-true _ (sym (current-last l h b m) ∙ g))

@@ -8,14 +8,14 @@ use mathlib.Core.Bool.{Bool, true, false, not, _&&_, true≢false}
 use mathlib.Core.Option.{none}
 use mathlib.Core.List.{List, [], _∷_, _++_, List·Memᴰ}
 use lib.Dec.{eqb, ltb}
-use borrow.Author.Tests.{eqb-true, eq-eqb, lt-ltb, ltb-true}
+use borrow.Author.Tests.{eqb-true, eq-eqb, lt-ltb, ltb-true, not-true}
 use Rattle.definitions.specs.Scan.{collect}
 use Rattle.laws.specs.ListLaws.Lists.{All, done, more}
 use Rattle.laws.specs.ListLaws.Below.{below-none}
 use Rattle.laws.specs.ListLaws.ScanSteps.{any-fails-at}
 use Rattle.catalogue.specs.Accession.{Accession, accessionAt, accessionCount, onSameMap, accessionsFault, isCurrent}
 use Rattle.catalogue.specs.Line.{reversed, onLineOf, lineOf}
-use Rattle.catalogue.specs.AccessionLaws.Current.{kept, not-true, laterBelow, own-ascends, own-unique, current-last}
+use Rattle.catalogue.specs.AccessionLaws.Current.{kept, laterBelow, own-ascends, own-unique, current-last}
 use Rattle.catalogue.specs.AccessionLaws.Last.{lastBelow, last-within, last-passes, none-behind}
 use Rattle.catalogue.specs.AccessionLaws.Newest.{one, newestFirst, line-is, newest-next, newest-in, newest-skip, newest-has, newest-from}
 use Rattle.catalogue.specs.AccessionLaws.MapLine.{isOfMap, on-line}
@@ -90,7 +90,7 @@ module _ (l : List ℕ) (own : ℕ) (h : accessionsFault l ≡ none) where
       ∙ newest-in l (onLineOf l own) i (on-line l own h j n e i ∙ eq-eqb (accessionAt l i .onMap) (accessionAt l j .onMap) q)
     where
       last : laterBelow l (accessionCount l) i ≡ false
-      last = not-true (sym (current-last l h i k) ∙ c)
+      last = not-true _ (sym (current-last l h i k) ∙ c)
 
       off : (m : ℕ) → suc i ≤ m → m < accessionCount l → onLineOf l own m ≡ false
       off m a b =

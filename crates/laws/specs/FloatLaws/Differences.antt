@@ -161,7 +161,7 @@ spaced-in-range q = units-in-range (q .units) (low (q .units .number) (q .spaced
     low c (inl (suc z, e)) =
         inr (le-trans {m = 2 ^ 1021} (lit≤ tt) (le-trans (le-of-eq (sym (one-mul (2 ^ 1021)))) (le-trans (mul-le-mul-right (2 ^ 1021) (zero-lt-suc z)) (le-of-eq (sym e)))))
 
-sub-is : (x y : Float) → sub binary64 x y ≡ add binary64 x (neg y)
+pub sub-is : (x y : Float) → sub binary64 x y ≡ add binary64 x (neg y)
 unfolding sub
 sub-is x y = refl
 

@@ -6,13 +6,13 @@ use Prim.Native.Nat.{ℕ, _^_, _≤_}
 use mathlib.Core.Bool.{true, cond}
 use lib.Dec.{T, lit≤, lit<}
 use lib.Ieee.{Float, binary64, add, sub, mul, div, eq, fits}
-use Rattle.definitions.specs.Hypotenuse.{inRange, hypotNumber, hypotValue}
+use Rattle.definitions.specs.Hypotenuse.{inRange, hypotValue}
 use Rattle.definitions.specs.Geometry.{Point, float, distance, clamp01, pointSegmentDistance}
 use Rattle.definitions.specs.RampGeometry.{difference}
 use Rattle.laws.specs.FloatLaws.Patterns.{SignClear}
 use Rattle.laws.specs.FloatLaws.Hypotenuse.{hypotOf-fits, hypotOf-clear}
 use Rattle.laws.specs.FloatLaws.WholeDoubles.{Whole, signed, whole-halves, difference-dyadic, add-dyadic, mul-dyadic}
-use Rattle.laws.specs.FloatLaws.InRange.{BothInRange, halves-in-range, range-number, range-value}
+use Rattle.laws.specs.FloatLaws.InRange.{BothInRange, halves-in-range, range-value}
 use Rattle.laws.specs.FloatLaws.Differences.{Part, difference-in-range}
 use Rattle.laws.specs.FloatLaws.Clamped.{segment-part}
 use Rattle.laws.specs.FloatLaws.Pixels.{maxPixel, Pixel, HalfPixel, PixelPoint, HalfPixelPoint, float-pixel}
@@ -30,9 +30,6 @@ pub distance-in-range : (p q : Point) → HalfPixelPoint p → HalfPixelPoint q 
 distance-in-range p q hp hq = (half-difference (hp .onX) (hq .onX), half-difference (hp .onY) (hq .onY))
 
 module _ (p q : Point) (h : DistanceInRange p q) where
-  pub distance-number : hypotNumber (sub binary64 (p .px) (q .px)) (sub binary64 (p .py) (q .py)) ≡ 0
-  distance-number = range-number (sub binary64 (p .px) (q .px)) (sub binary64 (p .py) (q .py)) h
-
   pub distance-value : hypotValue (sub binary64 (p .px) (q .px)) (sub binary64 (p .py) (q .py)) ≡ distance p q
   unfolding distance
   distance-value = range-value (sub binary64 (p .px) (q .px)) (sub binary64 (p .py) (q .py)) h

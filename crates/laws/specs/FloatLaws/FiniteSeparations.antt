@@ -1,7 +1,6 @@
 -- Separations of boundaries on a map are finite doubles with the sign clear: each is 0.0 or the least of four distances (`separation-by`), and these are within the range of the
 -- hypotenuse. Assumes coordinates of at most 8,192 pixels, as Pixels.antt has it.
 use mathlib.Core.Path.{sym, subst}
-use Prim.Native.Nat.{ℕ}
 use mathlib.Core.Bool.{Bool, true, false, cond}
 use lib.Dec.{T, lit≤}
 use lib.Ieee.{Float, binary64, lt, fits}
@@ -9,11 +8,9 @@ use lib.Ieee.Fits.{round-fits}
 use Rattle.definitions.specs.Grid.{Segment}
 use Rattle.definitions.specs.Geometry.{Point, float, point, pointSegmentDistance}
 use Rattle.definitions.specs.RampGeometry.{fmin, intersects, segmentDistance}
-use Rattle.definitions.specs.Context.{Context}
-use Rattle.definitions.specs.RampMouths.{separationOf}
 use Rattle.laws.specs.FloatLaws.Patterns.{SignClear, clear-of}
 use Rattle.laws.specs.FloatLaws.WholeDoubles.{float-value, float-round}
-use Rattle.laws.specs.FloatLaws.Pixels.{PixelSegment, PixelContext}
+use Rattle.laws.specs.FloatLaws.Pixels.{PixelSegment}
 use Rattle.laws.specs.FloatLaws.DistanceRange.{distance-clear, distance-fits, nearestPoint, point-segment-is}
 use Rattle.laws.specs.FloatLaws.PassRange.{SegmentInRange, separation-in-range}
 
@@ -51,7 +48,3 @@ pub separation-clear : {s t : Segment} → PixelSegment s → PixelSegment t →
 separation-clear {s} {t} hs ht =
     let r = separation-in-range hs ht in
     separation-by Clear s t zero-clear (segment-clear (point (s .a)) t (r .first)) (segment-clear (point (s .b)) t (r .second)) (segment-clear (point (t .a)) s (r .third)) (segment-clear (point (t .b)) s (r .fourth))
-
-pub measured-clear : (C : Context) → PixelContext C → (m a : ℕ) → Clear (separationOf C m a)
-unfolding separationOf
-measured-clear C h m a = separation-clear (h .ends m) (h .ends a)

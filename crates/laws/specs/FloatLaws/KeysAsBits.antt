@@ -83,6 +83,3 @@ module _ (x y : Float) (cx : SignClear x) (cy : SignClear y) (fx : T (fits binar
 
   pub le-toBits : le x y ≡ leb (toBits binary64 x) (toBits binary64 y)
   le-toBits = as-read le leb le-ofBits
-
-  pub eq-toBits : eq x y ≡ eqb (toBits binary64 x) (toBits binary64 y)
-  eq-toBits = as-read eq eqb eq-ofBits

@@ -1,4 +1,4 @@
--- The coordinates of a map that passes checks 1 and 7 of document 01's table: its sides are 1 to 1,024 cells and its boundaries' endpoints are on it, so that
+-- The coordinates of a map that passes checks 1 and 7 of the table of SPECIFICATION 4: its sides are 1 to 1,024 cells and its boundaries' endpoints are on it, so that
 -- endpoints are pixels up to 8,192. So are the edges of a region, the least and the most of coordinates of its cells. Assumes nothing.
 use mathlib.Core.Path.{_≡_}
 use Prim.Native.Nat.{ℕ, _+_, _*_, _/_, _%_, _≤_, _<_, zero-le}

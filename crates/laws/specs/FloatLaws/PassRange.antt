@@ -1,4 +1,4 @@
--- No pass leaves the range of the hypotenuse (document 01, 'Hypotenuse'), so that number 13 cannot come from one: `pass-in-range` says it of every map that
+-- No pass leaves the range of the hypotenuse (SPECIFICATION 6), so that number 13 cannot come from one: `pass-in-range` says it of every map that
 -- passes checks 1 and 7, for each place at which a definition of a pass asks how far two points are apart or how long a segment is. The coordinates there are
 -- pixels and half pixels up to 8,192 (MapPixels), for which DistanceRange has it. Assumes nothing.
 use Prim.Native.Nat.{ℕ}

@@ -9,7 +9,8 @@ use mathlib.Core.Bool.{Bool, true, false, not, cond, true≢false}
 use lib.IntN.{ℤ}
 use lib.Dec.{T, leb, ltb, eqb, lt→ltb, ltb→lt, not-T, eqb→eq, lit<, lit≤}
 use lib.Pow.{pow-add, pow-pos, pow-lt}
-use lib.Ieee.{Float, nan, inf, fin, binary64, up, down, odd, units, fits, ofFields, ofBits, toBits, nanBits}
+use lib.Ieee.{Float, nan, inf, fin, binary64, up, down, odd, units, fits, ofFields, ofBits, toBits, nanBits, isNan, ne}
+use lib.Ieee.Compare.{nan-differs}
 use lib.Ieee.Fits.{down-pos, odd-fits, inf-fits}
 use lib.Ieee.Exact.{HasValue, odd-sign, units-val}
 use lib.Ieee.Scale.{finite}
@@ -222,3 +223,10 @@ pub ofBits-below : (b : ℕ) → b < 2047 * 2 ^ 52 → HasValue (ofBits binary64
 ofBits-below b h =
     subst (λ (t : Bool). HasValue (ofBits binary64 b) t (patternMagnitude b) (2 ^ 1074)) (lt-leb (2 ^ 63) b (omega arith))
     (subst (λ (z : ℕ). HasValue (ofBits binary64 b) (leb (2 ^ 63) b) (patternMagnitude z) (2 ^ 1074)) (mod-eq-of-lt (omega arith)) (ofBits-value b (omega arith)))
+
+-- a NaN is the only double that differs from itself
+pub not-nan : (x : Float) → ne x x ≡ false → T (not (isNan x))
+unfolding isNan
+not-nan nan h = absurd (true≢false (sym nan-differs ∙ h))
+not-nan (inf s) h = tt
+not-nan (fin s m e) h = tt

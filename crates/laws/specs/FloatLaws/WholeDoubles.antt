@@ -4,15 +4,14 @@ use mathlib.Core.Path.{_≡_, refl, sym, ap, _∙_, subst}
 use Prim.Native.Nat.{ℕ, _+_, _-_, _*_, _^_, _≤_, _<_}
 use native.Mathlib.Nat.{le-trans, le-of-lt, lt-of-le-of-lt, lt-of-lt-of-le, mul-one, mul-assoc, mul-le-mul, mul-le-mul-right}
 use native.Mathlib.Omega.{arith}
-use mathlib.Core.Bool.{Bool, true, false, _&&_, Bool·beq, cond, and-true}
-use lib.Dec.{ltb, eqb, lit≤}
+use mathlib.Core.Bool.{Bool, true, false, _&&_, Bool·beq, cond}
+use lib.Dec.{ltb, lit≤}
 use lib.Pow.{pow-add, pow-pos, pow-mono, shl-lt}
-use lib.Ieee.{Float, binary64, unlike, round, sum, add, sub, mul, div, lt, eq}
+use lib.Ieee.{Float, binary64, unlike, round, sum, add, sub, mul, div, lt}
 use lib.Ieee.Exact.{HasValue, round-exact}
 use lib.Ieee.Back.{round-whole}
-use borrow.Author.Tests.{le-ltb}
 use Rattle.definitions.specs.Geometry.{float}
-use Rattle.laws.specs.FloatLaws.Values.{Valued, valued-again, add-value, sub-value, mul-value, div-value, lt-value, eq-value}
+use Rattle.laws.specs.FloatLaws.Values.{Valued, valued-again, add-value, sub-value, mul-value, div-value, lt-value}
 
 -- ---- x is ±number / 2 ^ i, and the number is at most B
 
@@ -116,21 +115,8 @@ module _ (m n : ℕ) (hm : m ≤ 2 ^ 53) (hn : n ≤ 2 ^ 53) where
   unfolding sum
   add-float = add-value (float-valued m hm) (float-valued n hn) (pow-pos 0) ∙ sym (float-round (m + n))
 
-  pub mul-float : mul binary64 (float m) (float n) ≡ float (m * n)
-  mul-float = mul-value (float-valued m hm) (float-valued n hn) (pow-pos 0) (pow-pos 0) ∙ sym (float-round (m * n))
-
-  pub sub-float : n ≤ m → sub binary64 (float m) (float n) ≡ float (m - n)
-  unfolding sum
-  sub-float h =
-      sub-value (float-valued m hm) (float-valued n hn) (pow-pos 0)
-      ∙ ap (λ z. cond z (round binary64 true (n - m) 1) (round binary64 false (m - n) 1)) (le-ltb m n h)
-      ∙ sym (float-round (m - n))
-
   pub lt-float : lt (float m) (float n) ≡ ltb m n
   lt-float = lt-value (float-valued m hm) (float-valued n hn) (pow-pos 0)
-
-  pub eq-float : eq (float m) (float n) ≡ eqb m n
-  eq-float = eq-value (float-valued m hm) (float-valued n hn) (pow-pos 0) ∙ and-true (eqb m n)
 
 -- half of one
 pub half-float : (B n : ℕ) → B < 2 ^ 53 → n ≤ B → Unsigned 1 B (div binary64 (float n) (float 2))

@@ -138,3 +138,10 @@ pub all-run : {A : Type 0} {P : A → Type 0} (f : ℕ → A) (s n : ℕ) → ((
 unfolding run
 all-run f s zero h = done
 all-run f s (suc n) h = more (h s (omega arith)) (all-run f (suc s) n (λ i l. h i (omega arith)))
+
+pub run-last : (n k : ℕ) → run n (suc k) ≡ run n k ++ ((n + k) ∷ [])
+unfolding run
+run-last n zero = ap {B = List ℕ} (λ x. x ∷ []) (sym (add-zero n))
+run-last n (suc k) =
+    let e : suc n + k ≡ n + suc k = omega arith in
+    ap {B = List ℕ} (λ r. n ∷ r) (run-last (suc n) k ∙ ap {B = List ℕ} (λ x. run (suc n) k ++ (x ∷ [])) e)

@@ -1,7 +1,7 @@
--- Tests: both parts of a test by `&&` hold where it does, two tests for equality agree where the equations are equivalent, and laws of `Bool·beq`, `not` and `false`. Assumes nothing.
+-- Tests: both parts of a test by `&&` hold where it does, one of a test by `||`, two tests for equality agree where the equations are equivalent, and laws of `Bool·beq`, `not` and `false`. Assumes nothing.
 use Prim.Native.Nat.{ℕ}
 use mathlib.Core.Path.{_≡_, refl, sym}
-use mathlib.Core.Logic.{_↔_}
+use mathlib.Core.Logic.{_↔_, _⊎_, inl, inr}
 use mathlib.Core.Bool.{Bool, true, false, not, _&&_, _||_, Bool·beq, false≢true}
 use lib.Dec.{eqb}
 use borrow.Author.Tests.{eqb-true, eqb-false, eq-eqb, ne-eqb}
@@ -43,3 +43,11 @@ same-test {a} {b} f g = go a b f g
     go true b f g = sym (f refl)
     go false true f g = g refl
     go false false f g = refl
+
+pub or-split : (a b : Bool) → (a || b) ≡ true → (a ≡ true) ⊎ (b ≡ true)
+or-split true b h = inl refl
+or-split false b h = inr h
+
+pub or-right : (a b : Bool) → b ≡ true → (a || b) ≡ true
+or-right true b h = refl
+or-right false b h = h

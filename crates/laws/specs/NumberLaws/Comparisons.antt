@@ -1,10 +1,13 @@
--- Comparisons of whole numbers: of two one is not above the other, pairs in the same order have the same results of `leb`, `ltb` and `eqb`, and what `compare` gives. Assumes nothing.
+-- Comparisons of whole numbers: of two one is not above the other, they are equal or not, pairs in the same order have the same results of `leb`, `ltb` and `eqb`, and what `compare` gives. Assumes nothing.
 use mathlib.Core.Path.{_≡_, refl, sym, subst}
-use mathlib.Core.Logic.{_↔_, _⊎_, inl, inr}
-use Prim.Native.Nat.{ℕ, _≤_, _<_, compare, Ordering, Ordering·lt, Ordering·eq, Ordering·gt}
+use mathlib.Core.Logic.{_↔_, _⊎_, inl, inr, ⊎-elim}
+use Prim.Native.Nat.{ℕ, suc, _≤_, _<_, compare, Ordering, Ordering·lt, Ordering·eq, Ordering·gt}
 use native.Mathlib.Nat.{le-antisymm, le-of-eq, le-of-lt, lt-of-not-le, not-le-of-lt}
 use mathlib.Core.Bool.{Bool, true, false, not}
+use native.Mathlib.Omega.{arith}
+use lib.Arith.{lt-of-le-ne}
 use lib.Dec.{T, isLe, isEq, leb, ltb, eqb, leb→le, le→leb, nleb→lt, ltb→lt, lt→ltb, eqb→eq, eqb-refl}
+use borrow.Author.Tests.{eqb-true, eqb-false}
 use Rattle.laws.specs.ListLaws.Tests
 
 pub le-or-lt : (a b : ℕ) → (a ≤ b) ⊎ (b < a)
@@ -69,3 +72,13 @@ module _ (a b : ℕ) where
       go Ordering·lt n = absurd (n tt)
       go Ordering·eq n = absurd (n tt)
       go Ordering·gt n = refl
+
+pub same-or : (a b : ℕ) → (a ≡ b) ⊎ (a ≡ b → ⊥)
+same-or a b = go (eqb a b) refl
+  where
+    go : (t : Bool) → eqb a b ≡ t → (a ≡ b) ⊎ (a ≡ b → ⊥)
+    go true e = inl (eqb-true a b e)
+    go false e = inr (eqb-false a b e)
+
+pub last-or : (c n : ℕ) → c < suc n → (c ≡ n) ⊎ (c < n)
+last-or c n h = ⊎-elim (λ e. inl e) (λ e. inr (lt-of-le-ne (omega arith) e)) (same-or c n)

@@ -91,18 +91,6 @@ ascending-at d (next a s) i zero h k = absurd (omega arith)
 ascending-at d (next a s) zero (suc j) h k = all-place d a j (omega arith)
 ascending-at d (next a s) (suc i) (suc j) h k = ascending-at d s i j (omega arith) (omega arith)
 
--- and each pair once
-pub distinct-at : {l : List Pair} (d : Pair) → Ascending l → (i j : ℕ) → i < length l → j < length l → getD l i d ≡ getD l j d → i ≡ j
-distinct-at {l} d s i j h k e = go (three i j)
-  where
-    never : (p q : Pair) → pairLt p q ≡ true → p ≡ q → ⊥
-    never p q f g = true≢false (sym (pair-equal p q g) ∙ pair-differ p q f)
-
-    go : Three i j → i ≡ j
-    go (less f) = absurd (never _ _ (ascending-at d s i j f k) e)
-    go (same f) = f
-    go (over f) = absurd (never _ _ (ascending-at d s j i f h) (sym e))
-
 -- a list is found to have its first pair
 head-found : (p : Pair) (l : List Pair) → any (pairEq p) (p ∷ l) ≡ true
 unfolding any

@@ -2,7 +2,7 @@
 -- name is the least number of the class. By induction along the merging, each number is joined to its name by the pairs merged so far; the other direction is
 -- that the two numbers of a pair end up with one name. Besides, the closure law: a test that says the same at both numbers of every pair and holds at a number
 -- holds throughout its class. Assumes nothing.
-use Prim.Native.Nat.{ℕ, _≤_, _<_, min, max}
+use Prim.Native.Nat.{ℕ, _<_, min, max}
 use native.Mathlib.Omega.{arith}
 use mathlib.Core.Path.{_≡_, refl, sym, _∙_, subst}
 use mathlib.Core.Logic.{_↔_}
@@ -16,7 +16,7 @@ use Rattle.definitions.specs.Grid.{Pair}
 use Rattle.definitions.specs.Partition.{Joined, here, along, back, merge, mergeAll}
 use Rattle.laws.specs.ListLaws.Lists.{All, done, more, all-both, length-run}
 use Rattle.laws.specs.ListLaws.Members.{all-at, all-members}
-use Rattle.laws.specs.RegionLaws.Merging.{merged, merge-at, merge-length, Within, rooted, run-at, step-joins}
+use Rattle.laws.specs.RegionLaws.Merging.{merged, merge-at, merge-length, Within, run-at, step-joins}
 
 -- ---- chains
 
@@ -92,10 +92,6 @@ module _ (n : ℕ) {ps : List Pair} (w : All (Within n) ps) where
   pub same-name : (c d : ℕ) → c < n → d < n → (name c ≡ name d) ↔ Joined ps c d
   same-name c d h k =
       (λ e. joined-trans (name-joined c h) (joined-sym (subst (λ x. Joined ps d x) (sym e) (name-joined d k))), joined-name)
-
-  -- the name is the least number of the class
-  pub name-least : (c d : ℕ) → d < n → name d ≡ name c → name c ≤ d
-  name-least c d k e = omega (arith, rooted n w .low d k)
 
   -- a test that says the same at both numbers of every pair and holds at c holds throughout the class of c
   pub class-least : (P : ℕ → Bool) → All (λ p. P (p .lo) ≡ P (p .hi)) ps → (c d : ℕ) → c < n → d < n → name d ≡ name c → P c ≡ true → P d ≡ true

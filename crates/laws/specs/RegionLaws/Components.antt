@@ -16,7 +16,7 @@ use Rattle.definitions.specs.RampInteriors.{isOrdinary, links, components, comp
 use Rattle.laws.specs.ListLaws.Lists.{All, done}
 use Rattle.laws.specs.RegionLaws.Merging.{Within, rooted, step-joins}
 use Rattle.laws.specs.ListLaws.Below.{gather-below, gather-at}
-use Rattle.laws.specs.RegionLaws.Chains.{same-name, name-least, class-least}
+use Rattle.laws.specs.RegionLaws.Chains.{same-name, class-least}
 
 -- ---- what holds of every link is what holds of every pair of every ordinary full cut
 
@@ -74,7 +74,3 @@ module _ (C : Context) (within : (i : ℕ) → All (Within (suc (C .regions))) (
   pub component-own : (r : ℕ) → r ≤ C .regions → component C (component C r) ≡ component C r
   unfolding components
   component-own r h = rooted (suc (C .regions)) links-within .own r (omega arith)
-
-  pub component-name : (r x : ℕ) → x ≤ C .regions → component C x ≡ component C r → component C r ≤ x
-  unfolding components
-  component-name r x k e = name-least (suc (C .regions)) links-within r x (omega arith) e

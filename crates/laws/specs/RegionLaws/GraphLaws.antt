@@ -19,12 +19,7 @@ use Rattle.laws.specs.ListLaws.Members.{all-members}
 use Rattle.laws.specs.ListLaws.Below.{gather-below, gather-at}
 use Rattle.laws.specs.RegionLaws.Merging.{Within, rooted, Level, kept-all}
 use Rattle.laws.specs.RegionLaws.Chains.{joined-same, joined-name}
-
--- two tests, each of which holds where the other does
-pub two-way : (a b : Bool) → (a ≡ true → b ≡ true) → (b ≡ true → a ≡ true) → a ≡ b
-two-way true b f k = sym (f refl)
-two-way false true f k = k refl
-two-way false false f k = refl
+use Rattle.laws.specs.ListLaws.Tests.{same-test}
 
 pub record Graph : Type 0 where
   pub n : ℕ
@@ -104,7 +99,7 @@ module _ (n ways : ℕ) (walk : ℕ → Bool) (to : ℕ → ℕ → ℕ) where
           record {
             lo = w .lo;
             hi = w .hi;
-            level = two-way (g (p .lo)) (g (p .hi)) (leads-set (p .lo) (p .hi) (w .lo) (w .hi) (w .there)) (leads-set (p .hi) (p .lo) (w .hi) (w .lo) (w .back));
+            level = same-test (leads-set (p .lo) (p .hi) (w .lo) (w .hi) (w .there)) (leads-set (p .hi) (p .lo) (w .hi) (w .lo) (w .back));
           }
 
     pub merged-laws : Laws (withRoot (λ c. getD (mergeAll (run 0 n) E) c 0))

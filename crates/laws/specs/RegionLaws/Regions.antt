@@ -1,4 +1,4 @@
--- Regions and labels of every map (document 01, 'Partition'): two walkable cells share a label exactly when uncut steps join them; a cell has label 0 exactly
+-- Regions and labels of every map (SPECIFICATION 8): two walkable cells share a label exactly when uncut steps join them; a cell has label 0 exactly
 -- when it is not walkable; and the labels of walkable cells are 1 to the number of regions, each taken. A cell's label is one more than the rank of its root
 -- among the roots, ranks of different roots differ, and two cells have one root exactly when uncut steps join them (Chains). Assumes nothing.
 use Prim.Native.Nat.{ℕ, zero, suc, _≤_, _<_}

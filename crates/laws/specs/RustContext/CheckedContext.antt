@@ -5,7 +5,7 @@ use mathlib.Core.Bool.{true}
 use lib.Ieee.Scale.{finite}
 use Rattle.definitions.specs.Context.{Context}
 
--- `kinds`, `lowers`, `uppers`: check 7 of document 01's table. `masks`: a mask is of the elevations 0 to 3. `measured`: an edge of a region is a pixel.
+-- `kinds`, `lowers`, `uppers`: check 7 of the table of SPECIFICATION 4. `masks`: a mask is of the elevations 0 to 3. `measured`: an edge of a region is a pixel.
 pub record Checked (C : Context) : Type 0 where
   pub kinds : (i : ℕ) → i < C .count → C .boundary i .kind ≤ 2
   pub lowers : (i : ℕ) → i < C .count → C .boundary i .lower < 8

@@ -17,6 +17,7 @@ use Rattle.definitions.specs.Scan.{countBelow, bit, onlyIf}
 use Rattle.definitions.specs.RegionRecord.{Region, elevationCount, mostCommonElevation, dominanceOf, dominance, accepts, sameDominance, hasBit, joinedOnes, strictlyFlat}
 use Rattle.laws.specs.ListLaws.Below.{count-ext}
 use Rattle.laws.specs.RegionLaws.Shares.{accepts-is}
+use Rattle.laws.specs.ListLaws.Flags.{digit-bit}
 
 -- ---- as the Rust writes it
 
@@ -72,11 +73,6 @@ unfolding countBelow
 count-shift zero f = omega arith
 count-shift (suc n) f = omega (arith, count-shift n f)
 
-digit-bit : (x : ℕ) → x < 2 → x ≡ bit (eqb x 1)
-digit-bit zero h = refl
-digit-bit (suc zero) h = refl
-digit-bit (suc (suc x)) h = absurd (omega arith)
-
 -- bit e of n is the lowest digit of n / 2 ^ e
 bit-zero : (n : ℕ) → n % 2 ≡ bit (hasBit n 0)
 bit-zero n = digit-bit (n % 2) (omega arith) ∙ ap (λ m. bit (eqb (m % 2) 1)) (sym (div-one n))
@@ -90,7 +86,7 @@ ones-bits zero n = refl
 ones-bits (suc d) n =
     ap₂ _+_ (bit-zero n) (ones-bits d (n / 2) ∙ count-ext d (hasBit (n / 2)) (λ e. hasBit n (suc e)) (λ e h. bit-suc n e)) ∙ sym (count-shift d (hasBit n))
 
-or-bit : (a b e : ℕ) → hasBit (bitOr a b) e ≡ (hasBit a e || hasBit b e)
+pub or-bit : (a b e : ℕ) → hasBit (bitOr a b) e ≡ (hasBit a e || hasBit b e)
 or-bit a b e = ap (λ m. eqb (m % 2) 1) (or-shr a b e) ∙ ap (λ m. eqb (m % 2) 1) (or-step x y) ∙ ap (λ m. eqb m 1) (odd x y) ∙ digits (x % 2) (y % 2) (omega arith) (omega arith)
   where
     x : ℕ

@@ -1,7 +1,7 @@
 -- What the depth-first search finds (DepthFirstLiteral), from a start that it has not visited, where what it has visited is closed under links: the regions of the
 -- start's component, and the ordinary full cuts that name one of them. The argument: when nothing is to do, all links of the regions found have been gone through
 -- (SearchInvariant), so that they are closed under links, and are the component (Components). Assumes a sound context.
-use Prim.Native.Nat.{ℕ, zero, suc, _<_, _≤_}
+use Prim.Native.Nat.{ℕ, suc, _<_, _≤_}
 use native.Mathlib.Omega.{arith}
 use mathlib.Core.Path.{_≡_, refl, sym, ap, _∙_}
 use mathlib.Core.Logic.{_⊎_, inl, inr}
@@ -9,12 +9,12 @@ use mathlib.Core.Bool.{Bool, true, false, not, _&&_, _||_, or-false, or-comm, fa
 use mathlib.Core.List.{List, [], _∷_, List·Memᴰ}
 use lib.Dec.{eqb, ltb, leb}
 use borrow.Author.Tests.{ltb-true, eqb-true, eq-eqb, leb-true, leb-false}
-use Rattle.definitions.specs.Scan.{any, member, countBelow, bit}
+use Rattle.definitions.specs.Scan.{any, member}
 use Rattle.definitions.specs.Grid.{Pair}
 use Rattle.definitions.specs.Context.{Context}
 use Rattle.definitions.specs.RampInteriors.{isOrdinary}
 use Rattle.laws.specs.ListLaws.Lists.{All, all-map, all-both}
-use Rattle.laws.specs.ListLaws.Tests.{both}
+use Rattle.laws.specs.ListLaws.Tests.{both, or-split}
 use Rattle.laws.specs.ListLaws.Members.{all-at, all-members, any-found}
 use Rattle.laws.specs.RegionLaws.Merging.{Within}
 use Rattle.laws.specs.RegionLaws.Components.{component, links-all, component-set}
@@ -24,16 +24,8 @@ use Rattle.laws.specs.RustInteriors.ComponentRegions.{inside, in-range}
 use Rattle.laws.specs.RustInteriors.DepthFirstLiteral.{Search, searchFrom}
 use Rattle.laws.specs.RustInteriors.SearchRounds.{Ordered, left, search-ends}
 use Rattle.laws.specs.RustInteriors.SearchGraph.{graph-at, at-lo, at-hi}
-use Rattle.laws.specs.RustInteriors.SearchInvariant.{or-split, low-links, meets, Through, Round, rounds-hold}
-
-count-within : (n : ℕ) (f : ℕ → Bool) → countBelow n f ≤ n
-unfolding countBelow
-count-within zero f = omega arith
-count-within (suc n) f = omega (arith, count-within n f, go (f n))
-  where
-    go : (b : Bool) → bit b ≤ 1
-    go true = omega arith
-    go false = omega arith
+use Rattle.laws.specs.RustInteriors.SearchInvariant.{low-links, meets, Through, Round, rounds-hold}
+use Rattle.laws.specs.ListLaws.ScanSteps.{count-le}
 
 module _ (C : Context) (sound : Sound C) (within : (i : ℕ) → All (Within (suc (C .regions))) (C .pairs i)) (before : List ℕ) (start : ℕ) (closed : (i : ℕ) → i < C .count → isOrdinary C i ≡ true → All (λ p. member (p .lo) before ≡ member (p .hi) before) (C .pairs i)) where
   -- ---- when nothing is to do
@@ -133,7 +125,7 @@ module _ (C : Context) (sound : Sound C) (within : (i : ℕ) → All (Within (su
 
       over : searchFrom C before start .todo ≡ []
       unfolding searchFrom left
-      over = search-ends (suc (C .regions)) C (low-links C sound within) (suc (suc (C .regions))) begin (omega (arith, count-within (suc (C .regions)) (λ y. not (member y (setInsert before start)))))
+      over = search-ends (suc (C .regions)) C (low-links C sound within) (suc (suc (C .regions))) begin (omega (arith, count-le (λ y. not (member y (setInsert before start))) (suc (C .regions))))
 
       -- what the search finds
       module _ (named : 1 ≤ component C start) where

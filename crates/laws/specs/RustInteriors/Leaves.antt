@@ -7,7 +7,7 @@ use mathlib.Core.List.{List, [], _∷_, _++_, append-nil, append-assoc}
 use lib.ListN.{length}
 use lib.Dec.{eqb, ltb, leb}
 use borrow.Author.Tests.{ne-eqb, eq-eqb}
-use Rattle.definitions.specs.Scan.{any, all, filter, member, concatMap, bit, addNew}
+use Rattle.definitions.specs.Scan.{any, all, filter, member, concatMap, bit}
 use Rattle.definitions.specs.Grid.{Pair}
 use Rattle.definitions.specs.Context.{Context, incidentCount, isIncident}
 use Rattle.definitions.specs.RampInteriors.{Expansion, insideCount, pairExterior, exteriors, invalid, addLeaf, expandPair, expandPairs, expandPort}
@@ -189,19 +189,3 @@ module _ (C : Context) (i : ℕ) (hi : i < C .count) where
 -- `for index in port_indexes`: both ports
 pub ports-are : (C : Context) (a b : ℕ) → a < C .count → b < C .count → (s : Expansion) → walkPort C (walkPort C (asSet s) a) b ≡ asSet (expandPort C (expandPort C s a) b)
 ports-are C a b ha hb s = ap (λ t. walkPort C t b) (port-is C a ha s) ∙ port-is C b hb (expandPort C s a)
-
--- A leaf stands in no list of regions that it is put into: `expandPair` asks for a leaf only of a pair with no region inside, so that to put it behind the
--- list is to put it there if it is not there.
-pub leaf-appended : (rs es : List ℕ) (p : Pair) → ltb 0 (insideCount rs p) ≡ false → rs ++ (cond (member (p .lo) es) (p .hi) (p .lo) ∷ []) ≡ addNew rs (cond (member (p .lo) es) (p .hi) (p .lo))
-unfolding insideCount addNew
-leaf-appended rs es p h = pick (member (p .lo) es)
-  where
-    both : (a b : Bool) → ltb 0 (bit a + bit b) ≡ false → (a ≡ false) × (b ≡ false)
-    both true true e = absurd (true≢false e)
-    both true false e = absurd (true≢false e)
-    both false true e = absurd (true≢false e)
-    both false false e = (refl, refl)
-
-    pick : (c : Bool) → rs ++ (cond c (p .hi) (p .lo) ∷ []) ≡ cond (member (cond c (p .hi) (p .lo)) rs) rs (rs ++ (cond c (p .hi) (p .lo) ∷ []))
-    pick true = ap (λ b. cond b rs (rs ++ (p .hi ∷ []))) (sym (both (member (p .lo) rs) (member (p .hi) rs) h .1))
-    pick false = ap (λ b. cond b rs (rs ++ (p .lo ∷ []))) (sym (both (member (p .lo) rs) (member (p .hi) rs) h .0))

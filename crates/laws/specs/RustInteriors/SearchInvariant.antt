@@ -14,7 +14,7 @@ use Rattle.definitions.specs.Grid.{Pair}
 use Rattle.definitions.specs.Context.{Context}
 use Rattle.definitions.specs.RampInteriors.{isOrdinary}
 use Rattle.laws.specs.ListLaws.Lists.{All, all-map, all-both}
-use Rattle.laws.specs.ListLaws.Tests.{both}
+use Rattle.laws.specs.ListLaws.Tests.{both, or-split}
 use Rattle.laws.specs.ListLaws.Members.{all-at, all-members, any-found, any-member}
 use Rattle.laws.specs.RegionLaws.Merging.{Within}
 use Rattle.laws.specs.RegionLaws.Components.{component, links-at, component-closed}
@@ -23,10 +23,6 @@ use Rattle.laws.specs.RustInteriors.ComponentRegions.{inside}
 use Rattle.laws.specs.RustInteriors.DepthFirstLiteral.{Link, graphAt, Search, visitLinks, withTodo, popped, searchFor}
 use Rattle.laws.specs.RustInteriors.SearchRounds.{leadsTo, goesBy, edges-after, visited-after, regions-after, todo-after, Ordered, links-ordered}
 use Rattle.laws.specs.RustInteriors.SearchGraph.{links-of, graph-all}
-
-pub or-split : (a b : Bool) → (a || b) ≡ true → (a ≡ true) ⊎ (b ≡ true)
-or-split true b h = inl refl
-or-split false b h = inr h
 
 or-none : (a b : Bool) → (a || b) ≡ false → a ≡ false
 or-none true b h = absurd (true≢false h)

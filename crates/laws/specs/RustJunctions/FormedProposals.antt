@@ -5,7 +5,7 @@ use mathlib.Core.Path.{_≡_, refl}
 use mathlib.Core.Bool.{Bool, true, false, not, _&&_, cond}
 use mathlib.Core.Option.{Option, none, some}
 use mathlib.Core.List.{List, [], map}
-use Rattle.definitions.specs.Scan.{any, all, member, toList}
+use Rattle.definitions.specs.Scan.{all, toList}
 use Rattle.definitions.specs.Grid.{Pair}
 use Rattle.definitions.specs.Context.{Context, onlyPair, fullCut, fullPair, isIncident, noRamp}
 use Rattle.definitions.specs.Junctions.{isSome, unionShape, unionRegions, portExterior, bridgeFits, unionFrom, unionProposal, portsOf, isShared, isTwiceAsWide, bridgeAt, pickBridge, bridgeOfPorts, bridgeProposal, proposals, ranksBefore, ranked, taken, removed}
@@ -14,7 +14,7 @@ use Rattle.laws.specs.ListLaws.Options.{on-only, on-list}
 use Rattle.laws.specs.OrderLaws.StableSort.{all-sort}
 use Rattle.laws.specs.RustContext.SoundContext.{Sound}
 use Rattle.laws.specs.ListLaws.ScansOfAll.{collect-below}
-use Rattle.laws.specs.SetLaws.Sets.{setExtend, below-all, member-extend}
+use Rattle.laws.specs.SetLaws.Sets.{setExtend, below-all}
 use Rattle.laws.specs.RustContext.IncidentMap.{incidents-below}
 use Rattle.laws.specs.RustJunctions.JunctionProposals.{asEnum, Formed, ofUnion, ofBridge, index-below}
 use Rattle.laws.specs.RustJunctions.Selection3.{selectProposals, selection}
@@ -84,7 +84,3 @@ module _ (C : Context) where
     pub selected-set : selectProposals (map (asEnum C) (ranked C)) ≡ setExtend [] (removed C)
     unfolding removed taken
     selected-set = selection C (all-map (index-below C) ranked-formed)
-
-    pub selected-member : (j : ℕ) → member j (selectProposals (map (asEnum C) (ranked C))) ≡ member j (removed C)
-    unfolding member any
-    selected-member j = rw selected-set (member-extend j [] (removed C))

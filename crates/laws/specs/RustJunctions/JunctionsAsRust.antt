@@ -74,7 +74,7 @@ module _ {A B D : Type 0} (u : A → D) (f : A → Bool) (v : B → D) where
       ∙ ap₂ _++_ (collected n g h all z (λ i l. s i (omega arith)) (λ i l. e i (omega arith))) (e n (omega arith))
       ∙ sym (map-append v (collect n h) (toList (h n)))
 
-concat-append : {A B : Type 0} (f : A → List B) (l m : List A) → concatMap f (l ++ m) ≡ concatMap f l ++ concatMap f m
+pub concat-append : {A B : Type 0} (f : A → List B) (l m : List A) → concatMap f (l ++ m) ≡ concatMap f l ++ concatMap f m
 unfolding concatMap
 concat-append f [] m = refl
 concat-append f (x ∷ l) m = ap (λ r. f x ++ r) (concat-append f l m) ∙ sym (append-assoc (f x) (concatMap f l) (concatMap f m))

@@ -6,10 +6,9 @@ use mathlib.Core.Path.{_≡_, refl, sym, ap, ap₂, _∙_}
 use mathlib.Core.Bool.{Bool, true, false, not, _&&_, _||_, Bool·beq, cond, false≢true, or-false, or-true}
 use mathlib.Core.Option.{Option, none, some}
 use mathlib.Core.List.{List, [], _∷_}
-use lib.ListN.{length}
 use lib.Dec.{eqb, ltb}
 use borrow.Author.Tests.{eqb-true}
-use Rattle.definitions.specs.Scan.{any, all, member, allBelow, countBelow}
+use Rattle.definitions.specs.Scan.{any, all, member, allBelow}
 use Rattle.definitions.specs.Grid.{Pair, contains}
 use Rattle.definitions.specs.Context.{Context, holds, fullPair, isIncident}
 use Rattle.definitions.specs.Junctions.{fitsUnion, isUnionPort, portsFit}
@@ -18,7 +17,7 @@ use Rattle.laws.specs.ListLaws.Tests.{both}
 use Rattle.laws.specs.ListLaws.ScansOfAll.{all-ext, all-and}
 use Rattle.laws.specs.SetLaws.Entries.{Entry, boundariesAt}
 use Rattle.laws.specs.RustContext.IncidentMap.{incidents, incidents-below, incidents-get}
-use Rattle.laws.specs.SetLaws.Sets.{setInsert, numbersBelow, Ascending, none, member-insert, insert-ascending, member-below, length-below, all-below, set-below}
+use Rattle.laws.specs.SetLaws.Sets.{setInsert, numbersBelow, Ascending, none, member-insert, insert-ascending, member-below, all-below, set-below}
 
 -- ---- as the Rust writes it
 
@@ -210,7 +209,3 @@ module _ (C : Context) (i : ℕ) (p : Pair) where
   -- the set, as a list
   pub walk-ports : walkUnion (fullPair C) (incidents C) i p .valid ≡ true → walkUnion (fullPair C) (incidents C) i p .ports ≡ numbersBelow (C .count) (isUnionPort C i p)
   walk-ports h = set-below (isUnionPort C i p) (C .count) walk-ascending (walk-member h)
-
-  -- `ports.len()`
-  pub walk-length : walkUnion (fullPair C) (incidents C) i p .valid ≡ true → length (walkUnion (fullPair C) (incidents C) i p .ports) ≡ countBelow (C .count) (isUnionPort C i p)
-  walk-length h = ap length (walk-ports h) ∙ length-below (isUnionPort C i p) (C .count)

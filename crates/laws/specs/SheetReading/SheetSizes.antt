@@ -2,7 +2,7 @@
 -- room for every sheet. Assumes nothing.
 use Prim.Native.Nat.{ℕ, _*_, _/_, _≤_}
 use native.Mathlib.Omega.{arith}
-use mathlib.Core.Path.{_≡_, refl, subst, _∙_}
+use mathlib.Core.Path.{_≡_, refl, sym, subst, _∙_}
 use mathlib.Core.Bool.{Bool, true, false, _&&_, false≢true}
 use mathlib.Core.List.{List}
 use lib.ListN.{length}
@@ -90,8 +90,13 @@ record Area (limit w h count : ℕ) : Type 0 where
   pub few : w * h ≤ limit
   pub is : count ≡ w * h
 
-side-most : (side : ℕ) → isSide side ≡ true → side ≤ maxSide
+pub side-most : (side : ℕ) → isSide side ≡ true → side ≤ maxSide
 side-most side h = leb-true side maxSide (both (leb 1 side) (leb side maxSide) h .1)
+
+pub sides-most : (w h : ℕ) {t : Bool} → t ≡ (isSide w && isSide h) → t ≡ true → (w ≤ maxSide) × (h ≤ maxSide)
+sides-most w h e f =
+    let each = both (isSide w) (isSide h) (sym e ∙ f) in
+    (side-most w (each .0), side-most h (each .1))
 
 gives-area : (limit w h : ℕ) → Gives (area limit w h) (Area limit w h)
 gives-area limit w h =

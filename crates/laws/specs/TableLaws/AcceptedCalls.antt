@@ -1,11 +1,11 @@
--- What is known of a call that runs a pass once its answer has number 0: no check of document 01's table finds a fault (`Accepted`). The argument: the number of a refusal is at
+-- What is known of a call that runs a pass once its answer has number 0: no check of the table of SPECIFICATION 4 finds a fault (`Accepted`). The argument: the number of a refusal is at
 -- least 1, so that a list of checks answered with 0 has no refusal in it. Of the boundaries it says that each passes check 7. Assumes nothing.
 use Prim.Native.Nat.{ℕ, zero, suc, _*_, _/_, _<_}
 use native.Mathlib.Omega.{arith}
-use mathlib.Core.Path.{_≡_, refl, ap}
+use mathlib.Core.Path.{_≡_, refl, sym, ap, subst}
 use mathlib.Core.Bool.{Bool, true, false, not, _&&_, true≢false}
 use mathlib.Core.List.{List, [], _∷_, map}
-use mathlib.Core.Option.{Option, none, some}
+use mathlib.Core.Option.{Option, none, some, Option·some-injective}
 use lib.ListN.{length}
 use Rattle.definitions.specs.Limits.{numbersPerSpan, numbersPerBoundary, numbersPerAnchor}
 use Rattle.definitions.specs.Scan.{onlyIf, run}
@@ -17,17 +17,23 @@ use Rattle.laws.specs.ListLaws.Tests.{both}
 use Rattle.laws.specs.ListLaws.Lists.{All, done, more, all-run}
 use Rattle.laws.specs.ListLaws.NoFault.{found, no-fault, none-faulty}
 
+-- ---- the first of several refusals
+
+pub or-else-assoc : {A : Type 0} (a b c : Option A) → orElse (orElse a b) c ≡ orElse a (orElse b c)
+or-else-assoc none b c = refl
+or-else-assoc (some x) b c = refl
+
 -- ---- no refusal has number 0
 
-data Numbered : Option Refusal → Type 0 where
+pub data Numbered : Option Refusal → Type 0 where
   nothing : Numbered none
   numbered : {r : Refusal} → 0 < r .number → Numbered (some r)
 
-refusal-numbered : (number : ℕ) (place : Option ℕ) → 0 < number → Numbered (refusal number place)
+pub refusal-numbered : (number : ℕ) (place : Option ℕ) → 0 < number → Numbered (refusal number place)
 refusal-numbered number none h = nothing
 refusal-numbered number (some place) h = numbered h
 
-or-numbered : {x y : Option Refusal} → Numbered x → Numbered y → Numbered (orElse x y)
+pub or-numbered : {x y : Option Refusal} → Numbered x → Numbered y → Numbered (orElse x y)
 or-numbered nothing k = k
 or-numbered (numbered h) k = numbered h
 
@@ -41,7 +47,7 @@ first-numbered zero f h = nothing
 first-numbered (suc n) f h = or-numbered (first-numbered n f h) (h n)
 
 -- numbers 5 and 6
-spans-numbered : (w h : ℕ) (spans : List ℕ) → Numbered (spansRefusal w h spans)
+pub spans-numbered : (w h : ℕ) (spans : List ℕ) → Numbered (spansRefusal w h spans)
 unfolding spansRefusal
 spans-numbered w h spans = first-numbered (length spans / numbersPerSpan) (λ i. at (segmentAt spans (numbersPerSpan * i)) i) (λ i. at-numbered (segmentAt spans (numbersPerSpan * i)) i)
   where
@@ -51,16 +57,20 @@ spans-numbered w h spans = first-numbered (length spans / numbersPerSpan) (λ i.
     at-numbered : (s : Segment) (i : ℕ) → Numbered (at s i)
     at-numbered s i = or-numbered (only-numbered (not (bothOnMap w h s)) 5 i (omega arith)) (only-numbered (not (endpointsDiffer s)) 6 i (omega arith))
 
+pub number-above : {o : Option Refusal} {r : Refusal} → Numbered o → o ≡ some r → 0 < r .number
+number-above nothing e = absurd (true≢false (ap found (sym e)))
+number-above (numbered h) e = subst (λ r. 0 < r .number) (Option·some-injective _ _ e) h
+
 pub refusal-none : (number : ℕ) (place : Option ℕ) → refusal number place ≡ none → place ≡ none
 refusal-none number none h = refl
 refusal-none number (some place) h = absurd (true≢false (ap found h))
 
-none-refused : {l : List (Option Refusal)} (count : ℕ) → All Numbered l → firstRefusal l count .number ≡ 0 → All (λ r. r ≡ none) l
+pub none-refused : {l : List (Option Refusal)} (count : ℕ) → All Numbered l → firstRefusal l count .number ≡ 0 → All (λ r. r ≡ none) l
 none-refused count done h = done
 none-refused count (more nothing a) h = more refl (none-refused count a h)
 none-refused count (more (numbered k) a) h = absurd (omega (arith, k, h))
 
-counted : {l : List (Option Refusal)} (count : ℕ) → All Numbered l → firstRefusal l count .number ≡ 0 → firstRefusal l count .value ≡ count
+pub counted : {l : List (Option Refusal)} (count : ℕ) → All Numbered l → firstRefusal l count .number ≡ 0 → firstRefusal l count .value ≡ count
 counted count done h = refl
 counted count (more nothing a) h = counted count a h
 counted count (more (numbered k) a) h = absurd (omega (arith, k, h))

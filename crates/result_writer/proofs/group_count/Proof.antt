@@ -1,12 +1,12 @@
--- `result_writer::group_count` meets its contract. The loop's invariant is `Counting`; the measure is what is left. Assumes nothing.
+-- `result_writer::group_count` meets its contract. The loop's invariant is `CountingGroups`; the measure is what is left. Assumes nothing.
 use native.Mathlib.Omega.{arith}
 use borrow.Author.Needs.{needs}
-use Rattle.result_writer.proofs.Spending.{Counting, counting-starts, counting-goes-on, counting-ends}
+use Rattle.result_writer.proofs.Spending.{CountingGroups, counting-starts, counting-goes-on, counting-ends}
 use Rattle.result_writer.proofs.group_count.Statement.{statement}
 use Rattle.result_writer.proofs.group_count.Tie as tie
 
 abbrev Inv-loop : tie.InvT-loop
-Inv-loop n left₀ count₀ left count = Counting n left count
+Inv-loop n left₀ count₀ left count = CountingGroups n left count
 
 abbrev μ-loop : tie.MeasureT-loop
 μ-loop n left₀ count₀ left count = left

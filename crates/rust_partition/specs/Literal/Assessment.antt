@@ -1,5 +1,5 @@
 -- `boundary_assessment` (areas.rs) as it is written there: one walk over a span's removed edges that counts the separated ones and pushes their pairs, then a sort and
--- `dedup`. `incident_area_ids` is left out: no list of document 01 holds it. Taken from the definitions: the sort (Sort; pairs that compare equal are equal, so
+-- `dedup`. `incident_area_ids` is left out: no list of SPECIFICATION 3 holds it. Taken from the definitions: the sort (Sort; pairs that compare equal are equal, so
 -- that every sort gives this list). Definitions only. Assumes nothing.
 use Prim.Native.Nat.{ℕ, _+_, min, max}
 use mathlib.Core.Bool.{cond}

@@ -27,7 +27,7 @@ partitionBySpans M =
     let ls = flooded .waiting .labels in
     record { labels = ls; areas = flooded .areas; boundaries = map (λ edges. boundaryAssessment edges ls) (removed .spanEdges) }
 
--- ---- in document 01's layout, which is not the Rust's
+-- ---- in the layout of SPECIFICATION 3, which is not the Rust's
 
 -- "tallies (2 per span)": removed and separated edge counts
 unfoldable pub talliesHeld : SpanPartition → List ℕ

@@ -1,8 +1,8 @@
 -- `put_row` meets its contract: five stores, one behind the other. Assumes nothing.
 use native.Mathlib.Omega.{arith}
 use lib.ListN.{length-set}
-use Rattle.separation_list.proofs.Storing.{five-stored}
 use borrow.Author.Needs.{needs}
+use Rattle.laws.specs.ListLaws.Stores.{five-stored}
 use Rattle.separation_list.proofs.put_row.Statement.{statement}
 use Rattle.separation_list.proofs.put_row.Tie as tie
 

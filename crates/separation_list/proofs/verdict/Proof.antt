@@ -2,7 +2,8 @@
 use mathlib.Core.Path.{sym, ap, _∙_}
 use borrow.Author.Tests.{not-true, not-false}
 use Rattle.checks.specs.Contract.{placeOf}
-use Rattle.separation_list.proofs.Answering.{sides-le, entries-le, sides-refused, sizes-refused, boundary-refused, room-answered}
+use Rattle.separation_list.proofs.Answering.{entries-le, sides-refused, sizes-refused, boundary-refused, room-answered}
+use Rattle.laws.specs.SheetReading.SheetSizes.{sides-most}
 use borrow.Author.Needs.{needs}
 use Rattle.separation_list.proofs.verdict.Statement.{statement}
 use Rattle.separation_list.proofs.verdict.Tie as tie
@@ -31,7 +32,7 @@ returns-2 c =
 boundaries-fault-requires : tie.Need-boundaries-fault-requires
 boundaries-fault-requires c κs =
     let wide = c .before .before in
-    sides-le _ _ (wide .before .sides-fit .ensures) (not-false _ (wide .if1 .left))
+    sides-most _ _ (wide .before .sides-fit .ensures) (not-false _ (wide .if1 .left))
 
 pair-count-requires : tie.Need-pair-count-requires
 pair-count-requires c κs =

@@ -7,12 +7,13 @@ use native.Mathlib.Nat.{le-trans, le-refl, lt-of-le-of-lt, mul-one, zero-mul, mu
 use native.Mathlib.Omega.{arith}
 use lib.Dec.{T, ltb, ltb→lt, nltb→le, lit≤, lit<}
 use lib.Pow.{pow-pos}
-use lib.Ieee.{Float, binary64, unlike, round, neg, sum, add, sub, mul}
+use lib.Ieee.{Float, binary64, unlike, round, sum, add, sub, mul}
 use lib.Ieee.Back.{round-whole}
 use Rattle.definitions.specs.Spans.{distanceBetween}
 use Rattle.definitions.specs.Geometry.{float}
 use Rattle.laws.specs.FloatLaws.Values.{Valued, Units, valued-again, add-value, sub-value, mul-value}
 use Rattle.laws.specs.FloatLaws.WholeDoubles.{float-valued}
+use Rattle.laws.specs.FloatLaws.Differences.{sub-is}
 use Rattle.separations.specs.ErrorLaws.RoundingErrors.{Off, Close, round-close, close-neg, close-add}
 
 -- ---- whole numbers: x is P - N, exactly
@@ -127,10 +128,6 @@ whole-close n h =
   where
     by : (x : ℕ) → x ≤ x + 0 + 0
     by x = omega arith
-
-sub-is : (x y : Float) → sub binary64 x y ≡ add binary64 x (neg y)
-unfolding sub
-sub-is x y = refl
 
 -- in units, 7 * 2 ^ 1035
 abbrev pub offsetError : ℕ

@@ -2,7 +2,8 @@
 use mathlib.Core.Path.{sym, _∙_}
 use native.Mathlib.Omega.{arith}
 use borrow.Author.Tests.{not-true, not-false}
-use Rattle.sheet.proofs.Limits.{side-most, sides-product}
+use Rattle.laws.specs.SheetReading.SheetSizes.{side-most}
+use Rattle.sheet.proofs.Limits.{sides-product}
 use Rattle.sheet.proofs.area_allowed.Statement.{statement}
 use Rattle.sheet.proofs.area_allowed.Tie as tie
 

@@ -3,7 +3,7 @@ use Prim.Native.Nat.{_+_, _*_}
 use native.Mathlib.Omega.{arith}
 use lib.ListN.{getD, length-set}
 use denote.Ref.{now}
-use Rattle.sheet.proofs.Endpoints.{four-stored}
+use Rattle.laws.specs.ListLaws.Stores.{four-stored}
 use borrow.Author.Needs.{needs}
 use Rattle.sheet.proofs.put_endpoints.Statement.{statement}
 use Rattle.sheet.proofs.put_endpoints.Tie as tie

@@ -1,24 +1,10 @@
 -- `sheet_converter::lists_check` meets its contract: each answer is a check's own, and where one refuses, those before it did not. Assumes nothing.
-use Prim.Native.Nat.{ℕ}
-use mathlib.Core.Path.{_≡_, sym, ap, _∙_}
-use mathlib.Core.Option.{Option}
-use Rattle.definitions.specs.Refusals.{Refusal}
-use Rattle.definitions.specs.Verdict.{refusal}
-use Rattle.checks.specs.declared.Fault.{Fault}
-use Rattle.checks.specs.declared.spans.SpanFault.{SpanFault}
-use Rattle.checks.specs.Contract.{placeOf, refusalOf}
-use Rattle.areas.proofs.Chain.{here, next}
+use mathlib.Core.Path.{sym}
+use Rattle.areas.proofs.Chain.{here, next, spans-said, place-said}
 use Rattle.sheet_converter.specs.Contract.{listsRefusal}
 use borrow.Author.Needs.{needs}
 use Rattle.sheet_converter.proofs.lists_check.Statement.{statement}
 use Rattle.sheet_converter.proofs.lists_check.Tie as tie
-
--- what a check's answer, known by its case, says
-spans-say : {f v : SpanFault} {o : Option Refusal} → refusalOf f ≡ o → f ≡ v → o ≡ refusalOf v
-spans-say e g = sym e ∙ ap refusalOf g
-
-says : (number : ℕ) {f v : Fault} {o : Option ℕ} → placeOf f ≡ o → f ≡ v → refusal number o ≡ refusal number (placeOf v)
-says number e g = ap (refusal number) (sym e ∙ ap placeOf g)
 
 spans-fault-requires : tie.Need-spans-fault-requires
 spans-fault-requires c κs = search needs
@@ -31,7 +17,7 @@ unfolding listsRefusal
 returns c =
     let at-span = c .before in
     let at-spans-fault = at-span .before .before in
-    here _ (spans-say (at-spans-fault .spans-fault .ensures) (at-span .span .given .1))
+    here _ (spans-said (at-spans-fault .spans-fault .ensures) (at-span .span .given .1))
 
 enum-known-span-2 : tie.Need-enum-known-span-2
 enum-known-span-2 c = search needs
@@ -41,7 +27,7 @@ unfolding listsRefusal
 returns-2 c =
     let at-span2 = c .before in
     let at-spans-fault = at-span2 .before .before in
-    here _ (spans-say (at-spans-fault .spans-fault .ensures) (at-span2 .span2 .given .1))
+    here _ (spans-said (at-spans-fault .spans-fault .ensures) (at-span2 .span2 .given .1))
 
 enum-told : tie.Need-enum-told
 enum-told c = search needs
@@ -59,8 +45,8 @@ returns-3 c =
     let at-boundaries-fault = at-boundary .before .before in
     let at-enum-told = at-boundaries-fault .before in
     let at-spans-fault = at-enum-told .before .before in
-    next (spans-say (at-spans-fault .spans-fault .ensures) (at-enum-told .enum-told .given .1))
-    (here _ (says 7 (at-boundaries-fault .boundaries-fault .ensures) (at-boundary .boundary .given .1)))
+    next (spans-said (at-spans-fault .spans-fault .ensures) (at-enum-told .enum-told .given .1))
+    (here _ (place-said 7 (at-boundaries-fault .boundaries-fault .ensures) (at-boundary .boundary .given .1)))
 
 enum-told-2 : tie.Need-enum-told-2
 enum-told-2 c = search needs
@@ -80,8 +66,8 @@ returns-4 c =
     let at-boundaries-fault = at-enum-told2 .before .before in
     let at-enum-told = at-boundaries-fault .before in
     let at-spans-fault = at-enum-told .before .before in
-    next (spans-say (at-spans-fault .spans-fault .ensures) (at-enum-told .enum-told .given .1))
-    (next (says 7 (at-boundaries-fault .boundaries-fault .ensures) (at-enum-told2 .enum-told2 .given .1)) (sym (says 8 (at-anchors-fault .anchors-fault .ensures) (at-anchor .anchor .given .1))))
+    next (spans-said (at-spans-fault .spans-fault .ensures) (at-enum-told .enum-told .given .1))
+    (next (place-said 7 (at-boundaries-fault .boundaries-fault .ensures) (at-enum-told2 .enum-told2 .given .1)) (sym (place-said 8 (at-anchors-fault .anchors-fault .ensures) (at-anchor .anchor .given .1))))
 
 enum-told-3 : tie.Need-enum-told-3
 enum-told-3 c = search needs
@@ -94,8 +80,8 @@ returns-5 c =
     let at-boundaries-fault = at-enum-told2 .before .before in
     let at-enum-told = at-boundaries-fault .before in
     let at-spans-fault = at-enum-told .before .before in
-    next (spans-say (at-spans-fault .spans-fault .ensures) (at-enum-told .enum-told .given .1))
-    (next (says 7 (at-boundaries-fault .boundaries-fault .ensures) (at-enum-told2 .enum-told2 .given .1)) (sym (says 8 (at-anchors-fault .anchors-fault .ensures) (c .enum-told3 .given .1))))
+    next (spans-said (at-spans-fault .spans-fault .ensures) (at-enum-told .enum-told .given .1))
+    (next (place-said 7 (at-boundaries-fault .boundaries-fault .ensures) (at-enum-told2 .enum-told2 .given .1)) (sym (place-said 8 (at-anchors-fault .anchors-fault .ensures) (c .enum-told3 .given .1))))
 
 pub lists-check-spec : {M : Type 1} → statement M
 lists-check-spec =

@@ -1,25 +1,10 @@
 -- `sheet_converter::map_check` meets its contract: the checks in their order; where one refuses, those before it did not. Assumes nothing.
-use Prim.Native.Nat.{ℕ}
-use mathlib.Core.Path.{_≡_, sym, ap, _∙_}
-use mathlib.Core.Option.{Option}
-use Rattle.definitions.specs.Refusals.{Refusal}
-use Rattle.definitions.specs.Verdict.{refusal}
-use Rattle.checks.specs.declared.Fault.{Fault}
-use Rattle.checks.specs.Contract.{placeOf}
-use Rattle.areas.specs.declared.checked.Check.{Check}
-use Rattle.areas.specs.Answers.{refusalOf}
-use Rattle.areas.proofs.Chain.{passes, refuses, here, next}
+use mathlib.Core.Path.{sym}
+use Rattle.areas.proofs.Chain.{passes, refuses, here, next, said, place-said}
 use Rattle.sheet_converter.specs.Contract.{mapRefusal}
 use borrow.Author.Needs.{needs}
 use Rattle.sheet_converter.proofs.map_check.Statement.{statement}
 use Rattle.sheet_converter.proofs.map_check.Tie as tie
-
--- what a check's answer, known by its case, says
-lists-say : {f v : Check} {o : Option Refusal} → refusalOf f ≡ o → f ≡ v → o ≡ refusalOf v
-lists-say e g = sym e ∙ ap refusalOf g
-
-says : (number : ℕ) {f v : Fault} {o : Option ℕ} → placeOf f ≡ o → f ≡ v → refusal number o ≡ refusal number (placeOf v)
-says number e g = ap (refusal number) (sym e ∙ ap placeOf g)
 
 pass-fits-requires : tie.Need-pass-fits-requires
 pass-fits-requires c κs = search needs
@@ -47,7 +32,7 @@ returns-2 c =
     let at-if1 = at-lists-check .before in
     let at-pass-fits = at-if1 .before in
     next (passes 4 (at-pass-fits .pass-fits .ensures) (at-if1 .if1 .left))
-    (here _ (lists-say (at-lists-check .lists-check .ensures) (at-number .number .given .1)))
+    (here _ (said (at-lists-check .lists-check .ensures) (at-number .number .given .1)))
 
 enum-told : tie.Need-enum-told
 enum-told c = search needs
@@ -73,8 +58,8 @@ returns-3 c =
     let at-if1 = at-lists-check .before in
     let at-pass-fits = at-if1 .before in
     next (passes 4 (at-pass-fits .pass-fits .ensures) (at-if1 .if1 .left))
-    (next (lists-say (at-lists-check .lists-check .ensures) (at-enum-told .enum-told .given .1))
-    (here _ (says 9 (at-cells-fault .cells-fault .ensures) (at-cell .cell .given .1))))
+    (next (said (at-lists-check .lists-check .ensures) (at-enum-told .enum-told .given .1))
+    (here _ (place-said 9 (at-cells-fault .cells-fault .ensures) (at-cell .cell .given .1))))
 
 enum-told-2 : tie.Need-enum-told-2
 enum-told-2 c = search needs
@@ -99,8 +84,8 @@ returns-4 c =
     let at-if1 = at-lists-check .before in
     let at-pass-fits = at-if1 .before in
     next (passes 4 (at-pass-fits .pass-fits .ensures) (at-if1 .if1 .left))
-    (next (lists-say (at-lists-check .lists-check .ensures) (at-enum-told .enum-told .given .1))
-    (next (says 9 (at-cells-fault .cells-fault .ensures) (at-enum-told2 .enum-told2 .given .1))
+    (next (said (at-lists-check .lists-check .ensures) (at-enum-told .enum-told .given .1))
+    (next (place-said 9 (at-cells-fault .cells-fault .ensures) (at-enum-told2 .enum-told2 .given .1))
     (sym (refuses 22 (at-is-one-list .is-one-list .ensures) (c .if2 .taken)))))
 
 returns-5 : tie.Need-returns-5
@@ -114,8 +99,8 @@ returns-5 c =
     let at-if1 = at-lists-check .before in
     let at-pass-fits = at-if1 .before in
     next (passes 4 (at-pass-fits .pass-fits .ensures) (at-if1 .if1 .left))
-    (next (lists-say (at-lists-check .lists-check .ensures) (at-enum-told .enum-told .given .1))
-    (next (says 9 (at-cells-fault .cells-fault .ensures) (at-enum-told2 .enum-told2 .given .1))
+    (next (said (at-lists-check .lists-check .ensures) (at-enum-told .enum-told .given .1))
+    (next (place-said 9 (at-cells-fault .cells-fault .ensures) (at-enum-told2 .enum-told2 .given .1))
     (sym (passes 22 (at-is-one-list .is-one-list .ensures) (c .if2 .left)))))
 
 pub map-check-spec : {M : Type 1} → statement M

@@ -4,7 +4,8 @@ use denote.Ref.{now}
 use Rattle.results.specs.Shortest.{shortestWithin, shortest}
 use Rattle.result_writer.proofs.Placing.{put-then}
 use Rattle.sheet_converter.specs.Contract.{cutOut}
-use Rattle.sheet_converter.proofs.Copying.{put-long, put-whole, front-long, back-long}
+use Rattle.sheet_converter.proofs.Copying.{put-whole, front-long, back-long}
+use Rattle.result_writer.proofs.Placing.{put-long}
 use borrow.Author.Needs.{needs}
 use Rattle.sheet_converter.proofs.put_converted.Statement.{statement}
 use Rattle.sheet_converter.proofs.put_converted.Tie as tie

@@ -1,7 +1,8 @@
 -- `sheet_writer::put_sheet` meets its contract: the parts of the sheet, one behind the other. Assumes nothing.
 use native.Mathlib.Omega.{arith}
 use denote.Ref.{now}
-use Rattle.sheet_writer.proofs.Parts.{put-long, sheet-length, sheet-put}
+use Rattle.sheet_writer.proofs.Parts.{sheet-length, sheet-put}
+use Rattle.result_writer.proofs.Placing.{put-long}
 use borrow.Author.Needs.{needs}
 use Rattle.sheet_writer.proofs.put_sheet.Statement.{statement}
 use Rattle.sheet_writer.proofs.put_sheet.Tie as tie

@@ -2,7 +2,8 @@
 use denote.Ref.{now}
 use borrow.Author.Tests.{not-true, not-false}
 use Rattle.map_sheets.specs.Writing.{stating}
-use Rattle.sheet_writer.proofs.Answering.{sides-known, fits-known, writes-1, writes-2, writes-3, writes-10, writes-0}
+use Rattle.sheet_writer.proofs.Answering.{fits-known, writes-1, writes-2, writes-3, writes-10, writes-0}
+use Rattle.laws.specs.SheetReading.SheetSizes.{sides-most}
 use borrow.Author.Needs.{needs}
 use Rattle.sheet_writer.proofs.sheet_writer_write_sheet.Statement.{statement}
 use Rattle.sheet_writer.proofs.sheet_writer_write_sheet.Tie as tie
@@ -21,7 +22,7 @@ returns c =
 cells-fit-requires : tie.Need-cells-fit-requires
 cells-fit-requires c κs =
     let at-sides-fit = c .before in
-    sides-known _ _ (at-sides-fit .sides-fit .ensures) (not-false (at-sides-fit .sides-fit .result) (c .if1 .left))
+    sides-most _ _ (at-sides-fit .sides-fit .ensures) (not-false (at-sides-fit .sides-fit .result) (c .if1 .left))
 
 returns-2 : tie.Need-returns-2
 unfolding stating

@@ -6,7 +6,7 @@ use lib.ListN.{length-set}
 use lib.Seq.{sets}
 use denote.Ref.{now}
 use borrow.Author.Needs.{needs}
-use Rattle.accession.proofs.Putting.{four-stores}
+use Rattle.laws.specs.ListLaws.Stores.{four-stored}
 use Rattle.accession.proofs.line.put_record.Statement.{statement}
 use Rattle.accession.proofs.line.put_record.Tie as tie
 
@@ -66,7 +66,7 @@ returns c =
     let entry = owns .before .before .before in
     let out = now (entry .args .output) in
     let k = entry .args .k in
-    four-stores out k (owns .own-of .result) (maps .map-of .result) (days .day-of .result) (c .superseded-of .result)
+    four-stored out k (owns .own-of .result) (maps .map-of .result) (days .day-of .result) (c .superseded-of .result)
     ∙ (λ j. sets out k (owns .own-of .ensures j ∷ maps .map-of .ensures j ∷ days .day-of .ensures j ∷ c .superseded-of .ensures j ∷ []))
 
 pub put-record-spec : {M : Type 1} → statement M

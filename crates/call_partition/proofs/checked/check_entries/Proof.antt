@@ -1,24 +1,10 @@
 -- `call_partition::checked::check_entries` meets its contract: each answer is a check's own, and where one refuses, those before it did not. Assumes nothing.
-use Prim.Native.Nat.{ℕ}
-use mathlib.Core.Path.{_≡_, sym, ap, _∙_}
-use mathlib.Core.Option.{Option}
-use Rattle.definitions.specs.Refusals.{Refusal}
-use Rattle.definitions.specs.Verdict.{refusal}
-use Rattle.checks.specs.declared.Fault.{Fault}
-use Rattle.checks.specs.declared.spans.SpanFault.{SpanFault}
-use Rattle.checks.specs.Contract.{placeOf, refusalOf}
+use mathlib.Core.Path.{sym}
 use Rattle.call_partition.specs.Early.{entriesRefusal}
-use Rattle.areas.proofs.Chain.{here, next}
+use Rattle.areas.proofs.Chain.{here, next, spans-said, place-said}
 use borrow.Author.Needs.{needs}
 use Rattle.call_partition.proofs.checked.check_entries.Statement.{statement}
 use Rattle.call_partition.proofs.checked.check_entries.Tie as tie
-
--- what a check's answer, known by its case, says
-spans-say : {f v : SpanFault} {o : Option Refusal} → refusalOf f ≡ o → f ≡ v → o ≡ refusalOf v
-spans-say e g = sym e ∙ ap refusalOf g
-
-says : (number : ℕ) {f v : Fault} {o : Option ℕ} → placeOf f ≡ o → f ≡ v → refusal number o ≡ refusal number (placeOf v)
-says number e g = ap (refusal number) (sym e ∙ ap placeOf g)
 
 spans-fault-requires : tie.Need-spans-fault-requires
 spans-fault-requires c κs = search needs
@@ -28,14 +14,14 @@ enum-known-span c = search needs
 
 returns : tie.Need-returns
 unfolding entriesRefusal
-returns c = here _ (spans-say (c .before .before .before .spans-fault .ensures) (c .before .span .given .1))
+returns c = here _ (spans-said (c .before .before .before .spans-fault .ensures) (c .before .span .given .1))
 
 enum-known-span-2 : tie.Need-enum-known-span-2
 enum-known-span-2 c = search needs
 
 returns-2 : tie.Need-returns-2
 unfolding entriesRefusal
-returns-2 c = here _ (spans-say (c .before .before .before .spans-fault .ensures) (c .before .span2 .given .1))
+returns-2 c = here _ (spans-said (c .before .before .before .spans-fault .ensures) (c .before .span2 .given .1))
 
 enum-told : tie.Need-enum-told
 enum-told c = search needs
@@ -52,7 +38,7 @@ returns-3 c =
     let at-boundary = c .before in
     let at-enum-told = at-boundary .before .before .before in
     let at-spans-fault = at-enum-told .before .before in
-    next (spans-say (at-spans-fault .spans-fault .ensures) (at-enum-told .enum-told .given .1)) (here _ (says 7 (c .before .before .before .boundaries-fault .ensures) (at-boundary .boundary .given .1)))
+    next (spans-said (at-spans-fault .spans-fault .ensures) (at-enum-told .enum-told .given .1)) (here _ (place-said 7 (c .before .before .before .boundaries-fault .ensures) (at-boundary .boundary .given .1)))
 
 enum-told-2 : tie.Need-enum-told-2
 enum-told-2 c = search needs
@@ -71,7 +57,7 @@ returns-4 c =
     let at-boundaries-fault = at-enum-told2 .before .before in
     let at-enum-told = at-boundaries-fault .before in
     let at-spans-fault = at-enum-told .before .before in
-    next (spans-say (at-spans-fault .spans-fault .ensures) (at-enum-told .enum-told .given .1)) (next (says 7 (at-boundaries-fault .boundaries-fault .ensures) (at-enum-told2 .enum-told2 .given .1)) (here _ (says 8 (c .before .before .before .anchors-fault .ensures) (at-anchor .anchor .given .1))))
+    next (spans-said (at-spans-fault .spans-fault .ensures) (at-enum-told .enum-told .given .1)) (next (place-said 7 (at-boundaries-fault .boundaries-fault .ensures) (at-enum-told2 .enum-told2 .given .1)) (here _ (place-said 8 (c .before .before .before .anchors-fault .ensures) (at-anchor .anchor .given .1))))
 
 enum-told-3 : tie.Need-enum-told-3
 enum-told-3 c = search needs
@@ -92,7 +78,7 @@ returns-5 c =
     let at-boundaries-fault = at-enum-told2 .before .before in
     let at-enum-told = at-boundaries-fault .before in
     let at-spans-fault = at-enum-told .before .before in
-    next (spans-say (at-spans-fault .spans-fault .ensures) (at-enum-told .enum-told .given .1)) (next (says 7 (at-boundaries-fault .boundaries-fault .ensures) (at-enum-told2 .enum-told2 .given .1)) (next (says 8 (at-anchors-fault .anchors-fault .ensures) (at-enum-told3 .enum-told3 .given .1)) (sym (says 9 (c .before .before .before .elevations-fault .ensures) (at-cell .cell .given .1)))))
+    next (spans-said (at-spans-fault .spans-fault .ensures) (at-enum-told .enum-told .given .1)) (next (place-said 7 (at-boundaries-fault .boundaries-fault .ensures) (at-enum-told2 .enum-told2 .given .1)) (next (place-said 8 (at-anchors-fault .anchors-fault .ensures) (at-enum-told3 .enum-told3 .given .1)) (sym (place-said 9 (c .before .before .before .elevations-fault .ensures) (at-cell .cell .given .1)))))
 
 enum-told-4 : tie.Need-enum-told-4
 enum-told-4 c = search needs
@@ -106,7 +92,7 @@ returns-6 c =
     let at-boundaries-fault = at-enum-told2 .before .before in
     let at-enum-told = at-boundaries-fault .before in
     let at-spans-fault = at-enum-told .before .before in
-    next (spans-say (at-spans-fault .spans-fault .ensures) (at-enum-told .enum-told .given .1)) (next (says 7 (at-boundaries-fault .boundaries-fault .ensures) (at-enum-told2 .enum-told2 .given .1)) (next (says 8 (at-anchors-fault .anchors-fault .ensures) (c .before .before .before .enum-told3 .given .1)) (sym (says 9 (at-elevations-fault .elevations-fault .ensures) (c .enum-told4 .given .1)))))
+    next (spans-said (at-spans-fault .spans-fault .ensures) (at-enum-told .enum-told .given .1)) (next (place-said 7 (at-boundaries-fault .boundaries-fault .ensures) (at-enum-told2 .enum-told2 .given .1)) (next (place-said 8 (at-anchors-fault .anchors-fault .ensures) (c .before .before .before .enum-told3 .given .1)) (sym (place-said 9 (at-elevations-fault .elevations-fault .ensures) (c .enum-told4 .given .1)))))
 
 pub check-entries-spec : {M : Type 1} → statement M
 check-entries-spec =

@@ -8,7 +8,7 @@ use lib.Seq.{ext-getD}
 use lib.Dec.{eqb}
 use borrow.Author.Needs.{needs}
 use Rattle.definitions.specs.Scan.{bit}
-use Rattle.context.specs.RecordLaws.{counts-more}
+use Rattle.context.proofs.RecordLaws.{counts-more}
 use Rattle.context.proofs.records.one_more.Statement.{statement}
 use Rattle.context.proofs.records.one_more.Tie as tie
 

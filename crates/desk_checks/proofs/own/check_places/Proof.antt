@@ -1,18 +1,9 @@
 -- `desk_checks::own::check_places` meets its contract: each answer is a check's own, and where one refuses, those before it did not. Assumes nothing.
-use Prim.Native.Nat.{ℕ}
-use mathlib.Core.Path.{_≡_, sym, ap, _∙_}
-use mathlib.Core.Option.{Option}
-use Rattle.definitions.specs.Verdict.{refusal}
-use Rattle.checks.specs.declared.Fault.{Fault}
-use Rattle.checks.specs.Contract.{placeOf}
-use Rattle.areas.proofs.Chain.{here, next, passes, refuses}
+use mathlib.Core.Path.{sym}
+use Rattle.areas.proofs.Chain.{here, next, passes, refuses, place-said}
 use borrow.Author.Needs.{needs}
 use Rattle.desk_checks.proofs.own.check_places.Statement.{statement}
 use Rattle.desk_checks.proofs.own.check_places.Tie as tie
-
--- what a check's answer, known by its case, says
-says : (number : ℕ) {f v : Fault} {o : Option ℕ} → placeOf f ≡ o → f ≡ v → refusal number o ≡ refusal number (placeOf v)
-says number e g = ap (refusal number) (sym e ∙ ap placeOf g)
 
 boundaries-fault-requires : tie.Need-boundaries-fault-requires
 boundaries-fault-requires c κs = search needs
@@ -21,7 +12,7 @@ enum-known-boundary : tie.Need-enum-known-boundary
 enum-known-boundary c = search needs
 
 returns : tie.Need-returns
-returns c = here _ (says 7 (c .before .before .before .boundaries-fault .ensures) (c .before .boundary .given .1))
+returns c = here _ (place-said 7 (c .before .before .before .boundaries-fault .ensures) (c .before .boundary .given .1))
 
 enum-told : tie.Need-enum-told
 enum-told c = search needs
@@ -36,8 +27,8 @@ returns-2 : tie.Need-returns-2
 returns-2 c =
     let at-desk = c .before .before .before in
     let first = at-desk .before in
-    next (says 7 (first .before .before .boundaries-fault .ensures) (first .enum-told .given .1))
-    (here _ (says 20 (at-desk .desk-fault .ensures) (c .before .boundary2 .given .1)))
+    next (place-said 7 (first .before .before .boundaries-fault .ensures) (first .enum-told .given .1))
+    (here _ (place-said 20 (at-desk .desk-fault .ensures) (c .before .boundary2 .given .1)))
 
 enum-told-2 : tie.Need-enum-told-2
 enum-told-2 c = search needs
@@ -53,9 +44,9 @@ returns-3 c =
     let at-anchors = c .before .before .before in
     let second = at-anchors .before in
     let first = second .before .before .before in
-    next (says 7 (first .before .before .boundaries-fault .ensures) (first .enum-told .given .1))
-    (next (says 20 (second .before .before .desk-fault .ensures) (second .enum-told2 .given .1))
-    (here _ (says 8 (at-anchors .anchors-fault .ensures) (c .before .anchor .given .1))))
+    next (place-said 7 (first .before .before .boundaries-fault .ensures) (first .enum-told .given .1))
+    (next (place-said 20 (second .before .before .desk-fault .ensures) (second .enum-told2 .given .1))
+    (here _ (place-said 8 (at-anchors .anchors-fault .ensures) (c .before .anchor .given .1))))
 
 enum-told-3 : tie.Need-enum-told-3
 enum-told-3 c = search needs
@@ -68,9 +59,9 @@ returns-4 c =
     let third = c .before .before in
     let second = third .before .before .before in
     let first = second .before .before .before in
-    next (says 7 (first .before .before .boundaries-fault .ensures) (first .enum-told .given .1))
-    (next (says 20 (second .before .before .desk-fault .ensures) (second .enum-told2 .given .1))
-    (next (says 8 (third .before .before .anchors-fault .ensures) (third .enum-told3 .given .1))
+    next (place-said 7 (first .before .before .boundaries-fault .ensures) (first .enum-told .given .1))
+    (next (place-said 20 (second .before .before .desk-fault .ensures) (second .enum-told2 .given .1))
+    (next (place-said 8 (third .before .before .anchors-fault .ensures) (third .enum-told3 .given .1))
     (sym (refuses 10 (c .before .output-has-room .ensures) (c .if1 .taken)))))
 
 returns-5 : tie.Need-returns-5
@@ -78,9 +69,9 @@ returns-5 c =
     let third = c .before .before in
     let second = third .before .before .before in
     let first = second .before .before .before in
-    next (says 7 (first .before .before .boundaries-fault .ensures) (first .enum-told .given .1))
-    (next (says 20 (second .before .before .desk-fault .ensures) (second .enum-told2 .given .1))
-    (next (says 8 (third .before .before .anchors-fault .ensures) (third .enum-told3 .given .1))
+    next (place-said 7 (first .before .before .boundaries-fault .ensures) (first .enum-told .given .1))
+    (next (place-said 20 (second .before .before .desk-fault .ensures) (second .enum-told2 .given .1))
+    (next (place-said 8 (third .before .before .anchors-fault .ensures) (third .enum-told3 .given .1))
     (sym (passes 10 (c .before .output-has-room .ensures) (c .if1 .left)))))
 
 pub check-places-spec : {M : Type 1} → statement M

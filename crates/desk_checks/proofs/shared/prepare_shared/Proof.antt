@@ -1,19 +1,12 @@
 -- `desk_checks::shared::prepare_shared` meets its contract: a check of the shared lists refuses, or they fit and are divided. Assumes nothing.
-use mathlib.Core.Path.{_≡_, sym, ap, _∙_}
-use mathlib.Core.Option.{Option}
+use mathlib.Core.Path.{sym}
 use denote.Ref.{now}
-use Rattle.definitions.specs.Refusals.{Refusal}
-use Rattle.areas.specs.declared.checked.Check.{Check}
-use Rattle.areas.specs.Answers.{refusalOf}
+use Rattle.areas.proofs.Chain.{says}
 use Rattle.call_partition.proofs.EarlyFits.{early-fits}
 use Rattle.desk_checks.proofs.SharedRefusals.{refused-early, divided-shared}
 use borrow.Author.Needs.{needs}
 use Rattle.desk_checks.proofs.shared.prepare_shared.Statement.{statement}
 use Rattle.desk_checks.proofs.shared.prepare_shared.Tie as tie
-
--- what the checks' answer, known by its case, says
-says : {f v : Check} {o : Option Refusal} → refusalOf f ≡ o → f ≡ v → refusalOf v ≡ o
-says e g = sym (ap refusalOf g) ∙ e
 
 slice-aggregate-checks-before : tie.Need-slice-aggregate-checks-before
 slice-aggregate-checks-before c = search needs

@@ -1,27 +1,13 @@
 -- `game_lists::checked::game_checks` meets its contract: the refusals of its parts, one after the other. Assumes nothing.
-use Prim.Native.Nat.{ℕ}
-use mathlib.Core.Path.{_≡_, sym, ap, _∙_}
-use mathlib.Core.Option.{Option}
+use mathlib.Core.Path.{sym, ap}
 use borrow.Author.Needs.{needs}
 use borrow.Author.Tests.{le-leb, lt-leb}
-use Rattle.definitions.specs.Refusals.{Refusal, unless}
+use Rattle.definitions.specs.Refusals.{unless}
 use Rattle.definitions.specs.Verdict.{refusal}
-use Rattle.checks.specs.declared.Fault.{Fault}
-use Rattle.checks.specs.Contract.{placeOf}
-use Rattle.areas.specs.declared.checked.Check.{Check}
-use Rattle.areas.specs.Answers.{refusalOf}
-use Rattle.areas.proofs.Chain.{here, next}
+use Rattle.areas.proofs.Chain.{here, next, said, place-said}
 use Rattle.game_lists.specs.Early.{gameEarly}
 use Rattle.game_lists.proofs.checked.game_checks.Statement.{statement}
 use Rattle.game_lists.proofs.checked.game_checks.Tie as tie
-
--- what a part's answer, known by its case, says
-says : {f v : Check} {o : Option Refusal} → refusalOf f ≡ o → f ≡ v → o ≡ refusalOf v
-says e g = sym e ∙ ap refusalOf g
-
--- and what the answer of 16 says
-differs : {f v : Fault} {o : Option ℕ} → placeOf f ≡ o → f ≡ v → refusal 16 o ≡ refusal 16 (placeOf v)
-differs e g = ap (refusal 16) (sym e ∙ ap placeOf g)
 
 check-sizes-requires : tie.Need-check-sizes-requires
 check-sizes-requires c κs = search needs
@@ -33,7 +19,7 @@ returns : tie.Need-returns
 unfolding gameEarly
 returns c =
     let check-sizes = c .before .before .before .check-sizes in
-    here _ (says (check-sizes .ensures) (c .before .number .given .1))
+    here _ (said (check-sizes .ensures) (c .before .number .given .1))
 
 enum-told : tie.Need-enum-told
 enum-told c = search needs
@@ -51,7 +37,7 @@ returns-2 c =
     let past-3 = c .before .before .before in
     let enum-told = past-3 .before .enum-told in
     let check-sizes = past-3 .before .before .before .check-sizes in
-    next (says (check-sizes .ensures) (enum-told .given .1)) (here _ (differs (lists-fault .ensures) (c .before .entry .given .1)))
+    next (said (check-sizes .ensures) (enum-told .given .1)) (here _ (place-said 16 (lists-fault .ensures) (c .before .entry .given .1)))
 
 enum-told-2 : tie.Need-enum-told-2
 enum-told-2 c = search needs
@@ -72,8 +58,8 @@ returns-3 c =
     let past-6 = past-3 .before .before .before in
     let enum-told = past-6 .before .enum-told in
     let check-sizes = past-6 .before .before .before .check-sizes in
-    next (says (check-sizes .ensures) (enum-told .given .1))
-    (next (differs (lists-fault .ensures) (enum-told2 .given .1)) (here _ (says (checks-before .ensures) (c .before .number2 .given .1))))
+    next (said (check-sizes .ensures) (enum-told .given .1))
+    (next (place-said 16 (lists-fault .ensures) (enum-told2 .given .1)) (here _ (said (checks-before .ensures) (c .before .number2 .given .1))))
 
 enum-told-3 : tie.Need-enum-told-3
 enum-told-3 c = search needs
@@ -88,9 +74,9 @@ returns-4 c =
     let past-6 = past-3 .before .before .before in
     let enum-told = past-6 .before .enum-told in
     let check-sizes = past-6 .before .before .before .check-sizes in
-    next (says (check-sizes .ensures) (enum-told .given .1))
-    (next (differs (lists-fault .ensures) (enum-told2 .given .1))
-    (next (says (checks-before .ensures) (c .before .enum-told3 .given .1)) (sym (ap (λ b. refusal 10 (unless b)) (lt-leb _ _ (c .if1 .taken))))))
+    next (said (check-sizes .ensures) (enum-told .given .1))
+    (next (place-said 16 (lists-fault .ensures) (enum-told2 .given .1))
+    (next (said (checks-before .ensures) (c .before .enum-told3 .given .1)) (sym (ap (λ b. refusal 10 (unless b)) (lt-leb _ _ (c .if1 .taken))))))
 
 returns-5 : tie.Need-returns-5
 unfolding gameEarly
@@ -102,9 +88,9 @@ returns-5 c =
     let past-6 = past-3 .before .before .before in
     let enum-told = past-6 .before .enum-told in
     let check-sizes = past-6 .before .before .before .check-sizes in
-    next (says (check-sizes .ensures) (enum-told .given .1))
-    (next (differs (lists-fault .ensures) (enum-told2 .given .1))
-    (next (says (checks-before .ensures) (c .before .enum-told3 .given .1)) (sym (ap (λ b. refusal 10 (unless b)) (le-leb _ _ (c .if1 .left))))))
+    next (said (check-sizes .ensures) (enum-told .given .1))
+    (next (place-said 16 (lists-fault .ensures) (enum-told2 .given .1))
+    (next (said (checks-before .ensures) (c .before .enum-told3 .given .1)) (sym (ap (λ b. refusal 10 (unless b)) (le-leb _ _ (c .if1 .left))))))
 
 pub game-checks-spec : {M : Type 1} → statement M
 game-checks-spec =

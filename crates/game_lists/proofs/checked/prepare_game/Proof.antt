@@ -1,17 +1,9 @@
 -- `game_lists::checked::prepare_game` meets its contract: a check before it refuses, or the lists fit and are divided. Assumes nothing.
-use mathlib.Core.Path.{_≡_, sym, ap, _∙_}
-use mathlib.Core.Option.{Option}
-use Rattle.definitions.specs.Refusals.{Refusal}
-use Rattle.areas.specs.declared.checked.Check.{Check}
-use Rattle.areas.specs.Answers.{refusalOf}
+use Rattle.areas.proofs.Chain.{says}
 use Rattle.game_lists.proofs.PreparingGame.{refused-early, lists-fit, prepared-game}
 use borrow.Author.Needs.{needs}
 use Rattle.game_lists.proofs.checked.prepare_game.Statement.{statement}
 use Rattle.game_lists.proofs.checked.prepare_game.Tie as tie
-
--- what the checks' answer, known by its case, says
-says : {f v : Check} {o : Option Refusal} → refusalOf f ≡ o → f ≡ v → refusalOf v ≡ o
-says e g = sym (ap refusalOf g) ∙ e
 
 game-checks-requires : tie.Need-game-checks-requires
 game-checks-requires c κs = search needs

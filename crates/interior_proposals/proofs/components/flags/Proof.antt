@@ -1,22 +1,15 @@
 -- `components::flags` meets its contract: a remainder by 2 is 0 or 1. Assumes nothing.
 use Prim.Native.Nat.{ℕ, _+_, _%_}
 use native.Mathlib.Omega.{arith}
-use mathlib.Core.Path.{_≡_, refl}
-use mathlib.Core.Bool.{Bool, true, false}
+use mathlib.Core.Path.{_≡_}
+use mathlib.Core.Bool.{false}
 use lib.Dec.{eqb}
-use borrow.Author.Tests.{eqb-true, eqb-false, eq-eqb, ne-eqb}
-use Rattle.definitions.specs.Scan.{bit}
+use borrow.Author.Tests.{eq-eqb, ne-eqb}
 use Rattle.interior_proposals.specs.Given.{flagsOf}
 use borrow.Author.Needs.{needs}
+use Rattle.laws.specs.ListLaws.Flags.{odd-bit}
 use Rattle.interior_proposals.proofs.components.flags.Statement.{statement}
 use Rattle.interior_proposals.proofs.components.flags.Tie as tie
-
-odd-bit : (n : ℕ) → n % 2 ≡ bit (eqb (n % 2) 1)
-odd-bit n = go (eqb (n % 2) 1) refl
-  where
-    go : (b : Bool) → eqb (n % 2) 1 ≡ b → n % 2 ≡ bit b
-    go true e = eqb-true (n % 2) 1 e
-    go false e = omega (arith, eqb-false (n % 2) 1 e)
 
 single : (n k : ℕ) → k ≡ 1 → n % 2 + 2 ≡ flagsOf (eqb (n % 2) 1) (eqb k 1) false
 unfolding flagsOf

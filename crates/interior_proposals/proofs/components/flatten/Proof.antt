@@ -5,8 +5,9 @@ use mathlib.Core.Path.{_≡_}
 use mathlib.Core.List.{List}
 use lib.ListN.{length}
 use borrow.Author.Needs.{needs}
-use Rattle.interior_proposals.specs.Forest.{Beyond, Parented}
-use Rattle.interior_proposals.proofs.Forests.{Flat, beyond-same, beyond-set, beyond-then, flat-parent, flat-more, flat-end}
+use Rattle.laws.specs.ListLaws.Beyond.{Beyond, beyond-same, beyond-set, beyond-then}
+use Rattle.interior_proposals.specs.Forest.{Parented}
+use Rattle.interior_proposals.proofs.Forests.{Flat, flat-parent, flat-more, flat-end}
 use Rattle.interior_proposals.proofs.components.flatten.Statement.{statement}
 use Rattle.interior_proposals.proofs.components.flatten.Tie as tie
 

@@ -1,6 +1,6 @@
 -- `components::join_cut` meets its contract, by the test. Assumes nothing.
 use lib.ListN.{length}
-use Rattle.context.specs.ShownLaws.{shown-stretch}
+use Rattle.context.proofs.ShownLaws.{shown-stretch}
 use Rattle.interior_proposals.proofs.Forests.{merged-start}
 use Rattle.interior_proposals.proofs.Preparing.{rows-placed, cut-joins, cut-idle}
 use borrow.Author.Needs.{needs}

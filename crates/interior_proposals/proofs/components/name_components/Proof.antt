@@ -2,9 +2,9 @@
 use Prim.Native.Nat.{suc}
 use mathlib.Core.Path.{ap, _∙_}
 use Rattle.definitions.specs.RampInteriors.{components}
-use Rattle.interior_proposals.proofs.Forests.{beyond-then}
 use Rattle.interior_proposals.proofs.Preparing.{components-parented, components-size, components-beyond}
 use borrow.Author.Needs.{needs}
+use Rattle.laws.specs.ListLaws.Beyond.{beyond-then}
 use Rattle.interior_proposals.proofs.components.name_components.Statement.{statement}
 use Rattle.interior_proposals.proofs.components.name_components.Tie as tie
 

@@ -7,8 +7,7 @@ use lib.Dec.{eqb}
 use lib.ListN.{length}
 use Rattle.interior_proposals.specs.Given.{flagsOf}
 use borrow.Author.Needs.{needs}
-use Rattle.interior_proposals.specs.Forest.{Beyond}
-use Rattle.interior_proposals.proofs.Forests.{beyond-same, beyond-set, beyond-then}
+use Rattle.laws.specs.ListLaws.Beyond.{Beyond, beyond-same, beyond-set, beyond-then}
 use Rattle.interior_proposals.proofs.Stored.{Stored, stored-start, stored-more}
 use Rattle.interior_proposals.proofs.Preparing.{flagsAt, ownAt, prepared}
 use Rattle.interior_proposals.proofs.components.prepare.Statement.{statement}

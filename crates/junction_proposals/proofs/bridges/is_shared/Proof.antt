@@ -6,8 +6,9 @@ use lib.ListN.{length, getD}
 use lib.Dec.{eqb}
 use Rattle.junction_proposals.specs.Unions.{markAt}
 use Rattle.junction_proposals.specs.Bridges.{isSharedAt}
-use Rattle.junction_proposals.proofs.BridgeTests.{bit-is-one, beyond-within}
+use Rattle.junction_proposals.proofs.BridgeTests.{beyond-within}
 use borrow.Author.Needs.{needs}
+use Rattle.laws.specs.ListLaws.Flags.{bit-is-one}
 use Rattle.junction_proposals.proofs.bridges.is_shared.Statement.{statement}
 use Rattle.junction_proposals.proofs.bridges.is_shared.Tie as tie
 

@@ -9,8 +9,9 @@ use lib.Dec.{eqb}
 use borrow.Author.Tests.{eq-eqb, ne-eqb, ltb-true}
 use Rattle.definitions.specs.Grid.{Pair}
 use Rattle.junction_proposals.specs.Unions.{markAt, marksOf, noRampAt, portsPass}
-use Rattle.junction_proposals.proofs.Shapes.{bit-le, no-pair, has-ramp, both-anchored, few-incidents, is-unfit, too-few, by-ports}
+use Rattle.junction_proposals.proofs.Shapes.{no-pair, has-ramp, both-anchored, few-incidents, is-unfit, too-few, by-ports}
 use borrow.Author.Needs.{needs}
+use Rattle.laws.specs.ListLaws.Flags.{bit-le}
 use Rattle.junction_proposals.proofs.unions.is_union.Statement.{statement}
 use Rattle.junction_proposals.proofs.unions.is_union.Tie as tie
 

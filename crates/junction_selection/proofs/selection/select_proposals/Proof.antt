@@ -7,8 +7,8 @@ use Rattle.definitions.specs.Scan.{any}
 use Rattle.definitions.specs.Sort.{select}
 use Rattle.junction_selection.specs.Ranks.{conflictAt, selectedOf}
 use Rattle.junction_selection.specs.Taken.{removedAt}
-use Rattle.junction_selection.proofs.Lists.{none-set}
 use borrow.Author.Needs.{needs}
+use Rattle.laws.specs.ListLaws.Flags.{none-set}
 use Rattle.junction_selection.proofs.selection.select_proposals.Statement.{statement}
 use Rattle.junction_selection.proofs.selection.select_proposals.Tie as tie
 

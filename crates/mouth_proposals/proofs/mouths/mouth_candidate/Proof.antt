@@ -5,11 +5,11 @@ use borrow.Author.Tests.{eq-eqb, ne-eqb, not-true, not-false}
 use Rattle.definitions.specs.MouthShapes.{mouthShape}
 use Rattle.definitions.specs.Context.{fullPair}
 use Rattle.laws.specs.ListLaws.Tests.{both}
-use Rattle.mouth_proposals.proofs.RowLists.{between-length}
 use Rattle.mouth_proposals.proofs.FoundMouths.{triangle-two, has-ramp, not-full, no-shape, too-far, by-triangle, by-approach}
 use Rattle.mouth_proposals.proofs.SafeLists.{below, placed-at, stretch-at, tallies-at, named-both, kind-shown, triangle-shown, overlay-only, named-in, approach-named}
 use Rattle.mouth_proposals.proofs.KnownEnds.{approach-known}
 use borrow.Author.Needs.{needs}
+use Rattle.context.proofs.FullPairs.{between-length}
 use Rattle.mouth_proposals.proofs.mouths.mouth_candidate.Statement.{statement}
 use Rattle.mouth_proposals.proofs.mouths.mouth_candidate.Tie as tie
 

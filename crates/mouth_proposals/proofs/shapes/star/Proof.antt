@@ -3,8 +3,9 @@ use mathlib.Core.Path.{sym, ap, _∙_}
 use mathlib.Core.Bool.{true}
 use mathlib.Core.List.{[], _∷_}
 use Rattle.definitions.specs.MouthShapes.{mouthShape}
-use Rattle.mouth_proposals.proofs.RowLists.{between-zero, between-one}
+use Rattle.mouth_proposals.proofs.RowLists.{between-zero}
 use borrow.Author.Needs.{needs}
+use Rattle.context.proofs.FullPairs.{between-one}
 use Rattle.mouth_proposals.proofs.shapes.star.Statement.{statement}
 use Rattle.mouth_proposals.proofs.shapes.star.Tie as tie
 

@@ -5,9 +5,10 @@ use lib.ListN.{getD}
 use Rattle.definitions.specs.Scan.{onlyIf}
 use Rattle.definitions.specs.MouthShapes.{distinctRegions, triangleRepresentative}
 use Rattle.mouth_proposals.specs.Rows.{rowsOf}
-use Rattle.mouth_proposals.proofs.RowLists.{between-two, between-length, two-rows}
+use Rattle.mouth_proposals.proofs.RowLists.{between-two, two-rows}
 use Rattle.mouth_proposals.proofs.ShapeTests.{no-mouth-triangle, no-ramp-triangle}
 use borrow.Author.Needs.{needs}
+use Rattle.context.proofs.FullPairs.{between-length}
 use Rattle.mouth_proposals.proofs.shapes.triangle_representative.Statement.{statement}
 use Rattle.mouth_proposals.proofs.shapes.triangle_representative.Tie as tie
 

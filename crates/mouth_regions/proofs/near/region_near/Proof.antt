@@ -16,10 +16,14 @@ use Rattle.mouth_regions.proofs.near.region_near.Statement.{statement}
 use Rattle.mouth_regions.proofs.near.region_near.Tie as tie
 
 center-of-requires : tie.Need-center-of-requires
-center-of-requires c κs = search needs
+center-of-requires c κs =
+    let ramp = c .before .pre .1 in
+    record { whole = ramp .whole; pixels = ramp .pixels }
 
 center-of-requires-2 : tie.Need-center-of-requires-2
-center-of-requires-2 c κs = search needs
+center-of-requires-2 c κs =
+    let mouth = c .before .before .pre .0 in
+    record { whole = mouth .whole; pixels = mouth .pixels }
 
 corners-requires : tie.Need-corners-requires
 corners-requires c κs = search needs

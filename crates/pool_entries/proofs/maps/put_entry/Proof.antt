@@ -1,9 +1,9 @@
 -- `maps::put_entry` meets its contract: four stores, one behind the other. Assumes nothing.
 use Prim.Native.Nat.{_*_}
 use lib.ListN.{length-set}
-use Rattle.pool_entries.proofs.Spreading.{four-stored}
 use native.Mathlib.Omega.{arith}
 use borrow.Author.Needs.{needs}
+use Rattle.laws.specs.ListLaws.Stores.{four-stored}
 use Rattle.pool_entries.proofs.maps.put_entry.Statement.{statement}
 use Rattle.pool_entries.proofs.maps.put_entry.Tie as tie
 

@@ -5,8 +5,9 @@ use mathlib.Core.Path.{refl}
 use Rattle.laws.specs.ListLaws.FirstBelow.{none-below-zero, none-below-more}
 use Rattle.pool_faults.specs.Apart.{Faultless}
 use Rattle.pool_faults.specs.Ends.{Latest}
-use Rattle.pool_faults.proofs.TermScan.{latest-starts, not-false}
+use Rattle.pool_faults.proofs.TermScan.{latest-starts}
 use borrow.Author.Needs.{needs}
+use borrow.Author.Tests.{not-false}
 use Rattle.pool_faults.proofs.faults.passing_terms.Statement.{statement}
 use Rattle.pool_faults.proofs.faults.passing_terms.Tie as tie
 

@@ -1,21 +1,14 @@
 -- `rest_lists::begin::begin_rest` meets its contract: a check before 11 refuses, or the starting list is written and divided (Beginning). Assumes nothing.
-use mathlib.Core.Path.{_≡_, sym, ap, _∙_}
-use mathlib.Core.Option.{Option}
+use mathlib.Core.Path.{sym}
 use native.Mathlib.Omega.{arith}
 use lib.Seq.{length-take-le}
 use denote.Ref.{now}
 use borrow.Author.Needs.{needs}
-use Rattle.definitions.specs.Refusals.{Refusal}
-use Rattle.areas.specs.declared.checked.Check.{Check}
-use Rattle.areas.specs.Answers.{refusalOf}
+use Rattle.areas.proofs.Chain.{says}
 use Rattle.rest_lists.proofs.Beginning.{begun-refused, count-few, ends-long, begun-fits, begun-divided}
 use Rattle.rest_lists.proofs.Holding.{start-held}
 use Rattle.rest_lists.proofs.begin.begin_rest.Statement.{statement}
 use Rattle.rest_lists.proofs.begin.begin_rest.Tie as tie
-
--- what the checks' answer, known by its case, says
-says : {f v : Check} {o : Option Refusal} → refusalOf f ≡ o → f ≡ v → refusalOf v ≡ o
-says e g = sym (ap refusalOf g) ∙ e
 
 rest-checks-requires : tie.Need-rest-checks-requires
 rest-checks-requires c κs = search needs

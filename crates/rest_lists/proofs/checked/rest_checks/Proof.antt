@@ -1,6 +1,6 @@
 -- `rest_lists::checked::rest_checks` meets its contract: the refusals of its parts, one after the other. Assumes nothing.
 use Prim.Native.Nat.{ℕ, _*_, _/_}
-use mathlib.Core.Path.{_≡_, sym, ap, _∙_}
+use mathlib.Core.Path.{_≡_, ap, _∙_}
 use mathlib.Core.Bool.{_&&_}
 use mathlib.Core.Option.{Option, none}
 use mathlib.Core.List.{List}
@@ -10,24 +10,12 @@ use borrow.Author.Needs.{needs}
 use Rattle.definitions.specs.Limits.{numbersPerSpan, numbersPerBoundary}
 use Rattle.definitions.specs.Refusals.{Refusal, unless, partitionRoom, outputRoom}
 use Rattle.definitions.specs.Verdict.{refusal}
-use Rattle.checks.specs.declared.Fault.{Fault}
-use Rattle.checks.specs.Contract.{placeOf}
-use Rattle.areas.specs.declared.checked.Check.{Check}
-use Rattle.areas.specs.Answers.{refusalOf}
-use Rattle.areas.proofs.Chain.{here, next}
+use Rattle.areas.proofs.Chain.{here, next, said, place-said}
 use Rattle.call_partition.specs.Early.{sizesRefusal}
 use Rattle.call_partition.proofs.SizesPassed.{sizes-fit}
 use Rattle.rest_lists.specs.Early.{restEarly}
 use Rattle.rest_lists.proofs.checked.rest_checks.Statement.{statement}
 use Rattle.rest_lists.proofs.checked.rest_checks.Tie as tie
-
--- what a part's answer, known by its case, says
-says : {f v : Check} {o : Option Refusal} → refusalOf f ≡ o → f ≡ v → o ≡ refusalOf v
-says e g = sym e ∙ ap refusalOf g
-
--- and what the answer of 16 says
-differs : {f v : Fault} {o : Option ℕ} → placeOf f ≡ o → f ≡ v → refusal 16 o ≡ refusal 16 (placeOf v)
-differs e g = ap (refusal 16) (sym e ∙ ap placeOf g)
 
 -- the cells are as many as the sides say
 room-counted : (w h : ℕ) (cells spans boundaries anchors : List ℕ) (l m q t u : ℕ) {o : Option Refusal} → sizesRefusal 1 w h cells spans boundaries anchors ≡ none
@@ -46,7 +34,7 @@ returns : tie.Need-returns
 unfolding restEarly
 returns c =
     let check-sizes = c .before .before .before .check-sizes in
-    here _ (says (check-sizes .ensures) (c .before .number .given .1))
+    here _ (said (check-sizes .ensures) (c .before .number .given .1))
 
 enum-told : tie.Need-enum-told
 enum-told c = search needs
@@ -64,7 +52,7 @@ returns-2 c =
     let past-3 = c .before .before .before in
     let enum-told = past-3 .before .enum-told in
     let check-sizes = past-3 .before .before .before .check-sizes in
-    next (says (check-sizes .ensures) (enum-told .given .1)) (here _ (differs (lists-fault .ensures) (c .before .entry .given .1)))
+    next (said (check-sizes .ensures) (enum-told .given .1)) (here _ (place-said 16 (lists-fault .ensures) (c .before .entry .given .1)))
 
 enum-told-2 : tie.Need-enum-told-2
 enum-told-2 c = search needs
@@ -74,7 +62,7 @@ check-entries-requires c κs =
     let enum-told = c .before .before .before .enum-told in
     let past-3 = c .before .before .before in
     let check-sizes = past-3 .before .before .check-sizes in
-    let s = sizes-fit (says (check-sizes .ensures) (enum-told .given .1)) in (s .narrow, s .short)
+    let s = sizes-fit (said (check-sizes .ensures) (enum-told .given .1)) in (s .narrow, s .short)
 
 enum-known-number-2 : tie.Need-enum-known-number-2
 enum-known-number-2 c = search needs
@@ -89,8 +77,8 @@ returns-3 c =
     let past-6 = past-3 .before .before .before in
     let enum-told = past-6 .before .enum-told in
     let check-sizes = past-6 .before .before .before .check-sizes in
-    next (says (check-sizes .ensures) (enum-told .given .1))
-    (next (differs (lists-fault .ensures) (enum-told2 .given .1)) (here _ (says (check-entries .ensures) (c .before .number2 .given .1))))
+    next (said (check-sizes .ensures) (enum-told .given .1))
+    (next (place-said 16 (lists-fault .ensures) (enum-told2 .given .1)) (here _ (said (check-entries .ensures) (c .before .number2 .given .1))))
 
 enum-told-3 : tie.Need-enum-told-3
 enum-told-3 c = search needs
@@ -112,11 +100,11 @@ returns-4 c =
     let past-12 = past-9 .before .before .before in
     let given = past-12 .before .before .args in
     let a = given in
-    next (says (check-sizes .ensures) (enum-told .given .1))
-    (next (differs (lists-fault .ensures) (enum-told2 .given .1))
-    (next (says (check-entries .ensures) (c .before .enum-told3 .given .1))
+    next (said (check-sizes .ensures) (enum-told .given .1))
+    (next (place-said 16 (lists-fault .ensures) (enum-told2 .given .1))
+    (next (said (check-entries .ensures) (c .before .enum-told3 .given .1))
     (room-counted (a .width) (a .height) (now (a .cells)) (now (a .spans)) (now (a .boundaries)) (now (a .anchors)) (a .labels) (a .masks) (a .queue) (a .tallies) (a .output)
-    (says (check-sizes .ensures) (enum-told .given .1)) (c .check-room .ensures))))
+    (said (check-sizes .ensures) (enum-told .given .1)) (c .check-room .ensures))))
 
 pub rest-checks-spec : {M : Type 1} → statement M
 rest-checks-spec =

@@ -22,9 +22,10 @@ use Rattle.context.specs.declared.Region.{Region}
 use Rattle.context.specs.Records.{recordOf}
 use Rattle.context.specs.Shown.{ShownBoundaries}
 use Rattle.interior_proposals.specs.declared.fits.Reach.{Reach}
-use Rattle.interior_proposals.specs.Fits.{Placed, Aimed}
+use Rattle.interior_proposals.specs.Fits.{Aimed}
 use Rattle.interior_regions.specs.declared.Interior.{Interior}
 use Rattle.interior_regions.specs.Places.{regionAt, Readable, AllReadable, NextInside, interiorFits}
+use Rattle.geometry.specs.Placed.{Placed}
 use Rattle.topology.specs.Held.{place-in, record-is}
 use Rattle.topology.specs.Interiors.{Asks}
 use Rattle.topology.proofs.InteriorLoops.{asks-placed, asks-readable, Looking, looking-start, looking-more, looking-ends}

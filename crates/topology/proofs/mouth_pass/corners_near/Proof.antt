@@ -19,7 +19,7 @@ use Rattle.context.specs.declared.Region.{Region}
 use Rattle.context.specs.Records.{recordOf}
 use Rattle.context.specs.Shown.{ShownBoundaries}
 use Rattle.context.specs.Rows.{Stretch}
-use Rattle.context.specs.ShownLaws.{shown-stretch}
+use Rattle.context.proofs.ShownLaws.{shown-stretch}
 use Rattle.mouth_proposals.specs.Candidates.{broad, proposalOf}
 use Rattle.mouth_proposals.specs.Lent.{Placed}
 use Rattle.mouth_regions.specs.Inner.{placesOf, innerAt}

@@ -17,7 +17,7 @@ use Rattle.definitions.specs.Context.{Context, contextOf}
 use Rattle.definitions.specs.Verdict.{pairRowsOf}
 use Rattle.laws.specs.ListLaws.Lists.{All, more, all-map}
 use Rattle.laws.specs.RegionLaws.PairLaws.{pairs-named}
-use Rattle.context.specs.OneMore.{same-or, last-or}
+use Rattle.laws.specs.NumberLaws.Comparisons.{same-or, last-or}
 use Rattle.context.specs.Shown.{pairAt, pairsBetween, ShownPairs}
 use Rattle.context.specs.Rows.{PairRows, Stretch, NamedRows}
 

@@ -59,9 +59,6 @@ module _ (n : ℕ) (f : ℕ → ℕ) (rises : (j k : ℕ) → j ≤ k → k < n 
   pub smaller-none : (r : ℕ) → ((k : ℕ) → k < n → r ≤ f k) → smaller r ≡ 0
   smaller-none r low = count-none (λ k. ltb (f k) r) n (λ k l. le-ltb (f k) r (low k l))
 
-  pub smaller-all : (r : ℕ) → ((k : ℕ) → k < n → f k < r) → smaller r ≡ n
-  smaller-all r high = count-all (λ k. ltb (f k) r) n (λ k l. lt-ltb (f k) r (high k l))
-
   pub smaller-rises : (r : ℕ) → smaller r ≤ smaller (suc r)
   smaller-rises r = go (ltb (smaller (suc r)) (smaller r)) refl
     where

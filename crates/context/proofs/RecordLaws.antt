@@ -17,13 +17,13 @@ use Rattle.definitions.specs.Grid.{Map, cellCount, cellAt, isRamp, elevation}
 use Rattle.definitions.specs.Spans.{pixelsPerWalkCell}
 use Rattle.definitions.specs.Geometry.{float}
 use Rattle.definitions.specs.RegionRecord.{Region, emptyRegion, least, most, maskOf, regionOf}
-use Rattle.laws.specs.ListLaws.Tests.{both}
 use Rattle.laws.specs.ListLaws.Below.{below-ext, below-none, count-ext, all-below-at}
 use Rattle.laws.specs.RegionLaws.Edges.{least-le, most-le, least-ext, most-ext}
 use Rattle.laws.specs.FloatLaws.WholeDoubles.{lt-float}
 use Rattle.laws.specs.FloatLaws.MapPixels.{side-bounds}
 use Rattle.context.specs.Cells.{lesserEdge, greaterEdge, addCell, addCellOf}
-use Rattle.context.specs.OneMore.{OneMore, count-more, least-more, most-more, count-both, any-both, any-counted, most-none, least-none}
+use Rattle.laws.specs.RegionLaws.OneMore.{OneMore, count-more, least-more, most-more, count-both, any-both, any-counted, most-none, least-none}
+use Rattle.laws.specs.ListLaws.FourFlags.{everyBool, everyFour, four-at, maskOfBits}
 
 -- ---- edges
 
@@ -65,28 +65,7 @@ module _ {p q : ℕ → Bool} {c : ℕ} (one : OneMore p q c) (f : ℕ → ℕ) 
 
 -- ---- the mask and the counts
 
-everyBool : (Bool → Bool) → Bool
-everyBool f = f true && f false
-
-every-at : (f : Bool → Bool) → everyBool f ≡ true → (b : Bool) → f b ≡ true
-unfolding everyBool
-every-at f h true = both (f true) (f false) h .0
-every-at f h false = both (f true) (f false) h .1
-
--- all sixteen cases, computed
-unfoldable pub everyFour : (Bool → Bool → Bool → Bool → Bool) → Bool
-unfolding everyBool
-everyFour f = everyBool (λ a. everyBool (λ b. everyBool (λ c. everyBool (λ d. f a b c d))))
-
-pub four-at : (f : Bool → Bool → Bool → Bool → Bool) → everyFour f ≡ true → (a b c d : Bool) → f a b c d ≡ true
-unfolding everyFour
-four-at f h a b c d =
-    every-at (λ d. f a b c d) (every-at (λ c. everyBool (λ d. f a b c d)) (every-at (λ b. everyBool (λ c. everyBool (λ d. f a b c d))) (every-at (λ a. everyBool (λ b. everyBool (λ c. everyBool (λ d. f a b c d)))) h a) b) c) d
-
--- four digits, and a further one set
-abbrev pub maskOfBits : Bool → Bool → Bool → Bool → ℕ
-maskOfBits a b c d = bit a + 2 * bit b + 4 * bit c + 8 * bit d
-
+-- a further digit set
 abbrev setsBit : Bool → Bool → Bool → Bool → ℕ → Bool
 setsBit a b c d k = eqb (bitOr (maskOfBits a b c d) (2 ^ k)) (maskOfBits (a || eqb k 0) (b || eqb k 1) (c || eqb k 2) (d || eqb k 3))
 

@@ -1,4 +1,4 @@
--- Five stores, one behind the other. Assumes nothing.
+-- Four and five stores, one behind the other. Assumes nothing.
 use Prim.Native.Nat.{ℕ, suc, _+_}
 use native.Mathlib.Omega.{arith}
 use mathlib.Core.Path.{_≡_}
@@ -13,3 +13,10 @@ five-stored l k v w x y z =
     let three : k + 3 ≡ suc (suc (suc k)) = omega arith in
     let four : k + 4 ≡ suc (suc (suc (suc k))) = omega arith in
     (λ i. set (set (set (set (set l k v) (one i) w) (two i) x) (three i) y) (four i) z)
+
+pub four-stored : (l : List ℕ) (k v w x y : ℕ) → set (set (set (set l k v) (k + 1) w) (k + 2) x) (k + 3) y ≡ sets l k (v ∷ w ∷ x ∷ y ∷ [])
+four-stored l k v w x y =
+    let one : k + 1 ≡ suc k = omega arith in
+    let two : k + 2 ≡ suc (suc k) = omega arith in
+    let three : k + 3 ≡ suc (suc (suc k)) = omega arith in
+    (λ i. set (set (set (set l k v) (one i) w) (two i) x) (three i) y)

@@ -16,9 +16,9 @@ use Rattle.definitions.specs.Grid.{Map, mapOf}
 use Rattle.definitions.specs.Partition.{labels, regionCount}
 use Rattle.definitions.specs.Context.{contextOf, anchoredOf}
 use Rattle.laws.specs.ListLaws.Lists.{All, done, more}
+use Rattle.laws.specs.ListLaws.Beyond.{Beyond}
+use Rattle.laws.specs.NumberLaws.Comparisons.{same-or}
 use Rattle.context.specs.Anchors.{anchorCells, markLabel, markCells}
-use Rattle.context.specs.OneMore.{same-or}
-use Rattle.context.specs.Rows.{Beyond}
 use Rattle.context.specs.Shown.{ShownAnchored}
 
 -- the anchors of a map are these cells

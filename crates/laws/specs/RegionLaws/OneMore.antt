@@ -3,26 +3,17 @@
 use Prim.Native.Nat.{ℕ, zero, suc, _+_, _<_, min, max}
 use native.Mathlib.Omega.{arith}
 use native.Mathlib.Nat.{add-zero}
-use lib.Arith.{lt-of-le-ne}
 use mathlib.Core.Path.{_≡_, refl, sym, ap, ap₂, _∙_}
-use mathlib.Core.Bool.{Bool, true, false, not, _&&_, _||_, cond, or-false, or-true, and-false, true≢false}
-use mathlib.Core.Logic.{_⊎_, inl, inr, ⊎-elim}
+use mathlib.Core.Bool.{Bool, true, false, not, _&&_, _||_, cond, or-false, or-true, and-false}
+use mathlib.Core.Logic.{_⊎_, ⊎-elim}
 use lib.Dec.{eqb}
-use borrow.Author.Tests.{eqb-true, eqb-false, ne-eqb}
+use borrow.Author.Tests.{ne-eqb}
 use Rattle.definitions.specs.Scan.{anyBelow, countBelow, bit}
 use Rattle.definitions.specs.RegionRecord.{least, most}
 use Rattle.laws.specs.ListLaws.Below.{below-at, below-ext, count-ext}
 use Rattle.laws.specs.RegionLaws.Edges.{least-ext, most-ext}
-
-pub same-or : (a b : ℕ) → (a ≡ b) ⊎ (a ≡ b → ⊥)
-same-or a b = go (eqb a b) refl
-  where
-    go : (t : Bool) → eqb a b ≡ t → (a ≡ b) ⊎ (a ≡ b → ⊥)
-    go true e = inl (eqb-true a b e)
-    go false e = inr (eqb-false a b e)
-
-pub last-or : (c n : ℕ) → c < suc n → (c ≡ n) ⊎ (c < n)
-last-or c n h = ⊎-elim (λ e. inl e) (λ e. inr (lt-of-le-ne (omega arith) e)) (same-or c n)
+use Rattle.laws.specs.NumberLaws.Comparisons.{same-or, last-or}
+use Rattle.laws.specs.ListLaws.Tests.{neither}
 
 -- q passes c, which p does not, and else what p passes
 pub record OneMore (p q : ℕ → Bool) (c : ℕ) : Type 0 where
@@ -110,10 +101,6 @@ module _ {p q : ℕ → Bool} {c : ℕ} (one : OneMore p q c) (g : ℕ → Bool)
       go false e = below-ext n _ _ (λ d l. passed e d) ∙ sym (or-false (anyBelow n (λ d. p d && g d)))
 
 -- ---- where none passes
-
-neither : (a b : Bool) → (a || b) ≡ false → (a ≡ false) × (b ≡ false)
-neither false b e = (refl, e)
-neither true b e = absurd (true≢false e)
 
 pub any-counted : (p : ℕ → Bool) (n : ℕ) → eqb (countBelow n p) 0 ≡ not (anyBelow n p)
 unfolding countBelow anyBelow

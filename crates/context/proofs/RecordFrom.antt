@@ -17,8 +17,9 @@ use Rattle.definitions.specs.Grid.{Map, cellCount, cellAt, isRamp, elevation}
 use Rattle.definitions.specs.RegionRecord.{Region, emptyRegion, elevationCount, regionOf}
 use Rattle.context.specs.Records.{maxCells, Counted}
 use Rattle.context.specs.Cells.{addCell, addCellOf, addCells, recordFrom}
-use Rattle.context.specs.OneMore.{OneMore}
-use Rattle.context.specs.RecordLaws.{recordWhere, region-where, where-ext, where-none, where-more}
+use Rattle.laws.specs.RegionLaws.OneMore.{OneMore}
+use Rattle.laws.specs.ListLaws.ScanSteps.{count-le}
+use Rattle.context.proofs.RecordLaws.{recordWhere, region-where, where-ext, where-none, where-more}
 
 -- ---- members by their places
 
@@ -204,16 +205,6 @@ counted-from M cs h =
       ramps = ramps-from M emptyRegion cs zero-le;
       each = counted-each M emptyRegion cs counted-empty .1;
     }
-
--- of the definition's record
-count-le : (f : ℕ → Bool) (n : ℕ) → countBelow n f ≤ n
-unfolding countBelow
-count-le f zero = zero-le
-count-le f (suc n) = go (f n) (count-le f n)
-  where
-    go : (b : Bool) → countBelow n f ≤ n → countBelow n f + bit b ≤ suc n
-    go true h = omega arith
-    go false h = omega arith
 
 count-among : (p g : ℕ → Bool) (n : ℕ) → countBelow n (λ c. p c && g c) ≤ countBelow n p
 unfolding countBelow

@@ -8,15 +8,15 @@ use mathlib.Core.List.{List}
 use lib.ListN.{length, getD, take}
 use lib.Seq.{slice, length-slice, getD-drop, getD-take}
 use Rattle.definitions.specs.Grid.{Map, cellCount}
-use Rattle.definitions.specs.Partition.{labels, regionCount, walkableAt}
+use Rattle.definitions.specs.Partition.{labels, walkableAt}
 use Rattle.definitions.specs.RegionRecord.{regionOf}
 use Rattle.laws.specs.RegionLaws.Regions.{label-range, label-blocked}
 use Rattle.flood.specs.Contract.{walkableCount, Grouped}
 use Rattle.flood.proofs.Used.{count-le}
 use Rattle.context.specs.Cells.{recordFrom}
-use Rattle.context.specs.RecordFrom.{EachOnce, region-from}
+use Rattle.context.proofs.RecordFrom.{EachOnce, region-from}
 use Rattle.stretches.specs.Queue.{Shown, labelAt, stretchStart}
-use Rattle.stretches.specs.RisingRows.{smaller-most, smaller-before, smaller-from, smaller-place, smaller-past, smaller-none, smaller-all, smaller-rises}
+use Rattle.stretches.proofs.RisingRows.{smaller-most, smaller-before, smaller-from, smaller-place, smaller-past, smaller-none, smaller-rises}
 
 module _ (M : Map) (q : List ℕ) (g : Grouped M q) where
   -- ---- where the stretches lie
@@ -24,10 +24,6 @@ module _ (M : Map) (q : List ℕ) (g : Grouped M q) where
   pub start-first : stretchStart M q 1 ≡ 0
   unfolding stretchStart
   start-first = smaller-none (walkableCount M) (labelAt M q) (g .order) 1 (λ k l. label-range M (getD q k 0) (g .cell k l) (g .walks k l) .0)
-
-  pub start-last : stretchStart M q (suc (regionCount M)) ≡ walkableCount M
-  unfolding stretchStart
-  start-last = smaller-all (walkableCount M) (labelAt M q) (g .order) (suc (regionCount M)) (λ k l. omega (arith, label-range M (getD q k 0) (g .cell k l) (g .walks k l) .1))
 
   pub start-most : (r : ℕ) → stretchStart M q r ≤ walkableCount M
   unfolding stretchStart
