@@ -5,6 +5,7 @@ ghost use Rattle.hypotenuse.specs.Contract.{numberOf, valueOf};
 
 mod patterns;
 mod root;
+mod short;
 mod wide;
 
 pub enum Answer {

@@ -9,6 +9,7 @@ ghost use Rattle.laws.specs.FloatLaws.Patterns.{patternOf};
 ghost use Rattle.laws.specs.FloatLaws.PatternOrder.{patternInRange};
 ghost use Rattle.hypotenuse.specs.Rounding.{Rounded};
 use crate::root::floor_root;
+use crate::short::short_root;
 use crate::wide::shifted;
 use crate::wide::square;
 use crate::wide::sum;
@@ -40,11 +41,8 @@ pub fn bits_of(x: f64) -> u64
 pub fn in_range(b: u64) -> bool
     ensures { λ r. ⌜ r ≡ patternInRange b ⌝ }
 {
-    if b == 0 {
-        return true;
-    }
     if b < LEAST {
-        return false;
+        return b == 0;
     }
     b <= MOST
 }
@@ -72,11 +70,10 @@ fn guess(larger: u64, smaller: u64) -> u64
     let exponent = bits / LEADING;
     let digits = bits % LEADING + LEADING;
     let top = larger / LEADING;
-    if exponent == top {
-        return 2 * digits;
-    }
-    if exponent == top + 1 {
-        return 4 * digits;
+    if exponent >= top {
+        if exponent - top <= 1 {
+            return (2 * digits) << (exponent - top);
+        }
     }
     // The root of a power of two and a far smaller number may come out a little below that power.
     2 * (larger % LEADING + LEADING)
@@ -93,11 +90,8 @@ fn rounded_pattern(k: u64, t: u64, extra: u64) -> u64
         more = 1;
     }
     let digits = 2 * t + more;
-    if t < LONG_ROOT {
-        k * LEADING + (digits + 1 + t / 2 % 2) / 4
-    } else {
-        (k + 1) * LEADING + (digits + 3 + t / 4 % 2) / 8
-    }
+    let long = t / LONG_ROOT;
+    (k + long) * LEADING + ((digits + 1 + 2 * long + (t >> (1 + long)) % 2) >> (2 + long))
 }
 
 // The pattern of the double nearest to the root of (x * 2^k)^2 + (y * 2^(k - gap))^2. The squares are taken of half units, and the smaller one is shifted to the larger one's unit.
@@ -126,6 +120,10 @@ fn root_pattern(larger: u64, smaller: u64) -> u64
     let gap = top - smaller / LEADING;
     if gap > MAX_GAP {
         return larger;
+    }
+    let short = short_root(larger, smaller);
+    if short > 0 {
+        return short;
     }
     let start = guess(larger, smaller);
     near_pattern(

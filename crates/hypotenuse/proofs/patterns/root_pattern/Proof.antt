@@ -1,4 +1,4 @@
--- `patterns::root_pattern` meets its contract: both are zero, or far apart, or both have their leading digit and are the numbers of `near_pattern`. Assumes nothing.
+-- `patterns::root_pattern` meets its contract: both are zero, or far apart, or both have their leading digit, and the root is that of `short_root` or of `near_pattern`. Assumes nothing.
 use borrow.Author.Needs.{needs}
 use mathlib.Core.Path.{_≡_, refl, sym, _∙_}
 use mathlib.Core.Logic.{⊎-elim}
@@ -49,16 +49,28 @@ returns-2 c =
     let n = normal (z .args .larger) (z .pre .0) (c .before .if1 .left) in
     (apart (z .args .larger) (z .args .smaller) (n .1) (c .if2 .taken), omega arith)
 
+short-root-requires : tie.Need-short-root-requires
+short-root-requires c κs =
+    let entry = c .before .before in
+    let n = normal (entry .args .larger) (entry .pre .0) (c .before .if1 .left) in
+    let m = normal-near (entry .args .larger) (entry .args .smaller) (entry .pre .1 .0) (n .0) (c .if2 .left) in
+    omega (arith, entry .pre .1 .1)
+
+returns-3 : tie.Need-returns-3
+returns-3 c = c .before .short-root .ensures (c .if3 .taken)
+
 guess-requires : tie.Need-guess-requires
 guess-requires c κs =
-    let z = c .before .before in
-    let n = normal (z .args .larger) (z .pre .0) (c .before .if1 .left) in
-    omega (arith, z .pre .1 .1)
+    let at-short-root = c .before in
+    let entry = at-short-root .before .before .before in
+    let n = normal (entry .args .larger) (entry .pre .0) (at-short-root .before .before .if1 .left) in
+    omega (arith, entry .pre .1 .1)
 
 sub-near-pattern : tie.Need-sub-near-pattern
 sub-near-pattern c =
-    let z = c .before .before .before in
-    let n = normal (z .args .larger) (z .pre .0) (c .before .before .if1 .left) in
+    let at-short-root = c .before .before in
+    let entry = at-short-root .before .before .before in
+    let n = normal (entry .args .larger) (entry .pre .0) (at-short-root .before .before .if1 .left) in
     omega arith
 
 add-near-pattern : tie.Need-add-near-pattern
@@ -69,19 +81,20 @@ add-near-pattern-2 c = search needs
 
 near-pattern-requires : tie.Need-near-pattern-requires
 near-pattern-requires c κs =
-    let z = c .before .before .before in
-    let n = normal (z .args .larger) (z .pre .0) (c .before .before .if1 .left) in
-    let m = normal-near (z .args .larger) (z .args .smaller) (z .pre .1 .0) (n .0) (c .before .if2 .left) in
-    omega (arith, z .pre .1 .1)
+    let at-short-root = c .before .before in
+    let entry = at-short-root .before .before .before in
+    let n = normal (entry .args .larger) (entry .pre .0) (at-short-root .before .before .if1 .left) in
+    let m = normal-near (entry .args .larger) (entry .args .smaller) (entry .pre .1 .0) (n .0) (at-short-root .before .if2 .left) in
+    omega (arith, entry .pre .1 .1)
 
-returns-3 : tie.Need-returns-3
-returns-3 c =
-    let at-guess = c .before in
-    let entry = at-guess .before .before .before in
+returns-4 : tie.Need-returns-4
+returns-4 c =
+    let at-short-root = c .before .before .before in
+    let entry = at-short-root .before .before .before in
     let b = entry .args .larger in
     let s = entry .args .smaller in
-    let n = normal b (entry .pre .0) (c .before .before .before .if1 .left) in
-    let m = normal-near b s (entry .pre .1 .0) (n .0) (c .before .before .if2 .left) in
+    let n = normal b (entry .pre .0) (at-short-root .before .before .if1 .left) in
+    let m = normal-near b s (entry .pre .1 .0) (n .0) (at-short-root .before .if2 .left) in
     let x = magnitude-of b (b / 2 ^ 52 - 1) (omega arith) refl in
     let y = magnitude-of s (b / 2 ^ 52 - 1 - (b / 2 ^ 52 - s / 2 ^ 52)) (omega arith) (omega (arith, entry .pre .1 .1)) in
     (c .near-pattern .ensures .0 ∙ (λ i. rootOf (x i * x i + y i * y i)), c .near-pattern .ensures .1)
@@ -93,9 +106,11 @@ root-pattern-spec =
     returns
     sub-gap
     returns-2
+    short-root-requires
+    returns-3
     guess-requires
     sub-near-pattern
     add-near-pattern
     add-near-pattern-2
     near-pattern-requires
-    returns-3)
+    returns-4)
