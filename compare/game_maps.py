@@ -25,7 +25,7 @@ from jenwyllt.unproved.reference import LENT, Lent, Map
 from rest import one_list, record_lent, record_numbers
 
 KINDS = U32, U16, U32, U32, U32, None, U64      # of the lists of LENT; None is a record
-MANY = ((8, 4), (11, 3), (6, 6), (16, 2), (17, 2))
+MANY = ((8, 6), (12, 4), (7, 7), (16, 4), (10, 6), (9, 9))
 BEFORE = 60_000                                 # what the list of verdicts holds before a call
 
 
@@ -70,6 +70,8 @@ def drawn(count, seed):
             other_spans(r, m)
         if unfit and r.random() < 0.6:
             m = damaged_lists(r, m)
+            if r.random() < 0.5 and len(m.boundaries) % 9 == 0:
+                m.spans = [n for nine in reference.groups(m.boundaries, 9) for n in nine[:4]]
         lists = odd_lists(r, m)
         if not unfit or r.random() < 0.4:
             lists = with_room(r, lists)

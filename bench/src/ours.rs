@@ -1,6 +1,6 @@
 //! Our libraries on the oracle's maps, through the safe calls of ../bindings/rust.
 
-use jenwyllt::{KeptLists, PartitionLists, Refusal, Region, RestCounts};
+use jenwyllt::{Cause, KeptLists, PartitionLists, Refusal, Region, RestCounts};
 use oracle::sheet::Map;
 use oracle::topology::harness::Record;
 
@@ -82,6 +82,15 @@ pub fn report_run(map: &Map, lent: &mut Lent) -> Result<u64, Refusal> {
 /// Runs the passes to rest.
 pub fn run_to_rest(map: &Map, lent: &mut Lent) -> Result<RestCounts, Refusal> {
     jenwyllt::run_to_rest_into(read(map), lent.lists())
+}
+
+/// Runs the map's pass and plays runner and guard on the kept graph, whose first region is the goal; with more than 32 regions nothing is played.
+pub fn runner_and_guard(map: &Map, lent: &mut Lent) -> Result<u64, Refusal> {
+    let answer = jenwyllt::runner_and_guard_into(read(map), 1, lent.lists(), &mut vec![0; jenwyllt::VERDICTS_LENGTH]);
+    match answer {
+        Err(refusal) if refusal.cause() == Some(Cause::Graph) => Ok(0),
+        answer => answer.map(|played| played.kept),
+    }
 }
 
 fn read(map: &Map) -> jenwyllt::Map<'_> {

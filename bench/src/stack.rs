@@ -29,8 +29,19 @@ pub fn run() {
     }
     println!("{:<22} {:>12}", "pass 3, ranked list", largest(ours::ranked_junctions, 3));
     println!("{:<22} {:>12}", "running to rest", largest(|map, lent| ours::run_to_rest(map, lent).map(|counts| counts.kept), 1));
-    println!("{:<22} {:>12}", "report of a run", crate::PASSES.map(|pass| largest(ours::report_run, pass)).into_iter().max().unwrap_or(0));
-    println!("{:<22} {:>12}", "report of a sheet", sheets().iter().map(|bytes| used(|| reported(bytes)) - idle).max().unwrap_or(0));
+    let on_sheets = sheets().into_iter().map(|bytes| used(played(&bytes)) - idle);
+    let on_maps = crate::PASSES.map(|pass| largest(ours::runner_and_guard, pass));
+    println!("{:<22} {:>12}", "runner and guard", on_sheets.chain(on_maps).max().unwrap_or(0));
+    println!(
+        "{:<22} {:>12}",
+        "report of a run",
+        crate::PASSES.map(|pass| largest(ours::report_run, pass)).into_iter().max().unwrap_or(0)
+    );
+    println!(
+        "{:<22} {:>12}",
+        "report of a sheet",
+        sheets().iter().map(|bytes| used(|| reported(bytes)) - idle).max().unwrap_or(0)
+    );
     println!("{:<22} {:>12}", "maps of a day", used(crate::pool::mixed_call()) - idle);
 }
 
@@ -39,6 +50,12 @@ fn sheets() -> Vec<Vec<u8>> {
     let folder = std::path::Path::new(env!("CARGO_MANIFEST_DIR")).join("../examples");
     let names = ["case_j", "mouths", "interiors", "junctions"];
     names.map(|name| std::fs::read(folder.join(name).with_extension("sheet")).expect("a sheet of examples/")).into()
+}
+
+/// Runner and guard on a sheet of few regions.
+fn played(bytes: &[u8]) -> impl FnMut() {
+    let sheet = jenwyllt::read_sheet(bytes).expect("a sheet of examples/");
+    move || assert!(jenwyllt::runner_and_guard(&sheet, 1).is_ok())
 }
 
 fn reported(bytes: &[u8]) {

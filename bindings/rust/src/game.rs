@@ -84,7 +84,8 @@ pub fn solve_game_into(regions: u64, pairs: &[u32], goal: u64, verdicts: &mut [u
     // SAFETY: each pointer and length is a slice's own, so it is aligned, not null, and valid for that length, for writes where the
     // function fills; the slice lent as `&mut` overlaps no other, and nothing else uses it before the call returns. The function is
     // proved for lists of any content and length, keeps no pointer and does not unwind.
-    let answer = unsafe { jenwyllt_solve_game(regions, pairs.as_ptr(), pairs.len(), goal, verdicts.as_mut_ptr(), verdicts.len()) };
+    let answer =
+        unsafe { jenwyllt_solve_game(regions, pairs.as_ptr(), pairs.len(), goal, verdicts.as_mut_ptr(), verdicts.len()) };
     answer.result()
 }
 

@@ -5,7 +5,10 @@ use std::fmt::Debug;
 use std::fs;
 use std::path::Path;
 
-use jenwyllt::{KeptLists, Map, PartitionLists, Played, Refusal, Region, Winner, read_sheet, runner_and_guard, runner_and_guard_into, solve_game_into};
+use jenwyllt::{
+    KeptLists, Map, PartitionLists, Played, Refusal, Region, Winner, read_sheet, runner_and_guard, runner_and_guard_into,
+    solve_game_into,
+};
 
 const BEFORE: u32 = 60_000;
 
@@ -55,7 +58,8 @@ fn bytes_of(digits: &str) -> Vec<u8> {
 fn record_numbers(record: &Region) -> Vec<u64> {
     let Region { cells, min_x, min_y, max_x, max_y, ramp_cells, elevations, elevation_counts } = *record;
     let edges = [min_x, min_y, max_x, max_y].map(|edge| edge as u64);
-    [&[cells as u64][..], &edges, &[ramp_cells as u64, u64::from(elevations)], &elevation_counts.map(|count| count as u64)].concat()
+    [&[cells as u64][..], &edges, &[ramp_cells as u64, u64::from(elevations)], &elevation_counts.map(|count| count as u64)]
+        .concat()
 }
 
 /// A list is the stored numbers, and behind them as it was.
@@ -105,7 +109,13 @@ fn stored_maps() {
         let mut records = vec![Region { cells: 9, ..Region::default() }; long(5)];
         let (mut output, mut verdicts) = (vec![u64::from(BEFORE); long(6)], vec![BEFORE; long(7)]);
         let lists = KeptLists {
-            partition: PartitionLists { labels: &mut labels, masks: &mut masks, queue: &mut queue, tallies: &mut tallies, pairs: &mut pairs },
+            partition: PartitionLists {
+                labels: &mut labels,
+                masks: &mut masks,
+                queue: &mut queue,
+                tallies: &mut tallies,
+                pairs: &mut pairs,
+            },
             records: &mut records,
             output: &mut output,
         };
@@ -113,7 +123,9 @@ fn stored_maps() {
             Ok(Played { kept, regions }) => assert_eq!([0, kept, regions], answer[..], "{name}"),
             Err(Refusal { number, place, .. }) => assert_eq!([number, place, 0], answer[..], "{name}"),
         }
-        for (list, word) in [(&labels, "labels"), (&queue, "queue"), (&tallies, "tallies"), (&pairs, "pairs"), (&verdicts, "verdicts")] {
+        for (list, word) in
+            [(&labels, "labels"), (&queue, "queue"), (&tallies, "tallies"), (&pairs, "pairs"), (&verdicts, "verdicts")]
+        {
             check(list, &stored(word), name);
         }
         check(&masks, &stored("masks"), name);
