@@ -1,12 +1,13 @@
 pub mod games
-pub mod own_records
 pub mod interior_pass
+pub mod junction_pass
 pub mod marks
 pub mod mouth_pass
-pub mod junction_pass
+pub mod own_records
 pub mod ranked
 pub mod records
 pub mod runs
 pub mod slice
 pub mod to_rest
 pub mod topology_kept_boundaries
+pub mod two_desks
