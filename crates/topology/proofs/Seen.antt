@@ -10,3 +10,4 @@ pub mod runs
 pub mod slice
 pub mod to_rest
 pub mod topology_kept_boundaries
+pub mod two_desks

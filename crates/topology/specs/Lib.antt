@@ -1,5 +1,6 @@
 -- The words of the contracts of the functions that see the lent slice of region records.
 pub mod Contract
+pub mod Desks
 pub mod Filled
 pub mod Held
 pub mod Interiors

@@ -12,6 +12,7 @@ pub mod records;
 pub mod runs;
 pub mod slice;
 pub mod to_rest;
+pub mod two_desks;
 
 use call_partition::Prepared;
 use call_partition::prepare;
