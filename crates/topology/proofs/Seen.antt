@@ -1,9 +1,9 @@
 pub mod games
-pub mod own_records
 pub mod interior_pass
+pub mod junction_pass
 pub mod marks
 pub mod mouth_pass
-pub mod junction_pass
+pub mod own_records
 pub mod ranked
 pub mod records
 pub mod runs

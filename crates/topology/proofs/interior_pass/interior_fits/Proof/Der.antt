@@ -2,11 +2,11 @@
 use Rattle.topology.proofs.Rules.{Atoms, Cx, Dens, Env, EnvOf, Given, Heap, Lfts, List, Mo, Outs, Row, Shares, Tables, Ty, URA, Want, World, [], _∷_, add, any-gone, bitAnd, bitOr, cStruct, fInt, false, field, fieldV, g-room, getD, holds-sc, imm, init, lt, mem-whole, named, oAt, oBool, oFld, oInt, pointee, reads-field, reads-sc, reads-sslice, refl, room-gone, room-sc, room-whole, row, rtF, sBool, sInt, sc-here, spares-sslice, sub-id, suc, t-call-plain, t-op2, t-use, true, tyBool, tyInt, tyR, tyRef, tyUnit, tysP, unsigned, vAt, vFld, valS, w32, w64, wantQ, whole, whole-mem, yields-copy, Γin, Δret, ℕ}
 use Rattle.context.proofs.Region as Region
 use Rattle.context.proofs.Region.Laws as Laws
+use Rattle.interior_proposals.proofs.fits.Reach as Reach
+use Rattle.interior_proposals.proofs.fits.Reach.Laws as Laws'
 use Rattle.interior_regions.proofs.Interior.{struct}
 use Rattle.interior_regions.proofs.Interior as Interior
-use Rattle.interior_regions.proofs.Interior.Laws as Laws'
-use Rattle.interior_proposals.proofs.fits.Reach as Reach
-use Rattle.interior_proposals.proofs.fits.Reach.Laws as Laws''
+use Rattle.interior_regions.proofs.Interior.Laws as Laws''
 use borrow.Fn.Plain.{Known as Knows}
 use Rattle.interior_proposals.proofs.fits.reach_of.Kinds as K0
 use Rattle.interior_proposals.proofs.fits.reach_of.Reads as R0
@@ -111,14 +111,14 @@ module _ {M : Type 1} (𝓤 : URA M) (H : Heap 𝓤) (A : Atoms 𝓤) (W : Given
 
   abbrev pub d : Der W 𝓣 E (Γin 4 ps r xs m κs qs) (code.function .body) (Δret 4 ps r xs m κs qs)
   d =
-      stmt (G0 κs qs) (G5 κs qs) (t-call-plain 𝓤 H A W 𝓣 1 K0.ps K0.r R0.Asked R0.Learnt "interior_proposals::fits::reach_of" known0 E (λ pos β. β) (G0 κs qs) (record { pos = 2; ty = tyRef (named 1) imm (tyInt w64); ref = λ x. x }, (vFld 5 (field 3 ∷ []) 24 (λ x. struct .as-values x .1 .1 .1 .0), (vFld 5 (field 4 ∷ []) 32 (λ x. struct .as-values x .1 .1 .1 .1 .0), tt))) 6 (1 ∷ []) (sub-id 𝓤 H A W ((G0 κs qs) .slots)) (spares-sslice 𝓤 H A W (rtF (fInt w64)) (tyRef (named 1) imm (tyInt w64)) 1, reads-sslice 𝓤 H A W (rtF (fInt w64)) (tyRef (named 1) imm (tyInt w64)) 1, refl, ((reads-field 𝓤 H A W Interior.the-type Laws'.the-laws 3 (tyInt w64) 24 refl, refl), ((reads-field 𝓤 H A W Interior.the-type Laws'.the-laws 4 (tyInt w64) 32 refl, refl), tt))) (room-gone 𝓤 H A _) _ refl) $
+      stmt (G0 κs qs) (G5 κs qs) (t-call-plain 𝓤 H A W 𝓣 1 K0.ps K0.r R0.Asked R0.Learnt "interior_proposals::fits::reach_of" known0 E (λ pos β. β) (G0 κs qs) (record { pos = 2; ty = tyRef (named 1) imm (tyInt w64); ref = λ x. x }, (vFld 5 (field 3 ∷ []) 24 (λ x. struct .as-values x .1 .1 .1 .0), (vFld 5 (field 4 ∷ []) 32 (λ x. struct .as-values x .1 .1 .1 .1 .0), tt))) 6 (1 ∷ []) (sub-id 𝓤 H A W ((G0 κs qs) .slots)) (spares-sslice 𝓤 H A W (rtF (fInt w64)) (tyRef (named 1) imm (tyInt w64)) 1, reads-sslice 𝓤 H A W (rtF (fInt w64)) (tyRef (named 1) imm (tyInt w64)) 1, refl, ((reads-field 𝓤 H A W Interior.the-type Laws''.the-laws 3 (tyInt w64) 24 refl, refl), ((reads-field 𝓤 H A W Interior.the-type Laws''.the-laws 4 (tyInt w64) 32 refl, refl), tt))) (room-gone 𝓤 H A _) _ refl) $
       stmt (G5 κs qs) _ (t-use 𝓤 H A W E 𝓣 (G5 κs qs) (oBool true) 7 (sc-here sBool) tyBool (valS sBool) (sBool .of) tt (room-gone 𝓤 H A tyBool) (holds-sc 𝓤 H A W sBool) refl (λ u. refl) (λ u. tt)) $
       stmt _ (G7 κs qs) (t-use 𝓤 H A W E 𝓣 _ (oBool false) 8 (sc-here sBool) tyBool (valS sBool) (sBool .of) tt (room-gone 𝓤 H A tyBool) (holds-sc 𝓤 H A W sBool) refl (λ u. refl) (λ u. tt)) $
-      stmt (G7 κs qs) (G8 κs qs) (t-call-plain 𝓤 H A W 𝓣 2 K1.ps K1.r R1.Asked R1.Learnt "interior_regions::next_inside" known1 E (λ pos β. β) (G7 κs qs) (record { pos = 3; ty = tyRef (named 2) imm (tyInt w32); ref = λ x. x }, (record { pos = 4; ty = tyRef (named 3) imm (tyInt w32); ref = λ x. x }, (vFld 5 (field 0 ∷ []) 0 (λ x. struct .as-values x .0), (vFld 5 (field 1 ∷ []) 8 (λ x. struct .as-values x .1 .0), (vFld 5 (field 2 ∷ []) 16 (λ x. struct .as-values x .1 .1 .0), tt))))) 9 (2 ∷ 3 ∷ []) (sub-id 𝓤 H A W ((G7 κs qs) .slots)) (spares-sslice 𝓤 H A W (rtF (fInt w32)) (tyRef (named 2) imm (tyInt w32)) 2, reads-sslice 𝓤 H A W (rtF (fInt w32)) (tyRef (named 2) imm (tyInt w32)) 2, refl, (spares-sslice 𝓤 H A W (rtF (fInt w32)) (tyRef (named 3) imm (tyInt w32)) 3, reads-sslice 𝓤 H A W (rtF (fInt w32)) (tyRef (named 3) imm (tyInt w32)) 3, refl, ((reads-field 𝓤 H A W Interior.the-type Laws'.the-laws 0 (tyInt w32) 0 refl, refl), ((reads-field 𝓤 H A W Interior.the-type Laws'.the-laws 1 (tyInt w64) 8 refl, refl), ((reads-field 𝓤 H A W Interior.the-type Laws'.the-laws 2 (tyInt w64) 16 refl, refl), tt))))) (room-gone 𝓤 H A (tyInt w64)) _ refl) $
+      stmt (G7 κs qs) (G8 κs qs) (t-call-plain 𝓤 H A W 𝓣 2 K1.ps K1.r R1.Asked R1.Learnt "interior_regions::next_inside" known1 E (λ pos β. β) (G7 κs qs) (record { pos = 3; ty = tyRef (named 2) imm (tyInt w32); ref = λ x. x }, (record { pos = 4; ty = tyRef (named 3) imm (tyInt w32); ref = λ x. x }, (vFld 5 (field 0 ∷ []) 0 (λ x. struct .as-values x .0), (vFld 5 (field 1 ∷ []) 8 (λ x. struct .as-values x .1 .0), (vFld 5 (field 2 ∷ []) 16 (λ x. struct .as-values x .1 .1 .0), tt))))) 9 (2 ∷ 3 ∷ []) (sub-id 𝓤 H A W ((G7 κs qs) .slots)) (spares-sslice 𝓤 H A W (rtF (fInt w32)) (tyRef (named 2) imm (tyInt w32)) 2, reads-sslice 𝓤 H A W (rtF (fInt w32)) (tyRef (named 2) imm (tyInt w32)) 2, refl, (spares-sslice 𝓤 H A W (rtF (fInt w32)) (tyRef (named 3) imm (tyInt w32)) 3, reads-sslice 𝓤 H A W (rtF (fInt w32)) (tyRef (named 3) imm (tyInt w32)) 3, refl, ((reads-field 𝓤 H A W Interior.the-type Laws''.the-laws 0 (tyInt w32) 0 refl, refl), ((reads-field 𝓤 H A W Interior.the-type Laws''.the-laws 1 (tyInt w64) 8 refl, refl), ((reads-field 𝓤 H A W Interior.the-type Laws''.the-laws 2 (tyInt w64) 16 refl, refl), tt))))) (room-gone 𝓤 H A (tyInt w64)) _ refl) $
       first (G8 κs qs) (G9 κs qs) (
       blocks (
       loops (G8 κs qs) (sc-here sBool .Mod × sc-here sBool .Mod × sc-here (sInt w64) .Mod) (λ vs u. (u .0, (u .1 .0, (u .1 .1 .0, (u .1 .1 .1 .0, (u .1 .1 .1 .1 .0, (u .1 .1 .1 .1 .1 .0, (u .1 .1 .1 .1 .1 .1 .0, ((vs .0), ((vs .1), ((vs .2), u .1 .1 .1 .1 .1 .1 .1 .1 .1 .1))))))))))) (λ u vs. Inv·0 ((u .1 .0) .now) ((u .1 .1 .0) .now) ((u .1 .1 .1 .0) .now) ((u .1 .1 .1 .1 .0) .now) (u .1 .1 .1 .1 .1 .0) (u .1 .1 .1 .1 .1 .1 .0) (u .1 .1 .1 .1 .1 .1 .1 .0) (u .1 .1 .1 .1 .1 .1 .1 .1 .0) (u .1 .1 .1 .1 .1 .1 .1 .1 .1 .0) (vs .0) (vs .1) (vs .2)) (λ u vs. μ·0 ((u .1 .0) .now) ((u .1 .1 .0) .now) ((u .1 .1 .1 .0) .now) ((u .1 .1 .1 .1 .0) .now) (u .1 .1 .1 .1 .1 .0) (u .1 .1 .1 .1 .1 .1 .0) (u .1 .1 .1 .1 .1 .1 .1 .0) (u .1 .1 .1 .1 .1 .1 .1 .1 .0) (u .1 .1 .1 .1 .1 .1 .1 .1 .1 .0) (vs .0) (vs .1) (vs .2)) (
-      stmt (G8 κs qs) (G11 κs qs) (t-op2 𝓤 H A W E 𝓣 (G8 κs qs) (lt unsigned) (oAt 9 (tyInt w64) (valS (sInt w64))) (oFld 5 (field 2 ∷ []) (tyInt w64) 16 (fieldV Interior.the-type Laws'.the-laws 2)) 11 (sc-here sBool) tyBool (valS sBool) (sBool .of) (reads-sc 𝓤 H A W (sInt w64), refl) (reads-field 𝓤 H A W Interior.the-type Laws'.the-laws 2 (tyInt w64) 16 refl, refl) (room-gone 𝓤 H A tyBool) (holds-sc 𝓤 H A W sBool) refl (λ u. refl) (λ u. tt)) $
+      stmt (G8 κs qs) (G11 κs qs) (t-op2 𝓤 H A W E 𝓣 (G8 κs qs) (lt unsigned) (oAt 9 (tyInt w64) (valS (sInt w64))) (oFld 5 (field 2 ∷ []) (tyInt w64) 16 (fieldV Interior.the-type Laws''.the-laws 2)) 11 (sc-here sBool) tyBool (valS sBool) (sBool .of) (reads-sc 𝓤 H A W (sInt w64), refl) (reads-field 𝓤 H A W Interior.the-type Laws''.the-laws 2 (tyInt w64) 16 refl, refl) (room-gone 𝓤 H A tyBool) (holds-sc 𝓤 H A W sBool) refl (λ u. refl) (λ u. tt)) $
       first (G11 κs qs) (G8 κs qs) (
       test (G11 κs qs) 11 (λ x. x) (reads-sc 𝓤 H A W sBool) refl (
       ghosts (G11 κs qs) (G8 κs qs) (g-room 𝓤 H A W E (G11 κs qs) 11 tyBool (room-sc 𝓤 H A W sBool)) $
@@ -130,7 +130,7 @@ module _ {M : Type 1} (𝓤 : URA M) (H : Heap 𝓤) (A : Atoms 𝓤) (W : Given
       stmt (G8 κs qs) (G17 κs qs) (t-call-plain 𝓤 H A W 𝓣 1 K2.ps K2.r R2.Asked R2.Learnt "interior_regions::record_place" known2 E (λ pos β. β) (G8 κs qs) (record { pos = 3; ty = tyRef (named 2) imm (tyInt w32); ref = λ x. x }, (vAt 9 (λ x. x), tt)) 12 (2 ∷ []) (sub-id 𝓤 H A W ((G8 κs qs) .slots)) (spares-sslice 𝓤 H A W (rtF (fInt w32)) (tyRef (named 2) imm (tyInt w32)) 2, reads-sslice 𝓤 H A W (rtF (fInt w32)) (tyRef (named 2) imm (tyInt w32)) 2, refl, ((reads-sc 𝓤 H A W (sInt w64), refl), tt)) (room-gone 𝓤 H A (tyInt w64)) _ refl) $
       stmt (G17 κs qs) (G18 κs qs) (t-call-plain 𝓤 H A W 𝓣 1 K3.ps K3.r R3.Asked R3.Learnt "topology::slice::record_at" known3 E (λ pos β. β) (G17 κs qs) (record { pos = 1; ty = tyRef (named 0) imm (pointee (Region.the-row .written)); ref = λ x. x }, (vAt 12 (λ x. x), tt)) 10 (0 ∷ []) (sub-id 𝓤 H A W ((G17 κs qs) .slots)) (spares-sslice 𝓤 H A W Region.the-row (tyRef (named 0) imm (pointee (Region.the-row .written))) 0, reads-sslice 𝓤 H A W Region.the-row (tyRef (named 0) imm (pointee (Region.the-row .written))) 0, refl, ((reads-sc 𝓤 H A W (sInt w64), refl), tt)) (room-gone 𝓤 H A _) _ refl) $
       ghosts (G18 κs qs) (G19 κs qs) (g-room 𝓤 H A W E (G18 κs qs) 12 (tyInt w64) (room-sc 𝓤 H A W (sInt w64))) $
-      stmt (G19 κs qs) (G20 κs qs) (t-call-plain 𝓤 H A W 𝓣 0 K4.ps K4.r R4.Asked R4.Learnt "interior_proposals::fits::region_fits" known4 E (λ pos β. β) (G19 κs qs) (record { pos = 6; st = []; d = 0; at = λ x. x }, (record { pos = 10; st = []; d = 0; at = λ x. x }, tt)) 11 [] (sub-id 𝓤 H A W ((G19 κs qs) .slots)) ((yields-copy 𝓤 H A W (λ ρ. Unit) (row Reach.the-type) refl (cStruct Reach.the-type Laws''.the-laws Laws''.the-copy .copy 𝓤 H A W) (whole (row Reach.the-type)) (λ x. x) (λ x. x) (λ ρ told. mem-whole 𝓤 H A W (row Reach.the-type) ρ) (λ ρ told. whole-mem 𝓤 H A W (row Reach.the-type) ρ), refl), ((yields-copy 𝓤 H A W (λ ρ. Unit) (row Region.the-type) refl (cStruct Region.the-type Laws.the-laws Laws.the-copy .copy 𝓤 H A W) (whole (row Region.the-type)) (λ x. x) (λ x. x) (λ ρ told. mem-whole 𝓤 H A W (row Region.the-type) ρ) (λ ρ told. whole-mem 𝓤 H A W (row Region.the-type) ρ), refl), tt)) (room-gone 𝓤 H A tyBool) tt refl) $
+      stmt (G19 κs qs) (G20 κs qs) (t-call-plain 𝓤 H A W 𝓣 0 K4.ps K4.r R4.Asked R4.Learnt "interior_proposals::fits::region_fits" known4 E (λ pos β. β) (G19 κs qs) (record { pos = 6; st = []; d = 0; at = λ x. x }, (record { pos = 10; st = []; d = 0; at = λ x. x }, tt)) 11 [] (sub-id 𝓤 H A W ((G19 κs qs) .slots)) ((yields-copy 𝓤 H A W (λ ρ. Unit) (row Reach.the-type) refl (cStruct Reach.the-type Laws'.the-laws Laws'.the-copy .copy 𝓤 H A W) (whole (row Reach.the-type)) (λ x. x) (λ x. x) (λ ρ told. mem-whole 𝓤 H A W (row Reach.the-type) ρ) (λ ρ told. whole-mem 𝓤 H A W (row Reach.the-type) ρ), refl), ((yields-copy 𝓤 H A W (λ ρ. Unit) (row Region.the-type) refl (cStruct Region.the-type Laws.the-laws Laws.the-copy .copy 𝓤 H A W) (whole (row Region.the-type)) (λ x. x) (λ x. x) (λ ρ told. mem-whole 𝓤 H A W (row Region.the-type) ρ) (λ ρ told. whole-mem 𝓤 H A W (row Region.the-type) ρ), refl), tt)) (room-gone 𝓤 H A tyBool) tt refl) $
       stmt (G20 κs qs) (G20 κs qs) (t-op2 𝓤 H A W E 𝓣 (G20 κs qs) bitAnd (oAt 7 tyBool (valS sBool)) (oAt 11 tyBool (valS sBool)) 7 (sc-here sBool) tyBool (valS sBool) (sBool .of) (reads-sc 𝓤 H A W sBool, refl) (reads-sc 𝓤 H A W sBool, refl) (room-sc 𝓤 H A W sBool) (holds-sc 𝓤 H A W sBool) refl (λ u. refl) (λ u. tt)) $
       ghosts (G20 κs qs) (G19 κs qs) (g-room 𝓤 H A W E (G20 κs qs) 11 tyBool (room-sc 𝓤 H A W sBool)) $
       stmt (G19 κs qs) (G20 κs qs) (t-op2 𝓤 H A W E 𝓣 (G19 κs qs) (lt unsigned) (oInt w64 _) (oFld 10 (field 5 ∷ []) (tyInt w64) 40 (fieldV Region.the-type Laws.the-laws 5)) 11 (sc-here sBool) tyBool (valS sBool) (sBool .of) tt (reads-field 𝓤 H A W Region.the-type Laws.the-laws 5 (tyInt w64) 40 refl, refl) (room-gone 𝓤 H A tyBool) (holds-sc 𝓤 H A W sBool) refl (λ u. refl) (λ u. tt)) $
@@ -139,7 +139,7 @@ module _ {M : Type 1} (𝓤 : URA M) (H : Heap 𝓤) (A : Atoms 𝓤) (W : Given
       ghosts (G11 κs qs) (G8 κs qs) (g-room 𝓤 H A W E (G11 κs qs) 11 tyBool (room-sc 𝓤 H A W sBool)) $
       stmt (G8 κs qs) (G17 κs qs) (t-op2 𝓤 H A W E 𝓣 (G8 κs qs) (add unsigned) (oAt 9 (tyInt w64) (valS (sInt w64))) (oInt w64 _) 12 (sc-here (sInt w64)) (tyInt w64) (valS (sInt w64)) (sInt w64 .of) (reads-sc 𝓤 H A W (sInt w64), refl) tt (room-gone 𝓤 H A (tyInt w64)) (holds-sc 𝓤 H A W (sInt w64)) refl (λ u. refl) (λ u. tt)) $
       ghosts (G17 κs qs) (G29 κs qs) (g-room 𝓤 H A W E (G17 κs qs) 9 (tyInt w64) (room-sc 𝓤 H A W (sInt w64))) $
-      last (G29 κs qs) (G8 κs qs) (then W (G29 κs qs) (G17 κs qs) (G8 κs qs) (t-call-plain 𝓤 H A W 𝓣 2 K1.ps K1.r R1.Asked R1.Learnt "interior_regions::next_inside" known1 E (λ pos β. β) (G29 κs qs) (record { pos = 3; ty = tyRef (named 2) imm (tyInt w32); ref = λ x. x }, (record { pos = 4; ty = tyRef (named 3) imm (tyInt w32); ref = λ x. x }, (vFld 5 (field 0 ∷ []) 0 (λ x. struct .as-values x .0), (vAt 12 (λ x. x), (vFld 5 (field 2 ∷ []) 16 (λ x. struct .as-values x .1 .1 .0), tt))))) 9 (2 ∷ 3 ∷ []) (sub-id 𝓤 H A W ((G29 κs qs) .slots)) (spares-sslice 𝓤 H A W (rtF (fInt w32)) (tyRef (named 2) imm (tyInt w32)) 2, reads-sslice 𝓤 H A W (rtF (fInt w32)) (tyRef (named 2) imm (tyInt w32)) 2, refl, (spares-sslice 𝓤 H A W (rtF (fInt w32)) (tyRef (named 3) imm (tyInt w32)) 3, reads-sslice 𝓤 H A W (rtF (fInt w32)) (tyRef (named 3) imm (tyInt w32)) 3, refl, ((reads-field 𝓤 H A W Interior.the-type Laws'.the-laws 0 (tyInt w32) 0 refl, refl), ((reads-sc 𝓤 H A W (sInt w64), refl), ((reads-field 𝓤 H A W Interior.the-type Laws'.the-laws 2 (tyInt w64) 16 refl, refl), tt))))) (room-gone 𝓤 H A (tyInt w64)) _ refl) (g-room 𝓤 H A W E (G17 κs qs) 12 (tyInt w64) (room-sc 𝓤 H A W (sInt w64))))))) $
+      last (G29 κs qs) (G8 κs qs) (then W (G29 κs qs) (G17 κs qs) (G8 κs qs) (t-call-plain 𝓤 H A W 𝓣 2 K1.ps K1.r R1.Asked R1.Learnt "interior_regions::next_inside" known1 E (λ pos β. β) (G29 κs qs) (record { pos = 3; ty = tyRef (named 2) imm (tyInt w32); ref = λ x. x }, (record { pos = 4; ty = tyRef (named 3) imm (tyInt w32); ref = λ x. x }, (vFld 5 (field 0 ∷ []) 0 (λ x. struct .as-values x .0), (vAt 12 (λ x. x), (vFld 5 (field 2 ∷ []) 16 (λ x. struct .as-values x .1 .1 .0), tt))))) 9 (2 ∷ 3 ∷ []) (sub-id 𝓤 H A W ((G29 κs qs) .slots)) (spares-sslice 𝓤 H A W (rtF (fInt w32)) (tyRef (named 2) imm (tyInt w32)) 2, reads-sslice 𝓤 H A W (rtF (fInt w32)) (tyRef (named 2) imm (tyInt w32)) 2, refl, (spares-sslice 𝓤 H A W (rtF (fInt w32)) (tyRef (named 3) imm (tyInt w32)) 3, reads-sslice 𝓤 H A W (rtF (fInt w32)) (tyRef (named 3) imm (tyInt w32)) 3, refl, ((reads-field 𝓤 H A W Interior.the-type Laws''.the-laws 0 (tyInt w32) 0 refl, refl), ((reads-sc 𝓤 H A W (sInt w64), refl), ((reads-field 𝓤 H A W Interior.the-type Laws''.the-laws 2 (tyInt w64) 16 refl, refl), tt))))) (room-gone 𝓤 H A (tyInt w64)) _ refl) (g-room 𝓤 H A W E (G17 κs qs) 12 (tyInt w64) (room-sc 𝓤 H A W (sInt w64))))))) $
       stmt (G9 κs qs) _ (t-op2 𝓤 H A W E 𝓣 (G9 κs qs) bitAnd (oAt 7 tyBool (valS sBool)) (oAt 8 tyBool (valS sBool)) 0 (sc-here sBool) tyBool (valS sBool) (sBool .of) (reads-sc 𝓤 H A W sBool, refl) (reads-sc 𝓤 H A W sBool, refl) (room-gone 𝓤 H A tyBool) (holds-sc 𝓤 H A W sBool) refl (λ u. refl) (λ u. tt)) $
       ghosts _ _ (g-room 𝓤 H A W E _ 7 tyBool (room-sc 𝓤 H A W sBool)) $
       ghosts _ (G34 κs qs) (g-room 𝓤 H A W E _ 8 tyBool (room-sc 𝓤 H A W sBool)) $
