@@ -39,6 +39,7 @@ use Rattle.topology.specs.Filled.{Fills, Filled}
 use Rattle.topology.specs.Marks.{IsPass, Lent, MarkedFor}
 use Rattle.topology.specs.Contract.{exported, written}
 use Rattle.topology.specs.Desks.{deskOf, Ground, sharedOf, Partitioned, Terrain, DeskRan, DesksRan, RanBothOver}
+use Rattle.topology.proofs.Lending.{lends-both, leaves-both}
 use Rattle.topology.specs.declared.TopologyAnswer.{TopologyAnswer}
 use Rattle.topology.specs.declared.two_desks.DesksAnswer.{DesksAnswer}
 use Rattle.topology.proofs.Calling.{is-pass, ready-fills, ready-lent, ran-over, needed-few}
@@ -230,7 +231,7 @@ module _ {w h : ℕ} {cells spans : List ℕ} {room : ℕ} {l m q t p l′ m′ 
 pub both-refused : {order w h : ℕ} {cells spans : List ℕ} {A B : Desk} {l m q t p : List ℕ} {s : List Region} {number place : ℕ} {l′ m′ q′ t′ p′ : List ℕ} {r : DesksAnswer}
     → RefusedBoth (lentBoth w h cells spans l m q t p (map recordOf s)) number place l′ m′ q′ t′ p′ (map recordOf s)
     → r ≡ record { route = record { number = number; value = place }; coaching = record { number = number; value = place } }
-    → RanBothOver order w h cells spans A B l m q t p s r l′ m′ q′ t′ p′ s (A .output) (B .output)
+    → RanBothOver order (lends-both w h cells spans l m q t p s) A B r (leaves-both l′ m′ q′ t′ p′ s (A .output) (B .output))
 both-refused {w = w} {h} {cells} {spans} {A} {B} {l} {m} {q} {t} {p} {s} {number} {place} F e =
     let S = lentBoth w h cells spans l m q t p (map recordOf s) in
     let refused : (D : Desk) → Served S D (record { number = number; value = place }) (D .output) = λ D. served-refused S D (ap (λ f. orElse f (deskRefusal S D)) (F .refused)) in
@@ -275,7 +276,7 @@ module _ {w h : ℕ} {cells spans l m q t p : List ℕ} {s : List Region} {regio
 pub both-served : {order w h : ℕ} {cells spans : List ℕ} {A B : Desk} {l m q t p : List ℕ} {s : List Region} {regions rows : ℕ} {r : DesksAnswer}
     {l′ m′ q′ t′ p′ : List ℕ} {s′ : List Region} {m₂ q₂ o u : List ℕ}
     → Terrain (lent cells l m q t p s) w h spans regions rows l′ m′ q′ t′ p′ s′ → DesksRan (lent cells l m q t p s) w h spans A B m′ q′ r m₂ q₂ o u
-    → RanBothOver order w h cells spans A B l m q t p s r l′ m₂ q₂ t′ p′ s′ o u
+    → RanBothOver order (lends-both w h cells spans l m q t p s) A B r (leaves-both l′ m₂ q₂ t′ p′ s′ o u)
 both-served T K =
     record {
       ran = record { route = K .route; coaching = K .coaching; shared = terrain-exit (terrain-again T (K .same-masks) (K .same-queue)) };

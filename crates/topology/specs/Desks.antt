@@ -65,10 +65,42 @@ pub record DesksRan (G : Ground) (w h : ℕ) (spans : List ℕ) (A B : Desk) (m 
 
 -- ---- the call
 
+-- what is lent to it beside what each desk has of its own: the sides, the lists that it reads, and those that it fills, at entry
+pub record LentBoth : Type 0 where
+  pub width : ℕ
+  pub height : ℕ
+  pub cells : List ℕ
+  pub spans : List ℕ
+  pub labels : List ℕ
+  pub masks : List ℕ
+  pub queue : List ℕ
+  pub tallies : List ℕ
+  pub pairs : List ℕ
+  pub records : List Region
+
+-- the lists that it fills, at exit
+pub record LeftBoth : Type 0 where
+  pub labels : List ℕ
+  pub masks : List ℕ
+  pub queue : List ℕ
+  pub tallies : List ℕ
+  pub pairs : List ℕ
+  pub records : List Region
+  pub routeOutput : List ℕ
+  pub coachingOutput : List ℕ
+
+-- as the definitions have it: the records as `recordOf` shows them
+abbrev pub sharedLent : LentBoth → Shared
+sharedLent L =
+    lentBoth (L .width) (L .height) (L .cells) (L .spans) (L .labels) (L .masks) (L .queue) (L .tallies) (L .pairs) (map recordOf (L .records))
+
+-- how many records it writes
+abbrev pub writtenBoth : LentBoth → ℕ
+writtenBoth L = written (answerFrom (sharedRefusal (sharedLent L)) 0 .number) (regionCount (mapOf (L .width) (L .height) (L .cells) (L .spans) [] []))
+
 -- Route desk A and coaching desk B; records that are not written are as they were, not only as `recordOf` shows them.
-pub record RanBothOver (order w h : ℕ) (cells spans : List ℕ) (A B : Desk) (l m q t p : List ℕ) (s : List Region) (r : DesksAnswer)
-    (l′ m′ q′ t′ p′ : List ℕ) (s′ : List Region) (o u : List ℕ) : Type 0 where
-  pub ran : RanBoth order (lentBoth w h cells spans l m q t p (map recordOf s)) A B (exported (r .route)) (exported (r .coaching)) l′ m′ q′ t′ p′ (map recordOf s′) o u
-  pub beyond :
-      drop (written (answerFrom (sharedRefusal (lentBoth w h cells spans l m q t p (map recordOf s))) 0 .number) (regionCount (mapOf w h cells spans [] []))) s′
-      ≡ drop (written (answerFrom (sharedRefusal (lentBoth w h cells spans l m q t p (map recordOf s))) 0 .number) (regionCount (mapOf w h cells spans [] []))) s
+pub record RanBothOver (order : ℕ) (L : LentBoth) (A B : Desk) (r : DesksAnswer) (E : LeftBoth) : Type 0 where
+  pub ran :
+      RanBoth order (sharedLent L) A B (exported (r .route)) (exported (r .coaching))
+      (E .labels) (E .masks) (E .queue) (E .tallies) (E .pairs) (map recordOf (E .records)) (E .routeOutput) (E .coachingOutput)
+  pub beyond : drop (writtenBoth L) (E .records) ≡ drop (writtenBoth L) (L .records)

@@ -1,4 +1,4 @@
-// Two desks over one partition (document 02, request 9): the terrain is partitioned once and its records are filled, then each desk has its own checks and its pass. A desk finds
+// Two desks over one partition (SPECIFICATION 19.13): the terrain is partitioned once and its records are filled, then each desk has its own checks and its pass. A desk finds
 // the shared lists as they are on success, and leaves them so.
 use crate::TopologyAnswer;
 use crate::marks::mark_removed;
@@ -270,12 +270,32 @@ pub extern "C" fn topology_two_desks(
     route_output: &mut [u64],
     coaching_output: &mut [u64],
 ) -> DesksAnswer
-    ensures { λ r. ⌜ RanBothOver order width height (now (cells .entry)) (now (spans .entry))
+    ensures { λ r. ⌜ RanBothOver order
+        (record {
+          width = width;
+          height = height;
+          cells = now (cells .entry);
+          spans = now (spans .entry);
+          labels = now (labels .entry);
+          masks = now (masks .entry);
+          queue = now (queue .entry);
+          tallies = now (tallies .entry);
+          pairs = now (pairs .entry);
+          records = now (records .entry);
+        })
         (deskOf «route_pass» (now («route_boundaries» .entry)) (now («route_anchors» .entry)) (now («route_output» .entry)))
         (deskOf «coaching_pass» (now («coaching_boundaries» .entry)) (now («coaching_anchors» .entry)) (now («coaching_output» .entry)))
-        (now (labels .entry)) (now (masks .entry)) (now (queue .entry)) (now (tallies .entry)) (now (pairs .entry)) (now (records .entry)) r
-        (now (labels .exit)) (now (masks .exit)) (now (queue .exit)) (now (tallies .exit)) (now (pairs .exit)) (now (records .exit))
-        (now («route_output» .exit)) (now («coaching_output» .exit)) ⌝ }
+        r
+        (record {
+          labels = now (labels .exit);
+          masks = now (masks .exit);
+          queue = now (queue .exit);
+          tallies = now (tallies .exit);
+          pairs = now (pairs .exit);
+          records = now (records .exit);
+          routeOutput = now («route_output» .exit);
+          coachingOutput = now («coaching_output» .exit);
+        }) ⌝ }
 {
     let room = records.len();
     let prepared = prepare_shared(

@@ -24,6 +24,7 @@ use Rattle.desk_checks.specs.Shared.{SharedAs}
 use Rattle.topology.specs.Filled.{Filled}
 use Rattle.topology.specs.Desks.{deskOf, Terrain, RanBothOver}
 use Rattle.topology.specs.declared.two_desks.DesksAnswer.{DesksAnswer}
+use Rattle.topology.proofs.Lending.{lends-both, leaves-both}
 use Rattle.topology.proofs.Calling.{needed-few, ready-fills}
 use Rattle.topology.proofs.TwoDesks.{lent, shared-refused, shared-ready, needed-within, partitioned, terrain-filled, both-refused, both-served}
 use Rattle.topology.proofs.Steps.{same, fixed, parts}
@@ -62,13 +63,15 @@ module _ (κs : Lfts 14) (a : Args κs) where
 
   -- the contract
   abbrev RanHere : DesksAnswer → (l m q t p : List ℕ) → List Region → (o u : List ℕ) → Type 0
-  RanHere =
+  RanHere r l m q t p s o u =
       let d = a .1 .1 .1 .1 .1 in
       let e = d .1 .1 .1 in
       let b = e .1 .1 .1 in
-      RanBothOver (a .0) (a .1 .0) (a .1 .1 .0) (a .1 .1 .1 .0 .now) (a .1 .1 .1 .1 .0 .now)
+      RanBothOver (a .0)
+      (lends-both (a .1 .0) (a .1 .1 .0) (a .1 .1 .1 .0 .now) (a .1 .1 .1 .1 .0 .now)
+      (b .0 .now) (b .1 .0 .now) (b .1 .1 .0 .now) (b .1 .1 .1 .0 .now) (b .1 .1 .1 .1 .0 .now) records)
       (deskOf (d .0) (d .1 .0 .now) (d .1 .1 .0 .now) route-output) (deskOf (e .0) (e .1 .0 .now) (e .1 .1 .0 .now) coaching-output)
-      (b .0 .now) (b .1 .0 .now) (b .1 .1 .0 .now) (b .1 .1 .1 .0 .now) (b .1 .1 .1 .1 .0 .now) records
+      r (leaves-both l m q t p s o u)
 
   -- the five lists are as long as those that were lent
   abbrev Long : (l m q t p : List ℕ) → Type 0
