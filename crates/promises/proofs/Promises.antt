@@ -23,7 +23,7 @@ use Rattle.definitions.specs.RampGeometry.{intersects}
 use Rattle.definitions.specs.Context.{Context, contextOf, endpointsKey}
 use Rattle.definitions.specs.Junctions.{boundaryKey, unionRegions, conflict}
 use Rattle.definitions.specs.Rows.{removedOf}
-use Rattle.definitions.specs.Refusals.{widthFits}
+use Rattle.definitions.specs.Refusals.{Refusal, widthFits}
 use Rattle.definitions.specs.Verdict.{Lent, Answer, mapIn, verdict}
 use Rattle.definitions.specs.Printed.{maxSheetBytes, keptlist, text}
 use Rattle.definitions.specs.SheetNumber.{found, number}
@@ -52,7 +52,7 @@ use Rattle.context.specs.Records.{recordOf}
 use Rattle.areas.specs.declared.Partitioned.{Partitioned}
 use Rattle.areas.specs.Answers.{answerOf}
 use Rattle.areas.specs.Contract as alone
-use Rattle.call_partition.specs.Contract.{given}
+use Rattle.call_partition.specs.Contract.{given, Ran}
 use Rattle.rust_partition.specs.Literal.PartitionBySpans.{partitionBySpans}
 use Rattle.island.specs.Premises.{Alike}
 use Rattle.island_calls.specs.Outputs.{rowsHeld}
@@ -66,7 +66,9 @@ use Rattle.ranked_list.specs.RankedAnswers.{RankedAnswer}
 use Rattle.ranked_list.specs.RankedLaws.{chosen}
 use Rattle.ranked_list.specs.RankedCalls.{rankedIn, Greedy}
 use Rattle.ranked_list.specs.RankedCalls as ranks
-use Rattle.topology.specs.Contract.{RanOver}
+use Rattle.topology.specs.Contract.{exported, RanOver}
+use Rattle.topology.specs.Desks.{RanBothOver}
+use Rattle.topology.specs.declared.two_desks.DesksAnswer.{DesksAnswer}
 use Rattle.topology.specs.Rest.{RestRanOver}
 use Rattle.topology.specs.Games.{PlayedOver}
 use Rattle.rest_definitions.specs.RowOrder.{startMap}
@@ -83,6 +85,13 @@ use Rattle.game_calls.specs.KeptGraph.{keptGame}
 use Rattle.game_calls.specs.GameVerdict.{GameAnswer}
 use Rattle.game_calls.specs.GameCalls as games
 use Rattle.topology.specs.Ranked.{RankedOver}
+use Rattle.desks.specs.Desks.{Desk, sharedRefusal, deskRefusal}
+use Rattle.desks.specs.Desks as desk
+use Rattle.desks.specs.SameGround.{SameGround}
+use Rattle.desks.specs.DeskLaws.{RefusedWith, LeftAsOnSuccess}
+use Rattle.desks.specs.DeskLaws as desks
+use Rattle.desk_checks.specs.Shared.{lentBoth}
+use Rattle.desk_checks.specs.AloneCalls as desk-calls
 use Rattle.island_theorem.specs.Theorem.{SameOnIsland}
 use Rattle.island_theorem.specs.Theorem as calls
 use Rattle.separations.specs.Distance.{SharePoint, ExactSquare, exactSquare}
@@ -324,6 +333,54 @@ module _ {terms records : List ℕ} {asked : Date} {old : List ℕ} {count : ℕ
 pub pool-accepted : {terms records : List ℕ} {asked : Date} {old : List ℕ} {count : ℕ} {new : List ℕ}
     → Called terms records asked old count new → Accepted terms records asked old count new
 pool-accepted = returned.accepted
+
+-- ---- request 9: two desks over one partition
+
+-- two calls with one desk, beside whatever other desk, in either order, whatever the shared lists held at entry, as long as they are as long
+module _
+    {x x₁ w h : ℕ} {cells spans : List ℕ} {A B C : Desk} {l m q t p : List ℕ} {s : List Region} {r : DesksAnswer} {l′ m′ q′ t′ p′ : List ℕ} {s′ : List Region} {o u : List ℕ}
+    {l₁ m₁ q₁ t₁ p₁ : List ℕ} {s₁ : List Region} {r₁ : DesksAnswer} {l₁′ m₁′ q₁′ t₁′ p₁′ : List ℕ} {s₁′ : List Region} {o₁ u₁ : List ℕ}
+    (same : SameGround (lentBoth w h cells spans l m q t p (map recordOf s)) (lentBoth w h cells spans l₁ m₁ q₁ t₁ p₁ (map recordOf s₁))) where
+  pub route-desk-free : RanBothOver x w h cells spans A B l m q t p s r l′ m′ q′ t′ p′ s′ o u → RanBothOver x₁ w h cells spans A C l₁ m₁ q₁ t₁ p₁ s₁ r₁ l₁′ m₁′ q₁′ t₁′ p₁′ s₁′ o₁ u₁
+      → (exported (r .route) ≡ exported (r₁ .route)) × (o ≡ o₁)
+  route-desk-free call call₁ = desks.route-free same (call .ran) (call₁ .ran)
+
+  pub coaching-desk-free : RanBothOver x w h cells spans A B l m q t p s r l′ m′ q′ t′ p′ s′ o u → RanBothOver x₁ w h cells spans C B l₁ m₁ q₁ t₁ p₁ s₁ r₁ l₁′ m₁′ q₁′ t₁′ p₁′ s₁′ o₁ u₁
+      → (exported (r .coaching) ≡ exported (r₁ .coaching)) × (u ≡ u₁)
+  coaching-desk-free call call₁ = desks.coaching-free same (call .ran) (call₁ .ran)
+
+-- the shared lists are the same, whatever the desks and their order
+pub desk-lists-free : {x x₁ w h : ℕ} {cells spans : List ℕ} {A B C D : Desk} {l m q t p : List ℕ} {s : List Region} {r r₁ : DesksAnswer}
+    {l′ m′ q′ t′ p′ : List ℕ} {s′ : List Region} {o u l₁′ m₁′ q₁′ t₁′ p₁′ : List ℕ} {s₁′ : List Region} {o₁ u₁ : List ℕ}
+    → RanBothOver x w h cells spans A B l m q t p s r l′ m′ q′ t′ p′ s′ o u → RanBothOver x₁ w h cells spans C D l m q t p s r₁ l₁′ m₁′ q₁′ t₁′ p₁′ s₁′ o₁ u₁
+    → (l′ ≡ l₁′) × (m′ ≡ m₁′) × (q′ ≡ q₁′) × (t′ ≡ t₁′) × (p′ ≡ p₁′) × (map recordOf s′ ≡ map recordOf s₁′)
+desk-lists-free call call₁ = desks.lists-free (call .ran) (call₁ .ran)
+
+module _
+    {x w h : ℕ} {cells spans : List ℕ} {A B : Desk} {l m q t p : List ℕ} {s : List Region} {r : DesksAnswer} {l′ m′ q′ t′ p′ : List ℕ} {s′ : List Region} {o u : List ℕ}
+    (call : RanBothOver x w h cells spans A B l m q t p s r l′ m′ q′ t′ p′ s′ o u) where
+  abbrev S : desk.Shared
+  S = lentBoth w h cells spans l m q t p (map recordOf s)
+
+  -- a desk that is accepted has what the call of its pass with its lists alone has, and so do the shared lists
+  pub route-desk-alone : r .route .number ≡ 0 → Ran (desk.alone S A) (exported (r .route)) l′ m′ q′ t′ p′ (map recordOf s′) o
+  route-desk-alone = desk-calls.route-alone (call .ran)
+
+  pub coaching-desk-alone : r .coaching .number ≡ 0 → Ran (desk.alone S B) (exported (r .coaching)) l′ m′ q′ t′ p′ (map recordOf s′) u
+  coaching-desk-alone = desk-calls.coaching-alone (call .ran)
+
+  -- a refusal over the shared lists goes to both
+  pub desks-refused-both : {f : Refusal} → sharedRefusal S ≡ some f → RefusedWith A f (exported (r .route)) o × RefusedWith B f (exported (r .coaching)) u
+  desks-refused-both = desks.goes-to-both (call .ran)
+
+  -- a desk's own leaves its output as it was, and the shared lists as on success
+  pub route-desk-refused : {f : Refusal} → sharedRefusal S ≡ none → deskRefusal S A ≡ some f
+      → RefusedWith A f (exported (r .route)) o × LeftAsOnSuccess S l′ m′ q′ t′ p′ (map recordOf s′)
+  route-desk-refused = desks.route-refused (call .ran)
+
+  pub coaching-desk-refused : {f : Refusal} → sharedRefusal S ≡ none → deskRefusal S B ≡ some f
+      → RefusedWith B f (exported (r .coaching)) u × LeftAsOnSuccess S l′ m′ q′ t′ p′ (map recordOf s′)
+  coaching-desk-refused = desks.coaching-refused (call .ran)
 
 -- ---- request 10: separations
 
