@@ -1,10 +1,10 @@
-/* Regions of a walk grid cut by spans, the boundaries that a pass keeps, the passes run to rest, the ranked junction list, runner and guard, how far boundaries are apart, the reader,
-   the writer and the converter of sheets, writer and reader of result sheets, the line of an accession record, the maps in the pool on a day, the year's
+/* Regions of a walk grid cut by spans, the boundaries that a pass keeps, two desks over one partition, the passes run to rest, the ranked junction list, runner and guard, how far
+   boundaries are apart, the reader, the writer and the converter of sheets, writer and reader of result sheets, the line of an accession record, the maps in the pool on a day, the year's
    figures, the share behind dominance, and the correctly rounded hypotenuse.
    The library is for x86-64 Linux: libjenwyllt.a and libjenwyllt.so, which tools/build_library.sh writes to target/lib. It keeps no state and allocates
    nothing; from outside it needs only `memset`.
    Every function is proved to meet the definitions of crates/definitions, crates/separations, crates/catalogue, crates/results, crates/map_sheets,
-   crates/report, crates/ranked_list, crates/game and crates/game_calls for every input that keeps to what stands here. */
+   crates/report, crates/ranked_list, crates/game, crates/game_calls and crates/desks for every input that keeps to what stands here. */
 #ifndef JENWYLLT_H
 #define JENWYLLT_H
 
@@ -65,6 +65,7 @@ enum jenwyllt_refusal {
     JENWYLLT_ACCESSION = 17,
     JENWYLLT_DATE = 18,
     JENWYLLT_TERM = 19,
+    JENWYLLT_DESK = 20,
     JENWYLLT_RANKED = 21,
     JENWYLLT_TWO_LISTS = 22,
     JENWYLLT_GRAPH = 23,
@@ -263,6 +264,70 @@ struct jenwyllt_rest jenwyllt_run_to_rest(
     uint32_t *pairs, size_t pairs_length,
     struct jenwyllt_region *records, size_t records_length,
     uint64_t *output, size_t output_length);
+
+/* What two desks were answered: of each number 0 and a count, or a refusal's number and place. */
+struct jenwyllt_desks_answer {
+    struct jenwyllt_answer route;
+    struct jenwyllt_answer coaching;
+};
+
+/* Two desks over one partition: cuts a map by its spans once, then runs the pass of each desk on that desk's own boundaries and anchors. Neither desk sees the
+   other: what a desk is answered, and its output, depend only on sides, cells, spans and the lengths of the shared lists, and on its own pass and lists. A desk
+   that is answered 0 has the rows of `jenwyllt_kept_boundaries` with its lists alone, and the shared lists are as that call leaves them.
+
+   Read:
+     order         0: the route desk goes first; any other number: the coaching desk does. It shows in no answer and in no list.
+     cells, spans  as for `jenwyllt_kept_boundaries`; both desks share them
+     of each desk its pass, boundaries and anchors, as there. Boundary i of a desk is span i, whichever endpoint comes first.
+   Filled; each may be longer than needed, and what it holds before does not matter:
+     labels, masks, queue, tallies, pairs, records   as for `jenwyllt_kept_boundaries`; both desks share them
+     of each desk its output, as there
+
+   Number 0: the value is the count of the desk's rows. Otherwise the number says why not; the first of these causes that applies is given. First those of the
+   shared lists, which go to both desks:
+
+     number  cause                                                                            value
+     1       a side is 0 or over 1024                                                         0
+     2       the cells are not width * height                                                 0
+     3       over 256 spans, or the last one is unfinished                                    0
+     5       an endpoint above 8 * width or 8 * height                                        the first faulty span
+     6       both endpoints of a span are equal                                               the first faulty span
+     9       a walkable cell of elevation 4 or more                                           the first faulty cell
+     10      labels, masks, queue or tallies are too short                                    0
+     11      there are more regions than records                                              0
+     12      there are more pairs than rows                                                   0
+
+   then those of a desk's own lists, which go to that desk alone:
+
+     3       over 256 boundaries or anchors, or the last one is unfinished                    0
+     4       the pass is not 1, 2 or 3                                                        0
+     7       as for `jenwyllt_kept_boundaries`                                                the first faulty boundary
+     20      a boundary that is not the span of its number, or one of them is missing         the first such number
+     8       an anchor outside the map                                                        the first faulty anchor
+     10      its output is too short                                                          0
+
+   With a refusal of the shared lists these are as `jenwyllt_kept_boundaries` leaves them, and both outputs stay as they were. With one of a desk's own the
+   shared lists are as on success, and its output stays as it was.
+
+   A call needs 264 KiB of stack. */
+struct jenwyllt_desks_answer jenwyllt_two_desks(
+    uint64_t order, uint64_t width, uint64_t height,
+    const uint8_t *cells, size_t cells_length,
+    const uint64_t *spans, size_t spans_length,
+    uint64_t route_pass,
+    const uint64_t *route_boundaries, size_t route_boundaries_length,
+    const uint64_t *route_anchors, size_t route_anchors_length,
+    uint64_t coaching_pass,
+    const uint64_t *coaching_boundaries, size_t coaching_boundaries_length,
+    const uint64_t *coaching_anchors, size_t coaching_anchors_length,
+    uint32_t *labels, size_t labels_length,
+    uint16_t *masks, size_t masks_length,
+    uint32_t *queue, size_t queue_length,
+    uint32_t *tallies, size_t tallies_length,
+    uint32_t *pairs, size_t pairs_length,
+    struct jenwyllt_region *records, size_t records_length,
+    uint64_t *route_output, size_t route_output_length,
+    uint64_t *coaching_output, size_t coaching_output_length);
 
 /* The separation of each two boundaries of a map: the distance of the two segments in pixels, as pass 1 works it out in doubles, and the square of the exact
    distance as a fraction of whole numbers. A separation is within 2^-32 pixel of the root of its fraction, and 0.0 exactly when the two share a point;

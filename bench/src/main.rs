@@ -2,6 +2,7 @@
 
 mod accession;
 mod calls;
+mod desks;
 mod hypotenuse;
 mod maps;
 mod ours;
@@ -22,7 +23,7 @@ use std::time::Duration;
 use timing::{Timing, time};
 
 const PASSES: [u64; 3] = [1, 2, 3];
-const USAGE: &str = "usage: bench [SECONDS a measurement] [NAME of a map...], or bench alone SECONDS NAME..., or bench ranked SECONDS NAME..., or bench once MAP rust|ours|none CALL, or bench sheet MAP";
+const USAGE: &str = "usage: bench [SECONDS a measurement] [NAME of a map...], or bench alone SECONDS NAME..., or bench ranked SECONDS NAME..., or bench desks SECONDS [NAME...], or bench once MAP rust|ours|none CALL, or bench sheet MAP";
 
 fn main() {
     let arguments: Vec<String> = std::env::args().skip(1).collect();
@@ -48,6 +49,11 @@ fn main() {
         && word == "ranked"
     {
         return ranked::run(Duration::from_secs_f64(seconds.parse().unwrap_or_else(|_| usage())), names);
+    }
+    if let [word, seconds, names @ ..] = &arguments[..]
+        && word == "desks"
+    {
+        return desks::run(Duration::from_secs_f64(seconds.parse().unwrap_or_else(|_| usage())), names);
     }
     let budget = match arguments.first().map(|word| word.parse::<f64>()) {
         None => Duration::from_millis(300),

@@ -28,6 +28,8 @@ pub fn run() {
         println!("{:<22} {:>12}", format!("whole call, pass {pass}"), largest(ours::kept_boundaries, pass));
     }
     println!("{:<22} {:>12}", "pass 3, ranked list", largest(ours::ranked_junctions, 3));
+    let both = |map: &Map, lent: &mut Lent| crate::desks::two_desks(map, lent, &mut vec![0; 5 * 256]).route;
+    println!("{:<22} {:>12}", "two desks", crate::PASSES.map(|pass| largest(both, pass)).into_iter().max().unwrap_or(0));
     println!("{:<22} {:>12}", "running to rest", largest(|map, lent| ours::run_to_rest(map, lent).map(|counts| counts.kept), 1));
     let on_sheets = sheets().into_iter().map(|bytes| used(played(&bytes)) - idle);
     let on_maps = crate::PASSES.map(|pass| largest(ours::runner_and_guard, pass));

@@ -1,6 +1,7 @@
 """The kept boundaries of a map by the proved library, for Python: standard library only, over libjenwyllt.so."""
 from ._library import NotBuilt
 from .accession import Accession, report_line
+from .desks import Desk, Desks, two_desks
 from .dominance import Dominance, Share, dominance
 from .game import Game, KeptGame, Verdict, Winner, runner_and_guard, solve_game
 from .hypotenuse import hypot, hypotenuse
@@ -18,4 +19,4 @@ from .sheet import Boundary, Kind, Point, Sheet, Span, read_sheet, sheet_bytes
 
 __version__ = '0.2.0'
 __all__ = [
-    'Accession', 'Boundary', 'Cause', 'Date', 'Dominance', 'Entry', 'Figures', 'Game', 'Kept', 'KeptGame', 'Kind', 'Mean', 'NotBuilt', 'Pair', 'Partition', 'Point', 'Ranked', 'RankedProposal', 'Refusal', 'Region', 'Report', 'Rested', 'Row', 'RunResult', 'Separation', 'Share', 'Sheet', 'Span', 'Tally', 'Term', 'Verdict', 'Winner', 'convert_sheet', 'dominance', 'empty_report', 'hypot', 'hypotenuse', 'kept_boundaries', 'maps_of_day', 'mean_kept', 'partition', 'ranked_junctions', 'read_result', 'read_sheet', 'report_line', 'report_run', 'report_sheet', 'run_to_rest', 'runner_and_guard', 'separations', 'sheet_bytes', 'solve_game', 'write_result', 'write_sheet']
+    'Accession', 'Boundary', 'Cause', 'Date', 'Desk', 'Desks', 'Dominance', 'Entry', 'Figures', 'Game', 'Kept', 'KeptGame', 'Kind', 'Mean', 'NotBuilt', 'Pair', 'Partition', 'Point', 'Ranked', 'RankedProposal', 'Refusal', 'Region', 'Report', 'Rested', 'Row', 'RunResult', 'Separation', 'Share', 'Sheet', 'Span', 'Tally', 'Term', 'Verdict', 'Winner', 'convert_sheet', 'dominance', 'empty_report', 'hypot', 'hypotenuse', 'kept_boundaries', 'maps_of_day', 'mean_kept', 'partition', 'ranked_junctions', 'read_result', 'read_sheet', 'report_line', 'report_run', 'report_sheet', 'run_to_rest', 'runner_and_guard', 'separations', 'sheet_bytes', 'solve_game', 'two_desks', 'write_result', 'write_sheet'

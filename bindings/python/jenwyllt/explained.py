@@ -2,7 +2,7 @@
 from __future__ import annotations
 
 import itertools
-from collections.abc import Iterator
+from collections.abc import Iterator, Sequence
 
 from .refusal import WORDS, Cause, Refusal
 from .sheet import ANCHOR_NUMBERS, BOUNDARY_NUMBERS, KIND, MOST_ENTRIES, OLD_KIND, SPAN_NUMBERS, Boundary, Point, Sheet, Span, read_sheet
@@ -139,6 +139,15 @@ def lists_words(place: int, sheet: Sheet) -> str:
     if place >= min(len(spans), len(boundaries)):
         return f'there are {len(spans)} spans and {len(boundaries)} boundaries, and they must be one list'
     return f'span {place} goes {ends_words(spans[place])}, and boundary {place} {ends_words(boundaries[place].span)}: they must be one list, endpoints as written'
+
+
+def desk_words(place: int, spans: Sequence[Span], boundaries: Sequence[Boundary]) -> str:
+    """of refusal 20"""
+    if place >= len(boundaries):
+        return f'there is no boundary for shared span {place} {ends_words(spans[place])}'
+    if place >= len(spans):
+        return f'there is no shared span for boundary {place} {ends_words(boundaries[place].span)}'
+    return f'boundary {place} {ends_words(boundaries[place].span)} is not shared span {place} {ends_words(spans[place])}'
 
 
 def explained(refusal: Refusal, data: bytes = b'', sheet: Sheet | None = None) -> Refusal:

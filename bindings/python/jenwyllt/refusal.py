@@ -25,6 +25,7 @@ class Cause(enum.IntEnum):
     ACCESSION = 17
     DATE = 18
     TERM = 19
+    DESK = 20
     RANKED = 21
     TWO_LISTS = 22
     GRAPH = 23
@@ -51,6 +52,7 @@ WORDS: dict[int, str] = {
     Cause.ACCESSION: 'the accession record breaks a rule',
     Cause.DATE: 'a date of the term, or at the number of terms the day asked for, is not a day from 2000 to 2099',
     Cause.TERM: 'the term is empty or overlaps an earlier term of its map',
+    Cause.DESK: "the desk's boundary and the shared span of this number are not one segment, or one of them is missing",
     Cause.RANKED: 'there are more proposals than rows of the ranked list',
     Cause.TWO_LISTS: 'the spans are not the endpoints of the boundaries as written, so that the sheet cannot be converted',
     Cause.GRAPH: 'there are more than 32 regions',

@@ -22,16 +22,12 @@ from . import declarations
 from .files import ROOT
 
 
-# Crates with the definitions of operations that the library does not have yet: no call answers with the numbers that they alone give.
-COMING = {'desks', 'desk_checks'}
-
-
 def numbers_in_definitions() -> set[int]:
     """of refusals, where a definition gives one; 0 stands for success there"""
     gives = re.compile(r'\b(?:refusal|failed) (\d+)\b|\bnumber = (\d+); (?:place|value)|\bcheck \([^\n]*?\) (\d+) |\w+Number [^\n=]*= cond \([^\n]*\) 0 (\d+)')
     found = set()
     for path in (ROOT / 'crates').glob('*/specs/**/*.antt'):
-        if 'Examples' not in path.name and 'Case' not in path.name and path.relative_to(ROOT / 'crates').parts[0] not in COMING:
+        if 'Examples' not in path.name and 'Case' not in path.name:
             code = '\n'.join(line for line in path.read_text().split('\n') if not line.lstrip().startswith('--'))
             found |= {int(number) for match in gives.finditer(code) for number in match.groups() if number}
     return found - {0}

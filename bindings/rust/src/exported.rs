@@ -83,6 +83,13 @@ pub struct GameAnswer {
     pub regions: u64,
 }
 
+/// What two desks were answered.
+#[repr(C)]
+pub struct DesksAnswer {
+    pub route: Answer,
+    pub coaching: Answer,
+}
+
 /// The mean of a pass, where there is one.
 #[repr(C)]
 pub struct MeanAnswer {
@@ -218,6 +225,42 @@ unsafe extern "C" {
         output: *mut u64,
         output_length: usize,
     ) -> RestAnswer;
+
+    pub fn jenwyllt_two_desks(
+        order: u64,
+        width: u64,
+        height: u64,
+        cells: *const u8,
+        cells_length: usize,
+        spans: *const u64,
+        spans_length: usize,
+        route_pass: u64,
+        route_boundaries: *const u64,
+        route_boundaries_length: usize,
+        route_anchors: *const u64,
+        route_anchors_length: usize,
+        coaching_pass: u64,
+        coaching_boundaries: *const u64,
+        coaching_boundaries_length: usize,
+        coaching_anchors: *const u64,
+        coaching_anchors_length: usize,
+        labels: *mut u32,
+        labels_length: usize,
+        masks: *mut u16,
+        masks_length: usize,
+        queue: *mut u32,
+        queue_length: usize,
+        tallies: *mut u32,
+        tallies_length: usize,
+        pairs: *mut u32,
+        pairs_length: usize,
+        records: *mut Region,
+        records_length: usize,
+        route_output: *mut u64,
+        route_output_length: usize,
+        coaching_output: *mut u64,
+        coaching_output_length: usize,
+    ) -> DesksAnswer;
 
     pub fn jenwyllt_separations(
         width: u64,

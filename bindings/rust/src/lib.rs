@@ -1,11 +1,11 @@
 //! Safe calls of the library `jenwyllt`, which is proved to meet its definitions for every input: the regions of a map cut by
-//! spans, the boundaries that a pass keeps, the passes run to rest, the ranked junction list, runner and guard, how far boundaries
-//! are apart, the reader, the writer and the converter of sheets, the line of an accession record, the maps in the pool on a day,
+//! spans, the boundaries that a pass keeps, two desks over one partition, the passes run to rest, the ranked junction list, runner and
+//! guard, how far boundaries are apart, the reader, the writer and the converter of sheets, the line of an accession record, the maps in the pool on a day,
 //! the year's figures, the share behind dominance, and the correctly rounded hypotenuse.
 //!
 //! [`partition`], [`kept_boundaries`], [`ranked_junctions`], [`separations`], [`read_sheet`], [`report_line`] and [`maps_of_day`] make the lists that the
-//! library fills. [`partition_into`], [`kept_boundaries_into`], [`ranked_junctions_into`], [`separations_into`], [`read_sheet_into`], [`report_line_into`] and
-//! [`maps_of_day_into`] take lists of numbers that the caller lends and allocate nothing. A list of any content and length is a
+//! library fills. [`partition_into`], [`kept_boundaries_into`], [`ranked_junctions_into`], [`separations_into`], [`read_sheet_into`], [`report_line_into`],
+//! [`maps_of_day_into`] and [`two_desks_into`] take lists of numbers that the caller lends and allocate nothing. A list of any content and length is a
 //! valid argument: what does not fit is answered by a [`Refusal`].
 //!
 //! The library is for x86-64 Linux; build.rs says where it is looked for. Floating-point operations must round to nearest and keep
@@ -14,6 +14,7 @@
 #![deny(unsafe_op_in_unsafe_fn, missing_docs)]
 
 mod accession;
+mod desks;
 mod dominance;
 mod entries;
 mod exported;
@@ -31,6 +32,7 @@ mod separations;
 mod sheet;
 
 pub use accession::{report_line, report_line_into};
+pub use desks::{DeskLists, DesksAnswer, Order, Terrain, two_desks_into};
 pub use dominance::{Dominance, Share, dominance};
 pub use entries::{Accession, Boundary, Date, Pair, Point, Row, Span, Tally, Term};
 pub use game::{Game, KeptGame, Played, VERDICTS_LENGTH, Verdict, Winner, runner_and_guard, runner_and_guard_into, solve_game, solve_game_into};

@@ -52,6 +52,7 @@ causes! {
     Accession = 17, "the accession record breaks a rule";
     Date = 18, "a date of the term, or at the number of terms the day asked for, is not a day from 2000 to 2099";
     Term = 19, "the term is empty or overlaps an earlier term of its map";
+    Desk = 20, "the desk's boundary and the shared span of this number are not one segment, or one of them is missing";
     Ranked = 21, "there are more proposals than rows of the ranked list";
     TwoLists = 22, "the spans are not the endpoints of the boundaries as written, so that the sheet cannot be converted";
     Graph = 23, "there are more than 32 regions";

@@ -23,7 +23,7 @@ use Rattle.definitions.specs.RampGeometry.{intersects}
 use Rattle.definitions.specs.Context.{Context, contextOf, endpointsKey}
 use Rattle.definitions.specs.Junctions.{boundaryKey, unionRegions, conflict}
 use Rattle.definitions.specs.Rows.{removedOf}
-use Rattle.definitions.specs.Refusals.{widthFits}
+use Rattle.definitions.specs.Refusals.{Refusal, widthFits}
 use Rattle.definitions.specs.Verdict.{Lent, Answer, mapIn, verdict}
 use Rattle.definitions.specs.Printed.{maxSheetBytes, keptlist, text}
 use Rattle.definitions.specs.SheetNumber.{found, number}
@@ -51,6 +51,7 @@ use Rattle.context.specs.Records.{recordOf}
 use Rattle.areas.specs.declared.Partitioned.{Partitioned}
 use Rattle.areas.specs.Answers.{answerOf}
 use Rattle.areas.specs.Contract as alone
+use Rattle.call_partition.specs.Contract.{Ran}
 use Rattle.rust_partition.specs.Literal.PartitionBySpans.{partitionBySpans}
 use Rattle.island.specs.Premises.{Alike}
 use Rattle.island_calls.specs.Outputs.{rowsHeld}
@@ -65,7 +66,9 @@ use Rattle.ranked_list.specs.RankedLaws.{chosen}
 use Rattle.ranked_list.specs.RankedCalls.{rankedIn, Greedy}
 use Rattle.ranked_list.specs.RankedCalls as ranks
 use Rattle.topology.specs.Lent.{LentLists, LeftLists, lentMap, lentCall}
-use Rattle.topology.specs.Contract.{RanOver}
+use Rattle.topology.specs.Contract.{exported, RanOver}
+use Rattle.topology.specs.Desks.{LentBoth, LeftBoth, sharedLent, RanBothOver}
+use Rattle.topology.specs.declared.two_desks.DesksAnswer.{DesksAnswer}
 use Rattle.topology.specs.Rest.{RestRanOver}
 use Rattle.topology.specs.Games.{PlayedOver}
 use Rattle.rest_definitions.specs.RowOrder.{startMap}
@@ -82,6 +85,13 @@ use Rattle.game_calls.specs.KeptGraph.{keptGame}
 use Rattle.game_calls.specs.GameVerdict.{GameAnswer}
 use Rattle.game_calls.specs.GameCalls as games
 use Rattle.topology.specs.Ranked.{RankedOver}
+use Rattle.desks.specs.Desks.{Desk, sharedRefusal, deskRefusal}
+use Rattle.desks.specs.Desks as desk
+use Rattle.desks.specs.SameGround.{SameGround}
+use Rattle.desks.specs.DeskLaws.{RefusedWith, LeftAsOnSuccess}
+use Rattle.desks.specs.DeskLaws as desks
+use Rattle.desk_checks.specs.Shared.{lentBoth}
+use Rattle.desk_checks.specs.AloneCalls as desk-calls
 use Rattle.island_theorem.specs.Theorem.{SameOnIsland}
 use Rattle.island_theorem.specs.Theorem as calls
 use Rattle.separations.specs.Distance.{SharePoint, ExactSquare, exactSquare}
@@ -312,6 +322,49 @@ module _ {terms records : List ℕ} {asked : Date} {old : List ℕ} {count : ℕ
 pub pool-accepted : {terms records : List ℕ} {asked : Date} {old : List ℕ} {count : ℕ} {new : List ℕ}
     → Called terms records asked old count new → Accepted terms records asked old count new
 pool-accepted = returned.accepted
+
+-- ---- request 9: two desks over one partition
+
+-- two calls with one desk, beside whatever other desk, in either order, whatever the shared lists held at entry, as long as they are as long
+module _ {x x′ : ℕ} {L L′ : LentBoth} {A B C : Desk} {r r′ : DesksAnswer} {E E′ : LeftBoth} (same : SameGround (sharedLent L) (sharedLent L′)) where
+  pub route-desk-free : RanBothOver x L A B r E → RanBothOver x′ L′ A C r′ E′ → (exported (r .route) ≡ exported (r′ .route)) × (E .routeOutput ≡ E′ .routeOutput)
+  route-desk-free call call′ = desks.route-free same (call .ran) (call′ .ran)
+
+  pub coaching-desk-free : RanBothOver x L A B r E → RanBothOver x′ L′ C B r′ E′
+      → (exported (r .coaching) ≡ exported (r′ .coaching)) × (E .coachingOutput ≡ E′ .coachingOutput)
+  coaching-desk-free call call′ = desks.coaching-free same (call .ran) (call′ .ran)
+
+-- the shared lists are the same, whatever the desks and their order
+pub desk-lists-free : {x x′ : ℕ} {L : LentBoth} {A B C D : Desk} {r r′ : DesksAnswer} {E E′ : LeftBoth} → RanBothOver x L A B r E → RanBothOver x′ L C D r′ E′
+    → (E .labels ≡ E′ .labels) × (E .masks ≡ E′ .masks) × (E .queue ≡ E′ .queue) × (E .tallies ≡ E′ .tallies) × (E .pairs ≡ E′ .pairs)
+    × (map recordOf (E .records) ≡ map recordOf (E′ .records))
+desk-lists-free call call′ = desks.lists-free (call .ran) (call′ .ran)
+
+module _ {x : ℕ} {L : LentBoth} {A B : Desk} {r : DesksAnswer} {E : LeftBoth} (call : RanBothOver x L A B r E) where
+  -- a desk that is accepted has what the call of its pass with its lists alone has, and so do the shared lists
+  pub route-desk-alone : r .route .number ≡ 0
+      → Ran (desk.alone (sharedLent L) A) (exported (r .route)) (E .labels) (E .masks) (E .queue) (E .tallies) (E .pairs) (map recordOf (E .records)) (E .routeOutput)
+  route-desk-alone = desk-calls.route-alone (call .ran)
+
+  pub coaching-desk-alone : r .coaching .number ≡ 0
+      → Ran (desk.alone (sharedLent L) B) (exported (r .coaching)) (E .labels) (E .masks) (E .queue) (E .tallies) (E .pairs) (map recordOf (E .records)) (E .coachingOutput)
+  coaching-desk-alone = desk-calls.coaching-alone (call .ran)
+
+  -- a refusal over the shared lists goes to both
+  pub desks-refused-both : {f : Refusal} → sharedRefusal (sharedLent L) ≡ some f
+      → RefusedWith A f (exported (r .route)) (E .routeOutput) × RefusedWith B f (exported (r .coaching)) (E .coachingOutput)
+  desks-refused-both = desks.goes-to-both (call .ran)
+
+  -- a desk's own leaves its output as it was, and the shared lists as on success
+  pub route-desk-refused : {f : Refusal} → sharedRefusal (sharedLent L) ≡ none → deskRefusal (sharedLent L) A ≡ some f
+      → RefusedWith A f (exported (r .route)) (E .routeOutput)
+      × LeftAsOnSuccess (sharedLent L) (E .labels) (E .masks) (E .queue) (E .tallies) (E .pairs) (map recordOf (E .records))
+  route-desk-refused = desks.route-refused (call .ran)
+
+  pub coaching-desk-refused : {f : Refusal} → sharedRefusal (sharedLent L) ≡ none → deskRefusal (sharedLent L) B ≡ some f
+      → RefusedWith B f (exported (r .coaching)) (E .coachingOutput)
+      × LeftAsOnSuccess (sharedLent L) (E .labels) (E .masks) (E .queue) (E .tallies) (E .pairs) (map recordOf (E .records))
+  coaching-desk-refused = desks.coaching-refused (call .ran)
 
 -- ---- request 10: separations
 
