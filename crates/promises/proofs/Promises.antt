@@ -90,7 +90,6 @@ use Rattle.desks.specs.Desks as desk
 use Rattle.desks.specs.SameGround.{SameGround}
 use Rattle.desks.specs.DeskLaws.{RefusedWith, LeftAsOnSuccess}
 use Rattle.desks.specs.DeskLaws as desks
-use Rattle.desk_checks.specs.Shared.{lentBoth}
 use Rattle.desk_checks.specs.AloneCalls as desk-calls
 use Rattle.island_theorem.specs.Theorem.{SameOnIsland}
 use Rattle.island_theorem.specs.Theorem as calls
