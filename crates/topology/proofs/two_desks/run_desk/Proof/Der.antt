@@ -9,19 +9,17 @@ use Rattle.topology.proofs.two_desks.own_answer.Kinds as K0
 use Rattle.topology.proofs.two_desks.own_answer.Reads as R0
 use Rattle.topology.proofs.two_desks.own_answer.Symbol as S0
 use Rattle.topology.proofs.two_desks.own_answer.Met as M0
-use Rattle.topology.proofs.Seen.marks.mark_removed.Kinds as K1
-use Rattle.topology.proofs.Seen.marks.mark_removed.Reads as R1
+use Rattle.topology.proofs.Seen.marks.mark_removed as K1
 use Rattle.topology.proofs.marks.mark_removed.Symbol as S1
 use Rattle.topology.proofs.marks.mark_removed.Met as M1
 use Rattle.pass_lists.proofs.finish.Kinds as K2
 use Rattle.pass_lists.proofs.finish.Reads as R2
 use Rattle.pass_lists.proofs.finish.Symbol as S2
 use Rattle.pass_lists.proofs.finish.Met as M2
-use Rattle.topology.proofs.Seen.two_desks.run_desk.Kinds.{ps, r}
 use Rattle.topology.proofs.two_desks.run_desk.Code as code
 use contract.Running
 use Rattle.topology.proofs.Contracts.{Answers, Post, Pre, Wof, met, 𝓣of}
-use Rattle.topology.proofs.Seen.two_desks.run_desk.Reads.{the-contract}
+use Rattle.topology.proofs.Seen.two_desks.run_desk.{ps, r, the-contract}
 use Rattle.topology.proofs.two_desks.run_desk.Key as key
 use Rattle.topology.proofs.two_desks.run_desk.Statement.{statement}
 use Rattle.topology.proofs.Steps.{Der, _$_, first, ghosts, homes, past, patched, rets, skips, stmt, test, typesPast}
@@ -54,17 +52,17 @@ module _ (κs : Lfts 10) (qs : Shares 10) where
   abbrev row5 : Row
   row5 = arrF (rtF fBool) 256 0
 
-  abbrev row6 : Row
-  row6 = mslice-owed (rtF (fInt w16)) (tyRef (named 7) mut (tyInt w16)) 7 10 (lease (κs .1 .1 .1 .1 .1 .1 .1 .0) (qs .1 .1 .1 .1 .1 .1 .1 .0))
+  abbrev row6 : ℕ → Row
+  row6 k = mslice-owed (rtF (fInt w16)) (tyRef (named 7) mut (tyInt w16)) 7 k (lease (κs .1 .1 .1 .1 .1 .1 .1 .0) (qs .1 .1 .1 .1 .1 .1 .1 .0))
 
-  abbrev row8 : Row
-  row8 = mslice (rtF (fInt w16)) (tyRef erased mut (tyInt w16)) 10
+  abbrev row8 : ℕ → Row
+  row8 k = mslice (rtF (fInt w16)) (tyRef erased mut (tyInt w16)) k
 
-  abbrev row9 : Row
-  row9 = mslice-owed (rtF (fInt w32)) (tyRef (named 8) mut (tyInt w32)) 8 11 (lease (κs .1 .1 .1 .1 .1 .1 .1 .1 .0) (qs .1 .1 .1 .1 .1 .1 .1 .1 .0))
+  abbrev row9 : ℕ → Row
+  row9 k = mslice-owed (rtF (fInt w32)) (tyRef (named 8) mut (tyInt w32)) 8 k (lease (κs .1 .1 .1 .1 .1 .1 .1 .1 .0) (qs .1 .1 .1 .1 .1 .1 .1 .1 .0))
 
-  abbrev row11 : Row
-  row11 = mslice (rtF (fInt w32)) (tyRef erased mut (tyInt w32)) 11
+  abbrev row11 : ℕ → Row
+  row11 k = mslice (rtF (fInt w32)) (tyRef erased mut (tyInt w32)) k
 
   abbrev row12 : Row
   row12 = sc-owed (Array (rtF fBool) 256) 12
@@ -89,18 +87,6 @@ module _ (κs : Lfts 10) (qs : Shares 10) where
 
   abbrev row19 : Row
   row19 = sref (Array (rtF fBool) 256) (tyRef erased imm (tyArray tyBool 256)) 13
-
-  abbrev row20 : Row
-  row20 = mslice-owed (rtF (fInt w16)) (tyRef (named 7) mut (tyInt w16)) 7 14 (lease (κs .1 .1 .1 .1 .1 .1 .1 .0) (qs .1 .1 .1 .1 .1 .1 .1 .0))
-
-  abbrev row22 : Row
-  row22 = mslice (rtF (fInt w16)) (tyRef erased mut (tyInt w16)) 14
-
-  abbrev row23 : Row
-  row23 = mslice-owed (rtF (fInt w32)) (tyRef (named 8) mut (tyInt w32)) 8 15 (lease (κs .1 .1 .1 .1 .1 .1 .1 .1 .0) (qs .1 .1 .1 .1 .1 .1 .1 .1 .0))
-
-  abbrev row25 : Row
-  row25 = mslice (rtF (fInt w32)) (tyRef erased mut (tyInt w32)) 15
 
   abbrev row26 : Row
   row26 = mslice-owed (rtF (fInt w64)) (tyRef (named 9) mut (tyInt w64)) 9 16 (lease (κs .1 .1 .1 .1 .1 .1 .1 .1 .1 .0) (qs .1 .1 .1 .1 .1 .1 .1 .1 .1 .0))
@@ -151,22 +137,22 @@ module _ (κs : Lfts 10) (qs : Shares 10) where
   G35 = patched ((16, row1) ∷ (18, row1) ∷ (19, row1) ∷ (20, row5) ∷ (25, row1) ∷ []) ([]) G0
 
   abbrev pub G38 : Cx
-  G38 = patched ((13, row6) ∷ (16, row1) ∷ (18, row1) ∷ (19, row1) ∷ (20, row5) ∷ (25, row1) ∷ (27, row8) ∷ []) ((7, off) ∷ (10, alive) ∷ []) G0
+  G38 = patched ((13, row6 10) ∷ (16, row1) ∷ (18, row1) ∷ (19, row1) ∷ (20, row5) ∷ (25, row1) ∷ (27, row8 10) ∷ []) ((7, off) ∷ (10, alive) ∷ []) G0
 
   abbrev pub G41 : Cx
-  G41 = patched ((13, row6) ∷ (14, row9) ∷ (16, row1) ∷ (18, row1) ∷ (19, row1) ∷ (20, row5) ∷ (25, row1) ∷ (27, row8) ∷ (29, row11) ∷ []) ((7, off) ∷ (8, off) ∷ (10, alive) ∷ (11, alive) ∷ []) G0
+  G41 = patched ((13, row6 10) ∷ (14, row9 11) ∷ (16, row1) ∷ (18, row1) ∷ (19, row1) ∷ (20, row5) ∷ (25, row1) ∷ (27, row8 10) ∷ (29, row11 11) ∷ []) ((7, off) ∷ (8, off) ∷ (10, alive) ∷ (11, alive) ∷ []) G0
 
   abbrev pub G43 : Cx
-  G43 = patched ((13, row6) ∷ (14, row9) ∷ (16, row1) ∷ (18, row1) ∷ (19, row1) ∷ (20, row12) ∷ (25, row1) ∷ (27, row8) ∷ (29, row11) ∷ (30, row13) ∷ []) ((7, off) ∷ (8, off) ∷ (10, alive) ∷ (11, alive) ∷ (12, alive) ∷ []) G0
+  G43 = patched ((13, row6 10) ∷ (14, row9 11) ∷ (16, row1) ∷ (18, row1) ∷ (19, row1) ∷ (20, row12) ∷ (25, row1) ∷ (27, row8 10) ∷ (29, row11 11) ∷ (30, row13) ∷ []) ((7, off) ∷ (8, off) ∷ (10, alive) ∷ (11, alive) ∷ (12, alive) ∷ []) G0
 
   abbrev pub G44 : Cx
-  G44 = patched ((13, row6) ∷ (14, row9) ∷ (16, row1) ∷ (18, row1) ∷ (19, row1) ∷ (20, row12) ∷ (24, row14) ∷ (25, row1) ∷ (27, row15) ∷ (29, row16) ∷ (30, row17) ∷ []) ((7, off) ∷ (8, off) ∷ (10, alive) ∷ (11, alive) ∷ (12, alive) ∷ []) G0
+  G44 = patched ((13, row6 10) ∷ (14, row9 11) ∷ (16, row1) ∷ (18, row1) ∷ (19, row1) ∷ (20, row12) ∷ (24, row14) ∷ (25, row1) ∷ (27, row15) ∷ (29, row16) ∷ (30, row17) ∷ []) ((7, off) ∷ (8, off) ∷ (10, alive) ∷ (11, alive) ∷ (12, alive) ∷ []) G0
 
   abbrev pub G47 : Cx
-  G47 = patched ((13, row6) ∷ (14, row9) ∷ (16, row1) ∷ (18, row1) ∷ (19, row1) ∷ (20, row12) ∷ (27, row15) ∷ (29, row16) ∷ (30, row17) ∷ []) ((7, off) ∷ (8, off) ∷ (10, dead) ∷ (11, alive) ∷ (12, alive) ∷ []) G0
+  G47 = patched ((13, row6 10) ∷ (14, row9 11) ∷ (16, row1) ∷ (18, row1) ∷ (19, row1) ∷ (20, row12) ∷ (27, row15) ∷ (29, row16) ∷ (30, row17) ∷ []) ((7, off) ∷ (8, off) ∷ (10, dead) ∷ (11, alive) ∷ (12, alive) ∷ []) G0
 
   abbrev pub G51 : Cx
-  G51 = patched ((14, row9) ∷ (16, row1) ∷ (18, row1) ∷ (19, row1) ∷ (20, row12) ∷ (29, row16) ∷ (30, row17) ∷ []) ((8, off) ∷ (11, dead) ∷ (12, alive) ∷ []) G0
+  G51 = patched ((14, row9 11) ∷ (16, row1) ∷ (18, row1) ∷ (19, row1) ∷ (20, row12) ∷ (29, row16) ∷ (30, row17) ∷ []) ((8, off) ∷ (11, dead) ∷ (12, alive) ∷ []) G0
 
   abbrev pub G55 : Cx
   G55 = patched ((16, row1) ∷ (18, row1) ∷ (19, row1) ∷ (20, row12) ∷ (30, row17) ∷ []) ((12, dead) ∷ []) G0
@@ -175,25 +161,25 @@ module _ (κs : Lfts 10) (qs : Shares 10) where
   G63 = patched ((16, row1) ∷ (18, row1) ∷ (19, row1) ∷ (20, row18) ∷ (25, row1) ∷ (31, row19) ∷ []) ((13, alive) ∷ (14, alive) ∷ []) G0
 
   abbrev pub G66 : Cx
-  G66 = patched ((13, row20) ∷ (16, row1) ∷ (18, row1) ∷ (19, row1) ∷ (20, row18) ∷ (25, row1) ∷ (31, row19) ∷ (33, row22) ∷ []) ((7, off) ∷ (13, alive) ∷ (14, alive) ∷ (15, alive) ∷ []) G0
+  G66 = patched ((13, row6 14) ∷ (16, row1) ∷ (18, row1) ∷ (19, row1) ∷ (20, row18) ∷ (25, row1) ∷ (31, row19) ∷ (33, row8 14) ∷ []) ((7, off) ∷ (13, alive) ∷ (14, alive) ∷ (15, alive) ∷ []) G0
 
   abbrev pub G69 : Cx
-  G69 = patched ((13, row20) ∷ (14, row23) ∷ (16, row1) ∷ (18, row1) ∷ (19, row1) ∷ (20, row18) ∷ (25, row1) ∷ (31, row19) ∷ (33, row22) ∷ (35, row25) ∷ []) ((7, off) ∷ (8, off) ∷ (13, alive) ∷ (14, alive) ∷ (15, alive) ∷ (16, alive) ∷ []) G0
+  G69 = patched ((13, row6 14) ∷ (14, row9 15) ∷ (16, row1) ∷ (18, row1) ∷ (19, row1) ∷ (20, row18) ∷ (25, row1) ∷ (31, row19) ∷ (33, row8 14) ∷ (35, row11 15) ∷ []) ((7, off) ∷ (8, off) ∷ (13, alive) ∷ (14, alive) ∷ (15, alive) ∷ (16, alive) ∷ []) G0
 
   abbrev pub G71 : Cx
-  G71 = patched ((13, row20) ∷ (14, row23) ∷ (15, row26) ∷ (16, row1) ∷ (18, row1) ∷ (19, row1) ∷ (20, row18) ∷ (25, row1) ∷ (31, row19) ∷ (33, row22) ∷ (35, row25) ∷ (37, row28) ∷ []) ((7, off) ∷ (8, off) ∷ (9, off) ∷ (13, alive) ∷ (14, alive) ∷ (15, alive) ∷ (16, alive) ∷ []) G0
+  G71 = patched ((13, row6 14) ∷ (14, row9 15) ∷ (15, row26) ∷ (16, row1) ∷ (18, row1) ∷ (19, row1) ∷ (20, row18) ∷ (25, row1) ∷ (31, row19) ∷ (33, row8 14) ∷ (35, row11 15) ∷ (37, row28) ∷ []) ((7, off) ∷ (8, off) ∷ (9, off) ∷ (13, alive) ∷ (14, alive) ∷ (15, alive) ∷ (16, alive) ∷ []) G0
 
   abbrev pub G72 : Cx
-  G72 = patched ((13, row20) ∷ (14, row23) ∷ (15, row26) ∷ (16, row1) ∷ (18, row1) ∷ (19, row1) ∷ (20, row18) ∷ (21, row1) ∷ (25, row1) ∷ (31, row19) ∷ (33, row15) ∷ (35, row16) ∷ (37, row29) ∷ []) ((7, off) ∷ (8, off) ∷ (9, off) ∷ (13, alive) ∷ (14, alive) ∷ (15, alive) ∷ (16, alive) ∷ []) G0
+  G72 = patched ((13, row6 14) ∷ (14, row9 15) ∷ (15, row26) ∷ (16, row1) ∷ (18, row1) ∷ (19, row1) ∷ (20, row18) ∷ (21, row1) ∷ (25, row1) ∷ (31, row19) ∷ (33, row15) ∷ (35, row16) ∷ (37, row29) ∷ []) ((7, off) ∷ (8, off) ∷ (9, off) ∷ (13, alive) ∷ (14, alive) ∷ (15, alive) ∷ (16, alive) ∷ []) G0
 
   abbrev pub G75 : Cx
-  G75 = patched ((13, row20) ∷ (14, row23) ∷ (15, row26) ∷ (16, row1) ∷ (18, row1) ∷ (19, row1) ∷ (20, row18) ∷ (21, row1) ∷ (33, row15) ∷ (35, row16) ∷ (37, row29) ∷ []) ((7, off) ∷ (8, off) ∷ (9, off) ∷ (13, dead) ∷ (14, alive) ∷ (15, alive) ∷ (16, alive) ∷ []) G0
+  G75 = patched ((13, row6 14) ∷ (14, row9 15) ∷ (15, row26) ∷ (16, row1) ∷ (18, row1) ∷ (19, row1) ∷ (20, row18) ∷ (21, row1) ∷ (33, row15) ∷ (35, row16) ∷ (37, row29) ∷ []) ((7, off) ∷ (8, off) ∷ (9, off) ∷ (13, dead) ∷ (14, alive) ∷ (15, alive) ∷ (16, alive) ∷ []) G0
 
   abbrev pub G78 : Cx
-  G78 = patched ((13, row20) ∷ (14, row23) ∷ (15, row26) ∷ (16, row1) ∷ (18, row1) ∷ (19, row1) ∷ (21, row1) ∷ (33, row15) ∷ (35, row16) ∷ (37, row29) ∷ []) ((7, off) ∷ (8, off) ∷ (9, off) ∷ (14, alive) ∷ (15, alive) ∷ (16, alive) ∷ []) G0
+  G78 = patched ((13, row6 14) ∷ (14, row9 15) ∷ (15, row26) ∷ (16, row1) ∷ (18, row1) ∷ (19, row1) ∷ (21, row1) ∷ (33, row15) ∷ (35, row16) ∷ (37, row29) ∷ []) ((7, off) ∷ (8, off) ∷ (9, off) ∷ (14, alive) ∷ (15, alive) ∷ (16, alive) ∷ []) G0
 
   abbrev pub G82 : Cx
-  G82 = patched ((14, row23) ∷ (15, row26) ∷ (16, row1) ∷ (18, row1) ∷ (19, row1) ∷ (21, row1) ∷ (35, row16) ∷ (37, row29) ∷ []) ((8, off) ∷ (9, off) ∷ (15, alive) ∷ (16, alive) ∷ []) G0
+  G82 = patched ((14, row9 15) ∷ (15, row26) ∷ (16, row1) ∷ (18, row1) ∷ (19, row1) ∷ (21, row1) ∷ (35, row16) ∷ (37, row29) ∷ []) ((8, off) ∷ (9, off) ∷ (15, alive) ∷ (16, alive) ∷ []) G0
 
   abbrev pub G86 : Cx
   G86 = patched ((15, row26) ∷ (16, row1) ∷ (18, row1) ∷ (19, row1) ∷ (21, row1) ∷ (37, row29) ∷ []) ((9, off) ∷ (16, alive) ∷ []) G0
@@ -220,7 +206,7 @@ module _ (κs : Lfts 10) (qs : Shares 10) where
   Γ-from-finish = G32
 
 module _ {M : Type 1} (𝓤 : URA M) (H : Heap 𝓤) (A : Atoms 𝓤) (W : Given 𝓤 H A) (𝓣 : Tables 𝓤 H)
-    (known0 : Knows 𝓤 H A W 𝓣 3 K0.ps K0.r R0.Asked R0.Learnt "topology::two_desks::own_answer") (known1 : Knows 𝓤 H A W 𝓣 9 K1.ps K1.r R1.Asked R1.Learnt "topology::marks::mark_removed") (known2 : Knows 𝓤 H A W 𝓣 5 K2.ps K2.r R2.Asked R2.Learnt "pass_lists::finish") (κs : Lfts 10) (qs : Shares 10) (bs : List ℕ) where
+    (known0 : Knows 𝓤 H A W 𝓣 3 K0.ps K0.r R0.Asked R0.Learnt "topology::two_desks::own_answer") (known1 : Knows 𝓤 H A W 𝓣 9 K1.ps K1.r K1.Asked K1.Learnt "topology::marks::mark_removed") (known2 : Knows 𝓤 H A W 𝓣 5 K2.ps K2.r R2.Asked R2.Learnt "pass_lists::finish") (κs : Lfts 10) (qs : Shares 10) (bs : List ℕ) where
   abbrev E : Env 𝓤 H
   E = EnvOf 𝓤 H (tyR r ∷ tysP ps xs) bs
 
@@ -290,7 +276,7 @@ module _ {M : Type 1} (𝓤 : URA M) (H : Heap 𝓤) (A : Atoms 𝓤) (W : Given
       stmt _ (G41 κs qs) (t-sl-aggregate 𝓤 H A W E (rtF (fInt w32)) 𝓣 (asMut (rtF (fInt w32))) _ 28 29 11 (tyRef erased mut (tyInt w32)) (tyRef erased mut (tyInt w32)) (λ x. x) (oFld 14 (field 1 ∷ []) (tyInt w64) 8 (λ v. lenV (v .0))) (as-is 𝓤 H A (msptr (rtF (fInt w32)) (tyRef erased mut (tyInt w32)) 11)) (room-gone 𝓤 H A _) (reads-owed-len 𝓤 H A W (rtF (fInt w32)) (tyRef (named 8) mut (tyInt w32)) 8 11 (lease (κs .1 .1 .1 .1 .1 .1 .1 .1 .0) (qs .1 .1 .1 .1 .1 .1 .1 .1 .0)) 8 refl, refl) refl refl (λ b o k. tt)) $
       ghosts (G41 κs qs) _ (g-begin 𝓤 H A W E (G41 κs qs) 12 _) $
       stmt _ (G43 κs qs) (t-sc-borrow 𝓤 H A W E 𝓣 _ 20 30 12 (Array (rtF fBool) 256) (tyRef erased mut (tyArray tyBool 256)) (λ x. x) (mem-arr 𝓤 H A W (rtF fBool) 256) (room-gone 𝓤 H A (tyRef erased mut (tyArray tyBool 256))) refl (λ b o. tt)) $
-      stmt (G43 κs qs) (G44 κs qs) (t-call-plain 𝓤 H A W 𝓣 9 K1.ps K1.r R1.Asked R1.Learnt "topology::marks::mark_removed" known1 E (λ pos β. β) (G43 κs qs) (vAt 1 (λ x. x), (record { pos = 12; ty = tyRef (named 6) imm (pointee (twin-0.the-row .written)); ref = λ x. x }, (vAt 18 (λ x. x), (vAt 19 (λ x. x), (record { pos = 9; ty = tyRef (named 3) imm (tyInt w32); ref = λ x. x }, (record { pos = 6; ty = tyRef (named 2) imm (tyInt w64); ref = λ x. x }, (vAt 7 (λ x. x), (vAt 8 (λ x. x), (vAt 25 (λ x. x), (record { pos = 5; ty = tyRef (named 1) imm (tyInt w64); ref = λ x. x }, (record { pos = 10; ty = tyRef (named 4) imm (tyInt w32); ref = λ x. x }, (record { pos = 11; ty = tyRef (named 5) imm (tyInt w32); ref = λ x. x }, (record { pos = 27; ty = tyRef erased mut (tyInt w16); ref = λ x. x }, (record { pos = 29; ty = tyRef erased mut (tyInt w32); ref = λ x. x }, (record { pos = 30; ty = tyRef erased mut (tyArray tyBool 256); ref = λ x. x }, tt))))))))))))))) 24 (6 ∷ 3 ∷ 2 ∷ 1 ∷ 4 ∷ 5 ∷ 10 ∷ 11 ∷ 12 ∷ []) (sub-id 𝓤 H A W ((G43 κs qs) .slots)) ((reads-sc 𝓤 H A W (sInt w64), refl), (spares-sslice 𝓤 H A W twin-0.the-row (tyRef (named 6) imm (pointee (twin-0.the-row .written))) 6, reads-sslice 𝓤 H A W twin-0.the-row (tyRef (named 6) imm (pointee (twin-0.the-row .written))) 6, refl, ((reads-sc 𝓤 H A W (sInt w64), refl), ((reads-sc 𝓤 H A W (sInt w64), refl), (spares-sslice 𝓤 H A W (rtF (fInt w32)) (tyRef (named 3) imm (tyInt w32)) 3, reads-sslice 𝓤 H A W (rtF (fInt w32)) (tyRef (named 3) imm (tyInt w32)) 3, refl, (spares-sslice 𝓤 H A W (rtF (fInt w64)) (tyRef (named 2) imm (tyInt w64)) 2, reads-sslice 𝓤 H A W (rtF (fInt w64)) (tyRef (named 2) imm (tyInt w64)) 2, refl, ((reads-sc 𝓤 H A W (sInt w64), refl), ((reads-sc 𝓤 H A W (sInt w64), refl), ((reads-sc 𝓤 H A W (sInt w64), refl), (spares-sslice 𝓤 H A W (rtF (fInt w64)) (tyRef (named 1) imm (tyInt w64)) 1, reads-sslice 𝓤 H A W (rtF (fInt w64)) (tyRef (named 1) imm (tyInt w64)) 1, refl, (spares-sslice 𝓤 H A W (rtF (fInt w32)) (tyRef (named 4) imm (tyInt w32)) 4, reads-sslice 𝓤 H A W (rtF (fInt w32)) (tyRef (named 4) imm (tyInt w32)) 4, refl, (spares-sslice 𝓤 H A W (rtF (fInt w32)) (tyRef (named 5) imm (tyInt w32)) 5, reads-sslice 𝓤 H A W (rtF (fInt w32)) (tyRef (named 5) imm (tyInt w32)) 5, refl, (as-is 𝓤 H A (mslice (rtF (fInt w16)) (tyRef erased mut (tyInt w16)) 10), reads-mslice 𝓤 H A W (rtF (fInt w16)) (tyRef erased mut (tyInt w16)) 10, refl, (as-is 𝓤 H A (mslice (rtF (fInt w32)) (tyRef erased mut (tyInt w32)) 11), reads-mslice 𝓤 H A W (rtF (fInt w32)) (tyRef erased mut (tyInt w32)) 11, refl, (as-is 𝓤 H A (mref (Array (rtF fBool) 256) (tyRef erased mut (tyArray tyBool 256)) 12), reads-mref 𝓤 H A W (Array (rtF fBool) 256) (tyRef erased mut (tyArray tyBool 256)) 12, refl, tt))))))))))))))) (room-gone 𝓤 H A tyUnit) _ refl) $
+      stmt (G43 κs qs) (G44 κs qs) (t-call-plain 𝓤 H A W 𝓣 9 K1.ps K1.r K1.Asked K1.Learnt "topology::marks::mark_removed" known1 E (λ pos β. β) (G43 κs qs) (vAt 1 (λ x. x), (record { pos = 12; ty = tyRef (named 6) imm (pointee (twin-0.the-row .written)); ref = λ x. x }, (vAt 18 (λ x. x), (vAt 19 (λ x. x), (record { pos = 9; ty = tyRef (named 3) imm (tyInt w32); ref = λ x. x }, (record { pos = 6; ty = tyRef (named 2) imm (tyInt w64); ref = λ x. x }, (vAt 7 (λ x. x), (vAt 8 (λ x. x), (vAt 25 (λ x. x), (record { pos = 5; ty = tyRef (named 1) imm (tyInt w64); ref = λ x. x }, (record { pos = 10; ty = tyRef (named 4) imm (tyInt w32); ref = λ x. x }, (record { pos = 11; ty = tyRef (named 5) imm (tyInt w32); ref = λ x. x }, (record { pos = 27; ty = tyRef erased mut (tyInt w16); ref = λ x. x }, (record { pos = 29; ty = tyRef erased mut (tyInt w32); ref = λ x. x }, (record { pos = 30; ty = tyRef erased mut (tyArray tyBool 256); ref = λ x. x }, tt))))))))))))))) 24 (6 ∷ 3 ∷ 2 ∷ 1 ∷ 4 ∷ 5 ∷ 10 ∷ 11 ∷ 12 ∷ []) (sub-id 𝓤 H A W ((G43 κs qs) .slots)) ((reads-sc 𝓤 H A W (sInt w64), refl), (spares-sslice 𝓤 H A W twin-0.the-row (tyRef (named 6) imm (pointee (twin-0.the-row .written))) 6, reads-sslice 𝓤 H A W twin-0.the-row (tyRef (named 6) imm (pointee (twin-0.the-row .written))) 6, refl, ((reads-sc 𝓤 H A W (sInt w64), refl), ((reads-sc 𝓤 H A W (sInt w64), refl), (spares-sslice 𝓤 H A W (rtF (fInt w32)) (tyRef (named 3) imm (tyInt w32)) 3, reads-sslice 𝓤 H A W (rtF (fInt w32)) (tyRef (named 3) imm (tyInt w32)) 3, refl, (spares-sslice 𝓤 H A W (rtF (fInt w64)) (tyRef (named 2) imm (tyInt w64)) 2, reads-sslice 𝓤 H A W (rtF (fInt w64)) (tyRef (named 2) imm (tyInt w64)) 2, refl, ((reads-sc 𝓤 H A W (sInt w64), refl), ((reads-sc 𝓤 H A W (sInt w64), refl), ((reads-sc 𝓤 H A W (sInt w64), refl), (spares-sslice 𝓤 H A W (rtF (fInt w64)) (tyRef (named 1) imm (tyInt w64)) 1, reads-sslice 𝓤 H A W (rtF (fInt w64)) (tyRef (named 1) imm (tyInt w64)) 1, refl, (spares-sslice 𝓤 H A W (rtF (fInt w32)) (tyRef (named 4) imm (tyInt w32)) 4, reads-sslice 𝓤 H A W (rtF (fInt w32)) (tyRef (named 4) imm (tyInt w32)) 4, refl, (spares-sslice 𝓤 H A W (rtF (fInt w32)) (tyRef (named 5) imm (tyInt w32)) 5, reads-sslice 𝓤 H A W (rtF (fInt w32)) (tyRef (named 5) imm (tyInt w32)) 5, refl, (as-is 𝓤 H A (mslice (rtF (fInt w16)) (tyRef erased mut (tyInt w16)) 10), reads-mslice 𝓤 H A W (rtF (fInt w16)) (tyRef erased mut (tyInt w16)) 10, refl, (as-is 𝓤 H A (mslice (rtF (fInt w32)) (tyRef erased mut (tyInt w32)) 11), reads-mslice 𝓤 H A W (rtF (fInt w32)) (tyRef erased mut (tyInt w32)) 11, refl, (as-is 𝓤 H A (mref (Array (rtF fBool) 256) (tyRef erased mut (tyArray tyBool 256)) 12), reads-mref 𝓤 H A W (Array (rtF fBool) 256) (tyRef erased mut (tyArray tyBool 256)) 12, refl, tt))))))))))))))) (room-gone 𝓤 H A tyUnit) _ refl) $
       ghosts (G44 κs qs) _ (g-room 𝓤 H A W E (G44 κs qs) 24 tyUnit (room-sc 𝓤 H A W sUnit)) $
       ghosts _ _ (g-room 𝓤 H A W E _ 25 (tyInt w64) (room-sc 𝓤 H A W (sInt w64))) $
       ghosts _ (G47 κs qs) (g-end 𝓤 H A W E _ 10 refl) $
@@ -331,8 +317,8 @@ module _ (w : World) where
   abbrev known0-at : Knows (w .𝓤) (w .H) (w .𝓖 .A) (Wof w) (𝓣of w code.env) 3 K0.ps K0.r R0.Asked R0.Learnt "topology::two_desks::own_answer"
   known0-at = R0.known w code.env S0.name S0.routine code.calls-topology·two-desks·own-answer (M0.met (w .𝓤) (w .H) (w .𝓜) (w .𝓖) (w .𝓡))
 
-  abbrev known1-at : Knows (w .𝓤) (w .H) (w .𝓖 .A) (Wof w) (𝓣of w code.env) 9 K1.ps K1.r R1.Asked R1.Learnt "topology::marks::mark_removed"
-  known1-at = R1.known w code.env S1.name S1.routine code.calls-topology·marks·mark-removed (M1.met (w .𝓤) (w .H) (w .𝓜) (w .𝓖) (w .𝓡))
+  abbrev known1-at : Knows (w .𝓤) (w .H) (w .𝓖 .A) (Wof w) (𝓣of w code.env) 9 K1.ps K1.r K1.Asked K1.Learnt "topology::marks::mark_removed"
+  known1-at = K1.known w code.env S1.name S1.routine code.calls-topology·marks·mark-removed (M1.met (w .𝓤) (w .H) (w .𝓜) (w .𝓖) (w .𝓡))
 
   abbrev known2-at : Knows (w .𝓤) (w .H) (w .𝓖 .A) (Wof w) (𝓣of w code.env) 5 K2.ps K2.r R2.Asked R2.Learnt "pass_lists::finish"
   known2-at = R2.known w code.env S2.name S2.routine code.calls-pass-lists·finish (M2.met (w .𝓤) (w .H) (w .𝓜) (w .𝓖) (w .𝓡))

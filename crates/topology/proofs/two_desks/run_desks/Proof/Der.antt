@@ -5,19 +5,17 @@ use Rattle.topology.proofs.TopologyAnswer as TopologyAnswer
 use Rattle.topology.proofs.TopologyAnswer.Laws as Laws
 use Rattle.topology.proofs.two_desks.DesksAnswer as DesksAnswer
 use borrow.Fn.Plain.{Known as Knows}
-use Rattle.topology.proofs.Seen.two_desks.run_desk.Kinds as K0
-use Rattle.topology.proofs.Seen.two_desks.run_desk.Reads as R0
+use Rattle.topology.proofs.Seen.two_desks.run_desk as K0
 use Rattle.topology.proofs.two_desks.run_desk.Symbol as S0
 use Rattle.topology.proofs.two_desks.run_desk.Met as M0
 use Rattle.topology.proofs.two_desks.both.Kinds as K1
 use Rattle.topology.proofs.two_desks.both.Reads as R1
 use Rattle.topology.proofs.two_desks.both.Symbol as S1
 use Rattle.topology.proofs.two_desks.both.Met as M1
-use Rattle.topology.proofs.Seen.two_desks.run_desks.Kinds.{ps, r}
 use Rattle.topology.proofs.two_desks.run_desks.Code as code
 use contract.Running
 use Rattle.topology.proofs.Contracts.{Answers, Post, Pre, Wof, met, 𝓣of}
-use Rattle.topology.proofs.Seen.two_desks.run_desks.Reads.{the-contract}
+use Rattle.topology.proofs.Seen.two_desks.run_desks.{ps, r, the-contract}
 use Rattle.topology.proofs.two_desks.run_desks.Key as key
 use Rattle.topology.proofs.two_desks.run_desks.Statement.{statement}
 use Rattle.topology.proofs.Steps.{Der, _$_, first, ghosts, head-of, homes, past, patched, rets, skips, stmt, test, then-of, typesPast}
@@ -38,23 +36,23 @@ module _ (κs : Lfts 13) (qs : Shares 13) where
   abbrev row1 : Row
   row1 = sc-here sBool
 
-  abbrev row2 : Row
-  row2 = mslice-owed (rtF (fInt w16)) (tyRef (named 9) mut (tyInt w16)) 9 13 (lease (κs .1 .1 .1 .1 .1 .1 .1 .1 .1 .0) (qs .1 .1 .1 .1 .1 .1 .1 .1 .1 .0))
+  abbrev row2 : ℕ → Row
+  row2 k = mslice-owed (rtF (fInt w16)) (tyRef (named 9) mut (tyInt w16)) 9 k (lease (κs .1 .1 .1 .1 .1 .1 .1 .1 .1 .0) (qs .1 .1 .1 .1 .1 .1 .1 .1 .1 .0))
 
-  abbrev row4 : Row
-  row4 = mslice (rtF (fInt w16)) (tyRef erased mut (tyInt w16)) 13
+  abbrev row4 : ℕ → Row
+  row4 k = mslice (rtF (fInt w16)) (tyRef erased mut (tyInt w16)) k
 
-  abbrev row5 : Row
-  row5 = mslice-owed (rtF (fInt w32)) (tyRef (named 10) mut (tyInt w32)) 10 14 (lease (κs .1 .1 .1 .1 .1 .1 .1 .1 .1 .1 .0) (qs .1 .1 .1 .1 .1 .1 .1 .1 .1 .1 .0))
+  abbrev row5 : ℕ → Row
+  row5 k = mslice-owed (rtF (fInt w32)) (tyRef (named 10) mut (tyInt w32)) 10 k (lease (κs .1 .1 .1 .1 .1 .1 .1 .1 .1 .1 .0) (qs .1 .1 .1 .1 .1 .1 .1 .1 .1 .1 .0))
 
-  abbrev row7 : Row
-  row7 = mslice (rtF (fInt w32)) (tyRef erased mut (tyInt w32)) 14
+  abbrev row7 : ℕ → Row
+  row7 k = mslice (rtF (fInt w32)) (tyRef erased mut (tyInt w32)) k
 
-  abbrev row8 : Row
-  row8 = mslice-owed (rtF (fInt w64)) (tyRef (named 11) mut (tyInt w64)) 11 15 (lease (κs .1 .1 .1 .1 .1 .1 .1 .1 .1 .1 .1 .0) (qs .1 .1 .1 .1 .1 .1 .1 .1 .1 .1 .1 .0))
+  abbrev row8 : ℕ → Row
+  row8 k = mslice-owed (rtF (fInt w64)) (tyRef (named 11) mut (tyInt w64)) 11 k (lease (κs .1 .1 .1 .1 .1 .1 .1 .1 .1 .1 .1 .0) (qs .1 .1 .1 .1 .1 .1 .1 .1 .1 .1 .1 .0))
 
-  abbrev row10 : Row
-  row10 = mslice (rtF (fInt w64)) (tyRef erased mut (tyInt w64)) 15
+  abbrev row10 : ℕ → Row
+  row10 k = mslice (rtF (fInt w64)) (tyRef erased mut (tyInt w64)) k
 
   abbrev row11 : Row
   row11 = whole (row TopologyAnswer.the-type)
@@ -68,104 +66,53 @@ module _ (κs : Lfts 13) (qs : Shares 13) where
   abbrev row14 : Row
   row14 = msleft (rtF (fInt w64)) (tyRef erased mut (tyInt w64))
 
-  abbrev row15 : Row
-  row15 = mslice-owed (rtF (fInt w16)) (tyRef (named 9) mut (tyInt w16)) 9 16 (lease (κs .1 .1 .1 .1 .1 .1 .1 .1 .1 .0) (qs .1 .1 .1 .1 .1 .1 .1 .1 .1 .0))
-
-  abbrev row17 : Row
-  row17 = mslice (rtF (fInt w16)) (tyRef erased mut (tyInt w16)) 16
-
-  abbrev row18 : Row
-  row18 = mslice-owed (rtF (fInt w32)) (tyRef (named 10) mut (tyInt w32)) 10 17 (lease (κs .1 .1 .1 .1 .1 .1 .1 .1 .1 .1 .0) (qs .1 .1 .1 .1 .1 .1 .1 .1 .1 .1 .0))
-
-  abbrev row20 : Row
-  row20 = mslice (rtF (fInt w32)) (tyRef erased mut (tyInt w32)) 17
-
-  abbrev row21 : Row
-  row21 = mslice-owed (rtF (fInt w64)) (tyRef (named 12) mut (tyInt w64)) 12 18 (lease (κs .1 .1 .1 .1 .1 .1 .1 .1 .1 .1 .1 .1 .0) (qs .1 .1 .1 .1 .1 .1 .1 .1 .1 .1 .1 .1 .0))
-
-  abbrev row23 : Row
-  row23 = mslice (rtF (fInt w64)) (tyRef erased mut (tyInt w64)) 18
+  abbrev row21 : ℕ → Row
+  row21 k = mslice-owed (rtF (fInt w64)) (tyRef (named 12) mut (tyInt w64)) 12 k (lease (κs .1 .1 .1 .1 .1 .1 .1 .1 .1 .1 .1 .1 .0) (qs .1 .1 .1 .1 .1 .1 .1 .1 .1 .1 .1 .1 .0))
 
   abbrev row24 : Row
   row24 = whole (row DesksAnswer.the-type)
-
-  abbrev row25 : Row
-  row25 = mslice-owed (rtF (fInt w16)) (tyRef (named 9) mut (tyInt w16)) 9 19 (lease (κs .1 .1 .1 .1 .1 .1 .1 .1 .1 .0) (qs .1 .1 .1 .1 .1 .1 .1 .1 .1 .0))
-
-  abbrev row27 : Row
-  row27 = mslice (rtF (fInt w16)) (tyRef erased mut (tyInt w16)) 19
-
-  abbrev row28 : Row
-  row28 = mslice-owed (rtF (fInt w32)) (tyRef (named 10) mut (tyInt w32)) 10 20 (lease (κs .1 .1 .1 .1 .1 .1 .1 .1 .1 .1 .0) (qs .1 .1 .1 .1 .1 .1 .1 .1 .1 .1 .0))
-
-  abbrev row30 : Row
-  row30 = mslice (rtF (fInt w32)) (tyRef erased mut (tyInt w32)) 20
-
-  abbrev row31 : Row
-  row31 = mslice-owed (rtF (fInt w64)) (tyRef (named 12) mut (tyInt w64)) 12 21 (lease (κs .1 .1 .1 .1 .1 .1 .1 .1 .1 .1 .1 .1 .0) (qs .1 .1 .1 .1 .1 .1 .1 .1 .1 .1 .1 .1 .0))
-
-  abbrev row33 : Row
-  row33 = mslice (rtF (fInt w64)) (tyRef erased mut (tyInt w64)) 21
-
-  abbrev row34 : Row
-  row34 = mslice-owed (rtF (fInt w16)) (tyRef (named 9) mut (tyInt w16)) 9 22 (lease (κs .1 .1 .1 .1 .1 .1 .1 .1 .1 .0) (qs .1 .1 .1 .1 .1 .1 .1 .1 .1 .0))
-
-  abbrev row36 : Row
-  row36 = mslice (rtF (fInt w16)) (tyRef erased mut (tyInt w16)) 22
-
-  abbrev row37 : Row
-  row37 = mslice-owed (rtF (fInt w32)) (tyRef (named 10) mut (tyInt w32)) 10 23 (lease (κs .1 .1 .1 .1 .1 .1 .1 .1 .1 .1 .0) (qs .1 .1 .1 .1 .1 .1 .1 .1 .1 .1 .0))
-
-  abbrev row39 : Row
-  row39 = mslice (rtF (fInt w32)) (tyRef erased mut (tyInt w32)) 23
-
-  abbrev row40 : Row
-  row40 = mslice-owed (rtF (fInt w64)) (tyRef (named 11) mut (tyInt w64)) 11 24 (lease (κs .1 .1 .1 .1 .1 .1 .1 .1 .1 .1 .1 .0) (qs .1 .1 .1 .1 .1 .1 .1 .1 .1 .1 .1 .0))
-
-  abbrev row42 : Row
-  row42 = mslice (rtF (fInt w64)) (tyRef erased mut (tyInt w64)) 24
 
   abbrev pub G14 : Cx
   G14 = patched ((25, row1) ∷ []) ([]) G0
 
   abbrev pub G19 : Cx
-  G19 = patched ((17, row2) ∷ (27, row4) ∷ []) ((9, off) ∷ (13, alive) ∷ []) G0
+  G19 = patched ((17, row2 13) ∷ (27, row4 13) ∷ []) ((9, off) ∷ (13, alive) ∷ []) G0
 
   abbrev pub G22 : Cx
-  G22 = patched ((17, row2) ∷ (18, row5) ∷ (27, row4) ∷ (29, row7) ∷ []) ((9, off) ∷ (10, off) ∷ (13, alive) ∷ (14, alive) ∷ []) G0
+  G22 = patched ((17, row2 13) ∷ (18, row5 14) ∷ (27, row4 13) ∷ (29, row7 14) ∷ []) ((9, off) ∷ (10, off) ∷ (13, alive) ∷ (14, alive) ∷ []) G0
 
   abbrev pub G25 : Cx
-  G25 = patched ((17, row2) ∷ (18, row5) ∷ (19, row8) ∷ (27, row4) ∷ (29, row7) ∷ (31, row10) ∷ []) ((9, off) ∷ (10, off) ∷ (11, off) ∷ (13, alive) ∷ (14, alive) ∷ (15, alive) ∷ []) G0
+  G25 = patched ((17, row2 13) ∷ (18, row5 14) ∷ (19, row8 15) ∷ (27, row4 13) ∷ (29, row7 14) ∷ (31, row10 15) ∷ []) ((9, off) ∷ (10, off) ∷ (11, off) ∷ (13, alive) ∷ (14, alive) ∷ (15, alive) ∷ []) G0
 
   abbrev pub G26 : Cx
-  G26 = patched ((17, row2) ∷ (18, row5) ∷ (19, row8) ∷ (21, row11) ∷ (27, row12) ∷ (29, row13) ∷ (31, row14) ∷ []) ((9, off) ∷ (10, off) ∷ (11, off) ∷ (13, alive) ∷ (14, alive) ∷ (15, alive) ∷ []) G0
+  G26 = patched ((17, row2 13) ∷ (18, row5 14) ∷ (19, row8 15) ∷ (21, row11) ∷ (27, row12) ∷ (29, row13) ∷ (31, row14) ∷ []) ((9, off) ∷ (10, off) ∷ (11, off) ∷ (13, alive) ∷ (14, alive) ∷ (15, alive) ∷ []) G0
 
   abbrev pub G30 : Cx
-  G30 = patched ((18, row5) ∷ (19, row8) ∷ (21, row11) ∷ (29, row13) ∷ (31, row14) ∷ []) ((10, off) ∷ (11, off) ∷ (14, alive) ∷ (15, alive) ∷ []) G0
+  G30 = patched ((18, row5 14) ∷ (19, row8 15) ∷ (21, row11) ∷ (29, row13) ∷ (31, row14) ∷ []) ((10, off) ∷ (11, off) ∷ (14, alive) ∷ (15, alive) ∷ []) G0
 
   abbrev pub G34 : Cx
-  G34 = patched ((19, row8) ∷ (21, row11) ∷ (31, row14) ∷ []) ((11, off) ∷ (15, alive) ∷ []) G0
+  G34 = patched ((19, row8 15) ∷ (21, row11) ∷ (31, row14) ∷ []) ((11, off) ∷ (15, alive) ∷ []) G0
 
   abbrev pub G38 : Cx
   G38 = patched ((21, row11) ∷ []) ([]) G0
 
   abbrev pub G41 : Cx
-  G41 = patched ((17, row15) ∷ (21, row11) ∷ (33, row17) ∷ []) ((9, off) ∷ (16, alive) ∷ []) G0
+  G41 = patched ((17, row2 16) ∷ (21, row11) ∷ (33, row4 16) ∷ []) ((9, off) ∷ (16, alive) ∷ []) G0
 
   abbrev pub G44 : Cx
-  G44 = patched ((17, row15) ∷ (18, row18) ∷ (21, row11) ∷ (33, row17) ∷ (35, row20) ∷ []) ((9, off) ∷ (10, off) ∷ (16, alive) ∷ (17, alive) ∷ []) G0
+  G44 = patched ((17, row2 16) ∷ (18, row5 17) ∷ (21, row11) ∷ (33, row4 16) ∷ (35, row7 17) ∷ []) ((9, off) ∷ (10, off) ∷ (16, alive) ∷ (17, alive) ∷ []) G0
 
   abbrev pub G47 : Cx
-  G47 = patched ((17, row15) ∷ (18, row18) ∷ (20, row21) ∷ (21, row11) ∷ (33, row17) ∷ (35, row20) ∷ (37, row23) ∷ []) ((9, off) ∷ (10, off) ∷ (12, off) ∷ (16, alive) ∷ (17, alive) ∷ (18, alive) ∷ []) G0
+  G47 = patched ((17, row2 16) ∷ (18, row5 17) ∷ (20, row21 18) ∷ (21, row11) ∷ (33, row4 16) ∷ (35, row7 17) ∷ (37, row10 18) ∷ []) ((9, off) ∷ (10, off) ∷ (12, off) ∷ (16, alive) ∷ (17, alive) ∷ (18, alive) ∷ []) G0
 
   abbrev pub G48 : Cx
-  G48 = patched ((17, row15) ∷ (18, row18) ∷ (20, row21) ∷ (21, row11) ∷ (22, row11) ∷ (33, row12) ∷ (35, row13) ∷ (37, row14) ∷ []) ((9, off) ∷ (10, off) ∷ (12, off) ∷ (16, alive) ∷ (17, alive) ∷ (18, alive) ∷ []) G0
+  G48 = patched ((17, row2 16) ∷ (18, row5 17) ∷ (20, row21 18) ∷ (21, row11) ∷ (22, row11) ∷ (33, row12) ∷ (35, row13) ∷ (37, row14) ∷ []) ((9, off) ∷ (10, off) ∷ (12, off) ∷ (16, alive) ∷ (17, alive) ∷ (18, alive) ∷ []) G0
 
   abbrev pub G52 : Cx
-  G52 = patched ((18, row18) ∷ (20, row21) ∷ (21, row11) ∷ (22, row11) ∷ (35, row13) ∷ (37, row14) ∷ []) ((10, off) ∷ (12, off) ∷ (17, alive) ∷ (18, alive) ∷ []) G0
+  G52 = patched ((18, row5 17) ∷ (20, row21 18) ∷ (21, row11) ∷ (22, row11) ∷ (35, row13) ∷ (37, row14) ∷ []) ((10, off) ∷ (12, off) ∷ (17, alive) ∷ (18, alive) ∷ []) G0
 
   abbrev pub G56 : Cx
-  G56 = patched ((20, row21) ∷ (21, row11) ∷ (22, row11) ∷ (37, row14) ∷ []) ((12, off) ∷ (18, alive) ∷ []) G0
+  G56 = patched ((20, row21 18) ∷ (21, row11) ∷ (22, row11) ∷ (37, row14) ∷ []) ((12, off) ∷ (18, alive) ∷ []) G0
 
   abbrev pub G60 : Cx
   G60 = patched ((21, row11) ∷ (22, row11) ∷ []) ([]) G0
@@ -198,43 +145,43 @@ module _ (κs : Lfts 13) (qs : Shares 13) where
   G70 = patched ((0, row24) ∷ (1, (any-gone (ty 1))) ∷ (2, (any-gone (ty 2))) ∷ (3, (any-gone (ty 3))) ∷ (5, (any-gone (ty 5))) ∷ (6, (any-gone (ty 6))) ∷ (7, (any-gone (ty 7))) ∷ (10, (any-gone (ty 10))) ∷ []) ([]) G0
 
   abbrev pub G74 : Cx
-  G74 = patched ((17, row25) ∷ (39, row27) ∷ []) ((9, off) ∷ (19, alive) ∷ []) G0
+  G74 = patched ((17, row2 19) ∷ (39, row4 19) ∷ []) ((9, off) ∷ (19, alive) ∷ []) G0
 
   abbrev pub G77 : Cx
-  G77 = patched ((17, row25) ∷ (18, row28) ∷ (39, row27) ∷ (41, row30) ∷ []) ((9, off) ∷ (10, off) ∷ (19, alive) ∷ (20, alive) ∷ []) G0
+  G77 = patched ((17, row2 19) ∷ (18, row5 20) ∷ (39, row4 19) ∷ (41, row7 20) ∷ []) ((9, off) ∷ (10, off) ∷ (19, alive) ∷ (20, alive) ∷ []) G0
 
   abbrev pub G80 : Cx
-  G80 = patched ((17, row25) ∷ (18, row28) ∷ (20, row31) ∷ (39, row27) ∷ (41, row30) ∷ (43, row33) ∷ []) ((9, off) ∷ (10, off) ∷ (12, off) ∷ (19, alive) ∷ (20, alive) ∷ (21, alive) ∷ []) G0
+  G80 = patched ((17, row2 19) ∷ (18, row5 20) ∷ (20, row21 21) ∷ (39, row4 19) ∷ (41, row7 20) ∷ (43, row10 21) ∷ []) ((9, off) ∷ (10, off) ∷ (12, off) ∷ (19, alive) ∷ (20, alive) ∷ (21, alive) ∷ []) G0
 
   abbrev pub G81 : Cx
-  G81 = patched ((17, row25) ∷ (18, row28) ∷ (20, row31) ∷ (23, row11) ∷ (39, row12) ∷ (41, row13) ∷ (43, row14) ∷ []) ((9, off) ∷ (10, off) ∷ (12, off) ∷ (19, alive) ∷ (20, alive) ∷ (21, alive) ∷ []) G0
+  G81 = patched ((17, row2 19) ∷ (18, row5 20) ∷ (20, row21 21) ∷ (23, row11) ∷ (39, row12) ∷ (41, row13) ∷ (43, row14) ∷ []) ((9, off) ∷ (10, off) ∷ (12, off) ∷ (19, alive) ∷ (20, alive) ∷ (21, alive) ∷ []) G0
 
   abbrev pub G85 : Cx
-  G85 = patched ((18, row28) ∷ (20, row31) ∷ (23, row11) ∷ (41, row13) ∷ (43, row14) ∷ []) ((10, off) ∷ (12, off) ∷ (20, alive) ∷ (21, alive) ∷ []) G0
+  G85 = patched ((18, row5 20) ∷ (20, row21 21) ∷ (23, row11) ∷ (41, row13) ∷ (43, row14) ∷ []) ((10, off) ∷ (12, off) ∷ (20, alive) ∷ (21, alive) ∷ []) G0
 
   abbrev pub G89 : Cx
-  G89 = patched ((20, row31) ∷ (23, row11) ∷ (43, row14) ∷ []) ((12, off) ∷ (21, alive) ∷ []) G0
+  G89 = patched ((20, row21 21) ∷ (23, row11) ∷ (43, row14) ∷ []) ((12, off) ∷ (21, alive) ∷ []) G0
 
   abbrev pub G93 : Cx
   G93 = patched ((23, row11) ∷ []) ([]) G0
 
   abbrev pub G96 : Cx
-  G96 = patched ((17, row34) ∷ (23, row11) ∷ (45, row36) ∷ []) ((9, off) ∷ (22, alive) ∷ []) G0
+  G96 = patched ((17, row2 22) ∷ (23, row11) ∷ (45, row4 22) ∷ []) ((9, off) ∷ (22, alive) ∷ []) G0
 
   abbrev pub G99 : Cx
-  G99 = patched ((17, row34) ∷ (18, row37) ∷ (23, row11) ∷ (45, row36) ∷ (47, row39) ∷ []) ((9, off) ∷ (10, off) ∷ (22, alive) ∷ (23, alive) ∷ []) G0
+  G99 = patched ((17, row2 22) ∷ (18, row5 23) ∷ (23, row11) ∷ (45, row4 22) ∷ (47, row7 23) ∷ []) ((9, off) ∷ (10, off) ∷ (22, alive) ∷ (23, alive) ∷ []) G0
 
   abbrev pub G102 : Cx
-  G102 = patched ((17, row34) ∷ (18, row37) ∷ (19, row40) ∷ (23, row11) ∷ (45, row36) ∷ (47, row39) ∷ (49, row42) ∷ []) ((9, off) ∷ (10, off) ∷ (11, off) ∷ (22, alive) ∷ (23, alive) ∷ (24, alive) ∷ []) G0
+  G102 = patched ((17, row2 22) ∷ (18, row5 23) ∷ (19, row8 24) ∷ (23, row11) ∷ (45, row4 22) ∷ (47, row7 23) ∷ (49, row10 24) ∷ []) ((9, off) ∷ (10, off) ∷ (11, off) ∷ (22, alive) ∷ (23, alive) ∷ (24, alive) ∷ []) G0
 
   abbrev pub G103 : Cx
-  G103 = patched ((17, row34) ∷ (18, row37) ∷ (19, row40) ∷ (23, row11) ∷ (24, row11) ∷ (45, row12) ∷ (47, row13) ∷ (49, row14) ∷ []) ((9, off) ∷ (10, off) ∷ (11, off) ∷ (22, alive) ∷ (23, alive) ∷ (24, alive) ∷ []) G0
+  G103 = patched ((17, row2 22) ∷ (18, row5 23) ∷ (19, row8 24) ∷ (23, row11) ∷ (24, row11) ∷ (45, row12) ∷ (47, row13) ∷ (49, row14) ∷ []) ((9, off) ∷ (10, off) ∷ (11, off) ∷ (22, alive) ∷ (23, alive) ∷ (24, alive) ∷ []) G0
 
   abbrev pub G107 : Cx
-  G107 = patched ((18, row37) ∷ (19, row40) ∷ (23, row11) ∷ (24, row11) ∷ (47, row13) ∷ (49, row14) ∷ []) ((10, off) ∷ (11, off) ∷ (23, alive) ∷ (24, alive) ∷ []) G0
+  G107 = patched ((18, row5 23) ∷ (19, row8 24) ∷ (23, row11) ∷ (24, row11) ∷ (47, row13) ∷ (49, row14) ∷ []) ((10, off) ∷ (11, off) ∷ (23, alive) ∷ (24, alive) ∷ []) G0
 
   abbrev pub G111 : Cx
-  G111 = patched ((19, row40) ∷ (23, row11) ∷ (24, row11) ∷ (49, row14) ∷ []) ((11, off) ∷ (24, alive) ∷ []) G0
+  G111 = patched ((19, row8 24) ∷ (23, row11) ∷ (24, row11) ∷ (49, row14) ∷ []) ((11, off) ∷ (24, alive) ∷ []) G0
 
   abbrev pub G115 : Cx
   G115 = patched ((23, row11) ∷ (24, row11) ∷ []) ([]) G0
@@ -255,7 +202,7 @@ module _ (κs : Lfts 13) (qs : Shares 13) where
   Γ-route-next = G93
 
 module _ {M : Type 1} (𝓤 : URA M) (H : Heap 𝓤) (A : Atoms 𝓤) (W : Given 𝓤 H A) (𝓣 : Tables 𝓤 H)
-    (known0 : Knows 𝓤 H A W 𝓣 10 K0.ps K0.r R0.Asked R0.Learnt "topology::two_desks::run_desk") (known1 : Knows 𝓤 H A W 𝓣 0 K1.ps K1.r R1.Asked R1.Learnt "topology::two_desks::both") (κs : Lfts 13) (qs : Shares 13) (bs : List ℕ) where
+    (known0 : Knows 𝓤 H A W 𝓣 10 K0.ps K0.r K0.Asked K0.Learnt "topology::two_desks::run_desk") (known1 : Knows 𝓤 H A W 𝓣 0 K1.ps K1.r R1.Asked R1.Learnt "topology::two_desks::both") (κs : Lfts 13) (qs : Shares 13) (bs : List ℕ) where
   abbrev E : Env 𝓤 H
   E = EnvOf 𝓤 H (tyR r ∷ tysP ps xs) bs
 
@@ -270,7 +217,7 @@ module _ {M : Type 1} (𝓤 : URA M) (H : Heap 𝓤) (A : Atoms 𝓤) (W : Given
       ghosts (G99 κs qs) _ (g-begin 𝓤 H A W E (G99 κs qs) 24 _) $
       stmt _ _ (t-sl-relend 𝓤 H A W E (rtF (fInt w64)) 𝓣 _ 19 48 11 24 (tyRef (named 11) mut (tyInt w64)) (tyRef erased mut (tyInt w64)) (lease (κs .1 .1 .1 .1 .1 .1 .1 .1 .1 .1 .1 .0) (qs .1 .1 .1 .1 .1 .1 .1 .1 .1 .1 .1 .0)) 0 (λ x. x) (as-is 𝓤 H A (mslice (rtF (fInt w64)) (tyRef (named 11) mut (tyInt w64)) 11)) (room-gone 𝓤 H A (tyRef erased mut (tyInt w64))) refl tt refl refl refl (λ b o. tt)) $
       stmt _ (G102 κs qs) (t-sl-aggregate 𝓤 H A W E (rtF (fInt w64)) 𝓣 (asMut (rtF (fInt w64))) _ 48 49 24 (tyRef erased mut (tyInt w64)) (tyRef erased mut (tyInt w64)) (λ x. x) (oFld 19 (field 1 ∷ []) (tyInt w64) 8 (λ v. lenV (v .0))) (as-is 𝓤 H A (msptr (rtF (fInt w64)) (tyRef erased mut (tyInt w64)) 24)) (room-gone 𝓤 H A _) (reads-owed-len 𝓤 H A W (rtF (fInt w64)) (tyRef (named 11) mut (tyInt w64)) 11 24 (lease (κs .1 .1 .1 .1 .1 .1 .1 .1 .1 .1 .1 .0) (qs .1 .1 .1 .1 .1 .1 .1 .1 .1 .1 .1 .0)) 8 refl, refl) refl refl (λ b o k. tt)) $
-      stmt (G102 κs qs) (G103 κs qs) (t-call-plain 𝓤 H A W 𝓣 10 K0.ps K0.r R0.Asked R0.Learnt "topology::two_desks::run_desk" known0 E (λ pos β. β) (G102 κs qs) (vAt 7 (λ x. x), (vAt 2 (λ x. x), (vAt 3 (λ x. x), (record { pos = 4; ty = tyRef (named 0) imm (tyInt w64); ref = λ x. x }, (record { pos = 8; ty = tyRef (named 1) imm (tyInt w64); ref = λ x. x }, (record { pos = 9; ty = tyRef (named 2) imm (tyInt w64); ref = λ x. x }, (vAt 5 (λ x. x), (vAt 6 (λ x. x), (record { pos = 13; ty = tyRef (named 5) imm (tyInt w32); ref = λ x. x }, (record { pos = 14; ty = tyRef (named 6) imm (tyInt w32); ref = λ x. x }, (record { pos = 15; ty = tyRef (named 7) imm (tyInt w32); ref = λ x. x }, (record { pos = 16; ty = tyRef (named 8) imm (pointee (twin-0.the-row .written)); ref = λ x. x }, (record { pos = 45; ty = tyRef erased mut (tyInt w16); ref = λ x. x }, (record { pos = 47; ty = tyRef erased mut (tyInt w32); ref = λ x. x }, (record { pos = 49; ty = tyRef erased mut (tyInt w64); ref = λ x. x }, tt))))))))))))))) 24 (0 ∷ 1 ∷ 2 ∷ 5 ∷ 6 ∷ 7 ∷ 8 ∷ 22 ∷ 23 ∷ 24 ∷ []) (sub-id 𝓤 H A W ((G102 κs qs) .slots)) ((reads-sc 𝓤 H A W (sInt w64), refl), ((reads-sc 𝓤 H A W (sInt w64), refl), ((reads-sc 𝓤 H A W (sInt w64), refl), (spares-sslice 𝓤 H A W (rtF (fInt w64)) (tyRef (named 0) imm (tyInt w64)) 0, reads-sslice 𝓤 H A W (rtF (fInt w64)) (tyRef (named 0) imm (tyInt w64)) 0, refl, (spares-sslice 𝓤 H A W (rtF (fInt w64)) (tyRef (named 1) imm (tyInt w64)) 1, reads-sslice 𝓤 H A W (rtF (fInt w64)) (tyRef (named 1) imm (tyInt w64)) 1, refl, (spares-sslice 𝓤 H A W (rtF (fInt w64)) (tyRef (named 2) imm (tyInt w64)) 2, reads-sslice 𝓤 H A W (rtF (fInt w64)) (tyRef (named 2) imm (tyInt w64)) 2, refl, ((reads-sc 𝓤 H A W (sInt w64), refl), ((reads-sc 𝓤 H A W (sInt w64), refl), (spares-sslice 𝓤 H A W (rtF (fInt w32)) (tyRef (named 5) imm (tyInt w32)) 5, reads-sslice 𝓤 H A W (rtF (fInt w32)) (tyRef (named 5) imm (tyInt w32)) 5, refl, (spares-sslice 𝓤 H A W (rtF (fInt w32)) (tyRef (named 6) imm (tyInt w32)) 6, reads-sslice 𝓤 H A W (rtF (fInt w32)) (tyRef (named 6) imm (tyInt w32)) 6, refl, (spares-sslice 𝓤 H A W (rtF (fInt w32)) (tyRef (named 7) imm (tyInt w32)) 7, reads-sslice 𝓤 H A W (rtF (fInt w32)) (tyRef (named 7) imm (tyInt w32)) 7, refl, (spares-sslice 𝓤 H A W twin-0.the-row (tyRef (named 8) imm (pointee (twin-0.the-row .written))) 8, reads-sslice 𝓤 H A W twin-0.the-row (tyRef (named 8) imm (pointee (twin-0.the-row .written))) 8, refl, (as-is 𝓤 H A (mslice (rtF (fInt w16)) (tyRef erased mut (tyInt w16)) 22), reads-mslice 𝓤 H A W (rtF (fInt w16)) (tyRef erased mut (tyInt w16)) 22, refl, (as-is 𝓤 H A (mslice (rtF (fInt w32)) (tyRef erased mut (tyInt w32)) 23), reads-mslice 𝓤 H A W (rtF (fInt w32)) (tyRef erased mut (tyInt w32)) 23, refl, (as-is 𝓤 H A (mslice (rtF (fInt w64)) (tyRef erased mut (tyInt w64)) 24), reads-mslice 𝓤 H A W (rtF (fInt w64)) (tyRef erased mut (tyInt w64)) 24, refl, tt))))))))))))))) (room-gone 𝓤 H A _) _ refl) $
+      stmt (G102 κs qs) (G103 κs qs) (t-call-plain 𝓤 H A W 𝓣 10 K0.ps K0.r K0.Asked K0.Learnt "topology::two_desks::run_desk" known0 E (λ pos β. β) (G102 κs qs) (vAt 7 (λ x. x), (vAt 2 (λ x. x), (vAt 3 (λ x. x), (record { pos = 4; ty = tyRef (named 0) imm (tyInt w64); ref = λ x. x }, (record { pos = 8; ty = tyRef (named 1) imm (tyInt w64); ref = λ x. x }, (record { pos = 9; ty = tyRef (named 2) imm (tyInt w64); ref = λ x. x }, (vAt 5 (λ x. x), (vAt 6 (λ x. x), (record { pos = 13; ty = tyRef (named 5) imm (tyInt w32); ref = λ x. x }, (record { pos = 14; ty = tyRef (named 6) imm (tyInt w32); ref = λ x. x }, (record { pos = 15; ty = tyRef (named 7) imm (tyInt w32); ref = λ x. x }, (record { pos = 16; ty = tyRef (named 8) imm (pointee (twin-0.the-row .written)); ref = λ x. x }, (record { pos = 45; ty = tyRef erased mut (tyInt w16); ref = λ x. x }, (record { pos = 47; ty = tyRef erased mut (tyInt w32); ref = λ x. x }, (record { pos = 49; ty = tyRef erased mut (tyInt w64); ref = λ x. x }, tt))))))))))))))) 24 (0 ∷ 1 ∷ 2 ∷ 5 ∷ 6 ∷ 7 ∷ 8 ∷ 22 ∷ 23 ∷ 24 ∷ []) (sub-id 𝓤 H A W ((G102 κs qs) .slots)) ((reads-sc 𝓤 H A W (sInt w64), refl), ((reads-sc 𝓤 H A W (sInt w64), refl), ((reads-sc 𝓤 H A W (sInt w64), refl), (spares-sslice 𝓤 H A W (rtF (fInt w64)) (tyRef (named 0) imm (tyInt w64)) 0, reads-sslice 𝓤 H A W (rtF (fInt w64)) (tyRef (named 0) imm (tyInt w64)) 0, refl, (spares-sslice 𝓤 H A W (rtF (fInt w64)) (tyRef (named 1) imm (tyInt w64)) 1, reads-sslice 𝓤 H A W (rtF (fInt w64)) (tyRef (named 1) imm (tyInt w64)) 1, refl, (spares-sslice 𝓤 H A W (rtF (fInt w64)) (tyRef (named 2) imm (tyInt w64)) 2, reads-sslice 𝓤 H A W (rtF (fInt w64)) (tyRef (named 2) imm (tyInt w64)) 2, refl, ((reads-sc 𝓤 H A W (sInt w64), refl), ((reads-sc 𝓤 H A W (sInt w64), refl), (spares-sslice 𝓤 H A W (rtF (fInt w32)) (tyRef (named 5) imm (tyInt w32)) 5, reads-sslice 𝓤 H A W (rtF (fInt w32)) (tyRef (named 5) imm (tyInt w32)) 5, refl, (spares-sslice 𝓤 H A W (rtF (fInt w32)) (tyRef (named 6) imm (tyInt w32)) 6, reads-sslice 𝓤 H A W (rtF (fInt w32)) (tyRef (named 6) imm (tyInt w32)) 6, refl, (spares-sslice 𝓤 H A W (rtF (fInt w32)) (tyRef (named 7) imm (tyInt w32)) 7, reads-sslice 𝓤 H A W (rtF (fInt w32)) (tyRef (named 7) imm (tyInt w32)) 7, refl, (spares-sslice 𝓤 H A W twin-0.the-row (tyRef (named 8) imm (pointee (twin-0.the-row .written))) 8, reads-sslice 𝓤 H A W twin-0.the-row (tyRef (named 8) imm (pointee (twin-0.the-row .written))) 8, refl, (as-is 𝓤 H A (mslice (rtF (fInt w16)) (tyRef erased mut (tyInt w16)) 22), reads-mslice 𝓤 H A W (rtF (fInt w16)) (tyRef erased mut (tyInt w16)) 22, refl, (as-is 𝓤 H A (mslice (rtF (fInt w32)) (tyRef erased mut (tyInt w32)) 23), reads-mslice 𝓤 H A W (rtF (fInt w32)) (tyRef erased mut (tyInt w32)) 23, refl, (as-is 𝓤 H A (mslice (rtF (fInt w64)) (tyRef erased mut (tyInt w64)) 24), reads-mslice 𝓤 H A W (rtF (fInt w64)) (tyRef erased mut (tyInt w64)) 24, refl, tt))))))))))))))) (room-gone 𝓤 H A _) _ refl) $
       ghosts (G103 κs qs) _ (g-end 𝓤 H A W E (G103 κs qs) 22 refl) $
       ghosts _ _ (g-back-sl 𝓤 H A W E (rtF (fInt w16)) _ 45 17 9 22 (tyRef (named 9) mut (tyInt w16)) (tyRef erased mut (tyInt w16)) (lease (κs .1 .1 .1 .1 .1 .1 .1 .1 .1 .0) (qs .1 .1 .1 .1 .1 .1 .1 .1 .1 .0)) (λ x. x) (λ x. x) (as-is 𝓤 H A (msleft (rtF (fInt w16)) (tyRef erased mut (tyInt w16)))) (as-is 𝓤 H A (mslice-owed (rtF (fInt w16)) (tyRef (named 9) mut (tyInt w16)) 9 22 (lease (κs .1 .1 .1 .1 .1 .1 .1 .1 .1 .0) (qs .1 .1 .1 .1 .1 .1 .1 .1 .1 .0)))) refl refl) $
       ghosts _ (G107 κs qs) (g-forget 𝓤 H A W E _ 22 dead refl) $
@@ -303,7 +250,7 @@ module _ {M : Type 1} (𝓤 : URA M) (H : Heap 𝓤) (A : Atoms 𝓤) (W : Given
       ghosts (G77 κs qs) _ (g-begin 𝓤 H A W E (G77 κs qs) 21 _) $
       stmt _ _ (t-sl-relend 𝓤 H A W E (rtF (fInt w64)) 𝓣 _ 20 42 12 21 (tyRef (named 12) mut (tyInt w64)) (tyRef erased mut (tyInt w64)) (lease (κs .1 .1 .1 .1 .1 .1 .1 .1 .1 .1 .1 .1 .0) (qs .1 .1 .1 .1 .1 .1 .1 .1 .1 .1 .1 .1 .0)) 0 (λ x. x) (as-is 𝓤 H A (mslice (rtF (fInt w64)) (tyRef (named 12) mut (tyInt w64)) 12)) (room-gone 𝓤 H A (tyRef erased mut (tyInt w64))) refl tt refl refl refl (λ b o. tt)) $
       stmt _ (G80 κs qs) (t-sl-aggregate 𝓤 H A W E (rtF (fInt w64)) 𝓣 (asMut (rtF (fInt w64))) _ 42 43 21 (tyRef erased mut (tyInt w64)) (tyRef erased mut (tyInt w64)) (λ x. x) (oFld 20 (field 1 ∷ []) (tyInt w64) 8 (λ v. lenV (v .0))) (as-is 𝓤 H A (msptr (rtF (fInt w64)) (tyRef erased mut (tyInt w64)) 21)) (room-gone 𝓤 H A _) (reads-owed-len 𝓤 H A W (rtF (fInt w64)) (tyRef (named 12) mut (tyInt w64)) 12 21 (lease (κs .1 .1 .1 .1 .1 .1 .1 .1 .1 .1 .1 .1 .0) (qs .1 .1 .1 .1 .1 .1 .1 .1 .1 .1 .1 .1 .0)) 8 refl, refl) refl refl (λ b o k. tt)) $
-      stmt (G80 κs qs) (G81 κs qs) (t-call-plain 𝓤 H A W 𝓣 10 K0.ps K0.r R0.Asked R0.Learnt "topology::two_desks::run_desk" known0 E (λ pos β. β) (G80 κs qs) (vAt 10 (λ x. x), (vAt 2 (λ x. x), (vAt 3 (λ x. x), (record { pos = 4; ty = tyRef (named 0) imm (tyInt w64); ref = λ x. x }, (record { pos = 11; ty = tyRef (named 3) imm (tyInt w64); ref = λ x. x }, (record { pos = 12; ty = tyRef (named 4) imm (tyInt w64); ref = λ x. x }, (vAt 5 (λ x. x), (vAt 6 (λ x. x), (record { pos = 13; ty = tyRef (named 5) imm (tyInt w32); ref = λ x. x }, (record { pos = 14; ty = tyRef (named 6) imm (tyInt w32); ref = λ x. x }, (record { pos = 15; ty = tyRef (named 7) imm (tyInt w32); ref = λ x. x }, (record { pos = 16; ty = tyRef (named 8) imm (pointee (twin-0.the-row .written)); ref = λ x. x }, (record { pos = 39; ty = tyRef erased mut (tyInt w16); ref = λ x. x }, (record { pos = 41; ty = tyRef erased mut (tyInt w32); ref = λ x. x }, (record { pos = 43; ty = tyRef erased mut (tyInt w64); ref = λ x. x }, tt))))))))))))))) 23 (0 ∷ 3 ∷ 4 ∷ 5 ∷ 6 ∷ 7 ∷ 8 ∷ 19 ∷ 20 ∷ 21 ∷ []) (sub-id 𝓤 H A W ((G80 κs qs) .slots)) ((reads-sc 𝓤 H A W (sInt w64), refl), ((reads-sc 𝓤 H A W (sInt w64), refl), ((reads-sc 𝓤 H A W (sInt w64), refl), (spares-sslice 𝓤 H A W (rtF (fInt w64)) (tyRef (named 0) imm (tyInt w64)) 0, reads-sslice 𝓤 H A W (rtF (fInt w64)) (tyRef (named 0) imm (tyInt w64)) 0, refl, (spares-sslice 𝓤 H A W (rtF (fInt w64)) (tyRef (named 3) imm (tyInt w64)) 3, reads-sslice 𝓤 H A W (rtF (fInt w64)) (tyRef (named 3) imm (tyInt w64)) 3, refl, (spares-sslice 𝓤 H A W (rtF (fInt w64)) (tyRef (named 4) imm (tyInt w64)) 4, reads-sslice 𝓤 H A W (rtF (fInt w64)) (tyRef (named 4) imm (tyInt w64)) 4, refl, ((reads-sc 𝓤 H A W (sInt w64), refl), ((reads-sc 𝓤 H A W (sInt w64), refl), (spares-sslice 𝓤 H A W (rtF (fInt w32)) (tyRef (named 5) imm (tyInt w32)) 5, reads-sslice 𝓤 H A W (rtF (fInt w32)) (tyRef (named 5) imm (tyInt w32)) 5, refl, (spares-sslice 𝓤 H A W (rtF (fInt w32)) (tyRef (named 6) imm (tyInt w32)) 6, reads-sslice 𝓤 H A W (rtF (fInt w32)) (tyRef (named 6) imm (tyInt w32)) 6, refl, (spares-sslice 𝓤 H A W (rtF (fInt w32)) (tyRef (named 7) imm (tyInt w32)) 7, reads-sslice 𝓤 H A W (rtF (fInt w32)) (tyRef (named 7) imm (tyInt w32)) 7, refl, (spares-sslice 𝓤 H A W twin-0.the-row (tyRef (named 8) imm (pointee (twin-0.the-row .written))) 8, reads-sslice 𝓤 H A W twin-0.the-row (tyRef (named 8) imm (pointee (twin-0.the-row .written))) 8, refl, (as-is 𝓤 H A (mslice (rtF (fInt w16)) (tyRef erased mut (tyInt w16)) 19), reads-mslice 𝓤 H A W (rtF (fInt w16)) (tyRef erased mut (tyInt w16)) 19, refl, (as-is 𝓤 H A (mslice (rtF (fInt w32)) (tyRef erased mut (tyInt w32)) 20), reads-mslice 𝓤 H A W (rtF (fInt w32)) (tyRef erased mut (tyInt w32)) 20, refl, (as-is 𝓤 H A (mslice (rtF (fInt w64)) (tyRef erased mut (tyInt w64)) 21), reads-mslice 𝓤 H A W (rtF (fInt w64)) (tyRef erased mut (tyInt w64)) 21, refl, tt))))))))))))))) (room-gone 𝓤 H A _) _ refl) $
+      stmt (G80 κs qs) (G81 κs qs) (t-call-plain 𝓤 H A W 𝓣 10 K0.ps K0.r K0.Asked K0.Learnt "topology::two_desks::run_desk" known0 E (λ pos β. β) (G80 κs qs) (vAt 10 (λ x. x), (vAt 2 (λ x. x), (vAt 3 (λ x. x), (record { pos = 4; ty = tyRef (named 0) imm (tyInt w64); ref = λ x. x }, (record { pos = 11; ty = tyRef (named 3) imm (tyInt w64); ref = λ x. x }, (record { pos = 12; ty = tyRef (named 4) imm (tyInt w64); ref = λ x. x }, (vAt 5 (λ x. x), (vAt 6 (λ x. x), (record { pos = 13; ty = tyRef (named 5) imm (tyInt w32); ref = λ x. x }, (record { pos = 14; ty = tyRef (named 6) imm (tyInt w32); ref = λ x. x }, (record { pos = 15; ty = tyRef (named 7) imm (tyInt w32); ref = λ x. x }, (record { pos = 16; ty = tyRef (named 8) imm (pointee (twin-0.the-row .written)); ref = λ x. x }, (record { pos = 39; ty = tyRef erased mut (tyInt w16); ref = λ x. x }, (record { pos = 41; ty = tyRef erased mut (tyInt w32); ref = λ x. x }, (record { pos = 43; ty = tyRef erased mut (tyInt w64); ref = λ x. x }, tt))))))))))))))) 23 (0 ∷ 3 ∷ 4 ∷ 5 ∷ 6 ∷ 7 ∷ 8 ∷ 19 ∷ 20 ∷ 21 ∷ []) (sub-id 𝓤 H A W ((G80 κs qs) .slots)) ((reads-sc 𝓤 H A W (sInt w64), refl), ((reads-sc 𝓤 H A W (sInt w64), refl), ((reads-sc 𝓤 H A W (sInt w64), refl), (spares-sslice 𝓤 H A W (rtF (fInt w64)) (tyRef (named 0) imm (tyInt w64)) 0, reads-sslice 𝓤 H A W (rtF (fInt w64)) (tyRef (named 0) imm (tyInt w64)) 0, refl, (spares-sslice 𝓤 H A W (rtF (fInt w64)) (tyRef (named 3) imm (tyInt w64)) 3, reads-sslice 𝓤 H A W (rtF (fInt w64)) (tyRef (named 3) imm (tyInt w64)) 3, refl, (spares-sslice 𝓤 H A W (rtF (fInt w64)) (tyRef (named 4) imm (tyInt w64)) 4, reads-sslice 𝓤 H A W (rtF (fInt w64)) (tyRef (named 4) imm (tyInt w64)) 4, refl, ((reads-sc 𝓤 H A W (sInt w64), refl), ((reads-sc 𝓤 H A W (sInt w64), refl), (spares-sslice 𝓤 H A W (rtF (fInt w32)) (tyRef (named 5) imm (tyInt w32)) 5, reads-sslice 𝓤 H A W (rtF (fInt w32)) (tyRef (named 5) imm (tyInt w32)) 5, refl, (spares-sslice 𝓤 H A W (rtF (fInt w32)) (tyRef (named 6) imm (tyInt w32)) 6, reads-sslice 𝓤 H A W (rtF (fInt w32)) (tyRef (named 6) imm (tyInt w32)) 6, refl, (spares-sslice 𝓤 H A W (rtF (fInt w32)) (tyRef (named 7) imm (tyInt w32)) 7, reads-sslice 𝓤 H A W (rtF (fInt w32)) (tyRef (named 7) imm (tyInt w32)) 7, refl, (spares-sslice 𝓤 H A W twin-0.the-row (tyRef (named 8) imm (pointee (twin-0.the-row .written))) 8, reads-sslice 𝓤 H A W twin-0.the-row (tyRef (named 8) imm (pointee (twin-0.the-row .written))) 8, refl, (as-is 𝓤 H A (mslice (rtF (fInt w16)) (tyRef erased mut (tyInt w16)) 19), reads-mslice 𝓤 H A W (rtF (fInt w16)) (tyRef erased mut (tyInt w16)) 19, refl, (as-is 𝓤 H A (mslice (rtF (fInt w32)) (tyRef erased mut (tyInt w32)) 20), reads-mslice 𝓤 H A W (rtF (fInt w32)) (tyRef erased mut (tyInt w32)) 20, refl, (as-is 𝓤 H A (mslice (rtF (fInt w64)) (tyRef erased mut (tyInt w64)) 21), reads-mslice 𝓤 H A W (rtF (fInt w64)) (tyRef erased mut (tyInt w64)) 21, refl, tt))))))))))))))) (room-gone 𝓤 H A _) _ refl) $
       ghosts (G81 κs qs) _ (g-end 𝓤 H A W E (G81 κs qs) 19 refl) $
       ghosts _ _ (g-back-sl 𝓤 H A W E (rtF (fInt w16)) _ 39 17 9 19 (tyRef (named 9) mut (tyInt w16)) (tyRef erased mut (tyInt w16)) (lease (κs .1 .1 .1 .1 .1 .1 .1 .1 .1 .0) (qs .1 .1 .1 .1 .1 .1 .1 .1 .1 .0)) (λ x. x) (λ x. x) (as-is 𝓤 H A (msleft (rtF (fInt w16)) (tyRef erased mut (tyInt w16)))) (as-is 𝓤 H A (mslice-owed (rtF (fInt w16)) (tyRef (named 9) mut (tyInt w16)) 9 19 (lease (κs .1 .1 .1 .1 .1 .1 .1 .1 .1 .0) (qs .1 .1 .1 .1 .1 .1 .1 .1 .1 .0)))) refl refl) $
       ghosts _ (G85 κs qs) (g-forget 𝓤 H A W E _ 19 dead refl) $
@@ -326,7 +273,7 @@ module _ {M : Type 1} (𝓤 : URA M) (H : Heap 𝓤) (A : Atoms 𝓤) (W : Given
       ghosts (G44 κs qs) _ (g-begin 𝓤 H A W E (G44 κs qs) 18 _) $
       stmt _ _ (t-sl-relend 𝓤 H A W E (rtF (fInt w64)) 𝓣 _ 20 36 12 18 (tyRef (named 12) mut (tyInt w64)) (tyRef erased mut (tyInt w64)) (lease (κs .1 .1 .1 .1 .1 .1 .1 .1 .1 .1 .1 .1 .0) (qs .1 .1 .1 .1 .1 .1 .1 .1 .1 .1 .1 .1 .0)) 0 (λ x. x) (as-is 𝓤 H A (mslice (rtF (fInt w64)) (tyRef (named 12) mut (tyInt w64)) 12)) (room-gone 𝓤 H A (tyRef erased mut (tyInt w64))) refl tt refl refl refl (λ b o. tt)) $
       stmt _ (G47 κs qs) (t-sl-aggregate 𝓤 H A W E (rtF (fInt w64)) 𝓣 (asMut (rtF (fInt w64))) _ 36 37 18 (tyRef erased mut (tyInt w64)) (tyRef erased mut (tyInt w64)) (λ x. x) (oFld 20 (field 1 ∷ []) (tyInt w64) 8 (λ v. lenV (v .0))) (as-is 𝓤 H A (msptr (rtF (fInt w64)) (tyRef erased mut (tyInt w64)) 18)) (room-gone 𝓤 H A _) (reads-owed-len 𝓤 H A W (rtF (fInt w64)) (tyRef (named 12) mut (tyInt w64)) 12 18 (lease (κs .1 .1 .1 .1 .1 .1 .1 .1 .1 .1 .1 .1 .0) (qs .1 .1 .1 .1 .1 .1 .1 .1 .1 .1 .1 .1 .0)) 8 refl, refl) refl refl (λ b o k. tt)) $
-      stmt (G47 κs qs) (G48 κs qs) (t-call-plain 𝓤 H A W 𝓣 10 K0.ps K0.r R0.Asked R0.Learnt "topology::two_desks::run_desk" known0 E (λ pos β. β) (G47 κs qs) (vAt 10 (λ x. x), (vAt 2 (λ x. x), (vAt 3 (λ x. x), (record { pos = 4; ty = tyRef (named 0) imm (tyInt w64); ref = λ x. x }, (record { pos = 11; ty = tyRef (named 3) imm (tyInt w64); ref = λ x. x }, (record { pos = 12; ty = tyRef (named 4) imm (tyInt w64); ref = λ x. x }, (vAt 5 (λ x. x), (vAt 6 (λ x. x), (record { pos = 13; ty = tyRef (named 5) imm (tyInt w32); ref = λ x. x }, (record { pos = 14; ty = tyRef (named 6) imm (tyInt w32); ref = λ x. x }, (record { pos = 15; ty = tyRef (named 7) imm (tyInt w32); ref = λ x. x }, (record { pos = 16; ty = tyRef (named 8) imm (pointee (twin-0.the-row .written)); ref = λ x. x }, (record { pos = 33; ty = tyRef erased mut (tyInt w16); ref = λ x. x }, (record { pos = 35; ty = tyRef erased mut (tyInt w32); ref = λ x. x }, (record { pos = 37; ty = tyRef erased mut (tyInt w64); ref = λ x. x }, tt))))))))))))))) 22 (0 ∷ 3 ∷ 4 ∷ 5 ∷ 6 ∷ 7 ∷ 8 ∷ 16 ∷ 17 ∷ 18 ∷ []) (sub-id 𝓤 H A W ((G47 κs qs) .slots)) ((reads-sc 𝓤 H A W (sInt w64), refl), ((reads-sc 𝓤 H A W (sInt w64), refl), ((reads-sc 𝓤 H A W (sInt w64), refl), (spares-sslice 𝓤 H A W (rtF (fInt w64)) (tyRef (named 0) imm (tyInt w64)) 0, reads-sslice 𝓤 H A W (rtF (fInt w64)) (tyRef (named 0) imm (tyInt w64)) 0, refl, (spares-sslice 𝓤 H A W (rtF (fInt w64)) (tyRef (named 3) imm (tyInt w64)) 3, reads-sslice 𝓤 H A W (rtF (fInt w64)) (tyRef (named 3) imm (tyInt w64)) 3, refl, (spares-sslice 𝓤 H A W (rtF (fInt w64)) (tyRef (named 4) imm (tyInt w64)) 4, reads-sslice 𝓤 H A W (rtF (fInt w64)) (tyRef (named 4) imm (tyInt w64)) 4, refl, ((reads-sc 𝓤 H A W (sInt w64), refl), ((reads-sc 𝓤 H A W (sInt w64), refl), (spares-sslice 𝓤 H A W (rtF (fInt w32)) (tyRef (named 5) imm (tyInt w32)) 5, reads-sslice 𝓤 H A W (rtF (fInt w32)) (tyRef (named 5) imm (tyInt w32)) 5, refl, (spares-sslice 𝓤 H A W (rtF (fInt w32)) (tyRef (named 6) imm (tyInt w32)) 6, reads-sslice 𝓤 H A W (rtF (fInt w32)) (tyRef (named 6) imm (tyInt w32)) 6, refl, (spares-sslice 𝓤 H A W (rtF (fInt w32)) (tyRef (named 7) imm (tyInt w32)) 7, reads-sslice 𝓤 H A W (rtF (fInt w32)) (tyRef (named 7) imm (tyInt w32)) 7, refl, (spares-sslice 𝓤 H A W twin-0.the-row (tyRef (named 8) imm (pointee (twin-0.the-row .written))) 8, reads-sslice 𝓤 H A W twin-0.the-row (tyRef (named 8) imm (pointee (twin-0.the-row .written))) 8, refl, (as-is 𝓤 H A (mslice (rtF (fInt w16)) (tyRef erased mut (tyInt w16)) 16), reads-mslice 𝓤 H A W (rtF (fInt w16)) (tyRef erased mut (tyInt w16)) 16, refl, (as-is 𝓤 H A (mslice (rtF (fInt w32)) (tyRef erased mut (tyInt w32)) 17), reads-mslice 𝓤 H A W (rtF (fInt w32)) (tyRef erased mut (tyInt w32)) 17, refl, (as-is 𝓤 H A (mslice (rtF (fInt w64)) (tyRef erased mut (tyInt w64)) 18), reads-mslice 𝓤 H A W (rtF (fInt w64)) (tyRef erased mut (tyInt w64)) 18, refl, tt))))))))))))))) (room-gone 𝓤 H A _) _ refl) $
+      stmt (G47 κs qs) (G48 κs qs) (t-call-plain 𝓤 H A W 𝓣 10 K0.ps K0.r K0.Asked K0.Learnt "topology::two_desks::run_desk" known0 E (λ pos β. β) (G47 κs qs) (vAt 10 (λ x. x), (vAt 2 (λ x. x), (vAt 3 (λ x. x), (record { pos = 4; ty = tyRef (named 0) imm (tyInt w64); ref = λ x. x }, (record { pos = 11; ty = tyRef (named 3) imm (tyInt w64); ref = λ x. x }, (record { pos = 12; ty = tyRef (named 4) imm (tyInt w64); ref = λ x. x }, (vAt 5 (λ x. x), (vAt 6 (λ x. x), (record { pos = 13; ty = tyRef (named 5) imm (tyInt w32); ref = λ x. x }, (record { pos = 14; ty = tyRef (named 6) imm (tyInt w32); ref = λ x. x }, (record { pos = 15; ty = tyRef (named 7) imm (tyInt w32); ref = λ x. x }, (record { pos = 16; ty = tyRef (named 8) imm (pointee (twin-0.the-row .written)); ref = λ x. x }, (record { pos = 33; ty = tyRef erased mut (tyInt w16); ref = λ x. x }, (record { pos = 35; ty = tyRef erased mut (tyInt w32); ref = λ x. x }, (record { pos = 37; ty = tyRef erased mut (tyInt w64); ref = λ x. x }, tt))))))))))))))) 22 (0 ∷ 3 ∷ 4 ∷ 5 ∷ 6 ∷ 7 ∷ 8 ∷ 16 ∷ 17 ∷ 18 ∷ []) (sub-id 𝓤 H A W ((G47 κs qs) .slots)) ((reads-sc 𝓤 H A W (sInt w64), refl), ((reads-sc 𝓤 H A W (sInt w64), refl), ((reads-sc 𝓤 H A W (sInt w64), refl), (spares-sslice 𝓤 H A W (rtF (fInt w64)) (tyRef (named 0) imm (tyInt w64)) 0, reads-sslice 𝓤 H A W (rtF (fInt w64)) (tyRef (named 0) imm (tyInt w64)) 0, refl, (spares-sslice 𝓤 H A W (rtF (fInt w64)) (tyRef (named 3) imm (tyInt w64)) 3, reads-sslice 𝓤 H A W (rtF (fInt w64)) (tyRef (named 3) imm (tyInt w64)) 3, refl, (spares-sslice 𝓤 H A W (rtF (fInt w64)) (tyRef (named 4) imm (tyInt w64)) 4, reads-sslice 𝓤 H A W (rtF (fInt w64)) (tyRef (named 4) imm (tyInt w64)) 4, refl, ((reads-sc 𝓤 H A W (sInt w64), refl), ((reads-sc 𝓤 H A W (sInt w64), refl), (spares-sslice 𝓤 H A W (rtF (fInt w32)) (tyRef (named 5) imm (tyInt w32)) 5, reads-sslice 𝓤 H A W (rtF (fInt w32)) (tyRef (named 5) imm (tyInt w32)) 5, refl, (spares-sslice 𝓤 H A W (rtF (fInt w32)) (tyRef (named 6) imm (tyInt w32)) 6, reads-sslice 𝓤 H A W (rtF (fInt w32)) (tyRef (named 6) imm (tyInt w32)) 6, refl, (spares-sslice 𝓤 H A W (rtF (fInt w32)) (tyRef (named 7) imm (tyInt w32)) 7, reads-sslice 𝓤 H A W (rtF (fInt w32)) (tyRef (named 7) imm (tyInt w32)) 7, refl, (spares-sslice 𝓤 H A W twin-0.the-row (tyRef (named 8) imm (pointee (twin-0.the-row .written))) 8, reads-sslice 𝓤 H A W twin-0.the-row (tyRef (named 8) imm (pointee (twin-0.the-row .written))) 8, refl, (as-is 𝓤 H A (mslice (rtF (fInt w16)) (tyRef erased mut (tyInt w16)) 16), reads-mslice 𝓤 H A W (rtF (fInt w16)) (tyRef erased mut (tyInt w16)) 16, refl, (as-is 𝓤 H A (mslice (rtF (fInt w32)) (tyRef erased mut (tyInt w32)) 17), reads-mslice 𝓤 H A W (rtF (fInt w32)) (tyRef erased mut (tyInt w32)) 17, refl, (as-is 𝓤 H A (mslice (rtF (fInt w64)) (tyRef erased mut (tyInt w64)) 18), reads-mslice 𝓤 H A W (rtF (fInt w64)) (tyRef erased mut (tyInt w64)) 18, refl, tt))))))))))))))) (room-gone 𝓤 H A _) _ refl) $
       ghosts (G48 κs qs) _ (g-end 𝓤 H A W E (G48 κs qs) 16 refl) $
       ghosts _ _ (g-back-sl 𝓤 H A W E (rtF (fInt w16)) _ 33 17 9 16 (tyRef (named 9) mut (tyInt w16)) (tyRef erased mut (tyInt w16)) (lease (κs .1 .1 .1 .1 .1 .1 .1 .1 .1 .0) (qs .1 .1 .1 .1 .1 .1 .1 .1 .1 .0)) (λ x. x) (λ x. x) (as-is 𝓤 H A (msleft (rtF (fInt w16)) (tyRef erased mut (tyInt w16)))) (as-is 𝓤 H A (mslice-owed (rtF (fInt w16)) (tyRef (named 9) mut (tyInt w16)) 9 16 (lease (κs .1 .1 .1 .1 .1 .1 .1 .1 .1 .0) (qs .1 .1 .1 .1 .1 .1 .1 .1 .1 .0)))) refl refl) $
       ghosts _ (G52 κs qs) (g-forget 𝓤 H A W E _ 16 dead refl) $
@@ -359,7 +306,7 @@ module _ {M : Type 1} (𝓤 : URA M) (H : Heap 𝓤) (A : Atoms 𝓤) (W : Given
       ghosts (G22 κs qs) _ (g-begin 𝓤 H A W E (G22 κs qs) 15 _) $
       stmt _ _ (t-sl-relend 𝓤 H A W E (rtF (fInt w64)) 𝓣 _ 19 30 11 15 (tyRef (named 11) mut (tyInt w64)) (tyRef erased mut (tyInt w64)) (lease (κs .1 .1 .1 .1 .1 .1 .1 .1 .1 .1 .1 .0) (qs .1 .1 .1 .1 .1 .1 .1 .1 .1 .1 .1 .0)) 0 (λ x. x) (as-is 𝓤 H A (mslice (rtF (fInt w64)) (tyRef (named 11) mut (tyInt w64)) 11)) (room-gone 𝓤 H A (tyRef erased mut (tyInt w64))) refl tt refl refl refl (λ b o. tt)) $
       stmt _ (G25 κs qs) (t-sl-aggregate 𝓤 H A W E (rtF (fInt w64)) 𝓣 (asMut (rtF (fInt w64))) _ 30 31 15 (tyRef erased mut (tyInt w64)) (tyRef erased mut (tyInt w64)) (λ x. x) (oFld 19 (field 1 ∷ []) (tyInt w64) 8 (λ v. lenV (v .0))) (as-is 𝓤 H A (msptr (rtF (fInt w64)) (tyRef erased mut (tyInt w64)) 15)) (room-gone 𝓤 H A _) (reads-owed-len 𝓤 H A W (rtF (fInt w64)) (tyRef (named 11) mut (tyInt w64)) 11 15 (lease (κs .1 .1 .1 .1 .1 .1 .1 .1 .1 .1 .1 .0) (qs .1 .1 .1 .1 .1 .1 .1 .1 .1 .1 .1 .0)) 8 refl, refl) refl refl (λ b o k. tt)) $
-      stmt (G25 κs qs) (G26 κs qs) (t-call-plain 𝓤 H A W 𝓣 10 K0.ps K0.r R0.Asked R0.Learnt "topology::two_desks::run_desk" known0 E (λ pos β. β) (G25 κs qs) (vAt 7 (λ x. x), (vAt 2 (λ x. x), (vAt 3 (λ x. x), (record { pos = 4; ty = tyRef (named 0) imm (tyInt w64); ref = λ x. x }, (record { pos = 8; ty = tyRef (named 1) imm (tyInt w64); ref = λ x. x }, (record { pos = 9; ty = tyRef (named 2) imm (tyInt w64); ref = λ x. x }, (vAt 5 (λ x. x), (vAt 6 (λ x. x), (record { pos = 13; ty = tyRef (named 5) imm (tyInt w32); ref = λ x. x }, (record { pos = 14; ty = tyRef (named 6) imm (tyInt w32); ref = λ x. x }, (record { pos = 15; ty = tyRef (named 7) imm (tyInt w32); ref = λ x. x }, (record { pos = 16; ty = tyRef (named 8) imm (pointee (twin-0.the-row .written)); ref = λ x. x }, (record { pos = 27; ty = tyRef erased mut (tyInt w16); ref = λ x. x }, (record { pos = 29; ty = tyRef erased mut (tyInt w32); ref = λ x. x }, (record { pos = 31; ty = tyRef erased mut (tyInt w64); ref = λ x. x }, tt))))))))))))))) 21 (0 ∷ 1 ∷ 2 ∷ 5 ∷ 6 ∷ 7 ∷ 8 ∷ 13 ∷ 14 ∷ 15 ∷ []) (sub-id 𝓤 H A W ((G25 κs qs) .slots)) ((reads-sc 𝓤 H A W (sInt w64), refl), ((reads-sc 𝓤 H A W (sInt w64), refl), ((reads-sc 𝓤 H A W (sInt w64), refl), (spares-sslice 𝓤 H A W (rtF (fInt w64)) (tyRef (named 0) imm (tyInt w64)) 0, reads-sslice 𝓤 H A W (rtF (fInt w64)) (tyRef (named 0) imm (tyInt w64)) 0, refl, (spares-sslice 𝓤 H A W (rtF (fInt w64)) (tyRef (named 1) imm (tyInt w64)) 1, reads-sslice 𝓤 H A W (rtF (fInt w64)) (tyRef (named 1) imm (tyInt w64)) 1, refl, (spares-sslice 𝓤 H A W (rtF (fInt w64)) (tyRef (named 2) imm (tyInt w64)) 2, reads-sslice 𝓤 H A W (rtF (fInt w64)) (tyRef (named 2) imm (tyInt w64)) 2, refl, ((reads-sc 𝓤 H A W (sInt w64), refl), ((reads-sc 𝓤 H A W (sInt w64), refl), (spares-sslice 𝓤 H A W (rtF (fInt w32)) (tyRef (named 5) imm (tyInt w32)) 5, reads-sslice 𝓤 H A W (rtF (fInt w32)) (tyRef (named 5) imm (tyInt w32)) 5, refl, (spares-sslice 𝓤 H A W (rtF (fInt w32)) (tyRef (named 6) imm (tyInt w32)) 6, reads-sslice 𝓤 H A W (rtF (fInt w32)) (tyRef (named 6) imm (tyInt w32)) 6, refl, (spares-sslice 𝓤 H A W (rtF (fInt w32)) (tyRef (named 7) imm (tyInt w32)) 7, reads-sslice 𝓤 H A W (rtF (fInt w32)) (tyRef (named 7) imm (tyInt w32)) 7, refl, (spares-sslice 𝓤 H A W twin-0.the-row (tyRef (named 8) imm (pointee (twin-0.the-row .written))) 8, reads-sslice 𝓤 H A W twin-0.the-row (tyRef (named 8) imm (pointee (twin-0.the-row .written))) 8, refl, (as-is 𝓤 H A (mslice (rtF (fInt w16)) (tyRef erased mut (tyInt w16)) 13), reads-mslice 𝓤 H A W (rtF (fInt w16)) (tyRef erased mut (tyInt w16)) 13, refl, (as-is 𝓤 H A (mslice (rtF (fInt w32)) (tyRef erased mut (tyInt w32)) 14), reads-mslice 𝓤 H A W (rtF (fInt w32)) (tyRef erased mut (tyInt w32)) 14, refl, (as-is 𝓤 H A (mslice (rtF (fInt w64)) (tyRef erased mut (tyInt w64)) 15), reads-mslice 𝓤 H A W (rtF (fInt w64)) (tyRef erased mut (tyInt w64)) 15, refl, tt))))))))))))))) (room-gone 𝓤 H A _) _ refl) $
+      stmt (G25 κs qs) (G26 κs qs) (t-call-plain 𝓤 H A W 𝓣 10 K0.ps K0.r K0.Asked K0.Learnt "topology::two_desks::run_desk" known0 E (λ pos β. β) (G25 κs qs) (vAt 7 (λ x. x), (vAt 2 (λ x. x), (vAt 3 (λ x. x), (record { pos = 4; ty = tyRef (named 0) imm (tyInt w64); ref = λ x. x }, (record { pos = 8; ty = tyRef (named 1) imm (tyInt w64); ref = λ x. x }, (record { pos = 9; ty = tyRef (named 2) imm (tyInt w64); ref = λ x. x }, (vAt 5 (λ x. x), (vAt 6 (λ x. x), (record { pos = 13; ty = tyRef (named 5) imm (tyInt w32); ref = λ x. x }, (record { pos = 14; ty = tyRef (named 6) imm (tyInt w32); ref = λ x. x }, (record { pos = 15; ty = tyRef (named 7) imm (tyInt w32); ref = λ x. x }, (record { pos = 16; ty = tyRef (named 8) imm (pointee (twin-0.the-row .written)); ref = λ x. x }, (record { pos = 27; ty = tyRef erased mut (tyInt w16); ref = λ x. x }, (record { pos = 29; ty = tyRef erased mut (tyInt w32); ref = λ x. x }, (record { pos = 31; ty = tyRef erased mut (tyInt w64); ref = λ x. x }, tt))))))))))))))) 21 (0 ∷ 1 ∷ 2 ∷ 5 ∷ 6 ∷ 7 ∷ 8 ∷ 13 ∷ 14 ∷ 15 ∷ []) (sub-id 𝓤 H A W ((G25 κs qs) .slots)) ((reads-sc 𝓤 H A W (sInt w64), refl), ((reads-sc 𝓤 H A W (sInt w64), refl), ((reads-sc 𝓤 H A W (sInt w64), refl), (spares-sslice 𝓤 H A W (rtF (fInt w64)) (tyRef (named 0) imm (tyInt w64)) 0, reads-sslice 𝓤 H A W (rtF (fInt w64)) (tyRef (named 0) imm (tyInt w64)) 0, refl, (spares-sslice 𝓤 H A W (rtF (fInt w64)) (tyRef (named 1) imm (tyInt w64)) 1, reads-sslice 𝓤 H A W (rtF (fInt w64)) (tyRef (named 1) imm (tyInt w64)) 1, refl, (spares-sslice 𝓤 H A W (rtF (fInt w64)) (tyRef (named 2) imm (tyInt w64)) 2, reads-sslice 𝓤 H A W (rtF (fInt w64)) (tyRef (named 2) imm (tyInt w64)) 2, refl, ((reads-sc 𝓤 H A W (sInt w64), refl), ((reads-sc 𝓤 H A W (sInt w64), refl), (spares-sslice 𝓤 H A W (rtF (fInt w32)) (tyRef (named 5) imm (tyInt w32)) 5, reads-sslice 𝓤 H A W (rtF (fInt w32)) (tyRef (named 5) imm (tyInt w32)) 5, refl, (spares-sslice 𝓤 H A W (rtF (fInt w32)) (tyRef (named 6) imm (tyInt w32)) 6, reads-sslice 𝓤 H A W (rtF (fInt w32)) (tyRef (named 6) imm (tyInt w32)) 6, refl, (spares-sslice 𝓤 H A W (rtF (fInt w32)) (tyRef (named 7) imm (tyInt w32)) 7, reads-sslice 𝓤 H A W (rtF (fInt w32)) (tyRef (named 7) imm (tyInt w32)) 7, refl, (spares-sslice 𝓤 H A W twin-0.the-row (tyRef (named 8) imm (pointee (twin-0.the-row .written))) 8, reads-sslice 𝓤 H A W twin-0.the-row (tyRef (named 8) imm (pointee (twin-0.the-row .written))) 8, refl, (as-is 𝓤 H A (mslice (rtF (fInt w16)) (tyRef erased mut (tyInt w16)) 13), reads-mslice 𝓤 H A W (rtF (fInt w16)) (tyRef erased mut (tyInt w16)) 13, refl, (as-is 𝓤 H A (mslice (rtF (fInt w32)) (tyRef erased mut (tyInt w32)) 14), reads-mslice 𝓤 H A W (rtF (fInt w32)) (tyRef erased mut (tyInt w32)) 14, refl, (as-is 𝓤 H A (mslice (rtF (fInt w64)) (tyRef erased mut (tyInt w64)) 15), reads-mslice 𝓤 H A W (rtF (fInt w64)) (tyRef erased mut (tyInt w64)) 15, refl, tt))))))))))))))) (room-gone 𝓤 H A _) _ refl) $
       ghosts (G26 κs qs) _ (g-end 𝓤 H A W E (G26 κs qs) 13 refl) $
       ghosts _ _ (g-back-sl 𝓤 H A W E (rtF (fInt w16)) _ 27 17 9 13 (tyRef (named 9) mut (tyInt w16)) (tyRef erased mut (tyInt w16)) (lease (κs .1 .1 .1 .1 .1 .1 .1 .1 .1 .0) (qs .1 .1 .1 .1 .1 .1 .1 .1 .1 .0)) (λ x. x) (λ x. x) (as-is 𝓤 H A (msleft (rtF (fInt w16)) (tyRef erased mut (tyInt w16)))) (as-is 𝓤 H A (mslice-owed (rtF (fInt w16)) (tyRef (named 9) mut (tyInt w16)) 9 13 (lease (κs .1 .1 .1 .1 .1 .1 .1 .1 .1 .0) (qs .1 .1 .1 .1 .1 .1 .1 .1 .1 .0)))) refl refl) $
       ghosts _ (G30 κs qs) (g-forget 𝓤 H A W E _ 13 dead refl) $
@@ -384,8 +331,8 @@ module _ {M : Type 1} (𝓤 : URA M) (H : Heap 𝓤) (A : Atoms 𝓤) (W : Given
 
 -- the derivations at a model
 module _ (w : World) where
-  abbrev known0-at : Knows (w .𝓤) (w .H) (w .𝓖 .A) (Wof w) (𝓣of w code.env) 10 K0.ps K0.r R0.Asked R0.Learnt "topology::two_desks::run_desk"
-  known0-at = R0.known w code.env S0.name S0.routine code.calls-topology·two-desks·run-desk (M0.met (w .𝓤) (w .H) (w .𝓜) (w .𝓖) (w .𝓡))
+  abbrev known0-at : Knows (w .𝓤) (w .H) (w .𝓖 .A) (Wof w) (𝓣of w code.env) 10 K0.ps K0.r K0.Asked K0.Learnt "topology::two_desks::run_desk"
+  known0-at = K0.known w code.env S0.name S0.routine code.calls-topology·two-desks·run-desk (M0.met (w .𝓤) (w .H) (w .𝓜) (w .𝓖) (w .𝓡))
 
   abbrev known1-at : Knows (w .𝓤) (w .H) (w .𝓖 .A) (Wof w) (𝓣of w code.env) 0 K1.ps K1.r R1.Asked R1.Learnt "topology::two_desks::both"
   known1-at = R1.known w code.env S1.name S1.routine code.calls-topology·two-desks·both (M1.met (w .𝓤) (w .H) (w .𝓜) (w .𝓖) (w .𝓡))

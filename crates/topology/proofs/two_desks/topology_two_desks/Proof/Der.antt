@@ -17,23 +17,20 @@ use Rattle.topology.proofs.two_desks.refused_both.Kinds as K1
 use Rattle.topology.proofs.two_desks.refused_both.Reads as R1
 use Rattle.topology.proofs.two_desks.refused_both.Symbol as S1
 use Rattle.topology.proofs.two_desks.refused_both.Met as M1
-use Rattle.topology.proofs.Seen.records.fill.Kinds as K2
-use Rattle.topology.proofs.Seen.records.fill.Reads as R2
+use Rattle.topology.proofs.Seen.records.fill as K2
 use Rattle.topology.proofs.records.fill.Symbol as S2
 use Rattle.topology.proofs.records.fill.Met as M2
 use Rattle.call_partition.proofs.scratch.clear_scratch.Kinds as K3
 use Rattle.call_partition.proofs.scratch.clear_scratch.Reads as R3
 use Rattle.call_partition.proofs.scratch.clear_scratch.Symbol as S3
 use Rattle.call_partition.proofs.scratch.clear_scratch.Met as M3
-use Rattle.topology.proofs.Seen.two_desks.run_desks.Kinds as K4
-use Rattle.topology.proofs.Seen.two_desks.run_desks.Reads as R4
+use Rattle.topology.proofs.Seen.two_desks.run_desks as K4
 use Rattle.topology.proofs.two_desks.run_desks.Symbol as S4
 use Rattle.topology.proofs.two_desks.run_desks.Met as M4
-use Rattle.topology.proofs.Seen.two_desks.topology_two_desks.Kinds.{ps, r}
 use Rattle.topology.proofs.two_desks.topology_two_desks.Code as code
 use contract.Running
 use Rattle.topology.proofs.Contracts.{Answers, Post, Pre, Wof, met, 𝓣of}
-use Rattle.topology.proofs.Seen.two_desks.topology_two_desks.Reads.{the-contract}
+use Rattle.topology.proofs.Seen.two_desks.topology_two_desks.{ps, r, the-contract}
 use Rattle.topology.proofs.two_desks.topology_two_desks.Key as key
 use Rattle.topology.proofs.two_desks.topology_two_desks.Statement.{statement}
 use Rattle.topology.proofs.Steps.{Der, _$_, arm-of, first, ghosts, head-of, homes, last, past, patched, rets, stmt, switches, then, typesPast}
@@ -57,47 +54,29 @@ module _ (κs : Lfts 14) (qs : Shares 14) where
   abbrev row2 : Row
   row2 = mslice-owed (rtF (fInt w32)) (tyRef (named 6) mut (tyInt w32)) 6 14 (lease (κs .1 .1 .1 .1 .1 .1 .0) (qs .1 .1 .1 .1 .1 .1 .0))
 
-  abbrev row3 : Row
-  row3 = msptr (rtF (fInt w32)) (tyRef erased mut (tyInt w32)) 14
+  abbrev row3 : ℕ → Row
+  row3 k = msptr (rtF (fInt w32)) (tyRef erased mut (tyInt w32)) k
 
-  abbrev row4 : Row
-  row4 = mslice (rtF (fInt w32)) (tyRef erased mut (tyInt w32)) 14
+  abbrev row4 : ℕ → Row
+  row4 k = mslice (rtF (fInt w32)) (tyRef erased mut (tyInt w32)) k
 
-  abbrev row5 : Row
-  row5 = mslice-owed (rtF (fInt w16)) (tyRef (named 7) mut (tyInt w16)) 7 15 (lease (κs .1 .1 .1 .1 .1 .1 .1 .0) (qs .1 .1 .1 .1 .1 .1 .1 .0))
+  abbrev row5 : ℕ → Row
+  row5 k = mslice-owed (rtF (fInt w16)) (tyRef (named 7) mut (tyInt w16)) 7 k (lease (κs .1 .1 .1 .1 .1 .1 .1 .0) (qs .1 .1 .1 .1 .1 .1 .1 .0))
 
   abbrev row6 : Row
   row6 = msptr (rtF (fInt w16)) (tyRef erased mut (tyInt w16)) 15
 
-  abbrev row7 : Row
-  row7 = mslice (rtF (fInt w16)) (tyRef erased mut (tyInt w16)) 15
+  abbrev row7 : ℕ → Row
+  row7 k = mslice (rtF (fInt w16)) (tyRef erased mut (tyInt w16)) k
 
-  abbrev row8 : Row
-  row8 = mslice-owed (rtF (fInt w32)) (tyRef (named 8) mut (tyInt w32)) 8 16 (lease (κs .1 .1 .1 .1 .1 .1 .1 .1 .0) (qs .1 .1 .1 .1 .1 .1 .1 .1 .0))
-
-  abbrev row9 : Row
-  row9 = msptr (rtF (fInt w32)) (tyRef erased mut (tyInt w32)) 16
-
-  abbrev row10 : Row
-  row10 = mslice (rtF (fInt w32)) (tyRef erased mut (tyInt w32)) 16
+  abbrev row8 : ℕ → Row
+  row8 k = mslice-owed (rtF (fInt w32)) (tyRef (named 8) mut (tyInt w32)) 8 k (lease (κs .1 .1 .1 .1 .1 .1 .1 .1 .0) (qs .1 .1 .1 .1 .1 .1 .1 .1 .0))
 
   abbrev row11 : Row
   row11 = mslice-owed (rtF (fInt w32)) (tyRef (named 9) mut (tyInt w32)) 9 17 (lease (κs .1 .1 .1 .1 .1 .1 .1 .1 .1 .0) (qs .1 .1 .1 .1 .1 .1 .1 .1 .1 .0))
 
-  abbrev row12 : Row
-  row12 = msptr (rtF (fInt w32)) (tyRef erased mut (tyInt w32)) 17
-
-  abbrev row13 : Row
-  row13 = mslice (rtF (fInt w32)) (tyRef erased mut (tyInt w32)) 17
-
   abbrev row14 : Row
   row14 = mslice-owed (rtF (fInt w32)) (tyRef (named 10) mut (tyInt w32)) 10 18 (lease (κs .1 .1 .1 .1 .1 .1 .1 .1 .1 .1 .0) (qs .1 .1 .1 .1 .1 .1 .1 .1 .1 .1 .0))
-
-  abbrev row15 : Row
-  row15 = msptr (rtF (fInt w32)) (tyRef erased mut (tyInt w32)) 18
-
-  abbrev row16 : Row
-  row16 = mslice (rtF (fInt w32)) (tyRef erased mut (tyInt w32)) 18
 
   abbrev row17 : Row
   row17 = whole (Declared.row Prepared.the-type)
@@ -111,11 +90,8 @@ module _ (κs : Lfts 14) (qs : Shares 14) where
   abbrev row20 : Row
   row20 = whole (Declared'.row DesksAnswer.the-type)
 
-  abbrev row21 : Row
-  row21 = whole (Known enum 0)
-
-  abbrev row22 : Row
-  row22 = whole (Known enum 1)
+  abbrev row21 : ℕ → Row
+  row21 k = whole (Known enum k)
 
   abbrev row23 : Row
   row23 = mslice-owed twin-0.the-row (tyRef (named 11) mut (pointee (twin-0.the-row .written))) 11 19 (lease (κs .1 .1 .1 .1 .1 .1 .1 .1 .1 .1 .1 .0) (qs .1 .1 .1 .1 .1 .1 .1 .1 .1 .1 .1 .0))
@@ -123,17 +99,14 @@ module _ (κs : Lfts 14) (qs : Shares 14) where
   abbrev row25 : Row
   row25 = mslice twin-0.the-row (tyRef erased mut (pointee (twin-0.the-row .written))) 19
 
-  abbrev row26 : Row
-  row26 = mslice-owedS (rtF (fInt w32)) (tyRef (named 6) mut (tyInt w32)) 6 20 (lease (κs .1 .1 .1 .1 .1 .1 .0) (qs .1 .1 .1 .1 .1 .1 .0))
+  abbrev row26 : ℕ → Row
+  row26 k = mslice-owedS (rtF (fInt w32)) (tyRef (named 6) mut (tyInt w32)) 6 k (lease (κs .1 .1 .1 .1 .1 .1 .0) (qs .1 .1 .1 .1 .1 .1 .0))
 
-  abbrev row28 : Row
-  row28 = sslice (rtF (fInt w32)) (tyRef erased imm (tyInt w32)) 20
+  abbrev row28 : ℕ → Row
+  row28 k = sslice (rtF (fInt w32)) (tyRef erased imm (tyInt w32)) k
 
   abbrev row29 : Row
   row29 = mslice-owedS (rtF (fInt w32)) (tyRef (named 8) mut (tyInt w32)) 8 21 (lease (κs .1 .1 .1 .1 .1 .1 .1 .1 .0) (qs .1 .1 .1 .1 .1 .1 .1 .1 .0))
-
-  abbrev row31 : Row
-  row31 = sslice (rtF (fInt w32)) (tyRef erased imm (tyInt w32)) 21
 
   abbrev row32 : Row
   row32 = sc-here sUnit
@@ -141,35 +114,11 @@ module _ (κs : Lfts 14) (qs : Shares 14) where
   abbrev row33 : Row
   row33 = msleft twin-0.the-row (tyRef erased mut (pointee (twin-0.the-row .written)))
 
-  abbrev row34 : Row
-  row34 = mslice-owed (rtF (fInt w16)) (tyRef (named 7) mut (tyInt w16)) 7 22 (lease (κs .1 .1 .1 .1 .1 .1 .1 .0) (qs .1 .1 .1 .1 .1 .1 .1 .0))
-
-  abbrev row36 : Row
-  row36 = mslice (rtF (fInt w16)) (tyRef erased mut (tyInt w16)) 22
-
-  abbrev row37 : Row
-  row37 = mslice-owed (rtF (fInt w32)) (tyRef (named 8) mut (tyInt w32)) 8 23 (lease (κs .1 .1 .1 .1 .1 .1 .1 .1 .0) (qs .1 .1 .1 .1 .1 .1 .1 .1 .0))
-
-  abbrev row39 : Row
-  row39 = mslice (rtF (fInt w32)) (tyRef erased mut (tyInt w32)) 23
-
-  abbrev row40 : Row
-  row40 = mslice-owedS (rtF (fInt w32)) (tyRef (named 6) mut (tyInt w32)) 6 24 (lease (κs .1 .1 .1 .1 .1 .1 .0) (qs .1 .1 .1 .1 .1 .1 .0))
-
-  abbrev row42 : Row
-  row42 = sslice (rtF (fInt w32)) (tyRef erased imm (tyInt w32)) 24
-
   abbrev row43 : Row
   row43 = mslice-owedS (rtF (fInt w32)) (tyRef (named 9) mut (tyInt w32)) 9 25 (lease (κs .1 .1 .1 .1 .1 .1 .1 .1 .1 .0) (qs .1 .1 .1 .1 .1 .1 .1 .1 .1 .0))
 
-  abbrev row45 : Row
-  row45 = sslice (rtF (fInt w32)) (tyRef erased imm (tyInt w32)) 25
-
   abbrev row46 : Row
   row46 = mslice-owedS (rtF (fInt w32)) (tyRef (named 10) mut (tyInt w32)) 10 26 (lease (κs .1 .1 .1 .1 .1 .1 .1 .1 .1 .1 .0) (qs .1 .1 .1 .1 .1 .1 .1 .1 .1 .1 .0))
-
-  abbrev row48 : Row
-  row48 = sslice (rtF (fInt w32)) (tyRef erased imm (tyInt w32)) 26
 
   abbrev row49 : Row
   row49 = mslice-owedS twin-0.the-row (tyRef (named 11) mut (pointee (twin-0.the-row .written))) 11 27 (lease (κs .1 .1 .1 .1 .1 .1 .1 .1 .1 .1 .1 .0) (qs .1 .1 .1 .1 .1 .1 .1 .1 .1 .1 .1 .0))
@@ -177,62 +126,47 @@ module _ (κs : Lfts 14) (qs : Shares 14) where
   abbrev row51 : Row
   row51 = sslice twin-0.the-row (tyRef erased imm (pointee (twin-0.the-row .written))) 27
 
-  abbrev row52 : Row
-  row52 = mslice-owed (rtF (fInt w16)) (tyRef (named 7) mut (tyInt w16)) 7 28 (lease (κs .1 .1 .1 .1 .1 .1 .1 .0) (qs .1 .1 .1 .1 .1 .1 .1 .0))
-
-  abbrev row54 : Row
-  row54 = mslice (rtF (fInt w16)) (tyRef erased mut (tyInt w16)) 28
-
-  abbrev row55 : Row
-  row55 = mslice-owed (rtF (fInt w32)) (tyRef (named 8) mut (tyInt w32)) 8 29 (lease (κs .1 .1 .1 .1 .1 .1 .1 .1 .0) (qs .1 .1 .1 .1 .1 .1 .1 .1 .0))
-
-  abbrev row57 : Row
-  row57 = mslice (rtF (fInt w32)) (tyRef erased mut (tyInt w32)) 29
-
   abbrev row58 : Row
   row58 = mslice-owed (rtF (fInt w64)) (tyRef (named 12) mut (tyInt w64)) 12 30 (lease (κs .1 .1 .1 .1 .1 .1 .1 .1 .1 .1 .1 .1 .0) (qs .1 .1 .1 .1 .1 .1 .1 .1 .1 .1 .1 .1 .0))
 
-  abbrev row60 : Row
-  row60 = mslice (rtF (fInt w64)) (tyRef erased mut (tyInt w64)) 30
+  abbrev row60 : ℕ → Row
+  row60 k = mslice (rtF (fInt w64)) (tyRef erased mut (tyInt w64)) k
 
   abbrev row61 : Row
   row61 = mslice-owed (rtF (fInt w64)) (tyRef (named 13) mut (tyInt w64)) 13 31 (lease (κs .1 .1 .1 .1 .1 .1 .1 .1 .1 .1 .1 .1 .1 .0) (qs .1 .1 .1 .1 .1 .1 .1 .1 .1 .1 .1 .1 .1 .0))
-
-  abbrev row63 : Row
-  row63 = mslice (rtF (fInt w64)) (tyRef erased mut (tyInt w64)) 31
 
   abbrev row64 : Row
   row64 = msleft (rtF (fInt w64)) (tyRef erased mut (tyInt w64))
 
   abbrev pub G17 : Cx
-  G17 = patched ((12, row2) ∷ (20, row1) ∷ (28, row3) ∷ []) ((6, off) ∷ (14, alive) ∷ []) G0
+  G17 = patched ((12, row2) ∷ (20, row1) ∷ (28, row3 14) ∷ []) ((6, off) ∷ (14, alive) ∷ []) G0
 
   abbrev pub G20 : Cx
-  G20 = patched ((12, row2) ∷ (13, row5) ∷ (20, row1) ∷ (29, row4) ∷ (30, row6) ∷ []) ((6, off) ∷ (7, off) ∷ (14, alive) ∷ (15, alive) ∷ []) G0
+  G20 = patched ((12, row2) ∷ (13, row5 15) ∷ (20, row1) ∷ (29, row4 14) ∷ (30, row6) ∷ []) ((6, off) ∷ (7, off) ∷ (14, alive) ∷ (15, alive) ∷ []) G0
 
   abbrev pub G23 : Cx
-  G23 = patched ((12, row2) ∷ (13, row5) ∷ (14, row8) ∷ (20, row1) ∷ (29, row4) ∷ (31, row7) ∷ (32, row9) ∷ []) ((6, off) ∷ (7, off) ∷ (8, off) ∷ (14, alive) ∷ (15, alive) ∷ (16, alive) ∷ []) G0
+  G23 = patched ((12, row2) ∷ (13, row5 15) ∷ (14, row8 16) ∷ (20, row1) ∷ (29, row4 14) ∷ (31, row7 15) ∷ (32, row3 16) ∷ []) ((6, off) ∷ (7, off) ∷ (8, off) ∷ (14, alive) ∷ (15, alive) ∷ (16, alive) ∷ []) G0
 
   abbrev pub G26 : Cx
-  G26 = patched ((12, row2) ∷ (13, row5) ∷ (14, row8) ∷ (15, row11) ∷ (20, row1) ∷ (29, row4) ∷ (31, row7) ∷ (33, row10) ∷ (34, row12) ∷ []) ((6, off) ∷ (7, off) ∷ (8, off) ∷ (9, off) ∷ (14, alive) ∷ (15, alive) ∷ (16, alive) ∷ (17, alive) ∷ []) G0
+  G26 = patched ((12, row2) ∷ (13, row5 15) ∷ (14, row8 16) ∷ (15, row11) ∷ (20, row1) ∷ (29, row4 14) ∷ (31, row7 15) ∷ (33, row4 16) ∷ (34, row3 17) ∷ []) ((6, off) ∷ (7, off) ∷ (8, off) ∷ (9, off) ∷ (14, alive) ∷ (15, alive) ∷ (16, alive) ∷ (17, alive) ∷ []) G0
 
   abbrev pub G29 : Cx
-  G29 = patched ((12, row2) ∷ (13, row5) ∷ (14, row8) ∷ (15, row11) ∷ (16, row14) ∷ (20, row1) ∷ (29, row4) ∷ (31, row7) ∷ (33, row10) ∷ (35, row13) ∷ (36, row15) ∷ []) ((6, off) ∷ (7, off) ∷ (8, off) ∷ (9, off) ∷ (10, off) ∷ (14, alive) ∷ (15, alive) ∷ (16, alive) ∷ (17, alive) ∷ (18, alive) ∷ []) G0
+  G29 = patched ((12, row2) ∷ (13, row5 15) ∷ (14, row8 16) ∷ (15, row11) ∷ (16, row14) ∷ (20, row1) ∷ (29, row4 14) ∷ (31, row7 15) ∷ (33, row4 16) ∷ (35, row4 17) ∷ (36, row3 18) ∷ []) ((6, off) ∷ (7, off) ∷ (8, off) ∷ (9, off) ∷ (10, off) ∷ (14, alive) ∷ (15, alive) ∷ (16, alive) ∷ (17, alive) ∷ (18, alive) ∷ []) G0
 
   abbrev pub G30 : Cx
-  G30 = patched ((12, row2) ∷ (13, row5) ∷ (14, row8) ∷ (15, row11) ∷ (16, row14) ∷ (20, row1) ∷ (29, row4) ∷ (31, row7) ∷ (33, row10) ∷ (35, row13) ∷ (37, row16) ∷ []) ((6, off) ∷ (7, off) ∷ (8, off) ∷ (9, off) ∷ (10, off) ∷ (14, alive) ∷ (15, alive) ∷ (16, alive) ∷ (17, alive) ∷ (18, alive) ∷ []) G0
+  G30 = patched ((12, row2) ∷ (13, row5 15) ∷ (14, row8 16) ∷ (15, row11) ∷ (16, row14) ∷ (20, row1) ∷ (29, row4 14) ∷ (31, row7 15) ∷ (33, row4 16) ∷ (35, row4 17) ∷ (37, row4 18) ∷ []) ((6, off) ∷ (7, off) ∷ (8, off) ∷ (9, off) ∷ (10, off) ∷ (14, alive) ∷ (15, alive) ∷ (16, alive) ∷ (17, alive) ∷ (18, alive) ∷ []) G0
 
   abbrev pub G31 : Cx
-  G31 = patched ((12, row2) ∷ (13, row5) ∷ (14, row8) ∷ (15, row11) ∷ (16, row14) ∷ (20, row1) ∷ (21, row17) ∷ (29, row18) ∷ (31, row19) ∷ (33, row18) ∷ (35, row18) ∷ (37, row18) ∷ []) ((6, off) ∷ (7, off) ∷ (8, off) ∷ (9, off) ∷ (10, off) ∷ (14, alive) ∷ (15, alive) ∷ (16, alive) ∷ (17, alive) ∷ (18, alive) ∷ []) G0
+  G31 = patched ((12, row2) ∷ (13, row5 15) ∷ (14, row8 16) ∷ (15, row11) ∷ (16, row14) ∷ (20, row1) ∷ (21, row17) ∷ (29, row18) ∷ (31, row19) ∷ (33, row18) ∷ (35, row18) ∷ (37, row18) ∷ []) ((6, off) ∷ (7, off) ∷ (8, off) ∷ (9, off) ∷ (10, off) ∷ (14, alive) ∷ (15, alive) ∷ (16, alive) ∷ (17, alive) ∷ (18, alive) ∷ []) G0
 
   abbrev pub G32 : Cx
   G32 = patched ((20, row1) ∷ (38, row20) ∷ []) ([]) G0
 
   abbrev pub G36 : Cx
-  G36 = patched ((13, row5) ∷ (14, row8) ∷ (15, row11) ∷ (16, row14) ∷ (20, row1) ∷ (21, row17) ∷ (31, row19) ∷ (33, row18) ∷ (35, row18) ∷ (37, row18) ∷ []) ((7, off) ∷ (8, off) ∷ (9, off) ∷ (10, off) ∷ (15, alive) ∷ (16, alive) ∷ (17, alive) ∷ (18, alive) ∷ []) G0
+  G36 = patched ((13, row5 15) ∷ (14, row8 16) ∷ (15, row11) ∷ (16, row14) ∷ (20, row1) ∷ (21, row17) ∷ (31, row19) ∷ (33, row18) ∷ (35, row18) ∷ (37, row18) ∷ []) ((7, off) ∷ (8, off) ∷ (9, off) ∷ (10, off) ∷ (15, alive) ∷ (16, alive) ∷ (17, alive) ∷ (18, alive) ∷ []) G0
 
   abbrev pub G40 : Cx
-  G40 = patched ((14, row8) ∷ (15, row11) ∷ (16, row14) ∷ (20, row1) ∷ (21, row17) ∷ (33, row18) ∷ (35, row18) ∷ (37, row18) ∷ []) ((8, off) ∷ (9, off) ∷ (10, off) ∷ (16, alive) ∷ (17, alive) ∷ (18, alive) ∷ []) G0
+  G40 = patched ((14, row8 16) ∷ (15, row11) ∷ (16, row14) ∷ (20, row1) ∷ (21, row17) ∷ (33, row18) ∷ (35, row18) ∷ (37, row18) ∷ []) ((8, off) ∷ (9, off) ∷ (10, off) ∷ (16, alive) ∷ (17, alive) ∷ (18, alive) ∷ []) G0
 
   abbrev pub G44 : Cx
   G44 = patched ((15, row11) ∷ (16, row14) ∷ (20, row1) ∷ (21, row17) ∷ (35, row18) ∷ (37, row18) ∷ []) ((9, off) ∷ (10, off) ∷ (17, alive) ∷ (18, alive) ∷ []) G0
@@ -244,7 +178,7 @@ module _ (κs : Lfts 14) (qs : Shares 14) where
   G52 = patched ((20, row1) ∷ (21, row17) ∷ []) ([]) G0
 
   abbrev pub G53 : Cx
-  G53 = patched ((20, row1) ∷ (21, row21) ∷ []) ([]) G0
+  G53 = patched ((20, row1) ∷ (21, row21 0) ∷ []) ([]) G0
 
   abbrev pub G57 : Cx
   G57 = patched ((20, row1) ∷ (22, row1) ∷ (23, row1) ∷ []) ([]) G0
@@ -256,7 +190,7 @@ module _ (κs : Lfts 14) (qs : Shares 14) where
   G59 = patched ((20, row1) ∷ (23, row1) ∷ (38, row20) ∷ []) ([]) G0
 
   abbrev pub G61 : Cx
-  G61 = patched ((20, row1) ∷ (21, row22) ∷ []) ([]) G0
+  G61 = patched ((20, row1) ∷ (21, row21 1) ∷ []) ([]) G0
 
   abbrev pub G65 : Cx
   G65 = patched ((20, row1) ∷ (24, row1) ∷ (25, row1) ∷ []) ([]) G0
@@ -268,85 +202,85 @@ module _ (κs : Lfts 14) (qs : Shares 14) where
   G69 = patched ((17, row23) ∷ (20, row1) ∷ (24, row1) ∷ (25, row1) ∷ (26, row1) ∷ (41, row25) ∷ []) ((11, off) ∷ (19, alive) ∷ []) G0
 
   abbrev pub G72 : Cx
-  G72 = patched ((12, row26) ∷ (17, row23) ∷ (20, row1) ∷ (24, row1) ∷ (25, row1) ∷ (26, row1) ∷ (41, row25) ∷ (43, row28) ∷ []) ((6, off) ∷ (11, off) ∷ (19, alive) ∷ (20, alive) ∷ []) G0
+  G72 = patched ((12, row26 20) ∷ (17, row23) ∷ (20, row1) ∷ (24, row1) ∷ (25, row1) ∷ (26, row1) ∷ (41, row25) ∷ (43, row28 20) ∷ []) ((6, off) ∷ (11, off) ∷ (19, alive) ∷ (20, alive) ∷ []) G0
 
   abbrev pub G75 : Cx
-  G75 = patched ((12, row26) ∷ (14, row29) ∷ (17, row23) ∷ (20, row1) ∷ (24, row1) ∷ (25, row1) ∷ (26, row1) ∷ (41, row25) ∷ (43, row28) ∷ (45, row31) ∷ []) ((6, off) ∷ (8, off) ∷ (11, off) ∷ (19, alive) ∷ (20, alive) ∷ (21, alive) ∷ []) G0
+  G75 = patched ((12, row26 20) ∷ (14, row29) ∷ (17, row23) ∷ (20, row1) ∷ (24, row1) ∷ (25, row1) ∷ (26, row1) ∷ (41, row25) ∷ (43, row28 20) ∷ (45, row28 21) ∷ []) ((6, off) ∷ (8, off) ∷ (11, off) ∷ (19, alive) ∷ (20, alive) ∷ (21, alive) ∷ []) G0
 
   abbrev pub G76 : Cx
-  G76 = patched ((12, row26) ∷ (14, row29) ∷ (17, row23) ∷ (20, row1) ∷ (24, row1) ∷ (25, row1) ∷ (26, row1) ∷ (39, row32) ∷ (41, row33) ∷ (43, row28) ∷ (45, row31) ∷ []) ((6, off) ∷ (8, off) ∷ (11, off) ∷ (19, alive) ∷ (20, alive) ∷ (21, alive) ∷ []) G0
+  G76 = patched ((12, row26 20) ∷ (14, row29) ∷ (17, row23) ∷ (20, row1) ∷ (24, row1) ∷ (25, row1) ∷ (26, row1) ∷ (39, row32) ∷ (41, row33) ∷ (43, row28 20) ∷ (45, row28 21) ∷ []) ((6, off) ∷ (8, off) ∷ (11, off) ∷ (19, alive) ∷ (20, alive) ∷ (21, alive) ∷ []) G0
 
   abbrev pub G79 : Cx
-  G79 = patched ((12, row26) ∷ (14, row29) ∷ (17, row23) ∷ (20, row1) ∷ (24, row1) ∷ (25, row1) ∷ (26, row1) ∷ (41, row33) ∷ []) ((6, off) ∷ (8, off) ∷ (11, off) ∷ (19, alive) ∷ (20, alive) ∷ (21, alive) ∷ []) G0
+  G79 = patched ((12, row26 20) ∷ (14, row29) ∷ (17, row23) ∷ (20, row1) ∷ (24, row1) ∷ (25, row1) ∷ (26, row1) ∷ (41, row33) ∷ []) ((6, off) ∷ (8, off) ∷ (11, off) ∷ (19, alive) ∷ (20, alive) ∷ (21, alive) ∷ []) G0
 
   abbrev pub G82 : Cx
-  G82 = patched ((12, row26) ∷ (14, row29) ∷ (20, row1) ∷ (24, row1) ∷ (25, row1) ∷ (26, row1) ∷ []) ((6, off) ∷ (8, off) ∷ (20, alive) ∷ (21, alive) ∷ []) G0
+  G82 = patched ((12, row26 20) ∷ (14, row29) ∷ (20, row1) ∷ (24, row1) ∷ (25, row1) ∷ (26, row1) ∷ []) ((6, off) ∷ (8, off) ∷ (20, alive) ∷ (21, alive) ∷ []) G0
 
   abbrev pub G85 : Cx
   G85 = patched ((14, row29) ∷ (20, row1) ∷ (24, row1) ∷ (25, row1) ∷ (26, row1) ∷ []) ((8, off) ∷ (21, alive) ∷ []) G0
 
   abbrev pub G91 : Cx
-  G91 = patched ((13, row34) ∷ (20, row1) ∷ (24, row1) ∷ (25, row1) ∷ (26, row1) ∷ (47, row36) ∷ []) ((7, off) ∷ (22, alive) ∷ []) G0
+  G91 = patched ((13, row5 22) ∷ (20, row1) ∷ (24, row1) ∷ (25, row1) ∷ (26, row1) ∷ (47, row7 22) ∷ []) ((7, off) ∷ (22, alive) ∷ []) G0
 
   abbrev pub G94 : Cx
-  G94 = patched ((13, row34) ∷ (14, row37) ∷ (20, row1) ∷ (24, row1) ∷ (25, row1) ∷ (26, row1) ∷ (47, row36) ∷ (49, row39) ∷ []) ((7, off) ∷ (8, off) ∷ (22, alive) ∷ (23, alive) ∷ []) G0
+  G94 = patched ((13, row5 22) ∷ (14, row8 23) ∷ (20, row1) ∷ (24, row1) ∷ (25, row1) ∷ (26, row1) ∷ (47, row7 22) ∷ (49, row4 23) ∷ []) ((7, off) ∷ (8, off) ∷ (22, alive) ∷ (23, alive) ∷ []) G0
 
   abbrev pub G97 : Cx
-  G97 = patched ((13, row34) ∷ (14, row37) ∷ (20, row1) ∷ (24, row1) ∷ (25, row1) ∷ (26, row1) ∷ (47, row36) ∷ (49, row39) ∷ (51, row1) ∷ []) ((7, off) ∷ (8, off) ∷ (22, alive) ∷ (23, alive) ∷ []) G0
+  G97 = patched ((13, row5 22) ∷ (14, row8 23) ∷ (20, row1) ∷ (24, row1) ∷ (25, row1) ∷ (26, row1) ∷ (47, row7 22) ∷ (49, row4 23) ∷ (51, row1) ∷ []) ((7, off) ∷ (8, off) ∷ (22, alive) ∷ (23, alive) ∷ []) G0
 
   abbrev pub G98 : Cx
-  G98 = patched ((13, row34) ∷ (14, row37) ∷ (20, row1) ∷ (24, row1) ∷ (25, row1) ∷ (26, row1) ∷ (39, row32) ∷ (47, row19) ∷ (49, row18) ∷ (51, row1) ∷ []) ((7, off) ∷ (8, off) ∷ (22, alive) ∷ (23, alive) ∷ []) G0
+  G98 = patched ((13, row5 22) ∷ (14, row8 23) ∷ (20, row1) ∷ (24, row1) ∷ (25, row1) ∷ (26, row1) ∷ (39, row32) ∷ (47, row19) ∷ (49, row18) ∷ (51, row1) ∷ []) ((7, off) ∷ (8, off) ∷ (22, alive) ∷ (23, alive) ∷ []) G0
 
   abbrev pub G101 : Cx
-  G101 = patched ((13, row34) ∷ (14, row37) ∷ (20, row1) ∷ (24, row1) ∷ (25, row1) ∷ (26, row1) ∷ (47, row19) ∷ (49, row18) ∷ []) ((7, off) ∷ (8, off) ∷ (22, dead) ∷ (23, alive) ∷ []) G0
+  G101 = patched ((13, row5 22) ∷ (14, row8 23) ∷ (20, row1) ∷ (24, row1) ∷ (25, row1) ∷ (26, row1) ∷ (47, row19) ∷ (49, row18) ∷ []) ((7, off) ∷ (8, off) ∷ (22, dead) ∷ (23, alive) ∷ []) G0
 
   abbrev pub G105 : Cx
-  G105 = patched ((14, row37) ∷ (20, row1) ∷ (24, row1) ∷ (25, row1) ∷ (26, row1) ∷ (49, row18) ∷ []) ((8, off) ∷ (23, dead) ∷ []) G0
+  G105 = patched ((14, row8 23) ∷ (20, row1) ∷ (24, row1) ∷ (25, row1) ∷ (26, row1) ∷ (49, row18) ∷ []) ((8, off) ∷ (23, dead) ∷ []) G0
 
   abbrev pub G111 : Cx
-  G111 = patched ((12, row40) ∷ (20, row1) ∷ (24, row1) ∷ (25, row1) ∷ (26, row1) ∷ (53, row42) ∷ []) ((6, off) ∷ (24, alive) ∷ []) G0
+  G111 = patched ((12, row26 24) ∷ (20, row1) ∷ (24, row1) ∷ (25, row1) ∷ (26, row1) ∷ (53, row28 24) ∷ []) ((6, off) ∷ (24, alive) ∷ []) G0
 
   abbrev pub G114 : Cx
-  G114 = patched ((12, row40) ∷ (15, row43) ∷ (20, row1) ∷ (24, row1) ∷ (25, row1) ∷ (26, row1) ∷ (53, row42) ∷ (55, row45) ∷ []) ((6, off) ∷ (9, off) ∷ (24, alive) ∷ (25, alive) ∷ []) G0
+  G114 = patched ((12, row26 24) ∷ (15, row43) ∷ (20, row1) ∷ (24, row1) ∷ (25, row1) ∷ (26, row1) ∷ (53, row28 24) ∷ (55, row28 25) ∷ []) ((6, off) ∷ (9, off) ∷ (24, alive) ∷ (25, alive) ∷ []) G0
 
   abbrev pub G117 : Cx
-  G117 = patched ((12, row40) ∷ (15, row43) ∷ (16, row46) ∷ (20, row1) ∷ (24, row1) ∷ (25, row1) ∷ (26, row1) ∷ (53, row42) ∷ (55, row45) ∷ (57, row48) ∷ []) ((6, off) ∷ (9, off) ∷ (10, off) ∷ (24, alive) ∷ (25, alive) ∷ (26, alive) ∷ []) G0
+  G117 = patched ((12, row26 24) ∷ (15, row43) ∷ (16, row46) ∷ (20, row1) ∷ (24, row1) ∷ (25, row1) ∷ (26, row1) ∷ (53, row28 24) ∷ (55, row28 25) ∷ (57, row28 26) ∷ []) ((6, off) ∷ (9, off) ∷ (10, off) ∷ (24, alive) ∷ (25, alive) ∷ (26, alive) ∷ []) G0
 
   abbrev pub G120 : Cx
-  G120 = patched ((12, row40) ∷ (15, row43) ∷ (16, row46) ∷ (17, row49) ∷ (20, row1) ∷ (24, row1) ∷ (25, row1) ∷ (26, row1) ∷ (53, row42) ∷ (55, row45) ∷ (57, row48) ∷ (59, row51) ∷ []) ((6, off) ∷ (9, off) ∷ (10, off) ∷ (11, off) ∷ (24, alive) ∷ (25, alive) ∷ (26, alive) ∷ (27, alive) ∷ []) G0
+  G120 = patched ((12, row26 24) ∷ (15, row43) ∷ (16, row46) ∷ (17, row49) ∷ (20, row1) ∷ (24, row1) ∷ (25, row1) ∷ (26, row1) ∷ (53, row28 24) ∷ (55, row28 25) ∷ (57, row28 26) ∷ (59, row51) ∷ []) ((6, off) ∷ (9, off) ∷ (10, off) ∷ (11, off) ∷ (24, alive) ∷ (25, alive) ∷ (26, alive) ∷ (27, alive) ∷ []) G0
 
   abbrev pub G123 : Cx
-  G123 = patched ((12, row40) ∷ (13, row52) ∷ (15, row43) ∷ (16, row46) ∷ (17, row49) ∷ (20, row1) ∷ (24, row1) ∷ (25, row1) ∷ (26, row1) ∷ (53, row42) ∷ (55, row45) ∷ (57, row48) ∷ (59, row51) ∷ (61, row54) ∷ []) ((6, off) ∷ (7, off) ∷ (9, off) ∷ (10, off) ∷ (11, off) ∷ (24, alive) ∷ (25, alive) ∷ (26, alive) ∷ (27, alive) ∷ (28, alive) ∷ []) G0
+  G123 = patched ((12, row26 24) ∷ (13, row5 28) ∷ (15, row43) ∷ (16, row46) ∷ (17, row49) ∷ (20, row1) ∷ (24, row1) ∷ (25, row1) ∷ (26, row1) ∷ (53, row28 24) ∷ (55, row28 25) ∷ (57, row28 26) ∷ (59, row51) ∷ (61, row7 28) ∷ []) ((6, off) ∷ (7, off) ∷ (9, off) ∷ (10, off) ∷ (11, off) ∷ (24, alive) ∷ (25, alive) ∷ (26, alive) ∷ (27, alive) ∷ (28, alive) ∷ []) G0
 
   abbrev pub G126 : Cx
-  G126 = patched ((12, row40) ∷ (13, row52) ∷ (14, row55) ∷ (15, row43) ∷ (16, row46) ∷ (17, row49) ∷ (20, row1) ∷ (24, row1) ∷ (25, row1) ∷ (26, row1) ∷ (53, row42) ∷ (55, row45) ∷ (57, row48) ∷ (59, row51) ∷ (61, row54) ∷ (63, row57) ∷ []) ((6, off) ∷ (7, off) ∷ (8, off) ∷ (9, off) ∷ (10, off) ∷ (11, off) ∷ (24, alive) ∷ (25, alive) ∷ (26, alive) ∷ (27, alive) ∷ (28, alive) ∷ (29, alive) ∷ []) G0
+  G126 = patched ((12, row26 24) ∷ (13, row5 28) ∷ (14, row8 29) ∷ (15, row43) ∷ (16, row46) ∷ (17, row49) ∷ (20, row1) ∷ (24, row1) ∷ (25, row1) ∷ (26, row1) ∷ (53, row28 24) ∷ (55, row28 25) ∷ (57, row28 26) ∷ (59, row51) ∷ (61, row7 28) ∷ (63, row4 29) ∷ []) ((6, off) ∷ (7, off) ∷ (8, off) ∷ (9, off) ∷ (10, off) ∷ (11, off) ∷ (24, alive) ∷ (25, alive) ∷ (26, alive) ∷ (27, alive) ∷ (28, alive) ∷ (29, alive) ∷ []) G0
 
   abbrev pub G129 : Cx
-  G129 = patched ((12, row40) ∷ (13, row52) ∷ (14, row55) ∷ (15, row43) ∷ (16, row46) ∷ (17, row49) ∷ (18, row58) ∷ (20, row1) ∷ (24, row1) ∷ (25, row1) ∷ (26, row1) ∷ (53, row42) ∷ (55, row45) ∷ (57, row48) ∷ (59, row51) ∷ (61, row54) ∷ (63, row57) ∷ (65, row60) ∷ []) ((6, off) ∷ (7, off) ∷ (8, off) ∷ (9, off) ∷ (10, off) ∷ (11, off) ∷ (12, off) ∷ (24, alive) ∷ (25, alive) ∷ (26, alive) ∷ (27, alive) ∷ (28, alive) ∷ (29, alive) ∷ (30, alive) ∷ []) G0
+  G129 = patched ((12, row26 24) ∷ (13, row5 28) ∷ (14, row8 29) ∷ (15, row43) ∷ (16, row46) ∷ (17, row49) ∷ (18, row58) ∷ (20, row1) ∷ (24, row1) ∷ (25, row1) ∷ (26, row1) ∷ (53, row28 24) ∷ (55, row28 25) ∷ (57, row28 26) ∷ (59, row51) ∷ (61, row7 28) ∷ (63, row4 29) ∷ (65, row60 30) ∷ []) ((6, off) ∷ (7, off) ∷ (8, off) ∷ (9, off) ∷ (10, off) ∷ (11, off) ∷ (12, off) ∷ (24, alive) ∷ (25, alive) ∷ (26, alive) ∷ (27, alive) ∷ (28, alive) ∷ (29, alive) ∷ (30, alive) ∷ []) G0
 
   abbrev pub G132 : Cx
-  G132 = patched ((12, row40) ∷ (13, row52) ∷ (14, row55) ∷ (15, row43) ∷ (16, row46) ∷ (17, row49) ∷ (18, row58) ∷ (19, row61) ∷ (20, row1) ∷ (24, row1) ∷ (25, row1) ∷ (26, row1) ∷ (53, row42) ∷ (55, row45) ∷ (57, row48) ∷ (59, row51) ∷ (61, row54) ∷ (63, row57) ∷ (65, row60) ∷ (67, row63) ∷ []) ((6, off) ∷ (7, off) ∷ (8, off) ∷ (9, off) ∷ (10, off) ∷ (11, off) ∷ (12, off) ∷ (13, off) ∷ (24, alive) ∷ (25, alive) ∷ (26, alive) ∷ (27, alive) ∷ (28, alive) ∷ (29, alive) ∷ (30, alive) ∷ (31, alive) ∷ []) G0
+  G132 = patched ((12, row26 24) ∷ (13, row5 28) ∷ (14, row8 29) ∷ (15, row43) ∷ (16, row46) ∷ (17, row49) ∷ (18, row58) ∷ (19, row61) ∷ (20, row1) ∷ (24, row1) ∷ (25, row1) ∷ (26, row1) ∷ (53, row28 24) ∷ (55, row28 25) ∷ (57, row28 26) ∷ (59, row51) ∷ (61, row7 28) ∷ (63, row4 29) ∷ (65, row60 30) ∷ (67, row60 31) ∷ []) ((6, off) ∷ (7, off) ∷ (8, off) ∷ (9, off) ∷ (10, off) ∷ (11, off) ∷ (12, off) ∷ (13, off) ∷ (24, alive) ∷ (25, alive) ∷ (26, alive) ∷ (27, alive) ∷ (28, alive) ∷ (29, alive) ∷ (30, alive) ∷ (31, alive) ∷ []) G0
 
   abbrev pub G133 : Cx
-  G133 = patched ((12, row40) ∷ (13, row52) ∷ (14, row55) ∷ (15, row43) ∷ (16, row46) ∷ (17, row49) ∷ (18, row58) ∷ (19, row61) ∷ (20, row1) ∷ (24, row1) ∷ (25, row1) ∷ (26, row1) ∷ (27, row20) ∷ (53, row42) ∷ (55, row45) ∷ (57, row48) ∷ (59, row51) ∷ (61, row19) ∷ (63, row18) ∷ (65, row64) ∷ (67, row64) ∷ []) ((6, off) ∷ (7, off) ∷ (8, off) ∷ (9, off) ∷ (10, off) ∷ (11, off) ∷ (12, off) ∷ (13, off) ∷ (24, alive) ∷ (25, alive) ∷ (26, alive) ∷ (27, alive) ∷ (28, alive) ∷ (29, alive) ∷ (30, alive) ∷ (31, alive) ∷ []) G0
+  G133 = patched ((12, row26 24) ∷ (13, row5 28) ∷ (14, row8 29) ∷ (15, row43) ∷ (16, row46) ∷ (17, row49) ∷ (18, row58) ∷ (19, row61) ∷ (20, row1) ∷ (24, row1) ∷ (25, row1) ∷ (26, row1) ∷ (27, row20) ∷ (53, row28 24) ∷ (55, row28 25) ∷ (57, row28 26) ∷ (59, row51) ∷ (61, row19) ∷ (63, row18) ∷ (65, row64) ∷ (67, row64) ∷ []) ((6, off) ∷ (7, off) ∷ (8, off) ∷ (9, off) ∷ (10, off) ∷ (11, off) ∷ (12, off) ∷ (13, off) ∷ (24, alive) ∷ (25, alive) ∷ (26, alive) ∷ (27, alive) ∷ (28, alive) ∷ (29, alive) ∷ (30, alive) ∷ (31, alive) ∷ []) G0
 
   abbrev pub G136 : Cx
-  G136 = patched ((12, row40) ∷ (13, row52) ∷ (14, row55) ∷ (15, row43) ∷ (16, row46) ∷ (17, row49) ∷ (18, row58) ∷ (19, row61) ∷ (20, row1) ∷ (24, row1) ∷ (25, row1) ∷ (26, row1) ∷ (27, row20) ∷ (59, row51) ∷ (61, row19) ∷ (63, row18) ∷ (65, row64) ∷ (67, row64) ∷ []) ((6, off) ∷ (7, off) ∷ (8, off) ∷ (9, off) ∷ (10, off) ∷ (11, off) ∷ (12, off) ∷ (13, off) ∷ (24, alive) ∷ (25, alive) ∷ (26, alive) ∷ (27, alive) ∷ (28, alive) ∷ (29, alive) ∷ (30, alive) ∷ (31, alive) ∷ []) G0
+  G136 = patched ((12, row26 24) ∷ (13, row5 28) ∷ (14, row8 29) ∷ (15, row43) ∷ (16, row46) ∷ (17, row49) ∷ (18, row58) ∷ (19, row61) ∷ (20, row1) ∷ (24, row1) ∷ (25, row1) ∷ (26, row1) ∷ (27, row20) ∷ (59, row51) ∷ (61, row19) ∷ (63, row18) ∷ (65, row64) ∷ (67, row64) ∷ []) ((6, off) ∷ (7, off) ∷ (8, off) ∷ (9, off) ∷ (10, off) ∷ (11, off) ∷ (12, off) ∷ (13, off) ∷ (24, alive) ∷ (25, alive) ∷ (26, alive) ∷ (27, alive) ∷ (28, alive) ∷ (29, alive) ∷ (30, alive) ∷ (31, alive) ∷ []) G0
 
   abbrev pub G139 : Cx
-  G139 = patched ((13, row52) ∷ (14, row55) ∷ (15, row43) ∷ (16, row46) ∷ (17, row49) ∷ (18, row58) ∷ (19, row61) ∷ (20, row1) ∷ (24, row1) ∷ (25, row1) ∷ (26, row1) ∷ (27, row20) ∷ (61, row19) ∷ (63, row18) ∷ (65, row64) ∷ (67, row64) ∷ []) ((7, off) ∷ (8, off) ∷ (9, off) ∷ (10, off) ∷ (11, off) ∷ (12, off) ∷ (13, off) ∷ (24, dead) ∷ (25, alive) ∷ (26, alive) ∷ (27, alive) ∷ (28, alive) ∷ (29, alive) ∷ (30, alive) ∷ (31, alive) ∷ []) G0
+  G139 = patched ((13, row5 28) ∷ (14, row8 29) ∷ (15, row43) ∷ (16, row46) ∷ (17, row49) ∷ (18, row58) ∷ (19, row61) ∷ (20, row1) ∷ (24, row1) ∷ (25, row1) ∷ (26, row1) ∷ (27, row20) ∷ (61, row19) ∷ (63, row18) ∷ (65, row64) ∷ (67, row64) ∷ []) ((7, off) ∷ (8, off) ∷ (9, off) ∷ (10, off) ∷ (11, off) ∷ (12, off) ∷ (13, off) ∷ (24, dead) ∷ (25, alive) ∷ (26, alive) ∷ (27, alive) ∷ (28, alive) ∷ (29, alive) ∷ (30, alive) ∷ (31, alive) ∷ []) G0
 
   abbrev pub G142 : Cx
-  G142 = patched ((13, row52) ∷ (14, row55) ∷ (16, row46) ∷ (17, row49) ∷ (18, row58) ∷ (19, row61) ∷ (20, row1) ∷ (24, row1) ∷ (25, row1) ∷ (26, row1) ∷ (27, row20) ∷ (61, row19) ∷ (63, row18) ∷ (65, row64) ∷ (67, row64) ∷ []) ((7, off) ∷ (8, off) ∷ (10, off) ∷ (11, off) ∷ (12, off) ∷ (13, off) ∷ (25, dead) ∷ (26, alive) ∷ (27, alive) ∷ (28, alive) ∷ (29, alive) ∷ (30, alive) ∷ (31, alive) ∷ []) G0
+  G142 = patched ((13, row5 28) ∷ (14, row8 29) ∷ (16, row46) ∷ (17, row49) ∷ (18, row58) ∷ (19, row61) ∷ (20, row1) ∷ (24, row1) ∷ (25, row1) ∷ (26, row1) ∷ (27, row20) ∷ (61, row19) ∷ (63, row18) ∷ (65, row64) ∷ (67, row64) ∷ []) ((7, off) ∷ (8, off) ∷ (10, off) ∷ (11, off) ∷ (12, off) ∷ (13, off) ∷ (25, dead) ∷ (26, alive) ∷ (27, alive) ∷ (28, alive) ∷ (29, alive) ∷ (30, alive) ∷ (31, alive) ∷ []) G0
 
   abbrev pub G145 : Cx
-  G145 = patched ((13, row52) ∷ (14, row55) ∷ (17, row49) ∷ (18, row58) ∷ (19, row61) ∷ (20, row1) ∷ (24, row1) ∷ (25, row1) ∷ (26, row1) ∷ (27, row20) ∷ (61, row19) ∷ (63, row18) ∷ (65, row64) ∷ (67, row64) ∷ []) ((7, off) ∷ (8, off) ∷ (11, off) ∷ (12, off) ∷ (13, off) ∷ (26, dead) ∷ (27, alive) ∷ (28, alive) ∷ (29, alive) ∷ (30, alive) ∷ (31, alive) ∷ []) G0
+  G145 = patched ((13, row5 28) ∷ (14, row8 29) ∷ (17, row49) ∷ (18, row58) ∷ (19, row61) ∷ (20, row1) ∷ (24, row1) ∷ (25, row1) ∷ (26, row1) ∷ (27, row20) ∷ (61, row19) ∷ (63, row18) ∷ (65, row64) ∷ (67, row64) ∷ []) ((7, off) ∷ (8, off) ∷ (11, off) ∷ (12, off) ∷ (13, off) ∷ (26, dead) ∷ (27, alive) ∷ (28, alive) ∷ (29, alive) ∷ (30, alive) ∷ (31, alive) ∷ []) G0
 
   abbrev pub G148 : Cx
-  G148 = patched ((13, row52) ∷ (14, row55) ∷ (18, row58) ∷ (19, row61) ∷ (20, row1) ∷ (24, row1) ∷ (25, row1) ∷ (26, row1) ∷ (27, row20) ∷ (61, row19) ∷ (63, row18) ∷ (65, row64) ∷ (67, row64) ∷ []) ((7, off) ∷ (8, off) ∷ (12, off) ∷ (13, off) ∷ (27, dead) ∷ (28, alive) ∷ (29, alive) ∷ (30, alive) ∷ (31, alive) ∷ []) G0
+  G148 = patched ((13, row5 28) ∷ (14, row8 29) ∷ (18, row58) ∷ (19, row61) ∷ (20, row1) ∷ (24, row1) ∷ (25, row1) ∷ (26, row1) ∷ (27, row20) ∷ (61, row19) ∷ (63, row18) ∷ (65, row64) ∷ (67, row64) ∷ []) ((7, off) ∷ (8, off) ∷ (12, off) ∷ (13, off) ∷ (27, dead) ∷ (28, alive) ∷ (29, alive) ∷ (30, alive) ∷ (31, alive) ∷ []) G0
 
   abbrev pub G151 : Cx
-  G151 = patched ((14, row55) ∷ (18, row58) ∷ (19, row61) ∷ (20, row1) ∷ (24, row1) ∷ (25, row1) ∷ (26, row1) ∷ (27, row20) ∷ (63, row18) ∷ (65, row64) ∷ (67, row64) ∷ []) ((8, off) ∷ (12, off) ∷ (13, off) ∷ (28, dead) ∷ (29, alive) ∷ (30, alive) ∷ (31, alive) ∷ []) G0
+  G151 = patched ((14, row8 29) ∷ (18, row58) ∷ (19, row61) ∷ (20, row1) ∷ (24, row1) ∷ (25, row1) ∷ (26, row1) ∷ (27, row20) ∷ (63, row18) ∷ (65, row64) ∷ (67, row64) ∷ []) ((8, off) ∷ (12, off) ∷ (13, off) ∷ (28, dead) ∷ (29, alive) ∷ (30, alive) ∷ (31, alive) ∷ []) G0
 
   abbrev pub G155 : Cx
   G155 = patched ((18, row58) ∷ (19, row61) ∷ (20, row1) ∷ (24, row1) ∷ (25, row1) ∷ (26, row1) ∷ (27, row20) ∷ (65, row64) ∷ (67, row64) ∷ []) ((12, off) ∷ (13, off) ∷ (29, dead) ∷ (30, alive) ∷ (31, alive) ∷ []) G0
@@ -397,7 +331,7 @@ module _ (κs : Lfts 14) (qs : Shares 14) where
   Γ-from-answer = G32
 
 module _ {M : Type 1} (𝓤 : URA M) (H : Heap 𝓤) (A : Atoms 𝓤) (W : Given 𝓤 H A) (𝓣 : Tables 𝓤 H)
-    (known0 : Knows 𝓤 H A W 𝓣 7 K0.ps K0.r R0.Asked R0.Learnt "desk_checks::shared::prepare_shared") (known1 : Knows 𝓤 H A W 𝓣 0 K1.ps K1.r R1.Asked R1.Learnt "topology::two_desks::refused_both") (known2 : Knows 𝓤 H A W 𝓣 4 K2.ps K2.r R2.Asked R2.Learnt "topology::records::fill") (known3 : Knows 𝓤 H A W 𝓣 2 K3.ps K3.r R3.Asked R3.Learnt "call_partition::scratch::clear_scratch") (known4 : Knows 𝓤 H A W 𝓣 13 K4.ps K4.r R4.Asked R4.Learnt "topology::two_desks::run_desks") (κs : Lfts 14) (qs : Shares 14) (bs : List ℕ) where
+    (known0 : Knows 𝓤 H A W 𝓣 7 K0.ps K0.r R0.Asked R0.Learnt "desk_checks::shared::prepare_shared") (known1 : Knows 𝓤 H A W 𝓣 0 K1.ps K1.r R1.Asked R1.Learnt "topology::two_desks::refused_both") (known2 : Knows 𝓤 H A W 𝓣 4 K2.ps K2.r K2.Asked K2.Learnt "topology::records::fill") (known3 : Knows 𝓤 H A W 𝓣 2 K3.ps K3.r R3.Asked R3.Learnt "call_partition::scratch::clear_scratch") (known4 : Knows 𝓤 H A W 𝓣 13 K4.ps K4.r K4.Asked K4.Learnt "topology::two_desks::run_desks") (κs : Lfts 14) (qs : Shares 14) (bs : List ℕ) where
   abbrev E : Env 𝓤 H
   E = EnvOf 𝓤 H (tyR r ∷ tysP ps xs) bs
 
@@ -443,7 +377,7 @@ module _ {M : Type 1} (𝓤 : URA M) (H : Heap 𝓤) (A : Atoms 𝓤) (W : Given
       ghosts (G129 κs qs) _ (g-begin 𝓤 H A W E (G129 κs qs) 31 _) $
       stmt _ _ (t-sl-relend 𝓤 H A W E (rtF (fInt w64)) 𝓣 _ 19 66 13 31 (tyRef (named 13) mut (tyInt w64)) (tyRef erased mut (tyInt w64)) (lease (κs .1 .1 .1 .1 .1 .1 .1 .1 .1 .1 .1 .1 .1 .0) (qs .1 .1 .1 .1 .1 .1 .1 .1 .1 .1 .1 .1 .1 .0)) 0 (λ x. x) (as-is 𝓤 H A (mslice (rtF (fInt w64)) (tyRef (named 13) mut (tyInt w64)) 13)) (room-gone 𝓤 H A (tyRef erased mut (tyInt w64))) refl tt refl refl refl (λ b o. tt)) $
       stmt _ (G132 κs qs) (t-sl-aggregate 𝓤 H A W E (rtF (fInt w64)) 𝓣 (asMut (rtF (fInt w64))) _ 66 67 31 (tyRef erased mut (tyInt w64)) (tyRef erased mut (tyInt w64)) (λ x. x) (oFld 19 (field 1 ∷ []) (tyInt w64) 8 (λ v. lenV (v .0))) (as-is 𝓤 H A (msptr (rtF (fInt w64)) (tyRef erased mut (tyInt w64)) 31)) (room-gone 𝓤 H A _) (reads-owed-len 𝓤 H A W (rtF (fInt w64)) (tyRef (named 13) mut (tyInt w64)) 13 31 (lease (κs .1 .1 .1 .1 .1 .1 .1 .1 .1 .1 .1 .1 .1 .0) (qs .1 .1 .1 .1 .1 .1 .1 .1 .1 .1 .1 .1 .1 .0)) 8 refl, refl) refl refl (λ b o k. tt)) $
-      stmt (G132 κs qs) (G133 κs qs) (t-call-plain 𝓤 H A W 𝓣 13 K4.ps K4.r R4.Asked R4.Learnt "topology::two_desks::run_desks" known4 E (λ pos β. β) (G132 κs qs) (vAt 1 (λ x. x), (vAt 2 (λ x. x), (vAt 3 (λ x. x), (record { pos = 5; ty = tyRef (named 1) imm (tyInt w64); ref = λ x. x }, (vAt 24 (λ x. x), (vAt 25 (λ x. x), (vAt 6 (λ x. x), (record { pos = 7; ty = tyRef (named 2) imm (tyInt w64); ref = λ x. x }, (record { pos = 8; ty = tyRef (named 3) imm (tyInt w64); ref = λ x. x }, (vAt 9 (λ x. x), (record { pos = 10; ty = tyRef (named 4) imm (tyInt w64); ref = λ x. x }, (record { pos = 11; ty = tyRef (named 5) imm (tyInt w64); ref = λ x. x }, (record { pos = 53; ty = tyRef erased imm (tyInt w32); ref = λ x. x }, (record { pos = 55; ty = tyRef erased imm (tyInt w32); ref = λ x. x }, (record { pos = 57; ty = tyRef erased imm (tyInt w32); ref = λ x. x }, (record { pos = 59; ty = tyRef erased imm (pointee (twin-0.the-row .written)); ref = λ x. x }, (record { pos = 61; ty = tyRef erased mut (tyInt w16); ref = λ x. x }, (record { pos = 63; ty = tyRef erased mut (tyInt w32); ref = λ x. x }, (record { pos = 65; ty = tyRef erased mut (tyInt w64); ref = λ x. x }, (record { pos = 67; ty = tyRef erased mut (tyInt w64); ref = λ x. x }, tt)))))))))))))))))))) 27 (1 ∷ 2 ∷ 3 ∷ 4 ∷ 5 ∷ 24 ∷ 25 ∷ 26 ∷ 27 ∷ 28 ∷ 29 ∷ 30 ∷ 31 ∷ []) (sub-id 𝓤 H A W ((G132 κs qs) .slots)) ((reads-sc 𝓤 H A W (sInt w64), refl), ((reads-sc 𝓤 H A W (sInt w64), refl), ((reads-sc 𝓤 H A W (sInt w64), refl), (spares-sslice 𝓤 H A W (rtF (fInt w64)) (tyRef (named 1) imm (tyInt w64)) 1, reads-sslice 𝓤 H A W (rtF (fInt w64)) (tyRef (named 1) imm (tyInt w64)) 1, refl, ((reads-sc 𝓤 H A W (sInt w64), refl), ((reads-sc 𝓤 H A W (sInt w64), refl), ((reads-sc 𝓤 H A W (sInt w64), refl), (spares-sslice 𝓤 H A W (rtF (fInt w64)) (tyRef (named 2) imm (tyInt w64)) 2, reads-sslice 𝓤 H A W (rtF (fInt w64)) (tyRef (named 2) imm (tyInt w64)) 2, refl, (spares-sslice 𝓤 H A W (rtF (fInt w64)) (tyRef (named 3) imm (tyInt w64)) 3, reads-sslice 𝓤 H A W (rtF (fInt w64)) (tyRef (named 3) imm (tyInt w64)) 3, refl, ((reads-sc 𝓤 H A W (sInt w64), refl), (spares-sslice 𝓤 H A W (rtF (fInt w64)) (tyRef (named 4) imm (tyInt w64)) 4, reads-sslice 𝓤 H A W (rtF (fInt w64)) (tyRef (named 4) imm (tyInt w64)) 4, refl, (spares-sslice 𝓤 H A W (rtF (fInt w64)) (tyRef (named 5) imm (tyInt w64)) 5, reads-sslice 𝓤 H A W (rtF (fInt w64)) (tyRef (named 5) imm (tyInt w64)) 5, refl, (spares-sslice 𝓤 H A W (rtF (fInt w32)) (tyRef erased imm (tyInt w32)) 24, reads-sslice 𝓤 H A W (rtF (fInt w32)) (tyRef erased imm (tyInt w32)) 24, refl, (spares-sslice 𝓤 H A W (rtF (fInt w32)) (tyRef erased imm (tyInt w32)) 25, reads-sslice 𝓤 H A W (rtF (fInt w32)) (tyRef erased imm (tyInt w32)) 25, refl, (spares-sslice 𝓤 H A W (rtF (fInt w32)) (tyRef erased imm (tyInt w32)) 26, reads-sslice 𝓤 H A W (rtF (fInt w32)) (tyRef erased imm (tyInt w32)) 26, refl, (spares-sslice 𝓤 H A W twin-0.the-row (tyRef erased imm (pointee (twin-0.the-row .written))) 27, reads-sslice 𝓤 H A W twin-0.the-row (tyRef erased imm (pointee (twin-0.the-row .written))) 27, refl, (as-is 𝓤 H A (mslice (rtF (fInt w16)) (tyRef erased mut (tyInt w16)) 28), reads-mslice 𝓤 H A W (rtF (fInt w16)) (tyRef erased mut (tyInt w16)) 28, refl, (as-is 𝓤 H A (mslice (rtF (fInt w32)) (tyRef erased mut (tyInt w32)) 29), reads-mslice 𝓤 H A W (rtF (fInt w32)) (tyRef erased mut (tyInt w32)) 29, refl, (as-is 𝓤 H A (mslice (rtF (fInt w64)) (tyRef erased mut (tyInt w64)) 30), reads-mslice 𝓤 H A W (rtF (fInt w64)) (tyRef erased mut (tyInt w64)) 30, refl, (as-is 𝓤 H A (mslice (rtF (fInt w64)) (tyRef erased mut (tyInt w64)) 31), reads-mslice 𝓤 H A W (rtF (fInt w64)) (tyRef erased mut (tyInt w64)) 31, refl, tt)))))))))))))))))))) (room-gone 𝓤 H A _) _ refl) $
+      stmt (G132 κs qs) (G133 κs qs) (t-call-plain 𝓤 H A W 𝓣 13 K4.ps K4.r K4.Asked K4.Learnt "topology::two_desks::run_desks" known4 E (λ pos β. β) (G132 κs qs) (vAt 1 (λ x. x), (vAt 2 (λ x. x), (vAt 3 (λ x. x), (record { pos = 5; ty = tyRef (named 1) imm (tyInt w64); ref = λ x. x }, (vAt 24 (λ x. x), (vAt 25 (λ x. x), (vAt 6 (λ x. x), (record { pos = 7; ty = tyRef (named 2) imm (tyInt w64); ref = λ x. x }, (record { pos = 8; ty = tyRef (named 3) imm (tyInt w64); ref = λ x. x }, (vAt 9 (λ x. x), (record { pos = 10; ty = tyRef (named 4) imm (tyInt w64); ref = λ x. x }, (record { pos = 11; ty = tyRef (named 5) imm (tyInt w64); ref = λ x. x }, (record { pos = 53; ty = tyRef erased imm (tyInt w32); ref = λ x. x }, (record { pos = 55; ty = tyRef erased imm (tyInt w32); ref = λ x. x }, (record { pos = 57; ty = tyRef erased imm (tyInt w32); ref = λ x. x }, (record { pos = 59; ty = tyRef erased imm (pointee (twin-0.the-row .written)); ref = λ x. x }, (record { pos = 61; ty = tyRef erased mut (tyInt w16); ref = λ x. x }, (record { pos = 63; ty = tyRef erased mut (tyInt w32); ref = λ x. x }, (record { pos = 65; ty = tyRef erased mut (tyInt w64); ref = λ x. x }, (record { pos = 67; ty = tyRef erased mut (tyInt w64); ref = λ x. x }, tt)))))))))))))))))))) 27 (1 ∷ 2 ∷ 3 ∷ 4 ∷ 5 ∷ 24 ∷ 25 ∷ 26 ∷ 27 ∷ 28 ∷ 29 ∷ 30 ∷ 31 ∷ []) (sub-id 𝓤 H A W ((G132 κs qs) .slots)) ((reads-sc 𝓤 H A W (sInt w64), refl), ((reads-sc 𝓤 H A W (sInt w64), refl), ((reads-sc 𝓤 H A W (sInt w64), refl), (spares-sslice 𝓤 H A W (rtF (fInt w64)) (tyRef (named 1) imm (tyInt w64)) 1, reads-sslice 𝓤 H A W (rtF (fInt w64)) (tyRef (named 1) imm (tyInt w64)) 1, refl, ((reads-sc 𝓤 H A W (sInt w64), refl), ((reads-sc 𝓤 H A W (sInt w64), refl), ((reads-sc 𝓤 H A W (sInt w64), refl), (spares-sslice 𝓤 H A W (rtF (fInt w64)) (tyRef (named 2) imm (tyInt w64)) 2, reads-sslice 𝓤 H A W (rtF (fInt w64)) (tyRef (named 2) imm (tyInt w64)) 2, refl, (spares-sslice 𝓤 H A W (rtF (fInt w64)) (tyRef (named 3) imm (tyInt w64)) 3, reads-sslice 𝓤 H A W (rtF (fInt w64)) (tyRef (named 3) imm (tyInt w64)) 3, refl, ((reads-sc 𝓤 H A W (sInt w64), refl), (spares-sslice 𝓤 H A W (rtF (fInt w64)) (tyRef (named 4) imm (tyInt w64)) 4, reads-sslice 𝓤 H A W (rtF (fInt w64)) (tyRef (named 4) imm (tyInt w64)) 4, refl, (spares-sslice 𝓤 H A W (rtF (fInt w64)) (tyRef (named 5) imm (tyInt w64)) 5, reads-sslice 𝓤 H A W (rtF (fInt w64)) (tyRef (named 5) imm (tyInt w64)) 5, refl, (spares-sslice 𝓤 H A W (rtF (fInt w32)) (tyRef erased imm (tyInt w32)) 24, reads-sslice 𝓤 H A W (rtF (fInt w32)) (tyRef erased imm (tyInt w32)) 24, refl, (spares-sslice 𝓤 H A W (rtF (fInt w32)) (tyRef erased imm (tyInt w32)) 25, reads-sslice 𝓤 H A W (rtF (fInt w32)) (tyRef erased imm (tyInt w32)) 25, refl, (spares-sslice 𝓤 H A W (rtF (fInt w32)) (tyRef erased imm (tyInt w32)) 26, reads-sslice 𝓤 H A W (rtF (fInt w32)) (tyRef erased imm (tyInt w32)) 26, refl, (spares-sslice 𝓤 H A W twin-0.the-row (tyRef erased imm (pointee (twin-0.the-row .written))) 27, reads-sslice 𝓤 H A W twin-0.the-row (tyRef erased imm (pointee (twin-0.the-row .written))) 27, refl, (as-is 𝓤 H A (mslice (rtF (fInt w16)) (tyRef erased mut (tyInt w16)) 28), reads-mslice 𝓤 H A W (rtF (fInt w16)) (tyRef erased mut (tyInt w16)) 28, refl, (as-is 𝓤 H A (mslice (rtF (fInt w32)) (tyRef erased mut (tyInt w32)) 29), reads-mslice 𝓤 H A W (rtF (fInt w32)) (tyRef erased mut (tyInt w32)) 29, refl, (as-is 𝓤 H A (mslice (rtF (fInt w64)) (tyRef erased mut (tyInt w64)) 30), reads-mslice 𝓤 H A W (rtF (fInt w64)) (tyRef erased mut (tyInt w64)) 30, refl, (as-is 𝓤 H A (mslice (rtF (fInt w64)) (tyRef erased mut (tyInt w64)) 31), reads-mslice 𝓤 H A W (rtF (fInt w64)) (tyRef erased mut (tyInt w64)) 31, refl, tt)))))))))))))))))))) (room-gone 𝓤 H A _) _ refl) $
       ghosts (G133 κs qs) _ (g-room 𝓤 H A W E (G133 κs qs) 53 _ (room-sslice 𝓤 H A W (rtF (fInt w32)) (tyRef erased imm (tyInt w32)) 24)) $
       ghosts _ _ (g-room 𝓤 H A W E _ 55 _ (room-sslice 𝓤 H A W (rtF (fInt w32)) (tyRef erased imm (tyInt w32)) 25)) $
       ghosts _ (G136 κs qs) (g-room 𝓤 H A W E _ 57 _ (room-sslice 𝓤 H A W (rtF (fInt w32)) (tyRef erased imm (tyInt w32)) 26)) $
@@ -521,7 +455,7 @@ module _ {M : Type 1} (𝓤 : URA M) (H : Heap 𝓤) (A : Atoms 𝓤) (W : Given
               ghosts (G72 κs qs) _ (g-begin 𝓤 H A W E (G72 κs qs) 21 _) $
               stmt _ _ (t-sl-reshare 𝓤 H A W E (rtF (fInt w32)) 𝓣 _ 14 44 8 21 (tyRef (named 8) mut (tyInt w32)) (tyRef erased imm (tyInt w32)) (lease (κs .1 .1 .1 .1 .1 .1 .1 .1 .0) (qs .1 .1 .1 .1 .1 .1 .1 .1 .0)) 0 (λ x. x) (as-is 𝓤 H A (mslice (rtF (fInt w32)) (tyRef (named 8) mut (tyInt w32)) 8)) (room-gone 𝓤 H A (tyRef erased imm (tyInt w32))) refl tt refl refl refl (λ b o. tt)) $
               stmt _ (G75 κs qs) (t-sl-aggregate 𝓤 H A W E (rtF (fInt w32)) 𝓣 (asShr (rtF (fInt w32))) _ 44 45 21 (tyRef erased imm (tyInt w32)) (tyRef erased imm (tyInt w32)) (λ x. x) (oFld 14 (field 1 ∷ []) (tyInt w64) 8 (λ v. lenV (v .0))) (as-is 𝓤 H A (ssptr (rtF (fInt w32)) (tyRef erased imm (tyInt w32)) 21)) (room-gone 𝓤 H A _) (reads-owedS-len 𝓤 H A W (rtF (fInt w32)) (tyRef (named 8) mut (tyInt w32)) 8 21 (lease (κs .1 .1 .1 .1 .1 .1 .1 .1 .0) (qs .1 .1 .1 .1 .1 .1 .1 .1 .0)) 8 refl, refl) refl refl (λ b o k. tt)) $
-              stmt (G75 κs qs) (G76 κs qs) (t-call-plain 𝓤 H A W 𝓣 4 K2.ps K2.r R2.Asked R2.Learnt "topology::records::fill" known2 E (λ pos β. β) (G75 κs qs) (record { pos = 41; ty = tyRef erased mut (pointee (twin-0.the-row .written)); ref = λ x. x }, (vAt 24 (λ x. x), (vAt 26 (λ x. x), (record { pos = 4; ty = tyRef (named 0) imm (tyInt w8); ref = λ x. x }, (record { pos = 43; ty = tyRef erased imm (tyInt w32); ref = λ x. x }, (record { pos = 45; ty = tyRef erased imm (tyInt w32); ref = λ x. x }, tt)))))) 39 (19 ∷ 0 ∷ 20 ∷ 21 ∷ []) (sub-id 𝓤 H A W ((G75 κs qs) .slots)) (as-is 𝓤 H A (mslice twin-0.the-row (tyRef erased mut (pointee (twin-0.the-row .written))) 19), reads-mslice 𝓤 H A W twin-0.the-row (tyRef erased mut (pointee (twin-0.the-row .written))) 19, refl, ((reads-sc 𝓤 H A W (sInt w64), refl), ((reads-sc 𝓤 H A W (sInt w64), refl), (spares-sslice 𝓤 H A W (rtF (fInt w8)) (tyRef (named 0) imm (tyInt w8)) 0, reads-sslice 𝓤 H A W (rtF (fInt w8)) (tyRef (named 0) imm (tyInt w8)) 0, refl, (spares-sslice 𝓤 H A W (rtF (fInt w32)) (tyRef erased imm (tyInt w32)) 20, reads-sslice 𝓤 H A W (rtF (fInt w32)) (tyRef erased imm (tyInt w32)) 20, refl, (spares-sslice 𝓤 H A W (rtF (fInt w32)) (tyRef erased imm (tyInt w32)) 21, reads-sslice 𝓤 H A W (rtF (fInt w32)) (tyRef erased imm (tyInt w32)) 21, refl, tt)))))) (room-gone 𝓤 H A tyUnit) _ refl) $
+              stmt (G75 κs qs) (G76 κs qs) (t-call-plain 𝓤 H A W 𝓣 4 K2.ps K2.r K2.Asked K2.Learnt "topology::records::fill" known2 E (λ pos β. β) (G75 κs qs) (record { pos = 41; ty = tyRef erased mut (pointee (twin-0.the-row .written)); ref = λ x. x }, (vAt 24 (λ x. x), (vAt 26 (λ x. x), (record { pos = 4; ty = tyRef (named 0) imm (tyInt w8); ref = λ x. x }, (record { pos = 43; ty = tyRef erased imm (tyInt w32); ref = λ x. x }, (record { pos = 45; ty = tyRef erased imm (tyInt w32); ref = λ x. x }, tt)))))) 39 (19 ∷ 0 ∷ 20 ∷ 21 ∷ []) (sub-id 𝓤 H A W ((G75 κs qs) .slots)) (as-is 𝓤 H A (mslice twin-0.the-row (tyRef erased mut (pointee (twin-0.the-row .written))) 19), reads-mslice 𝓤 H A W twin-0.the-row (tyRef erased mut (pointee (twin-0.the-row .written))) 19, refl, ((reads-sc 𝓤 H A W (sInt w64), refl), ((reads-sc 𝓤 H A W (sInt w64), refl), (spares-sslice 𝓤 H A W (rtF (fInt w8)) (tyRef (named 0) imm (tyInt w8)) 0, reads-sslice 𝓤 H A W (rtF (fInt w8)) (tyRef (named 0) imm (tyInt w8)) 0, refl, (spares-sslice 𝓤 H A W (rtF (fInt w32)) (tyRef erased imm (tyInt w32)) 20, reads-sslice 𝓤 H A W (rtF (fInt w32)) (tyRef erased imm (tyInt w32)) 20, refl, (spares-sslice 𝓤 H A W (rtF (fInt w32)) (tyRef erased imm (tyInt w32)) 21, reads-sslice 𝓤 H A W (rtF (fInt w32)) (tyRef erased imm (tyInt w32)) 21, refl, tt)))))) (room-gone 𝓤 H A tyUnit) _ refl) $
               ghosts (G76 κs qs) _ (g-room 𝓤 H A W E (G76 κs qs) 43 _ (room-sslice 𝓤 H A W (rtF (fInt w32)) (tyRef erased imm (tyInt w32)) 20)) $
               ghosts _ _ (g-room 𝓤 H A W E _ 45 _ (room-sslice 𝓤 H A W (rtF (fInt w32)) (tyRef erased imm (tyInt w32)) 21)) $
               ghosts _ (G79 κs qs) (g-room 𝓤 H A W E _ 39 tyUnit (room-sc 𝓤 H A W sUnit)) $
@@ -585,14 +519,14 @@ module _ (w : World) where
   abbrev known1-at : Knows (w .𝓤) (w .H) (w .𝓖 .A) (Wof w) (𝓣of w code.env) 0 K1.ps K1.r R1.Asked R1.Learnt "topology::two_desks::refused_both"
   known1-at = R1.known w code.env S1.name S1.routine code.calls-topology·two-desks·refused-both (M1.met (w .𝓤) (w .H) (w .𝓜) (w .𝓖) (w .𝓡))
 
-  abbrev known2-at : Knows (w .𝓤) (w .H) (w .𝓖 .A) (Wof w) (𝓣of w code.env) 4 K2.ps K2.r R2.Asked R2.Learnt "topology::records::fill"
-  known2-at = R2.known w code.env S2.name S2.routine code.calls-topology·records·fill (M2.met (w .𝓤) (w .H) (w .𝓜) (w .𝓖) (w .𝓡))
+  abbrev known2-at : Knows (w .𝓤) (w .H) (w .𝓖 .A) (Wof w) (𝓣of w code.env) 4 K2.ps K2.r K2.Asked K2.Learnt "topology::records::fill"
+  known2-at = K2.known w code.env S2.name S2.routine code.calls-topology·records·fill (M2.met (w .𝓤) (w .H) (w .𝓜) (w .𝓖) (w .𝓡))
 
   abbrev known3-at : Knows (w .𝓤) (w .H) (w .𝓖 .A) (Wof w) (𝓣of w code.env) 2 K3.ps K3.r R3.Asked R3.Learnt "call_partition::scratch::clear_scratch"
   known3-at = R3.known w code.env S3.name S3.routine code.calls-call-partition·scratch·clear-scratch (M3.met (w .𝓤) (w .H) (w .𝓜) (w .𝓖) (w .𝓡))
 
-  abbrev known4-at : Knows (w .𝓤) (w .H) (w .𝓖 .A) (Wof w) (𝓣of w code.env) 13 K4.ps K4.r R4.Asked R4.Learnt "topology::two_desks::run_desks"
-  known4-at = R4.known w code.env S4.name S4.routine code.calls-topology·two-desks·run-desks (M4.met (w .𝓤) (w .H) (w .𝓜) (w .𝓖) (w .𝓡))
+  abbrev known4-at : Knows (w .𝓤) (w .H) (w .𝓖 .A) (Wof w) (𝓣of w code.env) 13 K4.ps K4.r K4.Asked K4.Learnt "topology::two_desks::run_desks"
+  known4-at = K4.known w code.env S4.name S4.routine code.calls-topology·two-desks·run-desks (M4.met (w .𝓤) (w .H) (w .𝓜) (w .𝓖) (w .𝓡))
 
 module _ (w : World) (κs : Lfts 14) (qs : Shares 14) (bs : List ℕ) where
   abbrev pub from-answer-at : Der (Wof w) (𝓣of w code.env) (EnvOf (w .𝓤) (w .H) (tyR r ∷ tysP ps xs) bs) (G32 κs qs) (past 13 (code.function .body)) (Δret 14 ps r xs m κs qs)
