@@ -21,7 +21,7 @@ use Rattle.flood.specs.Walk.{gridOf, directionAt}
 use Rattle.flood.specs.Inner.{Inside}
 use Rattle.flood.proofs.Ways.{direction-near, all-by-place}
 use Rattle.cut_steps.specs.CutSteps.{isSet, isCutOnward, cutFrom, cutToward}
-use Rattle.cut_steps.specs.CutLaws.{cutFrom-directions}
+use Rattle.cut_steps.proofs.CutLaws.{cutFrom-directions}
 use Rattle.cut_steps.specs.Prefixes.{concat-append}
 use Rattle.cut_steps.specs.Cell.{CutDirections}
 use Rattle.assessments.specs.Assess.{stepIn, stepsIn, Leads}

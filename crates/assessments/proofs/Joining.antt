@@ -21,7 +21,7 @@ use Rattle.laws.specs.ListLaws.Scans.{filter-ext, map-ext}
 use Rattle.laws.specs.RegionLaws.Steps.{cutSteps-steps}
 use Rattle.laws.specs.RegionLaws.PairLaws.{cutOf-at, pairs-at}
 use Rattle.cut_steps.specs.Contract.{SpanMap}
-use Rattle.cut_steps.specs.CutLaws.{span-count, cut-steps-span}
+use Rattle.cut_steps.proofs.CutLaws.{span-count, cut-steps-span}
 use Rattle.cut_steps.specs.Prefixes.{gather-ext}
 use Rattle.cut_steps.proofs.Spans.{cutListed}
 use Rattle.laws.specs.RegionLaws.PairRows.{rowsFor}

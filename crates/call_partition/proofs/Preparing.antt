@@ -14,7 +14,7 @@ use Rattle.definitions.specs.Context.{contextOf}
 use Rattle.definitions.specs.Verdict.{pairRowsOf}
 use Rattle.flood.specs.Contract.{Flooded}
 use Rattle.cut_steps.specs.Contract.{SpanMap}
-use Rattle.cut_steps.specs.CutLaws.{span-count}
+use Rattle.cut_steps.proofs.CutLaws.{span-count}
 use Rattle.assessments.specs.declared.Assessed.{Assessed}
 use Rattle.assessments.specs.declared.Assessed.the-variants.{Rows, TooMany}
 use Rattle.assessments.specs.Contract.{Answers, AssessedAs, SpansAssessed}

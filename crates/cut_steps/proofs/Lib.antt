@@ -1,6 +1,7 @@
-pub mod Onward
-pub mod Cells
 mod Sides
-pub mod Marks
 mod Walking
+pub mod Cells
+pub mod CutLaws
+pub mod Marks
+pub mod Onward
 pub mod Spans

@@ -23,7 +23,7 @@ use Rattle.flood.proofs.StepTests.{step-inside}
 use Rattle.flood.proofs.Bits.{withBit-length}
 use Rattle.flood.proofs.MarkStep.{mark-adds}
 use Rattle.cut_steps.specs.CutSteps.{isCutOnward, cutFrom, cutToward, isSet}
-use Rattle.cut_steps.specs.CutLaws.{cutFrom-directions}
+use Rattle.cut_steps.proofs.CutLaws.{cutFrom-directions}
 use Rattle.cut_steps.specs.Cell.{CellAsked, CutBits, CutDirections}
 use Rattle.cut_steps.specs.Marking.{bothBits, DirectionAsked, MarkAsked, Marked}
 use Rattle.cut_steps.proofs.Onward.{not-onward, zero-bit}

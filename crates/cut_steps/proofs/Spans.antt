@@ -18,13 +18,13 @@ use Rattle.definitions.specs.Refusals.{isOnMap, endpointsDiffer}
 use Rattle.laws.specs.ListLaws.Tests.{both}
 use Rattle.span_geometry.specs.declared.SpanGeometry.{SpanGeometry}
 use Rattle.span_geometry.specs.Shapes.{maxPixel, segmentOf, Made}
-use Rattle.span_geometry.specs.Canonical.{canonical-differ}
+use Rattle.span_geometry.proofs.Canonical.{canonical-differ}
 use Rattle.flood.specs.Masks.{Marks}
 use Rattle.flood.specs.Walk.{gridOf}
 use Rattle.flood.proofs.MarkStep.{marks-none}
 use Rattle.cut_steps.specs.CutSteps.{cutSpan}
 use Rattle.cut_steps.specs.Contract.{SpanMap, Checked}
-use Rattle.cut_steps.specs.CutLaws.{cut-all-spans}
+use Rattle.cut_steps.proofs.CutLaws.{cut-all-spans}
 use Rattle.cut_steps.specs.Marking.{MarkAsked, SpanAsked, SpanAtAsked, Marked, SpansMarked}
 use Rattle.cut_steps.proofs.Marks.{marked-as, marked-then}
 

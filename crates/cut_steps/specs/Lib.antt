@@ -3,5 +3,4 @@ pub mod Contract
 pub mod Cell
 pub mod Prefixes
 pub mod Columns
-pub mod CutLaws
 pub mod Marking

@@ -1,3 +1,5 @@
 -- What the proofs of several functions use.
 mod Literals
 mod Quotients
+pub mod AtPoints
+pub mod Ends

@@ -1,3 +1,4 @@
 -- What the proofs of several functions use.
-mod Signed
 mod Lines
+mod Signed
+pub mod Canonical

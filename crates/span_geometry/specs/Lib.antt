@@ -1,4 +1,3 @@
 pub mod Shapes
-pub mod Canonical
 pub mod Strips
 pub mod Candidates

@@ -6,7 +6,7 @@ use Rattle.definitions.specs.Spans.{cross, distanceBetween}
 use Rattle.separations.specs.PlaneLaws.Signs.{natAbs-is, is-cross}
 use Rattle.separations.specs.PlaneLaws.Sizes.{cross-le}
 use Rattle.span_geometry.specs.Shapes.{pointOf}
-use Rattle.geometry.specs.Ends.{pixel}
+use Rattle.geometry.proofs.Ends.{pixel}
 use borrow.Author.Needs.{needs}
 use Rattle.exact_squares.proofs.height.Statement.{statement}
 use Rattle.exact_squares.proofs.height.Tie as tie

@@ -6,7 +6,7 @@ use Rattle.definitions.specs.Geometry.{center}
 use Rattle.definitions.specs.Junctions.{withinRadius}
 use Rattle.laws.specs.FloatLaws.Pixels.{HalfPixelPoint, center-half}
 use Rattle.geometry.specs.Forms.{segmentFrom}
-use Rattle.geometry.specs.Ends.{pixel}
+use Rattle.geometry.proofs.Ends.{pixel}
 use Rattle.context.specs.Records.{recordOf}
 use Rattle.junction_regions.specs.Tests.{bridgeOf}
 use Rattle.junction_regions.proofs.Regions.{no-ramp}

@@ -4,7 +4,7 @@ use native.Mathlib.Omega.{arith}
 use mathlib.Core.Path.{ap₂}
 use borrow.Author.Needs.{needs}
 use Rattle.laws.specs.ListLaws.Flags.{bit-le}
-use Rattle.geometry.specs.Ends.{limits}
+use Rattle.geometry.proofs.Ends.{limits}
 use Rattle.junction_proposals.specs.Unions.{markAt}
 use Rattle.junction_proposals.specs.Rows.{rowAt}
 use Rattle.junction_regions.proofs.Rows.{ends-are, row-pixels, first-on, second-on, allowed-bridge, allowed-union}

@@ -3,7 +3,7 @@ use mathlib.Core.Path.{subst⁻¹}
 use borrow.Author.Needs.{needs}
 use Rattle.laws.specs.FloatLaws.Pixels.{HalfPixelPoint, center-half}
 use Rattle.geometry.specs.Forms.{segmentFrom}
-use Rattle.geometry.specs.Ends.{pixel}
+use Rattle.geometry.proofs.Ends.{pixel}
 use Rattle.context.specs.Records.{recordOf}
 use Rattle.junction_regions.proofs.Regions.{local-span, local-middle}
 use Rattle.junction_regions.proofs.is_local.Statement.{statement}

@@ -10,7 +10,7 @@ use Rattle.laws.specs.ListLaws.Lists.{all-map}
 use Rattle.laws.specs.FloatLaws.Pixels.{PixelPoint, point-pixel, corners-pixel}
 use Rattle.laws.specs.FloatLaws.DistanceRange.{DistanceInRange, nearestPoint, point-segment-in-range}
 use Rattle.geometry.specs.Forms.{pointForm}
-use Rattle.geometry.specs.Ends.{pixel}
+use Rattle.geometry.proofs.Ends.{pixel}
 use Rattle.context.specs.Records.{recordOf}
 use Rattle.junction_regions.specs.Tests.{nearSpan}
 use Rattle.junction_regions.proofs.Corners.{corners-tested}

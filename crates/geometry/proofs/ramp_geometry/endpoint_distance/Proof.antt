@@ -2,8 +2,8 @@
 use borrow.Author.Needs.{needs}
 use Rattle.laws.specs.FloatLaws.Pixels.{point-pixel}
 use Rattle.laws.specs.FloatLaws.DistanceRange.{point-segment-in-range}
-use Rattle.geometry.specs.AtPoints.{segment-distance-at}
-use Rattle.geometry.specs.Ends.{pixel}
+use Rattle.geometry.proofs.AtPoints.{segment-distance-at}
+use Rattle.geometry.proofs.Ends.{pixel}
 use Rattle.geometry.proofs.ramp_geometry.endpoint_distance.Statement.{statement}
 use Rattle.geometry.proofs.ramp_geometry.endpoint_distance.Tie as tie
 

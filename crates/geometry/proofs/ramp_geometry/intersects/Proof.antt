@@ -12,7 +12,7 @@ use Rattle.definitions.specs.Grid.{Position}
 use Rattle.definitions.specs.Spans.{cross, isZero, onSegment}
 use Rattle.definitions.specs.RampGeometry.{signum, intersects}
 use Rattle.geometry.specs.Forms.{segmentForm}
-use Rattle.geometry.specs.Ends.{limits}
+use Rattle.geometry.proofs.Ends.{limits}
 use Rattle.geometry.proofs.ramp_geometry.intersects.Statement.{statement}
 use Rattle.geometry.proofs.ramp_geometry.intersects.Tie as tie
 

@@ -9,7 +9,7 @@ use Rattle.laws.specs.FloatLaws.Pixels.{PixelSegment}
 use Rattle.geometry.specs.Forms.{segmentForm}
 use Rattle.geometry.specs.Representatives.{lengthOf, dotOf}
 use Rattle.geometry.proofs.Literals.{zero-is, max-representative-offset-is, min-parallel-cosine-is}
-use Rattle.geometry.specs.Ends.{limits, made-canonical}
+use Rattle.geometry.proofs.Ends.{limits, made-canonical}
 use Rattle.geometry.proofs.ramp_geometry.is_nearby_parallel_representative.Statement.{statement}
 use Rattle.geometry.proofs.ramp_geometry.is_nearby_parallel_representative.Tie as tie
 

@@ -1,8 +1,8 @@
 -- `ramp_geometry::offset` meets its contract: positions within the limits are in range. Assumes nothing.
 use borrow.Author.Needs.{needs}
 use Rattle.laws.specs.FloatLaws.PassRange.{positions-in-range}
-use Rattle.geometry.specs.AtPoints.{distance-at}
-use Rattle.geometry.specs.Ends.{pixel}
+use Rattle.geometry.proofs.AtPoints.{distance-at}
+use Rattle.geometry.proofs.Ends.{pixel}
 use Rattle.geometry.proofs.ramp_geometry.offset.Statement.{statement}
 use Rattle.geometry.proofs.ramp_geometry.offset.Tie as tie
 

@@ -9,7 +9,7 @@ use Rattle.laws.specs.FloatLaws.Pixels.{PixelSegment}
 use Rattle.geometry.specs.Forms.{segmentForm}
 use Rattle.geometry.specs.Representatives.{lengthOf, dotOf, maxOffset, overlapOf}
 use Rattle.geometry.proofs.Literals.{zero-is, max-overlay-normal-offset-is, min-overlay-fraction-is, min-parallel-cosine-is}
-use Rattle.geometry.specs.Ends.{made-canonical}
+use Rattle.geometry.proofs.Ends.{made-canonical}
 use Rattle.geometry.proofs.ramp_geometry.overlapping_ramp_representative.Statement.{statement}
 use Rattle.geometry.proofs.ramp_geometry.overlapping_ramp_representative.Tie as tie
 

@@ -4,7 +4,7 @@ use mathlib.Core.Bool.{cond}
 use borrow.Author.Needs.{needs}
 use Rattle.definitions.specs.Grid.{Segment, canonical}
 use Rattle.span_geometry.specs.Shapes.{pointOf, segmentFrom}
-use Rattle.span_geometry.specs.Canonical.{before-x, not-before-x}
+use Rattle.span_geometry.proofs.Canonical.{before-x, not-before-x}
 use Rattle.span_geometry.proofs.SpanGeometry.new.Statement.{statement}
 use Rattle.span_geometry.proofs.SpanGeometry.new.Tie as tie
 

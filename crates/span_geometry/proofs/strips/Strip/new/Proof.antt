@@ -14,7 +14,7 @@ use Rattle.definitions.specs.Spans.{distanceBetween}
 use Rattle.span_geometry.specs.declared.SpanGeometry.{SpanGeometry}
 use Rattle.span_geometry.specs.declared.strips.Strip.{Strip}
 use Rattle.span_geometry.specs.Shapes.{Sound, segmentOf}
-use Rattle.span_geometry.specs.Canonical.{differ-apart}
+use Rattle.span_geometry.proofs.Canonical.{differ-apart}
 use Rattle.span_geometry.specs.Strips.{Usable, stripByColumns, stripByRows, stripOf}
 use Rattle.span_geometry.proofs.strips.Strip.new.Statement.{statement}
 use Rattle.span_geometry.proofs.strips.Strip.new.Tie as tie
