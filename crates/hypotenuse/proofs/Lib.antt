@@ -4,3 +4,5 @@ pub mod Apart
 pub mod Outcomes
 pub mod NearestRoot
 pub mod Aligned
+pub mod Columns
+pub mod Numbers

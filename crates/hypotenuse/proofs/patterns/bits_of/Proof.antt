@@ -1,23 +1,18 @@
 -- `patterns::bits_of` meets its contract: a NaN is the only double that differs from itself. Assumes nothing.
-use mathlib.Core.Path.{_≡_, refl, sym, ap, _∙_, subst}
-use mathlib.Core.Bool.{true, false, not, true≢false}
+use mathlib.Core.Path.{_≡_, refl, sym, ap, subst}
+use mathlib.Core.Bool.{true, not}
 use Prim.Native.Nat.{_%_, _^_}
 use lib.Dec.{T}
 use lib.Ieee.{Float, nan, inf, fin, binary64, isNan, ne, toBits}
-use lib.Ieee.Compare.{differs-from-itself, nan-differs}
+use lib.Ieee.Compare.{differs-from-itself}
 use Rattle.laws.specs.FloatLaws.Patterns.{patternOf}
+use Rattle.hypotenuse.proofs.Numbers.{number}
 use Rattle.hypotenuse.proofs.patterns.bits_of.Statement.{statement}
 use Rattle.hypotenuse.proofs.patterns.bits_of.Tie as tie
 
 at-nan : (x : Float) → ne x x ≡ true → 2 ^ 63 ≡ patternOf x
 unfolding patternOf
 at-nan x h = sym (ap patternOf (differs-from-itself x (subst T (sym h) tt)))
-
-no-nan : (x : Float) → ne x x ≡ false → T (not (isNan x))
-unfolding isNan
-no-nan nan h = absurd (true≢false (sym nan-differs ∙ h))
-no-nan (inf s) h = tt
-no-nan (fin s m e) h = tt
 
 pattern : (x : Float) → T (not (isNan x)) → toBits binary64 x % 2 ^ 63 ≡ patternOf x
 unfolding patternOf isNan
@@ -29,10 +24,10 @@ returns : tie.Need-returns
 returns c = at-nan (c .before .args .x) (c .if1 .taken)
 
 float-to-bits-result : tie.Need-float-to-bits-result
-float-to-bits-result c = no-nan (c .before .args .x) (c .if1 .left)
+float-to-bits-result c = number (c .before .args .x) (c .if1 .left)
 
 returns-2 : tie.Need-returns-2
-returns-2 c = pattern (c .before .args .x) (no-nan (c .before .args .x) (c .if1 .left))
+returns-2 c = pattern (c .before .args .x) (number (c .before .args .x) (c .if1 .left))
 
 pub bits-of-spec : {M : Type 1} → statement M
 bits-of-spec = tie.close (tie.spec returns float-to-bits-result returns-2)

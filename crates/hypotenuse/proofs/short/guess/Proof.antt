@@ -1,20 +1,10 @@
 -- `short::guess` meets its contract, which claims nothing of the result: no pattern is that of a NaN, and no NaN is asked for its bits. Assumes nothing.
 use borrow.Author.Needs.{needs}
-use mathlib.Core.Path.{_≡_, sym, _∙_}
-use mathlib.Core.Bool.{false, not, true≢false}
 use native.Mathlib.Omega.{arith}
-use lib.Dec.{T}
-use lib.Ieee.{Float, nan, inf, fin, isNan, ne}
-use lib.Ieee.Compare.{nan-differs}
 use Rattle.laws.specs.FloatLaws.Patterns.{no-nan}
+use Rattle.hypotenuse.proofs.Numbers.{number}
 use Rattle.hypotenuse.proofs.short.guess.Statement.{statement}
 use Rattle.hypotenuse.proofs.short.guess.Tie as tie
-
-number : (x : Float) → ne x x ≡ false → T (not (isNan x))
-unfolding isNan
-number nan h = absurd (true≢false (sym nan-differs ∙ h))
-number (inf s) h = tt
-number (fin s m e) h = tt
 
 float-from-bits-x : tie.Need-float-from-bits-x
 float-from-bits-x c = no-nan (c .args .larger) (omega arith)
