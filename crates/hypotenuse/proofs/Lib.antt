@@ -4,3 +4,4 @@ pub mod Apart
 pub mod Outcomes
 pub mod NearestRoot
 pub mod Aligned
+pub mod Columns

@@ -106,6 +106,7 @@ fn near_pattern(k: u64, x: u64, y: u64, gap: u64, start: u64) -> u64
 }
 
 // The pattern of the double nearest to the root of two patterns' squares. Where the exponents are more than MAX_GAP apart it is the larger: the root is less than half a unit above it.
+// Doubles of few digits come first, the short way.
 fn root_pattern(larger: u64, smaller: u64) -> u64
     requires larger_in_range { ⌜ T (patternInRange larger) ⌝ }
     requires smaller_in_range { ⌜ T (patternInRange smaller) ⌝ }

@@ -1,5 +1,5 @@
-// Roots of doubles of at most 17 digits, as half pixels have: a guess in floats is made exact and checked in whole numbers. Where the check fails there is no root here,
-// so that nothing is claimed of floats. Numbers of 0 mean that there is none.
+// Roots of doubles of at most 17 digits, as half pixels have: a guess in floats is checked in whole numbers, and put right by one where it must be. Each function answers 0 where it has
+// no root, so that nothing is claimed of floats.
 ghost use mathlib.Core.Path.{_≡_};
 ghost use Prim.Native.Nat.{_+_, _-_, _*_, _/_, _%_, _<_, _≤_, _^_};
 ghost use lib.Ieee.{binary64, ofBits};
@@ -13,14 +13,14 @@ const LEADING: u64 = 4503599627370496;
 const SIGN: u64 = 9223372036854775808;
 // 2^36: the place of the last of 17 digits.
 const LAST_PLACE: u64 = 68719476736;
-// 2^22
+// 2^22: the base of the columns of a square.
 const COLUMN: u64 = 4194304;
-// 2^34
+// 2^34: where the guess is near, less than this is left of a column.
 const LIMIT: u64 = 17179869184;
-// A pattern less half that of s is one of about 0.73 divided by the root of s, to 4 in 100.
+// This less half the pattern of s is the pattern of 0.73 divided by the root of s, to 5 in 100.
 const START: u64 = 6908488151547772928;
 
-// A guess at the pattern of the root of the two doubles' squares, by two of Newton's steps for one divided by the root, and a third of a higher order.
+// A guess at the pattern of the root of the two doubles' squares: one divided by the root by two of Newton's steps, and from that the root by a step of the third order. Nothing is claimed of it.
 fn guess(larger: u64, smaller: u64) -> u64
     requires { ⌜ (larger ≤ 1038 * 2 ^ 52) × (smaller ≤ 1038 * 2 ^ 52) ⌝ }
 {
@@ -35,14 +35,14 @@ fn guess(larger: u64, smaller: u64) -> u64
     let c = b * (1.889883 - s * (b * b));
     let r = s * c;
     let d = 1.0 - r * c;
-    let near = r + r * (d * (0.5 + 0.375 * d));
+    let near = r + r * d * (0.5 + 0.375 * d);
     if near != near {
         return 0;
     }
     f64::to_bits(near)
 }
 
-// By how much n + b is above b * b, for n = m * 2^44, where that is not 0 and the guess b is near. With b of two columns, high and low, each column's difference is passed down.
+// How far b * b is below n + b, for n = m * 2^44, where b is near the root of n. With b of two digits, high and low, what is left of each column is passed down to the next.
 fn excess(m: u64, b: u64) -> u64
     requires { ⌜ b < 2 ^ 53 ⌝ }
     ensures { λ r. ⌜ (0 < r → b * b + r ≡ m * 2 ^ 44 + b) ⌝ }
@@ -72,7 +72,7 @@ fn excess(m: u64, b: u64) -> u64
     third - last
 }
 
-// How many steps by one lead from b to the nearest root, by the excess over b * b. (Without a branch that depends on the digits.)
+// How many steps by one lead from b to the whole number nearest to the root, by the excess e over b * b.
 fn steps(b: u64, e: u64) -> u64
     requires { ⌜ b < 2 ^ 53 ⌝ }
     ensures { λ r. ⌜ Steps b e r ⌝ }
@@ -88,7 +88,7 @@ fn steps(b: u64, e: u64) -> u64
     one + two
 }
 
-// The whole number nearest to the root of m * 2^44, of 53 digits, where it is 2^52 + fraction, or one more or less.
+// The whole number nearest to the root of m * 2^44, where that is 2^52 + fraction, or one more or less.
 fn nearest_root(m: u64, fraction: u64) -> u64
     ensures { λ r. ⌜ (0 < r → NearestWhole (m * 2 ^ 44) r) ⌝ }
 {
@@ -109,7 +109,7 @@ fn nearest_root(m: u64, fraction: u64) -> u64
     b + steps(b, e)
 }
 
-// The sum of the two doubles' squares, in units of 2^44 squares of the last place of a double with the exponent of the smaller and `up`.
+// The sum of the two doubles' squares. The unit is 2^44 squares of the last place of a double whose exponent is that of the smaller and `up` more.
 fn squares(larger: u64, smaller: u64, up: u64) -> u64
     requires { ⌜ (smaller / 2 ^ 52 ≤ larger / 2 ^ 52) × (larger / 2 ^ 52 - smaller / 2 ^ 52 ≤ up) × (up ≤ 14) ⌝ }
     ensures { λ r. ⌜ r ≡ shortSquares larger smaller * 2 ^ (28 - 2 * up) ⌝ }
@@ -120,7 +120,7 @@ fn squares(larger: u64, smaller: u64, up: u64) -> u64
     (x * x + y * y) << (28 - 2 * up)
 }
 
-// The pattern of the double nearest to the root of two patterns' squares, where both have 17 digits at most and the larger is not more than 2^13 times the smaller, or thereabouts.
+// The pattern of the double nearest to the root of two patterns' squares, where both have 17 digits at most and the root's exponent is at most 14 above that of the smaller.
 pub fn short_root(larger: u64, smaller: u64) -> u64
     requires { ⌜ (2 ^ 52 ≤ smaller) × (smaller ≤ larger) × (larger ≤ 1038 * 2 ^ 52) ⌝ }
     ensures { λ r. ⌜ (0 < r → (ofBits binary64 r ≡ rootOf (patternMagnitude larger * patternMagnitude larger

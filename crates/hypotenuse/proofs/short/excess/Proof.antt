@@ -1,10 +1,11 @@
 -- `short::excess` meets its contract: with b = high * 2 ^ 22 + low the columns of b * b are high * high, 2 * (high * low) and low * low, and what is left above each is passed down. Assumes nothing.
 use borrow.Author.Needs.{needs}
-use mathlib.Core.Path.{_≡_, refl, sym, ap, _∙_}
+use mathlib.Core.Path.{_≡_, ap, _∙_}
 use Prim.Native.Nat.{ℕ, _+_, _-_, _*_, _/_, _%_, _^_, _≤_, _<_}
 use native.Mathlib.Omega.{arith}
-use native.Mathlib.Nat.{mul-le-mul, div-add-mod', two-mul, add-assoc, add-comm, add-left-comm, mul-assoc, mul-comm, mul-left-comm, mul-add, add-mul}
+use native.Mathlib.Nat.{mul-le-mul, div-add-mod'}
 use Rattle.laws.specs.NumberLaws.Squares.{square-le}
+use Rattle.hypotenuse.proofs.Columns.{columns-of-square}
 use Rattle.hypotenuse.proofs.short.excess.Statement.{statement}
 use Rattle.hypotenuse.proofs.short.excess.Tie as tie
 
@@ -24,11 +25,8 @@ module _ (b : ℕ) (h : b < 2 ^ 53) where
   low-low : low b * low b ≤ (2 ^ 22 - 1) * (2 ^ 22 - 1)
   low-low = square-le (low b) (2 ^ 22 - 1) (omega arith)
 
-columns : (P a b : ℕ) → (a * P + b) * (a * P + b) ≡ a * a * P * P + (a * b + a * b) * P + b * b
-columns P a b = simp (mul-add, add-mul, mul-assoc, mul-comm, mul-left-comm, add-assoc, add-comm, add-left-comm) refl
-
-square-is : (b : ℕ) → b * b ≡ high b * high b * 2 ^ 22 * 2 ^ 22 + (high b * low b + high b * low b) * 2 ^ 22 + low b * low b
-square-is b = sym (ap (λ (x : ℕ). x * x) (div-add-mod' b (2 ^ 22))) ∙ columns (2 ^ 22) (high b) (low b)
+square-is : (b : ℕ) → ((0 * 2 ^ 22 + high b * high b) * 2 ^ 22 + 2 * (high b * low b)) * 2 ^ 22 + low b * low b ≡ b * b
+square-is b = columns-of-square (2 ^ 22) (high b) (low b) ∙ ap (λ (x : ℕ). x * x) (div-add-mod' b (2 ^ 22))
 
 mul-first : tie.Need-mul-first
 mul-first c = omega (arith, high-high (c .args .b) (c .pre))

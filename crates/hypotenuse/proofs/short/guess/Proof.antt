@@ -1,20 +1,10 @@
 -- `short::guess` meets its contract, which claims nothing of the result: no pattern is that of a NaN, and no NaN is asked for its bits. Assumes nothing.
 use borrow.Author.Needs.{needs}
-use mathlib.Core.Path.{_≡_, sym, _∙_}
-use mathlib.Core.Bool.{false, not, true≢false}
 use native.Mathlib.Omega.{arith}
-use lib.Dec.{T}
-use lib.Ieee.{Float, nan, inf, fin, isNan, ne}
-use lib.Ieee.Compare.{nan-differs}
 use Rattle.laws.specs.FloatLaws.Patterns.{no-nan}
+use Rattle.laws.specs.FloatLaws.Patterns.{not-nan}
 use Rattle.hypotenuse.proofs.short.guess.Statement.{statement}
 use Rattle.hypotenuse.proofs.short.guess.Tie as tie
-
-number : (x : Float) → ne x x ≡ false → T (not (isNan x))
-unfolding isNan
-number nan h = absurd (true≢false (sym nan-differs ∙ h))
-number (inf s) h = tt
-number (fin s m e) h = tt
 
 float-from-bits-x : tie.Need-float-from-bits-x
 float-from-bits-x c = no-nan (c .args .larger) (omega arith)
@@ -26,7 +16,7 @@ returns : tie.Need-returns
 returns c = search needs
 
 float-to-bits-a : tie.Need-float-to-bits-a
-float-to-bits-a c = number _ (c .if1 .left)
+float-to-bits-a c = not-nan _ (c .if1 .left)
 
 sub-a : tie.Need-sub-a
 sub-a c = search needs
@@ -38,7 +28,7 @@ returns-2 : tie.Need-returns-2
 returns-2 c = search needs
 
 float-to-bits-result : tie.Need-float-to-bits-result
-float-to-bits-result c = number _ (c .if2 .left)
+float-to-bits-result c = not-nan _ (c .if2 .left)
 
 returns-3 : tie.Need-returns-3
 returns-3 c = search needs

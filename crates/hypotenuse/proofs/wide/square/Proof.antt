@@ -1,13 +1,14 @@
 -- `wide::square` meets its contract. With digits of 28 bits, high and low, the columns of the square are low * low, 2 * (high * low) and high * high; the code passes their carries up
 -- and joins the two lower digits to a word. Each column with its carry is below 2 ^ 58. Assumes nothing.
 use borrow.Author.Needs.{needs}
-use mathlib.Core.Path.{_≡_, refl, ap, _∙_}
+use mathlib.Core.Path.{_≡_, ap, _∙_}
 use mathlib.Core.List.{[], _∷_}
 use Prim.Native.Nat.{ℕ, _+_, _-_, _*_, _/_, _%_, _^_, _≤_, _<_}
-use native.Mathlib.Nat.{mul-le-mul, div-add-mod', zero-mul, zero-add, two-mul, add-assoc, add-comm, add-left-comm, mul-assoc, mul-comm, mul-left-comm, mul-add, add-mul}
+use native.Mathlib.Nat.{mul-le-mul, div-add-mod'}
 use native.Mathlib.Omega.{arith}
 use Rattle.laws.specs.NumberLaws.Squares.{square-le}
 use Rattle.laws.specs.NumberLaws.Words.{wordsValue, carried, carried-value, paired-value}
+use Rattle.hypotenuse.proofs.Columns.{columns-of-square}
 use Rattle.hypotenuse.proofs.wide.square.Statement.{statement}
 use Rattle.hypotenuse.proofs.wide.square.Tie as tie
 
@@ -26,9 +27,6 @@ module _ (t : ℕ) (h : t < 2 ^ 55) where
 
   high-high : high t * high t ≤ (2 ^ 27 - 1) * (2 ^ 27 - 1)
   high-high = square-le (high t) (2 ^ 27 - 1) (omega arith)
-
-columns-of-square : (P a b : ℕ) → wordsValue P (b * b ∷ 2 * (a * b) ∷ a * a ∷ []) ≡ (a * P + b) * (a * P + b)
-columns-of-square P a b = ap (λ (x : ℕ). ((0 * P + a * a) * P + x) * P + b * b) (two-mul (a * b)) ∙ simp (zero-mul, zero-add, mul-add, add-mul, mul-assoc, mul-comm, mul-left-comm, add-assoc, add-comm, add-left-comm) refl
 
 squared : (t : ℕ) → wordsValue (2 ^ 28) (carried (2 ^ 28) (low t * low t) (2 * (high t * low t) ∷ high t * high t ∷ [])) ≡ t * t
 squared t =
