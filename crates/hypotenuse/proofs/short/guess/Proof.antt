@@ -1,8 +1,7 @@
 -- `short::guess` meets its contract, which claims nothing of the result: no pattern is that of a NaN, and no NaN is asked for its bits. Assumes nothing.
 use borrow.Author.Needs.{needs}
 use native.Mathlib.Omega.{arith}
-use Rattle.laws.specs.FloatLaws.Patterns.{no-nan}
-use Rattle.laws.specs.FloatLaws.Patterns.{not-nan}
+use Rattle.laws.specs.FloatLaws.Patterns.{no-nan, not-nan}
 use Rattle.hypotenuse.proofs.short.guess.Statement.{statement}
 use Rattle.hypotenuse.proofs.short.guess.Tie as tie
 
