@@ -1,7 +1,6 @@
 // The components of regions that ordinary full cuts join: a forest of parents in a lent list, in which every parent is no larger than its region.
 use context::pairs::full_cut;
-use geometry::boundaries::KIND;
-use geometry::boundaries::NUMBERS_PER_BOUNDARY;
+use geometry::boundaries::kind_at;
 ghost use mathlib.Core.Path.{_≡_};
 ghost use mathlib.Core.List.{List, [], _∷_};
 ghost use Prim.Native.Nat.{ℕ, suc, _+_, _-_, _*_, _%_, _≤_, _<_, min, max};
@@ -115,7 +114,7 @@ pub fn is_ordinary(boundaries: &[u64], tallies: &[u32], i: usize) -> bool
         i < C .count →
         r ≡ isOrdinary C i) ⌝ }
 {
-    (boundaries[NUMBERS_PER_BOUNDARY * i + KIND] == 0) & full_cut(tallies, i)
+    (kind_at(boundaries, i) == 0) & full_cut(tallies, i)
 }
 
 // Joins the regions of each pair of boundary i, if it is an ordinary full cut.

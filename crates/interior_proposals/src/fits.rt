@@ -2,12 +2,11 @@
 use context::Region;
 use context::pairs::full_cut;
 use geometry::Point;
-use geometry::boundaries::KIND;
-use geometry::boundaries::LOWER;
-use geometry::boundaries::NUMBERS_PER_BOUNDARY;
-use geometry::boundaries::RAMP;
-use geometry::boundaries::UPPER;
 use geometry::boundaries::center_of;
+use geometry::boundaries::kind_at;
+use geometry::boundaries::lower_at;
+use geometry::boundaries::ramp_at;
+use geometry::boundaries::upper_at;
 use geometry::points::distance;
 ghost use mathlib.Core.Path.{_≡_};
 ghost use Prim.Native.Nat.{ℕ, _*_, _<_};
@@ -44,15 +43,13 @@ pub fn ports_fit(boundaries: &[u64], tallies: &[u32], a: usize, b: usize) -> boo
         b < C .count →
         r ≡ portsFit C a b) ⌝ }
 {
-    let j = NUMBERS_PER_BOUNDARY * a;
-    let k = NUMBERS_PER_BOUNDARY * b;
-    let first = boundaries[j + KIND];
-    let second = boundaries[k + KIND];
+    let first = kind_at(boundaries, a);
+    let second = kind_at(boundaries, b);
     (first != 0)
         & (second != 0)
         & full_cut(tallies, a)
         & full_cut(tallies, b)
-        & (boundaries[j + RAMP] == boundaries[k + RAMP])
+        & (ramp_at(boundaries, a) == ramp_at(boundaries, b))
         & (first != second)
 }
 
@@ -61,10 +58,9 @@ pub fn reach_of(boundaries: &[u64], a: usize, b: usize) -> Reach
     requires { ⌜ Placed (now boundaries) a × Placed (now boundaries) b ⌝ }
     ensures { λ r. ⌜ ((C : Context) → ShownBoundaries C (now (boundaries .entry)) → a < C .count → b < C .count → Aimed C a b r) ⌝ }
 {
-    let k = NUMBERS_PER_BOUNDARY * a;
     Reach {
-        lower: boundaries[k + LOWER],
-        upper: boundaries[k + UPPER],
+        lower: lower_at(boundaries, a),
+        upper: upper_at(boundaries, a),
         first: center_of(boundaries, a),
         second: center_of(boundaries, b),
     }

@@ -2,9 +2,8 @@
 use crate::distances::is_near_port;
 use crate::ports::names_region;
 use crate::unions::anchored_bit;
-use geometry::boundaries::KIND;
-use geometry::boundaries::NUMBERS_PER_BOUNDARY;
-use geometry::boundaries::WIDTH;
+use geometry::boundaries::kind_at;
+use geometry::boundaries::width_at;
 ghost use mathlib.Core.Path.{_≡_};
 ghost use Prim.Native.Nat.{_≤_, _<_};
 ghost use lib.ListN.{length};
@@ -31,8 +30,8 @@ pub fn is_twice_as_wide(boundaries: &[u64], count: usize, i: usize, k: usize) ->
     requires places { ⌜ (i < count) × (k < count) ⌝ }
     ensures { λ r. ⌜ r ≡ isTwiceAt (now (boundaries .entry)) i k ⌝ }
 {
-    let width = f64::from_bits(boundaries[NUMBERS_PER_BOUNDARY * i + WIDTH]);
-    let other = f64::from_bits(boundaries[NUMBERS_PER_BOUNDARY * k + WIDTH]);
+    let width = f64::from_bits(width_at(boundaries, i));
+    let other = f64::from_bits(width_at(boundaries, k));
     2.0 * other <= width
 }
 
@@ -157,7 +156,7 @@ pub fn next_port(
 {
     let mut j = from;
     while j < count {
-        let plain = boundaries[NUMBERS_PER_BOUNDARY * j + KIND] == 0;
+        let plain = kind_at(boundaries, j) == 0;
         if names_region(smaller[j], larger[j], r) & plain {
             return j;
         }

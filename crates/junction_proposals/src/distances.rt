@@ -1,8 +1,7 @@
 // How far boundaries and regions are apart.
 use geometry::Point;
-use geometry::boundaries::NUMBERS_PER_BOUNDARY;
-use geometry::boundaries::WIDTH;
 use geometry::boundaries::center_of;
+use geometry::boundaries::width_at;
 use geometry::points::distance;
 ghost use mathlib.Core.Path.{_≡_};
 ghost use Prim.Native.Nat.{_*_};
@@ -38,7 +37,7 @@ pub fn port_passes(boundaries: &[u64], one: bool, i: usize, j: usize) -> bool
     requires { ⌜ Placed (now boundaries) i × Placed (now boundaries) j ⌝ }
     ensures { λ r. ⌜ r ≡ passesAt (now (boundaries .entry)) one i j ⌝ }
 {
-    let own = boundaries[NUMBERS_PER_BOUNDARY * i + WIDTH];
-    let other = boundaries[NUMBERS_PER_BOUNDARY * j + WIDTH];
+    let own = width_at(boundaries, i);
+    let other = width_at(boundaries, j);
     (!one | (other <= own)) & is_near_port(boundaries, i, j)
 }

@@ -5,8 +5,7 @@ use crate::ports::names_region;
 use crate::ports::ports_fit;
 use crate::ports::wide8;
 use context::pairs::wide;
-use geometry::boundaries::KIND;
-use geometry::boundaries::NUMBERS_PER_BOUNDARY;
+use geometry::boundaries::kind_at;
 ghost use mathlib.Core.Path.{_≡_};
 ghost use mathlib.Core.Bool.{not, _&&_, _||_};
 ghost use Prim.Native.Nat.{_*_, _+_, _-_, _≤_, _<_};
@@ -183,7 +182,7 @@ pub fn is_union(
     if lo == 0 {
         return false;
     }
-    if boundaries[NUMBERS_PER_BOUNDARY * index + KIND] != 0 {
+    if kind_at(boundaries, index) != 0 {
         return false;
     }
     let anchored = anchored_bit(marks, lo) + anchored_bit(marks, hi);

@@ -6,8 +6,7 @@ use crate::measures::separation_of;
 use crate::mouths::Candidate;
 use crate::mouths::mouth_candidate;
 use context::pairs::full_cut;
-use geometry::boundaries::KIND;
-use geometry::boundaries::NUMBERS_PER_BOUNDARY;
+use geometry::boundaries::kind_at;
 ghost use mathlib.Core.Path.{_≡_};
 ghost use mathlib.Core.Bool.{false, true};
 ghost use mathlib.Core.List.{List, _++_};
@@ -31,7 +30,7 @@ pub fn any_ramp(boundaries: &[u64], count: usize) -> bool
 {
     let mut i = 0;
     while i < count {
-        if boundaries[NUMBERS_PER_BOUNDARY * i + KIND] != 0 {
+        if kind_at(boundaries, i) != 0 {
             return true;
         }
         i += 1;
@@ -177,7 +176,7 @@ fn push_plain(
         Filled C (now (mouths .exit)) (now (ramps .exit)) (now (outers .exit)) (now (kinds .exit)) (now (separations .exit)) r (l
         ++ toList (mouthCandidate C a m))) ⌝ }
 {
-    if boundaries[NUMBERS_PER_BOUNDARY * m + KIND] != 0 {
+    if kind_at(boundaries, m) != 0 {
         return n;
     }
     push_mouth(
@@ -288,7 +287,7 @@ fn push_ramp(
         Filled C (now (mouths .exit)) (now (ramps .exit)) (now (outers .exit)) (now (kinds .exit)) (now (separations .exit)) r (l
         ++ collect count (mouthCandidate C a))) ⌝ }
 {
-    if boundaries[NUMBERS_PER_BOUNDARY * a + KIND] == 0 {
+    if kind_at(boundaries, a) == 0 {
         return n;
     }
     if !full_cut(tallies, a) {

@@ -2,9 +2,8 @@
 use context::incidents::is_incident;
 use context::pairs::FullPair;
 use context::pairs::full_pair;
-use geometry::boundaries::KIND;
-use geometry::boundaries::NUMBERS_PER_BOUNDARY;
-use geometry::boundaries::RAMP;
+use geometry::boundaries::kind_at;
+use geometry::boundaries::ramp_at;
 ghost use mathlib.Core.Path.{_≡_};
 ghost use mathlib.Core.Bool.{not, _&&_};
 ghost use Prim.Native.Nat.{ℕ, _+_, _*_, _≤_, _<_};
@@ -31,11 +30,9 @@ fn is_other_end(boundaries: &[u64], j: usize, a: usize) -> bool
         && (eqb (getD (now (boundaries .entry)) (numbersPerBoundary * j + 6) 0) (getD (now (boundaries .entry)) (numbersPerBoundary * a + 6) 0)
         && not (eqb (getD (now (boundaries .entry)) (numbersPerBoundary * j + 5) 0) (getD (now (boundaries .entry)) (numbersPerBoundary * a + 5) 0)))) ⌝ }
 {
-    let kind = boundaries[NUMBERS_PER_BOUNDARY * j + KIND];
-    let id = boundaries[NUMBERS_PER_BOUNDARY * j + RAMP];
-    (kind != 0)
-        & ((id == boundaries[NUMBERS_PER_BOUNDARY * a + RAMP])
-            & (kind != boundaries[NUMBERS_PER_BOUNDARY * a + KIND]))
+    let kind = kind_at(boundaries, j);
+    let id = ramp_at(boundaries, j);
+    (kind != 0) & ((id == ramp_at(boundaries, a)) & (kind != kind_at(boundaries, a)))
 }
 
 // Whether the other end of the ramp of boundary a is an incident of region r.

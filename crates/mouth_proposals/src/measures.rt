@@ -1,7 +1,6 @@
 // What is measured of a mouth and a ramp, two boundaries of the list.
-use geometry::boundaries::NUMBERS_PER_BOUNDARY;
-use geometry::boundaries::WIDTH;
 use geometry::boundaries::segment_of;
+use geometry::boundaries::width_at;
 use geometry::numbers::fmax;
 use geometry::numbers::fmin;
 use geometry::ramp_geometry::is_nearby_parallel_representative;
@@ -26,7 +25,7 @@ fn width_of(boundaries: &[u64], i: usize) -> f64
     requires { ⌜ Placed (now boundaries) i ⌝ }
     ensures { λ r. ⌜ r ≡ ofBits binary64 (getD (now (boundaries .entry)) (numbersPerBoundary * i + 4) 0) ⌝ }
 {
-    f64::from_bits(boundaries[NUMBERS_PER_BOUNDARY * i + WIDTH])
+    f64::from_bits(width_at(boundaries, i))
 }
 
 // Whether the mouth is twice as wide as the ramp, or wider.

@@ -9,8 +9,7 @@ use crate::measures::overlay_representative;
 use crate::shapes::row_at;
 use crate::shapes::triangle_representative;
 use context::pairs::full_cut;
-use geometry::boundaries::KIND;
-use geometry::boundaries::NUMBERS_PER_BOUNDARY;
+use geometry::boundaries::kind_at;
 ghost use mathlib.Core.Path.{_≡_};
 ghost use mathlib.Core.Bool.{true, false, cond};
 ghost use Prim.Native.Nat.{ℕ, _+_, _-_, _≤_, _<_};
@@ -313,7 +312,7 @@ pub fn mouth_candidate(
         EndsOf C a ends →
         candidateForm C m a x ≡ foundMouth C a m) ⌝ }
 {
-    if boundaries[NUMBERS_PER_BOUNDARY * m + KIND] != 0 {
+    if kind_at(boundaries, m) != 0 {
         return Candidate::None;
     }
     if !full_cut(tallies, m) {

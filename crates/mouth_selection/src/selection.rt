@@ -2,9 +2,8 @@
 use crate::held::hold_proposal;
 use crate::held::proposal_held;
 use crate::keys::ranks_before;
-use geometry::boundaries::KIND;
-use geometry::boundaries::NUMBERS_PER_BOUNDARY;
-use geometry::boundaries::RAMP;
+use geometry::boundaries::kind_at;
+use geometry::boundaries::ramp_at;
 ghost use mathlib.Core.Path.{_≡_};
 ghost use mathlib.Core.Bool.{false, not, _&&_};
 ghost use mathlib.Core.List.{List, [], _∷_, _++_};
@@ -29,9 +28,8 @@ fn same_end(boundaries: &[u64], i: usize, j: usize) -> bool
     requires { ⌜ (numbersPerBoundary * i + 8 < length (now boundaries)) × (numbersPerBoundary * j + 8 < length (now boundaries)) ⌝ }
     ensures { λ r. ⌜ r ≡ sameEnd (now (boundaries .entry)) i j ⌝ }
 {
-    (boundaries[NUMBERS_PER_BOUNDARY * i + RAMP] == boundaries[NUMBERS_PER_BOUNDARY * j + RAMP])
-        & (boundaries[NUMBERS_PER_BOUNDARY * i + KIND]
-            == boundaries[NUMBERS_PER_BOUNDARY * j + KIND])
+    (ramp_at(boundaries, i) == ramp_at(boundaries, j))
+        & (kind_at(boundaries, i) == kind_at(boundaries, j))
 }
 
 // Marks every boundary that is the ramp end of boundary a.

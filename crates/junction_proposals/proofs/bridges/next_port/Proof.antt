@@ -2,10 +2,10 @@
 -- Assumes nothing.
 use Prim.Native.Nat.{_-_, _≤_}
 use native.Mathlib.Omega.{arith}
-use mathlib.Core.Path.{_≡_, sym, ap, _∙_}
+use mathlib.Core.Path.{_≡_, sym, _∙_}
 use mathlib.Core.Bool.{_&&_}
+use lib.Dec.{eqb}
 use Rattle.junction_proposals.specs.Ports.{names}
-use Rattle.junction_proposals.specs.Unions.{noRampAt}
 use Rattle.junction_proposals.specs.Bridges.{isPocketPort}
 use Rattle.junction_proposals.proofs.FirstFound.{NoneFrom, none-more, first-here, first-nowhere}
 use borrow.Author.Needs.{needs}
@@ -37,25 +37,14 @@ to-loop c =
     at-names-region-arg .before .before .before
 
 -- what was tested of boundary j
-tested : (c : tie.After-names-region Inv-loop μ-loop) → isPocketPort (to-entry c .args .smaller .now) (to-entry c .args .larger .now) (to-entry c .args .r) (to-entry c .args .boundaries .now) (to-loop c .loop .j) ≡ (c .names-region .result && noRampAt (to-entry c .args .boundaries .now) (to-loop c .loop .j))
+tested : (c : tie.After-names-region Inv-loop μ-loop) → isPocketPort (to-entry c .args .smaller .now) (to-entry c .args .larger .now) (to-entry c .args .r) (to-entry c .args .boundaries .now) (to-loop c .loop .j) ≡ (c .names-region .result && eqb (c .before .before .before .kind-at .result) 0)
 unfolding isPocketPort names
 tested c =
-    let at-names-region-arg = c .before .before in
-    let at-loop = at-names-region-arg .before .before .before in
-    let entry = at-loop .before .before in
-    ap (λ b. b && noRampAt (entry .args .boundaries .now) (at-loop .loop .j)) (sym (c .names-region .ensures))
+    let at-kind-at = c .before .before .before in
+    λ i. sym (c .names-region .ensures) i && eqb (sym (at-kind-at .kind-at .ensures) i) 0
 
-mul-plain : tie.Need-mul-plain Inv-loop μ-loop
-mul-plain c = search needs
-
-add-plain : tie.Need-add-plain Inv-loop μ-loop
-add-plain c = search needs
-
-mul-plain-2 : tie.Need-mul-plain-2 Inv-loop μ-loop
-mul-plain-2 c = search needs
-
-shared-slice-read-plain : tie.Need-shared-slice-read-plain Inv-loop μ-loop
-shared-slice-read-plain c = search needs
+kind-at-requires : tie.Need-kind-at-requires Inv-loop μ-loop
+kind-at-requires c κs = search needs
 
 mul-names-region : tie.Need-mul-names-region Inv-loop μ-loop
 mul-names-region c = search needs
@@ -101,10 +90,7 @@ next-port-spec =
     Inv-loop
     μ-loop
     loop-holds
-    mul-plain
-    add-plain
-    mul-plain-2
-    shared-slice-read-plain
+    kind-at-requires
     mul-names-region
     element-copy-out-names-region
     mul-names-region-2

@@ -63,24 +63,15 @@ returns c =
     let entry = at-shared-slice-known3 .before .before .before in
     no-pair (boundaries entry) (smaller entry) (larger entry) (counts entry) (marks entry) (entry .args .count) (entry .args .index) (c .if1 .taken)
 
-mul-if2 : tie.Need-mul-if2
-mul-if2 c = search needs
-
-add-if2 : tie.Need-add-if2
-add-if2 c = search needs
-
-mul-if2-2 : tie.Need-mul-if2-2
-mul-if2-2 c = search needs
-
-shared-slice-read-if2 : tie.Need-shared-slice-read-if2
-shared-slice-read-if2 c = search needs
+kind-at-requires : tie.Need-kind-at-requires
+kind-at-requires c κs = search needs
 
 returns-2 : tie.Need-returns-2
 returns-2 c =
     let at-hi = c .before .before .before in
     let at-shared-slice-known2 = at-hi .before .before .before in
     let entry = at-shared-slice-known2 .before .before in
-    has-ramp (boundaries entry) (smaller entry) (larger entry) (counts entry) (marks entry) (entry .args .count) (entry .args .index) (c .before .before .if1 .left) (ne-eqb _ 0 (c .if2 .taken))
+    has-ramp (boundaries entry) (smaller entry) (larger entry) (counts entry) (marks entry) (entry .args .count) (entry .args .index) (c .before .before .if1 .left) (ap (λ k. eqb k 0) (sym (c .before .kind-at .ensures)) ∙ ne-eqb _ 0 (c .if2 .taken))
 
 anchored-bit-requires : tie.Need-anchored-bit-requires
 anchored-bit-requires c κs =
@@ -96,6 +87,13 @@ anchored-bit-requires-2 c κs =
     let entry = at-shared-slice-known3 .before .before .before in
     omega (arith, named entry (at-if1 .if1 .left), entry .pre .0 .marksLong)
 
+-- the function's entry, from the state at `if2`
+abbrev start-of : tie.Else2 → tie.Start
+start-of c =
+    let at-hi = c .before .before .before in
+    let at-shared-slice-known2 = at-hi .before .before .before in
+    at-shared-slice-known2 .before .before
+
 -- the function's entry, from the state at `anchored-bit`
 abbrev to-entry : tie.After-anchored-bit → tie.Start
 to-entry c =
@@ -109,13 +107,17 @@ add-anchored c =
     let entry = to-entry at-anchored-bit in
     omega (arith, c .anchored-bit2 .ensures, at-anchored-bit .anchored-bit .ensures, bit-le (markAt (marks entry) (lo entry)), bit-le (markAt (marks entry) (hi entry)))
 
+-- past the second test: no ramp
+without-ramp : (c : tie.Else2) → noRampAt (boundaries (start-of c)) (start-of c .args .index) ≡ true
+without-ramp c = ap (λ k. eqb k 0) (sym (c .before .kind-at .ensures)) ∙ eq-eqb _ 0 (c .if2 .left)
+
 returns-3 : tie.Need-returns-3
 returns-3 c =
     let at-anchored-bit = c .before .before in
     let at-if1 = at-anchored-bit .before .before .before in
     let at-shared-slice-known3 = at-if1 .before .before .before in
     let entry = at-shared-slice-known3 .before .before .before in
-    both-anchored (boundaries entry) (smaller entry) (larger entry) (counts entry) (marks entry) (entry .args .count) (entry .args .index) (at-if1 .if1 .left) (eq-eqb _ 0 (c .before .before .before .if2 .left)) (omega (arith, c .if3 .taken, c .before .anchored-bit2 .ensures, at-anchored-bit .anchored-bit .ensures))
+    both-anchored (boundaries entry) (smaller entry) (larger entry) (counts entry) (marks entry) (entry .args .count) (entry .args .index) (at-if1 .if1 .left) (without-ramp (c .before .before .before)) (omega (arith, c .if3 .taken, c .before .anchored-bit2 .ensures, at-anchored-bit .anchored-bit .ensures))
 
 -- the state at `if1`, from the state at `if3`
 abbrev to-if1 : tie.Else3 → tie.Else1
@@ -134,7 +136,7 @@ module _ (e : tie.Else3) where
   pair = to-if1 e .if1 .left
 
   abbrev plain : noRampAt (boundaries start) (start .args .index) ≡ true
-  plain = eq-eqb _ 0 (e .before .before .before .if2 .left)
+  plain = without-ramp (e .before .before .before)
 
   -- the sum of the two marks
   marked : e .before .before .anchored-bit .result + e .before .anchored-bit2 .result ≡ marksOf (marks start) (union start)
@@ -219,10 +221,7 @@ is-union-spec =
     mul-hi
     element-copy-out-hi
     returns
-    mul-if2
-    add-if2
-    mul-if2-2
-    shared-slice-read-if2
+    kind-at-requires
     returns-2
     anchored-bit-requires
     anchored-bit-requires-2

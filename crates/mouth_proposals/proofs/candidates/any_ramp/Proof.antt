@@ -3,6 +3,7 @@ use Prim.Native.Nat.{_-_, _≤_}
 use native.Mathlib.Nat.{le-antisymm}
 use mathlib.Core.Path.{_≡_, refl, sym, ap, _∙_}
 use mathlib.Core.Bool.{false, not}
+use lib.Dec.{eqb}
 use borrow.Author.Needs.{needs}
 use borrow.Author.Tests.{eq-eqb, ne-eqb}
 use Rattle.definitions.specs.Scan.{anyBelow}
@@ -22,23 +23,14 @@ loop-holds : tie.Need-loop-holds Inv-loop μ-loop
 unfolding anyBelow
 loop-holds c = (search needs, refl)
 
-mul-if1 : tie.Need-mul-if1 Inv-loop μ-loop
-mul-if1 c = search needs
-
-add-if1 : tie.Need-add-if1 Inv-loop μ-loop
-add-if1 c = search needs
-
-mul-if1-2 : tie.Need-mul-if1-2 Inv-loop μ-loop
-mul-if1-2 c = search needs
-
-shared-slice-read-if1 : tie.Need-shared-slice-read-if1 Inv-loop μ-loop
-shared-slice-read-if1 c = search needs
+kind-at-requires : tie.Need-kind-at-requires Inv-loop μ-loop
+kind-at-requires c κs = search needs
 
 returns : tie.Need-returns Inv-loop μ-loop
 returns c =
     let at-loop = c .before .before .before in
-    let entry = at-loop .before in
-    sym (below-at (entry .args .count) (rampAt (entry .args .boundaries .now)) (at-loop .loop .i) (c .before .before .loop-test .taken) (ap not (ne-eqb _ 0 (c .if1 .taken))))
+    let entry = at-loop .before .before in
+    sym (below-at (entry .args .count) (rampAt (entry .args .boundaries .now)) (at-loop .loop .i) (c .before .before .loop-test .taken) (ap not (ap (λ k. eqb k 0) (sym (c .before .kind-at .ensures)) ∙ ne-eqb _ 0 (c .if1 .taken))))
 
 add-i : tie.Need-add-i Inv-loop μ-loop
 add-i c = search needs
@@ -49,11 +41,11 @@ loop-less c = search needs
 loop-again : tie.Need-loop-again Inv-loop μ-loop
 loop-again c =
     let at-loop = c .before .before .before in
-    let entry = at-loop .before in
-    (search needs, any-none (rampAt (entry .args .boundaries .now)) (at-loop .loop .i) (at-loop .loop .inv .1) (ap not (eq-eqb _ 0 (c .if1 .left))))
+    let entry = at-loop .before .before in
+    (search needs, any-none (rampAt (entry .args .boundaries .now)) (at-loop .loop .i) (at-loop .loop .inv .1) (ap not (ap (λ k. eqb k 0) (sym (c .before .kind-at .ensures)) ∙ eq-eqb _ 0 (c .if1 .left))))
 
 returns-2 : tie.Need-returns-2 Inv-loop μ-loop
-returns-2 c = sym (ap (λ n. anyBelow n (rampAt (c .before .before .args .boundaries .now))) (le-antisymm (c .loop-test .left) (c .before .loop .inv .0)) ∙ c .before .loop .inv .1)
+returns-2 c = sym (ap (λ n. anyBelow n (rampAt (c .before .before .before .args .boundaries .now))) (le-antisymm (c .loop-test .left) (c .before .loop .inv .0)) ∙ c .before .loop .inv .1)
 
 pub any-ramp-spec : {M : Type 1} → statement M
 any-ramp-spec =
@@ -62,10 +54,7 @@ any-ramp-spec =
     Inv-loop
     μ-loop
     loop-holds
-    mul-if1
-    add-if1
-    mul-if1-2
-    shared-slice-read-if1
+    kind-at-requires
     returns
     add-i
     loop-less

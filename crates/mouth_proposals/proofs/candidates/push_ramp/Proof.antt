@@ -1,6 +1,7 @@
 -- `candidates::push_ramp` meets its contract, by its tests. Assumes nothing.
 use native.Mathlib.Omega.{arith}
-use mathlib.Core.Path.{sym, _∙_}
+use mathlib.Core.Path.{sym, ap, _∙_}
+use lib.Dec.{eqb}
 use borrow.Author.Tests.{eq-eqb, ne-eqb, not-true, not-false}
 use Rattle.mouth_proposals.specs.Candidates.{mouthCandidate}
 use Rattle.mouth_proposals.specs.Listed.{plainAt}
@@ -10,41 +11,32 @@ use borrow.Author.Needs.{needs}
 use Rattle.mouth_proposals.proofs.candidates.push_ramp.Statement.{statement}
 use Rattle.mouth_proposals.proofs.candidates.push_ramp.Tie as tie
 
-mul-if1 : tie.Need-mul-if1
-mul-if1 c = search needs
-
-add-if1 : tie.Need-add-if1
-add-if1 c = search needs
-
-mul-if1-2 : tie.Need-mul-if1-2
-mul-if1-2 c = search needs
-
-shared-slice-read-if1 : tie.Need-shared-slice-read-if1
-shared-slice-read-if1 c = search needs
+kind-at-requires : tie.Need-kind-at-requires
+kind-at-requires c κs = search needs
 
 returns : tie.Need-returns
 returns c =
-    let at-shared-slice-known6 = c .before in
-    let at-shared-slice-known3 = at-shared-slice-known6 .before .before .before in
+    let at-kind-at = c .before in
+    let at-shared-slice-known3 = at-kind-at .before .before .before in
     let entry = at-shared-slice-known3 .before .before .before in (
       none-counted (plainAt (entry .args .boundaries .now)) (entry .args .count) (omega (arith, entry .pre .0 .shows .bounds .few, entry .pre .0 .shows .counted)) (entry .args .a) (entry .args .n) (entry .pre .1 .1 .0),
       (
         entry .pre .1 .0,
-        λ C l S T F. filled-as F (same-list l (mouthCandidate C (entry .args .a)) (entry .args .count) (λ m. no-ramp-none C (entry .args .a) m (kind-shown (S .bounds) (entry .args .a) (below (S .counted) (entry .pre .1 .1 .1)) ∙ eq-eqb _ 0 (c .if1 .taken)))),
+        λ C l S T F. filled-as F (same-list l (mouthCandidate C (entry .args .a)) (entry .args .count) (λ m. no-ramp-none C (entry .args .a) m (kind-shown (S .bounds) (entry .args .a) (below (S .counted) (entry .pre .1 .1 .1)) ∙ ap (λ k. eqb k 0) (sym (c .before .kind-at .ensures)) ∙ eq-eqb _ 0 (c .if1 .taken)))),
       ),
     )
 
 full-cut-requires : tie.Need-full-cut-requires
 full-cut-requires c κs =
-    let at-shared-slice-known6 = c .before in
-    let at-shared-slice-known3 = at-shared-slice-known6 .before .before .before in
+    let at-kind-at = c .before in
+    let at-shared-slice-known3 = at-kind-at .before .before .before in
     let entry = at-shared-slice-known3 .before .before .before in
     tallies-at (entry .pre .0) (entry .pre .1 .1 .1)
 
 returns-2 : tie.Need-returns-2
 returns-2 c =
-    let at-shared-slice-known6 = c .before .before .before in
-    let at-shared-slice-known3 = at-shared-slice-known6 .before .before .before in
+    let at-kind-at = c .before .before .before in
+    let at-shared-slice-known3 = at-kind-at .before .before .before in
     let entry = at-shared-slice-known3 .before .before .before in (
       none-counted (plainAt (entry .args .boundaries .now)) (entry .args .count) (omega (arith, entry .pre .0 .shows .bounds .few, entry .pre .0 .shows .counted)) (entry .args .a) (entry .args .n) (entry .pre .1 .1 .0),
       (
@@ -55,8 +47,8 @@ returns-2 c =
 
 find-other-ends-requires : tie.Need-find-other-ends-requires
 find-other-ends-requires c κs =
-    let at-shared-slice-known6 = c .before .before .before in
-    let at-shared-slice-known3 = at-shared-slice-known6 .before .before .before in
+    let at-kind-at = c .before .before .before in
+    let at-shared-slice-known3 = at-kind-at .before .before .before in
     let entry = at-shared-slice-known3 .before .before .before in
     ((rows-counted (entry .pre .0), entry .pre .1 .1 .1), (tallies-at (entry .pre .0) (entry .pre .1 .1 .1), λ i l. stretch-at (entry .pre .0) l))
 
@@ -65,10 +57,10 @@ push-mouths-requires c κs =
     let at-push-mouths-arg3 = c .before .before in
     let at-find-other-ends = at-push-mouths-arg3 .before .before .before in
     let at-if1 = at-find-other-ends .before .before .before in
-    let at-shared-slice-known6 = at-if1 .before in
-    let at-shared-slice-known3 = at-shared-slice-known6 .before .before .before in
+    let at-kind-at = at-if1 .before in
+    let at-shared-slice-known3 = at-kind-at .before .before .before in
     let entry = at-shared-slice-known3 .before .before .before in
-    (entry .pre .0, (entry .pre .1 .0, (ramp-fits (plainAt (entry .args .boundaries .now)) (entry .args .count) (omega (arith, entry .pre .0 .shows .bounds .few, entry .pre .0 .shows .counted)) (entry .args .a) (entry .args .n) (entry .pre .1 .1 .1) (ne-eqb _ 0 (at-if1 .if1 .left)) (entry .pre .1 .1 .0), entry .pre .1 .1 .1)))
+    (entry .pre .0, (entry .pre .1 .0, (ramp-fits (plainAt (entry .args .boundaries .now)) (entry .args .count) (omega (arith, entry .pre .0 .shows .bounds .few, entry .pre .0 .shows .counted)) (entry .args .a) (entry .args .n) (entry .pre .1 .1 .1) (ap (λ k. eqb k 0) (sym (at-if1 .before .kind-at .ensures)) ∙ ne-eqb _ 0 (at-if1 .if1 .left)) (entry .pre .1 .1 .0), entry .pre .1 .1 .1)))
 
 returns-3 : tie.Need-returns-3
 returns-3 c =
@@ -80,12 +72,12 @@ returns-3 c =
     let at-shared-slice-known5 = at-if1 .before .before in
     let at-shared-slice-known3 = at-shared-slice-known5 .before .before in
     let entry = at-shared-slice-known3 .before .before .before in (
-      ramp-counted (plainAt (entry .args .boundaries .now)) (entry .args .count) (omega (arith, entry .pre .0 .shows .bounds .few, entry .pre .0 .shows .counted)) (entry .args .a) (entry .args .n) _ (ne-eqb _ 0 (at-if1 .if1 .left)) (entry .pre .1 .1 .0) (c .push-mouths .ensures .0),
+      ramp-counted (plainAt (entry .args .boundaries .now)) (entry .args .count) (omega (arith, entry .pre .0 .shows .bounds .few, entry .pre .0 .shows .counted)) (entry .args .a) (entry .args .n) _ (ap (λ k. eqb k 0) (sym (at-if1 .before .kind-at .ensures)) ∙ ne-eqb _ 0 (at-if1 .if1 .left)) (entry .pre .1 .1 .0) (c .push-mouths .ensures .0),
       (
         c .push-mouths .ensures .1 .0,
         λ C l S T F.
             let la = below (S .counted) (entry .pre .1 .1 .1) in
-            c .push-mouths .ensures .1 .1 C l S T (kind-shown (S .bounds) (entry .args .a) la ∙ ne-eqb _ 0 (at-if1 .if1 .left)) (sym (at-full-cut .full-cut .ensures C T la) ∙ not-false _ (at-if2 .if2 .left)) (at-find-other-ends .find-other-ends .ensures C (S .counted) (S .bounds) T (S .rows)) F,
+            c .push-mouths .ensures .1 .1 C l S T (kind-shown (S .bounds) (entry .args .a) la ∙ ap (λ k. eqb k 0) (sym (at-if1 .before .kind-at .ensures)) ∙ ne-eqb _ 0 (at-if1 .if1 .left)) (sym (at-full-cut .full-cut .ensures C T la) ∙ not-false _ (at-if2 .if2 .left)) (at-find-other-ends .find-other-ends .ensures C (S .counted) (S .bounds) T (S .rows)) F,
       ),
     )
 
@@ -93,10 +85,7 @@ pub push-ramp-spec : {M : Type 1} → statement M
 push-ramp-spec =
     tie.close
     (tie.spec
-    mul-if1
-    add-if1
-    mul-if1-2
-    shared-slice-read-if1
+    kind-at-requires
     returns
     full-cut-requires
     returns-2

@@ -1,6 +1,7 @@
 -- `mouths::mouth_candidate` meets its contract: each return by the tests that led there. Assumes nothing.
-use mathlib.Core.Path.{sym, _∙_}
+use mathlib.Core.Path.{sym, ap, _∙_}
 use mathlib.Core.Bool.{true, not}
+use lib.Dec.{eqb}
 use borrow.Author.Tests.{eq-eqb, ne-eqb, not-true, not-false}
 use Rattle.definitions.specs.MouthShapes.{mouthShape}
 use Rattle.definitions.specs.Context.{fullPair}
@@ -13,53 +14,44 @@ use Rattle.context.proofs.FullPairs.{between-length}
 use Rattle.mouth_proposals.proofs.mouths.mouth_candidate.Statement.{statement}
 use Rattle.mouth_proposals.proofs.mouths.mouth_candidate.Tie as tie
 
-mul-if1 : tie.Need-mul-if1
-mul-if1 c = search needs
-
-add-if1 : tie.Need-add-if1
-add-if1 c = search needs
-
-mul-if1-2 : tie.Need-mul-if1-2
-mul-if1-2 c = search needs
-
-shared-slice-read-if1 : tie.Need-shared-slice-read-if1
-shared-slice-read-if1 c = search needs
+kind-at-requires : tie.Need-kind-at-requires
+kind-at-requires c κs = search needs
 
 returns : tie.Need-returns
 returns c =
-    let at-shared-slice-known6 = c .before in
-    let at-shared-slice-known3 = at-shared-slice-known6 .before .before .before in
+    let at-kind-at = c .before in
+    let at-shared-slice-known3 = at-kind-at .before .before .before in
     let entry = at-shared-slice-known3 .before .before .before in
     λ C S T ramp cut E.
     let m = entry .args .m in
     let a = entry .args .a in
     let lm = below (S .counted) (entry .pre .1 .0) in
     let la = below (S .counted) (entry .pre .1 .1) in
-    has-ramp C a m ramp cut (kind-shown (S .bounds) m lm ∙ ne-eqb _ 0 (c .if1 .taken))
+    has-ramp C a m ramp cut (kind-shown (S .bounds) m lm ∙ ap (λ k. eqb k 0) (sym (c .before .kind-at .ensures)) ∙ ne-eqb _ 0 (c .if1 .taken))
 
 full-cut-requires : tie.Need-full-cut-requires
 full-cut-requires c κs =
-    let at-shared-slice-known6 = c .before in
-    let at-shared-slice-known3 = at-shared-slice-known6 .before .before .before in
+    let at-kind-at = c .before in
+    let at-shared-slice-known3 = at-kind-at .before .before .before in
     let entry = at-shared-slice-known3 .before .before .before in
     tallies-at (entry .pre .0) (entry .pre .1 .0)
 
 returns-2 : tie.Need-returns-2
 returns-2 c =
-    let at-shared-slice-known6 = c .before .before .before in
-    let at-shared-slice-known3 = at-shared-slice-known6 .before .before .before in
+    let at-kind-at = c .before .before .before in
+    let at-shared-slice-known3 = at-kind-at .before .before .before in
     let entry = at-shared-slice-known3 .before .before .before in
     λ C S T ramp cut E.
     let m = entry .args .m in
     let a = entry .args .a in
     let lm = below (S .counted) (entry .pre .1 .0) in
     let la = below (S .counted) (entry .pre .1 .1) in
-    not-full C a m ramp cut (kind-shown (S .bounds) m lm ∙ eq-eqb _ 0 (c .before .before .if1 .left)) (sym (c .before .full-cut .ensures C T lm) ∙ not-true _ (c .if2 .taken))
+    not-full C a m ramp cut (kind-shown (S .bounds) m lm ∙ ap (λ k. eqb k 0) (sym (c .before .before .before .kind-at .ensures)) ∙ eq-eqb _ 0 (c .before .before .if1 .left)) (sym (c .before .full-cut .ensures C T lm) ∙ not-true _ (c .if2 .taken))
 
 triangle-representative-requires : tie.Need-triangle-representative-requires
 triangle-representative-requires c κs =
-    let at-shared-slice-known6 = c .before .before .before in
-    let at-shared-slice-known3 = at-shared-slice-known6 .before .before .before in
+    let at-kind-at = c .before .before .before in
+    let at-shared-slice-known3 = at-kind-at .before .before .before in
     let entry = at-shared-slice-known3 .before .before .before in
     (stretch-at (entry .pre .0) (entry .pre .1 .0), stretch-at (entry .pre .0) (entry .pre .1 .1))
 
@@ -94,7 +86,7 @@ returns-3 c =
     let lm = below (S .counted) (entry .pre .1 .0) in
     let la = below (S .counted) (entry .pre .1 .1) in
     let h = both (not (c .before .before .before .triangle-representative .result)) (at-is-none .is-none .result) (c .if3 .taken) in
-    no-shape C a m ramp cut (kind-shown (S .bounds) m lm ∙ eq-eqb _ 0 (at-if1 .if1 .left)) (sym (at-full-cut .full-cut .ensures C T lm) ∙ not-false _ (at-if2 .if2 .left)) (S .rows .named m lm) (c .before .before .before .triangle-representative .result)
+    no-shape C a m ramp cut (kind-shown (S .bounds) m lm ∙ ap (λ k. eqb k 0) (sym (at-if1 .before .kind-at .ensures)) ∙ eq-eqb _ 0 (at-if1 .if1 .left)) (sym (at-full-cut .full-cut .ensures C T lm) ∙ not-false _ (at-if2 .if2 .left)) (S .rows .named m lm) (c .before .before .before .triangle-representative .result)
     (triangle-shown (S .rows) m a lm la (c .before .before .before .triangle-representative .result) (c .before .before .before .triangle-representative .ensures)) (c .before .before .approach-of .result) (c .before .before .approach-of .ensures C T (S .rows) lm la) (not-true _ (h .0)) (at-is-none .is-none .ensures (h .1))
 
 broad-mouth-requires : tie.Need-broad-mouth-requires
@@ -135,7 +127,7 @@ returns-4 c =
     let a = entry .args .a in
     let lm = below (S .counted) (entry .pre .1 .0) in
     let la = below (S .counted) (entry .pre .1 .1) in
-    too-far C a m ramp cut (kind-shown (S .bounds) m lm ∙ eq-eqb _ 0 (at-if1 .if1 .left)) (sym (at-full-cut .full-cut .ensures C T lm) ∙ not-false _ (at-if2 .if2 .left)) (S .rows .named m lm) (at-triangle-representative .triangle-representative .result)
+    too-far C a m ramp cut (kind-shown (S .bounds) m lm ∙ ap (λ k. eqb k 0) (sym (at-if1 .before .kind-at .ensures)) ∙ eq-eqb _ 0 (at-if1 .if1 .left)) (sym (at-full-cut .full-cut .ensures C T lm) ∙ not-false _ (at-if2 .if2 .left)) (S .rows .named m lm) (at-triangle-representative .triangle-representative .result)
     (triangle-shown (S .rows) m a lm la (at-triangle-representative .triangle-representative .result) (at-triangle-representative .triangle-representative .ensures)) (at-approach-of .approach-of .result) (at-approach-of .approach-of .ensures C T (S .rows) lm la)
     (at-broad-mouth .broad-mouth .result) (c .before .before .nearby-representative .result) (c .before .overlay-representative .result)
     (sym (at-broad-mouth .broad-mouth .ensures C (S .bounds) lm la)) (sym (c .before .before .nearby-representative .ensures C (S .bounds) lm la)) (sym (c .before .overlay-representative .ensures C (S .bounds) lm la)) (not-true _ (c .if4 .taken))
@@ -175,7 +167,7 @@ returns-5 c =
     let lm = below (S .counted) (entry .pre .1 .0) in
     let la = below (S .counted) (entry .pre .1 .1) in
     c .triangle-mouth .ensures C a (S .rows) (S .anchored) lm
-    ∙ by-triangle C a m ramp cut (kind-shown (S .bounds) m lm ∙ eq-eqb _ 0 (at-if1 .if1 .left)) (sym (at-full-cut .full-cut .ensures C T lm) ∙ not-false _ (at-if2 .if2 .left)) (S .rows .named m lm) (at-triangle-representative .triangle-representative .result)
+    ∙ by-triangle C a m ramp cut (kind-shown (S .bounds) m lm ∙ ap (λ k. eqb k 0) (sym (at-if1 .before .kind-at .ensures)) ∙ eq-eqb _ 0 (at-if1 .if1 .left)) (sym (at-full-cut .full-cut .ensures C T lm) ∙ not-false _ (at-if2 .if2 .left)) (S .rows .named m lm) (at-triangle-representative .triangle-representative .result)
     (triangle-shown (S .rows) m a lm la (at-triangle-representative .triangle-representative .result) (at-triangle-representative .triangle-representative .ensures)) (at-approach-of .approach-of .result) (at-approach-of .approach-of .ensures C T (S .rows) lm la)
     (at-broad-mouth .broad-mouth .result) (at-nearby-representative .nearby-representative .result) (at-overlay-representative .overlay-representative .result)
     (sym (at-broad-mouth .broad-mouth .ensures C (S .bounds) lm la)) (sym (at-nearby-representative .nearby-representative .ensures C (S .bounds) lm la)) (sym (at-overlay-representative .overlay-representative .ensures C (S .bounds) lm la)) (c .before .if5 .taken)
@@ -217,7 +209,7 @@ returns-6 c =
     c .approach-mouth .ensures C a (S .rows) (S .incidents) (S .anchored) lm (approach-named (S .rows) m lm (fullPair C a) k) (approach-known C a (entry .args .ends) E (mouthShape true (C .pairs m)) k)
     (at-broad-mouth .broad-mouth .ensures C (S .bounds) lm la)
     (overlay-only C m a (at-broad-mouth .broad-mouth .ensures C (S .bounds) lm la) (at-nearby-representative .nearby-representative .ensures C (S .bounds) lm la) (at-overlay-representative .overlay-representative .ensures C (S .bounds) lm la))
-    ∙ by-approach C a m ramp cut (kind-shown (S .bounds) m lm ∙ eq-eqb _ 0 (at-if1 .if1 .left)) (sym (at-full-cut .full-cut .ensures C T lm) ∙ not-false _ (at-if2 .if2 .left)) (S .rows .named m lm) (at-triangle-representative .triangle-representative .result)
+    ∙ by-approach C a m ramp cut (kind-shown (S .bounds) m lm ∙ ap (λ k. eqb k 0) (sym (at-if1 .before .kind-at .ensures)) ∙ eq-eqb _ 0 (at-if1 .if1 .left)) (sym (at-full-cut .full-cut .ensures C T lm) ∙ not-false _ (at-if2 .if2 .left)) (S .rows .named m lm) (at-triangle-representative .triangle-representative .result)
     (triangle-shown (S .rows) m a lm la (at-triangle-representative .triangle-representative .result) (at-triangle-representative .triangle-representative .ensures)) (at-approach-of .approach-of .result) k
     (at-broad-mouth .broad-mouth .result) (at-nearby-representative .nearby-representative .result) (at-overlay-representative .overlay-representative .result)
     (sym (at-broad-mouth .broad-mouth .ensures C (S .bounds) lm la)) (sym (at-nearby-representative .nearby-representative .ensures C (S .bounds) lm la)) (sym (at-overlay-representative .overlay-representative .ensures C (S .bounds) lm la)) (not-false _ (c .before .before .if4 .left)) (c .before .if5 .left)
@@ -226,10 +218,7 @@ pub mouth-candidate-spec : {M : Type 1} → statement M
 mouth-candidate-spec =
     tie.close
     (tie.spec
-    mul-if1
-    add-if1
-    mul-if1-2
-    shared-slice-read-if1
+    kind-at-requires
     returns
     full-cut-requires
     returns-2
