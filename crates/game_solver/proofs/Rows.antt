@@ -3,7 +3,7 @@
 use Prim.Native.Nat.{ℕ, zero, suc, _+_, _*_, _/_, _%_, _≤_, _<_}
 use native.Mathlib.Omega.{arith}
 use mathlib.Core.Path.{_≡_, refl, sym, ap, ap₂, _∙_}
-use mathlib.Core.Bool.{Bool, true, false, not, _&&_, _||_, cond, or-false}
+use mathlib.Core.Bool.{Bool, true, false, not, _&&_, _||_, cond, or-false, and-false}
 use mathlib.Core.List.{List}
 use lib.ListN.{length, getD, set, length-set}
 use lib.Seq.{getD-set-same, getD-set-other}
@@ -143,10 +143,6 @@ sweeping-ends near regions goal runner guard k runners guards S h = record { run
 
 -- ---- the ranks of one guard's region and turn: the places of the runner's regions below r are put
 
-none : (b : Bool) → (b && false) ≡ false
-none true = refl
-none false = refl
-
 pub record RankRow (old new at rank : ℕ) (ranks₀ : List ℕ) (r : ℕ) (ranks : List ℕ) : Type 0 where
   pub upto : r ≤ 32
   pub long : length ranks ≡ 2048
@@ -160,7 +156,7 @@ row-starts old new at rank ranks l =
       put =
           λ i h.
           sym (ap (λ b. cond (eqb (i % 64) at && (b && isNew old new (i / 64))) rank (getD ranks i 0)) (le-ltb (i / 64) 0 (omega arith))
-          ∙ ap (λ b. cond b rank (getD ranks i 0)) (none (eqb (i % 64) at)));
+          ∙ ap (λ b. cond b rank (getD ranks i 0)) (and-false (eqb (i % 64) at)));
     }
 
 pub row-more : (old new at rank : ℕ) (ranks₀ : List ℕ) (r : ℕ) (ranks : List ℕ) (v : ℕ) → at < 64 → RankRow old new at rank ranks₀ r ranks → r < 32
@@ -178,7 +174,7 @@ row-more old new at rank ranks₀ r ranks v few R h e =
     had : (i : ℕ) → i < 2048 → i / 64 ≡ r → getD ranks i 0 ≡ getD ranks₀ i 0
     had i l q =
         R .put i l ∙ ap (λ b. cond (eqb (i % 64) at && (b && isNew old new (i / 64))) rank (getD ranks₀ i 0)) (le-ltb (i / 64) r (omega (arith, q)))
-        ∙ ap (λ b. cond b rank (getD ranks₀ i 0)) (none (eqb (i % 64) at))
+        ∙ ap (λ b. cond b rank (getD ranks₀ i 0)) (and-false (eqb (i % 64) at))
 
     -- one region more makes no difference elsewhere
     elsewhere : (i : ℕ) → (i ≡ here → ⊥) → (eqb (i % 64) at && (ltb (i / 64) r && isNew old new (i / 64))) ≡ (eqb (i % 64) at && (ltb (i / 64) (r + 1) && isNew old new (i / 64)))
@@ -229,7 +225,7 @@ row-ends old new at rank ranks₀ r ranks R h i l =
 pub row-same : (old new at rank : ℕ) (ranks : List ℕ) → old ≡ new → (i : ℕ) → getD ranks i 0 ≡ cond (eqb (i % 64) at && isNew old new (i / 64)) rank (getD ranks i 0)
 row-same old new at rank ranks e i =
     sym ((λ j. cond (eqb (i % 64) at && isNew (e j) new (i / 64)) rank (getD ranks i 0)) ∙ ap (λ b. cond (eqb (i % 64) at && b) rank (getD ranks i 0)) (never (hasBit new (i / 64)))
-    ∙ ap (λ b. cond b rank (getD ranks i 0)) (none (eqb (i % 64) at)))
+    ∙ ap (λ b. cond b rank (getD ranks i 0)) (and-false (eqb (i % 64) at)))
   where
     never : (b : Bool) → (b && not b) ≡ false
     never true = refl

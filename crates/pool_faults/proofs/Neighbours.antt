@@ -3,7 +3,7 @@
 use Prim.Native.Nat.{ℕ, zero, suc, _+_, _-_, _*_, _≤_, _<_}
 use native.Mathlib.Omega.{arith}
 use mathlib.Core.Path.{_≡_, refl, sym, ap, subst, _∙_}
-use mathlib.Core.Bool.{Bool, true, false, _&&_, _||_, false≢true}
+use mathlib.Core.Bool.{Bool, true, false, _&&_, _||_, false≢true, and-false}
 use mathlib.Core.Option.{Option, none, some}
 use mathlib.Core.List.{List, [], _∷_}
 use lib.ListN.{length, getD}
@@ -16,10 +16,6 @@ use Rattle.laws.specs.OrderLaws.ListOrder.{Three, less, same, over, three}
 use Rattle.catalogue.specs.Terms.{Days, termAt, daysOf, overlap}
 use Rattle.pool_terms.specs.Contract.{firstIn, endIn}
 use Rattle.pool_faults.specs.Apart.{Apart, Precedes, positionIn, Positions, Following, AllApart}
-
-and-no : (b : Bool) → (b && false) ≡ false
-and-no true = refl
-and-no false = refl
 
 module _ (l : List ℕ) where
   precedes-more : {a b c : ℕ} → Precedes l a b → Precedes l b c → Precedes l a c
@@ -69,7 +65,7 @@ module _ (l : List ℕ) where
       go true q none f = refl
       go true q (some c) f =
           let x = P .over (sym (eqb-true (termAt l j .onMap) (termAt l i .onMap) q)) in
-          rw (le-ltb (c .from) (d .to) (omega (arith, x .1, ap endIn e, ap firstIn f))) (and-no (ltb (d .from) (c .to)))
+          rw (le-ltb (c .from) (d .to) (omega (arith, x .1, ap endIn e, ap firstIn f))) (and-false (ltb (d .from) (c .to)))
 
   apart-behind : {i j : ℕ} → Precedes l j i → Apart l i j
   apart-behind {i} {j} P d e = go (eqb (termAt l j .onMap) (termAt l i .onMap)) refl (daysOf (termAt l j)) refl

@@ -6,7 +6,7 @@ use mathlib.Core.Path.{_≡_, refl, sym, ap, ap₂, _∙_, subst}
 use mathlib.Core.Bool.{Bool, false}
 use mathlib.Core.Option.{none, some}
 use mathlib.Core.List.{List, [], map}
-use lib.ListN.{length, drop, replicate, length-map, length-append, length-replicate, length-drop}
+use lib.ListN.{length, drop, replicate, length-map}
 use Rattle.definitions.specs.Limits.{maxSide, maxEntries, numbersPerSpan, numbersPerBoundary}
 use Rattle.definitions.specs.Grid.{Map, mapOf, cellCount}
 use Rattle.definitions.specs.Lists.{overwrite, zeroed}
@@ -37,15 +37,13 @@ use Rattle.desk_checks.specs.Shared.{lentBoth, RefusedBoth, SharedAs}
 use Rattle.desk_checks.proofs.DeskReady.{desk-ready}
 use Rattle.topology.specs.Filled.{Fills, Filled}
 use Rattle.topology.specs.Marks.{IsPass, Lent, MarkedFor}
+use Rattle.rest_lists.proofs.Inner.{zeroed-length}
 use Rattle.topology.specs.Contract.{exported, written}
 use Rattle.topology.specs.Desks.{deskOf, Ground, sharedOf, Partitioned, Terrain, DeskRan, DesksRan, RanBothOver}
 use Rattle.topology.proofs.Lending.{lends-both, leaves-both}
 use Rattle.topology.specs.declared.TopologyAnswer.{TopologyAnswer}
 use Rattle.topology.specs.declared.two_desks.DesksAnswer.{DesksAnswer}
 use Rattle.topology.proofs.Calling.{is-pass, ready-fills, ready-lent, ran-over, needed-few}
-
-length-zeroed : (n : ℕ) (l : List ℕ) → n ≤ length l → length (zeroed n l) ≡ length l
-length-zeroed n l h = omega (arith, length-append (replicate {A = ℕ} n 0) (drop n l), length-replicate {A = ℕ} n 0, length-drop n l)
 
 -- a desk with this refusal before all others
 served-refused : (S : Shared) (D : Desk) {number place : ℕ} → firstOf S D ≡ some (record { number = number; place = place })
@@ -85,10 +83,10 @@ module _ {G : Ground} {w h : ℕ} {spans : List ℕ} {regions rows : ℕ} {l m q
   P = T .partitioned
 
   masks-long : length m ≡ length (G .masks)
-  masks-long = ap length (T .cleared) ∙ length-zeroed (h * w) (G .masks) (ready-fit (P .ready) .masksLong)
+  masks-long = ap length (T .cleared) ∙ zeroed-length (h * w) (G .masks) (ready-fit (P .ready) .masksLong)
 
   queue-long : length q ≡ length (G .queue)
-  queue-long = ap length (T .emptied) ∙ length-zeroed (h * w) (G .queue) (ready-fit (P .ready) .queueLong)
+  queue-long = ap length (T .emptied) ∙ zeroed-length (h * w) (G .queue) (ready-fit (P .ready) .queueLong)
 
   -- the shared lists are as on success
   pub terrain-exit : LeftShared (sharedOf w h spans G) l m q t p (map recordOf s)

@@ -1,17 +1,10 @@
 -- `topology::two_desks::own_answer` meets its contract: each case of the checks' answer has its number. Assumes nothing.
-use mathlib.Core.Path.{_≡_, sym, ap, _∙_}
-use mathlib.Core.Option.{Option}
-use Rattle.definitions.specs.Refusals.{Refusal}
-use Rattle.areas.specs.declared.checked.Check.{Check}
-use Rattle.areas.specs.Answers.{refusalOf}
+use mathlib.Core.Path.{ap}
+use Rattle.areas.proofs.Chain.{says}
 use Rattle.desks.specs.Desks.{answerFrom}
 use borrow.Author.Needs.{needs}
 use Rattle.topology.proofs.two_desks.own_answer.Statement.{statement}
 use Rattle.topology.proofs.two_desks.own_answer.Tie as tie
-
--- what the checks' answer, known by its case, says
-says : {f v : Check} {o : Option Refusal} → refusalOf f ≡ o → f ≡ v → refusalOf v ≡ o
-says e g = sym (ap refusalOf g) ∙ e
 
 check-desk-requires : tie.Need-check-desk-requires
 check-desk-requires c κs = search needs
