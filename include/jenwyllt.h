@@ -309,7 +309,7 @@ struct jenwyllt_desks_answer {
    With a refusal of the shared lists these are as `jenwyllt_kept_boundaries` leaves them, and both outputs stay as they were. With one of a desk's own the
    shared lists are as on success, and its output stays as it was.
 
-   A call needs 264 KiB of stack. */
+   A call needs 267 KiB of stack. */
 struct jenwyllt_desks_answer jenwyllt_two_desks(
     uint64_t order, uint64_t width, uint64_t height,
     const uint8_t *cells, size_t cells_length,

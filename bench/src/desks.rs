@@ -38,7 +38,8 @@ fn compare(Named { name, map, .. }: &Named, budget: Duration) {
     let pairs: usize = partition.boundaries().iter().map(|entry| entry.region_pairs.len()).sum();
     for pass in PASSES {
         let map = Map { pass, ..map.clone() };
-        let (mut first, mut second, mut output) = (Lent::new(&map, regions, pairs), Lent::new(&map, regions, pairs), vec![0; 5 * 256]);
+        let (mut first, mut second, mut output) =
+            (Lent::new(&map, regions, pairs), Lent::new(&map, regions, pairs), vec![0; 5 * 256]);
         let kept = kept_boundaries(&map, &mut first);
         let both = two_desks(&map, &mut second, &mut output);
         assert!(kept.is_ok() && both.route == kept && both.coaching == kept, "{kept:?} {both:?}");

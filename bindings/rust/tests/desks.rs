@@ -74,7 +74,10 @@ fn stored_calls() {
             );
             let (route, coaching) = (number(answer.route), number(answer.coaching));
             assert_eq!([route.0, route.1, coaching.0, coaching.1], call[13][..], "{call:?}");
-            assert_eq!([labels, queue, tallies, pairs], [(14, 0), (16, 2), (17, 3), (18, 4)].map(|(at, i)| narrow(with(&call[at], room[i]))));
+            assert_eq!(
+                [labels, queue, tallies, pairs],
+                [(14, 0), (16, 2), (17, 3), (18, 4)].map(|(at, i)| narrow(with(&call[at], room[i])))
+            );
             assert_eq!(masks, with(&call[15], room[1]).into_iter().map(|n| n as u16).collect::<Vec<_>>());
             let filled: Vec<Region> = call[19].chunks(11).map(record).collect();
             assert_eq!(records[..filled.len()], filled);
