@@ -88,7 +88,7 @@ fn proved(regions: usize, pairs: &[u32], goal: usize, verdicts: &mut [u32]) {
 
 /// The least time of a call, in microseconds.
 fn least(solve: fn(usize, &[u32], usize, &mut [u32]), pairs: &[u32], goal: usize, verdicts: &mut [u32]) -> f64 {
-    (0..400)
+    (0..4_000)
         .map(|_| {
             let start = Instant::now();
             solve(32, pairs, goal, verdicts);
@@ -112,7 +112,7 @@ fn main() {
             .collect();
         graphs.push(("random", pairs));
     }
-    println!("graph   pairs  library  plain  ratio (microseconds, least of 400)");
+    println!("graph   pairs  library  plain  ratio (microseconds, least of 4,000)");
     for (name, pairs) in graphs {
         for goal in [1, 16] {
             let (mut one, mut two) = (vec![0; 6144], vec![0; 6144]);
