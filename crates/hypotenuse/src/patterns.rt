@@ -41,8 +41,11 @@ pub fn bits_of(x: f64) -> u64
 pub fn in_range(b: u64) -> bool
     ensures { λ r. ⌜ r ≡ patternInRange b ⌝ }
 {
+    if b == 0 {
+        return true;
+    }
     if b < LEAST {
-        return b == 0;
+        return false;
     }
     b <= MOST
 }
@@ -66,13 +69,16 @@ fn guess(larger: u64, smaller: u64) -> u64
     let second = first * (p + 3.0 * s) / (3.0 * p + s);
     let q = second * second;
     let third = second * (q + 3.0 * s) / (3.0 * q + s);
-    let bits = bits_of(third);
+    if third != third {
+        return LONG_ROOT;
+    }
+    let bits = f64::to_bits(third);
     let exponent = bits / LEADING;
     let digits = bits % LEADING + LEADING;
     let top = larger / LEADING;
     if exponent >= top {
         if exponent - top <= 1 {
-            return (2 * digits) << (exponent - top);
+            return 2 * digits + 2 * digits * (exponent - top);
         }
     }
     // The root of a power of two and a far smaller number may come out a little below that power.
@@ -90,8 +96,11 @@ fn rounded_pattern(k: u64, t: u64, extra: u64) -> u64
         more = 1;
     }
     let digits = 2 * t + more;
-    let long = t / LONG_ROOT;
-    (k + long) * LEADING + ((digits + 1 + 2 * long + (t >> (1 + long)) % 2) >> (2 + long))
+    if t < LONG_ROOT {
+        k * LEADING + (digits + 1 + t / 2 % 2) / 4
+    } else {
+        (k + 1) * LEADING + (digits + 3 + t / 4 % 2) / 8
+    }
 }
 
 // The pattern of the double nearest to the root of (x * 2^k)^2 + (y * 2^(k - gap))^2. The squares are taken of half units, and the smaller one is shifted to the larger one's unit.

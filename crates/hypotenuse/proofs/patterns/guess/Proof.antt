@@ -1,26 +1,28 @@
--- `patterns::guess` meets its contract: the patterns are no NaN's, and each answer is twice a number of 53 digits, or four times. Assumes nothing.
+-- `patterns::guess` meets its contract: no pattern is a NaN's, no NaN is asked for its bits, and each answer is twice a number of 53 digits, or four times. Assumes nothing.
 use borrow.Author.Needs.{needs}
-use mathlib.Core.Path.{_≡_, subst}
-use mathlib.Core.Logic.{inl, inr}
-use Prim.Native.Nat.{ℕ, _*_, _%_, _^_, _≤_, _<_}
+use Prim.Native.Nat.{ℕ, _+_, _*_, _^_, _≤_, _<_}
+use native.Mathlib.Nat.{mul-le-mul-left}
 use native.Mathlib.Omega.{arith}
-use Rattle.laws.specs.NumberLaws.Comparisons.{le-or-lt}
+use mir.Syntax.{w64}
+use mir.Val.{Fits}
 use Rattle.laws.specs.FloatLaws.Patterns.{no-nan}
+use Rattle.hypotenuse.proofs.Numbers.{number}
 use Rattle.hypotenuse.proofs.patterns.guess.Statement.{statement}
 use Rattle.hypotenuse.proofs.patterns.guess.Tie as tie
 
--- twice or four times a number of 53 digits
-doubled : (d n : ℕ) → 2 ^ 52 ≤ d → d < 2 ^ 53 → n ≤ 1 → (2 ^ 53 ≤ 2 * d * 2 ^ n % 2 ^ 64) × (2 * d * 2 ^ n % 2 ^ 64 < 2 ^ 55)
-doubled d n lo hi h = elim (le-or-lt 1 n) [
-  | inl l ↦ subst (λ (z : ℕ). (2 ^ 53 ≤ 2 * d * 2 ^ z % 2 ^ 64) × (2 * d * 2 ^ z % 2 ^ 64 < 2 ^ 55)) (is-one n l h) (omega arith, omega arith)
-  | inr l ↦ subst (λ (z : ℕ). (2 ^ 53 ≤ 2 * d * 2 ^ z % 2 ^ 64) × (2 * d * 2 ^ z % 2 ^ 64 < 2 ^ 55)) (is-zero n l) (omega arith, omega arith)
-]
-  where
-    is-one : (n : ℕ) → 1 ≤ n → n ≤ 1 → 1 ≡ n
-    is-one n l h = omega arith
+-- d has 53 digits, and n is 0 or 1
+module _ (d n : ℕ) (lo : 2 ^ 52 ≤ d) (hi : d < 2 ^ 53) (h : n ≤ 1) where
+  at-most : 2 * d * n ≤ 2 * d * 1
+  at-most = mul-le-mul-left (2 * d) h
 
-    is-zero : (n : ℕ) → n < 1 → 0 ≡ n
-    is-zero n l = omega arith
+  product-fits : Fits w64 (2 * d * n)
+  product-fits = omega (arith, at-most)
+
+  sum-fits : Fits w64 (2 * d + 2 * d * n)
+  sum-fits = omega (arith, at-most)
+
+  doubled : (2 ^ 53 ≤ 2 * d + 2 * d * n) × (2 * d + 2 * d * n < 2 ^ 55)
+  doubled = (omega arith, omega (arith, at-most))
 
 float-from-bits-x : tie.Need-float-from-bits-x
 float-from-bits-x c = no-nan (c .args .larger) (omega arith)
@@ -28,8 +30,11 @@ float-from-bits-x c = no-nan (c .args .larger) (omega arith)
 float-from-bits-y : tie.Need-float-from-bits-y
 float-from-bits-y c = no-nan (c .args .smaller) (omega arith)
 
-bits-of-requires : tie.Need-bits-of-requires
-bits-of-requires c κs = search needs
+returns : tie.Need-returns
+returns c = search needs
+
+float-to-bits-bits : tie.Need-float-to-bits-bits
+float-to-bits-bits c = number _ (c .if2 .left)
 
 add-digits : tie.Need-add-digits
 add-digits c = search needs
@@ -37,20 +42,26 @@ add-digits c = search needs
 mul-result : tie.Need-mul-result
 mul-result c = search needs
 
-shl-result : tie.Need-shl-result
-shl-result c = search needs
-
-returns : tie.Need-returns
-returns c = doubled _ _ (omega arith) (omega arith) (c .if3 .taken)
-
-add-result : tie.Need-add-result
-add-result c = search needs
-
 mul-result-2 : tie.Need-mul-result-2
 mul-result-2 c = search needs
 
+mul-result-3 : tie.Need-mul-result-3
+mul-result-3 c = product-fits _ _ (omega arith) (omega arith) (c .if4 .taken)
+
+add-result : tie.Need-add-result
+add-result c = sum-fits _ _ (omega arith) (omega arith) (c .if4 .taken)
+
 returns-2 : tie.Need-returns-2
-returns-2 c = search needs
+returns-2 c = doubled _ _ (omega arith) (omega arith) (c .if4 .taken)
+
+add-result-2 : tie.Need-add-result-2
+add-result-2 c = search needs
+
+mul-result-4 : tie.Need-mul-result-4
+mul-result-4 c = search needs
+
+returns-3 : tie.Need-returns-3
+returns-3 c = search needs
 
 pub guess-spec : {M : Type 1} → statement M
 guess-spec =
@@ -58,11 +69,14 @@ guess-spec =
     (tie.spec
     float-from-bits-x
     float-from-bits-y
-    bits-of-requires
+    returns
+    float-to-bits-bits
     add-digits
     mul-result
-    shl-result
-    returns
-    add-result
     mul-result-2
-    returns-2)
+    mul-result-3
+    add-result
+    returns-2
+    add-result-2
+    mul-result-4
+    returns-3)

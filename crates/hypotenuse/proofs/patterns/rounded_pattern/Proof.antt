@@ -1,9 +1,8 @@
 -- `patterns::rounded_pattern` meets its contract, case by case: the digit in front, the digits below it, and whether anything is left below these. Assumes nothing.
 use borrow.Author.Needs.{needs}
-use mathlib.Core.Path.{_≡_, ap}
+use mathlib.Core.Path.{_≡_}
 use mathlib.Core.Logic.{_⊎_, inl, inr, ⊎-elim}
 use Prim.Native.Nat.{ℕ, _+_, _*_, _/_, _%_, _^_, _≤_, _<_}
-use native.Mathlib.Nat.{div-le-self}
 use native.Mathlib.Omega.{arith}
 use Rattle.laws.specs.NumberLaws.Comparisons.{le-or-lt}
 use Rattle.hypotenuse.specs.Rounding.{Rounded, down, up, tie}
@@ -37,61 +36,44 @@ long k t extra more r s e = elim (le-or-lt 2 (t % 4)) [
   | inr h ↦ down h (omega (arith, at-most-one extra more s))
 ]
 
--- what the code works out, with `long` for whether the root has 55 digits
-abbrev shape : ℕ → ℕ → ℕ → ℕ → ℕ
-shape k t more long = (k + long) * 2 ^ 52 + (2 * t + more + 1 + 2 * long + t / 2 ^ (1 + long) % 2) / 2 ^ (2 + long)
-
 mul-digits : tie.Need-mul-digits
 mul-digits c = search needs
 
 add-digits : tie.Need-add-digits
 add-digits c = omega (arith, at-most-one _ _ (says (c .before)))
 
-add-result : tie.Need-add-result
-add-result c = search needs
-
 mul-result : tie.Need-mul-result
 mul-result c = search needs
 
-add-result-2 : tie.Need-add-result-2
-add-result-2 c = omega (arith, at-most-one _ _ (says (c .before)))
+add-result : tie.Need-add-result
+add-result c = omega (arith, at-most-one _ _ (says (c .before .before)))
 
-mul-result-2 : tie.Need-mul-result-2
-mul-result-2 c = search needs
+add-result-2 : tie.Need-add-result-2
+add-result-2 c = omega (arith, at-most-one _ _ (says (c .before .before)))
 
 add-result-3 : tie.Need-add-result-3
-add-result-3 c = omega (arith, at-most-one _ _ (says (c .before)))
+add-result-3 c = search needs
 
 add-result-4 : tie.Need-add-result-4
 add-result-4 c = search needs
 
-shr-result : tie.Need-shr-result
-shr-result c = search needs
+mul-result-2 : tie.Need-mul-result-2
+mul-result-2 c = search needs
 
 add-result-5 : tie.Need-add-result-5
-add-result-5 c = omega (arith, at-most-one _ _ (says (c .before)))
+add-result-5 c = omega (arith, at-most-one _ _ (says (c .before .before)))
 
 add-result-6 : tie.Need-add-result-6
-add-result-6 c = search needs
-
-shr-result-2 : tie.Need-shr-result-2
-shr-result-2 c = search needs
+add-result-6 c = omega (arith, at-most-one _ _ (says (c .before .before)))
 
 add-result-7 : tie.Need-add-result-7
-add-result-7 c =
-    let t = c .before .before .args .t in
-    let more = c .before .if1 .more in
-    let n = t / 2 ^ 54 in
-    omega (arith, at-most-one _ _ (says (c .before)), div-le-self (2 * t + more + 1 + 2 * n + t / 2 ^ (1 + n) % 2) (2 ^ (2 + n)))
+add-result-7 c = search needs
 
 returns : tie.Need-returns
-returns c =
-    let entry = c .before .before in
-    let k = entry .args .k in
-    let t = entry .args .t in
-    let more = c .before .if1 .more in
-    let at : (n : ℕ) → t / 2 ^ 54 ≡ n → shape k t more (t / 2 ^ 54) ≡ shape k t more n = λ n e. ap (shape k t more) e in
-    (λ h. short k t _ more _ (says (c .before)) (omega (arith, at 0 (omega arith))), λ h. long (k + 1) t _ more _ (says (c .before)) (omega (arith, at 1 (omega arith))))
+returns c = (λ h. short _ _ _ _ _ (says (c .before .before)) (omega arith), λ h. absurd (omega arith))
+
+returns-2 : tie.Need-returns-2
+returns-2 c = (λ h. absurd (omega arith), λ h. long _ _ _ _ _ (says (c .before .before)) (omega arith))
 
 pub rounded-pattern-spec : {M : Type 1} → statement M
 rounded-pattern-spec =
@@ -99,15 +81,14 @@ rounded-pattern-spec =
     (tie.spec
     mul-digits
     add-digits
-    add-result
     mul-result
+    add-result
     add-result-2
-    mul-result-2
     add-result-3
     add-result-4
-    shr-result
+    mul-result-2
     add-result-5
     add-result-6
-    shr-result-2
     add-result-7
-    returns)
+    returns
+    returns-2)
