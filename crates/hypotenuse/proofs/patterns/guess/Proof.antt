@@ -5,8 +5,7 @@ use native.Mathlib.Nat.{mul-le-mul-left}
 use native.Mathlib.Omega.{arith}
 use mir.Syntax.{w64}
 use mir.Val.{Fits}
-use Rattle.laws.specs.FloatLaws.Patterns.{no-nan}
-use Rattle.hypotenuse.proofs.Numbers.{number}
+use Rattle.laws.specs.FloatLaws.Patterns.{no-nan, not-nan}
 use Rattle.hypotenuse.proofs.patterns.guess.Statement.{statement}
 use Rattle.hypotenuse.proofs.patterns.guess.Tie as tie
 
@@ -34,7 +33,7 @@ returns : tie.Need-returns
 returns c = search needs
 
 float-to-bits-bits : tie.Need-float-to-bits-bits
-float-to-bits-bits c = number _ (c .if2 .left)
+float-to-bits-bits c = not-nan _ (c .if2 .left)
 
 add-digits : tie.Need-add-digits
 add-digits c = search needs
