@@ -406,7 +406,8 @@ struct jenwyllt_game_answer {
      23      behind 12: the second partition has more than 32 regions                         0
      24      the goal is 0 or above its regions                                               0
 
-   11 and 12 come of the first partition alone. With 23 and 24 the lists are as on success, and the verdicts as they were; with 16 every list stays as it was. */
+   11 and 12 come of the first partition alone. With 23 and 24 the lists are as on success, and the verdicts as they were; with 16 every list stays as it was.
+   A call needs 275 KiB of stack. */
 struct jenwyllt_game_answer jenwyllt_runner_and_guard(
     uint64_t pass, uint64_t width, uint64_t height,
     const uint8_t *cells, size_t cells_length,
