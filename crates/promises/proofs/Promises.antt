@@ -210,10 +210,10 @@ printed-j = case-j.printedJ
 -- ---- request 1: what a call of the writer wrote
 
 -- it reads as itself; and the reader reads it back, entry by entry, into lists that are long enough
-pub written-reads-back : {r : Result} {lent lent′ : List ℕ} {wrote : Answer}
+pub written-reads-back : {r : Result} {lent lent′ : List ℕ} {wrote : Answer} {labels tallies pairs rows labels′ tallies′ pairs′ rows′ : List ℕ} {answer : ResultAnswer}
     → InMemory r → Writes r lent wrote lent′ → wrote .number ≡ 0
     → (readResult (take (wrote .value) lent′) ≡ wellFormed r)
-    × ({labels tallies pairs rows labels′ tallies′ pairs′ rows′ : List ℕ} {answer : ResultAnswer} → Enough r labels tallies pairs rows
+    × (Enough r labels tallies pairs rows
     → Reads (take (wrote .value) lent′) labels tallies pairs rows answer labels′ tallies′ pairs′ rows′ → Holds r answer labels′ tallies′ pairs′ rows′)
 written-reads-back small call success = (written.written-call small call success, λ long read. two.written-reads-back small call success long read)
 
