@@ -99,7 +99,7 @@ module _ (w : tie.After-wide-byte Inv-loop μ-loop Inv-regions μ-regions) where
   from = start (turn .before)
 
   entry : Entry (smaller from) (larger from) (union from) (from .args .count) (turn .loop .k) (w .wide-byte .result)
-  entry = entry-at _ _ _ (from .pre .1 .1 .1) (w .before .before .loop-test .taken) (w .wide-byte .ensures .same)
+  entry = entry-at _ _ _ (from .pre .1 .1 .1) (w .before .before .loop-test .taken) (w .wide-byte .ensures .0)
 
 -- at the end of the list
 all-met : (l : tie.At-loop Inv-loop μ-loop Inv-regions μ-regions) →

@@ -45,7 +45,7 @@ module _ (w : tie.After-wide-byte Inv-loop μ-loop) where
   j = w .wide-byte .result
 
   entry : Entry smaller larger union (to-entry w .args .count) (w .before .before .before .loop .k) j
-  entry = entry-at _ _ _ (to-entry w .pre .1) (w .before .before .loop-test .taken) (w .wide-byte .ensures .same)
+  entry = entry-at _ _ _ (to-entry w .pre .1) (w .before .before .loop-test .taken) (w .wide-byte .ensures .0)
 
   surveyed : Surveyed smaller larger index union j (w .before .before .before .loop .exteriors)
   surveyed = w .before .before .before .loop .inv .1 .upTo j (entry .rank-is)

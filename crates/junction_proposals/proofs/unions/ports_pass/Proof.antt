@@ -68,7 +68,7 @@ module _ (w : tie.After-wide-byte Inv-loop μ-loop) where
   j = w .wide-byte .result
 
   entry : Entry (smaller start) (larger start) (union start) (start .args .count) (w .before .before .before .loop .k) j
-  entry = entry-at _ _ _ (start .pre .1 .1) (w .before .before .loop-test .taken) (w .wide-byte .ensures .same)
+  entry = entry-at _ _ _ (start .pre .1 .1) (w .before .before .loop-test .taken) (w .wide-byte .ensures .0)
 
 -- what its test found
 tested : (q : tie.After-is-port Inv-loop μ-loop) →

@@ -55,7 +55,7 @@ returns c =
     let entry = at-ranks-before-arg .before .before in
     let s = entry .args in
     c .ranks-before .ensures
-    ∙ (λ i. listLt (keyAt (s .boundaries .now) (getD (s .separations .now) (s .k) 0) (at-wide-byte .wide-byte .ensures .same i) (at-wide-byte2 .wide-byte2 .ensures .same i)) (keyAt (s .boundaries .now) (getD (s .separations .now) (s .j) 0) (at-wide-byte3 .wide-byte3 .ensures .same i) (c .before .wide-byte4 .ensures .same i)))
+    ∙ (λ i. listLt (keyAt (s .boundaries .now) (getD (s .separations .now) (s .k) 0) (at-wide-byte .wide-byte .ensures .0 i) (at-wide-byte2 .wide-byte2 .ensures .0 i)) (keyAt (s .boundaries .now) (getD (s .separations .now) (s .j) 0) (at-wide-byte3 .wide-byte3 .ensures .0 i) (c .before .wide-byte4 .ensures .0 i)))
 
 pub entry-before-spec : {M : Type 1} → statement M
 entry-before-spec =

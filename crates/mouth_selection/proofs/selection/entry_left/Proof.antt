@@ -50,8 +50,8 @@ is-left-requires c κs =
     let at-wide-byte = at-wide-byte2 .before .before in
     let at-if12 = at-wide-byte .before .before .before in
     let entry = at-if12 .before .before .before in
-    let e = subst (λ m. SafeEntry (entry .args .pairs .now) (entry .args .starts .now) (entry .args .marks .now) m (getD (entry .args .outers .now) (entry .args .k) 0)) (sym (at-wide-byte .wide-byte .ensures .same)) (entry .pre .1) in
-    (e .stretch, (e .rows, (e .marked, at-wide-byte2 .wide-byte2 .ensures .bound)))
+    let e = subst (λ m. SafeEntry (entry .args .pairs .now) (entry .args .starts .now) (entry .args .marks .now) m (getD (entry .args .outers .now) (entry .args .k) 0)) (sym (at-wide-byte .wide-byte .ensures .0)) (entry .pre .1) in
+    (e .stretch, (e .rows, (e .marked, at-wide-byte2 .wide-byte2 .ensures .1)))
 
 returns-2 : tie.Need-returns-2
 returns-2 c =
@@ -62,8 +62,8 @@ returns-2 c =
     let entry = at-if12 .before .before .before in
     let s = entry .args in
     λ C T P S hm ha h.
-    c .is-left .ensures C T P S (subst (λ m. m < C .count) (sym (at-wide-byte .wide-byte .ensures .same)) hm) (subst (λ a. a < C .count) (sym (at-wide-byte2 .wide-byte2 .ensures .same)) ha) h
-    ∙ (λ i. not (isRefused C T (proposalOf C (at-wide-byte .wide-byte .ensures .same i) (at-wide-byte2 .wide-byte2 .ensures .same i) (getD (s .outers .now) (s .k) 0) (getD (s .kinds .now) (s .k) 0))))
+    c .is-left .ensures C T P S (subst (λ m. m < C .count) (sym (at-wide-byte .wide-byte .ensures .0)) hm) (subst (λ a. a < C .count) (sym (at-wide-byte2 .wide-byte2 .ensures .0)) ha) h
+    ∙ (λ i. not (isRefused C T (proposalOf C (at-wide-byte .wide-byte .ensures .0 i) (at-wide-byte2 .wide-byte2 .ensures .0 i) (getD (s .outers .now) (s .k) 0) (getD (s .kinds .now) (s .k) 0))))
     ∙ sym (ap (λ b. b && not (isRefused C T (proposalOf C (getD (s .mouths .now) (s .k) 0) (getD (s .ramps .now) (s .k) 0) (getD (s .outers .now) (s .k) 0) (getD (s .kinds .now) (s .k) 0))))
     (not-false (getD (s .near .now) (s .k) false) (at-if1 .if1 .left)))
 

@@ -38,8 +38,8 @@ take-requires c κs =
     let at-wide-byte = at-wide-byte2 .before .before in
     let at-slice-known = at-wide-byte .before .before in
     let entry = at-slice-known .before .before .before in
-    let e = subst (λ m. SafeEntry (entry .args .pairs .now) (entry .args .starts .now) (entry .args .marks .now) m (getD (entry .args .outers .now) (entry .args .k) 0)) (sym (at-wide-byte .wide-byte .ensures .same)) (entry .pre .1 .1) in
-    (entry .pre .0 .1, (((subst (λ a. a < entry .args .count) (sym (at-wide-byte2 .wide-byte2 .ensures .same)) (entry .pre .1 .0 .0), entry .pre .1 .0 .1 .0), entry .pre .1 .0 .1 .1), (e .stretch, (e .rows, e .marked))))
+    let e = subst (λ m. SafeEntry (entry .args .pairs .now) (entry .args .starts .now) (entry .args .marks .now) m (getD (entry .args .outers .now) (entry .args .k) 0)) (sym (at-wide-byte .wide-byte .ensures .0)) (entry .pre .1 .1) in
+    (entry .pre .0 .1, (((subst (λ a. a < entry .args .count) (sym (at-wide-byte2 .wide-byte2 .ensures .0)) (entry .pre .1 .0 .0), entry .pre .1 .0 .1 .0), entry .pre .1 .0 .1 .1), (e .stretch, (e .rows, e .marked))))
 
 same-length : tie.Need-same-length
 same-length c = search needs
@@ -53,8 +53,8 @@ returns c =
     let at-slice-known = at-wide-byte .before .before in
     let entry = at-slice-known .before .before .before in
     let s = entry .args in
-    let em = at-wide-byte .wide-byte .ensures .same in
-    let ea = at-wide-byte2 .wide-byte2 .ensures .same in (
+    let em = at-wide-byte .wide-byte .ensures .0 in
+    let ea = at-wide-byte2 .wide-byte2 .ensures .0 in (
       λ C T n B P long S hm ho free.
           taken-at T (λ i. proposalOf C (em i) (ea i) (getD (s .outers .now) (s .k) 0) (getD (s .kinds .now) (s .k) 0))
           (at-take .take .ensures .0 C T n B P long S (subst (λ m. m < C .count) (sym em) hm) ho
