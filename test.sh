@@ -8,6 +8,10 @@ if [ "${1:-}" = --help ]; then
     echo "The gate: proves everything from nothing, builds the library and runs all tests; its last line is 'N passed, M failed'. It takes 40 to 55 minutes on two cores."
     exit 0
 fi
+if [ $# -ne 0 ]; then
+    echo "usage: ./test.sh [--help]" >&2
+    exit 2
+fi
 cd "$(dirname "$0")"
 result=$(mktemp -d)
 trap 'rm -rf "$result"' EXIT

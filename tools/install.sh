@@ -10,10 +10,12 @@ if [ "${1:-}" = --help ]; then
     echo "Installs library, header, pkg-config file, the program keptlist, the command jenwyllt, manual and licences below the folder PREFIX."
     exit 0
 fi
-if [ $# -ne 1 ] || [ -z "$1" ]; then
+usage() {
     echo "usage: tools/install.sh PREFIX" >&2
     exit 2
-fi
+}
+[ $# -eq 1 ] || usage
+case $1 in '' | -*) usage ;; esac
 mkdir -p "$1"
 prefix=$(cd "$1" && pwd -P)
 cd "$(dirname "$0")/.."

@@ -8,6 +8,8 @@ use cut_steps::cell::is_set;
 use cut_steps::pick;
 use cut_steps::span_at;
 use flood::place_at;
+use plain_numbers::greater;
+use plain_numbers::lesser;
 use region_pairs::NUMBERS_PER_PAIR;
 use region_pairs::insert_pair;
 use span_geometry::SpanGeometry;
@@ -15,7 +17,7 @@ use span_geometry::strips::Strip;
 ghost use mathlib.Core.Path.{_≡_};
 ghost use mathlib.Core.Bool.{true};
 ghost use mathlib.Core.List.{[], _∷_};
-ghost use Prim.Native.Nat.{_+_, _-_, _*_, _≤_, _<_, min, max};
+ghost use Prim.Native.Nat.{_+_, _-_, _*_, _≤_, _<_};
 ghost use lib.ListN.{length};
 ghost use Rattle.definitions.specs.Grid.{at};
 ghost use Rattle.definitions.specs.Refusals.{endpointsDiffer};
@@ -41,18 +43,6 @@ pub struct BoundaryAssessment {
     pub removed: u32,
     pub separated: u32,
     pub end: usize,
-}
-
-fn min(m: u32, n: u32) -> u32
-    ensures { λ r. ⌜ r ≡ min m n ⌝ }
-{
-    if m <= n { m } else { n }
-}
-
-fn max(m: u32, n: u32) -> u32
-    ensures { λ r. ⌜ r ≡ max m n ⌝ }
-{
-    if m <= n { n } else { m }
 }
 
 // One cut step, between two cells.
@@ -84,8 +74,8 @@ fn assess_step(
         first,
         start.end,
         span,
-        min(left, right),
-        max(left, right),
+        lesser(left, right),
+        greater(left, right),
     );
     BoundaryAssessment {
         removed: start.removed + 1,

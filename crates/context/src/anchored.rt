@@ -1,5 +1,6 @@
 // The anchored regions (`anchored` of context.rs): an anchor makes its cell's label anchored.
-use crate::pairs::wide;
+use plain_numbers::index_of;
+use plain_numbers::wide;
 ghost use mathlib.Core.Path.{_≡_};
 ghost use Prim.Native.Nat.{_+_, _*_, _/_, _≤_, _<_};
 ghost use lib.ListN.{length, getD};
@@ -7,13 +8,6 @@ ghost use Rattle.definitions.specs.Limits.{maxSide, numbersPerAnchor};
 ghost use Rattle.context.specs.Anchors.{anchorCell, anchorCells, markLabel, markCells, AnchorsFit};
 
 const NUMBERS_PER_ANCHOR: usize = 2;
-
-// A number of a list of 64-bit numbers as an index.
-fn index_of(x: u64) -> usize
-    ensures { λ r. ⌜ r ≡ x ⌝ }
-{
-    x as usize
-}
 
 // The number of anchor i's cell.
 fn anchor_cell(width: usize, anchors: &[u64], i: usize) -> usize

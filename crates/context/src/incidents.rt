@@ -3,7 +3,7 @@
 // A span that names a region in several pairs counts once. While counting, a region's entry is 512 times its incidents so far, plus one more than the number of
 // the last span that counted: so one list serves, and each row is looked at once.
 use crate::pairs::NUMBERS_PER_PAIR;
-use crate::pairs::wide;
+use plain_numbers::wide;
 ghost use mathlib.Core.Path.{_≡_};
 ghost use mathlib.Core.List.{map};
 ghost use Prim.Native.Nat.{ℕ, _+_, _*_, _/_, _≤_, _<_};

@@ -1,4 +1,5 @@
 // The rows of pairs by span, and the full cuts and full pairs of boundaries (`full_cut` and `full_pair` of context.rs).
+use plain_numbers::wide;
 ghost use mathlib.Core.Path.{_≡_};
 ghost use Prim.Native.Nat.{ℕ, _+_, _*_, _≤_, _<_};
 ghost use lib.ListN.{length};
@@ -15,13 +16,6 @@ const TALLIES_PER_SPAN: usize = 2;
 pub enum FullPair {
     None,
     Pair(u32, u32),
-}
-
-// A number of a slice as an index: in a function of its own it asks for no proof that the element fits.
-pub fn wide(x: u32) -> usize
-    ensures { λ r. ⌜ r ≡ x ⌝ }
-{
-    x as usize
 }
 
 // The first row from `first` on whose span is another; `rows` where there is none.

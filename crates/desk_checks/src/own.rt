@@ -9,9 +9,10 @@ use checks::limits::NUMBERS_PER_SPAN;
 use checks::sizes::is_whole;
 use checks::sizes::output_has_room;
 use checks::sizes::pass_fits;
+use plain_numbers::most;
 ghost use mathlib.Core.Path.{_≡_};
 ghost use mathlib.Core.Bool.{_&&_};
-ghost use Prim.Native.Nat.{_+_, _≤_, _<_, max};
+ghost use Prim.Native.Nat.{_+_, _≤_, _<_};
 ghost use lib.ListN.{length};
 ghost use Rattle.definitions.specs.Limits.{maxSide, numbersPerBoundary, numbersPerAnchor};
 ghost use Rattle.definitions.specs.Grid.{segmentAt};
@@ -56,17 +57,11 @@ fn lies_on(spans: &[u64], boundaries: &[u64], i: usize) -> bool
     )
 }
 
-fn greater(a: usize, b: usize) -> usize
-    ensures { λ r. ⌜ r ≡ max a b ⌝ }
-{
-    if a < b { b } else { a }
-}
-
 // 20: "if a desk's boundary is not its shared span up to endpoint order, or one of them is missing"
 pub fn desk_fault(spans: &[u64], boundaries: &[u64]) -> Fault
     ensures { λ r. ⌜ placeOf r ≡ deskFault (now (spans .entry)) (now (boundaries .entry)) ⌝ }
 {
-    let count = greater(
+    let count = most(
         spans.len() / NUMBERS_PER_SPAN,
         boundaries.len() / NUMBERS_PER_BOUNDARY,
     );

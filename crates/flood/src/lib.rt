@@ -1,4 +1,5 @@
 // The flood over cut masks: labels every region of the grid, as `components` of areas.rs. Steps are those of `neighbors` of lib.rs.
+use plain_numbers::wide;
 ghost use mathlib.Core.Path.{_≡_};
 ghost use mathlib.Core.Bool.{true};
 ghost use Prim.Native.Nat.{_+_, _*_, _/_, _%_, _≤_, _<_};
@@ -22,13 +23,6 @@ pub fn place_at(d: usize) -> usize
     ensures bound { λ r. ⌜ r < 9 ⌝ }
 {
     ((DIRECTIONS >> (8 * d)) % 256) as usize
-}
-
-// A number of a slice as an index: in a function of its own it asks for no proof that the element fits.
-fn wide(x: u32) -> usize
-    ensures { λ r. ⌜ r ≡ x ⌝ }
-{
-    x as usize
 }
 
 // Whether every neighbour of (x, y) is in the grid.

@@ -1,9 +1,11 @@
 // The components of regions that ordinary full cuts join: a forest of parents in a lent list, in which every parent is no larger than its region.
 use context::pairs::full_cut;
 use geometry::boundaries::kind_at;
+use plain_numbers::greater;
+use plain_numbers::lesser;
 ghost use mathlib.Core.Path.{_≡_};
 ghost use mathlib.Core.List.{List, [], _∷_};
-ghost use Prim.Native.Nat.{ℕ, suc, _+_, _-_, _*_, _%_, _≤_, _<_, min, max};
+ghost use Prim.Native.Nat.{ℕ, suc, _+_, _-_, _*_, _%_, _≤_, _<_};
 ghost use lib.Dec.{eqb};
 ghost use lib.ListN.{length, getD, set};
 ghost use mathlib.Core.Bool.{false};
@@ -46,18 +48,6 @@ fn root_of(parents: &mut [u32], r: u32) -> u32
         p = parent_of(parents, x);
     }
     x
-}
-
-fn lesser(a: u32, b: u32) -> u32
-    ensures { λ r. ⌜ r ≡ min a b ⌝ }
-{
-    if a < b { a } else { b }
-}
-
-fn greater(a: u32, b: u32) -> u32
-    ensures { λ r. ⌜ r ≡ max a b ⌝ }
-{
-    if a < b { b } else { a }
 }
 
 // Joins the regions lo and hi: the larger root gets the smaller for its parent.

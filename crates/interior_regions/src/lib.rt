@@ -5,9 +5,11 @@ use interior_proposals::components::parent_of;
 use interior_proposals::owners::find_owners;
 use interior_proposals::proposals::NO_PORT;
 use interior_proposals::proposals::propose_all;
+use plain_numbers::least;
+use plain_numbers::most;
 ghost use mathlib.Core.Path.{_≡_};
 ghost use mathlib.Core.Bool.{false, _&&_, _||_};
-ghost use Prim.Native.Nat.{ℕ, _-_, _≤_, _<_, min, max};
+ghost use Prim.Native.Nat.{ℕ, _-_, _≤_, _<_};
 ghost use lib.ListN.{length, getD};
 ghost use lib.Dec.{eqb};
 ghost use Rattle.definitions.specs.Limits.{maxEntries};
@@ -80,18 +82,6 @@ pub fn mark_edges(owners: &[u32; 256], count: usize, name: u32, on: bool, remove
         removed[j] = mark;
         j += 1;
     }
-}
-
-fn least(a: usize, b: usize) -> usize
-    ensures { λ r. ⌜ r ≡ min a b ⌝ }
-{
-    if a < b { a } else { b }
-}
-
-fn most(a: usize, b: usize) -> usize
-    ensures { λ r. ⌜ r ≡ max a b ⌝ }
-{
-    if a < b { b } else { a }
 }
 
 // The number after the last boundary whose owner has the name; 0 where there is none.

@@ -1,5 +1,6 @@
 // The ports of the two regions of a union.
-use context::pairs::wide;
+use plain_numbers::wide;
+use plain_numbers::wide_byte;
 ghost use mathlib.Core.Path.{_≡_};
 ghost use Prim.Native.Nat.{_≤_, _<_};
 ghost use lib.ListN.{length, getD};
@@ -8,13 +9,6 @@ ghost use Rattle.definitions.specs.Context.{holds};
 ghost use Rattle.definitions.specs.Junctions.{fitsUnion};
 ghost use Rattle.context.specs.Shown.{optionalPair};
 ghost use Rattle.junction_proposals.specs.Ports.{Listed, sideOf, walkFits};
-
-// A byte of a slice as an index: in a function of its own it asks for no proof that the element fits.
-pub fn wide8(x: u8) -> usize
-    ensures { λ r. ⌜ r ≡ x ⌝ }
-{
-    x as usize
-}
 
 // Whether the full pair a, b names region r. Where there is no pair, a is 0.
 pub fn names_region(a: u32, b: u32, r: u32) -> bool
@@ -89,7 +83,7 @@ pub fn ports_fit(
         let region = region_of(lo, hi, side);
         let mut met = 0;
         for k in 0..n {
-            let j = wide8(incidents[k]);
+            let j = wide_byte(incidents[k]);
             let a = smaller[j];
             let b = larger[j];
             if names_region(a, b, region) {

@@ -3,12 +3,12 @@ use crate::distances::port_passes;
 use crate::ports::find_incidents;
 use crate::ports::names_region;
 use crate::ports::ports_fit;
-use crate::ports::wide8;
-use context::pairs::wide;
 use geometry::boundaries::kind_at;
+use plain_numbers::wide;
+use plain_numbers::wide_byte;
 ghost use mathlib.Core.Path.{_≡_};
 ghost use mathlib.Core.Bool.{not, _&&_, _||_};
-ghost use Prim.Native.Nat.{_*_, _+_, _-_, _≤_, _<_};
+ghost use Prim.Native.Nat.{_+_, _-_, _≤_, _<_};
 ghost use lib.ListN.{length, getD};
 ghost use lib.Dec.{eqb, ltb, leb};
 ghost use Rattle.definitions.specs.Scan.{countBelow, bit};
@@ -97,7 +97,7 @@ pub fn has_three_exteriors(
         second: 0,
     };
     for k in 0..n {
-        let j = wide8(incidents[k]);
+        let j = wide_byte(incidents[k]);
         let a = smaller[j];
         let b = larger[j];
         if is_port(j, index, lo, hi, a, b) {
@@ -128,7 +128,7 @@ pub fn ports_pass(
     let lo = smaller[index];
     let hi = larger[index];
     for k in 0..n {
-        let j = wide8(incidents[k]);
+        let j = wide_byte(incidents[k]);
         if is_port(j, index, lo, hi, smaller[j], larger[j]) {
             if !port_passes(boundaries, one, index, j) {
                 return false;

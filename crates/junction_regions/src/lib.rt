@@ -1,6 +1,5 @@
 // What pass 3, `remove_junction_boundaries` of junctions.rs, asks of the records of a proposal's regions, by value.
 use context::Region;
-use context::pairs::wide;
 use elevations::Share;
 use geometry::Point;
 use geometry::boundaries::segment_of;
@@ -10,6 +9,7 @@ use geometry::points::point_segment_distance;
 use junction_proposals::distances::within_distance;
 use junction_proposals::proposals::NUMBERS_PER_PROPOSAL;
 use junction_proposals::unions::anchored_bit;
+use plain_numbers::wide;
 use span_geometry::PixelPosition;
 ghost use mathlib.Core.Path.{_≡_};
 ghost use Prim.Native.Nat.{_+_, _-_, _*_, _≤_, _<_};

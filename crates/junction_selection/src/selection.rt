@@ -1,9 +1,9 @@
 // `select_proposals`: a proposal is taken unless it conflicts with one taken before.
 use crate::ranks::rank_proposals;
-use context::pairs::wide;
 use junction_proposals::ports::names_region;
 use junction_proposals::proposals::MAX_PROPOSALS;
 use junction_proposals::proposals::NUMBERS_PER_PROPOSAL;
+use plain_numbers::wide;
 ghost use mathlib.Core.Path.{_≡_};
 ghost use mathlib.Core.Bool.{false, _&&_, _||_, cond};
 ghost use mathlib.Core.List.{List, [], _∷_, _++_};

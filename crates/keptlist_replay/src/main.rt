@@ -6,6 +6,8 @@ use io::read_full;
 use io::write_all;
 use libc::STDIN_FILENO;
 use libc::STDOUT_FILENO;
+use plain_numbers::least;
+use plain_numbers::wide_byte;
 use sheet_answer::input_room;
 use sheet_answer::keptlist;
 use sheet_answer::output_room;
@@ -16,17 +18,13 @@ const SHEETS: u64 = 65536;
 // As many bytes as `keptlist` reads.
 const BYTES: usize = 65537;
 
-fn byte(b: u8) -> usize
-    ensures { λ r. ⌜ r ≤ 255 ⌝ }
-{
-    b as usize
-}
-
 fn length_of(opening: &[u8; 3]) -> usize
     ensures { λ r. ⌜ r ≤ 65537 ⌝ }
 {
-    let length = byte(opening[0]) + 256 * byte(opening[1]) + 65536 * byte(opening[2]);
-    if length <= BYTES { length } else { BYTES }
+    let length = wide_byte(opening[0])
+        + 256 * wide_byte(opening[1])
+        + 65536 * wide_byte(opening[2]);
+    least(length, BYTES)
 }
 
 // Reads a sheet as long as the list, and writes what is printed for it.

@@ -4,6 +4,7 @@ use crate::held::proposal_held;
 use crate::keys::ranks_before;
 use geometry::boundaries::kind_at;
 use geometry::boundaries::ramp_at;
+use plain_numbers::wide_byte;
 ghost use mathlib.Core.Path.{_≡_};
 ghost use mathlib.Core.Bool.{false, not, _&&_};
 ghost use mathlib.Core.List.{List, [], _∷_, _++_};
@@ -144,8 +145,8 @@ fn entry_left(
     if !near[k] {
         return false;
     }
-    let m = index(mouths[k]);
-    let a = index(ramps[k]);
+    let m = wide_byte(mouths[k]);
+    let a = wide_byte(ramps[k]);
     is_left(
         pairs,
         starts,
@@ -157,13 +158,6 @@ fn entry_left(
         outers[k],
         kinds[k],
     )
-}
-
-// A byte as a number.
-pub fn index(x: u8) -> usize
-    ensures { λ r. ⌜ (r ≡ x) × (r < 256) ⌝ }
-{
-    x as usize
 }
 
 // Whether entry k ranks before entry j.
@@ -187,11 +181,11 @@ fn entry_before(
     ranks_before(
         boundaries,
         separations[k],
-        index(mouths[k]),
-        index(ramps[k]),
+        wide_byte(mouths[k]),
+        wide_byte(ramps[k]),
         separations[j],
-        index(mouths[j]),
-        index(ramps[j]),
+        wide_byte(mouths[j]),
+        wide_byte(ramps[j]),
     )
 }
 
@@ -333,8 +327,8 @@ fn take_entry(
     ensures lengths { λ x. ⌜ (length (now (marks .exit)) ≡ length (now (marks .entry)))
         × ((length (now (used .exit)) ≡ 256) × (length (now (removed .exit)) ≡ 256)) ⌝ }
 {
-    let m = index(mouths[k]);
-    let a = index(ramps[k]);
+    let m = wide_byte(mouths[k]);
+    let a = wide_byte(ramps[k]);
     take(
         boundaries,
         pairs,

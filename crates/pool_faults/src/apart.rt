@@ -1,6 +1,8 @@
 // Terms of one map that have no day in common, told in n log n steps: the terms' positions are sorted by map and first day, and then it is enough to compare
 // neighbours. What the positions are sorted by is a hint, of which nothing is proved: neighbours in a wrong order are found as those that overlap are.
 use number_sort::sort_numbers;
+use plain_numbers::least;
+use plain_numbers::most;
 use pool_terms::terms::end_in;
 use pool_terms::terms::first_in;
 ghost use mathlib.Core.Path.{_≡_};
@@ -55,33 +57,15 @@ fn position_in(key: u64) -> usize
     (key % POSITIONS) as usize
 }
 
-fn least_of(a: usize, b: usize) -> usize
-    ensures { λ r. ⌜ (r ≤ a) × (r ≤ b) ⌝ }
-{
-    if a < b {
-        return a;
-    }
-    b
-}
-
-fn later_of(a: usize, b: usize) -> usize
-    ensures { λ r. ⌜ ((bound : ℕ) → a < bound → b < bound → r < bound) ⌝ }
-{
-    if a < b {
-        return b;
-    }
-    a
-}
-
 // The later of two positions, if the first term does not precede the second and it is less than the least such position so far.
-fn least_astray_of(terms: &[u64], least: usize, i: usize, j: usize) -> usize
+fn least_astray_of(terms: &[u64], found: usize, i: usize, j: usize) -> usize
     requires { ⌜ (numbersPerTerm * (i + 1) ≤ length (now terms)) × (numbersPerTerm * (j + 1) ≤ length (now terms)) ⌝ }
-    ensures { λ r. ⌜ (r ≤ least) × ((until : ℕ) → i < until → j < until → r ≡ until → least ≤ until → (least ≡ until) × Precedes (now (terms .entry)) i j) ⌝ }
+    ensures { λ r. ⌜ (r ≤ found) × ((until : ℕ) → i < until → j < until → r ≡ until → found ≤ until → (found ≡ until) × Precedes (now (terms .entry)) i j) ⌝ }
 {
     if precedes(terms, i, j) {
-        return least;
+        return found;
     }
-    least_of(least, later_of(i, j))
+    least(found, most(i, j))
 }
 
 // The least later position of two neighbours of which the first does not precede the second; `until` where there are none.
@@ -89,15 +73,15 @@ fn least_astray(terms: &[u64], keys: &[u64], until: usize) -> usize
     requires { ⌜ (numbersPerTerm * until ≤ length (now terms)) × Positions (now keys) until ⌝ }
     ensures { λ r. ⌜ (r ≤ until) × (r ≡ until → Following (now (terms .entry)) (now (keys .entry)) (length (now (keys .entry)))) ⌝ }
 {
-    let mut least = until;
+    let mut found = until;
     let mut k = 1;
     while k < keys.len() {
         let i = position_in(keys[k - 1]);
         let j = position_in(keys[k]);
-        least = least_astray_of(terms, least, i, j);
+        found = least_astray_of(terms, found, i, j);
         k += 1;
     }
-    least
+    found
 }
 
 // The same of keys in any order, which are sorted.
@@ -277,7 +261,7 @@ fn doubt_of_all(terms: &[u64], until: usize, maps: &mut [u64], keys: &mut [u64])
             }
             Taken::All(count) => {
                 let found = doubt_between(terms, until, low, high, count, &mut *maps, &mut *keys);
-                doubt = least_of(doubt, found);
+                doubt = least(doubt, found);
                 if high == LAST_MAP {
                     return doubt;
                 }
@@ -349,5 +333,5 @@ pub fn apart_terms(terms: &[u64], sound: usize) -> usize
     if sound <= FEW_TERMS {
         return apart_of_few(terms, sound);
     }
-    apart_of_many(terms, least_of(sound, POSITIONS as usize))
+    apart_of_many(terms, least(sound, POSITIONS as usize))
 }

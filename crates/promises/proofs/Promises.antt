@@ -1,12 +1,12 @@
--- The main theorems, restated in the order of the three demands and then of the requests; each is proved by citing it. What to read first: whoever believes the
--- definitions that these statements name need believe nothing else that stands in crates/. Assumes nothing.
-use Prim.Native.Nat.{ℕ, _+_, _*_, _<_, _≤_}
+-- What is promised, in the order of the three demands and then of the requests; each is proved by citing the theorems below it, alone or put together. What to read
+-- first: whoever believes the definitions that these statements name need believe nothing else that stands in crates/. Assumes nothing.
+use Prim.Native.Nat.{ℕ, _+_, _*_, _^_, _<_, _≤_}
 use native.Mathlib.Omega.{arith}
-use mathlib.Core.Path.{_≡_}
+use mathlib.Core.Path.{_≡_, refl, sym, ap, _∙_}
 use mathlib.Core.Logic.{_↔_}
 use mathlib.Core.Bool.{Bool, true, not, _&&_, _||_}
 use mathlib.Core.Option.{none, some}
-use mathlib.Core.List.{List, map, List·Memᴰ, _++_}
+use mathlib.Core.List.{List, [], _∷_, map, List·Memᴰ, _++_}
 use lib.ListN.{length, getD, take}
 use lib.Dec.{eqb}
 use lib.Ieee.{Float, binary64, toBits}
@@ -24,7 +24,7 @@ use Rattle.definitions.specs.Context.{Context, contextOf, endpointsKey}
 use Rattle.definitions.specs.Junctions.{boundaryKey, unionRegions, conflict}
 use Rattle.definitions.specs.Rows.{removedOf}
 use Rattle.definitions.specs.Refusals.{Refusal, widthFits}
-use Rattle.definitions.specs.Verdict.{Lent, Answer, mapIn, verdict}
+use Rattle.definitions.specs.Verdict.{Lent, Answer, mapIn}
 use Rattle.definitions.specs.Printed.{maxSheetBytes, keptlist, text}
 use Rattle.definitions.specs.SheetNumber.{found, number}
 use Rattle.definitions.specs.Sheet.{Sheet, readSheet}
@@ -114,6 +114,7 @@ use Rattle.results.specs.Result.{Result, rulesFault}
 use Rattle.results.specs.ResultAnswers.{readResult, resultBytes, wellFormed, Writes}
 use Rattle.results.specs.ResultAnswers as answers
 use Rattle.results.specs.Shortest.{shortest}
+use Rattle.results.specs.ShortestReads.{number-shortest}
 use Rattle.results.specs.Calls.{InMemory}
 use Rattle.results.specs.Calls as written
 use Rattle.sheet.specs.Contract.{answerNumber}
@@ -139,7 +140,7 @@ use Rattle.result_reader.specs.declared.ResultAnswer.{ResultAnswer}
 use Rattle.run_results.specs.Calls.{resultLeft}
 use Rattle.run_results.specs.Calls as runs
 use Rattle.report.specs.Runs.{Run}
-use Rattle.report.specs.Report.{Report, Mean, maxRuns, emptyReport, addRun, addRuns, exactRuns, meanOf}
+use Rattle.report.specs.Report.{Report, Mean, maxRuns, emptyReport, addRun, addRunsBy, addRuns, exactRuns, meanOf}
 use Rattle.report.specs.ReportLaws.Possible.{Made}
 use Rattle.report.specs.ReportLaws.Order.{Reordered}
 use Rattle.report.specs.ReportLaws.Order as orders
@@ -206,25 +207,20 @@ cases-hold = cases.cases-hold
 pub printed-j : keptlist bytesJ ≡ text "kept 4 of 5\n1 8 8 8 16\n2 8 8 16 8\n4 16 16 24 16\n3 24 8 24 16\n"
 printed-j = case-j.printedJ
 
--- ---- request 1: what a call of the writer wrote reads as itself
+-- ---- request 1: what a call of the writer wrote
 
-pub written-reads : {r : Result} {lent lent′ : List ℕ} {answer : Answer} → InMemory r → Writes r lent answer lent′ → answer .number ≡ 0
-    → readResult (take (answer .value) lent′) ≡ wellFormed r
-written-reads = written.written-call
-
--- the same over two calls: what the writer left, the reader reads back, entry by entry, into lists that are long enough
-pub written-reads-back : {r : Result} {lent lent′ : List ℕ} {written : Answer} {labels tallies pairs rows labels′ tallies′ pairs′ rows′ : List ℕ} {answer : ResultAnswer}
-    → InMemory r → Writes r lent written lent′ → written .number ≡ 0 → Enough r labels tallies pairs rows
-    → Reads (take (written .value) lent′) labels tallies pairs rows answer labels′ tallies′ pairs′ rows′ → Holds r answer labels′ tallies′ pairs′ rows′
-written-reads-back = two.written-reads-back
+-- it reads as itself; and the reader reads it back, entry by entry, into lists that are long enough
+pub written-reads-back : {r : Result} {lent lent′ : List ℕ} {wrote : Answer} {labels tallies pairs rows labels′ tallies′ pairs′ rows′ : List ℕ} {answer : ResultAnswer}
+    → InMemory r → Writes r lent wrote lent′ → wrote .number ≡ 0
+    → (readResult (take (wrote .value) lent′) ≡ wellFormed r)
+    × (Enough r labels tallies pairs rows
+    → Reads (take (wrote .value) lent′) labels tallies pairs rows answer labels′ tallies′ pairs′ rows′ → Holds r answer labels′ tallies′ pairs′ rows′)
+written-reads-back small call success = (written.written-call small call success, λ long read. two.written-reads-back small call success long read)
 
 -- ---- request 2: the share is exact, and there is no other
 
-pub share-exact : (count n : ℕ) (h : Share) → shareOf count n ≡ some h → IsShare count n h
-share-exact = shares.share-exact
-
-pub share-only : (count n : ℕ) (h : Share) → IsShare count n h → shareOf count n ≡ some h
-share-only = shares.share-only
+pub share-exactly : (count n : ℕ) (h : Share) → (shareOf count n ≡ some h) ↔ IsShare count n h
+share-exactly count n h = (shares.share-exact count n h, shares.share-only count n h)
 
 -- and what a union asks of two records is what the Rust's own lines ask, with its dominant elevation, of every context
 pub unions-as-rust : (C : Context) (i : ℕ) (p : Pair) → unionPasses C (proposed C i p) ≡ unionRegions C i p
@@ -232,14 +228,18 @@ unions-as-rust = unions.passes-is
 
 -- ---- request 3: one map has one sheet
 
--- reading a number gives exactly the bytes that would be written for it
-pub number-bytes : (offset : ℕ) (bytes : List ℕ) {v next : ℕ} {rest : List ℕ} → Bytes bytes → number offset bytes ≡ found v next rest → bytes ≡ shortest v ++ rest
-number-bytes = numbers.number-bytes
+-- bytes read as a number and a rest exactly when they are the bytes that would be written for the number, and then the rest
+pub number-exactly : (offset : ℕ) (bytes : List ℕ) (v : ℕ) (rest : List ℕ) → Bytes bytes → v < 2 ^ 64
+    → ((next : ℕ) × (number offset bytes ≡ found v next rest)) ↔ (bytes ≡ shortest v ++ rest)
+number-exactly offset bytes v rest B small =
+    (λ r. numbers.number-bytes offset bytes B (r .1), λ e. (offset + length (shortest v), ap (number offset) e ∙ number-shortest v offset rest small))
 
--- "Two accepted sheets of kind 1 are then equal bytes exactly when they state the same pass, sides and map lists", whatever the limit of cells; and two of kind 3
-pub sheets-equal : (cellLimit : ℕ) (a b : List ℕ) {s t : Sheet} → Bytes a → Bytes b → kindOf a ≡ kindOf b
-    → readSheet cellLimit a ≡ sheet.wellFormed s → readSheet cellLimit b ≡ sheet.wellFormed t → (a ≡ b) ↔ (s ≡ t)
-sheets-equal = sheets.sheets-equal
+-- "Two accepted sheets of kind 1 are then equal bytes exactly when they state the same pass, sides and map lists", whatever the limit of cells; and two of kind 3.
+-- Two of different kinds, which may state the same, are never equal bytes.
+pub sheets-equal : (cellLimit : ℕ) (a b : List ℕ) {s t : Sheet} → Bytes a → Bytes b
+    → readSheet cellLimit a ≡ sheet.wellFormed s → readSheet cellLimit b ≡ sheet.wellFormed t → (a ≡ b) ↔ ((kindOf a ≡ kindOf b) × (s ≡ t))
+sheets-equal cellLimit a b A B g h =
+    (λ e. (ap kindOf e, sheets.sheets-equal cellLimit a b A B (ap kindOf e) g h .0 e), λ p. sheets.sheets-equal cellLimit a b A B (p .0) g h .1 (p .1))
 
 -- the same over two calls of the reader that answered 0, of what their callers then have
 pub sheet-calls-equal : (a : List ℕ) {cells spans boundaries anchors : List ℕ} {answer : ReadAnswer} {cells′ spans′ boundaries′ anchors′ : List ℕ}
@@ -250,14 +250,12 @@ pub sheet-calls-equal : (a : List ℕ) {cells spans boundaries anchors : List �
     → (a ≡ b) ↔ (held answer cells′ spans′ boundaries′ anchors′ ≡ held answer₂ cells₂′ spans₂′ boundaries₂′ anchors₂′)
 sheet-calls-equal = sheet-calls.calls-equal
 
--- of kind 2: a result that was read is the bytes that would be written for it
-pub read-written : (bytes : List ℕ) {r : Result} → Bytes bytes → readResult bytes ≡ wellFormed r → bytes ≡ resultBytes r
-read-written = results.read-written
+-- of kind 2: a result that was read is the bytes that would be written for it, so that two result sheets are equal bytes exactly when they state the same result
+pub results-equal : (a b : List ℕ) {r t : Result} → Bytes a → Bytes b → readResult a ≡ wellFormed r → readResult b ≡ wellFormed t
+    → (a ≡ resultBytes r) × (b ≡ resultBytes t) × ((a ≡ b) ↔ (r ≡ t))
+results-equal a b A B g h = (results.read-written a A g, results.read-written b B h, results.results-equal a b A B g h)
 
--- so two result sheets are equal bytes exactly when they state the same result, as what is read and as what the callers of two calls that answered 0 then have
-pub results-equal : (a b : List ℕ) {r t : Result} → Bytes a → Bytes b → readResult a ≡ wellFormed r → readResult b ≡ wellFormed t → (a ≡ b) ↔ (r ≡ t)
-results-equal = results.results-equal
-
+-- the same over two calls of the reader that answered 0, of what their callers then have
 pub result-calls-equal : (a labels tallies pairs rows : List ℕ) {answer : ResultAnswer} {labels′ tallies′ pairs′ rows′ : List ℕ}
     (b labels₂ tallies₂ pairs₂ rows₂ : List ℕ) {answer₂ : ResultAnswer} {labels₂′ tallies₂′ pairs₂′ rows₂′ : List ℕ}
     → Reads a labels tallies pairs rows answer labels′ tallies′ pairs′ rows′ → answer .number ≡ 0
@@ -280,7 +278,8 @@ unfolding mapIn
 records-add-up call success = sums.call-adds-up (call .ran) success
 
 pub ramp-flag : (M : Map) (r : ℕ) → hasRamp (contextOf M .region r) ≡ flagAfter M (labels M) r (cellCount M)
-ramp-flag = flags.context-flag
+unfolding contextOf
+ramp-flag M r = flags.ramp-flag M (labels M) r
 
 -- ---- request 7: what a call that reported a line left in its output
 
@@ -367,20 +366,19 @@ module _ {x : ℕ} {L : LentBoth} {A B : Desk} {r : DesksAnswer} {E : LeftBoth} 
 
 -- ---- request 10: separations
 
--- for any two boundaries of any accepted map: within 2 ^ -32 pixel of the exact distance, and zero exactly when they share a point
-pub separation-within : (L : Lent) → verdict L .number ≡ 0 → (i j : ℕ) → OfBoundaries (mapIn L) i j
-separation-within = separations.accepted-separations
+-- for any two boundaries of the map of any call that ran a pass and returned 0: within 2 ^ -32 pixel of the exact distance, and zero exactly when they share a point
+pub separation-within : {pass : ℕ} {L : LentLists} {a : Answer} {E : LeftLists} → RanOver pass L a E → a .number ≡ 0 → (i j : ℕ) → OfBoundaries (lentMap L) i j
+unfolding mapIn
+separation-within {pass} {L} call success = separations.accepted-separations (lentCall pass L) (ap (λ x. x .number) (sym (call .ran .answer)) ∙ success)
 
 -- what a call of the list of separations left in its output: the same of each row
 module _ {w h : ℕ} {boundaries output : List ℕ} {a : Answer} {o : List ℕ} (call : Lists w h boundaries output a o) (success : a .number ≡ 0) where
   pub separations-listed : (i j : ℕ) → i < j → j < boundaryCount boundaries → RowHolds (endsOf boundaries i) (endsOf boundaries j) i j o
   separations-listed = listed.listed-holds call success
 
-pub exact-square : (s t : Segment) → ExactSquare s t (exactSquare s t .num) (exactSquare s t .den)
-exact-square = separations.exactSquare-is
-
-pub intersects-exactly : (s t : Segment) → (intersects s t ≡ true) ↔ SharePoint s t
-intersects-exactly = separations.intersects-exactly
+-- of all segments of whole coordinates: the fraction that is computed is the square of the distance, and the test says exactly that they share a point
+pub segments-exact : (s t : Segment) → ExactSquare s t (exactSquare s t .num) (exactSquare s t .den) × ((intersects s t ≡ true) ↔ SharePoint s t)
+segments-exact s t = (separations.exactSquare-is s t, separations.intersects-exactly s t)
 
 -- ---- request 11: what a call that gave the ranked junction list left in it, where it returned 0
 
@@ -415,17 +413,19 @@ pub report-counts-all : {l : List Run} → All Made l
     → totalAccepted (addRuns emptyReport l .passes) + total (addRuns emptyReport l .refused) ≡ addRuns emptyReport l .runs
 report-counts-all made = reports.runs-counted made
 
--- the order of up to 10,000 runs does not alter the report, and a run beyond them changes nothing
+-- the order of up to 10,000 runs does not alter the report, and runs beyond them, however many, change nothing
 pub report-order-free : {l m : List Run} → Reordered l m → length l ≤ maxRuns → addRuns emptyReport l ≡ addRuns emptyReport m
 unfolding emptyReport
 report-order-free p h = orders.order-free emptyReport p (omega (arith, h))
 
-pub report-beyond : (R : Report) (x : Run) → maxRuns ≤ R .runs → addRun R x ≡ R
-report-beyond = orders.beyond
+pub report-beyond : (R : Report) (l : List Run) → maxRuns ≤ R .runs → addRuns R l ≡ R
+unfolding addRuns addRunsBy addRun
+report-beyond R [] full = refl
+report-beyond R (x ∷ l) full = ap (λ Q. addRuns Q l) (orders.beyond R x full) ∙ report-beyond R l full
 
--- the mean is exact
-pub report-mean-exact : (accepted kept : ℕ) (m : Mean) → meanOf accepted kept ≡ some m → IsMean accepted kept m
-report-mean-exact = means.mean-exact
+-- the mean is exact, and there is no other
+pub report-mean-exactly : (accepted kept : ℕ) (m : Mean) → (meanOf accepted kept ≡ some m) ↔ IsMean accepted kept m
+report-mean-exactly accepted kept m = (means.mean-exact accepted kept m, means.mean-only accepted kept m)
 
 -- ---- request 12: sheets without spans of their own
 
@@ -434,15 +434,13 @@ pub sheet-written : {s : Sheet} {lent lent′ : List ℕ} {answer : Answer} → 
     → WritesSheet s lent answer lent′ → answer .number ≡ 0 → readSheet sheet.plainCellLimit (take (answer .value) lent′) ≡ sheet.wellFormed s
 sheet-written = new-sheets.written-call
 
--- "Old kind 1 sheets with equal lists convert to kind 3": a call of the converter that answered 0 wrote a sheet that states the same, within any limit of cells
-pub converted-reads : {bytes lent lent′ : List ℕ} {answer : Answer} → Converts bytes lent answer lent′ → answer .number ≡ 0
-    → (limit : ℕ) → readSheet limit (take (answer .value) lent′) ≡ readSheet limit bytes
-converted-reads = conversions.converted-reads
-
--- "and give equal rows": and `keptlist` prints the same for both, for old sheets of the length that it takes
-pub converted-prints : {bytes lent lent′ : List ℕ} {answer : Answer} → Bytes bytes → length bytes ≤ maxSheetBytes → Converts bytes lent answer lent′ → answer .number ≡ 0
-    → keptlist (take (answer .value) lent′) ≡ keptlist bytes
-converted-prints = conversions.converted-prints
+-- "Old kind 1 sheets with equal lists convert to kind 3 and give equal rows": a call of the converter that answered 0 wrote a sheet that states the same, within any
+-- limit of cells, and for which `keptlist` prints the same, for old sheets of the length that it takes
+pub converted-same : {bytes lent lent′ : List ℕ} {answer : Answer}
+    → Converts bytes lent answer lent′ → answer .number ≡ 0
+    → ((limit : ℕ) → readSheet limit (take (answer .value) lent′) ≡ readSheet limit bytes)
+    × (Bytes bytes → length bytes ≤ maxSheetBytes → keptlist (take (answer .value) lent′) ≡ keptlist bytes)
+converted-same call success = (conversions.converted-reads call success, λ B short. conversions.converted-prints B short call success)
 
 -- "still read and still get the answer they had": bytes that begin with kind 1 read as by the grammar of before
 pub kind-1-stays : (limit next : ℕ) (bytes rest : List ℕ) → number 0 bytes ≡ found 1 next rest → readSheet limit bytes ≡ before.readBefore limit bytes

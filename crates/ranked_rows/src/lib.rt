@@ -1,20 +1,19 @@
 // The rows of the ranked junction list, from the proposals of pass 3 that the records of their regions allow, over plain lists.
-use context::pairs::wide;
 use junction_proposals::proposals::MAX_PROPOSALS;
 use junction_proposals::proposals::NUMBERS_PER_PROPOSAL;
 use junction_selection::ranks::rank_proposals;
 use junction_selection::selection::region_conflict;
 use junction_selection::selection::reserves;
+use plain_numbers::wide;
 ghost use mathlib.Core.Path.{_≡_};
 ghost use mathlib.Core.Bool.{_&&_, cond};
-ghost use mathlib.Core.List.{List, [], _∷_, _++_};
-ghost use Prim.Native.Nat.{ℕ, _+_, _*_, _≤_, _<_};
+ghost use mathlib.Core.List.{[], _∷_};
+ghost use Prim.Native.Nat.{_+_, _*_, _≤_, _<_};
 ghost use lib.ListN.{length, getD};
 ghost use lib.Seq.{sets};
 ghost use lib.Dec.{eqb};
 ghost use Rattle.definitions.specs.Scan.{anyBelow, bit};
 ghost use Rattle.definitions.specs.Lists.{overwrite};
-ghost use Rattle.definitions.specs.Junctions.{Proposal};
 ghost use Rattle.junction_proposals.specs.Bridges.{FirstFrom};
 ghost use Rattle.junction_proposals.specs.Rows.{numbersPerProposal, rowAt};
 ghost use Rattle.junction_selection.specs.Ranks.{reservesAt, conflictAt, orderOf, Rows};

@@ -5,7 +5,11 @@ use io::read_full;
 use io::write_all;
 use libc::STDIN_FILENO;
 use libc::STDOUT_FILENO;
-ghost use Prim.Native.Nat.{_≤_, _<_, min};
+use plain_numbers::least;
+use plain_numbers::number_of;
+use plain_numbers::number_of_mask;
+use plain_numbers::wide_byte;
+ghost use Prim.Native.Nat.{_≤_, _<_};
 ghost use mathlib.Core.Path.{_≡_};
 ghost use lib.ListN.{length, take};
 ghost use Rattle.replay_lists.specs.Contract.{heldAt, HeldBefore, Copied, Changed, Zeros};
@@ -130,32 +134,13 @@ fn write_zeros(word: &[u8], list: &[u64]) {
     write(b"\n");
 }
 
-fn least(m: usize, n: usize) -> usize
-    ensures bound { λ r. ⌜ (r ≤ m) × (r ≤ n) ⌝ }
-    ensures answer { λ r. ⌜ r ≡ min m n ⌝ }
-{
-    if m <= n { m } else { n }
-}
-
-fn wide(n: u32) -> u64
-    ensures { λ r. ⌜ r ≡ n ⌝ }
-{
-    n as u64
-}
-
-fn wide_mask(mask: u16) -> u64
-    ensures { λ r. ⌜ r ≡ mask ⌝ }
-{
-    mask as u64
-}
-
 fn widen(list: &[u32], out: &mut [u64])
     ensures { λ _. ⌜ Copied (now (list .entry)) (now (out .exit)) ⌝ }
 {
     let n = least(list.len(), out.len());
     let mut i = 0;
     while i < n {
-        out[i] = wide(list[i]);
+        out[i] = number_of(list[i]);
         i += 1;
     }
 }
@@ -166,7 +151,7 @@ fn widen_masks(masks: &[u16], out: &mut [u64])
     let n = least(masks.len(), out.len());
     let mut i = 0;
     while i < n {
-        out[i] = wide_mask(masks[i]);
+        out[i] = number_of_mask(masks[i]);
         i += 1;
     }
 }
@@ -258,18 +243,12 @@ const SHEET: usize = 14;
 // The bytes of an opening.
 pub const OPENING: usize = 30;
 
-fn byte(b: u8) -> usize
-    ensures { λ r. ⌜ r < 256 ⌝ }
-{
-    b as usize
-}
-
 // Number k of an opening.
 pub fn number(opening: &[u8; 30], k: usize) -> usize
     requires { ⌜ k < 15 ⌝ }
     ensures { λ r. ⌜ r < 65536 ⌝ }
 {
-    byte(opening[2 * k]) + 256 * byte(opening[2 * k + 1])
+    wide_byte(opening[2 * k]) + 256 * wide_byte(opening[2 * k + 1])
 }
 
 // Number k of an opening as the length of a list; the list has no more than `most` entries.

@@ -2,9 +2,10 @@
 use checks::Fault;
 use checks::limits::NUMBERS_PER_BOUNDARY;
 use checks::limits::NUMBERS_PER_SPAN;
+use plain_numbers::most;
 ghost use mathlib.Core.Path.{_≡_};
 ghost use mathlib.Core.Bool.{_&&_};
-ghost use Prim.Native.Nat.{_+_, _<_, max};
+ghost use Prim.Native.Nat.{_+_, _<_};
 ghost use lib.ListN.{length};
 ghost use Rattle.definitions.specs.Grid.{segmentAt};
 ghost use Rattle.checks.specs.Contract.{placeOf};
@@ -38,16 +39,10 @@ fn agrees(spans: &[u64], boundaries: &[u64], i: usize) -> bool
     false
 }
 
-fn greater(a: usize, b: usize) -> usize
-    ensures { λ r. ⌜ r ≡ max a b ⌝ }
-{
-    if a < b { b } else { a }
-}
-
 pub fn lists_fault(spans: &[u64], boundaries: &[u64]) -> Fault
     ensures { λ r. ⌜ placeOf r ≡ listsFault (now (spans .entry)) (now (boundaries .entry)) ⌝ }
 {
-    let count = greater(
+    let count = most(
         spans.len() / NUMBERS_PER_SPAN,
         boundaries.len() / NUMBERS_PER_BOUNDARY,
     );

@@ -1,5 +1,6 @@
 // The reader of a sheet of kind 1 or 3: what the bytes hold, or why they are refused. All bytes are judged before a list is filled, so a refusal leaves
 // every lent list as it was. A sheet of kind 3 holds no spans: they are filled from its boundaries.
+use plain_numbers::number_of_byte;
 ghost use mathlib.Core.Path.{_≡_};
 ghost use Prim.Native.Nat.{_+_, _-_, _*_, _≤_, _<_};
 ghost use mathlib.Core.Bool.{_&&_, cond};
@@ -25,12 +26,6 @@ pub enum NumberRead {
     Short,
 }
 
-fn wide(byte: u8) -> u64
-    ensures { λ r. ⌜ r ≡ byte ⌝ }
-{
-    byte as u64
-}
-
 // Nine groups have 63 bits, so the tenth byte has one bit to give, and none follows it. A last group of zero, behind others, pads the number.
 fn ill_formed(group: u64, byte: u64) -> bool
     ensures { λ r. ⌜ r ≡ grammar.illFormed group byte ⌝ }
@@ -48,7 +43,7 @@ pub fn number(bytes: &[u8], at: usize) -> NumberRead
     let mut group: u64 = 0;
     let mut next = at;
     while next < bytes.len() {
-        let byte = wide(bytes[next]);
+        let byte = number_of_byte(bytes[next]);
         next += 1;
         if ill_formed(group, byte) {
             return NumberRead::Bad;
@@ -76,12 +71,12 @@ pub fn number_at(bytes: &[u8], at: usize) -> NumberRead
     ensures { λ r. ⌜ grammar.number at (drop at (now (bytes .entry))) ≡ numberOf (now (bytes .entry)) at r ⌝ }
 {
     if at < bytes.len() {
-        let first = wide(bytes[at]);
+        let first = number_of_byte(bytes[at]);
         if first < 128 {
             return NumberRead::Value(first, at + 1);
         }
         if at + 1 < bytes.len() {
-            let second = wide(bytes[at + 1]);
+            let second = number_of_byte(bytes[at + 1]);
             if ends_short(second) {
                 return NumberRead::Value(first % 128 + second * 128, at + 2);
             }
@@ -158,11 +153,11 @@ fn short_at(bytes: &[u8], at: usize) -> ShortRead
     requires { ⌜ Held grammar.number (now bytes) at 1 ⌝ }
     ensures { λ r. ⌜ ShortTold (now (bytes .entry)) at r ⌝ }
 {
-    let first = wide(bytes[at]);
+    let first = number_of_byte(bytes[at]);
     if first < 128 {
         return ShortRead::Number(first, at + 1);
     }
-    let second = wide(bytes[at + 1]);
+    let second = number_of_byte(bytes[at + 1]);
     if second < 128 {
         return ShortRead::Number(first % 128 + second * 128, at + 2);
     }

@@ -18,6 +18,7 @@ use checks::limits::NUMBERS_PER_BOUNDARY;
 use checks::sizes::cells_fit;
 use checks::sizes::is_whole;
 use checks::sizes::sides_fit;
+use plain_numbers::number_of_byte;
 use put_shortest::put_shortest;
 use result_writer::Answer;
 use result_writer::Room;
@@ -25,12 +26,6 @@ use result_writer::group_count;
 use result_writer::put_list;
 use result_writer::spend_list;
 use result_writer::spend_number;
-
-fn wide(byte: u8) -> u64
-    ensures { λ r. ⌜ r ≡ byte ⌝ }
-{
-    byte as u64
-}
 
 // No last boundary or anchor is unfinished, and there are at most 256 of each, in lists of these lengths.
 fn are_whole(boundaries: usize, anchors: usize) -> bool
@@ -53,7 +48,7 @@ fn spend_cells(room: Room, cells: &[u8]) -> Room
     let mut left = whole;
     let mut i = 0;
     while i < cells.len() {
-        let size = group_count(wide(cells[i]));
+        let size = group_count(number_of_byte(cells[i]));
         if left < size {
             return Room::Short;
         }
@@ -100,7 +95,7 @@ fn put_cells(out: &mut [u8], at: usize, cells: &[u8]) -> usize
     let mut next = at;
     let mut i = 0;
     while i < cells.len() {
-        next = put_shortest(&mut *out, next, wide(cells[i]));
+        next = put_shortest(&mut *out, next, number_of_byte(cells[i]));
         i += 1;
     }
     next

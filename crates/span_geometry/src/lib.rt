@@ -6,9 +6,9 @@ pub mod numbers;
 pub mod segments;
 pub mod strips;
 
-use numbers::max;
-use numbers::min;
 use numbers::not_negative;
+use plain_numbers::max;
+use plain_numbers::min;
 use segments::cell_center;
 use segments::cross;
 use segments::segments_intersect;

@@ -1,21 +1,9 @@
 // Operations of Rust's numbers that Rattle lacks, and tests of signed numbers.
 ghost use mathlib.Core.Path.{_≡_};
-ghost use Prim.Native.Nat.{_-_, _≤_, _<_, min, max};
+ghost use Prim.Native.Nat.{_-_, _≤_, _<_};
 ghost use lib.Signed.{nonNeg, shrZ};
 ghost use Rattle.definitions.specs.Spans.{diff, distanceBetween, isZero, strictlyOpposite};
 ghost use Rattle.span_geometry.specs.Shapes.{maxPixel};
-
-pub fn min(m: u64, n: u64) -> u64
-    ensures { λ r. ⌜ r ≡ min m n ⌝ }
-{
-    if m <= n { m } else { n }
-}
-
-pub fn max(m: u64, n: u64) -> u64
-    ensures { λ r. ⌜ r ≡ max m n ⌝ }
-{
-    if m <= n { n } else { m }
-}
 
 // m - n, and 0 where that would be negative.
 pub fn saturating_sub(m: u64, n: u64) -> u64

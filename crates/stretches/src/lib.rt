@@ -6,7 +6,7 @@ ghost use Rattle.definitions.specs.Scan.{countBelow, bit};
 ghost use Rattle.definitions.specs.Grid.{Map, isWalkable};
 ghost use Rattle.stretches.specs.Made.{Begins, Made};
 use context::Region;
-use context::pairs::wide;
+use plain_numbers::wide;
 
 // A region's record, and the place of the queue after the region's stretch.
 pub struct Stretch {

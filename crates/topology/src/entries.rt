@@ -1,5 +1,5 @@
 // Single entries of the local lists of a pass. Functions over the slice of records read and store them by these alone.
-use mouth_selection::selection::index;
+use plain_numbers::wide_byte;
 ghost use mathlib.Core.Path.{_≡_};
 ghost use Prim.Native.Nat.{_<_};
 ghost use lib.ListN.{getD, set};
@@ -9,7 +9,7 @@ pub fn index_at(list: &[u8; 16384], k: usize) -> usize
     requires { ⌜ k < 16384 ⌝ }
     ensures { λ r. ⌜ r ≡ getD (now (list .entry)) k 0 ⌝ }
 {
-    index(list[k])
+    wide_byte(list[k])
 }
 
 pub fn kind_at(list: &[u8; 16384], k: usize) -> u8

@@ -1,8 +1,9 @@
 // Records of regions in plain numbers, for programs that print them.
 use context::Region;
+use plain_numbers::least;
 ghost use mathlib.Core.Path.{_≡_};
 ghost use mathlib.Core.List.{map};
-ghost use Prim.Native.Nat.{_+_, _≤_, min};
+ghost use Prim.Native.Nat.{_+_, _≤_};
 ghost use lib.ListN.{length, take};
 ghost use lib.Seq.{sets};
 ghost use lib.Ieee.{binary64, toBits};
@@ -58,12 +59,6 @@ fn put_numbers(numbers: &mut [u64], at: usize, r: Region)
         numbers[at + i] = n[i];
         i += 1;
     }
-}
-
-pub fn least(a: usize, b: usize) -> usize
-    ensures { λ r. ⌜ r ≡ min a b ⌝ }
-{
-    if a < b { a } else { b }
 }
 
 // Writes the first records in numbers, as many as there is room for.

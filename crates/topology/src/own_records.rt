@@ -2,10 +2,10 @@
 use crate::Answer;
 use crate::answer_of;
 use crate::numbers::RECORDS_HERE;
-use crate::numbers::least;
 use crate::numbers::put_records;
 use crate::topology_kept_boundaries;
 use context::Region;
+use plain_numbers::least;
 ghost use mathlib.Core.Path.{_≡_};
 ghost use mathlib.Core.List.{map};
 ghost use lib.ListN.{replicate};

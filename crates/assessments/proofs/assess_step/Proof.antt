@@ -22,11 +22,11 @@ add-t16 c = search needs
 returns : tie.Need-returns
 returns c = (search needs, assesses-together _ _ (c .before .if1 .taken))
 
-min-requires : tie.Need-min-requires
-min-requires c κs = search needs
+lesser-requires : tie.Need-lesser-requires
+lesser-requires c κs = search needs
 
-max-requires : tie.Need-max-requires
-max-requires c κs = search needs
+greater-requires : tie.Need-greater-requires
+greater-requires c κs = search needs
 
 insert-pair-requires : tie.Need-insert-pair-requires
 insert-pair-requires c κs = search needs
@@ -51,8 +51,8 @@ returns-2 c = (
   record { rows = to-insert-pair c .insert-pair .ensures .0; fewer = search needs; few = search needs },
   (
       let at-insert-pair = to-insert-pair c in
-      let at-min = at-insert-pair .before .before in
-      assesses-apart _ _ (at-min .before .before .if1 .left) (at-min .min .ensures) (at-insert-pair .before .max .ensures) (at-insert-pair .insert-pair .ensures .1)
+      let at-lesser = at-insert-pair .before .before in
+      assesses-apart _ _ (at-lesser .before .before .if1 .left) (at-lesser .lesser .ensures) (at-insert-pair .before .greater .ensures) (at-insert-pair .insert-pair .ensures .1)
       ),
 )
 
@@ -66,8 +66,8 @@ assess-step-spec =
     shared-slice-read-right
     add-t16
     returns
-    min-requires
-    max-requires
+    lesser-requires
+    greater-requires
     insert-pair-requires
     add-t13
     add-t19

@@ -11,9 +11,7 @@ use lib.Dec.{eqb, ltb}
 use borrow.Author.Tests.{lt-ltb}
 use Rattle.definitions.specs.Scan.{countBelow, bit}
 use Rattle.definitions.specs.Grid.{Map, cellCount, cellAt, isRamp}
-use Rattle.definitions.specs.Partition.{labels}
 use Rattle.definitions.specs.RegionRecord.{hasRamp, regionOf}
-use Rattle.definitions.specs.Context.{contextOf}
 
 -- ---- as the Rust writes it
 
@@ -43,8 +41,3 @@ module _ (M : Map) (ls : List ℕ) (r : ℕ) where
   pub ramp-flag : hasRamp (regionOf M ls r) ≡ flagAfter M ls r (cellCount M)
   unfolding regionOf
   ramp-flag = above-zero (cellCount M)
-
--- of the context that the passes read
-pub context-flag : (M : Map) (r : ℕ) → hasRamp (contextOf M .region r) ≡ flagAfter M (labels M) r (cellCount M)
-unfolding contextOf
-context-flag M r = ramp-flag M (labels M) r

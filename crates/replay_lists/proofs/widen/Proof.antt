@@ -18,16 +18,16 @@ least-requires : tie.Need-least-requires Inv-loop μ-loop
 least-requires c κs = search needs
 
 loop-holds : tie.Need-loop-holds Inv-loop μ-loop
-loop-holds c = (refl, c .least .ensures .0 .0, c .least .ensures .0 .1, omega arith, λ k h. absurd (omega (arith, h)), c .least .ensures .1)
+loop-holds c = (refl, omega (arith, c .least .ensures), omega (arith, c .least .ensures), omega arith, λ k h. absurd (omega (arith, h)), c .least .ensures)
 
-mul-wide : tie.Need-mul-wide Inv-loop μ-loop
-mul-wide c = search needs
+mul-number-of : tie.Need-mul-number-of Inv-loop μ-loop
+mul-number-of c = search needs
 
-shared-slice-read-wide : tie.Need-shared-slice-read-wide Inv-loop μ-loop
-shared-slice-read-wide c = search needs
+shared-slice-read-number-of : tie.Need-shared-slice-read-number-of Inv-loop μ-loop
+shared-slice-read-number-of c = search needs
 
-wide-requires : tie.Need-wide-requires Inv-loop μ-loop
-wide-requires c κs = search needs
+number-of-requires : tie.Need-number-of-requires Inv-loop μ-loop
+number-of-requires c κs = search needs
 
 mul-out : tie.Need-mul-out Inv-loop μ-loop
 mul-out c = search needs
@@ -46,12 +46,12 @@ loop-again c =
     let looped = c .before .before .before in
     let counted = looped .before in
     let at = looped .loop in
-    let stored = length-set (at .out) (at .i) (c .wide .result) in (
+    let stored = length-set (at .out) (at .i) (c .number-of .result) in (
       stored ∙ at .inv .0,
       at .inv .1,
       rw stored (at .inv .2),
       omega arith,
-      copied-more (counted .before .before .before .args .list .now) (at .out) (at .i) (c .wide .result) (omega (arith, at .inv .2)) (c .wide .ensures) (at .inv .4),
+      copied-more (counted .before .before .before .args .list .now) (at .out) (at .i) (c .number-of .result) (omega (arith, at .inv .2)) (c .number-of .ensures) (at .inv .4),
       at .inv .5,
     )
 
@@ -71,9 +71,9 @@ widen-spec =
     μ-loop
     least-requires
     loop-holds
-    mul-wide
-    shared-slice-read-wide
-    wide-requires
+    mul-number-of
+    shared-slice-read-number-of
+    number-of-requires
     mul-out
     slice-write-out
     add-i

@@ -18,16 +18,16 @@ least-requires : tie.Need-least-requires Inv-loop μ-loop
 least-requires c κs = search needs
 
 loop-holds : tie.Need-loop-holds Inv-loop μ-loop
-loop-holds c = (refl, c .least .ensures .0 .0, c .least .ensures .0 .1, omega arith, λ k h. absurd (omega (arith, h)), c .least .ensures .1)
+loop-holds c = (refl, omega (arith, c .least .ensures), omega (arith, c .least .ensures), omega arith, λ k h. absurd (omega (arith, h)), c .least .ensures)
 
-mul-wide-mask : tie.Need-mul-wide-mask Inv-loop μ-loop
-mul-wide-mask c = search needs
+mul-number-of-mask : tie.Need-mul-number-of-mask Inv-loop μ-loop
+mul-number-of-mask c = search needs
 
-shared-slice-read-wide-mask : tie.Need-shared-slice-read-wide-mask Inv-loop μ-loop
-shared-slice-read-wide-mask c = search needs
+shared-slice-read-number-of-mask : tie.Need-shared-slice-read-number-of-mask Inv-loop μ-loop
+shared-slice-read-number-of-mask c = search needs
 
-wide-mask-requires : tie.Need-wide-mask-requires Inv-loop μ-loop
-wide-mask-requires c κs = search needs
+number-of-mask-requires : tie.Need-number-of-mask-requires Inv-loop μ-loop
+number-of-mask-requires c κs = search needs
 
 mul-out : tie.Need-mul-out Inv-loop μ-loop
 mul-out c = search needs
@@ -46,12 +46,12 @@ loop-again c =
     let looped = c .before .before .before in
     let counted = looped .before in
     let at = looped .loop in
-    let stored = length-set (at .out) (at .i) (c .wide-mask .result) in (
+    let stored = length-set (at .out) (at .i) (c .number-of-mask .result) in (
       stored ∙ at .inv .0,
       at .inv .1,
       rw stored (at .inv .2),
       omega arith,
-      copied-more (counted .before .before .before .args .masks .now) (at .out) (at .i) (c .wide-mask .result) (omega (arith, at .inv .2)) (c .wide-mask .ensures) (at .inv .4),
+      copied-more (counted .before .before .before .args .masks .now) (at .out) (at .i) (c .number-of-mask .result) (omega (arith, at .inv .2)) (c .number-of-mask .ensures) (at .inv .4),
       at .inv .5,
     )
 
@@ -71,9 +71,9 @@ widen-masks-spec =
     μ-loop
     least-requires
     loop-holds
-    mul-wide-mask
-    shared-slice-read-wide-mask
-    wide-mask-requires
+    mul-number-of-mask
+    shared-slice-read-number-of-mask
+    number-of-mask-requires
     mul-out
     slice-write-out
     add-i

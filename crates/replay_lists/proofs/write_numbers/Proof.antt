@@ -30,7 +30,7 @@ returns c =
     let counted = c .before .before .before in
     let copied = counted .before .before in
     let known = copied .before .before in
-    changed-copied (known .before .before .args .list .now) _ _ (counted .least .ensures .1) (search needs) (copied .widen .ensures) (c .write-wide-numbers .ensures)
+    changed-copied (known .before .before .args .list .now) _ _ (counted .least .ensures) (search needs) (copied .widen .ensures) (c .write-wide-numbers .ensures)
 
 pub write-numbers-spec : {M : Type 1} → statement M
 write-numbers-spec =

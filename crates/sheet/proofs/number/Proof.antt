@@ -22,11 +22,11 @@ turn c = c .before .before .before
 loop-holds : tie.Need-loop-holds Inv-loop μ-loop
 loop-holds c = start _ _ (c .before .pre)
 
-shared-slice-read-wide : tie.Need-shared-slice-read-wide Inv-loop μ-loop
-shared-slice-read-wide c = search needs
+shared-slice-read-number-of-byte : tie.Need-shared-slice-read-number-of-byte Inv-loop μ-loop
+shared-slice-read-number-of-byte c = search needs
 
-wide-requires : tie.Need-wide-requires Inv-loop μ-loop
-wide-requires c κs = tt
+number-of-byte-requires : tie.Need-number-of-byte-requires Inv-loop μ-loop
+number-of-byte-requires c κs = tt
 
 add-next : tie.Need-add-next Inv-loop μ-loop
 add-next c = search needs
@@ -35,19 +35,19 @@ ill-formed-requires : tie.Need-ill-formed-requires Inv-loop μ-loop
 ill-formed-requires c κs = tt
 
 returns : tie.Need-returns Inv-loop μ-loop
-returns c = bad (turn (c .before) .before .loop .inv) (turn (c .before) .loop-test .taken) (c .before .before .wide .ensures) (sym (c .before .ill-formed .ensures) ∙ c .if1 .taken)
+returns c = bad (turn (c .before) .before .loop .inv) (turn (c .before) .loop-test .taken) (c .before .before .number-of-byte .ensures) (sym (c .before .ill-formed .ensures) ∙ c .if1 .taken)
 
 mul-value : tie.Need-mul-value Inv-loop μ-loop
-mul-value c = omega (arith, fits (turn (c .before) .before .loop .inv) (turn (c .before) .loop-test .taken) (c .before .before .wide .ensures) (sym (c .before .ill-formed .ensures) ∙ c .if1 .left))
+mul-value c = omega (arith, fits (turn (c .before) .before .loop .inv) (turn (c .before) .loop-test .taken) (c .before .before .number-of-byte .ensures) (sym (c .before .ill-formed .ensures) ∙ c .if1 .left))
 
 add-value : tie.Need-add-value Inv-loop μ-loop
-add-value c = omega (arith, fits (turn (c .before) .before .loop .inv) (turn (c .before) .loop-test .taken) (c .before .before .wide .ensures) (sym (c .before .ill-formed .ensures) ∙ c .if1 .left))
+add-value c = omega (arith, fits (turn (c .before) .before .loop .inv) (turn (c .before) .loop-test .taken) (c .before .before .number-of-byte .ensures) (sym (c .before .ill-formed .ensures) ∙ c .if1 .left))
 
 returns-2 : tie.Need-returns-2 Inv-loop μ-loop
-returns-2 c = last (turn (c .before .before) .before .loop .inv) (turn (c .before .before) .loop-test .taken) (c .before .before .before .wide .ensures) (sym (c .before .before .ill-formed .ensures) ∙ c .before .if1 .left) (c .if2 .taken)
+returns-2 c = last (turn (c .before .before) .before .loop .inv) (turn (c .before .before) .loop-test .taken) (c .before .before .before .number-of-byte .ensures) (sym (c .before .before .ill-formed .ensures) ∙ c .before .if1 .left) (c .if2 .taken)
 
 mul-scale : tie.Need-mul-scale Inv-loop μ-loop
-mul-scale c = omega (arith, scale-fits (turn (c .before .before) .before .loop .inv) (turn (c .before .before) .loop-test .taken) (c .before .before .before .wide .ensures) (sym (c .before .before .ill-formed .ensures) ∙ c .before .if1 .left) (c .if2 .left))
+mul-scale c = omega (arith, scale-fits (turn (c .before .before) .before .loop .inv) (turn (c .before .before) .loop-test .taken) (c .before .before .before .number-of-byte .ensures) (sym (c .before .before .ill-formed .ensures) ∙ c .before .if1 .left) (c .if2 .left))
 
 add-group : tie.Need-add-group Inv-loop μ-loop
 add-group c = search needs
@@ -56,7 +56,7 @@ loop-less : tie.Need-loop-less Inv-loop μ-loop
 loop-less c = search needs
 
 loop-again : tie.Need-loop-again Inv-loop μ-loop
-loop-again c = more (turn (c .before .before) .before .loop .inv) (turn (c .before .before) .loop-test .taken) (c .before .before .before .wide .ensures) (sym (c .before .before .ill-formed .ensures) ∙ c .before .if1 .left) (c .if2 .left)
+loop-again c = more (turn (c .before .before) .before .loop .inv) (turn (c .before .before) .loop-test .taken) (c .before .before .before .number-of-byte .ensures) (sym (c .before .before .ill-formed .ensures) ∙ c .before .if1 .left) (c .if2 .left)
 
 returns-3 : tie.Need-returns-3 Inv-loop μ-loop
 returns-3 c = early-end (c .before .loop .inv) (c .loop-test .left)
@@ -68,8 +68,8 @@ number-spec =
     Inv-loop
     μ-loop
     loop-holds
-    shared-slice-read-wide
-    wide-requires
+    shared-slice-read-number-of-byte
+    number-of-byte-requires
     add-next
     ill-formed-requires
     returns

@@ -6,11 +6,11 @@ use Rattle.sheet.proofs.ShortNumbers.{short-one, short-two, second-belo
 use Rattle.sheet.proofs.number_at.Statement.{statement}
 use Rattle.sheet.proofs.number_at.Tie as tie
 
-shared-slice-read-wide : tie.Need-shared-slice-read-wide
-shared-slice-read-wide c = search needs
+shared-slice-read-number-of-byte : tie.Need-shared-slice-read-number-of-byte
+shared-slice-read-number-of-byte c = search needs
 
-wide-requires : tie.Need-wide-requires
-wide-requires c κs = tt
+number-of-byte-requires : tie.Need-number-of-byte-requires
+number-of-byte-requires c κs = tt
 
 add-t10 : tie.Need-add-t10
 add-t10 c = search needs
@@ -18,28 +18,28 @@ add-t10 c = search needs
 returns : tie.Need-returns
 returns c =
     let read = c .before in
-    short-one _ _ (read .before .before .if1 .taken) (read .wide .ensures) (c .if2 .taken)
+    short-one _ _ (read .before .before .if1 .taken) (read .number-of-byte .ensures) (c .if2 .taken)
 
 add-if3 : tie.Need-add-if3
 add-if3 c = search needs
 
-add-wide : tie.Need-add-wide
-add-wide c = search needs
+add-number-of-byte : tie.Need-add-number-of-byte
+add-number-of-byte c = search needs
 
-shared-slice-read-wide-2 : tie.Need-shared-slice-read-wide-2
-shared-slice-read-wide-2 c = search needs
+shared-slice-read-number-of-byte-2 : tie.Need-shared-slice-read-number-of-byte-2
+shared-slice-read-number-of-byte-2 c = search needs
 
-wide-requires-2 : tie.Need-wide-requires-2
-wide-requires-2 c κs = tt
+number-of-byte-requires-2 : tie.Need-number-of-byte-requires-2
+number-of-byte-requires-2 c κs = tt
 
 ends-short-requires : tie.Need-ends-short-requires
 ends-short-requires c κs = tt
 
 mul-t18 : tie.Need-mul-t18
-mul-t18 c = omega (arith, second-below (c .before .before .wide2 .result) (c .before .ends-short .ensures) (c .if4 .taken))
+mul-t18 c = omega (arith, second-below (c .before .before .number-of-byte2 .result) (c .before .ends-short .ensures) (c .if4 .taken))
 
 add-t19 : tie.Need-add-t19
-add-t19 c = omega (arith, second-below (c .before .before .wide2 .result) (c .before .ends-short .ensures) (c .if4 .taken))
+add-t19 c = omega (arith, second-below (c .before .before .number-of-byte2 .result) (c .before .ends-short .ensures) (c .if4 .taken))
 
 add-t20 : tie.Need-add-t20
 add-t20 c = search needs
@@ -51,7 +51,7 @@ returns-2 c =
     let inside = read-second .before .before in
     let continued = inside .before in
     let read-first = continued .before in
-    short-two _ _ (read-first .before .before .if1 .taken) (read-first .wide .ensures) (continued .if2 .left) (inside .if3 .taken) (read-second .wide2 .ensures)
+    short-two _ _ (read-first .before .before .if1 .taken) (read-first .number-of-byte .ensures) (continued .if2 .left) (inside .if3 .taken) (read-second .number-of-byte2 .ensures)
     (sym (tested .ends-short .ensures) ∙ c .if4 .taken)
 
 number-requires : tie.Need-number-requires
@@ -61,4 +61,4 @@ returns-3 : tie.Need-returns-3
 returns-3 c = c .number .ensures
 
 pub number-at-spec : {M : Type 1} → statement M
-number-at-spec = tie.close (tie.spec shared-slice-read-wide wide-requires add-t10 returns add-if3 add-wide shared-slice-read-wide-2 wide-requires-2 ends-short-requires mul-t18 add-t19 add-t20 returns-2 number-requires returns-3)
+number-at-spec = tie.close (tie.spec shared-slice-read-number-of-byte number-of-byte-requires add-t10 returns add-if3 add-number-of-byte shared-slice-read-number-of-byte-2 number-of-byte-requires-2 ends-short-requires mul-t18 add-t19 add-t20 returns-2 number-requires returns-3)

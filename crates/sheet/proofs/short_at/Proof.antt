@@ -6,11 +6,11 @@ use Rattle.sheet.proofs.ShortNumbers.{short-one, short-two, second-ends
 use Rattle.sheet.proofs.short_at.Statement.{statement}
 use Rattle.sheet.proofs.short_at.Tie as tie
 
-shared-slice-read-wide : tie.Need-shared-slice-read-wide
-shared-slice-read-wide c = held-first _ _ (c .before .before .pre)
+shared-slice-read-number-of-byte : tie.Need-shared-slice-read-number-of-byte
+shared-slice-read-number-of-byte c = held-first _ _ (c .before .before .pre)
 
-wide-requires : tie.Need-wide-requires
-wide-requires c κs = tt
+number-of-byte-requires : tie.Need-number-of-byte-requires
+number-of-byte-requires c κs = tt
 
 add-t8 : tie.Need-add-t8
 add-t8 c =
@@ -20,21 +20,21 @@ add-t8 c =
 returns : tie.Need-returns
 returns c =
     let read-first = c .before in
-    short-one _ _ (held-first _ _ (read-first .before .before .before .pre)) (read-first .wide .ensures) (c .if1 .taken)
+    short-one _ _ (held-first _ _ (read-first .before .before .before .pre)) (read-first .number-of-byte .ensures) (c .if1 .taken)
 
-add-wide : tie.Need-add-wide
-add-wide c =
+add-number-of-byte : tie.Need-add-number-of-byte
+add-number-of-byte c =
     let read-first = c .before in
     omega (arith, held-first _ _ (read-first .before .before .before .pre))
 
-shared-slice-read-wide-2 : tie.Need-shared-slice-read-wide-2
-shared-slice-read-wide-2 c =
+shared-slice-read-number-of-byte-2 : tie.Need-shared-slice-read-number-of-byte-2
+shared-slice-read-number-of-byte-2 c =
     let continued = c .before in
     let read-first = continued .before in
-    held-second _ _ (read-first .before .before .before .pre) (read-first .wide .ensures) (continued .if1 .left)
+    held-second _ _ (read-first .before .before .before .pre) (read-first .number-of-byte .ensures) (continued .if1 .left)
 
-wide-requires-2 : tie.Need-wide-requires-2
-wide-requires-2 c κs = tt
+number-of-byte-requires-2 : tie.Need-number-of-byte-requires-2
+number-of-byte-requires-2 c κs = tt
 
 mul-t12 : tie.Need-mul-t12
 mul-t12 c = search needs
@@ -47,7 +47,7 @@ add-t14 c =
     let read-second = c .before in
     let continued = read-second .before .before in
     let read-first = continued .before in
-    omega (arith, held-second _ _ (read-first .before .before .before .pre) (read-first .wide .ensures) (continued .if1 .left))
+    omega (arith, held-second _ _ (read-first .before .before .before .pre) (read-first .number-of-byte .ensures) (continued .if1 .left))
 
 returns-2 : tie.Need-returns-2
 returns-2 c =
@@ -55,10 +55,10 @@ returns-2 c =
     let continued = read-second .before .before in
     let read-first = continued .before in
     let held = read-first .before .before .before .pre in
-    let above = held-above _ _ held (read-first .wide .ensures) (continued .if1 .left) (read-second .wide2 .ensures) in
-    short-two _ _ (held-first _ _ held) (read-first .wide .ensures) (continued .if1 .left)
-    (held-second _ _ held (read-first .wide .ensures) (continued .if1 .left)) (read-second .wide2 .ensures)
-    (second-ends (read-second .wide2 .result) above (c .if2 .taken))
+    let above = held-above _ _ held (read-first .number-of-byte .ensures) (continued .if1 .left) (read-second .number-of-byte2 .ensures) in
+    short-two _ _ (held-first _ _ held) (read-first .number-of-byte .ensures) (continued .if1 .left)
+    (held-second _ _ held (read-first .number-of-byte .ensures) (continued .if1 .left)) (read-second .number-of-byte2 .ensures)
+    (second-ends (read-second .number-of-byte2 .result) above (c .if2 .taken))
 
 returns-3 : tie.Need-returns-3
 returns-3 c = tt
@@ -67,13 +67,13 @@ pub short-at-spec : {M : Type 1} → statement M
 short-at-spec =
     tie.close
     (tie.spec
-    shared-slice-read-wide
-    wide-requires
+    shared-slice-read-number-of-byte
+    number-of-byte-requires
     add-t8
     returns
-    add-wide
-    shared-slice-read-wide-2
-    wide-requires-2
+    add-number-of-byte
+    shared-slice-read-number-of-byte-2
+    number-of-byte-requires-2
     mul-t12
     add-t13
     add-t14

@@ -19,17 +19,17 @@ loop-holds c =
     let at-start = c .before .before in
     placing-starts (at-start .pre)
 
-shared-slice-read-wide : tie.Need-shared-slice-read-wide Inv-loop μ-loop
-shared-slice-read-wide c = search needs
+shared-slice-read-number-of-byte : tie.Need-shared-slice-read-number-of-byte Inv-loop μ-loop
+shared-slice-read-number-of-byte c = search needs
 
-wide-requires : tie.Need-wide-requires Inv-loop μ-loop
-wide-requires c κs = search needs
+number-of-byte-requires : tie.Need-number-of-byte-requires Inv-loop μ-loop
+number-of-byte-requires c κs = search needs
 
 put-shortest-requires : tie.Need-put-shortest-requires Inv-loop μ-loop
 put-shortest-requires c κs =
     let at-loop-test = c .before .before .before in
     let at-loop = at-loop-test .before in
-    cell-room (at-loop .loop .inv) (at-loop-test .loop-test .taken) (c .wide .ensures)
+    cell-room (at-loop .loop .inv) (at-loop-test .loop-test .taken) (c .number-of-byte .ensures)
 
 add-i : tie.Need-add-i Inv-loop μ-loop
 add-i c = search needs
@@ -40,10 +40,10 @@ loop-less c = search needs
 loop-again : tie.Need-loop-again Inv-loop μ-loop
 loop-again c =
     let at-put-shortest = c .before .before in
-    let at-wide = at-put-shortest .before in
-    let at-loop-test = at-wide .before .before .before in
+    let at-number-of-byte = at-put-shortest .before in
+    let at-loop-test = at-number-of-byte .before .before .before in
     let at-loop = at-loop-test .before in
-    cell-put (at-loop .loop .inv) (at-loop-test .loop-test .taken) (at-wide .wide .ensures) (at-put-shortest .put-shortest .kept .0) (at-put-shortest .put-shortest .ensures)
+    cell-put (at-loop .loop .inv) (at-loop-test .loop-test .taken) (at-number-of-byte .number-of-byte .ensures) (at-put-shortest .put-shortest .kept .0) (at-put-shortest .put-shortest .ensures)
 
 same-length : tie.Need-same-length Inv-loop μ-loop
 same-length c =
@@ -62,8 +62,8 @@ put-cells-spec =
     Inv-loop
     μ-loop
     loop-holds
-    shared-slice-read-wide
-    wide-requires
+    shared-slice-read-number-of-byte
+    number-of-byte-requires
     put-shortest-requires
     add-i
     loop-less

@@ -27,11 +27,11 @@ returns c = spent-none _ (c .enum-told .given .1)
 loop-holds : tie.Need-loop-holds Inv-loop μ-loop
 loop-holds c = spending-starts
 
-shared-slice-read-wide : tie.Need-shared-slice-read-wide Inv-loop μ-loop
-shared-slice-read-wide c = search needs
+shared-slice-read-number-of-byte : tie.Need-shared-slice-read-number-of-byte Inv-loop μ-loop
+shared-slice-read-number-of-byte c = search needs
 
-wide-requires : tie.Need-wide-requires Inv-loop μ-loop
-wide-requires c κs = search needs
+number-of-byte-requires : tie.Need-number-of-byte-requires Inv-loop μ-loop
+number-of-byte-requires c κs = search needs
 
 group-count-requires : tie.Need-group-count-requires Inv-loop μ-loop
 group-count-requires c κs = search needs
@@ -39,12 +39,12 @@ group-count-requires c κs = search needs
 returns-2 : tie.Need-returns-2 Inv-loop μ-loop
 returns-2 c =
     let at-group-count = c .before in
-    let at-wide = at-group-count .before in
-    let at-loop-test = at-wide .before .before in
+    let at-number-of-byte = at-group-count .before in
+    let at-loop-test = at-number-of-byte .before .before in
     let at-loop = at-loop-test .before in
     let at-room = at-loop .before .before in
     let at-start = at-room .before .before .before in
-    spending-stops (at-loop .loop .inv) (at-loop-test .loop-test .taken) (cell-size (now (at-start .args .cells)) (at-loop .loop .i) (at-wide .wide .ensures) (at-group-count .group-count .ensures))
+    spending-stops (at-loop .loop .inv) (at-loop-test .loop-test .taken) (cell-size (now (at-start .args .cells)) (at-loop .loop .i) (at-number-of-byte .number-of-byte .ensures) (at-group-count .group-count .ensures))
     (c .if1 .taken) (at-room .room .given .1)
 
 add-i : tie.Need-add-i Inv-loop μ-loop
@@ -56,12 +56,12 @@ loop-less c = search needs
 loop-again : tie.Need-loop-again Inv-loop μ-loop
 loop-again c =
     let at-group-count = c .before in
-    let at-wide = at-group-count .before in
-    let at-loop-test = at-wide .before .before in
+    let at-number-of-byte = at-group-count .before in
+    let at-loop-test = at-number-of-byte .before .before in
     let at-loop = at-loop-test .before in
     let past-8 = at-loop .before .before .before in
     let at-start = past-8 .before .before in
-    spending-goes-on (at-loop .loop .inv) (at-loop-test .loop-test .taken) (cell-size (now (at-start .args .cells)) (at-loop .loop .i) (at-wide .wide .ensures) (at-group-count .group-count .ensures))
+    spending-goes-on (at-loop .loop .inv) (at-loop-test .loop-test .taken) (cell-size (now (at-start .args .cells)) (at-loop .loop .i) (at-number-of-byte .number-of-byte .ensures) (at-group-count .group-count .ensures))
     (c .if1 .left)
 
 returns-3 : tie.Need-returns-3 Inv-loop μ-loop
@@ -80,8 +80,8 @@ spend-cells-spec =
     enum-told
     returns
     loop-holds
-    shared-slice-read-wide
-    wide-requires
+    shared-slice-read-number-of-byte
+    number-of-byte-requires
     group-count-requires
     returns-2
     add-i

@@ -25,8 +25,8 @@ abbrev μ-loop : tie.MeasureT-loop
 abbrev count : List ℕ → List ℕ → ℕ
 count spans boundaries = max (length spans / numbersPerSpan) (length boundaries / numbersPerBoundary)
 
-greater-requires : tie.Need-greater-requires Inv-loop μ-loop
-greater-requires c κs = search needs
+most-requires : tie.Need-most-requires Inv-loop μ-loop
+most-requires c κs = search needs
 
 loop-holds : tie.Need-loop-holds Inv-loop μ-loop
 loop-holds c =
@@ -42,7 +42,7 @@ returns c =
     let l = c .before .before .before in
     let counted = l .before .before in
     let start = counted .before .before .args in
-    sym (first-faulty (liesOn (now (start .spans)) (now (start .boundaries))) (count (now (start .spans)) (now (start .boundaries))) (l .loop .i) (omega (arith, l .before .greater .ensures)) (l .loop .inv .1) (c .before .lies-on .ensures) (c .if1 .taken))
+    sym (first-faulty (liesOn (now (start .spans)) (now (start .boundaries))) (count (now (start .spans)) (now (start .boundaries))) (l .loop .i) (omega (arith, l .before .most .ensures)) (l .loop .inv .1) (c .before .lies-on .ensures) (c .if1 .taken))
 
 add-i : tie.Need-add-i Inv-loop μ-loop
 add-i c = search needs
@@ -63,7 +63,7 @@ returns-2 c =
     let l = c .before in
     let counted = l .before .before in
     let start = counted .before .before .args in
-    sym (none-faulty-end (liesOn (now (start .spans)) (now (start .boundaries))) (count (now (start .spans)) (now (start .boundaries))) (l .loop .i) (omega (arith, l .before .greater .ensures)) (omega (arith, l .before .greater .ensures)) (l .loop .inv .1))
+    sym (none-faulty-end (liesOn (now (start .spans)) (now (start .boundaries))) (count (now (start .spans)) (now (start .boundaries))) (l .loop .i) (omega (arith, l .before .most .ensures)) (omega (arith, l .before .most .ensures)) (l .loop .inv .1))
 
 pub desk-fault-spec : {M : Type 1} → statement M
 desk-fault-spec =
@@ -71,7 +71,7 @@ desk-fault-spec =
     (tie.spec
     Inv-loop
     μ-loop
-    greater-requires
+    most-requires
     loop-holds
     lies-on-requires
     returns

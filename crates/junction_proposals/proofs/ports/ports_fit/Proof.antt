@@ -91,15 +91,15 @@ module _ (c : tie.After-region-of Inv-loop μ-loop Inv-regions μ-regions) where
   skipped j h = met-skip _ _ _ _ _ j (side-unnamed (smaller start) (larger start) (union start) side (c .region-of .ensures) j h)
 
 -- at a turn over one entry
-module _ (w : tie.After-wide8 Inv-loop μ-loop Inv-regions μ-regions) where
+module _ (w : tie.After-wide-byte Inv-loop μ-loop Inv-regions μ-regions) where
   abbrev turn : tie.At-loop Inv-loop μ-loop Inv-regions μ-regions
   turn = w .before .before .before
 
   abbrev from : tie.Start Inv-loop μ-loop Inv-regions μ-regions
   from = start (turn .before)
 
-  entry : Entry (smaller from) (larger from) (union from) (from .args .count) (turn .loop .k) (w .wide8 .result)
-  entry = entry-at _ _ _ (from .pre .1 .1 .1) (w .before .before .loop-test .taken) (w .wide8 .ensures)
+  entry : Entry (smaller from) (larger from) (union from) (from .args .count) (turn .loop .k) (w .wide-byte .result)
+  entry = entry-at _ _ _ (from .pre .1 .1 .1) (w .before .before .loop-test .taken) (w .wide-byte .ensures .0)
 
 -- at the end of the list
 all-met : (l : tie.At-loop Inv-loop μ-loop Inv-regions μ-regions) →
@@ -142,11 +142,11 @@ region-of-requires c κs = search needs
 loop-holds : tie.Need-loop-holds Inv-loop μ-loop Inv-regions μ-regions
 loop-holds c = (search needs, (c .before .before .regions .inv .1 .0, passed-start (skipped c) (met-start _ _ _ _ _)))
 
-element-copy-out-wide8 : tie.Need-element-copy-out-wide8 Inv-loop μ-loop Inv-regions μ-regions
-element-copy-out-wide8 c = search needs
+element-copy-out-wide-byte : tie.Need-element-copy-out-wide-byte Inv-loop μ-loop Inv-regions μ-regions
+element-copy-out-wide-byte c = search needs
 
-wide8-requires : tie.Need-wide8-requires Inv-loop μ-loop Inv-regions μ-regions
-wide8-requires c κs = search needs
+wide-byte-requires : tie.Need-wide-byte-requires Inv-loop μ-loop Inv-regions μ-regions
+wide-byte-requires c κs = search needs
 
 mul-a : tie.Need-mul-a Inv-loop μ-loop Inv-regions μ-regions
 mul-a c = omega (arith, entry c .below)
@@ -169,8 +169,8 @@ fits-union-requires c κs = search needs
 add-met : tie.Need-add-met Inv-loop μ-loop Inv-regions μ-regions
 add-met c =
     let at-names-region = c .before .before .before in
-    let at-wide8 = at-names-region .before .before .before in
-    omega (arith, entry at-wide8 .below, met-few _ _ _ _ _ (turn at-wide8 .loop .inv .1 .1 .upTo _ (entry at-wide8 .rank-is)))
+    let at-wide-byte = at-names-region .before .before .before in
+    omega (arith, entry at-wide-byte .below, met-few _ _ _ _ _ (turn at-wide-byte .loop .inv .1 .1 .upTo _ (entry at-wide-byte .rank-is)))
 
 add-k : tie.Need-add-k Inv-loop μ-loop Inv-regions μ-regions
 add-k c = search needs
@@ -274,8 +274,8 @@ ports-fit-spec =
     regions-holds
     region-of-requires
     loop-holds
-    element-copy-out-wide8
-    wide8-requires
+    element-copy-out-wide-byte
+    wide-byte-requires
     mul-a
     element-copy-out-a
     mul-b

@@ -21,14 +21,14 @@ Inv-loop smaller larger count index incidents n lo hi exteriors₀ k₀ exterior
 abbrev μ-loop : tie.MeasureT-loop
 μ-loop smaller larger count index incidents n lo hi exteriors₀ k₀ exteriors k = n - k
 
--- the function's entry, from the state at `wide8`
-abbrev to-entry : tie.After-wide8 Inv-loop μ-loop → tie.Start Inv-loop μ-loop
+-- the function's entry, from the state at `wide-byte`
+abbrev to-entry : tie.After-wide-byte Inv-loop μ-loop → tie.Start Inv-loop μ-loop
 to-entry c =
     let at-loop = c .before .before .before in
     at-loop .before .before .before
 
 -- at a turn over one entry
-module _ (w : tie.After-wide8 Inv-loop μ-loop) where
+module _ (w : tie.After-wide-byte Inv-loop μ-loop) where
   abbrev smaller : List ℕ
   smaller = to-entry w .args .smaller .now
 
@@ -42,10 +42,10 @@ module _ (w : tie.After-wide8 Inv-loop μ-loop) where
   union = record { lo = getD smaller index 0; hi = getD larger index 0 }
 
   abbrev j : ℕ
-  j = w .wide8 .result
+  j = w .wide-byte .result
 
   entry : Entry smaller larger union (to-entry w .args .count) (w .before .before .before .loop .k) j
-  entry = entry-at _ _ _ (to-entry w .pre .1) (w .before .before .loop-test .taken) (w .wide8 .ensures)
+  entry = entry-at _ _ _ (to-entry w .pre .1) (w .before .before .loop-test .taken) (w .wide-byte .ensures .0)
 
   surveyed : Surveyed smaller larger index union j (w .before .before .before .loop .exteriors)
   surveyed = w .before .before .before .loop .inv .1 .upTo j (entry .rank-is)
@@ -72,11 +72,11 @@ element-copy-out-hi c = search needs
 loop-holds : tie.Need-loop-holds Inv-loop μ-loop
 loop-holds c = (search needs, passed-start (survey-skip _ _ _ _) (survey-start _ _ _ _))
 
-element-copy-out-wide8 : tie.Need-element-copy-out-wide8 Inv-loop μ-loop
-element-copy-out-wide8 c = search needs
+element-copy-out-wide-byte : tie.Need-element-copy-out-wide-byte Inv-loop μ-loop
+element-copy-out-wide-byte c = search needs
 
-wide8-requires : tie.Need-wide8-requires Inv-loop μ-loop
-wide8-requires c κs = search needs
+wide-byte-requires : tie.Need-wide-byte-requires Inv-loop μ-loop
+wide-byte-requires c κs = search needs
 
 mul-a : tie.Need-mul-a Inv-loop μ-loop
 mul-a c = omega (arith, entry c .below)
@@ -99,8 +99,8 @@ exterior-of-requires c κs = search needs
 with-requires : tie.Need-with-requires Inv-loop μ-loop
 with-requires c κs =
     let at-is-port = c .before .before in
-    let at-wide8 = at-is-port .before .before .before in
-    surveyed at-wide8 .few
+    let at-wide-byte = at-is-port .before .before .before in
+    surveyed at-wide-byte .few
 
 add-k : tie.Need-add-k Inv-loop μ-loop
 add-k c = search needs
@@ -136,8 +136,8 @@ has-three-exteriors-spec =
     mul-hi
     element-copy-out-hi
     loop-holds
-    element-copy-out-wide8
-    wide8-requires
+    element-copy-out-wide-byte
+    wide-byte-requires
     mul-a
     element-copy-out-a
     mul-b

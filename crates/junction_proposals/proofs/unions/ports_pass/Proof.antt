@@ -57,7 +57,7 @@ module _ (s : tie.Start Inv-loop μ-loop) where
   skipped j h e = all-more test j e (passing-other _ (no-port smaller larger union (s .args .index) j h))
 
 -- at a turn over one entry
-module _ (w : tie.After-wide8 Inv-loop μ-loop) where
+module _ (w : tie.After-wide-byte Inv-loop μ-loop) where
   abbrev start : tie.Start Inv-loop μ-loop
   start =
       let at-loop = w .before .before .before in
@@ -65,10 +65,10 @@ module _ (w : tie.After-wide8 Inv-loop μ-loop) where
       at-hi .before .before .before
 
   abbrev j : ℕ
-  j = w .wide8 .result
+  j = w .wide-byte .result
 
   entry : Entry (smaller start) (larger start) (union start) (start .args .count) (w .before .before .before .loop .k) j
-  entry = entry-at _ _ _ (start .pre .1 .1) (w .before .before .loop-test .taken) (w .wide8 .ensures)
+  entry = entry-at _ _ _ (start .pre .1 .1) (w .before .before .loop-test .taken) (w .wide-byte .ensures .0)
 
 -- what its test found
 tested : (q : tie.After-is-port Inv-loop μ-loop) →
@@ -93,11 +93,11 @@ loop-holds : tie.Need-loop-holds Inv-loop μ-loop
 unfolding allBelow
 loop-holds c = (search needs, passed-start (skipped (c .before .before .before)) refl)
 
-element-copy-out-wide8 : tie.Need-element-copy-out-wide8 Inv-loop μ-loop
-element-copy-out-wide8 c = search needs
+element-copy-out-wide-byte : tie.Need-element-copy-out-wide-byte Inv-loop μ-loop
+element-copy-out-wide-byte c = search needs
 
-wide8-requires : tie.Need-wide8-requires Inv-loop μ-loop
-wide8-requires c κs = search needs
+wide-byte-requires : tie.Need-wide-byte-requires Inv-loop μ-loop
+wide-byte-requires c κs = search needs
 
 mul-is-port : tie.Need-mul-is-port Inv-loop μ-loop
 mul-is-port c = omega (arith, entry c .below)
@@ -117,8 +117,8 @@ is-port-requires c κs = search needs
 port-passes-requires : tie.Need-port-passes-requires Inv-loop μ-loop
 port-passes-requires c κs =
     let at-is-port = c .before in
-    let at-wide8 = at-is-port .before .before .before in
-    (placed (start at-wide8 .pre .0) (start at-wide8 .pre .1 .0), placed (start at-wide8 .pre .0) (entry at-wide8 .below))
+    let at-wide-byte = at-is-port .before .before .before in
+    (placed (start at-wide-byte .pre .0) (start at-wide-byte .pre .1 .0), placed (start at-wide-byte .pre .0) (entry at-wide-byte .below))
 
 returns : tie.Need-returns Inv-loop μ-loop
 unfolding portsPass
@@ -164,8 +164,8 @@ ports-pass-spec =
     mul-hi
     element-copy-out-hi
     loop-holds
-    element-copy-out-wide8
-    wide8-requires
+    element-copy-out-wide-byte
+    wide-byte-requires
     mul-is-port
     element-copy-out-is-port
     mul-is-port-2

@@ -23,17 +23,17 @@ returns c =
     sym (ap (λ b. b && not (isRefused C T (proposalOf C (getD (s .mouths .now) (s .k) 0) (getD (s .ramps .now) (s .k) 0) (getD (s .outers .now) (s .k) 0) (getD (s .kinds .now) (s .k) 0))))
     (not-true (getD (s .near .now) (s .k) false) (c .if1 .taken)))
 
-element-copy-out-index : tie.Need-element-copy-out-index
-element-copy-out-index c = search needs
+element-copy-out-wide-byte : tie.Need-element-copy-out-wide-byte
+element-copy-out-wide-byte c = search needs
 
-index-requires : tie.Need-index-requires
-index-requires c κs = search needs
+wide-byte-requires : tie.Need-wide-byte-requires
+wide-byte-requires c κs = search needs
 
-element-copy-out-index-2 : tie.Need-element-copy-out-index-2
-element-copy-out-index-2 c = search needs
+element-copy-out-wide-byte-2 : tie.Need-element-copy-out-wide-byte-2
+element-copy-out-wide-byte-2 c = search needs
 
-index-requires-2 : tie.Need-index-requires-2
-index-requires-2 c κs = search needs
+wide-byte-requires-2 : tie.Need-wide-byte-requires-2
+wide-byte-requires-2 c κs = search needs
 
 mul-is-left : tie.Need-mul-is-left
 mul-is-left c = search needs
@@ -46,24 +46,24 @@ element-copy-out-is-left-2 c = search needs
 
 is-left-requires : tie.Need-is-left-requires
 is-left-requires c κs =
-    let at-index2 = c .before .before in
-    let at-index = at-index2 .before .before in
-    let at-if12 = at-index .before .before .before in
+    let at-wide-byte2 = c .before .before in
+    let at-wide-byte = at-wide-byte2 .before .before in
+    let at-if12 = at-wide-byte .before .before .before in
     let entry = at-if12 .before .before .before in
-    let e = subst (λ m. SafeEntry (entry .args .pairs .now) (entry .args .starts .now) (entry .args .marks .now) m (getD (entry .args .outers .now) (entry .args .k) 0)) (sym (at-index .index .ensures .0)) (entry .pre .1) in
-    (e .stretch, (e .rows, (e .marked, at-index2 .index2 .ensures .1)))
+    let e = subst (λ m. SafeEntry (entry .args .pairs .now) (entry .args .starts .now) (entry .args .marks .now) m (getD (entry .args .outers .now) (entry .args .k) 0)) (sym (at-wide-byte .wide-byte .ensures .0)) (entry .pre .1) in
+    (e .stretch, (e .rows, (e .marked, at-wide-byte2 .wide-byte2 .ensures .1)))
 
 returns-2 : tie.Need-returns-2
 returns-2 c =
-    let at-index2 = c .before .before .before in
-    let at-index = at-index2 .before .before in
-    let at-if1 = at-index .before .before in
+    let at-wide-byte2 = c .before .before .before in
+    let at-wide-byte = at-wide-byte2 .before .before in
+    let at-if1 = at-wide-byte .before .before in
     let at-if12 = at-if1 .before in
     let entry = at-if12 .before .before .before in
     let s = entry .args in
     λ C T P S hm ha h.
-    c .is-left .ensures C T P S (subst (λ m. m < C .count) (sym (at-index .index .ensures .0)) hm) (subst (λ a. a < C .count) (sym (at-index2 .index2 .ensures .0)) ha) h
-    ∙ (λ i. not (isRefused C T (proposalOf C (at-index .index .ensures .0 i) (at-index2 .index2 .ensures .0 i) (getD (s .outers .now) (s .k) 0) (getD (s .kinds .now) (s .k) 0))))
+    c .is-left .ensures C T P S (subst (λ m. m < C .count) (sym (at-wide-byte .wide-byte .ensures .0)) hm) (subst (λ a. a < C .count) (sym (at-wide-byte2 .wide-byte2 .ensures .0)) ha) h
+    ∙ (λ i. not (isRefused C T (proposalOf C (at-wide-byte .wide-byte .ensures .0 i) (at-wide-byte2 .wide-byte2 .ensures .0 i) (getD (s .outers .now) (s .k) 0) (getD (s .kinds .now) (s .k) 0))))
     ∙ sym (ap (λ b. b && not (isRefused C T (proposalOf C (getD (s .mouths .now) (s .k) 0) (getD (s .ramps .now) (s .k) 0) (getD (s .outers .now) (s .k) 0) (getD (s .kinds .now) (s .k) 0))))
     (not-false (getD (s .near .now) (s .k) false) (at-if1 .if1 .left)))
 
@@ -73,10 +73,10 @@ entry-left-spec =
     (tie.spec
     element-copy-out-if1
     returns
-    element-copy-out-index
-    index-requires
-    element-copy-out-index-2
-    index-requires-2
+    element-copy-out-wide-byte
+    wide-byte-requires
+    element-copy-out-wide-byte-2
+    wide-byte-requires-2
     mul-is-left
     element-copy-out-is-left
     element-copy-out-is-left-2

@@ -1,7 +1,7 @@
 -- `apart::doubt_of_all` meets its contract. The invariant: where no position was found, the terms of the maps below `low` are apart. The measure: each turn goes on to higher maps, or
 -- to fewer of them. Assumes nothing.
 use native.Mathlib.Omega.{arith}
-use Prim.Native.Nat.{ℕ, suc, _+_, _*_, _-_, _≤_, _<_}
+use Prim.Native.Nat.{ℕ, suc, _+_, _*_, _-_, _≤_, _<_, min}
 use native.Mathlib.Nat.{mul-suc, mul-le-mul-left}
 use mathlib.Core.Path.{_≡_, refl}
 use lib.ListN.{length}
@@ -30,8 +30,8 @@ higher : (low high end : ℕ) → low ≤ high → high ≤ 18446744073709551615
 higher low high end a b e = less 18446744073709551616 (18446744073709551616 - (high + 1)) (18446744073709551616 - low) (end - (high + 1)) (high - low) (omega arith) (omega arith)
 
 -- the least of two positions is `until` only where both are
-both : {r a b until : ℕ} → (r ≤ a) × (r ≤ b) → a ≤ until → b ≤ until → r ≡ until → (a ≡ until) × (b ≡ until)
-both l h k e = (omega (arith, l .0), omega (arith, l .1))
+both : {r a b until : ℕ} → r ≡ min a b → a ≤ until → b ≤ until → r ≡ until → (a ≡ until) × (b ≡ until)
+both l h k e = (omega arith, omega arith)
 
 loop-holds : tie.Need-loop-holds Inv-loop μ-loop
 loop-holds c = (search needs, search needs, search needs, refl, refl, λ e i j a b h. absurd (omega arith))
@@ -77,8 +77,8 @@ doubt-between-requires c κs =
     let fits = maps-fit _ _ (told .before .take-maps .ensures) (at-count .count .given .1) in
     ((search needs, still-fits fits (search needs)), (search needs, search needs))
 
-least-of-requires : tie.Need-least-of-requires Inv-loop μ-loop
-least-of-requires c κs = search needs
+least-requires : tie.Need-least-requires Inv-loop μ-loop
+least-requires c κs = search needs
 
 same-length-3 : tie.Need-same-length-3 Inv-loop μ-loop
 same-length-3 c = search needs
@@ -98,8 +98,8 @@ returns-2 c =
     let at-loop = at-maps .before .before .before in
     let I = at-loop .loop .inv in
     let D = at-doubt .doubt-between .ensures in
-    let all = both (at-least .least-of .ensures) (I .2) (D .0) in
-    (omega (arith, at-least .least-of .ensures .0, I .2), λ e. below-all _ _ _ _ (I .5 (all e .0)) (D .1 (all e .1)) (c .if2 .taken))
+    let all = both (at-least .least .ensures) (I .2) (D .0) in
+    (omega (arith, at-least .least .ensures, I .2), λ e. below-all _ _ _ _ (I .5 (all e .0)) (D .1 (all e .1)) (c .if2 .taken))
 
 add-low : tie.Need-add-low Inv-loop μ-loop
 add-low c = search needs
@@ -131,10 +131,10 @@ loop-again-2 c =
     let at-loop = at-maps .before .before .before in
     let I = at-loop .loop .inv in
     let D = at-doubt .doubt-between .ensures in
-    let all = both (at-least .least-of .ensures) (I .2) (D .0) in (
+    let all = both (at-least .least .ensures) (I .2) (D .0) in (
       c .part-end .ensures .0,
       c .part-end .ensures .1,
-      omega (arith, at-least .least-of .ensures .0, I .2),
+      omega (arith, at-least .least .ensures, I .2),
       search needs,
       search needs,
       λ e. below-more _ _ _ _ (I .5 (all e .0)) (D .1 (all e .1)),
@@ -168,7 +168,7 @@ doubt-of-all-spec =
     loop-again
     enum-known-count
     doubt-between-requires
-    least-of-requires
+    least-requires
     same-length-3
     same-length-4
     returns-2

@@ -10,16 +10,16 @@ precedes-requires c κs = search needs
 returns : tie.Need-returns
 returns c = (search needs, λ until a b e h. (e, c .before .precedes .ensures (c .if1 .taken)))
 
-later-of-requires : tie.Need-later-of-requires
-later-of-requires c κs = search needs
+most-requires : tie.Need-most-requires
+most-requires c κs = search needs
 
-least-of-requires : tie.Need-least-of-requires
-least-of-requires c κs = search needs
+least-requires : tie.Need-least-requires
+least-requires c κs = search needs
 
 returns-2 : tie.Need-returns-2
 returns-2 c =
-    let at-later = c .before in
-    (c .least-of .ensures .0, λ until a b e h. absurd (omega (arith, c .least-of .ensures .1, at-later .later-of .ensures until a b)))
+    let at-most = c .before in
+    (omega (arith, c .least .ensures), λ until a b e h. absurd (omega (arith, c .least .ensures, at-most .most .ensures)))
 
 pub least-astray-of-spec : {M : Type 1} → statement M
 least-astray-of-spec =
@@ -27,6 +27,6 @@ least-astray-of-spec =
     (tie.spec
     precedes-requires
     returns
-    later-of-requires
-    least-of-requires
+    most-requires
+    least-requires
     returns-2)
