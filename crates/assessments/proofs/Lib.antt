@@ -3,5 +3,6 @@ mod Holding
 mod Gathering
 mod Directions
 mod Turns
+mod Passing
 mod Joining
 mod Spans

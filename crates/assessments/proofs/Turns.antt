@@ -1,7 +1,6 @@
 -- What holds at each turn of a loop that assesses steps: those of the turns before are assessed, and so much is counted at most. Assumes nothing.
 use Prim.Native.Nat.{ℕ, suc, _+_, _-_, _*_, _≤_, _<_}
 use mathlib.Core.Path.{_≡_, refl, sym, ap, _∙_}
-use mathlib.Core.Bool.{Bool, true, false, cond}
 use mathlib.Core.List.{List, [], _++_}
 use native.Mathlib.Omega.{arith}
 use native.Mathlib.Nat.{le-add-right, mul-suc, mul-le-mul-left}
@@ -34,11 +33,6 @@ module _ {labels : List ℕ} {span first : ℕ} {a : BoundaryAssessment} {pairs 
       → es ++ fs ≡ gs → most + n ≤ next → Turns labels span first gs a pairs next c pairs″
   turns-more n T C l A e h =
       record { counting = counting-most C (omega (arith, T .counting .few, C .few)); long = l ∙ T .long; assessed = assesses-same e (assesses-both (T .assessed) A) }
-
--- the two sides of a map, either first
-pub side-most : (t : Bool) {w h : ℕ} → w ≤ maxSide → h ≤ maxSide → cond t w h ≤ maxSide
-side-most true a b = a
-side-most false a b = b
 
 -- ---- a loop from one number to a last one, that is at m; f are the steps of a number, n of them at most
 

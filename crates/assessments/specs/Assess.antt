@@ -5,8 +5,8 @@ use mathlib.Core.Bool.{true, cond}
 use mathlib.Core.List.{List, [], _∷_, _++_}
 use lib.ListN.{length}
 use Rattle.definitions.specs.Limits.{maxSide, numbersPerPair}
-use Rattle.definitions.specs.Scan.{filter, concatMap}
-use Rattle.definitions.specs.Grid.{Position, at, Pair, directions, toward, edge}
+use Rattle.definitions.specs.Scan.{filter}
+use Rattle.definitions.specs.Grid.{Position, at, Pair, toward, edge}
 use Rattle.definitions.specs.Partition.{isSeparated, pairsOf}
 use Rattle.flood.specs.Masks.{bitOf}
 use Rattle.flood.specs.Walk.{gridOf}
@@ -57,11 +57,6 @@ pub record Assesses (labels : List ℕ) (span first : ℕ) (es : List Pair) (a :
 -- the step from (x, y) in direction d, if the mask has it
 unfoldable pub stepIn : (w x y mask : ℕ) → Position → List Pair
 stepIn w x y mask d = cond (isSet mask (bitOf d)) (edge (gridOf w 0 []) (at x y) (toward (at x y) d) ∷ []) []
-
--- those in all its directions
-unfoldable pub stepsIn : (w x y mask : ℕ) → List Pair
-unfolding concatMap stepIn
-stepsIn w x y mask = concatMap (stepIn w x y mask) directions
 
 -- every direction of the mask leads to a cell of the grid
 pub record Leads (w h x y mask : ℕ) : Type 0 where

@@ -2,12 +2,19 @@
 pub mod region_pairs;
 
 use cut_steps::NUMBERS_PER_SPAN;
+use cut_steps::cell::crossed_directions;
 use cut_steps::cell::cut_directions;
 use cut_steps::cell::is_near;
 use cut_steps::cell::is_set;
+use cut_steps::cell::side_changes;
+use cut_steps::is_placed;
+use cut_steps::part_end;
+use cut_steps::parts_of;
 use cut_steps::pick;
 use cut_steps::span_at;
-use flood::place_at;
+use line_crossings::first_place;
+use line_crossings::next_place;
+use line_crossings::tie_of;
 use plain_numbers::greater;
 use plain_numbers::lesser;
 use region_pairs::NUMBERS_PER_PAIR;
@@ -25,9 +32,11 @@ ghost use Rattle.flood.specs.Walk.{gridOf};
 ghost use Rattle.span_geometry.specs.Shapes.{Sound, segmentOf};
 ghost use Rattle.cut_steps.specs.Contract.{Checked};
 ghost use Rattle.cut_steps.specs.CutSteps.{cutFrom, cutSpan};
+ghost use Rattle.cut_steps.specs.Cell.{CutDirections};
 ghost use Rattle.cut_steps.specs.Columns.{ColumnAsked, cutColumn};
+ghost use Rattle.cut_steps.specs.Crossed.{CrossedAt, cutTwoBack, FollowsIn, ColumnsAsked, BetweenAsked, cutColumns, PartAsked};
 ghost use Rattle.assessments.specs.Held.{pairOf, roomOf};
-ghost use Rattle.assessments.specs.Assess.{nothing, maxCellEdges, maxLineEdges, maxEdges, Counting, Assesses, stepIn, stepsIn, Leads, Lent};
+ghost use Rattle.assessments.specs.Assess.{nothing, maxCellEdges, maxLineEdges, maxEdges, Counting, Assesses, stepIn, Leads, Lent};
 ghost use Rattle.assessments.specs.Contract.{AssessAsked, SpansAssessed};
 
 pub const TALLIES_PER_SPAN: usize = 2;
@@ -118,12 +127,14 @@ fn assess_direction(
     )
 }
 
-// The steps from (x, y) in the directions of the mask.
-fn assess_directions(
+// The steps from (x, y) that the span cuts. The mask has their directions, which lead to cells of larger number.
+fn assess_mask(
     width: usize,
     height: usize,
+    cells: &[u8],
     labels: &[u32],
     pairs: &mut [u32],
+    g: SpanGeometry,
     span: u32,
     first: usize,
     start: BoundaryAssessment,
@@ -131,30 +142,72 @@ fn assess_directions(
     y: usize,
     mask: u16,
 ) -> BoundaryAssessment
-    requires leads { ⌜ Leads width height x y mask × (height * width ≤ length (now labels)) ⌝ }
+    requires lent { ⌜ Lent width height (now cells) (now labels) × (x < width) × (y < height) ⌝ }
+    requires mask { ⌜ CutDirections width height (now cells) (segmentOf g) x y mask ⌝ }
     requires counting { ⌜ Counting (now pairs) first (maxEdges - maxCellEdges) start ⌝ }
     ensures still_counting { λ r. ⌜ Counting (now (pairs .exit)) first (start .removed + maxCellEdges) r ⌝ }
-    ensures assessed { λ r. ⌜ Assesses (now (labels .entry)) span first (stepsIn width x y mask) start (now (pairs .entry)) r (now (pairs .exit)) ⌝ }
+    ensures assessed { λ r. ⌜ Assesses (now (labels .entry)) span first (cutFrom (gridOf width height (now (cells .entry))) (segmentOf g) (at x y)) start
+        (now (pairs .entry)) r (now (pairs .exit)) ⌝ }
 {
-    let mut a = start;
-    for d in 0..8 {
-        let place = place_at(d);
-        a = assess_direction(
-            width,
-            height,
-            labels,
-            pairs,
-            span,
-            first,
-            a,
-            x,
-            y,
-            mask,
-            place % 3,
-            place / 3,
-        );
+    if mask == 0 {
+        return start;
     }
-    a
+    let a = assess_direction(
+        width,
+        height,
+        labels,
+        pairs,
+        span,
+        first,
+        start,
+        x,
+        y,
+        mask,
+        2,
+        1,
+    );
+    let b = assess_direction(
+        width,
+        height,
+        labels,
+        pairs,
+        span,
+        first,
+        a,
+        x,
+        y,
+        mask,
+        1,
+        2,
+    );
+    let c = assess_direction(
+        width,
+        height,
+        labels,
+        pairs,
+        span,
+        first,
+        b,
+        x,
+        y,
+        mask,
+        0,
+        2,
+    );
+    assess_direction(
+        width,
+        height,
+        labels,
+        pairs,
+        span,
+        first,
+        c,
+        x,
+        y,
+        mask,
+        2,
+        2,
+    )
 }
 
 // The steps from (x, y) that the span cuts. Most cells near a span have none.
@@ -181,10 +234,20 @@ fn assess_cell(
         return start;
     }
     let mask = cut_directions(width, height, cells, g, x, y);
-    if mask == 0 {
-        return start;
-    }
-    assess_directions(width, height, labels, pairs, span, first, start, x, y, mask)
+    assess_mask(
+        width,
+        height,
+        cells,
+        labels,
+        pairs,
+        g,
+        span,
+        first,
+        start,
+        x,
+        y,
+        mask,
+    )
 }
 
 // The steps that the span cuts from the candidates in column, or row, k.
@@ -231,7 +294,212 @@ fn assess_column(
     a
 }
 
-// The steps that the span cuts. Its rows begin at `first`.
+// The steps that the span cuts from the cell at `beyond` - 2 across column, or row, k, if there is one. Its changes of sides are given.
+fn assess_across(
+    width: usize,
+    height: usize,
+    cells: &[u8],
+    labels: &[u32],
+    pairs: &mut [u32],
+    g: SpanGeometry,
+    strip: Strip,
+    span: u32,
+    first: usize,
+    start: BoundaryAssessment,
+    k: usize,
+    beyond: usize,
+    changes: u16,
+) -> BoundaryAssessment
+    requires lent { ⌜ Lent width height (now cells) (now labels) × Sound g × ColumnAsked width height strip k ⌝ }
+    requires changes { ⌜ CrossedAt (segmentOf g) strip k beyond changes ⌝ }
+    requires counting { ⌜ Counting (now pairs) first (maxEdges - maxCellEdges) start ⌝ }
+    ensures still_counting { λ r. ⌜ Counting (now (pairs .exit)) first (start .removed + maxCellEdges) r ⌝ }
+    ensures assessed { λ r. ⌜ Assesses (now (labels .entry)) span first
+        (cutTwoBack (gridOf width height (now (cells .entry))) (segmentOf g) strip k beyond)
+        start (now (pairs .entry)) r (now (pairs .exit)) ⌝ }
+{
+    if changes == 0 {
+        return start;
+    }
+    let columns = strip.columns;
+    if !is_placed(beyond, pick(columns, height, width)) {
+        return start;
+    }
+    let x = pick(columns, k, beyond - 2);
+    let y = pick(columns, beyond - 2, k);
+    let mask = crossed_directions(width, height, cells, g, x, y, changes);
+    assess_mask(
+        width,
+        height,
+        cells,
+        labels,
+        pairs,
+        g,
+        span,
+        first,
+        start,
+        x,
+        y,
+        mask,
+    )
+}
+
+// The steps that the span cuts from the candidates in column, or row, k, by the first places past the line there and beside it: those of four cells.
+fn assess_crossing(
+    width: usize,
+    height: usize,
+    cells: &[u8],
+    labels: &[u32],
+    pairs: &mut [u32],
+    g: SpanGeometry,
+    strip: Strip,
+    span: u32,
+    first: usize,
+    start: BoundaryAssessment,
+    k: usize,
+    before: usize,
+    here: usize,
+    after: usize,
+) -> BoundaryAssessment
+    requires lent { ⌜ Lent width height (now cells) (now labels) × Sound g × ColumnAsked width height strip k ⌝ }
+    requires follows { ⌜ FollowsIn strip (segmentOf g) k before here after ⌝ }
+    requires counting { ⌜ Counting (now pairs) first (maxEdges - maxLineEdges) start ⌝ }
+    ensures still_counting { λ r. ⌜ Counting (now (pairs .exit)) first (start .removed + maxLineEdges) r ⌝ }
+    ensures assessed { λ r. ⌜ Assesses (now (labels .entry)) span first (cutColumn (gridOf width height (now (cells .entry))) (segmentOf g) strip k) start
+        (now (pairs .entry)) r (now (pairs .exit)) ⌝ }
+{
+    let columns = strip.columns;
+    let back = before + 2 - here;
+    let ahead = after + 2 - here;
+    let mut a = start;
+    for j in 0..4 {
+        a = assess_across(
+            width,
+            height,
+            cells,
+            labels,
+            pairs,
+            g,
+            strip,
+            span,
+            first,
+            a,
+            k,
+            here + j,
+            side_changes(columns, back, ahead, j),
+        );
+    }
+    a
+}
+
+// The steps that the span cuts from the candidates in the columns, or rows, from `from` on before `to`, which are between the span's ends.
+fn assess_between(
+    width: usize,
+    height: usize,
+    cells: &[u8],
+    labels: &[u32],
+    pairs: &mut [u32],
+    g: SpanGeometry,
+    strip: Strip,
+    span: u32,
+    first: usize,
+    start: BoundaryAssessment,
+    from: usize,
+    to: usize,
+) -> BoundaryAssessment
+    requires lent { ⌜ Lent width height (now cells) (now labels) × Sound g × ColumnsAsked width height strip from to ⌝ }
+    requires between { ⌜ BetweenAsked (segmentOf g) strip from to × (from < to) ⌝ }
+    requires counting { ⌜ Counting (now pairs) first (maxEdges - maxLineEdges * (to - from)) start ⌝ }
+    ensures still_counting { λ r. ⌜ Counting (now (pairs .exit)) first (start .removed + maxLineEdges * (to - from)) r ⌝ }
+    ensures assessed { λ r. ⌜ Assesses (now (labels .entry)) span first
+        (cutColumns (gridOf width height (now (cells .entry))) (segmentOf g) strip from to)
+        start (now (pairs .entry)) r (now (pairs .exit)) ⌝ }
+{
+    let tie = tie_of(g, strip);
+    let mut a = start;
+    let mut k = from;
+    let mut before = first_place(strip, tie, from as u64 - 1);
+    let mut here = next_place(strip, tie, from as u64 - 1, before);
+    while k < to {
+        let after = next_place(strip, tie, k as u64, here);
+        a = assess_crossing(
+            width,
+            height,
+            cells,
+            labels,
+            pairs,
+            g,
+            strip,
+            span,
+            first,
+            a,
+            k,
+            before.first as usize,
+            here.first as usize,
+            after.first as usize,
+        );
+        before = here;
+        here = after;
+        k += 1;
+    }
+    a
+}
+
+// The steps that the span cuts from a part: by the line between the span's ends, and of a single column, or row, those of every candidate.
+fn assess_part(
+    width: usize,
+    height: usize,
+    cells: &[u8],
+    labels: &[u32],
+    pairs: &mut [u32],
+    g: SpanGeometry,
+    strip: Strip,
+    span: u32,
+    first: usize,
+    start: BoundaryAssessment,
+    from: usize,
+    to: usize,
+) -> BoundaryAssessment
+    requires lent { ⌜ Lent width height (now cells) (now labels) × Sound g × ColumnsAsked width height strip from to ⌝ }
+    requires part { ⌜ PartAsked (segmentOf g) strip from to ⌝ }
+    requires counting { ⌜ Counting (now pairs) first (maxEdges - maxLineEdges * (to - from)) start ⌝ }
+    ensures still_counting { λ r. ⌜ Counting (now (pairs .exit)) first (start .removed + maxLineEdges * (to - from)) r ⌝ }
+    ensures assessed { λ r. ⌜ Assesses (now (labels .entry)) span first
+        (cutColumns (gridOf width height (now (cells .entry))) (segmentOf g) strip from to)
+        start (now (pairs .entry)) r (now (pairs .exit)) ⌝ }
+{
+    if to <= from + 1 {
+        return assess_column(
+            width,
+            height,
+            cells,
+            labels,
+            pairs,
+            g,
+            strip,
+            span,
+            first,
+            start,
+            from,
+        );
+    }
+    assess_between(
+        width,
+        height,
+        cells,
+        labels,
+        pairs,
+        g,
+        strip,
+        span,
+        first,
+        start,
+        from,
+        to,
+    )
+}
+
+// The steps that the span cuts: near its ends from every candidate, and between them by the line. Its rows begin at `first`.
 fn assess_span(
     width: usize,
     height: usize,
@@ -249,16 +517,16 @@ fn assess_span(
         (now (pairs .entry)) r (now (pairs .exit)) ⌝ }
 {
     let strip = Strip::new(g);
-    let axis = strip.axis_range(pick(strip.columns, width, height) as u64);
-    let last = axis.last as usize;
+    let parts = parts_of(strip, pick(strip.columns, width, height));
     let mut a = BoundaryAssessment {
         removed: 0,
         separated: 0,
         end: first,
     };
-    let mut k = axis.first as usize;
-    while k <= last {
-        a = assess_column(
+    let mut k = parts.first;
+    while k < parts.end {
+        let next = part_end(parts, k);
+        a = assess_part(
             width,
             height,
             cells,
@@ -270,8 +538,9 @@ fn assess_span(
             first,
             a,
             k,
+            next,
         );
-        k += 1;
+        k = next;
     }
     a
 }

@@ -1,7 +1,12 @@
-mod Sides
-mod Walking
-pub mod Cells
 pub mod CutLaws
-pub mod Marks
+pub mod Trimmed
 pub mod Onward
+pub mod Changes
+mod Steps
+pub mod Cells
+mod Sides
+pub mod Marks
+mod Walking
+pub mod Across
+pub mod SpanParts
 pub mod Spans

@@ -104,7 +104,7 @@ no-south M g p w dx = go (isStep M p (at dx 2)) refl
 -- ---- the mask
 
 -- its nine bits
-nine : (a b c d : Bool) → map (isSet (onwardMask a b c d)) (run 0 9) ≡ false ∷ false ∷ false ∷ false ∷ false ∷ a ∷ b ∷ c ∷ d ∷ []
+pub nine : (a b c d : Bool) → map (isSet (onwardMask a b c d)) (run 0 9) ≡ false ∷ false ∷ false ∷ false ∷ false ∷ a ∷ b ∷ c ∷ d ∷ []
 unfolding run
 nine true true true true = refl
 nine true true true false = refl

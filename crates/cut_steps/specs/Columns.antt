@@ -1,5 +1,5 @@
 -- The cut steps of a span's candidates as the code walks them: columns, or rows, along the major axis, and in each the cells across it. Joined in that order they are
--- the span's cut steps (`span-joined`, `column-joined`). Assumes nothing.
+-- the span's cut steps (`parts-joined`, `column-joined`). Assumes nothing.
 use Prim.Native.Nat.{ℕ, _≤_, _<_}
 use native.Mathlib.Omega.{arith}
 use mathlib.Core.Path.{_≡_, sym, ap, ap₂, _∙_}
@@ -14,7 +14,7 @@ use Rattle.span_geometry.specs.declared.strips.Strip.{Strip}
 use Rattle.span_geometry.specs.Strips.{Walks, Usable, stripOf, lineOf}
 use Rattle.span_geometry.specs.Candidates.{cellOf, majorSide, minorSide, candidates-by-strip}
 use Rattle.cut_steps.specs.CutSteps.{cutFrom, cutSpan}
-use Rattle.cut_steps.specs.Prefixes.{concat-map, concat-concat}
+use Rattle.cut_steps.specs.Prefixes.{upTo, concat-map, concat-concat}
 
 -- the cut steps of the cell at m across column, or row, k
 abbrev pub cutAcross : Map → Segment → Bool → ℕ → ℕ → List Pair
@@ -68,6 +68,9 @@ columns-joined M g o =
     ∙ concat-concat (cutFrom M g) (λ k. map (cellOf (stripOf g) k) (candidateMinorRange (lineOf (stripOf g) k) (minorSide (stripOf g) (M .width) (M .height))))
     (candidateAxisRange (stripOf g .major0) (stripOf g .major1) (majorSide (stripOf g) (M .width) (M .height)))
 
-pub span-joined : (M : Map) (g : Segment) → g .a .x ≤ g .b .x → {t : Strip} {r : RangeInclusive} {limit : ℕ} → t ≡ stripOf g → limit ≡ majorSide t (M .width) (M .height) → Walks r (candidateAxisRange (t .major0) (t .major1) limit) limit → concatMap (cutColumn M g t) (rangeInclusive (r .first) (r .last)) ≡ cutSpan M g
-span-joined M g o {t} e f W =
-    ap (concatMap (cutColumn M g t)) (W .numbers ∙ ap (candidateAxisRange (t .major0) (t .major1)) f) ∙ ap (columnsOf M g) e ∙ sym (columns-joined M g o)
+-- the columns near a span, from a first one up to one
+pub parts-joined :
+    (M : Map) (g : Segment) (first end : ℕ) → g .a .x ≤ g .b .x → {t : Strip} {limit : ℕ} → t ≡ stripOf g → limit ≡ majorSide t (M .width) (M .height)
+    → upTo first end ≡ candidateAxisRange (t .major0) (t .major1) limit → concatMap (cutColumn M g t) (upTo first end) ≡ cutSpan M g
+parts-joined M g first end o {t} e f h =
+    ap (concatMap (cutColumn M g t)) (h ∙ ap (candidateAxisRange (t .major0) (t .major1)) f) ∙ ap (columnsOf M g) e ∙ sym (columns-joined M g o)

@@ -3,4 +3,5 @@ pub mod Contract
 pub mod Cell
 pub mod Prefixes
 pub mod Columns
+pub mod Crossed
 pub mod Marking

@@ -14,11 +14,12 @@ ghost use lib.ListN.{length};
 ghost use lib.Dec.{ltb};
 ghost use lib.IntN.{natAbs};
 ghost use Rattle.definitions.specs.Limits.{maxSide};
-ghost use Rattle.definitions.specs.Grid.{at, walkable};
+ghost use Rattle.definitions.specs.Grid.{at, walkable, isStep};
 ghost use Rattle.span_geometry.specs.Shapes.{Sound, segmentOf};
 ghost use Rattle.flood.specs.Walk.{gridOf};
 ghost use Rattle.flood.specs.Inner.{Inner};
 ghost use Rattle.cut_steps.specs.CutSteps.{isCutOnward, isSet};
+ghost use Rattle.cut_steps.specs.Crossed.{InGrid, Crossed, stepsOnward, changesAt};
 ghost use Rattle.cut_steps.specs.Cell.{CellAsked, OnwardAsked, CutDirections, sideOf, Uncut, Far, maxReach, onwardMask};
 
 // Whether a number is larger in size than a bound.
@@ -175,6 +176,107 @@ pub fn cut_directions(
         is_cut_onward(width, height, cells, g, inner, x, y, 1, 2),
         is_cut_onward(width, height, cells, g, inner, x, y, 2, 2),
     )
+}
+
+// Whether the cell (x, y) of the grid is walkable.
+fn is_walkable(width: usize, height: usize, cells: &[u8], x: usize, y: usize) -> bool
+    requires { ⌜ InGrid width height (now cells) x y ⌝ }
+    ensures { λ r. ⌜ r ≡ walkable (gridOf width height (now (cells .entry))) (at x y) ⌝ }
+{
+    cells[y * width + x] % 2 == 1
+}
+
+// The steps from the walkable (x, y) to cells of larger number, a bit for each, where all cells about it but those of the row before are in the grid.
+fn steps_inside(width: usize, height: usize, cells: &[u8], x: usize, y: usize) -> u16
+    requires asked { ⌜ InGrid width height (now cells) x y × (walkable (gridOf width height (now cells)) (at x y) ≡ true) ⌝ }
+    requires inside { ⌜ (1 ≤ x) × (x + 1 < width) × (y + 1 < height) ⌝ }
+    ensures { λ r. ⌜ r ≡ stepsOnward (gridOf width height (now (cells .entry))) (at x y) ⌝ }
+{
+    let east = is_walkable(width, height, cells, x + 1, y);
+    let south = is_walkable(width, height, cells, x, y + 1);
+    let west = is_walkable(width, height, cells, x - 1, y);
+    let south_west = is_walkable(width, height, cells, x - 1, y + 1);
+    let south_east = is_walkable(width, height, cells, x + 1, y + 1);
+    onward_mask(
+        east,
+        south_west & west & south,
+        south,
+        south_east & east & south,
+    )
+}
+
+// Whether the step from the walkable (x, y) in a direction is there.
+fn is_there(
+    width: usize,
+    height: usize,
+    cells: &[u8],
+    x: usize,
+    y: usize,
+    dx: usize,
+    dy: usize,
+) -> bool
+    requires asked { ⌜ InGrid width height (now cells) x y × (walkable (gridOf width height (now cells)) (at x y) ≡ true) ⌝ }
+    requires near { ⌜ (dx ≤ 2) × (dy ≤ 2) ⌝ }
+    ensures { λ r. ⌜ r ≡ isStep (gridOf width height (now (cells .entry))) (at x y) (at dx dy) ⌝ }
+{
+    if !is_inside(false, width, height, x, y, dx, dy) {
+        return false;
+    }
+    is_step(width, height, cells, x, y, dx, dy)
+}
+
+// The steps from the walkable (x, y) to cells of larger number, a bit for each.
+fn steps_onward(width: usize, height: usize, cells: &[u8], x: usize, y: usize) -> u16
+    requires { ⌜ InGrid width height (now cells) x y × (walkable (gridOf width height (now cells)) (at x y) ≡ true) ⌝ }
+    ensures { λ r. ⌜ r ≡ stepsOnward (gridOf width height (now (cells .entry))) (at x y) ⌝ }
+{
+    if (1 <= x) & (x + 1 < width) & (y + 1 < height) {
+        return steps_inside(width, height, cells, x, y);
+    }
+    onward_mask(
+        is_there(width, height, cells, x, y, 2, 1),
+        is_there(width, height, cells, x, y, 0, 2),
+        is_there(width, height, cells, x, y, 1, 2),
+        is_there(width, height, cells, x, y, 2, 2),
+    )
+}
+
+// Which steps to cells of larger number change sides, a bit for each, from the cell that is j - 2 beyond the first place past the line in its column,
+// or row. The first places in the columns, or rows, before and after it are back - 2 and ahead - 2 beyond.
+pub fn side_changes(columns: bool, back: usize, ahead: usize, j: usize) -> u16
+    requires { ⌜ (back ≤ 3) × (ahead ≤ 3) × (j ≤ 3) ⌝ }
+    ensures { λ r. ⌜ r ≡ changesAt columns back 2 ahead j ⌝ }
+{
+    let past = 2 <= j;
+    let level = past != (2 <= j + 1);
+    let onto = past != (ahead <= j);
+    let diagonal = past != (ahead <= j + 1);
+    if columns {
+        onward_mask(onto, past != (back <= j + 1), level, diagonal)
+    } else {
+        onward_mask(level, past != (ahead + 1 <= j), onto, diagonal)
+    }
+}
+
+// The directions of (x, y) in which a step leads to a cell of larger number and is cut, a bit for each, of a cell between the span's ends whose changes
+// of sides are given.
+pub fn crossed_directions(
+    width: usize,
+    height: usize,
+    cells: &[u8],
+    g: SpanGeometry,
+    x: usize,
+    y: usize,
+    changes: u16,
+) -> u16
+    requires asked { ⌜ CellAsked width height (now cells) g x y ⌝ }
+    requires crossed { ⌜ Crossed (segmentOf g) (at x y) changes ⌝ }
+    ensures { λ r. ⌜ CutDirections width height (now (cells .entry)) (segmentOf g) x y r ⌝ }
+{
+    if !is_walkable(width, height, cells, x, y) {
+        return 0;
+    }
+    changes & steps_onward(width, height, cells, x, y)
 }
 
 // Whether bit k of a mask is set.

@@ -6,7 +6,7 @@ use borrow.Author.Needs.{needs}
 use borrow.Author.Tests.{not-true, not-false}
 use Rattle.cut_steps.specs.Cell.{CellAsked}
 use Rattle.assessments.proofs.Gathering.{assesses-none, assesses-same}
-use Rattle.assessments.proofs.Directions.{steps-cut, steps-cut-none, leads-cut}
+use Rattle.assessments.proofs.Directions.{steps-none}
 use Rattle.assessments.proofs.Turns.{counting-most}
 use Rattle.assessments.proofs.assess_cell.Statement.{statement}
 use Rattle.assessments.proofs.assess_cell.Tie as tie
@@ -24,36 +24,24 @@ is-near-requires : tie.Need-is-near-requires
 is-near-requires c κs = asked (c .before .before .before)
 
 returns : tie.Need-returns
-returns c = (counting-most (entry (c .before) .pre .1) (omega arith), assesses-same (steps-cut-none (c .before .is-near .ensures .1 (not-true _ (c .if1 .taken))) refl) assesses-none)
+returns c = (counting-most (entry (c .before) .pre .1) (omega arith), assesses-same (steps-none (c .before .is-near .ensures .1 (not-true _ (c .if1 .taken))) refl) assesses-none)
 
 cut-directions-requires : tie.Need-cut-directions-requires
 cut-directions-requires c κs = (asked (entry (c .before)), c .before .is-near .ensures .0 (not-false _ (c .if1 .left)))
 
-returns-2 : tie.Need-returns-2
-returns-2 c = (counting-most (entry (c .before .before .before) .pre .1) (omega arith), assesses-same (steps-cut-none (c .before .cut-directions .ensures) (c .if2 .taken)) assesses-none)
-
-assess-directions-requires : tie.Need-assess-directions-requires
-assess-directions-requires c κs =
-    let d = c .before .before in
+assess-mask-requires : tie.Need-assess-mask-requires
+assess-mask-requires c κs =
+    let d = c .before in
     let s = entry (d .before .before) in
-    ((leads-cut (d .cut-directions .ensures) (s .pre .0 .0 .narrow) (s .pre .0 .0 .short) (s .pre .0 .2) (s .pre .0 .3), s .pre .0 .0 .labelsLong), s .pre .1)
+    ((s .pre .0 .0, s .pre .0 .2, s .pre .0 .3), (d .cut-directions .ensures, s .pre .1))
 
 same-length : tie.Need-same-length
 same-length c = search needs
 
-returns-3 : tie.Need-returns-3
-returns-3 c =
-    let r = c .before .before in
-    (r .assess-directions .ensures .0, assesses-same (steps-cut (r .before .before .before .cut-directions .ensures)) (r .assess-directions .ensures .1))
+returns-2 : tie.Need-returns-2
+returns-2 c = c .before .before .assess-mask .ensures
 
 pub assess-cell-spec : {M : Type 1} → statement M
 assess-cell-spec =
     tie.close
-    (tie.spec
-    is-near-requires
-    returns
-    cut-directions-requires
-    returns-2
-    assess-directions-requires
-    same-length
-    returns-3)
+    (tie.spec is-near-requires returns cut-directions-requires assess-mask-requires same-length returns-2)

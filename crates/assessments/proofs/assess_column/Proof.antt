@@ -8,9 +8,10 @@ use Rattle.span_geometry.specs.Shapes.{segmentOf}
 use Rattle.flood.specs.Walk.{gridOf}
 use Rattle.cut_steps.specs.CutSteps.{cutFrom}
 use Rattle.cut_steps.specs.Columns.{cutAcross, cell-in, cell-at, column-in, column-joined}
+use Rattle.cut_steps.proofs.SpanParts.{side-small}
 use Rattle.assessments.specs.Assess.{maxCellEdges}
 use Rattle.assessments.proofs.Gathering.{assesses-same}
-use Rattle.assessments.proofs.Turns.{counting-most, side-most, Walking, walking-start, walking-more, walking-done}
+use Rattle.assessments.proofs.Turns.{counting-most, Walking, walking-start, walking-more, walking-done}
 use borrow.Author.Needs.{needs}
 use Rattle.assessments.proofs.assess_column.Statement.{statement}
 use Rattle.assessments.proofs.assess_column.Tie as tie
@@ -57,7 +58,7 @@ range c = c .before .before
 last-in : (c : tie.After-minor-range Inv-loop μ-loop) → c .minor-range .result .last < maxSide
 last-in c =
     let p = entry (c .before) .pre .0 .0 in
-    omega (arith, c .minor-range .ensures .inside, c .before .pick .ensures, side-most (entry (c .before) .args .strip .columns) (p .short) (p .narrow))
+    omega (arith, c .minor-range .ensures .inside, c .before .pick .ensures, side-small (entry (c .before) .args .strip .columns) (p .short) (p .narrow))
 
 assess-cell-requires : tie.Need-assess-cell-requires Inv-loop μ-loop
 assess-cell-requires c κs =

@@ -1,24 +1,24 @@
--- `assessments::assess_span` meets its contract. The loop's invariant: the cut steps of the columns from the first to the one before k are assessed
--- (`Walking`). Assumes nothing.
-use Prim.Native.Nat.{_+_, _-_, _<_}
+-- `assessments::assess_span` meets its contract. The loop's invariant: the cut steps of the parts before k are assessed (`Passing`). Assumes nothing.
+use Prim.Native.Nat.{_-_, _≤_, _<_}
 use native.Mathlib.Omega.{arith}
-use Rattle.definitions.specs.Limits.{maxSide}
+use borrow.Author.Needs.{needs}
 use Rattle.span_geometry.specs.Shapes.{segmentOf}
 use Rattle.flood.specs.Walk.{gridOf}
-use Rattle.cut_steps.specs.Columns.{cutColumn, some-side, span-joined}
+use Rattle.cut_steps.specs.Columns.{cutColumn, some-side, parts-joined}
+use Rattle.cut_steps.proofs.SpanParts.{limit-small, columns-asked, part-within, part-asked}
 use Rattle.assessments.specs.Assess.{maxLineEdges}
 use Rattle.assessments.proofs.Gathering.{assesses-same}
-use Rattle.assessments.proofs.Turns.{counting-most, side-most, Walking, walking-start, walking-more, walking-done}
-use borrow.Author.Needs.{needs}
+use Rattle.assessments.proofs.Turns.{counting-most}
+use Rattle.assessments.proofs.Passing.{Passing, passing-start, passing-further, passing-done, parts-few, part-room, all-room}
 use Rattle.assessments.proofs.assess_span.Statement.{statement}
 use Rattle.assessments.proofs.assess_span.Tie as tie
 
 abbrev Inv-loop : tie.InvT-loop
-Inv-loop width height cells labels pairs₀ g span first strip last a₀ k₀ pairs a k =
-    Walking labels span first (cutColumn (gridOf width height cells) (segmentOf g) strip) maxLineEdges k₀ last a₀ pairs₀ a pairs k
+Inv-loop width height cells labels pairs₀ g span first strip parts a₀ k₀ pairs a k =
+    Passing labels span first (cutColumn (gridOf width height cells) (segmentOf g) strip) maxLineEdges (parts .first) (parts .end) a₀ pairs₀ a pairs k
 
 abbrev μ-loop : tie.MeasureT-loop
-μ-loop width height cells labels pairs₀ g span first strip last a₀ k₀ pairs a k = last + 1 - k
+μ-loop width height cells labels pairs₀ g span first strip parts a₀ k₀ pairs a k = parts .end - k
 
 new-requires : tie.Need-new-requires Inv-loop μ-loop
 new-requires c κs = (c .before .before .before .pre .0 .1, c .before .before .before .pre .0 .2)
@@ -32,64 +32,84 @@ entry c =
     let at-slice-known = c .before in
     at-slice-known .before .before .before
 
-axis-range-requires : tie.Need-axis-range-requires Inv-loop μ-loop
-axis-range-requires c κs =
-    let p = entry (c .before) .pre .0 .0 in
-    (c .before .new .ensures .1, omega (arith, c .pick .ensures, some-side (c .before .new .result .columns) (p .wide) (p .tall)))
+parts-of-requires : tie.Need-parts-of-requires Inv-loop μ-loop
+parts-of-requires c κs =
+    let n = c .before in
+    let p = entry n .pre .0 .0 in
+    (n .new .ensures .1, omega (arith, c .pick .ensures, some-side (n .new .result .columns) (p .wide) (p .tall)), limit-small (n .new .result) (p .narrow) (p .short) (c .pick .ensures))
+
+-- the columns, or rows, are so many at most
+few : (c : tie.After-parts-of Inv-loop μ-loop) → c .parts-of .result .end - c .parts-of .result .first ≤ 1024
+few c =
+    let n = c .before .before in
+    let p = entry n .pre .0 .0 in
+    parts-few (c .parts-of .ensures) (limit-small (n .new .result) (p .narrow) (p .short) (c .before .pick .ensures))
 
 loop-holds : tie.Need-loop-holds Inv-loop μ-loop
 loop-holds c =
     let s = entry (c .before .before) in
-    walking-start {most = 0} (record { rows = record { from = omega arith; most = s .pre .1 }; fewer = omega arith; few = omega arith })
+    passing-start {most = 0} (record { rows = record { from = omega arith; most = s .pre .1 }; fewer = omega arith; few = omega arith })
 
--- the place before the loop, from a turn
-abbrev axis : tie.In-loop Inv-loop μ-loop → tie.After-axis-range Inv-loop μ-loop
-axis c = c .before .before
+-- the call of `parts_of`, from the loop's test
+abbrev parted : tie.After-struct-known Inv-loop μ-loop → tie.After-parts-of Inv-loop μ-loop
+parted c = c .before .before
 
--- the last column is on the largest map
-last-in : (c : tie.After-axis-range Inv-loop μ-loop) → c .axis-range .result .last < maxSide
-last-in c =
-    let n = c .before .before in
-    let p = entry n .pre .0 .0 in
-    omega (arith, c .axis-range .ensures .inside, c .before .pick .ensures, side-most (n .new .result .columns) (p .narrow) (p .short))
-
-assess-column-requires : tie.Need-assess-column-requires Inv-loop μ-loop
-assess-column-requires c κs =
-    let t = c .before in
-    let r = axis t in
+part-end-requires : tie.Need-part-end-requires Inv-loop μ-loop
+part-end-requires c κs =
+    let h = c .before .before in
+    let r = h .before in
     let n = r .before .before in
-    let p = entry n .pre .0 in (
-      (p .0, p .1, record { usable = n .new .ensures .1; column = omega (arith, t .loop-test .taken, r .axis-range .ensures .inside, r .before .pick .ensures); some = some-side (n .new .result .columns) (p .0 .tall) (p .0 .wide) }),
-      counting-most (t .before .loop .inv .turns .counting) (omega (arith, t .before .loop .inv .turns .counting .few, t .loop-test .taken, last-in r)),
+    let p = entry n .pre .0 .0 in
+    omega (arith, r .parts-of .ensures .below (h .loop .k) (h .loop .inv .from-k) (c .if1 .taken), limit-small (n .new .result) (p .narrow) (p .short) (r .before .pick .ensures))
+
+-- the part of a turn is not empty, and within the parts
+within : (c : tie.After-part-end Inv-loop μ-loop) → let t = c .before in (t .before .before .loop .k < c .part-end .result) × (c .part-end .result ≤ parted (t .before) .parts-of .result .end)
+within c = part-within (parted (c .before .before) .parts-of .ensures) (c .before .if1 .taken) (c .part-end .ensures)
+
+assess-part-requires : tie.Need-assess-part-requires Inv-loop μ-loop
+assess-part-requires c κs =
+    let e = c .before in
+    let h = e .before .before .before in
+    let r = h .before in
+    let n = r .before .before in
+    let p = entry n .pre .0 in
+    let P = r .parts-of .ensures in
+    let i = h .loop .inv in (
+      (p .0, p .1, columns-asked (n .new .ensures .1) (r .before .pick .ensures) (some-side (n .new .result .columns) (p .0 .tall) (p .0 .wide)) (P .below) (i .from-k) (within e .1)),
+      (
+        part-asked (n .new .ensures .0) P (e .part-end .ensures) (within e .0),
+        counting-most (i .turns .counting) (part-room (i .from-k) (within e .0) (within e .1) (few r) (i .turns .counting .few)),
+      ),
     )
 
--- the place of the call, from the turn's end
-abbrev column : tie.After-slice-known2 Inv-loop μ-loop → tie.After-assess-column Inv-loop μ-loop
-column c = c .before .before
-
-add-k : tie.Need-add-k Inv-loop μ-loop
-add-k c = search needs
+-- the call of `assess_part`, from the turn's end
+abbrev assessed : tie.After-slice-known2 Inv-loop μ-loop → tie.After-assess-part Inv-loop μ-loop
+assessed c = c .before .before
 
 loop-less : tie.Need-loop-less Inv-loop μ-loop
-loop-less c = omega (arith, column c .before .before .loop-test .taken)
+loop-less c =
+    let e = assessed c .before .before in
+    omega (arith, within e, e .before .if1 .taken)
 
 loop-again : tie.Need-loop-again Inv-loop μ-loop
 loop-again c =
-    let t = column c .before .before in
-    walking-more (t .before .loop .inv) (t .loop-test .taken) (column c .assess-column .ensures .0) (search needs) (column c .assess-column .ensures .1)
+    let e = assessed c .before .before in
+    let h = e .before .before .before in
+    passing-further (h .loop .inv) (within e .0) (within e .1) (assessed c .assess-part .ensures .0) (search needs) (assessed c .assess-part .ensures .1)
 
 same-length : tie.Need-same-length Inv-loop μ-loop
-same-length c = c .before .loop .inv .turns .long
+same-length c = c .before .before .loop .inv .turns .long
 
 returns : tie.Need-returns Inv-loop μ-loop
 returns c =
-    let r = c .before .before in
+    let h = c .before .before in
+    let r = h .before in
     let n = r .before .before in
     let s = entry n in
     let a = s .args in
-    let T = walking-done (c .before .loop .inv) (c .loop-test .left) (last-in r) in (
-      T .counting,
-      assesses-same (span-joined (gridOf (a .width) (a .height) (a .cells .now)) (segmentOf (a .g)) (s .pre .0 .1 .ordered) (n .new .ensures .0) (r .before .pick .ensures) (r .axis-range .ensures)) (T .assessed),
+    let T = passing-done (h .loop .inv) (c .if1 .left) in (
+      counting-most (T .counting) (all-room (r .parts-of .result .end - r .parts-of .result .first) (few r) (T .counting .few)),
+      assesses-same (parts-joined (gridOf (a .width) (a .height) (a .cells .now)) (segmentOf (a .g)) (r .parts-of .result .first) (r .parts-of .result .end) (s .pre .0 .1 .ordered) (n .new .ensures .0) (r .before .pick .ensures) (r .parts-of .ensures .numbers)) (T .assessed),
     )
 
 pub assess-span-spec : {M : Type 1} → statement M
@@ -100,10 +120,10 @@ assess-span-spec =
     μ-loop
     new-requires
     pick-requires
-    axis-range-requires
+    parts-of-requires
     loop-holds
-    assess-column-requires
-    add-k
+    part-end-requires
+    assess-part-requires
     loop-less
     loop-again
     same-length

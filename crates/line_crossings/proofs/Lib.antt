@@ -1,0 +1,9 @@
+mod Differences
+mod Meeting
+mod Sides
+mod AlongColumns
+mod AlongRowsDown
+mod AlongRowsUp
+pub mod Past
+pub mod NearLine
+pub mod Moving
