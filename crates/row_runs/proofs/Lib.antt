@@ -1,0 +1,8 @@
+mod Passing
+mod Marks
+mod Stretches
+mod RunNames
+mod RowNames
+mod SouthNames
+mod CornerNames
+pub mod DiagonalSquares
