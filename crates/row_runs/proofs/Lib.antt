@@ -5,4 +5,8 @@ mod RunNames
 mod RowNames
 mod SouthNames
 mod CornerNames
+mod PairNames
+mod RowPlaces
+mod RowByRow
+mod AllRows
 pub mod DiagonalSquares
