@@ -37,3 +37,8 @@ stepPair M c d = record { lo = min c (reached M c d); hi = max c (reached M c d)
 -- bit is not set.)
 abbrev pub Marks : Map → List ℕ → List Pair → Type 0
 Marks M masks E = (c : ℕ) (d : Position) → c < cellCount M → isStep M (positionOf M c) d ≡ true → cutBit masks c (bitOf d) ≡ any (pairEq (stepPair M c d)) E
+
+-- The same at the smaller cell of each step alone.
+abbrev pub OnwardMarks : Map → List ℕ → List Pair → Type 0
+OnwardMarks M masks E =
+    (c : ℕ) (d : Position) → c < cellCount M → isStep M (positionOf M c) d ≡ true → c < reached M c d → cutBit masks c (bitOf d) ≡ any (pairEq (stepPair M c d)) E

@@ -1,0 +1,12 @@
+mod Passing
+mod Marks
+mod Stretches
+mod RunNames
+mod RowNames
+mod SouthNames
+mod CornerNames
+mod PairNames
+mod RowPlaces
+mod RowByRow
+mod AllRows
+pub mod DiagonalSquares

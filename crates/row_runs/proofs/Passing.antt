@@ -1,0 +1,29 @@
+-- Loops that stop at the first place of which a test does not hold: at place c it holds of all places passed. Assumes nothing.
+use Prim.Native.Nat.{ℕ, _+_, _≤_, _<_}
+use native.Mathlib.Omega.{arith}
+use mathlib.Core.Path.{_≡_, refl, ap, _∙_}
+use mathlib.Core.Bool.{Bool, true, false}
+use lib.Dec.{eqb}
+use borrow.Author.Tests.{eqb-true, eqb-false}
+use Rattle.row_runs.specs.Stretch.{Until}
+
+pub record Passing (f : ℕ → Bool) (from end c : ℕ) : Type 0 where
+  pub low : from ≤ c
+  pub ends : c ≤ end
+  pub all : (d : ℕ) → from ≤ d → d < c → f d ≡ true
+
+pub passing-starts : (f : ℕ → Bool) (from end : ℕ) → from ≤ end → Passing f from end from
+passing-starts f from end h = record { low = omega arith; ends = h; all = λ d i k. absurd (omega arith) }
+
+pub passing-goes-on : {f : ℕ → Bool} {from end c : ℕ} → Passing f from end c → c < end → f c ≡ true → Passing f from end (c + 1)
+passing-goes-on {f} {from} {end} {c} P h t = record { low = omega (arith, P .low); ends = omega arith; all = λ d i k. go d i k (eqb d c) refl }
+  where
+    go : (d : ℕ) → from ≤ d → d < c + 1 → (b : Bool) → eqb d c ≡ b → f d ≡ true
+    go d i k true e = ap f (eqb-true d c e) ∙ t
+    go d i k false e = P .all d i (omega (arith, eqb-false d c e))
+
+pub passing-stops : {f : ℕ → Bool} {from end c : ℕ} → Passing f from end c → f c ≡ false → Until f from end c
+passing-stops P t = record { low = P .low; ends = P .ends; all = P .all; stop = λ _. t }
+
+pub passing-ends : {f : ℕ → Bool} {from end c : ℕ} → Passing f from end c → end ≤ c → Until f from end c
+passing-ends P h = record { low = P .low; ends = P .ends; all = P .all; stop = λ l. absurd (omega arith) }

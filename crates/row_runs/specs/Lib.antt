@@ -1,0 +1,7 @@
+pub mod Stretch
+pub mod Names
+pub mod South
+pub mod Corners
+pub mod Cells
+pub mod Numbered
+pub mod Contract
