@@ -1,5 +1,7 @@
 pub mod Square
 pub mod Ways
+pub mod Onward
+pub mod OpenSteps
 mod Graph
 pub mod Used
 mod States

@@ -63,3 +63,34 @@ module _ (M : Map) where
   south-west-square x y s =
       let f = four M (at (x + 1) y) (at 0 2) s in
       square x y (same-walkable (omega arith) (omega arith) (f .side)) (f .near) (same-walkable (omega arith) (omega arith) (f .far)) (same-walkable (omega arith) (omega arith) (f .under))
+
+  -- ---- a square of walkable cells has both diagonal steps
+
+  module _ (x y : ℕ) (a : walkable M (at x y) ≡ true) (b : walkable M (at (x + 1) y) ≡ true) (c : walkable M (at x (y + 1)) ≡ true) (d : walkable M (at (x + 1) (y + 1)) ≡ true) where
+    pub south-east-step : isStep M (at x y) (at 2 2) ≡ true
+    south-east-step =
+        join4 M (at x y) (at 2 2)
+        (record {
+          nearX = omega arith;
+          nearY = omega arith;
+          right = omega arith;
+          down = omega arith;
+          far = same-walkable (omega arith) (omega arith) d;
+          near = a;
+          side = same-walkable (omega arith) (omega arith) b;
+          under = same-walkable (omega arith) (omega arith) c;
+        })
+
+    pub south-west-step : isStep M (at (x + 1) y) (at 0 2) ≡ true
+    south-west-step =
+        join4 M (at (x + 1) y) (at 0 2)
+        (record {
+          nearX = omega arith;
+          nearY = omega arith;
+          right = omega arith;
+          down = omega arith;
+          far = same-walkable (omega arith) (omega arith) c;
+          near = b;
+          side = same-walkable (omega arith) (omega arith) a;
+          under = same-walkable (omega arith) (omega arith) d;
+        })

@@ -6,3 +6,4 @@ mod RowNames
 mod SouthNames
 mod CornerNames
 pub mod DiagonalSquares
+mod GridSteps

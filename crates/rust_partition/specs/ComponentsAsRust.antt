@@ -20,8 +20,9 @@ use Rattle.laws.specs.RegionLaws.Regions.{root, roots-rooted, region-least, roo
 use Rattle.flood.specs.Masks.{reached, Marks}
 use Rattle.flood.specs.State.{used}
 use Rattle.flood.proofs.Used.{last-or, used-some, used-none, used-zero, used-same}
+use Rattle.flood.proofs.OpenSteps.{isOpen}
 use Rattle.rust_partition.specs.Literal.Components.{Waiting, Flooding, Components, drain, floodFrom, floodAll, components}
-use Rattle.rust_partition.specs.OpenWays.{isOpen, uncut-level}
+use Rattle.rust_partition.specs.OpenWays.{uncut-level}
 use Rattle.rust_partition.specs.FloodState as flood
 use Rattle.rust_partition.specs.FloodRounds.{final, State, Drained, drained}
 

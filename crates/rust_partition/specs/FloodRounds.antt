@@ -20,12 +20,13 @@ use Rattle.flood.specs.State.{used}
 use Rattle.flood.proofs.Square.{index-position, Four, four}
 use Rattle.flood.proofs.StepTests.{cell-x, cell-y}
 use Rattle.flood.proofs.Used.{count-le}
+use Rattle.flood.proofs.OpenSteps.{isOpen}
 use Rattle.rust_partition.specs.Literal.Neighbors.{indexRust, neighborsRust}
 use Rattle.rust_partition.specs.Literal.CutMasks.{expect, edgeBit, hasBit}
 use Rattle.rust_partition.specs.Literal.Components.{Waiting, Flooding, visitNeighbor, visitNeighbors, drain}
 use Rattle.rust_partition.specs.NeighborsAsRust.{index-walkable, neighbors-are}
 use Rattle.rust_partition.specs.MaskBits.{bit-asked, edge-bit}
-use Rattle.rust_partition.specs.OpenWays.{isOpen, open-inside, labels-level}
+use Rattle.rust_partition.specs.OpenWays.{open-inside, labels-level}
 use Rattle.rust_partition.specs.FloodState as flood
 
 module _ (M : Map) where
