@@ -1,21 +1,20 @@
 -- Steps by cell number, where the masks say of each step of a map, at its smaller cell, whether the spans cut it: what is the same at both ends of every uncut step
 -- to the east, to the south and across a square is the same at both cells of every uncut step of the map (`level-onward`), and the other way round (`onward-level`).
 -- Assumes nothing.
-use Prim.Native.Nat.{ℕ, suc, _+_, _-_, _*_, _/_, _%_, _≤_, _<_}
+use Prim.Native.Nat.{ℕ, suc, _+_, _-_, _*_, _≤_, _<_}
 use native.Mathlib.Omega.{arith}
-use mathlib.Core.Path.{_≡_, refl, sym, ap, ap₂, _∙_}
-use mathlib.Core.Bool.{Bool, true, false, not, _&&_, true≢false}
+use mathlib.Core.Path.{_≡_, sym, ap, ap₂, _∙_}
+use mathlib.Core.Bool.{true, false, not, _&&_, true≢false}
 use mathlib.Core.List.{List}
 use lib.Arith.{digits-lt}
-use lib.Dec.{ltb}
 use borrow.Author.Tests.{lt-ltb, le-ltb, not-true}
 use Rattle.definitions.specs.Grid.{Map, Position, at, Pair, toward, index, positionOf, isStep, walkable, cellCount}
 use Rattle.definitions.specs.Partition.{cutAll, walkableAt}
-use Rattle.laws.specs.ListLaws.Lists.{All, done, more}
+use Rattle.laws.specs.ListLaws.Lists.{done, more}
 use Rattle.laws.specs.ListLaws.Members.{all-place}
 use Rattle.flood.specs.Masks.{bitOf, cutBit, reached, OnwardMarks}
 use Rattle.flood.specs.Walk.{directionAt}
-use Rattle.flood.proofs.Square.{Four, four, join4, In, walkable-in, index-position, position-index}
+use Rattle.flood.proofs.Square.{Four, four, In, walkable-in, index-position, position-index}
 use Rattle.flood.proofs.Onward.{next-row, same-row, onward-bit}
 use Rattle.flood.proofs.OpenSteps.{isOpen, open-step, open-uncut, OnwardAll}
 use Rattle.row_runs.specs.Stretch.{walks}
@@ -208,8 +207,7 @@ module _ (M : Map) (masks : List ℕ) (marks : OnwardMarks M masks (cutAll M)) {
         where
           square-at : isSquare (M .width) (M .cells) c ≡ true → (walkable M (at x y) ≡ true) × (walkable M (at (x + 1) y) ≡ true) × (walkable M (at x (y + 1)) ≡ true) × (walkable M (at (x + 1) (y + 1)) ≡ true)
           square-at s =
-              let f = square-cells (M .width) (M .cells) c s in
-              (
+              let f = square-cells (M .width) (M .cells) c s in (
                 walkable-is x y c is (omega arith) (omega arith) (f .0),
                 walkable-is (x + 1) y (c + 1) (omega arith) inX (omega arith) (f .1),
                 under-walks (omega arith) (f .2),

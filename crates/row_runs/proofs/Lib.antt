@@ -7,3 +7,6 @@ mod SouthNames
 mod CornerNames
 pub mod DiagonalSquares
 mod GridSteps
+mod SameRoots
+mod AllRows
+mod Labels
