@@ -24,7 +24,7 @@ use Rattle.row_runs.specs.Cells.{CellsJoined}
 use Rattle.row_runs.specs.Numbered.{isNamed, Numbered}
 use Rattle.row_runs.specs.Contract.{OnwardCut, Link, Chain, ended, linked, Labelled}
 use Rattle.row_runs.proofs.SameRoots.{same-root}
-use Rattle.row_runs.proofs.AllRows.{run-alike, all-rows, row-inside}
+use Rattle.row_runs.proofs.EveryStretch.{run-alike, all-rows, row-inside}
 
 -- what the two calls leave, of a grid
 pub record Done (w h : ℕ) (cells masks lent waited l q : List ℕ) (r : ℕ) : Type 0 where

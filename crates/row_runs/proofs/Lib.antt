@@ -8,5 +8,5 @@ mod CornerNames
 pub mod DiagonalSquares
 mod GridSteps
 mod SameRoots
-mod AllRows
+mod EveryStretch
 mod Labels
