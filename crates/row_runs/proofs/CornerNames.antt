@@ -148,7 +148,7 @@ record CornerNames (w : ℕ) (cells masks : List ℕ) (up n : ℕ) (name : ℕ �
   joins : (d : ℕ) → up ≤ d → d < c → CornerLevel w cells masks after d
   sound : (g : ℕ → Bool) → ((d : ℕ) → up ≤ d → d < c → CornerLevel w cells masks g d) → Kept n name g → Kept n after g
 
-corner-coarser : {w : ℕ} {cells masks : List ℕ} {name after : ℕ → ℕ} {d : ℕ} → Coarser name after → CornerLevel w cells masks name d → CornerLevel w cells masks after d
+pub corner-coarser : {w : ℕ} {cells masks : List ℕ} {name after : ℕ → ℕ} {d : ℕ} → Coarser name after → CornerLevel w cells masks name d → CornerLevel w cells masks after d
 corner-coarser {w} {d = d} k l = record { southEast = λ s f. k (d + w + 1) d (l .southEast s f); southWest = λ s f. k (d + w) (d + 1) (l .southWest s f) }
 
 pub record Cornering (w : ℕ) (cells masks : List ℕ) (up : ℕ) (was p : List ℕ) (c : ℕ) : Type 0 where

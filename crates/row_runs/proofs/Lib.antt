@@ -5,6 +5,10 @@ mod RunNames
 mod RowNames
 mod SouthNames
 mod CornerNames
+mod PairNames
+mod RowPlaces
+mod RowByRow
+mod AllRows
 pub mod DiagonalSquares
 mod GridSteps
 mod SameRoots
