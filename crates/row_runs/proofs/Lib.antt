@@ -1,4 +1,6 @@
 mod Passing
+mod Filling
+mod Numbers
 mod Marks
 mod Stretches
 mod RunNames

@@ -2,6 +2,7 @@
 // Parents of cells stand in the lent labels (crate parents), the end of each stretch in the lent queue, at its first cell.
 pub mod cells;
 pub mod corners;
+pub mod numbering;
 pub mod row;
 pub mod run;
 pub mod south;
