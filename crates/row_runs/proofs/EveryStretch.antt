@@ -2,7 +2,7 @@
 -- Assumes nothing.
 use Prim.Native.Nat.{ℕ, zero, suc, _+_, _-_, _*_, _≤_, _<_}
 use native.Mathlib.Omega.{arith}
-use native.Mathlib.Nat.{suc-mul, zero-mul, mul-le-mul}
+use native.Mathlib.Nat.{suc-mul, zero-mul}
 use mathlib.Core.Path.{_≡_, sym, ap, _∙_, subst}
 use mathlib.Core.Bool.{true}
 use mathlib.Core.List.{List}
@@ -13,6 +13,7 @@ use Rattle.row_runs.specs.Cells.{Level, CellsJoined}
 use Rattle.row_runs.specs.Numbered.{NamedRuns, ended, more as named-more, Named}
 use Rattle.row_runs.proofs.RowNames.{run-level}
 use Rattle.row_runs.proofs.CornerNames.{square-cells}
+use Rattle.row_runs.proofs.RowPlaces.{row-in}
 
 -- what is the same at both ends of every uncut step of a row is the same throughout a run
 pub run-alike : {X : Type 0} {cells masks : List ℕ} {end c e : ℕ} (S : Stretch cells masks end c e) (from : ℕ) (g : ℕ → X) → from ≤ c → EastLevel cells masks from end g → walks cells c ≡ true → (d : ℕ) → c ≤ d → d < e → g d ≡ g c
@@ -31,11 +32,6 @@ module _ (w h : ℕ) {cells masks q : List ℕ} (T : (y : ℕ) → y < h → Til
   -- what holds behind the last cell, and goes from the end of each stretch to its first cell, holds at the first cell
   pub all-rows : P 0
   all-rows = subst P (zero-mul w) (rows-from h 0 (omega arith))
-
-pub row-inside : (w h y : ℕ) → y < h → y * w + w ≤ h * w
-row-inside w h y i =
-    let all : w ≤ w = omega arith in
-    omega (arith, suc-mul y w, mul-le-mul i all)
 
 -- ---- what `number` asks
 
@@ -58,5 +54,5 @@ named-cells {w} {h} {cells} {masks} {q = q} J =
       walkable = J .sound (walks cells) (walks-level w h cells masks);
       runs = all-rows w h (J .tiles) (NamedRuns cells q (J .after) (h * w)) ended
           (λ y c e i low S is rest.
-          named-more (S .more) (omega (arith, S .ends, row-inside w h y i)) is (S .alike) (run-alike S (y * w) (J .after) low (J .joins .east y i)) rest);
+          named-more (S .more) (omega (arith, S .ends, row-in w i)) is (S .alike) (run-alike S (y * w) (J .after) low (J .joins .east y i)) rest);
     }

@@ -1,7 +1,8 @@
--- The labels that `number` gives to the names of all rows are the labels of definitions, and the queue has a chain of stretches, each of one label. Said of every
+-- What the calls of `label_cells` ask of one another, and what they leave: the labels that `number` gives to the names of all rows are the labels of definitions, and the queue has a chain of stretches, each of one label. Said of every
 -- map with the lent sides and cells whose cut steps the masks hold. Assumes nothing.
 use Prim.Native.Nat.{ℕ, suc, _+_, _-_, _*_, _/_, _≤_, _<_}
 use native.Mathlib.Omega.{arith}
+use native.Mathlib.Nat.{mul-le-mul}
 use mathlib.Core.Path.{_≡_, refl, sym, ap, ap₂, _∙_, subst}
 use mathlib.Core.Bool.{Bool, true, false, _&&_, cond}
 use mathlib.Core.List.{List, _++_}
@@ -17,24 +18,55 @@ use Rattle.laws.specs.ListLaws.Below.{count-ext}
 use Rattle.laws.specs.RegionLaws.Regions.{root, label-walkable, label-blocked, labels-length, root-label}
 use Rattle.flood.specs.Masks.{OnwardMarks}
 use Rattle.flood.proofs.Onward.{next-row}
-use Rattle.parents.specs.Forest.{Beyond}
+use Rattle.parents.specs.Forest.{Beyond, Left}
 use Rattle.parents.specs.ForestLaws.{name-low, beyond-then}
 use Rattle.row_runs.specs.Stretch.{Stretch}
-use Rattle.row_runs.specs.Cells.{CellsJoined}
-use Rattle.row_runs.specs.Numbered.{isNamed, Numbered}
-use Rattle.row_runs.specs.Contract.{OnwardCut, Link, Chain, ended, linked, Labelled}
+use Rattle.row_runs.specs.Cells.{CellsAsked, CellsJoined}
+use Rattle.row_runs.specs.Numbered.{isNamed, Named, NumberAsked, Numbered}
+use Rattle.row_runs.specs.Contract.{Room, OnwardCut, Link, Chain, ended, linked, Labelled}
 use Rattle.row_runs.proofs.SameRoots.{same-root}
-use Rattle.row_runs.proofs.EveryStretch.{run-alike, all-rows, row-inside}
+use Rattle.row_runs.proofs.RowPlaces.{row-in}
+use Rattle.row_runs.proofs.EveryStretch.{run-alike, all-rows, named-cells}
 
--- what the two calls leave, of a grid
-pub record Done (w h : ℕ) (cells masks lent waited l q : List ℕ) (r : ℕ) : Type 0 where
+-- what the three calls leave, of a grid
+pub record Finished (w h : ℕ) (cells masks lent waited l q : List ℕ) (r : ℕ) : Type 0 where
   pub was : List ℕ
   pub p : List ℕ
   pub alone : Beyond (h * w) lent was
   pub joined : CellsJoined w h cells masks was waited p q
   pub numbered : Numbered cells (h * w) (joined .after) p l r
 
-module _ (M : Map) (masks : List ℕ) (marks : OnwardMarks M masks (cutAll M)) {lent waited l q : List ℕ} {r : ℕ} (D : Done (M .width) (M .height) (M .cells) masks lent waited l q r) where
+-- ---- what each call asks, and what is left behind the last
+
+module _ {w h : ℕ} {cells masks lent waited : List ℕ} (R : Room w h cells masks lent waited) where
+  pub grid-few : h * w ≤ 1048576
+  grid-few = mul-le-mul (R .short) (R .narrow)
+
+  pub cells-asked : {was : List ℕ} → Left (h * w) (λ c. c) lent was → CellsAsked w h cells masks was waited
+  cells-asked L =
+      record {
+        narrow = R .narrow;
+        short = R .short;
+        cellsLong = omega (arith, R .cellsLong);
+        masksLong = R .masksLong;
+        parentsLong = L .forest .long;
+        queueLong = R .queueLong;
+        fresh = λ c i. L .forest .parent c i .same;
+      }
+
+  pub number-asked : {was p q : List ℕ} → CellsJoined w h cells masks was waited p q → NumberAsked cells p q (h * w)
+  number-asked J =
+      record { cellsLong = omega (arith, R .cellsLong); queueLong = omega (arith, R .queueLong, J .queueLong); name = J .after; named = named-cells J }
+
+pub finished : {w h : ℕ} {cells masks lent was waited p q l : List ℕ} {r : ℕ} → Left (h * w) (λ c. c) lent was → (J : CellsJoined w h cells masks was waited p q) → ((name : ℕ → ℕ) → Named cells p q (h * w) name → Numbered cells (h * w) name p l r) → Finished w h cells masks lent waited l q r
+finished {was = was} {p = p} A J N = record { was = was; p = p; alone = A .beyond; joined = J; numbered = N (J .after) (named-cells J) }
+
+pub finished-beyond : {w h : ℕ} {cells masks lent waited l q : List ℕ} {r : ℕ} → Finished w h cells masks lent waited l q r → Beyond (h * w) lent l
+finished-beyond D = beyond-then (D .alone) (beyond-then (D .joined .left .beyond) (D .numbered .beyond))
+
+-- ---- of a map
+
+module _ (M : Map) (masks : List ℕ) (marks : OnwardMarks M masks (cutAll M)) {lent waited l q : List ℕ} {r : ℕ} (D : Finished (M .width) (M .height) (M .cells) masks lent waited l q r) where
   abbrev n : ℕ
   n = M .height * M .width
 
@@ -60,9 +92,6 @@ module _ (M : Map) (masks : List ℕ) (marks : OnwardMarks M masks (cutAll M)) {
           ∙ sym (label-walkable M c h w)
       go false w = sym (label-blocked M c h w)
 
-  beyond : Beyond n lent l
-  beyond = beyond-then (D .alone) (beyond-then (D .joined .left .beyond) (D .numbered .beyond))
-
   labels-taken : take n l ≡ labels M
   unfolding cellCount
   labels-taken = ext-getD 0 (take n l) (labels M) (taken ∙ sym (labels-length M)) (λ c h. let i : c < n = omega (arith, taken) in getD-take n l c 0 i ∙ label-at c i)
@@ -72,7 +101,7 @@ module _ (M : Map) (masks : List ℕ) (marks : OnwardMarks M masks (cutAll M)) {
 
   labels-whole : l ≡ overwrite (labels M) lent
   unfolding cellCount
-  labels-whole = sym (take-append-drop n l) ∙ ap₂ _++_ labels-taken (beyond .rest ∙ ap (λ k. drop k lent) (sym (labels-length M)))
+  labels-whole = sym (take-append-drop n l) ∙ ap₂ _++_ labels-taken (finished-beyond D .rest ∙ ap (λ k. drop k lent) (sym (labels-length M)))
 
   count-is : r ≡ regionCount M
   unfolding regionCount cellCount
@@ -86,7 +115,7 @@ module _ (M : Map) (masks : List ℕ) (marks : OnwardMarks M masks (cutAll M)) {
   one-label y c e i low S d a b = go (walkableAt M c) refl
     where
       inside : d < n
-      inside = omega (arith, S .ends, row-inside (M .width) (M .height) y i)
+      inside = omega (arith, S .ends, row-in (M .width) i)
 
       first : c < n
       first = omega (arith, inside)
@@ -109,7 +138,7 @@ module _ (M : Map) (masks : List ℕ) (marks : OnwardMarks M masks (cutAll M)) {
       record {
         next = is;
         more = S .more;
-        inside = omega (arith, S .ends, row-inside (M .width) (M .height) y i);
+        inside = omega (arith, S .ends, row-in (M .width) i);
         row = omega (arith, S .ends, next-row y (M .width) {k = c / M .width + 1} (omega (arith, row-of y c low (omega (arith, S .more, S .ends)))));
         alike = one-label y c e i low S;
       }
@@ -123,8 +152,8 @@ module _ (M : Map) (masks : List ℕ) (marks : OnwardMarks M masks (cutAll M)) {
   labelled-map = record { labels = labels-whole; count = count-is; chain = chain; beyond = D .joined .beyond }
 
 -- what the calls leave, said of any such map
-pub labelled-all : {w h : ℕ} {cells masks lent waited l q : List ℕ} {r : ℕ} → Done w h cells masks lent waited l q r → (M : Map) → OnwardCut w h cells masks M → Labelled M lent waited l q r
+pub labelled-all : {w h : ℕ} {cells masks lent waited l q : List ℕ} {r : ℕ} → Finished w h cells masks lent waited l q r → (M : Map) → OnwardCut w h cells masks M → Labelled M lent waited l q r
 labelled-all {w} {h} {cells} {masks} {lent} {waited} {l} {q} {r} D M C =
     labelled-map M masks (C .marks)
-    (subst (λ x. Done x (M .height) (M .cells) masks lent waited l q r) (sym (C .width))
-    (subst (λ x. Done w x (M .cells) masks lent waited l q r) (sym (C .height)) (subst (λ x. Done w h x masks lent waited l q r) (sym (C .cells)) D)))
+    (subst (λ x. Finished x (M .height) (M .cells) masks lent waited l q r) (sym (C .width))
+    (subst (λ x. Finished w x (M .cells) masks lent waited l q r) (sym (C .height)) (subst (λ x. Finished w h x masks lent waited l q r) (sym (C .cells)) D)))
