@@ -10,9 +10,9 @@ use lib.Dec.{eqb, ltb}
 use borrow.Author.Tests.{eqb-true, eqb-false, ltb-true, ltb-false}
 use Rattle.laws.specs.ListLaws.Tests.{both}
 use Rattle.laws.specs.RegionLaws.Merging.{merged, merged-one}
+use Rattle.laws.specs.ListLaws.Beyond.{beyond-same, beyond-then}
 use Rattle.flood.specs.Masks.{cutBit}
 use Rattle.parents.specs.Forest.{Forest, joinedName, PlacedTwo, Left}
-use Rattle.parents.specs.ForestLaws.{beyond-same, beyond-then}
 use Rattle.row_runs.specs.Stretch.{walks}
 use Rattle.row_runs.specs.Names.{EastLevel}
 use Rattle.row_runs.specs.South.{SouthLevel, Coarser, Kept}

@@ -21,7 +21,7 @@ use Rattle.row_runs.specs.Stretch.{walks}
 use Rattle.row_runs.specs.Corners.{isSquare, CornerLevel}
 use Rattle.row_runs.specs.Cells.{Level}
 use Rattle.row_runs.proofs.CornerNames.{square-cells, square-whole}
-use Rattle.row_runs.proofs.DiagonalSquares.{east-step, south-step, south-east-step, south-west-step}
+use Rattle.row_runs.proofs.WalkableSteps.{east-step, south-step, south-east-step, south-west-step}
 
 -- g is the same at both cells
 abbrev pub Even : {X : Type 0} → (ℕ → X) → Pair → Type 0

@@ -16,10 +16,11 @@ use Rattle.definitions.specs.Lists.{overwrite}
 use Rattle.definitions.specs.Partition.{cutAll, roots, labels, regionCount, walkableAt, isRoot}
 use Rattle.laws.specs.ListLaws.Below.{count-ext}
 use Rattle.laws.specs.RegionLaws.Regions.{root, label-walkable, label-blocked, labels-length, root-label}
+use Rattle.laws.specs.ListLaws.Beyond.{Beyond, beyond-then}
 use Rattle.flood.specs.Masks.{OnwardMarks}
 use Rattle.flood.proofs.Onward.{next-row}
-use Rattle.parents.specs.Forest.{Beyond, Left}
-use Rattle.parents.specs.ForestLaws.{name-low, beyond-then}
+use Rattle.parents.specs.Forest.{Left}
+use Rattle.parents.specs.ForestLaws.{name-low}
 use Rattle.row_runs.specs.Stretch.{Stretch}
 use Rattle.row_runs.specs.Cells.{CellsAsked, CellsJoined}
 use Rattle.row_runs.specs.Numbered.{isNamed, Named, NumberAsked, Numbered}

@@ -11,7 +11,7 @@ mod PairNames
 mod RowPlaces
 mod RowByRow
 mod AllRows
-pub mod DiagonalSquares
+mod WalkableSteps
 mod GridSteps
 mod SameRoots
 mod EveryStretch

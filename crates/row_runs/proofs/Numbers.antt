@@ -10,8 +10,8 @@ use lib.Dec.{eqb, ltb}
 use borrow.Author.Tests.{eqb-true, eqb-false, eq-eqb, ne-eqb, ltb-true, ltb-false}
 use Rattle.definitions.specs.Scan.{countBelow}
 use Rattle.laws.specs.ListLaws.ScanSteps.{count-in, count-out, count-le}
-use Rattle.parents.specs.Forest.{Beyond}
-use Rattle.parents.specs.ForestLaws.{name-low, name-own, beyond-same, beyond-then}
+use Rattle.laws.specs.ListLaws.Beyond.{Beyond, beyond-same, beyond-then}
+use Rattle.parents.specs.ForestLaws.{name-low, name-own}
 use Rattle.row_runs.specs.Stretch.{walks}
 use Rattle.row_runs.specs.Numbered.{NamedRuns, ended, more, isNamed, Named, NumberAsked, Numbered, labelAt, LabelAsked, Filled}
 

@@ -6,7 +6,8 @@ use mathlib.Core.List.{List}
 use lib.ListN.{length, getD, drop}
 use lib.Dec.{eqb}
 use Rattle.definitions.specs.Scan.{countBelow}
-use Rattle.parents.specs.Forest.{Forest, Beyond}
+use Rattle.laws.specs.ListLaws.Beyond.{Beyond}
+use Rattle.parents.specs.Forest.{Forest}
 use Rattle.row_runs.specs.Stretch.{walks}
 use Rattle.row_runs.specs.South.{Kept}
 
