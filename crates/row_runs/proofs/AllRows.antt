@@ -5,8 +5,7 @@ use native.Mathlib.Nat.{mul-le-mul}
 use mathlib.Core.Path.{refl}
 use mathlib.Core.Bool.{Bool}
 use mathlib.Core.List.{List}
-use Rattle.parents.specs.Forest.{Beyond}
-use Rattle.parents.specs.ForestLaws.{beyond-same, beyond-then}
+use Rattle.laws.specs.ListLaws.Beyond.{Beyond, beyond-same, beyond-then}
 use Rattle.row_runs.specs.Cells.{Done, RowAsked, CellsAsked, CellsJoined}
 use Rattle.row_runs.proofs.RowPlaces.{row-in}
 use Rattle.row_runs.proofs.RowByRow.{fewer, RowDoes}

@@ -1,4 +1,6 @@
 mod Passing
+mod Filling
+mod Numbers
 mod Marks
 mod Stretches
 mod RunNames
@@ -9,4 +11,8 @@ mod PairNames
 mod RowPlaces
 mod RowByRow
 mod AllRows
-pub mod DiagonalSquares
+mod WalkableSteps
+mod GridSteps
+mod SameRoots
+mod EveryStretch
+mod Labels

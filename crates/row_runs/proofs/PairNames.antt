@@ -2,8 +2,8 @@
 use Prim.Native.Nat.{ℕ, _+_, _≤_}
 use native.Mathlib.Omega.{arith}
 use mathlib.Core.List.{List}
+use Rattle.laws.specs.ListLaws.Beyond.{beyond-then}
 use Rattle.parents.specs.Forest.{Forest}
-use Rattle.parents.specs.ForestLaws.{beyond-then}
 use Rattle.row_runs.specs.Stretch.{Clear}
 use Rattle.row_runs.specs.Names.{EastLevel}
 use Rattle.row_runs.specs.South.{SouthLevel, RowsAsked, RowsJoined}

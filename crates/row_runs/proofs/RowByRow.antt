@@ -10,8 +10,8 @@ use lib.ListN.{getD}
 use lib.Dec.{eqb, ltb}
 use borrow.Author.Count.{below-more}
 use borrow.Author.Tests.{eqb-true, eqb-false, ltb-true, ltb-false}
-use Rattle.parents.specs.Forest.{Forest, Beyond}
-use Rattle.parents.specs.ForestLaws.{beyond-then}
+use Rattle.laws.specs.ListLaws.Beyond.{Beyond, beyond-then}
+use Rattle.parents.specs.Forest.{Forest}
 use Rattle.row_runs.specs.Stretch.{Clear}
 use Rattle.row_runs.specs.Names.{Fresh, Tiles, none, more, EastLevel, ScanAsked, RowScanned}
 use Rattle.row_runs.specs.South.{SouthLevel, Kept}

@@ -6,7 +6,8 @@ use mathlib.Core.Path.{_≡_, sym, ap, _∙_}
 use mathlib.Core.List.{List}
 use lib.ListN.{getD, drop}
 use lib.Seq.{drop-drop, getD-drop}
-use Rattle.parents.specs.Forest.{Forest, Beyond}
+use Rattle.laws.specs.ListLaws.Beyond.{Beyond}
+use Rattle.parents.specs.Forest.{Forest}
 
 -- ---- numbers of rows
 

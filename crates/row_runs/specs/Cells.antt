@@ -4,7 +4,8 @@ use mathlib.Core.Path.{_≡_}
 use mathlib.Core.Bool.{Bool, false}
 use mathlib.Core.List.{List}
 use lib.ListN.{length, getD, drop}
-use Rattle.parents.specs.Forest.{Forest, Beyond, Left}
+use Rattle.laws.specs.ListLaws.Beyond.{Beyond}
+use Rattle.parents.specs.Forest.{Forest, Left}
 use Rattle.row_runs.specs.Stretch.{Clear}
 use Rattle.row_runs.specs.Names.{Fresh, Tiles, EastLevel}
 use Rattle.row_runs.specs.South.{SouthLevel, Coarser, Kept, RowsAsked}
