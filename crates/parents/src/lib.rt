@@ -1,16 +1,10 @@
 // Parents of numbers, held in a lent list: a number's parent is no larger, and who is his own parent names a class. Classes are joined two at a time,
 // by the lesser name.
+use plain_numbers::wide;
 ghost use mathlib.Core.Path.{_≡_};
 ghost use Prim.Native.Nat.{ℕ, _≤_, _<_};
 ghost use lib.ListN.{length};
 ghost use Rattle.parents.specs.Forest.{Forest, Placed, PlacedTwo, Found, Left, joinedName};
-
-// A number of a slice as an index: in a function of its own it asks for no proof that the element fits.
-fn wide(x: u32) -> usize
-    ensures { λ r. ⌜ r ≡ x ⌝ }
-{
-    x as usize
-}
 
 // The name of a number's class. Every second parent on the way becomes its parent's parent, so that the next way is shorter.
 pub fn find(parents: &mut [u32], from: usize) -> usize

@@ -1,16 +1,11 @@
 // Labels take the place of parents, from the first cell on: a parent stands before its child, so that it has its label when the child's is asked for.
-use crate::south::wide;
 use crate::tests::is_walkable;
+use plain_numbers::greater;
+use plain_numbers::wide;
 ghost use mathlib.Core.Path.{_≡_};
-ghost use Prim.Native.Nat.{ℕ, _≤_, max};
+ghost use Prim.Native.Nat.{ℕ, _≤_};
 ghost use lib.ListN.{length};
 ghost use Rattle.row_runs.specs.Numbered.{labelAt, LabelAsked, Filled, Named, NumberAsked, Numbered};
-
-fn most(a: u32, b: u32) -> u32
-    ensures { λ r. ⌜ r ≡ max a b ⌝ }
-{
-    if a < b { b } else { a }
-}
 
 // The label of the stretch whose first cell is c, where `id` labels are given before it. Who is his own parent gets the next.
 fn label_at(cells: &[u8], labels: &[u32], c: usize, id: u32) -> u32
@@ -51,7 +46,7 @@ pub fn number(cells: &[u8], labels: &mut [u32], queue: &[u32], n: usize) -> usiz
         let e = wide(queue[c]);
         let label = label_at(cells, labels, c, id);
         put_label(labels, c, e, label);
-        id = most(id, label);
+        id = greater(id, label);
         c = e;
     }
     wide(id)

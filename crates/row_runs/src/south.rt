@@ -2,27 +2,16 @@
 use crate::row::south_end;
 use crate::tests::is_walkable;
 use parents::join;
+use plain_numbers::least;
+use plain_numbers::wide;
 ghost use mathlib.Core.Path.{_≡_};
 ghost use mathlib.Core.Bool.{cond};
-ghost use Prim.Native.Nat.{ℕ, _+_, _≤_, _<_, min};
+ghost use Prim.Native.Nat.{ℕ, _+_, _≤_, _<_};
 ghost use lib.ListN.{length, getD};
 ghost use lib.Dec.{eqb};
 ghost use Rattle.parents.specs.Forest.{Forest};
 ghost use Rattle.row_runs.specs.Names.{EastLevel};
 ghost use Rattle.row_runs.specs.South.{OverlapAsked, OverlapJoined, RowsAsked, RowsJoined};
-
-// A number of a slice as an index: in a function of its own it asks for no proof that the element fits.
-pub fn wide(x: u32) -> usize
-    ensures { λ r. ⌜ r ≡ x ⌝ }
-{
-    x as usize
-}
-
-fn least(a: usize, b: usize) -> usize
-    ensures { λ r. ⌜ r ≡ min a b ⌝ }
-{
-    if a < b { a } else { b }
-}
 
 // The end of the stretch that has cell c: what is known, unless a stretch begins at c.
 fn end_at(queue: &[u32], c: usize, known: usize) -> usize

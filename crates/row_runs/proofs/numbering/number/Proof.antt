@@ -26,7 +26,7 @@ turn c = c .before .before
 abbrev at-end : tie.After-label-at Inv-loop μ-loop → tie.After-wide Inv-loop μ-loop
 at-end c = c .before .before
 
-abbrev at-put : tie.After-most Inv-loop μ-loop → tie.After-put-label Inv-loop μ-loop
+abbrev at-put : tie.After-greater Inv-loop μ-loop → tie.After-put-label Inv-loop μ-loop
 at-put c = c .before .before .before
 
 loop-holds : tie.Need-loop-holds Inv-loop μ-loop
@@ -55,8 +55,8 @@ put-label-requires c κs =
     let h = t .loop-test .taken in
     (omega (arith, e .wide .ensures, end-more I A h), omega (arith, e .wide .ensures, end-inside I A h, room I A h))
 
-most-requires : tie.Need-most-requires Inv-loop μ-loop
-most-requires c κs = search needs
+greater-requires : tie.Need-greater-requires Inv-loop μ-loop
+greater-requires c κs = search needs
 
 loop-less : tie.Need-loop-less Inv-loop μ-loop
 loop-less c =
@@ -70,7 +70,7 @@ loop-again c =
     let label = put .before .before in
     let e = at-end label in
     let t = turn e in
-    numbering-goes-on (t .before .loop .inv) (entry t .pre) (t .loop-test .taken) (e .wide .ensures) (label .label-at .ensures) (put .put-label .ensures) (c .most .ensures)
+    numbering-goes-on (t .before .loop .inv) (entry t .pre) (t .loop-test .taken) (e .wide .ensures) (label .label-at .ensures) (put .put-label .ensures) (c .greater .ensures)
 
 wide-requires-2 : tie.Need-wide-requires-2 Inv-loop μ-loop
 wide-requires-2 c κs = search needs
@@ -93,7 +93,7 @@ number-spec =
     wide-requires
     label-at-requires
     put-label-requires
-    most-requires
+    greater-requires
     loop-less
     loop-again
     wide-requires-2
