@@ -6,3 +6,4 @@ pub mod row;
 pub mod run;
 pub mod south;
 pub mod tests;
+pub mod words;
