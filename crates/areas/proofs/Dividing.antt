@@ -12,7 +12,7 @@ use Rattle.definitions.specs.Partition.{labels}
 use Rattle.definitions.specs.Context.{contextOf}
 use Rattle.definitions.specs.Verdict.{mapIn, pairRowsOf}
 use Rattle.laws.specs.RegionLaws.Regions.{labels-length}
-use Rattle.flood.specs.Contract.{Flooded}
+use Rattle.row_runs.specs.Contract.{Labelled as CellsLabelled}
 use Rattle.assessments.specs.declared.Assessed.{Assessed}
 use Rattle.assessments.specs.declared.Assessed.the-variants.{Rows, TooMany}
 use Rattle.assessments.specs.Contract.{AssessAsked, Answers, SpansAssessed}
@@ -40,29 +40,29 @@ module _ (w h : ℕ) (cells spans l m q t p : List ℕ) {l′ m₁ q₁ m′ q�
   abbrev M : Map
   M = mapOf w h cells spans [] []
 
-  flooded : Flooded M l q l′ q₁ r
-  flooded = A .maps M (spans-alone w h cells spans)
+  found : CellsLabelled M l q l′ q₁ r
+  found = A .maps M (spans-alone w h cells spans)
 
   begun : Labelled w h cells spans l m q t p l′ m′ q′
   unfolding mapIn mapOf cellCount
   begun =
       record {
-        filled = flooded .labels;
+        filled = found .labels;
         masks = em ∙ zeroed-again (h * w) m m₁ (A .rest);
-        queue = eq ∙ zeroed-again (h * w) q q₁ (flooded .beyond);
+        queue = eq ∙ zeroed-again (h * w) q q₁ (found .beyond);
       }
 
   module _ {t′ p₁ : List ℕ} {a : Assessed} (S : SpansAssessed w h cells spans l′ t p t′ p₁ a) where
     pub divided-whole : {n : ℕ} → a ≡ Rows n → none ≡ earlyRefusal w h cells spans (length l) (length m) (length q) (length t) → Ran (given w h cells spans l m q t p) (Regions r) l′ m′ q′ t′ p₁
     unfolding mapIn mapOf
     divided-whole e none-early =
-        let assessed = S M (spans-alone w h cells spans) (labels-shown M l (flooded .labels)) in
+        let assessed = S M (spans-alone w h cells spans) (labels-shown M l (found .labels)) in
         let rows = subst (λ x. Answers x (pairRowsOf (contextOf M)) p p₁) e (assessed .answer) in
-        ran-complete w h cells spans l m q t p none-early begun (assessed .counts) r (flooded .count) (rows .0) (rows .2)
+        ran-complete w h cells spans l m q t p none-early begun (assessed .counts) r (found .count) (rows .0) (rows .2)
 
     pub divided-short : {p′ : List ℕ} → a ≡ TooMany → p′ ≡ zeroed (length p₁) p₁ → none ≡ earlyRefusal w h cells spans (length l) (length m) (length q) (length t) → Ran (given w h cells spans l m q t p) (Refused 12 0) l′ m′ q′ t′ p′
     unfolding mapIn mapOf
     divided-short e cleared none-early =
-        let assessed = S M (spans-alone w h cells spans) (labels-shown M l (flooded .labels)) in
+        let assessed = S M (spans-alone w h cells spans) (labels-shown M l (found .labels)) in
         let rows = subst (λ x. Answers x (pairRowsOf (contextOf M)) p p₁) e (assessed .answer) in
         ran-pairs w h cells spans l m q t p none-early begun (assessed .counts) (rows .0) (cleared ∙ cleared-whole p p₁ (rows .1))

@@ -5,9 +5,9 @@ use mathlib.Core.List.{List}
 use lib.ListN.{drop}
 use Rattle.definitions.specs.Grid.{Map}
 use Rattle.cut_steps.specs.Contract.{SpanMap}
-use Rattle.flood.specs.Contract.{Flooded}
+use Rattle.row_runs.specs.Contract.{Labelled}
 
 -- Labels, masks and queue were l, m and q and have become l′, m′ and q′; r is how many regions there are. Masks are written over the needed length alone.
 pub record LabelledAs (w h : ℕ) (cells spans l m q l′ m′ q′ : List ℕ) (r : ℕ) : Type 0 where
-  pub maps : (M : Map) → SpanMap w h cells spans M → Flooded M l q l′ q′ r
+  pub maps : (M : Map) → SpanMap w h cells spans M → Labelled M l q l′ q′ r
   pub rest : drop (h * w) m′ ≡ drop (h * w) m

@@ -1,14 +1,13 @@
-// The regions of a map cut by spans: the masks of cut steps, then the flood over them.
+// The regions of a map cut by spans: the masks of cut steps, then the labels of what they leave joined.
 use crate::clear::clear_masks;
-use crate::clear::clear_numbers;
 use cut_steps::mark_spans;
-use flood::flood;
+use row_runs::label_cells;
 ghost use Prim.Native.Nat.{_*_, _≤_};
 ghost use lib.ListN.{length};
 ghost use Rattle.cut_steps.specs.Contract.{Checked};
 ghost use Rattle.areas.specs.Labelled.{LabelledAs};
 
-// Labels every region and returns how many there are. The queue is left with the walkable cells, region by region, the masks with the cut steps.
+// Labels every region and returns how many there are. The queue is left with the stretches of each row, the masks with the cut steps.
 pub fn label_regions(
     width: usize,
     height: usize,
@@ -24,8 +23,7 @@ pub fn label_regions(
         (now (labels .exit)) (now (masks .exit)) (now (queue .exit)) r ⌝ }
 {
     let needed = height * width;
-    clear_numbers(labels, needed);
     clear_masks(masks, needed);
     mark_spans(width, height, cells, spans, masks);
-    flood(width, height, cells, masks, labels, queue)
+    label_cells(width, height, cells, masks, labels, queue)
 }

@@ -1,58 +1,22 @@
 -- Which directions lead to cells of larger number: those whose bit is above 4, the bit of (1, 1), where there is a step (`onward-bit`). So four directions decide a
 -- cell's mask (`mask-bits`). Assumes nothing.
-use Prim.Native.Nat.{ℕ, zero, suc, _+_, _-_, _*_, _%_, _^_, _≤_, _<_}
+use Prim.Native.Nat.{ℕ, zero, suc, _+_, _*_, _%_, _^_, _≤_, _<_}
 use native.Mathlib.Omega.{arith}
-use native.Mathlib.Nat.{suc-mul, zero-div}
+use native.Mathlib.Nat.{zero-div}
 use mathlib.Core.Path.{_≡_, refl, sym, ap, _∙_}
 use mathlib.Core.Bool.{Bool, true, false, _&&_, and-false, true≢false}
 use mathlib.Core.List.{[], _∷_, map}
 use lib.ListN.{getD}
 use lib.Dec.{eqb, ltb}
-use borrow.Author.Tests.{ltb-true, ltb-false, lt-ltb, le-ltb}
+use borrow.Author.Tests.{lt-ltb, le-ltb}
 use Rattle.definitions.specs.Scan.{run}
 use Rattle.definitions.specs.Grid.{Map, Position, at, Segment, toward, index, isStep, walkable}
 use Rattle.definitions.specs.Spans.{cuts}
 use Rattle.flood.specs.Masks.{bitOf}
-use Rattle.flood.proofs.Square.{Four, four, In, walkable-in}
+use Rattle.flood.proofs.Square.{four}
+use Rattle.flood.proofs.Onward.{onward-bit}
 use Rattle.cut_steps.specs.CutSteps.{isCutOnward, isSet}
 use Rattle.cut_steps.specs.Cell.{CutBits, Uncut, onwardMask}
-
--- ---- the number of the cell in a direction
-
-row : (n w : ℕ) {k : ℕ} → k ≡ suc n → k * w ≡ n * w + w
-row n w e = ap (λ k. k * w) e ∙ suc-mul n w
-
-same-row : (n w : ℕ) {k : ℕ} → k ≡ n → k * w ≡ n * w
-same-row n w e = ap (λ k. k * w) e
-
-module _ (w x y : ℕ) (inX : x < w) where
-  later : (dx dy : ℕ) → dx ≤ 2 → dy ≤ 2 → 1 ≤ x + dx → 4 < dy * 3 + dx → y * w + x < (y + dy - 1) * w + (x + dx - 1)
-  later dx zero nx ny a b = absurd (omega arith)
-  later dx (suc zero) nx ny a b = omega (arith, same-row y w {k = y + 1 - 1} (omega arith))
-  later dx (suc (suc zero)) nx ny a b = omega (arith, row y w {k = y + 2 - 1} (omega arith))
-  later dx (suc (suc (suc dy))) nx ny a b = absurd (omega arith)
-
-  not-later : (dx dy : ℕ) → x + dx ≤ w → 1 ≤ y + dy → dy * 3 + dx ≤ 4 → (y + dy - 1) * w + (x + dx - 1) ≤ y * w + x
-  not-later dx zero r a b = omega (arith, row (y + 0 - 1) w {k = y} (omega arith))
-  not-later dx (suc zero) r a b = omega (arith, same-row y w {k = y + 1 - 1} (omega arith))
-  not-later dx (suc (suc dy)) r a b = absurd (omega arith)
-
-module _ (M : Map) (p d : Position) (s : isStep M p d ≡ true) where
-  f : Four M p d
-  f = four M p d s
-
-  here : In M p
-  here = walkable-in M p (f .near)
-
-  there : In M (toward p d)
-  there = walkable-in M (toward p d) (f .far)
-
-  pub onward-bit : ltb (index M p) (index M (toward p d)) ≡ ltb 4 (bitOf d)
-  onward-bit = go (ltb 4 (bitOf d)) refl
-    where
-      go : (b : Bool) → ltb 4 (bitOf d) ≡ b → ltb (index M p) (index M (toward p d)) ≡ b
-      go true e = lt-ltb _ _ (later (M .width) (p .x) (p .y) (here .x) (d .x) (d .y) (f .nearX) (f .nearY) (f .right) (ltb-true _ _ e))
-      go false e = le-ltb _ _ (not-later (M .width) (p .x) (p .y) (here .x) (d .x) (d .y) (omega (arith, f .right, there .x)) (f .down) (ltb-false _ _ e))
 
 -- ---- one direction
 

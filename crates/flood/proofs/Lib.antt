@@ -1,13 +1,8 @@
 pub mod Square
 pub mod Ways
-mod Graph
+pub mod Onward
+pub mod OpenSteps
 pub mod Used
-mod States
-mod Outer
-mod Uncut
 pub mod StepTests
-mod Visits
-mod Turns
-mod Ending
 pub mod Bits
 pub mod MarkStep

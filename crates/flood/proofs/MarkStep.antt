@@ -1,5 +1,5 @@
 -- Setting the two bits of a step adds exactly that step to the steps that the masks say are cut (`mark-adds`), and masks of zeros say that none is
--- (`marks-none`): a loop that marks every cut step both ways ends with masks as the flood asks. A step is known by either of its cells with the direction from
+-- (`marks-none`): a loop that marks every cut step both ways ends with masks that say which steps are cut. A step is known by either of its cells with the direction from
 -- there, since a cell reaches another in one direction only, and a direction is known by its bit. Assumes nothing.
 use Prim.Native.Nat.{ℕ, _-_, _/_, _%_, _^_, _≤_, _<_, min, max}
 use native.Mathlib.Omega.{arith}

@@ -3,7 +3,7 @@
 use Prim.Native.Nat.{ℕ, _+_, _-_, _*_, _≤_, _<_}
 use native.Mathlib.Omega.{arith}
 use native.Mathlib.Nat.{div-add-mod'}
-use mathlib.Core.Path.{_≡_, refl, sym, ap, ap₂, _∙_}
+use mathlib.Core.Path.{_≡_, refl, ap, ap₂, _∙_}
 use mathlib.Core.Bool.{true, _&&_}
 use lib.Arith.{digits-lt, digits-div, digits-mod}
 use lib.Dec.{ltb, leb}
@@ -71,9 +71,6 @@ module _ (M : Map) where
 
   pub index-position : (c : ℕ) → index M (positionOf M c) ≡ c
   index-position c = div-add-mod' c (M .width)
-
-  pub near-walkable : (c : ℕ) (d : Position) → isStep M (positionOf M c) d ≡ true → walkableAt M c ≡ true
-  near-walkable c d s = sym (ap (walkableAt M) (index-position c)) ∙ walkable-in M (positionOf M c) (four M (positionOf M c) d s .near) .walks
 
   -- the other side of a step
   pub record Across (c : ℕ) (d : Position) : Type 0 where

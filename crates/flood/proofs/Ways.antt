@@ -1,37 +1,18 @@
--- The eight directions by number, in the order of `directions`, and the number of each one's opposite. A fact on all of them is one equation of lists that
+-- The eight directions by number, in the order of `directions`. A fact on all of them is one equation of lists that
 -- computes, and holds at each number by what a map has there. Assumes nothing.
 use Prim.Native.Nat.{ℕ, suc, _≤_, _<_}
 use native.Mathlib.Omega.{arith}
 use native.Mathlib.Nat.{div-add-mod'}
 use mathlib.Core.Path.{_≡_, refl, sym, ap, _∙_}
 use mathlib.Core.List.{List, [], _∷_, map}
-use lib.ListN.{length, getD, List·getD-map}
+use lib.ListN.{length, getD}
 use Rattle.definitions.specs.Scan.{run}
 use Rattle.definitions.specs.Grid.{at, directions}
 use Rattle.laws.specs.ListLaws.Lists.{All, done, more, getD-tab}
 use Rattle.laws.specs.ListLaws.Members.{all-place}
-use Rattle.flood.specs.Masks.{bitOf, opposite}
+use Rattle.flood.specs.Masks.{bitOf}
 use Rattle.flood.specs.Walk.{directionAt}
 use Rattle.flood.specs.Inner.{placed, byteAt}
-
-abbrev opposites : List ℕ
-opposites = 3 ∷ 2 ∷ 1 ∷ 0 ∷ 7 ∷ 6 ∷ 5 ∷ 4 ∷ []
-
-abbrev pub oppositeWay : ℕ → ℕ
-oppositeWay d = getD opposites d 7
-
-all-opposites : map opposite directions ≡ map directionAt opposites
-all-opposites = refl
-
-pub opposite-direction : (d : ℕ) → directionAt (oppositeWay d) ≡ opposite (directionAt d)
-opposite-direction d =
-    sym (List·getD-map directionAt opposites d 7) ∙ ap (λ l. getD l d (at 2 2)) (sym all-opposites) ∙ List·getD-map opposite directions d (at 0 0)
-
-pub opposite-below : (d : ℕ) → d < 8 → oppositeWay d < 8
-opposite-below d h =
-    all-place {A = ℕ} {P = λ e. e < 8} 7
-    (more (omega arith) (more (omega arith) (more (omega arith) (more (omega arith) (more (omega arith) (more (omega arith) (more (omega arith) (more (omega arith) done))))))))
-    d h
 
 pub direction-near : (d : ℕ) → d < 8 → (directionAt d .x ≤ 2) × (directionAt d .y ≤ 2)
 direction-near d h =

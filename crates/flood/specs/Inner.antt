@@ -3,10 +3,9 @@ use Prim.Native.Nat.{ℕ, _+_, _*_, _/_, _%_, _^_, _≤_, _<_}
 use mathlib.Core.Path.{_≡_}
 use mathlib.Core.Bool.{Bool, true, false}
 use mathlib.Core.List.{List}
-use lib.ListN.{length, getD}
+use lib.ListN.{length}
 use Rattle.definitions.specs.Grid.{Position, at, walkable}
-use Rattle.flood.specs.Walk.{gridOf, graphOf, Mirrored}
-use Rattle.flood.specs.State.{State}
+use Rattle.flood.specs.Walk.{gridOf}
 
 -- ---- a direction of a position
 
@@ -51,34 +50,3 @@ pub record Stepping (w h : ℕ) (cells : List ℕ) (x y dx dy : ℕ) : Type 0 wh
   pub inside : Inside w h x y dx dy
   pub cellsLong : length cells ≡ h * w
   pub walks : walkable (gridOf w h cells) (at x y) ≡ true
-
--- ---- what is lent and not written
-
-pub record Grid (w h : ℕ) (cells masks : List ℕ) : Type 0 where
-  pub narrow : w ≤ 1024
-  pub short : h ≤ 1024
-  pub few : h * w ≤ 1048576
-  pub cellsLong : length cells ≡ h * w
-  pub masksLong : h * w ≤ length masks
-  pub mirrored : Mirrored (gridOf w h cells) masks
-
--- a state with a cell that waits
-pub record Ready (w h : ℕ) (cells masks : List ℕ) (id : ℕ) (l q : List ℕ) (head tail : ℕ) : Type 0 where
-  pub grid : Grid w h cells masks
-  pub state : State (graphOf (gridOf w h cells) masks) id l q head 0 tail
-  pub busy : head < tail
-  pub some : 0 < id
-
--- the cell c at (x, y), whose step in a direction is looked at
-pub record Visiting (w h : ℕ) (cells masks l q : List ℕ) (c x y : ℕ) (inner : Bool) (dx dy tail : ℕ) : Type 0 where
-  pub grid : Grid w h cells masks
-  pub nearby : Nearby w h x y dx dy
-  pub within : inner ≡ true → Inner w h x y
-  pub isX : x ≡ c % w
-  pub isY : y ≡ c / w
-  pub inside : c < h * w
-  pub walks : walkable (gridOf w h cells) (at x y) ≡ true
-  pub labelsLong : h * w ≤ length l
-  pub queueLong : h * w ≤ length q
-  -- while a cell has no label the queue has room
-  pub room : (t : ℕ) → t < h * w → getD l t 0 ≡ 0 → tail < h * w

@@ -5,8 +5,9 @@ use native.Mathlib.Omega.{arith}
 use mathlib.Core.Path.{_≡_, refl, sym, ap, _∙_, subst}
 use mathlib.Core.List.{List}
 use lib.ListN.{length, getD, set}
+use Rattle.laws.specs.ListLaws.Beyond.{beyond-same}
 use Rattle.parents.specs.Forest.{Forest, Placed, Found, Left}
-use Rattle.parents.specs.ForestLaws.{parent-below, halved, beyond-same, beyond-set}
+use Rattle.parents.specs.ForestLaws.{parent-below, halved, beyond-written}
 
 -- the number reached is c
 pub record Seek (n : ℕ) (name : ℕ → ℕ) (from : ℕ) (was l : List ℕ) (c : ℕ) : Type 0 where
@@ -59,7 +60,7 @@ module _ {was l : List ℕ} {from c p : ℕ} (I : Finding was from l c p) where
             left =
                 record {
                   forest = subst (λ x. Forest n name (set l c (getD l x 0))) (sym (I .is)) (halved G c (s .inside));
-                  beyond = beyond-set c (getD l p 0) (s .inside) (s .left .beyond);
+                  beyond = beyond-written c (getD l p 0) (s .inside) (s .left .beyond);
                 };
             inside = omega (arith, e, G .parent p below .low, below);
             same = ap name e ∙ G .parent p below .same ∙ ap name (I .is) ∙ G .parent c (s .inside) .same ∙ s .same;

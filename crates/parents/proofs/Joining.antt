@@ -1,11 +1,12 @@
 -- The way of `join`: two names are found, and the greater gets the lesser as its parent. Assumes nothing.
-use Prim.Native.Nat.{ℕ, _≤_, _<_, min, max}
+use Prim.Native.Nat.{ℕ, _<_, min, max}
 use native.Mathlib.Omega.{arith}
 use mathlib.Core.Path.{_≡_, sym, ap, _∙_}
 use mathlib.Core.List.{List}
 use lib.ListN.{length, getD, set, length-set}
+use Rattle.laws.specs.ListLaws.Beyond.{beyond-same, beyond-then}
 use Rattle.parents.specs.Forest.{Forest, joinedName, Placed, PlacedTwo, Found, Left}
-use Rattle.parents.specs.ForestLaws.{name-below, joined-already, linked, beyond-same, beyond-then, beyond-set}
+use Rattle.parents.specs.ForestLaws.{name-below, joined-already, linked, beyond-written}
 
 -- what `find` promises
 abbrev pub Finds : (was : List ℕ) (a : ℕ) (l : List ℕ) (i : ℕ) → Type 0
@@ -55,7 +56,7 @@ module _ {was l m : List ℕ} {a b i j : ℕ} (f : Finds was a l i) (g : Finds l
   join-linked high low e k n name F h q =
       record {
         forest = linked (y .left .forest) a b high low h q (omega (arith, e, x .is, y .is)) (omega (arith, k, x .is, y .is));
-        beyond = beyond-set high low (omega (arith, e, x .is, y .is, name-below F a h, name-below F b q)) (beyond-then (x .left .beyond) (y .left .beyond));
+        beyond = beyond-written high low (omega (arith, e, x .is, y .is, name-below F a h, name-below F b q)) (beyond-then (x .left .beyond) (y .left .beyond));
       }
     where
       x : Found n name a was l i

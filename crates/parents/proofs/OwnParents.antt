@@ -8,8 +8,9 @@ use lib.ListN.{length, getD, set}
 use lib.Seq.{getD-set-same, getD-set-other}
 use lib.Dec.{eqb}
 use borrow.Author.Tests.{eqb-true, eqb-false}
-use Rattle.parents.specs.Forest.{Beyond, Left}
-use Rattle.parents.specs.ForestLaws.{beyond-same, beyond-set}
+use Rattle.laws.specs.ListLaws.Beyond.{Beyond, beyond-same}
+use Rattle.parents.specs.Forest.{Left}
+use Rattle.parents.specs.ForestLaws.{beyond-written}
 
 pub record Apart (n : ℕ) (was l : List ℕ) (c : ℕ) : Type 0 where
   pub upto : c ≤ n
@@ -20,7 +21,7 @@ pub apart-starts : (n : ℕ) (was : List ℕ) → Apart n was was 0
 apart-starts n was = record { upto = omega arith; beyond = beyond-same n was; own = λ d h. absurd (omega arith) }
 
 pub apart-goes-on : {n : ℕ} {was l : List ℕ} {c : ℕ} → n ≤ length was → Apart n was l c → c < n → Apart n was (set l c c) (c + 1)
-apart-goes-on {n} {was} {l} {c} room A h = record { upto = omega arith; beyond = beyond-set c c h (A .beyond); own = λ d i. go d i (eqb d c) refl }
+apart-goes-on {n} {was} {l} {c} room A h = record { upto = omega arith; beyond = beyond-written c c h (A .beyond); own = λ d i. go d i (eqb d c) refl }
   where
     go : (d : ℕ) → d < c + 1 → (b : Bool) → eqb d c ≡ b → getD (set l c c) d 0 ≡ d
     go d i true e = rw (eqb-true d c e) (getD-set-same l c c 0 (omega (arith, A .beyond .long)))

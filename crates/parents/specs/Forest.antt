@@ -3,7 +3,8 @@
 use Prim.Native.Nat.{ℕ, _≤_, _<_}
 use mathlib.Core.Path.{_≡_}
 use mathlib.Core.List.{List}
-use lib.ListN.{length, getD, drop}
+use lib.ListN.{length, getD}
+use Rattle.laws.specs.ListLaws.Beyond.{Beyond}
 use Rattle.laws.specs.RegionLaws.Merging.{merged}
 
 -- v may be the parent of c: it is no larger, is named alike, and who is his own parent is his own name
@@ -21,11 +22,6 @@ pub record Forest (n : ℕ) (name : ℕ → ℕ) (p : List ℕ) : Type 0 where
 -- The names where the classes of a and b become one, named by the lesser: `merge` of definitions, number by number.
 abbrev pub joinedName : (ℕ → ℕ) → ℕ → ℕ → ℕ → ℕ
 joinedName name a b c = merged (name a) (name b) (name c)
-
--- a list of the same length that is as it was from n on
-pub record Beyond (n : ℕ) (was p : List ℕ) : Type 0 where
-  pub long : length p ≡ length was
-  pub rest : drop n p ≡ drop n was
 
 -- ---- what is asked
 

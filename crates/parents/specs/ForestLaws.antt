@@ -5,12 +5,13 @@ use native.Mathlib.Omega.{arith}
 use mathlib.Core.Path.{_≡_, refl, sym, ap, _∙_, subst}
 use mathlib.Core.Bool.{Bool, true, false, cond}
 use mathlib.Core.List.{List}
-use lib.ListN.{length, getD, set, drop, length-set}
-use lib.Seq.{getD-set-same, getD-set-other, drop-set-lt}
+use lib.ListN.{length, getD, set, length-set}
+use lib.Seq.{getD-set-same, getD-set-other}
 use lib.Dec.{eqb, ltb}
 use borrow.Author.Tests.{eqb-true, eqb-false, ltb-true, ltb-false}
+use Rattle.laws.specs.ListLaws.Beyond.{Beyond, beyond-set, beyond-then}
 use Rattle.laws.specs.RegionLaws.Merging.{merged}
-use Rattle.parents.specs.Forest.{Parent, Forest, joinedName, Beyond, Left}
+use Rattle.parents.specs.Forest.{Parent, Forest, joinedName}
 
 -- ---- one merge of names
 
@@ -175,11 +176,5 @@ module _ {n : ℕ} {name : ℕ → ℕ} {p : List ℕ} (F : Forest n name p) whe
 
 -- ---- beyond
 
-pub beyond-same : (n : ℕ) (l : List ℕ) → Beyond n l l
-beyond-same n l = record { long = refl; rest = refl }
-
-pub beyond-then : {n : ℕ} {l m k : List ℕ} → Beyond n l m → Beyond n m k → Beyond n l k
-beyond-then a b = record { long = b .long ∙ a .long; rest = b .rest ∙ a .rest }
-
-pub beyond-set : {n : ℕ} {was l : List ℕ} (c v : ℕ) → c < n → Beyond n was l → Beyond n was (set l c v)
-beyond-set {n} {was} {l} c v h b = record { long = length-set l c v ∙ b .long; rest = drop-set-lt n l c v h ∙ b .rest }
+pub beyond-written : {n : ℕ} {was l : List ℕ} (c v : ℕ) → c < n → Beyond n was l → Beyond n was (set l c v)
+beyond-written {n} {was} {l} c v h b = beyond-then b (beyond-set n l c v h)

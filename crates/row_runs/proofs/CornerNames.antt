@@ -10,9 +10,9 @@ use lib.Dec.{eqb, ltb}
 use borrow.Author.Tests.{eqb-true, eqb-false, ltb-true, ltb-false}
 use Rattle.laws.specs.ListLaws.Tests.{both}
 use Rattle.laws.specs.RegionLaws.Merging.{merged, merged-one}
+use Rattle.laws.specs.ListLaws.Beyond.{beyond-same, beyond-then}
 use Rattle.flood.specs.Masks.{cutBit}
 use Rattle.parents.specs.Forest.{Forest, joinedName, PlacedTwo, Left}
-use Rattle.parents.specs.ForestLaws.{beyond-same, beyond-then}
 use Rattle.row_runs.specs.Stretch.{walks}
 use Rattle.row_runs.specs.Names.{EastLevel}
 use Rattle.row_runs.specs.South.{SouthLevel, Coarser, Kept}
@@ -21,7 +21,7 @@ use Rattle.row_runs.proofs.SouthNames.{merged-test}
 
 -- ---- the square
 
-square-cells : (w : ℕ) (cells : List ℕ) (c : ℕ) → isSquare w cells c ≡ true → (walks cells c ≡ true) × (walks cells (c + 1) ≡ true) × (walks cells (c + w) ≡ true) × (walks cells (c + w + 1) ≡ true)
+pub square-cells : (w : ℕ) (cells : List ℕ) (c : ℕ) → isSquare w cells c ≡ true → (walks cells c ≡ true) × (walks cells (c + 1) ≡ true) × (walks cells (c + w) ≡ true) × (walks cells (c + w + 1) ≡ true)
 unfolding isSquare
 square-cells w cells c h =
     let p = both (walks cells c && walks cells (c + 1) && walks cells (c + w)) (walks cells (c + w + 1)) h in
@@ -30,6 +30,10 @@ square-cells w cells c h =
     (r .0, r .1, q .1, p .1)
 
 module _ (w : ℕ) (cells : List ℕ) (c : ℕ) where
+  pub square-whole : walks cells c ≡ true → walks cells (c + 1) ≡ true → walks cells (c + w) ≡ true → walks cells (c + w + 1) ≡ true → isSquare w cells c ≡ true
+  unfolding isSquare
+  square-whole a b d e = ap₂ _&&_ (ap₂ _&&_ (ap₂ _&&_ a b) d) e
+
   pub square-first : walks cells c ≡ false → false ≡ isSquare w cells c
   unfolding isSquare
   square-first e = sym (ap (λ b. b && walks cells (c + 1) && walks cells (c + w) && walks cells (c + w + 1)) e)
@@ -144,7 +148,7 @@ record CornerNames (w : ℕ) (cells masks : List ℕ) (up n : ℕ) (name : ℕ �
   joins : (d : ℕ) → up ≤ d → d < c → CornerLevel w cells masks after d
   sound : (g : ℕ → Bool) → ((d : ℕ) → up ≤ d → d < c → CornerLevel w cells masks g d) → Kept n name g → Kept n after g
 
-corner-coarser : {w : ℕ} {cells masks : List ℕ} {name after : ℕ → ℕ} {d : ℕ} → Coarser name after → CornerLevel w cells masks name d → CornerLevel w cells masks after d
+pub corner-coarser : {w : ℕ} {cells masks : List ℕ} {name after : ℕ → ℕ} {d : ℕ} → Coarser name after → CornerLevel w cells masks name d → CornerLevel w cells masks after d
 corner-coarser {w} {d = d} k l = record { southEast = λ s f. k (d + w + 1) d (l .southEast s f); southWest = λ s f. k (d + w) (d + 1) (l .southWest s f) }
 
 pub record Cornering (w : ℕ) (cells masks : List ℕ) (up : ℕ) (was p : List ℕ) (c : ℕ) : Type 0 where

@@ -1,8 +1,18 @@
 mod Passing
+mod Filling
+mod Numbers
 mod Marks
 mod Stretches
 mod RunNames
 mod RowNames
 mod SouthNames
 mod CornerNames
-pub mod DiagonalSquares
+mod PairNames
+mod RowPlaces
+mod RowByRow
+mod AllRows
+mod WalkableSteps
+mod GridSteps
+mod SameRoots
+mod EveryStretch
+mod Labels

@@ -9,10 +9,10 @@ use lib.Seq.{getD-set-same, getD-set-other, drop-set-lt}
 use lib.Dec.{eqb, ltb}
 use borrow.Author.Tests.{eqb-true, eqb-false, ltb-true, ltb-false}
 use Rattle.flood.specs.Masks.{cutBit}
+use Rattle.laws.specs.ListLaws.Beyond.{beyond-same, beyond-then}
 use Rattle.parents.specs.Forest.{Forest, Left}
-use Rattle.parents.specs.ForestLaws.{beyond-same, beyond-then}
-use Rattle.row_runs.specs.Stretch.{walks, Clear, Stretch, StretchAsked}
-use Rattle.row_runs.specs.Names.{Fresh, RunAsked, RunPut, PutAsked, StretchPut, Tiles, none, more, EastLevel, RowNamed, ScanAsked, RowScanned}
+use Rattle.row_runs.specs.Stretch.{walks, Stretch, StretchAsked}
+use Rattle.row_runs.specs.Names.{Fresh, RunPut, PutAsked, StretchPut, Tiles, none, more, EastLevel, RowNamed, ScanAsked, RowScanned}
 
 -- ---- a stretch
 

@@ -8,8 +8,9 @@ use lib.ListN.{length, getD, set}
 use lib.Seq.{getD-set-other}
 use lib.Dec.{eqb, ltb}
 use borrow.Author.Tests.{eqb-true, eqb-false, eq-eqb, ne-eqb, ltb-true, ltb-false}
-use Rattle.parents.specs.Forest.{Parent, Forest, Left}
-use Rattle.parents.specs.ForestLaws.{forest-set, beyond-same, beyond-set}
+use Rattle.laws.specs.ListLaws.Beyond.{beyond-same}
+use Rattle.parents.specs.Forest.{Parent, Forest}
+use Rattle.parents.specs.ForestLaws.{forest-set, beyond-written}
 use Rattle.row_runs.specs.Names.{Fresh, RunAsked, RunPut}
 
 parent-by : {name name′ : ℕ → ℕ} {c v : ℕ} → name′ v ≡ name v → name′ c ≡ name c → Parent name c v → Parent name′ c v
@@ -63,7 +64,7 @@ module _ {n : ℕ} {name : ℕ → ℕ} {from c : ℕ} {was p : List ℕ} (R : R
                   forest-set (R .left .forest) after c from h
                   (record { low = low; same = at-from ∙ sym at-c; top = λ t. at-c ∙ t })
                   (λ d i e. parent-by (at-other (getD p d 0) (no-child d i e)) (at-other d e) (R .left .forest .parent d i));
-              beyond = beyond-set c from h (R .left .beyond);
+              beyond = beyond-written c from h (R .left .beyond);
             };
         inside = λ d i k. go d i k (eqb d c) refl;
         before = λ d i. let off : d ≡ c → ⊥ = λ e. omega arith in at-other d off ∙ R .before d i;

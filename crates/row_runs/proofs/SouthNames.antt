@@ -9,13 +9,13 @@ use lib.ListN.{length, getD}
 use lib.Dec.{eqb, ltb}
 use borrow.Author.Tests.{eqb-true, eq-eqb, ne-eqb, ltb-true, ltb-false}
 use Rattle.laws.specs.RegionLaws.Merging.{merged, merged-one}
+use Rattle.laws.specs.ListLaws.Beyond.{beyond-same, beyond-then}
 use Rattle.flood.specs.Masks.{cutBit}
 use Rattle.parents.specs.Forest.{Forest, joinedName, Left}
-use Rattle.parents.specs.ForestLaws.{beyond-same, beyond-then}
 use Rattle.row_runs.specs.Stretch.{walks, Until, Stretch}
 use Rattle.row_runs.specs.Names.{Tiles, none, more, EastLevel}
 use Rattle.row_runs.specs.South.{SouthLevel, Coarser, Kept, OverlapAsked, OverlapJoined, apart, cut, one, RowsAsked, RowsJoined}
-use Rattle.row_runs.proofs.RowNames.{run-level, tiles-le}
+use Rattle.row_runs.proofs.RowNames.{run-level}
 
 -- ---- a test that says the same of two names says the same after they are merged
 

@@ -1,12 +1,14 @@
 -- All rows of a grid joined by the uncut steps within and between them: the words of the contracts. Definitions only; assumes nothing.
 use Prim.Native.Nat.{ℕ, suc, _+_, _*_, _≤_, _<_}
 use mathlib.Core.Path.{_≡_}
-use mathlib.Core.Bool.{Bool}
+use mathlib.Core.Bool.{Bool, false}
 use mathlib.Core.List.{List}
 use lib.ListN.{length, getD, drop}
-use Rattle.parents.specs.Forest.{Left}
-use Rattle.row_runs.specs.Names.{Tiles, EastLevel}
-use Rattle.row_runs.specs.South.{SouthLevel, Kept}
+use Rattle.laws.specs.ListLaws.Beyond.{Beyond}
+use Rattle.parents.specs.Forest.{Forest, Left}
+use Rattle.row_runs.specs.Stretch.{Clear}
+use Rattle.row_runs.specs.Names.{Fresh, Tiles, EastLevel}
+use Rattle.row_runs.specs.South.{SouthLevel, Coarser, Kept, RowsAsked}
 use Rattle.row_runs.specs.Corners.{CornersLevel}
 
 -- g says the same at both ends of every uncut step of a grid of h rows of w cells
@@ -14,6 +16,50 @@ pub record Level {X : Type 0} (w h : ℕ) (cells masks : List ℕ) (g : ℕ → 
   pub east : (y : ℕ) → y < h → EastLevel cells masks (y * w) (y * w + w) g
   pub south : (y : ℕ) → suc y < h → SouthLevel w cells masks (y * w) (y * w + w) g
   pub corners : (y : ℕ) → suc y < h → CornersLevel w cells masks (y * w) (y * w + w) g
+
+-- ---- two rows
+
+-- a row without marks has no cut step
+pub record PairAsked (w : ℕ) (cells masks p q : List ℕ) (up : ℕ) (marked : Bool) : Type 0 where
+  pub rows : RowsAsked w cells masks p q up
+  pub clear : marked ≡ false → Clear masks up (up + w)
+
+-- all steps between the rows are done
+pub record PairJoined (w : ℕ) (cells masks : List ℕ) (n : ℕ) (name : ℕ → ℕ) (up : ℕ) (was p : List ℕ) : Type 0 where
+  pub after : ℕ → ℕ
+  pub left : Left n after was p
+  pub coarser : Coarser name after
+  pub south : SouthLevel w cells masks up (up + w) after
+  pub corners : CornersLevel w cells masks up (up + w) after
+  pub sound : (g : ℕ → Bool) → SouthLevel w cells masks up (up + w) g → CornersLevel w cells masks up (up + w) g → Kept n name g → Kept n after g
+
+-- ---- one row more
+
+-- Of a grid of n cells the first y rows are joined, and the cells behind them are alone; without marks no step of the last of them is cut.
+pub record Done (w n y : ℕ) (marked : Bool) (cells masks p q : List ℕ) : Type 0 where
+  pub name : ℕ → ℕ
+  pub forest : Forest n name p
+  pub fresh : Fresh n (y * w) p
+  pub joins : Level w y cells masks name
+  pub sound : (g : ℕ → Bool) → Level w y cells masks g → Kept n name g
+  pub tiles : (x : ℕ) → x < y → Tiles cells masks (x * w + w) q (x * w) (x * w + w)
+  pub clear : marked ≡ false → (x : ℕ) → x + 1 ≡ y → Clear masks (x * w) (x * w + w)
+
+pub record RowAsked (w : ℕ) (cells masks p q : List ℕ) (y : ℕ) (marked : Bool) : Type 0 where
+  pub cellsLong : y * w + w ≤ length cells
+  pub masksLong : y * w + w ≤ length masks
+  pub queueLong : y * w + w ≤ length q
+  pub n : ℕ
+  pub ends : y * w + w ≤ n
+  pub done : Done w n y marked cells masks p q
+
+-- row y is done too; `marked` is of that row
+pub record RowDone (w n y : ℕ) (marked : Bool) (cells masks was waited p q : List ℕ) : Type 0 where
+  pub done : Done w n (y + 1) marked cells masks p q
+  pub parents : Beyond n was p
+  pub queue : Beyond n waited q
+
+-- ---- all rows
 
 -- each cell is its own parent, and there is room for every cell
 pub record CellsAsked (w h : ℕ) (cells masks p q : List ℕ) : Type 0 where

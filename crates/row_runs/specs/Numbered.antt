@@ -1,12 +1,13 @@
 -- Labels in place of parents: the words of the contract of `number`. Definitions only; assumes nothing.
-use Prim.Native.Nat.{ℕ, suc, _≤_, _<_}
+use Prim.Native.Nat.{ℕ, suc, _+_, _≤_, _<_}
 use mathlib.Core.Path.{_≡_}
 use mathlib.Core.Bool.{Bool, true, _&&_, cond}
 use mathlib.Core.List.{List}
-use lib.ListN.{length, getD}
+use lib.ListN.{length, getD, drop}
 use lib.Dec.{eqb}
 use Rattle.definitions.specs.Scan.{countBelow}
-use Rattle.parents.specs.Forest.{Forest, Beyond}
+use Rattle.laws.specs.ListLaws.Beyond.{Beyond}
+use Rattle.parents.specs.Forest.{Forest}
 use Rattle.row_runs.specs.Stretch.{walks}
 use Rattle.row_runs.specs.South.{Kept}
 
@@ -36,3 +37,23 @@ pub record Numbered (cells : List ℕ) (n : ℕ) (name : ℕ → ℕ) (was l : L
   pub labels : (c : ℕ) → c < n → getD l c 0 ≡ cond (walks cells c) (suc (countBelow (name c) (isNamed cells name))) 0
   pub count : r ≡ countBelow n (isNamed cells name)
   pub beyond : Beyond n was l
+
+-- ---- one stretch
+
+-- The label of a stretch from cell c on, where l has labels before c, parents from c on, and the labels given are those up to `id`.
+abbrev pub labelAt : List ℕ → List ℕ → ℕ → ℕ → ℕ
+labelAt cells l c id = cond (walks cells c) (cond (eqb (getD l c 0) c) (id + 1) (getD l (getD l c 0) 0)) 0
+
+pub record LabelAsked (cells l : List ℕ) (c id : ℕ) : Type 0 where
+  pub cellsLong : c < length cells
+  pub labelsLong : c < length l
+  pub parentLow : getD l c 0 ≤ c
+  pub few : id ≤ 1048576
+
+-- the entries from `from` up to `end` are v, all others as they were
+pub record Filled (from end v : ℕ) (was l : List ℕ) : Type 0 where
+  pub inside : (c : ℕ) → from ≤ c → c < end → getD l c 0 ≡ v
+  pub before : (c : ℕ) → c < from → getD l c 0 ≡ getD was c 0
+  pub behind : (c : ℕ) → end ≤ c → getD l c 0 ≡ getD was c 0
+  pub long : length l ≡ length was
+  pub rest : (n : ℕ) → end ≤ n → drop n l ≡ drop n was

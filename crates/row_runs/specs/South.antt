@@ -3,10 +3,10 @@ use Prim.Native.Nat.{ℕ, _+_, _≤_, _<_}
 use mathlib.Core.Path.{_≡_}
 use mathlib.Core.Bool.{Bool, true, false}
 use mathlib.Core.List.{List}
-use lib.ListN.{length, getD}
+use lib.ListN.{length}
 use Rattle.flood.specs.Masks.{cutBit}
 use Rattle.parents.specs.Forest.{Forest, joinedName, Left}
-use Rattle.row_runs.specs.Stretch.{walks, Stretch}
+use Rattle.row_runs.specs.Stretch.{walks}
 use Rattle.row_runs.specs.Names.{Tiles, EastLevel}
 
 -- g says the same at both ends of every uncut step to the south from the cells from `from` up to `to`, in rows of w cells

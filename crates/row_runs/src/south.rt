@@ -11,7 +11,8 @@ ghost use Rattle.parents.specs.Forest.{Forest};
 ghost use Rattle.row_runs.specs.Names.{EastLevel};
 ghost use Rattle.row_runs.specs.South.{OverlapAsked, OverlapJoined, RowsAsked, RowsJoined};
 
-fn wide(x: u32) -> usize
+// A number of a slice as an index: in a function of its own it asks for no proof that the element fits.
+pub fn wide(x: u32) -> usize
     ensures { λ r. ⌜ r ≡ x ⌝ }
 {
     x as usize

@@ -17,11 +17,12 @@ use Rattle.definitions.specs.Grid.{Map, cellCount, directions}
 use Rattle.definitions.specs.Partition.{cutAll, roots, labels, regionCount, walkableAt, isRoot}
 use Rattle.laws.specs.ListLaws.Lists.{done}
 use Rattle.laws.specs.RegionLaws.Regions.{root, roots-rooted, region-least, root-below, root-walkable, label-walkable, label-blocked, labels-length}
+use Rattle.laws.specs.NumberLaws.Comparisons.{last-or}
 use Rattle.flood.specs.Masks.{reached, Marks}
-use Rattle.flood.specs.State.{used}
-use Rattle.flood.proofs.Used.{last-or, used-some, used-none, used-zero, used-same}
+use Rattle.flood.proofs.OpenSteps.{isOpen}
+use Rattle.rust_partition.specs.UsedCells.{used, used-some, used-none, used-zero, used-same}
 use Rattle.rust_partition.specs.Literal.Components.{Waiting, Flooding, Components, drain, floodFrom, floodAll, components}
-use Rattle.rust_partition.specs.OpenWays.{isOpen, uncut-level}
+use Rattle.rust_partition.specs.OpenWays.{uncut-level}
 use Rattle.rust_partition.specs.FloodState as flood
 use Rattle.rust_partition.specs.FloodRounds.{final, State, Drained, drained}
 

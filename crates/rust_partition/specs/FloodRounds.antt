@@ -15,17 +15,18 @@ use Rattle.definitions.specs.Grid.{Map, Position, pairEq, cellCount, positionOf
 use Rattle.definitions.specs.Partition.{cutAll, labels, walkableAt}
 use Rattle.laws.specs.ListLaws.Lists.{All, more, all-map}
 use Rattle.laws.specs.RegionLaws.Regions.{label-blocked}
+use Rattle.laws.specs.ListLaws.ScanSteps.{count-le}
 use Rattle.flood.specs.Masks.{bitOf, reached, stepPair, Marks}
-use Rattle.flood.specs.State.{used}
 use Rattle.flood.proofs.Square.{index-position, Four, four}
 use Rattle.flood.proofs.StepTests.{cell-x, cell-y}
-use Rattle.flood.proofs.Used.{count-le}
+use Rattle.flood.proofs.OpenSteps.{isOpen}
+use Rattle.rust_partition.specs.UsedCells.{used}
 use Rattle.rust_partition.specs.Literal.Neighbors.{indexRust, neighborsRust}
 use Rattle.rust_partition.specs.Literal.CutMasks.{expect, edgeBit, hasBit}
 use Rattle.rust_partition.specs.Literal.Components.{Waiting, Flooding, visitNeighbor, visitNeighbors, drain}
 use Rattle.rust_partition.specs.NeighborsAsRust.{index-walkable, neighbors-are}
 use Rattle.rust_partition.specs.MaskBits.{bit-asked, edge-bit}
-use Rattle.rust_partition.specs.OpenWays.{isOpen, open-inside, labels-level}
+use Rattle.rust_partition.specs.OpenWays.{open-inside, labels-level}
 use Rattle.rust_partition.specs.FloodState as flood
 
 module _ (M : Map) where

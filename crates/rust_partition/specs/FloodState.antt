@@ -15,8 +15,7 @@ use Rattle.definitions.specs.Scan.{any, member, countBelow}
 use Rattle.definitions.specs.Grid.{Position, directions}
 use Rattle.laws.specs.ListLaws.Lists.{All, done, more, all-map, all-append}
 use Rattle.laws.specs.ListLaws.NumberLists.{member-append}
-use Rattle.flood.specs.State.{used}
-use Rattle.flood.proofs.Used.{used-some, used-none, used-same, used-keeps, used-new, count-set}
+use Rattle.rust_partition.specs.UsedCells.{used, used-some, used-none, used-same, used-keeps, used-new, count-set}
 use Rattle.rust_partition.specs.Literal.Components.{Waiting}
 
 -- ---- members of a list with one number more behind

@@ -4,6 +4,7 @@ pub mod MaskBits
 pub mod Candidates
 pub mod MasksAsRust
 pub mod OpenWays
+pub mod UsedCells
 pub mod FloodState
 pub mod FloodRounds
 pub mod ComponentsAsRust
