@@ -12,7 +12,7 @@ use Rattle.definitions.specs.Partition.{labels, regionCount}
 use Rattle.definitions.specs.RegionRecord.{Region}
 use Rattle.definitions.specs.Context.{contextOf}
 use Rattle.definitions.specs.Verdict.{pairRowsOf}
-use Rattle.flood.specs.Contract.{Flooded}
+use Rattle.row_runs.specs.Contract.{Labelled as LabelledCells}
 use Rattle.cut_steps.specs.Contract.{SpanMap}
 use Rattle.cut_steps.proofs.CutLaws.{span-count}
 use Rattle.assessments.specs.declared.Assessed.{Assessed}
@@ -43,16 +43,16 @@ module _ (pass w h : ℕ) (cells spans boundaries anchors : List ℕ) where
         ran-refused pass w h cells spans boundaries anchors l m q t p s o number place (e ∙ ap (earlyRefusal pass w h cells spans boundaries anchors (length l) (length m) (length q) (length t)) (sym wide))
 
     module _ (e : none ≡ earlyRefusal pass w h cells spans boundaries anchors (length l) (length m) (length q) (length t) output) {l′ m₁ q₁ : List ℕ} {r : ℕ} (A : LabelledAs w h cells spans l m q l′ m₁ q₁ r) where
-      flooded : Flooded M l q l′ q₁ r
-      flooded = A .maps M span-map
+      labelled : LabelledCells M l q l′ q₁ r
+      labelled = A .maps M span-map
 
       begun : {m′ q′ : List ℕ} → m′ ≡ zeroed (h * w) m₁ → q′ ≡ zeroed (h * w) q₁ → (s : List Region) (o : List ℕ) → Labelled pass w h cells spans boundaries anchors l m q t p s o l′ m′ q′
       unfolding mapOf cellCount
       begun em eq s o =
           record {
-            filled = flooded .labels;
+            filled = labelled .labels;
             masks = em ∙ zeroed-again (h * w) m m₁ (A .rest);
-            queue = eq ∙ zeroed-again (h * w) q q₁ (flooded .beyond);
+            queue = eq ∙ zeroed-again (h * w) q q₁ (labelled .beyond);
           }
 
       early : (o : List ℕ) → length o ≡ output → none ≡ earlyRefusal pass w h cells spans boundaries anchors (length l) (length m) (length q) (length t) (length o)
@@ -62,15 +62,15 @@ module _ (pass w h : ℕ) (cells spans boundaries anchors : List ℕ) where
       pub refused-records : {m′ q′ t′ : List ℕ} → room < r → m′ ≡ zeroed (h * w) m₁ → q′ ≡ zeroed (h * w) q₁ → t′ ≡ zeroed (talliesPerSpan * (length spans / numbersPerSpan)) t
           → (s : List Region) (o : List ℕ) → length s ≡ room → length o ≡ output → Ran (given pass w h cells spans boundaries anchors l m q t p s o) (record { number = 11; value = 0 }) l′ m′ q′ t′ p s o
       refused-records more em eq et s o long wide =
-          ran-records pass w h cells spans boundaries anchors l m q t p s o (early o wide) (begun em eq s o) (omega (arith, flooded .count, long, more)) (et ∙ ap (λ n. zeroed (talliesPerSpan * n) t) (sym (span-count span-map)))
+          ran-records pass w h cells spans boundaries anchors l m q t p s o (early o wide) (begun em eq s o) (omega (arith, labelled .count, long, more)) (et ∙ ap (λ n. zeroed (talliesPerSpan * n) t) (sym (span-count span-map)))
 
       module _ (few : r ≤ room) {t′ p₁ : List ℕ} {a : Assessed} (S : SpansAssessed w h cells spans l′ t p t′ p₁ a) where
         assessed : AssessedAs M t p t′ p₁ a
         unfolding mapOf
-        assessed = S M span-map (labels-shown M l (flooded .labels))
+        assessed = S M span-map (labels-shown M l (labelled .labels))
 
         enough : regionCount M ≤ room
-        enough = omega (arith, flooded .count, few)
+        enough = omega (arith, labelled .count, few)
 
         -- more pairs than rows
         pub refused-pairs : {m′ q′ p′ : List ℕ} → a ≡ TooMany → m′ ≡ zeroed (h * w) m₁ → q′ ≡ zeroed (h * w) q₁ → p′ ≡ zeroed (length p₁) p₁
@@ -85,12 +85,12 @@ module _ (pass w h : ℕ) (cells spans boundaries anchors : List ℕ) where
             let rows = subst (λ y. Answers y (pairRowsOf (contextOf M)) p p₁) x (assessed .answer) in
             record {
               accepted = e;
-              count = flooded .count;
+              count = labelled .count;
               enough = enough;
-              filled = flooded .labels;
+              filled = labelled .labels;
               masks = A .rest;
-              grouped = flooded .queue;
-              queue = flooded .beyond;
+              chain = labelled .chain;
+              queue = labelled .beyond;
               tallied = assessed .counts;
               fits = rows .0;
               rowCount = rows .1;

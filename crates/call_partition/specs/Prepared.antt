@@ -13,21 +13,21 @@ use Rattle.definitions.specs.RegionRecord.{Region}
 use Rattle.definitions.specs.Context.{contextOf}
 use Rattle.definitions.specs.Verdict.{pairRowsOf}
 use Rattle.definitions.specs.AtExit.{talliesOf}
-use Rattle.flood.specs.Contract.{Grouped}
+use Rattle.row_runs.specs.Contract.{Chain}
 use Rattle.call_partition.specs.declared.Prepared.{Prepared}
 use Rattle.call_partition.specs.declared.Prepared.the-variants.{Refused, Ready}
 use Rattle.call_partition.specs.Early.{earlyRefusal}
 use Rattle.call_partition.specs.Contract.{given, Ran}
 
--- No check of the table refuses, with `room` records and an output of length `output`. Labels, tallies and pairs are filled; the queue has the walkable cells, region by
--- region; masks and queue are written over the needed length alone. There are so many regions and rows of pairs.
+-- No check of the table refuses, with `room` records and an output of length `output`. Labels, tallies and pairs are filled; the queue has the stretches, from
+-- the first cell on; masks and queue are written over the needed length alone. There are so many regions and rows of pairs.
 pub record ReadyAs (pass w h : ℕ) (cells spans boundaries anchors : List ℕ) (room output : ℕ) (l m q t p : List ℕ) (regions rows : ℕ) (l′ m′ q′ t′ p′ : List ℕ) : Type 0 where
   pub accepted : none ≡ earlyRefusal pass w h cells spans boundaries anchors (length l) (length m) (length q) (length t) output
   pub count : regions ≡ regionCount (mapOf w h cells spans boundaries anchors)
   pub enough : regionCount (mapOf w h cells spans boundaries anchors) ≤ room
   pub filled : l′ ≡ overwrite (labels (mapOf w h cells spans boundaries anchors)) l
   pub masks : drop (h * w) m′ ≡ drop (h * w) m
-  pub grouped : Grouped (mapOf w h cells spans boundaries anchors) q′
+  pub chain : Chain (mapOf w h cells spans boundaries anchors) q′ 0
   pub queue : drop (h * w) q′ ≡ drop (h * w) q
   pub tallied : t′ ≡ overwrite (talliesOf (contextOf (mapOf w h cells spans boundaries anchors))) t
   pub fits : length (pairRowsOf (contextOf (mapOf w h cells spans boundaries anchors))) ≤ length p / numbersPerPair * numbersPerPair

@@ -23,7 +23,7 @@ pub enum Prepared {
 }
 
 // Labels, tallies and pairs of lists that no check before 11 refuses. Where there are more regions than records, the answer is refusal 11; where there are more pairs
-// than rows, 12. Otherwise the queue is left with the walkable cells, region by region.
+// than rows, 12. Otherwise the queue is left with the stretches, from the first cell on.
 pub fn divide(
     width: usize,
     height: usize,

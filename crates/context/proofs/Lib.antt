@@ -1,5 +1,4 @@
 -- The laws that the proofs of this crate share.
-pub mod Added
 pub mod AnchorSteps
 pub mod Counting
 pub mod FullPairs
@@ -9,6 +8,8 @@ pub mod Ones
 pub mod PairStarts
 pub mod Rows
 pub mod RecordLaws
-pub mod RecordFrom
+pub mod RecordCounts
 pub mod AnchorLaws
+pub mod RunCounting
+pub mod RunLaws
 pub mod ShownLaws

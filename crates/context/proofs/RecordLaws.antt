@@ -69,13 +69,13 @@ module _ {p q : ℕ → Bool} {c : ℕ} (one : OneMore p q c) (f : ℕ → ℕ) 
 abbrev setsBit : Bool → Bool → Bool → Bool → ℕ → Bool
 setsBit a b c d k = eqb (bitOr (maskOfBits a b c d) (2 ^ k)) (maskOfBits (a || eqb k 0) (b || eqb k 1) (c || eqb k 2) (d || eqb k 3))
 
-mask-more : (f : ℕ → Bool) (k : ℕ) → k < 4 → bitOr (maskOf f) (2 ^ k) ≡ maskOf (λ e. f e || eqb k e)
+pub mask-more : (f : ℕ → Bool) (k : ℕ) → k < 4 → bitOr (maskOf f) (2 ^ k) ≡ maskOf (λ e. f e || eqb k e)
 unfolding everyFour everyBool allBelow
 mask-more f k h =
     eqb-true _ _ (all-below-at 4 (setsBit (f 0) (f 1) (f 2) (f 3)) (four-at (λ a b c d. allBelow 4 (setsBit a b c d)) refl (f 0) (f 1) (f 2) (f 3)) k h)
 
 -- the four counts of f
-abbrev countsOf : (ℕ → ℕ) → List ℕ
+abbrev pub countsOf : (ℕ → ℕ) → List ℕ
 countsOf f = map f (0 ∷ 1 ∷ 2 ∷ 3 ∷ [])
 
 kept : (m : ℕ) → m ≡ m + 0
@@ -88,10 +88,10 @@ counts-more f (suc (suc zero)) h = λ i. kept (f 0) i ∷ kept (f 1) i ∷ (f 2 
 counts-more f (suc (suc (suc zero))) h = λ i. kept (f 0) i ∷ kept (f 1) i ∷ kept (f 2) i ∷ (f 3 + 1) ∷ []
 counts-more f (suc (suc (suc (suc k)))) h = absurd (omega arith)
 
-counts-ext : (f g : ℕ → ℕ) → ((e : ℕ) → f e ≡ g e) → countsOf f ≡ countsOf g
+pub counts-ext : (f g : ℕ → ℕ) → ((e : ℕ) → f e ≡ g e) → countsOf f ≡ countsOf g
 counts-ext f g h = λ i. h 0 i ∷ h 1 i ∷ h 2 i ∷ h 3 i ∷ []
 
-mask-ext : (f g : ℕ → Bool) → ((e : ℕ) → f e ≡ g e) → maskOf f ≡ maskOf g
+pub mask-ext : (f g : ℕ → Bool) → ((e : ℕ) → f e ≡ g e) → maskOf f ≡ maskOf g
 mask-ext f g h = λ i. maskOfBits (h 0 i) (h 1 i) (h 2 i) (h 3 i)
 
 -- ---- the record of the cells that pass a test

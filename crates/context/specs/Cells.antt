@@ -1,9 +1,9 @@
--- A region's record made cell by cell, as PartitionContext::new of context.rs makes it: `addCell` adds one, `recordFrom` those of a list, from the first on.
+-- A region's record made cell by cell, as PartitionContext::new of context.rs makes it: `addCell` adds one, `addRun` those of a run, from the first on.
 -- In the Rust an empty record's edges are infinite; ours are zero, and the first cell sets them. Assumes nothing.
-use Prim.Native.Nat.{ℕ, _+_, _*_, _/_, _%_, _^_}
+use Prim.Native.Nat.{ℕ, zero, suc, _+_, _*_, _/_, _%_, _^_}
 use mathlib.Core.Bool.{Bool, cond}
-use mathlib.Core.List.{List, [], _∷_}
-use lib.ListN.{set}
+use mathlib.Core.List.{List}
+use lib.ListN.{getD, set}
 use lib.Dec.{eqb}
 use lib.Bits.{bitOr}
 use lib.Ieee.{Float, lt}
@@ -11,7 +11,7 @@ use Rattle.definitions.specs.Scan.{bit}
 use Rattle.definitions.specs.Grid.{Map, cellAt, isRamp, elevation}
 use Rattle.definitions.specs.Spans.{pixelsPerWalkCell}
 use Rattle.definitions.specs.Geometry.{float}
-use Rattle.definitions.specs.RegionRecord.{Region, emptyRegion, elevationCount}
+use Rattle.definitions.specs.RegionRecord.{Region, elevationCount}
 
 -- ---- one cell
 
@@ -39,18 +39,15 @@ addCell s x y cell =
       elevationCounts = set (s .elevationCounts) e (elevationCount s e + 1);
     }
 
--- ---- the cells of a list
-
 -- cell c of the map
 unfoldable pub addCellOf : Map → Region → ℕ → Region
 unfolding addCell
 addCellOf M s c = addCell s (c % M .width) (c / M .width) (cellAt M c)
 
-unfoldable pub addCells : Map → Region → List ℕ → Region
-unfolding addCellOf
-addCells M s [] = s
-addCells M s (c ∷ cs) = addCells M (addCellOf M s c) cs
+-- ---- the cells of a run
 
-unfoldable pub recordFrom : Map → List ℕ → Region
-unfolding emptyRegion addCells
-recordFrom M cs = addCells M emptyRegion cs
+-- n cells, one by one: those from place c of the bytes on, which stand in row y from column x on
+unfoldable pub addRun : Region → ℕ → ℕ → List ℕ → ℕ → ℕ → Region
+unfolding addCell
+addRun s x y bytes c zero = s
+addRun s x y bytes c (suc n) = addCell (addRun s x y bytes c n) (x + n) y (getD bytes (c + n) 0)

@@ -4,4 +4,5 @@ pub mod OneElevation
 pub mod Packed
 pub mod Records
 pub mod Rows
+pub mod Runs
 pub mod Shown

@@ -1,7 +1,6 @@
 -- What the struct `Region` stands for, and what the code asks of a record so that no number wraps. Assumes nothing.
-use Prim.Native.Nat.{ℕ, _*_, _≤_, _<_}
+use Prim.Native.Nat.{ℕ, _*_, _≤_}
 use Rattle.definitions.specs.Limits.{maxSide}
-use Rattle.definitions.specs.Grid.{elevation}
 use Rattle.definitions.specs.RegionRecord.{elevationCount}
 use Rattle.definitions.specs.RegionRecord as def
 use Rattle.context.specs.declared.Region.{Region}
@@ -30,10 +29,3 @@ pub record Counted (s : def.Region) : Type 0 where
   pub few : s .cells ≤ maxCells
   pub ramps : s .rampCells ≤ s .cells
   pub each : (e : ℕ) → elevationCount s e ≤ s .cells
-
--- a further cell at column x and row y of a map: check 9 of the table of SPECIFICATION 4 keeps its elevation below 4
-pub record Fitting (s : def.Region) (x y cell : ℕ) : Type 0 where
-  pub room : s .cells < maxCells
-  pub column : x < maxSide
-  pub row : y < maxSide
-  pub counted : elevation cell < 4

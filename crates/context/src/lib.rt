@@ -3,6 +3,7 @@ pub mod anchored;
 pub mod incidents;
 pub mod pairs;
 pub mod records;
+pub mod runs;
 
 // The record of a region, as RegionStats of context.rs: SPECIFICATION 9; its ramp cells are counted. Edges are in pixels; bit e of `elevations` says that a cell has elevation e.
 #[repr(C)]

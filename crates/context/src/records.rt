@@ -1,23 +1,24 @@
-// A region's record by value: the empty record, one more cell, and what is asked of a record (RegionStats of context.rs; dominance and flatness of junctions.rs).
+// A region's record by value: the empty record, the cells of a run added, and what is asked of a record (RegionStats of context.rs; dominance and flatness of
+// junctions.rs).
 use crate::Region;
+use crate::runs::mask_of;
+use crate::runs::run_counts;
+use crate::runs::sums;
 use elevations::Dominance;
 use elevations::dominance_of;
 use geometry::Point;
 ghost use mathlib.Core.Path.{_≡_};
 ghost use mathlib.Core.List.{map};
-ghost use Prim.Native.Nat.{ℕ, _+_, _*_, _≤_, _<_};
-ghost use lib.ListN.{getD, set};
-ghost use lib.Dec.{eqb};
+ghost use Prim.Native.Nat.{_-_, _*_, _≤_};
 ghost use Rattle.definitions.specs.Limits.{maxSide};
-ghost use Rattle.definitions.specs.Scan.{bit};
-ghost use Rattle.definitions.specs.Grid.{elevation, isRamp};
 ghost use Rattle.definitions.specs.Spans.{pixelsPerWalkCell};
 ghost use Rattle.definitions.specs.Geometry.{float};
 ghost use Rattle.definitions.specs.RegionRecord.{emptyRegion, corners, dominance, strictlyFlat};
 ghost use Rattle.elevations.specs.Forms.{dominanceForm};
 ghost use Rattle.geometry.specs.Forms.{pointForm};
-ghost use Rattle.context.specs.Records.{recordOf, maxCells, Counted, Fitting};
-ghost use Rattle.context.specs.Cells.{lesserEdge, greaterEdge, addCell};
+ghost use Rattle.context.specs.Records.{recordOf, Counted};
+ghost use Rattle.context.specs.Cells.{lesserEdge, greaterEdge, addRun};
+ghost use Rattle.context.specs.Runs.{FittingRun};
 
 const PIXELS_PER_WALK_CELL: u32 = 8;
 
@@ -48,40 +49,6 @@ fn greater_edge(first: bool, old: f64, new: f64) -> f64
     if old < new { new } else { old }
 }
 
-fn elevation_of(cell: u8) -> usize
-    ensures { λ r. ⌜ r ≡ elevation cell ⌝ }
-{
-    (cell / 4) as usize
-}
-
-// 1 for a cell with the ramp bit, else 0.
-fn ramp_bit(cell: u8) -> usize
-    ensures { λ r. ⌜ (r ≡ bit (isRamp cell)) × (r ≤ 1) ⌝ }
-{
-    (cell / 2 % 2) as usize
-}
-
-// 1 at the place e, else 0.
-fn one_at(e: usize, place: usize) -> usize
-    ensures { λ r. ⌜ (r ≡ bit (eqb e place)) × (r ≤ 1) ⌝ }
-{
-    if e == place { 1 } else { 0 }
-}
-
-// One more at the place e. All four are added to: a store at a place that varies would have each cell copy the whole record in memory.
-fn one_more(counts: [usize; 4], e: usize) -> [usize; 4]
-    requires counts_small { ⌜ ((k : ℕ) → getD counts k 0 ≤ maxCells) ⌝ }
-    requires e_within { ⌜ e < 4 ⌝ }
-    ensures { λ r. ⌜ r ≡ set counts e (getD counts e 0 + 1) ⌝ }
-{
-    [
-        counts[0] + one_at(e, 0),
-        counts[1] + one_at(e, 1),
-        counts[2] + one_at(e, 2),
-        counts[3] + one_at(e, 3),
-    ]
-}
-
 impl Region {
     pub fn empty() -> Self
         ensures { λ r. ⌜ recordOf r ≡ emptyRegion ⌝ }
@@ -98,24 +65,26 @@ impl Region {
         }
     }
 
-    // The record with one cell more, which stands at column x and row y.
-    pub fn with_cell(self, x: usize, y: usize, cell: u8) -> Self
+    // The record with the cells of a run added, which stand in row y from column x on. A run is added once, not cell by cell.
+    pub fn with_run(self, x: usize, y: usize, cells: &[u8], from: usize, end: usize) -> Self
         requires counted { ⌜ Counted (recordOf self) ⌝ }
-        requires fitting { ⌜ Fitting (recordOf self) x y cell ⌝ }
-        ensures { λ r. ⌜ recordOf r ≡ addCell (recordOf self) x y cell ⌝ }
+        requires fitting { ⌜ FittingRun (recordOf self) x y (now cells) from end ⌝ }
+        ensures { λ r. ⌜ recordOf r ≡ addRun (recordOf self) x y (now (cells .entry)) from (end - from) ⌝ }
     {
         let first = self.cells == 0;
-        let e = elevation_of(cell);
+        let length = end - from;
+        let run = run_counts(cells, from, end);
+        let added = run.elevations;
         let old = self.elevation_counts;
-        let counts = one_more(old, e);
+        let counts = sums(old, added);
         Self {
-            cells: self.cells + 1,
+            cells: self.cells + length,
             min_x: lesser_edge(first, self.min_x, edge(x)),
             min_y: lesser_edge(first, self.min_y, edge(y)),
-            max_x: greater_edge(first, self.max_x, edge(x + 1)),
+            max_x: greater_edge(first, self.max_x, edge(x + length)),
             max_y: greater_edge(first, self.max_y, edge(y + 1)),
-            ramp_cells: self.ramp_cells + ramp_bit(cell),
-            elevations: self.elevations | (1 << e),
+            ramp_cells: self.ramp_cells + run.ramps,
+            elevations: self.elevations | mask_of(added),
             elevation_counts: counts,
         }
     }

@@ -15,7 +15,7 @@ use Rattle.definitions.specs.Refusals.{orElse, unless, isWhole, partitionRoom, 
 use Rattle.definitions.specs.Verdict.{Answer, refusal}
 use Rattle.laws.specs.ListLaws.Tests.{both}
 use Rattle.laws.specs.TableLaws.AcceptedCalls.{Accepted, accepted}
-use Rattle.flood.specs.Contract.{walkableCount, Grouped}
+use Rattle.row_runs.specs.Contract.{Link, Chain, ended, linked}
 use Rattle.call_partition.specs.Early.{sizesRefusal, entriesRefusal, earlyRefusal}
 use Rattle.call_partition.specs.Contract.{given}
 use Rattle.call_partition.specs.Prepared.{ReadyAs}
@@ -25,17 +25,22 @@ use Rattle.desks.specs.Terrain.{regions-same, labels-same, rows-same, tallies-s
 use Rattle.desks.specs.Alone.{OwnPassed, own-passed, all-three}
 
 module _ (w h : ℕ) (cells spans boundaries anchors : List ℕ) where
-  -- the queue's order
-  grouped-same : {q : List ℕ} → Grouped (mapOf w h cells spans [] []) q → Grouped (mapOf w h cells spans boundaries anchors) q
-  unfolding walkableCount cellCount mapOf
-  grouped-same {q} g =
+  -- the queue's chain
+  link-same : {q : List ℕ} {c e : ℕ} → Link (mapOf w h cells spans [] []) q c e → Link (mapOf w h cells spans boundaries anchors) q c e
+  unfolding cellCount mapOf
+  link-same {c = c} k =
       record {
-        cell = g .cell;
-        walks = g .walks;
-        found = g .found;
-        apart = g .apart;
-        order = λ j k l m. subst (λ ls. getD ls (getD q j 0) 0 ≤ getD ls (getD q k 0) 0) (sym (labels-same w h cells spans boundaries anchors)) (g .order j k l m);
+        next = k .next;
+        more = k .more;
+        inside = k .inside;
+        row = k .row;
+        alike = λ d l m. subst (λ ls. getD ls d 0 ≡ getD ls c 0) (sym (labels-same w h cells spans boundaries anchors)) (k .alike d l m);
       }
+
+  chain-same : {q : List ℕ} {c : ℕ} → Chain (mapOf w h cells spans [] []) q c → Chain (mapOf w h cells spans boundaries anchors) q c
+  unfolding cellCount mapOf
+  chain-same ended = ended
+  chain-same (linked k r) = linked (link-same k) (chain-same r)
 
 module _ {w h : ℕ} {cells spans : List ℕ} {room : ℕ} {l m q t p : List ℕ} {regions rows : ℕ} {l′ m′ q′ t′ p′ : List ℕ}
     (R : ReadyAs 1 w h cells spans [] [] room 0 l m q t p regions rows l′ m′ q′ t′ p′) where
@@ -70,7 +75,7 @@ module _ {w h : ℕ} {cells spans : List ℕ} {room : ℕ} {l m q t p : List ℕ
           enough = subst (λ n. n ≤ room) (sym (regions-same w h cells spans boundaries anchors)) (R .enough);
           filled = R .filled ∙ ap (λ x. overwrite x l) (sym (labels-same w h cells spans boundaries anchors));
           masks = R .masks;
-          grouped = grouped-same w h cells spans boundaries anchors (R .grouped);
+          chain = chain-same w h cells spans boundaries anchors (R .chain);
           queue = R .queue;
           tallied = R .tallied ∙ ap (λ x. overwrite x t) (sym (tallies-same w h cells spans boundaries anchors));
           fits = subst (λ x. length x ≤ length p / numbersPerPair * numbersPerPair) same-rows (R .fits);

@@ -22,7 +22,7 @@ use Rattle.laws.specs.ListLaws.Lists.{length-run}
 use Rattle.laws.specs.ListLaws.Tests.{both}
 use Rattle.laws.specs.ListLaws.NoFault.{no-fault}
 use Rattle.laws.specs.TableLaws.AcceptedCalls.{Accepted}
-use Rattle.flood.specs.Contract.{Grouped}
+use Rattle.row_runs.specs.Contract.{Chain}
 use Rattle.areas.specs.Fit.{Fit}
 use Rattle.call_partition.specs.declared.Prepared.{Prepared}
 use Rattle.call_partition.specs.declared.Prepared.the-variants.{Refused, Ready}
@@ -131,7 +131,7 @@ module _ (L : Lent) {removed : List Bool} {rows room : ℕ} {l m q t p : List �
             rowCount = ap (λ n. 3 * n) same-rows ∙ R .rowCount ∙ ap (λ N. length (pairRowsOf (contextOf N))) same-map;
             filled = R .filled ∙ ap (λ N. overwrite (labels N) l) same-map;
             masks = R .masks;
-            grouped = subst (λ N. Grouped N q′) same-map (R .grouped);
+            chain = subst (λ N. Chain N q′ 0) same-map (R .chain);
             queue = R .queue;
             tallied = R .tallied ∙ ap₂ (λ N x. overwrite (talliesOf (contextOf N)) x) same-map (clearedT ∙ ap (λ n. zeroed (2 * n) t) (sym spans-lent));
             paired = R .paired ∙ ap₂ (λ N x. overwrite (pairRowsOf (contextOf N)) x) same-map (clearedP ∙ ap (λ n. zeroed n p) (D .rowCount));

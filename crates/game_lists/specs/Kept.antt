@@ -16,7 +16,7 @@ use Rattle.definitions.specs.Rows.{removedOf}
 use Rattle.definitions.specs.Verdict.{Lent, mapIn, pairRowsOf}
 use Rattle.definitions.specs.AtExit.{talliesOf}
 use Rattle.laws.specs.TableLaws.AcceptedCalls.{Accepted}
-use Rattle.flood.specs.Contract.{Grouped}
+use Rattle.row_runs.specs.Contract.{Chain}
 use Rattle.call_partition.specs.Contract.{given}
 use Rattle.rest_definitions.specs.RestVerdict.{listsFault}
 use Rattle.game_calls.specs.KeptGraph.{graphMap}
@@ -53,14 +53,14 @@ pub record Divides (L : Lent) (removed : List Bool) (rows room : ℕ) (l m q t p
   pub talliesLong : length t ≡ length (L .tallies)
   pub pairsLong : length p ≡ length (L .pairs)
 
--- Labels, tallies and pairs are those of the kept graph; beyond them, as far as the first partition filled, zero. The queue has the walkable cells, region by region;
+-- Labels, tallies and pairs are those of the kept graph; beyond them, as far as the first partition filled, zero. The queue has the stretches, from the first cell on;
 -- masks and queue are written over the needed length alone.
 pub record DividedKept (L : Lent) (l m q t p : List ℕ) (r : Graph) (l′ m′ q′ t′ p′ : List ℕ) : Type 0 where
   pub count : r .regions ≡ regionCount (graphMap (L .pass) (mapIn L))
   pub rowCount : numbersPerPair * r .rows ≡ length (pairRowsOf (contextOf (graphMap (L .pass) (mapIn L))))
   pub filled : l′ ≡ overwrite (labels (graphMap (L .pass) (mapIn L))) l
   pub masks : drop (L .height * L .width) m′ ≡ drop (L .height * L .width) m
-  pub grouped : Grouped (graphMap (L .pass) (mapIn L)) q′
+  pub chain : Chain (graphMap (L .pass) (mapIn L)) q′ 0
   pub queue : drop (L .height * L .width) q′ ≡ drop (L .height * L .width) q
   pub tallied : t′ ≡ overwrite (talliesOf (contextOf (graphMap (L .pass) (mapIn L)))) (zeroed (talliesPerSpan * spanCount (mapIn L)) t)
   pub paired : p′ ≡ overwrite (pairRowsOf (contextOf (graphMap (L .pass) (mapIn L)))) (zeroed (length (pairRowsOf (contextOf (mapIn L)))) p)

@@ -14,7 +14,7 @@ use Rattle.laws.specs.RegionLaws.Regions.{labels-length}
 use Rattle.laws.specs.FloatLaws.MapPixels.{side-bounds}
 use Rattle.areas.proofs.Dividing.{labels-shown}
 use Rattle.stretches.specs.Queue.{Shown}
-use Rattle.stretches.proofs.AfterFlood.{low-elevations}
+use Rattle.stretches.proofs.LowElevations.{low-elevations}
 use Rattle.context.proofs.AnchorLaws.{map-anchors}
 use Rattle.context.specs.Shown.{ShownBoundaries, ShownTallies}
 use Rattle.context.proofs.ShownLaws.{map-rows}
@@ -72,7 +72,7 @@ module _ {pass w h : ℕ} {cells spans boundaries anchors : List ℕ} {room outp
         labelsLong = labels-long;
         labels = labels-shown M l (R .filled);
         queueLong = omega (arith, ready-fit R .queueLong, long);
-        queue = R .grouped;
+        chain = R .chain;
         low = low-elevations M cells-long (ready-accepted R .elevations);
       }
 

@@ -189,7 +189,7 @@ module _ {w h : ℕ} {cells anchors : List ℕ} {O : Origin} {s : List Region} {
           enough = R .ready .enough;
           filled = R .ready .filled ∙ labels-cleared;
           masks = R .ready .masks ∙ scratch-same .rest;
-          grouped = R .ready .grouped;
+          chain = R .ready .chain;
           queue = R .ready .queue ∙ queue-same .rest;
           tallied = R .ready .tallied ∙ ap (overwrite (talliesOf (contextOf behind))) tallies-cleared;
           fits = subst (λ x. length (pairRowsOf (contextOf behind)) ≤ length x / 3 * 3) pairs-cleared (R .ready .fits);
@@ -275,7 +275,7 @@ module _ {w h : ℕ} {cells spans boundaries anchors : List ℕ} {room output : 
         enough = R .enough;
         filled = R .filled;
         masks = R .masks;
-        grouped = R .grouped;
+        chain = R .chain;
         queue = R .queue;
         tallied = R .tallied ∙ sym (over-zeroed (2 * begins .kept) (talliesOf (contextOf K₀)) t tallies-all);
         fits = subst (λ k. length (pairRowsOf (contextOf K₀)) ≤ k / 3 * 3) (sym ep) (R .fits);

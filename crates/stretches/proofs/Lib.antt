@@ -1,4 +1,3 @@
-pub mod RisingRows
-pub mod QueueLaws
-pub mod AfterFlood
-mod Reading
+pub mod LowElevations
+pub mod UpTo
+pub mod Adding

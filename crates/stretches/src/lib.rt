@@ -1,63 +1,38 @@
-// The record of a region, from its own stretch of the queue that the flood left: time linear in the cells of the stretch.
+// Along the stretches of a map: at the first cell of a stretch the queue has where it ends, and all its cells have one label. The record of a region with the cells
+// of a stretch added.
 ghost use mathlib.Core.Path.{_≡_};
-ghost use Prim.Native.Nat.{_≤_};
+ghost use Prim.Native.Nat.{ℕ, _<_};
 ghost use lib.ListN.{length, getD};
-ghost use Rattle.definitions.specs.Scan.{countBelow, bit};
-ghost use Rattle.definitions.specs.Grid.{Map, isWalkable};
-ghost use Rattle.stretches.specs.Made.{Begins, Made};
+ghost use Rattle.definitions.specs.Grid.{Map};
+ghost use Rattle.definitions.specs.Partition.{labels};
+ghost use Rattle.context.specs.Records.{recordOf};
+ghost use Rattle.stretches.specs.Stretches.{regionUpTo, Read, Adding};
 use context::Region;
 use plain_numbers::wide;
 
-// A region's record, and the place of the queue after the region's stretch.
+// Where a stretch ends, and the label of its cells: 0 where it is of no region.
 pub struct Stretch {
-    pub region: Region,
-    pub next: usize,
+    pub end: usize,
+    pub label: usize,
 }
 
-// The last bit of a byte: 1 of a walkable cell.
-fn last_bit(x: u8) -> usize
-    ensures { λ r. ⌜ (r ≡ bit (isWalkable x)) × (r ≤ 1) ⌝ }
+// The stretch that begins at cell c.
+pub fn stretch_at(labels: &[u32], queue: &[u32], c: usize) -> Stretch
+    requires { ⌜ (c < length (now labels)) × (c < length (now queue)) ⌝ }
+    ensures { λ r. ⌜ Read (now (labels .entry)) (now (queue .entry)) c r ⌝ }
 {
-    (x % 2) as usize
-}
-
-// How many cells are walkable: beyond so many, the queue holds what was lent.
-pub fn walkable_count(cells: &[u8]) -> usize
-    ensures { λ r. ⌜ r ≡ countBelow (length (now (cells .entry))) (λ c. isWalkable (getD (now (cells .entry)) c 0)) ⌝ }
-{
-    let mut count = 0;
-    let mut i = 0;
-    while i < cells.len() {
-        count += last_bit(cells[i]);
-        i += 1;
+    Stretch {
+        end: wide(queue[c]),
+        label: wide(labels[c]),
     }
-    count
 }
 
-// The record of region `id`, whose stretch begins at place `from` of a queue of `end` cells.
-pub fn region_from(
-    width: usize,
-    cells: &[u8],
-    labels: &[u32],
-    queue: &[u32],
-    from: usize,
-    end: usize,
-    id: u32,
-) -> Stretch
-    requires { ⌜ ((M : Map) × Begins M width (now cells) (now labels) (now queue) from end id) ⌝ }
-    ensures { λ r. ⌜ ((M : Map) →
-        Begins M width (now (cells .entry)) (now (labels .entry)) (now (queue .entry)) from end id →
-        Made M (now (queue .entry)) id r) ⌝ }
+// The record with the cells of a stretch, those from `from` to before `end`, added to those before them.
+pub fn with_stretch(region: Region, width: usize, cells: &[u8], from: usize, end: usize) -> Region
+    requires { ⌜ ((M : Map) × (id : ℕ) × Adding M width (now cells) from end id (recordOf region)) ⌝ }
+    ensures { λ r. ⌜ ((M : Map) (id : ℕ) →
+        Adding M width (now (cells .entry)) from end id (recordOf region) →
+        recordOf r ≡ regionUpTo M (labels M) id end) ⌝ }
 {
-    let mut region = Region::empty();
-    let mut at = from;
-    while at < end {
-        let c = wide(queue[at]);
-        if labels[c] != id {
-            return Stretch { region, next: at };
-        }
-        region = region.with_cell(c % width, c / width, cells[c]);
-        at += 1;
-    }
-    Stretch { region, next: at }
+    region.with_run(from % width, from / width, cells, from, end)
 }

@@ -27,7 +27,7 @@ use Rattle.laws.specs.RegionLaws.Tallies.{tallies-length}
 use Rattle.areas.proofs.Labelling.{zeroed-again}
 use Rattle.areas.proofs.Dividing.{labels-shown}
 use Rattle.stretches.specs.Queue.{Shown}
-use Rattle.stretches.proofs.AfterFlood.{low-elevations}
+use Rattle.stretches.proofs.LowElevations.{low-elevations}
 use Rattle.context.specs.declared.Region.{Region}
 use Rattle.context.specs.Records.{recordOf}
 use Rattle.pass_lists.specs.Finished.{Finishes, Finished}
@@ -129,7 +129,7 @@ module _ {B : Begun} {pass w h : ℕ} {cells spans boundaries anchors : List ℕ
               labelsLong = omega (arith, ready-fit (G .ready .ready) .labelsLong, G .labelsLong, longL₃);
               labels = labels-shown K l (N .filled);
               queueLong = omega (arith, ready-fit (G .ready .ready) .queueLong, G .queueLong, longQ, longQ₃);
-              queue = N .grouped;
+              chain = N .chain;
               low = low-elevations K bytes-long (ready-accepted (G .ready .ready) .elevations);
             }
 

@@ -13,7 +13,7 @@ use Rattle.definitions.specs.AtExit.{recordsOf}
 use Rattle.laws.specs.ListLaws.Lists.{length-run, getD-tab}
 use Rattle.context.specs.declared.Region.{Region}
 use Rattle.context.specs.Records.{recordOf, maxCells, Counted}
-use Rattle.context.proofs.RecordFrom.{region-counted}
+use Rattle.context.proofs.RecordCounts.{region-counted}
 use Rattle.topology.specs.Filled.{Filled}
 
 -- the record of region r stands at r - 1

@@ -1,15 +1,37 @@
 // The records of a map, put into the lent slice, and records cleared.
 use crate::slice::put_record;
+use crate::slice::record_at;
 use context::Region;
-use stretches::region_from;
-use stretches::walkable_count;
+use stretches::stretch_at;
+use stretches::with_stretch;
 ghost use Prim.Native.Nat.{_≤_};
 ghost use lib.ListN.{length};
 ghost use Rattle.definitions.specs.Grid.{Map};
-ghost use Rattle.topology.specs.Filled.{Fills, Filled, Emptied, Renewed};
+ghost use Rattle.topology.specs.Filled.{Fills, Filled, Adds, Added, Emptied, Renewed};
 
-// One record a region, from the queue as the flood left it: region r's stands at r - 1. The queue holds as many cells as are walkable, region by region, and
-// beyond them what was lent.
+// Adds the cells of a stretch, those from `from` to before `end`, to the record of its region. Label 0 is of no region.
+pub fn add_stretch(
+    records: &mut [Region],
+    width: usize,
+    cells: &[u8],
+    from: usize,
+    end: usize,
+    label: usize,
+)
+    requires { ⌜ ((M : Map) × Adds M width (now cells) from end label (now records)) ⌝ }
+    ensures { λ _. ⌜ ((M : Map) →
+        Adds M width (now (cells .entry)) from end label (now (records .entry)) →
+        Added M end label (now (records .entry)) (now (records .exit))) ⌝ }
+{
+    if label > 0 {
+        let i = label - 1;
+        let region = record_at(records, i);
+        let more = with_stretch(region, width, cells, from, end);
+        put_record(records, i, more);
+    }
+}
+
+// One record a region, along the chain of stretches: region r's stands at r - 1.
 pub fn fill(
     records: &mut [Region],
     regions: usize,
@@ -23,15 +45,13 @@ pub fn fill(
         Fills M (length (now (records .entry))) regions width (now (cells .entry)) (now (labels .entry)) (now (queue .entry)) →
         Filled M (now (records .entry)) (now (records .exit))) ⌝ }
 {
-    let end = walkable_count(cells);
-    let mut from = 0;
-    let mut i = 0;
-    while i < regions {
-        let id = i as u32 + 1;
-        let s = region_from(width, cells, labels, queue, from, end, id);
-        put_record(records, i, s.region);
-        from = s.next;
-        i += 1;
+    clear_records(records, regions);
+    let end = cells.len();
+    let mut c = 0;
+    while c < end {
+        let s = stretch_at(labels, queue, c);
+        add_stretch(records, width, cells, c, s.end, s.label);
+        c = s.end;
     }
 }
 

@@ -1,9 +1,9 @@
--- `records::ramp_bit` meets its contract: a digit is 1 or 0. Assumes nothing.
+-- `runs::ramp_bit` meets its contract: a digit is 1 or 0. Assumes nothing.
 use Prim.Native.Nat.{_/_}
 use borrow.Author.Needs.{needs}
 use Rattle.context.proofs.Ones.{digit-is}
-use Rattle.context.proofs.records.ramp_bit.Statement.{statement}
-use Rattle.context.proofs.records.ramp_bit.Tie as tie
+use Rattle.context.proofs.runs.ramp_bit.Statement.{statement}
+use Rattle.context.proofs.runs.ramp_bit.Tie as tie
 
 cast-result : tie.Need-cast-result
 cast-result c = search needs

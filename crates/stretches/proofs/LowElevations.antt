@@ -1,4 +1,4 @@
--- What the flood's contract and check 9 of the table give is what `region_from` and `fill` ask. Assumes nothing.
+-- What check 9 of the table gives is what is asked of elevations where records are made. Assumes nothing.
 use Prim.Native.Nat.{ℕ, _<_}
 use native.Mathlib.Omega.{arith}
 use mathlib.Core.Path.{_≡_, sym, ap, _∙_}
