@@ -22,7 +22,9 @@ use Rattle.game.specs.Ranks.{isFound, servesBy, verdictBy}
 use Rattle.game.specs.RankLaws.{verdict-by}
 use Rattle.game.specs.Graph.{placeAt, numbersOf, placeCount, graphOf, verdictNumbers}
 use Rattle.game.specs.EntryLaws.{numbers-length}
-use Rattle.game_solver.specs.Words.{bitAt, Near, Plays, rankPlace, rankAt, Ranked, at, verdictsBy}
+use Rattle.game_sets.specs.Words.{bitAt, Near, Plays}
+use Rattle.game_search.specs.Words.{rankPlace, rankAt, Ranked, at}
+use Rattle.game_solver.specs.Words.{verdictsBy}
 
 -- ---- the least
 

@@ -1,94 +1,12 @@
--- The words of the contracts below the operation: rows of sets, ranks, and what they say of a game. In code regions count from 0. Definitions only; assumes
--- nothing.
-use Prim.Native.Nat.{ℕ, suc, _+_, _-_, _*_, _/_, _%_, _≤_, _<_}
-use mathlib.Core.Path.{_≡_}
-use mathlib.Core.Bool.{Bool, not, _&&_, _||_, cond}
+-- The words of the contracts of the verdicts. In code regions count from 0. Definitions only; assumes nothing.
+use Prim.Native.Nat.{ℕ, _≤_, _<_}
 use mathlib.Core.List.{List}
-use lib.ListN.{length, getD}
-use lib.Dec.{eqb, ltb}
-use Rattle.definitions.specs.Scan.{anyBelow, allBelow, gather}
-use Rattle.definitions.specs.RegionRecord.{hasBit}
-use Rattle.game.specs.Game.{Game, Place, isStep, Inside}
+use lib.ListN.{length}
+use Rattle.definitions.specs.Scan.{gather}
+use Rattle.game.specs.Game.{Game}
 use Rattle.game.specs.Ranks.{verdictBy}
-use Rattle.game.specs.RankLaws.{rankOf}
 use Rattle.game.specs.Graph.{maxGameRegions, verdictsRoom, placeAt, numbersOf}
-
--- ---- sets
-
--- bit j of number i of a list
-abbrev pub bitAt : List ℕ → ℕ → ℕ → Bool
-bitAt l i j = hasBit (getD l i 0) j
-
--- the two have a region in common
-unfoldable pub doMeet : ℕ → ℕ → Bool
-unfolding anyBelow
-doMeet a b = anyBelow maxGameRegions (λ d. hasBit a d && hasBit b d)
-
--- bit i of each number is region i + 1 if a step leads there
-abbrev pub Near : Game → List ℕ → Type 0
-Near G near = (i j : ℕ) → i < maxGameRegions → j < maxGameRegions → bitAt near i j ≡ isStep G (suc i) (suc j)
-
--- G is the game of these steps, regions and goal
-pub record Plays (near : List ℕ) (regions goal : ℕ) (G : Game) : Type 0 where
-  pub regionsAre : G .regions ≡ regions
-  pub goalIs : G .goal ≡ suc goal
-  pub steps : Near G near
-
--- what every function below the operation asks for
-pub record Sized (regions goal : ℕ) : Type 0 where
-  pub few : regions ≤ maxGameRegions
-  pub inside : goal < regions
-
--- ---- a sweep
-
--- the runner on j + 1 is not captured, and stands on the goal or gets into the set by one step
-unfoldable pub runnerBit : List ℕ → ℕ → ℕ → ℕ → ℕ → Bool
-unfolding doMeet
-runnerBit near goal set g j = not (eqb j g) && (eqb j goal || doMeet (getD near j 0) set)
-
--- the runner on j + 1 is in every set that the guard can go to, or on a goal where the guard is not
-unfoldable pub guardBit : List ℕ → ℕ → ℕ → List ℕ → ℕ → ℕ → Bool
-unfolding allBelow
-guardBit near regions goal sets g j = allBelow regions (λ d. not (bitAt near g d) || bitAt sets d j) || (not (eqb g goal) && eqb j goal)
-
-pub record Swept (near : List ℕ) (regions goal : ℕ) (runner guard nextRunner nextGuard : List ℕ) : Type 0 where
-  pub runners : (g j : ℕ) → g < regions → j < regions → bitAt nextRunner g j ≡ runnerBit near goal (getD guard g 0) g j
-  pub guards : (g j : ℕ) → g < regions → j < regions → bitAt nextGuard g j ≡ guardBit near regions goal runner g j
-
--- ---- ranks
-
--- where the rank of a place stands: runner on r + 1, guard on g + 1, the runner to move or not
-abbrev pub rankPlace : ℕ → ℕ → Bool → ℕ
-rankPlace r g t = 64 * r + 2 * g + cond t 0 1
-
-abbrev pub rankAt : List ℕ → Place → ℕ
-rankAt ranks x = getD ranks (rankPlace (x .runner - 1) (x .guard - 1) (x .runnersTurn)) 0
-
--- the set in which the place of rank i is found
-abbrev pub setFor : List ℕ → List ℕ → ℕ → ℕ
-setFor runner guard i = cond (eqb (i % 2) 0) (getD runner (i % 64 / 2) 0) (getD guard (i % 64 / 2) 0)
-
--- region j + 1 is in the new set and not in the old one
-abbrev pub isNew : ℕ → ℕ → ℕ → Bool
-isNew old new j = hasBit new j && not (hasBit old j)
-
--- the place of rank i is in its new set and not in its old one
-abbrev pub isFoundNow : List ℕ → List ℕ → List ℕ → List ℕ → ℕ → Bool
-isFoundNow runner guard runners guards i = isNew (setFor runner guard i) (setFor runners guards i) (i / 64)
-
--- such a place gets this rank
-abbrev pub rankedBy : List ℕ → List ℕ → List ℕ → List ℕ → ℕ → List ℕ → ℕ → ℕ
-rankedBy runner guard runners guards rank ranks i = cond (isFoundNow runner guard runners guards i) rank (getD ranks i 0)
-
--- the ranks are those of the game
-abbrev pub Ranked : Game → List ℕ → Type 0
-Ranked G ranks = (x : Place) → Inside G x → rankAt ranks x ≡ rankOf G x
-
--- ---- verdicts
-
--- runner on r + 1, guard on g + 1
-abbrev pub at : ℕ → ℕ → Bool → Place
-at r g t = record { runner = suc r; guard = suc g; runnersTurn = t }
+use Rattle.game_search.specs.Words.{Sized, rankAt}
 
 -- the verdicts of the first n places, by the ranks
 unfoldable pub verdictsBy : Game → List ℕ → ℕ → List ℕ

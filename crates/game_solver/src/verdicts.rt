@@ -10,9 +10,11 @@ ghost use Rattle.game.specs.Game.{Game};
 ghost use Rattle.game.specs.Search.{leastBelow};
 ghost use Rattle.game.specs.Ranks.{servesBy, verdictBy};
 ghost use Rattle.game.specs.Graph.{numbersOf, placeCount};
-ghost use Rattle.game_solver.specs.Words.{Plays, rankPlace, rankAt, at, verdictsBy, AtPlace, Fits};
+ghost use Rattle.game_sets.specs.Words.{Plays};
+ghost use Rattle.game_search.specs.Words.{rankPlace, rankAt, at};
+ghost use Rattle.game_solver.specs.Words.{verdictsBy, AtPlace, Fits};
 ghost use Rattle.game_solver.specs.Forms.{numbersIn};
-use crate::sets::has;
+use game_sets::sets::has;
 
 // Who wins, 1 for the runner and 2 for the guard; the moves; the region.
 pub struct Verdict {

@@ -7,7 +7,7 @@ use lib.Dec.{eqb, ltb}
 use lib.ListN.{getD}
 use borrow.Author.Tests.{eq-eqb, ne-eqb, not-true, not-false}
 use Rattle.game.specs.Ranks.{servesBy}
-use Rattle.game_solver.specs.Words.{rankPlace, rankAt, at}
+use Rattle.game_search.specs.Words.{rankPlace, rankAt, at}
 use Rattle.game_solver.proofs.Reading.{runner-served, guard-served}
 use borrow.Author.Needs.{needs}
 use Rattle.game_solver.proofs.verdicts.serves.Statement.{statement}

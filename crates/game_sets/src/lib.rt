@@ -1,0 +1,3 @@
+// Sets of regions, and where a step leads from each region of a graph.
+pub mod neighbours;
+pub mod sets;
