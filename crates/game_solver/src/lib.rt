@@ -8,13 +8,10 @@ ghost use Rattle.definitions.specs.Lists.{overwrite};
 ghost use Rattle.game.specs.Graph.{graphOf, edgesIn, maxGameRegions, verdictsRoom, placeCount, solveAnswer, verdictNumbers, Solves};
 ghost use Rattle.game_sets.specs.Words.{Near};
 ghost use Rattle.game_solver.specs.Forms.{answerIn};
-
-pub mod verdicts;
-
+use game_search::search;
 use game_sets::neighbours::find_neighbours;
 use game_sets::neighbours::find_row_neighbours;
-use game_search::search;
-use crate::verdicts::put_verdicts;
+use game_verdicts::put_verdicts;
 
 const MAX_REGIONS: u64 = 32;
 

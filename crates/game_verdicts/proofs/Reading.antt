@@ -24,7 +24,7 @@ use Rattle.game.specs.Graph.{placeAt, numbersOf, placeCount, graphOf, verdictNu
 use Rattle.game.specs.EntryLaws.{numbers-length}
 use Rattle.game_sets.specs.Words.{bitAt, Near, Plays}
 use Rattle.game_search.specs.Words.{rankPlace, rankAt, Ranked, at}
-use Rattle.game_solver.specs.Words.{verdictsBy}
+use Rattle.game_verdicts.specs.Words.{verdictsBy}
 
 -- ---- the least
 
@@ -313,11 +313,14 @@ place-parts regions c h = (div-lt-iff-lt-mul some .1 half, mod-lt (c / 2) some)
         positive zero l = absurd (omega arith)
         positive (suc n) l = omega arith
 
-pub places-few : (regions : ℕ) → regions ≤ 32 → placeCount regions ≤ 2048
-places-few regions h = omega (arith, grid)
+pub square-few : (regions : ℕ) → regions ≤ 32 → regions * regions ≤ 1024
+square-few regions h = grid
   where
     grid : regions * regions ≤ 32 * 32
     grid = mul-le-mul h h
+
+pub places-few : (regions : ℕ) → regions ≤ 32 → placeCount regions ≤ 2048
+places-few regions h = omega (arith, square-few regions h)
 
 -- ---- a graph's verdicts
 

@@ -1,11 +1,11 @@
--- `verdicts::region_for` meets its contract. The loop's invariant (`NoneBefore`): no region before d serves. Assumes nothing.
+-- `region_for` meets its contract. The loop's invariant (`NoneBefore`): no region before d serves. Assumes nothing.
 use Prim.Native.Nat.{_-_}
 use native.Mathlib.Omega.{arith}
 use mathlib.Core.Path.{sym, ap, _∙_}
-use Rattle.game_solver.proofs.Reading.{NoneBefore, none-starts, none-more, none-found, none-ends}
+use Rattle.game_verdicts.proofs.Reading.{NoneBefore, none-starts, none-more, none-found, none-ends}
 use borrow.Author.Needs.{needs}
-use Rattle.game_solver.proofs.verdicts.region_for.Statement.{statement}
-use Rattle.game_solver.proofs.verdicts.region_for.Tie as tie
+use Rattle.game_verdicts.proofs.region_for.Statement.{statement}
+use Rattle.game_verdicts.proofs.region_for.Tie as tie
 
 abbrev Inv-loop : tie.InvT-loop
 Inv-loop near ranks regions r g turn d₀ d = NoneBefore near ranks regions r g turn d

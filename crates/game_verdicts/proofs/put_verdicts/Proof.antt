@@ -1,11 +1,10 @@
--- `verdicts::put_verdicts` meets its contract. The loop's invariant (`Putting`): the verdicts of the first c places are stored. Assumes nothing.
+-- `put_verdicts` meets its contract. The loop's invariant (`Putting`): the verdicts of the first c places are stored. Assumes nothing.
 use Prim.Native.Nat.{_-_}
 use native.Mathlib.Omega.{arith}
-use Rattle.game_solver.proofs.Answering.{square-few}
-use Rattle.game_solver.proofs.Reading.{Putting, putting-starts, putting-more, putting-ends, place-parts, places-few}
+use Rattle.game_verdicts.proofs.Reading.{square-few, Putting, putting-starts, putting-more, putting-ends, place-parts, places-few}
 use borrow.Author.Needs.{needs}
-use Rattle.game_solver.proofs.verdicts.put_verdicts.Statement.{statement}
-use Rattle.game_solver.proofs.verdicts.put_verdicts.Tie as tie
+use Rattle.game_verdicts.proofs.put_verdicts.Statement.{statement}
+use Rattle.game_verdicts.proofs.put_verdicts.Tie as tie
 
 abbrev Inv-loop : tie.InvT-loop
 Inv-loop near ranks regions goal verdicts₀ count c₀ verdicts c = Putting near regions goal ranks verdicts₀ c verdicts

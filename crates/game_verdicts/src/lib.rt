@@ -12,8 +12,8 @@ ghost use Rattle.game.specs.Ranks.{servesBy, verdictBy};
 ghost use Rattle.game.specs.Graph.{numbersOf, placeCount};
 ghost use Rattle.game_sets.specs.Words.{Plays};
 ghost use Rattle.game_search.specs.Words.{rankPlace, rankAt, at};
-ghost use Rattle.game_solver.specs.Words.{verdictsBy, AtPlace, Fits};
-ghost use Rattle.game_solver.specs.Forms.{numbersIn};
+ghost use Rattle.game_verdicts.specs.Words.{verdictsBy, AtPlace, Fits};
+ghost use Rattle.game_verdicts.specs.Forms.{numbersIn};
 use game_sets::sets::has;
 
 // Who wins, 1 for the runner and 2 for the guard; the moves; the region.

@@ -1,4 +1,4 @@
--- `verdicts::serves` meets its contract, by who is to move and whether a step leads there. Assumes nothing.
+-- `serves` meets its contract, by who is to move and whether a step leads there. Assumes nothing.
 use Prim.Native.Nat.{suc}
 use native.Mathlib.Omega.{arith}
 use mathlib.Core.Path.{sym, ap, _∙_}
@@ -8,10 +8,10 @@ use lib.ListN.{getD}
 use borrow.Author.Tests.{eq-eqb, ne-eqb, not-true, not-false}
 use Rattle.game.specs.Ranks.{servesBy}
 use Rattle.game_search.specs.Words.{rankPlace, rankAt, at}
-use Rattle.game_solver.proofs.Reading.{runner-served, guard-served}
+use Rattle.game_verdicts.proofs.Reading.{runner-served, guard-served}
 use borrow.Author.Needs.{needs}
-use Rattle.game_solver.proofs.verdicts.serves.Statement.{statement}
-use Rattle.game_solver.proofs.verdicts.serves.Tie as tie
+use Rattle.game_verdicts.proofs.serves.Statement.{statement}
+use Rattle.game_verdicts.proofs.serves.Tie as tie
 
 mul-has : tie.Need-mul-has
 mul-has c = search needs

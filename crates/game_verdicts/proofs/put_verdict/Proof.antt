@@ -1,10 +1,10 @@
--- `verdicts::put_verdict` meets its contract: three stores, one behind the other. Assumes nothing.
+-- `put_verdict` meets its contract: three stores, one behind the other. Assumes nothing.
 use native.Mathlib.Omega.{arith}
 use lib.ListN.{length-set}
-use Rattle.game_solver.proofs.Reading.{three-stored}
+use Rattle.game_verdicts.proofs.Reading.{three-stored}
 use borrow.Author.Needs.{needs}
-use Rattle.game_solver.proofs.verdicts.put_verdict.Statement.{statement}
-use Rattle.game_solver.proofs.verdicts.put_verdict.Tie as tie
+use Rattle.game_verdicts.proofs.put_verdict.Statement.{statement}
+use Rattle.game_verdicts.proofs.put_verdict.Tie as tie
 
 mul-verdicts : tie.Need-mul-verdicts
 mul-verdicts c = search needs

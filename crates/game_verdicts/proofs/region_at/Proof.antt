@@ -1,10 +1,10 @@
--- `verdicts::region_at` meets its contract: play is over, the winner is not to move, or a region is named. Assumes nothing.
+-- `region_at` meets its contract: play is over, the winner is not to move, or a region is named. Assumes nothing.
 use native.Mathlib.Omega.{arith}
 use mathlib.Core.Path.{sym, _∙_}
-use Rattle.game_solver.proofs.Reading.{over-unnamed, runner-idle, guard-idle, region-told}
+use Rattle.game_verdicts.proofs.Reading.{over-unnamed, runner-idle, guard-idle, region-told}
 use borrow.Author.Needs.{needs}
-use Rattle.game_solver.proofs.verdicts.region_at.Statement.{statement}
-use Rattle.game_solver.proofs.verdicts.region_at.Tie as tie
+use Rattle.game_verdicts.proofs.region_at.Statement.{statement}
+use Rattle.game_verdicts.proofs.region_at.Tie as tie
 
 returns : tie.Need-returns
 returns c =

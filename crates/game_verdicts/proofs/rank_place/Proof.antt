@@ -1,8 +1,8 @@
--- `verdicts::rank_place` meets its contract. Assumes nothing.
-use Rattle.game_solver.proofs.Reading.{place-is}
+-- `rank_place` meets its contract. Assumes nothing.
+use Rattle.game_verdicts.proofs.Reading.{place-is}
 use borrow.Author.Needs.{needs}
-use Rattle.game_solver.proofs.verdicts.rank_place.Statement.{statement}
-use Rattle.game_solver.proofs.verdicts.rank_place.Tie as tie
+use Rattle.game_verdicts.proofs.rank_place.Statement.{statement}
+use Rattle.game_verdicts.proofs.rank_place.Tie as tie
 
 mul-result : tie.Need-mul-result
 mul-result c = search needs

@@ -1,10 +1,10 @@
--- `verdicts::verdict_of` meets its contract. Assumes nothing.
+-- `verdict_of` meets its contract. Assumes nothing.
 use Prim.Native.Nat.{_-_}
 use native.Mathlib.Omega.{arith}
-use Rattle.game_solver.proofs.Reading.{guards-verdict, runners-verdict}
+use Rattle.game_verdicts.proofs.Reading.{guards-verdict, runners-verdict}
 use borrow.Author.Needs.{needs}
-use Rattle.game_solver.proofs.verdicts.verdict_of.Statement.{statement}
-use Rattle.game_solver.proofs.verdicts.verdict_of.Tie as tie
+use Rattle.game_verdicts.proofs.verdict_of.Statement.{statement}
+use Rattle.game_verdicts.proofs.verdict_of.Tie as tie
 
 returns : tie.Need-returns
 returns c = guards-verdict (c .before .args .rank) (c .before .args .region) (c .if1 .taken)

@@ -1,12 +1,12 @@
--- `verdicts::verdict_at` meets its contract. Assumes nothing.
+-- `verdict_at` meets its contract. Assumes nothing.
 use native.Mathlib.Omega.{arith}
 use mathlib.Core.Path.{sym, ap, _∙_}
 use lib.ListN.{getD}
 use lib.Dec.{eqb}
-use Rattle.game_solver.proofs.Reading.{back, verdict-told}
+use Rattle.game_verdicts.proofs.Reading.{back, verdict-told}
 use borrow.Author.Needs.{needs}
-use Rattle.game_solver.proofs.verdicts.verdict_at.Statement.{statement}
-use Rattle.game_solver.proofs.verdicts.verdict_at.Tie as tie
+use Rattle.game_verdicts.proofs.verdict_at.Statement.{statement}
+use Rattle.game_verdicts.proofs.verdict_at.Tie as tie
 
 rank-place-requires : tie.Need-rank-place-requires
 rank-place-requires c κs =
