@@ -21,7 +21,7 @@ use Rattle.game.specs.Settled.{wins-more, wins-le, over-wins, found-by-then}
 use Rattle.game.specs.RankLaws.{sweep-same, fewest-new, fewest-none, rankOf}
 use Rattle.game_sets.specs.Words.{bitAt, Plays}
 use Rattle.game_search.specs.Words.{Swept, rankPlace, rankAt, setFor, rankedBy, Ranked, at}
-use Rattle.game_search.proofs.Rows.{zero-bit}
+use Rattle.game_sets.proofs.Rows.{zero-bit}
 use Rattle.game_search.proofs.Sweeps.{place-in, runner-bit-is, guard-bit-is}
 
 module _ (G : Game) where

@@ -15,8 +15,8 @@ use Rattle.laws.specs.ListLaws.Below.{below-ext, all-below-at}
 use Rattle.game.specs.Game.{Game, Place, mover, moveTo, isCaptured, isRegion, isStep, isMove, runnerHasWon, isOver, Inside}
 use Rattle.game.specs.Search.{someMove, everyMove, sweep}
 use Rattle.game.specs.Sweeps.{sweep-over, sweep-runner, sweep-guard}
-use Rattle.game_sets.specs.Words.{bitAt, doMeet, Near, Plays}
-use Rattle.game_search.specs.Words.{runnerBit, guardBit, at}
+use Rattle.game_sets.specs.Words.{bitAt, doMeet, Near, Plays, runnerBit, guardBit}
+use Rattle.game_search.specs.Words.{at}
 
 -- ---- scans moved by one
 

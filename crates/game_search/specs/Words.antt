@@ -2,16 +2,15 @@
 -- assumes nothing.
 use Prim.Native.Nat.{ℕ, suc, _+_, _-_, _*_, _/_, _%_, _≤_, _<_}
 use mathlib.Core.Path.{_≡_}
-use mathlib.Core.Bool.{Bool, not, _&&_, _||_, cond}
+use mathlib.Core.Bool.{Bool, not, _&&_, cond}
 use mathlib.Core.List.{List}
 use lib.ListN.{getD}
 use lib.Dec.{eqb}
-use Rattle.definitions.specs.Scan.{allBelow}
 use Rattle.definitions.specs.RegionRecord.{hasBit}
 use Rattle.game.specs.Game.{Game, Place, Inside}
 use Rattle.game.specs.RankLaws.{rankOf}
 use Rattle.game.specs.Graph.{maxGameRegions}
-use Rattle.game_sets.specs.Words.{bitAt, doMeet}
+use Rattle.game_sets.specs.Words.{bitAt, runnerBit, guardBit}
 
 -- what every function below the operation asks for
 pub record Sized (regions goal : ℕ) : Type 0 where
@@ -19,16 +18,6 @@ pub record Sized (regions goal : ℕ) : Type 0 where
   pub inside : goal < regions
 
 -- ---- a sweep
-
--- the runner on j + 1 is not captured, and stands on the goal or gets into the set by one step
-unfoldable pub runnerBit : List ℕ → ℕ → ℕ → ℕ → ℕ → Bool
-unfolding doMeet
-runnerBit near goal set g j = not (eqb j g) && (eqb j goal || doMeet (getD near j 0) set)
-
--- the runner on j + 1 is in every set that the guard can go to, or on a goal where the guard is not
-unfoldable pub guardBit : List ℕ → ℕ → ℕ → List ℕ → ℕ → ℕ → Bool
-unfolding allBelow
-guardBit near regions goal sets g j = allBelow regions (λ d. not (bitAt near g d) || bitAt sets d j) || (not (eqb g goal) && eqb j goal)
 
 pub record Swept (near : List ℕ) (regions goal : ℕ) (runner guard nextRunner nextGuard : List ℕ) : Type 0 where
   pub runners : (g j : ℕ) → g < regions → j < regions → bitAt nextRunner g j ≡ runnerBit near goal (getD guard g 0) g j

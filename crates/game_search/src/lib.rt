@@ -2,59 +2,24 @@
 // wins. A place that a sweep finds gets one more than the sweep's moves as its rank; the sweeps end when one finds nothing.
 ghost use mathlib.Core.Path.{_≡_};
 ghost use mathlib.Core.Bool.{_&&_, cond};
-ghost use Prim.Native.Nat.{ℕ, suc, _/_, _%_, _≤_, _<_};
+ghost use Prim.Native.Nat.{ℕ, _/_, _%_, _<_};
 ghost use lib.Dec.{eqb};
 ghost use lib.ListN.{length, getD, replicate};
-ghost use Rattle.definitions.specs.RegionRecord.{hasBit};
 ghost use Rattle.game.specs.Game.{Game};
 ghost use Rattle.game_sets.specs.Words.{Plays};
-ghost use Rattle.game_search.specs.Words.{Sized, runnerBit, guardBit, Swept, setFor, isNew, rankedBy, Ranked};
+ghost use Rattle.game_search.specs.Words.{Sized, Swept, setFor, isNew, rankedBy, Ranked};
+
+pub mod neighbours;
+
+use game_sets::moves::guard_row;
+use game_sets::moves::runner_row;
 use game_sets::sets::are_same;
-use game_sets::sets::common_if;
 use game_sets::sets::has;
-use game_sets::sets::meet;
-use game_sets::sets::with_if;
 
 // One more than the places of 33 regions, of which each sweep but the last finds one, and one for the last.
 const MAX_SWEEPS: u32 = 2180;
 
 const RANKS_PER_RUNNER: usize = 64;
-
-// Whether the runner on r + 1, himself to move and the guard on g + 1, has won or gets into the set.
-fn runner_wins(near: &[u32; 32], goal: usize, set: u32, g: usize, r: usize) -> bool
-    requires { ⌜ r < 32 ⌝ }
-    ensures { λ s. ⌜ s ≡ runnerBit (now (near .entry)) goal set g r ⌝ }
-{
-    (r != g) & ((r == goal) | meet(near[r], set))
-}
-
-// The runner's regions from which he does.
-fn runner_row(near: &[u32; 32], regions: usize, goal: usize, set: u32, g: usize) -> u32
-    requires { ⌜ regions ≤ 32 ⌝ }
-    ensures { λ s. ⌜ ((j : ℕ) → j < regions → hasBit s j ≡ runnerBit (now (near .entry)) goal set g j) ⌝ }
-{
-    let mut row = 0;
-    let mut r = 0;
-    while r < regions {
-        row = with_if(row, r, runner_wins(near, goal, set, g, r));
-        r += 1;
-    }
-    row
-}
-
-// The runner's regions that are in every set that the guard on g + 1 can go to, and the goal where the guard is not.
-fn guard_row(near: &[u32; 32], regions: usize, goal: usize, sets: &[u32; 32], g: usize) -> u32
-    requires { ⌜ (regions ≤ 32) × (goal < 32) × (g < 32) ⌝ }
-    ensures { λ r. ⌜ ((j : ℕ) → j < 32 → hasBit r j ≡ guardBit (now (near .entry)) regions goal (now (sets .entry)) g j) ⌝ }
-{
-    let mut row = 0xFFFF_FFFF;
-    let mut d = 0;
-    while d < regions {
-        row = common_if(row, sets[d], has(near[g], d));
-        d += 1;
-    }
-    with_if(row, goal, g != goal)
-}
 
 // For each region of the guard, one move more.
 fn sweep(

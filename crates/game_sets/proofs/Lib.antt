@@ -1,3 +1,2 @@
 pub mod Bits
-pub mod Stepping
-pub mod RowEdges
+pub mod Rows

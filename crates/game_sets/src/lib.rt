@@ -1,3 +1,3 @@
-// Sets of regions, and where a step leads from each region of a graph.
-pub mod neighbours;
+// Sets of regions as bits, and which regions of the runner a sweep finds.
+pub mod moves;
 pub mod sets;

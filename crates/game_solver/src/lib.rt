@@ -8,9 +8,9 @@ ghost use Rattle.definitions.specs.Lists.{overwrite};
 ghost use Rattle.game.specs.Graph.{graphOf, edgesIn, maxGameRegions, verdictsRoom, placeCount, solveAnswer, verdictNumbers, Solves};
 ghost use Rattle.game_sets.specs.Words.{Near};
 ghost use Rattle.game_solver.specs.Forms.{answerIn};
+use game_search::neighbours::find_neighbours;
+use game_search::neighbours::find_row_neighbours;
 use game_search::search;
-use game_sets::neighbours::find_neighbours;
-use game_sets::neighbours::find_row_neighbours;
 use game_verdicts::put_verdicts;
 
 const MAX_REGIONS: u64 = 32;

@@ -5,11 +5,11 @@ use mathlib.Core.Path.{sym, ap, ap₂, _∙_}
 use mathlib.Core.Bool.{_&&_, _||_}
 use lib.Dec.{eqb}
 use borrow.Author.Tests.{not-true, not-false}
 use Rattle.game_sets.specs.Words.{bitAt}
-use Rattle.game_sets.proofs.Stepping.{both-regions, pair-joined, pair-none}
+use Rattle.game_search.proofs.Stepping.{both-regions, pair-joined, pair-none}
 use borrow.Author.Needs.{needs}
-use Rattle.game_sets.proofs.neighbours.join_pair.Statement.{statement}
-use Rattle.game_sets.proofs.neighbours.join_pair.Tie as tie
+use Rattle.game_search.proofs.neighbours.join_pair.Statement.{statement}
+use Rattle.game_search.proofs.neighbours.join_pair.Tie as tie
 
 is-region-requires : tie.Need-is-region-requires
 is-region-requires c κs = search needs

@@ -1,10 +1,10 @@
 -- `neighbours::join_selves` meets its contract. The loop's invariant (`Selves`): each of the first i numbers has its own bit only. Assumes nothing.
 use Prim.Native.Nat.{_-_}
 use native.Mathlib.Omega.{arith}
-use Rattle.game_sets.proofs.Stepping.{Selves, selves-more}
+use Rattle.game_search.proofs.Stepping.{Selves, selves-more}
 use borrow.Author.Needs.{needs}
-use Rattle.game_sets.proofs.neighbours.join_selves.Statement.{statement}
-use Rattle.game_sets.proofs.neighbours.join_selves.Tie as tie
+use Rattle.game_search.proofs.neighbours.join_selves.Statement.{statement}
+use Rattle.game_search.proofs.neighbours.join_selves.Tie as tie
 
 abbrev Inv-loop : tie.InvT-loop
 Inv-loop near₀ i₀ near i = Selves i near

@@ -1,10 +1,10 @@
 -- `neighbours::join` meets its contract: one number gets one bit. Assumes nothing.
 use native.Mathlib.Omega.{arith}
 use lib.ListN.{length-set}
-use Rattle.game_sets.proofs.Stepping.{joined}
+use Rattle.game_search.proofs.Stepping.{joined}
 use borrow.Author.Needs.{needs}
-use Rattle.game_sets.proofs.neighbours.join.Statement.{statement}
-use Rattle.game_sets.proofs.neighbours.join.Tie as tie
+use Rattle.game_search.proofs.neighbours.join.Statement.{statement}
+use Rattle.game_search.proofs.neighbours.join.Tie as tie
 
 mul-with : tie.Need-mul-with
 mul-with c = search needs

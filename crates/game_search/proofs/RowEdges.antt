@@ -11,8 +11,8 @@ use borrow.Author.Tests.{ltb-true, ltb-false}
 use Rattle.definitions.specs.Scan.{gather}
 use Rattle.game.specs.Game.{isRegion}
 use Rattle.game.specs.Graph.{joins, edgesIn, graphOf}
 use Rattle.game_sets.specs.Words.{bitAt, Near}
-use Rattle.game_sets.proofs.Stepping.{Joined, joined-none, joined-more, joined-near}
+use Rattle.game_search.proofs.Stepping.{Joined, joined-none, joined-more, joined-near}
 
 module _ (rows : List ℕ) where
   -- the two regions of row k

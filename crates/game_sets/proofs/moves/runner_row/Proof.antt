@@ -1,10 +1,10 @@
--- `search::runner_row` meets its contract. The loop's invariant (`RunnerRow`): the bits below r are put, and no other is set. Assumes nothing.
+-- `moves::runner_row` meets its contract. The loop's invariant (`RunnerRow`): the bits below r are put, and no other is set. Assumes nothing.
 use Prim.Native.Nat.{_-_}
 use native.Mathlib.Omega.{arith}
-use Rattle.game_search.proofs.Rows.{RunnerRow, runner-starts, runner-more, runner-ends}
+use Rattle.game_sets.proofs.Rows.{RunnerRow, runner-starts, runner-more, runner-ends}
 use borrow.Author.Needs.{needs}
-use Rattle.game_search.proofs.runner_row.Statement.{statement}
-use Rattle.game_search.proofs.runner_row.Tie as tie
+use Rattle.game_sets.proofs.moves.runner_row.Statement.{statement}
+use Rattle.game_sets.proofs.moves.runner_row.Tie as tie
 
 abbrev Inv-loop : tie.InvT-loop
 Inv-loop near regions goal set g row₀ r₀ row r = RunnerRow near regions goal set g r row

@@ -7,8 +7,8 @@ ghost use lib.ListN.{length};
 ghost use Rattle.definitions.specs.Limits.{numbersPerPair};
 ghost use Rattle.game.specs.Game.{isRegion};
 ghost use Rattle.game.specs.Graph.{joins, graphOf, edgesIn};
 ghost use Rattle.game_sets.specs.Words.{bitAt, Near};
-use crate::sets::with;
+use game_sets::sets::with;
 
 // Whether d is a region.
 fn is_region(regions: usize, d: u32) -> bool

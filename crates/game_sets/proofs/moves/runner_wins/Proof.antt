@@ -1,11 +1,11 @@
--- `search::runner_wins` meets its contract. Assumes nothing.
+-- `moves::runner_wins` meets its contract. Assumes nothing.
 use mathlib.Core.Path.{ap}
 use mathlib.Core.Bool.{not, _&&_, _||_}
 use lib.Dec.{eqb}
-use Rattle.game_search.specs.Words.{runnerBit}
+use Rattle.game_sets.specs.Words.{runnerBit}
 use borrow.Author.Needs.{needs}
-use Rattle.game_search.proofs.runner_wins.Statement.{statement}
-use Rattle.game_search.proofs.runner_wins.Tie as tie
+use Rattle.game_sets.proofs.moves.runner_wins.Statement.{statement}
+use Rattle.game_sets.proofs.moves.runner_wins.Tie as tie
 
 mul-meet : tie.Need-mul-meet
 mul-meet c = search needs

@@ -1,10 +1,10 @@
--- `search::guard_row` meets its contract. The loop's invariant (`GuardRow`): the row is what all sets so far have in common. Assumes nothing.
+-- `moves::guard_row` meets its contract. The loop's invariant (`GuardRow`): the row is what all sets so far have in common. Assumes nothing.
 use Prim.Native.Nat.{_-_}
 use native.Mathlib.Omega.{arith}
-use Rattle.game_search.proofs.Rows.{GuardRow, guard-starts, guard-more, guard-ends}
+use Rattle.game_sets.proofs.Rows.{GuardRow, guard-starts, guard-more, guard-ends}
 use borrow.Author.Needs.{needs}
-use Rattle.game_search.proofs.guard_row.Statement.{statement}
-use Rattle.game_search.proofs.guard_row.Tie as tie
+use Rattle.game_sets.proofs.moves.guard_row.Statement.{statement}
+use Rattle.game_sets.proofs.moves.guard_row.Tie as tie
 
 abbrev Inv-loop : tie.InvT-loop
 Inv-loop near regions goal sets g row₀ d₀ row d = GuardRow near regions sets g d row
