@@ -8,6 +8,8 @@ from jenwyllt.unproved.hypotenuse import bits
 from jenwyllt.unproved.reference import Lent, Map, groups
 
 WIDTHS = (8.0, 16.0, 24.0, 7.5, 12.0, 11.0, 15.5)
+OWN_FAULTS = ('unfinished', 'anchor', 'pass', 'width', 'kind', 'outside', 'moved', 'missing', 'more', 'away', 'output')
+SHARED_FAULTS = ('side', 'cells', 'unfinished', 'outside', 'equal', 'elevation', 'labels', 'masks', 'queue', 'tallies', 'records', 'pairs')
 
 
 def desk_on(r, m, nines):
@@ -29,11 +31,14 @@ def desk_on(r, m, nines):
     return Desk(r.choice((1, 2, 3)), [n for nine in own for n in nine], anchors, [0] * (5 * len(own)))
 
 
-def own_fault(r, m, desk):
-    """one fault of a desk's own lists"""
+def any_of(r, count):
+    """the number of an entry"""
+    return r.randrange(count) if count else 0
+
+
+def own_fault(r, m, desk, k, which):
+    """one fault of a desk's own lists, of boundary k where it is a boundary's"""
     n = len(desk.boundaries) // 9
-    k = r.randrange(n) if n else 0
-    which = r.choice(('unfinished', 'anchor', 'pass', 'width', 'kind', 'outside', 'moved', 'missing', 'more', 'away', 'output'))
     if which == 'unfinished':
         desk.boundaries.append(1)
     elif which == 'anchor':
@@ -60,11 +65,9 @@ def own_fault(r, m, desk):
         desk.boundaries[at] += 1 if desk.boundaries[at] < 8 else -1
 
 
-def shared_fault(r, m, lent):
-    """one fault of what both share"""
+def shared_fault(r, m, lent, k, which):
+    """one fault of what both share, of span k where it is a span's"""
     n = len(m.spans) // 4
-    k = r.randrange(n) if n else 0
-    which = r.choice(('side', 'cells', 'unfinished', 'outside', 'equal', 'elevation', 'labels', 'masks', 'queue', 'tallies', 'records', 'pairs'))
     if which == 'side':
         m.width = r.choice((0, 1025))
     elif which == 'cells':
@@ -97,24 +100,28 @@ def lend(r, m):
                 filled(r, 3 * (min(4 * n, 200) + 2 * spans) + more, 1000), [record] * (n + more), [])
 
 
-def drawn(count, seed, most_cells=2500):
-    """(number, generator, map, what is lent, route desk, coaching desk), COUNT of them"""
-    k = made = 0
+def terrains(count, seed, most_cells):
+    """(number, generator, map without boundaries, boundaries for the desks), of COUNT maps"""
+    made = 0
     for k, _, m in generate.maps(100 * count + 1000, seed):
         if made == count:
             return
         if len(m.cells) > most_cells:
             continue
-        r = random.Random(f'desks/{seed}/{k}')
         nines = [nine for nine in groups(m.boundaries, 9) if tuple(nine[:2]) != tuple(nine[2:4])]
-        m = Map(1, m.width, m.height, list(m.cells), [n for nine in nines for n in nine[:4]], [], m.anchors)
+        made += 1
+        yield k, random.Random(f'desks/{seed}/{k}'), Map(1, m.width, m.height, list(m.cells), [n for nine in nines for n in nine[:4]], [], m.anchors), nines
+
+
+def drawn(count, seed, most_cells=2500):
+    """(number, generator, map, what is lent, route desk, coaching desk), COUNT of them"""
+    for k, r, m, nines in terrains(count, seed, most_cells):
         route, coaching = desk_on(r, m, nines), desk_on(r, m, nines)
         lent = lend(r, m)
         for desk in (route, coaching):
             desk.output = filled(r, len(desk.output) + r.choice((0, 0, 2)), 1000)
             while r.random() < 0.2:
-                own_fault(r, m, desk)
+                own_fault(r, m, desk, any_of(r, len(desk.boundaries) // 9), r.choice(OWN_FAULTS))
         while r.random() < 0.12:
-            shared_fault(r, m, lent)
-        made += 1
+            shared_fault(r, m, lent, any_of(r, len(m.spans) // 4), r.choice(SHARED_FAULTS))
         yield k, r, m, lent, route, coaching

@@ -3,13 +3,15 @@
     python3 make_desks.py --oracle PROGRAM [--check]
 
 What an accepted desk keeps, and the shared lists beside it, are the oracle's answers to the map with that desk's lists alone; refusals are those of the
-table and of request 9. The rendering in Python must agree with every one, or nothing is written.
+table and of request 9, 5 and 6 the oracle's to the map with no boundaries and no anchors. The rendering in Python must agree with every one, or nothing
+is written.
 """
 import argparse
 import os
 import sys
 
 import package  # noqa: F401
+import desks_equal
 import desks_lists
 import desks_reference
 from compare import Oracle
@@ -26,9 +28,13 @@ def numbers(values):
     return ' '.join(map(str, values))
 
 
+def asked(oracle, m, pass_number, boundaries, anchors):
+    return oracle.ask(sheet_bytes.sheet_of(Map(pass_number, m.width, m.height, m.cells, m.spans, boundaries, anchors)))
+
+
 def by_oracle(oracle, m, desk):
     """what the oracle answers to the map with this desk's lists alone"""
-    answer = oracle.ask(sheet_bytes.sheet_of(Map(desk.pass_number, m.width, m.height, m.cells, m.spans, desk.boundaries, desk.anchors)))
+    answer = asked(oracle, m, desk.pass_number, desk.boundaries, desk.anchors)
     if answer['number']:
         raise ValueError(answer)
     return answer
@@ -38,13 +44,20 @@ def flat(rows):
     return [n for row in rows for n in row]
 
 
-def agree(name, oracle, m, lent, desk, answer, output):
+def agree(oracle, m, lent, desk, answer, output):
     """that the oracle has the rows and the shared lists of an accepted desk"""
     said = by_oracle(oracle, m, desk)
     rows, tallies, pairs = flat(said['rows']), flat(said['tallies']), flat(said['pairs'])
     if (answer != (0, said['value']) or output[:len(rows)] != rows or lent.labels[:len(m.cells)] != said['labels'] or lent.tallies[:len(tallies)] != tallies
             or lent.pairs[:len(pairs)] != pairs or [[*r[:7], *r[7]] for r in lent.records[:said['regions']]] != said['records']):
-        raise ValueError(f'{name}: the rendering differs')
+        raise ValueError(f'{m}: the rendering differs')
+
+
+def agree_refused(oracle, m, answers):
+    """that the oracle refuses these spans so"""
+    said = asked(oracle, m, 1, [], [])
+    if answers != ((said['number'], said['value']),) * 2:
+        raise ValueError(f'{m}: the rendering differs')
 
 
 def left(now, was):
@@ -53,14 +66,24 @@ def left(now, was):
     return now[:changed]
 
 
-def case(oracle, k, m, lent, route, coaching):
+def entry(i):
+    """what each lent list holds before the call"""
+    return 60000 + i % 5000
+
+
+def case(oracle, order, m, lent, route, coaching):
     """a case as it is stored"""
+    for name in SHARED[:-1]:
+        setattr(lent, name, [entry(i) for i in range(min(len(getattr(lent, name)), 200))])
+    for desk in (route, coaching):
+        desk.output = [entry(i) for i in range(len(desk.output))]
     was, before = lent.copy(), [list(desk.output) for desk in (route, coaching)]
-    order = k % 3
     answers = desks_reference.two_desks(m, lent, route, coaching, bool(order))
     for desk, answer in zip((route, coaching), answers, strict=True):
         if answer[0] == 0:
-            agree(k, oracle, m, lent, desk, answer, desk.output)
+            agree(oracle, m, lent, desk, answer, desk.output)
+    if answers[0][0] in (5, 6):
+        agree_refused(oracle, m, answers)
     read = [f'{m.width} {m.height}', numbers(m.cells), numbers(m.spans)]
     for desk, output in zip((route, coaching), before, strict=True):
         read += [str(desk.pass_number), numbers(desk.boundaries), numbers(desk.anchors), str(len(output))]
@@ -71,24 +94,17 @@ def case(oracle, k, m, lent, route, coaching):
     return ';'.join((str(order), *read, room, numbers(n for answer in answers for n in answer), *filled, numbers(flat(records)), *outputs)) + '\n'
 
 
-def entry(i):
-    """what each lent list holds before the call"""
-    return 60000 + i % 5000
-
-
 def cases(oracle):
     made = 0
     for k, _, m, lent, route, coaching in desks_lists.drawn(100000, 'stored', MOST_CELLS):
         if len(m.spans) // 4 > MOST_SPANS or len(m.cells) > MOST_CELLS + 1:
             continue
-        for name in SHARED[:-1]:
-            setattr(lent, name, [entry(i) for i in range(min(len(getattr(lent, name)), 200))])
-        for desk in (route, coaching):
-            desk.output = [entry(i) for i in range(len(desk.output))]
-        yield case(oracle, k, m, lent, route, coaching)
+        yield case(oracle, k % 3, m, lent, route, coaching)
         made += 1
         if made == CASES:
-            return
+            break
+    for call in desks_equal.calls(MOST_CELLS, MOST_SPANS):
+        yield case(oracle, *call)
 
 
 def main():

@@ -81,7 +81,7 @@ class Stored(unittest.TestCase):
                     self.assertEqual(held[:], after(changed, desk.room), call)
                 self.assertEqual([numbers_of(record) for record in records], call.records + [[0] * 11] * (call.room[5] - len(call.records)), call)
                 seen |= {answer.route.number, answer.coaching.number}
-        self.assertEqual(seen, {0, 1, 2, 3, 4, 5, 7, 8, 9, 10, 11, 12, 20})
+        self.assertEqual(seen, {0, 1, 2, 3, 4, 5, 6, 7, 8, 9, 10, 11, 12, 20})
 
 
 def example(name: str) -> Sheet:

@@ -86,5 +86,5 @@ fn stored_calls() {
             seen.extend([route.0, coaching.0]);
         }
     }
-    assert_eq!(seen.into_iter().collect::<Vec<_>>(), [0, 1, 2, 3, 4, 5, 7, 8, 9, 10, 11, 12, 20]);
+    assert_eq!(seen.into_iter().collect::<Vec<_>>(), [0, 1, 2, 3, 4, 5, 6, 7, 8, 9, 10, 11, 12, 20]);
 }

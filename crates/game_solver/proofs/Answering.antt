@@ -1,7 +1,6 @@
 -- When each answer is given: by the four checks in their order, and the verdicts at exit by the answer's number. Assumes nothing.
 use Prim.Native.Nat.{ℕ, _*_, _%_, _≤_, _<_}
 use native.Mathlib.Omega.{arith}
-use native.Mathlib.Nat.{mul-le-mul}
 use mathlib.Core.Path.{_≡_, refl, sym, ap, ap₂, _∙_}
 use mathlib.Core.Bool.{Bool, true, false, _&&_, cond}
 use mathlib.Core.List.{List, [], _∷_}
@@ -13,12 +12,6 @@ use Rattle.definitions.specs.Refusals.{unless}
 use Rattle.definitions.specs.Verdict.{Answer, refusal, firstRefusal}
 use Rattle.game.specs.Game.{Game, isRegion}
 use Rattle.game.specs.Graph.{graphOf, placeCount, solveAnswer, verdictNumbers, verdictsAtExit}
-
-pub square-few : (regions : ℕ) → regions ≤ 32 → regions * regions ≤ 1024
-square-few regions h = grid
-  where
-    grid : regions * regions ≤ 32 * 32
-    grid = mul-le-mul h h
 
 -- by its four checks
 abbrev by : Bool → Bool → Bool → Bool → ℕ → Answer

@@ -6,18 +6,12 @@ ghost use lib.ListN.{length};
 ghost use Rattle.definitions.specs.Limits.{numbersPerPair};
 ghost use Rattle.definitions.specs.Lists.{overwrite};
 ghost use Rattle.game.specs.Graph.{graphOf, edgesIn, maxGameRegions, verdictsRoom, placeCount, solveAnswer, verdictNumbers, Solves};
-ghost use Rattle.game_solver.specs.Words.{Near};
+ghost use Rattle.game_sets.specs.Words.{Near};
 ghost use Rattle.game_solver.specs.Forms.{answerIn};
-
-pub mod neighbours;
-pub mod search;
-pub mod sets;
-pub mod verdicts;
-
-use crate::neighbours::find_neighbours;
-use crate::neighbours::find_row_neighbours;
-use crate::search::search;
-use crate::verdicts::put_verdicts;
+use game_search::neighbours::find_neighbours;
+use game_search::neighbours::find_row_neighbours;
+use game_search::search;
+use game_verdicts::put_verdicts;
 
 const MAX_REGIONS: u64 = 32;
 

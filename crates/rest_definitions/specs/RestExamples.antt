@@ -1,19 +1,21 @@
 -- Runs to rest, computed: one that rests at once, two of three rounds, case J, one in which pass 3 opens the way for pass 1, the refusals that are the call's
--- own, and the lists at exit. Assumes nothing.
+-- own, and the lists at exit. All stand in one list of tests, the shortest first, so that each is computed once. Assumes nothing.
 use Prim.Native.Nat.{ℕ, _*_, _/_}
 use mathlib.Core.Path.{_≡_, refl}
 use mathlib.Core.Bool.{Bool, true, _&&_}
 use mathlib.Core.List.{List, [], _∷_, _++_, map}
-use lib.ListN.{length, replicate, take, drop}
+use lib.ListN.{length, replicate, take, drop, getD}
 use lib.Dec.{eqb}
 use Rattle.definitions.specs.Limits.{numbersPerBoundary, numbersPerSpan}
 use Rattle.definitions.specs.Scan.{all, gather}
+use Rattle.definitions.specs.Grid.{Map}
 use Rattle.definitions.specs.RegionRecord.{emptyRegion}
+use Rattle.definitions.specs.Rows.{flatRows}
 use Rattle.definitions.specs.Verdict.{Lent, mapIn}
-use Rattle.definitions.specs.CaseJ.{mapJ, row}
-use Rattle.definitions.specs.Cases.{width8, regionOfCounts}
-use Rattle.rest_definitions.specs.RowOrder.{startRows}
-use Rattle.rest_definitions.specs.Rest.{roundsOf, restRows}
+use Rattle.definitions.specs.CaseJ.{mapJ}
+use Rattle.definitions.specs.Cases.{width8, regionOfCounts, sameNumbers}
+use Rattle.rest_definitions.specs.RowOrder.{startRows, startMap, noRow}
+use Rattle.rest_definitions.specs.Rest.{rested}
 use Rattle.rest_definitions.specs.RestVerdict.{RestAnswer, restVerdict}
 use Rattle.rest_definitions.specs.RestExit.{restExit}
 
@@ -47,94 +49,19 @@ inputOf w h cells boundaries anchors =
       output = replicate 35 0;
     }
 
--- ---- at rest at once: two cells and the boundary between them
+-- ---- the maps
 
+-- at rest at once: two cells and the boundary between them
 unfoldable pub still : Lent
 unfolding inputOf
 still = inputOf 2 1 (1 ∷ 1 ∷ []) (plain 8 8 8 0) []
 
-pub still-rests : restVerdict still ≡ record { number = 0; value = 1; rounds = 1 }
-unfolding restVerdict still
-still-rests = refl
-
--- ---- three rounds: four cells in a row, the ramp at one end, its list written backwards. A round takes the mouth that is next to the ramp's own region.
-
+-- three rounds: four cells in a row, the ramp at one end, its list written backwards. A round takes the mouth that is next to the ramp's own region.
 unfoldable pub corridor : Lent
 unfolding inputOf
 corridor = inputOf 4 1 (1 ∷ 1 ∷ 1 ∷ 1 ∷ []) (ramp 1 7 24 8 24 0 ++ plain 16 0 16 8 ++ plain 8 0 8 8) []
 
-pub corridor-starts : startRows (mapIn corridor) ≡ row 2 8 0 8 8 ∷ row 1 16 0 16 8 ∷ row 0 24 0 24 8 ∷ []
-unfolding startRows mapIn corridor
-corridor-starts = refl
-
-pub corridor-rests : restVerdict corridor ≡ record { number = 0; value = 1; rounds = 3 }
-unfolding restVerdict corridor
-corridor-rests = refl
-
-pub corridor-rows : restRows (mapIn corridor) ≡ row 0 24 0 24 8 ∷ []
-unfolding restRows mapIn corridor
-corridor-rows = refl
-
--- the same with other lists to fill, each longer than needed, and none of it zero
-unfoldable pub soiled : Lent → Lent
-unfolding regionOfCounts
-soiled L =
-    record {
-      pass = L .pass;
-      width = L .width;
-      height = L .height;
-      cells = L .cells;
-      spans = L .spans;
-      boundaries = L .boundaries;
-      anchors = L .anchors;
-      labels = replicate 5 9;
-      masks = replicate 5 8;
-      queue = replicate 5 7;
-      tallies = replicate 7 5;
-      pairs = replicate 10 4;
-      records = replicate 5 (regionOfCounts 3 2);
-      output = replicate 16 6;
-    }
-
--- At exit: the last pass's two regions, one span and its pair; zero where the first pass had four, three and three; beyond that, and in the output beyond the
--- row, as it was.
-abbrev corridorExit : Lent
-corridorExit = restExit (soiled corridor) 0
-
-pub corridor-labels : corridorExit .labels ≡ 1 ∷ 1 ∷ 1 ∷ 2 ∷ 9 ∷ []
-unfolding restExit soiled corridor
-corridor-labels = refl
-
-pub corridor-tallies : corridorExit .tallies ≡ 1 ∷ 1 ∷ 0 ∷ 0 ∷ 0 ∷ 0 ∷ 5 ∷ []
-unfolding restExit soiled corridor
-corridor-tallies = refl
-
-pub corridor-pairs : corridorExit .pairs ≡ 0 ∷ 1 ∷ 2 ∷ 0 ∷ 0 ∷ 0 ∷ 0 ∷ 0 ∷ 0 ∷ 4 ∷ []
-unfolding restExit soiled corridor
-corridor-pairs = refl
-
-pub corridor-records : map (λ r. r .cells) (corridorExit .records) ≡ 3 ∷ 1 ∷ 0 ∷ 0 ∷ regionOfCounts 3 2 .cells ∷ []
-unfolding restExit soiled corridor
-corridor-records = refl
-
-pub corridor-output : corridorExit .output ≡ 0 ∷ 24 ∷ 0 ∷ 24 ∷ 8 ∷ 6 ∷ 6 ∷ 6 ∷ 6 ∷ 6 ∷ 6 ∷ 6 ∷ 6 ∷ 6 ∷ 6 ∷ 6 ∷ []
-unfolding restExit soiled corridor
-corridor-output = refl
-
--- ---- case J
-
-pub rounds-J : roundsOf mapJ ≡ 3
-unfolding roundsOf mapJ
-rounds-J = refl
-
-pub rows-J : restRows mapJ ≡ row 2 8 8 16 8 ∷ row 4 16 16 24 16 ∷ row 3 24 8 24 16 ∷ []
-unfolding restRows mapJ
-rows-J = refl
-
--- ---- pass 3 opens the way for pass 1
-
 -- a ring of rooms and a ramp in it. The first round takes a mouth (4) and a junction (0); only then is boundary 5 a mouth of the ramp.
-
 unfoldable pub ring : Lent
 unfolding inputOf
 ring =
@@ -149,15 +76,47 @@ ring =
     (plain 0 12 8 12 ++ plain 16 28 24 28 ++ plain 16 12 24 12 ++ ramp 1 2 16 12 16 28 ++ plain 12 28 12 44 ++ plain 8 0 8 8 ++ plain 16 48 24 48)
     []
 
-pub ring-rests : roundsOf (mapIn ring) ≡ 3
-unfolding roundsOf mapIn ring
-ring-rests = refl
+-- the corridor with lists to fill that are longer than needed, and none of it zero
+unfoldable pub soiledCorridor : Lent
+unfolding corridor regionOfCounts
+soiledCorridor =
+    record {
+      pass = 0;
+      width = corridor .width;
+      height = corridor .height;
+      cells = corridor .cells;
+      spans = corridor .spans;
+      boundaries = corridor .boundaries;
+      anchors = [];
+      labels = replicate 5 9;
+      masks = replicate 5 8;
+      queue = replicate 5 7;
+      tallies = replicate 7 5;
+      pairs = replicate 10 4;
+      records = replicate 5 (regionOfCounts 3 2);
+      output = replicate 16 6;
+    }
 
-pub ring-rows : restRows (mapIn ring) ≡ row 3 16 12 16 28 ∷ row 2 16 12 24 12 ∷ row 1 16 28 24 28 ∷ row 6 16 48 24 48 ∷ []
-unfolding restRows mapIn ring
-ring-rows = refl
-
--- ---- refusals
+-- the corridor, lent this many records and pair rows
+unfoldable pub corridorIn : ℕ → ℕ → Lent
+unfolding corridor emptyRegion
+corridorIn records rows =
+    record {
+      pass = 0;
+      width = corridor .width;
+      height = corridor .height;
+      cells = corridor .cells;
+      spans = corridor .spans;
+      boundaries = corridor .boundaries;
+      anchors = [];
+      labels = replicate 4 0;
+      masks = replicate 4 0;
+      queue = replicate 4 0;
+      tallies = replicate 6 0;
+      pairs = replicate (3 * rows) 0;
+      records = replicate records emptyRegion;
+      output = replicate 15 0;
+    }
 
 -- a map of four cells in a row with these spans and boundaries
 unfoldable pub answerTo : List ℕ → List ℕ → List ℕ → RestAnswer
@@ -181,6 +140,8 @@ answerTo cells spans boundaries =
       output = replicate 10 0;
     })
 
+-- ---- how they are tested
+
 abbrev is : RestAnswer → ℕ → ℕ → ℕ → Bool
 is a number value rounds = eqb (a .number) number && eqb (a .value) value && eqb (a .rounds) rounds
 
@@ -193,32 +154,26 @@ one = 8 ∷ 0 ∷ 8 ∷ 8 ∷ []
 abbrev two : List ℕ
 two = 8 ∷ 0 ∷ 8 ∷ 8 ∷ 16 ∷ 0 ∷ 16 ∷ 8 ∷ []
 
--- the corridor, lent this many records and pair rows
-unfoldable pub corridorIn : ℕ → ℕ → Lent
-unfolding corridor emptyRegion
-corridorIn records rows =
-    record {
-      pass = 0;
-      width = corridor .width;
-      height = corridor .height;
-      cells = corridor .cells;
-      spans = corridor .spans;
-      boundaries = corridor .boundaries;
-      anchors = [];
-      labels = replicate 4 0;
-      masks = replicate 4 0;
-      queue = replicate 4 0;
-      tallies = replicate 6 0;
-      pairs = replicate (3 * rows) 0;
-      records = replicate records emptyRegion;
-      output = replicate 15 0;
-    }
+-- whether the run on this map takes so many rounds and keeps the boundaries of these numbers. `roundsOf` and `restRows` read both from `rested`.
+unfoldable pub keeps : Map → ℕ → List ℕ → Bool
+unfolding rested startMap startRows
+keeps M rounds numbers =
+    let rows = startRows M in
+    let end = rested (startMap M) in
+    eqb (end .rounds) rounds && sameNumbers (map (λ k. getD rows k noRow .number) (end .places)) numbers
+
+-- labels, tallies, pairs, cells of each record, and output, one after the other
+abbrev filled : Lent → List ℕ
+filled L = L .labels ++ L .tallies ++ L .pairs ++ map (λ r. r .cells) (L .records) ++ L .output
 
 unfoldable pub restExamples : List Bool
-unfolding answerTo restVerdict corridorIn
+unfolding answerTo restVerdict corridorIn still corridor soiledCorridor ring mapIn startRows restExit keeps mapJ flatRows
 restExamples =
+    is (restVerdict still) 0 1 1
+    -- row order, with canonical endpoints and the numbers as lent
+    ∷ sameNumbers (flatRows (startRows (mapIn corridor))) (2 ∷ 8 ∷ 0 ∷ 8 ∷ 8 ∷ 1 ∷ 16 ∷ 0 ∷ 16 ∷ 8 ∷ 0 ∷ 24 ∷ 0 ∷ 24 ∷ 8 ∷ [])
     -- no pass is asked for: pass 9 is no fault
-    is (answerTo flat two (plain 8 0 8 8 ++ plain 16 0 16 8)) 0 2 1
+    ∷ is (answerTo flat two (plain 8 0 8 8 ++ plain 16 0 16 8)) 0 2 1
     ∷ is (answerTo flat [] []) 0 0 1
     -- 16: a count that differs, at the first entry that one list alone has
     ∷ is (answerTo flat two (plain 8 0 8 8)) 16 1 0
@@ -238,6 +193,17 @@ restExamples =
     ∷ is (restVerdict (corridorIn 4 3)) 0 1 3
     ∷ is (restVerdict (corridorIn 3 3)) 11 0 0
     ∷ is (restVerdict (corridorIn 4 2)) 12 0 0
+    -- At exit: the last pass's two regions, one span and its pair; zero where the first pass had four, three and three; beyond that, and in the output beyond
+    -- the row, as it was.
+    ∷ sameNumbers (filled (restExit soiledCorridor 0))
+    (1 ∷ 1 ∷ 1 ∷ 2 ∷ 9
+    ∷ 1 ∷ 1 ∷ 0 ∷ 0 ∷ 0 ∷ 0 ∷ 5
+    ∷ 0 ∷ 1 ∷ 2 ∷ 0 ∷ 0 ∷ 0 ∷ 0 ∷ 0 ∷ 0 ∷ 4
+    ∷ 3 ∷ 1 ∷ 0 ∷ 0 ∷ 3
+    ∷ 0 ∷ 24 ∷ 0 ∷ 24 ∷ 8 ∷ replicate 11 6)
+    -- case J, and the ring
+    ∷ keeps mapJ 3 (2 ∷ 4 ∷ 3 ∷ [])
+    ∷ keeps (mapIn ring) 3 (3 ∷ 2 ∷ 1 ∷ 6 ∷ [])
     ∷ []
 
 pub rest-examples : all (λ b. b) restExamples ≡ true

@@ -3,7 +3,7 @@ use native.Mathlib.Omega.{arith}
 use mathlib.Core.Path.{refl, sym, ap, _∙_}
 use Rattle.definitions.specs.Verdict.{Answer}
 use Rattle.game.specs.Graph.{graphOf}
-use Rattle.game_solver.proofs.Stepping.{region-parts}
+use Rattle.game_search.proofs.Stepping.{region-parts}
 use Rattle.game_solver.proofs.Answering.{is-accepted, at-success, at-refusal}
 use borrow.Author.Needs.{needs}
 use Rattle.game_solver.proofs.game_solver_solve_game.Statement.{statement}

@@ -1,5 +1,5 @@
 -- `judge` meets its contract: the ranks of the game of these steps, and from these its verdicts. Assumes nothing.
-use Rattle.game_solver.proofs.Reading.{solved}
+use Rattle.game_verdicts.proofs.Reading.{solved}
 use borrow.Author.Needs.{needs}
 use Rattle.game_solver.proofs.judge.Statement.{statement}
 use Rattle.game_solver.proofs.judge.Tie as tie

@@ -1,9 +1,9 @@
 -- `verdict` meets its contract: the four checks, in the definition's order. Assumes nothing.
 use Prim.Native.Nat.{_*_}
 use native.Mathlib.Omega.{arith}
-use native.Mathlib.Nat.{mul-le-mul}
 use borrow.Author.Tests.{not-true, not-false}
-use Rattle.game_solver.proofs.Answering.{pairs-refused, room-refused, regions-refused, goal-refused, accepted, square-few}
+use Rattle.game_verdicts.proofs.Reading.{square-few}
+use Rattle.game_solver.proofs.Answering.{pairs-refused, room-refused, regions-refused, goal-refused, accepted}
 use borrow.Author.Needs.{needs}
 use Rattle.game_solver.proofs.verdict.Statement.{statement}
 use Rattle.game_solver.proofs.verdict.Tie as tie
