@@ -6,9 +6,9 @@ use mathlib.Core.Bool.{Bool, true, false, not, true≢false}
 use mathlib.Core.List.{List}
 use lib.ListN.{getD}
 use lib.Bits.{bitAnd, and-block, and-mask}
-use lib.Count.{trailingZeros, under}
-use lib.Dec.{eqb}
-use borrow.Author.Tests.{eqb-true, eqb-false}
+use lib.Count.{trailingZeros, under, trailing-of-zero}
+use lib.Dec.{eqb, ltb}
+use borrow.Author.Tests.{eqb-true, eqb-false, ltb-true, ltb-false}
 use Rattle.definitions.specs.Scan.{bit}
 use Rattle.row_runs.specs.Stretch.{walks, Until}
 use Rattle.row_runs.specs.Words.{wordAt, stops}
@@ -160,8 +160,30 @@ first-stop f (suc n) c = go (f c) refl (first-stop f n (c + 1))
         at-first d i k true t = ap f (eqb-true d c t) ∙ e
         at-first d i k false t = r .until .all d (omega (arith, eqb-false d c t)) (omega arith)
 
-pub eight-until : (f : ℕ → Bool) (c r : ℕ) → r ≡ trailingZeros 64 (stops 8 f c) / 8 → Until f c (c + 8) (c + r)
-eight-until f c r e =
-    let s = first-stop f 8 c in
-    let is : s .place ≡ r = omega (arith, e, s .zeros) in
-    subst (λ x. Until f c (c + 8) (c + x)) is (s .until)
+-- where all are passed there is no flag
+no-stop : (f : ℕ → Bool) (n c : ℕ) → ((d : ℕ) → c ≤ d → d < c + n → f d ≡ true) → stops n f c ≡ 0
+unfolding stops
+no-stop f zero c h = refl
+no-stop f (suc n) c h = omega (arith, ap (λ b. bit (not b)) (h c (omega arith) (omega arith)), no-stop f n (c + 1) (λ d i k. h d (omega arith) (omega arith)))
+
+module _ (f : ℕ → Bool) (c : ℕ) {flags : ℕ} (e : flags ≡ stops 8 f c) where
+  at-first : (r : ℕ) → r ≡ trailingZeros 64 flags / 8 → Until f c (c + 8) (c + r)
+  at-first r t =
+      let s = first-stop f 8 c in
+      let is : s .place ≡ r = omega (arith, t, s .zeros, ap (trailingZeros 64) e) in
+      subst (λ x. Until f c (c + 8) (c + x)) is (s .until)
+
+  pub eight-passed : flags ≡ 0 → Until f c (c + 8) (c + 8)
+  eight-passed z = at-first 8 (omega (arith, ap (trailingZeros 64) z, trailing-of-zero 64))
+
+  module _ {r : ℕ} (some : flags ≡ 0 → ⊥) (t : r ≡ trailingZeros 64 flags / 8) where
+    pub eight-until : Until f c (c + 8) (c + r)
+    eight-until = at-first r t
+
+    pub eight-stops : r < 8
+    eight-stops = go (ltb r 8) refl
+      where
+        go : (b : Bool) → ltb r 8 ≡ b → r < 8
+        go true l = ltb-true r 8 l
+        go false l =
+            absurd (some (e ∙ no-stop f 8 c (λ d i k. eight-until .all d i (omega (arith, ltb-false r 8 l)))))

@@ -2,8 +2,9 @@
 use crate::tests::SOUTH;
 use crate::tests::goes_on;
 use crate::tests::is_walkable;
-use crate::words::gap_eight;
-use crate::words::open_eight;
+use crate::words::first_flag;
+use crate::words::gap_flags;
+use crate::words::open_flags;
 use flood::is_cut;
 ghost use mathlib.Core.Path.{_≡_};
 ghost use mathlib.Core.Bool.{false, not};
@@ -51,9 +52,9 @@ fn gap_end(cells: &[u8], from: usize, end: usize) -> usize
 {
     let mut c = from;
     while c + 8 <= end {
-        let k = gap_eight(cells, c);
-        if k < 8 {
-            return c + k;
+        let flags = open_flags(cells, c);
+        if flags != 0 {
+            return c + first_flag(flags);
         }
         c += 8;
     }
@@ -82,9 +83,9 @@ fn open_end(cells: &[u8], from: usize, end: usize) -> usize
 {
     let mut c = from;
     while c + 8 <= end {
-        let k = open_eight(cells, c);
-        if k < 8 {
-            return c + k;
+        let flags = gap_flags(cells, c);
+        if flags != 0 {
+            return c + first_flag(flags);
         }
         c += 8;
     }

@@ -4,7 +4,7 @@ ghost use mathlib.Core.Bool.{not};
 ghost use Prim.Native.Nat.{_+_, _/_, _≤_, _<_};
 ghost use lib.ListN.{length};
 ghost use lib.Count.{trailingZeros};
-ghost use Rattle.row_runs.specs.Stretch.{walks, Until};
+ghost use Rattle.row_runs.specs.Stretch.{walks};
 ghost use Rattle.row_runs.specs.Words.{wordAt, stops};
 
 const LOW_BITS: u64 = 0x01_01_01_01_01_01_01_01;
@@ -37,7 +37,7 @@ fn four(cells: &[u8], c: usize) -> u64
 }
 
 // The walkable ones of the eight cells from c on.
-fn open_flags(cells: &[u8], c: usize) -> u64
+pub fn open_flags(cells: &[u8], c: usize) -> u64
     requires { ⌜ c + 8 ≤ length (now cells) ⌝ }
     ensures { λ r. ⌜ r ≡ stops 8 (λ d. not (walks (now (cells .entry)) d)) c ⌝ }
 {
@@ -47,35 +47,16 @@ fn open_flags(cells: &[u8], c: usize) -> u64
 }
 
 // Those that are not.
-fn gap_flags(cells: &[u8], c: usize) -> u64
+pub fn gap_flags(cells: &[u8], c: usize) -> u64
     requires { ⌜ c + 8 ≤ length (now cells) ⌝ }
     ensures { λ r. ⌜ r ≡ stops 8 (walks (now (cells .entry))) c ⌝ }
 {
     LOW_BITS - open_flags(cells, c)
 }
 
-// The byte with the lowest flag, or 8 where there is none.
-fn first_flag(flags: u64) -> usize
+// The byte with the lowest flag.
+pub fn first_flag(flags: u64) -> usize
     ensures { λ r. ⌜ r ≡ trailingZeros 64 flags / 8 ⌝ }
 {
-    if flags == 0 {
-        return 8;
-    }
     (u64::trailing_zeros(flags) / 8) as usize
-}
-
-// How many of the eight cells from c on come before the first that is walkable.
-pub fn gap_eight(cells: &[u8], c: usize) -> usize
-    requires { ⌜ c + 8 ≤ length (now cells) ⌝ }
-    ensures { λ r. ⌜ Until (λ d. not (walks (now (cells .entry)) d)) c (c + 8) (c + r) ⌝ }
-{
-    first_flag(open_flags(cells, c))
-}
-
-// Before the first that is not.
-pub fn open_eight(cells: &[u8], c: usize) -> usize
-    requires { ⌜ c + 8 ≤ length (now cells) ⌝ }
-    ensures { λ r. ⌜ Until (walks (now (cells .entry))) c (c + 8) (c + r) ⌝ }
-{
-    first_flag(gap_flags(cells, c))
 }

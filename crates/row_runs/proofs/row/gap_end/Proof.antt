@@ -1,9 +1,11 @@
 -- `row_runs::row::gap_end` meets its contract. The loop's invariant is `Passing`; the measure is how many cells are left. What is passed is not walkable. Assumes nothing.
-use Prim.Native.Nat.{_-_}
+use Prim.Native.Nat.{ℕ, _-_, _<_}
 use native.Mathlib.Omega.{arith}
-use mathlib.Core.Bool.{not}
+use mathlib.Core.Bool.{Bool, not}
+use borrow.Author.Needs.{needs}
 use Rattle.row_runs.specs.Stretch.{walks}
-use Rattle.row_runs.proofs.Passing.{Passing, passing-starts, passing-all, passing-stops-on, passing-ends-on}
+use Rattle.row_runs.proofs.Passing.{Passing, passing-starts, passing-on, passing-stops-on, passing-ends-on}
+use Rattle.row_runs.proofs.WordLaws.{eight-passed, eight-until, eight-stops}
 use Rattle.row_runs.proofs.row.gap_end.Statement.{statement}
 use Rattle.row_runs.proofs.row.gap_end.Tie as tie
 
@@ -13,12 +15,16 @@ Inv-loop cells from end c₀ c = Passing (λ d. not (walks cells d)) from end c
 abbrev μ-loop : tie.MeasureT-loop
 μ-loop cells from end c₀ c = end - c
 
--- the function's entry, from the loop, and the loop from where eight cells are asked for
+-- the function's entry, from the loop, and the loop from where eight cells are looked at
 abbrev entry : tie.At-loop Inv-loop μ-loop → tie.Start Inv-loop μ-loop
 entry c = c .before .before
 
-abbrev turn : tie.After-gap-eight Inv-loop μ-loop → tie.At-loop Inv-loop μ-loop
+abbrev turn : tie.After-open-flags Inv-loop μ-loop → tie.At-loop Inv-loop μ-loop
 turn c = c .before .before
+
+-- what all cells that are passed are
+abbrev test : tie.After-open-flags Inv-loop μ-loop → ℕ → Bool
+test c = λ d. not (walks (entry (turn c) .args .cells .now) d)
 
 loop-holds : tie.Need-loop-holds Inv-loop μ-loop
 loop-holds c = passing-starts _ _ _ (c .before .pre .0)
@@ -27,27 +33,40 @@ loop-holds c = passing-starts _ _ _ (c .before .pre .0)
 add-loop : tie.Need-add-loop Inv-loop μ-loop
 add-loop c = omega (arith, c .loop .inv .ends, entry c .pre .1, entry c .good .0 .1)
 
-gap-eight-requires : tie.Need-gap-eight-requires Inv-loop μ-loop
-gap-eight-requires c κs = omega (arith, c .loop-test .taken, entry (c .before) .pre .1)
+open-flags-requires : tie.Need-open-flags-requires Inv-loop μ-loop
+open-flags-requires c κs = omega (arith, c .loop-test .taken, entry (c .before) .pre .1)
+
+first-flag-requires : tie.Need-first-flag-requires Inv-loop μ-loop
+first-flag-requires c κs = search needs
+
+-- the place of the first flag
+module _ (c : tie.After-first-flag Inv-loop μ-loop) where
+  abbrev flags : tie.After-open-flags Inv-loop μ-loop
+  flags = c .before .before
+
+  inside : c .first-flag .result < 8
+  inside = eight-stops (test flags) (turn flags .loop .c) (flags .open-flags .ensures) (c .before .if1 .taken) (c .first-flag .ensures)
 
 add-result : tie.Need-add-result Inv-loop μ-loop
-add-result c = let call = c .before in omega (arith, c .if1 .taken, call .before .loop-test .taken)
+add-result c = omega (arith, inside c, flags c .before .loop-test .taken)
 
 returns : tie.Need-returns Inv-loop μ-loop
 returns c =
-    let call = c .before in
-    passing-stops-on (turn call .loop .inv) (call .before .loop-test .taken) (call .gap-eight .ensures) (omega (arith, c .if1 .taken))
+    let found = flags c in
+    passing-stops-on (turn found .loop .inv) (found .before .loop-test .taken)
+    (eight-until (test found) (turn found .loop .c) (found .open-flags .ensures) (c .before .if1 .taken) (c .first-flag .ensures))
+    (omega (arith, inside c))
 
 add-c : tie.Need-add-c Inv-loop μ-loop
-add-c c = let call = c .before in omega (arith, call .before .loop-test .taken)
+add-c c = let found = c .before in omega (arith, found .before .loop-test .taken)
 
 loop-less : tie.Need-loop-less Inv-loop μ-loop
-loop-less c = let call = c .before in omega (arith, call .before .loop-test .taken)
+loop-less c = let found = c .before in omega (arith, found .before .loop-test .taken)
 
 loop-again : tie.Need-loop-again Inv-loop μ-loop
 loop-again c =
-    let call = c .before in
-    passing-all (turn call .loop .inv) (call .before .loop-test .taken) (call .gap-eight .ensures) (c .if1 .left)
+    let found = c .before in
+    passing-on (turn found .loop .inv) (found .before .loop-test .taken) (eight-passed (test found) (turn found .loop .c) (found .open-flags .ensures) (c .if1 .left))
 
 gap-rest-requires : tie.Need-gap-rest-requires Inv-loop μ-loop
 gap-rest-requires c κs = (c .before .loop .inv .ends, entry (c .before) .pre .1)
@@ -63,7 +82,8 @@ gap-end-spec =
     μ-loop
     loop-holds
     add-loop
-    gap-eight-requires
+    open-flags-requires
+    first-flag-requires
     add-result
     returns
     add-c
