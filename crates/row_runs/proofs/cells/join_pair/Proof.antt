@@ -1,5 +1,5 @@
 -- `row_runs::cells::join_pair` meets its contract. Assumes nothing.
-use borrow.Author.Tests.{not-true, not-false}
+use borrow.Author.Tests.{not-true}
 use Rattle.row_runs.proofs.PairNames.{pair-clear, pair-marked, diagonals-asked}
 use Rattle.row_runs.proofs.cells.join_pair.Statement.{statement}
 use Rattle.row_runs.proofs.cells.join_pair.Tie as tie
