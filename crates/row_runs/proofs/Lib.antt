@@ -1,5 +1,6 @@
 mod Passing
 mod Filling
+mod WordLaws
 mod Numbers
 mod Marks
 mod Stretches

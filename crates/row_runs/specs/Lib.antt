@@ -1,4 +1,5 @@
 pub mod Stretch
+pub mod Words
 pub mod Names
 pub mod South
 pub mod Corners

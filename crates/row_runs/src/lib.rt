@@ -7,6 +7,7 @@ pub mod row;
 pub mod run;
 pub mod south;
 pub mod tests;
+pub mod words;
 
 use cells::join_cells;
 use numbering::number;

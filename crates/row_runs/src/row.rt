@@ -2,6 +2,8 @@
 use crate::tests::SOUTH;
 use crate::tests::goes_on;
 use crate::tests::is_walkable;
+use crate::words::gap_eight;
+use crate::words::open_eight;
 use flood::is_cut;
 ghost use mathlib.Core.Path.{_≡_};
 ghost use mathlib.Core.Bool.{false, not};
@@ -27,8 +29,8 @@ pub fn has_marks(masks: &[u16], from: usize, end: usize) -> bool
     true
 }
 
-// The first walkable cell from `from` on.
-fn gap_end(cells: &[u8], from: usize, end: usize) -> usize
+// The first walkable cell from `from` on, one at a time.
+fn gap_rest(cells: &[u8], from: usize, end: usize) -> usize
     requires { ⌜ (from ≤ end) × (end ≤ length (now cells)) ⌝ }
     ensures { λ r. ⌜ Until (λ c. not (walks (now (cells .entry)) c)) from end r ⌝ }
 {
@@ -42,8 +44,24 @@ fn gap_end(cells: &[u8], from: usize, end: usize) -> usize
     c
 }
 
-// The first cell from `from` on that is not walkable.
-fn open_end(cells: &[u8], from: usize, end: usize) -> usize
+// The same, eight at a time while there are eight.
+fn gap_end(cells: &[u8], from: usize, end: usize) -> usize
+    requires { ⌜ (from ≤ end) × (end ≤ length (now cells)) ⌝ }
+    ensures { λ r. ⌜ Until (λ c. not (walks (now (cells .entry)) c)) from end r ⌝ }
+{
+    let mut c = from;
+    while c + 8 <= end {
+        let k = gap_eight(cells, c);
+        if k < 8 {
+            return c + k;
+        }
+        c += 8;
+    }
+    gap_rest(cells, c, end)
+}
+
+// The first cell from `from` on that is not walkable, one at a time.
+fn open_rest(cells: &[u8], from: usize, end: usize) -> usize
     requires { ⌜ (from ≤ end) × (end ≤ length (now cells)) ⌝ }
     ensures { λ r. ⌜ Until (walks (now (cells .entry))) from end r ⌝ }
 {
@@ -55,6 +73,22 @@ fn open_end(cells: &[u8], from: usize, end: usize) -> usize
         c += 1;
     }
     c
+}
+
+// The same, eight at a time while there are eight.
+fn open_end(cells: &[u8], from: usize, end: usize) -> usize
+    requires { ⌜ (from ≤ end) × (end ≤ length (now cells)) ⌝ }
+    ensures { λ r. ⌜ Until (walks (now (cells .entry))) from end r ⌝ }
+{
+    let mut c = from;
+    while c + 8 <= end {
+        let k = open_eight(cells, c);
+        if k < 8 {
+            return c + k;
+        }
+        c += 8;
+    }
+    open_rest(cells, c, end)
 }
 
 // The first cell from `from` on that the run of the cell before `from` has not.
