@@ -2,7 +2,6 @@ pub mod Square
 pub mod Ways
 pub mod Onward
 pub mod OpenSteps
-pub mod Used
 pub mod StepTests
 pub mod Bits
 pub mod MarkStep

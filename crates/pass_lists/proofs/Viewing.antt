@@ -17,7 +17,7 @@ use Rattle.definitions.specs.Verdict.{pairRowsOf}
 use Rattle.laws.specs.ListLaws.Lists.{All, all-run}
 use Rattle.laws.specs.RegionLaws.Regions.{label-range, label-blocked}
 use Rattle.laws.specs.ListLaws.Beyond.{Beyond}
-use Rattle.flood.proofs.Used.{count-le}
+use Rattle.laws.specs.ListLaws.ScanSteps.{count-le}
 use Rattle.areas.proofs.Labelling.{zeroed-at, zeroed-rest}
 use Rattle.context.specs.Anchors.{anchorCell, anchorCells, markLabel, markCells, AnchorsFit}
 use Rattle.context.proofs.AnchorLaws.{marked-beyond, marked-shown}

@@ -26,7 +26,7 @@ mul-n c = omega (arith, grid-few (entry c .pre))
 alone-requires : tie.Need-alone-requires
 alone-requires c κs =
     let room = entry (c .before) .pre in
-    (room .labelsLong, grid-few room)
+    (omega (arith, room .labelsLong), omega (arith, grid-few room))
 
 join-cells-requires : tie.Need-join-cells-requires
 join-cells-requires c κs =
