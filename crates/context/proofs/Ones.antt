@@ -1,4 +1,4 @@
--- Counting ones, reading a digit and setting a bit, as the code writes them on eight bits. Assumes nothing.
+-- Counting ones and reading a digit, as the code writes them on eight bits. Assumes nothing.
 use Prim.Native.Nat.{ℕ, zero, suc, _+_, _*_, _/_, _%_, _^_, _≤_, _<_}
 use native.Mathlib.Omega.{arith}
 use native.Mathlib.Nat.{pow-succ'}
@@ -21,14 +21,6 @@ ones-in (suc k) n h = ones-step n ∙ ap (λ m. n % 2 + m) (ones-in k (n / 2) (h
   where
     half : n < 2 * 2 ^ k → n / 2 < 2 ^ k
     half h = omega arith
-
--- a shift of 1 by less than 4 loses nothing in eight bits
-pub shifted : (e : ℕ) → e < 4 → 1 * 2 ^ e % 256 ≡ 2 ^ e
-shifted zero h = refl
-shifted (suc zero) h = refl
-shifted (suc (suc zero)) h = refl
-shifted (suc (suc (suc zero))) h = refl
-shifted (suc (suc (suc (suc e)))) h = absurd (omega arith)
 
 -- the last digit, as a count of one or none
 pub digit-is : (n : ℕ) → (n % 2 ≡ bit (eqb (n % 2) 1)) × (n % 2 ≤ 1)

@@ -14,7 +14,7 @@ use Rattle.definitions.specs.Grid.{isRamp, elevation}
 use Rattle.definitions.specs.RegionRecord.{maskOf}
 use Rattle.laws.specs.ListLaws.ScanSteps.{count-le}
 use Rattle.laws.specs.RegionLaws.OneMore.{any-counted}
-use Rattle.context.specs.Runs.{Within, Equal, elevationAmong, elevationsAmong, rampsAmong}
+use Rattle.context.specs.Runs.{Equal, elevationAmong, elevationsAmong, rampsAmong}
 use Rattle.context.proofs.RecordLaws.{countsOf, counts-ext, mask-ext}
 
 -- ---- a test that says the same of m numbers from n on

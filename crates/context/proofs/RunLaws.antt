@@ -9,13 +9,13 @@ use mathlib.Core.List.{List, [], _∷_, map}
 use lib.ListN.{length, getD, set}
 use lib.Seq.{ext-getD}
 use lib.Arith.{bin-ind}
-use lib.Dec.{eqb, ltb}
+use lib.Dec.{eqb}
 use lib.Bits.{bitOr, or-step, or-zero-r}
 use lib.Ieee.{Float, lt}
 use borrow.Author.Tests.{ne-eqb}
 use Rattle.definitions.specs.Limits.{maxSide}
 use Rattle.definitions.specs.Scan.{anyBelow, countBelow, bit}
-use Rattle.definitions.specs.Grid.{isRamp, elevation}
+use Rattle.definitions.specs.Grid.{elevation}
 use Rattle.definitions.specs.Spans.{pixelsPerWalkCell}
 use Rattle.definitions.specs.Geometry.{float}
 use Rattle.definitions.specs.RegionRecord.{Region, maskOf}

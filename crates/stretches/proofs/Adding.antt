@@ -1,18 +1,15 @@
 -- What `with_run` is asked for where the cells of a stretch are added, and what it gives: the record of the region's cells before the stretch's end. Assumes nothing.
 use Prim.Native.Nat.{ℕ, _+_, _-_, _*_, _/_, _%_, _≤_, _<_}
 use native.Mathlib.Omega.{arith}
-use native.Mathlib.Nat.{mul-le-mul, mod-lt, div-add-mod'}
-use mathlib.Core.Path.{_≡_, refl, sym, ap, ap₂, _∙_, subst}
+use native.Mathlib.Nat.{mul-le-mul, div-add-mod'}
+use mathlib.Core.Path.{_≡_, refl, ap, _∙_}
 use mathlib.Core.List.{List}
-use lib.ListN.{length, getD, take}
-use lib.Dec.{eqb}
 use Rattle.definitions.specs.Limits.{maxSide}
-use Rattle.definitions.specs.Scan.{countBelow}
 use Rattle.definitions.specs.Grid.{Map, cellCount}
 use Rattle.definitions.specs.Partition.{labels}
 use Rattle.definitions.specs.RegionRecord.{Region}
 use Rattle.laws.specs.FloatLaws.MapPixels.{side-bounds}
-use Rattle.flood.proofs.StepTests.{cell-x, cell-y}
+use Rattle.flood.proofs.StepTests.{cell-y}
 use Rattle.context.specs.Records.{maxCells, Counted}
 use Rattle.context.specs.Cells.{addRun}
 use Rattle.context.specs.Runs.{FittingRun}
@@ -60,14 +57,14 @@ module _ {M : Map} {w : ℕ} {bytes : List ℕ} {from end r : ℕ} {s : Region} 
               counted = λ k h l. rw (A .cells) at (A .low k h l);
             };
         room = omega (arith, ap (λ s. s .cells) is-where, where-cells M (isOf (labels M) r (A .numbered) from), up-few (labels M) r (A .numbered) from (cellCount M), A .more, A .inside, few);
-        columns = rw (A .width) at (omega-columns);
+        columns = rw (A .width) at in-map;
         row = rw (A .width) at row;
         left = rw is-where (where-left M (isOf (labels M) r (A .numbered) from) (A .wide));
         right = rw is-where (where-right M (isOf (labels M) r (A .numbered) from) (A .wide));
       }
     where
-      omega-columns : from % M .width + (end - from) ≤ maxSide
-      omega-columns = omega (arith, columns, side-bounds (M .width) (A .wide) .1)
+      in-map : from % M .width + (end - from) ≤ maxSide
+      in-map = omega (arith, columns, side-bounds (M .width) (A .wide) .1)
 
   pub added : {t : Region} → t ≡ addRun s (from % w) (from / w) bytes from (end - from) → t ≡ regionUpTo M (labels M) r end
   added e =

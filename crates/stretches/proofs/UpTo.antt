@@ -3,11 +3,10 @@
 use Prim.Native.Nat.{ℕ, zero, suc, _+_, _*_, _/_, _%_, _≤_, _<_, zero-le}
 use native.Mathlib.Omega.{arith}
 use native.Mathlib.Nat.{add-zero, div-add-mod'}
-use mathlib.Core.Path.{_≡_, refl, sym, ap, ap₂, _∙_, subst}
+use mathlib.Core.Path.{_≡_, refl, sym, ap, ap₂, _∙_}
 use mathlib.Core.Bool.{Bool, true, false}
-use mathlib.Core.Logic.{⊎-elim}
 use mathlib.Core.List.{List}
-use lib.ListN.{length, getD, take, length-take, List·getD-eq-default}
+use lib.ListN.{getD, take, length-take, List·getD-eq-default}
 use lib.Seq.{getD-take}
 use lib.Arith.{digits-div, digits-mod, lt-of-le-ne}
 use lib.Dec.{eqb, ltb}
@@ -15,7 +14,7 @@ use borrow.Author.Tests.{ltb-true, ltb-false, eq-eqb, ne-eqb}
 use Rattle.definitions.specs.Limits.{isSide}
 use Rattle.definitions.specs.Scan.{countBelow, bit}
 use Rattle.definitions.specs.Grid.{Map, cellCount, cellAt, elevation}
-use Rattle.definitions.specs.RegionRecord.{Region, emptyRegion, regionOf}
+use Rattle.definitions.specs.RegionRecord.{emptyRegion, regionOf}
 use Rattle.laws.specs.ListLaws.ScanSteps.{count-le}
 use Rattle.laws.specs.ListLaws.Flags.{bit-le}
 use Rattle.laws.specs.RegionLaws.OneMore.{OneMore}

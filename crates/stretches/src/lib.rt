@@ -2,7 +2,7 @@
 // of a stretch added.
 ghost use mathlib.Core.Path.{_≡_};
 ghost use Prim.Native.Nat.{ℕ, _<_};
-ghost use lib.ListN.{length, getD};
+ghost use lib.ListN.{length};
 ghost use Rattle.definitions.specs.Grid.{Map};
 ghost use Rattle.definitions.specs.Partition.{labels};
 ghost use Rattle.context.specs.Records.{recordOf};

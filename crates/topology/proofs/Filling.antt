@@ -6,9 +6,9 @@ use mathlib.Core.Bool.{Bool, true, false}
 use mathlib.Core.Logic.{⊎-elim}
 use mathlib.Core.List.{List, [], _∷_, _++_, map}
 use lib.ListN.{length, getD, set, take, drop, replicate, length-set, length-map, length-take, length-replicate, getD-replicate, take-append-drop, List·getD-append}
-use lib.Seq.{drop-set-lt, drop-drop, ext-getD, getD-take, getD-set-same, getD-set-other}
+use lib.Seq.{drop-set-lt, ext-getD, getD-take, getD-set-same, getD-set-other}
 use Rattle.definitions.specs.Scan.{run}
-use Rattle.definitions.specs.Grid.{Map, cellCount, elevation, cellAt}
+use Rattle.definitions.specs.Grid.{Map, cellCount}
 use Rattle.definitions.specs.Partition.{labels, regionCount, walkableAt}
 use Rattle.definitions.specs.RegionRecord.{emptyRegion, regionOf}
 use Rattle.definitions.specs.RegionRecord as def

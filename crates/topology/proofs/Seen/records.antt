@@ -1,3 +1,4 @@
+pub mod add_stretch
 pub mod clear_records
 pub mod fill
 pub mod renew

@@ -1,12 +1,12 @@
 -- `Region::with_run` meets its contract: each field is what its call ensures, and together they are the record with the run's cells added one by one (`run-added`).
 -- No count exceeds the number of cells, which leaves room for the run. Assumes nothing.
-use Prim.Native.Nat.{ℕ, _+_, _-_, _<_}
+use Prim.Native.Nat.{_+_, _-_}
 use native.Mathlib.Omega.{arith}
 use mathlib.Core.Path.{_≡_, ap, _∙_}
 use lib.ListN.{length, getD}
 use lib.Dec.{eqb}
 use borrow.Author.Needs.{needs}
-use Rattle.definitions.specs.Grid.{isRamp, elevation}
+use Rattle.definitions.specs.Grid.{isRamp}
 use Rattle.laws.specs.ListLaws.ScanSteps.{count-le}
 use Rattle.context.specs.Records.{recordOf}
 use Rattle.context.specs.Cells.{lesserEdge, greaterEdge}
@@ -96,7 +96,8 @@ mask-of-requires c κs = search needs
 
 returns : tie.Need-returns
 returns c =
-    let bottom = c .before .before .before .before in
+    let masked = c .before in
+    let bottom = masked .before .before .before in
     let at-edge3 = to-edge3 bottom in
     let top = at-edge3 .before in
     let left = top .before .before in
@@ -112,7 +113,7 @@ returns c =
     run-added s (start .args .x) (start .args .y) bytes from n (omega (arith, fits .within .some)) (fits .columns)
     (λ i l. fits .within .counted (from + i) (omega arith) (omega (arith, l)))
     (four-counts (to-old at-edge3)) (fits .left) (fits .right) (counts .ramps)
-    (c .before .mask-of .ensures ∙ mask-counted bytes from n (counts .elevations))
+    (masked .mask-of .ensures ∙ mask-counted bytes from n (counts .elevations))
     (to-sums at-edge3 .sums .ensures ∙ sums-counted (s .elevationCounts) bytes from n (counts .elevations))
     (left .lesser-edge .ensures ∙ ap (lesserEdge first (s .minX)) (left .before .edge .ensures))
     (top .lesser-edge2 .ensures ∙ ap (lesserEdge first (s .minY)) (top .before .edge2 .ensures))
