@@ -105,34 +105,7 @@ part-room {first} {k} {next} {end} {removed} a b c d e =
 pub all-room : (n : ℕ) {removed : ℕ} → n ≤ maxSide → removed ≤ 0 + maxLineEdges * n → removed ≤ maxEdges
 all-room n a b = omega arith
 
--- ---- one cell
-
-pub unchanged : (w h : ℕ) (cells : List ℕ) (g : Segment) (t : Strip) (k b : ℕ) {changes : ℕ} → CrossedAt g t k b changes → changes ≡ 0 → [] ≡ cutTwoBack (gridOf w h cells) g t k b
-unchanged w h cells g t k b C e = go (leb 2 b && ltb (b - 2) (minorSide t w h)) refl
-  where
-    M : Map
-    M = gridOf w h cells
-
-    far : Crossed g (cellOf t k (b - 2)) 0 → Far g (cellOf t k (b - 2))
-    far X d i j l m n = sym (X .cut d i j l m n) ∙ zero-bit (bitOf d)
-
-    none : (v : Bool) → Far g (cond v (at k (b - 2)) (at (b - 2) k)) → [] ≡ cutFrom M g (cond v (at k (b - 2)) (at (b - 2) k))
-    none true f = sym (no-cut M g (at k (b - 2)) (far-directions w h cells g k (b - 2) f .bits))
-    none false f = sym (no-cut M g (at (b - 2) k) (far-directions w h cells g (b - 2) k f .bits))
-
-    go : (v : Bool) → (leb 2 b && ltb (b - 2) (minorSide t w h)) ≡ v → [] ≡ cond v (cutFrom M g (cellOf t k (b - 2))) []
-    go false i = refl
-    go true i = none (t .columns) (far (subst (Crossed g (cellOf t k (b - 2))) e (C (placed b (minorSide t w h) i .0))))
-
 -- ---- four cells
-
-pub four-passed : {A : Type 0} (f : ℕ → List A) (m : ℕ) → concatMap f (upTo m (m + 4)) ≡ ((f m ++ f (m + 1)) ++ f (m + 2)) ++ f (m + 3)
-four-passed f m =
-    let one : m + 1 + 1 ≡ m + 2 = omega arith in
-    let two : m + 2 + 1 ≡ m + 3 = omega arith in
-    let three : m + 3 + 1 ≡ m + 4 = omega arith in
-    ap (λ n. concatMap f (upTo m n)) (sym three) ∙ concat-more f m (m + 3) (omega arith)
-    ∙ ap (λ l. l ++ f (m + 3)) (ap (λ n. concatMap f (upTo m n)) (sym two) ∙ concat-more f m (m + 2) (omega arith) ∙ ap (λ l. l ++ f (m + 2)) (ap (λ n. concatMap f (upTo m n)) (sym one) ∙ concat-more f m (m + 1) (omega arith) ∙ ap (λ l. l ++ f (m + 1)) (concat-more f m m (omega arith) ∙ ap (λ l. l ++ f m) (concat-none f m))))
 
 module _ {labels : List ℕ} {span first : ℕ} {f : ℕ → List Pair} {n from to : ℕ} {a : BoundaryAssessment} {pairs : List ℕ} {b : BoundaryAssessment} {pairs′ : List ℕ} where
   pub at-first : Passing labels span first f n from to a pairs b pairs′ from → Passing labels span first f n from to a pairs b pairs′ (from + 0)

@@ -2,7 +2,7 @@
 -- of sides (`crossing-at`), and the four of them joined (`column-crossed`). Assumes nothing.
 use Prim.Native.Nat.{ℕ, _+_, _-_, _≤_, _<_}
 use native.Mathlib.Omega.{arith}
-use mathlib.Core.Path.{_≡_, sym, ap, _∙_, subst, subst⁻¹}
+use mathlib.Core.Path.{_≡_, refl, sym, ap, _∙_, subst, subst⁻¹}
 use mathlib.Core.Bool.{Bool, true, false, _&&_, cond}
 use mathlib.Core.List.{List, [], _++_}
 use lib.Dec.{leb, ltb}
@@ -15,6 +15,7 @@ use Rattle.span_geometry.specs.Candidates.{cellOf, minorSide}
 use Rattle.laws.specs.ListLaws.Tests.{both}
 use Rattle.line_crossings.specs.Crossings.{tieOf}
 use Rattle.line_crossings.proofs.NearLine.{near-line}
+use Rattle.flood.specs.Masks.{bitOf}
 use Rattle.flood.specs.Walk.{gridOf}
 use Rattle.cut_steps.specs.CutSteps.{cutFrom}
 use Rattle.cut_steps.specs.Cell.{CellAsked, Far}
@@ -23,6 +24,7 @@ use Rattle.cut_steps.specs.Crossed.{Crossed, changesAt, CrossedAt, cutTw
 use Rattle.cut_steps.proofs.Trimmed.{places-joined}
 use Rattle.cut_steps.specs.Prefixes.{concat-map}
 use Rattle.cut_steps.specs.Marking.{MarkAsked}
+use Rattle.cut_steps.proofs.Onward.{zero-bit}
 use Rattle.cut_steps.proofs.Cells.{far-directions}
 use Rattle.cut_steps.proofs.Changes.{follows-at, follows-far}
 use Rattle.cut_steps.proofs.Marks.{no-cut}
@@ -49,6 +51,24 @@ across-crossed g t k b {changes} C h i j = subst⁻¹ (λ p. Crossed g p changes
 
 pub across-asked : {w h : ℕ} {cells was : List ℕ} {g : SpanGeometry} {x y : ℕ} → MarkAsked w h cells was g → (x < w) × (y < h) → CellAsked w h cells g x y
 across-asked A i = record { narrow = A .narrow; short = A .short; cellsLong = A .cellsLong; sound = A .sound; inX = i .0; inY = i .1 }
+
+-- a cell without a change of sides has no cut step
+pub unchanged : (w h : ℕ) (cells : List ℕ) (g : Segment) (t : Strip) (k b : ℕ) {changes : ℕ} → CrossedAt g t k b changes → changes ≡ 0 → [] ≡ cutTwoBack (gridOf w h cells) g t k b
+unchanged w h cells g t k b C e = go (leb 2 b && ltb (b - 2) (minorSide t w h)) refl
+  where
+    M : Map
+    M = gridOf w h cells
+
+    far : Crossed g (cellOf t k (b - 2)) 0 → Far g (cellOf t k (b - 2))
+    far X d i j l m n = sym (X .cut d i j l m n) ∙ zero-bit (bitOf d)
+
+    none : (v : Bool) → Far g (cond v (at k (b - 2)) (at (b - 2) k)) → [] ≡ cutFrom M g (cond v (at k (b - 2)) (at (b - 2) k))
+    none true f = sym (no-cut M g (at k (b - 2)) (far-directions w h cells g k (b - 2) f .bits))
+    none false f = sym (no-cut M g (at (b - 2) k) (far-directions w h cells g (b - 2) k f .bits))
+
+    go : (v : Bool) → (leb 2 b && ltb (b - 2) (minorSide t w h)) ≡ v → [] ≡ cond v (cutFrom M g (cellOf t k (b - 2))) []
+    go false i = refl
+    go true i = none (t .columns) (far (subst (Crossed g (cellOf t k (b - 2))) e (C (placed b (minorSide t w h) i .0))))
 
 -- ---- the changes of sides
 

@@ -2,6 +2,7 @@ pub mod CutLaws
 pub mod Trimmed
 pub mod Onward
 pub mod Changes
+mod SideWords
 mod Steps
 pub mod Cells
 mod Sides

@@ -13,7 +13,7 @@ use Rattle.definitions.specs.Grid.{Pair}
 use Rattle.definitions.specs.Spans.{pixelsPerWalkCell, rangeInclusive, candidateMinorRange}
 use Rattle.laws.specs.ListLaws.Tests.{both}
 use Rattle.laws.specs.NumberLaws.Comparisons.{le-or-lt}
-use Rattle.cut_steps.specs.Prefixes.{upTo, concat-append}
+use Rattle.cut_steps.specs.Prefixes.{upTo, concat-append, concat-none, concat-more}
 use Rattle.cut_steps.specs.Crossed.{twoBack}
 
 pub run-split : (a n k : ℕ) → run a (n + k) ≡ run a n ++ run (a + n) k
@@ -124,3 +124,22 @@ places-joined f limit first reference some near far = go (reference / pixelsPerW
             let e : (b : ℕ) → first ≤ b → twoBack f limit b ≡ [] = λ b h. past f limit first far b (omega arith) in
             let none : suc (min (c + 3) (limit - 1)) - (c - 3) ≡ 0 = omega arith in
             ap₂ _++_ (ap₂ _++_ (ap₂ _++_ (e first (omega arith)) (e (first + 1) (omega arith))) (e (first + 2) (omega arith))) (e (first + 3) (omega arith)) ∙ sym (ap (λ n. concatMap f (run (c - 3) n)) none)
+
+-- none, one more, and four numbers from m on
+pub at-none : {A : Type 0} (f : ℕ → List A) (m : ℕ) → concatMap f (upTo m (m + 0)) ≡ []
+at-none f m =
+    let e : m + 0 ≡ m = omega arith in
+    ap (λ n. concatMap f (upTo m n)) e ∙ concat-none f m
+
+pub at-more : {A : Type 0} (f : ℕ → List A) (m j : ℕ) → concatMap f (upTo m (m + j)) ++ f (m + j) ≡ concatMap f (upTo m (m + (j + 1)))
+at-more f m j =
+    let e : m + j + 1 ≡ m + (j + 1) = omega arith in
+    sym (concat-more f m (m + j) (omega arith)) ∙ ap (λ n. concatMap f (upTo m n)) e
+
+pub four-passed : {A : Type 0} (f : ℕ → List A) (m : ℕ) → concatMap f (upTo m (m + 4)) ≡ ((f m ++ f (m + 1)) ++ f (m + 2)) ++ f (m + 3)
+four-passed f m =
+    let one : m + 1 + 1 ≡ m + 2 = omega arith in
+    let two : m + 2 + 1 ≡ m + 3 = omega arith in
+    let three : m + 3 + 1 ≡ m + 4 = omega arith in
+    ap (λ n. concatMap f (upTo m n)) (sym three) ∙ concat-more f m (m + 3) (omega arith)
+    ∙ ap (λ l. l ++ f (m + 3)) (ap (λ n. concatMap f (upTo m n)) (sym two) ∙ concat-more f m (m + 2) (omega arith) ∙ ap (λ l. l ++ f (m + 2)) (ap (λ n. concatMap f (upTo m n)) (sym one) ∙ concat-more f m (m + 1) (omega arith) ∙ ap (λ l. l ++ f (m + 1)) (concat-more f m m (omega arith) ∙ ap (λ l. l ++ f m) (concat-none f m))))

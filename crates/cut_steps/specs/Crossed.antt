@@ -1,6 +1,6 @@
 -- The words of the walk between a span's ends: which steps of a cell change sides, and so are cut where they are there, by the first places past the span's line in the
 -- cell's column, or row, and in the two beside it. Definitions only; assumes nothing.
-use Prim.Native.Nat.{ℕ, _+_, _-_, _*_, _≤_, _<_}
+use Prim.Native.Nat.{ℕ, _+_, _-_, _*_, _/_, _%_, _^_, _≤_, _<_}
 use mathlib.Core.Path.{_≡_}
 use mathlib.Core.Logic.{_⊎_}
 use mathlib.Core.Bool.{Bool, not, Bool·beq, _&&_, cond}
@@ -48,6 +48,10 @@ changesAt columns before here after i =
     cond columns
     (onwardMask (differ (leb here i) (leb after i)) (differ (leb here i) (leb before (i + 1))) (differ (leb here i) (leb here (i + 1))) (differ (leb here i) (leb after (i + 1))))
     (onwardMask (differ (leb here i) (leb here (i + 1))) (differ (leb here i) (leb (after + 1) i)) (differ (leb here i) (leb after i)) (differ (leb here i) (leb after (i + 1))))
+
+-- The changes of sides about the first place past the line, at 2, by the first place after it, four bits for each of four places: a word for the first place before it.
+abbrev pub SideWord : Bool → (back word : ℕ) → Type 0
+SideWord columns back word = (ahead j : ℕ) → ahead ≤ 3 → j ≤ 3 → word / 2 ^ (16 * ahead + 4 * j) % 16 * 32 ≡ changesAt columns back 2 ahead j
 
 -- the first places past the line in column, or row, k of a strip and in the two beside it, which are between the strip's ends
 pub record Follows (t : Strip) (tie k before here after : ℕ) : Type 0 where

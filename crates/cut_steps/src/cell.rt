@@ -19,7 +19,7 @@ ghost use Rattle.span_geometry.specs.Shapes.{Sound, segmentOf};
 ghost use Rattle.flood.specs.Walk.{gridOf};
 ghost use Rattle.flood.specs.Inner.{Inner};
 ghost use Rattle.cut_steps.specs.CutSteps.{isCutOnward, isSet};
-ghost use Rattle.cut_steps.specs.Crossed.{InGrid, Crossed, stepsOnward, changesAt};
+ghost use Rattle.cut_steps.specs.Crossed.{InGrid, Crossed, stepsOnward, changesAt, SideWord};
 ghost use Rattle.cut_steps.specs.Cell.{CellAsked, OnwardAsked, CutDirections, sideOf, Uncut, Far, maxReach, onwardMask};
 
 // Whether a number is larger in size than a bound.
@@ -241,21 +241,50 @@ fn steps_onward(width: usize, height: usize, cells: &[u8], x: usize, y: usize) -
     )
 }
 
+// The changes of sides about the first place past the line: sixteen bits for each first place in the column, or row, after it, and of these four for each
+// of four places, east, south-west, south and south-east. Along columns a word for the first place in the column before, above, level or below; along
+// rows it does not matter.
+const ABOVE_BEFORE: u64 = 0x016200e200fa00fb;
+
+const LEVEL_BEFORE: u64 = 0x016000e000f800f9;
+
+const BELOW_BEFORE: u64 = 0x014000c000d800d9;
+
+const ALONG_ROWS: u64 = 0x2610029000d800fc;
+
+// The word of changes of sides along columns.
+fn column_word(back: usize) -> u64
+    requires { ⌜ back ≤ 3 ⌝ }
+    ensures { λ r. ⌜ SideWord true back r ⌝ }
+{
+    if back <= 1 {
+        return ABOVE_BEFORE;
+    }
+    if back <= 2 {
+        return LEVEL_BEFORE;
+    }
+    BELOW_BEFORE
+}
+
+// The word of changes of sides.
+fn side_word(columns: bool, back: usize) -> u64
+    requires { ⌜ back ≤ 3 ⌝ }
+    ensures { λ r. ⌜ SideWord columns back r ⌝ }
+{
+    if columns {
+        return column_word(back);
+    }
+    ALONG_ROWS
+}
+
 // Which steps to cells of larger number change sides, a bit for each, from the cell that is j - 2 beyond the first place past the line in its column,
 // or row. The first places in the columns, or rows, before and after it are back - 2 and ahead - 2 beyond.
 pub fn side_changes(columns: bool, back: usize, ahead: usize, j: usize) -> u16
     requires { ⌜ (back ≤ 3) × (ahead ≤ 3) × (j ≤ 3) ⌝ }
     ensures { λ r. ⌜ r ≡ changesAt columns back 2 ahead j ⌝ }
 {
-    let past = 2 <= j;
-    let level = past != (2 <= j + 1);
-    let onto = past != (ahead <= j);
-    let diagonal = past != (ahead <= j + 1);
-    if columns {
-        onward_mask(onto, past != (back <= j + 1), level, diagonal)
-    } else {
-        onward_mask(level, past != (ahead + 1 <= j), onto, diagonal)
-    }
+    let places = side_word(columns, back) >> (16 * ahead + 4 * j);
+    (places % 16 * 32) as u16
 }
 
 // The directions of (x, y) in which a step leads to a cell of larger number and is cut, a bit for each, of a cell between the span's ends whose changes

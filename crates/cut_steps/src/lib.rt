@@ -176,6 +176,9 @@ fn mark_across(
     ensures { λ r. ⌜ Marked (gridOf width height (now (cells .entry))) (now (masks .entry))
         (now (masks .exit)) (cutTwoBack (gridOf width height (now (cells .entry))) (segmentOf g) strip k beyond) ⌝ }
 {
+    if changes == 0 {
+        return;
+    }
     let columns = strip.columns;
     if !is_placed(beyond, pick(columns, height, width)) {
         return;
@@ -207,50 +210,19 @@ fn mark_crossing(
     let columns = strip.columns;
     let back = before + 2 - here;
     let ahead = after + 2 - here;
-    mark_across(
-        width,
-        height,
-        cells,
-        g,
-        masks,
-        strip,
-        k,
-        here,
-        side_changes(columns, back, ahead, 0),
-    );
-    mark_across(
-        width,
-        height,
-        cells,
-        g,
-        masks,
-        strip,
-        k,
-        here + 1,
-        side_changes(columns, back, ahead, 1),
-    );
-    mark_across(
-        width,
-        height,
-        cells,
-        g,
-        masks,
-        strip,
-        k,
-        here + 2,
-        side_changes(columns, back, ahead, 2),
-    );
-    mark_across(
-        width,
-        height,
-        cells,
-        g,
-        masks,
-        strip,
-        k,
-        here + 3,
-        side_changes(columns, back, ahead, 3),
-    );
+    for j in 0..4 {
+        mark_across(
+            width,
+            height,
+            cells,
+            g,
+            masks,
+            strip,
+            k,
+            here + j,
+            side_changes(columns, back, ahead, j),
+        );
+    }
 }
 
 // The cut steps of the candidates in the columns, or rows, from `from` on before `to`, which are between the span's ends.

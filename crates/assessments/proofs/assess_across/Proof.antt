@@ -11,10 +11,9 @@ use Rattle.span_geometry.specs.Shapes.{segmentOf}
 use Rattle.span_geometry.specs.Candidates.{minorSide}
 use Rattle.flood.specs.Walk.{gridOf}
 use Rattle.cut_steps.specs.Columns.{cell-in}
-use Rattle.cut_steps.proofs.Across.{is-placed-as, placed, none-there, one-there, across-crossed}
+use Rattle.cut_steps.proofs.Across.{is-placed-as, placed, none-there, one-there, across-crossed, unchanged}
 use Rattle.assessments.proofs.Gathering.{assesses-none, assesses-same}
 use Rattle.assessments.proofs.Turns.{counting-most}
-use Rattle.assessments.proofs.Passing.{unchanged}
 use Rattle.assessments.proofs.assess_across.Statement.{statement}
 use Rattle.assessments.proofs.assess_across.Tie as tie
 

@@ -7,11 +7,12 @@ use Rattle.span_geometry.specs.Shapes.{segmentOf}
 use Rattle.line_crossings.proofs.Moving.{small}
 use Rattle.flood.specs.Walk.{gridOf}
 use Rattle.cut_steps.specs.Crossed.{cutTwoBack}
+use Rattle.cut_steps.proofs.Trimmed.{four-passed}
 use Rattle.cut_steps.proofs.Across.{tie-few, crossing-at, column-crossed}
 use Rattle.assessments.specs.Assess.{maxCellEdges}
 use Rattle.assessments.proofs.Gathering.{assesses-same}
 use Rattle.assessments.proofs.Turns.{counting-most}
-use Rattle.assessments.proofs.Passing.{Passing, passing-start, passing-more, passing-done, at-first, one-further, cell-room, four-fit, four-passed}
+use Rattle.assessments.proofs.Passing.{Passing, passing-start, passing-more, passing-done, at-first, one-further, cell-room, four-fit}
 use Rattle.assessments.proofs.assess_crossing.Statement.{statement}
 use Rattle.assessments.proofs.assess_crossing.Tie as tie
 

@@ -1,4 +1,4 @@
--- `mark_across` meets its contract: where there is no such cell there is nothing to mark, and else `crossed_directions` says which of its steps are cut. Assumes nothing.
+-- `mark_across` meets its contract: without a change of sides, or where there is no such cell, there is nothing to mark, and else `crossed_directions` says which of its steps are cut. Assumes nothing.
 use Prim.Native.Nat.{_-_, _≤_, _<_}
 use mathlib.Core.Path.{_≡_, sym}
 use mathlib.Core.Bool.{true, _&&_}
@@ -10,9 +10,15 @@ use Rattle.span_geometry.specs.Candidates.{minorSide}
 use Rattle.flood.specs.Walk.{gridOf}
 use Rattle.cut_steps.specs.Columns.{cell-in}
 use Rattle.cut_steps.proofs.Marks.{marked-none, marked-as}
-use Rattle.cut_steps.proofs.Across.{is-placed-as, placed, none-there, one-there, across-crossed, across-asked}
+use Rattle.cut_steps.proofs.Across.{is-placed-as, placed, none-there, one-there, across-crossed, across-asked, unchanged}
 use Rattle.cut_steps.proofs.mark_across.Statement.{statement}
 use Rattle.cut_steps.proofs.mark_across.Tie as tie
+
+returns : tie.Need-returns
+returns c =
+    let s = c .before .before .before in
+    let a = s .args in
+    marked-as (unchanged (a .width) (a .height) (a .cells .now) (segmentOf (a .g)) (a .strip) (a .k) (a .beyond) (s .pre .1) (c .if1 .taken)) marked-none
 
 pick-requires : tie.Need-pick-requires
 pick-requires c κs = search needs
@@ -20,26 +26,26 @@ pick-requires c κs = search needs
 is-placed-requires : tie.Need-is-placed-requires
 is-placed-requires c κs = search needs
 
--- the function's entry, from its test on
+-- the function's entry, from its second test on
 abbrev entry : tie.After-is-placed → tie.Start
 entry c =
-    let at-slice-known = c .before .before in
+    let at-slice-known = c .before .before .before in
     at-slice-known .before .before
 
-returns : tie.Need-returns
-returns c =
+returns-2 : tie.Need-returns-2
+returns-2 c =
     let p = c .before in
     let a = entry p .args in
-    marked-as (sym (none-there (gridOf (a .width) (a .height) (a .cells .now)) (segmentOf (a .g)) (a .strip) (a .k) (a .beyond) (is-placed-as (a .strip) (a .width) (a .height) (a .beyond) (p .before .pick .ensures) (p .is-placed .ensures) (not-true _ (c .if1 .taken))))) marked-none
+    marked-as (sym (none-there (gridOf (a .width) (a .height) (a .cells .now)) (segmentOf (a .g)) (a .strip) (a .k) (a .beyond) (is-placed-as (a .strip) (a .width) (a .height) (a .beyond) (p .before .pick .ensures) (p .is-placed .ensures) (not-true _ (c .if2 .taken))))) marked-none
 
 -- past the test
-is-in : (c : tie.Else1) → let a = entry (c .before) .args in (leb 2 (a .beyond) && ltb (a .beyond - 2) (minorSide (a .strip) (a .width) (a .height))) ≡ true
+is-in : (c : tie.Else2) → let a = entry (c .before) .args in (leb 2 (a .beyond) && ltb (a .beyond - 2) (minorSide (a .strip) (a .width) (a .height))) ≡ true
 is-in c =
     let p = c .before in
     let a = entry p .args in
-    is-placed-as (a .strip) (a .width) (a .height) (a .beyond) (p .before .pick .ensures) (p .is-placed .ensures) (not-false _ (c .if1 .left))
+    is-placed-as (a .strip) (a .width) (a .height) (a .beyond) (p .before .pick .ensures) (p .is-placed .ensures) (not-false _ (c .if2 .left))
 
-place : (c : tie.Else1) → let a = entry (c .before) .args in (2 ≤ a .beyond) × (a .beyond - 2 < minorSide (a .strip) (a .width) (a .height))
+place : (c : tie.Else2) → let a = entry (c .before) .args in (2 ≤ a .beyond) × (a .beyond - 2 < minorSide (a .strip) (a .width) (a .height))
 place c = let a = entry (c .before) .args in placed (a .beyond) (minorSide (a .strip) (a .width) (a .height)) (is-in c)
 
 sub-pick : tie.Need-sub-pick
@@ -77,8 +83,8 @@ mark-directions-requires c κs =
 same-length : tie.Need-same-length
 same-length c = search needs
 
-returns-2 : tie.Need-returns-2
-returns-2 c =
+returns-3 : tie.Need-returns-3
+returns-3 c =
     let m = c .before .before in
     let p = m .before .before .before in
     let e = p .before .before in
@@ -89,9 +95,10 @@ pub mark-across-spec : {M : Type 1} → statement M
 mark-across-spec =
     tie.close
     (tie.spec
+    returns
     pick-requires
     is-placed-requires
-    returns
+    returns-2
     sub-pick
     pick-requires-2
     sub-pick-2
@@ -99,4 +106,4 @@ mark-across-spec =
     crossed-directions-requires
     mark-directions-requires
     same-length
-    returns-2)
+    returns-3)
