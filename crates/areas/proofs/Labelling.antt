@@ -10,7 +10,7 @@ use Rattle.definitions.specs.Grid.{Map, mapOf}
 use Rattle.definitions.specs.Lists.{zeroed}
 use Rattle.cut_steps.specs.Contract.{SpanMap, Checked}
 use Rattle.cut_steps.specs.Marking.{SpansMarked}
-use Rattle.flood.specs.Contract.{CutMap}
+use Rattle.grid_steps.specs.Contract.{CutMap}
 use Rattle.row_runs.specs.Contract.{Room, OnwardCut, Labelled}
 use Rattle.areas.specs.Labelled.{LabelledAs}
 

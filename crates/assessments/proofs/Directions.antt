@@ -11,9 +11,9 @@ use Rattle.definitions.specs.Grid.{Map, Position, at, Segment, index, cellAt, i
 use Rattle.definitions.specs.Spans.{cuts}
 use Rattle.laws.specs.ListLaws.Tests.{both}
 use Rattle.laws.specs.RegionLaws.Steps.{step-parts}
-use Rattle.flood.specs.Masks.{bitOf}
-use Rattle.flood.specs.Walk.{gridOf}
-use Rattle.flood.specs.Inner.{Inside}
+use Rattle.grid_steps.specs.Masks.{bitOf}
+use Rattle.grid_steps.specs.Walk.{gridOf}
+use Rattle.grid_steps.specs.Inner.{Inside}
 use Rattle.cut_steps.specs.CutSteps.{isSet, isCutOnward, cutFrom, cutToward}
 use Rattle.cut_steps.specs.Cell.{CutBits, CutDirections}
 use Rattle.cut_steps.proofs.Marks.{four-cut, no-cut}

@@ -15,8 +15,8 @@ use Rattle.definitions.specs.Grid.{Map, at, Pair, Segment}
 use Rattle.span_geometry.specs.declared.strips.Strip.{Strip}
 use Rattle.span_geometry.specs.Candidates.{cellOf, minorSide}
 use Rattle.laws.specs.NumberLaws.Comparisons.{le-or-lt}
-use Rattle.flood.specs.Masks.{bitOf}
-use Rattle.flood.specs.Walk.{gridOf}
+use Rattle.grid_steps.specs.Masks.{bitOf}
+use Rattle.grid_steps.specs.Walk.{gridOf}
 use Rattle.cut_steps.specs.CutSteps.{cutFrom}
 use Rattle.cut_steps.specs.Cell.{Far}
 use Rattle.cut_steps.specs.Prefixes.{upTo, concat-none, concat-more}

@@ -12,7 +12,7 @@ use Rattle.definitions.specs.Grid.{segmentAt}
 use Rattle.definitions.specs.Partition.{isSeparated, pairsOf}
 use Rattle.span_geometry.specs.declared.SpanGeometry.{SpanGeometry}
 use Rattle.span_geometry.specs.Shapes.{segmentOf, Made}
-use Rattle.flood.specs.Walk.{gridOf}
+use Rattle.grid_steps.specs.Walk.{gridOf}
 use Rattle.cut_steps.specs.Contract.{Checked}
 use Rattle.cut_steps.specs.CutSteps.{cutSpan}
 use Rattle.cut_steps.proofs.Spans.{cutListed}

@@ -8,9 +8,9 @@ use Rattle.definitions.specs.Limits.{maxSide, numbersPerPair}
 use Rattle.definitions.specs.Scan.{filter}
 use Rattle.definitions.specs.Grid.{Position, at, Pair, toward, edge}
 use Rattle.definitions.specs.Partition.{isSeparated, pairsOf}
-use Rattle.flood.specs.Masks.{bitOf}
-use Rattle.flood.specs.Walk.{gridOf}
-use Rattle.flood.specs.Inner.{Inside}
+use Rattle.grid_steps.specs.Masks.{bitOf}
+use Rattle.grid_steps.specs.Walk.{gridOf}
+use Rattle.grid_steps.specs.Inner.{Inside}
 use Rattle.cut_steps.specs.CutSteps.{isSet}
 use Rattle.laws.specs.RegionLaws.PairRows.{rowsFor}
 use Rattle.assessments.specs.Held.{Held, Counted}

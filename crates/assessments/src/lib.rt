@@ -28,7 +28,7 @@ ghost use Prim.Native.Nat.{_+_, _-_, _*_, _≤_, _<_};
 ghost use lib.ListN.{length};
 ghost use Rattle.definitions.specs.Grid.{at};
 ghost use Rattle.definitions.specs.Refusals.{endpointsDiffer};
-ghost use Rattle.flood.specs.Walk.{gridOf};
+ghost use Rattle.grid_steps.specs.Walk.{gridOf};
 ghost use Rattle.span_geometry.specs.Shapes.{Sound, segmentOf};
 ghost use Rattle.cut_steps.specs.Contract.{Checked};
 ghost use Rattle.cut_steps.specs.CutSteps.{cutFrom, cutSpan};

@@ -15,8 +15,8 @@ use Rattle.span_geometry.specs.Candidates.{cellOf, minorSide}
 use Rattle.laws.specs.ListLaws.Tests.{both}
 use Rattle.line_crossings.specs.Crossings.{tieOf}
 use Rattle.line_crossings.proofs.NearLine.{near-line}
-use Rattle.flood.specs.Masks.{bitOf}
-use Rattle.flood.specs.Walk.{gridOf}
+use Rattle.grid_steps.specs.Masks.{bitOf}
+use Rattle.grid_steps.specs.Walk.{gridOf}
 use Rattle.cut_steps.specs.CutSteps.{cutFrom}
 use Rattle.cut_steps.specs.Cell.{CellAsked, Far}
 use Rattle.cut_steps.specs.Columns.{ColumnAsked, cutAcross, cutColumn, cell-at}

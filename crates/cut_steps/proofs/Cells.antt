@@ -13,9 +13,9 @@ use Rattle.definitions.specs.Limits.{maxSide}
 use Rattle.definitions.specs.Grid.{Segment, at, walkable, isStep}
 use Rattle.span_geometry.specs.declared.SpanGeometry.{SpanGeometry}
 use Rattle.span_geometry.specs.Shapes.{Sound}
-use Rattle.flood.specs.Walk.{gridOf}
-use Rattle.flood.specs.Inner.{Nearby, Inside, Stepping}
-use Rattle.flood.proofs.StepTests.{cells-in, step-inside, walkable-at}
+use Rattle.grid_steps.specs.Walk.{gridOf}
+use Rattle.grid_steps.specs.Inner.{Nearby, Inside, Stepping}
+use Rattle.grid_steps.proofs.StepTests.{cells-in, step-inside, walkable-at}
 use Rattle.cut_steps.specs.CutSteps.{isCutOnward, isSet}
 use Rattle.cut_steps.specs.Cell.{CellAsked, OnwardAsked, CutDirections, Uncut, Far, onwardMask}
 use Rattle.cut_steps.specs.Marking.{DirectionAsked}

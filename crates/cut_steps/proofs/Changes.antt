@@ -21,9 +21,9 @@ use Rattle.span_geometry.specs.Candidates.{cellOf}
 use Rattle.laws.specs.NumberLaws.Comparisons.{le-or-lt}
 use Rattle.line_crossings.specs.Crossings.{tieOf, Close}
 use Rattle.line_crossings.proofs.Past.{cut-between}
-use Rattle.flood.specs.Masks.{bitOf}
-use Rattle.flood.specs.Walk.{gridOf}
-use Rattle.flood.proofs.Square.{four}
+use Rattle.grid_steps.specs.Masks.{bitOf}
+use Rattle.grid_steps.specs.Walk.{gridOf}
+use Rattle.grid_steps.proofs.Square.{four}
 use Rattle.cut_steps.specs.CutSteps.{isCutOnward, isSet}
 use Rattle.cut_steps.specs.Cell.{CutDirections, Far, onwardMask}
 use Rattle.cut_steps.specs.Crossed.{stepsOnward, Crossed, differ, changesAt, Follows, FollowsIn}

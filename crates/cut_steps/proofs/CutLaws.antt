@@ -12,7 +12,7 @@ use Rattle.definitions.specs.Grid.{Map, Position, Segment, canonical, segmentAt
 use Rattle.definitions.specs.Spans.{cuts, candidatePositions, cutSteps}
 use Rattle.definitions.specs.Partition.{cutAll}
 use Rattle.laws.specs.ListLaws.Lists.{length-run, getD-tab}
-use Rattle.flood.specs.Walk.{gridOf}
+use Rattle.grid_steps.specs.Walk.{gridOf}
 use Rattle.cut_steps.specs.Contract.{SpanMap}
 use Rattle.cut_steps.specs.CutSteps.{isCutOnward, cutFrom, cutSpan, cutToward}
 use Rattle.cut_steps.specs.Prefixes.{gather-ext}

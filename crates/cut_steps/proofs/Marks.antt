@@ -16,12 +16,12 @@ use Rattle.definitions.specs.Spans.{cuts}
 use Rattle.laws.specs.ListLaws.Tests.{both}
 use Rattle.span_geometry.specs.declared.SpanGeometry.{SpanGeometry}
 use Rattle.span_geometry.specs.Shapes.{segmentOf}
-use Rattle.flood.specs.Masks.{bitOf, withBit, Marks}
-use Rattle.flood.specs.Walk.{gridOf}
-use Rattle.flood.proofs.Square.{four, In, walkable-in, position-index}
-use Rattle.flood.proofs.StepTests.{step-inside}
-use Rattle.flood.proofs.Bits.{withBit-length}
-use Rattle.flood.proofs.MarkStep.{mark-adds}
+use Rattle.grid_steps.specs.Masks.{bitOf, withBit, Marks}
+use Rattle.grid_steps.specs.Walk.{gridOf}
+use Rattle.grid_steps.proofs.Square.{four, In, walkable-in, position-index}
+use Rattle.grid_steps.proofs.StepTests.{step-inside}
+use Rattle.grid_steps.proofs.Bits.{withBit-length}
+use Rattle.grid_steps.proofs.MarkStep.{mark-adds}
 use Rattle.cut_steps.specs.CutSteps.{isCutOnward, cutFrom, cutToward, isSet}
 use Rattle.cut_steps.proofs.CutLaws.{cutFrom-directions}
 use Rattle.cut_steps.specs.Cell.{CellAsked, CutBits, CutDirections}

@@ -12,9 +12,9 @@ use borrow.Author.Tests.{lt-ltb, le-ltb}
 use Rattle.definitions.specs.Scan.{run}
 use Rattle.definitions.specs.Grid.{Map, Position, at, Segment, toward, index, isStep, walkable}
 use Rattle.definitions.specs.Spans.{cuts}
-use Rattle.flood.specs.Masks.{bitOf}
-use Rattle.flood.proofs.Square.{four}
-use Rattle.flood.proofs.Onward.{onward-bit}
+use Rattle.grid_steps.specs.Masks.{bitOf}
+use Rattle.grid_steps.proofs.Square.{four}
+use Rattle.grid_steps.proofs.Onward.{onward-bit}
 use Rattle.cut_steps.specs.CutSteps.{isCutOnward, isSet}
 use Rattle.cut_steps.specs.Cell.{CutBits, Uncut, onwardMask}
 

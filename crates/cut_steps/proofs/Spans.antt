@@ -1,4 +1,4 @@
--- The loop over the spans: what the calls for one span ask, one span more (`spans-more`), and what all spans come to: masks as the flood asks, of every map with these
+-- The loop over the spans: what the calls for one span ask, one span more (`spans-more`), and what all spans come to: masks as labelling asks, of every map with these
 -- cells and spans (`spans-done`). Assumes nothing.
 use Prim.Native.Nat.{ℕ, _+_, _*_, _/_, _≤_, _<_}
 use native.Mathlib.Omega.{arith}
@@ -19,9 +19,9 @@ use Rattle.laws.specs.ListLaws.Tests.{both}
 use Rattle.span_geometry.specs.declared.SpanGeometry.{SpanGeometry}
 use Rattle.span_geometry.specs.Shapes.{maxPixel, segmentOf, Made}
 use Rattle.span_geometry.proofs.Canonical.{canonical-differ}
-use Rattle.flood.specs.Masks.{Marks}
-use Rattle.flood.specs.Walk.{gridOf}
-use Rattle.flood.proofs.MarkStep.{marks-none}
+use Rattle.grid_steps.specs.Masks.{Marks}
+use Rattle.grid_steps.specs.Walk.{gridOf}
+use Rattle.grid_steps.proofs.MarkStep.{marks-none}
 use Rattle.cut_steps.specs.CutSteps.{cutSpan}
 use Rattle.cut_steps.specs.Contract.{SpanMap, Checked}
 use Rattle.cut_steps.proofs.CutLaws.{cut-all-spans}

@@ -11,10 +11,10 @@ use lib.Dec.{leb, ltb}
 use borrow.Author.Tests.{leb-true, ltb-true}
 use Rattle.definitions.specs.Grid.{Map, at, walkable, isStep}
 use Rattle.laws.specs.ListLaws.Tests.{both, same-test}
-use Rattle.flood.specs.Walk.{gridOf}
-use Rattle.flood.specs.Inner.{Nearby, Inside, Inner, Stepping}
-use Rattle.flood.proofs.Square.{four, join4}
-use Rattle.flood.proofs.StepTests.{step-inside}
+use Rattle.grid_steps.specs.Walk.{gridOf}
+use Rattle.grid_steps.specs.Inner.{Nearby, Inside, Inner, Stepping}
+use Rattle.grid_steps.proofs.Square.{four, join4}
+use Rattle.grid_steps.proofs.StepTests.{step-inside}
 use Rattle.cut_steps.specs.Cell.{CellAsked, onwardMask}
 use Rattle.cut_steps.specs.Crossed.{InGrid, stepsOnward}
 use Rattle.span_geometry.specs.declared.SpanGeometry.{SpanGeometry}

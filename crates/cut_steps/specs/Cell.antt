@@ -10,8 +10,8 @@ use Rattle.definitions.specs.Grid.{Map, Position, at, Segment, toward, walkable
 use Rattle.definitions.specs.Spans.{pixelsPerWalkCell, cross, cellCenter, cuts}
 use Rattle.span_geometry.specs.declared.SpanGeometry.{SpanGeometry}
 use Rattle.span_geometry.specs.Shapes.{maxPixel, Sound}
-use Rattle.flood.specs.Masks.{bitOf}
-use Rattle.flood.specs.Walk.{gridOf}
+use Rattle.grid_steps.specs.Masks.{bitOf}
+use Rattle.grid_steps.specs.Walk.{gridOf}
 use Rattle.cut_steps.specs.CutSteps.{isCutOnward, isSet}
 
 -- a cell of the grid of the lent bytes, and a span

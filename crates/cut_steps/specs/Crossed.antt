@@ -15,7 +15,7 @@ use Rattle.span_geometry.specs.declared.strips.Strip.{Strip}
 use Rattle.span_geometry.specs.Strips.{Usable, stripOf}
 use Rattle.span_geometry.specs.Candidates.{cellOf, minorSide, majorSide}
 use Rattle.line_crossings.specs.Crossings.{Between, tieOf, Crossing, Close}
-use Rattle.flood.specs.Masks.{bitOf}
+use Rattle.grid_steps.specs.Masks.{bitOf}
 use Rattle.cut_steps.specs.CutSteps.{isSet}
 use Rattle.cut_steps.specs.Cell.{onwardMask}
 use Rattle.cut_steps.specs.Prefixes.{upTo}

@@ -9,9 +9,9 @@ use Rattle.definitions.specs.Grid.{Map, Position, at, Pair, toward}
 use Rattle.definitions.specs.Refusals.{endpointsDiffer}
 use Rattle.span_geometry.specs.declared.SpanGeometry.{SpanGeometry}
 use Rattle.span_geometry.specs.Shapes.{maxPixel, Sound, segmentOf}
-use Rattle.flood.specs.Masks.{bitOf, withBit, Marks}
-use Rattle.flood.specs.Inner.{Nearby, Inside}
-use Rattle.flood.specs.Contract.{CutMap}
+use Rattle.grid_steps.specs.Masks.{bitOf, withBit, Marks}
+use Rattle.grid_steps.specs.Inner.{Nearby, Inside}
+use Rattle.grid_steps.specs.Contract.{CutMap}
 use Rattle.cut_steps.specs.CutSteps.{isSet}
 use Rattle.cut_steps.specs.Contract.{SpanMap}
 
@@ -58,7 +58,7 @@ pub record Marked (M : Map) (was masks : List ℕ) (added : List Pair) : Type 0 
   pub long : length masks ≡ length was
   pub rest : drop (M .height * M .width) masks ≡ drop (M .height * M .width) was
 
--- of masks that were 0: they are as the flood asks, of every map with these cells and spans
+-- of masks that were 0: they are as labelling asks, of every map with these cells and spans
 pub record SpansMarked (w h : ℕ) (cells spans was masks : List ℕ) : Type 0 where
   pub maps : (M : Map) → SpanMap w h cells spans M → CutMap w h cells masks M
   pub long : length masks ≡ length was

@@ -1,7 +1,7 @@
 // The steps of one cell that a span cuts, as a mask of directions.
-use flood::is_inner;
-use flood::is_inside;
-use flood::is_step;
+use grid_steps::is_inner;
+use grid_steps::is_inside;
+use grid_steps::is_step;
 use span_geometry::PIXELS_PER_WALK_CELL;
 use span_geometry::SpanGeometry;
 use span_geometry::numbers::not_negative;
@@ -16,8 +16,8 @@ ghost use lib.IntN.{natAbs};
 ghost use Rattle.definitions.specs.Limits.{maxSide};
 ghost use Rattle.definitions.specs.Grid.{at, walkable, isStep};
 ghost use Rattle.span_geometry.specs.Shapes.{Sound, segmentOf};
-ghost use Rattle.flood.specs.Walk.{gridOf};
-ghost use Rattle.flood.specs.Inner.{Inner};
+ghost use Rattle.grid_steps.specs.Walk.{gridOf};
+ghost use Rattle.grid_steps.specs.Inner.{Inner};
 ghost use Rattle.cut_steps.specs.CutSteps.{isCutOnward, isSet};
 ghost use Rattle.cut_steps.specs.Crossed.{InGrid, Crossed, stepsOnward, changesAt, SideWord};
 ghost use Rattle.cut_steps.specs.Cell.{CellAsked, OnwardAsked, CutDirections, sideOf, Uncut, Far, maxReach, onwardMask};

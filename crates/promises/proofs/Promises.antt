@@ -44,9 +44,9 @@ use Rattle.laws.specs.RustJunctions.UnionRegions as unions
 use Rattle.hypotenuse.specs.declared.Answer as root
 use Rattle.hypotenuse.specs.Contract.{numberOf, valueOf, Allowed}
 use Rattle.hypotenuse.specs.RootNearest as nearest
-use Rattle.flood.specs.Walk.{directionAt}
-use Rattle.flood.specs.Inner.{placed, byteAt}
-use Rattle.flood.proofs.Ways as ways
+use Rattle.grid_steps.specs.Walk.{directionAt}
+use Rattle.grid_steps.specs.Inner.{placed, byteAt}
+use Rattle.grid_steps.proofs.Ways as ways
 use Rattle.context.specs.Records.{recordOf}
 use Rattle.areas.specs.declared.Partitioned.{Partitioned}
 use Rattle.areas.specs.Answers.{answerOf}

@@ -11,7 +11,7 @@ use borrow.Author.Tests.{eqb-true, eqb-false, ltb-true, ltb-false}
 use Rattle.laws.specs.ListLaws.Tests.{both}
 use Rattle.laws.specs.RegionLaws.Merging.{merged, merged-one}
 use Rattle.laws.specs.ListLaws.Beyond.{beyond-same, beyond-then}
-use Rattle.flood.specs.Masks.{cutBit}
+use Rattle.grid_steps.specs.Masks.{cutBit}
 use Rattle.parents.specs.Forest.{Forest, joinedName, PlacedTwo, Left}
 use Rattle.row_runs.specs.Stretch.{walks}
 use Rattle.row_runs.specs.Names.{EastLevel}

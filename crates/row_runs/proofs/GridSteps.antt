@@ -12,11 +12,11 @@ use Rattle.definitions.specs.Grid.{Map, Position, at, Pair, toward, index, posi
 use Rattle.definitions.specs.Partition.{cutAll, walkableAt}
 use Rattle.laws.specs.ListLaws.Lists.{done, more}
 use Rattle.laws.specs.ListLaws.Members.{all-place}
-use Rattle.flood.specs.Masks.{bitOf, cutBit, reached, OnwardMarks}
-use Rattle.flood.specs.Walk.{directionAt}
-use Rattle.flood.proofs.Square.{Four, four, In, walkable-in, index-position, position-index}
-use Rattle.flood.proofs.Onward.{next-row, same-row, onward-bit}
-use Rattle.flood.proofs.OpenSteps.{isOpen, open-step, open-uncut, OnwardAll}
+use Rattle.grid_steps.specs.Masks.{bitOf, cutBit, reached, OnwardMarks}
+use Rattle.grid_steps.specs.Walk.{directionAt}
+use Rattle.grid_steps.proofs.Square.{Four, four, In, walkable-in, index-position, position-index}
+use Rattle.grid_steps.proofs.Onward.{next-row, same-row, onward-bit}
+use Rattle.grid_steps.proofs.OpenSteps.{isOpen, open-step, open-uncut, OnwardAll}
 use Rattle.row_runs.specs.Stretch.{walks}
 use Rattle.row_runs.specs.Corners.{isSquare, CornerLevel}
 use Rattle.row_runs.specs.Cells.{Level}

@@ -17,8 +17,8 @@ use Rattle.definitions.specs.Partition.{cutAll, roots, labels, regionCount, wal
 use Rattle.laws.specs.ListLaws.Below.{count-ext}
 use Rattle.laws.specs.RegionLaws.Regions.{root, label-walkable, label-blocked, labels-length, root-label}
 use Rattle.laws.specs.ListLaws.Beyond.{Beyond, beyond-then}
-use Rattle.flood.specs.Masks.{OnwardMarks}
-use Rattle.flood.proofs.Onward.{next-row}
+use Rattle.grid_steps.specs.Masks.{OnwardMarks}
+use Rattle.grid_steps.proofs.Onward.{next-row}
 use Rattle.parents.specs.Forest.{Left}
 use Rattle.parents.specs.ForestLaws.{name-low}
 use Rattle.row_runs.specs.Stretch.{Stretch}

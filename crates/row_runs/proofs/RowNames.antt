@@ -8,7 +8,7 @@ use lib.ListN.{length, getD, set, drop, length-set}
 use lib.Seq.{getD-set-same, getD-set-other, drop-set-lt}
 use lib.Dec.{eqb, ltb}
 use borrow.Author.Tests.{eqb-true, eqb-false, ltb-true, ltb-false}
-use Rattle.flood.specs.Masks.{cutBit}
+use Rattle.grid_steps.specs.Masks.{cutBit}
 use Rattle.laws.specs.ListLaws.Beyond.{beyond-same, beyond-then}
 use Rattle.parents.specs.Forest.{Forest, Left}
 use Rattle.row_runs.specs.Stretch.{walks, Stretch, StretchAsked}

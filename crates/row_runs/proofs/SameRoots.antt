@@ -12,8 +12,8 @@ use Rattle.laws.specs.ListLaws.Lists.{All, all-map}
 use Rattle.laws.specs.RegionLaws.Merging.{step-joins}
 use Rattle.laws.specs.RegionLaws.Chains.{joined-same}
 use Rattle.laws.specs.RegionLaws.Regions.{root, uncut-within, roots-rooted, roots-joined, root-below}
-use Rattle.flood.specs.Masks.{OnwardMarks}
-use Rattle.flood.proofs.OpenSteps.{uncut-each, uncut-at}
+use Rattle.grid_steps.specs.Masks.{OnwardMarks}
+use Rattle.grid_steps.proofs.OpenSteps.{uncut-each, uncut-at}
 use Rattle.parents.specs.ForestLaws.{name-low}
 use Rattle.row_runs.specs.Cells.{Level, CellsJoined}
 use Rattle.row_runs.proofs.GridSteps.{Even, level-onward, onward-level}

@@ -10,7 +10,7 @@ use lib.Dec.{eqb, ltb}
 use borrow.Author.Tests.{eqb-true, eq-eqb, ne-eqb, ltb-true, ltb-false}
 use Rattle.laws.specs.RegionLaws.Merging.{merged, merged-one}
 use Rattle.laws.specs.ListLaws.Beyond.{beyond-same, beyond-then}
-use Rattle.flood.specs.Masks.{cutBit}
+use Rattle.grid_steps.specs.Masks.{cutBit}
 use Rattle.parents.specs.Forest.{Forest, joinedName, Left}
 use Rattle.row_runs.specs.Stretch.{walks, Until, Stretch}
 use Rattle.row_runs.specs.Names.{Tiles, none, more, EastLevel}

@@ -8,7 +8,7 @@ use lib.ListN.{getD}
 use lib.Dec.{eqb, ltb}
 use borrow.Author.Tests.{eqb-true, eqb-false, ltb-true, ltb-false, not-true}
 use Rattle.laws.specs.ListLaws.Tests.{both}
-use Rattle.flood.specs.Masks.{cutBit}
+use Rattle.grid_steps.specs.Masks.{cutBit}
 use Rattle.row_runs.specs.Stretch.{walks, goesOn, Clear, Until, Stretch}
 
 -- a mask of zero has no bit

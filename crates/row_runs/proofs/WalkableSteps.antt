@@ -5,7 +5,7 @@ use native.Mathlib.Omega.{arith}
 use mathlib.Core.Path.{_≡_, ap₂, _∙_}
 use mathlib.Core.Bool.{true}
 use Rattle.definitions.specs.Grid.{Map, at, walkable, isStep}
-use Rattle.flood.proofs.Square.{join4}
+use Rattle.grid_steps.proofs.Square.{join4}
 
 module _ (M : Map) where
   -- the same position by other numbers

@@ -6,7 +6,7 @@ use lib.ListN.{length, getD, drop}
 use Rattle.definitions.specs.Grid.{Map, cellCount}
 use Rattle.definitions.specs.Lists.{overwrite}
 use Rattle.definitions.specs.Partition.{cutAll, labels, regionCount}
-use Rattle.flood.specs.Masks.{OnwardMarks}
+use Rattle.grid_steps.specs.Masks.{OnwardMarks}
 
 -- sides within the limits, a byte for each cell, and room for each cell
 pub record Room (w h : ℕ) (cells masks l q : List ℕ) : Type 0 where

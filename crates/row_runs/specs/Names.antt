@@ -4,7 +4,7 @@ use mathlib.Core.Path.{_≡_}
 use mathlib.Core.Bool.{Bool, true, false, cond}
 use mathlib.Core.List.{List}
 use lib.ListN.{length, getD, drop}
-use Rattle.flood.specs.Masks.{cutBit}
+use Rattle.grid_steps.specs.Masks.{cutBit}
 use Rattle.parents.specs.Forest.{Forest, Left}
 use Rattle.row_runs.specs.Stretch.{walks, Clear, Stretch}
 

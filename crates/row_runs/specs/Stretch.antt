@@ -6,7 +6,7 @@ use mathlib.Core.Bool.{Bool, true, false, not, _&&_}
 use mathlib.Core.List.{List}
 use lib.ListN.{length, getD}
 use Rattle.definitions.specs.Grid.{isWalkable}
-use Rattle.flood.specs.Masks.{cutBit}
+use Rattle.grid_steps.specs.Masks.{cutBit}
 
 -- cell c is walkable
 abbrev pub walks : List ℕ → ℕ → Bool

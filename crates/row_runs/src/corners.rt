@@ -1,6 +1,6 @@
 // Diagonal steps between two rows. Only those beside a mark can join what straight steps do not (proofs/CornerNames).
 use crate::tests::is_walkable;
-use flood::is_cut;
+use grid_steps::is_cut;
 use parents::join;
 ghost use mathlib.Core.Path.{_≡_};
 ghost use mathlib.Core.Bool.{true};

@@ -5,12 +5,12 @@ use crate::tests::is_walkable;
 use crate::words::first_flag;
 use crate::words::gap_flags;
 use crate::words::open_flags;
-use flood::is_cut;
+use grid_steps::is_cut;
 ghost use mathlib.Core.Path.{_≡_};
 ghost use mathlib.Core.Bool.{false, not};
 ghost use Prim.Native.Nat.{_+_, _≤_, _<_};
 ghost use lib.ListN.{length};
-ghost use Rattle.flood.specs.Masks.{cutBit};
+ghost use Rattle.grid_steps.specs.Masks.{cutBit};
 ghost use Rattle.row_runs.specs.Stretch.{walks, goesOn, Clear, Until, Stretch, StretchAsked};
 
 // Whether a step from a cell of the row is cut. Of most rows none is.

@@ -1,5 +1,5 @@
 // What is asked of a cell: whether it is walkable, and whether a run goes on to it.
-use flood::is_cut;
+use grid_steps::is_cut;
 ghost use mathlib.Core.Path.{_≡_};
 ghost use Prim.Native.Nat.{_≤_, _<_};
 ghost use lib.ListN.{length};

@@ -18,8 +18,8 @@ use Rattle.definitions.specs.Partition.{cutAll, roots, labels, regionCount, wal
 use Rattle.laws.specs.ListLaws.Lists.{done}
 use Rattle.laws.specs.RegionLaws.Regions.{root, roots-rooted, region-least, root-below, root-walkable, label-walkable, label-blocked, labels-length}
 use Rattle.laws.specs.NumberLaws.Comparisons.{last-or}
-use Rattle.flood.specs.Masks.{reached, Marks}
-use Rattle.flood.proofs.OpenSteps.{isOpen}
+use Rattle.grid_steps.specs.Masks.{reached, Marks}
+use Rattle.grid_steps.proofs.OpenSteps.{isOpen}
 use Rattle.rust_partition.specs.UsedCells.{used, used-some, used-none, used-zero, used-same}
 use Rattle.rust_partition.specs.Literal.Components.{Waiting, Flooding, Components, drain, floodFrom, floodAll, components}
 use Rattle.rust_partition.specs.OpenWays.{uncut-level}

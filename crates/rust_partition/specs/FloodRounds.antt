@@ -16,10 +16,10 @@ use Rattle.definitions.specs.Partition.{cutAll, labels, walkableAt}
 use Rattle.laws.specs.ListLaws.Lists.{All, more, all-map}
 use Rattle.laws.specs.RegionLaws.Regions.{label-blocked}
 use Rattle.laws.specs.ListLaws.ScanSteps.{count-le}
-use Rattle.flood.specs.Masks.{bitOf, reached, stepPair, Marks}
-use Rattle.flood.proofs.Square.{index-position, Four, four}
-use Rattle.flood.proofs.StepTests.{cell-x, cell-y}
-use Rattle.flood.proofs.OpenSteps.{isOpen}
+use Rattle.grid_steps.specs.Masks.{bitOf, reached, stepPair, Marks}
+use Rattle.grid_steps.proofs.Square.{index-position, Four, four}
+use Rattle.grid_steps.proofs.StepTests.{cell-x, cell-y}
+use Rattle.grid_steps.proofs.OpenSteps.{isOpen}
 use Rattle.rust_partition.specs.UsedCells.{used}
 use Rattle.rust_partition.specs.Literal.Neighbors.{indexRust, neighborsRust}
 use Rattle.rust_partition.specs.Literal.CutMasks.{expect, edgeBit, hasBit}

@@ -16,8 +16,8 @@ use borrow.Author.Tests.{ne-eqb}
 use Rattle.definitions.specs.Grid.{Position, at, toward}
 use Rattle.definitions.specs.Spans.{diff, natOf}
 use Rattle.laws.specs.NumberLaws.WholeNumbers.{diff-pos, diff-neg}
-use Rattle.flood.specs.Masks.{bitOf, opposite, cutBit, withBit}
-use Rattle.flood.proofs.MarkStep.{bit-opposite}
+use Rattle.grid_steps.specs.Masks.{bitOf, opposite, cutBit, withBit}
+use Rattle.grid_steps.proofs.MarkStep.{bit-opposite}
 use Rattle.rust_partition.specs.Literal.CutMasks.{edgeBit, orAt, hasBit}
 
 -- ---- one bit of a number

@@ -19,10 +19,10 @@ use Rattle.laws.specs.ListLaws.Lists.{All, done, more, filter-none, length-run,
 use Rattle.laws.specs.ListLaws.Scans.{all-every}
 use Rattle.laws.specs.ListLaws.Tests.{both as and-both}
 use Rattle.laws.specs.RegionLaws.Steps.{walkable-cell}
-use Rattle.flood.specs.Masks.{bitOf, withBit, reached, Marks}
-use Rattle.flood.proofs.Square.{Four, four, position-index, walkable-in}
-use Rattle.flood.proofs.Bits.{withBit-length}
-use Rattle.flood.proofs.MarkStep.{marks-none, mark-adds}
+use Rattle.grid_steps.specs.Masks.{bitOf, withBit, reached, Marks}
+use Rattle.grid_steps.proofs.Square.{Four, four, position-index, walkable-in}
+use Rattle.grid_steps.proofs.Bits.{withBit-length}
+use Rattle.grid_steps.proofs.MarkStep.{marks-none, mark-adds}
 use Rattle.rust_partition.specs.Literal.Neighbors.{indexRust, neighborsRust}
 use Rattle.rust_partition.specs.Literal.CutMasks.{expect, edgeBit, orAt, Marking, markNeighbor, markNeighbors, markPosition, markPositions, Removed, removeBySpan, removeBySpans, removedEdges}
 use Rattle.rust_partition.specs.Candidates.{Inside, candidates-inside}

@@ -15,7 +15,7 @@ use borrow.Author.Tests.{ltb-true, ltb-false, lt-ltb, le-ltb, leb-true, leb-fals
 use Rattle.definitions.specs.Scan.{filter, toList, onlyIf}
 use Rattle.definitions.specs.Grid.{Map, Position, at, cellCount, index, toward, directions, cellAt, isWalkable, walkable, isStep, neighbors}
 use Rattle.definitions.specs.Spans.{isZero}
-use Rattle.flood.proofs.Square.{In, walkable-in}
+use Rattle.grid_steps.proofs.Square.{In, walkable-in}
 use Rattle.rust_partition.specs.Literal.Neighbors.{andThen, isSomeAnd, filterMap, checkedAddSigned, indexRust, cellRust, Delta, delta, minusOne, reachable, neighborRust, neighborsRust}
 
 -- ---- one coordinate

@@ -16,9 +16,9 @@ use Rattle.laws.specs.ListLaws.Members.{all-at, all-members}
 use Rattle.laws.specs.ListLaws.Tests.{same-test}
 use Rattle.laws.specs.RegionLaws.Steps.{uncut-steps}
 use Rattle.laws.specs.RegionLaws.Regions.{labels-joined}
-use Rattle.flood.specs.Masks.{opposite, reached, stepPair}
-use Rattle.flood.proofs.Square.{Across, across}
-use Rattle.flood.proofs.OpenSteps.{isUncut, isOpen, open-step, open-uncut, uncut-each, uncut-at}
+use Rattle.grid_steps.specs.Masks.{opposite, reached, stepPair}
+use Rattle.grid_steps.proofs.Square.{Across, across}
+use Rattle.grid_steps.proofs.OpenSteps.{isUncut, isOpen, open-step, open-uncut, uncut-each, uncut-at}
 
 -- ---- directions and their opposites
 

@@ -9,7 +9,7 @@ use Rattle.definitions.specs.Grid.{Map, cellCount}
 use Rattle.definitions.specs.Partition.{labels}
 use Rattle.definitions.specs.RegionRecord.{Region}
 use Rattle.laws.specs.FloatLaws.MapPixels.{side-bounds}
-use Rattle.flood.proofs.StepTests.{cell-y}
+use Rattle.grid_steps.proofs.StepTests.{cell-y}
 use Rattle.context.specs.Records.{maxCells, Counted}
 use Rattle.context.specs.Cells.{addRun}
 use Rattle.context.specs.Runs.{FittingRun}

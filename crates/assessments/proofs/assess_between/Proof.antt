@@ -8,7 +8,7 @@ use borrow.Author.Needs.{needs}
 use Rattle.span_geometry.specs.Shapes.{segmentOf}
 use Rattle.span_geometry.specs.Strips.{Usable}
 use Rattle.line_crossings.specs.Crossings.{Between, Crossing, Gentle, Close}
-use Rattle.flood.specs.Walk.{gridOf}
+use Rattle.grid_steps.specs.Walk.{gridOf}
 use Rattle.cut_steps.specs.Columns.{cutColumn, column-in}
 use Rattle.cut_steps.proofs.Across.{tie-few}
 use Rattle.cut_steps.proofs.SpanParts.{column-asked, from-some, between-of, gentle-of, next-from, now-before, follows-in}

@@ -5,7 +5,7 @@ use mathlib.Core.Path.{refl, _∙_}
 use borrow.Author.Needs.{needs}
 use Rattle.span_geometry.specs.Shapes.{segmentOf}
 use Rattle.line_crossings.proofs.Moving.{small}
-use Rattle.flood.specs.Walk.{gridOf}
+use Rattle.grid_steps.specs.Walk.{gridOf}
 use Rattle.cut_steps.specs.Crossed.{cutTwoBack}
 use Rattle.cut_steps.proofs.Trimmed.{four-passed}
 use Rattle.cut_steps.proofs.Across.{tie-few, crossing-at, column-crossed}

@@ -6,8 +6,8 @@ use native.Mathlib.Omega.{arith}
 use lib.Arith.{digits-lt}
 use borrow.Author.Tests.{not-true, not-false}
 use Rattle.definitions.specs.Grid.{at}
-use Rattle.flood.specs.Masks.{bitOf}
-use Rattle.flood.specs.Inner.{Inside}
+use Rattle.grid_steps.specs.Masks.{bitOf}
+use Rattle.grid_steps.specs.Inner.{Inside}
 use Rattle.cut_steps.specs.CutSteps.{isSet}
 use Rattle.assessments.specs.Assess.{stepIn}
 use Rattle.assessments.proofs.Gathering.{assesses-none}

@@ -5,7 +5,7 @@ use native.Mathlib.Omega.{arith}
 use native.Mathlib.Nat.{le-refl}
 use borrow.Author.Needs.{needs}
 use Rattle.span_geometry.specs.Shapes.{segmentOf}
-use Rattle.flood.specs.Walk.{gridOf}
+use Rattle.grid_steps.specs.Walk.{gridOf}
 use Rattle.cut_steps.proofs.SpanParts.{column-asked, part-single}
 use Rattle.assessments.proofs.Gathering.{assesses-same}
 use Rattle.assessments.proofs.Turns.{counting-most}

@@ -3,7 +3,7 @@ use Prim.Native.Nat.{_-_, _≤_, _<_}
 use native.Mathlib.Omega.{arith}
 use borrow.Author.Needs.{needs}
 use Rattle.span_geometry.specs.Shapes.{segmentOf}
-use Rattle.flood.specs.Walk.{gridOf}
+use Rattle.grid_steps.specs.Walk.{gridOf}
 use Rattle.cut_steps.specs.Columns.{cutColumn, some-side, parts-joined}
 use Rattle.cut_steps.proofs.SpanParts.{limit-small, columns-asked, part-within, part-asked}
 use Rattle.assessments.specs.Assess.{maxLineEdges}

@@ -7,7 +7,7 @@ use borrow.Author.Needs.{needs}
 use borrow.Author.Tests.{not-true, not-false}
 use Rattle.span_geometry.specs.Shapes.{segmentOf}
 use Rattle.span_geometry.specs.Candidates.{minorSide}
-use Rattle.flood.specs.Walk.{gridOf}
+use Rattle.grid_steps.specs.Walk.{gridOf}
 use Rattle.cut_steps.specs.Columns.{cell-in}
 use Rattle.cut_steps.proofs.Marks.{marked-none, marked-as}
 use Rattle.cut_steps.proofs.Across.{is-placed-as, placed, none-there, one-there, across-crossed, across-asked, unchanged}

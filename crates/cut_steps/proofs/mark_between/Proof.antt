@@ -5,7 +5,7 @@ use native.Mathlib.Omega.{arith}
 use native.Mathlib.Nat.{le-refl}
 use mathlib.Core.Path.{subst⁻¹}
 use Rattle.span_geometry.specs.Shapes.{segmentOf}
-use Rattle.flood.specs.Walk.{gridOf}
+use Rattle.grid_steps.specs.Walk.{gridOf}
 use Rattle.span_geometry.specs.Strips.{Usable}
 use Rattle.line_crossings.specs.Crossings.{Between, Crossing, Gentle, Close}
 use Rattle.cut_steps.specs.Marking.{Marked}

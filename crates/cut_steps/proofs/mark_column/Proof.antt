@@ -5,7 +5,7 @@ use native.Mathlib.Omega.{arith}
 use mathlib.Core.Path.{ap}
 use borrow.Author.Needs.{needs}
 use Rattle.span_geometry.specs.Shapes.{segmentOf}
-use Rattle.flood.specs.Walk.{gridOf}
+use Rattle.grid_steps.specs.Walk.{gridOf}
 use Rattle.cut_steps.specs.CutSteps.{cutFrom}
 use Rattle.cut_steps.specs.Columns.{cutAcross, cell-in, cell-at, column-in, column-joined}
 use Rattle.cut_steps.proofs.Marks.{marked-as}

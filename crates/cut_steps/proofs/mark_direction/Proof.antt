@@ -6,7 +6,7 @@ use mathlib.Core.Bool.{true}
 use lib.ListN.{length}
 use borrow.Author.Needs.{needs}
 use Rattle.definitions.specs.Grid.{at}
-use Rattle.flood.proofs.Bits.{withBit-length}
+use Rattle.grid_steps.proofs.Bits.{withBit-length}
 use Rattle.cut_steps.specs.CutSteps.{isSet}
 use Rattle.cut_steps.proofs.Cells.{BothCells, both-cells}
 use Rattle.cut_steps.proofs.Marks.{both-set, neither-set}

@@ -6,7 +6,7 @@ use mathlib.Core.List.{List, _++_}
 use borrow.Author.Needs.{needs}
 use Rattle.definitions.specs.Grid.{at, Pair}
 use Rattle.span_geometry.specs.Shapes.{segmentOf}
-use Rattle.flood.specs.Walk.{gridOf}
+use Rattle.grid_steps.specs.Walk.{gridOf}
 use Rattle.cut_steps.specs.CutSteps.{cutToward}
 use Rattle.cut_steps.specs.Marking.{Marked}
 use Rattle.cut_steps.proofs.Marks.{marked-none, direction-asked, direction-then, cell-none, cell-marked}

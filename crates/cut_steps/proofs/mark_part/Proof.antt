@@ -2,7 +2,7 @@
 use native.Mathlib.Nat.{le-refl}
 use borrow.Author.Needs.{needs}
 use Rattle.span_geometry.specs.Shapes.{segmentOf}
-use Rattle.flood.specs.Walk.{gridOf}
+use Rattle.grid_steps.specs.Walk.{gridOf}
 use Rattle.cut_steps.proofs.Marks.{marked-as}
 use Rattle.cut_steps.proofs.SpanParts.{column-asked, part-single}
 use Rattle.cut_steps.proofs.mark_part.Statement.{statement}

@@ -2,7 +2,7 @@
 use Prim.Native.Nat.{_-_, _≤_}
 use native.Mathlib.Omega.{arith}
 use Rattle.definitions.specs.Scan.{gather}
-use Rattle.flood.specs.Walk.{gridOf}
+use Rattle.grid_steps.specs.Walk.{gridOf}
 use Rattle.cut_steps.specs.Marking.{Marked}
 use Rattle.cut_steps.proofs.Marks.{marked-none}
 use Rattle.cut_steps.proofs.Spans.{cutListed, span-at-asked, span-asked, mark-asked, spans-more, spans-done}

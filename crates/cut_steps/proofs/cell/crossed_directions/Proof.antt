@@ -5,7 +5,7 @@ use borrow.Author.Needs.{needs}
 use borrow.Author.Tests.{not-true, not-false}
 use Rattle.definitions.specs.Grid.{at}
 use Rattle.span_geometry.specs.Shapes.{segmentOf}
-use Rattle.flood.specs.Walk.{gridOf}
+use Rattle.grid_steps.specs.Walk.{gridOf}
 use Rattle.cut_steps.proofs.Onward.{no-step, no-bits}
 use Rattle.cut_steps.proofs.Changes.{crossed-cell}
 use Rattle.cut_steps.proofs.Steps.{in-grid-of}

@@ -1,7 +1,7 @@
 -- `cell::is_cut_east` meets its contract: of a cell that is far the step is not cut, and else `is_cut_onward` decides. Assumes nothing.
 use Rattle.definitions.specs.Grid.{at}
 use Rattle.span_geometry.specs.Shapes.{segmentOf}
-use Rattle.flood.specs.Walk.{gridOf}
+use Rattle.grid_steps.specs.Walk.{gridOf}
 use Rattle.cut_steps.proofs.Onward.{clear-of}
 use Rattle.cut_steps.proofs.Cells.{in-limits}
 use Rattle.cut_steps.proofs.cell.is_cut_east.Statement.{statement}

@@ -5,8 +5,8 @@ use borrow.Author.Needs.{needs}
 use borrow.Author.Tests.{not-true, not-false}
 use Rattle.definitions.specs.Grid.{at}
 use Rattle.span_geometry.specs.Shapes.{segmentOf}
-use Rattle.flood.specs.Walk.{gridOf}
-use Rattle.flood.specs.Inner.{Inside}
+use Rattle.grid_steps.specs.Walk.{gridOf}
+use Rattle.grid_steps.specs.Inner.{Inside}
 use Rattle.cut_steps.proofs.Onward.{blocked, onward-cut}
 use Rattle.cut_steps.proofs.Cells.{nearby, stepping, outside}
 use Rattle.cut_steps.proofs.cell.is_cut_onward.Statement.{statement}

@@ -1,7 +1,7 @@
 -- `cell::is_walkable` meets its contract: the cell is in the grid. Assumes nothing.
 use native.Mathlib.Omega.{arith}
 use mathlib.Core.Path.{sym}
-use Rattle.flood.proofs.StepTests.{walkable-at}
+use Rattle.grid_steps.proofs.StepTests.{walkable-at}
 use Rattle.cut_steps.proofs.Steps.{in-cells}
 use Rattle.cut_steps.proofs.cell.is_walkable.Statement.{statement}
 use Rattle.cut_steps.proofs.cell.is_walkable.Tie as tie

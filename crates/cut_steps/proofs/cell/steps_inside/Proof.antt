@@ -2,7 +2,7 @@
 use mathlib.Core.Path.{_∙_}
 use mathlib.Core.Bool.{_&&_}
 use borrow.Author.Needs.{needs}
-use Rattle.flood.specs.Walk.{gridOf}
+use Rattle.grid_steps.specs.Walk.{gridOf}
 use Rattle.cut_steps.specs.Cell.{onwardMask}
 use Rattle.cut_steps.proofs.Steps.{inside-steps}
 use Rattle.cut_steps.proofs.cell.steps_inside.Statement.{statement}

@@ -3,7 +3,7 @@ use Prim.Native.Nat.{_+_, _*_, _≤_, _<_}
 use native.Mathlib.Omega.{arith}
 use mathlib.Core.Path.{sym}
 use borrow.Author.Needs.{needs}
-use Rattle.flood.proofs.StepTests.{walkable-at}
+use Rattle.grid_steps.proofs.StepTests.{walkable-at}
 use Rattle.cut_steps.proofs.Cells.{row-south, below-grid}
 use Rattle.cut_steps.proofs.cell.walks_south.Statement.{statement}
 use Rattle.cut_steps.proofs.cell.walks_south.Tie as tie

@@ -3,7 +3,7 @@ use Prim.Native.Nat.{_-_}
 use native.Mathlib.Omega.{arith}
 use mathlib.Core.Path.{sym, _∙_}
 use borrow.Author.Tests.{not-true, not-false}
-use Rattle.flood.specs.Masks.{cutBit}
+use Rattle.grid_steps.specs.Masks.{cutBit}
 use borrow.Author.Needs.{needs}
 use Rattle.row_runs.proofs.Passing.{Passing, passing-starts, passing-goes-on, passing-stops, passing-ends}
 use Rattle.row_runs.proofs.row.south_end.Statement.{statement}

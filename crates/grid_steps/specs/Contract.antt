@@ -4,7 +4,7 @@ use mathlib.Core.Path.{_≡_}
 use mathlib.Core.List.{List}
 use Rattle.definitions.specs.Grid.{Map}
 use Rattle.definitions.specs.Partition.{cutAll}
-use Rattle.flood.specs.Masks.{Marks}
+use Rattle.grid_steps.specs.Masks.{Marks}
 
 -- M has these sides and cells, and the masks say which steps its spans cut. (Nothing else of M matters to labels.)
 pub record CutMap (w h : ℕ) (bytes masks : List ℕ) (M : Map) : Type 0 where

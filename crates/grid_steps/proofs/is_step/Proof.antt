@@ -1,10 +1,10 @@
--- `flood::is_step` meets its contract: each of the two tests that end it shows a cell of the four that is not walkable, and past them the last cell decides.
+-- `grid_steps::is_step` meets its contract: each of the two tests that end it shows a cell of the four that is not walkable, and past them the last cell decides.
 -- Assumes nothing.
 use native.Mathlib.Omega.{arith}
 use borrow.Author.Needs.{needs}
-use Rattle.flood.proofs.StepTests.{Cells, cells-in, far-blocked, side-blocked, under-decides}
-use Rattle.flood.proofs.is_step.Statement.{statement}
-use Rattle.flood.proofs.is_step.Tie as tie
+use Rattle.grid_steps.proofs.StepTests.{Cells, cells-in, far-blocked, side-blocked, under-decides}
+use Rattle.grid_steps.proofs.is_step.Statement.{statement}
+use Rattle.grid_steps.proofs.is_step.Tie as tie
 
 -- all three cells that the code may read are in the grid
 cells : (s : tie.Start) → let a = s .args in Cells (a .width) (a .height) (a .x) (a .y) (a .dx) (a .dy)

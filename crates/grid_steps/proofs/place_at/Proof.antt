@@ -1,8 +1,8 @@
--- `flood::place_at` meets its contract: a shift by 8 * d is a division by 2 ^ (8 * d), so that what is read is byte d of the word. Assumes nothing.
+-- `grid_steps::place_at` meets its contract: a shift by 8 * d is a division by 2 ^ (8 * d), so that what is read is byte d of the word. Assumes nothing.
 use borrow.Author.Needs.{needs}
-use Rattle.flood.proofs.Ways.{word-at, word-below}
-use Rattle.flood.proofs.place_at.Statement.{statement}
-use Rattle.flood.proofs.place_at.Tie as tie
+use Rattle.grid_steps.proofs.Ways.{word-at, word-below}
+use Rattle.grid_steps.proofs.place_at.Statement.{statement}
+use Rattle.grid_steps.proofs.place_at.Tie as tie
 
 mul-result : tie.Need-mul-result
 mul-result c = search needs

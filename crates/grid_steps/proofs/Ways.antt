@@ -10,9 +10,9 @@ use Rattle.definitions.specs.Scan.{run}
 use Rattle.definitions.specs.Grid.{at, directions}
 use Rattle.laws.specs.ListLaws.Lists.{All, done, more, getD-tab}
 use Rattle.laws.specs.ListLaws.Members.{all-place}
-use Rattle.flood.specs.Masks.{bitOf}
-use Rattle.flood.specs.Walk.{directionAt}
-use Rattle.flood.specs.Inner.{placed, byteAt}
+use Rattle.grid_steps.specs.Masks.{bitOf}
+use Rattle.grid_steps.specs.Walk.{directionAt}
+use Rattle.grid_steps.specs.Inner.{placed, byteAt}
 
 pub direction-near : (d : ℕ) → d < 8 → (directionAt d .x ≤ 2) × (directionAt d .y ≤ 2)
 direction-near d h =

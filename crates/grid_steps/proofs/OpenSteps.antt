@@ -14,8 +14,8 @@ use Rattle.laws.specs.ListLaws.Lists.{All, done, more, all-map, all-both, all-f
 use Rattle.laws.specs.ListLaws.Members.{all-mapped, filter-passes}
 use Rattle.laws.specs.ListLaws.Below.{gather-below, gather-at}
 use Rattle.laws.specs.ListLaws.Tests.{both}
-use Rattle.flood.specs.Masks.{reached, stepPair}
-use Rattle.flood.proofs.Square.{index-position}
+use Rattle.grid_steps.specs.Masks.{reached, stepPair}
+use Rattle.grid_steps.proofs.Square.{index-position}
 
 -- ---- what holds of a filtered list, or of a mapped one
 

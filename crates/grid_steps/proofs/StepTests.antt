@@ -11,9 +11,9 @@ use lib.Arith.{digits-lt}
 use lib.Dec.{eqb, leb}
 use borrow.Author.Tests.{leb-true, leb-false, le-leb, lt-ltb, eqb-true, eq-eqb}
 use Rattle.definitions.specs.Grid.{Map, Position, at, walkable, isStep}
-use Rattle.flood.specs.Walk.{gridOf}
-use Rattle.flood.specs.Inner.{Nearby, Inside, Inner, Says}
-use Rattle.flood.proofs.Square.{Four, four, walkable-in}
+use Rattle.grid_steps.specs.Walk.{gridOf}
+use Rattle.grid_steps.specs.Inner.{Nearby, Inside, Inner, Says}
+use Rattle.grid_steps.proofs.Square.{Four, four, walkable-in}
 
 module _ (w h x y dx dy : ℕ) where
   -- ---- whether the position in the direction is in the grid

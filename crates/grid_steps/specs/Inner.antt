@@ -5,7 +5,7 @@ use mathlib.Core.Bool.{Bool, true, false}
 use mathlib.Core.List.{List}
 use lib.ListN.{length}
 use Rattle.definitions.specs.Grid.{Position, at, walkable}
-use Rattle.flood.specs.Walk.{gridOf}
+use Rattle.grid_steps.specs.Walk.{gridOf}
 
 -- ---- a direction of a position
 

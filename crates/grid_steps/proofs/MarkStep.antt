@@ -15,9 +15,9 @@ use Rattle.definitions.specs.Scan.{any}
 use Rattle.definitions.specs.Grid.{Map, Position, at, Pair, pairEq, cellCount, toward, positionOf, isStep}
 use Rattle.laws.specs.ListLaws.Tests.{both, or-split, or-right, same-test}
 use Rattle.laws.specs.ListLaws.Lists.{any-append}
-use Rattle.flood.specs.Masks.{bitOf, opposite, cutBit, withBit, reached, stepPair, Marks}
-use Rattle.flood.proofs.Square.{Four, four, Across, across}
-use Rattle.flood.proofs.Bits.{withBit-length, mark-bit}
+use Rattle.grid_steps.specs.Masks.{bitOf, opposite, cutBit, withBit, reached, stepPair, Marks}
+use Rattle.grid_steps.proofs.Square.{Four, four, Across, across}
+use Rattle.grid_steps.proofs.Bits.{withBit-length, mark-bit}
 
 -- ---- tests by `||` and `&&`
 

@@ -4,9 +4,9 @@ ghost use mathlib.Core.Bool.{true};
 ghost use Prim.Native.Nat.{_≤_, _<_};
 ghost use lib.ListN.{length};
 ghost use Rattle.definitions.specs.Grid.{at, isStep};
-ghost use Rattle.flood.specs.Masks.{cutBit, withBit};
-ghost use Rattle.flood.specs.Walk.{gridOf, directionAt};
-ghost use Rattle.flood.specs.Inner.{placed, Nearby, Inner, Inside, Says, Stepping};
+ghost use Rattle.grid_steps.specs.Masks.{cutBit, withBit};
+ghost use Rattle.grid_steps.specs.Walk.{gridOf, directionAt};
+ghost use Rattle.grid_steps.specs.Inner.{placed, Nearby, Inner, Inside, Says, Stepping};
 
 // The eight directions, in the order of `neighbors` of lib.rs, the first in the lowest byte: 1, 3, 5, 7, 0, 2, 6, 8. Each is its place in the three by three
 // square around the cell, row by row from 0, which is also its bit in a mask of cut steps. One word, and not an array: a loop over it is unrolled, and its

@@ -1,8 +1,8 @@
--- `flood::is_inner` meets its contract: past the tests each of the four bounds holds. Assumes nothing.
+-- `grid_steps::is_inner` meets its contract: past the tests each of the four bounds holds. Assumes nothing.
 use mathlib.Core.Bool.{false≢true}
 use borrow.Author.Needs.{needs}
-use Rattle.flood.proofs.is_inner.Statement.{statement}
-use Rattle.flood.proofs.is_inner.Tie as tie
+use Rattle.grid_steps.proofs.is_inner.Statement.{statement}
+use Rattle.grid_steps.proofs.is_inner.Tie as tie
 
 returns : tie.Need-returns
 returns c = λ e. absurd (false≢true e)

@@ -1,8 +1,8 @@
--- `flood::mark` meets its contract: a shift by k is a product with 2 ^ k. Assumes nothing.
+-- `grid_steps::mark` meets its contract: a shift by k is a product with 2 ^ k. Assumes nothing.
 use borrow.Author.Needs.{needs}
-use Rattle.flood.proofs.Bits.{mark-code}
-use Rattle.flood.proofs.mark.Statement.{statement}
-use Rattle.flood.proofs.mark.Tie as tie
+use Rattle.grid_steps.proofs.Bits.{mark-code}
+use Rattle.grid_steps.proofs.mark.Statement.{statement}
+use Rattle.grid_steps.proofs.mark.Tie as tie
 
 mul-masks : tie.Need-mul-masks
 mul-masks c = search needs

@@ -11,7 +11,7 @@ use borrow.Author.Tests.{ltb-true, leb-true, le-leb}
 use Rattle.definitions.specs.Grid.{Map, Position, at, toward, index, positionOf, cellCount, cellAt, isWalkable, walkable, isStep}
 use Rattle.definitions.specs.Partition.{walkableAt}
 use Rattle.laws.specs.ListLaws.Tests.{both}
-use Rattle.flood.specs.Masks.{opposite, reached}
+use Rattle.grid_steps.specs.Masks.{opposite, reached}
 
 -- what `isStep` tests, test by test
 pub record Four (M : Map) (p d : Position) : Type 0 where

@@ -1,9 +1,9 @@
--- `flood::is_inside` meets its contract: each of the tests that answer `false` shows that the position is outside. Assumes nothing.
+-- `grid_steps::is_inside` meets its contract: each of the tests that answer `false` shows that the position is outside. Assumes nothing.
 use native.Mathlib.Omega.{arith}
 use borrow.Author.Needs.{needs}
-use Rattle.flood.proofs.StepTests.{inner-inside, says-yes, says-no, says-last}
-use Rattle.flood.proofs.is_inside.Statement.{statement}
-use Rattle.flood.proofs.is_inside.Tie as tie
+use Rattle.grid_steps.proofs.StepTests.{inner-inside, says-yes, says-no, says-last}
+use Rattle.grid_steps.proofs.is_inside.Statement.{statement}
+use Rattle.grid_steps.proofs.is_inside.Tie as tie
 
 returns : tie.Need-returns
 returns c = let a = c .before .args in says-yes (a .width) (a .height) (a .x) (a .y) (a .dx) (a .dy) (inner-inside (a .width) (a .height) (a .x) (a .y) (a .dx) (a .dy) (c .before .pre .0) (c .before .pre .1 (c .if1 .taken)))

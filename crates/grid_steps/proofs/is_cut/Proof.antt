@@ -1,9 +1,9 @@
--- `flood::is_cut` meets its contract: a shift by k is a division by 2 ^ k. Assumes nothing.
+-- `grid_steps::is_cut` meets its contract: a shift by k is a division by 2 ^ k. Assumes nothing.
 use mathlib.Core.Path.{refl}
 use borrow.Author.Needs.{needs}
-use Rattle.flood.specs.Masks.{cutBit}
-use Rattle.flood.proofs.is_cut.Statement.{statement}
-use Rattle.flood.proofs.is_cut.Tie as tie
+use Rattle.grid_steps.specs.Masks.{cutBit}
+use Rattle.grid_steps.proofs.is_cut.Statement.{statement}
+use Rattle.grid_steps.proofs.is_cut.Tie as tie
 
 mul-result : tie.Need-mul-result
 mul-result c = search needs

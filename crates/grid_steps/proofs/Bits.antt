@@ -14,7 +14,7 @@ use borrow.Author.Tests.{eqb-true, eq-eqb, ne-eqb}
 use Rattle.definitions.specs.Scan.{allBelow}
 use Rattle.laws.specs.ListLaws.Tests.{both}
 use Rattle.laws.specs.NumberLaws.Comparisons.{same-or, last-or}
-use Rattle.flood.specs.Masks.{cutBit, withBit}
+use Rattle.grid_steps.specs.Masks.{cutBit, withBit}
 
 all-below : (f : ℕ → Bool) (n i : ℕ) → i < n → allBelow n f ≡ true → f i ≡ true
 unfolding allBelow

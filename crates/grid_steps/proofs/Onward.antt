@@ -7,8 +7,8 @@ use mathlib.Core.Bool.{Bool, true, false}
 use lib.Dec.{ltb}
 use borrow.Author.Tests.{ltb-true, ltb-false, lt-ltb, le-ltb}
 use Rattle.definitions.specs.Grid.{Map, Position, toward, index, isStep}
-use Rattle.flood.specs.Masks.{bitOf}
-use Rattle.flood.proofs.Square.{Four, four, In, walkable-in}
+use Rattle.grid_steps.specs.Masks.{bitOf}
+use Rattle.grid_steps.proofs.Square.{Four, four, In, walkable-in}
 
 -- ---- the number of the cell in a direction
 
