@@ -11,10 +11,10 @@ use Rattle.mouth_regions.proofs.inner.inner_region.Kinds as K1
 use Rattle.mouth_regions.proofs.inner.inner_region.Reads as R1
 use Rattle.mouth_regions.proofs.inner.inner_region.Symbol as S1
 use Rattle.mouth_regions.proofs.inner.inner_region.Met as M1
-use Rattle.context.proofs.pairs.wide.Kinds as K2
-use Rattle.context.proofs.pairs.wide.Reads as R2
-use Rattle.context.proofs.pairs.wide.Symbol as S2
-use Rattle.context.proofs.pairs.wide.Met as M2
+use Rattle.plain_numbers.proofs.wide.Kinds as K2
+use Rattle.plain_numbers.proofs.wide.Reads as R2
+use Rattle.plain_numbers.proofs.wide.Symbol as S2
+use Rattle.plain_numbers.proofs.wide.Met as M2
 use Rattle.topology.proofs.Seen.slice.record_at as K3
 use Rattle.topology.proofs.slice.record_at.Symbol as S3
 use Rattle.topology.proofs.slice.record_at.Met as M3
@@ -116,7 +116,7 @@ module _ (κs : Lfts 4) (qs : Shares 4) where
   G44 = patched ((0, row2) ∷ (5, (any-gone (ty 5))) ∷ (6, (any-gone (ty 6))) ∷ (7, (any-gone (ty 7))) ∷ []) ([]) G0
 
 module _ {M : Type 1} (𝓤 : URA M) (H : Heap 𝓤) (A : Atoms 𝓤) (W : Given 𝓤 H A) (𝓣 : Tables 𝓤 H) (Inv·0 : InvT-loop) (μ·0 : MeasureT-loop)
-    (known0 : Knows 𝓤 H A W 𝓣 2 K0.ps K0.r R0.Asked R0.Learnt "mouth_regions::inner::places") (known1 : Knows 𝓤 H A W 𝓣 2 K1.ps K1.r R1.Asked R1.Learnt "mouth_regions::inner::inner_region") (known2 : Knows 𝓤 H A W 𝓣 0 K2.ps K2.r R2.Asked R2.Learnt "context::pairs::wide") (known3 : Knows 𝓤 H A W 𝓣 1 K3.ps K3.r K3.Asked K3.Learnt "topology::slice::record_at") (known4 : Knows 𝓤 H A W 𝓣 1 K4.ps K4.r R4.Asked R4.Learnt "mouth_regions::near::region_near") (κs : Lfts 4) (qs : Shares 4) (bs : List ℕ) where
+    (known0 : Knows 𝓤 H A W 𝓣 2 K0.ps K0.r R0.Asked R0.Learnt "mouth_regions::inner::places") (known1 : Knows 𝓤 H A W 𝓣 2 K1.ps K1.r R1.Asked R1.Learnt "mouth_regions::inner::inner_region") (known2 : Knows 𝓤 H A W 𝓣 0 K2.ps K2.r R2.Asked R2.Learnt "plain_numbers::wide") (known3 : Knows 𝓤 H A W 𝓣 1 K3.ps K3.r K3.Asked K3.Learnt "topology::slice::record_at") (known4 : Knows 𝓤 H A W 𝓣 1 K4.ps K4.r R4.Asked R4.Learnt "mouth_regions::near::region_near") (κs : Lfts 4) (qs : Shares 4) (bs : List ℕ) where
   abbrev E : Env 𝓤 H
   E = EnvOf 𝓤 H (tyR r ∷ tysP ps xs) bs
 
@@ -135,7 +135,7 @@ module _ {M : Type 1} (𝓤 : URA M) (H : Heap 𝓤) (A : Atoms 𝓤) (W : Given
       ghosts (G7 κs qs) (G5 κs qs) (g-room 𝓤 H A W E (G7 κs qs) 13 tyBool (room-sc 𝓤 H A W sBool)) $
       exits1)) $
       stmt (G5 κs qs) (G11 κs qs) (t-call-plain 𝓤 H A W 𝓣 2 K1.ps K1.r R1.Asked R1.Learnt "mouth_regions::inner::inner_region" known1 E (λ pos β. β) (G5 κs qs) (record { pos = 3; ty = tyRef (named 2) imm (tyInt w32); ref = λ x. x }, (record { pos = 4; ty = tyRef (named 3) imm (tyArray (tyInt w64) 257); ref = λ x. x }, (vAt 5 (λ x. x), (vAt 7 (λ x. x), (vAt 10 (λ x. x), tt))))) 14 (2 ∷ 3 ∷ []) (sub-id 𝓤 H A W ((G5 κs qs) .slots)) (spares-sslice 𝓤 H A W (rtF (fInt w32)) (tyRef (named 2) imm (tyInt w32)) 2, reads-sslice 𝓤 H A W (rtF (fInt w32)) (tyRef (named 2) imm (tyInt w32)) 2, refl, (spares-sref 𝓤 H A W (Array (rtF (fInt w64)) 257) (tyRef (named 3) imm (tyArray (tyInt w64) 257)) 3, reads-sref 𝓤 H A W (Array (rtF (fInt w64)) 257) (tyRef (named 3) imm (tyArray (tyInt w64) 257)) 3, refl, ((reads-sc 𝓤 H A W (sInt w64), refl), ((reads-sc 𝓤 H A W (sInt w32), refl), ((reads-sc 𝓤 H A W (sInt w64), refl), tt))))) (room-gone 𝓤 H A (tyInt w32)) _ refl) $
-      stmt (G11 κs qs) (G12 κs qs) (t-call-plain 𝓤 H A W 𝓣 0 K2.ps K2.r R2.Asked R2.Learnt "context::pairs::wide" known2 E (λ pos β. β) (G11 κs qs) (vAt 14 (λ x. x), tt) 11 [] (sub-id 𝓤 H A W ((G11 κs qs) .slots)) ((reads-sc 𝓤 H A W (sInt w32), refl), tt) (room-gone 𝓤 H A (tyInt w64)) tt refl) $
+      stmt (G11 κs qs) (G12 κs qs) (t-call-plain 𝓤 H A W 𝓣 0 K2.ps K2.r R2.Asked R2.Learnt "plain_numbers::wide" known2 E (λ pos β. β) (G11 κs qs) (vAt 14 (λ x. x), tt) 11 [] (sub-id 𝓤 H A W ((G11 κs qs) .slots)) ((reads-sc 𝓤 H A W (sInt w32), refl), tt) (room-gone 𝓤 H A (tyInt w64)) tt refl) $
       ghosts (G12 κs qs) (G13 κs qs) (g-room 𝓤 H A W E (G12 κs qs) 14 (tyInt w32) (room-sc 𝓤 H A W (sInt w32))) $
       stmt (G13 κs qs) (G14 κs qs) (t-op2 𝓤 H A W E 𝓣 (G13 κs qs) ne (oAt 11 (tyInt w64) (valS (sInt w64))) (oInt w64 _) 13 (sc-here sBool) tyBool (valS sBool) (sBool .of) (reads-sc 𝓤 H A W (sInt w64), refl) tt (room-gone 𝓤 H A tyBool) (holds-sc 𝓤 H A W sBool) refl (λ u. refl) (λ u. tt)) $
       first (G14 κs qs) (G13 κs qs) (
@@ -183,8 +183,8 @@ module _ (w : World) where
   abbrev known1-at : Knows (w .𝓤) (w .H) (w .𝓖 .A) (Wof w) (𝓣of w code.env) 2 K1.ps K1.r R1.Asked R1.Learnt "mouth_regions::inner::inner_region"
   known1-at = R1.known w code.env S1.name S1.routine code.calls-mouth-regions·inner·inner-region (M1.met (w .𝓤) (w .H) (w .𝓜) (w .𝓖) (w .𝓡))
 
-  abbrev known2-at : Knows (w .𝓤) (w .H) (w .𝓖 .A) (Wof w) (𝓣of w code.env) 0 K2.ps K2.r R2.Asked R2.Learnt "context::pairs::wide"
-  known2-at = R2.known w code.env S2.name S2.routine code.calls-context·pairs·wide (M2.met (w .𝓤) (w .H) (w .𝓜) (w .𝓖) (w .𝓡))
+  abbrev known2-at : Knows (w .𝓤) (w .H) (w .𝓖 .A) (Wof w) (𝓣of w code.env) 0 K2.ps K2.r R2.Asked R2.Learnt "plain_numbers::wide"
+  known2-at = R2.known w code.env S2.name S2.routine code.calls-plain-numbers·wide (M2.met (w .𝓤) (w .H) (w .𝓜) (w .𝓖) (w .𝓡))
 
   abbrev known3-at : Knows (w .𝓤) (w .H) (w .𝓖 .A) (Wof w) (𝓣of w code.env) 1 K3.ps K3.r K3.Asked K3.Learnt "topology::slice::record_at"
   known3-at = K3.known w code.env S3.name S3.routine code.calls-topology·slice·record-at (M3.met (w .𝓤) (w .H) (w .𝓜) (w .𝓖) (w .𝓡))

@@ -8,10 +8,10 @@ use Rattle.topology.proofs.TopologyAnswer.Laws as Laws'
 use borrow.Fn.Plain.{Known as Knows}
 use denote.Enum.Declared as Declared
 use denote.Struct.Declared as Declared'
-use Rattle.topology.proofs.numbers.least.Kinds as K0
-use Rattle.topology.proofs.numbers.least.Reads as R0
-use Rattle.topology.proofs.numbers.least.Symbol as S0
-use Rattle.topology.proofs.numbers.least.Met as M0
+use Rattle.plain_numbers.proofs.least.Kinds as K0
+use Rattle.plain_numbers.proofs.least.Reads as R0
+use Rattle.plain_numbers.proofs.least.Symbol as S0
+use Rattle.plain_numbers.proofs.least.Met as M0
 use Rattle.topology.proofs.own_records.empty_records.Kinds as K1
 use Rattle.topology.proofs.own_records.empty_records.Reads as R1
 use Rattle.topology.proofs.own_records.empty_records.Symbol as S1
@@ -193,7 +193,7 @@ module _ (κs : Lfts 11) (qs : Shares 11) where
   Γ-from-put = G65
 
 module _ {M : Type 1} (𝓤 : URA M) (H : Heap 𝓤) (A : Atoms 𝓤) (W : Given 𝓤 H A) (𝓣 : Tables 𝓤 H)
-    (known0 : Knows 𝓤 H A W 𝓣 0 K0.ps K0.r R0.Asked R0.Learnt "topology::numbers::least") (known1 : Knows 𝓤 H A W 𝓣 0 K1.ps K1.r R1.Asked R1.Learnt "topology::own_records::empty_records") (known2 : Knows 𝓤 H A W 𝓣 11 K2.ps K2.r K2.Asked K2.Learnt "topology::topology_kept_boundaries") (known3 : Knows 𝓤 H A W 𝓣 1 K3.ps K3.r R3.Asked R3.Learnt "topology::numbers::put_records") (known4 : Knows 𝓤 H A W 𝓣 0 K4.ps K4.r R4.Asked R4.Learnt "topology::answer_of") (κs : Lfts 11) (qs : Shares 11) (bs : List ℕ) where
+    (known0 : Knows 𝓤 H A W 𝓣 0 K0.ps K0.r R0.Asked R0.Learnt "plain_numbers::least") (known1 : Knows 𝓤 H A W 𝓣 0 K1.ps K1.r R1.Asked R1.Learnt "topology::own_records::empty_records") (known2 : Knows 𝓤 H A W 𝓣 11 K2.ps K2.r K2.Asked K2.Learnt "topology::topology_kept_boundaries") (known3 : Knows 𝓤 H A W 𝓣 1 K3.ps K3.r R3.Asked R3.Learnt "topology::numbers::put_records") (known4 : Knows 𝓤 H A W 𝓣 0 K4.ps K4.r R4.Asked R4.Learnt "topology::answer_of") (κs : Lfts 11) (qs : Shares 11) (bs : List ℕ) where
   abbrev E : Env 𝓤 H
   E = EnvOf 𝓤 H (tyR r ∷ tysP ps xs) bs
 
@@ -221,7 +221,7 @@ module _ {M : Type 1} (𝓤 : URA M) (H : Heap 𝓤) (A : Atoms 𝓤) (W : Given
 
   abbrev pub d : Der W 𝓣 E (Γin 11 ps r xs m κs qs) (code.function .body) (Δret 11 ps r xs m κs qs)
   d =
-      stmt (G0 κs qs) (G13 κs qs) (t-call-plain 𝓤 H A W 𝓣 0 K0.ps K0.r R0.Asked R0.Learnt "topology::numbers::least" known0 E (λ pos β. β) (G0 κs qs) (vAt 13 (λ x. x), (vLit 512, tt)) 16 [] (sub-id 𝓤 H A W ((G0 κs qs) .slots)) ((reads-sc 𝓤 H A W (sInt w64), refl), _) (room-gone 𝓤 H A (tyInt w64)) tt refl) $
+      stmt (G0 κs qs) (G13 κs qs) (t-call-plain 𝓤 H A W 𝓣 0 K0.ps K0.r R0.Asked R0.Learnt "plain_numbers::least" known0 E (λ pos β. β) (G0 κs qs) (vAt 13 (λ x. x), (vLit 512, tt)) 16 [] (sub-id 𝓤 H A W ((G0 κs qs) .slots)) ((reads-sc 𝓤 H A W (sInt w64), refl), _) (room-gone 𝓤 H A (tyInt w64)) tt refl) $
       stmt (G13 κs qs) (G14 κs qs) (t-call-plain 𝓤 H A W 𝓣 0 K1.ps K1.r R1.Asked R1.Learnt "topology::own_records::empty_records" known1 E (λ pos β. β) (G13 κs qs) tt 19 [] (sub-id 𝓤 H A W ((G13 κs qs) .slots)) tt (room-gone 𝓤 H A (tyArray twin-0-laws.mir 512)) tt refl) $
       stmt (G14 κs qs) _ (t-val-copy 𝓤 H A W E 𝓣 (λ ρ. Unit) (G14 κs qs) 19 17 (Array twin-0.the-row 512) (tyArray twin-0-laws.mir 512) (tyArray twin-0-laws.mir 512) (arrF twin-0.the-row 512 0) (arrF twin-0.the-row 512 0) (λ x. x) (λ x. x) (λ x. x) refl (told-none 𝓤 H A ((G14 κs qs) .slots)) (yields-copy 𝓤 H A W (λ ρ. Unit) (Array twin-0.the-row 512) refl (cArr twin-0.the-row (cStruct twin-0.the-type twin-0-laws.the-laws twin-0-laws.the-copy) 512 .copy 𝓤 H A W) (arrF twin-0.the-row 512 0) (λ x. x) (λ x. x) (λ ρ told. mem-arr 𝓤 H A W twin-0.the-row 512 ρ) (λ ρ told. arr-mem 𝓤 H A W twin-0.the-row 512 tt ρ)) (room-gone 𝓤 H A (tyArray twin-0-laws.mir 512)) (makes-mem 𝓤 H A W (λ ρ. Unit) (Array twin-0.the-row 512) refl (arrF twin-0.the-row 512 0) (λ x. x) (λ ρ told. arr-mem 𝓤 H A W twin-0.the-row 512 tt ρ)) refl refl) $
       ghosts _ _ (g-room 𝓤 H A W E _ 19 (tyArray twin-0-laws.mir 512) (room-arr 𝓤 H A W twin-0.the-row 512 0 512 refl)) $
@@ -272,8 +272,8 @@ module _ {M : Type 1} (𝓤 : URA M) (H : Heap 𝓤) (A : Atoms 𝓤) (W : Given
 
 -- the derivations at a model
 module _ (w : World) where
-  abbrev known0-at : Knows (w .𝓤) (w .H) (w .𝓖 .A) (Wof w) (𝓣of w code.env) 0 K0.ps K0.r R0.Asked R0.Learnt "topology::numbers::least"
-  known0-at = R0.known w code.env S0.name S0.routine code.calls-topology·numbers·least (M0.met (w .𝓤) (w .H) (w .𝓜) (w .𝓖) (w .𝓡))
+  abbrev known0-at : Knows (w .𝓤) (w .H) (w .𝓖 .A) (Wof w) (𝓣of w code.env) 0 K0.ps K0.r R0.Asked R0.Learnt "plain_numbers::least"
+  known0-at = R0.known w code.env S0.name S0.routine code.calls-plain-numbers·least (M0.met (w .𝓤) (w .H) (w .𝓜) (w .𝓖) (w .𝓡))
 
   abbrev known1-at : Knows (w .𝓤) (w .H) (w .𝓖 .A) (Wof w) (𝓣of w code.env) 0 K1.ps K1.r R1.Asked R1.Learnt "topology::own_records::empty_records"
   known1-at = R1.known w code.env S1.name S1.routine code.calls-topology·own-records·empty-records (M1.met (w .𝓤) (w .H) (w .𝓜) (w .𝓖) (w .𝓡))
