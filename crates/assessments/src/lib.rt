@@ -16,7 +16,7 @@ use line_crossings::first_place;
 use line_crossings::next_place;
 use line_crossings::tie_of;
 use region_pairs::NUMBERS_PER_PAIR;
-use region_pairs::insert_pair;
+use region_pairs::put_pair;
 use span_geometry::SpanGeometry;
 use span_geometry::strips::Strip;
 ghost use mathlib.Core.Path.{_≡_};
@@ -45,11 +45,13 @@ pub enum Assessed {
     TooMany,
 }
 
-// What is found of a span so far: the counts of its removed and separated edges, and the end of its rows in the list of pairs.
+// What is found of a span so far: the counts of its removed and separated edges, the end of its rows in the list of pairs, and the row of the last pair, a
+// hint that is never relied on.
 pub struct BoundaryAssessment {
     pub removed: u32,
     pub separated: u32,
     pub end: usize,
+    pub row: usize,
 }
 
 fn min(m: u32, n: u32) -> u32
@@ -86,20 +88,17 @@ fn assess_step(
             removed: start.removed + 1,
             separated: start.separated,
             end: start.end,
+            row: start.row,
         };
     }
-    let end = insert_pair(
-        pairs,
-        first,
-        start.end,
-        span,
-        min(left, right),
-        max(left, right),
-    );
+    let lo = min(left, right);
+    let hi = max(left, right);
+    let put = put_pair(pairs, first, start.end, start.row, span, lo, hi);
     BoundaryAssessment {
         removed: start.removed + 1,
         separated: start.separated + 1,
-        end: end,
+        end: put.end,
+        row: put.row,
     }
 }
 
@@ -532,6 +531,7 @@ fn assess_span(
         removed: 0,
         separated: 0,
         end: first,
+        row: first,
     };
     let mut k = parts.first;
     while k < parts.end {
