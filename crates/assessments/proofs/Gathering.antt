@@ -52,7 +52,7 @@ module _ {labels : List ℕ} {span first : ℕ} {a : BoundaryAssessment} {now : 
   -- its cells share a label
   pub assesses-together :
       getD labels from 0 ≡ getD labels to 0
-      → Assesses labels span first (pairOf from to ∷ []) a now (record { removed = a .removed + 1; separated = a .separated; end = a .end }) now
+      → Assesses labels span first (pairOf from to ∷ []) a now (record { removed = a .removed + 1; separated = a .separated; end = a .end; row = a .row }) now
   assesses-together q =
       let e = pairOf from to in
       let h : isSeparated labels e ≡ false = ap not (eq-eqb _ _ q) in
@@ -67,10 +67,10 @@ module _ {labels : List ℕ} {span first : ℕ} {a : BoundaryAssessment} {now : 
 
   -- they do not
   pub assesses-apart :
-      {lo hi end : ℕ} {now′ : List ℕ} → (getD labels from 0 ≡ getD labels to 0 → ⊥) → lo ≡ min (getD labels from 0) (getD labels to 0) → hi ≡ max (getD labels from 0) (getD labels to 0)
+      {lo hi end row : ℕ} {now′ : List ℕ} → (getD labels from 0 ≡ getD labels to 0 → ⊥) → lo ≡ min (getD labels from 0) (getD labels to 0) → hi ≡ max (getD labels from 0) (getD labels to 0)
       → Adds span (pairOf lo hi) first (a .end) now end now′
-      → Assesses labels span first (pairOf from to ∷ []) a now (record { removed = a .removed + 1; separated = a .separated + 1; end = end }) now′
-  assesses-apart {lo} {hi} {end} {now′} q l m A =
+      → Assesses labels span first (pairOf from to ∷ []) a now (record { removed = a .removed + 1; separated = a .separated + 1; end = end; row = row }) now′
+  assesses-apart {lo} {hi} {end} {row} {now′} q l m A =
       let e = pairOf from to in
       let h : isSeparated labels e ≡ true = ap not (ne-eqb _ _ q) in
       let p : pairOf lo hi ≡ labelPair labels e = λ i. pairOf (l i) (m i) in

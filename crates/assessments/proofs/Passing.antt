@@ -1,33 +1,22 @@
--- A loop over numbers from one on before another, as `Walking` of Turns is over those up to a last one; and what the walk between a span's ends comes to: a cell without a
--- change of sides (`unchanged`), and four cells of a column, or row (`four-passed`). Assumes nothing.
+-- A loop over numbers from one on before another, as `Walking` of Turns is over those up to a last one: one number more (`passing-more`), several (`passing-further`), and the
+-- room that the counts have. Assumes nothing.
 use Prim.Native.Nat.{ℕ, suc, _+_, _-_, _*_, _≤_, _<_}
-use mathlib.Core.Path.{_≡_, refl, sym, ap, _∙_, subst}
+use mathlib.Core.Path.{_≡_, sym, ap, _∙_, subst}
 use mathlib.Core.Logic.{⊎-elim}
-use mathlib.Core.Bool.{Bool, true, false, _&&_, cond}
-use mathlib.Core.List.{List, [], _++_}
+use mathlib.Core.List.{List}
 use native.Mathlib.Omega.{arith}
 use native.Mathlib.Nat.{le-add-right, mul-suc, mul-add}
 use lib.ListN.{length}
-use lib.Dec.{leb, ltb}
 use Rattle.definitions.specs.Limits.{maxSide}
 use Rattle.definitions.specs.Scan.{concatMap, run}
-use Rattle.definitions.specs.Grid.{Map, at, Pair, Segment}
+use Rattle.definitions.specs.Grid.{Pair}
 use Rattle.span_geometry.specs.declared.strips.Strip.{Strip}
-use Rattle.span_geometry.specs.Candidates.{cellOf, minorSide}
 use Rattle.laws.specs.NumberLaws.Comparisons.{le-or-lt}
-use Rattle.grid_steps.specs.Masks.{bitOf}
-use Rattle.grid_steps.specs.Walk.{gridOf}
-use Rattle.cut_steps.specs.CutSteps.{cutFrom}
-use Rattle.cut_steps.specs.Cell.{Far}
 use Rattle.cut_steps.specs.Prefixes.{upTo, concat-none, concat-more}
 use Rattle.cut_steps.specs.Columns.{column-in}
 use Rattle.cut_steps.proofs.Trimmed.{concat-split}
 use Rattle.cut_steps.proofs.SpanParts.{column-asked}
-use Rattle.cut_steps.specs.Crossed.{Crossed, CrossedAt, cutTwoBack, ColumnsAsked, Parted}
-use Rattle.cut_steps.proofs.Onward.{zero-bit}
-use Rattle.cut_steps.proofs.Cells.{far-directions}
-use Rattle.cut_steps.proofs.Marks.{no-cut}
-use Rattle.cut_steps.proofs.Across.{placed}
+use Rattle.cut_steps.specs.Crossed.{ColumnsAsked, Parted}
 use Rattle.assessments.specs.Assess.{maxCellEdges, maxLineEdges, maxEdges, Counting, Assesses}
 use Rattle.assessments.specs.declared.BoundaryAssessment.{BoundaryAssessment}
 use Rattle.assessments.proofs.Gathering.{assesses-same}

@@ -45,7 +45,7 @@ pub record Gathered (labels : List ℕ) (span first : ℕ) (before old : List �
 
 -- of a span whose rows begin at `first`, before its walk
 abbrev pub nothing : ℕ → BoundaryAssessment
-nothing first = record { removed = 0; separated = 0; end = first }
+nothing first = record { removed = 0; separated = 0; end = first; row = first }
 
 -- the steps es are assessed behind those that were before
 pub record Assesses (labels : List ℕ) (span first : ℕ) (es : List Pair) (a : BoundaryAssessment) (now : List ℕ) (a′ : BoundaryAssessment) (now′ : List ℕ) : Type 0 where

@@ -18,7 +18,7 @@ use line_crossings::tie_of;
 use plain_numbers::greater;
 use plain_numbers::lesser;
 use region_pairs::NUMBERS_PER_PAIR;
-use region_pairs::insert_pair;
+use region_pairs::put_pair;
 use span_geometry::SpanGeometry;
 use span_geometry::strips::Strip;
 ghost use mathlib.Core.Path.{_≡_};
@@ -47,11 +47,13 @@ pub enum Assessed {
     TooMany,
 }
 
-// What is found of a span so far: the counts of its removed and separated edges, and the end of its rows in the list of pairs.
+// What is found of a span so far: the counts of its removed and separated edges, the end of its rows in the list of pairs, and the row of the last pair, a
+// hint that is never relied on.
 pub struct BoundaryAssessment {
     pub removed: u32,
     pub separated: u32,
     pub end: usize,
+    pub row: usize,
 }
 
 // One cut step, between two cells.
@@ -76,20 +78,17 @@ fn assess_step(
             removed: start.removed + 1,
             separated: start.separated,
             end: start.end,
+            row: start.row,
         };
     }
-    let end = insert_pair(
-        pairs,
-        first,
-        start.end,
-        span,
-        lesser(left, right),
-        greater(left, right),
-    );
+    let lo = lesser(left, right);
+    let hi = greater(left, right);
+    let put = put_pair(pairs, first, start.end, start.row, span, lo, hi);
     BoundaryAssessment {
         removed: start.removed + 1,
         separated: start.separated + 1,
-        end: end,
+        end: put.end,
+        row: put.row,
     }
 }
 
@@ -522,6 +521,7 @@ fn assess_span(
         removed: 0,
         separated: 0,
         end: first,
+        row: first,
     };
     let mut k = parts.first;
     while k < parts.end {

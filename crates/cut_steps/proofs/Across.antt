@@ -1,5 +1,5 @@
--- The cells across a column, or row, between a span's ends: the cell at two less than a number, if there is one (`is-placed-as`, `across-marked`, `across-none`), its changes
--- of sides (`crossing-at`), and the four of them joined (`column-crossed`). Assumes nothing.
+-- The cells across a column, or row, between a span's ends: the cell at two less than a number, if there is one (`is-placed-as`, `none-there`, `one-there`), its changes
+-- of sides (`crossing-at`, `unchanged`), and the four of them joined (`column-crossed`). Assumes nothing.
 use Prim.Native.Nat.{ℕ, _+_, _-_, _≤_, _<_}
 use native.Mathlib.Omega.{arith}
 use mathlib.Core.Path.{_≡_, refl, sym, ap, _∙_, subst, subst⁻¹}

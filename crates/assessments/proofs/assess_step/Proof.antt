@@ -16,8 +16,8 @@ mul-right c = search needs
 shared-slice-read-right : tie.Need-shared-slice-read-right
 shared-slice-read-right c = search needs
 
-add-t16 : tie.Need-add-t16
-add-t16 c = search needs
+add-t18 : tie.Need-add-t18
+add-t18 c = search needs
 
 returns : tie.Need-returns
 returns c = (search needs, assesses-together _ _ (c .before .if1 .taken))
@@ -28,31 +28,32 @@ lesser-requires c κs = search needs
 greater-requires : tie.Need-greater-requires
 greater-requires c κs = search needs
 
-insert-pair-requires : tie.Need-insert-pair-requires
-insert-pair-requires c κs = search needs
+put-pair-requires : tie.Need-put-pair-requires
+put-pair-requires c κs = search needs
 
-add-t13 : tie.Need-add-t13
-add-t13 c = search needs
+add-t15 : tie.Need-add-t15
+add-t15 c = search needs
 
-add-t19 : tie.Need-add-t19
-add-t19 c = search needs
+add-t21 : tie.Need-add-t21
+add-t21 c = search needs
 
 same-length : tie.Need-same-length
 same-length c = search needs
 
--- the state at `insert-pair`, from the state at `struct-known3`
-abbrev to-insert-pair : tie.After-struct-known3 → tie.After-insert-pair
-to-insert-pair c =
+-- the state at `put-pair`, from the state at `struct-known3`
+abbrev to-put-pair : tie.After-struct-known3 → tie.After-put-pair
+to-put-pair c =
     let at-struct-known2 = c .before in
     at-struct-known2 .before .before .before
 
 returns-2 : tie.Need-returns-2
 returns-2 c = (
-  record { rows = to-insert-pair c .insert-pair .ensures .0; fewer = search needs; few = search needs },
+  record { rows = to-put-pair c .put-pair .ensures .0; fewer = search needs; few = search needs },
   (
-      let at-insert-pair = to-insert-pair c in
-      let at-lesser = at-insert-pair .before .before in
-      assesses-apart _ _ (at-lesser .before .before .if1 .left) (at-lesser .lesser .ensures) (at-insert-pair .before .greater .ensures) (at-insert-pair .insert-pair .ensures .1)
+      let at-put-pair = to-put-pair c in
+      let at-greater = at-put-pair .before .before in
+      let at-lesser = at-greater .before in
+      assesses-apart _ _ (at-lesser .before .if1 .left) (at-lesser .lesser .ensures) (at-greater .greater .ensures) (at-put-pair .put-pair .ensures .1)
       ),
 )
 
@@ -64,12 +65,12 @@ assess-step-spec =
     shared-slice-read-left
     mul-right
     shared-slice-read-right
-    add-t16
+    add-t18
     returns
     lesser-requires
     greater-requires
-    insert-pair-requires
-    add-t13
-    add-t19
+    put-pair-requires
+    add-t15
+    add-t21
     same-length
     returns-2)

@@ -1,6 +1,6 @@
 -- `cell::column_word` meets its contract: each entry of each word is computed. Assumes nothing.
 use native.Mathlib.Omega.{arith}
-use mathlib.Core.Path.{_≡_, refl, sym, subst}
+use mathlib.Core.Path.{_≡_, refl, subst}
 use mathlib.Core.Bool.{true}
 use Rattle.cut_steps.specs.Crossed.{SideWord}
 use Rattle.cut_steps.proofs.SideWords.{up-to-one, side-entries}

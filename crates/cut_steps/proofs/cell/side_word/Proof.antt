@@ -1,5 +1,5 @@
 -- `cell::side_word` meets its contract: along rows each entry of the word is computed. Assumes nothing.
-use mathlib.Core.Path.{refl, sym, subst⁻¹}
+use mathlib.Core.Path.{refl, subst⁻¹}
 use mathlib.Core.Bool.{false}
 use borrow.Author.Needs.{needs}
 use Rattle.cut_steps.specs.Crossed.{SideWord}
