@@ -11,7 +11,7 @@ from twin import HEADER, module_of
 LIST = ('mathlib.Core.List', ['List', '[]', '_∷_'])
 KINDS = 'borrow.Fn.Kinds'
 CITED = {'mathlib.Core.Path': ['refl'], 'borrow.Fn.Kinds': ['In', 'Out'], 'borrow.Fn.Picked': ['KnownAs']}  # by every contract
-READINGS = ['nothing', 'stated', 'read-join _ _ stated stated']  # of a contract with that many clauses
+READINGS = ['contracts.nothing', 'contracts.stated', 'read-join _ _ contracts.stated contracts.stated']  # of a contract with that many clauses
 
 
 class Kinds:
@@ -66,7 +66,6 @@ class Kinds:
         self.imports.add(KINDS, 'PK', 'RK')
         for module, names in CITED.items():
             self.imports.add(module, *names)
-        self.imports.add(f'{self.proofs}.Contracts', 'Contract', *(word for word in ('nothing', 'stated') if word in contract))
         if 'read-join' in contract:
             self.imports.add('borrow.Fn.Read', 'read-join')
         params = ''.join(f'    {kind} ∷\n' for kind in self.params)
@@ -87,7 +86,7 @@ def reads(text, count, function):
         raise ValueError(f'{function}: a contract that Seen does not write')
     given = '(w .𝓤) (w .H) (w .𝓖 .A) (w .𝓜 .mem) (w .𝓡 .run) κs a'
     return f'''
-abbrev pub the-contract : Contract {count} ps r
+abbrev pub the-contract : contracts.Contract {count} ps r
 the-contract = record {{
   requires = λ κs a g w. clauses {given} .requires g;
   ensures = λ κs a g z e w. clauses {given} .ensures g z e;

@@ -1,7 +1,7 @@
 -- Changes of sides by the first places past a span's line: of a cell they say which of its steps are cut, where they are there (`crossed`, `follows-crossed`), they depend on
 -- the distances of the places alone (`changes-shift`), and more than two cells from the first place there are none (`changes-none`). With the steps that are there they give
 -- the cell's cut directions (`crossed-cell`). Assumes nothing.
-use Prim.Native.Nat.{ℕ, zero, suc, _+_, _-_, _*_, _/_, _%_, _^_, _≤_, _<_, min}
+use Prim.Native.Nat.{ℕ, zero, suc, _+_, _-_, _*_, _≤_, _<_}
 use native.Mathlib.Omega.{arith}
 use native.Mathlib.Nat.{lt-of-le-of-lt}
 use mathlib.Core.Path.{_≡_, refl, sym, ap, ap₂, _∙_, subst, subst⁻¹}
@@ -9,8 +9,8 @@ use mathlib.Core.Logic.{_⊎_, ⊎-elim}
 use mathlib.Core.Bool.{Bool, true, false, _&&_, cond, and-false, and-true}
 use mathlib.Core.List.{List, [], _∷_, map}
 use lib.ListN.{getD}
-use lib.Dec.{eqb, leb, ltb}
-use lib.Bits.{bitAnd, and-step, and-shr, and-le-l}
+use lib.Dec.{leb, ltb}
+use lib.Bits.{bitAnd, and-le-l}
 use borrow.Author.Tests.{le-leb, lt-leb, lt-ltb, le-ltb}
 use Rattle.definitions.specs.Scan.{run}
 use Rattle.definitions.specs.Grid.{Map, Position, at, Segment, isStep}
@@ -19,6 +19,7 @@ use Rattle.span_geometry.specs.declared.strips.Strip.{Strip}
 use Rattle.span_geometry.specs.Strips.{stripOf}
 use Rattle.span_geometry.specs.Candidates.{cellOf}
 use Rattle.laws.specs.NumberLaws.Comparisons.{le-or-lt}
+use Rattle.bit_laws.specs.Bits.{and-bit}
 use Rattle.line_crossings.specs.Crossings.{tieOf, Close}
 use Rattle.line_crossings.proofs.Past.{cut-between}
 use Rattle.grid_steps.specs.Masks.{bitOf}
@@ -47,21 +48,6 @@ module _ (a b c d : Bool) where
   bit-south-east : isSet (onwardMask a b c d) 8 ≡ d
   unfolding run
   bit-south-east = ap (λ l. getD l 8 false) (nine a b c d)
-
-both-ones : (p q : ℕ) → p < 2 → q < 2 → eqb (min p q) 1 ≡ (eqb p 1 && eqb q 1)
-both-ones zero zero h i = refl
-both-ones zero (suc zero) h i = refl
-both-ones (suc zero) zero h i = refl
-both-ones (suc zero) (suc zero) h i = refl
-both-ones (suc (suc p)) q h i = absurd (omega arith)
-both-ones zero (suc (suc q)) h i = absurd (omega arith)
-both-ones (suc zero) (suc (suc q)) h i = absurd (omega arith)
-
-and-bit : (m n k : ℕ) → isSet (bitAnd m n) k ≡ (isSet m k && isSet n k)
-and-bit m n k = ap (λ x. eqb (x % 2) 1) (and-shr m n k) ∙ ap (λ x. eqb x 1) (last (m / 2 ^ k) (n / 2 ^ k)) ∙ both-ones (m / 2 ^ k % 2) (n / 2 ^ k % 2) (omega arith) (omega arith)
-  where
-    last : (x y : ℕ) → bitAnd x y % 2 ≡ min (x % 2) (y % 2)
-    last x y = omega (arith, and-step x y)
 
 -- ---- comparisons
 

@@ -1,17 +1,18 @@
 -- Bits of a number of 32: of one with a bit set, of what two have in common; and that one with no bit set is 0. Facts on the place of one bit are tests that
 -- compute. Assumes nothing.
-use Prim.Native.Nat.{ℕ, zero, suc, _+_, _*_, _/_, _%_, _^_, _≤_, _<_, min}
+use Prim.Native.Nat.{ℕ, zero, suc, _+_, _*_, _/_, _%_, _^_, _≤_, _<_}
 use native.Mathlib.Omega.{arith}
 use native.Mathlib.Nat.{pow-suc}
 use mathlib.Core.Path.{_≡_, refl, sym, ap, ap₂, _∙_, subst}
 use mathlib.Core.Bool.{Bool, true, false, not, _&&_, _||_, cond, false≢true}
 use lib.Dec.{eqb}
-use lib.Bits.{bitAnd, bitOr, and-step, and-shr, and-lt}
+use lib.Bits.{bitAnd, bitOr, and-lt}
 use borrow.Author.Tests.{eqb-true, eqb-false, eq-eqb, ne-eqb}
 use Rattle.definitions.specs.Scan.{anyBelow, allBelow}
 use Rattle.definitions.specs.RegionRecord.{hasBit}
 use Rattle.laws.specs.ListLaws.Below.{below-ext, all-below-at}
 use Rattle.laws.specs.RustContext.ElevationMasks.{or-bit}
+use Rattle.bit_laws.specs.Bits as bits
 use Rattle.game.specs.Sweeps.{none-at}
 use Rattle.game_sets.specs.Words.{doMeet}
 
@@ -37,25 +38,10 @@ pub shifted-one : (k : ℕ) → k < 32 → 1 * 2 ^ k % 4294967296 ≡ 2 ^ k
 unfolding allBelow
 shifted-one k h = eqb-true _ _ (all-below-at 32 (λ k. eqb (1 * 2 ^ k % 4294967296) (2 ^ k)) refl k h)
 
--- ---- the bits of both, and of either
-
-and-odd : (a b : ℕ) → bitAnd a b % 2 ≡ min (a % 2) (b % 2)
-and-odd a b = ap (λ x. x % 2) (and-step a b) ∙ rest
-  where
-    rest : (bitAnd (a / 2) (b / 2) * 2 + min (a % 2) (b % 2)) % 2 ≡ min (a % 2) (b % 2)
-    rest = omega arith
-
-both-bit : (x y : ℕ) → x < 2 → y < 2 → eqb (min x y) 1 ≡ (eqb x 1 && eqb y 1)
-both-bit zero zero h k = refl
-both-bit zero (suc zero) h k = refl
-both-bit (suc zero) zero h k = refl
-both-bit (suc zero) (suc zero) h k = refl
-both-bit (suc (suc x)) y h k = absurd (omega arith)
-both-bit zero (suc (suc y)) h k = absurd (omega arith)
-both-bit (suc zero) (suc (suc y)) h k = absurd (omega arith)
+-- ---- the bits of both
 
 pub and-bit : (a b j : ℕ) → hasBit (bitAnd a b) j ≡ (hasBit a j && hasBit b j)
-and-bit a b j = ap (λ x. eqb x 1) (ap (λ x. x % 2) (and-shr a b j) ∙ and-odd (a / 2 ^ j) (b / 2 ^ j)) ∙ both-bit (a / 2 ^ j % 2) (b / 2 ^ j % 2) (omega arith) (omega arith)
+and-bit = bits.and-bit
 
 -- the set with one region more
 pub with-bit : (set i j : ℕ) → i < 32 → j < 32 → hasBit (bitOr set (1 * 2 ^ i % 4294967296)) j ≡ (hasBit set j || eqb j i)

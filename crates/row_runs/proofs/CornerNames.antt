@@ -17,6 +17,7 @@ use Rattle.row_runs.specs.Stretch.{walks}
 use Rattle.row_runs.specs.Names.{EastLevel}
 use Rattle.row_runs.specs.South.{SouthLevel, Coarser, Kept}
 use Rattle.row_runs.specs.Corners.{isSquare, CornerLevel, StepAsked, StepJoined, stays, links, CornersAsked, CornersJoined, DiagonalsAsked, CornersLevel, DiagonalsJoined}
+use Rattle.row_runs.proofs.Stretches.{clear-bit}
 use Rattle.row_runs.proofs.SouthNames.{merged-test}
 
 -- ---- the square
@@ -52,10 +53,6 @@ module _ (w : ℕ) (cells : List ℕ) (c : ℕ) where
 
 -- ---- a square without marks
 
-no-east : (masks : List ℕ) (c : ℕ) → getD masks c 0 ≡ 0 → cutBit masks c 5 ≡ false
-unfolding cutBit
-no-east masks c e = ap (λ m. eqb (m / 2 ^ 5 % 2) 1) e
-
 no-south : (masks : List ℕ) (c : ℕ) → getD masks c 0 ≡ 0 → cutBit masks c 7 ≡ false
 unfolding cutBit
 no-south masks c e = ap (λ m. eqb (m / 2 ^ 7 % 2) 1) e
@@ -70,10 +67,10 @@ clear-corner w cells masks g up c low high east south a b = record { southEast =
     go f =
         ap g next
         ∙ south (c + 1) (omega arith) high (f .1) (ap (walks cells) (sym next) ∙ f .3) (no-south masks (c + 1) b)
-        ∙ east c low high (f .0) (f .1) (no-east masks c a)
+        ∙ east c low high (f .0) (f .1) (clear-bit masks c a)
 
     back : (walks cells c ≡ true) × (walks cells (c + 1) ≡ true) × (walks cells (c + w) ≡ true) × (walks cells (c + w + 1) ≡ true) → g (c + w) ≡ g (c + 1)
-    back f = south c low (omega arith) (f .0) (f .2) (no-south masks c a) ∙ sym (east c low high (f .0) (f .1) (no-east masks c a))
+    back f = south c low (omega arith) (f .0) (f .2) (no-south masks c a) ∙ sym (east c low high (f .0) (f .1) (clear-bit masks c a))
 
 -- ---- one step
 

@@ -11,8 +11,8 @@ use Rattle.laws.specs.ListLaws.Tests.{both}
 use Rattle.grid_steps.specs.Masks.{cutBit}
 use Rattle.row_runs.specs.Stretch.{walks, goesOn, Clear, Until, Stretch}
 
--- a mask of zero has no bit
-clear-bit : (masks : List ℕ) (c : ℕ) → getD masks c 0 ≡ 0 → cutBit masks c 5 ≡ false
+-- a mask of zero has no bit: no step to the east is cut
+pub clear-bit : (masks : List ℕ) (c : ℕ) → getD masks c 0 ≡ 0 → cutBit masks c 5 ≡ false
 unfolding cutBit
 clear-bit masks c e = ap (λ m. eqb (m / 2 ^ 5 % 2) 1) e
 
