@@ -154,13 +154,13 @@ one = 8 ∷ 0 ∷ 8 ∷ 8 ∷ []
 abbrev two : List ℕ
 two = 8 ∷ 0 ∷ 8 ∷ 8 ∷ 16 ∷ 0 ∷ 16 ∷ 8 ∷ []
 
--- whether the run on this map takes so many rounds and keeps the boundaries of these numbers. `roundsOf` and `restRows` read both from `rested`.
+-- whether the run on this map takes so many rounds and keeps these rows. `roundsOf` and `restRows` read both from `rested`.
 unfoldable pub keeps : Map → ℕ → List ℕ → Bool
-unfolding rested startMap startRows
-keeps M rounds numbers =
+unfolding rested startMap startRows flatRows
+keeps M rounds kept =
     let rows = startRows M in
     let end = rested (startMap M) in
-    eqb (end .rounds) rounds && sameNumbers (map (λ k. getD rows k noRow .number) (end .places)) numbers
+    eqb (end .rounds) rounds && sameNumbers (flatRows (map (λ k. getD rows k noRow) (end .places))) kept
 
 -- labels, tallies, pairs, cells of each record, and output, one after the other
 abbrev filled : Lent → List ℕ
@@ -202,8 +202,9 @@ restExamples =
     ∷ 3 ∷ 1 ∷ 0 ∷ 0 ∷ 3
     ∷ 0 ∷ 24 ∷ 0 ∷ 24 ∷ 8 ∷ replicate 11 6)
     -- case J, and the ring
-    ∷ keeps mapJ 3 (2 ∷ 4 ∷ 3 ∷ [])
-    ∷ keeps (mapIn ring) 3 (3 ∷ 2 ∷ 1 ∷ 6 ∷ [])
+    ∷ keeps mapJ 3 (2 ∷ 8 ∷ 8 ∷ 16 ∷ 8 ∷ 4 ∷ 16 ∷ 16 ∷ 24 ∷ 16 ∷ 3 ∷ 24 ∷ 8 ∷ 24 ∷ 16 ∷ [])
+    ∷ keeps (mapIn ring) 3
+    (3 ∷ 16 ∷ 12 ∷ 16 ∷ 28 ∷ 2 ∷ 16 ∷ 12 ∷ 24 ∷ 12 ∷ 1 ∷ 16 ∷ 28 ∷ 24 ∷ 28 ∷ 6 ∷ 16 ∷ 48 ∷ 24 ∷ 48 ∷ [])
     ∷ []
 
 pub rest-examples : all (λ b. b) restExamples ≡ true
