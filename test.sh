@@ -54,7 +54,8 @@ for folder in crates/*/; do
 done
 [ "$failed" -eq 0 ] || end
 
-part 'rt ci' rt ci || { fail 'the library was not built, since something is not proved'; end; }
+# The toolchain starts so many crates or edits at a time and waits for all of them, so that with one for each core a dear one leaves the other cores idle.
+part 'rt ci' env "RT_JOBS=${RT_JOBS:-$((2 * $(nproc 2>/dev/null || echo 1)))}" rt ci || { fail 'the library was not built, since something is not proved'; end; }
 tools/build_library.sh || { fail 'the library was not built'; end; }
 part 'library, bindings and command' python3 bindings/test.py || true
 end

@@ -27,7 +27,7 @@ use Rattle.pass_lists.proofs.AfterPartition.{ready-finishes}
 use Rattle.topology.specs.Filled.{Filled}
 use Rattle.topology.specs.Marks.{MarkedFor}
 use Rattle.topology.proofs.Calling.{no-marks, when-ready, when-refused, needed-few, is-pass, ready-fills, ready-lent, ran-over}
-use Rattle.topology.proofs.Steps.{same, fixed, parts}
+use Rattle.topology.proofs.Steps.{fixed}
 use Rattle.topology.proofs.topology_kept_boundaries.Statement.{statement}
 use Rattle.topology.proofs.topology_kept_boundaries.Proof.Der.{Args, close, entry, wanted, returns, from-answer-at, from-match-at, from-marks-at, from-finish-at, Γ-from-answer, Γ-from-match, Γ-from-marks}
 
@@ -67,21 +67,21 @@ module _ (κs : Lfts 11) (qs : Shares 11) (a : Args κs) (l m′ q t p : List �
   abbrev at-match : Prepared → Mo (Γ-from-match κs qs)
   at-match r′ =
       let b = a .1 .1 .1 .1 .1 .1 .1 in
-      parts tt (a .0) (a .1 .0) (a .1 .1 .0)
-      (parts (a .1 .1 .1 .0) (a .1 .1 .1 .1 .0) (a .1 .1 .1 .1 .1 .0) (a .1 .1 .1 .1 .1 .1 .0)
-      (parts (setVals l (b .0)) (setVals m′ (b .1 .0)) (setVals q (b .1 .1 .0)) (setVals t (b .1 .1 .1 .0))
-      (parts (setVals p (b .1 .1 .1 .1 .0)) (b .1 .1 .1 .1 .1 .0) (b .1 .1 .1 .1 .1 .1 .0) (length (records κs a))
-      (length (output κs a), (r′, entry κs qs a .1 .1 .1 .1 .1 .1 .1 .1 .1 .1 .1 .1 .1 .1 .1 .1 .1 .1)))))
+      (tt, (a .0, (a .1 .0, (a .1 .1 .0,
+      (a .1 .1 .1 .0, (a .1 .1 .1 .1 .0, (a .1 .1 .1 .1 .1 .0, (a .1 .1 .1 .1 .1 .1 .0,
+      (setVals l (b .0), (setVals m′ (b .1 .0), (setVals q (b .1 .1 .0), (setVals t (b .1 .1 .1 .0),
+      (setVals p (b .1 .1 .1 .1 .0), (b .1 .1 .1 .1 .1 .0, (b .1 .1 .1 .1 .1 .1 .0, (length (records κs a),
+      (length (output κs a), (r′, entry κs qs a .1 .1 .1 .1 .1 .1 .1 .1 .1 .1 .1 .1 .1 .1 .1 .1 .1 .1))))))))))))))))))
 
   abbrev at-part : List Region → (regions rows : ℕ) → List Bool → Mo (Γ-from-marks κs qs)
   at-part s regions rows removed =
       let b = a .1 .1 .1 .1 .1 .1 .1 in
-      parts tt (a .0) (a .1 .0) (a .1 .1 .0)
-      (parts (a .1 .1 .1 .0) (a .1 .1 .1 .1 .0) (a .1 .1 .1 .1 .1 .0) (a .1 .1 .1 .1 .1 .1 .0)
-      (parts (setVals l (b .0)) (setVals m′ (b .1 .0)) (setVals q (b .1 .1 .0)) (setVals t (b .1 .1 .1 .0))
-      (parts (setVals p (b .1 .1 .1 .1 .0)) (setVals s (b .1 .1 .1 .1 .1 .0)) (b .1 .1 .1 .1 .1 .1 .0) (length (records κs a))
-      (parts (length (output κs a)) tt tt tt (parts regions rows (a .1 .0) (a .1 .1 .0 * a .1 .0)
-      (removed, entry κs qs a .1 .1 .1 .1 .1 .1 .1 .1 .1 .1 .1 .1 .1 .1 .1 .1 .1 .1 .1 .1 .1 .1 .1 .1 .1))))))
+      (tt, (a .0, (a .1 .0, (a .1 .1 .0,
+      (a .1 .1 .1 .0, (a .1 .1 .1 .1 .0, (a .1 .1 .1 .1 .1 .0, (a .1 .1 .1 .1 .1 .1 .0,
+      (setVals l (b .0), (setVals m′ (b .1 .0), (setVals q (b .1 .1 .0), (setVals t (b .1 .1 .1 .0),
+      (setVals p (b .1 .1 .1 .1 .0), (setVals s (b .1 .1 .1 .1 .1 .0), (b .1 .1 .1 .1 .1 .1 .0, (length (records κs a),
+      (length (output κs a), (tt, (tt, (tt, (regions, (rows, (a .1 .0, (a .1 .1 .0 * a .1 .0,
+      (removed, entry κs qs a .1 .1 .1 .1 .1 .1 .1 .1 .1 .1 .1 .1 .1 .1 .1 .1 .1 .1 .1 .1 .1 .1 .1 .1 .1)))))))))))))))))))))))))
 
 module _ (w : World) (κs : Lfts 11) (qs : Shares 11) (bs : List ℕ) (a : Args κs) (l m₁ q₁ t p : List ℕ) where
   -- what is wanted past the match
@@ -97,32 +97,32 @@ module _ (w : World) (κs : Lfts 11) (qs : Shares 11) (bs : List ℕ) (a : Args 
         → from-finish-at w κs qs bs .Φ past-match (at-part κs qs a l m₂ q₂ t p s regions rows removed)
     finishing m₂ q₂ removed long K = (
       lit< tt,
-      λ γ₁ γ₂. same λ γ₃. same λ γ₄. same (
+      λ γ₁ γ₂. (refl, λ γ₃. (refl, λ γ₄. (refl, (
         λ κ. ready-finishes R (long .1) (long .2),
-        λ e. same λ l₁. same λ l₂. same λ l₃. (
-          parts tt tt tt refl
-              (parts refl refl refl (fixed (long .0))
-              (parts (fixed (e .4 .1 .1 .1 .1 .0 ∙ long .1)) (fixed (e .4 .1 .1 .1 .1 .1 .0 ∙ long .2)) (fixed (long .3)) (fixed (long .4))
-              (fixed ss, (fixed l₃, tt)))),
+        λ e. (refl, λ l₁. (refl, λ l₂. (refl, λ l₃. (
+          (tt, (tt, (tt, (refl,
+              (refl, (refl, (refl, (fixed (long .0),
+              (fixed (e .4 .1 .1 .1 .1 .0 ∙ long .1), (fixed (e .4 .1 .1 .1 .1 .1 .0 ∙ long .2), (fixed (long .3), (fixed (long .4),
+              (fixed ss, (fixed l₃, tt)))))))))))))),
           ran-over R F K refl refl (e .5),
-        ),
-      ),
+        )))),
+      )))),
     )
 
     -- from `mark_removed` on
     marking : Long κs a l m₁ q₁ t p → from-marks-at w κs qs bs .Φ past-match (at-part κs qs a l m₁ q₁ t p s regions rows (replicate maxEntries false))
     marking long =
         let lent = ready-lent R F (long .1) (long .2) in
-        λ γ₁. same λ γ₂. same (
+        λ γ₁. (refl, λ γ₂. (refl, (
           lit< tt,
-          λ γ₃. same λ γ₄. same λ γ₅. same λ γ₆. same λ γ₇. (
+          λ γ₃. (refl, λ γ₄. (refl, λ γ₅. (refl, λ γ₆. (refl, λ γ₇. (
             λ κ. ((_, lent), (is-pass R, no-marks)),
-            λ k. same λ l₇. same λ l₈. same (
+            λ k. (refl, λ l₇. (refl, λ l₈. (refl, (
                 let last = k .2 .1 .1 .1 .1 .1 .1 .1 .1 .1 .1 .1 .1 in
                 let kept = k .4 .1 .1 .1 .1 .1 .1 .1 .1 .1 .1 .1 .1 in
-                finishing (last .0) (last .1 .0) (last .1 .1 .0) (long .0, kept .0 ∙ long .1, kept .1 .0 ∙ long .2, long .3, long .4) (k .5 _ lent)),
-          ),
-        )
+                finishing (last .0) (last .1 .0) (last .1 .1 .0) (long .0, kept .0 ∙ long .1, kept .1 .0 ∙ long .2, long .3, long .4) (k .5 _ lent))))),
+          ))))),
+        )))
 
   -- from the match on
   matching : (r′ : Prepared) → IsPrepared κs a r′ l m₁ q₁ t p → Long κs a l m₁ q₁ t p
@@ -131,9 +131,9 @@ module _ (w : World) (κs : Lfts 11) (qs : Shares 11) (bs : List ℕ) (a : Args 
     λ one. (
       one,
       λ v told. (
-        parts tt tt tt refl
-            (parts refl refl refl (fixed (long .0))
-            (parts (fixed (long .1)) (fixed (long .2)) (fixed (long .3)) (fixed (long .4)) (refl, (refl, tt)))),
+        (tt, (tt, (tt, (refl,
+            (refl, (refl, (refl, (fixed (long .0),
+            (fixed (long .1), (fixed (long .2), (fixed (long .3), (fixed (long .4), (refl, (refl, tt)))))))))))))),
         when-refused _ _ P (v .1) refl refl,
       ),
     ),
@@ -144,7 +144,7 @@ module _ (w : World) (κs : Lfts 11) (qs : Shares 11) (bs : List ℕ) (a : Args 
             let R = when-ready P (v .1) in
             let fills = ready-fills R (long .2) in (
               record { fits = omega (arith, needed-few R) },
-              λ γ₁. same λ γ₂. same λ γ₃. same (λ κ. (_, fills), λ f. same λ ss. marking (f .2 .0) _ _ R (f .5 _ fills) ss long),
+              λ γ₁. (refl, λ γ₂. (refl, λ γ₃. (refl, (λ κ. (_, fills), λ f. (refl, λ ss. marking (f .2 .0) _ _ R (f .5 _ fills) ss long))))),
             ),
       ),
       each-below 2 (λ j. (Unit {0} × (OneOf (0 ∷ []) j → ⊥)) × (OneOf (1 ∷ []) j → ⊥) → ⊥) (λ n. n .1 refl, (λ n. n .0 .1 refl, tt))
@@ -153,9 +153,9 @@ module _ (w : World) (κs : Lfts 11) (qs : Shares 11) (bs : List ℕ) (a : Args 
   )
 
 pub topology-kept-boundaries-spec : {M : Type 1} → statement M
-topology-kept-boundaries-spec = close (λ w κs qs a good pre bs. λ γ₁. same λ γ₂. same λ γ₃. same λ γ₄. same λ γ₅. same (
+topology-kept-boundaries-spec = close (λ w κs qs a good pre bs. λ γ₁. (refl, λ γ₂. (refl, λ γ₃. (refl, λ γ₄. (refl, λ γ₅. (refl, (
   λ κ. tt,
-  λ p. same λ l₁. same λ l₂. same λ l₃. same λ l₄. same λ l₅.
+  λ p. (refl, λ l₁. (refl, λ l₂. (refl, λ l₃. (refl, λ l₄. (refl, λ l₅.
       let last = p .2 .1 .1 .1 .1 .1 .1 .1 .1 .1 in
-      matching w κs qs bs a (last .0) (last .1 .0) (last .1 .1 .0) (last .1 .1 .1 .0) (last .1 .1 .1 .1 .0) (p .1) (p .5) (l₁, l₂, l₃, l₄, l₅),
-))
+      matching w κs qs bs a (last .0) (last .1 .0) (last .1 .1 .0) (last .1 .1 .1 .0) (last .1 .1 .1 .1 .0) (p .1) (p .5) (l₁, l₂, l₃, l₄, l₅)))))),
+)))))))

@@ -25,7 +25,7 @@ use Rattle.topology.specs.Games.{Begun, RunsKept}
 use Rattle.topology.proofs.Calling.{no-marks, needed-few}
 use Rattle.topology.proofs.Lending.{lends}
 use Rattle.topology.proofs.Gaming.{source, runs-fills, runs-pass, runs-lent, runs-divides, runs-first, runs-renews, runs-finishes, ran-kept-graph}
-use Rattle.topology.proofs.Steps.{same, fixed, parts}
+use Rattle.topology.proofs.Steps.{fixed}
 use Rattle.topology.proofs.games.run_kept.Statement.{statement}
 use Rattle.topology.proofs.games.run_kept.Proof.Der.{Args, Requires, close, entry, wanted, from-marks-at, from-divide-at, from-renew-at, from-finish-at, Γ-from-marks, Γ-from-divide, Γ-from-renew, Γ-from-finish}
 
@@ -81,23 +81,23 @@ module _ (κs : Lfts 11) (qs : Shares 11) (a : Args κs) (s : List Region) (l m 
   abbrev at-part : Mo (Γ-from-marks κs qs)
   at-part =
       let b = a .1 .1 .1 .1 .1 .1 .1 .1 .1 .1 in
-      parts tt (a .0) (setVals s (a .1 .0)) (a .1 .1 .0)
-      (parts (a .1 .1 .1 .0) (a .1 .1 .1 .1 .0) (a .1 .1 .1 .1 .1 .0) (a .1 .1 .1 .1 .1 .1 .0)
-      (parts (a .1 .1 .1 .1 .1 .1 .1 .0) (regions κs a) (rows κs a) (setVals l (b .0))
-      (parts (setVals m (b .1 .0)) (setVals q (b .1 .1 .0)) (setVals t (b .1 .1 .1 .0)) (setVals p (b .1 .1 .1 .1 .0))
-      (parts (b .1 .1 .1 .1 .1 .0) (height κs a * width κs a) (length (records κs a)) removed
-      (entry κs qs a .1 .1 .1 .1 .1 .1 .1 .1 .1 .1 .1 .1 .1 .1 .1 .1 .1 .1 .1 .1)))))
+      (tt, (a .0, (setVals s (a .1 .0), (a .1 .1 .0,
+      (a .1 .1 .1 .0, (a .1 .1 .1 .1 .0, (a .1 .1 .1 .1 .1 .0, (a .1 .1 .1 .1 .1 .1 .0,
+      (a .1 .1 .1 .1 .1 .1 .1 .0, (regions κs a, (rows κs a, (setVals l (b .0),
+      (setVals m (b .1 .0), (setVals q (b .1 .1 .0), (setVals t (b .1 .1 .1 .0), (setVals p (b .1 .1 .1 .1 .0),
+      (b .1 .1 .1 .1 .1 .0, (height κs a * width κs a, (length (records κs a), (removed,
+      (entry κs qs a .1 .1 .1 .1 .1 .1 .1 .1 .1 .1 .1 .1 .1 .1 .1 .1 .1 .1 .1 .1)))))))))))))))))))))
 
   -- once the kept graph is there
   abbrev at-graph : Graph → Mo (Γ-from-renew κs qs)
   at-graph g =
       let b = a .1 .1 .1 .1 .1 .1 .1 .1 .1 .1 in
-      parts tt (a .0) (setVals s (a .1 .0)) (a .1 .1 .0)
-      (parts (a .1 .1 .1 .0) (a .1 .1 .1 .1 .0) (a .1 .1 .1 .1 .1 .0) (a .1 .1 .1 .1 .1 .1 .0)
-      (parts (a .1 .1 .1 .1 .1 .1 .1 .0) (regions κs a) (rows κs a) (setVals l (b .0))
-      (parts (setVals m (b .1 .0)) (setVals q (b .1 .1 .0)) (setVals t (b .1 .1 .1 .0)) (setVals p (b .1 .1 .1 .1 .0))
-      (parts (b .1 .1 .1 .1 .1 .0) (height κs a * width κs a) (length (records κs a)) removed
-      (g, entry κs qs a .1 .1 .1 .1 .1 .1 .1 .1 .1 .1 .1 .1 .1 .1 .1 .1 .1 .1 .1 .1 .1)))))
+      (tt, (a .0, (setVals s (a .1 .0), (a .1 .1 .0,
+      (a .1 .1 .1 .0, (a .1 .1 .1 .1 .0, (a .1 .1 .1 .1 .1 .0, (a .1 .1 .1 .1 .1 .1 .0,
+      (a .1 .1 .1 .1 .1 .1 .1 .0, (regions κs a, (rows κs a, (setVals l (b .0),
+      (setVals m (b .1 .0), (setVals q (b .1 .1 .0), (setVals t (b .1 .1 .1 .0), (setVals p (b .1 .1 .1 .1 .0),
+      (b .1 .1 .1 .1 .1 .0, (height κs a * width κs a, (length (records κs a), (removed,
+      (g, entry κs qs a .1 .1 .1 .1 .1 .1 .1 .1 .1 .1 .1 .1 .1 .1 .1 .1 .1 .1 .1 .1 .1)))))))))))))))))))))
 
 module _ (w : World) (κs : Lfts 11) (qs : Shares 11) (bs : List ℕ) (a : Args κs) (pre : Requires κs a) (s₁ : List Region) (F : Filled (M κs a) (records κs a) s₁)
     (longS : length s₁ ≡ length (records κs a)) where
@@ -126,58 +126,58 @@ module _ (w : World) (κs : Lfts 11) (qs : Shares 11) (bs : List ℕ) (a : Args 
           → from-finish-at w κs qs bs .Φ (wanted κs qs a) (at-graph κs qs a s₂ l₃ m₃ q₃ t₃ p₃ removed g)
       finishing s₂ longS₂ E = (
         lit< tt,
-        λ γ₁ γ₂. same λ γ₃. same λ γ₄. same (
+        λ γ₁ γ₂. (refl, λ γ₃. (refl, λ γ₄. (refl, (
           λ κ. runs-finishes (pre .1) F longM longQ D (N _ (pre .1)) longL₃ longM₃ longQ₃,
-          λ e. same λ l₁. same λ l₂. same λ l₃′. (
-            parts tt (fixed (longS₂ ∙ longS)) tt tt
-                (parts refl refl refl refl
-                (parts tt tt (fixed longL₃) (fixed (e .4 .1 .1 .1 .1 .0 ∙ longM₃ ∙ longM))
-                (parts (fixed (e .4 .1 .1 .1 .1 .1 .0 ∙ longQ₃ ∙ longQ)) (fixed longT₃) (fixed longP₃) (fixed l₃′) tt))),
+          λ e. (refl, λ l₁. (refl, λ l₂. (refl, λ l₃′. (
+            (tt, (fixed (longS₂ ∙ longS), (tt, (tt,
+                (refl, (refl, (refl, (refl,
+                (tt, (tt, (fixed longL₃, (fixed (e .4 .1 .1 .1 .1 .0 ∙ longM₃ ∙ longM),
+                (fixed (e .4 .1 .1 .1 .1 .1 .0 ∙ longQ₃ ∙ longQ), (fixed longT₃, (fixed longP₃, (fixed l₃′, tt)))))))))))))))),
             λ B G. ran-kept-graph G F longM longQ D (N B G) longL₃ longM₃ longQ₃ E (e .5) refl refl refl,
-          ),
-        ),
+          )))),
+        )))),
       )
 
       -- from `renew` on
       renewing : from-renew-at w κs qs bs .Φ (wanted κs qs a) (at-graph κs qs a s₁ l₃ m₃ q₃ t₃ p₃ removed g)
       renewing =
           let renews = runs-renews (pre .1) F longM longQ D (N _ (pre .1)) longL₃ longM₃ longQ₃ longS in
-          λ γ₁. same λ γ₂. same λ γ₃. same (
+          λ γ₁. (refl, λ γ₂. (refl, λ γ₃. (refl, (
             λ κ. (runs-first (pre .1) F longM longQ D (N _ (pre .1)) longL₃ longM₃ longQ₃ longS, (_, renews)),
-            λ e. same λ l. finishing (e .2 .0) l (e .5 _ renews),
-          )
+            λ e. (refl, λ l. finishing (e .2 .0) l (e .5 _ renews)),
+          ))))
 
     -- from `divide_kept` on
     dividing : from-divide-at w κs qs bs .Φ (wanted κs qs a) (at-part κs qs a s₁ b0 m₂ q₂ b3 b4 removed)
     dividing =
-        λ γ₁ γ₂. same λ γ₃. same λ γ₄. same λ γ₅. same λ γ₆. same (
+        λ γ₁ γ₂. (refl, λ γ₃. (refl, λ γ₄. (refl, λ γ₅. (refl, λ γ₆. (refl, (
           λ κ. (_, runs-divides (pre .1) F longM longQ D),
-          λ d. same λ l₁. same λ l₂. same λ l₃. same λ l₄. same λ l₅.
+          λ d. (refl, λ l₁. (refl, λ l₂. (refl, λ l₃. (refl, λ l₄. (refl, λ l₅.
               let last = d .2 .1 .1 .1 .1 .1 .1 .1 in
               renewing (d .1) (last .0) (last .1 .0) (last .1 .1 .0) (last .1 .1 .1 .0) (last .1 .1 .1 .1 .0)
-              (λ B G. d .5 _ (runs-divides G F longM longQ D)) l₁ l₂ l₃ l₄ l₅,
-        )
+              (λ B G. d .5 _ (runs-divides G F longM longQ D)) l₁ l₂ l₃ l₄ l₅))))),
+        ))))))
 
   -- from `mark_removed` on
   marking : from-marks-at w κs qs bs .Φ (wanted κs qs a) (at-part κs qs a s₁ b0 b1 b2 b3 b4 (replicate maxEntries false))
   marking =
       let lent = runs-lent (pre .1) F in
-      λ γ₁. same λ γ₂. same (
+      λ γ₁. (refl, λ γ₂. (refl, (
         lit< tt,
-        λ γ₃. same λ γ₄. same λ γ₅. same λ γ₆. same λ γ₇. (
+        λ γ₃. (refl, λ γ₄. (refl, λ γ₅. (refl, λ γ₆. (refl, λ γ₇. (
           λ κ. ((_, lent), (runs-pass (pre .1), no-marks)),
-          λ k. same λ l₇. same λ l₈. same (
+          λ k. (refl, λ l₇. (refl, λ l₈. (refl, (
               let last = k .2 .1 .1 .1 .1 .1 .1 .1 .1 .1 .1 .1 .1 in
               let kept = k .4 .1 .1 .1 .1 .1 .1 .1 .1 .1 .1 .1 .1 in
-              dividing (last .0) (last .1 .0) (last .1 .1 .0) (kept .0) (kept .1 .0) (k .5 _ lent)),
-        ),
-      )
+              dividing (last .0) (last .1 .0) (last .1 .1 .0) (kept .0) (kept .1 .0) (k .5 _ lent))))),
+        ))))),
+      )))
 
 pub run-kept-spec : {M : Type 1} → statement M
 run-kept-spec = close (λ w κs qs a good pre bs. (
   record { fits = omega (arith, needed-few (pre .1 .ready .ready)) },
-  λ γ₁. same λ γ₂. same λ γ₃. same (
+  λ γ₁. (refl, λ γ₂. (refl, λ γ₃. (refl, (
     λ κ. (_, runs-fills (pre .1)),
-    λ f. same λ ss. marking w κs qs bs a pre (f .2 .0) (f .5 _ (runs-fills (pre .1))) ss,
-  ),
+    λ f. (refl, λ ss. marking w κs qs bs a pre (f .2 .0) (f .5 _ (runs-fills (pre .1))) ss),
+  )))),
 ))

@@ -21,7 +21,7 @@ use Rattle.topology.specs.declared.games.Second.{Second}
 use Rattle.topology.specs.Games.{RanKept}
 use Rattle.topology.proofs.Lending.{lends, leaves}
 use Rattle.topology.proofs.Playing.{game-ready, refused-over, runs-ready, rows-fit, played-over}
-use Rattle.topology.proofs.Steps.{same, fixed, parts}
+use Rattle.topology.proofs.Steps.{fixed}
 use Rattle.topology.proofs.games.topology_runner_and_guard.Statement.{statement}
 use Rattle.topology.proofs.games.topology_runner_and_guard.Proof.Der.{Args, close, entry, wanted, returns, from-answer-at, from-match-at, from-play-at, Γ-from-answer, Γ-from-match, Γ-from-play}
 
@@ -64,23 +64,23 @@ module _ (κs : Lfts 12) (qs : Shares 12) (a : Args κs) (l m′ q t p : List �
   abbrev at-match : Prepared → Mo (Γ-from-match κs qs)
   at-match r′ =
       let b = a .1 .1 .1 .1 .1 .1 .1 .1 in
-      parts tt (a .0) (a .1 .0) (a .1 .1 .0)
-      (parts (a .1 .1 .1 .0) (a .1 .1 .1 .1 .0) (a .1 .1 .1 .1 .1 .0) (a .1 .1 .1 .1 .1 .1 .0)
-      (parts (a .1 .1 .1 .1 .1 .1 .1 .0) (setVals l (b .0)) (setVals m′ (b .1 .0)) (setVals q (b .1 .1 .0))
-      (parts (setVals t (b .1 .1 .1 .0)) (setVals p (b .1 .1 .1 .1 .0)) (b .1 .1 .1 .1 .1 .0) (b .1 .1 .1 .1 .1 .1 .0)
-      (parts (b .1 .1 .1 .1 .1 .1 .1 .0) (length (records κs a)) (length (output κs a)) (length (verdicts κs a))
-      (r′, entry κs qs a .1 .1 .1 .1 .1 .1 .1 .1 .1 .1 .1 .1 .1 .1 .1 .1 .1 .1 .1 .1 .1)))))
+      (tt, (a .0, (a .1 .0, (a .1 .1 .0,
+      (a .1 .1 .1 .0, (a .1 .1 .1 .1 .0, (a .1 .1 .1 .1 .1 .0, (a .1 .1 .1 .1 .1 .1 .0,
+      (a .1 .1 .1 .1 .1 .1 .1 .0, (setVals l (b .0), (setVals m′ (b .1 .0), (setVals q (b .1 .1 .0),
+      (setVals t (b .1 .1 .1 .0), (setVals p (b .1 .1 .1 .1 .0), (b .1 .1 .1 .1 .1 .0, (b .1 .1 .1 .1 .1 .1 .0,
+      (b .1 .1 .1 .1 .1 .1 .1 .0, (length (records κs a), (length (output κs a), (length (verdicts κs a),
+      (r′, entry κs qs a .1 .1 .1 .1 .1 .1 .1 .1 .1 .1 .1 .1 .1 .1 .1 .1 .1 .1 .1 .1 .1)))))))))))))))))))))
 
   abbrev at-play : List Region → List ℕ → (regions rows : ℕ) → Second → Mo (Γ-from-play κs qs)
   at-play s o regions rows second =
       let b = a .1 .1 .1 .1 .1 .1 .1 .1 in
-      parts tt (a .0) (a .1 .0) (a .1 .1 .0)
-      (parts (a .1 .1 .1 .0) (a .1 .1 .1 .1 .0) (a .1 .1 .1 .1 .1 .0) (a .1 .1 .1 .1 .1 .1 .0)
-      (parts (a .1 .1 .1 .1 .1 .1 .1 .0) (setVals l (b .0)) (setVals m′ (b .1 .0)) (setVals q (b .1 .1 .0))
-      (parts (setVals t (b .1 .1 .1 .0)) (setVals p (b .1 .1 .1 .1 .0)) (setVals s (b .1 .1 .1 .1 .1 .0)) (setVals o (b .1 .1 .1 .1 .1 .1 .0))
-      (parts (b .1 .1 .1 .1 .1 .1 .1 .0) (length (records κs a)) (length (output κs a)) (length (verdicts κs a))
-      (parts tt tt tt regions
-      (rows, (second, entry κs qs a .1 .1 .1 .1 .1 .1 .1 .1 .1 .1 .1 .1 .1 .1 .1 .1 .1 .1 .1 .1 .1 .1 .1 .1 .1 .1)))))))
+      (tt, (a .0, (a .1 .0, (a .1 .1 .0,
+      (a .1 .1 .1 .0, (a .1 .1 .1 .1 .0, (a .1 .1 .1 .1 .1 .0, (a .1 .1 .1 .1 .1 .1 .0,
+      (a .1 .1 .1 .1 .1 .1 .1 .0, (setVals l (b .0), (setVals m′ (b .1 .0), (setVals q (b .1 .1 .0),
+      (setVals t (b .1 .1 .1 .0), (setVals p (b .1 .1 .1 .1 .0), (setVals s (b .1 .1 .1 .1 .1 .0), (setVals o (b .1 .1 .1 .1 .1 .1 .0),
+      (b .1 .1 .1 .1 .1 .1 .1 .0, (length (records κs a), (length (output κs a), (length (verdicts κs a),
+      (tt, (tt, (tt, (regions,
+      (rows, (second, entry κs qs a .1 .1 .1 .1 .1 .1 .1 .1 .1 .1 .1 .1 .1 .1 .1 .1 .1 .1 .1 .1 .1 .1 .1 .1 .1 .1))))))))))))))))))))))))))
 
 module _ (w : World) (κs : Lfts 12) (qs : Shares 12) (bs : List ℕ) (a : Args κs) (l m₁ q₁ t p : List ℕ) where
   -- what is wanted past the match
@@ -98,16 +98,16 @@ module _ (w : World) (κs : Lfts 12) (qs : Shares 12) (bs : List ℕ) (a : Args 
         → Long κs a l₂ m₂ q₂ t₂ p₂ → length s₂ ≡ length (records κs a) → length o₂ ≡ length (output κs a)
         → from-play-at w κs qs bs .Φ past-match (at-play κs qs a l₂ m₂ q₂ t₂ p₂ s₂ o₂ regions rows r)
     playing s₂ o₂ l₂ m₂ q₂ t₂ p₂ r R long longS longO =
-        λ γ₁. same λ γ₂. same (
+        λ γ₁. (refl, λ γ₂. (refl, (
           λ κ. (rows-fit G R, G .enough),
-          λ e. same λ lv known. (
-            parts tt tt tt refl
-                (parts refl refl refl tt
-                (parts (fixed (long .0)) (fixed (long .1)) (fixed (long .2)) (fixed (long .3))
-                (parts (fixed (long .4)) (fixed longS) (fixed longO) (fixed lv) tt))),
+          λ e. (refl, λ lv known. (
+            (tt, (tt, (tt, (refl,
+                (refl, (refl, (refl, (tt,
+                (fixed (long .0), (fixed (long .1), (fixed (long .2), (fixed (long .3),
+                (fixed (long .4), (fixed longS, (fixed longO, (fixed lv, tt)))))))))))))))),
             played-over G R (goal κs a) (verdicts κs a) refl refl refl (e .5 .0) (e .5 .1),
-          ),
-        )
+          )),
+        )))
 
   -- from the match on
   matching : (r′ : Prepared) → IsPrepared κs a r′ l m₁ q₁ t p → Long κs a l m₁ q₁ t p
@@ -118,10 +118,10 @@ module _ (w : World) (κs : Lfts 12) (qs : Shares 12) (bs : List ℕ) (a : Args 
       λ v told. (
         λ κ. tt,
         λ r. (
-          parts tt tt tt refl
-              (parts refl refl refl tt
-              (parts (fixed (long .0)) (fixed (long .1)) (fixed (long .2)) (fixed (long .3))
-              (parts (fixed (long .4)) refl refl refl tt))),
+          (tt, (tt, (tt, (refl,
+              (refl, (refl, (refl, (tt,
+              (fixed (long .0), (fixed (long .1), (fixed (long .2), (fixed (long .3),
+              (fixed (long .4), (refl, (refl, (refl, tt)))))))))))))))),
           refused-over (goal κs a) (records κs a) (output κs a) (verdicts κs a) P (v .1) refl refl refl (r .5),
         ),
       ),
@@ -132,13 +132,13 @@ module _ (w : World) (κs : Lfts 12) (qs : Shares 12) (bs : List ℕ) (a : Args 
         λ v told.
             let G = game-ready P (v .1) in
             let runs = runs-ready G (records κs a) (output κs a) refl refl (long .0) (long .1) (long .2) (long .3) (long .4) in
-            λ γ₁. same λ γ₂. same λ γ₃. same λ γ₄. same λ γ₅. same λ γ₆. same λ γ₇. same (
+            λ γ₁. (refl, λ γ₂. (refl, λ γ₃. (refl, λ γ₄. (refl, λ γ₅. (refl, λ γ₆. (refl, λ γ₇. (refl, (
               λ κ. (_, runs),
-              λ k. same λ l₁. same λ l₂. same λ l₃. same λ l₄. same λ l₅. same λ l₆. same λ l₇.
+              λ k. (refl, λ l₁. (refl, λ l₂. (refl, λ l₃. (refl, λ l₄. (refl, λ l₅. (refl, λ l₆. (refl, λ l₇.
                   let last = k .2 .1 .1 .1 .1 .1 .1 .1 .1 .1 .1 in
                   playing _ _ G (k .2 .1 .0) (last .1 .1 .1 .1 .1 .0) (last .0) (last .1 .0) (last .1 .1 .0) (last .1 .1 .1 .0) (last .1 .1 .1 .1 .0) (k .1)
-                  (k .5 _ runs) (l₂ ∙ long .0, l₃ ∙ long .1, l₄ ∙ long .2, l₅ ∙ long .3, l₆ ∙ long .4) l₁ l₇,
-            ),
+                  (k .5 _ runs) (l₂ ∙ long .0, l₃ ∙ long .1, l₄ ∙ long .2, l₅ ∙ long .3, l₆ ∙ long .4) l₁ l₇))))))),
+            )))))))),
       ),
       each-below 2 (λ j. (Unit {0} × (OneOf (0 ∷ []) j → ⊥)) × (OneOf (1 ∷ []) j → ⊥) → ⊥) (λ n. n .1 refl, (λ n. n .0 .1 refl, tt))
           (tagOf prepared.the-type r′) (tag-small prepared.the-type r′),
@@ -146,9 +146,9 @@ module _ (w : World) (κs : Lfts 12) (qs : Shares 12) (bs : List ℕ) (a : Args 
   )
 
 pub topology-runner-and-guard-spec : {M : Type 1} → statement M
-topology-runner-and-guard-spec = close (λ w κs qs a good pre bs. λ γ₁. same λ γ₂. same λ γ₃. same λ γ₄. same λ γ₅. same (
+topology-runner-and-guard-spec = close (λ w κs qs a good pre bs. λ γ₁. (refl, λ γ₂. (refl, λ γ₃. (refl, λ γ₄. (refl, λ γ₅. (refl, (
   λ κ. tt,
-  λ p. same λ l₁. same λ l₂. same λ l₃. same λ l₄. same λ l₅.
+  λ p. (refl, λ l₁. (refl, λ l₂. (refl, λ l₃. (refl, λ l₄. (refl, λ l₅.
       let last = p .2 .1 .1 .1 .1 .1 .1 .1 .1 .1 .1 in
-      matching w κs qs bs a (last .0) (last .1 .0) (last .1 .1 .0) (last .1 .1 .1 .0) (last .1 .1 .1 .1 .0) (p .1) (p .5) (l₁, l₂, l₃, l₄, l₅),
-))
+      matching w κs qs bs a (last .0) (last .1 .0) (last .1 .1 .0) (last .1 .1 .1 .0) (last .1 .1 .1 .1 .0) (p .1) (p .5) (l₁, l₂, l₃, l₄, l₅)))))),
+)))))))

@@ -19,7 +19,7 @@ use Rattle.definitions.specs.Limits.{numbersPerBoundary}
 use Rattle.definitions.specs.Grid.{Map}
 use Rattle.pass_lists.specs.Contract.{Partitioned, Viewed}
 use Rattle.topology.proofs.Marking.{unmarked-lent, marks-long, counts-long, lent-shows, marked-lent}
-use Rattle.topology.proofs.Steps.{fixed, parts}
+use Rattle.topology.proofs.Steps.{fixed}
 use Rattle.topology.proofs.marks.mark_removed.Statement.{statement}
 use Rattle.topology.proofs.marks.mark_removed.Proof.Der.{Args, Requires, close, entry, wanted, after-test-at, after-view-at, Γ-after-view}
 
@@ -56,11 +56,11 @@ module _ (w : World) (κs : Lfts 9) (qs : Shares 9) (bs : List ℕ) (a : Args κ
       once-viewed =
           let b = a .1 .1 .1 .1 .1 .1 .1 in
           let c = b .1 .1 .1 .1 .1 in
-          parts tt (a .0) (a .1 .0) (a .1 .1 .0)
-          (parts (a .1 .1 .1 .0) (a .1 .1 .1 .1 .0) (a .1 .1 .1 .1 .1 .0) (a .1 .1 .1 .1 .1 .1 .0)
-          (parts (b .0) (b .1 .0) (b .1 .1 .0) (b .1 .1 .1 .0)
-          (parts (b .1 .1 .1 .1 .0) (setVals masks′ (c .0)) (setVals queue′ (c .1 .0)) (c .1 .1 .0)
-          (starts, (smaller, (larger, entry κs qs a .1 .1 .1 .1 .1 .1 .1 .1 .1 .1 .1 .1 .1 .1 .1 .1 .1 .1 .1))))))
+          (tt, (a .0, (a .1 .0, (a .1 .1 .0,
+          (a .1 .1 .1 .0, (a .1 .1 .1 .1 .0, (a .1 .1 .1 .1 .1 .0, (a .1 .1 .1 .1 .1 .1 .0,
+          (b .0, (b .1 .0, (b .1 .1 .0, (b .1 .1 .1 .0,
+          (b .1 .1 .1 .1 .0, (setVals masks′ (c .0), (setVals queue′ (c .1 .0), (c .1 .1 .0,
+          (starts, (smaller, (larger, entry κs qs a .1 .1 .1 .1 .1 .1 .1 .1 .1 .1 .1 .1 .1 .1 .1 .1 .1 .1 .1)))))))))))))))))))
 
       -- from `removed_marks` on
       marking : length masks′ ≡ length masks → length queue′ ≡ length queue
@@ -86,10 +86,10 @@ module _ (w : World) (κs : Lfts 9) (qs : Shares 9) (bs : List ℕ) (a : Args κ
                         λ l₄. (
                           refl,
                           (
-                            parts tt refl tt tt (parts refl refl tt tt (parts tt refl refl refl (
+                            (tt, (refl, (tt, (tt, (refl, (refl, (tt, (tt, (tt, (refl, (refl, (refl, (
                               fixed (l₃ .1 ∙ same-masks),
                               (fixed (l₄ .1 ∙ same-queue), (refl, tt)),
-                            ))),
+                            ))))))))))))),
                             λ M L.
                                 let lists = marked .2 .1 .1 .1 .1 .1 .1 .1 .1 .1 .1 in
                                 let shown = viewed M (L .partitioned) in
@@ -140,7 +140,7 @@ mark-removed-spec = close (λ w κs qs a good pre bs. (
     tt,
     (
       λ differ. (
-        parts tt refl tt tt (parts refl refl tt tt (parts tt refl refl refl (refl, (refl, (refl, tt))))),
+        (tt, (refl, (tt, (tt, (refl, (refl, (tt, (tt, (tt, (refl, (refl, (refl, (refl, (refl, (refl, tt))))))))))))))),
         λ M L. unmarked-lent M L (eqb-false _ _ (not-true _ differ)),
       ),
       λ same. viewing w κs qs bs a pre (eqb-true _ _ (not-false _ same)),

@@ -20,7 +20,7 @@ use Rattle.topology.specs.Lent.{LentLists}
 use Rattle.topology.specs.Contract.{exported, RanOver, recordsHere}
 use Rattle.topology.proofs.Lending.{lends, leaves}
 use Rattle.topology.proofs.Answered.{first-empty, lent-long, ran-here}
-use Rattle.topology.proofs.Steps.{same, fixed, parts}
+use Rattle.topology.proofs.Steps.{fixed}
 use Rattle.topology.proofs.own_records.kept_boundaries_here.Statement.{statement}
 use Rattle.topology.proofs.own_records.kept_boundaries_here.Proof.Der.{Args, close, entry, wanted, from-put-at, Γ-from-put}
 
@@ -36,11 +36,11 @@ module _ (κs : Lfts 11) (a : Args κs) where
   abbrev at-put : (qs : Shares 11) (l m q t p o : List ℕ) (n : ℕ) → List Region → TopologyAnswer → Mo (Γ-from-put κs qs)
   at-put qs l m′ q t p o n s answer =
       let b = a .1 .1 .1 .1 .1 .1 .1 in
-      parts tt (a .0) (a .1 .0) (a .1 .1 .0)
-      (parts (a .1 .1 .1 .0) (a .1 .1 .1 .1 .0) (a .1 .1 .1 .1 .1 .0) (a .1 .1 .1 .1 .1 .1 .0)
-      (parts (setVals l (b .0)) (setVals m′ (b .1 .0)) (setVals q (b .1 .1 .0)) (setVals t (b .1 .1 .1 .0))
-      (parts (setVals p (b .1 .1 .1 .1 .0)) (b .1 .1 .1 .1 .1 .0) (setVals o (b .1 .1 .1 .1 .1 .1 .0)) (b .1 .1 .1 .1 .1 .1 .1 .0)
-      (n, (s, (answer, entry κs qs a .1 .1 .1 .1 .1 .1 .1 .1 .1 .1 .1 .1 .1 .1 .1 .1 .1 .1 .1))))))
+      (tt, (a .0, (a .1 .0, (a .1 .1 .0,
+      (a .1 .1 .1 .0, (a .1 .1 .1 .1 .0, (a .1 .1 .1 .1 .1 .0, (a .1 .1 .1 .1 .1 .1 .0,
+      (setVals l (b .0), (setVals m′ (b .1 .0), (setVals q (b .1 .1 .0), (setVals t (b .1 .1 .1 .0),
+      (setVals p (b .1 .1 .1 .1 .0), (b .1 .1 .1 .1 .1 .0, (setVals o (b .1 .1 .1 .1 .1 .1 .0), (b .1 .1 .1 .1 .1 .1 .1 .0,
+      (n, (s, (answer, entry κs qs a .1 .1 .1 .1 .1 .1 .1 .1 .1 .1 .1 .1 .1 .1 .1 .1 .1 .1 .1)))))))))))))))))))
 
 -- from `put_records` on
 module _ (w : World) (κs : Lfts 11) (qs : Shares 11) (bs : List ℕ) (a : Args κs) (l m′ q t p o : List ℕ) (n : ℕ) (s s′ rest : List Region) (b : TopologyAnswer)
@@ -50,19 +50,19 @@ module _ (w : World) (κs : Lfts 11) (qs : Shares 11) (bs : List ℕ) (a : Args 
     (sp : length p ≡ length (a .1 .1 .1 .1 .1 .1 .1 .1 .1 .1 .1 .0 .now)) (so : length o ≡ length (a .1 .1 .1 .1 .1 .1 .1 .1 .1 .1 .1 .1 .1 .0 .now))
     (ran : RanOver (a .0) (lent κs a s) (exported b) (leaves l m′ q t p s′ o)) where
   putting : from-put-at w κs qs bs .Φ (wanted κs qs a) (at-put κs a qs l m′ q t p o n (s′ ++ rest) b)
-  putting = λ γ₁. same (
+  putting = λ γ₁. (refl, (
     λ κ. tt,
-    λ e. same λ l₁. (
+    λ e. (refl, λ l₁. (
       λ κ. tt,
       λ c. (
-        parts tt tt tt refl
-            (parts refl refl refl (fixed sl)
-            (parts (fixed sm) (fixed sq) (fixed st) (fixed sp)
-            (tt, (fixed so, (fixed l₁, tt))))),
+        (tt, (tt, (tt, (refl,
+            (refl, (refl, (refl, (fixed sl,
+            (fixed sm, (fixed sq, (fixed st, (fixed sp,
+            (tt, (fixed so, (fixed l₁, tt))))))))))))))),
         ran-here (lent κs a s) (leaves l m′ q t p s′ o) (a .1 .1 .1 .1 .1 .1 .1 .1 .1 .1 .1 .1 .0) rest few ran empty long (e .5) (c .5),
       ),
-    ),
-  )
+    )),
+  ))
 
 pub kept-boundaries-here-spec : {M : Type 1} → statement M
 kept-boundaries-here-spec = close (λ w κs qs a good pre bs. (
@@ -72,21 +72,21 @@ kept-boundaries-here-spec = close (λ w κs qs a good pre bs. (
     λ all.
         let room = a .1 .1 .1 .1 .1 .1 .1 .1 .1 .1 .1 .1 .0 in
         let lent = lent-long room (all .1) (few .5) (all .5) in
-        λ γ₁. same λ γ₂. same λ γ₃. same λ γ₄. same λ γ₅. same (
+        λ γ₁. (refl, λ γ₂. (refl, λ γ₃. (refl, λ γ₄. (refl, λ γ₅. (refl, (
           omega (arith, few .5, all .3),
           λ γ₆. (
             ap (vint w64) lent,
-            λ γ₇. same (
+            λ γ₇. (refl, (
               λ κ. tt,
               λ c.
-                  same λ l₁. same λ l₂. same λ l₃. same λ l₄. same λ l₅. same λ l₆. same λ l₇.
+                  (refl, λ l₁. (refl, λ l₂. (refl, λ l₃. (refl, λ l₄. (refl, λ l₅. (refl, λ l₆. (refl, λ l₇.
                   let last = c .2 .1 .1 .1 .1 .1 .1 .1 in
                   let left = last .1 .1 .1 .1 .1 .0 in
                   let long = c .4 .1 .1 .1 .1 .1 .1 .1 .1 .1 .1 .1 .1 .0 ∙ sym lent in
                   putting w κs qs bs a (last .0) (last .1 .0) (last .1 .1 .0) (last .1 .1 .1 .0) (last .1 .1 .1 .1 .0) (last .1 .1 .1 .1 .1 .1 .0) (few .1)
-                  _ left (drop (few .1) (all .1)) (c .1) (few .5) (first-empty room (all .1) (few .5) (all .5)) long l₁ l₂ l₃ l₄ l₅ l₇ (c .5),
-            ),
+                  _ left (drop (few .1) (all .1)) (c .1) (few .5) (first-empty room (all .1) (few .5) (all .5)) long l₁ l₂ l₃ l₄ l₅ l₇ (c .5)))))))),
+            )),
           ),
-        ),
+        )))))),
   ),
 ))

@@ -16,7 +16,7 @@ use Rattle.definitions.specs.Limits.{numbersPerBoundary}
 use Rattle.definitions.specs.Grid.{Map}
 use Rattle.pass_lists.specs.Contract.{Partitioned, Viewed}
 use Rattle.topology.proofs.RankedMarking.{unranked-lent, unmarked-here, lent-passes, ranked-lent}
-use Rattle.topology.proofs.Steps.{same, fixed, parts}
+use Rattle.topology.proofs.Steps.{fixed}
 use Rattle.topology.proofs.ranked.mark_ranked.Statement.{statement}
 use Rattle.topology.proofs.ranked.mark_ranked.Proof.Der.{Args, Requires, close, entry, wanted, after-test-at, after-view-at, Γ-after-view}
 
@@ -55,11 +55,11 @@ module _ (w : World) (κs : Lfts 10) (qs : Shares 10) (bs : List ℕ) (a : Args 
       once-viewed =
           let b = a .1 .1 .1 .1 .1 .1 .1 in
           let c = b .1 .1 .1 .1 in
-          parts tt (a .0) (a .1 .0) (a .1 .1 .0)
-          (parts (a .1 .1 .1 .0) (a .1 .1 .1 .1 .0) (a .1 .1 .1 .1 .1 .0) (a .1 .1 .1 .1 .1 .1 .0)
-          (parts (b .0) (b .1 .0) (b .1 .1 .0) (b .1 .1 .1 .0)
-          (parts (setVals masks′ (c .0)) (setVals queue′ (c .1 .0)) (c .1 .1 .0) (c .1 .1 .1 .0)
-          (tt, (smaller, (larger, entry κs qs a .1 .1 .1 .1 .1 .1 .1 .1 .1 .1 .1 .1 .1 .1 .1 .1 .1 .1 .1))))))
+          (tt, (a .0, (a .1 .0, (a .1 .1 .0,
+          (a .1 .1 .1 .0, (a .1 .1 .1 .1 .0, (a .1 .1 .1 .1 .1 .0, (a .1 .1 .1 .1 .1 .1 .0,
+          (b .0, (b .1 .0, (b .1 .1 .0, (b .1 .1 .1 .0,
+          (setVals masks′ (c .0), (setVals queue′ (c .1 .0), (c .1 .1 .0, (c .1 .1 .1 .0,
+          (tt, (smaller, (larger, entry κs qs a .1 .1 .1 .1 .1 .1 .1 .1 .1 .1 .1 .1 .1 .1 .1 .1 .1 .1 .1)))))))))))))))))))
 
       -- from `rank_junctions` on
       ranking : length masks′ ≡ length masks → length queue′ ≡ length queue
@@ -68,24 +68,23 @@ module _ (w : World) (κs : Lfts 10) (qs : Shares 10) (bs : List ℕ) (a : Args 
       ranking same-masks same-queue viewed =
           let L = pre .0 .1 in
           let seen = viewed _ (L .partitioned) in
-          λ γ₁ γ₂ γ₃. same λ γ₄. same λ γ₅ γ₆. same (
+          λ γ₁ γ₂ γ₃. (refl, λ γ₄. (refl, λ γ₅ γ₆. (refl, (
             λ κ. ((_, lent-passes _ L equal seen), (unmarked-here _ L equal (pre .1 .0), pre .1 .1)),
-            λ r. same (
-                same λ k. (
-                  parts refl tt tt refl (parts refl tt tt tt (parts refl refl refl (fixed same-masks) (fixed same-queue, (refl, (fixed k, tt))))),
+            λ r. (refl, (
+                (refl, λ k. (
+                  (refl, (tt, (tt, (refl, (refl, (tt, (tt, (tt, (refl, (refl, (refl, (fixed same-masks, (fixed same-queue, (refl, (fixed k, tt))))))))))))))),
                   λ M L. let shown = viewed M (L .partitioned) in ranked-lent M L equal shown (r .5 _ (lent-passes M L equal shown)),
-                )
-                ),
-          )
+                )))),
+          ))))
 
     -- from `view` on
     viewing : after-test-at w κs qs bs .Φ (wanted κs qs a) (entry κs qs a)
-    viewing = λ γ₁. same λ γ₂. same λ γ₃ γ₄ γ₅. (
+    viewing = λ γ₁. (refl, λ γ₂. (refl, λ γ₃ γ₄ γ₅. (
       λ κ. ((_, pre .0 .1 .partitioned), (refl, refl, refl)),
-      λ v. same λ l₁. same λ l₂. same (same (same
+      λ v. (refl, λ l₁. (refl, λ l₂. (refl, ((refl, ((refl, 
           let lists = v .2 .1 .1 .1 .1 .1 .1 .1 .1 .1 in
-          ranking (lists .0) (lists .1 .0) (lists .1 .1 .0) (lists .1 .1 .1 .0) (lists .1 .1 .1 .1 .0) l₁ l₂ (v .5))),
-    )
+          ranking (lists .0) (lists .1 .0) (lists .1 .1 .0) (lists .1 .1 .1 .0) (lists .1 .1 .1 .1 .0) l₁ l₂ (v .5)))))))),
+    )))
 
 pub mark-ranked-spec : {M : Type 1} → statement M
 mark-ranked-spec = close (λ w κs qs a good pre bs. (
@@ -94,7 +93,7 @@ mark-ranked-spec = close (λ w κs qs a good pre bs. (
     tt,
     (
       λ differ. (
-        parts refl tt tt refl (parts refl tt tt tt (parts refl refl refl refl (refl, (refl, (refl, tt))))),
+        (refl, (tt, (tt, (refl, (refl, (tt, (tt, (tt, (refl, (refl, (refl, (refl, (refl, (refl, (refl, tt))))))))))))))),
         λ M L. unranked-lent M L (eqb-false _ _ (not-true _ differ)),
       ),
       λ equal. viewing w κs qs bs a pre (eqb-true _ _ (not-false _ equal)),

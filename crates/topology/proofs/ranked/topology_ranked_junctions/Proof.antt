@@ -33,7 +33,7 @@ use Rattle.topology.specs.Filled.{Filled}
 use Rattle.topology.specs.Ranked.{RankedFor}
 use Rattle.topology.proofs.Calling.{no-marks, when-ready, needed-few, ready-fills, ready-lent}
 use Rattle.topology.proofs.RankedCalling.{refused-over, listed-long, ranked-over}
-use Rattle.topology.proofs.Steps.{same, fixed, parts}
+use Rattle.topology.proofs.Steps.{fixed}
 use Rattle.topology.proofs.ranked.topology_ranked_junctions.Statement.{statement}
 use Rattle.topology.proofs.ranked.topology_ranked_junctions.Proof.Der.{Args, close, entry, wanted, returns, from-answer-at, from-match-at, from-marks-at, from-finish-at, Γ-from-answer, Γ-from-match, Γ-from-marks, Γ-from-finish}
 
@@ -78,33 +78,33 @@ module _ (κs : Lfts 12) (qs : Shares 12) (a : Args κs) (l m′ q t p : List �
   at-match r′ =
       let b = a .1 .1 .1 .1 .1 .1 in
       let c = b .1 .1 .1 .1 .1 in
-      parts tt (a .0) (a .1 .0) (a .1 .1 .0)
-      (parts (a .1 .1 .1 .0) (a .1 .1 .1 .1 .0) (a .1 .1 .1 .1 .1 .0) (setVals l (b .0))
-      (parts (setVals m′ (b .1 .0)) (setVals q (b .1 .1 .0)) (setVals t (b .1 .1 .1 .0)) (setVals p (b .1 .1 .1 .1 .0))
-      (parts (c .0) (c .1 .0) (c .1 .1 .0) (length (records κs a))
-      (length (output κs a), (r′, entry κs qs a .1 .1 .1 .1 .1 .1 .1 .1 .1 .1 .1 .1 .1 .1 .1 .1 .1 .1)))))
+      (tt, (a .0, (a .1 .0, (a .1 .1 .0,
+      (a .1 .1 .1 .0, (a .1 .1 .1 .1 .0, (a .1 .1 .1 .1 .1 .0, (setVals l (b .0),
+      (setVals m′ (b .1 .0), (setVals q (b .1 .1 .0), (setVals t (b .1 .1 .1 .0), (setVals p (b .1 .1 .1 .1 .0),
+      (c .0, (c .1 .0, (c .1 .1 .0, (length (records κs a),
+      (length (output κs a), (r′, entry κs qs a .1 .1 .1 .1 .1 .1 .1 .1 .1 .1 .1 .1 .1 .1 .1 .1 .1 .1))))))))))))))))))
 
   abbrev at-marks : List Region → (regions rows : ℕ) → Mo (Γ-from-marks κs qs)
   at-marks s regions rows =
       let b = a .1 .1 .1 .1 .1 .1 in
       let c = b .1 .1 .1 .1 .1 in
-      parts tt (a .0) (a .1 .0) (a .1 .1 .0)
-      (parts (a .1 .1 .1 .0) (a .1 .1 .1 .1 .0) (a .1 .1 .1 .1 .1 .0) (setVals l (b .0))
-      (parts (setVals m′ (b .1 .0)) (setVals q (b .1 .1 .0)) (setVals t (b .1 .1 .1 .0)) (setVals p (b .1 .1 .1 .1 .0))
-      (parts (setVals s (c .0)) (c .1 .0) (c .1 .1 .0) (length (records κs a))
-      (parts (length (output κs a)) tt tt tt (parts regions rows (a .0) (a .1 .0 * a .0)
-      (replicate maxEntries false, (replicate listRoom 0, entry κs qs a .1 .1 .1 .1 .1 .1 .1 .1 .1 .1 .1 .1 .1 .1 .1 .1 .1 .1 .1 .1 .1 .1 .1 .1 .1 .1)))))))
+      (tt, (a .0, (a .1 .0, (a .1 .1 .0,
+      (a .1 .1 .1 .0, (a .1 .1 .1 .1 .0, (a .1 .1 .1 .1 .1 .0, (setVals l (b .0),
+      (setVals m′ (b .1 .0), (setVals q (b .1 .1 .0), (setVals t (b .1 .1 .1 .0), (setVals p (b .1 .1 .1 .1 .0),
+      (setVals s (c .0), (c .1 .0, (c .1 .1 .0, (length (records κs a),
+      (length (output κs a), (tt, (tt, (tt, (regions, (rows, (a .0, (a .1 .0 * a .0,
+      (replicate maxEntries false, (replicate listRoom 0, entry κs qs a .1 .1 .1 .1 .1 .1 .1 .1 .1 .1 .1 .1 .1 .1 .1 .1 .1 .1 .1 .1 .1 .1 .1 .1 .1 .1))))))))))))))))))))))))))
 
   abbrev at-finish : List Region → (regions rows : ℕ) → List Bool → List ℕ → ℕ → Mo (Γ-from-finish κs qs)
   at-finish s regions rows removed listed n =
       let b = a .1 .1 .1 .1 .1 .1 in
       let c = b .1 .1 .1 .1 .1 in
-      parts tt (a .0) (a .1 .0) (a .1 .1 .0)
-      (parts (a .1 .1 .1 .0) (a .1 .1 .1 .1 .0) (a .1 .1 .1 .1 .1 .0) (setVals l (b .0))
-      (parts (setVals m′ (b .1 .0)) (setVals q (b .1 .1 .0)) (setVals t (b .1 .1 .1 .0)) (setVals p (b .1 .1 .1 .1 .0))
-      (parts (setVals s (c .0)) (c .1 .0) (c .1 .1 .0) (length (records κs a))
-      (parts (length (output κs a)) tt tt tt (parts regions rows (a .0) (a .1 .0 * a .0)
-      (removed, (listed, (n, entry κs qs a .1 .1 .1 .1 .1 .1 .1 .1 .1 .1 .1 .1 .1 .1 .1 .1 .1 .1 .1 .1 .1 .1 .1 .1 .1 .1 .1))))))))
+      (tt, (a .0, (a .1 .0, (a .1 .1 .0,
+      (a .1 .1 .1 .0, (a .1 .1 .1 .1 .0, (a .1 .1 .1 .1 .1 .0, (setVals l (b .0),
+      (setVals m′ (b .1 .0), (setVals q (b .1 .1 .0), (setVals t (b .1 .1 .1 .0), (setVals p (b .1 .1 .1 .1 .0),
+      (setVals s (c .0), (c .1 .0, (c .1 .1 .0, (length (records κs a),
+      (length (output κs a), (tt, (tt, (tt, (regions, (rows, (a .0, (a .1 .0 * a .0,
+      (removed, (listed, (n, entry κs qs a .1 .1 .1 .1 .1 .1 .1 .1 .1 .1 .1 .1 .1 .1 .1 .1 .1 .1 .1 .1 .1 .1 .1 .1 .1 .1 .1)))))))))))))))))))))))))))
 
 module _ (w : World) (κs : Lfts 12) (qs : Shares 12) (bs : List ℕ) (a : Args κs) (l m₁ q₁ t p : List ℕ) where
   -- what is wanted past the match
@@ -122,15 +122,15 @@ module _ (w : World) (κs : Lfts 12) (qs : Shares 12) (bs : List ℕ) (a : Args 
       lit< tt,
       λ γ₁ γ₂. (
         ap (vint w64) (sym size),
-        λ γ₃. same λ γ₄. same λ γ₅. same λ γ₆. same (
+        λ γ₃. (refl, λ γ₄. (refl, λ γ₅. (refl, λ γ₆. (refl, (
           λ κ. (ready-finishes R (long .1) (long .2), listed-long R F K),
-          λ e. same λ l₁ k₁. same λ l₂ k₂. same λ l₃ k₃. same λ l₄ k₄. (
-            parts tt tt refl refl
-                (parts refl refl (fixed (long .0)) (fixed (l₁ ∙ long .1))
-                (parts (fixed (l₂ ∙ long .2)) (fixed (long .3)) (fixed (long .4)) (fixed ss) (fixed l₃, (fixed l₄, tt)))),
+          λ e. (refl, λ l₁ k₁. (refl, λ l₂ k₂. (refl, λ l₃ k₃. (refl, λ l₄ k₄. (
+            (tt, (tt, (refl, (refl,
+                (refl, (refl, (fixed (long .0), (fixed (l₁ ∙ long .1),
+                (fixed (l₂ ∙ long .2), (fixed (long .3), (fixed (long .4), (fixed ss, (fixed l₃, (fixed l₄, tt)))))))))))))),
             ranked-over R F K refl refl (e .5),
-          ),
-        ),
+          ))))),
+        ))))),
       ),
     )
 
@@ -138,15 +138,15 @@ module _ (w : World) (κs : Lfts 12) (qs : Shares 12) (bs : List ℕ) (a : Args 
     marking : Long κs a l m₁ q₁ t p → from-marks-at w κs qs bs .Φ past-match (at-marks κs qs a l m₁ q₁ t p s regions rows)
     marking long =
         let lent = ready-lent R F (long .1) (long .2) in
-        λ γ₁. same λ γ₂. same (
+        λ γ₁. (refl, λ γ₂. (refl, (
           lit< tt,
-          λ γ₃. same λ γ₄. same λ γ₅. same λ γ₆. same λ γ₇ γ₈. same (
+          λ γ₃. (refl, λ γ₄. (refl, λ γ₅. (refl, λ γ₆. (refl, λ γ₇ γ₈. (refl, (
             λ κ. ((_, lent), (no-marks, omega (arith, length-replicate {A = ℕ} listRoom 0))),
-            λ k. same λ l₇. same λ l₈. same (same λ l₉.
+            λ k. (refl, λ l₇. (refl, λ l₈. (refl, ((refl, λ l₉.
                 let last = k .2 .1 .1 .1 .1 .1 .1 .1 .1 .1 .1 .1 in
-                finishing (last .0) (last .1 .0) (last .1 .1 .0) (last .1 .1 .1 .0) (k .1) (long .0, l₇ ∙ long .1, l₈ ∙ long .2, long .3, long .4) l₉ (k .5 _ lent)),
-          ),
-        )
+                finishing (last .0) (last .1 .0) (last .1 .1 .0) (last .1 .1 .1 .0) (k .1) (long .0, l₇ ∙ long .1, l₈ ∙ long .2, long .3, long .4) l₉ (k .5 _ lent)))))),
+          )))))),
+        )))
 
   -- from the match on
   matching : (r′ : Prepared) → IsPrepared κs a r′ l m₁ q₁ t p → Long κs a l m₁ q₁ t p
@@ -155,9 +155,9 @@ module _ (w : World) (κs : Lfts 12) (qs : Shares 12) (bs : List ℕ) (a : Args 
     λ one. (
       one,
       λ v told. (
-        parts tt tt refl refl
-            (parts refl refl (fixed (long .0)) (fixed (long .1))
-            (parts (fixed (long .2)) (fixed (long .3)) (fixed (long .4)) refl (refl, (refl, tt)))),
+        (tt, (tt, (refl, (refl,
+            (refl, (refl, (fixed (long .0), (fixed (long .1),
+            (fixed (long .2), (fixed (long .3), (fixed (long .4), (refl, (refl, (refl, tt)))))))))))))),
         refused-over _ _ _ P (v .1) refl refl,
       ),
     ),
@@ -168,7 +168,7 @@ module _ (w : World) (κs : Lfts 12) (qs : Shares 12) (bs : List ℕ) (a : Args 
             let R = when-ready P (v .1) in
             let fills = ready-fills R (long .2) in (
               record { fits = omega (arith, needed-few R) },
-              λ γ₁. same λ γ₂. same λ γ₃. same (λ κ. (_, fills), λ f. same λ ss. marking (f .2 .0) _ _ R (f .5 _ fills) ss long),
+              λ γ₁. (refl, λ γ₂. (refl, λ γ₃. (refl, (λ κ. (_, fills), λ f. (refl, λ ss. marking (f .2 .0) _ _ R (f .5 _ fills) ss long))))),
             ),
       ),
       each-below 2 (λ j. (Unit {0} × (OneOf (0 ∷ []) j → ⊥)) × (OneOf (1 ∷ []) j → ⊥) → ⊥) (λ n. n .1 refl, (λ n. n .0 .1 refl, tt))
@@ -177,9 +177,9 @@ module _ (w : World) (κs : Lfts 12) (qs : Shares 12) (bs : List ℕ) (a : Args 
   )
 
 pub topology-ranked-junctions-spec : {M : Type 1} → statement M
-topology-ranked-junctions-spec = close (λ w κs qs a good pre bs. λ γ₁. same λ γ₂. same λ γ₃. same λ γ₄. same λ γ₅. same (
+topology-ranked-junctions-spec = close (λ w κs qs a good pre bs. λ γ₁. (refl, λ γ₂. (refl, λ γ₃. (refl, λ γ₄. (refl, λ γ₅. (refl, (
   λ κ. tt,
-  λ p. same λ l₁. same λ l₂. same λ l₃. same λ l₄. same λ l₅.
+  λ p. (refl, λ l₁. (refl, λ l₂. (refl, λ l₃. (refl, λ l₄. (refl, λ l₅.
       let last = p .2 .1 .1 .1 .1 .1 .1 .1 .1 .1 in
-      matching w κs qs bs a (last .0) (last .1 .0) (last .1 .1 .0) (last .1 .1 .1 .0) (last .1 .1 .1 .1 .0) (p .1) (p .5) (l₁, l₂, l₃, l₄, l₅),
-))
+      matching w κs qs bs a (last .0) (last .1 .0) (last .1 .1 .0) (last .1 .1 .1 .0) (last .1 .1 .1 .1 .0) (p .1) (p .5) (l₁, l₂, l₃, l₄, l₅)))))),
+)))))))

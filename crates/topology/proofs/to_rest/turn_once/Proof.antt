@@ -20,7 +20,7 @@ use Rattle.topology.specs.Rest.{Stands, Underway, Passes, Passed}
 use Rattle.topology.proofs.Lending.{run-lists, pass-lists}
 use Rattle.topology.proofs.Calling.{needed-few}
 use Rattle.topology.proofs.Resting.{stands-still, asks-again, first-fits, again-fills, stands-again}
-use Rattle.topology.proofs.Steps.{same, fixed, parts}
+use Rattle.topology.proofs.Steps.{fixed}
 use Rattle.topology.proofs.to_rest.turn_once.Statement.{statement}
 use Rattle.topology.proofs.to_rest.turn_once.Proof.Der.{Args, Requires, close, entry, wanted, from-test-at, from-divide-at, from-renew-at, Γ-from-test, Γ-from-divide, Γ-from-renew}
 
@@ -91,29 +91,29 @@ module _ (κs : Lfts 11) (qs : Shares 11) (a : Args κs) (left : ℕ) where
   abbrev at-test : (m q n b d : List ℕ) → Mo (Γ-from-test κs qs)
   at-test m q n b′ d =
       let b = a .1 .1 .1 .1 .1 .1 .1 in
-      parts tt (a .0) (a .1 .0) (a .1 .1 .0)
-      (parts (a .1 .1 .1 .0) (a .1 .1 .1 .1 .0) (a .1 .1 .1 .1 .1 .0) (a .1 .1 .1 .1 .1 .1 .0)
-      (parts (b .0) (setVals m (b .1 .0)) (setVals q (b .1 .1 .0)) (b .1 .1 .1 .0)
-      (parts (b .1 .1 .1 .1 .0) (b .1 .1 .1 .1 .1 .0) (setVals n (b .1 .1 .1 .1 .1 .1 .0)) (setVals b′ (b .1 .1 .1 .1 .1 .1 .1 .0))
-      (setVals d (b .1 .1 .1 .1 .1 .1 .1 .1 .0), (left, entry κs qs a .1 .1 .1 .1 .1 .1 .1 .1 .1 .1 .1 .1 .1 .1 .1 .1 .1 .1)))))
+      (tt, (a .0, (a .1 .0, (a .1 .1 .0,
+      (a .1 .1 .1 .0, (a .1 .1 .1 .1 .0, (a .1 .1 .1 .1 .1 .0, (a .1 .1 .1 .1 .1 .1 .0,
+      (b .0, (setVals m (b .1 .0), (setVals q (b .1 .1 .0), (b .1 .1 .1 .0,
+      (b .1 .1 .1 .1 .0, (b .1 .1 .1 .1 .1 .0, (setVals n (b .1 .1 .1 .1 .1 .1 .0), (setVals b′ (b .1 .1 .1 .1 .1 .1 .1 .0),
+      (setVals d (b .1 .1 .1 .1 .1 .1 .1 .1 .0), (left, entry κs qs a .1 .1 .1 .1 .1 .1 .1 .1 .1 .1 .1 .1 .1 .1 .1 .1 .1 .1))))))))))))))))))
 
   abbrev at-divide : (m q n b d : List ℕ) → Mo (Γ-from-divide κs qs)
   at-divide m q n b′ d =
       let b = a .1 .1 .1 .1 .1 .1 .1 in
-      parts tt (a .0) (a .1 .0) (a .1 .1 .0)
-      (parts (a .1 .1 .1 .0) (a .1 .1 .1 .1 .0) (a .1 .1 .1 .1 .1 .0) tt
-      (parts (b .0) (setVals m (b .1 .0)) (setVals q (b .1 .1 .0)) (b .1 .1 .1 .0)
-      (parts (b .1 .1 .1 .1 .0) (b .1 .1 .1 .1 .1 .0) (setVals n (b .1 .1 .1 .1 .1 .1 .0)) (setVals b′ (b .1 .1 .1 .1 .1 .1 .1 .0))
-      (setVals d (b .1 .1 .1 .1 .1 .1 .1 .1 .0), (left, entry κs qs a .1 .1 .1 .1 .1 .1 .1 .1 .1 .1 .1 .1 .1 .1 .1 .1 .1 .1)))))
+      (tt, (a .0, (a .1 .0, (a .1 .1 .0,
+      (a .1 .1 .1 .0, (a .1 .1 .1 .1 .0, (a .1 .1 .1 .1 .1 .0, (tt,
+      (b .0, (setVals m (b .1 .0), (setVals q (b .1 .1 .0), (b .1 .1 .1 .0,
+      (b .1 .1 .1 .1 .0, (b .1 .1 .1 .1 .1 .0, (setVals n (b .1 .1 .1 .1 .1 .1 .0), (setVals b′ (b .1 .1 .1 .1 .1 .1 .1 .0),
+      (setVals d (b .1 .1 .1 .1 .1 .1 .1 .1 .0), (left, entry κs qs a .1 .1 .1 .1 .1 .1 .1 .1 .1 .1 .1 .1 .1 .1 .1 .1 .1 .1))))))))))))))))))
 
   abbrev at-renew : (n b d : List ℕ) (next : Standing) (l₂ m₂ q₂ t₂ p₂ : List ℕ) → Mo (Γ-from-renew κs qs)
   at-renew n b′ d next l₂ m₂ q₂ t₂ p₂ =
       let b = a .1 .1 .1 .1 .1 .1 .1 in
-      parts tt (a .0) (a .1 .0) (a .1 .1 .0)
-      (parts (a .1 .1 .1 .0) (a .1 .1 .1 .1 .0) (a .1 .1 .1 .1 .1 .0) tt
-      (parts (setVals l₂ (b .0)) (setVals m₂ (b .1 .0)) (setVals q₂ (b .1 .1 .0)) (setVals t₂ (b .1 .1 .1 .0))
-      (parts (setVals p₂ (b .1 .1 .1 .1 .0)) (b .1 .1 .1 .1 .1 .0) (setVals n (b .1 .1 .1 .1 .1 .1 .0)) (setVals b′ (b .1 .1 .1 .1 .1 .1 .1 .0))
-      (parts (setVals d (b .1 .1 .1 .1 .1 .1 .1 .1 .0)) left (length (records κs a)) next (entry κs qs a .1 .1 .1 .1 .1 .1 .1 .1 .1 .1 .1 .1 .1 .1 .1 .1 .1 .1 .1 .1)))))
+      (tt, (a .0, (a .1 .0, (a .1 .1 .0,
+      (a .1 .1 .1 .0, (a .1 .1 .1 .1 .0, (a .1 .1 .1 .1 .1 .0, (tt,
+      (setVals l₂ (b .0), (setVals m₂ (b .1 .0), (setVals q₂ (b .1 .1 .0), (setVals t₂ (b .1 .1 .1 .0),
+      (setVals p₂ (b .1 .1 .1 .1 .0), (b .1 .1 .1 .1 .1 .0, (setVals n (b .1 .1 .1 .1 .1 .1 .0), (setVals b′ (b .1 .1 .1 .1 .1 .1 .1 .0),
+      (setVals d (b .1 .1 .1 .1 .1 .1 .1 .1 .0), (left, (length (records κs a), (next, (entry κs qs a .1 .1 .1 .1 .1 .1 .1 .1 .1 .1 .1 .1 .1 .1 .1 .1 .1 .1 .1 .1)))))))))))))))))))))
 
 module _ (w : World) (κs : Lfts 11) (qs : Shares 11) (bs : List ℕ) (a : Args κs) (pre : Requires κs a)
     (left : ℕ) (m q n b d : List ℕ) (P : Left κs a left m q n b d) (long : Long κs a m q n b d) where
@@ -126,31 +126,31 @@ module _ (w : World) (κs : Lfts 11) (qs : Shares 11) (bs : List ℕ) (a : Args 
       let T = pre .1 .3 in
       let at = P _ (asked κs a T) in
       let again = R _ _ _ _ (asks-again T (a .0) (at .count) (at .held) (at .masks) (at .queue)) in
-      λ γ₁. same λ γ₂. same λ γ₃. same (
+      λ γ₁. (refl, λ γ₂. (refl, λ γ₃. (refl, (
         λ κ. (first-fits T (a .0) (at .count) (at .held) (at .masks) (at .queue), (_, again-fills T (a .0) (at .count) (at .held) (at .masks) (at .queue) again (size .2))),
-        λ e. same λ l. (
-          parts tt tt tt refl
-              (parts refl tt tt (fixed (size .0))
-              (parts (fixed (size .1 ∙ long .0)) (fixed (size .2 ∙ long .1)) (fixed (size .3)) (fixed (size .4)) (parts (fixed l) (fixed (long .2)) (fixed (long .3)) (fixed (long .4)) tt))),
+        λ e. (refl, λ l. (
+          (tt, (tt, (tt, (refl,
+              (refl, (tt, (tt, (fixed (size .0),
+              (fixed (size .1 ∙ long .0), (fixed (size .2 ∙ long .1), (fixed (size .3), (fixed (size .4), (fixed l, (fixed (long .2), (fixed (long .3), (fixed (long .4), tt)))))))))))))))),
           λ O s places T′.
               let at′ = P _ (asked κs a T′) in
               let again′ = R _ _ _ _ (asks-again T′ (a .0) (at′ .count) (at′ .held) (at′ .masks) (at′ .queue)) in
               let fills = again-fills T′ (a .0) (at′ .count) (at′ .held) (at′ .masks) (at′ .queue) again′ (size .2) in
               stands-again T′ (a .0) (at′ .count) (at′ .held) (at′ .masks) (at′ .queue) again′ (size .0) (size .1) (size .2) (size .3) (size .4) l (e .5 _ fills),
-        ),
-      )
+        )),
+      ))))
 
   -- from `divide_again` on
   dividing : from-divide-at w κs qs bs .Φ (wanted κs qs a) (at-divide κs qs a left m q n b d)
   dividing =
       let T = pre .1 .3 in
       let at = P _ (asked κs a T) in
-      λ γ₁. same λ γ₂. same λ γ₃. same λ γ₄. same λ γ₅. same λ γ₆. same (
+      λ γ₁. (refl, λ γ₂. (refl, λ γ₃. (refl, λ γ₄. (refl, λ γ₅. (refl, λ γ₆. (refl, (
         λ κ. (_, _, _, _, asks-again T (a .0) (at .count) (at .held) (at .masks) (at .queue)),
-        λ v. same λ l₁. same λ l₂. same λ l₃. same λ l₄. same λ l₅.
+        λ v. (refl, λ l₁. (refl, λ l₂. (refl, λ l₃. (refl, λ l₄. (refl, λ l₅.
             let last = v .2 .1 .1 .1 .1 .1 .1 .1 in
-            renewing (v .1) (last .0) (last .1 .0) (last .1 .1 .0) (last .1 .1 .1 .0) (last .1 .1 .1 .1 .0) (v .5) (l₁, l₂, l₃, l₄, l₅),
-      )
+            renewing (v .1) (last .0) (last .1 .0) (last .1 .1 .0) (last .1 .1 .1 .0) (last .1 .1 .1 .1 .0) (v .5) (l₁, l₂, l₃, l₄, l₅)))))),
+      )))))))
 
   -- from the test on
   testing : from-test-at w κs qs bs .Φ (wanted κs qs a) (at-test κs qs a left m q n b d)
@@ -158,9 +158,9 @@ module _ (w : World) (κs : Lfts 11) (qs : Shares 11) (bs : List ℕ) (a : Args 
     tt,
     (
       λ t. (
-        parts tt tt tt refl
-            (parts refl tt tt refl
-            (parts (fixed (long .0)) (fixed (long .1)) refl refl (parts refl (fixed (long .2)) (fixed (long .3)) (fixed (long .4)) tt))),
+        (tt, (tt, (tt, (refl,
+            (refl, (tt, (tt, (refl,
+            (fixed (long .0), (fixed (long .1), (refl, (refl, (refl, (fixed (long .2), (fixed (long .3), (fixed (long .4), tt)))))))))))))))),
         λ O s places T.
             let at = P _ (asked κs a T) in
             stands-still T (a .0) (at .count) (at .held) (at .masks) (at .queue) (eqb-true _ _ t),
@@ -172,12 +172,12 @@ module _ (w : World) (κs : Lfts 11) (qs : Shares 11) (bs : List ℕ) (a : Args 
 pub turn-once-spec : {M : Type 1} → statement M
 turn-once-spec = close (λ w κs qs a good pre bs.
     let T = pre .1 .3 in
-    λ γ₁. same (
+    λ γ₁. (refl, (
       record { fits = omega (arith, needed-few (T .lists .ready)) },
-      λ γ₂. same λ γ₃. same λ γ₄. same λ γ₅. same λ γ₆. same λ γ₇. same λ γ₈. same λ γ₉. same (
+      λ γ₂. (refl, λ γ₃. (refl, λ γ₄. (refl, λ γ₅. (refl, λ γ₆. (refl, λ γ₇. (refl, λ γ₈. (refl, λ γ₉. (refl, (
         λ κ. (pre .0, (_, asked κs a T)),
-        λ k. same λ l₁. same λ l₂. same λ l₃. same λ l₄. same λ l₅.
+        λ k. (refl, λ l₁. (refl, λ l₂. (refl, λ l₃. (refl, λ l₄. (refl, λ l₅.
             let last = k .2 .1 .1 .1 .1 .1 .1 .1 .1 .1 in
-            testing w κs qs bs a pre (k .1) (last .0) (last .1 .0) (last .1 .1 .0) (last .1 .1 .1 .0) (last .1 .1 .1 .1 .0) (k .5) (l₁, l₂, l₃, l₄, l₅),
-      ),
-    ))
+            testing w κs qs bs a pre (k .1) (last .0) (last .1 .0) (last .1 .1 .0) (last .1 .1 .1 .0) (last .1 .1 .1 .1 .0) (k .5) (l₁, l₂, l₃, l₄, l₅)))))),
+      ))))))))),
+    )))

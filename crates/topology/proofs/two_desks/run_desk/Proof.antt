@@ -21,7 +21,7 @@ use Rattle.topology.specs.Marks.{MarkedFor}
 use Rattle.topology.specs.Desks.{Ground, Terrain}
 use Rattle.topology.proofs.Calling.{no-marks}
 use Rattle.topology.proofs.TwoDesks.{sides-within, desk-refused, desk-passed, desk-few, desk-pass, desk-lent, desk-finishes, desk-ran}
-use Rattle.topology.proofs.Steps.{same, fixed, parts}
+use Rattle.topology.proofs.Steps.{fixed}
 use Rattle.topology.proofs.two_desks.run_desk.Statement.{statement}
 use Rattle.topology.proofs.two_desks.run_desk.Proof.Der.{Args, Requires, close, entry, wanted, after-test-at, from-finish-at, Γ-after-test, Γ-from-finish}
 
@@ -64,21 +64,21 @@ module _ (κs : Lfts 10) (qs : Shares 10) (a : Args κs) where
   abbrev once-tested : Mo (Γ-after-test κs qs)
   once-tested =
       let b = a .1 .1 .1 .1 .1 .1 .1 in
-      parts tt (a .0) (a .1 .0) (a .1 .1 .0)
-      (parts (a .1 .1 .1 .0) (a .1 .1 .1 .1 .0) (a .1 .1 .1 .1 .1 .0) (a .1 .1 .1 .1 .1 .1 .0)
-      (parts (b .0) (b .1 .0) (b .1 .1 .0) (b .1 .1 .1 .0)
-      (parts (b .1 .1 .1 .1 .0) (b .1 .1 .1 .1 .1 .0) (b .1 .1 .1 .1 .1 .1 .0) (b .1 .1 .1 .1 .1 .1 .1 .0)
-      (length (output κs a), entry κs qs a .1 .1 .1 .1 .1 .1 .1 .1 .1 .1 .1 .1 .1 .1 .1 .1 .1))))
+      (tt, (a .0, (a .1 .0, (a .1 .1 .0,
+      (a .1 .1 .1 .0, (a .1 .1 .1 .1 .0, (a .1 .1 .1 .1 .1 .0, (a .1 .1 .1 .1 .1 .1 .0,
+      (b .0, (b .1 .0, (b .1 .1 .0, (b .1 .1 .1 .0,
+      (b .1 .1 .1 .1 .0, (b .1 .1 .1 .1 .1 .0, (b .1 .1 .1 .1 .1 .1 .0, (b .1 .1 .1 .1 .1 .1 .1 .0,
+      (length (output κs a), entry κs qs a .1 .1 .1 .1 .1 .1 .1 .1 .1 .1 .1 .1 .1 .1 .1 .1 .1)))))))))))))))))
 
   abbrev once-marked : (m′ q′ : List ℕ) → List Bool → Mo (Γ-from-finish κs qs)
   once-marked m′ q′ removed =
       let b = a .1 .1 .1 .1 .1 .1 .1 in
-      parts tt (a .0) (a .1 .0) (a .1 .1 .0)
-      (parts (a .1 .1 .1 .0) (a .1 .1 .1 .1 .0) (a .1 .1 .1 .1 .1 .0) (a .1 .1 .1 .1 .1 .1 .0)
-      (parts (b .0) (b .1 .0) (b .1 .1 .0) (b .1 .1 .1 .0)
-      (parts (b .1 .1 .1 .1 .0) (setVals m′ (b .1 .1 .1 .1 .1 .0)) (setVals q′ (b .1 .1 .1 .1 .1 .1 .0)) (b .1 .1 .1 .1 .1 .1 .1 .0)
-      (parts (length (output κs a)) tt (width κs a) (height κs a * width κs a)
-      (removed, entry κs qs a .1 .1 .1 .1 .1 .1 .1 .1 .1 .1 .1 .1 .1 .1 .1 .1 .1 .1 .1 .1 .1)))))
+      (tt, (a .0, (a .1 .0, (a .1 .1 .0,
+      (a .1 .1 .1 .0, (a .1 .1 .1 .1 .0, (a .1 .1 .1 .1 .1 .0, (a .1 .1 .1 .1 .1 .1 .0,
+      (b .0, (b .1 .0, (b .1 .1 .0, (b .1 .1 .1 .0,
+      (b .1 .1 .1 .1 .0, (setVals m′ (b .1 .1 .1 .1 .1 .0), (setVals q′ (b .1 .1 .1 .1 .1 .1 .0), (b .1 .1 .1 .1 .1 .1 .1 .0,
+      (length (output κs a), (tt, (width κs a, (height κs a * width κs a,
+      (removed, entry κs qs a .1 .1 .1 .1 .1 .1 .1 .1 .1 .1 .1 .1 .1 .1 .1 .1 .1 .1 .1 .1 .1)))))))))))))))))))))
 
 module _ (w : World) (κs : Lfts 10) (qs : Shares 10) (bs : List ℕ) (a : Args κs) (pre : Requires κs a) (passed : Passed κs a) where
   -- from `finish` on
@@ -89,14 +89,14 @@ module _ (w : World) (κs : Lfts 10) (qs : Shares 10) (bs : List ℕ) (a : Args 
       → from-finish-at w κs qs bs .Φ (wanted κs qs a) (once-marked κs qs a m₂ q₂ removed)
   finishing m₂ q₂ removed lm lq marked = (
     lit< tt,
-    λ γ₁ γ₂. same λ γ₃. same λ γ₄. same (
+    λ γ₁ γ₂. (refl, λ γ₃. (refl, λ γ₄. (refl, (
       λ κ. desk-finishes (pre .1) (a .0) (boundaries κs a) (anchors κs a) (output κs a) passed (marked (pre .0) (pre .1)),
-      λ e. same λ l₁. same λ l₂. same λ l₃. (
-        parts tt tt tt refl (parts refl refl tt tt (parts refl refl refl refl
-            (fixed (e .4 .1 .1 .1 .1 .0 ∙ lm), (fixed (e .4 .1 .1 .1 .1 .1 .0 ∙ lq), (fixed l₃, tt))))),
+      λ e. (refl, λ l₁. (refl, λ l₂. (refl, λ l₃. (
+        (tt, (tt, (tt, (refl, (refl, (refl, (tt, (tt, (refl, (refl, (refl, (refl,
+            (fixed (e .4 .1 .1 .1 .1 .0 ∙ lm), (fixed (e .4 .1 .1 .1 .1 .1 .0 ∙ lq), (fixed l₃, tt))))))))))))))),
         λ G T. desk-ran T (a .0) (boundaries κs a) (anchors κs a) (output κs a) passed (marked G T) refl (e .5),
-      ),
-    ),
+      )))),
+    )))),
   )
 
   -- from `mark_removed` on
@@ -105,16 +105,16 @@ module _ (w : World) (κs : Lfts 10) (qs : Shares 10) (bs : List ℕ) (a : Args 
     record { fits = omega (arith, desk-few (pre .1) (a .0) (boundaries κs a) (anchors κs a) (output κs a) passed) },
     (
       lit< tt,
-      λ γ₁. same λ γ₂. same λ γ₃. (
+      λ γ₁. (refl, λ γ₂. (refl, λ γ₃. (
         λ κ. (
           (_, desk-lent (pre .1) (a .0) (boundaries κs a) (anchors κs a) (output κs a) passed),
           (desk-pass (pre .1) (a .0) (boundaries κs a) (anchors κs a) (output κs a) passed, no-marks),
         ),
-        λ k. same λ l₁. same λ l₂. same (
+        λ k. (refl, λ l₁. (refl, λ l₂. (refl, (
             let last = k .2 .1 .1 .1 .1 .1 .1 .1 .1 .1 .1 .1 .1 in
             finishing (last .0) (last .1 .0) (last .1 .1 .0) l₁ l₂
-            (λ G T. k .5 _ (desk-lent T (a .0) (boundaries κs a) (anchors κs a) (output κs a) passed))),
-      ),
+            (λ G T. k .5 _ (desk-lent T (a .0) (boundaries κs a) (anchors κs a) (output κs a) passed)))))),
+      ))),
     ),
   )
 
@@ -125,7 +125,7 @@ run-desk-spec = close (λ w κs qs a good pre bs. (
     tt,
     (
       λ refused. (
-        parts tt tt tt refl (parts refl refl tt tt (parts refl refl refl refl (refl, (refl, (refl, tt))))),
+        (tt, (tt, (tt, (refl, (refl, (refl, (tt, (tt, (refl, (refl, (refl, (refl, (refl, (refl, (refl, tt))))))))))))))),
         λ G T. desk-refused T (a .0) (boundaries κs a) (anchors κs a) (output κs a) (k .5) (eqb-false _ _ (not-true _ refused)),
       ),
       λ passed. marking w κs qs bs a pre

@@ -27,7 +27,7 @@ use Rattle.topology.specs.declared.two_desks.DesksAnswer.{DesksAnswer}
 use Rattle.topology.proofs.Lending.{lends-both, leaves-both}
 use Rattle.topology.proofs.Calling.{needed-few, ready-fills}
 use Rattle.topology.proofs.TwoDesks.{lent, shared-refused, shared-ready, needed-within, partitioned, terrain-filled, both-refused, both-served}
-use Rattle.topology.proofs.Steps.{same, fixed, parts}
+use Rattle.topology.proofs.Steps.{fixed}
 use Rattle.topology.proofs.two_desks.topology_two_desks.Statement.{statement}
 use Rattle.topology.proofs.two_desks.topology_two_desks.Proof.Der.{Args, close, entry, wanted, returns, from-answer-at, from-match-at, from-clear-at, from-desks-at, from-done-at, Γ-from-answer, Γ-from-match, Γ-from-clear, Γ-from-done}
 
@@ -86,37 +86,37 @@ module _ (κs : Lfts 14) (qs : Shares 14) (a : Args κs) (l m′ q t p : List �
   at-match r′ =
       let b = a .1 .1 .1 .1 .1 .1 .1 in
       let c = b .1 .1 .1 .1 in
-      parts tt (a .0) (a .1 .0) (a .1 .1 .0)
-      (parts (a .1 .1 .1 .0) (a .1 .1 .1 .1 .0) (a .1 .1 .1 .1 .1 .0) (a .1 .1 .1 .1 .1 .1 .0)
-      (parts (b .0) (b .1 .0) (b .1 .1 .0) (b .1 .1 .1 .0)
-      (parts (setVals l (c .0)) (setVals m′ (c .1 .0)) (setVals q (c .1 .1 .0)) (setVals t (c .1 .1 .1 .0))
-      (parts (setVals p (c .1 .1 .1 .1 .0)) (c .1 .1 .1 .1 .1 .0) (c .1 .1 .1 .1 .1 .1 .0) (c .1 .1 .1 .1 .1 .1 .1 .0)
-      (length (records κs a), (r′, entry κs qs a .1 .1 .1 .1 .1 .1 .1 .1 .1 .1 .1 .1 .1 .1 .1 .1 .1 .1 .1 .1 .1 .1))))))
+      (tt, (a .0, (a .1 .0, (a .1 .1 .0,
+      (a .1 .1 .1 .0, (a .1 .1 .1 .1 .0, (a .1 .1 .1 .1 .1 .0, (a .1 .1 .1 .1 .1 .1 .0,
+      (b .0, (b .1 .0, (b .1 .1 .0, (b .1 .1 .1 .0,
+      (setVals l (c .0), (setVals m′ (c .1 .0), (setVals q (c .1 .1 .0), (setVals t (c .1 .1 .1 .0),
+      (setVals p (c .1 .1 .1 .1 .0), (c .1 .1 .1 .1 .1 .0, (c .1 .1 .1 .1 .1 .1 .0, (c .1 .1 .1 .1 .1 .1 .1 .0,
+      (length (records κs a), (r′, entry κs qs a .1 .1 .1 .1 .1 .1 .1 .1 .1 .1 .1 .1 .1 .1 .1 .1 .1 .1 .1 .1 .1 .1))))))))))))))))))))))
 
   abbrev at-part : List Region → (regions rows : ℕ) → Mo (Γ-from-clear κs qs)
   at-part s regions rows =
       let b = a .1 .1 .1 .1 .1 .1 .1 in
       let c = b .1 .1 .1 .1 in
-      parts tt (a .0) (a .1 .0) (a .1 .1 .0)
-      (parts (a .1 .1 .1 .0) (a .1 .1 .1 .1 .0) (a .1 .1 .1 .1 .1 .0) (a .1 .1 .1 .1 .1 .1 .0)
-      (parts (b .0) (b .1 .0) (b .1 .1 .0) (b .1 .1 .1 .0)
-      (parts (setVals l (c .0)) (setVals m′ (c .1 .0)) (setVals q (c .1 .1 .0)) (setVals t (c .1 .1 .1 .0))
-      (parts (setVals p (c .1 .1 .1 .1 .0)) (setVals s (c .1 .1 .1 .1 .1 .0)) (c .1 .1 .1 .1 .1 .1 .0) (c .1 .1 .1 .1 .1 .1 .1 .0)
-      (parts (length (records κs a)) tt tt tt
-      (regions, (rows, (a .1 .0, entry κs qs a .1 .1 .1 .1 .1 .1 .1 .1 .1 .1 .1 .1 .1 .1 .1 .1 .1 .1 .1 .1 .1 .1 .1 .1 .1 .1 .1))))))))
+      (tt, (a .0, (a .1 .0, (a .1 .1 .0,
+      (a .1 .1 .1 .0, (a .1 .1 .1 .1 .0, (a .1 .1 .1 .1 .1 .0, (a .1 .1 .1 .1 .1 .1 .0,
+      (b .0, (b .1 .0, (b .1 .1 .0, (b .1 .1 .1 .0,
+      (setVals l (c .0), (setVals m′ (c .1 .0), (setVals q (c .1 .1 .0), (setVals t (c .1 .1 .1 .0),
+      (setVals p (c .1 .1 .1 .1 .0), (setVals s (c .1 .1 .1 .1 .1 .0), (c .1 .1 .1 .1 .1 .1 .0, (c .1 .1 .1 .1 .1 .1 .1 .0,
+      (length (records κs a), (tt, (tt, (tt,
+      (regions, (rows, (a .1 .0, entry κs qs a .1 .1 .1 .1 .1 .1 .1 .1 .1 .1 .1 .1 .1 .1 .1 .1 .1 .1 .1 .1 .1 .1 .1 .1 .1 .1 .1)))))))))))))))))))))))))))
 
   abbrev at-done : List Region → (regions rows : ℕ) (o u : List ℕ) → DesksAnswer → Mo (Γ-from-done κs qs)
   at-done s regions rows o u answers =
       let b = a .1 .1 .1 .1 .1 .1 .1 in
       let c = b .1 .1 .1 .1 in
-      parts tt (a .0) (a .1 .0) (a .1 .1 .0)
-      (parts (a .1 .1 .1 .0) (a .1 .1 .1 .1 .0) (a .1 .1 .1 .1 .1 .0) (a .1 .1 .1 .1 .1 .1 .0)
-      (parts (b .0) (b .1 .0) (b .1 .1 .0) (b .1 .1 .1 .0)
-      (parts (setVals l (c .0)) (setVals m′ (c .1 .0)) (setVals q (c .1 .1 .0)) (setVals t (c .1 .1 .1 .0))
-      (parts (setVals p (c .1 .1 .1 .1 .0)) (setVals s (c .1 .1 .1 .1 .1 .0)) (setVals o (c .1 .1 .1 .1 .1 .1 .0)) (setVals u (c .1 .1 .1 .1 .1 .1 .1 .0))
-      (parts (length (records κs a)) tt tt tt
-      (parts regions rows (a .1 .0) answers
-      (entry κs qs a .1 .1 .1 .1 .1 .1 .1 .1 .1 .1 .1 .1 .1 .1 .1 .1 .1 .1 .1 .1 .1 .1 .1 .1 .1 .1 .1 .1)))))))
+      (tt, (a .0, (a .1 .0, (a .1 .1 .0,
+      (a .1 .1 .1 .0, (a .1 .1 .1 .1 .0, (a .1 .1 .1 .1 .1 .0, (a .1 .1 .1 .1 .1 .1 .0,
+      (b .0, (b .1 .0, (b .1 .1 .0, (b .1 .1 .1 .0,
+      (setVals l (c .0), (setVals m′ (c .1 .0), (setVals q (c .1 .1 .0), (setVals t (c .1 .1 .1 .0),
+      (setVals p (c .1 .1 .1 .1 .0), (setVals s (c .1 .1 .1 .1 .1 .0), (setVals o (c .1 .1 .1 .1 .1 .1 .0), (setVals u (c .1 .1 .1 .1 .1 .1 .1 .0),
+      (length (records κs a), (tt, (tt, (tt,
+      (regions, (rows, (a .1 .0, (answers,
+      (entry κs qs a .1 .1 .1 .1 .1 .1 .1 .1 .1 .1 .1 .1 .1 .1 .1 .1 .1 .1 .1 .1 .1 .1 .1 .1 .1 .1 .1 .1)))))))))))))))))))))))))))))
 
 module _ (w : World) (κs : Lfts 14) (qs : Shares 14) (bs : List ℕ) (a : Args κs) (l m₁ q₁ t p : List ℕ) where
   -- what is wanted past the match
@@ -128,10 +128,10 @@ module _ (w : World) (κs : Lfts 14) (qs : Shares 14) (bs : List ℕ) (a : Args 
     done : (m₂ q₂ o u : List ℕ) (answers : DesksAnswer) → Long κs a l m₂ q₂ t p → length o ≡ length (route-output κs a) → length u ≡ length (coaching-output κs a)
         → RanHere κs a answers l m₂ q₂ t p s o u → from-done-at w κs qs bs .Φ past-match (at-done κs qs a l m₂ q₂ t p s regions rows o u answers)
     done m₂ q₂ o u answers long lo lu ran = (
-      parts tt tt tt refl
-          (parts refl tt refl refl
-          (parts tt refl refl (fixed (long .0))
-          (parts (fixed (long .1)) (fixed (long .2)) (fixed (long .3)) (fixed (long .4)) (fixed ss, (fixed lo, (fixed lu, tt)))))),
+      (tt, (tt, (tt, (refl,
+          (refl, (tt, (refl, (refl,
+          (tt, (refl, (refl, (fixed (long .0),
+          (fixed (long .1), (fixed (long .2), (fixed (long .3), (fixed (long .4), (fixed ss, (fixed lo, (fixed lu, tt))))))))))))))))))),
       ran,
     )
 
@@ -139,26 +139,26 @@ module _ (w : World) (κs : Lfts 14) (qs : Shares 14) (bs : List ℕ) (a : Args 
     serving : (m₂ q₂ : List ℕ) → Long κs a l m₂ q₂ t p → TerrainHere κs a regions rows l m₂ q₂ t p s
         → from-desks-at w κs qs bs .Φ past-match (at-part κs qs a l m₂ q₂ t p s regions rows)
     serving m₂ q₂ long T =
-        λ γ₁. same λ γ₂. same λ γ₃. same λ γ₄. same λ γ₅. same λ γ₆. same λ γ₇. same λ γ₈. same (
+        λ γ₁. (refl, λ γ₂. (refl, λ γ₃. (refl, λ γ₄. (refl, λ γ₅. (refl, λ γ₆. (refl, λ γ₇. (refl, λ γ₈. (refl, (
           λ κ. (_, T),
-          λ k. same λ l₁. same λ l₂. same λ l₃. same λ l₄.
+          λ k. (refl, λ l₁. (refl, λ l₂. (refl, λ l₃. (refl, λ l₄.
               let last = k .2 .1 .1 .1 .1 .1 .1 .1 .1 .1 .1 .1 .1 .1 .1 .1 .1 in
               done (last .0) (last .1 .0) (last .1 .1 .0) (last .1 .1 .1 .0) (k .1) (long .0, l₁ ∙ long .1, l₂ ∙ long .2, long .3, long .4) l₃ l₄
-              (both-served T (k .5 _ T)),
-        )
+              (both-served T (k .5 _ T)))))),
+        )))))))))
 
     -- from `clear_scratch` on
     clearing : IsReady κs a regions rows l m₁ q₁ t p → Filled (mapOf (a .1 .0) (a .1 .1 .0) (a .1 .1 .1 .0 .now) (a .1 .1 .1 .1 .0 .now) [] []) (records κs a) s → Long κs a l m₁ q₁ t p
         → from-clear-at w κs qs bs .Φ past-match (at-part κs qs a l m₁ q₁ t p s regions rows)
     clearing R F long =
-        λ γ₁. same λ γ₂. same (
+        λ γ₁. (refl, λ γ₂. (refl, (
           record { fits = omega (arith, needed-few R) },
           (
             λ κ. needed-within (partitioned {s = records κs a} R (long .1) (long .2)),
-            λ e. same λ l₁. same λ l₂.
-                serving (e .2 .0) (e .2 .1 .0) (long .0, l₁ ∙ long .1, l₂ ∙ long .2, long .3, long .4) (terrain-filled R (long .1) (long .2) F (e .5 .0) (e .5 .1)),
+            λ e. (refl, λ l₁. (refl, λ l₂.
+                serving (e .2 .0) (e .2 .1 .0) (long .0, l₁ ∙ long .1, l₂ ∙ long .2, long .3, long .4) (terrain-filled R (long .1) (long .2) F (e .5 .0) (e .5 .1)))),
           ),
-        )
+        )))
 
   -- from the match on
   matching : (r′ : Prepared) → IsPrepared κs a r′ l m₁ q₁ t p → Long κs a l m₁ q₁ t p
@@ -169,10 +169,10 @@ module _ (w : World) (κs : Lfts 14) (qs : Shares 14) (bs : List ℕ) (a : Args 
       λ v told. (
         λ κ. tt,
         λ c. (
-          parts tt tt tt refl
-              (parts refl tt refl refl
-              (parts tt refl refl (fixed (long .0))
-              (parts (fixed (long .1)) (fixed (long .2)) (fixed (long .3)) (fixed (long .4)) (refl, (refl, (refl, tt)))))),
+          (tt, (tt, (tt, (refl,
+              (refl, (tt, (refl, (refl,
+              (tt, (refl, (refl, (fixed (long .0),
+              (fixed (long .1), (fixed (long .2), (fixed (long .3), (fixed (long .4), (refl, (refl, (refl, tt))))))))))))))))))),
           both-refused (shared-refused P (v .1) (length-map (records κs a) _)) (c .5),
         ),
       ),
@@ -183,7 +183,7 @@ module _ (w : World) (κs : Lfts 14) (qs : Shares 14) (bs : List ℕ) (a : Args 
         λ v told.
             let R = shared-ready P (v .1) in
             let fills = ready-fills R (long .2) in
-            λ γ₁. same λ γ₂. same λ γ₃. same (λ κ. (_, fills), λ f. same λ ss. clearing (f .2 .0) _ _ ss R (f .5 _ fills) long),
+            λ γ₁. (refl, λ γ₂. (refl, λ γ₃. (refl, (λ κ. (_, fills), λ f. (refl, λ ss. clearing (f .2 .0) _ _ ss R (f .5 _ fills) long))))),
       ),
       each-below 2 (λ j. (Unit {0} × (OneOf (0 ∷ []) j → ⊥)) × (OneOf (1 ∷ []) j → ⊥) → ⊥) (λ n. n .1 refl, (λ n. n .0 .1 refl, tt))
           (tagOf prepared.the-type r′) (tag-small prepared.the-type r′),
@@ -191,9 +191,9 @@ module _ (w : World) (κs : Lfts 14) (qs : Shares 14) (bs : List ℕ) (a : Args 
   )
 
 pub topology-two-desks-spec : {M : Type 1} → statement M
-topology-two-desks-spec = close (λ w κs qs a good pre bs. λ γ₁. same λ γ₂. same λ γ₃. same λ γ₄. same λ γ₅. same (
+topology-two-desks-spec = close (λ w κs qs a good pre bs. λ γ₁. (refl, λ γ₂. (refl, λ γ₃. (refl, λ γ₄. (refl, λ γ₅. (refl, (
   λ κ. tt,
-  λ p. same λ l₁. same λ l₂. same λ l₃. same λ l₄. same λ l₅.
+  λ p. (refl, λ l₁. (refl, λ l₂. (refl, λ l₃. (refl, λ l₄. (refl, λ l₅.
       let last = p .2 .1 .1 .1 .1 .1 in
-      matching w κs qs bs a (last .0) (last .1 .0) (last .1 .1 .0) (last .1 .1 .1 .0) (last .1 .1 .1 .1 .0) (p .1) (p .5) (l₁, l₂, l₃, l₄, l₅),
-))
+      matching w κs qs bs a (last .0) (last .1 .0) (last .1 .1 .0) (last .1 .1 .1 .0) (last .1 .1 .1 .1 .0) (p .1) (p .5) (l₁, l₂, l₃, l₄, l₅)))))),
+)))))))
