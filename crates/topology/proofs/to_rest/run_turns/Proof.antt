@@ -11,7 +11,7 @@ use Rattle.rest_lists.specs.Kept.{Origin, mapLent, allPlaces}
 use Rattle.topology.specs.Rest.{Stands}
 use Rattle.topology.proofs.Lending.{run-lists}
 use Rattle.topology.proofs.Running.{RunsAt, start-few, run-starts, run-pass, run-next, run-turn, run-lower, run-ends}
-use Rattle.topology.proofs.Steps.{fixed}
+use Rattle.topology.proofs.Steps.{fixed, parts}
 use Rattle.topology.proofs.to_rest.run_turns.Statement.{statement}
 use Rattle.topology.proofs.to_rest.run_turns.Proof.Der.{InvT-loop, MeasureT-loop, close}
 
@@ -152,9 +152,9 @@ run-turns-spec = close Inv μ (λ world κs qs a good pre bs.
                   λ κ. R .turns .rounds,
                   λ r.
                       let long = inv .0 in (
-                        (tt, (tt, (refl, (refl,
-                            (tt, (fixed (long .0), (fixed (long .1), (fixed (long .2),
-                            (fixed (long .3), (fixed (long .4), (fixed (long .5), (fixed (long .6), (fixed (long .7), (fixed (long .8), tt)))))))))))))),
+                        parts tt tt refl refl
+                            (parts tt (fixed (long .0)) (fixed (long .1)) (fixed (long .2))
+                            (parts (fixed (long .3)) (fixed (long .4)) (fixed (long .5)) (fixed (long .6)) (fixed (long .7), (fixed (long .8), tt)))),
                         λ O s E′. run-ends (inv .1 O s E′) f refl refl (r .5),
                       ),
                 ),

@@ -31,7 +31,7 @@ use Rattle.topology.specs.Rest.{Stands, RanToRest}
 use Rattle.topology.proofs.Lending.{run-lists}
 use Rattle.topology.proofs.Calling.{needed-few}
 use Rattle.topology.proofs.RestCall.{begun-when, refused-over, startFlat, begun-fills, stands-first, rest-scratch, rest-room, rest-over}
-use Rattle.topology.proofs.Steps.{fixed}
+use Rattle.topology.proofs.Steps.{fixed, parts}
 use Rattle.topology.proofs.to_rest.topology_run_to_rest.Statement.{statement}
 use Rattle.topology.proofs.to_rest.topology_run_to_rest.Proof.Der.{Args, close, entry, wanted, returns, from-answer-at, from-match-at, from-turns-at, from-finish-at, Γ-from-answer, Γ-from-match, Γ-from-turns, Γ-from-finish}
 
@@ -91,33 +91,33 @@ module _ (κs : Lfts 11) (qs : Shares 11) (a : Args κs) (l m′ q t p n e : Lis
   abbrev at-match : List ℕ → Prepared → Mo (Γ-from-match κs qs)
   at-match d r′ =
       let b = a .1 .1 .1 .1 .1 .1 in
-      (tt, (a .0, (a .1 .0, (a .1 .1 .0,
-      (a .1 .1 .1 .0, (a .1 .1 .1 .1 .0, (a .1 .1 .1 .1 .1 .0, (setVals l (b .0),
-      (setVals m′ (b .1 .0), (setVals q (b .1 .1 .0), (setVals t (b .1 .1 .1 .0), (setVals p (b .1 .1 .1 .1 .0),
-      (b .1 .1 .1 .1 .1 .0, (b .1 .1 .1 .1 .1 .1 .0, (length (records κs a), (length (output κs a),
-      (n, (e, (d, (r′, (entry κs qs a .1 .1 .1 .1 .1 .1 .1 .1 .1 .1 .1 .1 .1 .1 .1 .1 .1 .1 .1 .1)))))))))))))))))))))
+      parts tt (a .0) (a .1 .0) (a .1 .1 .0)
+      (parts (a .1 .1 .1 .0) (a .1 .1 .1 .1 .0) (a .1 .1 .1 .1 .1 .0) (setVals l (b .0))
+      (parts (setVals m′ (b .1 .0)) (setVals q (b .1 .1 .0)) (setVals t (b .1 .1 .1 .0)) (setVals p (b .1 .1 .1 .1 .0))
+      (parts (b .1 .1 .1 .1 .1 .0) (b .1 .1 .1 .1 .1 .1 .0) (length (records κs a)) (length (output κs a))
+      (parts n e d r′ (entry κs qs a .1 .1 .1 .1 .1 .1 .1 .1 .1 .1 .1 .1 .1 .1 .1 .1 .1 .1 .1 .1)))))
 
   abbrev at-turns : List ℕ → List Region → (regions rows : ℕ) → Mo (Γ-from-turns κs qs)
   at-turns d s regions rows =
       let b = a .1 .1 .1 .1 .1 .1 in
-      (tt, (a .0, (a .1 .0, (a .1 .1 .0,
-      (a .1 .1 .1 .0, (a .1 .1 .1 .1 .0, (a .1 .1 .1 .1 .1 .0, (setVals l (b .0),
-      (setVals m′ (b .1 .0), (setVals q (b .1 .1 .0), (setVals t (b .1 .1 .1 .0), (setVals p (b .1 .1 .1 .1 .0),
-      (setVals s (b .1 .1 .1 .1 .1 .0), (b .1 .1 .1 .1 .1 .1 .0, (length (records κs a), (length (output κs a),
-      (n, (e, (d, (tt,
-      (tt, (tt, (regions, (rows,
-      (a .0, (a .1 .0, (struct .as-values (begins κs a regions rows), (tt, (entry κs qs a .1 .1 .1 .1 .1 .1 .1 .1 .1 .1 .1 .1 .1 .1 .1 .1 .1 .1 .1 .1 .1 .1 .1 .1 .1 .1 .1 .1)))))))))))))))))))))))))))))
+      parts tt (a .0) (a .1 .0) (a .1 .1 .0)
+      (parts (a .1 .1 .1 .0) (a .1 .1 .1 .1 .0) (a .1 .1 .1 .1 .1 .0) (setVals l (b .0))
+      (parts (setVals m′ (b .1 .0)) (setVals q (b .1 .1 .0)) (setVals t (b .1 .1 .1 .0)) (setVals p (b .1 .1 .1 .1 .0))
+      (parts (setVals s (b .1 .1 .1 .1 .1 .0)) (b .1 .1 .1 .1 .1 .1 .0) (length (records κs a)) (length (output κs a))
+      (parts n e d tt
+      (parts tt tt regions rows
+      (parts (a .0) (a .1 .0) (struct .as-values (begins κs a regions rows)) tt (entry κs qs a .1 .1 .1 .1 .1 .1 .1 .1 .1 .1 .1 .1 .1 .1 .1 .1 .1 .1 .1 .1 .1 .1 .1 .1 .1 .1 .1 .1)))))))
 
   abbrev at-finish : List Region → (regions rows : ℕ) → RestAnswer → Mo (Γ-from-finish κs qs)
   at-finish s regions rows answer =
       let b = a .1 .1 .1 .1 .1 .1 in
-      (tt, (a .0, (a .1 .0, (a .1 .1 .0,
-      (a .1 .1 .1 .0, (a .1 .1 .1 .1 .0, (a .1 .1 .1 .1 .1 .0, (setVals l (b .0),
-      (setVals m′ (b .1 .0), (setVals q (b .1 .1 .0), (setVals t (b .1 .1 .1 .0), (setVals p (b .1 .1 .1 .1 .0),
-      (setVals s (b .1 .1 .1 .1 .1 .0), (b .1 .1 .1 .1 .1 .1 .0, (length (records κs a), (length (output κs a),
-      (n, (e, (tt, (tt,
-      (tt, (tt, (regions, (rows,
-      (a .0, (a .1 .0, (tt, (answer, (entry κs qs a .1 .1 .1 .1 .1 .1 .1 .1 .1 .1 .1 .1 .1 .1 .1 .1 .1 .1 .1 .1 .1 .1 .1 .1 .1 .1 .1 .1)))))))))))))))))))))))))))))
+      parts tt (a .0) (a .1 .0) (a .1 .1 .0)
+      (parts (a .1 .1 .1 .0) (a .1 .1 .1 .1 .0) (a .1 .1 .1 .1 .1 .0) (setVals l (b .0))
+      (parts (setVals m′ (b .1 .0)) (setVals q (b .1 .1 .0)) (setVals t (b .1 .1 .1 .0)) (setVals p (b .1 .1 .1 .1 .0))
+      (parts (setVals s (b .1 .1 .1 .1 .1 .0)) (b .1 .1 .1 .1 .1 .1 .0) (length (records κs a)) (length (output κs a))
+      (parts n e tt tt
+      (parts tt tt regions rows
+      (parts (a .0) (a .1 .0) tt answer (entry κs qs a .1 .1 .1 .1 .1 .1 .1 .1 .1 .1 .1 .1 .1 .1 .1 .1 .1 .1 .1 .1 .1 .1 .1 .1 .1 .1 .1 .1)))))))
 
 module _ (w : World) (κs : Lfts 11) (qs : Shares 11) (bs : List ℕ) (a : Args κs) where
   -- what is wanted past the match
@@ -150,8 +150,8 @@ module _ (w : World) (κs : Lfts 11) (qs : Shares 11) (bs : List ℕ) (a : Args 
                     λ l₂. (
                       refl,
                       λ l₃. (
-                        (tt, (tt, (refl, (refl,
-                            (refl, (refl, (fixed (long .0), (fixed (l₁ ∙ long .1), (fixed (l₂ ∙ long .2), (fixed (long .3), (fixed (long .4), (fixed ss, (fixed l₃, tt))))))))))))),
+                        parts tt tt refl refl
+                            (parts refl refl (fixed (long .0)) (fixed (l₁ ∙ long .1)) (parts (fixed (l₂ ∙ long .2)) (fixed (long .3)) (fixed (long .4)) (fixed ss) (fixed l₃, tt))),
                         rest-over R (f .5 .0 .0) (f .5 .0 .1) (f .5 .1),
                       ),
                     ),
@@ -242,8 +242,8 @@ module _ (w : World) (κs : Lfts 11) (qs : Shares 11) (bs : List ℕ) (a : Args 
     λ one. (
       one,
       λ v told. (
-        (tt, (tt, (refl, (refl,
-            (refl, (refl, (fixed (long .0), (fixed (long .1), (fixed (long .2), (fixed (long .3), (fixed (long .4), (refl, (refl, tt))))))))))))),
+        parts tt tt refl refl
+            (parts refl refl (fixed (long .0)) (fixed (long .1)) (parts (fixed (long .2)) (fixed (long .3)) (fixed (long .4)) refl (refl, tt))),
         refused-over n e d B (v .1),
       ),
     ),
