@@ -1,16 +1,18 @@
--- The words of the contracts of the functions that mark cut steps. Definitions only; assumes nothing.
+-- The words of the contracts of the functions that mark cut steps, and of those that ask the marks. Definitions only; assumes nothing.
 use Prim.Native.Nat.{ℕ, _+_, _*_, _/_, _≤_, _<_}
 use mathlib.Core.Path.{_≡_}
 use mathlib.Core.Bool.{true, _||_}
 use mathlib.Core.List.{List}
 use lib.ListN.{length, getD, drop}
 use Rattle.definitions.specs.Limits.{maxSide, numbersPerSpan}
-use Rattle.definitions.specs.Grid.{Map, Position, Pair, cellCount}
+use Rattle.definitions.specs.Grid.{Map, Position, Pair, canonical, segmentAt, cellCount}
 use Rattle.definitions.specs.Refusals.{endpointsDiffer}
 use Rattle.span_geometry.specs.declared.SpanGeometry.{SpanGeometry}
 use Rattle.span_geometry.specs.Shapes.{maxPixel, Sound, segmentOf}
-use Rattle.grid_steps.specs.Masks.{bitOf, cutBit, isOnwardIn}
+use Rattle.grid_steps.specs.Masks.{bitOf, cutBit, isOnward, isOnwardIn}
+use Rattle.grid_steps.specs.Walk.{gridOf}
 use Rattle.grid_steps.specs.Contract.{CutMap}
+use Rattle.cut_steps.specs.CutSteps.{cutSpan}
 use Rattle.cut_steps.specs.Contract.{SpanMap}
 
 -- ---- what is lent
@@ -44,8 +46,22 @@ pub record Marked (M : Map) (was masks : List ℕ) (added : List Pair) : Type 0 
   pub long : length masks ≡ length was
   pub rest : drop (M .height * M .width) masks ≡ drop (M .height * M .width) was
 
--- of masks that were 0: they are as labelling asks, of every map with these cells and spans
+-- ---- what masks show
+
+-- The masks have the bit of each step of E, at its smaller cell, and each bit of theirs is that of a step.
+pub record Shown (M : Map) (masks : List ℕ) (E : List Pair) : Type 0 where
+  pub long : cellCount M ≤ length masks
+  pub steps : (c : ℕ) (d : Position) → c < cellCount M → d .x ≤ 2 → d .y ≤ 2 → cutBit masks c (bitOf d) ≡ true → isOnward M c d ≡ true
+  pub bits : (c : ℕ) (d : Position) → c < cellCount M → d .x ≤ 2 → d .y ≤ 2 → isOnwardIn M E c d ≡ true → cutBit masks c (bitOf d) ≡ true
+
+-- the cut steps of each span of a list
+abbrev pub SpansShown : (w h : ℕ) (cells spans masks : List ℕ) → Type 0
+SpansShown w h cells spans masks =
+    (i : ℕ) → i < length spans / numbersPerSpan → Shown (gridOf w h cells) masks (cutSpan (gridOf w h cells) (canonical (segmentAt spans (numbersPerSpan * i))))
+
+-- of masks that were 0: they are as labelling and the assessment ask, of every map with these cells and spans
 pub record SpansMarked (w h : ℕ) (cells spans was masks : List ℕ) : Type 0 where
   pub maps : (M : Map) → SpanMap w h cells spans M → CutMap w h cells masks M
+  pub shown : SpansShown w h cells spans masks
   pub long : length masks ≡ length was
   pub rest : drop (h * w) masks ≡ drop (h * w) was

@@ -11,6 +11,7 @@ use Rattle.line_crossings.specs.Crossings.{Between, Crossing, Gentle, Close}
 use Rattle.grid_steps.specs.Walk.{gridOf}
 use Rattle.cut_steps.specs.Columns.{cutColumn, column-in}
 use Rattle.cut_steps.proofs.Across.{tie-few}
+use Rattle.cut_steps.proofs.Shown.{shown-at}
 use Rattle.cut_steps.proofs.SpanParts.{column-asked, from-some, between-of, gentle-of, next-from, now-before, follows-in}
 use Rattle.assessments.specs.Assess.{maxLineEdges}
 use Rattle.assessments.proofs.Turns.{counting-most}
@@ -19,21 +20,23 @@ use Rattle.assessments.proofs.assess_between.Statement.{statement}
 use Rattle.assessments.proofs.assess_between.Tie as tie
 
 abbrev Inv-loop : tie.InvT-loop
-Inv-loop width height cells labels pairs₀ g strip span first from to tie a₀ k₀ before₀ here₀ pairs a k before here =
+Inv-loop width height cells masks labels pairs₀ g strip span first from to tie a₀ k₀ before₀ here₀ pairs a k before here =
     Passing labels span first (cutColumn (gridOf width height cells) (segmentOf g) strip) maxLineEdges from to a₀ pairs₀ a pairs k
     × Crossing strip tie (k - 1) (before .first) (before .rest) × Crossing strip tie k (here .first) (here .rest) × Close (before .first) (here .first)
 
 abbrev μ-loop : tie.MeasureT-loop
-μ-loop width height cells labels pairs₀ g strip span first from to tie a₀ k₀ before₀ here₀ pairs a k before here = to - k
+μ-loop width height cells masks labels pairs₀ g strip span first from to tie a₀ k₀ before₀ here₀ pairs a k before here = to - k
 
 tie-of-requires : tie.Need-tie-of-requires Inv-loop μ-loop
-tie-of-requires c κs = c .before .before .before .pre .1 .0 .0 .strip
+tie-of-requires c κs =
+    let at-masks = c .before .before in
+    at-masks .before .before .pre .1 .0 .0 .strip
 
 -- the function's entry, from its first call on
 abbrev entry : tie.After-tie-of Inv-loop μ-loop → tie.Start Inv-loop μ-loop
 entry c =
-    let at-slice-known = c .before in
-    at-slice-known .before .before .before
+    let at-labels = c .before .before in
+    at-labels .before .before .before
 
 some : (s : tie.Start Inv-loop μ-loop) → 1 ≤ s .args .from
 some s = from-some (s .args .strip) (s .args .from) (s .args .to) (s .pre .1 .0 .0 .inside) (s .pre .1 .0 .1)
@@ -98,7 +101,7 @@ assess-crossing-requires c κs =
     let p = s .pre .0 in
     let C = i .0 .turns .counting in
     let few = columns-few (s .args .from) (s .args .to) (p .0 .narrow) (p .0 .short) (p .2) (s .pre .1 .0 .1) in (
-      (p .0, p .1, column-asked (p .2) (i .0 .from-k) (l .loop-test .taken)),
+      (p .0, p .1, column-asked (p .2) (i .0 .from-k) (l .loop-test .taken), shown-at (cutColumn (gridOf (s .args .width) (s .args .height) (s .args .cells .now)) (segmentOf (s .args .g)) (s .args .strip)) (p .3) (i .0 .from-k) (l .loop-test .taken)),
       (
         follows-in (s .pre .1 .0 .0) (p .2 .usable) (t .tie-of .ensures) (i .0 .from-k) (l .loop-test .taken) (i .1) (i .2) (n .next-place2 .ensures .0) (i .3) (n .next-place2 .ensures .1),
         counting-most C (more-room (i .0 .from-k) (l .loop-test .taken) few (s .pre .1 .1 .few) (C .few)),

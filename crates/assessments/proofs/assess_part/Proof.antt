@@ -14,7 +14,9 @@ use Rattle.assessments.proofs.assess_part.Tie as tie
 
 -- the function's entry, from its test
 abbrev entry : tie.After-slice-known → tie.Start
-entry c = c .before .before .before
+entry c =
+    let at-masks = c .before .before in
+    at-masks .before .before
 
 -- a part of one column, or row, has room for one
 single : {from to : ℕ} → from < to → to ≤ from + 1 → to - from ≡ 1
