@@ -51,5 +51,6 @@ module _ (w h : ℕ) (cells spans : List ℕ) where
   labelled {m = m} f S F =
       record {
         maps = λ M K. F M (onward (S .maps M K));
+        shown = S .shown;
         rest = S .rest ∙ ap (drop (h * w)) f ∙ zeroed-rest (h * w) m;
       }

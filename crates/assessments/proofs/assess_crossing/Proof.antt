@@ -2,7 +2,6 @@
 use Prim.Native.Nat.{ℕ, _+_, _-_, _≤_}
 use native.Mathlib.Omega.{arith}
 use mathlib.Core.Path.{_≡_, refl, sym, _∙_}
-use borrow.Author.Needs.{needs}
 use Rattle.definitions.specs.Scan.{concatMap}
 use Rattle.span_geometry.specs.Shapes.{segmentOf}
 use Rattle.line_crossings.proofs.Moving.{small}
@@ -115,7 +114,7 @@ loop-again : tie.Need-loop-again Inv-loop μ-loop
 loop-again c =
     let t = turn c in
     let P = t .before .loop .inv .1 in
-    (omega (arith, t .loop-test .taken), one-further (t .before .loop .j) (passing-more P (omega (arith, t .loop-test .taken)) (across c .assess-across .ensures .0) (search needs) (across c .assess-across .ensures .1)))
+    (omega (arith, t .loop-test .taken), one-further (t .before .loop .j) (passing-more P (omega (arith, t .loop-test .taken)) (across c .assess-across .ensures .0) (across c .assess-across .kept) (across c .assess-across .ensures .1)))
 
 same-length : tie.Need-same-length Inv-loop μ-loop
 same-length c = c .before .loop .inv .1 .turns .long

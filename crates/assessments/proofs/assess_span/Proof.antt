@@ -91,8 +91,12 @@ assess-part-requires c κs =
     let p = entry n .pre .0 in
     let P = r .parts-of .ensures in
     let i = h .loop .inv in (
-      (p .0, p .1, columns-asked (n .new .ensures .1) (r .before .pick .ensures) (some-side (n .new .result .columns) (p .0 .tall) (p .0 .wide)) (P .below) (i .from-k) (within e .1),
-      shown-part (cutColumn (gridOf (a .width) (a .height) (a .cells .now)) (segmentOf (a .g)) (n .new .result)) (shown-as (sym (joined r)) (p .3)) (i .from-k) (omega (arith, within e .0)) (within e .1)),
+      (
+        p .0,
+        p .1,
+        columns-asked (n .new .ensures .1) (r .before .pick .ensures) (some-side (n .new .result .columns) (p .0 .tall) (p .0 .wide)) (P .below) (i .from-k) (within e .1),
+        shown-part (cutColumn (gridOf (a .width) (a .height) (a .cells .now)) (segmentOf (a .g)) (n .new .result)) (shown-as (sym (joined r)) (p .3)) (i .from-k) (omega (arith, within e .0)) (within e .1),
+      ),
       (
         part-asked (n .new .ensures .0) P (e .part-end .ensures) (within e .0),
         counting-most (i .turns .counting) (part-room (i .from-k) (within e .0) (within e .1) (few r) (i .turns .counting .few)),
@@ -112,7 +116,7 @@ loop-again : tie.Need-loop-again Inv-loop μ-loop
 loop-again c =
     let e = assessed c .before .before in
     let h = e .before .before .before in
-    passing-further (h .loop .inv) (within e .0) (within e .1) (assessed c .assess-part .ensures .0) (search needs) (assessed c .assess-part .ensures .1)
+    passing-further (h .loop .inv) (within e .0) (within e .1) (assessed c .assess-part .ensures .0) (assessed c .assess-part .kept) (assessed c .assess-part .ensures .1)
 
 same-length : tie.Need-same-length Inv-loop μ-loop
 same-length c = c .before .before .loop .inv .turns .long
