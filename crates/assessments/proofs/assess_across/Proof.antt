@@ -106,7 +106,7 @@ assess-mask-requires c κs =
     ((s .pre .0 .0, i .0, i .1), (shown-directions (i .0) (i .1) crossed (shown-as (sym (steps p)) (s .pre .0 .3)) (d .marked-changes .ensures), s .pre .1 .1))
 
 same-length : tie.Need-same-length
-same-length c = c .before .before .assess-mask .kept
+same-length c = c .before .before .assess-mask .kept .1 .1 .1 .1 .0
 
 returns-3 : tie.Need-returns-3
 returns-3 c =

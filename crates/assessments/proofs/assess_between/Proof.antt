@@ -127,7 +127,7 @@ loop-again c =
     let l = n .before in
     let i = l .before .loop .inv in
     let r = c .before .before in
-    (passing-more (i .0) (l .loop-test .taken) (r .assess-crossing .ensures .0) (r .assess-crossing .kept) (r .assess-crossing .ensures .1), now-before (i .2), n .next-place2 .ensures .0, n .next-place2 .ensures .1)
+    (passing-more (i .0) (l .loop-test .taken) (r .assess-crossing .ensures .0) (r .assess-crossing .kept .1 .1 .1 .1 .1 .0) (r .assess-crossing .ensures .1), now-before (i .2), n .next-place2 .ensures .0, n .next-place2 .ensures .1)
 
 same-length : tie.Need-same-length Inv-loop μ-loop
 same-length c = c .before .loop .inv .0 .turns .long

@@ -35,7 +35,7 @@ assess-mask-requires c κs =
     ((s .pre .0 .0, s .pre .0 .2, s .pre .0 .3), (d .cut-directions .ensures, s .pre .1))
 
 same-length : tie.Need-same-length
-same-length c = c .before .before .assess-mask .kept
+same-length c = c .before .before .assess-mask .kept .1 .1 .1 .1 .0
 
 returns-2 : tie.Need-returns-2
 returns-2 c = c .before .before .assess-mask .ensures

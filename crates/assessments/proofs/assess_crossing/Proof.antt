@@ -114,7 +114,7 @@ loop-again : tie.Need-loop-again Inv-loop μ-loop
 loop-again c =
     let t = turn c in
     let P = t .before .loop .inv .1 in
-    (omega (arith, t .loop-test .taken), one-further (t .before .loop .j) (passing-more P (omega (arith, t .loop-test .taken)) (across c .assess-across .ensures .0) (across c .assess-across .kept) (across c .assess-across .ensures .1)))
+    (omega (arith, t .loop-test .taken), one-further (t .before .loop .j) (passing-more P (omega (arith, t .loop-test .taken)) (across c .assess-across .ensures .0) (across c .assess-across .kept .1 .1 .1 .1 .1 .0) (across c .assess-across .ensures .1)))
 
 same-length : tie.Need-same-length Inv-loop μ-loop
 same-length c = c .before .loop .inv .1 .turns .long

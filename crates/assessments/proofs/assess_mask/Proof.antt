@@ -66,7 +66,7 @@ same-length c =
     let four = c .before .before in
     let three = third (four .before) in
     let two = second (three .before) in
-    four .assess-direction4 .kept ∙ three .assess-direction3 .kept ∙ two .assess-direction2 .kept ∙ first (two .before) .assess-direction .kept
+    four .assess-direction4 .kept .1 .1 .1 .0 ∙ three .assess-direction3 .kept .1 .1 .1 .0 ∙ two .assess-direction2 .kept .1 .1 .1 .0 ∙ first (two .before) .assess-direction .kept .1 .1 .1 .0
 
 returns-2 : tie.Need-returns-2
 returns-2 c =

@@ -116,7 +116,7 @@ loop-again : tie.Need-loop-again Inv-loop μ-loop
 loop-again c =
     let e = assessed c .before .before in
     let h = e .before .before .before in
-    passing-further (h .loop .inv) (within e .0) (within e .1) (assessed c .assess-part .ensures .0) (assessed c .assess-part .kept) (assessed c .assess-part .ensures .1)
+    passing-further (h .loop .inv) (within e .0) (within e .1) (assessed c .assess-part .ensures .0) (assessed c .assess-part .kept .1 .1 .1 .1 .1 .0) (assessed c .assess-part .ensures .1)
 
 same-length : tie.Need-same-length Inv-loop μ-loop
 same-length c = c .before .before .loop .inv .turns .long
