@@ -115,7 +115,7 @@ module _ (t : Strip) (from to : ℕ) (I : Inside t from to) (some : from < to) w
   pub between-after : {k : ℕ} → from ≤ k → k < to → Between t (k + 1)
   between-after {k} a b = between-of (k + 1) (omega arith) (omega arith)
 
--- what is counted behind k
+-- the number behind k, or before it, and a bound
 pub one-more : {a k : ℕ} → a ≤ k → a ≤ k + 1
 one-more h = omega arith
 

@@ -1,4 +1,4 @@
--- Setting the two bits of a step adds exactly that step to the steps that the masks say are cut (`mark-adds`), and masks of zeros say that none is
+-- Setting the two bits of a step, as the Rust does, adds exactly that step to the steps that the masks say are cut (`mark-adds`), and masks of zeros say that none is
 -- (`marks-none`): a loop that marks every cut step both ways ends with masks that say which steps are cut. A step is known by either of its cells with the direction from
 -- there, since a cell reaches another in one direction only, and a direction is known by its bit. Assumes nothing.
 use Prim.Native.Nat.{ℕ, _-_, _≤_, _<_, min, max}

@@ -33,8 +33,8 @@ reached M c d = index M (toward (positionOf M c) d)
 abbrev pub stepPair : Map → ℕ → Position → Pair
 stepPair M c d = record { lo = min c (reached M c d); hi = max c (reached M c d) }
 
--- At every step of the grid, the bit says whether the step is among E. (Direction (1, 1) is a step from a cell to itself, which is no cut step, so that its
--- bit is not set.)
+-- At every step of the grid, the bit says whether the step is among E: so it is in the Rust, which sets both bits of a step. (Direction (1, 1) is a step from a cell to
+-- itself, which is no cut step, so that its bit is not set.)
 abbrev pub Marks : Map → List ℕ → List Pair → Type 0
 Marks M masks E = (c : ℕ) (d : Position) → c < cellCount M → isStep M (positionOf M c) d ≡ true → cutBit masks c (bitOf d) ≡ any (pairEq (stepPair M c d)) E
 

@@ -1,4 +1,4 @@
-// Steps of the grid, those of `neighbors` of lib.rs, and the masks of those that are cut, as areas.rs has them.
+// Steps of the grid, those of `neighbors` of lib.rs, and the bits of masks of cut steps, numbered as by `edge_bit` of areas.rs.
 ghost use mathlib.Core.Path.{_≡_};
 ghost use mathlib.Core.Bool.{true};
 ghost use Prim.Native.Nat.{_≤_, _<_};
