@@ -13,6 +13,7 @@ use Rattle.definitions.specs.Context.{contextOf}
 use Rattle.definitions.specs.Verdict.{mapIn, pairRowsOf}
 use Rattle.laws.specs.RegionLaws.Regions.{labels-length}
 use Rattle.row_runs.specs.Contract.{Labelled as CellsLabelled}
+use Rattle.cut_steps.specs.Marking.{SpansShown}
 use Rattle.assessments.specs.declared.Assessed.{Assessed}
 use Rattle.assessments.specs.declared.Assessed.the-variants.{Rows, TooMany}
 use Rattle.assessments.specs.Contract.{AssessAsked, Answers, SpansAssessed}
@@ -29,8 +30,8 @@ unfolding cellCount
 labels-shown M l e c h = ap (λ z. getD z c 0) e ∙ List·getD-append (labels M) (drop (length (labels M)) l) 0 c (omega (arith, labels-length M))
 
 -- what the assessment asks
-pub assess-asked : {w h : ℕ} {cells spans : List ℕ} {l m q : ℕ} {t l′ : List ℕ} → Fit w h cells spans l m q (length t) → length l′ ≡ l → AssessAsked w h spans l′ t
-assess-asked F e = record { few = F .few; labelsLong = omega (arith, F .labelsLong, e); talliesLong = F .talliesLong }
+pub assess-asked : {w h : ℕ} {cells spans : List ℕ} {l m q : ℕ} {t l′ m′ : List ℕ} → Fit w h cells spans l m q (length t) → SpansShown w h cells spans m′ → length l′ ≡ l → AssessAsked w h cells m′ spans l′ t
+assess-asked F shown e = record { few = F .few; shown = shown; labelsLong = omega (arith, F .labelsLong, e); talliesLong = F .talliesLong }
 
 -- two lists of one length, cleared whole
 pub cleared-whole : (p p₁ : List ℕ) → length p₁ ≡ length p → zeroed (length p₁) p₁ ≡ zeroed (length p) p

@@ -8,9 +8,11 @@ use lib.ListN.{length, getD, drop, replicate, length-replicate, getD-replicate, 
 use lib.Seq.{drop-at}
 use Rattle.definitions.specs.Grid.{Map, mapOf}
 use Rattle.definitions.specs.Lists.{zeroed}
+use Rattle.definitions.specs.Partition.{cutAll}
 use Rattle.cut_steps.specs.Contract.{SpanMap, Checked}
 use Rattle.cut_steps.specs.Marking.{SpansMarked}
 use Rattle.grid_steps.specs.Contract.{CutMap}
+use Rattle.grid_steps.proofs.OnwardMasks.{onward-marks}
 use Rattle.row_runs.specs.Contract.{Room, OnwardCut, Labelled}
 use Rattle.areas.specs.Labelled.{LabelledAs}
 
@@ -41,13 +43,14 @@ module _ (w h : ℕ) (cells spans : List ℕ) where
   pub labels-room : Checked w h cells spans → {l m q : List ℕ} → h * w ≤ length l → h * w ≤ length m → h * w ≤ length q → Room w h cells m l q
   labels-room K a b c = record { narrow = K .narrow; short = K .short; cellsLong = K .cellsLong; masksLong = b; labelsLong = a; queueLong = c }
 
-  -- the bit at the smaller cell of a step is enough
+  -- the masks say of each step, at its smaller cell, whether it is cut
   onward : {masks : List ℕ} {M : Map} → CutMap w h cells masks M → OnwardCut w h cells masks M
-  onward C = record { width = C .width; height = C .height; cells = C .cells; marks = λ c d i s l. C .marks c d i s }
+  onward {masks} {M} C = record { width = C .width; height = C .height; cells = C .cells; marks = onward-marks M masks (cutAll M) (C .bits) }
 
   pub labelled : {l m m₁ m′ q l′ q′ : List ℕ} {r : ℕ} → m₁ ≡ zeroed (h * w) m → SpansMarked w h cells spans m₁ m′ → ((M : Map) → OnwardCut w h cells m′ M → Labelled M l q l′ q′ r) → LabelledAs w h cells spans l m q l′ m′ q′ r
   labelled {m = m} f S F =
       record {
         maps = λ M K. F M (onward (S .maps M K));
+        shown = S .shown;
         rest = S .rest ∙ ap (drop (h * w)) f ∙ zeroed-rest (h * w) m;
       }

@@ -40,9 +40,10 @@ fn divide(
 {
     let needed = height * width;
     let regions = label_regions(width, height, cells, spans, labels, masks, queue);
-    clear_masks(masks, needed);
     clear_numbers(queue, needed);
-    match assess_spans(width, height, cells, spans, labels, tallies, pairs) {
+    let assessed = assess_spans(width, height, cells, &*masks, spans, labels, tallies, pairs);
+    clear_masks(masks, needed);
+    match assessed {
         Assessed::Rows(_) => Partitioned::Regions(regions),
         Assessed::TooMany => {
             let room = pairs.len();

@@ -43,7 +43,7 @@ module _ (w h : ℕ) (cells spans labels : List ℕ) where
   tallies-length zero = refl
   tallies-length (suc n) = length-append (talliesBelow n) _ ∙ omega (arith, tallies-length n)
 
-pub lent : {w h : ℕ} {cells spans labels tallies : List ℕ} → Checked w h cells spans → AssessAsked w h spans labels tallies → Lent w h cells labels
+pub lent : {w h : ℕ} {cells masks spans labels tallies : List ℕ} → Checked w h cells spans → AssessAsked w h cells masks spans labels tallies → Lent w h cells labels
 lent C A = record { wide = C .wide; narrow = C .narrow; tall = C .tall; short = C .short; cellsLong = C .cellsLong; labelsLong = A .labelsLong }
 
 -- ---- before span s

@@ -11,13 +11,15 @@ use Rattle.definitions.specs.Context.{contextOf}
 use Rattle.definitions.specs.Verdict.{pairRowsOf}
 use Rattle.definitions.specs.AtExit.{talliesOf}
 use Rattle.cut_steps.specs.Contract.{SpanMap}
+use Rattle.cut_steps.specs.Marking.{SpansShown}
 use Rattle.assessments.specs.Held.{roomOf}
 use Rattle.assessments.specs.declared.Assessed.{Assessed}
 use Rattle.assessments.specs.declared.Assessed.the-variants.{Rows, TooMany}
 
--- "At most 256 spans"; a label for each cell; "tallies (2 per span)"
-pub record AssessAsked (w h : ℕ) (spans labels tallies : List ℕ) : Type 0 where
+-- "At most 256 spans"; masks with the cut steps of each; a label for each cell; "tallies (2 per span)"
+pub record AssessAsked (w h : ℕ) (cells masks spans labels tallies : List ℕ) : Type 0 where
   pub few : length spans / numbersPerSpan ≤ maxEntries
+  pub shown : SpansShown w h cells spans masks
   pub labelsLong : h * w ≤ length labels
   pub talliesLong : talliesPerSpan * (length spans / numbersPerSpan) ≤ length tallies
 

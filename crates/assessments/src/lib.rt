@@ -2,7 +2,6 @@
 pub mod region_pairs;
 
 use cut_steps::NUMBERS_PER_SPAN;
-use cut_steps::cell::crossed_directions;
 use cut_steps::cell::cut_directions;
 use cut_steps::cell::is_near;
 use cut_steps::cell::is_set;
@@ -25,7 +24,8 @@ ghost use mathlib.Core.Path.{_≡_};
 ghost use mathlib.Core.Bool.{true};
 ghost use mathlib.Core.List.{[], _∷_};
 ghost use Prim.Native.Nat.{_+_, _-_, _*_, _≤_, _<_};
-ghost use lib.ListN.{length};
+ghost use lib.ListN.{length, getD};
+ghost use lib.Bits.{bitAnd};
 ghost use Rattle.definitions.specs.Grid.{at};
 ghost use Rattle.definitions.specs.Refusals.{endpointsDiffer};
 ghost use Rattle.grid_steps.specs.Walk.{gridOf};
@@ -34,6 +34,7 @@ ghost use Rattle.cut_steps.specs.Contract.{Checked};
 ghost use Rattle.cut_steps.specs.CutSteps.{cutFrom, cutSpan};
 ghost use Rattle.cut_steps.specs.Cell.{CutDirections};
 ghost use Rattle.cut_steps.specs.Columns.{ColumnAsked, cutColumn};
+ghost use Rattle.cut_steps.specs.Marking.{Shown};
 ghost use Rattle.cut_steps.specs.Crossed.{CrossedAt, cutTwoBack, FollowsIn, ColumnsAsked, BetweenAsked, cutColumns, PartAsked};
 ghost use Rattle.assessments.specs.Held.{pairOf, roomOf};
 ghost use Rattle.assessments.specs.Assess.{nothing, maxCellEdges, maxLineEdges, maxEdges, Counting, Assesses, stepIn, Leads, Lent};
@@ -293,11 +294,21 @@ fn assess_column(
     a
 }
 
-// The steps that the span cuts from the cell at `beyond` - 2 across column, or row, k, if there is one. Its changes of sides are given.
+// Which of a cell's changes of sides are of steps that the masks have.
+fn marked_changes(width: usize, masks: &[u16], x: usize, y: usize, changes: u16) -> u16
+    requires { ⌜ y * width + x < length (now masks) ⌝ }
+    ensures { λ r. ⌜ r ≡ bitAnd changes (getD (now (masks .entry)) (y * width + x) 0) ⌝ }
+{
+    changes & masks[y * width + x]
+}
+
+// The steps that the span cuts from the cell at `beyond` - 2 across column, or row, k, if there is one. Its changes of sides are given; which of its
+// steps are there, the masks say.
 fn assess_across(
     width: usize,
     height: usize,
     cells: &[u8],
+    masks: &[u16],
     labels: &[u32],
     pairs: &mut [u32],
     g: SpanGeometry,
@@ -309,7 +320,8 @@ fn assess_across(
     beyond: usize,
     changes: u16,
 ) -> BoundaryAssessment
-    requires lent { ⌜ Lent width height (now cells) (now labels) × Sound g × ColumnAsked width height strip k ⌝ }
+    requires lent { ⌜ Lent width height (now cells) (now labels) × Sound g × ColumnAsked width height strip k
+        × Shown (gridOf width height (now cells)) (now masks) (cutTwoBack (gridOf width height (now cells)) (segmentOf g) strip k beyond) ⌝ }
     requires changes { ⌜ CrossedAt (segmentOf g) strip k beyond changes ⌝ }
     requires counting { ⌜ Counting (now pairs) first (maxEdges - maxCellEdges) start ⌝ }
     ensures still_counting { λ r. ⌜ Counting (now (pairs .exit)) first (start .removed + maxCellEdges) r ⌝ }
@@ -326,7 +338,7 @@ fn assess_across(
     }
     let x = pick(columns, k, beyond - 2);
     let y = pick(columns, beyond - 2, k);
-    let mask = crossed_directions(width, height, cells, g, x, y, changes);
+    let mask = marked_changes(width, masks, x, y, changes);
     assess_mask(
         width,
         height,
@@ -348,6 +360,7 @@ fn assess_crossing(
     width: usize,
     height: usize,
     cells: &[u8],
+    masks: &[u16],
     labels: &[u32],
     pairs: &mut [u32],
     g: SpanGeometry,
@@ -360,7 +373,8 @@ fn assess_crossing(
     here: usize,
     after: usize,
 ) -> BoundaryAssessment
-    requires lent { ⌜ Lent width height (now cells) (now labels) × Sound g × ColumnAsked width height strip k ⌝ }
+    requires lent { ⌜ Lent width height (now cells) (now labels) × Sound g × ColumnAsked width height strip k
+        × Shown (gridOf width height (now cells)) (now masks) (cutColumn (gridOf width height (now cells)) (segmentOf g) strip k) ⌝ }
     requires follows { ⌜ FollowsIn strip (segmentOf g) k before here after ⌝ }
     requires counting { ⌜ Counting (now pairs) first (maxEdges - maxLineEdges) start ⌝ }
     ensures still_counting { λ r. ⌜ Counting (now (pairs .exit)) first (start .removed + maxLineEdges) r ⌝ }
@@ -376,6 +390,7 @@ fn assess_crossing(
             width,
             height,
             cells,
+            masks,
             labels,
             pairs,
             g,
@@ -396,6 +411,7 @@ fn assess_between(
     width: usize,
     height: usize,
     cells: &[u8],
+    masks: &[u16],
     labels: &[u32],
     pairs: &mut [u32],
     g: SpanGeometry,
@@ -406,7 +422,8 @@ fn assess_between(
     from: usize,
     to: usize,
 ) -> BoundaryAssessment
-    requires lent { ⌜ Lent width height (now cells) (now labels) × Sound g × ColumnsAsked width height strip from to ⌝ }
+    requires lent { ⌜ Lent width height (now cells) (now labels) × Sound g × ColumnsAsked width height strip from to
+        × Shown (gridOf width height (now cells)) (now masks) (cutColumns (gridOf width height (now cells)) (segmentOf g) strip from to) ⌝ }
     requires between { ⌜ BetweenAsked (segmentOf g) strip from to × (from < to) ⌝ }
     requires counting { ⌜ Counting (now pairs) first (maxEdges - maxLineEdges * (to - from)) start ⌝ }
     ensures still_counting { λ r. ⌜ Counting (now (pairs .exit)) first (start .removed + maxLineEdges * (to - from)) r ⌝ }
@@ -425,6 +442,7 @@ fn assess_between(
             width,
             height,
             cells,
+            masks,
             labels,
             pairs,
             g,
@@ -449,6 +467,7 @@ fn assess_part(
     width: usize,
     height: usize,
     cells: &[u8],
+    masks: &[u16],
     labels: &[u32],
     pairs: &mut [u32],
     g: SpanGeometry,
@@ -459,7 +478,8 @@ fn assess_part(
     from: usize,
     to: usize,
 ) -> BoundaryAssessment
-    requires lent { ⌜ Lent width height (now cells) (now labels) × Sound g × ColumnsAsked width height strip from to ⌝ }
+    requires lent { ⌜ Lent width height (now cells) (now labels) × Sound g × ColumnsAsked width height strip from to
+        × Shown (gridOf width height (now cells)) (now masks) (cutColumns (gridOf width height (now cells)) (segmentOf g) strip from to) ⌝ }
     requires part { ⌜ PartAsked (segmentOf g) strip from to ⌝ }
     requires counting { ⌜ Counting (now pairs) first (maxEdges - maxLineEdges * (to - from)) start ⌝ }
     ensures still_counting { λ r. ⌜ Counting (now (pairs .exit)) first (start .removed + maxLineEdges * (to - from)) r ⌝ }
@@ -486,6 +506,7 @@ fn assess_part(
         width,
         height,
         cells,
+        masks,
         labels,
         pairs,
         g,
@@ -503,13 +524,15 @@ fn assess_span(
     width: usize,
     height: usize,
     cells: &[u8],
+    masks: &[u16],
     labels: &[u32],
     pairs: &mut [u32],
     g: SpanGeometry,
     span: u32,
     first: usize,
 ) -> BoundaryAssessment
-    requires lent { ⌜ Lent width height (now cells) (now labels) × Sound g × (endpointsDiffer (segmentOf g) ≡ true) ⌝ }
+    requires lent { ⌜ Lent width height (now cells) (now labels) × Sound g × (endpointsDiffer (segmentOf g) ≡ true)
+        × Shown (gridOf width height (now cells)) (now masks) (cutSpan (gridOf width height (now cells)) (segmentOf g)) ⌝ }
     requires first_within { ⌜ first ≤ roomOf (now pairs) + 1 ⌝ }
     ensures still_counting { λ r. ⌜ Counting (now (pairs .exit)) first maxEdges r ⌝ }
     ensures assessed { λ r. ⌜ Assesses (now (labels .entry)) span first (cutSpan (gridOf width height (now (cells .entry))) (segmentOf g)) (nothing first)
@@ -530,6 +553,7 @@ fn assess_span(
             width,
             height,
             cells,
+            masks,
             labels,
             pairs,
             g,
@@ -545,18 +569,19 @@ fn assess_span(
     a
 }
 
-// Assesses every span by the labels of the partition: two tallies a span, and the rows of pairs as far as there is room.
+// Assesses every span by the labels of the partition and the masks of cut steps: two tallies a span, and the rows of pairs as far as there is room.
 pub fn assess_spans(
     width: usize,
     height: usize,
     cells: &[u8],
+    masks: &[u16],
     spans: &[u64],
     labels: &[u32],
     tallies: &mut [u32],
     pairs: &mut [u32],
 ) -> Assessed
     requires checked { ⌜ Checked width height (now cells) (now spans) ⌝ }
-    requires asked { ⌜ AssessAsked width height (now spans) (now labels) (now tallies) ⌝ }
+    requires asked { ⌜ AssessAsked width height (now cells) (now masks) (now spans) (now labels) (now tallies) ⌝ }
     ensures { λ r. ⌜ SpansAssessed width height (now (cells .entry)) (now (spans .entry)) (now (labels .entry)) (now (tallies .entry))
         (now (pairs .entry)) (now (tallies .exit)) (now (pairs .exit)) r ⌝ }
 {
@@ -565,7 +590,7 @@ pub fn assess_spans(
     let mut s = 0;
     while s < count {
         let g = span_at(spans, s);
-        let a = assess_span(width, height, cells, labels, pairs, g, s as u32, end);
+        let a = assess_span(width, height, cells, masks, labels, pairs, g, s as u32, end);
         let at = TALLIES_PER_SPAN * s;
         tallies[at] = a.removed;
         tallies[at + 1] = a.separated;

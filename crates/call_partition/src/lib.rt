@@ -49,7 +49,7 @@ pub fn divide(
         clear_numbers(tallies, TALLIES_PER_SPAN * (spans.len() / NUMBERS_PER_SPAN));
         return Prepared::Refused(11, 0);
     }
-    match assess_spans(width, height, cells, spans, labels, tallies, pairs) {
+    match assess_spans(width, height, cells, &*masks, spans, labels, tallies, pairs) {
         Assessed::Rows(rows) => Prepared::Ready(regions, rows),
         Assessed::TooMany => {
             clear_scratch(masks, queue, needed);

@@ -1,11 +1,11 @@
 -- What the functions of one cell ask of one another, and their answers' meaning, from what is asked of the cell. Assumes nothing.
-use Prim.Native.Nat.{ℕ, _+_, _-_, _*_, _%_, _≤_, _<_}
+use Prim.Native.Nat.{ℕ, _+_, _*_, _%_, _≤_, _<_}
 use native.Mathlib.Omega.{arith}
 use native.Mathlib.Nat.{mul-le-mul}
 use mathlib.Core.Path.{_≡_, refl, sym, subst, _∙_}
 use mathlib.Core.Bool.{Bool, true, false, and-false}
 use mathlib.Core.List.{List}
-use lib.ListN.{length, getD}
+use lib.ListN.{getD}
 use lib.Arith.{digits-lt}
 use lib.Dec.{ltb}
 use borrow.Author.Tests.{eq-eqb, ne-eqb, le-ltb}
@@ -15,10 +15,9 @@ use Rattle.span_geometry.specs.declared.SpanGeometry.{SpanGeometry}
 use Rattle.span_geometry.specs.Shapes.{Sound}
 use Rattle.grid_steps.specs.Walk.{gridOf}
 use Rattle.grid_steps.specs.Inner.{Nearby, Inside, Stepping}
-use Rattle.grid_steps.proofs.StepTests.{cells-in, step-inside, walkable-at}
-use Rattle.cut_steps.specs.CutSteps.{isCutOnward, isSet}
+use Rattle.grid_steps.proofs.StepTests.{step-inside, walkable-at}
+use Rattle.cut_steps.specs.CutSteps.{isCutOnward}
 use Rattle.cut_steps.specs.Cell.{CellAsked, OnwardAsked, CutDirections, Uncut, Far, onwardMask}
-use Rattle.cut_steps.specs.Marking.{DirectionAsked}
 use Rattle.cut_steps.proofs.Onward.{blocked, no-step, clear-of, no-south, no-bits, mask-bits, mask-small}
 
 -- ---- one direction
@@ -87,18 +86,3 @@ pub east-directions : (w h : ℕ) (cells : List ℕ) (s : Segment) (x y : ℕ) �
 east-directions w h cells s x y n u =
     let none = no-south (gridOf w h cells) s (at x y) n in
     four-directions w h cells s x y (clear-of (gridOf w h cells) s (at x y) (at 2 1) u) (none 0) (none 1) (none 2) refl
-
--- ---- both cells of a step
-
-pub record BothCells (w h : ℕ) (masks : List ℕ) (x y dx dy : ℕ) : Type 0 where
-  pub inside : Inside w h x y dx dy
-  pub small : h * w ≤ 1048576
-  pub near : y * w + x < h * w
-  pub far : (y + dy - 1) * w + (x + dx - 1) < h * w
-  pub long : h * w ≤ length masks
-
-pub both-cells : {w h : ℕ} {masks : List ℕ} {directions x y dx dy : ℕ} → DirectionAsked w h masks directions x y dx dy → isSet directions (dy * 3 + dx) ≡ true → BothCells w h masks x y dx dy
-both-cells {w} {h} {masks} {directions} {x} {y} {dx} {dy} A e =
-    let i = A .inside e in
-    let c = cells-in w h x y dx dy (A .nearby) i in
-    record { inside = i; small = c .small; near = digits-lt (A .nearby .inY) (A .nearby .inX); far = c .far; long = A .masksLong }

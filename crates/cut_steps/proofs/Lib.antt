@@ -11,3 +11,4 @@ mod Walking
 pub mod Across
 pub mod SpanParts
 pub mod Spans
+pub mod Shown

@@ -96,11 +96,34 @@ module _ (t : Strip) (from to : ℕ) (I : Inside t from to) (some : from < to) w
   pub from-some : 1 ≤ from
   from-some = omega (arith, I from (omega arith) some)
 
-  pub between-of : (k : ℕ) → from ≤ k + 1 → k ≤ to → Between t k
+  between-of : (k : ℕ) → from ≤ k + 1 → k ≤ to → Between t k
   between-of k a b =
       let p = I from (omega arith) some in
       let q = I (to - 1) (omega arith) (omega arith) in
       record { from = omega (arith, p .0); to = omega (arith, q .1) }
+
+  -- the one before the first, the first, each of them, and the one behind it
+  pub between-before : Between t (from - 1)
+  between-before = between-of (from - 1) (omega arith) (omega arith)
+
+  pub between-first : Between t (from - 1 + 1)
+  between-first = between-of (from - 1 + 1) (omega arith) (omega (arith, from-some))
+
+  pub between-at : {k : ℕ} → from ≤ k → k < to → Between t k
+  between-at {k} a b = between-of k (omega arith) (omega arith)
+
+  pub between-after : {k : ℕ} → from ≤ k → k < to → Between t (k + 1)
+  between-after {k} a b = between-of (k + 1) (omega arith) (omega arith)
+
+-- the number behind k, or before it, and a bound
+pub one-more : {a k : ℕ} → a ≤ k → a ≤ k + 1
+one-more h = omega arith
+
+pub one-behind : {k b : ℕ} → k < b → k + 1 ≤ b
+one-behind h = omega arith
+
+pub one-before : {k n : ℕ} → k < n → k - 1 < n
+one-before h = omega arith
 
 pub gentle-of : (g : Segment) {t : Strip} → t ≡ stripOf g → g .a .x ≤ g .b .x → Gentle t
 gentle-of g e o = subst⁻¹ Gentle e (strip-gentle g o)

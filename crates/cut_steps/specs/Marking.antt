@@ -1,31 +1,19 @@
--- The words of the contracts of the functions that mark cut steps. Definitions only; assumes nothing.
-use Prim.Native.Nat.{ℕ, _+_, _-_, _*_, _/_, _≤_, _<_}
+-- The words of the contracts of the functions that mark cut steps, and of those that ask the marks. Definitions only; assumes nothing.
+use Prim.Native.Nat.{ℕ, _+_, _*_, _/_, _≤_, _<_}
 use mathlib.Core.Path.{_≡_}
-use mathlib.Core.Bool.{true}
-use mathlib.Core.List.{List, _++_}
+use mathlib.Core.Bool.{true, _||_}
+use mathlib.Core.List.{List}
 use lib.ListN.{length, getD, drop}
 use Rattle.definitions.specs.Limits.{maxSide, numbersPerSpan}
-use Rattle.definitions.specs.Grid.{Map, Position, at, Pair, toward}
+use Rattle.definitions.specs.Grid.{Map, Position, Pair, canonical, segmentAt, cellCount}
 use Rattle.definitions.specs.Refusals.{endpointsDiffer}
 use Rattle.span_geometry.specs.declared.SpanGeometry.{SpanGeometry}
 use Rattle.span_geometry.specs.Shapes.{maxPixel, Sound, segmentOf}
-use Rattle.grid_steps.specs.Masks.{bitOf, withBit, Marks}
-use Rattle.grid_steps.specs.Inner.{Nearby, Inside}
+use Rattle.grid_steps.specs.Masks.{bitOf, cutBit, isOnward, isOnwardIn}
+use Rattle.grid_steps.specs.Walk.{gridOf}
 use Rattle.grid_steps.specs.Contract.{CutMap}
-use Rattle.cut_steps.specs.CutSteps.{isSet}
+use Rattle.cut_steps.specs.CutSteps.{cutSpan}
 use Rattle.cut_steps.specs.Contract.{SpanMap}
-
--- ---- one direction of one cell
-
--- the masks with both bits of the step from p in direction d set
-abbrev pub bothBits : ℕ → List ℕ → Position → Position → List ℕ
-bothBits w masks p d = withBit (withBit masks (p .y * w + p .x) (bitOf d)) (toward p d .y * w + toward p d .x) (8 - bitOf d)
-
--- a direction of a position, which is in the grid where the direction's bit is set
-pub record DirectionAsked (w h : ℕ) (masks : List ℕ) (directions x y dx dy : ℕ) : Type 0 where
-  pub nearby : Nearby w h x y dx dy
-  pub inside : isSet directions (bitOf (at dx dy)) ≡ true → Inside w h x y dx dy
-  pub masksLong : h * w ≤ length masks
 
 -- ---- what is lent
 
@@ -52,14 +40,28 @@ pub record SpanAtAsked (spans : List ℕ) (i : ℕ) : Type 0 where
 
 -- ---- what is left of it
 
--- Masks `was` have become `masks`: whichever steps were marked, those and the added ones are. What stands beyond the grid is as it was.
+-- Masks `was` have become `masks`: a bit is set that was set, or that is of an added step, at its smaller cell. What stands beyond the grid is as it was.
 pub record Marked (M : Map) (was masks : List ℕ) (added : List Pair) : Type 0 where
-  pub marks : (E : List Pair) → Marks M was E → Marks M masks (E ++ added)
+  pub bits : (c : ℕ) (d : Position) → c < cellCount M → d .x ≤ 2 → d .y ≤ 2 → cutBit masks c (bitOf d) ≡ (cutBit was c (bitOf d) || isOnwardIn M added c d)
   pub long : length masks ≡ length was
   pub rest : drop (M .height * M .width) masks ≡ drop (M .height * M .width) was
 
--- of masks that were 0: they are as labelling asks, of every map with these cells and spans
+-- ---- what masks show
+
+-- The masks have the bit of each step of E, at its smaller cell, and each bit of theirs is that of a step.
+pub record Shown (M : Map) (masks : List ℕ) (E : List Pair) : Type 0 where
+  pub long : cellCount M ≤ length masks
+  pub steps : (c : ℕ) (d : Position) → c < cellCount M → d .x ≤ 2 → d .y ≤ 2 → cutBit masks c (bitOf d) ≡ true → isOnward M c d ≡ true
+  pub bits : (c : ℕ) (d : Position) → c < cellCount M → d .x ≤ 2 → d .y ≤ 2 → isOnwardIn M E c d ≡ true → cutBit masks c (bitOf d) ≡ true
+
+-- the cut steps of each span of a list
+abbrev pub SpansShown : (w h : ℕ) (cells spans masks : List ℕ) → Type 0
+SpansShown w h cells spans masks =
+    (i : ℕ) → i < length spans / numbersPerSpan → Shown (gridOf w h cells) masks (cutSpan (gridOf w h cells) (canonical (segmentAt spans (numbersPerSpan * i))))
+
+-- of masks that were 0: they are as labelling and the assessment ask, of every map with these cells and spans
 pub record SpansMarked (w h : ℕ) (cells spans was masks : List ℕ) : Type 0 where
   pub maps : (M : Map) → SpanMap w h cells spans M → CutMap w h cells masks M
+  pub shown : SpansShown w h cells spans masks
   pub long : length masks ≡ length was
   pub rest : drop (h * w) masks ≡ drop (h * w) was

@@ -4,9 +4,7 @@ pub mod cell;
 use cell::crossed_directions;
 use cell::cut_directions;
 use cell::is_near;
-use cell::is_set;
 use cell::side_changes;
-use grid_steps::mark;
 use line_crossings::first_place;
 use line_crossings::next_place;
 use line_crossings::tie_of;
@@ -23,14 +21,13 @@ ghost use Rattle.definitions.specs.Limits.{maxSide, numbersPerSpan};
 ghost use Rattle.definitions.specs.Grid.{at, segmentAt};
 ghost use Rattle.span_geometry.specs.Shapes.{Made, segmentOf};
 ghost use Rattle.span_geometry.specs.Strips.{Usable};
-ghost use Rattle.grid_steps.specs.Masks.{bitOf};
 ghost use Rattle.grid_steps.specs.Walk.{gridOf};
-ghost use Rattle.cut_steps.specs.CutSteps.{cutFrom, cutSpan, isSet};
+ghost use Rattle.cut_steps.specs.CutSteps.{cutFrom, cutSpan};
 ghost use Rattle.cut_steps.specs.Contract.{Checked};
 ghost use Rattle.cut_steps.specs.Columns.{ColumnAsked, cutColumn};
 ghost use Rattle.cut_steps.specs.Cell.{CutDirections};
 ghost use Rattle.cut_steps.specs.Crossed.{CrossedAt, cutTwoBack, FollowsIn, ColumnsAsked, BetweenAsked, cutColumns, Parted, EndsPart, PartAsked};
-ghost use Rattle.cut_steps.specs.Marking.{DirectionAsked, MarkAsked, SpanAsked, SpanAtAsked, Marked, SpansMarked, bothBits};
+ghost use Rattle.cut_steps.specs.Marking.{MarkAsked, SpanAsked, SpanAtAsked, Marked, SpansMarked};
 
 pub const NUMBERS_PER_SPAN: usize = 4;
 
@@ -40,31 +37,7 @@ const ENDS_AFTER: u64 = 11;
 
 const BEGINS_BEFORE: u64 = 4;
 
-// Sets both bits of the step in a direction, where the directions have it.
-fn mark_direction(
-    width: usize,
-    height: usize,
-    masks: &mut [u16],
-    directions: u16,
-    x: usize,
-    y: usize,
-    dx: usize,
-    dy: usize,
-)
-    requires { ⌜ DirectionAsked width height (now masks) directions x y dx dy ⌝ }
-    ensures { λ r. ⌜ now (masks .exit) ≡ cond (isSet directions (bitOf (at dx dy))) (bothBits width (now (masks .entry)) (at x y) (at dx dy))
-        (now (masks .entry)) ⌝ }
-{
-    let k = dy * 3 + dx;
-    if is_set(directions, k) {
-        let from = y * width + x;
-        let to = (y + dy - 1) * width + (x + dx - 1);
-        mark(masks, from, k);
-        mark(masks, to, 8 - k);
-    }
-}
-
-// The cut steps of a cell whose cut directions are given.
+// The cut steps of a cell whose cut directions are given: each has its bit at this cell, the smaller of its two.
 fn mark_directions(
     width: usize,
     height: usize,
@@ -80,13 +53,8 @@ fn mark_directions(
     ensures { λ r. ⌜ Marked (gridOf width height (now (cells .entry))) (now (masks .entry))
         (now (masks .exit)) (cutFrom (gridOf width height (now (cells .entry))) (segmentOf g) (at x y)) ⌝ }
 {
-    if directions == 0 {
-        return;
-    }
-    mark_direction(width, height, masks, directions, x, y, 2, 1);
-    mark_direction(width, height, masks, directions, x, y, 1, 2);
-    mark_direction(width, height, masks, directions, x, y, 0, 2);
-    mark_direction(width, height, masks, directions, x, y, 2, 2);
+    let c = y * width + x;
+    masks[c] = masks[c] | directions;
 }
 
 // The cut steps of one cell. Most cells have none.

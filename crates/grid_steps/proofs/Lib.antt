@@ -5,3 +5,4 @@ pub mod OpenSteps
 pub mod StepTests
 pub mod Bits
 pub mod MarkStep
+pub mod OnwardMasks

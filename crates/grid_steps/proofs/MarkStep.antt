@@ -1,9 +1,8 @@
--- Setting the two bits of a step adds exactly that step to the steps that the masks say are cut (`mark-adds`), and masks of zeros say that none is
+-- Setting the two bits of a step, as the Rust does, adds exactly that step to the steps that the masks say are cut (`mark-adds`), and masks of zeros say that none is
 -- (`marks-none`): a loop that marks every cut step both ways ends with masks that say which steps are cut. A step is known by either of its cells with the direction from
 -- there, since a cell reaches another in one direction only, and a direction is known by its bit. Assumes nothing.
-use Prim.Native.Nat.{ℕ, _-_, _/_, _%_, _^_, _≤_, _<_, min, max}
+use Prim.Native.Nat.{ℕ, _-_, _≤_, _<_, min, max}
 use native.Mathlib.Omega.{arith}
-use native.Mathlib.Nat.{zero-div}
 use mathlib.Core.Path.{_≡_, refl, sym, ap, ap₂, _∙_}
 use mathlib.Core.Bool.{Bool, true, false, _&&_, _||_, or-false, or-assoc}
 use mathlib.Core.Logic.{_⊎_, ⊎-elim}
@@ -17,7 +16,7 @@ use Rattle.laws.specs.ListLaws.Tests.{both, or-split, or-right, same-test}
 use Rattle.laws.specs.ListLaws.Lists.{any-append}
 use Rattle.grid_steps.specs.Masks.{bitOf, opposite, cutBit, withBit, reached, stepPair, Marks}
 use Rattle.grid_steps.proofs.Square.{Four, four, Across, across}
-use Rattle.grid_steps.proofs.Bits.{withBit-length, mark-bit}
+use Rattle.grid_steps.proofs.Bits.{withBit-length, mark-bit, no-bit}
 
 -- ---- tests by `||` and `&&`
 
@@ -36,7 +35,7 @@ pub bit-opposite : (d : Position) → d .x ≤ 2 → d .y ≤ 2 → bitOf (oppos
 bit-opposite d h k = omega arith
 
 module _ (M : Map) where
-  one-direction : (c : ℕ) (d j : Position) → isStep M (positionOf M c) d ≡ true → isStep M (positionOf M c) j ≡ true → reached M c d ≡ reached M c j → d ≡ j
+  pub one-direction : (c : ℕ) (d j : Position) → isStep M (positionOf M c) d ≡ true → isStep M (positionOf M c) j ≡ true → reached M c d ≡ reached M c j → d ≡ j
   one-direction c d j s t e = ap₂ at (omega (arith, ap (λ p. p .x) same, f .right, g .right)) (omega (arith, ap (λ p. p .y) same, f .down, g .down))
     where
       f : Four M (positionOf M c) d
@@ -120,11 +119,8 @@ bit-below d h k = omega arith
 
 -- where every mask is 0
 pub marks-none : (M : Map) (masks : List ℕ) → ((c : ℕ) → c < cellCount M → getD masks c 0 ≡ 0) → Marks M masks []
-unfolding cutBit any
-marks-none M masks z c d h s = ap (λ m. eqb (m / 2 ^ bitOf d % 2) 1) (z c h) ∙ zero-bit
-  where
-    zero-bit : eqb (0 / 2 ^ bitOf d % 2) 1 ≡ false
-    zero-bit = ap (λ m. eqb (m % 2) 1) (zero-div (2 ^ bitOf d))
+unfolding any
+marks-none M masks z c d h s = no-bit masks c (bitOf d) (z c h)
 
 -- one step more
 pub mark-adds : (M : Map) (masks : List ℕ) (E : List Pair) → cellCount M ≤ length masks → Marks M masks E → (a : ℕ) (j : Position) → a < cellCount M → isStep M (positionOf M a) j ≡ true → a < reached M a j → Marks M (withBit (withBit masks a (bitOf j)) (reached M a j) (8 - bitOf j)) (E ++ (record { lo = a; hi = reached M a j } ∷ []))

@@ -4,11 +4,11 @@ use mathlib.Core.Path.{_≡_}
 use mathlib.Core.List.{List}
 use Rattle.definitions.specs.Grid.{Map}
 use Rattle.definitions.specs.Partition.{cutAll}
-use Rattle.grid_steps.specs.Masks.{Marks}
+use Rattle.grid_steps.specs.Masks.{OnwardBits}
 
--- M has these sides and cells, and the masks say which steps its spans cut. (Nothing else of M matters to labels.)
+-- M has these sides and cells, and the masks have the steps that its spans cut, each at its smaller cell. (Nothing else of M matters to labels.)
 pub record CutMap (w h : ℕ) (bytes masks : List ℕ) (M : Map) : Type 0 where
   pub width : M .width ≡ w
   pub height : M .height ≡ h
   pub cells : M .cells ≡ bytes
-  pub marks : Marks M masks (cutAll M)
+  pub bits : OnwardBits M masks (cutAll M)

@@ -1,10 +1,10 @@
-// Steps of the grid, those of `neighbors` of lib.rs, and the masks of those that are cut, as areas.rs has them.
+// Steps of the grid, those of `neighbors` of lib.rs, and the bits of masks of cut steps, numbered as by `edge_bit` of areas.rs.
 ghost use mathlib.Core.Path.{_≡_};
 ghost use mathlib.Core.Bool.{true};
 ghost use Prim.Native.Nat.{_≤_, _<_};
 ghost use lib.ListN.{length};
 ghost use Rattle.definitions.specs.Grid.{at, isStep};
-ghost use Rattle.grid_steps.specs.Masks.{cutBit, withBit};
+ghost use Rattle.grid_steps.specs.Masks.{cutBit};
 ghost use Rattle.grid_steps.specs.Walk.{gridOf, directionAt};
 ghost use Rattle.grid_steps.specs.Inner.{placed, Nearby, Inner, Inside, Says, Stepping};
 
@@ -99,13 +99,4 @@ pub fn is_cut(masks: &[u16], c: usize, k: usize) -> bool
     ensures { λ r. ⌜ r ≡ cutBit (now (masks .entry)) c k ⌝ }
 {
     (masks[c] >> k) % 2 == 1
-}
-
-// Sets bit k of cell c's mask.
-pub fn mark(masks: &mut [u16], c: usize, k: usize)
-    requires masks_room { ⌜ c < length (now masks) ⌝ }
-    requires k_within { ⌜ k < 9 ⌝ }
-    ensures { λ r. ⌜ now (masks .exit) ≡ withBit (now (masks .entry)) c k ⌝ }
-{
-    masks[c] = masks[c] | (1 << k);
 }

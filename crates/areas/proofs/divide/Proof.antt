@@ -1,4 +1,4 @@
--- `areas::divide` meets its contract: labels, cleared masks and queue, and assessed spans, put together in Dividing. Assumes nothing.
+-- `areas::divide` meets its contract: labels, assessed spans, and cleared masks and queue, put together in Dividing. Assumes nothing.
 use Rattle.areas.proofs.Dividing.{assess-asked, divided-whole, divided-short}
 use borrow.Author.Needs.{needs}
 use Rattle.areas.proofs.divide.Statement.{statement}
@@ -10,36 +10,41 @@ mul-needed c = search needs
 label-regions-requires : tie.Need-label-regions-requires
 label-regions-requires c κs = search needs
 
-clear-masks-requires : tie.Need-clear-masks-requires
-clear-masks-requires c κs = search needs
-
 clear-numbers-requires : tie.Need-clear-numbers-requires
 clear-numbers-requires c κs = search needs
 
--- the state at `queue`, from the state at `queue2`
-abbrev to-queue : tie.After-queue2 → tie.After-queue
-to-queue c =
-    let at-clear-numbers-arg = c .before .before in
-    let at-clear-masks = at-clear-numbers-arg .before .before .before in
-    at-clear-masks .before .before .before
+-- the calls, each from the next one, and the function's entry
+abbrev at-assessed : tie.After-clear-masks → tie.After-assess-spans
+at-assessed c =
+    let at-pairs = c .before .before .before in
+    at-pairs .before .before .before
 
--- the function's entry, from the state at `label-regions-arg2`
-abbrev to-entry : tie.After-label-regions-arg2 → tie.Start
-to-entry c =
-    let at-slice-known4 = c .before .before .before in
-    let at-slice-known = at-slice-known4 .before .before .before in
-    at-slice-known .before .before .before
+abbrev at-cleared : tie.After-assess-spans-arg4 → tie.After-clear-numbers
+at-cleared c =
+    let at-arg = c .before .before .before in
+    at-arg .before .before .before
+
+abbrev at-labels : tie.After-clear-numbers → tie.After-label-regions
+at-labels c =
+    let at-queue = c .before .before .before in
+    let at-masks = at-queue .before .before in
+    at-masks .before .before .before
+
+abbrev entry : tie.After-label-regions → tie.Start
+entry c =
+    let at-arg = c .before .before .before in
+    let at-slice-known3 = at-arg .before .before .before in
+    let at-shared-slice-known2 = at-slice-known3 .before .before .before in
+    at-shared-slice-known2 .before .before
 
 assess-spans-requires : tie.Need-assess-spans-requires
 assess-spans-requires c κs =
-    let at-assess-spans-arg2 = c .before in
-    let at-queue2 = at-assess-spans-arg2 .before .before .before in
-    let at-queue = to-queue at-queue2 in
-    let at-masks = at-queue .before .before in
-    let at-label-regions = at-masks .before .before .before in
-    let at-label-regions-arg2 = at-label-regions .before .before in
-    let entry = to-entry at-label-regions-arg2 in
-    (entry .pre .checked, assess-asked (entry .pre) (at-label-regions .label-regions .kept .1 .1 .1 .1 .0))
+    let l = at-labels (at-cleared c) in
+    let s = entry l in
+    (s .pre .checked, assess-asked (s .pre) (l .label-regions .ensures .shown) (l .label-regions .kept .1 .1 .1 .1 .0))
+
+clear-masks-requires : tie.Need-clear-masks-requires
+clear-masks-requires c κs = search needs
 
 enum-told : tie.Need-enum-told
 enum-told c = search needs
@@ -67,16 +72,11 @@ same-length-5 c = search needs
 
 returns : tie.Need-returns
 returns c =
-    let at-pairs = c .before .before .before in
-    let at-assess-spans = at-pairs .before .before .before in
-    let at-assess-spans-arg = at-assess-spans .before .before .before in
-    let at-clear-numbers = at-assess-spans-arg .before .before .before in
-    let at-masks2 = at-clear-numbers .before .before .before in
-    let at-clear-masks = at-masks2 .before in
-    let at-queue = at-clear-masks .before .before .before in
-    let at-masks = at-queue .before .before in
-    let at-label-regions = at-masks .before .before .before in
-    divided-whole _ _ _ _ _ _ _ _ _ (at-label-regions .label-regions .ensures) (at-clear-masks .clear-masks .ensures) (at-clear-numbers .clear-numbers .ensures) (at-assess-spans .assess-spans .ensures) (c .enum-told .given .1)
+    let at-masks2 = c .before .before .before in
+    let m = at-masks2 .before in
+    let a = at-assessed m in
+    let q = at-cleared (a .before) in
+    divided-whole _ _ _ _ _ _ _ _ _ (at-labels q .label-regions .ensures) (m .clear-masks .ensures) (q .clear-numbers .ensures) (a .assess-spans .ensures) (c .enum-told .given .1)
 
 same-length-6 : tie.Need-same-length-6
 same-length-6 c = search needs
@@ -95,18 +95,13 @@ same-length-10 c = search needs
 
 returns-2 : tie.Need-returns-2
 returns-2 c =
-    let at-pairs2 = c .before in
-    let at-enum-told2 = at-pairs2 .before .before .before in
-    let at-pairs = at-enum-told2 .before .before .before in
-    let at-assess-spans = at-pairs .before .before .before in
-    let at-assess-spans-arg = at-assess-spans .before .before .before in
-    let at-clear-numbers = at-assess-spans-arg .before .before .before in
-    let at-masks2 = at-clear-numbers .before .before .before in
-    let at-clear-masks = at-masks2 .before in
-    let at-queue = at-clear-masks .before .before .before in
-    let at-masks = at-queue .before .before in
-    let at-label-regions = at-masks .before .before .before in
-    divided-short _ _ _ _ _ _ _ _ _ (at-label-regions .label-regions .ensures) (at-clear-masks .clear-masks .ensures) (at-clear-numbers .clear-numbers .ensures) (at-assess-spans .assess-spans .ensures) (at-enum-told2 .enum-told2 .given .1) (c .before .before .clear-numbers2 .ensures)
+    let n = c .before .before in
+    let told = n .before .before in
+    let at-masks2 = told .before .before .before in
+    let m = at-masks2 .before in
+    let a = at-assessed m in
+    let q = at-cleared (a .before) in
+    divided-short _ _ _ _ _ _ _ _ _ (at-labels q .label-regions .ensures) (m .clear-masks .ensures) (q .clear-numbers .ensures) (a .assess-spans .ensures) (told .enum-told2 .given .1) (n .clear-numbers2 .ensures)
 
 pub divide-spec : {M : Type 1} → statement M
 divide-spec =
@@ -114,9 +109,9 @@ divide-spec =
     (tie.spec
     mul-needed
     label-regions-requires
-    clear-masks-requires
     clear-numbers-requires
     assess-spans-requires
+    clear-masks-requires
     enum-told
     enum-told-2
     clear-numbers-requires-2

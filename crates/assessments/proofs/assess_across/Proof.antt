@@ -1,17 +1,22 @@
--- `assessments::assess_across` meets its contract: without a change of sides, or where there is no such cell, there is nothing to assess, and else `crossed_directions` says
--- which of its steps are cut. Assumes nothing.
+-- `assessments::assess_across` meets its contract: without a change of sides, or where there is no such cell, there is nothing to assess, and else its mask says which of its
+-- changes are of steps (`shown-directions`). Assumes nothing.
 use Prim.Native.Nat.{_-_, _≤_, _<_}
 use native.Mathlib.Omega.{arith}
 use mathlib.Core.Path.{_≡_, sym}
 use mathlib.Core.Bool.{true, _&&_}
+use lib.Arith.{digits-lt}
 use lib.Dec.{leb, ltb}
 use borrow.Author.Needs.{needs}
 use borrow.Author.Tests.{not-true, not-false}
+use Rattle.definitions.specs.Grid.{at, cellCount}
 use Rattle.span_geometry.specs.Shapes.{segmentOf}
 use Rattle.span_geometry.specs.Candidates.{minorSide}
 use Rattle.grid_steps.specs.Walk.{gridOf}
+use Rattle.cut_steps.specs.CutSteps.{cutFrom}
 use Rattle.cut_steps.specs.Columns.{cell-in}
+use Rattle.cut_steps.specs.Crossed.{cutTwoBack}
 use Rattle.cut_steps.proofs.Across.{is-placed-as, placed, none-there, one-there, across-crossed, unchanged}
+use Rattle.cut_steps.proofs.Shown.{shown-as, shown-directions}
 use Rattle.assessments.proofs.Gathering.{assesses-none, assesses-same}
 use Rattle.assessments.proofs.Turns.{counting-most}
 use Rattle.assessments.proofs.assess_across.Statement.{statement}
@@ -20,7 +25,8 @@ use Rattle.assessments.proofs.assess_across.Tie as tie
 returns : tie.Need-returns
 returns c =
     let at-slice-known = c .before in
-    let s = at-slice-known .before .before .before in
+    let at-masks = at-slice-known .before .before in
+    let s = at-masks .before .before in
     let a = s .args in
     (counting-most (s .pre .1 .1) (omega arith), assesses-same (unchanged (a .width) (a .height) (a .cells .now) (segmentOf (a .g)) (a .strip) (a .k) (a .beyond) (s .pre .1 .0) (c .if1 .taken)) assesses-none)
 
@@ -34,7 +40,8 @@ is-placed-requires c κs = search needs
 abbrev entry : tie.After-is-placed → tie.Start
 entry c =
     let at-slice-known = c .before .before .before in
-    at-slice-known .before .before .before
+    let at-masks = at-slice-known .before .before in
+    at-masks .before .before
 
 returns-2 : tie.Need-returns-2
 returns-2 c =
@@ -74,34 +81,38 @@ inside c =
     let s = entry (e .before) in
     cell-in (s .args .strip .columns) (c .before .pick2 .ensures) (c .pick3 .ensures) (s .pre .0 .2 .column) (place e .1)
 
-crossed-directions-requires : tie.Need-crossed-directions-requires
-crossed-directions-requires c κs =
+-- its cut steps
+steps : (c : tie.After-pick3) → let a = entry (c .before .before .before) .args in let M = gridOf (a .width) (a .height) (a .cells .now) in cutFrom M (segmentOf (a .g)) (at (c .before .pick2 .result) (c .pick3 .result)) ≡ cutTwoBack M (segmentOf (a .g)) (a .strip) (a .k) (a .beyond)
+steps c =
     let e = c .before .before in
-    let s = entry (e .before) in
-    let a = s .args in
-    let p = s .pre .0 in
-    let i = inside c in (
-      record { narrow = p .0 .narrow; short = p .0 .short; cellsLong = p .0 .cellsLong; sound = p .1; inX = i .0; inY = i .1 },
-      across-crossed (segmentOf (a .g)) (a .strip) (a .k) (a .beyond) (s .pre .1 .0) (place e .0) (c .before .pick2 .ensures) (c .pick3 .ensures),
-    )
+    let a = entry (e .before) .args in
+    one-there (gridOf (a .width) (a .height) (a .cells .now)) (segmentOf (a .g)) (a .strip) (a .k) (a .beyond) (is-in e) (c .before .pick2 .ensures) (c .pick3 .ensures)
+
+marked-changes-requires : tie.Need-marked-changes-requires
+unfolding cellCount
+marked-changes-requires c κs =
+    let s = entry (c .before .before .before) in
+    omega (arith, digits-lt (inside c .1) (inside c .0), s .pre .0 .3 .long)
 
 assess-mask-requires : tie.Need-assess-mask-requires
 assess-mask-requires c κs =
     let d = c .before in
     let p = d .before in
-    let s = entry (p .before .before .before) in
-    ((s .pre .0 .0, inside p .0, inside p .1), (d .crossed-directions .ensures, s .pre .1 .1))
+    let e = p .before .before in
+    let s = entry (e .before) in
+    let a = s .args in
+    let i = inside p in
+    let crossed = across-crossed (segmentOf (a .g)) (a .strip) (a .k) (a .beyond) (s .pre .1 .0) (place e .0) (p .before .pick2 .ensures) (p .pick3 .ensures) in
+    ((s .pre .0 .0, i .0, i .1), (shown-directions (i .0) (i .1) crossed (shown-as (sym (steps p)) (s .pre .0 .3)) (d .marked-changes .ensures), s .pre .1 .1))
 
 same-length : tie.Need-same-length
-same-length c = search needs
+same-length c = c .before .before .assess-mask .kept .1 .1 .1 .1 .0
 
 returns-3 : tie.Need-returns-3
 returns-3 c =
     let m = c .before .before in
     let p = m .before .before .before in
-    let e = p .before .before in
-    let a = entry (e .before) .args in
-    (m .assess-mask .ensures .0, assesses-same (one-there (gridOf (a .width) (a .height) (a .cells .now)) (segmentOf (a .g)) (a .strip) (a .k) (a .beyond) (is-in e) (p .before .pick2 .ensures) (p .pick3 .ensures)) (m .assess-mask .ensures .1))
+    (m .assess-mask .ensures .0, assesses-same (steps p) (m .assess-mask .ensures .1))
 
 pub assess-across-spec : {M : Type 1} → statement M
 assess-across-spec =
@@ -115,7 +126,7 @@ assess-across-spec =
     pick-requires-2
     sub-pick-2
     pick-requires-3
-    crossed-directions-requires
+    marked-changes-requires
     assess-mask-requires
     same-length
     returns-3)

@@ -2,7 +2,6 @@
 -- Assumes nothing.
 use native.Mathlib.Omega.{arith}
 use mathlib.Core.Path.{refl}
-use borrow.Author.Needs.{needs}
 use borrow.Author.Tests.{not-true, not-false}
 use Rattle.cut_steps.specs.Cell.{CellAsked}
 use Rattle.assessments.proofs.Gathering.{assesses-none, assesses-same}
@@ -36,7 +35,7 @@ assess-mask-requires c κs =
     ((s .pre .0 .0, s .pre .0 .2, s .pre .0 .3), (d .cut-directions .ensures, s .pre .1))
 
 same-length : tie.Need-same-length
-same-length c = search needs
+same-length c = c .before .before .assess-mask .kept .1 .1 .1 .1 .0
 
 returns-2 : tie.Need-returns-2
 returns-2 c = c .before .before .assess-mask .ensures

@@ -82,7 +82,7 @@ loop-again : tie.Need-loop-again Inv-loop μ-loop
 loop-again c =
     let t = turn (cell c .before) in
     let a = entry (range t .before) .args in
-    walking-more (t .before .loop .inv) (t .loop-test .taken) (cell c .assess-cell .ensures .0) (search needs)
+    walking-more (t .before .loop .inv) (t .loop-test .taken) (cell c .assess-cell .ensures .0) (cell c .assess-cell .kept .1 .1 .1 .1 .0)
     (assesses-same (ap (cutFrom (gridOf (a .width) (a .height) (a .cells .now)) (segmentOf (a .g))) (cell-at (a .strip .columns) (a .k) (t .before .loop .m) (cell c .before .before .pick2 .ensures) (cell c .before .pick3 .ensures))) (cell c .assess-cell .ensures .1))
 
 same-length : tie.Need-same-length Inv-loop μ-loop

@@ -1,14 +1,17 @@
 -- `assessments::assess_crossing` meets its contract. The loop's invariant: the cut steps of the cells before j are assessed (`Passing`). Assumes nothing.
 use Prim.Native.Nat.{ℕ, _+_, _-_, _≤_}
 use native.Mathlib.Omega.{arith}
-use mathlib.Core.Path.{refl, _∙_}
-use borrow.Author.Needs.{needs}
+use mathlib.Core.Path.{_≡_, refl, sym, _∙_}
+use Rattle.definitions.specs.Scan.{concatMap}
 use Rattle.span_geometry.specs.Shapes.{segmentOf}
 use Rattle.line_crossings.proofs.Moving.{small}
 use Rattle.grid_steps.specs.Walk.{gridOf}
+use Rattle.cut_steps.specs.Prefixes.{upTo}
+use Rattle.cut_steps.specs.Columns.{cutColumn}
 use Rattle.cut_steps.specs.Crossed.{cutTwoBack}
 use Rattle.cut_steps.proofs.Trimmed.{four-passed}
 use Rattle.cut_steps.proofs.Across.{tie-few, crossing-at, column-crossed}
+use Rattle.cut_steps.proofs.Shown.{shown-as, shown-at}
 use Rattle.assessments.specs.Assess.{maxCellEdges}
 use Rattle.assessments.proofs.Gathering.{assesses-same}
 use Rattle.assessments.proofs.Turns.{counting-most}
@@ -17,11 +20,11 @@ use Rattle.assessments.proofs.assess_crossing.Statement.{statement}
 use Rattle.assessments.proofs.assess_crossing.Tie as tie
 
 abbrev Inv-loop : tie.InvT-loop
-Inv-loop width height cells labels pairs₀ g strip span first k before here after columns back ahead a₀ j₀ pairs a j =
+Inv-loop width height cells masks labels pairs₀ g strip span first k before here after columns back ahead a₀ j₀ pairs a j =
     (j ≤ 4) × Passing labels span first (cutTwoBack (gridOf width height cells) (segmentOf g) strip k) maxCellEdges here (here + 4) a₀ pairs₀ a pairs (here + j)
 
 abbrev μ-loop : tie.MeasureT-loop
-μ-loop width height cells labels pairs₀ g strip span first k before here after columns back ahead a₀ j₀ pairs a j = 4 - j
+μ-loop width height cells masks labels pairs₀ g strip span first k before here after columns back ahead a₀ j₀ pairs a j = 4 - j
 
 -- the first places are small numbers, and near each other
 record Sizes (before here after : ℕ) : Type 0 where
@@ -45,10 +48,19 @@ sizes s =
 
 -- the function's entry, before the loop and from the loop on
 abbrev start : tie.After-slice-known Inv-loop μ-loop → tie.Start Inv-loop μ-loop
-start c = c .before .before .before
+start c =
+    let at-masks = c .before .before in
+    at-masks .before .before
 
 abbrev entry : tie.At-loop Inv-loop μ-loop → tie.Start Inv-loop μ-loop
 entry c = start (c .before)
+
+-- the four cells are all of the column, or row
+joined : (s : tie.Start Inv-loop μ-loop) → let a = s .args in let M = gridOf (a .width) (a .height) (a .cells .now) in concatMap (cutTwoBack M (segmentOf (a .g)) (a .strip) (a .k)) (upTo (a .here) (a .here + 4)) ≡ cutColumn M (segmentOf (a .g)) (a .strip) (a .k)
+joined s =
+    let a = s .args in
+    let M = gridOf (a .width) (a .height) (a .cells .now) in
+    four-passed (cutTwoBack M (segmentOf (a .g)) (a .strip) (a .k)) (a .here) ∙ column-crossed (a .width) (a .height) (a .cells .now) (segmentOf (a .g)) (s .pre .0 .2) (s .pre .1 .0)
 
 add-back : tie.Need-add-back Inv-loop μ-loop
 add-back c = omega (arith, sizes (start c) .before-small)
@@ -83,7 +95,7 @@ assess-across-requires c κs =
     let s = entry h in
     let P = h .loop .inv .1 in
     let C = P .turns .counting in
-    (s .pre .0, (crossing-at (s .pre .1 .0) (h .loop .j) refl (c .side-changes .ensures), counting-most C (cell-room (s .args .here) (h .loop .j) (t .loop-test .taken) (s .pre .1 .1 .few) (C .few))))
+    ((s .pre .0 .0, s .pre .0 .1, s .pre .0 .2, shown-at (cutTwoBack (gridOf (s .args .width) (s .args .height) (s .args .cells .now)) (segmentOf (s .args .g)) (s .args .strip) (s .args .k)) (shown-as (sym (joined s)) (s .pre .0 .3)) {k = s .args .here + h .loop .j} (omega arith) (omega (arith, t .loop-test .taken))), (crossing-at (s .pre .1 .0) (h .loop .j) refl (c .side-changes .ensures), counting-most C (cell-room (s .args .here) (h .loop .j) (t .loop-test .taken) (s .pre .1 .1 .few) (C .few))))
 
 -- the place of the call, and the turn's begin, from the turn's end
 abbrev across : tie.After-slice-known2 Inv-loop μ-loop → tie.After-assess-across Inv-loop μ-loop
@@ -102,7 +114,7 @@ loop-again : tie.Need-loop-again Inv-loop μ-loop
 loop-again c =
     let t = turn c in
     let P = t .before .loop .inv .1 in
-    (omega (arith, t .loop-test .taken), one-further (t .before .loop .j) (passing-more P (omega (arith, t .loop-test .taken)) (across c .assess-across .ensures .0) (search needs) (across c .assess-across .ensures .1)))
+    (omega (arith, t .loop-test .taken), one-further (t .before .loop .j) (passing-more P (omega (arith, t .loop-test .taken)) (across c .assess-across .ensures .0) (across c .assess-across .kept .1 .1 .1 .1 .1 .0) (across c .assess-across .ensures .1)))
 
 same-length : tie.Need-same-length Inv-loop μ-loop
 same-length c = c .before .loop .inv .1 .turns .long
@@ -114,7 +126,7 @@ returns c =
     let a = s .args in
     let T = passing-done (h .loop .inv .1) (omega (arith, c .loop-test .left)) in (
       counting-most (T .counting) (four-fit (a .here) (a .start .removed) (T .counting .few)),
-      assesses-same (four-passed (cutTwoBack (gridOf (a .width) (a .height) (a .cells .now)) (segmentOf (a .g)) (a .strip) (a .k)) (a .here) ∙ column-crossed (a .width) (a .height) (a .cells .now) (segmentOf (a .g)) (s .pre .0 .2) (s .pre .1 .0)) (T .assessed),
+      assesses-same (joined s) (T .assessed),
     )
 
 pub assess-crossing-spec : {M : Type 1} → statement M

@@ -77,7 +77,7 @@ assess-step-requires : tie.Need-assess-step-requires
 assess-step-requires c κs = ((omega (arith, near (c .before), entry (c .before) .pre .0 .3), omega (arith, far (c .before), entry (c .before) .pre .0 .3)), entry (c .before) .pre .1)
 
 same-length : tie.Need-same-length
-same-length c = search needs
+same-length c = c .before .before .assess-step .kept .1 .0
 
 returns-2 : tie.Need-returns-2
 unfolding stepIn

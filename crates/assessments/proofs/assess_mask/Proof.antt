@@ -1,6 +1,6 @@
 -- `assessments::assess_mask` meets its contract: the steps in four directions, one after the other, are those that the span cuts. Assumes nothing.
+use mathlib.Core.Path.{_∙_}
 use native.Mathlib.Omega.{arith}
-use borrow.Author.Needs.{needs}
 use Rattle.assessments.specs.Assess.{Leads}
 use Rattle.assessments.proofs.Gathering.{assesses-none, assesses-both, assesses-same}
 use Rattle.assessments.proofs.Directions.{steps-four, steps-none, leads-cut}
@@ -62,7 +62,11 @@ assess-direction-requires-4 c κs =
     ((leads s, omega arith, omega arith, s .pre .0 .0 .labelsLong), counting-most C (omega (arith, C .few, two .assess-direction2 .ensures .0 .few, one .assess-direction .ensures .0 .few, s .pre .1 .1 .few)))
 
 same-length : tie.Need-same-length
-same-length c = search needs
+same-length c =
+    let four = c .before .before in
+    let three = third (four .before) in
+    let two = second (three .before) in
+    four .assess-direction4 .kept .1 .1 .1 .0 ∙ three .assess-direction3 .kept .1 .1 .1 .0 ∙ two .assess-direction2 .kept .1 .1 .1 .0 ∙ first (two .before) .assess-direction .kept .1 .1 .1 .0
 
 returns-2 : tie.Need-returns-2
 returns-2 c =

@@ -14,7 +14,9 @@ use Rattle.assessments.proofs.assess_part.Tie as tie
 
 -- the function's entry, from its test
 abbrev entry : tie.After-slice-known → tie.Start
-entry c = c .before .before .before
+entry c =
+    let at-masks = c .before .before in
+    at-masks .before .before
 
 -- a part of one column, or row, has room for one
 single : {from to : ℕ} → from < to → to ≤ from + 1 → to - from ≡ 1
@@ -32,7 +34,7 @@ assess-column-requires c κs =
     ((p .0, p .1, column-asked (p .2) (le-refl (s .args .from)) (s .pre .1 .0 .some)), counting-most C (omega (arith, C .few, single (s .pre .1 .0 .some) (t .if1 .taken))))
 
 same-length : tie.Need-same-length
-same-length c = search needs
+same-length c = c .before .before .assess-column .kept .1 .1 .1 .1 .0
 
 returns : tie.Need-returns
 returns c =
@@ -52,10 +54,10 @@ assess-between-requires c κs =
     (s .pre .0, ((s .pre .1 .0 .between (t .if1 .left), s .pre .1 .0 .some), s .pre .1 .1))
 
 same-length-2 : tie.Need-same-length-2
-same-length-2 c = search needs
+same-length-2 c = c .before .before .assess-between .kept .1 .1 .1 .1 .1 .0
 
 returns-2 : tie.Need-returns-2
-returns-2 c = search needs
+returns-2 c = c .before .before .assess-between .ensures
 
 pub assess-part-spec : {M : Type 1} → statement M
 assess-part-spec =

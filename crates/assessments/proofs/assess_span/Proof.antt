@@ -1,11 +1,15 @@
 -- `assessments::assess_span` meets its contract. The loop's invariant: the cut steps of the parts before k are assessed (`Passing`). Assumes nothing.
 use Prim.Native.Nat.{_-_, _≤_, _<_}
+use mathlib.Core.Path.{_≡_, sym}
 use native.Mathlib.Omega.{arith}
 use borrow.Author.Needs.{needs}
 use Rattle.span_geometry.specs.Shapes.{segmentOf}
 use Rattle.grid_steps.specs.Walk.{gridOf}
+use Rattle.cut_steps.specs.CutSteps.{cutSpan}
 use Rattle.cut_steps.specs.Columns.{cutColumn, some-side, parts-joined}
+use Rattle.cut_steps.specs.Crossed.{cutColumns}
 use Rattle.cut_steps.proofs.SpanParts.{limit-small, columns-asked, part-within, part-asked}
+use Rattle.cut_steps.proofs.Shown.{shown-as, shown-part}
 use Rattle.assessments.specs.Assess.{maxLineEdges}
 use Rattle.assessments.proofs.Gathering.{assesses-same}
 use Rattle.assessments.proofs.Turns.{counting-most}
@@ -14,14 +18,17 @@ use Rattle.assessments.proofs.assess_span.Statement.{statement}
 use Rattle.assessments.proofs.assess_span.Tie as tie
 
 abbrev Inv-loop : tie.InvT-loop
-Inv-loop width height cells labels pairs₀ g span first strip parts a₀ k₀ pairs a k =
+Inv-loop width height cells masks labels pairs₀ g span first strip parts a₀ k₀ pairs a k =
     Passing labels span first (cutColumn (gridOf width height cells) (segmentOf g) strip) maxLineEdges (parts .first) (parts .end) a₀ pairs₀ a pairs k
 
 abbrev μ-loop : tie.MeasureT-loop
-μ-loop width height cells labels pairs₀ g span first strip parts a₀ k₀ pairs a k = parts .end - k
+μ-loop width height cells masks labels pairs₀ g span first strip parts a₀ k₀ pairs a k = parts .end - k
 
 new-requires : tie.Need-new-requires Inv-loop μ-loop
-new-requires c κs = (c .before .before .before .pre .0 .1, c .before .before .before .pre .0 .2)
+new-requires c κs =
+    let at-masks = c .before .before in
+    let p = at-masks .before .before .pre .0 in
+    (p .1, p .2)
 
 pick-requires : tie.Need-pick-requires Inv-loop μ-loop
 pick-requires c κs = search needs
@@ -29,8 +36,8 @@ pick-requires c κs = search needs
 -- the function's entry, from its first call on
 abbrev entry : tie.After-new Inv-loop μ-loop → tie.Start Inv-loop μ-loop
 entry c =
-    let at-slice-known = c .before in
-    at-slice-known .before .before .before
+    let at-labels = c .before .before in
+    at-labels .before .before .before
 
 parts-of-requires : tie.Need-parts-of-requires Inv-loop μ-loop
 parts-of-requires c κs =
@@ -44,6 +51,14 @@ few c =
     let n = c .before .before in
     let p = entry n .pre .0 .0 in
     parts-few (c .parts-of .ensures) (limit-small (n .new .result) (p .narrow) (p .short) (c .before .pick .ensures))
+
+-- they are all of the span
+joined : (c : tie.After-parts-of Inv-loop μ-loop) → let n = c .before .before in let a = entry n .args in let M = gridOf (a .width) (a .height) (a .cells .now) in cutColumns M (segmentOf (a .g)) (n .new .result) (c .parts-of .result .first) (c .parts-of .result .end) ≡ cutSpan M (segmentOf (a .g))
+joined c =
+    let n = c .before .before in
+    let s = entry n in
+    let a = s .args in
+    parts-joined (gridOf (a .width) (a .height) (a .cells .now)) (segmentOf (a .g)) (c .parts-of .result .first) (c .parts-of .result .end) (s .pre .0 .1 .ordered) (n .new .ensures .0) (c .before .pick .ensures) (c .parts-of .ensures .numbers)
 
 loop-holds : tie.Need-loop-holds Inv-loop μ-loop
 loop-holds c =
@@ -72,10 +87,16 @@ assess-part-requires c κs =
     let h = e .before .before .before in
     let r = h .before in
     let n = r .before .before in
+    let a = entry n .args in
     let p = entry n .pre .0 in
     let P = r .parts-of .ensures in
     let i = h .loop .inv in (
-      (p .0, p .1, columns-asked (n .new .ensures .1) (r .before .pick .ensures) (some-side (n .new .result .columns) (p .0 .tall) (p .0 .wide)) (P .below) (i .from-k) (within e .1)),
+      (
+        p .0,
+        p .1,
+        columns-asked (n .new .ensures .1) (r .before .pick .ensures) (some-side (n .new .result .columns) (p .0 .tall) (p .0 .wide)) (P .below) (i .from-k) (within e .1),
+        shown-part (cutColumn (gridOf (a .width) (a .height) (a .cells .now)) (segmentOf (a .g)) (n .new .result)) (shown-as (sym (joined r)) (p .3)) (i .from-k) (omega (arith, within e .0)) (within e .1),
+      ),
       (
         part-asked (n .new .ensures .0) P (e .part-end .ensures) (within e .0),
         counting-most (i .turns .counting) (part-room (i .from-k) (within e .0) (within e .1) (few r) (i .turns .counting .few)),
@@ -95,7 +116,7 @@ loop-again : tie.Need-loop-again Inv-loop μ-loop
 loop-again c =
     let e = assessed c .before .before in
     let h = e .before .before .before in
-    passing-further (h .loop .inv) (within e .0) (within e .1) (assessed c .assess-part .ensures .0) (search needs) (assessed c .assess-part .ensures .1)
+    passing-further (h .loop .inv) (within e .0) (within e .1) (assessed c .assess-part .ensures .0) (assessed c .assess-part .kept .1 .1 .1 .1 .1 .0) (assessed c .assess-part .ensures .1)
 
 same-length : tie.Need-same-length Inv-loop μ-loop
 same-length c = c .before .before .loop .inv .turns .long
@@ -104,13 +125,8 @@ returns : tie.Need-returns Inv-loop μ-loop
 returns c =
     let h = c .before .before in
     let r = h .before in
-    let n = r .before .before in
-    let s = entry n in
-    let a = s .args in
-    let T = passing-done (h .loop .inv) (c .if1 .left) in (
-      counting-most (T .counting) (all-room (r .parts-of .result .end - r .parts-of .result .first) (few r) (T .counting .few)),
-      assesses-same (parts-joined (gridOf (a .width) (a .height) (a .cells .now)) (segmentOf (a .g)) (r .parts-of .result .first) (r .parts-of .result .end) (s .pre .0 .1 .ordered) (n .new .ensures .0) (r .before .pick .ensures) (r .parts-of .ensures .numbers)) (T .assessed),
-    )
+    let T = passing-done (h .loop .inv) (c .if1 .left) in
+    (counting-most (T .counting) (all-room (r .parts-of .result .end - r .parts-of .result .first) (few r) (T .counting .few)), assesses-same (joined r) (T .assessed))
 
 pub assess-span-spec : {M : Type 1} → statement M
 assess-span-spec =

@@ -1,4 +1,5 @@
 -- `call_partition::divide` meets its contract: labels, scratch and assessed spans, put together in Preparing. Assumes nothing.
+use Rattle.areas.proofs.Dividing.{assess-asked}
 use Rattle.call_partition.proofs.Preparing.{refused-records, refused-pairs, all-ready}
 use native.Mathlib.Omega.{arith}
 use borrow.Author.Needs.{needs}
@@ -43,8 +44,22 @@ returns c =
     let at-label-regions = at-masks .before .before .before in
     ((λ pass boundaries anchors output e. refused-records pass _ _ _ _ boundaries anchors _ output _ _ _ _ _ e (at-label-regions .label-regions .ensures) (at-if1 .if1 .taken) (at-clear-scratch .clear-scratch .ensures .0) (at-clear-scratch .clear-scratch .ensures .1) (at-clear-numbers .clear-numbers .ensures)), omega arith)
 
+-- the function's entry, from its first call
+abbrev entry : tie.After-label-regions → tie.Start
+entry c =
+    let at-arg = c .before .before .before in
+    let at-slice-known3 = at-arg .before .before .before in
+    let at-shared-slice-known2 = at-slice-known3 .before .before .before in
+    at-shared-slice-known2 .before .before
+
 assess-spans-requires : tie.Need-assess-spans-requires
-assess-spans-requires c κs = search needs
+assess-spans-requires c κs =
+    let at-assess-spans-arg = c .before .before .before in
+    let at-slice-known8 = at-assess-spans-arg .before .before in
+    let at-masks = at-slice-known8 .before .before .before in
+    let at-label-regions = at-masks .before .before .before in
+    let start = entry at-label-regions in
+    (start .pre .checked, assess-asked (start .pre) (at-label-regions .label-regions .ensures .shown) (at-label-regions .label-regions .kept .1 .1 .1 .1 .0))
 
 enum-known-rows : tie.Need-enum-known-rows
 enum-known-rows c = search needs
@@ -78,7 +93,7 @@ returns-2 c =
     let at-rows = c .before in
     let at-pairs = at-rows .before .before .before in
     let at-assess-spans = at-pairs .before .before .before in
-    let at-assess-spans-arg2 = at-assess-spans .before .before in
+    let at-assess-spans-arg2 = at-assess-spans .before .before .before in
     let at-if1 = at-assess-spans-arg2 .before .before in
     let at-queue = at-if1 .before .before in
     let at-masks = at-queue .before .before in
@@ -108,7 +123,7 @@ returns-3 c =
     let at-enum-told = at-clear-scratch2 .before .before .before in
     let at-pairs = at-enum-told .before .before .before in
     let at-assess-spans = at-pairs .before .before .before in
-    let at-assess-spans-arg2 = at-assess-spans .before .before in
+    let at-assess-spans-arg2 = at-assess-spans .before .before .before in
     let at-if1 = at-assess-spans-arg2 .before .before in
     let at-queue = at-if1 .before .before in
     let at-masks = at-queue .before .before in

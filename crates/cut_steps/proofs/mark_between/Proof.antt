@@ -2,18 +2,18 @@
 -- first places past the line in the one before k and in k. Assumes nothing.
 use Prim.Native.Nat.{ℕ, _+_, _-_, _≤_}
 use native.Mathlib.Omega.{arith}
-use native.Mathlib.Nat.{le-refl}
+use native.Mathlib.Nat.{le-refl, le-of-lt}
 use mathlib.Core.Path.{subst⁻¹}
 use Rattle.span_geometry.specs.Shapes.{segmentOf}
 use Rattle.grid_steps.specs.Walk.{gridOf}
 use Rattle.span_geometry.specs.Strips.{Usable}
-use Rattle.line_crossings.specs.Crossings.{Between, Crossing, Gentle, Close}
+use Rattle.line_crossings.specs.Crossings.{Crossing, Gentle, Close}
 use Rattle.cut_steps.specs.Marking.{Marked}
 use Rattle.cut_steps.specs.Columns.{column-in}
 use Rattle.cut_steps.specs.Crossed.{cutColumns}
 use Rattle.cut_steps.proofs.Walking.{asked-again, columns-start, columns-more, columns-done}
 use Rattle.cut_steps.proofs.Across.{tie-few}
-use Rattle.cut_steps.proofs.SpanParts.{column-asked, from-some, between-of, gentle-of, next-from, now-before, follows-in}
+use Rattle.cut_steps.proofs.SpanParts.{column-asked, from-some, between-before, between-first, between-at, between-after, one-more, one-behind, one-before, gentle-of, next-from, now-before, follows-in}
 use Rattle.cut_steps.proofs.mark_between.Statement.{statement}
 use Rattle.cut_steps.proofs.mark_between.Tie as tie
 
@@ -41,10 +41,6 @@ line c =
     let s = entry c in
     (s .pre .0 .1 .usable, gentle-of (segmentOf (s .args .g)) (s .pre .1 .0 .strip) (s .pre .0 .0 .sound .ordered), subst⁻¹ (λ n. n ≤ 1) (c .tie-of .ensures) (tie-few (segmentOf (s .args .g))))
 
--- a column, or row, is between the ends
-between : (s : tie.Start Inv-loop μ-loop) (k : ℕ) → s .args .from ≤ k + 1 → k ≤ s .args .to → Between (s .args .strip) k
-between s = between-of (s .args .strip) (s .args .from) (s .args .to) (s .pre .1 .0 .inside) (s .pre .1 .1)
-
 sub-first-place : tie.Need-sub-first-place Inv-loop μ-loop
 sub-first-place c = some (entry c)
 
@@ -53,7 +49,7 @@ first-place-requires c κs =
     let s = entry c in
     let f = s .args .from in
     let column = column-in (s .pre .0 .0 .narrow) (s .pre .0 .0 .short) (column-asked (s .pre .0 .1) (le-refl f) (s .pre .1 .1)) in
-    (line c .0, between s (f - 1) (omega arith) (omega (arith, s .pre .1 .1)), line c .2, omega (arith, column))
+    (line c .0, between-before (s .args .strip) f (s .args .to) (s .pre .1 .0 .inside) (s .pre .1 .1), line c .2, one-before column)
 
 sub-next-place : tie.Need-sub-next-place Inv-loop μ-loop
 sub-next-place c = some (entry (c .before))
@@ -62,15 +58,16 @@ next-place-requires : tie.Need-next-place-requires Inv-loop μ-loop
 next-place-requires c κs =
     let t = c .before in
     let s = entry t in
-    let f = s .args .from in
-    (line t, (between s (f - 1) (omega arith) (omega (arith, s .pre .1 .1)), between s (f - 1 + 1) (omega arith) (omega (arith, s .pre .1 .1, some s)), c .first-place .ensures))
+    let a = s .args in
+    let i = s .pre .1 in
+    (line t, (between-before (a .strip) (a .from) (a .to) (i .0 .inside) (i .1), between-first (a .strip) (a .from) (a .to) (i .0 .inside) (i .1), c .first-place .ensures))
 
 loop-holds : tie.Need-loop-holds Inv-loop μ-loop
 loop-holds c =
     let p = c .before in
     let s = entry (p .before) in
     let a = s .args in
-    (omega arith, omega (arith, s .pre .1 .1), columns-start (gridOf (a .width) (a .height) (a .cells .now)) (segmentOf (a .g)) (a .strip) (a .from), p .first-place .ensures, next-from (some s) (c .next-place .ensures .0), c .next-place .ensures .1)
+    (le-refl (a .from), le-of-lt (s .pre .1 .1), columns-start (gridOf (a .width) (a .height) (a .cells .now)) (segmentOf (a .g)) (a .strip) (a .from), p .first-place .ensures, next-from (some s) (c .next-place .ensures .0), c .next-place .ensures .1)
 
 -- the call of `tie_of`, from the loop's head
 abbrev tied : tie.At-loop Inv-loop μ-loop → tie.After-tie-of Inv-loop μ-loop
@@ -82,8 +79,9 @@ next-place-requires-2 c κs =
     let i = h .loop .inv in
     let t = tied h in
     let s = entry t in
-    let k = h .loop .k in
-    (line t, (between s k (omega (arith, i .0)) (omega (arith, i .1)), between s (k + 1) (omega (arith, i .0)) (omega (arith, c .loop-test .taken)), i .4))
+    let a = s .args in
+    let p = s .pre .1 in
+    (line t, (between-at (a .strip) (a .from) (a .to) (p .0 .inside) (p .1) (i .0) (c .loop-test .taken), between-after (a .strip) (a .from) (a .to) (p .0 .inside) (p .1) (i .0) (c .loop-test .taken), i .4))
 
 mark-crossing-requires : tie.Need-mark-crossing-requires Inv-loop μ-loop
 mark-crossing-requires c κs =
@@ -120,7 +118,7 @@ loop-again c =
     let h = l .before in
     let i = h .loop .inv in
     let a = entry (tied h) .args in
-    (omega (arith, i .0), omega (arith, l .loop-test .taken), columns-more (gridOf (a .width) (a .height) (a .cells .now)) (segmentOf (a .g)) (a .strip) (a .from) (i .0) (i .2) (c .before .before .mark-crossing .ensures), now-before (i .4), n .next-place2 .ensures .0, n .next-place2 .ensures .1)
+    (one-more (i .0), one-behind (l .loop-test .taken), columns-more (gridOf (a .width) (a .height) (a .cells .now)) (segmentOf (a .g)) (a .strip) (a .from) (i .0) (i .2) (c .before .before .mark-crossing .ensures), now-before (i .4), n .next-place2 .ensures .0, n .next-place2 .ensures .1)
 
 same-length : tie.Need-same-length Inv-loop μ-loop
 same-length c = c .before .loop .inv .2 .long

@@ -59,7 +59,9 @@ same-length : tie.Need-same-length Inv-loop μ-loop
 same-length c = c .before .loop .inv .1 .long
 
 returns : tie.Need-returns Inv-loop μ-loop
-returns c = spans-done (entry (c .before) .pre .1 .1) (c .before .loop .i) (omega (arith, c .before .loop .inv .0, c .loop-test .left)) (c .before .loop .inv .1)
+returns c =
+    let p = entry (c .before) .pre .1 in
+    spans-done (entry (c .before) .args .spans .now) (p .0) (p .1) (c .before .loop .i) (c .before .loop .inv .1) (omega (arith, c .before .loop .inv .0, c .loop-test .left))
 
 pub mark-spans-spec : {M : Type 1} → statement M
 mark-spans-spec =
