@@ -21,7 +21,7 @@ use Rattle.grid_steps.specs.Masks.{bitOf}
 use Rattle.cut_steps.specs.CutSteps.{cutFrom, cutSpan}
 use Rattle.cut_steps.specs.Cell.{CutBits, Far}
 use Rattle.cut_steps.specs.Prefixes.{upTo, concat-map}
-use Rattle.cut_steps.specs.Extents.{Beyond, Covers, Narrows}
+use Rattle.cut_steps.specs.Extents.{Beyond, Covers, Narrows, lastReached, NearAxis}
 use Rattle.cut_steps.specs.Columns.{cutAcross, cutColumn, Near, columnsOf, columns-joined}
 use Rattle.cut_steps.proofs.Onward.{not-onward, clear-of, zero-bit}
 use Rattle.cut_steps.proofs.Marks.{no-cut}
@@ -34,12 +34,17 @@ beside : {l h a b m : ℕ} (n : ℕ) → l ≤ a → l ≤ b → a ≤ h → b �
 beside n i j k o (inl p) q r = inl (omega arith)
 beside n i j k o (inr p) q r = inr (omega arith)
 
-module _ (s : Segment) (p : Position) {l h : ℕ} where
-  far-x : l ≤ s .a .x → l ≤ s .b .x → s .a .x ≤ h → s .b .x ≤ h → Beyond l h (p .x) → Far s p
+beside-south : (h : ℕ) {l a b m : ℕ} (n : ℕ) → l ≤ a → l ≤ b → a ≤ h + 8 → b ≤ h + 8 → Beyond l h m → n ≤ m + 1 → m ≤ n → Apart a b (middleOf m) (middleOf n)
+beside-south h n i j k o (inl p) q r = inl (omega arith)
+beside-south h n i j k o (inr p) q r = inr (omega arith)
+
+module _ (s : Segment) (p : Position) {l : ℕ} where
+  far-x : {h : ℕ} → l ≤ s .a .x → l ≤ s .b .x → s .a .x ≤ h → s .b .x ≤ h → Beyond l h (p .x) → Far s p
   far-x i j k o b d dx dy c e f = cut-apart-x s p (toward p d) (beside (p .x + d .x - 1) i j k o b (omega arith) (omega arith))
 
-  far-y : l ≤ s .a .y → l ≤ s .b .y → s .a .y ≤ h → s .b .y ≤ h → Beyond l h (p .y) → Far s p
-  far-y i j k o b d dx dy c e f = cut-apart-y s p (toward p d) (beside (p .y + d .y - 1) i j k o b (omega arith) (omega arith))
+  -- steps to cells of larger number lead to no row before their own
+  far-y : (h : ℕ) → l ≤ s .a .y → l ≤ s .b .y → s .a .y ≤ h + 8 → s .b .y ≤ h + 8 → Beyond l h (p .y) → Far s p
+  far-y h i j k o b d dx dy c e f = cut-apart-y s p (toward p d) (beside-south h (p .y + d .y - 1) i j k o b (omega arith) (omega (arith, c, dx)))
 
 no-cut-far : (M : Map) (s : Segment) (p : Position) → Far s p → cutFrom M s p ≡ []
 no-cut-far M s p far = no-cut M s p bits
@@ -64,15 +69,15 @@ narrows least greatest all near e f =
 
 -- ---- the cells of a column, or row
 
--- the least and the greatest pixel of a segment across columns, or rows
+-- the least pixel of a segment across columns, or rows, and the last one for places behind it
 abbrev leastAcross : Bool → Segment → ℕ
 leastAcross v s = cond v (min (s .a .y) (s .b .y)) (min (s .a .x) (s .b .x))
 
 abbrev greatestAcross : Bool → Segment → ℕ
-greatestAcross v s = cond v (max (s .a .y) (s .b .y)) (max (s .a .x) (s .b .x))
+greatestAcross v s = cond v (max (s .a .y) (s .b .y) - 8) (max (s .a .x) (s .b .x))
 
 across-none : (M : Map) (s : Segment) (v : Bool) (k m : ℕ) → Beyond (leastAcross v s) (greatestAcross v s) m → cutAcross M s v k m ≡ []
-across-none M s true k m b = no-cut-far M s (at k m) (far-y s (at k m) (omega arith) (omega arith) (omega arith) (omega arith) b)
+across-none M s true k m b = no-cut-far M s (at k m) (far-y s (at k m) (max (s .a .y) (s .b .y) - 8) (omega arith) (omega arith) (omega arith) (omega arith) b)
 across-none M s false k m b = no-cut-far M s (at m k) (far-x s (at m k) (omega arith) (omega arith) (omega arith) (omega arith) b)
 
 pub near-of :
@@ -91,13 +96,19 @@ abbrev stripIn : Bool → Bool → Segment → Strip
 stripIn v u s =
     cond v (stripByColumns s) (record { columns = false; major0 = cond u (s .a) (s .b) .y; minor0 = cond u (s .a) (s .b) .x; major1 = cond u (s .b) (s .a) .y; minor1 = cond u (s .b) (s .a) .x })
 
-column-far : (s : Segment) → s .a .x ≤ s .b .x → (k m : ℕ) → Beyond (stripOf s .major0) (stripOf s .major1) k → Far s (cellOf (stripOf s) k m)
+column-far : (s : Segment) → s .a .x ≤ s .b .x → (k m : ℕ) → Beyond (stripOf s .major0) (lastReached (stripOf s)) k → Far s (cellOf (stripOf s) k m)
 column-far s o k m = go (byColumns s) (leb (s .a .y) (s .b .y)) (leb-true (s .a .y) (s .b .y)) (leb-false (s .a .y) (s .b .y))
   where
-    go : (v u : Bool) → (u ≡ true → s .a .y ≤ s .b .y) → (u ≡ false → s .b .y < s .a .y) → Beyond (stripIn v u s .major0) (stripIn v u s .major1) k → Far s (cellOf (stripIn v u s) k m)
+    go : (v u : Bool) → (u ≡ true → s .a .y ≤ s .b .y) → (u ≡ false → s .b .y < s .a .y) → Beyond (stripIn v u s .major0) (lastReached (stripIn v u s)) k → Far s (cellOf (stripIn v u s) k m)
     go true u c d b = far-x s (at k m) (omega arith) o o (omega arith) b
-    go false true c d b = let i = c refl in far-y s (at m k) (omega arith) i i (omega arith) b
-    go false false c d b = let i = d refl in far-y s (at m k) (omega (arith, i)) (omega arith) (omega arith) (omega (arith, i)) b
+    go false true c d b = let i = c refl in far-y s (at m k) (s .b .y - 8) (omega arith) i (omega (arith, i)) (omega arith) b
+    go false false c d b = let i = d refl in far-y s (at m k) (s .a .y - 8) (omega (arith, i)) (omega arith) (omega arith) (omega (arith, i)) b
+
+pub near-axis-of :
+    (t : Strip) (limit : ℕ) {all near : RangeInclusive} {greatest : ℕ} → Walks all (candidateAxisRange (t .major0) (t .major1) limit) limit → Narrows (t .major0) greatest all near
+    → greatest ≡ lastReached t → NearAxis t limit near
+near-axis-of t limit {all} {near} W N e =
+    record { below = omega (arith, N .below, W .inside); covers = λ f none. N .covers f (λ m b. none m (subst (λ g. Beyond (t .major0) g m) e b)) ∙ ap (concatMap f) (W .numbers) }
 
 -- nothing joined over any numbers
 concat-nothing : {A B : Type 0} (f : A → List B) (l : List A) → ((x : A) → f x ≡ []) → concatMap f l ≡ []
@@ -105,7 +116,7 @@ unfolding concatMap
 concat-nothing f [] h = refl
 concat-nothing f (x ∷ l) h = ap (λ r. r ++ concatMap f l) (h x) ∙ concat-nothing f l h
 
-column-none : (M : Map) (s : Segment) → s .a .x ≤ s .b .x → (k : ℕ) → Beyond (stripOf s .major0) (stripOf s .major1) k → cutColumn M s (stripOf s) k ≡ []
+column-none : (M : Map) (s : Segment) → s .a .x ≤ s .b .x → (k : ℕ) → Beyond (stripOf s .major0) (lastReached (stripOf s)) k → cutColumn M s (stripOf s) k ≡ []
 column-none M s o k b =
     let cells = candidateMinorRange (lineOf (stripOf s) k) (minorSide (stripOf s) (M .width) (M .height)) in
     concat-map (cutFrom M s) (cellOf (stripOf s) k) cells ∙ concat-nothing (λ m. cutFrom M s (cellOf (stripOf s) k m)) cells (λ m. no-cut-far M s (cellOf (stripOf s) k m) (column-far s o k m b))
@@ -113,7 +124,7 @@ column-none M s o k b =
 -- the columns near a span, from a first one up to one
 pub parts-joined :
     (M : Map) (g : Segment) (first end : ℕ) → g .a .x ≤ g .b .x → {t : Strip} {limit : ℕ} → t ≡ stripOf g → limit ≡ majorSide t (M .width) (M .height)
-    → Covers (t .major0) (t .major1) (upTo first end) (candidateAxisRange (t .major0) (t .major1) limit) → concatMap (cutColumn M g t) (upTo first end) ≡ cutSpan M g
+    → Covers (t .major0) (lastReached t) (upTo first end) (candidateAxisRange (t .major0) (t .major1) limit) → concatMap (cutColumn M g t) (upTo first end) ≡ cutSpan M g
 parts-joined M g first end o {t} e f h =
-    h (cutColumn M g t) (subst⁻¹ (λ t. (k : ℕ) → Beyond (t .major0) (t .major1) k → cutColumn M g t k ≡ []) e (column-none M g o))
+    h (cutColumn M g t) (subst⁻¹ (λ t. (k : ℕ) → Beyond (t .major0) (lastReached t) k → cutColumn M g t k ≡ []) e (column-none M g o))
     ∙ ap (λ n. concatMap (cutColumn M g t) (candidateAxisRange (t .major0) (t .major1) n)) f ∙ ap (columnsOf M g) e ∙ sym (columns-joined M g o)

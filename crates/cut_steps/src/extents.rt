@@ -1,5 +1,6 @@
-// Of the columns, rows and cells near a span, those that may have a cut step: a step reaches the middle of a cell beside its own, 8 pixels away, and is not
-// cut where it ends before the span begins, along either axis, or begins behind it.
+// Of the columns, rows and cells near a span, those that may have a cut step. A step leads to the middle of a cell beside its own, 8 pixels away, and is not cut
+// where both its ends lie before the span along an axis, or both behind it. Steps to cells of larger number lead to no row before their own, so that rows are
+// behind a span 8 pixels earlier than columns.
 use plain_numbers::max;
 use plain_numbers::min;
 use span_geometry::PIXELS_PER_WALK_CELL;
@@ -11,7 +12,7 @@ ghost use Prim.Native.Nat.{_≤_, _<_};
 ghost use Rattle.definitions.specs.Limits.{maxSide};
 ghost use Rattle.span_geometry.specs.Shapes.{maxPixel, Sound, segmentOf};
 ghost use Rattle.span_geometry.specs.Strips.{Usable};
-ghost use Rattle.cut_steps.specs.Extents.{Narrows};
+ghost use Rattle.cut_steps.specs.Extents.{Narrows, NearAxis};
 ghost use Rattle.cut_steps.specs.Columns.{Near};
 
 // The middle of the place after m is at 8 m + 12, and that of the one before it at 8 m - 4. So the first of these is at pixel p or later where m is
@@ -33,6 +34,22 @@ pub fn narrowed(range: RangeInclusive, least: u64, greatest: u64) -> RangeInclus
     }
 }
 
+// The columns, or rows, near the span that may have a cut step, of as many as limit says.
+pub fn near_axis(strip: Strip, limit: u64) -> RangeInclusive
+    requires { ⌜ Usable strip × (0 < limit) ⌝ }
+    ensures { λ r. ⌜ NearAxis strip limit r ⌝ }
+{
+    let range = strip.axis_range(limit);
+    if strip.columns {
+        return narrowed(range, strip.major0, strip.major1);
+    }
+    narrowed(
+        range,
+        strip.major0,
+        saturating_sub(strip.major1, PIXELS_PER_WALK_CELL),
+    )
+}
+
 // The candidates in column, or row, k that may have a cut step, of as many as limit says.
 pub fn near_range(g: SpanGeometry, strip: Strip, k: u64, limit: u64) -> RangeInclusive
     requires { ⌜ Sound g × Usable strip × (k < maxSide) × (0 < limit) ⌝ }
@@ -40,7 +57,11 @@ pub fn near_range(g: SpanGeometry, strip: Strip, k: u64, limit: u64) -> RangeInc
 {
     let range = strip.minor_range(k, limit);
     if strip.columns {
-        return narrowed(range, g.min_y, g.max_y);
+        return narrowed(
+            range,
+            g.min_y,
+            saturating_sub(g.max_y, PIXELS_PER_WALK_CELL),
+        );
     }
     narrowed(range, g.min_x, g.max_x)
 }

@@ -6,7 +6,7 @@ use cell::crossed_directions;
 use cell::cut_directions;
 use cell::is_near;
 use cell::side_changes;
-use extents::narrowed;
+use extents::near_axis;
 use extents::near_range;
 use line_crossings::first_place;
 use line_crossings::next_place;
@@ -261,7 +261,7 @@ pub fn parts_of(strip: Strip, limit: usize) -> Parts
     requires { ⌜ Usable strip × (0 < limit) × (limit ≤ maxSide) ⌝ }
     ensures { λ r. ⌜ Parted strip limit (r .first) (r .from) (r .to) (r .end) ⌝ }
 {
-    let axis = narrowed(strip.axis_range(limit as u64), strip.major0, strip.major1);
+    let axis = near_axis(strip, limit as u64);
     let first = axis.first as usize;
     let end = max(first, axis.last as usize + 1);
     let inner = (strip.major0 + ENDS_AFTER) / PIXELS_PER_WALK_CELL;
