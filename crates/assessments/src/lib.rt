@@ -6,6 +6,7 @@ use cut_steps::cell::cut_directions;
 use cut_steps::cell::is_near;
 use cut_steps::cell::is_set;
 use cut_steps::cell::side_changes;
+use cut_steps::extents::near_range;
 use cut_steps::is_placed;
 use cut_steps::part_end;
 use cut_steps::parts_of;
@@ -250,7 +251,7 @@ fn assess_cell(
     )
 }
 
-// The steps that the span cuts from the candidates in column, or row, k.
+// The steps that the span cuts from the candidates in column, or row, k. Those beyond the span have none, and are not asked.
 fn assess_column(
     width: usize,
     height: usize,
@@ -271,7 +272,7 @@ fn assess_column(
         (now (pairs .entry)) r (now (pairs .exit)) ⌝ }
 {
     let columns = strip.columns;
-    let range = strip.minor_range(k as u64, pick(columns, height, width) as u64);
+    let range = near_range(g, strip, k as u64, pick(columns, height, width) as u64);
     let last = range.last as usize;
     let mut a = start;
     let mut m = range.first as usize;

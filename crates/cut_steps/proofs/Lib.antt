@@ -8,6 +8,7 @@ pub mod Cells
 mod Sides
 pub mod Marks
 mod Walking
+pub mod Beyond
 pub mod Across
 pub mod SpanParts
 pub mod Spans

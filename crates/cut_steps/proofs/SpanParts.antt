@@ -7,17 +7,18 @@ use mathlib.Core.Logic.{inl, inr}
 use mathlib.Core.Bool.{Bool, true, false, cond}
 use mathlib.Core.List.{_++_}
 use Rattle.definitions.specs.Limits.{maxSide}
-use Rattle.definitions.specs.Scan.{run}
+use Rattle.definitions.specs.Scan.{run, concatMap}
 use Rattle.definitions.specs.Grid.{Map, Segment}
 use Rattle.definitions.specs.Spans.{rangeInclusive, candidateAxisRange}
 use Rattle.span_geometry.specs.declared.strips.RangeInclusive.{RangeInclusive}
 use Rattle.span_geometry.specs.declared.strips.Strip.{Strip}
-use Rattle.span_geometry.specs.Strips.{Walks, Usable, stripOf}
+use Rattle.span_geometry.specs.Strips.{Usable, stripOf}
 use Rattle.span_geometry.specs.Candidates.{majorSide}
 use Rattle.line_crossings.specs.Crossings.{Between, tieOf, Crossing, Gentle, Close}
 use Rattle.line_crossings.proofs.NearLine.{strip-gentle}
 use Rattle.cut_steps.specs.Columns.{ColumnAsked, cutColumn}
 use Rattle.cut_steps.specs.Prefixes.{concat-none, concat-more}
+use Rattle.cut_steps.specs.Extents.{NearAxis}
 use Rattle.cut_steps.proofs.Trimmed.{concat-split}
 use Rattle.cut_steps.specs.Crossed.{Follows, FollowsIn, Inside, BetweenAsked, ColumnsAsked, cutColumns, Parted, EndsPart, PartAsked}
 
@@ -37,16 +38,16 @@ is-inside k from end least less o to a b c d e =
     (omega (arith, a), omega (arith, b))
 
 pub parted :
-    (t : Strip) (limit : ℕ) (r : RangeInclusive) → Walks r (candidateAxisRange (t .major0) (t .major1) limit) limit → {end least from less o to : ℕ} → end ≡ max (r .first) (r .last + 1)
+    (t : Strip) (limit : ℕ) (r : RangeInclusive) → NearAxis t limit r → {end least from less o to : ℕ} → end ≡ max (r .first) (r .last + 1)
     → least ≡ max (r .first) ((t .major0 + 11) / 8) → from ≡ min least end → less ≡ t .major1 - 4 → o ≡ min (less / 8) end → to ≡ max from o → Parted t limit (r .first) from to end
 unfolding rangeInclusive
-parted t limit r W {end} {least} {from} {less} {o} {to} e f g h i j =
+parted t limit r N {end} {least} {from} {less} {o} {to} e f g h i j =
     record {
       first-from = middle .0;
       from-to = last .0;
       to-end = last .1;
-      numbers = ap (run (r .first)) (count (r .first) (r .last) end e) ∙ W .numbers;
-      below = λ k a b. below (r .first) (r .last) end k limit e (W .inside) a b;
+      numbers = λ s none. ap (λ n. concatMap s (run (r .first) n)) (count (r .first) (r .last) end e) ∙ N .covers s none;
+      below = λ k a b. below (r .first) (r .last) end k limit e (N .below) a b;
       inside = λ k a b. let p = is-inside k from end least less o to g i j a b in (after (t .major0) (r .first) least k f (p .0), before (t .major1) less k h (p .1));
     }
   where

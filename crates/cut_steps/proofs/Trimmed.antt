@@ -48,6 +48,25 @@ module _ {B : Type 0} (f : ℕ → List B) where
       ∙ ap₂ _++_ (concat-empty 0 p (λ i _ h. early i (omega arith))) (ap (λ x. concatMap f (run x (n + k))) e ∙ ap (concatMap f) (run-split p n k) ∙ concat-append f (run p n) (run (p + n) k))
       ∙ ap (λ r. concatMap f (run p n) ++ r) (concat-empty (p + n) k (λ i h _. late i h)) ∙ append-nil (concatMap f (run p n))
 
+  none-joined : (a b : ℕ) → ((i : ℕ) → a ≤ i → i < b → f i ≡ []) → concatMap f (upTo a b) ≡ []
+  none-joined a b h = concat-empty a (b - a) (λ i p q. h i p (omega arith))
+
+  -- a range, and a narrower one outside of which there is nothing
+  pub narrow : (a b first last : ℕ) → a ≤ first → last ≤ b → ((m : ℕ) → a ≤ m → m ≤ b → (m < first) ⊎ (last < m) → f m ≡ []) → concatMap f (rangeInclusive first last) ≡ concatMap f (rangeInclusive a b)
+  unfolding rangeInclusive
+  narrow a b first last p q none = ⊎-elim some no (le-or-lt first last)
+    where
+      some : first ≤ last → concatMap f (upTo first (suc last)) ≡ concatMap f (upTo a (suc b))
+      some o =
+          sym (append-nil (concatMap f (upTo first (suc last)))) ∙ ap (λ r. concatMap f (upTo first (suc last)) ++ r) (sym (none-joined (suc last) (suc b) (λ i h k. none i (omega arith) (omega arith) (inr (omega arith)))))
+          ∙ concat-split f first (suc last) (suc b) (omega arith) (omega arith) ∙ ap (λ r. r ++ concatMap f (upTo first (suc b))) (sym (none-joined a first (λ i h k. none i h (omega arith) (inl k))))
+          ∙ concat-split f a first (suc b) p (omega arith)
+
+      no : last < first → concatMap f (upTo first (suc last)) ≡ concatMap f (upTo a (suc b))
+      no o =
+          none-joined first (suc last) (λ i h k. absurd (omega arith))
+          ∙ sym (none-joined a (suc b) (λ i h k. none i h (omega arith) (⊎-elim (λ l. inr (omega arith)) (λ l. inl l) (le-or-lt first i))))
+
 -- ---- moved by two
 
 module _ (f : ℕ → List Pair) (limit : ℕ) where

@@ -1,5 +1,5 @@
 -- The cut steps of a span's candidates as the code walks them: columns, or rows, along the major axis, and in each the cells across it. Joined in that order they are
--- the span's cut steps (`parts-joined`, `column-joined`). Assumes nothing.
+-- the span's cut steps (`columns-joined`, `column-joined`). Assumes nothing.
 use Prim.Native.Nat.{ℕ, _≤_, _<_}
 use native.Mathlib.Omega.{arith}
 use mathlib.Core.Path.{_≡_, sym, ap, ap₂, _∙_}
@@ -11,10 +11,10 @@ use Rattle.definitions.specs.Grid.{Map, at, Pair, Segment}
 use Rattle.definitions.specs.Spans.{rangeInclusive, candidateAxisRange, candidateMinorRange}
 use Rattle.span_geometry.specs.declared.strips.RangeInclusive.{RangeInclusive}
 use Rattle.span_geometry.specs.declared.strips.Strip.{Strip}
-use Rattle.span_geometry.specs.Strips.{Walks, Usable, stripOf, lineOf}
+use Rattle.span_geometry.specs.Strips.{Usable, stripOf, lineOf}
 use Rattle.span_geometry.specs.Candidates.{cellOf, majorSide, minorSide, candidates-by-strip}
 use Rattle.cut_steps.specs.CutSteps.{cutFrom, cutSpan}
-use Rattle.cut_steps.specs.Prefixes.{upTo, concat-map, concat-concat}
+use Rattle.cut_steps.specs.Prefixes.{concat-map, concat-concat}
 
 -- the cut steps of the cell at m across column, or row, k
 abbrev pub cutAcross : Map → Segment → Bool → ℕ → ℕ → List Pair
@@ -29,6 +29,11 @@ pub record ColumnAsked (w h : ℕ) (t : Strip) (k : ℕ) : Type 0 where
   pub usable : Usable t
   pub column : k < majorSide t w h
   pub some : 0 < minorSide t w h
+
+-- the cells of a range are below the limit, and have all cut steps of the candidates in column, or row, k
+pub record Near (g : Segment) (t : Strip) (k limit : ℕ) (r : RangeInclusive) : Type 0 where
+  pub inside : r .last < limit
+  pub cut : (M : Map) → concatMap (cutAcross M g (t .columns) k) (rangeInclusive (r .first) (r .last)) ≡ concatMap (cutAcross M g (t .columns) k) (candidateMinorRange (lineOf t k) limit)
 
 -- ---- a cell of a column
 
@@ -53,24 +58,17 @@ some-side false a b = b
 
 -- ---- joined
 
-pub column-joined : (M : Map) (g : Segment) (t : Strip) (k : ℕ) {r : RangeInclusive} {limit : ℕ} → limit ≡ minorSide t (M .width) (M .height) → Walks r (candidateMinorRange (lineOf t k) limit) limit → concatMap (cutAcross M g (t .columns) k) (rangeInclusive (r .first) (r .last)) ≡ cutColumn M g t k
-column-joined M g t k e W =
-    ap (concatMap (cutAcross M g (t .columns) k)) (W .numbers ∙ ap (candidateMinorRange (lineOf t k)) e)
+pub column-joined : (M : Map) (g : Segment) (t : Strip) (k : ℕ) {r : RangeInclusive} {limit : ℕ} → limit ≡ minorSide t (M .width) (M .height) → Near g t k limit r → concatMap (cutAcross M g (t .columns) k) (rangeInclusive (r .first) (r .last)) ≡ cutColumn M g t k
+column-joined M g t k e N =
+    N .cut M ∙ ap (λ n. concatMap (cutAcross M g (t .columns) k) (candidateMinorRange (lineOf t k) n)) e
     ∙ sym (concat-map (cutFrom M g) (cellOf t k) (candidateMinorRange (lineOf t k) (minorSide t (M .width) (M .height))))
 
 -- all columns of a strip
-abbrev columnsOf : Map → Segment → Strip → List Pair
+abbrev pub columnsOf : Map → Segment → Strip → List Pair
 columnsOf M g t = concatMap (cutColumn M g t) (candidateAxisRange (t .major0) (t .major1) (majorSide t (M .width) (M .height)))
 
-columns-joined : (M : Map) (g : Segment) → g .a .x ≤ g .b .x → cutSpan M g ≡ columnsOf M g (stripOf g)
+pub columns-joined : (M : Map) (g : Segment) → g .a .x ≤ g .b .x → cutSpan M g ≡ columnsOf M g (stripOf g)
 columns-joined M g o =
     ap (concatMap (cutFrom M g)) (candidates-by-strip (M .width) (M .height) g o)
     ∙ concat-concat (cutFrom M g) (λ k. map (cellOf (stripOf g) k) (candidateMinorRange (lineOf (stripOf g) k) (minorSide (stripOf g) (M .width) (M .height))))
     (candidateAxisRange (stripOf g .major0) (stripOf g .major1) (majorSide (stripOf g) (M .width) (M .height)))
-
--- the columns near a span, from a first one up to one
-pub parts-joined :
-    (M : Map) (g : Segment) (first end : ℕ) → g .a .x ≤ g .b .x → {t : Strip} {limit : ℕ} → t ≡ stripOf g → limit ≡ majorSide t (M .width) (M .height)
-    → upTo first end ≡ candidateAxisRange (t .major0) (t .major1) limit → concatMap (cutColumn M g t) (upTo first end) ≡ cutSpan M g
-parts-joined M g first end o {t} e f h =
-    ap (concatMap (cutColumn M g t)) (h ∙ ap (candidateAxisRange (t .major0) (t .major1)) f) ∙ ap (columnsOf M g) e ∙ sym (columns-joined M g o)

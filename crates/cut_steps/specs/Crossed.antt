@@ -19,6 +19,7 @@ use Rattle.grid_steps.specs.Masks.{bitOf}
 use Rattle.cut_steps.specs.CutSteps.{isSet}
 use Rattle.cut_steps.specs.Cell.{onwardMask}
 use Rattle.cut_steps.specs.Prefixes.{upTo}
+use Rattle.cut_steps.specs.Extents.{Covers, lastReached}
 use Rattle.cut_steps.specs.Columns.{cutAcross, cutColumn}
 
 -- a cell of the grid of the lent bytes
@@ -108,7 +109,7 @@ pub record Parted (t : Strip) (limit first from to end : ℕ) : Type 0 where
   pub first-from : first ≤ from
   pub from-to : from ≤ to
   pub to-end : to ≤ end
-  pub numbers : upTo first end ≡ candidateAxisRange (t .major0) (t .major1) limit
+  pub numbers : Covers (t .major0) (lastReached t) (upTo first end) (candidateAxisRange (t .major0) (t .major1) limit)
   pub below : (k : ℕ) → first ≤ k → k < end → k < limit
   pub inside : Inside t from to
 

@@ -1,10 +1,13 @@
 // The steps that spans cut: of one cell, and marked in the masks of all cells, as the first half of `partition_by_spans` of areas.rs.
 pub mod cell;
+pub mod extents;
 
 use cell::crossed_directions;
 use cell::cut_directions;
 use cell::is_near;
 use cell::side_changes;
+use extents::near_axis;
+use extents::near_range;
 use line_crossings::first_place;
 use line_crossings::next_place;
 use line_crossings::tie_of;
@@ -85,7 +88,7 @@ pub fn pick(test: bool, first: usize, second: usize) -> usize
     if test { first } else { second }
 }
 
-// The cut steps of the candidates in column, or row, k.
+// The cut steps of the candidates in column, or row, k. Those beyond the span have none, and are not asked.
 fn mark_column(
     width: usize,
     height: usize,
@@ -100,7 +103,7 @@ fn mark_column(
         (now (masks .exit)) (cutColumn (gridOf width height (now (cells .entry))) (segmentOf g) strip k) ⌝ }
 {
     let columns = strip.columns;
-    let range = strip.minor_range(k as u64, pick(columns, height, width) as u64);
+    let range = near_range(g, strip, k as u64, pick(columns, height, width) as u64);
     let last = range.last as usize;
     let mut m = range.first as usize;
     while m <= last {
@@ -258,7 +261,7 @@ pub fn parts_of(strip: Strip, limit: usize) -> Parts
     requires { ⌜ Usable strip × (0 < limit) × (limit ≤ maxSide) ⌝ }
     ensures { λ r. ⌜ Parted strip limit (r .first) (r .from) (r .to) (r .end) ⌝ }
 {
-    let axis = strip.axis_range(limit as u64);
+    let axis = near_axis(strip, limit as u64);
     let first = axis.first as usize;
     let end = max(first, axis.last as usize + 1);
     let inner = (strip.major0 + ENDS_AFTER) / PIXELS_PER_WALK_CELL;

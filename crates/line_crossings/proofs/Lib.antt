@@ -7,3 +7,4 @@ mod AlongRowsUp
 pub mod Past
 pub mod NearLine
 pub mod Moving
+pub mod Extents

@@ -16,10 +16,10 @@ Over R e f v d = R * e + f * v ≤ R * d + e * v
 
 -- ---- products over a common factor
 
-scaled : (u R y b v : ℕ) → u * (R * y + b * v) ≡ R * (u * y) + b * (u * v)
+pub scaled : (u R y b v : ℕ) → u * (R * y + b * v) ≡ R * (u * y) + b * (u * v)
 scaled u R y b v = mul-add u (R * y) (b * v) ∙ ap₂ _+_ (mul-left-comm u R y) (mul-left-comm u b v)
 
-factor : (R a b : ℕ) → R * a + R * b ≡ R * (a + b)
+pub factor : (R a b : ℕ) → R * a + R * b ≡ R * (a + b)
 factor R a b = sym (mul-add R a b)
 
 cancel-le : (R a b : ℕ) → 0 < R → R * a ≤ R * b → a ≤ b

@@ -32,10 +32,10 @@ entry c =
     let at-slice-known = c .before in
     at-slice-known .before .before .before
 
-minor-range-requires : tie.Need-minor-range-requires Inv-loop μ-loop
-minor-range-requires c κs =
+near-range-requires : tie.Need-near-range-requires Inv-loop μ-loop
+near-range-requires c κs =
     let p = entry c .pre .0 in
-    (p .2 .usable, column-in (p .0 .narrow) (p .0 .short) (p .2), omega (arith, c .pick .ensures, p .2 .some))
+    (p .1, p .2 .usable, column-in (p .0 .narrow) (p .0 .short) (p .2), omega (arith, c .pick .ensures, p .2 .some))
 
 loop-holds : tie.Need-loop-holds Inv-loop μ-loop
 loop-holds c = walking-start (entry (c .before) .pre .1)
@@ -51,21 +51,21 @@ abbrev turn : tie.After-pick3 Inv-loop μ-loop → tie.In-loop Inv-loop μ-loop
 turn c = c .before .before .before
 
 -- the place before the loop, from a turn
-abbrev range : tie.In-loop Inv-loop μ-loop → tie.After-minor-range Inv-loop μ-loop
+abbrev range : tie.In-loop Inv-loop μ-loop → tie.After-near-range Inv-loop μ-loop
 range c = c .before .before
 
 -- the last cell of the column is on the largest map
-last-in : (c : tie.After-minor-range Inv-loop μ-loop) → c .minor-range .result .last < maxSide
+last-in : (c : tie.After-near-range Inv-loop μ-loop) → c .near-range .result .last < maxSide
 last-in c =
     let p = entry (c .before) .pre .0 .0 in
-    omega (arith, c .minor-range .ensures .inside, c .before .pick .ensures, side-small (entry (c .before) .args .strip .columns) (p .short) (p .narrow))
+    omega (arith, c .near-range .ensures .inside, c .before .pick .ensures, side-small (entry (c .before) .args .strip .columns) (p .short) (p .narrow))
 
 assess-cell-requires : tie.Need-assess-cell-requires Inv-loop μ-loop
 assess-cell-requires c κs =
     let t = turn c in
     let r = range t in
     let s = entry (r .before) in
-    let i = cell-in (s .args .strip .columns) (c .before .pick2 .ensures) (c .pick3 .ensures) (s .pre .0 .2 .column) (omega (arith, t .loop-test .taken, r .minor-range .ensures .inside, r .before .pick .ensures)) in
+    let i = cell-in (s .args .strip .columns) (c .before .pick2 .ensures) (c .pick3 .ensures) (s .pre .0 .2 .column) (omega (arith, t .loop-test .taken, r .near-range .ensures .inside, r .before .pick .ensures)) in
     ((s .pre .0 .0, s .pre .0 .1, i .0, i .1), counting-most (t .before .loop .inv .turns .counting) (omega (arith, t .before .loop .inv .turns .counting .few, t .loop-test .taken, last-in r, s .pre .1 .few)))
 
 -- the place of the call, from the turn's end
@@ -94,7 +94,7 @@ returns c =
     let a = entry (r .before) .args in
     let T = walking-done (c .before .loop .inv) (c .loop-test .left) (last-in r) in (
       T .counting,
-      assesses-same (column-joined (gridOf (a .width) (a .height) (a .cells .now)) (segmentOf (a .g)) (a .strip) (a .k) (r .before .pick .ensures) (r .minor-range .ensures)) (T .assessed),
+      assesses-same (column-joined (gridOf (a .width) (a .height) (a .cells .now)) (segmentOf (a .g)) (a .strip) (a .k) (r .before .pick .ensures) (r .near-range .ensures)) (T .assessed),
     )
 
 pub assess-column-spec : {M : Type 1} → statement M
@@ -104,7 +104,7 @@ assess-column-spec =
     Inv-loop
     μ-loop
     pick-requires
-    minor-range-requires
+    near-range-requires
     loop-holds
     pick-requires-2
     pick-requires-3

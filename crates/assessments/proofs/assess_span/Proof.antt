@@ -6,9 +6,10 @@ use borrow.Author.Needs.{needs}
 use Rattle.span_geometry.specs.Shapes.{segmentOf}
 use Rattle.grid_steps.specs.Walk.{gridOf}
 use Rattle.cut_steps.specs.CutSteps.{cutSpan}
-use Rattle.cut_steps.specs.Columns.{cutColumn, some-side, parts-joined}
+use Rattle.cut_steps.specs.Columns.{cutColumn, some-side}
 use Rattle.cut_steps.specs.Crossed.{cutColumns}
 use Rattle.cut_steps.proofs.SpanParts.{limit-small, columns-asked, part-within, part-asked}
+use Rattle.cut_steps.proofs.Beyond.{parts-joined}
 use Rattle.cut_steps.proofs.Shown.{shown-as, shown-part}
 use Rattle.assessments.specs.Assess.{maxLineEdges}
 use Rattle.assessments.proofs.Gathering.{assesses-same}

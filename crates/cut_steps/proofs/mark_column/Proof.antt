@@ -28,8 +28,8 @@ pick-requires c κs = search needs
 abbrev entry : tie.After-pick Inv-loop μ-loop → tie.Start Inv-loop μ-loop
 entry c = c .before .before .before
 
-minor-range-requires : tie.Need-minor-range-requires Inv-loop μ-loop
-minor-range-requires c κs = let p = entry c .pre in (p .1 .usable, column-in (p .0 .narrow) (p .0 .short) (p .1), omega (arith, c .pick .ensures, p .1 .some))
+near-range-requires : tie.Need-near-range-requires Inv-loop μ-loop
+near-range-requires c κs = let p = entry c .pre in (p .0 .sound, p .1 .usable, column-in (p .0 .narrow) (p .0 .short) (p .1), omega (arith, c .pick .ensures, p .1 .some))
 
 loop-holds : tie.Need-loop-holds Inv-loop μ-loop
 loop-holds c = walking-start
@@ -45,7 +45,7 @@ abbrev turn : tie.After-pick3 Inv-loop μ-loop → tie.In-loop Inv-loop μ-loop
 turn c = c .before .before .before
 
 -- the place before the loop, from a turn
-abbrev range : tie.In-loop Inv-loop μ-loop → tie.After-minor-range Inv-loop μ-loop
+abbrev range : tie.In-loop Inv-loop μ-loop → tie.After-near-range Inv-loop μ-loop
 range c = c .before .before
 
 mark-cell-requires : tie.Need-mark-cell-requires Inv-loop μ-loop
@@ -53,7 +53,7 @@ mark-cell-requires c κs =
     let t = turn c in
     let r = range t in
     let s = entry (r .before) in
-    let i = cell-in (s .args .strip .columns) (c .before .pick2 .ensures) (c .pick3 .ensures) (s .pre .1 .column) (omega (arith, t .loop-test .taken, r .minor-range .ensures .inside, r .before .pick .ensures)) in
+    let i = cell-in (s .args .strip .columns) (c .before .pick2 .ensures) (c .pick3 .ensures) (s .pre .1 .column) (omega (arith, t .loop-test .taken, r .near-range .ensures .inside, r .before .pick .ensures)) in
     (asked-again (s .pre .0) (t .before .loop .inv .marked .long), i .0, i .1)
 
 -- the place of the call, from the turn's end
@@ -81,7 +81,7 @@ returns : tie.Need-returns Inv-loop μ-loop
 returns c =
     let r = c .before .before in
     let a = entry (r .before) .args in
-    marked-as (column-joined (gridOf (a .width) (a .height) (a .cells .now)) (segmentOf (a .g)) (a .strip) (a .k) (r .before .pick .ensures) (r .minor-range .ensures))
+    marked-as (column-joined (gridOf (a .width) (a .height) (a .cells .now)) (segmentOf (a .g)) (a .strip) (a .k) (r .before .pick .ensures) (r .near-range .ensures))
     (walking-done (c .before .loop .inv) (c .loop-test .left))
 
 pub mark-column-spec : {M : Type 1} → statement M
@@ -91,7 +91,7 @@ mark-column-spec =
     Inv-loop
     μ-loop
     pick-requires
-    minor-range-requires
+    near-range-requires
     loop-holds
     pick-requires-2
     pick-requires-3

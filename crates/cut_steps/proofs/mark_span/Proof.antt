@@ -7,9 +7,10 @@ use Rattle.span_geometry.specs.Shapes.{segmentOf}
 use Rattle.grid_steps.specs.Walk.{gridOf}
 use Rattle.cut_steps.specs.Marking.{Marked}
 use Rattle.cut_steps.specs.Crossed.{cutColumns}
-use Rattle.cut_steps.specs.Columns.{some-side, parts-joined}
+use Rattle.cut_steps.specs.Columns.{some-side}
 use Rattle.cut_steps.proofs.Marks.{marked-as, marked-then}
 use Rattle.cut_steps.proofs.Walking.{asked-again, columns-start}
+use Rattle.cut_steps.proofs.Beyond.{parts-joined}
 use Rattle.cut_steps.proofs.SpanParts.{limit-small, columns-asked, parts-more, part-within, part-asked}
 use Rattle.cut_steps.proofs.mark_span.Statement.{statement}
 use Rattle.cut_steps.proofs.mark_span.Tie as tie

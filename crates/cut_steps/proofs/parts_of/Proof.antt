@@ -4,8 +4,8 @@ use Rattle.cut_steps.proofs.SpanParts.{parted}
 use Rattle.cut_steps.proofs.parts_of.Statement.{statement}
 use Rattle.cut_steps.proofs.parts_of.Tie as tie
 
-axis-range-requires : tie.Need-axis-range-requires
-axis-range-requires c κs = search needs
+near-axis-requires : tie.Need-near-axis-requires
+near-axis-requires c κs = search needs
 
 add-max : tie.Need-add-max
 add-max c = search needs
@@ -36,15 +36,15 @@ returns c =
     let at-min = c .before .before in
     let at-saturating-sub = at-min .before .before in
     let at-max = at-saturating-sub .before .before in
-    let at-axis-range = at-max .before in
-    let a = at-axis-range .before .args in
-    parted (a .strip) (a .limit) (at-axis-range .axis-range .result) (at-axis-range .axis-range .ensures) (at-max .max .ensures) (at-min .before .max2 .ensures) (at-min .min .ensures) (at-saturating-sub .saturating-sub .ensures) (c .before .min2 .ensures) (c .max3 .ensures)
+    let at-near-axis = at-max .before in
+    let a = at-near-axis .before .args in
+    parted (a .strip) (a .limit) (at-near-axis .near-axis .result) (at-near-axis .near-axis .ensures) (at-max .max .ensures) (at-min .before .max2 .ensures) (at-min .min .ensures) (at-saturating-sub .saturating-sub .ensures) (c .before .min2 .ensures) (c .max3 .ensures)
 
 pub parts-of-spec : {M : Type 1} → statement M
 parts-of-spec =
     tie.close
     (tie.spec
-    axis-range-requires
+    near-axis-requires
     add-max
     max-requires
     add-inner
