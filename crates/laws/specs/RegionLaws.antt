@@ -8,7 +8,6 @@ pub mod LabelsDetermined
 pub mod Components
 pub mod PairLaws
 pub mod Edges
-pub mod GraphLaws
 pub mod PairRows
 pub mod Tallies
 pub mod Shares
