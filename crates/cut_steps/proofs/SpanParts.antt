@@ -9,7 +9,7 @@ use mathlib.Core.List.{_++_}
 use Rattle.definitions.specs.Limits.{maxSide}
 use Rattle.definitions.specs.Scan.{run, concatMap}
 use Rattle.definitions.specs.Grid.{Map, Segment}
-use Rattle.definitions.specs.Spans.{rangeInclusive, candidateAxisRange}
+use Rattle.definitions.specs.Spans.{rangeInclusive}
 use Rattle.span_geometry.specs.declared.strips.RangeInclusive.{RangeInclusive}
 use Rattle.span_geometry.specs.declared.strips.Strip.{Strip}
 use Rattle.span_geometry.specs.Strips.{Usable, stripOf}

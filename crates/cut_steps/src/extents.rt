@@ -1,6 +1,6 @@
-// Of the columns, rows and cells near a span, those that may have a cut step. A step leads to the middle of a cell beside its own, 8 pixels away, and is not cut
-// where both its ends lie before the span along an axis, or both behind it. Steps to cells of larger number lead to no row before their own, so that rows are
-// behind a span 8 pixels earlier than columns.
+// Of the columns, rows and cells near a span, those that may have a cut step. A step leads to the middle of a cell beside its own, 8 pixels away, and is not
+// cut where both its ends lie before the span along an axis, or both behind it. Steps to cells of larger number lead to no row before their own, so that
+// rows are behind a span 8 pixels earlier than columns.
 use plain_numbers::max;
 use plain_numbers::min;
 use span_geometry::PIXELS_PER_WALK_CELL;

@@ -6,7 +6,7 @@ use mathlib.Core.Bool.{Bool, true, false, not, _&&_, _||_, Bool·beq, and-false,
 use Prim.Native.Nat.{ℕ, _+_, _-_, _*_, _≤_, _<_, min, max}
 use native.Mathlib.Nat.{add-mul, mul-comm, mul-le-mul-left, mul-lt-mul-of-pos-left}
 use native.Mathlib.Omega.{arith}
-use lib.Dec.{leb, ltb}
+use lib.Dec.{ltb}
 use lib.IntN.{ℤ}
 use lib.Signed.{nonNeg}
 use borrow.Author.Tests.{leb-true, ltb-true}
