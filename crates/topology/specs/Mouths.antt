@@ -1,4 +1,4 @@
--- The words of the contracts of `corners_near`, `mark_near` and `replace_ramp_mouths`. Definitions only; assumes nothing.
+-- The words of the contracts of `corners_near`, `best_near` and `replace_ramp_mouths`. Definitions only; assumes nothing.
 use Prim.Native.Nat.{ℕ, _-_, _≤_, _<_}
 use mathlib.Core.Path.{_≡_}
 use mathlib.Core.Bool.{Bool, false}
@@ -7,12 +7,12 @@ use lib.ListN.{length, getD}
 use Rattle.definitions.specs.Limits.{maxEntries}
 use Rattle.definitions.specs.Scan.{member}
 use Rattle.definitions.specs.Context.{Context}
-use Rattle.definitions.specs.RampMouths.{cornersNear, removed}
+use Rattle.definitions.specs.RampMouths.{removed}
 use Rattle.laws.specs.FloatLaws.Pixels.{PixelContext}
 use Rattle.context.specs.declared.Region.{Region}
 use Rattle.context.specs.Shown.{ShownBoundaries, ShownTallies, ShownPairs}
 use Rattle.mouth_proposals.specs.Lent.{Placed, Shows}
-use Rattle.mouth_proposals.specs.Listed.{maxCandidates, entryAt}
+use Rattle.mouth_proposals.specs.Listed.{maxCandidates}
 use Rattle.topology.specs.Held.{HoldsRecords}
 
 -- the lists and the records show C, of which m and a are boundaries
@@ -30,11 +30,6 @@ pub record Locates (C : Context) (records : List Region) (boundaries pairs start
 pub record NearAsked (C : Context) (records : List Region) (boundaries pairs starts mouths ramps : List ℕ) (n : ℕ) : Type 0 where
   pub few : n ≤ maxCandidates
   pub entry : (k : ℕ) → k < n → Locates C records boundaries pairs starts (getD mouths k 0) (getD ramps k 0)
-
--- a mark for each of n candidates says whether its inner regions are near
-pub record NearMarked (C : Context) (mouths ramps outers kinds : List ℕ) (n : ℕ) (near : List Bool) : Type 0 where
-  pub long : length near ≡ maxCandidates
-  pub at : (k : ℕ) → k < n → getD near k false ≡ cornersNear C (entryAt C mouths ramps outers kinds k)
 
 -- The lists and the records show C, a context of a map. Marks say no more than that a region is anchored.
 pub record Replaces (C : Context) (records : List Region) (boundaries tallies pairs starts : List ℕ) (count : ℕ) (marks counts : List ℕ) : Type 0 where
