@@ -135,7 +135,7 @@ module _ {C : Context} {records : List Region} {boundaries tallies pairs starts 
       few : (k : ℕ) → k < C .count → {x : ℕ} → x ≡ 0 → x < C .count
       few k l e = omega (arith, l, e)
 
-  module _ {mouths ramps outers kinds separations : List ℕ} {n : ℕ} (F : Listed C mouths ramps outers separations n) where
+  module _ {mouths ramps outers separations : List ℕ} {n : ℕ} (F : Listed C mouths ramps outers separations n) where
     pub pass-near : NearAsked C records boundaries pairs starts mouths ramps n
     pass-near =
         record {

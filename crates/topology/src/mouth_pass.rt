@@ -14,16 +14,15 @@ use mouth_selection::selection::better_marked;
 use plain_numbers::most;
 use plain_numbers::wide;
 ghost use mathlib.Core.Path.{_≡_};
-ghost use mathlib.Core.Bool.{true, false};
 ghost use mathlib.Core.List.{List};
 ghost use Prim.Native.Nat.{ℕ, _≤_, _<_};
-ghost use lib.ListN.{getD};
 ghost use Rattle.definitions.specs.Context.{Context};
 ghost use Rattle.definitions.specs.RampMouths.{cornersNear};
 ghost use Rattle.mouth_proposals.specs.Candidates.{proposalOf};
 ghost use Rattle.mouth_selection.specs.Entries.{Measured, entryIf};
 ghost use Rattle.mouth_selection.specs.Rounds.{nearLeast};
-ghost use Rattle.topology.specs.Mouths.{Locates, NearAsked, Replaces, NoMarks, Replaced};
+ghost use Rattle.mouth_selection.specs.Selecting.{Progress, Ended};
+ghost use Rattle.topology.specs.Mouths.{Locates, NearAsked, Ready, Stepped, Replaces, NoMarks, Replaced};
 
 // Whether each corner of each inner region of a proposal of pass 1 is near.
 pub fn corners_near(
@@ -101,6 +100,110 @@ pub fn best_near(
     best
 }
 
+// Finds the best of ramp a, and takes proposals until the best of a ramp has to be found. Gives that ramp; count where nothing is left. The bests of the ramps before
+// `known` are known then.
+pub fn next_ramp(
+    records: &[Region],
+    count: usize,
+    boundaries: &[u64],
+    tallies: &[u32],
+    pairs: &[u32],
+    starts: &[usize; 257],
+    marks: &mut [u16],
+    counts: &[u32],
+    removed: &mut [bool; 256],
+    used: &mut [bool; 256],
+    mouthof: &mut [u8; 256],
+    rampof: &mut [u8; 256],
+    outerof: &mut [u32; 256],
+    kindof: &mut [u8; 256],
+    apart: &mut [u64; 256],
+    found: &mut [bool; 256],
+    fresh: &mut [bool; 256],
+    known: usize,
+    a: usize,
+) -> usize
+    requires shown { ⌜ ((C : Context) × ((marks₀ : List ℕ) × (Replaces C (now records) (now boundaries) (now tallies) (now pairs) (now starts) count marks₀
+        (now counts) × Progress C (λ i. (i < known) × (i ≡ a → ⊥)) (now marks) (now removed) (now used) (now mouthof) (now rampof) (now outerof)
+        (now kindof) (now apart) (now found) (now fresh)))) ⌝ }
+    requires ready { ⌜ Ready (now mouthof) (now rampof) (now outerof) (now kindof) (now apart) (now removed) (now used) (now found) (now fresh) known a
+        count ⌝ }
+    ensures stepped { λ r. ⌜ Stepped (now (marks .entry)) (now (removed .entry)) (now (fresh .entry)) (now (marks .exit)) (now (mouthof .exit))
+        (now (rampof .exit)) (now (outerof .exit)) (now (kindof .exit)) (now (apart .exit)) (now (removed .exit)) (now (used .exit)) (now (found .exit))
+        (now (fresh .exit)) known count r ⌝ }
+    ensures progress { λ r. ⌜ ((C : Context) (marks₀ : List ℕ) →
+        Replaces C (now (records .entry)) (now (boundaries .entry)) (now (tallies .entry)) (now (pairs .entry)) (now (starts .entry)) count marks₀
+        (now (counts .entry)) →
+        Progress C (λ i. (i < known) × (i ≡ a → ⊥)) (now (marks .entry)) (now (removed .entry)) (now (used .entry)) (now (mouthof .entry))
+        (now (rampof .entry)) (now (outerof .entry)) (now (kindof .entry)) (now (apart .entry)) (now (found .entry)) (now (fresh .entry)) →
+        Progress C (λ i. i < known) (now (marks .exit)) (now (removed .exit)) (now (used .exit)) (now (mouthof .exit)) (now (rampof .exit))
+        (now (outerof .exit)) (now (kindof .exit)) (now (apart .exit)) (now (found .exit)) (now (fresh .exit))
+        × (count ≤ r → Ended C (now (removed .exit)))) ⌝ }
+{
+    let mut mouths = [0u8; 256];
+    let mut ramps = [0u8; 256];
+    let mut outers = [0u32; 256];
+    let mut kinds = [0u8; 256];
+    let mut separations = [0u64; 256];
+    let mut marked = [false; 256];
+    let n = list_ramp(
+        boundaries,
+        tallies,
+        pairs,
+        starts,
+        counts,
+        &*marks,
+        &*removed,
+        &*used,
+        count,
+        a,
+        &mut mouths,
+        &mut ramps,
+        &mut outers,
+        &mut kinds,
+        &mut separations,
+        &mut marked,
+    );
+    let k = best_near(
+        records,
+        boundaries,
+        pairs,
+        starts,
+        &mouths,
+        &ramps,
+        &outers,
+        &kinds,
+        &separations,
+        &marked,
+        n,
+    );
+    proceed(
+        boundaries,
+        pairs,
+        starts,
+        marks,
+        removed,
+        used,
+        &mouths,
+        &ramps,
+        &outers,
+        &kinds,
+        &separations,
+        n,
+        k,
+        a,
+        mouthof,
+        rampof,
+        outerof,
+        kindof,
+        apart,
+        found,
+        fresh,
+        known,
+        count,
+    )
+}
+
 // Pass 1: marks the boundaries that it removes. No boundary is marked before, and marks say no more than that a region is anchored. The best of each ramp is found
 // once, and again where it conflicts with one taken and is the least of the bests.
 pub fn replace_ramp_mouths(
@@ -122,12 +225,6 @@ pub fn replace_ramp_mouths(
         (now (marks .entry)) (now (counts .entry)) →
         Replaced C count (now (removed .exit))) ⌝ }
 {
-    let mut mouths = [0u8; 256];
-    let mut ramps = [0u8; 256];
-    let mut outers = [0u32; 256];
-    let mut kinds = [0u8; 256];
-    let mut separations = [0u64; 256];
-    let mut marked = [false; 256];
     let mut used = [false; 256];
     let mut mouthof = [0u8; 256];
     let mut rampof = [0u8; 256];
@@ -139,53 +236,18 @@ pub fn replace_ramp_mouths(
     let mut known = 0;
     let mut a = 0;
     while a < count {
-        let n = list_ramp(
+        known = most(known, a + 1);
+        a = next_ramp(
+            records,
+            count,
             boundaries,
             tallies,
             pairs,
             starts,
-            counts,
-            &*marks,
-            &*removed,
-            &used,
-            count,
-            a,
-            &mut mouths,
-            &mut ramps,
-            &mut outers,
-            &mut kinds,
-            &mut separations,
-            &mut marked,
-        );
-        let k = best_near(
-            records,
-            boundaries,
-            pairs,
-            starts,
-            &mouths,
-            &ramps,
-            &outers,
-            &kinds,
-            &separations,
-            &marked,
-            n,
-        );
-        known = most(known, a + 1);
-        a = proceed(
-            boundaries,
-            pairs,
-            starts,
             &mut *marks,
+            counts,
             &mut *removed,
             &mut used,
-            &mouths,
-            &ramps,
-            &outers,
-            &kinds,
-            &separations,
-            n,
-            k,
-            a,
             &mut mouthof,
             &mut rampof,
             &mut outerof,
@@ -194,7 +256,7 @@ pub fn replace_ramp_mouths(
             &mut found,
             &mut fresh,
             known,
-            count,
+            a,
         );
     }
 }

@@ -89,11 +89,11 @@ module _ {records : List Region} {boundaries pairs starts mouths ramps outers ki
               },
         )
 
-        module _ (y : eqb r k ≡ true) {m a outer kind : ℕ} (p : m ≡ getD mouths k 0) (q : a ≡ getD ramps k 0) where
+        module _ (y : eqb r k ≡ true) {m a : ℕ} (p : m ≡ getD mouths k 0) (q : a ≡ getD ramps k 0) where
           asked : (C : Context) × Locates C records boundaries pairs starts m a
           asked = (_, located (pre .1) below p q)
 
-          module _ (eo : outer ≡ getD outers k 0) (ek : kind ≡ getD kinds k 0) {x : Bool}
+          module _ {outer kind : ℕ} (eo : outer ≡ getD outers k 0) (ek : kind ≡ getD kinds k 0) {x : Bool}
               (near : (C : Context) → Locates C records boundaries pairs starts m a → x ≡ cornersNear C (proposalOf C m a outer kind)) where
             judged : (C : Context) → NearAsked C records boundaries pairs starts mouths ramps n → x ≡ cornersNear C (proposalOf C (getD mouths k 0) (getD ramps k 0) (getD outers k 0) (getD kinds k 0))
             judged C A = near C (located A below p q) ∙ (λ i. cornersNear C (proposalOf C (p i) (q i) (eo i) (ek i)))
@@ -123,4 +123,46 @@ module _ {records : List Region} {boundaries pairs starts mouths ramps outers ki
             )
 
 pub best-near-spec : {M : Type 1} → statement M
-best-near-spec = close Inv μ (λ world κs qs a good pre bs. ?)
+best-near-spec = close Inv μ (λ world κs qs a good pre bs. (
+  ((a .1 .1 .1 .1 .1 .1 .1 .1 .1 .1 .0, 0), refl, start),
+  λ vs inv. (
+    tt,
+    (
+      λ t. (
+        λ κ. better-asked pre inv t,
+        λ b. (
+          tt,
+          (
+            λ y. let at = in-list pre inv t in (
+              λ κ. at,
+              λ m. (
+                λ κ. at,
+                λ r. (
+                  λ κ. at,
+                  λ o. (
+                    λ κ. at,
+                    λ d. (
+                      λ κ. asked pre inv t (b .5) y (m .5) (r .5),
+                      λ x. (
+                        λ f. (
+                          next-fits pre inv t,
+                          (_, lower pre inv t, ((vs .1, vs .1 + 1), refl, taken pre inv t (b .5) y (m .5) (r .5) (o .5) (d .5) (x .5) f, refl)),
+                        ),
+                        λ f. (
+                          next-fits pre inv t,
+                          (_, lower pre inv t, ((vs .0, vs .1 + 1), refl, far pre inv t (b .5) y (m .5) (r .5) (o .5) (d .5) (x .5) f, refl)),
+                        ),
+                      ),
+                    ),
+                  ),
+                ),
+              ),
+            ),
+            λ f. (next-fits pre inv t, (_, lower pre inv t, ((vs .0, vs .1 + 1), refl, behind pre inv t (b .5) f, refl))),
+          ),
+        ),
+      ),
+      λ f. ((refl, (refl, (refl, (refl, (refl, (refl, (refl, (refl, (refl, (refl, (tt, tt))))))))))), done pre inv f),
+    ),
+  ),
+))
