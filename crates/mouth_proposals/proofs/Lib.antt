@@ -9,8 +9,7 @@ mod KnownEnds
 mod Literals
 pub mod Measured
 mod OtherEnds
-mod OuterWithin
-pub mod NoRamps
+pub mod OuterWithin
 pub mod RowLists
 mod SafeLists
 pub mod ShapeTests

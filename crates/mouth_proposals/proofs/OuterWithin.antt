@@ -1,4 +1,5 @@
--- The region outside of what is found is a region of the map. Assumes nothing.
+-- What is found of a mouth and a ramp is made of the regions of the mouth's pairs, by `proposalOf` or as a triangle; the region outside is a region of the map. Assumes
+-- nothing.
 use Prim.Native.Nat.{ℕ, _≤_, zero-le}
 use mathlib.Core.Path.{_≡_, refl, sym, ap, subst}
 use mathlib.Core.Bool.{Bool, true, false, not, _&&_, _||_, cond}
@@ -23,40 +24,20 @@ use Rattle.mouth_proposals.proofs.Fitting.{all-named-regions}
 use Rattle.mouth_proposals.proofs.Within.{approach-within}
 use Rattle.mouth_proposals.proofs.ShapedMouths.{shaped-is}
 
+-- the mouth's own regions as a triangle
+abbrev pub triangleOf : Context → ℕ → ℕ → MouthProposal
+triangleOf C a m =
+    record {
+      mouthIndex = m;
+      rampIndex = a;
+      outer = filter (C .anchored) (distinctRegions (C .pairs m));
+      inner = filter (λ r. not (C .anchored r)) (distinctRegions (C .pairs m));
+      isTriangle = true;
+      twoPortBroadApproach = false;
+      separation = separationOf C m a;
+    }
+
 module _ (C : Context) (a m : ℕ) (named : All (Named (C .regions)) (C .pairs m)) where
-  abbrev Inside : MouthProposal → Type 0
-  Inside p = All (λ r. r ≤ C .regions) (p .outer)
-
-  proposal-inside : (outer kind : ℕ) → outer ≤ C .regions → Inside (proposalOf C m a outer kind)
-  unfolding proposalOf
-  proposal-inside outer kind h = all-filter (λ r. not (eqb r 0)) (more h done)
-
-  approach-inside : (A : Approach) → Within (C .regions) A → OnO Inside (approachMouth C m a A)
-  unfolding approachMouth
-  approach-inside approach.None w = absent
-  approach-inside (approach.Single outer r) w =
-      let kind = cond ((broadMouth C m a || overlayOnly C m a) && eqb (incidentCount C r) 2) broad plain in
-      on-only (singleFits C m a outer r) (proposalOf C m a outer kind) (proposal-inside outer kind (w .0 .1))
-  approach-inside (approach.Star outer r) w =
-      let kind = cond (broadMouth C m a) broad plain in
-      on-only (starFits C m a outer r) (proposalOf C m a outer kind) (proposal-inside outer kind (w .0 .1))
-
-  shaped-inside : (b : Bool) → OnO Inside (shapedMouth C m a (fullPair C a) (mouthShape b (C .pairs m)))
-  shaped-inside true = subst (OnO Inside) (sym (shaped-is C m a named)) (approach-inside (approachOf (fullPair C a) (mouthShape true (C .pairs m))) (approach-within (C .pairs m) named (fullPair C a)))
-  shaped-inside false = go (fullPair C a)
-    where
-      go : (o : Option Pair) → OnO Inside (shapedMouth C m a o (mouthShape false (C .pairs m)))
-      go none = unfold shapedMouth in absent
-      go (some q) = unfold mouthShape in (unfold shapedMouth in absent)
-
-  triangle-inside : OnO Inside (triangleMouth C m a (distinctRegions (C .pairs m)))
-  unfolding triangleMouth distinctRegions
-  triangle-inside = go (leb (length (filter (C .anchored) (distinctRegions (C .pairs m)))) 1)
-    where
-      go : (b : Bool) → OnO Inside (onlyIf b (record { mouthIndex = m; rampIndex = a; outer = filter (C .anchored) (distinctRegions (C .pairs m)); inner = filter (λ r. not (C .anchored r)) (distinctRegions (C .pairs m)); isTriangle = true; twoPortBroadApproach = false; separation = separationOf C m a }))
-      go true = present (all-filter (C .anchored) (all-map (λ s h. h .1) (all-addAll done (all-named-regions named))))
-      go false = absent
-
   abbrev OwnRegions : Option (List ℕ) → Type 0
   OwnRegions none = Unit {0}
   OwnRegions (some rs) = rs ≡ distinctRegions (C .pairs m)
@@ -76,21 +57,56 @@ module _ (C : Context) (a m : ℕ) (named : All (Named (C .regions)) (C .pairs m
       only true = ap distinctRegions e
       only false = tt
 
-  either-inside : (T : Option (List ℕ)) → OwnRegions T → OnO Inside (triangleOr C T m a (shapedMouth C m a (fullPair C a) (mouthShape (fullCut C m) (C .pairs m))))
-  unfolding triangleOr
-  either-inside none h = shaped-inside (fullCut C m)
-  either-inside (some rs) h = subst (λ rs. OnO Inside (triangleMouth C m a rs)) (sym h) triangle-inside
+  -- what holds of both forms
+  module _ {P : MouthProposal → Type 0} (formed : (outer kind : ℕ) → outer ≤ C .regions → P (proposalOf C m a outer kind)) (three : P (triangleOf C a m)) where
+    approach-on : (A : Approach) → Within (C .regions) A → OnO P (approachMouth C m a A)
+    unfolding approachMouth
+    approach-on approach.None w = absent
+    approach-on (approach.Single outer r) w =
+        let kind = cond ((broadMouth C m a || overlayOnly C m a) && eqb (incidentCount C r) 2) broad plain in
+        on-only (singleFits C m a outer r) (proposalOf C m a outer kind) (formed outer kind (w .0 .1))
+    approach-on (approach.Star outer r) w =
+        let kind = cond (broadMouth C m a) broad plain in
+        on-only (starFits C m a outer r) (proposalOf C m a outer kind) (formed outer kind (w .0 .1))
 
-  found-inside : OnO Inside (foundMouth C a m)
-  unfolding foundMouth triangle
-  found-inside = on-cond (not (noRamp C a) && fullCut C a && noRamp C m && (broadMouth C m a || nearbyRepresentative C m a || overlayRepresentative C m a)) (either-inside (triangle C m a) (own (nearbyRepresentative C m a && fullCut C m && fullCut C a))) absent
-    where
-      own : (b : Bool) → OwnRegions (cond b (triangleRepresentative (C .pairs m) (C .pairs a)) none)
-      own true = own-regions (C .pairs m) (C .pairs a) refl
-      own false = tt
+    shaped-on : (b : Bool) → OnO P (shapedMouth C m a (fullPair C a) (mouthShape b (C .pairs m)))
+    shaped-on true = subst (OnO P) (sym (shaped-is C m a named)) (approach-on (approachOf (fullPair C a) (mouthShape true (C .pairs m))) (approach-within (C .pairs m) named (fullPair C a)))
+    shaped-on false = go (fullPair C a)
+      where
+        go : (o : Option Pair) → OnO P (shapedMouth C m a o (mouthShape false (C .pairs m)))
+        go none = unfold shapedMouth in absent
+        go (some q) = unfold mouthShape in (unfold shapedMouth in absent)
+
+    triangle-on : OnO P (triangleMouth C m a (distinctRegions (C .pairs m)))
+    unfolding triangleMouth
+    triangle-on = on-only (leb (length (filter (C .anchored) (distinctRegions (C .pairs m)))) 1) (triangleOf C a m) three
+
+    either-on : (T : Option (List ℕ)) → OwnRegions T → OnO P (triangleOr C T m a (shapedMouth C m a (fullPair C a) (mouthShape (fullCut C m) (C .pairs m))))
+    unfolding triangleOr
+    either-on none h = shaped-on (fullCut C m)
+    either-on (some rs) h = subst (λ rs. OnO P (triangleMouth C m a rs)) (sym h) triangle-on
+
+    pub found-on : OnO P (foundMouth C a m)
+    unfolding foundMouth triangle
+    found-on = on-cond (not (noRamp C a) && fullCut C a && noRamp C m && (broadMouth C m a || nearbyRepresentative C m a || overlayRepresentative C m a)) (either-on (triangle C m a) (own (nearbyRepresentative C m a && fullCut C m && fullCut C a))) absent
+      where
+        own : (b : Bool) → OwnRegions (cond b (triangleRepresentative (C .pairs m) (C .pairs a)) none)
+        own true = own-regions (C .pairs m) (C .pairs a) refl
+        own false = tt
+
+  abbrev Inside : MouthProposal → Type 0
+  Inside p = All (λ r. r ≤ C .regions) (p .outer)
+
+  proposal-inside : (outer kind : ℕ) → outer ≤ C .regions → Inside (proposalOf C m a outer kind)
+  unfolding proposalOf
+  proposal-inside outer kind h = all-filter (λ r. not (eqb r 0)) (more h done)
+
+  triangle-inside : Inside (triangleOf C a m)
+  unfolding distinctRegions
+  triangle-inside = all-filter (C .anchored) (all-map (λ s h. h .1) (all-addAll done (all-named-regions named)))
 
   pub outer-inside : (outer kind : ℕ) → some (proposalOf C m a outer kind) ≡ foundMouth C a m → outer ≤ C .regions
-  outer-inside outer kind e = head (subst (OnO Inside) (sym e) found-inside)
+  outer-inside outer kind e = head (subst (OnO Inside) (sym e) (found-on proposal-inside triangle-inside))
     where
       first : (b : Bool) → eqb outer 0 ≡ b → All (λ r. r ≤ C .regions) (cond (not b) (outer ∷ []) []) → outer ≤ C .regions
       first true k a = subst (λ o. o ≤ C .regions) (sym (eqb-true outer 0 k)) zero-le

@@ -5,7 +5,7 @@ use mathlib.Core.Option.{Option, none, some}
 use mathlib.Core.List.{List, [], _∷_}
 use lib.Dec.{eqb}
 use lib.Ieee.{lt}
-use Rattle.definitions.specs.Scan.{all, filter, onlyIf, collect, gather}
+use Rattle.definitions.specs.Scan.{all, filter, onlyIf}
 use Rattle.definitions.specs.Grid.{Pair, contains}
 use Rattle.definitions.specs.MouthShapes.{MouthShape, single, star, regionsOf, mouthShape}
 use Rattle.definitions.specs.Context.{Context, fullCut, fullPair, otherRegion, incidentCount, noRamp}
@@ -80,11 +80,6 @@ module _ (C : Context) where
   unfoldable pub mouthCandidate : ℕ → ℕ → Option MouthProposal
   unfolding lt maxMouthDistance foundMouth
   mouthCandidate a m = retain (λ p. not (lt maxMouthDistance (p .separation))) (foundMouth a m)
-
-  -- by ramp, then by mouth
-  unfoldable pub candidates : List MouthProposal
-  unfolding gather collect mouthCandidate
-  candidates = gather (C .count) (λ a. collect (C .count) (mouthCandidate a))
 
   -- ---- `approachFits` and `twoPortBroad` of a mouth of one pair and of a star, as the code asks them
 

@@ -1,21 +1,18 @@
--- The candidates as compact lists: entry k has a mouth, a ramp, a region outside (0 for none), a kind and the bits of a separation. Definitions only; assumes nothing.
-use Prim.Native.Nat.{ℕ, _+_, _*_, _≤_, _<_}
+-- Candidates as compact lists: entry k has a mouth, a ramp, a region outside (0 for none), a kind and the bits of a separation. Definitions only; assumes nothing.
+use Prim.Native.Nat.{ℕ, _≤_, _<_}
 use mathlib.Core.Path.{_≡_}
-use mathlib.Core.Bool.{Bool, not}
 use mathlib.Core.Option.{some}
 use mathlib.Core.List.{List}
 use lib.ListN.{length, getD, set}
-use lib.Dec.{eqb}
 use lib.Ieee.{binary64, toBits}
-use Rattle.definitions.specs.Limits.{numbersPerBoundary}
 use Rattle.definitions.specs.Scan.{collect}
 use Rattle.definitions.specs.Context.{Context}
 use Rattle.definitions.specs.RampMouths.{MouthProposal, separationOf}
 use Rattle.mouth_proposals.specs.Candidates.{proposalOf}
 
--- 128 ramps and 128 mouths at most, of 256 boundaries
+-- of one ramp: 256 boundaries at most
 abbrev pub maxCandidates : ℕ
-maxCandidates = 16384
+maxCandidates = 256
 
 module _ (C : Context) (mouths ramps outers kinds : List ℕ) where
   abbrev pub entryAt : ℕ → MouthProposal
@@ -40,13 +37,6 @@ pub record Roomy (mouths ramps outers kinds separations : List ℕ) : Type 0 whe
   pub outersLong : length outers ≡ maxCandidates
   pub kindsLong : length kinds ≡ maxCandidates
   pub separationsLong : length separations ≡ maxCandidates
-
--- boundary i has no ramp
-abbrev pub plainAt : List ℕ → ℕ → Bool
-plainAt boundaries i = eqb (getD boundaries (numbersPerBoundary * i + 5) 0) 0
-
-abbrev pub rampAt : List ℕ → ℕ → Bool
-rampAt boundaries i = not (plainAt boundaries i)
 
 -- k is l with v at n
 pub record Wrote (l : List ℕ) (n v : ℕ) (k : List ℕ) : Type 0 where

@@ -1,4 +1,4 @@
-// The candidates of all ramps and mouths, as compact lists: ramp by ramp, then mouth by mouth.
+// The candidates of one ramp, as compact lists, mouth by mouth.
 use crate::ends::OtherEnds;
 use crate::ends::find_other_ends;
 use crate::measures::is_close;
@@ -10,41 +10,24 @@ use geometry::boundaries::kind_at;
 ghost use mathlib.Core.Path.{_≡_};
 ghost use mathlib.Core.Bool.{false, true};
 ghost use mathlib.Core.List.{List, _++_};
-ghost use Prim.Native.Nat.{_+_, _*_, _≤_, _<_};
+ghost use Prim.Native.Nat.{_+_, _≤_, _<_};
 ghost use lib.Ieee.{binary64, isNan, toBits};
-ghost use lib.ListN.{length};
-ghost use Rattle.definitions.specs.Limits.{numbersPerBoundary};
-ghost use Rattle.definitions.specs.Scan.{bit, anyBelow, countBelow, collect, toList};
+ghost use Rattle.definitions.specs.Scan.{collect, toList};
 ghost use Rattle.definitions.specs.Context.{Context, fullCut, noRamp};
 ghost use Rattle.definitions.specs.RampMouths.{MouthProposal};
 ghost use Rattle.context.specs.Shown.{ShownTallies};
 ghost use Rattle.mouth_proposals.specs.Lent.{Shows, Shown};
-ghost use Rattle.mouth_proposals.specs.Candidates.{mouthCandidate, candidates};
+ghost use Rattle.mouth_proposals.specs.Candidates.{mouthCandidate};
 ghost use Rattle.mouth_proposals.specs.Ends.{EndsOf};
-ghost use Rattle.mouth_proposals.specs.Listed.{maxCandidates, Filled, Roomy, Put, plainAt, rampAt};
-
-// Whether a boundary has a ramp: without one there is no candidate.
-pub fn any_ramp(boundaries: &[u64], count: usize) -> bool
-    requires { ⌜ numbersPerBoundary * count ≤ length (now boundaries) ⌝ }
-    ensures { λ r. ⌜ r ≡ anyBelow count (rampAt (now (boundaries .entry))) ⌝ }
-{
-    let mut i = 0;
-    while i < count {
-        if kind_at(boundaries, i) != 0 {
-            return true;
-        }
-        i += 1;
-    }
-    false
-}
+ghost use Rattle.mouth_proposals.specs.Listed.{maxCandidates, Filled, Roomy, Put};
 
 // Writes entry n.
 fn put_candidate(
-    mouths: &mut [u8; 16384],
-    ramps: &mut [u8; 16384],
-    outers: &mut [u32; 16384],
-    kinds: &mut [u8; 16384],
-    separations: &mut [u64; 16384],
+    mouths: &mut [u8; 256],
+    ramps: &mut [u8; 256],
+    outers: &mut [u32; 256],
+    kinds: &mut [u8; 256],
+    separations: &mut [u64; 256],
     n: usize,
     m: usize,
     a: usize,
@@ -80,11 +63,11 @@ fn push_mouth(
     counts: &[u32],
     marks: &[u16],
     count: usize,
-    mouths: &mut [u8; 16384],
-    ramps: &mut [u8; 16384],
-    outers: &mut [u32; 16384],
-    kinds: &mut [u8; 16384],
-    separations: &mut [u64; 16384],
+    mouths: &mut [u8; 256],
+    ramps: &mut [u8; 256],
+    outers: &mut [u32; 256],
+    kinds: &mut [u8; 256],
+    separations: &mut [u64; 256],
     n: usize,
     m: usize,
     a: usize,
@@ -142,64 +125,7 @@ fn push_mouth(
     }
 }
 
-// The same of a boundary that may have a ramp, which then is no mouth.
-fn push_plain(
-    boundaries: &[u64],
-    tallies: &[u32],
-    pairs: &[u32],
-    starts: &[usize; 257],
-    counts: &[u32],
-    marks: &[u16],
-    count: usize,
-    mouths: &mut [u8; 16384],
-    ramps: &mut [u8; 16384],
-    outers: &mut [u32; 16384],
-    kinds: &mut [u8; 16384],
-    separations: &mut [u64; 16384],
-    n: usize,
-    m: usize,
-    a: usize,
-    ends: OtherEnds,
-) -> usize
-    requires shown { ⌜ Shown (now boundaries) (now tallies) (now pairs) (now starts) (now counts) (now marks) count ⌝ }
-    requires roomy { ⌜ Roomy (now mouths) (now ramps) (now outers) (now kinds) (now separations) ⌝ }
-    requires places { ⌜ (n + bit (plainAt (now boundaries) m) ≤ maxCandidates) × ((m < count) × (a < count)) ⌝ }
-    ensures bound { λ r. ⌜ r ≤ n + bit (plainAt (now (boundaries .entry)) m) ⌝ }
-    ensures still_roomy { λ r. ⌜ Roomy (now (mouths .exit)) (now (ramps .exit)) (now (outers .exit)) (now (kinds .exit)) (now (separations .exit)) ⌝ }
-    ensures filled { λ r. ⌜ ((C : Context) (l : List MouthProposal) →
-        Shows (now (boundaries .entry)) (now (pairs .entry)) (now (starts .entry)) (now (counts .entry)) (now (marks .entry)) count C →
-        ShownTallies C (now (tallies .entry)) →
-        noRamp C a ≡ false →
-        fullCut C a ≡ true →
-        EndsOf C a ends →
-        Filled C (now (mouths .entry)) (now (ramps .entry)) (now (outers .entry)) (now (kinds .entry)) (now (separations .entry)) n l →
-        Filled C (now (mouths .exit)) (now (ramps .exit)) (now (outers .exit)) (now (kinds .exit)) (now (separations .exit)) r (l
-        ++ toList (mouthCandidate C a m))) ⌝ }
-{
-    if kind_at(boundaries, m) != 0 {
-        return n;
-    }
-    push_mouth(
-        boundaries,
-        tallies,
-        pairs,
-        starts,
-        counts,
-        marks,
-        count,
-        &mut *mouths,
-        &mut *ramps,
-        &mut *outers,
-        &mut *kinds,
-        &mut *separations,
-        n,
-        m,
-        a,
-        ends,
-    )
-}
-
-// The candidates of ramp a, behind the first entries.
+// The candidates of ramp a, a full cut with a ramp.
 fn push_mouths(
     boundaries: &[u64],
     tallies: &[u32],
@@ -208,34 +134,32 @@ fn push_mouths(
     counts: &[u32],
     marks: &[u16],
     count: usize,
-    mouths: &mut [u8; 16384],
-    ramps: &mut [u8; 16384],
-    outers: &mut [u32; 16384],
-    kinds: &mut [u8; 16384],
-    separations: &mut [u64; 16384],
-    first: usize,
+    mouths: &mut [u8; 256],
+    ramps: &mut [u8; 256],
+    outers: &mut [u32; 256],
+    kinds: &mut [u8; 256],
+    separations: &mut [u64; 256],
     a: usize,
     ends: OtherEnds,
 ) -> usize
     requires shown { ⌜ Shown (now boundaries) (now tallies) (now pairs) (now starts) (now counts) (now marks) count ⌝ }
     requires roomy { ⌜ Roomy (now mouths) (now ramps) (now outers) (now kinds) (now separations) ⌝ }
-    requires places { ⌜ (first + countBelow count (plainAt (now boundaries)) ≤ maxCandidates) × (a < count) ⌝ }
-    ensures bound { λ r. ⌜ r ≤ first + countBelow count (plainAt (now (boundaries .entry))) ⌝ }
+    requires place { ⌜ a < count ⌝ }
+    ensures bound { λ r. ⌜ r ≤ maxCandidates ⌝ }
     ensures still_roomy { λ r. ⌜ Roomy (now (mouths .exit)) (now (ramps .exit)) (now (outers .exit)) (now (kinds .exit)) (now (separations .exit)) ⌝ }
-    ensures filled { λ r. ⌜ ((C : Context) (l : List MouthProposal) →
+    ensures filled { λ r. ⌜ ((C : Context) →
         Shows (now (boundaries .entry)) (now (pairs .entry)) (now (starts .entry)) (now (counts .entry)) (now (marks .entry)) count C →
         ShownTallies C (now (tallies .entry)) →
         noRamp C a ≡ false →
         fullCut C a ≡ true →
         EndsOf C a ends →
-        Filled C (now (mouths .entry)) (now (ramps .entry)) (now (outers .entry)) (now (kinds .entry)) (now (separations .entry)) first l →
-        Filled C (now (mouths .exit)) (now (ramps .exit)) (now (outers .exit)) (now (kinds .exit)) (now (separations .exit)) r (l
-        ++ collect count (mouthCandidate C a))) ⌝ }
+        Filled C (now (mouths .exit)) (now (ramps .exit)) (now (outers .exit)) (now (kinds .exit)) (now (separations .exit)) r
+        (collect count (mouthCandidate C a))) ⌝ }
 {
-    let mut n = first;
+    let mut n = 0;
     let mut m = 0;
     while m < count {
-        n = push_plain(
+        n = push_mouth(
             boundaries,
             tallies,
             pairs,
@@ -258,8 +182,8 @@ fn push_mouths(
     n
 }
 
-// The same of a boundary that may be no ramp, or no full cut.
-fn push_ramp(
+// The same of a boundary that may be no ramp, or no full cut. Gives the number of candidates.
+pub fn push_ramp(
     boundaries: &[u64],
     tallies: &[u32],
     pairs: &[u32],
@@ -267,31 +191,29 @@ fn push_ramp(
     counts: &[u32],
     marks: &[u16],
     count: usize,
-    mouths: &mut [u8; 16384],
-    ramps: &mut [u8; 16384],
-    outers: &mut [u32; 16384],
-    kinds: &mut [u8; 16384],
-    separations: &mut [u64; 16384],
-    n: usize,
+    mouths: &mut [u8; 256],
+    ramps: &mut [u8; 256],
+    outers: &mut [u32; 256],
+    kinds: &mut [u8; 256],
+    separations: &mut [u64; 256],
     a: usize,
 ) -> usize
     requires shown { ⌜ Shown (now boundaries) (now tallies) (now pairs) (now starts) (now counts) (now marks) count ⌝ }
     requires roomy { ⌜ Roomy (now mouths) (now ramps) (now outers) (now kinds) (now separations) ⌝ }
-    requires places { ⌜ (n ≤ countBelow a (rampAt (now boundaries)) * countBelow count (plainAt (now boundaries))) × (a < count) ⌝ }
-    ensures bound { λ r. ⌜ r ≤ countBelow (a + 1) (rampAt (now (boundaries .entry))) * countBelow count (plainAt (now (boundaries .entry))) ⌝ }
+    requires place { ⌜ a < count ⌝ }
+    ensures bound { λ r. ⌜ r ≤ maxCandidates ⌝ }
     ensures still_roomy { λ r. ⌜ Roomy (now (mouths .exit)) (now (ramps .exit)) (now (outers .exit)) (now (kinds .exit)) (now (separations .exit)) ⌝ }
-    ensures filled { λ r. ⌜ ((C : Context) (l : List MouthProposal) →
+    ensures filled { λ r. ⌜ ((C : Context) →
         Shows (now (boundaries .entry)) (now (pairs .entry)) (now (starts .entry)) (now (counts .entry)) (now (marks .entry)) count C →
         ShownTallies C (now (tallies .entry)) →
-        Filled C (now (mouths .entry)) (now (ramps .entry)) (now (outers .entry)) (now (kinds .entry)) (now (separations .entry)) n l →
-        Filled C (now (mouths .exit)) (now (ramps .exit)) (now (outers .exit)) (now (kinds .exit)) (now (separations .exit)) r (l
-        ++ collect count (mouthCandidate C a))) ⌝ }
+        Filled C (now (mouths .exit)) (now (ramps .exit)) (now (outers .exit)) (now (kinds .exit)) (now (separations .exit)) r
+        (collect count (mouthCandidate C a))) ⌝ }
 {
     if kind_at(boundaries, a) == 0 {
-        return n;
+        return 0;
     }
     if !full_cut(tallies, a) {
-        return n;
+        return 0;
     }
     let ends = find_other_ends(boundaries, tallies, pairs, starts, count, a);
     push_mouths(
@@ -307,56 +229,7 @@ fn push_ramp(
         &mut *outers,
         &mut *kinds,
         &mut *separations,
-        n,
         a,
         ends,
     )
-}
-
-// All candidates, by ramp, then by mouth; gives their number.
-pub fn push_candidates(
-    boundaries: &[u64],
-    tallies: &[u32],
-    pairs: &[u32],
-    starts: &[usize; 257],
-    counts: &[u32],
-    marks: &[u16],
-    count: usize,
-    mouths: &mut [u8; 16384],
-    ramps: &mut [u8; 16384],
-    outers: &mut [u32; 16384],
-    kinds: &mut [u8; 16384],
-    separations: &mut [u64; 16384],
-) -> usize
-    requires shown { ⌜ Shown (now boundaries) (now tallies) (now pairs) (now starts) (now counts) (now marks) count ⌝ }
-    requires roomy { ⌜ Roomy (now mouths) (now ramps) (now outers) (now kinds) (now separations) ⌝ }
-    ensures bound { λ r. ⌜ r ≤ maxCandidates ⌝ }
-    ensures still_roomy { λ r. ⌜ Roomy (now (mouths .exit)) (now (ramps .exit)) (now (outers .exit)) (now (kinds .exit)) (now (separations .exit)) ⌝ }
-    ensures filled { λ r. ⌜ ((C : Context) →
-        Shows (now (boundaries .entry)) (now (pairs .entry)) (now (starts .entry)) (now (counts .entry)) (now (marks .entry)) count C →
-        ShownTallies C (now (tallies .entry)) →
-        Filled C (now (mouths .exit)) (now (ramps .exit)) (now (outers .exit)) (now (kinds .exit)) (now (separations .exit)) r (candidates C)) ⌝ }
-{
-    let mut n = 0;
-    let mut a = 0;
-    while a < count {
-        n = push_ramp(
-            boundaries,
-            tallies,
-            pairs,
-            starts,
-            counts,
-            marks,
-            count,
-            &mut *mouths,
-            &mut *ramps,
-            &mut *outers,
-            &mut *kinds,
-            &mut *separations,
-            n,
-            a,
-        );
-        a += 1;
-    }
-    n
 }

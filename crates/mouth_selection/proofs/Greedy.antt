@@ -11,7 +11,7 @@ use Rattle.laws.specs.OrderLaws.StableSort.{Weak, filter-sort}
 use Rattle.mouth_selection.specs.Rounds.{better, leastFrom}
 
 module _ {A : Type 0} where
-  abbrev headOf : List A → Option A
+  abbrev pub headOf : List A → Option A
   headOf [] = none
   headOf (x ∷ l) = some x
 

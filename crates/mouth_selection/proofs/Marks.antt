@@ -1,11 +1,12 @@
 -- Marks of regions: what holding a region, a row and the rows of a mouth does to them, and that a proposal is held exactly where its marks say so. Assumes nothing.
-use Prim.Native.Nat.{ℕ, _+_, _-_, _*_, _%_, _≤_}
+use Prim.Native.Nat.{ℕ, _+_, _-_, _*_, _%_, _≤_, _<_}
 use native.Mathlib.Omega.{arith}
 use mathlib.Core.Path.{_≡_, refl, sym, ap, ap₂, _∙_}
 use mathlib.Core.Bool.{Bool, true, false, not, _&&_, _||_, cond, or-false}
 use mathlib.Core.Logic.{⊎-elim}
 use mathlib.Core.List.{List, [], _∷_, _++_}
-use lib.ListN.{length, getD, length-set}
+use lib.ListN.{length, getD, set, length-set}
+use lib.Seq.{getD-set-same, getD-set-other}
 use lib.Dec.{eqb, leb}
 use borrow.Author.Tests.{eqb-false, le-leb, lt-leb}
 use Rattle.definitions.specs.Scan.{any, filter, addAll}
@@ -15,7 +16,7 @@ use Rattle.definitions.specs.Context.{Context}
 use Rattle.definitions.specs.RampMouths.{MouthProposal}
 use Rattle.laws.specs.ListLaws.Lists.{All, done, more}
 use Rattle.laws.specs.ListLaws.ListsAsSets.{any-addAll}
-use Rattle.laws.specs.NumberLaws.Comparisons.{le-or-lt}
+use Rattle.laws.specs.NumberLaws.Comparisons.{le-or-lt, same-or}
 use Rattle.context.specs.Shown.{pairAt, pairsBetween}
 use Rattle.context.proofs.Counting.{between-none, between-more}
 use Rattle.mouth_proposals.specs.Rows.{innerOf}
@@ -42,6 +43,29 @@ inner-length outer marks (r ∷ l) = inner-length outer (cond (eqb r outer) mark
 pub outer-length : (b : Bool) (marks : List ℕ) (hold r : ℕ) → length (cond b marks (markHeld hold marks r)) ≡ length marks
 outer-length true marks hold r = refl
 outer-length false marks hold r = held-length hold marks r
+
+-- the odd part of a mark stays
+held-odd : (hold : ℕ) (marks : List ℕ) (r i : ℕ) → i < length marks → getD (markHeld hold marks r) i 0 % 2 ≡ getD marks i 0 % 2
+unfolding markHeld
+held-odd hold marks r i l = ⊎-elim here (λ h. ap (λ n. n % 2) (getD-set-other marks (r - 1) i (getD marks (r - 1) 0 % 2 + 2 * hold) 0 h)) (same-or i (r - 1))
+  where
+    odd : (n : ℕ) → (n % 2 + 2 * hold) % 2 ≡ n % 2
+    odd n = omega arith
+
+    here : i ≡ r - 1 → getD (set marks (r - 1) (getD marks (r - 1) 0 % 2 + 2 * hold)) i 0 % 2 ≡ getD marks i 0 % 2
+    here e =
+        ap (λ i. getD (set marks (r - 1) (getD marks (r - 1) 0 % 2 + 2 * hold)) i 0 % 2) e ∙ ap (λ n. n % 2) (getD-set-same marks (r - 1) (getD marks (r - 1) 0 % 2 + 2 * hold) 0 (omega (arith, l, e)))
+        ∙ odd (getD marks (r - 1) 0) ∙ ap (λ i. getD marks i 0 % 2) (sym e)
+
+pub outer-odd : (b : Bool) (marks : List ℕ) (hold r i : ℕ) → i < length marks → getD (cond b marks (markHeld hold marks r)) i 0 % 2 ≡ getD marks i 0 % 2
+outer-odd true marks hold r i l = refl
+outer-odd false marks hold r i l = held-odd hold marks r i l
+
+pub inner-odd : (outer : ℕ) (marks l : List ℕ) (i : ℕ) → i < length marks → getD (markInner outer marks l) i 0 % 2 ≡ getD marks i 0 % 2
+unfolding markInner
+inner-odd outer marks [] i h = refl
+inner-odd outer marks (r ∷ l) i h =
+    inner-odd outer (cond (eqb r outer) marks (markHeld 2 marks r)) l i (omega (arith, h, outer-length (eqb r outer) marks 2 r)) ∙ outer-odd (eqb r outer) marks 2 r i h
 
 inner-append : (outer : ℕ) (marks l k : List ℕ) → markInner outer marks (l ++ k) ≡ markInner outer (markInner outer marks l) k
 unfolding markInner

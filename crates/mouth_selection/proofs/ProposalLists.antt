@@ -1,23 +1,19 @@
--- The proposals of the pass, from its candidates and which of them are near: what a caller needs to go from `push_candidates` to `select_mouths`. Assumes nothing.
+-- The proposals of a ramp, from its candidates and which of them are near; and what marks hold at the start. Assumes nothing.
 use Prim.Native.Nat.{ℕ, zero, suc, _-_, _/_, _≤_, _<_}
 use native.Mathlib.Omega.{arith}
 use mathlib.Core.Path.{_≡_, refl, sym, ap, ap₂, _∙_}
 use mathlib.Core.Bool.{Bool, true, false, not, _&&_, _||_, cond}
 use mathlib.Core.Option.{Option, none, some}
-use mathlib.Core.List.{List, [], _∷_, _++_}
+use mathlib.Core.List.{List, [], _∷_, _++_, map}
 use lib.ListN.{getD}
 use lib.Ieee.{lt}
-use Rattle.definitions.specs.Scan.{any, filter, collect, gather, toList, onlyIf}
+use Rattle.definitions.specs.Scan.{any, filter, collect, toList, onlyIf, member}
 use Rattle.definitions.specs.MouthShapes.{mouthShape}
 use Rattle.definitions.specs.Context.{Context, fullCut, fullPair, noRamp}
-use Rattle.definitions.specs.RampMouths.{MouthProposal, maxMouthDistance, retain, broadMouth, nearbyRepresentative, overlayRepresentative, shapedMouth, triangle, triangleOr, cornersNear, isLocal, mouthProposal, proposals}
+use Rattle.definitions.specs.RampMouths.{MouthProposal, maxMouthDistance, retain, broadMouth, nearbyRepresentative, overlayRepresentative, shapedMouth, triangle, triangleOr, cornersNear, isLocal, mouthProposal}
 use Rattle.laws.specs.ListLaws.Lists.{filter-append}
-use Rattle.mouth_proposals.specs.Candidates.{foundMouth, mouthCandidate, candidates}
-use Rattle.mouth_selection.specs.Held.{held, HeldMarks}
-use Rattle.mouth_proposals.specs.Lent.{Shows}
-use Rattle.mouth_selection.specs.Selecting.{Selects}
-use Rattle.mouth_proposals.specs.Listed.{entryAt, Filled}
-use Rattle.mouth_selection.specs.Entries.{nearEntries}
+use Rattle.mouth_proposals.specs.Candidates.{foundMouth, mouthCandidate}
+use Rattle.mouth_selection.specs.Held.{held, isUsed, HeldMarks, TakenState}
 
 module _ (C : Context) where
   abbrev close : MouthProposal → Bool
@@ -31,7 +27,7 @@ module _ (C : Context) where
       both true = refl
       both false = refl
 
-  proposal-is : (a m : ℕ) → mouthProposal C a m ≡ retain (cornersNear C) (mouthCandidate C a m)
+  pub proposal-is : (a m : ℕ) → mouthProposal C a m ≡ retain (cornersNear C) (mouthCandidate C a m)
   unfolding mouthProposal mouthCandidate foundMouth isLocal
   proposal-is a m = go (not (noRamp C a) && fullCut C a && noRamp C m && (broadMouth C m a || nearbyRepresentative C m a || overlayRepresentative C m a)) (triangleOr C (triangle C m a) m a (shapedMouth C m a (fullPair C a) (mouthShape (fullCut C m) (C .pairs m))))
     where
@@ -49,37 +45,13 @@ module _ (C : Context) where
       go true = refl
       go false = refl
 
-  row-is : (a n : ℕ) → collect n (mouthProposal C a) ≡ filter (cornersNear C) (collect n (mouthCandidate C a))
+  pub row-is : (a n : ℕ) → collect n (mouthProposal C a) ≡ filter (cornersNear C) (collect n (mouthCandidate C a))
   unfolding collect filter
   row-is a zero = refl
   row-is a (suc n) =
       ap₂ _++_ (row-is a n) (ap toList (proposal-is a n) ∙ kept (mouthCandidate C a n)) ∙ sym (filter-append (cornersNear C) (collect n (mouthCandidate C a)) (toList (mouthCandidate C a n)))
 
-  rows-are : (k n : ℕ) → gather k (λ a. collect n (mouthProposal C a)) ≡ filter (cornersNear C) (gather k (λ a. collect n (mouthCandidate C a)))
-  unfolding gather filter
-  rows-are zero n = refl
-  rows-are (suc k) n =
-      ap₂ _++_ (rows-are k n) (row-is k n) ∙ sym (filter-append (cornersNear C) (gather k (λ a. collect n (mouthCandidate C a))) (collect n (mouthCandidate C k)))
-
-  pub proposals-filtered : proposals C ≡ filter (cornersNear C) (candidates C)
-  unfolding proposals candidates
-  proposals-filtered = rows-are (C .count) (C .count)
-
-  module _ (mouths ramps outers kinds : List ℕ) (near : List Bool) where
-    near-kept : (n : ℕ) → ((k : ℕ) → k < n → getD near k false ≡ cornersNear C (entryAt C mouths ramps outers kinds k))
-        → filter (cornersNear C) (collect n (λ k. some (entryAt C mouths ramps outers kinds k))) ≡ nearEntries C mouths ramps outers kinds near n
-    unfolding nearEntries collect filter
-    near-kept zero h = refl
-    near-kept (suc n) h =
-        filter-append (cornersNear C) (collect n (λ k. some (entryAt C mouths ramps outers kinds k))) (entryAt C mouths ramps outers kinds n ∷ [])
-        ∙ ap₂ _++_ (near-kept n (λ k l. h k (omega arith))) (sym (kept (some (entryAt C mouths ramps outers kinds n))) ∙ ap (λ b. toList (onlyIf b (entryAt C mouths ramps outers kinds n))) (sym (h n (omega arith))))
-
-    -- with a verdict for each entry, the near ones are the proposals
-    pub proposals-near : {separations : List ℕ} (n : ℕ) → Filled C mouths ramps outers kinds separations n (candidates C)
-        → ((k : ℕ) → k < n → getD near k false ≡ cornersNear C (entryAt C mouths ramps outers kinds k)) → proposals C ≡ nearEntries C mouths ramps outers kinds near n
-    proposals-near n F h = proposals-filtered ∙ ap (filter (cornersNear C)) (sym (F .entries)) ∙ near-kept n h
-
--- ---- what `select_mouths` asks
+-- ---- what is asked at the start
 
 -- nothing is held where marks say no more than that a region is anchored
 pub fresh-marks : (C : Context) (marks : List ℕ) → ((r : ℕ) → 1 ≤ r → r ≤ C .regions → getD marks (r - 1) 0 < 2) → HeldMarks C [] marks
@@ -91,6 +63,13 @@ fresh-marks C marks h = record { at = λ r a b. half (getD marks (r - 1) 0) (h r
     nothing : (r : ℕ) → held [] r ≡ 0
     nothing r = unfold held in (unfold any in refl)
 
-pub selects : {boundaries pairs starts counts marks mouths ramps outers kinds separations : List ℕ} {count n : ℕ} {C : Context} {l : List MouthProposal} → Shows boundaries pairs starts counts marks count C
-    → Filled C mouths ramps outers kinds separations n l → HeldMarks C [] marks → Selects boundaries pairs starts marks mouths ramps outers separations count n C
-selects S F h = record { counted = S .counted; bounds = S .bounds; rows = S .rows; listed = F .listed; long = S .anchored .long; fresh = h }
+-- nothing is taken
+pub round-first : {C : Context} {removed used : List Bool} {marks : List ℕ} → ((i : ℕ) → getD removed i false ≡ false) → ((i : ℕ) → getD used i false ≡ false) → HeldMarks C [] marks
+    → TakenState C [] removed used marks
+round-first {C} h k m = record { gone = λ i l. h i ∙ no-member i; ends = λ j l. k j ∙ no-use j; holds = m }
+  where
+    no-member : (i : ℕ) → false ≡ member i (map (λ (q : MouthProposal). q .mouthIndex) [])
+    no-member i = unfold member in (unfold any in refl)
+
+    no-use : (j : ℕ) → false ≡ isUsed C [] j
+    no-use j = unfold isUsed in (unfold any in refl)

@@ -23,36 +23,40 @@ use Rattle.laws.specs.OrderLaws.StableSort.{Weak}
 use Rattle.laws.specs.ListLaws.Tests.{neither}
 use Rattle.laws.specs.RegionLaws.OneMore.{OneMore, count-more}
 use Rattle.context.proofs.ShownLaws.{shown-stretch, shown-rows}
-use Rattle.context.specs.Rows.{NamedRow}
-use Rattle.mouth_selection.specs.Held.{isUsed, isRefused, HeldMarks, TakenState}
-use Rattle.mouth_selection.specs.Entries.{SafeEntries}
+use Rattle.context.specs.Rows.{NamedRow, NamedRows}
+use Rattle.mouth_selection.specs.Held.{isRefused, TakenState}
+use Rattle.mouth_proposals.specs.Listed.{maxCandidates}
+use Rattle.mouth_selection.specs.Entries.{SafeEntries, SafeKeys, Named}
 use Rattle.mouth_selection.specs.Rounds.{better, leastFrom, leastAmong}
-use Rattle.mouth_selection.specs.Selecting.{isRemoved, Selects}
+use Rattle.mouth_selection.specs.Selecting.{isRemoved, Lists}
 use Rattle.mouth_selection.proofs.Conflicts.{refused-is, conflicts-itself}
 use Rattle.mouth_selection.proofs.Greedy.{isLeft, rounds-end, round-taken}
 
 -- ---- what the code may read
 
-pub safe-entries : {boundaries pairs starts marks mouths ramps outers separations now : List ℕ} {count n : ℕ} {C : Context} → Selects boundaries pairs starts marks mouths ramps outers separations count n C
-    → length now ≡ length marks → SafeEntries boundaries pairs starts now mouths ramps outers n
-safe-entries {marks = marks} {now = now} {C = C} S e =
-    record {
-      few = S .listed .few;
-      safe = λ k h.
-          record {
-            stretch = shown-stretch (S .rows) _ (S .listed .mouth k h);
-            rows = λ r l u. wider (shown-rows (S .rows) .named _ (S .listed .mouth k h) r l u);
-            marked = le-trans (S .listed .outer k h) long;
-          };
-      mouth = λ k h. omega (arith, S .bounds .long, S .listed .mouth k h);
-      ramp = λ k h. omega (arith, S .bounds .long, S .listed .ramp k h);
-    }
-  where
-    long : C .regions ≤ length now
-    long = subst (λ k. C .regions ≤ k) (sym e) (S .long)
+module _ {boundaries pairs starts mouths ramps outers : List ℕ} {count n : ℕ} {C : Context} (L : Lists boundaries pairs starts count C) (N : Named C mouths ramps outers n) (few : n ≤ maxCandidates) where
+  pub safe-keys : SafeKeys boundaries mouths ramps n
+  safe-keys = record { few = few; mouth = λ k h. omega (arith, L .bounds .long, N .mouth k h); ramp = λ k h. omega (arith, L .bounds .long, N .ramp k h) }
 
-    wider : {rows : List ℕ} {k : ℕ} → NamedRow rows (C .regions) k → NamedRow rows (length now) k
-    wider r = record { inside = r .inside; lo-pos = r .lo-pos; lo-le = le-trans (r .lo-le) long; hi-pos = r .hi-pos; hi-le = le-trans (r .hi-le) long }
+  wider : {rows : List ℕ} {k l : ℕ} → C .regions ≤ l → NamedRow rows (C .regions) k → NamedRow rows l k
+  wider long r = record { inside = r .inside; lo-pos = r .lo-pos; lo-le = le-trans (r .lo-le) long; hi-pos = r .hi-pos; hi-le = le-trans (r .hi-le) long }
+
+  pub safe-entries : {marks : List ℕ} → C .regions ≤ length marks → SafeEntries pairs starts marks mouths outers n
+  safe-entries {marks} long =
+      record {
+        few = few;
+        safe = λ k h.
+            record {
+              stretch = shown-stretch (L .rows) _ (N .mouth k h);
+              rows = λ r l u. wider long (shown-rows (L .rows) .named _ (N .mouth k h) r l u);
+              marked = le-trans (N .outer k h) long;
+            };
+      }
+
+  pub all-rows : {l : ℕ} → C .regions ≤ l → NamedRows pairs starts count l
+  all-rows {l} long =
+      let N = shown-rows (L .rows) in
+      subst (λ n. NamedRows pairs starts n l) (L .counted) (record { few = N .few; stretch = N .stretch; named = λ i h k a b. wider long (N .named i h k a b) })
 
 -- ---- the least of what is left is left
 
@@ -104,29 +108,12 @@ module _ (C : Context) (l : List MouthProposal) where
   pub last-round : (T : List MouthProposal) → none ≡ leastAmong C T l → select (conflict C) T sorted ≡ T
   last-round T e = rounds-end (conflict C) (ranksBefore C) weak l T (sym (left-is T) ∙ sym e)
 
--- what holds between rounds: T is what was taken, and entry k is next
-pub record Round (C : Context) (removed used : List Bool) (marks : List ℕ) (l : List MouthProposal) (next : Option MouthProposal) : Type 0 where
-  pub chosen : List MouthProposal
-  pub state : TakenState C chosen removed used marks
-  pub same : select (conflict C) chosen (sort (ranksBefore C) l) ≡ select (conflict C) [] (sort (ranksBefore C) l)
-  pub least : next ≡ leastAmong C chosen l
-
-pub round-first : {C : Context} {removed used : List Bool} {marks : List ℕ} → ((i : ℕ) → getD removed i false ≡ false) → ((i : ℕ) → getD used i false ≡ false) → HeldMarks C [] marks
-    → TakenState C [] removed used marks
-round-first {C} h k m = record { gone = λ i l. h i ∙ no-member i; ends = λ j l. k j ∙ no-use j; holds = m }
-  where
-    no-member : (i : ℕ) → false ≡ member i (map (λ (q : MouthProposal). q .mouthIndex) [])
-    no-member i = unfold member in (unfold any in refl)
-
-    no-use : (j : ℕ) → false ≡ isUsed C [] j
-    no-use j = unfold isUsed in (unfold any in refl)
-
-module _ {C : Context} {removed used : List Bool} {marks : List ℕ} {l : List MouthProposal} where
-  pub round-last : {next : Option MouthProposal} → Round C removed used marks l next → none ≡ next → proposals C ≡ l → (i : ℕ) → i < C .count → getD removed i false ≡ isRemoved C i
-  unfolding mouths.removed mouths.taken
-  round-last R e f i h =
-      R .state .gone i h
-      ∙ ap (λ t. member i (map (λ q. q .mouthIndex) t)) (sym (last-round C l (R .chosen) (e ∙ R .least)) ∙ R .same ∙ ap (λ l. select (conflict C) [] (sort (ranksBefore C) l)) (sym f))
+-- nothing is left: what was taken is what the pass removes
+pub round-last : {C : Context} {removed used : List Bool} {marks : List ℕ} (T : List MouthProposal) → TakenState C T removed used marks
+    → select (conflict C) T (sort (ranksBefore C) (proposals C)) ≡ select (conflict C) [] (sort (ranksBefore C) (proposals C)) → none ≡ leastAmong C T (proposals C)
+    → (i : ℕ) → i < C .count → getD removed i false ≡ isRemoved C i
+unfolding mouths.removed mouths.taken
+round-last {C} T S same e i h = S .gone i h ∙ ap (λ t. member i (map (λ q. q .mouthIndex) t)) (sym (last-round C (proposals C) T e) ∙ same)
 
 -- what is left has a mouth that is not gone
 pub mouth-left : (C : Context) (T : List MouthProposal) (p : MouthProposal) → isRefused C T p ≡ false → member (p .mouthIndex) (map (λ q. q .mouthIndex) T) ≡ false

@@ -1,14 +1,16 @@
--- One round of the greedy selection: the first least of what conflicts with none taken. Definitions only; assumes nothing.
+-- The first least of what conflicts with none taken, and what may be known of it from before. Definitions only; assumes nothing.
 use Prim.Native.Nat.{ℕ}
-use mathlib.Core.Bool.{Bool, false, not, _&&_, cond}
+use mathlib.Core.Path.{_≡_}
+use mathlib.Core.Bool.{Bool, false, not, cond}
 use mathlib.Core.Option.{Option, none, some}
 use mathlib.Core.List.{List, [], _∷_}
 use lib.ListN.{getD}
 use Rattle.definitions.specs.Scan.{filter}
 use Rattle.definitions.specs.Context.{Context}
-use Rattle.definitions.specs.RampMouths.{MouthProposal, ranksBefore}
+use Rattle.definitions.specs.RampMouths.{MouthProposal, ranksBefore, cornersNear}
 use Rattle.mouth_selection.specs.Held.{isRefused}
 use Rattle.mouth_proposals.specs.Listed.{entryAt}
+use Rattle.mouth_selection.specs.Entries.{markedEntries}
 
 module _ {A : Type 0} (lt : A → A → Bool) where
   -- of two elements that are level the earlier
@@ -21,13 +23,27 @@ module _ {A : Type 0} (lt : A → A → Bool) where
   leastFrom b [] = b
   leastFrom b (x ∷ l) = leastFrom (better b x) l
 
-module _ (C : Context) (taken : List MouthProposal) where
-  unfoldable pub leastAmong : List MouthProposal → Option MouthProposal
-  unfolding leastFrom filter isRefused ranksBefore
-  leastAmong l = leastFrom (ranksBefore C) none (filter (λ p. not (isRefused C taken p)) l)
+  abbrev pub NotBefore : A → Option A → Type 0
+  NotBefore x none = Unit {0}
+  NotBefore x (some y) = lt y x ≡ false
 
-  -- with entry k, if it is near and left
+  -- what is known of the first least: it is the same, or what is known is not left any more, and the first least is not before it
+  pub data Under (p : A → Bool) : Option A → Option A → Type 0 where
+    same : {o : Option A} → Under p o o
+    over : {x : A} {o : Option A} → p x ≡ false → NotBefore x o → Under p (some x) o
+
+module _ (C : Context) where
+  unfoldable pub leastAmong : List MouthProposal → List MouthProposal → Option MouthProposal
+  unfolding leastFrom filter isRefused ranksBefore
+  leastAmong taken l = leastFrom (ranksBefore C) none (filter (λ p. not (isRefused C taken p)) l)
+
+  -- with entry k, if it is marked
   unfoldable pub betterOf : List ℕ → List ℕ → List ℕ → List ℕ → List Bool → ℕ → Option MouthProposal → Option MouthProposal
-  unfolding isRefused ranksBefore
-  betterOf mouths ramps outers kinds near k b =
-      cond (getD near k false && not (isRefused C taken (entryAt C mouths ramps outers kinds k))) (better (ranksBefore C) b (entryAt C mouths ramps outers kinds k)) b
+  unfolding ranksBefore
+  betterOf mouths ramps outers kinds marked k b =
+      cond (getD marked k false) (better (ranksBefore C) b (entryAt C mouths ramps outers kinds k)) b
+
+  -- the first least of the first k entries that are marked and whose inner regions are near
+  unfoldable pub nearLeast : List ℕ → List ℕ → List ℕ → List ℕ → List Bool → ℕ → Option MouthProposal
+  unfolding leastFrom filter ranksBefore cornersNear markedEntries
+  nearLeast mouths ramps outers kinds marked k = leastFrom (ranksBefore C) none (filter (cornersNear C) (markedEntries C mouths ramps outers kinds marked k))

@@ -34,6 +34,14 @@ fn is_held(marks: &[u16], r: u32, hold: u16) -> bool
     3 <= marks[r as usize - 1] / 2 + hold
 }
 
+// Whether region r is held so that nothing else may name it.
+pub fn region_full(marks: &[u16], r: u32) -> bool
+    requires { ⌜ (1 ≤ r) × (r ≤ length (now marks)) ⌝ }
+    ensures { λ x. ⌜ x ≡ leb 2 (holdAt (now (marks .entry)) r) ⌝ }
+{
+    2 <= marks[r as usize - 1] / 2
+}
+
 // Whether one of these rows names a region, other than `outer`, that is held.
 fn inner_held(pairs: &[u32], marks: &[u16], first: usize, end: usize, outer: u32) -> bool
     requires ordered { ⌜ first ≤ end ⌝ }

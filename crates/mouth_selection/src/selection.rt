@@ -1,4 +1,4 @@
-// The choice among proposals: each round takes the least that conflicts with none taken.
+// Entries of lists of candidates: which conflict with none taken, which is the least, and one taken.
 use crate::held::hold_proposal;
 use crate::held::proposal_held;
 use crate::keys::ranks_before;
@@ -6,23 +6,23 @@ use geometry::boundaries::kind_at;
 use geometry::boundaries::ramp_at;
 use plain_numbers::wide_byte;
 ghost use mathlib.Core.Path.{_≡_};
-ghost use mathlib.Core.Bool.{false, not, _&&_};
+ghost use mathlib.Core.Bool.{true, false, not};
+ghost use mathlib.Core.Option.{none};
 ghost use mathlib.Core.List.{List, [], _∷_, _++_};
-ghost use Prim.Native.Nat.{ℕ, _+_, _*_, _≤_, _<_};
+ghost use Prim.Native.Nat.{ℕ, _+_, _*_, _%_, _≤_, _<_};
 ghost use lib.ListN.{length, getD};
 ghost use Rattle.definitions.specs.Limits.{numbersPerBoundary};
 ghost use Rattle.definitions.specs.Sort.{listLt};
 ghost use Rattle.definitions.specs.Context.{Context};
-ghost use Rattle.definitions.specs.RampMouths.{MouthProposal, proposals};
+ghost use Rattle.definitions.specs.RampMouths.{MouthProposal, ranksBefore};
 ghost use Rattle.context.specs.Shown.{ShownBoundaries, ShownPairs};
 ghost use Rattle.context.specs.Rows.{Stretch, NamedRow};
 ghost use Rattle.mouth_proposals.specs.Candidates.{proposalOf};
 ghost use Rattle.mouth_selection.specs.Held.{TakenState, isRefused, sameEnd, endMark};
 ghost use Rattle.mouth_selection.specs.Keys.{keyAt};
-ghost use Rattle.mouth_proposals.specs.Listed.{maxCandidates, Listed, entryAt};
-ghost use Rattle.mouth_selection.specs.Entries.{SafeEntry, SafeEntries, entryIf, nearEntries};
-ghost use Rattle.mouth_selection.specs.Rounds.{betterOf, leastAmong};
-ghost use Rattle.mouth_selection.specs.Selecting.{isRemoved, Selects, Selecting};
+ghost use Rattle.mouth_proposals.specs.Listed.{maxCandidates, entryAt};
+ghost use Rattle.mouth_selection.specs.Entries.{SafeEntry, SafeEntries, SafeKeys, Named, Measured, entryIf, markedEntries};
+ghost use Rattle.mouth_selection.specs.Rounds.{betterOf, leastFrom};
 
 // Whether boundaries i and j are the same end of the same ramp.
 fn same_end(boundaries: &[u64], i: usize, j: usize) -> bool
@@ -111,24 +111,24 @@ fn take(
         TakenState C (taken ++ (proposalOf C m a outer kind ∷ [])) (now (removed .exit)) (now (used .exit)) (now (marks .exit))) ⌝ }
     ensures lengths { λ x. ⌜ (length (now (marks .exit)) ≡ length (now (marks .entry)))
         × ((length (now (used .exit)) ≡ 256) × (length (now (removed .exit)) ≡ 256)) ⌝ }
+    ensures odd_parts { λ x. ⌜ ((i : ℕ) → i < length (now (marks .entry)) → getD (now (marks .exit)) i 0 % 2 ≡ getD (now (marks .entry)) i 0 % 2) ⌝ }
 {
     removed[m] = true;
     use_end(boundaries, &mut *used, count, a);
     hold_proposal(pairs, starts, &mut *marks, m, outer, kind);
 }
 
-// Whether entry k is near and conflicts with none taken.
-fn entry_left(
+// Whether entry k conflicts with none taken.
+pub fn entry_left(
     pairs: &[u32],
     starts: &[usize; 257],
     marks: &[u16],
     removed: &[bool; 256],
     used: &[bool; 256],
-    mouths: &[u8; 16384],
-    ramps: &[u8; 16384],
-    outers: &[u32; 16384],
-    kinds: &[u8; 16384],
-    near: &[bool; 16384],
+    mouths: &[u8; 256],
+    ramps: &[u8; 256],
+    outers: &[u32; 256],
+    kinds: &[u8; 256],
     k: usize,
 ) -> bool
     requires k_within { ⌜ k < maxCandidates ⌝ }
@@ -139,12 +139,8 @@ fn entry_left(
         getD (now (mouths .entry)) k 0 < C .count →
         getD (now (ramps .entry)) k 0 < C .count →
         getD (now (outers .entry)) k 0 ≤ C .regions →
-        x ≡ (getD (now (near .entry)) k false
-        && not (isRefused C taken (entryAt C (now (mouths .entry)) (now (ramps .entry)) (now (outers .entry)) (now (kinds .entry)) k)))) ⌝ }
+        x ≡ not (isRefused C taken (entryAt C (now (mouths .entry)) (now (ramps .entry)) (now (outers .entry)) (now (kinds .entry)) k))) ⌝ }
 {
-    if !near[k] {
-        return false;
-    }
     let m = wide_byte(mouths[k]);
     let a = wide_byte(ramps[k]);
     is_left(
@@ -163,9 +159,9 @@ fn entry_left(
 // Whether entry k ranks before entry j.
 fn entry_before(
     boundaries: &[u64],
-    mouths: &[u8; 16384],
-    ramps: &[u8; 16384],
-    separations: &[u64; 16384],
+    mouths: &[u8; 256],
+    ramps: &[u8; 256],
+    separations: &[u64; 256],
     k: usize,
     j: usize,
 ) -> bool
@@ -189,49 +185,30 @@ fn entry_before(
     )
 }
 
-// The better of entry `best`, none where it is n, and entry k, if that is near and left.
-fn better_entry(
+// The better of entry `best`, none where it is n, and entry k, if that is marked.
+pub fn better_marked(
     boundaries: &[u64],
-    pairs: &[u32],
-    starts: &[usize; 257],
-    marks: &[u16],
-    removed: &[bool; 256],
-    used: &[bool; 256],
-    mouths: &[u8; 16384],
-    ramps: &[u8; 16384],
-    outers: &[u32; 16384],
-    kinds: &[u8; 16384],
-    separations: &[u64; 16384],
-    near: &[bool; 16384],
+    mouths: &[u8; 256],
+    ramps: &[u8; 256],
+    separations: &[u64; 256],
+    marked: &[bool; 256],
     n: usize,
     best: usize,
     k: usize,
 ) -> usize
-    requires safe { ⌜ SafeEntries (now boundaries) (now pairs) (now starts) (now marks) (now mouths) (now ramps) (now outers) n ⌝ }
+    requires safe { ⌜ SafeKeys (now boundaries) (now mouths) (now ramps) n ⌝ }
     requires places { ⌜ (k < n) × (best ≤ n) ⌝ }
-    ensures bound { λ r. ⌜ r ≤ n ⌝ }
-    ensures best { λ r. ⌜ ((C : Context) (taken : List MouthProposal) →
+    ensures bound { λ r. ⌜ (r ≤ n) × ((r ≡ k → ⊥) → r ≡ best) ⌝ }
+    ensures best { λ r. ⌜ ((C : Context) (outers kinds : List ℕ) →
         ShownBoundaries C (now (boundaries .entry)) →
-        ShownPairs C (now (pairs .entry)) (now (starts .entry)) →
-        Listed C (now (mouths .entry)) (now (ramps .entry)) (now (outers .entry)) (now (separations .entry)) n →
-        TakenState C taken (now (removed .entry)) (now (used .entry)) (now (marks .entry)) →
-        entryIf C (now (mouths .entry)) (now (ramps .entry)) (now (outers .entry)) (now (kinds .entry)) n r
-        ≡ betterOf C taken (now (mouths .entry)) (now (ramps .entry)) (now (outers .entry)) (now (kinds .entry)) (now (near .entry)) k
-        (entryIf C (now (mouths .entry)) (now (ramps .entry)) (now (outers .entry)) (now (kinds .entry)) n best)) ⌝ }
+        Measured C (now (mouths .entry)) (now (ramps .entry)) (now (separations .entry)) (now (marked .entry)) n →
+        (best < n → getD (now (marked .entry)) best false ≡ true) →
+        (r < n → getD (now (marked .entry)) r false ≡ true)
+        × (entryIf C (now (mouths .entry)) (now (ramps .entry)) outers kinds n r
+        ≡ betterOf C (now (mouths .entry)) (now (ramps .entry)) outers kinds (now (marked .entry)) k
+        (entryIf C (now (mouths .entry)) (now (ramps .entry)) outers kinds n best))) ⌝ }
 {
-    if !entry_left(
-        pairs,
-        starts,
-        marks,
-        removed,
-        used,
-        mouths,
-        ramps,
-        outers,
-        kinds,
-        near,
-        k,
-    ) {
+    if !marked[k] {
         return best;
     }
     if best == n {
@@ -243,38 +220,62 @@ fn better_entry(
     best
 }
 
-// The least entry that is near and left, the first of level ones; n where there is none.
-fn least_left(
+// The least entry that is marked, the first of level ones; n where there is none.
+pub fn least_marked(
     boundaries: &[u64],
+    mouths: &[u8; 256],
+    ramps: &[u8; 256],
+    separations: &[u64; 256],
+    marked: &[bool; 256],
+    n: usize,
+) -> usize
+    requires { ⌜ SafeKeys (now boundaries) (now mouths) (now ramps) n ⌝ }
+    ensures bound { λ r. ⌜ r ≤ n ⌝ }
+    ensures best { λ r. ⌜ ((C : Context) (outers kinds : List ℕ) →
+        ShownBoundaries C (now (boundaries .entry)) →
+        Measured C (now (mouths .entry)) (now (ramps .entry)) (now (separations .entry)) (now (marked .entry)) n →
+        (r < n → getD (now (marked .entry)) r false ≡ true)
+        × (entryIf C (now (mouths .entry)) (now (ramps .entry)) outers kinds n r
+        ≡ leastFrom (ranksBefore C) none (markedEntries C (now (mouths .entry)) (now (ramps .entry)) outers kinds (now (marked .entry)) n))) ⌝ }
+{
+    let mut best = n;
+    let mut k = 0;
+    while k < n {
+        best = better_marked(boundaries, mouths, ramps, separations, marked, n, best, k);
+        k += 1;
+    }
+    best
+}
+
+// Marks those of the first n entries that conflict with none taken.
+pub fn mark_left(
     pairs: &[u32],
     starts: &[usize; 257],
     marks: &[u16],
     removed: &[bool; 256],
     used: &[bool; 256],
-    mouths: &[u8; 16384],
-    ramps: &[u8; 16384],
-    outers: &[u32; 16384],
-    kinds: &[u8; 16384],
-    separations: &[u64; 16384],
-    near: &[bool; 16384],
+    mouths: &[u8; 256],
+    ramps: &[u8; 256],
+    outers: &[u32; 256],
+    kinds: &[u8; 256],
+    marked: &mut [bool; 256],
     n: usize,
-) -> usize
-    requires { ⌜ SafeEntries (now boundaries) (now pairs) (now starts) (now marks) (now mouths) (now ramps) (now outers) n ⌝ }
-    ensures bound { λ r. ⌜ r ≤ n ⌝ }
-    ensures best { λ r. ⌜ ((C : Context) (taken : List MouthProposal) →
-        ShownBoundaries C (now (boundaries .entry)) →
+)
+    requires safe { ⌜ SafeEntries (now pairs) (now starts) (now marks) (now mouths) (now outers) n ⌝ }
+    requires marked_long { ⌜ length (now marked) ≡ maxCandidates ⌝ }
+    ensures marked { λ x. ⌜ ((C : Context) (taken : List MouthProposal) →
         ShownPairs C (now (pairs .entry)) (now (starts .entry)) →
-        Listed C (now (mouths .entry)) (now (ramps .entry)) (now (outers .entry)) (now (separations .entry)) n →
+        Named C (now (mouths .entry)) (now (ramps .entry)) (now (outers .entry)) n →
         TakenState C taken (now (removed .entry)) (now (used .entry)) (now (marks .entry)) →
-        entryIf C (now (mouths .entry)) (now (ramps .entry)) (now (outers .entry)) (now (kinds .entry)) n r
-        ≡ leastAmong C taken (nearEntries C (now (mouths .entry)) (now (ramps .entry)) (now (outers .entry)) (now (kinds .entry))
-        (now (near .entry)) n)) ⌝ }
+        (k : ℕ) →
+        k < n →
+        getD (now (marked .exit)) k false
+        ≡ not (isRefused C taken (entryAt C (now (mouths .entry)) (now (ramps .entry)) (now (outers .entry)) (now (kinds .entry)) k))) ⌝ }
+    ensures marked_length { λ x. ⌜ length (now (marked .exit)) ≡ maxCandidates ⌝ }
 {
-    let mut best = n;
     let mut k = 0;
     while k < n {
-        best = better_entry(
-            boundaries,
+        marked[k] = entry_left(
             pairs,
             starts,
             marks,
@@ -284,29 +285,24 @@ fn least_left(
             ramps,
             outers,
             kinds,
-            separations,
-            near,
-            n,
-            best,
             k,
         );
         k += 1;
     }
-    best
 }
 
 // Takes entry k.
-fn take_entry(
+pub fn take_entry(
     boundaries: &[u64],
     pairs: &[u32],
     starts: &[usize; 257],
     marks: &mut [u16],
     removed: &mut [bool; 256],
     used: &mut [bool; 256],
-    mouths: &[u8; 16384],
-    ramps: &[u8; 16384],
-    outers: &[u32; 16384],
-    kinds: &[u8; 16384],
+    mouths: &[u8; 256],
+    ramps: &[u8; 256],
+    outers: &[u32; 256],
+    kinds: &[u8; 256],
     count: usize,
     k: usize,
 )
@@ -326,6 +322,7 @@ fn take_entry(
         (now (removed .exit)) (now (used .exit)) (now (marks .exit))) ⌝ }
     ensures lengths { λ x. ⌜ (length (now (marks .exit)) ≡ length (now (marks .entry)))
         × ((length (now (used .exit)) ≡ 256) × (length (now (removed .exit)) ≡ 256)) ⌝ }
+    ensures odd_parts { λ x. ⌜ ((i : ℕ) → i < length (now (marks .entry)) → getD (now (marks .exit)) i 0 % 2 ≡ getD (now (marks .entry)) i 0 % 2) ⌝ }
 {
     let m = wide_byte(mouths[k]);
     let a = wide_byte(ramps[k]);
@@ -341,129 +338,5 @@ fn take_entry(
         a,
         outers[k],
         kinds[k],
-    );
-}
-
-// Takes entries until none is left; `removed` and `used` mark nothing before.
-fn take_all(
-    boundaries: &[u64],
-    pairs: &[u32],
-    starts: &[usize; 257],
-    marks: &mut [u16],
-    removed: &mut [bool; 256],
-    used: &mut [bool; 256],
-    mouths: &[u8; 16384],
-    ramps: &[u8; 16384],
-    outers: &[u32; 16384],
-    kinds: &[u8; 16384],
-    separations: &[u64; 16384],
-    near: &[bool; 16384],
-    count: usize,
-    n: usize,
-)
-    requires selecting { ⌜ Selecting (now boundaries) (now pairs) (now starts) (now marks) (now mouths) (now ramps) (now outers) (now separations) count n ⌝ }
-    requires room { ⌜ (length (now used) ≡ 256) × (length (now removed) ≡ 256) ⌝ }
-    requires removed_clear { ⌜ ((i : ℕ) → getD (now removed) i false ≡ false) ⌝ }
-    requires used_clear { ⌜ ((i : ℕ) → getD (now used) i false ≡ false) ⌝ }
-    ensures removed { λ x. ⌜ ((C : Context) →
-        Selects (now (boundaries .entry)) (now (pairs .entry)) (now (starts .entry)) (now (marks .entry)) (now (mouths .entry)) (now (ramps .entry))
-        (now (outers .entry)) (now (separations .entry)) count n C →
-        proposals C ≡ nearEntries C (now (mouths .entry)) (now (ramps .entry)) (now (outers .entry)) (now (kinds .entry)) (now (near .entry)) n →
-        (i : ℕ) →
-        i < C .count →
-        getD (now (removed .exit)) i false ≡ isRemoved C i) ⌝ }
-    ensures lengths { λ x. ⌜ (length (now (marks .exit)) ≡ length (now (marks .entry))) ⌝ }
-{
-    let mut k = least_left(
-        boundaries,
-        pairs,
-        starts,
-        &*marks,
-        &*removed,
-        &*used,
-        mouths,
-        ramps,
-        outers,
-        kinds,
-        separations,
-        near,
-        n,
-    );
-    while k < n {
-        take_entry(
-            boundaries,
-            pairs,
-            starts,
-            &mut *marks,
-            &mut *removed,
-            &mut *used,
-            mouths,
-            ramps,
-            outers,
-            kinds,
-            count,
-            k,
-        );
-        k = least_left(
-            boundaries,
-            pairs,
-            starts,
-            &*marks,
-            &*removed,
-            &*used,
-            mouths,
-            ramps,
-            outers,
-            kinds,
-            separations,
-            near,
-            n,
-        );
-    }
-}
-
-// Marks the boundaries that the pass removes, from its candidates and which of them are near.
-pub fn select_mouths(
-    boundaries: &[u64],
-    pairs: &[u32],
-    starts: &[usize; 257],
-    marks: &mut [u16],
-    removed: &mut [bool; 256],
-    mouths: &[u8; 16384],
-    ramps: &[u8; 16384],
-    outers: &[u32; 16384],
-    kinds: &[u8; 16384],
-    separations: &[u64; 16384],
-    near: &[bool; 16384],
-    count: usize,
-    n: usize,
-)
-    requires selecting { ⌜ Selecting (now boundaries) (now pairs) (now starts) (now marks) (now mouths) (now ramps) (now outers) (now separations) count n ⌝ }
-    requires removed_room { ⌜ length (now removed) ≡ 256 ⌝ }
-    requires removed_clear { ⌜ ((i : ℕ) → getD (now removed) i false ≡ false) ⌝ }
-    ensures { λ x. ⌜ ((C : Context) →
-        Selects (now (boundaries .entry)) (now (pairs .entry)) (now (starts .entry)) (now (marks .entry)) (now (mouths .entry)) (now (ramps .entry))
-        (now (outers .entry)) (now (separations .entry)) count n C →
-        proposals C ≡ nearEntries C (now (mouths .entry)) (now (ramps .entry)) (now (outers .entry)) (now (kinds .entry)) (now (near .entry)) n →
-        (i : ℕ) →
-        i < C .count →
-        getD (now (removed .exit)) i false ≡ isRemoved C i) ⌝ }
-{
-    let mut used = [false; 256];
-    take_all(
-        boundaries,
-        pairs,
-        starts,
-        &mut *marks,
-        &mut *removed,
-        &mut used,
-        mouths,
-        ramps,
-        outers,
-        kinds,
-        separations,
-        near,
-        count,
-        n,
     );
 }

@@ -1,36 +1,34 @@
--- The loops of `corners_near` and `mark_near`: what is known when so many places or candidates are passed, one more, and the end. And what the parts of pass 1
+-- The loops of `corners_near` and `best_near`: what is known when so many places or candidates are passed, one more, and the end. And what the parts of pass 1
 -- ask of one another. Assumes nothing.
 use Prim.Native.Nat.{ℕ, _+_, _-_, _*_, _/_, _%_, _≤_, _<_}
 use native.Mathlib.Omega.{arith}
-use mathlib.Core.Path.{_≡_, refl, sym, ap, ap₂, subst, _∙_}
-use mathlib.Core.Logic.{⊎-elim}
-use mathlib.Core.Bool.{Bool, true, false, not, _||_, cond, Bool·not-not}
-use mathlib.Core.List.{List}
-use lib.ListN.{length, getD, set, length-set}
-use lib.Seq.{getD-set-same, getD-set-other}
+use mathlib.Core.Path.{_≡_, refl, sym, ap, subst, _∙_}
+use mathlib.Core.Bool.{Bool, true, false, not, _||_, cond, Bool·not-not, true≢false}
+use mathlib.Core.List.{List, []}
+use lib.ListN.{length, getD}
 use lib.Dec.{eqb}
-use borrow.Author.Tests.{ne-eqb, not-true}
-use Rattle.definitions.specs.Scan.{any, anyBelow, allBelow, member}
+use borrow.Author.Tests.{ne-eqb}
+use Rattle.definitions.specs.Scan.{allBelow}
 use Rattle.definitions.specs.Context.{Context}
 use Rattle.definitions.specs.RampMouths.{cornersNear}
 use Rattle.laws.specs.ListLaws.ScanSteps.{all-more, all-fails}
 use Rattle.laws.specs.FloatLaws.Pixels.{PixelRegion}
-use Rattle.laws.specs.NumberLaws.Comparisons.{last-or}
 use Rattle.context.specs.declared.Region.{Region}
 use Rattle.context.specs.Records.{recordOf}
-use Rattle.context.specs.Shown.{ShownBoundaries}
+use Rattle.context.specs.Shown.{ShownBoundaries, ShownAnchored}
 use Rattle.context.specs.Rows.{NamedRow}
 use Rattle.context.proofs.ShownLaws.{shown-rows}
-use Rattle.mouth_proposals.specs.Candidates.{broad, proposalOf, candidates}
+use Rattle.mouth_proposals.specs.Candidates.{broad, proposalOf}
 use Rattle.mouth_regions.specs.Inner.{placesOf, regionAt, innerAt}
 use Rattle.mouth_regions.specs.Near.{regionNear}
-use Rattle.mouth_proposals.specs.Listed.{rampAt, entryAt, Filled}
-use Rattle.mouth_proposals.proofs.NoRamps.{nothing-removed}
-use Rattle.mouth_selection.specs.Selecting.{Selects}
+use Rattle.mouth_proposals.specs.Lent.{Shows}
+use Rattle.mouth_proposals.specs.Listed.{Listed}
+use Rattle.mouth_selection.specs.Entries.{SafeKeys, Measured}
+use Rattle.mouth_selection.specs.Selecting.{Lists, Progress}
 use Rattle.mouth_regions.proofs.InnerWalk.{corners-near}
-use Rattle.mouth_selection.proofs.ProposalLists.{fresh-marks, selects}
+use Rattle.mouth_selection.proofs.ProposalLists.{fresh-marks, round-first}
 use Rattle.topology.specs.Held.{place-in, record-is}
-use Rattle.topology.specs.Mouths.{Locates, NearAsked, NearMarked, Replaces, NoMarks, Replaced}
+use Rattle.topology.specs.Mouths.{Locates, NearAsked, Replaces, NoMarks}
 
 negated : {x t : Bool} → not x ≡ t → x ≡ not t
 negated {x} {t} e = sym (Bool·not-not x) ∙ ap not e
@@ -101,44 +99,59 @@ pub located : {C : Context} {records : List Region} {boundaries pairs starts mou
     → m ≡ getD mouths k 0 → a ≡ getD ramps k 0 → Locates C records boundaries pairs starts m a
 located A l e d = rw (e, d) (A .entry _ l)
 
-pub marked-more : {C : Context} {mouths ramps outers kinds : List ℕ} {k m a : ℕ} {near : List Bool} (r : Bool) → k < length near → NearMarked C mouths ramps outers kinds k near
-    → m ≡ getD mouths k 0 → a ≡ getD ramps k 0 → r ≡ cornersNear C (proposalOf C m a (getD outers k 0) (getD kinds k 0)) → NearMarked C mouths ramps outers kinds (k + 1) (set near k r)
-marked-more {C} {mouths} {ramps} {outers} {kinds} {k} {near = near} r l h p q e = record { long = length-set near k r ∙ h .long; at = λ j m. ⊎-elim (here j) (there j) (last-or j k (omega arith)) }
-  where
-    here : (j : ℕ) → j ≡ k → getD (set near k r) j false ≡ cornersNear C (entryAt C mouths ramps outers kinds j)
-    here j s = rw s (getD-set-same near k r false l ∙ e ∙ ap₂ (λ m a. cornersNear C (proposalOf C m a (getD outers k 0) (getD kinds k 0))) p q)
+-- ---- the least of the candidates that are near
 
-    there : (j : ℕ) → j < k → getD (set near k r) j false ≡ cornersNear C (entryAt C mouths ramps outers kinds j)
-    there j b = getD-set-other near k j r false (λ s. omega (arith, s)) ∙ h .at j b
+-- the boundaries of every candidate stand in the list
+pub near-keys : {C : Context} {records : List Region} {boundaries pairs starts mouths ramps : List ℕ} {n : ℕ} → NearAsked C records boundaries pairs starts mouths ramps n → SafeKeys boundaries mouths ramps n
+near-keys A = record { few = A .few; mouth = λ k l. A .entry k l .mouth-placed .whole; ramp = λ k l. A .entry k l .ramp-placed .whole }
 
 -- ---- the parts of the pass
 
--- without a ramp nothing is removed, and nothing is marked before
-pub pass-none : {C : Context} {records : List Region} {boundaries tallies pairs starts : List ℕ} {count : ℕ} {marks counts : List ℕ} → Replaces C records boundaries tallies pairs starts count marks counts
-    → {marked : List Bool} → NoMarks marked → {ramp : Bool} → ramp ≡ anyBelow count (rampAt boundaries) → not ramp ≡ true → Replaced C count marked
-unfolding member any
-pass-none {C} {boundaries} {count} R N {ramp} e n =
-    let none : anyBelow (C .count) (rampAt boundaries) ≡ false = ap (λ k. anyBelow k (rampAt boundaries)) (R .shows .counted) ∙ sym e ∙ not-true ramp n in
-    record { at = λ j l. N .clear j ∙ sym (ap (member j) (nothing-removed C (R .shows .bounds) none)) }
+module _ {C : Context} {records : List Region} {boundaries tallies pairs starts : List ℕ} {count : ℕ} {marks₀ counts : List ℕ} (R : Replaces C records boundaries tallies pairs starts count marks₀ counts) where
+  -- what is shown once some regions are held
+  pub still-shows : {marks : List ℕ} → ShownAnchored C marks → Shows boundaries pairs starts counts marks count C
+  still-shows A = record { counted = R .shows .counted; bounds = R .shows .bounds; placed = R .shows .placed; rows = R .shows .rows; incidents = R .shows .incidents; anchored = A }
 
-module _ {C : Context} {records : List Region} {boundaries tallies pairs starts : List ℕ} {count : ℕ} {marks counts : List ℕ} (R : Replaces C records boundaries tallies pairs starts count marks counts)
-    {mouths ramps outers kinds separations : List ℕ} {n : ℕ} (F : Filled C mouths ramps outers kinds separations n (candidates C)) where
-  pub pass-near : NearAsked C records boundaries pairs starts mouths ramps n
-  pass-near =
+  pub pass-lists : Lists boundaries pairs starts count C
+  pass-lists = record { counted = R .shows .counted; bounds = R .shows .bounds; rows = R .shows .rows }
+
+  -- nothing is taken, and no best is known
+  pub pass-starts : {gone used : List Bool} {mouthof rampof outerof kindof apart : List ℕ} {found fresh : List Bool} → NoMarks gone → ((i : ℕ) → getD used i false ≡ false) → ((i : ℕ) → getD found i false ≡ false)
+      → ((i : ℕ) → getD mouthof i 0 ≡ 0) → ((i : ℕ) → getD rampof i 0 ≡ 0) → ((i : ℕ) → getD outerof i 0 ≡ 0) → Progress C (λ i. i < 0) marks₀ gone used mouthof rampof outerof kindof apart found fresh
+  pass-starts N used found mouth ramp outer =
       record {
-        few = F .listed .few;
-        entry = λ k l.
-            record {
-              held = R .held;
-              bounds = R .shows .bounds;
-              rows = R .shows .rows;
-              pixels = R .pixels;
-              mouth = F .listed .mouth k l;
-              ramp = F .listed .ramp k l;
-              mouth-placed = R .shows .placed _ (omega (arith, F .listed .mouth k l, R .shows .counted));
-              ramp-placed = R .shows .placed _ (omega (arith, F .listed .ramp k l, R .shows .counted));
-            };
+        chosen = [];
+        state = round-first (N .clear) used (fresh-marks C marks₀ (R .fresh));
+        same = refl;
+        bests = record {
+          named = record { mouth = λ k l. few k l (mouth k); ramp = λ k l. few k l (ramp k); outer = λ k l. omega (arith, outer k) };
+          measured = record { mouth = λ k l. few k l (mouth k); ramp = λ k l. few k l (ramp k); bits = λ k l f. absurd (true≢false (sym f ∙ found k)) };
+          under = λ a l k. absurd (omega (arith, k));
+        };
+        left = λ a l f g. absurd (true≢false (sym g ∙ found a));
+        anchored = R .shows .anchored;
       }
+    where
+      few : (k : ℕ) → k < C .count → {x : ℕ} → x ≡ 0 → x < C .count
+      few k l e = omega (arith, l, e)
 
-  pub pass-selects : Selects boundaries pairs starts marks mouths ramps outers separations count n C
-  pass-selects = selects (R .shows) F (fresh-marks C marks (R .fresh))
+  module _ {mouths ramps outers separations : List ℕ} {n : ℕ} (F : Listed C mouths ramps outers separations n) where
+    pub pass-near : NearAsked C records boundaries pairs starts mouths ramps n
+    pass-near =
+        record {
+          few = F .few;
+          entry = λ k l.
+              record {
+                held = R .held;
+                bounds = R .shows .bounds;
+                rows = R .shows .rows;
+                pixels = R .pixels;
+                mouth = F .mouth k l;
+                ramp = F .ramp k l;
+                mouth-placed = R .shows .placed _ (omega (arith, F .mouth k l, R .shows .counted));
+                ramp-placed = R .shows .placed _ (omega (arith, F .ramp k l, R .shows .counted));
+              };
+        }
+
+    pub pass-measured : {marked : List Bool} → Measured C mouths ramps separations marked n
+    pass-measured = record { mouth = F .mouth; ramp = F .ramp; bits = λ k l f. F .bits k l }

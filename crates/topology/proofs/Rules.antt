@@ -33,6 +33,7 @@ pub use borrow.Rule.Lifetime.{g-begin, g-end, g-forget}
 pub use borrow.Rule.Local.{g-back-sc, g-back-shr, g-drop-sref, home-of, mem-whole, mref-mem, room-whole, t-sc-borrow, t-sc-share, whole-mem}
 pub use borrow.Rule.LocalCopy.{t-val-copy}
 pub use borrow.Rule.Reborrow.{g-back-mref, t-mref-relend}
+pub use borrow.Rule.Reshare.{g-back-mref-shr, mref-owedS, t-mref-reshare}
 pub use borrow.Rule.Scalar.{g-room, holds-sc, oAt, oBig, oBool, oFld, oInt, oUnit, reads-sc, room-sc, t-op1, t-op2, t-use}
 pub use borrow.Rule.Slice.Know.{g-sl-known}
 pub use borrow.Rule.Slice.Mut.{msleft, mslice, reads-mslice, reads-mslice-len}

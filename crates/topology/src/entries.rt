@@ -5,33 +5,26 @@ ghost use Prim.Native.Nat.{_<_};
 ghost use lib.ListN.{getD, set};
 
 // An index of a boundary.
-pub fn index_at(list: &[u8; 16384], k: usize) -> usize
-    requires { ⌜ k < 16384 ⌝ }
+pub fn index_at(list: &[u8; 256], k: usize) -> usize
+    requires { ⌜ k < 256 ⌝ }
     ensures { λ r. ⌜ r ≡ getD (now (list .entry)) k 0 ⌝ }
 {
     wide_byte(list[k])
 }
 
-pub fn kind_at(list: &[u8; 16384], k: usize) -> u8
-    requires { ⌜ k < 16384 ⌝ }
+pub fn kind_at(list: &[u8; 256], k: usize) -> u8
+    requires { ⌜ k < 256 ⌝ }
     ensures { λ r. ⌜ r ≡ getD (now (list .entry)) k 0 ⌝ }
 {
     list[k]
 }
 
 // A region.
-pub fn region_at(list: &[u32; 16384], k: usize) -> u32
-    requires { ⌜ k < 16384 ⌝ }
+pub fn region_at(list: &[u32; 256], k: usize) -> u32
+    requires { ⌜ k < 256 ⌝ }
     ensures { λ r. ⌜ r ≡ getD (now (list .entry)) k 0 ⌝ }
 {
     list[k]
-}
-
-pub fn put_near(near: &mut [bool; 16384], k: usize, b: bool)
-    requires { ⌜ k < 16384 ⌝ }
-    ensures { λ _. ⌜ now (near .exit) ≡ set (now (near .entry)) k b ⌝ }
-{
-    near[k] = b;
 }
 
 pub fn put_allowed(allowed: &mut [bool; 426], k: usize, b: bool)

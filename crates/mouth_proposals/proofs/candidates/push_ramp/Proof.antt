@@ -4,9 +4,8 @@ use mathlib.Core.Path.{sym, ap, _∙_}
 use lib.Dec.{eqb}
 use borrow.Author.Tests.{eq-eqb, ne-eqb, not-true, not-false}
 use Rattle.mouth_proposals.specs.Candidates.{mouthCandidate}
-use Rattle.mouth_proposals.specs.Listed.{plainAt}
 use Rattle.mouth_proposals.proofs.SafeLists.{below, stretch-at, tallies-at, rows-counted, kind-shown}
-use Rattle.mouth_proposals.proofs.CandidateRoom.{ramp-fits, ramp-counted, none-counted, filled-as, same-list, no-ramp-none, no-cut-none}
+use Rattle.mouth_proposals.proofs.CandidateRoom.{filled-empty, no-ramp-none, no-cut-none}
 use borrow.Author.Needs.{needs}
 use Rattle.mouth_proposals.proofs.candidates.push_ramp.Statement.{statement}
 use Rattle.mouth_proposals.proofs.candidates.push_ramp.Tie as tie
@@ -19,10 +18,10 @@ returns c =
     let at-kind-at = c .before in
     let at-shared-slice-known3 = at-kind-at .before .before .before in
     let entry = at-shared-slice-known3 .before .before .before in (
-      none-counted (plainAt (entry .args .boundaries .now)) (entry .args .count) (omega (arith, entry .pre .0 .shows .bounds .few, entry .pre .0 .shows .counted)) (entry .args .a) (entry .args .n) (entry .pre .1 .1 .0),
+      omega arith,
       (
         entry .pre .1 .0,
-        λ C l S T F. filled-as F (same-list l (mouthCandidate C (entry .args .a)) (entry .args .count) (λ m. no-ramp-none C (entry .args .a) m (kind-shown (S .bounds) (entry .args .a) (below (S .counted) (entry .pre .1 .1 .1)) ∙ ap (λ k. eqb k 0) (sym (c .before .kind-at .ensures)) ∙ eq-eqb _ 0 (c .if1 .taken)))),
+        λ C S T. filled-empty (mouthCandidate C (entry .args .a)) (entry .args .count) (λ m. no-ramp-none C (entry .args .a) m (kind-shown (S .bounds) (entry .args .a) (below (S .counted) (entry .pre .1 .1)) ∙ ap (λ k. eqb k 0) (sym (c .before .kind-at .ensures)) ∙ eq-eqb _ 0 (c .if1 .taken))),
       ),
     )
 
@@ -31,17 +30,17 @@ full-cut-requires c κs =
     let at-kind-at = c .before in
     let at-shared-slice-known3 = at-kind-at .before .before .before in
     let entry = at-shared-slice-known3 .before .before .before in
-    tallies-at (entry .pre .0) (entry .pre .1 .1 .1)
+    tallies-at (entry .pre .0) (entry .pre .1 .1)
 
 returns-2 : tie.Need-returns-2
 returns-2 c =
     let at-kind-at = c .before .before .before in
     let at-shared-slice-known3 = at-kind-at .before .before .before in
     let entry = at-shared-slice-known3 .before .before .before in (
-      none-counted (plainAt (entry .args .boundaries .now)) (entry .args .count) (omega (arith, entry .pre .0 .shows .bounds .few, entry .pre .0 .shows .counted)) (entry .args .a) (entry .args .n) (entry .pre .1 .1 .0),
+      omega arith,
       (
         entry .pre .1 .0,
-        λ C l S T F. filled-as F (same-list l (mouthCandidate C (entry .args .a)) (entry .args .count) (λ m. no-cut-none C (entry .args .a) m (sym (c .before .full-cut .ensures C T (below (S .counted) (entry .pre .1 .1 .1))) ∙ not-true _ (c .if2 .taken)))),
+        λ C S T. filled-empty (mouthCandidate C (entry .args .a)) (entry .args .count) (λ m. no-cut-none C (entry .args .a) m (sym (c .before .full-cut .ensures C T (below (S .counted) (entry .pre .1 .1))) ∙ not-true _ (c .if2 .taken))),
       ),
     )
 
@@ -50,7 +49,7 @@ find-other-ends-requires c κs =
     let at-kind-at = c .before .before .before in
     let at-shared-slice-known3 = at-kind-at .before .before .before in
     let entry = at-shared-slice-known3 .before .before .before in
-    ((rows-counted (entry .pre .0), entry .pre .1 .1 .1), (tallies-at (entry .pre .0) (entry .pre .1 .1 .1), λ i l. stretch-at (entry .pre .0) l))
+    ((rows-counted (entry .pre .0), entry .pre .1 .1), (tallies-at (entry .pre .0) (entry .pre .1 .1), λ i l. stretch-at (entry .pre .0) l))
 
 push-mouths-requires : tie.Need-push-mouths-requires
 push-mouths-requires c κs =
@@ -60,7 +59,7 @@ push-mouths-requires c κs =
     let at-kind-at = at-if1 .before in
     let at-shared-slice-known3 = at-kind-at .before .before .before in
     let entry = at-shared-slice-known3 .before .before .before in
-    (entry .pre .0, (entry .pre .1 .0, (ramp-fits (plainAt (entry .args .boundaries .now)) (entry .args .count) (omega (arith, entry .pre .0 .shows .bounds .few, entry .pre .0 .shows .counted)) (entry .args .a) (entry .args .n) (entry .pre .1 .1 .1) (ap (λ k. eqb k 0) (sym (at-if1 .before .kind-at .ensures)) ∙ ne-eqb _ 0 (at-if1 .if1 .left)) (entry .pre .1 .1 .0), entry .pre .1 .1 .1)))
+    (entry .pre .0, (entry .pre .1 .0, entry .pre .1 .1))
 
 returns-3 : tie.Need-returns-3
 returns-3 c =
@@ -72,12 +71,12 @@ returns-3 c =
     let at-shared-slice-known5 = at-if1 .before .before in
     let at-shared-slice-known3 = at-shared-slice-known5 .before .before in
     let entry = at-shared-slice-known3 .before .before .before in (
-      ramp-counted (plainAt (entry .args .boundaries .now)) (entry .args .count) (omega (arith, entry .pre .0 .shows .bounds .few, entry .pre .0 .shows .counted)) (entry .args .a) (entry .args .n) _ (ap (λ k. eqb k 0) (sym (at-if1 .before .kind-at .ensures)) ∙ ne-eqb _ 0 (at-if1 .if1 .left)) (entry .pre .1 .1 .0) (c .push-mouths .ensures .0),
+      c .push-mouths .ensures .0,
       (
         c .push-mouths .ensures .1 .0,
-        λ C l S T F.
-            let la = below (S .counted) (entry .pre .1 .1 .1) in
-            c .push-mouths .ensures .1 .1 C l S T (kind-shown (S .bounds) (entry .args .a) la ∙ ap (λ k. eqb k 0) (sym (at-if1 .before .kind-at .ensures)) ∙ ne-eqb _ 0 (at-if1 .if1 .left)) (sym (at-full-cut .full-cut .ensures C T la) ∙ not-false _ (at-if2 .if2 .left)) (at-find-other-ends .find-other-ends .ensures C (S .counted) (S .bounds) T (S .rows)) F,
+        λ C S T.
+            let la = below (S .counted) (entry .pre .1 .1) in
+            c .push-mouths .ensures .1 .1 C S T (kind-shown (S .bounds) (entry .args .a) la ∙ ap (λ k. eqb k 0) (sym (at-if1 .before .kind-at .ensures)) ∙ ne-eqb _ 0 (at-if1 .if1 .left)) (sym (at-full-cut .full-cut .ensures C T la) ∙ not-false _ (at-if2 .if2 .left)) (at-find-other-ends .find-other-ends .ensures C (S .counted) (S .bounds) T (S .rows)),
       ),
     )
 

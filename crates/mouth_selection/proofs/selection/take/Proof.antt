@@ -1,5 +1,5 @@
 -- `selection::take` meets its contract: its mouth, its ramp end and its regions are marked. Assumes nothing.
-use Prim.Native.Nat.{_<_}
+use Prim.Native.Nat.{_%_, _<_}
 use native.Mathlib.Omega.{arith}
 use mathlib.Core.Path.{refl, sym, ap, _∙_, subst}
 use mathlib.Core.Bool.{true, false, _&&_, _||_, cond}
@@ -10,7 +10,7 @@ use borrow.Author.Tests.{lt-ltb}
 use Rattle.definitions.specs.MouthShapes.{regionsOf}
 use Rattle.mouth_proposals.specs.Candidates.{triangular, proposalOf}
 use Rattle.mouth_selection.specs.Held.{HeldMarks, sameEnd, markHeld, markInner}
-use Rattle.mouth_selection.proofs.Marks.{inner-length, outer-length}
+use Rattle.mouth_selection.proofs.Marks.{inner-length, outer-length, inner-odd, outer-odd}
 use Rattle.mouth_selection.proofs.TakenLaws.{refused-parts, mouth-taken, end-taken, held-taken}
 use borrow.Author.Needs.{needs}
 use Rattle.mouth_selection.proofs.selection.take.Statement.{statement}
@@ -56,8 +56,14 @@ returns c =
                 (held-taken C T m a outer kind marks (S .holds) long (P .named m hm) ho (refused-parts C T m a outer kind free));
           },
       (
-        ap length (c .before .before .hold-proposal .ensures) ∙ inner-length _ _ _ ∙ outer-length (eqb outer 0) marks _ outer,
-        (at-use-end .use-end .ensures .1, length-set (entry .args .removed .now) m true ∙ entry .pre .1 .0 .1),
+        (
+          ap length (c .before .before .hold-proposal .ensures) ∙ inner-length _ _ _ ∙ outer-length (eqb outer 0) marks _ outer,
+          (at-use-end .use-end .ensures .1, length-set (entry .args .removed .now) m true ∙ entry .pre .1 .0 .1),
+        ),
+        λ i h.
+            ap (λ l. getD l i 0 % 2) (c .before .before .hold-proposal .ensures)
+            ∙ inner-odd outer (cond (eqb outer 0) marks (markHeld (cond (eqb kind triangular) 2 1) marks outer)) _ i (omega (arith, h, outer-length (eqb outer 0) marks (cond (eqb kind triangular) 2 1) outer))
+            ∙ outer-odd (eqb outer 0) marks (cond (eqb kind triangular) 2 1) outer i h,
       ),
     )
 
