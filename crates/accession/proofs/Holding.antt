@@ -15,10 +15,11 @@ use Rattle.catalogue.specs.AccessionLaws.Last.{lastBelow, last-here, last-not, 
 use Rattle.accession.specs.Held.{inSlot, Holds}
 use Rattle.catalogue.specs.AccessionLaws.MapLine.{isOfMap}
 
-pub zeros-at : (n slot : ℕ) → _≡_ {A = ℕ} (getD (replicate n 0) slot 0) 0
-zeros-at zero slot = refl
-zeros-at (suc n) zero = refl
-zeros-at (suc n) (suc slot) = zeros-at n slot
+-- a list of one value has it everywhere, and what stands for an entry beyond its end too
+pub replicate-at : {A : Type 0} (x : A) (n slot : ℕ) → getD (replicate n x) slot x ≡ x
+replicate-at x zero slot = refl
+replicate-at x (suc n) zero = refl
+replicate-at x (suc n) (suc slot) = replicate-at x n slot
 
 module _ (l : List ℕ) where
   pub holds-none : (last links : List ℕ) → 0 < length last → ((slot : ℕ) → getD last slot 0 ≡ 0) → Holds l (length last) 0 last links

@@ -13,7 +13,7 @@ use borrow.Author.Tests.{leb-true, ltb-true}
 use Rattle.definitions.specs.Grid.{Position, Segment}
 use Rattle.definitions.specs.Spans.{diff, cross, isZero, strictlyOpposite, onSegment, segmentsIntersect, middleOf, cellCenter, cuts}
 use Rattle.laws.specs.NumberLaws.Comparisons.{le-or-lt}
-use Rattle.laws.specs.ListLaws.Tests.{both}
+use Rattle.laws.specs.ListLaws.Tests.{both, or-split}
 use Rattle.line_crossings.proofs.Differences.{negative-diff, positive-diff}
 use Rattle.line_crossings.proofs.Meeting.{scaled, factor}
 use Rattle.line_crossings.proofs.Sides.{Opposing, turn, exchange, cross-by, Meet, crossing, at-p, at-q, at-a, at-b}
@@ -127,14 +127,10 @@ module _ {a₁ a₂ b₁ b₂ c₁ c₂ d₁ d₂ : ℕ} where
 
 -- ---- what meets
 
-either : (s t : Bool) → (s || t) ≡ true → (s ≡ true) ⊎ (t ≡ true)
-either true t e = inl refl
-either false t e = inr e
-
 opposing : {y z : ℤ} (m n j k : ℕ) → y ≡ diff m n → z ≡ diff j k → strictlyOpposite y z ≡ true → Opposing m n j k
 opposing m n j k e f h =
     ⊎-elim (λ i. let p = both (ltb m n) (ltb k j) i in inl (ltb-true m n (p .0), ltb-true k j (p .1))) (λ i. let p = both (ltb n m) (ltb j k) i in inr (ltb-true n m (p .0), ltb-true j k (p .1)))
-    (either (ltb m n && ltb k j) (ltb n m && ltb j k) (sym (λ i. (negative-diff m n i && positive-diff j k i) || (positive-diff m n i && negative-diff j k i)) ∙ sym (λ i. strictlyOpposite (e i) (f i)) ∙ h))
+    (or-split (ltb m n && ltb k j) (ltb n m && ltb j k) (sym (λ i. (negative-diff m n i && positive-diff j k i) || (positive-diff m n i && negative-diff j k i)) ∙ sym (λ i. strictlyOpposite (e i) (f i)) ∙ h))
 
 five : (s t u v w : Bool) → (s || t || u || v || w) ≡ true → (s ≡ true) ⊎ ((t ≡ true) ⊎ ((u ≡ true) ⊎ ((v ≡ true) ⊎ (w ≡ true))))
 five true t u v w e = inl refl

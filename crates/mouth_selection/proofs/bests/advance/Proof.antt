@@ -35,7 +35,7 @@ abbrev μ-loop : tie.MeasureT-loop
 -- ---- earlier states
 
 abbrev to-entry : tie.At-loop Inv-loop μ-loop → tie.Start Inv-loop μ-loop
-to-entry c = c .before .before .before .before
+to-entry c = let told = c .before .before in told .before .before
 
 abbrev to-loop : tie.After-all-gone Inv-loop μ-loop → tie.At-loop Inv-loop μ-loop
 to-loop c = c .before .before .before
@@ -187,7 +187,8 @@ returns-2 c =
 
 take-entry-requires : tie.Need-take-entry-requires Inv-loop μ-loop
 take-entry-requires c κs =
-    let at-left = c .before .before .before .before in
+    let lent = c .before .before in
+    let at-left = lent .before .before in
     let at-least = to-least at-left in
     let head = to-loop (to-all at-least) in
     let L = shown head in

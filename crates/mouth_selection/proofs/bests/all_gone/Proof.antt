@@ -29,7 +29,8 @@ loop-holds c = (omega arith, λ C T L used S i h. absurd (omega (arith, h)))
 is-gone-requires : tie.Need-is-gone-requires Inv-loop μ-loop
 is-gone-requires c κs =
     let at-loop = c .before in
-    let entry = at-loop .before .before .before .before in
+    let told = at-loop .before .before in
+    let entry = told .before .before in
     let m = at-loop .loop .m in
     let h = c .loop-test .taken in
     (omega (arith, entry .pre .0, h), (entry .pre .1 .stretch m h, entry .pre .1 .named m h))

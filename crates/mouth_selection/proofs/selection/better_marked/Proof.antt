@@ -33,7 +33,8 @@ returns-2 c =
 
 entry-before-requires : tie.Need-entry-before-requires
 entry-before-requires c κs =
-    let entry = c .before .before .before .before in
+    let told = c .before .before in
+    let entry = told .before .before in
     let s = entry .args in
     let hb : s .best < s .n = lt-of-le-ne (entry .pre .1 .1) (c .if2 .left) in (
       (omega (arith, entry .pre .0 .few, entry .pre .1 .0), omega (arith, entry .pre .0 .few, hb)),

@@ -35,7 +35,8 @@ is-left-requires : tie.Need-is-left-requires
 is-left-requires c κs =
     let at-wide-byte2 = c .before .before in
     let at-wide-byte = at-wide-byte2 .before .before in
-    let entry = at-wide-byte .before .before .before .before in
+    let told = at-wide-byte .before .before in
+    let entry = told .before .before in
     let e = subst (λ m. SafeEntry (entry .args .pairs .now) (entry .args .starts .now) (entry .args .marks .now) m (getD (entry .args .outers .now) (entry .args .k) 0)) (sym (at-wide-byte .wide-byte .ensures .0)) (entry .pre .1) in
     (e .stretch, (e .rows, (e .marked, at-wide-byte2 .wide-byte2 .ensures .1)))
 
@@ -43,7 +44,8 @@ returns : tie.Need-returns
 returns c =
     let at-wide-byte2 = c .before .before .before in
     let at-wide-byte = at-wide-byte2 .before .before in
-    let entry = at-wide-byte .before .before .before .before in
+    let told = at-wide-byte .before .before in
+    let entry = told .before .before in
     let s = entry .args in
     λ C T P S hm ha h.
     c .is-left .ensures C T P S (subst (λ m. m < C .count) (sym (at-wide-byte .wide-byte .ensures .0)) hm) (subst (λ a. a < C .count) (sym (at-wide-byte2 .wide-byte2 .ensures .0)) ha) h

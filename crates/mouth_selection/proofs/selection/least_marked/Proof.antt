@@ -44,7 +44,8 @@ loop-less c = search needs
 loop-again : tie.Need-loop-again Inv-loop μ-loop
 loop-again c =
     let at = c .before .before .loop in
-    let entry = c .before .before .before .before in
+    let told = c .before .before in
+    let entry = told .before .before in
     let s = entry .args in (
       c .better-marked .ensures .0 .0,
       (

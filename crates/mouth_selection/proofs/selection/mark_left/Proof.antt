@@ -31,13 +31,15 @@ loop-holds c = (omega arith, (c .before .before .pre .1, λ C T P N S i h. absur
 entry-left-requires : tie.Need-entry-left-requires Inv-loop μ-loop
 entry-left-requires c κs =
     let turn = c in
-    let entry = turn .before .before .before .before in
+    let told = turn .before .before in
+    let entry = told .before .before in
     (omega (arith, entry .pre .0 .few, turn .loop-test .taken), entry .pre .0 .safe (turn .before .loop .k) (turn .loop-test .taken))
 
 element-write-marked : tie.Need-element-write-marked Inv-loop μ-loop
 element-write-marked c =
     let turn = c .before in
-    let entry = turn .before .before .before .before in
+    let told = turn .before .before in
+    let entry = told .before .before in
     omega (arith, entry .pre .0 .few, turn .loop-test .taken)
 
 add-k : tie.Need-add-k Inv-loop μ-loop
@@ -50,7 +52,8 @@ loop-again : tie.Need-loop-again Inv-loop μ-loop
 loop-again c =
     let turn = c .before in
     let at = turn .before .loop in
-    let entry = turn .before .before .before .before in
+    let told = turn .before .before in
+    let entry = told .before .before in
     let s = entry .args in
     let h = turn .loop-test .taken in (
       omega (arith, h),

@@ -63,6 +63,9 @@ module _ (κs : Lfts 11) (qs : Shares 11) where
   abbrev row8 : ℕ → Row
   row8 k = mslice-owed (rtF (fInt w32)) (tyRef (named 6) mut (tyInt w32)) 6 k (lease (κs .1 .1 .1 .1 .1 .1 .0) (qs .1 .1 .1 .1 .1 .1 .0))
 
+  abbrev row9 : ℕ → Row
+  row9 k = msptr (rtF (fInt w32)) (tyRef erased mut (tyInt w32)) k
+
   abbrev row11 : Row
   row11 = mslice-owed (rtF (fInt w32)) (tyRef (named 7) mut (tyInt w32)) 7 14 (lease (κs .1 .1 .1 .1 .1 .1 .1 .0) (qs .1 .1 .1 .1 .1 .1 .1 .0))
 
@@ -101,6 +104,9 @@ module _ (κs : Lfts 11) (qs : Shares 11) where
 
   abbrev row29 : ℕ → Row
   row29 k = mslice-owedS (rtF (fInt w32)) (tyRef (named 4) mut (tyInt w32)) 4 k (lease (κs .1 .1 .1 .1 .0) (qs .1 .1 .1 .1 .0))
+
+  abbrev row30 : ℕ → Row
+  row30 k = ssptr (rtF (fInt w32)) (tyRef erased imm (tyInt w32)) k
 
   abbrev row31 : ℕ → Row
   row31 k = sslice (rtF (fInt w32)) (tyRef erased imm (tyInt w32)) k
@@ -150,17 +156,11 @@ module _ (κs : Lfts 11) (qs : Shares 11) where
   abbrev row69 : Row
   row69 = msleft (rtF (fInt w64)) (tyRef erased mut (tyInt w64))
 
-  abbrev pub G14 : Cx
-  G14 = patched ((15, row1) ∷ (16, row1) ∷ []) ((11, alive) ∷ []) G0
+  abbrev pub G16 : Cx
+  G16 = patched ((8, row2) ∷ (15, row1) ∷ (16, row1) ∷ (27, row4 11) ∷ []) ((4, off) ∷ (11, alive) ∷ []) G0
 
-  abbrev pub G17 : Cx
-  G17 = patched ((8, row2) ∷ (15, row1) ∷ (16, row1) ∷ (27, row4 11) ∷ []) ((4, off) ∷ (11, alive) ∷ (12, alive) ∷ []) G0
-
-  abbrev pub G20 : Cx
-  G20 = patched ((8, row2) ∷ (9, row5 12) ∷ (15, row1) ∷ (16, row1) ∷ (27, row4 11) ∷ (29, row7 12) ∷ []) ((4, off) ∷ (5, off) ∷ (11, alive) ∷ (12, alive) ∷ (13, alive) ∷ []) G0
-
-  abbrev pub G23 : Cx
-  G23 = patched ((8, row2) ∷ (9, row5 12) ∷ (10, row8 13) ∷ (15, row1) ∷ (16, row1) ∷ (27, row4 11) ∷ (29, row7 12) ∷ (31, row4 13) ∷ []) ((4, off) ∷ (5, off) ∷ (6, off) ∷ (11, alive) ∷ (12, alive) ∷ (13, alive) ∷ (14, alive) ∷ []) G0
+  abbrev pub G21 : Cx
+  G21 = patched ((8, row2) ∷ (9, row5 12) ∷ (10, row8 13) ∷ (15, row1) ∷ (16, row1) ∷ (27, row4 11) ∷ (29, row7 12) ∷ (30, row9 13) ∷ []) ((4, off) ∷ (5, off) ∷ (6, off) ∷ (11, alive) ∷ (12, alive) ∷ (13, alive) ∷ []) G0
 
   abbrev pub G26 : Cx
   G26 = patched ((8, row2) ∷ (9, row5 12) ∷ (10, row8 13) ∷ (11, row11) ∷ (15, row1) ∷ (16, row1) ∷ (27, row4 11) ∷ (29, row7 12) ∷ (31, row4 13) ∷ (33, row4 14) ∷ []) ((4, off) ∷ (5, off) ∷ (6, off) ∷ (7, off) ∷ (11, alive) ∷ (12, alive) ∷ (13, alive) ∷ (14, alive) ∷ (15, alive) ∷ []) G0
@@ -174,26 +174,17 @@ module _ (κs : Lfts 11) (qs : Shares 11) where
   abbrev pub G30 : Cx
   G30 = patched ((15, row1) ∷ (16, row1) ∷ (36, row20) ∷ []) ([]) G0
 
-  abbrev pub G34 : Cx
-  G34 = patched ((9, row5 12) ∷ (10, row8 13) ∷ (11, row11) ∷ (12, row14) ∷ (15, row1) ∷ (16, row1) ∷ (17, row17) ∷ (29, row19) ∷ (31, row18) ∷ (33, row18) ∷ (35, row18) ∷ []) ((5, off) ∷ (6, off) ∷ (7, off) ∷ (8, off) ∷ (12, alive) ∷ (13, alive) ∷ (14, alive) ∷ (15, alive) ∷ []) G0
+  abbrev pub G36 : Cx
+  G36 = patched ((10, row8 13) ∷ (11, row11) ∷ (12, row14) ∷ (15, row1) ∷ (16, row1) ∷ (17, row17) ∷ (31, row18) ∷ (33, row18) ∷ (35, row18) ∷ []) ((6, off) ∷ (7, off) ∷ (8, off) ∷ (12, dead) ∷ (13, alive) ∷ (14, alive) ∷ (15, alive) ∷ []) G0
 
-  abbrev pub G38 : Cx
-  G38 = patched ((10, row8 13) ∷ (11, row11) ∷ (12, row14) ∷ (15, row1) ∷ (16, row1) ∷ (17, row17) ∷ (31, row18) ∷ (33, row18) ∷ (35, row18) ∷ []) ((6, off) ∷ (7, off) ∷ (8, off) ∷ (13, alive) ∷ (14, alive) ∷ (15, alive) ∷ []) G0
-
-  abbrev pub G42 : Cx
-  G42 = patched ((11, row11) ∷ (12, row14) ∷ (15, row1) ∷ (16, row1) ∷ (17, row17) ∷ (33, row18) ∷ (35, row18) ∷ []) ((7, off) ∷ (8, off) ∷ (14, alive) ∷ (15, alive) ∷ []) G0
-
-  abbrev pub G46 : Cx
-  G46 = patched ((12, row14) ∷ (15, row1) ∷ (16, row1) ∷ (17, row17) ∷ (35, row18) ∷ []) ((8, off) ∷ (15, alive) ∷ []) G0
+  abbrev pub G43 : Cx
+  G43 = patched ((11, row11) ∷ (12, row14) ∷ (15, row1) ∷ (16, row1) ∷ (17, row17) ∷ (33, row18) ∷ (35, row18) ∷ []) ((7, off) ∷ (8, off) ∷ (14, dead) ∷ (15, alive) ∷ []) G0
 
   abbrev pub G50 : Cx
   G50 = patched ((15, row1) ∷ (16, row1) ∷ (17, row17) ∷ []) ([]) G0
 
   abbrev pub G51 : Cx
   G51 = patched ((15, row1) ∷ (16, row1) ∷ (17, row21 0) ∷ []) ([]) G0
-
-  abbrev pub G55 : Cx
-  G55 = patched ((15, row1) ∷ (16, row1) ∷ (18, row1) ∷ (19, row1) ∷ []) ([]) G0
 
   abbrev pub G56 : Cx
   G56 = patched ((15, row1) ∷ (16, row1) ∷ (18, row1) ∷ (19, row1) ∷ (37, row1) ∷ []) ([]) G0
@@ -213,11 +204,8 @@ module _ (κs : Lfts 11) (qs : Shares 11) where
   abbrev pub G62 : Cx
   G62 = patched ((15, row1) ∷ (16, row1) ∷ (17, row21 1) ∷ []) ([]) G0
 
-  abbrev pub G66 : Cx
-  G66 = patched ((15, row1) ∷ (16, row1) ∷ (20, row1) ∷ (21, row1) ∷ []) ([]) G0
-
-  abbrev pub G69 : Cx
-  G69 = patched ((15, row1) ∷ (16, row1) ∷ (20, row1) ∷ (21, row1) ∷ (22, row1) ∷ (23, row1) ∷ (38, row1) ∷ []) ([]) G0
+  abbrev pub G68 : Cx
+  G68 = patched ((15, row1) ∷ (16, row1) ∷ (20, row1) ∷ (21, row1) ∷ (22, row1) ∷ (38, row1) ∷ []) ([]) G0
 
   abbrev pub G71 : Cx
   G71 = patched ((15, row1) ∷ (16, row1) ∷ (20, row1) ∷ (21, row1) ∷ (22, row1) ∷ (23, row1) ∷ (24, row24) ∷ []) ([]) G0
@@ -225,11 +213,8 @@ module _ (κs : Lfts 11) (qs : Shares 11) where
   abbrev pub G72 : Cx
   G72 = patched ((15, row1) ∷ (16, row1) ∷ (20, row1) ∷ (21, row1) ∷ (22, row1) ∷ (23, row1) ∷ (24, row25) ∷ []) ([]) G0
 
-  abbrev pub G75 : Cx
-  G75 = patched ((13, row26) ∷ (15, row1) ∷ (16, row1) ∷ (20, row1) ∷ (21, row1) ∷ (22, row1) ∷ (23, row1) ∷ (24, row25) ∷ (41, row28) ∷ []) ((9, off) ∷ (16, alive) ∷ []) G0
-
-  abbrev pub G78 : Cx
-  G78 = patched ((8, row29 17) ∷ (13, row26) ∷ (15, row1) ∷ (16, row1) ∷ (20, row1) ∷ (21, row1) ∷ (22, row1) ∷ (23, row1) ∷ (24, row25) ∷ (41, row28) ∷ (43, row31 17) ∷ []) ((4, off) ∷ (9, off) ∷ (16, alive) ∷ (17, alive) ∷ []) G0
+  abbrev pub G77 : Cx
+  G77 = patched ((8, row29 17) ∷ (13, row26) ∷ (15, row1) ∷ (16, row1) ∷ (20, row1) ∷ (21, row1) ∷ (22, row1) ∷ (23, row1) ∷ (24, row25) ∷ (41, row28) ∷ (42, row30 17) ∷ []) ((4, off) ∷ (9, off) ∷ (16, alive) ∷ (17, alive) ∷ []) G0
 
   abbrev pub G81 : Cx
   G81 = patched ((8, row29 17) ∷ (10, row32) ∷ (13, row26) ∷ (15, row1) ∷ (16, row1) ∷ (20, row1) ∷ (21, row1) ∷ (22, row1) ∷ (23, row1) ∷ (24, row25) ∷ (41, row28) ∷ (43, row31 17) ∷ (45, row31 18) ∷ []) ((4, off) ∷ (6, off) ∷ (9, off) ∷ (16, alive) ∷ (17, alive) ∷ (18, alive) ∷ []) G0
@@ -237,35 +222,23 @@ module _ (κs : Lfts 11) (qs : Shares 11) where
   abbrev pub G82 : Cx
   G82 = patched ((8, row29 17) ∷ (10, row32) ∷ (13, row26) ∷ (15, row1) ∷ (16, row1) ∷ (20, row1) ∷ (21, row1) ∷ (22, row1) ∷ (23, row1) ∷ (24, row25) ∷ (39, row35) ∷ (41, row36) ∷ (43, row31 17) ∷ (45, row31 18) ∷ []) ((4, off) ∷ (6, off) ∷ (9, off) ∷ (16, alive) ∷ (17, alive) ∷ (18, alive) ∷ []) G0
 
-  abbrev pub G85 : Cx
-  G85 = patched ((8, row29 17) ∷ (10, row32) ∷ (13, row26) ∷ (15, row1) ∷ (16, row1) ∷ (20, row1) ∷ (21, row1) ∷ (22, row1) ∷ (23, row1) ∷ (24, row25) ∷ (41, row36) ∷ []) ((4, off) ∷ (6, off) ∷ (9, off) ∷ (16, alive) ∷ (17, alive) ∷ (18, alive) ∷ []) G0
+  abbrev pub G87 : Cx
+  G87 = patched ((8, row29 17) ∷ (10, row32) ∷ (15, row1) ∷ (16, row1) ∷ (20, row1) ∷ (21, row1) ∷ (22, row1) ∷ (23, row1) ∷ (24, row25) ∷ []) ((4, off) ∷ (6, off) ∷ (16, dead) ∷ (17, alive) ∷ (18, alive) ∷ []) G0
 
-  abbrev pub G88 : Cx
-  G88 = patched ((8, row29 17) ∷ (10, row32) ∷ (15, row1) ∷ (16, row1) ∷ (20, row1) ∷ (21, row1) ∷ (22, row1) ∷ (23, row1) ∷ (24, row25) ∷ []) ((4, off) ∷ (6, off) ∷ (17, alive) ∷ (18, alive) ∷ []) G0
+  abbrev pub G92 : Cx
+  G92 = patched ((10, row32) ∷ (15, row1) ∷ (16, row1) ∷ (20, row1) ∷ (21, row1) ∷ (22, row1) ∷ (23, row1) ∷ (24, row25) ∷ []) ((6, off) ∷ (18, dead) ∷ []) G0
 
-  abbrev pub G91 : Cx
-  G91 = patched ((10, row32) ∷ (15, row1) ∷ (16, row1) ∷ (20, row1) ∷ (21, row1) ∷ (22, row1) ∷ (23, row1) ∷ (24, row25) ∷ []) ((6, off) ∷ (18, alive) ∷ []) G0
+  abbrev pub G99 : Cx
+  G99 = patched ((8, row29 20) ∷ (13, row37) ∷ (15, row1) ∷ (16, row1) ∷ (20, row1) ∷ (21, row1) ∷ (22, row1) ∷ (23, row1) ∷ (24, row25) ∷ (47, row39) ∷ (48, row30 20) ∷ []) ((4, off) ∷ (9, off) ∷ (19, alive) ∷ (20, alive) ∷ []) G0
 
-  abbrev pub G97 : Cx
-  G97 = patched ((13, row37) ∷ (15, row1) ∷ (16, row1) ∷ (20, row1) ∷ (21, row1) ∷ (22, row1) ∷ (23, row1) ∷ (24, row25) ∷ (47, row39) ∷ []) ((9, off) ∷ (19, alive) ∷ []) G0
-
-  abbrev pub G100 : Cx
-  G100 = patched ((8, row29 20) ∷ (13, row37) ∷ (15, row1) ∷ (16, row1) ∷ (20, row1) ∷ (21, row1) ∷ (22, row1) ∷ (23, row1) ∷ (24, row25) ∷ (47, row39) ∷ (49, row31 20) ∷ []) ((4, off) ∷ (9, off) ∷ (19, alive) ∷ (20, alive) ∷ []) G0
-
-  abbrev pub G103 : Cx
-  G103 = patched ((8, row29 20) ∷ (13, row37) ∷ (15, row1) ∷ (16, row1) ∷ (20, row1) ∷ (21, row1) ∷ (22, row1) ∷ (23, row1) ∷ (24, row25) ∷ (47, row39) ∷ (49, row31 20) ∷ (50, row1) ∷ []) ((4, off) ∷ (9, off) ∷ (19, alive) ∷ (20, alive) ∷ []) G0
-
-  abbrev pub G106 : Cx
-  G106 = patched ((8, row29 20) ∷ (11, row43) ∷ (13, row37) ∷ (15, row1) ∷ (16, row1) ∷ (20, row1) ∷ (21, row1) ∷ (22, row1) ∷ (23, row1) ∷ (24, row25) ∷ (47, row39) ∷ (49, row31 20) ∷ (50, row1) ∷ (52, row31 21) ∷ []) ((4, off) ∷ (7, off) ∷ (9, off) ∷ (19, alive) ∷ (20, alive) ∷ (21, alive) ∷ []) G0
+  abbrev pub G104 : Cx
+  G104 = patched ((8, row29 20) ∷ (13, row37) ∷ (15, row1) ∷ (16, row1) ∷ (20, row1) ∷ (21, row1) ∷ (22, row1) ∷ (23, row1) ∷ (24, row25) ∷ (47, row39) ∷ (49, row31 20) ∷ (50, row1) ∷ []) ((4, off) ∷ (9, off) ∷ (19, alive) ∷ (20, alive) ∷ (21, alive) ∷ []) G0
 
   abbrev pub G109 : Cx
   G109 = patched ((8, row29 20) ∷ (11, row43) ∷ (12, row46) ∷ (13, row37) ∷ (15, row1) ∷ (16, row1) ∷ (20, row1) ∷ (21, row1) ∷ (22, row1) ∷ (23, row1) ∷ (24, row25) ∷ (47, row39) ∷ (49, row31 20) ∷ (50, row1) ∷ (52, row31 21) ∷ (54, row31 22) ∷ []) ((4, off) ∷ (7, off) ∷ (8, off) ∷ (9, off) ∷ (19, alive) ∷ (20, alive) ∷ (21, alive) ∷ (22, alive) ∷ []) G0
 
-  abbrev pub G112 : Cx
-  G112 = patched ((8, row29 20) ∷ (9, row5 23) ∷ (11, row43) ∷ (12, row46) ∷ (13, row37) ∷ (15, row1) ∷ (16, row1) ∷ (20, row1) ∷ (21, row1) ∷ (22, row1) ∷ (23, row1) ∷ (24, row25) ∷ (47, row39) ∷ (49, row31 20) ∷ (50, row1) ∷ (52, row31 21) ∷ (54, row31 22) ∷ (56, row7 23) ∷ []) ((4, off) ∷ (5, off) ∷ (7, off) ∷ (8, off) ∷ (9, off) ∷ (19, alive) ∷ (20, alive) ∷ (21, alive) ∷ (22, alive) ∷ (23, alive) ∷ []) G0
-
-  abbrev pub G115 : Cx
-  G115 = patched ((8, row29 20) ∷ (9, row5 23) ∷ (10, row8 24) ∷ (11, row43) ∷ (12, row46) ∷ (13, row37) ∷ (15, row1) ∷ (16, row1) ∷ (20, row1) ∷ (21, row1) ∷ (22, row1) ∷ (23, row1) ∷ (24, row25) ∷ (47, row39) ∷ (49, row31 20) ∷ (50, row1) ∷ (52, row31 21) ∷ (54, row31 22) ∷ (56, row7 23) ∷ (58, row4 24) ∷ []) ((4, off) ∷ (5, off) ∷ (6, off) ∷ (7, off) ∷ (8, off) ∷ (9, off) ∷ (19, alive) ∷ (20, alive) ∷ (21, alive) ∷ (22, alive) ∷ (23, alive) ∷ (24, alive) ∷ []) G0
+  abbrev pub G114 : Cx
+  G114 = patched ((8, row29 20) ∷ (9, row5 23) ∷ (10, row8 24) ∷ (11, row43) ∷ (12, row46) ∷ (13, row37) ∷ (15, row1) ∷ (16, row1) ∷ (20, row1) ∷ (21, row1) ∷ (22, row1) ∷ (23, row1) ∷ (24, row25) ∷ (47, row39) ∷ (49, row31 20) ∷ (50, row1) ∷ (52, row31 21) ∷ (54, row31 22) ∷ (56, row7 23) ∷ (57, row9 24) ∷ []) ((4, off) ∷ (5, off) ∷ (6, off) ∷ (7, off) ∷ (8, off) ∷ (9, off) ∷ (19, alive) ∷ (20, alive) ∷ (21, alive) ∷ (22, alive) ∷ (23, alive) ∷ (24, alive) ∷ []) G0
 
   abbrev pub G117 : Cx
   G117 = patched ((8, row29 20) ∷ (9, row5 23) ∷ (10, row8 24) ∷ (11, row43) ∷ (12, row46) ∷ (13, row37) ∷ (15, row1) ∷ (16, row1) ∷ (20, row1) ∷ (21, row1) ∷ (22, row1) ∷ (23, row1) ∷ (24, row55) ∷ (47, row39) ∷ (49, row31 20) ∷ (50, row1) ∷ (52, row31 21) ∷ (54, row31 22) ∷ (56, row7 23) ∷ (58, row4 24) ∷ (59, row56) ∷ []) ((4, off) ∷ (5, off) ∷ (6, off) ∷ (7, off) ∷ (8, off) ∷ (9, off) ∷ (19, alive) ∷ (20, alive) ∷ (21, alive) ∷ (22, alive) ∷ (23, alive) ∷ (24, alive) ∷ (25, alive) ∷ []) G0
@@ -273,41 +246,26 @@ module _ (κs : Lfts 11) (qs : Shares 11) where
   abbrev pub G118 : Cx
   G118 = patched ((8, row29 20) ∷ (9, row5 23) ∷ (10, row8 24) ∷ (11, row43) ∷ (12, row46) ∷ (13, row37) ∷ (15, row1) ∷ (16, row1) ∷ (20, row1) ∷ (21, row1) ∷ (22, row1) ∷ (23, row1) ∷ (24, row55) ∷ (39, row35) ∷ (47, row39) ∷ (49, row31 20) ∷ (50, row1) ∷ (52, row31 21) ∷ (54, row31 22) ∷ (56, row19) ∷ (58, row18) ∷ (59, row57) ∷ []) ((4, off) ∷ (5, off) ∷ (6, off) ∷ (7, off) ∷ (8, off) ∷ (9, off) ∷ (19, alive) ∷ (20, alive) ∷ (21, alive) ∷ (22, alive) ∷ (23, alive) ∷ (24, alive) ∷ (25, alive) ∷ []) G0
 
-  abbrev pub G121 : Cx
-  G121 = patched ((8, row29 20) ∷ (9, row5 23) ∷ (10, row8 24) ∷ (11, row43) ∷ (12, row46) ∷ (13, row37) ∷ (15, row1) ∷ (16, row1) ∷ (20, row1) ∷ (21, row1) ∷ (22, row1) ∷ (23, row1) ∷ (24, row55) ∷ (39, row35) ∷ (50, row1) ∷ (54, row31 22) ∷ (56, row19) ∷ (58, row18) ∷ (59, row57) ∷ []) ((4, off) ∷ (5, off) ∷ (6, off) ∷ (7, off) ∷ (8, off) ∷ (9, off) ∷ (19, alive) ∷ (20, alive) ∷ (21, alive) ∷ (22, alive) ∷ (23, alive) ∷ (24, alive) ∷ (25, alive) ∷ []) G0
+  abbrev pub G123 : Cx
+  G123 = patched ((8, row29 20) ∷ (9, row5 23) ∷ (10, row8 24) ∷ (11, row43) ∷ (12, row46) ∷ (13, row37) ∷ (15, row1) ∷ (16, row1) ∷ (20, row1) ∷ (21, row1) ∷ (22, row1) ∷ (23, row1) ∷ (24, row55) ∷ (50, row1) ∷ (56, row19) ∷ (58, row18) ∷ (59, row57) ∷ []) ((4, off) ∷ (5, off) ∷ (6, off) ∷ (7, off) ∷ (8, off) ∷ (9, off) ∷ (19, alive) ∷ (20, alive) ∷ (21, alive) ∷ (22, alive) ∷ (23, alive) ∷ (24, alive) ∷ (25, alive) ∷ []) G0
 
-  abbrev pub G124 : Cx
-  G124 = patched ((8, row29 20) ∷ (9, row5 23) ∷ (10, row8 24) ∷ (11, row43) ∷ (12, row46) ∷ (13, row37) ∷ (15, row1) ∷ (16, row1) ∷ (20, row1) ∷ (21, row1) ∷ (22, row1) ∷ (23, row1) ∷ (24, row55) ∷ (56, row19) ∷ (58, row18) ∷ (59, row57) ∷ []) ((4, off) ∷ (5, off) ∷ (6, off) ∷ (7, off) ∷ (8, off) ∷ (9, off) ∷ (19, alive) ∷ (20, alive) ∷ (21, alive) ∷ (22, alive) ∷ (23, alive) ∷ (24, alive) ∷ (25, alive) ∷ []) G0
-
-  abbrev pub G127 : Cx
-  G127 = patched ((8, row29 20) ∷ (9, row5 23) ∷ (10, row8 24) ∷ (11, row43) ∷ (12, row46) ∷ (15, row1) ∷ (16, row1) ∷ (20, row1) ∷ (21, row1) ∷ (22, row1) ∷ (23, row1) ∷ (24, row55) ∷ (56, row19) ∷ (58, row18) ∷ (59, row57) ∷ []) ((4, off) ∷ (5, off) ∷ (6, off) ∷ (7, off) ∷ (8, off) ∷ (20, alive) ∷ (21, alive) ∷ (22, alive) ∷ (23, alive) ∷ (24, alive) ∷ (25, alive) ∷ []) G0
-
-  abbrev pub G130 : Cx
-  G130 = patched ((9, row5 23) ∷ (10, row8 24) ∷ (11, row43) ∷ (12, row46) ∷ (15, row1) ∷ (16, row1) ∷ (20, row1) ∷ (21, row1) ∷ (22, row1) ∷ (23, row1) ∷ (24, row55) ∷ (56, row19) ∷ (58, row18) ∷ (59, row57) ∷ []) ((5, off) ∷ (6, off) ∷ (7, off) ∷ (8, off) ∷ (21, alive) ∷ (22, alive) ∷ (23, alive) ∷ (24, alive) ∷ (25, alive) ∷ []) G0
+  abbrev pub G128 : Cx
+  G128 = patched ((8, row29 20) ∷ (9, row5 23) ∷ (10, row8 24) ∷ (11, row43) ∷ (12, row46) ∷ (15, row1) ∷ (16, row1) ∷ (20, row1) ∷ (21, row1) ∷ (22, row1) ∷ (23, row1) ∷ (24, row55) ∷ (56, row19) ∷ (58, row18) ∷ (59, row57) ∷ []) ((4, off) ∷ (5, off) ∷ (6, off) ∷ (7, off) ∷ (8, off) ∷ (20, dead) ∷ (21, alive) ∷ (22, alive) ∷ (23, alive) ∷ (24, alive) ∷ (25, alive) ∷ []) G0
 
   abbrev pub G133 : Cx
   G133 = patched ((9, row5 23) ∷ (10, row8 24) ∷ (12, row46) ∷ (15, row1) ∷ (16, row1) ∷ (20, row1) ∷ (21, row1) ∷ (22, row1) ∷ (23, row1) ∷ (24, row55) ∷ (56, row19) ∷ (58, row18) ∷ (59, row57) ∷ []) ((5, off) ∷ (6, off) ∷ (8, off) ∷ (22, alive) ∷ (23, alive) ∷ (24, alive) ∷ (25, alive) ∷ []) G0
 
-  abbrev pub G136 : Cx
-  G136 = patched ((9, row5 23) ∷ (10, row8 24) ∷ (15, row1) ∷ (16, row1) ∷ (20, row1) ∷ (21, row1) ∷ (22, row1) ∷ (23, row1) ∷ (24, row55) ∷ (56, row19) ∷ (58, row18) ∷ (59, row57) ∷ []) ((5, off) ∷ (6, off) ∷ (23, alive) ∷ (24, alive) ∷ (25, alive) ∷ []) G0
+  abbrev pub G138 : Cx
+  G138 = patched ((10, row8 24) ∷ (15, row1) ∷ (16, row1) ∷ (20, row1) ∷ (21, row1) ∷ (22, row1) ∷ (23, row1) ∷ (24, row55) ∷ (58, row18) ∷ (59, row57) ∷ []) ((6, off) ∷ (23, dead) ∷ (24, alive) ∷ (25, alive) ∷ []) G0
 
-  abbrev pub G140 : Cx
-  G140 = patched ((10, row8 24) ∷ (15, row1) ∷ (16, row1) ∷ (20, row1) ∷ (21, row1) ∷ (22, row1) ∷ (23, row1) ∷ (24, row55) ∷ (58, row18) ∷ (59, row57) ∷ []) ((6, off) ∷ (24, alive) ∷ (25, alive) ∷ []) G0
+  abbrev pub G145 : Cx
+  G145 = patched ((15, row1) ∷ (16, row1) ∷ (20, row1) ∷ (21, row1) ∷ (22, row1) ∷ (23, row1) ∷ (24, row55) ∷ (59, row57) ∷ []) ((25, dead) ∷ []) G0
 
-  abbrev pub G144 : Cx
-  G144 = patched ((15, row1) ∷ (16, row1) ∷ (20, row1) ∷ (21, row1) ∷ (22, row1) ∷ (23, row1) ∷ (24, row55) ∷ (59, row57) ∷ []) ((25, alive) ∷ []) G0
+  abbrev pub G152 : Cx
+  G152 = patched ((15, row1) ∷ (16, row1) ∷ (20, row1) ∷ (21, row1) ∷ (22, row1) ∷ (23, row1) ∷ (24, row58) ∷ (50, row1) ∷ (60, row59) ∷ []) ((26, alive) ∷ []) G0
 
-  abbrev pub G150 : Cx
-  G150 = patched ((15, row1) ∷ (16, row1) ∷ (20, row1) ∷ (21, row1) ∷ (22, row1) ∷ (23, row1) ∷ (24, row25) ∷ (50, row1) ∷ []) ([]) G0
-
-  abbrev pub G153 : Cx
-  G153 = patched ((15, row1) ∷ (16, row1) ∷ (20, row1) ∷ (21, row1) ∷ (22, row1) ∷ (23, row1) ∷ (24, row58) ∷ (50, row1) ∷ (60, row59) ∷ []) ((26, alive) ∷ (27, alive) ∷ []) G0
-
-  abbrev pub G156 : Cx
-  G156 = patched ((9, row5 27) ∷ (15, row1) ∷ (16, row1) ∷ (20, row1) ∷ (21, row1) ∷ (22, row1) ∷ (23, row1) ∷ (24, row58) ∷ (50, row1) ∷ (60, row59) ∷ (62, row7 27) ∷ []) ((5, off) ∷ (26, alive) ∷ (27, alive) ∷ (28, alive) ∷ []) G0
-
-  abbrev pub G159 : Cx
-  G159 = patched ((9, row5 27) ∷ (10, row8 28) ∷ (15, row1) ∷ (16, row1) ∷ (20, row1) ∷ (21, row1) ∷ (22, row1) ∷ (23, row1) ∷ (24, row58) ∷ (50, row1) ∷ (60, row59) ∷ (62, row7 27) ∷ (64, row4 28) ∷ []) ((5, off) ∷ (6, off) ∷ (26, alive) ∷ (27, alive) ∷ (28, alive) ∷ (29, alive) ∷ []) G0
+  abbrev pub G157 : Cx
+  G157 = patched ((9, row5 27) ∷ (10, row8 28) ∷ (15, row1) ∷ (16, row1) ∷ (20, row1) ∷ (21, row1) ∷ (22, row1) ∷ (23, row1) ∷ (24, row58) ∷ (50, row1) ∷ (60, row59) ∷ (62, row7 27) ∷ (63, row9 28) ∷ []) ((5, off) ∷ (6, off) ∷ (26, alive) ∷ (27, alive) ∷ (28, alive) ∷ []) G0
 
   abbrev pub G161 : Cx
   G161 = patched ((9, row5 27) ∷ (10, row8 28) ∷ (14, row66) ∷ (15, row1) ∷ (16, row1) ∷ (20, row1) ∷ (21, row1) ∷ (22, row1) ∷ (23, row1) ∷ (24, row58) ∷ (50, row1) ∷ (60, row59) ∷ (62, row7 27) ∷ (64, row4 28) ∷ (66, row68) ∷ []) ((5, off) ∷ (6, off) ∷ (10, off) ∷ (26, alive) ∷ (27, alive) ∷ (28, alive) ∷ (29, alive) ∷ []) G0
@@ -315,17 +273,11 @@ module _ (κs : Lfts 11) (qs : Shares 11) where
   abbrev pub G162 : Cx
   G162 = patched ((9, row5 27) ∷ (10, row8 28) ∷ (14, row66) ∷ (15, row1) ∷ (16, row1) ∷ (20, row1) ∷ (21, row1) ∷ (22, row1) ∷ (23, row1) ∷ (24, row58) ∷ (25, row1) ∷ (50, row1) ∷ (60, row59) ∷ (62, row19) ∷ (64, row18) ∷ (66, row69) ∷ []) ((5, off) ∷ (6, off) ∷ (10, off) ∷ (26, alive) ∷ (27, alive) ∷ (28, alive) ∷ (29, alive) ∷ []) G0
 
-  abbrev pub G165 : Cx
-  G165 = patched ((9, row5 27) ∷ (10, row8 28) ∷ (14, row66) ∷ (15, row1) ∷ (16, row1) ∷ (20, row1) ∷ (21, row1) ∷ (22, row1) ∷ (23, row1) ∷ (24, row58) ∷ (25, row1) ∷ (62, row19) ∷ (64, row18) ∷ (66, row69) ∷ []) ((5, off) ∷ (6, off) ∷ (10, off) ∷ (26, dead) ∷ (27, alive) ∷ (28, alive) ∷ (29, alive) ∷ []) G0
+  abbrev pub G167 : Cx
+  G167 = patched ((9, row5 27) ∷ (10, row8 28) ∷ (14, row66) ∷ (15, row1) ∷ (16, row1) ∷ (20, row1) ∷ (21, row1) ∷ (22, row1) ∷ (23, row1) ∷ (24, row25) ∷ (25, row1) ∷ (62, row19) ∷ (64, row18) ∷ (66, row69) ∷ []) ((5, off) ∷ (6, off) ∷ (10, off) ∷ (27, alive) ∷ (28, alive) ∷ (29, alive) ∷ []) G0
 
-  abbrev pub G168 : Cx
-  G168 = patched ((9, row5 27) ∷ (10, row8 28) ∷ (14, row66) ∷ (15, row1) ∷ (16, row1) ∷ (20, row1) ∷ (21, row1) ∷ (22, row1) ∷ (23, row1) ∷ (25, row1) ∷ (62, row19) ∷ (64, row18) ∷ (66, row69) ∷ []) ((5, off) ∷ (6, off) ∷ (10, off) ∷ (27, alive) ∷ (28, alive) ∷ (29, alive) ∷ []) G0
-
-  abbrev pub G172 : Cx
-  G172 = patched ((10, row8 28) ∷ (14, row66) ∷ (15, row1) ∷ (16, row1) ∷ (20, row1) ∷ (21, row1) ∷ (22, row1) ∷ (23, row1) ∷ (25, row1) ∷ (64, row18) ∷ (66, row69) ∷ []) ((6, off) ∷ (10, off) ∷ (28, alive) ∷ (29, alive) ∷ []) G0
-
-  abbrev pub G176 : Cx
-  G176 = patched ((14, row66) ∷ (15, row1) ∷ (16, row1) ∷ (20, row1) ∷ (21, row1) ∷ (22, row1) ∷ (23, row1) ∷ (25, row1) ∷ (66, row69) ∷ []) ((10, off) ∷ (29, alive) ∷ []) G0
+  abbrev pub G173 : Cx
+  G173 = patched ((10, row8 28) ∷ (14, row66) ∷ (15, row1) ∷ (16, row1) ∷ (20, row1) ∷ (21, row1) ∷ (22, row1) ∷ (23, row1) ∷ (25, row1) ∷ (64, row18) ∷ (66, row69) ∷ []) ((6, off) ∷ (10, off) ∷ (28, dead) ∷ (29, alive) ∷ []) G0
 
   abbrev pub G180 : Cx
   G180 = patched ((15, row1) ∷ (16, row1) ∷ (20, row1) ∷ (21, row1) ∷ (22, row1) ∷ (23, row1) ∷ (25, row1) ∷ []) ([]) G0
@@ -351,11 +303,8 @@ module _ (κs : Lfts 11) (qs : Shares 11) where
   abbrev pub G187 : Cx
   G187 = patched ((15, row1) ∷ (16, row1) ∷ (36, row22) ∷ (67, row1) ∷ []) ([]) G0
 
-  abbrev pub G192 : Cx
-  G192 = patched ((0, row20) ∷ (36, row20) ∷ []) ([]) G0
-
-  abbrev pub G195 : Cx
-  G195 = patched ((0, row20) ∷ (1, (any-gone (ty 1))) ∷ (2, (any-gone (ty 2))) ∷ []) ([]) G0
+  abbrev pub G194 : Cx
+  G194 = patched ((0, row20) ∷ (1, (any-gone (ty 1))) ∷ []) ([]) G0
 
   abbrev pub G196 : Cx
   G196 = patched ((0, row20) ∷ (1, (any-gone (ty 1))) ∷ (2, (any-gone (ty 2))) ∷ (3, (any-gone (ty 3))) ∷ []) ([]) G0
@@ -381,43 +330,43 @@ module _ {M : Type 1} (𝓤 : URA M) (H : Heap 𝓤) (A : Atoms 𝓤) (W : Given
   from-answer =
       stmt (G30 κs qs) _ (t-val-copy 𝓤 H A W E 𝓣 (λ ρ. Unit) (G30 κs qs) 36 0 (Declared'.row TopologyAnswer.the-type) _ _ (whole (Declared'.row TopologyAnswer.the-type)) (whole (Declared'.row TopologyAnswer.the-type)) (λ x. x) (λ x. x) (λ x. x) refl (told-none 𝓤 H A ((G30 κs qs) .slots)) (yields-copy 𝓤 H A W (λ ρ. Unit) (Declared'.row TopologyAnswer.the-type) refl (cStruct TopologyAnswer.the-type Laws'.the-laws Laws'.the-copy .copy 𝓤 H A W) (whole (Declared'.row TopologyAnswer.the-type)) (λ x. x) (λ x. x) (λ ρ told. mem-whole 𝓤 H A W (Declared'.row TopologyAnswer.the-type) ρ) (λ ρ told. whole-mem 𝓤 H A W (Declared'.row TopologyAnswer.the-type) ρ)) (room-gone 𝓤 H A _) (makes-mem 𝓤 H A W (λ ρ. Unit) (Declared'.row TopologyAnswer.the-type) refl (whole (Declared'.row TopologyAnswer.the-type)) (λ x. x) (λ ρ told. whole-mem 𝓤 H A W (Declared'.row TopologyAnswer.the-type) ρ)) refl refl) $
       ghosts _ _ (g-room 𝓤 H A W E _ 15 (tyInt w64) (room-sc 𝓤 H A W (sInt w64))) $
-      ghosts _ (G192 κs qs) (g-room 𝓤 H A W E _ 16 (tyInt w64) (room-sc 𝓤 H A W (sInt w64))) $
-      ghosts (G192 κs qs) _ (g-room 𝓤 H A W E (G192 κs qs) 36 _ (room-whole 𝓤 H A W (Declared'.row TopologyAnswer.the-type) _ refl)) $
-      ghosts _ _ (g-room 𝓤 H A W E _ 1 (tyInt w64) (room-sc 𝓤 H A W (sInt w64))) $
-      ghosts _ (G195 κs qs) (g-room 𝓤 H A W E _ 2 (tyInt w64) (room-sc 𝓤 H A W (sInt w64))) $
-      ghosts (G195 κs qs) (G196 κs qs) (g-room 𝓤 H A W E (G195 κs qs) 3 (tyInt w64) (room-sc 𝓤 H A W (sInt w64))) $
+      ghosts _ _ (g-room 𝓤 H A W E _ 16 (tyInt w64) (room-sc 𝓤 H A W (sInt w64))) $
+      ghosts _ _ (g-room 𝓤 H A W E _ 36 _ (room-whole 𝓤 H A W (Declared'.row TopologyAnswer.the-type) _ refl)) $
+      ghosts _ (G194 κs qs) (g-room 𝓤 H A W E _ 1 (tyInt w64) (room-sc 𝓤 H A W (sInt w64))) $
+      ghosts (G194 κs qs) _ (g-room 𝓤 H A W E (G194 κs qs) 2 (tyInt w64) (room-sc 𝓤 H A W (sInt w64))) $
+      ghosts _ (G196 κs qs) (g-room 𝓤 H A W E _ 3 (tyInt w64) (room-sc 𝓤 H A W (sInt w64))) $
       rets
 
   abbrev pub from-finish : Der W 𝓣 E (G72 κs qs) (past 29 (arm-of 1 (head-of (past 13 (code.function .body))))) (withNext (some (G30 κs qs)) (Δret 11 ps r xs m κs qs))
   from-finish =
       stmt (G72 κs qs) _ (t-use 𝓤 H A W E 𝓣 (G72 κs qs) (oFld 6 (field 1 ∷ []) (tyInt w64) 8 lenV) 38 (sc-here (sInt w64)) (tyInt w64) (valS (sInt w64)) (sInt w64 .of) (reads-sslice-len 𝓤 H A W (rtF (fInt w64)) (tyRef (named 2) imm (tyInt w64)) 2 8 refl, refl) (room-gone 𝓤 H A (tyInt w64)) (holds-sc 𝓤 H A W (sInt w64)) refl (λ u. refl) (λ u. tt)) $
       stmt _ _ (t-op2 𝓤 H A W E 𝓣 _ (div unsigned) (oAt 38 (tyInt w64) (valS (sInt w64))) (oInt w64 _) 50 (sc-here (sInt w64)) (tyInt w64) (valS (sInt w64)) (sInt w64 .of) (reads-sc 𝓤 H A W (sInt w64), refl) tt (room-gone 𝓤 H A (tyInt w64)) (holds-sc 𝓤 H A W (sInt w64)) refl (λ u. refl) (λ u. tt)) $
-      ghosts _ (G150 κs qs) (g-room 𝓤 H A W E _ 38 (tyInt w64) (room-sc 𝓤 H A W (sInt w64))) $
-      ghosts (G150 κs qs) _ (g-begin 𝓤 H A W E (G150 κs qs) 26 _) $
-      stmt _ _ (t-sc-share 𝓤 H A W E 𝓣 _ 24 60 26 (Array (rtF fBool) 256) (tyRef erased imm (tyArray tyBool 256)) (λ x. x) (mem-arr 𝓤 H A W (rtF fBool) 256) (room-gone 𝓤 H A (tyRef erased imm (tyArray tyBool 256))) refl (λ b o. tt)) $
-      ghosts _ (G153 κs qs) (g-begin 𝓤 H A W E _ 27 _) $
-      stmt (G153 κs qs) _ (t-sl-relend 𝓤 H A W E (rtF (fInt w16)) 𝓣 (G153 κs qs) 9 61 5 27 (tyRef (named 5) mut (tyInt w16)) (tyRef erased mut (tyInt w16)) (lease (κs .1 .1 .1 .1 .1 .0) (qs .1 .1 .1 .1 .1 .0)) 0 (λ x. x) (as-is 𝓤 H A (mslice (rtF (fInt w16)) (tyRef (named 5) mut (tyInt w16)) 5)) (room-gone 𝓤 H A (tyRef erased mut (tyInt w16))) refl tt refl refl refl (λ b o. tt)) $
+      ghosts _ _ (g-room 𝓤 H A W E _ 38 (tyInt w64) (room-sc 𝓤 H A W (sInt w64))) $
+      ghosts _ _ (g-begin 𝓤 H A W E _ 26 _) $
+      stmt _ (G152 κs qs) (t-sc-share 𝓤 H A W E 𝓣 _ 24 60 26 (Array (rtF fBool) 256) (tyRef erased imm (tyArray tyBool 256)) (λ x. x) (mem-arr 𝓤 H A W (rtF fBool) 256) (room-gone 𝓤 H A (tyRef erased imm (tyArray tyBool 256))) refl (λ b o. tt)) $
+      ghosts (G152 κs qs) _ (g-begin 𝓤 H A W E (G152 κs qs) 27 _) $
+      stmt _ _ (t-sl-relend 𝓤 H A W E (rtF (fInt w16)) 𝓣 _ 9 61 5 27 (tyRef (named 5) mut (tyInt w16)) (tyRef erased mut (tyInt w16)) (lease (κs .1 .1 .1 .1 .1 .0) (qs .1 .1 .1 .1 .1 .0)) 0 (λ x. x) (as-is 𝓤 H A (mslice (rtF (fInt w16)) (tyRef (named 5) mut (tyInt w16)) 5)) (room-gone 𝓤 H A (tyRef erased mut (tyInt w16))) refl tt refl refl refl (λ b o. tt)) $
       stmt _ _ (t-sl-aggregate 𝓤 H A W E (rtF (fInt w16)) 𝓣 (asMut (rtF (fInt w16))) _ 61 62 27 (tyRef erased mut (tyInt w16)) (tyRef erased mut (tyInt w16)) (λ x. x) (oFld 9 (field 1 ∷ []) (tyInt w64) 8 (λ v. lenV (v .0))) (as-is 𝓤 H A (msptr (rtF (fInt w16)) (tyRef erased mut (tyInt w16)) 27)) (room-gone 𝓤 H A _) (reads-owed-len 𝓤 H A W (rtF (fInt w16)) (tyRef (named 5) mut (tyInt w16)) 5 27 (lease (κs .1 .1 .1 .1 .1 .0) (qs .1 .1 .1 .1 .1 .0)) 8 refl, refl) refl refl (λ b o k. tt)) $
-      ghosts _ (G156 κs qs) (g-begin 𝓤 H A W E _ 28 _) $
-      stmt (G156 κs qs) _ (t-sl-relend 𝓤 H A W E (rtF (fInt w32)) 𝓣 (G156 κs qs) 10 63 6 28 (tyRef (named 6) mut (tyInt w32)) (tyRef erased mut (tyInt w32)) (lease (κs .1 .1 .1 .1 .1 .1 .0) (qs .1 .1 .1 .1 .1 .1 .0)) 0 (λ x. x) (as-is 𝓤 H A (mslice (rtF (fInt w32)) (tyRef (named 6) mut (tyInt w32)) 6)) (room-gone 𝓤 H A (tyRef erased mut (tyInt w32))) refl tt refl refl refl (λ b o. tt)) $
-      stmt _ _ (t-sl-aggregate 𝓤 H A W E (rtF (fInt w32)) 𝓣 (asMut (rtF (fInt w32))) _ 63 64 28 (tyRef erased mut (tyInt w32)) (tyRef erased mut (tyInt w32)) (λ x. x) (oFld 10 (field 1 ∷ []) (tyInt w64) 8 (λ v. lenV (v .0))) (as-is 𝓤 H A (msptr (rtF (fInt w32)) (tyRef erased mut (tyInt w32)) 28)) (room-gone 𝓤 H A _) (reads-owed-len 𝓤 H A W (rtF (fInt w32)) (tyRef (named 6) mut (tyInt w32)) 6 28 (lease (κs .1 .1 .1 .1 .1 .1 .0) (qs .1 .1 .1 .1 .1 .1 .0)) 8 refl, refl) refl refl (λ b o k. tt)) $
-      ghosts _ (G159 κs qs) (g-begin 𝓤 H A W E _ 29 _) $
-      stmt (G159 κs qs) _ (t-sl-relend 𝓤 H A W E (rtF (fInt w64)) 𝓣 (G159 κs qs) 14 65 10 29 (tyRef (named 10) mut (tyInt w64)) (tyRef erased mut (tyInt w64)) (lease (κs .1 .1 .1 .1 .1 .1 .1 .1 .1 .1 .0) (qs .1 .1 .1 .1 .1 .1 .1 .1 .1 .1 .0)) 0 (λ x. x) (as-is 𝓤 H A (mslice (rtF (fInt w64)) (tyRef (named 10) mut (tyInt w64)) 10)) (room-gone 𝓤 H A (tyRef erased mut (tyInt w64))) refl tt refl refl refl (λ b o. tt)) $
+      ghosts _ _ (g-begin 𝓤 H A W E _ 28 _) $
+      stmt _ (G157 κs qs) (t-sl-relend 𝓤 H A W E (rtF (fInt w32)) 𝓣 _ 10 63 6 28 (tyRef (named 6) mut (tyInt w32)) (tyRef erased mut (tyInt w32)) (lease (κs .1 .1 .1 .1 .1 .1 .0) (qs .1 .1 .1 .1 .1 .1 .0)) 0 (λ x. x) (as-is 𝓤 H A (mslice (rtF (fInt w32)) (tyRef (named 6) mut (tyInt w32)) 6)) (room-gone 𝓤 H A (tyRef erased mut (tyInt w32))) refl tt refl refl refl (λ b o. tt)) $
+      stmt (G157 κs qs) _ (t-sl-aggregate 𝓤 H A W E (rtF (fInt w32)) 𝓣 (asMut (rtF (fInt w32))) (G157 κs qs) 63 64 28 (tyRef erased mut (tyInt w32)) (tyRef erased mut (tyInt w32)) (λ x. x) (oFld 10 (field 1 ∷ []) (tyInt w64) 8 (λ v. lenV (v .0))) (as-is 𝓤 H A (msptr (rtF (fInt w32)) (tyRef erased mut (tyInt w32)) 28)) (room-gone 𝓤 H A _) (reads-owed-len 𝓤 H A W (rtF (fInt w32)) (tyRef (named 6) mut (tyInt w32)) 6 28 (lease (κs .1 .1 .1 .1 .1 .1 .0) (qs .1 .1 .1 .1 .1 .1 .0)) 8 refl, refl) refl refl (λ b o k. tt)) $
+      ghosts _ _ (g-begin 𝓤 H A W E _ 29 _) $
+      stmt _ _ (t-sl-relend 𝓤 H A W E (rtF (fInt w64)) 𝓣 _ 14 65 10 29 (tyRef (named 10) mut (tyInt w64)) (tyRef erased mut (tyInt w64)) (lease (κs .1 .1 .1 .1 .1 .1 .1 .1 .1 .1 .0) (qs .1 .1 .1 .1 .1 .1 .1 .1 .1 .1 .0)) 0 (λ x. x) (as-is 𝓤 H A (mslice (rtF (fInt w64)) (tyRef (named 10) mut (tyInt w64)) 10)) (room-gone 𝓤 H A (tyRef erased mut (tyInt w64))) refl tt refl refl refl (λ b o. tt)) $
       stmt _ (G161 κs qs) (t-sl-aggregate 𝓤 H A W E (rtF (fInt w64)) 𝓣 (asMut (rtF (fInt w64))) _ 65 66 29 (tyRef erased mut (tyInt w64)) (tyRef erased mut (tyInt w64)) (λ x. x) (oFld 14 (field 1 ∷ []) (tyInt w64) 8 (λ v. lenV (v .0))) (as-is 𝓤 H A (msptr (rtF (fInt w64)) (tyRef erased mut (tyInt w64)) 29)) (room-gone 𝓤 H A _) (reads-owed-len 𝓤 H A W (rtF (fInt w64)) (tyRef (named 10) mut (tyInt w64)) 10 29 (lease (κs .1 .1 .1 .1 .1 .1 .1 .1 .1 .1 .0) (qs .1 .1 .1 .1 .1 .1 .1 .1 .1 .1 .0)) 8 refl, refl) refl refl (λ b o k. tt)) $
       stmt (G161 κs qs) (G162 κs qs) (t-call-plain 𝓤 H A W 𝓣 5 K3.ps K3.r R3.Asked R3.Learnt "pass_lists::finish" known3 E (λ pos β. β) (G161 κs qs) (vAt 23 (λ x. x), (vAt 50 (λ x. x), (record { pos = 6; ty = tyRef (named 2) imm (tyInt w64); ref = λ x. x }, (record { pos = 60; ty = tyRef erased imm (tyArray tyBool 256); ref = λ x. x }, (record { pos = 62; ty = tyRef erased mut (tyInt w16); ref = λ x. x }, (record { pos = 64; ty = tyRef erased mut (tyInt w32); ref = λ x. x }, (record { pos = 66; ty = tyRef erased mut (tyInt w64); ref = λ x. x }, tt))))))) 25 (2 ∷ 26 ∷ 27 ∷ 28 ∷ 29 ∷ []) (sub-id 𝓤 H A W ((G161 κs qs) .slots)) ((reads-sc 𝓤 H A W (sInt w64), refl), ((reads-sc 𝓤 H A W (sInt w64), refl), (spares-sslice 𝓤 H A W (rtF (fInt w64)) (tyRef (named 2) imm (tyInt w64)) 2, reads-sslice 𝓤 H A W (rtF (fInt w64)) (tyRef (named 2) imm (tyInt w64)) 2, refl, (spares-sref 𝓤 H A W (Array (rtF fBool) 256) (tyRef erased imm (tyArray tyBool 256)) 26, reads-sref 𝓤 H A W (Array (rtF fBool) 256) (tyRef erased imm (tyArray tyBool 256)) 26, refl, (as-is 𝓤 H A (mslice (rtF (fInt w16)) (tyRef erased mut (tyInt w16)) 27), reads-mslice 𝓤 H A W (rtF (fInt w16)) (tyRef erased mut (tyInt w16)) 27, refl, (as-is 𝓤 H A (mslice (rtF (fInt w32)) (tyRef erased mut (tyInt w32)) 28), reads-mslice 𝓤 H A W (rtF (fInt w32)) (tyRef erased mut (tyInt w32)) 28, refl, (as-is 𝓤 H A (mslice (rtF (fInt w64)) (tyRef erased mut (tyInt w64)) 29), reads-mslice 𝓤 H A W (rtF (fInt w64)) (tyRef erased mut (tyInt w64)) 29, refl, tt))))))) (room-gone 𝓤 H A (tyInt w64)) _ refl) $
       ghosts (G162 κs qs) _ (g-drop-sref 𝓤 H A W E (G162 κs qs) 60 26 (Array (rtF fBool) 256) (tyRef erased imm (tyArray tyBool 256)) (λ x. x) (as-is 𝓤 H A (sref (Array (rtF fBool) 256) (tyRef erased imm (tyArray tyBool 256)) 26))) $
       ghosts _ _ (g-room 𝓤 H A W E _ 50 (tyInt w64) (room-sc 𝓤 H A W (sInt w64))) $
-      ghosts _ (G165 κs qs) (g-end 𝓤 H A W E _ 26 refl) $
-      ghosts (G165 κs qs) _ (g-back-shr 𝓤 H A W E (G165 κs qs) 24 26 (arrF (rtF fBool) 256 0) (Array (rtF fBool) 256) (λ x. x) (λ x. x) (as-is 𝓤 H A (sc-shr (arrF (rtF fBool) 256 0) (Array (rtF fBool) 256) (λ x. x) 26)) (home-of 𝓤 H A (arrF (rtF fBool) 256 0) (Array (rtF fBool) 256) (λ x. x) (λ x. x) (arr-mem 𝓤 H A W (rtF fBool) 256 tt) (λ x k. refl)) refl) $
-      ghosts _ _ (g-forget 𝓤 H A W E _ 26 dead refl) $
-      ghosts _ (G168 κs qs) (g-room 𝓤 H A W E _ 24 (tyArray tyBool 256) (room-arr 𝓤 H A W (rtF fBool) 256 0 256 refl)) $
-      ghosts (G168 κs qs) _ (g-end 𝓤 H A W E (G168 κs qs) 27 refl) $
+      ghosts _ _ (g-end 𝓤 H A W E _ 26 refl) $
+      ghosts _ _ (g-back-shr 𝓤 H A W E _ 24 26 (arrF (rtF fBool) 256 0) (Array (rtF fBool) 256) (λ x. x) (λ x. x) (as-is 𝓤 H A (sc-shr (arrF (rtF fBool) 256 0) (Array (rtF fBool) 256) (λ x. x) 26)) (home-of 𝓤 H A (arrF (rtF fBool) 256 0) (Array (rtF fBool) 256) (λ x. x) (λ x. x) (arr-mem 𝓤 H A W (rtF fBool) 256 tt) (λ x k. refl)) refl) $
+      ghosts _ (G167 κs qs) (g-forget 𝓤 H A W E _ 26 dead refl) $
+      ghosts (G167 κs qs) _ (g-room 𝓤 H A W E (G167 κs qs) 24 (tyArray tyBool 256) (room-arr 𝓤 H A W (rtF fBool) 256 0 256 refl)) $
+      ghosts _ _ (g-end 𝓤 H A W E _ 27 refl) $
       ghosts _ _ (g-back-sl 𝓤 H A W E (rtF (fInt w16)) _ 62 9 5 27 (tyRef (named 5) mut (tyInt w16)) (tyRef erased mut (tyInt w16)) (lease (κs .1 .1 .1 .1 .1 .0) (qs .1 .1 .1 .1 .1 .0)) (λ x. x) (λ x. x) (as-is 𝓤 H A (msleft (rtF (fInt w16)) (tyRef erased mut (tyInt w16)))) (as-is 𝓤 H A (mslice-owed (rtF (fInt w16)) (tyRef (named 5) mut (tyInt w16)) 5 27 (lease (κs .1 .1 .1 .1 .1 .0) (qs .1 .1 .1 .1 .1 .0)))) refl refl) $
-      ghosts _ (G172 κs qs) (g-forget 𝓤 H A W E _ 27 dead refl) $
-      ghosts (G172 κs qs) _ (g-end 𝓤 H A W E (G172 κs qs) 28 refl) $
-      ghosts _ _ (g-back-sl 𝓤 H A W E (rtF (fInt w32)) _ 64 10 6 28 (tyRef (named 6) mut (tyInt w32)) (tyRef erased mut (tyInt w32)) (lease (κs .1 .1 .1 .1 .1 .1 .0) (qs .1 .1 .1 .1 .1 .1 .0)) (λ x. x) (λ x. x) (as-is 𝓤 H A (msleft (rtF (fInt w32)) (tyRef erased mut (tyInt w32)))) (as-is 𝓤 H A (mslice-owed (rtF (fInt w32)) (tyRef (named 6) mut (tyInt w32)) 6 28 (lease (κs .1 .1 .1 .1 .1 .1 .0) (qs .1 .1 .1 .1 .1 .1 .0)))) refl refl) $
-      ghosts _ (G176 κs qs) (g-forget 𝓤 H A W E _ 28 dead refl) $
-      ghosts (G176 κs qs) _ (g-end 𝓤 H A W E (G176 κs qs) 29 refl) $
+      ghosts _ _ (g-forget 𝓤 H A W E _ 27 dead refl) $
+      ghosts _ (G173 κs qs) (g-end 𝓤 H A W E _ 28 refl) $
+      ghosts (G173 κs qs) _ (g-back-sl 𝓤 H A W E (rtF (fInt w32)) (G173 κs qs) 64 10 6 28 (tyRef (named 6) mut (tyInt w32)) (tyRef erased mut (tyInt w32)) (lease (κs .1 .1 .1 .1 .1 .1 .0) (qs .1 .1 .1 .1 .1 .1 .0)) (λ x. x) (λ x. x) (as-is 𝓤 H A (msleft (rtF (fInt w32)) (tyRef erased mut (tyInt w32)))) (as-is 𝓤 H A (mslice-owed (rtF (fInt w32)) (tyRef (named 6) mut (tyInt w32)) 6 28 (lease (κs .1 .1 .1 .1 .1 .1 .0) (qs .1 .1 .1 .1 .1 .1 .0)))) refl refl) $
+      ghosts _ _ (g-forget 𝓤 H A W E _ 28 dead refl) $
+      ghosts _ _ (g-end 𝓤 H A W E _ 29 refl) $
       ghosts _ _ (g-back-sl 𝓤 H A W E (rtF (fInt w64)) _ 66 14 10 29 (tyRef (named 10) mut (tyInt w64)) (tyRef erased mut (tyInt w64)) (lease (κs .1 .1 .1 .1 .1 .1 .1 .1 .1 .1 .0) (qs .1 .1 .1 .1 .1 .1 .1 .1 .1 .1 .0)) (λ x. x) (λ x. x) (as-is 𝓤 H A (msleft (rtF (fInt w64)) (tyRef erased mut (tyInt w64)))) (as-is 𝓤 H A (mslice-owed (rtF (fInt w64)) (tyRef (named 10) mut (tyInt w64)) 10 29 (lease (κs .1 .1 .1 .1 .1 .1 .1 .1 .1 .1 .0) (qs .1 .1 .1 .1 .1 .1 .1 .1 .1 .1 .0)))) refl refl) $
       ghosts _ (G180 κs qs) (g-forget 𝓤 H A W E _ 29 dead refl) $
       stmt (G180 κs qs) (G181 κs qs) (t-use 𝓤 H A W E 𝓣 (G180 κs qs) (oAt 25 (tyInt w64) (valS (sInt w64))) 67 (sc-here (sInt w64)) (tyInt w64) (valS (sInt w64)) (sInt w64 .of) (reads-sc 𝓤 H A W (sInt w64), refl) (room-gone 𝓤 H A (tyInt w64)) (holds-sc 𝓤 H A W (sInt w64)) refl (λ u. refl) (λ u. tt)) $
@@ -427,54 +376,54 @@ module _ {M : Type 1} (𝓤 : URA M) (H : Heap 𝓤) (A : Atoms 𝓤) (W : Given
   from-marks =
       ghosts (G72 κs qs) _ (g-begin 𝓤 H A W E (G72 κs qs) 19 _) $
       stmt _ _ (t-sl-reshare 𝓤 H A W E twin-0.the-row 𝓣 _ 13 46 9 19 (tyRef (named 9) mut (pointee (twin-0.the-row .written))) (tyRef erased imm (pointee (twin-0.the-row .written))) (lease (κs .1 .1 .1 .1 .1 .1 .1 .1 .1 .0) (qs .1 .1 .1 .1 .1 .1 .1 .1 .1 .0)) 0 (λ x. x) (as-is 𝓤 H A (mslice twin-0.the-row (tyRef (named 9) mut (pointee (twin-0.the-row .written))) 9)) (room-gone 𝓤 H A (tyRef erased imm (pointee (twin-0.the-row .written)))) refl tt refl refl refl (λ b o. tt)) $
-      stmt _ (G97 κs qs) (t-sl-aggregate 𝓤 H A W E twin-0.the-row 𝓣 (asShr twin-0.the-row) _ 46 47 19 (tyRef erased imm (pointee (twin-0.the-row .written))) (tyRef erased imm (pointee (twin-0.the-row .written))) (λ x. x) (oFld 13 (field 1 ∷ []) (tyInt w64) 8 (λ v. lenV (v .0))) (as-is 𝓤 H A (ssptr twin-0.the-row (tyRef erased imm (pointee (twin-0.the-row .written))) 19)) (room-gone 𝓤 H A _) (reads-owedS-len 𝓤 H A W twin-0.the-row (tyRef (named 9) mut (pointee (twin-0.the-row .written))) 9 19 (lease (κs .1 .1 .1 .1 .1 .1 .1 .1 .1 .0) (qs .1 .1 .1 .1 .1 .1 .1 .1 .1 .0)) 8 refl, refl) refl refl (λ b o k. tt)) $
-      ghosts (G97 κs qs) _ (g-begin 𝓤 H A W E (G97 κs qs) 20 _) $
-      stmt _ _ (t-sl-reshare 𝓤 H A W E (rtF (fInt w32)) 𝓣 _ 8 48 4 20 (tyRef (named 4) mut (tyInt w32)) (tyRef erased imm (tyInt w32)) (lease (κs .1 .1 .1 .1 .0) (qs .1 .1 .1 .1 .0)) 0 (λ x. x) (as-is 𝓤 H A (mslice (rtF (fInt w32)) (tyRef (named 4) mut (tyInt w32)) 4)) (room-gone 𝓤 H A (tyRef erased imm (tyInt w32))) refl tt refl refl refl (λ b o. tt)) $
-      stmt _ (G100 κs qs) (t-sl-aggregate 𝓤 H A W E (rtF (fInt w32)) 𝓣 (asShr (rtF (fInt w32))) _ 48 49 20 (tyRef erased imm (tyInt w32)) (tyRef erased imm (tyInt w32)) (λ x. x) (oFld 8 (field 1 ∷ []) (tyInt w64) 8 (λ v. lenV (v .0))) (as-is 𝓤 H A (ssptr (rtF (fInt w32)) (tyRef erased imm (tyInt w32)) 20)) (room-gone 𝓤 H A _) (reads-owedS-len 𝓤 H A W (rtF (fInt w32)) (tyRef (named 4) mut (tyInt w32)) 4 20 (lease (κs .1 .1 .1 .1 .0) (qs .1 .1 .1 .1 .0)) 8 refl, refl) refl refl (λ b o k. tt)) $
-      stmt (G100 κs qs) _ (t-use 𝓤 H A W E 𝓣 (G100 κs qs) (oFld 5 (field 1 ∷ []) (tyInt w64) 8 lenV) 38 (sc-here (sInt w64)) (tyInt w64) (valS (sInt w64)) (sInt w64 .of) (reads-sslice-len 𝓤 H A W (rtF (fInt w64)) (tyRef (named 1) imm (tyInt w64)) 1 8 refl, refl) (room-gone 𝓤 H A (tyInt w64)) (holds-sc 𝓤 H A W (sInt w64)) refl (λ u. refl) (λ u. tt)) $
+      stmt _ _ (t-sl-aggregate 𝓤 H A W E twin-0.the-row 𝓣 (asShr twin-0.the-row) _ 46 47 19 (tyRef erased imm (pointee (twin-0.the-row .written))) (tyRef erased imm (pointee (twin-0.the-row .written))) (λ x. x) (oFld 13 (field 1 ∷ []) (tyInt w64) 8 (λ v. lenV (v .0))) (as-is 𝓤 H A (ssptr twin-0.the-row (tyRef erased imm (pointee (twin-0.the-row .written))) 19)) (room-gone 𝓤 H A _) (reads-owedS-len 𝓤 H A W twin-0.the-row (tyRef (named 9) mut (pointee (twin-0.the-row .written))) 9 19 (lease (κs .1 .1 .1 .1 .1 .1 .1 .1 .1 .0) (qs .1 .1 .1 .1 .1 .1 .1 .1 .1 .0)) 8 refl, refl) refl refl (λ b o k. tt)) $
+      ghosts _ _ (g-begin 𝓤 H A W E _ 20 _) $
+      stmt _ (G99 κs qs) (t-sl-reshare 𝓤 H A W E (rtF (fInt w32)) 𝓣 _ 8 48 4 20 (tyRef (named 4) mut (tyInt w32)) (tyRef erased imm (tyInt w32)) (lease (κs .1 .1 .1 .1 .0) (qs .1 .1 .1 .1 .0)) 0 (λ x. x) (as-is 𝓤 H A (mslice (rtF (fInt w32)) (tyRef (named 4) mut (tyInt w32)) 4)) (room-gone 𝓤 H A (tyRef erased imm (tyInt w32))) refl tt refl refl refl (λ b o. tt)) $
+      stmt (G99 κs qs) _ (t-sl-aggregate 𝓤 H A W E (rtF (fInt w32)) 𝓣 (asShr (rtF (fInt w32))) (G99 κs qs) 48 49 20 (tyRef erased imm (tyInt w32)) (tyRef erased imm (tyInt w32)) (λ x. x) (oFld 8 (field 1 ∷ []) (tyInt w64) 8 (λ v. lenV (v .0))) (as-is 𝓤 H A (ssptr (rtF (fInt w32)) (tyRef erased imm (tyInt w32)) 20)) (room-gone 𝓤 H A _) (reads-owedS-len 𝓤 H A W (rtF (fInt w32)) (tyRef (named 4) mut (tyInt w32)) 4 20 (lease (κs .1 .1 .1 .1 .0) (qs .1 .1 .1 .1 .0)) 8 refl, refl) refl refl (λ b o k. tt)) $
+      stmt _ _ (t-use 𝓤 H A W E 𝓣 _ (oFld 5 (field 1 ∷ []) (tyInt w64) 8 lenV) 38 (sc-here (sInt w64)) (tyInt w64) (valS (sInt w64)) (sInt w64 .of) (reads-sslice-len 𝓤 H A W (rtF (fInt w64)) (tyRef (named 1) imm (tyInt w64)) 1 8 refl, refl) (room-gone 𝓤 H A (tyInt w64)) (holds-sc 𝓤 H A W (sInt w64)) refl (λ u. refl) (λ u. tt)) $
       stmt _ _ (t-op2 𝓤 H A W E 𝓣 _ (div unsigned) (oAt 38 (tyInt w64) (valS (sInt w64))) (oInt w64 _) 50 (sc-here (sInt w64)) (tyInt w64) (valS (sInt w64)) (sInt w64 .of) (reads-sc 𝓤 H A W (sInt w64), refl) tt (room-gone 𝓤 H A (tyInt w64)) (holds-sc 𝓤 H A W (sInt w64)) refl (λ u. refl) (λ u. tt)) $
-      ghosts _ (G103 κs qs) (g-room 𝓤 H A W E _ 38 (tyInt w64) (room-sc 𝓤 H A W (sInt w64))) $
-      ghosts (G103 κs qs) _ (g-begin 𝓤 H A W E (G103 κs qs) 21 _) $
-      stmt _ _ (t-sl-reshare 𝓤 H A W E (rtF (fInt w32)) 𝓣 _ 11 51 7 21 (tyRef (named 7) mut (tyInt w32)) (tyRef erased imm (tyInt w32)) (lease (κs .1 .1 .1 .1 .1 .1 .1 .0) (qs .1 .1 .1 .1 .1 .1 .1 .0)) 0 (λ x. x) (as-is 𝓤 H A (mslice (rtF (fInt w32)) (tyRef (named 7) mut (tyInt w32)) 7)) (room-gone 𝓤 H A (tyRef erased imm (tyInt w32))) refl tt refl refl refl (λ b o. tt)) $
-      stmt _ (G106 κs qs) (t-sl-aggregate 𝓤 H A W E (rtF (fInt w32)) 𝓣 (asShr (rtF (fInt w32))) _ 51 52 21 (tyRef erased imm (tyInt w32)) (tyRef erased imm (tyInt w32)) (λ x. x) (oFld 11 (field 1 ∷ []) (tyInt w64) 8 (λ v. lenV (v .0))) (as-is 𝓤 H A (ssptr (rtF (fInt w32)) (tyRef erased imm (tyInt w32)) 21)) (room-gone 𝓤 H A _) (reads-owedS-len 𝓤 H A W (rtF (fInt w32)) (tyRef (named 7) mut (tyInt w32)) 7 21 (lease (κs .1 .1 .1 .1 .1 .1 .1 .0) (qs .1 .1 .1 .1 .1 .1 .1 .0)) 8 refl, refl) refl refl (λ b o k. tt)) $
-      ghosts (G106 κs qs) _ (g-begin 𝓤 H A W E (G106 κs qs) 22 _) $
+      ghosts _ _ (g-room 𝓤 H A W E _ 38 (tyInt w64) (room-sc 𝓤 H A W (sInt w64))) $
+      ghosts _ (G104 κs qs) (g-begin 𝓤 H A W E _ 21 _) $
+      stmt (G104 κs qs) _ (t-sl-reshare 𝓤 H A W E (rtF (fInt w32)) 𝓣 (G104 κs qs) 11 51 7 21 (tyRef (named 7) mut (tyInt w32)) (tyRef erased imm (tyInt w32)) (lease (κs .1 .1 .1 .1 .1 .1 .1 .0) (qs .1 .1 .1 .1 .1 .1 .1 .0)) 0 (λ x. x) (as-is 𝓤 H A (mslice (rtF (fInt w32)) (tyRef (named 7) mut (tyInt w32)) 7)) (room-gone 𝓤 H A (tyRef erased imm (tyInt w32))) refl tt refl refl refl (λ b o. tt)) $
+      stmt _ _ (t-sl-aggregate 𝓤 H A W E (rtF (fInt w32)) 𝓣 (asShr (rtF (fInt w32))) _ 51 52 21 (tyRef erased imm (tyInt w32)) (tyRef erased imm (tyInt w32)) (λ x. x) (oFld 11 (field 1 ∷ []) (tyInt w64) 8 (λ v. lenV (v .0))) (as-is 𝓤 H A (ssptr (rtF (fInt w32)) (tyRef erased imm (tyInt w32)) 21)) (room-gone 𝓤 H A _) (reads-owedS-len 𝓤 H A W (rtF (fInt w32)) (tyRef (named 7) mut (tyInt w32)) 7 21 (lease (κs .1 .1 .1 .1 .1 .1 .1 .0) (qs .1 .1 .1 .1 .1 .1 .1 .0)) 8 refl, refl) refl refl (λ b o k. tt)) $
+      ghosts _ _ (g-begin 𝓤 H A W E _ 22 _) $
       stmt _ _ (t-sl-reshare 𝓤 H A W E (rtF (fInt w32)) 𝓣 _ 12 53 8 22 (tyRef (named 8) mut (tyInt w32)) (tyRef erased imm (tyInt w32)) (lease (κs .1 .1 .1 .1 .1 .1 .1 .1 .0) (qs .1 .1 .1 .1 .1 .1 .1 .1 .0)) 0 (λ x. x) (as-is 𝓤 H A (mslice (rtF (fInt w32)) (tyRef (named 8) mut (tyInt w32)) 8)) (room-gone 𝓤 H A (tyRef erased imm (tyInt w32))) refl tt refl refl refl (λ b o. tt)) $
       stmt _ (G109 κs qs) (t-sl-aggregate 𝓤 H A W E (rtF (fInt w32)) 𝓣 (asShr (rtF (fInt w32))) _ 53 54 22 (tyRef erased imm (tyInt w32)) (tyRef erased imm (tyInt w32)) (λ x. x) (oFld 12 (field 1 ∷ []) (tyInt w64) 8 (λ v. lenV (v .0))) (as-is 𝓤 H A (ssptr (rtF (fInt w32)) (tyRef erased imm (tyInt w32)) 22)) (room-gone 𝓤 H A _) (reads-owedS-len 𝓤 H A W (rtF (fInt w32)) (tyRef (named 8) mut (tyInt w32)) 8 22 (lease (κs .1 .1 .1 .1 .1 .1 .1 .1 .0) (qs .1 .1 .1 .1 .1 .1 .1 .1 .0)) 8 refl, refl) refl refl (λ b o k. tt)) $
       ghosts (G109 κs qs) _ (g-begin 𝓤 H A W E (G109 κs qs) 23 _) $
       stmt _ _ (t-sl-relend 𝓤 H A W E (rtF (fInt w16)) 𝓣 _ 9 55 5 23 (tyRef (named 5) mut (tyInt w16)) (tyRef erased mut (tyInt w16)) (lease (κs .1 .1 .1 .1 .1 .0) (qs .1 .1 .1 .1 .1 .0)) 0 (λ x. x) (as-is 𝓤 H A (mslice (rtF (fInt w16)) (tyRef (named 5) mut (tyInt w16)) 5)) (room-gone 𝓤 H A (tyRef erased mut (tyInt w16))) refl tt refl refl refl (λ b o. tt)) $
-      stmt _ (G112 κs qs) (t-sl-aggregate 𝓤 H A W E (rtF (fInt w16)) 𝓣 (asMut (rtF (fInt w16))) _ 55 56 23 (tyRef erased mut (tyInt w16)) (tyRef erased mut (tyInt w16)) (λ x. x) (oFld 9 (field 1 ∷ []) (tyInt w64) 8 (λ v. lenV (v .0))) (as-is 𝓤 H A (msptr (rtF (fInt w16)) (tyRef erased mut (tyInt w16)) 23)) (room-gone 𝓤 H A _) (reads-owed-len 𝓤 H A W (rtF (fInt w16)) (tyRef (named 5) mut (tyInt w16)) 5 23 (lease (κs .1 .1 .1 .1 .1 .0) (qs .1 .1 .1 .1 .1 .0)) 8 refl, refl) refl refl (λ b o k. tt)) $
-      ghosts (G112 κs qs) _ (g-begin 𝓤 H A W E (G112 κs qs) 24 _) $
-      stmt _ _ (t-sl-relend 𝓤 H A W E (rtF (fInt w32)) 𝓣 _ 10 57 6 24 (tyRef (named 6) mut (tyInt w32)) (tyRef erased mut (tyInt w32)) (lease (κs .1 .1 .1 .1 .1 .1 .0) (qs .1 .1 .1 .1 .1 .1 .0)) 0 (λ x. x) (as-is 𝓤 H A (mslice (rtF (fInt w32)) (tyRef (named 6) mut (tyInt w32)) 6)) (room-gone 𝓤 H A (tyRef erased mut (tyInt w32))) refl tt refl refl refl (λ b o. tt)) $
-      stmt _ (G115 κs qs) (t-sl-aggregate 𝓤 H A W E (rtF (fInt w32)) 𝓣 (asMut (rtF (fInt w32))) _ 57 58 24 (tyRef erased mut (tyInt w32)) (tyRef erased mut (tyInt w32)) (λ x. x) (oFld 10 (field 1 ∷ []) (tyInt w64) 8 (λ v. lenV (v .0))) (as-is 𝓤 H A (msptr (rtF (fInt w32)) (tyRef erased mut (tyInt w32)) 24)) (room-gone 𝓤 H A _) (reads-owed-len 𝓤 H A W (rtF (fInt w32)) (tyRef (named 6) mut (tyInt w32)) 6 24 (lease (κs .1 .1 .1 .1 .1 .1 .0) (qs .1 .1 .1 .1 .1 .1 .0)) 8 refl, refl) refl refl (λ b o k. tt)) $
-      ghosts (G115 κs qs) _ (g-begin 𝓤 H A W E (G115 κs qs) 25 _) $
+      stmt _ _ (t-sl-aggregate 𝓤 H A W E (rtF (fInt w16)) 𝓣 (asMut (rtF (fInt w16))) _ 55 56 23 (tyRef erased mut (tyInt w16)) (tyRef erased mut (tyInt w16)) (λ x. x) (oFld 9 (field 1 ∷ []) (tyInt w64) 8 (λ v. lenV (v .0))) (as-is 𝓤 H A (msptr (rtF (fInt w16)) (tyRef erased mut (tyInt w16)) 23)) (room-gone 𝓤 H A _) (reads-owed-len 𝓤 H A W (rtF (fInt w16)) (tyRef (named 5) mut (tyInt w16)) 5 23 (lease (κs .1 .1 .1 .1 .1 .0) (qs .1 .1 .1 .1 .1 .0)) 8 refl, refl) refl refl (λ b o k. tt)) $
+      ghosts _ _ (g-begin 𝓤 H A W E _ 24 _) $
+      stmt _ (G114 κs qs) (t-sl-relend 𝓤 H A W E (rtF (fInt w32)) 𝓣 _ 10 57 6 24 (tyRef (named 6) mut (tyInt w32)) (tyRef erased mut (tyInt w32)) (lease (κs .1 .1 .1 .1 .1 .1 .0) (qs .1 .1 .1 .1 .1 .1 .0)) 0 (λ x. x) (as-is 𝓤 H A (mslice (rtF (fInt w32)) (tyRef (named 6) mut (tyInt w32)) 6)) (room-gone 𝓤 H A (tyRef erased mut (tyInt w32))) refl tt refl refl refl (λ b o. tt)) $
+      stmt (G114 κs qs) _ (t-sl-aggregate 𝓤 H A W E (rtF (fInt w32)) 𝓣 (asMut (rtF (fInt w32))) (G114 κs qs) 57 58 24 (tyRef erased mut (tyInt w32)) (tyRef erased mut (tyInt w32)) (λ x. x) (oFld 10 (field 1 ∷ []) (tyInt w64) 8 (λ v. lenV (v .0))) (as-is 𝓤 H A (msptr (rtF (fInt w32)) (tyRef erased mut (tyInt w32)) 24)) (room-gone 𝓤 H A _) (reads-owed-len 𝓤 H A W (rtF (fInt w32)) (tyRef (named 6) mut (tyInt w32)) 6 24 (lease (κs .1 .1 .1 .1 .1 .1 .0) (qs .1 .1 .1 .1 .1 .1 .0)) 8 refl, refl) refl refl (λ b o k. tt)) $
+      ghosts _ _ (g-begin 𝓤 H A W E _ 25 _) $
       stmt _ (G117 κs qs) (t-sc-borrow 𝓤 H A W E 𝓣 _ 24 59 25 (Array (rtF fBool) 256) (tyRef erased mut (tyArray tyBool 256)) (λ x. x) (mem-arr 𝓤 H A W (rtF fBool) 256) (room-gone 𝓤 H A (tyRef erased mut (tyArray tyBool 256))) refl (λ b o. tt)) $
       stmt (G117 κs qs) (G118 κs qs) (t-call-plain 𝓤 H A W 𝓣 9 K2.ps K2.r K2.Asked K2.Learnt "topology::marks::mark_removed" known2 E (λ pos β. β) (G117 κs qs) (vAt 1 (λ x. x), (record { pos = 47; ty = tyRef erased imm (pointee (twin-0.the-row .written)); ref = λ x. x }, (vAt 22 (λ x. x), (vAt 23 (λ x. x), (record { pos = 49; ty = tyRef erased imm (tyInt w32); ref = λ x. x }, (record { pos = 7; ty = tyRef (named 3) imm (tyInt w64); ref = λ x. x }, (vAt 20 (λ x. x), (vAt 21 (λ x. x), (vAt 50 (λ x. x), (record { pos = 6; ty = tyRef (named 2) imm (tyInt w64); ref = λ x. x }, (record { pos = 52; ty = tyRef erased imm (tyInt w32); ref = λ x. x }, (record { pos = 54; ty = tyRef erased imm (tyInt w32); ref = λ x. x }, (record { pos = 56; ty = tyRef erased mut (tyInt w16); ref = λ x. x }, (record { pos = 58; ty = tyRef erased mut (tyInt w32); ref = λ x. x }, (record { pos = 59; ty = tyRef erased mut (tyArray tyBool 256); ref = λ x. x }, tt))))))))))))))) 39 (19 ∷ 20 ∷ 3 ∷ 2 ∷ 21 ∷ 22 ∷ 23 ∷ 24 ∷ 25 ∷ []) (sub-id 𝓤 H A W ((G117 κs qs) .slots)) ((reads-sc 𝓤 H A W (sInt w64), refl), (spares-sslice 𝓤 H A W twin-0.the-row (tyRef erased imm (pointee (twin-0.the-row .written))) 19, reads-sslice 𝓤 H A W twin-0.the-row (tyRef erased imm (pointee (twin-0.the-row .written))) 19, refl, ((reads-sc 𝓤 H A W (sInt w64), refl), ((reads-sc 𝓤 H A W (sInt w64), refl), (spares-sslice 𝓤 H A W (rtF (fInt w32)) (tyRef erased imm (tyInt w32)) 20, reads-sslice 𝓤 H A W (rtF (fInt w32)) (tyRef erased imm (tyInt w32)) 20, refl, (spares-sslice 𝓤 H A W (rtF (fInt w64)) (tyRef (named 3) imm (tyInt w64)) 3, reads-sslice 𝓤 H A W (rtF (fInt w64)) (tyRef (named 3) imm (tyInt w64)) 3, refl, ((reads-sc 𝓤 H A W (sInt w64), refl), ((reads-sc 𝓤 H A W (sInt w64), refl), ((reads-sc 𝓤 H A W (sInt w64), refl), (spares-sslice 𝓤 H A W (rtF (fInt w64)) (tyRef (named 2) imm (tyInt w64)) 2, reads-sslice 𝓤 H A W (rtF (fInt w64)) (tyRef (named 2) imm (tyInt w64)) 2, refl, (spares-sslice 𝓤 H A W (rtF (fInt w32)) (tyRef erased imm (tyInt w32)) 21, reads-sslice 𝓤 H A W (rtF (fInt w32)) (tyRef erased imm (tyInt w32)) 21, refl, (spares-sslice 𝓤 H A W (rtF (fInt w32)) (tyRef erased imm (tyInt w32)) 22, reads-sslice 𝓤 H A W (rtF (fInt w32)) (tyRef erased imm (tyInt w32)) 22, refl, (as-is 𝓤 H A (mslice (rtF (fInt w16)) (tyRef erased mut (tyInt w16)) 23), reads-mslice 𝓤 H A W (rtF (fInt w16)) (tyRef erased mut (tyInt w16)) 23, refl, (as-is 𝓤 H A (mslice (rtF (fInt w32)) (tyRef erased mut (tyInt w32)) 24), reads-mslice 𝓤 H A W (rtF (fInt w32)) (tyRef erased mut (tyInt w32)) 24, refl, (as-is 𝓤 H A (mref (Array (rtF fBool) 256) (tyRef erased mut (tyArray tyBool 256)) 25), reads-mref 𝓤 H A W (Array (rtF fBool) 256) (tyRef erased mut (tyArray tyBool 256)) 25, refl, tt))))))))))))))) (room-gone 𝓤 H A tyUnit) _ refl) $
       ghosts (G118 κs qs) _ (g-room 𝓤 H A W E (G118 κs qs) 47 _ (room-sslice 𝓤 H A W twin-0.the-row (tyRef erased imm (pointee (twin-0.the-row .written))) 19)) $
       ghosts _ _ (g-room 𝓤 H A W E _ 49 _ (room-sslice 𝓤 H A W (rtF (fInt w32)) (tyRef erased imm (tyInt w32)) 20)) $
-      ghosts _ (G121 κs qs) (g-room 𝓤 H A W E _ 52 _ (room-sslice 𝓤 H A W (rtF (fInt w32)) (tyRef erased imm (tyInt w32)) 21)) $
-      ghosts (G121 κs qs) _ (g-room 𝓤 H A W E (G121 κs qs) 54 _ (room-sslice 𝓤 H A W (rtF (fInt w32)) (tyRef erased imm (tyInt w32)) 22)) $
-      ghosts _ _ (g-room 𝓤 H A W E _ 39 tyUnit (room-sc 𝓤 H A W sUnit)) $
-      ghosts _ (G124 κs qs) (g-room 𝓤 H A W E _ 50 (tyInt w64) (room-sc 𝓤 H A W (sInt w64))) $
-      ghosts (G124 κs qs) _ (g-end 𝓤 H A W E (G124 κs qs) 19 refl) $
+      ghosts _ _ (g-room 𝓤 H A W E _ 52 _ (room-sslice 𝓤 H A W (rtF (fInt w32)) (tyRef erased imm (tyInt w32)) 21)) $
+      ghosts _ _ (g-room 𝓤 H A W E _ 54 _ (room-sslice 𝓤 H A W (rtF (fInt w32)) (tyRef erased imm (tyInt w32)) 22)) $
+      ghosts _ (G123 κs qs) (g-room 𝓤 H A W E _ 39 tyUnit (room-sc 𝓤 H A W sUnit)) $
+      ghosts (G123 κs qs) _ (g-room 𝓤 H A W E (G123 κs qs) 50 (tyInt w64) (room-sc 𝓤 H A W (sInt w64))) $
+      ghosts _ _ (g-end 𝓤 H A W E _ 19 refl) $
       ghosts _ _ (g-back-sl-shr 𝓤 H A W E twin-0.the-row _ 13 9 19 (tyRef (named 9) mut (pointee (twin-0.the-row .written))) (lease (κs .1 .1 .1 .1 .1 .1 .1 .1 .1 .0) (qs .1 .1 .1 .1 .1 .1 .1 .1 .1 .0)) (λ x. x) (as-is 𝓤 H A (mslice-owedS twin-0.the-row (tyRef (named 9) mut (pointee (twin-0.the-row .written))) 9 19 (lease (κs .1 .1 .1 .1 .1 .1 .1 .1 .1 .0) (qs .1 .1 .1 .1 .1 .1 .1 .1 .1 .0)))) refl refl) $
-      ghosts _ (G127 κs qs) (g-forget 𝓤 H A W E _ 19 dead refl) $
-      ghosts (G127 κs qs) _ (g-end 𝓤 H A W E (G127 κs qs) 20 refl) $
-      ghosts _ _ (g-back-sl-shr 𝓤 H A W E (rtF (fInt w32)) _ 8 4 20 (tyRef (named 4) mut (tyInt w32)) (lease (κs .1 .1 .1 .1 .0) (qs .1 .1 .1 .1 .0)) (λ x. x) (as-is 𝓤 H A (mslice-owedS (rtF (fInt w32)) (tyRef (named 4) mut (tyInt w32)) 4 20 (lease (κs .1 .1 .1 .1 .0) (qs .1 .1 .1 .1 .0)))) refl refl) $
-      ghosts _ (G130 κs qs) (g-forget 𝓤 H A W E _ 20 dead refl) $
-      ghosts (G130 κs qs) _ (g-end 𝓤 H A W E (G130 κs qs) 21 refl) $
+      ghosts _ _ (g-forget 𝓤 H A W E _ 19 dead refl) $
+      ghosts _ (G128 κs qs) (g-end 𝓤 H A W E _ 20 refl) $
+      ghosts (G128 κs qs) _ (g-back-sl-shr 𝓤 H A W E (rtF (fInt w32)) (G128 κs qs) 8 4 20 (tyRef (named 4) mut (tyInt w32)) (lease (κs .1 .1 .1 .1 .0) (qs .1 .1 .1 .1 .0)) (λ x. x) (as-is 𝓤 H A (mslice-owedS (rtF (fInt w32)) (tyRef (named 4) mut (tyInt w32)) 4 20 (lease (κs .1 .1 .1 .1 .0) (qs .1 .1 .1 .1 .0)))) refl refl) $
+      ghosts _ _ (g-forget 𝓤 H A W E _ 20 dead refl) $
+      ghosts _ _ (g-end 𝓤 H A W E _ 21 refl) $
       ghosts _ _ (g-back-sl-shr 𝓤 H A W E (rtF (fInt w32)) _ 11 7 21 (tyRef (named 7) mut (tyInt w32)) (lease (κs .1 .1 .1 .1 .1 .1 .1 .0) (qs .1 .1 .1 .1 .1 .1 .1 .0)) (λ x. x) (as-is 𝓤 H A (mslice-owedS (rtF (fInt w32)) (tyRef (named 7) mut (tyInt w32)) 7 21 (lease (κs .1 .1 .1 .1 .1 .1 .1 .0) (qs .1 .1 .1 .1 .1 .1 .1 .0)))) refl refl) $
       ghosts _ (G133 κs qs) (g-forget 𝓤 H A W E _ 21 dead refl) $
       ghosts (G133 κs qs) _ (g-end 𝓤 H A W E (G133 κs qs) 22 refl) $
       ghosts _ _ (g-back-sl-shr 𝓤 H A W E (rtF (fInt w32)) _ 12 8 22 (tyRef (named 8) mut (tyInt w32)) (lease (κs .1 .1 .1 .1 .1 .1 .1 .1 .0) (qs .1 .1 .1 .1 .1 .1 .1 .1 .0)) (λ x. x) (as-is 𝓤 H A (mslice-owedS (rtF (fInt w32)) (tyRef (named 8) mut (tyInt w32)) 8 22 (lease (κs .1 .1 .1 .1 .1 .1 .1 .1 .0) (qs .1 .1 .1 .1 .1 .1 .1 .1 .0)))) refl refl) $
-      ghosts _ (G136 κs qs) (g-forget 𝓤 H A W E _ 22 dead refl) $
-      ghosts (G136 κs qs) _ (g-end 𝓤 H A W E (G136 κs qs) 23 refl) $
-      ghosts _ _ (g-back-sl 𝓤 H A W E (rtF (fInt w16)) _ 56 9 5 23 (tyRef (named 5) mut (tyInt w16)) (tyRef erased mut (tyInt w16)) (lease (κs .1 .1 .1 .1 .1 .0) (qs .1 .1 .1 .1 .1 .0)) (λ x. x) (λ x. x) (as-is 𝓤 H A (msleft (rtF (fInt w16)) (tyRef erased mut (tyInt w16)))) (as-is 𝓤 H A (mslice-owed (rtF (fInt w16)) (tyRef (named 5) mut (tyInt w16)) 5 23 (lease (κs .1 .1 .1 .1 .1 .0) (qs .1 .1 .1 .1 .1 .0)))) refl refl) $
-      ghosts _ (G140 κs qs) (g-forget 𝓤 H A W E _ 23 dead refl) $
-      ghosts (G140 κs qs) _ (g-end 𝓤 H A W E (G140 κs qs) 24 refl) $
+      ghosts _ _ (g-forget 𝓤 H A W E _ 22 dead refl) $
+      ghosts _ _ (g-end 𝓤 H A W E _ 23 refl) $
+      ghosts _ (G138 κs qs) (g-back-sl 𝓤 H A W E (rtF (fInt w16)) _ 56 9 5 23 (tyRef (named 5) mut (tyInt w16)) (tyRef erased mut (tyInt w16)) (lease (κs .1 .1 .1 .1 .1 .0) (qs .1 .1 .1 .1 .1 .0)) (λ x. x) (λ x. x) (as-is 𝓤 H A (msleft (rtF (fInt w16)) (tyRef erased mut (tyInt w16)))) (as-is 𝓤 H A (mslice-owed (rtF (fInt w16)) (tyRef (named 5) mut (tyInt w16)) 5 23 (lease (κs .1 .1 .1 .1 .1 .0) (qs .1 .1 .1 .1 .1 .0)))) refl refl) $
+      ghosts (G138 κs qs) _ (g-forget 𝓤 H A W E (G138 κs qs) 23 dead refl) $
+      ghosts _ _ (g-end 𝓤 H A W E _ 24 refl) $
       ghosts _ _ (g-back-sl 𝓤 H A W E (rtF (fInt w32)) _ 58 10 6 24 (tyRef (named 6) mut (tyInt w32)) (tyRef erased mut (tyInt w32)) (lease (κs .1 .1 .1 .1 .1 .1 .0) (qs .1 .1 .1 .1 .1 .1 .0)) (λ x. x) (λ x. x) (as-is 𝓤 H A (msleft (rtF (fInt w32)) (tyRef erased mut (tyInt w32)))) (as-is 𝓤 H A (mslice-owed (rtF (fInt w32)) (tyRef (named 6) mut (tyInt w32)) 6 24 (lease (κs .1 .1 .1 .1 .1 .1 .0) (qs .1 .1 .1 .1 .1 .1 .0)))) refl refl) $
-      ghosts _ (G144 κs qs) (g-forget 𝓤 H A W E _ 24 dead refl) $
-      ghosts (G144 κs qs) _ (g-end 𝓤 H A W E (G144 κs qs) 25 refl) $
-      ghosts _ _ (g-back-sc 𝓤 H A W E _ 59 24 25 (Array (rtF fBool) 256) (tyRef erased mut (tyArray tyBool 256)) (arrF (rtF fBool) 256 0) (λ x. x) (λ x. x) (λ x. x) (as-is 𝓤 H A (mleft (Array (rtF fBool) 256) (tyRef erased mut (tyArray tyBool 256)))) (as-is 𝓤 H A (sc-owed (Array (rtF fBool) 256) 25)) (arr-mem 𝓤 H A W (rtF fBool) 256 tt) refl) $
+      ghosts _ _ (g-forget 𝓤 H A W E _ 24 dead refl) $
+      ghosts _ (G145 κs qs) (g-end 𝓤 H A W E _ 25 refl) $
+      ghosts (G145 κs qs) _ (g-back-sc 𝓤 H A W E (G145 κs qs) 59 24 25 (Array (rtF fBool) 256) (tyRef erased mut (tyArray tyBool 256)) (arrF (rtF fBool) 256 0) (λ x. x) (λ x. x) (λ x. x) (as-is 𝓤 H A (mleft (Array (rtF fBool) 256) (tyRef erased mut (tyArray tyBool 256)))) (as-is 𝓤 H A (sc-owed (Array (rtF fBool) 256) 25)) (arr-mem 𝓤 H A W (rtF fBool) 256 tt) refl) $
       ghosts _ (G72 κs qs) (g-forget 𝓤 H A W E _ 25 dead refl) $
       from-finish
 
@@ -485,42 +434,42 @@ module _ {M : Type 1} (𝓤 : URA M) (H : Heap 𝓤) (A : Atoms 𝓤) (W : Given
             ghosts (G51 κs qs) (G51 κs qs) (g-known-told 𝓤 H A W E enum 0 (G51 κs qs) 17 Laws.the-laws (λ x. x) (as-is 𝓤 H A (whole (Known enum 0)))) $
             stmt (G51 κs qs) _ (t-use 𝓤 H A W E 𝓣 (G51 κs qs) (oFld 17 (variant 0 ∷ field 1 ∷ []) (tyInt w64) 8 (λ v. Laws.the-laws .0 .0 .val (v .0))) 18 (sc-here (sInt w64)) (tyInt w64) (valS (sInt w64)) (sInt w64 .of) (reads-payload 𝓤 H A W enum Laws.the-laws 0 refl refl (λ v. vcons (Laws.the-laws .0 .0 .val (v .0)) (vcons (Laws.the-laws .0 .1 .0 .val (v .1 .0)) vnil)) (λ v. refl) 0 (tyInt w64) 8 refl, refl) (room-gone 𝓤 H A (tyInt w64)) (holds-sc 𝓤 H A W (sInt w64)) refl (λ u. refl) (λ u. tt)) $
             stmt _ _ (t-use 𝓤 H A W E 𝓣 _ (oFld 17 (variant 0 ∷ field 2 ∷ []) (tyInt w64) 16 (λ v. Laws.the-laws .0 .1 .0 .val (v .1 .0))) 19 (sc-here (sInt w64)) (tyInt w64) (valS (sInt w64)) (sInt w64 .of) (reads-payload 𝓤 H A W enum Laws.the-laws 0 refl refl (λ v. vcons (Laws.the-laws .0 .0 .val (v .0)) (vcons (Laws.the-laws .0 .1 .0 .val (v .1 .0)) vnil)) (λ v. refl) 1 (tyInt w64) 16 refl, refl) (room-gone 𝓤 H A (tyInt w64)) (holds-sc 𝓤 H A W (sInt w64)) refl (λ u. refl) (λ u. tt)) $
-            ghosts _ (G55 κs qs) (g-room 𝓤 H A W E _ 17 _ (room-whole 𝓤 H A W (Known enum 0) _ refl)) $
-            stmt (G55 κs qs) (G56 κs qs) (t-use 𝓤 H A W E 𝓣 (G55 κs qs) (oAt 19 (tyInt w64) (valS (sInt w64))) 37 (sc-here (sInt w64)) (tyInt w64) (valS (sInt w64)) (sInt w64 .of) (reads-sc 𝓤 H A W (sInt w64), refl) (room-gone 𝓤 H A (tyInt w64)) (holds-sc 𝓤 H A W (sInt w64)) refl (λ u. refl) (λ u. tt)) $
+            ghosts _ _ (g-room 𝓤 H A W E _ 17 _ (room-whole 𝓤 H A W (Known enum 0) _ refl)) $
+            stmt _ (G56 κs qs) (t-use 𝓤 H A W E 𝓣 _ (oAt 19 (tyInt w64) (valS (sInt w64))) 37 (sc-here (sInt w64)) (tyInt w64) (valS (sInt w64)) (sInt w64 .of) (reads-sc 𝓤 H A W (sInt w64), refl) (room-gone 𝓤 H A (tyInt w64)) (holds-sc 𝓤 H A W (sInt w64)) refl (λ u. refl) (λ u. tt)) $
             last (G56 κs qs) (G30 κs qs) (then W (G56 κs qs) (G60 κs qs) (G30 κs qs) (then W (G56 κs qs) (G59 κs qs) (G60 κs qs) (then W (G56 κs qs) (G58 κs qs) (G59 κs qs) (then W (G56 κs qs) (G57 κs qs) (G58 κs qs) (t-struct-make 𝓤 H A W E 𝓣 (apartT TopologyAnswer.the-type) Laws'.the-laws Laws'.the-plain (G56 κs qs) 36 (oAt 18 (tyInt w64) (valS (sInt w64)) ∷ oAt 37 (tyInt w64) (valS (sInt w64)) ∷ []) (λ m. (m .1 .1 .1 .1 .1 .1 .1 .1 .1 .1 .1 .1 .1 .1 .1 .1 .1 .1 .0, (m .1 .1 .1 .1 .1 .1 .1 .1 .1 .1 .1 .1 .1 .1 .1 .1 .1 .1 .1 .1 .1 .1 .1 .1 .1 .1 .1 .1 .1 .1 .1 .1 .1 .1 .1 .1 .1 .0, tt))) (room-gone 𝓤 H A _) ((reads-sc 𝓤 H A W (sInt w64), refl), ((reads-sc 𝓤 H A W (sInt w64), refl), tt)) refl (λ u. refl) (λ m. is-wt (apartT TopologyAnswer.the-type) Laws'.the-laws (u64-wt, (u64-wt, tt)) (m .1 .1 .1 .1 .1 .1 .1 .1 .1 .1 .1 .1 .1 .1 .1 .1 .1 .1 .0, (m .1 .1 .1 .1 .1 .1 .1 .1 .1 .1 .1 .1 .1 .1 .1 .1 .1 .1 .1 .1 .1 .1 .1 .1 .1 .1 .1 .1 .1 .1 .1 .1 .1 .1 .1 .1 .1 .0, tt)))) (g-room 𝓤 H A W E (G57 κs qs) 18 (tyInt w64) (room-sc 𝓤 H A W (sInt w64)))) (g-room 𝓤 H A W E (G58 κs qs) 19 (tyInt w64) (room-sc 𝓤 H A W (sInt w64)))) (g-room 𝓤 H A W E (G59 κs qs) 37 (tyInt w64) (room-sc 𝓤 H A W (sInt w64)))) (g-as-by 𝓤 H A W E (λ ρ. Unit) (G60 κs qs) 36 (whole (Declared'.row TopologyAnswer.the-type)) (λ v. struct .make v tt) (told-none 𝓤 H A ((G60 κs qs) .slots)) (λ ρ told v b. folds 𝓤 H A TopologyAnswer.the-type (struct .Ghost) (struct .make) (λ v g. refl) ρ v tt b))),
         (
           ghosts (G50 κs qs) (G62 κs qs) (g-enum-known 𝓤 H A W E enum 1 (G50 κs qs) 17 (λ x. x) (as-is 𝓤 H A (whole (Declared.row Prepared.the-type)))) $
               ghosts (G62 κs qs) (G62 κs qs) (g-known-told 𝓤 H A W E enum 1 (G62 κs qs) 17 Laws.the-laws (λ x. x) (as-is 𝓤 H A (whole (Known enum 1)))) $
               stmt (G62 κs qs) _ (t-use 𝓤 H A W E 𝓣 (G62 κs qs) (oFld 17 (variant 1 ∷ field 1 ∷ []) (tyInt w64) 8 (λ v. Laws.the-laws .1 .0 .0 .val (v .0))) 20 (sc-here (sInt w64)) (tyInt w64) (valS (sInt w64)) (sInt w64 .of) (reads-payload 𝓤 H A W enum Laws.the-laws 1 refl refl (λ v. vcons (Laws.the-laws .1 .0 .0 .val (v .0)) (vcons (Laws.the-laws .1 .0 .1 .0 .val (v .1 .0)) vnil)) (λ v. refl) 0 (tyInt w64) 8 refl, refl) (room-gone 𝓤 H A (tyInt w64)) (holds-sc 𝓤 H A W (sInt w64)) refl (λ u. refl) (λ u. tt)) $
               stmt _ _ (t-use 𝓤 H A W E 𝓣 _ (oFld 17 (variant 1 ∷ field 2 ∷ []) (tyInt w64) 16 (λ v. Laws.the-laws .1 .0 .1 .0 .val (v .1 .0))) 21 (sc-here (sInt w64)) (tyInt w64) (valS (sInt w64)) (sInt w64 .of) (reads-payload 𝓤 H A W enum Laws.the-laws 1 refl refl (λ v. vcons (Laws.the-laws .1 .0 .0 .val (v .0)) (vcons (Laws.the-laws .1 .0 .1 .0 .val (v .1 .0)) vnil)) (λ v. refl) 1 (tyInt w64) 16 refl, refl) (room-gone 𝓤 H A (tyInt w64)) (holds-sc 𝓤 H A W (sInt w64)) refl (λ u. refl) (λ u. tt)) $
-              ghosts _ (G66 κs qs) (g-room 𝓤 H A W E _ 17 _ (room-whole 𝓤 H A W (Known enum 1) _ refl)) $
-              stmt (G66 κs qs) _ (t-use 𝓤 H A W E 𝓣 (G66 κs qs) (oAt 2 (tyInt w64) (valS (sInt w64))) 22 (sc-here (sInt w64)) (tyInt w64) (valS (sInt w64)) (sInt w64 .of) (reads-sc 𝓤 H A W (sInt w64), refl) (room-gone 𝓤 H A (tyInt w64)) (holds-sc 𝓤 H A W (sInt w64)) refl (λ u. refl) (λ u. tt)) $
-              stmt _ _ (t-use 𝓤 H A W E 𝓣 _ (oAt 3 (tyInt w64) (valS (sInt w64))) 38 (sc-here (sInt w64)) (tyInt w64) (valS (sInt w64)) (sInt w64 .of) (reads-sc 𝓤 H A W (sInt w64), refl) (room-gone 𝓤 H A (tyInt w64)) (holds-sc 𝓤 H A W (sInt w64)) refl (λ u. refl) (λ u. tt)) $
-              stmt _ (G69 κs qs) (t-op2 𝓤 H A W E 𝓣 _ (mul unsigned) (oAt 38 (tyInt w64) (valS (sInt w64))) (oAt 22 (tyInt w64) (valS (sInt w64))) 23 (sc-here (sInt w64)) (tyInt w64) (valS (sInt w64)) (sInt w64 .of) (reads-sc 𝓤 H A W (sInt w64), refl) (reads-sc 𝓤 H A W (sInt w64), refl) (room-gone 𝓤 H A (tyInt w64)) (holds-sc 𝓤 H A W (sInt w64)) refl (λ u. refl) (λ u. tt)) $
-              ghosts (G69 κs qs) _ (g-room 𝓤 H A W E (G69 κs qs) 38 (tyInt w64) (room-sc 𝓤 H A W (sInt w64))) $
+              ghosts _ _ (g-room 𝓤 H A W E _ 17 _ (room-whole 𝓤 H A W (Known enum 1) _ refl)) $
+              stmt _ _ (t-use 𝓤 H A W E 𝓣 _ (oAt 2 (tyInt w64) (valS (sInt w64))) 22 (sc-here (sInt w64)) (tyInt w64) (valS (sInt w64)) (sInt w64 .of) (reads-sc 𝓤 H A W (sInt w64), refl) (room-gone 𝓤 H A (tyInt w64)) (holds-sc 𝓤 H A W (sInt w64)) refl (λ u. refl) (λ u. tt)) $
+              stmt _ (G68 κs qs) (t-use 𝓤 H A W E 𝓣 _ (oAt 3 (tyInt w64) (valS (sInt w64))) 38 (sc-here (sInt w64)) (tyInt w64) (valS (sInt w64)) (sInt w64 .of) (reads-sc 𝓤 H A W (sInt w64), refl) (room-gone 𝓤 H A (tyInt w64)) (holds-sc 𝓤 H A W (sInt w64)) refl (λ u. refl) (λ u. tt)) $
+              stmt (G68 κs qs) _ (t-op2 𝓤 H A W E 𝓣 (G68 κs qs) (mul unsigned) (oAt 38 (tyInt w64) (valS (sInt w64))) (oAt 22 (tyInt w64) (valS (sInt w64))) 23 (sc-here (sInt w64)) (tyInt w64) (valS (sInt w64)) (sInt w64 .of) (reads-sc 𝓤 H A W (sInt w64), refl) (reads-sc 𝓤 H A W (sInt w64), refl) (room-gone 𝓤 H A (tyInt w64)) (holds-sc 𝓤 H A W (sInt w64)) refl (λ u. refl) (λ u. tt)) $
+              ghosts _ _ (g-room 𝓤 H A W E _ 38 (tyInt w64) (room-sc 𝓤 H A W (sInt w64))) $
               stmt _ (G71 κs qs) (t-repeat 𝓤 H A W E 𝓣 (rtF fBool) (bool-lawful 𝓤 H A W) (cRf fBool .copy 𝓤 H A W) (bool-makes 𝓤 H A W) 256 _ 24 (oBool false) (λ m. false) (room-gone 𝓤 H A (tyArray tyBool 256)) tt refl (λ m wa. refl)) $
               ghosts (G71 κs qs) (G72 κs qs) (g-as-by 𝓤 H A W E (λ ρ. Unit) (G71 κs qs) 24 (arrF (rtF fBool) 256 0) (λ x. x) (told-none 𝓤 H A ((G71 κs qs) .slots)) (λ ρ told. whole-arr 𝓤 H A W (rtF fBool) 256 tt ρ)) $
               ghosts (G72 κs qs) _ (g-begin 𝓤 H A W E (G72 κs qs) 16 _) $
               stmt _ _ (t-sl-relend 𝓤 H A W E twin-0.the-row 𝓣 _ 13 40 9 16 (tyRef (named 9) mut (pointee (twin-0.the-row .written))) (tyRef erased mut (pointee (twin-0.the-row .written))) (lease (κs .1 .1 .1 .1 .1 .1 .1 .1 .1 .0) (qs .1 .1 .1 .1 .1 .1 .1 .1 .1 .0)) 0 (λ x. x) (as-is 𝓤 H A (mslice twin-0.the-row (tyRef (named 9) mut (pointee (twin-0.the-row .written))) 9)) (room-gone 𝓤 H A (tyRef erased mut (pointee (twin-0.the-row .written)))) refl tt refl refl refl (λ b o. tt)) $
-              stmt _ (G75 κs qs) (t-sl-aggregate 𝓤 H A W E twin-0.the-row 𝓣 (asMut twin-0.the-row) _ 40 41 16 (tyRef erased mut (pointee (twin-0.the-row .written))) (tyRef erased mut (pointee (twin-0.the-row .written))) (λ x. x) (oFld 13 (field 1 ∷ []) (tyInt w64) 8 (λ v. lenV (v .0))) (as-is 𝓤 H A (msptr twin-0.the-row (tyRef erased mut (pointee (twin-0.the-row .written))) 16)) (room-gone 𝓤 H A _) (reads-owed-len 𝓤 H A W twin-0.the-row (tyRef (named 9) mut (pointee (twin-0.the-row .written))) 9 16 (lease (κs .1 .1 .1 .1 .1 .1 .1 .1 .1 .0) (qs .1 .1 .1 .1 .1 .1 .1 .1 .1 .0)) 8 refl, refl) refl refl (λ b o k. tt)) $
-              ghosts (G75 κs qs) _ (g-begin 𝓤 H A W E (G75 κs qs) 17 _) $
-              stmt _ _ (t-sl-reshare 𝓤 H A W E (rtF (fInt w32)) 𝓣 _ 8 42 4 17 (tyRef (named 4) mut (tyInt w32)) (tyRef erased imm (tyInt w32)) (lease (κs .1 .1 .1 .1 .0) (qs .1 .1 .1 .1 .0)) 0 (λ x. x) (as-is 𝓤 H A (mslice (rtF (fInt w32)) (tyRef (named 4) mut (tyInt w32)) 4)) (room-gone 𝓤 H A (tyRef erased imm (tyInt w32))) refl tt refl refl refl (λ b o. tt)) $
-              stmt _ (G78 κs qs) (t-sl-aggregate 𝓤 H A W E (rtF (fInt w32)) 𝓣 (asShr (rtF (fInt w32))) _ 42 43 17 (tyRef erased imm (tyInt w32)) (tyRef erased imm (tyInt w32)) (λ x. x) (oFld 8 (field 1 ∷ []) (tyInt w64) 8 (λ v. lenV (v .0))) (as-is 𝓤 H A (ssptr (rtF (fInt w32)) (tyRef erased imm (tyInt w32)) 17)) (room-gone 𝓤 H A _) (reads-owedS-len 𝓤 H A W (rtF (fInt w32)) (tyRef (named 4) mut (tyInt w32)) 4 17 (lease (κs .1 .1 .1 .1 .0) (qs .1 .1 .1 .1 .0)) 8 refl, refl) refl refl (λ b o k. tt)) $
-              ghosts (G78 κs qs) _ (g-begin 𝓤 H A W E (G78 κs qs) 18 _) $
+              stmt _ _ (t-sl-aggregate 𝓤 H A W E twin-0.the-row 𝓣 (asMut twin-0.the-row) _ 40 41 16 (tyRef erased mut (pointee (twin-0.the-row .written))) (tyRef erased mut (pointee (twin-0.the-row .written))) (λ x. x) (oFld 13 (field 1 ∷ []) (tyInt w64) 8 (λ v. lenV (v .0))) (as-is 𝓤 H A (msptr twin-0.the-row (tyRef erased mut (pointee (twin-0.the-row .written))) 16)) (room-gone 𝓤 H A _) (reads-owed-len 𝓤 H A W twin-0.the-row (tyRef (named 9) mut (pointee (twin-0.the-row .written))) 9 16 (lease (κs .1 .1 .1 .1 .1 .1 .1 .1 .1 .0) (qs .1 .1 .1 .1 .1 .1 .1 .1 .1 .0)) 8 refl, refl) refl refl (λ b o k. tt)) $
+              ghosts _ _ (g-begin 𝓤 H A W E _ 17 _) $
+              stmt _ (G77 κs qs) (t-sl-reshare 𝓤 H A W E (rtF (fInt w32)) 𝓣 _ 8 42 4 17 (tyRef (named 4) mut (tyInt w32)) (tyRef erased imm (tyInt w32)) (lease (κs .1 .1 .1 .1 .0) (qs .1 .1 .1 .1 .0)) 0 (λ x. x) (as-is 𝓤 H A (mslice (rtF (fInt w32)) (tyRef (named 4) mut (tyInt w32)) 4)) (room-gone 𝓤 H A (tyRef erased imm (tyInt w32))) refl tt refl refl refl (λ b o. tt)) $
+              stmt (G77 κs qs) _ (t-sl-aggregate 𝓤 H A W E (rtF (fInt w32)) 𝓣 (asShr (rtF (fInt w32))) (G77 κs qs) 42 43 17 (tyRef erased imm (tyInt w32)) (tyRef erased imm (tyInt w32)) (λ x. x) (oFld 8 (field 1 ∷ []) (tyInt w64) 8 (λ v. lenV (v .0))) (as-is 𝓤 H A (ssptr (rtF (fInt w32)) (tyRef erased imm (tyInt w32)) 17)) (room-gone 𝓤 H A _) (reads-owedS-len 𝓤 H A W (rtF (fInt w32)) (tyRef (named 4) mut (tyInt w32)) 4 17 (lease (κs .1 .1 .1 .1 .0) (qs .1 .1 .1 .1 .0)) 8 refl, refl) refl refl (λ b o k. tt)) $
+              ghosts _ _ (g-begin 𝓤 H A W E _ 18 _) $
               stmt _ _ (t-sl-reshare 𝓤 H A W E (rtF (fInt w32)) 𝓣 _ 10 44 6 18 (tyRef (named 6) mut (tyInt w32)) (tyRef erased imm (tyInt w32)) (lease (κs .1 .1 .1 .1 .1 .1 .0) (qs .1 .1 .1 .1 .1 .1 .0)) 0 (λ x. x) (as-is 𝓤 H A (mslice (rtF (fInt w32)) (tyRef (named 6) mut (tyInt w32)) 6)) (room-gone 𝓤 H A (tyRef erased imm (tyInt w32))) refl tt refl refl refl (λ b o. tt)) $
               stmt _ (G81 κs qs) (t-sl-aggregate 𝓤 H A W E (rtF (fInt w32)) 𝓣 (asShr (rtF (fInt w32))) _ 44 45 18 (tyRef erased imm (tyInt w32)) (tyRef erased imm (tyInt w32)) (λ x. x) (oFld 10 (field 1 ∷ []) (tyInt w64) 8 (λ v. lenV (v .0))) (as-is 𝓤 H A (ssptr (rtF (fInt w32)) (tyRef erased imm (tyInt w32)) 18)) (room-gone 𝓤 H A _) (reads-owedS-len 𝓤 H A W (rtF (fInt w32)) (tyRef (named 6) mut (tyInt w32)) 6 18 (lease (κs .1 .1 .1 .1 .1 .1 .0) (qs .1 .1 .1 .1 .1 .1 .0)) 8 refl, refl) refl refl (λ b o k. tt)) $
               stmt (G81 κs qs) (G82 κs qs) (t-call-plain 𝓤 H A W 𝓣 4 K1.ps K1.r K1.Asked K1.Learnt "topology::records::fill" known1 E (λ pos β. β) (G81 κs qs) (record { pos = 41; ty = tyRef erased mut (pointee (twin-0.the-row .written)); ref = λ x. x }, (vAt 20 (λ x. x), (vAt 22 (λ x. x), (record { pos = 4; ty = tyRef (named 0) imm (tyInt w8); ref = λ x. x }, (record { pos = 43; ty = tyRef erased imm (tyInt w32); ref = λ x. x }, (record { pos = 45; ty = tyRef erased imm (tyInt w32); ref = λ x. x }, tt)))))) 39 (16 ∷ 0 ∷ 17 ∷ 18 ∷ []) (sub-id 𝓤 H A W ((G81 κs qs) .slots)) (as-is 𝓤 H A (mslice twin-0.the-row (tyRef erased mut (pointee (twin-0.the-row .written))) 16), reads-mslice 𝓤 H A W twin-0.the-row (tyRef erased mut (pointee (twin-0.the-row .written))) 16, refl, ((reads-sc 𝓤 H A W (sInt w64), refl), ((reads-sc 𝓤 H A W (sInt w64), refl), (spares-sslice 𝓤 H A W (rtF (fInt w8)) (tyRef (named 0) imm (tyInt w8)) 0, reads-sslice 𝓤 H A W (rtF (fInt w8)) (tyRef (named 0) imm (tyInt w8)) 0, refl, (spares-sslice 𝓤 H A W (rtF (fInt w32)) (tyRef erased imm (tyInt w32)) 17, reads-sslice 𝓤 H A W (rtF (fInt w32)) (tyRef erased imm (tyInt w32)) 17, refl, (spares-sslice 𝓤 H A W (rtF (fInt w32)) (tyRef erased imm (tyInt w32)) 18, reads-sslice 𝓤 H A W (rtF (fInt w32)) (tyRef erased imm (tyInt w32)) 18, refl, tt)))))) (room-gone 𝓤 H A tyUnit) _ refl) $
               ghosts (G82 κs qs) _ (g-room 𝓤 H A W E (G82 κs qs) 43 _ (room-sslice 𝓤 H A W (rtF (fInt w32)) (tyRef erased imm (tyInt w32)) 17)) $
               ghosts _ _ (g-room 𝓤 H A W E _ 45 _ (room-sslice 𝓤 H A W (rtF (fInt w32)) (tyRef erased imm (tyInt w32)) 18)) $
-              ghosts _ (G85 κs qs) (g-room 𝓤 H A W E _ 39 tyUnit (room-sc 𝓤 H A W sUnit)) $
-              ghosts (G85 κs qs) _ (g-end 𝓤 H A W E (G85 κs qs) 16 refl) $
-              ghosts _ _ (g-back-sl 𝓤 H A W E twin-0.the-row _ 41 13 9 16 (tyRef (named 9) mut (pointee (twin-0.the-row .written))) (tyRef erased mut (pointee (twin-0.the-row .written))) (lease (κs .1 .1 .1 .1 .1 .1 .1 .1 .1 .0) (qs .1 .1 .1 .1 .1 .1 .1 .1 .1 .0)) (λ x. x) (λ x. x) (as-is 𝓤 H A (msleft twin-0.the-row (tyRef erased mut (pointee (twin-0.the-row .written))))) (as-is 𝓤 H A (mslice-owed twin-0.the-row (tyRef (named 9) mut (pointee (twin-0.the-row .written))) 9 16 (lease (κs .1 .1 .1 .1 .1 .1 .1 .1 .1 .0) (qs .1 .1 .1 .1 .1 .1 .1 .1 .1 .0)))) refl refl) $
-              ghosts _ (G88 κs qs) (g-forget 𝓤 H A W E _ 16 dead refl) $
-              ghosts (G88 κs qs) _ (g-end 𝓤 H A W E (G88 κs qs) 17 refl) $
+              ghosts _ _ (g-room 𝓤 H A W E _ 39 tyUnit (room-sc 𝓤 H A W sUnit)) $
+              ghosts _ _ (g-end 𝓤 H A W E _ 16 refl) $
+              ghosts _ (G87 κs qs) (g-back-sl 𝓤 H A W E twin-0.the-row _ 41 13 9 16 (tyRef (named 9) mut (pointee (twin-0.the-row .written))) (tyRef erased mut (pointee (twin-0.the-row .written))) (lease (κs .1 .1 .1 .1 .1 .1 .1 .1 .1 .0) (qs .1 .1 .1 .1 .1 .1 .1 .1 .1 .0)) (λ x. x) (λ x. x) (as-is 𝓤 H A (msleft twin-0.the-row (tyRef erased mut (pointee (twin-0.the-row .written))))) (as-is 𝓤 H A (mslice-owed twin-0.the-row (tyRef (named 9) mut (pointee (twin-0.the-row .written))) 9 16 (lease (κs .1 .1 .1 .1 .1 .1 .1 .1 .1 .0) (qs .1 .1 .1 .1 .1 .1 .1 .1 .1 .0)))) refl refl) $
+              ghosts (G87 κs qs) _ (g-forget 𝓤 H A W E (G87 κs qs) 16 dead refl) $
+              ghosts _ _ (g-end 𝓤 H A W E _ 17 refl) $
               ghosts _ _ (g-back-sl-shr 𝓤 H A W E (rtF (fInt w32)) _ 8 4 17 (tyRef (named 4) mut (tyInt w32)) (lease (κs .1 .1 .1 .1 .0) (qs .1 .1 .1 .1 .0)) (λ x. x) (as-is 𝓤 H A (mslice-owedS (rtF (fInt w32)) (tyRef (named 4) mut (tyInt w32)) 4 17 (lease (κs .1 .1 .1 .1 .0) (qs .1 .1 .1 .1 .0)))) refl refl) $
-              ghosts _ (G91 κs qs) (g-forget 𝓤 H A W E _ 17 dead refl) $
-              ghosts (G91 κs qs) _ (g-end 𝓤 H A W E (G91 κs qs) 18 refl) $
-              ghosts _ _ (g-back-sl-shr 𝓤 H A W E (rtF (fInt w32)) _ 10 6 18 (tyRef (named 6) mut (tyInt w32)) (lease (κs .1 .1 .1 .1 .1 .1 .0) (qs .1 .1 .1 .1 .1 .1 .0)) (λ x. x) (as-is 𝓤 H A (mslice-owedS (rtF (fInt w32)) (tyRef (named 6) mut (tyInt w32)) 6 18 (lease (κs .1 .1 .1 .1 .1 .1 .0) (qs .1 .1 .1 .1 .1 .1 .0)))) refl refl) $
+              ghosts _ _ (g-forget 𝓤 H A W E _ 17 dead refl) $
+              ghosts _ (G92 κs qs) (g-end 𝓤 H A W E _ 18 refl) $
+              ghosts (G92 κs qs) _ (g-back-sl-shr 𝓤 H A W E (rtF (fInt w32)) (G92 κs qs) 10 6 18 (tyRef (named 6) mut (tyInt w32)) (lease (κs .1 .1 .1 .1 .1 .1 .0) (qs .1 .1 .1 .1 .1 .1 .0)) (λ x. x) (as-is 𝓤 H A (mslice-owedS (rtF (fInt w32)) (tyRef (named 6) mut (tyInt w32)) 6 18 (lease (κs .1 .1 .1 .1 .1 .1 .0) (qs .1 .1 .1 .1 .1 .1 .0)))) refl refl) $
               ghosts _ (G72 κs qs) (g-forget 𝓤 H A W E _ 18 dead refl) $
               from-marks,
           tt,
@@ -531,17 +480,17 @@ module _ {M : Type 1} (𝓤 : URA M) (H : Heap 𝓤) (A : Atoms 𝓤) (W : Given
   d =
       stmt (G0 κs qs) _ (t-use 𝓤 H A W E 𝓣 (G0 κs qs) (oFld 13 (field 1 ∷ []) (tyInt w64) 8 lenV) 15 (sc-here (sInt w64)) (tyInt w64) (valS (sInt w64)) (sInt w64 .of) (reads-mslice-len 𝓤 H A W twin-0.the-row (tyRef (named 9) mut (pointee (twin-0.the-row .written))) 9 8 refl, refl) (room-gone 𝓤 H A (tyInt w64)) (holds-sc 𝓤 H A W (sInt w64)) refl (λ u. refl) (λ u. tt)) $
       stmt _ _ (t-use 𝓤 H A W E 𝓣 _ (oFld 14 (field 1 ∷ []) (tyInt w64) 8 lenV) 16 (sc-here (sInt w64)) (tyInt w64) (valS (sInt w64)) (sInt w64 .of) (reads-mslice-len 𝓤 H A W (rtF (fInt w64)) (tyRef (named 10) mut (tyInt w64)) 10 8 refl, refl) (room-gone 𝓤 H A (tyInt w64)) (holds-sc 𝓤 H A W (sInt w64)) refl (λ u. refl) (λ u. tt)) $
-      ghosts _ (G14 κs qs) (g-begin 𝓤 H A W E _ 11 _) $
-      stmt (G14 κs qs) _ (t-sl-relend 𝓤 H A W E (rtF (fInt w32)) 𝓣 (G14 κs qs) 8 26 4 11 (tyRef (named 4) mut (tyInt w32)) (tyRef erased mut (tyInt w32)) (lease (κs .1 .1 .1 .1 .0) (qs .1 .1 .1 .1 .0)) 0 (λ x. x) (as-is 𝓤 H A (mslice (rtF (fInt w32)) (tyRef (named 4) mut (tyInt w32)) 4)) (room-gone 𝓤 H A (tyRef erased mut (tyInt w32))) refl tt refl refl refl (λ b o. tt)) $
-      stmt _ _ (t-sl-aggregate 𝓤 H A W E (rtF (fInt w32)) 𝓣 (asMut (rtF (fInt w32))) _ 26 27 11 (tyRef erased mut (tyInt w32)) (tyRef erased mut (tyInt w32)) (λ x. x) (oFld 8 (field 1 ∷ []) (tyInt w64) 8 (λ v. lenV (v .0))) (as-is 𝓤 H A (msptr (rtF (fInt w32)) (tyRef erased mut (tyInt w32)) 11)) (room-gone 𝓤 H A _) (reads-owed-len 𝓤 H A W (rtF (fInt w32)) (tyRef (named 4) mut (tyInt w32)) 4 11 (lease (κs .1 .1 .1 .1 .0) (qs .1 .1 .1 .1 .0)) 8 refl, refl) refl refl (λ b o k. tt)) $
-      ghosts _ (G17 κs qs) (g-begin 𝓤 H A W E _ 12 _) $
-      stmt (G17 κs qs) _ (t-sl-relend 𝓤 H A W E (rtF (fInt w16)) 𝓣 (G17 κs qs) 9 28 5 12 (tyRef (named 5) mut (tyInt w16)) (tyRef erased mut (tyInt w16)) (lease (κs .1 .1 .1 .1 .1 .0) (qs .1 .1 .1 .1 .1 .0)) 0 (λ x. x) (as-is 𝓤 H A (mslice (rtF (fInt w16)) (tyRef (named 5) mut (tyInt w16)) 5)) (room-gone 𝓤 H A (tyRef erased mut (tyInt w16))) refl tt refl refl refl (λ b o. tt)) $
+      ghosts _ _ (g-begin 𝓤 H A W E _ 11 _) $
+      stmt _ _ (t-sl-relend 𝓤 H A W E (rtF (fInt w32)) 𝓣 _ 8 26 4 11 (tyRef (named 4) mut (tyInt w32)) (tyRef erased mut (tyInt w32)) (lease (κs .1 .1 .1 .1 .0) (qs .1 .1 .1 .1 .0)) 0 (λ x. x) (as-is 𝓤 H A (mslice (rtF (fInt w32)) (tyRef (named 4) mut (tyInt w32)) 4)) (room-gone 𝓤 H A (tyRef erased mut (tyInt w32))) refl tt refl refl refl (λ b o. tt)) $
+      stmt _ (G16 κs qs) (t-sl-aggregate 𝓤 H A W E (rtF (fInt w32)) 𝓣 (asMut (rtF (fInt w32))) _ 26 27 11 (tyRef erased mut (tyInt w32)) (tyRef erased mut (tyInt w32)) (λ x. x) (oFld 8 (field 1 ∷ []) (tyInt w64) 8 (λ v. lenV (v .0))) (as-is 𝓤 H A (msptr (rtF (fInt w32)) (tyRef erased mut (tyInt w32)) 11)) (room-gone 𝓤 H A _) (reads-owed-len 𝓤 H A W (rtF (fInt w32)) (tyRef (named 4) mut (tyInt w32)) 4 11 (lease (κs .1 .1 .1 .1 .0) (qs .1 .1 .1 .1 .0)) 8 refl, refl) refl refl (λ b o k. tt)) $
+      ghosts (G16 κs qs) _ (g-begin 𝓤 H A W E (G16 κs qs) 12 _) $
+      stmt _ _ (t-sl-relend 𝓤 H A W E (rtF (fInt w16)) 𝓣 _ 9 28 5 12 (tyRef (named 5) mut (tyInt w16)) (tyRef erased mut (tyInt w16)) (lease (κs .1 .1 .1 .1 .1 .0) (qs .1 .1 .1 .1 .1 .0)) 0 (λ x. x) (as-is 𝓤 H A (mslice (rtF (fInt w16)) (tyRef (named 5) mut (tyInt w16)) 5)) (room-gone 𝓤 H A (tyRef erased mut (tyInt w16))) refl tt refl refl refl (λ b o. tt)) $
       stmt _ _ (t-sl-aggregate 𝓤 H A W E (rtF (fInt w16)) 𝓣 (asMut (rtF (fInt w16))) _ 28 29 12 (tyRef erased mut (tyInt w16)) (tyRef erased mut (tyInt w16)) (λ x. x) (oFld 9 (field 1 ∷ []) (tyInt w64) 8 (λ v. lenV (v .0))) (as-is 𝓤 H A (msptr (rtF (fInt w16)) (tyRef erased mut (tyInt w16)) 12)) (room-gone 𝓤 H A _) (reads-owed-len 𝓤 H A W (rtF (fInt w16)) (tyRef (named 5) mut (tyInt w16)) 5 12 (lease (κs .1 .1 .1 .1 .1 .0) (qs .1 .1 .1 .1 .1 .0)) 8 refl, refl) refl refl (λ b o k. tt)) $
-      ghosts _ (G20 κs qs) (g-begin 𝓤 H A W E _ 13 _) $
-      stmt (G20 κs qs) _ (t-sl-relend 𝓤 H A W E (rtF (fInt w32)) 𝓣 (G20 κs qs) 10 30 6 13 (tyRef (named 6) mut (tyInt w32)) (tyRef erased mut (tyInt w32)) (lease (κs .1 .1 .1 .1 .1 .1 .0) (qs .1 .1 .1 .1 .1 .1 .0)) 0 (λ x. x) (as-is 𝓤 H A (mslice (rtF (fInt w32)) (tyRef (named 6) mut (tyInt w32)) 6)) (room-gone 𝓤 H A (tyRef erased mut (tyInt w32))) refl tt refl refl refl (λ b o. tt)) $
-      stmt _ _ (t-sl-aggregate 𝓤 H A W E (rtF (fInt w32)) 𝓣 (asMut (rtF (fInt w32))) _ 30 31 13 (tyRef erased mut (tyInt w32)) (tyRef erased mut (tyInt w32)) (λ x. x) (oFld 10 (field 1 ∷ []) (tyInt w64) 8 (λ v. lenV (v .0))) (as-is 𝓤 H A (msptr (rtF (fInt w32)) (tyRef erased mut (tyInt w32)) 13)) (room-gone 𝓤 H A _) (reads-owed-len 𝓤 H A W (rtF (fInt w32)) (tyRef (named 6) mut (tyInt w32)) 6 13 (lease (κs .1 .1 .1 .1 .1 .1 .0) (qs .1 .1 .1 .1 .1 .1 .0)) 8 refl, refl) refl refl (λ b o k. tt)) $
-      ghosts _ (G23 κs qs) (g-begin 𝓤 H A W E _ 14 _) $
-      stmt (G23 κs qs) _ (t-sl-relend 𝓤 H A W E (rtF (fInt w32)) 𝓣 (G23 κs qs) 11 32 7 14 (tyRef (named 7) mut (tyInt w32)) (tyRef erased mut (tyInt w32)) (lease (κs .1 .1 .1 .1 .1 .1 .1 .0) (qs .1 .1 .1 .1 .1 .1 .1 .0)) 0 (λ x. x) (as-is 𝓤 H A (mslice (rtF (fInt w32)) (tyRef (named 7) mut (tyInt w32)) 7)) (room-gone 𝓤 H A (tyRef erased mut (tyInt w32))) refl tt refl refl refl (λ b o. tt)) $
+      ghosts _ _ (g-begin 𝓤 H A W E _ 13 _) $
+      stmt _ (G21 κs qs) (t-sl-relend 𝓤 H A W E (rtF (fInt w32)) 𝓣 _ 10 30 6 13 (tyRef (named 6) mut (tyInt w32)) (tyRef erased mut (tyInt w32)) (lease (κs .1 .1 .1 .1 .1 .1 .0) (qs .1 .1 .1 .1 .1 .1 .0)) 0 (λ x. x) (as-is 𝓤 H A (mslice (rtF (fInt w32)) (tyRef (named 6) mut (tyInt w32)) 6)) (room-gone 𝓤 H A (tyRef erased mut (tyInt w32))) refl tt refl refl refl (λ b o. tt)) $
+      stmt (G21 κs qs) _ (t-sl-aggregate 𝓤 H A W E (rtF (fInt w32)) 𝓣 (asMut (rtF (fInt w32))) (G21 κs qs) 30 31 13 (tyRef erased mut (tyInt w32)) (tyRef erased mut (tyInt w32)) (λ x. x) (oFld 10 (field 1 ∷ []) (tyInt w64) 8 (λ v. lenV (v .0))) (as-is 𝓤 H A (msptr (rtF (fInt w32)) (tyRef erased mut (tyInt w32)) 13)) (room-gone 𝓤 H A _) (reads-owed-len 𝓤 H A W (rtF (fInt w32)) (tyRef (named 6) mut (tyInt w32)) 6 13 (lease (κs .1 .1 .1 .1 .1 .1 .0) (qs .1 .1 .1 .1 .1 .1 .0)) 8 refl, refl) refl refl (λ b o k. tt)) $
+      ghosts _ _ (g-begin 𝓤 H A W E _ 14 _) $
+      stmt _ _ (t-sl-relend 𝓤 H A W E (rtF (fInt w32)) 𝓣 _ 11 32 7 14 (tyRef (named 7) mut (tyInt w32)) (tyRef erased mut (tyInt w32)) (lease (κs .1 .1 .1 .1 .1 .1 .1 .0) (qs .1 .1 .1 .1 .1 .1 .1 .0)) 0 (λ x. x) (as-is 𝓤 H A (mslice (rtF (fInt w32)) (tyRef (named 7) mut (tyInt w32)) 7)) (room-gone 𝓤 H A (tyRef erased mut (tyInt w32))) refl tt refl refl refl (λ b o. tt)) $
       stmt _ _ (t-sl-aggregate 𝓤 H A W E (rtF (fInt w32)) 𝓣 (asMut (rtF (fInt w32))) _ 32 33 14 (tyRef erased mut (tyInt w32)) (tyRef erased mut (tyInt w32)) (λ x. x) (oFld 11 (field 1 ∷ []) (tyInt w64) 8 (λ v. lenV (v .0))) (as-is 𝓤 H A (msptr (rtF (fInt w32)) (tyRef erased mut (tyInt w32)) 14)) (room-gone 𝓤 H A _) (reads-owed-len 𝓤 H A W (rtF (fInt w32)) (tyRef (named 7) mut (tyInt w32)) 7 14 (lease (κs .1 .1 .1 .1 .1 .1 .1 .0) (qs .1 .1 .1 .1 .1 .1 .1 .0)) 8 refl, refl) refl refl (λ b o k. tt)) $
       ghosts _ (G26 κs qs) (g-begin 𝓤 H A W E _ 15 _) $
       stmt (G26 κs qs) _ (t-sl-relend 𝓤 H A W E (rtF (fInt w32)) 𝓣 (G26 κs qs) 12 34 8 15 (tyRef (named 8) mut (tyInt w32)) (tyRef erased mut (tyInt w32)) (lease (κs .1 .1 .1 .1 .1 .1 .1 .1 .0) (qs .1 .1 .1 .1 .1 .1 .1 .1 .0)) 0 (λ x. x) (as-is 𝓤 H A (mslice (rtF (fInt w32)) (tyRef (named 8) mut (tyInt w32)) 8)) (room-gone 𝓤 H A (tyRef erased mut (tyInt w32))) refl tt refl refl refl (λ b o. tt)) $
@@ -550,17 +499,17 @@ module _ {M : Type 1} (𝓤 : URA M) (H : Heap 𝓤) (A : Atoms 𝓤) (W : Given
       first (G29 κs qs) (G30 κs qs) (
       ghosts (G29 κs qs) _ (g-end 𝓤 H A W E (G29 κs qs) 11 refl) $
       ghosts _ _ (g-back-sl 𝓤 H A W E (rtF (fInt w32)) _ 27 8 4 11 (tyRef (named 4) mut (tyInt w32)) (tyRef erased mut (tyInt w32)) (lease (κs .1 .1 .1 .1 .0) (qs .1 .1 .1 .1 .0)) (λ x. x) (λ x. x) (as-is 𝓤 H A (msleft (rtF (fInt w32)) (tyRef erased mut (tyInt w32)))) (as-is 𝓤 H A (mslice-owed (rtF (fInt w32)) (tyRef (named 4) mut (tyInt w32)) 4 11 (lease (κs .1 .1 .1 .1 .0) (qs .1 .1 .1 .1 .0)))) refl refl) $
-      ghosts _ (G34 κs qs) (g-forget 𝓤 H A W E _ 11 dead refl) $
-      ghosts (G34 κs qs) _ (g-end 𝓤 H A W E (G34 κs qs) 12 refl) $
-      ghosts _ _ (g-back-sl 𝓤 H A W E (rtF (fInt w16)) _ 29 9 5 12 (tyRef (named 5) mut (tyInt w16)) (tyRef erased mut (tyInt w16)) (lease (κs .1 .1 .1 .1 .1 .0) (qs .1 .1 .1 .1 .1 .0)) (λ x. x) (λ x. x) (as-is 𝓤 H A (msleft (rtF (fInt w16)) (tyRef erased mut (tyInt w16)))) (as-is 𝓤 H A (mslice-owed (rtF (fInt w16)) (tyRef (named 5) mut (tyInt w16)) 5 12 (lease (κs .1 .1 .1 .1 .1 .0) (qs .1 .1 .1 .1 .1 .0)))) refl refl) $
-      ghosts _ (G38 κs qs) (g-forget 𝓤 H A W E _ 12 dead refl) $
-      ghosts (G38 κs qs) _ (g-end 𝓤 H A W E (G38 κs qs) 13 refl) $
+      ghosts _ _ (g-forget 𝓤 H A W E _ 11 dead refl) $
+      ghosts _ _ (g-end 𝓤 H A W E _ 12 refl) $
+      ghosts _ (G36 κs qs) (g-back-sl 𝓤 H A W E (rtF (fInt w16)) _ 29 9 5 12 (tyRef (named 5) mut (tyInt w16)) (tyRef erased mut (tyInt w16)) (lease (κs .1 .1 .1 .1 .1 .0) (qs .1 .1 .1 .1 .1 .0)) (λ x. x) (λ x. x) (as-is 𝓤 H A (msleft (rtF (fInt w16)) (tyRef erased mut (tyInt w16)))) (as-is 𝓤 H A (mslice-owed (rtF (fInt w16)) (tyRef (named 5) mut (tyInt w16)) 5 12 (lease (κs .1 .1 .1 .1 .1 .0) (qs .1 .1 .1 .1 .1 .0)))) refl refl) $
+      ghosts (G36 κs qs) _ (g-forget 𝓤 H A W E (G36 κs qs) 12 dead refl) $
+      ghosts _ _ (g-end 𝓤 H A W E _ 13 refl) $
       ghosts _ _ (g-back-sl 𝓤 H A W E (rtF (fInt w32)) _ 31 10 6 13 (tyRef (named 6) mut (tyInt w32)) (tyRef erased mut (tyInt w32)) (lease (κs .1 .1 .1 .1 .1 .1 .0) (qs .1 .1 .1 .1 .1 .1 .0)) (λ x. x) (λ x. x) (as-is 𝓤 H A (msleft (rtF (fInt w32)) (tyRef erased mut (tyInt w32)))) (as-is 𝓤 H A (mslice-owed (rtF (fInt w32)) (tyRef (named 6) mut (tyInt w32)) 6 13 (lease (κs .1 .1 .1 .1 .1 .1 .0) (qs .1 .1 .1 .1 .1 .1 .0)))) refl refl) $
-      ghosts _ (G42 κs qs) (g-forget 𝓤 H A W E _ 13 dead refl) $
-      ghosts (G42 κs qs) _ (g-end 𝓤 H A W E (G42 κs qs) 14 refl) $
-      ghosts _ _ (g-back-sl 𝓤 H A W E (rtF (fInt w32)) _ 33 11 7 14 (tyRef (named 7) mut (tyInt w32)) (tyRef erased mut (tyInt w32)) (lease (κs .1 .1 .1 .1 .1 .1 .1 .0) (qs .1 .1 .1 .1 .1 .1 .1 .0)) (λ x. x) (λ x. x) (as-is 𝓤 H A (msleft (rtF (fInt w32)) (tyRef erased mut (tyInt w32)))) (as-is 𝓤 H A (mslice-owed (rtF (fInt w32)) (tyRef (named 7) mut (tyInt w32)) 7 14 (lease (κs .1 .1 .1 .1 .1 .1 .1 .0) (qs .1 .1 .1 .1 .1 .1 .1 .0)))) refl refl) $
-      ghosts _ (G46 κs qs) (g-forget 𝓤 H A W E _ 14 dead refl) $
-      ghosts (G46 κs qs) _ (g-end 𝓤 H A W E (G46 κs qs) 15 refl) $
+      ghosts _ _ (g-forget 𝓤 H A W E _ 13 dead refl) $
+      ghosts _ (G43 κs qs) (g-end 𝓤 H A W E _ 14 refl) $
+      ghosts (G43 κs qs) _ (g-back-sl 𝓤 H A W E (rtF (fInt w32)) (G43 κs qs) 33 11 7 14 (tyRef (named 7) mut (tyInt w32)) (tyRef erased mut (tyInt w32)) (lease (κs .1 .1 .1 .1 .1 .1 .1 .0) (qs .1 .1 .1 .1 .1 .1 .1 .0)) (λ x. x) (λ x. x) (as-is 𝓤 H A (msleft (rtF (fInt w32)) (tyRef erased mut (tyInt w32)))) (as-is 𝓤 H A (mslice-owed (rtF (fInt w32)) (tyRef (named 7) mut (tyInt w32)) 7 14 (lease (κs .1 .1 .1 .1 .1 .1 .1 .0) (qs .1 .1 .1 .1 .1 .1 .1 .0)))) refl refl) $
+      ghosts _ _ (g-forget 𝓤 H A W E _ 14 dead refl) $
+      ghosts _ _ (g-end 𝓤 H A W E _ 15 refl) $
       ghosts _ _ (g-back-sl 𝓤 H A W E (rtF (fInt w32)) _ 35 12 8 15 (tyRef (named 8) mut (tyInt w32)) (tyRef erased mut (tyInt w32)) (lease (κs .1 .1 .1 .1 .1 .1 .1 .1 .0) (qs .1 .1 .1 .1 .1 .1 .1 .1 .0)) (λ x. x) (λ x. x) (as-is 𝓤 H A (msleft (rtF (fInt w32)) (tyRef erased mut (tyInt w32)))) (as-is 𝓤 H A (mslice-owed (rtF (fInt w32)) (tyRef (named 8) mut (tyInt w32)) 8 15 (lease (κs .1 .1 .1 .1 .1 .1 .1 .1 .0) (qs .1 .1 .1 .1 .1 .1 .1 .1 .0)))) refl refl) $
       ghosts _ (G50 κs qs) (g-forget 𝓤 H A W E _ 15 dead refl) $
       from-match) $

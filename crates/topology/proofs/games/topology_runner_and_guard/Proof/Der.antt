@@ -54,6 +54,9 @@ module _ (κs : Lfts 12) (qs : Shares 12) where
   abbrev row2 : ℕ → Row
   row2 k = mslice-owed (rtF (fInt w32)) (tyRef (named 4) mut (tyInt w32)) 4 k (lease (κs .1 .1 .1 .1 .0) (qs .1 .1 .1 .1 .0))
 
+  abbrev row3 : ℕ → Row
+  row3 k = msptr (rtF (fInt w32)) (tyRef erased mut (tyInt w32)) k
+
   abbrev row4 : ℕ → Row
   row4 k = mslice (rtF (fInt w32)) (tyRef erased mut (tyInt w32)) k
 
@@ -90,11 +93,17 @@ module _ (κs : Lfts 12) (qs : Shares 12) where
   abbrev row23 : Row
   row23 = mslice-owed twin-0.the-row (tyRef (named 9) mut (pointee (twin-0.the-row .written))) 9 17 (lease (κs .1 .1 .1 .1 .1 .1 .1 .1 .1 .0) (qs .1 .1 .1 .1 .1 .1 .1 .1 .1 .0))
 
+  abbrev row24 : Row
+  row24 = msptr twin-0.the-row (tyRef erased mut (pointee (twin-0.the-row .written))) 17
+
   abbrev row25 : Row
   row25 = mslice twin-0.the-row (tyRef erased mut (pointee (twin-0.the-row .written))) 17
 
   abbrev row41 : Row
   row41 = mslice-owed (rtF (fInt w64)) (tyRef (named 10) mut (tyInt w64)) 10 23 (lease (κs .1 .1 .1 .1 .1 .1 .1 .1 .1 .1 .0) (qs .1 .1 .1 .1 .1 .1 .1 .1 .1 .1 .0))
+
+  abbrev row42 : Row
+  row42 = msptr (rtF (fInt w64)) (tyRef erased mut (tyInt w64)) 23
 
   abbrev row43 : Row
   row43 = mslice (rtF (fInt w64)) (tyRef erased mut (tyInt w64)) 23
@@ -117,17 +126,11 @@ module _ (κs : Lfts 12) (qs : Shares 12) where
   abbrev row50 : Row
   row50 = mslice-owed (rtF (fInt w32)) (tyRef (named 11) mut (tyInt w32)) 11 25 (lease (κs .1 .1 .1 .1 .1 .1 .1 .1 .1 .1 .1 .0) (qs .1 .1 .1 .1 .1 .1 .1 .1 .1 .1 .1 .0))
 
-  abbrev pub G15 : Cx
-  G15 = patched ((17, row1) ∷ (18, row1) ∷ (19, row1) ∷ []) ([]) G0
+  abbrev pub G17 : Cx
+  G17 = patched ((9, row2 12) ∷ (17, row1) ∷ (18, row1) ∷ (19, row1) ∷ (26, row3 12) ∷ []) ((4, off) ∷ (12, alive) ∷ []) G0
 
-  abbrev pub G18 : Cx
-  G18 = patched ((9, row2 12) ∷ (17, row1) ∷ (18, row1) ∷ (19, row1) ∷ (27, row4 12) ∷ []) ((4, off) ∷ (12, alive) ∷ []) G0
-
-  abbrev pub G21 : Cx
-  G21 = patched ((9, row2 12) ∷ (10, row5 13) ∷ (17, row1) ∷ (18, row1) ∷ (19, row1) ∷ (27, row4 12) ∷ (29, row7 13) ∷ []) ((4, off) ∷ (5, off) ∷ (12, alive) ∷ (13, alive) ∷ []) G0
-
-  abbrev pub G24 : Cx
-  G24 = patched ((9, row2 12) ∷ (10, row5 13) ∷ (11, row8 14) ∷ (17, row1) ∷ (18, row1) ∷ (19, row1) ∷ (27, row4 12) ∷ (29, row7 13) ∷ (31, row4 14) ∷ []) ((4, off) ∷ (5, off) ∷ (6, off) ∷ (12, alive) ∷ (13, alive) ∷ (14, alive) ∷ []) G0
+  abbrev pub G22 : Cx
+  G22 = patched ((9, row2 12) ∷ (10, row5 13) ∷ (17, row1) ∷ (18, row1) ∷ (19, row1) ∷ (27, row4 12) ∷ (29, row7 13) ∷ []) ((4, off) ∷ (5, off) ∷ (12, alive) ∷ (13, alive) ∷ (14, alive) ∷ []) G0
 
   abbrev pub G27 : Cx
   G27 = patched ((9, row2 12) ∷ (10, row5 13) ∷ (11, row8 14) ∷ (12, row11 15) ∷ (17, row1) ∷ (18, row1) ∷ (19, row1) ∷ (27, row4 12) ∷ (29, row7 13) ∷ (31, row4 14) ∷ (33, row4 15) ∷ []) ((4, off) ∷ (5, off) ∷ (6, off) ∷ (7, off) ∷ (12, alive) ∷ (13, alive) ∷ (14, alive) ∷ (15, alive) ∷ []) G0
@@ -141,26 +144,17 @@ module _ (κs : Lfts 12) (qs : Shares 12) where
   abbrev pub G32 : Cx
   G32 = patched ((17, row1) ∷ (18, row1) ∷ (19, row1) ∷ (36, row20) ∷ []) ([]) G0
 
-  abbrev pub G36 : Cx
-  G36 = patched ((10, row5 13) ∷ (11, row8 14) ∷ (12, row11 15) ∷ (13, row14 16) ∷ (17, row1) ∷ (18, row1) ∷ (19, row1) ∷ (20, row17) ∷ (29, row19) ∷ (31, row18) ∷ (33, row18) ∷ (35, row18) ∷ []) ((5, off) ∷ (6, off) ∷ (7, off) ∷ (8, off) ∷ (13, alive) ∷ (14, alive) ∷ (15, alive) ∷ (16, alive) ∷ []) G0
+  abbrev pub G38 : Cx
+  G38 = patched ((11, row8 14) ∷ (12, row11 15) ∷ (13, row14 16) ∷ (17, row1) ∷ (18, row1) ∷ (19, row1) ∷ (20, row17) ∷ (31, row18) ∷ (33, row18) ∷ (35, row18) ∷ []) ((6, off) ∷ (7, off) ∷ (8, off) ∷ (13, dead) ∷ (14, alive) ∷ (15, alive) ∷ (16, alive) ∷ []) G0
 
-  abbrev pub G40 : Cx
-  G40 = patched ((11, row8 14) ∷ (12, row11 15) ∷ (13, row14 16) ∷ (17, row1) ∷ (18, row1) ∷ (19, row1) ∷ (20, row17) ∷ (31, row18) ∷ (33, row18) ∷ (35, row18) ∷ []) ((6, off) ∷ (7, off) ∷ (8, off) ∷ (14, alive) ∷ (15, alive) ∷ (16, alive) ∷ []) G0
-
-  abbrev pub G44 : Cx
-  G44 = patched ((12, row11 15) ∷ (13, row14 16) ∷ (17, row1) ∷ (18, row1) ∷ (19, row1) ∷ (20, row17) ∷ (33, row18) ∷ (35, row18) ∷ []) ((7, off) ∷ (8, off) ∷ (15, alive) ∷ (16, alive) ∷ []) G0
-
-  abbrev pub G48 : Cx
-  G48 = patched ((13, row14 16) ∷ (17, row1) ∷ (18, row1) ∷ (19, row1) ∷ (20, row17) ∷ (35, row18) ∷ []) ((8, off) ∷ (16, alive) ∷ []) G0
+  abbrev pub G45 : Cx
+  G45 = patched ((12, row11 15) ∷ (13, row14 16) ∷ (17, row1) ∷ (18, row1) ∷ (19, row1) ∷ (20, row17) ∷ (33, row18) ∷ (35, row18) ∷ []) ((7, off) ∷ (8, off) ∷ (15, dead) ∷ (16, alive) ∷ []) G0
 
   abbrev pub G52 : Cx
   G52 = patched ((17, row1) ∷ (18, row1) ∷ (19, row1) ∷ (20, row17) ∷ []) ([]) G0
 
   abbrev pub G53 : Cx
   G53 = patched ((17, row1) ∷ (18, row1) ∷ (19, row1) ∷ (20, row21 0) ∷ []) ([]) G0
-
-  abbrev pub G57 : Cx
-  G57 = patched ((17, row1) ∷ (18, row1) ∷ (19, row1) ∷ (21, row1) ∷ (22, row1) ∷ []) ([]) G0
 
   abbrev pub G58 : Cx
   G58 = patched ((17, row1) ∷ (18, row1) ∷ (19, row1) ∷ (21, row1) ∷ (22, row1) ∷ (37, row1) ∷ []) ([]) G0
@@ -177,29 +171,20 @@ module _ (κs : Lfts 12) (qs : Shares 12) where
   abbrev pub G63 : Cx
   G63 = patched ((17, row1) ∷ (18, row1) ∷ (19, row1) ∷ (20, row21 1) ∷ []) ([]) G0
 
-  abbrev pub G67 : Cx
-  G67 = patched ((17, row1) ∷ (18, row1) ∷ (19, row1) ∷ (23, row1) ∷ (24, row1) ∷ []) ([]) G0
+  abbrev pub G69 : Cx
+  G69 = patched ((14, row23) ∷ (17, row1) ∷ (18, row1) ∷ (19, row1) ∷ (23, row1) ∷ (24, row1) ∷ (38, row24) ∷ []) ((9, off) ∷ (17, alive) ∷ []) G0
 
-  abbrev pub G70 : Cx
-  G70 = patched ((14, row23) ∷ (17, row1) ∷ (18, row1) ∷ (19, row1) ∷ (23, row1) ∷ (24, row1) ∷ (39, row25) ∷ []) ((9, off) ∷ (17, alive) ∷ []) G0
-
-  abbrev pub G73 : Cx
-  G73 = patched ((14, row23) ∷ (17, row1) ∷ (18, row1) ∷ (19, row1) ∷ (23, row1) ∷ (24, row1) ∷ (39, row25) ∷ (40, row1) ∷ (41, row1) ∷ []) ((9, off) ∷ (17, alive) ∷ (18, alive) ∷ []) G0
-
-  abbrev pub G76 : Cx
-  G76 = patched ((9, row2 18) ∷ (14, row23) ∷ (17, row1) ∷ (18, row1) ∷ (19, row1) ∷ (23, row1) ∷ (24, row1) ∷ (39, row25) ∷ (40, row1) ∷ (41, row1) ∷ (43, row4 18) ∷ []) ((4, off) ∷ (9, off) ∷ (17, alive) ∷ (18, alive) ∷ (19, alive) ∷ []) G0
+  abbrev pub G74 : Cx
+  G74 = patched ((9, row2 18) ∷ (14, row23) ∷ (17, row1) ∷ (18, row1) ∷ (19, row1) ∷ (23, row1) ∷ (24, row1) ∷ (39, row25) ∷ (40, row1) ∷ (41, row1) ∷ (42, row3 18) ∷ []) ((4, off) ∷ (9, off) ∷ (17, alive) ∷ (18, alive) ∷ []) G0
 
   abbrev pub G79 : Cx
   G79 = patched ((9, row2 18) ∷ (10, row5 19) ∷ (14, row23) ∷ (17, row1) ∷ (18, row1) ∷ (19, row1) ∷ (23, row1) ∷ (24, row1) ∷ (39, row25) ∷ (40, row1) ∷ (41, row1) ∷ (43, row4 18) ∷ (45, row7 19) ∷ []) ((4, off) ∷ (5, off) ∷ (9, off) ∷ (17, alive) ∷ (18, alive) ∷ (19, alive) ∷ (20, alive) ∷ []) G0
 
-  abbrev pub G82 : Cx
-  G82 = patched ((9, row2 18) ∷ (10, row5 19) ∷ (11, row8 20) ∷ (14, row23) ∷ (17, row1) ∷ (18, row1) ∷ (19, row1) ∷ (23, row1) ∷ (24, row1) ∷ (39, row25) ∷ (40, row1) ∷ (41, row1) ∷ (43, row4 18) ∷ (45, row7 19) ∷ (47, row4 20) ∷ []) ((4, off) ∷ (5, off) ∷ (6, off) ∷ (9, off) ∷ (17, alive) ∷ (18, alive) ∷ (19, alive) ∷ (20, alive) ∷ (21, alive) ∷ []) G0
+  abbrev pub G84 : Cx
+  G84 = patched ((9, row2 18) ∷ (10, row5 19) ∷ (11, row8 20) ∷ (12, row11 21) ∷ (14, row23) ∷ (17, row1) ∷ (18, row1) ∷ (19, row1) ∷ (23, row1) ∷ (24, row1) ∷ (39, row25) ∷ (40, row1) ∷ (41, row1) ∷ (43, row4 18) ∷ (45, row7 19) ∷ (47, row4 20) ∷ (49, row4 21) ∷ []) ((4, off) ∷ (5, off) ∷ (6, off) ∷ (7, off) ∷ (9, off) ∷ (17, alive) ∷ (18, alive) ∷ (19, alive) ∷ (20, alive) ∷ (21, alive) ∷ []) G0
 
-  abbrev pub G85 : Cx
-  G85 = patched ((9, row2 18) ∷ (10, row5 19) ∷ (11, row8 20) ∷ (12, row11 21) ∷ (14, row23) ∷ (17, row1) ∷ (18, row1) ∷ (19, row1) ∷ (23, row1) ∷ (24, row1) ∷ (39, row25) ∷ (40, row1) ∷ (41, row1) ∷ (43, row4 18) ∷ (45, row7 19) ∷ (47, row4 20) ∷ (49, row4 21) ∷ []) ((4, off) ∷ (5, off) ∷ (6, off) ∷ (7, off) ∷ (9, off) ∷ (17, alive) ∷ (18, alive) ∷ (19, alive) ∷ (20, alive) ∷ (21, alive) ∷ (22, alive) ∷ []) G0
-
-  abbrev pub G88 : Cx
-  G88 = patched ((9, row2 18) ∷ (10, row5 19) ∷ (11, row8 20) ∷ (12, row11 21) ∷ (13, row14 22) ∷ (14, row23) ∷ (17, row1) ∷ (18, row1) ∷ (19, row1) ∷ (23, row1) ∷ (24, row1) ∷ (39, row25) ∷ (40, row1) ∷ (41, row1) ∷ (43, row4 18) ∷ (45, row7 19) ∷ (47, row4 20) ∷ (49, row4 21) ∷ (51, row4 22) ∷ []) ((4, off) ∷ (5, off) ∷ (6, off) ∷ (7, off) ∷ (8, off) ∷ (9, off) ∷ (17, alive) ∷ (18, alive) ∷ (19, alive) ∷ (20, alive) ∷ (21, alive) ∷ (22, alive) ∷ (23, alive) ∷ []) G0
+  abbrev pub G89 : Cx
+  G89 = patched ((9, row2 18) ∷ (10, row5 19) ∷ (11, row8 20) ∷ (12, row11 21) ∷ (13, row14 22) ∷ (14, row23) ∷ (15, row41) ∷ (17, row1) ∷ (18, row1) ∷ (19, row1) ∷ (23, row1) ∷ (24, row1) ∷ (39, row25) ∷ (40, row1) ∷ (41, row1) ∷ (43, row4 18) ∷ (45, row7 19) ∷ (47, row4 20) ∷ (49, row4 21) ∷ (51, row4 22) ∷ (52, row42) ∷ []) ((4, off) ∷ (5, off) ∷ (6, off) ∷ (7, off) ∷ (8, off) ∷ (9, off) ∷ (10, off) ∷ (17, alive) ∷ (18, alive) ∷ (19, alive) ∷ (20, alive) ∷ (21, alive) ∷ (22, alive) ∷ (23, alive) ∷ []) G0
 
   abbrev pub G90 : Cx
   G90 = patched ((9, row2 18) ∷ (10, row5 19) ∷ (11, row8 20) ∷ (12, row11 21) ∷ (13, row14 22) ∷ (14, row23) ∷ (15, row41) ∷ (17, row1) ∷ (18, row1) ∷ (19, row1) ∷ (23, row1) ∷ (24, row1) ∷ (39, row25) ∷ (40, row1) ∷ (41, row1) ∷ (43, row4 18) ∷ (45, row7 19) ∷ (47, row4 20) ∷ (49, row4 21) ∷ (51, row4 22) ∷ (53, row43) ∷ []) ((4, off) ∷ (5, off) ∷ (6, off) ∷ (7, off) ∷ (8, off) ∷ (9, off) ∷ (10, off) ∷ (17, alive) ∷ (18, alive) ∷ (19, alive) ∷ (20, alive) ∷ (21, alive) ∷ (22, alive) ∷ (23, alive) ∷ []) G0
@@ -207,32 +192,23 @@ module _ (κs : Lfts 12) (qs : Shares 12) where
   abbrev pub G91 : Cx
   G91 = patched ((9, row2 18) ∷ (10, row5 19) ∷ (11, row8 20) ∷ (12, row11 21) ∷ (13, row14 22) ∷ (14, row23) ∷ (15, row41) ∷ (17, row1) ∷ (18, row1) ∷ (19, row1) ∷ (23, row1) ∷ (24, row1) ∷ (25, row44) ∷ (39, row45) ∷ (40, row1) ∷ (41, row1) ∷ (43, row18) ∷ (45, row19) ∷ (47, row18) ∷ (49, row18) ∷ (51, row18) ∷ (53, row46) ∷ []) ((4, off) ∷ (5, off) ∷ (6, off) ∷ (7, off) ∷ (8, off) ∷ (9, off) ∷ (10, off) ∷ (17, alive) ∷ (18, alive) ∷ (19, alive) ∷ (20, alive) ∷ (21, alive) ∷ (22, alive) ∷ (23, alive) ∷ []) G0
 
-  abbrev pub G94 : Cx
-  G94 = patched ((9, row2 18) ∷ (10, row5 19) ∷ (11, row8 20) ∷ (12, row11 21) ∷ (13, row14 22) ∷ (14, row23) ∷ (15, row41) ∷ (17, row1) ∷ (18, row1) ∷ (19, row1) ∷ (23, row1) ∷ (24, row1) ∷ (25, row44) ∷ (39, row45) ∷ (43, row18) ∷ (45, row19) ∷ (47, row18) ∷ (49, row18) ∷ (51, row18) ∷ (53, row46) ∷ []) ((4, off) ∷ (5, off) ∷ (6, off) ∷ (7, off) ∷ (8, off) ∷ (9, off) ∷ (10, off) ∷ (17, dead) ∷ (18, alive) ∷ (19, alive) ∷ (20, alive) ∷ (21, alive) ∷ (22, alive) ∷ (23, alive) ∷ []) G0
+  abbrev pub G96 : Cx
+  G96 = patched ((9, row2 18) ∷ (10, row5 19) ∷ (11, row8 20) ∷ (12, row11 21) ∷ (13, row14 22) ∷ (15, row41) ∷ (17, row1) ∷ (18, row1) ∷ (19, row1) ∷ (23, row1) ∷ (24, row1) ∷ (25, row44) ∷ (43, row18) ∷ (45, row19) ∷ (47, row18) ∷ (49, row18) ∷ (51, row18) ∷ (53, row46) ∷ []) ((4, off) ∷ (5, off) ∷ (6, off) ∷ (7, off) ∷ (8, off) ∷ (10, off) ∷ (18, alive) ∷ (19, alive) ∷ (20, alive) ∷ (21, alive) ∷ (22, alive) ∷ (23, alive) ∷ []) G0
 
-  abbrev pub G97 : Cx
-  G97 = patched ((9, row2 18) ∷ (10, row5 19) ∷ (11, row8 20) ∷ (12, row11 21) ∷ (13, row14 22) ∷ (15, row41) ∷ (17, row1) ∷ (18, row1) ∷ (19, row1) ∷ (23, row1) ∷ (24, row1) ∷ (25, row44) ∷ (43, row18) ∷ (45, row19) ∷ (47, row18) ∷ (49, row18) ∷ (51, row18) ∷ (53, row46) ∷ []) ((4, off) ∷ (5, off) ∷ (6, off) ∷ (7, off) ∷ (8, off) ∷ (10, off) ∷ (18, dead) ∷ (19, alive) ∷ (20, alive) ∷ (21, alive) ∷ (22, alive) ∷ (23, alive) ∷ []) G0
-
-  abbrev pub G101 : Cx
-  G101 = patched ((10, row5 19) ∷ (11, row8 20) ∷ (12, row11 21) ∷ (13, row14 22) ∷ (15, row41) ∷ (17, row1) ∷ (18, row1) ∷ (19, row1) ∷ (23, row1) ∷ (24, row1) ∷ (25, row44) ∷ (45, row19) ∷ (47, row18) ∷ (49, row18) ∷ (51, row18) ∷ (53, row46) ∷ []) ((5, off) ∷ (6, off) ∷ (7, off) ∷ (8, off) ∷ (10, off) ∷ (19, dead) ∷ (20, alive) ∷ (21, alive) ∷ (22, alive) ∷ (23, alive) ∷ []) G0
-
-  abbrev pub G105 : Cx
-  G105 = patched ((11, row8 20) ∷ (12, row11 21) ∷ (13, row14 22) ∷ (15, row41) ∷ (17, row1) ∷ (18, row1) ∷ (19, row1) ∷ (23, row1) ∷ (24, row1) ∷ (25, row44) ∷ (47, row18) ∷ (49, row18) ∷ (51, row18) ∷ (53, row46) ∷ []) ((6, off) ∷ (7, off) ∷ (8, off) ∷ (10, off) ∷ (20, dead) ∷ (21, alive) ∷ (22, alive) ∷ (23, alive) ∷ []) G0
+  abbrev pub G102 : Cx
+  G102 = patched ((11, row8 20) ∷ (12, row11 21) ∷ (13, row14 22) ∷ (15, row41) ∷ (17, row1) ∷ (18, row1) ∷ (19, row1) ∷ (23, row1) ∷ (24, row1) ∷ (25, row44) ∷ (47, row18) ∷ (49, row18) ∷ (51, row18) ∷ (53, row46) ∷ []) ((6, off) ∷ (7, off) ∷ (8, off) ∷ (10, off) ∷ (19, dead) ∷ (20, alive) ∷ (21, alive) ∷ (22, alive) ∷ (23, alive) ∷ []) G0
 
   abbrev pub G109 : Cx
   G109 = patched ((12, row11 21) ∷ (13, row14 22) ∷ (15, row41) ∷ (17, row1) ∷ (18, row1) ∷ (19, row1) ∷ (23, row1) ∷ (24, row1) ∷ (25, row44) ∷ (49, row18) ∷ (51, row18) ∷ (53, row46) ∷ []) ((7, off) ∷ (8, off) ∷ (10, off) ∷ (21, dead) ∷ (22, alive) ∷ (23, alive) ∷ []) G0
 
-  abbrev pub G113 : Cx
-  G113 = patched ((13, row14 22) ∷ (15, row41) ∷ (17, row1) ∷ (18, row1) ∷ (19, row1) ∷ (23, row1) ∷ (24, row1) ∷ (25, row44) ∷ (51, row18) ∷ (53, row46) ∷ []) ((8, off) ∷ (10, off) ∷ (22, dead) ∷ (23, alive) ∷ []) G0
-
-  abbrev pub G117 : Cx
-  G117 = patched ((15, row41) ∷ (17, row1) ∷ (18, row1) ∷ (19, row1) ∷ (23, row1) ∷ (24, row1) ∷ (25, row44) ∷ (53, row46) ∷ []) ((10, off) ∷ (23, dead) ∷ []) G0
+  abbrev pub G116 : Cx
+  G116 = patched ((15, row41) ∷ (17, row1) ∷ (18, row1) ∷ (19, row1) ∷ (23, row1) ∷ (24, row1) ∷ (25, row44) ∷ (53, row46) ∷ []) ((10, off) ∷ (23, alive) ∷ []) G0
 
   abbrev pub G120 : Cx
   G120 = patched ((17, row1) ∷ (18, row1) ∷ (19, row1) ∷ (23, row1) ∷ (24, row1) ∷ (25, row44) ∷ []) ([]) G0
 
-  abbrev pub G123 : Cx
-  G123 = patched ((13, row47) ∷ (17, row1) ∷ (18, row1) ∷ (19, row1) ∷ (23, row1) ∷ (24, row1) ∷ (25, row44) ∷ (55, row49) ∷ []) ((8, off) ∷ (24, alive) ∷ []) G0
+  abbrev pub G125 : Cx
+  G125 = patched ((13, row47) ∷ (16, row50) ∷ (17, row1) ∷ (18, row1) ∷ (19, row1) ∷ (23, row1) ∷ (24, row1) ∷ (25, row44) ∷ (55, row49) ∷ (56, row3 25) ∷ []) ((8, off) ∷ (11, off) ∷ (24, alive) ∷ (25, alive) ∷ []) G0
 
   abbrev pub G126 : Cx
   G126 = patched ((13, row47) ∷ (16, row50) ∷ (17, row1) ∷ (18, row1) ∷ (19, row1) ∷ (23, row1) ∷ (24, row1) ∷ (25, row44) ∷ (55, row49) ∷ (57, row4 25) ∷ []) ((8, off) ∷ (11, off) ∷ (24, alive) ∷ (25, alive) ∷ []) G0
@@ -267,11 +243,8 @@ module _ (κs : Lfts 12) (qs : Shares 12) where
   abbrev pub G136 : Cx
   G136 = patched ((17, row1) ∷ (18, row1) ∷ (19, row1) ∷ (36, row20) ∷ []) ((25, dead) ∷ []) G0
 
-  abbrev pub G141 : Cx
-  G141 = patched ((0, row20) ∷ (19, row1) ∷ (36, row20) ∷ []) ([]) G0
-
-  abbrev pub G144 : Cx
-  G144 = patched ((0, row20) ∷ (1, (any-gone (ty 1))) ∷ []) ([]) G0
+  abbrev pub G143 : Cx
+  G143 = patched ((0, row20) ∷ []) ([]) G0
 
   abbrev pub G147 : Cx
   G147 = patched ((0, row20) ∷ (1, (any-gone (ty 1))) ∷ (2, (any-gone (ty 2))) ∷ (3, (any-gone (ty 3))) ∷ (8, (any-gone (ty 8))) ∷ []) ([]) G0
@@ -294,11 +267,11 @@ module _ {M : Type 1} (𝓤 : URA M) (H : Heap 𝓤) (A : Atoms 𝓤) (W : Given
   from-answer =
       stmt (G32 κs qs) _ (t-val-copy 𝓤 H A W E 𝓣 (λ ρ. Unit) (G32 κs qs) 36 0 (Declared'.row GameAnswer.the-type) _ _ (whole (Declared'.row GameAnswer.the-type)) (whole (Declared'.row GameAnswer.the-type)) (λ x. x) (λ x. x) (λ x. x) refl (told-none 𝓤 H A ((G32 κs qs) .slots)) (yields-copy 𝓤 H A W (λ ρ. Unit) (Declared'.row GameAnswer.the-type) refl (cStruct GameAnswer.the-type Laws'.the-laws Laws'.the-copy .copy 𝓤 H A W) (whole (Declared'.row GameAnswer.the-type)) (λ x. x) (λ x. x) (λ ρ told. mem-whole 𝓤 H A W (Declared'.row GameAnswer.the-type) ρ) (λ ρ told. whole-mem 𝓤 H A W (Declared'.row GameAnswer.the-type) ρ)) (room-gone 𝓤 H A _) (makes-mem 𝓤 H A W (λ ρ. Unit) (Declared'.row GameAnswer.the-type) refl (whole (Declared'.row GameAnswer.the-type)) (λ x. x) (λ ρ told. whole-mem 𝓤 H A W (Declared'.row GameAnswer.the-type) ρ)) refl refl) $
       ghosts _ _ (g-room 𝓤 H A W E _ 17 (tyInt w64) (room-sc 𝓤 H A W (sInt w64))) $
-      ghosts _ (G141 κs qs) (g-room 𝓤 H A W E _ 18 (tyInt w64) (room-sc 𝓤 H A W (sInt w64))) $
-      ghosts (G141 κs qs) _ (g-room 𝓤 H A W E (G141 κs qs) 19 (tyInt w64) (room-sc 𝓤 H A W (sInt w64))) $
-      ghosts _ _ (g-room 𝓤 H A W E _ 36 _ (room-whole 𝓤 H A W (Declared'.row GameAnswer.the-type) _ refl)) $
-      ghosts _ (G144 κs qs) (g-room 𝓤 H A W E _ 1 (tyInt w64) (room-sc 𝓤 H A W (sInt w64))) $
-      ghosts (G144 κs qs) _ (g-room 𝓤 H A W E (G144 κs qs) 2 (tyInt w64) (room-sc 𝓤 H A W (sInt w64))) $
+      ghosts _ _ (g-room 𝓤 H A W E _ 18 (tyInt w64) (room-sc 𝓤 H A W (sInt w64))) $
+      ghosts _ _ (g-room 𝓤 H A W E _ 19 (tyInt w64) (room-sc 𝓤 H A W (sInt w64))) $
+      ghosts _ (G143 κs qs) (g-room 𝓤 H A W E _ 36 _ (room-whole 𝓤 H A W (Declared'.row GameAnswer.the-type) _ refl)) $
+      ghosts (G143 κs qs) _ (g-room 𝓤 H A W E (G143 κs qs) 1 (tyInt w64) (room-sc 𝓤 H A W (sInt w64))) $
+      ghosts _ _ (g-room 𝓤 H A W E _ 2 (tyInt w64) (room-sc 𝓤 H A W (sInt w64))) $
       ghosts _ _ (g-room 𝓤 H A W E _ 3 (tyInt w64) (room-sc 𝓤 H A W (sInt w64))) $
       ghosts _ (G147 κs qs) (g-room 𝓤 H A W E _ 8 (tyInt w64) (room-sc 𝓤 H A W (sInt w64))) $
       rets
@@ -307,10 +280,10 @@ module _ {M : Type 1} (𝓤 : URA M) (H : Heap 𝓤) (A : Atoms 𝓤) (W : Given
   from-play =
       ghosts (G120 κs qs) _ (g-begin 𝓤 H A W E (G120 κs qs) 24 _) $
       stmt _ _ (t-sl-reshare 𝓤 H A W E (rtF (fInt w32)) 𝓣 _ 13 54 8 24 (tyRef (named 8) mut (tyInt w32)) (tyRef erased imm (tyInt w32)) (lease (κs .1 .1 .1 .1 .1 .1 .1 .1 .0) (qs .1 .1 .1 .1 .1 .1 .1 .1 .0)) 0 (λ x. x) (as-is 𝓤 H A (mslice (rtF (fInt w32)) (tyRef (named 8) mut (tyInt w32)) 8)) (room-gone 𝓤 H A (tyRef erased imm (tyInt w32))) refl tt refl refl refl (λ b o. tt)) $
-      stmt _ (G123 κs qs) (t-sl-aggregate 𝓤 H A W E (rtF (fInt w32)) 𝓣 (asShr (rtF (fInt w32))) _ 54 55 24 (tyRef erased imm (tyInt w32)) (tyRef erased imm (tyInt w32)) (λ x. x) (oFld 13 (field 1 ∷ []) (tyInt w64) 8 (λ v. lenV (v .0))) (as-is 𝓤 H A (ssptr (rtF (fInt w32)) (tyRef erased imm (tyInt w32)) 24)) (room-gone 𝓤 H A _) (reads-owedS-len 𝓤 H A W (rtF (fInt w32)) (tyRef (named 8) mut (tyInt w32)) 8 24 (lease (κs .1 .1 .1 .1 .1 .1 .1 .1 .0) (qs .1 .1 .1 .1 .1 .1 .1 .1 .0)) 8 refl, refl) refl refl (λ b o k. tt)) $
-      ghosts (G123 κs qs) _ (g-begin 𝓤 H A W E (G123 κs qs) 25 _) $
-      stmt _ _ (t-sl-relend 𝓤 H A W E (rtF (fInt w32)) 𝓣 _ 16 56 11 25 (tyRef (named 11) mut (tyInt w32)) (tyRef erased mut (tyInt w32)) (lease (κs .1 .1 .1 .1 .1 .1 .1 .1 .1 .1 .1 .0) (qs .1 .1 .1 .1 .1 .1 .1 .1 .1 .1 .1 .0)) 0 (λ x. x) (as-is 𝓤 H A (mslice (rtF (fInt w32)) (tyRef (named 11) mut (tyInt w32)) 11)) (room-gone 𝓤 H A (tyRef erased mut (tyInt w32))) refl tt refl refl refl (λ b o. tt)) $
-      stmt _ (G126 κs qs) (t-sl-aggregate 𝓤 H A W E (rtF (fInt w32)) 𝓣 (asMut (rtF (fInt w32))) _ 56 57 25 (tyRef erased mut (tyInt w32)) (tyRef erased mut (tyInt w32)) (λ x. x) (oFld 16 (field 1 ∷ []) (tyInt w64) 8 (λ v. lenV (v .0))) (as-is 𝓤 H A (msptr (rtF (fInt w32)) (tyRef erased mut (tyInt w32)) 25)) (room-gone 𝓤 H A _) (reads-owed-len 𝓤 H A W (rtF (fInt w32)) (tyRef (named 11) mut (tyInt w32)) 11 25 (lease (κs .1 .1 .1 .1 .1 .1 .1 .1 .1 .1 .1 .0) (qs .1 .1 .1 .1 .1 .1 .1 .1 .1 .1 .1 .0)) 8 refl, refl) refl refl (λ b o k. tt)) $
+      stmt _ _ (t-sl-aggregate 𝓤 H A W E (rtF (fInt w32)) 𝓣 (asShr (rtF (fInt w32))) _ 54 55 24 (tyRef erased imm (tyInt w32)) (tyRef erased imm (tyInt w32)) (λ x. x) (oFld 13 (field 1 ∷ []) (tyInt w64) 8 (λ v. lenV (v .0))) (as-is 𝓤 H A (ssptr (rtF (fInt w32)) (tyRef erased imm (tyInt w32)) 24)) (room-gone 𝓤 H A _) (reads-owedS-len 𝓤 H A W (rtF (fInt w32)) (tyRef (named 8) mut (tyInt w32)) 8 24 (lease (κs .1 .1 .1 .1 .1 .1 .1 .1 .0) (qs .1 .1 .1 .1 .1 .1 .1 .1 .0)) 8 refl, refl) refl refl (λ b o k. tt)) $
+      ghosts _ _ (g-begin 𝓤 H A W E _ 25 _) $
+      stmt _ (G125 κs qs) (t-sl-relend 𝓤 H A W E (rtF (fInt w32)) 𝓣 _ 16 56 11 25 (tyRef (named 11) mut (tyInt w32)) (tyRef erased mut (tyInt w32)) (lease (κs .1 .1 .1 .1 .1 .1 .1 .1 .1 .1 .1 .0) (qs .1 .1 .1 .1 .1 .1 .1 .1 .1 .1 .1 .0)) 0 (λ x. x) (as-is 𝓤 H A (mslice (rtF (fInt w32)) (tyRef (named 11) mut (tyInt w32)) 11)) (room-gone 𝓤 H A (tyRef erased mut (tyInt w32))) refl tt refl refl refl (λ b o. tt)) $
+      stmt (G125 κs qs) (G126 κs qs) (t-sl-aggregate 𝓤 H A W E (rtF (fInt w32)) 𝓣 (asMut (rtF (fInt w32))) (G125 κs qs) 56 57 25 (tyRef erased mut (tyInt w32)) (tyRef erased mut (tyInt w32)) (λ x. x) (oFld 16 (field 1 ∷ []) (tyInt w64) 8 (λ v. lenV (v .0))) (as-is 𝓤 H A (msptr (rtF (fInt w32)) (tyRef erased mut (tyInt w32)) 25)) (room-gone 𝓤 H A _) (reads-owed-len 𝓤 H A W (rtF (fInt w32)) (tyRef (named 11) mut (tyInt w32)) 11 25 (lease (κs .1 .1 .1 .1 .1 .1 .1 .1 .1 .1 .1 .0) (qs .1 .1 .1 .1 .1 .1 .1 .1 .1 .1 .1 .0)) 8 refl, refl) refl refl (λ b o k. tt)) $
       last (G126 κs qs) (G32 κs qs) (then W (G126 κs qs) (G136 κs qs) (G32 κs qs) (then W (G126 κs qs) (G136 κs qs) (G136 κs qs) (then W (G126 κs qs) (G135 κs qs) (G136 κs qs) (then W (G126 κs qs) (G134 κs qs) (G135 κs qs) (then W (G126 κs qs) (G133 κs qs) (G134 κs qs) (then W (G126 κs qs) (G132 κs qs) (G133 κs qs) (then W (G126 κs qs) (G131 κs qs) (G132 κs qs) (then W (G126 κs qs) (G130 κs qs) (G131 κs qs) (then W (G126 κs qs) (G129 κs qs) (G130 κs qs) (then W (G126 κs qs) (G128 κs qs) (G129 κs qs) (then W (G126 κs qs) (G127 κs qs) (G128 κs qs) (t-call-plain 𝓤 H A W 𝓣 2 K3.ps K3.r R3.Asked R3.Learnt "game_lists::play::play" known3 E (λ pos β. β) (G126 κs qs) (vFld 25 (field 0 ∷ []) 0 (λ x. struct .as-values x .0), (vFld 25 (field 1 ∷ []) 8 (λ x. struct .as-values x .1 .0), (vAt 8 (λ x. x), (record { pos = 55; ty = tyRef erased imm (tyInt w32); ref = λ x. x }, (vFld 25 (field 2 ∷ []) 16 (λ x. struct .as-values x .1 .1 .0), (record { pos = 57; ty = tyRef erased mut (tyInt w32); ref = λ x. x }, tt)))))) 36 (24 ∷ 25 ∷ []) (sub-id 𝓤 H A W ((G126 κs qs) .slots)) ((reads-field 𝓤 H A W Second.the-type Laws''.the-laws 0 (tyInt w64) 0 refl, refl), ((reads-field 𝓤 H A W Second.the-type Laws''.the-laws 1 (tyInt w64) 8 refl, refl), ((reads-sc 𝓤 H A W (sInt w64), refl), (spares-sslice 𝓤 H A W (rtF (fInt w32)) (tyRef erased imm (tyInt w32)) 24, reads-sslice 𝓤 H A W (rtF (fInt w32)) (tyRef erased imm (tyInt w32)) 24, refl, ((reads-field 𝓤 H A W Second.the-type Laws''.the-laws 2 (tyInt w64) 16 refl, refl), (as-is 𝓤 H A (mslice (rtF (fInt w32)) (tyRef erased mut (tyInt w32)) 25), reads-mslice 𝓤 H A W (rtF (fInt w32)) (tyRef erased mut (tyInt w32)) 25, refl, tt)))))) (room-gone 𝓤 H A _) _ refl) (g-room 𝓤 H A W E (G127 κs qs) 55 _ (room-sslice 𝓤 H A W (rtF (fInt w32)) (tyRef erased imm (tyInt w32)) 24))) (g-room 𝓤 H A W E (G128 κs qs) 23 (tyInt w64) (room-sc 𝓤 H A W (sInt w64)))) (g-room 𝓤 H A W E (G129 κs qs) 24 (tyInt w64) (room-sc 𝓤 H A W (sInt w64)))) (g-room 𝓤 H A W E (G130 κs qs) 25 _ (room-whole 𝓤 H A W (Declared'.row Second.the-type) _ refl))) (g-end 𝓤 H A W E (G131 κs qs) 24 refl)) (g-back-sl-shr 𝓤 H A W E (rtF (fInt w32)) (G132 κs qs) 13 8 24 (tyRef (named 8) mut (tyInt w32)) (lease (κs .1 .1 .1 .1 .1 .1 .1 .1 .0) (qs .1 .1 .1 .1 .1 .1 .1 .1 .0)) (λ x. x) (as-is 𝓤 H A (mslice-owedS (rtF (fInt w32)) (tyRef (named 8) mut (tyInt w32)) 8 24 (lease (κs .1 .1 .1 .1 .1 .1 .1 .1 .0) (qs .1 .1 .1 .1 .1 .1 .1 .1 .0)))) refl refl)) (g-forget 𝓤 H A W E (G133 κs qs) 24 dead refl)) (g-end 𝓤 H A W E (G134 κs qs) 25 refl)) (g-back-sl 𝓤 H A W E (rtF (fInt w32)) (G135 κs qs) 57 16 11 25 (tyRef (named 11) mut (tyInt w32)) (tyRef erased mut (tyInt w32)) (lease (κs .1 .1 .1 .1 .1 .1 .1 .1 .1 .1 .1 .0) (qs .1 .1 .1 .1 .1 .1 .1 .1 .1 .1 .1 .0)) (λ x. x) (λ x. x) (as-is 𝓤 H A (msleft (rtF (fInt w32)) (tyRef erased mut (tyInt w32)))) (as-is 𝓤 H A (mslice-owed (rtF (fInt w32)) (tyRef (named 11) mut (tyInt w32)) 11 25 (lease (κs .1 .1 .1 .1 .1 .1 .1 .1 .1 .1 .1 .0) (qs .1 .1 .1 .1 .1 .1 .1 .1 .1 .1 .1 .0)))) refl refl)) (g-sl-known 𝓤 H A W (fInt w32) E (G136 κs qs) 16 11 (tyRef (named 11) mut (tyInt w32)) (lease (κs .1 .1 .1 .1 .1 .1 .1 .1 .1 .1 .1 .0) (qs .1 .1 .1 .1 .1 .1 .1 .1 .1 .1 .1 .0)) 0 (λ x. x) record { fits = lit< tt } (as-is 𝓤 H A (mslice (rtF (fInt w32)) (tyRef (named 11) mut (tyInt w32)) 11)) refl tt)) (g-forget 𝓤 H A W E (G136 κs qs) 25 dead refl))
 
   abbrev pub from-match : Der W 𝓣 E (G52 κs qs) (head-of (past 14 (code.function .body))) (withNext (some (G32 κs qs)) (Δret 12 ps r xs m κs qs))
@@ -320,61 +293,61 @@ module _ {M : Type 1} (𝓤 : URA M) (H : Heap 𝓤) (A : Atoms 𝓤) (W : Given
             ghosts (G53 κs qs) (G53 κs qs) (g-known-told 𝓤 H A W E enum 0 (G53 κs qs) 20 Laws.the-laws (λ x. x) (as-is 𝓤 H A (whole (Known enum 0)))) $
             stmt (G53 κs qs) _ (t-use 𝓤 H A W E 𝓣 (G53 κs qs) (oFld 20 (variant 0 ∷ field 1 ∷ []) (tyInt w64) 8 (λ v. Laws.the-laws .0 .0 .val (v .0))) 21 (sc-here (sInt w64)) (tyInt w64) (valS (sInt w64)) (sInt w64 .of) (reads-payload 𝓤 H A W enum Laws.the-laws 0 refl refl (λ v. vcons (Laws.the-laws .0 .0 .val (v .0)) (vcons (Laws.the-laws .0 .1 .0 .val (v .1 .0)) vnil)) (λ v. refl) 0 (tyInt w64) 8 refl, refl) (room-gone 𝓤 H A (tyInt w64)) (holds-sc 𝓤 H A W (sInt w64)) refl (λ u. refl) (λ u. tt)) $
             stmt _ _ (t-use 𝓤 H A W E 𝓣 _ (oFld 20 (variant 0 ∷ field 2 ∷ []) (tyInt w64) 16 (λ v. Laws.the-laws .0 .1 .0 .val (v .1 .0))) 22 (sc-here (sInt w64)) (tyInt w64) (valS (sInt w64)) (sInt w64 .of) (reads-payload 𝓤 H A W enum Laws.the-laws 0 refl refl (λ v. vcons (Laws.the-laws .0 .0 .val (v .0)) (vcons (Laws.the-laws .0 .1 .0 .val (v .1 .0)) vnil)) (λ v. refl) 1 (tyInt w64) 16 refl, refl) (room-gone 𝓤 H A (tyInt w64)) (holds-sc 𝓤 H A W (sInt w64)) refl (λ u. refl) (λ u. tt)) $
-            ghosts _ (G57 κs qs) (g-room 𝓤 H A W E _ 20 _ (room-whole 𝓤 H A W (Known enum 0) _ refl)) $
-            stmt (G57 κs qs) (G58 κs qs) (t-use 𝓤 H A W E 𝓣 (G57 κs qs) (oAt 22 (tyInt w64) (valS (sInt w64))) 37 (sc-here (sInt w64)) (tyInt w64) (valS (sInt w64)) (sInt w64 .of) (reads-sc 𝓤 H A W (sInt w64), refl) (room-gone 𝓤 H A (tyInt w64)) (holds-sc 𝓤 H A W (sInt w64)) refl (λ u. refl) (λ u. tt)) $
+            ghosts _ _ (g-room 𝓤 H A W E _ 20 _ (room-whole 𝓤 H A W (Known enum 0) _ refl)) $
+            stmt _ (G58 κs qs) (t-use 𝓤 H A W E 𝓣 _ (oAt 22 (tyInt w64) (valS (sInt w64))) 37 (sc-here (sInt w64)) (tyInt w64) (valS (sInt w64)) (sInt w64 .of) (reads-sc 𝓤 H A W (sInt w64), refl) (room-gone 𝓤 H A (tyInt w64)) (holds-sc 𝓤 H A W (sInt w64)) refl (λ u. refl) (λ u. tt)) $
             last (G58 κs qs) (G32 κs qs) (then W (G58 κs qs) (G61 κs qs) (G32 κs qs) (then W (G58 κs qs) (G60 κs qs) (G61 κs qs) (then W (G58 κs qs) (G59 κs qs) (G60 κs qs) (t-call-plain 𝓤 H A W 𝓣 0 K1.ps K1.r R1.Asked R1.Learnt "game_lists::play::refused" known1 E (λ pos β. β) (G58 κs qs) (vAt 21 (λ x. x), (vAt 37 (λ x. x), tt)) 36 [] (sub-id 𝓤 H A W ((G58 κs qs) .slots)) ((reads-sc 𝓤 H A W (sInt w64), refl), ((reads-sc 𝓤 H A W (sInt w64), refl), tt)) (room-gone 𝓤 H A _) tt refl) (g-room 𝓤 H A W E (G59 κs qs) 21 (tyInt w64) (room-sc 𝓤 H A W (sInt w64)))) (g-room 𝓤 H A W E (G60 κs qs) 22 (tyInt w64) (room-sc 𝓤 H A W (sInt w64)))) (g-room 𝓤 H A W E (G61 κs qs) 37 (tyInt w64) (room-sc 𝓤 H A W (sInt w64)))),
         (
           ghosts (G52 κs qs) (G63 κs qs) (g-enum-known 𝓤 H A W E enum 1 (G52 κs qs) 20 (λ x. x) (as-is 𝓤 H A (whole (Declared.row Prepared.the-type)))) $
               ghosts (G63 κs qs) (G63 κs qs) (g-known-told 𝓤 H A W E enum 1 (G63 κs qs) 20 Laws.the-laws (λ x. x) (as-is 𝓤 H A (whole (Known enum 1)))) $
               stmt (G63 κs qs) _ (t-use 𝓤 H A W E 𝓣 (G63 κs qs) (oFld 20 (variant 1 ∷ field 1 ∷ []) (tyInt w64) 8 (λ v. Laws.the-laws .1 .0 .0 .val (v .0))) 23 (sc-here (sInt w64)) (tyInt w64) (valS (sInt w64)) (sInt w64 .of) (reads-payload 𝓤 H A W enum Laws.the-laws 1 refl refl (λ v. vcons (Laws.the-laws .1 .0 .0 .val (v .0)) (vcons (Laws.the-laws .1 .0 .1 .0 .val (v .1 .0)) vnil)) (λ v. refl) 0 (tyInt w64) 8 refl, refl) (room-gone 𝓤 H A (tyInt w64)) (holds-sc 𝓤 H A W (sInt w64)) refl (λ u. refl) (λ u. tt)) $
               stmt _ _ (t-use 𝓤 H A W E 𝓣 _ (oFld 20 (variant 1 ∷ field 2 ∷ []) (tyInt w64) 16 (λ v. Laws.the-laws .1 .0 .1 .0 .val (v .1 .0))) 24 (sc-here (sInt w64)) (tyInt w64) (valS (sInt w64)) (sInt w64 .of) (reads-payload 𝓤 H A W enum Laws.the-laws 1 refl refl (λ v. vcons (Laws.the-laws .1 .0 .0 .val (v .0)) (vcons (Laws.the-laws .1 .0 .1 .0 .val (v .1 .0)) vnil)) (λ v. refl) 1 (tyInt w64) 16 refl, refl) (room-gone 𝓤 H A (tyInt w64)) (holds-sc 𝓤 H A W (sInt w64)) refl (λ u. refl) (λ u. tt)) $
-              ghosts _ (G67 κs qs) (g-room 𝓤 H A W E _ 20 _ (room-whole 𝓤 H A W (Known enum 1) _ refl)) $
-              ghosts (G67 κs qs) _ (g-begin 𝓤 H A W E (G67 κs qs) 17 _) $
-              stmt _ _ (t-sl-relend 𝓤 H A W E twin-0.the-row 𝓣 _ 14 38 9 17 (tyRef (named 9) mut (pointee (twin-0.the-row .written))) (tyRef erased mut (pointee (twin-0.the-row .written))) (lease (κs .1 .1 .1 .1 .1 .1 .1 .1 .1 .0) (qs .1 .1 .1 .1 .1 .1 .1 .1 .1 .0)) 0 (λ x. x) (as-is 𝓤 H A (mslice twin-0.the-row (tyRef (named 9) mut (pointee (twin-0.the-row .written))) 9)) (room-gone 𝓤 H A (tyRef erased mut (pointee (twin-0.the-row .written)))) refl tt refl refl refl (λ b o. tt)) $
-              stmt _ (G70 κs qs) (t-sl-aggregate 𝓤 H A W E twin-0.the-row 𝓣 (asMut twin-0.the-row) _ 38 39 17 (tyRef erased mut (pointee (twin-0.the-row .written))) (tyRef erased mut (pointee (twin-0.the-row .written))) (λ x. x) (oFld 14 (field 1 ∷ []) (tyInt w64) 8 (λ v. lenV (v .0))) (as-is 𝓤 H A (msptr twin-0.the-row (tyRef erased mut (pointee (twin-0.the-row .written))) 17)) (room-gone 𝓤 H A _) (reads-owed-len 𝓤 H A W twin-0.the-row (tyRef (named 9) mut (pointee (twin-0.the-row .written))) 9 17 (lease (κs .1 .1 .1 .1 .1 .1 .1 .1 .1 .0) (qs .1 .1 .1 .1 .1 .1 .1 .1 .1 .0)) 8 refl, refl) refl refl (λ b o k. tt)) $
-              stmt (G70 κs qs) _ (t-use 𝓤 H A W E 𝓣 (G70 κs qs) (oAt 2 (tyInt w64) (valS (sInt w64))) 40 (sc-here (sInt w64)) (tyInt w64) (valS (sInt w64)) (sInt w64 .of) (reads-sc 𝓤 H A W (sInt w64), refl) (room-gone 𝓤 H A (tyInt w64)) (holds-sc 𝓤 H A W (sInt w64)) refl (λ u. refl) (λ u. tt)) $
+              ghosts _ _ (g-room 𝓤 H A W E _ 20 _ (room-whole 𝓤 H A W (Known enum 1) _ refl)) $
+              ghosts _ _ (g-begin 𝓤 H A W E _ 17 _) $
+              stmt _ (G69 κs qs) (t-sl-relend 𝓤 H A W E twin-0.the-row 𝓣 _ 14 38 9 17 (tyRef (named 9) mut (pointee (twin-0.the-row .written))) (tyRef erased mut (pointee (twin-0.the-row .written))) (lease (κs .1 .1 .1 .1 .1 .1 .1 .1 .1 .0) (qs .1 .1 .1 .1 .1 .1 .1 .1 .1 .0)) 0 (λ x. x) (as-is 𝓤 H A (mslice twin-0.the-row (tyRef (named 9) mut (pointee (twin-0.the-row .written))) 9)) (room-gone 𝓤 H A (tyRef erased mut (pointee (twin-0.the-row .written)))) refl tt refl refl refl (λ b o. tt)) $
+              stmt (G69 κs qs) _ (t-sl-aggregate 𝓤 H A W E twin-0.the-row 𝓣 (asMut twin-0.the-row) (G69 κs qs) 38 39 17 (tyRef erased mut (pointee (twin-0.the-row .written))) (tyRef erased mut (pointee (twin-0.the-row .written))) (λ x. x) (oFld 14 (field 1 ∷ []) (tyInt w64) 8 (λ v. lenV (v .0))) (as-is 𝓤 H A (msptr twin-0.the-row (tyRef erased mut (pointee (twin-0.the-row .written))) 17)) (room-gone 𝓤 H A _) (reads-owed-len 𝓤 H A W twin-0.the-row (tyRef (named 9) mut (pointee (twin-0.the-row .written))) 9 17 (lease (κs .1 .1 .1 .1 .1 .1 .1 .1 .1 .0) (qs .1 .1 .1 .1 .1 .1 .1 .1 .1 .0)) 8 refl, refl) refl refl (λ b o k. tt)) $
+              stmt _ _ (t-use 𝓤 H A W E 𝓣 _ (oAt 2 (tyInt w64) (valS (sInt w64))) 40 (sc-here (sInt w64)) (tyInt w64) (valS (sInt w64)) (sInt w64 .of) (reads-sc 𝓤 H A W (sInt w64), refl) (room-gone 𝓤 H A (tyInt w64)) (holds-sc 𝓤 H A W (sInt w64)) refl (λ u. refl) (λ u. tt)) $
               stmt _ _ (t-use 𝓤 H A W E 𝓣 _ (oAt 3 (tyInt w64) (valS (sInt w64))) 41 (sc-here (sInt w64)) (tyInt w64) (valS (sInt w64)) (sInt w64 .of) (reads-sc 𝓤 H A W (sInt w64), refl) (room-gone 𝓤 H A (tyInt w64)) (holds-sc 𝓤 H A W (sInt w64)) refl (λ u. refl) (λ u. tt)) $
-              ghosts _ (G73 κs qs) (g-begin 𝓤 H A W E _ 18 _) $
-              stmt (G73 κs qs) _ (t-sl-relend 𝓤 H A W E (rtF (fInt w32)) 𝓣 (G73 κs qs) 9 42 4 18 (tyRef (named 4) mut (tyInt w32)) (tyRef erased mut (tyInt w32)) (lease (κs .1 .1 .1 .1 .0) (qs .1 .1 .1 .1 .0)) 0 (λ x. x) (as-is 𝓤 H A (mslice (rtF (fInt w32)) (tyRef (named 4) mut (tyInt w32)) 4)) (room-gone 𝓤 H A (tyRef erased mut (tyInt w32))) refl tt refl refl refl (λ b o. tt)) $
-              stmt _ _ (t-sl-aggregate 𝓤 H A W E (rtF (fInt w32)) 𝓣 (asMut (rtF (fInt w32))) _ 42 43 18 (tyRef erased mut (tyInt w32)) (tyRef erased mut (tyInt w32)) (λ x. x) (oFld 9 (field 1 ∷ []) (tyInt w64) 8 (λ v. lenV (v .0))) (as-is 𝓤 H A (msptr (rtF (fInt w32)) (tyRef erased mut (tyInt w32)) 18)) (room-gone 𝓤 H A _) (reads-owed-len 𝓤 H A W (rtF (fInt w32)) (tyRef (named 4) mut (tyInt w32)) 4 18 (lease (κs .1 .1 .1 .1 .0) (qs .1 .1 .1 .1 .0)) 8 refl, refl) refl refl (λ b o k. tt)) $
-              ghosts _ (G76 κs qs) (g-begin 𝓤 H A W E _ 19 _) $
-              stmt (G76 κs qs) _ (t-sl-relend 𝓤 H A W E (rtF (fInt w16)) 𝓣 (G76 κs qs) 10 44 5 19 (tyRef (named 5) mut (tyInt w16)) (tyRef erased mut (tyInt w16)) (lease (κs .1 .1 .1 .1 .1 .0) (qs .1 .1 .1 .1 .1 .0)) 0 (λ x. x) (as-is 𝓤 H A (mslice (rtF (fInt w16)) (tyRef (named 5) mut (tyInt w16)) 5)) (room-gone 𝓤 H A (tyRef erased mut (tyInt w16))) refl tt refl refl refl (λ b o. tt)) $
+              ghosts _ _ (g-begin 𝓤 H A W E _ 18 _) $
+              stmt _ (G74 κs qs) (t-sl-relend 𝓤 H A W E (rtF (fInt w32)) 𝓣 _ 9 42 4 18 (tyRef (named 4) mut (tyInt w32)) (tyRef erased mut (tyInt w32)) (lease (κs .1 .1 .1 .1 .0) (qs .1 .1 .1 .1 .0)) 0 (λ x. x) (as-is 𝓤 H A (mslice (rtF (fInt w32)) (tyRef (named 4) mut (tyInt w32)) 4)) (room-gone 𝓤 H A (tyRef erased mut (tyInt w32))) refl tt refl refl refl (λ b o. tt)) $
+              stmt (G74 κs qs) _ (t-sl-aggregate 𝓤 H A W E (rtF (fInt w32)) 𝓣 (asMut (rtF (fInt w32))) (G74 κs qs) 42 43 18 (tyRef erased mut (tyInt w32)) (tyRef erased mut (tyInt w32)) (λ x. x) (oFld 9 (field 1 ∷ []) (tyInt w64) 8 (λ v. lenV (v .0))) (as-is 𝓤 H A (msptr (rtF (fInt w32)) (tyRef erased mut (tyInt w32)) 18)) (room-gone 𝓤 H A _) (reads-owed-len 𝓤 H A W (rtF (fInt w32)) (tyRef (named 4) mut (tyInt w32)) 4 18 (lease (κs .1 .1 .1 .1 .0) (qs .1 .1 .1 .1 .0)) 8 refl, refl) refl refl (λ b o k. tt)) $
+              ghosts _ _ (g-begin 𝓤 H A W E _ 19 _) $
+              stmt _ _ (t-sl-relend 𝓤 H A W E (rtF (fInt w16)) 𝓣 _ 10 44 5 19 (tyRef (named 5) mut (tyInt w16)) (tyRef erased mut (tyInt w16)) (lease (κs .1 .1 .1 .1 .1 .0) (qs .1 .1 .1 .1 .1 .0)) 0 (λ x. x) (as-is 𝓤 H A (mslice (rtF (fInt w16)) (tyRef (named 5) mut (tyInt w16)) 5)) (room-gone 𝓤 H A (tyRef erased mut (tyInt w16))) refl tt refl refl refl (λ b o. tt)) $
               stmt _ _ (t-sl-aggregate 𝓤 H A W E (rtF (fInt w16)) 𝓣 (asMut (rtF (fInt w16))) _ 44 45 19 (tyRef erased mut (tyInt w16)) (tyRef erased mut (tyInt w16)) (λ x. x) (oFld 10 (field 1 ∷ []) (tyInt w64) 8 (λ v. lenV (v .0))) (as-is 𝓤 H A (msptr (rtF (fInt w16)) (tyRef erased mut (tyInt w16)) 19)) (room-gone 𝓤 H A _) (reads-owed-len 𝓤 H A W (rtF (fInt w16)) (tyRef (named 5) mut (tyInt w16)) 5 19 (lease (κs .1 .1 .1 .1 .1 .0) (qs .1 .1 .1 .1 .1 .0)) 8 refl, refl) refl refl (λ b o k. tt)) $
               ghosts _ (G79 κs qs) (g-begin 𝓤 H A W E _ 20 _) $
               stmt (G79 κs qs) _ (t-sl-relend 𝓤 H A W E (rtF (fInt w32)) 𝓣 (G79 κs qs) 11 46 6 20 (tyRef (named 6) mut (tyInt w32)) (tyRef erased mut (tyInt w32)) (lease (κs .1 .1 .1 .1 .1 .1 .0) (qs .1 .1 .1 .1 .1 .1 .0)) 0 (λ x. x) (as-is 𝓤 H A (mslice (rtF (fInt w32)) (tyRef (named 6) mut (tyInt w32)) 6)) (room-gone 𝓤 H A (tyRef erased mut (tyInt w32))) refl tt refl refl refl (λ b o. tt)) $
               stmt _ _ (t-sl-aggregate 𝓤 H A W E (rtF (fInt w32)) 𝓣 (asMut (rtF (fInt w32))) _ 46 47 20 (tyRef erased mut (tyInt w32)) (tyRef erased mut (tyInt w32)) (λ x. x) (oFld 11 (field 1 ∷ []) (tyInt w64) 8 (λ v. lenV (v .0))) (as-is 𝓤 H A (msptr (rtF (fInt w32)) (tyRef erased mut (tyInt w32)) 20)) (room-gone 𝓤 H A _) (reads-owed-len 𝓤 H A W (rtF (fInt w32)) (tyRef (named 6) mut (tyInt w32)) 6 20 (lease (κs .1 .1 .1 .1 .1 .1 .0) (qs .1 .1 .1 .1 .1 .1 .0)) 8 refl, refl) refl refl (λ b o k. tt)) $
-              ghosts _ (G82 κs qs) (g-begin 𝓤 H A W E _ 21 _) $
-              stmt (G82 κs qs) _ (t-sl-relend 𝓤 H A W E (rtF (fInt w32)) 𝓣 (G82 κs qs) 12 48 7 21 (tyRef (named 7) mut (tyInt w32)) (tyRef erased mut (tyInt w32)) (lease (κs .1 .1 .1 .1 .1 .1 .1 .0) (qs .1 .1 .1 .1 .1 .1 .1 .0)) 0 (λ x. x) (as-is 𝓤 H A (mslice (rtF (fInt w32)) (tyRef (named 7) mut (tyInt w32)) 7)) (room-gone 𝓤 H A (tyRef erased mut (tyInt w32))) refl tt refl refl refl (λ b o. tt)) $
-              stmt _ _ (t-sl-aggregate 𝓤 H A W E (rtF (fInt w32)) 𝓣 (asMut (rtF (fInt w32))) _ 48 49 21 (tyRef erased mut (tyInt w32)) (tyRef erased mut (tyInt w32)) (λ x. x) (oFld 12 (field 1 ∷ []) (tyInt w64) 8 (λ v. lenV (v .0))) (as-is 𝓤 H A (msptr (rtF (fInt w32)) (tyRef erased mut (tyInt w32)) 21)) (room-gone 𝓤 H A _) (reads-owed-len 𝓤 H A W (rtF (fInt w32)) (tyRef (named 7) mut (tyInt w32)) 7 21 (lease (κs .1 .1 .1 .1 .1 .1 .1 .0) (qs .1 .1 .1 .1 .1 .1 .1 .0)) 8 refl, refl) refl refl (λ b o k. tt)) $
-              ghosts _ (G85 κs qs) (g-begin 𝓤 H A W E _ 22 _) $
-              stmt (G85 κs qs) _ (t-sl-relend 𝓤 H A W E (rtF (fInt w32)) 𝓣 (G85 κs qs) 13 50 8 22 (tyRef (named 8) mut (tyInt w32)) (tyRef erased mut (tyInt w32)) (lease (κs .1 .1 .1 .1 .1 .1 .1 .1 .0) (qs .1 .1 .1 .1 .1 .1 .1 .1 .0)) 0 (λ x. x) (as-is 𝓤 H A (mslice (rtF (fInt w32)) (tyRef (named 8) mut (tyInt w32)) 8)) (room-gone 𝓤 H A (tyRef erased mut (tyInt w32))) refl tt refl refl refl (λ b o. tt)) $
+              ghosts _ _ (g-begin 𝓤 H A W E _ 21 _) $
+              stmt _ _ (t-sl-relend 𝓤 H A W E (rtF (fInt w32)) 𝓣 _ 12 48 7 21 (tyRef (named 7) mut (tyInt w32)) (tyRef erased mut (tyInt w32)) (lease (κs .1 .1 .1 .1 .1 .1 .1 .0) (qs .1 .1 .1 .1 .1 .1 .1 .0)) 0 (λ x. x) (as-is 𝓤 H A (mslice (rtF (fInt w32)) (tyRef (named 7) mut (tyInt w32)) 7)) (room-gone 𝓤 H A (tyRef erased mut (tyInt w32))) refl tt refl refl refl (λ b o. tt)) $
+              stmt _ (G84 κs qs) (t-sl-aggregate 𝓤 H A W E (rtF (fInt w32)) 𝓣 (asMut (rtF (fInt w32))) _ 48 49 21 (tyRef erased mut (tyInt w32)) (tyRef erased mut (tyInt w32)) (λ x. x) (oFld 12 (field 1 ∷ []) (tyInt w64) 8 (λ v. lenV (v .0))) (as-is 𝓤 H A (msptr (rtF (fInt w32)) (tyRef erased mut (tyInt w32)) 21)) (room-gone 𝓤 H A _) (reads-owed-len 𝓤 H A W (rtF (fInt w32)) (tyRef (named 7) mut (tyInt w32)) 7 21 (lease (κs .1 .1 .1 .1 .1 .1 .1 .0) (qs .1 .1 .1 .1 .1 .1 .1 .0)) 8 refl, refl) refl refl (λ b o k. tt)) $
+              ghosts (G84 κs qs) _ (g-begin 𝓤 H A W E (G84 κs qs) 22 _) $
+              stmt _ _ (t-sl-relend 𝓤 H A W E (rtF (fInt w32)) 𝓣 _ 13 50 8 22 (tyRef (named 8) mut (tyInt w32)) (tyRef erased mut (tyInt w32)) (lease (κs .1 .1 .1 .1 .1 .1 .1 .1 .0) (qs .1 .1 .1 .1 .1 .1 .1 .1 .0)) 0 (λ x. x) (as-is 𝓤 H A (mslice (rtF (fInt w32)) (tyRef (named 8) mut (tyInt w32)) 8)) (room-gone 𝓤 H A (tyRef erased mut (tyInt w32))) refl tt refl refl refl (λ b o. tt)) $
               stmt _ _ (t-sl-aggregate 𝓤 H A W E (rtF (fInt w32)) 𝓣 (asMut (rtF (fInt w32))) _ 50 51 22 (tyRef erased mut (tyInt w32)) (tyRef erased mut (tyInt w32)) (λ x. x) (oFld 13 (field 1 ∷ []) (tyInt w64) 8 (λ v. lenV (v .0))) (as-is 𝓤 H A (msptr (rtF (fInt w32)) (tyRef erased mut (tyInt w32)) 22)) (room-gone 𝓤 H A _) (reads-owed-len 𝓤 H A W (rtF (fInt w32)) (tyRef (named 8) mut (tyInt w32)) 8 22 (lease (κs .1 .1 .1 .1 .1 .1 .1 .1 .0) (qs .1 .1 .1 .1 .1 .1 .1 .1 .0)) 8 refl, refl) refl refl (λ b o k. tt)) $
-              ghosts _ (G88 κs qs) (g-begin 𝓤 H A W E _ 23 _) $
-              stmt (G88 κs qs) _ (t-sl-relend 𝓤 H A W E (rtF (fInt w64)) 𝓣 (G88 κs qs) 15 52 10 23 (tyRef (named 10) mut (tyInt w64)) (tyRef erased mut (tyInt w64)) (lease (κs .1 .1 .1 .1 .1 .1 .1 .1 .1 .1 .0) (qs .1 .1 .1 .1 .1 .1 .1 .1 .1 .1 .0)) 0 (λ x. x) (as-is 𝓤 H A (mslice (rtF (fInt w64)) (tyRef (named 10) mut (tyInt w64)) 10)) (room-gone 𝓤 H A (tyRef erased mut (tyInt w64))) refl tt refl refl refl (λ b o. tt)) $
-              stmt _ (G90 κs qs) (t-sl-aggregate 𝓤 H A W E (rtF (fInt w64)) 𝓣 (asMut (rtF (fInt w64))) _ 52 53 23 (tyRef erased mut (tyInt w64)) (tyRef erased mut (tyInt w64)) (λ x. x) (oFld 15 (field 1 ∷ []) (tyInt w64) 8 (λ v. lenV (v .0))) (as-is 𝓤 H A (msptr (rtF (fInt w64)) (tyRef erased mut (tyInt w64)) 23)) (room-gone 𝓤 H A _) (reads-owed-len 𝓤 H A W (rtF (fInt w64)) (tyRef (named 10) mut (tyInt w64)) 10 23 (lease (κs .1 .1 .1 .1 .1 .1 .1 .1 .1 .1 .0) (qs .1 .1 .1 .1 .1 .1 .1 .1 .1 .1 .0)) 8 refl, refl) refl refl (λ b o k. tt)) $
+              ghosts _ _ (g-begin 𝓤 H A W E _ 23 _) $
+              stmt _ (G89 κs qs) (t-sl-relend 𝓤 H A W E (rtF (fInt w64)) 𝓣 _ 15 52 10 23 (tyRef (named 10) mut (tyInt w64)) (tyRef erased mut (tyInt w64)) (lease (κs .1 .1 .1 .1 .1 .1 .1 .1 .1 .1 .0) (qs .1 .1 .1 .1 .1 .1 .1 .1 .1 .1 .0)) 0 (λ x. x) (as-is 𝓤 H A (mslice (rtF (fInt w64)) (tyRef (named 10) mut (tyInt w64)) 10)) (room-gone 𝓤 H A (tyRef erased mut (tyInt w64))) refl tt refl refl refl (λ b o. tt)) $
+              stmt (G89 κs qs) (G90 κs qs) (t-sl-aggregate 𝓤 H A W E (rtF (fInt w64)) 𝓣 (asMut (rtF (fInt w64))) (G89 κs qs) 52 53 23 (tyRef erased mut (tyInt w64)) (tyRef erased mut (tyInt w64)) (λ x. x) (oFld 15 (field 1 ∷ []) (tyInt w64) 8 (λ v. lenV (v .0))) (as-is 𝓤 H A (msptr (rtF (fInt w64)) (tyRef erased mut (tyInt w64)) 23)) (room-gone 𝓤 H A _) (reads-owed-len 𝓤 H A W (rtF (fInt w64)) (tyRef (named 10) mut (tyInt w64)) 10 23 (lease (κs .1 .1 .1 .1 .1 .1 .1 .1 .1 .1 .0) (qs .1 .1 .1 .1 .1 .1 .1 .1 .1 .1 .0)) 8 refl, refl) refl refl (λ b o k. tt)) $
               stmt (G90 κs qs) (G91 κs qs) (t-call-plain 𝓤 H A W 𝓣 11 K2.ps K2.r K2.Asked K2.Learnt "topology::games::run_kept" known2 E (λ pos β. β) (G90 κs qs) (vAt 1 (λ x. x), (record { pos = 39; ty = tyRef erased mut (pointee (twin-0.the-row .written)); ref = λ x. x }, (vAt 40 (λ x. x), (vAt 41 (λ x. x), (record { pos = 4; ty = tyRef (named 0) imm (tyInt w8); ref = λ x. x }, (record { pos = 5; ty = tyRef (named 1) imm (tyInt w64); ref = λ x. x }, (record { pos = 6; ty = tyRef (named 2) imm (tyInt w64); ref = λ x. x }, (record { pos = 7; ty = tyRef (named 3) imm (tyInt w64); ref = λ x. x }, (vAt 23 (λ x. x), (vAt 24 (λ x. x), (record { pos = 43; ty = tyRef erased mut (tyInt w32); ref = λ x. x }, (record { pos = 45; ty = tyRef erased mut (tyInt w16); ref = λ x. x }, (record { pos = 47; ty = tyRef erased mut (tyInt w32); ref = λ x. x }, (record { pos = 49; ty = tyRef erased mut (tyInt w32); ref = λ x. x }, (record { pos = 51; ty = tyRef erased mut (tyInt w32); ref = λ x. x }, (record { pos = 53; ty = tyRef erased mut (tyInt w64); ref = λ x. x }, tt)))))))))))))))) 25 (17 ∷ 0 ∷ 1 ∷ 2 ∷ 3 ∷ 18 ∷ 19 ∷ 20 ∷ 21 ∷ 22 ∷ 23 ∷ []) (sub-id 𝓤 H A W ((G90 κs qs) .slots)) ((reads-sc 𝓤 H A W (sInt w64), refl), (as-is 𝓤 H A (mslice twin-0.the-row (tyRef erased mut (pointee (twin-0.the-row .written))) 17), reads-mslice 𝓤 H A W twin-0.the-row (tyRef erased mut (pointee (twin-0.the-row .written))) 17, refl, ((reads-sc 𝓤 H A W (sInt w64), refl), ((reads-sc 𝓤 H A W (sInt w64), refl), (spares-sslice 𝓤 H A W (rtF (fInt w8)) (tyRef (named 0) imm (tyInt w8)) 0, reads-sslice 𝓤 H A W (rtF (fInt w8)) (tyRef (named 0) imm (tyInt w8)) 0, refl, (spares-sslice 𝓤 H A W (rtF (fInt w64)) (tyRef (named 1) imm (tyInt w64)) 1, reads-sslice 𝓤 H A W (rtF (fInt w64)) (tyRef (named 1) imm (tyInt w64)) 1, refl, (spares-sslice 𝓤 H A W (rtF (fInt w64)) (tyRef (named 2) imm (tyInt w64)) 2, reads-sslice 𝓤 H A W (rtF (fInt w64)) (tyRef (named 2) imm (tyInt w64)) 2, refl, (spares-sslice 𝓤 H A W (rtF (fInt w64)) (tyRef (named 3) imm (tyInt w64)) 3, reads-sslice 𝓤 H A W (rtF (fInt w64)) (tyRef (named 3) imm (tyInt w64)) 3, refl, ((reads-sc 𝓤 H A W (sInt w64), refl), ((reads-sc 𝓤 H A W (sInt w64), refl), (as-is 𝓤 H A (mslice (rtF (fInt w32)) (tyRef erased mut (tyInt w32)) 18), reads-mslice 𝓤 H A W (rtF (fInt w32)) (tyRef erased mut (tyInt w32)) 18, refl, (as-is 𝓤 H A (mslice (rtF (fInt w16)) (tyRef erased mut (tyInt w16)) 19), reads-mslice 𝓤 H A W (rtF (fInt w16)) (tyRef erased mut (tyInt w16)) 19, refl, (as-is 𝓤 H A (mslice (rtF (fInt w32)) (tyRef erased mut (tyInt w32)) 20), reads-mslice 𝓤 H A W (rtF (fInt w32)) (tyRef erased mut (tyInt w32)) 20, refl, (as-is 𝓤 H A (mslice (rtF (fInt w32)) (tyRef erased mut (tyInt w32)) 21), reads-mslice 𝓤 H A W (rtF (fInt w32)) (tyRef erased mut (tyInt w32)) 21, refl, (as-is 𝓤 H A (mslice (rtF (fInt w32)) (tyRef erased mut (tyInt w32)) 22), reads-mslice 𝓤 H A W (rtF (fInt w32)) (tyRef erased mut (tyInt w32)) 22, refl, (as-is 𝓤 H A (mslice (rtF (fInt w64)) (tyRef erased mut (tyInt w64)) 23), reads-mslice 𝓤 H A W (rtF (fInt w64)) (tyRef erased mut (tyInt w64)) 23, refl, tt)))))))))))))))) (room-gone 𝓤 H A _) _ refl) $
               ghosts (G91 κs qs) _ (g-room 𝓤 H A W E (G91 κs qs) 40 (tyInt w64) (room-sc 𝓤 H A W (sInt w64))) $
               ghosts _ _ (g-room 𝓤 H A W E _ 41 (tyInt w64) (room-sc 𝓤 H A W (sInt w64))) $
-              ghosts _ (G94 κs qs) (g-end 𝓤 H A W E _ 17 refl) $
-              ghosts (G94 κs qs) _ (g-back-sl 𝓤 H A W E twin-0.the-row (G94 κs qs) 39 14 9 17 (tyRef (named 9) mut (pointee (twin-0.the-row .written))) (tyRef erased mut (pointee (twin-0.the-row .written))) (lease (κs .1 .1 .1 .1 .1 .1 .1 .1 .1 .0) (qs .1 .1 .1 .1 .1 .1 .1 .1 .1 .0)) (λ x. x) (λ x. x) (as-is 𝓤 H A (msleft twin-0.the-row (tyRef erased mut (pointee (twin-0.the-row .written))))) (as-is 𝓤 H A (mslice-owed twin-0.the-row (tyRef (named 9) mut (pointee (twin-0.the-row .written))) 9 17 (lease (κs .1 .1 .1 .1 .1 .1 .1 .1 .1 .0) (qs .1 .1 .1 .1 .1 .1 .1 .1 .1 .0)))) refl refl) $
-              ghosts _ _ (g-forget 𝓤 H A W E _ 17 dead refl) $
-              ghosts _ (G97 κs qs) (g-end 𝓤 H A W E _ 18 refl) $
-              ghosts (G97 κs qs) _ (g-back-sl 𝓤 H A W E (rtF (fInt w32)) (G97 κs qs) 43 9 4 18 (tyRef (named 4) mut (tyInt w32)) (tyRef erased mut (tyInt w32)) (lease (κs .1 .1 .1 .1 .0) (qs .1 .1 .1 .1 .0)) (λ x. x) (λ x. x) (as-is 𝓤 H A (msleft (rtF (fInt w32)) (tyRef erased mut (tyInt w32)))) (as-is 𝓤 H A (mslice-owed (rtF (fInt w32)) (tyRef (named 4) mut (tyInt w32)) 4 18 (lease (κs .1 .1 .1 .1 .0) (qs .1 .1 .1 .1 .0)))) refl refl) $
+              ghosts _ _ (g-end 𝓤 H A W E _ 17 refl) $
+              ghosts _ _ (g-back-sl 𝓤 H A W E twin-0.the-row _ 39 14 9 17 (tyRef (named 9) mut (pointee (twin-0.the-row .written))) (tyRef erased mut (pointee (twin-0.the-row .written))) (lease (κs .1 .1 .1 .1 .1 .1 .1 .1 .1 .0) (qs .1 .1 .1 .1 .1 .1 .1 .1 .1 .0)) (λ x. x) (λ x. x) (as-is 𝓤 H A (msleft twin-0.the-row (tyRef erased mut (pointee (twin-0.the-row .written))))) (as-is 𝓤 H A (mslice-owed twin-0.the-row (tyRef (named 9) mut (pointee (twin-0.the-row .written))) 9 17 (lease (κs .1 .1 .1 .1 .1 .1 .1 .1 .1 .0) (qs .1 .1 .1 .1 .1 .1 .1 .1 .1 .0)))) refl refl) $
+              ghosts _ (G96 κs qs) (g-forget 𝓤 H A W E _ 17 dead refl) $
+              ghosts (G96 κs qs) _ (g-end 𝓤 H A W E (G96 κs qs) 18 refl) $
+              ghosts _ _ (g-back-sl 𝓤 H A W E (rtF (fInt w32)) _ 43 9 4 18 (tyRef (named 4) mut (tyInt w32)) (tyRef erased mut (tyInt w32)) (lease (κs .1 .1 .1 .1 .0) (qs .1 .1 .1 .1 .0)) (λ x. x) (λ x. x) (as-is 𝓤 H A (msleft (rtF (fInt w32)) (tyRef erased mut (tyInt w32)))) (as-is 𝓤 H A (mslice-owed (rtF (fInt w32)) (tyRef (named 4) mut (tyInt w32)) 4 18 (lease (κs .1 .1 .1 .1 .0) (qs .1 .1 .1 .1 .0)))) refl refl) $
               ghosts _ _ (g-forget 𝓤 H A W E _ 18 dead refl) $
-              ghosts _ (G101 κs qs) (g-end 𝓤 H A W E _ 19 refl) $
-              ghosts (G101 κs qs) _ (g-back-sl 𝓤 H A W E (rtF (fInt w16)) (G101 κs qs) 45 10 5 19 (tyRef (named 5) mut (tyInt w16)) (tyRef erased mut (tyInt w16)) (lease (κs .1 .1 .1 .1 .1 .0) (qs .1 .1 .1 .1 .1 .0)) (λ x. x) (λ x. x) (as-is 𝓤 H A (msleft (rtF (fInt w16)) (tyRef erased mut (tyInt w16)))) (as-is 𝓤 H A (mslice-owed (rtF (fInt w16)) (tyRef (named 5) mut (tyInt w16)) 5 19 (lease (κs .1 .1 .1 .1 .1 .0) (qs .1 .1 .1 .1 .1 .0)))) refl refl) $
-              ghosts _ _ (g-forget 𝓤 H A W E _ 19 dead refl) $
-              ghosts _ (G105 κs qs) (g-end 𝓤 H A W E _ 20 refl) $
-              ghosts (G105 κs qs) _ (g-back-sl 𝓤 H A W E (rtF (fInt w32)) (G105 κs qs) 47 11 6 20 (tyRef (named 6) mut (tyInt w32)) (tyRef erased mut (tyInt w32)) (lease (κs .1 .1 .1 .1 .1 .1 .0) (qs .1 .1 .1 .1 .1 .1 .0)) (λ x. x) (λ x. x) (as-is 𝓤 H A (msleft (rtF (fInt w32)) (tyRef erased mut (tyInt w32)))) (as-is 𝓤 H A (mslice-owed (rtF (fInt w32)) (tyRef (named 6) mut (tyInt w32)) 6 20 (lease (κs .1 .1 .1 .1 .1 .1 .0) (qs .1 .1 .1 .1 .1 .1 .0)))) refl refl) $
+              ghosts _ _ (g-end 𝓤 H A W E _ 19 refl) $
+              ghosts _ (G102 κs qs) (g-back-sl 𝓤 H A W E (rtF (fInt w16)) _ 45 10 5 19 (tyRef (named 5) mut (tyInt w16)) (tyRef erased mut (tyInt w16)) (lease (κs .1 .1 .1 .1 .1 .0) (qs .1 .1 .1 .1 .1 .0)) (λ x. x) (λ x. x) (as-is 𝓤 H A (msleft (rtF (fInt w16)) (tyRef erased mut (tyInt w16)))) (as-is 𝓤 H A (mslice-owed (rtF (fInt w16)) (tyRef (named 5) mut (tyInt w16)) 5 19 (lease (κs .1 .1 .1 .1 .1 .0) (qs .1 .1 .1 .1 .1 .0)))) refl refl) $
+              ghosts (G102 κs qs) _ (g-forget 𝓤 H A W E (G102 κs qs) 19 dead refl) $
+              ghosts _ _ (g-end 𝓤 H A W E _ 20 refl) $
+              ghosts _ _ (g-back-sl 𝓤 H A W E (rtF (fInt w32)) _ 47 11 6 20 (tyRef (named 6) mut (tyInt w32)) (tyRef erased mut (tyInt w32)) (lease (κs .1 .1 .1 .1 .1 .1 .0) (qs .1 .1 .1 .1 .1 .1 .0)) (λ x. x) (λ x. x) (as-is 𝓤 H A (msleft (rtF (fInt w32)) (tyRef erased mut (tyInt w32)))) (as-is 𝓤 H A (mslice-owed (rtF (fInt w32)) (tyRef (named 6) mut (tyInt w32)) 6 20 (lease (κs .1 .1 .1 .1 .1 .1 .0) (qs .1 .1 .1 .1 .1 .1 .0)))) refl refl) $
               ghosts _ _ (g-forget 𝓤 H A W E _ 20 dead refl) $
               ghosts _ (G109 κs qs) (g-end 𝓤 H A W E _ 21 refl) $
               ghosts (G109 κs qs) _ (g-back-sl 𝓤 H A W E (rtF (fInt w32)) (G109 κs qs) 49 12 7 21 (tyRef (named 7) mut (tyInt w32)) (tyRef erased mut (tyInt w32)) (lease (κs .1 .1 .1 .1 .1 .1 .1 .0) (qs .1 .1 .1 .1 .1 .1 .1 .0)) (λ x. x) (λ x. x) (as-is 𝓤 H A (msleft (rtF (fInt w32)) (tyRef erased mut (tyInt w32)))) (as-is 𝓤 H A (mslice-owed (rtF (fInt w32)) (tyRef (named 7) mut (tyInt w32)) 7 21 (lease (κs .1 .1 .1 .1 .1 .1 .1 .0) (qs .1 .1 .1 .1 .1 .1 .1 .0)))) refl refl) $
               ghosts _ _ (g-forget 𝓤 H A W E _ 21 dead refl) $
-              ghosts _ (G113 κs qs) (g-end 𝓤 H A W E _ 22 refl) $
-              ghosts (G113 κs qs) _ (g-back-sl 𝓤 H A W E (rtF (fInt w32)) (G113 κs qs) 51 13 8 22 (tyRef (named 8) mut (tyInt w32)) (tyRef erased mut (tyInt w32)) (lease (κs .1 .1 .1 .1 .1 .1 .1 .1 .0) (qs .1 .1 .1 .1 .1 .1 .1 .1 .0)) (λ x. x) (λ x. x) (as-is 𝓤 H A (msleft (rtF (fInt w32)) (tyRef erased mut (tyInt w32)))) (as-is 𝓤 H A (mslice-owed (rtF (fInt w32)) (tyRef (named 8) mut (tyInt w32)) 8 22 (lease (κs .1 .1 .1 .1 .1 .1 .1 .1 .0) (qs .1 .1 .1 .1 .1 .1 .1 .1 .0)))) refl refl) $
-              ghosts _ _ (g-forget 𝓤 H A W E _ 22 dead refl) $
-              ghosts _ (G117 κs qs) (g-end 𝓤 H A W E _ 23 refl) $
-              ghosts (G117 κs qs) _ (g-back-sl 𝓤 H A W E (rtF (fInt w64)) (G117 κs qs) 53 15 10 23 (tyRef (named 10) mut (tyInt w64)) (tyRef erased mut (tyInt w64)) (lease (κs .1 .1 .1 .1 .1 .1 .1 .1 .1 .1 .0) (qs .1 .1 .1 .1 .1 .1 .1 .1 .1 .1 .0)) (λ x. x) (λ x. x) (as-is 𝓤 H A (msleft (rtF (fInt w64)) (tyRef erased mut (tyInt w64)))) (as-is 𝓤 H A (mslice-owed (rtF (fInt w64)) (tyRef (named 10) mut (tyInt w64)) 10 23 (lease (κs .1 .1 .1 .1 .1 .1 .1 .1 .1 .1 .0) (qs .1 .1 .1 .1 .1 .1 .1 .1 .1 .1 .0)))) refl refl) $
+              ghosts _ _ (g-end 𝓤 H A W E _ 22 refl) $
+              ghosts _ _ (g-back-sl 𝓤 H A W E (rtF (fInt w32)) _ 51 13 8 22 (tyRef (named 8) mut (tyInt w32)) (tyRef erased mut (tyInt w32)) (lease (κs .1 .1 .1 .1 .1 .1 .1 .1 .0) (qs .1 .1 .1 .1 .1 .1 .1 .1 .0)) (λ x. x) (λ x. x) (as-is 𝓤 H A (msleft (rtF (fInt w32)) (tyRef erased mut (tyInt w32)))) (as-is 𝓤 H A (mslice-owed (rtF (fInt w32)) (tyRef (named 8) mut (tyInt w32)) 8 22 (lease (κs .1 .1 .1 .1 .1 .1 .1 .1 .0) (qs .1 .1 .1 .1 .1 .1 .1 .1 .0)))) refl refl) $
+              ghosts _ (G116 κs qs) (g-forget 𝓤 H A W E _ 22 dead refl) $
+              ghosts (G116 κs qs) _ (g-end 𝓤 H A W E (G116 κs qs) 23 refl) $
+              ghosts _ _ (g-back-sl 𝓤 H A W E (rtF (fInt w64)) _ 53 15 10 23 (tyRef (named 10) mut (tyInt w64)) (tyRef erased mut (tyInt w64)) (lease (κs .1 .1 .1 .1 .1 .1 .1 .1 .1 .1 .0) (qs .1 .1 .1 .1 .1 .1 .1 .1 .1 .1 .0)) (λ x. x) (λ x. x) (as-is 𝓤 H A (msleft (rtF (fInt w64)) (tyRef erased mut (tyInt w64)))) (as-is 𝓤 H A (mslice-owed (rtF (fInt w64)) (tyRef (named 10) mut (tyInt w64)) 10 23 (lease (κs .1 .1 .1 .1 .1 .1 .1 .1 .1 .1 .0) (qs .1 .1 .1 .1 .1 .1 .1 .1 .1 .1 .0)))) refl refl) $
               ghosts _ (G120 κs qs) (g-forget 𝓤 H A W E _ 23 dead refl) $
               from-play,
           tt,
@@ -385,17 +358,17 @@ module _ {M : Type 1} (𝓤 : URA M) (H : Heap 𝓤) (A : Atoms 𝓤) (W : Given
   d =
       stmt (G0 κs qs) _ (t-use 𝓤 H A W E 𝓣 (G0 κs qs) (oFld 14 (field 1 ∷ []) (tyInt w64) 8 lenV) 17 (sc-here (sInt w64)) (tyInt w64) (valS (sInt w64)) (sInt w64 .of) (reads-mslice-len 𝓤 H A W twin-0.the-row (tyRef (named 9) mut (pointee (twin-0.the-row .written))) 9 8 refl, refl) (room-gone 𝓤 H A (tyInt w64)) (holds-sc 𝓤 H A W (sInt w64)) refl (λ u. refl) (λ u. tt)) $
       stmt _ _ (t-use 𝓤 H A W E 𝓣 _ (oFld 15 (field 1 ∷ []) (tyInt w64) 8 lenV) 18 (sc-here (sInt w64)) (tyInt w64) (valS (sInt w64)) (sInt w64 .of) (reads-mslice-len 𝓤 H A W (rtF (fInt w64)) (tyRef (named 10) mut (tyInt w64)) 10 8 refl, refl) (room-gone 𝓤 H A (tyInt w64)) (holds-sc 𝓤 H A W (sInt w64)) refl (λ u. refl) (λ u. tt)) $
-      stmt _ (G15 κs qs) (t-use 𝓤 H A W E 𝓣 _ (oFld 16 (field 1 ∷ []) (tyInt w64) 8 lenV) 19 (sc-here (sInt w64)) (tyInt w64) (valS (sInt w64)) (sInt w64 .of) (reads-mslice-len 𝓤 H A W (rtF (fInt w32)) (tyRef (named 11) mut (tyInt w32)) 11 8 refl, refl) (room-gone 𝓤 H A (tyInt w64)) (holds-sc 𝓤 H A W (sInt w64)) refl (λ u. refl) (λ u. tt)) $
-      ghosts (G15 κs qs) _ (g-begin 𝓤 H A W E (G15 κs qs) 12 _) $
-      stmt _ _ (t-sl-relend 𝓤 H A W E (rtF (fInt w32)) 𝓣 _ 9 26 4 12 (tyRef (named 4) mut (tyInt w32)) (tyRef erased mut (tyInt w32)) (lease (κs .1 .1 .1 .1 .0) (qs .1 .1 .1 .1 .0)) 0 (λ x. x) (as-is 𝓤 H A (mslice (rtF (fInt w32)) (tyRef (named 4) mut (tyInt w32)) 4)) (room-gone 𝓤 H A (tyRef erased mut (tyInt w32))) refl tt refl refl refl (λ b o. tt)) $
-      stmt _ (G18 κs qs) (t-sl-aggregate 𝓤 H A W E (rtF (fInt w32)) 𝓣 (asMut (rtF (fInt w32))) _ 26 27 12 (tyRef erased mut (tyInt w32)) (tyRef erased mut (tyInt w32)) (λ x. x) (oFld 9 (field 1 ∷ []) (tyInt w64) 8 (λ v. lenV (v .0))) (as-is 𝓤 H A (msptr (rtF (fInt w32)) (tyRef erased mut (tyInt w32)) 12)) (room-gone 𝓤 H A _) (reads-owed-len 𝓤 H A W (rtF (fInt w32)) (tyRef (named 4) mut (tyInt w32)) 4 12 (lease (κs .1 .1 .1 .1 .0) (qs .1 .1 .1 .1 .0)) 8 refl, refl) refl refl (λ b o k. tt)) $
-      ghosts (G18 κs qs) _ (g-begin 𝓤 H A W E (G18 κs qs) 13 _) $
+      stmt _ _ (t-use 𝓤 H A W E 𝓣 _ (oFld 16 (field 1 ∷ []) (tyInt w64) 8 lenV) 19 (sc-here (sInt w64)) (tyInt w64) (valS (sInt w64)) (sInt w64 .of) (reads-mslice-len 𝓤 H A W (rtF (fInt w32)) (tyRef (named 11) mut (tyInt w32)) 11 8 refl, refl) (room-gone 𝓤 H A (tyInt w64)) (holds-sc 𝓤 H A W (sInt w64)) refl (λ u. refl) (λ u. tt)) $
+      ghosts _ _ (g-begin 𝓤 H A W E _ 12 _) $
+      stmt _ (G17 κs qs) (t-sl-relend 𝓤 H A W E (rtF (fInt w32)) 𝓣 _ 9 26 4 12 (tyRef (named 4) mut (tyInt w32)) (tyRef erased mut (tyInt w32)) (lease (κs .1 .1 .1 .1 .0) (qs .1 .1 .1 .1 .0)) 0 (λ x. x) (as-is 𝓤 H A (mslice (rtF (fInt w32)) (tyRef (named 4) mut (tyInt w32)) 4)) (room-gone 𝓤 H A (tyRef erased mut (tyInt w32))) refl tt refl refl refl (λ b o. tt)) $
+      stmt (G17 κs qs) _ (t-sl-aggregate 𝓤 H A W E (rtF (fInt w32)) 𝓣 (asMut (rtF (fInt w32))) (G17 κs qs) 26 27 12 (tyRef erased mut (tyInt w32)) (tyRef erased mut (tyInt w32)) (λ x. x) (oFld 9 (field 1 ∷ []) (tyInt w64) 8 (λ v. lenV (v .0))) (as-is 𝓤 H A (msptr (rtF (fInt w32)) (tyRef erased mut (tyInt w32)) 12)) (room-gone 𝓤 H A _) (reads-owed-len 𝓤 H A W (rtF (fInt w32)) (tyRef (named 4) mut (tyInt w32)) 4 12 (lease (κs .1 .1 .1 .1 .0) (qs .1 .1 .1 .1 .0)) 8 refl, refl) refl refl (λ b o k. tt)) $
+      ghosts _ _ (g-begin 𝓤 H A W E _ 13 _) $
       stmt _ _ (t-sl-relend 𝓤 H A W E (rtF (fInt w16)) 𝓣 _ 10 28 5 13 (tyRef (named 5) mut (tyInt w16)) (tyRef erased mut (tyInt w16)) (lease (κs .1 .1 .1 .1 .1 .0) (qs .1 .1 .1 .1 .1 .0)) 0 (λ x. x) (as-is 𝓤 H A (mslice (rtF (fInt w16)) (tyRef (named 5) mut (tyInt w16)) 5)) (room-gone 𝓤 H A (tyRef erased mut (tyInt w16))) refl tt refl refl refl (λ b o. tt)) $
-      stmt _ (G21 κs qs) (t-sl-aggregate 𝓤 H A W E (rtF (fInt w16)) 𝓣 (asMut (rtF (fInt w16))) _ 28 29 13 (tyRef erased mut (tyInt w16)) (tyRef erased mut (tyInt w16)) (λ x. x) (oFld 10 (field 1 ∷ []) (tyInt w64) 8 (λ v. lenV (v .0))) (as-is 𝓤 H A (msptr (rtF (fInt w16)) (tyRef erased mut (tyInt w16)) 13)) (room-gone 𝓤 H A _) (reads-owed-len 𝓤 H A W (rtF (fInt w16)) (tyRef (named 5) mut (tyInt w16)) 5 13 (lease (κs .1 .1 .1 .1 .1 .0) (qs .1 .1 .1 .1 .1 .0)) 8 refl, refl) refl refl (λ b o k. tt)) $
-      ghosts (G21 κs qs) _ (g-begin 𝓤 H A W E (G21 κs qs) 14 _) $
-      stmt _ _ (t-sl-relend 𝓤 H A W E (rtF (fInt w32)) 𝓣 _ 11 30 6 14 (tyRef (named 6) mut (tyInt w32)) (tyRef erased mut (tyInt w32)) (lease (κs .1 .1 .1 .1 .1 .1 .0) (qs .1 .1 .1 .1 .1 .1 .0)) 0 (λ x. x) (as-is 𝓤 H A (mslice (rtF (fInt w32)) (tyRef (named 6) mut (tyInt w32)) 6)) (room-gone 𝓤 H A (tyRef erased mut (tyInt w32))) refl tt refl refl refl (λ b o. tt)) $
-      stmt _ (G24 κs qs) (t-sl-aggregate 𝓤 H A W E (rtF (fInt w32)) 𝓣 (asMut (rtF (fInt w32))) _ 30 31 14 (tyRef erased mut (tyInt w32)) (tyRef erased mut (tyInt w32)) (λ x. x) (oFld 11 (field 1 ∷ []) (tyInt w64) 8 (λ v. lenV (v .0))) (as-is 𝓤 H A (msptr (rtF (fInt w32)) (tyRef erased mut (tyInt w32)) 14)) (room-gone 𝓤 H A _) (reads-owed-len 𝓤 H A W (rtF (fInt w32)) (tyRef (named 6) mut (tyInt w32)) 6 14 (lease (κs .1 .1 .1 .1 .1 .1 .0) (qs .1 .1 .1 .1 .1 .1 .0)) 8 refl, refl) refl refl (λ b o k. tt)) $
-      ghosts (G24 κs qs) _ (g-begin 𝓤 H A W E (G24 κs qs) 15 _) $
+      stmt _ _ (t-sl-aggregate 𝓤 H A W E (rtF (fInt w16)) 𝓣 (asMut (rtF (fInt w16))) _ 28 29 13 (tyRef erased mut (tyInt w16)) (tyRef erased mut (tyInt w16)) (λ x. x) (oFld 10 (field 1 ∷ []) (tyInt w64) 8 (λ v. lenV (v .0))) (as-is 𝓤 H A (msptr (rtF (fInt w16)) (tyRef erased mut (tyInt w16)) 13)) (room-gone 𝓤 H A _) (reads-owed-len 𝓤 H A W (rtF (fInt w16)) (tyRef (named 5) mut (tyInt w16)) 5 13 (lease (κs .1 .1 .1 .1 .1 .0) (qs .1 .1 .1 .1 .1 .0)) 8 refl, refl) refl refl (λ b o k. tt)) $
+      ghosts _ (G22 κs qs) (g-begin 𝓤 H A W E _ 14 _) $
+      stmt (G22 κs qs) _ (t-sl-relend 𝓤 H A W E (rtF (fInt w32)) 𝓣 (G22 κs qs) 11 30 6 14 (tyRef (named 6) mut (tyInt w32)) (tyRef erased mut (tyInt w32)) (lease (κs .1 .1 .1 .1 .1 .1 .0) (qs .1 .1 .1 .1 .1 .1 .0)) 0 (λ x. x) (as-is 𝓤 H A (mslice (rtF (fInt w32)) (tyRef (named 6) mut (tyInt w32)) 6)) (room-gone 𝓤 H A (tyRef erased mut (tyInt w32))) refl tt refl refl refl (λ b o. tt)) $
+      stmt _ _ (t-sl-aggregate 𝓤 H A W E (rtF (fInt w32)) 𝓣 (asMut (rtF (fInt w32))) _ 30 31 14 (tyRef erased mut (tyInt w32)) (tyRef erased mut (tyInt w32)) (λ x. x) (oFld 11 (field 1 ∷ []) (tyInt w64) 8 (λ v. lenV (v .0))) (as-is 𝓤 H A (msptr (rtF (fInt w32)) (tyRef erased mut (tyInt w32)) 14)) (room-gone 𝓤 H A _) (reads-owed-len 𝓤 H A W (rtF (fInt w32)) (tyRef (named 6) mut (tyInt w32)) 6 14 (lease (κs .1 .1 .1 .1 .1 .1 .0) (qs .1 .1 .1 .1 .1 .1 .0)) 8 refl, refl) refl refl (λ b o k. tt)) $
+      ghosts _ _ (g-begin 𝓤 H A W E _ 15 _) $
       stmt _ _ (t-sl-relend 𝓤 H A W E (rtF (fInt w32)) 𝓣 _ 12 32 7 15 (tyRef (named 7) mut (tyInt w32)) (tyRef erased mut (tyInt w32)) (lease (κs .1 .1 .1 .1 .1 .1 .1 .0) (qs .1 .1 .1 .1 .1 .1 .1 .0)) 0 (λ x. x) (as-is 𝓤 H A (mslice (rtF (fInt w32)) (tyRef (named 7) mut (tyInt w32)) 7)) (room-gone 𝓤 H A (tyRef erased mut (tyInt w32))) refl tt refl refl refl (λ b o. tt)) $
       stmt _ (G27 κs qs) (t-sl-aggregate 𝓤 H A W E (rtF (fInt w32)) 𝓣 (asMut (rtF (fInt w32))) _ 32 33 15 (tyRef erased mut (tyInt w32)) (tyRef erased mut (tyInt w32)) (λ x. x) (oFld 12 (field 1 ∷ []) (tyInt w64) 8 (λ v. lenV (v .0))) (as-is 𝓤 H A (msptr (rtF (fInt w32)) (tyRef erased mut (tyInt w32)) 15)) (room-gone 𝓤 H A _) (reads-owed-len 𝓤 H A W (rtF (fInt w32)) (tyRef (named 7) mut (tyInt w32)) 7 15 (lease (κs .1 .1 .1 .1 .1 .1 .1 .0) (qs .1 .1 .1 .1 .1 .1 .1 .0)) 8 refl, refl) refl refl (λ b o k. tt)) $
       ghosts (G27 κs qs) _ (g-begin 𝓤 H A W E (G27 κs qs) 16 _) $
@@ -405,17 +378,17 @@ module _ {M : Type 1} (𝓤 : URA M) (H : Heap 𝓤) (A : Atoms 𝓤) (W : Given
       first (G31 κs qs) (G32 κs qs) (
       ghosts (G31 κs qs) _ (g-end 𝓤 H A W E (G31 κs qs) 12 refl) $
       ghosts _ _ (g-back-sl 𝓤 H A W E (rtF (fInt w32)) _ 27 9 4 12 (tyRef (named 4) mut (tyInt w32)) (tyRef erased mut (tyInt w32)) (lease (κs .1 .1 .1 .1 .0) (qs .1 .1 .1 .1 .0)) (λ x. x) (λ x. x) (as-is 𝓤 H A (msleft (rtF (fInt w32)) (tyRef erased mut (tyInt w32)))) (as-is 𝓤 H A (mslice-owed (rtF (fInt w32)) (tyRef (named 4) mut (tyInt w32)) 4 12 (lease (κs .1 .1 .1 .1 .0) (qs .1 .1 .1 .1 .0)))) refl refl) $
-      ghosts _ (G36 κs qs) (g-forget 𝓤 H A W E _ 12 dead refl) $
-      ghosts (G36 κs qs) _ (g-end 𝓤 H A W E (G36 κs qs) 13 refl) $
-      ghosts _ _ (g-back-sl 𝓤 H A W E (rtF (fInt w16)) _ 29 10 5 13 (tyRef (named 5) mut (tyInt w16)) (tyRef erased mut (tyInt w16)) (lease (κs .1 .1 .1 .1 .1 .0) (qs .1 .1 .1 .1 .1 .0)) (λ x. x) (λ x. x) (as-is 𝓤 H A (msleft (rtF (fInt w16)) (tyRef erased mut (tyInt w16)))) (as-is 𝓤 H A (mslice-owed (rtF (fInt w16)) (tyRef (named 5) mut (tyInt w16)) 5 13 (lease (κs .1 .1 .1 .1 .1 .0) (qs .1 .1 .1 .1 .1 .0)))) refl refl) $
-      ghosts _ (G40 κs qs) (g-forget 𝓤 H A W E _ 13 dead refl) $
-      ghosts (G40 κs qs) _ (g-end 𝓤 H A W E (G40 κs qs) 14 refl) $
+      ghosts _ _ (g-forget 𝓤 H A W E _ 12 dead refl) $
+      ghosts _ _ (g-end 𝓤 H A W E _ 13 refl) $
+      ghosts _ (G38 κs qs) (g-back-sl 𝓤 H A W E (rtF (fInt w16)) _ 29 10 5 13 (tyRef (named 5) mut (tyInt w16)) (tyRef erased mut (tyInt w16)) (lease (κs .1 .1 .1 .1 .1 .0) (qs .1 .1 .1 .1 .1 .0)) (λ x. x) (λ x. x) (as-is 𝓤 H A (msleft (rtF (fInt w16)) (tyRef erased mut (tyInt w16)))) (as-is 𝓤 H A (mslice-owed (rtF (fInt w16)) (tyRef (named 5) mut (tyInt w16)) 5 13 (lease (κs .1 .1 .1 .1 .1 .0) (qs .1 .1 .1 .1 .1 .0)))) refl refl) $
+      ghosts (G38 κs qs) _ (g-forget 𝓤 H A W E (G38 κs qs) 13 dead refl) $
+      ghosts _ _ (g-end 𝓤 H A W E _ 14 refl) $
       ghosts _ _ (g-back-sl 𝓤 H A W E (rtF (fInt w32)) _ 31 11 6 14 (tyRef (named 6) mut (tyInt w32)) (tyRef erased mut (tyInt w32)) (lease (κs .1 .1 .1 .1 .1 .1 .0) (qs .1 .1 .1 .1 .1 .1 .0)) (λ x. x) (λ x. x) (as-is 𝓤 H A (msleft (rtF (fInt w32)) (tyRef erased mut (tyInt w32)))) (as-is 𝓤 H A (mslice-owed (rtF (fInt w32)) (tyRef (named 6) mut (tyInt w32)) 6 14 (lease (κs .1 .1 .1 .1 .1 .1 .0) (qs .1 .1 .1 .1 .1 .1 .0)))) refl refl) $
-      ghosts _ (G44 κs qs) (g-forget 𝓤 H A W E _ 14 dead refl) $
-      ghosts (G44 κs qs) _ (g-end 𝓤 H A W E (G44 κs qs) 15 refl) $
-      ghosts _ _ (g-back-sl 𝓤 H A W E (rtF (fInt w32)) _ 33 12 7 15 (tyRef (named 7) mut (tyInt w32)) (tyRef erased mut (tyInt w32)) (lease (κs .1 .1 .1 .1 .1 .1 .1 .0) (qs .1 .1 .1 .1 .1 .1 .1 .0)) (λ x. x) (λ x. x) (as-is 𝓤 H A (msleft (rtF (fInt w32)) (tyRef erased mut (tyInt w32)))) (as-is 𝓤 H A (mslice-owed (rtF (fInt w32)) (tyRef (named 7) mut (tyInt w32)) 7 15 (lease (κs .1 .1 .1 .1 .1 .1 .1 .0) (qs .1 .1 .1 .1 .1 .1 .1 .0)))) refl refl) $
-      ghosts _ (G48 κs qs) (g-forget 𝓤 H A W E _ 15 dead refl) $
-      ghosts (G48 κs qs) _ (g-end 𝓤 H A W E (G48 κs qs) 16 refl) $
+      ghosts _ _ (g-forget 𝓤 H A W E _ 14 dead refl) $
+      ghosts _ (G45 κs qs) (g-end 𝓤 H A W E _ 15 refl) $
+      ghosts (G45 κs qs) _ (g-back-sl 𝓤 H A W E (rtF (fInt w32)) (G45 κs qs) 33 12 7 15 (tyRef (named 7) mut (tyInt w32)) (tyRef erased mut (tyInt w32)) (lease (κs .1 .1 .1 .1 .1 .1 .1 .0) (qs .1 .1 .1 .1 .1 .1 .1 .0)) (λ x. x) (λ x. x) (as-is 𝓤 H A (msleft (rtF (fInt w32)) (tyRef erased mut (tyInt w32)))) (as-is 𝓤 H A (mslice-owed (rtF (fInt w32)) (tyRef (named 7) mut (tyInt w32)) 7 15 (lease (κs .1 .1 .1 .1 .1 .1 .1 .0) (qs .1 .1 .1 .1 .1 .1 .1 .0)))) refl refl) $
+      ghosts _ _ (g-forget 𝓤 H A W E _ 15 dead refl) $
+      ghosts _ _ (g-end 𝓤 H A W E _ 16 refl) $
       ghosts _ _ (g-back-sl 𝓤 H A W E (rtF (fInt w32)) _ 35 13 8 16 (tyRef (named 8) mut (tyInt w32)) (tyRef erased mut (tyInt w32)) (lease (κs .1 .1 .1 .1 .1 .1 .1 .1 .0) (qs .1 .1 .1 .1 .1 .1 .1 .1 .0)) (λ x. x) (λ x. x) (as-is 𝓤 H A (msleft (rtF (fInt w32)) (tyRef erased mut (tyInt w32)))) (as-is 𝓤 H A (mslice-owed (rtF (fInt w32)) (tyRef (named 8) mut (tyInt w32)) 8 16 (lease (κs .1 .1 .1 .1 .1 .1 .1 .1 .0) (qs .1 .1 .1 .1 .1 .1 .1 .1 .0)))) refl refl) $
       ghosts _ (G52 κs qs) (g-forget 𝓤 H A W E _ 16 dead refl) $
       from-match) $

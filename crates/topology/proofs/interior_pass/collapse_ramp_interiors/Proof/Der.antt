@@ -51,6 +51,9 @@ module _ (κs : Lfts 8) (qs : Shares 8) where
   abbrev row8 : Row
   row8 = mslice-owed (rtF (fInt w32)) (tyRef (named 6) mut (tyInt w32)) 6 9 (lease (κs .1 .1 .1 .1 .1 .1 .0) (qs .1 .1 .1 .1 .1 .1 .0))
 
+  abbrev row9 : Row
+  row9 = msptr (rtF (fInt w32)) (tyRef erased mut (tyInt w32)) 9
+
   abbrev row10 : Row
   row10 = mslice (rtF (fInt w32)) (tyRef erased mut (tyInt w32)) 9
 
@@ -120,14 +123,11 @@ module _ (κs : Lfts 8) (qs : Shares 8) where
   abbrev pub G12 : Cx
   G12 = patched ((11, row2) ∷ (12, row4) ∷ (13, row4) ∷ []) ([]) G0
 
-  abbrev pub G15 : Cx
-  G15 = patched ((8, row5) ∷ (11, row2) ∷ (12, row4) ∷ (13, row4) ∷ (16, row7) ∷ []) ((5, off) ∷ (8, alive) ∷ []) G0
+  abbrev pub G17 : Cx
+  G17 = patched ((8, row5) ∷ (9, row8) ∷ (11, row2) ∷ (12, row4) ∷ (13, row4) ∷ (16, row7) ∷ (17, row9) ∷ []) ((5, off) ∷ (6, off) ∷ (8, alive) ∷ (9, alive) ∷ []) G0
 
-  abbrev pub G18 : Cx
-  G18 = patched ((8, row5) ∷ (9, row8) ∷ (11, row2) ∷ (12, row4) ∷ (13, row4) ∷ (16, row7) ∷ (18, row10) ∷ []) ((5, off) ∷ (6, off) ∷ (8, alive) ∷ (9, alive) ∷ []) G0
-
-  abbrev pub G21 : Cx
-  G21 = patched ((8, row5) ∷ (9, row8) ∷ (11, row11) ∷ (12, row4) ∷ (13, row4) ∷ (16, row7) ∷ (18, row10) ∷ (19, row12) ∷ []) ((5, off) ∷ (6, off) ∷ (8, alive) ∷ (9, alive) ∷ (10, alive) ∷ (11, alive) ∷ []) G0
+  abbrev pub G22 : Cx
+  G22 = patched ((8, row5) ∷ (9, row8) ∷ (11, row11) ∷ (12, row13 11) ∷ (13, row4) ∷ (16, row7) ∷ (18, row10) ∷ (19, row12) ∷ (20, row14 11) ∷ []) ((5, off) ∷ (6, off) ∷ (8, alive) ∷ (9, alive) ∷ (10, alive) ∷ (11, alive) ∷ []) G0
 
   abbrev pub G24 : Cx
   G24 = patched ((8, row5) ∷ (9, row8) ∷ (11, row11) ∷ (12, row13 11) ∷ (13, row13 12) ∷ (16, row7) ∷ (18, row10) ∷ (19, row12) ∷ (20, row14 11) ∷ (21, row14 12) ∷ []) ((5, off) ∷ (6, off) ∷ (8, alive) ∷ (9, alive) ∷ (10, alive) ∷ (11, alive) ∷ (12, alive) ∷ []) G0
@@ -135,29 +135,20 @@ module _ (κs : Lfts 8) (qs : Shares 8) where
   abbrev pub G25 : Cx
   G25 = patched ((8, row5) ∷ (9, row8) ∷ (11, row11) ∷ (12, row13 11) ∷ (13, row13 12) ∷ (14, row17) ∷ (16, row18) ∷ (18, row19) ∷ (19, row20) ∷ (20, row21) ∷ (21, row21) ∷ []) ((5, off) ∷ (6, off) ∷ (8, alive) ∷ (9, alive) ∷ (10, alive) ∷ (11, alive) ∷ (12, alive) ∷ []) G0
 
-  abbrev pub G28 : Cx
-  G28 = patched ((9, row8) ∷ (11, row11) ∷ (12, row13 11) ∷ (13, row13 12) ∷ (18, row19) ∷ (19, row20) ∷ (20, row21) ∷ (21, row21) ∷ []) ((6, off) ∷ (8, dead) ∷ (9, alive) ∷ (10, alive) ∷ (11, alive) ∷ (12, alive) ∷ []) G0
+  abbrev pub G31 : Cx
+  G31 = patched ((9, row8) ∷ (11, row11) ∷ (12, row13 11) ∷ (13, row13 12) ∷ (18, row19) ∷ (19, row20) ∷ (20, row21) ∷ (21, row21) ∷ []) ((6, off) ∷ (9, dead) ∷ (10, alive) ∷ (11, alive) ∷ (12, alive) ∷ []) G0
 
-  abbrev pub G32 : Cx
-  G32 = patched ((11, row11) ∷ (12, row13 11) ∷ (13, row13 12) ∷ (19, row20) ∷ (20, row21) ∷ (21, row21) ∷ []) ((9, dead) ∷ (10, alive) ∷ (11, alive) ∷ (12, alive) ∷ []) G0
-
-  abbrev pub G36 : Cx
-  G36 = patched ((11, row2) ∷ (12, row13 11) ∷ (13, row13 12) ∷ (20, row21) ∷ (21, row21) ∷ []) ((10, dead) ∷ (11, alive) ∷ (12, alive) ∷ []) G0
-
-  abbrev pub G39 : Cx
-  G39 = patched ((11, row2) ∷ (12, row4) ∷ (13, row13 12) ∷ (21, row21) ∷ []) ((11, dead) ∷ (12, alive) ∷ []) G0
+  abbrev pub G37 : Cx
+  G37 = patched ((11, row2) ∷ (12, row13 11) ∷ (13, row13 12) ∷ (20, row21) ∷ (21, row21) ∷ []) ((11, alive) ∷ (12, alive) ∷ []) G0
 
   abbrev pub G42 : Cx
   G42 = patched ((11, row2) ∷ (12, row4) ∷ (13, row4) ∷ []) ((12, dead) ∷ []) G0
 
-  abbrev pub G46 : Cx
-  G46 = patched ((9, row22) ∷ (11, row2) ∷ (12, row4) ∷ (13, row4) ∷ (23, row24) ∷ []) ((6, off) ∷ (13, alive) ∷ []) G0
+  abbrev pub G48 : Cx
+  G48 = patched ((9, row22) ∷ (11, row25) ∷ (12, row4) ∷ (13, row4) ∷ (23, row24) ∷ (24, row26) ∷ []) ((6, off) ∷ (13, alive) ∷ (14, alive) ∷ []) G0
 
-  abbrev pub G49 : Cx
-  G49 = patched ((9, row22) ∷ (11, row25) ∷ (12, row4) ∷ (13, row4) ∷ (23, row24) ∷ (24, row26) ∷ []) ((6, off) ∷ (13, alive) ∷ (14, alive) ∷ (15, alive) ∷ []) G0
-
-  abbrev pub G52 : Cx
-  G52 = patched ((9, row22) ∷ (11, row25) ∷ (12, row27 15) ∷ (13, row27 16) ∷ (23, row24) ∷ (24, row26) ∷ (25, row28 15) ∷ (26, row28 16) ∷ []) ((6, off) ∷ (13, alive) ∷ (14, alive) ∷ (15, alive) ∷ (16, alive) ∷ []) G0
+  abbrev pub G53 : Cx
+  G53 = patched ((9, row22) ∷ (11, row25) ∷ (12, row27 15) ∷ (13, row27 16) ∷ (23, row24) ∷ (24, row26) ∷ (25, row28 15) ∷ (26, row28 16) ∷ []) ((6, off) ∷ (13, alive) ∷ (14, alive) ∷ (15, alive) ∷ (16, alive) ∷ (17, alive) ∷ []) G0
 
   abbrev pub G54 : Cx
   G54 = patched ((9, row22) ∷ (10, row31) ∷ (11, row25) ∷ (12, row27 15) ∷ (13, row27 16) ∷ (23, row24) ∷ (24, row26) ∷ (25, row28 15) ∷ (26, row28 16) ∷ (27, row32) ∷ []) ((6, off) ∷ (7, off) ∷ (13, alive) ∷ (14, alive) ∷ (15, alive) ∷ (16, alive) ∷ (17, alive) ∷ []) G0
@@ -165,26 +156,17 @@ module _ (κs : Lfts 8) (qs : Shares 8) where
   abbrev pub G55 : Cx
   G55 = patched ((9, row22) ∷ (10, row31) ∷ (11, row25) ∷ (12, row27 15) ∷ (13, row27 16) ∷ (14, row17) ∷ (23, row24) ∷ (24, row26) ∷ (25, row28 15) ∷ (26, row28 16) ∷ (27, row33) ∷ []) ((6, off) ∷ (7, off) ∷ (13, alive) ∷ (14, alive) ∷ (15, alive) ∷ (16, alive) ∷ (17, alive) ∷ []) G0
 
-  abbrev pub G58 : Cx
-  G58 = patched ((9, row22) ∷ (10, row31) ∷ (11, row25) ∷ (12, row27 15) ∷ (13, row27 16) ∷ (14, row17) ∷ (26, row28 16) ∷ (27, row33) ∷ []) ((6, off) ∷ (7, off) ∷ (13, alive) ∷ (14, alive) ∷ (15, alive) ∷ (16, alive) ∷ (17, alive) ∷ []) G0
+  abbrev pub G60 : Cx
+  G60 = patched ((9, row22) ∷ (10, row31) ∷ (11, row25) ∷ (12, row27 15) ∷ (13, row27 16) ∷ (27, row33) ∷ []) ((6, off) ∷ (7, off) ∷ (13, alive) ∷ (14, alive) ∷ (15, alive) ∷ (16, alive) ∷ (17, alive) ∷ []) G0
 
-  abbrev pub G61 : Cx
-  G61 = patched ((9, row22) ∷ (10, row31) ∷ (11, row25) ∷ (12, row27 15) ∷ (13, row27 16) ∷ (27, row33) ∷ []) ((6, off) ∷ (7, off) ∷ (13, dead) ∷ (14, alive) ∷ (15, alive) ∷ (16, alive) ∷ (17, alive) ∷ []) G0
-
-  abbrev pub G64 : Cx
-  G64 = patched ((10, row31) ∷ (11, row25) ∷ (12, row27 15) ∷ (13, row27 16) ∷ (27, row33) ∷ []) ((7, off) ∷ (14, dead) ∷ (15, alive) ∷ (16, alive) ∷ (17, alive) ∷ []) G0
-
-  abbrev pub G67 : Cx
-  G67 = patched ((10, row31) ∷ (12, row27 15) ∷ (13, row27 16) ∷ (27, row33) ∷ []) ((7, off) ∷ (15, alive) ∷ (16, alive) ∷ (17, alive) ∷ []) G0
+  abbrev pub G65 : Cx
+  G65 = patched ((10, row31) ∷ (11, row2) ∷ (12, row27 15) ∷ (13, row27 16) ∷ (27, row33) ∷ []) ((7, off) ∷ (14, dead) ∷ (15, alive) ∷ (16, alive) ∷ (17, alive) ∷ []) G0
 
   abbrev pub G70 : Cx
   G70 = patched ((10, row31) ∷ (12, row4) ∷ (13, row27 16) ∷ (27, row33) ∷ []) ((7, off) ∷ (16, alive) ∷ (17, alive) ∷ []) G0
 
-  abbrev pub G73 : Cx
-  G73 = patched ((10, row31) ∷ (13, row4) ∷ (27, row33) ∷ []) ((7, off) ∷ (16, dead) ∷ (17, alive) ∷ []) G0
-
-  abbrev pub G76 : Cx
-  G76 = patched ((10, row31) ∷ (27, row33) ∷ []) ((7, off) ∷ (17, dead) ∷ []) G0
+  abbrev pub G75 : Cx
+  G75 = patched ((10, row31) ∷ (27, row33) ∷ []) ((7, off) ∷ (17, alive) ∷ []) G0
 
   abbrev pub G81 : Cx
   G81 = patched ((0, row17) ∷ (2, (any-gone (ty 2))) ∷ (3, (any-gone (ty 3))) ∷ []) ([]) G0
@@ -204,67 +186,67 @@ module _ {M : Type 1} (𝓤 : URA M) (H : Heap 𝓤) (A : Atoms 𝓤) (W : Given
       ghosts (G11 κs qs) (G12 κs qs) (g-as-by 𝓤 H A W E (λ ρ. Unit) (G11 κs qs) 13 (arrF (rtF (fInt w64)) 256 0) (λ x. x) (told-none 𝓤 H A ((G11 κs qs) .slots)) (λ ρ told. whole-arr 𝓤 H A W (rtF (fInt w64)) 256 tt ρ)) $
       ghosts (G12 κs qs) _ (g-begin 𝓤 H A W E (G12 κs qs) 8 _) $
       stmt _ _ (t-sl-relend 𝓤 H A W E (rtF (fInt w16)) 𝓣 _ 8 15 5 8 (tyRef (named 5) mut (tyInt w16)) (tyRef erased mut (tyInt w16)) (lease (κs .1 .1 .1 .1 .1 .0) (qs .1 .1 .1 .1 .1 .0)) 0 (λ x. x) (as-is 𝓤 H A (mslice (rtF (fInt w16)) (tyRef (named 5) mut (tyInt w16)) 5)) (room-gone 𝓤 H A (tyRef erased mut (tyInt w16))) refl tt refl refl refl (λ b o. tt)) $
-      stmt _ (G15 κs qs) (t-sl-aggregate 𝓤 H A W E (rtF (fInt w16)) 𝓣 (asMut (rtF (fInt w16))) _ 15 16 8 (tyRef erased mut (tyInt w16)) (tyRef erased mut (tyInt w16)) (λ x. x) (oFld 8 (field 1 ∷ []) (tyInt w64) 8 (λ v. lenV (v .0))) (as-is 𝓤 H A (msptr (rtF (fInt w16)) (tyRef erased mut (tyInt w16)) 8)) (room-gone 𝓤 H A _) (reads-owed-len 𝓤 H A W (rtF (fInt w16)) (tyRef (named 5) mut (tyInt w16)) 5 8 (lease (κs .1 .1 .1 .1 .1 .0) (qs .1 .1 .1 .1 .1 .0)) 8 refl, refl) refl refl (λ b o k. tt)) $
-      ghosts (G15 κs qs) _ (g-begin 𝓤 H A W E (G15 κs qs) 9 _) $
-      stmt _ _ (t-sl-relend 𝓤 H A W E (rtF (fInt w32)) 𝓣 _ 9 17 6 9 (tyRef (named 6) mut (tyInt w32)) (tyRef erased mut (tyInt w32)) (lease (κs .1 .1 .1 .1 .1 .1 .0) (qs .1 .1 .1 .1 .1 .1 .0)) 0 (λ x. x) (as-is 𝓤 H A (mslice (rtF (fInt w32)) (tyRef (named 6) mut (tyInt w32)) 6)) (room-gone 𝓤 H A (tyRef erased mut (tyInt w32))) refl tt refl refl refl (λ b o. tt)) $
-      stmt _ (G18 κs qs) (t-sl-aggregate 𝓤 H A W E (rtF (fInt w32)) 𝓣 (asMut (rtF (fInt w32))) _ 17 18 9 (tyRef erased mut (tyInt w32)) (tyRef erased mut (tyInt w32)) (λ x. x) (oFld 9 (field 1 ∷ []) (tyInt w64) 8 (λ v. lenV (v .0))) (as-is 𝓤 H A (msptr (rtF (fInt w32)) (tyRef erased mut (tyInt w32)) 9)) (room-gone 𝓤 H A _) (reads-owed-len 𝓤 H A W (rtF (fInt w32)) (tyRef (named 6) mut (tyInt w32)) 6 9 (lease (κs .1 .1 .1 .1 .1 .1 .0) (qs .1 .1 .1 .1 .1 .1 .0)) 8 refl, refl) refl refl (λ b o k. tt)) $
-      ghosts (G18 κs qs) _ (g-begin 𝓤 H A W E (G18 κs qs) 10 _) $
+      stmt _ _ (t-sl-aggregate 𝓤 H A W E (rtF (fInt w16)) 𝓣 (asMut (rtF (fInt w16))) _ 15 16 8 (tyRef erased mut (tyInt w16)) (tyRef erased mut (tyInt w16)) (λ x. x) (oFld 8 (field 1 ∷ []) (tyInt w64) 8 (λ v. lenV (v .0))) (as-is 𝓤 H A (msptr (rtF (fInt w16)) (tyRef erased mut (tyInt w16)) 8)) (room-gone 𝓤 H A _) (reads-owed-len 𝓤 H A W (rtF (fInt w16)) (tyRef (named 5) mut (tyInt w16)) 5 8 (lease (κs .1 .1 .1 .1 .1 .0) (qs .1 .1 .1 .1 .1 .0)) 8 refl, refl) refl refl (λ b o k. tt)) $
+      ghosts _ _ (g-begin 𝓤 H A W E _ 9 _) $
+      stmt _ (G17 κs qs) (t-sl-relend 𝓤 H A W E (rtF (fInt w32)) 𝓣 _ 9 17 6 9 (tyRef (named 6) mut (tyInt w32)) (tyRef erased mut (tyInt w32)) (lease (κs .1 .1 .1 .1 .1 .1 .0) (qs .1 .1 .1 .1 .1 .1 .0)) 0 (λ x. x) (as-is 𝓤 H A (mslice (rtF (fInt w32)) (tyRef (named 6) mut (tyInt w32)) 6)) (room-gone 𝓤 H A (tyRef erased mut (tyInt w32))) refl tt refl refl refl (λ b o. tt)) $
+      stmt (G17 κs qs) _ (t-sl-aggregate 𝓤 H A W E (rtF (fInt w32)) 𝓣 (asMut (rtF (fInt w32))) (G17 κs qs) 17 18 9 (tyRef erased mut (tyInt w32)) (tyRef erased mut (tyInt w32)) (λ x. x) (oFld 9 (field 1 ∷ []) (tyInt w64) 8 (λ v. lenV (v .0))) (as-is 𝓤 H A (msptr (rtF (fInt w32)) (tyRef erased mut (tyInt w32)) 9)) (room-gone 𝓤 H A _) (reads-owed-len 𝓤 H A W (rtF (fInt w32)) (tyRef (named 6) mut (tyInt w32)) 6 9 (lease (κs .1 .1 .1 .1 .1 .1 .0) (qs .1 .1 .1 .1 .1 .1 .0)) 8 refl, refl) refl refl (λ b o k. tt)) $
+      ghosts _ _ (g-begin 𝓤 H A W E _ 10 _) $
       stmt _ _ (t-sc-borrow 𝓤 H A W E 𝓣 _ 11 19 10 (Array (rtF (fInt w32)) 256) (tyRef erased mut (tyArray (tyInt w32) 256)) (λ x. x) (mem-arr 𝓤 H A W (rtF (fInt w32)) 256) (room-gone 𝓤 H A (tyRef erased mut (tyArray (tyInt w32) 256))) refl (λ b o. tt)) $
-      ghosts _ (G21 κs qs) (g-begin 𝓤 H A W E _ 11 _) $
-      stmt (G21 κs qs) _ (t-sc-borrow 𝓤 H A W E 𝓣 (G21 κs qs) 12 20 11 (Array (rtF (fInt w64)) 256) (tyRef erased mut (tyArray (tyInt w64) 256)) (λ x. x) (mem-arr 𝓤 H A W (rtF (fInt w64)) 256) (room-gone 𝓤 H A (tyRef erased mut (tyArray (tyInt w64) 256))) refl (λ b o. tt)) $
-      ghosts _ _ (g-begin 𝓤 H A W E _ 12 _) $
+      ghosts _ _ (g-begin 𝓤 H A W E _ 11 _) $
+      stmt _ (G22 κs qs) (t-sc-borrow 𝓤 H A W E 𝓣 _ 12 20 11 (Array (rtF (fInt w64)) 256) (tyRef erased mut (tyArray (tyInt w64) 256)) (λ x. x) (mem-arr 𝓤 H A W (rtF (fInt w64)) 256) (room-gone 𝓤 H A (tyRef erased mut (tyArray (tyInt w64) 256))) refl (λ b o. tt)) $
+      ghosts (G22 κs qs) _ (g-begin 𝓤 H A W E (G22 κs qs) 12 _) $
       stmt _ (G24 κs qs) (t-sc-borrow 𝓤 H A W E 𝓣 _ 13 21 12 (Array (rtF (fInt w64)) 256) (tyRef erased mut (tyArray (tyInt w64) 256)) (λ x. x) (mem-arr 𝓤 H A W (rtF (fInt w64)) 256) (room-gone 𝓤 H A (tyRef erased mut (tyArray (tyInt w64) 256))) refl (λ b o. tt)) $
       stmt (G24 κs qs) (G25 κs qs) (t-call-plain 𝓤 H A W 𝓣 9 K0.ps K0.r R0.Asked R0.Learnt "interior_regions::find_interiors" known0 E (λ pos β. β) (G24 κs qs) (record { pos = 4; ty = tyRef (named 1) imm (tyInt w64); ref = λ x. x }, (record { pos = 5; ty = tyRef (named 2) imm (tyInt w32); ref = λ x. x }, (record { pos = 6; ty = tyRef (named 3) imm (tyInt w32); ref = λ x. x }, (record { pos = 7; ty = tyRef (named 4) imm (tyArray (tyInt w64) 257); ref = λ x. x }, (vAt 3 (λ x. x), (vAt 2 (λ x. x), (record { pos = 16; ty = tyRef erased mut (tyInt w16); ref = λ x. x }, (record { pos = 18; ty = tyRef erased mut (tyInt w32); ref = λ x. x }, (record { pos = 19; ty = tyRef erased mut (tyArray (tyInt w32) 256); ref = λ x. x }, (record { pos = 20; ty = tyRef erased mut (tyArray (tyInt w64) 256); ref = λ x. x }, (record { pos = 21; ty = tyRef erased mut (tyArray (tyInt w64) 256); ref = λ x. x }, tt))))))))))) 14 (1 ∷ 2 ∷ 3 ∷ 4 ∷ 8 ∷ 9 ∷ 10 ∷ 11 ∷ 12 ∷ []) (sub-id 𝓤 H A W ((G24 κs qs) .slots)) (spares-sslice 𝓤 H A W (rtF (fInt w64)) (tyRef (named 1) imm (tyInt w64)) 1, reads-sslice 𝓤 H A W (rtF (fInt w64)) (tyRef (named 1) imm (tyInt w64)) 1, refl, (spares-sslice 𝓤 H A W (rtF (fInt w32)) (tyRef (named 2) imm (tyInt w32)) 2, reads-sslice 𝓤 H A W (rtF (fInt w32)) (tyRef (named 2) imm (tyInt w32)) 2, refl, (spares-sslice 𝓤 H A W (rtF (fInt w32)) (tyRef (named 3) imm (tyInt w32)) 3, reads-sslice 𝓤 H A W (rtF (fInt w32)) (tyRef (named 3) imm (tyInt w32)) 3, refl, (spares-sref 𝓤 H A W (Array (rtF (fInt w64)) 257) (tyRef (named 4) imm (tyArray (tyInt w64) 257)) 4, reads-sref 𝓤 H A W (Array (rtF (fInt w64)) 257) (tyRef (named 4) imm (tyArray (tyInt w64) 257)) 4, refl, ((reads-sc 𝓤 H A W (sInt w64), refl), ((reads-sc 𝓤 H A W (sInt w64), refl), (as-is 𝓤 H A (mslice (rtF (fInt w16)) (tyRef erased mut (tyInt w16)) 8), reads-mslice 𝓤 H A W (rtF (fInt w16)) (tyRef erased mut (tyInt w16)) 8, refl, (as-is 𝓤 H A (mslice (rtF (fInt w32)) (tyRef erased mut (tyInt w32)) 9), reads-mslice 𝓤 H A W (rtF (fInt w32)) (tyRef erased mut (tyInt w32)) 9, refl, (as-is 𝓤 H A (mref (Array (rtF (fInt w32)) 256) (tyRef erased mut (tyArray (tyInt w32) 256)) 10), reads-mref 𝓤 H A W (Array (rtF (fInt w32)) 256) (tyRef erased mut (tyArray (tyInt w32) 256)) 10, refl, (as-is 𝓤 H A (mref (Array (rtF (fInt w64)) 256) (tyRef erased mut (tyArray (tyInt w64) 256)) 11), reads-mref 𝓤 H A W (Array (rtF (fInt w64)) 256) (tyRef erased mut (tyArray (tyInt w64) 256)) 11, refl, (as-is 𝓤 H A (mref (Array (rtF (fInt w64)) 256) (tyRef erased mut (tyArray (tyInt w64) 256)) 12), reads-mref 𝓤 H A W (Array (rtF (fInt w64)) 256) (tyRef erased mut (tyArray (tyInt w64) 256)) 12, refl, tt))))))))))) (room-gone 𝓤 H A tyUnit) _ refl) $
       ghosts (G25 κs qs) _ (g-room 𝓤 H A W E (G25 κs qs) 14 tyUnit (room-sc 𝓤 H A W sUnit)) $
       ghosts _ _ (g-end 𝓤 H A W E _ 8 refl) $
-      ghosts _ (G28 κs qs) (g-back-sl 𝓤 H A W E (rtF (fInt w16)) _ 16 8 5 8 (tyRef (named 5) mut (tyInt w16)) (tyRef erased mut (tyInt w16)) (lease (κs .1 .1 .1 .1 .1 .0) (qs .1 .1 .1 .1 .1 .0)) (λ x. x) (λ x. x) (as-is 𝓤 H A (msleft (rtF (fInt w16)) (tyRef erased mut (tyInt w16)))) (as-is 𝓤 H A (mslice-owed (rtF (fInt w16)) (tyRef (named 5) mut (tyInt w16)) 5 8 (lease (κs .1 .1 .1 .1 .1 .0) (qs .1 .1 .1 .1 .1 .0)))) refl refl) $
-      ghosts (G28 κs qs) _ (g-forget 𝓤 H A W E (G28 κs qs) 8 dead refl) $
-      ghosts _ _ (g-end 𝓤 H A W E _ 9 refl) $
-      ghosts _ (G32 κs qs) (g-back-sl 𝓤 H A W E (rtF (fInt w32)) _ 18 9 6 9 (tyRef (named 6) mut (tyInt w32)) (tyRef erased mut (tyInt w32)) (lease (κs .1 .1 .1 .1 .1 .1 .0) (qs .1 .1 .1 .1 .1 .1 .0)) (λ x. x) (λ x. x) (as-is 𝓤 H A (msleft (rtF (fInt w32)) (tyRef erased mut (tyInt w32)))) (as-is 𝓤 H A (mslice-owed (rtF (fInt w32)) (tyRef (named 6) mut (tyInt w32)) 6 9 (lease (κs .1 .1 .1 .1 .1 .1 .0) (qs .1 .1 .1 .1 .1 .1 .0)))) refl refl) $
-      ghosts (G32 κs qs) _ (g-forget 𝓤 H A W E (G32 κs qs) 9 dead refl) $
+      ghosts _ _ (g-back-sl 𝓤 H A W E (rtF (fInt w16)) _ 16 8 5 8 (tyRef (named 5) mut (tyInt w16)) (tyRef erased mut (tyInt w16)) (lease (κs .1 .1 .1 .1 .1 .0) (qs .1 .1 .1 .1 .1 .0)) (λ x. x) (λ x. x) (as-is 𝓤 H A (msleft (rtF (fInt w16)) (tyRef erased mut (tyInt w16)))) (as-is 𝓤 H A (mslice-owed (rtF (fInt w16)) (tyRef (named 5) mut (tyInt w16)) 5 8 (lease (κs .1 .1 .1 .1 .1 .0) (qs .1 .1 .1 .1 .1 .0)))) refl refl) $
+      ghosts _ _ (g-forget 𝓤 H A W E _ 8 dead refl) $
+      ghosts _ (G31 κs qs) (g-end 𝓤 H A W E _ 9 refl) $
+      ghosts (G31 κs qs) _ (g-back-sl 𝓤 H A W E (rtF (fInt w32)) (G31 κs qs) 18 9 6 9 (tyRef (named 6) mut (tyInt w32)) (tyRef erased mut (tyInt w32)) (lease (κs .1 .1 .1 .1 .1 .1 .0) (qs .1 .1 .1 .1 .1 .1 .0)) (λ x. x) (λ x. x) (as-is 𝓤 H A (msleft (rtF (fInt w32)) (tyRef erased mut (tyInt w32)))) (as-is 𝓤 H A (mslice-owed (rtF (fInt w32)) (tyRef (named 6) mut (tyInt w32)) 6 9 (lease (κs .1 .1 .1 .1 .1 .1 .0) (qs .1 .1 .1 .1 .1 .1 .0)))) refl refl) $
+      ghosts _ _ (g-forget 𝓤 H A W E _ 9 dead refl) $
       ghosts _ _ (g-end 𝓤 H A W E _ 10 refl) $
-      ghosts _ (G36 κs qs) (g-back-sc 𝓤 H A W E _ 19 11 10 (Array (rtF (fInt w32)) 256) (tyRef erased mut (tyArray (tyInt w32) 256)) (arrF (rtF (fInt w32)) 256 0) (λ x. x) (λ x. x) (λ x. x) (as-is 𝓤 H A (mleft (Array (rtF (fInt w32)) 256) (tyRef erased mut (tyArray (tyInt w32) 256)))) (as-is 𝓤 H A (sc-owed (Array (rtF (fInt w32)) 256) 10)) (arr-mem 𝓤 H A W (rtF (fInt w32)) 256 tt) refl) $
-      ghosts (G36 κs qs) _ (g-forget 𝓤 H A W E (G36 κs qs) 10 dead refl) $
-      ghosts _ _ (g-end 𝓤 H A W E _ 11 refl) $
-      ghosts _ (G39 κs qs) (g-back-sc 𝓤 H A W E _ 20 12 11 (Array (rtF (fInt w64)) 256) (tyRef erased mut (tyArray (tyInt w64) 256)) (arrF (rtF (fInt w64)) 256 0) (λ x. x) (λ x. x) (λ x. x) (as-is 𝓤 H A (mleft (Array (rtF (fInt w64)) 256) (tyRef erased mut (tyArray (tyInt w64) 256)))) (as-is 𝓤 H A (sc-owed (Array (rtF (fInt w64)) 256) 11)) (arr-mem 𝓤 H A W (rtF (fInt w64)) 256 tt) refl) $
-      ghosts (G39 κs qs) _ (g-forget 𝓤 H A W E (G39 κs qs) 11 dead refl) $
+      ghosts _ _ (g-back-sc 𝓤 H A W E _ 19 11 10 (Array (rtF (fInt w32)) 256) (tyRef erased mut (tyArray (tyInt w32) 256)) (arrF (rtF (fInt w32)) 256 0) (λ x. x) (λ x. x) (λ x. x) (as-is 𝓤 H A (mleft (Array (rtF (fInt w32)) 256) (tyRef erased mut (tyArray (tyInt w32) 256)))) (as-is 𝓤 H A (sc-owed (Array (rtF (fInt w32)) 256) 10)) (arr-mem 𝓤 H A W (rtF (fInt w32)) 256 tt) refl) $
+      ghosts _ (G37 κs qs) (g-forget 𝓤 H A W E _ 10 dead refl) $
+      ghosts (G37 κs qs) _ (g-end 𝓤 H A W E (G37 κs qs) 11 refl) $
+      ghosts _ _ (g-back-sc 𝓤 H A W E _ 20 12 11 (Array (rtF (fInt w64)) 256) (tyRef erased mut (tyArray (tyInt w64) 256)) (arrF (rtF (fInt w64)) 256 0) (λ x. x) (λ x. x) (λ x. x) (as-is 𝓤 H A (mleft (Array (rtF (fInt w64)) 256) (tyRef erased mut (tyArray (tyInt w64) 256)))) (as-is 𝓤 H A (sc-owed (Array (rtF (fInt w64)) 256) 11)) (arr-mem 𝓤 H A W (rtF (fInt w64)) 256 tt) refl) $
+      ghosts _ _ (g-forget 𝓤 H A W E _ 11 dead refl) $
       ghosts _ _ (g-end 𝓤 H A W E _ 12 refl) $
       ghosts _ (G42 κs qs) (g-back-sc 𝓤 H A W E _ 21 13 12 (Array (rtF (fInt w64)) 256) (tyRef erased mut (tyArray (tyInt w64) 256)) (arrF (rtF (fInt w64)) 256 0) (λ x. x) (λ x. x) (λ x. x) (as-is 𝓤 H A (mleft (Array (rtF (fInt w64)) 256) (tyRef erased mut (tyArray (tyInt w64) 256)))) (as-is 𝓤 H A (sc-owed (Array (rtF (fInt w64)) 256) 12)) (arr-mem 𝓤 H A W (rtF (fInt w64)) 256 tt) refl) $
       ghosts (G42 κs qs) (G12 κs qs) (g-forget 𝓤 H A W E (G42 κs qs) 12 dead refl) $
       ghosts (G12 κs qs) _ (g-begin 𝓤 H A W E (G12 κs qs) 13 _) $
       stmt _ _ (t-sl-reshare 𝓤 H A W E (rtF (fInt w32)) 𝓣 _ 9 22 6 13 (tyRef (named 6) mut (tyInt w32)) (tyRef erased imm (tyInt w32)) (lease (κs .1 .1 .1 .1 .1 .1 .0) (qs .1 .1 .1 .1 .1 .1 .0)) 0 (λ x. x) (as-is 𝓤 H A (mslice (rtF (fInt w32)) (tyRef (named 6) mut (tyInt w32)) 6)) (room-gone 𝓤 H A (tyRef erased imm (tyInt w32))) refl tt refl refl refl (λ b o. tt)) $
-      stmt _ (G46 κs qs) (t-sl-aggregate 𝓤 H A W E (rtF (fInt w32)) 𝓣 (asShr (rtF (fInt w32))) _ 22 23 13 (tyRef erased imm (tyInt w32)) (tyRef erased imm (tyInt w32)) (λ x. x) (oFld 9 (field 1 ∷ []) (tyInt w64) 8 (λ v. lenV (v .0))) (as-is 𝓤 H A (ssptr (rtF (fInt w32)) (tyRef erased imm (tyInt w32)) 13)) (room-gone 𝓤 H A _) (reads-owedS-len 𝓤 H A W (rtF (fInt w32)) (tyRef (named 6) mut (tyInt w32)) 6 13 (lease (κs .1 .1 .1 .1 .1 .1 .0) (qs .1 .1 .1 .1 .1 .1 .0)) 8 refl, refl) refl refl (λ b o k. tt)) $
-      ghosts (G46 κs qs) _ (g-begin 𝓤 H A W E (G46 κs qs) 14 _) $
-      stmt _ _ (t-sc-share 𝓤 H A W E 𝓣 _ 11 24 14 (Array (rtF (fInt w32)) 256) (tyRef erased imm (tyArray (tyInt w32) 256)) (λ x. x) (mem-arr 𝓤 H A W (rtF (fInt w32)) 256) (room-gone 𝓤 H A (tyRef erased imm (tyArray (tyInt w32) 256))) refl (λ b o. tt)) $
-      ghosts _ (G49 κs qs) (g-begin 𝓤 H A W E _ 15 _) $
-      stmt (G49 κs qs) _ (t-sc-share 𝓤 H A W E 𝓣 (G49 κs qs) 12 25 15 (Array (rtF (fInt w64)) 256) (tyRef erased imm (tyArray (tyInt w64) 256)) (λ x. x) (mem-arr 𝓤 H A W (rtF (fInt w64)) 256) (room-gone 𝓤 H A (tyRef erased imm (tyArray (tyInt w64) 256))) refl (λ b o. tt)) $
+      stmt _ _ (t-sl-aggregate 𝓤 H A W E (rtF (fInt w32)) 𝓣 (asShr (rtF (fInt w32))) _ 22 23 13 (tyRef erased imm (tyInt w32)) (tyRef erased imm (tyInt w32)) (λ x. x) (oFld 9 (field 1 ∷ []) (tyInt w64) 8 (λ v. lenV (v .0))) (as-is 𝓤 H A (ssptr (rtF (fInt w32)) (tyRef erased imm (tyInt w32)) 13)) (room-gone 𝓤 H A _) (reads-owedS-len 𝓤 H A W (rtF (fInt w32)) (tyRef (named 6) mut (tyInt w32)) 6 13 (lease (κs .1 .1 .1 .1 .1 .1 .0) (qs .1 .1 .1 .1 .1 .1 .0)) 8 refl, refl) refl refl (λ b o k. tt)) $
+      ghosts _ _ (g-begin 𝓤 H A W E _ 14 _) $
+      stmt _ (G48 κs qs) (t-sc-share 𝓤 H A W E 𝓣 _ 11 24 14 (Array (rtF (fInt w32)) 256) (tyRef erased imm (tyArray (tyInt w32) 256)) (λ x. x) (mem-arr 𝓤 H A W (rtF (fInt w32)) 256) (room-gone 𝓤 H A (tyRef erased imm (tyArray (tyInt w32) 256))) refl (λ b o. tt)) $
+      ghosts (G48 κs qs) _ (g-begin 𝓤 H A W E (G48 κs qs) 15 _) $
+      stmt _ _ (t-sc-share 𝓤 H A W E 𝓣 _ 12 25 15 (Array (rtF (fInt w64)) 256) (tyRef erased imm (tyArray (tyInt w64) 256)) (λ x. x) (mem-arr 𝓤 H A W (rtF (fInt w64)) 256) (room-gone 𝓤 H A (tyRef erased imm (tyArray (tyInt w64) 256))) refl (λ b o. tt)) $
       ghosts _ _ (g-begin 𝓤 H A W E _ 16 _) $
-      stmt _ (G52 κs qs) (t-sc-share 𝓤 H A W E 𝓣 _ 13 26 16 (Array (rtF (fInt w64)) 256) (tyRef erased imm (tyArray (tyInt w64) 256)) (λ x. x) (mem-arr 𝓤 H A W (rtF (fInt w64)) 256) (room-gone 𝓤 H A (tyRef erased imm (tyArray (tyInt w64) 256))) refl (λ b o. tt)) $
-      ghosts (G52 κs qs) _ (g-begin 𝓤 H A W E (G52 κs qs) 17 _) $
-      stmt _ (G54 κs qs) (t-mref-relend 𝓤 H A W E 𝓣 _ 10 27 7 17 (Array (rtF fBool) 256) (tyArray tyBool 256) (tyRef (named 7) mut (tyArray tyBool 256)) (tyRef erased mut (tyArray tyBool 256)) (lease (κs .1 .1 .1 .1 .1 .1 .1 .0) (qs .1 .1 .1 .1 .1 .1 .1 .0)) (λ x. x) (as-is 𝓤 H A (mref (Array (rtF fBool) 256) (tyRef (named 7) mut (tyArray tyBool 256)) 7)) (room-gone 𝓤 H A (tyRef erased mut (tyArray tyBool 256))) refl tt refl refl (λ b o. tt)) $
+      stmt _ _ (t-sc-share 𝓤 H A W E 𝓣 _ 13 26 16 (Array (rtF (fInt w64)) 256) (tyRef erased imm (tyArray (tyInt w64) 256)) (λ x. x) (mem-arr 𝓤 H A W (rtF (fInt w64)) 256) (room-gone 𝓤 H A (tyRef erased imm (tyArray (tyInt w64) 256))) refl (λ b o. tt)) $
+      ghosts _ (G53 κs qs) (g-begin 𝓤 H A W E _ 17 _) $
+      stmt (G53 κs qs) (G54 κs qs) (t-mref-relend 𝓤 H A W E 𝓣 (G53 κs qs) 10 27 7 17 (Array (rtF fBool) 256) (tyArray tyBool 256) (tyRef (named 7) mut (tyArray tyBool 256)) (tyRef erased mut (tyArray tyBool 256)) (lease (κs .1 .1 .1 .1 .1 .1 .1 .0) (qs .1 .1 .1 .1 .1 .1 .1 .0)) (λ x. x) (as-is 𝓤 H A (mref (Array (rtF fBool) 256) (tyRef (named 7) mut (tyArray tyBool 256)) 7)) (room-gone 𝓤 H A (tyRef erased mut (tyArray tyBool 256))) refl tt refl refl (λ b o. tt)) $
       stmt (G54 κs qs) (G55 κs qs) (t-call-plain 𝓤 H A W 𝓣 9 K1.ps K1.r K1.Asked K1.Learnt "topology::interior_pass::judge_interiors" known1 E (λ pos β. β) (G54 κs qs) (record { pos = 1; ty = tyRef (named 0) imm (pointee (twin-0.the-row .written)); ref = λ x. x }, (record { pos = 4; ty = tyRef (named 1) imm (tyInt w64); ref = λ x. x }, (record { pos = 6; ty = tyRef (named 3) imm (tyInt w32); ref = λ x. x }, (record { pos = 7; ty = tyRef (named 4) imm (tyArray (tyInt w64) 257); ref = λ x. x }, (record { pos = 23; ty = tyRef erased imm (tyInt w32); ref = λ x. x }, (record { pos = 24; ty = tyRef erased imm (tyArray (tyInt w32) 256); ref = λ x. x }, (record { pos = 25; ty = tyRef erased imm (tyArray (tyInt w64) 256); ref = λ x. x }, (record { pos = 26; ty = tyRef erased imm (tyArray (tyInt w64) 256); ref = λ x. x }, (vAt 3 (λ x. x), (record { pos = 27; ty = tyRef erased mut (tyArray tyBool 256); ref = λ x. x }, tt)))))))))) 14 (0 ∷ 1 ∷ 3 ∷ 4 ∷ 13 ∷ 14 ∷ 15 ∷ 16 ∷ 17 ∷ []) (sub-id 𝓤 H A W ((G54 κs qs) .slots)) (spares-sslice 𝓤 H A W twin-0.the-row (tyRef (named 0) imm (pointee (twin-0.the-row .written))) 0, reads-sslice 𝓤 H A W twin-0.the-row (tyRef (named 0) imm (pointee (twin-0.the-row .written))) 0, refl, (spares-sslice 𝓤 H A W (rtF (fInt w64)) (tyRef (named 1) imm (tyInt w64)) 1, reads-sslice 𝓤 H A W (rtF (fInt w64)) (tyRef (named 1) imm (tyInt w64)) 1, refl, (spares-sslice 𝓤 H A W (rtF (fInt w32)) (tyRef (named 3) imm (tyInt w32)) 3, reads-sslice 𝓤 H A W (rtF (fInt w32)) (tyRef (named 3) imm (tyInt w32)) 3, refl, (spares-sref 𝓤 H A W (Array (rtF (fInt w64)) 257) (tyRef (named 4) imm (tyArray (tyInt w64) 257)) 4, reads-sref 𝓤 H A W (Array (rtF (fInt w64)) 257) (tyRef (named 4) imm (tyArray (tyInt w64) 257)) 4, refl, (spares-sslice 𝓤 H A W (rtF (fInt w32)) (tyRef erased imm (tyInt w32)) 13, reads-sslice 𝓤 H A W (rtF (fInt w32)) (tyRef erased imm (tyInt w32)) 13, refl, (spares-sref 𝓤 H A W (Array (rtF (fInt w32)) 256) (tyRef erased imm (tyArray (tyInt w32) 256)) 14, reads-sref 𝓤 H A W (Array (rtF (fInt w32)) 256) (tyRef erased imm (tyArray (tyInt w32) 256)) 14, refl, (spares-sref 𝓤 H A W (Array (rtF (fInt w64)) 256) (tyRef erased imm (tyArray (tyInt w64) 256)) 15, reads-sref 𝓤 H A W (Array (rtF (fInt w64)) 256) (tyRef erased imm (tyArray (tyInt w64) 256)) 15, refl, (spares-sref 𝓤 H A W (Array (rtF (fInt w64)) 256) (tyRef erased imm (tyArray (tyInt w64) 256)) 16, reads-sref 𝓤 H A W (Array (rtF (fInt w64)) 256) (tyRef erased imm (tyArray (tyInt w64) 256)) 16, refl, ((reads-sc 𝓤 H A W (sInt w64), refl), (as-is 𝓤 H A (mref (Array (rtF fBool) 256) (tyRef erased mut (tyArray tyBool 256)) 17), reads-mref 𝓤 H A W (Array (rtF fBool) 256) (tyRef erased mut (tyArray tyBool 256)) 17, refl, tt)))))))))) (room-gone 𝓤 H A tyUnit) _ refl) $
       ghosts (G55 κs qs) _ (g-room 𝓤 H A W E (G55 κs qs) 23 _ (room-sslice 𝓤 H A W (rtF (fInt w32)) (tyRef erased imm (tyInt w32)) 13)) $
       ghosts _ _ (g-drop-sref 𝓤 H A W E _ 24 14 (Array (rtF (fInt w32)) 256) (tyRef erased imm (tyArray (tyInt w32) 256)) (λ x. x) (as-is 𝓤 H A (sref (Array (rtF (fInt w32)) 256) (tyRef erased imm (tyArray (tyInt w32) 256)) 14))) $
-      ghosts _ (G58 κs qs) (g-drop-sref 𝓤 H A W E _ 25 15 (Array (rtF (fInt w64)) 256) (tyRef erased imm (tyArray (tyInt w64) 256)) (λ x. x) (as-is 𝓤 H A (sref (Array (rtF (fInt w64)) 256) (tyRef erased imm (tyArray (tyInt w64) 256)) 15))) $
-      ghosts (G58 κs qs) _ (g-drop-sref 𝓤 H A W E (G58 κs qs) 26 16 (Array (rtF (fInt w64)) 256) (tyRef erased imm (tyArray (tyInt w64) 256)) (λ x. x) (as-is 𝓤 H A (sref (Array (rtF (fInt w64)) 256) (tyRef erased imm (tyArray (tyInt w64) 256)) 16))) $
-      ghosts _ _ (g-room 𝓤 H A W E _ 14 tyUnit (room-sc 𝓤 H A W sUnit)) $
-      ghosts _ (G61 κs qs) (g-end 𝓤 H A W E _ 13 refl) $
-      ghosts (G61 κs qs) _ (g-back-sl-shr 𝓤 H A W E (rtF (fInt w32)) (G61 κs qs) 9 6 13 (tyRef (named 6) mut (tyInt w32)) (lease (κs .1 .1 .1 .1 .1 .1 .0) (qs .1 .1 .1 .1 .1 .1 .0)) (λ x. x) (as-is 𝓤 H A (mslice-owedS (rtF (fInt w32)) (tyRef (named 6) mut (tyInt w32)) 6 13 (lease (κs .1 .1 .1 .1 .1 .1 .0) (qs .1 .1 .1 .1 .1 .1 .0)))) refl refl) $
+      ghosts _ _ (g-drop-sref 𝓤 H A W E _ 25 15 (Array (rtF (fInt w64)) 256) (tyRef erased imm (tyArray (tyInt w64) 256)) (λ x. x) (as-is 𝓤 H A (sref (Array (rtF (fInt w64)) 256) (tyRef erased imm (tyArray (tyInt w64) 256)) 15))) $
+      ghosts _ _ (g-drop-sref 𝓤 H A W E _ 26 16 (Array (rtF (fInt w64)) 256) (tyRef erased imm (tyArray (tyInt w64) 256)) (λ x. x) (as-is 𝓤 H A (sref (Array (rtF (fInt w64)) 256) (tyRef erased imm (tyArray (tyInt w64) 256)) 16))) $
+      ghosts _ (G60 κs qs) (g-room 𝓤 H A W E _ 14 tyUnit (room-sc 𝓤 H A W sUnit)) $
+      ghosts (G60 κs qs) _ (g-end 𝓤 H A W E (G60 κs qs) 13 refl) $
+      ghosts _ _ (g-back-sl-shr 𝓤 H A W E (rtF (fInt w32)) _ 9 6 13 (tyRef (named 6) mut (tyInt w32)) (lease (κs .1 .1 .1 .1 .1 .1 .0) (qs .1 .1 .1 .1 .1 .1 .0)) (λ x. x) (as-is 𝓤 H A (mslice-owedS (rtF (fInt w32)) (tyRef (named 6) mut (tyInt w32)) 6 13 (lease (κs .1 .1 .1 .1 .1 .1 .0) (qs .1 .1 .1 .1 .1 .1 .0)))) refl refl) $
       ghosts _ _ (g-forget 𝓤 H A W E _ 13 dead refl) $
-      ghosts _ (G64 κs qs) (g-end 𝓤 H A W E _ 14 refl) $
-      ghosts (G64 κs qs) _ (g-back-shr 𝓤 H A W E (G64 κs qs) 11 14 (arrF (rtF (fInt w32)) 256 0) (Array (rtF (fInt w32)) 256) (λ x. x) (λ x. x) (as-is 𝓤 H A (sc-shr (arrF (rtF (fInt w32)) 256 0) (Array (rtF (fInt w32)) 256) (λ x. x) 14)) (home-of 𝓤 H A (arrF (rtF (fInt w32)) 256 0) (Array (rtF (fInt w32)) 256) (λ x. x) (λ x. x) (arr-mem 𝓤 H A W (rtF (fInt w32)) 256 tt) (λ x k. refl)) refl) $
-      ghosts _ _ (g-forget 𝓤 H A W E _ 14 dead refl) $
-      ghosts _ (G67 κs qs) (g-room 𝓤 H A W E _ 11 (tyArray (tyInt w32) 256) (room-arr 𝓤 H A W (rtF (fInt w32)) 256 0 256 refl)) $
-      ghosts (G67 κs qs) _ (g-end 𝓤 H A W E (G67 κs qs) 15 refl) $
+      ghosts _ _ (g-end 𝓤 H A W E _ 14 refl) $
+      ghosts _ (G65 κs qs) (g-back-shr 𝓤 H A W E _ 11 14 (arrF (rtF (fInt w32)) 256 0) (Array (rtF (fInt w32)) 256) (λ x. x) (λ x. x) (as-is 𝓤 H A (sc-shr (arrF (rtF (fInt w32)) 256 0) (Array (rtF (fInt w32)) 256) (λ x. x) 14)) (home-of 𝓤 H A (arrF (rtF (fInt w32)) 256 0) (Array (rtF (fInt w32)) 256) (λ x. x) (λ x. x) (arr-mem 𝓤 H A W (rtF (fInt w32)) 256 tt) (λ x k. refl)) refl) $
+      ghosts (G65 κs qs) _ (g-forget 𝓤 H A W E (G65 κs qs) 14 dead refl) $
+      ghosts _ _ (g-room 𝓤 H A W E _ 11 (tyArray (tyInt w32) 256) (room-arr 𝓤 H A W (rtF (fInt w32)) 256 0 256 refl)) $
+      ghosts _ _ (g-end 𝓤 H A W E _ 15 refl) $
       ghosts _ _ (g-back-shr 𝓤 H A W E _ 12 15 (arrF (rtF (fInt w64)) 256 0) (Array (rtF (fInt w64)) 256) (λ x. x) (λ x. x) (as-is 𝓤 H A (sc-shr (arrF (rtF (fInt w64)) 256 0) (Array (rtF (fInt w64)) 256) (λ x. x) 15)) (home-of 𝓤 H A (arrF (rtF (fInt w64)) 256 0) (Array (rtF (fInt w64)) 256) (λ x. x) (λ x. x) (arr-mem 𝓤 H A W (rtF (fInt w64)) 256 tt) (λ x k. refl)) refl) $
       ghosts _ (G70 κs qs) (g-forget 𝓤 H A W E _ 15 dead refl) $
       ghosts (G70 κs qs) _ (g-room 𝓤 H A W E (G70 κs qs) 12 (tyArray (tyInt w64) 256) (room-arr 𝓤 H A W (rtF (fInt w64)) 256 0 256 refl)) $
       ghosts _ _ (g-end 𝓤 H A W E _ 16 refl) $
-      ghosts _ (G73 κs qs) (g-back-shr 𝓤 H A W E _ 13 16 (arrF (rtF (fInt w64)) 256 0) (Array (rtF (fInt w64)) 256) (λ x. x) (λ x. x) (as-is 𝓤 H A (sc-shr (arrF (rtF (fInt w64)) 256 0) (Array (rtF (fInt w64)) 256) (λ x. x) 16)) (home-of 𝓤 H A (arrF (rtF (fInt w64)) 256 0) (Array (rtF (fInt w64)) 256) (λ x. x) (λ x. x) (arr-mem 𝓤 H A W (rtF (fInt w64)) 256 tt) (λ x k. refl)) refl) $
-      ghosts (G73 κs qs) _ (g-forget 𝓤 H A W E (G73 κs qs) 16 dead refl) $
-      ghosts _ _ (g-room 𝓤 H A W E _ 13 (tyArray (tyInt w64) 256) (room-arr 𝓤 H A W (rtF (fInt w64)) 256 0 256 refl)) $
-      ghosts _ (G76 κs qs) (g-end 𝓤 H A W E _ 17 refl) $
-      ghosts (G76 κs qs) _ (g-back-mref 𝓤 H A W E (G76 κs qs) 27 10 7 17 (Array (rtF fBool) 256) (tyRef (named 7) mut (tyArray tyBool 256)) (tyRef erased mut (tyArray tyBool 256)) (lease (κs .1 .1 .1 .1 .1 .1 .1 .0) (qs .1 .1 .1 .1 .1 .1 .1 .0)) (λ x. x) (λ x. x) (as-is 𝓤 H A (mleft (Array (rtF fBool) 256) (tyRef erased mut (tyArray tyBool 256)))) (as-is 𝓤 H A (mref-owed (Array (rtF fBool) 256) (tyRef (named 7) mut (tyArray tyBool 256)) 7 17 (lease (κs .1 .1 .1 .1 .1 .1 .1 .0) (qs .1 .1 .1 .1 .1 .1 .1 .0)))) refl refl) $
+      ghosts _ _ (g-back-shr 𝓤 H A W E _ 13 16 (arrF (rtF (fInt w64)) 256 0) (Array (rtF (fInt w64)) 256) (λ x. x) (λ x. x) (as-is 𝓤 H A (sc-shr (arrF (rtF (fInt w64)) 256 0) (Array (rtF (fInt w64)) 256) (λ x. x) 16)) (home-of 𝓤 H A (arrF (rtF (fInt w64)) 256 0) (Array (rtF (fInt w64)) 256) (λ x. x) (λ x. x) (arr-mem 𝓤 H A W (rtF (fInt w64)) 256 tt) (λ x k. refl)) refl) $
+      ghosts _ _ (g-forget 𝓤 H A W E _ 16 dead refl) $
+      ghosts _ (G75 κs qs) (g-room 𝓤 H A W E _ 13 (tyArray (tyInt w64) 256) (room-arr 𝓤 H A W (rtF (fInt w64)) 256 0 256 refl)) $
+      ghosts (G75 κs qs) _ (g-end 𝓤 H A W E (G75 κs qs) 17 refl) $
+      ghosts _ _ (g-back-mref 𝓤 H A W E _ 27 10 7 17 (Array (rtF fBool) 256) (tyRef (named 7) mut (tyArray tyBool 256)) (tyRef erased mut (tyArray tyBool 256)) (lease (κs .1 .1 .1 .1 .1 .1 .1 .0) (qs .1 .1 .1 .1 .1 .1 .1 .0)) (λ x. x) (λ x. x) (as-is 𝓤 H A (mleft (Array (rtF fBool) 256) (tyRef erased mut (tyArray tyBool 256)))) (as-is 𝓤 H A (mref-owed (Array (rtF fBool) 256) (tyRef (named 7) mut (tyArray tyBool 256)) 7 17 (lease (κs .1 .1 .1 .1 .1 .1 .1 .0) (qs .1 .1 .1 .1 .1 .1 .1 .0)))) refl refl) $
       ghosts _ (G0 κs qs) (g-forget 𝓤 H A W E _ 17 dead refl) $
       stmt (G0 κs qs) _ (t-use 𝓤 H A W E 𝓣 (G0 κs qs) oUnit 0 (sc-here sUnit) tyUnit (valS sUnit) (sUnit .of) tt (room-gone 𝓤 H A tyUnit) (holds-sc 𝓤 H A W sUnit) refl (λ u. refl) (λ u. tt)) $
       ghosts _ _ (g-room 𝓤 H A W E _ 2 (tyInt w64) (room-sc 𝓤 H A W (sInt w64))) $

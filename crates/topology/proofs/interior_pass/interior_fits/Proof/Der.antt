@@ -96,9 +96,6 @@ module _ (κs : Lfts 4) (qs : Shares 4) where
   abbrev pub G29 : Cx
   G29 = patched ((6, row1) ∷ (7, row2) ∷ (8, row2) ∷ (12, row3) ∷ []) ([]) G0
 
-  abbrev pub G34 : Cx
-  G34 = patched ((0, row2) ∷ (5, (any-gone (ty 5))) ∷ (9, row3) ∷ []) ([]) G0
-
   abbrev pub G35 : Cx
   G35 = patched ((0, row2) ∷ (5, (any-gone (ty 5))) ∷ []) ([]) G0
 
@@ -140,8 +137,8 @@ module _ {M : Type 1} (𝓤 : URA M) (H : Heap 𝓤) (A : Atoms 𝓤) (W : Given
       last (G29 κs qs) (G8 κs qs) (then W (G29 κs qs) (G17 κs qs) (G8 κs qs) (t-call-plain 𝓤 H A W 𝓣 2 K1.ps K1.r R1.Asked R1.Learnt "interior_regions::next_inside" known1 E (λ pos β. β) (G29 κs qs) (record { pos = 3; ty = tyRef (named 2) imm (tyInt w32); ref = λ x. x }, (record { pos = 4; ty = tyRef (named 3) imm (tyInt w32); ref = λ x. x }, (vFld 5 (field 0 ∷ []) 0 (λ x. struct .as-values x .0), (vAt 12 (λ x. x), (vFld 5 (field 2 ∷ []) 16 (λ x. struct .as-values x .1 .1 .0), tt))))) 9 (2 ∷ 3 ∷ []) (sub-id 𝓤 H A W ((G29 κs qs) .slots)) (spares-sslice 𝓤 H A W (rtF (fInt w32)) (tyRef (named 2) imm (tyInt w32)) 2, reads-sslice 𝓤 H A W (rtF (fInt w32)) (tyRef (named 2) imm (tyInt w32)) 2, refl, (spares-sslice 𝓤 H A W (rtF (fInt w32)) (tyRef (named 3) imm (tyInt w32)) 3, reads-sslice 𝓤 H A W (rtF (fInt w32)) (tyRef (named 3) imm (tyInt w32)) 3, refl, ((reads-field 𝓤 H A W Interior.the-type Laws''.the-laws 0 (tyInt w32) 0 refl, refl), ((reads-sc 𝓤 H A W (sInt w64), refl), ((reads-field 𝓤 H A W Interior.the-type Laws''.the-laws 2 (tyInt w64) 16 refl, refl), tt))))) (room-gone 𝓤 H A (tyInt w64)) _ refl) (g-room 𝓤 H A W E (G17 κs qs) 12 (tyInt w64) (room-sc 𝓤 H A W (sInt w64))))))) $
       stmt (G9 κs qs) _ (t-op2 𝓤 H A W E 𝓣 (G9 κs qs) bitAnd (oAt 7 tyBool (valS sBool)) (oAt 8 tyBool (valS sBool)) 0 (sc-here sBool) tyBool (valS sBool) (sBool .of) (reads-sc 𝓤 H A W sBool, refl) (reads-sc 𝓤 H A W sBool, refl) (room-gone 𝓤 H A tyBool) (holds-sc 𝓤 H A W sBool) refl (λ u. refl) (λ u. tt)) $
       ghosts _ _ (g-room 𝓤 H A W E _ 7 tyBool (room-sc 𝓤 H A W sBool)) $
-      ghosts _ (G34 κs qs) (g-room 𝓤 H A W E _ 8 tyBool (room-sc 𝓤 H A W sBool)) $
-      ghosts (G34 κs qs) (G35 κs qs) (g-room 𝓤 H A W E (G34 κs qs) 9 (tyInt w64) (room-sc 𝓤 H A W (sInt w64))) $
+      ghosts _ _ (g-room 𝓤 H A W E _ 8 tyBool (room-sc 𝓤 H A W sBool)) $
+      ghosts _ (G35 κs qs) (g-room 𝓤 H A W E _ 9 (tyInt w64) (room-sc 𝓤 H A W (sInt w64))) $
       rets
 
 -- the derivations at a model

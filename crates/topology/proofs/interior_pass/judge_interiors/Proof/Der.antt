@@ -82,9 +82,6 @@ module _ (κs : Lfts 9) (qs : Shares 9) where
   abbrev pub G15 : Cx
   G15 = patched ((10, row4) ∷ (11, row1) ∷ (12, row3) ∷ (13, row2) ∷ (15, row6) ∷ (16, row7) ∷ []) ((8, off) ∷ (9, alive) ∷ []) G0
 
-  abbrev pub G18 : Cx
-  G18 = patched ((10, row4) ∷ (11, row1) ∷ (13, row2) ∷ (16, row7) ∷ []) ((8, off) ∷ (9, dead) ∷ []) G0
-
   abbrev pub G20 : Cx
   G20 = patched ((11, row1) ∷ (13, row2) ∷ []) ([]) G0
 
@@ -116,8 +113,8 @@ module _ {M : Type 1} (𝓤 : URA M) (H : Heap 𝓤) (A : Atoms 𝓤) (W : Given
       stmt (G14 κs qs) (G15 κs qs) (t-call-plain 𝓤 H A W 𝓣 2 K2.ps K2.r R2.Asked R2.Learnt "interior_regions::mark_edges" known2 E (λ pos β. β) (G14 κs qs) (record { pos = 6; ty = tyRef (named 5) imm (tyArray (tyInt w32) 256); ref = λ x. x }, (vAt 9 (λ x. x), (vFld 12 (field 0 ∷ []) 0 (λ x. struct .as-values x .0), (bAt 13 (λ x. x), (record { pos = 16; ty = tyRef erased mut (tyArray tyBool 256); ref = λ x. x }, tt))))) 15 (5 ∷ 9 ∷ []) (sub-id 𝓤 H A W ((G14 κs qs) .slots)) (spares-sref 𝓤 H A W (Array (rtF (fInt w32)) 256) (tyRef (named 5) imm (tyArray (tyInt w32) 256)) 5, reads-sref 𝓤 H A W (Array (rtF (fInt w32)) 256) (tyRef (named 5) imm (tyArray (tyInt w32) 256)) 5, refl, ((reads-sc 𝓤 H A W (sInt w64), refl), ((reads-field 𝓤 H A W Interior.the-type Laws.the-laws 0 (tyInt w32) 0 refl, refl), ((reads-sc 𝓤 H A W sBool, refl), (as-is 𝓤 H A (mref (Array (rtF fBool) 256) (tyRef erased mut (tyArray tyBool 256)) 9), reads-mref 𝓤 H A W (Array (rtF fBool) 256) (tyRef erased mut (tyArray tyBool 256)) 9, refl, tt))))) (room-gone 𝓤 H A tyUnit) _ refl) $
       ghosts (G15 κs qs) _ (g-room 𝓤 H A W E (G15 κs qs) 12 _ (room-whole 𝓤 H A W (row Interior.the-type) _ refl)) $
       ghosts _ _ (g-room 𝓤 H A W E _ 15 tyUnit (room-sc 𝓤 H A W sUnit)) $
-      ghosts _ (G18 κs qs) (g-end 𝓤 H A W E _ 9 refl) $
-      ghosts (G18 κs qs) _ (g-back-mref 𝓤 H A W E (G18 κs qs) 16 10 8 9 (Array (rtF fBool) 256) (tyRef (named 8) mut (tyArray tyBool 256)) (tyRef erased mut (tyArray tyBool 256)) (lease (κs .1 .1 .1 .1 .1 .1 .1 .1 .0) (qs .1 .1 .1 .1 .1 .1 .1 .1 .0)) (λ x. x) (λ x. x) (as-is 𝓤 H A (mleft (Array (rtF fBool) 256) (tyRef erased mut (tyArray tyBool 256)))) (as-is 𝓤 H A (mref-owed (Array (rtF fBool) 256) (tyRef (named 8) mut (tyArray tyBool 256)) 8 9 (lease (κs .1 .1 .1 .1 .1 .1 .1 .1 .0) (qs .1 .1 .1 .1 .1 .1 .1 .1 .0)))) refl refl) $
+      ghosts _ _ (g-end 𝓤 H A W E _ 9 refl) $
+      ghosts _ _ (g-back-mref 𝓤 H A W E _ 16 10 8 9 (Array (rtF fBool) 256) (tyRef (named 8) mut (tyArray tyBool 256)) (tyRef erased mut (tyArray tyBool 256)) (lease (κs .1 .1 .1 .1 .1 .1 .1 .1 .0) (qs .1 .1 .1 .1 .1 .1 .1 .1 .0)) (λ x. x) (λ x. x) (as-is 𝓤 H A (mleft (Array (rtF fBool) 256) (tyRef erased mut (tyArray tyBool 256)))) (as-is 𝓤 H A (mref-owed (Array (rtF fBool) 256) (tyRef (named 8) mut (tyArray tyBool 256)) 8 9 (lease (κs .1 .1 .1 .1 .1 .1 .1 .1 .0) (qs .1 .1 .1 .1 .1 .1 .1 .1 .0)))) refl refl) $
       ghosts _ (G20 κs qs) (g-forget 𝓤 H A W E _ 9 dead refl) $
       last (G20 κs qs) (G5 κs qs) (then W (G20 κs qs) (G20 κs qs) (G5 κs qs) (t-op2 𝓤 H A W E 𝓣 (G20 κs qs) (add unsigned) (oAt 11 (tyInt w64) (valS (sInt w64))) (oInt w64 _) 11 (sc-here (sInt w64)) (tyInt w64) (valS (sInt w64)) (sInt w64 .of) (reads-sc 𝓤 H A W (sInt w64), refl) tt (room-sc 𝓤 H A W (sInt w64)) (holds-sc 𝓤 H A W (sInt w64)) refl (λ u. refl) (λ u. tt)) (g-room 𝓤 H A W E (G20 κs qs) 13 tyBool (room-sc 𝓤 H A W sBool)))))) $
       stmt (G5 κs qs) _ (t-use 𝓤 H A W E 𝓣 (G5 κs qs) oUnit 0 (sc-here sUnit) tyUnit (valS sUnit) (sUnit .of) tt (room-gone 𝓤 H A tyUnit) (holds-sc 𝓤 H A W sUnit) refl (λ u. refl) (λ u. tt)) $

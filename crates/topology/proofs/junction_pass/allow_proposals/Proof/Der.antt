@@ -103,9 +103,6 @@ module _ (κs : Lfts 5) (qs : Shares 5) where
   abbrev pub G22 : Cx
   G22 = patched ((6, row4) ∷ (7, row1) ∷ (10, row2) ∷ (13, row6) ∷ (14, row7) ∷ []) ((4, off) ∷ (5, alive) ∷ []) G0
 
-  abbrev pub G25 : Cx
-  G25 = patched ((7, row1) ∷ (10, row2) ∷ []) ((5, dead) ∷ []) G0
-
   abbrev pub G31 : Cx
   G31 = patched ((0, row6) ∷ (5, (any-gone (ty 5))) ∷ []) ([]) G0
 
@@ -141,8 +138,8 @@ module _ {M : Type 1} (𝓤 : URA M) (H : Heap 𝓤) (A : Atoms 𝓤) (W : Given
       stmt (G21 κs qs) (G22 κs qs) (t-call-plain 𝓤 H A W 𝓣 1 K4.ps K4.r R4.Asked R4.Learnt "topology::entries::put_allowed" known4 E (λ pos β. β) (G21 κs qs) (record { pos = 14; ty = tyRef erased mut (tyArray tyBool 426); ref = λ x. x }, (vAt 7 (λ x. x), (bAt 10 (λ x. x), tt))) 13 (5 ∷ []) (sub-id 𝓤 H A W ((G21 κs qs) .slots)) (as-is 𝓤 H A (mref (Array (rtF fBool) 426) (tyRef erased mut (tyArray tyBool 426)) 5), reads-mref 𝓤 H A W (Array (rtF fBool) 426) (tyRef erased mut (tyArray tyBool 426)) 5, refl, ((reads-sc 𝓤 H A W (sInt w64), refl), ((reads-sc 𝓤 H A W sBool, refl), tt))) (room-gone 𝓤 H A tyUnit) _ refl) $
       ghosts (G22 κs qs) _ (g-room 𝓤 H A W E (G22 κs qs) 13 tyUnit (room-sc 𝓤 H A W sUnit)) $
       ghosts _ _ (g-end 𝓤 H A W E _ 5 refl) $
-      ghosts _ (G25 κs qs) (g-back-mref 𝓤 H A W E _ 14 6 4 5 (Array (rtF fBool) 426) (tyRef (named 4) mut (tyArray tyBool 426)) (tyRef erased mut (tyArray tyBool 426)) (lease (κs .1 .1 .1 .1 .0) (qs .1 .1 .1 .1 .0)) (λ x. x) (λ x. x) (as-is 𝓤 H A (mleft (Array (rtF fBool) 426) (tyRef erased mut (tyArray tyBool 426)))) (as-is 𝓤 H A (mref-owed (Array (rtF fBool) 426) (tyRef (named 4) mut (tyArray tyBool 426)) 4 5 (lease (κs .1 .1 .1 .1 .0) (qs .1 .1 .1 .1 .0)))) refl refl) $
-      ghosts (G25 κs qs) (G19 κs qs) (g-forget 𝓤 H A W E (G25 κs qs) 5 dead refl) $
+      ghosts _ _ (g-back-mref 𝓤 H A W E _ 14 6 4 5 (Array (rtF fBool) 426) (tyRef (named 4) mut (tyArray tyBool 426)) (tyRef erased mut (tyArray tyBool 426)) (lease (κs .1 .1 .1 .1 .0) (qs .1 .1 .1 .1 .0)) (λ x. x) (λ x. x) (as-is 𝓤 H A (mleft (Array (rtF fBool) 426) (tyRef erased mut (tyArray tyBool 426)))) (as-is 𝓤 H A (mref-owed (Array (rtF fBool) 426) (tyRef (named 4) mut (tyArray tyBool 426)) 4 5 (lease (κs .1 .1 .1 .1 .0) (qs .1 .1 .1 .1 .0)))) refl refl) $
+      ghosts _ (G19 κs qs) (g-forget 𝓤 H A W E _ 5 dead refl) $
       last (G19 κs qs) (G5 κs qs) (then W (G19 κs qs) (G19 κs qs) (G5 κs qs) (t-op2 𝓤 H A W E 𝓣 (G19 κs qs) (add unsigned) (oAt 7 (tyInt w64) (valS (sInt w64))) (oInt w64 _) 7 (sc-here (sInt w64)) (tyInt w64) (valS (sInt w64)) (sInt w64 .of) (reads-sc 𝓤 H A W (sInt w64), refl) tt (room-sc 𝓤 H A W (sInt w64)) (holds-sc 𝓤 H A W (sInt w64)) refl (λ u. refl) (λ u. tt)) (g-room 𝓤 H A W E (G19 κs qs) 10 tyBool (room-sc 𝓤 H A W sBool)))))) $
       stmt (G5 κs qs) _ (t-use 𝓤 H A W E 𝓣 (G5 κs qs) oUnit 0 (sc-here sUnit) tyUnit (valS sUnit) (sUnit .of) tt (room-gone 𝓤 H A tyUnit) (holds-sc 𝓤 H A W sUnit) refl (λ u. refl) (λ u. tt)) $
       ghosts _ _ (g-room 𝓤 H A W E _ 7 (tyInt w64) (room-sc 𝓤 H A W (sInt w64))) $

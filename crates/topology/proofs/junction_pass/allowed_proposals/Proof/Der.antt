@@ -69,23 +69,14 @@ module _ (κs : Lfts 8) (qs : Shares 8) where
   abbrev pub G13 : Cx
   G13 = patched ((11, row4) ∷ []) ([]) G0
 
-  abbrev pub G16 : Cx
-  G16 = patched ((9, row6) ∷ (11, row4) ∷ (16, row8) ∷ []) ((6, off) ∷ (9, alive) ∷ []) G0
-
   abbrev pub G18 : Cx
   G18 = patched ((9, row6) ∷ (10, row9) ∷ (11, row4) ∷ (16, row8) ∷ (17, row10) ∷ []) ((6, off) ∷ (7, off) ∷ (9, alive) ∷ (10, alive) ∷ []) G0
 
   abbrev pub G19 : Cx
   G19 = patched ((9, row6) ∷ (10, row9) ∷ (11, row4) ∷ (14, row11) ∷ (16, row8) ∷ (17, row12) ∷ []) ((6, off) ∷ (7, off) ∷ (9, alive) ∷ (10, alive) ∷ []) G0
 
-  abbrev pub G22 : Cx
-  G22 = patched ((9, row6) ∷ (10, row9) ∷ (11, row4) ∷ (17, row12) ∷ []) ((6, off) ∷ (7, off) ∷ (9, dead) ∷ (10, alive) ∷ []) G0
-
-  abbrev pub G25 : Cx
-  G25 = patched ((10, row9) ∷ (11, row4) ∷ (17, row12) ∷ []) ((7, off) ∷ (10, dead) ∷ []) G0
-
-  abbrev pub G30 : Cx
-  G30 = patched ((0, row4) ∷ (2, (any-gone (ty 2))) ∷ []) ([]) G0
+  abbrev pub G24 : Cx
+  G24 = patched ((10, row9) ∷ (11, row4) ∷ (17, row12) ∷ []) ((7, off) ∷ (10, alive) ∷ []) G0
 
   abbrev pub G31 : Cx
   G31 = patched ((0, row4) ∷ (2, (any-gone (ty 2))) ∷ (3, (any-gone (ty 3))) ∷ []) ([]) G0
@@ -106,22 +97,22 @@ module _ {M : Type 1} (𝓤 : URA M) (H : Heap 𝓤) (A : Atoms 𝓤) (W : Given
       ghosts _ (G13 κs qs) (g-forget 𝓤 H A W E _ 8 dead refl) $
       ghosts (G13 κs qs) _ (g-begin 𝓤 H A W E (G13 κs qs) 9 _) $
       stmt _ _ (t-sl-reshare 𝓤 H A W E (rtF (fInt w32)) 𝓣 _ 9 15 6 9 (tyRef (named 6) mut (tyInt w32)) (tyRef erased imm (tyInt w32)) (lease (κs .1 .1 .1 .1 .1 .1 .0) (qs .1 .1 .1 .1 .1 .1 .0)) 0 (λ x. x) (as-is 𝓤 H A (mslice (rtF (fInt w32)) (tyRef (named 6) mut (tyInt w32)) 6)) (room-gone 𝓤 H A (tyRef erased imm (tyInt w32))) refl tt refl refl refl (λ b o. tt)) $
-      stmt _ (G16 κs qs) (t-sl-aggregate 𝓤 H A W E (rtF (fInt w32)) 𝓣 (asShr (rtF (fInt w32))) _ 15 16 9 (tyRef erased imm (tyInt w32)) (tyRef erased imm (tyInt w32)) (λ x. x) (oFld 9 (field 1 ∷ []) (tyInt w64) 8 (λ v. lenV (v .0))) (as-is 𝓤 H A (ssptr (rtF (fInt w32)) (tyRef erased imm (tyInt w32)) 9)) (room-gone 𝓤 H A _) (reads-owedS-len 𝓤 H A W (rtF (fInt w32)) (tyRef (named 6) mut (tyInt w32)) 6 9 (lease (κs .1 .1 .1 .1 .1 .1 .0) (qs .1 .1 .1 .1 .1 .1 .0)) 8 refl, refl) refl refl (λ b o k. tt)) $
-      ghosts (G16 κs qs) _ (g-begin 𝓤 H A W E (G16 κs qs) 10 _) $
+      stmt _ _ (t-sl-aggregate 𝓤 H A W E (rtF (fInt w32)) 𝓣 (asShr (rtF (fInt w32))) _ 15 16 9 (tyRef erased imm (tyInt w32)) (tyRef erased imm (tyInt w32)) (λ x. x) (oFld 9 (field 1 ∷ []) (tyInt w64) 8 (λ v. lenV (v .0))) (as-is 𝓤 H A (ssptr (rtF (fInt w32)) (tyRef erased imm (tyInt w32)) 9)) (room-gone 𝓤 H A _) (reads-owedS-len 𝓤 H A W (rtF (fInt w32)) (tyRef (named 6) mut (tyInt w32)) 6 9 (lease (κs .1 .1 .1 .1 .1 .1 .0) (qs .1 .1 .1 .1 .1 .1 .0)) 8 refl, refl) refl refl (λ b o k. tt)) $
+      ghosts _ _ (g-begin 𝓤 H A W E _ 10 _) $
       stmt _ (G18 κs qs) (t-mref-relend 𝓤 H A W E 𝓣 _ 10 17 7 10 (Array (rtF fBool) 426) (tyArray tyBool 426) (tyRef (named 7) mut (tyArray tyBool 426)) (tyRef erased mut (tyArray tyBool 426)) (lease (κs .1 .1 .1 .1 .1 .1 .1 .0) (qs .1 .1 .1 .1 .1 .1 .1 .0)) (λ x. x) (as-is 𝓤 H A (mref (Array (rtF fBool) 426) (tyRef (named 7) mut (tyArray tyBool 426)) 7)) (room-gone 𝓤 H A (tyRef erased mut (tyArray tyBool 426))) refl tt refl refl (λ b o. tt)) $
       stmt (G18 κs qs) (G19 κs qs) (t-call-plain 𝓤 H A W 𝓣 5 K1.ps K1.r K1.Asked K1.Learnt "topology::junction_pass::allow_proposals" known1 E (λ pos β. β) (G18 κs qs) (record { pos = 1; ty = tyRef (named 0) imm (pointee (twin-0.the-row .written)); ref = λ x. x }, (record { pos = 4; ty = tyRef (named 1) imm (tyInt w64); ref = λ x. x }, (record { pos = 8; ty = tyRef (named 5) imm (tyInt w16); ref = λ x. x }, (record { pos = 16; ty = tyRef erased imm (tyInt w32); ref = λ x. x }, (vAt 11 (λ x. x), (record { pos = 17; ty = tyRef erased mut (tyArray tyBool 426); ref = λ x. x }, tt)))))) 14 (0 ∷ 1 ∷ 5 ∷ 9 ∷ 10 ∷ []) (sub-id 𝓤 H A W ((G18 κs qs) .slots)) (spares-sslice 𝓤 H A W twin-0.the-row (tyRef (named 0) imm (pointee (twin-0.the-row .written))) 0, reads-sslice 𝓤 H A W twin-0.the-row (tyRef (named 0) imm (pointee (twin-0.the-row .written))) 0, refl, (spares-sslice 𝓤 H A W (rtF (fInt w64)) (tyRef (named 1) imm (tyInt w64)) 1, reads-sslice 𝓤 H A W (rtF (fInt w64)) (tyRef (named 1) imm (tyInt w64)) 1, refl, (spares-sslice 𝓤 H A W (rtF (fInt w16)) (tyRef (named 5) imm (tyInt w16)) 5, reads-sslice 𝓤 H A W (rtF (fInt w16)) (tyRef (named 5) imm (tyInt w16)) 5, refl, (spares-sslice 𝓤 H A W (rtF (fInt w32)) (tyRef erased imm (tyInt w32)) 9, reads-sslice 𝓤 H A W (rtF (fInt w32)) (tyRef erased imm (tyInt w32)) 9, refl, ((reads-sc 𝓤 H A W (sInt w64), refl), (as-is 𝓤 H A (mref (Array (rtF fBool) 426) (tyRef erased mut (tyArray tyBool 426)) 10), reads-mref 𝓤 H A W (Array (rtF fBool) 426) (tyRef erased mut (tyArray tyBool 426)) 10, refl, tt)))))) (room-gone 𝓤 H A tyUnit) _ refl) $
       ghosts (G19 κs qs) _ (g-room 𝓤 H A W E (G19 κs qs) 16 _ (room-sslice 𝓤 H A W (rtF (fInt w32)) (tyRef erased imm (tyInt w32)) 9)) $
       ghosts _ _ (g-room 𝓤 H A W E _ 14 tyUnit (room-sc 𝓤 H A W sUnit)) $
-      ghosts _ (G22 κs qs) (g-end 𝓤 H A W E _ 9 refl) $
-      ghosts (G22 κs qs) _ (g-back-sl-shr 𝓤 H A W E (rtF (fInt w32)) (G22 κs qs) 9 6 9 (tyRef (named 6) mut (tyInt w32)) (lease (κs .1 .1 .1 .1 .1 .1 .0) (qs .1 .1 .1 .1 .1 .1 .0)) (λ x. x) (as-is 𝓤 H A (mslice-owedS (rtF (fInt w32)) (tyRef (named 6) mut (tyInt w32)) 6 9 (lease (κs .1 .1 .1 .1 .1 .1 .0) (qs .1 .1 .1 .1 .1 .1 .0)))) refl refl) $
-      ghosts _ _ (g-forget 𝓤 H A W E _ 9 dead refl) $
-      ghosts _ (G25 κs qs) (g-end 𝓤 H A W E _ 10 refl) $
-      ghosts (G25 κs qs) _ (g-back-mref 𝓤 H A W E (G25 κs qs) 17 10 7 10 (Array (rtF fBool) 426) (tyRef (named 7) mut (tyArray tyBool 426)) (tyRef erased mut (tyArray tyBool 426)) (lease (κs .1 .1 .1 .1 .1 .1 .1 .0) (qs .1 .1 .1 .1 .1 .1 .1 .0)) (λ x. x) (λ x. x) (as-is 𝓤 H A (mleft (Array (rtF fBool) 426) (tyRef erased mut (tyArray tyBool 426)))) (as-is 𝓤 H A (mref-owed (Array (rtF fBool) 426) (tyRef (named 7) mut (tyArray tyBool 426)) 7 10 (lease (κs .1 .1 .1 .1 .1 .1 .1 .0) (qs .1 .1 .1 .1 .1 .1 .1 .0)))) refl refl) $
+      ghosts _ _ (g-end 𝓤 H A W E _ 9 refl) $
+      ghosts _ _ (g-back-sl-shr 𝓤 H A W E (rtF (fInt w32)) _ 9 6 9 (tyRef (named 6) mut (tyInt w32)) (lease (κs .1 .1 .1 .1 .1 .1 .0) (qs .1 .1 .1 .1 .1 .1 .0)) (λ x. x) (as-is 𝓤 H A (mslice-owedS (rtF (fInt w32)) (tyRef (named 6) mut (tyInt w32)) 6 9 (lease (κs .1 .1 .1 .1 .1 .1 .0) (qs .1 .1 .1 .1 .1 .1 .0)))) refl refl) $
+      ghosts _ (G24 κs qs) (g-forget 𝓤 H A W E _ 9 dead refl) $
+      ghosts (G24 κs qs) _ (g-end 𝓤 H A W E (G24 κs qs) 10 refl) $
+      ghosts _ _ (g-back-mref 𝓤 H A W E _ 17 10 7 10 (Array (rtF fBool) 426) (tyRef (named 7) mut (tyArray tyBool 426)) (tyRef erased mut (tyArray tyBool 426)) (lease (κs .1 .1 .1 .1 .1 .1 .1 .0) (qs .1 .1 .1 .1 .1 .1 .1 .0)) (λ x. x) (λ x. x) (as-is 𝓤 H A (mleft (Array (rtF fBool) 426) (tyRef erased mut (tyArray tyBool 426)))) (as-is 𝓤 H A (mref-owed (Array (rtF fBool) 426) (tyRef (named 7) mut (tyArray tyBool 426)) 7 10 (lease (κs .1 .1 .1 .1 .1 .1 .1 .0) (qs .1 .1 .1 .1 .1 .1 .1 .0)))) refl refl) $
       ghosts _ (G13 κs qs) (g-forget 𝓤 H A W E _ 10 dead refl) $
       stmt (G13 κs qs) _ (t-use 𝓤 H A W E 𝓣 (G13 κs qs) (oAt 11 (tyInt w64) (valS (sInt w64))) 0 (sc-here (sInt w64)) (tyInt w64) (valS (sInt w64)) (sInt w64 .of) (reads-sc 𝓤 H A W (sInt w64), refl) (room-gone 𝓤 H A (tyInt w64)) (holds-sc 𝓤 H A W (sInt w64)) refl (λ u. refl) (λ u. tt)) $
       ghosts _ _ (g-room 𝓤 H A W E _ 11 (tyInt w64) (room-sc 𝓤 H A W (sInt w64))) $
-      ghosts _ (G30 κs qs) (g-room 𝓤 H A W E _ 2 (tyInt w64) (room-sc 𝓤 H A W (sInt w64))) $
-      ghosts (G30 κs qs) (G31 κs qs) (g-room 𝓤 H A W E (G30 κs qs) 3 (tyInt w64) (room-sc 𝓤 H A W (sInt w64))) $
+      ghosts _ _ (g-room 𝓤 H A W E _ 2 (tyInt w64) (room-sc 𝓤 H A W (sInt w64))) $
+      ghosts _ (G31 κs qs) (g-room 𝓤 H A W E _ 3 (tyInt w64) (room-sc 𝓤 H A W (sInt w64))) $
       rets
 
 -- the derivations at a model

@@ -45,9 +45,6 @@ module _ (κs : Lfts 7) (qs : Shares 7) where
   abbrev row5 : Row
   row5 = arr-owed (rtF (fInt w32)) 1704 7
 
-  abbrev row6 : Row
-  row6 = msptr (rtF (fInt w32)) (tyRef erased mut (tyArray (tyInt w32) 1704)) 7
-
   abbrev row7 : Row
   row7 = mslice (rtF (fInt w32)) (tyRef erased mut (tyInt w32)) 7
 
@@ -96,8 +93,8 @@ module _ (κs : Lfts 7) (qs : Shares 7) where
   abbrev pub G7 : Cx
   G7 = patched ((10, row2) ∷ (11, row3) ∷ []) ([]) G0
 
-  abbrev pub G10 : Cx
-  G10 = patched ((10, row5) ∷ (11, row4) ∷ (13, row6) ∷ []) ((7, alive) ∷ []) G0
+  abbrev pub G12 : Cx
+  G12 = patched ((10, row5) ∷ (11, row4) ∷ (14, row7) ∷ []) ((7, alive) ∷ (8, alive) ∷ []) G0
 
   abbrev pub G13 : Cx
   G13 = patched ((10, row5) ∷ (11, row8) ∷ (14, row7) ∷ (15, row9) ∷ []) ((7, alive) ∷ (8, alive) ∷ []) G0
@@ -105,17 +102,11 @@ module _ (κs : Lfts 7) (qs : Shares 7) where
   abbrev pub G14 : Cx
   G14 = patched ((10, row5) ∷ (11, row8) ∷ (12, row10) ∷ (14, row11) ∷ (15, row12) ∷ []) ((7, alive) ∷ (8, alive) ∷ []) G0
 
-  abbrev pub G17 : Cx
-  G17 = patched ((10, row2) ∷ (11, row8) ∷ (12, row10) ∷ (15, row12) ∷ []) ((8, alive) ∷ []) G0
+  abbrev pub G19 : Cx
+  G19 = patched ((10, row2) ∷ (11, row4) ∷ (12, row10) ∷ []) ((8, dead) ∷ []) G0
 
-  abbrev pub G20 : Cx
-  G20 = patched ((10, row2) ∷ (11, row4) ∷ (12, row10) ∷ []) ([]) G0
-
-  abbrev pub G23 : Cx
-  G23 = patched ((10, row13) ∷ (11, row4) ∷ (12, row10) ∷ (18, row15) ∷ []) ((9, alive) ∷ []) G0
-
-  abbrev pub G26 : Cx
-  G26 = patched ((10, row13) ∷ (11, row16) ∷ (12, row10) ∷ (18, row15) ∷ (20, row18) ∷ []) ((9, alive) ∷ (10, alive) ∷ []) G0
+  abbrev pub G24 : Cx
+  G24 = patched ((10, row13) ∷ (11, row4) ∷ (12, row10) ∷ (18, row15) ∷ []) ((9, alive) ∷ (10, alive) ∷ []) G0
 
   abbrev pub G27 : Cx
   G27 = patched ((10, row13) ∷ (11, row16) ∷ (12, row10) ∷ (18, row15) ∷ (20, row18) ∷ []) ((9, alive) ∷ (10, alive) ∷ (11, alive) ∷ []) G0
@@ -126,20 +117,17 @@ module _ (κs : Lfts 7) (qs : Shares 7) where
   abbrev pub G30 : Cx
   G30 = patched ((9, row19) ∷ (10, row13) ∷ (11, row16) ∷ (12, row10) ∷ (16, row22) ∷ (18, row15) ∷ (20, row18) ∷ (22, row23) ∷ []) ((6, off) ∷ (9, alive) ∷ (10, alive) ∷ (11, alive) ∷ []) G0
 
-  abbrev pub G33 : Cx
-  G33 = patched ((9, row19) ∷ (10, row13) ∷ (11, row16) ∷ (12, row10) ∷ (22, row23) ∷ []) ((6, off) ∷ (9, alive) ∷ (10, alive) ∷ (11, alive) ∷ []) G0
+  abbrev pub G35 : Cx
+  G35 = patched ((9, row19) ∷ (10, row2) ∷ (11, row16) ∷ (12, row10) ∷ (22, row23) ∷ []) ((6, off) ∷ (9, dead) ∷ (10, alive) ∷ (11, alive) ∷ []) G0
 
-  abbrev pub G36 : Cx
-  G36 = patched ((9, row19) ∷ (10, row2) ∷ (11, row16) ∷ (12, row10) ∷ (22, row23) ∷ []) ((6, off) ∷ (10, alive) ∷ (11, alive) ∷ []) G0
-
-  abbrev pub G39 : Cx
-  G39 = patched ((9, row19) ∷ (11, row4) ∷ (12, row10) ∷ (22, row23) ∷ []) ((6, off) ∷ (10, dead) ∷ (11, alive) ∷ []) G0
+  abbrev pub G40 : Cx
+  G40 = patched ((9, row19) ∷ (11, row4) ∷ (12, row10) ∷ (22, row23) ∷ []) ((6, off) ∷ (11, alive) ∷ []) G0
 
   abbrev pub G42 : Cx
   G42 = patched ((9, row19) ∷ (12, row10) ∷ (22, row23) ∷ []) ((6, off) ∷ (11, dead) ∷ []) G0
 
-  abbrev pub G45 : Cx
-  G45 = patched ((0, row22) ∷ (12, row10) ∷ []) ([]) G0
+  abbrev pub G47 : Cx
+  G47 = patched ((0, row22) ∷ (2, (any-gone (ty 2))) ∷ []) ([]) G0
 
   abbrev pub G48 : Cx
   G48 = patched ((0, row22) ∷ (2, (any-gone (ty 2))) ∷ (3, (any-gone (ty 3))) ∷ []) ([]) G0
@@ -156,45 +144,45 @@ module _ {M : Type 1} (𝓤 : URA M) (H : Heap 𝓤) (A : Atoms 𝓤) (W : Given
       stmt _ (G7 κs qs) (t-repeat 𝓤 H A W E 𝓣 (rtF fBool) (bool-lawful 𝓤 H A W) (cRf fBool .copy 𝓤 H A W) (bool-makes 𝓤 H A W) 426 _ 11 (oBool false) (λ m. false) (room-gone 𝓤 H A (tyArray tyBool 426)) tt refl (λ m wa. refl)) $
       ghosts (G7 κs qs) _ (g-as-by 𝓤 H A W E (λ ρ. Unit) (G7 κs qs) 11 (arrF (rtF fBool) 426 0) (λ x. x) (told-none 𝓤 H A ((G7 κs qs) .slots)) (λ ρ told. whole-arr 𝓤 H A W (rtF fBool) 426 tt ρ)) $
       ghosts _ _ (g-begin 𝓤 H A W E _ 7 _) $
-      stmt _ (G10 κs qs) (t-arr-borrow 𝓤 H A W E 𝓣 (rtF (fInt w32)) _ 10 13 1704 7 (tyRef erased mut (tyArray (tyInt w32) 1704)) (λ x. x) (as-is 𝓤 H A (arrF (rtF (fInt w32)) 1704 0)) (room-gone 𝓤 H A (tyRef erased mut (tyArray (tyInt w32) 1704))) refl (λ b o. tt) (lit< tt, lit< tt)) $
-      stmt (G10 κs qs) _ (t-sl-aggregate 𝓤 H A W E (rtF (fInt w32)) 𝓣 (asMut (rtF (fInt w32))) (G10 κs qs) 13 14 7 (tyRef erased mut (tyArray (tyInt w32) 1704)) (tyRef erased mut (tyInt w32)) (λ x. x) (oBig w64 1704) (as-is 𝓤 H A (msptr (rtF (fInt w32)) (tyRef erased mut (tyArray (tyInt w32) 1704)) 7)) (room-gone 𝓤 H A _) record { lower = record { fits = lit< tt } } refl refl (λ b o k. tt)) $
-      ghosts _ _ (g-begin 𝓤 H A W E _ 8 _) $
-      stmt _ (G13 κs qs) (t-sc-borrow 𝓤 H A W E 𝓣 _ 11 15 8 (Array (rtF fBool) 426) (tyRef erased mut (tyArray tyBool 426)) (λ x. x) (mem-arr 𝓤 H A W (rtF fBool) 426) (room-gone 𝓤 H A (tyRef erased mut (tyArray tyBool 426))) refl (λ b o. tt)) $
+      stmt _ _ (t-arr-borrow 𝓤 H A W E 𝓣 (rtF (fInt w32)) _ 10 13 1704 7 (tyRef erased mut (tyArray (tyInt w32) 1704)) (λ x. x) (as-is 𝓤 H A (arrF (rtF (fInt w32)) 1704 0)) (room-gone 𝓤 H A (tyRef erased mut (tyArray (tyInt w32) 1704))) refl (λ b o. tt) (lit< tt, lit< tt)) $
+      stmt _ _ (t-sl-aggregate 𝓤 H A W E (rtF (fInt w32)) 𝓣 (asMut (rtF (fInt w32))) _ 13 14 7 (tyRef erased mut (tyArray (tyInt w32) 1704)) (tyRef erased mut (tyInt w32)) (λ x. x) (oBig w64 1704) (as-is 𝓤 H A (msptr (rtF (fInt w32)) (tyRef erased mut (tyArray (tyInt w32) 1704)) 7)) (room-gone 𝓤 H A _) record { lower = record { fits = lit< tt } } refl refl (λ b o k. tt)) $
+      ghosts _ (G12 κs qs) (g-begin 𝓤 H A W E _ 8 _) $
+      stmt (G12 κs qs) (G13 κs qs) (t-sc-borrow 𝓤 H A W E 𝓣 (G12 κs qs) 11 15 8 (Array (rtF fBool) 426) (tyRef erased mut (tyArray tyBool 426)) (λ x. x) (mem-arr 𝓤 H A W (rtF fBool) 426) (room-gone 𝓤 H A (tyRef erased mut (tyArray tyBool 426))) refl (λ b o. tt)) $
       stmt (G13 κs qs) (G14 κs qs) (t-call-plain 𝓤 H A W 𝓣 8 K0.ps K0.r K0.Asked K0.Learnt "topology::junction_pass::allowed_proposals" known0 E (λ pos β. β) (G13 κs qs) (record { pos = 1; ty = tyRef (named 0) imm (pointee (twin-0.the-row .written)); ref = λ x. x }, (vAt 2 (λ x. x), (vAt 3 (λ x. x), (record { pos = 4; ty = tyRef (named 1) imm (tyInt w64); ref = λ x. x }, (record { pos = 5; ty = tyRef (named 2) imm (tyArray (tyInt w32) 256); ref = λ x. x }, (record { pos = 6; ty = tyRef (named 3) imm (tyArray (tyInt w32) 256); ref = λ x. x }, (record { pos = 7; ty = tyRef (named 4) imm (tyInt w32); ref = λ x. x }, (record { pos = 8; ty = tyRef (named 5) imm (tyInt w16); ref = λ x. x }, (record { pos = 14; ty = tyRef erased mut (tyInt w32); ref = λ x. x }, (record { pos = 15; ty = tyRef erased mut (tyArray tyBool 426); ref = λ x. x }, tt)))))))))) 12 (0 ∷ 1 ∷ 2 ∷ 3 ∷ 4 ∷ 5 ∷ 7 ∷ 8 ∷ []) (sub-id 𝓤 H A W ((G13 κs qs) .slots)) (spares-sslice 𝓤 H A W twin-0.the-row (tyRef (named 0) imm (pointee (twin-0.the-row .written))) 0, reads-sslice 𝓤 H A W twin-0.the-row (tyRef (named 0) imm (pointee (twin-0.the-row .written))) 0, refl, ((reads-sc 𝓤 H A W (sInt w64), refl), ((reads-sc 𝓤 H A W (sInt w64), refl), (spares-sslice 𝓤 H A W (rtF (fInt w64)) (tyRef (named 1) imm (tyInt w64)) 1, reads-sslice 𝓤 H A W (rtF (fInt w64)) (tyRef (named 1) imm (tyInt w64)) 1, refl, (spares-sref 𝓤 H A W (Array (rtF (fInt w32)) 256) (tyRef (named 2) imm (tyArray (tyInt w32) 256)) 2, reads-sref 𝓤 H A W (Array (rtF (fInt w32)) 256) (tyRef (named 2) imm (tyArray (tyInt w32) 256)) 2, refl, (spares-sref 𝓤 H A W (Array (rtF (fInt w32)) 256) (tyRef (named 3) imm (tyArray (tyInt w32) 256)) 3, reads-sref 𝓤 H A W (Array (rtF (fInt w32)) 256) (tyRef (named 3) imm (tyArray (tyInt w32) 256)) 3, refl, (spares-sslice 𝓤 H A W (rtF (fInt w32)) (tyRef (named 4) imm (tyInt w32)) 4, reads-sslice 𝓤 H A W (rtF (fInt w32)) (tyRef (named 4) imm (tyInt w32)) 4, refl, (spares-sslice 𝓤 H A W (rtF (fInt w16)) (tyRef (named 5) imm (tyInt w16)) 5, reads-sslice 𝓤 H A W (rtF (fInt w16)) (tyRef (named 5) imm (tyInt w16)) 5, refl, (as-is 𝓤 H A (mslice (rtF (fInt w32)) (tyRef erased mut (tyInt w32)) 7), reads-mslice 𝓤 H A W (rtF (fInt w32)) (tyRef erased mut (tyInt w32)) 7, refl, (as-is 𝓤 H A (mref (Array (rtF fBool) 426) (tyRef erased mut (tyArray tyBool 426)) 8), reads-mref 𝓤 H A W (Array (rtF fBool) 426) (tyRef erased mut (tyArray tyBool 426)) 8, refl, tt)))))))))) (room-gone 𝓤 H A (tyInt w64)) _ refl) $
       ghosts (G14 κs qs) _ (g-end 𝓤 H A W E (G14 κs qs) 7 refl) $
       ghosts _ _ (g-back-arr 𝓤 H A W E (rtF (fInt w32)) _ 14 10 7 1704 (tyRef erased mut (tyInt w32)) (λ x. x) (λ x. x) (as-is 𝓤 H A (msleft (rtF (fInt w32)) (tyRef erased mut (tyInt w32)))) (as-is 𝓤 H A (arr-owed (rtF (fInt w32)) 1704 7)) refl) $
-      ghosts _ (G17 κs qs) (g-forget 𝓤 H A W E _ 7 dead refl) $
-      ghosts (G17 κs qs) _ (g-end 𝓤 H A W E (G17 κs qs) 8 refl) $
-      ghosts _ _ (g-back-sc 𝓤 H A W E _ 15 11 8 (Array (rtF fBool) 426) (tyRef erased mut (tyArray tyBool 426)) (arrF (rtF fBool) 426 0) (λ x. x) (λ x. x) (λ x. x) (as-is 𝓤 H A (mleft (Array (rtF fBool) 426) (tyRef erased mut (tyArray tyBool 426)))) (as-is 𝓤 H A (sc-owed (Array (rtF fBool) 426) 8)) (arr-mem 𝓤 H A W (rtF fBool) 426 tt) refl) $
-      ghosts _ (G20 κs qs) (g-forget 𝓤 H A W E _ 8 dead refl) $
-      ghosts (G20 κs qs) _ (g-begin 𝓤 H A W E (G20 κs qs) 9 _) $
+      ghosts _ _ (g-forget 𝓤 H A W E _ 7 dead refl) $
+      ghosts _ _ (g-end 𝓤 H A W E _ 8 refl) $
+      ghosts _ (G19 κs qs) (g-back-sc 𝓤 H A W E _ 15 11 8 (Array (rtF fBool) 426) (tyRef erased mut (tyArray tyBool 426)) (arrF (rtF fBool) 426 0) (λ x. x) (λ x. x) (λ x. x) (as-is 𝓤 H A (mleft (Array (rtF fBool) 426) (tyRef erased mut (tyArray tyBool 426)))) (as-is 𝓤 H A (sc-owed (Array (rtF fBool) 426) 8)) (arr-mem 𝓤 H A W (rtF fBool) 426 tt) refl) $
+      ghosts (G19 κs qs) _ (g-forget 𝓤 H A W E (G19 κs qs) 8 dead refl) $
+      ghosts _ _ (g-begin 𝓤 H A W E _ 9 _) $
       stmt _ _ (t-arr-share 𝓤 H A W E 𝓣 (rtF (fInt w32)) _ 10 17 1704 9 (tyRef erased imm (tyArray (tyInt w32) 1704)) (λ x. x) (as-is 𝓤 H A (arrF (rtF (fInt w32)) 1704 0)) (room-gone 𝓤 H A (tyRef erased imm (tyArray (tyInt w32) 1704))) refl (λ b o. tt) (lit< tt, lit< tt)) $
-      stmt _ (G23 κs qs) (t-sl-aggregate 𝓤 H A W E (rtF (fInt w32)) 𝓣 (asShr (rtF (fInt w32))) _ 17 18 9 (tyRef erased imm (tyArray (tyInt w32) 1704)) (tyRef erased imm (tyInt w32)) (λ x. x) (oBig w64 1704) (as-is 𝓤 H A (ssptr (rtF (fInt w32)) (tyRef erased imm (tyArray (tyInt w32) 1704)) 9)) (room-gone 𝓤 H A _) record { lower = record { fits = lit< tt } } refl refl (λ b o k. tt)) $
-      ghosts (G23 κs qs) _ (g-begin 𝓤 H A W E (G23 κs qs) 10 _) $
-      stmt _ _ (t-arr-share 𝓤 H A W E 𝓣 (rtF fBool) _ 11 19 426 10 (tyRef erased imm (tyArray tyBool 426)) (λ x. x) (as-is 𝓤 H A (arrF (rtF fBool) 426 0)) (room-gone 𝓤 H A (tyRef erased imm (tyArray tyBool 426))) refl (λ b o. tt) (lit< tt, lit< tt)) $
-      stmt _ (G26 κs qs) (t-sl-aggregate 𝓤 H A W E (rtF fBool) 𝓣 (asShr (rtF fBool)) _ 19 20 10 (tyRef erased imm (tyArray tyBool 426)) (tyRef erased imm tyBool) (λ x. x) (oInt w64 _) (as-is 𝓤 H A (ssptr (rtF fBool) (tyRef erased imm (tyArray tyBool 426)) 10)) (room-gone 𝓤 H A _) tt refl refl (λ b o k. tt)) $
-      ghosts (G26 κs qs) (G27 κs qs) (g-begin 𝓤 H A W E (G26 κs qs) 11 _) $
+      stmt _ _ (t-sl-aggregate 𝓤 H A W E (rtF (fInt w32)) 𝓣 (asShr (rtF (fInt w32))) _ 17 18 9 (tyRef erased imm (tyArray (tyInt w32) 1704)) (tyRef erased imm (tyInt w32)) (λ x. x) (oBig w64 1704) (as-is 𝓤 H A (ssptr (rtF (fInt w32)) (tyRef erased imm (tyArray (tyInt w32) 1704)) 9)) (room-gone 𝓤 H A _) record { lower = record { fits = lit< tt } } refl refl (λ b o k. tt)) $
+      ghosts _ (G24 κs qs) (g-begin 𝓤 H A W E _ 10 _) $
+      stmt (G24 κs qs) _ (t-arr-share 𝓤 H A W E 𝓣 (rtF fBool) (G24 κs qs) 11 19 426 10 (tyRef erased imm (tyArray tyBool 426)) (λ x. x) (as-is 𝓤 H A (arrF (rtF fBool) 426 0)) (room-gone 𝓤 H A (tyRef erased imm (tyArray tyBool 426))) refl (λ b o. tt) (lit< tt, lit< tt)) $
+      stmt _ _ (t-sl-aggregate 𝓤 H A W E (rtF fBool) 𝓣 (asShr (rtF fBool)) _ 19 20 10 (tyRef erased imm (tyArray tyBool 426)) (tyRef erased imm tyBool) (λ x. x) (oInt w64 _) (as-is 𝓤 H A (ssptr (rtF fBool) (tyRef erased imm (tyArray tyBool 426)) 10)) (room-gone 𝓤 H A _) tt refl refl (λ b o k. tt)) $
+      ghosts _ (G27 κs qs) (g-begin 𝓤 H A W E _ 11 _) $
       stmt (G27 κs qs) _ (t-way-lend-slice 𝓤 H A W E 𝓣 (rtF fBool) tt 256 (lit< tt, lit< tt) (λ ρ. _≡_ (lft ρ 6) (κs .1 .1 .1 .1 .1 .1 .0)) (G27 κs qs) (out 9 ((G27 κs qs) .locals)) (λ u. drop 9 ((G27 κs qs) .locals) u) (setLife 6 off ((G27 κs qs) .slots)) 9 (λ t. _∷_ (deref tyBool) t) tyBool (tyRef erased mut tyBool) 21 11 (λ u. u .1 .1 .1 .1 .1 .1 .1 .1 .1 .0 .now) (λ u. u .1 .1 .1 .1 .1 .1 .1 .1 .1 .0 .ptr) (λ T′. record { locals = setRow 9 (_, held (fz-open erased 6 (κs .1 .1 .1 .1 .1 .1 .0) (lease (κs .1 .1 .1 .1 .1 .1 .0) (qs .1 .1 .1 .1 .1 .1 .0)) (fz-lent-sl (rtF fBool) 256 11))) T′; slots = setLife 6 off ((G27 κs qs) .slots) }) (λ u γ T′ m′. set 9 (_, held (fz-open erased 6 (κs .1 .1 .1 .1 .1 .1 .0) (lease (κs .1 .1 .1 .1 .1 .1 .0) (qs .1 .1 .1 .1 .1 .1 .0)) (fz-lent-sl (rtF fBool) 256 11))) (u .1 .1 .1 .1 .1 .1 .1 .1 .1 .0, γ) T′ m′) (λ u. Unit) (pin-lease 𝓤 H A W 6 ((G27 κs qs) .slots) (κs .1 .1 .1 .1 .1 .1 .0) (qs .1 .1 .1 .1 .1 .1 .0) refl) (λ ρ told u asked. wt-mut 𝓤 H A W E erased 6 (κs .1 .1 .1 .1 .1 .1 .0) (lease (κs .1 .1 .1 .1 .1 .1 .0) (qs .1 .1 .1 .1 .1 .1 .0)) (fz-lent-sl (rtF fBool) 256 11) (tyRef (named 6) mut (tyArray tyBool 256)) tyBool (u .1 .1 .1 .1 .1 .1 .1 .1 .1 .0) (spotOf 𝓤 H E 9 .1, _) (wt-mref 𝓤 H A W E erased (κs .1 .1 .1 .1 .1 .1 .0) (Array (rtF fBool) 256) 6 (tyRef (named 6) mut (tyArray tyBool 256)) (fz-open erased 6 (κs .1 .1 .1 .1 .1 .1 .0) (lease (κs .1 .1 .1 .1 .1 .1 .0) (qs .1 .1 .1 .1 .1 .1 .0)) (fz-lent-sl (rtF fBool) 256 11)) refl (G27 κs qs) ρ u (setLife 6 off ((G27 κs qs) .slots)) 9 (λ x. x) told (as-is 𝓤 H A (mref (Array (rtF fBool) 256) (tyRef (named 6) mut (tyArray tyBool 256)) 6))) refl (setLife 6 off ((G27 κs qs) .slots)) (takes-whole 𝓤 H A W 6 ((G27 κs qs) .slots) (lease (κs .1 .1 .1 .1 .1 .1 .0) (qs .1 .1 .1 .1 .1 .1 .0)) refl tt) told) (room-gone 𝓤 H A (tyRef erased mut tyBool)) refl (λ b o. tt)) $
       stmt _ (G29 κs qs) (t-sl-aggregate 𝓤 H A W E (rtF fBool) 𝓣 (asMut (rtF fBool)) _ 21 22 11 (tyRef erased mut tyBool) (tyRef erased mut tyBool) (λ x. x) (oInt w64 _) (as-is 𝓤 H A (msptr (rtF fBool) (tyRef erased mut tyBool) 11)) (room-gone 𝓤 H A _) tt refl refl (λ b o k. tt)) $
       stmt (G29 κs qs) (G30 κs qs) (t-call-plain 𝓤 H A W 𝓣 6 K1.ps K1.r R1.Asked R1.Learnt "junction_selection::selection::select_proposals" known1 E (λ pos β. β) (G29 κs qs) (record { pos = 4; ty = tyRef (named 1) imm (tyInt w64); ref = λ x. x }, (record { pos = 5; ty = tyRef (named 2) imm (tyArray (tyInt w32) 256); ref = λ x. x }, (record { pos = 6; ty = tyRef (named 3) imm (tyArray (tyInt w32) 256); ref = λ x. x }, (record { pos = 18; ty = tyRef erased imm (tyInt w32); ref = λ x. x }, (record { pos = 20; ty = tyRef erased imm tyBool; ref = λ x. x }, (record { pos = 22; ty = tyRef erased mut tyBool; ref = λ x. x }, (vAt 3 (λ x. x), (vAt 12 (λ x. x), tt)))))))) 16 (1 ∷ 2 ∷ 3 ∷ 9 ∷ 10 ∷ 11 ∷ []) (sub-id 𝓤 H A W ((G29 κs qs) .slots)) (spares-sslice 𝓤 H A W (rtF (fInt w64)) (tyRef (named 1) imm (tyInt w64)) 1, reads-sslice 𝓤 H A W (rtF (fInt w64)) (tyRef (named 1) imm (tyInt w64)) 1, refl, (spares-sref 𝓤 H A W (Array (rtF (fInt w32)) 256) (tyRef (named 2) imm (tyArray (tyInt w32) 256)) 2, reads-sref 𝓤 H A W (Array (rtF (fInt w32)) 256) (tyRef (named 2) imm (tyArray (tyInt w32) 256)) 2, refl, (spares-sref 𝓤 H A W (Array (rtF (fInt w32)) 256) (tyRef (named 3) imm (tyArray (tyInt w32) 256)) 3, reads-sref 𝓤 H A W (Array (rtF (fInt w32)) 256) (tyRef (named 3) imm (tyArray (tyInt w32) 256)) 3, refl, (spares-sslice 𝓤 H A W (rtF (fInt w32)) (tyRef erased imm (tyInt w32)) 9, reads-sslice 𝓤 H A W (rtF (fInt w32)) (tyRef erased imm (tyInt w32)) 9, refl, (spares-sslice 𝓤 H A W (rtF fBool) (tyRef erased imm tyBool) 10, reads-sslice 𝓤 H A W (rtF fBool) (tyRef erased imm tyBool) 10, refl, (as-is 𝓤 H A (mslice (rtF fBool) (tyRef erased mut tyBool) 11), reads-mslice 𝓤 H A W (rtF fBool) (tyRef erased mut tyBool) 11, refl, ((reads-sc 𝓤 H A W (sInt w64), refl), ((reads-sc 𝓤 H A W (sInt w64), refl), tt)))))))) (room-gone 𝓤 H A tyUnit) _ refl) $
       ghosts (G30 κs qs) _ (g-room 𝓤 H A W E (G30 κs qs) 18 _ (room-sslice 𝓤 H A W (rtF (fInt w32)) (tyRef erased imm (tyInt w32)) 9)) $
       ghosts _ _ (g-room 𝓤 H A W E _ 20 _ (room-sslice 𝓤 H A W (rtF fBool) (tyRef erased imm tyBool) 10)) $
-      ghosts _ (G33 κs qs) (g-room 𝓤 H A W E _ 16 tyUnit (room-sc 𝓤 H A W sUnit)) $
-      ghosts (G33 κs qs) _ (g-end 𝓤 H A W E (G33 κs qs) 9 refl) $
-      ghosts _ _ (g-back-arr-shr 𝓤 H A W E (rtF (fInt w32)) _ 10 1704 9 (λ x. x) (as-is 𝓤 H A (arr-shr (rtF (fInt w32)) 1704 9)) refl) $
-      ghosts _ (G36 κs qs) (g-forget 𝓤 H A W E _ 9 dead refl) $
-      ghosts (G36 κs qs) _ (g-room 𝓤 H A W E (G36 κs qs) 10 (tyArray (tyInt w32) 1704) (room-arr 𝓤 H A W (rtF (fInt w32)) 1704 0 1704 refl)) $
+      ghosts _ _ (g-room 𝓤 H A W E _ 16 tyUnit (room-sc 𝓤 H A W sUnit)) $
+      ghosts _ _ (g-end 𝓤 H A W E _ 9 refl) $
+      ghosts _ (G35 κs qs) (g-back-arr-shr 𝓤 H A W E (rtF (fInt w32)) _ 10 1704 9 (λ x. x) (as-is 𝓤 H A (arr-shr (rtF (fInt w32)) 1704 9)) refl) $
+      ghosts (G35 κs qs) _ (g-forget 𝓤 H A W E (G35 κs qs) 9 dead refl) $
+      ghosts _ _ (g-room 𝓤 H A W E _ 10 (tyArray (tyInt w32) 1704) (room-arr 𝓤 H A W (rtF (fInt w32)) 1704 0 1704 refl)) $
       ghosts _ _ (g-end 𝓤 H A W E _ 10 refl) $
-      ghosts _ (G39 κs qs) (g-back-arr-shr 𝓤 H A W E (rtF fBool) _ 11 426 10 (λ x. x) (as-is 𝓤 H A (arr-shr (rtF fBool) 426 10)) refl) $
-      ghosts (G39 κs qs) _ (g-forget 𝓤 H A W E (G39 κs qs) 10 dead refl) $
-      ghosts _ _ (g-room 𝓤 H A W E _ 11 (tyArray tyBool 426) (room-arr 𝓤 H A W (rtF fBool) 426 0 426 refl)) $
+      ghosts _ _ (g-back-arr-shr 𝓤 H A W E (rtF fBool) _ 11 426 10 (λ x. x) (as-is 𝓤 H A (arr-shr (rtF fBool) 426 10)) refl) $
+      ghosts _ (G40 κs qs) (g-forget 𝓤 H A W E _ 10 dead refl) $
+      ghosts (G40 κs qs) _ (g-room 𝓤 H A W E (G40 κs qs) 11 (tyArray tyBool 426) (room-arr 𝓤 H A W (rtF fBool) 426 0 426 refl)) $
       ghosts _ (G42 κs qs) (g-end 𝓤 H A W E _ 11 refl) $
       ghosts (G42 κs qs) _ (g-way-back 𝓤 H A W E (fz-open erased 6 (κs .1 .1 .1 .1 .1 .1 .0) (lease (κs .1 .1 .1 .1 .1 .1 .0) (qs .1 .1 .1 .1 .1 .1 .0)) (fz-lent-sl (rtF fBool) 256 11)) (G42 κs qs) 22 9 (mref (Array (rtF fBool) 256) (tyRef (named 6) mut (tyArray tyBool 256)) 6) (tyRef erased mut tyBool) (setLife 6 (lease (κs .1 .1 .1 .1 .1 .1 .0) (qs .1 .1 .1 .1 .1 .1 .0)) ((G42 κs qs) .slots)) (λ x. x) (λ x. x) (λ x. x) (as-is 𝓤 H A (msleft (rtF fBool) (tyRef erased mut tyBool))) (as-is 𝓤 H A (held (fz-open erased 6 (κs .1 .1 .1 .1 .1 .1 .0) (lease (κs .1 .1 .1 .1 .1 .1 .0) (qs .1 .1 .1 .1 .1 .1 .0)) (fz-lent-sl (rtF fBool) 256 11)))) refl (puts-open 𝓤 H A erased 6 (κs .1 .1 .1 .1 .1 .1 .0) (lease (κs .1 .1 .1 .1 .1 .1 .0) (qs .1 .1 .1 .1 .1 .1 .0)) (fz-lent-sl (rtF fBool) 256 11) ((G42 κs qs) .slots) ((G42 κs qs) .slots) (setLife 6 (lease (κs .1 .1 .1 .1 .1 .1 .0) (qs .1 .1 .1 .1 .1 .1 .0)) ((G42 κs qs) .slots)) (puts-none-sl 𝓤 H A (rtF fBool) 256 11 ((G42 κs qs) .slots)) (puts-whole 𝓤 H A W 6 (lease (κs .1 .1 .1 .1 .1 .1 .0) (qs .1 .1 .1 .1 .1 .1 .0)) ((G42 κs qs) .slots) refl)) (λ ρ pins. mref-mem 𝓤 H A W erased (κs .1 .1 .1 .1 .1 .1 .0) (Array (rtF fBool) 256) 6 (tyRef (named 6) mut (tyArray tyBool 256)) refl ρ (pins .0))) $
       ghosts _ _ (g-forget 𝓤 H A W E _ 11 dead refl) $
-      stmt _ (G45 κs qs) (t-use 𝓤 H A W E 𝓣 _ oUnit 0 (sc-here sUnit) tyUnit (valS sUnit) (sUnit .of) tt (room-gone 𝓤 H A tyUnit) (holds-sc 𝓤 H A W sUnit) refl (λ u. refl) (λ u. tt)) $
-      ghosts (G45 κs qs) _ (g-room 𝓤 H A W E (G45 κs qs) 12 (tyInt w64) (room-sc 𝓤 H A W (sInt w64))) $
-      ghosts _ _ (g-room 𝓤 H A W E _ 2 (tyInt w64) (room-sc 𝓤 H A W (sInt w64))) $
-      ghosts _ (G48 κs qs) (g-room 𝓤 H A W E _ 3 (tyInt w64) (room-sc 𝓤 H A W (sInt w64))) $
+      stmt _ _ (t-use 𝓤 H A W E 𝓣 _ oUnit 0 (sc-here sUnit) tyUnit (valS sUnit) (sUnit .of) tt (room-gone 𝓤 H A tyUnit) (holds-sc 𝓤 H A W sUnit) refl (λ u. refl) (λ u. tt)) $
+      ghosts _ _ (g-room 𝓤 H A W E _ 12 (tyInt w64) (room-sc 𝓤 H A W (sInt w64))) $
+      ghosts _ (G47 κs qs) (g-room 𝓤 H A W E _ 2 (tyInt w64) (room-sc 𝓤 H A W (sInt w64))) $
+      ghosts (G47 κs qs) (G48 κs qs) (g-room 𝓤 H A W E (G47 κs qs) 3 (tyInt w64) (room-sc 𝓤 H A W (sInt w64))) $
       rets
 
 -- the derivations at a model

@@ -60,6 +60,9 @@ module _ (κs : Lfts 9) (qs : Shares 9) where
   abbrev row11 : Row
   row11 = mslice-owed (rtF (fInt w32)) (tyRef (named 7) mut (tyInt w32)) 7 10 (lease (κs .1 .1 .1 .1 .1 .1 .1 .0) (qs .1 .1 .1 .1 .1 .1 .1 .0))
 
+  abbrev row12 : Row
+  row12 = msptr (rtF (fInt w32)) (tyRef erased mut (tyInt w32)) 10
+
   abbrev row13 : ℕ → Row
   row13 k = mslice (rtF (fInt w32)) (tyRef erased mut (tyInt w32)) k
 
@@ -114,9 +117,6 @@ module _ (κs : Lfts 9) (qs : Shares 9) where
   abbrev row38 : Row
   row38 = mleft (Array (rtF fBool) 256) (tyRef erased mut (tyArray tyBool 256))
 
-  abbrev pub G11 : Cx
-  G11 = patched ((20, row1) ∷ []) ([]) G0
-
   abbrev pub G12 : Cx
   G12 = patched ((20, row1) ∷ (21, row2) ∷ []) ([]) G0
 
@@ -156,14 +156,11 @@ module _ (κs : Lfts 9) (qs : Shares 9) where
   abbrev pub G29 : Cx
   G29 = patched ((16, row5) ∷ (17, row7) ∷ (18, row7) ∷ []) ([]) G0
 
-  abbrev pub G32 : Cx
-  G32 = patched ((13, row8) ∷ (16, row5) ∷ (17, row7) ∷ (18, row7) ∷ (24, row10 9) ∷ []) ((6, off) ∷ (9, alive) ∷ []) G0
+  abbrev pub G34 : Cx
+  G34 = patched ((13, row8) ∷ (14, row11) ∷ (16, row5) ∷ (17, row7) ∷ (18, row7) ∷ (24, row10 9) ∷ (25, row12) ∷ []) ((6, off) ∷ (7, off) ∷ (9, alive) ∷ (10, alive) ∷ []) G0
 
-  abbrev pub G35 : Cx
-  G35 = patched ((13, row8) ∷ (14, row11) ∷ (16, row5) ∷ (17, row7) ∷ (18, row7) ∷ (24, row10 9) ∷ (26, row13 10) ∷ []) ((6, off) ∷ (7, off) ∷ (9, alive) ∷ (10, alive) ∷ []) G0
-
-  abbrev pub G38 : Cx
-  G38 = patched ((13, row8) ∷ (14, row11) ∷ (16, row14) ∷ (17, row7) ∷ (18, row7) ∷ (24, row10 9) ∷ (26, row13 10) ∷ (27, row15) ∷ []) ((6, off) ∷ (7, off) ∷ (9, alive) ∷ (10, alive) ∷ (11, alive) ∷ (12, alive) ∷ []) G0
+  abbrev pub G39 : Cx
+  G39 = patched ((13, row8) ∷ (14, row11) ∷ (16, row14) ∷ (17, row16 12) ∷ (18, row7) ∷ (24, row10 9) ∷ (26, row13 10) ∷ (27, row15) ∷ (28, row17 12) ∷ []) ((6, off) ∷ (7, off) ∷ (9, alive) ∷ (10, alive) ∷ (11, alive) ∷ (12, alive) ∷ []) G0
 
   abbrev pub G41 : Cx
   G41 = patched ((13, row8) ∷ (14, row11) ∷ (16, row14) ∷ (17, row16 12) ∷ (18, row16 13) ∷ (24, row10 9) ∷ (26, row13 10) ∷ (27, row15) ∷ (28, row17 12) ∷ (29, row17 13) ∷ []) ((6, off) ∷ (7, off) ∷ (9, alive) ∷ (10, alive) ∷ (11, alive) ∷ (12, alive) ∷ (13, alive) ∷ []) G0
@@ -171,32 +168,20 @@ module _ (κs : Lfts 9) (qs : Shares 9) where
   abbrev pub G42 : Cx
   G42 = patched ((13, row8) ∷ (14, row11) ∷ (16, row14) ∷ (17, row16 12) ∷ (18, row16 13) ∷ (22, row3) ∷ (24, row20) ∷ (26, row21) ∷ (27, row22) ∷ (28, row23) ∷ (29, row23) ∷ []) ((6, off) ∷ (7, off) ∷ (9, alive) ∷ (10, alive) ∷ (11, alive) ∷ (12, alive) ∷ (13, alive) ∷ []) G0
 
-  abbrev pub G45 : Cx
-  G45 = patched ((14, row11) ∷ (16, row14) ∷ (17, row16 12) ∷ (18, row16 13) ∷ (26, row21) ∷ (27, row22) ∷ (28, row23) ∷ (29, row23) ∷ []) ((7, off) ∷ (9, dead) ∷ (10, alive) ∷ (11, alive) ∷ (12, alive) ∷ (13, alive) ∷ []) G0
+  abbrev pub G48 : Cx
+  G48 = patched ((14, row11) ∷ (16, row14) ∷ (17, row16 12) ∷ (18, row16 13) ∷ (26, row21) ∷ (27, row22) ∷ (28, row23) ∷ (29, row23) ∷ []) ((7, off) ∷ (10, dead) ∷ (11, alive) ∷ (12, alive) ∷ (13, alive) ∷ []) G0
 
-  abbrev pub G49 : Cx
-  G49 = patched ((16, row14) ∷ (17, row16 12) ∷ (18, row16 13) ∷ (27, row22) ∷ (28, row23) ∷ (29, row23) ∷ []) ((10, dead) ∷ (11, alive) ∷ (12, alive) ∷ (13, alive) ∷ []) G0
-
-  abbrev pub G53 : Cx
-  G53 = patched ((16, row5) ∷ (17, row16 12) ∷ (18, row16 13) ∷ (28, row23) ∷ (29, row23) ∷ []) ((11, dead) ∷ (12, alive) ∷ (13, alive) ∷ []) G0
-
-  abbrev pub G56 : Cx
-  G56 = patched ((16, row5) ∷ (17, row7) ∷ (18, row16 13) ∷ (29, row23) ∷ []) ((12, dead) ∷ (13, alive) ∷ []) G0
+  abbrev pub G54 : Cx
+  G54 = patched ((16, row5) ∷ (17, row16 12) ∷ (18, row16 13) ∷ (28, row23) ∷ (29, row23) ∷ []) ((12, alive) ∷ (13, alive) ∷ []) G0
 
   abbrev pub G59 : Cx
   G59 = patched ((16, row5) ∷ (17, row7) ∷ (18, row7) ∷ []) ((13, dead) ∷ []) G0
 
-  abbrev pub G63 : Cx
-  G63 = patched ((16, row24) ∷ (17, row7) ∷ (18, row7) ∷ (30, row25) ∷ []) ((14, alive) ∷ (15, alive) ∷ []) G0
+  abbrev pub G65 : Cx
+  G65 = patched ((16, row24) ∷ (17, row26 15) ∷ (18, row7) ∷ (30, row25) ∷ (31, row27 15) ∷ []) ((14, alive) ∷ (15, alive) ∷ (16, alive) ∷ []) G0
 
-  abbrev pub G66 : Cx
-  G66 = patched ((16, row24) ∷ (17, row26 15) ∷ (18, row26 16) ∷ (30, row25) ∷ (31, row27 15) ∷ (32, row27 16) ∷ []) ((14, alive) ∷ (15, alive) ∷ (16, alive) ∷ []) G0
-
-  abbrev pub G69 : Cx
-  G69 = patched ((13, row30) ∷ (16, row24) ∷ (17, row26 15) ∷ (18, row26 16) ∷ (30, row25) ∷ (31, row27 15) ∷ (32, row27 16) ∷ (34, row10 17) ∷ []) ((6, off) ∷ (14, alive) ∷ (15, alive) ∷ (16, alive) ∷ (17, alive) ∷ []) G0
-
-  abbrev pub G72 : Cx
-  G72 = patched ((13, row30) ∷ (14, row33) ∷ (16, row24) ∷ (17, row26 15) ∷ (18, row26 16) ∷ (30, row25) ∷ (31, row27 15) ∷ (32, row27 16) ∷ (34, row10 17) ∷ (36, row13 18) ∷ []) ((6, off) ∷ (7, off) ∷ (14, alive) ∷ (15, alive) ∷ (16, alive) ∷ (17, alive) ∷ (18, alive) ∷ []) G0
+  abbrev pub G70 : Cx
+  G70 = patched ((13, row30) ∷ (16, row24) ∷ (17, row26 15) ∷ (18, row26 16) ∷ (30, row25) ∷ (31, row27 15) ∷ (32, row27 16) ∷ (34, row10 17) ∷ []) ((6, off) ∷ (14, alive) ∷ (15, alive) ∷ (16, alive) ∷ (17, alive) ∷ (18, alive) ∷ []) G0
 
   abbrev pub G74 : Cx
   G74 = patched ((13, row30) ∷ (14, row33) ∷ (15, row36) ∷ (16, row24) ∷ (17, row26 15) ∷ (18, row26 16) ∷ (30, row25) ∷ (31, row27 15) ∷ (32, row27 16) ∷ (34, row10 17) ∷ (36, row13 18) ∷ (37, row37) ∷ []) ((6, off) ∷ (7, off) ∷ (8, off) ∷ (14, alive) ∷ (15, alive) ∷ (16, alive) ∷ (17, alive) ∷ (18, alive) ∷ (19, alive) ∷ []) G0
@@ -204,29 +189,17 @@ module _ (κs : Lfts 9) (qs : Shares 9) where
   abbrev pub G75 : Cx
   G75 = patched ((13, row30) ∷ (14, row33) ∷ (15, row36) ∷ (16, row24) ∷ (17, row26 15) ∷ (18, row26 16) ∷ (22, row3) ∷ (30, row25) ∷ (31, row27 15) ∷ (32, row27 16) ∷ (34, row20) ∷ (36, row21) ∷ (37, row38) ∷ []) ((6, off) ∷ (7, off) ∷ (8, off) ∷ (14, alive) ∷ (15, alive) ∷ (16, alive) ∷ (17, alive) ∷ (18, alive) ∷ (19, alive) ∷ []) G0
 
-  abbrev pub G78 : Cx
-  G78 = patched ((13, row30) ∷ (14, row33) ∷ (15, row36) ∷ (16, row24) ∷ (17, row26 15) ∷ (18, row26 16) ∷ (22, row3) ∷ (34, row20) ∷ (36, row21) ∷ (37, row38) ∷ []) ((6, off) ∷ (7, off) ∷ (8, off) ∷ (14, alive) ∷ (15, alive) ∷ (16, alive) ∷ (17, alive) ∷ (18, alive) ∷ (19, alive) ∷ []) G0
+  abbrev pub G80 : Cx
+  G80 = patched ((13, row30) ∷ (14, row33) ∷ (15, row36) ∷ (16, row24) ∷ (17, row26 15) ∷ (18, row26 16) ∷ (34, row20) ∷ (36, row21) ∷ (37, row38) ∷ []) ((6, off) ∷ (7, off) ∷ (8, off) ∷ (14, dead) ∷ (15, alive) ∷ (16, alive) ∷ (17, alive) ∷ (18, alive) ∷ (19, alive) ∷ []) G0
 
-  abbrev pub G81 : Cx
-  G81 = patched ((13, row30) ∷ (14, row33) ∷ (15, row36) ∷ (16, row5) ∷ (17, row26 15) ∷ (18, row26 16) ∷ (34, row20) ∷ (36, row21) ∷ (37, row38) ∷ []) ((6, off) ∷ (7, off) ∷ (8, off) ∷ (14, dead) ∷ (15, alive) ∷ (16, alive) ∷ (17, alive) ∷ (18, alive) ∷ (19, alive) ∷ []) G0
-
-  abbrev pub G84 : Cx
-  G84 = patched ((13, row30) ∷ (14, row33) ∷ (15, row36) ∷ (17, row26 15) ∷ (18, row26 16) ∷ (34, row20) ∷ (36, row21) ∷ (37, row38) ∷ []) ((6, off) ∷ (7, off) ∷ (8, off) ∷ (15, dead) ∷ (16, alive) ∷ (17, alive) ∷ (18, alive) ∷ (19, alive) ∷ []) G0
-
-  abbrev pub G87 : Cx
-  G87 = patched ((13, row30) ∷ (14, row33) ∷ (15, row36) ∷ (18, row26 16) ∷ (34, row20) ∷ (36, row21) ∷ (37, row38) ∷ []) ((6, off) ∷ (7, off) ∷ (8, off) ∷ (16, alive) ∷ (17, alive) ∷ (18, alive) ∷ (19, alive) ∷ []) G0
+  abbrev pub G85 : Cx
+  G85 = patched ((13, row30) ∷ (14, row33) ∷ (15, row36) ∷ (17, row7) ∷ (18, row26 16) ∷ (34, row20) ∷ (36, row21) ∷ (37, row38) ∷ []) ((6, off) ∷ (7, off) ∷ (8, off) ∷ (15, dead) ∷ (16, alive) ∷ (17, alive) ∷ (18, alive) ∷ (19, alive) ∷ []) G0
 
   abbrev pub G90 : Cx
   G90 = patched ((13, row30) ∷ (14, row33) ∷ (15, row36) ∷ (18, row7) ∷ (34, row20) ∷ (36, row21) ∷ (37, row38) ∷ []) ((6, off) ∷ (7, off) ∷ (8, off) ∷ (17, alive) ∷ (18, alive) ∷ (19, alive) ∷ []) G0
 
-  abbrev pub G93 : Cx
-  G93 = patched ((14, row33) ∷ (15, row36) ∷ (36, row21) ∷ (37, row38) ∷ []) ((7, off) ∷ (8, off) ∷ (17, dead) ∷ (18, alive) ∷ (19, alive) ∷ []) G0
-
-  abbrev pub G97 : Cx
-  G97 = patched ((15, row36) ∷ (37, row38) ∷ []) ((8, off) ∷ (18, dead) ∷ (19, alive) ∷ []) G0
-
-  abbrev pub G101 : Cx
-  G101 = patched ([]) ((19, dead) ∷ []) G0
+  abbrev pub G96 : Cx
+  G96 = patched ((14, row33) ∷ (15, row36) ∷ (36, row21) ∷ (37, row38) ∷ []) ((7, off) ∷ (8, off) ∷ (18, dead) ∷ (19, alive) ∷ []) G0
 
   abbrev pub Γ-after-test : Cx
   Γ-after-test = G0
@@ -243,44 +216,44 @@ module _ {M : Type 1} (𝓤 : URA M) (H : Heap 𝓤) (A : Atoms 𝓤) (W : Given
   after-view =
       ghosts (G29 κs qs) _ (g-begin 𝓤 H A W E (G29 κs qs) 14 _) $
       stmt _ _ (t-sc-share 𝓤 H A W E 𝓣 _ 16 30 14 (Array (rtF (fInt w64)) 257) (tyRef erased imm (tyArray (tyInt w64) 257)) (λ x. x) (mem-arr 𝓤 H A W (rtF (fInt w64)) 257) (room-gone 𝓤 H A (tyRef erased imm (tyArray (tyInt w64) 257))) refl (λ b o. tt)) $
-      ghosts _ (G63 κs qs) (g-begin 𝓤 H A W E _ 15 _) $
-      stmt (G63 κs qs) _ (t-sc-share 𝓤 H A W E 𝓣 (G63 κs qs) 17 31 15 (Array (rtF (fInt w32)) 256) (tyRef erased imm (tyArray (tyInt w32) 256)) (λ x. x) (mem-arr 𝓤 H A W (rtF (fInt w32)) 256) (room-gone 𝓤 H A (tyRef erased imm (tyArray (tyInt w32) 256))) refl (λ b o. tt)) $
-      ghosts _ _ (g-begin 𝓤 H A W E _ 16 _) $
-      stmt _ (G66 κs qs) (t-sc-share 𝓤 H A W E 𝓣 _ 18 32 16 (Array (rtF (fInt w32)) 256) (tyRef erased imm (tyArray (tyInt w32) 256)) (λ x. x) (mem-arr 𝓤 H A W (rtF (fInt w32)) 256) (room-gone 𝓤 H A (tyRef erased imm (tyArray (tyInt w32) 256))) refl (λ b o. tt)) $
-      ghosts (G66 κs qs) _ (g-begin 𝓤 H A W E (G66 κs qs) 17 _) $
+      ghosts _ _ (g-begin 𝓤 H A W E _ 15 _) $
+      stmt _ _ (t-sc-share 𝓤 H A W E 𝓣 _ 17 31 15 (Array (rtF (fInt w32)) 256) (tyRef erased imm (tyArray (tyInt w32) 256)) (λ x. x) (mem-arr 𝓤 H A W (rtF (fInt w32)) 256) (room-gone 𝓤 H A (tyRef erased imm (tyArray (tyInt w32) 256))) refl (λ b o. tt)) $
+      ghosts _ (G65 κs qs) (g-begin 𝓤 H A W E _ 16 _) $
+      stmt (G65 κs qs) _ (t-sc-share 𝓤 H A W E 𝓣 (G65 κs qs) 18 32 16 (Array (rtF (fInt w32)) 256) (tyRef erased imm (tyArray (tyInt w32) 256)) (λ x. x) (mem-arr 𝓤 H A W (rtF (fInt w32)) 256) (room-gone 𝓤 H A (tyRef erased imm (tyArray (tyInt w32) 256))) refl (λ b o. tt)) $
+      ghosts _ _ (g-begin 𝓤 H A W E _ 17 _) $
       stmt _ _ (t-sl-relendᵖ 𝓤 H A W E (rtF (fInt w16)) 𝓣 _ 13 33 6 17 (tyRef (named 6) mut (tyInt w16)) (tyRef erased mut (tyInt w16)) (lease (κs .1 .1 .1 .1 .1 .1 .0) (qs .1 .1 .1 .1 .1 .1 .0)) 0 (λ x. x) (λ u. u .1 .1 .1 .1 .1 .1 .1 .0) (as-is 𝓤 H A (mslice (rtF (fInt w16)) (tyRef (named 6) mut (tyInt w16)) 6)) (room-gone 𝓤 H A (tyRef erased mut (tyInt w16))) refl tt refl refl refl (λ b o. tt)) $
-      stmt _ (G69 κs qs) (t-sl-aggregate 𝓤 H A W E (rtF (fInt w16)) 𝓣 (asMut (rtF (fInt w16))) _ 33 34 17 (tyRef erased mut (tyInt w16)) (tyRef erased mut (tyInt w16)) (λ x. x) (oAt 7 (tyInt w64) (valS (sInt w64))) (as-is 𝓤 H A (msptr (rtF (fInt w16)) (tyRef erased mut (tyInt w16)) 17)) (room-gone 𝓤 H A _) (reads-sc 𝓤 H A W (sInt w64), refl) refl refl (λ b o k. tt)) $
-      ghosts (G69 κs qs) _ (g-begin 𝓤 H A W E (G69 κs qs) 18 _) $
-      stmt _ _ (t-sl-relendᵖ 𝓤 H A W E (rtF (fInt w32)) 𝓣 _ 14 35 7 18 (tyRef (named 7) mut (tyInt w32)) (tyRef erased mut (tyInt w32)) (lease (κs .1 .1 .1 .1 .1 .1 .1 .0) (qs .1 .1 .1 .1 .1 .1 .1 .0)) 0 (λ x. x) (λ u. u .1 .1 .1 .1 .1 .1 .1 .0) (as-is 𝓤 H A (mslice (rtF (fInt w32)) (tyRef (named 7) mut (tyInt w32)) 7)) (room-gone 𝓤 H A (tyRef erased mut (tyInt w32))) refl tt refl refl refl (λ b o. tt)) $
-      stmt _ (G72 κs qs) (t-sl-aggregate 𝓤 H A W E (rtF (fInt w32)) 𝓣 (asMut (rtF (fInt w32))) _ 35 36 18 (tyRef erased mut (tyInt w32)) (tyRef erased mut (tyInt w32)) (λ x. x) (oAt 7 (tyInt w64) (valS (sInt w64))) (as-is 𝓤 H A (msptr (rtF (fInt w32)) (tyRef erased mut (tyInt w32)) 18)) (room-gone 𝓤 H A _) (reads-sc 𝓤 H A W (sInt w64), refl) refl refl (λ b o k. tt)) $
-      ghosts (G72 κs qs) _ (g-begin 𝓤 H A W E (G72 κs qs) 19 _) $
+      stmt _ _ (t-sl-aggregate 𝓤 H A W E (rtF (fInt w16)) 𝓣 (asMut (rtF (fInt w16))) _ 33 34 17 (tyRef erased mut (tyInt w16)) (tyRef erased mut (tyInt w16)) (λ x. x) (oAt 7 (tyInt w64) (valS (sInt w64))) (as-is 𝓤 H A (msptr (rtF (fInt w16)) (tyRef erased mut (tyInt w16)) 17)) (room-gone 𝓤 H A _) (reads-sc 𝓤 H A W (sInt w64), refl) refl refl (λ b o k. tt)) $
+      ghosts _ (G70 κs qs) (g-begin 𝓤 H A W E _ 18 _) $
+      stmt (G70 κs qs) _ (t-sl-relendᵖ 𝓤 H A W E (rtF (fInt w32)) 𝓣 (G70 κs qs) 14 35 7 18 (tyRef (named 7) mut (tyInt w32)) (tyRef erased mut (tyInt w32)) (lease (κs .1 .1 .1 .1 .1 .1 .1 .0) (qs .1 .1 .1 .1 .1 .1 .1 .0)) 0 (λ x. x) (λ u. u .1 .1 .1 .1 .1 .1 .1 .0) (as-is 𝓤 H A (mslice (rtF (fInt w32)) (tyRef (named 7) mut (tyInt w32)) 7)) (room-gone 𝓤 H A (tyRef erased mut (tyInt w32))) refl tt refl refl refl (λ b o. tt)) $
+      stmt _ _ (t-sl-aggregate 𝓤 H A W E (rtF (fInt w32)) 𝓣 (asMut (rtF (fInt w32))) _ 35 36 18 (tyRef erased mut (tyInt w32)) (tyRef erased mut (tyInt w32)) (λ x. x) (oAt 7 (tyInt w64) (valS (sInt w64))) (as-is 𝓤 H A (msptr (rtF (fInt w32)) (tyRef erased mut (tyInt w32)) 18)) (room-gone 𝓤 H A _) (reads-sc 𝓤 H A W (sInt w64), refl) refl refl (λ b o k. tt)) $
+      ghosts _ _ (g-begin 𝓤 H A W E _ 19 _) $
       stmt _ (G74 κs qs) (t-mref-relend 𝓤 H A W E 𝓣 _ 15 37 8 19 (Array (rtF fBool) 256) (tyArray tyBool 256) (tyRef (named 8) mut (tyArray tyBool 256)) (tyRef erased mut (tyArray tyBool 256)) (lease (κs .1 .1 .1 .1 .1 .1 .1 .1 .0) (qs .1 .1 .1 .1 .1 .1 .1 .1 .0)) (λ x. x) (as-is 𝓤 H A (mref (Array (rtF fBool) 256) (tyRef (named 8) mut (tyArray tyBool 256)) 8)) (room-gone 𝓤 H A (tyRef erased mut (tyArray tyBool 256))) refl tt refl refl (λ b o. tt)) $
       stmt (G74 κs qs) (G75 κs qs) (t-call-plain 𝓤 H A W 𝓣 10 K1.ps K1.r K1.Asked K1.Learnt "topology::marks::removed_marks" known1 E (λ pos β. β) (G74 κs qs) (vAt 1 (λ x. x), (record { pos = 2; ty = tyRef (named 0) imm (pointee (twin-0.the-row .written)); ref = λ x. x }, (vAt 7 (λ x. x), (vAt 9 (λ x. x), (record { pos = 10; ty = tyRef (named 3) imm (tyInt w64); ref = λ x. x }, (record { pos = 11; ty = tyRef (named 4) imm (tyInt w32); ref = λ x. x }, (record { pos = 12; ty = tyRef (named 5) imm (tyInt w32); ref = λ x. x }, (record { pos = 30; ty = tyRef erased imm (tyArray (tyInt w64) 257); ref = λ x. x }, (record { pos = 31; ty = tyRef erased imm (tyArray (tyInt w32) 256); ref = λ x. x }, (record { pos = 32; ty = tyRef erased imm (tyArray (tyInt w32) 256); ref = λ x. x }, (record { pos = 34; ty = tyRef erased mut (tyInt w16); ref = λ x. x }, (record { pos = 36; ty = tyRef erased mut (tyInt w32); ref = λ x. x }, (record { pos = 37; ty = tyRef erased mut (tyArray tyBool 256); ref = λ x. x }, tt))))))))))))) 22 (0 ∷ 3 ∷ 4 ∷ 5 ∷ 14 ∷ 15 ∷ 16 ∷ 17 ∷ 18 ∷ 19 ∷ []) (sub-id 𝓤 H A W ((G74 κs qs) .slots)) ((reads-sc 𝓤 H A W (sInt w64), refl), (spares-sslice 𝓤 H A W twin-0.the-row (tyRef (named 0) imm (pointee (twin-0.the-row .written))) 0, reads-sslice 𝓤 H A W twin-0.the-row (tyRef (named 0) imm (pointee (twin-0.the-row .written))) 0, refl, ((reads-sc 𝓤 H A W (sInt w64), refl), ((reads-sc 𝓤 H A W (sInt w64), refl), (spares-sslice 𝓤 H A W (rtF (fInt w64)) (tyRef (named 3) imm (tyInt w64)) 3, reads-sslice 𝓤 H A W (rtF (fInt w64)) (tyRef (named 3) imm (tyInt w64)) 3, refl, (spares-sslice 𝓤 H A W (rtF (fInt w32)) (tyRef (named 4) imm (tyInt w32)) 4, reads-sslice 𝓤 H A W (rtF (fInt w32)) (tyRef (named 4) imm (tyInt w32)) 4, refl, (spares-sslice 𝓤 H A W (rtF (fInt w32)) (tyRef (named 5) imm (tyInt w32)) 5, reads-sslice 𝓤 H A W (rtF (fInt w32)) (tyRef (named 5) imm (tyInt w32)) 5, refl, (spares-sref 𝓤 H A W (Array (rtF (fInt w64)) 257) (tyRef erased imm (tyArray (tyInt w64) 257)) 14, reads-sref 𝓤 H A W (Array (rtF (fInt w64)) 257) (tyRef erased imm (tyArray (tyInt w64) 257)) 14, refl, (spares-sref 𝓤 H A W (Array (rtF (fInt w32)) 256) (tyRef erased imm (tyArray (tyInt w32) 256)) 15, reads-sref 𝓤 H A W (Array (rtF (fInt w32)) 256) (tyRef erased imm (tyArray (tyInt w32) 256)) 15, refl, (spares-sref 𝓤 H A W (Array (rtF (fInt w32)) 256) (tyRef erased imm (tyArray (tyInt w32) 256)) 16, reads-sref 𝓤 H A W (Array (rtF (fInt w32)) 256) (tyRef erased imm (tyArray (tyInt w32) 256)) 16, refl, (as-is 𝓤 H A (mslice (rtF (fInt w16)) (tyRef erased mut (tyInt w16)) 17), reads-mslice 𝓤 H A W (rtF (fInt w16)) (tyRef erased mut (tyInt w16)) 17, refl, (as-is 𝓤 H A (mslice (rtF (fInt w32)) (tyRef erased mut (tyInt w32)) 18), reads-mslice 𝓤 H A W (rtF (fInt w32)) (tyRef erased mut (tyInt w32)) 18, refl, (as-is 𝓤 H A (mref (Array (rtF fBool) 256) (tyRef erased mut (tyArray tyBool 256)) 19), reads-mref 𝓤 H A W (Array (rtF fBool) 256) (tyRef erased mut (tyArray tyBool 256)) 19, refl, tt))))))))))))) (room-gone 𝓤 H A tyUnit) _ refl) $
       ghosts (G75 κs qs) _ (g-drop-sref 𝓤 H A W E (G75 κs qs) 30 14 (Array (rtF (fInt w64)) 257) (tyRef erased imm (tyArray (tyInt w64) 257)) (λ x. x) (as-is 𝓤 H A (sref (Array (rtF (fInt w64)) 257) (tyRef erased imm (tyArray (tyInt w64) 257)) 14))) $
       ghosts _ _ (g-drop-sref 𝓤 H A W E _ 31 15 (Array (rtF (fInt w32)) 256) (tyRef erased imm (tyArray (tyInt w32) 256)) (λ x. x) (as-is 𝓤 H A (sref (Array (rtF (fInt w32)) 256) (tyRef erased imm (tyArray (tyInt w32) 256)) 15))) $
-      ghosts _ (G78 κs qs) (g-drop-sref 𝓤 H A W E _ 32 16 (Array (rtF (fInt w32)) 256) (tyRef erased imm (tyArray (tyInt w32) 256)) (λ x. x) (as-is 𝓤 H A (sref (Array (rtF (fInt w32)) 256) (tyRef erased imm (tyArray (tyInt w32) 256)) 16))) $
-      ghosts (G78 κs qs) _ (g-room 𝓤 H A W E (G78 κs qs) 22 tyUnit (room-sc 𝓤 H A W sUnit)) $
-      ghosts _ _ (g-end 𝓤 H A W E _ 14 refl) $
-      ghosts _ (G81 κs qs) (g-back-shr 𝓤 H A W E _ 16 14 (arrF (rtF (fInt w64)) 257 0) (Array (rtF (fInt w64)) 257) (λ x. x) (λ x. x) (as-is 𝓤 H A (sc-shr (arrF (rtF (fInt w64)) 257 0) (Array (rtF (fInt w64)) 257) (λ x. x) 14)) (home-of 𝓤 H A (arrF (rtF (fInt w64)) 257 0) (Array (rtF (fInt w64)) 257) (λ x. x) (λ x. x) (arr-mem 𝓤 H A W (rtF (fInt w64)) 257 tt) (λ x k. refl)) refl) $
-      ghosts (G81 κs qs) _ (g-forget 𝓤 H A W E (G81 κs qs) 14 dead refl) $
+      ghosts _ _ (g-drop-sref 𝓤 H A W E _ 32 16 (Array (rtF (fInt w32)) 256) (tyRef erased imm (tyArray (tyInt w32) 256)) (λ x. x) (as-is 𝓤 H A (sref (Array (rtF (fInt w32)) 256) (tyRef erased imm (tyArray (tyInt w32) 256)) 16))) $
+      ghosts _ _ (g-room 𝓤 H A W E _ 22 tyUnit (room-sc 𝓤 H A W sUnit)) $
+      ghosts _ (G80 κs qs) (g-end 𝓤 H A W E _ 14 refl) $
+      ghosts (G80 κs qs) _ (g-back-shr 𝓤 H A W E (G80 κs qs) 16 14 (arrF (rtF (fInt w64)) 257 0) (Array (rtF (fInt w64)) 257) (λ x. x) (λ x. x) (as-is 𝓤 H A (sc-shr (arrF (rtF (fInt w64)) 257 0) (Array (rtF (fInt w64)) 257) (λ x. x) 14)) (home-of 𝓤 H A (arrF (rtF (fInt w64)) 257 0) (Array (rtF (fInt w64)) 257) (λ x. x) (λ x. x) (arr-mem 𝓤 H A W (rtF (fInt w64)) 257 tt) (λ x k. refl)) refl) $
+      ghosts _ _ (g-forget 𝓤 H A W E _ 14 dead refl) $
       ghosts _ _ (g-room 𝓤 H A W E _ 16 (tyArray (tyInt w64) 257) (room-arr 𝓤 H A W (rtF (fInt w64)) 257 0 257 refl)) $
-      ghosts _ (G84 κs qs) (g-end 𝓤 H A W E _ 15 refl) $
-      ghosts (G84 κs qs) _ (g-back-shr 𝓤 H A W E (G84 κs qs) 17 15 (arrF (rtF (fInt w32)) 256 0) (Array (rtF (fInt w32)) 256) (λ x. x) (λ x. x) (as-is 𝓤 H A (sc-shr (arrF (rtF (fInt w32)) 256 0) (Array (rtF (fInt w32)) 256) (λ x. x) 15)) (home-of 𝓤 H A (arrF (rtF (fInt w32)) 256 0) (Array (rtF (fInt w32)) 256) (λ x. x) (λ x. x) (arr-mem 𝓤 H A W (rtF (fInt w32)) 256 tt) (λ x k. refl)) refl) $
-      ghosts _ _ (g-forget 𝓤 H A W E _ 15 dead refl) $
-      ghosts _ (G87 κs qs) (g-room 𝓤 H A W E _ 17 (tyArray (tyInt w32) 256) (room-arr 𝓤 H A W (rtF (fInt w32)) 256 0 256 refl)) $
-      ghosts (G87 κs qs) _ (g-end 𝓤 H A W E (G87 κs qs) 16 refl) $
+      ghosts _ _ (g-end 𝓤 H A W E _ 15 refl) $
+      ghosts _ (G85 κs qs) (g-back-shr 𝓤 H A W E _ 17 15 (arrF (rtF (fInt w32)) 256 0) (Array (rtF (fInt w32)) 256) (λ x. x) (λ x. x) (as-is 𝓤 H A (sc-shr (arrF (rtF (fInt w32)) 256 0) (Array (rtF (fInt w32)) 256) (λ x. x) 15)) (home-of 𝓤 H A (arrF (rtF (fInt w32)) 256 0) (Array (rtF (fInt w32)) 256) (λ x. x) (λ x. x) (arr-mem 𝓤 H A W (rtF (fInt w32)) 256 tt) (λ x k. refl)) refl) $
+      ghosts (G85 κs qs) _ (g-forget 𝓤 H A W E (G85 κs qs) 15 dead refl) $
+      ghosts _ _ (g-room 𝓤 H A W E _ 17 (tyArray (tyInt w32) 256) (room-arr 𝓤 H A W (rtF (fInt w32)) 256 0 256 refl)) $
+      ghosts _ _ (g-end 𝓤 H A W E _ 16 refl) $
       ghosts _ _ (g-back-shr 𝓤 H A W E _ 18 16 (arrF (rtF (fInt w32)) 256 0) (Array (rtF (fInt w32)) 256) (λ x. x) (λ x. x) (as-is 𝓤 H A (sc-shr (arrF (rtF (fInt w32)) 256 0) (Array (rtF (fInt w32)) 256) (λ x. x) 16)) (home-of 𝓤 H A (arrF (rtF (fInt w32)) 256 0) (Array (rtF (fInt w32)) 256) (λ x. x) (λ x. x) (arr-mem 𝓤 H A W (rtF (fInt w32)) 256 tt) (λ x k. refl)) refl) $
       ghosts _ (G90 κs qs) (g-forget 𝓤 H A W E _ 16 dead refl) $
       ghosts (G90 κs qs) _ (g-room 𝓤 H A W E (G90 κs qs) 18 (tyArray (tyInt w32) 256) (room-arr 𝓤 H A W (rtF (fInt w32)) 256 0 256 refl)) $
       ghosts _ _ (g-end 𝓤 H A W E _ 17 refl) $
-      ghosts _ (G93 κs qs) (g-back-slᵖ 𝓤 H A W E (rtF (fInt w16)) _ 34 13 6 17 (tyRef (named 6) mut (tyInt w16)) (tyRef erased mut (tyInt w16)) (lease (κs .1 .1 .1 .1 .1 .1 .0) (qs .1 .1 .1 .1 .1 .1 .0)) (λ x. x) (λ x. x) (as-is 𝓤 H A (msleft (rtF (fInt w16)) (tyRef erased mut (tyInt w16)))) (as-is 𝓤 H A (mslice-owedP (rtF (fInt w16)) (tyRef (named 6) mut (tyInt w16)) 6 17 (lease (κs .1 .1 .1 .1 .1 .1 .0) (qs .1 .1 .1 .1 .1 .1 .0)))) refl refl) $
-      ghosts (G93 κs qs) _ (g-forget 𝓤 H A W E (G93 κs qs) 17 dead refl) $
-      ghosts _ _ (g-end 𝓤 H A W E _ 18 refl) $
-      ghosts _ (G97 κs qs) (g-back-slᵖ 𝓤 H A W E (rtF (fInt w32)) _ 36 14 7 18 (tyRef (named 7) mut (tyInt w32)) (tyRef erased mut (tyInt w32)) (lease (κs .1 .1 .1 .1 .1 .1 .1 .0) (qs .1 .1 .1 .1 .1 .1 .1 .0)) (λ x. x) (λ x. x) (as-is 𝓤 H A (msleft (rtF (fInt w32)) (tyRef erased mut (tyInt w32)))) (as-is 𝓤 H A (mslice-owedP (rtF (fInt w32)) (tyRef (named 7) mut (tyInt w32)) 7 18 (lease (κs .1 .1 .1 .1 .1 .1 .1 .0) (qs .1 .1 .1 .1 .1 .1 .1 .0)))) refl refl) $
-      ghosts (G97 κs qs) _ (g-forget 𝓤 H A W E (G97 κs qs) 18 dead refl) $
+      ghosts _ _ (g-back-slᵖ 𝓤 H A W E (rtF (fInt w16)) _ 34 13 6 17 (tyRef (named 6) mut (tyInt w16)) (tyRef erased mut (tyInt w16)) (lease (κs .1 .1 .1 .1 .1 .1 .0) (qs .1 .1 .1 .1 .1 .1 .0)) (λ x. x) (λ x. x) (as-is 𝓤 H A (msleft (rtF (fInt w16)) (tyRef erased mut (tyInt w16)))) (as-is 𝓤 H A (mslice-owedP (rtF (fInt w16)) (tyRef (named 6) mut (tyInt w16)) 6 17 (lease (κs .1 .1 .1 .1 .1 .1 .0) (qs .1 .1 .1 .1 .1 .1 .0)))) refl refl) $
+      ghosts _ _ (g-forget 𝓤 H A W E _ 17 dead refl) $
+      ghosts _ (G96 κs qs) (g-end 𝓤 H A W E _ 18 refl) $
+      ghosts (G96 κs qs) _ (g-back-slᵖ 𝓤 H A W E (rtF (fInt w32)) (G96 κs qs) 36 14 7 18 (tyRef (named 7) mut (tyInt w32)) (tyRef erased mut (tyInt w32)) (lease (κs .1 .1 .1 .1 .1 .1 .1 .0) (qs .1 .1 .1 .1 .1 .1 .1 .0)) (λ x. x) (λ x. x) (as-is 𝓤 H A (msleft (rtF (fInt w32)) (tyRef erased mut (tyInt w32)))) (as-is 𝓤 H A (mslice-owedP (rtF (fInt w32)) (tyRef (named 7) mut (tyInt w32)) 7 18 (lease (κs .1 .1 .1 .1 .1 .1 .1 .0) (qs .1 .1 .1 .1 .1 .1 .1 .0)))) refl refl) $
+      ghosts _ _ (g-forget 𝓤 H A W E _ 18 dead refl) $
       ghosts _ _ (g-end 𝓤 H A W E _ 19 refl) $
-      ghosts _ (G101 κs qs) (g-back-mref 𝓤 H A W E _ 37 15 8 19 (Array (rtF fBool) 256) (tyRef (named 8) mut (tyArray tyBool 256)) (tyRef erased mut (tyArray tyBool 256)) (lease (κs .1 .1 .1 .1 .1 .1 .1 .1 .0) (qs .1 .1 .1 .1 .1 .1 .1 .1 .0)) (λ x. x) (λ x. x) (as-is 𝓤 H A (mleft (Array (rtF fBool) 256) (tyRef erased mut (tyArray tyBool 256)))) (as-is 𝓤 H A (mref-owed (Array (rtF fBool) 256) (tyRef (named 8) mut (tyArray tyBool 256)) 8 19 (lease (κs .1 .1 .1 .1 .1 .1 .1 .1 .0) (qs .1 .1 .1 .1 .1 .1 .1 .1 .0)))) refl refl) $
-      ghosts (G101 κs qs) (G0 κs qs) (g-forget 𝓤 H A W E (G101 κs qs) 19 dead refl) $
+      ghosts _ _ (g-back-mref 𝓤 H A W E _ 37 15 8 19 (Array (rtF fBool) 256) (tyRef (named 8) mut (tyArray tyBool 256)) (tyRef erased mut (tyArray tyBool 256)) (lease (κs .1 .1 .1 .1 .1 .1 .1 .1 .0) (qs .1 .1 .1 .1 .1 .1 .1 .1 .0)) (λ x. x) (λ x. x) (as-is 𝓤 H A (mleft (Array (rtF fBool) 256) (tyRef erased mut (tyArray tyBool 256)))) (as-is 𝓤 H A (mref-owed (Array (rtF fBool) 256) (tyRef (named 8) mut (tyArray tyBool 256)) 8 19 (lease (κs .1 .1 .1 .1 .1 .1 .1 .1 .0) (qs .1 .1 .1 .1 .1 .1 .1 .1 .0)))) refl refl) $
+      ghosts _ (G0 κs qs) (g-forget 𝓤 H A W E _ 19 dead refl) $
       stmt (G0 κs qs) (G16 κs qs) (t-use 𝓤 H A W E 𝓣 (G0 κs qs) oUnit 0 (sc-here sUnit) tyUnit (valS sUnit) (sUnit .of) tt (room-gone 𝓤 H A tyUnit) (holds-sc 𝓤 H A W sUnit) refl (λ u. refl) (λ u. tt)) $
       ghosts (G16 κs qs) (G17 κs qs) (g-room 𝓤 H A W E (G16 κs qs) 1 (tyInt w64) (room-sc 𝓤 H A W (sInt w64))) $
       ghosts (G17 κs qs) (G18 κs qs) (g-room 𝓤 H A W E (G17 κs qs) 3 (tyInt w64) (room-sc 𝓤 H A W (sInt w64))) $
@@ -300,30 +273,30 @@ module _ {M : Type 1} (𝓤 : URA M) (H : Heap 𝓤) (A : Atoms 𝓤) (W : Given
       ghosts (G28 κs qs) (G29 κs qs) (g-as-by 𝓤 H A W E (λ ρ. Unit) (G28 κs qs) 18 (arrF (rtF (fInt w32)) 256 0) (λ x. x) (told-none 𝓤 H A ((G28 κs qs) .slots)) (λ ρ told. whole-arr 𝓤 H A W (rtF (fInt w32)) 256 tt ρ)) $
       ghosts (G29 κs qs) _ (g-begin 𝓤 H A W E (G29 κs qs) 9 _) $
       stmt _ _ (t-sl-relend 𝓤 H A W E (rtF (fInt w16)) 𝓣 _ 13 23 6 9 (tyRef (named 6) mut (tyInt w16)) (tyRef erased mut (tyInt w16)) (lease (κs .1 .1 .1 .1 .1 .1 .0) (qs .1 .1 .1 .1 .1 .1 .0)) 0 (λ x. x) (as-is 𝓤 H A (mslice (rtF (fInt w16)) (tyRef (named 6) mut (tyInt w16)) 6)) (room-gone 𝓤 H A (tyRef erased mut (tyInt w16))) refl tt refl refl refl (λ b o. tt)) $
-      stmt _ (G32 κs qs) (t-sl-aggregate 𝓤 H A W E (rtF (fInt w16)) 𝓣 (asMut (rtF (fInt w16))) _ 23 24 9 (tyRef erased mut (tyInt w16)) (tyRef erased mut (tyInt w16)) (λ x. x) (oFld 13 (field 1 ∷ []) (tyInt w64) 8 (λ v. lenV (v .0))) (as-is 𝓤 H A (msptr (rtF (fInt w16)) (tyRef erased mut (tyInt w16)) 9)) (room-gone 𝓤 H A _) (reads-owed-len 𝓤 H A W (rtF (fInt w16)) (tyRef (named 6) mut (tyInt w16)) 6 9 (lease (κs .1 .1 .1 .1 .1 .1 .0) (qs .1 .1 .1 .1 .1 .1 .0)) 8 refl, refl) refl refl (λ b o k. tt)) $
-      ghosts (G32 κs qs) _ (g-begin 𝓤 H A W E (G32 κs qs) 10 _) $
-      stmt _ _ (t-sl-relend 𝓤 H A W E (rtF (fInt w32)) 𝓣 _ 14 25 7 10 (tyRef (named 7) mut (tyInt w32)) (tyRef erased mut (tyInt w32)) (lease (κs .1 .1 .1 .1 .1 .1 .1 .0) (qs .1 .1 .1 .1 .1 .1 .1 .0)) 0 (λ x. x) (as-is 𝓤 H A (mslice (rtF (fInt w32)) (tyRef (named 7) mut (tyInt w32)) 7)) (room-gone 𝓤 H A (tyRef erased mut (tyInt w32))) refl tt refl refl refl (λ b o. tt)) $
-      stmt _ (G35 κs qs) (t-sl-aggregate 𝓤 H A W E (rtF (fInt w32)) 𝓣 (asMut (rtF (fInt w32))) _ 25 26 10 (tyRef erased mut (tyInt w32)) (tyRef erased mut (tyInt w32)) (λ x. x) (oFld 14 (field 1 ∷ []) (tyInt w64) 8 (λ v. lenV (v .0))) (as-is 𝓤 H A (msptr (rtF (fInt w32)) (tyRef erased mut (tyInt w32)) 10)) (room-gone 𝓤 H A _) (reads-owed-len 𝓤 H A W (rtF (fInt w32)) (tyRef (named 7) mut (tyInt w32)) 7 10 (lease (κs .1 .1 .1 .1 .1 .1 .1 .0) (qs .1 .1 .1 .1 .1 .1 .1 .0)) 8 refl, refl) refl refl (λ b o k. tt)) $
-      ghosts (G35 κs qs) _ (g-begin 𝓤 H A W E (G35 κs qs) 11 _) $
+      stmt _ _ (t-sl-aggregate 𝓤 H A W E (rtF (fInt w16)) 𝓣 (asMut (rtF (fInt w16))) _ 23 24 9 (tyRef erased mut (tyInt w16)) (tyRef erased mut (tyInt w16)) (λ x. x) (oFld 13 (field 1 ∷ []) (tyInt w64) 8 (λ v. lenV (v .0))) (as-is 𝓤 H A (msptr (rtF (fInt w16)) (tyRef erased mut (tyInt w16)) 9)) (room-gone 𝓤 H A _) (reads-owed-len 𝓤 H A W (rtF (fInt w16)) (tyRef (named 6) mut (tyInt w16)) 6 9 (lease (κs .1 .1 .1 .1 .1 .1 .0) (qs .1 .1 .1 .1 .1 .1 .0)) 8 refl, refl) refl refl (λ b o k. tt)) $
+      ghosts _ _ (g-begin 𝓤 H A W E _ 10 _) $
+      stmt _ (G34 κs qs) (t-sl-relend 𝓤 H A W E (rtF (fInt w32)) 𝓣 _ 14 25 7 10 (tyRef (named 7) mut (tyInt w32)) (tyRef erased mut (tyInt w32)) (lease (κs .1 .1 .1 .1 .1 .1 .1 .0) (qs .1 .1 .1 .1 .1 .1 .1 .0)) 0 (λ x. x) (as-is 𝓤 H A (mslice (rtF (fInt w32)) (tyRef (named 7) mut (tyInt w32)) 7)) (room-gone 𝓤 H A (tyRef erased mut (tyInt w32))) refl tt refl refl refl (λ b o. tt)) $
+      stmt (G34 κs qs) _ (t-sl-aggregate 𝓤 H A W E (rtF (fInt w32)) 𝓣 (asMut (rtF (fInt w32))) (G34 κs qs) 25 26 10 (tyRef erased mut (tyInt w32)) (tyRef erased mut (tyInt w32)) (λ x. x) (oFld 14 (field 1 ∷ []) (tyInt w64) 8 (λ v. lenV (v .0))) (as-is 𝓤 H A (msptr (rtF (fInt w32)) (tyRef erased mut (tyInt w32)) 10)) (room-gone 𝓤 H A _) (reads-owed-len 𝓤 H A W (rtF (fInt w32)) (tyRef (named 7) mut (tyInt w32)) 7 10 (lease (κs .1 .1 .1 .1 .1 .1 .1 .0) (qs .1 .1 .1 .1 .1 .1 .1 .0)) 8 refl, refl) refl refl (λ b o k. tt)) $
+      ghosts _ _ (g-begin 𝓤 H A W E _ 11 _) $
       stmt _ _ (t-sc-borrow 𝓤 H A W E 𝓣 _ 16 27 11 (Array (rtF (fInt w64)) 257) (tyRef erased mut (tyArray (tyInt w64) 257)) (λ x. x) (mem-arr 𝓤 H A W (rtF (fInt w64)) 257) (room-gone 𝓤 H A (tyRef erased mut (tyArray (tyInt w64) 257))) refl (λ b o. tt)) $
-      ghosts _ (G38 κs qs) (g-begin 𝓤 H A W E _ 12 _) $
-      stmt (G38 κs qs) _ (t-sc-borrow 𝓤 H A W E 𝓣 (G38 κs qs) 17 28 12 (Array (rtF (fInt w32)) 256) (tyRef erased mut (tyArray (tyInt w32) 256)) (λ x. x) (mem-arr 𝓤 H A W (rtF (fInt w32)) 256) (room-gone 𝓤 H A (tyRef erased mut (tyArray (tyInt w32) 256))) refl (λ b o. tt)) $
-      ghosts _ _ (g-begin 𝓤 H A W E _ 13 _) $
+      ghosts _ _ (g-begin 𝓤 H A W E _ 12 _) $
+      stmt _ (G39 κs qs) (t-sc-borrow 𝓤 H A W E 𝓣 _ 17 28 12 (Array (rtF (fInt w32)) 256) (tyRef erased mut (tyArray (tyInt w32) 256)) (λ x. x) (mem-arr 𝓤 H A W (rtF (fInt w32)) 256) (room-gone 𝓤 H A (tyRef erased mut (tyArray (tyInt w32) 256))) refl (λ b o. tt)) $
+      ghosts (G39 κs qs) _ (g-begin 𝓤 H A W E (G39 κs qs) 13 _) $
       stmt _ (G41 κs qs) (t-sc-borrow 𝓤 H A W E 𝓣 _ 18 29 13 (Array (rtF (fInt w32)) 256) (tyRef erased mut (tyArray (tyInt w32) 256)) (λ x. x) (mem-arr 𝓤 H A W (rtF (fInt w32)) 256) (room-gone 𝓤 H A (tyRef erased mut (tyArray (tyInt w32) 256))) refl (λ b o. tt)) $
       stmt (G41 κs qs) (G42 κs qs) (t-call-plain 𝓤 H A W 𝓣 9 K0.ps K0.r R0.Asked R0.Learnt "pass_lists::view" known0 E (λ pos β. β) (G41 κs qs) (vAt 3 (λ x. x), (vAt 4 (λ x. x), (record { pos = 5; ty = tyRef (named 1) imm (tyInt w32); ref = λ x. x }, (record { pos = 6; ty = tyRef (named 2) imm (tyInt w64); ref = λ x. x }, (vAt 7 (λ x. x), (vAt 8 (λ x. x), (vAt 9 (λ x. x), (record { pos = 11; ty = tyRef (named 4) imm (tyInt w32); ref = λ x. x }, (record { pos = 12; ty = tyRef (named 5) imm (tyInt w32); ref = λ x. x }, (record { pos = 24; ty = tyRef erased mut (tyInt w16); ref = λ x. x }, (record { pos = 26; ty = tyRef erased mut (tyInt w32); ref = λ x. x }, (record { pos = 27; ty = tyRef erased mut (tyArray (tyInt w64) 257); ref = λ x. x }, (record { pos = 28; ty = tyRef erased mut (tyArray (tyInt w32) 256); ref = λ x. x }, (record { pos = 29; ty = tyRef erased mut (tyArray (tyInt w32) 256); ref = λ x. x }, tt)))))))))))))) 22 (1 ∷ 2 ∷ 4 ∷ 5 ∷ 9 ∷ 10 ∷ 11 ∷ 12 ∷ 13 ∷ []) (sub-id 𝓤 H A W ((G41 κs qs) .slots)) ((reads-sc 𝓤 H A W (sInt w64), refl), ((reads-sc 𝓤 H A W (sInt w64), refl), (spares-sslice 𝓤 H A W (rtF (fInt w32)) (tyRef (named 1) imm (tyInt w32)) 1, reads-sslice 𝓤 H A W (rtF (fInt w32)) (tyRef (named 1) imm (tyInt w32)) 1, refl, (spares-sslice 𝓤 H A W (rtF (fInt w64)) (tyRef (named 2) imm (tyInt w64)) 2, reads-sslice 𝓤 H A W (rtF (fInt w64)) (tyRef (named 2) imm (tyInt w64)) 2, refl, ((reads-sc 𝓤 H A W (sInt w64), refl), ((reads-sc 𝓤 H A W (sInt w64), refl), ((reads-sc 𝓤 H A W (sInt w64), refl), (spares-sslice 𝓤 H A W (rtF (fInt w32)) (tyRef (named 4) imm (tyInt w32)) 4, reads-sslice 𝓤 H A W (rtF (fInt w32)) (tyRef (named 4) imm (tyInt w32)) 4, refl, (spares-sslice 𝓤 H A W (rtF (fInt w32)) (tyRef (named 5) imm (tyInt w32)) 5, reads-sslice 𝓤 H A W (rtF (fInt w32)) (tyRef (named 5) imm (tyInt w32)) 5, refl, (as-is 𝓤 H A (mslice (rtF (fInt w16)) (tyRef erased mut (tyInt w16)) 9), reads-mslice 𝓤 H A W (rtF (fInt w16)) (tyRef erased mut (tyInt w16)) 9, refl, (as-is 𝓤 H A (mslice (rtF (fInt w32)) (tyRef erased mut (tyInt w32)) 10), reads-mslice 𝓤 H A W (rtF (fInt w32)) (tyRef erased mut (tyInt w32)) 10, refl, (as-is 𝓤 H A (mref (Array (rtF (fInt w64)) 257) (tyRef erased mut (tyArray (tyInt w64) 257)) 11), reads-mref 𝓤 H A W (Array (rtF (fInt w64)) 257) (tyRef erased mut (tyArray (tyInt w64) 257)) 11, refl, (as-is 𝓤 H A (mref (Array (rtF (fInt w32)) 256) (tyRef erased mut (tyArray (tyInt w32) 256)) 12), reads-mref 𝓤 H A W (Array (rtF (fInt w32)) 256) (tyRef erased mut (tyArray (tyInt w32) 256)) 12, refl, (as-is 𝓤 H A (mref (Array (rtF (fInt w32)) 256) (tyRef erased mut (tyArray (tyInt w32) 256)) 13), reads-mref 𝓤 H A W (Array (rtF (fInt w32)) 256) (tyRef erased mut (tyArray (tyInt w32) 256)) 13, refl, tt)))))))))))))) (room-gone 𝓤 H A tyUnit) _ refl) $
       ghosts (G42 κs qs) _ (g-room 𝓤 H A W E (G42 κs qs) 22 tyUnit (room-sc 𝓤 H A W sUnit)) $
       ghosts _ _ (g-end 𝓤 H A W E _ 9 refl) $
-      ghosts _ (G45 κs qs) (g-back-sl 𝓤 H A W E (rtF (fInt w16)) _ 24 13 6 9 (tyRef (named 6) mut (tyInt w16)) (tyRef erased mut (tyInt w16)) (lease (κs .1 .1 .1 .1 .1 .1 .0) (qs .1 .1 .1 .1 .1 .1 .0)) (λ x. x) (λ x. x) (as-is 𝓤 H A (msleft (rtF (fInt w16)) (tyRef erased mut (tyInt w16)))) (as-is 𝓤 H A (mslice-owed (rtF (fInt w16)) (tyRef (named 6) mut (tyInt w16)) 6 9 (lease (κs .1 .1 .1 .1 .1 .1 .0) (qs .1 .1 .1 .1 .1 .1 .0)))) refl refl) $
-      ghosts (G45 κs qs) _ (g-forget 𝓤 H A W E (G45 κs qs) 9 dead refl) $
-      ghosts _ _ (g-end 𝓤 H A W E _ 10 refl) $
-      ghosts _ (G49 κs qs) (g-back-sl 𝓤 H A W E (rtF (fInt w32)) _ 26 14 7 10 (tyRef (named 7) mut (tyInt w32)) (tyRef erased mut (tyInt w32)) (lease (κs .1 .1 .1 .1 .1 .1 .1 .0) (qs .1 .1 .1 .1 .1 .1 .1 .0)) (λ x. x) (λ x. x) (as-is 𝓤 H A (msleft (rtF (fInt w32)) (tyRef erased mut (tyInt w32)))) (as-is 𝓤 H A (mslice-owed (rtF (fInt w32)) (tyRef (named 7) mut (tyInt w32)) 7 10 (lease (κs .1 .1 .1 .1 .1 .1 .1 .0) (qs .1 .1 .1 .1 .1 .1 .1 .0)))) refl refl) $
-      ghosts (G49 κs qs) _ (g-forget 𝓤 H A W E (G49 κs qs) 10 dead refl) $
+      ghosts _ _ (g-back-sl 𝓤 H A W E (rtF (fInt w16)) _ 24 13 6 9 (tyRef (named 6) mut (tyInt w16)) (tyRef erased mut (tyInt w16)) (lease (κs .1 .1 .1 .1 .1 .1 .0) (qs .1 .1 .1 .1 .1 .1 .0)) (λ x. x) (λ x. x) (as-is 𝓤 H A (msleft (rtF (fInt w16)) (tyRef erased mut (tyInt w16)))) (as-is 𝓤 H A (mslice-owed (rtF (fInt w16)) (tyRef (named 6) mut (tyInt w16)) 6 9 (lease (κs .1 .1 .1 .1 .1 .1 .0) (qs .1 .1 .1 .1 .1 .1 .0)))) refl refl) $
+      ghosts _ _ (g-forget 𝓤 H A W E _ 9 dead refl) $
+      ghosts _ (G48 κs qs) (g-end 𝓤 H A W E _ 10 refl) $
+      ghosts (G48 κs qs) _ (g-back-sl 𝓤 H A W E (rtF (fInt w32)) (G48 κs qs) 26 14 7 10 (tyRef (named 7) mut (tyInt w32)) (tyRef erased mut (tyInt w32)) (lease (κs .1 .1 .1 .1 .1 .1 .1 .0) (qs .1 .1 .1 .1 .1 .1 .1 .0)) (λ x. x) (λ x. x) (as-is 𝓤 H A (msleft (rtF (fInt w32)) (tyRef erased mut (tyInt w32)))) (as-is 𝓤 H A (mslice-owed (rtF (fInt w32)) (tyRef (named 7) mut (tyInt w32)) 7 10 (lease (κs .1 .1 .1 .1 .1 .1 .1 .0) (qs .1 .1 .1 .1 .1 .1 .1 .0)))) refl refl) $
+      ghosts _ _ (g-forget 𝓤 H A W E _ 10 dead refl) $
       ghosts _ _ (g-end 𝓤 H A W E _ 11 refl) $
-      ghosts _ (G53 κs qs) (g-back-sc 𝓤 H A W E _ 27 16 11 (Array (rtF (fInt w64)) 257) (tyRef erased mut (tyArray (tyInt w64) 257)) (arrF (rtF (fInt w64)) 257 0) (λ x. x) (λ x. x) (λ x. x) (as-is 𝓤 H A (mleft (Array (rtF (fInt w64)) 257) (tyRef erased mut (tyArray (tyInt w64) 257)))) (as-is 𝓤 H A (sc-owed (Array (rtF (fInt w64)) 257) 11)) (arr-mem 𝓤 H A W (rtF (fInt w64)) 257 tt) refl) $
-      ghosts (G53 κs qs) _ (g-forget 𝓤 H A W E (G53 κs qs) 11 dead refl) $
-      ghosts _ _ (g-end 𝓤 H A W E _ 12 refl) $
-      ghosts _ (G56 κs qs) (g-back-sc 𝓤 H A W E _ 28 17 12 (Array (rtF (fInt w32)) 256) (tyRef erased mut (tyArray (tyInt w32) 256)) (arrF (rtF (fInt w32)) 256 0) (λ x. x) (λ x. x) (λ x. x) (as-is 𝓤 H A (mleft (Array (rtF (fInt w32)) 256) (tyRef erased mut (tyArray (tyInt w32) 256)))) (as-is 𝓤 H A (sc-owed (Array (rtF (fInt w32)) 256) 12)) (arr-mem 𝓤 H A W (rtF (fInt w32)) 256 tt) refl) $
-      ghosts (G56 κs qs) _ (g-forget 𝓤 H A W E (G56 κs qs) 12 dead refl) $
+      ghosts _ _ (g-back-sc 𝓤 H A W E _ 27 16 11 (Array (rtF (fInt w64)) 257) (tyRef erased mut (tyArray (tyInt w64) 257)) (arrF (rtF (fInt w64)) 257 0) (λ x. x) (λ x. x) (λ x. x) (as-is 𝓤 H A (mleft (Array (rtF (fInt w64)) 257) (tyRef erased mut (tyArray (tyInt w64) 257)))) (as-is 𝓤 H A (sc-owed (Array (rtF (fInt w64)) 257) 11)) (arr-mem 𝓤 H A W (rtF (fInt w64)) 257 tt) refl) $
+      ghosts _ (G54 κs qs) (g-forget 𝓤 H A W E _ 11 dead refl) $
+      ghosts (G54 κs qs) _ (g-end 𝓤 H A W E (G54 κs qs) 12 refl) $
+      ghosts _ _ (g-back-sc 𝓤 H A W E _ 28 17 12 (Array (rtF (fInt w32)) 256) (tyRef erased mut (tyArray (tyInt w32) 256)) (arrF (rtF (fInt w32)) 256 0) (λ x. x) (λ x. x) (λ x. x) (as-is 𝓤 H A (mleft (Array (rtF (fInt w32)) 256) (tyRef erased mut (tyArray (tyInt w32) 256)))) (as-is 𝓤 H A (sc-owed (Array (rtF (fInt w32)) 256) 12)) (arr-mem 𝓤 H A W (rtF (fInt w32)) 256 tt) refl) $
+      ghosts _ _ (g-forget 𝓤 H A W E _ 12 dead refl) $
       ghosts _ _ (g-end 𝓤 H A W E _ 13 refl) $
       ghosts _ (G59 κs qs) (g-back-sc 𝓤 H A W E _ 29 18 13 (Array (rtF (fInt w32)) 256) (tyRef erased mut (tyArray (tyInt w32) 256)) (arrF (rtF (fInt w32)) 256 0) (λ x. x) (λ x. x) (λ x. x) (as-is 𝓤 H A (mleft (Array (rtF (fInt w32)) 256) (tyRef erased mut (tyArray (tyInt w32) 256)))) (as-is 𝓤 H A (sc-owed (Array (rtF (fInt w32)) 256) 13)) (arr-mem 𝓤 H A W (rtF (fInt w32)) 256 tt) refl) $
       ghosts (G59 κs qs) (G29 κs qs) (g-forget 𝓤 H A W E (G59 κs qs) 13 dead refl) $
@@ -333,8 +306,8 @@ module _ {M : Type 1} (𝓤 : URA M) (H : Heap 𝓤) (A : Atoms 𝓤) (W : Given
   d =
       stmt (G0 κs qs) _ (t-use 𝓤 H A W E 𝓣 (G0 κs qs) (oFld 10 (field 1 ∷ []) (tyInt w64) 8 lenV) 19 (sc-here (sInt w64)) (tyInt w64) (valS (sInt w64)) (sInt w64 .of) (reads-sslice-len 𝓤 H A W (rtF (fInt w64)) (tyRef (named 3) imm (tyInt w64)) 3 8 refl, refl) (room-gone 𝓤 H A (tyInt w64)) (holds-sc 𝓤 H A W (sInt w64)) refl (λ u. refl) (λ u. tt)) $
       stmt _ _ (t-op2 𝓤 H A W E 𝓣 _ (div unsigned) (oAt 19 (tyInt w64) (valS (sInt w64))) (oInt w64 _) 20 (sc-here (sInt w64)) (tyInt w64) (valS (sInt w64)) (sInt w64 .of) (reads-sc 𝓤 H A W (sInt w64), refl) tt (room-gone 𝓤 H A (tyInt w64)) (holds-sc 𝓤 H A W (sInt w64)) refl (λ u. refl) (λ u. tt)) $
-      ghosts _ (G11 κs qs) (g-room 𝓤 H A W E _ 19 (tyInt w64) (room-sc 𝓤 H A W (sInt w64))) $
-      stmt (G11 κs qs) (G12 κs qs) (t-op2 𝓤 H A W E 𝓣 (G11 κs qs) ne (oAt 20 (tyInt w64) (valS (sInt w64))) (oAt 9 (tyInt w64) (valS (sInt w64))) 21 (sc-here sBool) tyBool (valS sBool) (sBool .of) (reads-sc 𝓤 H A W (sInt w64), refl) (reads-sc 𝓤 H A W (sInt w64), refl) (room-gone 𝓤 H A tyBool) (holds-sc 𝓤 H A W sBool) refl (λ u. refl) (λ u. tt)) $
+      ghosts _ _ (g-room 𝓤 H A W E _ 19 (tyInt w64) (room-sc 𝓤 H A W (sInt w64))) $
+      stmt _ (G12 κs qs) (t-op2 𝓤 H A W E 𝓣 _ ne (oAt 20 (tyInt w64) (valS (sInt w64))) (oAt 9 (tyInt w64) (valS (sInt w64))) 21 (sc-here sBool) tyBool (valS sBool) (sBool .of) (reads-sc 𝓤 H A W (sInt w64), refl) (reads-sc 𝓤 H A W (sInt w64), refl) (room-gone 𝓤 H A tyBool) (holds-sc 𝓤 H A W sBool) refl (λ u. refl) (λ u. tt)) $
       first (G12 κs qs) (G0 κs qs) (
       ghosts (G12 κs qs) (G14 κs qs) (g-room 𝓤 H A W E (G12 κs qs) 20 (tyInt w64) (room-sc 𝓤 H A W (sInt w64))) $
       test (G14 κs qs) 21 (λ x. x) (reads-sc 𝓤 H A W sBool) refl (

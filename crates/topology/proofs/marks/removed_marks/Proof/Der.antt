@@ -44,6 +44,9 @@ module _ (κs : Lfts 10) (qs : Shares 10) where
   abbrev row5 : ℕ → Row
   row5 k = mslice-owedS (rtF (fInt w32)) (tyRef (named 8) mut (tyInt w32)) 8 k (lease (κs .1 .1 .1 .1 .1 .1 .1 .1 .0) (qs .1 .1 .1 .1 .1 .1 .1 .1 .0))
 
+  abbrev row6 : Row
+  row6 = ssptr (rtF (fInt w32)) (tyRef erased imm (tyInt w32)) 11
+
   abbrev row7 : ℕ → Row
   row7 k = sslice (rtF (fInt w32)) (tyRef erased imm (tyInt w32)) k
 
@@ -65,6 +68,9 @@ module _ (κs : Lfts 10) (qs : Shares 10) where
   abbrev row16 : Row
   row16 = mslice-owed (rtF (fInt w32)) (tyRef (named 8) mut (tyInt w32)) 8 14 (lease (κs .1 .1 .1 .1 .1 .1 .1 .1 .0) (qs .1 .1 .1 .1 .1 .1 .1 .1 .0))
 
+  abbrev row17 : Row
+  row17 = msptr (rtF (fInt w32)) (tyRef erased mut (tyInt w32)) 14
+
   abbrev row18 : Row
   row18 = mslice (rtF (fInt w32)) (tyRef erased mut (tyInt w32)) 14
 
@@ -74,17 +80,17 @@ module _ (κs : Lfts 10) (qs : Shares 10) where
   abbrev row25 : Row
   row25 = mslice-owedS (rtF (fInt w16)) (tyRef (named 7) mut (tyInt w16)) 7 17 (lease (κs .1 .1 .1 .1 .1 .1 .1 .0) (qs .1 .1 .1 .1 .1 .1 .1 .0))
 
+  abbrev row26 : Row
+  row26 = ssptr (rtF (fInt w16)) (tyRef erased imm (tyInt w16)) 17
+
   abbrev row27 : Row
   row27 = sslice (rtF (fInt w16)) (tyRef erased imm (tyInt w16)) 17
 
   abbrev pub G7 : Cx
   G7 = patched ((14, row1) ∷ []) ([]) G0
 
-  abbrev pub G12 : Cx
-  G12 = patched ((11, row2 10) ∷ (17, row4 10) ∷ []) ((7, off) ∷ (10, alive) ∷ []) G0
-
-  abbrev pub G15 : Cx
-  G15 = patched ((11, row2 10) ∷ (12, row5 11) ∷ (17, row4 10) ∷ (19, row7 11) ∷ []) ((7, off) ∷ (8, off) ∷ (10, alive) ∷ (11, alive) ∷ []) G0
+  abbrev pub G14 : Cx
+  G14 = patched ((11, row2 10) ∷ (12, row5 11) ∷ (17, row4 10) ∷ (18, row6) ∷ []) ((7, off) ∷ (8, off) ∷ (10, alive) ∷ (11, alive) ∷ []) G0
 
   abbrev pub G17 : Cx
   G17 = patched ((11, row2 10) ∷ (12, row5 11) ∷ (13, row8 12) ∷ (17, row4 10) ∷ (19, row7 11) ∷ (20, row9 12) ∷ []) ((7, off) ∷ (8, off) ∷ (9, off) ∷ (10, alive) ∷ (11, alive) ∷ (12, alive) ∷ []) G0
@@ -92,14 +98,11 @@ module _ (κs : Lfts 10) (qs : Shares 10) where
   abbrev pub G18 : Cx
   G18 = patched ((11, row2 10) ∷ (12, row5 11) ∷ (13, row8 12) ∷ (15, row10) ∷ (17, row11) ∷ (19, row7 11) ∷ (20, row12) ∷ []) ((7, off) ∷ (8, off) ∷ (9, off) ∷ (10, alive) ∷ (11, alive) ∷ (12, alive) ∷ []) G0
 
-  abbrev pub G21 : Cx
-  G21 = patched ((11, row2 10) ∷ (12, row5 11) ∷ (13, row8 12) ∷ (17, row11) ∷ (20, row12) ∷ []) ((7, off) ∷ (8, off) ∷ (9, off) ∷ (10, dead) ∷ (11, alive) ∷ (12, alive) ∷ []) G0
+  abbrev pub G24 : Cx
+  G24 = patched ((12, row5 11) ∷ (13, row8 12) ∷ (20, row12) ∷ []) ((8, off) ∷ (9, off) ∷ (11, alive) ∷ (12, alive) ∷ []) G0
 
-  abbrev pub G25 : Cx
-  G25 = patched ((12, row5 11) ∷ (13, row8 12) ∷ (20, row12) ∷ []) ((8, off) ∷ (9, off) ∷ (11, dead) ∷ (12, alive) ∷ []) G0
-
-  abbrev pub G28 : Cx
-  G28 = patched ((13, row8 12) ∷ (20, row12) ∷ []) ((9, off) ∷ (12, dead) ∷ []) G0
+  abbrev pub G29 : Cx
+  G29 = patched ([]) ((12, dead) ∷ []) G0
 
   abbrev pub G31 : Cx
   G31 = patched ((0, row10) ∷ []) ([]) G0
@@ -113,11 +116,8 @@ module _ (κs : Lfts 10) (qs : Shares 10) where
   abbrev pub G34 : Cx
   G34 = patched ((0, row10) ∷ (1, (any-gone (ty 1))) ∷ (3, (any-gone (ty 3))) ∷ (4, (any-gone (ty 4))) ∷ []) ([]) G0
 
-  abbrev pub G41 : Cx
-  G41 = patched ((11, row2 13) ∷ (23, row4 13) ∷ []) ((7, off) ∷ (13, alive) ∷ []) G0
-
-  abbrev pub G44 : Cx
-  G44 = patched ((11, row2 13) ∷ (12, row16) ∷ (23, row4 13) ∷ (25, row18) ∷ []) ((7, off) ∷ (8, off) ∷ (13, alive) ∷ (14, alive) ∷ []) G0
+  abbrev pub G43 : Cx
+  G43 = patched ((11, row2 13) ∷ (12, row16) ∷ (23, row4 13) ∷ (24, row17) ∷ []) ((7, off) ∷ (8, off) ∷ (13, alive) ∷ (14, alive) ∷ []) G0
 
   abbrev pub G46 : Cx
   G46 = patched ((11, row2 13) ∷ (12, row16) ∷ (13, row8 15) ∷ (23, row4 13) ∷ (25, row18) ∷ (26, row9 15) ∷ []) ((7, off) ∷ (8, off) ∷ (9, off) ∷ (13, alive) ∷ (14, alive) ∷ (15, alive) ∷ []) G0
@@ -125,20 +125,11 @@ module _ (κs : Lfts 10) (qs : Shares 10) where
   abbrev pub G47 : Cx
   G47 = patched ((11, row2 13) ∷ (12, row16) ∷ (13, row8 15) ∷ (21, row10) ∷ (23, row11) ∷ (25, row21) ∷ (26, row12) ∷ []) ((7, off) ∷ (8, off) ∷ (9, off) ∷ (13, alive) ∷ (14, alive) ∷ (15, alive) ∷ []) G0
 
-  abbrev pub G50 : Cx
-  G50 = patched ((12, row16) ∷ (13, row8 15) ∷ (25, row21) ∷ (26, row12) ∷ []) ((8, off) ∷ (9, off) ∷ (13, dead) ∷ (14, alive) ∷ (15, alive) ∷ []) G0
+  abbrev pub G53 : Cx
+  G53 = patched ((12, row16) ∷ (13, row8 15) ∷ (25, row21) ∷ (26, row12) ∷ []) ((8, off) ∷ (9, off) ∷ (14, dead) ∷ (15, alive) ∷ []) G0
 
-  abbrev pub G54 : Cx
-  G54 = patched ((13, row8 15) ∷ (26, row12) ∷ []) ((9, off) ∷ (14, dead) ∷ (15, alive) ∷ []) G0
-
-  abbrev pub G58 : Cx
-  G58 = patched ([]) ((15, dead) ∷ []) G0
-
-  abbrev pub G67 : Cx
-  G67 = patched ((12, row5 16) ∷ (29, row7 16) ∷ []) ((8, off) ∷ (16, alive) ∷ []) G0
-
-  abbrev pub G70 : Cx
-  G70 = patched ((11, row25) ∷ (12, row5 16) ∷ (29, row7 16) ∷ (31, row27) ∷ []) ((7, off) ∷ (8, off) ∷ (16, alive) ∷ (17, alive) ∷ []) G0
+  abbrev pub G69 : Cx
+  G69 = patched ((11, row25) ∷ (12, row5 16) ∷ (29, row7 16) ∷ (30, row26) ∷ []) ((7, off) ∷ (8, off) ∷ (16, alive) ∷ (17, alive) ∷ []) G0
 
   abbrev pub G72 : Cx
   G72 = patched ((11, row25) ∷ (12, row5 16) ∷ (13, row8 18) ∷ (29, row7 16) ∷ (31, row27) ∷ (32, row9 18) ∷ []) ((7, off) ∷ (8, off) ∷ (9, off) ∷ (16, alive) ∷ (17, alive) ∷ (18, alive) ∷ []) G0
@@ -146,14 +137,11 @@ module _ (κs : Lfts 10) (qs : Shares 10) where
   abbrev pub G73 : Cx
   G73 = patched ((11, row25) ∷ (12, row5 16) ∷ (13, row8 18) ∷ (27, row10) ∷ (29, row7 16) ∷ (31, row27) ∷ (32, row12) ∷ []) ((7, off) ∷ (8, off) ∷ (9, off) ∷ (16, alive) ∷ (17, alive) ∷ (18, alive) ∷ []) G0
 
-  abbrev pub G76 : Cx
-  G76 = patched ((11, row25) ∷ (12, row5 16) ∷ (13, row8 18) ∷ (32, row12) ∷ []) ((7, off) ∷ (8, off) ∷ (9, off) ∷ (16, alive) ∷ (17, alive) ∷ (18, alive) ∷ []) G0
+  abbrev pub G78 : Cx
+  G78 = patched ((11, row25) ∷ (13, row8 18) ∷ (32, row12) ∷ []) ((7, off) ∷ (9, off) ∷ (16, dead) ∷ (17, alive) ∷ (18, alive) ∷ []) G0
 
-  abbrev pub G79 : Cx
-  G79 = patched ((11, row25) ∷ (13, row8 18) ∷ (32, row12) ∷ []) ((7, off) ∷ (9, off) ∷ (17, alive) ∷ (18, alive) ∷ []) G0
-
-  abbrev pub G82 : Cx
-  G82 = patched ((13, row8 18) ∷ (32, row12) ∷ []) ((9, off) ∷ (18, alive) ∷ []) G0
+  abbrev pub G83 : Cx
+  G83 = patched ((13, row8 18) ∷ (32, row12) ∷ []) ((9, off) ∷ (18, dead) ∷ []) G0
 
   abbrev pub Γ-pass-1 : Cx
   Γ-pass-1 = G0
@@ -173,24 +161,24 @@ module _ {M : Type 1} (𝓤 : URA M) (H : Heap 𝓤) (A : Atoms 𝓤) (W : Given
   pass-3 =
       ghosts (G0 κs qs) _ (g-begin 𝓤 H A W E (G0 κs qs) 16 _) $
       stmt _ _ (t-sl-reshare 𝓤 H A W E (rtF (fInt w32)) 𝓣 _ 12 28 8 16 (tyRef (named 8) mut (tyInt w32)) (tyRef erased imm (tyInt w32)) (lease (κs .1 .1 .1 .1 .1 .1 .1 .1 .0) (qs .1 .1 .1 .1 .1 .1 .1 .1 .0)) 0 (λ x. x) (as-is 𝓤 H A (mslice (rtF (fInt w32)) (tyRef (named 8) mut (tyInt w32)) 8)) (room-gone 𝓤 H A (tyRef erased imm (tyInt w32))) refl tt refl refl refl (λ b o. tt)) $
-      stmt _ (G67 κs qs) (t-sl-aggregate 𝓤 H A W E (rtF (fInt w32)) 𝓣 (asShr (rtF (fInt w32))) _ 28 29 16 (tyRef erased imm (tyInt w32)) (tyRef erased imm (tyInt w32)) (λ x. x) (oFld 12 (field 1 ∷ []) (tyInt w64) 8 (λ v. lenV (v .0))) (as-is 𝓤 H A (ssptr (rtF (fInt w32)) (tyRef erased imm (tyInt w32)) 16)) (room-gone 𝓤 H A _) (reads-owedS-len 𝓤 H A W (rtF (fInt w32)) (tyRef (named 8) mut (tyInt w32)) 8 16 (lease (κs .1 .1 .1 .1 .1 .1 .1 .1 .0) (qs .1 .1 .1 .1 .1 .1 .1 .1 .0)) 8 refl, refl) refl refl (λ b o k. tt)) $
-      ghosts (G67 κs qs) _ (g-begin 𝓤 H A W E (G67 κs qs) 17 _) $
-      stmt _ _ (t-sl-reshare 𝓤 H A W E (rtF (fInt w16)) 𝓣 _ 11 30 7 17 (tyRef (named 7) mut (tyInt w16)) (tyRef erased imm (tyInt w16)) (lease (κs .1 .1 .1 .1 .1 .1 .1 .0) (qs .1 .1 .1 .1 .1 .1 .1 .0)) 0 (λ x. x) (as-is 𝓤 H A (mslice (rtF (fInt w16)) (tyRef (named 7) mut (tyInt w16)) 7)) (room-gone 𝓤 H A (tyRef erased imm (tyInt w16))) refl tt refl refl refl (λ b o. tt)) $
-      stmt _ (G70 κs qs) (t-sl-aggregate 𝓤 H A W E (rtF (fInt w16)) 𝓣 (asShr (rtF (fInt w16))) _ 30 31 17 (tyRef erased imm (tyInt w16)) (tyRef erased imm (tyInt w16)) (λ x. x) (oFld 11 (field 1 ∷ []) (tyInt w64) 8 (λ v. lenV (v .0))) (as-is 𝓤 H A (ssptr (rtF (fInt w16)) (tyRef erased imm (tyInt w16)) 17)) (room-gone 𝓤 H A _) (reads-owedS-len 𝓤 H A W (rtF (fInt w16)) (tyRef (named 7) mut (tyInt w16)) 7 17 (lease (κs .1 .1 .1 .1 .1 .1 .1 .0) (qs .1 .1 .1 .1 .1 .1 .1 .0)) 8 refl, refl) refl refl (λ b o k. tt)) $
-      ghosts (G70 κs qs) _ (g-begin 𝓤 H A W E (G70 κs qs) 18 _) $
+      stmt _ _ (t-sl-aggregate 𝓤 H A W E (rtF (fInt w32)) 𝓣 (asShr (rtF (fInt w32))) _ 28 29 16 (tyRef erased imm (tyInt w32)) (tyRef erased imm (tyInt w32)) (λ x. x) (oFld 12 (field 1 ∷ []) (tyInt w64) 8 (λ v. lenV (v .0))) (as-is 𝓤 H A (ssptr (rtF (fInt w32)) (tyRef erased imm (tyInt w32)) 16)) (room-gone 𝓤 H A _) (reads-owedS-len 𝓤 H A W (rtF (fInt w32)) (tyRef (named 8) mut (tyInt w32)) 8 16 (lease (κs .1 .1 .1 .1 .1 .1 .1 .1 .0) (qs .1 .1 .1 .1 .1 .1 .1 .1 .0)) 8 refl, refl) refl refl (λ b o k. tt)) $
+      ghosts _ _ (g-begin 𝓤 H A W E _ 17 _) $
+      stmt _ (G69 κs qs) (t-sl-reshare 𝓤 H A W E (rtF (fInt w16)) 𝓣 _ 11 30 7 17 (tyRef (named 7) mut (tyInt w16)) (tyRef erased imm (tyInt w16)) (lease (κs .1 .1 .1 .1 .1 .1 .1 .0) (qs .1 .1 .1 .1 .1 .1 .1 .0)) 0 (λ x. x) (as-is 𝓤 H A (mslice (rtF (fInt w16)) (tyRef (named 7) mut (tyInt w16)) 7)) (room-gone 𝓤 H A (tyRef erased imm (tyInt w16))) refl tt refl refl refl (λ b o. tt)) $
+      stmt (G69 κs qs) _ (t-sl-aggregate 𝓤 H A W E (rtF (fInt w16)) 𝓣 (asShr (rtF (fInt w16))) (G69 κs qs) 30 31 17 (tyRef erased imm (tyInt w16)) (tyRef erased imm (tyInt w16)) (λ x. x) (oFld 11 (field 1 ∷ []) (tyInt w64) 8 (λ v. lenV (v .0))) (as-is 𝓤 H A (ssptr (rtF (fInt w16)) (tyRef erased imm (tyInt w16)) 17)) (room-gone 𝓤 H A _) (reads-owedS-len 𝓤 H A W (rtF (fInt w16)) (tyRef (named 7) mut (tyInt w16)) 7 17 (lease (κs .1 .1 .1 .1 .1 .1 .1 .0) (qs .1 .1 .1 .1 .1 .1 .1 .0)) 8 refl, refl) refl refl (λ b o k. tt)) $
+      ghosts _ _ (g-begin 𝓤 H A W E _ 18 _) $
       stmt _ (G72 κs qs) (t-mref-relend 𝓤 H A W E 𝓣 _ 13 32 9 18 (Array (rtF fBool) 256) (tyArray tyBool 256) (tyRef (named 9) mut (tyArray tyBool 256)) (tyRef erased mut (tyArray tyBool 256)) (lease (κs .1 .1 .1 .1 .1 .1 .1 .1 .1 .0) (qs .1 .1 .1 .1 .1 .1 .1 .1 .1 .0)) (λ x. x) (as-is 𝓤 H A (mref (Array (rtF fBool) 256) (tyRef (named 9) mut (tyArray tyBool 256)) 9)) (room-gone 𝓤 H A (tyRef erased mut (tyArray tyBool 256))) refl tt refl refl (λ b o. tt)) $
       stmt (G72 κs qs) (G73 κs qs) (t-call-plain 𝓤 H A W 𝓣 7 K2.ps K2.r K2.Asked K2.Learnt "topology::junction_pass::remove_junction_boundaries" known2 E (λ pos β. β) (G72 κs qs) (record { pos = 2; ty = tyRef (named 0) imm (pointee (twin-0.the-row .written)); ref = λ x. x }, (vAt 3 (λ x. x), (vAt 4 (λ x. x), (record { pos = 5; ty = tyRef (named 1) imm (tyInt w64); ref = λ x. x }, (record { pos = 9; ty = tyRef (named 5) imm (tyArray (tyInt w32) 256); ref = λ x. x }, (record { pos = 10; ty = tyRef (named 6) imm (tyArray (tyInt w32) 256); ref = λ x. x }, (record { pos = 29; ty = tyRef erased imm (tyInt w32); ref = λ x. x }, (record { pos = 31; ty = tyRef erased imm (tyInt w16); ref = λ x. x }, (record { pos = 32; ty = tyRef erased mut (tyArray tyBool 256); ref = λ x. x }, tt))))))))) 27 (0 ∷ 1 ∷ 5 ∷ 6 ∷ 16 ∷ 17 ∷ 18 ∷ []) (sub-id 𝓤 H A W ((G72 κs qs) .slots)) (spares-sslice 𝓤 H A W twin-0.the-row (tyRef (named 0) imm (pointee (twin-0.the-row .written))) 0, reads-sslice 𝓤 H A W twin-0.the-row (tyRef (named 0) imm (pointee (twin-0.the-row .written))) 0, refl, ((reads-sc 𝓤 H A W (sInt w64), refl), ((reads-sc 𝓤 H A W (sInt w64), refl), (spares-sslice 𝓤 H A W (rtF (fInt w64)) (tyRef (named 1) imm (tyInt w64)) 1, reads-sslice 𝓤 H A W (rtF (fInt w64)) (tyRef (named 1) imm (tyInt w64)) 1, refl, (spares-sref 𝓤 H A W (Array (rtF (fInt w32)) 256) (tyRef (named 5) imm (tyArray (tyInt w32) 256)) 5, reads-sref 𝓤 H A W (Array (rtF (fInt w32)) 256) (tyRef (named 5) imm (tyArray (tyInt w32) 256)) 5, refl, (spares-sref 𝓤 H A W (Array (rtF (fInt w32)) 256) (tyRef (named 6) imm (tyArray (tyInt w32) 256)) 6, reads-sref 𝓤 H A W (Array (rtF (fInt w32)) 256) (tyRef (named 6) imm (tyArray (tyInt w32) 256)) 6, refl, (spares-sslice 𝓤 H A W (rtF (fInt w32)) (tyRef erased imm (tyInt w32)) 16, reads-sslice 𝓤 H A W (rtF (fInt w32)) (tyRef erased imm (tyInt w32)) 16, refl, (spares-sslice 𝓤 H A W (rtF (fInt w16)) (tyRef erased imm (tyInt w16)) 17, reads-sslice 𝓤 H A W (rtF (fInt w16)) (tyRef erased imm (tyInt w16)) 17, refl, (as-is 𝓤 H A (mref (Array (rtF fBool) 256) (tyRef erased mut (tyArray tyBool 256)) 18), reads-mref 𝓤 H A W (Array (rtF fBool) 256) (tyRef erased mut (tyArray tyBool 256)) 18, refl, tt))))))))) (room-gone 𝓤 H A tyUnit) _ refl) $
       ghosts (G73 κs qs) _ (g-room 𝓤 H A W E (G73 κs qs) 29 _ (room-sslice 𝓤 H A W (rtF (fInt w32)) (tyRef erased imm (tyInt w32)) 16)) $
       ghosts _ _ (g-room 𝓤 H A W E _ 31 _ (room-sslice 𝓤 H A W (rtF (fInt w16)) (tyRef erased imm (tyInt w16)) 17)) $
-      ghosts _ (G76 κs qs) (g-room 𝓤 H A W E _ 27 tyUnit (room-sc 𝓤 H A W sUnit)) $
-      ghosts (G76 κs qs) _ (g-end 𝓤 H A W E (G76 κs qs) 16 refl) $
-      ghosts _ _ (g-back-sl-shr 𝓤 H A W E (rtF (fInt w32)) _ 12 8 16 (tyRef (named 8) mut (tyInt w32)) (lease (κs .1 .1 .1 .1 .1 .1 .1 .1 .0) (qs .1 .1 .1 .1 .1 .1 .1 .1 .0)) (λ x. x) (as-is 𝓤 H A (mslice-owedS (rtF (fInt w32)) (tyRef (named 8) mut (tyInt w32)) 8 16 (lease (κs .1 .1 .1 .1 .1 .1 .1 .1 .0) (qs .1 .1 .1 .1 .1 .1 .1 .1 .0)))) refl refl) $
-      ghosts _ (G79 κs qs) (g-forget 𝓤 H A W E _ 16 dead refl) $
-      ghosts (G79 κs qs) _ (g-end 𝓤 H A W E (G79 κs qs) 17 refl) $
+      ghosts _ _ (g-room 𝓤 H A W E _ 27 tyUnit (room-sc 𝓤 H A W sUnit)) $
+      ghosts _ _ (g-end 𝓤 H A W E _ 16 refl) $
+      ghosts _ (G78 κs qs) (g-back-sl-shr 𝓤 H A W E (rtF (fInt w32)) _ 12 8 16 (tyRef (named 8) mut (tyInt w32)) (lease (κs .1 .1 .1 .1 .1 .1 .1 .1 .0) (qs .1 .1 .1 .1 .1 .1 .1 .1 .0)) (λ x. x) (as-is 𝓤 H A (mslice-owedS (rtF (fInt w32)) (tyRef (named 8) mut (tyInt w32)) 8 16 (lease (κs .1 .1 .1 .1 .1 .1 .1 .1 .0) (qs .1 .1 .1 .1 .1 .1 .1 .1 .0)))) refl refl) $
+      ghosts (G78 κs qs) _ (g-forget 𝓤 H A W E (G78 κs qs) 16 dead refl) $
+      ghosts _ _ (g-end 𝓤 H A W E _ 17 refl) $
       ghosts _ _ (g-back-sl-shr 𝓤 H A W E (rtF (fInt w16)) _ 11 7 17 (tyRef (named 7) mut (tyInt w16)) (lease (κs .1 .1 .1 .1 .1 .1 .1 .0) (qs .1 .1 .1 .1 .1 .1 .1 .0)) (λ x. x) (as-is 𝓤 H A (mslice-owedS (rtF (fInt w16)) (tyRef (named 7) mut (tyInt w16)) 7 17 (lease (κs .1 .1 .1 .1 .1 .1 .1 .0) (qs .1 .1 .1 .1 .1 .1 .1 .0)))) refl refl) $
-      ghosts _ (G82 κs qs) (g-forget 𝓤 H A W E _ 17 dead refl) $
-      ghosts (G82 κs qs) _ (g-end 𝓤 H A W E (G82 κs qs) 18 refl) $
-      ghosts _ _ (g-back-mref 𝓤 H A W E _ 32 13 9 18 (Array (rtF fBool) 256) (tyRef (named 9) mut (tyArray tyBool 256)) (tyRef erased mut (tyArray tyBool 256)) (lease (κs .1 .1 .1 .1 .1 .1 .1 .1 .1 .0) (qs .1 .1 .1 .1 .1 .1 .1 .1 .1 .0)) (λ x. x) (λ x. x) (as-is 𝓤 H A (mleft (Array (rtF fBool) 256) (tyRef erased mut (tyArray tyBool 256)))) (as-is 𝓤 H A (mref-owed (Array (rtF fBool) 256) (tyRef (named 9) mut (tyArray tyBool 256)) 9 18 (lease (κs .1 .1 .1 .1 .1 .1 .1 .1 .1 .0) (qs .1 .1 .1 .1 .1 .1 .1 .1 .1 .0)))) refl refl) $
+      ghosts _ _ (g-forget 𝓤 H A W E _ 17 dead refl) $
+      ghosts _ (G83 κs qs) (g-end 𝓤 H A W E _ 18 refl) $
+      ghosts (G83 κs qs) _ (g-back-mref 𝓤 H A W E (G83 κs qs) 32 13 9 18 (Array (rtF fBool) 256) (tyRef (named 9) mut (tyArray tyBool 256)) (tyRef erased mut (tyArray tyBool 256)) (lease (κs .1 .1 .1 .1 .1 .1 .1 .1 .1 .0) (qs .1 .1 .1 .1 .1 .1 .1 .1 .1 .0)) (λ x. x) (λ x. x) (as-is 𝓤 H A (mleft (Array (rtF fBool) 256) (tyRef erased mut (tyArray tyBool 256)))) (as-is 𝓤 H A (mref-owed (Array (rtF fBool) 256) (tyRef (named 9) mut (tyArray tyBool 256)) 9 18 (lease (κs .1 .1 .1 .1 .1 .1 .1 .1 .1 .0) (qs .1 .1 .1 .1 .1 .1 .1 .1 .1 .0)))) refl refl) $
       ghosts _ (G0 κs qs) (g-forget 𝓤 H A W E _ 18 dead refl) $
       stmt (G0 κs qs) (G31 κs qs) (t-use 𝓤 H A W E 𝓣 (G0 κs qs) oUnit 0 (sc-here sUnit) tyUnit (valS sUnit) (sUnit .of) tt (room-gone 𝓤 H A tyUnit) (holds-sc 𝓤 H A W sUnit) refl (λ u. refl) (λ u. tt)) $
       ghosts (G31 κs qs) (G32 κs qs) (g-room 𝓤 H A W E (G31 κs qs) 1 (tyInt w64) (room-sc 𝓤 H A W (sInt w64))) $
@@ -202,23 +190,23 @@ module _ {M : Type 1} (𝓤 : URA M) (H : Heap 𝓤) (A : Atoms 𝓤) (W : Given
   pass-2 =
       ghosts (G0 κs qs) _ (g-begin 𝓤 H A W E (G0 κs qs) 13 _) $
       stmt _ _ (t-sl-relend 𝓤 H A W E (rtF (fInt w16)) 𝓣 _ 11 22 7 13 (tyRef (named 7) mut (tyInt w16)) (tyRef erased mut (tyInt w16)) (lease (κs .1 .1 .1 .1 .1 .1 .1 .0) (qs .1 .1 .1 .1 .1 .1 .1 .0)) 0 (λ x. x) (as-is 𝓤 H A (mslice (rtF (fInt w16)) (tyRef (named 7) mut (tyInt w16)) 7)) (room-gone 𝓤 H A (tyRef erased mut (tyInt w16))) refl tt refl refl refl (λ b o. tt)) $
-      stmt _ (G41 κs qs) (t-sl-aggregate 𝓤 H A W E (rtF (fInt w16)) 𝓣 (asMut (rtF (fInt w16))) _ 22 23 13 (tyRef erased mut (tyInt w16)) (tyRef erased mut (tyInt w16)) (λ x. x) (oFld 11 (field 1 ∷ []) (tyInt w64) 8 (λ v. lenV (v .0))) (as-is 𝓤 H A (msptr (rtF (fInt w16)) (tyRef erased mut (tyInt w16)) 13)) (room-gone 𝓤 H A _) (reads-owed-len 𝓤 H A W (rtF (fInt w16)) (tyRef (named 7) mut (tyInt w16)) 7 13 (lease (κs .1 .1 .1 .1 .1 .1 .1 .0) (qs .1 .1 .1 .1 .1 .1 .1 .0)) 8 refl, refl) refl refl (λ b o k. tt)) $
-      ghosts (G41 κs qs) _ (g-begin 𝓤 H A W E (G41 κs qs) 14 _) $
-      stmt _ _ (t-sl-relend 𝓤 H A W E (rtF (fInt w32)) 𝓣 _ 12 24 8 14 (tyRef (named 8) mut (tyInt w32)) (tyRef erased mut (tyInt w32)) (lease (κs .1 .1 .1 .1 .1 .1 .1 .1 .0) (qs .1 .1 .1 .1 .1 .1 .1 .1 .0)) 0 (λ x. x) (as-is 𝓤 H A (mslice (rtF (fInt w32)) (tyRef (named 8) mut (tyInt w32)) 8)) (room-gone 𝓤 H A (tyRef erased mut (tyInt w32))) refl tt refl refl refl (λ b o. tt)) $
-      stmt _ (G44 κs qs) (t-sl-aggregate 𝓤 H A W E (rtF (fInt w32)) 𝓣 (asMut (rtF (fInt w32))) _ 24 25 14 (tyRef erased mut (tyInt w32)) (tyRef erased mut (tyInt w32)) (λ x. x) (oFld 12 (field 1 ∷ []) (tyInt w64) 8 (λ v. lenV (v .0))) (as-is 𝓤 H A (msptr (rtF (fInt w32)) (tyRef erased mut (tyInt w32)) 14)) (room-gone 𝓤 H A _) (reads-owed-len 𝓤 H A W (rtF (fInt w32)) (tyRef (named 8) mut (tyInt w32)) 8 14 (lease (κs .1 .1 .1 .1 .1 .1 .1 .1 .0) (qs .1 .1 .1 .1 .1 .1 .1 .1 .0)) 8 refl, refl) refl refl (λ b o k. tt)) $
-      ghosts (G44 κs qs) _ (g-begin 𝓤 H A W E (G44 κs qs) 15 _) $
+      stmt _ _ (t-sl-aggregate 𝓤 H A W E (rtF (fInt w16)) 𝓣 (asMut (rtF (fInt w16))) _ 22 23 13 (tyRef erased mut (tyInt w16)) (tyRef erased mut (tyInt w16)) (λ x. x) (oFld 11 (field 1 ∷ []) (tyInt w64) 8 (λ v. lenV (v .0))) (as-is 𝓤 H A (msptr (rtF (fInt w16)) (tyRef erased mut (tyInt w16)) 13)) (room-gone 𝓤 H A _) (reads-owed-len 𝓤 H A W (rtF (fInt w16)) (tyRef (named 7) mut (tyInt w16)) 7 13 (lease (κs .1 .1 .1 .1 .1 .1 .1 .0) (qs .1 .1 .1 .1 .1 .1 .1 .0)) 8 refl, refl) refl refl (λ b o k. tt)) $
+      ghosts _ _ (g-begin 𝓤 H A W E _ 14 _) $
+      stmt _ (G43 κs qs) (t-sl-relend 𝓤 H A W E (rtF (fInt w32)) 𝓣 _ 12 24 8 14 (tyRef (named 8) mut (tyInt w32)) (tyRef erased mut (tyInt w32)) (lease (κs .1 .1 .1 .1 .1 .1 .1 .1 .0) (qs .1 .1 .1 .1 .1 .1 .1 .1 .0)) 0 (λ x. x) (as-is 𝓤 H A (mslice (rtF (fInt w32)) (tyRef (named 8) mut (tyInt w32)) 8)) (room-gone 𝓤 H A (tyRef erased mut (tyInt w32))) refl tt refl refl refl (λ b o. tt)) $
+      stmt (G43 κs qs) _ (t-sl-aggregate 𝓤 H A W E (rtF (fInt w32)) 𝓣 (asMut (rtF (fInt w32))) (G43 κs qs) 24 25 14 (tyRef erased mut (tyInt w32)) (tyRef erased mut (tyInt w32)) (λ x. x) (oFld 12 (field 1 ∷ []) (tyInt w64) 8 (λ v. lenV (v .0))) (as-is 𝓤 H A (msptr (rtF (fInt w32)) (tyRef erased mut (tyInt w32)) 14)) (room-gone 𝓤 H A _) (reads-owed-len 𝓤 H A W (rtF (fInt w32)) (tyRef (named 8) mut (tyInt w32)) 8 14 (lease (κs .1 .1 .1 .1 .1 .1 .1 .1 .0) (qs .1 .1 .1 .1 .1 .1 .1 .1 .0)) 8 refl, refl) refl refl (λ b o k. tt)) $
+      ghosts _ _ (g-begin 𝓤 H A W E _ 15 _) $
       stmt _ (G46 κs qs) (t-mref-relend 𝓤 H A W E 𝓣 _ 13 26 9 15 (Array (rtF fBool) 256) (tyArray tyBool 256) (tyRef (named 9) mut (tyArray tyBool 256)) (tyRef erased mut (tyArray tyBool 256)) (lease (κs .1 .1 .1 .1 .1 .1 .1 .1 .1 .0) (qs .1 .1 .1 .1 .1 .1 .1 .1 .1 .0)) (λ x. x) (as-is 𝓤 H A (mref (Array (rtF fBool) 256) (tyRef (named 9) mut (tyArray tyBool 256)) 9)) (room-gone 𝓤 H A (tyRef erased mut (tyArray tyBool 256))) refl tt refl refl (λ b o. tt)) $
       stmt (G46 κs qs) (G47 κs qs) (t-call-plain 𝓤 H A W 𝓣 8 K1.ps K1.r K1.Asked K1.Learnt "topology::interior_pass::collapse_ramp_interiors" known1 E (λ pos β. β) (G46 κs qs) (record { pos = 2; ty = tyRef (named 0) imm (pointee (twin-0.the-row .written)); ref = λ x. x }, (vAt 3 (λ x. x), (vAt 4 (λ x. x), (record { pos = 5; ty = tyRef (named 1) imm (tyInt w64); ref = λ x. x }, (record { pos = 6; ty = tyRef (named 2) imm (tyInt w32); ref = λ x. x }, (record { pos = 7; ty = tyRef (named 3) imm (tyInt w32); ref = λ x. x }, (record { pos = 8; ty = tyRef (named 4) imm (tyArray (tyInt w64) 257); ref = λ x. x }, (record { pos = 23; ty = tyRef erased mut (tyInt w16); ref = λ x. x }, (record { pos = 25; ty = tyRef erased mut (tyInt w32); ref = λ x. x }, (record { pos = 26; ty = tyRef erased mut (tyArray tyBool 256); ref = λ x. x }, tt)))))))))) 21 (0 ∷ 1 ∷ 2 ∷ 3 ∷ 4 ∷ 13 ∷ 14 ∷ 15 ∷ []) (sub-id 𝓤 H A W ((G46 κs qs) .slots)) (spares-sslice 𝓤 H A W twin-0.the-row (tyRef (named 0) imm (pointee (twin-0.the-row .written))) 0, reads-sslice 𝓤 H A W twin-0.the-row (tyRef (named 0) imm (pointee (twin-0.the-row .written))) 0, refl, ((reads-sc 𝓤 H A W (sInt w64), refl), ((reads-sc 𝓤 H A W (sInt w64), refl), (spares-sslice 𝓤 H A W (rtF (fInt w64)) (tyRef (named 1) imm (tyInt w64)) 1, reads-sslice 𝓤 H A W (rtF (fInt w64)) (tyRef (named 1) imm (tyInt w64)) 1, refl, (spares-sslice 𝓤 H A W (rtF (fInt w32)) (tyRef (named 2) imm (tyInt w32)) 2, reads-sslice 𝓤 H A W (rtF (fInt w32)) (tyRef (named 2) imm (tyInt w32)) 2, refl, (spares-sslice 𝓤 H A W (rtF (fInt w32)) (tyRef (named 3) imm (tyInt w32)) 3, reads-sslice 𝓤 H A W (rtF (fInt w32)) (tyRef (named 3) imm (tyInt w32)) 3, refl, (spares-sref 𝓤 H A W (Array (rtF (fInt w64)) 257) (tyRef (named 4) imm (tyArray (tyInt w64) 257)) 4, reads-sref 𝓤 H A W (Array (rtF (fInt w64)) 257) (tyRef (named 4) imm (tyArray (tyInt w64) 257)) 4, refl, (as-is 𝓤 H A (mslice (rtF (fInt w16)) (tyRef erased mut (tyInt w16)) 13), reads-mslice 𝓤 H A W (rtF (fInt w16)) (tyRef erased mut (tyInt w16)) 13, refl, (as-is 𝓤 H A (mslice (rtF (fInt w32)) (tyRef erased mut (tyInt w32)) 14), reads-mslice 𝓤 H A W (rtF (fInt w32)) (tyRef erased mut (tyInt w32)) 14, refl, (as-is 𝓤 H A (mref (Array (rtF fBool) 256) (tyRef erased mut (tyArray tyBool 256)) 15), reads-mref 𝓤 H A W (Array (rtF fBool) 256) (tyRef erased mut (tyArray tyBool 256)) 15, refl, tt)))))))))) (room-gone 𝓤 H A tyUnit) _ refl) $
       ghosts (G47 κs qs) _ (g-room 𝓤 H A W E (G47 κs qs) 21 tyUnit (room-sc 𝓤 H A W sUnit)) $
       ghosts _ _ (g-end 𝓤 H A W E _ 13 refl) $
-      ghosts _ (G50 κs qs) (g-back-sl 𝓤 H A W E (rtF (fInt w16)) _ 23 11 7 13 (tyRef (named 7) mut (tyInt w16)) (tyRef erased mut (tyInt w16)) (lease (κs .1 .1 .1 .1 .1 .1 .1 .0) (qs .1 .1 .1 .1 .1 .1 .1 .0)) (λ x. x) (λ x. x) (as-is 𝓤 H A (msleft (rtF (fInt w16)) (tyRef erased mut (tyInt w16)))) (as-is 𝓤 H A (mslice-owed (rtF (fInt w16)) (tyRef (named 7) mut (tyInt w16)) 7 13 (lease (κs .1 .1 .1 .1 .1 .1 .1 .0) (qs .1 .1 .1 .1 .1 .1 .1 .0)))) refl refl) $
-      ghosts (G50 κs qs) _ (g-forget 𝓤 H A W E (G50 κs qs) 13 dead refl) $
-      ghosts _ _ (g-end 𝓤 H A W E _ 14 refl) $
-      ghosts _ (G54 κs qs) (g-back-sl 𝓤 H A W E (rtF (fInt w32)) _ 25 12 8 14 (tyRef (named 8) mut (tyInt w32)) (tyRef erased mut (tyInt w32)) (lease (κs .1 .1 .1 .1 .1 .1 .1 .1 .0) (qs .1 .1 .1 .1 .1 .1 .1 .1 .0)) (λ x. x) (λ x. x) (as-is 𝓤 H A (msleft (rtF (fInt w32)) (tyRef erased mut (tyInt w32)))) (as-is 𝓤 H A (mslice-owed (rtF (fInt w32)) (tyRef (named 8) mut (tyInt w32)) 8 14 (lease (κs .1 .1 .1 .1 .1 .1 .1 .1 .0) (qs .1 .1 .1 .1 .1 .1 .1 .1 .0)))) refl refl) $
-      ghosts (G54 κs qs) _ (g-forget 𝓤 H A W E (G54 κs qs) 14 dead refl) $
+      ghosts _ _ (g-back-sl 𝓤 H A W E (rtF (fInt w16)) _ 23 11 7 13 (tyRef (named 7) mut (tyInt w16)) (tyRef erased mut (tyInt w16)) (lease (κs .1 .1 .1 .1 .1 .1 .1 .0) (qs .1 .1 .1 .1 .1 .1 .1 .0)) (λ x. x) (λ x. x) (as-is 𝓤 H A (msleft (rtF (fInt w16)) (tyRef erased mut (tyInt w16)))) (as-is 𝓤 H A (mslice-owed (rtF (fInt w16)) (tyRef (named 7) mut (tyInt w16)) 7 13 (lease (κs .1 .1 .1 .1 .1 .1 .1 .0) (qs .1 .1 .1 .1 .1 .1 .1 .0)))) refl refl) $
+      ghosts _ _ (g-forget 𝓤 H A W E _ 13 dead refl) $
+      ghosts _ (G53 κs qs) (g-end 𝓤 H A W E _ 14 refl) $
+      ghosts (G53 κs qs) _ (g-back-sl 𝓤 H A W E (rtF (fInt w32)) (G53 κs qs) 25 12 8 14 (tyRef (named 8) mut (tyInt w32)) (tyRef erased mut (tyInt w32)) (lease (κs .1 .1 .1 .1 .1 .1 .1 .1 .0) (qs .1 .1 .1 .1 .1 .1 .1 .1 .0)) (λ x. x) (λ x. x) (as-is 𝓤 H A (msleft (rtF (fInt w32)) (tyRef erased mut (tyInt w32)))) (as-is 𝓤 H A (mslice-owed (rtF (fInt w32)) (tyRef (named 8) mut (tyInt w32)) 8 14 (lease (κs .1 .1 .1 .1 .1 .1 .1 .1 .0) (qs .1 .1 .1 .1 .1 .1 .1 .1 .0)))) refl refl) $
+      ghosts _ _ (g-forget 𝓤 H A W E _ 14 dead refl) $
       ghosts _ _ (g-end 𝓤 H A W E _ 15 refl) $
-      ghosts _ (G58 κs qs) (g-back-mref 𝓤 H A W E _ 26 13 9 15 (Array (rtF fBool) 256) (tyRef (named 9) mut (tyArray tyBool 256)) (tyRef erased mut (tyArray tyBool 256)) (lease (κs .1 .1 .1 .1 .1 .1 .1 .1 .1 .0) (qs .1 .1 .1 .1 .1 .1 .1 .1 .1 .0)) (λ x. x) (λ x. x) (as-is 𝓤 H A (mleft (Array (rtF fBool) 256) (tyRef erased mut (tyArray tyBool 256)))) (as-is 𝓤 H A (mref-owed (Array (rtF fBool) 256) (tyRef (named 9) mut (tyArray tyBool 256)) 9 15 (lease (κs .1 .1 .1 .1 .1 .1 .1 .1 .1 .0) (qs .1 .1 .1 .1 .1 .1 .1 .1 .1 .0)))) refl refl) $
-      ghosts (G58 κs qs) (G0 κs qs) (g-forget 𝓤 H A W E (G58 κs qs) 15 dead refl) $
+      ghosts _ _ (g-back-mref 𝓤 H A W E _ 26 13 9 15 (Array (rtF fBool) 256) (tyRef (named 9) mut (tyArray tyBool 256)) (tyRef erased mut (tyArray tyBool 256)) (lease (κs .1 .1 .1 .1 .1 .1 .1 .1 .1 .0) (qs .1 .1 .1 .1 .1 .1 .1 .1 .1 .0)) (λ x. x) (λ x. x) (as-is 𝓤 H A (mleft (Array (rtF fBool) 256) (tyRef erased mut (tyArray tyBool 256)))) (as-is 𝓤 H A (mref-owed (Array (rtF fBool) 256) (tyRef (named 9) mut (tyArray tyBool 256)) 9 15 (lease (κs .1 .1 .1 .1 .1 .1 .1 .1 .1 .0) (qs .1 .1 .1 .1 .1 .1 .1 .1 .1 .0)))) refl refl) $
+      ghosts _ (G0 κs qs) (g-forget 𝓤 H A W E _ 15 dead refl) $
       stmt (G0 κs qs) (G31 κs qs) (t-use 𝓤 H A W E 𝓣 (G0 κs qs) oUnit 0 (sc-here sUnit) tyUnit (valS sUnit) (sUnit .of) tt (room-gone 𝓤 H A tyUnit) (holds-sc 𝓤 H A W sUnit) refl (λ u. refl) (λ u. tt)) $
       ghosts (G31 κs qs) (G32 κs qs) (g-room 𝓤 H A W E (G31 κs qs) 1 (tyInt w64) (room-sc 𝓤 H A W (sInt w64))) $
       ghosts (G32 κs qs) (G33 κs qs) (g-room 𝓤 H A W E (G32 κs qs) 3 (tyInt w64) (room-sc 𝓤 H A W (sInt w64))) $
@@ -229,24 +217,24 @@ module _ {M : Type 1} (𝓤 : URA M) (H : Heap 𝓤) (A : Atoms 𝓤) (W : Given
   pass-1 =
       ghosts (G0 κs qs) _ (g-begin 𝓤 H A W E (G0 κs qs) 10 _) $
       stmt _ _ (t-sl-relend 𝓤 H A W E (rtF (fInt w16)) 𝓣 _ 11 16 7 10 (tyRef (named 7) mut (tyInt w16)) (tyRef erased mut (tyInt w16)) (lease (κs .1 .1 .1 .1 .1 .1 .1 .0) (qs .1 .1 .1 .1 .1 .1 .1 .0)) 0 (λ x. x) (as-is 𝓤 H A (mslice (rtF (fInt w16)) (tyRef (named 7) mut (tyInt w16)) 7)) (room-gone 𝓤 H A (tyRef erased mut (tyInt w16))) refl tt refl refl refl (λ b o. tt)) $
-      stmt _ (G12 κs qs) (t-sl-aggregate 𝓤 H A W E (rtF (fInt w16)) 𝓣 (asMut (rtF (fInt w16))) _ 16 17 10 (tyRef erased mut (tyInt w16)) (tyRef erased mut (tyInt w16)) (λ x. x) (oFld 11 (field 1 ∷ []) (tyInt w64) 8 (λ v. lenV (v .0))) (as-is 𝓤 H A (msptr (rtF (fInt w16)) (tyRef erased mut (tyInt w16)) 10)) (room-gone 𝓤 H A _) (reads-owed-len 𝓤 H A W (rtF (fInt w16)) (tyRef (named 7) mut (tyInt w16)) 7 10 (lease (κs .1 .1 .1 .1 .1 .1 .1 .0) (qs .1 .1 .1 .1 .1 .1 .1 .0)) 8 refl, refl) refl refl (λ b o k. tt)) $
-      ghosts (G12 κs qs) _ (g-begin 𝓤 H A W E (G12 κs qs) 11 _) $
-      stmt _ _ (t-sl-reshare 𝓤 H A W E (rtF (fInt w32)) 𝓣 _ 12 18 8 11 (tyRef (named 8) mut (tyInt w32)) (tyRef erased imm (tyInt w32)) (lease (κs .1 .1 .1 .1 .1 .1 .1 .1 .0) (qs .1 .1 .1 .1 .1 .1 .1 .1 .0)) 0 (λ x. x) (as-is 𝓤 H A (mslice (rtF (fInt w32)) (tyRef (named 8) mut (tyInt w32)) 8)) (room-gone 𝓤 H A (tyRef erased imm (tyInt w32))) refl tt refl refl refl (λ b o. tt)) $
-      stmt _ (G15 κs qs) (t-sl-aggregate 𝓤 H A W E (rtF (fInt w32)) 𝓣 (asShr (rtF (fInt w32))) _ 18 19 11 (tyRef erased imm (tyInt w32)) (tyRef erased imm (tyInt w32)) (λ x. x) (oFld 12 (field 1 ∷ []) (tyInt w64) 8 (λ v. lenV (v .0))) (as-is 𝓤 H A (ssptr (rtF (fInt w32)) (tyRef erased imm (tyInt w32)) 11)) (room-gone 𝓤 H A _) (reads-owedS-len 𝓤 H A W (rtF (fInt w32)) (tyRef (named 8) mut (tyInt w32)) 8 11 (lease (κs .1 .1 .1 .1 .1 .1 .1 .1 .0) (qs .1 .1 .1 .1 .1 .1 .1 .1 .0)) 8 refl, refl) refl refl (λ b o k. tt)) $
-      ghosts (G15 κs qs) _ (g-begin 𝓤 H A W E (G15 κs qs) 12 _) $
+      stmt _ _ (t-sl-aggregate 𝓤 H A W E (rtF (fInt w16)) 𝓣 (asMut (rtF (fInt w16))) _ 16 17 10 (tyRef erased mut (tyInt w16)) (tyRef erased mut (tyInt w16)) (λ x. x) (oFld 11 (field 1 ∷ []) (tyInt w64) 8 (λ v. lenV (v .0))) (as-is 𝓤 H A (msptr (rtF (fInt w16)) (tyRef erased mut (tyInt w16)) 10)) (room-gone 𝓤 H A _) (reads-owed-len 𝓤 H A W (rtF (fInt w16)) (tyRef (named 7) mut (tyInt w16)) 7 10 (lease (κs .1 .1 .1 .1 .1 .1 .1 .0) (qs .1 .1 .1 .1 .1 .1 .1 .0)) 8 refl, refl) refl refl (λ b o k. tt)) $
+      ghosts _ _ (g-begin 𝓤 H A W E _ 11 _) $
+      stmt _ (G14 κs qs) (t-sl-reshare 𝓤 H A W E (rtF (fInt w32)) 𝓣 _ 12 18 8 11 (tyRef (named 8) mut (tyInt w32)) (tyRef erased imm (tyInt w32)) (lease (κs .1 .1 .1 .1 .1 .1 .1 .1 .0) (qs .1 .1 .1 .1 .1 .1 .1 .1 .0)) 0 (λ x. x) (as-is 𝓤 H A (mslice (rtF (fInt w32)) (tyRef (named 8) mut (tyInt w32)) 8)) (room-gone 𝓤 H A (tyRef erased imm (tyInt w32))) refl tt refl refl refl (λ b o. tt)) $
+      stmt (G14 κs qs) _ (t-sl-aggregate 𝓤 H A W E (rtF (fInt w32)) 𝓣 (asShr (rtF (fInt w32))) (G14 κs qs) 18 19 11 (tyRef erased imm (tyInt w32)) (tyRef erased imm (tyInt w32)) (λ x. x) (oFld 12 (field 1 ∷ []) (tyInt w64) 8 (λ v. lenV (v .0))) (as-is 𝓤 H A (ssptr (rtF (fInt w32)) (tyRef erased imm (tyInt w32)) 11)) (room-gone 𝓤 H A _) (reads-owedS-len 𝓤 H A W (rtF (fInt w32)) (tyRef (named 8) mut (tyInt w32)) 8 11 (lease (κs .1 .1 .1 .1 .1 .1 .1 .1 .0) (qs .1 .1 .1 .1 .1 .1 .1 .1 .0)) 8 refl, refl) refl refl (λ b o k. tt)) $
+      ghosts _ _ (g-begin 𝓤 H A W E _ 12 _) $
       stmt _ (G17 κs qs) (t-mref-relend 𝓤 H A W E 𝓣 _ 13 20 9 12 (Array (rtF fBool) 256) (tyArray tyBool 256) (tyRef (named 9) mut (tyArray tyBool 256)) (tyRef erased mut (tyArray tyBool 256)) (lease (κs .1 .1 .1 .1 .1 .1 .1 .1 .1 .0) (qs .1 .1 .1 .1 .1 .1 .1 .1 .1 .0)) (λ x. x) (as-is 𝓤 H A (mref (Array (rtF fBool) 256) (tyRef (named 9) mut (tyArray tyBool 256)) 9)) (room-gone 𝓤 H A (tyRef erased mut (tyArray tyBool 256))) refl tt refl refl (λ b o. tt)) $
       stmt (G17 κs qs) (G18 κs qs) (t-call-plain 𝓤 H A W 𝓣 8 K0.ps K0.r K0.Asked K0.Learnt "topology::mouth_pass::replace_ramp_mouths" known0 E (λ pos β. β) (G17 κs qs) (record { pos = 2; ty = tyRef (named 0) imm (pointee (twin-0.the-row .written)); ref = λ x. x }, (vAt 4 (λ x. x), (record { pos = 5; ty = tyRef (named 1) imm (tyInt w64); ref = λ x. x }, (record { pos = 6; ty = tyRef (named 2) imm (tyInt w32); ref = λ x. x }, (record { pos = 7; ty = tyRef (named 3) imm (tyInt w32); ref = λ x. x }, (record { pos = 8; ty = tyRef (named 4) imm (tyArray (tyInt w64) 257); ref = λ x. x }, (record { pos = 17; ty = tyRef erased mut (tyInt w16); ref = λ x. x }, (record { pos = 19; ty = tyRef erased imm (tyInt w32); ref = λ x. x }, (record { pos = 20; ty = tyRef erased mut (tyArray tyBool 256); ref = λ x. x }, tt))))))))) 15 (0 ∷ 1 ∷ 2 ∷ 3 ∷ 4 ∷ 10 ∷ 11 ∷ 12 ∷ []) (sub-id 𝓤 H A W ((G17 κs qs) .slots)) (spares-sslice 𝓤 H A W twin-0.the-row (tyRef (named 0) imm (pointee (twin-0.the-row .written))) 0, reads-sslice 𝓤 H A W twin-0.the-row (tyRef (named 0) imm (pointee (twin-0.the-row .written))) 0, refl, ((reads-sc 𝓤 H A W (sInt w64), refl), (spares-sslice 𝓤 H A W (rtF (fInt w64)) (tyRef (named 1) imm (tyInt w64)) 1, reads-sslice 𝓤 H A W (rtF (fInt w64)) (tyRef (named 1) imm (tyInt w64)) 1, refl, (spares-sslice 𝓤 H A W (rtF (fInt w32)) (tyRef (named 2) imm (tyInt w32)) 2, reads-sslice 𝓤 H A W (rtF (fInt w32)) (tyRef (named 2) imm (tyInt w32)) 2, refl, (spares-sslice 𝓤 H A W (rtF (fInt w32)) (tyRef (named 3) imm (tyInt w32)) 3, reads-sslice 𝓤 H A W (rtF (fInt w32)) (tyRef (named 3) imm (tyInt w32)) 3, refl, (spares-sref 𝓤 H A W (Array (rtF (fInt w64)) 257) (tyRef (named 4) imm (tyArray (tyInt w64) 257)) 4, reads-sref 𝓤 H A W (Array (rtF (fInt w64)) 257) (tyRef (named 4) imm (tyArray (tyInt w64) 257)) 4, refl, (as-is 𝓤 H A (mslice (rtF (fInt w16)) (tyRef erased mut (tyInt w16)) 10), reads-mslice 𝓤 H A W (rtF (fInt w16)) (tyRef erased mut (tyInt w16)) 10, refl, (spares-sslice 𝓤 H A W (rtF (fInt w32)) (tyRef erased imm (tyInt w32)) 11, reads-sslice 𝓤 H A W (rtF (fInt w32)) (tyRef erased imm (tyInt w32)) 11, refl, (as-is 𝓤 H A (mref (Array (rtF fBool) 256) (tyRef erased mut (tyArray tyBool 256)) 12), reads-mref 𝓤 H A W (Array (rtF fBool) 256) (tyRef erased mut (tyArray tyBool 256)) 12, refl, tt))))))))) (room-gone 𝓤 H A tyUnit) _ refl) $
       ghosts (G18 κs qs) _ (g-room 𝓤 H A W E (G18 κs qs) 19 _ (room-sslice 𝓤 H A W (rtF (fInt w32)) (tyRef erased imm (tyInt w32)) 11)) $
       ghosts _ _ (g-room 𝓤 H A W E _ 15 tyUnit (room-sc 𝓤 H A W sUnit)) $
-      ghosts _ (G21 κs qs) (g-end 𝓤 H A W E _ 10 refl) $
-      ghosts (G21 κs qs) _ (g-back-sl 𝓤 H A W E (rtF (fInt w16)) (G21 κs qs) 17 11 7 10 (tyRef (named 7) mut (tyInt w16)) (tyRef erased mut (tyInt w16)) (lease (κs .1 .1 .1 .1 .1 .1 .1 .0) (qs .1 .1 .1 .1 .1 .1 .1 .0)) (λ x. x) (λ x. x) (as-is 𝓤 H A (msleft (rtF (fInt w16)) (tyRef erased mut (tyInt w16)))) (as-is 𝓤 H A (mslice-owed (rtF (fInt w16)) (tyRef (named 7) mut (tyInt w16)) 7 10 (lease (κs .1 .1 .1 .1 .1 .1 .1 .0) (qs .1 .1 .1 .1 .1 .1 .1 .0)))) refl refl) $
-      ghosts _ _ (g-forget 𝓤 H A W E _ 10 dead refl) $
-      ghosts _ (G25 κs qs) (g-end 𝓤 H A W E _ 11 refl) $
-      ghosts (G25 κs qs) _ (g-back-sl-shr 𝓤 H A W E (rtF (fInt w32)) (G25 κs qs) 12 8 11 (tyRef (named 8) mut (tyInt w32)) (lease (κs .1 .1 .1 .1 .1 .1 .1 .1 .0) (qs .1 .1 .1 .1 .1 .1 .1 .1 .0)) (λ x. x) (as-is 𝓤 H A (mslice-owedS (rtF (fInt w32)) (tyRef (named 8) mut (tyInt w32)) 8 11 (lease (κs .1 .1 .1 .1 .1 .1 .1 .1 .0) (qs .1 .1 .1 .1 .1 .1 .1 .1 .0)))) refl refl) $
+      ghosts _ _ (g-end 𝓤 H A W E _ 10 refl) $
+      ghosts _ _ (g-back-sl 𝓤 H A W E (rtF (fInt w16)) _ 17 11 7 10 (tyRef (named 7) mut (tyInt w16)) (tyRef erased mut (tyInt w16)) (lease (κs .1 .1 .1 .1 .1 .1 .1 .0) (qs .1 .1 .1 .1 .1 .1 .1 .0)) (λ x. x) (λ x. x) (as-is 𝓤 H A (msleft (rtF (fInt w16)) (tyRef erased mut (tyInt w16)))) (as-is 𝓤 H A (mslice-owed (rtF (fInt w16)) (tyRef (named 7) mut (tyInt w16)) 7 10 (lease (κs .1 .1 .1 .1 .1 .1 .1 .0) (qs .1 .1 .1 .1 .1 .1 .1 .0)))) refl refl) $
+      ghosts _ (G24 κs qs) (g-forget 𝓤 H A W E _ 10 dead refl) $
+      ghosts (G24 κs qs) _ (g-end 𝓤 H A W E (G24 κs qs) 11 refl) $
+      ghosts _ _ (g-back-sl-shr 𝓤 H A W E (rtF (fInt w32)) _ 12 8 11 (tyRef (named 8) mut (tyInt w32)) (lease (κs .1 .1 .1 .1 .1 .1 .1 .1 .0) (qs .1 .1 .1 .1 .1 .1 .1 .1 .0)) (λ x. x) (as-is 𝓤 H A (mslice-owedS (rtF (fInt w32)) (tyRef (named 8) mut (tyInt w32)) 8 11 (lease (κs .1 .1 .1 .1 .1 .1 .1 .1 .0) (qs .1 .1 .1 .1 .1 .1 .1 .1 .0)))) refl refl) $
       ghosts _ _ (g-forget 𝓤 H A W E _ 11 dead refl) $
-      ghosts _ (G28 κs qs) (g-end 𝓤 H A W E _ 12 refl) $
-      ghosts (G28 κs qs) _ (g-back-mref 𝓤 H A W E (G28 κs qs) 20 13 9 12 (Array (rtF fBool) 256) (tyRef (named 9) mut (tyArray tyBool 256)) (tyRef erased mut (tyArray tyBool 256)) (lease (κs .1 .1 .1 .1 .1 .1 .1 .1 .1 .0) (qs .1 .1 .1 .1 .1 .1 .1 .1 .1 .0)) (λ x. x) (λ x. x) (as-is 𝓤 H A (mleft (Array (rtF fBool) 256) (tyRef erased mut (tyArray tyBool 256)))) (as-is 𝓤 H A (mref-owed (Array (rtF fBool) 256) (tyRef (named 9) mut (tyArray tyBool 256)) 9 12 (lease (κs .1 .1 .1 .1 .1 .1 .1 .1 .1 .0) (qs .1 .1 .1 .1 .1 .1 .1 .1 .1 .0)))) refl refl) $
-      ghosts _ (G0 κs qs) (g-forget 𝓤 H A W E _ 12 dead refl) $
+      ghosts _ _ (g-end 𝓤 H A W E _ 12 refl) $
+      ghosts _ (G29 κs qs) (g-back-mref 𝓤 H A W E _ 20 13 9 12 (Array (rtF fBool) 256) (tyRef (named 9) mut (tyArray tyBool 256)) (tyRef erased mut (tyArray tyBool 256)) (lease (κs .1 .1 .1 .1 .1 .1 .1 .1 .1 .0) (qs .1 .1 .1 .1 .1 .1 .1 .1 .1 .0)) (λ x. x) (λ x. x) (as-is 𝓤 H A (mleft (Array (rtF fBool) 256) (tyRef erased mut (tyArray tyBool 256)))) (as-is 𝓤 H A (mref-owed (Array (rtF fBool) 256) (tyRef (named 9) mut (tyArray tyBool 256)) 9 12 (lease (κs .1 .1 .1 .1 .1 .1 .1 .1 .1 .0) (qs .1 .1 .1 .1 .1 .1 .1 .1 .1 .0)))) refl refl) $
+      ghosts (G29 κs qs) (G0 κs qs) (g-forget 𝓤 H A W E (G29 κs qs) 12 dead refl) $
       stmt (G0 κs qs) (G31 κs qs) (t-use 𝓤 H A W E 𝓣 (G0 κs qs) oUnit 0 (sc-here sUnit) tyUnit (valS sUnit) (sUnit .of) tt (room-gone 𝓤 H A tyUnit) (holds-sc 𝓤 H A W sUnit) refl (λ u. refl) (λ u. tt)) $
       ghosts (G31 κs qs) (G32 κs qs) (g-room 𝓤 H A W E (G31 κs qs) 1 (tyInt w64) (room-sc 𝓤 H A W (sInt w64))) $
       ghosts (G32 κs qs) (G33 κs qs) (g-room 𝓤 H A W E (G32 κs qs) 3 (tyInt w64) (room-sc 𝓤 H A W (sInt w64))) $

@@ -87,17 +87,11 @@ module _ (κs : Lfts 10) (qs : Shares 10) where
   abbrev pub G20 : Cx
   G20 = patched ((12, row1) ∷ (13, row1) ∷ (16, row2) ∷ (17, row1) ∷ (18, row1) ∷ (19, row3) ∷ (20, row4) ∷ []) ([]) G0
 
-  abbrev pub G23 : Cx
-  G23 = patched ((12, row1) ∷ (13, row1) ∷ (16, row2) ∷ (20, row4) ∷ []) ([]) G0
-
   abbrev pub G24 : Cx
   G24 = patched ((12, row1) ∷ (13, row1) ∷ (16, row2) ∷ []) ([]) G0
 
   abbrev pub G26 : Cx
   G26 = patched ((13, row1) ∷ []) ([]) G0
-
-  abbrev pub G33 : Cx
-  G33 = patched ((0, row1) ∷ []) ([]) G0
 
   abbrev pub G34 : Cx
   G34 = patched ((0, row1) ∷ (11, (any-gone (ty 11))) ∷ []) ([]) G0
@@ -134,8 +128,8 @@ module _ {M : Type 1} (𝓤 : URA M) (H : Heap 𝓤) (A : Atoms 𝓤) (W : Given
       stmt (G19 κs qs) (G20 κs qs) (t-call-plain 𝓤 H A W 𝓣 4 K4.ps K4.r K4.Asked K4.Learnt "topology::mouth_pass::corners_near" known4 E (λ pos β. β) (G19 κs qs) (record { pos = 1; ty = tyRef (named 0) imm (pointee (twin-0.the-row .written)); ref = λ x. x }, (record { pos = 2; ty = tyRef (named 1) imm (tyInt w64); ref = λ x. x }, (record { pos = 3; ty = tyRef (named 2) imm (tyInt w32); ref = λ x. x }, (record { pos = 4; ty = tyRef (named 3) imm (tyArray (tyInt w64) 257); ref = λ x. x }, (vAt 17 (λ x. x), (vAt 18 (λ x. x), (vAt 19 (λ x. x), (vAt 20 (λ x. x), tt)))))))) 16 (0 ∷ 1 ∷ 2 ∷ 3 ∷ []) (sub-id 𝓤 H A W ((G19 κs qs) .slots)) (spares-sslice 𝓤 H A W twin-0.the-row (tyRef (named 0) imm (pointee (twin-0.the-row .written))) 0, reads-sslice 𝓤 H A W twin-0.the-row (tyRef (named 0) imm (pointee (twin-0.the-row .written))) 0, refl, (spares-sslice 𝓤 H A W (rtF (fInt w64)) (tyRef (named 1) imm (tyInt w64)) 1, reads-sslice 𝓤 H A W (rtF (fInt w64)) (tyRef (named 1) imm (tyInt w64)) 1, refl, (spares-sslice 𝓤 H A W (rtF (fInt w32)) (tyRef (named 2) imm (tyInt w32)) 2, reads-sslice 𝓤 H A W (rtF (fInt w32)) (tyRef (named 2) imm (tyInt w32)) 2, refl, (spares-sref 𝓤 H A W (Array (rtF (fInt w64)) 257) (tyRef (named 3) imm (tyArray (tyInt w64) 257)) 3, reads-sref 𝓤 H A W (Array (rtF (fInt w64)) 257) (tyRef (named 3) imm (tyArray (tyInt w64) 257)) 3, refl, ((reads-sc 𝓤 H A W (sInt w64), refl), ((reads-sc 𝓤 H A W (sInt w64), refl), ((reads-sc 𝓤 H A W (sInt w32), refl), ((reads-sc 𝓤 H A W (sInt w8), refl), tt)))))))) (room-gone 𝓤 H A tyBool) _ refl) $
       ghosts (G20 κs qs) _ (g-room 𝓤 H A W E (G20 κs qs) 17 (tyInt w64) (room-sc 𝓤 H A W (sInt w64))) $
       ghosts _ _ (g-room 𝓤 H A W E _ 18 (tyInt w64) (room-sc 𝓤 H A W (sInt w64))) $
-      ghosts _ (G23 κs qs) (g-room 𝓤 H A W E _ 19 (tyInt w32) (room-sc 𝓤 H A W (sInt w32))) $
-      ghosts (G23 κs qs) (G24 κs qs) (g-room 𝓤 H A W E (G23 κs qs) 20 (tyInt w8) (room-sc 𝓤 H A W (sInt w8))) $
+      ghosts _ _ (g-room 𝓤 H A W E _ 19 (tyInt w32) (room-sc 𝓤 H A W (sInt w32))) $
+      ghosts _ (G24 κs qs) (g-room 𝓤 H A W E _ 20 (tyInt w8) (room-sc 𝓤 H A W (sInt w8))) $
       test (G24 κs qs) 16 (λ x. x) (reads-sc 𝓤 H A W sBool) refl (
       ghosts (G24 κs qs) _ (g-room 𝓤 H A W E (G24 κs qs) 12 (tyInt w64) (room-sc 𝓤 H A W (sInt w64))) $
       ghosts _ (G26 κs qs) (g-room 𝓤 H A W E _ 16 tyBool (room-sc 𝓤 H A W sBool)) $
@@ -147,8 +141,8 @@ module _ {M : Type 1} (𝓤 : URA M) (H : Heap 𝓤) (A : Atoms 𝓤) (W : Given
       last (G5 κs qs) (G5 κs qs) (t-op2 𝓤 H A W E 𝓣 (G5 κs qs) (add unsigned) (oAt 13 (tyInt w64) (valS (sInt w64))) (oInt w64 _) 13 (sc-here (sInt w64)) (tyInt w64) (valS (sInt w64)) (sInt w64 .of) (reads-sc 𝓤 H A W (sInt w64), refl) tt (room-sc 𝓤 H A W (sInt w64)) (holds-sc 𝓤 H A W (sInt w64)) refl (λ u. refl) (λ u. tt))))) $
       stmt (G5 κs qs) _ (t-use 𝓤 H A W E 𝓣 (G5 κs qs) (oAt 12 (tyInt w64) (valS (sInt w64))) 0 (sc-here (sInt w64)) (tyInt w64) (valS (sInt w64)) (sInt w64 .of) (reads-sc 𝓤 H A W (sInt w64), refl) (room-gone 𝓤 H A (tyInt w64)) (holds-sc 𝓤 H A W (sInt w64)) refl (λ u. refl) (λ u. tt)) $
       ghosts _ _ (g-room 𝓤 H A W E _ 12 (tyInt w64) (room-sc 𝓤 H A W (sInt w64))) $
-      ghosts _ (G33 κs qs) (g-room 𝓤 H A W E _ 13 (tyInt w64) (room-sc 𝓤 H A W (sInt w64))) $
-      ghosts (G33 κs qs) (G34 κs qs) (g-room 𝓤 H A W E (G33 κs qs) 11 (tyInt w64) (room-sc 𝓤 H A W (sInt w64))) $
+      ghosts _ _ (g-room 𝓤 H A W E _ 13 (tyInt w64) (room-sc 𝓤 H A W (sInt w64))) $
+      ghosts _ (G34 κs qs) (g-room 𝓤 H A W E _ 11 (tyInt w64) (room-sc 𝓤 H A W (sInt w64))) $
       rets
 
 -- the derivations at a model

@@ -94,26 +94,17 @@ module _ (κs : Lfts 4) (qs : Shares 4) where
   abbrev pub G21 : Cx
   G21 = patched ((9, row1) ∷ (10, row1) ∷ (11, row1) ∷ (12, row4) ∷ (16, row2) ∷ (17, row2) ∷ []) ([]) G0
 
-  abbrev pub G24 : Cx
-  G24 = patched ((9, row1) ∷ (10, row1) ∷ (11, row1) ∷ (16, row2) ∷ (18, row2) ∷ []) ([]) G0
-
   abbrev pub G25 : Cx
   G25 = patched ((9, row1) ∷ (10, row1) ∷ (11, row1) ∷ (18, row2) ∷ []) ([]) G0
 
-  abbrev pub G29 : Cx
-  G29 = patched ((0, row2) ∷ (5, (any-gone (ty 5))) ∷ (6, (any-gone (ty 6))) ∷ (9, row1) ∷ (10, row1) ∷ (11, row1) ∷ []) ([]) G0
-
-  abbrev pub G32 : Cx
-  G32 = patched ((0, row2) ∷ (5, (any-gone (ty 5))) ∷ (6, (any-gone (ty 6))) ∷ (7, (any-gone (ty 7))) ∷ (8, (any-gone (ty 8))) ∷ (10, row1) ∷ (11, row1) ∷ []) ([]) G0
+  abbrev pub G31 : Cx
+  G31 = patched ((0, row2) ∷ (5, (any-gone (ty 5))) ∷ (6, (any-gone (ty 6))) ∷ (7, (any-gone (ty 7))) ∷ (8, (any-gone (ty 8))) ∷ (9, row1) ∷ (10, row1) ∷ (11, row1) ∷ []) ([]) G0
 
   abbrev pub G34 : Cx
   G34 = patched ((0, row2) ∷ (5, (any-gone (ty 5))) ∷ (6, (any-gone (ty 6))) ∷ (7, (any-gone (ty 7))) ∷ (8, (any-gone (ty 8))) ∷ []) ([]) G0
 
-  abbrev pub G41 : Cx
-  G41 = patched ((0, row2) ∷ []) ([]) G0
-
-  abbrev pub G44 : Cx
-  G44 = patched ((0, row2) ∷ (5, (any-gone (ty 5))) ∷ (6, (any-gone (ty 6))) ∷ (7, (any-gone (ty 7))) ∷ []) ([]) G0
+  abbrev pub G43 : Cx
+  G43 = patched ((0, row2) ∷ (5, (any-gone (ty 5))) ∷ (6, (any-gone (ty 6))) ∷ []) ([]) G0
 
 module _ {M : Type 1} (𝓤 : URA M) (H : Heap 𝓤) (A : Atoms 𝓤) (W : Given 𝓤 H A) (𝓣 : Tables 𝓤 H) (Inv·0 : InvT-loop) (μ·0 : MeasureT-loop)
     (known0 : Knows 𝓤 H A W 𝓣 2 K0.ps K0.r R0.Asked R0.Learnt "mouth_regions::inner::places") (known1 : Knows 𝓤 H A W 𝓣 2 K1.ps K1.r R1.Asked R1.Learnt "mouth_regions::inner::inner_region") (known2 : Knows 𝓤 H A W 𝓣 0 K2.ps K2.r R2.Asked R2.Learnt "plain_numbers::wide") (known3 : Knows 𝓤 H A W 𝓣 1 K3.ps K3.r K3.Asked K3.Learnt "topology::slice::record_at") (known4 : Knows 𝓤 H A W 𝓣 1 K4.ps K4.r R4.Asked R4.Learnt "mouth_regions::near::region_near") (κs : Lfts 4) (qs : Shares 4) (bs : List ℕ) where
@@ -148,17 +139,17 @@ module _ {M : Type 1} (𝓤 : URA M) (H : Heap 𝓤) (A : Atoms 𝓤) (W : Given
       stmt (G20 κs qs) (G21 κs qs) (t-call-plain 𝓤 H A W 𝓣 1 K4.ps K4.r R4.Asked R4.Learnt "mouth_regions::near::region_near" known4 E (λ pos β. β) (G20 κs qs) (record { pos = 12; st = []; d = 0; at = λ x. x }, (record { pos = 2; ty = tyRef (named 1) imm (tyInt w64); ref = λ x. x }, (vAt 5 (λ x. x), (vAt 6 (λ x. x), (bAt 17 (λ x. x), tt))))) 16 (1 ∷ []) (sub-id 𝓤 H A W ((G20 κs qs) .slots)) ((yields-copy 𝓤 H A W (λ ρ. Unit) (row Region.the-type) refl (cStruct Region.the-type Laws.the-laws Laws.the-copy .copy 𝓤 H A W) (whole (row Region.the-type)) (λ x. x) (λ x. x) (λ ρ told. mem-whole 𝓤 H A W (row Region.the-type) ρ) (λ ρ told. whole-mem 𝓤 H A W (row Region.the-type) ρ), refl), (spares-sslice 𝓤 H A W (rtF (fInt w64)) (tyRef (named 1) imm (tyInt w64)) 1, reads-sslice 𝓤 H A W (rtF (fInt w64)) (tyRef (named 1) imm (tyInt w64)) 1, refl, ((reads-sc 𝓤 H A W (sInt w64), refl), ((reads-sc 𝓤 H A W (sInt w64), refl), ((reads-sc 𝓤 H A W sBool, refl), tt))))) (room-gone 𝓤 H A tyBool) _ refl) $
       ghosts (G21 κs qs) _ (g-room 𝓤 H A W E (G21 κs qs) 12 _ (room-whole 𝓤 H A W (row Region.the-type) _ refl)) $
       ghosts _ _ (g-room 𝓤 H A W E _ 17 tyBool (room-sc 𝓤 H A W sBool)) $
-      stmt _ (G24 κs qs) (t-op1 𝓤 H A W E 𝓣 _ bitNot (oAt 16 tyBool (valS sBool)) 18 (sc-here sBool) tyBool (valS sBool) (sBool .of) (reads-sc 𝓤 H A W sBool, refl) (room-gone 𝓤 H A tyBool) (holds-sc 𝓤 H A W sBool) refl (λ u. refl) (λ u. tt)) $
-      ghosts (G24 κs qs) (G25 κs qs) (g-room 𝓤 H A W E (G24 κs qs) 16 tyBool (room-sc 𝓤 H A W sBool)) $
+      stmt _ _ (t-op1 𝓤 H A W E 𝓣 _ bitNot (oAt 16 tyBool (valS sBool)) 18 (sc-here sBool) tyBool (valS sBool) (sBool .of) (reads-sc 𝓤 H A W sBool, refl) (room-gone 𝓤 H A tyBool) (holds-sc 𝓤 H A W sBool) refl (λ u. refl) (λ u. tt)) $
+      ghosts _ (G25 κs qs) (g-room 𝓤 H A W E _ 16 tyBool (room-sc 𝓤 H A W sBool)) $
       test (G25 κs qs) 18 (λ x. x) (reads-sc 𝓤 H A W sBool) refl (
       ghosts (G25 κs qs) (G13 κs qs) (g-room 𝓤 H A W E (G25 κs qs) 18 tyBool (room-sc 𝓤 H A W sBool)) $
       stmt (G13 κs qs) _ (t-use 𝓤 H A W E 𝓣 (G13 κs qs) (oBool false) 0 (sc-here sBool) tyBool (valS sBool) (sBool .of) tt (room-gone 𝓤 H A tyBool) (holds-sc 𝓤 H A W sBool) refl (λ u. refl) (λ u. tt)) $
       ghosts _ _ (g-room 𝓤 H A W E _ 5 (tyInt w64) (room-sc 𝓤 H A W (sInt w64))) $
-      ghosts _ (G29 κs qs) (g-room 𝓤 H A W E _ 6 (tyInt w64) (room-sc 𝓤 H A W (sInt w64))) $
-      ghosts (G29 κs qs) _ (g-room 𝓤 H A W E (G29 κs qs) 7 (tyInt w32) (room-sc 𝓤 H A W (sInt w32))) $
-      ghosts _ _ (g-room 𝓤 H A W E _ 8 (tyInt w8) (room-sc 𝓤 H A W (sInt w8))) $
-      ghosts _ (G32 κs qs) (g-room 𝓤 H A W E _ 9 (tyInt w64) (room-sc 𝓤 H A W (sInt w64))) $
-      ghosts (G32 κs qs) _ (g-room 𝓤 H A W E (G32 κs qs) 10 (tyInt w64) (room-sc 𝓤 H A W (sInt w64))) $
+      ghosts _ _ (g-room 𝓤 H A W E _ 6 (tyInt w64) (room-sc 𝓤 H A W (sInt w64))) $
+      ghosts _ _ (g-room 𝓤 H A W E _ 7 (tyInt w32) (room-sc 𝓤 H A W (sInt w32))) $
+      ghosts _ (G31 κs qs) (g-room 𝓤 H A W E _ 8 (tyInt w8) (room-sc 𝓤 H A W (sInt w8))) $
+      ghosts (G31 κs qs) _ (g-room 𝓤 H A W E (G31 κs qs) 9 (tyInt w64) (room-sc 𝓤 H A W (sInt w64))) $
+      ghosts _ _ (g-room 𝓤 H A W E _ 10 (tyInt w64) (room-sc 𝓤 H A W (sInt w64))) $
       ghosts _ (G34 κs qs) (g-room 𝓤 H A W E _ 11 (tyInt w64) (room-sc 𝓤 H A W (sInt w64))) $
       rets) (
       ghosts (G25 κs qs) (G13 κs qs) (g-room 𝓤 H A W E (G25 κs qs) 18 tyBool (room-sc 𝓤 H A W sBool)) $
@@ -168,11 +159,11 @@ module _ {M : Type 1} (𝓤 : URA M) (H : Heap 𝓤) (A : Atoms 𝓤) (W : Given
       last (G13 κs qs) (G5 κs qs) (then W (G13 κs qs) (G13 κs qs) (G5 κs qs) (t-op2 𝓤 H A W E 𝓣 (G13 κs qs) (add unsigned) (oAt 10 (tyInt w64) (valS (sInt w64))) (oInt w64 _) 10 (sc-here (sInt w64)) (tyInt w64) (valS (sInt w64)) (sInt w64 .of) (reads-sc 𝓤 H A W (sInt w64), refl) tt (room-sc 𝓤 H A W (sInt w64)) (holds-sc 𝓤 H A W (sInt w64)) refl (λ u. refl) (λ u. tt)) (g-room 𝓤 H A W E (G13 κs qs) 11 (tyInt w64) (room-sc 𝓤 H A W (sInt w64))))))) $
       stmt (G5 κs qs) _ (t-use 𝓤 H A W E 𝓣 (G5 κs qs) (oBool true) 0 (sc-here sBool) tyBool (valS sBool) (sBool .of) tt (room-gone 𝓤 H A tyBool) (holds-sc 𝓤 H A W sBool) refl (λ u. refl) (λ u. tt)) $
       ghosts _ _ (g-room 𝓤 H A W E _ 9 (tyInt w64) (room-sc 𝓤 H A W (sInt w64))) $
-      ghosts _ (G41 κs qs) (g-room 𝓤 H A W E _ 10 (tyInt w64) (room-sc 𝓤 H A W (sInt w64))) $
-      ghosts (G41 κs qs) _ (g-room 𝓤 H A W E (G41 κs qs) 5 (tyInt w64) (room-sc 𝓤 H A W (sInt w64))) $
-      ghosts _ _ (g-room 𝓤 H A W E _ 6 (tyInt w64) (room-sc 𝓤 H A W (sInt w64))) $
-      ghosts _ (G44 κs qs) (g-room 𝓤 H A W E _ 7 (tyInt w32) (room-sc 𝓤 H A W (sInt w32))) $
-      ghosts (G44 κs qs) (G34 κs qs) (g-room 𝓤 H A W E (G44 κs qs) 8 (tyInt w8) (room-sc 𝓤 H A W (sInt w8))) $
+      ghosts _ _ (g-room 𝓤 H A W E _ 10 (tyInt w64) (room-sc 𝓤 H A W (sInt w64))) $
+      ghosts _ _ (g-room 𝓤 H A W E _ 5 (tyInt w64) (room-sc 𝓤 H A W (sInt w64))) $
+      ghosts _ (G43 κs qs) (g-room 𝓤 H A W E _ 6 (tyInt w64) (room-sc 𝓤 H A W (sInt w64))) $
+      ghosts (G43 κs qs) _ (g-room 𝓤 H A W E (G43 κs qs) 7 (tyInt w32) (room-sc 𝓤 H A W (sInt w32))) $
+      ghosts _ (G34 κs qs) (g-room 𝓤 H A W E _ 8 (tyInt w8) (room-sc 𝓤 H A W (sInt w8))) $
       rets
 
 -- the derivations at a model

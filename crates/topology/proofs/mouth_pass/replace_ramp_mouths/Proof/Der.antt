@@ -150,32 +150,23 @@ module _ (κs : Lfts 8) (qs : Shares 8) where
   abbrev pub G26 : Cx
   G26 = patched ((10, row2) ∷ (11, row4) ∷ (12, row4) ∷ (13, row6) ∷ (14, row4) ∷ (15, row8) ∷ (16, row2) ∷ (17, row2) ∷ (18, row9) ∷ (19, row9) ∷ (20, row10) ∷ []) ([]) G0
 
-  abbrev pub G31 : Cx
-  G31 = patched ((13, row6) ∷ (14, row4) ∷ (15, row8) ∷ (16, row2) ∷ (17, row2) ∷ (18, row9) ∷ (19, row9) ∷ (20, row10) ∷ []) ([]) G0
-
-  abbrev pub G34 : Cx
-  G34 = patched ((16, row2) ∷ (17, row2) ∷ (18, row9) ∷ (19, row9) ∷ (20, row10) ∷ []) ([]) G0
+  abbrev pub G33 : Cx
+  G33 = patched ((15, row8) ∷ (16, row2) ∷ (17, row2) ∷ (18, row9) ∷ (19, row9) ∷ (20, row10) ∷ []) ([]) G0
 
   abbrev pub G38 : Cx
   G38 = patched ((10, row2) ∷ (11, row4) ∷ (12, row4) ∷ (13, row6) ∷ (14, row4) ∷ (15, row8) ∷ (16, row2) ∷ (17, row2) ∷ (18, row9) ∷ (19, row9) ∷ (21, row9) ∷ []) ([]) G0
 
-  abbrev pub G43 : Cx
-  G43 = patched ((7, row11) ∷ (10, row2) ∷ (11, row4) ∷ (12, row4) ∷ (13, row6) ∷ (14, row4) ∷ (15, row8) ∷ (16, row2) ∷ (17, row2) ∷ (18, row9) ∷ (19, row9) ∷ (23, row13) ∷ []) ((5, off) ∷ (8, alive) ∷ []) G0
+  abbrev pub G45 : Cx
+  G45 = patched ((7, row11) ∷ (9, row14) ∷ (10, row2) ∷ (11, row4) ∷ (12, row4) ∷ (13, row6) ∷ (14, row4) ∷ (15, row8) ∷ (16, row2) ∷ (17, row2) ∷ (18, row9) ∷ (19, row9) ∷ (23, row13) ∷ (24, row15 9) ∷ []) ((5, off) ∷ (7, off) ∷ (8, alive) ∷ (9, alive) ∷ []) G0
 
-  abbrev pub G46 : Cx
-  G46 = patched ((7, row11) ∷ (9, row14) ∷ (10, row2) ∷ (11, row4) ∷ (12, row4) ∷ (13, row6) ∷ (14, row4) ∷ (15, row8) ∷ (16, row2) ∷ (17, row2) ∷ (18, row9) ∷ (19, row9) ∷ (23, row13) ∷ (24, row15 9) ∷ []) ((5, off) ∷ (7, off) ∷ (8, alive) ∷ (9, alive) ∷ (10, alive) ∷ []) G0
-
-  abbrev pub G49 : Cx
-  G49 = patched ((7, row11) ∷ (9, row14) ∷ (10, row16 10) ∷ (11, row18 11) ∷ (12, row4) ∷ (13, row6) ∷ (14, row4) ∷ (15, row8) ∷ (16, row2) ∷ (17, row2) ∷ (18, row9) ∷ (19, row9) ∷ (23, row13) ∷ (24, row15 9) ∷ (25, row15 10) ∷ (26, row19 11) ∷ []) ((5, off) ∷ (7, off) ∷ (8, alive) ∷ (9, alive) ∷ (10, alive) ∷ (11, alive) ∷ []) G0
-
-  abbrev pub G52 : Cx
-  G52 = patched ((7, row11) ∷ (9, row14) ∷ (10, row16 10) ∷ (11, row18 11) ∷ (12, row18 12) ∷ (13, row6) ∷ (14, row4) ∷ (15, row8) ∷ (16, row2) ∷ (17, row2) ∷ (18, row9) ∷ (19, row9) ∷ (23, row13) ∷ (24, row15 9) ∷ (25, row15 10) ∷ (26, row19 11) ∷ (27, row19 12) ∷ []) ((5, off) ∷ (7, off) ∷ (8, alive) ∷ (9, alive) ∷ (10, alive) ∷ (11, alive) ∷ (12, alive) ∷ (13, alive) ∷ []) G0
+  abbrev pub G50 : Cx
+  G50 = patched ((7, row11) ∷ (9, row14) ∷ (10, row16 10) ∷ (11, row18 11) ∷ (12, row4) ∷ (13, row6) ∷ (14, row4) ∷ (15, row8) ∷ (16, row2) ∷ (17, row2) ∷ (18, row9) ∷ (19, row9) ∷ (23, row13) ∷ (24, row15 9) ∷ (25, row15 10) ∷ (26, row19 11) ∷ []) ((5, off) ∷ (7, off) ∷ (8, alive) ∷ (9, alive) ∷ (10, alive) ∷ (11, alive) ∷ (12, alive) ∷ []) G0
 
   abbrev pub G55 : Cx
   G55 = patched ((7, row11) ∷ (9, row14) ∷ (10, row16 10) ∷ (11, row18 11) ∷ (12, row18 12) ∷ (13, row22) ∷ (14, row18 14) ∷ (15, row8) ∷ (16, row2) ∷ (17, row2) ∷ (18, row9) ∷ (19, row9) ∷ (23, row13) ∷ (24, row15 9) ∷ (25, row15 10) ∷ (26, row19 11) ∷ (27, row19 12) ∷ (28, row23) ∷ (29, row19 14) ∷ []) ((5, off) ∷ (7, off) ∷ (8, alive) ∷ (9, alive) ∷ (10, alive) ∷ (11, alive) ∷ (12, alive) ∷ (13, alive) ∷ (14, alive) ∷ []) G0
 
-  abbrev pub G58 : Cx
-  G58 = patched ((7, row11) ∷ (9, row14) ∷ (10, row16 10) ∷ (11, row18 11) ∷ (12, row18 12) ∷ (13, row22) ∷ (14, row18 14) ∷ (15, row26) ∷ (16, row2) ∷ (17, row2) ∷ (18, row9) ∷ (19, row9) ∷ (23, row13) ∷ (24, row15 9) ∷ (25, row15 10) ∷ (26, row19 11) ∷ (27, row19 12) ∷ (28, row23) ∷ (29, row19 14) ∷ (30, row27) ∷ []) ((5, off) ∷ (7, off) ∷ (8, alive) ∷ (9, alive) ∷ (10, alive) ∷ (11, alive) ∷ (12, alive) ∷ (13, alive) ∷ (14, alive) ∷ (15, alive) ∷ (16, alive) ∷ []) G0
+  abbrev pub G60 : Cx
+  G60 = patched ((7, row11) ∷ (9, row14) ∷ (10, row16 10) ∷ (11, row18 11) ∷ (12, row18 12) ∷ (13, row22) ∷ (14, row18 14) ∷ (15, row26) ∷ (16, row16 16) ∷ (17, row2) ∷ (18, row9) ∷ (19, row9) ∷ (23, row13) ∷ (24, row15 9) ∷ (25, row15 10) ∷ (26, row19 11) ∷ (27, row19 12) ∷ (28, row23) ∷ (29, row19 14) ∷ (30, row27) ∷ (31, row15 16) ∷ []) ((5, off) ∷ (7, off) ∷ (8, alive) ∷ (9, alive) ∷ (10, alive) ∷ (11, alive) ∷ (12, alive) ∷ (13, alive) ∷ (14, alive) ∷ (15, alive) ∷ (16, alive) ∷ (17, alive) ∷ []) G0
 
   abbrev pub G61 : Cx
   G61 = patched ((7, row11) ∷ (9, row14) ∷ (10, row16 10) ∷ (11, row18 11) ∷ (12, row18 12) ∷ (13, row22) ∷ (14, row18 14) ∷ (15, row26) ∷ (16, row16 16) ∷ (17, row16 17) ∷ (18, row9) ∷ (19, row9) ∷ (23, row13) ∷ (24, row15 9) ∷ (25, row15 10) ∷ (26, row19 11) ∷ (27, row19 12) ∷ (28, row23) ∷ (29, row19 14) ∷ (30, row27) ∷ (31, row15 16) ∷ (32, row15 17) ∷ []) ((5, off) ∷ (7, off) ∷ (8, alive) ∷ (9, alive) ∷ (10, alive) ∷ (11, alive) ∷ (12, alive) ∷ (13, alive) ∷ (14, alive) ∷ (15, alive) ∷ (16, alive) ∷ (17, alive) ∷ []) G0
@@ -270,9 +261,6 @@ module _ (κs : Lfts 8) (qs : Shares 8) where
   abbrev pub G92 : Cx
   G92 = patched ((10, row2) ∷ (11, row4) ∷ (12, row4) ∷ (13, row6) ∷ (14, row4) ∷ (15, row8) ∷ (16, row2) ∷ (17, row2) ∷ (18, row9) ∷ (19, row9) ∷ []) ((17, dead) ∷ []) G0
 
-  abbrev pub G96 : Cx
-  G96 = patched ((0, row37) ∷ []) ([]) G0
-
   abbrev pub G97 : Cx
   G97 = patched ((0, row37) ∷ (2, (any-gone (ty 2))) ∷ []) ([]) G0
 
@@ -311,11 +299,11 @@ module _ {M : Type 1} (𝓤 : URA M) (H : Heap 𝓤) (A : Atoms 𝓤) (W : Given
       skips) (
       ghosts (G26 κs qs) _ (g-room 𝓤 H A W E (G26 κs qs) 10 (tyArray tyBool 256) (room-arr 𝓤 H A W (rtF fBool) 256 0 256 refl)) $
       ghosts _ _ (g-room 𝓤 H A W E _ 11 (tyArray (tyInt w8) 256) (room-arr 𝓤 H A W (rtF (fInt w8)) 256 0 256 refl)) $
-      ghosts _ (G31 κs qs) (g-room 𝓤 H A W E _ 12 (tyArray (tyInt w8) 256) (room-arr 𝓤 H A W (rtF (fInt w8)) 256 0 256 refl)) $
-      ghosts (G31 κs qs) _ (g-room 𝓤 H A W E (G31 κs qs) 13 (tyArray (tyInt w32) 256) (room-arr 𝓤 H A W (rtF (fInt w32)) 256 0 256 refl)) $
-      ghosts _ _ (g-room 𝓤 H A W E _ 14 (tyArray (tyInt w8) 256) (room-arr 𝓤 H A W (rtF (fInt w8)) 256 0 256 refl)) $
-      ghosts _ (G34 κs qs) (g-room 𝓤 H A W E _ 15 (tyArray (tyInt w64) 256) (room-arr 𝓤 H A W (rtF (fInt w64)) 256 0 256 refl)) $
-      ghosts (G34 κs qs) _ (g-room 𝓤 H A W E (G34 κs qs) 16 (tyArray tyBool 256) (room-arr 𝓤 H A W (rtF fBool) 256 0 256 refl)) $
+      ghosts _ _ (g-room 𝓤 H A W E _ 12 (tyArray (tyInt w8) 256) (room-arr 𝓤 H A W (rtF (fInt w8)) 256 0 256 refl)) $
+      ghosts _ _ (g-room 𝓤 H A W E _ 13 (tyArray (tyInt w32) 256) (room-arr 𝓤 H A W (rtF (fInt w32)) 256 0 256 refl)) $
+      ghosts _ (G33 κs qs) (g-room 𝓤 H A W E _ 14 (tyArray (tyInt w8) 256) (room-arr 𝓤 H A W (rtF (fInt w8)) 256 0 256 refl)) $
+      ghosts (G33 κs qs) _ (g-room 𝓤 H A W E (G33 κs qs) 15 (tyArray (tyInt w64) 256) (room-arr 𝓤 H A W (rtF (fInt w64)) 256 0 256 refl)) $
+      ghosts _ _ (g-room 𝓤 H A W E _ 16 (tyArray tyBool 256) (room-arr 𝓤 H A W (rtF fBool) 256 0 256 refl)) $
       ghosts _ _ (g-room 𝓤 H A W E _ 17 (tyArray tyBool 256) (room-arr 𝓤 H A W (rtF fBool) 256 0 256 refl)) $
       ghosts _ (G25 κs qs) (g-room 𝓤 H A W E _ 20 tyBool (room-sc 𝓤 H A W sBool)) $
       exits1)) $
@@ -324,30 +312,30 @@ module _ {M : Type 1} (𝓤 : URA M) (H : Heap 𝓤) (A : Atoms 𝓤) (W : Given
       ghosts (G38 κs qs) (G24 κs qs) (g-room 𝓤 H A W E (G38 κs qs) 21 (tyInt w64) (room-sc 𝓤 H A W (sInt w64))) $
       ghosts (G24 κs qs) _ (g-begin 𝓤 H A W E (G24 κs qs) 8 _) $
       stmt _ _ (t-sl-relend 𝓤 H A W E (rtF (fInt w16)) 𝓣 _ 7 22 5 8 (tyRef (named 5) mut (tyInt w16)) (tyRef erased mut (tyInt w16)) (lease (κs .1 .1 .1 .1 .1 .0) (qs .1 .1 .1 .1 .1 .0)) 0 (λ x. x) (as-is 𝓤 H A (mslice (rtF (fInt w16)) (tyRef (named 5) mut (tyInt w16)) 5)) (room-gone 𝓤 H A (tyRef erased mut (tyInt w16))) refl tt refl refl refl (λ b o. tt)) $
-      stmt _ (G43 κs qs) (t-sl-aggregate 𝓤 H A W E (rtF (fInt w16)) 𝓣 (asMut (rtF (fInt w16))) _ 22 23 8 (tyRef erased mut (tyInt w16)) (tyRef erased mut (tyInt w16)) (λ x. x) (oFld 7 (field 1 ∷ []) (tyInt w64) 8 (λ v. lenV (v .0))) (as-is 𝓤 H A (msptr (rtF (fInt w16)) (tyRef erased mut (tyInt w16)) 8)) (room-gone 𝓤 H A _) (reads-owed-len 𝓤 H A W (rtF (fInt w16)) (tyRef (named 5) mut (tyInt w16)) 5 8 (lease (κs .1 .1 .1 .1 .1 .0) (qs .1 .1 .1 .1 .1 .0)) 8 refl, refl) refl refl (λ b o k. tt)) $
-      ghosts (G43 κs qs) _ (g-begin 𝓤 H A W E (G43 κs qs) 9 _) $
-      stmt _ _ (t-mref-relend 𝓤 H A W E 𝓣 _ 9 24 7 9 (Array (rtF fBool) 256) (tyArray tyBool 256) (tyRef (named 7) mut (tyArray tyBool 256)) (tyRef erased mut (tyArray tyBool 256)) (lease (κs .1 .1 .1 .1 .1 .1 .1 .0) (qs .1 .1 .1 .1 .1 .1 .1 .0)) (λ x. x) (as-is 𝓤 H A (mref (Array (rtF fBool) 256) (tyRef (named 7) mut (tyArray tyBool 256)) 7)) (room-gone 𝓤 H A (tyRef erased mut (tyArray tyBool 256))) refl tt refl refl (λ b o. tt)) $
-      ghosts _ (G46 κs qs) (g-begin 𝓤 H A W E _ 10 _) $
-      stmt (G46 κs qs) _ (t-sc-borrow 𝓤 H A W E 𝓣 (G46 κs qs) 10 25 10 (Array (rtF fBool) 256) (tyRef erased mut (tyArray tyBool 256)) (λ x. x) (mem-arr 𝓤 H A W (rtF fBool) 256) (room-gone 𝓤 H A (tyRef erased mut (tyArray tyBool 256))) refl (λ b o. tt)) $
+      stmt _ _ (t-sl-aggregate 𝓤 H A W E (rtF (fInt w16)) 𝓣 (asMut (rtF (fInt w16))) _ 22 23 8 (tyRef erased mut (tyInt w16)) (tyRef erased mut (tyInt w16)) (λ x. x) (oFld 7 (field 1 ∷ []) (tyInt w64) 8 (λ v. lenV (v .0))) (as-is 𝓤 H A (msptr (rtF (fInt w16)) (tyRef erased mut (tyInt w16)) 8)) (room-gone 𝓤 H A _) (reads-owed-len 𝓤 H A W (rtF (fInt w16)) (tyRef (named 5) mut (tyInt w16)) 5 8 (lease (κs .1 .1 .1 .1 .1 .0) (qs .1 .1 .1 .1 .1 .0)) 8 refl, refl) refl refl (λ b o k. tt)) $
+      ghosts _ _ (g-begin 𝓤 H A W E _ 9 _) $
+      stmt _ (G45 κs qs) (t-mref-relend 𝓤 H A W E 𝓣 _ 9 24 7 9 (Array (rtF fBool) 256) (tyArray tyBool 256) (tyRef (named 7) mut (tyArray tyBool 256)) (tyRef erased mut (tyArray tyBool 256)) (lease (κs .1 .1 .1 .1 .1 .1 .1 .0) (qs .1 .1 .1 .1 .1 .1 .1 .0)) (λ x. x) (as-is 𝓤 H A (mref (Array (rtF fBool) 256) (tyRef (named 7) mut (tyArray tyBool 256)) 7)) (room-gone 𝓤 H A (tyRef erased mut (tyArray tyBool 256))) refl tt refl refl (λ b o. tt)) $
+      ghosts (G45 κs qs) _ (g-begin 𝓤 H A W E (G45 κs qs) 10 _) $
+      stmt _ _ (t-sc-borrow 𝓤 H A W E 𝓣 _ 10 25 10 (Array (rtF fBool) 256) (tyRef erased mut (tyArray tyBool 256)) (λ x. x) (mem-arr 𝓤 H A W (rtF fBool) 256) (room-gone 𝓤 H A (tyRef erased mut (tyArray tyBool 256))) refl (λ b o. tt)) $
       ghosts _ _ (g-begin 𝓤 H A W E _ 11 _) $
-      stmt _ (G49 κs qs) (t-sc-borrow 𝓤 H A W E 𝓣 _ 11 26 11 (Array (rtF (fInt w8)) 256) (tyRef erased mut (tyArray (tyInt w8) 256)) (λ x. x) (mem-arr 𝓤 H A W (rtF (fInt w8)) 256) (room-gone 𝓤 H A (tyRef erased mut (tyArray (tyInt w8) 256))) refl (λ b o. tt)) $
-      ghosts (G49 κs qs) _ (g-begin 𝓤 H A W E (G49 κs qs) 12 _) $
-      stmt _ _ (t-sc-borrow 𝓤 H A W E 𝓣 _ 12 27 12 (Array (rtF (fInt w8)) 256) (tyRef erased mut (tyArray (tyInt w8) 256)) (λ x. x) (mem-arr 𝓤 H A W (rtF (fInt w8)) 256) (room-gone 𝓤 H A (tyRef erased mut (tyArray (tyInt w8) 256))) refl (λ b o. tt)) $
-      ghosts _ (G52 κs qs) (g-begin 𝓤 H A W E _ 13 _) $
-      stmt (G52 κs qs) _ (t-sc-borrow 𝓤 H A W E 𝓣 (G52 κs qs) 13 28 13 (Array (rtF (fInt w32)) 256) (tyRef erased mut (tyArray (tyInt w32) 256)) (λ x. x) (mem-arr 𝓤 H A W (rtF (fInt w32)) 256) (room-gone 𝓤 H A (tyRef erased mut (tyArray (tyInt w32) 256))) refl (λ b o. tt)) $
+      stmt _ _ (t-sc-borrow 𝓤 H A W E 𝓣 _ 11 26 11 (Array (rtF (fInt w8)) 256) (tyRef erased mut (tyArray (tyInt w8) 256)) (λ x. x) (mem-arr 𝓤 H A W (rtF (fInt w8)) 256) (room-gone 𝓤 H A (tyRef erased mut (tyArray (tyInt w8) 256))) refl (λ b o. tt)) $
+      ghosts _ (G50 κs qs) (g-begin 𝓤 H A W E _ 12 _) $
+      stmt (G50 κs qs) _ (t-sc-borrow 𝓤 H A W E 𝓣 (G50 κs qs) 12 27 12 (Array (rtF (fInt w8)) 256) (tyRef erased mut (tyArray (tyInt w8) 256)) (λ x. x) (mem-arr 𝓤 H A W (rtF (fInt w8)) 256) (room-gone 𝓤 H A (tyRef erased mut (tyArray (tyInt w8) 256))) refl (λ b o. tt)) $
+      ghosts _ _ (g-begin 𝓤 H A W E _ 13 _) $
+      stmt _ _ (t-sc-borrow 𝓤 H A W E 𝓣 _ 13 28 13 (Array (rtF (fInt w32)) 256) (tyRef erased mut (tyArray (tyInt w32) 256)) (λ x. x) (mem-arr 𝓤 H A W (rtF (fInt w32)) 256) (room-gone 𝓤 H A (tyRef erased mut (tyArray (tyInt w32) 256))) refl (λ b o. tt)) $
       ghosts _ _ (g-begin 𝓤 H A W E _ 14 _) $
       stmt _ (G55 κs qs) (t-sc-borrow 𝓤 H A W E 𝓣 _ 14 29 14 (Array (rtF (fInt w8)) 256) (tyRef erased mut (tyArray (tyInt w8) 256)) (λ x. x) (mem-arr 𝓤 H A W (rtF (fInt w8)) 256) (room-gone 𝓤 H A (tyRef erased mut (tyArray (tyInt w8) 256))) refl (λ b o. tt)) $
       ghosts (G55 κs qs) _ (g-begin 𝓤 H A W E (G55 κs qs) 15 _) $
       stmt _ _ (t-sc-borrow 𝓤 H A W E 𝓣 _ 15 30 15 (Array (rtF (fInt w64)) 256) (tyRef erased mut (tyArray (tyInt w64) 256)) (λ x. x) (mem-arr 𝓤 H A W (rtF (fInt w64)) 256) (room-gone 𝓤 H A (tyRef erased mut (tyArray (tyInt w64) 256))) refl (λ b o. tt)) $
-      ghosts _ (G58 κs qs) (g-begin 𝓤 H A W E _ 16 _) $
-      stmt (G58 κs qs) _ (t-sc-borrow 𝓤 H A W E 𝓣 (G58 κs qs) 16 31 16 (Array (rtF fBool) 256) (tyRef erased mut (tyArray tyBool 256)) (λ x. x) (mem-arr 𝓤 H A W (rtF fBool) 256) (room-gone 𝓤 H A (tyRef erased mut (tyArray tyBool 256))) refl (λ b o. tt)) $
-      ghosts _ _ (g-begin 𝓤 H A W E _ 17 _) $
-      stmt _ (G61 κs qs) (t-sc-borrow 𝓤 H A W E 𝓣 _ 17 32 17 (Array (rtF fBool) 256) (tyRef erased mut (tyArray tyBool 256)) (λ x. x) (mem-arr 𝓤 H A W (rtF fBool) 256) (room-gone 𝓤 H A (tyRef erased mut (tyArray tyBool 256))) refl (λ b o. tt)) $
+      ghosts _ _ (g-begin 𝓤 H A W E _ 16 _) $
+      stmt _ _ (t-sc-borrow 𝓤 H A W E 𝓣 _ 16 31 16 (Array (rtF fBool) 256) (tyRef erased mut (tyArray tyBool 256)) (λ x. x) (mem-arr 𝓤 H A W (rtF fBool) 256) (room-gone 𝓤 H A (tyRef erased mut (tyArray tyBool 256))) refl (λ b o. tt)) $
+      ghosts _ (G60 κs qs) (g-begin 𝓤 H A W E _ 17 _) $
+      stmt (G60 κs qs) (G61 κs qs) (t-sc-borrow 𝓤 H A W E 𝓣 (G60 κs qs) 17 32 17 (Array (rtF fBool) 256) (tyRef erased mut (tyArray tyBool 256)) (λ x. x) (mem-arr 𝓤 H A W (rtF fBool) 256) (room-gone 𝓤 H A (tyRef erased mut (tyArray tyBool 256))) refl (λ b o. tt)) $
       last (G61 κs qs) (G24 κs qs) (then W (G61 κs qs) (G92 κs qs) (G24 κs qs) (then W (G61 κs qs) (G91 κs qs) (G92 κs qs) (then W (G61 κs qs) (G90 κs qs) (G91 κs qs) (then W (G61 κs qs) (G89 κs qs) (G90 κs qs) (then W (G61 κs qs) (G88 κs qs) (G89 κs qs) (then W (G61 κs qs) (G87 κs qs) (G88 κs qs) (then W (G61 κs qs) (G86 κs qs) (G87 κs qs) (then W (G61 κs qs) (G85 κs qs) (G86 κs qs) (then W (G61 κs qs) (G84 κs qs) (G85 κs qs) (then W (G61 κs qs) (G83 κs qs) (G84 κs qs) (then W (G61 κs qs) (G82 κs qs) (G83 κs qs) (then W (G61 κs qs) (G81 κs qs) (G82 κs qs) (then W (G61 κs qs) (G80 κs qs) (G81 κs qs) (then W (G61 κs qs) (G79 κs qs) (G80 κs qs) (then W (G61 κs qs) (G78 κs qs) (G79 κs qs) (then W (G61 κs qs) (G77 κs qs) (G78 κs qs) (then W (G61 κs qs) (G76 κs qs) (G77 κs qs) (then W (G61 κs qs) (G75 κs qs) (G76 κs qs) (then W (G61 κs qs) (G74 κs qs) (G75 κs qs) (then W (G61 κs qs) (G73 κs qs) (G74 κs qs) (then W (G61 κs qs) (G72 κs qs) (G73 κs qs) (then W (G61 κs qs) (G71 κs qs) (G72 κs qs) (then W (G61 κs qs) (G70 κs qs) (G71 κs qs) (then W (G61 κs qs) (G69 κs qs) (G70 κs qs) (then W (G61 κs qs) (G68 κs qs) (G69 κs qs) (then W (G61 κs qs) (G67 κs qs) (G68 κs qs) (then W (G61 κs qs) (G66 κs qs) (G67 κs qs) (then W (G61 κs qs) (G64 κs qs) (G66 κs qs) (then W (G61 κs qs) (G64 κs qs) (G64 κs qs) (then W (G61 κs qs) (G63 κs qs) (G64 κs qs) (then W (G61 κs qs) (G62 κs qs) (G63 κs qs) (t-call-plain 𝓤 H A W 𝓣 16 K1.ps K1.r K1.Asked K1.Learnt "topology::mouth_pass::next_ramp" known1 E (λ pos β. β) (G61 κs qs) (record { pos = 1; ty = tyRef (named 0) imm (pointee (twin-0.the-row .written)); ref = λ x. x }, (vAt 2 (λ x. x), (record { pos = 3; ty = tyRef (named 1) imm (tyInt w64); ref = λ x. x }, (record { pos = 4; ty = tyRef (named 2) imm (tyInt w32); ref = λ x. x }, (record { pos = 5; ty = tyRef (named 3) imm (tyInt w32); ref = λ x. x }, (record { pos = 6; ty = tyRef (named 4) imm (tyArray (tyInt w64) 257); ref = λ x. x }, (record { pos = 23; ty = tyRef erased mut (tyInt w16); ref = λ x. x }, (record { pos = 8; ty = tyRef (named 6) imm (tyInt w32); ref = λ x. x }, (record { pos = 24; ty = tyRef erased mut (tyArray tyBool 256); ref = λ x. x }, (record { pos = 25; ty = tyRef erased mut (tyArray tyBool 256); ref = λ x. x }, (record { pos = 26; ty = tyRef erased mut (tyArray (tyInt w8) 256); ref = λ x. x }, (record { pos = 27; ty = tyRef erased mut (tyArray (tyInt w8) 256); ref = λ x. x }, (record { pos = 28; ty = tyRef erased mut (tyArray (tyInt w32) 256); ref = λ x. x }, (record { pos = 29; ty = tyRef erased mut (tyArray (tyInt w8) 256); ref = λ x. x }, (record { pos = 30; ty = tyRef erased mut (tyArray (tyInt w64) 256); ref = λ x. x }, (record { pos = 31; ty = tyRef erased mut (tyArray tyBool 256); ref = λ x. x }, (record { pos = 32; ty = tyRef erased mut (tyArray tyBool 256); ref = λ x. x }, (vAt 18 (λ x. x), (vAt 19 (λ x. x), tt))))))))))))))))))) 19 (0 ∷ 1 ∷ 2 ∷ 3 ∷ 4 ∷ 8 ∷ 6 ∷ 9 ∷ 10 ∷ 11 ∷ 12 ∷ 13 ∷ 14 ∷ 15 ∷ 16 ∷ 17 ∷ []) (sub-id 𝓤 H A W ((G61 κs qs) .slots)) (spares-sslice 𝓤 H A W twin-0.the-row (tyRef (named 0) imm (pointee (twin-0.the-row .written))) 0, reads-sslice 𝓤 H A W twin-0.the-row (tyRef (named 0) imm (pointee (twin-0.the-row .written))) 0, refl, ((reads-sc 𝓤 H A W (sInt w64), refl), (spares-sslice 𝓤 H A W (rtF (fInt w64)) (tyRef (named 1) imm (tyInt w64)) 1, reads-sslice 𝓤 H A W (rtF (fInt w64)) (tyRef (named 1) imm (tyInt w64)) 1, refl, (spares-sslice 𝓤 H A W (rtF (fInt w32)) (tyRef (named 2) imm (tyInt w32)) 2, reads-sslice 𝓤 H A W (rtF (fInt w32)) (tyRef (named 2) imm (tyInt w32)) 2, refl, (spares-sslice 𝓤 H A W (rtF (fInt w32)) (tyRef (named 3) imm (tyInt w32)) 3, reads-sslice 𝓤 H A W (rtF (fInt w32)) (tyRef (named 3) imm (tyInt w32)) 3, refl, (spares-sref 𝓤 H A W (Array (rtF (fInt w64)) 257) (tyRef (named 4) imm (tyArray (tyInt w64) 257)) 4, reads-sref 𝓤 H A W (Array (rtF (fInt w64)) 257) (tyRef (named 4) imm (tyArray (tyInt w64) 257)) 4, refl, (as-is 𝓤 H A (mslice (rtF (fInt w16)) (tyRef erased mut (tyInt w16)) 8), reads-mslice 𝓤 H A W (rtF (fInt w16)) (tyRef erased mut (tyInt w16)) 8, refl, (spares-sslice 𝓤 H A W (rtF (fInt w32)) (tyRef (named 6) imm (tyInt w32)) 6, reads-sslice 𝓤 H A W (rtF (fInt w32)) (tyRef (named 6) imm (tyInt w32)) 6, refl, (as-is 𝓤 H A (mref (Array (rtF fBool) 256) (tyRef erased mut (tyArray tyBool 256)) 9), reads-mref 𝓤 H A W (Array (rtF fBool) 256) (tyRef erased mut (tyArray tyBool 256)) 9, refl, (as-is 𝓤 H A (mref (Array (rtF fBool) 256) (tyRef erased mut (tyArray tyBool 256)) 10), reads-mref 𝓤 H A W (Array (rtF fBool) 256) (tyRef erased mut (tyArray tyBool 256)) 10, refl, (as-is 𝓤 H A (mref (Array (rtF (fInt w8)) 256) (tyRef erased mut (tyArray (tyInt w8) 256)) 11), reads-mref 𝓤 H A W (Array (rtF (fInt w8)) 256) (tyRef erased mut (tyArray (tyInt w8) 256)) 11, refl, (as-is 𝓤 H A (mref (Array (rtF (fInt w8)) 256) (tyRef erased mut (tyArray (tyInt w8) 256)) 12), reads-mref 𝓤 H A W (Array (rtF (fInt w8)) 256) (tyRef erased mut (tyArray (tyInt w8) 256)) 12, refl, (as-is 𝓤 H A (mref (Array (rtF (fInt w32)) 256) (tyRef erased mut (tyArray (tyInt w32) 256)) 13), reads-mref 𝓤 H A W (Array (rtF (fInt w32)) 256) (tyRef erased mut (tyArray (tyInt w32) 256)) 13, refl, (as-is 𝓤 H A (mref (Array (rtF (fInt w8)) 256) (tyRef erased mut (tyArray (tyInt w8) 256)) 14), reads-mref 𝓤 H A W (Array (rtF (fInt w8)) 256) (tyRef erased mut (tyArray (tyInt w8) 256)) 14, refl, (as-is 𝓤 H A (mref (Array (rtF (fInt w64)) 256) (tyRef erased mut (tyArray (tyInt w64) 256)) 15), reads-mref 𝓤 H A W (Array (rtF (fInt w64)) 256) (tyRef erased mut (tyArray (tyInt w64) 256)) 15, refl, (as-is 𝓤 H A (mref (Array (rtF fBool) 256) (tyRef erased mut (tyArray tyBool 256)) 16), reads-mref 𝓤 H A W (Array (rtF fBool) 256) (tyRef erased mut (tyArray tyBool 256)) 16, refl, (as-is 𝓤 H A (mref (Array (rtF fBool) 256) (tyRef erased mut (tyArray tyBool 256)) 17), reads-mref 𝓤 H A W (Array (rtF fBool) 256) (tyRef erased mut (tyArray tyBool 256)) 17, refl, ((reads-sc 𝓤 H A W (sInt w64), refl), ((reads-sc 𝓤 H A W (sInt w64), refl), tt))))))))))))))))))) (room-sc 𝓤 H A W (sInt w64)) (tt, (tt, (tt, (tt, (tt, (tt, (tt, (tt, (tt, (tt, (tt, (tt, (tt, (tt, (tt, (tt, tt)))))))))))))))) refl) (g-end 𝓤 H A W E (G62 κs qs) 8 refl)) (g-back-sl 𝓤 H A W E (rtF (fInt w16)) (G63 κs qs) 23 7 5 8 (tyRef (named 5) mut (tyInt w16)) (tyRef erased mut (tyInt w16)) (lease (κs .1 .1 .1 .1 .1 .0) (qs .1 .1 .1 .1 .1 .0)) (λ x. x) (λ x. x) (as-is 𝓤 H A (msleft (rtF (fInt w16)) (tyRef erased mut (tyInt w16)))) (as-is 𝓤 H A (mslice-owed (rtF (fInt w16)) (tyRef (named 5) mut (tyInt w16)) 5 8 (lease (κs .1 .1 .1 .1 .1 .0) (qs .1 .1 .1 .1 .1 .0)))) refl refl)) (g-sl-known 𝓤 H A W (fInt w16) E (G64 κs qs) 7 5 (tyRef (named 5) mut (tyInt w16)) (lease (κs .1 .1 .1 .1 .1 .0) (qs .1 .1 .1 .1 .1 .0)) 0 (λ x. x) record { fits = lit< tt } (as-is 𝓤 H A (mslice (rtF (fInt w16)) (tyRef (named 5) mut (tyInt w16)) 5)) refl tt)) (g-forget 𝓤 H A W E (G64 κs qs) 8 dead refl)) (g-end 𝓤 H A W E (G66 κs qs) 9 refl)) (g-back-mref 𝓤 H A W E (G67 κs qs) 24 9 7 9 (Array (rtF fBool) 256) (tyRef (named 7) mut (tyArray tyBool 256)) (tyRef erased mut (tyArray tyBool 256)) (lease (κs .1 .1 .1 .1 .1 .1 .1 .0) (qs .1 .1 .1 .1 .1 .1 .1 .0)) (λ x. x) (λ x. x) (as-is 𝓤 H A (mleft (Array (rtF fBool) 256) (tyRef erased mut (tyArray tyBool 256)))) (as-is 𝓤 H A (mref-owed (Array (rtF fBool) 256) (tyRef (named 7) mut (tyArray tyBool 256)) 7 9 (lease (κs .1 .1 .1 .1 .1 .1 .1 .0) (qs .1 .1 .1 .1 .1 .1 .1 .0)))) refl refl)) (g-forget 𝓤 H A W E (G68 κs qs) 9 dead refl)) (g-end 𝓤 H A W E (G69 κs qs) 10 refl)) (g-back-sc 𝓤 H A W E (G70 κs qs) 25 10 10 (Array (rtF fBool) 256) (tyRef erased mut (tyArray tyBool 256)) (arrF (rtF fBool) 256 0) (λ x. x) (λ x. x) (λ x. x) (as-is 𝓤 H A (mleft (Array (rtF fBool) 256) (tyRef erased mut (tyArray tyBool 256)))) (as-is 𝓤 H A (sc-owed (Array (rtF fBool) 256) 10)) (arr-mem 𝓤 H A W (rtF fBool) 256 tt) refl)) (g-forget 𝓤 H A W E (G71 κs qs) 10 dead refl)) (g-end 𝓤 H A W E (G72 κs qs) 11 refl)) (g-back-sc 𝓤 H A W E (G73 κs qs) 26 11 11 (Array (rtF (fInt w8)) 256) (tyRef erased mut (tyArray (tyInt w8) 256)) (arrF (rtF (fInt w8)) 256 0) (λ x. x) (λ x. x) (λ x. x) (as-is 𝓤 H A (mleft (Array (rtF (fInt w8)) 256) (tyRef erased mut (tyArray (tyInt w8) 256)))) (as-is 𝓤 H A (sc-owed (Array (rtF (fInt w8)) 256) 11)) (arr-mem 𝓤 H A W (rtF (fInt w8)) 256 tt) refl)) (g-forget 𝓤 H A W E (G74 κs qs) 11 dead refl)) (g-end 𝓤 H A W E (G75 κs qs) 12 refl)) (g-back-sc 𝓤 H A W E (G76 κs qs) 27 12 12 (Array (rtF (fInt w8)) 256) (tyRef erased mut (tyArray (tyInt w8) 256)) (arrF (rtF (fInt w8)) 256 0) (λ x. x) (λ x. x) (λ x. x) (as-is 𝓤 H A (mleft (Array (rtF (fInt w8)) 256) (tyRef erased mut (tyArray (tyInt w8) 256)))) (as-is 𝓤 H A (sc-owed (Array (rtF (fInt w8)) 256) 12)) (arr-mem 𝓤 H A W (rtF (fInt w8)) 256 tt) refl)) (g-forget 𝓤 H A W E (G77 κs qs) 12 dead refl)) (g-end 𝓤 H A W E (G78 κs qs) 13 refl)) (g-back-sc 𝓤 H A W E (G79 κs qs) 28 13 13 (Array (rtF (fInt w32)) 256) (tyRef erased mut (tyArray (tyInt w32) 256)) (arrF (rtF (fInt w32)) 256 0) (λ x. x) (λ x. x) (λ x. x) (as-is 𝓤 H A (mleft (Array (rtF (fInt w32)) 256) (tyRef erased mut (tyArray (tyInt w32) 256)))) (as-is 𝓤 H A (sc-owed (Array (rtF (fInt w32)) 256) 13)) (arr-mem 𝓤 H A W (rtF (fInt w32)) 256 tt) refl)) (g-forget 𝓤 H A W E (G80 κs qs) 13 dead refl)) (g-end 𝓤 H A W E (G81 κs qs) 14 refl)) (g-back-sc 𝓤 H A W E (G82 κs qs) 29 14 14 (Array (rtF (fInt w8)) 256) (tyRef erased mut (tyArray (tyInt w8) 256)) (arrF (rtF (fInt w8)) 256 0) (λ x. x) (λ x. x) (λ x. x) (as-is 𝓤 H A (mleft (Array (rtF (fInt w8)) 256) (tyRef erased mut (tyArray (tyInt w8) 256)))) (as-is 𝓤 H A (sc-owed (Array (rtF (fInt w8)) 256) 14)) (arr-mem 𝓤 H A W (rtF (fInt w8)) 256 tt) refl)) (g-forget 𝓤 H A W E (G83 κs qs) 14 dead refl)) (g-end 𝓤 H A W E (G84 κs qs) 15 refl)) (g-back-sc 𝓤 H A W E (G85 κs qs) 30 15 15 (Array (rtF (fInt w64)) 256) (tyRef erased mut (tyArray (tyInt w64) 256)) (arrF (rtF (fInt w64)) 256 0) (λ x. x) (λ x. x) (λ x. x) (as-is 𝓤 H A (mleft (Array (rtF (fInt w64)) 256) (tyRef erased mut (tyArray (tyInt w64) 256)))) (as-is 𝓤 H A (sc-owed (Array (rtF (fInt w64)) 256) 15)) (arr-mem 𝓤 H A W (rtF (fInt w64)) 256 tt) refl)) (g-forget 𝓤 H A W E (G86 κs qs) 15 dead refl)) (g-end 𝓤 H A W E (G87 κs qs) 16 refl)) (g-back-sc 𝓤 H A W E (G88 κs qs) 31 16 16 (Array (rtF fBool) 256) (tyRef erased mut (tyArray tyBool 256)) (arrF (rtF fBool) 256 0) (λ x. x) (λ x. x) (λ x. x) (as-is 𝓤 H A (mleft (Array (rtF fBool) 256) (tyRef erased mut (tyArray tyBool 256)))) (as-is 𝓤 H A (sc-owed (Array (rtF fBool) 256) 16)) (arr-mem 𝓤 H A W (rtF fBool) 256 tt) refl)) (g-forget 𝓤 H A W E (G89 κs qs) 16 dead refl)) (g-end 𝓤 H A W E (G90 κs qs) 17 refl)) (g-back-sc 𝓤 H A W E (G91 κs qs) 32 17 17 (Array (rtF fBool) 256) (tyRef erased mut (tyArray tyBool 256)) (arrF (rtF fBool) 256 0) (λ x. x) (λ x. x) (λ x. x) (as-is 𝓤 H A (mleft (Array (rtF fBool) 256) (tyRef erased mut (tyArray tyBool 256)))) (as-is 𝓤 H A (sc-owed (Array (rtF fBool) 256) 17)) (arr-mem 𝓤 H A W (rtF fBool) 256 tt) refl)) (g-forget 𝓤 H A W E (G92 κs qs) 17 dead refl))))) $
       stmt (G25 κs qs) _ (t-use 𝓤 H A W E 𝓣 (G25 κs qs) oUnit 0 (sc-here sUnit) tyUnit (valS sUnit) (sUnit .of) tt (room-gone 𝓤 H A tyUnit) (holds-sc 𝓤 H A W sUnit) refl (λ u. refl) (λ u. tt)) $
       ghosts _ _ (g-room 𝓤 H A W E _ 18 (tyInt w64) (room-sc 𝓤 H A W (sInt w64))) $
-      ghosts _ (G96 κs qs) (g-room 𝓤 H A W E _ 19 (tyInt w64) (room-sc 𝓤 H A W (sInt w64))) $
-      ghosts (G96 κs qs) (G97 κs qs) (g-room 𝓤 H A W E (G96 κs qs) 2 (tyInt w64) (room-sc 𝓤 H A W (sInt w64))) $
+      ghosts _ _ (g-room 𝓤 H A W E _ 19 (tyInt w64) (room-sc 𝓤 H A W (sInt w64))) $
+      ghosts _ (G97 κs qs) (g-room 𝓤 H A W E _ 2 (tyInt w64) (room-sc 𝓤 H A W (sInt w64))) $
       rets
 
 -- the derivations at a model

@@ -51,17 +51,11 @@ module _ (κs : Lfts 10) (qs : Shares 10) where
   abbrev row7 : Row
   row7 = mslice-owed (rtF (fInt w16)) (tyRef (named 6) mut (tyInt w16)) 6 10 (lease (κs .1 .1 .1 .1 .1 .1 .0) (qs .1 .1 .1 .1 .1 .1 .0))
 
-  abbrev row8 : Row
-  row8 = msptr (rtF (fInt w16)) (tyRef erased mut (tyInt w16)) 10
-
   abbrev row9 : Row
   row9 = mslice (rtF (fInt w16)) (tyRef erased mut (tyInt w16)) 10
 
   abbrev row10 : Row
   row10 = mslice-owed (rtF (fInt w32)) (tyRef (named 7) mut (tyInt w32)) 7 11 (lease (κs .1 .1 .1 .1 .1 .1 .1 .0) (qs .1 .1 .1 .1 .1 .1 .1 .0))
-
-  abbrev row11 : Row
-  row11 = msptr (rtF (fInt w32)) (tyRef erased mut (tyInt w32)) 11
 
   abbrev row12 : ℕ → Row
   row12 k = mslice (rtF (fInt w32)) (tyRef erased mut (tyInt w32)) k
@@ -102,17 +96,11 @@ module _ (κs : Lfts 10) (qs : Shares 10) where
   abbrev row28 : Row
   row28 = mslice-owedS (rtF (fInt w32)) (tyRef (named 7) mut (tyInt w32)) 7 17 (lease (κs .1 .1 .1 .1 .1 .1 .1 .0) (qs .1 .1 .1 .1 .1 .1 .1 .0))
 
-  abbrev row29 : Row
-  row29 = ssptr (rtF (fInt w32)) (tyRef erased imm (tyInt w32)) 17
-
   abbrev row30 : Row
   row30 = sslice (rtF (fInt w32)) (tyRef erased imm (tyInt w32)) 17
 
   abbrev row31 : Row
   row31 = mslice-owedS (rtF (fInt w16)) (tyRef (named 6) mut (tyInt w16)) 6 18 (lease (κs .1 .1 .1 .1 .1 .1 .0) (qs .1 .1 .1 .1 .1 .1 .0))
-
-  abbrev row32 : Row
-  row32 = ssptr (rtF (fInt w16)) (tyRef erased imm (tyInt w16)) 18
 
   abbrev row33 : Row
   row33 = sslice (rtF (fInt w16)) (tyRef erased imm (tyInt w16)) 18
@@ -128,9 +116,6 @@ module _ (κs : Lfts 10) (qs : Shares 10) where
 
   abbrev row39 : Row
   row39 = mleft (Array (rtF fBool) 256) (tyRef erased mut (tyArray tyBool 256))
-
-  abbrev pub G12 : Cx
-  G12 = patched ((20, row1) ∷ []) ([]) G0
 
   abbrev pub G13 : Cx
   G13 = patched ((20, row1) ∷ (21, row2) ∷ []) ([]) G0
@@ -165,17 +150,11 @@ module _ (κs : Lfts 10) (qs : Shares 10) where
   abbrev pub G28 : Cx
   G28 = patched ((16, row4) ∷ (17, row6) ∷ (18, row5) ∷ []) ([]) G0
 
-  abbrev pub G31 : Cx
-  G31 = patched ((12, row7) ∷ (16, row4) ∷ (17, row6) ∷ (18, row6) ∷ (23, row8) ∷ []) ((6, off) ∷ (10, alive) ∷ []) G0
+  abbrev pub G33 : Cx
+  G33 = patched ((12, row7) ∷ (16, row4) ∷ (17, row6) ∷ (18, row6) ∷ (24, row9) ∷ []) ((6, off) ∷ (10, alive) ∷ (11, alive) ∷ []) G0
 
-  abbrev pub G34 : Cx
-  G34 = patched ((12, row7) ∷ (13, row10) ∷ (16, row4) ∷ (17, row6) ∷ (18, row6) ∷ (24, row9) ∷ (25, row11) ∷ []) ((6, off) ∷ (7, off) ∷ (10, alive) ∷ (11, alive) ∷ []) G0
-
-  abbrev pub G37 : Cx
-  G37 = patched ((12, row7) ∷ (13, row10) ∷ (16, row13) ∷ (17, row6) ∷ (18, row6) ∷ (24, row9) ∷ (26, row12 11) ∷ (27, row14) ∷ []) ((6, off) ∷ (7, off) ∷ (10, alive) ∷ (11, alive) ∷ (12, alive) ∷ []) G0
-
-  abbrev pub G40 : Cx
-  G40 = patched ((12, row7) ∷ (13, row10) ∷ (16, row13) ∷ (17, row15 13) ∷ (18, row6) ∷ (24, row9) ∷ (26, row12 11) ∷ (27, row14) ∷ (28, row16 13) ∷ []) ((6, off) ∷ (7, off) ∷ (10, alive) ∷ (11, alive) ∷ (12, alive) ∷ (13, alive) ∷ (14, alive) ∷ []) G0
+  abbrev pub G38 : Cx
+  G38 = patched ((12, row7) ∷ (13, row10) ∷ (16, row13) ∷ (17, row6) ∷ (18, row6) ∷ (24, row9) ∷ (26, row12 11) ∷ (27, row14) ∷ []) ((6, off) ∷ (7, off) ∷ (10, alive) ∷ (11, alive) ∷ (12, alive) ∷ (13, alive) ∷ []) G0
 
   abbrev pub G41 : Cx
   G41 = patched ((12, row7) ∷ (13, row10) ∷ (16, row13) ∷ (17, row15 13) ∷ (18, row15 14) ∷ (24, row9) ∷ (26, row12 11) ∷ (27, row14) ∷ (28, row16 13) ∷ (29, row16 14) ∷ []) ((6, off) ∷ (7, off) ∷ (10, alive) ∷ (11, alive) ∷ (12, alive) ∷ (13, alive) ∷ (14, alive) ∷ []) G0
@@ -183,17 +162,11 @@ module _ (κs : Lfts 10) (qs : Shares 10) where
   abbrev pub G42 : Cx
   G42 = patched ((12, row7) ∷ (13, row10) ∷ (16, row13) ∷ (17, row15 13) ∷ (18, row15 14) ∷ (22, row19) ∷ (24, row20) ∷ (26, row21) ∷ (27, row22) ∷ (28, row23) ∷ (29, row23) ∷ []) ((6, off) ∷ (7, off) ∷ (10, alive) ∷ (11, alive) ∷ (12, alive) ∷ (13, alive) ∷ (14, alive) ∷ []) G0
 
-  abbrev pub G45 : Cx
-  G45 = patched ((13, row10) ∷ (16, row13) ∷ (17, row15 13) ∷ (18, row15 14) ∷ (26, row21) ∷ (27, row22) ∷ (28, row23) ∷ (29, row23) ∷ []) ((7, off) ∷ (10, dead) ∷ (11, alive) ∷ (12, alive) ∷ (13, alive) ∷ (14, alive) ∷ []) G0
+  abbrev pub G48 : Cx
+  G48 = patched ((13, row10) ∷ (16, row13) ∷ (17, row15 13) ∷ (18, row15 14) ∷ (26, row21) ∷ (27, row22) ∷ (28, row23) ∷ (29, row23) ∷ []) ((7, off) ∷ (11, dead) ∷ (12, alive) ∷ (13, alive) ∷ (14, alive) ∷ []) G0
 
-  abbrev pub G49 : Cx
-  G49 = patched ((16, row13) ∷ (17, row15 13) ∷ (18, row15 14) ∷ (27, row22) ∷ (28, row23) ∷ (29, row23) ∷ []) ((11, dead) ∷ (12, alive) ∷ (13, alive) ∷ (14, alive) ∷ []) G0
-
-  abbrev pub G53 : Cx
-  G53 = patched ((16, row4) ∷ (17, row15 13) ∷ (18, row15 14) ∷ (28, row23) ∷ (29, row23) ∷ []) ((12, dead) ∷ (13, alive) ∷ (14, alive) ∷ []) G0
-
-  abbrev pub G56 : Cx
-  G56 = patched ((17, row15 13) ∷ (18, row15 14) ∷ (28, row23) ∷ (29, row23) ∷ []) ((13, dead) ∷ (14, alive) ∷ []) G0
+  abbrev pub G54 : Cx
+  G54 = patched ((16, row4) ∷ (17, row15 13) ∷ (18, row15 14) ∷ (28, row23) ∷ (29, row23) ∷ []) ((13, alive) ∷ (14, alive) ∷ []) G0
 
   abbrev pub G59 : Cx
   G59 = patched ((17, row6) ∷ (18, row15 14) ∷ (29, row23) ∷ []) ((14, dead) ∷ []) G0
@@ -201,17 +174,11 @@ module _ (κs : Lfts 10) (qs : Shares 10) where
   abbrev pub G61 : Cx
   G61 = patched ((17, row6) ∷ (18, row6) ∷ []) ([]) G0
 
-  abbrev pub G64 : Cx
-  G64 = patched ((17, row24 15) ∷ (18, row6) ∷ (30, row25 15) ∷ []) ((15, alive) ∷ (16, alive) ∷ []) G0
+  abbrev pub G66 : Cx
+  G66 = patched ((17, row24 15) ∷ (18, row24 16) ∷ (30, row25 15) ∷ (31, row25 16) ∷ []) ((15, alive) ∷ (16, alive) ∷ (17, alive) ∷ []) G0
 
-  abbrev pub G67 : Cx
-  G67 = patched ((13, row28) ∷ (17, row24 15) ∷ (18, row24 16) ∷ (30, row25 15) ∷ (31, row25 16) ∷ (32, row29) ∷ []) ((7, off) ∷ (15, alive) ∷ (16, alive) ∷ (17, alive) ∷ []) G0
-
-  abbrev pub G70 : Cx
-  G70 = patched ((12, row31) ∷ (13, row28) ∷ (17, row24 15) ∷ (18, row24 16) ∷ (30, row25 15) ∷ (31, row25 16) ∷ (33, row30) ∷ (34, row32) ∷ []) ((6, off) ∷ (7, off) ∷ (15, alive) ∷ (16, alive) ∷ (17, alive) ∷ (18, alive) ∷ []) G0
-
-  abbrev pub G73 : Cx
-  G73 = patched ((12, row31) ∷ (13, row28) ∷ (14, row34) ∷ (17, row24 15) ∷ (18, row24 16) ∷ (30, row25 15) ∷ (31, row25 16) ∷ (33, row30) ∷ (35, row33) ∷ (36, row35) ∷ []) ((6, off) ∷ (7, off) ∷ (8, off) ∷ (15, alive) ∷ (16, alive) ∷ (17, alive) ∷ (18, alive) ∷ (19, alive) ∷ []) G0
+  abbrev pub G71 : Cx
+  G71 = patched ((12, row31) ∷ (13, row28) ∷ (17, row24 15) ∷ (18, row24 16) ∷ (30, row25 15) ∷ (31, row25 16) ∷ (33, row30) ∷ (35, row33) ∷ []) ((6, off) ∷ (7, off) ∷ (15, alive) ∷ (16, alive) ∷ (17, alive) ∷ (18, alive) ∷ []) G0
 
   abbrev pub G76 : Cx
   G76 = patched ((12, row31) ∷ (13, row28) ∷ (14, row34) ∷ (15, row36) ∷ (17, row24 15) ∷ (18, row24 16) ∷ (30, row25 15) ∷ (31, row25 16) ∷ (33, row30) ∷ (35, row33) ∷ (36, row35) ∷ (38, row12 20) ∷ []) ((6, off) ∷ (7, off) ∷ (8, off) ∷ (9, off) ∷ (15, alive) ∷ (16, alive) ∷ (17, alive) ∷ (18, alive) ∷ (19, alive) ∷ (20, alive) ∷ []) G0
@@ -219,26 +186,17 @@ module _ (κs : Lfts 10) (qs : Shares 10) where
   abbrev pub G77 : Cx
   G77 = patched ((0, row1) ∷ (12, row31) ∷ (13, row28) ∷ (14, row34) ∷ (15, row36) ∷ (17, row24 15) ∷ (18, row24 16) ∷ (30, row25 15) ∷ (31, row25 16) ∷ (33, row30) ∷ (35, row33) ∷ (36, row39) ∷ (38, row21) ∷ []) ((6, off) ∷ (7, off) ∷ (8, off) ∷ (9, off) ∷ (15, alive) ∷ (16, alive) ∷ (17, alive) ∷ (18, alive) ∷ (19, alive) ∷ (20, alive) ∷ []) G0
 
-  abbrev pub G80 : Cx
-  G80 = patched ((0, row1) ∷ (12, row31) ∷ (13, row28) ∷ (14, row34) ∷ (15, row36) ∷ (17, row24 15) ∷ (18, row24 16) ∷ (35, row33) ∷ (36, row39) ∷ (38, row21) ∷ []) ((6, off) ∷ (7, off) ∷ (8, off) ∷ (9, off) ∷ (15, alive) ∷ (16, alive) ∷ (17, alive) ∷ (18, alive) ∷ (19, alive) ∷ (20, alive) ∷ []) G0
+  abbrev pub G82 : Cx
+  G82 = patched ((0, row1) ∷ (12, row31) ∷ (13, row28) ∷ (14, row34) ∷ (15, row36) ∷ (17, row24 15) ∷ (18, row24 16) ∷ (36, row39) ∷ (38, row21) ∷ []) ((6, off) ∷ (7, off) ∷ (8, off) ∷ (9, off) ∷ (15, dead) ∷ (16, alive) ∷ (17, alive) ∷ (18, alive) ∷ (19, alive) ∷ (20, alive) ∷ []) G0
 
-  abbrev pub G83 : Cx
-  G83 = patched ((0, row1) ∷ (12, row31) ∷ (13, row28) ∷ (14, row34) ∷ (15, row36) ∷ (17, row6) ∷ (18, row24 16) ∷ (36, row39) ∷ (38, row21) ∷ []) ((6, off) ∷ (7, off) ∷ (8, off) ∷ (9, off) ∷ (15, dead) ∷ (16, alive) ∷ (17, alive) ∷ (18, alive) ∷ (19, alive) ∷ (20, alive) ∷ []) G0
-
-  abbrev pub G86 : Cx
-  G86 = patched ((0, row1) ∷ (12, row31) ∷ (13, row28) ∷ (14, row34) ∷ (15, row36) ∷ (18, row24 16) ∷ (36, row39) ∷ (38, row21) ∷ []) ((6, off) ∷ (7, off) ∷ (8, off) ∷ (9, off) ∷ (16, dead) ∷ (17, alive) ∷ (18, alive) ∷ (19, alive) ∷ (20, alive) ∷ []) G0
-
-  abbrev pub G89 : Cx
-  G89 = patched ((0, row1) ∷ (12, row31) ∷ (13, row28) ∷ (14, row34) ∷ (15, row36) ∷ (36, row39) ∷ (38, row21) ∷ []) ((6, off) ∷ (7, off) ∷ (8, off) ∷ (9, off) ∷ (17, alive) ∷ (18, alive) ∷ (19, alive) ∷ (20, alive) ∷ []) G0
+  abbrev pub G87 : Cx
+  G87 = patched ((0, row1) ∷ (12, row31) ∷ (13, row28) ∷ (14, row34) ∷ (15, row36) ∷ (18, row6) ∷ (36, row39) ∷ (38, row21) ∷ []) ((6, off) ∷ (7, off) ∷ (8, off) ∷ (9, off) ∷ (16, dead) ∷ (17, alive) ∷ (18, alive) ∷ (19, alive) ∷ (20, alive) ∷ []) G0
 
   abbrev pub G92 : Cx
   G92 = patched ((0, row1) ∷ (12, row31) ∷ (14, row34) ∷ (15, row36) ∷ (36, row39) ∷ (38, row21) ∷ []) ((6, off) ∷ (8, off) ∷ (9, off) ∷ (18, alive) ∷ (19, alive) ∷ (20, alive) ∷ []) G0
 
-  abbrev pub G95 : Cx
-  G95 = patched ((0, row1) ∷ (14, row34) ∷ (15, row36) ∷ (36, row39) ∷ (38, row21) ∷ []) ((8, off) ∷ (9, off) ∷ (19, alive) ∷ (20, alive) ∷ []) G0
-
-  abbrev pub G98 : Cx
-  G98 = patched ((0, row1) ∷ (15, row36) ∷ (38, row21) ∷ []) ((9, off) ∷ (20, alive) ∷ []) G0
+  abbrev pub G97 : Cx
+  G97 = patched ((0, row1) ∷ (15, row36) ∷ (38, row21) ∷ []) ((9, off) ∷ (19, dead) ∷ (20, alive) ∷ []) G0
 
   abbrev pub Γ-after-test : Cx
   Γ-after-test = G0
@@ -255,42 +213,42 @@ module _ {M : Type 1} (𝓤 : URA M) (H : Heap 𝓤) (A : Atoms 𝓤) (W : Given
   after-view =
       ghosts (G61 κs qs) _ (g-begin 𝓤 H A W E (G61 κs qs) 15 _) $
       stmt _ _ (t-sc-share 𝓤 H A W E 𝓣 _ 17 30 15 (Array (rtF (fInt w32)) 256) (tyRef erased imm (tyArray (tyInt w32) 256)) (λ x. x) (mem-arr 𝓤 H A W (rtF (fInt w32)) 256) (room-gone 𝓤 H A (tyRef erased imm (tyArray (tyInt w32) 256))) refl (λ b o. tt)) $
-      ghosts _ (G64 κs qs) (g-begin 𝓤 H A W E _ 16 _) $
-      stmt (G64 κs qs) _ (t-sc-share 𝓤 H A W E 𝓣 (G64 κs qs) 18 31 16 (Array (rtF (fInt w32)) 256) (tyRef erased imm (tyArray (tyInt w32) 256)) (λ x. x) (mem-arr 𝓤 H A W (rtF (fInt w32)) 256) (room-gone 𝓤 H A (tyRef erased imm (tyArray (tyInt w32) 256))) refl (λ b o. tt)) $
-      ghosts _ _ (g-begin 𝓤 H A W E _ 17 _) $
-      stmt _ (G67 κs qs) (t-sl-reshare 𝓤 H A W E (rtF (fInt w32)) 𝓣 _ 13 32 7 17 (tyRef (named 7) mut (tyInt w32)) (tyRef erased imm (tyInt w32)) (lease (κs .1 .1 .1 .1 .1 .1 .1 .0) (qs .1 .1 .1 .1 .1 .1 .1 .0)) 0 (λ x. x) (as-is 𝓤 H A (mslice (rtF (fInt w32)) (tyRef (named 7) mut (tyInt w32)) 7)) (room-gone 𝓤 H A (tyRef erased imm (tyInt w32))) refl tt refl refl refl (λ b o. tt)) $
-      stmt (G67 κs qs) _ (t-sl-aggregate 𝓤 H A W E (rtF (fInt w32)) 𝓣 (asShr (rtF (fInt w32))) (G67 κs qs) 32 33 17 (tyRef erased imm (tyInt w32)) (tyRef erased imm (tyInt w32)) (λ x. x) (oFld 13 (field 1 ∷ []) (tyInt w64) 8 (λ v. lenV (v .0))) (as-is 𝓤 H A (ssptr (rtF (fInt w32)) (tyRef erased imm (tyInt w32)) 17)) (room-gone 𝓤 H A _) (reads-owedS-len 𝓤 H A W (rtF (fInt w32)) (tyRef (named 7) mut (tyInt w32)) 7 17 (lease (κs .1 .1 .1 .1 .1 .1 .1 .0) (qs .1 .1 .1 .1 .1 .1 .1 .0)) 8 refl, refl) refl refl (λ b o k. tt)) $
+      ghosts _ _ (g-begin 𝓤 H A W E _ 16 _) $
+      stmt _ _ (t-sc-share 𝓤 H A W E 𝓣 _ 18 31 16 (Array (rtF (fInt w32)) 256) (tyRef erased imm (tyArray (tyInt w32) 256)) (λ x. x) (mem-arr 𝓤 H A W (rtF (fInt w32)) 256) (room-gone 𝓤 H A (tyRef erased imm (tyArray (tyInt w32) 256))) refl (λ b o. tt)) $
+      ghosts _ (G66 κs qs) (g-begin 𝓤 H A W E _ 17 _) $
+      stmt (G66 κs qs) _ (t-sl-reshare 𝓤 H A W E (rtF (fInt w32)) 𝓣 (G66 κs qs) 13 32 7 17 (tyRef (named 7) mut (tyInt w32)) (tyRef erased imm (tyInt w32)) (lease (κs .1 .1 .1 .1 .1 .1 .1 .0) (qs .1 .1 .1 .1 .1 .1 .1 .0)) 0 (λ x. x) (as-is 𝓤 H A (mslice (rtF (fInt w32)) (tyRef (named 7) mut (tyInt w32)) 7)) (room-gone 𝓤 H A (tyRef erased imm (tyInt w32))) refl tt refl refl refl (λ b o. tt)) $
+      stmt _ _ (t-sl-aggregate 𝓤 H A W E (rtF (fInt w32)) 𝓣 (asShr (rtF (fInt w32))) _ 32 33 17 (tyRef erased imm (tyInt w32)) (tyRef erased imm (tyInt w32)) (λ x. x) (oFld 13 (field 1 ∷ []) (tyInt w64) 8 (λ v. lenV (v .0))) (as-is 𝓤 H A (ssptr (rtF (fInt w32)) (tyRef erased imm (tyInt w32)) 17)) (room-gone 𝓤 H A _) (reads-owedS-len 𝓤 H A W (rtF (fInt w32)) (tyRef (named 7) mut (tyInt w32)) 7 17 (lease (κs .1 .1 .1 .1 .1 .1 .1 .0) (qs .1 .1 .1 .1 .1 .1 .1 .0)) 8 refl, refl) refl refl (λ b o k. tt)) $
       ghosts _ _ (g-begin 𝓤 H A W E _ 18 _) $
-      stmt _ (G70 κs qs) (t-sl-reshare 𝓤 H A W E (rtF (fInt w16)) 𝓣 _ 12 34 6 18 (tyRef (named 6) mut (tyInt w16)) (tyRef erased imm (tyInt w16)) (lease (κs .1 .1 .1 .1 .1 .1 .0) (qs .1 .1 .1 .1 .1 .1 .0)) 0 (λ x. x) (as-is 𝓤 H A (mslice (rtF (fInt w16)) (tyRef (named 6) mut (tyInt w16)) 6)) (room-gone 𝓤 H A (tyRef erased imm (tyInt w16))) refl tt refl refl refl (λ b o. tt)) $
-      stmt (G70 κs qs) _ (t-sl-aggregate 𝓤 H A W E (rtF (fInt w16)) 𝓣 (asShr (rtF (fInt w16))) (G70 κs qs) 34 35 18 (tyRef erased imm (tyInt w16)) (tyRef erased imm (tyInt w16)) (λ x. x) (oFld 12 (field 1 ∷ []) (tyInt w64) 8 (λ v. lenV (v .0))) (as-is 𝓤 H A (ssptr (rtF (fInt w16)) (tyRef erased imm (tyInt w16)) 18)) (room-gone 𝓤 H A _) (reads-owedS-len 𝓤 H A W (rtF (fInt w16)) (tyRef (named 6) mut (tyInt w16)) 6 18 (lease (κs .1 .1 .1 .1 .1 .1 .0) (qs .1 .1 .1 .1 .1 .1 .0)) 8 refl, refl) refl refl (λ b o k. tt)) $
-      ghosts _ _ (g-begin 𝓤 H A W E _ 19 _) $
-      stmt _ (G73 κs qs) (t-mref-relend 𝓤 H A W E 𝓣 _ 14 36 8 19 (Array (rtF fBool) 256) (tyArray tyBool 256) (tyRef (named 8) mut (tyArray tyBool 256)) (tyRef erased mut (tyArray tyBool 256)) (lease (κs .1 .1 .1 .1 .1 .1 .1 .1 .0) (qs .1 .1 .1 .1 .1 .1 .1 .1 .0)) (λ x. x) (as-is 𝓤 H A (mref (Array (rtF fBool) 256) (tyRef (named 8) mut (tyArray tyBool 256)) 8)) (room-gone 𝓤 H A (tyRef erased mut (tyArray tyBool 256))) refl tt refl refl (λ b o. tt)) $
-      ghosts (G73 κs qs) _ (g-begin 𝓤 H A W E (G73 κs qs) 20 _) $
+      stmt _ _ (t-sl-reshare 𝓤 H A W E (rtF (fInt w16)) 𝓣 _ 12 34 6 18 (tyRef (named 6) mut (tyInt w16)) (tyRef erased imm (tyInt w16)) (lease (κs .1 .1 .1 .1 .1 .1 .0) (qs .1 .1 .1 .1 .1 .1 .0)) 0 (λ x. x) (as-is 𝓤 H A (mslice (rtF (fInt w16)) (tyRef (named 6) mut (tyInt w16)) 6)) (room-gone 𝓤 H A (tyRef erased imm (tyInt w16))) refl tt refl refl refl (λ b o. tt)) $
+      stmt _ (G71 κs qs) (t-sl-aggregate 𝓤 H A W E (rtF (fInt w16)) 𝓣 (asShr (rtF (fInt w16))) _ 34 35 18 (tyRef erased imm (tyInt w16)) (tyRef erased imm (tyInt w16)) (λ x. x) (oFld 12 (field 1 ∷ []) (tyInt w64) 8 (λ v. lenV (v .0))) (as-is 𝓤 H A (ssptr (rtF (fInt w16)) (tyRef erased imm (tyInt w16)) 18)) (room-gone 𝓤 H A _) (reads-owedS-len 𝓤 H A W (rtF (fInt w16)) (tyRef (named 6) mut (tyInt w16)) 6 18 (lease (κs .1 .1 .1 .1 .1 .1 .0) (qs .1 .1 .1 .1 .1 .1 .0)) 8 refl, refl) refl refl (λ b o k. tt)) $
+      ghosts (G71 κs qs) _ (g-begin 𝓤 H A W E (G71 κs qs) 19 _) $
+      stmt _ _ (t-mref-relend 𝓤 H A W E 𝓣 _ 14 36 8 19 (Array (rtF fBool) 256) (tyArray tyBool 256) (tyRef (named 8) mut (tyArray tyBool 256)) (tyRef erased mut (tyArray tyBool 256)) (lease (κs .1 .1 .1 .1 .1 .1 .1 .1 .0) (qs .1 .1 .1 .1 .1 .1 .1 .1 .0)) (λ x. x) (as-is 𝓤 H A (mref (Array (rtF fBool) 256) (tyRef (named 8) mut (tyArray tyBool 256)) 8)) (room-gone 𝓤 H A (tyRef erased mut (tyArray tyBool 256))) refl tt refl refl (λ b o. tt)) $
+      ghosts _ _ (g-begin 𝓤 H A W E _ 20 _) $
       stmt _ _ (t-sl-relend 𝓤 H A W E (rtF (fInt w32)) 𝓣 _ 15 37 9 20 (tyRef (named 9) mut (tyInt w32)) (tyRef erased mut (tyInt w32)) (lease (κs .1 .1 .1 .1 .1 .1 .1 .1 .1 .0) (qs .1 .1 .1 .1 .1 .1 .1 .1 .1 .0)) 0 (λ x. x) (as-is 𝓤 H A (mslice (rtF (fInt w32)) (tyRef (named 9) mut (tyInt w32)) 9)) (room-gone 𝓤 H A (tyRef erased mut (tyInt w32))) refl tt refl refl refl (λ b o. tt)) $
       stmt _ (G76 κs qs) (t-sl-aggregate 𝓤 H A W E (rtF (fInt w32)) 𝓣 (asMut (rtF (fInt w32))) _ 37 38 20 (tyRef erased mut (tyInt w32)) (tyRef erased mut (tyInt w32)) (λ x. x) (oFld 15 (field 1 ∷ []) (tyInt w64) 8 (λ v. lenV (v .0))) (as-is 𝓤 H A (msptr (rtF (fInt w32)) (tyRef erased mut (tyInt w32)) 20)) (room-gone 𝓤 H A _) (reads-owed-len 𝓤 H A W (rtF (fInt w32)) (tyRef (named 9) mut (tyInt w32)) 9 20 (lease (κs .1 .1 .1 .1 .1 .1 .1 .1 .1 .0) (qs .1 .1 .1 .1 .1 .1 .1 .1 .1 .0)) 8 refl, refl) refl refl (λ b o k. tt)) $
       stmt (G76 κs qs) (G77 κs qs) (t-call-plain 𝓤 H A W 𝓣 8 K1.ps K1.r K1.Asked K1.Learnt "topology::ranked::rank_junctions" known1 E (λ pos β. β) (G76 κs qs) (record { pos = 1; ty = tyRef (named 0) imm (pointee (twin-0.the-row .written)); ref = λ x. x }, (vAt 6 (λ x. x), (vAt 8 (λ x. x), (record { pos = 9; ty = tyRef (named 3) imm (tyInt w64); ref = λ x. x }, (record { pos = 30; ty = tyRef erased imm (tyArray (tyInt w32) 256); ref = λ x. x }, (record { pos = 31; ty = tyRef erased imm (tyArray (tyInt w32) 256); ref = λ x. x }, (record { pos = 33; ty = tyRef erased imm (tyInt w32); ref = λ x. x }, (record { pos = 35; ty = tyRef erased imm (tyInt w16); ref = λ x. x }, (record { pos = 36; ty = tyRef erased mut (tyArray tyBool 256); ref = λ x. x }, (record { pos = 38; ty = tyRef erased mut (tyInt w32); ref = λ x. x }, tt)))))))))) 0 (0 ∷ 3 ∷ 15 ∷ 16 ∷ 17 ∷ 18 ∷ 19 ∷ 20 ∷ []) (sub-id 𝓤 H A W ((G76 κs qs) .slots)) (spares-sslice 𝓤 H A W twin-0.the-row (tyRef (named 0) imm (pointee (twin-0.the-row .written))) 0, reads-sslice 𝓤 H A W twin-0.the-row (tyRef (named 0) imm (pointee (twin-0.the-row .written))) 0, refl, ((reads-sc 𝓤 H A W (sInt w64), refl), ((reads-sc 𝓤 H A W (sInt w64), refl), (spares-sslice 𝓤 H A W (rtF (fInt w64)) (tyRef (named 3) imm (tyInt w64)) 3, reads-sslice 𝓤 H A W (rtF (fInt w64)) (tyRef (named 3) imm (tyInt w64)) 3, refl, (spares-sref 𝓤 H A W (Array (rtF (fInt w32)) 256) (tyRef erased imm (tyArray (tyInt w32) 256)) 15, reads-sref 𝓤 H A W (Array (rtF (fInt w32)) 256) (tyRef erased imm (tyArray (tyInt w32) 256)) 15, refl, (spares-sref 𝓤 H A W (Array (rtF (fInt w32)) 256) (tyRef erased imm (tyArray (tyInt w32) 256)) 16, reads-sref 𝓤 H A W (Array (rtF (fInt w32)) 256) (tyRef erased imm (tyArray (tyInt w32) 256)) 16, refl, (spares-sslice 𝓤 H A W (rtF (fInt w32)) (tyRef erased imm (tyInt w32)) 17, reads-sslice 𝓤 H A W (rtF (fInt w32)) (tyRef erased imm (tyInt w32)) 17, refl, (spares-sslice 𝓤 H A W (rtF (fInt w16)) (tyRef erased imm (tyInt w16)) 18, reads-sslice 𝓤 H A W (rtF (fInt w16)) (tyRef erased imm (tyInt w16)) 18, refl, (as-is 𝓤 H A (mref (Array (rtF fBool) 256) (tyRef erased mut (tyArray tyBool 256)) 19), reads-mref 𝓤 H A W (Array (rtF fBool) 256) (tyRef erased mut (tyArray tyBool 256)) 19, refl, (as-is 𝓤 H A (mslice (rtF (fInt w32)) (tyRef erased mut (tyInt w32)) 20), reads-mslice 𝓤 H A W (rtF (fInt w32)) (tyRef erased mut (tyInt w32)) 20, refl, tt)))))))))) (room-gone 𝓤 H A (tyInt w64)) _ refl) $
       ghosts (G77 κs qs) _ (g-drop-sref 𝓤 H A W E (G77 κs qs) 30 15 (Array (rtF (fInt w32)) 256) (tyRef erased imm (tyArray (tyInt w32) 256)) (λ x. x) (as-is 𝓤 H A (sref (Array (rtF (fInt w32)) 256) (tyRef erased imm (tyArray (tyInt w32) 256)) 15))) $
       ghosts _ _ (g-drop-sref 𝓤 H A W E _ 31 16 (Array (rtF (fInt w32)) 256) (tyRef erased imm (tyArray (tyInt w32) 256)) (λ x. x) (as-is 𝓤 H A (sref (Array (rtF (fInt w32)) 256) (tyRef erased imm (tyArray (tyInt w32) 256)) 16))) $
-      ghosts _ (G80 κs qs) (g-room 𝓤 H A W E _ 33 _ (room-sslice 𝓤 H A W (rtF (fInt w32)) (tyRef erased imm (tyInt w32)) 17)) $
-      ghosts (G80 κs qs) _ (g-room 𝓤 H A W E (G80 κs qs) 35 _ (room-sslice 𝓤 H A W (rtF (fInt w16)) (tyRef erased imm (tyInt w16)) 18)) $
-      ghosts _ _ (g-end 𝓤 H A W E _ 15 refl) $
-      ghosts _ (G83 κs qs) (g-back-shr 𝓤 H A W E _ 17 15 (arrF (rtF (fInt w32)) 256 0) (Array (rtF (fInt w32)) 256) (λ x. x) (λ x. x) (as-is 𝓤 H A (sc-shr (arrF (rtF (fInt w32)) 256 0) (Array (rtF (fInt w32)) 256) (λ x. x) 15)) (home-of 𝓤 H A (arrF (rtF (fInt w32)) 256 0) (Array (rtF (fInt w32)) 256) (λ x. x) (λ x. x) (arr-mem 𝓤 H A W (rtF (fInt w32)) 256 tt) (λ x k. refl)) refl) $
-      ghosts (G83 κs qs) _ (g-forget 𝓤 H A W E (G83 κs qs) 15 dead refl) $
+      ghosts _ _ (g-room 𝓤 H A W E _ 33 _ (room-sslice 𝓤 H A W (rtF (fInt w32)) (tyRef erased imm (tyInt w32)) 17)) $
+      ghosts _ _ (g-room 𝓤 H A W E _ 35 _ (room-sslice 𝓤 H A W (rtF (fInt w16)) (tyRef erased imm (tyInt w16)) 18)) $
+      ghosts _ (G82 κs qs) (g-end 𝓤 H A W E _ 15 refl) $
+      ghosts (G82 κs qs) _ (g-back-shr 𝓤 H A W E (G82 κs qs) 17 15 (arrF (rtF (fInt w32)) 256 0) (Array (rtF (fInt w32)) 256) (λ x. x) (λ x. x) (as-is 𝓤 H A (sc-shr (arrF (rtF (fInt w32)) 256 0) (Array (rtF (fInt w32)) 256) (λ x. x) 15)) (home-of 𝓤 H A (arrF (rtF (fInt w32)) 256 0) (Array (rtF (fInt w32)) 256) (λ x. x) (λ x. x) (arr-mem 𝓤 H A W (rtF (fInt w32)) 256 tt) (λ x k. refl)) refl) $
+      ghosts _ _ (g-forget 𝓤 H A W E _ 15 dead refl) $
       ghosts _ _ (g-room 𝓤 H A W E _ 17 (tyArray (tyInt w32) 256) (room-arr 𝓤 H A W (rtF (fInt w32)) 256 0 256 refl)) $
-      ghosts _ (G86 κs qs) (g-end 𝓤 H A W E _ 16 refl) $
-      ghosts (G86 κs qs) _ (g-back-shr 𝓤 H A W E (G86 κs qs) 18 16 (arrF (rtF (fInt w32)) 256 0) (Array (rtF (fInt w32)) 256) (λ x. x) (λ x. x) (as-is 𝓤 H A (sc-shr (arrF (rtF (fInt w32)) 256 0) (Array (rtF (fInt w32)) 256) (λ x. x) 16)) (home-of 𝓤 H A (arrF (rtF (fInt w32)) 256 0) (Array (rtF (fInt w32)) 256) (λ x. x) (λ x. x) (arr-mem 𝓤 H A W (rtF (fInt w32)) 256 tt) (λ x k. refl)) refl) $
-      ghosts _ _ (g-forget 𝓤 H A W E _ 16 dead refl) $
-      ghosts _ (G89 κs qs) (g-room 𝓤 H A W E _ 18 (tyArray (tyInt w32) 256) (room-arr 𝓤 H A W (rtF (fInt w32)) 256 0 256 refl)) $
-      ghosts (G89 κs qs) _ (g-end 𝓤 H A W E (G89 κs qs) 17 refl) $
+      ghosts _ _ (g-end 𝓤 H A W E _ 16 refl) $
+      ghosts _ (G87 κs qs) (g-back-shr 𝓤 H A W E _ 18 16 (arrF (rtF (fInt w32)) 256 0) (Array (rtF (fInt w32)) 256) (λ x. x) (λ x. x) (as-is 𝓤 H A (sc-shr (arrF (rtF (fInt w32)) 256 0) (Array (rtF (fInt w32)) 256) (λ x. x) 16)) (home-of 𝓤 H A (arrF (rtF (fInt w32)) 256 0) (Array (rtF (fInt w32)) 256) (λ x. x) (λ x. x) (arr-mem 𝓤 H A W (rtF (fInt w32)) 256 tt) (λ x k. refl)) refl) $
+      ghosts (G87 κs qs) _ (g-forget 𝓤 H A W E (G87 κs qs) 16 dead refl) $
+      ghosts _ _ (g-room 𝓤 H A W E _ 18 (tyArray (tyInt w32) 256) (room-arr 𝓤 H A W (rtF (fInt w32)) 256 0 256 refl)) $
+      ghosts _ _ (g-end 𝓤 H A W E _ 17 refl) $
       ghosts _ _ (g-back-sl-shr 𝓤 H A W E (rtF (fInt w32)) _ 13 7 17 (tyRef (named 7) mut (tyInt w32)) (lease (κs .1 .1 .1 .1 .1 .1 .1 .0) (qs .1 .1 .1 .1 .1 .1 .1 .0)) (λ x. x) (as-is 𝓤 H A (mslice-owedS (rtF (fInt w32)) (tyRef (named 7) mut (tyInt w32)) 7 17 (lease (κs .1 .1 .1 .1 .1 .1 .1 .0) (qs .1 .1 .1 .1 .1 .1 .1 .0)))) refl refl) $
       ghosts _ (G92 κs qs) (g-forget 𝓤 H A W E _ 17 dead refl) $
       ghosts (G92 κs qs) _ (g-end 𝓤 H A W E (G92 κs qs) 18 refl) $
       ghosts _ _ (g-back-sl-shr 𝓤 H A W E (rtF (fInt w16)) _ 12 6 18 (tyRef (named 6) mut (tyInt w16)) (lease (κs .1 .1 .1 .1 .1 .1 .0) (qs .1 .1 .1 .1 .1 .1 .0)) (λ x. x) (as-is 𝓤 H A (mslice-owedS (rtF (fInt w16)) (tyRef (named 6) mut (tyInt w16)) 6 18 (lease (κs .1 .1 .1 .1 .1 .1 .0) (qs .1 .1 .1 .1 .1 .1 .0)))) refl refl) $
-      ghosts _ (G95 κs qs) (g-forget 𝓤 H A W E _ 18 dead refl) $
-      ghosts (G95 κs qs) _ (g-end 𝓤 H A W E (G95 κs qs) 19 refl) $
-      ghosts _ _ (g-back-mref 𝓤 H A W E _ 36 14 8 19 (Array (rtF fBool) 256) (tyRef (named 8) mut (tyArray tyBool 256)) (tyRef erased mut (tyArray tyBool 256)) (lease (κs .1 .1 .1 .1 .1 .1 .1 .1 .0) (qs .1 .1 .1 .1 .1 .1 .1 .1 .0)) (λ x. x) (λ x. x) (as-is 𝓤 H A (mleft (Array (rtF fBool) 256) (tyRef erased mut (tyArray tyBool 256)))) (as-is 𝓤 H A (mref-owed (Array (rtF fBool) 256) (tyRef (named 8) mut (tyArray tyBool 256)) 8 19 (lease (κs .1 .1 .1 .1 .1 .1 .1 .1 .0) (qs .1 .1 .1 .1 .1 .1 .1 .1 .0)))) refl refl) $
-      ghosts _ (G98 κs qs) (g-forget 𝓤 H A W E _ 19 dead refl) $
-      ghosts (G98 κs qs) _ (g-end 𝓤 H A W E (G98 κs qs) 20 refl) $
+      ghosts _ _ (g-forget 𝓤 H A W E _ 18 dead refl) $
+      ghosts _ _ (g-end 𝓤 H A W E _ 19 refl) $
+      ghosts _ (G97 κs qs) (g-back-mref 𝓤 H A W E _ 36 14 8 19 (Array (rtF fBool) 256) (tyRef (named 8) mut (tyArray tyBool 256)) (tyRef erased mut (tyArray tyBool 256)) (lease (κs .1 .1 .1 .1 .1 .1 .1 .1 .0) (qs .1 .1 .1 .1 .1 .1 .1 .1 .0)) (λ x. x) (λ x. x) (as-is 𝓤 H A (mleft (Array (rtF fBool) 256) (tyRef erased mut (tyArray tyBool 256)))) (as-is 𝓤 H A (mref-owed (Array (rtF fBool) 256) (tyRef (named 8) mut (tyArray tyBool 256)) 8 19 (lease (κs .1 .1 .1 .1 .1 .1 .1 .1 .0) (qs .1 .1 .1 .1 .1 .1 .1 .1 .0)))) refl refl) $
+      ghosts (G97 κs qs) _ (g-forget 𝓤 H A W E (G97 κs qs) 19 dead refl) $
+      ghosts _ _ (g-end 𝓤 H A W E _ 20 refl) $
       ghosts _ _ (g-back-sl 𝓤 H A W E (rtF (fInt w32)) _ 38 15 9 20 (tyRef (named 9) mut (tyInt w32)) (tyRef erased mut (tyInt w32)) (lease (κs .1 .1 .1 .1 .1 .1 .1 .1 .1 .0) (qs .1 .1 .1 .1 .1 .1 .1 .1 .1 .0)) (λ x. x) (λ x. x) (as-is 𝓤 H A (msleft (rtF (fInt w32)) (tyRef erased mut (tyInt w32)))) (as-is 𝓤 H A (mslice-owed (rtF (fInt w32)) (tyRef (named 9) mut (tyInt w32)) 9 20 (lease (κs .1 .1 .1 .1 .1 .1 .1 .1 .1 .0) (qs .1 .1 .1 .1 .1 .1 .1 .1 .1 .0)))) refl refl) $
       ghosts _ (G17 κs qs) (g-forget 𝓤 H A W E _ 20 dead refl) $
       ghosts (G17 κs qs) (G18 κs qs) (g-room 𝓤 H A W E (G17 κs qs) 2 (tyInt w64) (room-sc 𝓤 H A W (sInt w64))) $
@@ -309,31 +267,31 @@ module _ {M : Type 1} (𝓤 : URA M) (H : Heap 𝓤) (A : Atoms 𝓤) (W : Given
       stmt _ (G28 κs qs) (t-repeat 𝓤 H A W E 𝓣 (rtF (fInt w32)) (uint-lawful 𝓤 H A W w32) (cRf (fInt w32) .copy 𝓤 H A W) (uint-makes 𝓤 H A W w32) 256 _ 18 (oInt w32 _) (λ m. 0) (room-gone 𝓤 H A (tyArray (tyInt w32) 256)) tt refl (λ m wa. (refl, lit< tt))) $
       ghosts (G28 κs qs) _ (g-as-by 𝓤 H A W E (λ ρ. Unit) (G28 κs qs) 18 (arrF (rtF (fInt w32)) 256 0) (λ x. x) (told-none 𝓤 H A ((G28 κs qs) .slots)) (λ ρ told. whole-arr 𝓤 H A W (rtF (fInt w32)) 256 tt ρ)) $
       ghosts _ _ (g-begin 𝓤 H A W E _ 10 _) $
-      stmt _ (G31 κs qs) (t-sl-relend 𝓤 H A W E (rtF (fInt w16)) 𝓣 _ 12 23 6 10 (tyRef (named 6) mut (tyInt w16)) (tyRef erased mut (tyInt w16)) (lease (κs .1 .1 .1 .1 .1 .1 .0) (qs .1 .1 .1 .1 .1 .1 .0)) 0 (λ x. x) (as-is 𝓤 H A (mslice (rtF (fInt w16)) (tyRef (named 6) mut (tyInt w16)) 6)) (room-gone 𝓤 H A (tyRef erased mut (tyInt w16))) refl tt refl refl refl (λ b o. tt)) $
-      stmt (G31 κs qs) _ (t-sl-aggregate 𝓤 H A W E (rtF (fInt w16)) 𝓣 (asMut (rtF (fInt w16))) (G31 κs qs) 23 24 10 (tyRef erased mut (tyInt w16)) (tyRef erased mut (tyInt w16)) (λ x. x) (oFld 12 (field 1 ∷ []) (tyInt w64) 8 (λ v. lenV (v .0))) (as-is 𝓤 H A (msptr (rtF (fInt w16)) (tyRef erased mut (tyInt w16)) 10)) (room-gone 𝓤 H A _) (reads-owed-len 𝓤 H A W (rtF (fInt w16)) (tyRef (named 6) mut (tyInt w16)) 6 10 (lease (κs .1 .1 .1 .1 .1 .1 .0) (qs .1 .1 .1 .1 .1 .1 .0)) 8 refl, refl) refl refl (λ b o k. tt)) $
-      ghosts _ _ (g-begin 𝓤 H A W E _ 11 _) $
-      stmt _ (G34 κs qs) (t-sl-relend 𝓤 H A W E (rtF (fInt w32)) 𝓣 _ 13 25 7 11 (tyRef (named 7) mut (tyInt w32)) (tyRef erased mut (tyInt w32)) (lease (κs .1 .1 .1 .1 .1 .1 .1 .0) (qs .1 .1 .1 .1 .1 .1 .1 .0)) 0 (λ x. x) (as-is 𝓤 H A (mslice (rtF (fInt w32)) (tyRef (named 7) mut (tyInt w32)) 7)) (room-gone 𝓤 H A (tyRef erased mut (tyInt w32))) refl tt refl refl refl (λ b o. tt)) $
-      stmt (G34 κs qs) _ (t-sl-aggregate 𝓤 H A W E (rtF (fInt w32)) 𝓣 (asMut (rtF (fInt w32))) (G34 κs qs) 25 26 11 (tyRef erased mut (tyInt w32)) (tyRef erased mut (tyInt w32)) (λ x. x) (oFld 13 (field 1 ∷ []) (tyInt w64) 8 (λ v. lenV (v .0))) (as-is 𝓤 H A (msptr (rtF (fInt w32)) (tyRef erased mut (tyInt w32)) 11)) (room-gone 𝓤 H A _) (reads-owed-len 𝓤 H A W (rtF (fInt w32)) (tyRef (named 7) mut (tyInt w32)) 7 11 (lease (κs .1 .1 .1 .1 .1 .1 .1 .0) (qs .1 .1 .1 .1 .1 .1 .1 .0)) 8 refl, refl) refl refl (λ b o k. tt)) $
+      stmt _ _ (t-sl-relend 𝓤 H A W E (rtF (fInt w16)) 𝓣 _ 12 23 6 10 (tyRef (named 6) mut (tyInt w16)) (tyRef erased mut (tyInt w16)) (lease (κs .1 .1 .1 .1 .1 .1 .0) (qs .1 .1 .1 .1 .1 .1 .0)) 0 (λ x. x) (as-is 𝓤 H A (mslice (rtF (fInt w16)) (tyRef (named 6) mut (tyInt w16)) 6)) (room-gone 𝓤 H A (tyRef erased mut (tyInt w16))) refl tt refl refl refl (λ b o. tt)) $
+      stmt _ _ (t-sl-aggregate 𝓤 H A W E (rtF (fInt w16)) 𝓣 (asMut (rtF (fInt w16))) _ 23 24 10 (tyRef erased mut (tyInt w16)) (tyRef erased mut (tyInt w16)) (λ x. x) (oFld 12 (field 1 ∷ []) (tyInt w64) 8 (λ v. lenV (v .0))) (as-is 𝓤 H A (msptr (rtF (fInt w16)) (tyRef erased mut (tyInt w16)) 10)) (room-gone 𝓤 H A _) (reads-owed-len 𝓤 H A W (rtF (fInt w16)) (tyRef (named 6) mut (tyInt w16)) 6 10 (lease (κs .1 .1 .1 .1 .1 .1 .0) (qs .1 .1 .1 .1 .1 .1 .0)) 8 refl, refl) refl refl (λ b o k. tt)) $
+      ghosts _ (G33 κs qs) (g-begin 𝓤 H A W E _ 11 _) $
+      stmt (G33 κs qs) _ (t-sl-relend 𝓤 H A W E (rtF (fInt w32)) 𝓣 (G33 κs qs) 13 25 7 11 (tyRef (named 7) mut (tyInt w32)) (tyRef erased mut (tyInt w32)) (lease (κs .1 .1 .1 .1 .1 .1 .1 .0) (qs .1 .1 .1 .1 .1 .1 .1 .0)) 0 (λ x. x) (as-is 𝓤 H A (mslice (rtF (fInt w32)) (tyRef (named 7) mut (tyInt w32)) 7)) (room-gone 𝓤 H A (tyRef erased mut (tyInt w32))) refl tt refl refl refl (λ b o. tt)) $
+      stmt _ _ (t-sl-aggregate 𝓤 H A W E (rtF (fInt w32)) 𝓣 (asMut (rtF (fInt w32))) _ 25 26 11 (tyRef erased mut (tyInt w32)) (tyRef erased mut (tyInt w32)) (λ x. x) (oFld 13 (field 1 ∷ []) (tyInt w64) 8 (λ v. lenV (v .0))) (as-is 𝓤 H A (msptr (rtF (fInt w32)) (tyRef erased mut (tyInt w32)) 11)) (room-gone 𝓤 H A _) (reads-owed-len 𝓤 H A W (rtF (fInt w32)) (tyRef (named 7) mut (tyInt w32)) 7 11 (lease (κs .1 .1 .1 .1 .1 .1 .1 .0) (qs .1 .1 .1 .1 .1 .1 .1 .0)) 8 refl, refl) refl refl (λ b o k. tt)) $
       ghosts _ _ (g-begin 𝓤 H A W E _ 12 _) $
-      stmt _ (G37 κs qs) (t-sc-borrow 𝓤 H A W E 𝓣 _ 16 27 12 (Array (rtF (fInt w64)) 257) (tyRef erased mut (tyArray (tyInt w64) 257)) (λ x. x) (mem-arr 𝓤 H A W (rtF (fInt w64)) 257) (room-gone 𝓤 H A (tyRef erased mut (tyArray (tyInt w64) 257))) refl (λ b o. tt)) $
-      ghosts (G37 κs qs) _ (g-begin 𝓤 H A W E (G37 κs qs) 13 _) $
-      stmt _ _ (t-sc-borrow 𝓤 H A W E 𝓣 _ 17 28 13 (Array (rtF (fInt w32)) 256) (tyRef erased mut (tyArray (tyInt w32) 256)) (λ x. x) (mem-arr 𝓤 H A W (rtF (fInt w32)) 256) (room-gone 𝓤 H A (tyRef erased mut (tyArray (tyInt w32) 256))) refl (λ b o. tt)) $
-      ghosts _ (G40 κs qs) (g-begin 𝓤 H A W E _ 14 _) $
-      stmt (G40 κs qs) (G41 κs qs) (t-sc-borrow 𝓤 H A W E 𝓣 (G40 κs qs) 18 29 14 (Array (rtF (fInt w32)) 256) (tyRef erased mut (tyArray (tyInt w32) 256)) (λ x. x) (mem-arr 𝓤 H A W (rtF (fInt w32)) 256) (room-gone 𝓤 H A (tyRef erased mut (tyArray (tyInt w32) 256))) refl (λ b o. tt)) $
+      stmt _ _ (t-sc-borrow 𝓤 H A W E 𝓣 _ 16 27 12 (Array (rtF (fInt w64)) 257) (tyRef erased mut (tyArray (tyInt w64) 257)) (λ x. x) (mem-arr 𝓤 H A W (rtF (fInt w64)) 257) (room-gone 𝓤 H A (tyRef erased mut (tyArray (tyInt w64) 257))) refl (λ b o. tt)) $
+      ghosts _ (G38 κs qs) (g-begin 𝓤 H A W E _ 13 _) $
+      stmt (G38 κs qs) _ (t-sc-borrow 𝓤 H A W E 𝓣 (G38 κs qs) 17 28 13 (Array (rtF (fInt w32)) 256) (tyRef erased mut (tyArray (tyInt w32) 256)) (λ x. x) (mem-arr 𝓤 H A W (rtF (fInt w32)) 256) (room-gone 𝓤 H A (tyRef erased mut (tyArray (tyInt w32) 256))) refl (λ b o. tt)) $
+      ghosts _ _ (g-begin 𝓤 H A W E _ 14 _) $
+      stmt _ (G41 κs qs) (t-sc-borrow 𝓤 H A W E 𝓣 _ 18 29 14 (Array (rtF (fInt w32)) 256) (tyRef erased mut (tyArray (tyInt w32) 256)) (λ x. x) (mem-arr 𝓤 H A W (rtF (fInt w32)) 256) (room-gone 𝓤 H A (tyRef erased mut (tyArray (tyInt w32) 256))) refl (λ b o. tt)) $
       stmt (G41 κs qs) (G42 κs qs) (t-call-plain 𝓤 H A W 𝓣 9 K0.ps K0.r R0.Asked R0.Learnt "pass_lists::view" known0 E (λ pos β. β) (G41 κs qs) (vAt 2 (λ x. x), (vAt 3 (λ x. x), (record { pos = 4; ty = tyRef (named 1) imm (tyInt w32); ref = λ x. x }, (record { pos = 5; ty = tyRef (named 2) imm (tyInt w64); ref = λ x. x }, (vAt 6 (λ x. x), (vAt 7 (λ x. x), (vAt 8 (λ x. x), (record { pos = 10; ty = tyRef (named 4) imm (tyInt w32); ref = λ x. x }, (record { pos = 11; ty = tyRef (named 5) imm (tyInt w32); ref = λ x. x }, (record { pos = 24; ty = tyRef erased mut (tyInt w16); ref = λ x. x }, (record { pos = 26; ty = tyRef erased mut (tyInt w32); ref = λ x. x }, (record { pos = 27; ty = tyRef erased mut (tyArray (tyInt w64) 257); ref = λ x. x }, (record { pos = 28; ty = tyRef erased mut (tyArray (tyInt w32) 256); ref = λ x. x }, (record { pos = 29; ty = tyRef erased mut (tyArray (tyInt w32) 256); ref = λ x. x }, tt)))))))))))))) 22 (1 ∷ 2 ∷ 4 ∷ 5 ∷ 10 ∷ 11 ∷ 12 ∷ 13 ∷ 14 ∷ []) (sub-id 𝓤 H A W ((G41 κs qs) .slots)) ((reads-sc 𝓤 H A W (sInt w64), refl), ((reads-sc 𝓤 H A W (sInt w64), refl), (spares-sslice 𝓤 H A W (rtF (fInt w32)) (tyRef (named 1) imm (tyInt w32)) 1, reads-sslice 𝓤 H A W (rtF (fInt w32)) (tyRef (named 1) imm (tyInt w32)) 1, refl, (spares-sslice 𝓤 H A W (rtF (fInt w64)) (tyRef (named 2) imm (tyInt w64)) 2, reads-sslice 𝓤 H A W (rtF (fInt w64)) (tyRef (named 2) imm (tyInt w64)) 2, refl, ((reads-sc 𝓤 H A W (sInt w64), refl), ((reads-sc 𝓤 H A W (sInt w64), refl), ((reads-sc 𝓤 H A W (sInt w64), refl), (spares-sslice 𝓤 H A W (rtF (fInt w32)) (tyRef (named 4) imm (tyInt w32)) 4, reads-sslice 𝓤 H A W (rtF (fInt w32)) (tyRef (named 4) imm (tyInt w32)) 4, refl, (spares-sslice 𝓤 H A W (rtF (fInt w32)) (tyRef (named 5) imm (tyInt w32)) 5, reads-sslice 𝓤 H A W (rtF (fInt w32)) (tyRef (named 5) imm (tyInt w32)) 5, refl, (as-is 𝓤 H A (mslice (rtF (fInt w16)) (tyRef erased mut (tyInt w16)) 10), reads-mslice 𝓤 H A W (rtF (fInt w16)) (tyRef erased mut (tyInt w16)) 10, refl, (as-is 𝓤 H A (mslice (rtF (fInt w32)) (tyRef erased mut (tyInt w32)) 11), reads-mslice 𝓤 H A W (rtF (fInt w32)) (tyRef erased mut (tyInt w32)) 11, refl, (as-is 𝓤 H A (mref (Array (rtF (fInt w64)) 257) (tyRef erased mut (tyArray (tyInt w64) 257)) 12), reads-mref 𝓤 H A W (Array (rtF (fInt w64)) 257) (tyRef erased mut (tyArray (tyInt w64) 257)) 12, refl, (as-is 𝓤 H A (mref (Array (rtF (fInt w32)) 256) (tyRef erased mut (tyArray (tyInt w32) 256)) 13), reads-mref 𝓤 H A W (Array (rtF (fInt w32)) 256) (tyRef erased mut (tyArray (tyInt w32) 256)) 13, refl, (as-is 𝓤 H A (mref (Array (rtF (fInt w32)) 256) (tyRef erased mut (tyArray (tyInt w32) 256)) 14), reads-mref 𝓤 H A W (Array (rtF (fInt w32)) 256) (tyRef erased mut (tyArray (tyInt w32) 256)) 14, refl, tt)))))))))))))) (room-gone 𝓤 H A tyUnit) _ refl) $
       ghosts (G42 κs qs) _ (g-room 𝓤 H A W E (G42 κs qs) 22 tyUnit (room-sc 𝓤 H A W sUnit)) $
       ghosts _ _ (g-end 𝓤 H A W E _ 10 refl) $
-      ghosts _ (G45 κs qs) (g-back-sl 𝓤 H A W E (rtF (fInt w16)) _ 24 12 6 10 (tyRef (named 6) mut (tyInt w16)) (tyRef erased mut (tyInt w16)) (lease (κs .1 .1 .1 .1 .1 .1 .0) (qs .1 .1 .1 .1 .1 .1 .0)) (λ x. x) (λ x. x) (as-is 𝓤 H A (msleft (rtF (fInt w16)) (tyRef erased mut (tyInt w16)))) (as-is 𝓤 H A (mslice-owed (rtF (fInt w16)) (tyRef (named 6) mut (tyInt w16)) 6 10 (lease (κs .1 .1 .1 .1 .1 .1 .0) (qs .1 .1 .1 .1 .1 .1 .0)))) refl refl) $
-      ghosts (G45 κs qs) _ (g-forget 𝓤 H A W E (G45 κs qs) 10 dead refl) $
-      ghosts _ _ (g-end 𝓤 H A W E _ 11 refl) $
-      ghosts _ (G49 κs qs) (g-back-sl 𝓤 H A W E (rtF (fInt w32)) _ 26 13 7 11 (tyRef (named 7) mut (tyInt w32)) (tyRef erased mut (tyInt w32)) (lease (κs .1 .1 .1 .1 .1 .1 .1 .0) (qs .1 .1 .1 .1 .1 .1 .1 .0)) (λ x. x) (λ x. x) (as-is 𝓤 H A (msleft (rtF (fInt w32)) (tyRef erased mut (tyInt w32)))) (as-is 𝓤 H A (mslice-owed (rtF (fInt w32)) (tyRef (named 7) mut (tyInt w32)) 7 11 (lease (κs .1 .1 .1 .1 .1 .1 .1 .0) (qs .1 .1 .1 .1 .1 .1 .1 .0)))) refl refl) $
-      ghosts (G49 κs qs) _ (g-forget 𝓤 H A W E (G49 κs qs) 11 dead refl) $
+      ghosts _ _ (g-back-sl 𝓤 H A W E (rtF (fInt w16)) _ 24 12 6 10 (tyRef (named 6) mut (tyInt w16)) (tyRef erased mut (tyInt w16)) (lease (κs .1 .1 .1 .1 .1 .1 .0) (qs .1 .1 .1 .1 .1 .1 .0)) (λ x. x) (λ x. x) (as-is 𝓤 H A (msleft (rtF (fInt w16)) (tyRef erased mut (tyInt w16)))) (as-is 𝓤 H A (mslice-owed (rtF (fInt w16)) (tyRef (named 6) mut (tyInt w16)) 6 10 (lease (κs .1 .1 .1 .1 .1 .1 .0) (qs .1 .1 .1 .1 .1 .1 .0)))) refl refl) $
+      ghosts _ _ (g-forget 𝓤 H A W E _ 10 dead refl) $
+      ghosts _ (G48 κs qs) (g-end 𝓤 H A W E _ 11 refl) $
+      ghosts (G48 κs qs) _ (g-back-sl 𝓤 H A W E (rtF (fInt w32)) (G48 κs qs) 26 13 7 11 (tyRef (named 7) mut (tyInt w32)) (tyRef erased mut (tyInt w32)) (lease (κs .1 .1 .1 .1 .1 .1 .1 .0) (qs .1 .1 .1 .1 .1 .1 .1 .0)) (λ x. x) (λ x. x) (as-is 𝓤 H A (msleft (rtF (fInt w32)) (tyRef erased mut (tyInt w32)))) (as-is 𝓤 H A (mslice-owed (rtF (fInt w32)) (tyRef (named 7) mut (tyInt w32)) 7 11 (lease (κs .1 .1 .1 .1 .1 .1 .1 .0) (qs .1 .1 .1 .1 .1 .1 .1 .0)))) refl refl) $
+      ghosts _ _ (g-forget 𝓤 H A W E _ 11 dead refl) $
       ghosts _ _ (g-end 𝓤 H A W E _ 12 refl) $
-      ghosts _ (G53 κs qs) (g-back-sc 𝓤 H A W E _ 27 16 12 (Array (rtF (fInt w64)) 257) (tyRef erased mut (tyArray (tyInt w64) 257)) (arrF (rtF (fInt w64)) 257 0) (λ x. x) (λ x. x) (λ x. x) (as-is 𝓤 H A (mleft (Array (rtF (fInt w64)) 257) (tyRef erased mut (tyArray (tyInt w64) 257)))) (as-is 𝓤 H A (sc-owed (Array (rtF (fInt w64)) 257) 12)) (arr-mem 𝓤 H A W (rtF (fInt w64)) 257 tt) refl) $
-      ghosts (G53 κs qs) _ (g-forget 𝓤 H A W E (G53 κs qs) 12 dead refl) $
-      ghosts _ _ (g-room 𝓤 H A W E _ 16 (tyArray (tyInt w64) 257) (room-arr 𝓤 H A W (rtF (fInt w64)) 257 0 257 refl)) $
-      ghosts _ (G56 κs qs) (g-end 𝓤 H A W E _ 13 refl) $
-      ghosts (G56 κs qs) _ (g-back-sc 𝓤 H A W E (G56 κs qs) 28 17 13 (Array (rtF (fInt w32)) 256) (tyRef erased mut (tyArray (tyInt w32) 256)) (arrF (rtF (fInt w32)) 256 0) (λ x. x) (λ x. x) (λ x. x) (as-is 𝓤 H A (mleft (Array (rtF (fInt w32)) 256) (tyRef erased mut (tyArray (tyInt w32) 256)))) (as-is 𝓤 H A (sc-owed (Array (rtF (fInt w32)) 256) 13)) (arr-mem 𝓤 H A W (rtF (fInt w32)) 256 tt) refl) $
+      ghosts _ _ (g-back-sc 𝓤 H A W E _ 27 16 12 (Array (rtF (fInt w64)) 257) (tyRef erased mut (tyArray (tyInt w64) 257)) (arrF (rtF (fInt w64)) 257 0) (λ x. x) (λ x. x) (λ x. x) (as-is 𝓤 H A (mleft (Array (rtF (fInt w64)) 257) (tyRef erased mut (tyArray (tyInt w64) 257)))) (as-is 𝓤 H A (sc-owed (Array (rtF (fInt w64)) 257) 12)) (arr-mem 𝓤 H A W (rtF (fInt w64)) 257 tt) refl) $
+      ghosts _ (G54 κs qs) (g-forget 𝓤 H A W E _ 12 dead refl) $
+      ghosts (G54 κs qs) _ (g-room 𝓤 H A W E (G54 κs qs) 16 (tyArray (tyInt w64) 257) (room-arr 𝓤 H A W (rtF (fInt w64)) 257 0 257 refl)) $
+      ghosts _ _ (g-end 𝓤 H A W E _ 13 refl) $
+      ghosts _ _ (g-back-sc 𝓤 H A W E _ 28 17 13 (Array (rtF (fInt w32)) 256) (tyRef erased mut (tyArray (tyInt w32) 256)) (arrF (rtF (fInt w32)) 256 0) (λ x. x) (λ x. x) (λ x. x) (as-is 𝓤 H A (mleft (Array (rtF (fInt w32)) 256) (tyRef erased mut (tyArray (tyInt w32) 256)))) (as-is 𝓤 H A (sc-owed (Array (rtF (fInt w32)) 256) 13)) (arr-mem 𝓤 H A W (rtF (fInt w32)) 256 tt) refl) $
       ghosts _ _ (g-forget 𝓤 H A W E _ 13 dead refl) $
       ghosts _ (G59 κs qs) (g-end 𝓤 H A W E _ 14 refl) $
       ghosts (G59 κs qs) _ (g-back-sc 𝓤 H A W E (G59 κs qs) 29 18 14 (Array (rtF (fInt w32)) 256) (tyRef erased mut (tyArray (tyInt w32) 256)) (arrF (rtF (fInt w32)) 256 0) (λ x. x) (λ x. x) (λ x. x) (as-is 𝓤 H A (mleft (Array (rtF (fInt w32)) 256) (tyRef erased mut (tyArray (tyInt w32) 256)))) (as-is 𝓤 H A (sc-owed (Array (rtF (fInt w32)) 256) 14)) (arr-mem 𝓤 H A W (rtF (fInt w32)) 256 tt) refl) $
@@ -344,8 +302,8 @@ module _ {M : Type 1} (𝓤 : URA M) (H : Heap 𝓤) (A : Atoms 𝓤) (W : Given
   d =
       stmt (G0 κs qs) _ (t-use 𝓤 H A W E 𝓣 (G0 κs qs) (oFld 9 (field 1 ∷ []) (tyInt w64) 8 lenV) 19 (sc-here (sInt w64)) (tyInt w64) (valS (sInt w64)) (sInt w64 .of) (reads-sslice-len 𝓤 H A W (rtF (fInt w64)) (tyRef (named 3) imm (tyInt w64)) 3 8 refl, refl) (room-gone 𝓤 H A (tyInt w64)) (holds-sc 𝓤 H A W (sInt w64)) refl (λ u. refl) (λ u. tt)) $
       stmt _ _ (t-op2 𝓤 H A W E 𝓣 _ (div unsigned) (oAt 19 (tyInt w64) (valS (sInt w64))) (oInt w64 _) 20 (sc-here (sInt w64)) (tyInt w64) (valS (sInt w64)) (sInt w64 .of) (reads-sc 𝓤 H A W (sInt w64), refl) tt (room-gone 𝓤 H A (tyInt w64)) (holds-sc 𝓤 H A W (sInt w64)) refl (λ u. refl) (λ u. tt)) $
-      ghosts _ (G12 κs qs) (g-room 𝓤 H A W E _ 19 (tyInt w64) (room-sc 𝓤 H A W (sInt w64))) $
-      stmt (G12 κs qs) (G13 κs qs) (t-op2 𝓤 H A W E 𝓣 (G12 κs qs) ne (oAt 20 (tyInt w64) (valS (sInt w64))) (oAt 8 (tyInt w64) (valS (sInt w64))) 21 (sc-here sBool) tyBool (valS sBool) (sBool .of) (reads-sc 𝓤 H A W (sInt w64), refl) (reads-sc 𝓤 H A W (sInt w64), refl) (room-gone 𝓤 H A tyBool) (holds-sc 𝓤 H A W sBool) refl (λ u. refl) (λ u. tt)) $
+      ghosts _ _ (g-room 𝓤 H A W E _ 19 (tyInt w64) (room-sc 𝓤 H A W (sInt w64))) $
+      stmt _ (G13 κs qs) (t-op2 𝓤 H A W E 𝓣 _ ne (oAt 20 (tyInt w64) (valS (sInt w64))) (oAt 8 (tyInt w64) (valS (sInt w64))) 21 (sc-here sBool) tyBool (valS sBool) (sBool .of) (reads-sc 𝓤 H A W (sInt w64), refl) (reads-sc 𝓤 H A W (sInt w64), refl) (room-gone 𝓤 H A tyBool) (holds-sc 𝓤 H A W sBool) refl (λ u. refl) (λ u. tt)) $
       first (G13 κs qs) (G0 κs qs) (
       ghosts (G13 κs qs) (G15 κs qs) (g-room 𝓤 H A W E (G13 κs qs) 20 (tyInt w64) (room-sc 𝓤 H A W (sInt w64))) $
       test (G15 κs qs) 21 (λ x. x) (reads-sc 𝓤 H A W sBool) refl (

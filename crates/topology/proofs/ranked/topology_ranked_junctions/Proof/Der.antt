@@ -63,6 +63,9 @@ module _ (κs : Lfts 12) (qs : Shares 12) where
   abbrev row8 : ℕ → Row
   row8 k = mslice-owed (rtF (fInt w32)) (tyRef (named 6) mut (tyInt w32)) 6 k (lease (κs .1 .1 .1 .1 .1 .1 .0) (qs .1 .1 .1 .1 .1 .1 .0))
 
+  abbrev row9 : ℕ → Row
+  row9 k = msptr (rtF (fInt w32)) (tyRef erased mut (tyInt w32)) k
+
   abbrev row11 : Row
   row11 = mslice-owed (rtF (fInt w32)) (tyRef (named 7) mut (tyInt w32)) 7 15 (lease (κs .1 .1 .1 .1 .1 .1 .1 .0) (qs .1 .1 .1 .1 .1 .1 .1 .0))
 
@@ -108,6 +111,9 @@ module _ (κs : Lfts 12) (qs : Shares 12) where
   abbrev row31 : ℕ → Row
   row31 k = mslice-owedS (rtF (fInt w32)) (tyRef (named 4) mut (tyInt w32)) 4 k (lease (κs .1 .1 .1 .1 .0) (qs .1 .1 .1 .1 .0))
 
+  abbrev row32 : ℕ → Row
+  row32 k = ssptr (rtF (fInt w32)) (tyRef erased imm (tyInt w32)) k
+
   abbrev row33 : ℕ → Row
   row33 k = sslice (rtF (fInt w32)) (tyRef erased imm (tyInt w32)) k
 
@@ -141,6 +147,9 @@ module _ (κs : Lfts 12) (qs : Shares 12) where
   abbrev row59 : Row
   row59 = arr-owed (rtF (fInt w32)) 2556 27
 
+  abbrev row60 : Row
+  row60 = msptr (rtF (fInt w32)) (tyRef erased mut (tyArray (tyInt w32) 2556)) 27
+
   abbrev row62 : Row
   row62 = mleft (Array (rtF fBool) 256) (tyRef erased mut (tyArray tyBool 256))
 
@@ -152,6 +161,9 @@ module _ (κs : Lfts 12) (qs : Shares 12) where
 
   abbrev row65 : Row
   row65 = arr-shr (rtF (fInt w32)) 2556 29
+
+  abbrev row69 : Row
+  row69 = msptr (rtF (fInt w16)) (tyRef erased mut (tyInt w16)) 30
 
   abbrev row74 : Row
   row74 = mslice-owed (rtF (fInt w64)) (tyRef (named 10) mut (tyInt w64)) 10 32 (lease (κs .1 .1 .1 .1 .1 .1 .1 .1 .1 .1 .0) (qs .1 .1 .1 .1 .1 .1 .1 .1 .1 .1 .0))
@@ -165,17 +177,11 @@ module _ (κs : Lfts 12) (qs : Shares 12) where
   abbrev row80 : Row
   row80 = msleft (rtF (fInt w64)) (tyRef erased mut (tyInt w64))
 
-  abbrev pub G15 : Cx
-  G15 = patched ((15, row1) ∷ (16, row1) ∷ []) ((12, alive) ∷ []) G0
+  abbrev pub G17 : Cx
+  G17 = patched ((7, row2) ∷ (15, row1) ∷ (16, row1) ∷ (28, row4 12) ∷ []) ((4, off) ∷ (12, alive) ∷ []) G0
 
-  abbrev pub G18 : Cx
-  G18 = patched ((7, row2) ∷ (15, row1) ∷ (16, row1) ∷ (28, row4 12) ∷ []) ((4, off) ∷ (12, alive) ∷ (13, alive) ∷ []) G0
-
-  abbrev pub G21 : Cx
-  G21 = patched ((7, row2) ∷ (8, row5 13) ∷ (15, row1) ∷ (16, row1) ∷ (28, row4 12) ∷ (30, row7 13) ∷ []) ((4, off) ∷ (5, off) ∷ (12, alive) ∷ (13, alive) ∷ (14, alive) ∷ []) G0
-
-  abbrev pub G24 : Cx
-  G24 = patched ((7, row2) ∷ (8, row5 13) ∷ (9, row8 14) ∷ (15, row1) ∷ (16, row1) ∷ (28, row4 12) ∷ (30, row7 13) ∷ (32, row4 14) ∷ []) ((4, off) ∷ (5, off) ∷ (6, off) ∷ (12, alive) ∷ (13, alive) ∷ (14, alive) ∷ (15, alive) ∷ []) G0
+  abbrev pub G22 : Cx
+  G22 = patched ((7, row2) ∷ (8, row5 13) ∷ (9, row8 14) ∷ (15, row1) ∷ (16, row1) ∷ (28, row4 12) ∷ (30, row7 13) ∷ (31, row9 14) ∷ []) ((4, off) ∷ (5, off) ∷ (6, off) ∷ (12, alive) ∷ (13, alive) ∷ (14, alive) ∷ []) G0
 
   abbrev pub G27 : Cx
   G27 = patched ((7, row2) ∷ (8, row5 13) ∷ (9, row8 14) ∷ (10, row11) ∷ (15, row1) ∷ (16, row1) ∷ (28, row4 12) ∷ (30, row7 13) ∷ (32, row4 14) ∷ (34, row4 15) ∷ []) ((4, off) ∷ (5, off) ∷ (6, off) ∷ (7, off) ∷ (12, alive) ∷ (13, alive) ∷ (14, alive) ∷ (15, alive) ∷ (16, alive) ∷ []) G0
@@ -189,26 +195,17 @@ module _ (κs : Lfts 12) (qs : Shares 12) where
   abbrev pub G31 : Cx
   G31 = patched ((15, row1) ∷ (16, row1) ∷ (37, row20) ∷ []) ([]) G0
 
-  abbrev pub G35 : Cx
-  G35 = patched ((8, row5 13) ∷ (9, row8 14) ∷ (10, row11) ∷ (11, row14) ∷ (15, row1) ∷ (16, row1) ∷ (17, row17) ∷ (30, row19) ∷ (32, row18) ∷ (34, row18) ∷ (36, row18) ∷ []) ((5, off) ∷ (6, off) ∷ (7, off) ∷ (8, off) ∷ (13, alive) ∷ (14, alive) ∷ (15, alive) ∷ (16, alive) ∷ []) G0
+  abbrev pub G37 : Cx
+  G37 = patched ((9, row8 14) ∷ (10, row11) ∷ (11, row14) ∷ (15, row1) ∷ (16, row1) ∷ (17, row17) ∷ (32, row18) ∷ (34, row18) ∷ (36, row18) ∷ []) ((6, off) ∷ (7, off) ∷ (8, off) ∷ (13, dead) ∷ (14, alive) ∷ (15, alive) ∷ (16, alive) ∷ []) G0
 
-  abbrev pub G39 : Cx
-  G39 = patched ((9, row8 14) ∷ (10, row11) ∷ (11, row14) ∷ (15, row1) ∷ (16, row1) ∷ (17, row17) ∷ (32, row18) ∷ (34, row18) ∷ (36, row18) ∷ []) ((6, off) ∷ (7, off) ∷ (8, off) ∷ (14, alive) ∷ (15, alive) ∷ (16, alive) ∷ []) G0
-
-  abbrev pub G43 : Cx
-  G43 = patched ((10, row11) ∷ (11, row14) ∷ (15, row1) ∷ (16, row1) ∷ (17, row17) ∷ (34, row18) ∷ (36, row18) ∷ []) ((7, off) ∷ (8, off) ∷ (15, alive) ∷ (16, alive) ∷ []) G0
-
-  abbrev pub G47 : Cx
-  G47 = patched ((11, row14) ∷ (15, row1) ∷ (16, row1) ∷ (17, row17) ∷ (36, row18) ∷ []) ((8, off) ∷ (16, alive) ∷ []) G0
+  abbrev pub G44 : Cx
+  G44 = patched ((10, row11) ∷ (11, row14) ∷ (15, row1) ∷ (16, row1) ∷ (17, row17) ∷ (34, row18) ∷ (36, row18) ∷ []) ((7, off) ∷ (8, off) ∷ (15, dead) ∷ (16, alive) ∷ []) G0
 
   abbrev pub G51 : Cx
   G51 = patched ((15, row1) ∷ (16, row1) ∷ (17, row17) ∷ []) ([]) G0
 
   abbrev pub G52 : Cx
   G52 = patched ((15, row1) ∷ (16, row1) ∷ (17, row21 0) ∷ []) ([]) G0
-
-  abbrev pub G56 : Cx
-  G56 = patched ((15, row1) ∷ (16, row1) ∷ (18, row1) ∷ (19, row1) ∷ []) ([]) G0
 
   abbrev pub G57 : Cx
   G57 = patched ((15, row1) ∷ (16, row1) ∷ (18, row1) ∷ (19, row1) ∷ (38, row1) ∷ []) ([]) G0
@@ -228,11 +225,8 @@ module _ (κs : Lfts 12) (qs : Shares 12) where
   abbrev pub G63 : Cx
   G63 = patched ((15, row1) ∷ (16, row1) ∷ (17, row21 1) ∷ []) ([]) G0
 
-  abbrev pub G67 : Cx
-  G67 = patched ((15, row1) ∷ (16, row1) ∷ (20, row1) ∷ (21, row1) ∷ []) ([]) G0
-
-  abbrev pub G70 : Cx
-  G70 = patched ((15, row1) ∷ (16, row1) ∷ (20, row1) ∷ (21, row1) ∷ (22, row1) ∷ (23, row1) ∷ (39, row1) ∷ []) ([]) G0
+  abbrev pub G69 : Cx
+  G69 = patched ((15, row1) ∷ (16, row1) ∷ (20, row1) ∷ (21, row1) ∷ (22, row1) ∷ (39, row1) ∷ []) ([]) G0
 
   abbrev pub G72 : Cx
   G72 = patched ((15, row1) ∷ (16, row1) ∷ (20, row1) ∷ (21, row1) ∷ (22, row1) ∷ (23, row1) ∷ (24, row24) ∷ []) ([]) G0
@@ -243,11 +237,8 @@ module _ (κs : Lfts 12) (qs : Shares 12) where
   abbrev pub G75 : Cx
   G75 = patched ((15, row1) ∷ (16, row1) ∷ (20, row1) ∷ (21, row1) ∷ (22, row1) ∷ (23, row1) ∷ (24, row25) ∷ (25, row27) ∷ []) ([]) G0
 
-  abbrev pub G78 : Cx
-  G78 = patched ((12, row28) ∷ (15, row1) ∷ (16, row1) ∷ (20, row1) ∷ (21, row1) ∷ (22, row1) ∷ (23, row1) ∷ (24, row25) ∷ (25, row27) ∷ (42, row30) ∷ []) ((9, off) ∷ (17, alive) ∷ []) G0
-
-  abbrev pub G81 : Cx
-  G81 = patched ((7, row31 18) ∷ (12, row28) ∷ (15, row1) ∷ (16, row1) ∷ (20, row1) ∷ (21, row1) ∷ (22, row1) ∷ (23, row1) ∷ (24, row25) ∷ (25, row27) ∷ (42, row30) ∷ (44, row33 18) ∷ []) ((4, off) ∷ (9, off) ∷ (17, alive) ∷ (18, alive) ∷ []) G0
+  abbrev pub G80 : Cx
+  G80 = patched ((7, row31 18) ∷ (12, row28) ∷ (15, row1) ∷ (16, row1) ∷ (20, row1) ∷ (21, row1) ∷ (22, row1) ∷ (23, row1) ∷ (24, row25) ∷ (25, row27) ∷ (42, row30) ∷ (43, row32 18) ∷ []) ((4, off) ∷ (9, off) ∷ (17, alive) ∷ (18, alive) ∷ []) G0
 
   abbrev pub G84 : Cx
   G84 = patched ((7, row31 18) ∷ (9, row34) ∷ (12, row28) ∷ (15, row1) ∷ (16, row1) ∷ (20, row1) ∷ (21, row1) ∷ (22, row1) ∷ (23, row1) ∷ (24, row25) ∷ (25, row27) ∷ (42, row30) ∷ (44, row33 18) ∷ (46, row33 19) ∷ []) ((4, off) ∷ (6, off) ∷ (9, off) ∷ (17, alive) ∷ (18, alive) ∷ (19, alive) ∷ []) G0
@@ -255,38 +246,26 @@ module _ (κs : Lfts 12) (qs : Shares 12) where
   abbrev pub G85 : Cx
   G85 = patched ((7, row31 18) ∷ (9, row34) ∷ (12, row28) ∷ (15, row1) ∷ (16, row1) ∷ (20, row1) ∷ (21, row1) ∷ (22, row1) ∷ (23, row1) ∷ (24, row25) ∷ (25, row27) ∷ (40, row37) ∷ (42, row38) ∷ (44, row33 18) ∷ (46, row33 19) ∷ []) ((4, off) ∷ (6, off) ∷ (9, off) ∷ (17, alive) ∷ (18, alive) ∷ (19, alive) ∷ []) G0
 
-  abbrev pub G88 : Cx
-  G88 = patched ((7, row31 18) ∷ (9, row34) ∷ (12, row28) ∷ (15, row1) ∷ (16, row1) ∷ (20, row1) ∷ (21, row1) ∷ (22, row1) ∷ (23, row1) ∷ (24, row25) ∷ (25, row27) ∷ (42, row38) ∷ []) ((4, off) ∷ (6, off) ∷ (9, off) ∷ (17, alive) ∷ (18, alive) ∷ (19, alive) ∷ []) G0
+  abbrev pub G90 : Cx
+  G90 = patched ((7, row31 18) ∷ (9, row34) ∷ (15, row1) ∷ (16, row1) ∷ (20, row1) ∷ (21, row1) ∷ (22, row1) ∷ (23, row1) ∷ (24, row25) ∷ (25, row27) ∷ []) ((4, off) ∷ (6, off) ∷ (17, dead) ∷ (18, alive) ∷ (19, alive) ∷ []) G0
 
-  abbrev pub G91 : Cx
-  G91 = patched ((7, row31 18) ∷ (9, row34) ∷ (15, row1) ∷ (16, row1) ∷ (20, row1) ∷ (21, row1) ∷ (22, row1) ∷ (23, row1) ∷ (24, row25) ∷ (25, row27) ∷ []) ((4, off) ∷ (6, off) ∷ (18, alive) ∷ (19, alive) ∷ []) G0
+  abbrev pub G95 : Cx
+  G95 = patched ((9, row34) ∷ (15, row1) ∷ (16, row1) ∷ (20, row1) ∷ (21, row1) ∷ (22, row1) ∷ (23, row1) ∷ (24, row25) ∷ (25, row27) ∷ []) ((6, off) ∷ (19, dead) ∷ []) G0
 
-  abbrev pub G94 : Cx
-  G94 = patched ((9, row34) ∷ (15, row1) ∷ (16, row1) ∷ (20, row1) ∷ (21, row1) ∷ (22, row1) ∷ (23, row1) ∷ (24, row25) ∷ (25, row27) ∷ []) ((6, off) ∷ (19, alive) ∷ []) G0
+  abbrev pub G102 : Cx
+  G102 = patched ((7, row31 21) ∷ (12, row39) ∷ (15, row1) ∷ (16, row1) ∷ (20, row1) ∷ (21, row1) ∷ (22, row1) ∷ (23, row1) ∷ (24, row25) ∷ (25, row27) ∷ (48, row41) ∷ (49, row32 21) ∷ []) ((4, off) ∷ (9, off) ∷ (20, alive) ∷ (21, alive) ∷ []) G0
 
-  abbrev pub G100 : Cx
-  G100 = patched ((12, row39) ∷ (15, row1) ∷ (16, row1) ∷ (20, row1) ∷ (21, row1) ∷ (22, row1) ∷ (23, row1) ∷ (24, row25) ∷ (25, row27) ∷ (48, row41) ∷ []) ((9, off) ∷ (20, alive) ∷ []) G0
-
-  abbrev pub G103 : Cx
-  G103 = patched ((7, row31 21) ∷ (12, row39) ∷ (15, row1) ∷ (16, row1) ∷ (20, row1) ∷ (21, row1) ∷ (22, row1) ∷ (23, row1) ∷ (24, row25) ∷ (25, row27) ∷ (48, row41) ∷ (50, row33 21) ∷ []) ((4, off) ∷ (9, off) ∷ (20, alive) ∷ (21, alive) ∷ []) G0
-
-  abbrev pub G106 : Cx
-  G106 = patched ((7, row31 21) ∷ (12, row39) ∷ (15, row1) ∷ (16, row1) ∷ (20, row1) ∷ (21, row1) ∷ (22, row1) ∷ (23, row1) ∷ (24, row25) ∷ (25, row27) ∷ (48, row41) ∷ (50, row33 21) ∷ (51, row1) ∷ []) ((4, off) ∷ (9, off) ∷ (20, alive) ∷ (21, alive) ∷ []) G0
-
-  abbrev pub G109 : Cx
-  G109 = patched ((7, row31 21) ∷ (10, row45) ∷ (12, row39) ∷ (15, row1) ∷ (16, row1) ∷ (20, row1) ∷ (21, row1) ∷ (22, row1) ∷ (23, row1) ∷ (24, row25) ∷ (25, row27) ∷ (48, row41) ∷ (50, row33 21) ∷ (51, row1) ∷ (53, row33 22) ∷ []) ((4, off) ∷ (7, off) ∷ (9, off) ∷ (20, alive) ∷ (21, alive) ∷ (22, alive) ∷ []) G0
+  abbrev pub G107 : Cx
+  G107 = patched ((7, row31 21) ∷ (12, row39) ∷ (15, row1) ∷ (16, row1) ∷ (20, row1) ∷ (21, row1) ∷ (22, row1) ∷ (23, row1) ∷ (24, row25) ∷ (25, row27) ∷ (48, row41) ∷ (50, row33 21) ∷ (51, row1) ∷ []) ((4, off) ∷ (9, off) ∷ (20, alive) ∷ (21, alive) ∷ (22, alive) ∷ []) G0
 
   abbrev pub G112 : Cx
   G112 = patched ((7, row31 21) ∷ (10, row45) ∷ (11, row48) ∷ (12, row39) ∷ (15, row1) ∷ (16, row1) ∷ (20, row1) ∷ (21, row1) ∷ (22, row1) ∷ (23, row1) ∷ (24, row25) ∷ (25, row27) ∷ (48, row41) ∷ (50, row33 21) ∷ (51, row1) ∷ (53, row33 22) ∷ (55, row33 23) ∷ []) ((4, off) ∷ (7, off) ∷ (8, off) ∷ (9, off) ∷ (20, alive) ∷ (21, alive) ∷ (22, alive) ∷ (23, alive) ∷ []) G0
 
-  abbrev pub G115 : Cx
-  G115 = patched ((7, row31 21) ∷ (8, row5 24) ∷ (10, row45) ∷ (11, row48) ∷ (12, row39) ∷ (15, row1) ∷ (16, row1) ∷ (20, row1) ∷ (21, row1) ∷ (22, row1) ∷ (23, row1) ∷ (24, row25) ∷ (25, row27) ∷ (48, row41) ∷ (50, row33 21) ∷ (51, row1) ∷ (53, row33 22) ∷ (55, row33 23) ∷ (57, row7 24) ∷ []) ((4, off) ∷ (5, off) ∷ (7, off) ∷ (8, off) ∷ (9, off) ∷ (20, alive) ∷ (21, alive) ∷ (22, alive) ∷ (23, alive) ∷ (24, alive) ∷ []) G0
+  abbrev pub G117 : Cx
+  G117 = patched ((7, row31 21) ∷ (8, row5 24) ∷ (9, row8 25) ∷ (10, row45) ∷ (11, row48) ∷ (12, row39) ∷ (15, row1) ∷ (16, row1) ∷ (20, row1) ∷ (21, row1) ∷ (22, row1) ∷ (23, row1) ∷ (24, row25) ∷ (25, row27) ∷ (48, row41) ∷ (50, row33 21) ∷ (51, row1) ∷ (53, row33 22) ∷ (55, row33 23) ∷ (57, row7 24) ∷ (58, row9 25) ∷ []) ((4, off) ∷ (5, off) ∷ (6, off) ∷ (7, off) ∷ (8, off) ∷ (9, off) ∷ (20, alive) ∷ (21, alive) ∷ (22, alive) ∷ (23, alive) ∷ (24, alive) ∷ (25, alive) ∷ []) G0
 
-  abbrev pub G118 : Cx
-  G118 = patched ((7, row31 21) ∷ (8, row5 24) ∷ (9, row8 25) ∷ (10, row45) ∷ (11, row48) ∷ (12, row39) ∷ (15, row1) ∷ (16, row1) ∷ (20, row1) ∷ (21, row1) ∷ (22, row1) ∷ (23, row1) ∷ (24, row25) ∷ (25, row27) ∷ (48, row41) ∷ (50, row33 21) ∷ (51, row1) ∷ (53, row33 22) ∷ (55, row33 23) ∷ (57, row7 24) ∷ (59, row4 25) ∷ []) ((4, off) ∷ (5, off) ∷ (6, off) ∷ (7, off) ∷ (8, off) ∷ (9, off) ∷ (20, alive) ∷ (21, alive) ∷ (22, alive) ∷ (23, alive) ∷ (24, alive) ∷ (25, alive) ∷ []) G0
-
-  abbrev pub G121 : Cx
-  G121 = patched ((7, row31 21) ∷ (8, row5 24) ∷ (9, row8 25) ∷ (10, row45) ∷ (11, row48) ∷ (12, row39) ∷ (15, row1) ∷ (16, row1) ∷ (20, row1) ∷ (21, row1) ∷ (22, row1) ∷ (23, row1) ∷ (24, row57) ∷ (25, row27) ∷ (48, row41) ∷ (50, row33 21) ∷ (51, row1) ∷ (53, row33 22) ∷ (55, row33 23) ∷ (57, row7 24) ∷ (59, row4 25) ∷ (60, row58) ∷ []) ((4, off) ∷ (5, off) ∷ (6, off) ∷ (7, off) ∷ (8, off) ∷ (9, off) ∷ (20, alive) ∷ (21, alive) ∷ (22, alive) ∷ (23, alive) ∷ (24, alive) ∷ (25, alive) ∷ (26, alive) ∷ (27, alive) ∷ []) G0
+  abbrev pub G122 : Cx
+  G122 = patched ((7, row31 21) ∷ (8, row5 24) ∷ (9, row8 25) ∷ (10, row45) ∷ (11, row48) ∷ (12, row39) ∷ (15, row1) ∷ (16, row1) ∷ (20, row1) ∷ (21, row1) ∷ (22, row1) ∷ (23, row1) ∷ (24, row57) ∷ (25, row59) ∷ (48, row41) ∷ (50, row33 21) ∷ (51, row1) ∷ (53, row33 22) ∷ (55, row33 23) ∷ (57, row7 24) ∷ (59, row4 25) ∷ (60, row58) ∷ (61, row60) ∷ []) ((4, off) ∷ (5, off) ∷ (6, off) ∷ (7, off) ∷ (8, off) ∷ (9, off) ∷ (20, alive) ∷ (21, alive) ∷ (22, alive) ∷ (23, alive) ∷ (24, alive) ∷ (25, alive) ∷ (26, alive) ∷ (27, alive) ∷ []) G0
 
   abbrev pub G123 : Cx
   G123 = patched ((7, row31 21) ∷ (8, row5 24) ∷ (9, row8 25) ∷ (10, row45) ∷ (11, row48) ∷ (12, row39) ∷ (15, row1) ∷ (16, row1) ∷ (20, row1) ∷ (21, row1) ∷ (22, row1) ∷ (23, row1) ∷ (24, row57) ∷ (25, row59) ∷ (48, row41) ∷ (50, row33 21) ∷ (51, row1) ∷ (53, row33 22) ∷ (55, row33 23) ∷ (57, row7 24) ∷ (59, row4 25) ∷ (60, row58) ∷ (62, row4 27) ∷ []) ((4, off) ∷ (5, off) ∷ (6, off) ∷ (7, off) ∷ (8, off) ∷ (9, off) ∷ (20, alive) ∷ (21, alive) ∷ (22, alive) ∷ (23, alive) ∷ (24, alive) ∷ (25, alive) ∷ (26, alive) ∷ (27, alive) ∷ []) G0
@@ -294,53 +273,32 @@ module _ (κs : Lfts 12) (qs : Shares 12) where
   abbrev pub G124 : Cx
   G124 = patched ((7, row31 21) ∷ (8, row5 24) ∷ (9, row8 25) ∷ (10, row45) ∷ (11, row48) ∷ (12, row39) ∷ (15, row1) ∷ (16, row1) ∷ (20, row1) ∷ (21, row1) ∷ (22, row1) ∷ (23, row1) ∷ (24, row57) ∷ (25, row59) ∷ (26, row1) ∷ (48, row41) ∷ (50, row33 21) ∷ (51, row1) ∷ (53, row33 22) ∷ (55, row33 23) ∷ (57, row19) ∷ (59, row18) ∷ (60, row62) ∷ (62, row18) ∷ []) ((4, off) ∷ (5, off) ∷ (6, off) ∷ (7, off) ∷ (8, off) ∷ (9, off) ∷ (20, alive) ∷ (21, alive) ∷ (22, alive) ∷ (23, alive) ∷ (24, alive) ∷ (25, alive) ∷ (26, alive) ∷ (27, alive) ∷ []) G0
 
-  abbrev pub G127 : Cx
-  G127 = patched ((7, row31 21) ∷ (8, row5 24) ∷ (9, row8 25) ∷ (10, row45) ∷ (11, row48) ∷ (12, row39) ∷ (15, row1) ∷ (16, row1) ∷ (20, row1) ∷ (21, row1) ∷ (22, row1) ∷ (23, row1) ∷ (24, row57) ∷ (25, row59) ∷ (26, row1) ∷ (51, row1) ∷ (55, row33 23) ∷ (57, row19) ∷ (59, row18) ∷ (60, row62) ∷ (62, row18) ∷ []) ((4, off) ∷ (5, off) ∷ (6, off) ∷ (7, off) ∷ (8, off) ∷ (9, off) ∷ (20, alive) ∷ (21, alive) ∷ (22, alive) ∷ (23, alive) ∷ (24, alive) ∷ (25, alive) ∷ (26, alive) ∷ (27, alive) ∷ []) G0
+  abbrev pub G129 : Cx
+  G129 = patched ((7, row31 21) ∷ (8, row5 24) ∷ (9, row8 25) ∷ (10, row45) ∷ (11, row48) ∷ (12, row39) ∷ (15, row1) ∷ (16, row1) ∷ (20, row1) ∷ (21, row1) ∷ (22, row1) ∷ (23, row1) ∷ (24, row57) ∷ (25, row59) ∷ (26, row1) ∷ (57, row19) ∷ (59, row18) ∷ (60, row62) ∷ (62, row18) ∷ []) ((4, off) ∷ (5, off) ∷ (6, off) ∷ (7, off) ∷ (8, off) ∷ (9, off) ∷ (20, alive) ∷ (21, alive) ∷ (22, alive) ∷ (23, alive) ∷ (24, alive) ∷ (25, alive) ∷ (26, alive) ∷ (27, alive) ∷ []) G0
 
-  abbrev pub G130 : Cx
-  G130 = patched ((7, row31 21) ∷ (8, row5 24) ∷ (9, row8 25) ∷ (10, row45) ∷ (11, row48) ∷ (12, row39) ∷ (15, row1) ∷ (16, row1) ∷ (20, row1) ∷ (21, row1) ∷ (22, row1) ∷ (23, row1) ∷ (24, row57) ∷ (25, row59) ∷ (26, row1) ∷ (57, row19) ∷ (59, row18) ∷ (60, row62) ∷ (62, row18) ∷ []) ((4, off) ∷ (5, off) ∷ (6, off) ∷ (7, off) ∷ (8, off) ∷ (9, off) ∷ (20, dead) ∷ (21, alive) ∷ (22, alive) ∷ (23, alive) ∷ (24, alive) ∷ (25, alive) ∷ (26, alive) ∷ (27, alive) ∷ []) G0
-
-  abbrev pub G133 : Cx
-  G133 = patched ((7, row31 21) ∷ (8, row5 24) ∷ (9, row8 25) ∷ (10, row45) ∷ (11, row48) ∷ (15, row1) ∷ (16, row1) ∷ (20, row1) ∷ (21, row1) ∷ (22, row1) ∷ (23, row1) ∷ (24, row57) ∷ (25, row59) ∷ (26, row1) ∷ (57, row19) ∷ (59, row18) ∷ (60, row62) ∷ (62, row18) ∷ []) ((4, off) ∷ (5, off) ∷ (6, off) ∷ (7, off) ∷ (8, off) ∷ (21, dead) ∷ (22, alive) ∷ (23, alive) ∷ (24, alive) ∷ (25, alive) ∷ (26, alive) ∷ (27, alive) ∷ []) G0
-
-  abbrev pub G136 : Cx
-  G136 = patched ((8, row5 24) ∷ (9, row8 25) ∷ (10, row45) ∷ (11, row48) ∷ (15, row1) ∷ (16, row1) ∷ (20, row1) ∷ (21, row1) ∷ (22, row1) ∷ (23, row1) ∷ (24, row57) ∷ (25, row59) ∷ (26, row1) ∷ (57, row19) ∷ (59, row18) ∷ (60, row62) ∷ (62, row18) ∷ []) ((5, off) ∷ (6, off) ∷ (7, off) ∷ (8, off) ∷ (22, dead) ∷ (23, alive) ∷ (24, alive) ∷ (25, alive) ∷ (26, alive) ∷ (27, alive) ∷ []) G0
+  abbrev pub G134 : Cx
+  G134 = patched ((8, row5 24) ∷ (9, row8 25) ∷ (10, row45) ∷ (11, row48) ∷ (15, row1) ∷ (16, row1) ∷ (20, row1) ∷ (21, row1) ∷ (22, row1) ∷ (23, row1) ∷ (24, row57) ∷ (25, row59) ∷ (26, row1) ∷ (57, row19) ∷ (59, row18) ∷ (60, row62) ∷ (62, row18) ∷ []) ((5, off) ∷ (6, off) ∷ (7, off) ∷ (8, off) ∷ (21, dead) ∷ (22, alive) ∷ (23, alive) ∷ (24, alive) ∷ (25, alive) ∷ (26, alive) ∷ (27, alive) ∷ []) G0
 
   abbrev pub G139 : Cx
   G139 = patched ((8, row5 24) ∷ (9, row8 25) ∷ (11, row48) ∷ (15, row1) ∷ (16, row1) ∷ (20, row1) ∷ (21, row1) ∷ (22, row1) ∷ (23, row1) ∷ (24, row57) ∷ (25, row59) ∷ (26, row1) ∷ (57, row19) ∷ (59, row18) ∷ (60, row62) ∷ (62, row18) ∷ []) ((5, off) ∷ (6, off) ∷ (8, off) ∷ (23, dead) ∷ (24, alive) ∷ (25, alive) ∷ (26, alive) ∷ (27, alive) ∷ []) G0
 
-  abbrev pub G142 : Cx
-  G142 = patched ((8, row5 24) ∷ (9, row8 25) ∷ (15, row1) ∷ (16, row1) ∷ (20, row1) ∷ (21, row1) ∷ (22, row1) ∷ (23, row1) ∷ (24, row57) ∷ (25, row59) ∷ (26, row1) ∷ (57, row19) ∷ (59, row18) ∷ (60, row62) ∷ (62, row18) ∷ []) ((5, off) ∷ (6, off) ∷ (24, dead) ∷ (25, alive) ∷ (26, alive) ∷ (27, alive) ∷ []) G0
+  abbrev pub G145 : Cx
+  G145 = patched ((9, row8 25) ∷ (15, row1) ∷ (16, row1) ∷ (20, row1) ∷ (21, row1) ∷ (22, row1) ∷ (23, row1) ∷ (24, row57) ∷ (25, row59) ∷ (26, row1) ∷ (59, row18) ∷ (60, row62) ∷ (62, row18) ∷ []) ((6, off) ∷ (25, alive) ∷ (26, alive) ∷ (27, alive) ∷ []) G0
 
-  abbrev pub G146 : Cx
-  G146 = patched ((9, row8 25) ∷ (15, row1) ∷ (16, row1) ∷ (20, row1) ∷ (21, row1) ∷ (22, row1) ∷ (23, row1) ∷ (24, row57) ∷ (25, row59) ∷ (26, row1) ∷ (59, row18) ∷ (60, row62) ∷ (62, row18) ∷ []) ((6, off) ∷ (25, dead) ∷ (26, alive) ∷ (27, alive) ∷ []) G0
-
-  abbrev pub G150 : Cx
-  G150 = patched ((15, row1) ∷ (16, row1) ∷ (20, row1) ∷ (21, row1) ∷ (22, row1) ∷ (23, row1) ∷ (24, row57) ∷ (25, row59) ∷ (26, row1) ∷ (60, row62) ∷ (62, row18) ∷ []) ((26, dead) ∷ (27, alive) ∷ []) G0
-
-  abbrev pub G153 : Cx
-  G153 = patched ((15, row1) ∷ (16, row1) ∷ (20, row1) ∷ (21, row1) ∷ (22, row1) ∷ (23, row1) ∷ (24, row25) ∷ (25, row59) ∷ (26, row1) ∷ (62, row18) ∷ []) ((27, dead) ∷ []) G0
+  abbrev pub G151 : Cx
+  G151 = patched ((15, row1) ∷ (16, row1) ∷ (20, row1) ∷ (21, row1) ∷ (22, row1) ∷ (23, row1) ∷ (24, row25) ∷ (25, row59) ∷ (26, row1) ∷ (62, row18) ∷ []) ((26, dead) ∷ (27, alive) ∷ []) G0
 
   abbrev pub G155 : Cx
   G155 = patched ((15, row1) ∷ (16, row1) ∷ (20, row1) ∷ (21, row1) ∷ (22, row1) ∷ (23, row1) ∷ (24, row25) ∷ (25, row27) ∷ (26, row1) ∷ []) ([]) G0
 
-  abbrev pub G158 : Cx
-  G158 = patched ((15, row1) ∷ (16, row1) ∷ (20, row1) ∷ (21, row1) ∷ (22, row1) ∷ (23, row1) ∷ (24, row25) ∷ (25, row27) ∷ (26, row1) ∷ (51, row1) ∷ []) ([]) G0
+  abbrev pub G160 : Cx
+  G160 = patched ((15, row1) ∷ (16, row1) ∷ (20, row1) ∷ (21, row1) ∷ (22, row1) ∷ (23, row1) ∷ (24, row63) ∷ (25, row27) ∷ (26, row1) ∷ (51, row1) ∷ (63, row64) ∷ []) ((28, alive) ∷ []) G0
 
-  abbrev pub G161 : Cx
-  G161 = patched ((15, row1) ∷ (16, row1) ∷ (20, row1) ∷ (21, row1) ∷ (22, row1) ∷ (23, row1) ∷ (24, row63) ∷ (25, row27) ∷ (26, row1) ∷ (51, row1) ∷ (63, row64) ∷ []) ((28, alive) ∷ (29, alive) ∷ []) G0
-
-  abbrev pub G164 : Cx
-  G164 = patched ((15, row1) ∷ (16, row1) ∷ (20, row1) ∷ (21, row1) ∷ (22, row1) ∷ (23, row1) ∷ (24, row63) ∷ (25, row65) ∷ (26, row1) ∷ (51, row1) ∷ (63, row64) ∷ (65, row33 29) ∷ []) ((28, alive) ∷ (29, alive) ∷ (30, alive) ∷ []) G0
-
-  abbrev pub G167 : Cx
-  G167 = patched ((8, row5 30) ∷ (15, row1) ∷ (16, row1) ∷ (20, row1) ∷ (21, row1) ∷ (22, row1) ∷ (23, row1) ∷ (24, row63) ∷ (25, row65) ∷ (26, row1) ∷ (51, row1) ∷ (63, row64) ∷ (65, row33 29) ∷ (67, row7 30) ∷ []) ((5, off) ∷ (28, alive) ∷ (29, alive) ∷ (30, alive) ∷ (31, alive) ∷ []) G0
+  abbrev pub G165 : Cx
+  G165 = patched ((8, row5 30) ∷ (15, row1) ∷ (16, row1) ∷ (20, row1) ∷ (21, row1) ∷ (22, row1) ∷ (23, row1) ∷ (24, row63) ∷ (25, row65) ∷ (26, row1) ∷ (51, row1) ∷ (63, row64) ∷ (65, row33 29) ∷ (66, row69) ∷ []) ((5, off) ∷ (28, alive) ∷ (29, alive) ∷ (30, alive) ∷ []) G0
 
   abbrev pub G170 : Cx
   G170 = patched ((8, row5 30) ∷ (9, row8 31) ∷ (15, row1) ∷ (16, row1) ∷ (20, row1) ∷ (21, row1) ∷ (22, row1) ∷ (23, row1) ∷ (24, row63) ∷ (25, row65) ∷ (26, row1) ∷ (51, row1) ∷ (63, row64) ∷ (65, row33 29) ∷ (67, row7 30) ∷ (69, row4 31) ∷ []) ((5, off) ∷ (6, off) ∷ (28, alive) ∷ (29, alive) ∷ (30, alive) ∷ (31, alive) ∷ (32, alive) ∷ []) G0
-
-  abbrev pub G173 : Cx
-  G173 = patched ((8, row5 30) ∷ (9, row8 31) ∷ (13, row74) ∷ (15, row1) ∷ (16, row1) ∷ (20, row1) ∷ (21, row1) ∷ (22, row1) ∷ (23, row1) ∷ (24, row63) ∷ (25, row65) ∷ (26, row1) ∷ (51, row1) ∷ (63, row64) ∷ (65, row33 29) ∷ (67, row7 30) ∷ (69, row4 31) ∷ (71, row76) ∷ []) ((5, off) ∷ (6, off) ∷ (10, off) ∷ (28, alive) ∷ (29, alive) ∷ (30, alive) ∷ (31, alive) ∷ (32, alive) ∷ (33, alive) ∷ []) G0
 
   abbrev pub G175 : Cx
   G175 = patched ((8, row5 30) ∷ (9, row8 31) ∷ (13, row74) ∷ (14, row77) ∷ (15, row1) ∷ (16, row1) ∷ (20, row1) ∷ (21, row1) ∷ (22, row1) ∷ (23, row1) ∷ (24, row63) ∷ (25, row65) ∷ (26, row1) ∷ (51, row1) ∷ (63, row64) ∷ (65, row33 29) ∷ (67, row7 30) ∷ (69, row4 31) ∷ (71, row76) ∷ (73, row4 33) ∷ []) ((5, off) ∷ (6, off) ∷ (10, off) ∷ (11, off) ∷ (28, alive) ∷ (29, alive) ∷ (30, alive) ∷ (31, alive) ∷ (32, alive) ∷ (33, alive) ∷ []) G0
@@ -429,8 +387,8 @@ module _ (κs : Lfts 12) (qs : Shares 12) where
   abbrev pub G206 : Cx
   G206 = patched ((15, row1) ∷ (16, row1) ∷ (37, row20) ∷ []) ((33, dead) ∷ []) G0
 
-  abbrev pub G211 : Cx
-  G211 = patched ((0, row20) ∷ (37, row20) ∷ []) ([]) G0
+  abbrev pub G213 : Cx
+  G213 = patched ((0, row20) ∷ (1, (any-gone (ty 1))) ∷ []) ([]) G0
 
   abbrev pub G214 : Cx
   G214 = patched ((0, row20) ∷ (1, (any-gone (ty 1))) ∷ (2, (any-gone (ty 2))) ∷ []) ([]) G0
@@ -456,33 +414,33 @@ module _ {M : Type 1} (𝓤 : URA M) (H : Heap 𝓤) (A : Atoms 𝓤) (W : Given
   from-answer =
       stmt (G31 κs qs) _ (t-val-copy 𝓤 H A W E 𝓣 (λ ρ. Unit) (G31 κs qs) 37 0 (Declared'.row RankedAnswer.the-type) _ _ (whole (Declared'.row RankedAnswer.the-type)) (whole (Declared'.row RankedAnswer.the-type)) (λ x. x) (λ x. x) (λ x. x) refl (told-none 𝓤 H A ((G31 κs qs) .slots)) (yields-copy 𝓤 H A W (λ ρ. Unit) (Declared'.row RankedAnswer.the-type) refl (cStruct RankedAnswer.the-type Laws'.the-laws Laws'.the-copy .copy 𝓤 H A W) (whole (Declared'.row RankedAnswer.the-type)) (λ x. x) (λ x. x) (λ ρ told. mem-whole 𝓤 H A W (Declared'.row RankedAnswer.the-type) ρ) (λ ρ told. whole-mem 𝓤 H A W (Declared'.row RankedAnswer.the-type) ρ)) (room-gone 𝓤 H A _) (makes-mem 𝓤 H A W (λ ρ. Unit) (Declared'.row RankedAnswer.the-type) refl (whole (Declared'.row RankedAnswer.the-type)) (λ x. x) (λ ρ told. whole-mem 𝓤 H A W (Declared'.row RankedAnswer.the-type) ρ)) refl refl) $
       ghosts _ _ (g-room 𝓤 H A W E _ 15 (tyInt w64) (room-sc 𝓤 H A W (sInt w64))) $
-      ghosts _ (G211 κs qs) (g-room 𝓤 H A W E _ 16 (tyInt w64) (room-sc 𝓤 H A W (sInt w64))) $
-      ghosts (G211 κs qs) _ (g-room 𝓤 H A W E (G211 κs qs) 37 _ (room-whole 𝓤 H A W (Declared'.row RankedAnswer.the-type) _ refl)) $
-      ghosts _ _ (g-room 𝓤 H A W E _ 1 (tyInt w64) (room-sc 𝓤 H A W (sInt w64))) $
-      ghosts _ (G214 κs qs) (g-room 𝓤 H A W E _ 2 (tyInt w64) (room-sc 𝓤 H A W (sInt w64))) $
+      ghosts _ _ (g-room 𝓤 H A W E _ 16 (tyInt w64) (room-sc 𝓤 H A W (sInt w64))) $
+      ghosts _ _ (g-room 𝓤 H A W E _ 37 _ (room-whole 𝓤 H A W (Declared'.row RankedAnswer.the-type) _ refl)) $
+      ghosts _ (G213 κs qs) (g-room 𝓤 H A W E _ 1 (tyInt w64) (room-sc 𝓤 H A W (sInt w64))) $
+      ghosts (G213 κs qs) (G214 κs qs) (g-room 𝓤 H A W E (G213 κs qs) 2 (tyInt w64) (room-sc 𝓤 H A W (sInt w64))) $
       rets
 
   abbrev pub from-finish : Der W 𝓣 E (G155 κs qs) (past 32 (arm-of 1 (head-of (past 13 (code.function .body))))) (withNext (some (G31 κs qs)) (Δret 12 ps r xs m κs qs))
   from-finish =
       stmt (G155 κs qs) _ (t-use 𝓤 H A W E 𝓣 (G155 κs qs) (oFld 5 (field 1 ∷ []) (tyInt w64) 8 lenV) 39 (sc-here (sInt w64)) (tyInt w64) (valS (sInt w64)) (sInt w64 .of) (reads-sslice-len 𝓤 H A W (rtF (fInt w64)) (tyRef (named 2) imm (tyInt w64)) 2 8 refl, refl) (room-gone 𝓤 H A (tyInt w64)) (holds-sc 𝓤 H A W (sInt w64)) refl (λ u. refl) (λ u. tt)) $
       stmt _ _ (t-op2 𝓤 H A W E 𝓣 _ (div unsigned) (oAt 39 (tyInt w64) (valS (sInt w64))) (oInt w64 _) 51 (sc-here (sInt w64)) (tyInt w64) (valS (sInt w64)) (sInt w64 .of) (reads-sc 𝓤 H A W (sInt w64), refl) tt (room-gone 𝓤 H A (tyInt w64)) (holds-sc 𝓤 H A W (sInt w64)) refl (λ u. refl) (λ u. tt)) $
-      ghosts _ (G158 κs qs) (g-room 𝓤 H A W E _ 39 (tyInt w64) (room-sc 𝓤 H A W (sInt w64))) $
-      ghosts (G158 κs qs) _ (g-begin 𝓤 H A W E (G158 κs qs) 28 _) $
-      stmt _ _ (t-sc-share 𝓤 H A W E 𝓣 _ 24 63 28 (Array (rtF fBool) 256) (tyRef erased imm (tyArray tyBool 256)) (λ x. x) (mem-arr 𝓤 H A W (rtF fBool) 256) (room-gone 𝓤 H A (tyRef erased imm (tyArray tyBool 256))) refl (λ b o. tt)) $
-      ghosts _ (G161 κs qs) (g-begin 𝓤 H A W E _ 29 _) $
-      stmt (G161 κs qs) _ (t-arr-share 𝓤 H A W E 𝓣 (rtF (fInt w32)) (G161 κs qs) 25 64 2556 29 (tyRef erased imm (tyArray (tyInt w32) 2556)) (λ x. x) (as-is 𝓤 H A (arrF (rtF (fInt w32)) 2556 0)) (room-gone 𝓤 H A (tyRef erased imm (tyArray (tyInt w32) 2556))) refl (λ b o. tt) (lit< tt, lit< tt)) $
+      ghosts _ _ (g-room 𝓤 H A W E _ 39 (tyInt w64) (room-sc 𝓤 H A W (sInt w64))) $
+      ghosts _ _ (g-begin 𝓤 H A W E _ 28 _) $
+      stmt _ (G160 κs qs) (t-sc-share 𝓤 H A W E 𝓣 _ 24 63 28 (Array (rtF fBool) 256) (tyRef erased imm (tyArray tyBool 256)) (λ x. x) (mem-arr 𝓤 H A W (rtF fBool) 256) (room-gone 𝓤 H A (tyRef erased imm (tyArray tyBool 256))) refl (λ b o. tt)) $
+      ghosts (G160 κs qs) _ (g-begin 𝓤 H A W E (G160 κs qs) 29 _) $
+      stmt _ _ (t-arr-share 𝓤 H A W E 𝓣 (rtF (fInt w32)) _ 25 64 2556 29 (tyRef erased imm (tyArray (tyInt w32) 2556)) (λ x. x) (as-is 𝓤 H A (arrF (rtF (fInt w32)) 2556 0)) (room-gone 𝓤 H A (tyRef erased imm (tyArray (tyInt w32) 2556))) refl (λ b o. tt) (lit< tt, lit< tt)) $
       stmt _ _ (t-sl-aggregate 𝓤 H A W E (rtF (fInt w32)) 𝓣 (asShr (rtF (fInt w32))) _ 64 65 29 (tyRef erased imm (tyArray (tyInt w32) 2556)) (tyRef erased imm (tyInt w32)) (λ x. x) (oBig w64 2556) (as-is 𝓤 H A (ssptr (rtF (fInt w32)) (tyRef erased imm (tyArray (tyInt w32) 2556)) 29)) (room-gone 𝓤 H A _) record { lower = record { fits = lit< tt } } refl refl (λ b o k. tt)) $
-      ghosts _ (G164 κs qs) (g-begin 𝓤 H A W E _ 30 _) $
-      stmt (G164 κs qs) _ (t-sl-relend 𝓤 H A W E (rtF (fInt w16)) 𝓣 (G164 κs qs) 8 66 5 30 (tyRef (named 5) mut (tyInt w16)) (tyRef erased mut (tyInt w16)) (lease (κs .1 .1 .1 .1 .1 .0) (qs .1 .1 .1 .1 .1 .0)) 0 (λ x. x) (as-is 𝓤 H A (mslice (rtF (fInt w16)) (tyRef (named 5) mut (tyInt w16)) 5)) (room-gone 𝓤 H A (tyRef erased mut (tyInt w16))) refl tt refl refl refl (λ b o. tt)) $
-      stmt _ _ (t-sl-aggregate 𝓤 H A W E (rtF (fInt w16)) 𝓣 (asMut (rtF (fInt w16))) _ 66 67 30 (tyRef erased mut (tyInt w16)) (tyRef erased mut (tyInt w16)) (λ x. x) (oFld 8 (field 1 ∷ []) (tyInt w64) 8 (λ v. lenV (v .0))) (as-is 𝓤 H A (msptr (rtF (fInt w16)) (tyRef erased mut (tyInt w16)) 30)) (room-gone 𝓤 H A _) (reads-owed-len 𝓤 H A W (rtF (fInt w16)) (tyRef (named 5) mut (tyInt w16)) 5 30 (lease (κs .1 .1 .1 .1 .1 .0) (qs .1 .1 .1 .1 .1 .0)) 8 refl, refl) refl refl (λ b o k. tt)) $
-      ghosts _ (G167 κs qs) (g-begin 𝓤 H A W E _ 31 _) $
-      stmt (G167 κs qs) _ (t-sl-relend 𝓤 H A W E (rtF (fInt w32)) 𝓣 (G167 κs qs) 9 68 6 31 (tyRef (named 6) mut (tyInt w32)) (tyRef erased mut (tyInt w32)) (lease (κs .1 .1 .1 .1 .1 .1 .0) (qs .1 .1 .1 .1 .1 .1 .0)) 0 (λ x. x) (as-is 𝓤 H A (mslice (rtF (fInt w32)) (tyRef (named 6) mut (tyInt w32)) 6)) (room-gone 𝓤 H A (tyRef erased mut (tyInt w32))) refl tt refl refl refl (λ b o. tt)) $
+      ghosts _ _ (g-begin 𝓤 H A W E _ 30 _) $
+      stmt _ (G165 κs qs) (t-sl-relend 𝓤 H A W E (rtF (fInt w16)) 𝓣 _ 8 66 5 30 (tyRef (named 5) mut (tyInt w16)) (tyRef erased mut (tyInt w16)) (lease (κs .1 .1 .1 .1 .1 .0) (qs .1 .1 .1 .1 .1 .0)) 0 (λ x. x) (as-is 𝓤 H A (mslice (rtF (fInt w16)) (tyRef (named 5) mut (tyInt w16)) 5)) (room-gone 𝓤 H A (tyRef erased mut (tyInt w16))) refl tt refl refl refl (λ b o. tt)) $
+      stmt (G165 κs qs) _ (t-sl-aggregate 𝓤 H A W E (rtF (fInt w16)) 𝓣 (asMut (rtF (fInt w16))) (G165 κs qs) 66 67 30 (tyRef erased mut (tyInt w16)) (tyRef erased mut (tyInt w16)) (λ x. x) (oFld 8 (field 1 ∷ []) (tyInt w64) 8 (λ v. lenV (v .0))) (as-is 𝓤 H A (msptr (rtF (fInt w16)) (tyRef erased mut (tyInt w16)) 30)) (room-gone 𝓤 H A _) (reads-owed-len 𝓤 H A W (rtF (fInt w16)) (tyRef (named 5) mut (tyInt w16)) 5 30 (lease (κs .1 .1 .1 .1 .1 .0) (qs .1 .1 .1 .1 .1 .0)) 8 refl, refl) refl refl (λ b o k. tt)) $
+      ghosts _ _ (g-begin 𝓤 H A W E _ 31 _) $
+      stmt _ _ (t-sl-relend 𝓤 H A W E (rtF (fInt w32)) 𝓣 _ 9 68 6 31 (tyRef (named 6) mut (tyInt w32)) (tyRef erased mut (tyInt w32)) (lease (κs .1 .1 .1 .1 .1 .1 .0) (qs .1 .1 .1 .1 .1 .1 .0)) 0 (λ x. x) (as-is 𝓤 H A (mslice (rtF (fInt w32)) (tyRef (named 6) mut (tyInt w32)) 6)) (room-gone 𝓤 H A (tyRef erased mut (tyInt w32))) refl tt refl refl refl (λ b o. tt)) $
       stmt _ _ (t-sl-aggregate 𝓤 H A W E (rtF (fInt w32)) 𝓣 (asMut (rtF (fInt w32))) _ 68 69 31 (tyRef erased mut (tyInt w32)) (tyRef erased mut (tyInt w32)) (λ x. x) (oFld 9 (field 1 ∷ []) (tyInt w64) 8 (λ v. lenV (v .0))) (as-is 𝓤 H A (msptr (rtF (fInt w32)) (tyRef erased mut (tyInt w32)) 31)) (room-gone 𝓤 H A _) (reads-owed-len 𝓤 H A W (rtF (fInt w32)) (tyRef (named 6) mut (tyInt w32)) 6 31 (lease (κs .1 .1 .1 .1 .1 .1 .0) (qs .1 .1 .1 .1 .1 .1 .0)) 8 refl, refl) refl refl (λ b o k. tt)) $
       ghosts _ (G170 κs qs) (g-begin 𝓤 H A W E _ 32 _) $
       stmt (G170 κs qs) _ (t-sl-relend 𝓤 H A W E (rtF (fInt w64)) 𝓣 (G170 κs qs) 13 70 10 32 (tyRef (named 10) mut (tyInt w64)) (tyRef erased mut (tyInt w64)) (lease (κs .1 .1 .1 .1 .1 .1 .1 .1 .1 .1 .0) (qs .1 .1 .1 .1 .1 .1 .1 .1 .1 .1 .0)) 0 (λ x. x) (as-is 𝓤 H A (mslice (rtF (fInt w64)) (tyRef (named 10) mut (tyInt w64)) 10)) (room-gone 𝓤 H A (tyRef erased mut (tyInt w64))) refl tt refl refl refl (λ b o. tt)) $
       stmt _ _ (t-sl-aggregate 𝓤 H A W E (rtF (fInt w64)) 𝓣 (asMut (rtF (fInt w64))) _ 70 71 32 (tyRef erased mut (tyInt w64)) (tyRef erased mut (tyInt w64)) (λ x. x) (oFld 13 (field 1 ∷ []) (tyInt w64) 8 (λ v. lenV (v .0))) (as-is 𝓤 H A (msptr (rtF (fInt w64)) (tyRef erased mut (tyInt w64)) 32)) (room-gone 𝓤 H A _) (reads-owed-len 𝓤 H A W (rtF (fInt w64)) (tyRef (named 10) mut (tyInt w64)) 10 32 (lease (κs .1 .1 .1 .1 .1 .1 .1 .1 .1 .1 .0) (qs .1 .1 .1 .1 .1 .1 .1 .1 .1 .1 .0)) 8 refl, refl) refl refl (λ b o k. tt)) $
-      ghosts _ (G173 κs qs) (g-begin 𝓤 H A W E _ 33 _) $
-      stmt (G173 κs qs) _ (t-sl-relend 𝓤 H A W E (rtF (fInt w32)) 𝓣 (G173 κs qs) 14 72 11 33 (tyRef (named 11) mut (tyInt w32)) (tyRef erased mut (tyInt w32)) (lease (κs .1 .1 .1 .1 .1 .1 .1 .1 .1 .1 .1 .0) (qs .1 .1 .1 .1 .1 .1 .1 .1 .1 .1 .1 .0)) 0 (λ x. x) (as-is 𝓤 H A (mslice (rtF (fInt w32)) (tyRef (named 11) mut (tyInt w32)) 11)) (room-gone 𝓤 H A (tyRef erased mut (tyInt w32))) refl tt refl refl refl (λ b o. tt)) $
+      ghosts _ _ (g-begin 𝓤 H A W E _ 33 _) $
+      stmt _ _ (t-sl-relend 𝓤 H A W E (rtF (fInt w32)) 𝓣 _ 14 72 11 33 (tyRef (named 11) mut (tyInt w32)) (tyRef erased mut (tyInt w32)) (lease (κs .1 .1 .1 .1 .1 .1 .1 .1 .1 .1 .1 .0) (qs .1 .1 .1 .1 .1 .1 .1 .1 .1 .1 .1 .0)) 0 (λ x. x) (as-is 𝓤 H A (mslice (rtF (fInt w32)) (tyRef (named 11) mut (tyInt w32)) 11)) (room-gone 𝓤 H A (tyRef erased mut (tyInt w32))) refl tt refl refl refl (λ b o. tt)) $
       stmt _ (G175 κs qs) (t-sl-aggregate 𝓤 H A W E (rtF (fInt w32)) 𝓣 (asMut (rtF (fInt w32))) _ 72 73 33 (tyRef erased mut (tyInt w32)) (tyRef erased mut (tyInt w32)) (λ x. x) (oFld 14 (field 1 ∷ []) (tyInt w64) 8 (λ v. lenV (v .0))) (as-is 𝓤 H A (msptr (rtF (fInt w32)) (tyRef erased mut (tyInt w32)) 33)) (room-gone 𝓤 H A _) (reads-owed-len 𝓤 H A W (rtF (fInt w32)) (tyRef (named 11) mut (tyInt w32)) 11 33 (lease (κs .1 .1 .1 .1 .1 .1 .1 .1 .1 .1 .1 .0) (qs .1 .1 .1 .1 .1 .1 .1 .1 .1 .1 .1 .0)) 8 refl, refl) refl refl (λ b o k. tt)) $
       last (G175 κs qs) (G31 κs qs) (then W (G175 κs qs) (G206 κs qs) (G31 κs qs) (then W (G175 κs qs) (G206 κs qs) (G206 κs qs) (then W (G175 κs qs) (G205 κs qs) (G206 κs qs) (then W (G175 κs qs) (G204 κs qs) (G205 κs qs) (then W (G175 κs qs) (G202 κs qs) (G204 κs qs) (then W (G175 κs qs) (G202 κs qs) (G202 κs qs) (then W (G175 κs qs) (G201 κs qs) (G202 κs qs) (then W (G175 κs qs) (G200 κs qs) (G201 κs qs) (then W (G175 κs qs) (G198 κs qs) (G200 κs qs) (then W (G175 κs qs) (G198 κs qs) (G198 κs qs) (then W (G175 κs qs) (G197 κs qs) (G198 κs qs) (then W (G175 κs qs) (G196 κs qs) (G197 κs qs) (then W (G175 κs qs) (G194 κs qs) (G196 κs qs) (then W (G175 κs qs) (G194 κs qs) (G194 κs qs) (then W (G175 κs qs) (G193 κs qs) (G194 κs qs) (then W (G175 κs qs) (G192 κs qs) (G193 κs qs) (then W (G175 κs qs) (G191 κs qs) (G192 κs qs) (then W (G175 κs qs) (G190 κs qs) (G191 κs qs) (then W (G175 κs qs) (G189 κs qs) (G190 κs qs) (then W (G175 κs qs) (G188 κs qs) (G189 κs qs) (then W (G175 κs qs) (G187 κs qs) (G188 κs qs) (then W (G175 κs qs) (G186 κs qs) (G187 κs qs) (then W (G175 κs qs) (G185 κs qs) (G186 κs qs) (then W (G175 κs qs) (G184 κs qs) (G185 κs qs) (then W (G175 κs qs) (G183 κs qs) (G184 κs qs) (then W (G175 κs qs) (G182 κs qs) (G183 κs qs) (then W (G175 κs qs) (G181 κs qs) (G182 κs qs) (then W (G175 κs qs) (G180 κs qs) (G181 κs qs) (then W (G175 κs qs) (G179 κs qs) (G180 κs qs) (then W (G175 κs qs) (G178 κs qs) (G179 κs qs) (then W (G175 κs qs) (G177 κs qs) (G178 κs qs) (then W (G175 κs qs) (G176 κs qs) (G177 κs qs) (t-call-plain 𝓤 H A W 𝓣 7 K3.ps K3.r R3.Asked R3.Learnt "ranked_finish::finish_ranked" known3 E (λ pos β. β) (G175 κs qs) (vAt 23 (λ x. x), (vAt 51 (λ x. x), (record { pos = 5; ty = tyRef (named 2) imm (tyInt w64); ref = λ x. x }, (record { pos = 63; ty = tyRef erased imm (tyArray tyBool 256); ref = λ x. x }, (record { pos = 65; ty = tyRef erased imm (tyInt w32); ref = λ x. x }, (vAt 26 (λ x. x), (record { pos = 67; ty = tyRef erased mut (tyInt w16); ref = λ x. x }, (record { pos = 69; ty = tyRef erased mut (tyInt w32); ref = λ x. x }, (record { pos = 71; ty = tyRef erased mut (tyInt w64); ref = λ x. x }, (record { pos = 73; ty = tyRef erased mut (tyInt w32); ref = λ x. x }, tt)))))))))) 37 (2 ∷ 28 ∷ 29 ∷ 30 ∷ 31 ∷ 32 ∷ 33 ∷ []) (sub-id 𝓤 H A W ((G175 κs qs) .slots)) ((reads-sc 𝓤 H A W (sInt w64), refl), ((reads-sc 𝓤 H A W (sInt w64), refl), (spares-sslice 𝓤 H A W (rtF (fInt w64)) (tyRef (named 2) imm (tyInt w64)) 2, reads-sslice 𝓤 H A W (rtF (fInt w64)) (tyRef (named 2) imm (tyInt w64)) 2, refl, (spares-sref 𝓤 H A W (Array (rtF fBool) 256) (tyRef erased imm (tyArray tyBool 256)) 28, reads-sref 𝓤 H A W (Array (rtF fBool) 256) (tyRef erased imm (tyArray tyBool 256)) 28, refl, (spares-sslice 𝓤 H A W (rtF (fInt w32)) (tyRef erased imm (tyInt w32)) 29, reads-sslice 𝓤 H A W (rtF (fInt w32)) (tyRef erased imm (tyInt w32)) 29, refl, ((reads-sc 𝓤 H A W (sInt w64), refl), (as-is 𝓤 H A (mslice (rtF (fInt w16)) (tyRef erased mut (tyInt w16)) 30), reads-mslice 𝓤 H A W (rtF (fInt w16)) (tyRef erased mut (tyInt w16)) 30, refl, (as-is 𝓤 H A (mslice (rtF (fInt w32)) (tyRef erased mut (tyInt w32)) 31), reads-mslice 𝓤 H A W (rtF (fInt w32)) (tyRef erased mut (tyInt w32)) 31, refl, (as-is 𝓤 H A (mslice (rtF (fInt w64)) (tyRef erased mut (tyInt w64)) 32), reads-mslice 𝓤 H A W (rtF (fInt w64)) (tyRef erased mut (tyInt w64)) 32, refl, (as-is 𝓤 H A (mslice (rtF (fInt w32)) (tyRef erased mut (tyInt w32)) 33), reads-mslice 𝓤 H A W (rtF (fInt w32)) (tyRef erased mut (tyInt w32)) 33, refl, tt)))))))))) (room-gone 𝓤 H A _) _ refl) (g-drop-sref 𝓤 H A W E (G176 κs qs) 63 28 (Array (rtF fBool) 256) (tyRef erased imm (tyArray tyBool 256)) (λ x. x) (as-is 𝓤 H A (sref (Array (rtF fBool) 256) (tyRef erased imm (tyArray tyBool 256)) 28)))) (g-room 𝓤 H A W E (G177 κs qs) 65 _ (room-sslice 𝓤 H A W (rtF (fInt w32)) (tyRef erased imm (tyInt w32)) 29))) (g-room 𝓤 H A W E (G178 κs qs) 20 (tyInt w64) (room-sc 𝓤 H A W (sInt w64)))) (g-room 𝓤 H A W E (G179 κs qs) 21 (tyInt w64) (room-sc 𝓤 H A W (sInt w64)))) (g-room 𝓤 H A W E (G180 κs qs) 22 (tyInt w64) (room-sc 𝓤 H A W (sInt w64)))) (g-room 𝓤 H A W E (G181 κs qs) 23 (tyInt w64) (room-sc 𝓤 H A W (sInt w64)))) (g-room 𝓤 H A W E (G182 κs qs) 26 (tyInt w64) (room-sc 𝓤 H A W (sInt w64)))) (g-room 𝓤 H A W E (G183 κs qs) 51 (tyInt w64) (room-sc 𝓤 H A W (sInt w64)))) (g-end 𝓤 H A W E (G184 κs qs) 28 refl)) (g-back-shr 𝓤 H A W E (G185 κs qs) 24 28 (arrF (rtF fBool) 256 0) (Array (rtF fBool) 256) (λ x. x) (λ x. x) (as-is 𝓤 H A (sc-shr (arrF (rtF fBool) 256 0) (Array (rtF fBool) 256) (λ x. x) 28)) (home-of 𝓤 H A (arrF (rtF fBool) 256 0) (Array (rtF fBool) 256) (λ x. x) (λ x. x) (arr-mem 𝓤 H A W (rtF fBool) 256 tt) (λ x k. refl)) refl)) (g-forget 𝓤 H A W E (G186 κs qs) 28 dead refl)) (g-room 𝓤 H A W E (G187 κs qs) 24 (tyArray tyBool 256) (room-arr 𝓤 H A W (rtF fBool) 256 0 256 refl))) (g-end 𝓤 H A W E (G188 κs qs) 29 refl)) (g-back-arr-shr 𝓤 H A W E (rtF (fInt w32)) (G189 κs qs) 25 2556 29 (λ x. x) (as-is 𝓤 H A (arr-shr (rtF (fInt w32)) 2556 29)) refl)) (g-forget 𝓤 H A W E (G190 κs qs) 29 dead refl)) (g-room 𝓤 H A W E (G191 κs qs) 25 (tyArray (tyInt w32) 2556) (room-arr 𝓤 H A W (rtF (fInt w32)) 2556 0 2556 refl))) (g-end 𝓤 H A W E (G192 κs qs) 30 refl)) (g-back-sl 𝓤 H A W E (rtF (fInt w16)) (G193 κs qs) 67 8 5 30 (tyRef (named 5) mut (tyInt w16)) (tyRef erased mut (tyInt w16)) (lease (κs .1 .1 .1 .1 .1 .0) (qs .1 .1 .1 .1 .1 .0)) (λ x. x) (λ x. x) (as-is 𝓤 H A (msleft (rtF (fInt w16)) (tyRef erased mut (tyInt w16)))) (as-is 𝓤 H A (mslice-owed (rtF (fInt w16)) (tyRef (named 5) mut (tyInt w16)) 5 30 (lease (κs .1 .1 .1 .1 .1 .0) (qs .1 .1 .1 .1 .1 .0)))) refl refl)) (g-sl-known 𝓤 H A W (fInt w16) E (G194 κs qs) 8 5 (tyRef (named 5) mut (tyInt w16)) (lease (κs .1 .1 .1 .1 .1 .0) (qs .1 .1 .1 .1 .1 .0)) 0 (λ x. x) record { fits = lit< tt } (as-is 𝓤 H A (mslice (rtF (fInt w16)) (tyRef (named 5) mut (tyInt w16)) 5)) refl tt)) (g-forget 𝓤 H A W E (G194 κs qs) 30 dead refl)) (g-end 𝓤 H A W E (G196 κs qs) 31 refl)) (g-back-sl 𝓤 H A W E (rtF (fInt w32)) (G197 κs qs) 69 9 6 31 (tyRef (named 6) mut (tyInt w32)) (tyRef erased mut (tyInt w32)) (lease (κs .1 .1 .1 .1 .1 .1 .0) (qs .1 .1 .1 .1 .1 .1 .0)) (λ x. x) (λ x. x) (as-is 𝓤 H A (msleft (rtF (fInt w32)) (tyRef erased mut (tyInt w32)))) (as-is 𝓤 H A (mslice-owed (rtF (fInt w32)) (tyRef (named 6) mut (tyInt w32)) 6 31 (lease (κs .1 .1 .1 .1 .1 .1 .0) (qs .1 .1 .1 .1 .1 .1 .0)))) refl refl)) (g-sl-known 𝓤 H A W (fInt w32) E (G198 κs qs) 9 6 (tyRef (named 6) mut (tyInt w32)) (lease (κs .1 .1 .1 .1 .1 .1 .0) (qs .1 .1 .1 .1 .1 .1 .0)) 0 (λ x. x) record { fits = lit< tt } (as-is 𝓤 H A (mslice (rtF (fInt w32)) (tyRef (named 6) mut (tyInt w32)) 6)) refl tt)) (g-forget 𝓤 H A W E (G198 κs qs) 31 dead refl)) (g-end 𝓤 H A W E (G200 κs qs) 32 refl)) (g-back-sl 𝓤 H A W E (rtF (fInt w64)) (G201 κs qs) 71 13 10 32 (tyRef (named 10) mut (tyInt w64)) (tyRef erased mut (tyInt w64)) (lease (κs .1 .1 .1 .1 .1 .1 .1 .1 .1 .1 .0) (qs .1 .1 .1 .1 .1 .1 .1 .1 .1 .1 .0)) (λ x. x) (λ x. x) (as-is 𝓤 H A (msleft (rtF (fInt w64)) (tyRef erased mut (tyInt w64)))) (as-is 𝓤 H A (mslice-owed (rtF (fInt w64)) (tyRef (named 10) mut (tyInt w64)) 10 32 (lease (κs .1 .1 .1 .1 .1 .1 .1 .1 .1 .1 .0) (qs .1 .1 .1 .1 .1 .1 .1 .1 .1 .1 .0)))) refl refl)) (g-sl-known 𝓤 H A W (fInt w64) E (G202 κs qs) 13 10 (tyRef (named 10) mut (tyInt w64)) (lease (κs .1 .1 .1 .1 .1 .1 .1 .1 .1 .1 .0) (qs .1 .1 .1 .1 .1 .1 .1 .1 .1 .1 .0)) 0 (λ x. x) record { fits = lit< tt } (as-is 𝓤 H A (mslice (rtF (fInt w64)) (tyRef (named 10) mut (tyInt w64)) 10)) refl tt)) (g-forget 𝓤 H A W E (G202 κs qs) 32 dead refl)) (g-end 𝓤 H A W E (G204 κs qs) 33 refl)) (g-back-sl 𝓤 H A W E (rtF (fInt w32)) (G205 κs qs) 73 14 11 33 (tyRef (named 11) mut (tyInt w32)) (tyRef erased mut (tyInt w32)) (lease (κs .1 .1 .1 .1 .1 .1 .1 .1 .1 .1 .1 .0) (qs .1 .1 .1 .1 .1 .1 .1 .1 .1 .1 .1 .0)) (λ x. x) (λ x. x) (as-is 𝓤 H A (msleft (rtF (fInt w32)) (tyRef erased mut (tyInt w32)))) (as-is 𝓤 H A (mslice-owed (rtF (fInt w32)) (tyRef (named 11) mut (tyInt w32)) 11 33 (lease (κs .1 .1 .1 .1 .1 .1 .1 .1 .1 .1 .1 .0) (qs .1 .1 .1 .1 .1 .1 .1 .1 .1 .1 .1 .0)))) refl refl)) (g-sl-known 𝓤 H A W (fInt w32) E (G206 κs qs) 14 11 (tyRef (named 11) mut (tyInt w32)) (lease (κs .1 .1 .1 .1 .1 .1 .1 .1 .1 .1 .1 .0) (qs .1 .1 .1 .1 .1 .1 .1 .1 .1 .1 .1 .0)) 0 (λ x. x) record { fits = lit< tt } (as-is 𝓤 H A (mslice (rtF (fInt w32)) (tyRef (named 11) mut (tyInt w32)) 11)) refl tt)) (g-forget 𝓤 H A W E (G206 κs qs) 33 dead refl))
 
@@ -490,59 +448,59 @@ module _ {M : Type 1} (𝓤 : URA M) (H : Heap 𝓤) (A : Atoms 𝓤) (W : Given
   from-marks =
       ghosts (G75 κs qs) _ (g-begin 𝓤 H A W E (G75 κs qs) 20 _) $
       stmt _ _ (t-sl-reshare 𝓤 H A W E twin-0.the-row 𝓣 _ 12 47 9 20 (tyRef (named 9) mut (pointee (twin-0.the-row .written))) (tyRef erased imm (pointee (twin-0.the-row .written))) (lease (κs .1 .1 .1 .1 .1 .1 .1 .1 .1 .0) (qs .1 .1 .1 .1 .1 .1 .1 .1 .1 .0)) 0 (λ x. x) (as-is 𝓤 H A (mslice twin-0.the-row (tyRef (named 9) mut (pointee (twin-0.the-row .written))) 9)) (room-gone 𝓤 H A (tyRef erased imm (pointee (twin-0.the-row .written)))) refl tt refl refl refl (λ b o. tt)) $
-      stmt _ (G100 κs qs) (t-sl-aggregate 𝓤 H A W E twin-0.the-row 𝓣 (asShr twin-0.the-row) _ 47 48 20 (tyRef erased imm (pointee (twin-0.the-row .written))) (tyRef erased imm (pointee (twin-0.the-row .written))) (λ x. x) (oFld 12 (field 1 ∷ []) (tyInt w64) 8 (λ v. lenV (v .0))) (as-is 𝓤 H A (ssptr twin-0.the-row (tyRef erased imm (pointee (twin-0.the-row .written))) 20)) (room-gone 𝓤 H A _) (reads-owedS-len 𝓤 H A W twin-0.the-row (tyRef (named 9) mut (pointee (twin-0.the-row .written))) 9 20 (lease (κs .1 .1 .1 .1 .1 .1 .1 .1 .1 .0) (qs .1 .1 .1 .1 .1 .1 .1 .1 .1 .0)) 8 refl, refl) refl refl (λ b o k. tt)) $
-      ghosts (G100 κs qs) _ (g-begin 𝓤 H A W E (G100 κs qs) 21 _) $
-      stmt _ _ (t-sl-reshare 𝓤 H A W E (rtF (fInt w32)) 𝓣 _ 7 49 4 21 (tyRef (named 4) mut (tyInt w32)) (tyRef erased imm (tyInt w32)) (lease (κs .1 .1 .1 .1 .0) (qs .1 .1 .1 .1 .0)) 0 (λ x. x) (as-is 𝓤 H A (mslice (rtF (fInt w32)) (tyRef (named 4) mut (tyInt w32)) 4)) (room-gone 𝓤 H A (tyRef erased imm (tyInt w32))) refl tt refl refl refl (λ b o. tt)) $
-      stmt _ (G103 κs qs) (t-sl-aggregate 𝓤 H A W E (rtF (fInt w32)) 𝓣 (asShr (rtF (fInt w32))) _ 49 50 21 (tyRef erased imm (tyInt w32)) (tyRef erased imm (tyInt w32)) (λ x. x) (oFld 7 (field 1 ∷ []) (tyInt w64) 8 (λ v. lenV (v .0))) (as-is 𝓤 H A (ssptr (rtF (fInt w32)) (tyRef erased imm (tyInt w32)) 21)) (room-gone 𝓤 H A _) (reads-owedS-len 𝓤 H A W (rtF (fInt w32)) (tyRef (named 4) mut (tyInt w32)) 4 21 (lease (κs .1 .1 .1 .1 .0) (qs .1 .1 .1 .1 .0)) 8 refl, refl) refl refl (λ b o k. tt)) $
-      stmt (G103 κs qs) _ (t-use 𝓤 H A W E 𝓣 (G103 κs qs) (oFld 4 (field 1 ∷ []) (tyInt w64) 8 lenV) 39 (sc-here (sInt w64)) (tyInt w64) (valS (sInt w64)) (sInt w64 .of) (reads-sslice-len 𝓤 H A W (rtF (fInt w64)) (tyRef (named 1) imm (tyInt w64)) 1 8 refl, refl) (room-gone 𝓤 H A (tyInt w64)) (holds-sc 𝓤 H A W (sInt w64)) refl (λ u. refl) (λ u. tt)) $
+      stmt _ _ (t-sl-aggregate 𝓤 H A W E twin-0.the-row 𝓣 (asShr twin-0.the-row) _ 47 48 20 (tyRef erased imm (pointee (twin-0.the-row .written))) (tyRef erased imm (pointee (twin-0.the-row .written))) (λ x. x) (oFld 12 (field 1 ∷ []) (tyInt w64) 8 (λ v. lenV (v .0))) (as-is 𝓤 H A (ssptr twin-0.the-row (tyRef erased imm (pointee (twin-0.the-row .written))) 20)) (room-gone 𝓤 H A _) (reads-owedS-len 𝓤 H A W twin-0.the-row (tyRef (named 9) mut (pointee (twin-0.the-row .written))) 9 20 (lease (κs .1 .1 .1 .1 .1 .1 .1 .1 .1 .0) (qs .1 .1 .1 .1 .1 .1 .1 .1 .1 .0)) 8 refl, refl) refl refl (λ b o k. tt)) $
+      ghosts _ _ (g-begin 𝓤 H A W E _ 21 _) $
+      stmt _ (G102 κs qs) (t-sl-reshare 𝓤 H A W E (rtF (fInt w32)) 𝓣 _ 7 49 4 21 (tyRef (named 4) mut (tyInt w32)) (tyRef erased imm (tyInt w32)) (lease (κs .1 .1 .1 .1 .0) (qs .1 .1 .1 .1 .0)) 0 (λ x. x) (as-is 𝓤 H A (mslice (rtF (fInt w32)) (tyRef (named 4) mut (tyInt w32)) 4)) (room-gone 𝓤 H A (tyRef erased imm (tyInt w32))) refl tt refl refl refl (λ b o. tt)) $
+      stmt (G102 κs qs) _ (t-sl-aggregate 𝓤 H A W E (rtF (fInt w32)) 𝓣 (asShr (rtF (fInt w32))) (G102 κs qs) 49 50 21 (tyRef erased imm (tyInt w32)) (tyRef erased imm (tyInt w32)) (λ x. x) (oFld 7 (field 1 ∷ []) (tyInt w64) 8 (λ v. lenV (v .0))) (as-is 𝓤 H A (ssptr (rtF (fInt w32)) (tyRef erased imm (tyInt w32)) 21)) (room-gone 𝓤 H A _) (reads-owedS-len 𝓤 H A W (rtF (fInt w32)) (tyRef (named 4) mut (tyInt w32)) 4 21 (lease (κs .1 .1 .1 .1 .0) (qs .1 .1 .1 .1 .0)) 8 refl, refl) refl refl (λ b o k. tt)) $
+      stmt _ _ (t-use 𝓤 H A W E 𝓣 _ (oFld 4 (field 1 ∷ []) (tyInt w64) 8 lenV) 39 (sc-here (sInt w64)) (tyInt w64) (valS (sInt w64)) (sInt w64 .of) (reads-sslice-len 𝓤 H A W (rtF (fInt w64)) (tyRef (named 1) imm (tyInt w64)) 1 8 refl, refl) (room-gone 𝓤 H A (tyInt w64)) (holds-sc 𝓤 H A W (sInt w64)) refl (λ u. refl) (λ u. tt)) $
       stmt _ _ (t-op2 𝓤 H A W E 𝓣 _ (div unsigned) (oAt 39 (tyInt w64) (valS (sInt w64))) (oInt w64 _) 51 (sc-here (sInt w64)) (tyInt w64) (valS (sInt w64)) (sInt w64 .of) (reads-sc 𝓤 H A W (sInt w64), refl) tt (room-gone 𝓤 H A (tyInt w64)) (holds-sc 𝓤 H A W (sInt w64)) refl (λ u. refl) (λ u. tt)) $
-      ghosts _ (G106 κs qs) (g-room 𝓤 H A W E _ 39 (tyInt w64) (room-sc 𝓤 H A W (sInt w64))) $
-      ghosts (G106 κs qs) _ (g-begin 𝓤 H A W E (G106 κs qs) 22 _) $
-      stmt _ _ (t-sl-reshare 𝓤 H A W E (rtF (fInt w32)) 𝓣 _ 10 52 7 22 (tyRef (named 7) mut (tyInt w32)) (tyRef erased imm (tyInt w32)) (lease (κs .1 .1 .1 .1 .1 .1 .1 .0) (qs .1 .1 .1 .1 .1 .1 .1 .0)) 0 (λ x. x) (as-is 𝓤 H A (mslice (rtF (fInt w32)) (tyRef (named 7) mut (tyInt w32)) 7)) (room-gone 𝓤 H A (tyRef erased imm (tyInt w32))) refl tt refl refl refl (λ b o. tt)) $
-      stmt _ (G109 κs qs) (t-sl-aggregate 𝓤 H A W E (rtF (fInt w32)) 𝓣 (asShr (rtF (fInt w32))) _ 52 53 22 (tyRef erased imm (tyInt w32)) (tyRef erased imm (tyInt w32)) (λ x. x) (oFld 10 (field 1 ∷ []) (tyInt w64) 8 (λ v. lenV (v .0))) (as-is 𝓤 H A (ssptr (rtF (fInt w32)) (tyRef erased imm (tyInt w32)) 22)) (room-gone 𝓤 H A _) (reads-owedS-len 𝓤 H A W (rtF (fInt w32)) (tyRef (named 7) mut (tyInt w32)) 7 22 (lease (κs .1 .1 .1 .1 .1 .1 .1 .0) (qs .1 .1 .1 .1 .1 .1 .1 .0)) 8 refl, refl) refl refl (λ b o k. tt)) $
-      ghosts (G109 κs qs) _ (g-begin 𝓤 H A W E (G109 κs qs) 23 _) $
+      ghosts _ _ (g-room 𝓤 H A W E _ 39 (tyInt w64) (room-sc 𝓤 H A W (sInt w64))) $
+      ghosts _ (G107 κs qs) (g-begin 𝓤 H A W E _ 22 _) $
+      stmt (G107 κs qs) _ (t-sl-reshare 𝓤 H A W E (rtF (fInt w32)) 𝓣 (G107 κs qs) 10 52 7 22 (tyRef (named 7) mut (tyInt w32)) (tyRef erased imm (tyInt w32)) (lease (κs .1 .1 .1 .1 .1 .1 .1 .0) (qs .1 .1 .1 .1 .1 .1 .1 .0)) 0 (λ x. x) (as-is 𝓤 H A (mslice (rtF (fInt w32)) (tyRef (named 7) mut (tyInt w32)) 7)) (room-gone 𝓤 H A (tyRef erased imm (tyInt w32))) refl tt refl refl refl (λ b o. tt)) $
+      stmt _ _ (t-sl-aggregate 𝓤 H A W E (rtF (fInt w32)) 𝓣 (asShr (rtF (fInt w32))) _ 52 53 22 (tyRef erased imm (tyInt w32)) (tyRef erased imm (tyInt w32)) (λ x. x) (oFld 10 (field 1 ∷ []) (tyInt w64) 8 (λ v. lenV (v .0))) (as-is 𝓤 H A (ssptr (rtF (fInt w32)) (tyRef erased imm (tyInt w32)) 22)) (room-gone 𝓤 H A _) (reads-owedS-len 𝓤 H A W (rtF (fInt w32)) (tyRef (named 7) mut (tyInt w32)) 7 22 (lease (κs .1 .1 .1 .1 .1 .1 .1 .0) (qs .1 .1 .1 .1 .1 .1 .1 .0)) 8 refl, refl) refl refl (λ b o k. tt)) $
+      ghosts _ _ (g-begin 𝓤 H A W E _ 23 _) $
       stmt _ _ (t-sl-reshare 𝓤 H A W E (rtF (fInt w32)) 𝓣 _ 11 54 8 23 (tyRef (named 8) mut (tyInt w32)) (tyRef erased imm (tyInt w32)) (lease (κs .1 .1 .1 .1 .1 .1 .1 .1 .0) (qs .1 .1 .1 .1 .1 .1 .1 .1 .0)) 0 (λ x. x) (as-is 𝓤 H A (mslice (rtF (fInt w32)) (tyRef (named 8) mut (tyInt w32)) 8)) (room-gone 𝓤 H A (tyRef erased imm (tyInt w32))) refl tt refl refl refl (λ b o. tt)) $
       stmt _ (G112 κs qs) (t-sl-aggregate 𝓤 H A W E (rtF (fInt w32)) 𝓣 (asShr (rtF (fInt w32))) _ 54 55 23 (tyRef erased imm (tyInt w32)) (tyRef erased imm (tyInt w32)) (λ x. x) (oFld 11 (field 1 ∷ []) (tyInt w64) 8 (λ v. lenV (v .0))) (as-is 𝓤 H A (ssptr (rtF (fInt w32)) (tyRef erased imm (tyInt w32)) 23)) (room-gone 𝓤 H A _) (reads-owedS-len 𝓤 H A W (rtF (fInt w32)) (tyRef (named 8) mut (tyInt w32)) 8 23 (lease (κs .1 .1 .1 .1 .1 .1 .1 .1 .0) (qs .1 .1 .1 .1 .1 .1 .1 .1 .0)) 8 refl, refl) refl refl (λ b o k. tt)) $
       ghosts (G112 κs qs) _ (g-begin 𝓤 H A W E (G112 κs qs) 24 _) $
       stmt _ _ (t-sl-relend 𝓤 H A W E (rtF (fInt w16)) 𝓣 _ 8 56 5 24 (tyRef (named 5) mut (tyInt w16)) (tyRef erased mut (tyInt w16)) (lease (κs .1 .1 .1 .1 .1 .0) (qs .1 .1 .1 .1 .1 .0)) 0 (λ x. x) (as-is 𝓤 H A (mslice (rtF (fInt w16)) (tyRef (named 5) mut (tyInt w16)) 5)) (room-gone 𝓤 H A (tyRef erased mut (tyInt w16))) refl tt refl refl refl (λ b o. tt)) $
-      stmt _ (G115 κs qs) (t-sl-aggregate 𝓤 H A W E (rtF (fInt w16)) 𝓣 (asMut (rtF (fInt w16))) _ 56 57 24 (tyRef erased mut (tyInt w16)) (tyRef erased mut (tyInt w16)) (λ x. x) (oFld 8 (field 1 ∷ []) (tyInt w64) 8 (λ v. lenV (v .0))) (as-is 𝓤 H A (msptr (rtF (fInt w16)) (tyRef erased mut (tyInt w16)) 24)) (room-gone 𝓤 H A _) (reads-owed-len 𝓤 H A W (rtF (fInt w16)) (tyRef (named 5) mut (tyInt w16)) 5 24 (lease (κs .1 .1 .1 .1 .1 .0) (qs .1 .1 .1 .1 .1 .0)) 8 refl, refl) refl refl (λ b o k. tt)) $
-      ghosts (G115 κs qs) _ (g-begin 𝓤 H A W E (G115 κs qs) 25 _) $
-      stmt _ _ (t-sl-relend 𝓤 H A W E (rtF (fInt w32)) 𝓣 _ 9 58 6 25 (tyRef (named 6) mut (tyInt w32)) (tyRef erased mut (tyInt w32)) (lease (κs .1 .1 .1 .1 .1 .1 .0) (qs .1 .1 .1 .1 .1 .1 .0)) 0 (λ x. x) (as-is 𝓤 H A (mslice (rtF (fInt w32)) (tyRef (named 6) mut (tyInt w32)) 6)) (room-gone 𝓤 H A (tyRef erased mut (tyInt w32))) refl tt refl refl refl (λ b o. tt)) $
-      stmt _ (G118 κs qs) (t-sl-aggregate 𝓤 H A W E (rtF (fInt w32)) 𝓣 (asMut (rtF (fInt w32))) _ 58 59 25 (tyRef erased mut (tyInt w32)) (tyRef erased mut (tyInt w32)) (λ x. x) (oFld 9 (field 1 ∷ []) (tyInt w64) 8 (λ v. lenV (v .0))) (as-is 𝓤 H A (msptr (rtF (fInt w32)) (tyRef erased mut (tyInt w32)) 25)) (room-gone 𝓤 H A _) (reads-owed-len 𝓤 H A W (rtF (fInt w32)) (tyRef (named 6) mut (tyInt w32)) 6 25 (lease (κs .1 .1 .1 .1 .1 .1 .0) (qs .1 .1 .1 .1 .1 .1 .0)) 8 refl, refl) refl refl (λ b o k. tt)) $
-      ghosts (G118 κs qs) _ (g-begin 𝓤 H A W E (G118 κs qs) 26 _) $
+      stmt _ _ (t-sl-aggregate 𝓤 H A W E (rtF (fInt w16)) 𝓣 (asMut (rtF (fInt w16))) _ 56 57 24 (tyRef erased mut (tyInt w16)) (tyRef erased mut (tyInt w16)) (λ x. x) (oFld 8 (field 1 ∷ []) (tyInt w64) 8 (λ v. lenV (v .0))) (as-is 𝓤 H A (msptr (rtF (fInt w16)) (tyRef erased mut (tyInt w16)) 24)) (room-gone 𝓤 H A _) (reads-owed-len 𝓤 H A W (rtF (fInt w16)) (tyRef (named 5) mut (tyInt w16)) 5 24 (lease (κs .1 .1 .1 .1 .1 .0) (qs .1 .1 .1 .1 .1 .0)) 8 refl, refl) refl refl (λ b o k. tt)) $
+      ghosts _ _ (g-begin 𝓤 H A W E _ 25 _) $
+      stmt _ (G117 κs qs) (t-sl-relend 𝓤 H A W E (rtF (fInt w32)) 𝓣 _ 9 58 6 25 (tyRef (named 6) mut (tyInt w32)) (tyRef erased mut (tyInt w32)) (lease (κs .1 .1 .1 .1 .1 .1 .0) (qs .1 .1 .1 .1 .1 .1 .0)) 0 (λ x. x) (as-is 𝓤 H A (mslice (rtF (fInt w32)) (tyRef (named 6) mut (tyInt w32)) 6)) (room-gone 𝓤 H A (tyRef erased mut (tyInt w32))) refl tt refl refl refl (λ b o. tt)) $
+      stmt (G117 κs qs) _ (t-sl-aggregate 𝓤 H A W E (rtF (fInt w32)) 𝓣 (asMut (rtF (fInt w32))) (G117 κs qs) 58 59 25 (tyRef erased mut (tyInt w32)) (tyRef erased mut (tyInt w32)) (λ x. x) (oFld 9 (field 1 ∷ []) (tyInt w64) 8 (λ v. lenV (v .0))) (as-is 𝓤 H A (msptr (rtF (fInt w32)) (tyRef erased mut (tyInt w32)) 25)) (room-gone 𝓤 H A _) (reads-owed-len 𝓤 H A W (rtF (fInt w32)) (tyRef (named 6) mut (tyInt w32)) 6 25 (lease (κs .1 .1 .1 .1 .1 .1 .0) (qs .1 .1 .1 .1 .1 .1 .0)) 8 refl, refl) refl refl (λ b o k. tt)) $
+      ghosts _ _ (g-begin 𝓤 H A W E _ 26 _) $
       stmt _ _ (t-sc-borrow 𝓤 H A W E 𝓣 _ 24 60 26 (Array (rtF fBool) 256) (tyRef erased mut (tyArray tyBool 256)) (λ x. x) (mem-arr 𝓤 H A W (rtF fBool) 256) (room-gone 𝓤 H A (tyRef erased mut (tyArray tyBool 256))) refl (λ b o. tt)) $
-      ghosts _ (G121 κs qs) (g-begin 𝓤 H A W E _ 27 _) $
-      stmt (G121 κs qs) _ (t-arr-borrow 𝓤 H A W E 𝓣 (rtF (fInt w32)) (G121 κs qs) 25 61 2556 27 (tyRef erased mut (tyArray (tyInt w32) 2556)) (λ x. x) (as-is 𝓤 H A (arrF (rtF (fInt w32)) 2556 0)) (room-gone 𝓤 H A (tyRef erased mut (tyArray (tyInt w32) 2556))) refl (λ b o. tt) (lit< tt, lit< tt)) $
-      stmt _ (G123 κs qs) (t-sl-aggregate 𝓤 H A W E (rtF (fInt w32)) 𝓣 (asMut (rtF (fInt w32))) _ 61 62 27 (tyRef erased mut (tyArray (tyInt w32) 2556)) (tyRef erased mut (tyInt w32)) (λ x. x) (oBig w64 2556) (as-is 𝓤 H A (msptr (rtF (fInt w32)) (tyRef erased mut (tyArray (tyInt w32) 2556)) 27)) (room-gone 𝓤 H A _) record { lower = record { fits = lit< tt } } refl refl (λ b o k. tt)) $
+      ghosts _ _ (g-begin 𝓤 H A W E _ 27 _) $
+      stmt _ (G122 κs qs) (t-arr-borrow 𝓤 H A W E 𝓣 (rtF (fInt w32)) _ 25 61 2556 27 (tyRef erased mut (tyArray (tyInt w32) 2556)) (λ x. x) (as-is 𝓤 H A (arrF (rtF (fInt w32)) 2556 0)) (room-gone 𝓤 H A (tyRef erased mut (tyArray (tyInt w32) 2556))) refl (λ b o. tt) (lit< tt, lit< tt)) $
+      stmt (G122 κs qs) (G123 κs qs) (t-sl-aggregate 𝓤 H A W E (rtF (fInt w32)) 𝓣 (asMut (rtF (fInt w32))) (G122 κs qs) 61 62 27 (tyRef erased mut (tyArray (tyInt w32) 2556)) (tyRef erased mut (tyInt w32)) (λ x. x) (oBig w64 2556) (as-is 𝓤 H A (msptr (rtF (fInt w32)) (tyRef erased mut (tyArray (tyInt w32) 2556)) 27)) (room-gone 𝓤 H A _) record { lower = record { fits = lit< tt } } refl refl (λ b o k. tt)) $
       stmt (G123 κs qs) (G124 κs qs) (t-call-plain 𝓤 H A W 𝓣 10 K2.ps K2.r K2.Asked K2.Learnt "topology::ranked::mark_ranked" known2 E (λ pos β. β) (G123 κs qs) (record { pos = 48; ty = tyRef erased imm (pointee (twin-0.the-row .written)); ref = λ x. x }, (vAt 22 (λ x. x), (vAt 23 (λ x. x), (record { pos = 50; ty = tyRef erased imm (tyInt w32); ref = λ x. x }, (record { pos = 6; ty = tyRef (named 3) imm (tyInt w64); ref = λ x. x }, (vAt 20 (λ x. x), (vAt 21 (λ x. x), (vAt 51 (λ x. x), (record { pos = 5; ty = tyRef (named 2) imm (tyInt w64); ref = λ x. x }, (record { pos = 53; ty = tyRef erased imm (tyInt w32); ref = λ x. x }, (record { pos = 55; ty = tyRef erased imm (tyInt w32); ref = λ x. x }, (record { pos = 57; ty = tyRef erased mut (tyInt w16); ref = λ x. x }, (record { pos = 59; ty = tyRef erased mut (tyInt w32); ref = λ x. x }, (record { pos = 60; ty = tyRef erased mut (tyArray tyBool 256); ref = λ x. x }, (record { pos = 62; ty = tyRef erased mut (tyInt w32); ref = λ x. x }, tt))))))))))))))) 26 (20 ∷ 21 ∷ 3 ∷ 2 ∷ 22 ∷ 23 ∷ 24 ∷ 25 ∷ 26 ∷ 27 ∷ []) (sub-id 𝓤 H A W ((G123 κs qs) .slots)) (spares-sslice 𝓤 H A W twin-0.the-row (tyRef erased imm (pointee (twin-0.the-row .written))) 20, reads-sslice 𝓤 H A W twin-0.the-row (tyRef erased imm (pointee (twin-0.the-row .written))) 20, refl, ((reads-sc 𝓤 H A W (sInt w64), refl), ((reads-sc 𝓤 H A W (sInt w64), refl), (spares-sslice 𝓤 H A W (rtF (fInt w32)) (tyRef erased imm (tyInt w32)) 21, reads-sslice 𝓤 H A W (rtF (fInt w32)) (tyRef erased imm (tyInt w32)) 21, refl, (spares-sslice 𝓤 H A W (rtF (fInt w64)) (tyRef (named 3) imm (tyInt w64)) 3, reads-sslice 𝓤 H A W (rtF (fInt w64)) (tyRef (named 3) imm (tyInt w64)) 3, refl, ((reads-sc 𝓤 H A W (sInt w64), refl), ((reads-sc 𝓤 H A W (sInt w64), refl), ((reads-sc 𝓤 H A W (sInt w64), refl), (spares-sslice 𝓤 H A W (rtF (fInt w64)) (tyRef (named 2) imm (tyInt w64)) 2, reads-sslice 𝓤 H A W (rtF (fInt w64)) (tyRef (named 2) imm (tyInt w64)) 2, refl, (spares-sslice 𝓤 H A W (rtF (fInt w32)) (tyRef erased imm (tyInt w32)) 22, reads-sslice 𝓤 H A W (rtF (fInt w32)) (tyRef erased imm (tyInt w32)) 22, refl, (spares-sslice 𝓤 H A W (rtF (fInt w32)) (tyRef erased imm (tyInt w32)) 23, reads-sslice 𝓤 H A W (rtF (fInt w32)) (tyRef erased imm (tyInt w32)) 23, refl, (as-is 𝓤 H A (mslice (rtF (fInt w16)) (tyRef erased mut (tyInt w16)) 24), reads-mslice 𝓤 H A W (rtF (fInt w16)) (tyRef erased mut (tyInt w16)) 24, refl, (as-is 𝓤 H A (mslice (rtF (fInt w32)) (tyRef erased mut (tyInt w32)) 25), reads-mslice 𝓤 H A W (rtF (fInt w32)) (tyRef erased mut (tyInt w32)) 25, refl, (as-is 𝓤 H A (mref (Array (rtF fBool) 256) (tyRef erased mut (tyArray tyBool 256)) 26), reads-mref 𝓤 H A W (Array (rtF fBool) 256) (tyRef erased mut (tyArray tyBool 256)) 26, refl, (as-is 𝓤 H A (mslice (rtF (fInt w32)) (tyRef erased mut (tyInt w32)) 27), reads-mslice 𝓤 H A W (rtF (fInt w32)) (tyRef erased mut (tyInt w32)) 27, refl, tt))))))))))))))) (room-gone 𝓤 H A (tyInt w64)) _ refl) $
       ghosts (G124 κs qs) _ (g-room 𝓤 H A W E (G124 κs qs) 48 _ (room-sslice 𝓤 H A W twin-0.the-row (tyRef erased imm (pointee (twin-0.the-row .written))) 20)) $
       ghosts _ _ (g-room 𝓤 H A W E _ 50 _ (room-sslice 𝓤 H A W (rtF (fInt w32)) (tyRef erased imm (tyInt w32)) 21)) $
-      ghosts _ (G127 κs qs) (g-room 𝓤 H A W E _ 53 _ (room-sslice 𝓤 H A W (rtF (fInt w32)) (tyRef erased imm (tyInt w32)) 22)) $
-      ghosts (G127 κs qs) _ (g-room 𝓤 H A W E (G127 κs qs) 55 _ (room-sslice 𝓤 H A W (rtF (fInt w32)) (tyRef erased imm (tyInt w32)) 23)) $
-      ghosts _ _ (g-room 𝓤 H A W E _ 51 (tyInt w64) (room-sc 𝓤 H A W (sInt w64))) $
-      ghosts _ (G130 κs qs) (g-end 𝓤 H A W E _ 20 refl) $
-      ghosts (G130 κs qs) _ (g-back-sl-shr 𝓤 H A W E twin-0.the-row (G130 κs qs) 12 9 20 (tyRef (named 9) mut (pointee (twin-0.the-row .written))) (lease (κs .1 .1 .1 .1 .1 .1 .1 .1 .1 .0) (qs .1 .1 .1 .1 .1 .1 .1 .1 .1 .0)) (λ x. x) (as-is 𝓤 H A (mslice-owedS twin-0.the-row (tyRef (named 9) mut (pointee (twin-0.the-row .written))) 9 20 (lease (κs .1 .1 .1 .1 .1 .1 .1 .1 .1 .0) (qs .1 .1 .1 .1 .1 .1 .1 .1 .1 .0)))) refl refl) $
+      ghosts _ _ (g-room 𝓤 H A W E _ 53 _ (room-sslice 𝓤 H A W (rtF (fInt w32)) (tyRef erased imm (tyInt w32)) 22)) $
+      ghosts _ _ (g-room 𝓤 H A W E _ 55 _ (room-sslice 𝓤 H A W (rtF (fInt w32)) (tyRef erased imm (tyInt w32)) 23)) $
+      ghosts _ (G129 κs qs) (g-room 𝓤 H A W E _ 51 (tyInt w64) (room-sc 𝓤 H A W (sInt w64))) $
+      ghosts (G129 κs qs) _ (g-end 𝓤 H A W E (G129 κs qs) 20 refl) $
+      ghosts _ _ (g-back-sl-shr 𝓤 H A W E twin-0.the-row _ 12 9 20 (tyRef (named 9) mut (pointee (twin-0.the-row .written))) (lease (κs .1 .1 .1 .1 .1 .1 .1 .1 .1 .0) (qs .1 .1 .1 .1 .1 .1 .1 .1 .1 .0)) (λ x. x) (as-is 𝓤 H A (mslice-owedS twin-0.the-row (tyRef (named 9) mut (pointee (twin-0.the-row .written))) 9 20 (lease (κs .1 .1 .1 .1 .1 .1 .1 .1 .1 .0) (qs .1 .1 .1 .1 .1 .1 .1 .1 .1 .0)))) refl refl) $
       ghosts _ _ (g-forget 𝓤 H A W E _ 20 dead refl) $
-      ghosts _ (G133 κs qs) (g-end 𝓤 H A W E _ 21 refl) $
-      ghosts (G133 κs qs) _ (g-back-sl-shr 𝓤 H A W E (rtF (fInt w32)) (G133 κs qs) 7 4 21 (tyRef (named 4) mut (tyInt w32)) (lease (κs .1 .1 .1 .1 .0) (qs .1 .1 .1 .1 .0)) (λ x. x) (as-is 𝓤 H A (mslice-owedS (rtF (fInt w32)) (tyRef (named 4) mut (tyInt w32)) 4 21 (lease (κs .1 .1 .1 .1 .0) (qs .1 .1 .1 .1 .0)))) refl refl) $
-      ghosts _ _ (g-forget 𝓤 H A W E _ 21 dead refl) $
-      ghosts _ (G136 κs qs) (g-end 𝓤 H A W E _ 22 refl) $
-      ghosts (G136 κs qs) _ (g-back-sl-shr 𝓤 H A W E (rtF (fInt w32)) (G136 κs qs) 10 7 22 (tyRef (named 7) mut (tyInt w32)) (lease (κs .1 .1 .1 .1 .1 .1 .1 .0) (qs .1 .1 .1 .1 .1 .1 .1 .0)) (λ x. x) (as-is 𝓤 H A (mslice-owedS (rtF (fInt w32)) (tyRef (named 7) mut (tyInt w32)) 7 22 (lease (κs .1 .1 .1 .1 .1 .1 .1 .0) (qs .1 .1 .1 .1 .1 .1 .1 .0)))) refl refl) $
+      ghosts _ _ (g-end 𝓤 H A W E _ 21 refl) $
+      ghosts _ (G134 κs qs) (g-back-sl-shr 𝓤 H A W E (rtF (fInt w32)) _ 7 4 21 (tyRef (named 4) mut (tyInt w32)) (lease (κs .1 .1 .1 .1 .0) (qs .1 .1 .1 .1 .0)) (λ x. x) (as-is 𝓤 H A (mslice-owedS (rtF (fInt w32)) (tyRef (named 4) mut (tyInt w32)) 4 21 (lease (κs .1 .1 .1 .1 .0) (qs .1 .1 .1 .1 .0)))) refl refl) $
+      ghosts (G134 κs qs) _ (g-forget 𝓤 H A W E (G134 κs qs) 21 dead refl) $
+      ghosts _ _ (g-end 𝓤 H A W E _ 22 refl) $
+      ghosts _ _ (g-back-sl-shr 𝓤 H A W E (rtF (fInt w32)) _ 10 7 22 (tyRef (named 7) mut (tyInt w32)) (lease (κs .1 .1 .1 .1 .1 .1 .1 .0) (qs .1 .1 .1 .1 .1 .1 .1 .0)) (λ x. x) (as-is 𝓤 H A (mslice-owedS (rtF (fInt w32)) (tyRef (named 7) mut (tyInt w32)) 7 22 (lease (κs .1 .1 .1 .1 .1 .1 .1 .0) (qs .1 .1 .1 .1 .1 .1 .1 .0)))) refl refl) $
       ghosts _ _ (g-forget 𝓤 H A W E _ 22 dead refl) $
       ghosts _ (G139 κs qs) (g-end 𝓤 H A W E _ 23 refl) $
       ghosts (G139 κs qs) _ (g-back-sl-shr 𝓤 H A W E (rtF (fInt w32)) (G139 κs qs) 11 8 23 (tyRef (named 8) mut (tyInt w32)) (lease (κs .1 .1 .1 .1 .1 .1 .1 .1 .0) (qs .1 .1 .1 .1 .1 .1 .1 .1 .0)) (λ x. x) (as-is 𝓤 H A (mslice-owedS (rtF (fInt w32)) (tyRef (named 8) mut (tyInt w32)) 8 23 (lease (κs .1 .1 .1 .1 .1 .1 .1 .1 .0) (qs .1 .1 .1 .1 .1 .1 .1 .1 .0)))) refl refl) $
       ghosts _ _ (g-forget 𝓤 H A W E _ 23 dead refl) $
-      ghosts _ (G142 κs qs) (g-end 𝓤 H A W E _ 24 refl) $
-      ghosts (G142 κs qs) _ (g-back-sl 𝓤 H A W E (rtF (fInt w16)) (G142 κs qs) 57 8 5 24 (tyRef (named 5) mut (tyInt w16)) (tyRef erased mut (tyInt w16)) (lease (κs .1 .1 .1 .1 .1 .0) (qs .1 .1 .1 .1 .1 .0)) (λ x. x) (λ x. x) (as-is 𝓤 H A (msleft (rtF (fInt w16)) (tyRef erased mut (tyInt w16)))) (as-is 𝓤 H A (mslice-owed (rtF (fInt w16)) (tyRef (named 5) mut (tyInt w16)) 5 24 (lease (κs .1 .1 .1 .1 .1 .0) (qs .1 .1 .1 .1 .1 .0)))) refl refl) $
-      ghosts _ _ (g-forget 𝓤 H A W E _ 24 dead refl) $
-      ghosts _ (G146 κs qs) (g-end 𝓤 H A W E _ 25 refl) $
-      ghosts (G146 κs qs) _ (g-back-sl 𝓤 H A W E (rtF (fInt w32)) (G146 κs qs) 59 9 6 25 (tyRef (named 6) mut (tyInt w32)) (tyRef erased mut (tyInt w32)) (lease (κs .1 .1 .1 .1 .1 .1 .0) (qs .1 .1 .1 .1 .1 .1 .0)) (λ x. x) (λ x. x) (as-is 𝓤 H A (msleft (rtF (fInt w32)) (tyRef erased mut (tyInt w32)))) (as-is 𝓤 H A (mslice-owed (rtF (fInt w32)) (tyRef (named 6) mut (tyInt w32)) 6 25 (lease (κs .1 .1 .1 .1 .1 .1 .0) (qs .1 .1 .1 .1 .1 .1 .0)))) refl refl) $
+      ghosts _ _ (g-end 𝓤 H A W E _ 24 refl) $
+      ghosts _ _ (g-back-sl 𝓤 H A W E (rtF (fInt w16)) _ 57 8 5 24 (tyRef (named 5) mut (tyInt w16)) (tyRef erased mut (tyInt w16)) (lease (κs .1 .1 .1 .1 .1 .0) (qs .1 .1 .1 .1 .1 .0)) (λ x. x) (λ x. x) (as-is 𝓤 H A (msleft (rtF (fInt w16)) (tyRef erased mut (tyInt w16)))) (as-is 𝓤 H A (mslice-owed (rtF (fInt w16)) (tyRef (named 5) mut (tyInt w16)) 5 24 (lease (κs .1 .1 .1 .1 .1 .0) (qs .1 .1 .1 .1 .1 .0)))) refl refl) $
+      ghosts _ (G145 κs qs) (g-forget 𝓤 H A W E _ 24 dead refl) $
+      ghosts (G145 κs qs) _ (g-end 𝓤 H A W E (G145 κs qs) 25 refl) $
+      ghosts _ _ (g-back-sl 𝓤 H A W E (rtF (fInt w32)) _ 59 9 6 25 (tyRef (named 6) mut (tyInt w32)) (tyRef erased mut (tyInt w32)) (lease (κs .1 .1 .1 .1 .1 .1 .0) (qs .1 .1 .1 .1 .1 .1 .0)) (λ x. x) (λ x. x) (as-is 𝓤 H A (msleft (rtF (fInt w32)) (tyRef erased mut (tyInt w32)))) (as-is 𝓤 H A (mslice-owed (rtF (fInt w32)) (tyRef (named 6) mut (tyInt w32)) 6 25 (lease (κs .1 .1 .1 .1 .1 .1 .0) (qs .1 .1 .1 .1 .1 .1 .0)))) refl refl) $
       ghosts _ _ (g-forget 𝓤 H A W E _ 25 dead refl) $
-      ghosts _ (G150 κs qs) (g-end 𝓤 H A W E _ 26 refl) $
-      ghosts (G150 κs qs) _ (g-back-sc 𝓤 H A W E (G150 κs qs) 60 24 26 (Array (rtF fBool) 256) (tyRef erased mut (tyArray tyBool 256)) (arrF (rtF fBool) 256 0) (λ x. x) (λ x. x) (λ x. x) (as-is 𝓤 H A (mleft (Array (rtF fBool) 256) (tyRef erased mut (tyArray tyBool 256)))) (as-is 𝓤 H A (sc-owed (Array (rtF fBool) 256) 26)) (arr-mem 𝓤 H A W (rtF fBool) 256 tt) refl) $
-      ghosts _ _ (g-forget 𝓤 H A W E _ 26 dead refl) $
-      ghosts _ (G153 κs qs) (g-end 𝓤 H A W E _ 27 refl) $
-      ghosts (G153 κs qs) _ (g-back-arr 𝓤 H A W E (rtF (fInt w32)) (G153 κs qs) 62 25 27 2556 (tyRef erased mut (tyInt w32)) (λ x. x) (λ x. x) (as-is 𝓤 H A (msleft (rtF (fInt w32)) (tyRef erased mut (tyInt w32)))) (as-is 𝓤 H A (arr-owed (rtF (fInt w32)) 2556 27)) refl) $
+      ghosts _ _ (g-end 𝓤 H A W E _ 26 refl) $
+      ghosts _ (G151 κs qs) (g-back-sc 𝓤 H A W E _ 60 24 26 (Array (rtF fBool) 256) (tyRef erased mut (tyArray tyBool 256)) (arrF (rtF fBool) 256 0) (λ x. x) (λ x. x) (λ x. x) (as-is 𝓤 H A (mleft (Array (rtF fBool) 256) (tyRef erased mut (tyArray tyBool 256)))) (as-is 𝓤 H A (sc-owed (Array (rtF fBool) 256) 26)) (arr-mem 𝓤 H A W (rtF fBool) 256 tt) refl) $
+      ghosts (G151 κs qs) _ (g-forget 𝓤 H A W E (G151 κs qs) 26 dead refl) $
+      ghosts _ _ (g-end 𝓤 H A W E _ 27 refl) $
+      ghosts _ _ (g-back-arr 𝓤 H A W E (rtF (fInt w32)) _ 62 25 27 2556 (tyRef erased mut (tyInt w32)) (λ x. x) (λ x. x) (as-is 𝓤 H A (msleft (rtF (fInt w32)) (tyRef erased mut (tyInt w32)))) (as-is 𝓤 H A (arr-owed (rtF (fInt w32)) 2556 27)) refl) $
       ghosts _ (G155 κs qs) (g-forget 𝓤 H A W E _ 27 dead refl) $
       from-finish
 
@@ -553,44 +511,44 @@ module _ {M : Type 1} (𝓤 : URA M) (H : Heap 𝓤) (A : Atoms 𝓤) (W : Given
             ghosts (G52 κs qs) (G52 κs qs) (g-known-told 𝓤 H A W E enum 0 (G52 κs qs) 17 Laws.the-laws (λ x. x) (as-is 𝓤 H A (whole (Known enum 0)))) $
             stmt (G52 κs qs) _ (t-use 𝓤 H A W E 𝓣 (G52 κs qs) (oFld 17 (variant 0 ∷ field 1 ∷ []) (tyInt w64) 8 (λ v. Laws.the-laws .0 .0 .val (v .0))) 18 (sc-here (sInt w64)) (tyInt w64) (valS (sInt w64)) (sInt w64 .of) (reads-payload 𝓤 H A W enum Laws.the-laws 0 refl refl (λ v. vcons (Laws.the-laws .0 .0 .val (v .0)) (vcons (Laws.the-laws .0 .1 .0 .val (v .1 .0)) vnil)) (λ v. refl) 0 (tyInt w64) 8 refl, refl) (room-gone 𝓤 H A (tyInt w64)) (holds-sc 𝓤 H A W (sInt w64)) refl (λ u. refl) (λ u. tt)) $
             stmt _ _ (t-use 𝓤 H A W E 𝓣 _ (oFld 17 (variant 0 ∷ field 2 ∷ []) (tyInt w64) 16 (λ v. Laws.the-laws .0 .1 .0 .val (v .1 .0))) 19 (sc-here (sInt w64)) (tyInt w64) (valS (sInt w64)) (sInt w64 .of) (reads-payload 𝓤 H A W enum Laws.the-laws 0 refl refl (λ v. vcons (Laws.the-laws .0 .0 .val (v .0)) (vcons (Laws.the-laws .0 .1 .0 .val (v .1 .0)) vnil)) (λ v. refl) 1 (tyInt w64) 16 refl, refl) (room-gone 𝓤 H A (tyInt w64)) (holds-sc 𝓤 H A W (sInt w64)) refl (λ u. refl) (λ u. tt)) $
-            ghosts _ (G56 κs qs) (g-room 𝓤 H A W E _ 17 _ (room-whole 𝓤 H A W (Known enum 0) _ refl)) $
-            stmt (G56 κs qs) (G57 κs qs) (t-use 𝓤 H A W E 𝓣 (G56 κs qs) (oAt 19 (tyInt w64) (valS (sInt w64))) 38 (sc-here (sInt w64)) (tyInt w64) (valS (sInt w64)) (sInt w64 .of) (reads-sc 𝓤 H A W (sInt w64), refl) (room-gone 𝓤 H A (tyInt w64)) (holds-sc 𝓤 H A W (sInt w64)) refl (λ u. refl) (λ u. tt)) $
+            ghosts _ _ (g-room 𝓤 H A W E _ 17 _ (room-whole 𝓤 H A W (Known enum 0) _ refl)) $
+            stmt _ (G57 κs qs) (t-use 𝓤 H A W E 𝓣 _ (oAt 19 (tyInt w64) (valS (sInt w64))) 38 (sc-here (sInt w64)) (tyInt w64) (valS (sInt w64)) (sInt w64 .of) (reads-sc 𝓤 H A W (sInt w64), refl) (room-gone 𝓤 H A (tyInt w64)) (holds-sc 𝓤 H A W (sInt w64)) refl (λ u. refl) (λ u. tt)) $
             last (G57 κs qs) (G31 κs qs) (then W (G57 κs qs) (G61 κs qs) (G31 κs qs) (then W (G57 κs qs) (G60 κs qs) (G61 κs qs) (then W (G57 κs qs) (G59 κs qs) (G60 κs qs) (then W (G57 κs qs) (G58 κs qs) (G59 κs qs) (t-struct-make 𝓤 H A W E 𝓣 (apartT RankedAnswer.the-type) Laws'.the-laws Laws'.the-plain (G57 κs qs) 37 (oAt 18 (tyInt w64) (valS (sInt w64)) ∷ oAt 38 (tyInt w64) (valS (sInt w64)) ∷ oInt w64 _ ∷ []) (λ m. (m .1 .1 .1 .1 .1 .1 .1 .1 .1 .1 .1 .1 .1 .1 .1 .1 .1 .1 .0, (m .1 .1 .1 .1 .1 .1 .1 .1 .1 .1 .1 .1 .1 .1 .1 .1 .1 .1 .1 .1 .1 .1 .1 .1 .1 .1 .1 .1 .1 .1 .1 .1 .1 .1 .1 .1 .1 .1 .0, (_, tt)))) (room-gone 𝓤 H A _) ((reads-sc 𝓤 H A W (sInt w64), refl), ((reads-sc 𝓤 H A W (sInt w64), refl), _)) refl (λ u. refl) (λ m. is-wt (apartT RankedAnswer.the-type) Laws'.the-laws (u64-wt, (u64-wt, (u64-wt, tt))) (m .1 .1 .1 .1 .1 .1 .1 .1 .1 .1 .1 .1 .1 .1 .1 .1 .1 .1 .0, (m .1 .1 .1 .1 .1 .1 .1 .1 .1 .1 .1 .1 .1 .1 .1 .1 .1 .1 .1 .1 .1 .1 .1 .1 .1 .1 .1 .1 .1 .1 .1 .1 .1 .1 .1 .1 .1 .1 .0, (_, tt))))) (g-room 𝓤 H A W E (G58 κs qs) 18 (tyInt w64) (room-sc 𝓤 H A W (sInt w64)))) (g-room 𝓤 H A W E (G59 κs qs) 19 (tyInt w64) (room-sc 𝓤 H A W (sInt w64)))) (g-room 𝓤 H A W E (G60 κs qs) 38 (tyInt w64) (room-sc 𝓤 H A W (sInt w64)))) (g-as-by 𝓤 H A W E (λ ρ. Unit) (G61 κs qs) 37 (whole (Declared'.row RankedAnswer.the-type)) (λ v. struct .make v tt) (told-none 𝓤 H A ((G61 κs qs) .slots)) (λ ρ told v b. folds 𝓤 H A RankedAnswer.the-type (struct .Ghost) (struct .make) (λ v g. refl) ρ v tt b))),
         (
           ghosts (G51 κs qs) (G63 κs qs) (g-enum-known 𝓤 H A W E enum 1 (G51 κs qs) 17 (λ x. x) (as-is 𝓤 H A (whole (Declared.row Prepared.the-type)))) $
               ghosts (G63 κs qs) (G63 κs qs) (g-known-told 𝓤 H A W E enum 1 (G63 κs qs) 17 Laws.the-laws (λ x. x) (as-is 𝓤 H A (whole (Known enum 1)))) $
               stmt (G63 κs qs) _ (t-use 𝓤 H A W E 𝓣 (G63 κs qs) (oFld 17 (variant 1 ∷ field 1 ∷ []) (tyInt w64) 8 (λ v. Laws.the-laws .1 .0 .0 .val (v .0))) 20 (sc-here (sInt w64)) (tyInt w64) (valS (sInt w64)) (sInt w64 .of) (reads-payload 𝓤 H A W enum Laws.the-laws 1 refl refl (λ v. vcons (Laws.the-laws .1 .0 .0 .val (v .0)) (vcons (Laws.the-laws .1 .0 .1 .0 .val (v .1 .0)) vnil)) (λ v. refl) 0 (tyInt w64) 8 refl, refl) (room-gone 𝓤 H A (tyInt w64)) (holds-sc 𝓤 H A W (sInt w64)) refl (λ u. refl) (λ u. tt)) $
               stmt _ _ (t-use 𝓤 H A W E 𝓣 _ (oFld 17 (variant 1 ∷ field 2 ∷ []) (tyInt w64) 16 (λ v. Laws.the-laws .1 .0 .1 .0 .val (v .1 .0))) 21 (sc-here (sInt w64)) (tyInt w64) (valS (sInt w64)) (sInt w64 .of) (reads-payload 𝓤 H A W enum Laws.the-laws 1 refl refl (λ v. vcons (Laws.the-laws .1 .0 .0 .val (v .0)) (vcons (Laws.the-laws .1 .0 .1 .0 .val (v .1 .0)) vnil)) (λ v. refl) 1 (tyInt w64) 16 refl, refl) (room-gone 𝓤 H A (tyInt w64)) (holds-sc 𝓤 H A W (sInt w64)) refl (λ u. refl) (λ u. tt)) $
-              ghosts _ (G67 κs qs) (g-room 𝓤 H A W E _ 17 _ (room-whole 𝓤 H A W (Known enum 1) _ refl)) $
-              stmt (G67 κs qs) _ (t-use 𝓤 H A W E 𝓣 (G67 κs qs) (oAt 1 (tyInt w64) (valS (sInt w64))) 22 (sc-here (sInt w64)) (tyInt w64) (valS (sInt w64)) (sInt w64 .of) (reads-sc 𝓤 H A W (sInt w64), refl) (room-gone 𝓤 H A (tyInt w64)) (holds-sc 𝓤 H A W (sInt w64)) refl (λ u. refl) (λ u. tt)) $
-              stmt _ _ (t-use 𝓤 H A W E 𝓣 _ (oAt 2 (tyInt w64) (valS (sInt w64))) 39 (sc-here (sInt w64)) (tyInt w64) (valS (sInt w64)) (sInt w64 .of) (reads-sc 𝓤 H A W (sInt w64), refl) (room-gone 𝓤 H A (tyInt w64)) (holds-sc 𝓤 H A W (sInt w64)) refl (λ u. refl) (λ u. tt)) $
-              stmt _ (G70 κs qs) (t-op2 𝓤 H A W E 𝓣 _ (mul unsigned) (oAt 39 (tyInt w64) (valS (sInt w64))) (oAt 22 (tyInt w64) (valS (sInt w64))) 23 (sc-here (sInt w64)) (tyInt w64) (valS (sInt w64)) (sInt w64 .of) (reads-sc 𝓤 H A W (sInt w64), refl) (reads-sc 𝓤 H A W (sInt w64), refl) (room-gone 𝓤 H A (tyInt w64)) (holds-sc 𝓤 H A W (sInt w64)) refl (λ u. refl) (λ u. tt)) $
-              ghosts (G70 κs qs) _ (g-room 𝓤 H A W E (G70 κs qs) 39 (tyInt w64) (room-sc 𝓤 H A W (sInt w64))) $
+              ghosts _ _ (g-room 𝓤 H A W E _ 17 _ (room-whole 𝓤 H A W (Known enum 1) _ refl)) $
+              stmt _ _ (t-use 𝓤 H A W E 𝓣 _ (oAt 1 (tyInt w64) (valS (sInt w64))) 22 (sc-here (sInt w64)) (tyInt w64) (valS (sInt w64)) (sInt w64 .of) (reads-sc 𝓤 H A W (sInt w64), refl) (room-gone 𝓤 H A (tyInt w64)) (holds-sc 𝓤 H A W (sInt w64)) refl (λ u. refl) (λ u. tt)) $
+              stmt _ (G69 κs qs) (t-use 𝓤 H A W E 𝓣 _ (oAt 2 (tyInt w64) (valS (sInt w64))) 39 (sc-here (sInt w64)) (tyInt w64) (valS (sInt w64)) (sInt w64 .of) (reads-sc 𝓤 H A W (sInt w64), refl) (room-gone 𝓤 H A (tyInt w64)) (holds-sc 𝓤 H A W (sInt w64)) refl (λ u. refl) (λ u. tt)) $
+              stmt (G69 κs qs) _ (t-op2 𝓤 H A W E 𝓣 (G69 κs qs) (mul unsigned) (oAt 39 (tyInt w64) (valS (sInt w64))) (oAt 22 (tyInt w64) (valS (sInt w64))) 23 (sc-here (sInt w64)) (tyInt w64) (valS (sInt w64)) (sInt w64 .of) (reads-sc 𝓤 H A W (sInt w64), refl) (reads-sc 𝓤 H A W (sInt w64), refl) (room-gone 𝓤 H A (tyInt w64)) (holds-sc 𝓤 H A W (sInt w64)) refl (λ u. refl) (λ u. tt)) $
+              ghosts _ _ (g-room 𝓤 H A W E _ 39 (tyInt w64) (room-sc 𝓤 H A W (sInt w64))) $
               stmt _ (G72 κs qs) (t-repeat 𝓤 H A W E 𝓣 (rtF fBool) (bool-lawful 𝓤 H A W) (cRf fBool .copy 𝓤 H A W) (bool-makes 𝓤 H A W) 256 _ 24 (oBool false) (λ m. false) (room-gone 𝓤 H A (tyArray tyBool 256)) tt refl (λ m wa. refl)) $
               ghosts (G72 κs qs) _ (g-as-by 𝓤 H A W E (λ ρ. Unit) (G72 κs qs) 24 (arrF (rtF fBool) 256 0) (λ x. x) (told-none 𝓤 H A ((G72 κs qs) .slots)) (λ ρ told. whole-arr 𝓤 H A W (rtF fBool) 256 tt ρ)) $
               stmt _ (G74 κs qs) (t-repeat 𝓤 H A W E 𝓣 (rtF (fInt w32)) (uint-lawful 𝓤 H A W w32) (cRf (fInt w32) .copy 𝓤 H A W) (uint-makes 𝓤 H A W w32) 2556 _ 25 (oInt w32 _) (λ m. 0) (room-gone 𝓤 H A (tyArray (tyInt w32) 2556)) tt refl (λ m wa. (refl, lit< tt))) $
               ghosts (G74 κs qs) (G75 κs qs) (g-as-by 𝓤 H A W E (λ ρ. Unit) (G74 κs qs) 25 (arrF (rtF (fInt w32)) 2556 0) (λ x. x) (told-none 𝓤 H A ((G74 κs qs) .slots)) (λ ρ told. whole-arr 𝓤 H A W (rtF (fInt w32)) 2556 tt ρ)) $
               ghosts (G75 κs qs) _ (g-begin 𝓤 H A W E (G75 κs qs) 17 _) $
               stmt _ _ (t-sl-relend 𝓤 H A W E twin-0.the-row 𝓣 _ 12 41 9 17 (tyRef (named 9) mut (pointee (twin-0.the-row .written))) (tyRef erased mut (pointee (twin-0.the-row .written))) (lease (κs .1 .1 .1 .1 .1 .1 .1 .1 .1 .0) (qs .1 .1 .1 .1 .1 .1 .1 .1 .1 .0)) 0 (λ x. x) (as-is 𝓤 H A (mslice twin-0.the-row (tyRef (named 9) mut (pointee (twin-0.the-row .written))) 9)) (room-gone 𝓤 H A (tyRef erased mut (pointee (twin-0.the-row .written)))) refl tt refl refl refl (λ b o. tt)) $
-              stmt _ (G78 κs qs) (t-sl-aggregate 𝓤 H A W E twin-0.the-row 𝓣 (asMut twin-0.the-row) _ 41 42 17 (tyRef erased mut (pointee (twin-0.the-row .written))) (tyRef erased mut (pointee (twin-0.the-row .written))) (λ x. x) (oFld 12 (field 1 ∷ []) (tyInt w64) 8 (λ v. lenV (v .0))) (as-is 𝓤 H A (msptr twin-0.the-row (tyRef erased mut (pointee (twin-0.the-row .written))) 17)) (room-gone 𝓤 H A _) (reads-owed-len 𝓤 H A W twin-0.the-row (tyRef (named 9) mut (pointee (twin-0.the-row .written))) 9 17 (lease (κs .1 .1 .1 .1 .1 .1 .1 .1 .1 .0) (qs .1 .1 .1 .1 .1 .1 .1 .1 .1 .0)) 8 refl, refl) refl refl (λ b o k. tt)) $
-              ghosts (G78 κs qs) _ (g-begin 𝓤 H A W E (G78 κs qs) 18 _) $
-              stmt _ _ (t-sl-reshare 𝓤 H A W E (rtF (fInt w32)) 𝓣 _ 7 43 4 18 (tyRef (named 4) mut (tyInt w32)) (tyRef erased imm (tyInt w32)) (lease (κs .1 .1 .1 .1 .0) (qs .1 .1 .1 .1 .0)) 0 (λ x. x) (as-is 𝓤 H A (mslice (rtF (fInt w32)) (tyRef (named 4) mut (tyInt w32)) 4)) (room-gone 𝓤 H A (tyRef erased imm (tyInt w32))) refl tt refl refl refl (λ b o. tt)) $
-              stmt _ (G81 κs qs) (t-sl-aggregate 𝓤 H A W E (rtF (fInt w32)) 𝓣 (asShr (rtF (fInt w32))) _ 43 44 18 (tyRef erased imm (tyInt w32)) (tyRef erased imm (tyInt w32)) (λ x. x) (oFld 7 (field 1 ∷ []) (tyInt w64) 8 (λ v. lenV (v .0))) (as-is 𝓤 H A (ssptr (rtF (fInt w32)) (tyRef erased imm (tyInt w32)) 18)) (room-gone 𝓤 H A _) (reads-owedS-len 𝓤 H A W (rtF (fInt w32)) (tyRef (named 4) mut (tyInt w32)) 4 18 (lease (κs .1 .1 .1 .1 .0) (qs .1 .1 .1 .1 .0)) 8 refl, refl) refl refl (λ b o k. tt)) $
-              ghosts (G81 κs qs) _ (g-begin 𝓤 H A W E (G81 κs qs) 19 _) $
+              stmt _ _ (t-sl-aggregate 𝓤 H A W E twin-0.the-row 𝓣 (asMut twin-0.the-row) _ 41 42 17 (tyRef erased mut (pointee (twin-0.the-row .written))) (tyRef erased mut (pointee (twin-0.the-row .written))) (λ x. x) (oFld 12 (field 1 ∷ []) (tyInt w64) 8 (λ v. lenV (v .0))) (as-is 𝓤 H A (msptr twin-0.the-row (tyRef erased mut (pointee (twin-0.the-row .written))) 17)) (room-gone 𝓤 H A _) (reads-owed-len 𝓤 H A W twin-0.the-row (tyRef (named 9) mut (pointee (twin-0.the-row .written))) 9 17 (lease (κs .1 .1 .1 .1 .1 .1 .1 .1 .1 .0) (qs .1 .1 .1 .1 .1 .1 .1 .1 .1 .0)) 8 refl, refl) refl refl (λ b o k. tt)) $
+              ghosts _ _ (g-begin 𝓤 H A W E _ 18 _) $
+              stmt _ (G80 κs qs) (t-sl-reshare 𝓤 H A W E (rtF (fInt w32)) 𝓣 _ 7 43 4 18 (tyRef (named 4) mut (tyInt w32)) (tyRef erased imm (tyInt w32)) (lease (κs .1 .1 .1 .1 .0) (qs .1 .1 .1 .1 .0)) 0 (λ x. x) (as-is 𝓤 H A (mslice (rtF (fInt w32)) (tyRef (named 4) mut (tyInt w32)) 4)) (room-gone 𝓤 H A (tyRef erased imm (tyInt w32))) refl tt refl refl refl (λ b o. tt)) $
+              stmt (G80 κs qs) _ (t-sl-aggregate 𝓤 H A W E (rtF (fInt w32)) 𝓣 (asShr (rtF (fInt w32))) (G80 κs qs) 43 44 18 (tyRef erased imm (tyInt w32)) (tyRef erased imm (tyInt w32)) (λ x. x) (oFld 7 (field 1 ∷ []) (tyInt w64) 8 (λ v. lenV (v .0))) (as-is 𝓤 H A (ssptr (rtF (fInt w32)) (tyRef erased imm (tyInt w32)) 18)) (room-gone 𝓤 H A _) (reads-owedS-len 𝓤 H A W (rtF (fInt w32)) (tyRef (named 4) mut (tyInt w32)) 4 18 (lease (κs .1 .1 .1 .1 .0) (qs .1 .1 .1 .1 .0)) 8 refl, refl) refl refl (λ b o k. tt)) $
+              ghosts _ _ (g-begin 𝓤 H A W E _ 19 _) $
               stmt _ _ (t-sl-reshare 𝓤 H A W E (rtF (fInt w32)) 𝓣 _ 9 45 6 19 (tyRef (named 6) mut (tyInt w32)) (tyRef erased imm (tyInt w32)) (lease (κs .1 .1 .1 .1 .1 .1 .0) (qs .1 .1 .1 .1 .1 .1 .0)) 0 (λ x. x) (as-is 𝓤 H A (mslice (rtF (fInt w32)) (tyRef (named 6) mut (tyInt w32)) 6)) (room-gone 𝓤 H A (tyRef erased imm (tyInt w32))) refl tt refl refl refl (λ b o. tt)) $
               stmt _ (G84 κs qs) (t-sl-aggregate 𝓤 H A W E (rtF (fInt w32)) 𝓣 (asShr (rtF (fInt w32))) _ 45 46 19 (tyRef erased imm (tyInt w32)) (tyRef erased imm (tyInt w32)) (λ x. x) (oFld 9 (field 1 ∷ []) (tyInt w64) 8 (λ v. lenV (v .0))) (as-is 𝓤 H A (ssptr (rtF (fInt w32)) (tyRef erased imm (tyInt w32)) 19)) (room-gone 𝓤 H A _) (reads-owedS-len 𝓤 H A W (rtF (fInt w32)) (tyRef (named 6) mut (tyInt w32)) 6 19 (lease (κs .1 .1 .1 .1 .1 .1 .0) (qs .1 .1 .1 .1 .1 .1 .0)) 8 refl, refl) refl refl (λ b o k. tt)) $
               stmt (G84 κs qs) (G85 κs qs) (t-call-plain 𝓤 H A W 𝓣 4 K1.ps K1.r K1.Asked K1.Learnt "topology::records::fill" known1 E (λ pos β. β) (G84 κs qs) (record { pos = 42; ty = tyRef erased mut (pointee (twin-0.the-row .written)); ref = λ x. x }, (vAt 20 (λ x. x), (vAt 22 (λ x. x), (record { pos = 3; ty = tyRef (named 0) imm (tyInt w8); ref = λ x. x }, (record { pos = 44; ty = tyRef erased imm (tyInt w32); ref = λ x. x }, (record { pos = 46; ty = tyRef erased imm (tyInt w32); ref = λ x. x }, tt)))))) 40 (17 ∷ 0 ∷ 18 ∷ 19 ∷ []) (sub-id 𝓤 H A W ((G84 κs qs) .slots)) (as-is 𝓤 H A (mslice twin-0.the-row (tyRef erased mut (pointee (twin-0.the-row .written))) 17), reads-mslice 𝓤 H A W twin-0.the-row (tyRef erased mut (pointee (twin-0.the-row .written))) 17, refl, ((reads-sc 𝓤 H A W (sInt w64), refl), ((reads-sc 𝓤 H A W (sInt w64), refl), (spares-sslice 𝓤 H A W (rtF (fInt w8)) (tyRef (named 0) imm (tyInt w8)) 0, reads-sslice 𝓤 H A W (rtF (fInt w8)) (tyRef (named 0) imm (tyInt w8)) 0, refl, (spares-sslice 𝓤 H A W (rtF (fInt w32)) (tyRef erased imm (tyInt w32)) 18, reads-sslice 𝓤 H A W (rtF (fInt w32)) (tyRef erased imm (tyInt w32)) 18, refl, (spares-sslice 𝓤 H A W (rtF (fInt w32)) (tyRef erased imm (tyInt w32)) 19, reads-sslice 𝓤 H A W (rtF (fInt w32)) (tyRef erased imm (tyInt w32)) 19, refl, tt)))))) (room-gone 𝓤 H A tyUnit) _ refl) $
               ghosts (G85 κs qs) _ (g-room 𝓤 H A W E (G85 κs qs) 44 _ (room-sslice 𝓤 H A W (rtF (fInt w32)) (tyRef erased imm (tyInt w32)) 18)) $
               ghosts _ _ (g-room 𝓤 H A W E _ 46 _ (room-sslice 𝓤 H A W (rtF (fInt w32)) (tyRef erased imm (tyInt w32)) 19)) $
-              ghosts _ (G88 κs qs) (g-room 𝓤 H A W E _ 40 tyUnit (room-sc 𝓤 H A W sUnit)) $
-              ghosts (G88 κs qs) _ (g-end 𝓤 H A W E (G88 κs qs) 17 refl) $
-              ghosts _ _ (g-back-sl 𝓤 H A W E twin-0.the-row _ 42 12 9 17 (tyRef (named 9) mut (pointee (twin-0.the-row .written))) (tyRef erased mut (pointee (twin-0.the-row .written))) (lease (κs .1 .1 .1 .1 .1 .1 .1 .1 .1 .0) (qs .1 .1 .1 .1 .1 .1 .1 .1 .1 .0)) (λ x. x) (λ x. x) (as-is 𝓤 H A (msleft twin-0.the-row (tyRef erased mut (pointee (twin-0.the-row .written))))) (as-is 𝓤 H A (mslice-owed twin-0.the-row (tyRef (named 9) mut (pointee (twin-0.the-row .written))) 9 17 (lease (κs .1 .1 .1 .1 .1 .1 .1 .1 .1 .0) (qs .1 .1 .1 .1 .1 .1 .1 .1 .1 .0)))) refl refl) $
-              ghosts _ (G91 κs qs) (g-forget 𝓤 H A W E _ 17 dead refl) $
-              ghosts (G91 κs qs) _ (g-end 𝓤 H A W E (G91 κs qs) 18 refl) $
+              ghosts _ _ (g-room 𝓤 H A W E _ 40 tyUnit (room-sc 𝓤 H A W sUnit)) $
+              ghosts _ _ (g-end 𝓤 H A W E _ 17 refl) $
+              ghosts _ (G90 κs qs) (g-back-sl 𝓤 H A W E twin-0.the-row _ 42 12 9 17 (tyRef (named 9) mut (pointee (twin-0.the-row .written))) (tyRef erased mut (pointee (twin-0.the-row .written))) (lease (κs .1 .1 .1 .1 .1 .1 .1 .1 .1 .0) (qs .1 .1 .1 .1 .1 .1 .1 .1 .1 .0)) (λ x. x) (λ x. x) (as-is 𝓤 H A (msleft twin-0.the-row (tyRef erased mut (pointee (twin-0.the-row .written))))) (as-is 𝓤 H A (mslice-owed twin-0.the-row (tyRef (named 9) mut (pointee (twin-0.the-row .written))) 9 17 (lease (κs .1 .1 .1 .1 .1 .1 .1 .1 .1 .0) (qs .1 .1 .1 .1 .1 .1 .1 .1 .1 .0)))) refl refl) $
+              ghosts (G90 κs qs) _ (g-forget 𝓤 H A W E (G90 κs qs) 17 dead refl) $
+              ghosts _ _ (g-end 𝓤 H A W E _ 18 refl) $
               ghosts _ _ (g-back-sl-shr 𝓤 H A W E (rtF (fInt w32)) _ 7 4 18 (tyRef (named 4) mut (tyInt w32)) (lease (κs .1 .1 .1 .1 .0) (qs .1 .1 .1 .1 .0)) (λ x. x) (as-is 𝓤 H A (mslice-owedS (rtF (fInt w32)) (tyRef (named 4) mut (tyInt w32)) 4 18 (lease (κs .1 .1 .1 .1 .0) (qs .1 .1 .1 .1 .0)))) refl refl) $
-              ghosts _ (G94 κs qs) (g-forget 𝓤 H A W E _ 18 dead refl) $
-              ghosts (G94 κs qs) _ (g-end 𝓤 H A W E (G94 κs qs) 19 refl) $
-              ghosts _ _ (g-back-sl-shr 𝓤 H A W E (rtF (fInt w32)) _ 9 6 19 (tyRef (named 6) mut (tyInt w32)) (lease (κs .1 .1 .1 .1 .1 .1 .0) (qs .1 .1 .1 .1 .1 .1 .0)) (λ x. x) (as-is 𝓤 H A (mslice-owedS (rtF (fInt w32)) (tyRef (named 6) mut (tyInt w32)) 6 19 (lease (κs .1 .1 .1 .1 .1 .1 .0) (qs .1 .1 .1 .1 .1 .1 .0)))) refl refl) $
+              ghosts _ _ (g-forget 𝓤 H A W E _ 18 dead refl) $
+              ghosts _ (G95 κs qs) (g-end 𝓤 H A W E _ 19 refl) $
+              ghosts (G95 κs qs) _ (g-back-sl-shr 𝓤 H A W E (rtF (fInt w32)) (G95 κs qs) 9 6 19 (tyRef (named 6) mut (tyInt w32)) (lease (κs .1 .1 .1 .1 .1 .1 .0) (qs .1 .1 .1 .1 .1 .1 .0)) (λ x. x) (as-is 𝓤 H A (mslice-owedS (rtF (fInt w32)) (tyRef (named 6) mut (tyInt w32)) 6 19 (lease (κs .1 .1 .1 .1 .1 .1 .0) (qs .1 .1 .1 .1 .1 .1 .0)))) refl refl) $
               ghosts _ (G75 κs qs) (g-forget 𝓤 H A W E _ 19 dead refl) $
               from-marks,
           tt,
@@ -601,17 +559,17 @@ module _ {M : Type 1} (𝓤 : URA M) (H : Heap 𝓤) (A : Atoms 𝓤) (W : Given
   d =
       stmt (G0 κs qs) _ (t-use 𝓤 H A W E 𝓣 (G0 κs qs) (oFld 12 (field 1 ∷ []) (tyInt w64) 8 lenV) 15 (sc-here (sInt w64)) (tyInt w64) (valS (sInt w64)) (sInt w64 .of) (reads-mslice-len 𝓤 H A W twin-0.the-row (tyRef (named 9) mut (pointee (twin-0.the-row .written))) 9 8 refl, refl) (room-gone 𝓤 H A (tyInt w64)) (holds-sc 𝓤 H A W (sInt w64)) refl (λ u. refl) (λ u. tt)) $
       stmt _ _ (t-use 𝓤 H A W E 𝓣 _ (oFld 13 (field 1 ∷ []) (tyInt w64) 8 lenV) 16 (sc-here (sInt w64)) (tyInt w64) (valS (sInt w64)) (sInt w64 .of) (reads-mslice-len 𝓤 H A W (rtF (fInt w64)) (tyRef (named 10) mut (tyInt w64)) 10 8 refl, refl) (room-gone 𝓤 H A (tyInt w64)) (holds-sc 𝓤 H A W (sInt w64)) refl (λ u. refl) (λ u. tt)) $
-      ghosts _ (G15 κs qs) (g-begin 𝓤 H A W E _ 12 _) $
-      stmt (G15 κs qs) _ (t-sl-relend 𝓤 H A W E (rtF (fInt w32)) 𝓣 (G15 κs qs) 7 27 4 12 (tyRef (named 4) mut (tyInt w32)) (tyRef erased mut (tyInt w32)) (lease (κs .1 .1 .1 .1 .0) (qs .1 .1 .1 .1 .0)) 0 (λ x. x) (as-is 𝓤 H A (mslice (rtF (fInt w32)) (tyRef (named 4) mut (tyInt w32)) 4)) (room-gone 𝓤 H A (tyRef erased mut (tyInt w32))) refl tt refl refl refl (λ b o. tt)) $
-      stmt _ _ (t-sl-aggregate 𝓤 H A W E (rtF (fInt w32)) 𝓣 (asMut (rtF (fInt w32))) _ 27 28 12 (tyRef erased mut (tyInt w32)) (tyRef erased mut (tyInt w32)) (λ x. x) (oFld 7 (field 1 ∷ []) (tyInt w64) 8 (λ v. lenV (v .0))) (as-is 𝓤 H A (msptr (rtF (fInt w32)) (tyRef erased mut (tyInt w32)) 12)) (room-gone 𝓤 H A _) (reads-owed-len 𝓤 H A W (rtF (fInt w32)) (tyRef (named 4) mut (tyInt w32)) 4 12 (lease (κs .1 .1 .1 .1 .0) (qs .1 .1 .1 .1 .0)) 8 refl, refl) refl refl (λ b o k. tt)) $
-      ghosts _ (G18 κs qs) (g-begin 𝓤 H A W E _ 13 _) $
-      stmt (G18 κs qs) _ (t-sl-relend 𝓤 H A W E (rtF (fInt w16)) 𝓣 (G18 κs qs) 8 29 5 13 (tyRef (named 5) mut (tyInt w16)) (tyRef erased mut (tyInt w16)) (lease (κs .1 .1 .1 .1 .1 .0) (qs .1 .1 .1 .1 .1 .0)) 0 (λ x. x) (as-is 𝓤 H A (mslice (rtF (fInt w16)) (tyRef (named 5) mut (tyInt w16)) 5)) (room-gone 𝓤 H A (tyRef erased mut (tyInt w16))) refl tt refl refl refl (λ b o. tt)) $
+      ghosts _ _ (g-begin 𝓤 H A W E _ 12 _) $
+      stmt _ _ (t-sl-relend 𝓤 H A W E (rtF (fInt w32)) 𝓣 _ 7 27 4 12 (tyRef (named 4) mut (tyInt w32)) (tyRef erased mut (tyInt w32)) (lease (κs .1 .1 .1 .1 .0) (qs .1 .1 .1 .1 .0)) 0 (λ x. x) (as-is 𝓤 H A (mslice (rtF (fInt w32)) (tyRef (named 4) mut (tyInt w32)) 4)) (room-gone 𝓤 H A (tyRef erased mut (tyInt w32))) refl tt refl refl refl (λ b o. tt)) $
+      stmt _ (G17 κs qs) (t-sl-aggregate 𝓤 H A W E (rtF (fInt w32)) 𝓣 (asMut (rtF (fInt w32))) _ 27 28 12 (tyRef erased mut (tyInt w32)) (tyRef erased mut (tyInt w32)) (λ x. x) (oFld 7 (field 1 ∷ []) (tyInt w64) 8 (λ v. lenV (v .0))) (as-is 𝓤 H A (msptr (rtF (fInt w32)) (tyRef erased mut (tyInt w32)) 12)) (room-gone 𝓤 H A _) (reads-owed-len 𝓤 H A W (rtF (fInt w32)) (tyRef (named 4) mut (tyInt w32)) 4 12 (lease (κs .1 .1 .1 .1 .0) (qs .1 .1 .1 .1 .0)) 8 refl, refl) refl refl (λ b o k. tt)) $
+      ghosts (G17 κs qs) _ (g-begin 𝓤 H A W E (G17 κs qs) 13 _) $
+      stmt _ _ (t-sl-relend 𝓤 H A W E (rtF (fInt w16)) 𝓣 _ 8 29 5 13 (tyRef (named 5) mut (tyInt w16)) (tyRef erased mut (tyInt w16)) (lease (κs .1 .1 .1 .1 .1 .0) (qs .1 .1 .1 .1 .1 .0)) 0 (λ x. x) (as-is 𝓤 H A (mslice (rtF (fInt w16)) (tyRef (named 5) mut (tyInt w16)) 5)) (room-gone 𝓤 H A (tyRef erased mut (tyInt w16))) refl tt refl refl refl (λ b o. tt)) $
       stmt _ _ (t-sl-aggregate 𝓤 H A W E (rtF (fInt w16)) 𝓣 (asMut (rtF (fInt w16))) _ 29 30 13 (tyRef erased mut (tyInt w16)) (tyRef erased mut (tyInt w16)) (λ x. x) (oFld 8 (field 1 ∷ []) (tyInt w64) 8 (λ v. lenV (v .0))) (as-is 𝓤 H A (msptr (rtF (fInt w16)) (tyRef erased mut (tyInt w16)) 13)) (room-gone 𝓤 H A _) (reads-owed-len 𝓤 H A W (rtF (fInt w16)) (tyRef (named 5) mut (tyInt w16)) 5 13 (lease (κs .1 .1 .1 .1 .1 .0) (qs .1 .1 .1 .1 .1 .0)) 8 refl, refl) refl refl (λ b o k. tt)) $
-      ghosts _ (G21 κs qs) (g-begin 𝓤 H A W E _ 14 _) $
-      stmt (G21 κs qs) _ (t-sl-relend 𝓤 H A W E (rtF (fInt w32)) 𝓣 (G21 κs qs) 9 31 6 14 (tyRef (named 6) mut (tyInt w32)) (tyRef erased mut (tyInt w32)) (lease (κs .1 .1 .1 .1 .1 .1 .0) (qs .1 .1 .1 .1 .1 .1 .0)) 0 (λ x. x) (as-is 𝓤 H A (mslice (rtF (fInt w32)) (tyRef (named 6) mut (tyInt w32)) 6)) (room-gone 𝓤 H A (tyRef erased mut (tyInt w32))) refl tt refl refl refl (λ b o. tt)) $
-      stmt _ _ (t-sl-aggregate 𝓤 H A W E (rtF (fInt w32)) 𝓣 (asMut (rtF (fInt w32))) _ 31 32 14 (tyRef erased mut (tyInt w32)) (tyRef erased mut (tyInt w32)) (λ x. x) (oFld 9 (field 1 ∷ []) (tyInt w64) 8 (λ v. lenV (v .0))) (as-is 𝓤 H A (msptr (rtF (fInt w32)) (tyRef erased mut (tyInt w32)) 14)) (room-gone 𝓤 H A _) (reads-owed-len 𝓤 H A W (rtF (fInt w32)) (tyRef (named 6) mut (tyInt w32)) 6 14 (lease (κs .1 .1 .1 .1 .1 .1 .0) (qs .1 .1 .1 .1 .1 .1 .0)) 8 refl, refl) refl refl (λ b o k. tt)) $
-      ghosts _ (G24 κs qs) (g-begin 𝓤 H A W E _ 15 _) $
-      stmt (G24 κs qs) _ (t-sl-relend 𝓤 H A W E (rtF (fInt w32)) 𝓣 (G24 κs qs) 10 33 7 15 (tyRef (named 7) mut (tyInt w32)) (tyRef erased mut (tyInt w32)) (lease (κs .1 .1 .1 .1 .1 .1 .1 .0) (qs .1 .1 .1 .1 .1 .1 .1 .0)) 0 (λ x. x) (as-is 𝓤 H A (mslice (rtF (fInt w32)) (tyRef (named 7) mut (tyInt w32)) 7)) (room-gone 𝓤 H A (tyRef erased mut (tyInt w32))) refl tt refl refl refl (λ b o. tt)) $
+      ghosts _ _ (g-begin 𝓤 H A W E _ 14 _) $
+      stmt _ (G22 κs qs) (t-sl-relend 𝓤 H A W E (rtF (fInt w32)) 𝓣 _ 9 31 6 14 (tyRef (named 6) mut (tyInt w32)) (tyRef erased mut (tyInt w32)) (lease (κs .1 .1 .1 .1 .1 .1 .0) (qs .1 .1 .1 .1 .1 .1 .0)) 0 (λ x. x) (as-is 𝓤 H A (mslice (rtF (fInt w32)) (tyRef (named 6) mut (tyInt w32)) 6)) (room-gone 𝓤 H A (tyRef erased mut (tyInt w32))) refl tt refl refl refl (λ b o. tt)) $
+      stmt (G22 κs qs) _ (t-sl-aggregate 𝓤 H A W E (rtF (fInt w32)) 𝓣 (asMut (rtF (fInt w32))) (G22 κs qs) 31 32 14 (tyRef erased mut (tyInt w32)) (tyRef erased mut (tyInt w32)) (λ x. x) (oFld 9 (field 1 ∷ []) (tyInt w64) 8 (λ v. lenV (v .0))) (as-is 𝓤 H A (msptr (rtF (fInt w32)) (tyRef erased mut (tyInt w32)) 14)) (room-gone 𝓤 H A _) (reads-owed-len 𝓤 H A W (rtF (fInt w32)) (tyRef (named 6) mut (tyInt w32)) 6 14 (lease (κs .1 .1 .1 .1 .1 .1 .0) (qs .1 .1 .1 .1 .1 .1 .0)) 8 refl, refl) refl refl (λ b o k. tt)) $
+      ghosts _ _ (g-begin 𝓤 H A W E _ 15 _) $
+      stmt _ _ (t-sl-relend 𝓤 H A W E (rtF (fInt w32)) 𝓣 _ 10 33 7 15 (tyRef (named 7) mut (tyInt w32)) (tyRef erased mut (tyInt w32)) (lease (κs .1 .1 .1 .1 .1 .1 .1 .0) (qs .1 .1 .1 .1 .1 .1 .1 .0)) 0 (λ x. x) (as-is 𝓤 H A (mslice (rtF (fInt w32)) (tyRef (named 7) mut (tyInt w32)) 7)) (room-gone 𝓤 H A (tyRef erased mut (tyInt w32))) refl tt refl refl refl (λ b o. tt)) $
       stmt _ _ (t-sl-aggregate 𝓤 H A W E (rtF (fInt w32)) 𝓣 (asMut (rtF (fInt w32))) _ 33 34 15 (tyRef erased mut (tyInt w32)) (tyRef erased mut (tyInt w32)) (λ x. x) (oFld 10 (field 1 ∷ []) (tyInt w64) 8 (λ v. lenV (v .0))) (as-is 𝓤 H A (msptr (rtF (fInt w32)) (tyRef erased mut (tyInt w32)) 15)) (room-gone 𝓤 H A _) (reads-owed-len 𝓤 H A W (rtF (fInt w32)) (tyRef (named 7) mut (tyInt w32)) 7 15 (lease (κs .1 .1 .1 .1 .1 .1 .1 .0) (qs .1 .1 .1 .1 .1 .1 .1 .0)) 8 refl, refl) refl refl (λ b o k. tt)) $
       ghosts _ (G27 κs qs) (g-begin 𝓤 H A W E _ 16 _) $
       stmt (G27 κs qs) _ (t-sl-relend 𝓤 H A W E (rtF (fInt w32)) 𝓣 (G27 κs qs) 11 35 8 16 (tyRef (named 8) mut (tyInt w32)) (tyRef erased mut (tyInt w32)) (lease (κs .1 .1 .1 .1 .1 .1 .1 .1 .0) (qs .1 .1 .1 .1 .1 .1 .1 .1 .0)) 0 (λ x. x) (as-is 𝓤 H A (mslice (rtF (fInt w32)) (tyRef (named 8) mut (tyInt w32)) 8)) (room-gone 𝓤 H A (tyRef erased mut (tyInt w32))) refl tt refl refl refl (λ b o. tt)) $
@@ -620,17 +578,17 @@ module _ {M : Type 1} (𝓤 : URA M) (H : Heap 𝓤) (A : Atoms 𝓤) (W : Given
       first (G30 κs qs) (G31 κs qs) (
       ghosts (G30 κs qs) _ (g-end 𝓤 H A W E (G30 κs qs) 12 refl) $
       ghosts _ _ (g-back-sl 𝓤 H A W E (rtF (fInt w32)) _ 28 7 4 12 (tyRef (named 4) mut (tyInt w32)) (tyRef erased mut (tyInt w32)) (lease (κs .1 .1 .1 .1 .0) (qs .1 .1 .1 .1 .0)) (λ x. x) (λ x. x) (as-is 𝓤 H A (msleft (rtF (fInt w32)) (tyRef erased mut (tyInt w32)))) (as-is 𝓤 H A (mslice-owed (rtF (fInt w32)) (tyRef (named 4) mut (tyInt w32)) 4 12 (lease (κs .1 .1 .1 .1 .0) (qs .1 .1 .1 .1 .0)))) refl refl) $
-      ghosts _ (G35 κs qs) (g-forget 𝓤 H A W E _ 12 dead refl) $
-      ghosts (G35 κs qs) _ (g-end 𝓤 H A W E (G35 κs qs) 13 refl) $
-      ghosts _ _ (g-back-sl 𝓤 H A W E (rtF (fInt w16)) _ 30 8 5 13 (tyRef (named 5) mut (tyInt w16)) (tyRef erased mut (tyInt w16)) (lease (κs .1 .1 .1 .1 .1 .0) (qs .1 .1 .1 .1 .1 .0)) (λ x. x) (λ x. x) (as-is 𝓤 H A (msleft (rtF (fInt w16)) (tyRef erased mut (tyInt w16)))) (as-is 𝓤 H A (mslice-owed (rtF (fInt w16)) (tyRef (named 5) mut (tyInt w16)) 5 13 (lease (κs .1 .1 .1 .1 .1 .0) (qs .1 .1 .1 .1 .1 .0)))) refl refl) $
-      ghosts _ (G39 κs qs) (g-forget 𝓤 H A W E _ 13 dead refl) $
-      ghosts (G39 κs qs) _ (g-end 𝓤 H A W E (G39 κs qs) 14 refl) $
+      ghosts _ _ (g-forget 𝓤 H A W E _ 12 dead refl) $
+      ghosts _ _ (g-end 𝓤 H A W E _ 13 refl) $
+      ghosts _ (G37 κs qs) (g-back-sl 𝓤 H A W E (rtF (fInt w16)) _ 30 8 5 13 (tyRef (named 5) mut (tyInt w16)) (tyRef erased mut (tyInt w16)) (lease (κs .1 .1 .1 .1 .1 .0) (qs .1 .1 .1 .1 .1 .0)) (λ x. x) (λ x. x) (as-is 𝓤 H A (msleft (rtF (fInt w16)) (tyRef erased mut (tyInt w16)))) (as-is 𝓤 H A (mslice-owed (rtF (fInt w16)) (tyRef (named 5) mut (tyInt w16)) 5 13 (lease (κs .1 .1 .1 .1 .1 .0) (qs .1 .1 .1 .1 .1 .0)))) refl refl) $
+      ghosts (G37 κs qs) _ (g-forget 𝓤 H A W E (G37 κs qs) 13 dead refl) $
+      ghosts _ _ (g-end 𝓤 H A W E _ 14 refl) $
       ghosts _ _ (g-back-sl 𝓤 H A W E (rtF (fInt w32)) _ 32 9 6 14 (tyRef (named 6) mut (tyInt w32)) (tyRef erased mut (tyInt w32)) (lease (κs .1 .1 .1 .1 .1 .1 .0) (qs .1 .1 .1 .1 .1 .1 .0)) (λ x. x) (λ x. x) (as-is 𝓤 H A (msleft (rtF (fInt w32)) (tyRef erased mut (tyInt w32)))) (as-is 𝓤 H A (mslice-owed (rtF (fInt w32)) (tyRef (named 6) mut (tyInt w32)) 6 14 (lease (κs .1 .1 .1 .1 .1 .1 .0) (qs .1 .1 .1 .1 .1 .1 .0)))) refl refl) $
-      ghosts _ (G43 κs qs) (g-forget 𝓤 H A W E _ 14 dead refl) $
-      ghosts (G43 κs qs) _ (g-end 𝓤 H A W E (G43 κs qs) 15 refl) $
-      ghosts _ _ (g-back-sl 𝓤 H A W E (rtF (fInt w32)) _ 34 10 7 15 (tyRef (named 7) mut (tyInt w32)) (tyRef erased mut (tyInt w32)) (lease (κs .1 .1 .1 .1 .1 .1 .1 .0) (qs .1 .1 .1 .1 .1 .1 .1 .0)) (λ x. x) (λ x. x) (as-is 𝓤 H A (msleft (rtF (fInt w32)) (tyRef erased mut (tyInt w32)))) (as-is 𝓤 H A (mslice-owed (rtF (fInt w32)) (tyRef (named 7) mut (tyInt w32)) 7 15 (lease (κs .1 .1 .1 .1 .1 .1 .1 .0) (qs .1 .1 .1 .1 .1 .1 .1 .0)))) refl refl) $
-      ghosts _ (G47 κs qs) (g-forget 𝓤 H A W E _ 15 dead refl) $
-      ghosts (G47 κs qs) _ (g-end 𝓤 H A W E (G47 κs qs) 16 refl) $
+      ghosts _ _ (g-forget 𝓤 H A W E _ 14 dead refl) $
+      ghosts _ (G44 κs qs) (g-end 𝓤 H A W E _ 15 refl) $
+      ghosts (G44 κs qs) _ (g-back-sl 𝓤 H A W E (rtF (fInt w32)) (G44 κs qs) 34 10 7 15 (tyRef (named 7) mut (tyInt w32)) (tyRef erased mut (tyInt w32)) (lease (κs .1 .1 .1 .1 .1 .1 .1 .0) (qs .1 .1 .1 .1 .1 .1 .1 .0)) (λ x. x) (λ x. x) (as-is 𝓤 H A (msleft (rtF (fInt w32)) (tyRef erased mut (tyInt w32)))) (as-is 𝓤 H A (mslice-owed (rtF (fInt w32)) (tyRef (named 7) mut (tyInt w32)) 7 15 (lease (κs .1 .1 .1 .1 .1 .1 .1 .0) (qs .1 .1 .1 .1 .1 .1 .1 .0)))) refl refl) $
+      ghosts _ _ (g-forget 𝓤 H A W E _ 15 dead refl) $
+      ghosts _ _ (g-end 𝓤 H A W E _ 16 refl) $
       ghosts _ _ (g-back-sl 𝓤 H A W E (rtF (fInt w32)) _ 36 11 8 16 (tyRef (named 8) mut (tyInt w32)) (tyRef erased mut (tyInt w32)) (lease (κs .1 .1 .1 .1 .1 .1 .1 .1 .0) (qs .1 .1 .1 .1 .1 .1 .1 .1 .0)) (λ x. x) (λ x. x) (as-is 𝓤 H A (msleft (rtF (fInt w32)) (tyRef erased mut (tyInt w32)))) (as-is 𝓤 H A (mslice-owed (rtF (fInt w32)) (tyRef (named 8) mut (tyInt w32)) 8 16 (lease (κs .1 .1 .1 .1 .1 .1 .1 .1 .0) (qs .1 .1 .1 .1 .1 .1 .1 .1 .0)))) refl refl) $
       ghosts _ (G51 κs qs) (g-forget 𝓤 H A W E _ 16 dead refl) $
       from-match) $

@@ -43,9 +43,6 @@ module _ (κs : Lfts 2) (qs : Shares 2) where
   abbrev row3 : Row
   row3 = mslice-owedS Region.the-row (tyRef (named 0) mut (pointee (Region.the-row .written))) 0 2 (lease (κs .0) (qs .0))
 
-  abbrev row4 : Row
-  row4 = ssptr Region.the-row (tyRef erased imm (pointee (Region.the-row .written))) 2
-
   abbrev row5 : Row
   row5 = sslice Region.the-row (tyRef erased imm (pointee (Region.the-row .written))) 2
 
@@ -54,9 +51,6 @@ module _ (κs : Lfts 2) (qs : Shares 2) where
 
   abbrev row7 : Row
   row7 = mslice-owed Region.the-row (tyRef (named 0) mut (pointee (Region.the-row .written))) 0 3 (lease (κs .0) (qs .0))
-
-  abbrev row8 : Row
-  row8 = msptr Region.the-row (tyRef erased mut (pointee (Region.the-row .written))) 3
 
   abbrev row9 : Row
   row9 = mslice Region.the-row (tyRef erased mut (pointee (Region.the-row .written))) 3
@@ -70,26 +64,17 @@ module _ (κs : Lfts 2) (qs : Shares 2) where
   abbrev pub G3 : Cx
   G3 = patched ((10, row1) ∷ []) ([]) G0
 
-  abbrev pub G8 : Cx
-  G8 = patched ((1, row3) ∷ (7, row2) ∷ (11, row4) ∷ []) ((0, off) ∷ (2, alive) ∷ []) G0
-
   abbrev pub G9 : Cx
   G9 = patched ((1, row3) ∷ (7, row2) ∷ (12, row5) ∷ []) ((0, off) ∷ (2, alive) ∷ []) G0
 
   abbrev pub G10 : Cx
   G10 = patched ((1, row3) ∷ (7, row2) ∷ (8, row6) ∷ (12, row5) ∷ []) ((0, off) ∷ (2, alive) ∷ []) G0
 
-  abbrev pub G13 : Cx
-  G13 = patched ((7, row2) ∷ (8, row6) ∷ []) ((2, dead) ∷ []) G0
-
   abbrev pub G14 : Cx
   G14 = patched ((7, row2) ∷ (8, row6) ∷ []) ([]) G0
 
   abbrev pub G15 : Cx
   G15 = patched ((7, row2) ∷ (8, row6) ∷ (9, row6) ∷ []) ([]) G0
-
-  abbrev pub G18 : Cx
-  G18 = patched ((1, row7) ∷ (7, row2) ∷ (9, row6) ∷ (14, row8) ∷ []) ((0, off) ∷ (3, alive) ∷ []) G0
 
   abbrev pub G19 : Cx
   G19 = patched ((1, row7) ∷ (7, row2) ∷ (9, row6) ∷ (15, row9) ∷ []) ((0, off) ∷ (3, alive) ∷ []) G0
@@ -112,9 +97,6 @@ module _ (κs : Lfts 2) (qs : Shares 2) where
   abbrev pub G25 : Cx
   G25 = patched ([]) ((3, dead) ∷ []) G0
 
-  abbrev pub G30 : Cx
-  G30 = patched ((0, row10) ∷ (2, (any-gone (ty 2))) ∷ (4, (any-gone (ty 4))) ∷ []) ([]) G0
-
   abbrev pub G32 : Cx
   G32 = patched ((0, row10) ∷ (2, (any-gone (ty 2))) ∷ (4, (any-gone (ty 4))) ∷ (5, (any-gone (ty 5))) ∷ (6, (any-gone (ty 6))) ∷ []) ([]) G0
 
@@ -131,25 +113,25 @@ module _ {M : Type 1} (𝓤 : URA M) (H : Heap 𝓤) (A : Atoms 𝓤) (W : Given
       ghosts (G3 κs qs) (G0 κs qs) (g-room 𝓤 H A W E (G3 κs qs) 10 tyBool (room-sc 𝓤 H A W sBool)) $
       stmt (G0 κs qs) _ (t-op2 𝓤 H A W E 𝓣 (G0 κs qs) (sub unsigned) (oAt 6 (tyInt w64) (valS (sInt w64))) (oInt w64 _) 7 (sc-here (sInt w64)) (tyInt w64) (valS (sInt w64)) (sInt w64 .of) (reads-sc 𝓤 H A W (sInt w64), refl) tt (room-gone 𝓤 H A (tyInt w64)) (holds-sc 𝓤 H A W (sInt w64)) refl (λ u. refl) (λ u. tt)) $
       ghosts _ _ (g-begin 𝓤 H A W E _ 2 _) $
-      stmt _ (G8 κs qs) (t-sl-reshare 𝓤 H A W E Region.the-row 𝓣 _ 1 11 0 2 (tyRef (named 0) mut (pointee (Region.the-row .written))) (tyRef erased imm (pointee (Region.the-row .written))) (lease (κs .0) (qs .0)) 0 (λ x. x) (as-is 𝓤 H A (mslice Region.the-row (tyRef (named 0) mut (pointee (Region.the-row .written))) 0)) (room-gone 𝓤 H A (tyRef erased imm (pointee (Region.the-row .written)))) refl tt refl refl refl (λ b o. tt)) $
-      stmt (G8 κs qs) (G9 κs qs) (t-sl-aggregate 𝓤 H A W E Region.the-row 𝓣 (asShr Region.the-row) (G8 κs qs) 11 12 2 (tyRef erased imm (pointee (Region.the-row .written))) (tyRef erased imm (pointee (Region.the-row .written))) (λ x. x) (oFld 1 (field 1 ∷ []) (tyInt w64) 8 (λ v. lenV (v .0))) (as-is 𝓤 H A (ssptr Region.the-row (tyRef erased imm (pointee (Region.the-row .written))) 2)) (room-gone 𝓤 H A _) (reads-owedS-len 𝓤 H A W Region.the-row (tyRef (named 0) mut (pointee (Region.the-row .written))) 0 2 (lease (κs .0) (qs .0)) 8 refl, refl) refl refl (λ b o k. tt)) $
+      stmt _ _ (t-sl-reshare 𝓤 H A W E Region.the-row 𝓣 _ 1 11 0 2 (tyRef (named 0) mut (pointee (Region.the-row .written))) (tyRef erased imm (pointee (Region.the-row .written))) (lease (κs .0) (qs .0)) 0 (λ x. x) (as-is 𝓤 H A (mslice Region.the-row (tyRef (named 0) mut (pointee (Region.the-row .written))) 0)) (room-gone 𝓤 H A (tyRef erased imm (pointee (Region.the-row .written)))) refl tt refl refl refl (λ b o. tt)) $
+      stmt _ (G9 κs qs) (t-sl-aggregate 𝓤 H A W E Region.the-row 𝓣 (asShr Region.the-row) _ 11 12 2 (tyRef erased imm (pointee (Region.the-row .written))) (tyRef erased imm (pointee (Region.the-row .written))) (λ x. x) (oFld 1 (field 1 ∷ []) (tyInt w64) 8 (λ v. lenV (v .0))) (as-is 𝓤 H A (ssptr Region.the-row (tyRef erased imm (pointee (Region.the-row .written))) 2)) (room-gone 𝓤 H A _) (reads-owedS-len 𝓤 H A W Region.the-row (tyRef (named 0) mut (pointee (Region.the-row .written))) 0 2 (lease (κs .0) (qs .0)) 8 refl, refl) refl refl (λ b o k. tt)) $
       stmt (G9 κs qs) (G10 κs qs) (t-call-plain 𝓤 H A W 𝓣 1 K0.ps K0.r K0.Asked K0.Learnt "topology::slice::record_at" known0 E (λ pos β. β) (G9 κs qs) (record { pos = 12; ty = tyRef erased imm (pointee (Region.the-row .written)); ref = λ x. x }, (vAt 7 (λ x. x), tt)) 8 (2 ∷ []) (sub-id 𝓤 H A W ((G9 κs qs) .slots)) (spares-sslice 𝓤 H A W Region.the-row (tyRef erased imm (pointee (Region.the-row .written))) 2, reads-sslice 𝓤 H A W Region.the-row (tyRef erased imm (pointee (Region.the-row .written))) 2, refl, ((reads-sc 𝓤 H A W (sInt w64), refl), tt)) (room-gone 𝓤 H A _) _ refl) $
       ghosts (G10 κs qs) _ (g-room 𝓤 H A W E (G10 κs qs) 12 _ (room-sslice 𝓤 H A W Region.the-row (tyRef erased imm (pointee (Region.the-row .written))) 2)) $
       ghosts _ _ (g-end 𝓤 H A W E _ 2 refl) $
-      ghosts _ (G13 κs qs) (g-back-sl-shr 𝓤 H A W E Region.the-row _ 1 0 2 (tyRef (named 0) mut (pointee (Region.the-row .written))) (lease (κs .0) (qs .0)) (λ x. x) (as-is 𝓤 H A (mslice-owedS Region.the-row (tyRef (named 0) mut (pointee (Region.the-row .written))) 0 2 (lease (κs .0) (qs .0)))) refl refl) $
-      ghosts (G13 κs qs) (G14 κs qs) (g-forget 𝓤 H A W E (G13 κs qs) 2 dead refl) $
+      ghosts _ _ (g-back-sl-shr 𝓤 H A W E Region.the-row _ 1 0 2 (tyRef (named 0) mut (pointee (Region.the-row .written))) (lease (κs .0) (qs .0)) (λ x. x) (as-is 𝓤 H A (mslice-owedS Region.the-row (tyRef (named 0) mut (pointee (Region.the-row .written))) 0 2 (lease (κs .0) (qs .0)))) refl refl) $
+      ghosts _ (G14 κs qs) (g-forget 𝓤 H A W E _ 2 dead refl) $
       stmt (G14 κs qs) (G15 κs qs) (t-call-plain 𝓤 H A W 𝓣 1 K1.ps K1.r R1.Asked R1.Learnt "stretches::with_stretch" known1 E (λ pos β. β) (G14 κs qs) (record { pos = 8; st = []; d = 0; at = λ x. x }, (vAt 2 (λ x. x), (record { pos = 3; ty = tyRef (named 1) imm (tyInt w8); ref = λ x. x }, (vAt 4 (λ x. x), (vAt 5 (λ x. x), tt))))) 9 (1 ∷ []) (sub-id 𝓤 H A W ((G14 κs qs) .slots)) ((yields-copy 𝓤 H A W (λ ρ. Unit) (row Region.the-type) refl (cStruct Region.the-type Laws.the-laws Laws.the-copy .copy 𝓤 H A W) (whole (row Region.the-type)) (λ x. x) (λ x. x) (λ ρ told. mem-whole 𝓤 H A W (row Region.the-type) ρ) (λ ρ told. whole-mem 𝓤 H A W (row Region.the-type) ρ), refl), ((reads-sc 𝓤 H A W (sInt w64), refl), (spares-sslice 𝓤 H A W (rtF (fInt w8)) (tyRef (named 1) imm (tyInt w8)) 1, reads-sslice 𝓤 H A W (rtF (fInt w8)) (tyRef (named 1) imm (tyInt w8)) 1, refl, ((reads-sc 𝓤 H A W (sInt w64), refl), ((reads-sc 𝓤 H A W (sInt w64), refl), tt))))) (room-gone 𝓤 H A _) _ refl) $
       ghosts (G15 κs qs) _ (g-room 𝓤 H A W E (G15 κs qs) 8 _ (room-whole 𝓤 H A W (row Region.the-type) _ refl)) $
       ghosts _ _ (g-begin 𝓤 H A W E _ 3 _) $
-      stmt _ (G18 κs qs) (t-sl-relend 𝓤 H A W E Region.the-row 𝓣 _ 1 14 0 3 (tyRef (named 0) mut (pointee (Region.the-row .written))) (tyRef erased mut (pointee (Region.the-row .written))) (lease (κs .0) (qs .0)) 0 (λ x. x) (as-is 𝓤 H A (mslice Region.the-row (tyRef (named 0) mut (pointee (Region.the-row .written))) 0)) (room-gone 𝓤 H A (tyRef erased mut (pointee (Region.the-row .written)))) refl tt refl refl refl (λ b o. tt)) $
-      stmt (G18 κs qs) (G19 κs qs) (t-sl-aggregate 𝓤 H A W E Region.the-row 𝓣 (asMut Region.the-row) (G18 κs qs) 14 15 3 (tyRef erased mut (pointee (Region.the-row .written))) (tyRef erased mut (pointee (Region.the-row .written))) (λ x. x) (oFld 1 (field 1 ∷ []) (tyInt w64) 8 (λ v. lenV (v .0))) (as-is 𝓤 H A (msptr Region.the-row (tyRef erased mut (pointee (Region.the-row .written))) 3)) (room-gone 𝓤 H A _) (reads-owed-len 𝓤 H A W Region.the-row (tyRef (named 0) mut (pointee (Region.the-row .written))) 0 3 (lease (κs .0) (qs .0)) 8 refl, refl) refl refl (λ b o k. tt)) $
+      stmt _ _ (t-sl-relend 𝓤 H A W E Region.the-row 𝓣 _ 1 14 0 3 (tyRef (named 0) mut (pointee (Region.the-row .written))) (tyRef erased mut (pointee (Region.the-row .written))) (lease (κs .0) (qs .0)) 0 (λ x. x) (as-is 𝓤 H A (mslice Region.the-row (tyRef (named 0) mut (pointee (Region.the-row .written))) 0)) (room-gone 𝓤 H A (tyRef erased mut (pointee (Region.the-row .written)))) refl tt refl refl refl (λ b o. tt)) $
+      stmt _ (G19 κs qs) (t-sl-aggregate 𝓤 H A W E Region.the-row 𝓣 (asMut Region.the-row) _ 14 15 3 (tyRef erased mut (pointee (Region.the-row .written))) (tyRef erased mut (pointee (Region.the-row .written))) (λ x. x) (oFld 1 (field 1 ∷ []) (tyInt w64) 8 (λ v. lenV (v .0))) (as-is 𝓤 H A (msptr Region.the-row (tyRef erased mut (pointee (Region.the-row .written))) 3)) (room-gone 𝓤 H A _) (reads-owed-len 𝓤 H A W Region.the-row (tyRef (named 0) mut (pointee (Region.the-row .written))) 0 3 (lease (κs .0) (qs .0)) 8 refl, refl) refl refl (λ b o k. tt)) $
       last (G19 κs qs) (G0 κs qs) (then W (G19 κs qs) (G25 κs qs) (G0 κs qs) (then W (G19 κs qs) (G24 κs qs) (G25 κs qs) (then W (G19 κs qs) (G23 κs qs) (G24 κs qs) (then W (G19 κs qs) (G22 κs qs) (G23 κs qs) (then W (G19 κs qs) (G21 κs qs) (G22 κs qs) (then W (G19 κs qs) (G20 κs qs) (G21 κs qs) (t-call-plain 𝓤 H A W 𝓣 1 K2.ps K2.r K2.Asked K2.Learnt "topology::slice::put_record" known2 E (λ pos β. β) (G19 κs qs) (record { pos = 15; ty = tyRef erased mut (pointee (Region.the-row .written)); ref = λ x. x }, (vAt 7 (λ x. x), (record { pos = 9; st = []; d = 0; at = λ x. x }, tt))) 13 (3 ∷ []) (sub-id 𝓤 H A W ((G19 κs qs) .slots)) (as-is 𝓤 H A (mslice Region.the-row (tyRef erased mut (pointee (Region.the-row .written))) 3), reads-mslice 𝓤 H A W Region.the-row (tyRef erased mut (pointee (Region.the-row .written))) 3, refl, ((reads-sc 𝓤 H A W (sInt w64), refl), ((yields-copy 𝓤 H A W (λ ρ. Unit) (row Region.the-type) refl (cStruct Region.the-type Laws.the-laws Laws.the-copy .copy 𝓤 H A W) (whole (row Region.the-type)) (λ x. x) (λ x. x) (λ ρ told. mem-whole 𝓤 H A W (row Region.the-type) ρ) (λ ρ told. whole-mem 𝓤 H A W (row Region.the-type) ρ), refl), tt))) (room-gone 𝓤 H A tyUnit) _ refl) (g-room 𝓤 H A W E (G20 κs qs) 7 (tyInt w64) (room-sc 𝓤 H A W (sInt w64)))) (g-room 𝓤 H A W E (G21 κs qs) 9 _ (room-whole 𝓤 H A W (row Region.the-type) _ refl))) (g-room 𝓤 H A W E (G22 κs qs) 13 tyUnit (room-sc 𝓤 H A W sUnit))) (g-end 𝓤 H A W E (G23 κs qs) 3 refl)) (g-back-sl 𝓤 H A W E Region.the-row (G24 κs qs) 15 1 0 3 (tyRef (named 0) mut (pointee (Region.the-row .written))) (tyRef erased mut (pointee (Region.the-row .written))) (lease (κs .0) (qs .0)) (λ x. x) (λ x. x) (as-is 𝓤 H A (msleft Region.the-row (tyRef erased mut (pointee (Region.the-row .written))))) (as-is 𝓤 H A (mslice-owed Region.the-row (tyRef (named 0) mut (pointee (Region.the-row .written))) 0 3 (lease (κs .0) (qs .0)))) refl refl)) (g-forget 𝓤 H A W E (G25 κs qs) 3 dead refl))) (
       ghosts (G3 κs qs) (G0 κs qs) (g-room 𝓤 H A W E (G3 κs qs) 10 tyBool (room-sc 𝓤 H A W sBool)) $
       skips)) $
       stmt (G0 κs qs) _ (t-use 𝓤 H A W E 𝓣 (G0 κs qs) oUnit 0 (sc-here sUnit) tyUnit (valS sUnit) (sUnit .of) tt (room-gone 𝓤 H A tyUnit) (holds-sc 𝓤 H A W sUnit) refl (λ u. refl) (λ u. tt)) $
       ghosts _ _ (g-room 𝓤 H A W E _ 2 (tyInt w64) (room-sc 𝓤 H A W (sInt w64))) $
-      ghosts _ (G30 κs qs) (g-room 𝓤 H A W E _ 4 (tyInt w64) (room-sc 𝓤 H A W (sInt w64))) $
-      ghosts (G30 κs qs) _ (g-room 𝓤 H A W E (G30 κs qs) 5 (tyInt w64) (room-sc 𝓤 H A W (sInt w64))) $
+      ghosts _ _ (g-room 𝓤 H A W E _ 4 (tyInt w64) (room-sc 𝓤 H A W (sInt w64))) $
+      ghosts _ _ (g-room 𝓤 H A W E _ 5 (tyInt w64) (room-sc 𝓤 H A W (sInt w64))) $
       ghosts _ (G32 κs qs) (g-room 𝓤 H A W E _ 6 (tyInt w64) (room-sc 𝓤 H A W (sInt w64))) $
       rets
 

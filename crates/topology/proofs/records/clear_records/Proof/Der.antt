@@ -76,9 +76,6 @@ module _ (κs : Lfts 1) (qs : Shares 1) where
   abbrev pub G13 : Cx
   G13 = patched ((1, row4) ∷ (3, row1) ∷ (4, row2) ∷ (6, row7) ∷ (8, row8) ∷ []) ((0, off) ∷ (1, alive) ∷ []) G0
 
-  abbrev pub G16 : Cx
-  G16 = patched ((3, row1) ∷ (4, row2) ∷ []) ((1, dead) ∷ []) G0
-
   abbrev pub G21 : Cx
   G21 = patched ((0, row7) ∷ (2, (any-gone (ty 2))) ∷ []) ([]) G0
 
@@ -108,8 +105,8 @@ module _ {M : Type 1} (𝓤 : URA M) (H : Heap 𝓤) (A : Atoms 𝓤) (W : Given
       stmt (G12 κs qs) (G13 κs qs) (t-call-plain 𝓤 H A W 𝓣 1 K1.ps K1.r K1.Asked K1.Learnt "topology::slice::put_record" known1 E (λ pos β. β) (G12 κs qs) (record { pos = 8; ty = tyRef erased mut (pointee (Region.the-row .written)); ref = λ x. x }, (vAt 4 (λ x. x), (record { pos = 3; st = []; d = 0; at = λ x. x }, tt))) 6 (1 ∷ []) (sub-id 𝓤 H A W ((G12 κs qs) .slots)) (as-is 𝓤 H A (mslice Region.the-row (tyRef erased mut (pointee (Region.the-row .written))) 1), reads-mslice 𝓤 H A W Region.the-row (tyRef erased mut (pointee (Region.the-row .written))) 1, refl, ((reads-sc 𝓤 H A W (sInt w64), refl), ((yields-copy 𝓤 H A W (λ ρ. Unit) (row Region.the-type) refl (cStruct Region.the-type Laws.the-laws Laws.the-copy .copy 𝓤 H A W) (whole (row Region.the-type)) (λ x. x) (λ x. x) (λ ρ told. mem-whole 𝓤 H A W (row Region.the-type) ρ) (λ ρ told. whole-mem 𝓤 H A W (row Region.the-type) ρ), refl), tt))) (room-gone 𝓤 H A tyUnit) _ refl) $
       ghosts (G13 κs qs) _ (g-room 𝓤 H A W E (G13 κs qs) 6 tyUnit (room-sc 𝓤 H A W sUnit)) $
       ghosts _ _ (g-end 𝓤 H A W E _ 1 refl) $
-      ghosts _ (G16 κs qs) (g-back-sl 𝓤 H A W E Region.the-row _ 8 1 0 1 (tyRef (named 0) mut (pointee (Region.the-row .written))) (tyRef erased mut (pointee (Region.the-row .written))) (lease (κs .0) (qs .0)) (λ x. x) (λ x. x) (as-is 𝓤 H A (msleft Region.the-row (tyRef erased mut (pointee (Region.the-row .written))))) (as-is 𝓤 H A (mslice-owed Region.the-row (tyRef (named 0) mut (pointee (Region.the-row .written))) 0 1 (lease (κs .0) (qs .0)))) refl refl) $
-      ghosts (G16 κs qs) (G3 κs qs) (g-forget 𝓤 H A W E (G16 κs qs) 1 dead refl) $
+      ghosts _ _ (g-back-sl 𝓤 H A W E Region.the-row _ 8 1 0 1 (tyRef (named 0) mut (pointee (Region.the-row .written))) (tyRef erased mut (pointee (Region.the-row .written))) (lease (κs .0) (qs .0)) (λ x. x) (λ x. x) (as-is 𝓤 H A (msleft Region.the-row (tyRef erased mut (pointee (Region.the-row .written))))) (as-is 𝓤 H A (mslice-owed Region.the-row (tyRef (named 0) mut (pointee (Region.the-row .written))) 0 1 (lease (κs .0) (qs .0)))) refl refl) $
+      ghosts _ (G3 κs qs) (g-forget 𝓤 H A W E _ 1 dead refl) $
       last (G3 κs qs) (G3 κs qs) (t-op2 𝓤 H A W E 𝓣 (G3 κs qs) (add unsigned) (oAt 4 (tyInt w64) (valS (sInt w64))) (oInt w64 _) 4 (sc-here (sInt w64)) (tyInt w64) (valS (sInt w64)) (sInt w64 .of) (reads-sc 𝓤 H A W (sInt w64), refl) tt (room-sc 𝓤 H A W (sInt w64)) (holds-sc 𝓤 H A W (sInt w64)) refl (λ u. refl) (λ u. tt))))) $
       stmt (G4 κs qs) _ (t-use 𝓤 H A W E 𝓣 (G4 κs qs) oUnit 0 (sc-here sUnit) tyUnit (valS sUnit) (sUnit .of) tt (room-gone 𝓤 H A tyUnit) (holds-sc 𝓤 H A W sUnit) refl (λ u. refl) (λ u. tt)) $
       ghosts _ _ (g-room 𝓤 H A W E _ 4 (tyInt w64) (room-sc 𝓤 H A W (sInt w64))) $

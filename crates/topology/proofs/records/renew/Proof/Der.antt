@@ -47,20 +47,11 @@ module _ (κs : Lfts 4) (qs : Shares 4) where
   abbrev pub G8 : Cx
   G8 = patched ((1, row1 4) ∷ (8, row4) ∷ (10, row5) ∷ []) ((0, off) ∷ (4, alive) ∷ []) G0
 
-  abbrev pub G11 : Cx
-  G11 = patched ([]) ((4, dead) ∷ []) G0
-
   abbrev pub G15 : Cx
   G15 = patched ((1, row1 5) ∷ (12, row3 5) ∷ []) ((0, off) ∷ (5, alive) ∷ []) G0
 
   abbrev pub G16 : Cx
   G16 = patched ((1, row1 5) ∷ (8, row4) ∷ (12, row5) ∷ []) ((0, off) ∷ (5, alive) ∷ []) G0
-
-  abbrev pub G19 : Cx
-  G19 = patched ([]) ((5, dead) ∷ []) G0
-
-  abbrev pub G23 : Cx
-  G23 = patched ((0, row4) ∷ (2, (any-gone (ty 2))) ∷ (3, (any-gone (ty 3))) ∷ []) ([]) G0
 
   abbrev pub G24 : Cx
   G24 = patched ((0, row4) ∷ (2, (any-gone (ty 2))) ∷ (3, (any-gone (ty 3))) ∷ (4, (any-gone (ty 4))) ∷ []) ([]) G0
@@ -78,20 +69,20 @@ module _ {M : Type 1} (𝓤 : URA M) (H : Heap 𝓤) (A : Atoms 𝓤) (W : Given
       stmt (G7 κs qs) (G8 κs qs) (t-call-plain 𝓤 H A W 𝓣 1 K0.ps K0.r K0.Asked K0.Learnt "topology::records::clear_records" known0 E (λ pos β. β) (G7 κs qs) (record { pos = 10; ty = tyRef erased mut (pointee (twin-0.the-row .written)); ref = λ x. x }, (vAt 2 (λ x. x), tt)) 8 (4 ∷ []) (sub-id 𝓤 H A W ((G7 κs qs) .slots)) (as-is 𝓤 H A (mslice twin-0.the-row (tyRef erased mut (pointee (twin-0.the-row .written))) 4), reads-mslice 𝓤 H A W twin-0.the-row (tyRef erased mut (pointee (twin-0.the-row .written))) 4, refl, ((reads-sc 𝓤 H A W (sInt w64), refl), tt)) (room-gone 𝓤 H A tyUnit) _ refl) $
       ghosts (G8 κs qs) _ (g-room 𝓤 H A W E (G8 κs qs) 8 tyUnit (room-sc 𝓤 H A W sUnit)) $
       ghosts _ _ (g-end 𝓤 H A W E _ 4 refl) $
-      ghosts _ (G11 κs qs) (g-back-sl 𝓤 H A W E twin-0.the-row _ 10 1 0 4 (tyRef (named 0) mut (pointee (twin-0.the-row .written))) (tyRef erased mut (pointee (twin-0.the-row .written))) (lease (κs .0) (qs .0)) (λ x. x) (λ x. x) (as-is 𝓤 H A (msleft twin-0.the-row (tyRef erased mut (pointee (twin-0.the-row .written))))) (as-is 𝓤 H A (mslice-owed twin-0.the-row (tyRef (named 0) mut (pointee (twin-0.the-row .written))) 0 4 (lease (κs .0) (qs .0)))) refl refl) $
-      ghosts (G11 κs qs) (G0 κs qs) (g-forget 𝓤 H A W E (G11 κs qs) 4 dead refl) $
+      ghosts _ _ (g-back-sl 𝓤 H A W E twin-0.the-row _ 10 1 0 4 (tyRef (named 0) mut (pointee (twin-0.the-row .written))) (tyRef erased mut (pointee (twin-0.the-row .written))) (lease (κs .0) (qs .0)) (λ x. x) (λ x. x) (as-is 𝓤 H A (msleft twin-0.the-row (tyRef erased mut (pointee (twin-0.the-row .written))))) (as-is 𝓤 H A (mslice-owed twin-0.the-row (tyRef (named 0) mut (pointee (twin-0.the-row .written))) 0 4 (lease (κs .0) (qs .0)))) refl refl) $
+      ghosts _ (G0 κs qs) (g-forget 𝓤 H A W E _ 4 dead refl) $
       ghosts (G0 κs qs) _ (g-begin 𝓤 H A W E (G0 κs qs) 5 _) $
       stmt _ _ (t-sl-relend 𝓤 H A W E twin-0.the-row 𝓣 _ 1 11 0 5 (tyRef (named 0) mut (pointee (twin-0.the-row .written))) (tyRef erased mut (pointee (twin-0.the-row .written))) (lease (κs .0) (qs .0)) 0 (λ x. x) (as-is 𝓤 H A (mslice twin-0.the-row (tyRef (named 0) mut (pointee (twin-0.the-row .written))) 0)) (room-gone 𝓤 H A (tyRef erased mut (pointee (twin-0.the-row .written)))) refl tt refl refl refl (λ b o. tt)) $
       stmt _ (G15 κs qs) (t-sl-aggregate 𝓤 H A W E twin-0.the-row 𝓣 (asMut twin-0.the-row) _ 11 12 5 (tyRef erased mut (pointee (twin-0.the-row .written))) (tyRef erased mut (pointee (twin-0.the-row .written))) (λ x. x) (oFld 1 (field 1 ∷ []) (tyInt w64) 8 (λ v. lenV (v .0))) (as-is 𝓤 H A (msptr twin-0.the-row (tyRef erased mut (pointee (twin-0.the-row .written))) 5)) (room-gone 𝓤 H A _) (reads-owed-len 𝓤 H A W twin-0.the-row (tyRef (named 0) mut (pointee (twin-0.the-row .written))) 0 5 (lease (κs .0) (qs .0)) 8 refl, refl) refl refl (λ b o k. tt)) $
       stmt (G15 κs qs) (G16 κs qs) (t-call-plain 𝓤 H A W 𝓣 4 K1.ps K1.r K1.Asked K1.Learnt "topology::records::fill" known1 E (λ pos β. β) (G15 κs qs) (record { pos = 12; ty = tyRef erased mut (pointee (twin-0.the-row .written)); ref = λ x. x }, (vAt 3 (λ x. x), (vAt 4 (λ x. x), (record { pos = 5; ty = tyRef (named 1) imm (tyInt w8); ref = λ x. x }, (record { pos = 6; ty = tyRef (named 2) imm (tyInt w32); ref = λ x. x }, (record { pos = 7; ty = tyRef (named 3) imm (tyInt w32); ref = λ x. x }, tt)))))) 8 (5 ∷ 1 ∷ 2 ∷ 3 ∷ []) (sub-id 𝓤 H A W ((G15 κs qs) .slots)) (as-is 𝓤 H A (mslice twin-0.the-row (tyRef erased mut (pointee (twin-0.the-row .written))) 5), reads-mslice 𝓤 H A W twin-0.the-row (tyRef erased mut (pointee (twin-0.the-row .written))) 5, refl, ((reads-sc 𝓤 H A W (sInt w64), refl), ((reads-sc 𝓤 H A W (sInt w64), refl), (spares-sslice 𝓤 H A W (rtF (fInt w8)) (tyRef (named 1) imm (tyInt w8)) 1, reads-sslice 𝓤 H A W (rtF (fInt w8)) (tyRef (named 1) imm (tyInt w8)) 1, refl, (spares-sslice 𝓤 H A W (rtF (fInt w32)) (tyRef (named 2) imm (tyInt w32)) 2, reads-sslice 𝓤 H A W (rtF (fInt w32)) (tyRef (named 2) imm (tyInt w32)) 2, refl, (spares-sslice 𝓤 H A W (rtF (fInt w32)) (tyRef (named 3) imm (tyInt w32)) 3, reads-sslice 𝓤 H A W (rtF (fInt w32)) (tyRef (named 3) imm (tyInt w32)) 3, refl, tt)))))) (room-gone 𝓤 H A tyUnit) _ refl) $
       ghosts (G16 κs qs) _ (g-room 𝓤 H A W E (G16 κs qs) 8 tyUnit (room-sc 𝓤 H A W sUnit)) $
       ghosts _ _ (g-end 𝓤 H A W E _ 5 refl) $
-      ghosts _ (G19 κs qs) (g-back-sl 𝓤 H A W E twin-0.the-row _ 12 1 0 5 (tyRef (named 0) mut (pointee (twin-0.the-row .written))) (tyRef erased mut (pointee (twin-0.the-row .written))) (lease (κs .0) (qs .0)) (λ x. x) (λ x. x) (as-is 𝓤 H A (msleft twin-0.the-row (tyRef erased mut (pointee (twin-0.the-row .written))))) (as-is 𝓤 H A (mslice-owed twin-0.the-row (tyRef (named 0) mut (pointee (twin-0.the-row .written))) 0 5 (lease (κs .0) (qs .0)))) refl refl) $
-      ghosts (G19 κs qs) (G0 κs qs) (g-forget 𝓤 H A W E (G19 κs qs) 5 dead refl) $
+      ghosts _ _ (g-back-sl 𝓤 H A W E twin-0.the-row _ 12 1 0 5 (tyRef (named 0) mut (pointee (twin-0.the-row .written))) (tyRef erased mut (pointee (twin-0.the-row .written))) (lease (κs .0) (qs .0)) (λ x. x) (λ x. x) (as-is 𝓤 H A (msleft twin-0.the-row (tyRef erased mut (pointee (twin-0.the-row .written))))) (as-is 𝓤 H A (mslice-owed twin-0.the-row (tyRef (named 0) mut (pointee (twin-0.the-row .written))) 0 5 (lease (κs .0) (qs .0)))) refl refl) $
+      ghosts _ (G0 κs qs) (g-forget 𝓤 H A W E _ 5 dead refl) $
       stmt (G0 κs qs) _ (t-use 𝓤 H A W E 𝓣 (G0 κs qs) oUnit 0 (sc-here sUnit) tyUnit (valS sUnit) (sUnit .of) tt (room-gone 𝓤 H A tyUnit) (holds-sc 𝓤 H A W sUnit) refl (λ u. refl) (λ u. tt)) $
       ghosts _ _ (g-room 𝓤 H A W E _ 2 (tyInt w64) (room-sc 𝓤 H A W (sInt w64))) $
-      ghosts _ (G23 κs qs) (g-room 𝓤 H A W E _ 3 (tyInt w64) (room-sc 𝓤 H A W (sInt w64))) $
-      ghosts (G23 κs qs) (G24 κs qs) (g-room 𝓤 H A W E (G23 κs qs) 4 (tyInt w64) (room-sc 𝓤 H A W (sInt w64))) $
+      ghosts _ _ (g-room 𝓤 H A W E _ 3 (tyInt w64) (room-sc 𝓤 H A W (sInt w64))) $
+      ghosts _ (G24 κs qs) (g-room 𝓤 H A W E _ 4 (tyInt w64) (room-sc 𝓤 H A W (sInt w64))) $
       rets
 
 -- the derivations at a model

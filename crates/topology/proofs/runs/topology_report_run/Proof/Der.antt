@@ -59,6 +59,9 @@ module _ (κs : Lfts 11) (qs : Shares 11) where
   abbrev row6 : Row
   row6 = mslice-owed (rtF (fInt w16)) (tyRef (named 5) mut (tyInt w16)) 5 12 (lease (κs .1 .1 .1 .1 .1 .0) (qs .1 .1 .1 .1 .1 .0))
 
+  abbrev row7 : Row
+  row7 = msptr (rtF (fInt w16)) (tyRef erased mut (tyInt w16)) 12
+
   abbrev row8 : Row
   row8 = mslice (rtF (fInt w16)) (tyRef erased mut (tyInt w16)) 12
 
@@ -79,6 +82,9 @@ module _ (κs : Lfts 11) (qs : Shares 11) where
 
   abbrev row21 : Row
   row21 = mslice-owed (rtF (fInt w64)) (tyRef (named 10) mut (tyInt w64)) 10 17 (lease (κs .1 .1 .1 .1 .1 .1 .1 .1 .1 .1 .0) (qs .1 .1 .1 .1 .1 .1 .1 .1 .1 .1 .0))
+
+  abbrev row22 : Row
+  row22 = msptr (rtF (fInt w64)) (tyRef erased mut (tyInt w64)) 17
 
   abbrev row23 : Row
   row23 = mslice (rtF (fInt w64)) (tyRef erased mut (tyInt w64)) 17
@@ -110,23 +116,17 @@ module _ (κs : Lfts 11) (qs : Shares 11) where
   abbrev pub G13 : Cx
   G13 = patched ((1, (any-gone (ty 1))) ∷ (18, row2) ∷ []) ([]) G0
 
-  abbrev pub G17 : Cx
-  G17 = patched ((9, row3) ∷ (20, row5 11) ∷ []) ((4, off) ∷ (11, alive) ∷ []) G0
+  abbrev pub G19 : Cx
+  G19 = patched ((9, row3) ∷ (10, row6) ∷ (20, row5 11) ∷ (21, row7) ∷ []) ((4, off) ∷ (5, off) ∷ (11, alive) ∷ (12, alive) ∷ []) G0
 
-  abbrev pub G20 : Cx
-  G20 = patched ((9, row3) ∷ (10, row6) ∷ (20, row5 11) ∷ (22, row8) ∷ []) ((4, off) ∷ (5, off) ∷ (11, alive) ∷ (12, alive) ∷ []) G0
-
-  abbrev pub G23 : Cx
-  G23 = patched ((9, row3) ∷ (10, row6) ∷ (11, row9) ∷ (20, row5 11) ∷ (22, row8) ∷ (24, row5 13) ∷ []) ((4, off) ∷ (5, off) ∷ (6, off) ∷ (11, alive) ∷ (12, alive) ∷ (13, alive) ∷ []) G0
-
-  abbrev pub G26 : Cx
-  G26 = patched ((9, row3) ∷ (10, row6) ∷ (11, row9) ∷ (12, row12) ∷ (20, row5 11) ∷ (22, row8) ∷ (24, row5 13) ∷ (26, row5 14) ∷ []) ((4, off) ∷ (5, off) ∷ (6, off) ∷ (7, off) ∷ (11, alive) ∷ (12, alive) ∷ (13, alive) ∷ (14, alive) ∷ []) G0
+  abbrev pub G24 : Cx
+  G24 = patched ((9, row3) ∷ (10, row6) ∷ (11, row9) ∷ (20, row5 11) ∷ (22, row8) ∷ (24, row5 13) ∷ []) ((4, off) ∷ (5, off) ∷ (6, off) ∷ (11, alive) ∷ (12, alive) ∷ (13, alive) ∷ (14, alive) ∷ []) G0
 
   abbrev pub G29 : Cx
   G29 = patched ((9, row3) ∷ (10, row6) ∷ (11, row9) ∷ (12, row12) ∷ (13, row15) ∷ (20, row5 11) ∷ (22, row8) ∷ (24, row5 13) ∷ (26, row5 14) ∷ (28, row5 15) ∷ []) ((4, off) ∷ (5, off) ∷ (6, off) ∷ (7, off) ∷ (8, off) ∷ (11, alive) ∷ (12, alive) ∷ (13, alive) ∷ (14, alive) ∷ (15, alive) ∷ []) G0
 
-  abbrev pub G32 : Cx
-  G32 = patched ((9, row3) ∷ (10, row6) ∷ (11, row9) ∷ (12, row12) ∷ (13, row15) ∷ (14, row18) ∷ (20, row5 11) ∷ (22, row8) ∷ (24, row5 13) ∷ (26, row5 14) ∷ (28, row5 15) ∷ (30, row20) ∷ []) ((4, off) ∷ (5, off) ∷ (6, off) ∷ (7, off) ∷ (8, off) ∷ (9, off) ∷ (11, alive) ∷ (12, alive) ∷ (13, alive) ∷ (14, alive) ∷ (15, alive) ∷ (16, alive) ∷ []) G0
+  abbrev pub G34 : Cx
+  G34 = patched ((9, row3) ∷ (10, row6) ∷ (11, row9) ∷ (12, row12) ∷ (13, row15) ∷ (14, row18) ∷ (15, row21) ∷ (20, row5 11) ∷ (22, row8) ∷ (24, row5 13) ∷ (26, row5 14) ∷ (28, row5 15) ∷ (30, row20) ∷ (31, row22) ∷ []) ((4, off) ∷ (5, off) ∷ (6, off) ∷ (7, off) ∷ (8, off) ∷ (9, off) ∷ (10, off) ∷ (11, alive) ∷ (12, alive) ∷ (13, alive) ∷ (14, alive) ∷ (15, alive) ∷ (16, alive) ∷ (17, alive) ∷ []) G0
 
   abbrev pub G35 : Cx
   G35 = patched ((9, row3) ∷ (10, row6) ∷ (11, row9) ∷ (12, row12) ∷ (13, row15) ∷ (14, row18) ∷ (15, row21) ∷ (20, row5 11) ∷ (22, row8) ∷ (24, row5 13) ∷ (26, row5 14) ∷ (28, row5 15) ∷ (30, row20) ∷ (32, row23) ∷ []) ((4, off) ∷ (5, off) ∷ (6, off) ∷ (7, off) ∷ (8, off) ∷ (9, off) ∷ (10, off) ∷ (11, alive) ∷ (12, alive) ∷ (13, alive) ∷ (14, alive) ∷ (15, alive) ∷ (16, alive) ∷ (17, alive) ∷ []) G0
@@ -134,23 +134,17 @@ module _ (κs : Lfts 11) (qs : Shares 11) where
   abbrev pub G36 : Cx
   G36 = patched ((9, row3) ∷ (10, row6) ∷ (11, row9) ∷ (12, row12) ∷ (13, row15) ∷ (14, row18) ∷ (15, row21) ∷ (16, row24) ∷ (20, row25) ∷ (22, row26) ∷ (24, row25) ∷ (26, row25) ∷ (28, row25) ∷ (30, row27) ∷ (32, row28) ∷ []) ((4, off) ∷ (5, off) ∷ (6, off) ∷ (7, off) ∷ (8, off) ∷ (9, off) ∷ (10, off) ∷ (11, alive) ∷ (12, alive) ∷ (13, alive) ∷ (14, alive) ∷ (15, alive) ∷ (16, alive) ∷ (17, alive) ∷ []) G0
 
-  abbrev pub G40 : Cx
-  G40 = patched ((10, row6) ∷ (11, row9) ∷ (12, row12) ∷ (13, row15) ∷ (14, row18) ∷ (15, row21) ∷ (16, row24) ∷ (22, row26) ∷ (24, row25) ∷ (26, row25) ∷ (28, row25) ∷ (30, row27) ∷ (32, row28) ∷ []) ((5, off) ∷ (6, off) ∷ (7, off) ∷ (8, off) ∷ (9, off) ∷ (10, off) ∷ (12, alive) ∷ (13, alive) ∷ (14, alive) ∷ (15, alive) ∷ (16, alive) ∷ (17, alive) ∷ []) G0
+  abbrev pub G42 : Cx
+  G42 = patched ((11, row9) ∷ (12, row12) ∷ (13, row15) ∷ (14, row18) ∷ (15, row21) ∷ (16, row24) ∷ (24, row25) ∷ (26, row25) ∷ (28, row25) ∷ (30, row27) ∷ (32, row28) ∷ []) ((6, off) ∷ (7, off) ∷ (8, off) ∷ (9, off) ∷ (10, off) ∷ (12, dead) ∷ (13, alive) ∷ (14, alive) ∷ (15, alive) ∷ (16, alive) ∷ (17, alive) ∷ []) G0
 
-  abbrev pub G44 : Cx
-  G44 = patched ((11, row9) ∷ (12, row12) ∷ (13, row15) ∷ (14, row18) ∷ (15, row21) ∷ (16, row24) ∷ (24, row25) ∷ (26, row25) ∷ (28, row25) ∷ (30, row27) ∷ (32, row28) ∷ []) ((6, off) ∷ (7, off) ∷ (8, off) ∷ (9, off) ∷ (10, off) ∷ (13, alive) ∷ (14, alive) ∷ (15, alive) ∷ (16, alive) ∷ (17, alive) ∷ []) G0
-
-  abbrev pub G48 : Cx
-  G48 = patched ((12, row12) ∷ (13, row15) ∷ (14, row18) ∷ (15, row21) ∷ (16, row24) ∷ (26, row25) ∷ (28, row25) ∷ (30, row27) ∷ (32, row28) ∷ []) ((7, off) ∷ (8, off) ∷ (9, off) ∷ (10, off) ∷ (14, alive) ∷ (15, alive) ∷ (16, alive) ∷ (17, alive) ∷ []) G0
-
-  abbrev pub G52 : Cx
-  G52 = patched ((13, row15) ∷ (14, row18) ∷ (15, row21) ∷ (16, row24) ∷ (28, row25) ∷ (30, row27) ∷ (32, row28) ∷ []) ((8, off) ∷ (9, off) ∷ (10, off) ∷ (15, alive) ∷ (16, alive) ∷ (17, alive) ∷ []) G0
+  abbrev pub G49 : Cx
+  G49 = patched ((12, row12) ∷ (13, row15) ∷ (14, row18) ∷ (15, row21) ∷ (16, row24) ∷ (26, row25) ∷ (28, row25) ∷ (30, row27) ∷ (32, row28) ∷ []) ((7, off) ∷ (8, off) ∷ (9, off) ∷ (10, off) ∷ (14, dead) ∷ (15, alive) ∷ (16, alive) ∷ (17, alive) ∷ []) G0
 
   abbrev pub G56 : Cx
   G56 = patched ((14, row18) ∷ (15, row21) ∷ (16, row24) ∷ (30, row27) ∷ (32, row28) ∷ []) ((9, off) ∷ (10, off) ∷ (16, alive) ∷ (17, alive) ∷ []) G0
 
-  abbrev pub G59 : Cx
-  G59 = patched ((15, row21) ∷ (16, row24) ∷ (32, row28) ∷ []) ((10, off) ∷ (17, alive) ∷ []) G0
+  abbrev pub G61 : Cx
+  G61 = patched ((16, row24) ∷ []) ((17, dead) ∷ []) G0
 
   abbrev pub G63 : Cx
   G63 = patched ((16, row24) ∷ []) ([]) G0
@@ -179,9 +173,6 @@ module _ (κs : Lfts 11) (qs : Shares 11) where
   abbrev pub G75 : Cx
   G75 = patched ((18, row2) ∷ []) ([]) G0
 
-  abbrev pub G79 : Cx
-  G79 = patched ((0, row2) ∷ (1, (any-gone (ty 1))) ∷ (2, (any-gone (ty 2))) ∷ []) ([]) G0
-
   abbrev pub G81 : Cx
   G81 = patched ((0, row2) ∷ (1, (any-gone (ty 1))) ∷ (2, (any-gone (ty 2))) ∷ (3, (any-gone (ty 3))) ∷ (4, (any-gone (ty 4))) ∷ []) ([]) G0
 
@@ -208,54 +199,54 @@ module _ {M : Type 1} (𝓤 : URA M) (H : Heap 𝓤) (A : Atoms 𝓤) (W : Given
       ghosts (G12 κs qs) (G0 κs qs) (g-room 𝓤 H A W E (G12 κs qs) 17 tyBool (room-sc 𝓤 H A W sBool)) $
       ghosts (G0 κs qs) _ (g-begin 𝓤 H A W E (G0 κs qs) 11 _) $
       stmt _ _ (t-sl-relend 𝓤 H A W E (rtF (fInt w32)) 𝓣 _ 9 19 4 11 (tyRef (named 4) mut (tyInt w32)) (tyRef erased mut (tyInt w32)) (lease (κs .1 .1 .1 .1 .0) (qs .1 .1 .1 .1 .0)) 0 (λ x. x) (as-is 𝓤 H A (mslice (rtF (fInt w32)) (tyRef (named 4) mut (tyInt w32)) 4)) (room-gone 𝓤 H A (tyRef erased mut (tyInt w32))) refl tt refl refl refl (λ b o. tt)) $
-      stmt _ (G17 κs qs) (t-sl-aggregate 𝓤 H A W E (rtF (fInt w32)) 𝓣 (asMut (rtF (fInt w32))) _ 19 20 11 (tyRef erased mut (tyInt w32)) (tyRef erased mut (tyInt w32)) (λ x. x) (oFld 9 (field 1 ∷ []) (tyInt w64) 8 (λ v. lenV (v .0))) (as-is 𝓤 H A (msptr (rtF (fInt w32)) (tyRef erased mut (tyInt w32)) 11)) (room-gone 𝓤 H A _) (reads-owed-len 𝓤 H A W (rtF (fInt w32)) (tyRef (named 4) mut (tyInt w32)) 4 11 (lease (κs .1 .1 .1 .1 .0) (qs .1 .1 .1 .1 .0)) 8 refl, refl) refl refl (λ b o k. tt)) $
-      ghosts (G17 κs qs) _ (g-begin 𝓤 H A W E (G17 κs qs) 12 _) $
-      stmt _ _ (t-sl-relend 𝓤 H A W E (rtF (fInt w16)) 𝓣 _ 10 21 5 12 (tyRef (named 5) mut (tyInt w16)) (tyRef erased mut (tyInt w16)) (lease (κs .1 .1 .1 .1 .1 .0) (qs .1 .1 .1 .1 .1 .0)) 0 (λ x. x) (as-is 𝓤 H A (mslice (rtF (fInt w16)) (tyRef (named 5) mut (tyInt w16)) 5)) (room-gone 𝓤 H A (tyRef erased mut (tyInt w16))) refl tt refl refl refl (λ b o. tt)) $
-      stmt _ (G20 κs qs) (t-sl-aggregate 𝓤 H A W E (rtF (fInt w16)) 𝓣 (asMut (rtF (fInt w16))) _ 21 22 12 (tyRef erased mut (tyInt w16)) (tyRef erased mut (tyInt w16)) (λ x. x) (oFld 10 (field 1 ∷ []) (tyInt w64) 8 (λ v. lenV (v .0))) (as-is 𝓤 H A (msptr (rtF (fInt w16)) (tyRef erased mut (tyInt w16)) 12)) (room-gone 𝓤 H A _) (reads-owed-len 𝓤 H A W (rtF (fInt w16)) (tyRef (named 5) mut (tyInt w16)) 5 12 (lease (κs .1 .1 .1 .1 .1 .0) (qs .1 .1 .1 .1 .1 .0)) 8 refl, refl) refl refl (λ b o k. tt)) $
-      ghosts (G20 κs qs) _ (g-begin 𝓤 H A W E (G20 κs qs) 13 _) $
+      stmt _ _ (t-sl-aggregate 𝓤 H A W E (rtF (fInt w32)) 𝓣 (asMut (rtF (fInt w32))) _ 19 20 11 (tyRef erased mut (tyInt w32)) (tyRef erased mut (tyInt w32)) (λ x. x) (oFld 9 (field 1 ∷ []) (tyInt w64) 8 (λ v. lenV (v .0))) (as-is 𝓤 H A (msptr (rtF (fInt w32)) (tyRef erased mut (tyInt w32)) 11)) (room-gone 𝓤 H A _) (reads-owed-len 𝓤 H A W (rtF (fInt w32)) (tyRef (named 4) mut (tyInt w32)) 4 11 (lease (κs .1 .1 .1 .1 .0) (qs .1 .1 .1 .1 .0)) 8 refl, refl) refl refl (λ b o k. tt)) $
+      ghosts _ _ (g-begin 𝓤 H A W E _ 12 _) $
+      stmt _ (G19 κs qs) (t-sl-relend 𝓤 H A W E (rtF (fInt w16)) 𝓣 _ 10 21 5 12 (tyRef (named 5) mut (tyInt w16)) (tyRef erased mut (tyInt w16)) (lease (κs .1 .1 .1 .1 .1 .0) (qs .1 .1 .1 .1 .1 .0)) 0 (λ x. x) (as-is 𝓤 H A (mslice (rtF (fInt w16)) (tyRef (named 5) mut (tyInt w16)) 5)) (room-gone 𝓤 H A (tyRef erased mut (tyInt w16))) refl tt refl refl refl (λ b o. tt)) $
+      stmt (G19 κs qs) _ (t-sl-aggregate 𝓤 H A W E (rtF (fInt w16)) 𝓣 (asMut (rtF (fInt w16))) (G19 κs qs) 21 22 12 (tyRef erased mut (tyInt w16)) (tyRef erased mut (tyInt w16)) (λ x. x) (oFld 10 (field 1 ∷ []) (tyInt w64) 8 (λ v. lenV (v .0))) (as-is 𝓤 H A (msptr (rtF (fInt w16)) (tyRef erased mut (tyInt w16)) 12)) (room-gone 𝓤 H A _) (reads-owed-len 𝓤 H A W (rtF (fInt w16)) (tyRef (named 5) mut (tyInt w16)) 5 12 (lease (κs .1 .1 .1 .1 .1 .0) (qs .1 .1 .1 .1 .1 .0)) 8 refl, refl) refl refl (λ b o k. tt)) $
+      ghosts _ _ (g-begin 𝓤 H A W E _ 13 _) $
       stmt _ _ (t-sl-relend 𝓤 H A W E (rtF (fInt w32)) 𝓣 _ 11 23 6 13 (tyRef (named 6) mut (tyInt w32)) (tyRef erased mut (tyInt w32)) (lease (κs .1 .1 .1 .1 .1 .1 .0) (qs .1 .1 .1 .1 .1 .1 .0)) 0 (λ x. x) (as-is 𝓤 H A (mslice (rtF (fInt w32)) (tyRef (named 6) mut (tyInt w32)) 6)) (room-gone 𝓤 H A (tyRef erased mut (tyInt w32))) refl tt refl refl refl (λ b o. tt)) $
-      stmt _ (G23 κs qs) (t-sl-aggregate 𝓤 H A W E (rtF (fInt w32)) 𝓣 (asMut (rtF (fInt w32))) _ 23 24 13 (tyRef erased mut (tyInt w32)) (tyRef erased mut (tyInt w32)) (λ x. x) (oFld 11 (field 1 ∷ []) (tyInt w64) 8 (λ v. lenV (v .0))) (as-is 𝓤 H A (msptr (rtF (fInt w32)) (tyRef erased mut (tyInt w32)) 13)) (room-gone 𝓤 H A _) (reads-owed-len 𝓤 H A W (rtF (fInt w32)) (tyRef (named 6) mut (tyInt w32)) 6 13 (lease (κs .1 .1 .1 .1 .1 .1 .0) (qs .1 .1 .1 .1 .1 .1 .0)) 8 refl, refl) refl refl (λ b o k. tt)) $
-      ghosts (G23 κs qs) _ (g-begin 𝓤 H A W E (G23 κs qs) 14 _) $
-      stmt _ _ (t-sl-relend 𝓤 H A W E (rtF (fInt w32)) 𝓣 _ 12 25 7 14 (tyRef (named 7) mut (tyInt w32)) (tyRef erased mut (tyInt w32)) (lease (κs .1 .1 .1 .1 .1 .1 .1 .0) (qs .1 .1 .1 .1 .1 .1 .1 .0)) 0 (λ x. x) (as-is 𝓤 H A (mslice (rtF (fInt w32)) (tyRef (named 7) mut (tyInt w32)) 7)) (room-gone 𝓤 H A (tyRef erased mut (tyInt w32))) refl tt refl refl refl (λ b o. tt)) $
-      stmt _ (G26 κs qs) (t-sl-aggregate 𝓤 H A W E (rtF (fInt w32)) 𝓣 (asMut (rtF (fInt w32))) _ 25 26 14 (tyRef erased mut (tyInt w32)) (tyRef erased mut (tyInt w32)) (λ x. x) (oFld 12 (field 1 ∷ []) (tyInt w64) 8 (λ v. lenV (v .0))) (as-is 𝓤 H A (msptr (rtF (fInt w32)) (tyRef erased mut (tyInt w32)) 14)) (room-gone 𝓤 H A _) (reads-owed-len 𝓤 H A W (rtF (fInt w32)) (tyRef (named 7) mut (tyInt w32)) 7 14 (lease (κs .1 .1 .1 .1 .1 .1 .1 .0) (qs .1 .1 .1 .1 .1 .1 .1 .0)) 8 refl, refl) refl refl (λ b o k. tt)) $
-      ghosts (G26 κs qs) _ (g-begin 𝓤 H A W E (G26 κs qs) 15 _) $
+      stmt _ _ (t-sl-aggregate 𝓤 H A W E (rtF (fInt w32)) 𝓣 (asMut (rtF (fInt w32))) _ 23 24 13 (tyRef erased mut (tyInt w32)) (tyRef erased mut (tyInt w32)) (λ x. x) (oFld 11 (field 1 ∷ []) (tyInt w64) 8 (λ v. lenV (v .0))) (as-is 𝓤 H A (msptr (rtF (fInt w32)) (tyRef erased mut (tyInt w32)) 13)) (room-gone 𝓤 H A _) (reads-owed-len 𝓤 H A W (rtF (fInt w32)) (tyRef (named 6) mut (tyInt w32)) 6 13 (lease (κs .1 .1 .1 .1 .1 .1 .0) (qs .1 .1 .1 .1 .1 .1 .0)) 8 refl, refl) refl refl (λ b o k. tt)) $
+      ghosts _ (G24 κs qs) (g-begin 𝓤 H A W E _ 14 _) $
+      stmt (G24 κs qs) _ (t-sl-relend 𝓤 H A W E (rtF (fInt w32)) 𝓣 (G24 κs qs) 12 25 7 14 (tyRef (named 7) mut (tyInt w32)) (tyRef erased mut (tyInt w32)) (lease (κs .1 .1 .1 .1 .1 .1 .1 .0) (qs .1 .1 .1 .1 .1 .1 .1 .0)) 0 (λ x. x) (as-is 𝓤 H A (mslice (rtF (fInt w32)) (tyRef (named 7) mut (tyInt w32)) 7)) (room-gone 𝓤 H A (tyRef erased mut (tyInt w32))) refl tt refl refl refl (λ b o. tt)) $
+      stmt _ _ (t-sl-aggregate 𝓤 H A W E (rtF (fInt w32)) 𝓣 (asMut (rtF (fInt w32))) _ 25 26 14 (tyRef erased mut (tyInt w32)) (tyRef erased mut (tyInt w32)) (λ x. x) (oFld 12 (field 1 ∷ []) (tyInt w64) 8 (λ v. lenV (v .0))) (as-is 𝓤 H A (msptr (rtF (fInt w32)) (tyRef erased mut (tyInt w32)) 14)) (room-gone 𝓤 H A _) (reads-owed-len 𝓤 H A W (rtF (fInt w32)) (tyRef (named 7) mut (tyInt w32)) 7 14 (lease (κs .1 .1 .1 .1 .1 .1 .1 .0) (qs .1 .1 .1 .1 .1 .1 .1 .0)) 8 refl, refl) refl refl (λ b o k. tt)) $
+      ghosts _ _ (g-begin 𝓤 H A W E _ 15 _) $
       stmt _ _ (t-sl-relend 𝓤 H A W E (rtF (fInt w32)) 𝓣 _ 13 27 8 15 (tyRef (named 8) mut (tyInt w32)) (tyRef erased mut (tyInt w32)) (lease (κs .1 .1 .1 .1 .1 .1 .1 .1 .0) (qs .1 .1 .1 .1 .1 .1 .1 .1 .0)) 0 (λ x. x) (as-is 𝓤 H A (mslice (rtF (fInt w32)) (tyRef (named 8) mut (tyInt w32)) 8)) (room-gone 𝓤 H A (tyRef erased mut (tyInt w32))) refl tt refl refl refl (λ b o. tt)) $
       stmt _ (G29 κs qs) (t-sl-aggregate 𝓤 H A W E (rtF (fInt w32)) 𝓣 (asMut (rtF (fInt w32))) _ 27 28 15 (tyRef erased mut (tyInt w32)) (tyRef erased mut (tyInt w32)) (λ x. x) (oFld 13 (field 1 ∷ []) (tyInt w64) 8 (λ v. lenV (v .0))) (as-is 𝓤 H A (msptr (rtF (fInt w32)) (tyRef erased mut (tyInt w32)) 15)) (room-gone 𝓤 H A _) (reads-owed-len 𝓤 H A W (rtF (fInt w32)) (tyRef (named 8) mut (tyInt w32)) 8 15 (lease (κs .1 .1 .1 .1 .1 .1 .1 .1 .0) (qs .1 .1 .1 .1 .1 .1 .1 .1 .0)) 8 refl, refl) refl refl (λ b o k. tt)) $
       ghosts (G29 κs qs) _ (g-begin 𝓤 H A W E (G29 κs qs) 16 _) $
       stmt _ _ (t-sl-relend 𝓤 H A W E twin-0.the-row 𝓣 _ 14 29 9 16 (tyRef (named 9) mut (pointee (twin-0.the-row .written))) (tyRef erased mut (pointee (twin-0.the-row .written))) (lease (κs .1 .1 .1 .1 .1 .1 .1 .1 .1 .0) (qs .1 .1 .1 .1 .1 .1 .1 .1 .1 .0)) 0 (λ x. x) (as-is 𝓤 H A (mslice twin-0.the-row (tyRef (named 9) mut (pointee (twin-0.the-row .written))) 9)) (room-gone 𝓤 H A (tyRef erased mut (pointee (twin-0.the-row .written)))) refl tt refl refl refl (λ b o. tt)) $
-      stmt _ (G32 κs qs) (t-sl-aggregate 𝓤 H A W E twin-0.the-row 𝓣 (asMut twin-0.the-row) _ 29 30 16 (tyRef erased mut (pointee (twin-0.the-row .written))) (tyRef erased mut (pointee (twin-0.the-row .written))) (λ x. x) (oFld 14 (field 1 ∷ []) (tyInt w64) 8 (λ v. lenV (v .0))) (as-is 𝓤 H A (msptr twin-0.the-row (tyRef erased mut (pointee (twin-0.the-row .written))) 16)) (room-gone 𝓤 H A _) (reads-owed-len 𝓤 H A W twin-0.the-row (tyRef (named 9) mut (pointee (twin-0.the-row .written))) 9 16 (lease (κs .1 .1 .1 .1 .1 .1 .1 .1 .1 .0) (qs .1 .1 .1 .1 .1 .1 .1 .1 .1 .0)) 8 refl, refl) refl refl (λ b o k. tt)) $
-      ghosts (G32 κs qs) _ (g-begin 𝓤 H A W E (G32 κs qs) 17 _) $
-      stmt _ _ (t-sl-relend 𝓤 H A W E (rtF (fInt w64)) 𝓣 _ 15 31 10 17 (tyRef (named 10) mut (tyInt w64)) (tyRef erased mut (tyInt w64)) (lease (κs .1 .1 .1 .1 .1 .1 .1 .1 .1 .1 .0) (qs .1 .1 .1 .1 .1 .1 .1 .1 .1 .1 .0)) 0 (λ x. x) (as-is 𝓤 H A (mslice (rtF (fInt w64)) (tyRef (named 10) mut (tyInt w64)) 10)) (room-gone 𝓤 H A (tyRef erased mut (tyInt w64))) refl tt refl refl refl (λ b o. tt)) $
-      stmt _ (G35 κs qs) (t-sl-aggregate 𝓤 H A W E (rtF (fInt w64)) 𝓣 (asMut (rtF (fInt w64))) _ 31 32 17 (tyRef erased mut (tyInt w64)) (tyRef erased mut (tyInt w64)) (λ x. x) (oFld 15 (field 1 ∷ []) (tyInt w64) 8 (λ v. lenV (v .0))) (as-is 𝓤 H A (msptr (rtF (fInt w64)) (tyRef erased mut (tyInt w64)) 17)) (room-gone 𝓤 H A _) (reads-owed-len 𝓤 H A W (rtF (fInt w64)) (tyRef (named 10) mut (tyInt w64)) 10 17 (lease (κs .1 .1 .1 .1 .1 .1 .1 .1 .1 .1 .0) (qs .1 .1 .1 .1 .1 .1 .1 .1 .1 .1 .0)) 8 refl, refl) refl refl (λ b o k. tt)) $
+      stmt _ _ (t-sl-aggregate 𝓤 H A W E twin-0.the-row 𝓣 (asMut twin-0.the-row) _ 29 30 16 (tyRef erased mut (pointee (twin-0.the-row .written))) (tyRef erased mut (pointee (twin-0.the-row .written))) (λ x. x) (oFld 14 (field 1 ∷ []) (tyInt w64) 8 (λ v. lenV (v .0))) (as-is 𝓤 H A (msptr twin-0.the-row (tyRef erased mut (pointee (twin-0.the-row .written))) 16)) (room-gone 𝓤 H A _) (reads-owed-len 𝓤 H A W twin-0.the-row (tyRef (named 9) mut (pointee (twin-0.the-row .written))) 9 16 (lease (κs .1 .1 .1 .1 .1 .1 .1 .1 .1 .0) (qs .1 .1 .1 .1 .1 .1 .1 .1 .1 .0)) 8 refl, refl) refl refl (λ b o k. tt)) $
+      ghosts _ _ (g-begin 𝓤 H A W E _ 17 _) $
+      stmt _ (G34 κs qs) (t-sl-relend 𝓤 H A W E (rtF (fInt w64)) 𝓣 _ 15 31 10 17 (tyRef (named 10) mut (tyInt w64)) (tyRef erased mut (tyInt w64)) (lease (κs .1 .1 .1 .1 .1 .1 .1 .1 .1 .1 .0) (qs .1 .1 .1 .1 .1 .1 .1 .1 .1 .1 .0)) 0 (λ x. x) (as-is 𝓤 H A (mslice (rtF (fInt w64)) (tyRef (named 10) mut (tyInt w64)) 10)) (room-gone 𝓤 H A (tyRef erased mut (tyInt w64))) refl tt refl refl refl (λ b o. tt)) $
+      stmt (G34 κs qs) (G35 κs qs) (t-sl-aggregate 𝓤 H A W E (rtF (fInt w64)) 𝓣 (asMut (rtF (fInt w64))) (G34 κs qs) 31 32 17 (tyRef erased mut (tyInt w64)) (tyRef erased mut (tyInt w64)) (λ x. x) (oFld 15 (field 1 ∷ []) (tyInt w64) 8 (λ v. lenV (v .0))) (as-is 𝓤 H A (msptr (rtF (fInt w64)) (tyRef erased mut (tyInt w64)) 17)) (room-gone 𝓤 H A _) (reads-owed-len 𝓤 H A W (rtF (fInt w64)) (tyRef (named 10) mut (tyInt w64)) 10 17 (lease (κs .1 .1 .1 .1 .1 .1 .1 .1 .1 .1 .0) (qs .1 .1 .1 .1 .1 .1 .1 .1 .1 .1 .0)) 8 refl, refl) refl refl (λ b o k. tt)) $
       stmt (G35 κs qs) (G36 κs qs) (t-call-plain 𝓤 H A W 𝓣 11 K1.ps K1.r K1.Asked K1.Learnt "topology::topology_kept_boundaries" known1 E (λ pos β. β) (G35 κs qs) (vAt 2 (λ x. x), (vAt 3 (λ x. x), (vAt 4 (λ x. x), (record { pos = 5; ty = tyRef (named 0) imm (tyInt w8); ref = λ x. x }, (record { pos = 6; ty = tyRef (named 1) imm (tyInt w64); ref = λ x. x }, (record { pos = 7; ty = tyRef (named 2) imm (tyInt w64); ref = λ x. x }, (record { pos = 8; ty = tyRef (named 3) imm (tyInt w64); ref = λ x. x }, (record { pos = 20; ty = tyRef erased mut (tyInt w32); ref = λ x. x }, (record { pos = 22; ty = tyRef erased mut (tyInt w16); ref = λ x. x }, (record { pos = 24; ty = tyRef erased mut (tyInt w32); ref = λ x. x }, (record { pos = 26; ty = tyRef erased mut (tyInt w32); ref = λ x. x }, (record { pos = 28; ty = tyRef erased mut (tyInt w32); ref = λ x. x }, (record { pos = 30; ty = tyRef erased mut (pointee (twin-0.the-row .written)); ref = λ x. x }, (record { pos = 32; ty = tyRef erased mut (tyInt w64); ref = λ x. x }, tt)))))))))))))) 16 (0 ∷ 1 ∷ 2 ∷ 3 ∷ 11 ∷ 12 ∷ 13 ∷ 14 ∷ 15 ∷ 16 ∷ 17 ∷ []) (sub-id 𝓤 H A W ((G35 κs qs) .slots)) ((reads-sc 𝓤 H A W (sInt w64), refl), ((reads-sc 𝓤 H A W (sInt w64), refl), ((reads-sc 𝓤 H A W (sInt w64), refl), (spares-sslice 𝓤 H A W (rtF (fInt w8)) (tyRef (named 0) imm (tyInt w8)) 0, reads-sslice 𝓤 H A W (rtF (fInt w8)) (tyRef (named 0) imm (tyInt w8)) 0, refl, (spares-sslice 𝓤 H A W (rtF (fInt w64)) (tyRef (named 1) imm (tyInt w64)) 1, reads-sslice 𝓤 H A W (rtF (fInt w64)) (tyRef (named 1) imm (tyInt w64)) 1, refl, (spares-sslice 𝓤 H A W (rtF (fInt w64)) (tyRef (named 2) imm (tyInt w64)) 2, reads-sslice 𝓤 H A W (rtF (fInt w64)) (tyRef (named 2) imm (tyInt w64)) 2, refl, (spares-sslice 𝓤 H A W (rtF (fInt w64)) (tyRef (named 3) imm (tyInt w64)) 3, reads-sslice 𝓤 H A W (rtF (fInt w64)) (tyRef (named 3) imm (tyInt w64)) 3, refl, (as-is 𝓤 H A (mslice (rtF (fInt w32)) (tyRef erased mut (tyInt w32)) 11), reads-mslice 𝓤 H A W (rtF (fInt w32)) (tyRef erased mut (tyInt w32)) 11, refl, (as-is 𝓤 H A (mslice (rtF (fInt w16)) (tyRef erased mut (tyInt w16)) 12), reads-mslice 𝓤 H A W (rtF (fInt w16)) (tyRef erased mut (tyInt w16)) 12, refl, (as-is 𝓤 H A (mslice (rtF (fInt w32)) (tyRef erased mut (tyInt w32)) 13), reads-mslice 𝓤 H A W (rtF (fInt w32)) (tyRef erased mut (tyInt w32)) 13, refl, (as-is 𝓤 H A (mslice (rtF (fInt w32)) (tyRef erased mut (tyInt w32)) 14), reads-mslice 𝓤 H A W (rtF (fInt w32)) (tyRef erased mut (tyInt w32)) 14, refl, (as-is 𝓤 H A (mslice (rtF (fInt w32)) (tyRef erased mut (tyInt w32)) 15), reads-mslice 𝓤 H A W (rtF (fInt w32)) (tyRef erased mut (tyInt w32)) 15, refl, (as-is 𝓤 H A (mslice twin-0.the-row (tyRef erased mut (pointee (twin-0.the-row .written))) 16), reads-mslice 𝓤 H A W twin-0.the-row (tyRef erased mut (pointee (twin-0.the-row .written))) 16, refl, (as-is 𝓤 H A (mslice (rtF (fInt w64)) (tyRef erased mut (tyInt w64)) 17), reads-mslice 𝓤 H A W (rtF (fInt w64)) (tyRef erased mut (tyInt w64)) 17, refl, tt)))))))))))))) (room-gone 𝓤 H A _) _ refl) $
       ghosts (G36 κs qs) _ (g-end 𝓤 H A W E (G36 κs qs) 11 refl) $
       ghosts _ _ (g-back-sl 𝓤 H A W E (rtF (fInt w32)) _ 20 9 4 11 (tyRef (named 4) mut (tyInt w32)) (tyRef erased mut (tyInt w32)) (lease (κs .1 .1 .1 .1 .0) (qs .1 .1 .1 .1 .0)) (λ x. x) (λ x. x) (as-is 𝓤 H A (msleft (rtF (fInt w32)) (tyRef erased mut (tyInt w32)))) (as-is 𝓤 H A (mslice-owed (rtF (fInt w32)) (tyRef (named 4) mut (tyInt w32)) 4 11 (lease (κs .1 .1 .1 .1 .0) (qs .1 .1 .1 .1 .0)))) refl refl) $
-      ghosts _ (G40 κs qs) (g-forget 𝓤 H A W E _ 11 dead refl) $
-      ghosts (G40 κs qs) _ (g-end 𝓤 H A W E (G40 κs qs) 12 refl) $
-      ghosts _ _ (g-back-sl 𝓤 H A W E (rtF (fInt w16)) _ 22 10 5 12 (tyRef (named 5) mut (tyInt w16)) (tyRef erased mut (tyInt w16)) (lease (κs .1 .1 .1 .1 .1 .0) (qs .1 .1 .1 .1 .1 .0)) (λ x. x) (λ x. x) (as-is 𝓤 H A (msleft (rtF (fInt w16)) (tyRef erased mut (tyInt w16)))) (as-is 𝓤 H A (mslice-owed (rtF (fInt w16)) (tyRef (named 5) mut (tyInt w16)) 5 12 (lease (κs .1 .1 .1 .1 .1 .0) (qs .1 .1 .1 .1 .1 .0)))) refl refl) $
-      ghosts _ (G44 κs qs) (g-forget 𝓤 H A W E _ 12 dead refl) $
-      ghosts (G44 κs qs) _ (g-end 𝓤 H A W E (G44 κs qs) 13 refl) $
+      ghosts _ _ (g-forget 𝓤 H A W E _ 11 dead refl) $
+      ghosts _ _ (g-end 𝓤 H A W E _ 12 refl) $
+      ghosts _ (G42 κs qs) (g-back-sl 𝓤 H A W E (rtF (fInt w16)) _ 22 10 5 12 (tyRef (named 5) mut (tyInt w16)) (tyRef erased mut (tyInt w16)) (lease (κs .1 .1 .1 .1 .1 .0) (qs .1 .1 .1 .1 .1 .0)) (λ x. x) (λ x. x) (as-is 𝓤 H A (msleft (rtF (fInt w16)) (tyRef erased mut (tyInt w16)))) (as-is 𝓤 H A (mslice-owed (rtF (fInt w16)) (tyRef (named 5) mut (tyInt w16)) 5 12 (lease (κs .1 .1 .1 .1 .1 .0) (qs .1 .1 .1 .1 .1 .0)))) refl refl) $
+      ghosts (G42 κs qs) _ (g-forget 𝓤 H A W E (G42 κs qs) 12 dead refl) $
+      ghosts _ _ (g-end 𝓤 H A W E _ 13 refl) $
       ghosts _ _ (g-back-sl 𝓤 H A W E (rtF (fInt w32)) _ 24 11 6 13 (tyRef (named 6) mut (tyInt w32)) (tyRef erased mut (tyInt w32)) (lease (κs .1 .1 .1 .1 .1 .1 .0) (qs .1 .1 .1 .1 .1 .1 .0)) (λ x. x) (λ x. x) (as-is 𝓤 H A (msleft (rtF (fInt w32)) (tyRef erased mut (tyInt w32)))) (as-is 𝓤 H A (mslice-owed (rtF (fInt w32)) (tyRef (named 6) mut (tyInt w32)) 6 13 (lease (κs .1 .1 .1 .1 .1 .1 .0) (qs .1 .1 .1 .1 .1 .1 .0)))) refl refl) $
-      ghosts _ (G48 κs qs) (g-forget 𝓤 H A W E _ 13 dead refl) $
-      ghosts (G48 κs qs) _ (g-end 𝓤 H A W E (G48 κs qs) 14 refl) $
-      ghosts _ _ (g-back-sl 𝓤 H A W E (rtF (fInt w32)) _ 26 12 7 14 (tyRef (named 7) mut (tyInt w32)) (tyRef erased mut (tyInt w32)) (lease (κs .1 .1 .1 .1 .1 .1 .1 .0) (qs .1 .1 .1 .1 .1 .1 .1 .0)) (λ x. x) (λ x. x) (as-is 𝓤 H A (msleft (rtF (fInt w32)) (tyRef erased mut (tyInt w32)))) (as-is 𝓤 H A (mslice-owed (rtF (fInt w32)) (tyRef (named 7) mut (tyInt w32)) 7 14 (lease (κs .1 .1 .1 .1 .1 .1 .1 .0) (qs .1 .1 .1 .1 .1 .1 .1 .0)))) refl refl) $
-      ghosts _ (G52 κs qs) (g-forget 𝓤 H A W E _ 14 dead refl) $
-      ghosts (G52 κs qs) _ (g-end 𝓤 H A W E (G52 κs qs) 15 refl) $
+      ghosts _ _ (g-forget 𝓤 H A W E _ 13 dead refl) $
+      ghosts _ (G49 κs qs) (g-end 𝓤 H A W E _ 14 refl) $
+      ghosts (G49 κs qs) _ (g-back-sl 𝓤 H A W E (rtF (fInt w32)) (G49 κs qs) 26 12 7 14 (tyRef (named 7) mut (tyInt w32)) (tyRef erased mut (tyInt w32)) (lease (κs .1 .1 .1 .1 .1 .1 .1 .0) (qs .1 .1 .1 .1 .1 .1 .1 .0)) (λ x. x) (λ x. x) (as-is 𝓤 H A (msleft (rtF (fInt w32)) (tyRef erased mut (tyInt w32)))) (as-is 𝓤 H A (mslice-owed (rtF (fInt w32)) (tyRef (named 7) mut (tyInt w32)) 7 14 (lease (κs .1 .1 .1 .1 .1 .1 .1 .0) (qs .1 .1 .1 .1 .1 .1 .1 .0)))) refl refl) $
+      ghosts _ _ (g-forget 𝓤 H A W E _ 14 dead refl) $
+      ghosts _ _ (g-end 𝓤 H A W E _ 15 refl) $
       ghosts _ _ (g-back-sl 𝓤 H A W E (rtF (fInt w32)) _ 28 13 8 15 (tyRef (named 8) mut (tyInt w32)) (tyRef erased mut (tyInt w32)) (lease (κs .1 .1 .1 .1 .1 .1 .1 .1 .0) (qs .1 .1 .1 .1 .1 .1 .1 .1 .0)) (λ x. x) (λ x. x) (as-is 𝓤 H A (msleft (rtF (fInt w32)) (tyRef erased mut (tyInt w32)))) (as-is 𝓤 H A (mslice-owed (rtF (fInt w32)) (tyRef (named 8) mut (tyInt w32)) 8 15 (lease (κs .1 .1 .1 .1 .1 .1 .1 .1 .0) (qs .1 .1 .1 .1 .1 .1 .1 .1 .0)))) refl refl) $
       ghosts _ (G56 κs qs) (g-forget 𝓤 H A W E _ 15 dead refl) $
       ghosts (G56 κs qs) _ (g-end 𝓤 H A W E (G56 κs qs) 16 refl) $
       ghosts _ _ (g-back-sl 𝓤 H A W E twin-0.the-row _ 30 14 9 16 (tyRef (named 9) mut (pointee (twin-0.the-row .written))) (tyRef erased mut (pointee (twin-0.the-row .written))) (lease (κs .1 .1 .1 .1 .1 .1 .1 .1 .1 .0) (qs .1 .1 .1 .1 .1 .1 .1 .1 .1 .0)) (λ x. x) (λ x. x) (as-is 𝓤 H A (msleft twin-0.the-row (tyRef erased mut (pointee (twin-0.the-row .written))))) (as-is 𝓤 H A (mslice-owed twin-0.the-row (tyRef (named 9) mut (pointee (twin-0.the-row .written))) 9 16 (lease (κs .1 .1 .1 .1 .1 .1 .1 .1 .1 .0) (qs .1 .1 .1 .1 .1 .1 .1 .1 .1 .0)))) refl refl) $
-      ghosts _ (G59 κs qs) (g-forget 𝓤 H A W E _ 16 dead refl) $
-      ghosts (G59 κs qs) _ (g-end 𝓤 H A W E (G59 κs qs) 17 refl) $
-      ghosts _ _ (g-back-sl 𝓤 H A W E (rtF (fInt w64)) _ 32 15 10 17 (tyRef (named 10) mut (tyInt w64)) (tyRef erased mut (tyInt w64)) (lease (κs .1 .1 .1 .1 .1 .1 .1 .1 .1 .1 .0) (qs .1 .1 .1 .1 .1 .1 .1 .1 .1 .1 .0)) (λ x. x) (λ x. x) (as-is 𝓤 H A (msleft (rtF (fInt w64)) (tyRef erased mut (tyInt w64)))) (as-is 𝓤 H A (mslice-owed (rtF (fInt w64)) (tyRef (named 10) mut (tyInt w64)) 10 17 (lease (κs .1 .1 .1 .1 .1 .1 .1 .1 .1 .1 .0) (qs .1 .1 .1 .1 .1 .1 .1 .1 .1 .1 .0)))) refl refl) $
-      ghosts _ (G63 κs qs) (g-forget 𝓤 H A W E _ 17 dead refl) $
+      ghosts _ _ (g-forget 𝓤 H A W E _ 16 dead refl) $
+      ghosts _ _ (g-end 𝓤 H A W E _ 17 refl) $
+      ghosts _ (G61 κs qs) (g-back-sl 𝓤 H A W E (rtF (fInt w64)) _ 32 15 10 17 (tyRef (named 10) mut (tyInt w64)) (tyRef erased mut (tyInt w64)) (lease (κs .1 .1 .1 .1 .1 .1 .1 .1 .1 .1 .0) (qs .1 .1 .1 .1 .1 .1 .1 .1 .1 .1 .0)) (λ x. x) (λ x. x) (as-is 𝓤 H A (msleft (rtF (fInt w64)) (tyRef erased mut (tyInt w64)))) (as-is 𝓤 H A (mslice-owed (rtF (fInt w64)) (tyRef (named 10) mut (tyInt w64)) 10 17 (lease (κs .1 .1 .1 .1 .1 .1 .1 .1 .1 .1 .0) (qs .1 .1 .1 .1 .1 .1 .1 .1 .1 .1 .0)))) refl refl) $
+      ghosts (G61 κs qs) (G63 κs qs) (g-forget 𝓤 H A W E (G61 κs qs) 17 dead refl) $
       from-added) (
       ghosts (G12 κs qs) (G0 κs qs) (g-room 𝓤 H A W E (G12 κs qs) 17 tyBool (room-sc 𝓤 H A W sBool)) $
       last (G0 κs qs) (G13 κs qs) (then W (G0 κs qs) (G75 κs qs) (G13 κs qs) (t-call-plain 𝓤 H A W 𝓣 0 K3.ps K3.r R3.Asked R3.Learnt "report_figures::call_figures::beyond" known3 E (λ pos β. β) (G0 κs qs) (record { pos = 1; st = []; d = 0; at = λ x. x }, tt) 18 [] (sub-id 𝓤 H A W ((G0 κs qs) .slots)) ((yields-copy 𝓤 H A W (λ ρ. Unit) (row Report.the-type) refl (cStruct Report.the-type Laws.the-laws Laws.the-copy .copy 𝓤 H A W) (whole (row Report.the-type)) (λ x. x) (λ x. x) (λ ρ told. mem-whole 𝓤 H A W (row Report.the-type) ρ) (λ ρ told. whole-mem 𝓤 H A W (row Report.the-type) ρ), refl), tt) (room-gone 𝓤 H A _) tt refl) (g-room 𝓤 H A W E (G75 κs qs) 1 _ (room-whole 𝓤 H A W (row Report.the-type) _ refl))))) $
       stmt (G13 κs qs) _ (t-val-copy 𝓤 H A W E 𝓣 (λ ρ. Unit) (G13 κs qs) 18 0 (row Reported.the-type) _ _ (whole (row Reported.the-type)) (whole (row Reported.the-type)) (λ x. x) (λ x. x) (λ x. x) refl (told-none 𝓤 H A ((G13 κs qs) .slots)) (yields-copy 𝓤 H A W (λ ρ. Unit) (row Reported.the-type) refl (cStruct Reported.the-type Laws'.the-laws Laws'.the-copy .copy 𝓤 H A W) (whole (row Reported.the-type)) (λ x. x) (λ x. x) (λ ρ told. mem-whole 𝓤 H A W (row Reported.the-type) ρ) (λ ρ told. whole-mem 𝓤 H A W (row Reported.the-type) ρ)) (room-gone 𝓤 H A _) (makes-mem 𝓤 H A W (λ ρ. Unit) (row Reported.the-type) refl (whole (row Reported.the-type)) (λ x. x) (λ ρ told. whole-mem 𝓤 H A W (row Reported.the-type) ρ)) refl refl) $
       ghosts _ _ (g-room 𝓤 H A W E _ 18 _ (room-whole 𝓤 H A W (row Reported.the-type) _ refl)) $
-      ghosts _ (G79 κs qs) (g-room 𝓤 H A W E _ 2 (tyInt w64) (room-sc 𝓤 H A W (sInt w64))) $
-      ghosts (G79 κs qs) _ (g-room 𝓤 H A W E (G79 κs qs) 3 (tyInt w64) (room-sc 𝓤 H A W (sInt w64))) $
+      ghosts _ _ (g-room 𝓤 H A W E _ 2 (tyInt w64) (room-sc 𝓤 H A W (sInt w64))) $
+      ghosts _ _ (g-room 𝓤 H A W E _ 3 (tyInt w64) (room-sc 𝓤 H A W (sInt w64))) $
       ghosts _ (G81 κs qs) (g-room 𝓤 H A W E _ 4 (tyInt w64) (room-sc 𝓤 H A W (sInt w64))) $
       rets
 

@@ -51,6 +51,9 @@ module _ (κs : Lfts 10) (qs : Shares 10) where
   abbrev row7 : Row
   row7 = mslice-owed (rtF (fInt w16)) (tyRef (named 5) mut (tyInt w16)) 5 11 (lease (κs .1 .1 .1 .1 .1 .0) (qs .1 .1 .1 .1 .1 .0))
 
+  abbrev row8 : Row
+  row8 = msptr (rtF (fInt w16)) (tyRef erased mut (tyInt w16)) 11
+
   abbrev row9 : Row
   row9 = mslice (rtF (fInt w16)) (tyRef erased mut (tyInt w16)) 11
 
@@ -87,6 +90,9 @@ module _ (κs : Lfts 10) (qs : Shares 10) where
   abbrev row22 : Row
   row22 = mslice-owed (rtF (fInt w64)) (tyRef (named 8) mut (tyInt w64)) 8 15 (lease (κs .1 .1 .1 .1 .1 .1 .1 .1 .0) (qs .1 .1 .1 .1 .1 .1 .1 .1 .0))
 
+  abbrev row23 : Row
+  row23 = msptr (rtF (fInt w64)) (tyRef erased mut (tyInt w64)) 15
+
   abbrev row25 : Row
   row25 = mslice-owed (rtF (fInt w64)) (tyRef (named 9) mut (tyInt w64)) 9 16 (lease (κs .1 .1 .1 .1 .1 .1 .1 .1 .1 .0) (qs .1 .1 .1 .1 .1 .1 .1 .1 .1 .0))
 
@@ -105,14 +111,11 @@ module _ (κs : Lfts 10) (qs : Shares 10) where
   abbrev pub G14 : Cx
   G14 = patched ((15, row2) ∷ (16, row3) ∷ []) ([]) G0
 
-  abbrev pub G17 : Cx
-  G17 = patched ((14, row4) ∷ (15, row2) ∷ (16, row3) ∷ (19, row6) ∷ []) ((9, off) ∷ (10, alive) ∷ []) G0
+  abbrev pub G19 : Cx
+  G19 = patched ((10, row7) ∷ (14, row4) ∷ (15, row2) ∷ (16, row3) ∷ (19, row6) ∷ (20, row8) ∷ []) ((5, off) ∷ (9, off) ∷ (10, alive) ∷ (11, alive) ∷ []) G0
 
-  abbrev pub G20 : Cx
-  G20 = patched ((10, row7) ∷ (14, row4) ∷ (15, row2) ∷ (16, row3) ∷ (19, row6) ∷ (21, row9) ∷ []) ((5, off) ∷ (9, off) ∷ (10, alive) ∷ (11, alive) ∷ []) G0
-
-  abbrev pub G23 : Cx
-  G23 = patched ((10, row7) ∷ (11, row10) ∷ (14, row4) ∷ (15, row2) ∷ (16, row3) ∷ (19, row6) ∷ (21, row9) ∷ (23, row12) ∷ []) ((5, off) ∷ (6, off) ∷ (9, off) ∷ (10, alive) ∷ (11, alive) ∷ (12, alive) ∷ []) G0
+  abbrev pub G24 : Cx
+  G24 = patched ((10, row7) ∷ (11, row10) ∷ (14, row4) ∷ (15, row2) ∷ (16, row3) ∷ (19, row6) ∷ (21, row9) ∷ (23, row12) ∷ []) ((5, off) ∷ (6, off) ∷ (9, off) ∷ (10, alive) ∷ (11, alive) ∷ (12, alive) ∷ (13, alive) ∷ []) G0
 
   abbrev pub G25 : Cx
   G25 = patched ((10, row7) ∷ (11, row10) ∷ (14, row4) ∷ (15, row13) ∷ (16, row3) ∷ (19, row6) ∷ (21, row9) ∷ (23, row12) ∷ (24, row14) ∷ []) ((5, off) ∷ (6, off) ∷ (9, off) ∷ (10, alive) ∷ (11, alive) ∷ (12, alive) ∷ (13, alive) ∷ []) G0
@@ -120,26 +123,17 @@ module _ (κs : Lfts 10) (qs : Shares 10) where
   abbrev pub G26 : Cx
   G26 = patched ((10, row7) ∷ (11, row10) ∷ (14, row4) ∷ (15, row13) ∷ (16, row3) ∷ (17, row15) ∷ (19, row6) ∷ (21, row16) ∷ (23, row17) ∷ (24, row18) ∷ []) ((5, off) ∷ (6, off) ∷ (9, off) ∷ (10, alive) ∷ (11, alive) ∷ (12, alive) ∷ (13, alive) ∷ []) G0
 
-  abbrev pub G29 : Cx
-  G29 = patched ((10, row7) ∷ (11, row10) ∷ (14, row4) ∷ (15, row13) ∷ (16, row3) ∷ (21, row16) ∷ (23, row17) ∷ (24, row18) ∷ []) ((5, off) ∷ (6, off) ∷ (9, off) ∷ (10, dead) ∷ (11, alive) ∷ (12, alive) ∷ (13, alive) ∷ []) G0
+  abbrev pub G31 : Cx
+  G31 = patched ((10, row7) ∷ (11, row10) ∷ (15, row13) ∷ (16, row3) ∷ (21, row16) ∷ (23, row17) ∷ (24, row18) ∷ []) ((5, off) ∷ (6, off) ∷ (11, alive) ∷ (12, alive) ∷ (13, alive) ∷ []) G0
 
-  abbrev pub G32 : Cx
-  G32 = patched ((10, row7) ∷ (11, row10) ∷ (15, row13) ∷ (16, row3) ∷ (21, row16) ∷ (23, row17) ∷ (24, row18) ∷ []) ((5, off) ∷ (6, off) ∷ (11, dead) ∷ (12, alive) ∷ (13, alive) ∷ []) G0
+  abbrev pub G37 : Cx
+  G37 = patched ((15, row13) ∷ (16, row3) ∷ (24, row18) ∷ []) ((12, dead) ∷ (13, alive) ∷ []) G0
 
-  abbrev pub G36 : Cx
-  G36 = patched ((11, row10) ∷ (15, row13) ∷ (16, row3) ∷ (23, row17) ∷ (24, row18) ∷ []) ((6, off) ∷ (12, dead) ∷ (13, alive) ∷ []) G0
+  abbrev pub G47 : Cx
+  G47 = patched ((12, row19) ∷ (13, row22) ∷ (15, row2) ∷ (16, row3) ∷ (26, row21 14) ∷ (27, row23) ∷ []) ((7, off) ∷ (8, off) ∷ (14, alive) ∷ (15, alive) ∷ []) G0
 
-  abbrev pub G40 : Cx
-  G40 = patched ((15, row13) ∷ (16, row3) ∷ (24, row18) ∷ []) ((13, dead) ∷ []) G0
-
-  abbrev pub G45 : Cx
-  G45 = patched ((12, row19) ∷ (15, row2) ∷ (16, row3) ∷ (26, row21 14) ∷ []) ((7, off) ∷ (14, alive) ∷ []) G0
-
-  abbrev pub G48 : Cx
-  G48 = patched ((12, row19) ∷ (13, row22) ∷ (15, row2) ∷ (16, row3) ∷ (26, row21 14) ∷ (28, row21 15) ∷ []) ((7, off) ∷ (8, off) ∷ (14, alive) ∷ (15, alive) ∷ []) G0
-
-  abbrev pub G51 : Cx
-  G51 = patched ((12, row19) ∷ (13, row22) ∷ (14, row25) ∷ (15, row2) ∷ (16, row3) ∷ (26, row21 14) ∷ (28, row21 15) ∷ (30, row21 16) ∷ []) ((7, off) ∷ (8, off) ∷ (9, off) ∷ (14, alive) ∷ (15, alive) ∷ (16, alive) ∷ []) G0
+  abbrev pub G52 : Cx
+  G52 = patched ((12, row19) ∷ (13, row22) ∷ (14, row25) ∷ (15, row2) ∷ (16, row3) ∷ (26, row21 14) ∷ (28, row21 15) ∷ (30, row21 16) ∷ []) ((7, off) ∷ (8, off) ∷ (9, off) ∷ (14, alive) ∷ (15, alive) ∷ (16, alive) ∷ (17, alive) ∷ []) G0
 
   abbrev pub G53 : Cx
   G53 = patched ((12, row19) ∷ (13, row22) ∷ (14, row25) ∷ (15, row28) ∷ (16, row3) ∷ (26, row21 14) ∷ (28, row21 15) ∷ (30, row21 16) ∷ (31, row29) ∷ []) ((7, off) ∷ (8, off) ∷ (9, off) ∷ (14, alive) ∷ (15, alive) ∷ (16, alive) ∷ (17, alive) ∷ []) G0
@@ -147,23 +141,14 @@ module _ (κs : Lfts 10) (qs : Shares 10) where
   abbrev pub G54 : Cx
   G54 = patched ((0, row3) ∷ (12, row19) ∷ (13, row22) ∷ (14, row25) ∷ (15, row28) ∷ (16, row3) ∷ (26, row30) ∷ (28, row30) ∷ (30, row30) ∷ (31, row29) ∷ []) ((7, off) ∷ (8, off) ∷ (9, off) ∷ (14, alive) ∷ (15, alive) ∷ (16, alive) ∷ (17, alive) ∷ []) G0
 
-  abbrev pub G57 : Cx
-  G57 = patched ((0, row3) ∷ (7, (any-gone (ty 7))) ∷ (12, row19) ∷ (13, row22) ∷ (14, row25) ∷ (15, row28) ∷ (26, row30) ∷ (28, row30) ∷ (30, row30) ∷ []) ((7, off) ∷ (8, off) ∷ (9, off) ∷ (14, alive) ∷ (15, alive) ∷ (16, alive) ∷ (17, alive) ∷ []) G0
+  abbrev pub G59 : Cx
+  G59 = patched ((0, row3) ∷ (7, (any-gone (ty 7))) ∷ (13, row22) ∷ (14, row25) ∷ (15, row28) ∷ (28, row30) ∷ (30, row30) ∷ []) ((8, off) ∷ (9, off) ∷ (14, dead) ∷ (15, alive) ∷ (16, alive) ∷ (17, alive) ∷ []) G0
 
-  abbrev pub G61 : Cx
-  G61 = patched ((0, row3) ∷ (7, (any-gone (ty 7))) ∷ (13, row22) ∷ (14, row25) ∷ (15, row28) ∷ (28, row30) ∷ (30, row30) ∷ []) ((8, off) ∷ (9, off) ∷ (15, alive) ∷ (16, alive) ∷ (17, alive) ∷ []) G0
-
-  abbrev pub G65 : Cx
-  G65 = patched ((0, row3) ∷ (7, (any-gone (ty 7))) ∷ (14, row25) ∷ (15, row28) ∷ (30, row30) ∷ []) ((9, off) ∷ (16, alive) ∷ (17, alive) ∷ []) G0
-
-  abbrev pub G69 : Cx
-  G69 = patched ((0, row3) ∷ (7, (any-gone (ty 7))) ∷ (15, row28) ∷ []) ((17, alive) ∷ []) G0
+  abbrev pub G66 : Cx
+  G66 = patched ((0, row3) ∷ (7, (any-gone (ty 7))) ∷ (14, row25) ∷ (15, row28) ∷ (30, row30) ∷ []) ((9, off) ∷ (16, dead) ∷ (17, alive) ∷ []) G0
 
   abbrev pub G72 : Cx
   G72 = patched ((0, row3) ∷ (7, (any-gone (ty 7))) ∷ (15, row2) ∷ []) ([]) G0
-
-  abbrev pub G75 : Cx
-  G75 = patched ((0, row3) ∷ (1, (any-gone (ty 1))) ∷ (3, (any-gone (ty 3))) ∷ (7, (any-gone (ty 7))) ∷ []) ([]) G0
 
   abbrev pub G76 : Cx
   G76 = patched ((0, row3) ∷ (1, (any-gone (ty 1))) ∷ (3, (any-gone (ty 3))) ∷ (4, (any-gone (ty 4))) ∷ (7, (any-gone (ty 7))) ∷ []) ([]) G0
@@ -180,35 +165,35 @@ module _ {M : Type 1} (𝓤 : URA M) (H : Heap 𝓤) (A : Atoms 𝓤) (W : Given
   from-keep =
       ghosts (G14 κs qs) _ (g-begin 𝓤 H A W E (G14 κs qs) 14 _) $
       stmt _ _ (t-sl-relend 𝓤 H A W E (rtF (fInt w64)) 𝓣 _ 12 25 7 14 (tyRef (named 7) mut (tyInt w64)) (tyRef erased mut (tyInt w64)) (lease (κs .1 .1 .1 .1 .1 .1 .1 .0) (qs .1 .1 .1 .1 .1 .1 .1 .0)) 0 (λ x. x) (as-is 𝓤 H A (mslice (rtF (fInt w64)) (tyRef (named 7) mut (tyInt w64)) 7)) (room-gone 𝓤 H A (tyRef erased mut (tyInt w64))) refl tt refl refl refl (λ b o. tt)) $
-      stmt _ (G45 κs qs) (t-sl-aggregate 𝓤 H A W E (rtF (fInt w64)) 𝓣 (asMut (rtF (fInt w64))) _ 25 26 14 (tyRef erased mut (tyInt w64)) (tyRef erased mut (tyInt w64)) (λ x. x) (oFld 12 (field 1 ∷ []) (tyInt w64) 8 (λ v. lenV (v .0))) (as-is 𝓤 H A (msptr (rtF (fInt w64)) (tyRef erased mut (tyInt w64)) 14)) (room-gone 𝓤 H A _) (reads-owed-len 𝓤 H A W (rtF (fInt w64)) (tyRef (named 7) mut (tyInt w64)) 7 14 (lease (κs .1 .1 .1 .1 .1 .1 .1 .0) (qs .1 .1 .1 .1 .1 .1 .1 .0)) 8 refl, refl) refl refl (λ b o k. tt)) $
-      ghosts (G45 κs qs) _ (g-begin 𝓤 H A W E (G45 κs qs) 15 _) $
-      stmt _ _ (t-sl-relend 𝓤 H A W E (rtF (fInt w64)) 𝓣 _ 13 27 8 15 (tyRef (named 8) mut (tyInt w64)) (tyRef erased mut (tyInt w64)) (lease (κs .1 .1 .1 .1 .1 .1 .1 .1 .0) (qs .1 .1 .1 .1 .1 .1 .1 .1 .0)) 0 (λ x. x) (as-is 𝓤 H A (mslice (rtF (fInt w64)) (tyRef (named 8) mut (tyInt w64)) 8)) (room-gone 𝓤 H A (tyRef erased mut (tyInt w64))) refl tt refl refl refl (λ b o. tt)) $
-      stmt _ (G48 κs qs) (t-sl-aggregate 𝓤 H A W E (rtF (fInt w64)) 𝓣 (asMut (rtF (fInt w64))) _ 27 28 15 (tyRef erased mut (tyInt w64)) (tyRef erased mut (tyInt w64)) (λ x. x) (oFld 13 (field 1 ∷ []) (tyInt w64) 8 (λ v. lenV (v .0))) (as-is 𝓤 H A (msptr (rtF (fInt w64)) (tyRef erased mut (tyInt w64)) 15)) (room-gone 𝓤 H A _) (reads-owed-len 𝓤 H A W (rtF (fInt w64)) (tyRef (named 8) mut (tyInt w64)) 8 15 (lease (κs .1 .1 .1 .1 .1 .1 .1 .1 .0) (qs .1 .1 .1 .1 .1 .1 .1 .1 .0)) 8 refl, refl) refl refl (λ b o k. tt)) $
-      ghosts (G48 κs qs) _ (g-begin 𝓤 H A W E (G48 κs qs) 16 _) $
+      stmt _ _ (t-sl-aggregate 𝓤 H A W E (rtF (fInt w64)) 𝓣 (asMut (rtF (fInt w64))) _ 25 26 14 (tyRef erased mut (tyInt w64)) (tyRef erased mut (tyInt w64)) (λ x. x) (oFld 12 (field 1 ∷ []) (tyInt w64) 8 (λ v. lenV (v .0))) (as-is 𝓤 H A (msptr (rtF (fInt w64)) (tyRef erased mut (tyInt w64)) 14)) (room-gone 𝓤 H A _) (reads-owed-len 𝓤 H A W (rtF (fInt w64)) (tyRef (named 7) mut (tyInt w64)) 7 14 (lease (κs .1 .1 .1 .1 .1 .1 .1 .0) (qs .1 .1 .1 .1 .1 .1 .1 .0)) 8 refl, refl) refl refl (λ b o k. tt)) $
+      ghosts _ _ (g-begin 𝓤 H A W E _ 15 _) $
+      stmt _ (G47 κs qs) (t-sl-relend 𝓤 H A W E (rtF (fInt w64)) 𝓣 _ 13 27 8 15 (tyRef (named 8) mut (tyInt w64)) (tyRef erased mut (tyInt w64)) (lease (κs .1 .1 .1 .1 .1 .1 .1 .1 .0) (qs .1 .1 .1 .1 .1 .1 .1 .1 .0)) 0 (λ x. x) (as-is 𝓤 H A (mslice (rtF (fInt w64)) (tyRef (named 8) mut (tyInt w64)) 8)) (room-gone 𝓤 H A (tyRef erased mut (tyInt w64))) refl tt refl refl refl (λ b o. tt)) $
+      stmt (G47 κs qs) _ (t-sl-aggregate 𝓤 H A W E (rtF (fInt w64)) 𝓣 (asMut (rtF (fInt w64))) (G47 κs qs) 27 28 15 (tyRef erased mut (tyInt w64)) (tyRef erased mut (tyInt w64)) (λ x. x) (oFld 13 (field 1 ∷ []) (tyInt w64) 8 (λ v. lenV (v .0))) (as-is 𝓤 H A (msptr (rtF (fInt w64)) (tyRef erased mut (tyInt w64)) 15)) (room-gone 𝓤 H A _) (reads-owed-len 𝓤 H A W (rtF (fInt w64)) (tyRef (named 8) mut (tyInt w64)) 8 15 (lease (κs .1 .1 .1 .1 .1 .1 .1 .1 .0) (qs .1 .1 .1 .1 .1 .1 .1 .1 .0)) 8 refl, refl) refl refl (λ b o k. tt)) $
+      ghosts _ _ (g-begin 𝓤 H A W E _ 16 _) $
       stmt _ _ (t-sl-relend 𝓤 H A W E (rtF (fInt w64)) 𝓣 _ 14 29 9 16 (tyRef (named 9) mut (tyInt w64)) (tyRef erased mut (tyInt w64)) (lease (κs .1 .1 .1 .1 .1 .1 .1 .1 .1 .0) (qs .1 .1 .1 .1 .1 .1 .1 .1 .1 .0)) 0 (λ x. x) (as-is 𝓤 H A (mslice (rtF (fInt w64)) (tyRef (named 9) mut (tyInt w64)) 9)) (room-gone 𝓤 H A (tyRef erased mut (tyInt w64))) refl tt refl refl refl (λ b o. tt)) $
-      stmt _ (G51 κs qs) (t-sl-aggregate 𝓤 H A W E (rtF (fInt w64)) 𝓣 (asMut (rtF (fInt w64))) _ 29 30 16 (tyRef erased mut (tyInt w64)) (tyRef erased mut (tyInt w64)) (λ x. x) (oFld 14 (field 1 ∷ []) (tyInt w64) 8 (λ v. lenV (v .0))) (as-is 𝓤 H A (msptr (rtF (fInt w64)) (tyRef erased mut (tyInt w64)) 16)) (room-gone 𝓤 H A _) (reads-owed-len 𝓤 H A W (rtF (fInt w64)) (tyRef (named 9) mut (tyInt w64)) 9 16 (lease (κs .1 .1 .1 .1 .1 .1 .1 .1 .1 .0) (qs .1 .1 .1 .1 .1 .1 .1 .1 .1 .0)) 8 refl, refl) refl refl (λ b o k. tt)) $
-      ghosts (G51 κs qs) _ (g-begin 𝓤 H A W E (G51 κs qs) 17 _) $
-      stmt _ (G53 κs qs) (t-sc-share 𝓤 H A W E 𝓣 _ 15 31 17 (Array (rtF fBool) 256) (tyRef erased imm (tyArray tyBool 256)) (λ x. x) (mem-arr 𝓤 H A W (rtF fBool) 256) (room-gone 𝓤 H A (tyRef erased imm (tyArray tyBool 256))) refl (λ b o. tt)) $
+      stmt _ _ (t-sl-aggregate 𝓤 H A W E (rtF (fInt w64)) 𝓣 (asMut (rtF (fInt w64))) _ 29 30 16 (tyRef erased mut (tyInt w64)) (tyRef erased mut (tyInt w64)) (λ x. x) (oFld 14 (field 1 ∷ []) (tyInt w64) 8 (λ v. lenV (v .0))) (as-is 𝓤 H A (msptr (rtF (fInt w64)) (tyRef erased mut (tyInt w64)) 16)) (room-gone 𝓤 H A _) (reads-owed-len 𝓤 H A W (rtF (fInt w64)) (tyRef (named 9) mut (tyInt w64)) 9 16 (lease (κs .1 .1 .1 .1 .1 .1 .1 .1 .1 .0) (qs .1 .1 .1 .1 .1 .1 .1 .1 .1 .0)) 8 refl, refl) refl refl (λ b o k. tt)) $
+      ghosts _ (G52 κs qs) (g-begin 𝓤 H A W E _ 17 _) $
+      stmt (G52 κs qs) (G53 κs qs) (t-sc-share 𝓤 H A W E 𝓣 (G52 κs qs) 15 31 17 (Array (rtF fBool) 256) (tyRef erased imm (tyArray tyBool 256)) (λ x. x) (mem-arr 𝓤 H A W (rtF fBool) 256) (room-gone 𝓤 H A (tyRef erased imm (tyArray tyBool 256))) refl (λ b o. tt)) $
       stmt (G53 κs qs) (G54 κs qs) (t-call-plain 𝓤 H A W 𝓣 4 K1.ps K1.r R1.Asked R1.Learnt "rest_lists::kept::keep_left" known1 E (λ pos β. β) (G53 κs qs) (record { pos = 26; ty = tyRef erased mut (tyInt w64); ref = λ x. x }, (record { pos = 28; ty = tyRef erased mut (tyInt w64); ref = λ x. x }, (record { pos = 30; ty = tyRef erased mut (tyInt w64); ref = λ x. x }, (record { pos = 31; ty = tyRef erased imm (tyArray tyBool 256); ref = λ x. x }, (vFld 7 (field 0 ∷ []) 0 (λ x. struct .as-values x .0), tt))))) 0 (14 ∷ 15 ∷ 16 ∷ 17 ∷ []) (sub-id 𝓤 H A W ((G53 κs qs) .slots)) (as-is 𝓤 H A (mslice (rtF (fInt w64)) (tyRef erased mut (tyInt w64)) 14), reads-mslice 𝓤 H A W (rtF (fInt w64)) (tyRef erased mut (tyInt w64)) 14, refl, (as-is 𝓤 H A (mslice (rtF (fInt w64)) (tyRef erased mut (tyInt w64)) 15), reads-mslice 𝓤 H A W (rtF (fInt w64)) (tyRef erased mut (tyInt w64)) 15, refl, (as-is 𝓤 H A (mslice (rtF (fInt w64)) (tyRef erased mut (tyInt w64)) 16), reads-mslice 𝓤 H A W (rtF (fInt w64)) (tyRef erased mut (tyInt w64)) 16, refl, (spares-sref 𝓤 H A W (Array (rtF fBool) 256) (tyRef erased imm (tyArray tyBool 256)) 17, reads-sref 𝓤 H A W (Array (rtF fBool) 256) (tyRef erased imm (tyArray tyBool 256)) 17, refl, ((reads-field 𝓤 H A W Standing.the-type Laws.the-laws 0 (tyInt w64) 0 refl, refl), tt))))) (room-gone 𝓤 H A (tyInt w64)) _ refl) $
       ghosts (G54 κs qs) _ (g-drop-sref 𝓤 H A W E (G54 κs qs) 31 17 (Array (rtF fBool) 256) (tyRef erased imm (tyArray tyBool 256)) (λ x. x) (as-is 𝓤 H A (sref (Array (rtF fBool) 256) (tyRef erased imm (tyArray tyBool 256)) 17))) $
       ghosts _ _ (g-room 𝓤 H A W E _ 7 _ (room-whole 𝓤 H A W (row Standing.the-type) _ refl)) $
-      ghosts _ (G57 κs qs) (g-room 𝓤 H A W E _ 16 (tyInt w64) (room-sc 𝓤 H A W (sInt w64))) $
-      ghosts (G57 κs qs) _ (g-end 𝓤 H A W E (G57 κs qs) 14 refl) $
-      ghosts _ _ (g-back-sl 𝓤 H A W E (rtF (fInt w64)) _ 26 12 7 14 (tyRef (named 7) mut (tyInt w64)) (tyRef erased mut (tyInt w64)) (lease (κs .1 .1 .1 .1 .1 .1 .1 .0) (qs .1 .1 .1 .1 .1 .1 .1 .0)) (λ x. x) (λ x. x) (as-is 𝓤 H A (msleft (rtF (fInt w64)) (tyRef erased mut (tyInt w64)))) (as-is 𝓤 H A (mslice-owed (rtF (fInt w64)) (tyRef (named 7) mut (tyInt w64)) 7 14 (lease (κs .1 .1 .1 .1 .1 .1 .1 .0) (qs .1 .1 .1 .1 .1 .1 .1 .0)))) refl refl) $
-      ghosts _ (G61 κs qs) (g-forget 𝓤 H A W E _ 14 dead refl) $
-      ghosts (G61 κs qs) _ (g-end 𝓤 H A W E (G61 κs qs) 15 refl) $
+      ghosts _ _ (g-room 𝓤 H A W E _ 16 (tyInt w64) (room-sc 𝓤 H A W (sInt w64))) $
+      ghosts _ _ (g-end 𝓤 H A W E _ 14 refl) $
+      ghosts _ (G59 κs qs) (g-back-sl 𝓤 H A W E (rtF (fInt w64)) _ 26 12 7 14 (tyRef (named 7) mut (tyInt w64)) (tyRef erased mut (tyInt w64)) (lease (κs .1 .1 .1 .1 .1 .1 .1 .0) (qs .1 .1 .1 .1 .1 .1 .1 .0)) (λ x. x) (λ x. x) (as-is 𝓤 H A (msleft (rtF (fInt w64)) (tyRef erased mut (tyInt w64)))) (as-is 𝓤 H A (mslice-owed (rtF (fInt w64)) (tyRef (named 7) mut (tyInt w64)) 7 14 (lease (κs .1 .1 .1 .1 .1 .1 .1 .0) (qs .1 .1 .1 .1 .1 .1 .1 .0)))) refl refl) $
+      ghosts (G59 κs qs) _ (g-forget 𝓤 H A W E (G59 κs qs) 14 dead refl) $
+      ghosts _ _ (g-end 𝓤 H A W E _ 15 refl) $
       ghosts _ _ (g-back-sl 𝓤 H A W E (rtF (fInt w64)) _ 28 13 8 15 (tyRef (named 8) mut (tyInt w64)) (tyRef erased mut (tyInt w64)) (lease (κs .1 .1 .1 .1 .1 .1 .1 .1 .0) (qs .1 .1 .1 .1 .1 .1 .1 .1 .0)) (λ x. x) (λ x. x) (as-is 𝓤 H A (msleft (rtF (fInt w64)) (tyRef erased mut (tyInt w64)))) (as-is 𝓤 H A (mslice-owed (rtF (fInt w64)) (tyRef (named 8) mut (tyInt w64)) 8 15 (lease (κs .1 .1 .1 .1 .1 .1 .1 .1 .0) (qs .1 .1 .1 .1 .1 .1 .1 .1 .0)))) refl refl) $
-      ghosts _ (G65 κs qs) (g-forget 𝓤 H A W E _ 15 dead refl) $
-      ghosts (G65 κs qs) _ (g-end 𝓤 H A W E (G65 κs qs) 16 refl) $
-      ghosts _ _ (g-back-sl 𝓤 H A W E (rtF (fInt w64)) _ 30 14 9 16 (tyRef (named 9) mut (tyInt w64)) (tyRef erased mut (tyInt w64)) (lease (κs .1 .1 .1 .1 .1 .1 .1 .1 .1 .0) (qs .1 .1 .1 .1 .1 .1 .1 .1 .1 .0)) (λ x. x) (λ x. x) (as-is 𝓤 H A (msleft (rtF (fInt w64)) (tyRef erased mut (tyInt w64)))) (as-is 𝓤 H A (mslice-owed (rtF (fInt w64)) (tyRef (named 9) mut (tyInt w64)) 9 16 (lease (κs .1 .1 .1 .1 .1 .1 .1 .1 .1 .0) (qs .1 .1 .1 .1 .1 .1 .1 .1 .1 .0)))) refl refl) $
-      ghosts _ (G69 κs qs) (g-forget 𝓤 H A W E _ 16 dead refl) $
-      ghosts (G69 κs qs) _ (g-end 𝓤 H A W E (G69 κs qs) 17 refl) $
+      ghosts _ _ (g-forget 𝓤 H A W E _ 15 dead refl) $
+      ghosts _ (G66 κs qs) (g-end 𝓤 H A W E _ 16 refl) $
+      ghosts (G66 κs qs) _ (g-back-sl 𝓤 H A W E (rtF (fInt w64)) (G66 κs qs) 30 14 9 16 (tyRef (named 9) mut (tyInt w64)) (tyRef erased mut (tyInt w64)) (lease (κs .1 .1 .1 .1 .1 .1 .1 .1 .1 .0) (qs .1 .1 .1 .1 .1 .1 .1 .1 .1 .0)) (λ x. x) (λ x. x) (as-is 𝓤 H A (msleft (rtF (fInt w64)) (tyRef erased mut (tyInt w64)))) (as-is 𝓤 H A (mslice-owed (rtF (fInt w64)) (tyRef (named 9) mut (tyInt w64)) 9 16 (lease (κs .1 .1 .1 .1 .1 .1 .1 .1 .1 .0) (qs .1 .1 .1 .1 .1 .1 .1 .1 .1 .0)))) refl refl) $
+      ghosts _ _ (g-forget 𝓤 H A W E _ 16 dead refl) $
+      ghosts _ _ (g-end 𝓤 H A W E _ 17 refl) $
       ghosts _ _ (g-back-shr 𝓤 H A W E _ 15 17 (arrF (rtF fBool) 256 0) (Array (rtF fBool) 256) (λ x. x) (λ x. x) (as-is 𝓤 H A (sc-shr (arrF (rtF fBool) 256 0) (Array (rtF fBool) 256) (λ x. x) 17)) (home-of 𝓤 H A (arrF (rtF fBool) 256 0) (Array (rtF fBool) 256) (λ x. x) (λ x. x) (arr-mem 𝓤 H A W (rtF fBool) 256 tt) (λ x k. refl)) refl) $
       ghosts _ (G72 κs qs) (g-forget 𝓤 H A W E _ 17 dead refl) $
       ghosts (G72 κs qs) _ (g-room 𝓤 H A W E (G72 κs qs) 15 (tyArray tyBool 256) (room-arr 𝓤 H A W (rtF fBool) 256 0 256 refl)) $
       ghosts _ _ (g-room 𝓤 H A W E _ 1 (tyInt w64) (room-sc 𝓤 H A W (sInt w64))) $
-      ghosts _ (G75 κs qs) (g-room 𝓤 H A W E _ 3 (tyInt w64) (room-sc 𝓤 H A W (sInt w64))) $
-      ghosts (G75 κs qs) (G76 κs qs) (g-room 𝓤 H A W E (G75 κs qs) 4 (tyInt w64) (room-sc 𝓤 H A W (sInt w64))) $
+      ghosts _ _ (g-room 𝓤 H A W E _ 3 (tyInt w64) (room-sc 𝓤 H A W (sInt w64))) $
+      ghosts _ (G76 κs qs) (g-room 𝓤 H A W E _ 4 (tyInt w64) (room-sc 𝓤 H A W (sInt w64))) $
       rets
 
   abbrev pub d : Der W 𝓣 E (Γin 10 ps r xs m κs qs) (code.function .body) (Δret 10 ps r xs m κs qs)
@@ -218,29 +203,29 @@ module _ {M : Type 1} (𝓤 : URA M) (H : Heap 𝓤) (A : Atoms 𝓤) (W : Given
       stmt _ (G14 κs qs) (t-op2 𝓤 H A W E 𝓣 _ (mul unsigned) (oInt w64 _) (oFld 7 (field 0 ∷ []) (tyInt w64) 0 (fieldV Standing.the-type Laws.the-laws 0)) 16 (sc-here (sInt w64)) (tyInt w64) (valS (sInt w64)) (sInt w64 .of) tt (reads-field 𝓤 H A W Standing.the-type Laws.the-laws 0 (tyInt w64) 0 refl, refl) (room-gone 𝓤 H A (tyInt w64)) (holds-sc 𝓤 H A W (sInt w64)) refl (λ u. refl) (λ u. tt)) $
       ghosts (G14 κs qs) _ (g-begin 𝓤 H A W E (G14 κs qs) 10 _) $
       stmt _ _ (t-sl-reshareᵖ 𝓤 H A W E (rtF (fInt w64)) 𝓣 _ 14 18 9 10 (tyRef (named 9) mut (tyInt w64)) (tyRef erased imm (tyInt w64)) (lease (κs .1 .1 .1 .1 .1 .1 .1 .1 .1 .0) (qs .1 .1 .1 .1 .1 .1 .1 .1 .1 .0)) 0 (λ x. x) (λ u. u .1 .1 .1 .1 .1 .1 .1 .1 .1 .1 .1 .1 .1 .1 .1 .1 .0) (as-is 𝓤 H A (mslice (rtF (fInt w64)) (tyRef (named 9) mut (tyInt w64)) 9)) (room-gone 𝓤 H A (tyRef erased imm (tyInt w64))) refl tt refl refl refl (λ b o. tt)) $
-      stmt _ (G17 κs qs) (t-sl-aggregate 𝓤 H A W E (rtF (fInt w64)) 𝓣 (asShr (rtF (fInt w64))) _ 18 19 10 (tyRef erased imm (tyInt w64)) (tyRef erased imm (tyInt w64)) (λ x. x) (oAt 16 (tyInt w64) (valS (sInt w64))) (as-is 𝓤 H A (ssptr (rtF (fInt w64)) (tyRef erased imm (tyInt w64)) 10)) (room-gone 𝓤 H A _) (reads-sc 𝓤 H A W (sInt w64), refl) refl refl (λ b o k. tt)) $
-      ghosts (G17 κs qs) _ (g-begin 𝓤 H A W E (G17 κs qs) 11 _) $
-      stmt _ _ (t-sl-relend 𝓤 H A W E (rtF (fInt w16)) 𝓣 _ 10 20 5 11 (tyRef (named 5) mut (tyInt w16)) (tyRef erased mut (tyInt w16)) (lease (κs .1 .1 .1 .1 .1 .0) (qs .1 .1 .1 .1 .1 .0)) 0 (λ x. x) (as-is 𝓤 H A (mslice (rtF (fInt w16)) (tyRef (named 5) mut (tyInt w16)) 5)) (room-gone 𝓤 H A (tyRef erased mut (tyInt w16))) refl tt refl refl refl (λ b o. tt)) $
-      stmt _ (G20 κs qs) (t-sl-aggregate 𝓤 H A W E (rtF (fInt w16)) 𝓣 (asMut (rtF (fInt w16))) _ 20 21 11 (tyRef erased mut (tyInt w16)) (tyRef erased mut (tyInt w16)) (λ x. x) (oFld 10 (field 1 ∷ []) (tyInt w64) 8 (λ v. lenV (v .0))) (as-is 𝓤 H A (msptr (rtF (fInt w16)) (tyRef erased mut (tyInt w16)) 11)) (room-gone 𝓤 H A _) (reads-owed-len 𝓤 H A W (rtF (fInt w16)) (tyRef (named 5) mut (tyInt w16)) 5 11 (lease (κs .1 .1 .1 .1 .1 .0) (qs .1 .1 .1 .1 .1 .0)) 8 refl, refl) refl refl (λ b o k. tt)) $
-      ghosts (G20 κs qs) _ (g-begin 𝓤 H A W E (G20 κs qs) 12 _) $
+      stmt _ _ (t-sl-aggregate 𝓤 H A W E (rtF (fInt w64)) 𝓣 (asShr (rtF (fInt w64))) _ 18 19 10 (tyRef erased imm (tyInt w64)) (tyRef erased imm (tyInt w64)) (λ x. x) (oAt 16 (tyInt w64) (valS (sInt w64))) (as-is 𝓤 H A (ssptr (rtF (fInt w64)) (tyRef erased imm (tyInt w64)) 10)) (room-gone 𝓤 H A _) (reads-sc 𝓤 H A W (sInt w64), refl) refl refl (λ b o k. tt)) $
+      ghosts _ _ (g-begin 𝓤 H A W E _ 11 _) $
+      stmt _ (G19 κs qs) (t-sl-relend 𝓤 H A W E (rtF (fInt w16)) 𝓣 _ 10 20 5 11 (tyRef (named 5) mut (tyInt w16)) (tyRef erased mut (tyInt w16)) (lease (κs .1 .1 .1 .1 .1 .0) (qs .1 .1 .1 .1 .1 .0)) 0 (λ x. x) (as-is 𝓤 H A (mslice (rtF (fInt w16)) (tyRef (named 5) mut (tyInt w16)) 5)) (room-gone 𝓤 H A (tyRef erased mut (tyInt w16))) refl tt refl refl refl (λ b o. tt)) $
+      stmt (G19 κs qs) _ (t-sl-aggregate 𝓤 H A W E (rtF (fInt w16)) 𝓣 (asMut (rtF (fInt w16))) (G19 κs qs) 20 21 11 (tyRef erased mut (tyInt w16)) (tyRef erased mut (tyInt w16)) (λ x. x) (oFld 10 (field 1 ∷ []) (tyInt w64) 8 (λ v. lenV (v .0))) (as-is 𝓤 H A (msptr (rtF (fInt w16)) (tyRef erased mut (tyInt w16)) 11)) (room-gone 𝓤 H A _) (reads-owed-len 𝓤 H A W (rtF (fInt w16)) (tyRef (named 5) mut (tyInt w16)) 5 11 (lease (κs .1 .1 .1 .1 .1 .0) (qs .1 .1 .1 .1 .1 .0)) 8 refl, refl) refl refl (λ b o k. tt)) $
+      ghosts _ _ (g-begin 𝓤 H A W E _ 12 _) $
       stmt _ _ (t-sl-relend 𝓤 H A W E (rtF (fInt w32)) 𝓣 _ 11 22 6 12 (tyRef (named 6) mut (tyInt w32)) (tyRef erased mut (tyInt w32)) (lease (κs .1 .1 .1 .1 .1 .1 .0) (qs .1 .1 .1 .1 .1 .1 .0)) 0 (λ x. x) (as-is 𝓤 H A (mslice (rtF (fInt w32)) (tyRef (named 6) mut (tyInt w32)) 6)) (room-gone 𝓤 H A (tyRef erased mut (tyInt w32))) refl tt refl refl refl (λ b o. tt)) $
-      stmt _ (G23 κs qs) (t-sl-aggregate 𝓤 H A W E (rtF (fInt w32)) 𝓣 (asMut (rtF (fInt w32))) _ 22 23 12 (tyRef erased mut (tyInt w32)) (tyRef erased mut (tyInt w32)) (λ x. x) (oFld 11 (field 1 ∷ []) (tyInt w64) 8 (λ v. lenV (v .0))) (as-is 𝓤 H A (msptr (rtF (fInt w32)) (tyRef erased mut (tyInt w32)) 12)) (room-gone 𝓤 H A _) (reads-owed-len 𝓤 H A W (rtF (fInt w32)) (tyRef (named 6) mut (tyInt w32)) 6 12 (lease (κs .1 .1 .1 .1 .1 .1 .0) (qs .1 .1 .1 .1 .1 .1 .0)) 8 refl, refl) refl refl (λ b o k. tt)) $
-      ghosts (G23 κs qs) _ (g-begin 𝓤 H A W E (G23 κs qs) 13 _) $
-      stmt _ (G25 κs qs) (t-sc-borrow 𝓤 H A W E 𝓣 _ 15 24 13 (Array (rtF fBool) 256) (tyRef erased mut (tyArray tyBool 256)) (λ x. x) (mem-arr 𝓤 H A W (rtF fBool) 256) (room-gone 𝓤 H A (tyRef erased mut (tyArray tyBool 256))) refl (λ b o. tt)) $
+      stmt _ _ (t-sl-aggregate 𝓤 H A W E (rtF (fInt w32)) 𝓣 (asMut (rtF (fInt w32))) _ 22 23 12 (tyRef erased mut (tyInt w32)) (tyRef erased mut (tyInt w32)) (λ x. x) (oFld 11 (field 1 ∷ []) (tyInt w64) 8 (λ v. lenV (v .0))) (as-is 𝓤 H A (msptr (rtF (fInt w32)) (tyRef erased mut (tyInt w32)) 12)) (room-gone 𝓤 H A _) (reads-owed-len 𝓤 H A W (rtF (fInt w32)) (tyRef (named 6) mut (tyInt w32)) 6 12 (lease (κs .1 .1 .1 .1 .1 .1 .0) (qs .1 .1 .1 .1 .1 .1 .0)) 8 refl, refl) refl refl (λ b o k. tt)) $
+      ghosts _ (G24 κs qs) (g-begin 𝓤 H A W E _ 13 _) $
+      stmt (G24 κs qs) (G25 κs qs) (t-sc-borrow 𝓤 H A W E 𝓣 (G24 κs qs) 15 24 13 (Array (rtF fBool) 256) (tyRef erased mut (tyArray tyBool 256)) (λ x. x) (mem-arr 𝓤 H A W (rtF fBool) 256) (room-gone 𝓤 H A (tyRef erased mut (tyArray tyBool 256))) refl (λ b o. tt)) $
       stmt (G25 κs qs) (G26 κs qs) (t-call-plain 𝓤 H A W 𝓣 9 K0.ps K0.r K0.Asked K0.Learnt "topology::marks::mark_removed" known0 E (λ pos β. β) (G25 κs qs) (vAt 1 (λ x. x), (record { pos = 2; ty = tyRef (named 0) imm (pointee (twin-0.the-row .written)); ref = λ x. x }, (vAt 3 (λ x. x), (vAt 4 (λ x. x), (record { pos = 5; ty = tyRef (named 1) imm (tyInt w32); ref = λ x. x }, (record { pos = 6; ty = tyRef (named 2) imm (tyInt w64); ref = λ x. x }, (vFld 7 (field 1 ∷ []) 8 (λ x. struct .as-values x .1 .0), (vFld 7 (field 2 ∷ []) 16 (λ x. struct .as-values x .1 .1 .0), (vFld 7 (field 0 ∷ []) 0 (λ x. struct .as-values x .0), (record { pos = 19; ty = tyRef erased imm (tyInt w64); ref = λ x. x }, (record { pos = 8; ty = tyRef (named 3) imm (tyInt w32); ref = λ x. x }, (record { pos = 9; ty = tyRef (named 4) imm (tyInt w32); ref = λ x. x }, (record { pos = 21; ty = tyRef erased mut (tyInt w16); ref = λ x. x }, (record { pos = 23; ty = tyRef erased mut (tyInt w32); ref = λ x. x }, (record { pos = 24; ty = tyRef erased mut (tyArray tyBool 256); ref = λ x. x }, tt))))))))))))))) 17 (0 ∷ 1 ∷ 2 ∷ 10 ∷ 3 ∷ 4 ∷ 11 ∷ 12 ∷ 13 ∷ []) (sub-id 𝓤 H A W ((G25 κs qs) .slots)) ((reads-sc 𝓤 H A W (sInt w64), refl), (spares-sslice 𝓤 H A W twin-0.the-row (tyRef (named 0) imm (pointee (twin-0.the-row .written))) 0, reads-sslice 𝓤 H A W twin-0.the-row (tyRef (named 0) imm (pointee (twin-0.the-row .written))) 0, refl, ((reads-sc 𝓤 H A W (sInt w64), refl), ((reads-sc 𝓤 H A W (sInt w64), refl), (spares-sslice 𝓤 H A W (rtF (fInt w32)) (tyRef (named 1) imm (tyInt w32)) 1, reads-sslice 𝓤 H A W (rtF (fInt w32)) (tyRef (named 1) imm (tyInt w32)) 1, refl, (spares-sslice 𝓤 H A W (rtF (fInt w64)) (tyRef (named 2) imm (tyInt w64)) 2, reads-sslice 𝓤 H A W (rtF (fInt w64)) (tyRef (named 2) imm (tyInt w64)) 2, refl, ((reads-field 𝓤 H A W Standing.the-type Laws.the-laws 1 (tyInt w64) 8 refl, refl), ((reads-field 𝓤 H A W Standing.the-type Laws.the-laws 2 (tyInt w64) 16 refl, refl), ((reads-field 𝓤 H A W Standing.the-type Laws.the-laws 0 (tyInt w64) 0 refl, refl), (spares-sslice 𝓤 H A W (rtF (fInt w64)) (tyRef erased imm (tyInt w64)) 10, reads-sslice 𝓤 H A W (rtF (fInt w64)) (tyRef erased imm (tyInt w64)) 10, refl, (spares-sslice 𝓤 H A W (rtF (fInt w32)) (tyRef (named 3) imm (tyInt w32)) 3, reads-sslice 𝓤 H A W (rtF (fInt w32)) (tyRef (named 3) imm (tyInt w32)) 3, refl, (spares-sslice 𝓤 H A W (rtF (fInt w32)) (tyRef (named 4) imm (tyInt w32)) 4, reads-sslice 𝓤 H A W (rtF (fInt w32)) (tyRef (named 4) imm (tyInt w32)) 4, refl, (as-is 𝓤 H A (mslice (rtF (fInt w16)) (tyRef erased mut (tyInt w16)) 11), reads-mslice 𝓤 H A W (rtF (fInt w16)) (tyRef erased mut (tyInt w16)) 11, refl, (as-is 𝓤 H A (mslice (rtF (fInt w32)) (tyRef erased mut (tyInt w32)) 12), reads-mslice 𝓤 H A W (rtF (fInt w32)) (tyRef erased mut (tyInt w32)) 12, refl, (as-is 𝓤 H A (mref (Array (rtF fBool) 256) (tyRef erased mut (tyArray tyBool 256)) 13), reads-mref 𝓤 H A W (Array (rtF fBool) 256) (tyRef erased mut (tyArray tyBool 256)) 13, refl, tt))))))))))))))) (room-gone 𝓤 H A tyUnit) _ refl) $
       ghosts (G26 κs qs) _ (g-room 𝓤 H A W E (G26 κs qs) 19 _ (room-sslice 𝓤 H A W (rtF (fInt w64)) (tyRef erased imm (tyInt w64)) 10)) $
       ghosts _ _ (g-room 𝓤 H A W E _ 17 tyUnit (room-sc 𝓤 H A W sUnit)) $
-      ghosts _ (G29 κs qs) (g-end 𝓤 H A W E _ 10 refl) $
-      ghosts (G29 κs qs) _ (g-back-sl-shrᵖ 𝓤 H A W E (rtF (fInt w64)) (G29 κs qs) 14 9 10 (tyRef (named 9) mut (tyInt w64)) (lease (κs .1 .1 .1 .1 .1 .1 .1 .1 .1 .0) (qs .1 .1 .1 .1 .1 .1 .1 .1 .1 .0)) (λ x. x) (as-is 𝓤 H A (mslice-owedSᵖ (rtF (fInt w64)) (tyRef (named 9) mut (tyInt w64)) 9 10 (lease (κs .1 .1 .1 .1 .1 .1 .1 .1 .1 .0) (qs .1 .1 .1 .1 .1 .1 .1 .1 .1 .0)))) refl refl) $
-      ghosts _ _ (g-forget 𝓤 H A W E _ 10 dead refl) $
-      ghosts _ (G32 κs qs) (g-end 𝓤 H A W E _ 11 refl) $
-      ghosts (G32 κs qs) _ (g-back-sl 𝓤 H A W E (rtF (fInt w16)) (G32 κs qs) 21 10 5 11 (tyRef (named 5) mut (tyInt w16)) (tyRef erased mut (tyInt w16)) (lease (κs .1 .1 .1 .1 .1 .0) (qs .1 .1 .1 .1 .1 .0)) (λ x. x) (λ x. x) (as-is 𝓤 H A (msleft (rtF (fInt w16)) (tyRef erased mut (tyInt w16)))) (as-is 𝓤 H A (mslice-owed (rtF (fInt w16)) (tyRef (named 5) mut (tyInt w16)) 5 11 (lease (κs .1 .1 .1 .1 .1 .0) (qs .1 .1 .1 .1 .1 .0)))) refl refl) $
+      ghosts _ _ (g-end 𝓤 H A W E _ 10 refl) $
+      ghosts _ _ (g-back-sl-shrᵖ 𝓤 H A W E (rtF (fInt w64)) _ 14 9 10 (tyRef (named 9) mut (tyInt w64)) (lease (κs .1 .1 .1 .1 .1 .1 .1 .1 .1 .0) (qs .1 .1 .1 .1 .1 .1 .1 .1 .1 .0)) (λ x. x) (as-is 𝓤 H A (mslice-owedSᵖ (rtF (fInt w64)) (tyRef (named 9) mut (tyInt w64)) 9 10 (lease (κs .1 .1 .1 .1 .1 .1 .1 .1 .1 .0) (qs .1 .1 .1 .1 .1 .1 .1 .1 .1 .0)))) refl refl) $
+      ghosts _ (G31 κs qs) (g-forget 𝓤 H A W E _ 10 dead refl) $
+      ghosts (G31 κs qs) _ (g-end 𝓤 H A W E (G31 κs qs) 11 refl) $
+      ghosts _ _ (g-back-sl 𝓤 H A W E (rtF (fInt w16)) _ 21 10 5 11 (tyRef (named 5) mut (tyInt w16)) (tyRef erased mut (tyInt w16)) (lease (κs .1 .1 .1 .1 .1 .0) (qs .1 .1 .1 .1 .1 .0)) (λ x. x) (λ x. x) (as-is 𝓤 H A (msleft (rtF (fInt w16)) (tyRef erased mut (tyInt w16)))) (as-is 𝓤 H A (mslice-owed (rtF (fInt w16)) (tyRef (named 5) mut (tyInt w16)) 5 11 (lease (κs .1 .1 .1 .1 .1 .0) (qs .1 .1 .1 .1 .1 .0)))) refl refl) $
       ghosts _ _ (g-forget 𝓤 H A W E _ 11 dead refl) $
-      ghosts _ (G36 κs qs) (g-end 𝓤 H A W E _ 12 refl) $
-      ghosts (G36 κs qs) _ (g-back-sl 𝓤 H A W E (rtF (fInt w32)) (G36 κs qs) 23 11 6 12 (tyRef (named 6) mut (tyInt w32)) (tyRef erased mut (tyInt w32)) (lease (κs .1 .1 .1 .1 .1 .1 .0) (qs .1 .1 .1 .1 .1 .1 .0)) (λ x. x) (λ x. x) (as-is 𝓤 H A (msleft (rtF (fInt w32)) (tyRef erased mut (tyInt w32)))) (as-is 𝓤 H A (mslice-owed (rtF (fInt w32)) (tyRef (named 6) mut (tyInt w32)) 6 12 (lease (κs .1 .1 .1 .1 .1 .1 .0) (qs .1 .1 .1 .1 .1 .1 .0)))) refl refl) $
-      ghosts _ _ (g-forget 𝓤 H A W E _ 12 dead refl) $
-      ghosts _ (G40 κs qs) (g-end 𝓤 H A W E _ 13 refl) $
-      ghosts (G40 κs qs) _ (g-back-sc 𝓤 H A W E (G40 κs qs) 24 15 13 (Array (rtF fBool) 256) (tyRef erased mut (tyArray tyBool 256)) (arrF (rtF fBool) 256 0) (λ x. x) (λ x. x) (λ x. x) (as-is 𝓤 H A (mleft (Array (rtF fBool) 256) (tyRef erased mut (tyArray tyBool 256)))) (as-is 𝓤 H A (sc-owed (Array (rtF fBool) 256) 13)) (arr-mem 𝓤 H A W (rtF fBool) 256 tt) refl) $
+      ghosts _ _ (g-end 𝓤 H A W E _ 12 refl) $
+      ghosts _ (G37 κs qs) (g-back-sl 𝓤 H A W E (rtF (fInt w32)) _ 23 11 6 12 (tyRef (named 6) mut (tyInt w32)) (tyRef erased mut (tyInt w32)) (lease (κs .1 .1 .1 .1 .1 .1 .0) (qs .1 .1 .1 .1 .1 .1 .0)) (λ x. x) (λ x. x) (as-is 𝓤 H A (msleft (rtF (fInt w32)) (tyRef erased mut (tyInt w32)))) (as-is 𝓤 H A (mslice-owed (rtF (fInt w32)) (tyRef (named 6) mut (tyInt w32)) 6 12 (lease (κs .1 .1 .1 .1 .1 .1 .0) (qs .1 .1 .1 .1 .1 .1 .0)))) refl refl) $
+      ghosts (G37 κs qs) _ (g-forget 𝓤 H A W E (G37 κs qs) 12 dead refl) $
+      ghosts _ _ (g-end 𝓤 H A W E _ 13 refl) $
+      ghosts _ _ (g-back-sc 𝓤 H A W E _ 24 15 13 (Array (rtF fBool) 256) (tyRef erased mut (tyArray tyBool 256)) (arrF (rtF fBool) 256 0) (λ x. x) (λ x. x) (λ x. x) (as-is 𝓤 H A (mleft (Array (rtF fBool) 256) (tyRef erased mut (tyArray tyBool 256)))) (as-is 𝓤 H A (sc-owed (Array (rtF fBool) 256) 13)) (arr-mem 𝓤 H A W (rtF fBool) 256 tt) refl) $
       ghosts _ (G14 κs qs) (g-forget 𝓤 H A W E _ 13 dead refl) $
       from-keep
 

@@ -61,6 +61,9 @@ module _ (κs : Lfts 10) (qs : Shares 10) where
   abbrev row9 : ℕ → Row
   row9 k = mslice-owed (rtF (fInt w32)) (tyRef (named 8) mut (tyInt w32)) 8 k (lease (κs .1 .1 .1 .1 .1 .1 .1 .1 .0) (qs .1 .1 .1 .1 .1 .1 .1 .1 .0))
 
+  abbrev row10 : Row
+  row10 = msptr (rtF (fInt w32)) (tyRef erased mut (tyInt w32)) 11
+
   abbrev row11 : ℕ → Row
   row11 k = mslice (rtF (fInt w32)) (tyRef erased mut (tyInt w32)) k
 
@@ -91,6 +94,9 @@ module _ (κs : Lfts 10) (qs : Shares 10) where
   abbrev row26 : Row
   row26 = mslice-owed (rtF (fInt w64)) (tyRef (named 9) mut (tyInt w64)) 9 16 (lease (κs .1 .1 .1 .1 .1 .1 .1 .1 .1 .0) (qs .1 .1 .1 .1 .1 .1 .1 .1 .1 .0))
 
+  abbrev row27 : Row
+  row27 = msptr (rtF (fInt w64)) (tyRef erased mut (tyInt w64)) 16
+
   abbrev row28 : Row
   row28 = mslice (rtF (fInt w64)) (tyRef erased mut (tyInt w64)) 16
 
@@ -109,17 +115,11 @@ module _ (κs : Lfts 10) (qs : Shares 10) where
   abbrev pub G14 : Cx
   G14 = patched ((16, row1) ∷ (17, row2) ∷ (22, row3) ∷ []) ([]) G0
 
-  abbrev pub G19 : Cx
-  G19 = patched ((0, row2) ∷ (1, (any-gone (ty 1))) ∷ (16, row1) ∷ []) ([]) G0
-
-  abbrev pub G22 : Cx
-  G22 = patched ((0, row2) ∷ (1, (any-gone (ty 1))) ∷ (2, (any-gone (ty 2))) ∷ (3, (any-gone (ty 3))) ∷ (7, (any-gone (ty 7))) ∷ (16, row1) ∷ []) ([]) G0
+  abbrev pub G21 : Cx
+  G21 = patched ((0, row2) ∷ (1, (any-gone (ty 1))) ∷ (2, (any-gone (ty 2))) ∷ (3, (any-gone (ty 3))) ∷ (16, row1) ∷ []) ([]) G0
 
   abbrev pub G24 : Cx
   G24 = patched ((0, row2) ∷ (1, (any-gone (ty 1))) ∷ (2, (any-gone (ty 2))) ∷ (3, (any-gone (ty 3))) ∷ (7, (any-gone (ty 7))) ∷ (8, (any-gone (ty 8))) ∷ []) ([]) G0
-
-  abbrev pub G29 : Cx
-  G29 = patched ((16, row1) ∷ (18, row1) ∷ (19, row1) ∷ (23, row1) ∷ []) ([]) G0
 
   abbrev pub G31 : Cx
   G31 = patched ((16, row1) ∷ (18, row1) ∷ (19, row1) ∷ (20, row4) ∷ []) ([]) G0
@@ -136,11 +136,8 @@ module _ (κs : Lfts 10) (qs : Shares 10) where
   abbrev pub G35 : Cx
   G35 = patched ((16, row1) ∷ (18, row1) ∷ (19, row1) ∷ (20, row5) ∷ (25, row1) ∷ []) ([]) G0
 
-  abbrev pub G38 : Cx
-  G38 = patched ((13, row6 10) ∷ (16, row1) ∷ (18, row1) ∷ (19, row1) ∷ (20, row5) ∷ (25, row1) ∷ (27, row8 10) ∷ []) ((7, off) ∷ (10, alive) ∷ []) G0
-
-  abbrev pub G41 : Cx
-  G41 = patched ((13, row6 10) ∷ (14, row9 11) ∷ (16, row1) ∷ (18, row1) ∷ (19, row1) ∷ (20, row5) ∷ (25, row1) ∷ (27, row8 10) ∷ (29, row11 11) ∷ []) ((7, off) ∷ (8, off) ∷ (10, alive) ∷ (11, alive) ∷ []) G0
+  abbrev pub G40 : Cx
+  G40 = patched ((13, row6 10) ∷ (14, row9 11) ∷ (16, row1) ∷ (18, row1) ∷ (19, row1) ∷ (20, row5) ∷ (25, row1) ∷ (27, row8 10) ∷ (28, row10) ∷ []) ((7, off) ∷ (8, off) ∷ (10, alive) ∷ (11, alive) ∷ []) G0
 
   abbrev pub G43 : Cx
   G43 = patched ((13, row6 10) ∷ (14, row9 11) ∷ (16, row1) ∷ (18, row1) ∷ (19, row1) ∷ (20, row12) ∷ (25, row1) ∷ (27, row8 10) ∷ (29, row11 11) ∷ (30, row13) ∷ []) ((7, off) ∷ (8, off) ∷ (10, alive) ∷ (11, alive) ∷ (12, alive) ∷ []) G0
@@ -148,23 +145,17 @@ module _ (κs : Lfts 10) (qs : Shares 10) where
   abbrev pub G44 : Cx
   G44 = patched ((13, row6 10) ∷ (14, row9 11) ∷ (16, row1) ∷ (18, row1) ∷ (19, row1) ∷ (20, row12) ∷ (24, row14) ∷ (25, row1) ∷ (27, row15) ∷ (29, row16) ∷ (30, row17) ∷ []) ((7, off) ∷ (8, off) ∷ (10, alive) ∷ (11, alive) ∷ (12, alive) ∷ []) G0
 
-  abbrev pub G47 : Cx
-  G47 = patched ((13, row6 10) ∷ (14, row9 11) ∷ (16, row1) ∷ (18, row1) ∷ (19, row1) ∷ (20, row12) ∷ (27, row15) ∷ (29, row16) ∷ (30, row17) ∷ []) ((7, off) ∷ (8, off) ∷ (10, dead) ∷ (11, alive) ∷ (12, alive) ∷ []) G0
+  abbrev pub G50 : Cx
+  G50 = patched ((14, row9 11) ∷ (16, row1) ∷ (18, row1) ∷ (19, row1) ∷ (20, row12) ∷ (29, row16) ∷ (30, row17) ∷ []) ((8, off) ∷ (11, alive) ∷ (12, alive) ∷ []) G0
 
-  abbrev pub G51 : Cx
-  G51 = patched ((14, row9 11) ∷ (16, row1) ∷ (18, row1) ∷ (19, row1) ∷ (20, row12) ∷ (29, row16) ∷ (30, row17) ∷ []) ((8, off) ∷ (11, dead) ∷ (12, alive) ∷ []) G0
+  abbrev pub G56 : Cx
+  G56 = patched ((16, row1) ∷ (18, row1) ∷ (19, row1) ∷ (20, row5) ∷ []) ((12, dead) ∷ []) G0
 
-  abbrev pub G55 : Cx
-  G55 = patched ((16, row1) ∷ (18, row1) ∷ (19, row1) ∷ (20, row12) ∷ (30, row17) ∷ []) ((12, dead) ∷ []) G0
+  abbrev pub G65 : Cx
+  G65 = patched ((13, row6 14) ∷ (16, row1) ∷ (18, row1) ∷ (19, row1) ∷ (20, row18) ∷ (25, row1) ∷ (31, row19) ∷ (33, row8 14) ∷ []) ((7, off) ∷ (13, alive) ∷ (14, alive) ∷ []) G0
 
-  abbrev pub G63 : Cx
-  G63 = patched ((16, row1) ∷ (18, row1) ∷ (19, row1) ∷ (20, row18) ∷ (25, row1) ∷ (31, row19) ∷ []) ((13, alive) ∷ (14, alive) ∷ []) G0
-
-  abbrev pub G66 : Cx
-  G66 = patched ((13, row6 14) ∷ (16, row1) ∷ (18, row1) ∷ (19, row1) ∷ (20, row18) ∷ (25, row1) ∷ (31, row19) ∷ (33, row8 14) ∷ []) ((7, off) ∷ (13, alive) ∷ (14, alive) ∷ (15, alive) ∷ []) G0
-
-  abbrev pub G69 : Cx
-  G69 = patched ((13, row6 14) ∷ (14, row9 15) ∷ (16, row1) ∷ (18, row1) ∷ (19, row1) ∷ (20, row18) ∷ (25, row1) ∷ (31, row19) ∷ (33, row8 14) ∷ (35, row11 15) ∷ []) ((7, off) ∷ (8, off) ∷ (13, alive) ∷ (14, alive) ∷ (15, alive) ∷ (16, alive) ∷ []) G0
+  abbrev pub G70 : Cx
+  G70 = patched ((13, row6 14) ∷ (14, row9 15) ∷ (15, row26) ∷ (16, row1) ∷ (18, row1) ∷ (19, row1) ∷ (20, row18) ∷ (25, row1) ∷ (31, row19) ∷ (33, row8 14) ∷ (35, row11 15) ∷ (36, row27) ∷ []) ((7, off) ∷ (8, off) ∷ (9, off) ∷ (13, alive) ∷ (14, alive) ∷ (15, alive) ∷ (16, alive) ∷ []) G0
 
   abbrev pub G71 : Cx
   G71 = patched ((13, row6 14) ∷ (14, row9 15) ∷ (15, row26) ∷ (16, row1) ∷ (18, row1) ∷ (19, row1) ∷ (20, row18) ∷ (25, row1) ∷ (31, row19) ∷ (33, row8 14) ∷ (35, row11 15) ∷ (37, row28) ∷ []) ((7, off) ∷ (8, off) ∷ (9, off) ∷ (13, alive) ∷ (14, alive) ∷ (15, alive) ∷ (16, alive) ∷ []) G0
@@ -172,29 +163,20 @@ module _ (κs : Lfts 10) (qs : Shares 10) where
   abbrev pub G72 : Cx
   G72 = patched ((13, row6 14) ∷ (14, row9 15) ∷ (15, row26) ∷ (16, row1) ∷ (18, row1) ∷ (19, row1) ∷ (20, row18) ∷ (21, row1) ∷ (25, row1) ∷ (31, row19) ∷ (33, row15) ∷ (35, row16) ∷ (37, row29) ∷ []) ((7, off) ∷ (8, off) ∷ (9, off) ∷ (13, alive) ∷ (14, alive) ∷ (15, alive) ∷ (16, alive) ∷ []) G0
 
-  abbrev pub G75 : Cx
-  G75 = patched ((13, row6 14) ∷ (14, row9 15) ∷ (15, row26) ∷ (16, row1) ∷ (18, row1) ∷ (19, row1) ∷ (20, row18) ∷ (21, row1) ∷ (33, row15) ∷ (35, row16) ∷ (37, row29) ∷ []) ((7, off) ∷ (8, off) ∷ (9, off) ∷ (13, dead) ∷ (14, alive) ∷ (15, alive) ∷ (16, alive) ∷ []) G0
+  abbrev pub G77 : Cx
+  G77 = patched ((13, row6 14) ∷ (14, row9 15) ∷ (15, row26) ∷ (16, row1) ∷ (18, row1) ∷ (19, row1) ∷ (20, row5) ∷ (21, row1) ∷ (33, row15) ∷ (35, row16) ∷ (37, row29) ∷ []) ((7, off) ∷ (8, off) ∷ (9, off) ∷ (14, alive) ∷ (15, alive) ∷ (16, alive) ∷ []) G0
 
-  abbrev pub G78 : Cx
-  G78 = patched ((13, row6 14) ∷ (14, row9 15) ∷ (15, row26) ∷ (16, row1) ∷ (18, row1) ∷ (19, row1) ∷ (21, row1) ∷ (33, row15) ∷ (35, row16) ∷ (37, row29) ∷ []) ((7, off) ∷ (8, off) ∷ (9, off) ∷ (14, alive) ∷ (15, alive) ∷ (16, alive) ∷ []) G0
-
-  abbrev pub G82 : Cx
-  G82 = patched ((14, row9 15) ∷ (15, row26) ∷ (16, row1) ∷ (18, row1) ∷ (19, row1) ∷ (21, row1) ∷ (35, row16) ∷ (37, row29) ∷ []) ((8, off) ∷ (9, off) ∷ (15, alive) ∷ (16, alive) ∷ []) G0
-
-  abbrev pub G86 : Cx
-  G86 = patched ((15, row26) ∷ (16, row1) ∷ (18, row1) ∷ (19, row1) ∷ (21, row1) ∷ (37, row29) ∷ []) ((9, off) ∷ (16, alive) ∷ []) G0
+  abbrev pub G83 : Cx
+  G83 = patched ((14, row9 15) ∷ (15, row26) ∷ (16, row1) ∷ (18, row1) ∷ (19, row1) ∷ (21, row1) ∷ (35, row16) ∷ (37, row29) ∷ []) ((8, off) ∷ (9, off) ∷ (15, dead) ∷ (16, alive) ∷ []) G0
 
   abbrev pub G90 : Cx
   G90 = patched ((16, row1) ∷ (18, row1) ∷ (19, row1) ∷ (21, row1) ∷ []) ([]) G0
 
-  abbrev pub G93 : Cx
-  G93 = patched ((0, row30) ∷ (18, row1) ∷ (19, row1) ∷ (21, row1) ∷ (38, row1) ∷ []) ([]) G0
+  abbrev pub G95 : Cx
+  G95 = patched ((0, row30) ∷ (21, row1) ∷ (38, row1) ∷ []) ([]) G0
 
-  abbrev pub G96 : Cx
-  G96 = patched ((0, row30) ∷ (38, row1) ∷ []) ([]) G0
-
-  abbrev pub G99 : Cx
-  G99 = patched ((0, row30) ∷ (1, (any-gone (ty 1))) ∷ (2, (any-gone (ty 2))) ∷ []) ([]) G0
+  abbrev pub G100 : Cx
+  G100 = patched ((0, row30) ∷ (1, (any-gone (ty 1))) ∷ (2, (any-gone (ty 2))) ∷ (3, (any-gone (ty 3))) ∷ []) ([]) G0
 
   abbrev pub G102 : Cx
   G102 = patched ((0, row30) ∷ (1, (any-gone (ty 1))) ∷ (2, (any-gone (ty 2))) ∷ (3, (any-gone (ty 3))) ∷ (7, (any-gone (ty 7))) ∷ (8, (any-gone (ty 8))) ∷ []) ([]) G0
@@ -217,42 +199,42 @@ module _ {M : Type 1} (𝓤 : URA M) (H : Heap 𝓤) (A : Atoms 𝓤) (W : Given
       ghosts (G34 κs qs) (G35 κs qs) (g-room 𝓤 H A W E (G34 κs qs) 23 (tyInt w64) (room-sc 𝓤 H A W (sInt w64))) $
       ghosts (G35 κs qs) _ (g-begin 𝓤 H A W E (G35 κs qs) 13 _) $
       stmt _ _ (t-sc-share 𝓤 H A W E 𝓣 _ 20 31 13 (Array (rtF fBool) 256) (tyRef erased imm (tyArray tyBool 256)) (λ x. x) (mem-arr 𝓤 H A W (rtF fBool) 256) (room-gone 𝓤 H A (tyRef erased imm (tyArray tyBool 256))) refl (λ b o. tt)) $
-      ghosts _ (G63 κs qs) (g-begin 𝓤 H A W E _ 14 _) $
-      stmt (G63 κs qs) _ (t-sl-relend 𝓤 H A W E (rtF (fInt w16)) 𝓣 (G63 κs qs) 13 32 7 14 (tyRef (named 7) mut (tyInt w16)) (tyRef erased mut (tyInt w16)) (lease (κs .1 .1 .1 .1 .1 .1 .1 .0) (qs .1 .1 .1 .1 .1 .1 .1 .0)) 0 (λ x. x) (as-is 𝓤 H A (mslice (rtF (fInt w16)) (tyRef (named 7) mut (tyInt w16)) 7)) (room-gone 𝓤 H A (tyRef erased mut (tyInt w16))) refl tt refl refl refl (λ b o. tt)) $
-      stmt _ _ (t-sl-aggregate 𝓤 H A W E (rtF (fInt w16)) 𝓣 (asMut (rtF (fInt w16))) _ 32 33 14 (tyRef erased mut (tyInt w16)) (tyRef erased mut (tyInt w16)) (λ x. x) (oFld 13 (field 1 ∷ []) (tyInt w64) 8 (λ v. lenV (v .0))) (as-is 𝓤 H A (msptr (rtF (fInt w16)) (tyRef erased mut (tyInt w16)) 14)) (room-gone 𝓤 H A _) (reads-owed-len 𝓤 H A W (rtF (fInt w16)) (tyRef (named 7) mut (tyInt w16)) 7 14 (lease (κs .1 .1 .1 .1 .1 .1 .1 .0) (qs .1 .1 .1 .1 .1 .1 .1 .0)) 8 refl, refl) refl refl (λ b o k. tt)) $
-      ghosts _ (G66 κs qs) (g-begin 𝓤 H A W E _ 15 _) $
-      stmt (G66 κs qs) _ (t-sl-relend 𝓤 H A W E (rtF (fInt w32)) 𝓣 (G66 κs qs) 14 34 8 15 (tyRef (named 8) mut (tyInt w32)) (tyRef erased mut (tyInt w32)) (lease (κs .1 .1 .1 .1 .1 .1 .1 .1 .0) (qs .1 .1 .1 .1 .1 .1 .1 .1 .0)) 0 (λ x. x) (as-is 𝓤 H A (mslice (rtF (fInt w32)) (tyRef (named 8) mut (tyInt w32)) 8)) (room-gone 𝓤 H A (tyRef erased mut (tyInt w32))) refl tt refl refl refl (λ b o. tt)) $
+      ghosts _ _ (g-begin 𝓤 H A W E _ 14 _) $
+      stmt _ _ (t-sl-relend 𝓤 H A W E (rtF (fInt w16)) 𝓣 _ 13 32 7 14 (tyRef (named 7) mut (tyInt w16)) (tyRef erased mut (tyInt w16)) (lease (κs .1 .1 .1 .1 .1 .1 .1 .0) (qs .1 .1 .1 .1 .1 .1 .1 .0)) 0 (λ x. x) (as-is 𝓤 H A (mslice (rtF (fInt w16)) (tyRef (named 7) mut (tyInt w16)) 7)) (room-gone 𝓤 H A (tyRef erased mut (tyInt w16))) refl tt refl refl refl (λ b o. tt)) $
+      stmt _ (G65 κs qs) (t-sl-aggregate 𝓤 H A W E (rtF (fInt w16)) 𝓣 (asMut (rtF (fInt w16))) _ 32 33 14 (tyRef erased mut (tyInt w16)) (tyRef erased mut (tyInt w16)) (λ x. x) (oFld 13 (field 1 ∷ []) (tyInt w64) 8 (λ v. lenV (v .0))) (as-is 𝓤 H A (msptr (rtF (fInt w16)) (tyRef erased mut (tyInt w16)) 14)) (room-gone 𝓤 H A _) (reads-owed-len 𝓤 H A W (rtF (fInt w16)) (tyRef (named 7) mut (tyInt w16)) 7 14 (lease (κs .1 .1 .1 .1 .1 .1 .1 .0) (qs .1 .1 .1 .1 .1 .1 .1 .0)) 8 refl, refl) refl refl (λ b o k. tt)) $
+      ghosts (G65 κs qs) _ (g-begin 𝓤 H A W E (G65 κs qs) 15 _) $
+      stmt _ _ (t-sl-relend 𝓤 H A W E (rtF (fInt w32)) 𝓣 _ 14 34 8 15 (tyRef (named 8) mut (tyInt w32)) (tyRef erased mut (tyInt w32)) (lease (κs .1 .1 .1 .1 .1 .1 .1 .1 .0) (qs .1 .1 .1 .1 .1 .1 .1 .1 .0)) 0 (λ x. x) (as-is 𝓤 H A (mslice (rtF (fInt w32)) (tyRef (named 8) mut (tyInt w32)) 8)) (room-gone 𝓤 H A (tyRef erased mut (tyInt w32))) refl tt refl refl refl (λ b o. tt)) $
       stmt _ _ (t-sl-aggregate 𝓤 H A W E (rtF (fInt w32)) 𝓣 (asMut (rtF (fInt w32))) _ 34 35 15 (tyRef erased mut (tyInt w32)) (tyRef erased mut (tyInt w32)) (λ x. x) (oFld 14 (field 1 ∷ []) (tyInt w64) 8 (λ v. lenV (v .0))) (as-is 𝓤 H A (msptr (rtF (fInt w32)) (tyRef erased mut (tyInt w32)) 15)) (room-gone 𝓤 H A _) (reads-owed-len 𝓤 H A W (rtF (fInt w32)) (tyRef (named 8) mut (tyInt w32)) 8 15 (lease (κs .1 .1 .1 .1 .1 .1 .1 .1 .0) (qs .1 .1 .1 .1 .1 .1 .1 .1 .0)) 8 refl, refl) refl refl (λ b o k. tt)) $
-      ghosts _ (G69 κs qs) (g-begin 𝓤 H A W E _ 16 _) $
-      stmt (G69 κs qs) _ (t-sl-relend 𝓤 H A W E (rtF (fInt w64)) 𝓣 (G69 κs qs) 15 36 9 16 (tyRef (named 9) mut (tyInt w64)) (tyRef erased mut (tyInt w64)) (lease (κs .1 .1 .1 .1 .1 .1 .1 .1 .1 .0) (qs .1 .1 .1 .1 .1 .1 .1 .1 .1 .0)) 0 (λ x. x) (as-is 𝓤 H A (mslice (rtF (fInt w64)) (tyRef (named 9) mut (tyInt w64)) 9)) (room-gone 𝓤 H A (tyRef erased mut (tyInt w64))) refl tt refl refl refl (λ b o. tt)) $
-      stmt _ (G71 κs qs) (t-sl-aggregate 𝓤 H A W E (rtF (fInt w64)) 𝓣 (asMut (rtF (fInt w64))) _ 36 37 16 (tyRef erased mut (tyInt w64)) (tyRef erased mut (tyInt w64)) (λ x. x) (oFld 15 (field 1 ∷ []) (tyInt w64) 8 (λ v. lenV (v .0))) (as-is 𝓤 H A (msptr (rtF (fInt w64)) (tyRef erased mut (tyInt w64)) 16)) (room-gone 𝓤 H A _) (reads-owed-len 𝓤 H A W (rtF (fInt w64)) (tyRef (named 9) mut (tyInt w64)) 9 16 (lease (κs .1 .1 .1 .1 .1 .1 .1 .1 .1 .0) (qs .1 .1 .1 .1 .1 .1 .1 .1 .1 .0)) 8 refl, refl) refl refl (λ b o k. tt)) $
+      ghosts _ _ (g-begin 𝓤 H A W E _ 16 _) $
+      stmt _ (G70 κs qs) (t-sl-relend 𝓤 H A W E (rtF (fInt w64)) 𝓣 _ 15 36 9 16 (tyRef (named 9) mut (tyInt w64)) (tyRef erased mut (tyInt w64)) (lease (κs .1 .1 .1 .1 .1 .1 .1 .1 .1 .0) (qs .1 .1 .1 .1 .1 .1 .1 .1 .1 .0)) 0 (λ x. x) (as-is 𝓤 H A (mslice (rtF (fInt w64)) (tyRef (named 9) mut (tyInt w64)) 9)) (room-gone 𝓤 H A (tyRef erased mut (tyInt w64))) refl tt refl refl refl (λ b o. tt)) $
+      stmt (G70 κs qs) (G71 κs qs) (t-sl-aggregate 𝓤 H A W E (rtF (fInt w64)) 𝓣 (asMut (rtF (fInt w64))) (G70 κs qs) 36 37 16 (tyRef erased mut (tyInt w64)) (tyRef erased mut (tyInt w64)) (λ x. x) (oFld 15 (field 1 ∷ []) (tyInt w64) 8 (λ v. lenV (v .0))) (as-is 𝓤 H A (msptr (rtF (fInt w64)) (tyRef erased mut (tyInt w64)) 16)) (room-gone 𝓤 H A _) (reads-owed-len 𝓤 H A W (rtF (fInt w64)) (tyRef (named 9) mut (tyInt w64)) 9 16 (lease (κs .1 .1 .1 .1 .1 .1 .1 .1 .1 .0) (qs .1 .1 .1 .1 .1 .1 .1 .1 .1 .0)) 8 refl, refl) refl refl (λ b o k. tt)) $
       stmt (G71 κs qs) (G72 κs qs) (t-call-plain 𝓤 H A W 𝓣 5 K2.ps K2.r R2.Asked R2.Learnt "pass_lists::finish" known2 E (λ pos β. β) (G71 κs qs) (vAt 19 (λ x. x), (vAt 25 (λ x. x), (record { pos = 5; ty = tyRef (named 1) imm (tyInt w64); ref = λ x. x }, (record { pos = 31; ty = tyRef erased imm (tyArray tyBool 256); ref = λ x. x }, (record { pos = 33; ty = tyRef erased mut (tyInt w16); ref = λ x. x }, (record { pos = 35; ty = tyRef erased mut (tyInt w32); ref = λ x. x }, (record { pos = 37; ty = tyRef erased mut (tyInt w64); ref = λ x. x }, tt))))))) 21 (1 ∷ 13 ∷ 14 ∷ 15 ∷ 16 ∷ []) (sub-id 𝓤 H A W ((G71 κs qs) .slots)) ((reads-sc 𝓤 H A W (sInt w64), refl), ((reads-sc 𝓤 H A W (sInt w64), refl), (spares-sslice 𝓤 H A W (rtF (fInt w64)) (tyRef (named 1) imm (tyInt w64)) 1, reads-sslice 𝓤 H A W (rtF (fInt w64)) (tyRef (named 1) imm (tyInt w64)) 1, refl, (spares-sref 𝓤 H A W (Array (rtF fBool) 256) (tyRef erased imm (tyArray tyBool 256)) 13, reads-sref 𝓤 H A W (Array (rtF fBool) 256) (tyRef erased imm (tyArray tyBool 256)) 13, refl, (as-is 𝓤 H A (mslice (rtF (fInt w16)) (tyRef erased mut (tyInt w16)) 14), reads-mslice 𝓤 H A W (rtF (fInt w16)) (tyRef erased mut (tyInt w16)) 14, refl, (as-is 𝓤 H A (mslice (rtF (fInt w32)) (tyRef erased mut (tyInt w32)) 15), reads-mslice 𝓤 H A W (rtF (fInt w32)) (tyRef erased mut (tyInt w32)) 15, refl, (as-is 𝓤 H A (mslice (rtF (fInt w64)) (tyRef erased mut (tyInt w64)) 16), reads-mslice 𝓤 H A W (rtF (fInt w64)) (tyRef erased mut (tyInt w64)) 16, refl, tt))))))) (room-gone 𝓤 H A (tyInt w64)) _ refl) $
       ghosts (G72 κs qs) _ (g-drop-sref 𝓤 H A W E (G72 κs qs) 31 13 (Array (rtF fBool) 256) (tyRef erased imm (tyArray tyBool 256)) (λ x. x) (as-is 𝓤 H A (sref (Array (rtF fBool) 256) (tyRef erased imm (tyArray tyBool 256)) 13))) $
       ghosts _ _ (g-room 𝓤 H A W E _ 25 (tyInt w64) (room-sc 𝓤 H A W (sInt w64))) $
-      ghosts _ (G75 κs qs) (g-end 𝓤 H A W E _ 13 refl) $
-      ghosts (G75 κs qs) _ (g-back-shr 𝓤 H A W E (G75 κs qs) 20 13 (arrF (rtF fBool) 256 0) (Array (rtF fBool) 256) (λ x. x) (λ x. x) (as-is 𝓤 H A (sc-shr (arrF (rtF fBool) 256 0) (Array (rtF fBool) 256) (λ x. x) 13)) (home-of 𝓤 H A (arrF (rtF fBool) 256 0) (Array (rtF fBool) 256) (λ x. x) (λ x. x) (arr-mem 𝓤 H A W (rtF fBool) 256 tt) (λ x k. refl)) refl) $
-      ghosts _ _ (g-forget 𝓤 H A W E _ 13 dead refl) $
-      ghosts _ (G78 κs qs) (g-room 𝓤 H A W E _ 20 (tyArray tyBool 256) (room-arr 𝓤 H A W (rtF fBool) 256 0 256 refl)) $
-      ghosts (G78 κs qs) _ (g-end 𝓤 H A W E (G78 κs qs) 14 refl) $
+      ghosts _ _ (g-end 𝓤 H A W E _ 13 refl) $
+      ghosts _ _ (g-back-shr 𝓤 H A W E _ 20 13 (arrF (rtF fBool) 256 0) (Array (rtF fBool) 256) (λ x. x) (λ x. x) (as-is 𝓤 H A (sc-shr (arrF (rtF fBool) 256 0) (Array (rtF fBool) 256) (λ x. x) 13)) (home-of 𝓤 H A (arrF (rtF fBool) 256 0) (Array (rtF fBool) 256) (λ x. x) (λ x. x) (arr-mem 𝓤 H A W (rtF fBool) 256 tt) (λ x k. refl)) refl) $
+      ghosts _ (G77 κs qs) (g-forget 𝓤 H A W E _ 13 dead refl) $
+      ghosts (G77 κs qs) _ (g-room 𝓤 H A W E (G77 κs qs) 20 (tyArray tyBool 256) (room-arr 𝓤 H A W (rtF fBool) 256 0 256 refl)) $
+      ghosts _ _ (g-end 𝓤 H A W E _ 14 refl) $
       ghosts _ _ (g-back-sl 𝓤 H A W E (rtF (fInt w16)) _ 33 13 7 14 (tyRef (named 7) mut (tyInt w16)) (tyRef erased mut (tyInt w16)) (lease (κs .1 .1 .1 .1 .1 .1 .1 .0) (qs .1 .1 .1 .1 .1 .1 .1 .0)) (λ x. x) (λ x. x) (as-is 𝓤 H A (msleft (rtF (fInt w16)) (tyRef erased mut (tyInt w16)))) (as-is 𝓤 H A (mslice-owed (rtF (fInt w16)) (tyRef (named 7) mut (tyInt w16)) 7 14 (lease (κs .1 .1 .1 .1 .1 .1 .1 .0) (qs .1 .1 .1 .1 .1 .1 .1 .0)))) refl refl) $
-      ghosts _ (G82 κs qs) (g-forget 𝓤 H A W E _ 14 dead refl) $
-      ghosts (G82 κs qs) _ (g-end 𝓤 H A W E (G82 κs qs) 15 refl) $
-      ghosts _ _ (g-back-sl 𝓤 H A W E (rtF (fInt w32)) _ 35 14 8 15 (tyRef (named 8) mut (tyInt w32)) (tyRef erased mut (tyInt w32)) (lease (κs .1 .1 .1 .1 .1 .1 .1 .1 .0) (qs .1 .1 .1 .1 .1 .1 .1 .1 .0)) (λ x. x) (λ x. x) (as-is 𝓤 H A (msleft (rtF (fInt w32)) (tyRef erased mut (tyInt w32)))) (as-is 𝓤 H A (mslice-owed (rtF (fInt w32)) (tyRef (named 8) mut (tyInt w32)) 8 15 (lease (κs .1 .1 .1 .1 .1 .1 .1 .1 .0) (qs .1 .1 .1 .1 .1 .1 .1 .1 .0)))) refl refl) $
-      ghosts _ (G86 κs qs) (g-forget 𝓤 H A W E _ 15 dead refl) $
-      ghosts (G86 κs qs) _ (g-end 𝓤 H A W E (G86 κs qs) 16 refl) $
+      ghosts _ _ (g-forget 𝓤 H A W E _ 14 dead refl) $
+      ghosts _ (G83 κs qs) (g-end 𝓤 H A W E _ 15 refl) $
+      ghosts (G83 κs qs) _ (g-back-sl 𝓤 H A W E (rtF (fInt w32)) (G83 κs qs) 35 14 8 15 (tyRef (named 8) mut (tyInt w32)) (tyRef erased mut (tyInt w32)) (lease (κs .1 .1 .1 .1 .1 .1 .1 .1 .0) (qs .1 .1 .1 .1 .1 .1 .1 .1 .0)) (λ x. x) (λ x. x) (as-is 𝓤 H A (msleft (rtF (fInt w32)) (tyRef erased mut (tyInt w32)))) (as-is 𝓤 H A (mslice-owed (rtF (fInt w32)) (tyRef (named 8) mut (tyInt w32)) 8 15 (lease (κs .1 .1 .1 .1 .1 .1 .1 .1 .0) (qs .1 .1 .1 .1 .1 .1 .1 .1 .0)))) refl refl) $
+      ghosts _ _ (g-forget 𝓤 H A W E _ 15 dead refl) $
+      ghosts _ _ (g-end 𝓤 H A W E _ 16 refl) $
       ghosts _ _ (g-back-sl 𝓤 H A W E (rtF (fInt w64)) _ 37 15 9 16 (tyRef (named 9) mut (tyInt w64)) (tyRef erased mut (tyInt w64)) (lease (κs .1 .1 .1 .1 .1 .1 .1 .1 .1 .0) (qs .1 .1 .1 .1 .1 .1 .1 .1 .1 .0)) (λ x. x) (λ x. x) (as-is 𝓤 H A (msleft (rtF (fInt w64)) (tyRef erased mut (tyInt w64)))) (as-is 𝓤 H A (mslice-owed (rtF (fInt w64)) (tyRef (named 9) mut (tyInt w64)) 9 16 (lease (κs .1 .1 .1 .1 .1 .1 .1 .1 .1 .0) (qs .1 .1 .1 .1 .1 .1 .1 .1 .1 .0)))) refl refl) $
       ghosts _ (G90 κs qs) (g-forget 𝓤 H A W E _ 16 dead refl) $
       stmt (G90 κs qs) _ (t-use 𝓤 H A W E 𝓣 (G90 κs qs) (oAt 21 (tyInt w64) (valS (sInt w64))) 38 (sc-here (sInt w64)) (tyInt w64) (valS (sInt w64)) (sInt w64 .of) (reads-sc 𝓤 H A W (sInt w64), refl) (room-gone 𝓤 H A (tyInt w64)) (holds-sc 𝓤 H A W (sInt w64)) refl (λ u. refl) (λ u. tt)) $
       stmt _ _ (t-struct-make 𝓤 H A W E 𝓣 (apartT TopologyAnswer.the-type) Laws.the-laws Laws.the-plain _ 0 (oInt w64 _ ∷ oAt 38 (tyInt w64) (valS (sInt w64)) ∷ []) (λ m. (_, (m .1 .1 .1 .1 .1 .1 .1 .1 .1 .1 .1 .1 .1 .1 .1 .1 .1 .1 .1 .1 .1 .1 .1 .1 .1 .1 .1 .1 .1 .1 .1 .1 .1 .1 .1 .1 .1 .1 .0, tt))) (room-gone 𝓤 H A _) (tt, ((reads-sc 𝓤 H A W (sInt w64), refl), tt)) refl (λ u. refl) (λ m. is-wt (apartT TopologyAnswer.the-type) Laws.the-laws (u64-wt, (u64-wt, tt)) (_, (m .1 .1 .1 .1 .1 .1 .1 .1 .1 .1 .1 .1 .1 .1 .1 .1 .1 .1 .1 .1 .1 .1 .1 .1 .1 .1 .1 .1 .1 .1 .1 .1 .1 .1 .1 .1 .1 .1 .0, tt)))) $
-      ghosts _ (G93 κs qs) (g-room 𝓤 H A W E _ 16 (tyInt w64) (room-sc 𝓤 H A W (sInt w64))) $
-      ghosts (G93 κs qs) _ (g-room 𝓤 H A W E (G93 κs qs) 18 (tyInt w64) (room-sc 𝓤 H A W (sInt w64))) $
-      ghosts _ _ (g-room 𝓤 H A W E _ 19 (tyInt w64) (room-sc 𝓤 H A W (sInt w64))) $
-      ghosts _ (G96 κs qs) (g-room 𝓤 H A W E _ 21 (tyInt w64) (room-sc 𝓤 H A W (sInt w64))) $
-      ghosts (G96 κs qs) _ (g-room 𝓤 H A W E (G96 κs qs) 38 (tyInt w64) (room-sc 𝓤 H A W (sInt w64))) $
+      ghosts _ _ (g-room 𝓤 H A W E _ 16 (tyInt w64) (room-sc 𝓤 H A W (sInt w64))) $
+      ghosts _ _ (g-room 𝓤 H A W E _ 18 (tyInt w64) (room-sc 𝓤 H A W (sInt w64))) $
+      ghosts _ (G95 κs qs) (g-room 𝓤 H A W E _ 19 (tyInt w64) (room-sc 𝓤 H A W (sInt w64))) $
+      ghosts (G95 κs qs) _ (g-room 𝓤 H A W E (G95 κs qs) 21 (tyInt w64) (room-sc 𝓤 H A W (sInt w64))) $
+      ghosts _ _ (g-room 𝓤 H A W E _ 38 (tyInt w64) (room-sc 𝓤 H A W (sInt w64))) $
       ghosts _ _ (g-room 𝓤 H A W E _ 1 (tyInt w64) (room-sc 𝓤 H A W (sInt w64))) $
-      ghosts _ (G99 κs qs) (g-room 𝓤 H A W E _ 2 (tyInt w64) (room-sc 𝓤 H A W (sInt w64))) $
-      ghosts (G99 κs qs) _ (g-room 𝓤 H A W E (G99 κs qs) 3 (tyInt w64) (room-sc 𝓤 H A W (sInt w64))) $
-      ghosts _ _ (g-room 𝓤 H A W E _ 7 (tyInt w64) (room-sc 𝓤 H A W (sInt w64))) $
+      ghosts _ _ (g-room 𝓤 H A W E _ 2 (tyInt w64) (room-sc 𝓤 H A W (sInt w64))) $
+      ghosts _ (G100 κs qs) (g-room 𝓤 H A W E _ 3 (tyInt w64) (room-sc 𝓤 H A W (sInt w64))) $
+      ghosts (G100 κs qs) _ (g-room 𝓤 H A W E (G100 κs qs) 7 (tyInt w64) (room-sc 𝓤 H A W (sInt w64))) $
       ghosts _ (G102 κs qs) (g-room 𝓤 H A W E _ 8 (tyInt w64) (room-sc 𝓤 H A W (sInt w64))) $
       ghosts (G102 κs qs) (G24 κs qs) (g-as-by 𝓤 H A W E (λ ρ. Unit) (G102 κs qs) 0 (whole (row TopologyAnswer.the-type)) (λ v. struct .make v tt) (told-none 𝓤 H A ((G102 κs qs) .slots)) (λ ρ told v b. folds 𝓤 H A TopologyAnswer.the-type (struct .Ghost) (struct .make) (λ v g. refl) ρ v tt b)) $
       rets
@@ -261,8 +243,8 @@ module _ {M : Type 1} (𝓤 : URA M) (H : Heap 𝓤) (A : Atoms 𝓤) (W : Given
   after-test =
       stmt (G11 κs qs) _ (t-use 𝓤 H A W E 𝓣 (G11 κs qs) (oAt 2 (tyInt w64) (valS (sInt w64))) 18 (sc-here (sInt w64)) (tyInt w64) (valS (sInt w64)) (sInt w64 .of) (reads-sc 𝓤 H A W (sInt w64), refl) (room-gone 𝓤 H A (tyInt w64)) (holds-sc 𝓤 H A W (sInt w64)) refl (λ u. refl) (λ u. tt)) $
       stmt _ _ (t-use 𝓤 H A W E 𝓣 _ (oAt 3 (tyInt w64) (valS (sInt w64))) 23 (sc-here (sInt w64)) (tyInt w64) (valS (sInt w64)) (sInt w64 .of) (reads-sc 𝓤 H A W (sInt w64), refl) (room-gone 𝓤 H A (tyInt w64)) (holds-sc 𝓤 H A W (sInt w64)) refl (λ u. refl) (λ u. tt)) $
-      stmt _ (G29 κs qs) (t-op2 𝓤 H A W E 𝓣 _ (mul unsigned) (oAt 23 (tyInt w64) (valS (sInt w64))) (oAt 18 (tyInt w64) (valS (sInt w64))) 19 (sc-here (sInt w64)) (tyInt w64) (valS (sInt w64)) (sInt w64 .of) (reads-sc 𝓤 H A W (sInt w64), refl) (reads-sc 𝓤 H A W (sInt w64), refl) (room-gone 𝓤 H A (tyInt w64)) (holds-sc 𝓤 H A W (sInt w64)) refl (λ u. refl) (λ u. tt)) $
-      ghosts (G29 κs qs) _ (g-room 𝓤 H A W E (G29 κs qs) 23 (tyInt w64) (room-sc 𝓤 H A W (sInt w64))) $
+      stmt _ _ (t-op2 𝓤 H A W E 𝓣 _ (mul unsigned) (oAt 23 (tyInt w64) (valS (sInt w64))) (oAt 18 (tyInt w64) (valS (sInt w64))) 19 (sc-here (sInt w64)) (tyInt w64) (valS (sInt w64)) (sInt w64 .of) (reads-sc 𝓤 H A W (sInt w64), refl) (reads-sc 𝓤 H A W (sInt w64), refl) (room-gone 𝓤 H A (tyInt w64)) (holds-sc 𝓤 H A W (sInt w64)) refl (λ u. refl) (λ u. tt)) $
+      ghosts _ _ (g-room 𝓤 H A W E _ 23 (tyInt w64) (room-sc 𝓤 H A W (sInt w64))) $
       stmt _ (G31 κs qs) (t-repeat 𝓤 H A W E 𝓣 (rtF fBool) (bool-lawful 𝓤 H A W) (cRf fBool .copy 𝓤 H A W) (bool-makes 𝓤 H A W) 256 _ 20 (oBool false) (λ m. false) (room-gone 𝓤 H A (tyArray tyBool 256)) tt refl (λ m wa. refl)) $
       ghosts (G31 κs qs) (G32 κs qs) (g-as-by 𝓤 H A W E (λ ρ. Unit) (G31 κs qs) 20 (arrF (rtF fBool) 256 0) (λ x. x) (told-none 𝓤 H A ((G31 κs qs) .slots)) (λ ρ told. whole-arr 𝓤 H A W (rtF fBool) 256 tt ρ)) $
       stmt (G32 κs qs) (G33 κs qs) (t-use 𝓤 H A W E 𝓣 (G32 κs qs) (oFld 4 (field 1 ∷ []) (tyInt w64) 8 lenV) 23 (sc-here (sInt w64)) (tyInt w64) (valS (sInt w64)) (sInt w64 .of) (reads-sslice-len 𝓤 H A W (rtF (fInt w64)) (tyRef (named 0) imm (tyInt w64)) 0 8 refl, refl) (room-gone 𝓤 H A (tyInt w64)) (holds-sc 𝓤 H A W (sInt w64)) refl (λ u. refl) (λ u. tt)) $
@@ -270,24 +252,24 @@ module _ {M : Type 1} (𝓤 : URA M) (H : Heap 𝓤) (A : Atoms 𝓤) (W : Given
       ghosts (G34 κs qs) (G35 κs qs) (g-room 𝓤 H A W E (G34 κs qs) 23 (tyInt w64) (room-sc 𝓤 H A W (sInt w64))) $
       ghosts (G35 κs qs) _ (g-begin 𝓤 H A W E (G35 κs qs) 10 _) $
       stmt _ _ (t-sl-relend 𝓤 H A W E (rtF (fInt w16)) 𝓣 _ 13 26 7 10 (tyRef (named 7) mut (tyInt w16)) (tyRef erased mut (tyInt w16)) (lease (κs .1 .1 .1 .1 .1 .1 .1 .0) (qs .1 .1 .1 .1 .1 .1 .1 .0)) 0 (λ x. x) (as-is 𝓤 H A (mslice (rtF (fInt w16)) (tyRef (named 7) mut (tyInt w16)) 7)) (room-gone 𝓤 H A (tyRef erased mut (tyInt w16))) refl tt refl refl refl (λ b o. tt)) $
-      stmt _ (G38 κs qs) (t-sl-aggregate 𝓤 H A W E (rtF (fInt w16)) 𝓣 (asMut (rtF (fInt w16))) _ 26 27 10 (tyRef erased mut (tyInt w16)) (tyRef erased mut (tyInt w16)) (λ x. x) (oFld 13 (field 1 ∷ []) (tyInt w64) 8 (λ v. lenV (v .0))) (as-is 𝓤 H A (msptr (rtF (fInt w16)) (tyRef erased mut (tyInt w16)) 10)) (room-gone 𝓤 H A _) (reads-owed-len 𝓤 H A W (rtF (fInt w16)) (tyRef (named 7) mut (tyInt w16)) 7 10 (lease (κs .1 .1 .1 .1 .1 .1 .1 .0) (qs .1 .1 .1 .1 .1 .1 .1 .0)) 8 refl, refl) refl refl (λ b o k. tt)) $
-      ghosts (G38 κs qs) _ (g-begin 𝓤 H A W E (G38 κs qs) 11 _) $
-      stmt _ _ (t-sl-relend 𝓤 H A W E (rtF (fInt w32)) 𝓣 _ 14 28 8 11 (tyRef (named 8) mut (tyInt w32)) (tyRef erased mut (tyInt w32)) (lease (κs .1 .1 .1 .1 .1 .1 .1 .1 .0) (qs .1 .1 .1 .1 .1 .1 .1 .1 .0)) 0 (λ x. x) (as-is 𝓤 H A (mslice (rtF (fInt w32)) (tyRef (named 8) mut (tyInt w32)) 8)) (room-gone 𝓤 H A (tyRef erased mut (tyInt w32))) refl tt refl refl refl (λ b o. tt)) $
-      stmt _ (G41 κs qs) (t-sl-aggregate 𝓤 H A W E (rtF (fInt w32)) 𝓣 (asMut (rtF (fInt w32))) _ 28 29 11 (tyRef erased mut (tyInt w32)) (tyRef erased mut (tyInt w32)) (λ x. x) (oFld 14 (field 1 ∷ []) (tyInt w64) 8 (λ v. lenV (v .0))) (as-is 𝓤 H A (msptr (rtF (fInt w32)) (tyRef erased mut (tyInt w32)) 11)) (room-gone 𝓤 H A _) (reads-owed-len 𝓤 H A W (rtF (fInt w32)) (tyRef (named 8) mut (tyInt w32)) 8 11 (lease (κs .1 .1 .1 .1 .1 .1 .1 .1 .0) (qs .1 .1 .1 .1 .1 .1 .1 .1 .0)) 8 refl, refl) refl refl (λ b o k. tt)) $
-      ghosts (G41 κs qs) _ (g-begin 𝓤 H A W E (G41 κs qs) 12 _) $
+      stmt _ _ (t-sl-aggregate 𝓤 H A W E (rtF (fInt w16)) 𝓣 (asMut (rtF (fInt w16))) _ 26 27 10 (tyRef erased mut (tyInt w16)) (tyRef erased mut (tyInt w16)) (λ x. x) (oFld 13 (field 1 ∷ []) (tyInt w64) 8 (λ v. lenV (v .0))) (as-is 𝓤 H A (msptr (rtF (fInt w16)) (tyRef erased mut (tyInt w16)) 10)) (room-gone 𝓤 H A _) (reads-owed-len 𝓤 H A W (rtF (fInt w16)) (tyRef (named 7) mut (tyInt w16)) 7 10 (lease (κs .1 .1 .1 .1 .1 .1 .1 .0) (qs .1 .1 .1 .1 .1 .1 .1 .0)) 8 refl, refl) refl refl (λ b o k. tt)) $
+      ghosts _ _ (g-begin 𝓤 H A W E _ 11 _) $
+      stmt _ (G40 κs qs) (t-sl-relend 𝓤 H A W E (rtF (fInt w32)) 𝓣 _ 14 28 8 11 (tyRef (named 8) mut (tyInt w32)) (tyRef erased mut (tyInt w32)) (lease (κs .1 .1 .1 .1 .1 .1 .1 .1 .0) (qs .1 .1 .1 .1 .1 .1 .1 .1 .0)) 0 (λ x. x) (as-is 𝓤 H A (mslice (rtF (fInt w32)) (tyRef (named 8) mut (tyInt w32)) 8)) (room-gone 𝓤 H A (tyRef erased mut (tyInt w32))) refl tt refl refl refl (λ b o. tt)) $
+      stmt (G40 κs qs) _ (t-sl-aggregate 𝓤 H A W E (rtF (fInt w32)) 𝓣 (asMut (rtF (fInt w32))) (G40 κs qs) 28 29 11 (tyRef erased mut (tyInt w32)) (tyRef erased mut (tyInt w32)) (λ x. x) (oFld 14 (field 1 ∷ []) (tyInt w64) 8 (λ v. lenV (v .0))) (as-is 𝓤 H A (msptr (rtF (fInt w32)) (tyRef erased mut (tyInt w32)) 11)) (room-gone 𝓤 H A _) (reads-owed-len 𝓤 H A W (rtF (fInt w32)) (tyRef (named 8) mut (tyInt w32)) 8 11 (lease (κs .1 .1 .1 .1 .1 .1 .1 .1 .0) (qs .1 .1 .1 .1 .1 .1 .1 .1 .0)) 8 refl, refl) refl refl (λ b o k. tt)) $
+      ghosts _ _ (g-begin 𝓤 H A W E _ 12 _) $
       stmt _ (G43 κs qs) (t-sc-borrow 𝓤 H A W E 𝓣 _ 20 30 12 (Array (rtF fBool) 256) (tyRef erased mut (tyArray tyBool 256)) (λ x. x) (mem-arr 𝓤 H A W (rtF fBool) 256) (room-gone 𝓤 H A (tyRef erased mut (tyArray tyBool 256))) refl (λ b o. tt)) $
       stmt (G43 κs qs) (G44 κs qs) (t-call-plain 𝓤 H A W 𝓣 9 K1.ps K1.r K1.Asked K1.Learnt "topology::marks::mark_removed" known1 E (λ pos β. β) (G43 κs qs) (vAt 1 (λ x. x), (record { pos = 12; ty = tyRef (named 6) imm (pointee (twin-0.the-row .written)); ref = λ x. x }, (vAt 18 (λ x. x), (vAt 19 (λ x. x), (record { pos = 9; ty = tyRef (named 3) imm (tyInt w32); ref = λ x. x }, (record { pos = 6; ty = tyRef (named 2) imm (tyInt w64); ref = λ x. x }, (vAt 7 (λ x. x), (vAt 8 (λ x. x), (vAt 25 (λ x. x), (record { pos = 5; ty = tyRef (named 1) imm (tyInt w64); ref = λ x. x }, (record { pos = 10; ty = tyRef (named 4) imm (tyInt w32); ref = λ x. x }, (record { pos = 11; ty = tyRef (named 5) imm (tyInt w32); ref = λ x. x }, (record { pos = 27; ty = tyRef erased mut (tyInt w16); ref = λ x. x }, (record { pos = 29; ty = tyRef erased mut (tyInt w32); ref = λ x. x }, (record { pos = 30; ty = tyRef erased mut (tyArray tyBool 256); ref = λ x. x }, tt))))))))))))))) 24 (6 ∷ 3 ∷ 2 ∷ 1 ∷ 4 ∷ 5 ∷ 10 ∷ 11 ∷ 12 ∷ []) (sub-id 𝓤 H A W ((G43 κs qs) .slots)) ((reads-sc 𝓤 H A W (sInt w64), refl), (spares-sslice 𝓤 H A W twin-0.the-row (tyRef (named 6) imm (pointee (twin-0.the-row .written))) 6, reads-sslice 𝓤 H A W twin-0.the-row (tyRef (named 6) imm (pointee (twin-0.the-row .written))) 6, refl, ((reads-sc 𝓤 H A W (sInt w64), refl), ((reads-sc 𝓤 H A W (sInt w64), refl), (spares-sslice 𝓤 H A W (rtF (fInt w32)) (tyRef (named 3) imm (tyInt w32)) 3, reads-sslice 𝓤 H A W (rtF (fInt w32)) (tyRef (named 3) imm (tyInt w32)) 3, refl, (spares-sslice 𝓤 H A W (rtF (fInt w64)) (tyRef (named 2) imm (tyInt w64)) 2, reads-sslice 𝓤 H A W (rtF (fInt w64)) (tyRef (named 2) imm (tyInt w64)) 2, refl, ((reads-sc 𝓤 H A W (sInt w64), refl), ((reads-sc 𝓤 H A W (sInt w64), refl), ((reads-sc 𝓤 H A W (sInt w64), refl), (spares-sslice 𝓤 H A W (rtF (fInt w64)) (tyRef (named 1) imm (tyInt w64)) 1, reads-sslice 𝓤 H A W (rtF (fInt w64)) (tyRef (named 1) imm (tyInt w64)) 1, refl, (spares-sslice 𝓤 H A W (rtF (fInt w32)) (tyRef (named 4) imm (tyInt w32)) 4, reads-sslice 𝓤 H A W (rtF (fInt w32)) (tyRef (named 4) imm (tyInt w32)) 4, refl, (spares-sslice 𝓤 H A W (rtF (fInt w32)) (tyRef (named 5) imm (tyInt w32)) 5, reads-sslice 𝓤 H A W (rtF (fInt w32)) (tyRef (named 5) imm (tyInt w32)) 5, refl, (as-is 𝓤 H A (mslice (rtF (fInt w16)) (tyRef erased mut (tyInt w16)) 10), reads-mslice 𝓤 H A W (rtF (fInt w16)) (tyRef erased mut (tyInt w16)) 10, refl, (as-is 𝓤 H A (mslice (rtF (fInt w32)) (tyRef erased mut (tyInt w32)) 11), reads-mslice 𝓤 H A W (rtF (fInt w32)) (tyRef erased mut (tyInt w32)) 11, refl, (as-is 𝓤 H A (mref (Array (rtF fBool) 256) (tyRef erased mut (tyArray tyBool 256)) 12), reads-mref 𝓤 H A W (Array (rtF fBool) 256) (tyRef erased mut (tyArray tyBool 256)) 12, refl, tt))))))))))))))) (room-gone 𝓤 H A tyUnit) _ refl) $
       ghosts (G44 κs qs) _ (g-room 𝓤 H A W E (G44 κs qs) 24 tyUnit (room-sc 𝓤 H A W sUnit)) $
       ghosts _ _ (g-room 𝓤 H A W E _ 25 (tyInt w64) (room-sc 𝓤 H A W (sInt w64))) $
-      ghosts _ (G47 κs qs) (g-end 𝓤 H A W E _ 10 refl) $
-      ghosts (G47 κs qs) _ (g-back-sl 𝓤 H A W E (rtF (fInt w16)) (G47 κs qs) 27 13 7 10 (tyRef (named 7) mut (tyInt w16)) (tyRef erased mut (tyInt w16)) (lease (κs .1 .1 .1 .1 .1 .1 .1 .0) (qs .1 .1 .1 .1 .1 .1 .1 .0)) (λ x. x) (λ x. x) (as-is 𝓤 H A (msleft (rtF (fInt w16)) (tyRef erased mut (tyInt w16)))) (as-is 𝓤 H A (mslice-owed (rtF (fInt w16)) (tyRef (named 7) mut (tyInt w16)) 7 10 (lease (κs .1 .1 .1 .1 .1 .1 .1 .0) (qs .1 .1 .1 .1 .1 .1 .1 .0)))) refl refl) $
-      ghosts _ _ (g-forget 𝓤 H A W E _ 10 dead refl) $
-      ghosts _ (G51 κs qs) (g-end 𝓤 H A W E _ 11 refl) $
-      ghosts (G51 κs qs) _ (g-back-sl 𝓤 H A W E (rtF (fInt w32)) (G51 κs qs) 29 14 8 11 (tyRef (named 8) mut (tyInt w32)) (tyRef erased mut (tyInt w32)) (lease (κs .1 .1 .1 .1 .1 .1 .1 .1 .0) (qs .1 .1 .1 .1 .1 .1 .1 .1 .0)) (λ x. x) (λ x. x) (as-is 𝓤 H A (msleft (rtF (fInt w32)) (tyRef erased mut (tyInt w32)))) (as-is 𝓤 H A (mslice-owed (rtF (fInt w32)) (tyRef (named 8) mut (tyInt w32)) 8 11 (lease (κs .1 .1 .1 .1 .1 .1 .1 .1 .0) (qs .1 .1 .1 .1 .1 .1 .1 .1 .0)))) refl refl) $
+      ghosts _ _ (g-end 𝓤 H A W E _ 10 refl) $
+      ghosts _ _ (g-back-sl 𝓤 H A W E (rtF (fInt w16)) _ 27 13 7 10 (tyRef (named 7) mut (tyInt w16)) (tyRef erased mut (tyInt w16)) (lease (κs .1 .1 .1 .1 .1 .1 .1 .0) (qs .1 .1 .1 .1 .1 .1 .1 .0)) (λ x. x) (λ x. x) (as-is 𝓤 H A (msleft (rtF (fInt w16)) (tyRef erased mut (tyInt w16)))) (as-is 𝓤 H A (mslice-owed (rtF (fInt w16)) (tyRef (named 7) mut (tyInt w16)) 7 10 (lease (κs .1 .1 .1 .1 .1 .1 .1 .0) (qs .1 .1 .1 .1 .1 .1 .1 .0)))) refl refl) $
+      ghosts _ (G50 κs qs) (g-forget 𝓤 H A W E _ 10 dead refl) $
+      ghosts (G50 κs qs) _ (g-end 𝓤 H A W E (G50 κs qs) 11 refl) $
+      ghosts _ _ (g-back-sl 𝓤 H A W E (rtF (fInt w32)) _ 29 14 8 11 (tyRef (named 8) mut (tyInt w32)) (tyRef erased mut (tyInt w32)) (lease (κs .1 .1 .1 .1 .1 .1 .1 .1 .0) (qs .1 .1 .1 .1 .1 .1 .1 .1 .0)) (λ x. x) (λ x. x) (as-is 𝓤 H A (msleft (rtF (fInt w32)) (tyRef erased mut (tyInt w32)))) (as-is 𝓤 H A (mslice-owed (rtF (fInt w32)) (tyRef (named 8) mut (tyInt w32)) 8 11 (lease (κs .1 .1 .1 .1 .1 .1 .1 .1 .0) (qs .1 .1 .1 .1 .1 .1 .1 .1 .0)))) refl refl) $
       ghosts _ _ (g-forget 𝓤 H A W E _ 11 dead refl) $
-      ghosts _ (G55 κs qs) (g-end 𝓤 H A W E _ 12 refl) $
-      ghosts (G55 κs qs) _ (g-back-sc 𝓤 H A W E (G55 κs qs) 30 20 12 (Array (rtF fBool) 256) (tyRef erased mut (tyArray tyBool 256)) (arrF (rtF fBool) 256 0) (λ x. x) (λ x. x) (λ x. x) (as-is 𝓤 H A (mleft (Array (rtF fBool) 256) (tyRef erased mut (tyArray tyBool 256)))) (as-is 𝓤 H A (sc-owed (Array (rtF fBool) 256) 12)) (arr-mem 𝓤 H A W (rtF fBool) 256 tt) refl) $
-      ghosts _ (G32 κs qs) (g-forget 𝓤 H A W E _ 12 dead refl) $
+      ghosts _ _ (g-end 𝓤 H A W E _ 12 refl) $
+      ghosts _ (G56 κs qs) (g-back-sc 𝓤 H A W E _ 30 20 12 (Array (rtF fBool) 256) (tyRef erased mut (tyArray tyBool 256)) (arrF (rtF fBool) 256 0) (λ x. x) (λ x. x) (λ x. x) (as-is 𝓤 H A (mleft (Array (rtF fBool) 256) (tyRef erased mut (tyArray tyBool 256)))) (as-is 𝓤 H A (sc-owed (Array (rtF fBool) 256) 12)) (arr-mem 𝓤 H A W (rtF fBool) 256 tt) refl) $
+      ghosts (G56 κs qs) (G32 κs qs) (g-forget 𝓤 H A W E (G56 κs qs) 12 dead refl) $
       from-finish
 
   abbrev pub d : Der W 𝓣 E (Γin 10 ps r xs m κs qs) (code.function .body) (Δret 10 ps r xs m κs qs)
@@ -300,11 +282,11 @@ module _ {M : Type 1} (𝓤 : URA M) (H : Heap 𝓤) (A : Atoms 𝓤) (W : Given
       ghosts (G14 κs qs) (G12 κs qs) (g-room 𝓤 H A W E (G14 κs qs) 22 tyBool (room-sc 𝓤 H A W sBool)) $
       stmt (G12 κs qs) _ (t-val-copy 𝓤 H A W E 𝓣 (λ ρ. Unit) (G12 κs qs) 17 0 (row TopologyAnswer.the-type) _ _ (whole (row TopologyAnswer.the-type)) (whole (row TopologyAnswer.the-type)) (λ x. x) (λ x. x) (λ x. x) refl (told-none 𝓤 H A ((G12 κs qs) .slots)) (yields-copy 𝓤 H A W (λ ρ. Unit) (row TopologyAnswer.the-type) refl (cStruct TopologyAnswer.the-type Laws.the-laws Laws.the-copy .copy 𝓤 H A W) (whole (row TopologyAnswer.the-type)) (λ x. x) (λ x. x) (λ ρ told. mem-whole 𝓤 H A W (row TopologyAnswer.the-type) ρ) (λ ρ told. whole-mem 𝓤 H A W (row TopologyAnswer.the-type) ρ)) (room-gone 𝓤 H A _) (makes-mem 𝓤 H A W (λ ρ. Unit) (row TopologyAnswer.the-type) refl (whole (row TopologyAnswer.the-type)) (λ x. x) (λ ρ told. whole-mem 𝓤 H A W (row TopologyAnswer.the-type) ρ)) refl refl) $
       ghosts _ _ (g-room 𝓤 H A W E _ 17 _ (room-whole 𝓤 H A W (row TopologyAnswer.the-type) _ refl)) $
-      ghosts _ (G19 κs qs) (g-room 𝓤 H A W E _ 1 (tyInt w64) (room-sc 𝓤 H A W (sInt w64))) $
-      ghosts (G19 κs qs) _ (g-room 𝓤 H A W E (G19 κs qs) 2 (tyInt w64) (room-sc 𝓤 H A W (sInt w64))) $
-      ghosts _ _ (g-room 𝓤 H A W E _ 3 (tyInt w64) (room-sc 𝓤 H A W (sInt w64))) $
-      ghosts _ (G22 κs qs) (g-room 𝓤 H A W E _ 7 (tyInt w64) (room-sc 𝓤 H A W (sInt w64))) $
-      ghosts (G22 κs qs) _ (g-room 𝓤 H A W E (G22 κs qs) 8 (tyInt w64) (room-sc 𝓤 H A W (sInt w64))) $
+      ghosts _ _ (g-room 𝓤 H A W E _ 1 (tyInt w64) (room-sc 𝓤 H A W (sInt w64))) $
+      ghosts _ _ (g-room 𝓤 H A W E _ 2 (tyInt w64) (room-sc 𝓤 H A W (sInt w64))) $
+      ghosts _ (G21 κs qs) (g-room 𝓤 H A W E _ 3 (tyInt w64) (room-sc 𝓤 H A W (sInt w64))) $
+      ghosts (G21 κs qs) _ (g-room 𝓤 H A W E (G21 κs qs) 7 (tyInt w64) (room-sc 𝓤 H A W (sInt w64))) $
+      ghosts _ _ (g-room 𝓤 H A W E _ 8 (tyInt w64) (room-sc 𝓤 H A W (sInt w64))) $
       ghosts _ (G24 κs qs) (g-room 𝓤 H A W E _ 16 (tyInt w64) (room-sc 𝓤 H A W (sInt w64))) $
       rets) (
       ghosts (G14 κs qs) _ (g-room 𝓤 H A W E (G14 κs qs) 17 _ (room-whole 𝓤 H A W (row TopologyAnswer.the-type) _ refl)) $

@@ -54,17 +54,11 @@ module _ (κs : Lfts 14) (qs : Shares 14) where
   abbrev row2 : Row
   row2 = mslice-owed (rtF (fInt w32)) (tyRef (named 6) mut (tyInt w32)) 6 14 (lease (κs .1 .1 .1 .1 .1 .1 .0) (qs .1 .1 .1 .1 .1 .1 .0))
 
-  abbrev row3 : ℕ → Row
-  row3 k = msptr (rtF (fInt w32)) (tyRef erased mut (tyInt w32)) k
-
   abbrev row4 : ℕ → Row
   row4 k = mslice (rtF (fInt w32)) (tyRef erased mut (tyInt w32)) k
 
   abbrev row5 : ℕ → Row
   row5 k = mslice-owed (rtF (fInt w16)) (tyRef (named 7) mut (tyInt w16)) 7 k (lease (κs .1 .1 .1 .1 .1 .1 .1 .0) (qs .1 .1 .1 .1 .1 .1 .1 .0))
-
-  abbrev row6 : Row
-  row6 = msptr (rtF (fInt w16)) (tyRef erased mut (tyInt w16)) 15
 
   abbrev row7 : ℕ → Row
   row7 k = mslice (rtF (fInt w16)) (tyRef erased mut (tyInt w16)) k
@@ -77,6 +71,9 @@ module _ (κs : Lfts 14) (qs : Shares 14) where
 
   abbrev row14 : Row
   row14 = mslice-owed (rtF (fInt w32)) (tyRef (named 10) mut (tyInt w32)) 10 18 (lease (κs .1 .1 .1 .1 .1 .1 .1 .1 .1 .1 .0) (qs .1 .1 .1 .1 .1 .1 .1 .1 .1 .1 .0))
+
+  abbrev row15 : ℕ → Row
+  row15 k = msptr (rtF (fInt w32)) (tyRef erased mut (tyInt w32)) k
 
   abbrev row17 : Row
   row17 = whole (Declared.row Prepared.the-type)
@@ -101,6 +98,9 @@ module _ (κs : Lfts 14) (qs : Shares 14) where
 
   abbrev row26 : ℕ → Row
   row26 k = mslice-owedS (rtF (fInt w32)) (tyRef (named 6) mut (tyInt w32)) 6 k (lease (κs .1 .1 .1 .1 .1 .1 .0) (qs .1 .1 .1 .1 .1 .1 .0))
+
+  abbrev row27 : ℕ → Row
+  row27 k = ssptr (rtF (fInt w32)) (tyRef erased imm (tyInt w32)) k
 
   abbrev row28 : ℕ → Row
   row28 k = sslice (rtF (fInt w32)) (tyRef erased imm (tyInt w32)) k
@@ -129,6 +129,9 @@ module _ (κs : Lfts 14) (qs : Shares 14) where
   abbrev row58 : Row
   row58 = mslice-owed (rtF (fInt w64)) (tyRef (named 12) mut (tyInt w64)) 12 30 (lease (κs .1 .1 .1 .1 .1 .1 .1 .1 .1 .1 .1 .1 .0) (qs .1 .1 .1 .1 .1 .1 .1 .1 .1 .1 .1 .1 .0))
 
+  abbrev row59 : Row
+  row59 = msptr (rtF (fInt w64)) (tyRef erased mut (tyInt w64)) 30
+
   abbrev row60 : ℕ → Row
   row60 k = mslice (rtF (fInt w64)) (tyRef erased mut (tyInt w64)) k
 
@@ -138,20 +141,14 @@ module _ (κs : Lfts 14) (qs : Shares 14) where
   abbrev row64 : Row
   row64 = msleft (rtF (fInt w64)) (tyRef erased mut (tyInt w64))
 
-  abbrev pub G17 : Cx
-  G17 = patched ((12, row2) ∷ (20, row1) ∷ (28, row3 14) ∷ []) ((6, off) ∷ (14, alive) ∷ []) G0
+  abbrev pub G19 : Cx
+  G19 = patched ((12, row2) ∷ (20, row1) ∷ (29, row4 14) ∷ []) ((6, off) ∷ (14, alive) ∷ (15, alive) ∷ []) G0
 
-  abbrev pub G20 : Cx
-  G20 = patched ((12, row2) ∷ (13, row5 15) ∷ (20, row1) ∷ (29, row4 14) ∷ (30, row6) ∷ []) ((6, off) ∷ (7, off) ∷ (14, alive) ∷ (15, alive) ∷ []) G0
-
-  abbrev pub G23 : Cx
-  G23 = patched ((12, row2) ∷ (13, row5 15) ∷ (14, row8 16) ∷ (20, row1) ∷ (29, row4 14) ∷ (31, row7 15) ∷ (32, row3 16) ∷ []) ((6, off) ∷ (7, off) ∷ (8, off) ∷ (14, alive) ∷ (15, alive) ∷ (16, alive) ∷ []) G0
-
-  abbrev pub G26 : Cx
-  G26 = patched ((12, row2) ∷ (13, row5 15) ∷ (14, row8 16) ∷ (15, row11) ∷ (20, row1) ∷ (29, row4 14) ∷ (31, row7 15) ∷ (33, row4 16) ∷ (34, row3 17) ∷ []) ((6, off) ∷ (7, off) ∷ (8, off) ∷ (9, off) ∷ (14, alive) ∷ (15, alive) ∷ (16, alive) ∷ (17, alive) ∷ []) G0
+  abbrev pub G24 : Cx
+  G24 = patched ((12, row2) ∷ (13, row5 15) ∷ (14, row8 16) ∷ (20, row1) ∷ (29, row4 14) ∷ (31, row7 15) ∷ (33, row4 16) ∷ []) ((6, off) ∷ (7, off) ∷ (8, off) ∷ (14, alive) ∷ (15, alive) ∷ (16, alive) ∷ []) G0
 
   abbrev pub G29 : Cx
-  G29 = patched ((12, row2) ∷ (13, row5 15) ∷ (14, row8 16) ∷ (15, row11) ∷ (16, row14) ∷ (20, row1) ∷ (29, row4 14) ∷ (31, row7 15) ∷ (33, row4 16) ∷ (35, row4 17) ∷ (36, row3 18) ∷ []) ((6, off) ∷ (7, off) ∷ (8, off) ∷ (9, off) ∷ (10, off) ∷ (14, alive) ∷ (15, alive) ∷ (16, alive) ∷ (17, alive) ∷ (18, alive) ∷ []) G0
+  G29 = patched ((12, row2) ∷ (13, row5 15) ∷ (14, row8 16) ∷ (15, row11) ∷ (16, row14) ∷ (20, row1) ∷ (29, row4 14) ∷ (31, row7 15) ∷ (33, row4 16) ∷ (35, row4 17) ∷ (36, row15 18) ∷ []) ((6, off) ∷ (7, off) ∷ (8, off) ∷ (9, off) ∷ (10, off) ∷ (14, alive) ∷ (15, alive) ∷ (16, alive) ∷ (17, alive) ∷ (18, alive) ∷ []) G0
 
   abbrev pub G30 : Cx
   G30 = patched ((12, row2) ∷ (13, row5 15) ∷ (14, row8 16) ∷ (15, row11) ∷ (16, row14) ∷ (20, row1) ∷ (29, row4 14) ∷ (31, row7 15) ∷ (33, row4 16) ∷ (35, row4 17) ∷ (37, row4 18) ∷ []) ((6, off) ∷ (7, off) ∷ (8, off) ∷ (9, off) ∷ (10, off) ∷ (14, alive) ∷ (15, alive) ∷ (16, alive) ∷ (17, alive) ∷ (18, alive) ∷ []) G0
@@ -162,17 +159,11 @@ module _ (κs : Lfts 14) (qs : Shares 14) where
   abbrev pub G32 : Cx
   G32 = patched ((20, row1) ∷ (38, row20) ∷ []) ([]) G0
 
-  abbrev pub G36 : Cx
-  G36 = patched ((13, row5 15) ∷ (14, row8 16) ∷ (15, row11) ∷ (16, row14) ∷ (20, row1) ∷ (21, row17) ∷ (31, row19) ∷ (33, row18) ∷ (35, row18) ∷ (37, row18) ∷ []) ((7, off) ∷ (8, off) ∷ (9, off) ∷ (10, off) ∷ (15, alive) ∷ (16, alive) ∷ (17, alive) ∷ (18, alive) ∷ []) G0
+  abbrev pub G38 : Cx
+  G38 = patched ((14, row8 16) ∷ (15, row11) ∷ (16, row14) ∷ (20, row1) ∷ (21, row17) ∷ (33, row18) ∷ (35, row18) ∷ (37, row18) ∷ []) ((8, off) ∷ (9, off) ∷ (10, off) ∷ (15, dead) ∷ (16, alive) ∷ (17, alive) ∷ (18, alive) ∷ []) G0
 
-  abbrev pub G40 : Cx
-  G40 = patched ((14, row8 16) ∷ (15, row11) ∷ (16, row14) ∷ (20, row1) ∷ (21, row17) ∷ (33, row18) ∷ (35, row18) ∷ (37, row18) ∷ []) ((8, off) ∷ (9, off) ∷ (10, off) ∷ (16, alive) ∷ (17, alive) ∷ (18, alive) ∷ []) G0
-
-  abbrev pub G44 : Cx
-  G44 = patched ((15, row11) ∷ (16, row14) ∷ (20, row1) ∷ (21, row17) ∷ (35, row18) ∷ (37, row18) ∷ []) ((9, off) ∷ (10, off) ∷ (17, alive) ∷ (18, alive) ∷ []) G0
-
-  abbrev pub G48 : Cx
-  G48 = patched ((16, row14) ∷ (20, row1) ∷ (21, row17) ∷ (37, row18) ∷ []) ((10, off) ∷ (18, alive) ∷ []) G0
+  abbrev pub G45 : Cx
+  G45 = patched ((15, row11) ∷ (16, row14) ∷ (20, row1) ∷ (21, row17) ∷ (35, row18) ∷ (37, row18) ∷ []) ((9, off) ∷ (10, off) ∷ (17, dead) ∷ (18, alive) ∷ []) G0
 
   abbrev pub G52 : Cx
   G52 = patched ((20, row1) ∷ (21, row17) ∷ []) ([]) G0
@@ -192,17 +183,11 @@ module _ (κs : Lfts 14) (qs : Shares 14) where
   abbrev pub G61 : Cx
   G61 = patched ((20, row1) ∷ (21, row21 1) ∷ []) ([]) G0
 
-  abbrev pub G65 : Cx
-  G65 = patched ((20, row1) ∷ (24, row1) ∷ (25, row1) ∷ []) ([]) G0
-
   abbrev pub G66 : Cx
   G66 = patched ((20, row1) ∷ (24, row1) ∷ (25, row1) ∷ (26, row1) ∷ []) ([]) G0
 
-  abbrev pub G69 : Cx
-  G69 = patched ((17, row23) ∷ (20, row1) ∷ (24, row1) ∷ (25, row1) ∷ (26, row1) ∷ (41, row25) ∷ []) ((11, off) ∷ (19, alive) ∷ []) G0
-
-  abbrev pub G72 : Cx
-  G72 = patched ((12, row26 20) ∷ (17, row23) ∷ (20, row1) ∷ (24, row1) ∷ (25, row1) ∷ (26, row1) ∷ (41, row25) ∷ (43, row28 20) ∷ []) ((6, off) ∷ (11, off) ∷ (19, alive) ∷ (20, alive) ∷ []) G0
+  abbrev pub G71 : Cx
+  G71 = patched ((12, row26 20) ∷ (17, row23) ∷ (20, row1) ∷ (24, row1) ∷ (25, row1) ∷ (26, row1) ∷ (41, row25) ∷ (42, row27 20) ∷ []) ((6, off) ∷ (11, off) ∷ (19, alive) ∷ (20, alive) ∷ []) G0
 
   abbrev pub G75 : Cx
   G75 = patched ((12, row26 20) ∷ (14, row29) ∷ (17, row23) ∷ (20, row1) ∷ (24, row1) ∷ (25, row1) ∷ (26, row1) ∷ (41, row25) ∷ (43, row28 20) ∷ (45, row28 21) ∷ []) ((6, off) ∷ (8, off) ∷ (11, off) ∷ (19, alive) ∷ (20, alive) ∷ (21, alive) ∷ []) G0
@@ -210,20 +195,14 @@ module _ (κs : Lfts 14) (qs : Shares 14) where
   abbrev pub G76 : Cx
   G76 = patched ((12, row26 20) ∷ (14, row29) ∷ (17, row23) ∷ (20, row1) ∷ (24, row1) ∷ (25, row1) ∷ (26, row1) ∷ (39, row32) ∷ (41, row33) ∷ (43, row28 20) ∷ (45, row28 21) ∷ []) ((6, off) ∷ (8, off) ∷ (11, off) ∷ (19, alive) ∷ (20, alive) ∷ (21, alive) ∷ []) G0
 
-  abbrev pub G79 : Cx
-  G79 = patched ((12, row26 20) ∷ (14, row29) ∷ (17, row23) ∷ (20, row1) ∷ (24, row1) ∷ (25, row1) ∷ (26, row1) ∷ (41, row33) ∷ []) ((6, off) ∷ (8, off) ∷ (11, off) ∷ (19, alive) ∷ (20, alive) ∷ (21, alive) ∷ []) G0
+  abbrev pub G81 : Cx
+  G81 = patched ((12, row26 20) ∷ (14, row29) ∷ (20, row1) ∷ (24, row1) ∷ (25, row1) ∷ (26, row1) ∷ []) ((6, off) ∷ (8, off) ∷ (19, dead) ∷ (20, alive) ∷ (21, alive) ∷ []) G0
 
-  abbrev pub G82 : Cx
-  G82 = patched ((12, row26 20) ∷ (14, row29) ∷ (20, row1) ∷ (24, row1) ∷ (25, row1) ∷ (26, row1) ∷ []) ((6, off) ∷ (8, off) ∷ (20, alive) ∷ (21, alive) ∷ []) G0
+  abbrev pub G86 : Cx
+  G86 = patched ((14, row29) ∷ (20, row1) ∷ (24, row1) ∷ (25, row1) ∷ (26, row1) ∷ []) ((8, off) ∷ (21, dead) ∷ []) G0
 
-  abbrev pub G85 : Cx
-  G85 = patched ((14, row29) ∷ (20, row1) ∷ (24, row1) ∷ (25, row1) ∷ (26, row1) ∷ []) ((8, off) ∷ (21, alive) ∷ []) G0
-
-  abbrev pub G91 : Cx
-  G91 = patched ((13, row5 22) ∷ (20, row1) ∷ (24, row1) ∷ (25, row1) ∷ (26, row1) ∷ (47, row7 22) ∷ []) ((7, off) ∷ (22, alive) ∷ []) G0
-
-  abbrev pub G94 : Cx
-  G94 = patched ((13, row5 22) ∷ (14, row8 23) ∷ (20, row1) ∷ (24, row1) ∷ (25, row1) ∷ (26, row1) ∷ (47, row7 22) ∷ (49, row4 23) ∷ []) ((7, off) ∷ (8, off) ∷ (22, alive) ∷ (23, alive) ∷ []) G0
+  abbrev pub G93 : Cx
+  G93 = patched ((13, row5 22) ∷ (14, row8 23) ∷ (20, row1) ∷ (24, row1) ∷ (25, row1) ∷ (26, row1) ∷ (47, row7 22) ∷ (48, row15 23) ∷ []) ((7, off) ∷ (8, off) ∷ (22, alive) ∷ (23, alive) ∷ []) G0
 
   abbrev pub G97 : Cx
   G97 = patched ((13, row5 22) ∷ (14, row8 23) ∷ (20, row1) ∷ (24, row1) ∷ (25, row1) ∷ (26, row1) ∷ (47, row7 22) ∷ (49, row4 23) ∷ (51, row1) ∷ []) ((7, off) ∷ (8, off) ∷ (22, alive) ∷ (23, alive) ∷ []) G0
@@ -231,32 +210,20 @@ module _ (κs : Lfts 14) (qs : Shares 14) where
   abbrev pub G98 : Cx
   G98 = patched ((13, row5 22) ∷ (14, row8 23) ∷ (20, row1) ∷ (24, row1) ∷ (25, row1) ∷ (26, row1) ∷ (39, row32) ∷ (47, row19) ∷ (49, row18) ∷ (51, row1) ∷ []) ((7, off) ∷ (8, off) ∷ (22, alive) ∷ (23, alive) ∷ []) G0
 
-  abbrev pub G101 : Cx
-  G101 = patched ((13, row5 22) ∷ (14, row8 23) ∷ (20, row1) ∷ (24, row1) ∷ (25, row1) ∷ (26, row1) ∷ (47, row19) ∷ (49, row18) ∷ []) ((7, off) ∷ (8, off) ∷ (22, dead) ∷ (23, alive) ∷ []) G0
+  abbrev pub G104 : Cx
+  G104 = patched ((14, row8 23) ∷ (20, row1) ∷ (24, row1) ∷ (25, row1) ∷ (26, row1) ∷ (49, row18) ∷ []) ((8, off) ∷ (23, alive) ∷ []) G0
 
-  abbrev pub G105 : Cx
-  G105 = patched ((14, row8 23) ∷ (20, row1) ∷ (24, row1) ∷ (25, row1) ∷ (26, row1) ∷ (49, row18) ∷ []) ((8, off) ∷ (23, dead) ∷ []) G0
+  abbrev pub G113 : Cx
+  G113 = patched ((12, row26 24) ∷ (15, row43) ∷ (20, row1) ∷ (24, row1) ∷ (25, row1) ∷ (26, row1) ∷ (53, row28 24) ∷ (54, row27 25) ∷ []) ((6, off) ∷ (9, off) ∷ (24, alive) ∷ (25, alive) ∷ []) G0
 
-  abbrev pub G111 : Cx
-  G111 = patched ((12, row26 24) ∷ (20, row1) ∷ (24, row1) ∷ (25, row1) ∷ (26, row1) ∷ (53, row28 24) ∷ []) ((6, off) ∷ (24, alive) ∷ []) G0
-
-  abbrev pub G114 : Cx
-  G114 = patched ((12, row26 24) ∷ (15, row43) ∷ (20, row1) ∷ (24, row1) ∷ (25, row1) ∷ (26, row1) ∷ (53, row28 24) ∷ (55, row28 25) ∷ []) ((6, off) ∷ (9, off) ∷ (24, alive) ∷ (25, alive) ∷ []) G0
-
-  abbrev pub G117 : Cx
-  G117 = patched ((12, row26 24) ∷ (15, row43) ∷ (16, row46) ∷ (20, row1) ∷ (24, row1) ∷ (25, row1) ∷ (26, row1) ∷ (53, row28 24) ∷ (55, row28 25) ∷ (57, row28 26) ∷ []) ((6, off) ∷ (9, off) ∷ (10, off) ∷ (24, alive) ∷ (25, alive) ∷ (26, alive) ∷ []) G0
-
-  abbrev pub G120 : Cx
-  G120 = patched ((12, row26 24) ∷ (15, row43) ∷ (16, row46) ∷ (17, row49) ∷ (20, row1) ∷ (24, row1) ∷ (25, row1) ∷ (26, row1) ∷ (53, row28 24) ∷ (55, row28 25) ∷ (57, row28 26) ∷ (59, row51) ∷ []) ((6, off) ∷ (9, off) ∷ (10, off) ∷ (11, off) ∷ (24, alive) ∷ (25, alive) ∷ (26, alive) ∷ (27, alive) ∷ []) G0
+  abbrev pub G118 : Cx
+  G118 = patched ((12, row26 24) ∷ (15, row43) ∷ (16, row46) ∷ (20, row1) ∷ (24, row1) ∷ (25, row1) ∷ (26, row1) ∷ (53, row28 24) ∷ (55, row28 25) ∷ (57, row28 26) ∷ []) ((6, off) ∷ (9, off) ∷ (10, off) ∷ (24, alive) ∷ (25, alive) ∷ (26, alive) ∷ (27, alive) ∷ []) G0
 
   abbrev pub G123 : Cx
   G123 = patched ((12, row26 24) ∷ (13, row5 28) ∷ (15, row43) ∷ (16, row46) ∷ (17, row49) ∷ (20, row1) ∷ (24, row1) ∷ (25, row1) ∷ (26, row1) ∷ (53, row28 24) ∷ (55, row28 25) ∷ (57, row28 26) ∷ (59, row51) ∷ (61, row7 28) ∷ []) ((6, off) ∷ (7, off) ∷ (9, off) ∷ (10, off) ∷ (11, off) ∷ (24, alive) ∷ (25, alive) ∷ (26, alive) ∷ (27, alive) ∷ (28, alive) ∷ []) G0
 
-  abbrev pub G126 : Cx
-  G126 = patched ((12, row26 24) ∷ (13, row5 28) ∷ (14, row8 29) ∷ (15, row43) ∷ (16, row46) ∷ (17, row49) ∷ (20, row1) ∷ (24, row1) ∷ (25, row1) ∷ (26, row1) ∷ (53, row28 24) ∷ (55, row28 25) ∷ (57, row28 26) ∷ (59, row51) ∷ (61, row7 28) ∷ (63, row4 29) ∷ []) ((6, off) ∷ (7, off) ∷ (8, off) ∷ (9, off) ∷ (10, off) ∷ (11, off) ∷ (24, alive) ∷ (25, alive) ∷ (26, alive) ∷ (27, alive) ∷ (28, alive) ∷ (29, alive) ∷ []) G0
-
-  abbrev pub G129 : Cx
-  G129 = patched ((12, row26 24) ∷ (13, row5 28) ∷ (14, row8 29) ∷ (15, row43) ∷ (16, row46) ∷ (17, row49) ∷ (18, row58) ∷ (20, row1) ∷ (24, row1) ∷ (25, row1) ∷ (26, row1) ∷ (53, row28 24) ∷ (55, row28 25) ∷ (57, row28 26) ∷ (59, row51) ∷ (61, row7 28) ∷ (63, row4 29) ∷ (65, row60 30) ∷ []) ((6, off) ∷ (7, off) ∷ (8, off) ∷ (9, off) ∷ (10, off) ∷ (11, off) ∷ (12, off) ∷ (24, alive) ∷ (25, alive) ∷ (26, alive) ∷ (27, alive) ∷ (28, alive) ∷ (29, alive) ∷ (30, alive) ∷ []) G0
+  abbrev pub G128 : Cx
+  G128 = patched ((12, row26 24) ∷ (13, row5 28) ∷ (14, row8 29) ∷ (15, row43) ∷ (16, row46) ∷ (17, row49) ∷ (18, row58) ∷ (20, row1) ∷ (24, row1) ∷ (25, row1) ∷ (26, row1) ∷ (53, row28 24) ∷ (55, row28 25) ∷ (57, row28 26) ∷ (59, row51) ∷ (61, row7 28) ∷ (63, row4 29) ∷ (64, row59) ∷ []) ((6, off) ∷ (7, off) ∷ (8, off) ∷ (9, off) ∷ (10, off) ∷ (11, off) ∷ (12, off) ∷ (24, alive) ∷ (25, alive) ∷ (26, alive) ∷ (27, alive) ∷ (28, alive) ∷ (29, alive) ∷ (30, alive) ∷ []) G0
 
   abbrev pub G132 : Cx
   G132 = patched ((12, row26 24) ∷ (13, row5 28) ∷ (14, row8 29) ∷ (15, row43) ∷ (16, row46) ∷ (17, row49) ∷ (18, row58) ∷ (19, row61) ∷ (20, row1) ∷ (24, row1) ∷ (25, row1) ∷ (26, row1) ∷ (53, row28 24) ∷ (55, row28 25) ∷ (57, row28 26) ∷ (59, row51) ∷ (61, row7 28) ∷ (63, row4 29) ∷ (65, row60 30) ∷ (67, row60 31) ∷ []) ((6, off) ∷ (7, off) ∷ (8, off) ∷ (9, off) ∷ (10, off) ∷ (11, off) ∷ (12, off) ∷ (13, off) ∷ (24, alive) ∷ (25, alive) ∷ (26, alive) ∷ (27, alive) ∷ (28, alive) ∷ (29, alive) ∷ (30, alive) ∷ (31, alive) ∷ []) G0
@@ -264,32 +231,20 @@ module _ (κs : Lfts 14) (qs : Shares 14) where
   abbrev pub G133 : Cx
   G133 = patched ((12, row26 24) ∷ (13, row5 28) ∷ (14, row8 29) ∷ (15, row43) ∷ (16, row46) ∷ (17, row49) ∷ (18, row58) ∷ (19, row61) ∷ (20, row1) ∷ (24, row1) ∷ (25, row1) ∷ (26, row1) ∷ (27, row20) ∷ (53, row28 24) ∷ (55, row28 25) ∷ (57, row28 26) ∷ (59, row51) ∷ (61, row19) ∷ (63, row18) ∷ (65, row64) ∷ (67, row64) ∷ []) ((6, off) ∷ (7, off) ∷ (8, off) ∷ (9, off) ∷ (10, off) ∷ (11, off) ∷ (12, off) ∷ (13, off) ∷ (24, alive) ∷ (25, alive) ∷ (26, alive) ∷ (27, alive) ∷ (28, alive) ∷ (29, alive) ∷ (30, alive) ∷ (31, alive) ∷ []) G0
 
-  abbrev pub G136 : Cx
-  G136 = patched ((12, row26 24) ∷ (13, row5 28) ∷ (14, row8 29) ∷ (15, row43) ∷ (16, row46) ∷ (17, row49) ∷ (18, row58) ∷ (19, row61) ∷ (20, row1) ∷ (24, row1) ∷ (25, row1) ∷ (26, row1) ∷ (27, row20) ∷ (59, row51) ∷ (61, row19) ∷ (63, row18) ∷ (65, row64) ∷ (67, row64) ∷ []) ((6, off) ∷ (7, off) ∷ (8, off) ∷ (9, off) ∷ (10, off) ∷ (11, off) ∷ (12, off) ∷ (13, off) ∷ (24, alive) ∷ (25, alive) ∷ (26, alive) ∷ (27, alive) ∷ (28, alive) ∷ (29, alive) ∷ (30, alive) ∷ (31, alive) ∷ []) G0
+  abbrev pub G138 : Cx
+  G138 = patched ((12, row26 24) ∷ (13, row5 28) ∷ (14, row8 29) ∷ (15, row43) ∷ (16, row46) ∷ (17, row49) ∷ (18, row58) ∷ (19, row61) ∷ (20, row1) ∷ (24, row1) ∷ (25, row1) ∷ (26, row1) ∷ (27, row20) ∷ (61, row19) ∷ (63, row18) ∷ (65, row64) ∷ (67, row64) ∷ []) ((6, off) ∷ (7, off) ∷ (8, off) ∷ (9, off) ∷ (10, off) ∷ (11, off) ∷ (12, off) ∷ (13, off) ∷ (24, dead) ∷ (25, alive) ∷ (26, alive) ∷ (27, alive) ∷ (28, alive) ∷ (29, alive) ∷ (30, alive) ∷ (31, alive) ∷ []) G0
 
-  abbrev pub G139 : Cx
-  G139 = patched ((13, row5 28) ∷ (14, row8 29) ∷ (15, row43) ∷ (16, row46) ∷ (17, row49) ∷ (18, row58) ∷ (19, row61) ∷ (20, row1) ∷ (24, row1) ∷ (25, row1) ∷ (26, row1) ∷ (27, row20) ∷ (61, row19) ∷ (63, row18) ∷ (65, row64) ∷ (67, row64) ∷ []) ((7, off) ∷ (8, off) ∷ (9, off) ∷ (10, off) ∷ (11, off) ∷ (12, off) ∷ (13, off) ∷ (24, dead) ∷ (25, alive) ∷ (26, alive) ∷ (27, alive) ∷ (28, alive) ∷ (29, alive) ∷ (30, alive) ∷ (31, alive) ∷ []) G0
-
-  abbrev pub G142 : Cx
-  G142 = patched ((13, row5 28) ∷ (14, row8 29) ∷ (16, row46) ∷ (17, row49) ∷ (18, row58) ∷ (19, row61) ∷ (20, row1) ∷ (24, row1) ∷ (25, row1) ∷ (26, row1) ∷ (27, row20) ∷ (61, row19) ∷ (63, row18) ∷ (65, row64) ∷ (67, row64) ∷ []) ((7, off) ∷ (8, off) ∷ (10, off) ∷ (11, off) ∷ (12, off) ∷ (13, off) ∷ (25, dead) ∷ (26, alive) ∷ (27, alive) ∷ (28, alive) ∷ (29, alive) ∷ (30, alive) ∷ (31, alive) ∷ []) G0
-
-  abbrev pub G145 : Cx
-  G145 = patched ((13, row5 28) ∷ (14, row8 29) ∷ (17, row49) ∷ (18, row58) ∷ (19, row61) ∷ (20, row1) ∷ (24, row1) ∷ (25, row1) ∷ (26, row1) ∷ (27, row20) ∷ (61, row19) ∷ (63, row18) ∷ (65, row64) ∷ (67, row64) ∷ []) ((7, off) ∷ (8, off) ∷ (11, off) ∷ (12, off) ∷ (13, off) ∷ (26, dead) ∷ (27, alive) ∷ (28, alive) ∷ (29, alive) ∷ (30, alive) ∷ (31, alive) ∷ []) G0
+  abbrev pub G143 : Cx
+  G143 = patched ((13, row5 28) ∷ (14, row8 29) ∷ (16, row46) ∷ (17, row49) ∷ (18, row58) ∷ (19, row61) ∷ (20, row1) ∷ (24, row1) ∷ (25, row1) ∷ (26, row1) ∷ (27, row20) ∷ (61, row19) ∷ (63, row18) ∷ (65, row64) ∷ (67, row64) ∷ []) ((7, off) ∷ (8, off) ∷ (10, off) ∷ (11, off) ∷ (12, off) ∷ (13, off) ∷ (26, alive) ∷ (27, alive) ∷ (28, alive) ∷ (29, alive) ∷ (30, alive) ∷ (31, alive) ∷ []) G0
 
   abbrev pub G148 : Cx
   G148 = patched ((13, row5 28) ∷ (14, row8 29) ∷ (18, row58) ∷ (19, row61) ∷ (20, row1) ∷ (24, row1) ∷ (25, row1) ∷ (26, row1) ∷ (27, row20) ∷ (61, row19) ∷ (63, row18) ∷ (65, row64) ∷ (67, row64) ∷ []) ((7, off) ∷ (8, off) ∷ (12, off) ∷ (13, off) ∷ (27, dead) ∷ (28, alive) ∷ (29, alive) ∷ (30, alive) ∷ (31, alive) ∷ []) G0
 
-  abbrev pub G151 : Cx
-  G151 = patched ((14, row8 29) ∷ (18, row58) ∷ (19, row61) ∷ (20, row1) ∷ (24, row1) ∷ (25, row1) ∷ (26, row1) ∷ (27, row20) ∷ (63, row18) ∷ (65, row64) ∷ (67, row64) ∷ []) ((8, off) ∷ (12, off) ∷ (13, off) ∷ (28, dead) ∷ (29, alive) ∷ (30, alive) ∷ (31, alive) ∷ []) G0
+  abbrev pub G154 : Cx
+  G154 = patched ((14, row8 29) ∷ (18, row58) ∷ (19, row61) ∷ (20, row1) ∷ (24, row1) ∷ (25, row1) ∷ (26, row1) ∷ (27, row20) ∷ (63, row18) ∷ (65, row64) ∷ (67, row64) ∷ []) ((8, off) ∷ (12, off) ∷ (13, off) ∷ (29, dead) ∷ (30, alive) ∷ (31, alive) ∷ []) G0
 
-  abbrev pub G155 : Cx
-  G155 = patched ((18, row58) ∷ (19, row61) ∷ (20, row1) ∷ (24, row1) ∷ (25, row1) ∷ (26, row1) ∷ (27, row20) ∷ (65, row64) ∷ (67, row64) ∷ []) ((12, off) ∷ (13, off) ∷ (29, dead) ∷ (30, alive) ∷ (31, alive) ∷ []) G0
-
-  abbrev pub G159 : Cx
-  G159 = patched ((19, row61) ∷ (20, row1) ∷ (24, row1) ∷ (25, row1) ∷ (26, row1) ∷ (27, row20) ∷ (67, row64) ∷ []) ((13, off) ∷ (30, dead) ∷ (31, alive) ∷ []) G0
-
-  abbrev pub G163 : Cx
-  G163 = patched ((20, row1) ∷ (24, row1) ∷ (25, row1) ∷ (26, row1) ∷ (27, row20) ∷ []) ((31, dead) ∷ []) G0
+  abbrev pub G161 : Cx
+  G161 = patched ((19, row61) ∷ (20, row1) ∷ (24, row1) ∷ (25, row1) ∷ (26, row1) ∷ (27, row20) ∷ (67, row64) ∷ []) ((13, off) ∷ (31, alive) ∷ []) G0
 
   abbrev pub G165 : Cx
   G165 = patched ((20, row1) ∷ (24, row1) ∷ (25, row1) ∷ (26, row1) ∷ (27, row20) ∷ []) ([]) G0
@@ -306,11 +261,8 @@ module _ (κs : Lfts 14) (qs : Shares 14) where
   abbrev pub G169 : Cx
   G169 = patched ((20, row1) ∷ (27, row20) ∷ (38, row20) ∷ []) ([]) G0
 
-  abbrev pub G173 : Cx
-  G173 = patched ((0, row20) ∷ []) ([]) G0
-
-  abbrev pub G176 : Cx
-  G176 = patched ((0, row20) ∷ (1, (any-gone (ty 1))) ∷ (2, (any-gone (ty 2))) ∷ (3, (any-gone (ty 3))) ∷ []) ([]) G0
+  abbrev pub G175 : Cx
+  G175 = patched ((0, row20) ∷ (1, (any-gone (ty 1))) ∷ (2, (any-gone (ty 2))) ∷ []) ([]) G0
 
   abbrev pub G178 : Cx
   G178 = patched ((0, row20) ∷ (1, (any-gone (ty 1))) ∷ (2, (any-gone (ty 2))) ∷ (3, (any-gone (ty 3))) ∷ (6, (any-gone (ty 6))) ∷ (9, (any-gone (ty 9))) ∷ []) ([]) G0
@@ -339,11 +291,11 @@ module _ {M : Type 1} (𝓤 : URA M) (H : Heap 𝓤) (A : Atoms 𝓤) (W : Given
   from-answer =
       stmt (G32 κs qs) _ (t-val-copy 𝓤 H A W E 𝓣 (λ ρ. Unit) (G32 κs qs) 38 0 (Declared'.row DesksAnswer.the-type) _ _ (whole (Declared'.row DesksAnswer.the-type)) (whole (Declared'.row DesksAnswer.the-type)) (λ x. x) (λ x. x) (λ x. x) refl (told-none 𝓤 H A ((G32 κs qs) .slots)) (yields-copy 𝓤 H A W (λ ρ. Unit) (Declared'.row DesksAnswer.the-type) refl (cStruct DesksAnswer.the-type Laws'.the-laws Laws'.the-copy .copy 𝓤 H A W) (whole (Declared'.row DesksAnswer.the-type)) (λ x. x) (λ x. x) (λ ρ told. mem-whole 𝓤 H A W (Declared'.row DesksAnswer.the-type) ρ) (λ ρ told. whole-mem 𝓤 H A W (Declared'.row DesksAnswer.the-type) ρ)) (room-gone 𝓤 H A _) (makes-mem 𝓤 H A W (λ ρ. Unit) (Declared'.row DesksAnswer.the-type) refl (whole (Declared'.row DesksAnswer.the-type)) (λ x. x) (λ ρ told. whole-mem 𝓤 H A W (Declared'.row DesksAnswer.the-type) ρ)) refl refl) $
       ghosts _ _ (g-room 𝓤 H A W E _ 20 (tyInt w64) (room-sc 𝓤 H A W (sInt w64))) $
-      ghosts _ (G173 κs qs) (g-room 𝓤 H A W E _ 38 _ (room-whole 𝓤 H A W (Declared'.row DesksAnswer.the-type) _ refl)) $
-      ghosts (G173 κs qs) _ (g-room 𝓤 H A W E (G173 κs qs) 1 (tyInt w64) (room-sc 𝓤 H A W (sInt w64))) $
-      ghosts _ _ (g-room 𝓤 H A W E _ 2 (tyInt w64) (room-sc 𝓤 H A W (sInt w64))) $
-      ghosts _ (G176 κs qs) (g-room 𝓤 H A W E _ 3 (tyInt w64) (room-sc 𝓤 H A W (sInt w64))) $
-      ghosts (G176 κs qs) _ (g-room 𝓤 H A W E (G176 κs qs) 6 (tyInt w64) (room-sc 𝓤 H A W (sInt w64))) $
+      ghosts _ _ (g-room 𝓤 H A W E _ 38 _ (room-whole 𝓤 H A W (Declared'.row DesksAnswer.the-type) _ refl)) $
+      ghosts _ _ (g-room 𝓤 H A W E _ 1 (tyInt w64) (room-sc 𝓤 H A W (sInt w64))) $
+      ghosts _ (G175 κs qs) (g-room 𝓤 H A W E _ 2 (tyInt w64) (room-sc 𝓤 H A W (sInt w64))) $
+      ghosts (G175 κs qs) _ (g-room 𝓤 H A W E (G175 κs qs) 3 (tyInt w64) (room-sc 𝓤 H A W (sInt w64))) $
+      ghosts _ _ (g-room 𝓤 H A W E _ 6 (tyInt w64) (room-sc 𝓤 H A W (sInt w64))) $
       ghosts _ (G178 κs qs) (g-room 𝓤 H A W E _ 9 (tyInt w64) (room-sc 𝓤 H A W (sInt w64))) $
       rets
 
@@ -355,78 +307,78 @@ module _ {M : Type 1} (𝓤 : URA M) (H : Heap 𝓤) (A : Atoms 𝓤) (W : Given
   from-desks =
       ghosts (G66 κs qs) _ (g-begin 𝓤 H A W E (G66 κs qs) 24 _) $
       stmt _ _ (t-sl-reshare 𝓤 H A W E (rtF (fInt w32)) 𝓣 _ 12 52 6 24 (tyRef (named 6) mut (tyInt w32)) (tyRef erased imm (tyInt w32)) (lease (κs .1 .1 .1 .1 .1 .1 .0) (qs .1 .1 .1 .1 .1 .1 .0)) 0 (λ x. x) (as-is 𝓤 H A (mslice (rtF (fInt w32)) (tyRef (named 6) mut (tyInt w32)) 6)) (room-gone 𝓤 H A (tyRef erased imm (tyInt w32))) refl tt refl refl refl (λ b o. tt)) $
-      stmt _ (G111 κs qs) (t-sl-aggregate 𝓤 H A W E (rtF (fInt w32)) 𝓣 (asShr (rtF (fInt w32))) _ 52 53 24 (tyRef erased imm (tyInt w32)) (tyRef erased imm (tyInt w32)) (λ x. x) (oFld 12 (field 1 ∷ []) (tyInt w64) 8 (λ v. lenV (v .0))) (as-is 𝓤 H A (ssptr (rtF (fInt w32)) (tyRef erased imm (tyInt w32)) 24)) (room-gone 𝓤 H A _) (reads-owedS-len 𝓤 H A W (rtF (fInt w32)) (tyRef (named 6) mut (tyInt w32)) 6 24 (lease (κs .1 .1 .1 .1 .1 .1 .0) (qs .1 .1 .1 .1 .1 .1 .0)) 8 refl, refl) refl refl (λ b o k. tt)) $
-      ghosts (G111 κs qs) _ (g-begin 𝓤 H A W E (G111 κs qs) 25 _) $
-      stmt _ _ (t-sl-reshare 𝓤 H A W E (rtF (fInt w32)) 𝓣 _ 15 54 9 25 (tyRef (named 9) mut (tyInt w32)) (tyRef erased imm (tyInt w32)) (lease (κs .1 .1 .1 .1 .1 .1 .1 .1 .1 .0) (qs .1 .1 .1 .1 .1 .1 .1 .1 .1 .0)) 0 (λ x. x) (as-is 𝓤 H A (mslice (rtF (fInt w32)) (tyRef (named 9) mut (tyInt w32)) 9)) (room-gone 𝓤 H A (tyRef erased imm (tyInt w32))) refl tt refl refl refl (λ b o. tt)) $
-      stmt _ (G114 κs qs) (t-sl-aggregate 𝓤 H A W E (rtF (fInt w32)) 𝓣 (asShr (rtF (fInt w32))) _ 54 55 25 (tyRef erased imm (tyInt w32)) (tyRef erased imm (tyInt w32)) (λ x. x) (oFld 15 (field 1 ∷ []) (tyInt w64) 8 (λ v. lenV (v .0))) (as-is 𝓤 H A (ssptr (rtF (fInt w32)) (tyRef erased imm (tyInt w32)) 25)) (room-gone 𝓤 H A _) (reads-owedS-len 𝓤 H A W (rtF (fInt w32)) (tyRef (named 9) mut (tyInt w32)) 9 25 (lease (κs .1 .1 .1 .1 .1 .1 .1 .1 .1 .0) (qs .1 .1 .1 .1 .1 .1 .1 .1 .1 .0)) 8 refl, refl) refl refl (λ b o k. tt)) $
-      ghosts (G114 κs qs) _ (g-begin 𝓤 H A W E (G114 κs qs) 26 _) $
+      stmt _ _ (t-sl-aggregate 𝓤 H A W E (rtF (fInt w32)) 𝓣 (asShr (rtF (fInt w32))) _ 52 53 24 (tyRef erased imm (tyInt w32)) (tyRef erased imm (tyInt w32)) (λ x. x) (oFld 12 (field 1 ∷ []) (tyInt w64) 8 (λ v. lenV (v .0))) (as-is 𝓤 H A (ssptr (rtF (fInt w32)) (tyRef erased imm (tyInt w32)) 24)) (room-gone 𝓤 H A _) (reads-owedS-len 𝓤 H A W (rtF (fInt w32)) (tyRef (named 6) mut (tyInt w32)) 6 24 (lease (κs .1 .1 .1 .1 .1 .1 .0) (qs .1 .1 .1 .1 .1 .1 .0)) 8 refl, refl) refl refl (λ b o k. tt)) $
+      ghosts _ _ (g-begin 𝓤 H A W E _ 25 _) $
+      stmt _ (G113 κs qs) (t-sl-reshare 𝓤 H A W E (rtF (fInt w32)) 𝓣 _ 15 54 9 25 (tyRef (named 9) mut (tyInt w32)) (tyRef erased imm (tyInt w32)) (lease (κs .1 .1 .1 .1 .1 .1 .1 .1 .1 .0) (qs .1 .1 .1 .1 .1 .1 .1 .1 .1 .0)) 0 (λ x. x) (as-is 𝓤 H A (mslice (rtF (fInt w32)) (tyRef (named 9) mut (tyInt w32)) 9)) (room-gone 𝓤 H A (tyRef erased imm (tyInt w32))) refl tt refl refl refl (λ b o. tt)) $
+      stmt (G113 κs qs) _ (t-sl-aggregate 𝓤 H A W E (rtF (fInt w32)) 𝓣 (asShr (rtF (fInt w32))) (G113 κs qs) 54 55 25 (tyRef erased imm (tyInt w32)) (tyRef erased imm (tyInt w32)) (λ x. x) (oFld 15 (field 1 ∷ []) (tyInt w64) 8 (λ v. lenV (v .0))) (as-is 𝓤 H A (ssptr (rtF (fInt w32)) (tyRef erased imm (tyInt w32)) 25)) (room-gone 𝓤 H A _) (reads-owedS-len 𝓤 H A W (rtF (fInt w32)) (tyRef (named 9) mut (tyInt w32)) 9 25 (lease (κs .1 .1 .1 .1 .1 .1 .1 .1 .1 .0) (qs .1 .1 .1 .1 .1 .1 .1 .1 .1 .0)) 8 refl, refl) refl refl (λ b o k. tt)) $
+      ghosts _ _ (g-begin 𝓤 H A W E _ 26 _) $
       stmt _ _ (t-sl-reshare 𝓤 H A W E (rtF (fInt w32)) 𝓣 _ 16 56 10 26 (tyRef (named 10) mut (tyInt w32)) (tyRef erased imm (tyInt w32)) (lease (κs .1 .1 .1 .1 .1 .1 .1 .1 .1 .1 .0) (qs .1 .1 .1 .1 .1 .1 .1 .1 .1 .1 .0)) 0 (λ x. x) (as-is 𝓤 H A (mslice (rtF (fInt w32)) (tyRef (named 10) mut (tyInt w32)) 10)) (room-gone 𝓤 H A (tyRef erased imm (tyInt w32))) refl tt refl refl refl (λ b o. tt)) $
-      stmt _ (G117 κs qs) (t-sl-aggregate 𝓤 H A W E (rtF (fInt w32)) 𝓣 (asShr (rtF (fInt w32))) _ 56 57 26 (tyRef erased imm (tyInt w32)) (tyRef erased imm (tyInt w32)) (λ x. x) (oFld 16 (field 1 ∷ []) (tyInt w64) 8 (λ v. lenV (v .0))) (as-is 𝓤 H A (ssptr (rtF (fInt w32)) (tyRef erased imm (tyInt w32)) 26)) (room-gone 𝓤 H A _) (reads-owedS-len 𝓤 H A W (rtF (fInt w32)) (tyRef (named 10) mut (tyInt w32)) 10 26 (lease (κs .1 .1 .1 .1 .1 .1 .1 .1 .1 .1 .0) (qs .1 .1 .1 .1 .1 .1 .1 .1 .1 .1 .0)) 8 refl, refl) refl refl (λ b o k. tt)) $
-      ghosts (G117 κs qs) _ (g-begin 𝓤 H A W E (G117 κs qs) 27 _) $
-      stmt _ _ (t-sl-reshare 𝓤 H A W E twin-0.the-row 𝓣 _ 17 58 11 27 (tyRef (named 11) mut (pointee (twin-0.the-row .written))) (tyRef erased imm (pointee (twin-0.the-row .written))) (lease (κs .1 .1 .1 .1 .1 .1 .1 .1 .1 .1 .1 .0) (qs .1 .1 .1 .1 .1 .1 .1 .1 .1 .1 .1 .0)) 0 (λ x. x) (as-is 𝓤 H A (mslice twin-0.the-row (tyRef (named 11) mut (pointee (twin-0.the-row .written))) 11)) (room-gone 𝓤 H A (tyRef erased imm (pointee (twin-0.the-row .written)))) refl tt refl refl refl (λ b o. tt)) $
-      stmt _ (G120 κs qs) (t-sl-aggregate 𝓤 H A W E twin-0.the-row 𝓣 (asShr twin-0.the-row) _ 58 59 27 (tyRef erased imm (pointee (twin-0.the-row .written))) (tyRef erased imm (pointee (twin-0.the-row .written))) (λ x. x) (oFld 17 (field 1 ∷ []) (tyInt w64) 8 (λ v. lenV (v .0))) (as-is 𝓤 H A (ssptr twin-0.the-row (tyRef erased imm (pointee (twin-0.the-row .written))) 27)) (room-gone 𝓤 H A _) (reads-owedS-len 𝓤 H A W twin-0.the-row (tyRef (named 11) mut (pointee (twin-0.the-row .written))) 11 27 (lease (κs .1 .1 .1 .1 .1 .1 .1 .1 .1 .1 .1 .0) (qs .1 .1 .1 .1 .1 .1 .1 .1 .1 .1 .1 .0)) 8 refl, refl) refl refl (λ b o k. tt)) $
-      ghosts (G120 κs qs) _ (g-begin 𝓤 H A W E (G120 κs qs) 28 _) $
+      stmt _ _ (t-sl-aggregate 𝓤 H A W E (rtF (fInt w32)) 𝓣 (asShr (rtF (fInt w32))) _ 56 57 26 (tyRef erased imm (tyInt w32)) (tyRef erased imm (tyInt w32)) (λ x. x) (oFld 16 (field 1 ∷ []) (tyInt w64) 8 (λ v. lenV (v .0))) (as-is 𝓤 H A (ssptr (rtF (fInt w32)) (tyRef erased imm (tyInt w32)) 26)) (room-gone 𝓤 H A _) (reads-owedS-len 𝓤 H A W (rtF (fInt w32)) (tyRef (named 10) mut (tyInt w32)) 10 26 (lease (κs .1 .1 .1 .1 .1 .1 .1 .1 .1 .1 .0) (qs .1 .1 .1 .1 .1 .1 .1 .1 .1 .1 .0)) 8 refl, refl) refl refl (λ b o k. tt)) $
+      ghosts _ (G118 κs qs) (g-begin 𝓤 H A W E _ 27 _) $
+      stmt (G118 κs qs) _ (t-sl-reshare 𝓤 H A W E twin-0.the-row 𝓣 (G118 κs qs) 17 58 11 27 (tyRef (named 11) mut (pointee (twin-0.the-row .written))) (tyRef erased imm (pointee (twin-0.the-row .written))) (lease (κs .1 .1 .1 .1 .1 .1 .1 .1 .1 .1 .1 .0) (qs .1 .1 .1 .1 .1 .1 .1 .1 .1 .1 .1 .0)) 0 (λ x. x) (as-is 𝓤 H A (mslice twin-0.the-row (tyRef (named 11) mut (pointee (twin-0.the-row .written))) 11)) (room-gone 𝓤 H A (tyRef erased imm (pointee (twin-0.the-row .written)))) refl tt refl refl refl (λ b o. tt)) $
+      stmt _ _ (t-sl-aggregate 𝓤 H A W E twin-0.the-row 𝓣 (asShr twin-0.the-row) _ 58 59 27 (tyRef erased imm (pointee (twin-0.the-row .written))) (tyRef erased imm (pointee (twin-0.the-row .written))) (λ x. x) (oFld 17 (field 1 ∷ []) (tyInt w64) 8 (λ v. lenV (v .0))) (as-is 𝓤 H A (ssptr twin-0.the-row (tyRef erased imm (pointee (twin-0.the-row .written))) 27)) (room-gone 𝓤 H A _) (reads-owedS-len 𝓤 H A W twin-0.the-row (tyRef (named 11) mut (pointee (twin-0.the-row .written))) 11 27 (lease (κs .1 .1 .1 .1 .1 .1 .1 .1 .1 .1 .1 .0) (qs .1 .1 .1 .1 .1 .1 .1 .1 .1 .1 .1 .0)) 8 refl, refl) refl refl (λ b o k. tt)) $
+      ghosts _ _ (g-begin 𝓤 H A W E _ 28 _) $
       stmt _ _ (t-sl-relend 𝓤 H A W E (rtF (fInt w16)) 𝓣 _ 13 60 7 28 (tyRef (named 7) mut (tyInt w16)) (tyRef erased mut (tyInt w16)) (lease (κs .1 .1 .1 .1 .1 .1 .1 .0) (qs .1 .1 .1 .1 .1 .1 .1 .0)) 0 (λ x. x) (as-is 𝓤 H A (mslice (rtF (fInt w16)) (tyRef (named 7) mut (tyInt w16)) 7)) (room-gone 𝓤 H A (tyRef erased mut (tyInt w16))) refl tt refl refl refl (λ b o. tt)) $
       stmt _ (G123 κs qs) (t-sl-aggregate 𝓤 H A W E (rtF (fInt w16)) 𝓣 (asMut (rtF (fInt w16))) _ 60 61 28 (tyRef erased mut (tyInt w16)) (tyRef erased mut (tyInt w16)) (λ x. x) (oFld 13 (field 1 ∷ []) (tyInt w64) 8 (λ v. lenV (v .0))) (as-is 𝓤 H A (msptr (rtF (fInt w16)) (tyRef erased mut (tyInt w16)) 28)) (room-gone 𝓤 H A _) (reads-owed-len 𝓤 H A W (rtF (fInt w16)) (tyRef (named 7) mut (tyInt w16)) 7 28 (lease (κs .1 .1 .1 .1 .1 .1 .1 .0) (qs .1 .1 .1 .1 .1 .1 .1 .0)) 8 refl, refl) refl refl (λ b o k. tt)) $
       ghosts (G123 κs qs) _ (g-begin 𝓤 H A W E (G123 κs qs) 29 _) $
       stmt _ _ (t-sl-relend 𝓤 H A W E (rtF (fInt w32)) 𝓣 _ 14 62 8 29 (tyRef (named 8) mut (tyInt w32)) (tyRef erased mut (tyInt w32)) (lease (κs .1 .1 .1 .1 .1 .1 .1 .1 .0) (qs .1 .1 .1 .1 .1 .1 .1 .1 .0)) 0 (λ x. x) (as-is 𝓤 H A (mslice (rtF (fInt w32)) (tyRef (named 8) mut (tyInt w32)) 8)) (room-gone 𝓤 H A (tyRef erased mut (tyInt w32))) refl tt refl refl refl (λ b o. tt)) $
-      stmt _ (G126 κs qs) (t-sl-aggregate 𝓤 H A W E (rtF (fInt w32)) 𝓣 (asMut (rtF (fInt w32))) _ 62 63 29 (tyRef erased mut (tyInt w32)) (tyRef erased mut (tyInt w32)) (λ x. x) (oFld 14 (field 1 ∷ []) (tyInt w64) 8 (λ v. lenV (v .0))) (as-is 𝓤 H A (msptr (rtF (fInt w32)) (tyRef erased mut (tyInt w32)) 29)) (room-gone 𝓤 H A _) (reads-owed-len 𝓤 H A W (rtF (fInt w32)) (tyRef (named 8) mut (tyInt w32)) 8 29 (lease (κs .1 .1 .1 .1 .1 .1 .1 .1 .0) (qs .1 .1 .1 .1 .1 .1 .1 .1 .0)) 8 refl, refl) refl refl (λ b o k. tt)) $
-      ghosts (G126 κs qs) _ (g-begin 𝓤 H A W E (G126 κs qs) 30 _) $
-      stmt _ _ (t-sl-relend 𝓤 H A W E (rtF (fInt w64)) 𝓣 _ 18 64 12 30 (tyRef (named 12) mut (tyInt w64)) (tyRef erased mut (tyInt w64)) (lease (κs .1 .1 .1 .1 .1 .1 .1 .1 .1 .1 .1 .1 .0) (qs .1 .1 .1 .1 .1 .1 .1 .1 .1 .1 .1 .1 .0)) 0 (λ x. x) (as-is 𝓤 H A (mslice (rtF (fInt w64)) (tyRef (named 12) mut (tyInt w64)) 12)) (room-gone 𝓤 H A (tyRef erased mut (tyInt w64))) refl tt refl refl refl (λ b o. tt)) $
-      stmt _ (G129 κs qs) (t-sl-aggregate 𝓤 H A W E (rtF (fInt w64)) 𝓣 (asMut (rtF (fInt w64))) _ 64 65 30 (tyRef erased mut (tyInt w64)) (tyRef erased mut (tyInt w64)) (λ x. x) (oFld 18 (field 1 ∷ []) (tyInt w64) 8 (λ v. lenV (v .0))) (as-is 𝓤 H A (msptr (rtF (fInt w64)) (tyRef erased mut (tyInt w64)) 30)) (room-gone 𝓤 H A _) (reads-owed-len 𝓤 H A W (rtF (fInt w64)) (tyRef (named 12) mut (tyInt w64)) 12 30 (lease (κs .1 .1 .1 .1 .1 .1 .1 .1 .1 .1 .1 .1 .0) (qs .1 .1 .1 .1 .1 .1 .1 .1 .1 .1 .1 .1 .0)) 8 refl, refl) refl refl (λ b o k. tt)) $
-      ghosts (G129 κs qs) _ (g-begin 𝓤 H A W E (G129 κs qs) 31 _) $
+      stmt _ _ (t-sl-aggregate 𝓤 H A W E (rtF (fInt w32)) 𝓣 (asMut (rtF (fInt w32))) _ 62 63 29 (tyRef erased mut (tyInt w32)) (tyRef erased mut (tyInt w32)) (λ x. x) (oFld 14 (field 1 ∷ []) (tyInt w64) 8 (λ v. lenV (v .0))) (as-is 𝓤 H A (msptr (rtF (fInt w32)) (tyRef erased mut (tyInt w32)) 29)) (room-gone 𝓤 H A _) (reads-owed-len 𝓤 H A W (rtF (fInt w32)) (tyRef (named 8) mut (tyInt w32)) 8 29 (lease (κs .1 .1 .1 .1 .1 .1 .1 .1 .0) (qs .1 .1 .1 .1 .1 .1 .1 .1 .0)) 8 refl, refl) refl refl (λ b o k. tt)) $
+      ghosts _ _ (g-begin 𝓤 H A W E _ 30 _) $
+      stmt _ (G128 κs qs) (t-sl-relend 𝓤 H A W E (rtF (fInt w64)) 𝓣 _ 18 64 12 30 (tyRef (named 12) mut (tyInt w64)) (tyRef erased mut (tyInt w64)) (lease (κs .1 .1 .1 .1 .1 .1 .1 .1 .1 .1 .1 .1 .0) (qs .1 .1 .1 .1 .1 .1 .1 .1 .1 .1 .1 .1 .0)) 0 (λ x. x) (as-is 𝓤 H A (mslice (rtF (fInt w64)) (tyRef (named 12) mut (tyInt w64)) 12)) (room-gone 𝓤 H A (tyRef erased mut (tyInt w64))) refl tt refl refl refl (λ b o. tt)) $
+      stmt (G128 κs qs) _ (t-sl-aggregate 𝓤 H A W E (rtF (fInt w64)) 𝓣 (asMut (rtF (fInt w64))) (G128 κs qs) 64 65 30 (tyRef erased mut (tyInt w64)) (tyRef erased mut (tyInt w64)) (λ x. x) (oFld 18 (field 1 ∷ []) (tyInt w64) 8 (λ v. lenV (v .0))) (as-is 𝓤 H A (msptr (rtF (fInt w64)) (tyRef erased mut (tyInt w64)) 30)) (room-gone 𝓤 H A _) (reads-owed-len 𝓤 H A W (rtF (fInt w64)) (tyRef (named 12) mut (tyInt w64)) 12 30 (lease (κs .1 .1 .1 .1 .1 .1 .1 .1 .1 .1 .1 .1 .0) (qs .1 .1 .1 .1 .1 .1 .1 .1 .1 .1 .1 .1 .0)) 8 refl, refl) refl refl (λ b o k. tt)) $
+      ghosts _ _ (g-begin 𝓤 H A W E _ 31 _) $
       stmt _ _ (t-sl-relend 𝓤 H A W E (rtF (fInt w64)) 𝓣 _ 19 66 13 31 (tyRef (named 13) mut (tyInt w64)) (tyRef erased mut (tyInt w64)) (lease (κs .1 .1 .1 .1 .1 .1 .1 .1 .1 .1 .1 .1 .1 .0) (qs .1 .1 .1 .1 .1 .1 .1 .1 .1 .1 .1 .1 .1 .0)) 0 (λ x. x) (as-is 𝓤 H A (mslice (rtF (fInt w64)) (tyRef (named 13) mut (tyInt w64)) 13)) (room-gone 𝓤 H A (tyRef erased mut (tyInt w64))) refl tt refl refl refl (λ b o. tt)) $
       stmt _ (G132 κs qs) (t-sl-aggregate 𝓤 H A W E (rtF (fInt w64)) 𝓣 (asMut (rtF (fInt w64))) _ 66 67 31 (tyRef erased mut (tyInt w64)) (tyRef erased mut (tyInt w64)) (λ x. x) (oFld 19 (field 1 ∷ []) (tyInt w64) 8 (λ v. lenV (v .0))) (as-is 𝓤 H A (msptr (rtF (fInt w64)) (tyRef erased mut (tyInt w64)) 31)) (room-gone 𝓤 H A _) (reads-owed-len 𝓤 H A W (rtF (fInt w64)) (tyRef (named 13) mut (tyInt w64)) 13 31 (lease (κs .1 .1 .1 .1 .1 .1 .1 .1 .1 .1 .1 .1 .1 .0) (qs .1 .1 .1 .1 .1 .1 .1 .1 .1 .1 .1 .1 .1 .0)) 8 refl, refl) refl refl (λ b o k. tt)) $
       stmt (G132 κs qs) (G133 κs qs) (t-call-plain 𝓤 H A W 𝓣 13 K4.ps K4.r K4.Asked K4.Learnt "topology::two_desks::run_desks" known4 E (λ pos β. β) (G132 κs qs) (vAt 1 (λ x. x), (vAt 2 (λ x. x), (vAt 3 (λ x. x), (record { pos = 5; ty = tyRef (named 1) imm (tyInt w64); ref = λ x. x }, (vAt 24 (λ x. x), (vAt 25 (λ x. x), (vAt 6 (λ x. x), (record { pos = 7; ty = tyRef (named 2) imm (tyInt w64); ref = λ x. x }, (record { pos = 8; ty = tyRef (named 3) imm (tyInt w64); ref = λ x. x }, (vAt 9 (λ x. x), (record { pos = 10; ty = tyRef (named 4) imm (tyInt w64); ref = λ x. x }, (record { pos = 11; ty = tyRef (named 5) imm (tyInt w64); ref = λ x. x }, (record { pos = 53; ty = tyRef erased imm (tyInt w32); ref = λ x. x }, (record { pos = 55; ty = tyRef erased imm (tyInt w32); ref = λ x. x }, (record { pos = 57; ty = tyRef erased imm (tyInt w32); ref = λ x. x }, (record { pos = 59; ty = tyRef erased imm (pointee (twin-0.the-row .written)); ref = λ x. x }, (record { pos = 61; ty = tyRef erased mut (tyInt w16); ref = λ x. x }, (record { pos = 63; ty = tyRef erased mut (tyInt w32); ref = λ x. x }, (record { pos = 65; ty = tyRef erased mut (tyInt w64); ref = λ x. x }, (record { pos = 67; ty = tyRef erased mut (tyInt w64); ref = λ x. x }, tt)))))))))))))))))))) 27 (1 ∷ 2 ∷ 3 ∷ 4 ∷ 5 ∷ 24 ∷ 25 ∷ 26 ∷ 27 ∷ 28 ∷ 29 ∷ 30 ∷ 31 ∷ []) (sub-id 𝓤 H A W ((G132 κs qs) .slots)) ((reads-sc 𝓤 H A W (sInt w64), refl), ((reads-sc 𝓤 H A W (sInt w64), refl), ((reads-sc 𝓤 H A W (sInt w64), refl), (spares-sslice 𝓤 H A W (rtF (fInt w64)) (tyRef (named 1) imm (tyInt w64)) 1, reads-sslice 𝓤 H A W (rtF (fInt w64)) (tyRef (named 1) imm (tyInt w64)) 1, refl, ((reads-sc 𝓤 H A W (sInt w64), refl), ((reads-sc 𝓤 H A W (sInt w64), refl), ((reads-sc 𝓤 H A W (sInt w64), refl), (spares-sslice 𝓤 H A W (rtF (fInt w64)) (tyRef (named 2) imm (tyInt w64)) 2, reads-sslice 𝓤 H A W (rtF (fInt w64)) (tyRef (named 2) imm (tyInt w64)) 2, refl, (spares-sslice 𝓤 H A W (rtF (fInt w64)) (tyRef (named 3) imm (tyInt w64)) 3, reads-sslice 𝓤 H A W (rtF (fInt w64)) (tyRef (named 3) imm (tyInt w64)) 3, refl, ((reads-sc 𝓤 H A W (sInt w64), refl), (spares-sslice 𝓤 H A W (rtF (fInt w64)) (tyRef (named 4) imm (tyInt w64)) 4, reads-sslice 𝓤 H A W (rtF (fInt w64)) (tyRef (named 4) imm (tyInt w64)) 4, refl, (spares-sslice 𝓤 H A W (rtF (fInt w64)) (tyRef (named 5) imm (tyInt w64)) 5, reads-sslice 𝓤 H A W (rtF (fInt w64)) (tyRef (named 5) imm (tyInt w64)) 5, refl, (spares-sslice 𝓤 H A W (rtF (fInt w32)) (tyRef erased imm (tyInt w32)) 24, reads-sslice 𝓤 H A W (rtF (fInt w32)) (tyRef erased imm (tyInt w32)) 24, refl, (spares-sslice 𝓤 H A W (rtF (fInt w32)) (tyRef erased imm (tyInt w32)) 25, reads-sslice 𝓤 H A W (rtF (fInt w32)) (tyRef erased imm (tyInt w32)) 25, refl, (spares-sslice 𝓤 H A W (rtF (fInt w32)) (tyRef erased imm (tyInt w32)) 26, reads-sslice 𝓤 H A W (rtF (fInt w32)) (tyRef erased imm (tyInt w32)) 26, refl, (spares-sslice 𝓤 H A W twin-0.the-row (tyRef erased imm (pointee (twin-0.the-row .written))) 27, reads-sslice 𝓤 H A W twin-0.the-row (tyRef erased imm (pointee (twin-0.the-row .written))) 27, refl, (as-is 𝓤 H A (mslice (rtF (fInt w16)) (tyRef erased mut (tyInt w16)) 28), reads-mslice 𝓤 H A W (rtF (fInt w16)) (tyRef erased mut (tyInt w16)) 28, refl, (as-is 𝓤 H A (mslice (rtF (fInt w32)) (tyRef erased mut (tyInt w32)) 29), reads-mslice 𝓤 H A W (rtF (fInt w32)) (tyRef erased mut (tyInt w32)) 29, refl, (as-is 𝓤 H A (mslice (rtF (fInt w64)) (tyRef erased mut (tyInt w64)) 30), reads-mslice 𝓤 H A W (rtF (fInt w64)) (tyRef erased mut (tyInt w64)) 30, refl, (as-is 𝓤 H A (mslice (rtF (fInt w64)) (tyRef erased mut (tyInt w64)) 31), reads-mslice 𝓤 H A W (rtF (fInt w64)) (tyRef erased mut (tyInt w64)) 31, refl, tt)))))))))))))))))))) (room-gone 𝓤 H A _) _ refl) $
       ghosts (G133 κs qs) _ (g-room 𝓤 H A W E (G133 κs qs) 53 _ (room-sslice 𝓤 H A W (rtF (fInt w32)) (tyRef erased imm (tyInt w32)) 24)) $
       ghosts _ _ (g-room 𝓤 H A W E _ 55 _ (room-sslice 𝓤 H A W (rtF (fInt w32)) (tyRef erased imm (tyInt w32)) 25)) $
-      ghosts _ (G136 κs qs) (g-room 𝓤 H A W E _ 57 _ (room-sslice 𝓤 H A W (rtF (fInt w32)) (tyRef erased imm (tyInt w32)) 26)) $
-      ghosts (G136 κs qs) _ (g-room 𝓤 H A W E (G136 κs qs) 59 _ (room-sslice 𝓤 H A W twin-0.the-row (tyRef erased imm (pointee (twin-0.the-row .written))) 27)) $
-      ghosts _ _ (g-end 𝓤 H A W E _ 24 refl) $
-      ghosts _ (G139 κs qs) (g-back-sl-shr 𝓤 H A W E (rtF (fInt w32)) _ 12 6 24 (tyRef (named 6) mut (tyInt w32)) (lease (κs .1 .1 .1 .1 .1 .1 .0) (qs .1 .1 .1 .1 .1 .1 .0)) (λ x. x) (as-is 𝓤 H A (mslice-owedS (rtF (fInt w32)) (tyRef (named 6) mut (tyInt w32)) 6 24 (lease (κs .1 .1 .1 .1 .1 .1 .0) (qs .1 .1 .1 .1 .1 .1 .0)))) refl refl) $
-      ghosts (G139 κs qs) _ (g-forget 𝓤 H A W E (G139 κs qs) 24 dead refl) $
+      ghosts _ _ (g-room 𝓤 H A W E _ 57 _ (room-sslice 𝓤 H A W (rtF (fInt w32)) (tyRef erased imm (tyInt w32)) 26)) $
+      ghosts _ _ (g-room 𝓤 H A W E _ 59 _ (room-sslice 𝓤 H A W twin-0.the-row (tyRef erased imm (pointee (twin-0.the-row .written))) 27)) $
+      ghosts _ (G138 κs qs) (g-end 𝓤 H A W E _ 24 refl) $
+      ghosts (G138 κs qs) _ (g-back-sl-shr 𝓤 H A W E (rtF (fInt w32)) (G138 κs qs) 12 6 24 (tyRef (named 6) mut (tyInt w32)) (lease (κs .1 .1 .1 .1 .1 .1 .0) (qs .1 .1 .1 .1 .1 .1 .0)) (λ x. x) (as-is 𝓤 H A (mslice-owedS (rtF (fInt w32)) (tyRef (named 6) mut (tyInt w32)) 6 24 (lease (κs .1 .1 .1 .1 .1 .1 .0) (qs .1 .1 .1 .1 .1 .1 .0)))) refl refl) $
+      ghosts _ _ (g-forget 𝓤 H A W E _ 24 dead refl) $
       ghosts _ _ (g-end 𝓤 H A W E _ 25 refl) $
-      ghosts _ (G142 κs qs) (g-back-sl-shr 𝓤 H A W E (rtF (fInt w32)) _ 15 9 25 (tyRef (named 9) mut (tyInt w32)) (lease (κs .1 .1 .1 .1 .1 .1 .1 .1 .1 .0) (qs .1 .1 .1 .1 .1 .1 .1 .1 .1 .0)) (λ x. x) (as-is 𝓤 H A (mslice-owedS (rtF (fInt w32)) (tyRef (named 9) mut (tyInt w32)) 9 25 (lease (κs .1 .1 .1 .1 .1 .1 .1 .1 .1 .0) (qs .1 .1 .1 .1 .1 .1 .1 .1 .1 .0)))) refl refl) $
-      ghosts (G142 κs qs) _ (g-forget 𝓤 H A W E (G142 κs qs) 25 dead refl) $
-      ghosts _ _ (g-end 𝓤 H A W E _ 26 refl) $
-      ghosts _ (G145 κs qs) (g-back-sl-shr 𝓤 H A W E (rtF (fInt w32)) _ 16 10 26 (tyRef (named 10) mut (tyInt w32)) (lease (κs .1 .1 .1 .1 .1 .1 .1 .1 .1 .1 .0) (qs .1 .1 .1 .1 .1 .1 .1 .1 .1 .1 .0)) (λ x. x) (as-is 𝓤 H A (mslice-owedS (rtF (fInt w32)) (tyRef (named 10) mut (tyInt w32)) 10 26 (lease (κs .1 .1 .1 .1 .1 .1 .1 .1 .1 .1 .0) (qs .1 .1 .1 .1 .1 .1 .1 .1 .1 .1 .0)))) refl refl) $
-      ghosts (G145 κs qs) _ (g-forget 𝓤 H A W E (G145 κs qs) 26 dead refl) $
+      ghosts _ _ (g-back-sl-shr 𝓤 H A W E (rtF (fInt w32)) _ 15 9 25 (tyRef (named 9) mut (tyInt w32)) (lease (κs .1 .1 .1 .1 .1 .1 .1 .1 .1 .0) (qs .1 .1 .1 .1 .1 .1 .1 .1 .1 .0)) (λ x. x) (as-is 𝓤 H A (mslice-owedS (rtF (fInt w32)) (tyRef (named 9) mut (tyInt w32)) 9 25 (lease (κs .1 .1 .1 .1 .1 .1 .1 .1 .1 .0) (qs .1 .1 .1 .1 .1 .1 .1 .1 .1 .0)))) refl refl) $
+      ghosts _ (G143 κs qs) (g-forget 𝓤 H A W E _ 25 dead refl) $
+      ghosts (G143 κs qs) _ (g-end 𝓤 H A W E (G143 κs qs) 26 refl) $
+      ghosts _ _ (g-back-sl-shr 𝓤 H A W E (rtF (fInt w32)) _ 16 10 26 (tyRef (named 10) mut (tyInt w32)) (lease (κs .1 .1 .1 .1 .1 .1 .1 .1 .1 .1 .0) (qs .1 .1 .1 .1 .1 .1 .1 .1 .1 .1 .0)) (λ x. x) (as-is 𝓤 H A (mslice-owedS (rtF (fInt w32)) (tyRef (named 10) mut (tyInt w32)) 10 26 (lease (κs .1 .1 .1 .1 .1 .1 .1 .1 .1 .1 .0) (qs .1 .1 .1 .1 .1 .1 .1 .1 .1 .1 .0)))) refl refl) $
+      ghosts _ _ (g-forget 𝓤 H A W E _ 26 dead refl) $
       ghosts _ _ (g-end 𝓤 H A W E _ 27 refl) $
       ghosts _ (G148 κs qs) (g-back-sl-shr 𝓤 H A W E twin-0.the-row _ 17 11 27 (tyRef (named 11) mut (pointee (twin-0.the-row .written))) (lease (κs .1 .1 .1 .1 .1 .1 .1 .1 .1 .1 .1 .0) (qs .1 .1 .1 .1 .1 .1 .1 .1 .1 .1 .1 .0)) (λ x. x) (as-is 𝓤 H A (mslice-owedS twin-0.the-row (tyRef (named 11) mut (pointee (twin-0.the-row .written))) 11 27 (lease (κs .1 .1 .1 .1 .1 .1 .1 .1 .1 .1 .1 .0) (qs .1 .1 .1 .1 .1 .1 .1 .1 .1 .1 .1 .0)))) refl refl) $
       ghosts (G148 κs qs) _ (g-forget 𝓤 H A W E (G148 κs qs) 27 dead refl) $
       ghosts _ _ (g-end 𝓤 H A W E _ 28 refl) $
-      ghosts _ (G151 κs qs) (g-back-sl 𝓤 H A W E (rtF (fInt w16)) _ 61 13 7 28 (tyRef (named 7) mut (tyInt w16)) (tyRef erased mut (tyInt w16)) (lease (κs .1 .1 .1 .1 .1 .1 .1 .0) (qs .1 .1 .1 .1 .1 .1 .1 .0)) (λ x. x) (λ x. x) (as-is 𝓤 H A (msleft (rtF (fInt w16)) (tyRef erased mut (tyInt w16)))) (as-is 𝓤 H A (mslice-owed (rtF (fInt w16)) (tyRef (named 7) mut (tyInt w16)) 7 28 (lease (κs .1 .1 .1 .1 .1 .1 .1 .0) (qs .1 .1 .1 .1 .1 .1 .1 .0)))) refl refl) $
-      ghosts (G151 κs qs) _ (g-forget 𝓤 H A W E (G151 κs qs) 28 dead refl) $
-      ghosts _ _ (g-end 𝓤 H A W E _ 29 refl) $
-      ghosts _ (G155 κs qs) (g-back-sl 𝓤 H A W E (rtF (fInt w32)) _ 63 14 8 29 (tyRef (named 8) mut (tyInt w32)) (tyRef erased mut (tyInt w32)) (lease (κs .1 .1 .1 .1 .1 .1 .1 .1 .0) (qs .1 .1 .1 .1 .1 .1 .1 .1 .0)) (λ x. x) (λ x. x) (as-is 𝓤 H A (msleft (rtF (fInt w32)) (tyRef erased mut (tyInt w32)))) (as-is 𝓤 H A (mslice-owed (rtF (fInt w32)) (tyRef (named 8) mut (tyInt w32)) 8 29 (lease (κs .1 .1 .1 .1 .1 .1 .1 .1 .0) (qs .1 .1 .1 .1 .1 .1 .1 .1 .0)))) refl refl) $
-      ghosts (G155 κs qs) _ (g-forget 𝓤 H A W E (G155 κs qs) 29 dead refl) $
+      ghosts _ _ (g-back-sl 𝓤 H A W E (rtF (fInt w16)) _ 61 13 7 28 (tyRef (named 7) mut (tyInt w16)) (tyRef erased mut (tyInt w16)) (lease (κs .1 .1 .1 .1 .1 .1 .1 .0) (qs .1 .1 .1 .1 .1 .1 .1 .0)) (λ x. x) (λ x. x) (as-is 𝓤 H A (msleft (rtF (fInt w16)) (tyRef erased mut (tyInt w16)))) (as-is 𝓤 H A (mslice-owed (rtF (fInt w16)) (tyRef (named 7) mut (tyInt w16)) 7 28 (lease (κs .1 .1 .1 .1 .1 .1 .1 .0) (qs .1 .1 .1 .1 .1 .1 .1 .0)))) refl refl) $
+      ghosts _ _ (g-forget 𝓤 H A W E _ 28 dead refl) $
+      ghosts _ (G154 κs qs) (g-end 𝓤 H A W E _ 29 refl) $
+      ghosts (G154 κs qs) _ (g-back-sl 𝓤 H A W E (rtF (fInt w32)) (G154 κs qs) 63 14 8 29 (tyRef (named 8) mut (tyInt w32)) (tyRef erased mut (tyInt w32)) (lease (κs .1 .1 .1 .1 .1 .1 .1 .1 .0) (qs .1 .1 .1 .1 .1 .1 .1 .1 .0)) (λ x. x) (λ x. x) (as-is 𝓤 H A (msleft (rtF (fInt w32)) (tyRef erased mut (tyInt w32)))) (as-is 𝓤 H A (mslice-owed (rtF (fInt w32)) (tyRef (named 8) mut (tyInt w32)) 8 29 (lease (κs .1 .1 .1 .1 .1 .1 .1 .1 .0) (qs .1 .1 .1 .1 .1 .1 .1 .1 .0)))) refl refl) $
+      ghosts _ _ (g-forget 𝓤 H A W E _ 29 dead refl) $
       ghosts _ _ (g-end 𝓤 H A W E _ 30 refl) $
-      ghosts _ (G159 κs qs) (g-back-sl 𝓤 H A W E (rtF (fInt w64)) _ 65 18 12 30 (tyRef (named 12) mut (tyInt w64)) (tyRef erased mut (tyInt w64)) (lease (κs .1 .1 .1 .1 .1 .1 .1 .1 .1 .1 .1 .1 .0) (qs .1 .1 .1 .1 .1 .1 .1 .1 .1 .1 .1 .1 .0)) (λ x. x) (λ x. x) (as-is 𝓤 H A (msleft (rtF (fInt w64)) (tyRef erased mut (tyInt w64)))) (as-is 𝓤 H A (mslice-owed (rtF (fInt w64)) (tyRef (named 12) mut (tyInt w64)) 12 30 (lease (κs .1 .1 .1 .1 .1 .1 .1 .1 .1 .1 .1 .1 .0) (qs .1 .1 .1 .1 .1 .1 .1 .1 .1 .1 .1 .1 .0)))) refl refl) $
-      ghosts (G159 κs qs) _ (g-forget 𝓤 H A W E (G159 κs qs) 30 dead refl) $
-      ghosts _ _ (g-end 𝓤 H A W E _ 31 refl) $
-      ghosts _ (G163 κs qs) (g-back-sl 𝓤 H A W E (rtF (fInt w64)) _ 67 19 13 31 (tyRef (named 13) mut (tyInt w64)) (tyRef erased mut (tyInt w64)) (lease (κs .1 .1 .1 .1 .1 .1 .1 .1 .1 .1 .1 .1 .1 .0) (qs .1 .1 .1 .1 .1 .1 .1 .1 .1 .1 .1 .1 .1 .0)) (λ x. x) (λ x. x) (as-is 𝓤 H A (msleft (rtF (fInt w64)) (tyRef erased mut (tyInt w64)))) (as-is 𝓤 H A (mslice-owed (rtF (fInt w64)) (tyRef (named 13) mut (tyInt w64)) 13 31 (lease (κs .1 .1 .1 .1 .1 .1 .1 .1 .1 .1 .1 .1 .1 .0) (qs .1 .1 .1 .1 .1 .1 .1 .1 .1 .1 .1 .1 .1 .0)))) refl refl) $
-      ghosts (G163 κs qs) (G165 κs qs) (g-forget 𝓤 H A W E (G163 κs qs) 31 dead refl) $
+      ghosts _ _ (g-back-sl 𝓤 H A W E (rtF (fInt w64)) _ 65 18 12 30 (tyRef (named 12) mut (tyInt w64)) (tyRef erased mut (tyInt w64)) (lease (κs .1 .1 .1 .1 .1 .1 .1 .1 .1 .1 .1 .1 .0) (qs .1 .1 .1 .1 .1 .1 .1 .1 .1 .1 .1 .1 .0)) (λ x. x) (λ x. x) (as-is 𝓤 H A (msleft (rtF (fInt w64)) (tyRef erased mut (tyInt w64)))) (as-is 𝓤 H A (mslice-owed (rtF (fInt w64)) (tyRef (named 12) mut (tyInt w64)) 12 30 (lease (κs .1 .1 .1 .1 .1 .1 .1 .1 .1 .1 .1 .1 .0) (qs .1 .1 .1 .1 .1 .1 .1 .1 .1 .1 .1 .1 .0)))) refl refl) $
+      ghosts _ (G161 κs qs) (g-forget 𝓤 H A W E _ 30 dead refl) $
+      ghosts (G161 κs qs) _ (g-end 𝓤 H A W E (G161 κs qs) 31 refl) $
+      ghosts _ _ (g-back-sl 𝓤 H A W E (rtF (fInt w64)) _ 67 19 13 31 (tyRef (named 13) mut (tyInt w64)) (tyRef erased mut (tyInt w64)) (lease (κs .1 .1 .1 .1 .1 .1 .1 .1 .1 .1 .1 .1 .1 .0) (qs .1 .1 .1 .1 .1 .1 .1 .1 .1 .1 .1 .1 .1 .0)) (λ x. x) (λ x. x) (as-is 𝓤 H A (msleft (rtF (fInt w64)) (tyRef erased mut (tyInt w64)))) (as-is 𝓤 H A (mslice-owed (rtF (fInt w64)) (tyRef (named 13) mut (tyInt w64)) 13 31 (lease (κs .1 .1 .1 .1 .1 .1 .1 .1 .1 .1 .1 .1 .1 .0) (qs .1 .1 .1 .1 .1 .1 .1 .1 .1 .1 .1 .1 .1 .0)))) refl refl) $
+      ghosts _ (G165 κs qs) (g-forget 𝓤 H A W E _ 31 dead refl) $
       from-done
 
   abbrev pub from-clear : Der W 𝓣 E (G66 κs qs) (past 10 (arm-of 1 (head-of (past 12 (code.function .body))))) (withNext (some (G32 κs qs)) (Δret 14 ps r xs m κs qs))
   from-clear =
       ghosts (G66 κs qs) _ (g-begin 𝓤 H A W E (G66 κs qs) 22 _) $
       stmt _ _ (t-sl-relend 𝓤 H A W E (rtF (fInt w16)) 𝓣 _ 13 46 7 22 (tyRef (named 7) mut (tyInt w16)) (tyRef erased mut (tyInt w16)) (lease (κs .1 .1 .1 .1 .1 .1 .1 .0) (qs .1 .1 .1 .1 .1 .1 .1 .0)) 0 (λ x. x) (as-is 𝓤 H A (mslice (rtF (fInt w16)) (tyRef (named 7) mut (tyInt w16)) 7)) (room-gone 𝓤 H A (tyRef erased mut (tyInt w16))) refl tt refl refl refl (λ b o. tt)) $
-      stmt _ (G91 κs qs) (t-sl-aggregate 𝓤 H A W E (rtF (fInt w16)) 𝓣 (asMut (rtF (fInt w16))) _ 46 47 22 (tyRef erased mut (tyInt w16)) (tyRef erased mut (tyInt w16)) (λ x. x) (oFld 13 (field 1 ∷ []) (tyInt w64) 8 (λ v. lenV (v .0))) (as-is 𝓤 H A (msptr (rtF (fInt w16)) (tyRef erased mut (tyInt w16)) 22)) (room-gone 𝓤 H A _) (reads-owed-len 𝓤 H A W (rtF (fInt w16)) (tyRef (named 7) mut (tyInt w16)) 7 22 (lease (κs .1 .1 .1 .1 .1 .1 .1 .0) (qs .1 .1 .1 .1 .1 .1 .1 .0)) 8 refl, refl) refl refl (λ b o k. tt)) $
-      ghosts (G91 κs qs) _ (g-begin 𝓤 H A W E (G91 κs qs) 23 _) $
-      stmt _ _ (t-sl-relend 𝓤 H A W E (rtF (fInt w32)) 𝓣 _ 14 48 8 23 (tyRef (named 8) mut (tyInt w32)) (tyRef erased mut (tyInt w32)) (lease (κs .1 .1 .1 .1 .1 .1 .1 .1 .0) (qs .1 .1 .1 .1 .1 .1 .1 .1 .0)) 0 (λ x. x) (as-is 𝓤 H A (mslice (rtF (fInt w32)) (tyRef (named 8) mut (tyInt w32)) 8)) (room-gone 𝓤 H A (tyRef erased mut (tyInt w32))) refl tt refl refl refl (λ b o. tt)) $
-      stmt _ (G94 κs qs) (t-sl-aggregate 𝓤 H A W E (rtF (fInt w32)) 𝓣 (asMut (rtF (fInt w32))) _ 48 49 23 (tyRef erased mut (tyInt w32)) (tyRef erased mut (tyInt w32)) (λ x. x) (oFld 14 (field 1 ∷ []) (tyInt w64) 8 (λ v. lenV (v .0))) (as-is 𝓤 H A (msptr (rtF (fInt w32)) (tyRef erased mut (tyInt w32)) 23)) (room-gone 𝓤 H A _) (reads-owed-len 𝓤 H A W (rtF (fInt w32)) (tyRef (named 8) mut (tyInt w32)) 8 23 (lease (κs .1 .1 .1 .1 .1 .1 .1 .1 .0) (qs .1 .1 .1 .1 .1 .1 .1 .1 .0)) 8 refl, refl) refl refl (λ b o k. tt)) $
-      stmt (G94 κs qs) _ (t-use 𝓤 H A W E 𝓣 (G94 κs qs) (oAt 3 (tyInt w64) (valS (sInt w64))) 50 (sc-here (sInt w64)) (tyInt w64) (valS (sInt w64)) (sInt w64 .of) (reads-sc 𝓤 H A W (sInt w64), refl) (room-gone 𝓤 H A (tyInt w64)) (holds-sc 𝓤 H A W (sInt w64)) refl (λ u. refl) (λ u. tt)) $
+      stmt _ _ (t-sl-aggregate 𝓤 H A W E (rtF (fInt w16)) 𝓣 (asMut (rtF (fInt w16))) _ 46 47 22 (tyRef erased mut (tyInt w16)) (tyRef erased mut (tyInt w16)) (λ x. x) (oFld 13 (field 1 ∷ []) (tyInt w64) 8 (λ v. lenV (v .0))) (as-is 𝓤 H A (msptr (rtF (fInt w16)) (tyRef erased mut (tyInt w16)) 22)) (room-gone 𝓤 H A _) (reads-owed-len 𝓤 H A W (rtF (fInt w16)) (tyRef (named 7) mut (tyInt w16)) 7 22 (lease (κs .1 .1 .1 .1 .1 .1 .1 .0) (qs .1 .1 .1 .1 .1 .1 .1 .0)) 8 refl, refl) refl refl (λ b o k. tt)) $
+      ghosts _ _ (g-begin 𝓤 H A W E _ 23 _) $
+      stmt _ (G93 κs qs) (t-sl-relend 𝓤 H A W E (rtF (fInt w32)) 𝓣 _ 14 48 8 23 (tyRef (named 8) mut (tyInt w32)) (tyRef erased mut (tyInt w32)) (lease (κs .1 .1 .1 .1 .1 .1 .1 .1 .0) (qs .1 .1 .1 .1 .1 .1 .1 .1 .0)) 0 (λ x. x) (as-is 𝓤 H A (mslice (rtF (fInt w32)) (tyRef (named 8) mut (tyInt w32)) 8)) (room-gone 𝓤 H A (tyRef erased mut (tyInt w32))) refl tt refl refl refl (λ b o. tt)) $
+      stmt (G93 κs qs) _ (t-sl-aggregate 𝓤 H A W E (rtF (fInt w32)) 𝓣 (asMut (rtF (fInt w32))) (G93 κs qs) 48 49 23 (tyRef erased mut (tyInt w32)) (tyRef erased mut (tyInt w32)) (λ x. x) (oFld 14 (field 1 ∷ []) (tyInt w64) 8 (λ v. lenV (v .0))) (as-is 𝓤 H A (msptr (rtF (fInt w32)) (tyRef erased mut (tyInt w32)) 23)) (room-gone 𝓤 H A _) (reads-owed-len 𝓤 H A W (rtF (fInt w32)) (tyRef (named 8) mut (tyInt w32)) 8 23 (lease (κs .1 .1 .1 .1 .1 .1 .1 .1 .0) (qs .1 .1 .1 .1 .1 .1 .1 .1 .0)) 8 refl, refl) refl refl (λ b o k. tt)) $
+      stmt _ _ (t-use 𝓤 H A W E 𝓣 _ (oAt 3 (tyInt w64) (valS (sInt w64))) 50 (sc-here (sInt w64)) (tyInt w64) (valS (sInt w64)) (sInt w64 .of) (reads-sc 𝓤 H A W (sInt w64), refl) (room-gone 𝓤 H A (tyInt w64)) (holds-sc 𝓤 H A W (sInt w64)) refl (λ u. refl) (λ u. tt)) $
       stmt _ _ (t-op2 𝓤 H A W E 𝓣 _ (mul unsigned) (oAt 50 (tyInt w64) (valS (sInt w64))) (oAt 26 (tyInt w64) (valS (sInt w64))) 51 (sc-here (sInt w64)) (tyInt w64) (valS (sInt w64)) (sInt w64 .of) (reads-sc 𝓤 H A W (sInt w64), refl) (reads-sc 𝓤 H A W (sInt w64), refl) (room-gone 𝓤 H A (tyInt w64)) (holds-sc 𝓤 H A W (sInt w64)) refl (λ u. refl) (λ u. tt)) $
       ghosts _ (G97 κs qs) (g-room 𝓤 H A W E _ 50 (tyInt w64) (room-sc 𝓤 H A W (sInt w64))) $
       stmt (G97 κs qs) (G98 κs qs) (t-call-plain 𝓤 H A W 𝓣 2 K3.ps K3.r R3.Asked R3.Learnt "call_partition::scratch::clear_scratch" known3 E (λ pos β. β) (G97 κs qs) (record { pos = 47; ty = tyRef erased mut (tyInt w16); ref = λ x. x }, (record { pos = 49; ty = tyRef erased mut (tyInt w32); ref = λ x. x }, (vAt 51 (λ x. x), tt))) 39 (22 ∷ 23 ∷ []) (sub-id 𝓤 H A W ((G97 κs qs) .slots)) (as-is 𝓤 H A (mslice (rtF (fInt w16)) (tyRef erased mut (tyInt w16)) 22), reads-mslice 𝓤 H A W (rtF (fInt w16)) (tyRef erased mut (tyInt w16)) 22, refl, (as-is 𝓤 H A (mslice (rtF (fInt w32)) (tyRef erased mut (tyInt w32)) 23), reads-mslice 𝓤 H A W (rtF (fInt w32)) (tyRef erased mut (tyInt w32)) 23, refl, ((reads-sc 𝓤 H A W (sInt w64), refl), tt))) (room-gone 𝓤 H A tyUnit) _ refl) $
       ghosts (G98 κs qs) _ (g-room 𝓤 H A W E (G98 κs qs) 39 tyUnit (room-sc 𝓤 H A W sUnit)) $
       ghosts _ _ (g-room 𝓤 H A W E _ 51 (tyInt w64) (room-sc 𝓤 H A W (sInt w64))) $
-      ghosts _ (G101 κs qs) (g-end 𝓤 H A W E _ 22 refl) $
-      ghosts (G101 κs qs) _ (g-back-sl 𝓤 H A W E (rtF (fInt w16)) (G101 κs qs) 47 13 7 22 (tyRef (named 7) mut (tyInt w16)) (tyRef erased mut (tyInt w16)) (lease (κs .1 .1 .1 .1 .1 .1 .1 .0) (qs .1 .1 .1 .1 .1 .1 .1 .0)) (λ x. x) (λ x. x) (as-is 𝓤 H A (msleft (rtF (fInt w16)) (tyRef erased mut (tyInt w16)))) (as-is 𝓤 H A (mslice-owed (rtF (fInt w16)) (tyRef (named 7) mut (tyInt w16)) 7 22 (lease (κs .1 .1 .1 .1 .1 .1 .1 .0) (qs .1 .1 .1 .1 .1 .1 .1 .0)))) refl refl) $
-      ghosts _ _ (g-forget 𝓤 H A W E _ 22 dead refl) $
-      ghosts _ (G105 κs qs) (g-end 𝓤 H A W E _ 23 refl) $
-      ghosts (G105 κs qs) _ (g-back-sl 𝓤 H A W E (rtF (fInt w32)) (G105 κs qs) 49 14 8 23 (tyRef (named 8) mut (tyInt w32)) (tyRef erased mut (tyInt w32)) (lease (κs .1 .1 .1 .1 .1 .1 .1 .1 .0) (qs .1 .1 .1 .1 .1 .1 .1 .1 .0)) (λ x. x) (λ x. x) (as-is 𝓤 H A (msleft (rtF (fInt w32)) (tyRef erased mut (tyInt w32)))) (as-is 𝓤 H A (mslice-owed (rtF (fInt w32)) (tyRef (named 8) mut (tyInt w32)) 8 23 (lease (κs .1 .1 .1 .1 .1 .1 .1 .1 .0) (qs .1 .1 .1 .1 .1 .1 .1 .1 .0)))) refl refl) $
+      ghosts _ _ (g-end 𝓤 H A W E _ 22 refl) $
+      ghosts _ _ (g-back-sl 𝓤 H A W E (rtF (fInt w16)) _ 47 13 7 22 (tyRef (named 7) mut (tyInt w16)) (tyRef erased mut (tyInt w16)) (lease (κs .1 .1 .1 .1 .1 .1 .1 .0) (qs .1 .1 .1 .1 .1 .1 .1 .0)) (λ x. x) (λ x. x) (as-is 𝓤 H A (msleft (rtF (fInt w16)) (tyRef erased mut (tyInt w16)))) (as-is 𝓤 H A (mslice-owed (rtF (fInt w16)) (tyRef (named 7) mut (tyInt w16)) 7 22 (lease (κs .1 .1 .1 .1 .1 .1 .1 .0) (qs .1 .1 .1 .1 .1 .1 .1 .0)))) refl refl) $
+      ghosts _ (G104 κs qs) (g-forget 𝓤 H A W E _ 22 dead refl) $
+      ghosts (G104 κs qs) _ (g-end 𝓤 H A W E (G104 κs qs) 23 refl) $
+      ghosts _ _ (g-back-sl 𝓤 H A W E (rtF (fInt w32)) _ 49 14 8 23 (tyRef (named 8) mut (tyInt w32)) (tyRef erased mut (tyInt w32)) (lease (κs .1 .1 .1 .1 .1 .1 .1 .1 .0) (qs .1 .1 .1 .1 .1 .1 .1 .1 .0)) (λ x. x) (λ x. x) (as-is 𝓤 H A (msleft (rtF (fInt w32)) (tyRef erased mut (tyInt w32)))) (as-is 𝓤 H A (mslice-owed (rtF (fInt w32)) (tyRef (named 8) mut (tyInt w32)) 8 23 (lease (κs .1 .1 .1 .1 .1 .1 .1 .1 .0) (qs .1 .1 .1 .1 .1 .1 .1 .1 .0)))) refl refl) $
       ghosts _ (G66 κs qs) (g-forget 𝓤 H A W E _ 23 dead refl) $
       from-desks
 
@@ -444,29 +396,29 @@ module _ {M : Type 1} (𝓤 : URA M) (H : Heap 𝓤) (A : Atoms 𝓤) (W : Given
               ghosts (G61 κs qs) (G61 κs qs) (g-known-told 𝓤 H A W E enum 1 (G61 κs qs) 21 Laws.the-laws (λ x. x) (as-is 𝓤 H A (whole (Known enum 1)))) $
               stmt (G61 κs qs) _ (t-use 𝓤 H A W E 𝓣 (G61 κs qs) (oFld 21 (variant 1 ∷ field 1 ∷ []) (tyInt w64) 8 (λ v. Laws.the-laws .1 .0 .0 .val (v .0))) 24 (sc-here (sInt w64)) (tyInt w64) (valS (sInt w64)) (sInt w64 .of) (reads-payload 𝓤 H A W enum Laws.the-laws 1 refl refl (λ v. vcons (Laws.the-laws .1 .0 .0 .val (v .0)) (vcons (Laws.the-laws .1 .0 .1 .0 .val (v .1 .0)) vnil)) (λ v. refl) 0 (tyInt w64) 8 refl, refl) (room-gone 𝓤 H A (tyInt w64)) (holds-sc 𝓤 H A W (sInt w64)) refl (λ u. refl) (λ u. tt)) $
               stmt _ _ (t-use 𝓤 H A W E 𝓣 _ (oFld 21 (variant 1 ∷ field 2 ∷ []) (tyInt w64) 16 (λ v. Laws.the-laws .1 .0 .1 .0 .val (v .1 .0))) 25 (sc-here (sInt w64)) (tyInt w64) (valS (sInt w64)) (sInt w64 .of) (reads-payload 𝓤 H A W enum Laws.the-laws 1 refl refl (λ v. vcons (Laws.the-laws .1 .0 .0 .val (v .0)) (vcons (Laws.the-laws .1 .0 .1 .0 .val (v .1 .0)) vnil)) (λ v. refl) 1 (tyInt w64) 16 refl, refl) (room-gone 𝓤 H A (tyInt w64)) (holds-sc 𝓤 H A W (sInt w64)) refl (λ u. refl) (λ u. tt)) $
-              ghosts _ (G65 κs qs) (g-room 𝓤 H A W E _ 21 _ (room-whole 𝓤 H A W (Known enum 1) _ refl)) $
-              stmt (G65 κs qs) (G66 κs qs) (t-use 𝓤 H A W E 𝓣 (G65 κs qs) (oAt 2 (tyInt w64) (valS (sInt w64))) 26 (sc-here (sInt w64)) (tyInt w64) (valS (sInt w64)) (sInt w64 .of) (reads-sc 𝓤 H A W (sInt w64), refl) (room-gone 𝓤 H A (tyInt w64)) (holds-sc 𝓤 H A W (sInt w64)) refl (λ u. refl) (λ u. tt)) $
+              ghosts _ _ (g-room 𝓤 H A W E _ 21 _ (room-whole 𝓤 H A W (Known enum 1) _ refl)) $
+              stmt _ (G66 κs qs) (t-use 𝓤 H A W E 𝓣 _ (oAt 2 (tyInt w64) (valS (sInt w64))) 26 (sc-here (sInt w64)) (tyInt w64) (valS (sInt w64)) (sInt w64 .of) (reads-sc 𝓤 H A W (sInt w64), refl) (room-gone 𝓤 H A (tyInt w64)) (holds-sc 𝓤 H A W (sInt w64)) refl (λ u. refl) (λ u. tt)) $
               ghosts (G66 κs qs) _ (g-begin 𝓤 H A W E (G66 κs qs) 19 _) $
               stmt _ _ (t-sl-relend 𝓤 H A W E twin-0.the-row 𝓣 _ 17 40 11 19 (tyRef (named 11) mut (pointee (twin-0.the-row .written))) (tyRef erased mut (pointee (twin-0.the-row .written))) (lease (κs .1 .1 .1 .1 .1 .1 .1 .1 .1 .1 .1 .0) (qs .1 .1 .1 .1 .1 .1 .1 .1 .1 .1 .1 .0)) 0 (λ x. x) (as-is 𝓤 H A (mslice twin-0.the-row (tyRef (named 11) mut (pointee (twin-0.the-row .written))) 11)) (room-gone 𝓤 H A (tyRef erased mut (pointee (twin-0.the-row .written)))) refl tt refl refl refl (λ b o. tt)) $
-              stmt _ (G69 κs qs) (t-sl-aggregate 𝓤 H A W E twin-0.the-row 𝓣 (asMut twin-0.the-row) _ 40 41 19 (tyRef erased mut (pointee (twin-0.the-row .written))) (tyRef erased mut (pointee (twin-0.the-row .written))) (λ x. x) (oFld 17 (field 1 ∷ []) (tyInt w64) 8 (λ v. lenV (v .0))) (as-is 𝓤 H A (msptr twin-0.the-row (tyRef erased mut (pointee (twin-0.the-row .written))) 19)) (room-gone 𝓤 H A _) (reads-owed-len 𝓤 H A W twin-0.the-row (tyRef (named 11) mut (pointee (twin-0.the-row .written))) 11 19 (lease (κs .1 .1 .1 .1 .1 .1 .1 .1 .1 .1 .1 .0) (qs .1 .1 .1 .1 .1 .1 .1 .1 .1 .1 .1 .0)) 8 refl, refl) refl refl (λ b o k. tt)) $
-              ghosts (G69 κs qs) _ (g-begin 𝓤 H A W E (G69 κs qs) 20 _) $
-              stmt _ _ (t-sl-reshare 𝓤 H A W E (rtF (fInt w32)) 𝓣 _ 12 42 6 20 (tyRef (named 6) mut (tyInt w32)) (tyRef erased imm (tyInt w32)) (lease (κs .1 .1 .1 .1 .1 .1 .0) (qs .1 .1 .1 .1 .1 .1 .0)) 0 (λ x. x) (as-is 𝓤 H A (mslice (rtF (fInt w32)) (tyRef (named 6) mut (tyInt w32)) 6)) (room-gone 𝓤 H A (tyRef erased imm (tyInt w32))) refl tt refl refl refl (λ b o. tt)) $
-              stmt _ (G72 κs qs) (t-sl-aggregate 𝓤 H A W E (rtF (fInt w32)) 𝓣 (asShr (rtF (fInt w32))) _ 42 43 20 (tyRef erased imm (tyInt w32)) (tyRef erased imm (tyInt w32)) (λ x. x) (oFld 12 (field 1 ∷ []) (tyInt w64) 8 (λ v. lenV (v .0))) (as-is 𝓤 H A (ssptr (rtF (fInt w32)) (tyRef erased imm (tyInt w32)) 20)) (room-gone 𝓤 H A _) (reads-owedS-len 𝓤 H A W (rtF (fInt w32)) (tyRef (named 6) mut (tyInt w32)) 6 20 (lease (κs .1 .1 .1 .1 .1 .1 .0) (qs .1 .1 .1 .1 .1 .1 .0)) 8 refl, refl) refl refl (λ b o k. tt)) $
-              ghosts (G72 κs qs) _ (g-begin 𝓤 H A W E (G72 κs qs) 21 _) $
+              stmt _ _ (t-sl-aggregate 𝓤 H A W E twin-0.the-row 𝓣 (asMut twin-0.the-row) _ 40 41 19 (tyRef erased mut (pointee (twin-0.the-row .written))) (tyRef erased mut (pointee (twin-0.the-row .written))) (λ x. x) (oFld 17 (field 1 ∷ []) (tyInt w64) 8 (λ v. lenV (v .0))) (as-is 𝓤 H A (msptr twin-0.the-row (tyRef erased mut (pointee (twin-0.the-row .written))) 19)) (room-gone 𝓤 H A _) (reads-owed-len 𝓤 H A W twin-0.the-row (tyRef (named 11) mut (pointee (twin-0.the-row .written))) 11 19 (lease (κs .1 .1 .1 .1 .1 .1 .1 .1 .1 .1 .1 .0) (qs .1 .1 .1 .1 .1 .1 .1 .1 .1 .1 .1 .0)) 8 refl, refl) refl refl (λ b o k. tt)) $
+              ghosts _ _ (g-begin 𝓤 H A W E _ 20 _) $
+              stmt _ (G71 κs qs) (t-sl-reshare 𝓤 H A W E (rtF (fInt w32)) 𝓣 _ 12 42 6 20 (tyRef (named 6) mut (tyInt w32)) (tyRef erased imm (tyInt w32)) (lease (κs .1 .1 .1 .1 .1 .1 .0) (qs .1 .1 .1 .1 .1 .1 .0)) 0 (λ x. x) (as-is 𝓤 H A (mslice (rtF (fInt w32)) (tyRef (named 6) mut (tyInt w32)) 6)) (room-gone 𝓤 H A (tyRef erased imm (tyInt w32))) refl tt refl refl refl (λ b o. tt)) $
+              stmt (G71 κs qs) _ (t-sl-aggregate 𝓤 H A W E (rtF (fInt w32)) 𝓣 (asShr (rtF (fInt w32))) (G71 κs qs) 42 43 20 (tyRef erased imm (tyInt w32)) (tyRef erased imm (tyInt w32)) (λ x. x) (oFld 12 (field 1 ∷ []) (tyInt w64) 8 (λ v. lenV (v .0))) (as-is 𝓤 H A (ssptr (rtF (fInt w32)) (tyRef erased imm (tyInt w32)) 20)) (room-gone 𝓤 H A _) (reads-owedS-len 𝓤 H A W (rtF (fInt w32)) (tyRef (named 6) mut (tyInt w32)) 6 20 (lease (κs .1 .1 .1 .1 .1 .1 .0) (qs .1 .1 .1 .1 .1 .1 .0)) 8 refl, refl) refl refl (λ b o k. tt)) $
+              ghosts _ _ (g-begin 𝓤 H A W E _ 21 _) $
               stmt _ _ (t-sl-reshare 𝓤 H A W E (rtF (fInt w32)) 𝓣 _ 14 44 8 21 (tyRef (named 8) mut (tyInt w32)) (tyRef erased imm (tyInt w32)) (lease (κs .1 .1 .1 .1 .1 .1 .1 .1 .0) (qs .1 .1 .1 .1 .1 .1 .1 .1 .0)) 0 (λ x. x) (as-is 𝓤 H A (mslice (rtF (fInt w32)) (tyRef (named 8) mut (tyInt w32)) 8)) (room-gone 𝓤 H A (tyRef erased imm (tyInt w32))) refl tt refl refl refl (λ b o. tt)) $
               stmt _ (G75 κs qs) (t-sl-aggregate 𝓤 H A W E (rtF (fInt w32)) 𝓣 (asShr (rtF (fInt w32))) _ 44 45 21 (tyRef erased imm (tyInt w32)) (tyRef erased imm (tyInt w32)) (λ x. x) (oFld 14 (field 1 ∷ []) (tyInt w64) 8 (λ v. lenV (v .0))) (as-is 𝓤 H A (ssptr (rtF (fInt w32)) (tyRef erased imm (tyInt w32)) 21)) (room-gone 𝓤 H A _) (reads-owedS-len 𝓤 H A W (rtF (fInt w32)) (tyRef (named 8) mut (tyInt w32)) 8 21 (lease (κs .1 .1 .1 .1 .1 .1 .1 .1 .0) (qs .1 .1 .1 .1 .1 .1 .1 .1 .0)) 8 refl, refl) refl refl (λ b o k. tt)) $
               stmt (G75 κs qs) (G76 κs qs) (t-call-plain 𝓤 H A W 𝓣 4 K2.ps K2.r K2.Asked K2.Learnt "topology::records::fill" known2 E (λ pos β. β) (G75 κs qs) (record { pos = 41; ty = tyRef erased mut (pointee (twin-0.the-row .written)); ref = λ x. x }, (vAt 24 (λ x. x), (vAt 26 (λ x. x), (record { pos = 4; ty = tyRef (named 0) imm (tyInt w8); ref = λ x. x }, (record { pos = 43; ty = tyRef erased imm (tyInt w32); ref = λ x. x }, (record { pos = 45; ty = tyRef erased imm (tyInt w32); ref = λ x. x }, tt)))))) 39 (19 ∷ 0 ∷ 20 ∷ 21 ∷ []) (sub-id 𝓤 H A W ((G75 κs qs) .slots)) (as-is 𝓤 H A (mslice twin-0.the-row (tyRef erased mut (pointee (twin-0.the-row .written))) 19), reads-mslice 𝓤 H A W twin-0.the-row (tyRef erased mut (pointee (twin-0.the-row .written))) 19, refl, ((reads-sc 𝓤 H A W (sInt w64), refl), ((reads-sc 𝓤 H A W (sInt w64), refl), (spares-sslice 𝓤 H A W (rtF (fInt w8)) (tyRef (named 0) imm (tyInt w8)) 0, reads-sslice 𝓤 H A W (rtF (fInt w8)) (tyRef (named 0) imm (tyInt w8)) 0, refl, (spares-sslice 𝓤 H A W (rtF (fInt w32)) (tyRef erased imm (tyInt w32)) 20, reads-sslice 𝓤 H A W (rtF (fInt w32)) (tyRef erased imm (tyInt w32)) 20, refl, (spares-sslice 𝓤 H A W (rtF (fInt w32)) (tyRef erased imm (tyInt w32)) 21, reads-sslice 𝓤 H A W (rtF (fInt w32)) (tyRef erased imm (tyInt w32)) 21, refl, tt)))))) (room-gone 𝓤 H A tyUnit) _ refl) $
               ghosts (G76 κs qs) _ (g-room 𝓤 H A W E (G76 κs qs) 43 _ (room-sslice 𝓤 H A W (rtF (fInt w32)) (tyRef erased imm (tyInt w32)) 20)) $
               ghosts _ _ (g-room 𝓤 H A W E _ 45 _ (room-sslice 𝓤 H A W (rtF (fInt w32)) (tyRef erased imm (tyInt w32)) 21)) $
-              ghosts _ (G79 κs qs) (g-room 𝓤 H A W E _ 39 tyUnit (room-sc 𝓤 H A W sUnit)) $
-              ghosts (G79 κs qs) _ (g-end 𝓤 H A W E (G79 κs qs) 19 refl) $
-              ghosts _ _ (g-back-sl 𝓤 H A W E twin-0.the-row _ 41 17 11 19 (tyRef (named 11) mut (pointee (twin-0.the-row .written))) (tyRef erased mut (pointee (twin-0.the-row .written))) (lease (κs .1 .1 .1 .1 .1 .1 .1 .1 .1 .1 .1 .0) (qs .1 .1 .1 .1 .1 .1 .1 .1 .1 .1 .1 .0)) (λ x. x) (λ x. x) (as-is 𝓤 H A (msleft twin-0.the-row (tyRef erased mut (pointee (twin-0.the-row .written))))) (as-is 𝓤 H A (mslice-owed twin-0.the-row (tyRef (named 11) mut (pointee (twin-0.the-row .written))) 11 19 (lease (κs .1 .1 .1 .1 .1 .1 .1 .1 .1 .1 .1 .0) (qs .1 .1 .1 .1 .1 .1 .1 .1 .1 .1 .1 .0)))) refl refl) $
-              ghosts _ (G82 κs qs) (g-forget 𝓤 H A W E _ 19 dead refl) $
-              ghosts (G82 κs qs) _ (g-end 𝓤 H A W E (G82 κs qs) 20 refl) $
+              ghosts _ _ (g-room 𝓤 H A W E _ 39 tyUnit (room-sc 𝓤 H A W sUnit)) $
+              ghosts _ _ (g-end 𝓤 H A W E _ 19 refl) $
+              ghosts _ (G81 κs qs) (g-back-sl 𝓤 H A W E twin-0.the-row _ 41 17 11 19 (tyRef (named 11) mut (pointee (twin-0.the-row .written))) (tyRef erased mut (pointee (twin-0.the-row .written))) (lease (κs .1 .1 .1 .1 .1 .1 .1 .1 .1 .1 .1 .0) (qs .1 .1 .1 .1 .1 .1 .1 .1 .1 .1 .1 .0)) (λ x. x) (λ x. x) (as-is 𝓤 H A (msleft twin-0.the-row (tyRef erased mut (pointee (twin-0.the-row .written))))) (as-is 𝓤 H A (mslice-owed twin-0.the-row (tyRef (named 11) mut (pointee (twin-0.the-row .written))) 11 19 (lease (κs .1 .1 .1 .1 .1 .1 .1 .1 .1 .1 .1 .0) (qs .1 .1 .1 .1 .1 .1 .1 .1 .1 .1 .1 .0)))) refl refl) $
+              ghosts (G81 κs qs) _ (g-forget 𝓤 H A W E (G81 κs qs) 19 dead refl) $
+              ghosts _ _ (g-end 𝓤 H A W E _ 20 refl) $
               ghosts _ _ (g-back-sl-shr 𝓤 H A W E (rtF (fInt w32)) _ 12 6 20 (tyRef (named 6) mut (tyInt w32)) (lease (κs .1 .1 .1 .1 .1 .1 .0) (qs .1 .1 .1 .1 .1 .1 .0)) (λ x. x) (as-is 𝓤 H A (mslice-owedS (rtF (fInt w32)) (tyRef (named 6) mut (tyInt w32)) 6 20 (lease (κs .1 .1 .1 .1 .1 .1 .0) (qs .1 .1 .1 .1 .1 .1 .0)))) refl refl) $
-              ghosts _ (G85 κs qs) (g-forget 𝓤 H A W E _ 20 dead refl) $
-              ghosts (G85 κs qs) _ (g-end 𝓤 H A W E (G85 κs qs) 21 refl) $
-              ghosts _ _ (g-back-sl-shr 𝓤 H A W E (rtF (fInt w32)) _ 14 8 21 (tyRef (named 8) mut (tyInt w32)) (lease (κs .1 .1 .1 .1 .1 .1 .1 .1 .0) (qs .1 .1 .1 .1 .1 .1 .1 .1 .0)) (λ x. x) (as-is 𝓤 H A (mslice-owedS (rtF (fInt w32)) (tyRef (named 8) mut (tyInt w32)) 8 21 (lease (κs .1 .1 .1 .1 .1 .1 .1 .1 .0) (qs .1 .1 .1 .1 .1 .1 .1 .1 .0)))) refl refl) $
+              ghosts _ _ (g-forget 𝓤 H A W E _ 20 dead refl) $
+              ghosts _ (G86 κs qs) (g-end 𝓤 H A W E _ 21 refl) $
+              ghosts (G86 κs qs) _ (g-back-sl-shr 𝓤 H A W E (rtF (fInt w32)) (G86 κs qs) 14 8 21 (tyRef (named 8) mut (tyInt w32)) (lease (κs .1 .1 .1 .1 .1 .1 .1 .1 .0) (qs .1 .1 .1 .1 .1 .1 .1 .1 .0)) (λ x. x) (as-is 𝓤 H A (mslice-owedS (rtF (fInt w32)) (tyRef (named 8) mut (tyInt w32)) 8 21 (lease (κs .1 .1 .1 .1 .1 .1 .1 .1 .0) (qs .1 .1 .1 .1 .1 .1 .1 .1 .0)))) refl refl) $
               ghosts _ (G66 κs qs) (g-forget 𝓤 H A W E _ 21 dead refl) $
               from-clear,
           tt,
@@ -477,17 +429,17 @@ module _ {M : Type 1} (𝓤 : URA M) (H : Heap 𝓤) (A : Atoms 𝓤) (W : Given
   d =
       stmt (G0 κs qs) _ (t-use 𝓤 H A W E 𝓣 (G0 κs qs) (oFld 17 (field 1 ∷ []) (tyInt w64) 8 lenV) 20 (sc-here (sInt w64)) (tyInt w64) (valS (sInt w64)) (sInt w64 .of) (reads-mslice-len 𝓤 H A W twin-0.the-row (tyRef (named 11) mut (pointee (twin-0.the-row .written))) 11 8 refl, refl) (room-gone 𝓤 H A (tyInt w64)) (holds-sc 𝓤 H A W (sInt w64)) refl (λ u. refl) (λ u. tt)) $
       ghosts _ _ (g-begin 𝓤 H A W E _ 14 _) $
-      stmt _ (G17 κs qs) (t-sl-relend 𝓤 H A W E (rtF (fInt w32)) 𝓣 _ 12 28 6 14 (tyRef (named 6) mut (tyInt w32)) (tyRef erased mut (tyInt w32)) (lease (κs .1 .1 .1 .1 .1 .1 .0) (qs .1 .1 .1 .1 .1 .1 .0)) 0 (λ x. x) (as-is 𝓤 H A (mslice (rtF (fInt w32)) (tyRef (named 6) mut (tyInt w32)) 6)) (room-gone 𝓤 H A (tyRef erased mut (tyInt w32))) refl tt refl refl refl (λ b o. tt)) $
-      stmt (G17 κs qs) _ (t-sl-aggregate 𝓤 H A W E (rtF (fInt w32)) 𝓣 (asMut (rtF (fInt w32))) (G17 κs qs) 28 29 14 (tyRef erased mut (tyInt w32)) (tyRef erased mut (tyInt w32)) (λ x. x) (oFld 12 (field 1 ∷ []) (tyInt w64) 8 (λ v. lenV (v .0))) (as-is 𝓤 H A (msptr (rtF (fInt w32)) (tyRef erased mut (tyInt w32)) 14)) (room-gone 𝓤 H A _) (reads-owed-len 𝓤 H A W (rtF (fInt w32)) (tyRef (named 6) mut (tyInt w32)) 6 14 (lease (κs .1 .1 .1 .1 .1 .1 .0) (qs .1 .1 .1 .1 .1 .1 .0)) 8 refl, refl) refl refl (λ b o k. tt)) $
-      ghosts _ _ (g-begin 𝓤 H A W E _ 15 _) $
-      stmt _ (G20 κs qs) (t-sl-relend 𝓤 H A W E (rtF (fInt w16)) 𝓣 _ 13 30 7 15 (tyRef (named 7) mut (tyInt w16)) (tyRef erased mut (tyInt w16)) (lease (κs .1 .1 .1 .1 .1 .1 .1 .0) (qs .1 .1 .1 .1 .1 .1 .1 .0)) 0 (λ x. x) (as-is 𝓤 H A (mslice (rtF (fInt w16)) (tyRef (named 7) mut (tyInt w16)) 7)) (room-gone 𝓤 H A (tyRef erased mut (tyInt w16))) refl tt refl refl refl (λ b o. tt)) $
-      stmt (G20 κs qs) _ (t-sl-aggregate 𝓤 H A W E (rtF (fInt w16)) 𝓣 (asMut (rtF (fInt w16))) (G20 κs qs) 30 31 15 (tyRef erased mut (tyInt w16)) (tyRef erased mut (tyInt w16)) (λ x. x) (oFld 13 (field 1 ∷ []) (tyInt w64) 8 (λ v. lenV (v .0))) (as-is 𝓤 H A (msptr (rtF (fInt w16)) (tyRef erased mut (tyInt w16)) 15)) (room-gone 𝓤 H A _) (reads-owed-len 𝓤 H A W (rtF (fInt w16)) (tyRef (named 7) mut (tyInt w16)) 7 15 (lease (κs .1 .1 .1 .1 .1 .1 .1 .0) (qs .1 .1 .1 .1 .1 .1 .1 .0)) 8 refl, refl) refl refl (λ b o k. tt)) $
+      stmt _ _ (t-sl-relend 𝓤 H A W E (rtF (fInt w32)) 𝓣 _ 12 28 6 14 (tyRef (named 6) mut (tyInt w32)) (tyRef erased mut (tyInt w32)) (lease (κs .1 .1 .1 .1 .1 .1 .0) (qs .1 .1 .1 .1 .1 .1 .0)) 0 (λ x. x) (as-is 𝓤 H A (mslice (rtF (fInt w32)) (tyRef (named 6) mut (tyInt w32)) 6)) (room-gone 𝓤 H A (tyRef erased mut (tyInt w32))) refl tt refl refl refl (λ b o. tt)) $
+      stmt _ _ (t-sl-aggregate 𝓤 H A W E (rtF (fInt w32)) 𝓣 (asMut (rtF (fInt w32))) _ 28 29 14 (tyRef erased mut (tyInt w32)) (tyRef erased mut (tyInt w32)) (λ x. x) (oFld 12 (field 1 ∷ []) (tyInt w64) 8 (λ v. lenV (v .0))) (as-is 𝓤 H A (msptr (rtF (fInt w32)) (tyRef erased mut (tyInt w32)) 14)) (room-gone 𝓤 H A _) (reads-owed-len 𝓤 H A W (rtF (fInt w32)) (tyRef (named 6) mut (tyInt w32)) 6 14 (lease (κs .1 .1 .1 .1 .1 .1 .0) (qs .1 .1 .1 .1 .1 .1 .0)) 8 refl, refl) refl refl (λ b o k. tt)) $
+      ghosts _ (G19 κs qs) (g-begin 𝓤 H A W E _ 15 _) $
+      stmt (G19 κs qs) _ (t-sl-relend 𝓤 H A W E (rtF (fInt w16)) 𝓣 (G19 κs qs) 13 30 7 15 (tyRef (named 7) mut (tyInt w16)) (tyRef erased mut (tyInt w16)) (lease (κs .1 .1 .1 .1 .1 .1 .1 .0) (qs .1 .1 .1 .1 .1 .1 .1 .0)) 0 (λ x. x) (as-is 𝓤 H A (mslice (rtF (fInt w16)) (tyRef (named 7) mut (tyInt w16)) 7)) (room-gone 𝓤 H A (tyRef erased mut (tyInt w16))) refl tt refl refl refl (λ b o. tt)) $
+      stmt _ _ (t-sl-aggregate 𝓤 H A W E (rtF (fInt w16)) 𝓣 (asMut (rtF (fInt w16))) _ 30 31 15 (tyRef erased mut (tyInt w16)) (tyRef erased mut (tyInt w16)) (λ x. x) (oFld 13 (field 1 ∷ []) (tyInt w64) 8 (λ v. lenV (v .0))) (as-is 𝓤 H A (msptr (rtF (fInt w16)) (tyRef erased mut (tyInt w16)) 15)) (room-gone 𝓤 H A _) (reads-owed-len 𝓤 H A W (rtF (fInt w16)) (tyRef (named 7) mut (tyInt w16)) 7 15 (lease (κs .1 .1 .1 .1 .1 .1 .1 .0) (qs .1 .1 .1 .1 .1 .1 .1 .0)) 8 refl, refl) refl refl (λ b o k. tt)) $
       ghosts _ _ (g-begin 𝓤 H A W E _ 16 _) $
-      stmt _ (G23 κs qs) (t-sl-relend 𝓤 H A W E (rtF (fInt w32)) 𝓣 _ 14 32 8 16 (tyRef (named 8) mut (tyInt w32)) (tyRef erased mut (tyInt w32)) (lease (κs .1 .1 .1 .1 .1 .1 .1 .1 .0) (qs .1 .1 .1 .1 .1 .1 .1 .1 .0)) 0 (λ x. x) (as-is 𝓤 H A (mslice (rtF (fInt w32)) (tyRef (named 8) mut (tyInt w32)) 8)) (room-gone 𝓤 H A (tyRef erased mut (tyInt w32))) refl tt refl refl refl (λ b o. tt)) $
-      stmt (G23 κs qs) _ (t-sl-aggregate 𝓤 H A W E (rtF (fInt w32)) 𝓣 (asMut (rtF (fInt w32))) (G23 κs qs) 32 33 16 (tyRef erased mut (tyInt w32)) (tyRef erased mut (tyInt w32)) (λ x. x) (oFld 14 (field 1 ∷ []) (tyInt w64) 8 (λ v. lenV (v .0))) (as-is 𝓤 H A (msptr (rtF (fInt w32)) (tyRef erased mut (tyInt w32)) 16)) (room-gone 𝓤 H A _) (reads-owed-len 𝓤 H A W (rtF (fInt w32)) (tyRef (named 8) mut (tyInt w32)) 8 16 (lease (κs .1 .1 .1 .1 .1 .1 .1 .1 .0) (qs .1 .1 .1 .1 .1 .1 .1 .1 .0)) 8 refl, refl) refl refl (λ b o k. tt)) $
-      ghosts _ _ (g-begin 𝓤 H A W E _ 17 _) $
-      stmt _ (G26 κs qs) (t-sl-relend 𝓤 H A W E (rtF (fInt w32)) 𝓣 _ 15 34 9 17 (tyRef (named 9) mut (tyInt w32)) (tyRef erased mut (tyInt w32)) (lease (κs .1 .1 .1 .1 .1 .1 .1 .1 .1 .0) (qs .1 .1 .1 .1 .1 .1 .1 .1 .1 .0)) 0 (λ x. x) (as-is 𝓤 H A (mslice (rtF (fInt w32)) (tyRef (named 9) mut (tyInt w32)) 9)) (room-gone 𝓤 H A (tyRef erased mut (tyInt w32))) refl tt refl refl refl (λ b o. tt)) $
-      stmt (G26 κs qs) _ (t-sl-aggregate 𝓤 H A W E (rtF (fInt w32)) 𝓣 (asMut (rtF (fInt w32))) (G26 κs qs) 34 35 17 (tyRef erased mut (tyInt w32)) (tyRef erased mut (tyInt w32)) (λ x. x) (oFld 15 (field 1 ∷ []) (tyInt w64) 8 (λ v. lenV (v .0))) (as-is 𝓤 H A (msptr (rtF (fInt w32)) (tyRef erased mut (tyInt w32)) 17)) (room-gone 𝓤 H A _) (reads-owed-len 𝓤 H A W (rtF (fInt w32)) (tyRef (named 9) mut (tyInt w32)) 9 17 (lease (κs .1 .1 .1 .1 .1 .1 .1 .1 .1 .0) (qs .1 .1 .1 .1 .1 .1 .1 .1 .1 .0)) 8 refl, refl) refl refl (λ b o k. tt)) $
+      stmt _ _ (t-sl-relend 𝓤 H A W E (rtF (fInt w32)) 𝓣 _ 14 32 8 16 (tyRef (named 8) mut (tyInt w32)) (tyRef erased mut (tyInt w32)) (lease (κs .1 .1 .1 .1 .1 .1 .1 .1 .0) (qs .1 .1 .1 .1 .1 .1 .1 .1 .0)) 0 (λ x. x) (as-is 𝓤 H A (mslice (rtF (fInt w32)) (tyRef (named 8) mut (tyInt w32)) 8)) (room-gone 𝓤 H A (tyRef erased mut (tyInt w32))) refl tt refl refl refl (λ b o. tt)) $
+      stmt _ (G24 κs qs) (t-sl-aggregate 𝓤 H A W E (rtF (fInt w32)) 𝓣 (asMut (rtF (fInt w32))) _ 32 33 16 (tyRef erased mut (tyInt w32)) (tyRef erased mut (tyInt w32)) (λ x. x) (oFld 14 (field 1 ∷ []) (tyInt w64) 8 (λ v. lenV (v .0))) (as-is 𝓤 H A (msptr (rtF (fInt w32)) (tyRef erased mut (tyInt w32)) 16)) (room-gone 𝓤 H A _) (reads-owed-len 𝓤 H A W (rtF (fInt w32)) (tyRef (named 8) mut (tyInt w32)) 8 16 (lease (κs .1 .1 .1 .1 .1 .1 .1 .1 .0) (qs .1 .1 .1 .1 .1 .1 .1 .1 .0)) 8 refl, refl) refl refl (λ b o k. tt)) $
+      ghosts (G24 κs qs) _ (g-begin 𝓤 H A W E (G24 κs qs) 17 _) $
+      stmt _ _ (t-sl-relend 𝓤 H A W E (rtF (fInt w32)) 𝓣 _ 15 34 9 17 (tyRef (named 9) mut (tyInt w32)) (tyRef erased mut (tyInt w32)) (lease (κs .1 .1 .1 .1 .1 .1 .1 .1 .1 .0) (qs .1 .1 .1 .1 .1 .1 .1 .1 .1 .0)) 0 (λ x. x) (as-is 𝓤 H A (mslice (rtF (fInt w32)) (tyRef (named 9) mut (tyInt w32)) 9)) (room-gone 𝓤 H A (tyRef erased mut (tyInt w32))) refl tt refl refl refl (λ b o. tt)) $
+      stmt _ _ (t-sl-aggregate 𝓤 H A W E (rtF (fInt w32)) 𝓣 (asMut (rtF (fInt w32))) _ 34 35 17 (tyRef erased mut (tyInt w32)) (tyRef erased mut (tyInt w32)) (λ x. x) (oFld 15 (field 1 ∷ []) (tyInt w64) 8 (λ v. lenV (v .0))) (as-is 𝓤 H A (msptr (rtF (fInt w32)) (tyRef erased mut (tyInt w32)) 17)) (room-gone 𝓤 H A _) (reads-owed-len 𝓤 H A W (rtF (fInt w32)) (tyRef (named 9) mut (tyInt w32)) 9 17 (lease (κs .1 .1 .1 .1 .1 .1 .1 .1 .1 .0) (qs .1 .1 .1 .1 .1 .1 .1 .1 .1 .0)) 8 refl, refl) refl refl (λ b o k. tt)) $
       ghosts _ _ (g-begin 𝓤 H A W E _ 18 _) $
       stmt _ (G29 κs qs) (t-sl-relend 𝓤 H A W E (rtF (fInt w32)) 𝓣 _ 16 36 10 18 (tyRef (named 10) mut (tyInt w32)) (tyRef erased mut (tyInt w32)) (lease (κs .1 .1 .1 .1 .1 .1 .1 .1 .1 .1 .0) (qs .1 .1 .1 .1 .1 .1 .1 .1 .1 .1 .0)) 0 (λ x. x) (as-is 𝓤 H A (mslice (rtF (fInt w32)) (tyRef (named 10) mut (tyInt w32)) 10)) (room-gone 𝓤 H A (tyRef erased mut (tyInt w32))) refl tt refl refl refl (λ b o. tt)) $
       stmt (G29 κs qs) (G30 κs qs) (t-sl-aggregate 𝓤 H A W E (rtF (fInt w32)) 𝓣 (asMut (rtF (fInt w32))) (G29 κs qs) 36 37 18 (tyRef erased mut (tyInt w32)) (tyRef erased mut (tyInt w32)) (λ x. x) (oFld 16 (field 1 ∷ []) (tyInt w64) 8 (λ v. lenV (v .0))) (as-is 𝓤 H A (msptr (rtF (fInt w32)) (tyRef erased mut (tyInt w32)) 18)) (room-gone 𝓤 H A _) (reads-owed-len 𝓤 H A W (rtF (fInt w32)) (tyRef (named 10) mut (tyInt w32)) 10 18 (lease (κs .1 .1 .1 .1 .1 .1 .1 .1 .1 .1 .0) (qs .1 .1 .1 .1 .1 .1 .1 .1 .1 .1 .0)) 8 refl, refl) refl refl (λ b o k. tt)) $
@@ -495,17 +447,17 @@ module _ {M : Type 1} (𝓤 : URA M) (H : Heap 𝓤) (A : Atoms 𝓤) (W : Given
       first (G31 κs qs) (G32 κs qs) (
       ghosts (G31 κs qs) _ (g-end 𝓤 H A W E (G31 κs qs) 14 refl) $
       ghosts _ _ (g-back-sl 𝓤 H A W E (rtF (fInt w32)) _ 29 12 6 14 (tyRef (named 6) mut (tyInt w32)) (tyRef erased mut (tyInt w32)) (lease (κs .1 .1 .1 .1 .1 .1 .0) (qs .1 .1 .1 .1 .1 .1 .0)) (λ x. x) (λ x. x) (as-is 𝓤 H A (msleft (rtF (fInt w32)) (tyRef erased mut (tyInt w32)))) (as-is 𝓤 H A (mslice-owed (rtF (fInt w32)) (tyRef (named 6) mut (tyInt w32)) 6 14 (lease (κs .1 .1 .1 .1 .1 .1 .0) (qs .1 .1 .1 .1 .1 .1 .0)))) refl refl) $
-      ghosts _ (G36 κs qs) (g-forget 𝓤 H A W E _ 14 dead refl) $
-      ghosts (G36 κs qs) _ (g-end 𝓤 H A W E (G36 κs qs) 15 refl) $
-      ghosts _ _ (g-back-sl 𝓤 H A W E (rtF (fInt w16)) _ 31 13 7 15 (tyRef (named 7) mut (tyInt w16)) (tyRef erased mut (tyInt w16)) (lease (κs .1 .1 .1 .1 .1 .1 .1 .0) (qs .1 .1 .1 .1 .1 .1 .1 .0)) (λ x. x) (λ x. x) (as-is 𝓤 H A (msleft (rtF (fInt w16)) (tyRef erased mut (tyInt w16)))) (as-is 𝓤 H A (mslice-owed (rtF (fInt w16)) (tyRef (named 7) mut (tyInt w16)) 7 15 (lease (κs .1 .1 .1 .1 .1 .1 .1 .0) (qs .1 .1 .1 .1 .1 .1 .1 .0)))) refl refl) $
-      ghosts _ (G40 κs qs) (g-forget 𝓤 H A W E _ 15 dead refl) $
-      ghosts (G40 κs qs) _ (g-end 𝓤 H A W E (G40 κs qs) 16 refl) $
+      ghosts _ _ (g-forget 𝓤 H A W E _ 14 dead refl) $
+      ghosts _ _ (g-end 𝓤 H A W E _ 15 refl) $
+      ghosts _ (G38 κs qs) (g-back-sl 𝓤 H A W E (rtF (fInt w16)) _ 31 13 7 15 (tyRef (named 7) mut (tyInt w16)) (tyRef erased mut (tyInt w16)) (lease (κs .1 .1 .1 .1 .1 .1 .1 .0) (qs .1 .1 .1 .1 .1 .1 .1 .0)) (λ x. x) (λ x. x) (as-is 𝓤 H A (msleft (rtF (fInt w16)) (tyRef erased mut (tyInt w16)))) (as-is 𝓤 H A (mslice-owed (rtF (fInt w16)) (tyRef (named 7) mut (tyInt w16)) 7 15 (lease (κs .1 .1 .1 .1 .1 .1 .1 .0) (qs .1 .1 .1 .1 .1 .1 .1 .0)))) refl refl) $
+      ghosts (G38 κs qs) _ (g-forget 𝓤 H A W E (G38 κs qs) 15 dead refl) $
+      ghosts _ _ (g-end 𝓤 H A W E _ 16 refl) $
       ghosts _ _ (g-back-sl 𝓤 H A W E (rtF (fInt w32)) _ 33 14 8 16 (tyRef (named 8) mut (tyInt w32)) (tyRef erased mut (tyInt w32)) (lease (κs .1 .1 .1 .1 .1 .1 .1 .1 .0) (qs .1 .1 .1 .1 .1 .1 .1 .1 .0)) (λ x. x) (λ x. x) (as-is 𝓤 H A (msleft (rtF (fInt w32)) (tyRef erased mut (tyInt w32)))) (as-is 𝓤 H A (mslice-owed (rtF (fInt w32)) (tyRef (named 8) mut (tyInt w32)) 8 16 (lease (κs .1 .1 .1 .1 .1 .1 .1 .1 .0) (qs .1 .1 .1 .1 .1 .1 .1 .1 .0)))) refl refl) $
-      ghosts _ (G44 κs qs) (g-forget 𝓤 H A W E _ 16 dead refl) $
-      ghosts (G44 κs qs) _ (g-end 𝓤 H A W E (G44 κs qs) 17 refl) $
-      ghosts _ _ (g-back-sl 𝓤 H A W E (rtF (fInt w32)) _ 35 15 9 17 (tyRef (named 9) mut (tyInt w32)) (tyRef erased mut (tyInt w32)) (lease (κs .1 .1 .1 .1 .1 .1 .1 .1 .1 .0) (qs .1 .1 .1 .1 .1 .1 .1 .1 .1 .0)) (λ x. x) (λ x. x) (as-is 𝓤 H A (msleft (rtF (fInt w32)) (tyRef erased mut (tyInt w32)))) (as-is 𝓤 H A (mslice-owed (rtF (fInt w32)) (tyRef (named 9) mut (tyInt w32)) 9 17 (lease (κs .1 .1 .1 .1 .1 .1 .1 .1 .1 .0) (qs .1 .1 .1 .1 .1 .1 .1 .1 .1 .0)))) refl refl) $
-      ghosts _ (G48 κs qs) (g-forget 𝓤 H A W E _ 17 dead refl) $
-      ghosts (G48 κs qs) _ (g-end 𝓤 H A W E (G48 κs qs) 18 refl) $
+      ghosts _ _ (g-forget 𝓤 H A W E _ 16 dead refl) $
+      ghosts _ (G45 κs qs) (g-end 𝓤 H A W E _ 17 refl) $
+      ghosts (G45 κs qs) _ (g-back-sl 𝓤 H A W E (rtF (fInt w32)) (G45 κs qs) 35 15 9 17 (tyRef (named 9) mut (tyInt w32)) (tyRef erased mut (tyInt w32)) (lease (κs .1 .1 .1 .1 .1 .1 .1 .1 .1 .0) (qs .1 .1 .1 .1 .1 .1 .1 .1 .1 .0)) (λ x. x) (λ x. x) (as-is 𝓤 H A (msleft (rtF (fInt w32)) (tyRef erased mut (tyInt w32)))) (as-is 𝓤 H A (mslice-owed (rtF (fInt w32)) (tyRef (named 9) mut (tyInt w32)) 9 17 (lease (κs .1 .1 .1 .1 .1 .1 .1 .1 .1 .0) (qs .1 .1 .1 .1 .1 .1 .1 .1 .1 .0)))) refl refl) $
+      ghosts _ _ (g-forget 𝓤 H A W E _ 17 dead refl) $
+      ghosts _ _ (g-end 𝓤 H A W E _ 18 refl) $
       ghosts _ _ (g-back-sl 𝓤 H A W E (rtF (fInt w32)) _ 37 16 10 18 (tyRef (named 10) mut (tyInt w32)) (tyRef erased mut (tyInt w32)) (lease (κs .1 .1 .1 .1 .1 .1 .1 .1 .1 .1 .0) (qs .1 .1 .1 .1 .1 .1 .1 .1 .1 .1 .0)) (λ x. x) (λ x. x) (as-is 𝓤 H A (msleft (rtF (fInt w32)) (tyRef erased mut (tyInt w32)))) (as-is 𝓤 H A (mslice-owed (rtF (fInt w32)) (tyRef (named 10) mut (tyInt w32)) 10 18 (lease (κs .1 .1 .1 .1 .1 .1 .1 .1 .1 .1 .0) (qs .1 .1 .1 .1 .1 .1 .1 .1 .1 .1 .0)))) refl refl) $
       ghosts _ (G52 κs qs) (g-forget 𝓤 H A W E _ 18 dead refl) $
       from-match) $
