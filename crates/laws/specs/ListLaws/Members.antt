@@ -11,6 +11,7 @@ use Rattle.laws.specs.ListLaws.Lists.{All, done, more, all_append, all_map}
 
 module _ {A : Type 0} where
   pub all_at : {P : A → Type 0} {x : A} {l : List A} → All P l → Memᴰ x l → P x
+  all_at {P} done m = elim m [ ]
   all_at {P} (more h a) (Memᴰ.head e) = subst P (sym e) h
   all_at (more h a) (Memᴰ.tail m) = all_at a m
 

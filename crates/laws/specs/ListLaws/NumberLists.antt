@@ -23,7 +23,7 @@ module _ {P : ℕ → Type 0} where
   pub all-add_all : {l m : List ℕ} → All P l → All P m → All P (add_all l m)
   unfolding add_all
   all-add_all a done = a
-  all-add_all a (more h b) = all-add_all (all-add_new a h) b
+  all-add_all {l} a (more {x = x} h b) = all-add_all {l = add_new l x} (all-add_new a h) b
 
 -- ---- renamed
 
@@ -43,7 +43,7 @@ module _ (e : ℕ → ℕ) (P : ℕ → Type 0) (level : (a b : ℕ) → P a →
   pub add_all-ren : {l m : List ℕ} → All P l → All P m → map e (add_all l m) ≡ add_all (map e l) (map e m)
   unfolding add_all
   add_all-ren a done = refl
-  add_all-ren a (more {x = x} {l = m} h b) = add_all-ren (all-add_new a h) b ∙ ap (λ k. add_all k (map e m)) (add_new-ren x h a)
+  add_all-ren {l} a (more {x = x} {l = m} h b) = add_all-ren {l = add_new l x} (all-add_new a h) b ∙ ap (λ k. add_all k (map e m)) (add_new-ren x h a)
 
   pub meet-ren : {l m : List ℕ} → All P l → All P m → meet l m ≡ meet (map e l) (map e m)
   unfolding meet

@@ -29,7 +29,7 @@ module _ (P : Pair → Type 0) where
   pub all-add_pairs : {l ps : List Pair} → All P l → All P ps → All P (add_pairs l ps)
   unfolding add_pairs
   all-add_pairs a done = a
-  all-add_pairs a (more {x = p} h r) = all-add_pairs (all-add_pair p h a) r
+  all-add_pairs {l} a (more {x = p} h r) = all-add_pairs {l = add_pair p l} (all-add_pair p h a) r
 
 pub add_pair_ascending : (p : Pair) {l : List Pair} → Ascending l → Ascending (add_pair p l)
 unfolding add_pair
@@ -105,7 +105,7 @@ add_pair-old p m (more {x = q} {l = l} h a) = add_pair-past p q (l ++ (p ∷ m))
 pub add_pairs_ascending : {l : List Pair} (ps : List Pair) → Ascending l → Ascending (add_pairs l ps)
 unfolding add_pairs
 add_pairs_ascending [] s = s
-add_pairs_ascending (p ∷ ps) s = add_pairs_ascending ps (add_pair_ascending p s)
+add_pairs_ascending {l} (p ∷ ps) s = add_pairs_ascending {l = add_pair p l} ps (add_pair_ascending p s)
 
 pub any-add_pairs : (f : Pair → Bool) (l ps : List Pair) → any f (add_pairs l ps) ≡ (any f l || any f ps)
 unfolding add_pairs any
@@ -133,4 +133,4 @@ module _ (P : Pair → Type 0) (f : Pair → Pair) (lt_same : (p q : Pair) → P
   pub add_pairs-ren : {l ps : List Pair} → All P l → All P ps → map f (add_pairs l ps) ≡ add_pairs (map f l) (map f ps)
   unfolding add_pairs
   add_pairs-ren a done = refl
-  add_pairs-ren a (more {x = p} {l = ps} h r) = add_pairs-ren (all-add_pair P p h a) r ∙ ap (λ l. add_pairs l (map f ps)) (add_pair-ren p h a)
+  add_pairs-ren {l} a (more {x = p} {l = ps} h r) = add_pairs-ren {l = add_pair p l} (all-add_pair P p h a) r ∙ ap (λ l. add_pairs l (map f ps)) (add_pair-ren p h a)

@@ -28,7 +28,7 @@ module _ {A : Type 0} (conflict : A → A → Bool) (p : A → Bool) (P : A → 
   unfolding select filter any
   filter-select a done = refl
   filter-select {acc} a (more {x = r} {l = l} g m) =
-      filter-select (grown r g a (any (λ q. conflict q r) acc)) m ∙ go (p r) refl (any (λ q. conflict q r) acc) refl
+      filter-select {acc = cond (any (λ q. conflict q r) acc) acc (acc ++ (r ∷ []))} (grown r g a (any (λ q. conflict q r) acc)) m ∙ go (p r) refl (any (λ q. conflict q r) acc) refl
     where
       grow : (b : Bool) → p r ≡ b → filter p (acc ++ (r ∷ [])) ≡ filter p acc ++ cond b (r ∷ []) []
       grow b e = rw (← e) (filter-append p acc (r ∷ []))
@@ -45,7 +45,7 @@ module _ {A : Type 0} (conflict : A → A → Bool) (p : A → Bool) (P : A → 
   pub all-select : {acc l : List A} → All P acc → All P l → All P (select conflict acc l)
   unfolding select any
   all-select a done = a
-  all-select {acc} a (more {x = r} g m) = all-select (grown r g a (any (λ q. conflict q r) acc)) m
+  all-select {acc} a (more {x = r} g m) = all-select {acc = cond (any (λ q. conflict q r) acc) acc (acc ++ (r ∷ []))} (grown r g a (any (λ q. conflict q r) acc)) m
 
 -- ---- a renaming
 
@@ -60,7 +60,7 @@ module _ {A B : Type 0} (e : A → B) (P : A → Type 0) where
     unfolding select any
     map-select a done = refl
     map-select {acc} a (more {x = r} {l = l} g m) =
-        map-select (grown r g a (any (λ q. conflict q r) acc)) m
+        map-select {acc = cond (any (λ q. conflict q r) acc) acc (acc ++ (r ∷ []))} (grown r g a (any (λ q. conflict q r) acc)) m
         ∙ ap (λ c. select conflict' c (map e l)) (go (any (λ q. conflict q r) acc) ∙ ap (λ c. cond c (map e acc) (map e acc ++ (e r ∷ []))) (map-any g a))
       where
         go : (c : Bool) → map e (cond c acc (acc ++ (r ∷ []))) ≡ cond c (map e acc) (map e acc ++ (e r ∷ []))

@@ -5,7 +5,7 @@ use Prim.Native.Nat.{ℕ, suc, ◌<◌}
 use Rattle.std.proofs.Common.{arith, sym, ◌∙◌, ext_get_or, eqb-true, eq-eqb}
 use Rattle.std.specs.Prelude.{◌≡◌, ◌↔◌, Bool, List, length, eqb}
 use Rattle.std.proofs.Math.Path.{refl, ap, ap₂}
-use Rattle.std.proofs.Math.Logic.{Iff·trans, Iff·symm}
+use Rattle.std.proofs.Math.Logic.Iff
 use Rattle.std.proofs.Math.Bool.{true, false, not, ◌&&◌}
 use Rattle.std.proofs.Math.ListN.{get_or}
 use Rattle.std.proofs.lemmas.Bool.{eqb-false}
@@ -88,7 +88,7 @@ module _ (M : Map) {ls ls' : List ℕ} (L : Labelling M ls) (L' : Labelling M ls
   shares_same c d h k w = go (walkable_at M d) refl
     where
       go : (b : Bool) → walkable_at M d ≡ b → (b && eqb (get_or ls d 0) (get_or ls c 0)) ≡ (b && eqb (get_or ls' d 0) (get_or ls' c 0))
-      go true v = eqb_same _ _ _ _ (Iff·trans (L.shared d c k h v w) (Iff·symm (L'.shared d c k h v w)))
+      go true v = eqb_same _ _ _ _ (Iff.trans (L.shared d c k h v w) (Iff.symm (L'.shared d c k h v w)))
       go false v = refl
 
   first_same : (c : ℕ) → c < cell_count M → is_first M ls c ≡ is_first M ls' c

@@ -2,7 +2,7 @@
 -- Each by induction on n: past the number a step is the same of both, at it the scan takes it in, before it both scans are the same. Assumes nothing.
 use Prim.Native.Nat.{ℕ, zero, suc, ◌+◌, ◌<◌, min, max}
 use Rattle.std.proofs.Common.{arith, add-zero, sym, ap, ap₂, ◌∙◌, ne_eqb}
-use Rattle.std.specs.Prelude.{◌≡◌, refl, Bool, true, false, not, ◌&&◌, ◌||◌, ◌⊎◌, eqb}
+use Rattle.std.specs.Prelude.{◌≡◌, refl, Bool, true, false, not, ◌&&◌, ◌||◌, eqb}
 use Rattle.std.proofs.Math.Bool.{cond, or-false, or-true, and-false}
 use Rattle.std.proofs.Math.Logic.{⊎_elim}
 use Rattle.definitions.specs.Scan.{any_below_lem, count_below, bit}

@@ -88,7 +88,7 @@ module _ (C : Context) (r : ℕ) where
   port_ascending : {ports : List ℕ} (indexes : List ℕ) → Ascending ports → Ascending (insert_ports C edges ports indexes)
   unfolding insert_ports
   port_ascending [] s = s
-  port_ascending {ports} (j ∷ l) s = port_ascending l (go (not (member j edges)))
+  port_ascending {ports} (j ∷ l) s = port_ascending {ports = cond (not (member j edges)) (set_insert ports j) ports} l (go (not (member j edges)))
     where
       go : (b : Bool) → Ascending (cond b (set_insert ports j) ports)
       go true = insert_ascending j s
@@ -112,7 +112,7 @@ module _ (C : Context) (r : ℕ) where
   ports_ascending : {ports : List ℕ} (rs : List ℕ) → Ascending ports → Ascending (ports_from C edges ports rs)
   unfolding ports_from
   ports_ascending [] s = s
-  ports_ascending (x ∷ rs) s = ports_ascending rs (port_ascending (or_nothing (incidents_rust C x)) s)
+  ports_ascending {ports} (x ∷ rs) s = ports_ascending {ports = insert_ports C edges ports (or_nothing (incidents_rust C x))} rs (port_ascending (or_nothing (incidents_rust C x)) s)
 
   module _ (within : (i : ℕ) → All (Within (suc C.regions)) (C.pairs i)) (named : 1 ≤ r) (regions : List ℕ) (ascending : Ascending regions) (found : (x : ℕ) → member x regions ≡ inside C r x) where
     -- ---- regions

@@ -123,7 +123,7 @@ module _ (C : Context) (i : ℕ) (p : Pair) where
   region_ascending : {ports : List ℕ} (js : List ℕ) → Ascending ports → Ascending (walk_region (full_pair C) i p ports js).ports
   unfolding walk_region
   region_ascending [] s = s
-  region_ascending {ports} (j ∷ js) s = go (eqb j i) (is_unfit p (full_pair C j)) (region_ascending js s) (region_ascending js (insert_ascending j s))
+  region_ascending {ports} (j ∷ js) s = go (eqb j i) (is_unfit p (full_pair C j)) (region_ascending js s) (region_ascending {ports = set_insert ports j} js (insert_ascending j s))
     where
       go : (a b : Bool) → Ascending (walk_region (full_pair C) i p ports js).ports → Ascending (walk_region (full_pair C) i p (set_insert ports j) js).ports → Ascending (walk_at ports j js a b).ports
       go true b h k = h

@@ -15,7 +15,7 @@ use Rattle.definitions.specs.Geometry.{Point, center, distance}
 use Rattle.definitions.specs.RegionRecord.{Region, corners}
 use Rattle.definitions.specs.Context.{Context, full_cut}
 use Rattle.definitions.specs.MouthShapes.{MouthShape, single, star, regions_of, distinct_regions, common_regions, star_from, mouth_shape}
-use Rattle.definitions.specs.RampMouths.{MouthProposal, retain, max_mouth_distance, max_approach_radius, separation_of, approach_fits, single_mouth, star_mouth, shaped_mouth, triangle_mouth, triangle, corners_near_lem, is_local}
+use Rattle.definitions.specs.RampMouths.{MouthProposal, retain, max_mouth_distance, max_approach_radius, separation_of, approach_fits, single_mouth, star_mouth, shaped_mouth, triangle_mouth, corners_near_lem, is_local}
 use Rattle.laws.specs.ListLaws.Lists.{All, done, more, all_filter}
 use Rattle.laws.specs.ListLaws.NumberLists.{all-add_all}
 use Rattle.laws.specs.ListLaws.SortedMembers.{all-tests-sort}

@@ -102,7 +102,7 @@ insert_ascending x (some {x = y} {l = l} a s) = go (ltb x y) refl (eqb x y) refl
 pub extend_ascending : {l : List ℕ} (m : List ℕ) → Ascending l → Ascending (set_extend l m)
 unfolding set_extend
 extend_ascending [] s = s
-extend_ascending (x ∷ m) s = extend_ascending m (insert_ascending x s)
+extend_ascending {l} (x ∷ m) s = extend_ascending {l = set_insert l x} m (insert_ascending x s)
 
 above_none : (x : ℕ) {l : List ℕ} → All (λ y. x < y) l → member x l ≡ false
 above_none x a = member_none x (all_map (λ y h e. omega arith) a)
