@@ -1,4 +1,7 @@
 // Accession records in one list: the first that breaks a rule, and the line of an own number. The definitions stand in `catalogue`.
+
+#![tactic(auto)]
+
 pub mod fields;
 mod held;
 pub mod line;

@@ -14,14 +14,14 @@ use crate::fields::{NUMBERS_PER_ACCESSION, day_of, map_of, own_of, record_count,
 
 // Number 0 and the count of records in the line, or a refusal's number and place.
 #[repr(C)]
-#[derive(Drop)]
+#[derive(Clone, Copy)]
 pub struct LineAnswer {
     pub number: u64,
     pub value: u64,
 }
 
 // The position of the record with an own number.
-#[derive(Drop)]
+#[derive(Clone, Copy)]
 pub enum Found {
     Nowhere,
     At(usize),

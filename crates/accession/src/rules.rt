@@ -8,7 +8,7 @@ use crate::fields::{day_of, own_of, record_count, superseded_of};
 use crate::held::{hold, last_of_map};
 
 // The position of the first record that breaks a rule; `place_of` of specs/Answers.antt gives what it says.
-#[derive(Drop)]
+#[derive(Clone, Copy)]
 pub enum Broken {
     Nothing,
     At(usize),

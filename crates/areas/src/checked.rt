@@ -9,7 +9,7 @@ use checks::limits::NUMBERS_PER_SPAN;
 use checks::sizes::{cells_fit, is_whole, partition_has_room, sides_fit};
 use checks::spans::{SpanFault, spans_fault};
 
-#[derive(Drop)]
+#[derive(Clone, Copy)]
 pub enum Check {
     Fit,
     Refused(u64, usize),

@@ -1,4 +1,7 @@
 // The partition of a map by spans, `partition_by_spans` of areas.rs, with the refusals of the table of SPECIFICATION 4.
+
+#![tactic(auto)]
+
 pub mod checked;
 pub mod clear;
 pub mod labels;
@@ -14,7 +17,7 @@ use clear::{clear_masks, clear_numbers};
 use labels::label_regions;
 
 // The count of regions, or a refusal with its number and place; `answer_of` of specs/Answers.antt gives what it says.
-#[derive(Drop)]
+#[derive(Clone, Copy)]
 pub enum Partitioned {
     Regions(usize),
     Refused(u64, usize),

@@ -1,5 +1,8 @@
 // Replays stored cases of the partition. Standard input is one case after the other: the numbers that `replay_lists` names, and a sheet, which gives the cells and
 // the spans. Of each case it writes the answer and what the lists hold.
+
+#![tactic(auto)]
+
 ghost use Rattle.std.specs.Prelude.{◌≤◌, length};
 
 use areas::{Partitioned, partition};

@@ -1,4 +1,7 @@
 // The second half of `partition_by_spans` of areas.rs: of each span how many edges it removes and separates, and its pairs of regions.
+
+#![tactic(auto)]
+
 pub mod region_pairs;
 
 ghost use Rattle.std.specs.Prelude.{◌≡◌, true, [], ◌∷◌, ◌+◌, ◌-◌, ◌*◌, ◌≤◌, ◌<◌, length, get_or};
@@ -29,7 +32,7 @@ use span_geometry::strips::Strip;
 pub const TALLIES_PER_SPAN: usize = 2;
 
 // How many rows of pairs there are, or that they are more than the list has room for.
-#[derive(Drop)]
+#[derive(Clone, Copy)]
 pub enum Assessed {
     Rows(usize),
     TooMany,
@@ -37,7 +40,7 @@ pub enum Assessed {
 
 // What is found of a span so far: the counts of its removed and separated edges, the end of its rows in the list of pairs, and the row of the last pair, a
 // hint that is never relied on.
-#[derive(Drop)]
+#[derive(Clone, Copy)]
 pub struct BoundaryAssessment {
     pub removed: u32,
     pub separated: u32,

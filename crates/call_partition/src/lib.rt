@@ -1,5 +1,8 @@
 // The first part of the call that runs a pass, over plain lists: the checks in the order of the table of SPECIFICATION 4, labels, tallies and pairs. Of records and output
 // only the lengths matter here.
+
+#![tactic(auto)]
+
 pub mod checked;
 pub mod scratch;
 
@@ -16,7 +19,7 @@ use checks::limits::NUMBERS_PER_SPAN;
 use scratch::clear_scratch;
 
 // A refusal with its number and place, or how many regions and rows of pairs there are.
-#[derive(Drop)]
+#[derive(Clone, Copy)]
 pub enum Prepared {
     Refused(u64, usize),
     Ready(usize, usize),

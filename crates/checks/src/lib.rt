@@ -1,5 +1,8 @@
 // The checks of the table of SPECIFICATION 4 that look at what is lent, numbers 1 to 10. Each equals its definition in Refusals.antt.
 // `&` and `|` join tests here: no test has an effect, and without a branch each is its definition as it stands.
+
+#![tactic(auto)]
+
 pub mod anchors;
 pub mod boundaries;
 pub mod cells;
@@ -8,7 +11,7 @@ pub mod sizes;
 pub mod spans;
 
 // The first faulty place of a list; `place_of` of specs/Answers.antt gives what it says.
-#[derive(Drop)]
+#[derive(Clone, Copy)]
 pub enum Fault {
     Nowhere,
     At(usize),

@@ -8,7 +8,7 @@ ghost use Rattle.checks.specs.Contract.{refusal_of};
 use crate::limits::{NUMBERS_PER_SPAN, PIXELS_PER_WALK_CELL};
 
 // The first faulty span; `refusal_of` of specs/Answers.antt gives its number.
-#[derive(Drop)]
+#[derive(Clone, Copy)]
 pub enum SpanFault {
     Nowhere,
     Outside(usize),

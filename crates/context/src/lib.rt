@@ -1,4 +1,7 @@
 // What the passes read of a partitioned map: a region's record by value, and the context as plain lists.
+
+#![tactic(auto)]
+
 pub mod anchored;
 pub mod incidents;
 pub mod pairs;
@@ -7,7 +10,7 @@ pub mod runs;
 
 // The record of a region, as RegionStats of context.rs: SPECIFICATION 9; its ramp cells are counted. Edges are in pixels; bit e of `elevations` says that a cell has elevation e.
 #[repr(C)]
-#[derive(Drop)]
+#[derive(Clone, Copy)]
 pub struct Region {
     pub cells: usize,
     pub min_x: f64,

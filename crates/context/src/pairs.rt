@@ -12,7 +12,7 @@ pub const NUMBERS_PER_PAIR: usize = 3;
 const TALLIES_PER_SPAN: usize = 2;
 
 // The full pair of a boundary, where there is one; `full_pair_of` of specs/Rows.antt gives what it says.
-#[derive(Drop)]
+#[derive(Clone, Copy)]
 pub enum FullPair {
     None,
     Pair(u32, u32),

@@ -6,7 +6,7 @@ ghost use Rattle.definitions.specs.RegionRecord.{mask_of};
 ghost use Rattle.context.specs.Records.{max_cells};
 ghost use Rattle.context.specs.Runs.{Within, Equal, RunCounted};
 
-#[derive(Drop)]
+#[derive(Clone, Copy)]
 pub struct RunCounts {
     pub ramps: usize,
     pub elevations: [usize; 4],

@@ -1,4 +1,7 @@
 // The steps that spans cut: of one cell, and marked in the masks of all cells, as the first half of `partition_by_spans` of areas.rs.
+
+#![tactic(auto)]
+
 pub mod cell;
 pub mod extents;
 
@@ -227,7 +230,7 @@ fn mark_between(
 }
 
 // The columns, or rows, near a span: from `first` on before `end`. Those from `from` on before `to` are between its ends, with those beside them.
-#[derive(Drop)]
+#[derive(Clone, Copy)]
 pub struct Parts {
     pub first: usize,
     pub from: usize,

@@ -1,17 +1,20 @@
 // The elevation of most cells and its share of all, from counts by elevation: by value, and for programs in other languages (document 02, request 2).
+
+#![tactic(auto)]
+
 ghost use Rattle.std.specs.Prelude.{◌≡◌, [], ◌∷◌, ℕ, ◌≤◌, ◌<◌, get_or};
 ghost use Rattle.definitions.specs.RegionRecord.{better, most_common_elevation, share_of, dominance_of};
 ghost use Rattle.elevations.specs.Forms.{max_count, share_form, dominance_form, answer_of};
 
 // The whole percent and the remainder, or that there are no cells; `share_form` of specs/Forms.antt gives what it says.
-#[derive(Drop)]
+#[derive(Clone, Copy)]
 pub enum Share {
     None,
     Of(usize, usize),
 }
 
 // The elevation of most cells, and the share of its count.
-#[derive(Drop)]
+#[derive(Clone, Copy)]
 pub struct Dominance {
     pub elevation: usize,
     pub share: Share,
@@ -65,7 +68,7 @@ pub fn dominance_of(cells: usize, counts: [usize; 4]) -> Dominance
 
 // Percent and remainder are 0 where there is no share.
 #[repr(C)]
-#[derive(Drop)]
+#[derive(Clone, Copy)]
 pub struct ElevationsAnswer {
     pub elevation: u64,
     pub has_share: bool,

@@ -1,5 +1,8 @@
 // The exact square of the distance of two boundaries, as a fraction of whole numbers. Coordinates are at most 8,192, so that every number here is at most 2^54.
 // None has a sign: a sum of products of either sign is kept as what is added and what is taken away.
+
+#![tactic(auto)]
+
 ghost use Rattle.std.specs.Prelude.{◌≡◌, ◌+◌, ◌*◌, ◌^◌, ◌≤◌, ◌<◌, leb, nat_abs};
 ghost use Rattle.definitions.specs.Spans.{cross};
 ghost use Rattle.definitions.specs.RampGeometry.{intersects};
@@ -14,7 +17,7 @@ use span_geometry::PixelPosition;
 use span_geometry::numbers::{abs_diff, saturating_sub};
 
 // The square of a distance: numerator and denominator.
-#[derive(Drop)]
+#[derive(Clone, Copy)]
 pub struct Square {
     pub num: u64,
     pub den: u64,

@@ -16,7 +16,7 @@ const NUMBERS_PER_PAIR: usize = 3;
 const SPANS_LONG: usize = 1024;
 
 // How many regions and rows of pairs there are.
-#[derive(Drop)]
+#[derive(Clone, Copy)]
 pub struct Graph {
     pub regions: usize,
     pub rows: usize,

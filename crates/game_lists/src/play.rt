@@ -10,7 +10,7 @@ const MAX_REGIONS: usize = 32;
 
 // Number 0, how many rows are kept and the regions of the kept graph; or a refusal's number and place, and 0.
 #[repr(C)]
-#[derive(Drop)]
+#[derive(Clone, Copy)]
 pub struct GameAnswer {
     pub number: u64,
     pub value: u64,

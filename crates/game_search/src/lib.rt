@@ -1,5 +1,8 @@
 // The search backwards from the won places, by sweeps: for each region of the guard and either to move, the set of the runner's regions from which the runner
 // wins. A place that a sweep finds gets one more than the sweep's moves as its rank; the sweeps end when one finds nothing.
+
+#![tactic(auto)]
+
 ghost use Rattle.std.specs.Prelude.{◌≡◌, ◌&&◌, cond, ℕ, ◌/◌, ◌%◌, ◌<◌, eqb, length, get_or, replicate};
 ghost use Rattle.game.specs.Game.{Game};
 ghost use Rattle.game_sets.specs.Words.{Plays};

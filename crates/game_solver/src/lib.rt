@@ -1,4 +1,7 @@
 // Runner and guard over a graph as plain lists: who can force a win from every place of both and either to move, in how few moves, and by which least region.
+
+#![tactic(auto)]
+
 ghost use Rattle.std.specs.Prelude.{◌≡◌, List, ℕ, ◌*◌, ◌≤◌, length};
 ghost use Rattle.definitions.specs.Limits.{numbers_per_pair};
 ghost use Rattle.definitions.specs.Lists.{overwrite};
@@ -18,7 +21,7 @@ const VERDICTS_ROOM: usize = 6144;
 
 // Number 0 and the count of verdicts, or a refusal's number and place.
 #[repr(C)]
-#[derive(Drop)]
+#[derive(Clone, Copy)]
 pub struct Answer {
     pub number: u64,
     pub value: u64,

@@ -1,4 +1,7 @@
 // Verdicts, read from the ranks.
+
+#![tactic(auto)]
+
 ghost use Rattle.std.specs.Prelude.{◌≡◌, cond, [], ◌∷◌, ℕ, suc, ◌+◌, ◌-◌, ◌*◌, ◌≤◌, ◌<◌, eqb, ltb, length};
 ghost use Rattle.std.proofs.lemmas.List.Edits.{sets};
 ghost use Rattle.game.specs.Game.{Game};
@@ -13,7 +16,7 @@ ghost use Rattle.game_verdicts.specs.Forms.{numbers_in};
 use game_sets::sets::has;
 
 // Who wins, 1 for the runner and 2 for the guard; the moves; the region.
-#[derive(Drop)]
+#[derive(Clone, Copy)]
 pub struct Verdict {
     pub winner: u32,
     pub moves: u32,

@@ -1,6 +1,9 @@
 // The geometry of boundaries, from context.rs and ramp_boundaries.rs: points in doubles, endpoints in pixels, how far they are apart, and when one boundary represents another.
 //
 // Every float operation stands in the Rust's order. Within a map no coordinate is above 8,192, so that no hypotenuse is refused.
+
+#![tactic(auto)]
+
 pub mod boundaries;
 pub mod endpoints;
 pub mod numbers;
@@ -10,14 +13,14 @@ pub mod ramp_geometry;
 use span_geometry::PixelPosition;
 
 // A point: pixels, whole or half.
-#[derive(Drop)]
+#[derive(Clone, Copy)]
 pub struct Point {
     pub x: f64,
     pub y: f64,
 }
 
 // The endpoints of a boundary.
-#[derive(Drop)]
+#[derive(Clone, Copy)]
 pub struct Segment {
     pub a: PixelPosition,
     pub b: PixelPosition,

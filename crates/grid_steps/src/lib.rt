@@ -1,4 +1,7 @@
 // Steps of the grid, those of `neighbors` of lib.rs, and the bits of masks of cut steps, numbered as by `edge_bit` of areas.rs.
+
+#![tactic(auto)]
+
 ghost use Rattle.std.specs.Prelude.{◌≡◌, true, ◌≤◌, ◌<◌, length};
 ghost use Rattle.definitions.specs.Grid.{at, is_step};
 ghost use Rattle.grid_steps.specs.Masks.{cut_bit};

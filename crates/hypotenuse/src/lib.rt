@@ -1,4 +1,7 @@
 // The hypotenuse, correctly rounded: the double nearest to the root of the sum of two squares, ties to the even significand. It is worked out from the bits, in bounded time.
+
+#![tactic(auto)]
+
 ghost use Rattle.std.specs.Prelude.{◌≡◌};
 ghost use Rattle.definitions.specs.Hypotenuse.{hypot_number, hypot_value};
 ghost use Rattle.hypotenuse.specs.Contract.{number_of, value_of};
@@ -8,7 +11,7 @@ mod root;
 mod short;
 mod wide;
 
-#[derive(Drop)]
+#[derive(Clone, Copy)]
 pub enum Answer {
     Root(f64),
     Refused,

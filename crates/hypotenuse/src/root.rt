@@ -13,7 +13,7 @@ const MARGIN: u64 = 32;
 const MAX_DISTANCE: u64 = 64;
 
 // The number root * root + rest.
-#[derive(Drop)]
+#[derive(Clone, Copy)]
 pub struct Rooted {
     pub root: u64,
     pub rest: u64,

@@ -52,7 +52,7 @@ pub fn difference(a: [u64; 2], b: [u64; 2]) -> u64
 }
 
 // A number without its lowest digits, and these digits.
-#[derive(Drop)]
+#[derive(Clone, Copy)]
 pub struct Cut {
     pub kept: [u64; 2],
     pub lost: u64,

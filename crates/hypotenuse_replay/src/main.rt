@@ -1,5 +1,8 @@
 // Replays stored answers of the hypotenuse. Each line of standard input is 'X Y NUMBER ROOT': the bits of two doubles, 0 or 13, and the bits of the value. It writes how many of the answers are
 // ours, and before that the numbers of the first lines that have another.
+
+#![tactic(auto)]
+
 ghost use Rattle.std.specs.Prelude.{◌≡◌, ◌+◌, ◌-◌, ◌*◌, ◌<◌, ◌≤◌, ◌^◌, [], length};
 ghost use Rattle.std.specs.Float.{binary64};
 ghost use Rattle.std.specs.Float.Ieee.{of_bits};
@@ -66,7 +69,7 @@ fn double(bits: u64) -> f64
     f64::from_bits(bits)
 }
 
-#[derive(Drop)]
+#[derive(Clone, Copy)]
 struct Stored {
     number: u64,
     root: u64,
@@ -110,7 +113,7 @@ fn is_answer_line(s: &[u8]) -> bool
 }
 
 // How many lines were read, and how many of them have our answer. `used` is the number of bytes up to the last line's end.
-#[derive(Drop)]
+#[derive(Clone, Copy)]
 struct Tally {
     lines: u64,
     answers: u64,
@@ -166,7 +169,7 @@ fn move_down(s: &mut [u8], a: usize, e: usize)
 }
 
 // What is known between two turns of reading: how many bytes of a line that has begun stand at the buffer's start, the counts, and whether more may come.
-#[derive(Drop)]
+#[derive(Clone, Copy)]
 struct Turn {
     held: usize,
     lines: u64,

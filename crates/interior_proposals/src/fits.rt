@@ -22,7 +22,7 @@ const MAX_APPROACH_RADIUS: f64 = 512.0;
 const ELEVATIONS: u32 = 8;
 
 // What the regions of a candidate have to keep to: the elevations of its ramp, and a distance from the centers of its two ports.
-#[derive(Drop)]
+#[derive(Clone, Copy)]
 pub struct Reach {
     pub lower: u64,
     pub upper: u64,

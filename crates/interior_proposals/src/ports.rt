@@ -8,7 +8,7 @@ ghost use Rattle.interior_proposals.specs.Candidates.{Mapped, SomeMapped, AllMap
 use crate::owners::{SEVERAL, touches};
 
 // Exactly two ports, or another number of them.
-#[derive(Drop)]
+#[derive(Clone, Copy)]
 pub enum Ports {
     Other,
     Two(usize, usize),

@@ -1,5 +1,8 @@
 // What pass 2, `collapse_ramp_interiors` of ramp_boundaries.rs, does for a component that is proposed, but for its records: the regions of its interior one by
 // one, and the marks of its edges.
+
+#![tactic(auto)]
+
 ghost use Rattle.std.specs.Prelude.{◌≡◌, false, ◌&&◌, ◌||◌, ℕ, ◌-◌, ◌≤◌, ◌<◌, length, get_or, eqb, List};
 ghost use Rattle.definitions.specs.Limits.{max_entries};
 ghost use Rattle.definitions.specs.Context.{Context};
@@ -18,7 +21,7 @@ const NUMBERS_PER_PAIR: usize = 3;
 const REGIONS_PER_PAIR: usize = 2;
 
 // The component at a boundary, the places of rows among which its regions stand, and its ports. Where nothing was found, there is no place.
-#[derive(Drop)]
+#[derive(Clone, Copy)]
 pub struct Interior {
     pub name: u32,
     pub begin: usize,

@@ -1,1 +1,3 @@
 // Theorems on calls alone, in specs/: no function.
+
+#![tactic(auto)]

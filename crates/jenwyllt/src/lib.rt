@@ -1,4 +1,7 @@
 // The partition, the reader of sheets and the hypotenuse, for programs in C, Rust and other languages. include/jenwyllt.h declares what is here.
+
+#![tactic(auto)]
+
 ghost use Rattle.std.specs.Prelude.{◌≡◌, length};
 ghost use Rattle.definitions.specs.Hypotenuse.{hypot_number, hypot_value};
 ghost use Rattle.definitions.specs.Sheet.{read_verdict};
@@ -12,7 +15,7 @@ use sheet::{Answer as Reading, Header, read_sheet};
 
 // Number 0 and a count, or a refusal's number and place.
 #[repr(C)]
-#[derive(Drop)]
+#[derive(Clone, Copy)]
 pub struct JenwylltAnswer {
     pub number: u64,
     pub value: u64,
@@ -50,7 +53,7 @@ pub extern "C" fn jenwyllt_partition(
 
 // Number 0, place 0 and what the sheet opens with; or a refusal's number and place, and 0 for the rest. The last three are counts of entries.
 #[repr(C)]
-#[derive(Drop)]
+#[derive(Clone, Copy)]
 pub struct JenwylltSheet {
     pub number: u64,
     pub place: u64,
@@ -112,7 +115,7 @@ pub extern "C" fn jenwyllt_read_sheet(
 
 // Number 0 and the root, or number 13, the refusal, and 0.
 #[repr(C)]
-#[derive(Drop)]
+#[derive(Clone, Copy)]
 pub struct Outcome {
     pub number: u64,
     pub value: f64,

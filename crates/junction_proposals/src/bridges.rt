@@ -10,7 +10,7 @@ use crate::unions::anchored_bit;
 use geometry::boundaries::{kind_at, width_at};
 
 // The boundary that would go, and the region beyond it; `bridge_form` of specs/Bridges.antt gives the proposal.
-#[derive(Drop)]
+#[derive(Clone, Copy)]
 pub enum Bridge {
     None,
     At(usize, u32),

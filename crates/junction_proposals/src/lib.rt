@@ -1,4 +1,7 @@
 // The proposals of pass 3, `remove_junction_boundaries` of junctions.rs, over plain lists.
+
+#![tactic(auto)]
+
 pub mod bridges;
 pub mod distances;
 pub mod ports;

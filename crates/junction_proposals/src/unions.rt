@@ -15,7 +15,7 @@ use geometry::boundaries::kind_at;
 use plain_numbers::{wide, wide_byte};
 
 // The first two of the exteriors found, and how many there are, up to three.
-#[derive(Drop)]
+#[derive(Clone, Copy)]
 pub struct Exteriors {
     pub found: usize,
     pub first: u32,

@@ -1,4 +1,7 @@
 // What pass 3, `remove_junction_boundaries` of junctions.rs, asks of the records of a proposal's regions, by value.
+
+#![tactic(auto)]
+
 ghost use Rattle.std.specs.Prelude.{◌≡◌, ◌+◌, ◌-◌, ◌*◌, ◌≤◌, ◌<◌, length};
 ghost use Rattle.definitions.specs.RegionRecord.{accepts, same_dominance};
 ghost use Rattle.definitions.specs.Context.{Context};

@@ -1,5 +1,8 @@
 // `keptlist`: a sheet on standard input, and on standard output what is printed for it. Only the system is called here: which bytes are printed for those that
 // were read is said by the contract of `sheet_answer::keptlist`.
+
+#![tactic(auto)]
+
 use io::{read_full, write_all};
 use libc::{STDIN_FILENO, STDOUT_FILENO};
 use sheet_answer::{input_room, keptlist, output_room};

@@ -1,5 +1,8 @@
 // Replays stored sheets. Standard input is one sheet after the other, each behind its length in three bytes, the lesser first. For each it writes what
 // `keptlist` prints.
+
+#![tactic(auto)]
+
 ghost use Rattle.std.specs.Prelude.{◌≤◌, length};
 
 use io::{read_full, write_all};

@@ -1,4 +1,7 @@
 // Where a span's line passes between the cells of columns, or rows, between the span's ends: the first place past it, from one column to the next by additions.
+
+#![tactic(auto)]
+
 ghost use Rattle.std.specs.Prelude.{◌≡◌, ◌+◌, ◌≤◌, ◌<◌};
 ghost use Rattle.definitions.specs.Limits.{max_side};
 ghost use Rattle.span_geometry.specs.Shapes.{segment_of};
@@ -10,7 +13,7 @@ use span_geometry::strips::Strip;
 use span_geometry::{PIXELS_PER_WALK_CELL, SpanGeometry};
 
 // The first place past the line, and by how much it is: its middle times the run, less the line's total.
-#[derive(Drop)]
+#[derive(Clone, Copy)]
 pub struct Place {
     pub first: u64,
     pub rest: u64,

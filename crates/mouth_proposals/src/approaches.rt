@@ -16,7 +16,7 @@ use context::incidents::is_incident;
 use context::pairs::{FullPair, full_pair};
 
 // The region outside and the approach, of a mouth of one pair or of a star.
-#[derive(Drop)]
+#[derive(Clone, Copy)]
 pub enum Approach {
     None,
     Single(u32, u32),

@@ -12,7 +12,7 @@ use context::pairs::{FullPair, full_pair};
 use geometry::boundaries::{kind_at, ramp_at};
 
 // The smaller region of the ramp's full pair, and the answers for it and for the larger one.
-#[derive(Drop)]
+#[derive(Clone, Copy)]
 pub struct OtherEnds {
     pub lo: u32,
     pub at_lo: bool,

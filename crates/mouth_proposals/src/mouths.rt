@@ -25,14 +25,14 @@ pub const TRIANGULAR: u8 = 1;
 pub const BROAD: u8 = 2;
 
 // The region outside, 0 for none, and the kind; `candidate_form` of specs/Candidates.antt gives the proposal.
-#[derive(Drop)]
+#[derive(Clone, Copy)]
 pub enum Candidate {
     None,
     Mouth(u32, u8),
 }
 
 // The anchored regions of a triangle.
-#[derive(Drop)]
+#[derive(Clone, Copy)]
 pub enum Outers {
     None,
     One(u32),

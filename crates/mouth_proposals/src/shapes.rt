@@ -11,14 +11,14 @@ ghost use Rattle.mouth_proposals.specs.Rows.{pair_form, rows_of, shape_form};
 const NUMBERS_PER_PAIR: usize = 3;
 
 // Two regions, the smaller first.
-#[derive(Drop)]
+#[derive(Clone, Copy)]
 pub struct Pair {
     pub lo: u32,
     pub hi: u32,
 }
 
 // MouthShape of ramp_boundaries.rs: of one pair, or a star about an outer region; `shape_form` of specs/Rows.antt gives the inner ones.
-#[derive(Drop)]
+#[derive(Clone, Copy)]
 pub enum Shape {
     None,
     Single(Pair),

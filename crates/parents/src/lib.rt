@@ -1,5 +1,8 @@
 // Parents of numbers, held in a lent list: a number's parent is no larger, and who is his own parent names a class. Classes are joined two at a time,
 // by the lesser name.
+
+#![tactic(auto)]
+
 ghost use Rattle.std.specs.Prelude.{◌≡◌, ℕ, ◌≤◌, ◌<◌, length};
 ghost use Rattle.parents.specs.Forest.{Forest, Placed, PlacedTwo, Found, Left, joined_name};
 

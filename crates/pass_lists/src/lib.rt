@@ -1,4 +1,7 @@
 // The parts of the call that runs a pass before and behind the pass, over plain lists: what a pass reads of the partitioned map, and the rows of what it keeps.
+
+#![tactic(auto)]
+
 ghost use Rattle.std.specs.Prelude.{◌≡◌, ◌+◌, length};
 ghost use Rattle.definitions.specs.Limits.{max_entries};
 ghost use Rattle.definitions.specs.Grid.{Map};

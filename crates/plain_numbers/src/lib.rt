@@ -1,5 +1,8 @@
 // Unsigned numbers of one type as numbers of another that has room for them, and the lesser and the greater of two. A number of a slice is converted here since a
 // function of its own asks for no proof that the element fits its type. Depends on nothing.
+
+#![tactic(auto)]
+
 ghost use Rattle.std.specs.Prelude.{◌≡◌, ◌<◌, min, max};
 
 // ---- as an index

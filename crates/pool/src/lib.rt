@@ -1,4 +1,7 @@
 // The maps in the tournament pool on a day, each with the accession record that stood in the catalogue then.
+
+#![tactic(auto)]
+
 ghost use Rattle.std.specs.Prelude.{◌≡◌, length};
 ghost use Rattle.std.proofs.Math.Option.{none};
 ghost use Rattle.catalogue.specs.Terms.{terms_refusal};
@@ -19,14 +22,14 @@ const RECORD_SIZE: usize = 4;
 const ENTRY_SIZE: usize = 4;
 
 // How many maps are listed, or a refusal's number and place.
-#[derive(Drop)]
+#[derive(Clone, Copy)]
 pub enum Pool {
     Maps(usize),
     Refused(u64, usize),
 }
 
 // What the checks of the two lists found.
-#[derive(Drop)]
+#[derive(Clone, Copy)]
 enum Checked {
     Fine,
     Unfinished,
@@ -104,7 +107,7 @@ pub fn maps_of_day(
 
 // What an exported call returns: the number, 0 on success, and the count of maps or the place.
 #[repr(C)]
-#[derive(Drop)]
+#[derive(Clone, Copy)]
 pub struct PoolAnswer {
     pub number: u64,
     pub value: u64,

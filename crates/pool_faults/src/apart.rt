@@ -24,7 +24,7 @@ const FEW_TERMS: usize = 1024;
 const MANY_TERMS: usize = 40_960;
 
 // How many terms were taken, or where the first one stands for which there was no room.
-#[derive(Drop)]
+#[derive(Clone, Copy)]
 pub enum Taken {
     All(usize),
     TooMany(usize),

@@ -16,7 +16,7 @@ const MONTH_DAYS: [u64; 12] = [31, 28, 31, 30, 31, 30, 31, 31, 30, 31, 30, 31];
 const DAYS_BEFORE_MONTH: [u64; 12] = [0, 31, 59, 90, 120, 151, 181, 212, 243, 273, 304, 334];
 
 // The number of a date, or that it is a bad one.
-#[derive(Drop)]
+#[derive(Clone, Copy)]
 pub enum Day {
     Number(u64),
     Bad,

@@ -8,14 +8,14 @@ use crate::calendar::{Day, day_of, end_of};
 const TERM_SIZE: usize = 7;
 
 // The days of a term, from the first to the end, which no longer belongs to it; or that a date is bad.
-#[derive(Drop)]
+#[derive(Clone, Copy)]
 pub enum Days {
     FromTo(u64, u64),
     Bad,
 }
 
 // A term that breaks a rule: by a bad date, or because it is empty or overlaps an earlier one.
-#[derive(Drop)]
+#[derive(Clone, Copy)]
 pub enum Fault {
     Nothing,
     BadDate(usize),

@@ -1,4 +1,7 @@
 // What `keptlist` prints, as bytes in a lent list: SPECIFICATION 14 and 15. Every line ends in a newline.
+
+#![tactic(auto)]
+
 ghost use Rattle.std.specs.Prelude.{◌≡◌, [], ◌∷◌, ◌++◌, ◌+◌, ◌*◌, ◌≤◌, length};
 ghost use Rattle.definitions.specs.Limits.{numbers_per_row};
 ghost use Rattle.definitions.specs.Scan.{concat_map};

@@ -1,1 +1,3 @@
 // Text only: the main theorems, restated in one file and proved by citation.
+
+#![tactic(auto)]

@@ -1,4 +1,7 @@
 // A number of a sheet in shortest form, as bytes in a lent list: what every writer of sheets stands on.
+
+#![tactic(auto)]
+
 ghost use Rattle.std.specs.Prelude.{◌≡◌, ◌+◌, ◌%◌, ◌≤◌, ◌<◌, length};
 ghost use Rattle.results.specs.Shortest.{shortest};
 ghost use Rattle.put_shortest.specs.Contract.{Put};

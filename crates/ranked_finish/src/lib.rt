@@ -1,5 +1,8 @@
 // The end of the call that gives the ranked junction list, over plain lists: 21, or the rows kept and the list, once the proposals are counted and listed apart from
 // what was lent.
+
+#![tactic(auto)]
+
 ghost use Rattle.std.specs.Prelude.{◌≡◌, ◌*◌, ◌≤◌, length, take};
 ghost use Rattle.definitions.specs.Lists.{overwrite, zeroed};
 ghost use Rattle.ranked_list.specs.RankedList.{numbers_per_ranked};
@@ -13,7 +16,7 @@ use ranked_rows::NUMBERS_PER_RANKED;
 
 // The number is 0, the value how many rows are kept and there are so many proposals, or they are a refusal's number and place, and 0.
 #[repr(C)]
-#[derive(Drop)]
+#[derive(Clone, Copy)]
 pub struct RankedAnswer {
     pub number: u64,
     pub value: u64,

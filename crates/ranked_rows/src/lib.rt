@@ -1,4 +1,7 @@
 // The rows of the ranked junction list, from the proposals of pass 3 that the records of their regions allow, over plain lists.
+
+#![tactic(auto)]
+
 ghost use Rattle.std.specs.Prelude.{◌≡◌, ◌&&◌, cond, [], ◌∷◌, ◌+◌, ◌*◌, ◌≤◌, ◌<◌, length, get_or, eqb};
 ghost use Rattle.std.proofs.lemmas.List.Edits.{sets};
 ghost use Rattle.definitions.specs.Scan.{any_below_lem, bit};

@@ -1,5 +1,8 @@
 // For programs that replay stored calls: how a case is read, what lent lists hold before the call, and what is written of them after it. Lists of at most 4,096
 // entries.
+
+#![tactic(auto)]
+
 ghost use Rattle.std.specs.Prelude.{◌≤◌, ◌<◌, ◌≡◌, length, take};
 ghost use Rattle.replay_lists.specs.Contract.{held_at, HeldBefore, Copied, Changed, Zeros};
 
@@ -81,7 +84,7 @@ fn zeros(list: &[u64]) -> usize
 // ---- writing. What the system makes of it no contract can say: a function answers how many entries it wrote.
 
 // How many entries of each list were written.
-#[derive(Drop)]
+#[derive(Clone, Copy)]
 pub struct Written {
     pub labels: usize,
     pub tallies: usize,

@@ -1,1 +1,3 @@
 // Definitions and theorems only: see specs/.
+
+#![tactic(auto)]

@@ -1,4 +1,7 @@
 // The year's figures (document 02, request 13) by value: what the rows of an accepted run add, a report with a run more, and the mean of a pass.
+
+#![tactic(auto)]
+
 pub mod call_figures;
 pub mod row_lengths;
 pub mod sums;
@@ -13,7 +16,7 @@ pub const REFUSAL_NUMBERS: usize = 25;
 
 // Of accepted runs of a pass: how many they are, and of these the boundaries in, kept and removed.
 #[repr(C)]
-#[derive(Drop)]
+#[derive(Clone, Copy)]
 pub struct Figures {
     pub accepted: u64,
     pub boundaries: u64,
@@ -23,7 +26,7 @@ pub struct Figures {
 
 // All runs, refused ones by their number, the figures of each pass, and the total of squared lengths of kept rows in square pixels.
 #[repr(C)]
-#[derive(Drop)]
+#[derive(Clone, Copy)]
 pub struct Report {
     pub runs: u64,
     pub refused: [u64; REFUSAL_NUMBERS],
@@ -35,7 +38,7 @@ pub struct Report {
 
 // What an operation answers that adds a run: number 0 and the count of rows kept, or the refusal's number and place; and the report.
 #[repr(C)]
-#[derive(Drop)]
+#[derive(Clone, Copy)]
 pub struct Reported {
     pub number: u64,
     pub value: u64,
@@ -74,7 +77,7 @@ pub extern "C" fn report_figures_empty_report() -> Report
 
 // Quotient and remainder are 0 where there is no mean.
 #[repr(C)]
-#[derive(Drop)]
+#[derive(Clone, Copy)]
 pub struct Mean {
     pub has_mean: bool,
     pub quotient: u64,

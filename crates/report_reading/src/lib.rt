@@ -1,5 +1,8 @@
 // A sheet that is read for a report (document 02, request 13), of any size or with the limits of `keptlist`. One of any size that is refused is a run that was
 // refused, and is added; the run of one that was read is the call, which is yet to be made.
+
+#![tactic(auto)]
+
 ghost use Rattle.std.specs.Prelude.{◌≡◌, length};
 ghost use Rattle.definitions.specs.Sheet.{read_verdict};
 ghost use Rattle.report.specs.Report.{sum64, added_by};
@@ -19,7 +22,7 @@ const CELLS_MOST: u64 = 4096;
 
 // Number 0, place 0 and what the sheet opens with; or a refusal's number and place, and 0 for the rest. The last three before the report are counts of entries.
 #[repr(C)]
-#[derive(Drop)]
+#[derive(Clone, Copy)]
 pub struct Opened {
     pub number: u64,
     pub place: u64,

@@ -1,5 +1,8 @@
 // A sheet that is read and run as `keptlist` does it, and added to a report (document 02, request 13). The lists that are lent to the call are local arrays of
 // zeros.
+
+#![tactic(auto)]
+
 ghost use Rattle.definitions.specs.Sheet.{well_formed, refused};
 ghost use Rattle.sheet_answer.specs.Contract.{sheet_from, sheet_in, SheetHeld};
 ghost use Rattle.report.specs.Runs.{sheet_reading};

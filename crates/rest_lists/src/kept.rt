@@ -19,7 +19,7 @@ use checks::limits::{NUMBERS_PER_BOUNDARY, NUMBERS_PER_SPAN};
 const NUMBERS_PER_PAIR: usize = 3;
 
 // How many boundaries are kept, and the regions and rows of pairs of their partition.
-#[derive(Drop)]
+#[derive(Clone, Copy)]
 pub struct Standing {
     pub kept: usize,
     pub regions: usize,

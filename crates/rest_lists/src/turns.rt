@@ -4,7 +4,7 @@ ghost use Rattle.std.specs.Prelude.{◌≡◌, cond, ◌+◌, ◌≤◌, eqb};
 ghost use Rattle.rest_lists.specs.Turns.{turn_of, quiet_after, turn_after};
 
 // The next pass, how many in a row before it removed none, and the rounds that are over.
-#[derive(Drop)]
+#[derive(Clone, Copy)]
 pub struct Turn {
     pub pass: u64,
     pub quiet: u64,

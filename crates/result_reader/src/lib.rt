@@ -1,6 +1,9 @@
 // The reader of result sheets: what the bytes of a sheet of kind 2 hold, or why they are refused. One pass judges all of the bytes, and a breach of a rule is
 // remembered while it goes on, since a 14 behind it comes first. The lists are filled once all four are known to have room, so that a refusal leaves them
 // as they were. Counts are of entries, and none is multiplied before its list is known to have room.
+
+#![tactic(auto)]
+
 ghost use Rattle.std.specs.Prelude.{◌≡◌, true, false, [], ℕ, ◌*◌, ◌≤◌, length, drop};
 ghost use Rattle.definitions.specs.Limits.{tallies_per_span, numbers_per_pair, numbers_per_row};
 ghost use Rattle.definitions.specs.Lists.{overwrite};
@@ -26,14 +29,14 @@ const MOST: u64 = 0xffff_ffff_ffff_ffff;
 // ---- labels
 
 // How many numbers are started along the labels; or the place of the first label out of turn.
-#[derive(Drop)]
+#[derive(Clone, Copy)]
 pub enum Turned {
     Started(u64),
     OutAt(usize),
 }
 
 // The offset behind the labels and how far they are in turn; or the place where the sheet is refused 14.
-#[derive(Drop)]
+#[derive(Clone, Copy)]
 pub enum TurnsRead {
     Turns(usize, Turned),
     Fault(usize),
@@ -81,7 +84,7 @@ fn walk_labels(bytes: &[u8], at: usize, count: u64, regions: u64) -> TurnsRead
 // ---- pairs and rows
 
 // The numbers of a row in the order in which they are compared: endpoints, then the number; or the three of a pair row, and 0 twice.
-#[derive(Drop)]
+#[derive(Clone, Copy)]
 pub struct Key {
     a: u64,
     b: u64,
@@ -91,7 +94,7 @@ pub struct Key {
 }
 
 // Two numbers and the offset behind them; or the place where the sheet is refused 14.
-#[derive(Drop)]
+#[derive(Clone, Copy)]
 pub enum TwoRead {
     Two(u64, u64, usize),
     Fault(usize),
@@ -111,7 +114,7 @@ fn two(bytes: &[u8], at: usize) -> TwoRead
 }
 
 // The key of an entry and the offset behind it; or the place where the sheet is refused 14.
-#[derive(Drop)]
+#[derive(Clone, Copy)]
 pub enum KeyRead {
     Entry(Key, usize),
     Fault(usize),
@@ -176,7 +179,7 @@ fn ascends(rows: bool, last: Key, key: Key) -> bool
 }
 
 // No entry yet; or the key of the last one, all in order; or the place of the first that is not above the one before it.
-#[derive(Drop)]
+#[derive(Clone, Copy)]
 pub enum Ascent {
     Empty,
     Last(Key),
@@ -211,7 +214,7 @@ fn key_at(rows: bool, bytes: &[u8], at: usize) -> KeyRead
 }
 
 // The offset behind the entries and how far they ascend; or the place where the sheet is refused 14.
-#[derive(Drop)]
+#[derive(Clone, Copy)]
 pub enum AscentRead {
     Climbed(usize, Ascent),
     Fault(usize),
@@ -243,7 +246,7 @@ fn walk_keys(rows: bool, bytes: &[u8], at: usize, count: u64) -> AscentRead
 // ---- the lists
 
 // The first place that breaks a rule, if there is one.
-#[derive(Drop)]
+#[derive(Clone, Copy)]
 pub enum Breach {
     Nowhere,
     At(usize),
@@ -285,14 +288,14 @@ fn first_breach(a: Breach, b: Breach) -> Breach
 }
 
 // Where the numbers of a list stand, and how many entries there are.
-#[derive(Drop)]
+#[derive(Clone, Copy)]
 pub struct Part {
     first: usize,
     count: usize,
 }
 
 // A list, the offset behind it and its first breach; or the place where the sheet is refused 14.
-#[derive(Drop)]
+#[derive(Clone, Copy)]
 pub enum ListRead {
     List(Part, usize, Breach),
     Fault(usize),
@@ -375,7 +378,7 @@ fn keys_list(rows: bool, bytes: &[u8], at: usize) -> ListRead
 // ---- the sheet
 
 // The region count, its place, and the offset behind it; or the place where the sheet is refused 14.
-#[derive(Drop)]
+#[derive(Clone, Copy)]
 pub enum OpeningRead {
     Opening(u64, usize, usize),
     Fault(usize),
@@ -403,7 +406,7 @@ fn opening(bytes: &[u8]) -> OpeningRead
 }
 
 // Two lists, the offset behind them and their first breach; or the place where the sheet is refused 14.
-#[derive(Drop)]
+#[derive(Clone, Copy)]
 pub enum ListsRead {
     Lists(Part, Part, usize, Breach),
     Fault(usize),
@@ -444,7 +447,7 @@ fn back(bytes: &[u8], at: usize) -> ListsRead
 }
 
 // What was found by judging: the region count, and where the lists stand.
-#[derive(Drop)]
+#[derive(Clone, Copy)]
 pub struct Plan {
     regions: u64,
     labels: Part,
@@ -454,7 +457,7 @@ pub struct Plan {
 }
 
 // A plan; or the refusal.
-#[derive(Drop)]
+#[derive(Clone, Copy)]
 pub enum ResultRead {
     Sound(Plan),
     Refused(u64, usize),
@@ -560,7 +563,7 @@ fn fill(
 
 // Number 0, place 0, the region count and four counts of entries; or a refusal's number and place, and 0 for the rest.
 #[repr(C)]
-#[derive(Drop)]
+#[derive(Clone, Copy)]
 pub struct ResultAnswer {
     pub number: u64,
     pub place: u64,

@@ -1,5 +1,8 @@
 // The writer of result sheets: what a run found as bytes in shortest form, or why it is not written. All is judged before a byte is written, so that a
 // refusal leaves the lent list as it was.
+
+#![tactic(auto)]
+
 ghost use Rattle.std.specs.Prelude.{◌≡◌, ◌&&◌, ◌||◌, ◌∷◌, ◌+◌, ◌-◌, ◌*◌, ◌/◌, ◌%◌, ◌≤◌, ◌<◌, leb, ltb, eqb, length};
 ghost use Rattle.definitions.specs.Limits.{tallies_per_span, numbers_per_pair, numbers_per_row};
 ghost use Rattle.definitions.specs.Refusals.{unless};
@@ -16,7 +19,7 @@ use put_shortest::put_shortest;
 // ---- the rules
 
 // How many numbers are started once a label is met; or that it is out of turn.
-#[derive(Drop)]
+#[derive(Clone, Copy)]
 pub enum Turn {
     Started(u64),
     Out,
@@ -176,7 +179,7 @@ pub fn group_count(n: u64) -> usize
 }
 
 // How many bytes of a lent list are left; or that it is too short. Sizes are taken from the room, since their sum may be beyond 64 bits.
-#[derive(Drop)]
+#[derive(Clone, Copy)]
 pub enum Room {
     Left(usize),
     Short,
@@ -300,7 +303,7 @@ fn put_result(
 
 // Number 0 and how many bytes were written, or a refusal's number and place.
 #[repr(C)]
-#[derive(Drop)]
+#[derive(Clone, Copy)]
 pub struct Answer {
     pub number: u64,
     pub value: u64,

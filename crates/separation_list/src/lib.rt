@@ -1,5 +1,8 @@
 // The list of separations: for each two boundaries their numbers, the bits of their separation, which is the one that pass 1 calls, and the exact square of
 // their distance.
+
+#![tactic(auto)]
+
 ghost use Rattle.std.specs.Prelude.{◌≡◌, [], ◌∷◌, ◌+◌, ◌*◌, ◌≤◌, ◌<◌, leb, length};
 ghost use Rattle.std.proofs.lemmas.List.Edits.{sets};
 ghost use Rattle.definitions.specs.Limits.{max_entries};
@@ -82,7 +85,7 @@ fn put_rows(boundaries: &[u64], output: &mut [u64], n: usize)
 
 // Number 0 and the count of rows, or a refusal's number and place.
 #[repr(C)]
-#[derive(Drop)]
+#[derive(Clone, Copy)]
 pub struct Answer {
     pub number: u64,
     pub value: u64,

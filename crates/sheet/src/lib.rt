@@ -1,5 +1,8 @@
 // The reader of a sheet of kind 1 or 3: what the bytes hold, or why they are refused. All bytes are judged before a list is filled, so a refusal leaves
 // every lent list as it was. A sheet of kind 3 holds no spans: they are filled from its boundaries.
+
+#![tactic(auto)]
+
 ghost use Rattle.std.specs.Prelude.{◌≡◌, ◌+◌, ◌-◌, ◌*◌, ◌≤◌, ◌<◌, ◌&&◌, cond, leb, ltb, length, drop};
 ghost use Rattle.std.proofs.lemmas.List.Edits.{sets};
 ghost use Rattle.definitions.specs.SheetNumber as grammar;
@@ -17,7 +20,7 @@ use plain_numbers::number_of_byte;
 // ---- one number
 
 // What stands at an offset: a number, with the offset behind it; or one that is too long or padded; or an early end.
-#[derive(Drop)]
+#[derive(Clone, Copy)]
 pub enum NumberRead {
     Value(u64, usize),
     Bad,
@@ -90,7 +93,7 @@ const MOST: u64 = 0xffff_ffff_ffff_ffff;
 pub const CELL_MOST: u64 = 255;
 
 // A number, with the offset behind it; or the place where the sheet is refused 14.
-#[derive(Drop)]
+#[derive(Clone, Copy)]
 pub enum ItemRead {
     Item(u64, usize),
     Fault(usize),
@@ -115,7 +118,7 @@ pub fn item(bytes: &[u8], at: usize, most: u64) -> ItemRead
 }
 
 // The offset behind some numbers; or the place where the sheet is refused 14.
-#[derive(Drop)]
+#[derive(Clone, Copy)]
 pub enum Judged {
     Behind(usize),
     Faulty(usize),
@@ -143,7 +146,7 @@ pub fn judge(bytes: &[u8], at: usize, count: usize, most: u64) -> Judged
 }
 
 // A number of one byte or of two, with the offset behind it; or that the number there is longer.
-#[derive(Drop)]
+#[derive(Clone, Copy)]
 enum ShortRead {
     Number(u64, usize),
     Longer,
@@ -226,7 +229,7 @@ fn is_map_kind(kind: u64) -> bool
 }
 
 // The kind, the pass and the offset behind them; or the place where the sheet is refused 14.
-#[derive(Drop)]
+#[derive(Clone, Copy)]
 enum OpeningRead {
     Opened(u64, u64, usize),
     Fault(usize),
@@ -272,7 +275,7 @@ fn area_allowed(width: u64, height: u64, limit: u64) -> bool
 }
 
 // The width, the height and the offset behind them; or the refusal, its number and its place.
-#[derive(Drop)]
+#[derive(Clone, Copy)]
 enum SidesRead {
     Sides(usize, usize, usize),
     Refused(u32, usize),
@@ -298,14 +301,14 @@ fn sides(bytes: &[u8], at: usize, limit: u64) -> SidesRead
 }
 
 // Where the numbers of a list stand, and how many there are.
-#[derive(Drop)]
+#[derive(Clone, Copy)]
 pub struct Part {
     pub first: usize,
     pub length: usize,
 }
 
 // A list and the offset behind it; or the refusal.
-#[derive(Drop)]
+#[derive(Clone, Copy)]
 enum EntriesRead {
     Entries(Part, usize),
     Refused(u32, usize),
@@ -359,7 +362,7 @@ fn spans_held(bytes: &[u8], at: usize, own: bool) -> EntriesRead
 }
 
 // `front` is where the cells end and the spans' count begins, `back` where the spans end.
-#[derive(Drop)]
+#[derive(Clone, Copy)]
 pub struct Parts {
     pub cells: Part,
     pub spans: Part,
@@ -370,7 +373,7 @@ pub struct Parts {
 }
 
 // Where the lists stand; or the refusal.
-#[derive(Drop)]
+#[derive(Clone, Copy)]
 enum ListsRead {
     Lists(Parts),
     Refused(u32, usize),
@@ -415,7 +418,7 @@ fn lists(bytes: &[u8], at: usize, area: usize, own: bool) -> ListsRead
 // ---- the sheet
 
 // What was found by judging: the kind, the pass, both sides, and where the cells and the lists stand.
-#[derive(Drop)]
+#[derive(Clone, Copy)]
 pub struct Plan {
     pub kind: u64,
     pub pass: u64,
@@ -425,7 +428,7 @@ pub struct Plan {
 }
 
 // A plan; or the refusal.
-#[derive(Drop)]
+#[derive(Clone, Copy)]
 pub enum SheetRead {
     Sound(Plan),
     Refused(u32, usize),
@@ -460,7 +463,7 @@ pub fn judge_sheet(bytes: &[u8], limit: u64) -> SheetRead
 
 // ---- reading
 
-#[derive(Drop)]
+#[derive(Clone, Copy)]
 pub struct Header {
     pub pass: u64,
     pub width: usize,
@@ -471,7 +474,7 @@ pub struct Header {
 }
 
 // The sheet was read into the lists; or the refusal, its number and its place, with the lists as they were.
-#[derive(Drop)]
+#[derive(Clone, Copy)]
 pub enum Answer {
     Read(Header),
     Refused(u32, usize),

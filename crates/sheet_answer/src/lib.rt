@@ -1,5 +1,8 @@
 // From the bytes of a sheet to what `keptlist` prints: what is read and answered before the call that runs a pass, what is printed of its answer, and the
 // whole. The lists that are lent to the call are local arrays of zeros.
+
+#![tactic(auto)]
+
 ghost use Rattle.std.specs.Prelude.{◌≡◌, ◌≤◌, length};
 ghost use Rattle.definitions.specs.Sheet.{well_formed};
 ghost use Rattle.definitions.specs.Printed as printing;
@@ -18,7 +21,7 @@ const CELLS_MOST: u64 = 4096;
 pub const OUTPUT_ROOM: usize = 26_944;
 
 // A refusal was printed, of so many bytes; or the lists hold the sheet.
-#[derive(Drop)]
+#[derive(Clone, Copy)]
 enum Before {
     Printed(usize),
     Ready(Header),

@@ -1,5 +1,8 @@
 // The converter of sheets of kind 1 to kind 3: bytes to bytes, or why a sheet is not converted. All is judged before a byte is written, so that a refusal
 // leaves the lent list as it was. In shortest form the new sheet is the old one with kind 3 in front and the spans cut out.
+
+#![tactic(auto)]
+
 ghost use Rattle.std.specs.Prelude.{◌≡◌, ◌+◌, ◌-◌, ◌≤◌, length};
 ghost use Rattle.definitions.specs.Limits.{max_side};
 ghost use Rattle.definitions.specs.SheetNumber as grammar;

@@ -1,5 +1,8 @@
 // The writer of sheets of kind 3: a map as bytes in shortest form, or why it is not written. All is judged before a byte is written, so that a refusal
 // leaves the lent list as it was.
+
+#![tactic(auto)]
+
 ghost use Rattle.std.specs.Prelude.{◌≡◌, ◌&&◌, ◌+◌, ◌/◌, ◌%◌, ◌≤◌, leb, eqb, length};
 ghost use Rattle.definitions.specs.Limits.{max_entries, numbers_per_boundary, numbers_per_anchor};
 ghost use Rattle.definitions.specs.Scan.{concat_map};

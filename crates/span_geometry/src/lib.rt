@@ -2,6 +2,9 @@
 //
 // Coordinates are at most 8,192 pixels and cells below 1,024, so that every number here is at most 2^27 in size and nothing wraps.
 // Tests are joined by & and |, which evaluate both sides, so that an answer is one expression; only `cuts` and `segments_intersect` stop early.
+
+#![tactic(auto)]
+
 pub mod numbers;
 pub mod segments;
 pub mod strips;
@@ -19,7 +22,7 @@ use segments::{cell_center, cross, segments_intersect};
 pub const PIXELS_PER_WALK_CELL: u64 = 8;
 
 // A point in pixels.
-#[derive(Drop)]
+#[derive(Clone, Copy)]
 pub struct PixelPosition {
     pub x: u64,
     pub y: u64,
@@ -33,7 +36,7 @@ pub fn precedes(p: PixelPosition, q: PixelPosition) -> bool
 }
 
 // A span: its endpoints, the lesser first, and the least and greatest of their coordinates.
-#[derive(Drop)]
+#[derive(Clone, Copy)]
 pub struct SpanGeometry {
     pub a: PixelPosition,
     pub b: PixelPosition,

@@ -16,7 +16,7 @@ const CANDIDATE_MARGIN_PIXELS: u64 = 16;
 const CANDIDATE_MINOR_RADIUS_CELLS: u64 = 3;
 
 // first, .., last; nothing where last is below first.
-#[derive(Drop)]
+#[derive(Clone, Copy)]
 pub struct RangeInclusive {
     pub first: u64,
     pub last: u64,
@@ -47,7 +47,7 @@ pub fn candidate_minor_range(reference: u64, limit: u64) -> RangeInclusive
 }
 
 // A span along its major axis: from (major0, minor0) to (major1, minor1). The major coordinate is x where columns is true, else y.
-#[derive(Drop)]
+#[derive(Clone, Copy)]
 pub struct Strip {
     pub columns: bool,
     pub major0: u64,

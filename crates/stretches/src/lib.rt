@@ -1,5 +1,8 @@
 // Along the stretches of a map: at the first cell of a stretch the queue has where it ends, and all its cells have one label. The record of a region with the cells
 // of a stretch added.
+
+#![tactic(auto)]
+
 ghost use Rattle.std.specs.Prelude.{◌≡◌, ℕ, ◌<◌, length};
 ghost use Rattle.definitions.specs.Grid.{Map};
 ghost use Rattle.definitions.specs.Partition.{labels};
@@ -10,7 +13,7 @@ use context::Region;
 use plain_numbers::wide;
 
 // Where a stretch ends, and the label of its cells: 0 where it is of no region.
-#[derive(Drop)]
+#[derive(Clone, Copy)]
 pub struct Stretch {
     pub end: usize,
     pub label: usize,

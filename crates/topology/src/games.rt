@@ -13,7 +13,7 @@ use game_lists::play::{GameAnswer, play, refused};
 use pass_lists::finish;
 
 // How many rows are kept, and the regions and rows of pairs of the kept graph.
-#[derive(Drop)]
+#[derive(Clone, Copy)]
 pub struct Second {
     pub kept: usize,
     pub regions: usize,

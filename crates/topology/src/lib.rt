@@ -1,4 +1,7 @@
 // The call that runs a pass. The modules hold the functions that see the lent slice of region records; all other work on records is done on them by value.
+
+#![tactic(auto)]
+
 pub mod entries;
 pub mod games;
 pub mod interior_pass;
@@ -26,14 +29,14 @@ use records::fill;
 
 // The number is 0 and the value how many rows are kept, or they are a refusal's number and place.
 #[repr(C)]
-#[derive(Drop)]
+#[derive(Clone, Copy)]
 pub struct TopologyAnswer {
     pub number: u64,
     pub value: u64,
 }
 
 // The same by cases.
-#[derive(Drop)]
+#[derive(Clone, Copy)]
 pub enum Answer {
     Kept(usize),
     Refused(u64, usize),

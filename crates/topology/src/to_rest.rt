@@ -18,7 +18,7 @@ use rest_lists::turns::{first_turn, next_turn, rounds_of};
 
 // The number is 0, the value how many rows are kept and the rounds how many were run; or they are a refusal's number and place, and 0.
 #[repr(C)]
-#[derive(Drop)]
+#[derive(Clone, Copy)]
 pub struct RestAnswer {
     pub number: u64,
     pub value: u64,

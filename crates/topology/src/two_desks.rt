@@ -20,7 +20,7 @@ use pass_lists::finish;
 
 // The answer to each desk.
 #[repr(C)]
-#[derive(Drop)]
+#[derive(Clone, Copy)]
 pub struct DesksAnswer {
     pub route: TopologyAnswer,
     pub coaching: TopologyAnswer,
