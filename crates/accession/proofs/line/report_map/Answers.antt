@@ -1,0 +1,21 @@
+-- `accession::line::report_map` meets its contract. Assumes nothing.
+use native.Mathlib.Omega.{arith}
+use mathlib.Core.Path.{refl}
+use lib.ListN.{length}
+use Rattle.accession.proofs.Reporting.{no_room, has_room}
+use Rattle.accession.proofs.line.report_map.Goals as goal
+
+pub returns-then-output-count : goal.returns-then-output-count
+returns-then-output-count c =
+    (no_room c.args.records.now c.args.number (length c.args.output.now) c.count_of_map-count.ensures c.if-output-count.true, refl)
+
+pub put_line-requires : goal.put_line-requires
+put_line-requires c =
+    omega (arith, c.if-output-count.false, c.count_of_map-count.ensures)
+
+pub returns : goal.returns
+returns c =
+    (
+      has_room c.args.records.now c.args.number (length c.args.output.now) c.count_of_map-count.ensures c.if-output-count.false,
+      c.put_line.ensures,
+    )

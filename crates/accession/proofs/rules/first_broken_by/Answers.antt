@@ -1,0 +1,78 @@
+-- `accession::rules::first_broken_by` meets its contract. The loop's invariant (`Checked`): the first i records keep the rules, and the table holds some of them.
+-- The measure is how many are left. Assumes nothing.
+use Prim.Native.Nat.{ℕ}
+use native.Mathlib.Omega.{arith}
+use mathlib.Core.Path.{◌≡◌, sym, ◌∙◌}
+use mathlib.Core.Bool.{◌&&◌}
+use mathlib.Core.List.{List}
+use borrow.Author.Rules.{rules}
+use Rattle.laws.specs.ListLaws.FirstBelow.{none_faulty_more, none_faulty_end, first_faulty_lem}
+use Rattle.catalogue.specs.Accession.{accession_count, keeps_rules, accessions_fault}
+use Rattle.accession.proofs.Checking.{checked_none, previous-within, test-is}
+use Rattle.accession.proofs.rules.first_broken_by.Goals as goal
+
+pub loop-i-init : goal.loop-i-init
+loop-i-init c =
+    let = c in
+    checked_none entry.args.records.now entry.args.last.now entry.args.links.now entry.requires.0.0 entry.requires.1
+
+pub last_of_map-k-requires : goal.last_of_map-k-requires
+last_of_map-k-requires c =
+    let = c in
+    let inv = at-loop.loop.invariant in
+    ((search rules, inv.behind), inv.holds)
+
+pub goes_on-requires : goal.goes_on-requires
+goes_on-requires c =
+    let list : List ℕ = c.args.records.now in
+    let = c in
+    let lent = at-record.before.before in
+    let = lent.before.before in
+    (search rules, previous-within (list at-loop) at-loop.loop.i at-record.last-of-map.ensures)
+
+pub shape_of-last-then-not-own_ascends-goes_on : goal.shape_of-last-then-not-own_ascends-goes_on
+shape_of-last-then-not-own_ascends-goes_on c = c.loop-i.inv.same-slots
+
+pub shape_of-links-then-not-own_ascends-goes_on : goal.shape_of-links-then-not-own_ascends-goes_on
+shape_of-links-then-not-own_ascends-goes_on c = c.loop-i.inv.same-room
+
+pub returns-then-not-own_ascends-goes_on : goal.returns-then-not-own_ascends-goes_on
+unfolding accessions_fault
+returns-then-not-own_ascends-goes_on c =
+    let list : List ℕ = c.args.records.now in
+    let test : (c.own_ascends.result && c.goes_on.result) ≡ keeps_rules list c.loop-i.i = test-is list c.loop-i.i c.last_of_map-k.result c.loop-i.inv.kept-below c.last_of_map-k.ensures
+    c.own_ascends.ensures c.goes_on.ensures in
+    sym (first_faulty_lem (keeps_rules list) (accession_count list) c.loop-i.i (search rules) c.loop-i.inv.kept-below test c.if-not-own_ascends-goes_on.true-raw)
+
+pub hold-held-requires : goal.hold-held-requires
+hold-held-requires c =
+    let inv = c.loop-i.inv in
+    ((omega (arith, inv.behind), omega (arith, inv.same-room, c.pre.0.1)), inv.holds)
+
+pub loop-i-preserved : goal.loop-i-preserved
+loop-i-preserved c =
+    let list : List ℕ = c.args.records.now in
+    let test : (c.own_ascends.result && c.goes_on.result) ≡ keeps_rules list c.loop-i.i = test-is list c.loop-i.i c.last_of_map-k.result c.loop-i.inv.kept-below c.last_of_map-k.ensures
+    c.own_ascends.ensures c.goes_on.ensures in
+    let took = c.hold-held.ensures in
+    let inv = c.loop-i.inv in
+    record {
+      within = search rules;
+      behind = omega (arith, took.at_most, inv.behind);
+      same_slots = took.same-slots ∙ inv.same-slots;
+      same_room = took.same-room ∙ inv.same-room;
+      holds = took.holds;
+      kept_below_lem = none_faulty_more (keeps_rules list) c.loop-i.i inv.kept-below test c.if-not-own_ascends-goes_on.false-raw;
+    }
+
+pub shape_of-last : goal.shape_of-last
+shape_of-last c = c.loop-i.invariant.same-slots
+
+pub shape_of-links : goal.shape_of-links
+shape_of-links c = c.loop-i.invariant.same-room
+
+pub returns : goal.returns
+unfolding accessions_fault
+returns c =
+    let list : List ℕ = c.args.records.now in
+    sym (none_faulty_end (keeps_rules list) (accession_count list) c.loop-i.i c.loop-i.invariant.within (search rules) c.loop-i.invariant.kept-below)

@@ -1,0 +1,7 @@
+-- `accession::rules::first_broken_of_many` meets its contract. Assumes nothing.
+use borrow.Author.Rules.{rules}
+use Rattle.accession.proofs.Holding.{replicate_at}
+use Rattle.accession.proofs.rules.first_broken_of_many.Goals as goal
+
+pub first_broken_by-requires : goal.first_broken_by-requires
+first_broken_by-requires c = (search rules, replicate_at 0 32749)

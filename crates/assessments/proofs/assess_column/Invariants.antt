@@ -1,0 +1,16 @@
+-- `assessments::assess_column` meets its contract. The loop's invariant: the cut steps of the column's cells from the first to the one before m are assessed
+-- (`Walking`). Assumes nothing.
+use Prim.Native.Nat.{◌+◌, ◌-◌}
+use Rattle.span_geometry.specs.Shapes.{segment_of}
+use Rattle.grid_steps.specs.Walk.{grid_of}
+use Rattle.cut_steps.specs.Columns.{cut_across}
+use Rattle.assessments.specs.Assess.{max_cell_edges}
+use Rattle.assessments.proofs.Turns.{Walking}
+use Rattle.assessments.proofs.assess_column.Given as goal
+
+abbrev pub invariant-loop-m : goal.invariant-loop-m
+invariant-loop-m l =
+    Walking l.labels l.first l.k (cut_across (grid_of l.width l.height l.cells) (segment_of l.span) l.last l.columns) max_cell_edges l.initial.m l.initial.pairs l.initial.a l.g l.a l.pairs l.m
+
+abbrev pub decreases-loop-m : goal.decreases-loop-m
+decreases-loop-m l = l.initial.pairs + 1 - l.m

@@ -1,0 +1,13 @@
+-- `boundary_blocks::blocks::copy_block` meets its contract. The loop's invariant: the first j numbers of the block are stored, and nothing else. Assumes nothing.
+use Prim.Native.Nat.{◌-◌, ◌≤◌}
+use mathlib.Core.Path.{◌≡◌}
+use lib.ListN.{length, take}
+use lib.Seq.{sets}
+use Rattle.boundary_blocks.specs.Blocks.{part}
+use Rattle.boundary_blocks.proofs.blocks.copy_block.Given as goal
+
+abbrev pub invariant-loop-j : goal.invariant-loop-j
+invariant-loop-j l = (l.j ≤ l.initial.to) × (length l.to ≡ length l.place) × (l.to ≡ sets l.place l.size (take l.j (part l.at l.initial.to l.from)))
+
+abbrev pub decreases-loop-j : goal.decreases-loop-j
+decreases-loop-j l = l.initial.to - l.j

@@ -1,0 +1,15 @@
+-- `boundary_blocks::blocks::keep_blocks` meets its contract. The loop's invariant: the blocks that are left of the first k stand at the front, and all else is as it was. The measure is
+-- how many are still to be read. Assumes nothing.
+use Prim.Native.Nat.{◌-◌, ◌≤◌}
+use mathlib.Core.Path.{◌≡◌}
+use lib.ListN.{length}
+use Rattle.definitions.specs.Lists.{overwrite}
+use Rattle.boundary_blocks.specs.Blocks.{left_blocks, left_count}
+use Rattle.boundary_blocks.proofs.blocks.keep_blocks.Given as goal
+
+abbrev pub invariant-loop-k : goal.invariant-loop-k
+invariant-loop-k l =
+    (l.k ≤ l.initial.list) × (length l.list ≡ length l.size) × (l.list ≡ overwrite (left_blocks l.count l.removed l.size l.k) l.size) × (l.kept ≡ left_count l.count l.k)
+
+abbrev pub decreases-loop-k : goal.decreases-loop-k
+decreases-loop-k l = l.initial.list - l.k

@@ -1,0 +1,44 @@
+-- `boundary_blocks::start::put_numbers` meets its contract. The loop's invariant: the numbers of the first k rows are stored, and nothing else. Assumes nothing.
+use Prim.Native.Nat.{◌*◌}
+use native.Mathlib.Omega.{arith}
+use mathlib.Core.Path.{◌≡◌, refl, sym, ap, ◌∙◌}
+use lib.Seq.{sets}
+use borrow.Author.Rules.{rules}
+use Rattle.definitions.specs.Scan.{concat_map}
+use Rattle.definitions.specs.Lists.{overwrite}
+use Rattle.laws.specs.ListLaws.FlatRows.{rows_in_lem}
+use mathlib.Core.List.{[], ◌∷◌}
+use Rattle.boundary_blocks.specs.Blocks.{part}
+use Rattle.boundary_blocks.specs.Start.{numbers_of}
+use Rattle.boundary_blocks.proofs.Placing.{row_more, number_block_lem}
+use Rattle.boundary_blocks.proofs.start.put_numbers.Goals as goal
+
+pub loop-k-init : goal.loop-k-init
+unfolding numbers_of concat_map rows_in_lem
+loop-k-init c = (omega arith, refl, refl)
+
+pub loop-k-preserved : goal.loop-k-preserved
+unfolding numbers_of
+loop-k-preserved c =
+    let turn = c.loop-k in
+    let given = c.args in
+    let rows = given.rows.now in
+    let old = given.numbers.now in
+    let one : 1 * turn.k ≡ turn.k = omega arith in (
+      omega arith,
+      search rules,
+      c.copy_block.ensures
+          ∙ ap (λ l. sets l turn.k (part (5 * turn.k) 1 rows)) turn.invariant.2
+          ∙ ap (λ n. sets (overwrite (numbers_of (rows_in_lem turn.k rows)) old) n (part (5 * turn.k) 1 rows)) (sym one)
+          ∙ row_more (λ r. r.number ∷ []) 1 (λ r. refl) (λ n. omega arith) refl rows old turn.k (search rules) (number_block_lem rows turn.k (search rules)),
+    )
+
+pub shape_of-numbers : goal.shape_of-numbers
+shape_of-numbers c = c.loop-k.invariant.1
+
+pub returns : goal.returns
+returns c =
+    let turn = c.loop-k in
+    let given = c.args in
+    let all : turn.k ≡ given.count = omega arith in
+    turn.invariant.2 ∙ ap (λ n. overwrite (numbers_of (rows_in_lem n given.rows.now)) given.numbers.now) all

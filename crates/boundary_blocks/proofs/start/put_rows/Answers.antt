@@ -1,0 +1,41 @@
+-- `boundary_blocks::start::put_rows` meets its contract. The loop's invariant: the rows of the first k places are stored, and nothing else. Assumes nothing.
+use Prim.Native.Nat.{◌+◌, ◌*◌}
+use native.Mathlib.Omega.{arith}
+use mathlib.Core.Path.{◌≡◌, refl, ap, ◌∙◌}
+use lib.Seq.{sets}
+use borrow.Author.Rules.{rules}
+use Rattle.definitions.specs.Scan.{collect}
+use Rattle.definitions.specs.Rows.{flat_rows}
+use Rattle.definitions.specs.Lists.{overwrite}
+use Rattle.boundary_blocks.specs.Blocks.{part}
+use Rattle.boundary_blocks.specs.Start.{rows_at}
+use Rattle.boundary_blocks.proofs.Placing.{output_more}
+use Rattle.boundary_blocks.proofs.start.put_rows.Goals as goal
+
+pub loop-k-init : goal.loop-k-init
+unfolding rows_at collect flat_rows
+loop-k-init c = (omega arith, refl, refl)
+
+pub loop-k-preserved : goal.loop-k-preserved
+loop-k-preserved c =
+    let copy-block = c.copy_block in
+    let turn = c.loop-k in
+    let given = c.args in
+    let numbers = given.numbers.now in
+    let spans = given.spans.now in (
+      omega arith,
+      search rules,
+      c.copy_block-in-loop-k.ensures
+          ∙ ap (λ l. sets l (5 * turn.k + 1) (part (4 * turn.k) 4 spans)) (copy-block.ensures ∙ ap (λ l. sets l (5 * turn.k) (part turn.k 1 numbers)) turn.invariant.2)
+          ∙ output_more numbers spans given.output.now turn.k (search rules) (search rules) (search rules),
+    )
+
+pub shape_of-output : goal.shape_of-output
+shape_of-output c = c.loop-k.invariant.1
+
+pub returns : goal.returns
+returns c =
+    let turn = c.loop-k in
+    let given = c.args in
+    let all : turn.k ≡ given.kept = omega arith in
+    turn.invariant.2 ∙ ap (λ n. overwrite (flat_rows (rows_at given.numbers.now given.spans.now n)) given.output.now) all

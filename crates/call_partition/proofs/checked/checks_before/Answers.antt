@@ -1,0 +1,40 @@
+-- `call_partition::checked::checks_before` meets its contract: the refusals of its parts, one after the other. Assumes nothing.
+use Prim.Native.Nat.{ℕ, ◌*◌, ◌/◌}
+use mathlib.Core.Path.{◌≡◌, ap, ◌∙◌}
+use mathlib.Core.Bool.{◌&&◌}
+use mathlib.Core.Option.{Option, none}
+use mathlib.Core.List.{List}
+use lib.ListN.{length}
+use Rattle.definitions.specs.Limits.{numbers_per_span, numbers_per_boundary}
+use Rattle.definitions.specs.Refusals.{Refusal, unless, partition_room, output_room}
+use Rattle.definitions.specs.Verdict.{refusal}
+use Rattle.areas.proofs.Chain.{here, next, said}
+use Rattle.call_partition.specs.Early.{early_refusal, sizes_refusal}
+use Rattle.call_partition.proofs.SizesPassed.{sizes-fit}
+use Rattle.call_partition.proofs.checked.checks_before.Goals as goal
+
+-- the cells are as many as the sides say
+room-counted : (pass w h : ℕ) (cells spans boundaries anchors : List ℕ) (l m q t u : ℕ) {o : Option Refusal} → sizes_refusal pass w h cells spans boundaries anchors ≡ none → o ≡ refusal 10 (unless (partition_room (length cells) (length spans / numbers_per_span) l m q t && output_room (length boundaries / numbers_per_boundary) u)) → o ≡ refusal 10 (unless (partition_room (w * h) (length spans / numbers_per_span) l m q t && output_room (length boundaries / numbers_per_boundary) u))
+room-counted pass w h cells spans boundaries anchors l m q t u e p =
+    p ∙ ap (λ n. refusal 10 (unless (partition_room n (length spans / numbers_per_span) l m q t && output_room (length boundaries / numbers_per_boundary) u))) (sizes-fit e).counted
+
+pub returns-in-Refused : goal.returns-in-Refused
+unfolding early_refusal
+returns-in-Refused c = here _ (said c.check_sizes.ensures c.number-1.given.1)
+
+pub check_entries-requires : goal.check_entries-requires
+check_entries-requires c = let s = sizes-fit (said c.check_sizes.ensures c.enum_told-1.given.1) in (s.narrow, s.short)
+
+pub returns-in-Refused-check_entries : goal.returns-in-Refused-check_entries
+unfolding early_refusal
+returns-in-Refused-check_entries c =
+    next (said c.check_sizes.ensures c.enum_told-1.given.1) (here _ (said c.check_entries.ensures c.number-in-Refused-check_entries-1.given.1))
+
+pub returns : goal.returns
+unfolding early_refusal
+returns c =
+    let a = c.args in
+    next (said c.check_sizes.ensures c.enum_told-1.given.1)
+    (next (said c.check_entries.ensures c.enum_told-in_default-check_entries-1.given.1)
+    (room-counted a.pass a.width a.height a.cells.now a.spans.now a.boundaries.now a.anchors.now a.labels a.masks a.queue a.tallies a.output
+    (said c.check_sizes.ensures c.enum_told-1.given.1) c.check_room.ensures))

@@ -1,0 +1,47 @@
+-- `Region::with_run` meets its contract: each field is what its call ensures, and together they are the record with the run's cells added one by one (`run-added`).
+-- No count exceeds the number of cells, which leaves room for the run. Assumes nothing.
+use Prim.Native.Nat.{◌+◌, ◌-◌}
+use native.Mathlib.Omega.{arith}
+use mathlib.Core.Path.{◌≡◌, ap, ◌∙◌}
+use lib.ListN.{length, get_or}
+use lib.Dec.{eqb}
+use borrow.Author.Rules.{rules}
+use Rattle.definitions.specs.Grid.{is_ramp}
+use Rattle.laws.specs.ListLaws.ScanSteps.{count-le}
+use Rattle.context.specs.Records.{record_of}
+use Rattle.context.specs.Cells.{lesser_edge, greater_edge}
+use Rattle.context.proofs.RunCounting.{among-few, mask_counted, sums-counted}
+use Rattle.context.proofs.RunLaws.{run-added}
+use Rattle.context.proofs.Region.with_run.Goals as goal
+
+pub sums-counts-requires : goal.sums-counts-requires
+sums-counts-requires c =
+    let fits = c.requires.1 in (
+      (λ e. omega (arith, c.requires.0.each e, c.requires.0.few)),
+      λ e. rw c.run_counts-run.ensures.elevations (omega (arith, among-few c.args.cells.now c.args.from (c.args.end - c.args.from) e, fits.within.narrow)),
+    )
+
+pub overflow_add-result-2 : goal.overflow_add-result-2
+overflow_add-result-2 c =
+    let n = c.args.end - c.args.from in
+    record { fits = omega (arith, c.run_counts-run.ensures.ramps, count-le (λ i. is_ramp (get_or c.args.cells.now (c.args.from + i) 0)) n, c.pre.0.ramps, c.pre.0.few, c.pre.1.within.narrow) }
+
+pub returns : goal.returns
+returns c =
+    let four-counts : length c.args.self.elevation_counts ≡ 4 = search rules in
+    let fits = c.pre.1 in
+    let s = record_of c.args.self in
+    let first = eqb s.cells 0 in
+    let from = c.args.from in
+    let n = c.args.end - from in
+    let bytes = c.args.cells.now in
+    let counts = c.run_counts-run.ensures in
+    run-added s c.args.x c.args.y bytes from n (omega (arith, fits.within.some)) fits.columns
+    (λ i l. fits.within.counted (from + i) (omega arith) (omega (arith, l)))
+    (four-counts fits.left fits.right counts.ramps
+    (c.mask_of.ensures ∙ mask_counted bytes from n counts.elevations)
+    (c.sums-counts.ensures ∙ sums-counted s.elevation_counts_lem bytes from n counts.elevations)
+    (c.lesser_edge.ensures ∙ ap (lesser_edge first s.min_x_lem) c.edge.ensures)
+    (c.lesser_edge-2.ensures ∙ ap (lesser_edge first s.min_y_lem) c.edge-2.ensures)
+    (c.greater_edge.ensures ∙ ap (greater_edge first s.max_x_lem) c.edge-3.ensures)
+    (c.greater_edge-2.ensures ∙ ap (greater_edge first s.max_y_lem) c.edge-4.ensures)

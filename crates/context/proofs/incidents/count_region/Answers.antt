@@ -1,0 +1,10 @@
+-- `incidents::count_region` meets its contract: a packed entry leaves room for one more. Assumes nothing.
+use Prim.Native.Nat.{◌-◌}
+use Rattle.context.proofs.Counting.{packed-small, region-code}
+use Rattle.context.proofs.incidents.count_region.Goals as goal
+
+pub counted-requires : goal.counted-requires
+counted-requires c = (packed-small _ _ c.requires.1.0 (c.requires.1.1 (c.wide-k.result - 1)), c.requires.1.0)
+
+pub returns : goal.returns
+returns c = region-code _ _ _ c.wide-k.ensures c.counted.ensures

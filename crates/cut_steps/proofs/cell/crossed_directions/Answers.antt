@@ -1,0 +1,23 @@
+-- `cell::crossed_directions` meets its contract: of the steps that change sides those that are there (`crossed-cell`). Assumes nothing.
+use native.Mathlib.Omega.{arith}
+use mathlib.Core.Path.{refl, sym, ◌∙◌}
+use borrow.Author.Tests.{not-true, not-false}
+use Rattle.definitions.specs.Grid.{at}
+use Rattle.span_geometry.specs.Shapes.{segment_of}
+use Rattle.grid_steps.specs.Walk.{grid_of}
+use Rattle.cut_steps.proofs.Onward.{no_step, no_bits}
+use Rattle.cut_steps.proofs.Changes.{crossed-cell}
+use Rattle.cut_steps.proofs.Steps.{in_grid_of}
+use Rattle.cut_steps.proofs.cell.crossed_directions.Goals as goal
+
+pub returns-then-not-is_walkable : goal.returns-then-not-is_walkable
+returns-then-not-is_walkable c =
+    let a = c.args in
+    let M = grid_of a.width a.height a.cells.now in
+    record { small = omega arith; bits = no_bits M (segment_of a.g) (at a.x a.y) (no_step M (segment_of a.g) (at a.x a.y) (sym c.is_walkable.ensures ∙ not-true _ c.if-not-is_walkable.true-raw)) }
+
+pub steps_onward-requires : goal.steps_onward-requires
+steps_onward-requires c = (in_grid_of c.requires.0, sym c.is_walkable.ensures ∙ not-false _ c.if-not-is_walkable.false-raw)
+
+pub returns : goal.returns
+returns c = crossed-cell c.requires.1 c.steps_onward.ensures refl

@@ -1,0 +1,20 @@
+-- `cell::is_walkable` meets its contract: the cell is in the grid. Assumes nothing.
+use native.Mathlib.Omega.{arith}
+use mathlib.Core.Path.{sym}
+use Rattle.grid_steps.proofs.StepTests.{walkable_at_lem}
+use Rattle.cut_steps.proofs.Steps.{in_cells}
+use Rattle.cut_steps.proofs.cell.is_walkable.Goals as goal
+
+pub overflow_mul-result : goal.overflow_mul-result
+overflow_mul-result c = omega (arith, in_cells c.requires)
+
+pub overflow_add-result : goal.overflow_add-result
+overflow_add-result c = omega (arith, in_cells c.requires)
+
+pub bounds-cells-y : goal.bounds-cells-y
+bounds-cells-y c = omega (arith, in_cells c.requires, c.requires.cells_long)
+
+pub returns : goal.returns
+returns c =
+    let a = c.args in
+    sym (walkable_at_lem a.width a.height a.cells.now a.x a.y c.requires.in_x c.requires.in_y)

@@ -1,0 +1,11 @@
+-- `cell::side_of` meets its contract: `cross` at the centre of the cell. Assumes nothing.
+use mathlib.Core.Path.{◌∙◌}
+use mir.Facts.{to_z-of_z}
+use Rattle.definitions.specs.Spans.{cross}
+use Rattle.span_geometry.specs.Shapes.{point_of}
+use Rattle.cut_steps.proofs.cell.side_of.Goals as goal
+
+pub returns : goal.returns
+returns c =
+    let g = c.args.g in
+    to_z-of_z (record { sfits = c.cross.type-inv }) ∙ c.cross.ensures ∙ (λ i. cross (point_of g.a) (point_of g.b) (c.cell_center.ensures.0 i))

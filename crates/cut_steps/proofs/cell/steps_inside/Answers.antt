@@ -1,0 +1,18 @@
+-- `cell::steps_inside` meets its contract, by the five cells to the east and in the next row, and the one to the west. Assumes nothing.
+use mathlib.Core.Path.{◌∙◌}
+use mathlib.Core.Bool.{◌&&◌}
+use Rattle.grid_steps.specs.Walk.{grid_of}
+use Rattle.cut_steps.specs.Cell.{onward_mask}
+use Rattle.cut_steps.proofs.Steps.{inside-steps}
+use Rattle.cut_steps.proofs.cell.steps_inside.Goals as goal
+
+pub returns : goal.returns
+returns c =
+    let a = c.args in
+    let east = c.is_walkable-east.ensures in
+    let south = c.is_walkable-south.ensures in
+    let west = c.is_walkable-west.ensures in
+    let south-west = c.is_walkable-south_west.ensures in
+    let south-east = c.is_walkable-south_east.ensures in
+    c.onward_mask.ensures ∙ (λ i. onward_mask (east i) (south-west i && west i && south i) (south i) (south-east i && east i && south i))
+    ∙ inside-steps (grid_of a.width a.height a.cells.now) a.x a.y c.requires.0.1 c.requires.1.0

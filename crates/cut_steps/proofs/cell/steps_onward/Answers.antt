@@ -1,0 +1,19 @@
+-- `cell::steps_onward` meets its contract: away from the grid's edge by `steps_inside`, and at it direction by direction. Assumes nothing.
+use mathlib.Core.Path.{◌∙◌}
+use Rattle.cut_steps.specs.Cell.{onward_mask}
+use Rattle.cut_steps.specs.Crossed.{steps_onward}
+use Rattle.cut_steps.proofs.Steps.{tests}
+use Rattle.cut_steps.proofs.cell.steps_onward.Goals as goal
+
+pub steps_inside-requires : goal.steps_inside-requires
+steps_inside-requires c =
+    let a = c.args in
+    (c.requires, tests a.x a.width a.y a.height c.if-x-width.true)
+
+pub returns-then-x-width : goal.returns-then-x-width
+returns-then-x-width c = c.steps_inside.ensures
+
+pub returns : goal.returns
+unfolding steps_onward
+returns c =
+    c.onward_mask.ensures ∙ (λ i. onward_mask (c.is_there.ensures i) (c.is_there-2.ensures i) (c.is_there-3.ensures i) (c.is_there-4.ensures i))

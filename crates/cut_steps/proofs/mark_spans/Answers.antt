@@ -1,0 +1,37 @@
+-- `mark_spans` meets its contract. The loop's invariant: the cut steps of the spans below i are marked. Assumes nothing.
+use native.Mathlib.Omega.{arith}
+use Rattle.definitions.specs.Scan.{gather}
+use Rattle.cut_steps.proofs.Marks.{marked_none}
+use Rattle.cut_steps.proofs.Spans.{span_at-asked, span-asked, mark-asked, spans_more, spans-done}
+use Rattle.cut_steps.proofs.mark_spans.Goals as goal
+
+pub loop-i-init : goal.loop-i-init
+unfolding gather
+loop-i-init c = (omega arith, marked_none)
+
+pub span_at-requires : goal.span_at-requires
+span_at-requires c = span_at-asked c.pre.0 (omega (arith, c.loop-i-test.true))
+
+pub mark_span-requires : goal.mark_span-requires
+mark_span-requires c =
+    let p = c.pre in
+    let g = c.span_at.ensures in
+    (mark-asked p.0 c.loop-i-test.true g p.1.0 c.loop-i.invariant.1, span-asked p.0 c.loop-i-test.true g)
+
+pub overflow_add-i : goal.overflow_add-i
+overflow_add-i c = omega (arith, c.loop-i-test.true)
+
+pub loop-i-smaller : goal.loop-i-smaller
+loop-i-smaller c = omega (arith, c.loop-i-test.true)
+
+pub loop-i-preserved : goal.loop-i-preserved
+loop-i-preserved c =
+    (omega (arith, c.loop-i-test.taken), spans_more c.pre.0 c.loop-i-test.taken c.span_at.ensures c.loop-i.inv.1 c.mark_span.ensures)
+
+pub shape_of-masks : goal.shape_of-masks
+shape_of-masks c = c.loop-i.invariant.1.long
+
+pub returns : goal.returns
+returns c =
+    let p = c.pre.1 in
+    spans-done c.args.spans.now p.0 p.1 c.loop-i.i c.loop-i.invariant.1 (omega (arith, c.loop-i.invariant.0, c.loop-i-test.false))

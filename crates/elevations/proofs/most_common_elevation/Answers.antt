@@ -1,0 +1,11 @@
+-- `most_common_elevation` meets its contract, which is three comparisons. Assumes nothing.
+use mathlib.Core.Path.{◌∙◌, ap}
+use Rattle.definitions.specs.RegionRecord.{better, most_common_elevation}
+use Rattle.elevations.proofs.most_common_elevation.Goals as goal
+
+pub returns : goal.returns
+unfolding most_common_elevation
+returns c =
+    let counts = c.args.counts in
+    let first = ap (λ best. better counts best 2) c.more_common.ensures.0 in
+    (c.more_common-3.ensures.0 ∙ ap (λ best. better counts best 3) (c.more_common-2.ensures.0 ∙ first), c.more_common-3.ensures.1)

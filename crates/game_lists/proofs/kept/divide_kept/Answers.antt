@@ -1,0 +1,59 @@
+-- `game_lists::kept::divide_kept` meets its contract: the spans that are kept, the lists of the first partition cleared, and divided again, which is not refused
+-- (DividingKept). Assumes nothing.
+use Prim.Native.Nat.{ℕ}
+use native.Mathlib.Omega.{arith}
+use mathlib.Core.Path.{refl, sym}
+use lib.ListN.{length-replicate}
+use lib.Seq.{length-take-le}
+use borrow.Author.Rules.{rules}
+use Rattle.game_lists.proofs.KeptSpans.{few-kept}
+use Rattle.game_lists.proofs.DividingKept.{tallies-room, pairs-room, spans-room, kept-are, kept-fit, not-refused, kept-ready}
+use Rattle.game_lists.proofs.kept.divide_kept.Goals as goal
+
+pub kept_spans-count-requires : goal.kept_spans-count-requires
+kept_spans-count-requires c =
+    let room = spans-room _ c.requires.1 in
+    (omega (arith, room.0, length-replicate {A = ℕ} 1024 0), room.1)
+
+pub overflow_mul-end : goal.overflow_mul-end
+overflow_mul-end c =
+    let a = c.args in
+    record { fits = omega (arith, few-kept a.spans.now a.spans.now a.removed.now c.kept_spans-count.ensures.0, (spans-room _ c.requires.1).1) }
+
+pub clear_numbers-requires : goal.clear_numbers-requires
+clear_numbers-requires c =
+    tallies-room _ c.requires.1
+
+pub overflow_mul-rows : goal.overflow_mul-rows
+overflow_mul-rows c =
+    record { fits = omega (arith, pairs-room _ c.requires.1, c.well-formed.1.1.1.1.1.1.1.1.1.1.1.0.0) }
+
+pub clear_numbers-requires-2 : goal.clear_numbers-requires-2
+clear_numbers-requires-2 c =
+    pairs-room _ c.requires.1
+
+pub slice_bounds-kept-end : goal.slice_bounds-kept-end
+slice_bounds-kept-end c =
+    let a = c.args in
+    omega (arith, few-kept a.spans.now a.spans.now a.removed.now c.kept_spans-count.ensures.0, (spans-room _ c.requires.1).1, c.kept-2-1.given)
+
+pub slice_bounds-divide-end : goal.slice_bounds-divide-end
+slice_bounds-divide-end c =
+    let a = c.args in
+    sym (length-take-le _ _ (omega (arith, few-kept a.spans.now a.spans.now a.removed.now c.kept_spans-count.ensures.0, (spans-room _ c.requires.1).1, c.kept-2-1.given)))
+
+pub divide-divided-requires : goal.divide-divided-requires
+divide-divided-requires c =
+    kept-fit _ c.requires.1 _ c.clear_numbers.new.0 c.clear_numbers-2.new.0 (kept-are _ c.requires.1 c.kept_spans-count.ensures.1)
+    (search rules) (search rules)
+
+pub returns-in-Refused : goal.returns-in-Refused
+returns-in-Refused c = λ S D.
+    absurd
+    (not-refused _ D _ _ _ (kept-are _ D c.kept_spans-count.ensures.1) (search rules) (search rules) _ _ _ _ _ _ c.divide-divided.ensures.0 c.divide-divided.ensures.1
+    c.divided-1.given.1)
+
+pub returns-in-Ready : goal.returns-in-Ready
+returns-in-Ready c = λ S D.
+    kept-ready _ D _ _ _ (kept-are _ D c.kept_spans-count.ensures.1) (search rules) (search rules) _ _ _ _ _ _ c.divide-divided.ensures.0 c.divided-in-Ready-1.given.1
+    c.clear_numbers.ensures c.clear_numbers-2.ensures refl refl

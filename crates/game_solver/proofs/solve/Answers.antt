@@ -1,0 +1,6 @@
+-- `solve` meets its contract: the steps of the graph, and what is judged by them. Assumes nothing.
+use Rattle.game_solver.proofs.solve.Goals as goal
+
+pub returns : goal.returns
+returns c =
+    c.judge.ensures _ (c.find_neighbours.ensures.0 _)

@@ -1,0 +1,10 @@
+-- `put_verdicts` meets its contract. The loop's invariant (`Putting`): the verdicts of the first c places are stored. Assumes nothing.
+use Prim.Native.Nat.{◌-◌}
+use Rattle.game_verdicts.proofs.Reading.{Putting}
+use Rattle.game_verdicts.proofs.put_verdicts.Given as goal
+
+abbrev pub invariant-loop-c : goal.invariant-loop-c
+invariant-loop-c l = Putting l.near l.regions l.goal l.ranks l.count l.c l.verdicts
+
+abbrev pub decreases-loop-c : goal.decreases-loop-c
+decreases-loop-c l = l.initial.verdicts - l.c

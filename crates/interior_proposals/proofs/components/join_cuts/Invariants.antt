@@ -1,0 +1,14 @@
+-- `components::join_cuts` meets its contract. The invariant: the links of the boundaries passed are merged. Assumes nothing.
+use Prim.Native.Nat.{◌-◌, ◌≤◌}
+use mathlib.Core.Path.{◌≡◌}
+use Rattle.definitions.specs.Scan.{gather}
+use Rattle.definitions.specs.Context.{Context}
+use Rattle.interior_proposals.specs.Forest.{Parented, Merged}
+use Rattle.interior_proposals.specs.Given.{Given, alone, links_of}
+use Rattle.interior_proposals.proofs.components.join_cuts.Given as goal
+
+abbrev pub invariant-loop-i : goal.invariant-loop-i
+invariant-loop-i l = (l.i ≤ l.initial.parents) × ((C : Context) → Given C l.tallies l.pairs l.starts l.count → C.count ≡ l.initial.parents → Parented (alone C) l.boundaries → Merged (alone C) l.boundaries (gather l.i (links_of C)) l.parents)
+
+abbrev pub decreases-loop-i : goal.decreases-loop-i
+decreases-loop-i l = l.initial.parents - l.i

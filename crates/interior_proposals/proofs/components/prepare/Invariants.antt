@@ -1,0 +1,12 @@
+-- `components::prepare` meets its contract. The invariant: the marks and parents of the regions passed are stored. Assumes nothing.
+use Prim.Native.Nat.{◌-◌, ◌≤◌}
+use Rattle.laws.specs.ListLaws.Beyond.{Beyond}
+use Rattle.interior_proposals.proofs.Stored.{Stored}
+use Rattle.interior_proposals.proofs.Preparing.{flags_at, own_at}
+use Rattle.interior_proposals.proofs.components.prepare.Given as goal
+
+abbrev pub invariant-loop-k : goal.invariant-loop-k
+invariant-loop-k l = (l.k ≤ l.initial.counts) × Beyond l.initial.counts l.regions l.marks × Beyond l.initial.counts l.initial.marks l.counts × Stored (flags_at l.regions l.initial.marks) l.regions l.marks l.k × Stored own_at l.initial.marks l.counts l.k
+
+abbrev pub decreases-loop-k : goal.decreases-loop-k
+decreases-loop-k l = l.initial.counts - l.k

@@ -1,0 +1,21 @@
+-- `leaves::clear_exteriors` meets its contract. The invariant: what the rows passed name is no more marked. Assumes nothing.
+use Prim.Native.Nat.{ℕ, ◌-◌, ◌≤◌}
+use mathlib.Core.Path.{◌≡◌}
+use mathlib.Core.List.{List}
+use lib.ListN.{length}
+use Rattle.definitions.specs.Scan.{member}
+use Rattle.definitions.specs.Context.{Context}
+use Rattle.definitions.specs.RampInteriors.{exteriors}
+use Rattle.context.specs.Shown.{pairs_between}
+use Rattle.interior_proposals.specs.Given.{Marked}
+use Rattle.interior_proposals.specs.Owners.{Walkable}
+use Rattle.interior_proposals.proofs.ExteriorLaws.{Clearing}
+use Rattle.interior_proposals.proofs.leaves.clear_exteriors.Given as goal
+
+abbrev pub invariant-loop-k : goal.invariant-loop-k
+invariant-loop-k l =
+    (l.end ≤ l.k) × (l.k ≤ l.initial.marks) × (length l.marks ≡ length l.pairs)
+    × ((C : Context) (rs : List ℕ) (w : Walkable l.first l.end l.initial.marks C.regions) → Marked C (λ y. member y (exteriors rs (pairs_between l.first l.end l.initial.marks))) l.pairs → Clearing C (λ x. member x (exteriors rs (pairs_between l.first l.end l.initial.marks))) l.first l.end l.initial.marks w l.pairs l.k l.marks)
+
+abbrev pub decreases-loop-k : goal.decreases-loop-k
+decreases-loop-k l = l.initial.marks - l.k

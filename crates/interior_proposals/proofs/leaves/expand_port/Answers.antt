@@ -1,0 +1,30 @@
+-- `leaves::expand_port` meets its contract, from what its four walks ensure. Assumes nothing.
+use native.Mathlib.Omega.{arith}
+use mathlib.Core.Path.{◌∙◌}
+use Rattle.definitions.specs.RampInteriors.{exteriors}
+use Rattle.context.specs.Shown.{pairs_between}
+use Rattle.interior_proposals.proofs.Walks.{walk_more}
+use Rattle.interior_proposals.proofs.LeafLaws.{port-walked}
+use Rattle.interior_proposals.proofs.leaves.expand_port.Goals as goal
+
+pub expand_rows-grown-requires : goal.expand_rows-grown-requires
+expand_rows-grown-requires c =
+    (c.requires.0, (c.requires.1.0, (c.requires.1.1.0, omega (arith, c.requires.1.1.1, c.mark_exteriors-before.ensures.1))))
+
+pub rows_split-after-requires : goal.rows_split-after-requires
+rows_split-after-requires c =
+    walk_more c.pre.1.0 (omega (arith, c.pre.1.1.0, c.expand_rows-grown.ensures.1))
+
+pub clear_exteriors-requires : goal.clear_exteriors-requires
+clear_exteriors-requires c =
+    walk_more c.requires.1.0 (omega (arith, c.requires.1.1.1, c.mark_exteriors-before.ensures.1))
+
+pub returns : goal.returns
+returns c =
+    (
+      λ C i rs v P I M.
+          let E = c.mark_exteriors-before.ensures.0 C rs P.walk I M in
+          let H = c.expand_rows-grown.ensures.0 C i rs (exteriors rs (pairs_between _ _ _)) v P I E.marked in
+          port-walked C i _ rs v _ _ _ P E H (c.rows_split-after.ensures C _ P.walk H.inside) (c.clear_exteriors.ensures.0 C rs P.walk E.marked),
+      (c.expand_rows-grown.ensures.1, c.clear_exteriors.ensures.1 ∙ c.mark_exteriors-before.ensures.1),
+    )

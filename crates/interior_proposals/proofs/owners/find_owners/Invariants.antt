@@ -1,0 +1,16 @@
+-- `owners::find_owners` meets its contract. The invariant: the owners of the boundaries passed are stored. Assumes nothing.
+use Prim.Native.Nat.{◌-◌, ◌≤◌}
+use mathlib.Core.Path.{◌≡◌}
+use lib.ListN.{length}
+use Rattle.definitions.specs.Limits.{max_entries}
+use Rattle.definitions.specs.Context.{Context}
+use Rattle.interior_proposals.specs.Given.{Kept}
+use Rattle.interior_proposals.specs.Owners.{Owned}
+use Rattle.interior_proposals.proofs.Stored.{Filled}
+use Rattle.interior_proposals.proofs.owners.find_owners.Given as goal
+
+abbrev pub invariant-loop-i : goal.invariant-loop-i
+invariant-loop-i l = (l.i ≤ l.count) × (length l.owners ≡ max_entries) × ((C : Context) → Kept C l.boundaries l.tallies l.pairs l.starts l.names → C.count ≡ l.count → Filled (Owned C) l.owners l.i)
+
+abbrev pub decreases-loop-i : goal.decreases-loop-i
+decreases-loop-i l = l.count - l.i

@@ -1,0 +1,17 @@
+-- `proposals::propose_all` meets its contract. The invariant: the boundaries passed are done, and what was found is stored. Assumes nothing.
+use Prim.Native.Nat.{ℕ, ◌-◌, ◌≤◌}
+use mathlib.Core.Path.{◌≡◌}
+use mathlib.Core.List.{List}
+use lib.ListN.{length}
+use Rattle.definitions.specs.Limits.{max_entries}
+use Rattle.definitions.specs.Context.{Context}
+use Rattle.interior_proposals.specs.Proposals.{Progress, Owning, FoundAll}
+use Rattle.interior_proposals.proofs.proposals.propose_all.Given as goal
+
+abbrev pub invariant-loop-i : goal.invariant-loop-i
+invariant-loop-i l =
+    (l.i ≤ l.initial.marks) × (length l.names ≡ length l.owners) × (length l.marks ≡ length l.count) × (length l.firsts ≡ max_entries) × (length l.seconds ≡ max_entries)
+    × ((C : Context) (was wasMarks : List ℕ) → Owning C l.boundaries l.tallies l.pairs l.starts l.initial.names l.initial.marks → Progress C l.initial.names was l.owners wasMarks l.count 0 → Progress C l.initial.names was l.names wasMarks l.marks l.i × FoundAll C l.initial.names l.firsts l.seconds l.i)
+
+abbrev pub decreases-loop-i : goal.decreases-loop-i
+decreases-loop-i l = l.initial.marks - l.i

@@ -1,0 +1,28 @@
+-- `mark_edges` meets its contract. Where `on` is false nothing is marked. The loop's invariant: the boundaries passed are marked as they shall be, and the others as they were. Assumes nothing.
+use native.Mathlib.Omega.{arith}
+use mathlib.Core.Path.{refl}
+use mathlib.Core.Bool.{false}
+use lib.ListN.{get_or, length-set}
+use lib.Dec.{eqb}
+use borrow.Author.Rules.{rules}
+use Rattle.interior_regions.proofs.Marking.{marking_more, marks-off, marks_on}
+use Rattle.interior_regions.proofs.mark_edges.Goals as goal
+
+pub returns-then-not-on : goal.returns-then-not-on
+returns-then-not-on c = (λ j l. marks-off c.args.on _ _ c.if-not-on.true-raw, search rules)
+
+pub loop-j-init : goal.loop-j-init
+loop-j-init c = (search rules, search rules, record { done = λ k l. absurd (omega arith); rest = λ k l. refl })
+
+pub loop-j-preserved : goal.loop-j-preserved
+loop-j-preserved c =
+    (omega (arith, c.loop-j-test.true), simp length-set c.loop-j.invariant.1, marking_more _ (omega (arith, c.loop-j-test.true, c.loop-j.invariant.1, c.requires.0)) c.loop-j.invariant.2 refl)
+
+pub returns : goal.returns
+returns c =
+    let a = c.args in (
+      λ j l.
+          marks_on a.on (get_or a.removed.now j false) (eqb (get_or a.owners.now j 0) a.name) c.if-not-on.false-raw
+          (c.loop-j.invariant.2.done j (omega (arith, c.loop-j-test.false))),
+      c.loop-j.invariant.1,
+    )

@@ -1,0 +1,15 @@
+-- `junction_selection::selection::reserve_ports` meets its contract. The loop's invariant: the ports below j are marked. The measure is how many boundaries are left.
+-- Assumes nothing.
+use Prim.Native.Nat.{◌-◌, ◌≤◌}
+use Rattle.junction_proposals.specs.Rows.{row_at}
+use Rattle.junction_selection.specs.Ranks.{reserves_at}
+use Rattle.junction_selection.proofs.Standings.{Marked}
+use Rattle.junction_selection.proofs.selection.reserve_ports.Given as goal
+
+abbrev pub invariant-loop-j : goal.invariant-loop-j
+invariant-loop-j l =
+    (l.j ≤ l.p) × Marked l.count l.reserved (reserves_at l.smaller l.larger (row_at l.rows l.initial.reserved)) l.j
+
+abbrev pub decreases-loop-j : goal.decreases-loop-j
+decreases-loop-j l =
+    l.p - l.j

@@ -1,0 +1,13 @@
+-- `junction_selection::selection::reserves` meets its contract, from what its callees ensure. Assumes nothing.
+use mathlib.Core.Bool.{not, ◌&&◌, ◌||◌}
+use lib.Dec.{eqb}
+use Rattle.junction_proposals.specs.Ports.{names}
+use Rattle.junction_proposals.specs.Rows.{row_at}
+use Rattle.junction_selection.specs.Ranks.{reserves_at}
+use Rattle.junction_selection.proofs.selection.reserves.Goals as goal
+
+pub returns : goal.returns
+unfolding reserves_at names
+returns c =
+    λ t. (c.names_region-first.ensures t || eqb (row_at c.args.rows.now c.args.p).kind 0 && c.names_region-second.ensures t)
+    && not (eqb (row_at c.args.rows.now c.args.p).kind 0 && eqb c.args.j (c.wide-index.ensures t))

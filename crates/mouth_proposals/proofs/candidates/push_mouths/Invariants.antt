@@ -1,0 +1,20 @@
+-- `candidates::push_mouths` meets its contract. The invariant: the entries are the candidates of the mouths passed, at most one a mouth. Assumes nothing.
+use Prim.Native.Nat.{◌-◌, ◌≤◌}
+use mathlib.Core.Path.{◌≡◌}
+use mathlib.Core.Bool.{true, false}
+use Rattle.definitions.specs.Scan.{collect}
+use Rattle.definitions.specs.Context.{Context, full_cut, no_ramp}
+use Rattle.context.specs.Shown.{ShownTallies}
+use Rattle.mouth_proposals.specs.Lent.{Shows}
+use Rattle.mouth_proposals.specs.Candidates.{mouth_candidate}
+use Rattle.mouth_proposals.specs.Ends.{EndsOf}
+use Rattle.mouth_proposals.specs.Listed.{Filled, Roomy}
+use Rattle.mouth_proposals.proofs.candidates.push_mouths.Given as goal
+
+abbrev pub invariant-loop-m : goal.invariant-loop-m
+invariant-loop-m l =
+    (l.m ≤ l.count) × ((l.n ≤ l.m) × (Roomy l.mouths l.ramps l.outers l.kinds l.separations × ((C : Context) → Shows l.boundaries l.pairs l.starts l.counts l.marks l.count C → ShownTallies C l.tallies
+    → no_ramp C l.initial.kinds ≡ false → full_cut C l.initial.kinds ≡ true → EndsOf C l.initial.kinds l.initial.separations → Filled C l.mouths l.ramps l.outers l.kinds l.separations l.n (collect l.m (mouth_candidate C l.initial.kinds)))))
+
+abbrev pub decreases-loop-m : goal.decreases-loop-m
+decreases-loop-m l = l.count - l.m

@@ -1,0 +1,9 @@
+-- `shapes::is_triangle` meets its contract: its three tests are the definition's. Assumes nothing.
+use Rattle.mouth_proposals.specs.Rows.{pair_form}
+use Rattle.mouth_proposals.proofs.ShapeTests.{triangle_by}
+use Rattle.mouth_proposals.proofs.shapes.is_triangle.Goals as goal
+
+pub returns : goal.returns
+returns c =
+    let s = c.args in
+    triangle_by (pair_form s.p) (pair_form s.q) (pair_form s.s) (pair_form s.t) c.has_three.ensures c.all_named.ensures c.one_edge.ensures

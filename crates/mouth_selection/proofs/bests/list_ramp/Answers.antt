@@ -1,0 +1,44 @@
+-- `bests::list_ramp` meets its contract, from what its calls ensure. Assumes nothing.
+use Prim.Native.Nat.{ℕ}
+use mathlib.Core.Path.{sym, ap, ◌∙◌}
+use mathlib.Core.List.{List}
+use Rattle.definitions.specs.Scan.{collect}
+use Rattle.definitions.specs.Context.{Context}
+use Rattle.mouth_proposals.specs.Lent.{Shows}
+use Rattle.mouth_proposals.specs.Candidates.{mouth_candidate}
+use Rattle.mouth_proposals.specs.Listed.{Listed}
+use Rattle.mouth_selection.specs.Entries.{Named}
+use Rattle.mouth_selection.specs.Selecting.{Lists}
+use Rattle.mouth_selection.proofs.SelectionLaws.{safe-entries}
+use Rattle.mouth_selection.proofs.bests.list_ramp.Goals as goal
+
+named : {C : Context} {mouths ramps outers separations : List ℕ} {n : ℕ} → Listed C mouths ramps outers separations n → Named C mouths ramps outers n
+named F = record { mouth = F.mouth; ramp = F.ramp; outer = F.outer }
+
+lists : {boundaries pairs starts counts marks : List ℕ} {count : ℕ} {C : Context} → Shows boundaries pairs starts counts marks count C → Lists boundaries pairs starts count C
+lists S = record { counted = S.counted; bounds = S.bounds; rows = S.rows }
+
+pub push_ramp-n-requires : goal.push_ramp-n-requires
+push_ramp-n-requires c =
+    (c.requires.0, (c.requires.1.0.0, c.requires.1.1))
+
+pub mark_left-requires : goal.mark_left-requires
+mark_left-requires c =
+    let S = c.pre.0 in
+    let F = c.push_ramp-n.ensures.1.1 S.context S.shows S.cuts in
+    (safe-entries (lists S.shows) (named F.listed) F.listed.few S.shows.anchored.long, c.pre.1.0.1)
+
+pub returns : goal.returns
+returns c =
+    (
+      c.push_ramp-n.ensures.0,
+      (
+        (c.push_ramp-n.ensures.1.0, c.mark_left.ensures.1),
+        λ C T S U K.
+            let F = c.push_ramp-n.ensures.1.1 C S U in
+            record {
+              filled = record { listed = F.listed; entries = F.entries ∙ ap (λ n. collect n (mouth_candidate C c.args.a)) (sym S.counted) };
+              left = c.mark_left.ensures.0 C T S.rows (named F.listed) K;
+            },
+      ),
+    )

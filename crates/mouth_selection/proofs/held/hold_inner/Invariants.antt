@@ -1,0 +1,11 @@
+-- `held::hold_inner` meets its contract. The invariant: the rows passed are held. Assumes nothing.
+use Prim.Native.Nat.{◌-◌, ◌≤◌}
+use mathlib.Core.Path.{◌≡◌}
+use Rattle.mouth_selection.proofs.Marks.{marked}
+use Rattle.mouth_selection.proofs.held.hold_inner.Given as goal
+
+abbrev pub invariant-loop-k : goal.invariant-loop-k
+invariant-loop-k l = (l.end ≤ l.k) × ((l.k ≤ l.outer) × (l.marks ≡ marked l.initial.marks l.first l.pairs l.end l.k))
+
+abbrev pub decreases-loop-k : goal.decreases-loop-k
+decreases-loop-k l = l.outer - l.k

@@ -1,0 +1,71 @@
+-- `parents::join` meets its contract: two numbers of one parent have one name, and else the two names are found and linked. Assumes nothing.
+use native.Mathlib.Omega.{arith}
+use Rattle.parents.proofs.Joining.{Names, join-idle, placed_first, placed-second, names, join-long, join-linked}
+use Rattle.parents.proofs.join.Goals as goal
+
+pub offset_bounds-parents-a : goal.offset_bounds-parents-a
+offset_bounds-parents-a c = omega (arith, c.requires.first, c.requires.forest.few)
+
+pub bounds-parents-a : goal.bounds-parents-a
+bounds-parents-a c = omega (arith, c.requires.first, c.requires.forest.long)
+
+pub offset_bounds-parents-b : goal.offset_bounds-parents-b
+offset_bounds-parents-b c = omega (arith, c.requires.second, c.requires.forest.few)
+
+pub bounds-parents-b : goal.bounds-parents-b
+bounds-parents-b c = omega (arith, c.requires.second, c.requires.forest.long)
+
+pub returns-then-parents-a : goal.returns-then-parents-a
+returns-then-parents-a c = join-idle c.if-parents-a.true
+
+pub find-i-requires : goal.find-i-requires
+find-i-requires c = placed_first c.requires
+
+pub find-j-requires : goal.find-j-requires
+find-j-requires c = placed-second (start c.requires c.find-i.ensures
+
+pub overflow_cast-parents : goal.overflow_cast-parents
+overflow_cast-parents c =
+    let at_names : Names (first c).find.ensures c.find-j.ensures = names (first c).find.ensures c.find-j.ensures (start (first c)).requires in
+    omega (arith, at_names.first)
+
+pub offset_bounds-parents-j : goal.offset_bounds-parents-j
+offset_bounds-parents-j c =
+    let at_names : Names (first c).find.ensures c.find-j.ensures = names (first c).find.ensures c.find-j.ensures (start (first c)).requires in
+    omega (arith, at_names.second)
+
+pub bounds-parents-j : goal.bounds-parents-j
+bounds-parents-j c =
+    let at_names : Names (first c).find.ensures c.find-j.ensures = names (first c).find.ensures c.find-j.ensures (start (first c)).requires in
+    at_names.second_in
+
+pub overflow_cast-parents-else-i-j : goal.overflow_cast-parents-else-i-j
+overflow_cast-parents-else-i-j c =
+    let at_names : Names (first c).find.ensures c.find-j.ensures = names (first c).find.ensures c.find-j.ensures (start (first c)).requires in
+    omega (arith, at_names.second)
+
+pub offset_bounds-parents-i : goal.offset_bounds-parents-i
+offset_bounds-parents-i c =
+    let at_names : Names (first c).find.ensures c.find-j.ensures = names (first c).find.ensures c.find-j.ensures (start (first c)).requires in
+    omega (arith, at_names.first)
+
+pub bounds-parents-i : goal.bounds-parents-i
+bounds-parents-i c =
+    let at_names : Names (first c).find.ensures c.find-j.ensures = names (first c).find.ensures c.find-j.ensures (start (first c)).requires in
+    at_names.first_in
+
+pub shape_of-parents-then-i-j : goal.shape_of-parents-then-i-j
+shape_of-parents-then-i-j c =
+    join-long c.find-i.ensures c.find-j.ensures c.pre c.find-j.result c.find-i.result
+
+pub returns-then-i-j : goal.returns-then-i-j
+returns-then-i-j c =
+    join-linked c.find-i.ensures c.find-j.ensures c.find-j.result c.find-i.result (omega (arith, c.if-i-j.true)) (omega (arith, c.if-i-j.true))
+
+pub shape_of-parents-else-i-j : goal.shape_of-parents-else-i-j
+shape_of-parents-else-i-j c =
+    join-long c.find-i.ensures c.find-j.ensures c.pre c.find-i.result c.find-j.result
+
+pub returns-else-i-j : goal.returns-else-i-j
+returns-else-i-j c =
+    join-linked c.find-i.ensures c.find-j.ensures c.find-i.result c.find-j.result (omega (arith, c.if-i-j.false)) (omega (arith, c.if-i-j.false))

@@ -1,0 +1,44 @@
+-- `pool::maps_of_day` meets its contract: the checks in their order, and then the listing. Assumes nothing.
+use mathlib.Core.Path.{refl, sym, ap, ◌∙◌}
+use Rattle.pool_terms.specs.Contract.{day_in}
+use Rattle.pool.specs.Contract.{date, answer_of, refusal_of}
+use Rattle.pool.proofs.Verdicts.{lists-refused, day-refused, day-listed, listed-at_exit, terms_fine}
+use Rattle.pool.proofs.maps_of_day.Goals as goal
+
+pub returns-in-Unfinished : goal.returns-in-Unfinished
+returns-in-Unfinished c =
+    (lists-refused _ _ _ _ (sym (ap refusal_of c.enum_told-in-Unfinished-1.given.1) ∙ c.check_lists.ensures), refl)
+
+pub returns-in-BrokenRecord : goal.returns-in-BrokenRecord
+returns-in-BrokenRecord c =
+    (lists-refused _ _ _ _ (sym (ap refusal_of c.i-1.given.1) ∙ c.check_lists.ensures), refl)
+
+pub returns-in-BadDate : goal.returns-in-BadDate
+returns-in-BadDate c =
+    (lists-refused _ _ _ _ (sym (ap refusal_of c.i-in-BadDate-1.given.1) ∙ c.check_lists.ensures), refl)
+
+pub returns-in-EmptyOrOverlapping : goal.returns-in-EmptyOrOverlapping
+returns-in-EmptyOrOverlapping c =
+    (lists-refused _ _ _ _ (sym (ap refusal_of c.i-in-EmptyOrOverlapping-1.given.1) ∙ c.check_lists.ensures), refl)
+
+pub list_day-requires : goal.list_day-requires
+list_day-requires c =
+    terms_fine _ _ (sym c.check_lists.ensures ∙ ap refusal_of c.enum_told-1.given.1)
+
+pub returns-in-Bad : goal.returns-in-Bad
+returns-in-Bad c =
+    (
+      day-refused _ _ _ _ (sym (ap refusal_of c.enum_told-1.given.1) ∙ c.check_lists.ensures)
+          (sym (ap day_in c.enum_told-in-Bad-1.given.1) ∙ c.day_of.ensures),
+      refl,
+    )
+
+pub returns-in-Number : goal.returns-in-Number
+returns-in-Number c =
+    let lent = c.args in
+    let L = c.list_day.ensures in
+    let day = sym (ap day_in c.asked-1.given.1) ∙ c.day_of.ensures in (
+      L.answer ∙ day-listed _ _ _ _ (sym (ap refusal_of c.enum_told-1.given.1) ∙ c.check_lists.ensures) day,
+      L.output
+          ∙ listed-at_exit (answer_of c.list_day.result).number lent.terms.now lent.records.now (date lent.year lent.month lent.day) lent.output.now day,
+    )

@@ -1,0 +1,13 @@
+-- `apart::take_key` meets its contract. Assumes nothing.
+use Rattle.catalogue.specs.Terms.{term_at}
+use Rattle.pool_faults.proofs.Taking.{keys-stored, keys-passed}
+use Rattle.pool_faults.proofs.apart.take_key.Goals as goal
+
+pub returns-then-is_between : goal.returns-then-is_between
+returns-then-is_between c =
+    keys-stored _ _ _ c.requires.1.1 _ c.requires.0.2 c.key_of.ensures
+
+pub returns : goal.returns
+unfolding term_at
+returns c =
+    keys-passed _ _ _ c.requires.1.1 (c.is_between.ensures c.if-is_between.false)

@@ -1,0 +1,34 @@
+-- `faults::terms_fault` meets its contract. The invariant: the terms below i break no rule. The measure is what is left of the terms. Assumes nothing.
+use mathlib.Core.Path.{sym, ap, ◌∙◌}
+use Rattle.laws.specs.ListLaws.FirstBelow.{none_below_more, none_below-end, first_found}
+use Rattle.catalogue.specs.Terms.{terms_refusal}
+use Rattle.pool_terms.specs.Contract.{refusal_in}
+use borrow.Author.Rules.{rules}
+use Rattle.pool_faults.proofs.faults.terms_fault.Goals as goal
+
+pub loop-i-init : goal.loop-i-init
+loop-i-init c = c.faultless_terms-i.ensures
+
+pub returns-in-BadDate : goal.returns-in-BadDate
+unfolding terms_refusal
+returns-in-BadDate c =
+    let I = c.loop-i.invariant in
+    let found = ap refusal_in c.enum_told-in-BadDate-1.given.1 in
+    found ∙ sym (first_found _ _ c.loop-i.i _ c.loop-i-test.true I.1 (sym c.term_fault-fault.ensures ∙ found))
+
+pub returns-in-EmptyOrOverlapping : goal.returns-in-EmptyOrOverlapping
+unfolding terms_refusal
+returns-in-EmptyOrOverlapping c =
+    let I = c.loop-i.invariant in
+    let found = ap refusal_in c.enum_told-in-EmptyOrOverlapping-1.given.1 in
+    found ∙ sym (first_found _ _ c.loop-i.i _ c.loop-i-test.true I.1 (sym c.term_fault-fault.ensures ∙ found))
+
+pub loop-i-preserved : goal.loop-i-preserved
+loop-i-preserved c =
+    let nothing = ap refusal_in c.enum_told-1.given.1 in
+    (search rules, none_below_more _ c.loop-i.i c.loop-i.invariant.1 (sym c.term_fault-fault.ensures ∙ nothing))
+
+pub returns : goal.returns
+unfolding terms_refusal
+returns c =
+    sym (none_below-end _ _ c.loop-i.i c.loop-i.invariant.0 c.loop-i-test.false c.loop-i.invariant.1)

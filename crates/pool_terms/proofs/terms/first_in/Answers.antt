@@ -1,0 +1,12 @@
+-- `terms::first_in` meets its contract, by that of `term_days`. Assumes nothing.
+use mathlib.Core.Path.{sym, ap, ◌∙◌}
+use Rattle.pool_terms.specs.Contract.{days_in, first_in}
+use Rattle.pool_terms.proofs.terms.first_in.Goals as goal
+
+pub returns-in-Bad : goal.returns-in-Bad
+returns-in-Bad c =
+    sym (ap first_in (sym c.term_days.ensures ∙ ap days_in c.enum_told-1.given.1))
+
+pub returns-in-FromTo : goal.returns-in-FromTo
+returns-in-FromTo c =
+    sym (ap first_in (sym c.term_days.ensures ∙ ap days_in c.from-1.given.1))

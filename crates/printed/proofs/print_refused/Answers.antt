@@ -1,0 +1,9 @@
+-- `printed::print_refused` meets its contract: one line. Assumes nothing.
+use borrow.Author.Rules.{rules}
+use Rattle.definitions.specs.Printed.{text, refused_line}
+use Rattle.printed.proofs.Places.{printed}
+use Rattle.printed.proofs.print_refused.Goals as goal
+
+pub returns : goal.returns
+unfolding text refused_line
+returns c = (printed (search rules) c.put_line.ensures.0, search rules)

@@ -1,0 +1,10 @@
+-- `printed::put_decimal` meets its contract. The loop's invariant is `Writing`: writing the digits of what is left makes the list that is wanted. The measure is what is
+-- left. Assumes nothing.
+use Rattle.printed.proofs.Digits.{Writing}
+use Rattle.printed.proofs.put_decimal.Given as goal
+
+abbrev pub invariant-loop-left : goal.invariant-loop-left
+invariant-loop-left l = Writing l.at l.n l.next l.out l.left l.place
+
+abbrev pub decreases-loop-left : goal.decreases-loop-left
+decreases-loop-left l = l.left

@@ -1,0 +1,47 @@
+-- `ranked_rows::list_in_order` meets its contract. The loop's invariant: the rows of the first k ranks are written (`ListedTo`). The measure is how many ranks are left. Assumes nothing.
+use native.Mathlib.Nat.{le_antisymm}
+use native.Mathlib.Omega.{arith}
+use mathlib.Core.Path.{ap, ◌∙◌}
+use Rattle.definitions.specs.Lists.{overwrite}
+use Rattle.junction_selection.specs.Ranks.{order_of}
+use Rattle.ranked_list.specs.RankedList.{flat_ranked}
+use Rattle.ranked_rows.specs.Contract.{Listing, listed_from}
+use Rattle.ranked_rows.proofs.Following.{listed_none, listed_more, listing_of}
+use Rattle.ranked_rows.proofs.list_in_order.Goals as goal
+
+pub loop-k-init : goal.loop-k-init
+loop-k-init c =
+    let a = c.args in
+    listed_none a.smaller.now a.larger.now a.rows.now a.order.now a.count a.m a.listed.now
+
+pub bounds-order-k : goal.bounds-order-k
+bounds-order-k c =
+    omega (arith, c.loop-k-test.true, c.requires.0.few, c.requires.0.ordered, c.requires.1.0)
+
+pub list_row-requires : goal.list_row-requires
+list_row-requires c =
+    let asked : Listing c.args.rows.now c.args.order.now c.loop-k.listed c.args.count c.args.n = listing_of c.loop-k.listed c.requires.0 c.loop-k.invariant.long in
+    let rows_in = c.requires.1.1 in
+    let k = c.loop-k.k in (
+      asked,
+      record {
+        rank_in_lem = omega (arith, c.loop-k-test.true, c.requires.1.0);
+        row_in = omega (arith, c.wide.ensures, rows_in k c.loop-k-test.true);
+        rows_in = λ j h. rows_in j (omega (arith, c.loop-k-test.true));
+      },
+    )
+
+pub loop-k-preserved : goal.loop-k-preserved
+loop-k-preserved c =
+    listed_more c.loop-k.invariant c.loop-k-test.true c.wide.ensures c.list_row.ensures c.list_row.auto.listed
+
+pub shape_of-listed : goal.shape_of-listed
+shape_of-listed c = c.loop-k.invariant.long
+
+pub returns : goal.returns
+returns c =
+    let h = c.loop-k.invariant in
+    let = c in
+    let a = known.before.before.args in
+    h.is
+    ∙ ap (λ k. overwrite (flat_ranked (listed_from a.smaller.now a.larger.now a.count (order_of a.rows.now a.order.now k))) a.listed.now) (le_antisymm h.upto c.loop-k-test.false)

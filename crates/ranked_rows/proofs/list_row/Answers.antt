@@ -1,0 +1,8 @@
+-- `ranked_rows::list_row` meets its contract: what the search found is what is written. Assumes nothing.
+use Rattle.ranked_rows.proofs.Following.{row-follows}
+use Rattle.ranked_rows.proofs.list_row.Goals as goal
+
+pub returns : goal.returns
+returns c =
+    let a = c.args in
+    row-follows a.smaller.now a.larger.now a.rows.now a.order.now a.count a.k a.p c.requires.0 c.requires.1 c.refused_by-by.ensures c.put_ranked.ensures

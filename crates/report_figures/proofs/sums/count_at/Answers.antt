@@ -1,0 +1,11 @@
+-- `sums::count_at` meets its contract: a number below 25 has a place. Assumes nothing.
+use Rattle.std.proofs.Common.{set, ap, ◌∙◌, rules}
+use Rattle.report_figures.proofs.Adding.{counted, not-counted}
+use Rattle.report_figures.proofs.sums.count_at.Goals as goal
+
+pub returns-then-number : goal.returns-then-number
+returns-then-number c =
+    ap (λ n. set c.args.t1 c.args.number n) c.wrapping_add_u64.ensures ∙ counted c.args.t1 c.args.number (search rules)
+
+pub returns-else-number : goal.returns-else-number
+returns-else-number c = not-counted c.args.t1 c.args.number (search rules)

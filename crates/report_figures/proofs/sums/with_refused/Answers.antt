@@ -1,0 +1,7 @@
+-- `sums::with_refused` meets its contract, from the sums of its parts. Assumes nothing.
+use Rattle.report_figures.proofs.Adding.{refused-added}
+use Rattle.report_figures.proofs.sums.with_refused.Goals as goal
+
+pub returns : goal.returns
+returns c =
+    refused-added c.args.report c.args.number c.wrapping_add_u64.ensures c.count_at-refused.ensures

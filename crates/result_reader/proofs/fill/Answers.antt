@@ -1,0 +1,26 @@
+-- `result_reader::fill` meets its contract: each list is filled by one call, and the others do not touch it. Assumes nothing.
+use Rattle.result_reader.proofs.fill.Goals as goal
+
+pub fill_list-requires : goal.fill_list-requires
+fill_list-requires c =
+    let given = c.requires in
+    (given.0.for-labels, given.1.for-labels)
+
+pub fill_list-requires-2 : goal.fill_list-requires-2
+fill_list-requires-2 c =
+    let given = c.requires in
+    (given.0.for-tallies, given.1.for-tallies)
+
+pub fill_list-requires-3 : goal.fill_list-requires-3
+fill_list-requires-3 c =
+    let given = c.requires in
+    (given.0.for-pairs, given.1.for-pairs)
+
+pub fill_list-requires-4 : goal.fill_list-requires-4
+fill_list-requires-4 c =
+    let given = c.requires in
+    (given.0.for-rows, given.1.for-rows)
+
+pub returns : goal.returns
+returns c =
+    (c.fill_list.ensures, (c.fill_list-2.ensures, (c.fill_list-3.ensures, c.fill_list-4.ensures)))

@@ -1,0 +1,31 @@
+-- `row_runs::cells::join_cells` meets its contract. The loop's invariant is `Joining`; the measure is how many rows are left. Assumes nothing.
+use native.Mathlib.Omega.{arith}
+use Rattle.row_runs.proofs.AllRows.{joining_starts, row-asked, joining_goes_on, joining_ends}
+use Rattle.row_runs.proofs.cells.join_cells.Goals as goal
+
+pub loop-y-init : goal.loop-y-init
+loop-y-init c = joining_starts c.requires _
+
+pub join_row-marked-requires : goal.join_row-marked-requires
+join_row-marked-requires c =
+    row-asked c.pre c.loop-y.inv c.loop-y-test.true
+
+pub overflow_add-y : goal.overflow_add-y
+overflow_add-y c =
+    omega (arith, c.loop-y-test.taken, c.pre.short)
+
+pub loop-y-smaller : goal.loop-y-smaller
+loop-y-smaller c = omega (arith, c.loop-y-test.taken)
+
+pub loop-y-preserved : goal.loop-y-preserved
+loop-y-preserved c =
+    joining_goes_on c.loop-y.inv c.loop-y-test.taken c.join_row-marked.ensures
+
+pub shape_of-parents : goal.shape_of-parents
+shape_of-parents c = c.loop-y.invariant.parents.long
+
+pub shape_of-queue : goal.shape_of-queue
+shape_of-queue c = c.loop-y.invariant.queue.long
+
+pub returns : goal.returns
+returns c = joining_ends c.loop-y.invariant c.loop-y-test.false

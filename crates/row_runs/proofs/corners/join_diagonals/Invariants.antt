@@ -1,0 +1,10 @@
+-- `row_runs::corners::join_diagonals` meets its contract. The loop's invariant is `Cornering`; the measure is how many columns are left. Assumes nothing.
+use Prim.Native.Nat.{◌+◌, ◌-◌}
+use Rattle.row_runs.proofs.CornerNames.{Cornering}
+use Rattle.row_runs.proofs.corners.join_diagonals.Given as goal
+
+abbrev pub invariant-loop-c : goal.invariant-loop-c
+invariant-loop-c l = Cornering l.width l.cells l.masks l.end l.up l.parents l.c
+
+abbrev pub decreases-loop-c : goal.decreases-loop-c
+decreases-loop-c l = l.end + l.width - l.c

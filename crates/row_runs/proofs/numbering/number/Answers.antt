@@ -1,0 +1,37 @@
+-- `row_runs::numbering::number` meets its contract. The loop's invariant is `Numbering`; the measure is how many cells are left. Assumes nothing.
+use native.Mathlib.Omega.{arith}
+use Rattle.row_runs.proofs.Numbers.{numbering_starts, numbering_goes_on, numbering_ends, labels_long_lem, end_more, end-inside, room, label-asked}
+use Rattle.row_runs.proofs.numbering.number.Goals as goal
+
+pub loop-c-init : goal.loop-c-init
+loop-c-init c = numbering_starts _ _ _ _
+
+pub bounds-queue-c : goal.bounds-queue-c
+bounds-queue-c c = omega (arith, c.loop-c-test.true, c.requires.queue_long_lem)
+
+pub label_at-label-requires : goal.label_at-label-requires
+label_at-label-requires c =
+    label-asked c.loop-c.inv c.pre c.loop-c-test.taken
+
+pub put_label-requires : goal.put_label-requires
+put_label-requires c =
+    let I = c.loop-c.inv in
+    let A = c.pre in
+    let h = c.loop-c-test.taken in
+    (omega (arith, c.wide-e.ensures, end_more I A h), omega (arith, c.wide-e.ensures, end-inside I A h, room I A h))
+
+pub loop-c-smaller : goal.loop-c-smaller
+loop-c-smaller c =
+    let e = at-end c in
+    let t = e in
+    omega (arith, e.wide.ensures, t.loop-test.taken, end_more t.before.loop.inv t.pre t.loop-test.taken)
+
+pub loop-c-preserved : goal.loop-c-preserved
+loop-c-preserved c =
+    numbering_goes_on c.loop-c.inv c.pre c.loop-c-test.taken c.wide-e.ensures c.label_at-label.ensures c.put_label.ensures c.greater-id.ensures
+
+pub shape_of-labels : goal.shape_of-labels
+shape_of-labels c = labels_long_lem c.loop-c.invariant c.pre
+
+pub returns : goal.returns
+returns c = numbering_ends c.loop-c.invariant c.loop-c-test.false c.wide.ensures

@@ -1,0 +1,12 @@
+-- `row_runs::row::gap_rest` meets its contract. The loop's invariant is `Passing`; the measure is how many cells are left. What is passed is not walkable. Assumes nothing.
+use Prim.Native.Nat.{◌-◌}
+use mathlib.Core.Bool.{not}
+use Rattle.row_runs.specs.Stretch.{walks}
+use Rattle.row_runs.proofs.Passing.{Passing}
+use Rattle.row_runs.proofs.row.gap_rest.Given as goal
+
+abbrev pub invariant-loop-c : goal.invariant-loop-c
+invariant-loop-c l = Passing (λ d. not (walks l.cells d)) l.from l.end l.c
+
+abbrev pub decreases-loop-c : goal.decreases-loop-c
+decreases-loop-c l = l.end - l.c

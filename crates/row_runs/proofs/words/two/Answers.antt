@@ -1,0 +1,21 @@
+-- `row_runs::words::two` meets its contract. A byte is below 256. Assumes nothing.
+use Prim.Native.Nat.{◌+◌}
+use native.Mathlib.Omega.{arith}
+use Rattle.row_runs.proofs.WordLaws.{word_two}
+use Rattle.row_runs.proofs.words.two.Goals as goal
+
+pub overflow_mul-result : goal.overflow_mul-result
+overflow_mul-result c = omega (arith, c.byte-high.ensures, c.shared_slice_known-3-1.given (c.args.c + 1))
+
+pub overflow_add-result : goal.overflow_add-result
+overflow_add-result c =
+    let given = c.shared_slice_known-3-1.given in
+    omega (arith, c.byte-low.ensures, c.byte-high.ensures, given c.args.c, given (c.args.c + 1))
+
+pub returns : goal.returns
+returns c =
+    let a = c.args in
+    let given = c.shared_slice_known-3-1.given in (
+      omega (arith, c.byte-low.ensures, c.byte-high.ensures, word_two a.cells.now a.c),
+      omega (arith, c.byte-low.ensures, c.byte-high.ensures, given a.c, given (a.c + 1)),
+    )

@@ -1,0 +1,31 @@
+-- `put_rows` meets its contract. The loop's invariant is `RowsFilled`: the rows of the first j are stored, and k is where they end. The measure is how many are
+-- left. Assumes nothing.
+use native.Mathlib.Nat.{lt_of_lt_of_le}
+use Rattle.separation_list.proofs.Storing.{rows_start, next_room, rows-go_on, rows_end}
+use borrow.Author.Rules.{rules}
+use Rattle.separation_list.proofs.put_rows.Goals as goal
+
+pub loop-j-init : goal.loop-j-init
+loop-j-init c = rows_start _ _ _
+
+pub put_column-requires : goal.put_column-requires
+put_column-requires c =
+    let given = c.requires in
+    let less = c.loop-j-test.true in
+    record { pixels = given.pixels; listed = lt_of_lt_of_le less given.listed; room = next_room c.loop-j.invariant less given.room }
+
+pub overflow_add-k : goal.overflow_add-k
+overflow_add-k c =
+    let given = c.requires in
+    let room = next_room c.loop-j.invariant c.loop-j-test.true given.room in
+    search rules
+
+pub loop-j-preserved : goal.loop-j-preserved
+loop-j-preserved c =
+    rows-go_on c.loop-j.invariant c.loop-j-test.true c.put_column.ensures c.put_column.auto.output
+
+pub shape_of-output : goal.shape_of-output
+shape_of-output c = c.loop-j.invariant.long
+
+pub returns : goal.returns
+returns c = rows_end c.loop-j.invariant c.loop-j-test.false

@@ -1,0 +1,42 @@
+-- `sheet::fill` meets its contract: each list is filled by one call, and the others do not touch it. The spans come behind the boundaries, which they may be
+-- filled from. Assumes nothing.
+use Prim.Native.Nat.{◌/◌}
+use native.Mathlib.Omega.{arith}
+use mathlib.Core.Path.{ap, ◌∙◌}
+use mathlib.Core.Bool.{cond}
+use Rattle.definitions.specs.Lists.{overwrite}
+use Rattle.definitions.specs.Sheet.{has_spans, endpoints_in}
+use Rattle.sheet.specs.Parts.{part_of}
+use Rattle.sheet.proofs.Filling.{held-length}
+use Rattle.sheet.proofs.Answering.{stored-long, spans-stored}
+use Rattle.sheet.proofs.fill.Goals as goal
+
+pub fill_cells-requires : goal.fill_cells-requires
+fill_cells-requires c =
+    (c.requires.0.cells, c.requires.1.for-cells)
+
+pub fill_numbers-requires : goal.fill_numbers-requires
+fill_numbers-requires c =
+    (c.requires.0.boundaries, c.requires.1.for-boundaries)
+
+pub fill_spans-requires : goal.fill_spans-requires
+fill_spans-requires c =
+    (c.requires.0.spans, (omega (arith, stored-long (part_of c.args.bytes.now c.args.parts.boundaries) c.args.boundaries.now c.fill_numbers.ensures, held-length c.requires.0.boundaries), c.requires.1.for-spans))
+
+pub fill_numbers-requires-2 : goal.fill_numbers-requires-2
+fill_numbers-requires-2 c =
+    (c.requires.0.anchors, c.requires.1.for-anchors)
+
+pub returns : goal.returns
+returns c =
+    let given = c.args in
+    let bytes = given.bytes.now in
+    let own = has_spans given.kind in
+    let b = given.parts.spans in
+    let c₁ = given.parts.boundaries in
+    let old = given.spans.now in
+    let stored =
+    c.fill_spans.ensures
+    ∙ ap (λ l. overwrite (cond own (part_of bytes b) (endpoints_in (c₁.length / 9) l)) old) c.fill_numbers.ensures
+    ∙ ap (λ l. overwrite l old) (spans-stored own bytes b c₁ given.boundaries.now c.requires.0.boundaries) in
+    (c.fill_cells.ensures, (stored, (c.fill_numbers.ensures, c.fill_numbers-2.ensures)))

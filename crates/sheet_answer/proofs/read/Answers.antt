@@ -1,0 +1,16 @@
+-- `sheet_answer::read` meets its contract: the bytes are counted before any of them is judged, and the lists have room for every sheet that is read. Assumes
+-- nothing.
+use Rattle.sheet_answer.proofs.BeforeCall.{begun-long, begun-read, begun-refused}
+use Rattle.sheet_answer.proofs.read.Goals as goal
+
+pub returns-then-bytes-gt-SHEET_BYTES_MOST : goal.returns-then-bytes-gt-SHEET_BYTES_MOST
+returns-then-bytes-gt-SHEET_BYTES_MOST c =
+    begun-long _ _ _ _ _ c.if-bytes-gt-SHEET_BYTES_MOST.true c.print_refused.ensures.0
+
+pub returns-in-Read : goal.returns-in-Read
+returns-in-Read c =
+    begun-read _ _ _ _ _ c.if-bytes-gt-SHEET_BYTES_MOST.false c.pre.0 c.read_within.ensures c.header-1.given.1
+
+pub returns-in-Refused : goal.returns-in-Refused
+returns-in-Refused c =
+    begun-refused _ _ _ _ _ c.if-bytes-gt-SHEET_BYTES_MOST.false c.pre.0 c.read_within.ensures _ _ c.number-1.given.1 c.print_refused-in-Refused.ensures.0

@@ -1,0 +1,59 @@
+-- `sheet_converter::cells_fault` meets its contract. The loop's invariant: the cells from i on stand from here on (`Walking`), and none before them is faulty. What was
+-- judged is not refused, so that the loop is not left early. The measure is how many are left. Assumes nothing.
+use native.Mathlib.Omega.{arith}
+use mathlib.Core.Path.{sym, ap, ◌∙◌}
+use lib.ListN.{length}
+use Rattle.definitions.specs.Refusals.{elevations_fault}
+use Rattle.definitions.specs.Sheet.{cell}
+use Rattle.laws.specs.ListLaws.FirstBelow.{none_faulty_zero, none_faulty_more, none_faulty_end, first_faulty_lem}
+use Rattle.sheet.specs.Numbers.{item_of, values_at}
+use Rattle.sheet.proofs.Filling.{held-length}
+use Rattle.sheet.proofs.Items.{as_cell, up_to_most}
+use Rattle.sheet_converter.proofs.Walking.{walking_starts, walking_never-stops, walking_cell, walking_goes_on}
+use Rattle.sheet_converter.proofs.cells_fault.Invariants.{fits, fitting}
+use Rattle.sheet_converter.proofs.cells_fault.Goals as goal
+
+pub loop-i-init : goal.loop-i-init
+loop-i-init c =
+    (walking_starts c.requires, none_faulty_zero (fits (values_at cell c.args.bytes.now c.args.at c.args.count)))
+
+pub item-requires : goal.item-requires
+item-requires c =
+    c.loop-i.invariant.0.held.inside
+
+pub enum_known-value : goal.enum_known-value
+enum_known-value c = c.in-Item.keys1
+
+pub enum_told-1 : goal.enum_told-1
+enum_told-1 c = c.in-Item.keys2
+
+pub returns-in_default : goal.returns-in_default
+returns-in_default c =
+    absurd (walking_never-stops c.loop-i.invariant.0 c.loop-i-test.true (as_cell _ _ (c.item.ensures ∙ ap (item_of _) c.enum_told-1.given.1)))
+
+pub overflow_cast-value : goal.overflow_cast-value
+overflow_cast-value c =
+    omega (arith, up_to_most 255 _ _ (c.item.ensures ∙ ap (item_of _) c.value-1.given.1))
+
+pub returns-then-not-elevation_fits : goal.returns-then-not-elevation_fits
+unfolding elevations_fault
+returns-then-not-elevation_fits c =
+    let cells = (values_at cell c.args.bytes.now c.args.at c.args.count) in
+    let long = held-length c.requires in
+    sym (first_faulty_lem (fits cells) (length cells) c.loop-i.i (omega (arith, long, c.loop-i-test.true)) c.loop-i.invariant.1
+    (c.elevation_fits.ensures ∙ ap fitting (sym (walking_cell c.loop-i.invariant.0 c.loop-i-test.true (as_cell _ _ (c.item.ensures ∙ ap (item_of _) c.value-1.given.1))))) c.if-not-elevation_fits.true-raw)
+
+pub loop-i-preserved : goal.loop-i-preserved
+loop-i-preserved c =
+    (
+      walking_goes_on c.loop-i.invariant.0 c.loop-i-test.true (as_cell _ _ (c.item.ensures ∙ ap (item_of _) c.value-1.given.1)),
+      none_faulty_more (fits (values_at cell c.args.bytes.now c.args.at c.args.count)) c.loop-i.i c.loop-i.invariant.1
+          (c.elevation_fits.ensures ∙ ap fitting (sym (walking_cell c.loop-i.invariant.0 c.loop-i-test.true (as_cell _ _ (c.item.ensures ∙ ap (item_of _) c.value-1.given.1))))) c.if-not-elevation_fits.false-raw,
+    )
+
+pub returns : goal.returns
+unfolding elevations_fault
+returns c =
+    let cells = (values_at cell c.args.bytes.now c.args.at c.args.count) in
+    let long = held-length c.requires in
+    sym (none_faulty_end (fits cells) (length cells) c.loop-i.i (omega (arith, long, c.loop-i.invariant.0.few)) (omega (arith, long, c.loop-i-test.false)) c.loop-i.invariant.1)

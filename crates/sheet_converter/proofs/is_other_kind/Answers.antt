@@ -1,0 +1,17 @@
+-- `sheet_converter::is_other_kind` meets its contract: what the number says, or that there is none. Assumes nothing.
+use mathlib.Core.Path.{ap, ◌∙◌}
+use Rattle.sheet.specs.Numbers.{number_of}
+use Rattle.sheet_converter.proofs.FirstNumber.{kind-told, no_kind}
+use Rattle.sheet_converter.proofs.is_other_kind.Goals as goal
+
+pub returns-in-Value : goal.returns-in-Value
+returns-in-Value c =
+    kind-told (c.number_at.ensures ∙ ap (number_of c.args.bytes.now 0) c.kind-1.given.1)
+
+pub returns-in-Bad : goal.returns-in-Bad
+returns-in-Bad c =
+    no_kind (c.number_at.ensures ∙ ap (number_of c.args.bytes.now 0) c.enum_told-1.given.1)
+
+pub returns-in-Short : goal.returns-in-Short
+returns-in-Short c =
+    no_kind (c.number_at.ensures ∙ ap (number_of c.args.bytes.now 0) c.enum_told-in-Short-1.given.1)

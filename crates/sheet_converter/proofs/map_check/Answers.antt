@@ -1,0 +1,51 @@
+-- `sheet_converter::map_check` meets its contract: the checks in their order; where one refuses, those before it did not. Assumes nothing.
+use mathlib.Core.Path.{sym}
+use Rattle.areas.proofs.Chain.{passes, refuses, here, next, said, place-said}
+use Rattle.sheet_converter.specs.Contract.{map_refusal}
+use Rattle.sheet_converter.proofs.map_check.Goals as goal
+
+pub returns-then-not-pass_fits : goal.returns-then-not-pass_fits
+unfolding map_refusal
+returns-then-not-pass_fits c =
+    here _ (refuses 4 c.pass_fits.ensures c.if-not-pass_fits.true-raw)
+
+pub lists_check-requires : goal.lists_check-requires
+lists_check-requires c =
+    c.requires.0
+
+pub returns-in-Refused : goal.returns-in-Refused
+unfolding map_refusal
+returns-in-Refused c =
+    next (passes 4 c.pass_fits.ensures c.if-not-pass_fits.false-raw)
+    (here _ (said c.lists_check.ensures c.number-1.given.1))
+
+pub cells_fault-requires : goal.cells_fault-requires
+cells_fault-requires c =
+    c.requires.1.0
+
+pub returns-in-At : goal.returns-in-At
+unfolding map_refusal
+returns-in-At c =
+    next (passes 4 c.pass_fits.ensures c.if-not-pass_fits.false-raw)
+    (next (said c.lists_check.ensures c.enum_told-1.given.1)
+    (here _ (place-said 9 c.cells_fault.ensures c.cell-1.given.1)))
+
+pub is_one_list-requires : goal.is_one_list-requires
+is_one_list-requires c =
+    c.requires.1.1
+
+pub returns-then-not-is_one_list : goal.returns-then-not-is_one_list
+unfolding map_refusal
+returns-then-not-is_one_list c =
+    next (passes 4 c.pass_fits.ensures c.if-not-pass_fits.false-raw)
+    (next (said c.lists_check.ensures c.enum_told-1.given.1)
+    (next (place-said 9 c.cells_fault.ensures c.enum_told-in_default-cells_fault-1.given.1)
+    (sym (refuses 22 c.is_one_list.ensures c.if-not-is_one_list.true-raw))))
+
+pub returns : goal.returns
+unfolding map_refusal
+returns c =
+    next (passes 4 c.pass_fits.ensures c.if-not-pass_fits.false-raw)
+    (next (said c.lists_check.ensures c.enum_told-1.given.1)
+    (next (place-said 9 c.cells_fault.ensures c.enum_told-in_default-cells_fault-1.given.1)
+    (sym (passes 22 c.is_one_list.ensures c.if-not-is_one_list.false-raw))))

@@ -1,0 +1,24 @@
+-- `sheet_converter_convert_sheet` meets its contract: the kind first, then what the reader judges, then the sheet that was found. Assumes nothing.
+use mathlib.Core.Path.{sym, subst, ◌∙◌}
+use Rattle.sheet.specs.Parts.{SheetTold}
+use Rattle.sheet_converter.proofs.FirstNumber.{opened_1}
+use Rattle.sheet_converter.proofs.Answering.{converts_other, converts_plan, converts_refused}
+use Rattle.sheet_converter.proofs.sheet_converter_convert_sheet.Goals as goal
+
+pub returns-then-is_other_kind : goal.returns-then-is_other_kind
+returns-then-is_other_kind c =
+    converts_other c.args.bytes.now c.args.out.now (sym c.is_other_kind.ensures ∙ c.if-is_other_kind.true)
+
+pub convert_plan-requires : goal.convert_plan-requires
+convert_plan-requires c =
+    let held = (subst (SheetTold _ _) c.plan-1.given.1 c.judge_sheet.ensures) in
+    (held, opened_1 c.args.bytes.now held.stands.opened (sym c.is_other_kind.ensures ∙ c.if-is_other_kind.false))
+
+pub returns-in-Sound : goal.returns-in-Sound
+returns-in-Sound c =
+    let held = (subst (SheetTold _ _) c.plan-1.given.1 c.judge_sheet.ensures) in
+    converts_plan c.args.bytes.now c.args.out.now (sym c.is_other_kind.ensures ∙ c.if-is_other_kind.false) _ held.same c.convert_plan.ensures
+
+pub returns-in-Refused : goal.returns-in-Refused
+returns-in-Refused c =
+    converts_refused c.args.bytes.now c.args.out.now (sym c.is_other_kind.ensures ∙ c.if-is_other_kind.false) (subst (SheetTold _ _) c.refusal-1.given.1 c.judge_sheet.ensures)

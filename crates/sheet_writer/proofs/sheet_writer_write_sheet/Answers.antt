@@ -1,0 +1,48 @@
+-- `sheet_writer_write_sheet` meets its contract: nothing is put before the sides, the cells, the lists and the room are known. Assumes nothing.
+use borrow.Author.Tests.{not-true, not-false}
+use Rattle.map_sheets.specs.Writing.{stating}
+use Rattle.sheet_writer.proofs.Answering.{fits-known, writes_1, writes_2, writes_3, writes_10, writes_0}
+use Rattle.laws.specs.SheetReading.SheetSizes.{sides_most}
+use Rattle.sheet_writer.proofs.sheet_writer_write_sheet.Goals as goal
+
+pub returns-then-not-sides_fit : goal.returns-then-not-sides_fit
+unfolding stating
+returns-then-not-sides_fit c =
+    writes_1 (stating c.args.pass c.args.width c.args.height c.args.cells.now c.args.boundaries.now c.args.anchors.now) c.args.out.now c.sides_fit.ensures (not-true c.sides_fit.result c.if-not-sides_fit.true-raw)
+
+pub cells_fit-requires : goal.cells_fit-requires
+cells_fit-requires c =
+    sides_most _ _ c.sides_fit.ensures (not-false c.sides_fit.result c.if-not-sides_fit.false-raw)
+
+pub returns-then-not-cells_fit : goal.returns-then-not-cells_fit
+unfolding stating
+returns-then-not-cells_fit c =
+    writes_2 (stating c.args.pass c.args.width c.args.height c.args.cells.now c.args.boundaries.now c.args.anchors.now) c.args.out.now c.sides_fit.ensures (not-false c.sides_fit.result c.if-not-sides_fit.false-raw)
+    c.cells_fit.ensures (not-true c.cells_fit.result c.if-not-cells_fit.true-raw)
+
+pub returns-then-not-are_whole : goal.returns-then-not-are_whole
+unfolding stating
+returns-then-not-are_whole c =
+    writes_3 (stating c.args.pass c.args.width c.args.height c.args.cells.now c.args.boundaries.now c.args.anchors.now) c.args.out.now c.sides_fit.ensures (not-false c.sides_fit.result c.if-not-sides_fit.false-raw)
+    c.cells_fit.ensures (not-false c.cells_fit.result c.if-not-cells_fit.false-raw)
+    c.are_whole.ensures (not-true c.are_whole.result c.if-not-are_whole.true-raw)
+
+pub returns-then-not-fits : goal.returns-then-not-fits
+unfolding stating
+returns-then-not-fits c =
+    writes_10 (stating c.args.pass c.args.width c.args.height c.args.cells.now c.args.boundaries.now c.args.anchors.now) c.args.out.now c.sides_fit.ensures (not-false c.sides_fit.result c.if-not-sides_fit.false-raw)
+    c.cells_fit.ensures (not-false c.cells_fit.result c.if-not-cells_fit.false-raw)
+    c.are_whole.ensures (not-false c.are_whole.result c.if-not-are_whole.false-raw)
+    c.fits2.ensures (not-true c.fits2.result c.if-not-fits.true-raw)
+
+pub put_sheet-size-requires : goal.put_sheet-size-requires
+put_sheet-size-requires c =
+    fits-known (stating c.args.pass c.args.width c.args.height c.args.cells.now c.args.boundaries.now c.args.anchors.now) c.args.out.now c.fits2.ensures (not-false c.fits2.result c.if-not-fits.false-raw)
+
+pub returns : goal.returns
+unfolding stating
+returns c =
+    writes_0 (stating c.args.pass c.args.width c.args.height c.args.cells.now c.args.boundaries.now c.args.anchors.now) c.args.out.now c.sides_fit.ensures (not-false c.sides_fit.result c.if-not-sides_fit.false-raw)
+    c.cells_fit.ensures (not-false c.cells_fit.result c.if-not-cells_fit.false-raw)
+    c.are_whole.ensures (not-false c.are_whole.result c.if-not-are_whole.false-raw)
+    c.fits2.ensures (not-false c.fits2.result c.if-not-fits.false-raw) c.put_sheet-size.ensures
