@@ -31,16 +31,14 @@ unfolding spans_refusal
 returns-then-not-differ c =
     let at : ℕ → Option Refusal = refusal_at c.args.width c.args.height c.args.spans.now in
     let count : ℕ = length c.args.spans.now / numbers_per_span in
-    let is_inside_lem : {t : Bool} → not c.both_on_map-on.result ≡ false → not c.endpoints_differ-differ.result ≡ t → at c.loop-i.i ≡ only_if t (refusal 6 c.loop-i.i) = λ e d. let a = c.args in
-    inside a.width a.height a.spans.now c.loop-i.i c.both_on_map-on.ensures e c.endpoints_differ-differ.ensures d in
-    sym (first_found at count c.loop-i.i (refusal 6 c.loop-i.i) (search rules) c.loop-i.invariant.1 (is_inside_lem c.if-not-on.false-raw c.if-not-differ.true-raw))
+    let a = c.args in
+    sym (first_found at count c.loop-i.i (refusal 6 c.loop-i.i) (search rules) c.loop-i.invariant.1 (inside a.width a.height a.spans.now c.loop-i.i c.both_on_map-on.ensures c.if-not-on.false-raw c.endpoints_differ-differ.ensures c.if-not-differ.true-raw))
 
 pub loop-i-preserved : goal.loop-i-preserved
 loop-i-preserved c =
     let at : ℕ → Option Refusal = refusal_at c.args.width c.args.height c.args.spans.now in
-    let is_inside_lem : {t : Bool} → not c.both_on_map-on.result ≡ false → not c.endpoints_differ-differ.result ≡ t → at c.loop-i.i ≡ only_if t (refusal 6 c.loop-i.i) = λ e d. let a = c.args in
-    inside a.width a.height a.spans.now c.loop-i.i c.both_on_map-on.ensures e c.endpoints_differ-differ.ensures d in
-    (search rules, none_below_more at c.loop-i.i c.loop-i.invariant.1 (is_inside_lem c.if-not-on.false-raw c.if-not-differ.false-raw))
+    let a = c.args in
+    (search rules, none_below_more at c.loop-i.i c.loop-i.invariant.1 (inside a.width a.height a.spans.now c.loop-i.i c.both_on_map-on.ensures c.if-not-on.false-raw c.endpoints_differ-differ.ensures c.if-not-differ.false-raw))
 
 pub returns : goal.returns
 unfolding spans_refusal
