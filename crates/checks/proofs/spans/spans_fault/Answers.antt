@@ -1,12 +1,11 @@
 -- `checks::spans::spans_fault` meets its contract. The loop's invariant: no span below i is faulty. The measure is how many are left. Assumes nothing.
 use Prim.Native.Nat.{ℕ, ◌/◌}
 use mathlib.Core.Path.{◌≡◌, sym}
-use mathlib.Core.Bool.{Bool, true, false, not}
+use mathlib.Core.Bool.{true, not}
 use mathlib.Core.Option.{Option, some}
 use lib.ListN.{length}
 use borrow.Author.Rules.{rules}
 use Rattle.definitions.specs.Limits.{numbers_per_span}
-use Rattle.definitions.specs.Scan.{only_if}
 use Rattle.definitions.specs.Refusals.{Refusal, spans_refusal}
 use Rattle.laws.specs.ListLaws.FirstBelow.{none_below-zero, none_below_more, none_below-end, first_found}
 use Rattle.checks.proofs.spans.spans_fault.Invariants.{inside, outside, refusal, refusal_at}
