@@ -48,9 +48,9 @@ returns c =
     let third = c.cross-right_left_start in
     let fourth = c.cross-right_left_end in
     λ i.
-    touching first.type-inv first.ensures s.a s.b t.a c.touches.ensures i
-    || touching second.type-inv second.ensures s.a s.b t.b c.touches-2.ensures i
-    || touching third.type-inv third.ensures t.a t.b s.a c.touches-3.ensures i
-    || touching fourth.type-inv fourth.ensures t.a t.b s.b c.touches-4.ensures i
-    || not (eqb (sign first.type-inv first.ensures c.signum.ensures i) (sign second.type-inv second.ensures c.signum-2.ensures i))
-    && not (eqb (sign third.type-inv third.ensures c.signum-3.ensures i) (sign fourth.type-inv fourth.ensures c.signum-4.ensures i))
+    touching first.type_inv first.ensures s.a s.b t.a c.touches.ensures i
+    || touching second.type_inv second.ensures s.a s.b t.b c.touches-2.ensures i
+    || touching third.type_inv third.ensures t.a t.b s.a c.touches-3.ensures i
+    || touching fourth.type_inv fourth.ensures t.a t.b s.b c.touches-4.ensures i
+    || not (eqb (sign first.type_inv first.ensures c.signum.ensures i) (sign second.type_inv second.ensures c.signum-2.ensures i))
+    && not (eqb (sign third.type_inv third.ensures c.signum-3.ensures i) (sign fourth.type_inv fourth.ensures c.signum-4.ensures i))
