@@ -41,7 +41,7 @@ returns-then-map_of-number c =
     let k : ℕ = c.loop-k.k in
     let is_of_lem : c.map_of.result ≡ number → is_of_map list number (k - 1) ≡ true = λ e. eq-eqb (accession_at list (k - 1)).on_map number (sym c.map_of.ensures ∙ e) in
     let f = is_of_map (list (number in
-    sym (c.loop-k.inv.rest ∙ last_found f k (search rules) (is_of_lem c.if-map_of-number.true))
+    sym (c.loop-k.invariant.rest ∙ last_found f k (search rules) (is_of_lem c.if-map_of-number.true))
 
 pub bounds-links-k : goal.bounds-links-k
 bounds-links-k c =
