@@ -12,7 +12,7 @@ fits-requires c = tt
 
 pub fill-requires : goal.fill-requires
 fill-requires c =
-    (c.in-Sound.ensures.held, room-known (sym c.fits2.ensures ∙ c.if-fits.true))
+    (c.in-Sound.ensures.held, room-known (sym c.fits.ensures ∙ c.if-fits.true))
 
 pub opened-requires : goal.opened-requires
 opened-requires c = tt
@@ -26,12 +26,12 @@ refused-requires-in-Refused c = tt
 pub returns-then-fits : goal.returns-then-fits
 returns-then-fits c =
     let each = c.fill.ensures in
-    answered-read c.in-Sound.ensures _ _ _ _ (sym c.fits2.ensures ∙ c.if-fits.true) c.opened.ensures
+    answered-read c.in-Sound.ensures _ _ _ _ (sym c.fits.ensures ∙ c.if-fits.true) c.opened.ensures
     each.0 each.1.0 each.1.1.0 each.1.1.1
 
 pub returns-else-fits : goal.returns-else-fits
 returns-else-fits c =
-    answered-short c.in-Sound.ensures _ _ _ _ (sym c.fits2.ensures ∙ c.if-fits.false) c.refused.ensures
+    answered-short c.in-Sound.ensures _ _ _ _ (sym c.fits.ensures ∙ c.if-fits.false) c.refused.ensures
 
 pub returns-in-Refused : goal.returns-in-Refused
 returns-in-Refused c =

@@ -10,8 +10,8 @@ group_count-size-requires c = tt
 
 pub returns-then-left-size : goal.returns-then-left-size
 returns-then-left-size c =
-    spent-short _ c.in-MENDARM.is c.group_count-size.ensures c.if-left-size.true
+    spent-short _ c.in-Left.is c.group_count-size.ensures c.if-left-size.true
 
 pub returns : goal.returns
 returns c =
-    spent-left _ c.in-MENDARM.is c.group_count-size.ensures c.if-left-size.false
+    spent-left _ c.in-Left.is c.group_count-size.ensures c.if-left-size.false

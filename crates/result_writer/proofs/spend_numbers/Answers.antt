@@ -13,7 +13,7 @@ group_count-size-requires c = tt
 
 pub returns-then-left-size : goal.returns-then-left-size
 returns-then-left-size c =
-    spending_stops c.loop-i.invariant c.loop-i-test.true c.group_count-size.ensures c.if-left-size.true c.in-MENDARM.is
+    spending_stops c.loop-i.invariant c.loop-i-test.true c.group_count-size.ensures c.if-left-size.true c.in-Left.is
 
 pub loop-i-preserved : goal.loop-i-preserved
 loop-i-preserved c =
@@ -21,4 +21,4 @@ loop-i-preserved c =
 
 pub returns : goal.returns
 returns c =
-    spending_ends c.loop-i.invariant c.loop-i-test.false c.in-MENDARM.is
+    spending_ends c.loop-i.invariant c.loop-i-test.false c.in-Left.is

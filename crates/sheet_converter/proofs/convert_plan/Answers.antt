@@ -16,11 +16,11 @@ returns-in-Refused c =
 
 pub overflow_sub-bytes : goal.overflow_sub-bytes
 overflow_sub-bytes c =
-    omega (arith, c.requires.0.stands.spans-stand.spans-inside)
+    omega (arith, c.requires.0.stands.spans_stand.spans-inside)
 
 pub overflow_add-front : goal.overflow_add-front
 overflow_add-front c =
-    omega (arith, c.requires.0.stands.spans-stand.spans-inside, cut-ordered (bytes-known c.args.bytes.now (λ i. omega (arith, c.shared_slice_known-1.given i))) c.requires.0 c.requires.1)
+    omega (arith, c.requires.0.stands.spans_stand.spans-inside, cut-ordered (bytes-known c.args.bytes.now (λ i. omega (arith, c.shared_slice_known-1.given i))) c.requires.0 c.requires.1)
 
 pub returns-then-out-front : goal.returns-then-out-front
 returns-then-out-front c =

@@ -16,7 +16,7 @@ use Rattle.accession.proofs.held.last_held.Goals as goal
 pub slot_of-slot-requires : goal.slot_of-slot-requires
 slot_of-slot-requires c =
     let = c in
-    entry.requires.some-slots
+    entry.requires.some_slots
 
 pub overflow_cast-k : goal.overflow_cast-k
 overflow_cast-k c = omega (arith, c.shared_slice_known-4-1.given c.slot_of-slot.result)
@@ -31,7 +31,7 @@ loop-k-init c =
 pub map_of-requires : goal.map_of-requires
 map_of-requires c =
     let = c in
-    omega (arith, c.loop-k.invariant.within, at_slot.requires.of-list)
+    omega (arith, c.loop-k.invariant.within, at_slot.requires.of_list)
 
 pub returns-then-map_of-number : goal.returns-then-map_of-number
 unfolding is_of_map
