@@ -10,7 +10,7 @@ use Rattle.assessments.proofs.assess_column.Given as goal
 
 abbrev pub invariant-loop-m : goal.invariant-loop-m
 invariant-loop-m l =
-    Walking l.labels l.first l.k (cut_across (grid_of l.width l.height l.cells) (segment_of l.span) l.last l.columns) max_cell_edges l.initial.m l.initial.pairs l.initial.a l.g l.a l.pairs l.m
+    Walking l.labels l.span l.first (cut_across (grid_of l.width l.height l.cells) (segment_of l.g) l.columns l.k) max_cell_edges l.initial.m l.last l.initial.a l.initial.pairs l.a l.pairs l.m
 
 abbrev pub decreases-loop-m : goal.decreases-loop-m
-decreases-loop-m l = l.initial.pairs + 1 - l.m
+decreases-loop-m l = l.last + 1 - l.m

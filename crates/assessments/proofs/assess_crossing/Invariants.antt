@@ -9,7 +9,7 @@ use Rattle.assessments.proofs.assess_crossing.Given as goal
 
 abbrev pub invariant-loop-j : goal.invariant-loop-j
 invariant-loop-j l =
-    (l.j ≤ 4) × Passing l.labels l.first l.k (cut_two_back (grid_of l.width l.height l.cells) (segment_of l.strip) l.span l.before) max_cell_edges l.after (l.after + 4) l.initial.a l.g l.a l.pairs (l.after + l.j)
+    (l.j ≤ 4) × Passing l.labels l.span l.first (cut_two_back (grid_of l.width l.height l.cells) (segment_of l.g) l.strip l.k) max_cell_edges l.here (l.here + 4) l.initial.a l.initial.pairs l.a l.pairs (l.here + l.j)
 
 abbrev pub decreases-loop-j : goal.decreases-loop-j
 decreases-loop-j l = 4 - l.j

@@ -9,7 +9,7 @@ use Rattle.assessments.proofs.assess_span.Given as goal
 
 abbrev pub invariant-loop-k : goal.invariant-loop-k
 invariant-loop-k l =
-    Passing l.labels l.first l.strip (cut_column (grid_of l.width l.height l.cells) (segment_of l.span) l.parts) max_line_edges l.initial.pairs.first l.initial.pairs.end l.initial.a l.g l.a l.pairs l.k
+    Passing l.labels l.span l.first (cut_column (grid_of l.width l.height l.cells) (segment_of l.g) l.strip) max_line_edges l.parts.first l.parts.end l.initial.a l.initial.pairs l.a l.pairs l.k
 
 abbrev pub decreases-loop-k : goal.decreases-loop-k
-decreases-loop-k l = l.initial.pairs.end - l.k
+decreases-loop-k l = l.parts.end - l.k

@@ -5,7 +5,7 @@ use Rattle.assessments.proofs.Spans.{Before}
 use Rattle.assessments.proofs.assess_spans.Given as goal
 
 abbrev pub invariant-loop-s : goal.invariant-loop-s
-invariant-loop-s l = (l.s ≤ l.initial.pairs) × Before l.width l.height l.cells l.spans l.labels l.count l.initial.tallies l.s l.tallies l.pairs l.end
+invariant-loop-s l = (l.s ≤ l.count) × Before l.width l.height l.cells l.spans l.labels l.initial.tallies l.initial.pairs l.s l.tallies l.pairs l.end
 
 abbrev pub decreases-loop-s : goal.decreases-loop-s
-decreases-loop-s l = l.initial.pairs - l.s
+decreases-loop-s l = l.count - l.s

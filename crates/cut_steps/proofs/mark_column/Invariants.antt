@@ -9,8 +9,8 @@ use Rattle.cut_steps.proofs.mark_column.Given as goal
 
 abbrev pub invariant-loop-m : goal.invariant-loop-m
 invariant-loop-m l =
-    Walking (grid_of l.width l.height l.cells) (cut_across (grid_of l.width l.height l.cells) (segment_of l.g) l.last l.columns) l.initial.m l.initial.masks l.k l.masks l.m
+    Walking (grid_of l.width l.height l.cells) (cut_across (grid_of l.width l.height l.cells) (segment_of l.g) l.columns l.k) l.initial.m l.last l.initial.masks l.masks l.m
 
 abbrev pub decreases-loop-m : goal.decreases-loop-m
 decreases-loop-m l =
-    l.initial.masks + 1 - l.m
+    l.last + 1 - l.m

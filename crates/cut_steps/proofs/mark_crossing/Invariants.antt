@@ -11,7 +11,7 @@ use Rattle.cut_steps.proofs.mark_crossing.Given as goal
 
 abbrev pub invariant-loop-j : goal.invariant-loop-j
 invariant-loop-j l =
-    (l.j ≤ 4) × Marked (grid_of l.width l.height l.cells) l.strip l.masks (concat_map (cut_two_back (grid_of l.width l.height l.cells) (segment_of l.g) l.k l.before) (up_to l.after (l.after + l.j)))
+    (l.j ≤ 4) × Marked (grid_of l.width l.height l.cells) l.initial.masks l.masks (concat_map (cut_two_back (grid_of l.width l.height l.cells) (segment_of l.g) l.strip l.k) (up_to l.here (l.here + l.j)))
 
 abbrev pub decreases-loop-j : goal.decreases-loop-j
 decreases-loop-j l = 4 - l.j

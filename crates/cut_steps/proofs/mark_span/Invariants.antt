@@ -7,7 +7,7 @@ use Rattle.cut_steps.specs.Crossed.{cut_columns}
 use Rattle.cut_steps.proofs.mark_span.Given as goal
 
 abbrev pub invariant-loop-k : goal.invariant-loop-k
-invariant-loop-k l = let parts = l.initial.masks in let k = l.k in (parts.first ≤ k) × (k ≤ parts.end) × Marked (grid_of l.width l.height l.cells) l.strip l.masks (cut_columns (grid_of l.width l.height l.cells) (segment_of l.g) l.parts parts.first k)
+invariant-loop-k l = let parts = l.parts in let k = l.k in (parts.first ≤ k) × (k ≤ parts.end) × Marked (grid_of l.width l.height l.cells) l.initial.masks l.masks (cut_columns (grid_of l.width l.height l.cells) (segment_of l.g) l.strip parts.first k)
 
 abbrev pub decreases-loop-k : goal.decreases-loop-k
-decreases-loop-k l = l.initial.masks.end - l.k
+decreases-loop-k l = l.parts.end - l.k

@@ -4,7 +4,7 @@ use Rattle.parents.proofs.OwnParents.{Apart}
 use Rattle.parents.proofs.alone.Given as goal
 
 abbrev pub invariant-loop-c : goal.invariant-loop-c
-invariant-loop-c l = Apart l.initial.parents l.n l.parents l.c
+invariant-loop-c l = Apart l.n l.initial.parents l.parents l.c
 
 abbrev pub decreases-loop-c : goal.decreases-loop-c
-decreases-loop-c l = l.initial.parents - l.c
+decreases-loop-c l = l.n - l.c

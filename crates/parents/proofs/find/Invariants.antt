@@ -3,7 +3,7 @@ use Rattle.parents.proofs.Finding.{Finding}
 use Rattle.parents.proofs.find.Given as goal
 
 abbrev pub invariant-loop-p : goal.invariant-loop-p
-invariant-loop-p l = Finding l.from l.initial.parents l.parents l.c l.p
+invariant-loop-p l = Finding l.initial.parents l.from l.parents l.c l.p
 
 abbrev pub decreases-loop-p : goal.decreases-loop-p
 decreases-loop-p l = l.c

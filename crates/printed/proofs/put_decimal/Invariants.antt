@@ -4,7 +4,7 @@ use Rattle.printed.proofs.Digits.{Writing}
 use Rattle.printed.proofs.put_decimal.Given as goal
 
 abbrev pub invariant-loop-left : goal.invariant-loop-left
-invariant-loop-left l = Writing l.at l.n l.next l.out l.left l.place
+invariant-loop-left l = Writing l.initial.out l.at l.n l.out l.left l.place
 
 abbrev pub decreases-loop-left : goal.decreases-loop-left
 decreases-loop-left l = l.left

@@ -6,7 +6,7 @@ use Rattle.printed.proofs.Places.{Copying}
 use Rattle.printed.proofs.put_text.Given as goal
 
 abbrev pub invariant-loop-i : goal.invariant-loop-i
-invariant-loop-i l = Copying l.at l.bytes l.initial.out l.out l.next l.i
+invariant-loop-i l = Copying l.initial.out l.at l.bytes l.out l.next l.i
 
 abbrev pub decreases-loop-i : goal.decreases-loop-i
-decreases-loop-i l = length l.initial.out - l.i
+decreases-loop-i l = length l.bytes - l.i

@@ -3,7 +3,7 @@ use Rattle.put_shortest.proofs.Writing.{Writing}
 use Rattle.put_shortest.proofs.put_shortest.Given as goal
 
 abbrev pub invariant-loop-left : goal.invariant-loop-left
-invariant-loop-left l = Writing l.at l.n l.initial.out l.out l.left l.place
+invariant-loop-left l = Writing l.initial.out l.at l.n l.out l.left l.place
 
 abbrev pub decreases-loop-left : goal.decreases-loop-left
 decreases-loop-left l = l.left

@@ -5,8 +5,8 @@ use Rattle.ranked_rows.proofs.list_in_order.Given as goal
 
 abbrev pub invariant-loop-k : goal.invariant-loop-k
 invariant-loop-k l =
-    ListedTo l.smaller l.larger l.rows l.order l.n l.initial.listed l.count l.listed l.k
+    ListedTo l.smaller l.larger l.rows l.order l.count l.m l.initial.listed l.listed l.k
 
 abbrev pub decreases-loop-k : goal.decreases-loop-k
 decreases-loop-k l =
-    l.initial.listed - l.k
+    l.m - l.k

@@ -5,7 +5,7 @@ use Rattle.result_writer.proofs.Placing.{Placing}
 use Rattle.result_writer.proofs.put_numbers.Given as goal
 
 abbrev pub invariant-loop-i : goal.invariant-loop-i
-invariant-loop-i l = Placing l.at l.numbers l.initial.out l.out l.next l.i
+invariant-loop-i l = Placing l.initial.out l.at l.numbers l.out l.next l.i
 
 abbrev pub decreases-loop-i : goal.decreases-loop-i
-decreases-loop-i l = length l.initial.out - l.i
+decreases-loop-i l = length l.numbers - l.i

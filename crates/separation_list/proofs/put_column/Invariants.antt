@@ -5,7 +5,7 @@ use Rattle.separation_list.proofs.Storing.{ColumnFilled}
 use Rattle.separation_list.proofs.put_column.Given as goal
 
 abbrev pub invariant-loop-i : goal.invariant-loop-i
-invariant-loop-i l = ColumnFilled l.boundaries l.k l.j l.initial.output l.output l.i
+invariant-loop-i l = ColumnFilled l.boundaries l.initial.output l.k l.j l.output l.i
 
 abbrev pub decreases-loop-i : goal.decreases-loop-i
-decreases-loop-i l = l.initial.output - l.i
+decreases-loop-i l = l.j - l.i

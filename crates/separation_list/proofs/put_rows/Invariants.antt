@@ -5,7 +5,7 @@ use Rattle.separation_list.proofs.Storing.{RowsFilled}
 use Rattle.separation_list.proofs.put_rows.Given as goal
 
 abbrev pub invariant-loop-j : goal.invariant-loop-j
-invariant-loop-j l = RowsFilled l.boundaries l.n l.initial.output l.output l.j l.k
+invariant-loop-j l = RowsFilled l.boundaries l.initial.output l.n l.output l.j l.k
 
 abbrev pub decreases-loop-j : goal.decreases-loop-j
-decreases-loop-j l = l.initial.output - l.j
+decreases-loop-j l = l.n - l.j

@@ -8,7 +8,7 @@ use Rattle.sheet_converter.proofs.put_bytes.Given as goal
 
 abbrev pub invariant-loop-i : goal.invariant-loop-i
 invariant-loop-i l =
-    (l.i ≤ length l.initial.out) × (length l.out ≡ length l.at) × (sets l.out (l.bytes + l.i) (drop l.i l.initial.out) ≡ sets l.at l.bytes l.initial.out)
+    (l.i ≤ length l.bytes) × (length l.out ≡ length l.initial.out) × (sets l.out (l.at + l.i) (drop l.i l.bytes) ≡ sets l.initial.out l.at l.bytes)
 
 abbrev pub decreases-loop-i : goal.decreases-loop-i
-decreases-loop-i l = length l.initial.out - l.i
+decreases-loop-i l = length l.bytes - l.i

@@ -6,7 +6,7 @@ use Rattle.result_writer.proofs.Placing.{Placing}
 use Rattle.sheet_writer.proofs.put_cells.Given as goal
 
 abbrev pub invariant-loop-i : goal.invariant-loop-i
-invariant-loop-i l = Placing l.at l.cells l.initial.out l.out l.next l.i
+invariant-loop-i l = Placing l.initial.out l.at l.cells l.out l.next l.i
 
 abbrev pub decreases-loop-i : goal.decreases-loop-i
-decreases-loop-i l = length l.initial.out - l.i
+decreases-loop-i l = length l.cells - l.i

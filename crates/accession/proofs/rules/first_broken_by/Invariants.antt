@@ -6,7 +6,7 @@ use Rattle.accession.proofs.Checking.{Checked}
 use Rattle.accession.proofs.rules.first_broken_by.Given as goal
 
 abbrev pub invariant-loop-i : goal.invariant-loop-i
-invariant-loop-i l = Checked l.records (length l.count) (length l.initial.last) l.last l.links l.held l.i
+invariant-loop-i l = Checked l.records (length l.initial.last) (length l.initial.links) l.last l.links l.held l.i
 
 abbrev pub decreases-loop-i : goal.decreases-loop-i
-decreases-loop-i l = l.initial.links - l.i
+decreases-loop-i l = l.count - l.i

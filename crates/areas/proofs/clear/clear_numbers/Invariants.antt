@@ -4,7 +4,7 @@ use Rattle.areas.proofs.Clearing.{Clearing}
 use Rattle.areas.proofs.clear.clear_numbers.Given as goal
 
 abbrev pub invariant-loop-i : goal.invariant-loop-i
-invariant-loop-i l = Clearing l.needed l.initial.list l.list l.i
+invariant-loop-i l = Clearing l.initial.list l.needed l.list l.i
 
 abbrev pub decreases-loop-i : goal.decreases-loop-i
-decreases-loop-i l = l.initial.list - l.i
+decreases-loop-i l = l.needed - l.i

@@ -7,7 +7,7 @@ use Rattle.boundary_blocks.specs.Blocks.{part}
 use Rattle.boundary_blocks.proofs.blocks.copy_block.Given as goal
 
 abbrev pub invariant-loop-j : goal.invariant-loop-j
-invariant-loop-j l = (l.j ≤ l.initial.to) × (length l.to ≡ length l.place) × (l.to ≡ sets l.place l.size (take l.j (part l.at l.initial.to l.from)))
+invariant-loop-j l = (l.j ≤ l.size) × (length l.to ≡ length l.initial.to) × (l.to ≡ sets l.initial.to l.place (take l.j (part l.at l.size l.from)))
 
 abbrev pub decreases-loop-j : goal.decreases-loop-j
-decreases-loop-j l = l.initial.to - l.j
+decreases-loop-j l = l.size - l.j

@@ -9,7 +9,7 @@ use Rattle.boundary_blocks.proofs.blocks.keep_blocks.Given as goal
 
 abbrev pub invariant-loop-k : goal.invariant-loop-k
 invariant-loop-k l =
-    (l.k ≤ l.initial.list) × (length l.list ≡ length l.size) × (l.list ≡ overwrite (left_blocks l.count l.removed l.size l.k) l.size) × (l.kept ≡ left_count l.count l.k)
+    (l.k ≤ l.count) × (length l.list ≡ length l.initial.list) × (l.list ≡ overwrite (left_blocks l.removed l.size l.initial.list l.k) l.initial.list) × (l.kept ≡ left_count l.removed l.k)
 
 abbrev pub decreases-loop-k : goal.decreases-loop-k
-decreases-loop-k l = l.initial.list - l.k
+decreases-loop-k l = l.count - l.k

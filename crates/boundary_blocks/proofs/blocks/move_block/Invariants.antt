@@ -8,7 +8,7 @@ use Rattle.boundary_blocks.specs.Blocks.{part}
 use Rattle.boundary_blocks.proofs.blocks.move_block.Given as goal
 
 abbrev pub invariant-loop-j : goal.invariant-loop-j
-invariant-loop-j l = (l.j ≤ l.initial.list) × (length l.list ≡ length l.at) × (l.list ≡ sets l.at l.size (take l.j (part l.place l.initial.list l.at)))
+invariant-loop-j l = (l.j ≤ l.size) × (length l.list ≡ length l.initial.list) × (l.list ≡ sets l.initial.list l.place (take l.j (part l.at l.size l.initial.list)))
 
 abbrev pub decreases-loop-j : goal.decreases-loop-j
-decreases-loop-j l = l.initial.list - l.j
+decreases-loop-j l = l.size - l.j

@@ -7,4 +7,4 @@ abbrev pub invariant-loop-k : goal.invariant-loop-k
 invariant-loop-k l = Joined l.regions l.pairs l.k l.near
 
 abbrev pub decreases-loop-k : goal.decreases-loop-k
-decreases-loop-k l = l.initial.near - l.k
+decreases-loop-k l = l.count - l.k

@@ -9,7 +9,7 @@ use Rattle.interior_proposals.proofs.Forests.{Flat}
 use Rattle.interior_proposals.proofs.components.flatten.Given as goal
 
 abbrev pub invariant-loop-k : goal.invariant-loop-k
-invariant-loop-k l = (l.k ≤ l.initial.parents) × Beyond l.initial.parents l.regions l.parents × ((cs : List ℕ) → Parented cs l.regions → length cs ≡ suc l.initial.parents → Flat cs l.parents l.k)
+invariant-loop-k l = (l.k ≤ l.regions) × Beyond l.regions l.initial.parents l.parents × ((cs : List ℕ) → Parented cs l.initial.parents → length cs ≡ suc l.regions → Flat cs l.parents l.k)
 
 abbrev pub decreases-loop-k : goal.decreases-loop-k
-decreases-loop-k l = l.initial.parents - l.k
+decreases-loop-k l = l.regions - l.k

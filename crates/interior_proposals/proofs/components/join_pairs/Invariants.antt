@@ -7,7 +7,7 @@ use Rattle.interior_proposals.specs.Forest.{Parented, Rows, Merged}
 use Rattle.interior_proposals.proofs.components.join_pairs.Given as goal
 
 abbrev pub invariant-loop-k : goal.invariant-loop-k
-invariant-loop-k l = (l.end ≤ l.k) × (l.k ≤ l.initial.parents) × ((cs : List ℕ) → Parented cs l.pairs → Rows (length cs) l.first l.end l.initial.parents → Merged cs l.pairs (pairs_between l.first l.end l.k) l.parents)
+invariant-loop-k l = (l.first ≤ l.k) × (l.k ≤ l.end) × ((cs : List ℕ) → Parented cs l.initial.parents → Rows (length cs) l.pairs l.first l.end → Merged cs l.initial.parents (pairs_between l.pairs l.first l.k) l.parents)
 
 abbrev pub decreases-loop-k : goal.decreases-loop-k
-decreases-loop-k l = l.initial.parents - l.k
+decreases-loop-k l = l.end - l.k

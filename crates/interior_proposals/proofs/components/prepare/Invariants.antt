@@ -6,7 +6,7 @@ use Rattle.interior_proposals.proofs.Preparing.{flags_at, own_at}
 use Rattle.interior_proposals.proofs.components.prepare.Given as goal
 
 abbrev pub invariant-loop-k : goal.invariant-loop-k
-invariant-loop-k l = (l.k ≤ l.initial.counts) × Beyond l.initial.counts l.regions l.marks × Beyond l.initial.counts l.initial.marks l.counts × Stored (flags_at l.regions l.initial.marks) l.regions l.marks l.k × Stored own_at l.initial.marks l.counts l.k
+invariant-loop-k l = (l.k ≤ l.regions) × Beyond l.regions l.initial.marks l.marks × Beyond l.regions l.initial.counts l.counts × Stored (flags_at l.initial.marks l.initial.counts) l.initial.marks l.marks l.k × Stored own_at l.initial.counts l.counts l.k
 
 abbrev pub decreases-loop-k : goal.decreases-loop-k
-decreases-loop-k l = l.initial.counts - l.k
+decreases-loop-k l = l.regions - l.k

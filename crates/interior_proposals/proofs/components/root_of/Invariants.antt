@@ -8,7 +8,7 @@ use Rattle.interior_proposals.proofs.Forests.{Way}
 use Rattle.interior_proposals.proofs.components.root_of.Given as goal
 
 abbrev pub invariant-loop-p : goal.invariant-loop-p
-invariant-loop-p l = (l.p ≡ get_or l.parents (l.x - 1) 0) × ((cs : List ℕ) → Parented cs l.r → l.initial.parents < length cs → Way cs l.r l.initial.parents l.parents l.x)
+invariant-loop-p l = (l.p ≡ get_or l.parents (l.x - 1) 0) × ((cs : List ℕ) → Parented cs l.initial.parents → l.r < length cs → Way cs l.initial.parents l.r l.parents l.x)
 
 abbrev pub decreases-loop-p : goal.decreases-loop-p
 decreases-loop-p l = l.x

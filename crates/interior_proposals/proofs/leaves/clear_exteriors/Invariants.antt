@@ -14,8 +14,8 @@ use Rattle.interior_proposals.proofs.leaves.clear_exteriors.Given as goal
 
 abbrev pub invariant-loop-k : goal.invariant-loop-k
 invariant-loop-k l =
-    (l.end ≤ l.k) × (l.k ≤ l.initial.marks) × (length l.marks ≡ length l.pairs)
-    × ((C : Context) (rs : List ℕ) (w : Walkable l.first l.end l.initial.marks C.regions) → Marked C (λ y. member y (exteriors rs (pairs_between l.first l.end l.initial.marks))) l.pairs → Clearing C (λ x. member x (exteriors rs (pairs_between l.first l.end l.initial.marks))) l.first l.end l.initial.marks w l.pairs l.k l.marks)
+    (l.first ≤ l.k) × (l.k ≤ l.end) × (length l.marks ≡ length l.initial.marks)
+    × ((C : Context) (rs : List ℕ) (w : Walkable l.pairs l.first l.end C.regions) → Marked C (λ y. member y (exteriors rs (pairs_between l.pairs l.first l.end))) l.initial.marks → Clearing C (λ x. member x (exteriors rs (pairs_between l.pairs l.first l.end))) l.pairs l.first l.end w l.initial.marks l.k l.marks)
 
 abbrev pub decreases-loop-k : goal.decreases-loop-k
-decreases-loop-k l = l.initial.marks - l.k
+decreases-loop-k l = l.end - l.k

@@ -14,8 +14,8 @@ use Rattle.interior_proposals.proofs.leaves.expand_rows.Given as goal
 
 abbrev pub invariant-loop-k : goal.invariant-loop-k
 invariant-loop-k l =
-    (l.end ≤ l.k) × (l.k ≤ l.r) × (length l.names ≡ length l.marks)
-    × ((C : Context) (i : ℕ) (rs es : List ℕ) (v : Bool) → Ported C l.first l.end l.r i → Inside C l.initial.names rs l.marks → Marked C (λ y. member y es) l.pairs → Held C i l.initial.names (expand_pairs C i es (from rs v) (pairs_between l.first l.end l.k)) v l.marks l.names l.fit)
+    (l.first ≤ l.k) × (l.k ≤ l.end) × (length l.names ≡ length l.initial.names)
+    × ((C : Context) (i : ℕ) (rs es : List ℕ) (v : Bool) → Ported C l.pairs l.first l.end i → Inside C l.r rs l.initial.names → Marked C (λ y. member y es) l.marks → Held C i l.r (expand_pairs C i es (from rs v) (pairs_between l.pairs l.first l.k)) v l.initial.names l.names l.fit)
 
 abbrev pub decreases-loop-k : goal.decreases-loop-k
-decreases-loop-k l = l.r - l.k
+decreases-loop-k l = l.end - l.k

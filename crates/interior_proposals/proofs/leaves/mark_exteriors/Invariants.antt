@@ -13,8 +13,8 @@ use Rattle.interior_proposals.proofs.leaves.mark_exteriors.Given as goal
 
 abbrev pub invariant-loop-k : goal.invariant-loop-k
 invariant-loop-k l =
-    (l.end ≤ l.k) × (l.k ≤ l.r) × (length l.marks ≡ length l.pairs)
-    × ((C : Context) (rs : List ℕ) → Walkable l.first l.end l.r C.regions → Inside C l.initial.marks rs l.names → Marked C (λ y. false) l.pairs → Exteriored C rs (pairs_between l.first l.end l.k) l.pairs l.marks l.fit)
+    (l.first ≤ l.k) × (l.k ≤ l.end) × (length l.marks ≡ length l.initial.marks)
+    × ((C : Context) (rs : List ℕ) → Walkable l.pairs l.first l.end C.regions → Inside C l.r rs l.names → Marked C (λ y. false) l.initial.marks → Exteriored C rs (pairs_between l.pairs l.first l.k) l.initial.marks l.marks l.fit)
 
 abbrev pub decreases-loop-k : goal.decreases-loop-k
-decreases-loop-k l = l.r - l.k
+decreases-loop-k l = l.end - l.k

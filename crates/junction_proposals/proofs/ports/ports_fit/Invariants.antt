@@ -15,7 +15,7 @@ pair lo hi = record { lo = lo; hi = hi }
 
 abbrev pub invariant-loop-k : goal.invariant-loop-k
 invariant-loop-k l =
-    (l.k ≤ l.n) × ((l.fit ≡ true) × Passed (names_either l.smaller l.larger (pair l.lo l.hi)) (λ j. Met l.smaller l.larger l.index (pair l.lo l.hi) l.initial.fit j l.met) l.k)
+    (l.k ≤ l.n) × ((l.fit ≡ true) × Passed (names_either l.smaller l.larger (pair l.lo l.hi)) (λ j. Met l.smaller l.larger l.index (pair l.lo l.hi) l.region j l.met) l.k)
 
 abbrev pub decreases-loop-k : goal.decreases-loop-k
 decreases-loop-k l =

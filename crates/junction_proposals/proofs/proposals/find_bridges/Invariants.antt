@@ -11,8 +11,8 @@ use Rattle.junction_proposals.proofs.proposals.find_bridges.Given as goal
 
 abbrev pub invariant-loop-k : goal.invariant-loop-k
 invariant-loop-k l =
-    (l.k ≤ l.regions) × ((length l.rows ≡ length l.unions) × ((l.n ≡ l.initial.rows + length (collect l.k (bridges l.boundaries l.smaller l.larger l.marks l.counts l.count)))
-    × (rows_of l.rows l.n ≡ rows_of l.unions l.initial.rows ++ collect l.k (bridges l.boundaries l.smaller l.larger l.marks l.counts l.count))))
+    (l.k ≤ l.regions) × ((length l.rows ≡ length l.initial.rows) × ((l.n ≡ l.unions + length (collect l.k (bridges l.boundaries l.smaller l.larger l.marks l.counts l.count)))
+    × (rows_of l.rows l.n ≡ rows_of l.initial.rows l.unions ++ collect l.k (bridges l.boundaries l.smaller l.larger l.marks l.counts l.count))))
 
 abbrev pub decreases-loop-k : goal.decreases-loop-k
 decreases-loop-k l =

@@ -8,8 +8,8 @@ use Rattle.junction_selection.proofs.selection.reserve_ports.Given as goal
 
 abbrev pub invariant-loop-j : goal.invariant-loop-j
 invariant-loop-j l =
-    (l.j ≤ l.p) × Marked l.count l.reserved (reserves_at l.smaller l.larger (row_at l.rows l.initial.reserved)) l.j
+    (l.j ≤ l.count) × Marked l.initial.reserved l.reserved (reserves_at l.smaller l.larger (row_at l.rows l.p)) l.j
 
 abbrev pub decreases-loop-j : goal.decreases-loop-j
 decreases-loop-j l =
-    l.p - l.j
+    l.count - l.j

@@ -9,8 +9,8 @@ use Rattle.junction_selection.proofs.selection.select_ranked.Given as goal
 
 abbrev pub invariant-loop-k : goal.invariant-loop-k
 invariant-loop-k l =
-    (l.k ≤ l.initial.taken) × ((l.t ≤ l.k) × ((length l.removed ≡ length l.count) × ((length l.reserved ≡ length l.n) × ((length l.taken ≡ length l.m)
-    × Standing l.smaller l.larger l.rows l.taken l.removed l.reserved l.initial.removed l.initial.reserved l.t (selected_of l.smaller l.larger l.rows l.order l.initial.removed l.k)))))
+    (l.k ≤ l.m) × ((l.t ≤ l.k) × ((length l.removed ≡ length l.initial.removed) × ((length l.reserved ≡ length l.initial.reserved) × ((length l.taken ≡ length l.initial.taken)
+    × Standing l.smaller l.larger l.rows l.taken l.removed l.reserved l.count l.n l.t (selected_of l.smaller l.larger l.rows l.order l.count l.k)))))
 
 abbrev pub decreases-loop-k : goal.decreases-loop-k
-decreases-loop-k l = l.initial.taken - l.k
+decreases-loop-k l = l.m - l.k

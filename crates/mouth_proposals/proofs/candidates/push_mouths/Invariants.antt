@@ -14,7 +14,7 @@ use Rattle.mouth_proposals.proofs.candidates.push_mouths.Given as goal
 abbrev pub invariant-loop-m : goal.invariant-loop-m
 invariant-loop-m l =
     (l.m ≤ l.count) × ((l.n ≤ l.m) × (Roomy l.mouths l.ramps l.outers l.kinds l.separations × ((C : Context) → Shows l.boundaries l.pairs l.starts l.counts l.marks l.count C → ShownTallies C l.tallies
-    → no_ramp C l.initial.kinds ≡ false → full_cut C l.initial.kinds ≡ true → EndsOf C l.initial.kinds l.initial.separations → Filled C l.mouths l.ramps l.outers l.kinds l.separations l.n (collect l.m (mouth_candidate C l.initial.kinds)))))
+    → no_ramp C l.a ≡ false → full_cut C l.a ≡ true → EndsOf C l.a l.ends → Filled C l.mouths l.ramps l.outers l.kinds l.separations l.n (collect l.m (mouth_candidate C l.a)))))
 
 abbrev pub decreases-loop-m : goal.decreases-loop-m
 decreases-loop-m l = l.count - l.m

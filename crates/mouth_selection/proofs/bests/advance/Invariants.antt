@@ -11,9 +11,9 @@ use Rattle.mouth_selection.proofs.bests.advance.Given as goal
 
 abbrev pub invariant-loop-found : goal.invariant-loop-found
 invariant-loop-found l =
-    ((length l.marks ≡ length l.mouthof) × Room l.removed l.used l.found l.fresh) × ((weight l.initial.fresh l.removed l.fresh ≤ weight l.initial.fresh l.rampof l.initial.found)
-    × ((C : Context) → Lists l.boundaries l.pairs l.starts l.initial.fresh C → Progress C (λ i. i < l.initial.fresh) l.mouthof l.rampof l.outerof l.kindof l.apart l.count l.initial.marks l.initial.removed l.initial.used l.initial.found
-    → Progress C (λ i. i < l.initial.fresh) l.marks l.removed l.used l.kindof l.apart l.count l.initial.marks l.initial.removed l.found l.fresh))
+    ((length l.marks ≡ length l.initial.marks) × Room l.removed l.used l.found l.fresh) × ((weight l.count l.removed l.fresh ≤ weight l.count l.initial.removed l.initial.fresh)
+    × ((C : Context) → Lists l.boundaries l.pairs l.starts l.count C → Progress C (λ i. i < l.count) l.initial.marks l.initial.removed l.initial.used l.mouthof l.rampof l.outerof l.kindof l.apart l.initial.found l.initial.fresh
+    → Progress C (λ i. i < l.count) l.marks l.removed l.used l.mouthof l.rampof l.outerof l.kindof l.apart l.found l.fresh))
 
 abbrev pub decreases-loop-found : goal.decreases-loop-found
-decreases-loop-found l = count_below l.initial.fresh (λ i. not (get_or l.removed i false))
+decreases-loop-found l = count_below l.count (λ i. not (get_or l.removed i false))

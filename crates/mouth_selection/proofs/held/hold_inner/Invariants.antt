@@ -5,7 +5,7 @@ use Rattle.mouth_selection.proofs.Marks.{marked}
 use Rattle.mouth_selection.proofs.held.hold_inner.Given as goal
 
 abbrev pub invariant-loop-k : goal.invariant-loop-k
-invariant-loop-k l = (l.end ≤ l.k) × ((l.k ≤ l.outer) × (l.marks ≡ marked l.initial.marks l.first l.pairs l.end l.k))
+invariant-loop-k l = (l.first ≤ l.k) × ((l.k ≤ l.end) × (l.marks ≡ marked l.outer l.initial.marks l.pairs l.first l.k))
 
 abbrev pub decreases-loop-k : goal.decreases-loop-k
-decreases-loop-k l = l.outer - l.k
+decreases-loop-k l = l.end - l.k

@@ -7,7 +7,7 @@ use Rattle.mouth_selection.specs.Held.{end_mark}
 use Rattle.mouth_selection.proofs.selection.use_end.Given as goal
 
 abbrev pub invariant-loop-j : goal.invariant-loop-j
-invariant-loop-j l = (l.j ≤ l.a) × ((length l.used ≡ 256) × ((i : ℕ) → get_or l.used i false ≡ end_mark l.boundaries l.initial.used l.j l.count i))
+invariant-loop-j l = (l.j ≤ l.count) × ((length l.used ≡ 256) × ((i : ℕ) → get_or l.used i false ≡ end_mark l.boundaries l.a l.j l.initial.used i))
 
 abbrev pub decreases-loop-j : goal.decreases-loop-j
-decreases-loop-j l = l.a - l.j
+decreases-loop-j l = l.count - l.j

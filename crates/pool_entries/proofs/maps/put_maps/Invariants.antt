@@ -4,7 +4,7 @@ use Rattle.pool_entries.proofs.Listing.{Putting}
 use Rattle.pool_entries.proofs.maps.put_maps.Given as goal
 
 abbrev pub invariant-loop-i : goal.invariant-loop-i
-invariant-loop-i l = Putting l.terms l.day l.count l.initial.output l.output l.maps l.i
+invariant-loop-i l = Putting l.terms l.day l.initial.output l.count l.output l.maps l.i
 
 abbrev pub decreases-loop-i : goal.decreases-loop-i
-decreases-loop-i l = l.initial.output - l.i
+decreases-loop-i l = l.count - l.i

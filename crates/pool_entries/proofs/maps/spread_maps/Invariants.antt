@@ -3,7 +3,7 @@ use Rattle.pool_entries.proofs.Spreading.{Spreading}
 use Rattle.pool_entries.proofs.maps.spread_maps.Given as goal
 
 abbrev pub invariant-loop-k : goal.invariant-loop-k
-invariant-loop-k l = Spreading l.initial.output l.maps l.output l.k
+invariant-loop-k l = Spreading l.maps l.initial.output l.output l.k
 
 abbrev pub decreases-loop-k : goal.decreases-loop-k
 decreases-loop-k l = l.k

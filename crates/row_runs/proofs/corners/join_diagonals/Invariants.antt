@@ -4,7 +4,7 @@ use Rattle.row_runs.proofs.CornerNames.{Cornering}
 use Rattle.row_runs.proofs.corners.join_diagonals.Given as goal
 
 abbrev pub invariant-loop-c : goal.invariant-loop-c
-invariant-loop-c l = Cornering l.width l.cells l.masks l.end l.up l.parents l.c
+invariant-loop-c l = Cornering l.width l.cells l.masks l.up l.initial.parents l.parents l.c
 
 abbrev pub decreases-loop-c : goal.decreases-loop-c
-decreases-loop-c l = l.end + l.width - l.c
+decreases-loop-c l = l.up + l.width - l.c

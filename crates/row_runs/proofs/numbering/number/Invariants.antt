@@ -4,7 +4,7 @@ use Rattle.row_runs.proofs.Numbers.{Numbering}
 use Rattle.row_runs.proofs.numbering.number.Given as goal
 
 abbrev pub invariant-loop-c : goal.invariant-loop-c
-invariant-loop-c l = Numbering l.cells l.n l.initial.labels l.queue l.labels l.id l.c
+invariant-loop-c l = Numbering l.cells l.queue l.n l.initial.labels l.labels l.id l.c
 
 abbrev pub decreases-loop-c : goal.decreases-loop-c
-decreases-loop-c l = l.initial.labels - l.c
+decreases-loop-c l = l.n - l.c

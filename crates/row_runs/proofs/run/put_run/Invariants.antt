@@ -4,7 +4,7 @@ use Rattle.row_runs.proofs.RunNames.{Putting}
 use Rattle.row_runs.proofs.run.put_run.Given as goal
 
 abbrev pub invariant-loop-c : goal.invariant-loop-c
-invariant-loop-c l = Putting l.end l.initial.parents l.from l.parents l.c
+invariant-loop-c l = Putting l.from l.end l.initial.parents l.parents l.c
 
 abbrev pub decreases-loop-c : goal.decreases-loop-c
-decreases-loop-c l = l.initial.parents - l.c
+decreases-loop-c l = l.end - l.c

@@ -6,7 +6,7 @@ use lib.Seq.{sets}
 use Rattle.topology.proofs.numbers.put_numbers.Given as goal
 
 abbrev pub invariant-loop-i : goal.invariant-loop-i
-invariant-loop-i l = (l.i ≤ 11) × (length l.numbers ≡ length l.at) × (l.numbers ≡ sets l.at l.n (take l.i l.initial.numbers))
+invariant-loop-i l = (l.i ≤ 11) × (length l.numbers ≡ length l.initial.numbers) × (l.numbers ≡ sets l.initial.numbers l.at (take l.i l.n))
 
 abbrev pub decreases-loop-i : goal.decreases-loop-i
 decreases-loop-i l = 11 - l.i

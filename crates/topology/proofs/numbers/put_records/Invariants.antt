@@ -10,7 +10,7 @@ use Rattle.topology.proofs.numbers.put_records.Given as goal
 
 abbrev pub invariant-loop-i : goal.invariant-loop-i
 invariant-loop-i l =
-    (l.i ≤ l.initial.numbers) × (length l.numbers ≡ length l.records) × (l.numbers ≡ overwrite (all_numbers (map record_of (take l.i l.lent))) l.records)
+    (l.i ≤ l.count) × (length l.numbers ≡ length l.initial.numbers) × (l.numbers ≡ overwrite (all_numbers (map record_of (take l.i l.records))) l.initial.numbers)
 
 abbrev pub decreases-loop-i : goal.decreases-loop-i
-decreases-loop-i l = l.initial.numbers - l.i
+decreases-loop-i l = l.count - l.i
