@@ -15,7 +15,7 @@ use Rattle.mouth_selection.proofs.held.proposal_held.Goals as goal
 
 pub is_held-requires : goal.is_held-requires
 is_held-requires c =
-    (omega (arith, c.if-outer-ne0.true), (c.requires.1.1, hold-le (eqb c.args.kind triangular) c.outer_hold.ensures))
+    (omega (arith, c.if-outer-ne0.true), (c.requires.marks_room, hold-le (eqb c.args.kind triangular) c.outer_hold.ensures))
 
 pub returns-then-is_held : goal.returns-then-is_held
 returns-then-is_held c =
