@@ -30,7 +30,7 @@ use Rattle.laws.specs.RustJunctions.Bridges.{stats_of}
 use Rattle.laws.specs.RustMouths.MouthKept.{Inhabited, all-agree}
 use Rattle.laws.specs.ListLaws.KeptLists.{keep_if}
 use Rattle.laws.specs.RustContext.AllowedElevations.{none_else, each_allowed, mask_is}
-use Rattle.laws.specs.RustInteriors.Leaves.{ports-are}
+use Rattle.laws.proofs.RustInteriors.Leaves.{ports-are}
 use Rattle.laws.specs.RustInteriors.Selection2.{rendered}
 use Rattle.laws.specs.RustInteriors.InteriorLiteral.{same_set, other_ends, push_interior, from_ramps, from_ports, region_retained, is_retained}
 

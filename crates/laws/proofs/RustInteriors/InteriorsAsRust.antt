@@ -37,7 +37,7 @@ use Rattle.laws.specs.RustInteriors.ComponentRegions.{inside, all_inside, edges_
 use Rattle.laws.specs.RustInteriors.ComponentLiteral.{is_passed_over, leaves_component, ports_from}
 use Rattle.laws.specs.RustInteriors.ComponentSearch.{at_least_one, edge-found, candidate_is, regions_are_lem, ports-are}
 use Rattle.laws.specs.RustInteriors.InteriorLiteral.{from_ports, is_retained}
-use Rattle.laws.specs.RustInteriors.InteriorChain.{interior_is}
+use Rattle.laws.proofs.RustInteriors.InteriorChain.{interior_is}
 use Rattle.laws.specs.RustInteriors.Selection2.{rendered, removed_rust, selection}
 use Rattle.laws.specs.RustInteriors.DepthFirstLiteral.{Search, search_from}
 use Rattle.laws.specs.RustInteriors.SearchRounds.{Ordered}
