@@ -43,7 +43,7 @@ offset_bounds-smaller-j c =
     let smaller : List ℕ = c.args.smaller.now in
     let larger : List ℕ = c.args.larger.now in
     let union : Pair = pair (get_or smaller c.args.index 0) (get_or larger c.args.index 0) in
-    let entry : Entry smaller larger union c.args.count c.loop-k.k c.wide_byte-j.result = entry_at_lem _ _ _ c.pre.1.1.1 c.loop-k-test.taken c.wide_byte-j.ensures.0 in
+    let entry : Entry smaller larger union c.args.count c.loop-k.k c.wide_byte-j.result = entry_at_lem _ _ _ c.requires.incidents_listed c.loop-k-test.taken c.wide_byte-j.ensures.same in
     omega (arith, entry.below)
 
 pub bounds-smaller-j : goal.bounds-smaller-j
@@ -51,7 +51,7 @@ bounds-smaller-j c =
     let smaller : List ℕ = c.args.smaller.now in
     let larger : List ℕ = c.args.larger.now in
     let union : Pair = pair (get_or smaller c.args.index 0) (get_or larger c.args.index 0) in
-    let entry : Entry smaller larger union c.args.count c.loop-k.k c.wide_byte-j.result = entry_at_lem _ _ _ c.pre.1.1.1 c.loop-k-test.taken c.wide_byte-j.ensures.0 in
+    let entry : Entry smaller larger union c.args.count c.loop-k.k c.wide_byte-j.result = entry_at_lem _ _ _ c.requires.incidents_listed c.loop-k-test.taken c.wide_byte-j.ensures.same in
     omega (arith, entry.below)
 
 pub offset_bounds-larger-j : goal.offset_bounds-larger-j
@@ -59,7 +59,7 @@ offset_bounds-larger-j c =
     let smaller : List ℕ = c.args.smaller.now in
     let larger : List ℕ = c.args.larger.now in
     let union : Pair = pair (get_or smaller c.args.index 0) (get_or larger c.args.index 0) in
-    let entry : Entry smaller larger union c.args.count c.loop-k.k c.wide_byte-j.result = entry_at_lem _ _ _ c.pre.1.1.1 c.loop-k-test.taken c.wide_byte-j.ensures.0 in
+    let entry : Entry smaller larger union c.args.count c.loop-k.k c.wide_byte-j.result = entry_at_lem _ _ _ c.requires.incidents_listed c.loop-k-test.taken c.wide_byte-j.ensures.same in
     omega (arith, entry.below)
 
 pub bounds-larger-j : goal.bounds-larger-j
@@ -67,7 +67,7 @@ bounds-larger-j c =
     let smaller : List ℕ = c.args.smaller.now in
     let larger : List ℕ = c.args.larger.now in
     let union : Pair = pair (get_or smaller c.args.index 0) (get_or larger c.args.index 0) in
-    let entry : Entry smaller larger union c.args.count c.loop-k.k c.wide_byte-j.result = entry_at_lem _ _ _ c.pre.1.1.1 c.loop-k-test.taken c.wide_byte-j.ensures.0 in
+    let entry : Entry smaller larger union c.args.count c.loop-k.k c.wide_byte-j.result = entry_at_lem _ _ _ c.requires.incidents_listed c.loop-k-test.taken c.wide_byte-j.ensures.same in
     omega (arith, entry.below)
 
 pub overflow_add-met : goal.overflow_add-met
@@ -75,7 +75,7 @@ overflow_add-met c =
     let smaller : List ℕ = c.args.smaller.now in
     let larger : List ℕ = c.args.larger.now in
     let union : Pair = pair (get_or smaller c.args.index 0) (get_or larger c.args.index 0) in
-    let entry : Entry smaller larger union c.args.count c.loop-k.k c.wide_byte-j.result = entry_at_lem _ _ _ c.pre.1.1.1 c.loop-k-test.taken c.wide_byte-j.ensures.0 in
+    let entry : Entry smaller larger union c.args.count c.loop-k.k c.wide_byte-j.result = entry_at_lem _ _ _ c.requires.incidents_listed c.loop-k-test.taken c.wide_byte-j.ensures.same in
     omega (arith, entry.below, met-few _ _ _ _ _ (c.loop-k.invariant.1.1.up_to _ entry.rank_is))
 
 pub loop-k-preserved : goal.loop-k-preserved
@@ -86,7 +86,7 @@ loop-k-preserved c =
     let side : ℕ = c.regions.side in
     let region : ℕ = c.region_of-region.result in
     let skipped : {met : ℕ} (j : ℕ) → names_either smaller larger union j ≡ false → Met smaller larger c.args.index union region j met → Met smaller larger c.args.index union region (j + 1) met = λ j h. met-skip _ _ _ _ _ j (side-unnamed smaller larger union side c.region_of-region.ensures j h) in
-    let entry : Entry smaller larger union c.args.count c.loop-k.k c.wide_byte-j.result = entry_at_lem _ _ _ c.pre.1.1.1 c.loop-k-test.taken c.wide_byte-j.ensures.0 in
+    let entry : Entry smaller larger union c.args.count c.loop-k.k c.wide_byte-j.result = entry_at_lem _ _ _ c.requires.incidents_listed c.loop-k-test.taken c.wide_byte-j.ensures.same in
     let m = c.loop-k.invariant.1.1.up_to _ entry.rank_is in (
       search rules,
       (
@@ -107,7 +107,7 @@ overflow_sub-wide c =
     let union : Pair = pair (get_or smaller c.args.index 0) (get_or larger c.args.index 0) in
     let side : ℕ = c.regions.side in
     let region : ℕ = c.region_of-region.result in
-    let counted : (1 ≤ region) × (region ≤ length counts) = side-within (λ r. (1 ≤ r) × (r ≤ length counts)) union side c.region_of-region.ensures c.pre.1.0 c.pre.1.1.0 in
+    let counted : (1 ≤ region) × (region ≤ length counts) = side-within (λ r. (1 ≤ r) × (r ≤ length counts)) union side c.region_of-region.ensures c.requires.smaller_named c.requires.larger_named in
     omega (arith, counted, c.wide.ensures)
 
 pub bounds-counts-wide : goal.bounds-counts-wide
@@ -118,7 +118,7 @@ bounds-counts-wide c =
     let union : Pair = pair (get_or smaller c.args.index 0) (get_or larger c.args.index 0) in
     let side : ℕ = c.regions.side in
     let region : ℕ = c.region_of-region.result in
-    let counted : (1 ≤ region) × (region ≤ length counts) = side-within (λ r. (1 ≤ r) × (r ≤ length counts)) union side c.region_of-region.ensures c.pre.1.0 c.pre.1.1.0 in
+    let counted : (1 ≤ region) × (region ≤ length counts) = side-within (λ r. (1 ≤ r) × (r ≤ length counts)) union side c.region_of-region.ensures c.requires.smaller_named c.requires.larger_named in
     omega (arith, counted, c.wide.ensures)
 
 pub regions-preserved : goal.regions-preserved
@@ -168,7 +168,7 @@ returns-then-j-index c =
     let side : ℕ = c.regions.side in
     let region : ℕ = c.region_of-region.result in
     let sided : {b : Bool} → fitting region ≡ b → fits side ≡ b = λ e. sym (ap fitting c.region_of-region.ensures) ∙ e in
-    let entry : Entry smaller larger union c.args.count c.loop-k.k c.wide_byte-j.result = entry_at_lem _ _ _ c.pre.1.1.1 c.loop-k-test.taken c.wide_byte-j.ensures.0 in
+    let entry : Entry smaller larger union c.args.count c.loop-k.k c.wide_byte-j.result = entry_at_lem _ _ _ c.requires.incidents_listed c.loop-k-test.taken c.wide_byte-j.ensures.same in
     stopped c.regions-test.taken
     (sided (region-stops smaller larger c.args.index union region counts c.args.count entry.below c.names_region.ensures c.if-names_region.true c.fits_union.ensures c.if-j-index.true))
 

@@ -42,11 +42,16 @@ loop-k-init c =
 
 pub overflow_cast-k : goal.overflow_cast-k
 overflow_cast-k c =
-    omega (arith, c.loop-k-test.true, c.requires.0.labels)
+    omega (arith, c.loop-k-test.true, c.requires.lent.labels)
 
 pub add_bridge-n-requires : goal.add_bridge-n-requires
 add_bridge-n-requires c =
-    (c.requires.0, ((omega arith, omega (arith, c.loop-k-test.true)), (omega (arith, few c c.loop-k.k, c.loop-k.invariant.1.1.0, ap (λ o. length (to_list o)) (found_at c c.loop-k.k)), omega (arith, c.requires.1.1, c.loop-k.invariant.1.0))))
+    record {
+      lent = c.requires.lent;
+      r_named = (omega arith, omega (arith, c.loop-k-test.true));
+      proposals_room = omega (arith, few c c.loop-k.k, c.loop-k.invariant.1.1.0, ap (λ o. length (to_list o)) (found_at c c.loop-k.k));
+      rows_room = omega (arith, c.requires.rows_room, c.loop-k.invariant.1.0);
+    }
 
 pub loop-k-preserved : goal.loop-k-preserved
 loop-k-preserved c =
@@ -69,7 +74,7 @@ shape_of-rows c = c.loop-k.invariant.1.0
 pub returns : goal.returns
 returns c =
     let found : ℕ → Option Proposal = bridges c.args.boundaries.now c.args.smaller.now c.args.larger.now c.args.marks.now c.args.counts.now c.args.count in
-    (
-      c.loop-k.invariant.1.1.1 ∙ ap (λ k. rows_of c.args.rows.now c.args.unions ++ collect k found) (le_antisymm c.loop-k.invariant.0 c.loop-k-test.false),
-      omega (arith, c.loop-k.invariant.1.1.0, few c c.loop-k.k),
-    )
+    record {
+      rows = c.loop-k.invariant.1.1.1 ∙ ap (λ k. rows_of c.args.rows.now c.args.unions ++ collect k found) (le_antisymm c.loop-k.invariant.0 c.loop-k-test.false);
+      bound = omega (arith, c.loop-k.invariant.1.1.0, few c c.loop-k.k);
+    }

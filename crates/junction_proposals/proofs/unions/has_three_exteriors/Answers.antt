@@ -30,7 +30,7 @@ offset_bounds-smaller-j c =
     let index : ℕ = c.args.index in
     let union : Pair = record { lo = get_or smaller index 0; hi = get_or larger index 0 } in
     let j : ℕ = c.wide_byte-j.result in
-    let entry : Entry smaller larger union c.args.count c.loop-k.k j = entry_at_lem _ _ _ c.pre.1 c.loop-k-test.taken c.wide_byte-j.ensures.0 in
+    let entry : Entry smaller larger union c.args.count c.loop-k.k j = entry_at_lem _ _ _ c.requires.incidents_listed c.loop-k-test.taken c.wide_byte-j.ensures.same in
     omega (arith, entry.below)
 
 pub bounds-smaller-j : goal.bounds-smaller-j
@@ -40,7 +40,7 @@ bounds-smaller-j c =
     let index : ℕ = c.args.index in
     let union : Pair = record { lo = get_or smaller index 0; hi = get_or larger index 0 } in
     let j : ℕ = c.wide_byte-j.result in
-    let entry : Entry smaller larger union c.args.count c.loop-k.k j = entry_at_lem _ _ _ c.pre.1 c.loop-k-test.taken c.wide_byte-j.ensures.0 in
+    let entry : Entry smaller larger union c.args.count c.loop-k.k j = entry_at_lem _ _ _ c.requires.incidents_listed c.loop-k-test.taken c.wide_byte-j.ensures.same in
     omega (arith, entry.below)
 
 pub offset_bounds-larger-j : goal.offset_bounds-larger-j
@@ -50,7 +50,7 @@ offset_bounds-larger-j c =
     let index : ℕ = c.args.index in
     let union : Pair = record { lo = get_or smaller index 0; hi = get_or larger index 0 } in
     let j : ℕ = c.wide_byte-j.result in
-    let entry : Entry smaller larger union c.args.count c.loop-k.k j = entry_at_lem _ _ _ c.pre.1 c.loop-k-test.taken c.wide_byte-j.ensures.0 in
+    let entry : Entry smaller larger union c.args.count c.loop-k.k j = entry_at_lem _ _ _ c.requires.incidents_listed c.loop-k-test.taken c.wide_byte-j.ensures.same in
     omega (arith, entry.below)
 
 pub bounds-larger-j : goal.bounds-larger-j
@@ -60,7 +60,7 @@ bounds-larger-j c =
     let index : ℕ = c.args.index in
     let union : Pair = record { lo = get_or smaller index 0; hi = get_or larger index 0 } in
     let j : ℕ = c.wide_byte-j.result in
-    let entry : Entry smaller larger union c.args.count c.loop-k.k j = entry_at_lem _ _ _ c.pre.1 c.loop-k-test.taken c.wide_byte-j.ensures.0 in
+    let entry : Entry smaller larger union c.args.count c.loop-k.k j = entry_at_lem _ _ _ c.requires.incidents_listed c.loop-k-test.taken c.wide_byte-j.ensures.same in
     omega (arith, entry.below)
 
 pub with-exteriors-requires : goal.with-exteriors-requires
@@ -80,7 +80,7 @@ loop-k-preserved c =
     let index : ℕ = c.args.index in
     let union : Pair = record { lo = get_or smaller index 0; hi = get_or larger index 0 } in
     let j : ℕ = c.wide_byte-j.result in
-    let entry : Entry smaller larger union c.args.count c.loop-k.k j = entry_at_lem _ _ _ c.pre.1 c.loop-k-test.taken c.wide_byte-j.ensures.0 in
+    let entry : Entry smaller larger union c.args.count c.loop-k.k j = entry_at_lem _ _ _ c.requires.incidents_listed c.loop-k-test.taken c.wide_byte-j.ensures.same in
     let surveyed : Surveyed smaller larger index union j c.loop-k.exteriors = c.loop-k.inv.1.up_to j entry.rank_is in
     (
       search rules,
@@ -93,4 +93,4 @@ loop-k-preserved c =
 
 pub returns : goal.returns
 returns c =
-    survey_end _ _ _ _ (passed-all _ _ _ c.requires.1 c.loop-k.invariant.1 c.loop-k.invariant.0 c.loop-k-test.false)
+    survey_end _ _ _ _ (passed-all _ _ _ c.requires.incidents_listed c.loop-k.invariant.1 c.loop-k.invariant.0 c.loop-k-test.false)

@@ -52,7 +52,7 @@ offset_bounds-smaller-j c =
     let larger : List ℕ = c.args.larger.now in
     let union : Pair = record { lo = get_or smaller c.args.index 0; hi = get_or larger c.args.index 0 } in
     let j : ℕ = c.wide_byte-j.result in
-    let entry : Entry smaller larger union c.args.count c.loop-k.k j = entry_at_lem _ _ _ c.pre.1.1 c.loop-k-test.taken c.wide_byte-j.ensures.0 in
+    let entry : Entry smaller larger union c.args.count c.loop-k.k j = entry_at_lem _ _ _ c.requires.incidents_listed c.loop-k-test.taken c.wide_byte-j.ensures.same in
     omega (arith, entry.below)
 
 pub bounds-smaller-j : goal.bounds-smaller-j
@@ -61,7 +61,7 @@ bounds-smaller-j c =
     let larger : List ℕ = c.args.larger.now in
     let union : Pair = record { lo = get_or smaller c.args.index 0; hi = get_or larger c.args.index 0 } in
     let j : ℕ = c.wide_byte-j.result in
-    let entry : Entry smaller larger union c.args.count c.loop-k.k j = entry_at_lem _ _ _ c.pre.1.1 c.loop-k-test.taken c.wide_byte-j.ensures.0 in
+    let entry : Entry smaller larger union c.args.count c.loop-k.k j = entry_at_lem _ _ _ c.requires.incidents_listed c.loop-k-test.taken c.wide_byte-j.ensures.same in
     omega (arith, entry.below)
 
 pub offset_bounds-larger-j : goal.offset_bounds-larger-j
@@ -70,7 +70,7 @@ offset_bounds-larger-j c =
     let larger : List ℕ = c.args.larger.now in
     let union : Pair = record { lo = get_or smaller c.args.index 0; hi = get_or larger c.args.index 0 } in
     let j : ℕ = c.wide_byte-j.result in
-    let entry : Entry smaller larger union c.args.count c.loop-k.k j = entry_at_lem _ _ _ c.pre.1.1 c.loop-k-test.taken c.wide_byte-j.ensures.0 in
+    let entry : Entry smaller larger union c.args.count c.loop-k.k j = entry_at_lem _ _ _ c.requires.incidents_listed c.loop-k-test.taken c.wide_byte-j.ensures.same in
     omega (arith, entry.below)
 
 pub bounds-larger-j : goal.bounds-larger-j
@@ -79,7 +79,7 @@ bounds-larger-j c =
     let larger : List ℕ = c.args.larger.now in
     let union : Pair = record { lo = get_or smaller c.args.index 0; hi = get_or larger c.args.index 0 } in
     let j : ℕ = c.wide_byte-j.result in
-    let entry : Entry smaller larger union c.args.count c.loop-k.k j = entry_at_lem _ _ _ c.pre.1.1 c.loop-k-test.taken c.wide_byte-j.ensures.0 in
+    let entry : Entry smaller larger union c.args.count c.loop-k.k j = entry_at_lem _ _ _ c.requires.incidents_listed c.loop-k-test.taken c.wide_byte-j.ensures.same in
     omega (arith, entry.below)
 
 pub port_passes-requires : goal.port_passes-requires
@@ -88,8 +88,8 @@ port_passes-requires c =
     let larger : List ℕ = c.args.larger.now in
     let union : Pair = record { lo = get_or smaller c.args.index 0; hi = get_or larger c.args.index 0 } in
     let j : ℕ = c.wide_byte-j.result in
-    let entry : Entry smaller larger union c.args.count c.loop-k.k j = entry_at_lem _ _ _ c.pre.1.1 c.loop-k-test.taken c.wide_byte-j.ensures.0 in
-    (placed c.requires.0 c.requires.1.0, placed c.requires.0 entry.below)
+    let entry : Entry smaller larger union c.args.count c.loop-k.k j = entry_at_lem _ _ _ c.requires.incidents_listed c.loop-k-test.taken c.wide_byte-j.ensures.same in
+    (placed c.requires.boundaries_lent c.requires.index_within, placed c.requires.boundaries_lent entry.below)
 
 pub returns-then-not-port_passes : goal.returns-then-not-port_passes
 unfolding ports_pass
@@ -99,7 +99,7 @@ returns-then-not-port_passes c =
     let union : Pair = record { lo = get_or smaller c.args.index 0; hi = get_or larger c.args.index 0 } in
     let test : ℕ → Bool = passing c.args.boundaries.now smaller larger c.args.index union.lo union.hi c.args.one in
     let j : ℕ = c.wide_byte-j.result in
-    let entry : Entry smaller larger union c.args.count c.loop-k.k j = entry_at_lem _ _ _ c.pre.1.1 c.loop-k-test.taken c.wide_byte-j.ensures.0 in
+    let entry : Entry smaller larger union c.args.count c.loop-k.k j = entry_at_lem _ _ _ c.requires.incidents_listed c.loop-k-test.taken c.wide_byte-j.ensures.same in
     sym (all-fails (test c.args.count j entry.below (passing-fails (tested c ∙ c.if-is_port.true) c.port_passes.ensures c.if-not-port_passes.true-raw))
 
 pub loop-k-preserved : goal.loop-k-preserved
@@ -110,7 +110,7 @@ loop-k-preserved c =
     let test : ℕ → Bool = passing c.args.boundaries.now smaller larger c.args.index union.lo union.hi c.args.one in
     let skipped : (j : ℕ) → names_either smaller larger union j ≡ false → all_below j test ≡ true → all_below (j + 1) test ≡ true = λ j h e. all_more test j e (passing-other _ (no_port_lem smaller larger union c.args.index j h)) in
     let j : ℕ = c.wide_byte-j.result in
-    let entry : Entry smaller larger union c.args.count c.loop-k.k j = entry_at_lem _ _ _ c.pre.1.1 c.loop-k-test.taken c.wide_byte-j.ensures.0 in
+    let entry : Entry smaller larger union c.args.count c.loop-k.k j = entry_at_lem _ _ _ c.requires.incidents_listed c.loop-k-test.taken c.wide_byte-j.ensures.same in
     (
       search rules,
       passed_next (skipped entry.is_named entry.rank_is
@@ -124,4 +124,4 @@ loop-k-preserved c =
 pub returns : goal.returns
 unfolding ports_pass
 returns c =
-    sym (passed-all _ _ _ c.requires.1.1 c.loop-k.invariant.1 c.loop-k.invariant.0 c.loop-k-test.false)
+    sym (passed-all _ _ _ c.requires.incidents_listed c.loop-k.invariant.1 c.loop-k.invariant.0 c.loop-k-test.false)

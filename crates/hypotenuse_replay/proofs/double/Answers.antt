@@ -1,5 +1,4 @@
 -- `double` meets its contract: a pattern is a NaN's where, without its sign, it is above that of the infinity. Assumes nothing.
-use borrow.Author.Rules.{rules}
 use mathlib.Core.Path.{◌≡◌, refl, sym, ◌∙◌, subst}
 use mathlib.Core.Bool.{Bool, true, not, true≢false}
 use Prim.Native.Nat.{ℕ, ◌*◌, ◌%◌, ◌^◌, ◌≤◌, ◌<◌}
@@ -7,8 +6,7 @@ use borrow.Author.Tests.{lt-ltb, le-ltb}
 use lib.Dec.{T}
 use lib.Ieee.{Float, nan, inf, fin, binary64, is_nan, div, of_bits, nan_bits}
 use lib.Ieee.Bits.{nan_bits_is, nan_bits_above}
-use Rattle.hypotenuse_replay.proofs.double.Statement.{statement}
-use Rattle.hypotenuse_replay.proofs.double.Tie as tie
+use Rattle.hypotenuse_replay.proofs.double.Goals as goal
 
 is_nan_lem : (x : Float) → is_nan x ≡ true → nan ≡ x
 unfolding is_nan
@@ -26,14 +24,8 @@ nan_bits_lem n h = is_nan_lem (of_bits binary64 n) (sym (nan_bits_is binary64 n)
 other-bits : (n : ℕ) → n % 2 ^ 63 ≤ 2047 * 2 ^ 52 → T (not (nan_bits binary64 n))
 other-bits n h = subst (λ (t : Bool). T (not t)) (sym (nan_bits_above binary64 n ∙ le-ltb (2047 * 2 ^ 52) (n % 2 ^ 63) h)) tt
 
-returns : tie.Need-returns
-returns c = no_quotient ∙ nan_bits_lem c.before.args.bits c.if1.true
+pub returns-then-bits-gt-INFINITY : goal.returns-then-bits-gt-INFINITY
+returns-then-bits-gt-INFINITY c = no_quotient ∙ nan_bits_lem c.args.bits c.if-bits-gt-INFINITY.true
 
-float-from-bits-result : tie.Need-float-from-bits-result
-float-from-bits-result c = other-bits c.before.args.bits c.if1.false
-
-returns-2 : tie.Need-returns-2
-returns-2 c = search rules
-
-pub double_spec : {M : Type 1} → statement M
-double_spec = tie.close (tie.spec returns float-from-bits-result returns-2)
+pub float_from_bits-result : goal.float_from_bits-result
+float_from_bits-result c = other-bits c.args.bits c.if-bits-gt-INFINITY.false
