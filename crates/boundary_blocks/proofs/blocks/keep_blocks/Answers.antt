@@ -50,7 +50,4 @@ pub returns : goal.returns
 returns c =
     let turn = c.loop-k in
     let given = c.args in
-    let all : turn.k ≡ given.count = omega arith in (
-      turn.invariant.2 ∙ ap (λ n. overwrite (left_blocks given.removed.now given.size given.list.now n) given.list.now) all,
-      turn.invariant.3 ∙ ap (left_count given.removed.now) all,
-    )
+    let all : turn.k ≡ given.count = omega arith in record { list = turn.invariant.2 ∙ ap (λ n. overwrite (left_blocks given.removed.now given.size given.list.now n) given.list.now) all; answer = turn.invariant.3 ∙ ap (left_count given.removed.now) all }
