@@ -70,7 +70,7 @@ returns-then-known-count c =
 pub advance-requires : goal.advance-requires
 advance-requires c =
     let few : c.args.a < 256 = omega (arith, c.requires.places.1, c.requires.shown.1.0.counted, c.requires.shown.1.0.bounds.few) in
-    let last : (to-entry c.args.count ≤ (to-entry c.args.known = c.if-known-count.false in
+    let last : c.args.count ≤ c.args.known = c.if-known-count.false in
     let s = c.args in
     let W = c.put_best.ensures in
     let R = c.requires.room in
@@ -90,7 +90,7 @@ shape_of-marks c = c.advance.ensures.room.0
 pub returns : goal.returns
 returns c =
     let few : c.args.a < 256 = omega (arith, c.requires.places.1, c.requires.shown.1.0.counted, c.requires.shown.1.0.bounds.few) in
-    let last : (to-entry c.args.count ≤ (to-entry c.args.known = c.if-known-count.false in
+    let last : c.args.count ≤ c.args.known = c.if-known-count.false in
     let s = c.args in
     let W = c.put_best.ensures in
     let R = c.requires.room in
@@ -98,16 +98,16 @@ returns c =
     let stale = c.requires.stale in
     let all = last in
     let E = c.advance.ensures in record {
-        bound = (E.0.0, λ h. absurd (omega (arith, h, all)));
-        stale = (E.0.1, λ i h l. absurd (omega (arith, h, l, all)));
-        room = (E.1.0.0, (still-roomy R.0 W, E.1.0.1));
+        bound = (E.bound.0, λ h. absurd (omega (arith, h, all)));
+        stale = (E.bound.1, λ i h l. absurd (omega (arith, h, l, all)));
+        room = (E.room.0, (still-roomy R.0 W, E.room.1));
         weight = omega (
               arith,
               weight-put s.count s.removed.now s.fresh.now s.a (omega (arith, before)) (omega (arith, few, R.1.fresh_long)) stale.0,
-              E.1.1.0,
+              E.weight,
             );
         progress = λ C L P H.
                 let N =
-                E.1.1.1 C L (best_put P H W R.0 few R.1.found_long R.1.fresh_long (λ i k d. (omega (arith, k, all), d))) in
+                E.progress C L (best_put P H W R.0 few R.1.found_long R.1.fresh_long (λ i k d. (omega (arith, k, all), d))) in
                 (progress_as (λ i k. omega (arith, k, before.1)) N.0, N.1);
     }

@@ -23,10 +23,12 @@ pub returns : goal.returns
 returns c =
     let s = c.args in
     let em = c.wide_byte-m.ensures.same in
-    let ea = c.wide_byte-a.ensures.same in (
-      λ C T n B P long S hm ho free.
+    let ea = c.wide_byte-a.ensures.same in
+    record {
+      taken = λ C T n B P long S hm ho free.
           taken_at T (λ i. proposal_of C (em i) (ea i) (get_or s.outers.now s.k 0) (get_or s.kinds.now s.k 0))
           (c.take.ensures.taken C T n B P long S (subst (λ m. m < C.count) (sym em) hm) ho
-          ((λ i. is_refused C T (proposal_of C (em i) (ea i) (get_or s.outers.now s.k 0) (get_or s.kinds.now s.k 0))) ∙ free)),
-      c.take.ensures.1,
-    )
+          ((λ i. is_refused C T (proposal_of C (em i) (ea i) (get_or s.outers.now s.k 0) (get_or s.kinds.now s.k 0))) ∙ free));
+      lengths = c.take.ensures.lengths;
+      odd_parts = c.take.ensures.odd_parts;
+    }
