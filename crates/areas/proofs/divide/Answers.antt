@@ -4,7 +4,7 @@ use Rattle.areas.proofs.divide.Goals as goal
 
 pub assess_spans-assessed-requires : goal.assess_spans-assessed-requires
 assess_spans-assessed-requires c =
-    (c.pre.checked, assess_asked c.pre c.label_regions-regions.ensures.shown c.label_regions-regions.kept.1.1.1.1.0)
+    (c.requires.checked, assess_asked c.requires c.label_regions-regions.ensures.shown c.label_regions-regions.auto.labels)
 
 pub returns-in-Rows : goal.returns-in-Rows
 returns-in-Rows c =

@@ -10,7 +10,7 @@ returns-then-room-regions c =
 
 pub assess_spans-requires : goal.assess_spans-requires
 assess_spans-requires c =
-    (c.pre.checked, assess_asked c.pre c.label_regions-regions.ensures.shown c.label_regions-regions.auto.labels)
+    (c.requires.checked, assess_asked c.requires c.label_regions-regions.ensures.shown c.label_regions-regions.auto.labels)
 
 pub returns-in-Rows : goal.returns-in-Rows
 returns-in-Rows c =

@@ -11,22 +11,22 @@ clear_scratch-requires c =
 
 pub pair_starts-requires : goal.pair_starts-requires
 pair_starts-requires c =
-    let pre = c.pre.0 in
-    (pairs_long_lem pre.0 pre.1, (count-few pre.0 pre.1, c.pre.1.0))
+    let pre = c.requires.0 in
+    (pairs_long_lem pre.0 pre.1, (count-few pre.0 pre.1, c.requires.1.0))
 
 pub full_pairs-requires : goal.full_pairs-requires
 full_pairs-requires c =
-    let pre = c.pre.0 in
-    ((count-few pre.0 pre.1, tallies_long_lem pre.0 pre.1), ((c.pre.1.1, c.pre.1.2), stretches pre.0 pre.1 (c.pair_starts.ensures _ pre.1.paired)))
+    let pre = c.requires.0 in
+    ((count-few pre.0 pre.1, tallies_long_lem pre.0 pre.1), ((c.requires.1.1, c.requires.1.2), stretches pre.0 pre.1 (c.pair_starts.ensures _ pre.1.paired)))
 
 pub mark_anchored-requires : goal.mark_anchored-requires
 mark_anchored-requires c =
-    let pre = c.pre.0 in
+    let pre = c.requires.0 in
     anchors-fit pre.0 pre.1 c.clear_scratch.kept.0
 
 pub count_incidents-requires : goal.count_incidents-requires
 count_incidents-requires c =
-    let pre = c.pre.0 in
+    let pre = c.requires.0 in
     (rows_named pre.0 pre.1 (c.pair_starts.ensures _ pre.1.paired), (omega (arith, regions-within pre.0 pre.1, (scratch_long_lem pre.0 pre.1).1, c.clear_scratch.kept.1.0), zeros pre.0 pre.1 _ c.clear_scratch.ensures.1))
 
 pub returns : goal.returns

@@ -18,7 +18,7 @@ pub reserves-requires : goal.reserves-requires
 reserves-requires c = (c.requires.second, omega (arith, c.loop-j-test.true, c.requires.small))
 
 pub reserves-requires-in-loop-j : goal.reserves-requires-in-loop-j
-reserves-requires-in-loop-j c = (c.pre.first, omega (arith, c.loop-j-test.true, c.pre.small))
+reserves-requires-in-loop-j c = (c.requires.first, omega (arith, c.loop-j-test.true, c.requires.small))
 
 pub returns-then-reserves : goal.returns-then-reserves
 returns-then-reserves c =

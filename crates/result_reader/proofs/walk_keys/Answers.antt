@@ -12,23 +12,17 @@ loop-left-init c = walking_starts _ _ _ c.requires
 pub key_at-requires : goal.key_at-requires
 key_at-requires c = c.loop-left.invariant.inside
 
-pub enum_known-key : goal.enum_known-key
-enum_known-key c = c.in-Entry.keys1
-
 pub climb-state-requires : goal.climb-state-requires
 climb-state-requires c = tt
 
 pub loop-left-preserved : goal.loop-left-preserved
 loop-left-preserved c =
-    walking_goes_on _ _ _ c.loop-left.invariant c.loop-left-test.true (c.key_at.ensures ∙ ap (key_of _ _) c.key-1.given.1)
+    walking_goes_on _ _ _ c.loop-left.invariant c.loop-left-test.true c.in-Entry.ensures
     (ascent_next _ _ _ c.key-1.given.0.0 _ c.climb-state.ensures)
-
-pub enum_known-place : goal.enum_known-place
-enum_known-place c = c.in-Entry.keys2
 
 pub returns-in-Fault : goal.returns-in-Fault
 returns-in-Fault c =
-    walking_stops _ _ _ c.loop-left.invariant c.loop-left-test.true (c.key_at.ensures ∙ ap (key_of _ _) c.place-1.given.1)
+    walking_stops _ _ _ c.loop-left.invariant c.loop-left-test.true c.in-Fault.ensures
 
 pub returns : goal.returns
 returns c = walking_ends _ _ _ c.loop-left.invariant c.loop-left-test.false
