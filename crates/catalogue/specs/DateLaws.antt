@@ -210,7 +210,7 @@ day_unique d e h k n = λ i. record { year = year i; month = month i; day = day 
     day =
         let same : days_before_month d.year d.month ≡ days_before_month e.year e.month = ap₂ days_before_month year month in
         let years : days_before_year d.year ≡ days_before_year e.year = ap days_before_year year in
-        omega (arith, number_is d, number_is e, (parts d h).day-from, (parts e k).day-from)
+        omega (arith, number_is d, number_is e, (parts d h).day_from, (parts e k).day_from)
 
 -- ---- each number is that of a date
 

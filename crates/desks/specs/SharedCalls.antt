@@ -66,7 +66,10 @@ module _ (S : Shared) where
       (refusal 1 (sides_fault S.width S.height)
       ∷ refusal 2 (cells_fault S.width S.height S.cells)
       ∷ refusal 3 (unless (is_whole numbers_per_span S.spans))
+      ∷ none
       ∷ spans_refusal S.width S.height S.spans
+      ∷ none
+      ∷ none
       ∷ refusal 9 (elevations_fault S.cells)
       ∷ refusal 10 (unless (partition_has_room (terrain S)))
       ∷ refusal 11 (records_fault (terrain S) (map_in (terrain S)))

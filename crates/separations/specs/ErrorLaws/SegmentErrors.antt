@@ -143,7 +143,7 @@ separation-within {s} {t} {num} {den} hs ht h = go (intersects s t) refl
 
 points_share : {s t : Segment} {f : Fraction} → Points s t f → f.num ≡ 0 → SharePoint s t
 points_share {s} {t} {f} h z =
-    let w = squares-zero _ _ (h.num-is ∙ z) in
+    let w = squares-zero _ _ (h.num_is ∙ z) in
     record { on_first = h.on_first; on_second = h.on_second; same = (dist_zero _ _ w.0, dist_zero _ _ w.1) }
 
 abbrev Fine : Fraction → Type 0

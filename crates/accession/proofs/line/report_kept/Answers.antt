@@ -24,7 +24,10 @@ returns-in-Nowhere c =
     let l = entry.args.records.now in
     let own = entry.args.own in
     let none = line-unknown l own (subst (Finds l own) c.in-Nowhere.is at-find.find-own.ensures) in
-    (unknown l own entry.args.output.now entry.requires.0 entry.requires.1 none, exit-unknown l own entry.args.output.now none)
+    record {
+        answer = unknown l own entry.args.output.now entry.requires.0 entry.requires.1 none;
+        left = exit-unknown l own entry.args.output.now none;
+    }
 
 pub returns-in-At : goal.returns-in-At
 returns-in-At c =

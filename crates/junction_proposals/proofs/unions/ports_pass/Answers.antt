@@ -19,7 +19,7 @@ use borrow.Author.Rules.{rules}
 use borrow.Author.Tests.{not-true, not-false}
 use Rattle.junction_proposals.proofs.unions.ports_pass.Invariants.{passing}
 use Rattle.junction_proposals.proofs.unions.ports_pass.Goals as goal
-use Rattle.junction_proposals.proofs.unions.ports_pass.Goals.{then-is_port, else-is_port}
+use Rattle.junction_proposals.proofs.unions.ports_pass.Goals.{then-is_port+else-not-port_passes, else-is_port}
 
 -- of a boundary, by what the two tests returned
 passing-fails : {a b t : Bool} → a ≡ true → t ≡ b → not t ≡ true → (not a || b) ≡ false
@@ -117,7 +117,7 @@ loop-k-preserved c =
       passed_next (skipped c.args.boundaries.now smaller larger c.args.index union c.args.one) entry.is_named entry.rank_is
           (all_more test j (c.loop-k.invariant.1.up_to j entry.rank_is)
           (elim c.if-is_port.branch [
-            then-is_port w ↦ passing-port (tested smaller larger c.args.index union j c.is_port.ensures ∙ w.if-is_port.true) w.port_passes.ensures w.if-not-port_passes.false-raw
+            then-is_port+else-not-port_passes w ↦ passing-port (tested smaller larger c.args.index union j c.is_port.ensures ∙ w.if-is_port.true) w.port_passes.ensures w.if-not-port_passes.false-raw
             | else-is_port w ↦ passing-other _ (tested smaller larger c.args.index union j c.is_port.ensures ∙ w.if-is_port.false)
           ])),
     )

@@ -14,7 +14,7 @@ pub returns : goal.returns
 returns c =
     let apart-few : c.if-a-b.apart ≤ max_pixel = let given = c.requires in
     ⊎_elim (λ w. omega (arith, w.1, given.1)) (λ w. omega (arith, w.1, given.0)) c.if-a-b.branch in
-    (
-      ⊎_elim (λ w. ap (λ n. n * n) w.1 ∙ square-up _ _ w.0.taken) (λ w. ap (λ n. n * n) w.1 ∙ square-down _ _ w.0.left) c.if-a-b.branch,
-      square-few apart-few,
-    )
+    record {
+        answer = ⊎_elim (λ w. ap (λ n. n * n) w.1 ∙ square-up _ _ w.0.taken) (λ w. ap (λ n. n * n) w.1 ∙ square-down _ _ w.0.left) c.if-a-b.branch;
+        bound = square-few apart-few;
+    }

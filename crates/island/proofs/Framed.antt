@@ -17,10 +17,11 @@ use Rattle.laws.specs.RegionLaws.Steps.{Step, step_is, cut_all}
 use Rattle.laws.specs.RegionLaws.PairLaws.{pairs_of-all, cut_of, cut_of_at, cut_of-all, pairs-cut, pairs-within}
 use Rattle.island.specs.Premises.{cuts_island, Island}
 use Rattle.island.specs.Frame.{Frame, Ids, ren_p, PairOn}
-use Rattle.island.specs.Restrict.{restrict, count_in, cuts_lt, cut-sided, cut_in}
-use Rattle.island.specs.Labels.{in_r, in_zero, regions_in_lem}
-use Rattle.island.specs.Pairs.{Lies, pair_on, separated_same, pairs_same}
-use Rattle.island.specs.Records.{region_in, anchored_in}
+use Rattle.island.specs.Restrict.{restrict, count_in, cuts_lt}
+use Rattle.island.proofs.Restrict.{cut-sided, cut_in}
+use Rattle.island.proofs.Labels.{in_r, in_zero, regions_in_lem}
+use Rattle.island.proofs.Pairs.{Lies, pair_on, separated_same, pairs_same}
+use Rattle.island.proofs.Records.{region_in, anchored_in}
 
 module _ (M : Map) (isl : ℕ → Bool) (I : Island M isl) where
   abbrev B : ℕ → Bool

@@ -22,7 +22,7 @@ use Rattle.laws.specs.RegionLaws.Regions.{label-blocked, label-beyond}
 use Rattle.island.specs.Premises.{has_anchor, Island}
 use Rattle.island.specs.Frame.{ren, ren-eqb}
 use Rattle.island.specs.Restrict.{restrict, cells_at}
-use Rattle.island.specs.Labels.{label_of, in_r, in_zero, in_label, label_in, label-out}
+use Rattle.island.proofs.Labels.{label_of, in_r, in_zero, in_label, label_in, label-out}
 
 module _ (M : Map) (isl : ℕ → Bool) (I : Island M isl) where
   abbrev R : ℕ → Bool

@@ -17,7 +17,7 @@ use Rattle.island.specs.Premises.{Island}
 use Rattle.island.specs.Frame.{ren, ren_p, PairOn, ren-eqb, ren-ltb}
 use Rattle.island.specs.RegionLists.{pair_eq_in}
 use Rattle.island.specs.Restrict.{restrict}
-use Rattle.island.specs.Labels.{label_of, in_r, in_label, label_in}
+use Rattle.island.proofs.Labels.{label_of, in_r, in_label, label_in}
 
 -- ---- of regions inside
 

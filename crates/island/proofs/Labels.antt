@@ -16,7 +16,8 @@ use Rattle.laws.specs.ListLaws.Below.{count_ext, below_at, below_none}
 use Rattle.laws.specs.RegionLaws.Regions.{root, root_below, root-is_root, is_root-parts, root_one, label-walkable, label-blocked}
 use Rattle.island.specs.Premises.{Island}
 use Rattle.island.specs.Frame.{ren}
-use Rattle.island.specs.Restrict.{restrict, walkable_at_lem, root-side, root_same}
+use Rattle.island.specs.Restrict.{restrict, walkable_at_lem}
+use Rattle.island.proofs.Restrict.{root-side, root_same}
 
 -- whether a cell is a root, and the label of a cell
 abbrev is_root_cell : Map → ℕ → Bool

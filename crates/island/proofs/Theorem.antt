@@ -10,9 +10,9 @@ use Rattle.definitions.specs.Rows.{Row, rows_from, rows_of, removed_by, removed_
 use Rattle.laws.specs.OrderLaws.Ranks.{rank}
 use Rattle.island.specs.Premises.{Island, Alike, cuts_island, rank_of, island_only, island_rows}
 use Rattle.island.specs.Frame.{Frame, Ids}
-use Rattle.island.specs.Framed.{framed, ids}
+use Rattle.island.proofs.Framed.{framed, ids}
 use Rattle.island.specs.Restrict.{restrict}
-use Rattle.island.specs.Same.{restrict_same}
+use Rattle.island.proofs.Same.{restrict_same}
 use Rattle.island.specs.FrameJunctions
 use Rattle.island.specs.FrameMouths
 use Rattle.island.specs.FrameInteriors
