@@ -102,9 +102,9 @@ use Rattle.separations.specs.Calls as listed
 use Rattle.catalogue.specs.Accession.{accession_at, accession_count}
 use Rattle.catalogue.specs.Line.{line_verdict, line_at_exit}
 use Rattle.catalogue.specs.AccessionLaws.Chain.{Link}
-use Rattle.catalogue.specs.AccessionLaws.Lines.{Descends}
-use Rattle.catalogue.specs.AccessionLaws.Reported.{accessions_in}
-use Rattle.catalogue.specs.AccessionLaws.Reported as reported
+use Rattle.catalogue.proofs.AccessionLaws.Lines.{Descends}
+use Rattle.catalogue.proofs.AccessionLaws.Reported.{accessions_in}
+use Rattle.catalogue.proofs.AccessionLaws.Reported as reported
 use Rattle.catalogue.specs.Dates.{Date}
 use Rattle.catalogue.specs.Terms.{term_at, term_count, days_of, contains}
 use Rattle.catalogue.specs.Pool.{newest, entry_of}
