@@ -115,8 +115,8 @@ use Rattle.results.specs.ResultAnswers.{read_result, result_bytes, well_formed, 
 use Rattle.results.specs.ResultAnswers as answers
 use Rattle.results.specs.Shortest.{shortest}
 use Rattle.results.specs.ShortestReads.{number-shortest}
-use Rattle.results.specs.Calls.{InMemory}
-use Rattle.results.specs.Calls as written
+use Rattle.results.proofs.Calls.{InMemory}
+use Rattle.results.proofs.Calls as written
 use Rattle.sheet.specs.Contract.{answer_number}
 use Rattle.sheet.specs.declared.Answer.{Answer as ReadAnswer}
 use Rattle.sheets_equal.specs.NumberBytes.{Bytes}
@@ -142,10 +142,10 @@ use Rattle.run_results.specs.Calls as runs
 use Rattle.report.specs.Runs.{Run}
 use Rattle.report.specs.Report.{Report, Mean, max_runs, empty_report, add_run, add_runs_by, add_runs, exact_runs, mean_of}
 use Rattle.report.specs.ReportLaws.Possible.{Made}
-use Rattle.report.specs.ReportLaws.Order.{Reordered}
-use Rattle.report.specs.ReportLaws.Order as orders
-use Rattle.report.specs.ReportLaws.Reached.{total, total_accepted}
-use Rattle.report.specs.ReportLaws.Reached as reports
+use Rattle.report.proofs.ReportLaws.Order.{Reordered}
+use Rattle.report.proofs.ReportLaws.Order as orders
+use Rattle.report.proofs.ReportLaws.Reached.{total, total_accepted}
+use Rattle.report.proofs.ReportLaws.Reached as reports
 use Rattle.report.specs.ReportLaws.Means.{IsMean}
 use Rattle.report.specs.ReportLaws.Means as means
 
