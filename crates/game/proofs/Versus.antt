@@ -8,7 +8,7 @@ use Rattle.std.proofs.lemmas.Bool.{false≢true}
 use mathlib.Core.List.{List, [], ◌∷◌}
 use Rattle.game.specs.Game.{Game, Place, move_to, is_move, runner_has_won, is_over, Inside}
 use Rattle.game.specs.Play.{Play, before, Next, moved, rests, PlayFrom, Strategy, Follows, RunnerForces, GuardForces}
-use Rattle.game.specs.Sweeps.{moved_in, won-over, won_uncaptured}
+use Rattle.game.proofs.Sweeps.{moved_in, won-over, won_uncaptured}
 
 -- a place and those before it, the latest first
 record Past : Type 0 where

@@ -24,10 +24,10 @@ use Rattle.separations.specs.Distance.{SharePoint, ExactSquare, Fraction, exact_
 use Rattle.separations.specs.PlaneLaws.Crossing.{intersects-share}
 use Rattle.separations.specs.PlaneLaws.Sharing.{share-intersects}
 use Rattle.separations.specs.PlaneLaws.LeastDistance.{meet-exact, apart-exact, exact-again}
-use Rattle.separations.specs.PlaneLaws.Perpendicular.{least_square, least_same}
-use Rattle.separations.specs.PlaneLaws.Sizes.{Small, small-square}
-use Rattle.separations.specs.ErrorLaws.Turned.{separation-turned}
-use Rattle.separations.specs.ErrorLaws.SegmentErrors.{meets-zero, zero-magnitude, separation-within, separation-zero}
+use Rattle.separations.proofs.PlaneLaws.Perpendicular.{least_square, least_same}
+use Rattle.separations.proofs.PlaneLaws.Sizes.{Small, small-square}
+use Rattle.separations.proofs.ErrorLaws.Turned.{separation-turned}
+use Rattle.separations.proofs.ErrorLaws.SegmentErrors.{meets-zero, zero-magnitude, separation-within, separation-zero}
 
 -- ---- of all segments of whole coordinates
 

@@ -9,7 +9,7 @@ use Rattle.laws.specs.NumberLaws.WholeNumbers.{nat_abs_difference, nat_abs_diff-
 use Rattle.laws.specs.FloatLaws.Pixels.{PixelPosition, PixelSegment}
 use Rattle.separations.specs.Distance.{squares, Fraction, length_square, end_square, along, point_square, exact_square}
 use Rattle.separations.specs.PlaneLaws.LeastDistance.{lesser_by}
-use Rattle.separations.specs.PlaneLaws.Perpendicular.{least_square}
+use Rattle.separations.proofs.PlaneLaws.Perpendicular.{least_square}
 
 pub record Small (f : Fraction) : Type 0 where
   pub num-le : f.num ≤ 2 ^ 54

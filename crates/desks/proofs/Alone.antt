@@ -15,7 +15,7 @@ use Rattle.laws.specs.ListLaws.NoFault.{no_fault_lem, or_else_none}
 use Rattle.laws.specs.TableLaws.AcceptedCalls.{refusal_none}
 use Rattle.desks.specs.Desks.{Shared, Desk, alone, terrain, shared_refusal, desk_fault, own_refusal, desk_refusal, answer_from, desk_answer, output_from, desk_output, shared_exit}
 use Rattle.desks.specs.Terrain.{regions_same, rows_same, labels_same, tallies_same, records_same}
-use Rattle.desks.specs.SharedCalls.{shared-success}
+use Rattle.desks.proofs.SharedCalls.{shared-success}
 
 -- ---- every check passes
 

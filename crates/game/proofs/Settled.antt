@@ -12,7 +12,7 @@ use Rattle.laws.specs.ListLaws.ScanSteps.{count-le as count-top}
 use Rattle.game.specs.Game.{Game, Place, move_to, is_move, runner_has_won, is_over, Inside}
 use Rattle.game.specs.Places.{size, code, place_of}
 use Rattle.game.specs.Search.{some_move, every_move, sweep, wins_within, sweeps}
-use Rattle.game.specs.Sweeps.{Least, least_is, some_at, every_at, sweep-won, sweep-over, sweep-runner, sweep-guard, region-below, moved_in}
+use Rattle.game.proofs.Sweeps.{Least, least_is, some_at, every_at, sweep-won, sweep-over, sweep-runner, sweep-guard, region-below, moved_in}
 
 -- ---- counts of two tests, the second of which passes wherever the first does
 

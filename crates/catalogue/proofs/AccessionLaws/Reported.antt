@@ -10,11 +10,12 @@ use Rattle.definitions.specs.Refusals.{unless}
 use Rattle.definitions.specs.Verdict.{Answer, refusal, first_refusal}
 use Rattle.catalogue.specs.Accession.{Accession, numbers_per_accession, accession_at, accession_count, is_finished, accessions_fault, is_current}
 use Rattle.catalogue.specs.Line.{on_line_of, line_of, flat_line, line_verdict, line_at_exit}
-use Rattle.catalogue.specs.AccessionLaws.Current.{current-unique}
+use Rattle.catalogue.proofs.AccessionLaws.Current.{current-unique}
 use Rattle.catalogue.specs.AccessionLaws.Newest.{newest_first}
-use Rattle.catalogue.specs.AccessionLaws.MapLine.{line-unknown}
-use Rattle.catalogue.specs.AccessionLaws.Lines.{Descends, line_of-map, line_descends, line_first, Current, current-found}
-use Rattle.catalogue.specs.AccessionLaws.Chain.{Link, each_linked}
+use Rattle.catalogue.proofs.AccessionLaws.MapLine.{line-unknown}
+use Rattle.catalogue.proofs.AccessionLaws.Lines.{Descends, line_of-map, line_descends, line_first, Current, current-found}
+use Rattle.catalogue.specs.AccessionLaws.Chain.{Link}
+use Rattle.catalogue.proofs.AccessionLaws.Chain.{each_linked}
 
 -- the first k records of a list of numbers
 unfoldable pub accessions_in : ℕ → List ℕ → List Accession

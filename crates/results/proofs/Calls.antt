@@ -11,7 +11,7 @@ use Rattle.definitions.specs.Verdict.{Answer, refusal, first_refusal}
 use Rattle.laws.specs.ListLaws.Tests.{both}
 use Rattle.results.specs.Result.{Result, rules_fault}
 use Rattle.results.specs.ResultAnswers.{well_formed, read_result, result_bytes, placed, is_finished, write_verdict, written_at_exit, Writes}
-use Rattle.results.specs.WrittenReads.{Words, Writable, written-reads}
+use Rattle.results.proofs.WrittenReads.{Words, Writable, written-reads}
 
 -- what lists of 64-bit numbers in memory keep to
 pub record InMemory (r : Result) : Type 0 where

@@ -15,8 +15,8 @@ use Rattle.definitions.specs.Verdict.{Lent, map_in, verdict, refusal}
 use Rattle.laws.specs.ListLaws.Flags.{bit-is_one}
 use Rattle.ranked_list.specs.RankedList.{Listed, judged, judged_after, ranked_rows, ranked_of, numbers_per_ranked, flat_ranked}
 use Rattle.ranked_list.specs.RankedAnswers.{RankedAnswer, ranked_fault, ranked_after, ranked_verdict, ranked_list_exit, RankedRan}
-use Rattle.ranked_list.specs.RankedLaws.{chosen, rows, judged-length, removed-are, taken-apart, refused_by, ports-apart}
-use Rattle.ranked_list.specs.OneBoundary.{no_two}
+use Rattle.ranked_list.proofs.RankedLaws.{chosen, rows, judged-length, removed-are, taken-apart, refused_by, ports-apart}
+use Rattle.ranked_list.proofs.OneBoundary.{no_two}
 
 -- ---- the rows of a list of numbers
 

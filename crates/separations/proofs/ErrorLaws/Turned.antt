@@ -17,7 +17,7 @@ use Rattle.laws.specs.FloatLaws.FiniteSeparations.{Clear, separation-clear}
 use Rattle.separations.specs.PlaneLaws.Crossing.{intersects-share}
 use Rattle.separations.specs.PlaneLaws.Sharing.{share-turn, share-intersects}
 use Rattle.separations.specs.ErrorLaws.PointErrors.{measured-point}
-use Rattle.separations.specs.ErrorLaws.SegmentErrors.{meets-zero}
+use Rattle.separations.proofs.ErrorLaws.SegmentErrors.{meets-zero}
 
 -- ---- the least of two, by their bits
 

@@ -13,10 +13,10 @@ use Rattle.laws.specs.ListLaws.Below.{below_at}
 use Rattle.game.specs.Game.{Game, Place, mover, move_to, is_move, runner_has_won, is_over, Inside}
 use Rattle.game.specs.Play.{Play, before, Next, moved, rests, PlayFrom, guard_wins, Strategy, Follows, RunnerForces, GuardForces}
 use Rattle.game.specs.Search.{least_below, some_move, sweep, wins_within, sweeps, runner_wins, fewest, serves, region_for}
-use Rattle.game.specs.Sweeps.{Least, least_is, least_le, unfinished, over_captured, move_in, moved_in, stays, sweep-runner, sweep-guard, some_at, every_at, some_fails}
-use Rattle.game.specs.Settled.{wins-le, won-wins, over-wins, settled, found_by_then}
-use Rattle.game.specs.Versus.{stays_in, length_before, versus, versus_play, versus-runner, versus-guard, not_both_lem}
-use Rattle.game.specs.Answers.{or_stay, or_stay_is, by_choice}
+use Rattle.game.proofs.Sweeps.{Least, least_is, least_le, unfinished, over_captured, move_in, moved_in, stays, sweep-runner, sweep-guard, some_at, every_at, some_fails}
+use Rattle.game.proofs.Settled.{wins-le, won-wins, over-wins, settled, found_by_then}
+use Rattle.game.proofs.Versus.{stays_in, length_before, versus, versus_play, versus-runner, versus-guard, not_both_lem}
+use Rattle.game.proofs.Answers.{or_stay, or_stay_is, by_choice}
 
 module _ (G : Game) where
   -- ---- no strategy of the runner does better than the search

@@ -8,10 +8,10 @@ use Rattle.std.proofs.lemmas.Bool.{false≢true}
 use Rattle.game.specs.Game.{Game, Place, move_to, is_move, runner_has_won, is_over, Inside}
 use Rattle.game.specs.Play.{Play, PlayFrom, guard_wins, Follows, RunnerForces, GuardForces, Verdict, LeastOf, RunnerServed, GuardServed, Judged}
 use Rattle.game.specs.Search.{wins_within, runner_wins, fewest, region_for, verdict_of}
-use Rattle.game.specs.Sweeps.{moved_in}
-use Rattle.game.specs.Versus.{not_both_lem}
-use Rattle.game.specs.Answers.{by_answers, fewest-wins, fewest-le, runner-serves, runner-answer, runner-goes, guard_serves, guard-answer, guard-goes, answers-win, within_forces, answers-hold, lost-holds}
-use Rattle.game.specs.Delay.{forces_within}
+use Rattle.game.proofs.Sweeps.{moved_in}
+use Rattle.game.proofs.Versus.{not_both_lem}
+use Rattle.game.proofs.Answers.{by_answers, fewest-wins, fewest-le, runner-serves, runner-answer, runner-goes, guard_serves, guard-answer, guard-goes, answers-win, within_forces, answers-hold, lost-holds}
+use Rattle.game.proofs.Delay.{forces_within}
 
 -- no two numbers are both the least
 least_one : (P : ℕ → Type 0) (d e : ℕ) → LeastOf P d → LeastOf P e → d ≡ e

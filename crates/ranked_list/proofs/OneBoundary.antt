@@ -17,7 +17,7 @@ use Rattle.laws.specs.ListLaws.Options.{on_only, on_list}
 use Rattle.laws.specs.ListLaws.ScansOfAll.{collect-below}
 use Rattle.laws.specs.OrderLaws.StableSort.{all-sort}
 use Rattle.ranked_list.specs.RankedList.{Listed, judged}
-use Rattle.ranked_list.specs.RankedLaws.{rows, row, row_at_lem, taken-apart}
+use Rattle.ranked_list.proofs.RankedLaws.{rows, row, row_at_lem, taken-apart}
 
 abbrev pub low_of : Option Pair → ℕ
 low_of none = 0

@@ -25,8 +25,8 @@ use Rattle.laws.specs.RustPasses.Accepted.{accepted-on_map}
 use Rattle.separations.specs.Distance.{SharePoint, ExactSquare, exact_square, Within}
 use Rattle.separations.specs.Listing.{numbers_per_separation, boundary_count, ends_of_lem, separation_row, separation_rows, pair_count, list_verdict, list_at_exit, Lists}
 use Rattle.separations.specs.ListingLaws.{row_at_lem, row_within, listed-pixel, listed-count}
-use Rattle.separations.specs.PlaneLaws.Sizes.{Small}
-use Rattle.separations.specs.Theorem.{SeparationHolds, separation-holds, zero_bits, separations-turned}
+use Rattle.separations.proofs.PlaneLaws.Sizes.{Small}
+use Rattle.separations.proofs.Theorem.{SeparationHolds, separation-holds, zero_bits, separations-turned}
 
 -- entry k of the row of boundaries i and j, i below j, in an output
 abbrev pub entry : List ℕ → ℕ → ℕ → ℕ → ℕ

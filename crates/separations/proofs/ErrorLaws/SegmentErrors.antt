@@ -21,7 +21,7 @@ use Rattle.separations.specs.PlaneLaws.Feet.{foot_square, scale, foot-positive}
 use Rattle.separations.specs.PlaneLaws.Sharing.{squares-zero, dist_zero, share-intersects}
 use Rattle.separations.specs.PlaneLaws.Crossing.{intersects-share}
 use Rattle.separations.specs.PlaneLaws.LeastDistance.{Le, le-over, lesser_by, lesser-le, Points, least_of_four, least_points, first_two-positive, first_three-positive, meet-exact, apart-exact, exact_unique}
-use Rattle.separations.specs.PlaneLaws.Sizes.{length-le}
+use Rattle.separations.proofs.PlaneLaws.Sizes.{length-le}
 use Rattle.separations.specs.ErrorLaws.PointErrors.{separation_error, Measured, measured-point}
 
 -- ---- the least of four

@@ -14,10 +14,11 @@ use Rattle.laws.specs.ListLaws.Below.{below_none}
 use Rattle.laws.specs.ListLaws.ScanSteps.{any-fails_at}
 use Rattle.catalogue.specs.Accession.{Accession, accession_at, accession_count, on_same_map, accessions_fault, is_current}
 use Rattle.catalogue.specs.Line.{reversed, on_line_of, line_of}
-use Rattle.catalogue.specs.AccessionLaws.Current.{kept, later_below, own_ascends_lem, own_unique, current_last}
+use Rattle.catalogue.proofs.AccessionLaws.Current.{kept, later_below, own_ascends_lem, own_unique, current_last}
 use Rattle.catalogue.specs.AccessionLaws.Last.{last_below, last_within, last_passes, none_behind}
 use Rattle.catalogue.specs.AccessionLaws.Newest.{one, newest_first, line_is, newest_next, newest_in, newest-skip, newest_has, newest_from}
-use Rattle.catalogue.specs.AccessionLaws.MapLine.{is_of_map, on_line}
+use Rattle.catalogue.specs.AccessionLaws.MapLine.{is_of_map}
+use Rattle.catalogue.proofs.AccessionLaws.MapLine.{on_line}
 
 -- own numbers descend: each is above all that follow
 pub data Descends : List Accession → Type 0 where

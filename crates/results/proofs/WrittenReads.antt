@@ -13,7 +13,7 @@ use Rattle.results.specs.Shortest.{shortest, list_bytes}
 use Rattle.results.specs.ShortestReads.{number-shortest}
 use Rattle.results.specs.Result.{Result, Entry, Placed, result_of, kind, entry, times_entry, entries, result, rules_fault}
 use Rattle.results.specs.ResultAnswers.{well_formed, judged_by, reading, read_result, chunks, entries_in, placed, result_bytes}
-use Rattle.results.specs.SameRules.{numbers_in, same_rules}
+use Rattle.results.proofs.SameRules.{numbers_in, same_rules}
 
 -- numbers of 64 bits
 abbrev pub Words : List ℕ → Type 0
