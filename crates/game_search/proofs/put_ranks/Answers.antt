@@ -19,6 +19,6 @@ pub returns : goal.returns
 returns c =
     let end = c.loop-at.invariant in
     record {
-        ranks = ranking-ends _ _ _ _ _ _ _ _ end c.loop-at-test.false;
-        ranks_length = end.long;
+      ranks = ranking-ends _ _ _ _ _ _ _ _ end c.loop-at-test.false;
+      ranks_length = end.long;
     }

@@ -7,8 +7,8 @@ use Rattle.game_search.proofs.put_row.Goals as goal
 pub returns-then-old-new : goal.returns-then-old-new
 returns-then-old-new c =
     record {
-        ranks = λ i l. row_same _ _ _ _ c.args.ranks.now c.if-old-new.true i;
-        ranks_length = c.requires.1;
+      ranks = λ i l. row_same _ _ _ _ c.args.ranks.now c.if-old-new.true i;
+      ranks_length = c.requires.1;
     }
 
 pub loop-r-init : goal.loop-r-init
@@ -37,6 +37,6 @@ pub returns : goal.returns
 returns c =
     let end = c.loop-r.invariant in
     record {
-        ranks = row_ends _ _ _ _ _ _ _ end c.loop-r-test.false;
-        ranks_length = end.long;
+      ranks = row_ends _ _ _ _ _ _ _ end c.loop-r-test.false;
+      ranks_length = end.long;
     }

@@ -12,8 +12,8 @@ sweep-requires c =
 pub returns-then-are_same : goal.returns-then-are_same
 returns-then-are_same c =
     record {
-        ranked = searching_still _ _ _ _ _ _ _ _ _ c.requires.0.few c.loop-moves.invariant c.sweep.ensures.swept c.are_same.ensures c.are_same-in-loop-moves.ensures c.if-are_same.true;
-        ranks_length = c.loop-moves.invariant.long;
+      ranked = searching_still _ _ _ _ _ _ _ _ _ c.requires.0.few c.loop-moves.invariant c.sweep.ensures.swept c.are_same.ensures c.are_same-in-loop-moves.ensures c.if-are_same.true;
+      ranks_length = c.loop-moves.invariant.long;
     }
 
 pub put_ranks-requires : goal.put_ranks-requires
@@ -27,6 +27,6 @@ loop-moves-preserved c =
 pub returns : goal.returns
 returns c =
     record {
-        ranked = searching_ends _ _ _ _ _ _ _ c.requires.0.few c.loop-moves.invariant c.loop-moves-test.false;
-        ranks_length = c.loop-moves.invariant.long;
+      ranked = searching_ends _ _ _ _ _ _ _ c.requires.0.few c.loop-moves.invariant c.loop-moves-test.false;
+      ranks_length = c.loop-moves.invariant.long;
     }

@@ -33,6 +33,6 @@ pub returns : goal.returns
 returns c =
     let end = c.loop-g.invariant in
     record {
-        swept = sweeping_ends _ _ _ _ _ _ _ _ end c.loop-g-test.false;
-        lengths = (end.runners_long, end.guards_long);
+      swept = sweeping_ends _ _ _ _ _ _ _ _ end c.loop-g-test.false;
+      lengths = (end.runners_long, end.guards_long);
     }

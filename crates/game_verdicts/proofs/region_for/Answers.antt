@@ -17,8 +17,8 @@ serves-requires c =
 pub returns-then-serves : goal.returns-then-serves
 returns-then-serves c =
     record {
-        answer = none_found _ _ _ _ _ _ _ _ c.loop-d.invariant c.loop-d-test.true c.serves.ensures c.if-serves.true;
-        bound = omega (arith, c.requires.few, c.loop-d-test.true);
+      answer = none_found _ _ _ _ _ _ _ _ c.loop-d.invariant c.loop-d-test.true c.serves.ensures c.if-serves.true;
+      bound = omega (arith, c.requires.few, c.loop-d-test.true);
     }
 
 pub loop-d-preserved : goal.loop-d-preserved
@@ -28,6 +28,6 @@ loop-d-preserved c =
 pub returns : goal.returns
 returns c =
     record {
-        answer = none_ends _ _ _ _ _ _ _ c.loop-d.invariant c.loop-d-test.false;
-        bound = omega (arith, c.loop-d.invariant.upto, c.requires.few);
+      answer = none_ends _ _ _ _ _ _ _ c.loop-d.invariant c.loop-d-test.false;
+      bound = omega (arith, c.loop-d.invariant.upto, c.requires.few);
     }

@@ -4,7 +4,8 @@ use mathlib.Core.Path.{◌≡◌, sym, ap, subst, ◌∙◌}
 use mathlib.Core.List.{List}
 use lib.ListN.{length}
 use Rattle.catalogue.specs.Line.{line_of}
-use Rattle.catalogue.specs.AccessionLaws.MapLine.{map_line, line-of-record, line-unknown}
+use Rattle.catalogue.specs.AccessionLaws.MapLine.{map_line}
+use Rattle.catalogue.proofs.AccessionLaws.MapLine.{line-of-record, line-unknown}
 use Rattle.accession.specs.Contract.{Finds, room_verdict}
 use Rattle.accession.specs.declared.line.Found.TheVariants.{At}
 use Rattle.accession.proofs.Reporting.{ten-left, unknown, exit-left, exit-unknown}

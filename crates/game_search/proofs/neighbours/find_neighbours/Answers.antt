@@ -19,6 +19,6 @@ loop-k-preserved c =
 pub returns : goal.returns
 returns c =
     record {
-        near = λ goal. joined-near _ _ _ _ goal c.loop-k.invariant c.loop-k-test.false;
-        near_length = c.loop-k.invariant.long;
+      near = λ goal. joined-near _ _ _ _ goal c.loop-k.invariant c.loop-k-test.false;
+      near_length = c.loop-k.invariant.long;
     }

@@ -21,6 +21,6 @@ loop-k-preserved c =
 pub returns : goal.returns
 returns c =
     record {
-        near = λ goal. rows-near _ _ _ _ _ goal c.loop-k.invariant.1 c.loop-k-test.false;
-        near_length = c.loop-k.invariant.1.long;
+      near = λ goal. rows-near _ _ _ _ _ goal c.loop-k.invariant.1 c.loop-k-test.false;
+      near_length = c.loop-k.invariant.1.long;
     }

@@ -8,6 +8,6 @@ pub returns : goal.returns
 returns c =
     let a = c.args in
     record {
-        joined = λ i j l m. joined a.near.now a.a a.b _ (omega (arith, c.requires.0, c.requires.2)) c.with.ensures i j m;
-        near_length = simp length-set c.requires.2;
+      joined = λ i j l m. joined a.near.now a.a a.b _ (omega (arith, c.requires.0, c.requires.2)) c.with.ensures i j m;
+      near_length = simp length-set c.requires.2;
     }

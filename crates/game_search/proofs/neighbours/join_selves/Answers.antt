@@ -14,6 +14,6 @@ pub returns : goal.returns
 returns c =
     let end = c.loop-i.invariant in
     record {
-        joined = λ i j l m. end.bits i j (omega (arith, c.loop-i-test.false)) m;
-        near_length = end.long;
+      joined = λ i j l m. end.bits i j (omega (arith, c.loop-i-test.false)) m;
+      near_length = end.long;
     }

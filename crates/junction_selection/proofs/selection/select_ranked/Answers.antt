@@ -60,5 +60,5 @@ shape_of-taken c = c.loop-k.invariant.1.1.1.1.0
 
 pub returns : goal.returns
 returns c j h =
-    c.loop-k.invariant.1.1.1.1.1.removed-at j h
+    c.loop-k.invariant.1.1.1.1.1.removed_at_lem j h
     ∙ ap (λ k. any (λ q. eqb j q.index) (selected_of c.args.smaller.now c.args.larger.now c.args.rows.now c.args.order.now c.args.count k)) (le_antisymm c.loop-k.invariant.0 c.loop-k-test.false)
