@@ -16,7 +16,7 @@ pub loop-i-preserved : goal.loop-i-preserved
 loop-i-preserved c =
     let I = c.loop-i.invariant in
     elim c.if-has_day.branch [
-      then-has_day w ↦ (search rules, omega arith, w.maps-is ∙ counted_in _ _ _ c.has_day.ensures w.if-has_day.true I.2)
+      | then-has_day w ↦ (search rules, omega arith, w.maps-is ∙ counted_in _ _ _ c.has_day.ensures w.if-has_day.true I.2)
       | else-has_day w ↦ (search rules, omega arith, w.maps-is ∙ counted-out _ _ _ c.has_day.ensures w.if-has_day.false I.2)
     ]
 
