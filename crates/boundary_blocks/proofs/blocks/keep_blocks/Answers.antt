@@ -35,10 +35,10 @@ loop-k-preserved c =
     let l = given.list.now in (
       omega arith,
       search rules,
-      keep-block.ensures.0
+      keep-block.ensures.list
           ∙ ap₂ (λ m n. sets m (given.size * n) (left_block removed given.size m turn.k)) turn.invariant.2 turn.invariant.3
           ∙ left_next removed given.size l given.count (search rules) turn.k loop-test.true,
-      keep-block.ensures.1
+      keep-block.ensures.answer
           ∙ ap (λ n. n + bit (is_left removed turn.k)) turn.invariant.3
           ∙ count_next removed given.size l given.count (search rules) turn.k,
     )
