@@ -7,7 +7,7 @@ use mathlib.Core.List.{List, [], ◌∷◌, ◌++◌}
 use lib.ListN.{get_or}
 use Rattle.definitions.specs.Scan.{any, filter}
 use Rattle.definitions.specs.Context.{Context}
-use Rattle.definitions.specs.Junctions.{conflict, proposals, ranked}
+use Rattle.definitions.specs.Junctions.{conflict, proposals}
 use Rattle.laws.specs.ListLaws.Lists.{All, done, more, all_append}
 use Rattle.junction_proposals.specs.Lent.{Shows}
 use Rattle.junction_proposals.specs.Rows.{row_at, rows_of, is_allowed}
