@@ -76,7 +76,7 @@ module _ (l : List ℕ) where
         }
 
     pub holds_more : Holds l (length (set last slot (held + 1))) (held + 1) (set last slot (held + 1)) (set links held (get_or last slot 0))
-    holds_more = subst (λ n. Holds l n (held + 1) (set last slot (held + 1)) (set links held (get_or last slot 0))) (sym holds-suc.slot-count) holds-suc
+    holds_more = subst (λ n. Holds l n (held + 1) (set last slot (held + 1)) (set links held (get_or last slot 0))) (sym holds-suc.slot_count) holds-suc
 
   -- ---- back along a slot
 

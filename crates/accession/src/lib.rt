@@ -16,8 +16,7 @@ use line::{LineAnswer, report_kept};
 use rules::{Broken, first_broken};
 
 // "Report the whole line of an own number": 3 for a last entry unfinished, 17 at the first record that breaks a rule, 10 where the line does not fit.
-#[unsafe(no_mangle)]
-pub extern "C" fn accession_report_line(records: &[u64], own: u64, output: &mut [u64]) -> LineAnswer
+pub fn accession_report_line(records: &[u64], own: u64, output: &mut [u64]) -> LineAnswer
     ensures answer { answer_in result ≡ line_verdict records.now own (length output.old) }
     ensures left { output.new ≡ line_at_exit result.number records.now own output.old }
 {

@@ -6,15 +6,17 @@
 ghost use Rattle.std.specs.Prelude.{◌≤◌, length};
 
 use areas::{Partitioned, partition};
-use io::{large_buffer, write_all};
-use libc::STDOUT_FILENO;
 use replay_lists::{
     CASES, CELLS, HEIGHT, LABELS, MASKS, OPENING, PAIRS, QUEUE, SPANS, TALLIES, WIDTH,
     masks_before, number, number_within, numbers_before, read_bytes, read_opening, write_partition,
 };
 use sheet::{Answer, read_sheet};
+use std::io;
+use std::io::{Read, Write};
+use streams::write_bytes;
 
-fn run(
+fn run<W: Write>(
+    out: &mut W,
     width: u64,
     height: u64,
     cells: &[u8],
@@ -24,21 +26,22 @@ fn run(
     queue: &mut [u32],
     tallies: &mut [u32],
     pairs: &mut [u32],
-) {
+) -> io::Result<()> {
     let answer = partition(
         width, height, cells, spans, labels, masks, queue, tallies, pairs,
     );
     match answer {
         Partitioned::Regions(count) => write_partition(
-            0, count, labels, masks, queue, tallies, pairs,
-        ),
+            out, 0, count, labels, masks, queue, tallies, pairs,
+        )?,
         Partitioned::Refused(number, place) => write_partition(
-            number, place, labels, masks, queue, tallies, pairs,
-        ),
+            out, number, place, labels, masks, queue, tallies, pairs,
+        )?,
     };
+    Ok(())
 }
 
-fn lend(opening: &[u8; 30], cells: &[u8], spans: &[u64]) {
+fn lend<W: Write>(out: &mut W, opening: &[u8; 30], cells: &[u8], spans: &[u64]) -> io::Result<()> {
     let mut labels = numbers_before();
     let mut masks = masks_before();
     let mut queue = numbers_before();
@@ -52,6 +55,7 @@ fn lend(opening: &[u8; 30], cells: &[u8], spans: &[u64]) {
     let tallies_end = number_within(opening, TALLIES, 4096);
     let pairs_end = number_within(opening, PAIRS, 4096);
     run(
+        out,
         number(opening, WIDTH) as u64,
         number(opening, HEIGHT) as u64,
         &cells[0..cells_end],
@@ -61,47 +65,48 @@ fn lend(opening: &[u8; 30], cells: &[u8], spans: &[u64]) {
         &mut queue[0..queue_end],
         &mut tallies[0..tallies_end],
         &mut pairs[0..pairs_end],
-    );
+    )
 }
 
-fn replay(opening: &[u8; 30], bytes: &[u8]) {
+fn replay<W: Write>(out: &mut W, opening: &[u8; 30], bytes: &[u8]) -> io::Result<()> {
     let mut cells = [0u8; 4097];
     let mut spans = [0u64; 1028];
     let mut boundaries = [0u64; 2304];
     let mut anchors = [0u64; 512];
     let answer = read_sheet(bytes, &mut cells, &mut spans, &mut boundaries, &mut anchors);
     match answer {
-        Answer::Read(_) => lend(opening, &cells, &spans),
-        Answer::Refused(_, _) => {
-            write_all(STDOUT_FILENO, b"no sheet\n");
-        }
+        Answer::Read(_) => lend(out, opening, &cells, &spans),
+        Answer::Refused(_, _) => write_bytes(out, b"no sheet\n"),
     }
 }
 
 // Replays the next case; false where there is none.
-fn replay_next(buffer: &mut [u8]) -> bool
+fn replay_next<R: Read, W: Write>(input: &mut R, out: &mut W, buffer: &mut [u8]) -> io::Result<bool>
     requires { 65536 ≤ length buffer.old }
 {
     let mut opening = [0u8; 30];
-    if read_opening(&mut opening) < OPENING {
-        return false;
+    if read_opening(input, &mut opening)? < OPENING {
+        return Ok(false);
     }
-    let size = read_bytes(&opening, &mut *buffer);
-    replay(&opening, &buffer[0..size]);
-    true
+    let size = read_bytes(input, &opening, &mut *buffer)?;
+    replay(out, &opening, &buffer[0..size])?;
+    Ok(true)
 }
 
-fn replay_all(buffer: &mut [u8])
+fn replay_all<R: Read, W: Write>(input: &mut R, out: &mut W, buffer: &mut [u8]) -> io::Result<()>
     requires { 65536 ≤ length buffer.old }
 {
     for _ in 0..CASES {
-        if !replay_next(buffer) {
-            return;
+        if !replay_next(input, out, buffer)? {
+            return Ok(());
         }
     }
+    Ok(())
 }
 
-fn main() {
-    let mut buffer = large_buffer();
-    replay_all(&mut buffer);
+fn main(rt: HostRuntime) -> io::Result<()> {
+    let mut input = rt.stdin();
+    let mut out = rt.stdout();
+    let mut buffer = [0u8; 65536];
+    replay_all(&mut input, &mut out, &mut buffer)
 }

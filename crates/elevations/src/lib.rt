@@ -98,8 +98,7 @@ fn answer(d: Dominance) -> ElevationsAnswer
 }
 
 // The dominance of so many cells, of which so many have elevation 0, 1, 2 and 3. Counts may be any numbers: their sum need not be that of the cells.
-#[unsafe(no_mangle)]
-pub extern "C" fn elevations_dominance(
+pub fn elevations_dominance(
     cells: u32,
     count_0: u32,
     count_1: u32,

@@ -90,8 +90,7 @@ pub fn solve_rows(regions: usize, rows: &[u32], count: usize, goal: usize, verdi
 }
 
 // For other languages too: include/jenwyllt.h declares it as jenwyllt_solve_game.
-#[unsafe(no_mangle)]
-pub extern "C" fn game_solver_solve_game(
+pub fn game_solver_solve_game(
     regions: u64,
     pairs: &[u32],
     goal: u64,

@@ -6,7 +6,7 @@ use Rattle.span_geometry.specs.declared.PixelPosition.{PixelPosition}
 use Rattle.span_geometry.specs.Shapes.{InLimits, point_of}
 
 pub pixel : {p : PixelPosition} → InLimits p → pixels.PixelPosition (point_of p)
-pixel h = record { x-le = h.x-in; y-le = h.y-in }
+pixel h = record { x-le = h.x_in; y-le = h.y_in }
 
 pub limits : {p : PixelPosition} → pixels.PixelPosition (point_of p) → InLimits p
 limits h = record { x_in = h.x-le; y_in = h.y-le }

@@ -6,7 +6,7 @@ use mathlib.Core.List.{List}
 use lib.Dec.{ltb}
 use borrow.Author.Tests.{lt-ltb}
 use Rattle.definitions.specs.Scan.{any}
-use Rattle.definitions.specs.Grid.{Map, Pair, pair_eq, is_step, position_of}
+use Rattle.definitions.specs.Grid.{Map, Pair, pair_eq, position_of}
 use Rattle.grid_steps.specs.Masks.{reached, step_pair, OnwardMarks, OnwardBits}
 use Rattle.grid_steps.proofs.Square.{four}
 

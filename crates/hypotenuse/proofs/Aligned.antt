@@ -1,8 +1,8 @@
 -- The squares of two doubles of 17 digits at most: with U the unit of the 17th digit of the smaller, they are whole numbers of U * U, and U * U is a power of two times the square of the root's
 -- unit. Assumes nothing.
-use mathlib.Core.Path.{◌≡◌, refl, sym, ap, ◌∙◌}
-use Prim.Native.Nat.{ℕ, ◌+◌, ◌-◌, ◌*◌, ◌/◌, ◌%◌, ◌^◌, ◌≤◌, ◌<◌}
-use native.Mathlib.Nat.{add_comm, add-mul, mul_assoc, mul-mul-mul_comm}
+use mathlib.Core.Path.{◌≡◌, sym, ap, ◌∙◌}
+use Prim.Native.Nat.{ℕ, ◌+◌, ◌-◌, ◌*◌, ◌/◌, ◌%◌, ◌^◌, ◌≤◌}
+use native.Mathlib.Nat.{add-mul, mul_assoc, mul-mul-mul_comm}
 use native.Mathlib.Omega.{arith}
 use lib.Pow.{pow-add}
 use Rattle.definitions.specs.Nearest.{pattern_magnitude}

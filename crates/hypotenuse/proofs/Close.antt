@@ -77,7 +77,7 @@ module _ {k x y gap high lost F t rest : ℕ} (n : Near k x y gap high lost F t 
         total = four-times;
         root = n.root;
         rest_le = n.rest_le;
-        below-unit = subst (λ (z : ℕ). lost < z) P-square n.lost-lt;
+        below-unit = subst (λ (z : ℕ). lost < z) P-square n.lost_lt;
         U_pos = pow_pos (k - gap);
       }
 

@@ -3,13 +3,16 @@
 
 #![tactic(auto)]
 
-ghost use Rattle.std.specs.Prelude.{◌≡◌, ◌+◌, ◌-◌, ◌*◌, ◌<◌, ◌≤◌, ◌^◌, [], length};
+ghost use Rattle.std.specs.Prelude.{◌≡◌, ◌+◌, ◌-◌, ◌*◌, ◌<◌, ◌≤◌, ◌^◌, [], length, IfOk};
 ghost use Rattle.std.specs.Float.{binary64};
 ghost use Rattle.std.specs.Float.Ieee.{of_bits};
+ghost use Rattle.definitions.specs.Scan.{bit};
 ghost use Rattle.hypotenuse_replay.specs.Lines.{digit_of, digits_after, number_of_bits, root_of_bits, is_answer_line, lines_in, answers_in};
 
 use hypotenuse::Answer;
-use libc::{STDIN_FILENO, STDOUT_FILENO};
+use std::io;
+use std::io::{Read, Write};
+use streams::{read_full, write_bytes, write_decimal};
 
 // 2^63: the place of the sign.
 const SIGN: u64 = 9223372036854775808;
@@ -120,17 +123,31 @@ struct Tally {
     used: usize,
 }
 
-fn report(line: u64) {
-    io::write_all(STDOUT_FILENO, b"not our answer: line ");
-    io::print_decimal(STDOUT_FILENO, line);
-    io::write_all(STDOUT_FILENO, b"\n");
+fn report<W: Write>(output: &mut W, line: u64) -> io::Result<()> {
+    write_bytes(output, b"not our answer: line ")?;
+    write_decimal(output, line)?;
+    write_bytes(output, b"\n")
+}
+
+// Counts a line, the last of so many of which so many have our answer, and lists it where it is one of the first that have another.
+fn replay_line<W: Write>(output: &mut W, s: &[u8], lines: u64, answers: u64) -> io::Result<u64>
+    requires { answers < lines }
+    ensures { IfOk result (λ n. n ≡ bit (is_answer_line s.now)) }
+{
+    if is_answer_line(s) {
+        return Ok(1);
+    }
+    if lines - answers <= LISTED {
+        report(output, lines)?;
+    }
+    Ok(0)
 }
 
 // Counts the lines of s on top of those before, and lists the first that have another answer.
-fn replay(s: &[u8], before: Tally) -> Tally
+fn replay<W: Write>(output: &mut W, s: &[u8], before: Tally) -> io::Result<Tally>
     requires { (before.answers ≤ before.lines) × (before.lines + length s.now < 2 ^ 64) }
-    ensures { (result.lines ≡ before.lines + lines_in s.now) × (result.answers ≡ before.answers + answers_in [] s.now)
-        × (result.answers ≤ result.lines) × (result.lines ≤ before.lines + length s.now) × (result.used ≤ length s.now) }
+    ensures { IfOk result (λ tally. (tally.lines ≡ before.lines + lines_in s.now) × (tally.answers ≡ before.answers + answers_in [] s.now)
+        × (tally.answers ≤ tally.lines) × (tally.lines ≤ before.lines + length s.now) × (tally.used ≤ length s.now)) }
 {
     let mut lines = before.lines;
     let mut answers = before.answers;
@@ -139,22 +156,16 @@ fn replay(s: &[u8], before: Tally) -> Tally
     while i < s.len() {
         if s[i] == NEWLINE {
             lines += 1;
-            if is_answer_line(&s[start..i]) {
-                answers += 1;
-            } else {
-                if lines - answers <= LISTED {
-                    report(lines);
-                }
-            }
+            answers += replay_line(output, &s[start..i], lines, answers)?;
             start = i + 1;
         }
         i += 1;
     }
-    Tally {
+    Ok(Tally {
         lines,
         answers,
         used: start,
-    }
+    })
 }
 
 // Moves what is from place a to before place e to the start.
@@ -178,42 +189,52 @@ struct Turn {
 }
 
 // Reads once, behind those bytes, and replays the lines that end.
-fn replay_some(buffer: &mut [u8], before: Turn) -> Turn
+fn replay_some<R: Read, W: Write>(
+    input: &mut R,
+    output: &mut W,
+    buffer: &mut [u8],
+    before: Turn,
+) -> io::Result<Turn>
     requires { (before.held ≤ length buffer.old) × (before.answers ≤ before.lines) × (before.lines + length buffer.old < 2 ^ 64) }
-    ensures { (result.held ≤ length buffer.new) × (result.answers ≤ result.lines) × (result.lines ≤ before.lines + length buffer.new) }
+    ensures { IfOk result (λ turn. (turn.held ≤ length buffer.new) × (turn.answers ≤ turn.lines) × (turn.lines ≤ before.lines + length buffer.new)) }
 {
     let held = before.held;
     let lines = before.lines;
     let answers = before.answers;
-    let got = io::read_full(STDIN_FILENO, &mut buffer[held..]);
+    let got = read_full(input, &mut buffer[held..])?;
     if got == 0 {
-        return Turn {
+        return Ok(Turn {
             held,
             lines,
             answers,
             more: false,
-        };
+        });
     }
     let n = held + got;
     let tally = replay(
+        output,
         &buffer[0..n],
         Tally {
             lines,
             answers,
             used: 0,
         },
-    );
+    )?;
     let used = tally.used;
     move_down(buffer, used, n);
-    Turn {
+    Ok(Turn {
         held: n - used,
         lines: tally.lines,
         answers: tally.answers,
         more: true,
-    }
+    })
 }
 
-fn replay_all(buffer: &mut [u8]) -> Turn
+fn replay_all<R: Read, W: Write>(
+    input: &mut R,
+    output: &mut W,
+    buffer: &mut [u8],
+) -> io::Result<Turn>
     requires { length buffer.old ≤ 65536 }
 {
     let mut turn = Turn {
@@ -223,19 +244,21 @@ fn replay_all(buffer: &mut [u8]) -> Turn
         more: true,
     };
     for _ in 0..TURNS {
-        turn = replay_some(buffer, turn);
+        turn = replay_some(input, output, buffer, turn)?;
         if !turn.more {
-            return turn;
+            return Ok(turn);
         }
     }
-    turn
+    Ok(turn)
 }
 
-fn main() {
-    let mut buffer = io::large_buffer();
-    let turn = replay_all(&mut buffer);
-    io::print_decimal(STDOUT_FILENO, turn.answers);
-    io::write_all(STDOUT_FILENO, b" of ");
-    io::print_decimal(STDOUT_FILENO, turn.lines);
-    io::write_all(STDOUT_FILENO, b" stored answers are ours\n");
+fn main(rt: HostRuntime) -> io::Result<()> {
+    let mut input = rt.stdin();
+    let mut output = rt.stdout();
+    let mut buffer = [0u8; 65536];
+    let turn = replay_all(&mut input, &mut output, &mut buffer)?;
+    write_decimal(&mut output, turn.answers)?;
+    write_bytes(&mut output, b" of ")?;
+    write_decimal(&mut output, turn.lines)?;
+    write_bytes(&mut output, b" stored answers are ours\n")
 }

@@ -65,7 +65,7 @@ module _ {A : Type 0} (R : A → A → Type 0) (turn : (x y : A) → R x y → R
     apart-onto : {acc l : List A} → Apart acc → Apart l → All (λ x. All (R x) acc) l → Apart (sort_onto lt acc l)
     unfolding sort_onto
     apart-onto a none_apart done = a
-    apart-onto a (one_apart {x = x} k b) (more h c) = apart-onto (apart-insert x h a) b (all_both-insert k c)
+    apart-onto {acc = acc} a (one_apart {x = x} k b) (more h c) = apart-onto {acc = insert lt x acc} (apart-insert x h a) b (all_both-insert k c)
       where
         all_both-insert : {m acc : List A} → All (R x) m → All (λ y. All (R y) acc) m → All (λ y. All (R y) (insert lt x acc)) m
         all_both-insert done done = done

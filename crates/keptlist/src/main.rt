@@ -3,14 +3,14 @@
 
 #![tactic(auto)]
 
-use io::{read_full, write_all};
-use libc::{STDIN_FILENO, STDOUT_FILENO};
 use sheet_answer::{input_room, keptlist, output_room};
+use std::io;
+use streams::{read_full, write_bytes};
 
-fn main() {
+fn main(rt: HostRuntime) -> io::Result<()> {
     let mut input = input_room();
-    let count = read_full(STDIN_FILENO, &mut input);
+    let count = read_full(&mut rt.stdin(), &mut input)?;
     let mut output = output_room();
     let end = keptlist(&input[..count], &mut output);
-    write_all(STDOUT_FILENO, &output[..end]);
+    write_bytes(&mut rt.stdout(), &output[..end])
 }

@@ -5,10 +5,11 @@
 
 ghost use Rattle.std.specs.Prelude.{◌≤◌, length};
 
-use io::{read_full, write_all};
-use libc::{STDIN_FILENO, STDOUT_FILENO};
 use plain_numbers::{least, wide_byte};
 use sheet_answer::{input_room, keptlist, output_room};
+use std::io;
+use std::io::{Read, Write};
+use streams::{read_full, write_bytes};
 
 // Reading ends after so many sheets at the latest.
 const SHEETS: u64 = 65536;
@@ -26,37 +27,40 @@ fn length_of(opening: &[u8; 3]) -> usize
 }
 
 // Reads a sheet as long as the list, and writes what is printed for it.
-fn answer_to(sheet: &mut [u8]) {
-    let count = read_full(STDIN_FILENO, &mut *sheet);
+fn answer_to<R: Read, W: Write>(input: &mut R, output: &mut W, sheet: &mut [u8]) -> io::Result<()> {
+    let count = read_full(input, &mut *sheet)?;
     let mut out = output_room();
     let end = keptlist(&sheet[0..count], &mut out);
-    write_all(STDOUT_FILENO, &out[..end]);
+    write_bytes(output, &out[..end])
 }
 
 // Replays the next sheet, if there is one.
-fn replay(sheet: &mut [u8]) -> bool
+fn replay<R: Read, W: Write>(input: &mut R, output: &mut W, sheet: &mut [u8]) -> io::Result<bool>
     requires { 65537 ≤ length sheet.old }
 {
     let mut opening = [0u8; 3];
-    if read_full(STDIN_FILENO, &mut opening) < 3 {
-        return false;
+    if read_full(input, &mut opening)? < 3 {
+        return Ok(false);
     }
     let written = length_of(&opening);
-    answer_to(&mut sheet[0..written]);
-    true
+    answer_to(input, output, &mut sheet[0..written])?;
+    Ok(true)
 }
 
-fn replay_all(sheet: &mut [u8])
+fn replay_all<R: Read, W: Write>(input: &mut R, output: &mut W, sheet: &mut [u8]) -> io::Result<()>
     requires { 65537 ≤ length sheet.old }
 {
     for _ in 0..SHEETS {
-        if !replay(&mut *sheet) {
-            return;
+        if !replay(input, output, &mut *sheet)? {
+            return Ok(());
         }
     }
+    Ok(())
 }
 
-fn main() {
+fn main(rt: HostRuntime) -> io::Result<()> {
+    let mut input = rt.stdin();
+    let mut output = rt.stdout();
     let mut sheet = input_room();
-    replay_all(&mut sheet);
+    replay_all(&mut input, &mut output, &mut sheet)
 }

@@ -113,8 +113,7 @@ pub struct PoolAnswer {
     pub value: u64,
 }
 
-#[unsafe(no_mangle)]
-pub extern "C" fn pool_maps_of_day(
+pub fn pool_maps_of_day(
     terms: &[u64],
     records: &[u64],
     year: u64,

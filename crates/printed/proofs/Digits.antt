@@ -66,7 +66,7 @@ module _ {n left count : ℕ} (C : Counting n left count) where
       record {
         more = s.less;
         few = s.few;
-        fits = omega (arith, C.fits, s.more-is);
+        fits = omega (arith, C.fits, s.more_is);
         same = omega (arith, C.same, simp length-append at (ap length s.same));
       }
 

@@ -128,7 +128,7 @@ module _ (smaller larger rows order : List ℕ) (count k p : ℕ) where
             length-drop (length (flat_ranked before)) old,
             listing.room,
             listing.few,
-            rank.rank-in,
+            rank.rank_in_lem,
           )
 
 -- ---- rank by rank

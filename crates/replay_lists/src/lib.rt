@@ -3,12 +3,13 @@
 
 #![tactic(auto)]
 
-ghost use Rattle.std.specs.Prelude.{◌≤◌, ◌<◌, ◌≡◌, length, take};
+ghost use Rattle.std.specs.Prelude.{◌≤◌, ◌<◌, ◌≡◌, length, take, IfOk};
 ghost use Rattle.replay_lists.specs.Contract.{held_at, HeldBefore, Copied, Changed, Zeros};
 
-use io::{print_decimal, read_full, write_all};
-use libc::{STDIN_FILENO, STDOUT_FILENO};
 use plain_numbers::{least, number_of, number_of_mask, wide_byte};
+use std::io;
+use std::io::{Read, Write};
+use streams::{read_full, write_bytes, write_decimal};
 
 // Reading ends after so many cases at the latest.
 pub const CASES: u64 = 65536;
@@ -91,44 +92,40 @@ pub struct Written {
     pub pairs: usize,
 }
 
-fn write(text: &[u8]) {
-    write_all(STDOUT_FILENO, text);
+fn write_number<W: Write>(output: &mut W, word: &[u8], n: u64) -> io::Result<()> {
+    write_bytes(output, word)?;
+    write_decimal(output, n)
 }
 
-fn write_number(word: &[u8], n: u64) {
-    write(word);
-    print_decimal(STDOUT_FILENO, n);
-}
-
-fn write_answer(number: u64, value: usize) {
-    write_number(b"answer ", number);
-    write_number(b" ", value as u64);
-    write(b"\n");
+fn write_answer<W: Write>(output: &mut W, number: u64, value: usize) -> io::Result<()> {
+    write_number(output, b"answer ", number)?;
+    write_number(output, b" ", value as u64)?;
+    write_bytes(output, b"\n")
 }
 
 // Writes a list's entries as far as they changed, and how many behind them are as they were. Answers how many entries it wrote.
-pub fn write_wide_numbers(word: &[u8], list: &[u64]) -> usize
-    ensures { Changed list.now result }
+pub fn write_wide_numbers<W: Write>(output: &mut W, word: &[u8], list: &[u64]) -> io::Result<usize>
+    ensures { IfOk result (λ n. Changed list.now n) }
 {
     let n = changed(list);
-    write_number(word, n as u64);
+    write_number(output, word, n as u64)?;
     let mut i = 0;
     while i < n {
-        write_number(b" ", list[i]);
+        write_number(output, b" ", list[i])?;
         i += 1;
     }
-    write_number(b" kept ", (list.len() - n) as u64);
-    write(b"\n");
-    n
+    write_number(output, b" kept ", (list.len() - n) as u64)?;
+    write_bytes(output, b"\n")?;
+    Ok(n)
 }
 
 // Of a list that is cleared.
-fn write_zeros(word: &[u8], list: &[u64]) {
+fn write_zeros<W: Write>(output: &mut W, word: &[u8], list: &[u64]) -> io::Result<()> {
     let n = changed(list);
-    write_number(word, n as u64);
-    write_number(b" zeros ", zeros(list) as u64);
-    write_number(b" kept ", (list.len() - n) as u64);
-    write(b"\n");
+    write_number(output, word, n as u64)?;
+    write_number(output, b" zeros ", zeros(list) as u64)?;
+    write_number(output, b" kept ", (list.len() - n) as u64)?;
+    write_bytes(output, b"\n")
 }
 
 fn widen(list: &[u32], out: &mut [u64])
@@ -153,17 +150,18 @@ fn widen_masks(masks: &[u16], out: &mut [u64])
     }
 }
 
-fn write_numbers(word: &[u8], list: &[u32]) -> usize
-    ensures { Changed (take 4096 list.now) result }
+fn write_numbers<W: Write>(output: &mut W, word: &[u8], list: &[u32]) -> io::Result<usize>
+    ensures { IfOk result (λ n. Changed (take 4096 list.now) n) }
 {
     let mut numbers = [0u64; 4096];
     widen(list, &mut numbers);
     let n = least(4096, list.len());
-    write_wide_numbers(word, &numbers[0..n])
+    write_wide_numbers(output, word, &numbers[0..n])
 }
 
 // Writes an answer and the lists that a partition fills and clears. Answers how many entries it wrote of labels, tallies and pairs.
-pub fn write_partition(
+pub fn write_partition<W: Write>(
+    output: &mut W,
     number: u64,
     value: usize,
     labels: &[u32],
@@ -171,36 +169,36 @@ pub fn write_partition(
     queue: &[u32],
     tallies: &[u32],
     pairs: &[u32],
-) -> Written
-    ensures labels_changed { Changed (take 4096 labels.now) result.labels }
-    ensures tallies_changed { Changed (take 4096 tallies.now) result.tallies }
-    ensures pairs_changed { Changed (take 4096 pairs.now) result.pairs }
+) -> io::Result<Written>
+    ensures labels_changed { IfOk result (λ w. Changed (take 4096 labels.now) w.labels) }
+    ensures tallies_changed { IfOk result (λ w. Changed (take 4096 tallies.now) w.tallies) }
+    ensures pairs_changed { IfOk result (λ w. Changed (take 4096 pairs.now) w.pairs) }
 {
-    write_answer(number, value);
-    let of_labels = write_numbers(b"labels ", labels);
-    let of_tallies = write_numbers(b"tallies ", tallies);
-    let of_pairs = write_numbers(b"pairs ", pairs);
-    write_cleared_masks(masks);
-    write_cleared_queue(queue);
-    Written {
+    write_answer(output, number, value)?;
+    let of_labels = write_numbers(output, b"labels ", labels)?;
+    let of_tallies = write_numbers(output, b"tallies ", tallies)?;
+    let of_pairs = write_numbers(output, b"pairs ", pairs)?;
+    write_cleared_masks(output, masks)?;
+    write_cleared_queue(output, queue)?;
+    Ok(Written {
         labels: of_labels,
         tallies: of_tallies,
         pairs: of_pairs,
-    }
+    })
 }
 
-fn write_cleared_masks(masks: &[u16]) {
+fn write_cleared_masks<W: Write>(output: &mut W, masks: &[u16]) -> io::Result<()> {
     let mut numbers = [0u64; 4096];
     widen_masks(masks, &mut numbers);
     let n = least(4096, masks.len());
-    write_zeros(b"masks ", &numbers[0..n]);
+    write_zeros(output, b"masks ", &numbers[0..n])
 }
 
-fn write_cleared_queue(queue: &[u32]) {
+fn write_cleared_queue<W: Write>(output: &mut W, queue: &[u32]) -> io::Result<()> {
     let mut numbers = [0u64; 4096];
     widen(queue, &mut numbers);
     let n = least(4096, queue.len());
-    write_zeros(b"queue ", &numbers[0..n]);
+    write_zeros(output, b"queue ", &numbers[0..n])
 }
 
 // ---- what a case begins with
@@ -257,17 +255,21 @@ pub fn number_within(opening: &[u8; 30], k: usize, most: usize) -> usize
 }
 
 // Reads the numbers of the next case, and answers how many bytes there were; fewer than 30 where there is none.
-pub fn read_opening(opening: &mut [u8; 30]) -> usize
-    ensures { result ≤ 30 }
+pub fn read_opening<R: Read>(input: &mut R, opening: &mut [u8; 30]) -> io::Result<usize>
+    ensures { IfOk result (λ n. n ≤ 30) }
 {
-    read_full(STDIN_FILENO, &mut *opening)
+    read_full(input, &mut *opening)
 }
 
 // Reads the sheet behind an opening, and answers how many bytes it has.
-pub fn read_bytes(opening: &[u8; 30], buffer: &mut [u8]) -> usize
+pub fn read_bytes<R: Read>(
+    input: &mut R,
+    opening: &[u8; 30],
+    buffer: &mut [u8],
+) -> io::Result<usize>
     requires { 65536 ≤ length buffer.old }
-    ensures { result ≤ length buffer.new }
+    ensures { IfOk result (λ n. n ≤ length buffer.new) }
 {
     let size = number(opening, SHEET);
-    read_full(STDIN_FILENO, &mut buffer[0..size])
+    read_full(input, &mut buffer[0..size])
 }

@@ -46,8 +46,7 @@ pub struct Reported {
 }
 
 // A report starts empty.
-#[unsafe(no_mangle)]
-pub extern "C" fn report_figures_empty_report() -> Report
+pub fn report_figures_empty_report() -> Report
     ensures { report_form result ≡ empty_report }
 {
     Report {
@@ -108,8 +107,7 @@ fn mean_of(figures: Figures) -> Mean
 }
 
 // The mean kept for an accepted run of a pass; there is none where no run of it was accepted, and none for a pass that is not 1, 2 or 3.
-#[unsafe(no_mangle)]
-pub extern "C" fn report_figures_mean_kept(report: Report, pass: u64) -> Mean
+pub fn report_figures_mean_kept(report: Report, pass: u64) -> Mean
     ensures { result ≡ mean_form (mean_kept (report_form report) pass) }
 {
     match pass {

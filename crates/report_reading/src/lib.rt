@@ -100,8 +100,7 @@ pub fn read_limited(
 }
 
 // Reads a sheet into the lists. A run beyond the last is refused before anything is read, and every list is then as it was.
-#[unsafe(no_mangle)]
-pub extern "C" fn report_reading_read_for_report(
+pub fn report_reading_read_for_report(
     report: Report,
     bytes: &[u8],
     cells: &mut [u8],

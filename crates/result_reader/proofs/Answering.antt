@@ -89,16 +89,16 @@ module _ (plan : Plan) (labels tallies pairs rows : ℕ) where
 
 module _ {bytes : List ℕ} {plan : Plan} (R : ResultHeld bytes plan) where
   labels_long_lem : length (part_numbers 1 bytes plan.labels) ≡ plan.labels.count * 1
-  labels_long_lem = held-length R.held.for-labels.held
+  labels_long_lem = held-length R.held.for_labels.held
 
   tallies_long_lem : length (part_numbers tallies_per_span bytes plan.tallies) ≡ plan.tallies.count * tallies_per_span
-  tallies_long_lem = held-length R.held.for-tallies.held
+  tallies_long_lem = held-length R.held.for_tallies.held
 
   pairs_long_lem : length (part_numbers numbers_per_pair bytes plan.pairs) ≡ plan.pairs.count * numbers_per_pair
-  pairs_long_lem = held-length R.held.for-pairs.held
+  pairs_long_lem = held-length R.held.for_pairs.held
 
   rows_long : length (part_numbers numbers_per_row bytes plan.rows) ≡ plan.rows.count * numbers_per_row
-  rows_long = held-length R.held.for-rows.held
+  rows_long = held-length R.held.for_rows.held
 
   answer_same : answer_in plan ≡ answer_of (well_formed (result_in bytes plan))
   answer_same =

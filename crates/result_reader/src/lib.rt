@@ -607,8 +607,7 @@ fn refused(number: u64, place: usize) -> ResultAnswer
 }
 
 // Reads a sheet of kind 2 into the lists. For other languages too: include/jenwyllt.h declares it as jenwyllt_read_result.
-#[unsafe(no_mangle)]
-pub extern "C" fn result_reader_read_result(
+pub fn result_reader_read_result(
     bytes: &[u8],
     labels: &mut [u64],
     tallies: &mut [u64],

@@ -310,8 +310,7 @@ pub struct Answer {
 }
 
 // Writes what a run found as a sheet of kind 2. For other languages too: include/jenwyllt.h declares it as jenwyllt_write_result.
-#[unsafe(no_mangle)]
-pub extern "C" fn result_writer_write_result(
+pub fn result_writer_write_result(
     regions: u64,
     labels: &[u64],
     tallies: &[u64],

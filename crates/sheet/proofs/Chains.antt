@@ -5,7 +5,7 @@ use mathlib.Core.Bool.{Bool, true, false, ◌&&◌}
 use mathlib.Core.List.{List, [], ◌∷◌}
 use lib.Dec.{leb}
 use borrow.Author.Tests.{le-leb, lt-leb}
-use Rattle.definitions.specs.Limits.{is_side, max_entries, numbers_per_span, numbers_per_boundary, numbers_per_anchor}
+use Rattle.definitions.specs.Limits.{is_side, max_entries, numbers_per_boundary, numbers_per_anchor}
 use Rattle.definitions.specs.SheetNumber.{Read, found, failed, number}
 use Rattle.definitions.specs.Sheet.{Reader, and_then, give, times, judged, is_map_kind, kind, cell, area, entries, has_spans, spans_held, spans_stated, end, Sheet, well_formed, refused, reading, sheet, read_sheet}
 use Rattle.laws.specs.SheetReading.SheetLaws.{Keeps, keeps-number, keeps-judged, keeps_then, keeps-check, then_found, then-failed}

@@ -12,7 +12,7 @@ use Rattle.definitions.specs.SheetNumber.{found, failed, number}
 use Rattle.definitions.specs.Sheet.{Reader, times, cell, entries, has_spans, spans_held}
 use Rattle.laws.specs.SheetReading.SheetLaws.{Keeps, keeps-number, keeps-check, keeps-entries, keeps-times, ends-inside}
 use Rattle.sheet.specs.Numbers.{up_to, items_at, Told}
-use Rattle.sheet.specs.Parts.{Opening, opening, sides, lists, content_of, SidesHeld, PartHeld, ListsHeld, SheetHeld}
+use Rattle.sheet.specs.Parts.{Opening, opening, lists, content_of, SidesHeld, PartHeld, ListsHeld, SheetHeld}
 use Rattle.sheet.specs.declared.Part.{Part}
 use Rattle.sheet.specs.declared.Parts.{Parts}
 use Rattle.sheet.specs.declared.Judged.TheVariants.{Behind, Faulty}

@@ -113,12 +113,12 @@ module _ {bytes : List ℕ} {plan : Plan} (B : Bytes bytes) (S : SheetHeld plain
   middle-long : front ≡ 1 + length middle
   unfolding front
   middle-long =
-      omega (arith, S.stands.spans-stand.cells-inside, ap length begins, length-append middle (drop front bytes), length-drop front bytes)
+      omega (arith, S.stands.spans_stand.cells-inside, ap length begins, length-append middle (drop front bytes), length-drop front bytes)
 
   spans-long : back ≡ front + length spans
   unfolding front back
   spans-long =
-      omega (arith, S.stands.spans-stand.cells-inside, S.stands.spans-stand.spans-inside, ap length split.cut, length-append spans (drop back bytes), length-drop front bytes, length-drop back bytes)
+      omega (arith, S.stands.spans_stand.cells-inside, S.stands.spans_stand.spans-inside, ap length split.cut, length-append spans (drop back bytes), length-drop front bytes, length-drop back bytes)
 
   -- what the sheet states, written, is the bytes
   stated : bytes ≡ shortest plan.kind ++ (middle ++ (spans ++ lists))
@@ -173,6 +173,6 @@ module _ {bytes : List ℕ} {plan : Plan} (B : Bytes bytes) (S : SheetHeld plain
       record {
         begun = omega (arith, middle-long);
         ordered = cut-ordered;
-        inside = S.stands.spans-stand.spans-inside;
+        inside = S.stands.spans_stand.spans-inside;
         fits = h;
       }

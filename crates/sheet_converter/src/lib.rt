@@ -235,8 +235,7 @@ fn convert_plan(bytes: &[u8], plan: Plan, out: &mut [u8]) -> Answer
 }
 
 // Converts a sheet of kind 1 to kind 3. For other languages too: include/jenwyllt.h declares it as jenwyllt_convert_sheet.
-#[unsafe(no_mangle)]
-pub extern "C" fn sheet_converter_convert_sheet(bytes: &[u8], out: &mut [u8]) -> Answer
+pub fn sheet_converter_convert_sheet(bytes: &[u8], out: &mut [u8]) -> Answer
     ensures { Converts bytes.now out.old (answer_in result) out.new }
 {
     if is_other_kind(bytes) {

@@ -125,8 +125,7 @@ fn put_sheet(
 }
 
 // Writes a map as a sheet of kind 3. For other languages too: include/jenwyllt.h declares it as jenwyllt_write_sheet.
-#[unsafe(no_mangle)]
-pub extern "C" fn sheet_writer_write_sheet(
+pub fn sheet_writer_write_sheet(
     pass: u64,
     width: u64,
     height: u64,

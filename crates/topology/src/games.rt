@@ -142,8 +142,7 @@ pub fn run_kept(
 }
 
 // For callers in any language.
-#[unsafe(no_mangle)]
-pub extern "C" fn topology_runner_and_guard(
+pub fn topology_runner_and_guard(
     pass: u64,
     width: u64,
     height: u64,

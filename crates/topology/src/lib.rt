@@ -53,8 +53,7 @@ pub fn answer_of(a: TopologyAnswer) -> Answer
 }
 
 // The call that runs a pass (SPECIFICATION 3), for callers in any language: the function that does the work is itself the one that is exported.
-#[unsafe(no_mangle)]
-pub extern "C" fn topology_kept_boundaries(
+pub fn topology_kept_boundaries(
     pass: u64,
     width: u64,
     height: u64,

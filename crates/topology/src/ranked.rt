@@ -119,8 +119,7 @@ pub fn mark_ranked(
 }
 
 // The call of pass 3 with its list. Nothing is written to the lent list before the proposals are counted.
-#[unsafe(no_mangle)]
-pub extern "C" fn topology_ranked_junctions(
+pub fn topology_ranked_junctions(
     width: u64,
     height: u64,
     cells: &[u8],

@@ -34,8 +34,7 @@ fn added(
 }
 
 // Makes the call and adds what it answered. A run beyond the last is refused before anything else, and every list is then as it was.
-#[unsafe(no_mangle)]
-pub extern "C" fn topology_report_run(
+pub fn topology_report_run(
     report: Report,
     pass: u64,
     width: u64,

@@ -266,8 +266,7 @@ pub fn run_turns(
 }
 
 // The call, for callers in any language.
-#[unsafe(no_mangle)]
-pub extern "C" fn topology_run_to_rest(
+pub fn topology_run_to_rest(
     width: u64,
     height: u64,
     cells: &[u8],

@@ -248,8 +248,7 @@ pub fn run_desks(
 }
 
 // The call for two desks, for callers in any language. The records are filled from the queue before the desks work in it.
-#[unsafe(no_mangle)]
-pub extern "C" fn topology_two_desks(
+pub fn topology_two_desks(
     order: u64,
     width: u64,
     height: u64,

@@ -7,4 +7,4 @@ pub share_at-share-requires : goal.share_at-share-requires
 share_at-share-requires c = (search rules, c.requires _)
 
 pub returns : goal.returns
-returns c = dominance_from _ _ c.most_common_elevation-elevation.ensures.0 c.share_at-share.ensures
+returns c = dominance_from _ _ c.most_common_elevation-elevation.ensures.answer c.share_at-share.ensures

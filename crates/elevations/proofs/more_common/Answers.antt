@@ -3,7 +3,7 @@ use borrow.Author.Tests.{lt-ltb, le-ltb}
 use Rattle.elevations.proofs.more_common.Goals as goal
 
 pub returns-then-counts-best : goal.returns-then-counts-best
-returns-then-counts-best c = (simp (lt-ltb _ _ c.if-counts-best.true), c.requires.1)
+returns-then-counts-best c = record { answer = simp (lt-ltb _ _ c.if-counts-best.true); bound = c.requires.1 }
 
 pub returns-else-counts-best : goal.returns-else-counts-best
-returns-else-counts-best c = (simp (le-ltb _ _ c.if-counts-best.false), c.requires.0)
+returns-else-counts-best c = record { answer = simp (le-ltb _ _ c.if-counts-best.false); bound = c.requires.0 }

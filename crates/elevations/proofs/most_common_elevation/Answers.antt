@@ -7,5 +7,5 @@ pub returns : goal.returns
 unfolding most_common_elevation
 returns c =
     let counts = c.args.counts in
-    let first = ap (λ best. better counts best 2) c.more_common.ensures.0 in
-    (c.more_common-3.ensures.0 ∙ ap (λ best. better counts best 3) (c.more_common-2.ensures.0 ∙ first), c.more_common-3.ensures.1)
+    let first = ap (λ best. better counts best 2) c.more_common.ensures.answer in
+    record { answer = c.more_common-3.ensures.answer ∙ ap (λ best. better counts best 3) (c.more_common-2.ensures.answer ∙ first); bound = c.more_common-3.ensures.bound }

@@ -4,7 +4,7 @@ use Rattle.grid_steps.proofs.StepTests.{inner-inside, says_yes, says_no, says_la
 use Rattle.grid_steps.proofs.is_inside.Goals as goal
 
 pub returns-then-inner : goal.returns-then-inner
-returns-then-inner c = let a = c.args in says_yes a.width a.height a.x a.y a.dx a.dy (inner-inside a.width a.height a.x a.y a.dx a.dy c.requires.0 (c.requires.1 c.if-inner.true))
+returns-then-inner c = let a = c.args in says_yes a.width a.height a.x a.y a.dx a.dy (inner-inside a.width a.height a.x a.y a.dx a.dy c.requires.nearby (c.requires.inner_cell c.if-inner.true))
 
 pub returns-then-x-dx-lt1 : goal.returns-then-x-dx-lt1
 returns-then-x-dx-lt1 c = let a = c.args in says_no a.width a.height a.x a.y a.dx a.dy (λ i. omega (arith, c.if-x-dx-lt1.true, i.left))

@@ -3,4 +3,4 @@ use Rattle.grid_steps.proofs.Ways.{word_at, word_below}
 use Rattle.grid_steps.proofs.place_at.Goals as goal
 
 pub returns : goal.returns
-returns c = (word_at c.args.d c.requires, word_below c.args.d c.requires)
+returns c = record { direction = word_at c.args.d c.requires; bound = word_below c.args.d c.requires }

@@ -18,8 +18,8 @@ hypotenuse_pattern-requires c =
     let a : ℕ = c.bits_of-a.result in
     let b : ℕ = c.bits_of-b.result in
     let first_in_lem : pattern_in_range a ≡ true = sym c.in_range.ensures ∙ c.if-in_range.true in
-    let second_in_lem : pattern_in_range (b ≡ true = sym c.in_range-then-in_range.ensures ∙ c.if-in_range-2.true in
-    (subst T (sym first_in_lem) tt, subst T (sym second_in_lem) tt)
+    let second_in_lem : pattern_in_range b ≡ true = sym c.in_range-then-in_range.ensures ∙ c.if-in_range-2.true in
+    record { a_in_range = subst T (sym first_in_lem) tt; b_in_range = subst T (sym second_in_lem) tt }
 
 pub float_from_bits-result : goal.float_from_bits-result
 float_from_bits-result c = no_nan c.hypotenuse_pattern.result (le_of_lt c.hypotenuse_pattern.ensures.1)
@@ -30,11 +30,11 @@ returns-then-in_range-2 c =
     let y : Float = c.args.y in
     let a : ℕ = c.bits_of-a.result in
     let b : ℕ = c.bits_of-b.result in
-    let x_fits : T (fits binary64 x) = subst T (sym c.well-formed.0.1) tt in
-    let y-fits : T (fits binary64 y) = subst T (sym c.well-formed.1.0.1) tt in
+    let x_fits : T (fits binary64 x) = subst T (sym c.well_formed.0.1) tt in
+    let y-fits : T (fits binary64 y) = subst T (sym c.well_formed.1.0.1) tt in
     let root_of_lem : pattern_in_range a ≡ true → pattern_in_range b ≡ true → (0 ≡ hypot_number x y) × (root_of (pattern_magnitude a * pattern_magnitude a + pattern_magnitude b * pattern_magnitude b) ≡ hypot_value x y) = λ p q. answered x y x_fits y-fits a b c.bits_of-a.ensures c.bits_of-b.ensures p q in
     let first_in_lem : pattern_in_range a ≡ true = sym c.in_range.ensures ∙ c.if-in_range.true in
-    let second_in_lem : pattern_in_range (b ≡ true = sym c.in_range-then-in_range.ensures ∙ c.if-in_range-2.true in
+    let second_in_lem : pattern_in_range b ≡ true = sym c.in_range-then-in_range.ensures ∙ c.if-in_range-2.true in
     let r = root_of_lem first_in_lem second_in_lem in
     (r.0, c.hypotenuse_pattern.ensures.0 ∙ r.1)
 
@@ -44,8 +44,8 @@ returns-else-in_range-2 c =
     let y : Float = c.args.y in
     let a : ℕ = c.bits_of-a.result in
     let b : ℕ = c.bits_of-b.result in
-    let x_fits : T (fits binary64 x) = subst T (sym c.well-formed.0.1) tt in
-    let y-fits : T (fits binary64 y) = subst T (sym c.well-formed.1.0.1) tt in
+    let x_fits : T (fits binary64 x) = subst T (sym c.well_formed.0.1) tt in
+    let y-fits : T (fits binary64 y) = subst T (sym c.well_formed.1.0.1) tt in
     let second-refused : pattern_in_range a ≡ true → pattern_in_range b ≡ false → (13 ≡ hypot_number x y) × (fin false 0 (pos 0) ≡ hypot_value x y) = λ p q. refused-y x y x_fits y-fits a b c.bits_of-a.ensures c.bits_of-b.ensures p q in
     let first_in_lem : pattern_in_range a ≡ true = sym c.in_range.ensures ∙ c.if-in_range.true in
     second-refused first_in_lem (sym c.in_range-then-in_range.ensures ∙ c.if-in_range-2.false)
@@ -56,7 +56,7 @@ returns-else-in_range c =
     let y : Float = c.args.y in
     let a : ℕ = c.bits_of-a.result in
     let b : ℕ = c.bits_of-b.result in
-    let x_fits : T (fits binary64 x) = subst T (sym c.well-formed.0.1) tt in
-    let y-fits : T (fits binary64 y) = subst T (sym c.well-formed.1.0.1) tt in
+    let x_fits : T (fits binary64 x) = subst T (sym c.well_formed.0.1) tt in
+    let y-fits : T (fits binary64 y) = subst T (sym c.well_formed.1.0.1) tt in
     let first_refused : pattern_in_range a ≡ false → (13 ≡ hypot_number x y) × (fin false 0 (pos 0) ≡ hypot_value x y) = λ p. refused-x x y x_fits y-fits a b c.bits_of-a.ensures c.bits_of-b.ensures p in
     first_refused (sym c.in_range.ensures ∙ c.if-in_range.false)

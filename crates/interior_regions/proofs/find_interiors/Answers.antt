@@ -5,22 +5,28 @@ use Rattle.interior_regions.proofs.find_interiors.Goals as goal
 
 pub find_owners-requires : goal.find_owners-requires
 find_owners-requires c =
-    let L = c.requires.0.1 in
-    ((c.requires.0.0, (lent-kept L (c.name_components.ensures.0 _ L), L.counted)), c.requires.1.0)
+    let L = c.requires.lent.1 in
+    record {
+      kept = (c.requires.lent.0, (lent-kept L (c.name_components.ensures.known _ L), L.counted));
+      owners_room = c.requires.room.0;
+    }
 
 pub propose_all-requires : goal.propose_all-requires
 propose_all-requires c =
-    let L = c.pre.0.1 in
-    let K = c.name_components.ensures.0 _ L in
-    ((c.pre.0.0, (lent-owning L (c.find_owners.ensures _ (lent-kept L K) L.counted), known-progress _ K)), (c.pre.1.1.0, c.pre.1.1.1))
+    let L = c.requires.lent.1 in
+    let K = c.name_components.ensures.known _ L in
+    record {
+      progress = (c.requires.lent.0, (lent-owning L (c.find_owners.ensures _ (lent-kept L K) L.counted), known-progress _ K));
+      room = (c.requires.room.1.0, c.requires.room.1.1);
+    }
 
 pub returns : goal.returns
 returns c =
-    (
-      λ C L P.
-          let K = c.name_components.ensures.0 C L in
+    record {
+      found = λ C L P.
+          let K = c.name_components.ensures.known C L in
           let W = lent-owning L (c.find_owners.ensures C (lent-kept L K) L.counted) in
-          let g = c.propose_all.ensures.0 C _ _ W (known-progress _ K) in
-          record { owning = W; found = g.1; settled = g.0.settled; long = g.0.long; few = (lent-kept L K).few; pixels = P },
-      (c.propose_all.ensures.1.1 ∙ c.name_components.ensures.1.0.long, c.propose_all.ensures.1.0 ∙ c.name_components.ensures.1.1.long),
-    )
+          let g = c.propose_all.ensures.proposed C _ _ W (known-progress _ K) in
+          record { owning = W; found = g.1; settled = g.0.settled; long = g.0.long; few = (lent-kept L K).few; pixels = P };
+      lengths = (c.propose_all.ensures.lengths.1 ∙ c.name_components.ensures.beyond.0.long, c.propose_all.ensures.lengths.0 ∙ c.name_components.ensures.beyond.1.long);
+    }

@@ -9,7 +9,10 @@ use Rattle.interior_regions.proofs.Marking.{marking_more, marks-off, marks_on}
 use Rattle.interior_regions.proofs.mark_edges.Goals as goal
 
 pub returns-then-not-on : goal.returns-then-not-on
-returns-then-not-on c = (λ j l. marks-off c.args.on _ _ c.if-not-on.true-raw, search rules)
+returns-then-not-on c = record {
+      removed = λ j l. marks-off c.args.on _ _ c.if-not-on.true-raw;
+      removed_length = search rules;
+    }
 
 pub loop-j-init : goal.loop-j-init
 loop-j-init c = (search rules, search rules, record { done = λ k l. absurd (omega arith); rest = λ k l. refl })
@@ -20,9 +23,9 @@ loop-j-preserved c =
 
 pub returns : goal.returns
 returns c =
-    let a = c.args in (
-      λ j l.
+    let a = c.args in record {
+      removed = λ j l.
           marks_on a.on (get_or a.removed.now j false) (eqb (get_or a.owners.now j 0) a.name) c.if-not-on.false-raw
-          (c.loop-j.invariant.2.done j (omega (arith, c.loop-j-test.false))),
-      c.loop-j.invariant.1,
-    )
+          (c.loop-j.invariant.2.done j (omega (arith, c.loop-j-test.false)));
+      removed_length = c.loop-j.invariant.1;
+    }

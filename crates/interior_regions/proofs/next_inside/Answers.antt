@@ -14,11 +14,11 @@ loop-k-init c = (search rules, search rules, λ j a b. absurd (omega arith))
 
 pub region_at-requires : goal.region_at-requires
 region_at-requires c =
-    (_, c.requires.1 c.loop-k.k c.loop-k.invariant.0 c.loop-k-test.true)
+    (_, c.requires.readable c.loop-k.k c.loop-k.invariant.0 c.loop-k-test.true)
 
 pub parent_of-requires : goal.parent_of-requires
 parent_of-requires c =
-    let h = c.requires.1 c.loop-k.k c.loop-k.invariant.0 c.loop-k-test.true in
+    let h = c.requires.readable c.loop-k.k c.loop-k.invariant.0 c.loop-k-test.true in
     (omega (arith, h.from, c.region_at.ensures), omega (arith, h.upto, c.region_at.ensures))
 
 pub returns-then-parent_of-name : goal.returns-then-parent_of-name

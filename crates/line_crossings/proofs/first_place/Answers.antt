@@ -34,7 +34,7 @@ pub overflow_add-raised : goal.overflow_add-raised
 overflow_add-raised c =
     let sizes : let t = c.args.strip in let u = c.middle_of.result - t.major0 in (t.minor0 * (run_of t - u) ≤ 67108864) × (t.minor1 * u ≤ 67108864) = let p = c.requires in
     products p.0 (c.middle_of.result - c.args.strip.major0) (omega (arith, c.middle_of.ensures, p.1.to)) in
-    omega (arith, sizes, c.requires.2, c.requires.0.major-in)
+    omega (arith, sizes, c.requires.2, c.requires.0.major_in)
 
 pub overflow_sub-result-2 : goal.overflow_sub-result-2
 overflow_sub-result-2 c =

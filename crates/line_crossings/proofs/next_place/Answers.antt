@@ -8,29 +8,29 @@ use Rattle.line_crossings.proofs.next_place.Goals as goal
 pub overflow_add-result : goal.overflow_add-result
 overflow_add-result c =
     let p = c.requires in
-    omega (arith, small p.0.0 p.1.0 p.0.2 p.1.2)
+    omega (arith, small p.line.0 p.between.0 p.line.2 p.between.2)
 
 pub overflow_sub-result-else-place-fall : goal.overflow_sub-result-else-place-fall
 overflow_sub-result-else-place-fall c =
     let p = c.requires in
-    is_some p.1.0 p.1.1 p.1.2 (search rules) (search rules)
+    is_some p.between.0 p.between.1 p.between.2 (search rules) (search rules)
 
 pub returns-then-place-rise : goal.returns-then-place-rise
 returns-then-place-rise c =
     let p = c.requires in
-    (goes-up p.1.0 p.1.1 p.1.2 p.0.1 (search rules) (search rules), omega arith)
+    record { crossing = goes-up p.between.0 p.between.1 p.between.2 p.line.1 (search rules) (search rules); close = omega arith }
 
 pub returns-else-place-rise : goal.returns-else-place-rise
 returns-else-place-rise c =
     let p = c.requires in
-    (goes-along p.1.0 p.1.1 p.1.2 (search rules) (search rules), omega arith)
+    record { crossing = goes-along p.between.0 p.between.1 p.between.2 (search rules) (search rules); close = omega arith }
 
 pub returns-then-place-fall : goal.returns-then-place-fall
 returns-then-place-fall c =
     let p = c.requires in
-    (goes_back p.1.0 p.1.1 p.1.2 (search rules) (search rules), omega arith)
+    record { crossing = goes_back p.between.0 p.between.1 p.between.2 (search rules) (search rules); close = omega arith }
 
 pub returns-else-place-fall : goal.returns-else-place-fall
 returns-else-place-fall c =
     let p = c.requires in
-    (goes_down p.1.0 p.1.1 p.1.2 p.0.1 (search rules) (search rules), omega arith)
+    record { crossing = goes_down p.between.0 p.between.1 p.between.2 p.line.1 (search rules) (search rules); close = omega arith }

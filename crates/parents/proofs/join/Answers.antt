@@ -22,41 +22,41 @@ pub find-i-requires : goal.find-i-requires
 find-i-requires c = placed_first c.requires
 
 pub find-j-requires : goal.find-j-requires
-find-j-requires c = placed-second (start c.requires c.find-i.ensures
+find-j-requires c = placed-second c.requires c.find-i.ensures
 
 pub overflow_cast-parents : goal.overflow_cast-parents
 overflow_cast-parents c =
-    let at_names : Names (first c).find.ensures c.find-j.ensures = names (first c).find.ensures c.find-j.ensures (start (first c)).requires in
+    let at_names : Names c.find-i.ensures c.find-j.ensures = names c.find-i.ensures c.find-j.ensures c.requires in
     omega (arith, at_names.first)
 
 pub offset_bounds-parents-j : goal.offset_bounds-parents-j
 offset_bounds-parents-j c =
-    let at_names : Names (first c).find.ensures c.find-j.ensures = names (first c).find.ensures c.find-j.ensures (start (first c)).requires in
+    let at_names : Names c.find-i.ensures c.find-j.ensures = names c.find-i.ensures c.find-j.ensures c.requires in
     omega (arith, at_names.second)
 
 pub bounds-parents-j : goal.bounds-parents-j
 bounds-parents-j c =
-    let at_names : Names (first c).find.ensures c.find-j.ensures = names (first c).find.ensures c.find-j.ensures (start (first c)).requires in
+    let at_names : Names c.find-i.ensures c.find-j.ensures = names c.find-i.ensures c.find-j.ensures c.requires in
     at_names.second_in
 
 pub overflow_cast-parents-else-i-j : goal.overflow_cast-parents-else-i-j
 overflow_cast-parents-else-i-j c =
-    let at_names : Names (first c).find.ensures c.find-j.ensures = names (first c).find.ensures c.find-j.ensures (start (first c)).requires in
+    let at_names : Names c.find-i.ensures c.find-j.ensures = names c.find-i.ensures c.find-j.ensures c.requires in
     omega (arith, at_names.second)
 
 pub offset_bounds-parents-i : goal.offset_bounds-parents-i
 offset_bounds-parents-i c =
-    let at_names : Names (first c).find.ensures c.find-j.ensures = names (first c).find.ensures c.find-j.ensures (start (first c)).requires in
+    let at_names : Names c.find-i.ensures c.find-j.ensures = names c.find-i.ensures c.find-j.ensures c.requires in
     omega (arith, at_names.first)
 
 pub bounds-parents-i : goal.bounds-parents-i
 bounds-parents-i c =
-    let at_names : Names (first c).find.ensures c.find-j.ensures = names (first c).find.ensures c.find-j.ensures (start (first c)).requires in
+    let at_names : Names c.find-i.ensures c.find-j.ensures = names c.find-i.ensures c.find-j.ensures c.requires in
     at_names.first_in
 
 pub shape_of-parents-then-i-j : goal.shape_of-parents-then-i-j
 shape_of-parents-then-i-j c =
-    join-long c.find-i.ensures c.find-j.ensures c.pre c.find-j.result c.find-i.result
+    join-long c.find-i.ensures c.find-j.ensures c.requires c.find-j.result c.find-i.result
 
 pub returns-then-i-j : goal.returns-then-i-j
 returns-then-i-j c =
@@ -64,7 +64,7 @@ returns-then-i-j c =
 
 pub shape_of-parents-else-i-j : goal.shape_of-parents-else-i-j
 shape_of-parents-else-i-j c =
-    join-long c.find-i.ensures c.find-j.ensures c.pre c.find-i.result c.find-j.result
+    join-long c.find-i.ensures c.find-j.ensures c.requires c.find-i.result c.find-j.result
 
 pub returns-else-i-j : goal.returns-else-i-j
 returns-else-i-j c =

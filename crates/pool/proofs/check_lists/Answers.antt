@@ -13,8 +13,8 @@ returns-then-records-ne0 c = records-unfinished _ _ c.if-terms-ne0.false c.if-re
 pub returns-in-Nothing : goal.returns-in-Nothing
 returns-in-Nothing c =
     c.check_terms.ensures
-    ∙ records-fine _ _ c.if-terms-ne0.false c.if-records-ne0.false (sym (ap place_of c.enum_told-1.given.1) ∙ c.first_broken.ensures)
+    ∙ records-fine _ _ c.if-terms-ne0.false c.if-records-ne0.false (sym (ap place_of c.in-Nothing.is) ∙ c.first_broken.ensures)
 
 pub returns-in-At : goal.returns-in-At
 returns-in-At c =
-    record_broken _ _ c.if-terms-ne0.false c.if-records-ne0.false (sym (ap place_of c.i-1.given.1) ∙ c.first_broken.ensures)
+    record_broken _ _ c.if-terms-ne0.false c.if-records-ne0.false (sym (ap place_of c.in-At.is) ∙ c.first_broken.ensures)

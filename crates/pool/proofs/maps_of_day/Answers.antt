@@ -7,38 +7,50 @@ use Rattle.pool.proofs.maps_of_day.Goals as goal
 
 pub returns-in-Unfinished : goal.returns-in-Unfinished
 returns-in-Unfinished c =
-    (lists-refused _ _ _ _ (sym (ap refusal_of c.enum_told-in-Unfinished-1.given.1) ∙ c.check_lists.ensures), refl)
+    record {
+        answer = lists-refused _ _ _ _ (sym (ap refusal_of c.in-Unfinished.is) ∙ c.check_lists.ensures);
+        output = refl;
+    }
 
 pub returns-in-BrokenRecord : goal.returns-in-BrokenRecord
 returns-in-BrokenRecord c =
-    (lists-refused _ _ _ _ (sym (ap refusal_of c.i-1.given.1) ∙ c.check_lists.ensures), refl)
+    record {
+        answer = lists-refused _ _ _ _ (sym (ap refusal_of c.in-BrokenRecord.is) ∙ c.check_lists.ensures);
+        output = refl;
+    }
 
 pub returns-in-BadDate : goal.returns-in-BadDate
 returns-in-BadDate c =
-    (lists-refused _ _ _ _ (sym (ap refusal_of c.i-in-BadDate-1.given.1) ∙ c.check_lists.ensures), refl)
+    record {
+        answer = lists-refused _ _ _ _ (sym (ap refusal_of c.in-BadDate.is) ∙ c.check_lists.ensures);
+        output = refl;
+    }
 
 pub returns-in-EmptyOrOverlapping : goal.returns-in-EmptyOrOverlapping
 returns-in-EmptyOrOverlapping c =
-    (lists-refused _ _ _ _ (sym (ap refusal_of c.i-in-EmptyOrOverlapping-1.given.1) ∙ c.check_lists.ensures), refl)
+    record {
+        answer = lists-refused _ _ _ _ (sym (ap refusal_of c.in-EmptyOrOverlapping.is) ∙ c.check_lists.ensures);
+        output = refl;
+    }
 
 pub list_day-requires : goal.list_day-requires
 list_day-requires c =
-    terms_fine _ _ (sym c.check_lists.ensures ∙ ap refusal_of c.enum_told-1.given.1)
+    terms_fine _ _ (sym c.check_lists.ensures ∙ ap refusal_of c.in-MENDARM.is)
 
 pub returns-in-Bad : goal.returns-in-Bad
 returns-in-Bad c =
-    (
-      day-refused _ _ _ _ (sym (ap refusal_of c.enum_told-1.given.1) ∙ c.check_lists.ensures)
-          (sym (ap day_in c.enum_told-in-Bad-1.given.1) ∙ c.day_of.ensures),
-      refl,
-    )
+    record {
+        answer = day-refused _ _ _ _ (sym (ap refusal_of c.in-Bad.is) ∙ c.check_lists.ensures) (sym (ap day_in c.in-Bad.is) ∙ c.day_of.ensures);
+        output = refl;
+    }
 
 pub returns-in-Number : goal.returns-in-Number
 returns-in-Number c =
     let lent = c.args in
     let L = c.list_day.ensures in
-    let day = sym (ap day_in c.asked-1.given.1) ∙ c.day_of.ensures in (
-      L.answer ∙ day-listed _ _ _ _ (sym (ap refusal_of c.enum_told-1.given.1) ∙ c.check_lists.ensures) day,
-      L.output
-          ∙ listed-at_exit (answer_of c.list_day.result).number lent.terms.now lent.records.now (date lent.year lent.month lent.day) lent.output.now day,
-    )
+    let day = sym (ap day_in c.in-Number.is) ∙ c.day_of.ensures in
+    record {
+      answer = L.answer ∙ day-listed _ _ _ _ (sym (ap refusal_of c.in-Number.is) ∙ c.check_lists.ensures) day;
+      output = L.output
+          ∙ listed-at_exit (answer_of c.list_day.result).number lent.terms.now lent.records.now (date lent.year lent.month lent.day) lent.output.now day;
+    }

@@ -7,4 +7,7 @@ use Rattle.printed.proofs.print_kept.Goals as goal
 pub returns : goal.returns
 unfolding text kept_line
 returns c =
-    (kept-printed c.args.output.now c.args.kept c.args.count c.requires.1 (search rules) c.put_line-next.ensures.0 c.put_rows.ensures.0, search rules)
+    record {
+      printed = kept-printed c.args.output.now c.args.kept c.args.count c.requires.output_room (search rules) c.put_line-next.ensures.put c.put_rows.ensures.put;
+      bound = search rules;
+    }

@@ -6,4 +6,4 @@ use Rattle.printed.proofs.print_refused.Goals as goal
 
 pub returns : goal.returns
 unfolding text refused_line
-returns c = (printed (search rules) c.put_line.ensures.0, search rules)
+returns c = record { printed = printed (search rules) c.put_line.ensures.put; bound = search rules }

@@ -19,4 +19,4 @@ pub shape_of-out : goal.shape_of-out
 shape_of-out c = simp length-set c.loop-left.invariant.long
 
 pub returns : goal.returns
-returns c = (writing_ends c.loop-left.invariant c.loop-left-test.false c.digit-2.ensures c.digit_count.ensures.0, search rules)
+returns c = record { put = writing_ends c.loop-left.invariant c.loop-left-test.false c.digit-2.ensures c.digit_count.ensures.0; bound = search rules }

@@ -4,4 +4,4 @@ use Rattle.printed.proofs.Places.{put_then, put_byte}
 use Rattle.printed.proofs.put_number.Goals as goal
 
 pub returns : goal.returns
-returns c = (put_then c.put_decimal-place.ensures.0 (put_byte _ _ _), search rules)
+returns c = record { put = put_then c.put_decimal-place.ensures.put (put_byte _ _ _); bound = search rules }

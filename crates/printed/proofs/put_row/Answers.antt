@@ -6,10 +6,6 @@ use Rattle.printed.proofs.Places.{row_put}
 use Rattle.printed.proofs.put_row.Goals as goal
 
 pub returns : goal.returns
-returns c = (
-  (
-      let a = c.args in
-      row_put (row_at a.output.now (5 * a.k)) c.put_number-a.ensures.0 c.put_number-b.ensures.0 c.put_number-c.ensures.0 c.put_number-d.ensures.0 c.put_number.ensures.0
-      ),
-  search rules,
-)
+returns c =
+    let a = c.args in
+    record { put = row_put (row_at a.output.now (5 * a.k)) c.put_number-a.ensures.put c.put_number-b.ensures.put c.put_number-c.ensures.put c.put_number-d.ensures.put c.put_number.ensures.put; bound = search rules }

@@ -19,7 +19,7 @@ returns-then-listed-r-ne1 c =
 
 pub conflicts-requires : goal.conflicts-requires
 conflicts-requires c =
-    subst (λ q. TwoRows c.args.rows.now c.args.count q c.args.p) (sym c.wide.ensures) c.requires.1
+    subst (λ q. TwoRows c.args.rows.now c.args.count q c.args.p) (sym c.wide.ensures) c.requires.two_rows
 
 pub returns : goal.returns
 returns c =

@@ -16,20 +16,20 @@ loop-k-init c =
 
 pub bounds-order-k : goal.bounds-order-k
 bounds-order-k c =
-    omega (arith, c.loop-k-test.true, c.requires.0.few, c.requires.0.ordered, c.requires.1.0)
+    omega (arith, c.loop-k-test.true, c.requires.listing.few, c.requires.listing.ordered, c.requires.places.0)
 
 pub list_row-requires : goal.list_row-requires
 list_row-requires c =
-    let asked : Listing c.args.rows.now c.args.order.now c.loop-k.listed c.args.count c.args.n = listing_of c.loop-k.listed c.requires.0 c.loop-k.invariant.long in
-    let rows_in = c.requires.1.1 in
-    let k = c.loop-k.k in (
-      asked,
-      record {
-        rank_in_lem = omega (arith, c.loop-k-test.true, c.requires.1.0);
+    let asked : Listing c.args.rows.now c.args.order.now c.loop-k.listed c.args.count c.args.n = listing_of c.loop-k.listed c.requires.listing c.loop-k.invariant.long in
+    let rows_in = c.requires.places.1 in
+    let k = c.loop-k.k in record {
+      listing = asked;
+      rank = record {
+        rank_in_lem = omega (arith, c.loop-k-test.true, c.requires.places.0);
         row_in = omega (arith, c.wide.ensures, rows_in k c.loop-k-test.true);
         rows_in = λ j h. rows_in j (omega (arith, c.loop-k-test.true));
-      },
-    )
+      };
+    }
 
 pub loop-k-preserved : goal.loop-k-preserved
 loop-k-preserved c =
@@ -41,7 +41,6 @@ shape_of-listed c = c.loop-k.invariant.long
 pub returns : goal.returns
 returns c =
     let h = c.loop-k.invariant in
-    let = c in
-    let a = known.before.before.args in
+    let a = c.args in
     h.is
     ∙ ap (λ k. overwrite (flat_ranked (listed_from a.smaller.now a.larger.now a.count (order_of a.rows.now a.order.now k))) a.listed.now) (le_antisymm h.upto c.loop-k-test.false)

@@ -10,16 +10,16 @@ use Rattle.ranked_rows.proofs.list_ranked.Goals as goal
 pub list_in_order-requires : goal.list_in_order-requires
 list_in_order-requires c =
     let h = c.requires in
-    let r = c.rank_proposals-m.ensures.0 in (
-      record { few = h.few; whole = h.whole; small = h.small; below = h.below; ordered = omega (arith, c.rank_proposals-m.auto.order); room = h.room },
-      (r.1, r.0),
-    )
+    let r = c.rank_proposals-m.ensures.listed_then in record {
+      listing = record { few = h.few; whole = h.whole; small = h.small; below = h.below; ordered = omega (arith, c.rank_proposals-m.auto.order); room = h.room };
+      places = (r.1, r.0);
+    }
 
 pub returns : goal.returns
 unfolding allowed_list
 returns c =
     let a = c.args in
-    let ranks = c.rank_proposals-m.ensures.1 in (
-      listed-count a.smaller.now a.larger.now a.count a.rows.now _ c.rank_proposals-m.result _ ranks,
-      c.list_in_order.ensures ∙ ap (λ all. overwrite (flat_ranked (listed_from a.smaller.now a.larger.now a.count all)) a.listed.now) ranks,
-    )
+    let ranks = c.rank_proposals-m.ensures.order in record {
+      many = listed-count a.smaller.now a.larger.now a.count a.rows.now _ c.rank_proposals-m.result _ ranks;
+      list = c.list_in_order.ensures ∙ ap (λ all. overwrite (flat_ranked (listed_from a.smaller.now a.larger.now a.count all)) a.listed.now) ranks;
+    }

@@ -10,16 +10,16 @@ loop-r-init c = (λ l a b. absurd (omega arith), omega arith)
 
 pub blocks-requires : goal.blocks-requires
 blocks-requires c =
-    let q = c.pre.1.rows_in c.loop-r.r c.loop-r-test.true in (
-      (omega (arith, c.loop-r-test.true, c.pre.1.rank-in, c.pre.0.few, c.pre.0.ordered), omega (arith, c.loop-r-test.true, c.pre.1.rank-in, c.pre.0.few, c.pre.0.room)),
-      record {
-        small = c.pre.0.small;
-        first = omega (arith, q, c.pre.0.whole);
-        second = omega (arith, c.pre.1.row_in, c.pre.0.whole);
-        first_in_lem = c.pre.0.below (get_or c.args.order.now c.loop-r.r 0) q;
-        second_in_lem = c.pre.0.below c.args.p c.pre.1.row_in;
-      },
-    )
+    let q = c.requires.rank.rows_in c.loop-r.r c.loop-r-test.true in record {
+      room = (omega (arith, c.loop-r-test.true, c.requires.rank.rank_in_lem, c.requires.listing.few, c.requires.listing.ordered), omega (arith, c.loop-r-test.true, c.requires.rank.rank_in_lem, c.requires.listing.few, c.requires.listing.room));
+      two_rows = record {
+        small = c.requires.listing.small;
+        first = omega (arith, q, c.requires.listing.whole);
+        second = omega (arith, c.requires.rank.row_in, c.requires.listing.whole);
+        first_in_lem = c.requires.listing.below (get_or c.args.order.now c.loop-r.r 0) q;
+        second_in_lem = c.requires.listing.below c.args.p c.requires.rank.row_in;
+      };
+    }
 
 pub returns-then-blocks : goal.returns-then-blocks
 returns-then-blocks c =

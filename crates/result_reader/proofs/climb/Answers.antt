@@ -2,28 +2,19 @@
 use Rattle.result_reader.proofs.Steps.{climbed_first, climbed_on, climbed_not, climbed_broken}
 use Rattle.result_reader.proofs.climb.Goals as goal
 
-pub enum_told-1 : goal.enum_told-1
-enum_told-1 c = c.in-Empty.keys1
-
-pub enum_known-state : goal.enum_known-state
-enum_known-state c = c.in-Empty.keys2
-
 pub ascends-requires : goal.ascends-requires
 ascends-requires c = tt
 
-pub enum_known-state-in-BrokenAt-1 : goal.enum_known-state-in-BrokenAt-1
-enum_known-state-in-BrokenAt-1 c = c.in-Empty.keys3
-
 pub returns-in-Empty : goal.returns-in-Empty
-returns-in-Empty c = climbed_first _ _ _ c.enum_told-1.given.1
+returns-in-Empty c = climbed_first _ _ _ c.in-Empty.is
 
 pub returns-then-ascends : goal.returns-then-ascends
 returns-then-ascends c =
-    climbed_on _ _ _ c.state-1.given.1 c.ascends.ensures c.if-ascends.true
+    climbed_on _ _ _ c.in-Last.is c.ascends.ensures c.if-ascends.true
 
 pub returns-else-ascends : goal.returns-else-ascends
 returns-else-ascends c =
-    climbed_not _ _ _ c.state-1.given.1 c.ascends.ensures c.if-ascends.false
+    climbed_not _ _ _ c.in-Last.is c.ascends.ensures c.if-ascends.false
 
 pub returns-in-BrokenAt : goal.returns-in-BrokenAt
-returns-in-BrokenAt c = climbed_broken _ _ _ c.state-in-BrokenAt-1.given.1
+returns-in-BrokenAt c = climbed_broken _ _ _ c.in-BrokenAt.is

@@ -1,21 +1,20 @@
 -- `result_reader_read_result` meets its contract: nothing is stored before the whole of the bytes is judged and all lists are known to have room. Assumes nothing.
-use mathlib.Core.Path.{sym, subst, ◌∙◌}
-use Rattle.result_reader.specs.Parts.{ResultTold}
+use mathlib.Core.Path.{sym, ◌∙◌}
 use Rattle.result_reader.proofs.Answering.{room-known, answered-read, answered-short, answered-refused}
 use Rattle.result_reader.proofs.result_reader_read_result.Goals as goal
 
 pub judge_result-requires : goal.judge_result-requires
 judge_result-requires c = tt
 
-pub enum_known-plan : goal.enum_known-plan
-enum_known-plan c = c.in-Sound.keys1
-
 pub fits-requires : goal.fits-requires
 fits-requires c = tt
 
 pub fill-requires : goal.fill-requires
 fill-requires c =
-    ((subst (ResultTold _) c.plan-1.given.1 c.judge_result.ensures).held, room-known (sym c.fits2.ensures ∙ c.if-fits.true))
+    record {
+      held = c.in-Sound.ensures.held;
+      room = room-known (sym c.fits.ensures ∙ c.if-fits.true);
+    }
 
 pub opened-requires : goal.opened-requires
 opened-requires c = tt
@@ -23,22 +22,19 @@ opened-requires c = tt
 pub refused-requires : goal.refused-requires
 refused-requires c = tt
 
-pub enum_known-number : goal.enum_known-number
-enum_known-number c = c.in-Sound.keys2
-
 pub refused-requires-in-Refused : goal.refused-requires-in-Refused
 refused-requires-in-Refused c = tt
 
 pub returns-then-fits : goal.returns-then-fits
 returns-then-fits c =
     let each = c.fill.ensures in
-    answered-read (subst (ResultTold _) c.plan-1.given.1 c.judge_result.ensures) _ _ _ _ (sym c.fits2.ensures ∙ c.if-fits.true) c.opened.ensures
-    each.0 each.1.0 each.1.1.0 each.1.1.1
+    answered-read c.in-Sound.ensures _ _ _ _ (sym c.fits.ensures ∙ c.if-fits.true) c.opened.ensures
+    each.labels each.tallies each.pairs each.rows
 
 pub returns-else-fits : goal.returns-else-fits
 returns-else-fits c =
-    answered-short (subst (ResultTold _) c.plan-1.given.1 c.judge_result.ensures) _ _ _ _ (sym c.fits2.ensures ∙ c.if-fits.false) c.refused.ensures
+    answered-short c.in-Sound.ensures _ _ _ _ (sym c.fits.ensures ∙ c.if-fits.false) c.refused.ensures
 
 pub returns-in-Refused : goal.returns-in-Refused
 returns-in-Refused c =
-    answered-refused _ _ _ _ _ (subst (ResultTold _) c.number-1.given.1 c.judge_result.ensures) c.refused-in-Refused.ensures
+    answered-refused _ _ _ _ _ c.in-Refused.ensures c.refused-in-Refused.ensures

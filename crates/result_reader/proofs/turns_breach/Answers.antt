@@ -2,17 +2,11 @@
 use Rattle.result_reader.proofs.Lists.{turns-reached, turns_unreached, turns-broken}
 use Rattle.result_reader.proofs.turns_breach.Goals as goal
 
-pub enum_known-state : goal.enum_known-state
-enum_known-state c = c.in-Started.keys1
-
-pub enum_known-state-in-OutAt-1 : goal.enum_known-state-in-OutAt-1
-enum_known-state-in-OutAt-1 c = c.in-Started.keys2
-
 pub returns-then-n-regions : goal.returns-then-n-regions
-returns-then-n-regions c = turns-reached _ _ _ c.state-1.given.1 c.if-n-regions.true
+returns-then-n-regions c = turns-reached _ _ _ c.in-Started.is c.if-n-regions.true
 
 pub returns-else-n-regions : goal.returns-else-n-regions
-returns-else-n-regions c = turns_unreached _ _ _ c.state-1.given.1 c.if-n-regions.false
+returns-else-n-regions c = turns_unreached _ _ _ c.in-Started.is c.if-n-regions.false
 
 pub returns-in-OutAt : goal.returns-in-OutAt
-returns-in-OutAt c = turns-broken _ _ c.state-in-OutAt-1.given.1
+returns-in-OutAt c = turns-broken _ _ c.in-OutAt.is

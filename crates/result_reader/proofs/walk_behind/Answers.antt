@@ -2,16 +2,10 @@
 use Rattle.result_reader.proofs.Unasked.{unasked-walked, unasked-stopped}
 use Rattle.result_reader.proofs.walk_behind.Goals as goal
 
-pub enum_known-next : goal.enum_known-next
-enum_known-next c = c.in-Behind.keys1
-
-pub enum_known-fault : goal.enum_known-fault
-enum_known-fault c = c.in-Behind.keys2
-
 pub returns-in-Behind : goal.returns-in-Behind
 returns-in-Behind c =
-    unasked-walked _ _ _ _ _ c.judge.ensures c.requires c.next-1.given.1
+    unasked-walked _ _ _ _ _ c.judge.ensures c.requires c.in-Behind.is
 
 pub returns-in-Faulty : goal.returns-in-Faulty
 returns-in-Faulty c =
-    unasked-stopped _ _ _ c.args.place _ c.judge.ensures c.fault-1.given.1
+    unasked-stopped _ _ _ c.args.place _ c.judge.ensures c.in-Faulty.is

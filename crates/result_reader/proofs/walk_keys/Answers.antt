@@ -1,7 +1,5 @@
 -- `result_reader::walk_keys` meets its contract. The loop's invariant is `Walking`: how the rest of the walk ends tells how all of it ends. The measure is how many
 -- entries are left. Assumes nothing.
-use mathlib.Core.Path.{ap, ◌∙◌}
-use Rattle.result_reader.specs.Walks.{key_of}
 use Rattle.result_reader.proofs.Steps.{ascent_next}
 use Rattle.result_reader.proofs.Walking.{walking_starts, walking_ends, walking_stops, walking_goes_on}
 use Rattle.result_reader.proofs.walk_keys.Goals as goal
@@ -12,23 +10,17 @@ loop-left-init c = walking_starts _ _ _ c.requires
 pub key_at-requires : goal.key_at-requires
 key_at-requires c = c.loop-left.invariant.inside
 
-pub enum_known-key : goal.enum_known-key
-enum_known-key c = c.in-Entry.keys1
-
 pub climb-state-requires : goal.climb-state-requires
 climb-state-requires c = tt
 
 pub loop-left-preserved : goal.loop-left-preserved
 loop-left-preserved c =
-    walking_goes_on _ _ _ c.loop-left.invariant c.loop-left-test.true (c.key_at.ensures ∙ ap (key_of _ _) c.key-1.given.1)
-    (ascent_next _ _ _ c.key-1.given.0.0 _ c.climb-state.ensures)
-
-pub enum_known-place : goal.enum_known-place
-enum_known-place c = c.in-Entry.keys2
+    walking_goes_on _ _ _ c.loop-left.invariant c.loop-left-test.true c.in-Entry.ensures
+    (ascent_next _ _ _ c.in-Entry.key _ c.climb-state.ensures)
 
 pub returns-in-Fault : goal.returns-in-Fault
 returns-in-Fault c =
-    walking_stops _ _ _ c.loop-left.invariant c.loop-left-test.true (c.key_at.ensures ∙ ap (key_of _ _) c.place-1.given.1)
+    walking_stops _ _ _ c.loop-left.invariant c.loop-left-test.true c.in-Fault.ensures
 
 pub returns : goal.returns
 returns c = walking_ends _ _ _ c.loop-left.invariant c.loop-left-test.false

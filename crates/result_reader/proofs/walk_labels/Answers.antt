@@ -12,39 +12,27 @@ loop-left-init c = walking_starts _ _ _ c.requires
 pub item-requires : goal.item-requires
 item-requires c = c.loop-left.invariant.inside
 
-pub enum_known-label : goal.enum_known-label
-enum_known-label c = c.in-Item.keys1
-
 pub after_label-requires : goal.after_label-requires
 after_label-requires c = tt
 
-pub enum_known-n : goal.enum_known-n
-enum_known-n c = c.in-Started.keys1
-
 pub loop-left-preserved : goal.loop-left-preserved
 loop-left-preserved c =
-    walking_goes_on _ _ _ c.loop-left.invariant c.loop-left-test.true (one_found _ _ (item-found _ _ _ c.item.ensures c.label-1.given.1))
-    (turn_next _ _ _ _ c.after_label.ensures c.n-1.given.1)
-
-pub enum_told-1 : goal.enum_told-1
-enum_told-1 c = c.in-Started.keys2
+    walking_goes_on _ _ _ c.loop-left.invariant c.loop-left-test.true (one_found _ _ (item-found _ _ _ c.item.ensures c.in-Item.is))
+    (turn_next _ _ _ _ c.after_label.ensures c.in-Started.is)
 
 pub walk_behind-requires : goal.walk_behind-requires
 walk_behind-requires c =
-    item-inside _ _ _ c.item.ensures c.loop-left.invariant.inside c.label-1.given.1
+    item-inside _ _ _ c.item.ensures c.loop-left.invariant.inside c.in-Item.is
 
 pub returns-in-Out : goal.returns-in-Out
 returns-in-Out c =
-    let found = one_found _ _ (item-found _ _ _ c.item.ensures c.label-1.given.1) in
-    let walking = walking_goes_on _ _ _ c.loop-left.invariant c.loop-left-test.true found (turn_next _ _ _ _ c.after_label.ensures c.enum_told-1.given.1) in
+    let found = one_found _ _ (item-found _ _ _ c.item.ensures c.in-Item.is) in
+    let walking = walking_goes_on _ _ _ c.loop-left.invariant c.loop-left-test.true found (turn_next _ _ _ _ c.after_label.ensures c.in-Out.is) in
     walking.same (turns_walk c.walk_behind.result) (c.walk_behind.ensures _)
-
-pub enum_known-place : goal.enum_known-place
-enum_known-place c = c.in-Item.keys2
 
 pub returns-in-Fault : goal.returns-in-Fault
 returns-in-Fault c =
-    walking_stops _ _ _ c.loop-left.invariant c.loop-left-test.true (one_fails _ _ (item-fails _ _ _ c.item.ensures c.place-1.given.1))
+    walking_stops _ _ _ c.loop-left.invariant c.loop-left-test.true (one_fails _ _ (item-fails _ _ _ c.item.ensures c.in-Fault.is))
 
 pub returns : goal.returns
 returns c = walking_ends _ _ _ c.loop-left.invariant c.loop-left-test.false

@@ -13,17 +13,11 @@ spend_number-a-requires c = tt
 pub spend_number-b-requires : goal.spend_number-b-requires
 spend_number-b-requires c = tt
 
-pub enum_told-1 : goal.enum_told-1
-enum_told-1 c = c.in-Left.keys1
-
-pub enum_told-in-Short : goal.enum_told-in-Short
-enum_told-in-Short c = c.in-Left.keys2
-
 pub returns-in-Left : goal.returns-in-Left
 returns-in-Left c =
     let given = c.args in
     let r = result_in given.regions given.labels.now given.tallies.now given.pairs.now given.rows.now in
-    room-left given.room (length (result_bytes r)) (sym c.enum_told-1.given.1
+    room-left given.room (length (result_bytes r)) (sym c.in-Left.is
     ∙ sheet-spent r (Left given.room) c.spend_number-a.ensures c.spend_number-b.ensures
     c.spend_list-c.ensures c.spend_list-d.ensures c.spend_list-e.ensures c.spend_list.ensures)
 
@@ -31,6 +25,6 @@ pub returns-in-Short : goal.returns-in-Short
 returns-in-Short c =
     let given = c.args in
     let r = result_in given.regions given.labels.now given.tallies.now given.pairs.now given.rows.now in
-    room-short given.room (length (result_bytes r)) (sym c.enum_told-in-Short-1.given.1
+    room-short given.room (length (result_bytes r)) (sym c.in-Short.is
     ∙ sheet-spent r (Left given.room) c.spend_number-a.ensures c.spend_number-b.ensures
     c.spend_list-c.ensures c.spend_list-d.ensures c.spend_list-e.ensures c.spend_list.ensures)

@@ -10,19 +10,13 @@ loop-i-init c = turning-starts
 pub after_label-requires : goal.after_label-requires
 after_label-requires c = tt
 
-pub enum_known-n : goal.enum_known-n
-enum_known-n c = c.in-Started.keys1
-
 pub loop-i-preserved : goal.loop-i-preserved
 loop-i-preserved c =
-    turning-goes_on c.loop-i.invariant c.loop-i-test.true (sym c.after_label.ensures ∙ c.n-1.given.1)
-
-pub enum_told-1 : goal.enum_told-1
-enum_told-1 c = c.in-Started.keys2
+    turning-goes_on c.loop-i.invariant c.loop-i-test.true (sym c.after_label.ensures ∙ c.in-Started.is)
 
 pub returns-in-Out : goal.returns-in-Out
 returns-in-Out c =
-    turning-stops c.loop-i.invariant c.loop-i-test.true (sym c.after_label.ensures ∙ c.enum_told-1.given.1)
+    turning-stops c.loop-i.invariant c.loop-i-test.true (sym c.after_label.ensures ∙ c.in-Out.is)
 
 pub returns : goal.returns
 returns c = turning-ends c.loop-i.invariant c.loop-i-test.false

@@ -11,7 +11,7 @@ put_shortest-next-requires c =
 pub put_numbers-requires : goal.put_numbers-requires
 put_numbers-requires c =
     let pre = c.requires.1 in
-    omega (arith, pre, list_length c.args.size c.args.numbers.now, c.put_shortest-next.ensures.next-is, c.put_shortest-next.auto.out)
+    omega (arith, pre, list_length c.args.size c.args.numbers.now, c.put_shortest-next.ensures.next_is, c.put_shortest-next.auto.out)
 
 pub returns : goal.returns
 returns c =

@@ -28,20 +28,20 @@ pub returns-then-not-fits : goal.returns-then-not-fits
 returns-then-not-fits c =
     let kept = c.keeps_rules.result in
     let finished = c.is_finished.result in
-    let fitting = c.fits2.result in
+    let fitting = c.fits.result in
     writes_10 _ _ kept c.keeps_rules.ensures (not-false kept c.if-not-keeps_rules.false-raw) finished c.is_finished.ensures (not-false finished c.if-not-is_finished.false-raw)
-    fitting c.fits2.ensures (not-true fitting c.if-not-fits.true-raw)
+    fitting c.fits.ensures (not-true fitting c.if-not-fits.true-raw)
 
 pub put_result-size-requires : goal.put_result-size-requires
 put_result-size-requires c =
     let given = c.args in
-    let fitting = c.fits2.result in
-    fits-known (result_in given.regions given.labels.now given.tallies.now given.pairs.now given.rows.now) given.out.now fitting c.fits2.ensures (not-false fitting c.if-not-fits.false-raw)
+    let fitting = c.fits.result in
+    fits-known (result_in given.regions given.labels.now given.tallies.now given.pairs.now given.rows.now) given.out.now fitting c.fits.ensures (not-false fitting c.if-not-fits.false-raw)
 
 pub returns : goal.returns
 returns c =
     let kept = c.keeps_rules.result in
     let finished = c.is_finished.result in
-    let fitting = c.fits2.result in
+    let fitting = c.fits.result in
     writes_0 _ _ kept c.keeps_rules.ensures (not-false kept c.if-not-keeps_rules.false-raw) finished c.is_finished.ensures (not-false finished c.if-not-is_finished.false-raw)
-    fitting c.fits2.ensures (not-false fitting c.if-not-fits.false-raw) c.put_result-size.ensures
+    fitting c.fits.ensures (not-false fitting c.if-not-fits.false-raw) c.put_result-size.ensures

@@ -2,22 +2,16 @@
 use Rattle.result_writer.proofs.Spending.{spent_none, spent-short, spent-left}
 use Rattle.result_writer.proofs.spend_number.Goals as goal
 
-pub enum_known-room : goal.enum_known-room
-enum_known-room c = c.in-Left.keys1
-
-pub enum_told-1 : goal.enum_told-1
-enum_told-1 c = c.in-Left.keys2
-
 pub returns-in_default : goal.returns-in_default
-returns-in_default c = spent_none _ c.enum_told-1.given.1
+returns-in_default c = spent_none _ c.in_default.is
 
 pub group_count-size-requires : goal.group_count-size-requires
 group_count-size-requires c = tt
 
 pub returns-then-left-size : goal.returns-then-left-size
 returns-then-left-size c =
-    spent-short _ c.room-1.given.1 c.group_count-size.ensures c.if-left-size.true
+    spent-short _ c.in-Left.is c.group_count-size.ensures c.if-left-size.true
 
 pub returns : goal.returns
 returns c =
-    spent-left _ c.room-1.given.1 c.group_count-size.ensures c.if-left-size.false
+    spent-left _ c.in-Left.is c.group_count-size.ensures c.if-left-size.false

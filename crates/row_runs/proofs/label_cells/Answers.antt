@@ -24,7 +24,7 @@ shape_of-labels c =
     (finished-beyond (finished c.alone.ensures c.join_cells.ensures c.number.ensures)).long
 
 pub shape_of-queue : goal.shape_of-queue
-shape_of-queue c = (at_join c).join_Cells.ensures.queue_long_lem
+shape_of-queue c = c.join_cells.ensures.queue_long_lem
 
 pub returns : goal.returns
 returns c =

@@ -13,19 +13,22 @@ use Rattle.sheet.proofs.fill.Goals as goal
 
 pub fill_cells-requires : goal.fill_cells-requires
 fill_cells-requires c =
-    (c.requires.0.cells, c.requires.1.for-cells)
+    (c.requires.held.cells, c.requires.room.for_cells)
 
 pub fill_numbers-requires : goal.fill_numbers-requires
 fill_numbers-requires c =
-    (c.requires.0.boundaries, c.requires.1.for-boundaries)
+    (c.requires.held.boundaries, c.requires.room.for_boundaries)
 
 pub fill_spans-requires : goal.fill_spans-requires
 fill_spans-requires c =
-    (c.requires.0.spans, (omega (arith, stored-long (part_of c.args.bytes.now c.args.parts.boundaries) c.args.boundaries.now c.fill_numbers.ensures, held-length c.requires.0.boundaries), c.requires.1.for-spans))
+    record {
+      held = c.requires.held.spans;
+      room = (omega (arith, stored-long (part_of c.args.bytes.now c.args.parts.boundaries) c.args.boundaries.now c.fill_numbers.ensures, held-length c.requires.held.boundaries), c.requires.room.for_spans);
+    }
 
 pub fill_numbers-requires-2 : goal.fill_numbers-requires-2
 fill_numbers-requires-2 c =
-    (c.requires.0.anchors, c.requires.1.for-anchors)
+    (c.requires.held.anchors, c.requires.room.for_anchors)
 
 pub returns : goal.returns
 returns c =
@@ -38,5 +41,5 @@ returns c =
     let stored =
     c.fill_spans.ensures
     ∙ ap (λ l. overwrite (cond own (part_of bytes b) (endpoints_in (c₁.length / 9) l)) old) c.fill_numbers.ensures
-    ∙ ap (λ l. overwrite l old) (spans-stored own bytes b c₁ given.boundaries.now c.requires.0.boundaries) in
-    (c.fill_cells.ensures, (stored, (c.fill_numbers.ensures, c.fill_numbers-2.ensures)))
+    ∙ ap (λ l. overwrite l old) (spans-stored own bytes b c₁ given.boundaries.now c.requires.held.boundaries) in
+    record { cells = c.fill_cells.ensures; spans = stored; boundaries = c.fill_numbers.ensures; anchors = c.fill_numbers-2.ensures }

@@ -1,7 +1,6 @@
 -- `sheet::fill_numbers` meets its contract. The loop's invariant is `Filling`: storing the numbers that are left makes the list that is wanted. Where the loop is
 -- left early, `fill_rest` stores them. The measure is how many are left. Assumes nothing.
-use mathlib.Core.Path.{◌∙◌, subst}
-use Rattle.sheet.specs.Numbers.{ShortTold}
+use mathlib.Core.Path.{◌∙◌}
 use Rattle.laws.specs.SheetReading.SheetLaws.{keeps-number}
 use Rattle.sheet.proofs.Filling.{filling_starts, filling_ends, filling_room, filling_held, filling_goes_on}
 use Rattle.sheet.proofs.fill_numbers.Goals as goal
@@ -11,12 +10,6 @@ loop-i-init c = filling_starts c.requires.0 c.requires.1
 
 pub short_at-requires : goal.short_at-requires
 short_at-requires c = filling_held c.loop-i.invariant c.loop-i-test.true
-
-pub enum_known-value : goal.enum_known-value
-enum_known-value c = c.in-Number.keys1
-
-pub enum_told-1 : goal.enum_told-1
-enum_told-1 c = c.in-Number.keys2
 
 pub fill_rest-requires : goal.fill_rest-requires
 fill_rest-requires c =
@@ -29,7 +22,7 @@ returns-in_default c =
 
 pub loop-i-preserved : goal.loop-i-preserved
 loop-i-preserved c =
-    filling_goes_on c.loop-i.invariant c.loop-i-test.true keeps-number (subst (ShortTold _ _) c.value-1.given.1 c.short_at.ensures)
+    filling_goes_on c.loop-i.invariant c.loop-i-test.true keeps-number c.in-Number.ensures
 
 pub shape_of-out : goal.shape_of-out
 shape_of-out c = c.loop-i.invariant.long

@@ -1,7 +1,5 @@
 -- `sheet::fill_rest` meets its contract. The loop's invariant is `Filling`: storing the numbers that are left makes the list that is wanted. What was judged is
 -- not refused, so the loop is not left early. The measure is how many are left. Assumes nothing.
-use mathlib.Core.Path.{ap, ◌∙◌}
-use Rattle.sheet.specs.Numbers.{item_of}
 use Rattle.laws.specs.SheetReading.SheetLaws.{keeps-number}
 use Rattle.sheet.proofs.Items.{as_number}
 use Rattle.sheet.proofs.Filling.{filling_from, filling_ends, filling_never-stops, filling_goes_on}
@@ -13,23 +11,17 @@ loop-i-init c = filling_from c.requires.1 c.requires.0 c.requires.2
 pub item-requires : goal.item-requires
 item-requires c = c.loop-i.invariant.held.inside
 
-pub enum_known-value : goal.enum_known-value
-enum_known-value c = c.in-Item.keys1
-
-pub enum_told-1 : goal.enum_told-1
-enum_told-1 c = c.in-Item.keys2
-
 pub shape_of-out-in_default : goal.shape_of-out-in_default
 shape_of-out-in_default c =
     c.loop-i.invariant.long
 
 pub returns-in_default : goal.returns-in_default
 returns-in_default c =
-    absurd (filling_never-stops c.loop-i.invariant c.loop-i-test.true (as_number _ _ (c.item.ensures ∙ ap (item_of _) c.enum_told-1.given.1)))
+    absurd (filling_never-stops c.loop-i.invariant c.loop-i-test.true (as_number _ _ c.in_default.ensures))
 
 pub loop-i-preserved : goal.loop-i-preserved
 loop-i-preserved c =
-    filling_goes_on c.loop-i.invariant c.loop-i-test.true keeps-number (as_number _ _ (c.item.ensures ∙ ap (item_of _) c.value-1.given.1))
+    filling_goes_on c.loop-i.invariant c.loop-i-test.true keeps-number (as_number _ _ c.in-Item.ensures)
 
 pub shape_of-out : goal.shape_of-out
 shape_of-out c = c.loop-i.invariant.long

@@ -10,7 +10,7 @@ use Rattle.sheet.proofs.fill_spans.Goals as goal
 pub fill_numbers-requires : goal.fill_numbers-requires
 fill_numbers-requires c =
     let given = c.args in
-    (c.requires.0, own-fit given.kind given.part.length (4 * given.count) c.requires.1.1 c.if-kind-eq1.true)
+    (c.requires.held, own-fit given.kind given.part.length (4 * given.count) c.requires.room.1 c.if-kind-eq1.true)
 
 pub returns-then-kind-eq1 : goal.returns-then-kind-eq1
 returns-then-kind-eq1 c =
@@ -22,7 +22,7 @@ returns-then-kind-eq1 c =
 pub fill_endpoints-requires : goal.fill_endpoints-requires
 fill_endpoints-requires c =
     let given = c.args in
-    (c.requires.1.0, other-fit given.kind given.part.length (4 * given.count) c.requires.1.1 c.if-kind-eq1.false)
+    (c.requires.room.0, other-fit given.kind given.part.length (4 * given.count) c.requires.room.1 c.if-kind-eq1.false)
 
 pub returns : goal.returns
 returns c =

@@ -15,22 +15,22 @@ pub ill_formed-requires : goal.ill_formed-requires
 ill_formed-requires c = tt
 
 pub returns-then-ill_formed : goal.returns-then-ill_formed
-returns-then-ill_formed c = bad c.loop-next.inv c.loop-next-test.taken c.number_of_byte-byte.ensures (sym c.ill_formed.ensures ∙ c.if-ill_formed.true)
+returns-then-ill_formed c = bad c.loop-next.invariant c.loop-next-test.true c.number_of_byte-byte.ensures (sym c.ill_formed.ensures ∙ c.if-ill_formed.true)
 
 pub overflow_mul-value : goal.overflow_mul-value
-overflow_mul-value c = omega (arith, fits c.loop-next.inv c.loop-next-test.taken c.number_of_byte-byte.ensures (sym c.ill_formed.ensures ∙ c.if-ill_formed.false))
+overflow_mul-value c = omega (arith, fits c.loop-next.invariant c.loop-next-test.true c.number_of_byte-byte.ensures (sym c.ill_formed.ensures ∙ c.if-ill_formed.false))
 
 pub overflow_add-value : goal.overflow_add-value
-overflow_add-value c = omega (arith, fits c.loop-next.inv c.loop-next-test.taken c.number_of_byte-byte.ensures (sym c.ill_formed.ensures ∙ c.if-ill_formed.false))
+overflow_add-value c = omega (arith, fits c.loop-next.invariant c.loop-next-test.true c.number_of_byte-byte.ensures (sym c.ill_formed.ensures ∙ c.if-ill_formed.false))
 
 pub returns-then-byte-lt128 : goal.returns-then-byte-lt128
-returns-then-byte-lt128 c = last c.loop-next.inv c.loop-next-test.taken c.number_of_byte-byte.ensures (sym c.ill_formed.ensures ∙ c.if-ill_formed.false) c.if-byte-lt128.true
+returns-then-byte-lt128 c = last c.loop-next.invariant c.loop-next-test.true c.number_of_byte-byte.ensures (sym c.ill_formed.ensures ∙ c.if-ill_formed.false) c.if-byte-lt128.true
 
 pub overflow_mul-scale : goal.overflow_mul-scale
-overflow_mul-scale c = omega (arith, scale-fits c.loop-next.inv c.loop-next-test.taken c.number_of_byte-byte.ensures (sym c.ill_formed.ensures ∙ c.if-ill_formed.false) c.if-byte-lt128.false)
+overflow_mul-scale c = omega (arith, scale-fits c.loop-next.invariant c.loop-next-test.true c.number_of_byte-byte.ensures (sym c.ill_formed.ensures ∙ c.if-ill_formed.false) c.if-byte-lt128.false)
 
 pub loop-next-preserved : goal.loop-next-preserved
-loop-next-preserved c = more c.loop-next.inv c.loop-next-test.taken c.number_of_byte-byte.ensures (sym c.ill_formed.ensures ∙ c.if-ill_formed.false) c.if-byte-lt128.false
+loop-next-preserved c = more c.loop-next.invariant c.loop-next-test.true c.number_of_byte-byte.ensures (sym c.ill_formed.ensures ∙ c.if-ill_formed.false) c.if-byte-lt128.false
 
 pub returns : goal.returns
 returns c = early-end c.loop-next.invariant c.loop-next-test.false

@@ -21,19 +21,13 @@ pub item-requires : goal.item-requires
 item-requires c =
     c.loop-i.invariant.0.held.inside
 
-pub enum_known-value : goal.enum_known-value
-enum_known-value c = c.in-Item.keys1
-
-pub enum_told-1 : goal.enum_told-1
-enum_told-1 c = c.in-Item.keys2
-
 pub returns-in_default : goal.returns-in_default
 returns-in_default c =
-    absurd (walking_never-stops c.loop-i.invariant.0 c.loop-i-test.true (as_cell _ _ (c.item.ensures ∙ ap (item_of _) c.enum_told-1.given.1)))
+    absurd (walking_never-stops c.loop-i.invariant.0 c.loop-i-test.true (as_cell _ _ c.in_default.ensures))
 
 pub overflow_cast-value : goal.overflow_cast-value
 overflow_cast-value c =
-    omega (arith, up_to_most 255 _ _ (c.item.ensures ∙ ap (item_of _) c.value-1.given.1))
+    omega (arith, up_to_most 255 _ _ c.in-Item.ensures)
 
 pub returns-then-not-elevation_fits : goal.returns-then-not-elevation_fits
 unfolding elevations_fault
@@ -41,14 +35,14 @@ returns-then-not-elevation_fits c =
     let cells = (values_at cell c.args.bytes.now c.args.at c.args.count) in
     let long = held-length c.requires in
     sym (first_faulty_lem (fits cells) (length cells) c.loop-i.i (omega (arith, long, c.loop-i-test.true)) c.loop-i.invariant.1
-    (c.elevation_fits.ensures ∙ ap fitting (sym (walking_cell c.loop-i.invariant.0 c.loop-i-test.true (as_cell _ _ (c.item.ensures ∙ ap (item_of _) c.value-1.given.1))))) c.if-not-elevation_fits.true-raw)
+    (c.elevation_fits.ensures ∙ ap fitting (sym (walking_cell c.loop-i.invariant.0 c.loop-i-test.true (as_cell _ _ c.in-Item.ensures)))) c.if-not-elevation_fits.true-raw)
 
 pub loop-i-preserved : goal.loop-i-preserved
 loop-i-preserved c =
     (
-      walking_goes_on c.loop-i.invariant.0 c.loop-i-test.true (as_cell _ _ (c.item.ensures ∙ ap (item_of _) c.value-1.given.1)),
+      walking_goes_on c.loop-i.invariant.0 c.loop-i-test.true (as_cell _ _ c.in-Item.ensures),
       none_faulty_more (fits (values_at cell c.args.bytes.now c.args.at c.args.count)) c.loop-i.i c.loop-i.invariant.1
-          (c.elevation_fits.ensures ∙ ap fitting (sym (walking_cell c.loop-i.invariant.0 c.loop-i-test.true (as_cell _ _ (c.item.ensures ∙ ap (item_of _) c.value-1.given.1))))) c.if-not-elevation_fits.false-raw,
+          (c.elevation_fits.ensures ∙ ap fitting (sym (walking_cell c.loop-i.invariant.0 c.loop-i-test.true (as_cell _ _ c.in-Item.ensures)))) c.if-not-elevation_fits.false-raw,
     )
 
 pub returns : goal.returns

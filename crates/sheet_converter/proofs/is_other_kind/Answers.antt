@@ -6,12 +6,12 @@ use Rattle.sheet_converter.proofs.is_other_kind.Goals as goal
 
 pub returns-in-Value : goal.returns-in-Value
 returns-in-Value c =
-    kind-told (c.number_at.ensures ∙ ap (number_of c.args.bytes.now 0) c.kind-1.given.1)
+    kind-told c.in-Value.ensures
 
 pub returns-in-Bad : goal.returns-in-Bad
 returns-in-Bad c =
-    no_kind (c.number_at.ensures ∙ ap (number_of c.args.bytes.now 0) c.enum_told-1.given.1)
+    no_kind c.in-Bad.ensures
 
 pub returns-in-Short : goal.returns-in-Short
 returns-in-Short c =
-    no_kind (c.number_at.ensures ∙ ap (number_of c.args.bytes.now 0) c.enum_told-in-Short-1.given.1)
+    no_kind c.in-Short.ensures

@@ -34,7 +34,7 @@ put_bytes-b-requires c =
       c.requires.inside,
       c.requires.fits,
       front_long c.args.bytes.now c.args.front c.requires.begun (omega (arith, c.requires.ordered, c.requires.inside)),
-      c.put_shortest-a.ensures.next-is,
+      c.put_shortest-a.ensures.next_is,
       put-long c.put_shortest-a.ensures,
     )
 
@@ -61,9 +61,9 @@ put_bytes-requires c =
       c.requires.fits,
       front_long c.args.bytes.now c.args.front c.requires.begun (omega (arith, c.requires.ordered, c.requires.inside)),
       back_long c.args.bytes.now c.args.back,
-      c.put_shortest-a.ensures.next-is,
+      c.put_shortest-a.ensures.next_is,
       put-long c.put_shortest-a.ensures,
-      c.put_bytes-b.ensures.next-is,
+      c.put_bytes-b.ensures.next_is,
       put-long c.put_bytes-b.ensures,
     )
 

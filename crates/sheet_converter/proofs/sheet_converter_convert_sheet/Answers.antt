@@ -11,14 +11,17 @@ returns-then-is_other_kind c =
 
 pub convert_plan-requires : goal.convert_plan-requires
 convert_plan-requires c =
-    let held = (subst (SheetTold _ _) c.plan-1.given.1 c.judge_sheet.ensures) in
-    (held, opened_1 c.args.bytes.now held.stands.opened (sym c.is_other_kind.ensures ∙ c.if-is_other_kind.false))
+    let held = c.in-Sound.ensures in
+    record {
+        held = held;
+        old = opened_1 c.args.bytes.now held.stands.opened (sym c.is_other_kind.ensures ∙ c.if-is_other_kind.false);
+    }
 
 pub returns-in-Sound : goal.returns-in-Sound
 returns-in-Sound c =
-    let held = (subst (SheetTold _ _) c.plan-1.given.1 c.judge_sheet.ensures) in
+    let held = c.in-Sound.ensures in
     converts_plan c.args.bytes.now c.args.out.now (sym c.is_other_kind.ensures ∙ c.if-is_other_kind.false) _ held.same c.convert_plan.ensures
 
 pub returns-in-Refused : goal.returns-in-Refused
 returns-in-Refused c =
-    converts_refused c.args.bytes.now c.args.out.now (sym c.is_other_kind.ensures ∙ c.if-is_other_kind.false) (subst (SheetTold _ _) c.refusal-1.given.1 c.judge_sheet.ensures)
+    converts_refused c.args.bytes.now c.args.out.now (sym c.is_other_kind.ensures ∙ c.if-is_other_kind.false) c.in-Refused.ensures

@@ -9,7 +9,7 @@ put_shortest-a-requires c =
 
 pub put_shortest-b-requires : goal.put_shortest-b-requires
 put_shortest-b-requires c =
-    omega (arith, c.requires, opening-length c.args.pass c.args.width c.args.height, c.put_shortest-a.ensures.next-is, c.put_shortest-a.auto.out)
+    omega (arith, c.requires, opening-length c.args.pass c.args.width c.args.height, c.put_shortest-a.ensures.next_is, c.put_shortest-a.auto.out)
 
 pub put_shortest-c-requires : goal.put_shortest-c-requires
 put_shortest-c-requires c =
@@ -17,9 +17,9 @@ put_shortest-c-requires c =
       arith,
       c.requires,
       opening-length c.args.pass c.args.width c.args.height,
-      c.put_shortest-a.ensures.next-is,
+      c.put_shortest-a.ensures.next_is,
       c.put_shortest-a.auto.out,
-      c.put_shortest-b.ensures.next-is,
+      c.put_shortest-b.ensures.next_is,
       c.put_shortest-b.auto.out,
     )
 
@@ -29,11 +29,11 @@ put_shortest-requires c =
       arith,
       c.requires,
       opening-length c.args.pass c.args.width c.args.height,
-      c.put_shortest-a.ensures.next-is,
+      c.put_shortest-a.ensures.next_is,
       c.put_shortest-a.auto.out,
-      c.put_shortest-b.ensures.next-is,
+      c.put_shortest-b.ensures.next_is,
       c.put_shortest-b.auto.out,
-      c.put_shortest-c.ensures.next-is,
+      c.put_shortest-c.ensures.next_is,
       c.put_shortest-c.auto.out,
     )
 

@@ -14,7 +14,7 @@ put_cells-b-requires c =
       arith,
       c.requires,
       sheet-length c.args.pass c.args.width c.args.height c.args.cells.now c.args.boundaries.now c.args.anchors.now,
-      c.put_opening-a.ensures.next-is,
+      c.put_opening-a.ensures.next_is,
       put-long c.put_opening-a.ensures,
     )
 
@@ -26,9 +26,9 @@ put_list-c-requires c =
         arith,
         c.requires,
         sheet-length c.args.pass c.args.width c.args.height c.args.cells.now c.args.boundaries.now c.args.anchors.now,
-        c.put_opening-a.ensures.next-is,
+        c.put_opening-a.ensures.next_is,
         put-long c.put_opening-a.ensures,
-        c.put_cells-b.ensures.next-is,
+        c.put_cells-b.ensures.next_is,
         put-long c.put_cells-b.ensures,
       ),
     )
@@ -41,11 +41,11 @@ put_list-requires c =
         arith,
         c.requires,
         sheet-length c.args.pass c.args.width c.args.height c.args.cells.now c.args.boundaries.now c.args.anchors.now,
-        c.put_opening-a.ensures.next-is,
+        c.put_opening-a.ensures.next_is,
         put-long c.put_opening-a.ensures,
-        c.put_cells-b.ensures.next-is,
+        c.put_cells-b.ensures.next_is,
         put-long c.put_cells-b.ensures,
-        c.put_list-c.ensures.next-is,
+        c.put_list-c.ensures.next_is,
         put-long c.put_list-c.ensures,
       ),
     )

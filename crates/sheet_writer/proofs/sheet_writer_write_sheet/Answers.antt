@@ -33,11 +33,11 @@ returns-then-not-fits c =
     writes_10 (stating c.args.pass c.args.width c.args.height c.args.cells.now c.args.boundaries.now c.args.anchors.now) c.args.out.now c.sides_fit.ensures (not-false c.sides_fit.result c.if-not-sides_fit.false-raw)
     c.cells_fit.ensures (not-false c.cells_fit.result c.if-not-cells_fit.false-raw)
     c.are_whole.ensures (not-false c.are_whole.result c.if-not-are_whole.false-raw)
-    c.fits2.ensures (not-true c.fits2.result c.if-not-fits.true-raw)
+    c.fits.ensures (not-true c.fits.result c.if-not-fits.true-raw)
 
 pub put_sheet-size-requires : goal.put_sheet-size-requires
 put_sheet-size-requires c =
-    fits-known (stating c.args.pass c.args.width c.args.height c.args.cells.now c.args.boundaries.now c.args.anchors.now) c.args.out.now c.fits2.ensures (not-false c.fits2.result c.if-not-fits.false-raw)
+    fits-known (stating c.args.pass c.args.width c.args.height c.args.cells.now c.args.boundaries.now c.args.anchors.now) c.args.out.now c.fits.ensures (not-false c.fits.result c.if-not-fits.false-raw)
 
 pub returns : goal.returns
 unfolding stating
@@ -45,4 +45,4 @@ returns c =
     writes_0 (stating c.args.pass c.args.width c.args.height c.args.cells.now c.args.boundaries.now c.args.anchors.now) c.args.out.now c.sides_fit.ensures (not-false c.sides_fit.result c.if-not-sides_fit.false-raw)
     c.cells_fit.ensures (not-false c.cells_fit.result c.if-not-cells_fit.false-raw)
     c.are_whole.ensures (not-false c.are_whole.result c.if-not-are_whole.false-raw)
-    c.fits2.ensures (not-false c.fits2.result c.if-not-fits.false-raw) c.put_sheet-size.ensures
+    c.fits.ensures (not-false c.fits.result c.if-not-fits.false-raw) c.put_sheet-size.ensures

@@ -4,14 +4,8 @@ use Rattle.result_writer.proofs.Spending.{spending_starts, spending_goes_on, spe
 use Rattle.sheet_writer.proofs.Cells.{cell-size}
 use Rattle.sheet_writer.proofs.spend_cells.Goals as goal
 
-pub enum_known-room : goal.enum_known-room
-enum_known-room c = c.in-Left.keys1
-
-pub enum_told-1 : goal.enum_told-1
-enum_told-1 c = c.in-Left.keys2
-
 pub returns-in_default : goal.returns-in_default
-returns-in_default c = spent_none _ c.enum_told-1.given.1
+returns-in_default c = spent_none _ c.in_default.is
 
 pub loop-i-init : goal.loop-i-init
 loop-i-init c = spending_starts
@@ -19,7 +13,7 @@ loop-i-init c = spending_starts
 pub returns-then-left-size : goal.returns-then-left-size
 returns-then-left-size c =
     spending_stops c.loop-i.invariant c.loop-i-test.true (cell-size c.args.cells.now c.loop-i.i c.number_of_byte.ensures c.group_count-size.ensures)
-    c.if-left-size.true c.room-1.given.1
+    c.if-left-size.true c.in-Left.is
 
 pub loop-i-preserved : goal.loop-i-preserved
 loop-i-preserved c =
@@ -28,4 +22,4 @@ loop-i-preserved c =
 
 pub returns : goal.returns
 returns c =
-    spending_ends c.loop-i.invariant c.loop-i-test.false c.room-1.given.1
+    spending_ends c.loop-i.invariant c.loop-i-test.false c.in-Left.is

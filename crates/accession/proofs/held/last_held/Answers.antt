@@ -16,7 +16,7 @@ use Rattle.accession.proofs.held.last_held.Goals as goal
 pub slot_of-slot-requires : goal.slot_of-slot-requires
 slot_of-slot-requires c =
     let = c in
-    entry.requires.some-slots
+    entry.requires.some_slots
 
 pub overflow_cast-k : goal.overflow_cast-k
 overflow_cast-k c = omega (arith, c.shared_slice_known-4-1.given c.slot_of-slot.result)
@@ -31,7 +31,7 @@ loop-k-init c =
 pub map_of-requires : goal.map_of-requires
 map_of-requires c =
     let = c in
-    omega (arith, c.loop-k.invariant.within, at_slot.requires.of-list)
+    omega (arith, c.loop-k.invariant.within, at_slot.requires.of_list)
 
 pub returns-then-map_of-number : goal.returns-then-map_of-number
 unfolding is_of_map
@@ -41,7 +41,7 @@ returns-then-map_of-number c =
     let k : ℕ = c.loop-k.k in
     let is_of_lem : c.map_of.result ≡ number → is_of_map list number (k - 1) ≡ true = λ e. eq-eqb (accession_at list (k - 1)).on_map number (sym c.map_of.ensures ∙ e) in
     let f = is_of_map (list (number in
-    sym (c.loop-k.inv.rest ∙ last_found f k (search rules) (is_of_lem c.if-map_of-number.true))
+    sym (c.loop-k.invariant.rest ∙ last_found f k (search rules) (is_of_lem c.if-map_of-number.true))
 
 pub bounds-links-k : goal.bounds-links-k
 bounds-links-k c =

@@ -13,7 +13,7 @@ use Rattle.accession.proofs.line.report_kept.Goals as goal
 
 pub map_of-requires : goal.map_of-requires
 map_of-requires c =
-    let known_at : Finds c.args.records.now c.args.own (At c.i-1.given.0.0) = subst (Finds c.args.records.now c.args.own) c.i-1.given.1 c.find_own.ensures in
+    let known_at : Finds c.args.records.now c.args.own (At c.i-1.given.0.0) = subst (Finds c.args.records.now c.args.own) c.in-At.is c.find_own.ensures in
     let own : ℕ = c.args.own in
     known_at.0
 
@@ -24,12 +24,15 @@ returns-in-Nowhere c =
     let = at-find.before.before.before in
     let l = entry.args.records.now in
     let own = entry.args.own in
-    let none = line-unknown l own (subst (Finds l own) c.enum_told-1.given.1 at-find.find-own.ensures) in
-    (unknown l own entry.args.output.now entry.requires.0 entry.requires.1 none, exit-unknown l own entry.args.output.now none)
+    let none = line-unknown l own (subst (Finds l own) c.in-Nowhere.is at-find.find-own.ensures) in
+    record {
+        answer = unknown l own entry.args.output.now entry.requires.0 entry.requires.1 none;
+        left = exit-unknown l own entry.args.output.now none;
+    }
 
 pub returns-in-At : goal.returns-in-At
 returns-in-At c =
-    let known_at : Finds c.args.records.now c.args.own (At c.i-1.given.0.0) = subst (Finds c.args.records.now c.args.own) c.i-1.given.1 c.find_own.ensures in
+    let known_at : Finds c.args.records.now c.args.own (At c.i-1.given.0.0) = subst (Finds c.args.records.now c.args.own) c.in-At.is c.find_own.ensures in
     let list : List ℕ = c.args.records.now in
     let own : ℕ = c.args.own in
     let out : List ℕ = c.args.output.now in

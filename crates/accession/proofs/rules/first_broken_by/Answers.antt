@@ -20,7 +20,10 @@ pub last_of_map-k-requires : goal.last_of_map-k-requires
 last_of_map-k-requires c =
     let = c in
     let inv = at-loop.loop.invariant in
-    ((search rules, inv.behind), inv.holds)
+    record {
+        places = (search rules, inv.behind);
+        table = inv.holds;
+    }
 
 pub goes_on-requires : goal.goes_on-requires
 goes_on-requires c =
@@ -31,48 +34,51 @@ goes_on-requires c =
     (search rules, previous-within (list at-loop) at-loop.loop.i at-record.last-of-map.ensures)
 
 pub shape_of-last-then-not-own_ascends-goes_on : goal.shape_of-last-then-not-own_ascends-goes_on
-shape_of-last-then-not-own_ascends-goes_on c = c.loop-i.inv.same-slots
+shape_of-last-then-not-own_ascends-goes_on c = c.loop-i.invariant.same_slots
 
 pub shape_of-links-then-not-own_ascends-goes_on : goal.shape_of-links-then-not-own_ascends-goes_on
-shape_of-links-then-not-own_ascends-goes_on c = c.loop-i.inv.same-room
+shape_of-links-then-not-own_ascends-goes_on c = c.loop-i.invariant.same_room
 
 pub returns-then-not-own_ascends-goes_on : goal.returns-then-not-own_ascends-goes_on
 unfolding accessions_fault
 returns-then-not-own_ascends-goes_on c =
     let list : List ℕ = c.args.records.now in
-    let test : (c.own_ascends.result && c.goes_on.result) ≡ keeps_rules list c.loop-i.i = test-is list c.loop-i.i c.last_of_map-k.result c.loop-i.inv.kept-below c.last_of_map-k.ensures
+    let test : (c.own_ascends.result && c.goes_on.result) ≡ keeps_rules list c.loop-i.i = test-is list c.loop-i.i c.last_of_map-k.result c.loop-i.invariant.kept_below c.last_of_map-k.ensures
     c.own_ascends.ensures c.goes_on.ensures in
-    sym (first_faulty_lem (keeps_rules list) (accession_count list) c.loop-i.i (search rules) c.loop-i.inv.kept-below test c.if-not-own_ascends-goes_on.true-raw)
+    sym (first_faulty_lem (keeps_rules list) (accession_count list) c.loop-i.i (search rules) c.loop-i.invariant.kept_below test c.if-not-own_ascends-goes_on.true-raw)
 
 pub hold-held-requires : goal.hold-held-requires
 hold-held-requires c =
-    let inv = c.loop-i.inv in
-    ((omega (arith, inv.behind), omega (arith, inv.same-room, c.pre.0.1)), inv.holds)
+    let inv = c.loop-i.invariant in
+    record {
+        sizes = (omega (arith, inv.behind), omega (arith, inv.same_room, c.pre.0.1));
+        table = inv.holds;
+    }
 
 pub loop-i-preserved : goal.loop-i-preserved
 loop-i-preserved c =
     let list : List ℕ = c.args.records.now in
-    let test : (c.own_ascends.result && c.goes_on.result) ≡ keeps_rules list c.loop-i.i = test-is list c.loop-i.i c.last_of_map-k.result c.loop-i.inv.kept-below c.last_of_map-k.ensures
+    let test : (c.own_ascends.result && c.goes_on.result) ≡ keeps_rules list c.loop-i.i = test-is list c.loop-i.i c.last_of_map-k.result c.loop-i.invariant.kept_below c.last_of_map-k.ensures
     c.own_ascends.ensures c.goes_on.ensures in
     let took = c.hold-held.ensures in
-    let inv = c.loop-i.inv in
+    let inv = c.loop-i.invariant in
     record {
       within = search rules;
       behind = omega (arith, took.at_most, inv.behind);
-      same_slots = took.same-slots ∙ inv.same-slots;
-      same_room = took.same-room ∙ inv.same-room;
+      same_slots = took.same_slots ∙ inv.same_slots;
+      same_room = took.same_room ∙ inv.same_room;
       holds = took.holds;
-      kept_below_lem = none_faulty_more (keeps_rules list) c.loop-i.i inv.kept-below test c.if-not-own_ascends-goes_on.false-raw;
+      kept_below_lem = none_faulty_more (keeps_rules list) c.loop-i.i inv.kept_below test c.if-not-own_ascends-goes_on.false-raw;
     }
 
 pub shape_of-last : goal.shape_of-last
-shape_of-last c = c.loop-i.invariant.same-slots
+shape_of-last c = c.loop-i.invariant.same_slots
 
 pub shape_of-links : goal.shape_of-links
-shape_of-links c = c.loop-i.invariant.same-room
+shape_of-links c = c.loop-i.invariant.same_room
 
 pub returns : goal.returns
 unfolding accessions_fault
 returns c =
     let list : List ℕ = c.args.records.now in
-    sym (none_faulty_end (keeps_rules list) (accession_count list) c.loop-i.i c.loop-i.invariant.within (search rules) c.loop-i.invariant.kept-below)
+    sym (none_faulty_end (keeps_rules list) (accession_count list) c.loop-i.i c.loop-i.invariant.within (search rules) c.loop-i.invariant.kept_below)

@@ -5,11 +5,11 @@ use Rattle.areas.proofs.labels.label_regions.Goals as goal
 
 pub mark_spans-requires : goal.mark_spans-requires
 mark_spans-requires c =
-    (c.pre.0, cleared _ _ c.clear_masks.ensures c.clear_masks.kept.0 c.pre.1.1)
+    record { checked = c.requires.checked; sizes = cleared _ _ c.clear_masks.ensures c.clear_masks.auto.masks c.requires.room.1 }
 
 pub label_cells-requires : goal.label_cells-requires
 label_cells-requires c =
-    labels-room _ _ _ _ c.pre.0 c.pre.1.0 (omega (arith, c.mark_spans.kept, c.clear_masks.kept.0, c.pre.1.1)) c.pre.1.2
+    labels-room _ _ _ _ c.requires.checked c.requires.room.0 (omega (arith, c.mark_spans.auto.masks, c.clear_masks.auto.masks, c.requires.room.1)) c.requires.room.2
 
 pub returns : goal.returns
 returns c =

@@ -5,7 +5,7 @@ use mathlib.Core.Bool.{Bool}
 use lib.ListN.{length}
 use borrow.Author.Rules.{rules}
 use Rattle.definitions.specs.Limits.{numbers_per_boundary}
-use Rattle.definitions.specs.Refusals.{boundary_fits, boundaries_fault}
+use Rattle.definitions.specs.Refusals.{boundaries_fault}
 use Rattle.laws.specs.ListLaws.FirstBelow.{none_faulty_zero, none_faulty_more, none_faulty_end, first_faulty_lem}
 use Rattle.checks.proofs.boundaries.boundaries_fault.Invariants.{fits}
 use Rattle.checks.proofs.boundaries.boundaries_fault.Goals as goal

@@ -1,12 +1,11 @@
 -- `checks::spans::spans_fault` meets its contract. The loop's invariant: no span below i is faulty. The measure is how many are left. Assumes nothing.
 use Prim.Native.Nat.{ℕ, ◌/◌}
 use mathlib.Core.Path.{◌≡◌, sym}
-use mathlib.Core.Bool.{Bool, true, false, not}
+use mathlib.Core.Bool.{true, not}
 use mathlib.Core.Option.{Option, some}
 use lib.ListN.{length}
 use borrow.Author.Rules.{rules}
 use Rattle.definitions.specs.Limits.{numbers_per_span}
-use Rattle.definitions.specs.Scan.{only_if}
 use Rattle.definitions.specs.Refusals.{Refusal, spans_refusal}
 use Rattle.laws.specs.ListLaws.FirstBelow.{none_below-zero, none_below_more, none_below-end, first_found}
 use Rattle.checks.proofs.spans.spans_fault.Invariants.{inside, outside, refusal, refusal_at}
@@ -31,16 +30,14 @@ unfolding spans_refusal
 returns-then-not-differ c =
     let at : ℕ → Option Refusal = refusal_at c.args.width c.args.height c.args.spans.now in
     let count : ℕ = length c.args.spans.now / numbers_per_span in
-    let is_inside_lem : {t : Bool} → not c.both_on_map-on.result ≡ false → not c.endpoints_differ-differ.result ≡ t → at c.loop-i.i ≡ only_if t (refusal 6 c.loop-i.i) = λ e d. let a = c.args in
-    inside a.width a.height a.spans.now c.loop-i.i c.both_on_map-on.ensures e c.endpoints_differ-differ.ensures d in
-    sym (first_found at count c.loop-i.i (refusal 6 c.loop-i.i) (search rules) c.loop-i.invariant.1 (is_inside_lem c.if-not-on.false-raw c.if-not-differ.true-raw))
+    let a = c.args in
+    sym (first_found at count c.loop-i.i (refusal 6 c.loop-i.i) (search rules) c.loop-i.invariant.1 (inside a.width a.height a.spans.now c.loop-i.i c.both_on_map-on.ensures c.if-not-on.false-raw c.endpoints_differ-differ.ensures c.if-not-differ.true-raw))
 
 pub loop-i-preserved : goal.loop-i-preserved
 loop-i-preserved c =
     let at : ℕ → Option Refusal = refusal_at c.args.width c.args.height c.args.spans.now in
-    let is_inside_lem : {t : Bool} → not c.both_on_map-on.result ≡ false → not c.endpoints_differ-differ.result ≡ t → at c.loop-i.i ≡ only_if t (refusal 6 c.loop-i.i) = λ e d. let a = c.args in
-    inside a.width a.height a.spans.now c.loop-i.i c.both_on_map-on.ensures e c.endpoints_differ-differ.ensures d in
-    (search rules, none_below_more at c.loop-i.i c.loop-i.invariant.1 (is_inside_lem c.if-not-on.false-raw c.if-not-differ.false-raw))
+    let a = c.args in
+    (search rules, none_below_more at c.loop-i.i c.loop-i.invariant.1 (inside a.width a.height a.spans.now c.loop-i.i c.both_on_map-on.ensures c.if-not-on.false-raw c.endpoints_differ-differ.ensures c.if-not-differ.false-raw))
 
 pub returns : goal.returns
 unfolding spans_refusal

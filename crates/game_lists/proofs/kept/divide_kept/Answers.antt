@@ -26,7 +26,7 @@ clear_numbers-requires c =
 
 pub overflow_mul-rows : goal.overflow_mul-rows
 overflow_mul-rows c =
-    record { fits = omega (arith, pairs-room _ c.requires.1, c.well-formed.1.1.1.1.1.1.1.1.1.1.1.0.0) }
+    record { fits = omega (arith, pairs-room _ c.requires.1, c.well_formed.1.1.1.1.1.1.1.1.1.1.1.0.0) }
 
 pub clear_numbers-requires-2 : goal.clear_numbers-requires-2
 clear_numbers-requires-2 c =

@@ -60,7 +60,7 @@ pub returns-then-x : goal.returns-then-x
 returns-then-x c = below c.args.x c.if-x.true
 
 pub returns-then-x-2 : goal.returns-then-x-2
-returns-then-x-2 c = at_zero c.args.x (subst T (sym c.well-formed.0.1) tt) c.if-x-2.true
+returns-then-x-2 c = at_zero c.args.x (subst T (sym c.well_formed.0.1) tt) c.if-x-2.true
 
 pub returns-else-x-2 : goal.returns-else-x-2
 returns-else-x-2 c = above c.args.x c.if-x.false c.if-x-2.false

@@ -4,12 +4,9 @@ use lib.Ieee.{of_bits}
 use Rattle.hypotenuse.specs.Contract.{value_of}
 use Rattle.geometry.proofs.numbers.hypot.Goals as goal
 
-pub hypotenuse-requires : goal.hypotenuse-requires
-hypotenuse-requires c = tt
-
 pub returns-in-Root : goal.returns-in-Root
-returns-in-Root c = ap value_of (sym c.value-1.given.1) ∙ c.hypotenuse.ensures.1
+returns-in-Root c = ap value_of (sym c.in-Root.is) ∙ c.hypotenuse.ensures.1
 
 pub returns-in-Refused : goal.returns-in-Refused
 unfolding of_bits
-returns-in-Refused c = ap value_of (sym c.enum_told-1.given.1) ∙ c.hypotenuse.ensures.1
+returns-in-Refused c = ap value_of (sym c.in-Refused.is) ∙ c.hypotenuse.ensures.1

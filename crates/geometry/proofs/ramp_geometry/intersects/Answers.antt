@@ -18,7 +18,7 @@ use Rattle.geometry.proofs.ramp_geometry.intersects.Goals as goal
 -- A side value that a call gave, as its bits are read: z is the result, y what the call ensures of it. With it, what a test of that value answers.
 module _ {y z : ℤ} (fit : mag z < 2 ^ 63) (e : z ≡ y) where
   read : to_z w64 (of_z w64 z) ≡ y
-  read = to_z-of_z (record { sfits = fit }) ∙ e
+  read = to_z-of_z {w = w64} (record { sfits = fit }) ∙ e
 
   touching : (a b p : Position) {t : Bool} → t ≡ (is_zero (to_z w64 (of_z w64 z)) && on_segment a b p) → t ≡ (is_zero y && on_segment a b p)
   touching a b p h = h ∙ ap (λ v. is_zero v && on_segment a b p) read
@@ -38,30 +38,6 @@ cross-right_left_start-requires c = (limits c.requires.1.first, limits c.require
 pub cross-right_left_end-requires : goal.cross-right_left_end-requires
 cross-right_left_end-requires c = (limits c.requires.1.first, limits c.requires.1.second, limits c.requires.0.second)
 
-pub touches-requires : goal.touches-requires
-touches-requires c = tt
-
-pub touches-requires-2 : goal.touches-requires-2
-touches-requires-2 c = tt
-
-pub touches-requires-3 : goal.touches-requires-3
-touches-requires-3 c = tt
-
-pub touches-requires-4 : goal.touches-requires-4
-touches-requires-4 c = tt
-
-pub signum-requires : goal.signum-requires
-signum-requires c = tt
-
-pub signum-requires-2 : goal.signum-requires-2
-signum-requires-2 c = tt
-
-pub signum-requires-3 : goal.signum-requires-3
-signum-requires-3 c = tt
-
-pub signum-requires-4 : goal.signum-requires-4
-signum-requires-4 c = tt
-
 pub returns : goal.returns
 unfolding intersects
 returns c =
@@ -72,9 +48,9 @@ returns c =
     let third = c.cross-right_left_start in
     let fourth = c.cross-right_left_end in
     λ i.
-    touching first.type-inv first.ensures s.a s.b t.a c.touches.ensures i
-    || touching second.type-inv second.ensures s.a s.b t.b c.touches-2.ensures i
-    || touching third.type-inv third.ensures t.a t.b s.a c.touches-3.ensures i
-    || touching fourth.type-inv fourth.ensures t.a t.b s.b c.touches-4.ensures i
-    || not (eqb (sign first.type-inv first.ensures c.signum.ensures i) (sign second.type-inv second.ensures c.signum-2.ensures i))
-    && not (eqb (sign third.type-inv third.ensures c.signum-3.ensures i) (sign fourth.type-inv fourth.ensures c.signum-4.ensures i))
+    touching first.type_inv first.ensures s.a s.b t.a c.touches.ensures i
+    || touching second.type_inv second.ensures s.a s.b t.b c.touches-2.ensures i
+    || touching third.type_inv third.ensures t.a t.b s.a c.touches-3.ensures i
+    || touching fourth.type_inv fourth.ensures t.a t.b s.b c.touches-4.ensures i
+    || not (eqb (sign first.type_inv first.ensures c.signum.ensures i) (sign second.type_inv second.ensures c.signum-2.ensures i))
+    && not (eqb (sign third.type_inv third.ensures c.signum-3.ensures i) (sign fourth.type_inv fourth.ensures c.signum-4.ensures i))

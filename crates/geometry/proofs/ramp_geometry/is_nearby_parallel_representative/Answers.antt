@@ -32,12 +32,6 @@ by_tests left right d e f g h k =
     (λ i. not (f i) && not (g i) && h i && k i)
     ∙ (λ i. not (far_starts (d i) (e i)) && not (far_ends (d i) (e i)) && lt (float 0) (lengths (d i) (e i)) && parallel (d i) (e i))
 
-pub canonical-s-requires : goal.canonical-s-requires
-canonical-s-requires c = tt
-
-pub canonical-t-requires : goal.canonical-t-requires
-canonical-t-requires c = tt
-
 pub offset-requires : goal.offset-requires
 offset-requires c =
     let S : Segment = segment_form c.canonical-s.result in
@@ -50,8 +44,7 @@ pub returns-then-offset : goal.returns-then-offset
 returns-then-offset c =
     let S : Segment = segment_form c.canonical-s.result in
     let T : Segment = segment_form c.canonical-t.result in
-    let answer : {p q u v : Bool} → p ≡ far_starts S T → q ≡ far_ends S T → u ≡ lt (float 0) (lengths S T) → v ≡ parallel S T → (not p && not q && u && v) ≡ is_nearby_parallel_representative (segment_form c.args.left) (segment_form c.args.right) = by_tests (segment_form c.args.left) (segment_form c.args.right) c.canonical-s.ensures c.canonical-t.ensures in
-    answer (sym c.if-offset.true ∙ (λ i. lt (max_representative_offset_is i) (c.offset.ensures i))) refl refl refl
+    by_tests (segment_form c.args.left) (segment_form c.args.right) c.canonical-s.ensures c.canonical-t.ensures (sym c.if-offset.true ∙ (λ i. lt (max_representative_offset_is i) (c.offset.ensures i))) refl refl refl
 
 pub offset-requires-2 : goal.offset-requires-2
 offset-requires-2 c =
@@ -65,9 +58,8 @@ pub returns-then-offset-2 : goal.returns-then-offset-2
 returns-then-offset-2 c =
     let S : Segment = segment_form c.canonical-s.result in
     let T : Segment = segment_form c.canonical-t.result in
-    let answer : {p q u v : Bool} → p ≡ far_starts S T → q ≡ far_ends S T → u ≡ lt (float 0) (lengths S T) → v ≡ parallel S T → (not p && not q && u && v) ≡ is_nearby_parallel_representative (segment_form c.args.left) (segment_form c.args.right) = by_tests (segment_form c.args.left) (segment_form c.args.right) c.canonical-s.ensures c.canonical-t.ensures in
     let near-starts : false ≡ far_starts S T = sym c.if-offset.false ∙ (λ i. lt (max_representative_offset_is i) (c.offset.ensures i)) in
-    answer near-starts (sym c.if-offset-2.true ∙ (λ i. lt (max_representative_offset_is i) (c.offset-2.ensures i))) refl refl
+    by_tests (segment_form c.args.left) (segment_form c.args.right) c.canonical-s.ensures c.canonical-t.ensures near-starts (sym c.if-offset-2.true ∙ (λ i. lt (max_representative_offset_is i) (c.offset-2.ensures i))) refl refl
 
 pub length-requires : goal.length-requires
 length-requires c =
@@ -93,8 +85,7 @@ pub returns : goal.returns
 returns c =
     let S : Segment = segment_form c.canonical-s.result in
     let T : Segment = segment_form c.canonical-t.result in
-    let answer : {p q u v : Bool} → p ≡ far_starts S T → q ≡ far_ends S T → u ≡ lt (float 0) (lengths S T) → v ≡ parallel S T → (not p && not q && u && v) ≡ is_nearby_parallel_representative (segment_form c.args.left) (segment_form c.args.right) = by_tests (segment_form c.args.left) (segment_form c.args.right) c.canonical-s.ensures c.canonical-t.ensures in
     let near-starts : false ≡ far_starts S T = sym c.if-offset.false ∙ (λ i. lt (max_representative_offset_is i) (c.offset.ensures i)) in
     let product : mul binary64 c.length.result c.length-2.result ≡ lengths S T = λ i. mul binary64 (c.length.ensures i) (c.length-2.ensures i) in
-    answer near-starts (sym c.if-offset-2.false ∙ (λ i. lt (max_representative_offset_is i) (c.offset-2.ensures i))) (λ i. lt (zero_is i) (product i))
+    by_tests (segment_form c.args.left) (segment_form c.args.right) c.canonical-s.ensures c.canonical-t.ensures near-starts (sym c.if-offset-2.false ∙ (λ i. lt (max_representative_offset_is i) (c.offset-2.ensures i))) (λ i. lt (zero_is i) (product i))
     ((λ i. le (min_parallel_cosine_is i) (c.cosine.ensures i)) ∙ (λ i. le min_parallel_cosine (div binary64 (fabs (dot_of S T)) (product i))))

@@ -8,5 +8,5 @@ fabs-requires c = tt
 
 pub returns : goal.returns
 returns c =
-    quotient-of (sub binary64) c.args.ramp-length c.difference.ensures c.difference-2.ensures
+    quotient-of (sub binary64) c.args.ramp_length c.difference.ensures c.difference-2.ensures
     c.difference-3.ensures c.difference-4.ensures c.fabs.ensures

@@ -35,5 +35,5 @@ fmax-requires-2 c = tt
 
 pub returns : goal.returns
 returns c =
-    by_parts c.args.ramp-length c.project-start.ensures c.project-end.ensures c.fmin-candidate_min.ensures c.fmax-candidate_max.ensures
+    by_parts c.args.ramp_length c.project-start.ensures c.project-end.ensures c.fmin-candidate_min.ensures c.fmax-candidate_max.ensures
     c.fmin.ensures c.fmax.ensures c.fmax-2.ensures

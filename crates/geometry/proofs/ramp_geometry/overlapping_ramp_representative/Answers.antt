@@ -32,12 +32,6 @@ by_tests candidate ramp d e f g h k l =
     (λ i. not (f i) && not (g i) && not (h i) && not (k i) && l i)
     ∙ (λ i. not (is_point (e i)) && not (is_point (d i)) && not (askew (d i) (e i)) && not (aside (d i) (e i)) && beside (d i) (e i))
 
-pub canonical-s-requires : goal.canonical-s-requires
-canonical-s-requires c = tt
-
-pub canonical-t-requires : goal.canonical-t-requires
-canonical-t-requires c = tt
-
 pub length-ramp_length-requires : goal.length-ramp_length-requires
 length-ramp_length-requires c =
     let T : Segment = segment_form c.canonical-t.result in
@@ -54,16 +48,14 @@ pub returns-then-ramp_length : goal.returns-then-ramp_length
 returns-then-ramp_length c =
     let S : Segment = segment_form c.canonical-s.result in
     let T : Segment = segment_form c.canonical-t.result in
-    let answer : {p q u v w : Bool} → p ≡ is_point T → q ≡ is_point S → u ≡ askew S T → v ≡ aside S T → w ≡ beside S T → (not p && not q && not u && not v && w) ≡ overlapping_ramp_representative (segment_form c.args.candidate) (segment_form c.args.ramp) = by_tests (segment_form c.args.candidate) (segment_form c.args.ramp) c.canonical-s.ensures c.canonical-t.ensures in
-    answer (sym c.if-ramp_length.true ∙ (λ i. eq (c.length-ramp_length.ensures i) (zero_is i))) refl refl refl refl
+    by_tests (segment_form c.args.candidate) (segment_form c.args.ramp) c.canonical-s.ensures c.canonical-t.ensures (sym c.if-ramp_length.true ∙ (λ i. eq (c.length-ramp_length.ensures i) (zero_is i))) refl refl refl refl
 
 pub returns-then-candidate_length : goal.returns-then-candidate_length
 returns-then-candidate_length c =
     let S : Segment = segment_form c.canonical-s.result in
     let T : Segment = segment_form c.canonical-t.result in
-    let answer : {p q u v w : Bool} → p ≡ is_point T → q ≡ is_point S → u ≡ askew S T → v ≡ aside S T → w ≡ beside S T → (not p && not q && not u && not v && w) ≡ overlapping_ramp_representative (segment_form c.args.candidate) (segment_form c.args.ramp) = by_tests (segment_form c.args.candidate) (segment_form c.args.ramp) c.canonical-s.ensures c.canonical-t.ensures in
     let long-ramp : false ≡ is_point T = sym c.if-ramp_length.false ∙ (λ i. eq (c.length-ramp_length.ensures i) (zero_is i)) in
-    answer long-ramp (sym c.if-candidate_length.true ∙ (λ i. eq (c.length-candidate_length.ensures i) (zero_is i))) refl refl refl
+    by_tests (segment_form c.args.candidate) (segment_form c.args.ramp) c.canonical-s.ensures c.canonical-t.ensures long-ramp (sym c.if-candidate_length.true ∙ (λ i. eq (c.length-candidate_length.ensures i) (zero_is i))) refl refl refl
 
 pub cosine-requires : goal.cosine-requires
 cosine-requires c =
@@ -77,14 +69,13 @@ pub returns-then-cosine : goal.returns-then-cosine
 returns-then-cosine c =
     let S : Segment = segment_form c.canonical-s.result in
     let T : Segment = segment_form c.canonical-t.result in
-    let answer : {p q u v w : Bool} → p ≡ is_point T → q ≡ is_point S → u ≡ askew S T → v ≡ aside S T → w ≡ beside S T → (not p && not q && not u && not v && w) ≡ overlapping_ramp_representative (segment_form c.args.candidate) (segment_form c.args.ramp) = by_tests (segment_form c.args.candidate) (segment_form c.args.ramp) c.canonical-s.ensures c.canonical-t.ensures in
     let long-ramp : false ≡ is_point T = sym c.if-ramp_length.false ∙ (λ i. eq (c.length-ramp_length.ensures i) (zero_is i)) in
-    let long-candidate : false ≡ is_point (S = sym c.if-candidate_length.false ∙ (λ i. eq (c.length-candidate_length.ensures i) (zero_is i)) in
+    let long-candidate : false ≡ is_point S = sym c.if-candidate_length.false ∙ (λ i. eq (c.length-candidate_length.ensures i) (zero_is i)) in
     let ramp-length_is : c.length-ramp_length.result ≡ length_of T = c.length-ramp_length.ensures in
     let candidate-length_is : c.length-candidate_length.result ≡ length_of S = c.length-candidate_length.ensures in
     let askew_is : lt c.cosine.result (of_bits binary64 4606875505927962389) ≡ askew S T = (λ i. lt (c.cosine.ensures i) (min_parallel_cosine_is i))
     ∙ (λ i. lt (div binary64 (fabs (dot_of T S)) (mul binary64 (ramp-length_is i) (candidate-length_is i))) min_parallel_cosine) in
-    answer long-ramp long-candidate (sym c.if-cosine.true ∙ askew_is) refl refl
+    by_tests (segment_form c.args.candidate) (segment_form c.args.ramp) c.canonical-s.ensures c.canonical-t.ensures long-ramp long-candidate (sym c.if-cosine.true ∙ askew_is) refl refl
 
 pub max_offset-requires : goal.max_offset-requires
 max_offset-requires c =
@@ -92,21 +83,20 @@ max_offset-requires c =
     let T : Segment = segment_form c.canonical-t.result in
     let s_in : PixelSegment S = made-canonical c.canonical-s.ensures c.requires.0 in
     let t_in : PixelSegment T = made-canonical c.canonical-t.ensures c.requires.1 in
-    (s_in, t_in
+    (s_in, t_in)
 
 pub returns-then-max_offset : goal.returns-then-max_offset
 returns-then-max_offset c =
     let S : Segment = segment_form c.canonical-s.result in
     let T : Segment = segment_form c.canonical-t.result in
-    let answer : {p q u v w : Bool} → p ≡ is_point T → q ≡ is_point S → u ≡ askew S T → v ≡ aside S T → w ≡ beside S T → (not p && not q && not u && not v && w) ≡ overlapping_ramp_representative (segment_form c.args.candidate) (segment_form c.args.ramp) = by_tests (segment_form c.args.candidate) (segment_form c.args.ramp) c.canonical-s.ensures c.canonical-t.ensures in
     let long-ramp : false ≡ is_point T = sym c.if-ramp_length.false ∙ (λ i. eq (c.length-ramp_length.ensures i) (zero_is i)) in
-    let long-candidate : false ≡ is_point (S = sym c.if-candidate_length.false ∙ (λ i. eq (c.length-candidate_length.ensures i) (zero_is i)) in
+    let long-candidate : false ≡ is_point S = sym c.if-candidate_length.false ∙ (λ i. eq (c.length-candidate_length.ensures i) (zero_is i)) in
     let ramp-length_is : c.length-ramp_length.result ≡ length_of T = c.length-ramp_length.ensures in
     let candidate-length_is : c.length-candidate_length.result ≡ length_of S = c.length-candidate_length.ensures in
     let askew_is : lt c.cosine.result (of_bits binary64 4606875505927962389) ≡ askew S T = (λ i. lt (c.cosine.ensures i) (min_parallel_cosine_is i))
     ∙ (λ i. lt (div binary64 (fabs (dot_of T S)) (mul binary64 (ramp-length_is i) (candidate-length_is i))) min_parallel_cosine) in
-    let aside_is : lt (of_bits binary64 0x4050000000000000) c.max_offset.result ≡ aside (S (T = (λ i. lt (max_overlay_normal_offset_is i) (c.max_offset.ensures i)) ∙ (λ i. lt max_overlay_normal_offset (max_offset (S (T (ramp-length_is i))) in
-    answer long-ramp long-candidate (sym c.if-cosine.false ∙ askew_is) (sym c.if-max_offset.true ∙ aside_is) refl
+    let aside_is : lt (of_bits binary64 0x4050000000000000) c.max_offset.result ≡ aside S T = (λ i. lt (max_overlay_normal_offset_is i) (c.max_offset.ensures i)) ∙ (λ i. lt max_overlay_normal_offset (max_offset S T (ramp-length_is i))) in
+    by_tests (segment_form c.args.candidate) (segment_form c.args.ramp) c.canonical-s.ensures c.canonical-t.ensures long-ramp long-candidate (sym c.if-cosine.false ∙ askew_is) (sym c.if-max_offset.true ∙ aside_is) refl
 
 pub overlap-requires : goal.overlap-requires
 overlap-requires c =
@@ -114,7 +104,7 @@ overlap-requires c =
     let T : Segment = segment_form c.canonical-t.result in
     let s_in : PixelSegment S = made-canonical c.canonical-s.ensures c.requires.0 in
     let t_in : PixelSegment T = made-canonical c.canonical-t.ensures c.requires.1 in
-    (s_in, t_in
+    (s_in, t_in)
 
 pub fmin-requires : goal.fmin-requires
 fmin-requires c = tt
@@ -123,14 +113,13 @@ pub returns : goal.returns
 returns c =
     let S : Segment = segment_form c.canonical-s.result in
     let T : Segment = segment_form c.canonical-t.result in
-    let answer : {p q u v w : Bool} → p ≡ is_point T → q ≡ is_point S → u ≡ askew S T → v ≡ aside S T → w ≡ beside S T → (not p && not q && not u && not v && w) ≡ overlapping_ramp_representative (segment_form c.args.candidate) (segment_form c.args.ramp) = by_tests (segment_form c.args.candidate) (segment_form c.args.ramp) c.canonical-s.ensures c.canonical-t.ensures in
     let long-ramp : false ≡ is_point T = sym c.if-ramp_length.false ∙ (λ i. eq (c.length-ramp_length.ensures i) (zero_is i)) in
-    let long-candidate : false ≡ is_point (S = sym c.if-candidate_length.false ∙ (λ i. eq (c.length-candidate_length.ensures i) (zero_is i)) in
+    let long-candidate : false ≡ is_point S = sym c.if-candidate_length.false ∙ (λ i. eq (c.length-candidate_length.ensures i) (zero_is i)) in
     let ramp-length_is : c.length-ramp_length.result ≡ length_of T = c.length-ramp_length.ensures in
     let candidate-length_is : c.length-candidate_length.result ≡ length_of S = c.length-candidate_length.ensures in
     let askew_is : lt c.cosine.result (of_bits binary64 4606875505927962389) ≡ askew S T = (λ i. lt (c.cosine.ensures i) (min_parallel_cosine_is i))
     ∙ (λ i. lt (div binary64 (fabs (dot_of T S)) (mul binary64 (ramp-length_is i) (candidate-length_is i))) min_parallel_cosine) in
-    let aside_is : lt (of_bits binary64 0x4050000000000000) c.max_offset.result ≡ aside (S (T = (λ i. lt (max_overlay_normal_offset_is i) (c.max_offset.ensures i)) ∙ (λ i. lt max_overlay_normal_offset (max_offset (S (T (ramp-length_is i))) in
-    answer long-ramp long-candidate (sym c.if-cosine.false ∙ askew_is) (sym c.if-max_offset.false ∙ aside_is)
+    let aside_is : lt (of_bits binary64 0x4050000000000000) c.max_offset.result ≡ aside S T = (λ i. lt (max_overlay_normal_offset_is i) (c.max_offset.ensures i)) ∙ (λ i. lt max_overlay_normal_offset (max_offset S T (ramp-length_is i))) in
+    by_tests (segment_form c.args.candidate) (segment_form c.args.ramp) c.canonical-s.ensures c.canonical-t.ensures long-ramp long-candidate (sym c.if-cosine.false ∙ askew_is) (sym c.if-max_offset.false ∙ aside_is)
     ((λ i. le (mul binary64 (min_overlay_fraction_is i) (c.fmin.ensures i)) (c.overlap.ensures i))
-    ∙ (λ i. le (mul binary64 min_overlay_fraction (fmin (ramp-length_is i) (candidate-length_is i))) (overlap_of (S (T (ramp-length_is i))))
+    ∙ (λ i. le (mul binary64 min_overlay_fraction (fmin (ramp-length_is i) (candidate-length_is i))) (overlap_of S T (ramp-length_is i))))

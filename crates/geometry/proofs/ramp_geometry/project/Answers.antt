@@ -7,4 +7,4 @@ returns c =
     λ i.
     div binary64
     (add binary64 (mul binary64 (c.difference.ensures i) (c.difference-2.ensures i)) (mul binary64 (c.difference-3.ensures i) (c.difference-4.ensures i)))
-    c.args.ramp-length
+    c.args.ramp_length

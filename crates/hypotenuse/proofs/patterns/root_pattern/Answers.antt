@@ -36,44 +36,44 @@ magnitude_of : (b e : ℕ) → 2 ^ 52 ≤ b → e ≡ b / 2 ^ 52 - 1 → (b % 2 
 magnitude_of b e h p = (λ i. add_comm (b % 2 ^ 52) (2 ^ 52) i * 2 ^ p i) ∙ sym (magnitude-normal b h)
 
 pub returns-then-larger-eq0 : goal.returns-then-larger-eq0
-returns-then-larger-eq0 c = (both_zero c.args.larger c.args.smaller c.if-larger-eq0.true c.requires.1.1, omega arith)
+returns-then-larger-eq0 c = (both_zero c.args.larger c.args.smaller c.if-larger-eq0.true c.requires.smaller_within, omega arith)
 
 pub returns-then-gap-gt-MAX_GAP : goal.returns-then-gap-gt-MAX_GAP
 returns-then-gap-gt-MAX_GAP c =
-    let n = normal c.args.larger c.requires.0 c.if-larger-eq0.false in
+    let n = normal c.args.larger c.requires.larger_in_range c.if-larger-eq0.false in
     (apart c.args.larger c.args.smaller n.1 c.if-gap-gt-MAX_GAP.true, omega arith)
 
 pub short_root-short-requires : goal.short_root-short-requires
 short_root-short-requires c =
-    let n = normal c.args.larger c.requires.0 c.if-larger-eq0.false in
-    let m = normal-near c.args.larger c.args.smaller c.requires.1.0 n.0 c.if-gap-gt-MAX_GAP.false in
-    omega (arith, c.requires.1.1)
+    let n = normal c.args.larger c.requires.larger_in_range c.if-larger-eq0.false in
+    let m = normal-near c.args.larger c.args.smaller c.requires.smaller_in_range n.0 c.if-gap-gt-MAX_GAP.false in
+    omega (arith, c.requires.smaller_within)
 
 pub returns-then-short-gt0 : goal.returns-then-short-gt0
 returns-then-short-gt0 c = c.short_root-short.ensures c.if-short-gt0.true
 
 pub guess-start-requires : goal.guess-start-requires
 guess-start-requires c =
-    let n = normal c.args.larger c.requires.0 c.if-larger-eq0.false in
-    omega (arith, c.requires.1.1)
+    let n = normal c.args.larger c.requires.larger_in_range c.if-larger-eq0.false in
+    omega (arith, c.requires.smaller_within)
 
 pub overflow_sub-top : goal.overflow_sub-top
 overflow_sub-top c =
-    let n = normal c.args.larger c.requires.0 c.if-larger-eq0.false in
+    let n = normal c.args.larger c.requires.larger_in_range c.if-larger-eq0.false in
     omega arith
 
 pub near_pattern-requires : goal.near_pattern-requires
 near_pattern-requires c =
-    let n = normal c.args.larger c.requires.0 c.if-larger-eq0.false in
-    let m = normal-near c.args.larger c.args.smaller c.requires.1.0 n.0 c.if-gap-gt-MAX_GAP.false in
-    omega (arith, c.requires.1.1)
+    let n = normal c.args.larger c.requires.larger_in_range c.if-larger-eq0.false in
+    let m = normal-near c.args.larger c.args.smaller c.requires.smaller_in_range n.0 c.if-gap-gt-MAX_GAP.false in
+    omega (arith, c.requires.smaller_within)
 
 pub returns : goal.returns
 returns c =
     let b = c.args.larger in
     let s = c.args.smaller in
-    let n = normal b c.requires.0 c.if-larger-eq0.false in
-    let m = normal-near b s c.requires.1.0 n.0 c.if-gap-gt-MAX_GAP.false in
+    let n = normal b c.requires.larger_in_range c.if-larger-eq0.false in
+    let m = normal-near b s c.requires.smaller_in_range n.0 c.if-gap-gt-MAX_GAP.false in
     let x = magnitude_of b (b / 2 ^ 52 - 1) (omega arith) refl in
-    let y = magnitude_of s (b / 2 ^ 52 - 1 - (b / 2 ^ 52 - s / 2 ^ 52)) (omega arith) (omega (arith, c.requires.1.1)) in
+    let y = magnitude_of s (b / 2 ^ 52 - 1 - (b / 2 ^ 52 - s / 2 ^ 52)) (omega arith) (omega (arith, c.requires.smaller_within)) in
     (c.near_pattern.ensures.0 ∙ (λ i. root_of (x i * x i + y i * y i)), c.near_pattern.ensures.1)

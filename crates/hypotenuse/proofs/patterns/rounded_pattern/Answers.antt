@@ -6,6 +6,7 @@ use native.Mathlib.Omega.{arith}
 use Rattle.laws.specs.NumberLaws.Comparisons.{le_or_lt}
 use Rattle.hypotenuse.specs.Rounding.{Rounded, down, up, tie}
 use Rattle.hypotenuse.proofs.patterns.rounded_pattern.Goals as goal
+use Rattle.hypotenuse.proofs.patterns.rounded_pattern.Goals.{then-extra-gt0, else-extra-gt0}
 
 -- `more` says whether anything is left
 abbrev Says : ℕ → ℕ → Type 0
@@ -33,35 +34,35 @@ long k t extra more r s e = elim (le_or_lt 2 (t % 4)) [
 
 pub overflow_add-digits : goal.overflow_add-digits
 overflow_add-digits c =
-    let says : Says c.args.extra c.if-extra-gt0.more = ⊎_elim (λ w. inl (omega arith)) (λ w. inr (omega arith)) c.if-extra-gt0.branch in
+    let says : Says c.args.extra c.if-extra-gt0.more = elim c.if-extra-gt0.branch [ then-extra-gt0 w ↦ inl (omega arith) | else-extra-gt0 w ↦ inr (omega arith) ] in
     omega (arith, at_most_one _ _ says)
 
 pub overflow_add-result : goal.overflow_add-result
 overflow_add-result c =
-    let says : Says c.args.extra c.if-extra-gt0.more = ⊎_elim (λ w. inl (omega arith)) (λ w. inr (omega arith)) c.if-extra-gt0.branch in
+    let says : Says c.args.extra c.if-extra-gt0.more = elim c.if-extra-gt0.branch [ then-extra-gt0 w ↦ inl (omega arith) | else-extra-gt0 w ↦ inr (omega arith) ] in
     omega (arith, at_most_one _ _ says)
 
 pub overflow_add-result-then-t-lt-LONG_ROOT : goal.overflow_add-result-then-t-lt-LONG_ROOT
 overflow_add-result-then-t-lt-LONG_ROOT c =
-    let says : Says c.args.extra c.if-extra-gt0.more = ⊎_elim (λ w. inl (omega arith)) (λ w. inr (omega arith)) c.if-extra-gt0.branch in
+    let says : Says c.args.extra c.if-extra-gt0.more = elim c.if-extra-gt0.branch [ then-extra-gt0 w ↦ inl (omega arith) | else-extra-gt0 w ↦ inr (omega arith) ] in
     omega (arith, at_most_one _ _ says)
 
 pub overflow_add-result-else-t-lt-LONG_ROOT-2 : goal.overflow_add-result-else-t-lt-LONG_ROOT-2
 overflow_add-result-else-t-lt-LONG_ROOT-2 c =
-    let says : Says c.args.extra c.if-extra-gt0.more = ⊎_elim (λ w. inl (omega arith)) (λ w. inr (omega arith)) c.if-extra-gt0.branch in
+    let says : Says c.args.extra c.if-extra-gt0.more = elim c.if-extra-gt0.branch [ then-extra-gt0 w ↦ inl (omega arith) | else-extra-gt0 w ↦ inr (omega arith) ] in
     omega (arith, at_most_one _ _ says)
 
 pub overflow_add-result-else-t-lt-LONG_ROOT-3 : goal.overflow_add-result-else-t-lt-LONG_ROOT-3
 overflow_add-result-else-t-lt-LONG_ROOT-3 c =
-    let says : Says c.args.extra c.if-extra-gt0.more = ⊎_elim (λ w. inl (omega arith)) (λ w. inr (omega arith)) c.if-extra-gt0.branch in
+    let says : Says c.args.extra c.if-extra-gt0.more = elim c.if-extra-gt0.branch [ then-extra-gt0 w ↦ inl (omega arith) | else-extra-gt0 w ↦ inr (omega arith) ] in
     omega (arith, at_most_one _ _ says)
 
 pub returns-then-t-lt-LONG_ROOT : goal.returns-then-t-lt-LONG_ROOT
 returns-then-t-lt-LONG_ROOT c =
-    let says : Says c.args.extra c.if-extra-gt0.more = ⊎_elim (λ w. inl (omega arith)) (λ w. inr (omega arith)) c.if-extra-gt0.branch in
+    let says : Says c.args.extra c.if-extra-gt0.more = elim c.if-extra-gt0.branch [ then-extra-gt0 w ↦ inl (omega arith) | else-extra-gt0 w ↦ inr (omega arith) ] in
     (λ h. short _ _ _ _ _ says (omega arith), λ h. absurd (omega arith))
 
 pub returns-else-t-lt-LONG_ROOT : goal.returns-else-t-lt-LONG_ROOT
 returns-else-t-lt-LONG_ROOT c =
-    let says : Says c.args.extra c.if-extra-gt0.more = ⊎_elim (λ w. inl (omega arith)) (λ w. inr (omega arith)) c.if-extra-gt0.branch in
+    let says : Says c.args.extra c.if-extra-gt0.more = elim c.if-extra-gt0.branch [ then-extra-gt0 w ↦ inl (omega arith) | else-extra-gt0 w ↦ inr (omega arith) ] in
     (λ h. absurd (omega arith), λ h. long _ _ _ _ _ says (omega arith))

@@ -2,11 +2,10 @@
 -- The measure is what is left of the 55 turns. Assumes nothing.
 use mathlib.Core.Path.{◌≡◌, sym, ap, ◌∙◌, subst}
 use mathlib.Core.List.{[], ◌∷◌}
-use mathlib.Core.Logic.{⊎_elim}
 use Prim.Native.Nat.{ℕ, suc, ◌+◌, ◌-◌, ◌*◌, ◌/◌, ◌^◌, ◌≤◌, ◌<◌}
 use native.Mathlib.Nat.{pow-succ'}
 use native.Mathlib.Omega.{arith}
-use borrow.Author.Tests.{ltb-true, ltb-false, not-true, not-false}
+use borrow.Author.Tests.{ltb-true, ltb-false}
 use lib.ListN.{get_or}
 use lib.Pow.{pow_pos}
 use Rattle.laws.specs.ListLaws.Lists.{done, more}
@@ -14,6 +13,7 @@ use Rattle.laws.specs.NumberLaws.Squares.{square_next}
 use Rattle.laws.specs.NumberLaws.Words.{words_lt}
 use Rattle.hypotenuse.specs.Wide.{wide}
 use Rattle.hypotenuse.proofs.root.digit_root.Goals as goal
+use Rattle.hypotenuse.proofs.root.digit_root.Goals.{then-not-less, else-not-less}
 
 -- `width` is even while a turn is left
 halved : (turn : ℕ) → turn < 55 → 2 ^ (55 - turn) ≡ 2 * 2 ^ (55 - (turn + 1))
@@ -67,10 +67,14 @@ loop-preserved c =
     let even : l.width ≡ half + half = omega arith in
     let s = c.square in
     let t = c.less in
-    ⊎_elim
-    (λ w. let u = upper F l.root l.width half c.if-not-less.root even l.invariant.1 (omega (arith, ltb-false F (wide s.result) (sym t.ensures ∙ not-true t.result w.0.taken), s.ensures.0)) w.1 in (u.0, u.1, omega arith, omega arith, omega arith))
-    (λ w. let u = lower F l.root l.width half c.if-not-less.root even l.invariant.0 (omega (arith, ltb-true F (wide s.result) (sym t.ensures ∙ not-false t.result w.0.left), s.ensures.0)) w.1 in (u.0, u.1, omega arith, omega arith, omega arith))
-    c.if-not-less.branch
+    elim c.if-not-less.branch [
+      | then-not-less w ↦
+          let u = upper F l.root l.width half c.if-not-less.root even l.invariant.1 (omega (arith, ltb-false F (wide s.result) (sym t.ensures ∙ w.if-not-less.true), s.ensures.0)) w.root-is in
+          (u.0, u.1, omega arith, omega arith, omega arith)
+      | else-not-less w ↦
+          let u = lower F l.root l.width half c.if-not-less.root even l.invariant.0 (omega (arith, ltb-true F (wide s.result) (sym t.ensures ∙ w.if-not-less.false), s.ensures.0)) w.root-is in
+          (u.0, u.1, omega arith, omega arith, omega arith)
+    ]
 
 pub square-requires-2 : goal.square-requires-2
 square-requires-2 c = omega (arith, pow_pos (55 - c.loop.counter))

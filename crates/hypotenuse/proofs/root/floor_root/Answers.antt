@@ -8,10 +8,10 @@ use Rattle.hypotenuse.proofs.root.floor_root.Goals as goal
 
 pub overflow_sub-f : goal.overflow_sub-f
 overflow_sub-f c =
-    let not_less : wide c.square-s.result ≤ wide c.args.t1 = ltb-false (wide c.args.t1) (wide c.square-s.result) (sym c.less.ensures ∙ c.if-less.false) in
+    let not_less : wide c.square-s.result ≤ wide c.args.f = ltb-false (wide c.args.f) (wide c.square-s.result) (sym c.less.ensures ∙ c.if-less.false) in
     omega (arith, not_less)
 
 pub difference-requires : goal.difference-requires
 difference-requires c =
-    let not_less : wide c.square-s.result ≤ wide c.args.t1 = ltb-false (wide c.args.t1) (wide c.square-s.result) (sym c.less.ensures ∙ c.if-less.false) in
+    let not_less : wide c.square-s.result ≤ wide c.args.f = ltb-false (wide c.args.f) (wide c.square-s.result) (sym c.less.ensures ∙ c.if-less.false) in
     omega (arith, not_less)

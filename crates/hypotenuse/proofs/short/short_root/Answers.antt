@@ -30,6 +30,9 @@ found b s top up m root normal order most few-b few-s high up_is up_le m-is near
       omega (arith, near.most),
     )
 
+positive : (r : ℕ) → (r ≡ 0 → ⊥) → 0 < r
+positive r n = omega arith
+
 pub returns-then-larger-gt0 : goal.returns-then-larger-gt0
 returns-then-larger-gt0 c h = none h
 
@@ -47,18 +50,12 @@ returns-then-root-eq0 c h = none h
 
 pub overflow_add-result : goal.overflow_add-result
 overflow_add-result c =
-    let checked : NearestWhole (c.squares.result * 2 ^ 44) c.nearest_root-root.result = c.nearest_root-root.ensures (positive _ c.if-root-eq0.false)
-  where
-    positive : (r : ℕ) → (r ≡ 0 → ⊥) → 0 < r
-    positive r n = omega arith in
+    let checked : NearestWhole (c.squares.result * 2 ^ 44) c.nearest_root-root.result = c.nearest_root-root.ensures (positive _ c.if-root-eq0.false) in
     omega (arith, checked.most)
 
 pub returns : goal.returns
 returns c h =
-    let checked : NearestWhole (c.squares.result * 2 ^ 44) c.nearest_root-root.result = c.nearest_root-root.ensures (positive _ c.if-root-eq0.false)
-  where
-    positive : (r : ℕ) → (r ≡ 0 → ⊥) → 0 < r
-    positive r n = omega arith in
+    let checked : NearestWhole (c.squares.result * 2 ^ 44) c.nearest_root-root.result = c.nearest_root-root.ensures (positive _ c.if-root-eq0.false) in
     found c.args.larger c.args.smaller (c.guess-near.result / 2 ^ 52) _ c.squares.result c.nearest_root-root.result
     c.requires.0 c.requires.1 c.requires.2 (omega arith) (omega arith) c.if-top-larger.false refl c.if-up-gt14.false
     c.squares.ensures checked

@@ -5,6 +5,7 @@ use Prim.Native.Nat.{ℕ, ◌+◌, ◌*◌, ◌≤◌, ◌<◌}
 use native.Mathlib.Omega.{arith}
 use Rattle.hypotenuse.specs.Short.{Steps, stay, next, second}
 use Rattle.hypotenuse.proofs.short.steps.Goals as goal
+use Rattle.hypotenuse.proofs.short.steps.Goals.{then-e-b, else-e-b, then-e-b-2, else-e-b-2}
 
 -- n says whether e is above the limit
 abbrev Says : ℕ → ℕ → ℕ → Type 0
@@ -21,12 +22,12 @@ counted b e n m (inr p) (inr q) = stay p.0 (omega arith)
 
 pub overflow_add-result : goal.overflow_add-result
 overflow_add-result c =
-    let first : Says (2 * c.args.b) c.args.e c.if-e-b.one = ⊎_elim (λ w. inl (omega arith)) (λ w. inr (omega arith)) c.if-e-b.branch in
-    let last : Says (4 * c.args.b + 2) c.args.e c.if-e-b-2.two = ⊎_elim (λ w. inl (omega arith)) (λ w. inr (omega arith)) c.if-e-b-2.branch in
+    let first : Says (2 * c.args.b) c.args.e c.if-e-b.one = elim c.if-e-b.branch [ then-e-b w ↦ inl (omega arith) | else-e-b w ↦ inr (omega arith) ] in
+    let last : Says (4 * c.args.b + 2) c.args.e c.if-e-b-2.two = elim c.if-e-b-2.branch [ then-e-b-2 w ↦ inl (omega arith) | else-e-b-2 w ↦ inr (omega arith) ] in
     omega (arith, at_most_one _ _ _ first, at_most_one _ _ _ last)
 
 pub returns : goal.returns
 returns c =
-    let first : Says (2 * c.args.b) c.args.e c.if-e-b.one = ⊎_elim (λ w. inl (omega arith)) (λ w. inr (omega arith)) c.if-e-b.branch in
-    let last : Says (4 * c.args.b + 2) c.args.e c.if-e-b-2.two = ⊎_elim (λ w. inl (omega arith)) (λ w. inr (omega arith)) c.if-e-b-2.branch in
+    let first : Says (2 * c.args.b) c.args.e c.if-e-b.one = elim c.if-e-b.branch [ then-e-b w ↦ inl (omega arith) | else-e-b w ↦ inr (omega arith) ] in
+    let last : Says (4 * c.args.b + 2) c.args.e c.if-e-b-2.two = elim c.if-e-b-2.branch [ then-e-b-2 w ↦ inl (omega arith) | else-e-b-2 w ↦ inr (omega arith) ] in
     counted _ _ _ _ first last

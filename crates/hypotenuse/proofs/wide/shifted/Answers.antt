@@ -48,16 +48,16 @@ overflow_sub-mask c = subst (λ (x : ℕ). 1 ≤ x) (sym (power c.args.n c.requi
 pub overflow_add-result : goal.overflow_add-result
 overflow_add-result c =
     let n = c.args.n in
-    let low = get_or c.args.t1 0 0 in
-    let high = get_or c.args.t1 1 0 in
+    let low = get_or c.args.w 0 0 in
+    let high = get_or c.args.w 1 0 in
     omega (arith, raised n c.requires.1 high, low_lt n c.requires.1 low high c.requires.0)
 
 pub returns : goal.returns
 returns c =
     let n = c.args.n in
     let few = c.requires.1 in
-    let low = get_or c.args.t1 0 0 in
-    let high = get_or c.args.t1 1 0 in (
+    let low = get_or c.args.w 0 0 in
+    let high = get_or c.args.w 1 0 in (
       (λ i. ((0 + high / 2 ^ n) * 2 ^ 56 + (raised n few high i + low / 2 ^ n)) * 2 ^ n + masked n few low i) ∙ rejoined n few low high,
       omega (arith, raised n few high, low_lt n few low high c.requires.0),
       omega (arith, masked n few low, mod-lt low (pow_pos n)),

@@ -9,8 +9,8 @@ use Rattle.hypotenuse.proofs.wide.sum.Goals as goal
 
 pub returns : goal.returns
 returns c =
-    let a0 = get_or c.args.t1 0 0 in
-    let a1 = get_or c.args.t1 1 0 in
-    let b0 = get_or c.args.t2 0 0 in
-    let b1 = get_or c.args.t2 1 0 in
+    let a0 = get_or c.args.a 0 0 in
+    let a1 = get_or c.args.a 1 0 in
+    let b0 = get_or c.args.b 0 0 in
+    let b1 = get_or c.args.b 1 0 in
     (carried-value (2 ^ 56) (a0 + b0) ((a1 + b1) ∷ []) ∙ columns-value (2 ^ 56) (a0 ∷ a1 ∷ []) (b0 ∷ b1 ∷ []), omega arith)

@@ -34,7 +34,7 @@ bounds-owners-i c =
 
 pub spoils-requires : goal.spoils-requires
 spoils-requires c =
-    (c.pre.0, (c.pre.1.0, omega (arith, c.pre.1.1, c.loop-i-test.true)))
+    (c.requires.0, (c.requires.1.0, omega (arith, c.requires.1.1, c.loop-i-test.true)))
 
 pub returns-then-spoils : goal.returns-then-spoils
 returns-then-spoils c =

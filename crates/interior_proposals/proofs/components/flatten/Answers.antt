@@ -9,24 +9,25 @@ use Rattle.interior_proposals.proofs.components.flatten.Goals as goal
 
 pub loop-k-init : goal.loop-k-init
 loop-k-init c =
-    let flat : Flat c.pre.0 c.loop-k.parents c.loop-k.k = c.loop-k.invariant.2 c.pre.0 c.pre.1.0 c.pre.1.1 in
     (search rules, beyond_same _ _, λ cs P e. record { parented = P; flat = λ x a b. absurd (omega arith) })
 
 pub bounds-parents-k : goal.bounds-parents-k
 bounds-parents-k c =
-    let within : c.loop-k.k + 1 < length c.pre.0 = omega (arith, c.pre.1.1, c.loop-k-test.true) in
+    let flat : Flat c.requires.0 c.loop-k.parents c.loop-k.k = c.loop-k.invariant.2 c.requires.0 c.requires.1.0 c.requires.1.1 in
+    let within : c.loop-k.k + 1 < length c.requires.0 = omega (arith, c.requires.1.1, c.loop-k-test.true) in
     let inside : c.loop-k.k < length c.loop-k.parents = omega (arith, within, flat.parented.long) in
     inside
 
 pub parent_of-q-requires : goal.parent_of-q-requires
 parent_of-q-requires c =
-    let within : c.loop-k.k + 1 < length c.pre.0 = omega (arith, c.pre.1.1, c.loop-k-test.true) in
-    let flat : Flat c.pre.0 c.loop-k.parents c.loop-k.k = c.loop-k.invariant.2 c.pre.0 c.pre.1.0 c.pre.1.1 in
+    let within : c.loop-k.k + 1 < length c.requires.0 = omega (arith, c.requires.1.1, c.loop-k-test.true) in
+    let flat : Flat c.requires.0 c.loop-k.parents c.loop-k.k = c.loop-k.invariant.2 c.requires.0 c.requires.1.0 c.requires.1.1 in
     flat-parent flat within
 
 pub bounds-parents-k-in-loop-k : goal.bounds-parents-k-in-loop-k
 bounds-parents-k-in-loop-k c =
-    let within : c.loop-k.k + 1 < length c.pre.0 = omega (arith, c.pre.1.1, c.loop-k-test.true) in
+    let flat : Flat c.requires.0 c.loop-k.parents c.loop-k.k = c.loop-k.invariant.2 c.requires.0 c.requires.1.0 c.requires.1.1 in
+    let within : c.loop-k.k + 1 < length c.requires.0 = omega (arith, c.requires.1.1, c.loop-k-test.true) in
     let inside : c.loop-k.k < length c.loop-k.parents = omega (arith, within, flat.parented.long) in
     inside
 
@@ -42,4 +43,7 @@ pub shape_of-parents : goal.shape_of-parents
 shape_of-parents c = c.loop-k.invariant.1.long
 
 pub returns : goal.returns
-returns c = (λ cs P e. flat-end (c.loop-k.invariant.2 cs P e) c.loop-k-test.false e, c.loop-k.invariant.1)
+returns c = record {
+      named = λ cs P e. flat-end (c.loop-k.invariant.2 cs P e) c.loop-k-test.false e;
+      beyond = c.loop-k.invariant.1;
+    }

@@ -11,7 +11,10 @@ join_pairs-requires c =
     let l = c.requires.1.1.0 in
     let w = shown-stretch g c.args.i l in
     let f = c.requires.1.1.1 in
-    ((w.rising, w.long), (f.0, (f.1.0, rows-placed g c.args.i l (length f.0) f.1.1)))
+    record {
+      sizes = (w.rising, w.long);
+      joinable = (f.0, (f.1.0, rows-placed g c.args.i l (length f.0) f.1.1));
+    }
 
 pub returns-then-is_ordinary : goal.returns-then-is_ordinary
 returns-then-is_ordinary c =

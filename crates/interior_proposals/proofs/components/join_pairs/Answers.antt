@@ -13,10 +13,10 @@ loop-k-init c = (search rules, search rules, λ cs P w. rows_start _ _ _ _ P)
 
 pub join-requires : goal.join-requires
 join-requires c =
-    let names : List ℕ = c.pre.1.0 in
-    let merged : Merged names c.args.parents.now (pairs_between c.args.pairs.now c.args.first c.loop-k.k) c.loop-k.parents = c.loop-k.invariant.2 names c.pre.1.1.0 c.pre.1.1.1 in
+    let names : List ℕ = c.requires.joinable.0 in
+    let merged : Merged names c.args.parents.now (pairs_between c.args.pairs.now c.args.first c.loop-k.k) c.loop-k.parents = c.loop-k.invariant.2 names c.requires.joinable.1.0 c.requires.joinable.1.1 in
     let k = c.loop-k.k in
-    (merge_all names (pairs_between c.args.pairs.now c.args.first k), (merged.parented, row-placed _ _ _ _ k merged (c.pre.1.1.1 k c.loop-k.invariant.0 c.loop-k-test.true) c.smaller_at.ensures c.larger_at.ensures))
+    (merge_all names (pairs_between c.args.pairs.now c.args.first k), (merged.parented, row-placed _ _ _ _ k merged (c.requires.joinable.1.1 k c.loop-k.invariant.0 c.loop-k-test.true) c.smaller_at.ensures c.larger_at.ensures))
 
 pub loop-k-preserved : goal.loop-k-preserved
 loop-k-preserved c =
@@ -33,7 +33,7 @@ loop-k-preserved c =
 
 pub shape_of-parents : goal.shape_of-parents
 shape_of-parents c =
-    (c.loop-k.invariant.2 c.requires.1.0 c.requires.1.1.0 c.requires.1.1.1).beyond.long
+    (c.loop-k.invariant.2 c.requires.joinable.0 c.requires.joinable.1.0 c.requires.joinable.1.1).beyond.long
 
 pub returns : goal.returns
 returns c = λ cs P w. rows_end _ _ _ _ _ (c.loop-k.invariant.2 cs P w) c.loop-k.invariant.1 c.loop-k-test.false

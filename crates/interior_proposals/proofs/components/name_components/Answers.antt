@@ -10,22 +10,22 @@ pub join_cuts-requires : goal.join_cuts-requires
 join_cuts-requires c =
     let L = c.requires.1 in
     let C = c.requires.0 in
-    (C, (L.given, (L.counted, (c.prepare.ensures.0 C L.labelled L.anchored L.incidents).parented)))
+    (C, (L.given, (L.counted, (c.prepare.ensures.prepared C L.labelled L.anchored L.incidents).parented)))
 
 pub flatten-requires : goal.flatten-requires
 flatten-requires c =
     let C = c.requires.0 in
     let L = c.requires.1 in
-    let m = c.join_cuts.ensures C L.given L.counted (c.prepare.ensures.0 C L.labelled L.anchored L.incidents).parented in
+    let m = c.join_cuts.ensures C L.given L.counted (c.prepare.ensures.prepared C L.labelled L.anchored L.incidents).parented in
     (components C, (components-parented C m, components-size C ∙ ap suc L.labelled))
 
 pub returns : goal.returns
 returns c =
     let L = c.requires.1 in
-    let was = c.prepare.ensures in (
-      λ C M.
-          let r = was.0 C M.labelled M.anchored M.incidents in
+    let was = c.prepare.ensures in record {
+      known = λ C M.
+          let r = was.prepared C M.labelled M.anchored M.incidents in
           let m = c.join_cuts.ensures C M.given M.counted r.parented in
-          record { marked = r.marked; named = c.flatten.ensures.0 (components C) (components-parented C m) (components-size C ∙ ap suc M.labelled) },
-      (was.1.0, beyond-then was.1.1 (beyond-then (components-beyond c.requires.0 (c.join_cuts.ensures c.requires.0 L.given L.counted (was.0 c.requires.0 L.labelled L.anchored L.incidents).parented) L.labelled) c.flatten.ensures.1)),
-    )
+          record { marked = r.marked; named = c.flatten.ensures.named (components C) (components-parented C m) (components-size C ∙ ap suc M.labelled) };
+      beyond = (was.beyond.0, beyond-then was.beyond.1 (beyond-then (components-beyond c.requires.0 (c.join_cuts.ensures c.requires.0 L.given L.counted (was.prepared c.requires.0 L.labelled L.anchored L.incidents).parented) L.labelled) c.flatten.ensures.beyond));
+    }

@@ -32,7 +32,7 @@ loop-k-preserved c =
 pub returns : goal.returns
 returns c =
     let inv = c.loop-k.invariant in
-    let pre = c.requires in (
-      λ C e A I. prepared C inv.3 inv.4 (omega (arith, e, c.loop-k-test.false)) (omega (arith, e, pre.0, inv.1.long)) (omega (arith, e, pre.1, inv.2.long)) A I,
-      (inv.1, inv.2),
-    )
+    let pre = c.requires in record {
+      prepared = λ C e A I. prepared C inv.3 inv.4 (omega (arith, e, c.loop-k-test.false)) (omega (arith, e, pre.0, inv.1.long)) (omega (arith, e, pre.1, inv.2.long)) A I;
+      beyond = (inv.1, inv.2);
+    }

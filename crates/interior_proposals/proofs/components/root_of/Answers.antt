@@ -16,24 +16,24 @@ loop-p-init c = (c.parent_of-p.ensures, λ cs P l. way-start P c.requires.1.1.0)
 
 pub parent_of-above-requires : goal.parent_of-above-requires
 parent_of-above-requires c =
-    let names : List ℕ = c.pre.0 in
-    let within : c.args.r < length names = c.pre.1.1.1 in
-    let way : Way names c.args.parents.now c.args.r c.loop-p.parents c.loop-p.x = c.loop-p.invariant.1 names c.pre.1.0 within in
+    let names : List ℕ = c.requires.0 in
+    let within : c.args.r < length names = c.requires.1.1.1 in
+    let way : Way names c.args.parents.now c.args.r c.loop-p.parents c.loop-p.x = c.loop-p.invariant.1 names c.requires.1.0 within in
     let in_ps = parent_in within way in
     (omega (arith, in_ps.0, c.loop-p.invariant.0), omega (arith, in_ps.1, c.loop-p.invariant.0))
 
 pub set_parent-requires : goal.set_parent-requires
 set_parent-requires c =
-    let names : List ℕ = c.pre.0 in
-    let within : c.args.r < length names = c.pre.1.1.1 in
-    let way : Way names c.args.parents.now c.args.r c.loop-p.parents c.loop-p.x = c.loop-p.invariant.1 names c.pre.1.0 within in
+    let names : List ℕ = c.requires.0 in
+    let within : c.args.r < length names = c.requires.1.1.1 in
+    let way : Way names c.args.parents.now c.args.r c.loop-p.parents c.loop-p.x = c.loop-p.invariant.1 names c.requires.1.0 within in
     way_in within way
 
 pub parent_of-p-requires-in-loop-p : goal.parent_of-p-requires-in-loop-p
 parent_of-p-requires-in-loop-p c =
-    let names : List ℕ = c.pre.0 in
-    let within : c.args.r < length names = c.pre.1.1.1 in
-    let way : Way names c.args.parents.now c.args.r c.loop-p.parents c.loop-p.x = c.loop-p.invariant.1 names c.pre.1.0 within in
+    let names : List ℕ = c.requires.0 in
+    let within : c.args.r < length names = c.requires.1.1.1 in
+    let way : Way names c.args.parents.now c.args.r c.loop-p.parents c.loop-p.x = c.loop-p.invariant.1 names c.requires.1.0 within in
     let parent_is : get_or c.loop-p.parents (c.loop-p.p - 1) 0 ≡ get_or c.loop-p.parents (get_or c.loop-p.parents (c.loop-p.x - 1) 0 - 1) 0 = ap (λ q. get_or c.loop-p.parents (q - 1) 0) c.loop-p.invariant.0 in
     let v = c.parent_of-above.result in
     subst (λ l. (1 ≤ v) × (v ≤ length l)) (sym c.set_parent.ensures)
@@ -41,9 +41,9 @@ parent_of-p-requires-in-loop-p c =
 
 pub loop-p-smaller : goal.loop-p-smaller
 loop-p-smaller c =
-    let names : List ℕ = c.pre.0 in
-    let within : c.args.r < length names = c.pre.1.1.1 in
-    let way : Way names c.args.parents.now c.args.r c.loop-p.parents c.loop-p.x = c.loop-p.invariant.1 names c.pre.1.0 within in
+    let names : List ℕ = c.requires.0 in
+    let within : c.args.r < length names = c.requires.1.1.1 in
+    let way : Way names c.args.parents.now c.args.r c.loop-p.parents c.loop-p.x = c.loop-p.invariant.1 names c.requires.1.0 within in
     let parent_is : get_or c.loop-p.parents (c.loop-p.p - 1) 0 ≡ get_or c.loop-p.parents (get_or c.loop-p.parents (c.loop-p.x - 1) 0 - 1) 0 = ap (λ q. get_or c.loop-p.parents (q - 1) 0) c.loop-p.invariant.0 in
     omega (arith, (above_in within way).1, c.parent_of-above.ensures ∙ parent_is, lt_of_le-ne (parent-le within way) (λ e. c.loop-p-test.true (c.loop-p.invariant.0 ∙ e)))
 
@@ -58,9 +58,9 @@ loop-p-preserved c =
 
 pub shape_of-parents : goal.shape_of-parents
 shape_of-parents c =
-    let names : List ℕ = c.pre.0 in
-    let within : c.args.r < length names = c.pre.1.1.1 in
-    let way : Way names c.args.parents.now c.args.r c.loop-p.parents c.loop-p.x = c.loop-p.invariant.1 names c.pre.1.0 within in
+    let names : List ℕ = c.requires.0 in
+    let within : c.args.r < length names = c.requires.1.1.1 in
+    let way : Way names c.args.parents.now c.args.r c.loop-p.parents c.loop-p.x = c.loop-p.invariant.1 names c.requires.1.0 within in
     way.beyond.long
 
 pub returns : goal.returns

@@ -9,22 +9,22 @@ use Rattle.interior_proposals.proofs.leaves.expand_port.Goals as goal
 
 pub expand_rows-grown-requires : goal.expand_rows-grown-requires
 expand_rows-grown-requires c =
-    (c.requires.0, (c.requires.1.0, (c.requires.1.1.0, omega (arith, c.requires.1.1.1, c.mark_exteriors-before.ensures.1))))
+    (c.requires.0, (c.requires.1.0, (c.requires.1.1.0, omega (arith, c.requires.1.1.1, c.mark_exteriors-before.ensures.marks_length))))
 
 pub rows_split-after-requires : goal.rows_split-after-requires
 rows_split-after-requires c =
-    walk_more c.pre.1.0 (omega (arith, c.pre.1.1.0, c.expand_rows-grown.ensures.1))
+    walk_more c.requires.1.0 (omega (arith, c.requires.1.1.0, c.expand_rows-grown.ensures.names_length))
 
 pub clear_exteriors-requires : goal.clear_exteriors-requires
 clear_exteriors-requires c =
-    walk_more c.requires.1.0 (omega (arith, c.requires.1.1.1, c.mark_exteriors-before.ensures.1))
+    walk_more c.requires.1.0 (omega (arith, c.requires.1.1.1, c.mark_exteriors-before.ensures.marks_length))
 
 pub returns : goal.returns
 returns c =
-    (
-      λ C i rs v P I M.
-          let E = c.mark_exteriors-before.ensures.0 C rs P.walk I M in
-          let H = c.expand_rows-grown.ensures.0 C i rs (exteriors rs (pairs_between _ _ _)) v P I E.marked in
-          port-walked C i _ rs v _ _ _ P E H (c.rows_split-after.ensures C _ P.walk H.inside) (c.clear_exteriors.ensures.0 C rs P.walk E.marked),
-      (c.expand_rows-grown.ensures.1, c.clear_exteriors.ensures.1 ∙ c.mark_exteriors-before.ensures.1),
-    )
+    record {
+      expanded = λ C i rs v P I M.
+          let E = c.mark_exteriors-before.ensures.marked C rs P.walk I M in
+          let H = c.expand_rows-grown.ensures.expanded C i rs (exteriors rs (pairs_between _ _ _)) v P I E.marked in
+          port-walked C i _ rs v _ _ _ P E H (c.rows_split-after.ensures C _ P.walk H.inside) (c.clear_exteriors.ensures.cleared C rs P.walk E.marked);
+      lengths = (c.expand_rows-grown.ensures.names_length, c.clear_exteriors.ensures.marks_length ∙ c.mark_exteriors-before.ensures.marks_length);
+    }

@@ -16,24 +16,36 @@ chosen_in {n = n} {lo = lo} {hi = hi} a e l h = subst (λ y. (1 ≤ y) × (y ≤
 
 pub returns-then-parent_of-r : goal.returns-then-parent_of-r
 returns-then-parent_of-r c =
-    (λ C i rs es v W I M. row_inside C i _ rs es v _ _ W I M c.parent_of.ensures c.parent_of-2.ensures c.if-parent_of-r.true, refl)
+    record {
+      expanded = λ C i rs es v W I M. row_inside C i _ rs es v _ _ W I M c.parent_of.ensures c.parent_of-2.ensures c.if-parent_of-r.true;
+      names_length = refl;
+    }
 
 pub returns-then-a-b : goal.returns-then-a-b
 returns-then-a-b c =
-    (λ C i rs es v W I M. row_unclear C i _ rs es v _ _ W I M c.parent_of.ensures c.parent_of-2.ensures c.if-parent_of-r.false c.is_exterior-a.ensures c.is_exterior-b.ensures c.if-a-b.true, refl)
+    record {
+      expanded = λ C i rs es v W I M. row_unclear C i _ rs es v _ _ W I M c.parent_of.ensures c.parent_of-2.ensures c.if-parent_of-r.false c.is_exterior-a.ensures c.is_exterior-b.ensures c.if-a-b.true;
+      names_length = refl;
+    }
 
 pub is_leaf-requires : goal.is_leaf-requires
 is_leaf-requires c =
-    chosen_in c.is_exterior-a.result c.choose-leaf.ensures (c.pre.0.0, c.pre.0.1.1) (c.pre.1.0, c.pre.1.1.1)
+    chosen_in c.is_exterior-a.result c.choose-leaf.ensures (c.requires.lo_named.0, c.requires.lo_named.1.1) (c.requires.hi_named.0, c.requires.hi_named.1.1)
 
 pub returns-then-not-is_leaf : goal.returns-then-not-is_leaf
 returns-then-not-is_leaf c =
-    (λ C i rs es v W I M. row_no_leaf C i _ rs es v _ _ W I M c.parent_of.ensures c.parent_of-2.ensures c.if-parent_of-r.false c.is_exterior-a.ensures c.is_exterior-b.ensures c.if-a-b.false c.choose-leaf.ensures c.is_leaf.ensures c.if-not-is_leaf.true-raw, refl)
+    record {
+      expanded = λ C i rs es v W I M. row_no_leaf C i _ rs es v _ _ W I M c.parent_of.ensures c.parent_of-2.ensures c.if-parent_of-r.false c.is_exterior-a.ensures c.is_exterior-b.ensures c.if-a-b.false c.choose-leaf.ensures c.is_leaf.ensures c.if-not-is_leaf.true-raw;
+      names_length = refl;
+    }
 
 pub set_parent-requires : goal.set_parent-requires
 set_parent-requires c =
-    chosen_in c.is_exterior-a.result c.choose-leaf.ensures (c.requires.0.0, c.requires.0.1.0) (c.requires.1.0, c.requires.1.1.0)
+    chosen_in c.is_exterior-a.result c.choose-leaf.ensures (c.requires.lo_named.0, c.requires.lo_named.1.0) (c.requires.hi_named.0, c.requires.hi_named.1.0)
 
 pub returns : goal.returns
 returns c =
-    (λ C i rs es v W I M. row-leaf C i _ rs es v _ _ W I M c.parent_of.ensures c.parent_of-2.ensures c.if-parent_of-r.false c.is_exterior-a.ensures c.is_exterior-b.ensures c.if-a-b.false c.choose-leaf.ensures c.is_leaf.ensures c.if-not-is_leaf.false-raw c.set_parent.ensures, ap length c.set_parent.ensures ∙ simp length-set)
+    record {
+      expanded = λ C i rs es v W I M. row-leaf C i _ rs es v _ _ W I M c.parent_of.ensures c.parent_of-2.ensures c.if-parent_of-r.false c.is_exterior-a.ensures c.is_exterior-b.ensures c.if-a-b.false c.choose-leaf.ensures c.is_leaf.ensures c.if-not-is_leaf.false-raw c.set_parent.ensures;
+      names_length = ap length c.set_parent.ensures ∙ simp length-set;
+    }

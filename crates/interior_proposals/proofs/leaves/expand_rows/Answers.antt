@@ -8,6 +8,9 @@ use Rattle.interior_proposals.proofs.Walks.{row_in, low_in_lem, high_in}
 use Rattle.interior_proposals.proofs.LeafLaws.{up_to, held_start, row_of, held_more, held-end}
 use Rattle.interior_proposals.proofs.leaves.expand_rows.Goals as goal
 
+both_in : {x l n m : ℕ} → (1 ≤ x) × (x ≤ l) → l ≤ n → l ≤ m → (1 ≤ x) × ((x ≤ n) × (x ≤ m))
+both_in h k l = (h.0, (omega (arith, h.1), omega (arith, h.1)))
+
 pub loop-k-init : goal.loop-k-init
 loop-k-init c = (search rules, c.requires.1.0.rising, refl, λ C i rs es v P I M. held_start C i _ rs es v _ _ _ P I)
 
@@ -15,14 +18,16 @@ pub smaller_at-lo-requires : goal.smaller_at-lo-requires
 smaller_at-lo-requires c = row_in c.requires.1.0 c.loop-k.invariant.0 c.loop-k-test.true
 
 pub larger_at-hi-requires : goal.larger_at-hi-requires
-larger_at-hi-requires c = row_in c.pre.1.0 c.loop-k.invariant.0 c.loop-k-test.true
+larger_at-hi-requires c = row_in c.requires.1.0 c.loop-k.invariant.0 c.loop-k-test.true
 
 pub expand_row-ok-requires : goal.expand_row-ok-requires
 expand_row-ok-requires c =
-    let both_in : {x n m : ℕ} → (1 ≤ x) × (x ≤ c.pre.0) → c.pre.0 ≤ n → c.pre.0 ≤ m → (1 ≤ x) × ((x ≤ n) × (x ≤ m)) = λ h k l. (h.0, (omega (arith, h.1), omega (arith, h.1))) in
     let w = c.requires.1 in
     let named : c.requires.0 ≤ length c.loop-k.names = omega (arith, c.loop-k.invariant.2, w.1.0) in
-    (both_in (low_in_lem w.0 c.loop-k.invariant.0 c.loop-k-test.true c.smaller_at-lo.ensures) named w.1.1, both_in (high_in w.0 c.loop-k.invariant.0 c.loop-k-test.true c.larger_at-hi.ensures) named w.1.1)
+    record {
+      lo_named = both_in (low_in_lem w.0 c.loop-k.invariant.0 c.loop-k-test.true c.smaller_at-lo.ensures) named w.1.1;
+      hi_named = both_in (high_in w.0 c.loop-k.invariant.0 c.loop-k-test.true c.larger_at-hi.ensures) named w.1.1;
+    }
 
 pub loop-k-preserved : goal.loop-k-preserved
 loop-k-preserved c =
@@ -30,16 +35,19 @@ loop-k-preserved c =
     let u = c.loop-k.invariant.0 in (
       omega arith,
       omega (arith, c.loop-k-test.true),
-      c.expand_row-ok.ensures.1 ∙ c.loop-k.invariant.2,
+      c.expand_row-ok.ensures.names_length ∙ c.loop-k.invariant.2,
       λ C i rs es v P I M.
           let H = c.loop-k.invariant.3 C i rs es v P I M in
           let s = up_to C i c.args.r rs es v c.args.pairs.now c.args.first c.args.end P k in
           held_more C i _ rs es v _ _ _ P k u c.loop-k-test.true c.smaller_at-lo.ensures c.larger_at-hi.ensures H
-          (c.expand_row-ok.ensures.0 C i s.regions es s.valid (row_of C i c.args.r rs es v _ _ _ P k u c.loop-k-test.true c.smaller_at-lo.ensures c.larger_at-hi.ensures) H.inside M),
+          (c.expand_row-ok.ensures.expanded C i s.regions es s.valid (row_of C i c.args.r rs es v _ _ _ P k u c.loop-k-test.true c.smaller_at-lo.ensures c.larger_at-hi.ensures) H.inside M),
     )
 
 pub shape_of-names : goal.shape_of-names
 shape_of-names c = c.loop-k.invariant.2
 
 pub returns : goal.returns
-returns c = (λ C i rs es v P I M. held-end C i _ rs es v _ _ _ P (c.loop-k.invariant.3 C i rs es v P I M) c.loop-k.invariant.1 c.loop-k-test.false, c.loop-k.invariant.2)
+returns c = record {
+      expanded = λ C i rs es v P I M. held-end C i _ rs es v _ _ _ P (c.loop-k.invariant.3 C i rs es v P I M) c.loop-k.invariant.1 c.loop-k-test.false;
+      names_length = c.loop-k.invariant.2;
+    }

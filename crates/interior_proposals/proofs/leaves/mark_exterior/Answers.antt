@@ -5,4 +5,7 @@ use lib.ListN.{set, length-set}
 use Rattle.interior_proposals.proofs.leaves.mark_exterior.Goals as goal
 
 pub returns : goal.returns
-returns c = (ap (set c.args.marks.now (c.args.x - 1)) c.with_exterior-mark.ensures, simp length-set)
+returns c = record {
+      marks = ap (set c.args.marks.now (c.args.x - 1)) c.with_exterior-mark.ensures;
+      marks_length = simp length-set;
+    }

@@ -33,10 +33,10 @@ loop-k-init c =
     (omega arith, omega (arith, some_row), all-rows_next _ _ _ _ (omega arith) ∙ ap₂ ◌&&◌ (all-rows_none _ _ _) first_named)
 
 pub smaller_at-requires-in-loop-k : goal.smaller_at-requires-in-loop-k
-smaller_at-requires-in-loop-k c = row_in c.pre (omega (arith, c.loop-k.invariant.0)) c.loop-k-test.true
+smaller_at-requires-in-loop-k c = row_in c.requires (omega (arith, c.loop-k.invariant.0)) c.loop-k-test.true
 
 pub parent_of-requires : goal.parent_of-requires
-parent_of-requires c = low_in_lem c.pre (omega (arith, c.loop-k.invariant.0)) c.loop-k-test.true c.smaller_at-in-loop-k.ensures
+parent_of-requires c = low_in_lem c.requires (omega (arith, c.loop-k.invariant.0)) c.loop-k-test.true c.smaller_at-in-loop-k.ensures
 
 pub returns-then-parent_of-name : goal.returns-then-parent_of-name
 returns-then-parent_of-name c =

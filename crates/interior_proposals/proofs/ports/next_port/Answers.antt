@@ -13,25 +13,25 @@ loop-i-init c = (search rules, search rules, λ C M e O h k a b. absurd (omega a
 
 pub bounds-owners-i : goal.bounds-owners-i
 bounds-owners-i c =
-    omega (arith, c.loop-i-test.true, c.requires.0.1.1, c.requires.0.1.0.paired.few)
+    omega (arith, c.loop-i-test.true, c.requires.mapped.1.1, c.requires.mapped.1.0.paired.few)
 
 pub is_port-requires : goal.is_port-requires
 is_port-requires c =
-    (c.requires.0.0, (c.requires.0.1.0, omega (arith, c.requires.0.1.1, c.loop-i-test.true)))
+    (c.requires.mapped.0, (c.requires.mapped.1.0, omega (arith, c.requires.mapped.1.1, c.loop-i-test.true)))
 
 pub returns-then-is_port : goal.returns-then-is_port
 returns-then-is_port c =
-    let i = c.loop-i.i in (
-      λ C M e O h.
+    let i = c.loop-i.i in record {
+      next_port = λ C M e O h.
           let l : i < C.count = omega (arith, e, c.loop-i-test.true) in
           record {
             rising = c.loop-i.invariant.0;
             upto = c.loop-i.invariant.1;
             found = λ q. sym (c.is_port.ensures C M l (O i l) h) ∙ c.if-is_port.true;
             before = c.loop-i.invariant.2 C M e O h;
-          },
-      (c.loop-i.invariant.0, c.loop-i.invariant.1),
-    )
+          };
+      bound = (c.loop-i.invariant.0, c.loop-i.invariant.1);
+    }
 
 pub loop-i-preserved : goal.loop-i-preserved
 loop-i-preserved c =
@@ -45,4 +45,7 @@ loop-i-preserved c =
 
 pub returns : goal.returns
 returns c =
-    (λ C M e O h. record { rising = c.loop-i.invariant.0; upto = c.loop-i.invariant.1; found = λ q. absurd (omega (arith, c.loop-i-test.false)); before = c.loop-i.invariant.2 C M e O h }, (c.loop-i.invariant.0, c.loop-i.invariant.1))
+    record {
+      next_port = λ C M e O h. record { rising = c.loop-i.invariant.0; upto = c.loop-i.invariant.1; found = λ q. absurd (omega (arith, c.loop-i-test.false)); before = c.loop-i.invariant.2 C M e O h };
+      bound = (c.loop-i.invariant.0, c.loop-i.invariant.1);
+    }

@@ -8,13 +8,13 @@ use Rattle.interior_proposals.proofs.proposals.expand_ports.Goals as goal
 pub expand_port-second-requires : goal.expand_port-second-requires
 expand_port-second-requires c =
     let w = c.requires.1.reachable in
-    (w.0, (w.1.0, (omega (arith, w.1.1.0, c.expand_port-first.ensures.1.0), omega (arith, w.1.1.1, c.expand_port-first.ensures.1.1))))
+    (w.0, (w.1.0, (omega (arith, w.1.1.0, c.expand_port-first.ensures.lengths.0), omega (arith, w.1.1.1, c.expand_port-first.ensures.lengths.1))))
 
 pub returns : goal.returns
 returns c =
-    (
-      λ C rs P l m I M.
-          let A = c.expand_port-first.ensures.0 C _ rs true (shown_ported P _ l) I M in
-          both-walked A (c.expand_port-second.ensures.0 C _ _ _ (shown_ported P _ m) A.held.inside A.cleared.marked),
-      (c.expand_port-second.ensures.1.0 ∙ c.expand_port-first.ensures.1.0, c.expand_port-second.ensures.1.1 ∙ c.expand_port-first.ensures.1.1),
-    )
+    record {
+      expanded = λ C rs P l m I M.
+          let A = c.expand_port-first.ensures.expanded C _ rs true (shown_ported P _ l) I M in
+          both-walked A (c.expand_port-second.ensures.expanded C _ _ _ (shown_ported P _ m) A.held.inside A.cleared.marked);
+      lengths = (c.expand_port-second.ensures.lengths.0 ∙ c.expand_port-first.ensures.lengths.0, c.expand_port-second.ensures.lengths.1 ∙ c.expand_port-first.ensures.lengths.1);
+    }

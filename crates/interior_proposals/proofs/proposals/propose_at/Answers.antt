@@ -7,24 +7,24 @@ use Rattle.interior_proposals.proofs.proposals.propose_at.Goals as goal
 
 pub propose-requires : goal.propose-requires
 propose-requires c =
-    let w = c.pre.1 in
-    let l : c.args.i < w.0.count = omega (arith, c.pre.0, w.1.0.counted) in
+    let w = c.requires.progress in
+    let l : c.args.i < w.0.count = omega (arith, c.requires.i_within, w.1.0.counted) in
     (w.0, facing w.1.0 c.args.i l w.1.1 c.is_first.ensures c.if-is_first.true)
 
 pub returns-then-is_first : goal.returns-then-is_first
 returns-then-is_first c =
-    (
-      λ C was wasMarks W P.
-          let l : c.args.i < C.count = omega (arith, c.pre.0, W.counted) in
-          found-proposed W c.args.i l P c.is_first.ensures c.if-is_first.true (c.propose.ensures.0 C (facing W c.args.i l P c.is_first.ensures c.if-is_first.true)),
-      c.propose.ensures.1,
-    )
+    record {
+      proposed = λ C was wasMarks W P.
+          let l : c.args.i < C.count = omega (arith, c.requires.i_within, W.counted) in
+          found-proposed W c.args.i l P c.is_first.ensures c.if-is_first.true (c.propose.ensures.proposed C (facing W c.args.i l P c.is_first.ensures c.if-is_first.true));
+      lengths = c.propose.ensures.lengths;
+    }
 
 pub returns-else-is_first : goal.returns-else-is_first
 returns-else-is_first c =
-    (
-      λ C was wasMarks W P.
-          let l : c.args.i < C.count = omega (arith, c.requires.0, W.counted) in
-          found_nothing W c.args.i l P c.is_first.ensures c.if-is_first.false,
-      (refl, refl),
-    )
+    record {
+      proposed = λ C was wasMarks W P.
+          let l : c.args.i < C.count = omega (arith, c.requires.i_within, W.counted) in
+          found_nothing W c.args.i l P c.is_first.ensures c.if-is_first.false;
+      lengths = (refl, refl);
+    }

@@ -4,13 +4,13 @@ use Rattle.junction_proposals.proofs.Lists.{placed}
 use Rattle.junction_proposals.proofs.bridges.bridge_if_near.Goals as goal
 
 pub is_near_port-own-requires : goal.is_near_port-own-requires
-is_near_port-own-requires c = (placed c.requires.0 c.requires.1.0, placed c.requires.0 c.requires.1.0)
+is_near_port-own-requires c = (placed c.requires.boundaries_lent c.requires.places.0, placed c.requires.boundaries_lent c.requires.places.0)
 
 pub is_near_port-other-requires : goal.is_near_port-other-requires
-is_near_port-other-requires c = (placed c.requires.0 c.requires.1.0, placed c.requires.0 c.requires.1.1.0)
+is_near_port-other-requires c = (placed c.requires.boundaries_lent c.requires.places.0, placed c.requires.boundaries_lent c.requires.places.1.0)
 
 pub is_near_port-third-requires : goal.is_near_port-third-requires
-is_near_port-third-requires c = (placed c.requires.0 c.requires.1.0, placed c.requires.0 c.requires.1.1.1)
+is_near_port-third-requires c = (placed c.requires.boundaries_lent c.requires.places.0, placed c.requires.boundaries_lent c.requires.places.1.1)
 
 pub returns-then-own-other : goal.returns-then-own-other
 returns-then-own-other c =

@@ -12,7 +12,7 @@ use Rattle.junction_proposals.proofs.bridges.bridge_of.Goals as goal
 
 pub bounds-counts-r : goal.bounds-counts-r
 bounds-counts-r c =
-    omega (arith, c.requires.1, c.requires.0.counts_long)
+    omega (arith, c.requires.r_named, c.requires.lent.counts_long)
 
 pub returns-then-counts-r-ne3 : goal.returns-then-counts-r-ne3
 returns-then-counts-r-ne3 c =
@@ -25,7 +25,7 @@ returns-then-counts-r-ne3 c =
 
 pub anchored_bit-requires : goal.anchored_bit-requires
 anchored_bit-requires c =
-    omega (arith, c.requires.1, c.requires.0.marks_long)
+    omega (arith, c.requires.r_named, c.requires.lent.marks_long)
 
 pub returns-then-anchored_bit-eq1 : goal.returns-then-anchored_bit-eq1
 returns-then-anchored_bit-eq1 c =
@@ -38,23 +38,23 @@ returns-then-anchored_bit-eq1 c =
 
 pub next_port-i-requires : goal.next_port-i-requires
 next_port-i-requires c =
-    c.requires.0.bounds
+    c.requires.lent.bounds
 
 pub overflow_add-i : goal.overflow_add-i
 overflow_add-i c =
-    omega (arith, c.next_port-i.ensures.within, c.requires.0.bounds.few)
+    omega (arith, c.next_port-i.ensures.within, c.requires.lent.bounds.few)
 
 pub next_port-j-requires : goal.next_port-j-requires
 next_port-j-requires c =
-    c.requires.0.bounds
+    c.requires.lent.bounds
 
 pub overflow_add-j : goal.overflow_add-j
 overflow_add-j c =
-    omega (arith, c.next_port-j.ensures.within, c.requires.0.bounds.few)
+    omega (arith, c.next_port-j.ensures.within, c.requires.lent.bounds.few)
 
 pub next_port-k-requires : goal.next_port-k-requires
 next_port-k-requires c =
-    c.requires.0.bounds
+    c.requires.lent.bounds
 
 pub returns-then-count-k : goal.returns-then-count-k
 returns-then-count-k c =
@@ -63,17 +63,17 @@ returns-then-count-k c =
     let larger : List ℕ = c.args.larger.now in
     let counts : List ℕ = c.args.counts.now in
     let marks : List ℕ = c.args.marks.now in
-    let free : mark_at (marks c.args.r ≡ false = bit-other (mark_at marks c.args.r) (λ e. c.if-anchored_bit-eq1.false (c.anchored_bit.ensures ∙ e)) in
+    let free : mark_at marks c.args.r ≡ false = bit-other (mark_at marks c.args.r) (λ e. c.if-anchored_bit-eq1.false (c.anchored_bit.ensures ∙ e)) in
     other_length boundaries smaller larger marks counts c.args.r c.args.count c.if-counts-r-ne3.false free
     (less_found (is_pocket_port smaller larger c.args.r boundaries) c.args.count c.next_port-i.ensures c.next_port-j.ensures c.next_port-k.ensures c.if-count-k.true)
 
 pub overflow_add-k : goal.overflow_add-k
 overflow_add-k c =
-    omega (arith, c.next_port-k.ensures.within, c.pre.0.bounds.few)
+    omega (arith, c.next_port-k.ensures.within, c.requires.lent.bounds.few)
 
 pub next_port-requires : goal.next_port-requires
 next_port-requires c =
-    c.pre.0.bounds
+    c.requires.lent.bounds
 
 pub returns-then-next_port-count : goal.returns-then-next_port-count
 returns-then-next_port-count c =
@@ -82,7 +82,7 @@ returns-then-next_port-count c =
     let larger : List ℕ = c.args.larger.now in
     let counts : List ℕ = c.args.counts.now in
     let marks : List ℕ = c.args.marks.now in
-    let free : mark_at (marks c.args.r ≡ false = bit-other (mark_at marks c.args.r) (λ e. c.if-anchored_bit-eq1.false (c.anchored_bit.ensures ∙ e)) in
+    let free : mark_at marks c.args.r ≡ false = bit-other (mark_at marks c.args.r) (λ e. c.if-anchored_bit-eq1.false (c.anchored_bit.ensures ∙ e)) in
     other_length boundaries smaller larger marks counts c.args.r c.args.count c.if-counts-r-ne3.false free
     (more_found (is_pocket_port smaller larger c.args.r boundaries) c.args.count c.next_port-i.ensures c.next_port-j.ensures c.next_port-k.ensures c.next_port.ensures c.if-count-k.false c.if-next_port-count.true)
 
@@ -92,7 +92,14 @@ bridge_of_three-requires c =
     let smaller : List ℕ = c.args.smaller.now in
     let larger : List ℕ = c.args.larger.now in
     let l = in_order (is_pocket_port smaller larger c.args.r boundaries) c.args.count c.next_port-i.ensures c.next_port-j.ensures c.next_port-k.ensures c.if-count-k.false in
-    (c.requires.0.bounds, (c.requires.0.pairs, (c.requires.0.marks_long, (port_at_lem boundaries smaller larger c.args.r c.args.count _ l.0 (c.next_port-i.ensures.found l.0), (port_at_lem boundaries smaller larger c.args.r c.args.count _ l.1 (c.next_port-j.ensures.found l.1), port_at_lem boundaries smaller larger c.args.r c.args.count _ c.if-count-k.false (c.next_port-k.ensures.found c.if-count-k.false))))))
+    record {
+      boundaries_lent = c.requires.lent.bounds;
+      pairs_lent = c.requires.lent.pairs;
+      marks_room = c.requires.lent.marks_long;
+      i_is_port = port_at_lem boundaries smaller larger c.args.r c.args.count _ l.0 (c.next_port-i.ensures.found l.0);
+      j_is_port = port_at_lem boundaries smaller larger c.args.r c.args.count _ l.1 (c.next_port-j.ensures.found l.1);
+      k_is_port = port_at_lem boundaries smaller larger c.args.r c.args.count _ c.if-count-k.false (c.next_port-k.ensures.found c.if-count-k.false);
+    }
 
 pub returns : goal.returns
 returns c =
@@ -101,7 +108,7 @@ returns c =
     let larger : List ℕ = c.args.larger.now in
     let counts : List ℕ = c.args.counts.now in
     let marks : List ℕ = c.args.marks.now in
-    let free : mark_at (marks c.args.r ≡ false = bit-other (mark_at marks c.args.r) (λ e. c.if-anchored_bit-eq1.false (c.anchored_bit.ensures ∙ e)) in
+    let free : mark_at marks c.args.r ≡ false = bit-other (mark_at marks c.args.r) (λ e. c.if-anchored_bit-eq1.false (c.anchored_bit.ensures ∙ e)) in
     of_three boundaries smaller larger marks counts c.args.r c.args.count c.if-counts-r-ne3.false free _ _ _
     (three-found (is_pocket_port smaller larger c.args.r boundaries) c.args.count c.next_port-i.ensures c.next_port-j.ensures c.next_port-k.ensures c.next_port.ensures c.if-count-k.false c.if-next_port-count.false)
     c.bridge_of_three.ensures

@@ -5,11 +5,20 @@ use Rattle.junction_proposals.proofs.BridgeTests.{chosen, passed}
 use Rattle.junction_proposals.proofs.bridges.bridge_of_three.Goals as goal
 
 pub is_shared-requires : goal.is_shared-requires
-is_shared-requires c = (((c.requires.0.few, c.requires.1.1.0), (c.requires.1.0, (c.requires.1.1.1.0, (c.requires.1.1.1.1.0, c.requires.1.1.1.1.1)))))
+is_shared-requires c = record {
+      sizes = (c.requires.boundaries_lent.few, c.requires.marks_room);
+      pairs_lent = c.requires.pairs_lent;
+      i_is_port = c.requires.i_is_port;
+      k_is_port = c.requires.j_is_port;
+      t_is_port = c.requires.k_is_port;
+    }
 
 pub pick_bridge-requires : goal.pick_bridge-requires
 pick_bridge-requires c =
-    (c.requires.0, (c.requires.1.1.1.0.below, (c.requires.1.1.1.1.0.below, c.requires.1.1.1.1.1.below)))
+    record {
+      boundaries_lent = c.requires.boundaries_lent;
+      places = (c.requires.i_is_port.below, (c.requires.j_is_port.below, c.requires.k_is_port.below));
+    }
 
 pub returns-then-is_shared : goal.returns-then-is_shared
 unfolding bridge_of_three
@@ -17,11 +26,20 @@ returns-then-is_shared c = chosen _ c.is_shared.ensures c.if-is_shared.true c.pi
 
 pub is_shared-requires-2 : goal.is_shared-requires-2
 is_shared-requires-2 c =
-    (((c.requires.0.few, c.requires.1.1.0), (c.requires.1.0, (c.requires.1.1.1.0, (c.requires.1.1.1.1.1, c.requires.1.1.1.1.0)))))
+    record {
+      sizes = (c.requires.boundaries_lent.few, c.requires.marks_room);
+      pairs_lent = c.requires.pairs_lent;
+      i_is_port = c.requires.i_is_port;
+      k_is_port = c.requires.k_is_port;
+      t_is_port = c.requires.j_is_port;
+    }
 
 pub pick_bridge-requires-then-is_shared-2 : goal.pick_bridge-requires-then-is_shared-2
 pick_bridge-requires-then-is_shared-2 c =
-    (c.requires.0, (c.requires.1.1.1.0.below, (c.requires.1.1.1.1.1.below, c.requires.1.1.1.1.0.below)))
+    record {
+      boundaries_lent = c.requires.boundaries_lent;
+      places = (c.requires.i_is_port.below, (c.requires.k_is_port.below, c.requires.j_is_port.below));
+    }
 
 pub returns-then-is_shared-2 : goal.returns-then-is_shared-2
 unfolding bridge_of_three
@@ -30,11 +48,20 @@ returns-then-is_shared-2 c =
 
 pub is_shared-requires-3 : goal.is_shared-requires-3
 is_shared-requires-3 c =
-    (((c.requires.0.few, c.requires.1.1.0), (c.requires.1.0, (c.requires.1.1.1.1.0, (c.requires.1.1.1.1.1, c.requires.1.1.1.0)))))
+    record {
+      sizes = (c.requires.boundaries_lent.few, c.requires.marks_room);
+      pairs_lent = c.requires.pairs_lent;
+      i_is_port = c.requires.j_is_port;
+      k_is_port = c.requires.k_is_port;
+      t_is_port = c.requires.i_is_port;
+    }
 
 pub pick_bridge-requires-then-is_shared-3 : goal.pick_bridge-requires-then-is_shared-3
 pick_bridge-requires-then-is_shared-3 c =
-    (c.requires.0, (c.requires.1.1.1.1.0.below, (c.requires.1.1.1.1.1.below, c.requires.1.1.1.0.below)))
+    record {
+      boundaries_lent = c.requires.boundaries_lent;
+      places = (c.requires.j_is_port.below, (c.requires.k_is_port.below, c.requires.i_is_port.below));
+    }
 
 pub returns-then-is_shared-3 : goal.returns-then-is_shared-3
 unfolding bridge_of_three

@@ -12,9 +12,9 @@ use Rattle.junction_proposals.proofs.bridges.is_shared.Goals as goal
 
 pub anchored_bit-requires : goal.anchored_bit-requires
 anchored_bit-requires c =
-    let t = c.pre.1.1.1.1 in
-    let n = c.pre.1.0.named c.args.t t.below t.full in
-    beyond-within c.args.r (length c.args.marks.now) (record { lo = get_or c.args.smaller.now c.args.t 0; hi = get_or c.args.larger.now c.args.t 0 }) c.region_beyond-third.ensures t.full n.0 (omega (arith, n, c.pre.0))
+    let t = c.requires.t_is_port in
+    let n = c.requires.pairs_lent.named c.args.t t.below t.full in
+    beyond-within c.args.r (length c.args.marks.now) (record { lo = get_or c.args.smaller.now c.args.t 0; hi = get_or c.args.larger.now c.args.t 0 }) c.region_beyond-third.ensures t.full n.0 (omega (arith, n, c.requires.sizes))
 
 pub returns : goal.returns
 unfolding is_shared_at

@@ -10,11 +10,11 @@ use Rattle.junction_proposals.proofs.bridges.is_twice_as_wide.Goals as goal
 
 pub float_from_bits-width : goal.float_from_bits-width
 float_from_bits-width c =
-    no_nan _ (le_of_lt (subst (λ w. w < 2047 * 2 ^ 52) (sym c.width_at-width.ensures) (c.requires.0.finite c.args.i c.requires.1.0)))
+    no_nan _ (le_of_lt (subst (λ w. w < 2047 * 2 ^ 52) (sym c.width_at-width.ensures) (c.requires.boundaries_lent.finite c.args.i c.requires.places.0)))
 
 pub float_from_bits-other : goal.float_from_bits-other
 float_from_bits-other c =
-    no_nan _ (le_of_lt (subst (λ w. w < 2047 * 2 ^ 52) (sym c.width_at-other.ensures) (c.requires.0.finite c.args.k c.requires.1.1)))
+    no_nan _ (le_of_lt (subst (λ w. w < 2047 * 2 ^ 52) (sym c.width_at-other.ensures) (c.requires.boundaries_lent.finite c.args.k c.requires.places.1)))
 
 pub returns : goal.returns
 unfolding is_twice_at

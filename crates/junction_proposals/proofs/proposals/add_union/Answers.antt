@@ -7,18 +7,24 @@ use Rattle.junction_proposals.proofs.proposals.add_union.Goals as goal
 
 pub push_proposal-requires : goal.push_proposal-requires
 push_proposal-requires c =
-    ((omega (arith, c.requires.1.0, c.requires.0.bounds.few), omega (arith, c.requires.1.0, c.requires.0.bounds.few)), c.requires.1.1)
+    record {
+      places = (omega (arith, c.requires.places, c.requires.lent.bounds.few), omega (arith, c.requires.places, c.requires.lent.bounds.few));
+      rows_room = c.requires.rows_room;
+    }
 
 pub overflow_add-result : goal.overflow_add-result
 overflow_add-result c =
-    omega (arith, c.pre.1.0, c.pre.0.bounds.few)
+    omega (arith, c.requires.places, c.requires.lent.bounds.few)
 
 pub returns-then-is_union : goal.returns-then-is_union
 returns-then-is_union c =
-    let s = c.args in (
-      row-added (rows_of s.rows.now s.n) (record { index = s.i; kind = 0; first = get_or s.smaller.now s.i 0; second = get_or s.larger.now s.i 0 }) c.push_proposal.ensures c.is_union.ensures c.if-is_union.true,
-      omega arith,
-    )
+    let s = c.args in record {
+      rows = row-added (rows_of s.rows.now s.n) (record { index = s.i; kind = 0; first = get_or s.smaller.now s.i 0; second = get_or s.larger.now s.i 0 }) c.push_proposal.ensures c.is_union.ensures c.if-is_union.true;
+      bound = omega arith;
+    }
 
 pub returns : goal.returns
-returns c = (row-left _ _ c.is_union.ensures c.if-is_union.false, omega arith)
+returns c = record {
+      rows = row-left _ _ c.is_union.ensures c.if-is_union.false;
+      bound = omega arith;
+    }

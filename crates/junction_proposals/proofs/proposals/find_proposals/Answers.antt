@@ -10,15 +10,17 @@ use Rattle.junction_proposals.proofs.proposals.find_proposals.Goals as goal
 
 pub find_bridges-requires : goal.find_bridges-requires
 find_bridges-requires c =
-    (c.requires.0, (c.find_unions-unions.ensures.1, omega (arith, c.requires.1, c.find_unions-unions.auto.rows)))
+    record {
+      lent = c.requires.lent;
+      unions_within = c.find_unions-unions.ensures.bound;
+      rows_room = omega (arith, c.requires.rows_room, c.find_unions-unions.auto.rows);
+    }
 
 pub returns : goal.returns
 returns c =
     let a = c.args in
-    let e = c.find_bridges.ensures.0 ∙ ap (λ l. l ++ collect a.regions (λ k. is_bridge_at a.boundaries.now a.smaller.now a.larger.now a.marks.now (suc k) a.counts.now a.count)) c.find_unions-unions.ensures.0 in (
-      c.find_bridges.ensures.1,
-      (
-        rows_fit a.boundaries.now a.smaller.now a.larger.now a.counts.now a.marks.now _ a.count a.regions _ e c.requires.0.pairs,
-        rows-proposed a.boundaries.now a.smaller.now a.larger.now a.counts.now a.marks.now _ a.count a.regions _ e,
-      ),
-    )
+    let e = c.find_bridges.ensures.rows ∙ ap (λ l. l ++ collect a.regions (λ k. is_bridge_at a.boundaries.now a.smaller.now a.larger.now a.marks.now (suc k) a.counts.now a.count)) c.find_unions-unions.ensures.rows in record {
+      bound = c.find_bridges.ensures.bound;
+      rows_fit = rows_fit a.boundaries.now a.smaller.now a.larger.now a.counts.now a.marks.now _ a.count a.regions _ e c.requires.lent.pairs;
+      allowed = rows-proposed a.boundaries.now a.smaller.now a.larger.now a.counts.now a.marks.now _ a.count a.regions _ e;
+    }

@@ -20,7 +20,11 @@ loop-i-init c = (omega arith, (omega arith, (refl, rows_none _)))
 
 pub add_union-n-requires : goal.add_union-n-requires
 add_union-n-requires c =
-    (c.requires.0, ((c.loop-i-test.true, c.loop-i.invariant.1.0), omega (arith, c.requires.1, c.loop-i.invariant.1.1.0)))
+    record {
+      lent = c.requires.lent;
+      places = (c.loop-i-test.true, c.loop-i.invariant.1.0);
+      rows_room = omega (arith, c.requires.rows_room, c.loop-i.invariant.1.1.0);
+    }
 
 pub loop-i-preserved : goal.loop-i-preserved
 loop-i-preserved c =
@@ -28,10 +32,10 @@ loop-i-preserved c =
     let f = unions in (
       search rules,
       (
-        omega (arith, c.add_union-n.ensures.1, c.loop-i.invariant.1.0),
+        omega (arith, c.add_union-n.ensures.bound, c.loop-i.invariant.1.0),
         (
           c.add_union-n.auto.rows ∙ c.loop-i.invariant.1.1.0,
-          c.add_union-n.ensures.0 ∙ ap (λ m. m ++ to_list (f c.loop-i.i)) c.loop-i.invariant.1.1.1 ∙ sym (collect_next f c.loop-i.i),
+          c.add_union-n.ensures.rows ∙ ap (λ m. m ++ to_list (f c.loop-i.i)) c.loop-i.invariant.1.1.1 ∙ sym (collect_next f c.loop-i.i),
         ),
       ),
     )
@@ -42,4 +46,7 @@ shape_of-rows c = c.loop-i.invariant.1.1.0
 pub returns : goal.returns
 returns c =
     let unions : ℕ → Option Proposal = union_at c.args.boundaries.now c.args.smaller.now c.args.larger.now c.args.counts.now c.args.marks.now c.args.count in
-    (c.loop-i.invariant.1.1.1 ∙ ap (λ n. collect n unions) (le_antisymm c.loop-i.invariant.0 c.loop-i-test.false), omega (arith, c.loop-i.invariant.0, c.loop-i.invariant.1.0))
+    record {
+      rows = c.loop-i.invariant.1.1.1 ∙ ap (λ n. collect n unions) (le_antisymm c.loop-i.invariant.0 c.loop-i-test.false);
+      bound = omega (arith, c.loop-i.invariant.0, c.loop-i.invariant.1.0);
+    }

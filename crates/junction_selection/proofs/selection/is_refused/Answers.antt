@@ -8,18 +8,21 @@ use Rattle.junction_selection.proofs.selection.is_refused.Goals as goal
 
 pub bounds-reserved-index : goal.bounds-reserved-index
 bounds-reserved-index c =
-    omega (arith, c.wide-index.ensures, c.requires.0.below c.args.p c.requires.1.0.1, c.requires.0.reserved-long)
+    omega (arith, c.wide-index.ensures, c.requires.selecting.below c.args.p c.requires.places.1, c.requires.selecting.reserved_long)
 
 pub port_taken-ports-requires : goal.port_taken-ports-requires
 port_taken-ports-requires c =
-    let h = c.requires.0 in
-    record { whole = omega (arith, h.whole, c.requires.1.0.1); small = h.small; removed-long = h.removed-long; reserved_long = h.reserved-long; index_in = h.below c.args.p c.requires.1.0.1 }
+    let h = c.requires.selecting in
+    record { whole = omega (arith, h.whole, c.requires.places.1); small = h.small; removed-long = h.removed-long; reserved_long = h.reserved_long; index_in = h.below c.args.p c.requires.places.1 }
 
 pub region_taken-requires : goal.region_taken-requires
 region_taken-requires c =
-    ((c.requires.0.whole, (c.requires.1.0.1, omega (arith, c.requires.1.0.0, c.requires.0.few, c.requires.0.room))), c.requires.1.1)
+    record {
+      sizes = (c.requires.selecting.whole, (c.requires.places.1, omega (arith, c.requires.places.0, c.requires.selecting.few, c.requires.selecting.room)));
+      taken_rows = c.requires.listed;
+    }
 
 pub returns : goal.returns
 returns c chosen st =
-    refused c.args.smaller.now c.args.larger.now c.args.rows.now c.args.taken.now c.args.removed.now c.args.reserved.now c.args.count c.args.n c.args.t chosen st c.args.p c.requires.0.below c.requires.1.0.1
+    refused c.args.smaller.now c.args.larger.now c.args.rows.now c.args.taken.now c.args.removed.now c.args.reserved.now c.args.count c.args.n c.args.t chosen st c.args.p c.requires.selecting.below c.requires.places.1
     c.port_taken-ports.ensures (ap (λ i. get_or c.args.reserved.now i false) c.wide-index.ensures) c.region_taken.ensures

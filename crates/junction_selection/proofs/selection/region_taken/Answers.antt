@@ -20,12 +20,12 @@ loop-k-init c = (omega arith, refl)
 
 pub bounds-taken-k : goal.bounds-taken-k
 bounds-taken-k c =
-    omega (arith, c.loop-k-test.true, c.requires.0.1.1)
+    omega (arith, c.loop-k-test.true, c.requires.sizes.1.1)
 
 pub region_conflict-requires : goal.region_conflict-requires
 region_conflict-requires c =
-    let q = c.requires.1 c.loop-k.k c.loop-k-test.true in
-    (omega (arith, c.wide.ensures, q, c.requires.0.0), omega (arith, c.requires.0))
+    let q = c.requires.taken_rows c.loop-k.k c.loop-k-test.true in
+    (omega (arith, c.wide.ensures, q, c.requires.sizes.0), omega (arith, c.requires.sizes))
 
 pub returns-then-region_conflict : goal.returns-then-region_conflict
 returns-then-region_conflict c =

@@ -13,12 +13,15 @@ use Rattle.junction_selection.proofs.selection.select_proposals.Goals as goal
 pub select_ranked-requires : goal.select_ranked-requires
 select_ranked-requires c =
     let h = c.requires in
-    let r = c.rank_proposals-m.ensures in (
-      record { few = h.few; whole = h.whole; small = h.small; removed-long = h.removed-long; reserved_long = h.small; room = omega arith; below = h.below },
-      ((r.0.1, omega (arith, r.0.1, h.few, c.rank_proposals-m.auto.order)), (r.0.0, (h.clear, λ j l. none_set 256 j))),
-    )
+    let r = c.rank_proposals-m.ensures in record {
+      selecting = record { few = h.few; whole = h.whole; small = h.small; removed-long = h.removed-long; reserved_long = h.small; room = omega arith; below = h.below };
+      sizes = (r.listed_then.1, omega (arith, r.listed_then.1, h.few, c.rank_proposals-m.auto.order));
+      listed = r.listed_then.0;
+      removed_clear = h.clear;
+      reserved_clear = λ j l. none_set 256 j;
+    }
 
 pub returns : goal.returns
 unfolding removed_at selected_of
 returns c j l =
-    c.select_ranked.ensures j l ∙ ap (λ m. any (λ q. eqb j q.index) (select (conflict_at c.args.smaller.now c.args.larger.now c.args.count) [] m)) c.rank_proposals-m.ensures.1
+    c.select_ranked.ensures j l ∙ ap (λ m. any (λ q. eqb j q.index) (select (conflict_at c.args.smaller.now c.args.larger.now c.args.count) [] m)) c.rank_proposals-m.ensures.order

@@ -13,18 +13,19 @@ use Rattle.junction_selection.proofs.selection.select_ranked.Goals as goal
 
 pub loop-k-init : goal.loop-k-init
 loop-k-init c =
-    (omega arith, (omega arith, (refl, (refl, (refl, standing-start _ _ _ _ c.args.order.now _ _ _ _ c.requires.1.1.1.0 c.requires.1.1.1.1)))))
+    (omega arith, (omega arith, (refl, (refl, (refl, standing-start _ _ _ _ c.args.order.now _ _ _ _ c.requires.removed_clear c.requires.reserved_clear)))))
 
 pub bounds-order-k : goal.bounds-order-k
 bounds-order-k c =
-    omega (arith, c.loop-k-test.true, c.requires.1.0)
+    omega (arith, c.loop-k-test.true, c.requires.sizes)
 
 pub take_if_free-t-requires : goal.take_if_free-t-requires
 take_if_free-t-requires c =
-    let i = c.loop-k.invariant in (
-      selecting_of _ _ _ c.requires.0 i.1.1.0 i.1.1.1.0 i.1.1.1.1.0,
-      ((omega (arith, i.1.0, c.loop-k-test.true, c.requires.1.0), omega (arith, c.wide-p.ensures, c.requires.1.1.0 c.loop-k.k c.loop-k-test.true)), i.1.1.1.1.1.rows_in),
-    )
+    let i = c.loop-k.invariant in record {
+      selecting = selecting_of _ _ _ c.requires.selecting i.1.1.0 i.1.1.1.0 i.1.1.1.1.0;
+      places = (omega (arith, i.1.0, c.loop-k-test.true, c.requires.sizes), omega (arith, c.wide-p.ensures, c.requires.listed c.loop-k.k c.loop-k-test.true));
+      listed = i.1.1.1.1.1.rows_in;
+    }
 
 pub loop-k-preserved : goal.loop-k-preserved
 loop-k-preserved c =
@@ -32,14 +33,14 @@ loop-k-preserved c =
     let a = c.take_if_free-t in (
       omega (arith, c.loop-k-test.true),
       (
-        omega (arith, a.ensures.1, i.1.0),
+        omega (arith, a.ensures.bound, i.1.0),
         (
-          a.auto.1.1.1.0 ∙ i.1.1.0,
+          a.auto.removed ∙ i.1.1.0,
           (
-            a.auto.1.1.1.1.0 ∙ i.1.1.1.0,
+            a.auto.reserved ∙ i.1.1.1.0,
             (
-              a.auto.1.1.1.1.1.0 ∙ i.1.1.1.1.0,
-              standing_as (a.ensures.0 _ i.1.1.1.1.1)
+              a.auto.taken ∙ i.1.1.1.1.0,
+              standing_as (a.ensures.standing _ i.1.1.1.1.1)
                   (ap (λ p. grown (conflict_at c.args.smaller.now c.args.larger.now c.args.count) (selected_of c.args.smaller.now c.args.larger.now c.args.rows.now c.args.order.now c.args.count c.loop-k.k) (row_at c.args.rows.now p)) c.wide-p.ensures
                   ∙ sym (selected_next c.args.smaller.now c.args.larger.now c.args.rows.now c.args.order.now c.args.count c.loop-k.k)),
             ),
@@ -59,5 +60,5 @@ shape_of-taken c = c.loop-k.invariant.1.1.1.1.0
 
 pub returns : goal.returns
 returns c j h =
-    c.loop-k.invariant.1.1.1.1.1.removed-at j h
+    c.loop-k.invariant.1.1.1.1.1.removed_at_lem j h
     ∙ ap (λ k. any (λ q. eqb j q.index) (selected_of c.args.smaller.now c.args.larger.now c.args.rows.now c.args.order.now c.args.count k)) (le_antisymm c.loop-k.invariant.0 c.loop-k-test.false)

@@ -10,21 +10,21 @@ slice_bounds-sort_numbers-end-2 c = sym (length-take-le _ _ (search rules))
 
 pub slice_bounds-least_doubtful-end : goal.slice_bounds-least_doubtful-end
 slice_bounds-least_doubtful-end c =
-    (keys-known _ _ _ _ _ c.take_keys.ensures c.taken-1.given.1).within
+    (keys-known _ _ _ _ _ c.take_keys.ensures c.in-All.is).within
 
 pub slice_bounds-least_doubtful-end-in-All : goal.slice_bounds-least_doubtful-end-in-All
 slice_bounds-least_doubtful-end-in-All c =
-    sym (length-take-le _ _ (keys-known _ _ _ _ _ c.take_keys.ensures c.taken-1.given.1).within)
+    sym (length-take-le _ _ (keys-known _ _ _ _ _ c.take_keys.ensures c.in-All.is).within)
 
 pub least_doubtful-requires : goal.least_doubtful-requires
 least_doubtful-requires c =
-    (c.requires.0.0, keys_positions _ _ _ (keys-known _ _ _ _ _ c.take_keys.ensures c.taken-1.given.1))
+    (c.requires.room.0, keys_positions _ _ _ (keys-known _ _ _ _ _ c.take_keys.ensures c.in-All.is))
 
 pub returns-in-TooMany : goal.returns-in-TooMany
 returns-in-TooMany c =
-    nothing_known (keys-stop _ _ _ _ _ c.take_keys.ensures c.stop-1.given.1)
+    nothing_known (keys-stop _ _ _ _ _ c.take_keys.ensures c.in-TooMany.is)
 
 pub returns-in-All : goal.returns-in-All
 returns-in-All c =
     let D = c.least_doubtful.ensures in
-    (D.0, λ e. keys-apart _ _ _ (keys-known _ _ _ _ _ c.take_keys.ensures c.taken-1.given.1) (D.1 e))
+    (D.0, λ e. keys-apart _ _ _ (keys-known _ _ _ _ _ c.take_keys.ensures c.in-All.is) (D.1 e))

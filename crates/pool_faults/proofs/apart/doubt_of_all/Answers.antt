@@ -30,7 +30,7 @@ loop-low-init c = (search rules, search rules, search rules, refl, refl, λ e i 
 
 pub returns-then-low-high : goal.returns-then-low-high
 returns-then-low-high c =
-    nothing_known (maps-stop _ _ c.take_maps.ensures c.stop-1.given.1)
+    nothing_known (maps-stop _ _ c.take_maps.ensures c.in-TooMany.is)
 
 pub loop-low-preserved-in-TooMany : goal.loop-low-preserved-in-TooMany
 loop-low-preserved-in-TooMany c =
@@ -38,8 +38,11 @@ loop-low-preserved-in-TooMany c =
 
 pub doubt_between-found-requires : goal.doubt_between-found-requires
 doubt_between-found-requires c =
-    let fits = maps-fit _ _ c.take_maps.ensures c.count-1.given.1 in
-    ((search rules, still-fits fits (search rules)), (search rules, search rules))
+    let fits = maps-fit _ _ c.take_maps.ensures c.in-All.is in
+    record {
+        room = (search rules, still-fits fits (search rules));
+        sizes = (search rules, search rules);
+    }
 
 pub returns-then-high : goal.returns-then-high
 returns-then-high c =

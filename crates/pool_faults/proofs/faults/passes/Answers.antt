@@ -16,7 +16,7 @@ returns-in-Bad c = λ e. absurd (false≢true e)
 pub returns-else-to-from : goal.returns-else-to-from
 unfolding term_at
 returns-else-to-from c =
-    let days = sym c.term_days.ensures ∙ ap days_in c.from-1.given.1 in
+    let days = sym c.term_days.ensures ∙ ap days_in c.in-FromTo.is in
     λ e.
     ap (term_fault c.args.terms.now c.args.i) days
-    ∙ free_of_fault c.args.terms.now c.args.i c.args.ends.now c.requires.1 c.slot_of.ensures.0 _ c.if-to-from.false (leb-true _ _ e)
+    ∙ free_of_fault c.args.terms.now c.args.i c.args.ends.now c.requires.latest c.slot_of.ensures.0 _ c.if-to-from.false (leb-true _ _ e)

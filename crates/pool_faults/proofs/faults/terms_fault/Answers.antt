@@ -13,19 +13,19 @@ pub returns-in-BadDate : goal.returns-in-BadDate
 unfolding terms_refusal
 returns-in-BadDate c =
     let I = c.loop-i.invariant in
-    let found = ap refusal_in c.enum_told-in-BadDate-1.given.1 in
+    let found = ap refusal_in c.in-BadDate.is in
     found ∙ sym (first_found _ _ c.loop-i.i _ c.loop-i-test.true I.1 (sym c.term_fault-fault.ensures ∙ found))
 
 pub returns-in-EmptyOrOverlapping : goal.returns-in-EmptyOrOverlapping
 unfolding terms_refusal
 returns-in-EmptyOrOverlapping c =
     let I = c.loop-i.invariant in
-    let found = ap refusal_in c.enum_told-in-EmptyOrOverlapping-1.given.1 in
+    let found = ap refusal_in c.in-EmptyOrOverlapping.is in
     found ∙ sym (first_found _ _ c.loop-i.i _ c.loop-i-test.true I.1 (sym c.term_fault-fault.ensures ∙ found))
 
 pub loop-i-preserved : goal.loop-i-preserved
 loop-i-preserved c =
-    let nothing = ap refusal_in c.enum_told-1.given.1 in
+    let nothing = ap refusal_in c.in-MENDARM.is in
     (search rules, none_below_more _ c.loop-i.i c.loop-i.invariant.1 (sym c.term_fault-fault.ensures ∙ nothing))
 
 pub returns : goal.returns

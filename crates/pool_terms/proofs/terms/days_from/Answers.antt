@@ -4,4 +4,4 @@ use Rattle.pool_terms.proofs.terms.days_from.Goals as goal
 
 pub returns-in-Number-end : goal.returns-in-Number-end
 returns-in-Number-end c =
-    rw (c.first-1.given.1, c.end-1.given.1) refl
+    rw (c.in-Number.is, c.in-Number-end.is) refl

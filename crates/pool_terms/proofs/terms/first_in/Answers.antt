@@ -5,8 +5,8 @@ use Rattle.pool_terms.proofs.terms.first_in.Goals as goal
 
 pub returns-in-Bad : goal.returns-in-Bad
 returns-in-Bad c =
-    sym (ap first_in (sym c.term_days.ensures ∙ ap days_in c.enum_told-1.given.1))
+    sym (ap first_in (sym c.term_days.ensures ∙ ap days_in c.in-Bad.is))
 
 pub returns-in-FromTo : goal.returns-in-FromTo
 returns-in-FromTo c =
-    sym (ap first_in (sym c.term_days.ensures ∙ ap days_in c.from-1.given.1))
+    sym (ap first_in (sym c.term_days.ensures ∙ ap days_in c.in-FromTo.is))

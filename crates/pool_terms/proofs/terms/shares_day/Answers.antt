@@ -13,17 +13,17 @@ returns-then-terms-j c = simp (ne_eqb _ _ c.if-terms-j.true)
 pub returns-then-from-end : goal.returns-then-from-end
 unfolding term_at
 returns-then-from-end c =
-    let days = sym c.term_days.ensures ∙ ap days_in c.first-1.given.1 in
+    let days = sym c.term_days.ensures ∙ ap days_in c.in-FromTo.is in
     sym (ap₂ ◌&&◌ (eq-eqb _ _ c.if-terms-j.false) (ap (overlap _) days ∙ simp (lt-ltb _ _ c.if-from-end.true)))
 
 pub returns-in-Bad : goal.returns-in-Bad
 unfolding term_at
 returns-in-Bad c =
-    let days = sym c.term_days.ensures ∙ ap days_in c.enum_told-1.given.1 in
+    let days = sym c.term_days.ensures ∙ ap days_in c.in-Bad.is in
     sym (ap₂ ◌&&◌ (eq-eqb _ _ c.if-terms-j.false) (ap (overlap _) days))
 
 pub returns-else-from-end : goal.returns-else-from-end
 unfolding term_at
 returns-else-from-end c =
-    let days = sym c.term_days.ensures ∙ ap days_in c.first-1.given.1 in
+    let days = sym c.term_days.ensures ∙ ap days_in c.in-FromTo.is in
     sym (ap₂ ◌&&◌ (eq-eqb _ _ c.if-terms-j.false) (ap (overlap _) days ∙ simp (le-ltb _ _ c.if-from-end.false)))

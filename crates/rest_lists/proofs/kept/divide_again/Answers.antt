@@ -8,7 +8,7 @@ use Rattle.rest_lists.proofs.kept.divide_again.Goals as goal
 
 pub overflow_mul-first : goal.overflow_mul-first
 overflow_mul-first c =
-    record { fits = tallies-small c.requires.4 c.well-formed.1.1.1.1.1.1.1.1.1.1.0.0 }
+    record { fits = tallies-small c.requires.4 c.well_formed.1.1.1.1.1.1.1.1.1.1.0.0 }
 
 pub clear_numbers-requires : goal.clear_numbers-requires
 clear_numbers-requires c =
@@ -16,7 +16,7 @@ clear_numbers-requires c =
 
 pub overflow_mul-first-2 : goal.overflow_mul-first-2
 overflow_mul-first-2 c =
-    record { fits = pairs_small c.requires.4 c.well-formed.1.1.1.1.1.1.1.1.1.1.1.0.0 }
+    record { fits = pairs_small c.requires.4 c.well_formed.1.1.1.1.1.1.1.1.1.1.1.0.0 }
 
 pub clear_numbers-requires-2 : goal.clear_numbers-requires-2
 clear_numbers-requires-2 c =

@@ -8,18 +8,18 @@ loop-y-init c = joining_starts c.requires _
 
 pub join_row-marked-requires : goal.join_row-marked-requires
 join_row-marked-requires c =
-    row-asked c.pre c.loop-y.inv c.loop-y-test.true
+    row-asked c.requires c.loop-y.invariant c.loop-y-test.true
 
 pub overflow_add-y : goal.overflow_add-y
 overflow_add-y c =
-    omega (arith, c.loop-y-test.taken, c.pre.short)
+    omega (arith, c.loop-y-test.true, c.requires.short)
 
 pub loop-y-smaller : goal.loop-y-smaller
-loop-y-smaller c = omega (arith, c.loop-y-test.taken)
+loop-y-smaller c = omega (arith, c.loop-y-test.true)
 
 pub loop-y-preserved : goal.loop-y-preserved
 loop-y-preserved c =
-    joining_goes_on c.loop-y.inv c.loop-y-test.taken c.join_row-marked.ensures
+    joining_goes_on c.loop-y.invariant c.loop-y-test.true c.join_row-marked.ensures
 
 pub shape_of-parents : goal.shape_of-parents
 shape_of-parents c = c.loop-y.invariant.parents.long

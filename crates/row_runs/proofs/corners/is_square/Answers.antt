@@ -19,17 +19,17 @@ returns-then-not-is_walkable-2 c =
     square-second _ _ _ (sym c.is_walkable.ensures ∙ not-false _ c.if-not-is_walkable.false-raw) (sym c.is_walkable-2.ensures ∙ not-true _ c.if-not-is_walkable-2.true-raw)
 
 pub is_walkable-requires-3 : goal.is_walkable-requires-3
-is_walkable-requires-3 c = omega (arith, (entry c.requires)
+is_walkable-requires-3 c = omega (arith, c.requires)
 
 pub returns-then-not-is_walkable-3 : goal.returns-then-not-is_walkable-3
 returns-then-not-is_walkable-3 c =
-    square-third _ _ _ (sym c.is_walkable.ensures ∙ not-false _ c.if-not-is_walkable.left) (sym c.is_walkable-2.ensures ∙ not-false _ c.if-not-is_walkable-2.false-raw)
+    square-third _ _ _ (sym c.is_walkable.ensures ∙ not-false _ c.if-not-is_walkable.false-raw) (sym c.is_walkable-2.ensures ∙ not-false _ c.if-not-is_walkable-2.false-raw)
     (sym c.is_walkable-3.ensures ∙ not-true _ c.if-not-is_walkable-3.true-raw)
 
 pub is_walkable-requires-4 : goal.is_walkable-requires-4
-is_walkable-requires-4 c = (entry (first c).requires
+is_walkable-requires-4 c = c.requires
 
 pub returns : goal.returns
 returns c =
-    square_last _ _ _ (sym c.is_walkable.ensures ∙ not-false _ c.if-not-is_walkable.left) (sym c.is_walkable-2.ensures ∙ not-false _ c.if-not-is_walkable-2.left)
+    square_last _ _ _ (sym c.is_walkable.ensures ∙ not-false _ c.if-not-is_walkable.false-raw) (sym c.is_walkable-2.ensures ∙ not-false _ c.if-not-is_walkable-2.false-raw)
     (sym c.is_walkable-3.ensures ∙ not-false _ c.if-not-is_walkable-3.false-raw) c.is_walkable-4.result c.is_walkable-4.ensures

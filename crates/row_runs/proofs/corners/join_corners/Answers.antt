@@ -19,29 +19,29 @@ pub returns-then-not-is_square : goal.returns-then-not-is_square
 returns-then-not-is_square c = corners-blocked (sym c.is_square.ensures ∙ not-true _ c.if-not-is_square.true-raw)
 
 pub overflow_add-c : goal.overflow_add-c
-overflow_add-c c = omega (arith, corners-small (entry c.requires)
+overflow_add-c c = omega (arith, corners-small c.requires)
 
 pub overflow_add-c-2 : goal.overflow_add-c-2
-overflow_add-c-2 c = omega (arith, corners-small (entry c.requires)
+overflow_add-c-2 c = omega (arith, corners-small c.requires)
 
 pub join_step-requires : goal.join_step-requires
-join_step-requires c = first_asked (entry c.requires
+join_step-requires c = first_asked c.requires
 
 pub overflow_add-c-3 : goal.overflow_add-c-3
-overflow_add-c-3 c = omega (arith, corners-small (entry (square c)).requires)
+overflow_add-c-3 c = omega (arith, corners-small c.requires)
 
 pub overflow_add-c-4 : goal.overflow_add-c-4
-overflow_add-c-4 c = omega (arith, corners-small (entry (square c)).requires)
+overflow_add-c-4 c = omega (arith, corners-small c.requires)
 
 pub join_step-requires-2 : goal.join_step-requires-2
-join_step-requires-2 c = second-asked (entry (square c)).requires c.join_step.ensures
+join_step-requires-2 c = second-asked c.requires c.join_step.ensures
 
 pub shape_of-parents : goal.shape_of-parents
 shape_of-parents c =
-    let P = c.pre in
-    (corners-done (sym c.is_square.ensures ∙ not-false _ c.if-not-is_square.left) c.join_step.ensures c.join_step-2.ensures
+    let P = c.requires in
+    (corners-done (sym c.is_square.ensures ∙ not-false _ c.if-not-is_square.false-raw) c.join_step.ensures c.join_step-2.ensures
     P.n P.name P.forest P.inside).left.beyond.long
 
 pub returns : goal.returns
 returns c =
-    corners-done (sym c.is_square.ensures ∙ not-false _ c.if-not-is_square.left) c.join_step.ensures c.join_step-2.ensures
+    corners-done (sym c.is_square.ensures ∙ not-false _ c.if-not-is_square.false-raw) c.join_step.ensures c.join_step-2.ensures

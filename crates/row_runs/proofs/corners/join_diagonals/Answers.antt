@@ -16,7 +16,7 @@ pub join_corners-requires : goal.join_corners-requires
 join_corners-requires c = corners-asked c.requires c.loop-c.invariant c.loop-c-test.true
 
 pub overflow_add-c-in-loop-c : goal.overflow_add-c-in-loop-c
-overflow_add-c-in-loop-c c = let P = (entry c).pre in omega (arith, c.loop-c-test.true, P.ends, P.forest.few)
+overflow_add-c-in-loop-c c = let P = c.requires in omega (arith, c.loop-c-test.true, P.ends, P.forest.few)
 
 pub loop-c-smaller : goal.loop-c-smaller
 loop-c-smaller c = omega (arith, c.loop-c-test.true)
@@ -25,7 +25,7 @@ pub loop-c-preserved : goal.loop-c-preserved
 loop-c-preserved c = cornering_goes_on c.loop-c.invariant c.loop-c-test.true c.join_corners.ensures
 
 pub shape_of-parents : goal.shape_of-parents
-shape_of-parents c = cornering_long c.pre c.loop-c.invariant
+shape_of-parents c = cornering_long c.requires c.loop-c.invariant
 
 pub returns : goal.returns
 returns c = cornering_ends c.loop-c.invariant c.loop-c-test.false

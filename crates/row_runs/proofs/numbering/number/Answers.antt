@@ -11,27 +11,25 @@ bounds-queue-c c = omega (arith, c.loop-c-test.true, c.requires.queue_long_lem)
 
 pub label_at-label-requires : goal.label_at-label-requires
 label_at-label-requires c =
-    label-asked c.loop-c.inv c.pre c.loop-c-test.taken
+    label-asked c.loop-c.invariant c.requires c.loop-c-test.true
 
 pub put_label-requires : goal.put_label-requires
 put_label-requires c =
-    let I = c.loop-c.inv in
-    let A = c.pre in
-    let h = c.loop-c-test.taken in
+    let I = c.loop-c.invariant in
+    let A = c.requires in
+    let h = c.loop-c-test.true in
     (omega (arith, c.wide-e.ensures, end_more I A h), omega (arith, c.wide-e.ensures, end-inside I A h, room I A h))
 
 pub loop-c-smaller : goal.loop-c-smaller
 loop-c-smaller c =
-    let e = at-end c in
-    let t = e in
-    omega (arith, e.wide.ensures, t.loop-test.taken, end_more t.before.loop.inv t.pre t.loop-test.taken)
+    omega (arith, c.wide-e.ensures, c.loop-c-test.true, end_more c.loop-c.invariant c.requires c.loop-c-test.true)
 
 pub loop-c-preserved : goal.loop-c-preserved
 loop-c-preserved c =
-    numbering_goes_on c.loop-c.inv c.pre c.loop-c-test.taken c.wide-e.ensures c.label_at-label.ensures c.put_label.ensures c.greater-id.ensures
+    numbering_goes_on c.loop-c.invariant c.requires c.loop-c-test.true c.wide-e.ensures c.label_at-label.ensures c.put_label.ensures c.greater-id.ensures
 
 pub shape_of-labels : goal.shape_of-labels
-shape_of-labels c = labels_long_lem c.loop-c.invariant c.pre
+shape_of-labels c = labels_long_lem c.loop-c.invariant c.requires
 
 pub returns : goal.returns
 returns c = numbering_ends c.loop-c.invariant c.loop-c-test.false c.wide.ensures

@@ -9,7 +9,7 @@ pub loop-c-init : goal.loop-c-init
 loop-c-init c = passing-starts _ _ _ c.requires.0
 
 pub is_cut-requires : goal.is_cut-requires
-is_cut-requires c = (omega (arith, c.loop-c-test.true, c.requires.1), omega arith)
+is_cut-requires c = record { masks_room = omega (arith, c.loop-c-test.true, c.requires.1); k_within = omega arith }
 
 pub returns-then-not-is_cut : goal.returns-then-not-is_cut
 returns-then-not-is_cut c = passing-stops c.loop-c.invariant (sym c.is_cut.ensures ∙ not-true _ c.if-not-is_cut.true-raw)

@@ -15,9 +15,9 @@ put_run-requires c = c.requires.run
 
 pub shape_of-parents : goal.shape_of-parents
 shape_of-parents c =
-    let run = (entry c).requires.run in
+    let run = c.requires.run in
     (c.put_run.ensures run.n run.name run.forest run.fresh run.ends).left.beyond.long
 
 pub returns : goal.returns
 returns c =
-    λ n name F fresh h. run-put (sym c.is_walkable.ensures ∙ not-false _ c.if-not-is_walkable.left) (c.put_run.ensures n name F fresh h)
+    λ n name F fresh h. run-put (sym c.is_walkable.ensures ∙ not-false _ c.if-not-is_walkable.false-raw) (c.put_run.ensures n name F fresh h)

@@ -27,10 +27,10 @@ loop-c-smaller c = omega (arith, c.stretch_end-e.ensures.more, c.stretch_end-e.e
 
 pub loop-c-preserved : goal.loop-c-preserved
 loop-c-preserved c =
-    scanning_goes_on c.loop-c.inv c.loop-c-test.taken c.pre.queue_long_lem c.stretch_end-e.ensures c.put_stretch.ensures
+    scanning_goes_on c.loop-c.invariant c.loop-c-test.true c.requires.queue_long_lem c.stretch_end-e.ensures c.put_stretch.ensures
 
 pub shape_of-parents : goal.shape_of-parents
-shape_of-parents c = parents_long_lem c.loop-c.invariant c.pre
+shape_of-parents c = parents_long_lem c.loop-c.invariant c.requires
 
 pub shape_of-queue : goal.shape_of-queue
 shape_of-queue c = c.loop-c.invariant.queue_long_lem

@@ -21,27 +21,27 @@ pub returns-then-not-is_walkable-2 : goal.returns-then-not-is_walkable-2
 returns-then-not-is_walkable-2 c = blocked-below (sym c.is_walkable-2.ensures ∙ not-true _ c.if-not-is_walkable-2.true-raw)
 
 pub south_end-c-requires : goal.south_end-c-requires
-south_end-c-requires c = let P = (entry c.requires in (omega (arith, P.more), P.masks_long)
+south_end-c-requires c = let P = c.requires in (omega (arith, P.more), P.masks_long)
 
 pub returns-then-end-c : goal.returns-then-end-c
 returns-then-end-c c = all-cut c.south_end-c.ensures c.if-end-c.true
 
 pub overflow_add-c : goal.overflow_add-c
 overflow_add-c c =
-    let P = (entry (first (second c)).requires in
+    let P = c.requires in
     omega (arith, c.if-end-c.false, P.ends, P.forest.few)
 
 pub join-requires : goal.join-requires
 join-requires c =
-    let P = (entry (first (second c)).requires in
-    record { n = P.n; name = P.name; forest = P.forest; = omega (arith, c.if-end-c.false, P.ends); = omega (arith, c.if-end-c.false, P.ends) }
+    let P = c.requires in
+    record { n = P.n; name = P.name; forest = P.forest; first = omega (arith, c.if-end-c.false, P.ends); second = omega (arith, c.if-end-c.false, P.ends) }
 
 pub shape_of-parents : goal.shape_of-parents
 shape_of-parents c =
-    let P = (entry (first (second c)).requires in
-    (c.join.ensures P.n P.name P.forest (omega (arith, c.if-end-c.left, P.ends)) (omega (arith, c.if-end-c.left, P.ends))).beyond.long
+    let P = c.requires in
+    (c.join.ensures P.n P.name P.forest (omega (arith, c.if-end-c.false, P.ends)) (omega (arith, c.if-end-c.false, P.ends))).beyond.long
 
 pub returns : goal.returns
 returns c =
-    one_joined c.south_end-c.ensures c.if-end-c.left (sym c.is_walkable.ensures ∙ not-false _ c.if-not-is_walkable.left)
-    (sym c.is_walkable-2.ensures ∙ not-false _ c.if-not-is_walkable-2.left) c.join.ensures
+    one_joined c.south_end-c.ensures c.if-end-c.false (sym c.is_walkable.ensures ∙ not-false _ c.if-not-is_walkable.false-raw)
+    (sym c.is_walkable-2.ensures ∙ not-false _ c.if-not-is_walkable-2.false-raw) c.join.ensures

@@ -14,36 +14,36 @@ pub end_at-a-requires : goal.end_at-a-requires
 end_at-a-requires c = omega (arith, c.loop-c-test.true, c.requires.queue_long_lem)
 
 pub overflow_add-c : goal.overflow_add-c
-overflow_add-c c = let P = c.pre in omega (arith, c.loop-c-test.true, P.ends, P.forest.few)
+overflow_add-c c = let P = c.requires in omega (arith, c.loop-c-test.true, P.ends, P.forest.few)
 
 pub end_at-b-requires : goal.end_at-b-requires
-end_at-b-requires c = omega (arith, c.loop-c-test.true, c.pre.queue_long_lem)
+end_at-b-requires c = omega (arith, c.loop-c-test.true, c.requires.queue_long_lem)
 
 pub overflow_sub-b : goal.overflow_sub-b
 overflow_sub-b c =
-    let lower : let arg = (entry c.args in Reach arg.cells.now arg.masks.now (arg.up + arg.width) (arg.up + arg.width + arg.width) arg.queue.now (c.loop-c.c + arg.width) c.end_at-b.result = lower-reach c.loop-c.invariant c.loop-c-test.true c.end_at-b.result c.end_at-b.ensures in
+    let lower : let arg = c.args in Reach arg.cells.now arg.masks.now (arg.up + arg.width) (arg.up + arg.width + arg.width) arg.queue.now (c.loop-c.c + arg.width) c.end_at-b.result = lower-reach c.loop-c.invariant c.loop-c-test.true c.end_at-b.result c.end_at-b.ensures in
     omega (arith, lower.high)
 
 pub join_overlap-requires : goal.join_overlap-requires
 join_overlap-requires c =
-    let upper : let arg = (entry c.args in Reach arg.cells.now arg.masks.now arg.up (arg.up + arg.width) arg.queue.now c.loop-c.c c.end_at-a.result = upper-reach c.loop-c.invariant c.loop-c-test.true c.end_at-a.result c.end_at-a.ensures in
-    let lower : let arg = (entry c.args in Reach arg.cells.now arg.masks.now (arg.up + arg.width) (arg.up + arg.width + arg.width) arg.queue.now (c.loop-c.c + arg.width) c.end_at-b.result = lower-reach c.loop-c.invariant c.loop-c-test.true c.end_at-b.result c.end_at-b.ensures in
-    overlap-asked c.loop-c.invariant c.loop-c-test.true upper lower c.least-e.ensures (entry c.pre
+    let upper : let arg = c.args in Reach arg.cells.now arg.masks.now arg.up (arg.up + arg.width) arg.queue.now c.loop-c.c c.end_at-a.result = upper-reach c.loop-c.invariant c.loop-c-test.true c.end_at-a.result c.end_at-a.ensures in
+    let lower : let arg = c.args in Reach arg.cells.now arg.masks.now (arg.up + arg.width) (arg.up + arg.width + arg.width) arg.queue.now (c.loop-c.c + arg.width) c.end_at-b.result = lower-reach c.loop-c.invariant c.loop-c-test.true c.end_at-b.result c.end_at-b.ensures in
+    overlap-asked c.loop-c.invariant c.loop-c-test.true upper lower c.least-e.ensures c.requires
 
 pub loop-c-smaller : goal.loop-c-smaller
 loop-c-smaller c =
-    let upper : let arg = (entry c.args in Reach arg.cells.now arg.masks.now arg.up (arg.up + arg.width) arg.queue.now c.loop-c.c c.end_at-a.result = upper-reach c.loop-c.invariant c.loop-c-test.true c.end_at-a.result c.end_at-a.ensures in
-    let lower : let arg = (entry c.args in Reach arg.cells.now arg.masks.now (arg.up + arg.width) (arg.up + arg.width + arg.width) arg.queue.now (c.loop-c.c + arg.width) c.end_at-b.result = lower-reach c.loop-c.invariant c.loop-c-test.true c.end_at-b.result c.end_at-b.ensures in
-    omega (arith, c.loop-c-test.taken, (overlap c.loop-c.inv c.loop-c-test.taken upper lower c.least-e.ensures).some)
+    let upper : let arg = c.args in Reach arg.cells.now arg.masks.now arg.up (arg.up + arg.width) arg.queue.now c.loop-c.c c.end_at-a.result = upper-reach c.loop-c.invariant c.loop-c-test.true c.end_at-a.result c.end_at-a.ensures in
+    let lower : let arg = c.args in Reach arg.cells.now arg.masks.now (arg.up + arg.width) (arg.up + arg.width + arg.width) arg.queue.now (c.loop-c.c + arg.width) c.end_at-b.result = lower-reach c.loop-c.invariant c.loop-c-test.true c.end_at-b.result c.end_at-b.ensures in
+    omega (arith, c.loop-c-test.true, (overlap c.loop-c.invariant c.loop-c-test.true upper lower c.least-e.ensures).some)
 
 pub loop-c-preserved : goal.loop-c-preserved
 loop-c-preserved c =
-    let upper : let arg = (entry c.args in Reach arg.cells.now arg.masks.now arg.up (arg.up + arg.width) arg.queue.now c.loop-c.c c.end_at-a.result = upper-reach c.loop-c.invariant c.loop-c-test.true c.end_at-a.result c.end_at-a.ensures in
-    let lower : let arg = (entry c.args in Reach arg.cells.now arg.masks.now (arg.up + arg.width) (arg.up + arg.width + arg.width) arg.queue.now (c.loop-c.c + arg.width) c.end_at-b.result = lower-reach c.loop-c.invariant c.loop-c-test.true c.end_at-b.result c.end_at-b.ensures in
-    southing_goes_on c.loop-c.inv c.loop-c-test.taken upper lower c.least-e.ensures c.join_overlap.ensures
+    let upper : let arg = c.args in Reach arg.cells.now arg.masks.now arg.up (arg.up + arg.width) arg.queue.now c.loop-c.c c.end_at-a.result = upper-reach c.loop-c.invariant c.loop-c-test.true c.end_at-a.result c.end_at-a.ensures in
+    let lower : let arg = c.args in Reach arg.cells.now arg.masks.now (arg.up + arg.width) (arg.up + arg.width + arg.width) arg.queue.now (c.loop-c.c + arg.width) c.end_at-b.result = lower-reach c.loop-c.invariant c.loop-c-test.true c.end_at-b.result c.end_at-b.ensures in
+    southing_goes_on c.loop-c.invariant c.loop-c-test.true upper lower c.least-e.ensures c.join_overlap.ensures
 
 pub shape_of-parents : goal.shape_of-parents
-shape_of-parents c = southing_long c.loop-c.invariant c.pre
+shape_of-parents c = southing_long c.loop-c.invariant c.requires
 
 pub returns : goal.returns
 returns c = southing_ends c.loop-c.invariant c.loop-c-test.false

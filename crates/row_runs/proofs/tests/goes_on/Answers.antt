@@ -15,7 +15,7 @@ pub overflow_sub-c : goal.overflow_sub-c
 overflow_sub-c c = omega (arith, c.requires.0)
 
 pub is_cut-requires : goal.is_cut-requires
-is_cut-requires c = (omega (arith, c.requires.0, c.requires.2), omega arith)
+is_cut-requires c = record { masks_room = omega (arith, c.requires.0, c.requires.2); k_within = omega arith }
 
 pub returns : goal.returns
 returns c =

@@ -4,12 +4,12 @@ use Rattle.row_runs.proofs.WordLaws.{word-four}
 use Rattle.row_runs.proofs.words.four.Goals as goal
 
 pub overflow_mul-result : goal.overflow_mul-result
-overflow_mul-result c = omega (arith, c.two-high.ensures.1)
+overflow_mul-result c = omega (arith, c.two-high.ensures.bound)
 
 pub overflow_add-result : goal.overflow_add-result
-overflow_add-result c = omega (arith, c.two-low.ensures.1, c.two-high.ensures.1)
+overflow_add-result c = omega (arith, c.two-low.ensures.bound, c.two-high.ensures.bound)
 
 pub returns : goal.returns
 returns c =
     let a = c.args in
-    (omega (arith, c.two-low.ensures.0, c.two-high.ensures.0, word-four a.cells.now a.c), omega (arith, c.two-low.ensures.1, c.two-high.ensures.1))
+    record { value = omega (arith, c.two-low.ensures.value, c.two-high.ensures.value, word-four a.cells.now a.c); bound = omega (arith, c.two-low.ensures.bound, c.two-high.ensures.bound) }

@@ -4,12 +4,12 @@ use Rattle.row_runs.proofs.WordLaws.{open_flags_are}
 use Rattle.row_runs.proofs.words.open_flags.Goals as goal
 
 pub overflow_mul-result : goal.overflow_mul-result
-overflow_mul-result c = omega (arith, c.four-high.ensures.1)
+overflow_mul-result c = omega (arith, c.four-high.ensures.bound)
 
 pub overflow_add-result : goal.overflow_add-result
-overflow_add-result c = omega (arith, c.four-low.ensures.1, c.four-high.ensures.1)
+overflow_add-result c = omega (arith, c.four-low.ensures.bound, c.four-high.ensures.bound)
 
 pub returns : goal.returns
 returns c =
     let a = c.args in
-    open_flags_are a.cells.now (λ d. omega (arith, c.shared_slice_known-1.given d)) a.c c.four-low.result c.four-high.result c.four-low.ensures.0 c.four-high.ensures.0
+    open_flags_are a.cells.now (λ d. omega (arith, c.shared_slice_known-1.given d)) a.c c.four-low.result c.four-high.result c.four-low.ensures.value c.four-high.ensures.value

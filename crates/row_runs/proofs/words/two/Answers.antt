@@ -15,7 +15,8 @@ overflow_add-result c =
 pub returns : goal.returns
 returns c =
     let a = c.args in
-    let given = c.shared_slice_known-3-1.given in (
-      omega (arith, c.byte-low.ensures, c.byte-high.ensures, word_two a.cells.now a.c),
-      omega (arith, c.byte-low.ensures, c.byte-high.ensures, given a.c, given (a.c + 1)),
-    )
+    let given = c.shared_slice_known-3-1.given in
+    record {
+      value = omega (arith, c.byte-low.ensures, c.byte-high.ensures, word_two a.cells.now a.c);
+      bound = omega (arith, c.byte-low.ensures, c.byte-high.ensures, given a.c, given (a.c + 1));
+    }

@@ -15,10 +15,10 @@ pub cell_center-to-requires : goal.cell_center-to-requires
 cell_center-to-requires c = (c.requires.3, c.requires.4)
 
 pub cross-from_side-requires : goal.cross-from_side-requires
-cross-from_side-requires c = (c.requires.0.a_in, c.requires.0.b-in, c.cell_center-from.ensures.1)
+cross-from_side-requires c = (c.requires.0.a_in, c.requires.0.b_in, c.cell_center-from.ensures.1)
 
 pub cross-to_side-requires : goal.cross-to_side-requires
-cross-to_side-requires c = (c.requires.0.a_in, c.requires.0.b-in, c.cell_center-to.ensures.1)
+cross-to_side-requires c = (c.requires.0.a_in, c.requires.0.b_in, c.cell_center-to.ensures.1)
 
 pub not_negative-requires : goal.not_negative-requires
 not_negative-requires c = tt
@@ -30,30 +30,30 @@ pub returns-then-not_negative : goal.returns-then-not_negative
 unfolding cuts
 returns-then-not_negative c =
     let S : Segment = segment_of c.args.self in
-    let P : Position = at c.args.from-x c.args.from-y in
-    let Q : Position = at c.args.to-x c.args.to-y in
+    let P : Position = at c.args.from_x c.args.from_y in
+    let Q : Position = at c.args.to_x c.args.to_y in
     let same_side : Bool = beq (non_neg (cross S.a S.b (cell_center P))) (non_neg (cross S.a S.b (cell_center Q))) in
     let from_is : point_of c.cell_center-from.result ≡ cell_center P = c.cell_center-from.ensures.0 in
     let to_is : point_of c.cell_center-to.result ≡ cell_center Q = c.cell_center-to.ensures.0 in
     let side_is : beq c.not_negative.result c.not_negative-2.result ≡ same_side = λ i.
     beq
-    ((c.not_negative.ensures ∙ (λ j. non_neg (given c.cross-from_side.type-inv (c.cross-from_side.ensures ∙ (λ k. cross S.a S.b (from_is k))) j))) i)
-    ((c.not_negative-2.ensures ∙ (λ j. non_neg (given c.cross-to_side.type-inv (c.cross-to_side.ensures ∙ (λ k. cross S.a S.b (to_is k))) j))) i) in
+    ((c.not_negative.ensures ∙ (λ j. non_neg (given c.cross-from_side.type_inv (c.cross-from_side.ensures ∙ (λ k. cross S.a S.b (from_is k))) j))) i)
+    ((c.not_negative-2.ensures ∙ (λ j. non_neg (given c.cross-to_side.type_inv (c.cross-to_side.ensures ∙ (λ k. cross S.a S.b (to_is k))) j))) i) in
     λ i. not ((sym c.if-not_negative.true ∙ side_is) i) && segments_intersect S.a S.b (cell_center P) (cell_center Q)
 
 pub returns : goal.returns
 unfolding cuts
 returns c =
     let S : Segment = segment_of c.args.self in
-    let P : Position = at c.args.from-x c.args.from-y in
-    let Q : Position = at c.args.to-x c.args.to-y in
+    let P : Position = at c.args.from_x c.args.from_y in
+    let Q : Position = at c.args.to_x c.args.to_y in
     let same_side : Bool = beq (non_neg (cross S.a S.b (cell_center P))) (non_neg (cross S.a S.b (cell_center Q))) in
     let from_is : point_of c.cell_center-from.result ≡ cell_center P = c.cell_center-from.ensures.0 in
     let to_is : point_of c.cell_center-to.result ≡ cell_center Q = c.cell_center-to.ensures.0 in
     let side_is : beq c.not_negative.result c.not_negative-2.result ≡ same_side = λ i.
     beq
-    ((c.not_negative.ensures ∙ (λ j. non_neg (given c.cross-from_side.type-inv (c.cross-from_side.ensures ∙ (λ k. cross S.a S.b (from_is k))) j))) i)
-    ((c.not_negative-2.ensures ∙ (λ j. non_neg (given c.cross-to_side.type-inv (c.cross-to_side.ensures ∙ (λ k. cross S.a S.b (to_is k))) j))) i) in
+    ((c.not_negative.ensures ∙ (λ j. non_neg (given c.cross-from_side.type_inv (c.cross-from_side.ensures ∙ (λ k. cross S.a S.b (from_is k))) j))) i)
+    ((c.not_negative-2.ensures ∙ (λ j. non_neg (given c.cross-to_side.type_inv (c.cross-to_side.ensures ∙ (λ k. cross S.a S.b (to_is k))) j))) i) in
     λ i.
     not ((sym c.if-not_negative.false ∙ side_is) i)
     && (c.segments_intersect.ensures ∙ (λ j. segments_intersect S.a S.b (from_is j) (to_is j))) i

@@ -1,68 +1,78 @@
 -- `segments::cross` meets its contract. A difference is at most 8,192 in size, so a product of two is at most 2^26 and the result at most 2^27.
 -- Assumes nothing.
 use mathlib.Core.Path.{◌≡◌, ◌∙◌, subst⁻¹}
-use Prim.Native.Nat.{◌+◌, ◌*◌, ◌≤◌}
+use Prim.Native.Nat.{◌+◌, ◌*◌, ◌≤◌, ◌<◌, ◌^◌}
 use native.Mathlib.Omega.{arith}
 use lib.IntN.{ℤ, nat_abs, ◌-ℤ◌, ◌*ℤ◌}
+use lib.Signed.{mag}
 use mir.Syntax.{w64}
 use mir.Val.{SFits, to_z, of_z}
 use mir.Facts.{to_z-of_z}
 use Rattle.definitions.specs.Spans.{diff, cross}
 use Rattle.laws.specs.NumberLaws.WholeNumbers.{nat_abs_diff-product, nat_abs_difference}
-use Rattle.span_geometry.specs.Shapes.{max_pixel}
-use Rattle.span_geometry.proofs.Signed.{fits, given}
+use Rattle.span_geometry.specs.declared.PixelPosition.{PixelPosition}
+use Rattle.span_geometry.specs.Shapes.{max_pixel, InLimits}
+use Rattle.span_geometry.proofs.Signed.{fits, product_is, product_fits}
 use Rattle.span_geometry.proofs.segments.cross.Goals as goal
 
 pub difference-delta_x-requires : goal.difference-delta_x-requires
-difference-delta_x-requires c = (c.requires.1.x-in, c.requires.0.x-in)
+difference-delta_x-requires c = (c.requires.1.x_in, c.requires.0.x_in)
 
 pub difference-delta_y-requires : goal.difference-delta_y-requires
-difference-delta_y-requires c = (c.requires.1.y-in, c.requires.0.y-in)
+difference-delta_y-requires c = (c.requires.1.y_in, c.requires.0.y_in)
 
 pub difference-requires : goal.difference-requires
-difference-requires c = (c.requires.2.y-in, c.requires.0.y-in)
+difference-requires c = (c.requires.2.y_in, c.requires.0.y_in)
 
 pub overflow_mul-result : goal.overflow_mul-result
 overflow_mul-result c =
-    let across : ℤ = diff c.args.b.x c.args.a.x *ℤ diff c.args.point.y c.args.a.y in
-    let across_in : nat_abs across ≤ max_pixel * max_pixel = nat_abs_diff-product c.requires.1.x-in c.requires.0.x-in c.requires.2.y-in c.requires.0.y-in in
-    let across-bits : ℤ = to_z w64 (of_z w64 c.difference-delta_x.result) *ℤ to_z w64 (of_z w64 c.difference.result) in
-    let across-read : across-bits ≡ across = λ i. given c.difference-delta_x.type-inv c.difference-delta_x.ensures i *ℤ given c.difference.type-inv c.difference.ensures i in
-    subst⁻¹ (SFits w64) across-read (fits {k = max_pixel * max_pixel} tt across_in)
+    product_fits c.args.b.x c.args.a.x c.args.point.y c.args.a.y c.difference-delta_x.type_inv c.difference-delta_x.ensures c.difference.type_inv c.difference.ensures c.requires.1.x_in c.requires.0.x_in c.requires.2.y_in c.requires.0.y_in
 
 pub difference-requires-2 : goal.difference-requires-2
-difference-requires-2 c = (c.requires.2.x-in, c.requires.0.x-in)
+difference-requires-2 c = (c.requires.2.x_in, c.requires.0.x_in)
 
 pub overflow_mul-result-2 : goal.overflow_mul-result-2
 overflow_mul-result-2 c =
-    let along : ℤ = diff c.args.b.y c.args.a.y *ℤ diff c.args.point.x c.args.a.x in
-    let along_in : nat_abs along ≤ max_pixel * max_pixel = nat_abs_diff-product c.requires.1.y-in c.requires.0.y-in c.requires.2.x-in c.requires.0.x-in in
-    let along-bits : ℤ = to_z w64 (of_z w64 c.difference-delta_y.result) *ℤ to_z w64 (of_z w64 c.difference-2.result) in
-    let along-read : along-bits ≡ along = λ i. given c.difference-delta_y.type-inv c.difference-delta_y.ensures i *ℤ given c.difference-2.type-inv c.difference-2.ensures i in
-    subst⁻¹ (SFits w64) along-read (fits {k = max_pixel * max_pixel} tt along_in)
+    product_fits c.args.b.y c.args.a.y c.args.point.x c.args.a.x c.difference-delta_y.type_inv c.difference-delta_y.ensures c.difference-2.type_inv c.difference-2.ensures c.requires.1.y_in c.requires.0.y_in c.requires.2.x_in c.requires.0.x_in
+
+-- the two products: u and v of the first, w and z of the second
+module _ {a b point : PixelPosition} (a_in : InLimits a) (b_in : InLimits b) (point_in : InLimits point) {u v w z : ℤ} (u_in : mag u < 2 ^ 63) (u_is : u ≡ diff b.x a.x) (w_in : mag w < 2 ^ 63) (w_is : w ≡ diff b.y a.y) (v_in : mag v < 2 ^ 63) (v_is : v ≡ diff point.y a.y) (z_in : mag z < 2 ^ 63) (z_is : z ≡ diff point.x a.x) where
+  abbrev across : ℤ
+  across = diff b.x a.x *ℤ diff point.y a.y
+
+  abbrev along : ℤ
+  along = diff b.y a.y *ℤ diff point.x a.x
+
+  abbrev across_bits : ℤ
+  across_bits = to_z w64 (of_z w64 u) *ℤ to_z w64 (of_z w64 v)
+
+  abbrev along_bits : ℤ
+  along_bits = to_z w64 (of_z w64 w) *ℤ to_z w64 (of_z w64 z)
+
+  across_is : to_z w64 (of_z w64 across_bits) ≡ across
+  across_is = to_z-of_z (product_fits b.x a.x point.y a.y u_in u_is v_in v_is b_in.x_in a_in.x_in point_in.y_in a_in.y_in) ∙ product_is b.x a.x point.y a.y u_in u_is v_in v_is
+
+  along_is : to_z w64 (of_z w64 along_bits) ≡ along
+  along_is = to_z-of_z (product_fits b.y a.y point.x a.x w_in w_is z_in z_is b_in.y_in a_in.y_in point_in.x_in a_in.x_in) ∙ product_is b.y a.y point.x a.x w_in w_is z_in z_is
+
+  read : to_z w64 (of_z w64 across_bits) -ℤ to_z w64 (of_z w64 along_bits) ≡ across -ℤ along
+  read = λ i. across_is i -ℤ along_is i
+
+  difference_in : nat_abs (across -ℤ along) ≤ max_pixel * max_pixel + max_pixel * max_pixel
+  difference_in =
+      omega (arith, nat_abs_difference across along, nat_abs_diff-product b_in.x_in a_in.x_in point_in.y_in a_in.y_in, nat_abs_diff-product b_in.y_in a_in.y_in point_in.x_in a_in.x_in)
+
+  difference_fits : SFits w64 (to_z w64 (of_z w64 across_bits) -ℤ to_z w64 (of_z w64 along_bits))
+  difference_fits = subst⁻¹ (SFits w64) read (fits {k = max_pixel * max_pixel + max_pixel * max_pixel} tt difference_in)
+
+  difference_is : to_z w64 (of_z w64 (to_z w64 (of_z w64 across_bits) -ℤ to_z w64 (of_z w64 along_bits))) ≡ across -ℤ along
+  difference_is = to_z-of_z difference_fits ∙ read
 
 pub overflow_sub-result : goal.overflow_sub-result
 overflow_sub-result c =
-    let across : ℤ = diff c.args.b.x c.args.a.x *ℤ diff c.args.point.y c.args.a.y in
-    let along : ℤ = diff c.args.b.y c.args.a.y *ℤ diff c.args.point.x c.args.a.x in
-    let across_in : nat_abs across ≤ max_pixel * max_pixel = nat_abs_diff-product c.requires.1.x-in c.requires.0.x-in c.requires.2.y-in c.requires.0.y-in in
-    let along_in : nat_abs along ≤ max_pixel * max_pixel = nat_abs_diff-product c.requires.1.y-in c.requires.0.y-in c.requires.2.x-in c.requires.0.x-in in
-    let across-bits : ℤ = to_z w64 (of_z w64 c.difference-delta_x.result) *ℤ to_z w64 (of_z w64 c.difference.result) in
-    let along-bits : ℤ = to_z w64 (of_z w64 c.difference-delta_y.result) *ℤ to_z w64 (of_z w64 c.difference-2.result) in
-    let across-read : across-bits ≡ across = λ i. given c.difference-delta_x.type-inv c.difference-delta_x.ensures i *ℤ given c.difference.type-inv c.difference.ensures i in
-    let along-read : along-bits ≡ along = λ i. given c.difference-delta_y.type-inv c.difference-delta_y.ensures i *ℤ given c.difference-2.type-inv c.difference-2.ensures i in
-    let read : to_z w64 (of_z w64 across-bits) -ℤ to_z w64 (of_z w64 along-bits) ≡ across -ℤ along = λ i. (to_z-of_z (mul-result c) ∙ across-read) i -ℤ (to_z-of_z (mul-result-2 c) ∙ along-read) i in
-    let difference_in : nat_abs (across -ℤ along) ≤ max_pixel * max_pixel + max_pixel * max_pixel = omega (arith, nat_abs_difference across along, across_in, along_in) in
-    subst⁻¹ (SFits w64) read (fits {k = max_pixel * max_pixel + max_pixel * max_pixel} tt difference_in)
+    difference_fits c.requires.0 c.requires.1 c.requires.2 c.difference-delta_x.type_inv c.difference-delta_x.ensures c.difference-delta_y.type_inv c.difference-delta_y.ensures c.difference.type_inv c.difference.ensures c.difference-2.type_inv c.difference-2.ensures
 
 pub returns : goal.returns
 unfolding cross
 returns c =
-    let across : ℤ = diff c.args.b.x c.args.a.x *ℤ diff c.args.point.y c.args.a.y in
-    let along : ℤ = diff c.args.b.y c.args.a.y *ℤ diff c.args.point.x c.args.a.x in
-    let across-bits : ℤ = to_z w64 (of_z w64 c.difference-delta_x.result) *ℤ to_z w64 (of_z w64 c.difference.result) in
-    let along-bits : ℤ = to_z w64 (of_z w64 c.difference-delta_y.result) *ℤ to_z w64 (of_z w64 c.difference-2.result) in
-    let across-read : across-bits ≡ across = λ i. given c.difference-delta_x.type-inv c.difference-delta_x.ensures i *ℤ given c.difference.type-inv c.difference.ensures i in
-    let along-read : along-bits ≡ along = λ i. given c.difference-delta_y.type-inv c.difference-delta_y.ensures i *ℤ given c.difference-2.type-inv c.difference-2.ensures i in
-    let read : to_z w64 (of_z w64 across-bits) -ℤ to_z w64 (of_z w64 along-bits) ≡ across -ℤ along = λ i. (to_z-of_z (mul-result c) ∙ across-read) i -ℤ (to_z-of_z (mul-result-2 c) ∙ along-read) i in
-    to_z-of_z (sub-result c) ∙ read
+    difference_is c.requires.0 c.requires.1 c.requires.2 c.difference-delta_x.type_inv c.difference-delta_x.ensures c.difference-delta_y.type_inv c.difference-delta_y.ensures c.difference.type_inv c.difference.ensures c.difference-2.type_inv c.difference-2.ensures

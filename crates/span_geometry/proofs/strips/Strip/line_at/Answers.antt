@@ -11,104 +11,99 @@ use mir.Syntax.{w64}
 use mir.Val.{Fits, SFits, to_z, of_z}
 use mir.Facts.{to_z-of_z, to_z_pos}
 use Rattle.definitions.specs.Spans.{diff, middle_of, nat_of}
-use Rattle.laws.specs.NumberLaws.WholeNumbers.{nat_abs_diff-product, mag≤natAbs}
+use Rattle.laws.specs.NumberLaws.WholeNumbers.{mag≤natAbs}
+use Rattle.span_geometry.specs.declared.strips.Strip.{Strip}
 use Rattle.span_geometry.specs.Shapes.{max_pixel}
+use Rattle.span_geometry.specs.Strips.{Usable, line_of}
 use Rattle.span_geometry.proofs.Lines.{risen, risen_is, start_in, risen_in}
-use Rattle.span_geometry.proofs.Signed.{fits, given}
+use Rattle.span_geometry.proofs.Signed.{fits, given, product_is, product_fits}
 use Rattle.span_geometry.proofs.strips.Strip.line_at.Goals as goal
 
+module _ (t : Strip) (usable : Usable t) where
+  begins : t.minor0 * (t.major1 - t.major0) < 2 ^ 63
+  begins = lt_of_le_of_lt (start_in t.major0 usable.minor0_in usable.major_in) (lit< tt)
+
+  major0_in : t.major0 ≤ max_pixel
+  major0_in = omega (arith, usable.forward, usable.major_in)
+
+  module _ (k : ℕ) where
+    -- the middle of column k, or the end of the segment that is nearer
+    abbrev reached : ℕ
+    reached = max t.major0 (min (middle_of k) t.major1)
+
+    abbrev line : ℤ
+    line = risen t.major0 t.minor0 t.major1 t.minor1 reached
+
+    abbrev run : ℕ
+    run = t.major1 - t.major0
+
+    reached_in : (t.major0 ≤ reached) × (reached ≤ t.major1)
+    reached_in = omega (arith, usable.forward)
+
+    reached_small : reached ≤ max_pixel
+    reached_small = omega (arith, reached_in.1, usable.major_in)
+
+    line_in : nat_abs line ≤ max_pixel * max_pixel + max_pixel * max_pixel
+    line_in = risen_in usable.minor0_in usable.major_in usable.minor1_in major0_in reached_small
+
+    line_is : line ≡ pos (mag line)
+    line_is = risen_is t.major0 t.minor0 t.major1 t.minor1 reached reached_in.0 reached_in.1
+
+    -- what the calls give: x and y are the differences that are multiplied, m the least and n the greatest, and l the middle
+    module _ {l m n : ℕ} {x y : ℤ} (l_is : l ≡ middle_of k) (m_is : m ≡ min l t.major1) (n_is : n ≡ max t.major0 m) (x_in : mag x < 2 ^ 63) (x_is : x ≡ diff t.minor1 t.minor0) (y_in : mag y < 2 ^ 63) (y_is : y ≡ diff n t.major0) where
+      n_reached : n ≡ reached
+      n_reached = n_is ∙ (λ i. max t.major0 ((m_is ∙ (λ j. min (l_is j) t.major1)) i))
+
+      y_reached : y ≡ diff reached t.major0
+      y_reached = y_is ∙ (λ j. diff (n_reached j) t.major0)
+
+      abbrev product_bits : ℤ
+      product_bits = to_z w64 (of_z w64 x) *ℤ to_z w64 (of_z w64 y)
+
+      risen_fits : SFits w64 product_bits
+      risen_fits = product_fits t.minor1 t.minor0 reached t.major0 x_in x_is y_in y_reached usable.minor1_in usable.minor0_in reached_small major0_in
+
+      abbrev line_bits : ℤ
+      line_bits = to_z w64 (t.minor0 * (t.major1 - t.major0)) +ℤ to_z w64 (of_z w64 product_bits)
+
+      line_bits_is : line_bits ≡ line
+      line_bits_is = λ i. to_z_pos w64 begins i +ℤ (to_z-of_z risen_fits ∙ product_is t.minor1 t.minor0 reached t.major0 x_in x_is y_in y_reached) i
+
+      line_fits : SFits w64 line_bits
+      line_fits = subst⁻¹ (SFits w64) line_bits_is (fits {k = max_pixel * max_pixel + max_pixel * max_pixel} tt line_in)
+
+      module _ {q : ℤ} (q_in : mag q < 2 ^ 63) (q_is : q ≡ shr_z (to_z w64 (of_z w64 line_bits)) run) where
+        quotient_is : to_z w64 (of_z w64 q) ≡ shr_z line run
+        quotient_is = given q_in (q_is ∙ (λ i. shr_z ((to_z-of_z line_fits ∙ line_bits_is) i) run))
+
+        whole_is : shr_z line run ≡ pos (mag line / run)
+        whole_is = ap (λ (z : ℤ). shr_z z run) line_is
+
+        quotient_casts : T (non_neg (to_z w64 (of_z w64 q))) × Fits w64 (nat_abs (to_z w64 (of_z w64 q)))
+        quotient_casts =
+            (subst⁻¹ (λ (z : ℤ). T (non_neg z)) (quotient_is ∙ whole_is) tt, subst⁻¹ (λ (z : ℤ). Fits w64 (nat_abs z)) (quotient_is ∙ whole_is) (record { fits = lt_of_le_of_lt (le_trans (div-le_self (mag line) run) (le_trans (mag≤natAbs line) line_in)) (lit< tt) }))
+
+        quotient_of : nat_abs (to_z w64 (of_z w64 q)) ≡ line_of t k
+        quotient_of = ap nat_abs (quotient_is ∙ whole_is) ∙ sym (ap nat_of whole_is)
+
 pub overflow_mul-start : goal.overflow_mul-start
-overflow_mul-start c =
-    let begins : c.args.self.minor0 * (c.args.self.major1 - c.args.self.major0) < 2 ^ 63 = lt_of_le_of_lt (start_in c.args.self.major0 c.requires.0.minor0-in c.requires.0.major-in) (lit< tt) in
-    let = c in
-    record { fits = omega (arith, begins entry) }
+overflow_mul-start c = record { fits = omega (arith, begins c.args.self c.requires.0) }
 
 pub overflow_cast-line : goal.overflow_cast-line
-overflow_cast-line c =
-    let begins : c.args.self.minor0 * (c.args.self.major1 - c.args.self.major0) < 2 ^ 63 = lt_of_le_of_lt (start_in c.args.self.major0 c.requires.0.minor0-in c.requires.0.major-in) (lit< tt) in
-    let = c in
-    record { sfits = begins entry }
+overflow_cast-line c = record { sfits = begins c.args.self c.requires.0 }
 
 pub overflow_mul-line : goal.overflow_mul-line
 overflow_mul-line c =
-    let reached : ℕ = max c.args.self.major0 (min (middle_of c.args.k) c.args.self.major1) in
-    let reached_in : (c.args.self.major0 ≤ reached) × (reached ≤ c.args.self.major1) = omega (arith, c.requires.0.forward) in
-    let reached-small : reached ≤ max_pixel = omega (arith, reached_in.1, c.requires.0.major-in) in
-    let major0_in : c.args.self.major0 ≤ max_pixel = omega (arith, c.requires.0.forward, c.requires.0.major-in) in
-    let product_bits : ℤ = to_z w64 (of_z w64 c.difference.result) *ℤ to_z w64 (of_z w64 c.difference-2.result) in
-    let product : ℤ = diff c.args.self.minor1 c.args.self.minor0 *ℤ diff reached c.args.self.major0 in
-    let reached_is : c.max-reached.result ≡ reached = c.max-reached.ensures
-    ∙ (λ i. max c.args.self.major0 ((c.min.ensures ∙ (λ j. min (c.middle_of.ensures j) c.args.self.major1)) i)) in
-    let product_is : product_bits ≡ product = λ i.
-    given c.difference.type-inv c.difference.ensures i
-    *ℤ given c.difference-2.type-inv (c.difference-2.ensures ∙ (λ j. diff (reached_is j) c.args.self.major0)) i in
-    let product_in : nat_abs product ≤ max_pixel * max_pixel = nat_abs_diff-product c.pre.0.minor1-in c.pre.0.minor0-in reached-small major0_in in
-    subst⁻¹ (SFits w64) product_is (fits {k = max_pixel * max_pixel} tt product_in)
+    risen_fits c.args.self c.requires.0 c.args.k c.middle_of.ensures c.min.ensures c.max-reached.ensures c.difference.type_inv c.difference.ensures c.difference-2.type_inv c.difference-2.ensures
 
 pub overflow_add-line : goal.overflow_add-line
-unfolding lineBits
 overflow_add-line c =
-    let reached : ℕ = max c.args.self.major0 (min (middle_of c.args.k) c.args.self.major1) in
-    let line : ℤ = risen c.args.self.major0 c.args.self.minor0 c.args.self.major1 c.args.self.minor1 reached in
-    let reached_in : (c.args.self.major0 ≤ reached) × (reached ≤ c.args.self.major1) = omega (arith, c.requires.0.forward) in
-    let reached-small : reached ≤ max_pixel = omega (arith, reached_in.1, c.requires.0.major-in) in
-    let major0_in : c.args.self.major0 ≤ max_pixel = omega (arith, c.requires.0.forward, c.requires.0.major-in) in
-    let line_in : nat_abs line ≤ max_pixel * max_pixel + max_pixel * max_pixel = risen_in c.requires.0.minor0-in c.requires.0.major-in c.requires.0.minor1-in major0_in reached-small in
-    let begins : c.args.self.minor0 * (c.args.self.major1 - c.args.self.major0) < 2 ^ 63 = lt_of_le_of_lt (start_in c.args.self.major0 c.requires.0.minor0-in c.requires.0.major-in) (lit< tt) in
-    let product_bits : ℤ = to_z w64 (of_z w64 c.difference.result) *ℤ to_z w64 (of_z w64 c.difference-2.result) in
-    let product : ℤ = diff c.args.self.minor1 c.args.self.minor0 *ℤ diff reached c.args.self.major0 in
-    let reached_is : c.max-reached.result ≡ reached = c.max-reached.ensures
-    ∙ (λ i. max c.args.self.major0 ((c.min.ensures ∙ (λ j. min (c.middle_of.ensures j) c.args.self.major1)) i)) in
-    let product_is : product_bits ≡ product = λ i.
-    given c.difference.type-inv c.difference.ensures i
-    *ℤ given c.difference-2.type-inv (c.difference-2.ensures ∙ (λ j. diff (reached_is j) c.args.self.major0)) i in
-    let lineBits : ℤ = to_z w64 (c.args.self.minor0 * (c.args.self.major1 - c.args.self.major0)) +ℤ to_z w64 (of_z w64 product_bits) in
-    let line_bits_is : lineBits ≡ line = λ i. to_z_pos w64 (begins i +ℤ (to_z-of_z (mul-line c) ∙ product_is) i in
-    subst⁻¹ (SFits w64) line_bits_is (fits {k = max_pixel * max_pixel + max_pixel * max_pixel} tt line_in
+    line_fits c.args.self c.requires.0 c.args.k c.middle_of.ensures c.min.ensures c.max-reached.ensures c.difference.type_inv c.difference.ensures c.difference-2.type_inv c.difference-2.ensures
 
 pub overflow_cast-result : goal.overflow_cast-result
-unfolding lineBits
 overflow_cast-result c =
-    let reached : ℕ = max c.args.self.major0 (min (middle_of c.args.k) c.args.self.major1) in
-    let line : ℤ = risen c.args.self.major0 c.args.self.minor0 c.args.self.major1 c.args.self.minor1 reached in
-    let reached_in : (c.args.self.major0 ≤ reached) × (reached ≤ c.args.self.major1) = omega (arith, c.requires.0.forward) in
-    let reached-small : reached ≤ max_pixel = omega (arith, reached_in.1, c.requires.0.major-in) in
-    let major0_in : c.args.self.major0 ≤ max_pixel = omega (arith, c.requires.0.forward, c.requires.0.major-in) in
-    let line_in : nat_abs line ≤ max_pixel * max_pixel + max_pixel * max_pixel = risen_in c.requires.0.minor0-in c.requires.0.major-in c.requires.0.minor1-in major0_in reached-small in
-    let line_is : line ≡ pos (mag line) = risen_is c.args.self.major0 c.args.self.minor0 c.args.self.major1 c.args.self.minor1 reached reached_in.0 reached_in.1 in
-    let begins : c.args.self.minor0 * (c.args.self.major1 - c.args.self.major0) < 2 ^ 63 = lt_of_le_of_lt (start_in c.args.self.major0 c.requires.0.minor0-in c.requires.0.major-in) (lit< tt) in
-    let product_bits : ℤ = to_z w64 (of_z w64 c.difference.result) *ℤ to_z w64 (of_z w64 c.difference-2.result) in
-    let product : ℤ = diff c.args.self.minor1 c.args.self.minor0 *ℤ diff reached c.args.self.major0 in
-    let reached_is : c.max-reached.result ≡ reached = c.max-reached.ensures
-    ∙ (λ i. max c.args.self.major0 ((c.min.ensures ∙ (λ j. min (c.middle_of.ensures j) c.args.self.major1)) i)) in
-    let product_is : product_bits ≡ product = λ i.
-    given c.difference.type-inv c.difference.ensures i
-    *ℤ given c.difference-2.type-inv (c.difference-2.ensures ∙ (λ j. diff (reached_is j) c.args.self.major0)) i in
-    let lineBits : ℤ = to_z w64 (c.args.self.minor0 * (c.args.self.major1 - c.args.self.major0)) +ℤ to_z w64 (of_z w64 product_bits) in
-    let line_bits_is : lineBits ≡ line = λ i. to_z_pos w64 (begins i +ℤ (to_z-of_z (mul-line c) ∙ product_is) i in
-    let run : ℕ = c.args.self.major1 - c.args.self.major0 in
-    let quotient_is : to_z w64 (of_z w64 c.div_euclid.result) ≡ shr_z (line run = given c.div_euclid.type-inv (c.div_euclid.ensures ∙ (λ i. shr_z ((to_z-of_z (add-line c) ∙ line_bits_is) i) run)) in
-    let whole_is : shr_z (line run ≡ pos (mag (line / run) = ap (λ (z : ℤ). shr_z z run) (line_is in
-    (subst⁻¹ (λ (z : ℤ). T (non_neg z)) (quotient_is ∙ whole_is) tt, subst⁻¹ (λ (z : ℤ). Fits w64 (nat_abs z)) (quotient_is ∙ whole_is) (record { fits = lt_of_le_of_lt (le_trans (div-le_self (mag line) run) (le_trans (mag≤natAbs line) line_in)) (lit< tt) }))
+    quotient_casts c.args.self c.requires.0 c.args.k c.middle_of.ensures c.min.ensures c.max-reached.ensures c.difference.type_inv c.difference.ensures c.difference-2.type_inv c.difference-2.ensures c.div_euclid.type_inv c.div_euclid.ensures
 
 pub returns : goal.returns
-unfolding lineBits
 returns c =
-    let reached : ℕ = max c.args.self.major0 (min (middle_of c.args.k) c.args.self.major1) in
-    let line : ℤ = risen c.args.self.major0 c.args.self.minor0 c.args.self.major1 c.args.self.minor1 reached in
-    let reached_in : (c.args.self.major0 ≤ reached) × (reached ≤ c.args.self.major1) = omega (arith, c.requires.0.forward) in
-    let line_is : line ≡ pos (mag line) = risen_is c.args.self.major0 c.args.self.minor0 c.args.self.major1 c.args.self.minor1 reached reached_in.0 reached_in.1 in
-    let begins : c.args.self.minor0 * (c.args.self.major1 - c.args.self.major0) < 2 ^ 63 = lt_of_le_of_lt (start_in c.args.self.major0 c.requires.0.minor0-in c.requires.0.major-in) (lit< tt) in
-    let product_bits : ℤ = to_z w64 (of_z w64 c.difference.result) *ℤ to_z w64 (of_z w64 c.difference-2.result) in
-    let product : ℤ = diff c.args.self.minor1 c.args.self.minor0 *ℤ diff reached c.args.self.major0 in
-    let reached_is : c.max-reached.result ≡ reached = c.max-reached.ensures
-    ∙ (λ i. max c.args.self.major0 ((c.min.ensures ∙ (λ j. min (c.middle_of.ensures j) c.args.self.major1)) i)) in
-    let product_is : product_bits ≡ product = λ i.
-    given c.difference.type-inv c.difference.ensures i
-    *ℤ given c.difference-2.type-inv (c.difference-2.ensures ∙ (λ j. diff (reached_is j) c.args.self.major0)) i in
-    let lineBits : ℤ = to_z w64 (c.args.self.minor0 * (c.args.self.major1 - c.args.self.major0)) +ℤ to_z w64 (of_z w64 product_bits) in
-    let line_bits_is : lineBits ≡ line = λ i. to_z_pos w64 (begins i +ℤ (to_z-of_z (mul-line c) ∙ product_is) i in
-    let run : ℕ = c.args.self.major1 - c.args.self.major0 in
-    let quotient_is : to_z w64 (of_z w64 c.div_euclid.result) ≡ shr_z (line run = given c.div_euclid.type-inv (c.div_euclid.ensures ∙ (λ i. shr_z ((to_z-of_z (add-line c) ∙ line_bits_is) i) run)) in
-    let whole_is : shr_z (line run ≡ pos (mag (line / run) = ap (λ (z : ℤ). shr_z z run) (line_is in
-    ap nat_abs (quotient_is ∙ whole_is) ∙ sym (ap nat_of whole_is)
+    quotient_of c.args.self c.requires.0 c.args.k c.middle_of.ensures c.min.ensures c.max-reached.ensures c.difference.type_inv c.difference.ensures c.difference-2.type_inv c.difference-2.ensures c.div_euclid.type_inv c.div_euclid.ensures

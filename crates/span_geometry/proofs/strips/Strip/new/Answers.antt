@@ -54,7 +54,7 @@ module _ (g : SpanGeometry) (sound : Sound g) (differ : endpoints_differ (segmen
       let e₀ : g.min_x ≡ g.a.x = lesser_is sound.min-x sound.ordered in
       let e₁ : g.max_x ≡ g.b.x = greater_is sound.max-x sound.ordered in (
         (λ i. strip true (e₀ i) g.a.y (e₁ i) g.b.y) ∙ sym (ap (λ t. cond t (strip_by_columns S) (strip_by_rows S)) (le-leb down across h)),
-        record { forward = omega (arith, forward-x h); major_in = omega (arith, sound.b-in); minor0_in = sound.a_in.y-in; minor1_in = sound.b-in.y-in },
+        record { forward = omega (arith, forward-x h); major_in = omega (arith, sound.b_in); minor0_in = sound.a_in.y_in; minor1_in = sound.b_in.y_in },
       )
 
   -- by whether y grows from a to b
@@ -69,7 +69,7 @@ module _ (g : SpanGeometry) (sound : Sound g) (differ : endpoints_differ (segmen
       let e₀ : g.min_y ≡ g.a.y = lesser_is sound.min-y k in
       let e₁ : g.max_y ≡ g.b.y = greater_is sound.max-y k in (
         (λ i. strip false (e₀ i) g.a.x (e₁ i) g.b.x) ∙ sym (by_rows h (le-leb g.a.y g.b.y k)),
-        record { forward = omega arith; major_in = omega (arith, sound.b-in); minor0_in = sound.a_in.x-in; minor1_in = sound.b-in.x-in },
+        record { forward = omega arith; major_in = omega (arith, sound.b_in); minor0_in = sound.a_in.x_in; minor1_in = sound.b_in.x_in },
       )
 
   falling : across < down → g.b.y < g.a.y → Right (strip false g.min_y g.b.x g.max_y g.a.x)
@@ -77,7 +77,7 @@ module _ (g : SpanGeometry) (sound : Sound g) (differ : endpoints_differ (segmen
       let e₀ : g.min_y ≡ g.b.y = lesser_is_2 sound.min-y k in
       let e₁ : g.max_y ≡ g.a.y = greater_is_2 sound.max-y k in (
         (λ i. strip false (e₀ i) g.b.x (e₁ i) g.a.x) ∙ sym (by_rows h (lt-leb g.a.y g.b.y k)),
-        record { forward = omega arith; major_in = omega (arith, sound.a_in); minor0_in = sound.b-in.x-in; minor1_in = sound.a_in.x-in },
+        record { forward = omega arith; major_in = omega (arith, sound.a_in); minor0_in = sound.b_in.x_in; minor1_in = sound.a_in.x_in },
       )
 
 pub returns-then-abs_diff : goal.returns-then-abs_diff

@@ -1,0 +1,32 @@
+-- `answer_of` meets its contract: what the answer is says its number and its value, and no value is a NaN. Assumes nothing.
+use mathlib.Core.Path.{◌≡◌, sym, ap, ◌∙◌, subst}
+use mathlib.Core.Bool.{not}
+use Prim.Native.Nat.{ℕ}
+use lib.Dec.{T}
+use lib.Ieee.{Float, binary64, is_nan, of_bits, to_bits}
+use Rattle.definitions.specs.Hypotenuse.{hypot_number, hypot_value}
+use Rattle.laws.specs.FloatLaws.Hypotenuse.{hypot_value-clear}
+use Rattle.hypotenuse_replay.specs.Lines.{number_of_bits, root_of_bits}
+use Rattle.hypotenuse_replay.proofs.answer_of.Goals as goal
+
+pub float_to_bits-result : goal.float_to_bits-result
+unfolding is_nan
+float_to_bits-result c =
+    let x : ℕ = c.args.x in
+    let y : ℕ = c.args.y in
+    let value_is : c.in-Root.value ≡ hypot_value (of_bits binary64 x) (of_bits binary64 y) = c.in-Root.ensures.1 ∙ (λ i. hypot_value (c.double.ensures i) (c.double-2.ensures i)) in
+    subst (λ (v : Float). T (not (is_nan v))) (sym (value_is ∙ (hypot_value-clear (of_bits binary64 x) (of_bits binary64 y)).2)) tt
+
+pub returns-in-Root : goal.returns-in-Root
+unfolding number_of_bits root_of_bits
+returns-in-Root c = (
+  c.in-Root.ensures.0 ∙ (λ i. hypot_number (c.double.ensures i) (c.double-2.ensures i)),
+  ap (to_bits binary64) (c.in-Root.ensures.1 ∙ (λ i. hypot_value (c.double.ensures i) (c.double-2.ensures i))),
+)
+
+pub returns-in-Refused : goal.returns-in-Refused
+unfolding to_bits number_of_bits root_of_bits
+returns-in-Refused c = (
+  c.in-Refused.ensures.0 ∙ (λ i. hypot_number (c.double.ensures i) (c.double-2.ensures i)),
+  ap (to_bits binary64) (c.in-Refused.ensures.1 ∙ (λ i. hypot_value (c.double.ensures i) (c.double-2.ensures i))),
+)

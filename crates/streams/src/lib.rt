@@ -1,0 +1,33 @@
+// Bytes in and out of a program: reading until a list is full, and writing bytes and numbers. What the system gives and takes no contract can say.
+
+#![tactic(auto)]
+
+ghost use Rattle.std.specs.Prelude.{◌≤◌, length, IfOk};
+
+use std::io;
+use std::io::{Read, Write};
+
+// Fills the list as far as the input goes, and answers how many bytes there were: fewer than the list has only where the input ended.
+pub fn read_full<R: Read>(input: &mut R, list: &mut [u8]) -> io::Result<usize>
+    ensures { IfOk result (λ n. n ≤ length list.new) }
+{
+    let mut count = 0;
+    while count < list.len() {
+        let got = input.read(&mut list[count..])?;
+        if got == 0 {
+            break;
+        }
+        count += got;
+    }
+    Ok(count)
+}
+
+// Writes all of the bytes.
+pub fn write_bytes<W: Write>(output: &mut W, bytes: &[u8]) -> io::Result<()> {
+    output.write_all(bytes)
+}
+
+// Writes a number in decimal.
+pub fn write_decimal<W: Write>(output: &mut W, n: u64) -> io::Result<()> {
+    write!(output, "{n}")
+}

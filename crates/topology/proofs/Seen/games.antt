@@ -1,2 +1,0 @@
-pub mod run_kept
-pub mod topology_runner_and_guard

@@ -1,2 +1,0 @@
-pub mod mark_removed
-pub mod removed_marks

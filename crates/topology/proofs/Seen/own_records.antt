@@ -1,1 +1,0 @@
-pub mod kept_boundaries_here

@@ -1,4 +1,0 @@
-pub mod add_stretch
-pub mod clear_records
-pub mod fill
-pub mod renew

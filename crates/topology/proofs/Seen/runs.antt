@@ -1,1 +1,0 @@
-pub mod topology_report_run

@@ -1,2 +1,0 @@
-pub mod put_record
-pub mod record_at
