@@ -21,7 +21,11 @@ prefix=$(cd "$1" && pwd -P)
 cd "$(dirname "$0")/.."
 
 if [ ! -f target/lib/libjenwyllt.a ] || [ ! -f target/lib/libjenwyllt.so ]; then tools/build_library.sh; fi
-if [ ! -x target/bin/keptlist ]; then rt check keptlist; fi
+if [ ! -x target/bin/keptlist ]; then
+    # The toolchain builds a program where it runs it: here on no bytes.
+    (cd crates/keptlist && rt run) </dev/null >/dev/null
+    install -D -m 755 crates/keptlist/out/keptlist target/bin/keptlist
+fi
 
 major=$(sed -n 's/^#define JENWYLLT_VERSION_MAJOR //p' include/jenwyllt.h)
 version=$(sed -n 's/^#define JENWYLLT_VERSION "\(.*\)"/\1/p' include/jenwyllt.h)

@@ -46,9 +46,9 @@ def rust_kind(word: str, structs: dict[str, str]) -> Any:
     return tuple((name, rust_kind(kind, structs)) for name, kind in fields)
 
 
-def exports() -> list[str]:
-    """the crates that tools/build_library.sh takes"""
-    return re.search(r'^EXPORTS="(.*)"$', (ROOT / 'tools' / 'build_library.sh').read_text(), re.M)[1].split()
+def exporting() -> str:
+    """the crate that tools/build_library.sh takes"""
+    return re.search(r'^CRATE=(\w+)$', (ROOT / 'tools' / 'build_library.sh').read_text(), re.M)[1]
 
 
 def sources(crate: str) -> Iterator[str]:
@@ -59,17 +59,20 @@ def sources(crate: str) -> Iterator[str]:
 
 
 def in_rattle() -> dict[str, Signature]:
-    everywhere = rust_structs(text for folder in sorted((ROOT / 'crates').iterdir()) for text in sources(folder.name))
+    by_crate = {folder.name: rust_structs(sources(folder.name)) for folder in sorted((ROOT / 'crates').iterdir())}
+    everywhere = {name: fields for structs in by_crate.values() for name, fields in structs.items()}
     found = {}
-    for crate in exports():
-        structs = {**everywhere, **rust_structs(sources(crate))}
-        for text in sources(crate):
-            for name, parameters, result in re.findall(rf'#\[no_mangle\]\s*pub extern "C" fn {crate}_(\w+)\((.*?)\)\s*->\s*(\w+)', text, re.S):
-                read = []
-                for parameter, kind in re.findall(r'(\w+): ([^,]+)', parameters):
-                    entry = re.fullmatch(r'&(mut )?\[(.*)\]', kind.strip())
-                    read.append((parameter, ('fills' if entry[1] else 'of', rust_kind(entry[2], structs)) if entry else rust_kind(kind, structs)))
-                found[f'jenwyllt_{name}'] = (tuple(read), rust_kind(result, structs))
+    for text in sources(exporting()):
+        # a name that several crates give a struct is that of the crate that the file imports it from
+        structs = dict(everywhere)
+        for crate, names in re.findall(r'^use (\w+)(?:::\w+)*::(\{[^}]*\}|[A-Z]\w*);', text, re.M):
+            structs.update({name: by_crate[crate][name] for name in re.findall(r'\w+', names) if name in by_crate.get(crate, {})})
+        for name, parameters, result in re.findall(r'#\[unsafe\(no_mangle\)\]\s*pub extern "C" fn (jenwyllt_\w+)\((.*?)\)\s*->\s*(\w+)', text, re.S):
+            read = []
+            for parameter, kind in re.findall(r'(\w+): ([^,]+)', parameters):
+                entry = re.fullmatch(r'&(mut )?\[(.*)\]', kind.strip())
+                read.append((parameter, ('fills' if entry[1] else 'of', rust_kind(entry[2], structs)) if entry else rust_kind(kind, structs)))
+            found[name] = (tuple(read), rust_kind(result, structs))
     return found
 
 

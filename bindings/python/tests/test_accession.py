@@ -37,7 +37,7 @@ class Stored(unittest.TestCase):
 
     def test_sizes(self) -> None:
         definition = (ROOT / 'crates' / 'catalogue' / 'specs' / 'Accession.antt').read_text()
-        self.assertIn(f'\nnumbersPerAccession = {ACCESSION_NUMBERS}\n', definition)
+        self.assertIn(f'\nnumbers_per_accession = {ACCESSION_NUMBERS}\n', definition)
         self.assertEqual(declarations.header_enum('jenwyllt_size')['ACCESSION_NUMBERS'], ACCESSION_NUMBERS)
 
     def test_long(self) -> None:

@@ -24,7 +24,7 @@ from .files import ROOT
 
 def numbers_in_definitions() -> set[int]:
     """of refusals, where a definition gives one; 0 stands for success there"""
-    gives = re.compile(r'\b(?:refusal|failed) (\d+)\b|\bnumber = (\d+); (?:place|value)|\bcheck \([^\n]*?\) (\d+) |\w+Number [^\n=]*= cond \([^\n]*\) 0 (\d+)')
+    gives = re.compile(r'\b(?:refusal|failed) (\d+)\b|\bnumber = (\d+); (?:place|value)|\bcheck \([^\n]*?\) (\d+) |\w+_number [^\n=]*= cond \([^\n]*\) 0 (\d+)')
     found = set()
     for path in (ROOT / 'crates').glob('*/specs/**/*.antt'):
         if 'Examples' not in path.name and 'Case' not in path.name:
@@ -96,10 +96,10 @@ class Declared(unittest.TestCase):
         """how many numbers an entry has, and the limits: the definitions, the header and Python"""
         limits = dict(re.findall(r'^(\w+) = (\d+)$', (ROOT / 'crates' / 'definitions' / 'specs' / 'Limits.antt').read_text(), re.M))
         header = declarations.header_enum('jenwyllt_size')
-        for name, limit, ours in (('SPAN_NUMBERS', 'numbersPerSpan', sheet.SPAN_NUMBERS), ('BOUNDARY_NUMBERS', 'numbersPerBoundary', sheet.BOUNDARY_NUMBERS),
-                                  ('ANCHOR_NUMBERS', 'numbersPerAnchor', sheet.ANCHOR_NUMBERS), ('TALLY_NUMBERS', 'talliesPerSpan', TALLY_NUMBERS),
-                                  ('PAIR_NUMBERS', 'numbersPerPair', PAIR_NUMBERS), ('ROW_NUMBERS', 'numbersPerRow', ROW_NUMBERS),
-                                  ('MOST_SIDE', 'maxSide', sheet.MOST_SIDE), ('MOST_ENTRIES', 'maxEntries', sheet.MOST_ENTRIES)):
+        for name, limit, ours in (('SPAN_NUMBERS', 'numbers_per_span', sheet.SPAN_NUMBERS), ('BOUNDARY_NUMBERS', 'numbers_per_boundary', sheet.BOUNDARY_NUMBERS),
+                                  ('ANCHOR_NUMBERS', 'numbers_per_anchor', sheet.ANCHOR_NUMBERS), ('TALLY_NUMBERS', 'tallies_per_span', TALLY_NUMBERS),
+                                  ('PAIR_NUMBERS', 'numbers_per_pair', PAIR_NUMBERS), ('ROW_NUMBERS', 'numbers_per_row', ROW_NUMBERS),
+                                  ('MOST_SIDE', 'max_side', sheet.MOST_SIDE), ('MOST_ENTRIES', 'max_entries', sheet.MOST_ENTRIES)):
             self.assertEqual((header[name], int(limits[limit])), (ours, ours), name)
         self.assertEqual(header['PIXELS_PER_CELL'], sheet.PIXELS_PER_CELL)
         rust = dict(re.findall(r'^    (\w+): (\d+) of u(?:32|64);$', (declarations.RUST / 'entries.rs').read_text(), re.M))

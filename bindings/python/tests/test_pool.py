@@ -36,8 +36,8 @@ class Stored(unittest.TestCase):
 
     def test_sizes(self) -> None:
         specs = ROOT / 'crates' / 'catalogue' / 'specs'
-        self.assertIn(f'\nnumbersPerTerm = {TERM_NUMBERS}\n', (specs / 'Terms.antt').read_text())
-        self.assertIn(f'\nnumbersPerEntry = {ENTRY_NUMBERS}\n', (specs / 'Pool.antt').read_text())
+        self.assertIn(f'\nnumbers_per_term = {TERM_NUMBERS}\n', (specs / 'Terms.antt').read_text())
+        self.assertIn(f'\nnumbers_per_entry = {ENTRY_NUMBERS}\n', (specs / 'Pool.antt').read_text())
         sizes = declarations.header_enum('jenwyllt_size')
         self.assertEqual((sizes['TERM_NUMBERS'], sizes['ENTRY_NUMBERS']), (TERM_NUMBERS, ENTRY_NUMBERS))
 

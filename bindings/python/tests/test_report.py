@@ -54,9 +54,9 @@ class Reports(unittest.TestCase):
 
     def test_sizes(self) -> None:
         text = (ROOT / 'crates' / 'report' / 'specs' / 'Report.antt').read_text()
-        self.assertIn(f'\nmaxRuns = {MOST_RUNS:_}\n', text)
-        self.assertIn(f'\nrefusalNumbers = {REFUSAL_NUMBERS}\n', text)
-        self.assertIn(f'\npassCount = {len(PASSES)}\n', text)
+        self.assertIn(f'\nmax_runs = {MOST_RUNS:_}\n', text)
+        self.assertIn(f'\nrefusal_numbers = {REFUSAL_NUMBERS}\n', text)
+        self.assertIn(f'\npass_count = {len(PASSES)}\n', text)
 
     def test_empty(self) -> None:
         report = empty_report()

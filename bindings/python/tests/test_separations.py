@@ -110,7 +110,7 @@ class Exact(unittest.TestCase):
 
     def test_sizes(self) -> None:
         """how many numbers a row has: the definitions, the header and Python"""
-        definition = re.search(r'^numbersPerSeparation = (\d+)$', (ROOT / 'crates' / 'separations' / 'specs' / 'Listing.antt').read_text(), re.M)
+        definition = re.search(r'^numbers_per_separation = (\d+)$', (ROOT / 'crates' / 'separations' / 'specs' / 'Listing.antt').read_text(), re.M)
         self.assertEqual((int(definition[1]), declarations.header_enum('jenwyllt_size')['SEPARATION_NUMBERS']), (SEPARATION_NUMBERS, SEPARATION_NUMBERS))
 
 

@@ -12,7 +12,8 @@ use Rattle.laws.specs.ListLaws.FirstBelow.{none_faulty_zero}
 use Rattle.laws.specs.ListLaws.NoFault.{none_faulty}
 use Rattle.catalogue.specs.Accession.{accession_count, on_same_map, own_ascends, keeps_rules}
 use Rattle.catalogue.specs.AccessionLaws.Last.{last_within}
-use Rattle.catalogue.specs.AccessionLaws.Chain.{previous, follows, chain}
+use Rattle.catalogue.specs.AccessionLaws.Chain.{previous, follows}
+use Rattle.catalogue.proofs.AccessionLaws.Chain.{chain}
 use Rattle.accession.specs.Held.{Holds}
 use Rattle.accession.proofs.Holding.{holds_none}
 

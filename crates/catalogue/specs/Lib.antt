@@ -5,7 +5,5 @@ pub mod Dates
 pub mod Terms
 pub mod Pool
 pub mod PoolExamples
-pub mod DateLaws
-pub mod TermLaws
 pub mod PoolLaws
 pub mod AccessionLaws

@@ -20,7 +20,6 @@ use Rattle.laws.specs.ListLaws.SortedMembers.{any-sort, length-sort, number-orde
 use Rattle.laws.specs.OrderLaws.StableSort.{After, Sorted, sort_sorted, filter-sort}
 use Rattle.catalogue.specs.Accession.{Accession, accession_at}
 use Rattle.catalogue.specs.Terms.{term_at, term_count, days_of, contains, terms_refusal}
-use Rattle.catalogue.specs.TermLaws.{each_once}
 use Rattle.catalogue.specs.Pool.{maps_in, maps_of_day, newest, entry_of}
 
 -- ---- a map is listed exactly when one of its terms has the day
@@ -80,7 +79,7 @@ module _ (x : ℕ) (F : ℕ → Option ℕ) where
   none_collected (suc n) h = omega (arith, count_next n, none_collected n (λ i b. h i (omega arith)), few (F n) (h n (omega arith)))
 
   -- a number that is found at most once is collected at most once
-  collected-once : (n : ℕ) → ((i j : ℕ) → i < j → j < n → F i ≡ some x → F j ≡ some x → ⊥) → length (filter (eqb x) (collect n F)) ≤ 1
+  pub collected-once : (n : ℕ) → ((i j : ℕ) → i < j → j < n → F i ≡ some x → F j ≡ some x → ⊥) → length (filter (eqb x) (collect n F)) ≤ 1
   unfolding collect filter
   collected-once zero h = omega arith
   collected-once (suc n) h = go (F n) refl (collected-once n (λ i j b c. h i j b (omega arith)))
@@ -130,7 +129,7 @@ head-count : (x : ℕ) (l : List ℕ) → length (filter (eqb x) (x ∷ l)) ≡ 
 unfolding filter
 head-count x l = rw (eq-eqb x x refl) refl
 
-once-rising : {l : List ℕ} → Sorted ltb number-order l → ((x : ℕ) → length (filter (eqb x) l) ≤ 1) → Rising l
+pub once-rising : {l : List ℕ} → Sorted ltb number-order l → ((x : ℕ) → length (filter (eqb x) l) ≤ 1) → Rising l
 once-rising Sorted.none h j k b n = absurd (omega arith)
 once-rising (Sorted.some {x = x} {l = l} a s) h zero zero b n = absurd (omega arith)
 once-rising (Sorted.some {x = x} {l = l} a s) h zero (suc k) b n = strict (eqb x (get_or l k 0)) refl
@@ -143,7 +142,7 @@ once-rising (Sorted.some {x = x} {l = l} a s) h zero (suc k) b n = strict (eqb x
 once-rising (Sorted.some {x = x} {l = l} a s) h (suc j) zero b n = absurd (omega arith)
 once-rising (Sorted.some {x = x} {l = l} a s) h (suc j) (suc k) b n = once-rising s (λ y. omega (arith, tail-count y x l, h y)) j k (omega arith) (omega arith)
 
-kept : {A : Type 0} (b : Bool) (a c : A) → only_if b a ≡ some c → (b ≡ true) × (a ≡ c)
+pub kept : {A : Type 0} (b : Bool) (a c : A) → only_if b a ≡ some c → (b ≡ true) × (a ≡ c)
 kept true a c e = (refl, same e)
   where
     same : some a ≡ some c → a ≡ c
@@ -152,22 +151,6 @@ kept false a c e = absurd (none_some e)
   where
     none_some : none ≡ some c → ⊥
     none_some z = let w : ◌≡◌ {A = ℕ} 0 1 = cc in omega arith
-
-pub pool_rising : (terms : List ℕ) (day : ℕ) → terms_refusal terms ≡ none → Rising (maps_of_day terms day)
-unfolding maps_of_day maps_in
-pool_rising terms day h =
-    once-rising (sort_sorted ltb number-order (maps_in terms day))
-    (λ x. subst (λ n. n ≤ 1) (sym (ap length (filter-sort ltb number-order (eqb x) (maps_in terms day)) ∙ length-sort ltb (filter (eqb x) (maps_in terms day)))) (once x))
-  where
-    F : ℕ → Option ℕ
-    F i = only_if (contains day (days_of (term_at terms i))) (term_at terms i).on_map
-
-    once : (x : ℕ) → length (filter (eqb x) (collect (term_count terms) F)) ≤ 1
-    once x = collected-once x F (term_count terms) (λ i j b n p q. apart i j b n (kept _ _ _ p) (kept _ _ _ q))
-      where
-        apart : (i j : ℕ) → i < j → j < term_count terms → (contains day (days_of (term_at terms i)) ≡ true) × ((term_at terms i).on_map ≡ x)
-            → (contains day (days_of (term_at terms j)) ≡ true) × ((term_at terms j).on_map ≡ x) → ⊥
-        apart i j b n p q = each_once terms h day i j b n (p.1 ∙ sym q.1) p.0 q.0
 
 -- ---- the record that is shown
 

@@ -1,6 +1,6 @@
 -- Strictly flat means one elevation: exactly one bit is set in the joined mask of two regions where their cells have exactly one elevation between them
 -- (document 01, 'Forms for each place': "tied to a set having one elevation"). Assumes nothing.
-use Rattle.std.specs.Prelude.{ℕ, zero, suc, ◌+◌, ◌<◌, ◌≡◌, refl, Bool, true, false, not, ◌&&◌, ◌||◌, ◌⊎◌, List, get_or, eqb}
+use Rattle.std.specs.Prelude.{ℕ, zero, suc, ◌+◌, ◌<◌, ◌≡◌, refl, Bool, true, false, not, ◌&&◌, ◌||◌, List, get_or, eqb}
 use Rattle.std.proofs.Common.{arith, ap, ap₂, ◌∙◌, true≢false, ⊎_elim}
 use Rattle.std.proofs.Math.Path.{sym, subst}
 use Rattle.std.specs.Bool.{beq}

@@ -13,7 +13,6 @@ use lib.Dec.{ltb}
 use borrow.Author.Tests.{ltb-true, lt-ltb, eq-eqb}
 use Rattle.definitions.specs.Scan.{any, concat_map}
 use Rattle.definitions.specs.Grid.{Map, Position, at, Pair, pair_eq, Segment, cell_count, index, toward, position_of, is_step}
-use Rattle.definitions.specs.Spans.{cuts}
 use Rattle.laws.specs.ListLaws.Tests.{both, or_right, same_test}
 use Rattle.laws.specs.ListLaws.Lists.{any_append}
 use Rattle.bit_laws.specs.Bits.{and_bit}

@@ -30,7 +30,7 @@ use Rattle.call_partition.specs.Contract.{given, Ran}
 use Rattle.call_partition.specs.Prepared.{DividedAs}
 use Rattle.call_partition.proofs.Exits.{ran-refused}
 use Rattle.desks.specs.Desks.{Shared, terrain, shared_refusal, answer_from}
-use Rattle.desks.specs.SharedCalls.{shared_as_call, refused_is}
+use Rattle.desks.proofs.SharedCalls.{shared_as_call, refused_is}
 use Rattle.desk_checks.specs.AloneCalls.{terrain-left}
 use Rattle.desk_checks.specs.Shared.{lent_both, RefusedBoth, SharedAs}
 

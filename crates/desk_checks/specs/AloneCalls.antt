@@ -7,8 +7,8 @@ use Rattle.definitions.specs.Verdict.{Answer}
 use Rattle.definitions.specs.AtExit.{call_exit}
 use Rattle.call_partition.specs.Contract.{Ran}
 use Rattle.desks.specs.Desks.{Shared, Desk, alone, terrain, shared_exit, Served, LeftShared, RanBoth}
-use Rattle.desks.specs.SharedCalls.{shared_as_call, answered-passes}
-use Rattle.desks.specs.Alone.{answer-alone, labels-alone, masks-alone, queue-alone, tallies-alone, pairs-alone, records-alone, output-alone}
+use Rattle.desks.proofs.SharedCalls.{shared_as_call, answered-passes}
+use Rattle.desks.proofs.Alone.{answer-alone, labels-alone, masks-alone, queue-alone, tallies-alone, pairs-alone, records-alone, output-alone}
 
 module _ {S : Shared} {D : Desk} {a : Answer} {l m q t p : List ℕ} {s : List Region} {o : List ℕ} where
   pub served-alone : Served S D a o → LeftShared S l m q t p s → a.number ≡ 0 → Ran (alone S D) a l m q t p s o

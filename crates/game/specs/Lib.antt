@@ -4,12 +4,6 @@ pub mod Search
 pub mod Graph
 pub mod Places
 pub mod Ranks
-pub mod Sweeps
-pub mod Settled
-pub mod Versus
-pub mod Answers
-pub mod Delay
-pub mod Verdicts
-pub mod RankLaws
-pub mod EntryLaws
 pub mod GameExamples
+pub mod EntryLaws
+pub mod RankLaws

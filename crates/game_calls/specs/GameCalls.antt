@@ -19,7 +19,8 @@ use Rattle.rest.specs.InnerCalls.{all_none}
 use Rattle.game.specs.Game.{Game, Place, Inside}
 use Rattle.game.specs.Play.{Verdict, Judged}
 use Rattle.game.specs.Graph.{verdicts_room, graph_fault, goal_fault}
-use Rattle.game.specs.EntryLaws.{number_of, Entry, entries-filled, written}
+use Rattle.game.specs.EntryLaws.{number_of, Entry}
+use Rattle.game.proofs.EntryLaws.{entries-filled, written}
 use Rattle.game_calls.specs.KeptGraph.{graph_map, kept_game}
 use Rattle.game_calls.specs.GameVerdict.{GameAnswer, with_regions, game_verdict}
 use Rattle.game_calls.specs.GameExit.{game_stage, game_exit, Played}

@@ -16,9 +16,10 @@ use Rattle.laws.specs.ListLaws.Tests.{both, same_test}
 use Rattle.laws.specs.ListLaws.Below.{below_none, all_below_at}
 use Rattle.game.specs.Game.{Game, Place, mover, move_to, is_captured, is_region, is_move, runner_has_won, is_over, Inside}
 use Rattle.game.specs.Search.{some_move, every_move, sweep, wins_within, sweeps, runner_wins, fewest}
-use Rattle.game.specs.Sweeps.{won_uncaptured, move_in, stays, sweep-over, sweep-won, sweep-runner, sweep-guard, every_at}
-use Rattle.game.specs.Settled.{wins_more, wins-le, over-wins, found_by_then}
-use Rattle.game.specs.RankLaws.{sweep_same, fewest-new, fewest_none, rank_of}
+use Rattle.game.proofs.Sweeps.{won_uncaptured, move_in, stays, sweep-over, sweep-won, sweep-runner, sweep-guard, every_at}
+use Rattle.game.proofs.Settled.{wins_more, wins-le, over-wins, found_by_then}
+use Rattle.game.specs.RankLaws.{rank_of}
+use Rattle.game.proofs.RankLaws.{sweep_same, fewest-new, fewest_none}
 use Rattle.game_sets.specs.Words.{bit_at, Plays}
 use Rattle.game_search.specs.Words.{Swept, rank_place, rank_at, set_for, ranked_by, Ranked, at}
 use Rattle.game_sets.proofs.Rows.{zero_bit}
@@ -37,7 +38,7 @@ module _ (G : Game) where
   first_sweep x i = go (is_over G x) refl x.runners_turn refl
     where
       unwon : is_over G x ≡ false → runner_has_won G x ≡ false
-      unwon o = Rattle.game.specs.Sweeps.unfinished G x o
+      unwon o = Rattle.game.proofs.Sweeps.unfinished G x o
 
       go : (o : Bool) → is_over G x ≡ o → (t : Bool) → x.runners_turn ≡ t → runner_has_won G x ≡ sweep G (won_before zero) x
       go true o t r = sym (sweep-over G (won_before zero) x o)

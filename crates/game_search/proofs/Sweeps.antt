@@ -14,7 +14,7 @@ use Rattle.laws.specs.ListLaws.Tests.{both, eqb_same}
 use Rattle.laws.specs.ListLaws.Below.{below_ext, all_below_at}
 use Rattle.game.specs.Game.{Game, Place, mover, move_to, is_captured, is_region, is_step, is_move, runner_has_won, is_over, Inside}
 use Rattle.game.specs.Search.{some_move, every_move, sweep}
-use Rattle.game.specs.Sweeps.{sweep-over, sweep-runner, sweep-guard}
+use Rattle.game.proofs.Sweeps.{sweep-over, sweep-runner, sweep-guard}
 use Rattle.game_sets.specs.Words.{bit_at, do_meet, Near, Plays, runner_bit, guard_bit}
 use Rattle.game_search.specs.Words.{at}
 

@@ -13,7 +13,7 @@ use Rattle.definitions.specs.RegionRecord.{has_bit}
 use Rattle.laws.specs.ListLaws.Below.{below_ext, all_below_at}
 use Rattle.laws.specs.RustContext.ElevationMasks.{or_bit}
 use Rattle.bit_laws.specs.Bits as bits
-use Rattle.game.specs.Sweeps.{none_at}
+use Rattle.game.proofs.Sweeps.{none_at}
 use Rattle.game_sets.specs.Words.{do_meet}
 
 -- ---- one bit

@@ -17,11 +17,11 @@ use Rattle.definitions.specs.Lists.{overwrite}
 use Rattle.laws.specs.ListLaws.Overwritten.{sets_append, sets_overwrite}
 use Rattle.game.specs.Game.{Game, Place, mover, move_to, is_captured, is_region, is_step, is_move, runner_has_won, is_over, Inside}
 use Rattle.game.specs.Search.{least_below, verdict_of}
-use Rattle.game.specs.Sweeps.{Least, least_is}
+use Rattle.game.proofs.Sweeps.{Least, least_is}
 use Rattle.game.specs.Ranks.{is_found, serves_by, verdict_by}
-use Rattle.game.specs.RankLaws.{verdict_by_lem}
+use Rattle.game.proofs.RankLaws.{verdict_by_lem}
 use Rattle.game.specs.Graph.{place_at, numbers_of, place_count, graph_of, verdict_numbers}
-use Rattle.game.specs.EntryLaws.{numbers-length}
+use Rattle.game.proofs.EntryLaws.{numbers-length}
 use Rattle.game_sets.specs.Words.{bit_at, Near, Plays}
 use Rattle.game_search.specs.Words.{rank_place, rank_at, Ranked, at}
 use Rattle.game_verdicts.specs.Words.{verdicts_by}

@@ -1,6 +1,5 @@
 -- What is known of the counts at a place of the text, and a turn of the loop that counts. Assumes nothing.
 use mathlib.Core.Path.{◌≡◌, sym, ap, ◌∙◌}
-use mathlib.Core.Logic.{⊎_elim}
 use mathlib.Core.Bool.{Bool, true, false, cond}
 use mathlib.Core.List.{List, [], ◌∷◌, ◌++◌}
 use Prim.Native.Nat.{ℕ, suc, ◌+◌, ◌-◌, ◌≤◌, ◌<◌}
@@ -8,7 +7,7 @@ use native.Mathlib.Numerals.{add-one}
 use native.Mathlib.Omega.{arith}
 use borrow.Author.Tests.{eq-eqb, ne_eqb}
 use lib.ListN.{length, get_or, take, drop, length-drop}
-use lib.Seq.{drop-cons, drop-length, take-suc, get_or-drop}
+use lib.Seq.{drop-cons, take-suc, get_or-drop}
 use Rattle.definitions.specs.Scan.{bit}
 use Rattle.hypotenuse_replay.specs.Lines.{part, is_answer_line, lines_in, answers_in}
 
@@ -91,4 +90,3 @@ module _ (s : List ℕ) (lines₀ answers₀ lines answers start i : ℕ) (r : R
         start_le = omega (arith, r.start_le);
         i_le = omega arith;
       }
-

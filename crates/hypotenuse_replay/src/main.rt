@@ -189,7 +189,12 @@ struct Turn {
 }
 
 // Reads once, behind those bytes, and replays the lines that end.
-fn replay_some<R: Read, W: Write>(input: &mut R, output: &mut W, buffer: &mut [u8], before: Turn) -> io::Result<Turn>
+fn replay_some<R: Read, W: Write>(
+    input: &mut R,
+    output: &mut W,
+    buffer: &mut [u8],
+    before: Turn,
+) -> io::Result<Turn>
     requires { (before.held ≤ length buffer.old) × (before.answers ≤ before.lines) × (before.lines + length buffer.old < 2 ^ 64) }
     ensures { IfOk result (λ turn. (turn.held ≤ length buffer.new) × (turn.answers ≤ turn.lines) × (turn.lines ≤ before.lines + length buffer.new)) }
 {
@@ -225,7 +230,11 @@ fn replay_some<R: Read, W: Write>(input: &mut R, output: &mut W, buffer: &mut [u
     })
 }
 
-fn replay_all<R: Read, W: Write>(input: &mut R, output: &mut W, buffer: &mut [u8]) -> io::Result<Turn>
+fn replay_all<R: Read, W: Write>(
+    input: &mut R,
+    output: &mut W,
+    buffer: &mut [u8],
+) -> io::Result<Turn>
     requires { length buffer.old ≤ 65536 }
 {
     let mut turn = Turn {

@@ -14,7 +14,7 @@ use Rattle.definitions.specs.CaseJ.{row}
 use Rattle.definitions.specs.Cases.{width8}
 use Rattle.definitions.specs.SheetExamples.{sheet_j}
 use Rattle.island.specs.Premises.{cuts_island, has_anchor, rank_of, Alike, island_only, island_rows}
-use Rattle.island.specs.Decide.{is_same_list, is_alike, alike}
+use Rattle.island.specs.Decide.{is_same_list, is_alike}
 
 -- ---- what is shown
 
@@ -50,7 +50,7 @@ pub record Shown (pass : ℕ) (L L' : Lent) (isl : ℕ → Bool) (i i' : ℕ) (r
 
 -- ---- what is kept, by what is removed, so that the pass is computed once
 
-removed_from : (pass : ℕ) (M : Map) {gone : List ℕ} → removed_of pass M ≡ gone → (i : ℕ) → member i gone ≡ true → is_kept pass M i ≡ false
+pub removed_from : (pass : ℕ) (M : Map) {gone : List ℕ} → removed_of pass M ≡ gone → (i : ℕ) → member i gone ≡ true → is_kept pass M i ≡ false
 unfolding is_kept
 removed_from pass M e i h = ap (λ g. not (member i g)) e ∙ ap not h
 
@@ -112,29 +112,6 @@ pub mouth'-removes : removed_of 1 (map_in mouth') ≡ 1 ∷ []
 unfolding removed_of map_in mouth'
 mouth'-removes = refl
 
-pub mouth-shown : Shown 1 mouth mouth' behind_four 0 1 (row 1 48 0 48 8 ∷ [])
-unfolding mouth mouth' map_in verdict is_alike is_same_list any_below_lem island_labels cuts_island rank_of filter rows_from member
-mouth-shown =
-    record {
-      pass_is = refl;
-      pass_is' = refl;
-      accepted = refl;
-      accepted' = refl;
-      premises = alike (map_in mouth) (map_in mouth') behind_four refl;
-      cells_differ = refl;
-      anchors_differ = refl;
-      boundaries_differ = refl;
-      labels_differ = refl;
-      numbers_differ = refl;
-      cuts = refl;
-      cuts' = refl;
-      ranks_agree = refl;
-      removed = removed_from 1 (map_in mouth) mouth-removes _ refl;
-      removed' = removed_from 1 (map_in mouth') mouth'-removes _ refl;
-      rows_are_lem = ap (island_only (map_in mouth) behind_four) (rows-without 1 (map_in mouth) mouth-removes);
-      rows_are' = ap (island_only (map_in mouth') behind_four) (rows-without 1 (map_in mouth') mouth'-removes);
-    }
-
 -- ---- pass 2
 
 -- The island is the proved case "four cells of elevation 0", likewise. In the second map the other cells' boundary stands between the island's.
@@ -157,29 +134,6 @@ interior-removes = refl
 pub interior'-removes : removed_of 2 (map_in interior') ≡ 2 ∷ []
 unfolding removed_of map_in interior'
 interior'-removes = refl
-
-pub interior-shown : Shown 2 interior interior' behind_four 1 2 (row 0 40 0 40 8 ∷ row 2 56 0 56 8 ∷ [])
-unfolding interior interior' map_in verdict is_alike is_same_list any_below_lem island_labels cuts_island rank_of filter rows_from member
-interior-shown =
-    record {
-      pass_is = refl;
-      pass_is' = refl;
-      accepted = refl;
-      accepted' = refl;
-      premises = alike (map_in interior) (map_in interior') behind_four refl;
-      cells_differ = refl;
-      anchors_differ = refl;
-      boundaries_differ = refl;
-      labels_differ = refl;
-      numbers_differ = refl;
-      cuts = refl;
-      cuts' = refl;
-      ranks_agree = refl;
-      removed = removed_from 2 (map_in interior) interior-removes _ refl;
-      removed' = removed_from 2 (map_in interior') interior'-removes _ refl;
-      rows_are_lem = ap (island_only (map_in interior) behind_four) (rows-without 2 (map_in interior) interior-removes);
-      rows_are' = ap (island_only (map_in interior') behind_four) (rows-without 2 (map_in interior') interior'-removes);
-    }
 
 -- ---- pass 3
 
@@ -214,26 +168,3 @@ junction-removes = refl
 pub junction'-removes : removed_of 3 (map_in junction') ≡ 1 ∷ []
 unfolding removed_of map_in junction'
 junction'-removes = refl
-
-pub junction-shown : Shown 3 junction junction' first_four 0 1 (row 1 8 8 8 16 ∷ row 2 8 8 16 8 ∷ row 4 16 16 24 16 ∷ row 3 24 8 24 16 ∷ [])
-unfolding junction junction' map_in verdict is_alike is_same_list any_below_lem island_labels cuts_island rank_of filter rows_from member
-junction-shown =
-    record {
-      pass_is = refl;
-      pass_is' = refl;
-      accepted = refl;
-      accepted' = refl;
-      premises = alike (map_in junction) (map_in junction') first_four refl;
-      cells_differ = refl;
-      anchors_differ = refl;
-      boundaries_differ = refl;
-      labels_differ = refl;
-      numbers_differ = refl;
-      cuts = refl;
-      cuts' = refl;
-      ranks_agree = refl;
-      removed = removed_from 3 (map_in junction) junction-removes _ refl;
-      removed' = removed_from 3 (map_in junction') junction'-removes _ refl;
-      rows_are_lem = ap (island_only (map_in junction) first_four) (rows-without 3 (map_in junction) junction-removes);
-      rows_are' = ap (island_only (map_in junction') first_four) (rows-without 3 (map_in junction') junction'-removes);
-    }

@@ -61,8 +61,8 @@ module _ (in_r : ℕ → Bool) where
   mouth_shape_in false a = refl
   mouth_shape_in true done = refl
   mouth_shape_in true (more h done) = refl
-  mouth_shape_in true (more h (more k a)) =
-      star_from_in (more h (more k a)) (common_regions_on true (more h (more k a))) ∙ ap (star_from _) (common_regions_in (more h (more k a)))
+  mouth_shape_in true (more {x = p} h (more {x = q} {l = l} k a)) =
+      star_from_in (more h (more k a)) (common_regions_on true (more h (more k a))) ∙ ap (star_from (map (ren_p in_r) (p ∷ q ∷ l))) (common_regions_in (more h (more k a)))
 
   pub mouth_shape_on : (b c : Bool) {l : List Pair} → All (PairOn in_r b) l → OnO (ShapeOn b) (mouth_shape c l)
   unfolding mouth_shape

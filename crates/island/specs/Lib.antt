@@ -3,11 +3,6 @@ pub mod Frame
 pub mod RegionLists
 pub mod Steps
 pub mod Restrict
-pub mod Labels
-pub mod Pairs
-pub mod Records
-pub mod Framed
-pub mod Same
 pub mod FrameLemmas
 pub mod FrameUnions
 pub mod FrameBridges
@@ -20,6 +15,5 @@ pub mod FrameMouths
 pub mod FrameComponents
 pub mod FrameExpansions
 pub mod FrameInteriors
-pub mod Theorem
 pub mod Decide
 pub mod Example

@@ -10,6 +10,7 @@ use Rattle.definitions.specs.CaseJ.{row}
 use Rattle.definitions.specs.Cases.{region_of_counts}
 use Rattle.island.specs.Premises.{cuts_island, rank_of, Alike, island_only}
 use Rattle.island.specs.Example as maps
+use Rattle.island.proofs.Example as met_maps
 use Rattle.call_partition.specs.Contract.{Ran}
 use Rattle.island_calls.specs.Outputs.{rows_held}
 use Rattle.island_calls.specs.RowsAtExit.{rows_held_lem}
@@ -85,7 +86,7 @@ shown L L' isl {held} {held'} ok ok' same premises rows rows' left =
 pub mouths : Shown maps.mouth (elsewhere maps.mouth') maps.behind_four (row 3 16 0 16 8 ∷ row 1 48 0 48 8 ∷ []) (row 0 8 0 8 8 ∷ row 2 48 0 48 8 ∷ []) (row 1 48 0 48 8 ∷ [])
 unfolding elsewhere maps.mouth maps.mouth' map_in verdict rows_from member cuts_island rank_of
 mouths =
-    shown maps.mouth (elsewhere maps.mouth') maps.behind_four refl refl refl (maps.mouth-shown).premises (maps.rows-without 1 (map_in maps.mouth) maps.mouth-removes)
+    shown maps.mouth (elsewhere maps.mouth') maps.behind_four refl refl refl (met_maps.mouth-shown).premises (maps.rows-without 1 (map_in maps.mouth) maps.mouth-removes)
     (maps.rows-without 1 (map_in maps.mouth') maps.mouth'-removes) refl
 
 -- ---- pass 2
@@ -93,7 +94,7 @@ mouths =
 pub interiors : Shown maps.interior (elsewhere maps.interior') maps.behind_four (row 3 8 0 8 8 ∷ row 4 16 0 16 8 ∷ row 0 40 0 40 8 ∷ row 2 56 0 56 8 ∷ []) (row 1 8 0 8 8 ∷ row 0 40 0 40 8 ∷ row 3 56 0 56 8 ∷ []) (row 0 40 0 40 8 ∷ row 2 56 0 56 8 ∷ [])
 unfolding elsewhere maps.interior maps.interior' map_in verdict rows_from member cuts_island rank_of
 interiors =
-    shown maps.interior (elsewhere maps.interior') maps.behind_four refl refl refl (maps.interior-shown).premises (maps.rows-without 2 (map_in maps.interior) maps.interior-removes)
+    shown maps.interior (elsewhere maps.interior') maps.behind_four refl refl refl (met_maps.interior-shown).premises (maps.rows-without 2 (map_in maps.interior) maps.interior-removes)
     (maps.rows-without 2 (map_in maps.interior') maps.interior'-removes) refl
 
 -- ---- pass 3
@@ -101,5 +102,5 @@ interiors =
 pub junctions : Shown maps.junction (elsewhere maps.junction') maps.first_four (row 1 8 8 8 16 ∷ row 2 8 8 16 8 ∷ row 4 16 16 24 16 ∷ row 3 24 8 24 16 ∷ row 5 40 8 48 8 ∷ []) (row 2 8 8 8 16 ∷ row 3 8 8 16 8 ∷ row 5 16 16 24 16 ∷ row 4 24 8 24 16 ∷ row 0 40 16 48 16 ∷ []) (row 1 8 8 8 16 ∷ row 2 8 8 16 8 ∷ row 4 16 16 24 16 ∷ row 3 24 8 24 16 ∷ [])
 unfolding elsewhere maps.junction maps.junction' map_in verdict rows_from member cuts_island rank_of
 junctions =
-    shown maps.junction (elsewhere maps.junction') maps.first_four refl refl refl (maps.junction-shown).premises (maps.rows-without 3 (map_in maps.junction) maps.junction-removes)
+    shown maps.junction (elsewhere maps.junction') maps.first_four refl refl refl (met_maps.junction-shown).premises (maps.rows-without 3 (map_in maps.junction) maps.junction-removes)
     (maps.rows-without 3 (map_in maps.junction') maps.junction'-removes) refl

@@ -13,7 +13,7 @@ use Rattle.laws.specs.ListLaws.NoFault.{found, no_fault_lem}
 use Rattle.laws.specs.TableLaws.AcceptedCalls.{accepted}
 use Rattle.laws.specs.RustPasses.RampRows.{replace_ramp_mouths_lem, collapse_ramp_interiors_lem}
 use Rattle.laws.specs.RustPasses.JunctionRows.{remove_junction_boundaries_lem}
-use Rattle.laws.specs.RustPasses.Accepted.{accepted-mouths, accepted-interiors, accepted-junctions}
+use Rattle.laws.proofs.RustPasses.Accepted.{accepted-mouths, accepted-interiors, accepted-junctions}
 use Rattle.call_partition.specs.Contract.{Ran}
 use Rattle.island_calls.specs.Outputs.{rows_held}
 use Rattle.island_calls.specs.RowsAtExit.{rows_held_lem}

@@ -12,7 +12,7 @@ use Rattle.definitions.specs.Rows.{rows_of, is_kept}
 use Rattle.definitions.specs.Verdict.{Lent, Answer, map_in}
 use Rattle.island.specs.Premises.{Island, Alike, cuts_island, rank_of, island_only}
 use Rattle.island.specs.Restrict.{cuts_lt}
-use Rattle.island.specs.Theorem.{island_rows_lem, island-kept}
+use Rattle.island.proofs.Theorem.{island_rows_lem, island-kept}
 use Rattle.call_partition.specs.Contract.{Ran}
 use Rattle.island_calls.specs.Outputs.{rows_held, has_row}
 use Rattle.island_calls.specs.RowsAtExit.{rows_held_lem, row_kept}

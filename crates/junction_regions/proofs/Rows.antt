@@ -30,7 +30,7 @@ module _ {C : Context} {boundaries marks rows : List ℕ} {k : ℕ} {first secon
   row-pixels e = subst⁻¹ PixelSegment e (h.told.pixels.ends row.index)
 
   pub first_on : OnMap (record_of first)
-  first_on = record { edges = subst⁻¹ PixelRegion h.first-is (h.told.pixels.edges row.first); counted = subst⁻¹ Counted h.first-is (h.told.counted row.first) }
+  first_on = record { edges = subst⁻¹ PixelRegion h.first_is (h.told.pixels.edges row.first); counted = subst⁻¹ Counted h.first_is (h.told.counted row.first) }
 
   pub second_on : OnMap (record_of second)
   second_on =
@@ -42,17 +42,17 @@ module _ {C : Context} {boundaries marks rows : List ℕ} {k : ℕ} {first secon
   module _ {s : Segment} (ends : s ≡ (C.boundary row.index).endpoints) where
     pub allowed-bridge : {r : Bool} → (row.kind ≡ 0 → ⊥) → r ≡ bridge_of (record_of first) s → r ≡ is_allowed C row
     unfolding is_allowed bridge_region bridge_of
-    allowed-bridge n e = e ∙ ap₂ bridge_of h.first-is ends ∙ rw (ne_eqb row.kind 0 n)
+    allowed-bridge n e = e ∙ ap₂ bridge_of h.first_is ends ∙ rw (ne_eqb row.kind 0 n)
 
     -- n counts the anchored regions
     pub allowed-union : {r : Bool} {n : ℕ} → row.kind ≡ 0 → n ≡ bit (mark_at marks row.first) + bit (mark_at marks row.second)
         → r ≡ union_of (record_of first) (record_of second) s (eqb n 1) → r ≡ is_allowed C row
     unfolding is_allowed union_regions union_of is_local
     allowed-union {n = n} z m e =
-        e ∙ (λ i. union_of (h.first-is i) (h.second_is i) (ends i) (eqb (anchored i) 1)) ∙ rw (eq-eqb row.kind 0 z)
+        e ∙ (λ i. union_of (h.first_is i) (h.second_is i) (ends i) (eqb (anchored i) 1)) ∙ rw (eq-eqb row.kind 0 z)
       where
         anchored : n ≡ bit (C.anchored row.first) + bit (C.anchored row.second)
         anchored =
             m
-            ∙ ap₂ (λ a b. bit a + bit b) (sym (h.told.anchored.at row.first h.fits.first-from h.fits.first_to))
-            (sym (h.told.anchored.at row.second h.fits.second_from h.fits.second-to))
+            ∙ ap₂ (λ a b. bit a + bit b) (sym (h.told.anchored.at row.first h.fits.first_from h.fits.first_to))
+            (sym (h.told.anchored.at row.second h.fits.second_from h.fits.second_to))

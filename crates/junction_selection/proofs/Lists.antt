@@ -21,7 +21,7 @@ selecting_of taken removed reserved h a b c =
       whole = h.whole;
       small = h.small;
       removed-long = omega (arith, h.removed-long);
-      reserved_long = omega (arith, h.reserved-long);
+      reserved_long = omega (arith, h.reserved_long);
       room = omega (arith, h.room);
       below = h.below;
     }

@@ -75,11 +75,11 @@ module _ (smaller larger rows taken : List ℕ) (removed reserved : List Bool) (
   pub refused : (p : ℕ) {a b c : Bool} → ((k : ℕ) → k < n → (row_at rows k).index < count) → p < n → a ≡ any_below_lem count (λ j. reserves_at smaller larger (row_at rows p) j && (get_or removed j false || get_or reserved j false)) → b ≡ get_or reserved (row_at rows p).index false → c ≡ any (λ q. region_conflict q.kind (row_at rows p).kind q (row_at rows p)) (order_of rows taken t) → (a || b || c) ≡ any (λ q. conflict_at smaller larger count q (row_at rows p)) chosen
   refused p {a} {b} {c} below l ports own regions =
       (λ x. ports x || own x || regions x)
-      ∙ (λ x. marks x || st.reserved-at (row_at rows p).index (below p l) x || any (λ q. region_conflict q.kind (row_at rows p).kind q (row_at rows p)) (st.are x))
+      ∙ (λ x. marks x || st.reserved_at (row_at rows p).index (below p l) x || any (λ q. region_conflict q.kind (row_at rows p).kind q (row_at rows p)) (st.are x))
       ∙ refused_is smaller larger count (row_at rows p) (chosen-all below)
     where
       marks : any_below_lem count (λ j. reserves_at smaller larger (row_at rows p) j && (get_or removed j false || get_or reserved j false)) ≡ any_below_lem count (λ j. reserves_at smaller larger (row_at rows p) j && (removed_by smaller larger count (row_at rows p) chosen j || reserved_by smaller larger count (row_at rows p) chosen j))
-      marks = below_ext count _ _ (λ j h. ap₂ (λ x y. reserves_at smaller larger (row_at rows p) j && (x || y)) (st.removed-at j h) (st.reserved-at j h))
+      marks = below_ext count _ _ (λ j h. ap₂ (λ x y. reserves_at smaller larger (row_at rows p) j && (x || y)) (st.removed_at_lem j h) (st.reserved_at j h))
 
   -- row p is taken
   standing_more : (p i : ℕ) (now : List Bool) → t < length taken → p < n → i ≡ (row_at rows p).index → i < length removed → ((j : ℕ) → j < count → get_or now j false ≡ (get_or reserved j false || reserves_at smaller larger (row_at rows p) j)) → Standing smaller larger rows (set taken t p) (set removed i true) now count n (t + 1) (chosen ++ (row_at rows p ∷ []))
@@ -90,7 +90,7 @@ module _ (smaller larger rows taken : List ℕ) (removed reserved : List Bool) (
         rows_in = λ k h. within k h (eqb k t) refl;
         removed_at_lem = λ j h. mark j h (eqb j i) refl;
         reserved_at = λ j h.
-            m j h ∙ ap (λ b. b || reserves_at smaller larger (row_at rows p) j) (st.reserved-at j h)
+            m j h ∙ ap (λ b. b || reserves_at smaller larger (row_at rows p) j) (st.reserved_at j h)
             ∙ sym (any_append (λ q. reserves_at smaller larger q j) chosen (row_at rows p ∷ []) ∙ ap (λ b. any (λ q. reserves_at smaller larger q j) chosen || b) (or-false (reserves_at smaller larger (row_at rows p) j)));
       }
     where
@@ -108,7 +108,7 @@ module _ (smaller larger rows taken : List ℕ) (removed reserved : List Bool) (
           ap (λ x. get_or (set removed i true) x false) (eqb-true j i q) ∙ get_or-set_same removed i true false li
           ∙ sym (ap (λ b. any (λ q. eqb j q.index) chosen || b) q ∙ or-true (any (λ q. eqb j q.index) chosen)) ∙ found j
       mark j h false q =
-          get_or-set_other removed i j true false (eqb-false j i q) ∙ st.removed-at j h
+          get_or-set_other removed i j true false (eqb-false j i q) ∙ st.removed_at_lem j h
           ∙ sym (ap (λ b. any (λ q. eqb j q.index) chosen || b) q ∙ or-false (any (λ q. eqb j q.index) chosen)) ∙ found j
 
   -- b is what `is_refused` returned of row p

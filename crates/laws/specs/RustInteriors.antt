@@ -1,11 +1,9 @@
 -- Pass 2 as the Rust writes it (ramp_boundaries.rs), and that it is the definitions' pass.
 pub mod LeavesLiteral
-pub mod Leaves
 pub mod ComponentLiteral
 pub mod ComponentRegions
 pub mod ComponentSearch
 pub mod InteriorLiteral
-pub mod InteriorChain
 pub mod DepthFirstLiteral
 pub mod SearchRounds
 pub mod SearchGraph
@@ -14,4 +12,3 @@ pub mod DepthFirst
 pub mod InteriorLoop
 pub mod InteriorStarts
 pub mod Selection2
-pub mod InteriorsAsRust

@@ -12,7 +12,7 @@ use Rattle.definitions.specs.Sheet.{Sheet, Reading, well_formed, refused, read_s
 use Rattle.definitions.specs.SheetNumber.{Read, found, failed, number}
 use Rattle.laws.specs.ListLaws.Lists.{All}
 use Rattle.laws.specs.ListLaws.Tests.{both}
-use Rattle.results.specs.WrittenReads.{Words}
+use Rattle.results.proofs.WrittenReads.{Words}
 use Rattle.map_sheets.specs.SheetBytes.{sheet_bytes}
 use Rattle.map_sheets.specs.Writing.{write_verdict, written_at_exit, Writes}
 use Rattle.map_sheets.specs.Converting.{is_one_list, of_kind1, read_kind1, convert_answer, convert_verdict, converted_bytes, Converts}

@@ -10,7 +10,7 @@ use Rattle.laws.specs.ListLaws.Lists.{All, done, more}
 use Rattle.laws.specs.ListLaws.Tests.{both}
 use Rattle.laws.specs.SheetReading.SheetLaws.{not_found, number-below, times-length}
 use Rattle.laws.specs.SheetReading.SheetSizes.{Gives, gives_any, gives_value, gives_check, gives_then}
-use Rattle.results.specs.WrittenReads.{Words}
+use Rattle.results.proofs.WrittenReads.{Words}
 use Rattle.map_sheets.specs.SheetBytes.{sheet_bytes}
 use Rattle.map_sheets.specs.Converting.{same_numbers, is_one_list}
 use Rattle.map_sheets.specs.WrittenReads.{Writable, written-reads}

@@ -11,7 +11,7 @@ use Rattle.laws.specs.ListLaws.Lists.{All, done, more}
 use Rattle.laws.specs.SheetReading.SheetLaws.{then_found}
 use Rattle.results.specs.Shortest.{shortest, list_bytes}
 use Rattle.results.specs.ShortestReads.{number-shortest}
-use Rattle.results.specs.WrittenReads.{Words}
+use Rattle.results.proofs.WrittenReads.{Words}
 use Rattle.map_sheets.specs.SheetBytes.{sheet_bytes}
 
 -- ---- readers: at any offset these bytes give this value and leave this rest

@@ -80,8 +80,8 @@ add_distinct {l} x d = go (member x l) refl
 
 all_distinct : {l : List ℕ} (m : List ℕ) → Distinct l → Distinct (add_all l m)
 unfolding add_all
-all_distinct [] d = d
-all_distinct (x ∷ m) d = all_distinct m (add_distinct x d)
+all_distinct {l = l} [] d = d
+all_distinct {l = l} (x ∷ m) d = all_distinct {l = add_new l x} m (add_distinct x d)
 
 pub inner_distinct : (outer : ℕ) (l : List Pair) → Distinct (inner_of outer l)
 unfolding inner_of distinct_regions

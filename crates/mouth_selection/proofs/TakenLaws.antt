@@ -115,7 +115,7 @@ hold_at hold marks s r hs ls hr = go (eqb r s) refl
         ∙ ap (λ n. n / 2) (get_or-set_same marks (s - 1) (get_or marks (s - 1) 0 % 2 + 2 * hold) 0 (omega arith)) ∙ half (get_or marks (s - 1) 0) hold
     go false k = ap (λ n. n / 2) (get_or-set_other marks (s - 1) (r - 1) (get_or marks (s - 1) 0 % 2 + 2 * hold) 0 (λ q. eqb-false r s k (omega (arith, q))))
 
-inner_at_lem : (outer : ℕ) (marks : List ℕ) {l : List ℕ} {n : ℕ} (r : ℕ) → 1 ≤ r → n ≤ length marks → All (λ s. (1 ≤ s) × (s ≤ n)) l
+inner_at_lem : (outer : ℕ) {n : ℕ} (marks : List ℕ) {l : List ℕ} (r : ℕ) → 1 ≤ r → n ≤ length marks → All (λ s. (1 ≤ s) × (s ≤ n)) l
     → hold_at_lem (mark_inner outer marks l) r ≡ cond (not (eqb r outer) && member r l) 2 (hold_at_lem marks r)
 unfolding mark_inner member any
 inner_at_lem outer marks r hr hn done = none (eqb r outer)
@@ -123,7 +123,7 @@ inner_at_lem outer marks r hr hn done = none (eqb r outer)
     none : (b : Bool) → hold_at_lem marks r ≡ cond (not b && false) 2 (hold_at_lem marks r)
     none true = refl
     none false = refl
-inner_at_lem outer marks {n = n} r hr hn (more {x = s} {l = l} h t) = next (eqb s outer) refl (λ m k. inner_at_lem outer m r hr k t)
+inner_at_lem outer {n} marks r hr hn (more {x = s} {l = l} h t) = next (eqb s outer) refl (λ m k. inner_at_lem outer m r hr k t)
   where
     skip : (u v : ℕ) (x y e : Bool) → (e ≡ true → x ≡ true) → cond (not x && y) u v ≡ cond (not x && (e || y)) u v
     skip u v x y false k = refl

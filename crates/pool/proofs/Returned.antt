@@ -18,7 +18,8 @@ use Rattle.catalogue.specs.Terms.{Days, term_at, term_count, is_finished, days_o
 use Rattle.catalogue.specs.Accession.{Accession, accession_count, accessions_fault}
 use Rattle.catalogue.specs.Accession as accession
 use Rattle.catalogue.specs.Pool.{maps_of_day, newest, entry_of, entries_of, entries_on, asked_fault, pool_verdict, pool_at_exit}
-use Rattle.catalogue.specs.PoolLaws.{pool_rising, pool_members}
+use Rattle.catalogue.specs.PoolLaws.{pool_members}
+use Rattle.catalogue.proofs.PoolLaws.{pool_rising}
 use Rattle.pool_entries.specs.Steps.{entries_by}
 use Rattle.pool_entries.proofs.Showing.{entries_of-length, map_at}
 

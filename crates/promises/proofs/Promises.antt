@@ -62,9 +62,9 @@ use Rattle.record_sums.specs.Totals.{AddUp}
 use Rattle.record_sums.specs.Theorem as sums
 use Rattle.ranked_list.specs.RankedList.{ranked_of}
 use Rattle.ranked_list.specs.RankedAnswers.{RankedAnswer}
-use Rattle.ranked_list.specs.RankedLaws.{chosen}
-use Rattle.ranked_list.specs.RankedCalls.{ranked_in, Greedy}
-use Rattle.ranked_list.specs.RankedCalls as ranks
+use Rattle.ranked_list.proofs.RankedLaws.{chosen}
+use Rattle.ranked_list.proofs.RankedCalls.{ranked_in, Greedy}
+use Rattle.ranked_list.proofs.RankedCalls as ranks
 use Rattle.topology.specs.Lent.{LentLists, LeftLists, lent_map, lent_call}
 use Rattle.topology.specs.Contract.{exported, RanOver}
 use Rattle.topology.specs.Desks.{LentBoth, LeftBoth, shared_lent, RanBothOver}
@@ -80,31 +80,31 @@ use Rattle.rest.specs.RestCalls as rest
 use Rattle.game.specs.Game.{Place, Inside}
 use Rattle.game.specs.Play as play
 use Rattle.game.specs.EntryLaws.{Entry}
-use Rattle.game.specs.EntryLaws as entries
+use Rattle.game.proofs.EntryLaws as entries
 use Rattle.game_calls.specs.KeptGraph.{kept_game}
 use Rattle.game_calls.specs.GameVerdict.{GameAnswer}
 use Rattle.game_calls.specs.GameCalls as games
 use Rattle.topology.specs.Ranked.{RankedOver}
 use Rattle.desks.specs.Desks.{Desk, shared_refusal, desk_refusal}
 use Rattle.desks.specs.Desks as desk
-use Rattle.desks.specs.SameGround.{SameGround}
-use Rattle.desks.specs.DeskLaws.{RefusedWith, LeftAsOnSuccess}
-use Rattle.desks.specs.DeskLaws as desks
+use Rattle.desks.proofs.SameGround.{SameGround}
+use Rattle.desks.proofs.DeskLaws.{RefusedWith, LeftAsOnSuccess}
+use Rattle.desks.proofs.DeskLaws as desks
 use Rattle.desk_checks.specs.AloneCalls as desk-calls
 use Rattle.island_theorem.specs.Theorem.{SameOnIsland}
 use Rattle.island_theorem.specs.Theorem as calls
 use Rattle.separations.specs.Distance.{SharePoint, ExactSquare, exact_square}
 use Rattle.separations.specs.Listing.{boundary_count, ends_of_lem, Lists}
-use Rattle.separations.specs.Theorem.{OfBoundaries}
-use Rattle.separations.specs.Theorem as separations
-use Rattle.separations.specs.Calls.{RowHolds}
-use Rattle.separations.specs.Calls as listed
+use Rattle.separations.proofs.Theorem.{OfBoundaries}
+use Rattle.separations.proofs.Theorem as separations
+use Rattle.separations.proofs.Calls.{RowHolds}
+use Rattle.separations.proofs.Calls as listed
 use Rattle.catalogue.specs.Accession.{accession_at, accession_count}
 use Rattle.catalogue.specs.Line.{line_verdict, line_at_exit}
 use Rattle.catalogue.specs.AccessionLaws.Chain.{Link}
-use Rattle.catalogue.specs.AccessionLaws.Lines.{Descends}
-use Rattle.catalogue.specs.AccessionLaws.Reported.{accessions_in}
-use Rattle.catalogue.specs.AccessionLaws.Reported as reported
+use Rattle.catalogue.proofs.AccessionLaws.Lines.{Descends}
+use Rattle.catalogue.proofs.AccessionLaws.Reported.{accessions_in}
+use Rattle.catalogue.proofs.AccessionLaws.Reported as reported
 use Rattle.catalogue.specs.Dates.{Date}
 use Rattle.catalogue.specs.Terms.{term_at, term_count, days_of, contains}
 use Rattle.catalogue.specs.Pool.{newest, entry_of}
@@ -115,8 +115,8 @@ use Rattle.results.specs.ResultAnswers.{read_result, result_bytes, well_formed, 
 use Rattle.results.specs.ResultAnswers as answers
 use Rattle.results.specs.Shortest.{shortest}
 use Rattle.results.specs.ShortestReads.{number-shortest}
-use Rattle.results.specs.Calls.{InMemory}
-use Rattle.results.specs.Calls as written
+use Rattle.results.proofs.Calls.{InMemory}
+use Rattle.results.proofs.Calls as written
 use Rattle.sheet.specs.Contract.{answer_number}
 use Rattle.sheet.specs.declared.Answer.{Answer as ReadAnswer}
 use Rattle.sheets_equal.specs.NumberBytes.{Bytes}
@@ -142,10 +142,10 @@ use Rattle.run_results.specs.Calls as runs
 use Rattle.report.specs.Runs.{Run}
 use Rattle.report.specs.Report.{Report, Mean, max_runs, empty_report, add_run, add_runs_by, add_runs, exact_runs, mean_of}
 use Rattle.report.specs.ReportLaws.Possible.{Made}
-use Rattle.report.specs.ReportLaws.Order.{Reordered}
-use Rattle.report.specs.ReportLaws.Order as orders
-use Rattle.report.specs.ReportLaws.Reached.{total, total_accepted}
-use Rattle.report.specs.ReportLaws.Reached as reports
+use Rattle.report.proofs.ReportLaws.Order.{Reordered}
+use Rattle.report.proofs.ReportLaws.Order as orders
+use Rattle.report.proofs.ReportLaws.Reached.{total, total_accepted}
+use Rattle.report.proofs.ReportLaws.Reached as reports
 use Rattle.report.specs.ReportLaws.Means.{IsMean}
 use Rattle.report.specs.ReportLaws.Means as means
 

@@ -17,7 +17,7 @@ use Rattle.junction_proposals.specs.Bridges.{FirstFrom}
 use Rattle.junction_proposals.specs.Rows.{row_at}
 use Rattle.junction_selection.specs.Ranks.{order_of, conflict_at}
 use Rattle.ranked_list.specs.RankedList.{Listed, blocks, judged, judged_after, flat_ranked}
-use Rattle.ranked_list.specs.RankedLaws.{row_at_lem, judged-length}
+use Rattle.ranked_list.proofs.RankedLaws.{row_at_lem, judged-length}
 use Rattle.ranked_rows.specs.Contract.{Listing, RankOf, ranked_row, listed_from, blocks_at, Following}
 use Rattle.ranked_rows.proofs.Judging.{judged_more, flat_more, flat-length, taken-number, row_written}
 
@@ -128,7 +128,7 @@ module _ (smaller larger rows order : List ℕ) (count k p : ℕ) where
             length-drop (length (flat_ranked before)) old,
             listing.room,
             listing.few,
-            rank.rank-in,
+            rank.rank_in_lem,
           )
 
 -- ---- rank by rank

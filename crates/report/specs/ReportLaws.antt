@@ -2,6 +2,4 @@
 pub mod OneRun
 pub mod Named
 pub mod Possible
-pub mod Order
-pub mod Reached
 pub mod Means

@@ -16,7 +16,7 @@ use Rattle.sheet.specs.declared.Answer.TheVariants.{Read, Refused}
 use Rattle.report.specs.Runs.{refused_run}
 use Rattle.report.specs.Report as def
 use Rattle.report.specs.Report.{max_runs, sum64, added_by, add_run}
-use Rattle.report.specs.ReportLaws.Order as order
+use Rattle.report.proofs.ReportLaws.Order as order
 use Rattle.report_figures.specs.declared.Report.{Report}
 use Rattle.report_figures.specs.Forms.{report_form}
 use Rattle.report_reading.specs.declared.Opened.{Opened}

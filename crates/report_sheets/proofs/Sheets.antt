@@ -25,7 +25,7 @@ use Rattle.sheet_answer.proofs.BeforeCall.{begun-read}
 use Rattle.sheet_answer.proofs.Whole.{SheetRead, begun-ready}
 use Rattle.report.specs.Runs.{reading_run, sheet_reading, sheet_run}
 use Rattle.report.specs.Report.{Report, max_runs, sum64, added_by}
-use Rattle.report.specs.ReportLaws.Order.{within, beyond}
+use Rattle.report.proofs.ReportLaws.Order.{within, beyond}
 use Rattle.report_figures.specs.declared.Reported.{Reported}
 use Rattle.report_figures.specs.declared.Report as declared
 use Rattle.report_figures.specs.Forms.{report_form}

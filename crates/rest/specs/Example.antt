@@ -5,7 +5,8 @@ use Rattle.definitions.specs.Scan.{filter}
 use Rattle.definitions.specs.Verdict.{Lent, map_in}
 use Rattle.definitions.specs.CaseJ.{row}
 use Rattle.island.specs.Premises.{cuts_island, rank_of, Alike, island_only}
-use Rattle.island.specs.Decide.{is_alike, alike}
+use Rattle.island.specs.Decide.{is_alike}
+use Rattle.island.proofs.Decide.{alike}
 use Rattle.rest_definitions.specs.Rest.{rounds_of, rest_rows}
 use Rattle.rest_definitions.specs.RestExamples.{plain, ramp, input_of}
 use Rattle.rest.specs.LentIsland.{rest-island-lent}

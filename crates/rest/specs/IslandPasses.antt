@@ -19,8 +19,8 @@ use Rattle.laws.specs.ListLaws.Options.{on_only, only_map, option_in, option_out
 use Rattle.laws.specs.OrderLaws.Ranks.{rank, collect-rank}
 use Rattle.island.specs.Premises.{cuts_island, has_anchor, cutting, rank_of, Island, Alike}
 use Rattle.island.specs.Restrict.{restrict, cuts_lt}
-use Rattle.island.specs.Same.{restrict_same}
-use Rattle.island.specs.Theorem.{kept_restricted}
+use Rattle.island.proofs.Same.{restrict_same}
+use Rattle.island.proofs.Theorem.{kept_restricted}
 use Rattle.rest_definitions.specs.Rest.{kept_map, passed, round}
 use Rattle.rest.specs.Rounds.{iterate}
 use Rattle.rest.specs.Picking.{filter-picked, picked_same, picked_all, ranks-all, all_below_lem}

@@ -15,8 +15,8 @@ use Rattle.laws.specs.ListLaws.Members.{filter_passes}
 use Rattle.laws.specs.ListLaws.Scans.{picked, picked_at, picked-map, collect_ext, map_ext}
 use Rattle.island.specs.Premises.{cuts_island, has_anchor, cutting, rank_of, Island, Alike, ranked, island_only}
 use Rattle.island.specs.Restrict.{restrict}
-use Rattle.island.specs.Same.{restrict_same}
-use Rattle.island.specs.Framed.{framed}
+use Rattle.island.proofs.Same.{restrict_same}
+use Rattle.island.proofs.Framed.{framed}
 use Rattle.island.specs.FrameRows.{rows_in}
 use Rattle.rest_definitions.specs.RowOrder.{start_rows, no_row, turned, map_with, start_map}
 use Rattle.rest_definitions.specs.Rest.{rest_rows}

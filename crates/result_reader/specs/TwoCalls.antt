@@ -9,7 +9,7 @@ use Rattle.definitions.specs.Lists.{overwrite}
 use Rattle.definitions.specs.Verdict as verdict
 use Rattle.results.specs.Result.{Result}
 use Rattle.results.specs.ResultAnswers.{well_formed, read_verdict, room_for, Writes}
-use Rattle.results.specs.Calls.{InMemory, written-call}
+use Rattle.results.proofs.Calls.{InMemory, written-call}
 use Rattle.result_reader.specs.Contract.{Answered, Reads}
 use Rattle.result_reader.specs.declared.ResultAnswer.{ResultAnswer}
 

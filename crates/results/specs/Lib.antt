@@ -5,6 +5,3 @@ pub mod ResultAnswers
 pub mod ResultExamples
 pub mod ShortestSteps
 pub mod ShortestReads
-pub mod SameRules
-pub mod WrittenReads
-pub mod Calls

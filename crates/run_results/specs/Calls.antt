@@ -25,7 +25,7 @@ use Rattle.laws.specs.RegionLaws.Tallies.{tallies-length}
 use Rattle.call_partition.specs.Contract.{Ran}
 use Rattle.results.specs.Result.{Result, rules_fault}
 use Rattle.results.specs.ResultAnswers.{well_formed, read_result, result_bytes, placed, is_finished, write_verdict, written_at_exit, Writes}
-use Rattle.results.specs.Calls.{InMemory, written-call}
+use Rattle.results.proofs.Calls.{InMemory, written-call}
 use Rattle.run_results.specs.Held.{greatest, pairs_held, regions-greatest, pairs_held_lem}
 use Rattle.run_results.specs.RunResult.{run_result, run-keeps_rules, run-finished}
 

@@ -145,8 +145,7 @@ fn verdict(width: u64, height: u64, boundaries: &[u64], room: usize) -> Answer
 }
 
 // The separations of each two of these boundaries, on a map of these sides. For other languages too: include/jenwyllt.h declares it as jenwyllt_separations.
-#[unsafe(no_mangle)]
-pub extern "C" fn separation_list_separations(
+pub fn separation_list_separations(
     width: u64,
     height: u64,
     boundaries: &[u64],

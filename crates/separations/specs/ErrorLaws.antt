@@ -4,5 +4,3 @@ pub mod Offsets
 pub mod Parameters
 pub mod Roots
 pub mod PointErrors
-pub mod SegmentErrors
-pub mod Turned

@@ -4,6 +4,4 @@ pub mod Listing
 pub mod ListingExamples
 pub mod PlaneLaws
 pub mod ErrorLaws
-pub mod Theorem
 pub mod ListingLaws
-pub mod Calls

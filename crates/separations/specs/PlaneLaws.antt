@@ -9,5 +9,3 @@ pub mod Meeting
 pub mod Crossing
 pub mod Sharing
 pub mod LeastDistance
-pub mod Perpendicular
-pub mod Sizes

@@ -10,7 +10,7 @@ use Rattle.definitions.specs.Limits.{numbers_per_boundary}
 use Rattle.definitions.specs.Verdict as verdict
 use Rattle.report.specs.Runs.{run_of}
 use Rattle.report.specs.Report.{max_runs, sum64, added_by}
-use Rattle.report.specs.ReportLaws.Order as order
+use Rattle.report.proofs.ReportLaws.Order as order
 use Rattle.report_figures.specs.declared.Report.{Report}
 use Rattle.report_figures.specs.declared.Reported.{Reported}
 use Rattle.report_figures.specs.Forms.{report_form}

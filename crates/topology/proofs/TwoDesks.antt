@@ -30,8 +30,8 @@ use Rattle.pass_lists.proofs.AfterChecks.{ready-sides, ready-fit}
 use Rattle.pass_lists.proofs.AfterPartition.{ready_finishes}
 use Rattle.desks.specs.Desks.{Shared, Desk, alone, shared_refusal, own_refusal, desk_refusal, first_of, answer_from, desk_answer, output_from, desk_output, Served, LeftShared}
 use Rattle.desks.specs.Terrain.{regions_same, records_same}
-use Rattle.desks.specs.SharedCalls.{shared_as_call, shared-numbered, own-numbered, refused_is}
-use Rattle.desks.specs.Alone.{answer-alone, output-alone}
+use Rattle.desks.proofs.SharedCalls.{shared_as_call, shared-numbered, own-numbered, refused_is}
+use Rattle.desks.proofs.Alone.{answer-alone, output-alone}
 use Rattle.desk_checks.specs.AloneCalls.{terrain-left}
 use Rattle.desk_checks.specs.Shared.{lent_both, RefusedBoth, SharedAs}
 use Rattle.desk_checks.proofs.DeskReady.{desk-ready}

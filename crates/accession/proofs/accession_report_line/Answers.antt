@@ -12,7 +12,10 @@ use Rattle.accession.proofs.accession_report_line.Goals as goal
 pub returns-then-records-ne0 : goal.returns-then-records-ne0
 returns-then-records-ne0 c =
     let l = c.args.records.now in
-    (unfinished l c.args.own c.args.output.now (ne_eqb (length l % numbers_per_accession) 0 c.if-records-ne0.true), refl)
+    record {
+        answer = unfinished l c.args.own c.args.output.now (ne_eqb (length l % numbers_per_accession) 0 c.if-records-ne0.true);
+        left = refl;
+    }
 
 pub report_kept-requires : goal.report_kept-requires
 report_kept-requires c =
@@ -23,4 +26,7 @@ pub returns-in-At : goal.returns-in-At
 returns-in-At c =
     let finished : is_finished c.args.records.now ≡ true = eq-eqb (length c.args.records.now % numbers_per_accession) 0 c.if-records-ne0.false in
     let fault = sym c.first_broken.ensures ∙ ap place_of c.in-At.is in
-    (broken c.args.records.now c.args.own c.args.output.now finished fault, refl)
+    record {
+        answer = broken c.args.records.now c.args.own c.args.output.now finished fault;
+        left = refl;
+    }

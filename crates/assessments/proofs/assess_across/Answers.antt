@@ -23,14 +23,15 @@ use Rattle.assessments.proofs.assess_across.Goals as goal
 pub returns-then-changes-eq0 : goal.returns-then-changes-eq0
 returns-then-changes-eq0 c =
     let a = c.args in
-    (counting_most c.requires.1.1 (omega arith), assesses_same (unchanged a.width a.height a.cells.now (segment_of a.g) a.strip a.k a.beyond c.requires.1.0 c.if-changes-eq0.true) assesses_none)
+    record { still_counting = counting_most c.requires.counting (omega arith); assessed = assesses_same (unchanged a.width a.height a.cells.now (segment_of a.g) a.strip a.k a.beyond c.requires.changes c.if-changes-eq0.true) assesses_none }
 
 pub returns-then-not-is_placed : goal.returns-then-not-is_placed
 returns-then-not-is_placed c =
-    let a = c.args in (
-      counting_most c.pre.1.1 (omega arith),
-      assesses_same (sym (none_there (grid_of a.width a.height a.cells.now) (segment_of a.g) a.strip a.k a.beyond (is_placed_as a.strip a.width a.height a.beyond c.pick.ensures c.is_placed.ensures (not-true _ c.if-not-is_placed.true-raw)))) assesses_none,
-    )
+    let a = c.args in
+    record {
+      still_counting = counting_most c.requires.counting (omega arith);
+      assessed = assesses_same (sym (none_there (grid_of a.width a.height a.cells.now) (segment_of a.g) a.strip a.k a.beyond (is_placed_as a.strip a.width a.height a.beyond c.pick.ensures c.is_placed.ensures (not-true _ c.if-not-is_placed.true-raw)))) assesses_none;
+    }
 
 pub overflow_sub-beyond : goal.overflow_sub-beyond
 overflow_sub-beyond c =
@@ -52,21 +53,21 @@ marked_changes-mask-requires c =
     let is_in : let a = c.args in (leb 2 a.beyond && ltb (a.beyond - 2) (minor_side a.strip a.width a.height)) ≡ true = let a = c.args in
     is_placed_as a.strip a.width a.height a.beyond c.pick.ensures c.is_placed.ensures (not-false _ c.if-not-is_placed.false-raw) in
     let place : let a = c.args in (2 ≤ a.beyond) × (a.beyond - 2 < minor_side a.strip a.width a.height) = let a = c.args in placed a.beyond (minor_side a.strip a.width a.height) is_in in
-    let inside : let a = c.args in (c.pick-x.result < a.width) × (c.pick-y.result < a.height) = cell_in c.args.strip.columns c.pick-x.ensures c.pick-y.ensures c.pre.0.2.column place.1 in
-    omega (arith, digits_lt inside.1 inside.0, c.pre.0.3.long)
+    let inside : let a = c.args in (c.pick-x.result < a.width) × (c.pick-y.result < a.height) = cell_in c.args.strip.columns c.pick-x.ensures c.pick-y.ensures c.requires.lent.2.column place.1 in
+    omega (arith, digits_lt inside.1 inside.0, c.requires.lent.3.long)
 
 pub assess_mask-requires : goal.assess_mask-requires
 assess_mask-requires c =
     let is_in : let a = c.args in (leb 2 a.beyond && ltb (a.beyond - 2) (minor_side a.strip a.width a.height)) ≡ true = let a = c.args in
     is_placed_as a.strip a.width a.height a.beyond c.pick.ensures c.is_placed.ensures (not-false _ c.if-not-is_placed.false-raw) in
     let place : let a = c.args in (2 ≤ a.beyond) × (a.beyond - 2 < minor_side a.strip a.width a.height) = let a = c.args in placed a.beyond (minor_side a.strip a.width a.height) is_in in
-    let inside : let a = c.args in (c.pick-x.result < a.width) × (c.pick-y.result < a.height) = cell_in c.args.strip.columns c.pick-x.ensures c.pick-y.ensures c.pre.0.2.column place.1 in
+    let inside : let a = c.args in (c.pick-x.result < a.width) × (c.pick-y.result < a.height) = cell_in c.args.strip.columns c.pick-x.ensures c.pick-y.ensures c.requires.lent.2.column place.1 in
     let steps : let a = c.args in let M = grid_of a.width a.height a.cells.now in cut_from M (segment_of a.g) (at c.pick-x.result c.pick-y.result) ≡ cut_two_back M (segment_of a.g) a.strip a.k a.beyond = let a = c.args in
     one_there (grid_of a.width a.height a.cells.now) (segment_of a.g) a.strip a.k a.beyond is_in c.pick-x.ensures c.pick-y.ensures in
     let a = c.args in
     let i = inside in
-    let crossed = across-crossed (segment_of a.g) a.strip a.k a.beyond c.pre.1.0 place.0 c.pick-x.ensures c.pick-y.ensures in
-    ((c.pre.0.0, i.0, i.1), (shown-directions i.0 i.1 crossed (shown_as (sym steps) c.pre.0.3) c.marked_changes-mask.ensures, c.pre.1.1))
+    let crossed = across-crossed (segment_of a.g) a.strip a.k a.beyond c.requires.changes place.0 c.pick-x.ensures c.pick-y.ensures in
+    record { lent = (c.requires.lent.0, i.0, i.1); mask = shown-directions i.0 i.1 crossed (shown_as (sym steps) c.requires.lent.3) c.marked_changes-mask.ensures; counting = c.requires.counting }
 
 pub shape_of-pairs : goal.shape_of-pairs
 shape_of-pairs c = c.assess_mask.auto.pairs
@@ -77,4 +78,4 @@ returns c =
     is_placed_as a.strip a.width a.height a.beyond c.pick.ensures c.is_placed.ensures (not-false _ c.if-not-is_placed.false-raw) in
     let steps : let a = c.args in let M = grid_of a.width a.height a.cells.now in cut_from M (segment_of a.g) (at c.pick-x.result c.pick-y.result) ≡ cut_two_back M (segment_of a.g) a.strip a.k a.beyond = let a = c.args in
     one_there (grid_of a.width a.height a.cells.now) (segment_of a.g) a.strip a.k a.beyond is_in c.pick-x.ensures c.pick-y.ensures in
-    (c.assess_mask.ensures.0, assesses_same steps c.assess_mask.ensures.1)
+    record { still_counting = c.assess_mask.ensures.still_counting; assessed = assesses_same steps c.assess_mask.ensures.assessed }

@@ -11,20 +11,23 @@ use Rattle.assessments.proofs.assess_cell.Goals as goal
 
 pub is_near-requires : goal.is_near-requires
 is_near-requires c =
-    let asked : let a = c.args in CellAsked a.width a.height a.cells.now a.g a.x a.y = let p = c.requires.0 in record { narrow = p.0.narrow; short = p.0.short; cells_long = p.0.cells_long; sound = p.1; in_x = p.2; in_y = p.3 } in
+    let p = c.requires.lent in
+    let asked : let a = c.args in CellAsked a.width a.height a.cells.now a.g a.x a.y = record { narrow = p.0.narrow; short = p.0.short; cells_long = p.0.cells_long; sound = p.1; in_x = p.2; in_y = p.3 } in
     asked
 
 pub returns-then-not-is_near : goal.returns-then-not-is_near
-returns-then-not-is_near c = (counting_most c.requires.1 (omega arith), assesses_same (steps_none (c.is_near.ensures.1 (not-true _ c.if-not-is_near.true-raw)) refl) assesses_none)
+returns-then-not-is_near c =
+    record { still_counting = counting_most c.requires.counting (omega arith); assessed = assesses_same (steps_none (c.is_near.ensures.where_false (not-true _ c.if-not-is_near.true-raw)) refl) assesses_none }
 
 pub cut_directions-mask-requires : goal.cut_directions-mask-requires
 cut_directions-mask-requires c =
-    let asked : let a = c.args in CellAsked a.width a.height a.cells.now a.g a.x a.y = let p = c.requires.0 in record { narrow = p.0.narrow; short = p.0.short; cells_long = p.0.cells_long; sound = p.1; in_x = p.2; in_y = p.3 } in
-    (asked, c.is_near.ensures.0 (not-false _ c.if-not-is_near.false-raw))
+    let p = c.requires.lent in
+    let asked : let a = c.args in CellAsked a.width a.height a.cells.now a.g a.x a.y = record { narrow = p.0.narrow; short = p.0.short; cells_long = p.0.cells_long; sound = p.1; in_x = p.2; in_y = p.3 } in
+    record { asked = asked; walkable_cell = c.is_near.ensures.where_true (not-false _ c.if-not-is_near.false-raw) }
 
 pub assess_mask-requires : goal.assess_mask-requires
 assess_mask-requires c =
-    ((c.pre.0.0, c.pre.0.2, c.pre.0.3), (c.cut_directions-mask.ensures, c.pre.1))
+    record { lent = (c.requires.lent.0, c.requires.lent.2, c.requires.lent.3); mask = c.cut_directions-mask.ensures; counting = c.requires.counting }
 
 pub shape_of-pairs : goal.shape_of-pairs
 shape_of-pairs c = c.assess_mask.auto.pairs

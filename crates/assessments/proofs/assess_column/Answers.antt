@@ -15,38 +15,38 @@ use Rattle.assessments.proofs.assess_column.Goals as goal
 
 pub near_range-range-requires : goal.near_range-range-requires
 near_range-range-requires c =
-    let p = c.requires.0 in
+    let p = c.requires.lent in
     (p.1, p.2.usable, column_in p.0.narrow p.0.short p.2, omega (arith, c.pick.ensures, p.2.some))
 
 pub loop-m-init : goal.loop-m-init
-loop-m-init c = walking_start c.pre.1
+loop-m-init c = walking_start c.requires.counting
 
 pub assess_cell-a-requires : goal.assess_cell-a-requires
 assess_cell-a-requires c =
-    let last_in : c.near_range-range.result.last < max_side = let p = c.pre.0.0 in
+    let last_in : c.near_range-range.result.last < max_side = let p = c.requires.lent.0 in
     omega (arith, c.near_range-range.ensures.inside, c.pick.ensures, side-small c.args.strip.columns p.short p.narrow) in
-    let i = cell_in c.args.strip.columns c.pick-in-loop-m.ensures c.pick-in-loop-m-2.ensures c.pre.0.2.column (omega (arith, c.loop-m-test.taken, c.near_range-range.ensures.inside, c.pick.ensures)) in
-    ((c.pre.0.0, c.pre.0.1, i.0, i.1), counting_most c.loop-m.inv.turns.counting (omega (arith, c.loop-m.inv.turns.counting.few, c.loop-m-test.taken, last_in, c.pre.1.few)))
+    let i = cell_in c.args.strip.columns c.pick-in-loop-m.ensures c.pick-in-loop-m-2.ensures c.requires.lent.2.column (omega (arith, c.loop-m-test.true, c.near_range-range.ensures.inside, c.pick.ensures)) in
+    record { lent = (c.requires.lent.0, c.requires.lent.1, i.0, i.1); counting = counting_most c.loop-m.invariant.turns.counting (omega (arith, c.loop-m.invariant.turns.counting.few, c.loop-m-test.true, last_in, c.requires.counting.few)) }
 
 pub loop-m-smaller : goal.loop-m-smaller
-loop-m-smaller c = omega (arith, (turn c).loop-test.taken)
+loop-m-smaller c = omega (arith, c.loop-m-test.true)
 
 pub loop-m-preserved : goal.loop-m-preserved
 loop-m-preserved c =
-    let t = turn c in
-    let a = (entry t.before).args in
-    walking_more t.before.loop.inv t.loop-test.taken c.assess_cell-a.ensures.0 c.assess_cell-a.auto.pairs
-    (assesses_same (ap (cut_from (grid_of a.width a.height a.cells.now) (segment_of a.g)) (cell_at a.strip.columns a.k t.before.loop.m c.pick-in-loop-m.ensures c.pick-in-loop-m-2.ensures)) c.assess_cell-a.ensures.1)
+    let a = c.args in
+    walking_more c.loop-m.invariant c.loop-m-test.true c.assess_cell-a.ensures.still_counting c.assess_cell-a.auto.pairs
+    (assesses_same (ap (cut_from (grid_of a.width a.height a.cells.now) (segment_of a.g)) (cell_at a.strip.columns a.k c.loop-m.m c.pick-in-loop-m.ensures c.pick-in-loop-m-2.ensures)) c.assess_cell-a.ensures.assessed)
 
 pub shape_of-pairs : goal.shape_of-pairs
 shape_of-pairs c = c.loop-m.invariant.turns.long
 
 pub returns : goal.returns
 returns c =
-    let last_in : c.near_range-range.result.last < max_side = let p = c.pre.0.0 in
+    let last_in : c.near_range-range.result.last < max_side = let p = c.requires.lent.0 in
     omega (arith, c.near_range-range.ensures.inside, c.pick.ensures, side-small c.args.strip.columns p.short p.narrow) in
     let a = c.args in
-    let T = walking_done c.loop-m.invariant c.loop-m-test.false last_in in (
-      T.counting,
-      assesses_same (column-joined (grid_of a.width a.height a.cells.now) (segment_of a.g) a.strip a.k c.pick.ensures c.near_range-range.ensures) T.assessed,
-    )
+    let T = walking_done c.loop-m.invariant c.loop-m-test.false last_in in
+    record {
+      still_counting = T.counting;
+      assessed = assesses_same (column-joined (grid_of a.width a.height a.cells.now) (segment_of a.g) a.strip a.k c.pick.ensures c.near_range-range.ensures) T.assessed;
+    }

@@ -16,9 +16,9 @@ single a b = omega arith
 
 pub assess_column-requires : goal.assess_column-requires
 assess_column-requires c =
-    let p = c.pre.0 in
-    let C = c.pre.1.1 in
-    ((p.0, p.1, column-asked p.2 (le_refl c.args.from) c.pre.1.0.some), counting_most C (omega (arith, C.few, single c.pre.1.0.some c.if-to-from.true)))
+    let p = c.requires.lent in
+    let C = c.requires.counting in
+    record { lent = (p.0, p.1, column-asked p.2 (le_refl c.args.from) c.requires.part.some); counting = counting_most C (omega (arith, C.few, single c.requires.part.some c.if-to-from.true)) }
 
 pub shape_of-pairs-then-to-from : goal.shape_of-pairs-then-to-from
 shape_of-pairs-then-to-from c = c.assess_column.auto.pairs
@@ -26,14 +26,15 @@ shape_of-pairs-then-to-from c = c.assess_column.auto.pairs
 pub returns-then-to-from : goal.returns-then-to-from
 returns-then-to-from c =
     let a = c.args in
-    let C = c.assess_column.ensures.0 in (
-      counting_most C (omega (arith, C.few, single c.pre.1.0.some c.if-to-from.true)),
-      assesses_same (part-single (grid_of a.width a.height a.cells.now) (segment_of a.g) a.strip c.pre.1.0.some c.if-to-from.true) c.assess_column.ensures.1,
-    )
+    let C = c.assess_column.ensures.still_counting in
+    record {
+      still_counting = counting_most C (omega (arith, C.few, single c.requires.part.some c.if-to-from.true));
+      assessed = assesses_same (part-single (grid_of a.width a.height a.cells.now) (segment_of a.g) a.strip c.requires.part.some c.if-to-from.true) c.assess_column.ensures.assessed;
+    }
 
 pub assess_between-requires : goal.assess_between-requires
 assess_between-requires c =
-    (c.pre.0, ((c.pre.1.0.between c.if-to-from.false, c.pre.1.0.some), c.pre.1.1))
+    record { lent = c.requires.lent; between = (c.requires.part.between c.if-to-from.false, c.requires.part.some); counting = c.requires.counting }
 
 pub shape_of-pairs : goal.shape_of-pairs
 shape_of-pairs c = c.assess_between.auto.pairs

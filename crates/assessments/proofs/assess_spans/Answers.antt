@@ -16,61 +16,61 @@ pub loop-s-init : goal.loop-s-init
 loop-s-init c = (omega arith, before_first)
 
 pub span_at-g-requires : goal.span_at-g-requires
-span_at-g-requires c = span_at-asked c.pre.0 c.loop-s-test.true
+span_at-g-requires c = span_at-asked c.requires.checked c.loop-s-test.true
 
 pub overflow_cast-s : goal.overflow_cast-s
 overflow_cast-s c =
-    let few : c.loop-s.s < max_entries = omega (arith, c.loop-s-test.true, c.pre.1.few) in
-    omega (arith, c.loop-s-test.true, c.pre.1.few)
+    let few : c.loop-s.s < max_entries = omega (arith, c.loop-s-test.true, c.requires.asked.few) in
+    omega (arith, c.loop-s-test.true, c.requires.asked.few)
 
 pub assess_span-a-requires : goal.assess_span-a-requires
 assess_span-a-requires c =
     let G = c.span_at-g.ensures in
-    let shown = shown_as (ap (cut_span (grid_of c.args.width c.args.height c.args.cells.now)) (sym G.segment)) (c.pre.1.shown c.loop-s.s c.loop-s-test.true) in
-    ((lent c.pre.0 c.pre.1, G.sound, (span-asked c.pre.0 c.loop-s-test.true G).differ, shown), c.loop-s.invariant.1.counted)
+    let shown = shown_as (ap (cut_span (grid_of c.args.width c.args.height c.args.cells.now)) (sym G.segment)) (c.requires.asked.shown c.loop-s.s c.loop-s-test.true) in
+    record { lent = (lent c.requires.checked c.requires.asked, G.sound, (span-asked c.requires.checked c.loop-s-test.true G).differ, shown); first_within = c.loop-s.invariant.1.counted }
 
 pub overflow_mul-at : goal.overflow_mul-at
 overflow_mul-at c =
-    let few : c.loop-s.s < max_entries = omega (arith, c.loop-s-test.true, c.pre.1.few) in
-    omega (arith, few
+    let few : c.loop-s.s < max_entries = omega (arith, c.loop-s-test.true, c.requires.asked.few) in
+    omega (arith, few)
 
 pub offset_bounds-tallies-at : goal.offset_bounds-tallies-at
 offset_bounds-tallies-at c =
-    let few : c.loop-s.s < max_entries = omega (arith, c.loop-s-test.true, c.pre.1.few) in
-    omega (arith, few
+    let few : c.loop-s.s < max_entries = omega (arith, c.loop-s-test.true, c.requires.asked.few) in
+    omega (arith, few)
 
 pub bounds-tallies-at : goal.bounds-tallies-at
 bounds-tallies-at c =
-    let room : 2 * (c.loop-s.s + 1) ≤ length c.args.tallies.now = omega (arith, c.loop-s-test.true, c.pre.1.tallies_long) in
+    let room : 2 * (c.loop-s.s + 1) ≤ length c.args.tallies.now = omega (arith, c.loop-s-test.true, c.requires.asked.tallies_long) in
     omega (arith, room, c.loop-s.invariant.1.tallies_long)
 
 pub overflow_add-tallies : goal.overflow_add-tallies
 overflow_add-tallies c =
-    let few : c.loop-s.s < max_entries = omega (arith, c.loop-s-test.true, c.pre.1.few) in
-    omega (arith, few
+    let few : c.loop-s.s < max_entries = omega (arith, c.loop-s-test.true, c.requires.asked.few) in
+    omega (arith, few)
 
 pub offset_bounds-tallies-at-in-loop-s : goal.offset_bounds-tallies-at-in-loop-s
 offset_bounds-tallies-at-in-loop-s c =
-    let few : c.loop-s.s < max_entries = omega (arith, c.loop-s-test.true, c.pre.1.few) in
-    omega (arith, few
+    let few : c.loop-s.s < max_entries = omega (arith, c.loop-s-test.true, c.requires.asked.few) in
+    omega (arith, few)
 
 pub bounds-tallies-at-in-loop-s : goal.bounds-tallies-at-in-loop-s
 bounds-tallies-at-in-loop-s c =
-    let room : 2 * (c.loop-s.s + 1) ≤ length c.args.tallies.now = omega (arith, c.loop-s-test.true, c.pre.1.tallies_long) in
+    let room : 2 * (c.loop-s.s + 1) ≤ length c.args.tallies.now = omega (arith, c.loop-s-test.true, c.requires.asked.tallies_long) in
     simp length-set (omega (arith, room, c.loop-s.invariant.1.tallies_long))
 
 pub overflow_add-s : goal.overflow_add-s
 overflow_add-s c =
-    let few : c.loop-s.s < max_entries = omega (arith, c.loop-s-test.true, c.pre.1.few) in
-    omega (arith, few
+    let few : c.loop-s.s < max_entries = omega (arith, c.loop-s-test.true, c.requires.asked.few) in
+    omega (arith, few)
 
 pub loop-s-smaller : goal.loop-s-smaller
 loop-s-smaller c = omega (arith, c.loop-s-test.true)
 
 pub loop-s-preserved : goal.loop-s-preserved
 loop-s-preserved c =
-    let room : 2 * (c.loop-s.s + 1) ≤ length c.args.tallies.now = omega (arith, c.loop-s-test.true, c.pre.1.tallies_long) in
-    (omega (arith, c.loop-s-test.taken), before_next c.loop-s.inv.1 c.span_at-g.ensures c.assess_span-a.ensures.0 c.assess_span-a.ensures.1 room)
+    let room : 2 * (c.loop-s.s + 1) ≤ length c.args.tallies.now = omega (arith, c.loop-s-test.true, c.requires.asked.tallies_long) in
+    (omega (arith, c.loop-s-test.true), before_next c.loop-s.invariant.1 c.span_at-g.ensures c.assess_span-a.ensures.still_counting c.assess_span-a.ensures.assessed room)
 
 pub shape_of-tallies-then-end-pairs : goal.shape_of-tallies-then-end-pairs
 shape_of-tallies-then-end-pairs c = c.loop-s.invariant.1.tallies_long

@@ -4,12 +4,11 @@ use Rattle.assessments.proofs.Gathering.{assesses-together, assesses-apart}
 use Rattle.assessments.proofs.assess_step.Goals as goal
 
 pub returns-then-left-right : goal.returns-then-left-right
-returns-then-left-right c = (search rules, assesses-together _ _ c.if-left-right.true)
+returns-then-left-right c = record { still_counting = search rules; assessed = assesses-together _ _ c.if-left-right.true }
 
 pub returns : goal.returns
-returns c = (
-  record { rows = c.put_pair-put.ensures.0; fewer = search rules; few = search rules },
-  (
-      assesses-apart _ _ c.if-left-right.left c.lesser-lo.ensures c.greater-hi.ensures c.put_pair-put.ensures.1
-      ),
-)
+returns c =
+    record {
+      still_counting = record { rows = c.put_pair-put.ensures.counted; fewer = search rules; few = search rules };
+      assessed = assesses-apart _ _ c.if-left-right.false c.lesser-lo.ensures c.greater-hi.ensures c.put_pair-put.ensures.added;
+    }

@@ -7,11 +7,11 @@ use Rattle.call_partition.proofs.prepare.Goals as goal
 
 pub divide-requires : goal.divide-requires
 divide-requires c =
-    early-fits _ _ _ _ _ _ _ _ _ _ _ _ (sym (says c.checks_before-check.ensures c.enum_told-1.given.1))
+    early-fits _ _ _ _ _ _ _ _ _ _ _ _ (sym (says c.checks_before-check.ensures c.in-Fit.is))
 
 pub returns-in-Refused : goal.returns-in-Refused
-returns-in-Refused c = refused-before _ _ _ _ _ _ _ _ _ _ _ _ _ _ _ _ (says c.checks_before-check.ensures c.check-1.given.1)
+returns-in-Refused c = refused-before _ _ _ _ _ _ _ _ _ _ _ _ _ _ _ _ (says c.checks_before-check.ensures c.in-Refused.is)
 
 pub returns-in-Fit : goal.returns-in-Fit
 returns-in-Fit c =
-    c.divide.ensures.0 _ _ _ _ (says c.checks_before-check.ensures c.enum_told-1.given.1)
+    c.divide.ensures.divided _ _ _ _ (says c.checks_before-check.ensures c.in-Fit.is)

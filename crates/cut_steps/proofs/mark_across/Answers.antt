@@ -15,7 +15,7 @@ use Rattle.cut_steps.proofs.mark_across.Goals as goal
 pub returns-then-changes-eq0 : goal.returns-then-changes-eq0
 returns-then-changes-eq0 c =
     let a = c.args in
-    marked_as (unchanged a.width a.height a.cells.now (segment_of a.g) a.strip a.k a.beyond c.requires.1 c.if-changes-eq0.true) marked_none
+    marked_as (unchanged a.width a.height a.cells.now (segment_of a.g) a.strip a.k a.beyond c.requires.changes c.if-changes-eq0.true) marked_none
 
 pub returns-then-not-is_placed : goal.returns-then-not-is_placed
 returns-then-not-is_placed c =
@@ -41,16 +41,16 @@ crossed_directions-directions-requires c =
     let is_in : let a = c.args in (leb 2 a.beyond && ltb (a.beyond - 2) (minor_side a.strip a.width a.height)) ≡ true = let a = c.args in
     is_placed_as a.strip a.width a.height a.beyond c.pick.ensures c.is_placed.ensures (not-false _ c.if-not-is_placed.false-raw) in
     let place : let a = c.args in (2 ≤ a.beyond) × (a.beyond - 2 < minor_side a.strip a.width a.height) = let a = c.args in placed a.beyond (minor_side a.strip a.width a.height) is_in in
-    let inside : let a = c.args in (c.pick-x.result < a.width) × (c.pick-y.result < a.height) = cell_in c.args.strip.columns c.pick-x.ensures c.pick-y.ensures c.pre.0.1.column place.1 in
-    (across-asked c.pre.0.0 inside, across-crossed (segment_of c.args.g) c.args.strip c.args.k c.args.beyond c.pre.1 place.0 c.pick-x.ensures c.pick-y.ensures)
+    let inside : let a = c.args in (c.pick-x.result < a.width) × (c.pick-y.result < a.height) = cell_in c.args.strip.columns c.pick-x.ensures c.pick-y.ensures c.requires.lent.1.column place.1 in
+    record { asked = across-asked c.requires.lent.0 inside; crossed = across-crossed (segment_of c.args.g) c.args.strip c.args.k c.args.beyond c.requires.changes place.0 c.pick-x.ensures c.pick-y.ensures }
 
 pub mark_directions-requires : goal.mark_directions-requires
 mark_directions-requires c =
     let is_in : let a = c.args in (leb 2 a.beyond && ltb (a.beyond - 2) (minor_side a.strip a.width a.height)) ≡ true = let a = c.args in
     is_placed_as a.strip a.width a.height a.beyond c.pick.ensures c.is_placed.ensures (not-false _ c.if-not-is_placed.false-raw) in
     let place : let a = c.args in (2 ≤ a.beyond) × (a.beyond - 2 < minor_side a.strip a.width a.height) = let a = c.args in placed a.beyond (minor_side a.strip a.width a.height) is_in in
-    let inside : let a = c.args in (c.pick-x.result < a.width) × (c.pick-y.result < a.height) = cell_in c.args.strip.columns c.pick-x.ensures c.pick-y.ensures c.pre.0.1.column place.1 in
-    ((c.pre.0.0, inside.0, inside.1), c.crossed_directions-directions.ensures)
+    let inside : let a = c.args in (c.pick-x.result < a.width) × (c.pick-y.result < a.height) = cell_in c.args.strip.columns c.pick-x.ensures c.pick-y.ensures c.requires.lent.1.column place.1 in
+    record { cell = (c.requires.lent.0, inside.0, inside.1); directions = c.crossed_directions-directions.ensures }
 
 pub returns : goal.returns
 returns c =

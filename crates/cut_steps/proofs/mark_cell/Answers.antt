@@ -6,14 +6,14 @@ use Rattle.cut_steps.proofs.mark_cell.Goals as goal
 
 pub returns-then-not-is_near : goal.returns-then-not-is_near
 returns-then-not-is_near c =
-    cell_none c.requires (c.is_near.ensures.1 (not-true _ c.if-not-is_near.true-raw)) refl
+    cell_none c.requires (c.is_near.ensures.where_false (not-true _ c.if-not-is_near.true-raw)) refl
 
 pub cut_directions-directions-requires : goal.cut_directions-directions-requires
-cut_directions-directions-requires c = (cell-asked c.requires, c.is_near.ensures.0 (not-false _ c.if-not-is_near.false-raw))
+cut_directions-directions-requires c = record { asked = cell-asked c.requires; walkable_cell = c.is_near.ensures.where_true (not-false _ c.if-not-is_near.false-raw) }
 
 pub mark_directions-requires : goal.mark_directions-requires
 mark_directions-requires c =
-    (c.requires, c.cut_directions-directions.ensures)
+    record { cell = c.requires; directions = c.cut_directions-directions.ensures }
 
 pub returns : goal.returns
 returns c = c.mark_directions.ensures

@@ -18,19 +18,17 @@ loop-m-init c = walking_start
 
 pub mark_cell-requires : goal.mark_cell-requires
 mark_cell-requires c =
-    let i = cell_in c.args.strip.columns c.pick-in-loop-m.ensures c.pick-in-loop-m-2.ensures c.pre.1.column (omega (arith, c.loop-m-test.taken, c.near_range-range.ensures.inside, c.pick.ensures)) in
-    (asked-again c.pre.0 c.loop-m.inv.marked.long, i.0, i.1)
+    let i = cell_in c.args.strip.columns c.pick-in-loop-m.ensures c.pick-in-loop-m-2.ensures c.requires.1.column (omega (arith, c.loop-m-test.true, c.near_range-range.ensures.inside, c.pick.ensures)) in
+    (asked-again c.requires.0 c.loop-m.invariant.marked.long, i.0, i.1)
 
 pub loop-m-smaller : goal.loop-m-smaller
-loop-m-smaller c = omega (arith, (turn c).loop-test.taken)
+loop-m-smaller c = omega (arith, c.loop-m-test.true)
 
 pub loop-m-preserved : goal.loop-m-preserved
 loop-m-preserved c =
-    let t = turn c in
-    let s = entry t.before in
-    let a = s.args in
-    walking_more t.before.loop.inv (omega (arith, t.loop-test.taken))
-    (marked_as (ap (cut_from (grid_of a.width a.height a.cells.now) (segment_of a.g)) (cell_at a.strip.columns a.k t.before.loop.m c.pick-in-loop-m.ensures c.pick-in-loop-m-2.ensures)) c.mark_cell.ensures)
+    let a = c.args in
+    walking_more c.loop-m.invariant (omega (arith, c.loop-m-test.true))
+    (marked_as (ap (cut_from (grid_of a.width a.height a.cells.now) (segment_of a.g)) (cell_at a.strip.columns a.k c.loop-m.m c.pick-in-loop-m.ensures c.pick-in-loop-m-2.ensures)) c.mark_cell.ensures)
 
 pub shape_of-masks : goal.shape_of-masks
 shape_of-masks c = c.loop-m.invariant.marked.long

@@ -4,11 +4,13 @@ use native.Mathlib.Omega.{arith}
 use Prim.Native.Nat.{ℕ, ◌+◌, ◌-◌, ◌≤◌}
 use mathlib.Core.Path.{◌≡◌, refl, sym, ap, ◌∙◌}
 use Rattle.definitions.specs.Scan.{concat_map}
+use Rattle.definitions.specs.Grid.{Segment}
+use Rattle.span_geometry.specs.declared.strips.Strip.{Strip}
 use Rattle.span_geometry.specs.Shapes.{segment_of}
 use Rattle.grid_steps.specs.Walk.{grid_of}
 use Rattle.line_crossings.proofs.Moving.{small}
 use Rattle.cut_steps.specs.Prefixes.{up_to}
-use Rattle.cut_steps.specs.Crossed.{cut_two_back}
+use Rattle.cut_steps.specs.Crossed.{FollowsIn, cut_two_back}
 use Rattle.cut_steps.proofs.Trimmed.{at_none, at_more, four-passed}
 use Rattle.cut_steps.proofs.Marks.{marked_none, marked_as, marked-then}
 use Rattle.cut_steps.proofs.Walking.{asked-again}
@@ -23,37 +25,31 @@ record Sizes (before here after : ℕ) : Type 0 where
   back : before + 2 - here ≤ 3
   ahead : after + 2 - here ≤ 3
 
-pub overflow_add-back : goal.overflow_add-back
-overflow_add-back c =
-    let sizes : Sizes c.args.before c.args.here c.args.after = let F = c.requires.1.follows in
-    let few = tie-few (segment_of c.args.g) in
+sizes : {g : Segment} {t : Strip} {k before here after : ℕ} → FollowsIn t g k before here after → Sizes before here after
+sizes {g} follows =
+    let F = follows.follows in
+    let few = tie-few g in
     record {
       before_small = small F.usable F.between-before few F.was.1;
       here_small = small F.usable F.between few F.is.1;
       after_small = small F.usable F.between-after few F.next.1;
       back = omega (arith, F.close-before.down);
       ahead = omega (arith, F.close-after.up);
-    } in
-    omega (arith, (sizes c.before_small)
+    }
+
+pub overflow_add-back : goal.overflow_add-back
+overflow_add-back c =
+    omega (arith, (sizes c.requires.follows).before_small)
 
 pub overflow_sub-back : goal.overflow_sub-back
-overflow_sub-back c = omega (arith, c.requires.1.follows.close-before.up)
+overflow_sub-back c = omega (arith, c.requires.follows.follows.close-before.up)
 
 pub overflow_add-ahead : goal.overflow_add-ahead
 overflow_add-ahead c =
-    let sizes : Sizes c.args.before c.args.here c.args.after = let F = c.requires.1.follows in
-    let few = tie-few (segment_of c.args.g) in
-    record {
-      before_small = small F.usable F.between-before few F.was.1;
-      here_small = small F.usable F.between few F.is.1;
-      after_small = small F.usable F.between-after few F.next.1;
-      back = omega (arith, F.close-before.down);
-      ahead = omega (arith, F.close-after.up);
-    } in
-    omega (arith, (sizes c.after_small)
+    omega (arith, (sizes c.requires.follows).after_small)
 
 pub overflow_sub-ahead : goal.overflow_sub-ahead
-overflow_sub-ahead c = omega (arith, c.requires.1.follows.close-after.down)
+overflow_sub-ahead c = omega (arith, c.requires.follows.follows.close-after.down)
 
 pub loop-j-init : goal.loop-j-init
 loop-j-init c =
@@ -62,34 +58,16 @@ loop-j-init c =
 
 pub overflow_add-here : goal.overflow_add-here
 overflow_add-here c =
-    let sizes : Sizes c.args.before c.args.here c.args.after = let F = c.requires.1.follows in
-    let few = tie-few (segment_of c.args.g) in
-    record {
-      before_small = small F.usable F.between-before few F.was.1;
-      here_small = small F.usable F.between few F.is.1;
-      after_small = small F.usable F.between-after few F.next.1;
-      back = omega (arith, F.close-before.down);
-      ahead = omega (arith, F.close-after.up);
-    } in
-    omega (arith, (sizes c.here-small, c.loop-j-test.true)
+    omega (arith, (sizes c.requires.follows).here_small, c.loop-j-test.true)
 
 pub side_changes-requires : goal.side_changes-requires
 side_changes-requires c =
-    let sizes : Sizes c.args.before c.args.here c.args.after = let F = c.requires.1.follows in
-    let few = tie-few (segment_of c.args.g) in
-    record {
-      before_small = small F.usable F.between-before few F.was.1;
-      here_small = small F.usable F.between few F.is.1;
-      after_small = small F.usable F.between-after few F.next.1;
-      back = omega (arith, F.close-before.down);
-      ahead = omega (arith, F.close-after.up);
-    } in
-    let z = sizes in
+    let z = sizes c.requires.follows in
     (z.back, z.ahead, omega (arith, c.loop-j-test.true))
 
 pub mark_across-requires : goal.mark_across-requires
 mark_across-requires c =
-    ((asked-again c.pre.0.0 c.loop-j.invariant.1.long, c.pre.0.1), crossing_at c.pre.1 c.loop-j.j refl c.side_changes.ensures)
+    record { lent = (asked-again c.requires.lent.0 c.loop-j.invariant.1.long, c.requires.lent.1); changes = crossing_at c.requires.follows c.loop-j.j refl c.side_changes.ensures }
 
 pub overflow_step-j : goal.overflow_step-j
 overflow_step-j c = omega (arith, c.loop-j-test.true)
@@ -100,7 +78,7 @@ loop-j-smaller c = omega (arith, c.loop-j-test.true)
 pub loop-j-preserved : goal.loop-j-preserved
 loop-j-preserved c =
     let a = c.args in
-    (omega (arith, c.loop-j-test.taken), marked_as (at_more (cut_two_back (grid_of a.width a.height a.cells.now) (segment_of a.g) a.strip a.k) a.here c.loop-j.j) (marked-then c.loop-j.inv.1 c.mark_across.ensures))
+    (omega (arith, c.loop-j-test.true), marked_as (at_more (cut_two_back (grid_of a.width a.height a.cells.now) (segment_of a.g) a.strip a.k) a.here c.loop-j.j) (marked-then c.loop-j.invariant.1 c.mark_across.ensures))
 
 pub shape_of-masks : goal.shape_of-masks
 shape_of-masks c = c.loop-j.invariant.1.long
@@ -110,4 +88,4 @@ returns c =
     let a = c.args in
     let f = cut_two_back (grid_of a.width a.height a.cells.now) (segment_of a.g) a.strip a.k in
     let e : c.loop-j.j ≡ 4 = omega (arith, c.loop-j.invariant.0, c.loop-j-test.false) in
-    marked_as (ap (λ j. concat_map f (up_to a.here (a.here + j))) e ∙ four-passed f a.here ∙ column-crossed a.width a.height a.cells.now (segment_of a.g) c.pre.0.1 c.pre.1) c.loop-j.invariant.1
+    marked_as (ap (λ j. concat_map f (up_to a.here (a.here + j))) e ∙ four-passed f a.here ∙ column-crossed a.width a.height a.cells.now (segment_of a.g) c.requires.lent.1 c.requires.follows) c.loop-j.invariant.1

@@ -8,13 +8,13 @@ use Rattle.cut_steps.proofs.mark_part.Goals as goal
 
 pub mark_column-requires : goal.mark_column-requires
 mark_column-requires c =
-    (c.pre.0.0, column-asked c.pre.0.1 (le_refl c.args.from) c.pre.1.some)
+    (c.requires.lent.0, column-asked c.requires.lent.1 (le_refl c.args.from) c.requires.part.some)
 
 pub returns-then-to-from : goal.returns-then-to-from
 returns-then-to-from c =
     let a = c.args in
-    marked_as (part-single (grid_of a.width a.height a.cells.now) (segment_of a.g) a.strip c.pre.1.some c.if-to-from.true) c.mark_column.ensures
+    marked_as (part-single (grid_of a.width a.height a.cells.now) (segment_of a.g) a.strip c.requires.part.some c.if-to-from.true) c.mark_column.ensures
 
 pub mark_between-requires : goal.mark_between-requires
 mark_between-requires c =
-    (c.pre.0, (c.pre.1.between c.if-to-from.false, c.pre.1.some))
+    record { lent = c.requires.lent; between = (c.requires.part.between c.if-to-from.false, c.requires.part.some) }

@@ -36,21 +36,22 @@ mark_part-requires c =
     let within : (c.loop-k.k < c.part_end-next.result) × (c.part_end-next.result ≤ c.parts_of-parts.result.end) = part-within c.parts_of-parts.ensures c.loop-k-test.true c.part_end-next.ensures in
     let p = c.requires in
     let P = c.parts_of-parts.ensures in
-    let i = c.loop-k.invariant in (
-      (asked-again p.0 i.2.long, columns-asked c.new-strip.ensures.1 c.pick.ensures (some_side c.new-strip.result.columns p.1.tall p.1.wide) P.below i.0 within.1),
-      part-asked c.new-strip.ensures.0 P c.part_end-next.ensures within.0,
-    )
+    let i = c.loop-k.invariant in
+    record {
+      lent = (asked-again p.0 i.2.long, columns-asked c.new-strip.ensures.1 c.pick.ensures (some_side c.new-strip.result.columns p.1.tall p.1.wide) P.below i.0 within.1);
+      part = part-asked c.new-strip.ensures.0 P c.part_end-next.ensures within.0;
+    }
 
 pub loop-k-smaller : goal.loop-k-smaller
 loop-k-smaller c =
     let within : (c.loop-k.k < c.part_end-next.result) × (c.part_end-next.result ≤ c.parts_of-parts.result.end) = part-within c.parts_of-parts.ensures c.loop-k-test.true c.part_end-next.ensures in
-    omega (arith, within, c.loop-k-test.taken)
+    omega (arith, within, c.loop-k-test.true)
 
 pub loop-k-preserved : goal.loop-k-preserved
 loop-k-preserved c =
     let within : (c.loop-k.k < c.part_end-next.result) × (c.part_end-next.result ≤ c.parts_of-parts.result.end) = part-within c.parts_of-parts.ensures c.loop-k-test.true c.part_end-next.ensures in
     let a = c.args in
-    let i = c.loop-k.inv in
+    let i = c.loop-k.invariant in
     (omega (arith, i.0, within), within.1, marked_as (parts_more (grid_of a.width a.height a.cells.now) (segment_of a.g) c.new-strip.result c.parts_of-parts.result.first i.0 within.0) (marked-then i.2 c.mark_part.ensures))
 
 pub shape_of-masks : goal.shape_of-masks
@@ -63,4 +64,4 @@ returns c =
     let i = c.loop-k.invariant in
     let P = c.parts_of-parts.ensures in
     let e : c.loop-k.k ≡ c.parts_of-parts.result.end = omega (arith, i.1, c.loop-k-test.false) in
-    marked_as (ap (cut_columns M (segment_of a.g) c.new-strip.result c.parts_of-parts.result.first) e ∙ parts-joined M (segment_of a.g) c.parts_of-parts.result.first c.parts_of-parts.result.end c.pre.0.sound.ordered c.new-strip.ensures.0 c.pick.ensures P.numbers) i.2
+    marked_as (ap (cut_columns M (segment_of a.g) c.new-strip.result c.parts_of-parts.result.first) e ∙ parts-joined M (segment_of a.g) c.parts_of-parts.result.first c.parts_of-parts.result.end c.requires.0.sound.ordered c.new-strip.ensures.0 c.pick.ensures P.numbers) i.2

@@ -10,13 +10,12 @@ unfolding gather
 loop-i-init c = (omega arith, marked_none)
 
 pub span_at-requires : goal.span_at-requires
-span_at-requires c = span_at-asked c.pre.0 (omega (arith, c.loop-i-test.true))
+span_at-requires c = span_at-asked c.requires.checked (omega (arith, c.loop-i-test.true))
 
 pub mark_span-requires : goal.mark_span-requires
 mark_span-requires c =
-    let p = c.pre in
     let g = c.span_at.ensures in
-    (mark-asked p.0 c.loop-i-test.true g p.1.0 c.loop-i.invariant.1, span-asked p.0 c.loop-i-test.true g)
+    (mark-asked c.requires.checked c.loop-i-test.true g c.requires.sizes.0 c.loop-i.invariant.1, span-asked c.requires.checked c.loop-i-test.true g)
 
 pub overflow_add-i : goal.overflow_add-i
 overflow_add-i c = omega (arith, c.loop-i-test.true)
@@ -26,12 +25,12 @@ loop-i-smaller c = omega (arith, c.loop-i-test.true)
 
 pub loop-i-preserved : goal.loop-i-preserved
 loop-i-preserved c =
-    (omega (arith, c.loop-i-test.taken), spans_more c.pre.0 c.loop-i-test.taken c.span_at.ensures c.loop-i.inv.1 c.mark_span.ensures)
+    (omega (arith, c.loop-i-test.true), spans_more c.requires.checked c.loop-i-test.true c.span_at.ensures c.loop-i.invariant.1 c.mark_span.ensures)
 
 pub shape_of-masks : goal.shape_of-masks
 shape_of-masks c = c.loop-i.invariant.1.long
 
 pub returns : goal.returns
 returns c =
-    let p = c.pre.1 in
+    let p = c.requires.sizes in
     spans-done c.args.spans.now p.0 p.1 c.loop-i.i c.loop-i.invariant.1 (omega (arith, c.loop-i.invariant.0, c.loop-i-test.false))

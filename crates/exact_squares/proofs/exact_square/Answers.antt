@@ -8,11 +8,10 @@ use Rattle.exact_squares.proofs.Squares.{by_test}
 use Rattle.exact_squares.proofs.exact_square.Goals as goal
 
 pub returns-then-meet : goal.returns-then-meet
-returns-then-meet c =
-    (
-      by_test (segment_form c.args.left) (segment_form c.args.right) c.requires.2 c.if-meet.true,
-      record { num-le = zero-le; den-le = lit≤ tt; den_some = lit< tt },
-    )
+returns-then-meet c = (
+  by_test (segment_form c.args.left) (segment_form c.args.right) c.requires.2 c.if-meet.true,
+  record { num-le = zero-le; den-le = lit≤ tt; den_some = lit< tt },
+)
 
 pub returns : goal.returns
 returns c =

@@ -4,7 +4,7 @@ use native.Mathlib.Nat.{le_trans, le_of_eq}
 use lib.IntN.{nat_abs}
 use Rattle.definitions.specs.Spans.{cross, distance_between}
 use Rattle.separations.specs.PlaneLaws.Signs.{nat_abs_is, is_cross}
-use Rattle.separations.specs.PlaneLaws.Sizes.{cross-le}
+use Rattle.separations.proofs.PlaneLaws.Sizes.{cross-le}
 use Rattle.span_geometry.specs.Shapes.{point_of}
 use Rattle.geometry.proofs.Ends.{pixel}
 use Rattle.exact_squares.proofs.height.Goals as goal

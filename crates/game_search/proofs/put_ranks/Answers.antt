@@ -13,9 +13,12 @@ put_row-requires c =
 pub loop-at-preserved : goal.loop-at-preserved
 loop-at-preserved c =
     ranking_more _ _ _ _ _ _ _ _ _ _ _ c.loop-at.invariant c.loop-at-test.true c.set_for-old.ensures c.set_for-new.ensures
-    c.put_row.ensures.0 c.put_row.ensures.1
+    c.put_row.ensures.ranks c.put_row.ensures.ranks_length
 
 pub returns : goal.returns
 returns c =
     let end = c.loop-at.invariant in
-    (ranking-ends _ _ _ _ _ _ _ _ end c.loop-at-test.false, end.long)
+    record {
+      ranks = ranking-ends _ _ _ _ _ _ _ _ end c.loop-at-test.false;
+      ranks_length = end.long;
+    }

@@ -5,7 +5,11 @@ use Rattle.game_search.proofs.Rows.{row-starts, row_more, row_ends, row_same}
 use Rattle.game_search.proofs.put_row.Goals as goal
 
 pub returns-then-old-new : goal.returns-then-old-new
-returns-then-old-new c = (λ i l. row_same _ _ _ _ c.args.ranks.now c.if-old-new.true i, c.requires.1)
+returns-then-old-new c =
+    record {
+      ranks = λ i l. row_same _ _ _ _ c.args.ranks.now c.if-old-new.true i;
+      ranks_length = c.requires.1;
+    }
 
 pub loop-r-init : goal.loop-r-init
 loop-r-init c = row-starts _ _ _ _ _ c.requires.1
@@ -32,4 +36,7 @@ loop-r-preserved c =
 pub returns : goal.returns
 returns c =
     let end = c.loop-r.invariant in
-    (row_ends _ _ _ _ _ _ _ end c.loop-r-test.false, end.long)
+    record {
+      ranks = row_ends _ _ _ _ _ _ _ end c.loop-r-test.false;
+      ranks_length = end.long;
+    }

@@ -11,7 +11,10 @@ sweep-requires c =
 
 pub returns-then-are_same : goal.returns-then-are_same
 returns-then-are_same c =
-    (searching_still _ _ _ _ _ _ _ _ _ c.requires.0.few c.loop-moves.invariant c.sweep.ensures.0 c.are_same.ensures c.are_same-in-loop-moves.ensures c.if-are_same.true, c.loop-moves.invariant.long)
+    record {
+      ranked = searching_still _ _ _ _ _ _ _ _ _ c.requires.0.few c.loop-moves.invariant c.sweep.ensures.swept c.are_same.ensures c.are_same-in-loop-moves.ensures c.if-are_same.true;
+      ranks_length = c.loop-moves.invariant.long;
+    }
 
 pub put_ranks-requires : goal.put_ranks-requires
 put_ranks-requires c =
@@ -19,8 +22,11 @@ put_ranks-requires c =
 
 pub loop-moves-preserved : goal.loop-moves-preserved
 loop-moves-preserved c =
-    searching_more _ _ _ _ _ _ _ _ _ _ c.requires.0.few c.loop-moves.invariant c.loop-moves-test.true c.sweep.ensures.0 c.sweep.ensures.1.0 c.sweep.ensures.1.1 c.put_ranks.ensures.0 c.put_ranks.ensures.1
+    searching_more _ _ _ _ _ _ _ _ _ _ c.requires.0.few c.loop-moves.invariant c.loop-moves-test.true c.sweep.ensures.swept c.sweep.ensures.lengths.0 c.sweep.ensures.lengths.1 c.put_ranks.ensures.ranks c.put_ranks.ensures.ranks_length
 
 pub returns : goal.returns
 returns c =
-    (searching_ends _ _ _ _ _ _ _ c.requires.0.few c.loop-moves.invariant c.loop-moves-test.false, c.loop-moves.invariant.long)
+    record {
+      ranked = searching_ends _ _ _ _ _ _ _ c.requires.0.few c.loop-moves.invariant c.loop-moves-test.false;
+      ranks_length = c.loop-moves.invariant.long;
+    }

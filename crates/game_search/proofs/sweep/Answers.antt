@@ -32,4 +32,7 @@ loop-g-preserved c =
 pub returns : goal.returns
 returns c =
     let end = c.loop-g.invariant in
-    (sweeping_ends _ _ _ _ _ _ _ _ end c.loop-g-test.false, (end.runners_long, end.guards_long))
+    record {
+      swept = sweeping_ends _ _ _ _ _ _ _ _ end c.loop-g-test.false;
+      lengths = (end.runners_long, end.guards_long);
+    }

@@ -6,4 +6,4 @@ pub returns : goal.returns
 returns c = λ pairs near.
     let given = c.requires in
     let a = c.args in
-    solved a.regions pairs _ _ a.verdicts.now _ a.goal given.0 given.1 given.2 given.3 near c.search.ensures.0 c.put_verdicts.ensures
+    solved a.regions pairs _ _ a.verdicts.now _ a.goal given.0 given.1 given.2 given.3 near c.search.ensures.ranked c.put_verdicts.ensures

@@ -3,4 +3,4 @@ use Rattle.game_solver.proofs.solve_rows.Goals as goal
 
 pub returns : goal.returns
 returns c =
-    c.judge.ensures _ (c.find_row_neighbours.ensures.0 _)
+    c.judge.ensures _ (c.find_row_neighbours.ensures.near _)

@@ -16,7 +16,10 @@ serves-requires c =
 
 pub returns-then-serves : goal.returns-then-serves
 returns-then-serves c =
-    (none_found _ _ _ _ _ _ _ _ c.loop-d.invariant c.loop-d-test.true c.serves.ensures c.if-serves.true, omega (arith, c.requires.few, c.loop-d-test.true))
+    record {
+      answer = none_found _ _ _ _ _ _ _ _ c.loop-d.invariant c.loop-d-test.true c.serves.ensures c.if-serves.true;
+      bound = omega (arith, c.requires.few, c.loop-d-test.true);
+    }
 
 pub loop-d-preserved : goal.loop-d-preserved
 loop-d-preserved c =
@@ -24,4 +27,7 @@ loop-d-preserved c =
 
 pub returns : goal.returns
 returns c =
-    (none_ends _ _ _ _ _ _ _ c.loop-d.invariant c.loop-d-test.false, omega (arith, c.loop-d.invariant.upto, c.requires.few))
+    record {
+      answer = none_ends _ _ _ _ _ _ _ c.loop-d.invariant c.loop-d-test.false;
+      bound = omega (arith, c.loop-d.invariant.upto, c.requires.few);
+    }

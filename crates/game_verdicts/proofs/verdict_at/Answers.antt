@@ -18,7 +18,7 @@ pub region_at-region-requires : goal.region_at-region-requires
 region_at-region-requires c = c.requires
 
 pub overflow_cast-region : goal.overflow_cast-region
-overflow_cast-region c = record { fits = omega (arith, c.region_at-region.ensures.1) }
+overflow_cast-region c = record { fits = omega (arith, c.region_at-region.ensures.bound) }
 
 pub returns : goal.returns
 returns c =
@@ -26,4 +26,4 @@ returns c =
     λ G P.
     let rank = ap (λ p. get_or a.ranks.now p 0) c.rank_place.ensures.0 ∙ sym (back a.ranks.now a.r a.g (eqb a.turn 0)) in
     c.verdict_of.ensures
-    ∙ verdict-told a.near.now a.regions a.goal G P a.ranks.now a.r a.g (eqb a.turn 0) _ _ rank (c.region_at-region.ensures.0 G P rank)
+    ∙ verdict-told a.near.now a.regions a.goal G P a.ranks.now a.r a.g (eqb a.turn 0) _ _ rank (c.region_at-region.ensures.answer G P rank)

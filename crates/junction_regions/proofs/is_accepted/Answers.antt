@@ -6,7 +6,7 @@ use Rattle.elevations.specs.declared.Share.{Share}
 use Rattle.junction_regions.proofs.is_accepted.Goals as goal
 
 pub returns-in-None : goal.returns-in-None
-returns-in-None c = ap (λ (h : Share). accepts (share_form h)) (sym c.enum_told-1.given.1)
+returns-in-None c = ap (λ (h : Share). accepts (share_form h)) (sym c.in-None.is)
 
 pub returns-in-Of : goal.returns-in-Of
-returns-in-Of c = ap (λ (h : Share). accepts (share_form h)) (sym c.share-1.given.1)
+returns-in-Of c = ap (λ (h : Share). accepts (share_form h)) (sym c.in-Of.is)

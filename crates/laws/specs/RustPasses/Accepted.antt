@@ -4,7 +4,6 @@ use Rattle.std.specs.Prelude.{ℕ, ◌^◌, ◌≤◌, ◌≡◌, true, ◌&&◌
 use Rattle.std.proofs.Common.{arith, leb-true}
 use Rattle.definitions.specs.Grid.{Boundary, map_of}
 use Rattle.definitions.specs.Context.{context_of}
-use Rattle.definitions.specs.Rows.{rows_of}
 use Rattle.definitions.specs.Refusals.{ramp_fits, boundary_fits}
 use Rattle.definitions.specs.Verdict.{Lent, map_in, verdict}
 use Rattle.laws.specs.ListLaws.Tests.{both}
@@ -15,8 +14,6 @@ use Rattle.laws.specs.FloatLaws.PassRange.{PassInRange, pass-in_range}
 use Rattle.laws.specs.FloatLaws.WidthBits.{width-finite}
 use Rattle.laws.specs.RustContext.SoundMaps.{FiniteWidth}
 use Rattle.laws.specs.RustContext.CheckedMaps.{CheckedBoundary}
-use Rattle.laws.specs.RustPasses.RampRows.{replace_ramp_mouths_lem, collapse_ramp_interiors_lem, mouth-rows, interior-rows}
-use Rattle.laws.specs.RustPasses.JunctionRows.{remove_junction_boundaries_lem, junction-rows}
 
 -- ---- what check 7 says of one boundary
 
@@ -56,17 +53,6 @@ module _ (L : Lent) (success : (verdict L).number ≡ 0) where
 
   pub accepted-checked : All CheckedBoundary (map_in L).boundaries
   accepted-checked = all_map (fits-checked L.width L.height) accepted-fits
-
-  -- ---- the passes
-
-  pub accepted-mouths : replace_ramp_mouths_lem (map_in L) ≡ rows_of 1 (map_in L)
-  accepted-mouths = mouth-rows (map_in L) accepted-narrow accepted-finite accepted-checked
-
-  pub accepted-interiors : collapse_ramp_interiors_lem (map_in L) ≡ rows_of 2 (map_in L)
-  accepted-interiors = interior-rows (map_in L) accepted-narrow accepted-finite accepted-checked
-
-  pub accepted-junctions : remove_junction_boundaries_lem (map_in L) ≡ rows_of 3 (map_in L)
-  accepted-junctions = junction-rows (map_in L) accepted-finite
 
   pub accepted-in_range : PassInRange (context_of (map_in L))
   accepted-in_range = pass-in_range accepted-on_map

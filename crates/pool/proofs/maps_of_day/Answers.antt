@@ -7,19 +7,31 @@ use Rattle.pool.proofs.maps_of_day.Goals as goal
 
 pub returns-in-Unfinished : goal.returns-in-Unfinished
 returns-in-Unfinished c =
-    (lists-refused _ _ _ _ (sym (ap refusal_of c.in-Unfinished.is) ∙ c.check_lists.ensures), refl)
+    record {
+        answer = lists-refused _ _ _ _ (sym (ap refusal_of c.in-Unfinished.is) ∙ c.check_lists.ensures);
+        output = refl;
+    }
 
 pub returns-in-BrokenRecord : goal.returns-in-BrokenRecord
 returns-in-BrokenRecord c =
-    (lists-refused _ _ _ _ (sym (ap refusal_of c.in-BrokenRecord.is) ∙ c.check_lists.ensures), refl)
+    record {
+        answer = lists-refused _ _ _ _ (sym (ap refusal_of c.in-BrokenRecord.is) ∙ c.check_lists.ensures);
+        output = refl;
+    }
 
 pub returns-in-BadDate : goal.returns-in-BadDate
 returns-in-BadDate c =
-    (lists-refused _ _ _ _ (sym (ap refusal_of c.in-BadDate.is) ∙ c.check_lists.ensures), refl)
+    record {
+        answer = lists-refused _ _ _ _ (sym (ap refusal_of c.in-BadDate.is) ∙ c.check_lists.ensures);
+        output = refl;
+    }
 
 pub returns-in-EmptyOrOverlapping : goal.returns-in-EmptyOrOverlapping
 returns-in-EmptyOrOverlapping c =
-    (lists-refused _ _ _ _ (sym (ap refusal_of c.in-EmptyOrOverlapping.is) ∙ c.check_lists.ensures), refl)
+    record {
+        answer = lists-refused _ _ _ _ (sym (ap refusal_of c.in-EmptyOrOverlapping.is) ∙ c.check_lists.ensures);
+        output = refl;
+    }
 
 pub list_day-requires : goal.list_day-requires
 list_day-requires c =
@@ -27,11 +39,10 @@ list_day-requires c =
 
 pub returns-in-Bad : goal.returns-in-Bad
 returns-in-Bad c =
-    (
-      day-refused _ _ _ _ (sym (ap refusal_of c.in-Bad.is) ∙ c.check_lists.ensures)
-          (sym (ap day_in c.in-Bad.is) ∙ c.day_of.ensures),
-      refl,
-    )
+    record {
+        answer = day-refused _ _ _ _ (sym (ap refusal_of c.in-Bad.is) ∙ c.check_lists.ensures) (sym (ap day_in c.in-Bad.is) ∙ c.day_of.ensures);
+        output = refl;
+    }
 
 pub returns-in-Number : goal.returns-in-Number
 returns-in-Number c =

@@ -9,8 +9,8 @@ returns-in-Maps c =
     let lent = c.args in
     let asked = date lent.year lent.month lent.day in
     let given = c.in-Maps.is in (
-      sym (ap answer_of given) ∙ c.maps_of_day.ensures.0,
-      c.maps_of_day.ensures.1 ∙ ap (λ r. pool_at_exit (answer_of r).number lent.terms.now lent.records.now asked lent.output.now) given,
+      sym (ap answer_of given) ∙ c.maps_of_day.ensures.answer,
+      c.maps_of_day.ensures.output ∙ ap (λ r. pool_at_exit (answer_of r).number lent.terms.now lent.records.now asked lent.output.now) given,
     )
 
 pub returns-in-Refused : goal.returns-in-Refused
@@ -18,6 +18,6 @@ returns-in-Refused c =
     let lent = c.args in
     let asked = date lent.year lent.month lent.day in
     let given = c.in-Refused.is in (
-      sym (ap answer_of given) ∙ c.maps_of_day.ensures.0,
-      c.maps_of_day.ensures.1 ∙ ap (λ r. pool_at_exit (answer_of r).number lent.terms.now lent.records.now asked lent.output.now) given,
+      sym (ap answer_of given) ∙ c.maps_of_day.ensures.answer,
+      c.maps_of_day.ensures.output ∙ ap (λ r. pool_at_exit (answer_of r).number lent.terms.now lent.records.now asked lent.output.now) given,
     )

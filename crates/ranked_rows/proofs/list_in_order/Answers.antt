@@ -41,7 +41,6 @@ shape_of-listed c = c.loop-k.invariant.long
 pub returns : goal.returns
 returns c =
     let h = c.loop-k.invariant in
-    let = c in
-    let a = known.before.before.args in
+    let a = c.args in
     h.is
     ∙ ap (λ k. overwrite (flat_ranked (listed_from a.smaller.now a.larger.now a.count (order_of a.rows.now a.order.now k))) a.listed.now) (le_antisymm h.upto c.loop-k-test.false)

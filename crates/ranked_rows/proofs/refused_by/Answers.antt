@@ -11,7 +11,7 @@ loop-r-init c = (λ l a b. absurd (omega arith), omega arith)
 pub blocks-requires : goal.blocks-requires
 blocks-requires c =
     let q = c.requires.rank.rows_in c.loop-r.r c.loop-r-test.true in record {
-      room = (omega (arith, c.loop-r-test.true, c.requires.rank.rank-in, c.requires.listing.few, c.requires.listing.ordered), omega (arith, c.loop-r-test.true, c.requires.rank.rank-in, c.requires.listing.few, c.requires.listing.room));
+      room = (omega (arith, c.loop-r-test.true, c.requires.rank.rank_in_lem, c.requires.listing.few, c.requires.listing.ordered), omega (arith, c.loop-r-test.true, c.requires.rank.rank_in_lem, c.requires.listing.few, c.requires.listing.room));
       two_rows = record {
         small = c.requires.listing.small;
         first = omega (arith, q, c.requires.listing.whole);

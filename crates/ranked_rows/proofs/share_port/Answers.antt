@@ -24,13 +24,13 @@ pub returns-then-reserves : goal.returns-then-reserves
 returns-then-reserves c =
     let test : ℕ → Bool = shared c.args.smaller.now c.args.larger.now c.args.rows.now c.args.q c.args.p in
     let tested : test c.loop-j.j ≡ (c.reserves.result && c.reserves-in-loop-j.result) = ap₂ ◌&&◌ (sym c.reserves.ensures) (sym c.reserves-in-loop-j.ensures) in
-    sym (below_at c.args.count (test c.loop-j.j c.loop-j-test.true (tested ∙ c.if-reserves.true))
+    sym (below_at c.args.count test c.loop-j.j c.loop-j-test.true (tested ∙ c.if-reserves.true))
 
 pub loop-j-preserved : goal.loop-j-preserved
 loop-j-preserved c =
     let test : ℕ → Bool = shared c.args.smaller.now c.args.larger.now c.args.rows.now c.args.q c.args.p in
     let tested : test c.loop-j.j ≡ (c.reserves.result && c.reserves-in-loop-j.result) = ap₂ ◌&&◌ (sym c.reserves.ensures) (sym c.reserves-in-loop-j.ensures) in
-    (omega (arith, c.loop-j-test.true), any_none (test c.loop-j.j c.loop-j.invariant.1 (tested ∙ c.if-reserves.false))
+    (omega (arith, c.loop-j-test.true), any_none test c.loop-j.j c.loop-j.invariant.1 (tested ∙ c.if-reserves.false))
 
 pub returns : goal.returns
 returns c =

@@ -4,7 +4,7 @@ use Rattle.report_reading.proofs.opened_for.Goals as goal
 
 pub returns-in-Read : goal.returns-in-Read
 returns-in-Read c =
-    when_read c.args.report c.args.answer c.in-MENDARM.is c.opened_as.ensures
+    when_read c.args.report c.args.answer c.in-Read.is c.opened_as.ensures
 
 pub returns-in-Refused : goal.returns-in-Refused
 returns-in-Refused c =

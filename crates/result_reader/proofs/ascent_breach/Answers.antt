@@ -9,4 +9,4 @@ pub returns-in-Last : goal.returns-in-Last
 returns-in-Last c = ascent_last _ c.in-Last.is
 
 pub returns-in-BrokenAt : goal.returns-in-BrokenAt
-returns-in-BrokenAt c = ascent_broken _ c.in-MENDARM.is
+returns-in-BrokenAt c = ascent_broken _ c.in-BrokenAt.is

@@ -4,23 +4,28 @@ use Rattle.result_reader.proofs.fill.Goals as goal
 pub fill_list-requires : goal.fill_list-requires
 fill_list-requires c =
     let given = c.requires in
-    (given.0.for_labels, given.1.for_labels)
+    (given.held.for_labels, given.room.for_labels)
 
 pub fill_list-requires-2 : goal.fill_list-requires-2
 fill_list-requires-2 c =
     let given = c.requires in
-    (given.0.for_tallies, given.1.for_tallies)
+    (given.held.for_tallies, given.room.for_tallies)
 
 pub fill_list-requires-3 : goal.fill_list-requires-3
 fill_list-requires-3 c =
     let given = c.requires in
-    (given.0.for_pairs, given.1.for_pairs)
+    (given.held.for_pairs, given.room.for_pairs)
 
 pub fill_list-requires-4 : goal.fill_list-requires-4
 fill_list-requires-4 c =
     let given = c.requires in
-    (given.0.for_rows, given.1.for_rows)
+    (given.held.for_rows, given.room.for_rows)
 
 pub returns : goal.returns
 returns c =
-    (c.fill_list.ensures, (c.fill_list-2.ensures, (c.fill_list-3.ensures, c.fill_list-4.ensures)))
+    record {
+      labels = c.fill_list.ensures;
+      tallies = c.fill_list-2.ensures;
+      pairs = c.fill_list-3.ensures;
+      rows = c.fill_list-4.ensures;
+    }

@@ -6,4 +6,4 @@ pub returns-in-Nowhere : goal.returns-in-Nowhere
 returns-in-Nowhere c = breach_second _ c.args.b c.in-Nowhere.is
 
 pub returns-in-At : goal.returns-in-At
-returns-in-At c = breach_first _ c.args.b c.in-MENDARM.is
+returns-in-At c = breach_first _ c.args.b c.in-At.is

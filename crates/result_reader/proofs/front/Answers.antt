@@ -1,6 +1,4 @@
 -- `result_reader::front` meets its contract: the lists follow one another. Assumes nothing.
-use mathlib.Core.Path.{subst}
-use Rattle.result_reader.specs.Parts.{ListTold}
 use Rattle.result_reader.proofs.Chains.{front-stops, front-stops-later, front-found}
 use Rattle.result_reader.proofs.front.Goals as goal
 
@@ -10,12 +8,12 @@ tallies_list-requires c =
 
 pub returns-in-List-tallies_list : goal.returns-in-List-tallies_list
 returns-in-List-tallies_list c =
-    front-found _ _ c.in-List.ensures c.in-List.ensures
+    front-found _ _ c.in-List.ensures c.in-List-tallies_list.ensures
 
 pub returns-in-Fault-tallies_list : goal.returns-in-Fault-tallies_list
 returns-in-Fault-tallies_list c =
-    front-stops-later _ _ c.in-List.ensures c.in-Fault.ensures
+    front-stops-later _ _ c.in-List.ensures c.in-Fault-tallies_list.ensures
 
 pub returns-in-Fault : goal.returns-in-Fault
 returns-in-Fault c =
-    front-stops _ _ c.in-Fault-labels_list.ensures
+    front-stops _ _ c.in-Fault.ensures

@@ -1,6 +1,4 @@
 -- `result_reader::judge_result` meets its contract: the three parts follow one another, the first that is refused is the answer, and then the first breach. Assumes nothing.
-use mathlib.Core.Path.{subst}
-use Rattle.result_reader.specs.Parts.{OpeningTold, FrontTold, BackTold}
 use Rattle.result_reader.proofs.Chains.{result_unopened, result_no_front, result_no_back, result-told}
 use Rattle.result_reader.proofs.judge_result.Goals as goal
 
@@ -24,12 +22,12 @@ judged-requires c = tt
 pub returns-in-Lists-back : goal.returns-in-Lists-back
 returns-in-Lists-back c =
     result-told c.first_breach.result c.in-Opening.ensures c.in-Lists.ensures
-    c.in-Lists.ensures c.first_breach.ensures c.judged.ensures
+    c.in-Lists-back.ensures c.first_breach.ensures c.judged.ensures
 
 pub returns-in-Fault-back : goal.returns-in-Fault-back
 returns-in-Fault-back c =
     result_no_back _ c.in-Opening.ensures.same c.in-Lists.ensures.same
-    c.in-Fault.ensures
+    c.in-Fault-back.ensures
 
 pub returns-in-Fault-front : goal.returns-in-Fault-front
 returns-in-Fault-front c =
@@ -37,4 +35,4 @@ returns-in-Fault-front c =
 
 pub returns-in-Fault : goal.returns-in-Fault
 returns-in-Fault c =
-    result_unopened _ c.in-Fault-opening.ensures
+    result_unopened _ c.in-Fault.ensures

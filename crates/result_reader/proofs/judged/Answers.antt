@@ -6,4 +6,4 @@ pub returns-in-Nowhere : goal.returns-in-Nowhere
 returns-in-Nowhere c = plan-sound _ c.in-Nowhere.is
 
 pub returns-in-At : goal.returns-in-At
-returns-in-At c = plan-broken _ c.in-MENDARM.is
+returns-in-At c = plan-broken _ c.in-At.is

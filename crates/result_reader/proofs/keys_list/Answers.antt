@@ -16,8 +16,8 @@ returns-in-Climbed c =
 
 pub returns-in-Fault-walk_keys : goal.returns-in-Fault-walk_keys
 returns-in-Fault-walk_keys c =
-    keys-stopped _ _ (item-found _ _ _ c.item.ensures c.in-Item.is) _ _ c.walk_keys.ensures c.in-Fault.is
+    keys-stopped _ _ (item-found _ _ _ c.item.ensures c.in-Item.is) _ _ c.walk_keys.ensures c.in-Fault-walk_keys.is
 
 pub returns-in-Fault : goal.returns-in-Fault
 returns-in-Fault c =
-    count-fails _ _ _ (item-fails _ _ _ c.item.ensures c.in-Fault-item.is)
+    count-fails _ _ _ (item-fails _ _ _ c.item.ensures c.in-Fault.is)

@@ -16,8 +16,8 @@ returns-in-Turns c =
 
 pub returns-in-Fault-walk_labels : goal.returns-in-Fault-walk_labels
 returns-in-Fault-walk_labels c =
-    labels-stopped _ _ (item-found _ _ _ c.item.ensures c.in-Item.is) _ _ c.walk_labels.ensures c.in-Fault.is
+    labels-stopped _ _ (item-found _ _ _ c.item.ensures c.in-Item.is) _ _ c.walk_labels.ensures c.in-Fault-walk_labels.is
 
 pub returns-in-Fault : goal.returns-in-Fault
 returns-in-Fault c =
-    count-fails _ _ _ (item-fails _ _ _ c.item.ensures c.in-Fault-item.is)
+    count-fails _ _ _ (item-fails _ _ _ c.item.ensures c.in-Fault.is)

@@ -10,11 +10,11 @@ item-requires-then-kind-eq-KIND c =
 
 pub returns-in-Item-item : goal.returns-in-Item-item
 returns-in-Item-item c =
-    opening-found _ (item-found _ _ _ c.item.ensures c.in-Item.is) c.if-kind-eq-KIND.true (item-found _ _ _ c.item-then-kind-eq-KIND.ensures c.in-Item.is)
+    opening-found _ (item-found _ _ _ c.item.ensures c.in-Item.is) c.if-kind-eq-KIND.true (item-found _ _ _ c.item-then-kind-eq-KIND.ensures c.in-Item-item.is)
 
 pub returns-in-Fault-item : goal.returns-in-Fault-item
 returns-in-Fault-item c =
-    opening-stops _ (item-found _ _ _ c.item.ensures c.in-Item.is) c.if-kind-eq-KIND.true (item-fails _ _ _ c.item-then-kind-eq-KIND.ensures c.in-Fault.is)
+    opening-stops _ (item-found _ _ _ c.item.ensures c.in-Item.is) c.if-kind-eq-KIND.true (item-fails _ _ _ c.item-then-kind-eq-KIND.ensures c.in-Fault-item.is)
 
 pub returns-else-kind-eq-KIND : goal.returns-else-kind-eq-KIND
 returns-else-kind-eq-KIND c =
@@ -22,4 +22,4 @@ returns-else-kind-eq-KIND c =
 
 pub returns-in-Fault : goal.returns-in-Fault
 returns-in-Fault c =
-    opening-fails _ (item-fails _ _ _ c.item.ensures c.in-Fault-item.is)
+    opening-fails _ (item-fails _ _ _ c.item.ensures c.in-Fault.is)

@@ -1,6 +1,4 @@
 -- `result_reader::pair` meets its contract: a number and then two. Assumes nothing.
-use mathlib.Core.Path.{ap, ◌∙◌}
-use Rattle.result_reader.specs.Walks.{two_of}
 use Rattle.result_reader.proofs.Numbers.{item-found, item-fails, item-inside, more_found, more_fails, first_fails}
 use Rattle.result_reader.proofs.pair.Goals as goal
 
@@ -14,8 +12,8 @@ returns-in-Two c =
 
 pub returns-in-Fault-two : goal.returns-in-Fault-two
 returns-in-Fault-two c =
-    more_fails _ _ 2 (item-found _ _ _ c.item.ensures c.in-Item.is) c.in-Fault.ensures
+    more_fails _ _ 2 (item-found _ _ _ c.item.ensures c.in-Item.is) c.in-Fault-two.ensures
 
 pub returns-in-Fault : goal.returns-in-Fault
 returns-in-Fault c =
-    first_fails _ _ 2 (item-fails _ _ _ c.item.ensures c.in-Fault-item.is)
+    first_fails _ _ 2 (item-fails _ _ _ c.item.ensures c.in-Fault.is)

@@ -1,6 +1,5 @@
 -- `result_reader_read_result` meets its contract: nothing is stored before the whole of the bytes is judged and all lists are known to have room. Assumes nothing.
-use mathlib.Core.Path.{sym, subst, ◌∙◌}
-use Rattle.result_reader.specs.Parts.{ResultTold}
+use mathlib.Core.Path.{sym, ◌∙◌}
 use Rattle.result_reader.proofs.Answering.{room-known, answered-read, answered-short, answered-refused}
 use Rattle.result_reader.proofs.result_reader_read_result.Goals as goal
 
@@ -12,7 +11,10 @@ fits-requires c = tt
 
 pub fill-requires : goal.fill-requires
 fill-requires c =
-    (c.in-Sound.ensures.held, room-known (sym c.fits.ensures ∙ c.if-fits.true))
+    record {
+      held = c.in-Sound.ensures.held;
+      room = room-known (sym c.fits.ensures ∙ c.if-fits.true);
+    }
 
 pub opened-requires : goal.opened-requires
 opened-requires c = tt
@@ -27,7 +29,7 @@ pub returns-then-fits : goal.returns-then-fits
 returns-then-fits c =
     let each = c.fill.ensures in
     answered-read c.in-Sound.ensures _ _ _ _ (sym c.fits.ensures ∙ c.if-fits.true) c.opened.ensures
-    each.0 each.1.0 each.1.1.0 each.1.1.1
+    each.labels each.tallies each.pairs each.rows
 
 pub returns-else-fits : goal.returns-else-fits
 returns-else-fits c =

@@ -1,6 +1,4 @@
 -- `result_reader::row` meets its contract: a number and then two and two. Assumes nothing.
-use mathlib.Core.Path.{ap, ◌∙◌}
-use Rattle.result_reader.specs.Walks.{two_of}
 use Rattle.result_reader.proofs.Numbers.{item-found, item-fails, item-inside, more_found, more_fails, first_fails, both_found, both-fails, former_fails, times-inside}
 use Rattle.result_reader.proofs.row.Goals as goal
 
@@ -15,12 +13,12 @@ two-requires-in-Two c =
 pub returns-in-Two-two : goal.returns-in-Two-two
 returns-in-Two-two c =
     more_found _ _ 4 (item-found _ _ _ c.item.ensures c.in-Item.is)
-    (both_found _ _ 2 2 c.in-Two.ensures c.in-Two.ensures)
+    (both_found _ _ 2 2 c.in-Two.ensures c.in-Two-two.ensures)
 
 pub returns-in-Fault-two-2 : goal.returns-in-Fault-two-2
 returns-in-Fault-two-2 c =
     more_fails _ _ 4 (item-found _ _ _ c.item.ensures c.in-Item.is)
-    (both-fails _ _ 2 2 c.in-Two.ensures c.in-Fault.ensures)
+    (both-fails _ _ 2 2 c.in-Two.ensures c.in-Fault-two-2.ensures)
 
 pub returns-in-Fault-two : goal.returns-in-Fault-two
 returns-in-Fault-two c =
@@ -28,4 +26,4 @@ returns-in-Fault-two c =
 
 pub returns-in-Fault : goal.returns-in-Fault
 returns-in-Fault c =
-    first_fails _ _ 4 (item-fails _ _ _ c.item.ensures c.in-Fault-item.is)
+    first_fails _ _ 4 (item-fails _ _ _ c.item.ensures c.in-Fault.is)

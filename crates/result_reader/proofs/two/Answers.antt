@@ -8,12 +8,12 @@ item-requires-in-Item c =
 
 pub returns-in-Item-item : goal.returns-in-Item-item
 returns-in-Item-item c =
-    more_found _ _ 1 (item-found _ _ _ c.item.ensures c.in-Item.is) (one_found _ _ (item-found _ _ _ c.item-in-Item.ensures c.in-Item.is))
+    more_found _ _ 1 (item-found _ _ _ c.item.ensures c.in-Item.is) (one_found _ _ (item-found _ _ _ c.item-in-Item.ensures c.in-Item-item.is))
 
 pub returns-in-Fault-item : goal.returns-in-Fault-item
 returns-in-Fault-item c =
-    more_fails _ _ 1 (item-found _ _ _ c.item.ensures c.in-Item.is) (one_fails _ _ (item-fails _ _ _ c.item-in-Item.ensures c.in-Fault.is))
+    more_fails _ _ 1 (item-found _ _ _ c.item.ensures c.in-Item.is) (one_fails _ _ (item-fails _ _ _ c.item-in-Item.ensures c.in-Fault-item.is))
 
 pub returns-in-Fault : goal.returns-in-Fault
 returns-in-Fault c =
-    first_fails _ _ 1 (item-fails _ _ _ c.item.ensures c.in-Fault-item.is)
+    first_fails _ _ 1 (item-fails _ _ _ c.item.ensures c.in-Fault.is)

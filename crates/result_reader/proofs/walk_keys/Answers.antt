@@ -1,7 +1,5 @@
 -- `result_reader::walk_keys` meets its contract. The loop's invariant is `Walking`: how the rest of the walk ends tells how all of it ends. The measure is how many
 -- entries are left. Assumes nothing.
-use mathlib.Core.Path.{ap, ◌∙◌}
-use Rattle.result_reader.specs.Walks.{key_of}
 use Rattle.result_reader.proofs.Steps.{ascent_next}
 use Rattle.result_reader.proofs.Walking.{walking_starts, walking_ends, walking_stops, walking_goes_on}
 use Rattle.result_reader.proofs.walk_keys.Goals as goal
@@ -18,7 +16,7 @@ climb-state-requires c = tt
 pub loop-left-preserved : goal.loop-left-preserved
 loop-left-preserved c =
     walking_goes_on _ _ _ c.loop-left.invariant c.loop-left-test.true c.in-Entry.ensures
-    (ascent_next _ _ _ c.key-1.given.0.0 _ c.climb-state.ensures)
+    (ascent_next _ _ _ c.in-Entry.key _ c.climb-state.ensures)
 
 pub returns-in-Fault : goal.returns-in-Fault
 returns-in-Fault c =

@@ -9,7 +9,7 @@ use lib.Ieee.{Float, binary64, to_bits}
 use Rattle.definitions.specs.Grid.{Segment}
 use Rattle.laws.specs.FloatLaws.Pixels.{PixelSegment}
 use Rattle.separations.specs.Listing.{boundary_count, ends_of_lem}
-use Rattle.separations.specs.Theorem.{zero_test}
+use Rattle.separations.proofs.Theorem.{zero_test}
 use Rattle.separation_list.specs.Contract.{OnPixels}
 use Rattle.separation_list.proofs.Storing.{row_is, no_nan}
 use Rattle.separation_list.proofs.put_pair.Goals as goal

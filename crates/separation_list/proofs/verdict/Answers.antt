@@ -30,12 +30,12 @@ pub returns-in-At : goal.returns-in-At
 returns-in-At c =
     let given = c.args in
     boundary-refused given.width given.height given.boundaries.now given.room c.sides_fit.ensures (not-false _ c.if-not-sides_fit.false-raw)
-    c.is_whole.ensures (not-false _ c.if-not-is_whole.false-raw) (sym (ap place_of c.fault-1.given.1) ∙ c.boundaries_fault-fault.ensures)
+    c.is_whole.ensures (not-false _ c.if-not-is_whole.false-raw) (sym (ap place_of c.in-At.is) ∙ c.boundaries_fault-fault.ensures)
 
 pub returns-in-Nowhere : goal.returns-in-Nowhere
 returns-in-Nowhere c =
     let given = c.args in
     c.room_answer.ensures
     ∙ room-answered given.width given.height given.boundaries.now given.room c.sides_fit.ensures (not-false _ c.if-not-sides_fit.false-raw)
-    c.is_whole.ensures (not-false _ c.if-not-is_whole.false-raw) (sym (ap place_of c.enum_told-1.given.1) ∙ c.boundaries_fault-fault.ensures)
+    c.is_whole.ensures (not-false _ c.if-not-is_whole.false-raw) (sym (ap place_of c.in-Nowhere.is) ∙ c.boundaries_fault-fault.ensures)
     c.pair_count-count.ensures.0

@@ -73,8 +73,8 @@ points_turn {s} {t} {f} h =
     record {
       on_first = h.on_second;
       on_second = h.on_first;
-      num_is = (λ i. squares (turn (along_x t h.on_second * total h.on_first) (along_x s h.on_first * total h.on_second) i) (turn (along_y t h.on_second * total h.on_first) (along_y s h.on_first * total h.on_second) i)) ∙ h.num-is;
-      den_is = ap (λ (z : ℕ). z * z) (mul_comm (total h.on_second) (total h.on_first)) ∙ h.den-is;
+      num_is = (λ i. squares (turn (along_x t h.on_second * total h.on_first) (along_x s h.on_first * total h.on_second) i) (turn (along_y t h.on_second * total h.on_first) (along_y s h.on_first * total h.on_second) i)) ∙ h.num_is;
+      den_is = ap (λ (z : ℕ). z * z) (mul_comm (total h.on_second) (total h.on_first)) ∙ h.den_is;
       positive = h.positive;
     }
   where
@@ -195,7 +195,7 @@ apart-exact s t n =
       positive = p.positive;
       on_first = p.on_first;
       on_second = p.on_second;
-      reached = λ i. p.num-is i * sym p.den-is i;
+      reached = λ i. p.num_is i * sym p.den_is i;
       least = λ u v. go u v (reach s t u v);
     }
   where

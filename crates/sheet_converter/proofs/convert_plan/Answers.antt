@@ -16,21 +16,21 @@ returns-in-Refused c =
 
 pub overflow_sub-bytes : goal.overflow_sub-bytes
 overflow_sub-bytes c =
-    omega (arith, c.requires.0.stands.spans_stand.spans-inside)
+    omega (arith, c.requires.held.stands.spans_stand.spans-inside)
 
 pub overflow_add-front : goal.overflow_add-front
 overflow_add-front c =
-    omega (arith, c.requires.0.stands.spans_stand.spans-inside, cut-ordered (bytes-known c.args.bytes.now (λ i. omega (arith, c.shared_slice_known-1.given i))) c.requires.0 c.requires.1)
+    omega (arith, c.requires.held.stands.spans_stand.spans-inside, cut-ordered (bytes-known c.args.bytes.now (λ i. omega (arith, c.shared_slice_known-1.given i))) c.requires.held c.requires.old)
 
 pub returns-then-out-front : goal.returns-then-out-front
 returns-then-out-front c =
-    plan-short c.args.bytes.now c.args.plan c.args.out.now (sym (ap refusal_of c.in-MENDARM.is) ∙ c.plan_check.ensures) (omega (arith, c.if-out-front.true, cut-long (bytes-known c.args.bytes.now (λ i. omega (arith, c.shared_slice_known-1.given i))) c.requires.0 c.requires.1))
+    plan-short c.args.bytes.now c.args.plan c.args.out.now (sym (ap refusal_of c.in-MENDARM.is) ∙ c.plan_check.ensures) (omega (arith, c.if-out-front.true, cut-long (bytes-known c.args.bytes.now (λ i. omega (arith, c.shared_slice_known-1.given i))) c.requires.held c.requires.old))
 
 pub put_converted-size-requires : goal.put_converted-size-requires
 put_converted-size-requires c =
-    cut-known (bytes-known c.args.bytes.now (λ i. omega (arith, c.shared_slice_known-1.given i))) c.requires.0 c.requires.1 c.if-out-front.false
+    cut-known (bytes-known c.args.bytes.now (λ i. omega (arith, c.shared_slice_known-1.given i))) c.requires.held c.requires.old c.if-out-front.false
 
 pub returns : goal.returns
 returns c =
     plan-put c.args.bytes.now c.args.plan c.args.out.now (sym (ap refusal_of c.in-MENDARM.is) ∙ c.plan_check.ensures)
-    (omega (arith, c.if-out-front.false, cut-long (bytes-known c.args.bytes.now (λ i. omega (arith, c.shared_slice_known-1.given i))) c.requires.0 c.requires.1)) (cut_is (bytes-known c.args.bytes.now (λ i. omega (arith, c.shared_slice_known-1.given i))) c.requires.0 c.requires.1) c.put_converted-size.ensures
+    (omega (arith, c.if-out-front.false, cut-long (bytes-known c.args.bytes.now (λ i. omega (arith, c.shared_slice_known-1.given i))) c.requires.held c.requires.old)) (cut_is (bytes-known c.args.bytes.now (λ i. omega (arith, c.shared_slice_known-1.given i))) c.requires.held c.requires.old) c.put_converted-size.ensures

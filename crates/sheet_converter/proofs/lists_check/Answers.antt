@@ -24,7 +24,7 @@ pub returns-in-At-anchors_fault : goal.returns-in-At-anchors_fault
 unfolding lists_refusal
 returns-in-At-anchors_fault c =
     next (spans-said c.spans_fault.ensures c.in-At-anchors_fault.is)
-    (next (place-said 7 c.boundaries_fault.ensures c.in_default.is) (sym (place-said 8 c.anchors_fault.ensures c.in-At.is)))
+    (next (place-said 7 c.boundaries_fault.ensures c.in_default.is) (sym (place-said 8 c.anchors_fault.ensures c.in-At-anchors_fault.is)))
 
 pub returns : goal.returns
 unfolding lists_refusal

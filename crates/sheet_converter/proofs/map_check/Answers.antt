@@ -11,7 +11,7 @@ returns-then-not-pass_fits c =
 
 pub lists_check-requires : goal.lists_check-requires
 lists_check-requires c =
-    c.requires.0
+    c.requires.sides
 
 pub returns-in-Refused : goal.returns-in-Refused
 unfolding map_refusal
@@ -21,7 +21,7 @@ returns-in-Refused c =
 
 pub cells_fault-requires : goal.cells_fault-requires
 cells_fault-requires c =
-    c.requires.1.0
+    c.requires.cells
 
 pub returns-in-At : goal.returns-in-At
 unfolding map_refusal
@@ -32,7 +32,7 @@ returns-in-At c =
 
 pub is_one_list-requires : goal.is_one_list-requires
 is_one_list-requires c =
-    c.requires.1.1
+    c.requires.few
 
 pub returns-then-not-is_one_list : goal.returns-then-not-is_one_list
 unfolding map_refusal

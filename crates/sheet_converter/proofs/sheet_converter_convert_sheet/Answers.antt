@@ -12,7 +12,10 @@ returns-then-is_other_kind c =
 pub convert_plan-requires : goal.convert_plan-requires
 convert_plan-requires c =
     let held = c.in-Sound.ensures in
-    (held, opened_1 c.args.bytes.now held.stands.opened (sym c.is_other_kind.ensures ∙ c.if-is_other_kind.false))
+    record {
+        held = held;
+        old = opened_1 c.args.bytes.now held.stands.opened (sym c.is_other_kind.ensures ∙ c.if-is_other_kind.false);
+    }
 
 pub returns-in-Sound : goal.returns-in-Sound
 returns-in-Sound c =

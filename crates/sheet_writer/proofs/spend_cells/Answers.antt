@@ -13,7 +13,7 @@ loop-i-init c = spending_starts
 pub returns-then-left-size : goal.returns-then-left-size
 returns-then-left-size c =
     spending_stops c.loop-i.invariant c.loop-i-test.true (cell-size c.args.cells.now c.loop-i.i c.number_of_byte.ensures c.group_count-size.ensures)
-    c.if-left-size.true c.in-MENDARM.is
+    c.if-left-size.true c.in-Left.is
 
 pub loop-i-preserved : goal.loop-i-preserved
 loop-i-preserved c =
@@ -22,4 +22,4 @@ loop-i-preserved c =
 
 pub returns : goal.returns
 returns c =
-    spending_ends c.loop-i.invariant c.loop-i-test.false c.in-MENDARM.is
+    spending_ends c.loop-i.invariant c.loop-i-test.false c.in-Left.is

@@ -11,7 +11,7 @@ pub nonzero_div-from : goal.nonzero_div-from
 nonzero_div-from c = omega (arith, wide c.requires.2)
 
 pub with_run-requires : goal.with_run-requires
-with_run-requires c = let A = c.requires.2 in (adding-counted A, adding-fits A)
+with_run-requires c = let A = c.requires.2 in record { counted = adding-counted A; fitting = adding-fits A }
 
 pub returns : goal.returns
 returns c = λ M id A. added A c.with_run.ensures

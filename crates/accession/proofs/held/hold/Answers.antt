@@ -14,6 +14,6 @@ returns c =
       at_most = omega arith;
       same_slots = length-set c.args.last.now slot.result (c.args.held + 1);
       same_room = length-set c.args.links.now c.args.held (get_or c.args.last.now slot.result 0);
-      holds = holds_more c.args.records.now c.requires.1 c.requires.0.0 (search rules) slot.result
+      holds = holds_more c.args.records.now c.requires.table c.requires.sizes.0 (search rules) slot.result
           (slot.ensures.0 ∙ ap (λ m. m % length c.args.last.now) c.map_of.ensures) slot.ensures.1;
     }

@@ -32,7 +32,7 @@ loop-i-preserved c =
     let number : ℕ = c.args.number in
     let old : List ℕ = c.args.output.now in
     let fits : numbers_per_accession * count_below (accession_count list) (is_of_map list number) ≤ length old = c.pre in
-    putting_next list number old fits c.loop-i.i (search rules) c.loop-i.invariant c.put_of_map-k.ensures.1 c.put_of_map-k.ensures.0
+    putting_next list number old fits c.loop-i.i (search rules) c.loop-i.invariant c.put_of_map-k.ensures.left c.put_of_map-k.ensures.next
 
 pub shape_of-output : goal.shape_of-output
 shape_of-output c =

@@ -42,4 +42,7 @@ returns c =
     let is_of_lem : c.map_of.result ≡ number → is_of_map list number c.args.i ≡ true = λ e. eq-eqb (accession_at list c.args.i).on_map number (sym c.map_of.ensures ∙ e) in
     let i = c.args.i in
     let done = put_one list i c.args.output.now c.args.k (is_of_map list number i) (is_of_lem c.if-map_of-number.false) in
-    (done.0, c.put_record.ensures ∙ done.1)
+    record {
+        next = done.0;
+        left = c.put_record.ensures ∙ done.1;
+    }

@@ -4,7 +4,8 @@ use mathlib.Core.Path.{◌≡◌, sym, ap, subst, ◌∙◌}
 use mathlib.Core.List.{List}
 use lib.ListN.{length}
 use Rattle.catalogue.specs.Line.{line_of}
-use Rattle.catalogue.specs.AccessionLaws.MapLine.{map_line, line-of-record, line-unknown}
+use Rattle.catalogue.specs.AccessionLaws.MapLine.{map_line}
+use Rattle.catalogue.proofs.AccessionLaws.MapLine.{line-of-record, line-unknown}
 use Rattle.accession.specs.Contract.{Finds, room_verdict}
 use Rattle.accession.specs.declared.line.Found.TheVariants.{At}
 use Rattle.accession.proofs.Reporting.{ten-left, unknown, exit-left, exit-unknown}
@@ -24,7 +25,10 @@ returns-in-Nowhere c =
     let l = entry.args.records.now in
     let own = entry.args.own in
     let none = line-unknown l own (subst (Finds l own) c.in-Nowhere.is at-find.find-own.ensures) in
-    (unknown l own entry.args.output.now entry.requires.0 entry.requires.1 none, exit-unknown l own entry.args.output.now none)
+    record {
+        answer = unknown l own entry.args.output.now entry.requires.0 entry.requires.1 none;
+        left = exit-unknown l own entry.args.output.now none;
+    }
 
 pub returns-in-At : goal.returns-in-At
 returns-in-At c =

@@ -7,7 +7,10 @@ use Rattle.accession.proofs.line.report_map.Goals as goal
 
 pub returns-then-output-count : goal.returns-then-output-count
 returns-then-output-count c =
-    (no_room c.args.records.now c.args.number (length c.args.output.now) c.count_of_map-count.ensures c.if-output-count.true, refl)
+    record {
+        answer = no_room c.args.records.now c.args.number (length c.args.output.now) c.count_of_map-count.ensures c.if-output-count.true;
+        left = refl;
+    }
 
 pub put_line-requires : goal.put_line-requires
 put_line-requires c =
@@ -15,7 +18,7 @@ put_line-requires c =
 
 pub returns : goal.returns
 returns c =
-    (
-      has_room c.args.records.now c.args.number (length c.args.output.now) c.count_of_map-count.ensures c.if-output-count.false,
-      c.put_line.ensures,
-    )
+    record {
+        answer = has_room c.args.records.now c.args.number (length c.args.output.now) c.count_of_map-count.ensures c.if-output-count.false;
+        left = c.put_line.ensures;
+    }

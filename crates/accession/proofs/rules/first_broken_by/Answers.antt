@@ -20,7 +20,10 @@ pub last_of_map-k-requires : goal.last_of_map-k-requires
 last_of_map-k-requires c =
     let = c in
     let inv = at-loop.loop.invariant in
-    ((search rules, inv.behind), inv.holds)
+    record {
+        places = (search rules, inv.behind);
+        table = inv.holds;
+    }
 
 pub goes_on-requires : goal.goes_on-requires
 goes_on-requires c =
@@ -47,7 +50,10 @@ returns-then-not-own_ascends-goes_on c =
 pub hold-held-requires : goal.hold-held-requires
 hold-held-requires c =
     let inv = c.loop-i.invariant in
-    ((omega (arith, inv.behind), omega (arith, inv.same_room, c.pre.0.1)), inv.holds)
+    record {
+        sizes = (omega (arith, inv.behind), omega (arith, inv.same_room, c.pre.0.1));
+        table = inv.holds;
+    }
 
 pub loop-i-preserved : goal.loop-i-preserved
 loop-i-preserved c =

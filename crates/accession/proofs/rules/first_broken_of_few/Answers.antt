@@ -4,4 +4,8 @@ use Rattle.accession.proofs.Holding.{replicate_at}
 use Rattle.accession.proofs.rules.first_broken_of_few.Goals as goal
 
 pub first_broken_by-requires : goal.first_broken_by-requires
-first_broken_by-requires c = (search rules, replicate_at 0 509)
+first_broken_by-requires c =
+    record {
+        sizes = search rules;
+        empty = replicate_at 0 509;
+    }

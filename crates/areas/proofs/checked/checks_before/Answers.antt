@@ -42,12 +42,12 @@ spans_fault-requires c =
 pub returns-in-Outside : goal.returns-in-Outside
 unfolding early_refusal
 returns-in-Outside c =
-    next (passes 1 c.sides_fit.ensures c.if-not-sides_fit.false-raw) (next (passes 2 c.cells_fit.ensures c.if-not-cells_fit.false-raw) (next (passes 3 c.is_whole.ensures c.if-not-is_whole.false-raw) (here _ (sym c.spans_fault.ensures ∙ ap spans.refusal_of c.span-1.given.1))))
+    next (passes 1 c.sides_fit.ensures c.if-not-sides_fit.false-raw) (next (passes 2 c.cells_fit.ensures c.if-not-cells_fit.false-raw) (next (passes 3 c.is_whole.ensures c.if-not-is_whole.false-raw) (here _ (sym c.spans_fault.ensures ∙ ap spans.refusal_of c.in-Outside.is))))
 
 pub returns-in-Equal : goal.returns-in-Equal
 unfolding early_refusal
 returns-in-Equal c =
-    next (passes 1 c.sides_fit.ensures c.if-not-sides_fit.false-raw) (next (passes 2 c.cells_fit.ensures c.if-not-cells_fit.false-raw) (next (passes 3 c.is_whole.ensures c.if-not-is_whole.false-raw) (here _ (sym c.spans_fault.ensures ∙ ap spans.refusal_of c.span-in-Equal-1.given.1))))
+    next (passes 1 c.sides_fit.ensures c.if-not-sides_fit.false-raw) (next (passes 2 c.cells_fit.ensures c.if-not-cells_fit.false-raw) (next (passes 3 c.is_whole.ensures c.if-not-is_whole.false-raw) (here _ (sym c.spans_fault.ensures ∙ ap spans.refusal_of c.in-Equal.is))))
 
 pub returns-in-Nowhere : goal.returns-in-Nowhere
 unfolding early_refusal
@@ -56,5 +56,5 @@ returns-in-Nowhere c =
     next (passes 1 c.sides_fit.ensures c.if-not-sides_fit.false-raw)
     (next (passes 2 c.cells_fit.ensures c.if-not-cells_fit.false-raw)
     (next (passes 3 c.is_whole.ensures c.if-not-is_whole.false-raw)
-    (next (sym c.spans_fault.ensures ∙ ap spans.refusal_of c.enum_told-1.given.1)
+    (next (sym c.spans_fault.ensures ∙ ap spans.refusal_of c.in-Nowhere.is)
     (room-counted (length a.cells.now) (a.width * a.height) (length a.spans.now / numbers_per_span) a.labels a.masks a.queue a.tallies c.cells_fit.ensures c.if-not-cells_fit.false-raw c.room.ensures))))

@@ -5,7 +5,7 @@ use Rattle.areas.proofs.labels.label_regions.Goals as goal
 
 pub mark_spans-requires : goal.mark_spans-requires
 mark_spans-requires c =
-    (c.requires.checked, cleared _ _ c.clear_masks.ensures c.clear_masks.auto.masks c.requires.room.1)
+    record { checked = c.requires.checked; sizes = cleared _ _ c.clear_masks.ensures c.clear_masks.auto.masks c.requires.room.1 }
 
 pub label_cells-requires : goal.label_cells-requires
 label_cells-requires c =

@@ -11,16 +11,13 @@ use Rattle.boundary_blocks.proofs.blocks.keep_block.Goals as goal
 pub returns-then-removed-k : goal.returns-then-removed-k
 returns-then-removed-k c =
     let if1 = c.if-removed-k in
-    let given = c.args in (
-      ap (sets given.list.now (given.size * given.kept)) (sym (block-gone given.removed.now given.size given.list.now given.k if1.true)),
-      sym (add-zero given.kept) ∙ sym (ap (λ b. given.kept + bit (not b)) if1.true),
-    )
+    let given = c.args in record { list = ap (sets given.list.now (given.size * given.kept)) (sym (block-gone given.removed.now given.size given.list.now given.k if1.true)); answer = sym (add-zero given.kept) ∙ sym (ap (λ b. given.kept + bit (not b)) if1.true) }
 
 pub returns : goal.returns
 returns c =
     let if1 = c.if-removed-k in
-    let given = c.args in (
-      c.move_block.ensures
-          ∙ ap (sets given.list.now (given.size * given.kept)) (sym (block-stays given.removed.now given.size given.list.now given.k if1.false)),
-      sym (ap (λ b. given.kept + bit (not b)) if1.false),
-    )
+    let given = c.args in record {
+      list = c.move_block.ensures
+          ∙ ap (sets given.list.now (given.size * given.kept)) (sym (block-stays given.removed.now given.size given.list.now given.k if1.false));
+      answer = sym (ap (λ b. given.kept + bit (not b)) if1.false);
+    }

@@ -35,10 +35,10 @@ loop-k-preserved c =
     let l = given.list.now in (
       omega arith,
       search rules,
-      keep-block.ensures.0
+      keep-block.ensures.list
           ∙ ap₂ (λ m n. sets m (given.size * n) (left_block removed given.size m turn.k)) turn.invariant.2 turn.invariant.3
           ∙ left_next removed given.size l given.count (search rules) turn.k loop-test.true,
-      keep-block.ensures.1
+      keep-block.ensures.answer
           ∙ ap (λ n. n + bit (is_left removed turn.k)) turn.invariant.3
           ∙ count_next removed given.size l given.count (search rules) turn.k,
     )
@@ -50,7 +50,4 @@ pub returns : goal.returns
 returns c =
     let turn = c.loop-k in
     let given = c.args in
-    let all : turn.k ≡ given.count = omega arith in (
-      turn.invariant.2 ∙ ap (λ n. overwrite (left_blocks given.removed.now given.size given.list.now n) given.list.now) all,
-      turn.invariant.3 ∙ ap (left_count given.removed.now) all,
-    )
+    let all : turn.k ≡ given.count = omega arith in record { list = turn.invariant.2 ∙ ap (λ n. overwrite (left_blocks given.removed.now given.size given.list.now n) given.list.now) all; answer = turn.invariant.3 ∙ ap (left_count given.removed.now) all }

@@ -11,7 +11,7 @@ pub put_boundaries-requires : goal.put_boundaries-requires
 put_boundaries-requires c =
     let canonical-output = c.canonical_output in
     let given = c.args in
-    (search rules, search rules, read_named given.lent.now given.count 256 (replicate 1280 0) canonical-output.ensures.0 (search rules))
+    (search rules, search rules, read_named given.lent.now given.count 256 (replicate 1280 0) canonical-output.ensures.output (search rules))
 
 pub returns : goal.returns
 returns c =
@@ -19,10 +19,9 @@ returns c =
     let put-numbers = c.put_numbers in
     let canonical-output = c.canonical_output in
     let given = c.args in
-    let read = rows-read given.lent.now given.count 256 (replicate 1280 0) canonical-output.ensures.0 in (
-      put-numbers.ensures ∙ ap (λ r. overwrite (numbers_of r) given.numbers.now) read,
-      (
-        put-spans.ensures ∙ ap (λ r. overwrite (ends_of_lem r) given.spans.now) read,
-        c.put_boundaries.ensures ∙ ap (λ r. overwrite (turned_of given.lent.now r) given.boundaries.now) read,
-      ),
-    )
+    let read = rows-read given.lent.now given.count 256 (replicate 1280 0) canonical-output.ensures.output in
+    record {
+      numbers = put-numbers.ensures ∙ ap (λ r. overwrite (numbers_of r) given.numbers.now) read;
+      spans = put-spans.ensures ∙ ap (λ r. overwrite (ends_of_lem r) given.spans.now) read;
+      boundaries = c.put_boundaries.ensures ∙ ap (λ r. overwrite (turned_of given.lent.now r) given.boundaries.now) read;
+    }

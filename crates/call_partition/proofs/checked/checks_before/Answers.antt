@@ -20,21 +20,21 @@ room-counted pass w h cells spans boundaries anchors l m q t u e p =
 
 pub returns-in-Refused : goal.returns-in-Refused
 unfolding early_refusal
-returns-in-Refused c = here _ (said c.check_sizes.ensures c.number-1.given.1)
+returns-in-Refused c = here _ (said c.check_sizes.ensures c.in-Refused.is)
 
 pub check_entries-requires : goal.check_entries-requires
-check_entries-requires c = let s = sizes-fit (said c.check_sizes.ensures c.enum_told-1.given.1) in (s.narrow, s.short)
+check_entries-requires c = let s = sizes-fit (said c.check_sizes.ensures c.in_default.is) in (s.narrow, s.short)
 
 pub returns-in-Refused-check_entries : goal.returns-in-Refused-check_entries
 unfolding early_refusal
 returns-in-Refused-check_entries c =
-    next (said c.check_sizes.ensures c.enum_told-1.given.1) (here _ (said c.check_entries.ensures c.number-in-Refused-check_entries-1.given.1))
+    next (said c.check_sizes.ensures c.in_default.is) (here _ (said c.check_entries.ensures c.in-Refused-check_entries.is))
 
 pub returns : goal.returns
 unfolding early_refusal
 returns c =
     let a = c.args in
-    next (said c.check_sizes.ensures c.enum_told-1.given.1)
-    (next (said c.check_entries.ensures c.enum_told-in_default-check_entries-1.given.1)
+    next (said c.check_sizes.ensures c.in_default.is)
+    (next (said c.check_entries.ensures c.in_default-check_entries.is)
     (room-counted a.pass a.width a.height a.cells.now a.spans.now a.boundaries.now a.anchors.now a.labels a.masks a.queue a.tallies a.output
-    (said c.check_sizes.ensures c.enum_told-1.given.1) c.check_room.ensures))
+    (said c.check_sizes.ensures c.in_default.is) c.check_room.ensures))

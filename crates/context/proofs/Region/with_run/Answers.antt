@@ -16,20 +16,17 @@ use Rattle.context.proofs.Region.with_run.Goals as goal
 
 pub sums-counts-requires : goal.sums-counts-requires
 sums-counts-requires c =
-    let fits = c.requires.1 in (
-      (λ e. omega (arith, c.requires.0.each e, c.requires.0.few)),
-      λ e. rw c.run_counts-run.ensures.elevations (omega (arith, among-few c.args.cells.now c.args.from (c.args.end - c.args.from) e, fits.within.narrow)),
-    )
+    let fits = c.requires.fitting in record { old_small = (λ e. omega (arith, c.requires.counted.each e, c.requires.counted.few)); more_small = λ e. rw c.run_counts-run.ensures.elevations (omega (arith, among-few c.args.cells.now c.args.from (c.args.end - c.args.from) e, fits.within.narrow)) }
 
 pub overflow_add-result-2 : goal.overflow_add-result-2
 overflow_add-result-2 c =
     let n = c.args.end - c.args.from in
-    record { fits = omega (arith, c.run_counts-run.ensures.ramps, count-le (λ i. is_ramp (get_or c.args.cells.now (c.args.from + i) 0)) n, c.pre.0.ramps, c.pre.0.few, c.pre.1.within.narrow) }
+    omega (arith, c.run_counts-run.ensures.ramps, count-le (λ i. is_ramp (get_or c.args.cells.now (c.args.from + i) 0)) n, c.requires.counted.ramps, c.requires.counted.few, c.requires.fitting.within.narrow)
 
 pub returns : goal.returns
 returns c =
     let four-counts : length c.args.self.elevation_counts ≡ 4 = search rules in
-    let fits = c.pre.1 in
+    let fits = c.requires.fitting in
     let s = record_of c.args.self in
     let first = eqb s.cells 0 in
     let from = c.args.from in
@@ -38,7 +35,7 @@ returns c =
     let counts = c.run_counts-run.ensures in
     run-added s c.args.x c.args.y bytes from n (omega (arith, fits.within.some)) fits.columns
     (λ i l. fits.within.counted (from + i) (omega arith) (omega (arith, l)))
-    (four-counts fits.left fits.right counts.ramps
+    four-counts fits.left fits.right counts.ramps
     (c.mask_of.ensures ∙ mask_counted bytes from n counts.elevations)
     (c.sums-counts.ensures ∙ sums-counted s.elevation_counts_lem bytes from n counts.elevations)
     (c.lesser_edge.ensures ∙ ap (lesser_edge first s.min_x_lem) c.edge.ensures)

@@ -7,11 +7,11 @@ use Rattle.context.proofs.anchored.anchor_cell.Goals as goal
 
 pub overflow_mul-result : goal.overflow_mul-result
 overflow_mul-result c =
-    omega (arith, row_small _ c.index_of-y.ensures c.requires.1.1 c.requires.0.0)
+    omega (arith, row_small _ c.index_of-y.ensures c.requires.places.1 c.requires.sizes.0)
 
 pub overflow_add-result : goal.overflow_add-result
 overflow_add-result c =
-    omega (arith, row_small _ c.index_of-y.ensures c.requires.1.1 c.requires.0.0, c.index_of-x.ensures, c.requires.1.0)
+    omega (arith, row_small _ c.index_of-y.ensures c.requires.places.1 c.requires.sizes.0, c.index_of-x.ensures, c.requires.places.0)
 
 pub returns : goal.returns
 returns c =

@@ -17,7 +17,7 @@ anchor_cell-cell-requires c =
     let fit = c.requires in
     let i = c.loop-i.i in
     let l = c.loop-i-test.true in
-    ((fit.narrow, search rules), (fit.column i l, fit.row i l))
+    record { sizes = (fit.narrow, search rules); places = (fit.column i l, fit.row i l) }
 
 pub offset_bounds-labels-cell : goal.offset_bounds-labels-cell
 offset_bounds-labels-cell c =

@@ -5,18 +5,12 @@ use Rattle.context.proofs.IncidentWhole.{part-zero, part-named, whole-beyond, wh
 use Rattle.context.proofs.incidents.count_incidents.Goals as goal
 
 pub slice_bounds-count_regions-end-2 : goal.slice_bounds-count_regions-end-2
-slice_bounds-count_regions-end-2 c = sym (length-take-le _ _ c.requires.1.0)
+slice_bounds-count_regions-end-2 c = sym (length-take-le _ _ c.requires.sizes.0)
 
 pub count_regions-requires : goal.count_regions-requires
 count_regions-requires c =
-    (
-      part-named c.args.pairs.now c.args.starts.now c.args.count c.args.regions c.args.counts.now c.requires.1.0 c.requires.0,
-      part-zero c.args.pairs.now c.args.starts.now c.args.count c.args.regions c.args.counts.now c.requires.1.0 c.requires.1.1,
-    )
+    record { named_rows = part-named c.args.pairs.now c.args.starts.now c.args.count c.args.regions c.args.counts.now c.requires.sizes.0 c.requires.named_rows; counts_clear = part-zero c.args.pairs.now c.args.starts.now c.args.count c.args.regions c.args.counts.now c.requires.sizes.0 c.requires.sizes.1 }
 
 pub returns : goal.returns
 returns c =
-    let counted = c.count_regions.ensures in (
-      (λ C e r P. whole-shown c.args.pairs.now c.args.starts.now c.args.count c.args.regions c.args.counts.now c.requires.1.0 counted C e r P c.requires.1.1),
-      whole-beyond c.args.pairs.now c.args.starts.now c.args.count c.args.regions c.args.counts.now c.requires.1.0 counted,
-    )
+    let counted = c.count_regions.ensures in record { shown = (λ C e r P. whole-shown c.args.pairs.now c.args.starts.now c.args.count c.args.regions c.args.counts.now c.requires.sizes.0 counted C e r P c.requires.sizes.1); beyond = whole-beyond c.args.pairs.now c.args.starts.now c.args.count c.args.regions c.args.counts.now c.requires.sizes.0 counted }

@@ -10,14 +10,14 @@ use Rattle.context.proofs.incidents.count_pair.Goals as goal
 pub count_region-requires-2 : goal.count_region-requires-2
 count_region-requires-2 c =
     let done = c.count_region in
-    let few = c.requires.1.0 in (
-      (
-        c.requires.0.hi-pos,
+    let few = c.requires.places.0 in record {
+      r_named = (
+        c.requires.named_row.hi-pos,
         subst (λ l. get_or c.args.pairs.now (numbers_per_pair * c.args.k + 2) 0 ≤ length l) (sym done.ensures)
-            (subst (λ n. get_or c.args.pairs.now (numbers_per_pair * c.args.k + 2) 0 ≤ n) (sym (region-length _ _ _)) c.requires.0.hi-le),
-      ),
-      (few, subst (Packed c.args.span) (sym done.ensures) (packed-region c.args.span few _ _ c.requires.1.1)),
-    )
+            (subst (λ n. get_or c.args.pairs.now (numbers_per_pair * c.args.k + 2) 0 ≤ n) (sym (region-length _ _ _)) c.requires.named_row.hi-le),
+      );
+      places = (few, subst (Packed c.args.span) (sym done.ensures) (packed-region c.args.span few _ _ c.requires.places.1));
+    }
 
 pub returns : goal.returns
 unfolding count_pair

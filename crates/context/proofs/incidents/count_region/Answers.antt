@@ -4,7 +4,7 @@ use Rattle.context.proofs.Counting.{packed-small, region-code}
 use Rattle.context.proofs.incidents.count_region.Goals as goal
 
 pub counted-requires : goal.counted-requires
-counted-requires c = (packed-small _ _ c.requires.1.0 (c.requires.1.1 (c.wide-k.result - 1)), c.requires.1.0)
+counted-requires c = (packed-small _ _ c.requires.places.0 (c.requires.places.1 (c.wide-k.result - 1)), c.requires.places.0)
 
 pub returns : goal.returns
 returns c = region-code _ _ _ c.wide-k.ensures c.counted.ensures

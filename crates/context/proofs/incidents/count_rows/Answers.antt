@@ -14,11 +14,8 @@ loop-k-init c = (search rules, search rules, rows_none _ _ _ _)
 pub count_pair-requires : goal.count_pair-requires
 count_pair-requires c =
     let at = c.loop-k in
-    let few = c.requires.1.1.0 in
-    let named = c.requires.1.0 at.k at.invariant.0 c.loop-k-test.true in (
-      subst (λ n. NamedRow c.args.pairs.now n at.k) (sym (rows-length _ _ _ _ at.k at.invariant.2)) named,
-      (few, rows-packed _ _ _ _ at.k few at.invariant.2 c.requires.1.1.1),
-    )
+    let few = c.requires.places.0 in
+    let named = c.requires.named_rows at.k at.invariant.0 c.loop-k-test.true in record { named_row = subst (λ n. NamedRow c.args.pairs.now n at.k) (sym (rows-length _ _ _ _ at.k at.invariant.2)) named; places = (few, rows-packed _ _ _ _ at.k few at.invariant.2 c.requires.places.1) }
 
 pub loop-k-preserved : goal.loop-k-preserved
 loop-k-preserved c =

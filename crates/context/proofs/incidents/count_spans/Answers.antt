@@ -15,15 +15,14 @@ loop-i-init c = (search rules, refl)
 pub count_rows-requires : goal.count_rows-requires
 count_rows-requires c =
     let at = c.loop-i in
-    let rows = c.requires.0 in
+    let rows = c.requires.named_rows in
     let l = c.loop-i-test.true in
-    let same = ap length at.invariant.1 ∙ spans-length _ at.i _ in (
-      (rows.stretch at.i l).rising,
-      (
-        (λ k h m. subst (λ n. NamedRow c.args.pairs.now n k) (sym same) (rows.named at.i l k h m)),
-        (search rules, subst (Packed at.i) (sym at.invariant.1) (spans-packed _ at.i _ (search rules) c.requires.1)),
-      ),
-    )
+    let same = ap length at.invariant.1 ∙ spans-length _ at.i _ in
+    record {
+      ordered = (rows.stretch at.i l).rising;
+      named_rows = λ k h m. subst (λ n. NamedRow c.args.pairs.now n k) (sym same) (rows.named at.i l k h m);
+      places = (search rules, subst (Packed at.i) (sym at.invariant.1) (spans-packed _ at.i _ (search rules) c.requires.counts_clear));
+    }
 
 pub loop-i-preserved : goal.loop-i-preserved
 loop-i-preserved c =

@@ -2,7 +2,6 @@
 use Prim.Native.Nat.{◌+◌}
 use native.Mathlib.Omega.{arith}
 use mathlib.Core.Path.{◌≡◌, sym, ap, ◌∙◌}
-use mathlib.Core.Bool.{false}
 use lib.ListN.{get_or}
 use Rattle.definitions.specs.Scan.{any}
 use Rattle.definitions.specs.Grid.{contains}

@@ -9,11 +9,11 @@ use borrow.Author.Rules.{rules}
 use Rattle.context.proofs.pairs.full_pairs.Goals as goal
 
 pub loop-i-init : goal.loop-i-init
-loop-i-init c = (search rules, c.requires.1.0.0, c.requires.1.0.1, λ C e T P j h. absurd (omega arith))
+loop-i-init c = (search rules, c.requires.room.0, c.requires.room.1, λ C e T P j h. absurd (omega arith))
 
 pub full_pair-pair-requires : goal.full_pair-pair-requires
 full_pair-pair-requires c =
-    (search rules, c.requires.1.1 c.loop-i.i (search rules))
+    record { tallies_room = search rules; stretch = c.requires.stretches c.loop-i.i (search rules) }
 
 pub loop-i-preserved : goal.loop-i-preserved
 loop-i-preserved c =

@@ -19,7 +19,7 @@ loop-s-preserved c =
       simp length-set inv.2,
       λ C R. (
         next_is R at.s at.k c.span_end-k.result c.loop-s-test.true (inv.3 C R).0 c.span_end-k.ensures,
-        starts_more C at.starts at.s at.k (omega (arith, inv.2, c.requires.1.0)) (inv.3 C R).0 (inv.3 C R).1,
+        starts_more C at.starts at.s at.k (omega (arith, inv.2, c.requires.sizes.0)) (inv.3 C R).0 (inv.3 C R).1,
       ),
     )
 
@@ -29,6 +29,6 @@ returns c =
     let inv = at.invariant in
     λ C R.
     let done : at.s ≡ c.args.count = omega (arith, inv.0, c.loop-s-test.false) in
-    starts-shown R c.requires.1.0 (simp length-set inv.2)
-    (starts_more C at.starts c.args.count at.k (omega (arith, inv.2, c.requires.1.0)) ((inv.3 C R).0 ∙ ap (before C) done)
+    starts-shown R c.requires.sizes.0 (simp length-set inv.2)
+    (starts_more C at.starts c.args.count at.k (omega (arith, inv.2, c.requires.sizes.0)) ((inv.3 C R).0 ∙ ap (before C) done)
     (λ j l. (inv.3 C R).1 j (omega (arith, done))))

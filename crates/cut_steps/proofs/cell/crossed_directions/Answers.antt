@@ -17,7 +17,7 @@ returns-then-not-is_walkable c =
     record { small = omega arith; bits = no_bits M (segment_of a.g) (at a.x a.y) (no_step M (segment_of a.g) (at a.x a.y) (sym c.is_walkable.ensures ∙ not-true _ c.if-not-is_walkable.true-raw)) }
 
 pub steps_onward-requires : goal.steps_onward-requires
-steps_onward-requires c = (in_grid_of c.requires.0, sym c.is_walkable.ensures ∙ not-false _ c.if-not-is_walkable.false-raw)
+steps_onward-requires c = (in_grid_of c.requires.asked, sym c.is_walkable.ensures ∙ not-false _ c.if-not-is_walkable.false-raw)
 
 pub returns : goal.returns
-returns c = crossed-cell c.requires.1 c.steps_onward.ensures refl
+returns c = crossed-cell c.requires.crossed c.steps_onward.ensures refl

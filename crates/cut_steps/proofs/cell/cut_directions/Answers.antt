@@ -5,16 +5,16 @@ use Rattle.cut_steps.proofs.Cells.{onward-asked, four-directions}
 use Rattle.cut_steps.proofs.cell.cut_directions.Goals as goal
 
 pub is_cut_east-requires : goal.is_cut_east-requires
-is_cut_east-requires c = let p = c.requires in (onward-asked p.0 2 1 (omega arith) (omega arith) (omega arith) p.1, c.is_inner-inner.ensures)
+is_cut_east-requires c = record { asked = onward-asked c.requires.asked 2 1 (omega arith) (omega arith) (omega arith) c.requires.walkable_cell; inner_cell = c.is_inner-inner.ensures }
 
 pub is_cut_onward-requires : goal.is_cut_onward-requires
-is_cut_onward-requires c = let p = c.requires in (onward-asked p.0 0 2 (omega arith) (omega arith) (omega arith) p.1, c.is_inner-inner.ensures)
+is_cut_onward-requires c = record { asked = onward-asked c.requires.asked 0 2 (omega arith) (omega arith) (omega arith) c.requires.walkable_cell; inner_cell = c.is_inner-inner.ensures }
 
 pub is_cut_onward-requires-2 : goal.is_cut_onward-requires-2
-is_cut_onward-requires-2 c = let p = c.requires in (onward-asked p.0 1 2 (omega arith) (omega arith) (omega arith) p.1, c.is_inner-inner.ensures)
+is_cut_onward-requires-2 c = record { asked = onward-asked c.requires.asked 1 2 (omega arith) (omega arith) (omega arith) c.requires.walkable_cell; inner_cell = c.is_inner-inner.ensures }
 
 pub is_cut_onward-requires-3 : goal.is_cut_onward-requires-3
-is_cut_onward-requires-3 c = let p = c.requires in (onward-asked p.0 2 2 (omega arith) (omega arith) (omega arith) p.1, c.is_inner-inner.ensures)
+is_cut_onward-requires-3 c = record { asked = onward-asked c.requires.asked 2 2 (omega arith) (omega arith) (omega arith) c.requires.walkable_cell; inner_cell = c.is_inner-inner.ensures }
 
 pub returns : goal.returns
 returns c =

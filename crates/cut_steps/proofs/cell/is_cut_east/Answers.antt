@@ -7,7 +7,7 @@ use Rattle.cut_steps.proofs.Cells.{in_limits}
 use Rattle.cut_steps.proofs.cell.is_cut_east.Goals as goal
 
 pub is_far_eastward-requires : goal.is_far_eastward-requires
-is_far_eastward-requires c = in_limits c.requires.0.cell
+is_far_eastward-requires c = in_limits c.requires.asked.cell
 
 pub returns-then-is_far_eastward : goal.returns-then-is_far_eastward
 returns-then-is_far_eastward c =

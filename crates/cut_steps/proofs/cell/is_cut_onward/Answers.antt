@@ -11,7 +11,7 @@ use Rattle.cut_steps.proofs.Cells.{nearby, stepping, outside}
 use Rattle.cut_steps.proofs.cell.is_cut_onward.Goals as goal
 
 pub is_inside-requires : goal.is_inside-requires
-is_inside-requires c = (nearby c.requires.0, c.requires.1)
+is_inside-requires c = record { nearby = nearby c.requires.asked; inner_cell = c.requires.inner_cell }
 
 pub returns-then-not-is_inside : goal.returns-then-not-is_inside
 returns-then-not-is_inside c = let a = c.args in outside a.width a.height a.cells.now (segment_of a.g) a.x a.y a.dx a.dy (c.is_inside.ensures.1 (not-true _ c.if-not-is_inside.true-raw))
@@ -19,7 +19,7 @@ returns-then-not-is_inside c = let a = c.args in outside a.width a.height a.cell
 pub is_step-requires : goal.is_step-requires
 is_step-requires c =
     let inside : let a = c.args in Inside a.width a.height a.x a.y a.dx a.dy = c.is_inside.ensures.0 (not-false _ c.if-not-is_inside.false-raw) in
-    stepping c.requires.0 inside
+    stepping c.requires.asked inside
 
 pub returns-then-not-is_step : goal.returns-then-not-is_step
 returns-then-not-is_step c =
@@ -39,7 +39,7 @@ overflow_sub-y c =
 pub cuts-requires : goal.cuts-requires
 cuts-requires c =
     let inside : let a = c.args in Inside a.width a.height a.x a.y a.dx a.dy = c.is_inside.ensures.0 (not-false _ c.if-not-is_inside.false-raw) in
-    let A = c.requires.0 in
+    let A = c.requires.asked in
     let i = inside in
     (A.cell.sound, omega (arith, A.cell.in_x, A.cell.narrow), omega (arith, A.cell.in_y, A.cell.short), omega (arith, i.left, i.right, A.cell.narrow), omega (arith, i.up, i.down, A.cell.short))
 
@@ -47,4 +47,4 @@ pub returns : goal.returns
 returns c =
     let a = c.args in
     c.cuts.ensures
-    ∙ onward-cut (grid_of a.width a.height a.cells.now) (segment_of a.g) (at a.x a.y) (at a.dx a.dy) (sym c.is_step.ensures ∙ not-false _ c.if-not-is_step.false-raw) c.pre.0.onward
+    ∙ onward-cut (grid_of a.width a.height a.cells.now) (segment_of a.g) (at a.x a.y) (at a.dx a.dy) (sym c.is_step.ensures ∙ not-false _ c.if-not-is_step.false-raw) c.requires.asked.onward

@@ -19,7 +19,7 @@ bounds-cells-y c = omega (arith, in_grid c.requires, c.requires.cells_long)
 
 pub returns-then-cells-y-ne1 : goal.returns-then-cells-y-ne1
 returns-then-cells-y-ne1 c =
-    ((λ e. absurd (false≢true e)), λ e. no_directions c.requires (segment_of c.args.g) c.if-cells-y-ne1.true)
+    record { where_true = λ e. absurd (false≢true e); where_false = λ e. no_directions c.requires (segment_of c.args.g) c.if-cells-y-ne1.true }
 
 pub is_far-requires : goal.is_far-requires
 is_far-requires c = in_limits c.requires
@@ -27,11 +27,11 @@ is_far-requires c = in_limits c.requires
 pub returns-then-is_far : goal.returns-then-is_far
 returns-then-is_far c =
     let a = c.args in
-    ((λ e. absurd (false≢true e)), λ e. far-directions a.width a.height a.cells.now (segment_of a.g) a.x a.y (c.is_far.ensures c.if-is_far.true))
+    record { where_true = λ e. absurd (false≢true e); where_false = λ e. far-directions a.width a.height a.cells.now (segment_of a.g) a.x a.y (c.is_far.ensures c.if-is_far.true) }
 
 pub returns-then-walks_south : goal.returns-then-walks_south
 returns-then-walks_south c =
-    ((λ e. walks c.requires c.if-cells-y-ne1.false), λ e. absurd (true≢false e))
+    record { where_true = λ e. walks c.requires c.if-cells-y-ne1.false; where_false = λ e. absurd (true≢false e) }
 
 pub is_far_eastward-requires : goal.is_far_eastward-requires
 is_far_eastward-requires c =
@@ -40,4 +40,4 @@ is_far_eastward-requires c =
 pub returns : goal.returns
 returns c =
     let a = c.args in
-    ((λ e. walks c.requires c.if-cells-y-ne1.false), λ e. east-directions a.width a.height a.cells.now (segment_of a.g) a.x a.y (sym c.walks_south.ensures ∙ c.if-walks_south.false) (c.is_far_eastward.ensures (not-false _ e)))
+    record { where_true = λ e. walks c.requires c.if-cells-y-ne1.false; where_false = λ e. east-directions a.width a.height a.cells.now (segment_of a.g) a.x a.y (sym c.walks_south.ensures ∙ c.if-walks_south.false) (c.is_far_eastward.ensures (not-false _ e)) }

@@ -5,7 +5,7 @@ use Rattle.cut_steps.proofs.cell.is_there.Goals as goal
 
 pub is_inside-requires : goal.is_inside-requires
 is_inside-requires c =
-    (grid-nearby c.requires.0.0 c.args.dx c.args.dy c.requires.1.0 c.requires.1.1, not-inner)
+    record { nearby = grid-nearby c.requires.asked.0 c.args.dx c.args.dy c.requires.near.0 c.requires.near.1; inner_cell = not-inner }
 
 pub returns-then-not-is_inside : goal.returns-then-not-is_inside
 returns-then-not-is_inside c =
@@ -14,7 +14,7 @@ returns-then-not-is_inside c =
 
 pub is_step-requires : goal.is_step-requires
 is_step-requires c =
-    grid-stepping c.pre.0.0 c.args.dx c.args.dy c.pre.1.0 c.pre.1.1 (c.is_inside.ensures.0 (not-false _ c.if-not-is_inside.false-raw)) c.pre.0.1
+    grid-stepping c.requires.asked.0 c.args.dx c.args.dy c.requires.near.0 c.requires.near.1 (c.is_inside.ensures.0 (not-false _ c.if-not-is_inside.false-raw)) c.requires.asked.1
 
 pub returns : goal.returns
 returns c = c.is_step.ensures

@@ -8,7 +8,7 @@ use Rattle.cut_steps.proofs.cell.steps_onward.Goals as goal
 pub steps_inside-requires : goal.steps_inside-requires
 steps_inside-requires c =
     let a = c.args in
-    (c.requires, tests a.x a.width a.y a.height c.if-x-width.true)
+    record { asked = c.requires; inside = tests a.x a.width a.y a.height c.if-x-width.true }
 
 pub returns-then-x-width : goal.returns-then-x-width
 returns-then-x-width c = c.steps_inside.ensures

@@ -7,15 +7,15 @@ use Rattle.desk_checks.proofs.shared.prepare_shared.Goals as goal
 
 pub divide-requires : goal.divide-requires
 divide-requires c =
-    early-fits _ _ _ _ _ _ _ _ _ _ _ _ (sym (says c.checks_before-check.ensures c.enum_told-1.given.1))
+    early-fits _ _ _ _ _ _ _ _ _ _ _ _ (sym (says c.checks_before-check.ensures c.in-Fit.is))
 
 pub returns-in-Refused : goal.returns-in-Refused
-returns-in-Refused c = λ s long. refused-early _ _ _ _ _ _ _ _ _ _ _ (says c.checks_before-check.ensures c.check-1.given.1) s
+returns-in-Refused c = λ s long. refused-early _ _ _ _ _ _ _ _ _ _ _ (says c.checks_before-check.ensures c.in-Refused.is) s
 
 pub returns-in-Fit : goal.returns-in-Fit
 returns-in-Fit c =
-    let last = c.divide.new.1.1.1.1.1 in
+    let last = c.divide.new in
     let args = c.args in
     divided_shared _ _ _ _ args.labels.now args.masks.now args.queue.now args.tallies.now args.pairs.now
-    (says c.checks_before-check.ensures c.enum_told-1.given.1) args.room c.divide.result
-    last.0 last.1.0 last.1.1.0 last.1.1.1.0 last.1.1.1.1.0 c.divide.ensures.0
+    (says c.checks_before-check.ensures c.in-Fit.is) args.room c.divide.result
+    last.labels last.masks last.queue last.tallies last.pairs c.divide.ensures.divided

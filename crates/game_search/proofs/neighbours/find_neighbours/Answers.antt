@@ -6,7 +6,7 @@ pub join_selves-requires : goal.join_selves-requires
 join_selves-requires c = c.requires.1
 
 pub loop-k-init : goal.loop-k-init
-loop-k-init c = joined_none _ _ _ c.join_selves.ensures.1 c.join_selves.ensures.0
+loop-k-init c = joined_none _ _ _ c.join_selves.ensures.near_length c.join_selves.ensures.joined
 
 pub join_pair-requires : goal.join_pair-requires
 join_pair-requires c =
@@ -14,7 +14,11 @@ join_pair-requires c =
 
 pub loop-k-preserved : goal.loop-k-preserved
 loop-k-preserved c =
-    joined_more _ _ _ _ _ c.loop-k.invariant c.loop-k-test.true c.join_pair.ensures.1 c.join_pair.ensures.0
+    joined_more _ _ _ _ _ c.loop-k.invariant c.loop-k-test.true c.join_pair.ensures.near_length c.join_pair.ensures.joined
 
 pub returns : goal.returns
-returns c = (λ goal. joined-near _ _ _ _ goal c.loop-k.invariant c.loop-k-test.false, c.loop-k.invariant.long)
+returns c =
+    record {
+      near = λ goal. joined-near _ _ _ _ goal c.loop-k.invariant c.loop-k-test.false;
+      near_length = c.loop-k.invariant.long;
+    }

@@ -13,4 +13,7 @@ loop-i-preserved c =
 pub returns : goal.returns
 returns c =
     let end = c.loop-i.invariant in
-    (λ i j l m. end.bits i j (omega (arith, c.loop-i-test.false)) m, end.long)
+    record {
+      joined = λ i j l m. end.bits i j (omega (arith, c.loop-i-test.false)) m;
+      near_length = end.long;
+    }

@@ -63,7 +63,7 @@ returns-then-count-k c =
     let larger : List ℕ = c.args.larger.now in
     let counts : List ℕ = c.args.counts.now in
     let marks : List ℕ = c.args.marks.now in
-    let free : mark_at (marks c.args.r ≡ false = bit-other (mark_at marks c.args.r) (λ e. c.if-anchored_bit-eq1.false (c.anchored_bit.ensures ∙ e)) in
+    let free : mark_at marks c.args.r ≡ false = bit-other (mark_at marks c.args.r) (λ e. c.if-anchored_bit-eq1.false (c.anchored_bit.ensures ∙ e)) in
     other_length boundaries smaller larger marks counts c.args.r c.args.count c.if-counts-r-ne3.false free
     (less_found (is_pocket_port smaller larger c.args.r boundaries) c.args.count c.next_port-i.ensures c.next_port-j.ensures c.next_port-k.ensures c.if-count-k.true)
 
@@ -82,7 +82,7 @@ returns-then-next_port-count c =
     let larger : List ℕ = c.args.larger.now in
     let counts : List ℕ = c.args.counts.now in
     let marks : List ℕ = c.args.marks.now in
-    let free : mark_at (marks c.args.r ≡ false = bit-other (mark_at marks c.args.r) (λ e. c.if-anchored_bit-eq1.false (c.anchored_bit.ensures ∙ e)) in
+    let free : mark_at marks c.args.r ≡ false = bit-other (mark_at marks c.args.r) (λ e. c.if-anchored_bit-eq1.false (c.anchored_bit.ensures ∙ e)) in
     other_length boundaries smaller larger marks counts c.args.r c.args.count c.if-counts-r-ne3.false free
     (more_found (is_pocket_port smaller larger c.args.r boundaries) c.args.count c.next_port-i.ensures c.next_port-j.ensures c.next_port-k.ensures c.next_port.ensures c.if-count-k.false c.if-next_port-count.true)
 
@@ -108,7 +108,7 @@ returns c =
     let larger : List ℕ = c.args.larger.now in
     let counts : List ℕ = c.args.counts.now in
     let marks : List ℕ = c.args.marks.now in
-    let free : mark_at (marks c.args.r ≡ false = bit-other (mark_at marks c.args.r) (λ e. c.if-anchored_bit-eq1.false (c.anchored_bit.ensures ∙ e)) in
+    let free : mark_at marks c.args.r ≡ false = bit-other (mark_at marks c.args.r) (λ e. c.if-anchored_bit-eq1.false (c.anchored_bit.ensures ∙ e)) in
     of_three boundaries smaller larger marks counts c.args.r c.args.count c.if-counts-r-ne3.false free _ _ _
     (three-found (is_pocket_port smaller larger c.args.r boundaries) c.args.count c.next_port-i.ensures c.next_port-j.ensures c.next_port-k.ensures c.next_port.ensures c.if-count-k.false c.if-next_port-count.false)
     c.bridge_of_three.ensures

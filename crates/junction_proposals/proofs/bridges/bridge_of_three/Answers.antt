@@ -26,11 +26,20 @@ returns-then-is_shared c = chosen _ c.is_shared.ensures c.if-is_shared.true c.pi
 
 pub is_shared-requires-2 : goal.is_shared-requires-2
 is_shared-requires-2 c =
-    (((c.requires.boundaries_lent.few, c.requires.marks_room), (c.requires.pairs_lent, (c.requires.i_is_port, (c.requires.k_is_port, c.requires.j_is_port)))))
+    record {
+      sizes = (c.requires.boundaries_lent.few, c.requires.marks_room);
+      pairs_lent = c.requires.pairs_lent;
+      i_is_port = c.requires.i_is_port;
+      k_is_port = c.requires.k_is_port;
+      t_is_port = c.requires.j_is_port;
+    }
 
 pub pick_bridge-requires-then-is_shared-2 : goal.pick_bridge-requires-then-is_shared-2
 pick_bridge-requires-then-is_shared-2 c =
-    (c.requires.boundaries_lent, (c.requires.i_is_port.below, (c.requires.k_is_port.below, c.requires.j_is_port.below)))
+    record {
+      boundaries_lent = c.requires.boundaries_lent;
+      places = (c.requires.i_is_port.below, (c.requires.k_is_port.below, c.requires.j_is_port.below));
+    }
 
 pub returns-then-is_shared-2 : goal.returns-then-is_shared-2
 unfolding bridge_of_three
@@ -39,11 +48,20 @@ returns-then-is_shared-2 c =
 
 pub is_shared-requires-3 : goal.is_shared-requires-3
 is_shared-requires-3 c =
-    (((c.requires.boundaries_lent.few, c.requires.marks_room), (c.requires.pairs_lent, (c.requires.j_is_port, (c.requires.k_is_port, c.requires.i_is_port)))))
+    record {
+      sizes = (c.requires.boundaries_lent.few, c.requires.marks_room);
+      pairs_lent = c.requires.pairs_lent;
+      i_is_port = c.requires.j_is_port;
+      k_is_port = c.requires.k_is_port;
+      t_is_port = c.requires.i_is_port;
+    }
 
 pub pick_bridge-requires-then-is_shared-3 : goal.pick_bridge-requires-then-is_shared-3
 pick_bridge-requires-then-is_shared-3 c =
-    (c.requires.boundaries_lent, (c.requires.j_is_port.below, (c.requires.k_is_port.below, c.requires.i_is_port.below)))
+    record {
+      boundaries_lent = c.requires.boundaries_lent;
+      places = (c.requires.j_is_port.below, (c.requires.k_is_port.below, c.requires.i_is_port.below));
+    }
 
 pub returns-then-is_shared-3 : goal.returns-then-is_shared-3
 unfolding bridge_of_three

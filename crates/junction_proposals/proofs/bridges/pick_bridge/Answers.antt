@@ -11,18 +11,27 @@ is_twice_as_wide-requires c = record {
     }
 
 pub bridge_if_near-requires : goal.bridge_if_near-requires
-bridge_if_near-requires c = c.requires
+bridge_if_near-requires c = record {
+      boundaries_lent = c.requires.boundaries_lent;
+      places = c.requires.places;
+    }
 
 pub returns-then-is_twice_as_wide : goal.returns-then-is_twice_as_wide
 unfolding pick_at
 returns-then-is_twice_as_wide c = chosen _ c.is_twice_as_wide.ensures c.if-is_twice_as_wide.true c.bridge_if_near.ensures
 
 pub is_twice_as_wide-requires-2 : goal.is_twice_as_wide-requires-2
-is_twice_as_wide-requires-2 c = (c.requires.boundaries_lent, (c.requires.places.1.0, c.requires.places.0))
+is_twice_as_wide-requires-2 c = record {
+      boundaries_lent = c.requires.boundaries_lent;
+      places = (c.requires.places.1.0, c.requires.places.0);
+    }
 
 pub bridge_if_near-requires-then-is_twice_as_wide-2 : goal.bridge_if_near-requires-then-is_twice_as_wide-2
 bridge_if_near-requires-then-is_twice_as_wide-2 c =
-    (c.requires.boundaries_lent, (c.requires.places.1.0, (c.requires.places.0, c.requires.places.1.1)))
+    record {
+      boundaries_lent = c.requires.boundaries_lent;
+      places = (c.requires.places.1.0, (c.requires.places.0, c.requires.places.1.1));
+    }
 
 pub returns-then-is_twice_as_wide-2 : goal.returns-then-is_twice_as_wide-2
 unfolding pick_at

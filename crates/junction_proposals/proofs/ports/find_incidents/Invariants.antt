@@ -8,7 +8,7 @@ use Rattle.junction_proposals.proofs.ports.find_incidents.Given as goal
 
 abbrev pub invariant-loop-j : goal.invariant-loop-j
 invariant-loop-j l =
-    (l.j ≤ l.count) × ((length l.incidents ≡ 256) × Listed l.smaller l.larger l.j (record { l.lo = l.lo; l.hi = l.hi }) l.incidents l.n)
+    (l.j ≤ l.count) × ((length l.incidents ≡ 256) × Listed l.smaller l.larger l.j (record { lo = l.lo; hi = l.hi }) l.incidents l.n)
 
 abbrev pub decreases-loop-j : goal.decreases-loop-j
 decreases-loop-j l = l.count - l.j

@@ -8,7 +8,7 @@ use Rattle.junction_proposals.proofs.unions.has_three_exteriors.Given as goal
 
 abbrev pub invariant-loop-k : goal.invariant-loop-k
 invariant-loop-k l =
-    (l.k ≤ l.n) × Passed (names_either l.smaller l.larger (record { l.lo = l.lo; l.hi = l.hi })) (λ j. Surveyed l.smaller l.larger l.index (record { l.lo = l.lo; l.hi = l.hi }) j l.exteriors) l.k
+    (l.k ≤ l.n) × Passed (names_either l.smaller l.larger (record { lo = l.lo; hi = l.hi })) (λ j. Surveyed l.smaller l.larger l.index (record { lo = l.lo; hi = l.hi }) j l.exteriors) l.k
 
 abbrev pub decreases-loop-k : goal.decreases-loop-k
 decreases-loop-k l = l.n - l.k

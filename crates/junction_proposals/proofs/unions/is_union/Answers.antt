@@ -65,7 +65,7 @@ returns-then-anchored-ge2 c =
     let larger : List ℕ = c.args.larger.now in
     let counts : List ℕ = c.args.counts.now in
     let marks : List ℕ = c.args.marks.now in
-    let without-ramp : no_ramp_at (boundaries c.args.index ≡ true = ap (λ k. eqb k 0) (sym c.kind_at.ensures) ∙ eq-eqb _ 0 c.if-kind_at-ne0.false in
+    let without-ramp : no_ramp_at boundaries c.args.index ≡ true = ap (λ k. eqb k 0) (sym c.kind_at.ensures) ∙ eq-eqb _ 0 c.if-kind_at-ne0.false in
     both-anchored boundaries smaller larger counts marks c.args.count c.args.index c.if-lo-eq0.false without-ramp (omega (arith, c.if-anchored-ge2.true, c.anchored_bit-2.ensures, c.anchored_bit.ensures))
 
 pub has_few_incidents-requires : goal.has_few_incidents-requires
@@ -76,10 +76,10 @@ has_few_incidents-requires c =
     let lo : ℕ = get_or smaller c.args.index 0 in
     let hi : ℕ = get_or larger c.args.index 0 in
     let named : (lo ≡ 0 → ⊥) → (1 ≤ lo) × ((lo < hi) × (hi ≤ c.args.regions)) = λ e. (omega arith, c.requires.lent.pairs.named c.args.index c.requires.index_within (omega arith)) in
-    let pair : lo ≡ 0 → ⊥ = c.if-lo-eq0.left in
+    let pair : lo ≡ 0 → ⊥ = c.if-lo-eq0.false in
     let counted : ((1 ≤ lo) × (lo ≤ length counts)) × ((1 ≤ hi) × (hi ≤ length counts)) = let n = named pair in
     ((n.0, omega (arith, n, c.requires.lent.counts_long)), (omega (arith, n), omega (arith, n, c.requires.lent.counts_long))) in
-    counted
+    record { lo_named = counted.0; hi_named = counted.1; }
 
 pub returns-then-has_few_incidents : goal.returns-then-has_few_incidents
 returns-then-has_few_incidents c =
@@ -91,11 +91,11 @@ returns-then-has_few_incidents c =
     let lo : ℕ = get_or smaller c.args.index 0 in
     let hi : ℕ = get_or larger c.args.index 0 in
     let union : Pair = record { lo = lo; hi = hi } in
-    let without-ramp : no_ramp_at (boundaries c.args.index ≡ true = ap (λ k. eqb k 0) (sym c.kind_at.ensures) ∙ eq-eqb _ 0 c.if-kind_at-ne0.false in
-    let pair : lo ≡ 0 → ⊥ = c.if-lo-eq0.left in
+    let without-ramp : no_ramp_at boundaries c.args.index ≡ true = ap (λ k. eqb k 0) (sym c.kind_at.ensures) ∙ eq-eqb _ 0 c.if-kind_at-ne0.false in
+    let pair : lo ≡ 0 → ⊥ = c.if-lo-eq0.false in
     let plain : no_ramp_at boundaries c.args.index ≡ true = without-ramp in
     let marked : c.anchored_bit.result + c.anchored_bit-2.result ≡ marks_of marks union = ap₂ ◌+◌ c.anchored_bit.ensures c.anchored_bit-2.ensures in
-    let anchored : marks_of marks union < 2 = omega (arith, c.if-anchored-ge2.left, marked) in
+    let anchored : marks_of marks union < 2 = omega (arith, c.if-anchored-ge2.false, marked) in
     few-incidents boundaries smaller larger counts marks c.args.count c.args.index pair plain anchored c.requires.index_within
     (ltb-true _ 5 (sym c.has_few_incidents.ensures ∙ c.if-has_few_incidents.true))
 
@@ -107,7 +107,7 @@ ports_fit-requires c =
     let lo : ℕ = get_or smaller c.args.index 0 in
     let hi : ℕ = get_or larger c.args.index 0 in
     let named : (lo ≡ 0 → ⊥) → (1 ≤ lo) × ((lo < hi) × (hi ≤ c.args.regions)) = λ e. (omega arith, c.requires.lent.pairs.named c.args.index c.requires.index_within (omega arith)) in
-    let pair : lo ≡ 0 → ⊥ = c.if-lo-eq0.left in
+    let pair : lo ≡ 0 → ⊥ = c.if-lo-eq0.false in
     let counted : ((1 ≤ lo) × (lo ≤ length counts)) × ((1 ≤ hi) × (hi ≤ length counts)) = let n = named pair in
     ((n.0, omega (arith, n, c.requires.lent.counts_long)), (omega (arith, n), omega (arith, n, c.requires.lent.counts_long))) in
     record {
@@ -127,11 +127,11 @@ returns-then-not-ports_fit c =
     let lo : ℕ = get_or smaller c.args.index 0 in
     let hi : ℕ = get_or larger c.args.index 0 in
     let union : Pair = record { lo = lo; hi = hi } in
-    let without-ramp : no_ramp_at (boundaries c.args.index ≡ true = ap (λ k. eqb k 0) (sym c.kind_at.ensures) ∙ eq-eqb _ 0 c.if-kind_at-ne0.false in
-    let pair : lo ≡ 0 → ⊥ = c.if-lo-eq0.left in
+    let without-ramp : no_ramp_at boundaries c.args.index ≡ true = ap (λ k. eqb k 0) (sym c.kind_at.ensures) ∙ eq-eqb _ 0 c.if-kind_at-ne0.false in
+    let pair : lo ≡ 0 → ⊥ = c.if-lo-eq0.false in
     let plain : no_ramp_at boundaries c.args.index ≡ true = without-ramp in
     let marked : c.anchored_bit.result + c.anchored_bit-2.result ≡ marks_of marks union = ap₂ ◌+◌ c.anchored_bit.ensures c.anchored_bit-2.ensures in
-    let anchored : marks_of marks union < 2 = omega (arith, c.if-anchored-ge2.left, marked) in
+    let anchored : marks_of marks union < 2 = omega (arith, c.if-anchored-ge2.false, marked) in
     is_unfit_lem boundaries smaller larger counts marks c.args.count c.args.index pair plain anchored c.ports_fit.ensures c.if-not-ports_fit.true-raw
 
 pub returns-then-not-has_three_exteriors : goal.returns-then-not-has_three_exteriors
@@ -144,11 +144,11 @@ returns-then-not-has_three_exteriors c =
     let lo : ℕ = get_or smaller c.args.index 0 in
     let hi : ℕ = get_or larger c.args.index 0 in
     let union : Pair = record { lo = lo; hi = hi } in
-    let without-ramp : no_ramp_at (boundaries c.args.index ≡ true = ap (λ k. eqb k 0) (sym c.kind_at.ensures) ∙ eq-eqb _ 0 c.if-kind_at-ne0.false in
-    let pair : lo ≡ 0 → ⊥ = c.if-lo-eq0.left in
+    let without-ramp : no_ramp_at boundaries c.args.index ≡ true = ap (λ k. eqb k 0) (sym c.kind_at.ensures) ∙ eq-eqb _ 0 c.if-kind_at-ne0.false in
+    let pair : lo ≡ 0 → ⊥ = c.if-lo-eq0.false in
     let plain : no_ramp_at boundaries c.args.index ≡ true = without-ramp in
     let marked : c.anchored_bit.result + c.anchored_bit-2.result ≡ marks_of marks union = ap₂ ◌+◌ c.anchored_bit.ensures c.anchored_bit-2.ensures in
-    let anchored : marks_of marks union < 2 = omega (arith, c.if-anchored-ge2.left, marked) in
+    let anchored : marks_of marks union < 2 = omega (arith, c.if-anchored-ge2.false, marked) in
     too_few boundaries smaller larger counts marks c.args.count c.args.index pair plain anchored c.ports_fit.ensures c.if-not-ports_fit.false-raw c.has_three_exteriors.ensures c.if-not-has_three_exteriors.true-raw
 
 pub ports_pass-requires : goal.ports_pass-requires
@@ -169,10 +169,10 @@ returns c =
     let lo : ℕ = get_or smaller c.args.index 0 in
     let hi : ℕ = get_or larger c.args.index 0 in
     let union : Pair = record { lo = lo; hi = hi } in
-    let without-ramp : no_ramp_at (boundaries c.args.index ≡ true = ap (λ k. eqb k 0) (sym c.kind_at.ensures) ∙ eq-eqb _ 0 c.if-kind_at-ne0.false in
-    let pair : lo ≡ 0 → ⊥ = c.if-lo-eq0.left in
+    let without-ramp : no_ramp_at boundaries c.args.index ≡ true = ap (λ k. eqb k 0) (sym c.kind_at.ensures) ∙ eq-eqb _ 0 c.if-kind_at-ne0.false in
+    let pair : lo ≡ 0 → ⊥ = c.if-lo-eq0.false in
     let plain : no_ramp_at boundaries c.args.index ≡ true = without-ramp in
     let marked : c.anchored_bit.result + c.anchored_bit-2.result ≡ marks_of marks union = ap₂ ◌+◌ c.anchored_bit.ensures c.anchored_bit-2.ensures in
-    let anchored : marks_of marks union < 2 = omega (arith, c.if-anchored-ge2.left, marked) in
+    let anchored : marks_of marks union < 2 = omega (arith, c.if-anchored-ge2.false, marked) in
     by_ports boundaries smaller larger counts marks c.args.count c.args.index pair plain anchored c.ports_fit.ensures c.if-not-ports_fit.false-raw c.has_three_exteriors.ensures c.if-not-has_three_exteriors.false-raw
     (c.ports_pass.ensures ∙ ap (λ n. ports_pass boundaries smaller larger c.args.count c.args.index union (eqb n 1)) marked)

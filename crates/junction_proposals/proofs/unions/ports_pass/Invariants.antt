@@ -14,7 +14,7 @@ passing boundaries smaller larger index lo hi one j = not (is_port smaller large
 
 abbrev pub invariant-loop-k : goal.invariant-loop-k
 invariant-loop-k l =
-    (l.k ≤ l.n) × Passed (names_either l.smaller l.larger (record { l.lo = l.lo; l.hi = l.hi })) (λ j. all_below j (passing l.boundaries l.smaller l.larger l.index l.lo l.hi l.one) ≡ true) l.k
+    (l.k ≤ l.n) × Passed (names_either l.smaller l.larger (record { lo = l.lo; hi = l.hi })) (λ j. all_below j (passing l.boundaries l.smaller l.larger l.index l.lo l.hi l.one) ≡ true) l.k
 
 abbrev pub decreases-loop-k : goal.decreases-loop-k
 decreases-loop-k l = l.n - l.k

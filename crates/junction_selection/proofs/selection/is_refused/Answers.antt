@@ -8,12 +8,12 @@ use Rattle.junction_selection.proofs.selection.is_refused.Goals as goal
 
 pub bounds-reserved-index : goal.bounds-reserved-index
 bounds-reserved-index c =
-    omega (arith, c.wide-index.ensures, c.requires.selecting.below c.args.p c.requires.places.1, c.requires.selecting.reserved-long)
+    omega (arith, c.wide-index.ensures, c.requires.selecting.below c.args.p c.requires.places.1, c.requires.selecting.reserved_long)
 
 pub port_taken-ports-requires : goal.port_taken-ports-requires
 port_taken-ports-requires c =
     let h = c.requires.selecting in
-    record { whole = omega (arith, h.whole, c.requires.places.1); small = h.small; removed-long = h.removed-long; reserved_long = h.reserved-long; index_in = h.below c.args.p c.requires.places.1 }
+    record { whole = omega (arith, h.whole, c.requires.places.1); small = h.small; removed-long = h.removed-long; reserved_long = h.reserved_long; index_in = h.below c.args.p c.requires.places.1 }
 
 pub region_taken-requires : goal.region_taken-requires
 region_taken-requires c =

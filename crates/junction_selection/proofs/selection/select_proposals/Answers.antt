@@ -15,8 +15,8 @@ select_ranked-requires c =
     let h = c.requires in
     let r = c.rank_proposals-m.ensures in record {
       selecting = record { few = h.few; whole = h.whole; small = h.small; removed-long = h.removed-long; reserved_long = h.small; room = omega arith; below = h.below };
-      sizes = (r.0.1, omega (arith, r.0.1, h.few, c.rank_proposals-m.auto.order));
-      listed = r.0.0;
+      sizes = (r.listed_then.1, omega (arith, r.listed_then.1, h.few, c.rank_proposals-m.auto.order));
+      listed = r.listed_then.0;
       removed_clear = h.clear;
       reserved_clear = λ j l. none_set 256 j;
     }

@@ -33,14 +33,14 @@ loop-k-preserved c =
     let a = c.take_if_free-t in (
       omega (arith, c.loop-k-test.true),
       (
-        omega (arith, a.ensures.1, i.1.0),
+        omega (arith, a.ensures.bound, i.1.0),
         (
-          a.auto.1.1.1.0 ∙ i.1.1.0,
+          a.auto.removed ∙ i.1.1.0,
           (
-            a.auto.1.1.1.1.0 ∙ i.1.1.1.0,
+            a.auto.reserved ∙ i.1.1.1.0,
             (
-              a.auto.1.1.1.1.1.0 ∙ i.1.1.1.1.0,
-              standing_as (a.ensures.0 _ i.1.1.1.1.1)
+              a.auto.taken ∙ i.1.1.1.1.0,
+              standing_as (a.ensures.standing _ i.1.1.1.1.1)
                   (ap (λ p. grown (conflict_at c.args.smaller.now c.args.larger.now c.args.count) (selected_of c.args.smaller.now c.args.larger.now c.args.rows.now c.args.order.now c.args.count c.loop-k.k) (row_at c.args.rows.now p)) c.wide-p.ensures
                   ∙ sym (selected_next c.args.smaller.now c.args.larger.now c.args.rows.now c.args.order.now c.args.count c.loop-k.k)),
             ),
@@ -60,5 +60,5 @@ shape_of-taken c = c.loop-k.invariant.1.1.1.1.0
 
 pub returns : goal.returns
 returns c j h =
-    c.loop-k.invariant.1.1.1.1.1.removed-at j h
+    c.loop-k.invariant.1.1.1.1.1.removed_at_lem j h
     ∙ ap (λ k. any (λ q. eqb j q.index) (selected_of c.args.smaller.now c.args.larger.now c.args.rows.now c.args.order.now c.args.count k)) (le_antisymm c.loop-k.invariant.0 c.loop-k-test.false)

@@ -24,7 +24,7 @@ bounds-removed-index c =
 
 pub reserve_ports-requires : goal.reserve_ports-requires
 reserve_ports-requires c =
-    (omega (arith, c.requires.selecting.whole, c.requires.places), (c.requires.selecting.small, c.requires.selecting.reserved-long))
+    (omega (arith, c.requires.selecting.whole, c.requires.places), (c.requires.selecting.small, c.requires.selecting.reserved_long))
 
 pub overflow_cast-taken : goal.overflow_cast-taken
 overflow_cast-taken c =

@@ -12,60 +12,54 @@ use Rattle.mouth_proposals.proofs.candidates.push_mouth.Goals as goal
 
 pub separation_of-separation-requires : goal.separation_of-separation-requires
 separation_of-separation-requires c =
-    (placed_at c.requires.0 c.requires.1.1.1.0, placed_at c.requires.0 c.requires.1.1.1.1)
+    (placed_at c.requires.shown c.requires.places.1.0, placed_at c.requires.shown c.requires.places.1.1)
 
 pub bits_of-requires : goal.bits_of-requires
 bits_of-requires c =
-    let L = c.pre.0 in
+    let L = c.requires.shown in
     separation-number L.context c.args.m c.args.a
-    (c.separation_of-separation.ensures L.context L.shows.bounds (below L.shows.counted c.pre.1.1.1.0) (below L.shows.counted c.pre.1.1.1.1))
+    (c.separation_of-separation.ensures L.context L.shows.bounds (below L.shows.counted c.requires.places.1.0) (below L.shows.counted c.requires.places.1.1))
 
 pub put_candidate-requires : goal.put_candidate-requires
 put_candidate-requires c =
-    let L = c.pre.0 in
-    (c.pre.1.1.0, (omega (arith, c.pre.1.1.1.0, L.shows.counted, L.shows.bounds.few), omega (arith, c.pre.1.1.1.1, L.shows.counted, L.shows.bounds.few)))
+    let L = c.requires.shown in
+    (c.requires.places.0, (omega (arith, c.requires.places.1.0, L.shows.counted, L.shows.bounds.few), omega (arith, c.requires.places.1.1, L.shows.counted, L.shows.bounds.few)))
 
 pub overflow_add-result : goal.overflow_add-result
 overflow_add-result c =
-    omega (arith, c.pre.1.1.0)
+    omega (arith, c.requires.places.0)
 
 pub returns-in-None : goal.returns-in-None
 returns-in-None c =
-    let L = c.requires.0 in (
-      (omega arith, omega arith),
-      (
-        c.requires.1.0,
-        λ C l S T ramp cut E F.
-            filled_none F (none_found C c.args.a c.args.m (sym (ap (candidate_form C c.args.m c.args.a) c.enum_told-1.given.1) ∙ c.mouth_candidate.ensures C S T ramp cut E)),
-      ),
-    )
+    let L = c.requires.shown in record {
+      bound = (omega arith, omega arith);
+      still_roomy = c.requires.roomy;
+      filled = λ C l S T ramp cut E F.
+          filled_none F (none_found C c.args.a c.args.m (sym (ap (candidate_form C c.args.m c.args.a) c.in-None.is) ∙ c.mouth_candidate.ensures C S T ramp cut E));
+    }
 
 pub returns-then-is_close : goal.returns-then-is_close
 returns-then-is_close c =
-    let L = c.requires.0 in (
-      (omega arith, omega arith),
-      (
-        roomy-put c.requires.1.0 c.put_candidate.ensures,
-        λ C l S T ramp cut E F.
-            let lm = below S.counted c.requires.1.1.1.0 in
-            let la = below S.counted c.requires.1.1.1.1 in
-            let e = sym (ap (candidate_form C c.args.m c.args.a) c.outer-1.given.1) ∙ c.mouth_candidate.ensures C S T ramp cut E in
-            let d = c.separation_of-separation.ensures C S.bounds lm la in
-            filled_more C c.args.m c.args.a F c.requires.1.0 c.put_candidate.ensures c.requires.1.1.0 lm la (outer-inside C c.args.a c.args.m (S.rows.named c.args.m lm) _ _ e)
-            (c.bits_of.ensures ∙ ap (to_bits binary64) d) (near-found C c.args.a c.args.m _ _ e (sym (ap (λ x. not (lt max_mouth_distance x)) d) ∙ sym c.is_close.ensures ∙ c.if-is_close.true)),
-      ),
-    )
+    let L = c.requires.shown in record {
+      bound = (omega arith, omega arith);
+      still_roomy = roomy-put c.requires.roomy c.put_candidate.ensures;
+      filled = λ C l S T ramp cut E F.
+          let lm = below S.counted c.requires.places.1.0 in
+          let la = below S.counted c.requires.places.1.1 in
+          let e = sym (ap (candidate_form C c.args.m c.args.a) c.in-Mouth.is) ∙ c.mouth_candidate.ensures C S T ramp cut E in
+          let d = c.separation_of-separation.ensures C S.bounds lm la in
+          filled_more C c.args.m c.args.a F c.requires.roomy c.put_candidate.ensures c.requires.places.0 lm la (outer-inside C c.args.a c.args.m (S.rows.named c.args.m lm) _ _ e)
+          (c.bits_of.ensures ∙ ap (to_bits binary64) d) (near-found C c.args.a c.args.m _ _ e (sym (ap (λ x. not (lt max_mouth_distance x)) d) ∙ sym c.is_close.ensures ∙ c.if-is_close.true));
+    }
 
 pub returns-else-is_close : goal.returns-else-is_close
 returns-else-is_close c =
-    let L = c.requires.0 in (
-      (omega arith, omega arith),
-      (
-        c.requires.1.0,
-        λ C l S T ramp cut E F.
-            let lm = below S.counted c.requires.1.1.1.0 in
-            let la = below S.counted c.requires.1.1.1.1 in
-            let e = sym (ap (candidate_form C c.args.m c.args.a) c.outer-1.given.1) ∙ c.mouth_candidate.ensures C S T ramp cut E in
-            filled_none F (far-found C c.args.a c.args.m _ _ e (sym (ap (λ x. not (lt max_mouth_distance x)) (c.separation_of-separation.ensures C S.bounds lm la)) ∙ sym c.is_close.ensures ∙ c.if-is_close.false)),
-      ),
-    )
+    let L = c.requires.shown in record {
+      bound = (omega arith, omega arith);
+      still_roomy = c.requires.roomy;
+      filled = λ C l S T ramp cut E F.
+          let lm = below S.counted c.requires.places.1.0 in
+          let la = below S.counted c.requires.places.1.1 in
+          let e = sym (ap (candidate_form C c.args.m c.args.a) c.in-Mouth.is) ∙ c.mouth_candidate.ensures C S T ramp cut E in
+          filled_none F (far-found C c.args.a c.args.m _ _ e (sym (ap (λ x. not (lt max_mouth_distance x)) (c.separation_of-separation.ensures C S.bounds lm la)) ∙ sym c.is_close.ensures ∙ c.if-is_close.false));
+    }

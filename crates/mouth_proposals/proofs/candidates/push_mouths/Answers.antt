@@ -2,7 +2,6 @@
 use native.Mathlib.Omega.{arith}
 use native.Mathlib.Nat.{le_antisymm}
 use mathlib.Core.Path.{sym, ap}
-use mathlib.Core.Bool.{true, false}
 use Rattle.definitions.specs.Scan.{collect}
 use Rattle.laws.specs.ListLaws.ScanSteps.{collect_next}
 use Rattle.mouth_proposals.specs.Candidates.{mouth_candidate}
@@ -12,22 +11,26 @@ use Rattle.mouth_proposals.proofs.candidates.push_mouths.Goals as goal
 
 pub loop-m-init : goal.loop-m-init
 loop-m-init c =
-    (search rules, (omega arith, (c.requires.1.0, λ C S T ramp cut E. filled-start (mouth_candidate C c.args.a))))
+    (search rules, (omega arith, (c.requires.roomy, λ C S T ramp cut E. filled-start (mouth_candidate C c.args.a))))
 
 pub push_mouth-n-requires : goal.push_mouth-n-requires
 push_mouth-n-requires c =
     let at = c.loop-m in
-    (c.requires.0, (at.invariant.1.1.0, (omega (arith, at.invariant.1.0, c.loop-m-test.true, c.requires.0.shows.bounds.few, c.requires.0.shows.counted), (c.loop-m-test.true, c.requires.1.1))))
+    record {
+      shown = c.requires.shown;
+      roomy = at.invariant.1.1.0;
+      places = (omega (arith, at.invariant.1.0, c.loop-m-test.true, c.requires.shown.shows.bounds.few, c.requires.shown.shows.counted), (c.loop-m-test.true, c.requires.place));
+    }
 
 pub loop-m-preserved : goal.loop-m-preserved
 loop-m-preserved c =
     let at = c.loop-m in (
       search rules,
       (
-        omega (arith, c.push_mouth-n.ensures.0.1, at.invariant.1.0),
+        omega (arith, c.push_mouth-n.ensures.bound.1, at.invariant.1.0),
         (
-          c.push_mouth-n.ensures.1.0,
-          λ C S T ramp cut E. filled_as (c.push_mouth-n.ensures.1.1 C (collect at.m (mouth_candidate C c.args.a)) S T ramp cut E (at.invariant.1.1.1 C S T ramp cut E)) (sym (collect_next (mouth_candidate C c.args.a) at.m)),
+          c.push_mouth-n.ensures.still_roomy,
+          λ C S T ramp cut E. filled_as (c.push_mouth-n.ensures.filled C (collect at.m (mouth_candidate C c.args.a)) S T ramp cut E (at.invariant.1.1.1 C S T ramp cut E)) (sym (collect_next (mouth_candidate C c.args.a) at.m)),
         ),
       ),
     )
@@ -35,10 +38,8 @@ loop-m-preserved c =
 pub returns : goal.returns
 returns c =
     let at = c.loop-m in
-    let same = le_antisymm at.invariant.0 c.loop-m-test.false in (
-      omega (arith, at.invariant.1.0, at.invariant.0, c.requires.0.shows.bounds.few, c.requires.0.shows.counted),
-      (
-        at.invariant.1.1.0,
-        λ C S T ramp cut E. filled_as (at.invariant.1.1.1 C S T ramp cut E) (ap (λ m. collect m (mouth_candidate C c.args.a)) same),
-      ),
-    )
+    let same = le_antisymm at.invariant.0 c.loop-m-test.false in record {
+      bound = omega (arith, at.invariant.1.0, at.invariant.0, c.requires.shown.shows.bounds.few, c.requires.shown.shows.counted);
+      still_roomy = at.invariant.1.1.0;
+      filled = λ C S T ramp cut E. filled_as (at.invariant.1.1.1 C S T ramp cut E) (ap (λ m. collect m (mouth_candidate C c.args.a)) same);
+    }

@@ -7,15 +7,18 @@ use Rattle.mouth_proposals.proofs.ends.find_other_ends.Goals as goal
 
 pub full_pair-requires : goal.full_pair-requires
 full_pair-requires c =
-    (c.requires.1.0, c.requires.1.1 c.args.a c.requires.0.1)
+    record {
+      tallies_room = c.requires.tallies_room;
+      stretch = c.requires.stretches c.args.a c.requires.sizes.1;
+    }
 
 pub returns-in-None : goal.returns-in-None
 returns-in-None c =
-    λ C n S T P. none_asked C c.args.a _ (sym (ap full_pair_of c.enum_told-1.given.1) ∙ c.full_pair.ensures C T P (below n c.requires.0.1))
+    λ C n S T P. none_asked C c.args.a _ (sym (ap full_pair_of c.in-None.is) ∙ c.full_pair.ensures C T P (below n c.requires.sizes.1))
 
 pub returns-in-Pair : goal.returns-in-Pair
 returns-in-Pair c =
     λ C n S T P.
-    both_found C c.args.a _ (sym (ap full_pair_of c.lo-1.given.1) ∙ c.full_pair.ensures C T P (below n c.requires.0.1))
+    both_found C c.args.a _ (sym (ap full_pair_of c.in-Pair.is) ∙ c.full_pair.ensures C T P (below n c.requires.sizes.1))
     (c.other_end_incident-at_lo.ensures C n S P)
     (c.other_end_incident-at_hi.ensures C n S P)

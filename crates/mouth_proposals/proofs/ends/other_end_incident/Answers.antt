@@ -2,8 +2,7 @@
 use Prim.Native.Nat.{◌<◌}
 use native.Mathlib.Nat.{le_antisymm}
 use mathlib.Core.Path.{refl, sym, ap, ap₂, ◌∙◌, subst}
-use mathlib.Core.Bool.{false, ◌&&◌}
-use mathlib.Core.Logic.{⊎_elim}
+use mathlib.Core.Bool.{◌&&◌}
 use Rattle.definitions.specs.Scan.{any_below_lem}
 use Rattle.definitions.specs.Context.{is_incident}
 use Rattle.definitions.specs.RampMouths.{other_end_incident}
@@ -12,6 +11,7 @@ use Rattle.laws.specs.ListLaws.ScanSteps.{any_none}
 use Rattle.mouth_proposals.proofs.OtherEnds.{is_other_end, other_end_is}
 use borrow.Author.Rules.{rules}
 use Rattle.mouth_proposals.proofs.ends.other_end_incident.Goals as goal
+use Rattle.mouth_proposals.proofs.ends.other_end_incident.Goals.{then-is_other_end+else-is_incident, else-is_other_end}
 
 pub loop-j-init : goal.loop-j-init
 unfolding any_below_lem
@@ -19,7 +19,7 @@ loop-j-init c = (search rules, λ C n S P. refl)
 
 pub is_incident-requires : goal.is_incident-requires
 is_incident-requires c =
-    c.requires.1 c.loop-j.j c.loop-j-test.true
+    c.requires.stretches c.loop-j.j c.loop-j-test.true
 
 pub returns-then-is_incident : goal.returns-then-is_incident
 unfolding other_end_incident
@@ -27,7 +27,7 @@ returns-then-is_incident c =
     let j = c.loop-j.j in
     λ C n S P.
     let hj : j < C.count = subst (λ k. j < k) (sym n) c.loop-j-test.true in
-    let ha : c.args.a < C.count = subst (λ k. c.args.a < k) (sym n) c.requires.0.1 in
+    let ha : c.args.a < C.count = subst (λ k. c.args.a < k) (sym n) c.requires.sizes.1 in
     sym (below_at C.count (is_other_end C c.args.a c.args.r) j hj
     (sym (other_end_is S j c.args.a c.args.r hj ha)
     ∙ ap₂ ◌&&◌ (sym c.is_other_end.ensures ∙ c.if-is_other_end.true) (sym (c.is_incident.ensures C P hj) ∙ c.if-is_incident.true)))
@@ -38,11 +38,13 @@ loop-j-preserved c =
       search rules,
       λ C n S P.
           let hj : j < C.count = subst (λ k. j < k) (sym n) c.loop-j-test.true in
-          let ha : c.args.a < C.count = subst (λ k. c.args.a < k) (sym n) c.requires.0.1 in
+          let ha : c.args.a < C.count = subst (λ k. c.args.a < k) (sym n) c.requires.sizes.1 in
           any_none (is_other_end C c.args.a c.args.r) j (c.loop-j.invariant.1 C n S P)
           (sym (other_end_is S j c.args.a c.args.r hj ha)
-          ∙ ⊎_elim (λ w. ap₂ ◌&&◌ (sym c.is_other_end.ensures ∙ w.0.taken) (sym (w.1.ensures C P hj) ∙ w.2.left))
-          (λ w. ap (λ b. b && is_incident C j c.args.r) (sym c.is_other_end.ensures ∙ w.left)) c.if-is_other_end.branch),
+          ∙ (elim c.if-is_other_end.branch [
+            | then-is_other_end+else-is_incident w ↦ ap₂ ◌&&◌ (sym c.is_other_end.ensures ∙ w.if-is_other_end.true) (sym (w.is_incident.ensures C P hj) ∙ w.if-is_incident.false)
+            | else-is_other_end w ↦ ap (λ b. b && is_incident C j c.args.r) (sym c.is_other_end.ensures ∙ w.if-is_other_end.false)
+          ])),
     )
 
 pub returns : goal.returns

@@ -7,26 +7,33 @@ use Rattle.mouth_proposals.proofs.mouths.approach_mouth.Goals as goal
 
 pub single_mouth-requires : goal.single_mouth-requires
 single_mouth-requires c =
-    let k = c.approach-1.given.1 in
-    let n = subst (Within (length c.args.counts.now)) k c.requires.1.1.0 in
-    let t = subst (Within (length c.args.marks.now)) k c.requires.1.1.1 in
-    (t.0, (t.1.0, (t.1.1, n.1.1)))
+    let k = c.in-Single.is in
+    let n = subst (Within (length c.args.counts.now)) k c.requires.approach_within.0 in
+    let t = subst (Within (length c.args.marks.now)) k c.requires.approach_within.1 in
+    record {
+      outer_named = t.0;
+      r_named = (t.1.0, (t.1.1, n.1.1));
+    }
 
 pub star_mouth-requires : goal.star_mouth-requires
 star_mouth-requires c =
-    let n = subst (Within (length c.args.counts.now)) c.approach-in-Star-1.given.1 c.requires.1.1.0 in
-    (c.requires.0, (c.requires.1.0, n.1))
+    let n = subst (Within (length c.args.counts.now)) c.in-Star.is c.requires.approach_within.0 in
+    record {
+      stretch = c.requires.stretch;
+      named_rows = c.requires.named_rows;
+      r_named = n.1;
+    }
 
 pub returns-in-None : goal.returns-in-None
 unfolding approach_mouth
 returns-in-None c =
     let s = c.args in
-    λ C a P I A l n e w o. ap (approach_mouth C s.m a) (sym c.enum_told-1.given.1)
+    λ C a P I A l n e w o. ap (approach_mouth C s.m a) (sym c.in-None.is)
 
 pub returns-in-Single : goal.returns-in-Single
 returns-in-Single c =
     let s = c.args in
-    let k = c.approach-1.given.1 in
+    let k = c.in-Single.is in
     λ C a P I A l n e w o.
     let h = subst (Within C.regions) k n in
     c.single_mouth.ensures C s.m a I A (h.0.1, h.1.1) (c.other_end_at-blocked.ensures ∙ subst (EndKnown C a s.ends) k e) w o ∙ ap (approach_mouth C s.m a) (sym k)
@@ -34,6 +41,6 @@ returns-in-Single c =
 pub returns-in-Star : goal.returns-in-Star
 returns-in-Star c =
     let s = c.args in
-    let k = c.approach-in-Star-1.given.1 in
+    let k = c.in-Star.is in
     λ C a P I A l n e w o.
     c.star_mouth.ensures C a P I A l (subst (Within C.regions) k n).1.1 (c.other_end_at-blocked-in-Star.ensures ∙ subst (EndKnown C a s.ends) k e) w o ∙ ap (approach_mouth C s.m a) (sym k)

@@ -1,7 +1,7 @@
 -- `mouths::inner_fit` meets its contract. The invariant: both regions of every row passed fit. Assumes nothing.
 use native.Mathlib.Nat.{le_antisymm}
 use mathlib.Core.Path.{sym, ap, ap₂, ◌∙◌}
-use mathlib.Core.Bool.{true, ◌&&◌}
+use mathlib.Core.Bool.{◌&&◌}
 use Rattle.definitions.specs.Scan.{all}
 use Rattle.context.specs.Shown.{pairs_between}
 use Rattle.mouth_proposals.specs.Outers.{inner_fits}
@@ -16,16 +16,16 @@ loop-k-init c = (search rules, (search rules, all_none _ _ _))
 
 pub row_at-p-requires : goal.row_at-p-requires
 row_at-p-requires c =
-    (c.requires.1 c.loop-k.k c.loop-k.invariant.0 c.loop-k-test.true).0.inside
+    (c.requires.named_rows c.loop-k.k c.loop-k.invariant.0 c.loop-k-test.true).0.inside
 
 pub region_fits-lo-requires : goal.region_fits-lo-requires
 region_fits-lo-requires c =
-    let n = c.requires.1 c.loop-k.k c.loop-k.invariant.0 c.loop-k-test.true in
+    let n = c.requires.named_rows c.loop-k.k c.loop-k.invariant.0 c.loop-k-test.true in
     named-lo c.row_at-p.ensures n.0 n.1
 
 pub region_fits-hi-requires : goal.region_fits-hi-requires
 region_fits-hi-requires c =
-    let n = c.requires.1 c.loop-k.k c.loop-k.invariant.0 c.loop-k-test.true in
+    let n = c.requires.named_rows c.loop-k.k c.loop-k.invariant.0 c.loop-k-test.true in
     named-hi c.row_at-p.ensures n.0 n.1
 
 pub returns-then-not-lo-hi : goal.returns-then-not-lo-hi

@@ -17,61 +17,64 @@ returns-then-kind_at-ne0 c =
     λ C S T ramp cut E.
     let m = c.args.m in
     let a = c.args.a in
-    let lm = below S.counted c.requires.1.0 in
-    let la = below S.counted c.requires.1.1 in
+    let lm = below S.counted c.requires.places.0 in
+    let la = below S.counted c.requires.places.1 in
     has_ramp_lem C a m ramp cut (kind-shown S.bounds m lm ∙ ap (λ k. eqb k 0) (sym c.kind_at.ensures) ∙ ne_eqb _ 0 c.if-kind_at-ne0.true)
 
 pub full_cut-requires : goal.full_cut-requires
 full_cut-requires c =
-    tallies_at c.requires.0 c.requires.1.0
+    tallies_at c.requires.shown c.requires.places.0
 
 pub returns-then-not-full_cut : goal.returns-then-not-full_cut
 returns-then-not-full_cut c =
     λ C S T ramp cut E.
     let m = c.args.m in
     let a = c.args.a in
-    let lm = below S.counted c.requires.1.0 in
-    let la = below S.counted c.requires.1.1 in
+    let lm = below S.counted c.requires.places.0 in
+    let la = below S.counted c.requires.places.1 in
     not_full C a m ramp cut (kind-shown S.bounds m lm ∙ ap (λ k. eqb k 0) (sym c.kind_at.ensures) ∙ eq-eqb _ 0 c.if-kind_at-ne0.false) (sym (c.full_cut.ensures C T lm) ∙ not-true _ c.if-not-full_cut.true-raw)
 
 pub triangle_representative-triangle-requires : goal.triangle_representative-triangle-requires
 triangle_representative-triangle-requires c =
-    (stretch_at c.requires.0 c.requires.1.0, stretch_at c.requires.0 c.requires.1.1)
+    (stretch_at c.requires.shown c.requires.places.0, stretch_at c.requires.shown c.requires.places.1)
 
 pub approach_of-approach-requires : goal.approach_of-approach-requires
 approach_of-approach-requires c =
-    (tallies_at c.pre.0 c.pre.1.1, (stretch_at c.pre.0 c.pre.1.0, stretch_at c.pre.0 c.pre.1.1))
+    record {
+      tallies_room = tallies_at c.requires.shown c.requires.places.1;
+      stretch = (stretch_at c.requires.shown c.requires.places.0, stretch_at c.requires.shown c.requires.places.1);
+    }
 
 pub returns-then-triangle-is_none : goal.returns-then-triangle-is_none
 returns-then-triangle-is_none c =
     λ C S T ramp cut E.
     let m = c.args.m in
     let a = c.args.a in
-    let lm = below S.counted c.requires.1.0 in
-    let la = below S.counted c.requires.1.1 in
+    let lm = below S.counted c.requires.places.0 in
+    let la = below S.counted c.requires.places.1 in
     let h = both (not c.triangle_representative-triangle.result) c.is_none.result c.if-triangle-is_none.true in
     no_shape C a m ramp cut (kind-shown S.bounds m lm ∙ ap (λ k. eqb k 0) (sym c.kind_at.ensures) ∙ eq-eqb _ 0 c.if-kind_at-ne0.false) (sym (c.full_cut.ensures C T lm) ∙ not-false _ c.if-not-full_cut.false-raw) (S.rows.named m lm) c.triangle_representative-triangle.result
     (triangle-shown S.rows m a lm la c.triangle_representative-triangle.result c.triangle_representative-triangle.ensures) c.approach_of-approach.result (c.approach_of-approach.ensures C T S.rows lm la) (not-true _ h.0) (c.is_none.ensures h.1)
 
 pub broad_mouth-wide-requires : goal.broad_mouth-wide-requires
 broad_mouth-wide-requires c =
-    (placed_at c.pre.0 c.pre.1.0, placed_at c.pre.0 c.pre.1.1)
+    (placed_at c.requires.shown c.requires.places.0, placed_at c.requires.shown c.requires.places.1)
 
 pub nearby_representative-nearby-requires : goal.nearby_representative-nearby-requires
 nearby_representative-nearby-requires c =
-    (placed_at c.pre.0 c.pre.1.0, placed_at c.pre.0 c.pre.1.1)
+    (placed_at c.requires.shown c.requires.places.0, placed_at c.requires.shown c.requires.places.1)
 
 pub overlay_representative-overlay-requires : goal.overlay_representative-overlay-requires
 overlay_representative-overlay-requires c =
-    (placed_at c.pre.0 c.pre.1.0, placed_at c.pre.0 c.pre.1.1)
+    (placed_at c.requires.shown c.requires.places.0, placed_at c.requires.shown c.requires.places.1)
 
 pub returns-then-not-wide-nearby : goal.returns-then-not-wide-nearby
 returns-then-not-wide-nearby c =
     λ C S T ramp cut E.
     let m = c.args.m in
     let a = c.args.a in
-    let lm = below S.counted c.requires.1.0 in
-    let la = below S.counted c.requires.1.1 in
+    let lm = below S.counted c.requires.places.0 in
+    let la = below S.counted c.requires.places.1 in
     too_far C a m ramp cut (kind-shown S.bounds m lm ∙ ap (λ k. eqb k 0) (sym c.kind_at.ensures) ∙ eq-eqb _ 0 c.if-kind_at-ne0.false) (sym (c.full_cut.ensures C T lm) ∙ not-false _ c.if-not-full_cut.false-raw) (S.rows.named m lm) c.triangle_representative-triangle.result
     (triangle-shown S.rows m a lm la c.triangle_representative-triangle.result c.triangle_representative-triangle.ensures) c.approach_of-approach.result (c.approach_of-approach.ensures C T S.rows lm la)
     c.broad_mouth-wide.result c.nearby_representative-nearby.result c.overlay_representative-overlay.result
@@ -79,22 +82,22 @@ returns-then-not-wide-nearby c =
 
 pub triangle_mouth-requires : goal.triangle_mouth-requires
 triangle_mouth-requires c =
-    let h = both c.nearby_representative-nearby.result c.triangle_representative-triangle.result c.if-nearby-triangle.true in (
-      (
-        (stretch_at c.pre.0 c.pre.1.0).within,
+    let h = both c.nearby_representative-nearby.result c.triangle_representative-triangle.result c.if-nearby-triangle.true in record {
+      places = (
+        (stretch_at c.requires.shown c.requires.places.0).within,
         sym (between-length c.args.pairs.now _ _)
             ∙ triangle_two _ _ _ _ c.triangle_representative-triangle.ensures h.1,
-      ),
-      λ k l u. (named-both c.pre.0 c.pre.1.0 k l u).1,
-    )
+      );
+      named_rows = λ k l u. (named-both c.requires.shown c.requires.places.0 k l u).1;
+    }
 
 pub returns-then-nearby-triangle : goal.returns-then-nearby-triangle
 returns-then-nearby-triangle c =
     λ C S T ramp cut E.
     let m = c.args.m in
     let a = c.args.a in
-    let lm = below S.counted c.requires.1.0 in
-    let la = below S.counted c.requires.1.1 in
+    let lm = below S.counted c.requires.places.0 in
+    let la = below S.counted c.requires.places.1 in
     c.triangle_mouth.ensures C a S.rows S.anchored lm
     ∙ by_triangle C a m ramp cut (kind-shown S.bounds m lm ∙ ap (λ k. eqb k 0) (sym c.kind_at.ensures) ∙ eq-eqb _ 0 c.if-kind_at-ne0.false) (sym (c.full_cut.ensures C T lm) ∙ not-false _ c.if-not-full_cut.false-raw) (S.rows.named m lm) c.triangle_representative-triangle.result
     (triangle-shown S.rows m a lm la c.triangle_representative-triangle.result c.triangle_representative-triangle.ensures) c.approach_of-approach.result (c.approach_of-approach.ensures C T S.rows lm la)
@@ -103,22 +106,20 @@ returns-then-nearby-triangle c =
 
 pub approach_mouth-requires : goal.approach_mouth-requires
 approach_mouth-requires c =
-    (
-      stretch_at c.pre.0 c.pre.1.0,
-      (
-        named-both c.pre.0 c.pre.1.0,
-        named_in c.pre.0 c.pre.1.0 (full_pair c.pre.0.context c.args.a)
-            (c.approach_of-approach.ensures c.pre.0.context c.pre.0.cuts c.pre.0.shows.rows (below c.pre.0.shows.counted c.pre.1.0) (below c.pre.0.shows.counted c.pre.1.1)),
-      ),
-    )
+    record {
+      stretch = stretch_at c.requires.shown c.requires.places.0;
+      named_rows = named-both c.requires.shown c.requires.places.0;
+      approach_within = named_in c.requires.shown c.requires.places.0 (full_pair c.requires.shown.context c.args.a)
+          (c.approach_of-approach.ensures c.requires.shown.context c.requires.shown.cuts c.requires.shown.shows.rows (below c.requires.shown.shows.counted c.requires.places.0) (below c.requires.shown.shows.counted c.requires.places.1));
+    }
 
 pub returns : goal.returns
 returns c =
     λ C S T ramp cut E.
     let m = c.args.m in
     let a = c.args.a in
-    let lm = below S.counted c.requires.1.0 in
-    let la = below S.counted c.requires.1.1 in
+    let lm = below S.counted c.requires.places.0 in
+    let la = below S.counted c.requires.places.1 in
     let k = c.approach_of-approach.ensures C T S.rows lm la in
     c.approach_mouth.ensures C a S.rows S.incidents S.anchored lm (approach_named S.rows m lm (full_pair C a) k) (approach_known C a c.args.ends E (mouth_shape true (C.pairs m)) k)
     (c.broad_mouth-wide.ensures C S.bounds lm la)

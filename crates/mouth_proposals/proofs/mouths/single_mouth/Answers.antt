@@ -8,7 +8,7 @@ pub returns-then-is_anchored : goal.returns-then-is_anchored
 returns-then-is_anchored c =
     λ C m a I A n b w o.
     single_by C m a c.args.outer c.args.r
-    (anchored-shown A c.args.r c.requires.1.0 n.1 c.is_anchored.ensures ∙ c.if-is_anchored.true)
+    (anchored-shown A c.args.r c.requires.r_named.0 n.1 c.is_anchored.ensures ∙ c.if-is_anchored.true)
     (refl)
     (refl)
     (refl)
@@ -17,8 +17,8 @@ pub returns-then-overlay-is_anchored : goal.returns-then-overlay-is_anchored
 returns-then-overlay-is_anchored c =
     λ C m a I A n b w o.
     single_by C m a c.args.outer c.args.r
-    (anchored-shown A c.args.r c.requires.1.0 n.1 c.is_anchored.ensures ∙ c.if-is_anchored.false)
-    ((λ i. sym o i && ((anchored-shown A c.args.outer c.requires.0.0 n.0 c.is_anchored-2.ensures) i || not ((two_shown A I c.args.r c.requires.1.0 n.1 c.incident_count-two.ensures) i))) ∙ c.if-overlay-is_anchored.true)
+    (anchored-shown A c.args.r c.requires.r_named.0 n.1 c.is_anchored.ensures ∙ c.if-is_anchored.false)
+    ((λ i. sym o i && ((anchored-shown A c.args.outer c.requires.outer_named.0 n.0 c.is_anchored-2.ensures) i || not ((two_shown A I c.args.r c.requires.r_named.0 n.1 c.incident_count-two.ensures) i))) ∙ c.if-overlay-is_anchored.true)
     (refl)
     (refl)
 
@@ -26,8 +26,8 @@ pub returns-then-blocked : goal.returns-then-blocked
 returns-then-blocked c =
     λ C m a I A n b w o.
     single_by C m a c.args.outer c.args.r
-    (anchored-shown A c.args.r c.requires.1.0 n.1 c.is_anchored.ensures ∙ c.if-is_anchored.false)
-    ((λ i. sym o i && ((anchored-shown A c.args.outer c.requires.0.0 n.0 c.is_anchored-2.ensures) i || not ((two_shown A I c.args.r c.requires.1.0 n.1 c.incident_count-two.ensures) i))) ∙ c.if-overlay-is_anchored.false)
+    (anchored-shown A c.args.r c.requires.r_named.0 n.1 c.is_anchored.ensures ∙ c.if-is_anchored.false)
+    ((λ i. sym o i && ((anchored-shown A c.args.outer c.requires.outer_named.0 n.0 c.is_anchored-2.ensures) i || not ((two_shown A I c.args.r c.requires.r_named.0 n.1 c.incident_count-two.ensures) i))) ∙ c.if-overlay-is_anchored.false)
     (sym b ∙ c.if-blocked.true)
     (refl)
 
@@ -35,16 +35,16 @@ pub returns-then-wide-overlay : goal.returns-then-wide-overlay
 returns-then-wide-overlay c =
     λ C m a I A n b w o.
     single_by C m a c.args.outer c.args.r
-    (anchored-shown A c.args.r c.requires.1.0 n.1 c.is_anchored.ensures ∙ c.if-is_anchored.false)
-    ((λ i. sym o i && ((anchored-shown A c.args.outer c.requires.0.0 n.0 c.is_anchored-2.ensures) i || not ((two_shown A I c.args.r c.requires.1.0 n.1 c.incident_count-two.ensures) i))) ∙ c.if-overlay-is_anchored.false)
+    (anchored-shown A c.args.r c.requires.r_named.0 n.1 c.is_anchored.ensures ∙ c.if-is_anchored.false)
+    ((λ i. sym o i && ((anchored-shown A c.args.outer c.requires.outer_named.0 n.0 c.is_anchored-2.ensures) i || not ((two_shown A I c.args.r c.requires.r_named.0 n.1 c.incident_count-two.ensures) i))) ∙ c.if-overlay-is_anchored.false)
     (sym b ∙ c.if-blocked.false)
-    ((λ i. (sym w i || sym o i) && (two_shown A I c.args.r c.requires.1.0 n.1 c.incident_count-two.ensures) i) ∙ c.if-wide-overlay.true)
+    ((λ i. (sym w i || sym o i) && (two_shown A I c.args.r c.requires.r_named.0 n.1 c.incident_count-two.ensures) i) ∙ c.if-wide-overlay.true)
 
 pub returns-else-wide-overlay : goal.returns-else-wide-overlay
 returns-else-wide-overlay c =
     λ C m a I A n b w o.
     single_by C m a c.args.outer c.args.r
-    (anchored-shown A c.args.r c.requires.1.0 n.1 c.is_anchored.ensures ∙ c.if-is_anchored.false)
-    ((λ i. sym o i && ((anchored-shown A c.args.outer c.requires.0.0 n.0 c.is_anchored-2.ensures) i || not ((two_shown A I c.args.r c.requires.1.0 n.1 c.incident_count-two.ensures) i))) ∙ c.if-overlay-is_anchored.false)
+    (anchored-shown A c.args.r c.requires.r_named.0 n.1 c.is_anchored.ensures ∙ c.if-is_anchored.false)
+    ((λ i. sym o i && ((anchored-shown A c.args.outer c.requires.outer_named.0 n.0 c.is_anchored-2.ensures) i || not ((two_shown A I c.args.r c.requires.r_named.0 n.1 c.incident_count-two.ensures) i))) ∙ c.if-overlay-is_anchored.false)
     (sym b ∙ c.if-blocked.false)
-    ((λ i. (sym w i || sym o i) && (two_shown A I c.args.r c.requires.1.0 n.1 c.incident_count-two.ensures) i) ∙ c.if-wide-overlay.false)
+    ((λ i. (sym w i || sym o i) && (two_shown A I c.args.r c.requires.r_named.0 n.1 c.incident_count-two.ensures) i) ∙ c.if-wide-overlay.false)

@@ -23,29 +23,32 @@ returns-then-incident_count-ne2 c =
     λ C a P I A l n b w o.
     star_by C c.args.m a c.args.outer c.args.r
     (sym o ∙ c.if-overlay.false)
-    (two_shown A I c.args.r c.requires.1.1.0 n c.incident_count.ensures ∙ ne_eqb _ 2 c.if-incident_count-ne2.true)
+    (two_shown A I c.args.r c.requires.r_named.0 n c.incident_count.ensures ∙ ne_eqb _ 2 c.if-incident_count-ne2.true)
     (refl)
     (refl)
     (refl)
 
 pub bounds-starts-m : goal.bounds-starts-m
 bounds-starts-m c =
-    omega (arith, c.requires.0.within)
+    omega (arith, c.requires.stretch.within)
 
 pub bounds-starts-m-2 : goal.bounds-starts-m-2
 bounds-starts-m-2 c =
-    omega (arith, c.requires.0.within)
+    omega (arith, c.requires.stretch.within)
 
 pub inner_fit-requires : goal.inner_fit-requires
 inner_fit-requires c =
-    (c.requires.0.rising, c.requires.1.0)
+    record {
+      ordered = c.requires.stretch.rising;
+      named_rows = c.requires.named_rows;
+    }
 
 pub returns-then-not-inner_fit : goal.returns-then-not-inner_fit
 returns-then-not-inner_fit c =
     λ C a P I A l n b w o.
     star_by C c.args.m a c.args.outer c.args.r
     (sym o ∙ c.if-overlay.false)
-    (two_shown A I c.args.r c.requires.1.1.0 n c.incident_count.ensures ∙ eq-eqb _ 2 c.if-incident_count-ne2.false)
+    (two_shown A I c.args.r c.requires.r_named.0 n c.incident_count.ensures ∙ eq-eqb _ 2 c.if-incident_count-ne2.false)
     (fits-shown A I c.args.m c.args.outer c.args.r (P.named c.args.m l)
     ∙ ap (λ l. all (inner_fits c.args.marks.now c.args.counts.now c.args.outer c.args.r) (regions_of l)) (P.at c.args.m l)
     ∙ sym c.inner_fit.ensures ∙ not-true _ c.if-not-inner_fit.true-raw)
@@ -57,7 +60,7 @@ returns-then-blocked c =
     λ C a P I A l n b w o.
     star_by C c.args.m a c.args.outer c.args.r
     (sym o ∙ c.if-overlay.false)
-    (two_shown A I c.args.r c.requires.1.1.0 n c.incident_count.ensures ∙ eq-eqb _ 2 c.if-incident_count-ne2.false)
+    (two_shown A I c.args.r c.requires.r_named.0 n c.incident_count.ensures ∙ eq-eqb _ 2 c.if-incident_count-ne2.false)
     (fits-shown A I c.args.m c.args.outer c.args.r (P.named c.args.m l)
     ∙ ap (λ l. all (inner_fits c.args.marks.now c.args.counts.now c.args.outer c.args.r) (regions_of l)) (P.at c.args.m l)
     ∙ sym c.inner_fit.ensures ∙ not-false _ c.if-not-inner_fit.false-raw)
@@ -69,7 +72,7 @@ returns-then-wide c =
     λ C a P I A l n b w o.
     star_by C c.args.m a c.args.outer c.args.r
     (sym o ∙ c.if-overlay.false)
-    (two_shown A I c.args.r c.requires.1.1.0 n c.incident_count.ensures ∙ eq-eqb _ 2 c.if-incident_count-ne2.false)
+    (two_shown A I c.args.r c.requires.r_named.0 n c.incident_count.ensures ∙ eq-eqb _ 2 c.if-incident_count-ne2.false)
     (fits-shown A I c.args.m c.args.outer c.args.r (P.named c.args.m l)
     ∙ ap (λ l. all (inner_fits c.args.marks.now c.args.counts.now c.args.outer c.args.r) (regions_of l)) (P.at c.args.m l)
     ∙ sym c.inner_fit.ensures ∙ not-false _ c.if-not-inner_fit.false-raw)
@@ -81,7 +84,7 @@ returns-else-wide c =
     λ C a P I A l n b w o.
     star_by C c.args.m a c.args.outer c.args.r
     (sym o ∙ c.if-overlay.false)
-    (two_shown A I c.args.r c.requires.1.1.0 n c.incident_count.ensures ∙ eq-eqb _ 2 c.if-incident_count-ne2.false)
+    (two_shown A I c.args.r c.requires.r_named.0 n c.incident_count.ensures ∙ eq-eqb _ 2 c.if-incident_count-ne2.false)
     (fits-shown A I c.args.m c.args.outer c.args.r (P.named c.args.m l)
     ∙ ap (λ l. all (inner_fits c.args.marks.now c.args.counts.now c.args.outer c.args.r) (regions_of l)) (P.at c.args.m l)
     ∙ sym c.inner_fit.ensures ∙ not-false _ c.if-not-inner_fit.false-raw)

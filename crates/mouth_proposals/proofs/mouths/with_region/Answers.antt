@@ -14,21 +14,21 @@ returns-then-not-is_anchored c =
 pub returns-in-None : goal.returns-in-None
 returns-in-None c =
     let s = c.args in
-    sym (ap₂ (λ b o. cond b (with_region o s.r) o) (sym c.is_anchored.ensures ∙ not-false _ c.if-not-is_anchored.false-raw) c.enum_told-1.given.1)
+    sym (ap₂ (λ b o. cond b (with_region o s.r) o) (sym c.is_anchored.ensures ∙ not-false _ c.if-not-is_anchored.false-raw) c.in-None.is)
 
 pub returns-then-s-r : goal.returns-then-s-r
 returns-then-s-r c =
     let s = c.args in
-    sym (ap₂ (λ b o. cond b (with_region o s.r) o) (sym c.is_anchored.ensures ∙ not-false _ c.if-not-is_anchored.false-raw) c.found-1.given.1
-    ∙ ap (λ b. cond b (outers.One c.found-1.given.0.0) outers.Several) (eq-eqb _ s.r c.if-s-r.true))
+    sym (ap₂ (λ b o. cond b (with_region o s.r) o) (sym c.is_anchored.ensures ∙ not-false _ c.if-not-is_anchored.false-raw) c.in-One.is
+    ∙ ap (λ b. cond b (outers.One c.in-One.s) outers.Several) (eq-eqb _ s.r c.if-s-r.true))
 
 pub returns-else-s-r : goal.returns-else-s-r
 returns-else-s-r c =
     let s = c.args in
-    sym (ap₂ (λ b o. cond b (with_region o s.r) o) (sym c.is_anchored.ensures ∙ not-false _ c.if-not-is_anchored.false-raw) c.found-1.given.1
-    ∙ ap (λ b. cond b (outers.One c.found-1.given.0.0) outers.Several) (ne_eqb _ s.r c.if-s-r.false))
+    sym (ap₂ (λ b o. cond b (with_region o s.r) o) (sym c.is_anchored.ensures ∙ not-false _ c.if-not-is_anchored.false-raw) c.in-One.is
+    ∙ ap (λ b. cond b (outers.One c.in-One.s) outers.Several) (ne_eqb _ s.r c.if-s-r.false))
 
 pub returns-in-Several : goal.returns-in-Several
 returns-in-Several c =
     let s = c.args in
-    sym (ap₂ (λ b o. cond b (with_region o s.r) o) (sym c.is_anchored.ensures ∙ not-false _ c.if-not-is_anchored.false-raw) c.enum_told-in-Several-1.given.1)
+    sym (ap₂ (λ b o. cond b (with_region o s.r) o) (sym c.is_anchored.ensures ∙ not-false _ c.if-not-is_anchored.false-raw) c.in-Several.is)

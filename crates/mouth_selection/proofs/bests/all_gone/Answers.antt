@@ -16,7 +16,11 @@ pub is_gone-requires : goal.is_gone-requires
 is_gone-requires c =
     let m = c.loop-m.m in
     let h = c.loop-m-test.true in
-    (omega (arith, c.requires.0, h), (c.requires.1.stretch m h, c.requires.1.named m h))
+    record {
+      boundary = omega (arith, c.requires.boundaries_room, h);
+      stretch = c.requires.rows.stretch m h;
+      named_rows = c.requires.rows.named m h;
+    }
 
 pub returns-then-not-is_gone : goal.returns-then-not-is_gone
 returns-then-not-is_gone c = λ C T L used S e. absurd (false≢true e)

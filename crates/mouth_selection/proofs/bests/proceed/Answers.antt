@@ -25,101 +25,89 @@ still-roomy R W =
 
 pub put_best-requires : goal.put_best-requires
 put_best-requires c =
-    let few : c.args.a < 256 = omega (arith, c.requires.1.1.0.1, c.requires.0.1.0.counted, c.requires.0.1.0.bounds.few) in
-    (c.requires.1.1.0.0.0, few)
+    let few : c.args.a < 256 = omega (arith, c.requires.places.1, c.requires.shown.1.0.counted, c.requires.shown.1.0.bounds.few) in
+    (c.requires.places.0.0, few)
 
 pub bounds-found-a : goal.bounds-found-a
 bounds-found-a c =
-    let few : c.args.a < 256 = omega (arith, c.requires.1.1.0.1, c.requires.0.1.0.counted, c.requires.0.1.0.bounds.few) in
+    let few : c.args.a < 256 = omega (arith, c.requires.places.1, c.requires.shown.1.0.counted, c.requires.shown.1.0.bounds.few) in
     few
 
 pub bounds-fresh-a : goal.bounds-fresh-a
 bounds-fresh-a c =
-    let few : c.args.a < 256 = omega (arith, c.requires.1.1.0.1, c.requires.0.1.0.counted, c.requires.0.1.0.bounds.few) in
+    let few : c.args.a < 256 = omega (arith, c.requires.places.1, c.requires.shown.1.0.counted, c.requires.shown.1.0.bounds.few) in
     few
 
 pub returns-then-known-count : goal.returns-then-known-count
 returns-then-known-count c =
-    let few : c.args.a < 256 = omega (arith, c.requires.1.1.0.1, c.requires.0.1.0.counted, c.requires.0.1.0.bounds.few) in
+    let few : c.args.a < 256 = omega (arith, c.requires.places.1, c.requires.shown.1.0.counted, c.requires.shown.1.0.bounds.few) in
     let s = c.args in
     let W = c.put_best.ensures in
-    let R = c.pre.1.0 in
-    let before = c.pre.1.1.0.1 in
-    let stale = c.pre.1.1.1 in (
-      (before.1, λ h. refl),
-      (
+    let R = c.requires.room in
+    let before = c.requires.places.1 in
+    let stale = c.requires.stale in record {
+      bound = (before.1, λ h. refl);
+      stale = (
+        λ h. get_or-set_other s.fresh.now s.a s.known true false (λ e. omega (arith, e, before.0)) ∙ stale.1 s.known (le_refl _) h,
+        λ i h l. get_or-set_other s.fresh.now s.a i true false (λ e. omega (arith, e, h, before.0)) ∙ stale.1 i h l,
+      );
+      room = (
+        refl,
         (
-          λ h. get_or-set_other s.fresh.now s.a s.known true false (λ e. omega (arith, e, before.0)) ∙ stale.1 s.known (le_refl _) h,
-          λ i h l. get_or-set_other s.fresh.now s.a i true false (λ e. omega (arith, e, h, before.0)) ∙ stale.1 i h l,
+          still-roomy R.0 W,
+          record {
+            gone_long = R.1.gone_long;
+            used_long = R.1.used_long;
+            found_long = length-set s.found.now s.a _ ∙ R.1.found_long;
+            fresh_long = length-set s.fresh.now s.a true ∙ R.1.fresh_long;
+          },
         ),
-        (
-          (
-            refl,
-            (
-              still-roomy R.0 W,
-              record {
-                gone_long = R.1.gone_long;
-                used_long = R.1.used_long;
-                found_long = length-set s.found.now s.a _ ∙ R.1.found_long;
-                fresh_long = length-set s.fresh.now s.a true ∙ R.1.fresh_long;
-              },
-            ),
-          ),
-          (
-            weight-put s.count s.removed.now s.fresh.now s.a (omega (arith, before)) (omega (arith, few, R.1.fresh_long)) stale.0,
-            λ C L P H. (best_put P H W R.0 few R.1.found_long R.1.fresh_long (λ i k d. (k, d)), λ h. absurd (omega (arith, h, c.if-known-count.true))),
-          ),
-        ),
-      ),
-    )
+      );
+      weight = weight-put s.count s.removed.now s.fresh.now s.a (omega (arith, before)) (omega (arith, few, R.1.fresh_long)) stale.0;
+      progress = λ C L P H. (best_put P H W R.0 few R.1.found_long R.1.fresh_long (λ i k d. (k, d)), λ h. absurd (omega (arith, h, c.if-known-count.true)));
+    }
 
 pub advance-requires : goal.advance-requires
 advance-requires c =
-    let few : c.args.a < 256 = omega (arith, c.requires.1.1.0.1, c.requires.0.1.0.counted, c.requires.0.1.0.bounds.few) in
-    let last : (to-entry c.args.count ≤ (to-entry c.args.known = c.if-known-count.false in
+    let few : c.args.a < 256 = omega (arith, c.requires.places.1, c.requires.shown.1.0.counted, c.requires.shown.1.0.bounds.few) in
+    let last : c.args.count ≤ c.args.known = c.if-known-count.false in
     let s = c.args in
     let W = c.put_best.ensures in
-    let R = c.pre.1.0 in
-    let given = c.pre.0 in (
-      (given.0, (given.1.0, best_put given.1.1.0 given.1.1.1 W R.0 few R.1.found_long R.1.fresh_long (λ i k d. (omega (arith, k, last), d)))),
-      record {
+    let R = c.requires.room in
+    let given = c.requires.shown in record {
+      shown = (given.0, (given.1.0, best_put given.1.1.0 given.1.1.1 W R.0 few R.1.found_long R.1.fresh_long (λ i k d. (omega (arith, k, last), d))));
+      room = record {
         gone_long = R.1.gone_long;
         used_long = R.1.used_long;
         found_long = length-set s.found.now s.a _ ∙ R.1.found_long;
         fresh_long = length-set s.fresh.now s.a true ∙ R.1.fresh_long;
-      },
-    )
+      };
+    }
 
 pub shape_of-marks : goal.shape_of-marks
-shape_of-marks c = c.advance.ensures.1.0.0
+shape_of-marks c = c.advance.ensures.room.0
 
 pub returns : goal.returns
 returns c =
-    let few : c.args.a < 256 = omega (arith, c.requires.1.1.0.1, c.requires.0.1.0.counted, c.requires.0.1.0.bounds.few) in
-    let last : (to-entry c.args.count ≤ (to-entry c.args.known = c.if-known-count.false in
+    let few : c.args.a < 256 = omega (arith, c.requires.places.1, c.requires.shown.1.0.counted, c.requires.shown.1.0.bounds.few) in
+    let last : c.args.count ≤ c.args.known = c.if-known-count.false in
     let s = c.args in
     let W = c.put_best.ensures in
-    let R = c.pre.1.0 in
-    let before = c.pre.1.1.0.1 in
-    let stale = c.pre.1.1.1 in
+    let R = c.requires.room in
+    let before = c.requires.places.1 in
+    let stale = c.requires.stale in
     let all = last in
-    let E = c.advance.ensures in (
-      (E.0.0, λ h. absurd (omega (arith, h, all))),
-      (
-        (E.0.1, λ i h l. absurd (omega (arith, h, l, all))),
-        (
-          (E.1.0.0, (still-roomy R.0 W, E.1.0.1)),
-          (
-            omega (
-              arith,
-              weight-put s.count s.removed.now s.fresh.now s.a (omega (arith, before)) (omega (arith, few, R.1.fresh_long)) stale.0,
-              E.1.1.0,
-            ),
-            λ C L P H.
-                let N =
-                E.1.1.1 C L (best_put P H W R.0 few R.1.found_long R.1.fresh_long (λ i k d. (omega (arith, k, all), d))) in
-                (progress_as (λ i k. omega (arith, k, before.1)) N.0, N.1),
-          ),
-        ),
-      ),
-    )
+    let E = c.advance.ensures in record {
+      bound = (E.bound.0, λ h. absurd (omega (arith, h, all)));
+      stale = (E.bound.1, λ i h l. absurd (omega (arith, h, l, all)));
+      room = (E.room.0, (still-roomy R.0 W, E.room.1));
+      weight = omega (
+        arith,
+        weight-put s.count s.removed.now s.fresh.now s.a (omega (arith, before)) (omega (arith, few, R.1.fresh_long)) stale.0,
+        E.weight,
+      );
+      progress = λ C L P H.
+          let N =
+          E.progress C L (best_put P H W R.0 few R.1.found_long R.1.fresh_long (λ i k d. (omega (arith, k, all), d))) in
+          (progress_as (λ i k. omega (arith, k, before.1)) N.0, N.1);
+    }

@@ -46,4 +46,7 @@ loop-a-preserved c =
 pub returns : goal.returns
 returns c =
     let at = c.loop-a in
-    (record { found = λ i l. at.invariant.1.1.0 i (omega (arith, l, c.loop-a-test.false)); stale = λ i l. at.invariant.1.1.1 i (omega (arith, l, c.loop-a-test.false)) }, at.invariant.0.1)
+    record {
+      renewed = record { found = λ i l. at.invariant.1.1.0 i (omega (arith, l, c.loop-a-test.false)); stale = λ i l. at.invariant.1.1.1 i (omega (arith, l, c.loop-a-test.false)) };
+      lengths = at.invariant.0.1;
+    }

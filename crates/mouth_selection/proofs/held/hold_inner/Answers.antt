@@ -13,16 +13,19 @@ loop-k-init c = (search rules, (search rules, none_marked _ _ _ _))
 
 pub row_at-requires : goal.row_at-requires
 row_at-requires c =
-    (c.requires.1 c.loop-k.k c.loop-k.invariant.0 c.loop-k-test.true).inside
+    (c.requires.named_rows c.loop-k.k c.loop-k.invariant.0 c.loop-k-test.true).inside
 
 pub hold_row-requires : goal.hold_row-requires
 hold_row-requires c =
     let at = c.loop-k in
     let same = ap length at.invariant.1.1 ∙ inner-length _ _ _ in
-    let n = subst (λ l. NamedRow c.args.pairs.now l at.k) (sym same) (c.requires.1 at.k at.invariant.0 c.loop-k-test.true) in
+    let n = subst (λ l. NamedRow c.args.pairs.now l at.k) (sym same) (c.requires.named_rows at.k at.invariant.0 c.loop-k-test.true) in
     let lo = named-lo c.row_at.ensures n n in
     let hi = named-hi c.row_at.ensures n n in
-    ((lo.0, lo.1.0), (hi.0, hi.1.0))
+    record {
+      lo_named = (lo.0, lo.1.0);
+      hi_named = (hi.0, hi.1.0);
+    }
 
 pub loop-k-preserved : goal.loop-k-preserved
 loop-k-preserved c =

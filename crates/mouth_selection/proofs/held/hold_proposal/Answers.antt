@@ -19,7 +19,10 @@ same_long false marks hold r e = sym (ap length e ∙ held-length hold marks r)
 pub hold_inner-requires : goal.hold_inner-requires
 hold_inner-requires c =
     let same = same_long (eqb c.args.outer 0) c.args.marks.now _ c.args.outer c.hold_outer.ensures in
-    (c.requires.0.rising, λ k l u. subst (λ n. NamedRow c.args.pairs.now n k) same (c.requires.1.0 k l u))
+    record {
+      ordered = c.requires.stretch.rising;
+      named_rows = λ k l u. subst (λ n. NamedRow c.args.pairs.now n k) same (c.requires.named_rows k l u);
+    }
 
 pub returns : goal.returns
 returns c =

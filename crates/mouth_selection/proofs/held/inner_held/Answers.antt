@@ -1,7 +1,7 @@
 -- `held::inner_held` meets its contract. The invariant: no row passed names such a region. Assumes nothing.
 use native.Mathlib.Nat.{le_antisymm}
 use mathlib.Core.Path.{sym, ap, ◌∙◌}
-use mathlib.Core.Bool.{false, not, ◌&&◌, ◌||◌}
+use mathlib.Core.Bool.{not, ◌&&◌, ◌||◌}
 use lib.Dec.{eqb, lit≤}
 use Rattle.definitions.specs.Scan.{any}
 use Rattle.laws.specs.RustMouths.Triangles.{any-regions}
@@ -18,17 +18,17 @@ loop-k-init c = (search rules, (search rules, ap (any (row_held c.args.marks.now
 
 pub row_at-p-requires : goal.row_at-p-requires
 row_at-p-requires c =
-    (c.requires.1 c.loop-k.k c.loop-k.invariant.0 c.loop-k-test.true).inside
+    (c.requires.named_rows c.loop-k.k c.loop-k.invariant.0 c.loop-k-test.true).inside
 
 pub is_held-requires : goal.is_held-requires
 is_held-requires c =
-    let n = c.requires.1 c.loop-k.k c.loop-k.invariant.0 c.loop-k-test.true in
+    let n = c.requires.named_rows c.loop-k.k c.loop-k.invariant.0 c.loop-k-test.true in
     let h = named-lo c.row_at-p.ensures n n in
     (h.0, (h.1.0, lit≤ tt))
 
 pub is_held-requires-in-loop-k : goal.is_held-requires-in-loop-k
 is_held-requires-in-loop-k c =
-    let n = c.requires.1 c.loop-k.k c.loop-k.invariant.0 c.loop-k-test.true in
+    let n = c.requires.named_rows c.loop-k.k c.loop-k.invariant.0 c.loop-k-test.true in
     let h = named-hi c.row_at-p.ensures n n in
     (h.0, (h.1.0, lit≤ tt))
 

@@ -9,4 +9,4 @@ pub returns : goal.returns
 returns c =
     let s = c.args in
     c.ranks_before.ensures
-    ∙ (λ i. list_lt (key_at s.boundaries.now (get_or s.separations.now s.k 0) (c.wide_byte.ensures.0 i) (c.wide_byte-2.ensures.0 i)) (key_at s.boundaries.now (get_or s.separations.now s.j 0) (c.wide_byte-3.ensures.0 i) (c.wide_byte-4.ensures.0 i)))
+    ∙ (λ i. list_lt (key_at s.boundaries.now (get_or s.separations.now s.k 0) (c.wide_byte.ensures.same i) (c.wide_byte-2.ensures.same i)) (key_at s.boundaries.now (get_or s.separations.now s.j 0) (c.wide_byte-3.ensures.same i) (c.wide_byte-4.ensures.same i)))

@@ -2,7 +2,6 @@
 use native.Mathlib.Omega.{arith}
 use native.Mathlib.Nat.{le_antisymm}
 use mathlib.Core.Path.{ap, ◌∙◌}
-use mathlib.Core.Bool.{true, false}
 use mathlib.Core.Option.{none}
 use Rattle.definitions.specs.RampMouths.{ranks_before}
 use Rattle.mouth_selection.specs.Entries.{marked_entries}
@@ -18,18 +17,21 @@ loop-k-init c =
 
 pub better_marked-best-requires : goal.better_marked-best-requires
 better_marked-best-requires c =
-    (c.requires, (c.loop-k-test.true, c.loop-k.invariant.0))
+    record {
+      safe = c.requires;
+      places = (c.loop-k-test.true, c.loop-k.invariant.0);
+    }
 
 pub loop-k-preserved : goal.loop-k-preserved
 loop-k-preserved c =
     let at = c.loop-k in
     let s = c.args in (
-      c.better_marked-best.ensures.0.0,
+      c.better_marked-best.ensures.bound.0,
       (
         search rules,
         λ C outers kinds S M.
             let was = at.invariant.1.1 C outers kinds S M in
-            let now = c.better_marked-best.ensures.1 C outers kinds S M was.0 in
+            let now = c.better_marked-best.ensures.best C outers kinds S M was.0 in
             (now.0, round_more C s.mouths.now s.ramps.now outers kinds s.marked.now s.n at.k was.1 now.1),
       ),
     )
@@ -37,9 +39,9 @@ loop-k-preserved c =
 pub returns : goal.returns
 returns c =
     let at = c.loop-k in
-    let s = c.args in (
-      at.invariant.0,
-      λ C outers kinds S M.
+    let s = c.args in record {
+      bound = at.invariant.0;
+      best = λ C outers kinds S M.
           let was = at.invariant.1.1 C outers kinds S M in
-          (was.0, was.1 ∙ ap (λ k. least_from (ranks_before C) none (marked_entries C s.mouths.now s.ramps.now outers kinds s.marked.now k)) (le_antisymm at.invariant.1.0 c.loop-k-test.false)),
-    )
+          (was.0, was.1 ∙ ap (λ k. least_from (ranks_before C) none (marked_entries C s.mouths.now s.ramps.now outers kinds s.marked.now k)) (le_antisymm at.invariant.1.0 c.loop-k-test.false));
+    }

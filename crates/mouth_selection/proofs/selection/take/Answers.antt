@@ -21,14 +21,14 @@ returns c =
     let a = c.args.a in
     let outer = c.args.outer in
     let kind = c.args.kind in
-    let marks = c.args.marks.now in (
-      λ C T n B P long S hm ho free.
+    let marks = c.args.marks.now in record {
+      taken = λ C T n B P long S hm ho free.
           let p = proposal_of C m a outer kind in
-          let ha : a < C.count = subst (λ k. a < k) (sym n) c.requires.1.0.0.0 in
+          let ha : a < C.count = subst (λ k. a < k) (sym n) c.requires.marks_of_boundaries.0.0 in
           record {
-            gone = λ i hi. mouth-taken T p c.args.removed.now m i refl (omega (arith, c.requires.1.0.1, c.requires.1.1.0.within)) (S.gone i hi);
+            gone = λ i hi. mouth-taken T p c.args.removed.now m i refl (omega (arith, c.requires.marks_of_boundaries.1, c.requires.stretch.within)) (S.gone i hi);
             ends = λ j hj.
-                c.use_end.ensures.0 j
+                c.use_end.ensures.used j
                 ∙ ap (λ b. get_or c.args.used.now j false || b && same_end_lem c.args.boundaries.now a j) (lt-ltb j c.args.count (subst (λ k. j < k) n hj))
                 ∙ end-taken B T p a j refl ha hj (S.ends j hj);
             holds =
@@ -36,15 +36,13 @@ returns c =
                 (sym (c.hold_proposal.ensures
                 ∙ ap (λ l. mark_inner outer (cond (eqb outer 0) marks (mark_held (cond (eqb kind triangular) 2 1) marks outer)) (regions_of l)) (sym (P.at m hm))))
                 (held-taken C T m a outer kind marks S.holds long (P.named m hm) ho (refused-parts C T m a outer kind free));
-          },
-      (
-        (
-          ap length c.hold_proposal.ensures ∙ inner-length _ _ _ ∙ outer-length (eqb outer 0) marks _ outer,
-          (c.use_end.ensures.1, length-set c.args.removed.now m true ∙ c.requires.1.0.1),
-        ),
-        λ i h.
-            ap (λ l. get_or l i 0 % 2) c.hold_proposal.ensures
-            ∙ inner-odd outer (cond (eqb outer 0) marks (mark_held (cond (eqb kind triangular) 2 1) marks outer)) _ i (omega (arith, h, outer-length (eqb outer 0) marks (cond (eqb kind triangular) 2 1) outer))
-            ∙ outer-odd (eqb outer 0) marks (cond (eqb kind triangular) 2 1) outer i h,
-      ),
-    )
+          };
+      lengths = (
+        ap length c.hold_proposal.ensures ∙ inner-length _ _ _ ∙ outer-length (eqb outer 0) marks _ outer,
+        (c.use_end.ensures.used_length, length-set c.args.removed.now m true ∙ c.requires.marks_of_boundaries.1),
+      );
+      odd_parts = λ i h.
+          ap (λ l. get_or l i 0 % 2) c.hold_proposal.ensures
+          ∙ inner-odd outer (cond (eqb outer 0) marks (mark_held (cond (eqb kind triangular) 2 1) marks outer)) _ i (omega (arith, h, outer-length (eqb outer 0) marks (cond (eqb kind triangular) 2 1) outer))
+          ∙ outer-odd (eqb outer 0) marks (cond (eqb kind triangular) 2 1) outer i h;
+    }

@@ -16,6 +16,6 @@ pub returns : goal.returns
 unfolding maps_of_day
 returns c =
     let lent = c.args in
-    listed (maps_in lent.terms.now lent.day) lent.output.now _ _ _ lent.maps c.requires.0 c.put_maps.ensures
+    listed (maps_in lent.terms.now lent.day) lent.output.now _ _ _ lent.maps c.requires.maps_counted c.put_maps.ensures
     (ap (λ (l : List ℕ). l ++ drop lent.maps c.put_maps.new.1.1.0) c.sort_numbers.ensures)
     c.spread_maps.ensures

@@ -9,11 +9,14 @@ loop-i-init c = putting-starts refl c.requires
 
 pub put_map-maps-requires : goal.put_map-maps-requires
 put_map-maps-requires c =
-    (search rules, putting-room c.loop-i.invariant c.loop-i-test.true)
+    record {
+        terms_room = search rules;
+        output_room = putting-room c.loop-i.invariant c.loop-i-test.true;
+    }
 
 pub loop-i-preserved : goal.loop-i-preserved
 loop-i-preserved c =
-    putting-goes_on c.loop-i.invariant c.loop-i-test.true c.put_map-maps.ensures.0 c.put_map-maps.ensures.1
+    putting-goes_on c.loop-i.invariant c.loop-i-test.true c.put_map-maps.ensures.output c.put_map-maps.ensures.answer
 
 pub returns : goal.returns
 returns c = putting-ends c.loop-i.invariant c.loop-i-test.false

@@ -18,7 +18,7 @@ slice_bounds-least_doubtful-end-in-All c =
 
 pub least_doubtful-requires : goal.least_doubtful-requires
 least_doubtful-requires c =
-    (c.requires.0.0, keys_positions _ _ _ (keys-known _ _ _ _ _ c.take_keys.ensures c.in-All.is))
+    (c.requires.room.0, keys_positions _ _ _ (keys-known _ _ _ _ _ c.take_keys.ensures c.in-All.is))
 
 pub returns-in-TooMany : goal.returns-in-TooMany
 returns-in-TooMany c =

@@ -39,7 +39,10 @@ loop-low-preserved-in-TooMany c =
 pub doubt_between-found-requires : goal.doubt_between-found-requires
 doubt_between-found-requires c =
     let fits = maps-fit _ _ c.take_maps.ensures c.in-All.is in
-    ((search rules, still-fits fits (search rules)), (search rules, search rules))
+    record {
+        room = (search rules, still-fits fits (search rules));
+        sizes = (search rules, search rules);
+    }
 
 pub returns-then-high : goal.returns-then-high
 returns-then-high c =

@@ -5,9 +5,9 @@ use Rattle.pool_faults.proofs.apart.take_key.Goals as goal
 
 pub returns-then-is_between : goal.returns-then-is_between
 returns-then-is_between c =
-    keys-stored _ _ _ c.requires.1.1 _ c.requires.0.2 c.key_of.ensures
+    keys-stored _ _ _ c.requires.keys _ c.requires.room.2 c.key_of.ensures
 
 pub returns : goal.returns
 unfolding term_at
 returns c =
-    keys-passed _ _ _ c.requires.1.1 (c.is_between.ensures c.if-is_between.false)
+    keys-passed _ _ _ c.requires.keys (c.is_between.ensures c.if-is_between.false)

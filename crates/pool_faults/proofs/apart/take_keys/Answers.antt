@@ -10,7 +10,11 @@ loop-i-init c = (search rules, keys-start _ _ _ _, refl)
 
 pub take_key-taken-requires : goal.take_key-taken-requires
 take_key-taken-requires c =
-    ((search rules, search rules, omega (arith, c.loop-i.invariant.1.within, c.if-taken-keys.false)), (search rules, c.loop-i.invariant.1))
+    record {
+        room = (search rules, search rules, omega (arith, c.loop-i.invariant.1.within, c.if-taken-keys.false));
+        sizes = search rules;
+        keys = c.loop-i.invariant.1;
+    }
 
 pub loop-i-preserved : goal.loop-i-preserved
 loop-i-preserved c =

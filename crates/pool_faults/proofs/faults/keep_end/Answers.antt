@@ -6,9 +6,9 @@ use Rattle.pool_faults.proofs.faults.keep_end.Goals as goal
 pub returns-then-ends-slot : goal.returns-then-ends-slot
 unfolding term_at
 returns-then-ends-slot c =
-    end-stored c.args.terms.now c.args.i c.args.ends.now c.requires.1 c.slot_of-slot.ensures.0 c.end_in-end.ensures c.if-ends-slot.true
+    end-stored c.args.terms.now c.args.i c.args.ends.now c.requires.latest c.slot_of-slot.ensures.0 c.end_in-end.ensures c.if-ends-slot.true
 
 pub returns-else-ends-slot : goal.returns-else-ends-slot
 unfolding term_at
 returns-else-ends-slot c =
-    end_kept c.args.terms.now c.args.i c.args.ends.now c.requires.1 c.slot_of-slot.ensures.0 c.end_in-end.ensures c.if-ends-slot.false
+    end_kept c.args.terms.now c.args.i c.args.ends.now c.requires.latest c.slot_of-slot.ensures.0 c.end_in-end.ensures c.if-ends-slot.false

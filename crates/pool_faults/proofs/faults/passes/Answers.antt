@@ -19,4 +19,4 @@ returns-else-to-from c =
     let days = sym c.term_days.ensures ∙ ap days_in c.in-FromTo.is in
     λ e.
     ap (term_fault c.args.terms.now c.args.i) days
-    ∙ free_of_fault c.args.terms.now c.args.i c.args.ends.now c.requires.1 c.slot_of.ensures.0 _ c.if-to-from.false (leb-true _ _ e)
+    ∙ free_of_fault c.args.terms.now c.args.i c.args.ends.now c.requires.latest c.slot_of.ensures.0 _ c.if-to-from.false (leb-true _ _ e)

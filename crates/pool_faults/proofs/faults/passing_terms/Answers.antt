@@ -12,7 +12,10 @@ loop-i-init c = (search rules, none_below-zero _, latest-starts _ _ refl)
 
 pub passes-requires : goal.passes-requires
 passes-requires c =
-    (search rules, c.loop-i.invariant.2)
+    record {
+        terms_room = search rules;
+        latest = c.loop-i.invariant.2;
+    }
 
 pub returns-then-not-passes : goal.returns-then-not-passes
 returns-then-not-passes c =
@@ -20,7 +23,10 @@ returns-then-not-passes c =
 
 pub keep_end-requires : goal.keep_end-requires
 keep_end-requires c =
-    (search rules, c.loop-i.invariant.2)
+    record {
+        terms_room = search rules;
+        latest = c.loop-i.invariant.2;
+    }
 
 pub loop-i-preserved : goal.loop-i-preserved
 loop-i-preserved c =

@@ -5,7 +5,7 @@ use borrow.Author.Rules.{rules}
 use Rattle.pool_faults.proofs.faults.sound_terms.Goals as goal
 
 pub loop-i-init : goal.loop-i-init
-loop-i-init c = (search rules, search rules, c.requires.1)
+loop-i-init c = (search rules, search rules, c.requires.sound)
 
 pub returns-then-end_in-first_in : goal.returns-then-end_in-first_in
 returns-then-end_in-first_in c =

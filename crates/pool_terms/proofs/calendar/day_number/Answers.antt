@@ -1,6 +1,6 @@
 -- `calendar::day_number` meets its contract, by the tables' laws `years_before` and `months_before`. Assumes nothing.
 use Rattle.catalogue.specs.Dates.{day_number}
-use Rattle.catalogue.specs.DateLaws.{parts}
+use Rattle.catalogue.proofs.DateLaws.{parts}
 use Rattle.pool_terms.proofs.CalendarTables.{years_before, months_most, month_most}
 use native.Mathlib.Omega.{arith}
 use borrow.Author.Rules.{rules}

@@ -10,16 +10,19 @@ loop-k-init c = (search rules, search rules, no_length _)
 pub squared_length-sum-requires : goal.squared_length-sum-requires
 squared_length-sum-requires c =
     let given = c.requires in
-    (omega (arith, given.held, c.loop-k-test.true), given.lines _ c.loop-k-test.true)
+    record {
+      output_room = omega (arith, given.held, c.loop-k-test.true);
+      pixels = given.lines _ c.loop-k-test.true;
+    }
 
 pub overflow_add-sum : goal.overflow_add-sum
 overflow_add-sum c =
-    record { fits = omega (arith, c.loop-k.invariant.1, c.requires.few, c.loop-k-test.true, c.squared_length-sum.ensures.1) }
+    record { fits = omega (arith, c.loop-k.invariant.1, c.requires.few, c.loop-k-test.true, c.squared_length-sum.ensures.bound) }
 
 pub loop-k-preserved : goal.loop-k-preserved
 loop-k-preserved c =
     let I = c.loop-k.invariant in
-    (omega (arith, c.loop-k-test.true), omega (arith, I.1, c.squared_length-sum.ensures.1), length-goes_on _ _ I.2 c.squared_length-sum.ensures.0)
+    (omega (arith, c.loop-k-test.true), omega (arith, I.1, c.squared_length-sum.ensures.bound), length-goes_on _ _ I.2 c.squared_length-sum.ensures.answer)
 
 pub returns : goal.returns
 returns c =

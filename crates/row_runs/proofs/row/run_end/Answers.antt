@@ -2,7 +2,6 @@
 use native.Mathlib.Omega.{arith}
 use mathlib.Core.Path.{sym, ◌∙◌}
 use borrow.Author.Tests.{not-true, not-false}
-use Rattle.row_runs.specs.Stretch.{goes_on}
 use Rattle.row_runs.proofs.Passing.{passing-starts, passing-goes_on, passing-stops, passing-ends}
 use Rattle.row_runs.proofs.row.run_end.Goals as goal
 

@@ -1,0 +1,4 @@
+pub mod AccessionLaws
+pub mod DateLaws
+pub mod TermLaws
+pub mod PoolLaws

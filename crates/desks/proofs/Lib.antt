@@ -1,0 +1,4 @@
+pub mod Alone
+pub mod DeskLaws
+pub mod SameGround
+pub mod SharedCalls

@@ -1,0 +1,9 @@
+pub mod Framed
+pub mod Labels
+pub mod Pairs
+pub mod Records
+pub mod Same
+pub mod Theorem
+pub mod Restrict
+pub mod Decide
+pub mod Example

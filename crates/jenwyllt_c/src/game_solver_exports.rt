@@ -1,0 +1,19 @@
+// What `game_solver` exports to C.
+
+ghost use Rattle.game.specs.Graph.{Solves};
+ghost use Rattle.game_solver.specs.Forms.{answer_in};
+
+use game_solver::Answer;
+
+// For other languages too: include/jenwyllt.h declares it as jenwyllt_solve_game.
+#[unsafe(no_mangle)]
+pub extern "C" fn jenwyllt_solve_game(
+    regions: u64,
+    pairs: &[u32],
+    goal: u64,
+    verdicts: &mut [u32],
+) -> Answer
+    ensures { Solves regions pairs.now goal verdicts.old (answer_in result) verdicts.new }
+{
+    game_solver::game_solver_solve_game(regions, pairs, goal, verdicts)
+}

@@ -1,0 +1,23 @@
+// What `pool` exports to C.
+
+ghost use Rattle.std.specs.Prelude.{◌≡◌, length};
+ghost use Rattle.catalogue.specs.Pool.{pool_verdict, pool_at_exit};
+ghost use Rattle.pool.specs.Contract.{date, exported};
+
+use pool::PoolAnswer;
+
+#[unsafe(no_mangle)]
+pub extern "C" fn jenwyllt_maps_of_day(
+    terms: &[u64],
+    records: &[u64],
+    year: u64,
+    month: u64,
+    day: u64,
+    output: &mut [u64],
+) -> PoolAnswer
+    ensures answer { exported result ≡ pool_verdict terms.now records.now (date year month day) (length output.old) }
+    ensures output { output.new ≡ pool_at_exit result.number terms.now records.now
+        (date year month day) output.old }
+{
+    pool::pool_maps_of_day(terms, records, year, month, day, output)
+}

@@ -1,0 +1,19 @@
+// What `separation_list` exports to C.
+
+ghost use Rattle.separations.specs.Listing.{Lists};
+ghost use Rattle.separation_list.specs.Contract.{answer_in};
+
+use separation_list::Answer;
+
+// The separations of each two of these boundaries, on a map of these sides. For other languages too: include/jenwyllt.h declares it as jenwyllt_separations.
+#[unsafe(no_mangle)]
+pub extern "C" fn jenwyllt_separations(
+    width: u64,
+    height: u64,
+    boundaries: &[u64],
+    output: &mut [u64],
+) -> Answer
+    ensures { Lists width height boundaries.now output.old (answer_in result) output.new }
+{
+    separation_list::separation_list_separations(width, height, boundaries, output)
+}

@@ -1,0 +1,23 @@
+// What `sheet_writer` exports to C.
+
+ghost use Rattle.map_sheets.specs.Writing.{stating, Writes};
+ghost use Rattle.result_writer.specs.Contract.{answer_in};
+
+use result_writer::Answer;
+
+// Writes a map as a sheet of kind 3. For other languages too: include/jenwyllt.h declares it as jenwyllt_write_sheet.
+#[unsafe(no_mangle)]
+pub extern "C" fn jenwyllt_write_sheet(
+    pass: u64,
+    width: u64,
+    height: u64,
+    cells: &[u8],
+    boundaries: &[u64],
+    anchors: &[u64],
+    out: &mut [u8],
+) -> Answer
+    ensures { Writes (stating pass width height cells.now boundaries.now anchors.now)
+        out.old (answer_in result) out.new }
+{
+    sheet_writer::sheet_writer_write_sheet(pass, width, height, cells, boundaries, anchors, out)
+}

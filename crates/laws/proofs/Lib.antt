@@ -1,0 +1,3 @@
+pub mod RustInteriors
+pub mod RustJunctions
+pub mod RustPasses

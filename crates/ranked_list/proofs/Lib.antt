@@ -1,0 +1,3 @@
+pub mod OneBoundary
+pub mod RankedCalls
+pub mod RankedLaws

@@ -1,0 +1,4 @@
+pub mod Calls
+pub mod ErrorLaws
+pub mod PlaneLaws
+pub mod Theorem
