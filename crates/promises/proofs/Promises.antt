@@ -83,7 +83,7 @@ use Rattle.game.specs.EntryLaws.{Entry}
 use Rattle.game.proofs.EntryLaws as entries
 use Rattle.game_calls.specs.KeptGraph.{kept_game}
 use Rattle.game_calls.specs.GameVerdict.{GameAnswer}
-use Rattle.game_calls.specs.GameCalls as games
+use Rattle.game_calls.proofs.GameCalls as games
 use Rattle.topology.specs.Ranked.{RankedOver}
 use Rattle.desks.specs.Desks.{Desk, shared_refusal, desk_refusal}
 use Rattle.desks.specs.Desks as desk
