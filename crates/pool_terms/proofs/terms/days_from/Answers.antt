@@ -4,4 +4,4 @@ use Rattle.pool_terms.proofs.terms.days_from.Goals as goal
 
 pub returns-in-Number-end : goal.returns-in-Number-end
 returns-in-Number-end c =
-    rw (c.in-Number.is) refl
+    rw (c.in-Number.is, c.in-Number-end.is) refl

@@ -7,7 +7,7 @@ use Rattle.pool_terms.specs.Contract.{sharing}
 use Rattle.pool_terms.proofs.terms.overlaps_earlier.Given as goal
 
 abbrev pub invariant-loop-j : goal.invariant-loop-j
-invariant-loop-j l = (l.j ≤ l.i) × (any_below_lem l.j (sharing l.terms l.map (record { l.from = l.from; l.to = l.to })) ≡ false)
+invariant-loop-j l = (l.j ≤ l.i) × (any_below_lem l.j (sharing l.terms l.map (record { from = l.from; to = l.to })) ≡ false)
 
 abbrev pub decreases-loop-j : goal.decreases-loop-j
 decreases-loop-j l = l.i - l.j
