@@ -1,5 +1,5 @@
 -- The words of the contracts over lists in blocks of one size. Definitions only; assumes nothing.
-use Rattle.std.specs.Prelude.{ℕ, ◌+◌, ◌*◌, Bool, false, not, cond, List, [], get_or, take, drop}
+use Rattle.std.specs.Prelude.{ℕ, ◌*◌, Bool, false, not, cond, List, [], get_or, take, drop}
 use Rattle.definitions.specs.Scan.{gather, count_below}
 
 -- so many numbers of a list, from `at` on

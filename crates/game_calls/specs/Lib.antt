@@ -3,4 +3,3 @@ pub mod GameVerdict
 pub mod GameExit
 pub mod GameExamples
 pub mod SecondPartition
-pub mod GameCalls

@@ -19,7 +19,7 @@ use Rattle.areas.specs.Answers.{answer_of}
 use Rattle.areas.specs.Contract as alone
 use Rattle.call_partition.specs.Contract.{Ran}
 use Rattle.rust_partition.specs.Literal.PartitionBySpans.{SpanPartition, partition_by_spans, tallies_held, pair_rows_held}
-use Rattle.rust_partition.specs.PartitionAsRust.{Grid, call-grid, partition_grid, rust_labels, rust_areas, rust_tallies, rust_pairs}
+use Rattle.rust_partition.proofs.PartitionAsRust.{Grid, call-grid, partition_grid, rust_labels, rust_areas, rust_tallies, rust_pairs}
 
 -- labels l, tallies t and pairs p at exit, of lists that were lent: at their front the Rust's, and beyond as they were
 pub record AsRust (L : Lent) (P : SpanPartition) (l t p : List ℕ) : Type 0 where

@@ -2,8 +2,5 @@ pub mod SheetBytes
 pub mod Writing
 pub mod Converting
 pub mod Examples
-pub mod WrittenReads
 pub mod Before
-pub mod Converted
 pub mod Limited
-pub mod Calls

@@ -5,9 +5,9 @@ use mathlib.Core.Path.{◌≡◌, sym, ap, ◌∙◌, subst}
 use mathlib.Core.Bool.{Bool, true, false, not, ◌||◌, false≢true}
 use mathlib.Core.Option.{Option, none, some}
 use mathlib.Core.List.{List, [], ◌∷◌, ◌++◌}
-use Rattle.definitions.specs.Scan.{any, collect, gather}
+use Rattle.definitions.specs.Scan.{any}
 use Rattle.definitions.specs.Context.{Context}
-use Rattle.definitions.specs.RampMouths.{MouthProposal, conflict, key, ranks_before, mouth_proposal, proposals}
+use Rattle.definitions.specs.RampMouths.{MouthProposal, conflict, key, ranks_before, proposals}
 use Rattle.laws.specs.ListLaws.Lists.{any_append}
 use Rattle.laws.specs.OrderLaws.ListOrder.{by_key}
 use Rattle.laws.specs.OrderLaws.StableSort.{Weak}

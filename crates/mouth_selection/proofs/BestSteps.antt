@@ -1,16 +1,16 @@
 -- The steps of the choice by bests: the best of a ramp is put, a proposal is taken, and what falls with each. Assumes nothing.
-use Prim.Native.Nat.{ℕ, ◌+◌, ◌-◌, ◌*◌, ◌%◌, ◌≤◌, ◌<◌}
+use Prim.Native.Nat.{ℕ, ◌-◌, ◌%◌, ◌≤◌, ◌<◌}
 use native.Mathlib.Omega.{arith}
 use mathlib.Core.Path.{◌≡◌, refl, sym, ap, ◌∙◌, subst}
 use mathlib.Core.Logic.{⊎_elim}
 use mathlib.Core.Bool.{Bool, true, false, not, ◌&&◌, cond, true≢false}
-use mathlib.Core.Option.{Option, none, some}
+use mathlib.Core.Option.{none, some}
 use mathlib.Core.List.{List, [], ◌∷◌, ◌++◌}
 use lib.ListN.{length, get_or, set, length-set}
 use lib.Seq.{get_or-set_same, get_or-set_other}
 use lib.Dec.{eqb, ltb}
 use lib.Ieee.{binary64, to_bits}
-use borrow.Author.Tests.{ltb-true, lt-ltb}
+use borrow.Author.Tests.{ltb-true}
 use Rattle.definitions.specs.Scan.{only_if, count_below}
 use Rattle.definitions.specs.Context.{Context}
 use Rattle.definitions.specs.RampMouths.{MouthProposal, ranks_before, proposals, separation_of}
@@ -21,10 +21,10 @@ use Rattle.laws.specs.RegionLaws.OneMore.{OneMore, count_more}
 use Rattle.context.specs.Shown.{ShownPairs, ShownAnchored}
 use Rattle.mouth_proposals.specs.Candidates.{proposal_of}
 use Rattle.mouth_proposals.specs.Listed.{entry_at, Roomy}
-use Rattle.mouth_selection.specs.Held.{is_refused, is_used, TakenState}
+use Rattle.mouth_selection.specs.Held.{is_refused, TakenState}
 use Rattle.mouth_selection.specs.Entries.{marked_at, marked_entries, entry_if, Named, Measured}
 use Rattle.mouth_selection.specs.Rounds.{Under, same, least_from, least_among}
-use Rattle.mouth_selection.specs.Selecting.{Ended, Lists, row_of, Bests, Progress, BestOf, BestPut, Renewed, PutIf, weight}
+use Rattle.mouth_selection.specs.Selecting.{Ended, Lists, row_of, Progress, BestOf, BestPut, Renewed, PutIf, weight}
 use Rattle.mouth_selection.proofs.RoundLaws.{entry_in, entry_none}
 use Rattle.mouth_selection.proofs.SelectionLaws.{least_left-over, one_round, round_last}
 use Rattle.mouth_selection.proofs.BestLaws.{best_least, none_left, under_stays}

@@ -4,13 +4,13 @@ use native.Mathlib.Omega.{arith}
 use mathlib.Core.Path.{◌≡◌, refl, sym, ap, ap₂, ◌∙◌, subst}
 use mathlib.Core.Logic.{⊎_elim}
 use mathlib.Core.Bool.{Bool, true, false, not, ◌&&◌, ◌||◌, cond, or-false}
-use mathlib.Core.Option.{Option, none, some}
-use mathlib.Core.List.{List, [], ◌∷◌, ◌++◌, map}
+use mathlib.Core.Option.{Option, none}
+use mathlib.Core.List.{List, [], ◌∷◌, map}
 use lib.ListN.{get_or}
 use lib.Dec.{eqb, leb}
 use borrow.Author.Tests.{ne_eqb, eq-eqb, leb-true, le-leb}
 use Rattle.definitions.specs.Scan.{any, filter, member, collect}
-use Rattle.definitions.specs.Grid.{Pair, contains}
+use Rattle.definitions.specs.Grid.{contains}
 use Rattle.definitions.specs.MouthShapes.{distinct_regions, mouth_shape}
 use Rattle.definitions.specs.Context.{Context, full_cut, full_pair, no_ramp}
 use Rattle.definitions.specs.RampMouths.{MouthProposal, union_of, retain, is_local, corners_near_lem, broad_mouth, nearby_representative, overlay_representative, triangle, triangle_or, shaped_mouth, ranks_before, mouth_proposal, proposals}
@@ -24,7 +24,7 @@ use Rattle.context.specs.Shown.{ShownPairs, pair_at, pairs_between}
 use Rattle.context.specs.Rows.{NamedRow}
 use Rattle.context.proofs.ShownLaws.{shown-rows}
 use Rattle.mouth_proposals.specs.Rows.{inner_of}
-use Rattle.mouth_proposals.specs.Candidates.{proposal_of, found_mouth, mouth_candidate}
+use Rattle.mouth_proposals.specs.Candidates.{proposal_of, mouth_candidate}
 use Rattle.mouth_proposals.proofs.ApproachLaws.{Named}
 use Rattle.mouth_proposals.proofs.Distinct.{member_filter, member_distinct, member-inner}
 use Rattle.mouth_proposals.proofs.RowLists.{between_cons}

@@ -83,7 +83,7 @@ use Rattle.game.specs.EntryLaws.{Entry}
 use Rattle.game.proofs.EntryLaws as entries
 use Rattle.game_calls.specs.KeptGraph.{kept_game}
 use Rattle.game_calls.specs.GameVerdict.{GameAnswer}
-use Rattle.game_calls.specs.GameCalls as games
+use Rattle.game_calls.proofs.GameCalls as games
 use Rattle.topology.specs.Ranked.{RankedOver}
 use Rattle.desks.specs.Desks.{Desk, shared_refusal, desk_refusal}
 use Rattle.desks.specs.Desks as desk
@@ -127,8 +127,8 @@ use Rattle.sheets_equal.specs.ConvertedPrints as conversions
 use Rattle.map_sheets.specs.Writing.{Writes as WritesSheet}
 use Rattle.map_sheets.specs.Converting.{Converts}
 use Rattle.map_sheets.specs.Before as before
-use Rattle.map_sheets.specs.Calls.{InMemory as SheetInMemory}
-use Rattle.map_sheets.specs.Calls as new-sheets
+use Rattle.map_sheets.proofs.Calls.{InMemory as SheetInMemory}
+use Rattle.map_sheets.proofs.Calls as new-sheets
 use Rattle.sheets_equal.specs.SheetCalls.{Called as ReadCall, held}
 use Rattle.sheets_equal.specs.SheetCalls as sheet-calls
 use Rattle.sheets_equal.specs.ResultsEqual as results

@@ -9,7 +9,6 @@ use Rattle.island.specs.Decide.{is_alike}
 use Rattle.island.proofs.Decide.{alike}
 use Rattle.rest_definitions.specs.Rest.{rounds_of, rest_rows}
 use Rattle.rest_definitions.specs.RestExamples.{plain, ramp, input_of}
-use Rattle.rest.specs.LentIsland.{rest-island-lent}
 
 -- Behind four cells and a blocked one stands the proved case "three cells in a row". In the first map the four cells are the corridor, in the second they
 -- have a ramp that comes first in the list and nothing else; so the first takes three rounds and the second two.
@@ -22,7 +21,7 @@ unfoldable pub shorter : Lent
 unfolding input_of
 shorter = input_of 8 1 (5 ∷ 1 ∷ 0 ∷ 1 ∷ 0 ∷ 1 ∷ 1 ∷ 1 ∷ []) (ramp 2 9 8 0 8 8 ++ plain 48 0 48 8 ++ ramp 1 7 56 0 56 8) (0 ∷ 0 ∷ [])
 
-abbrev behind_five : ℕ → Bool
+abbrev pub behind_five : ℕ → Bool
 behind_five c = leb 5 c
 
 pub longer-rounds : rounds_of (map_in longer) ≡ 3
@@ -41,6 +40,3 @@ premises-hold = alike (map_in longer) (map_in shorter) behind_five refl
 pub longer-island : island_only (map_in longer) behind_five (rest_rows (map_in longer)) ≡ row 1 56 0 56 8 ∷ []
 unfolding rest_rows map_in longer cuts_island rank_of filter
 longer-island = refl
-
-pub shorter-island : island_only (map_in shorter) behind_five (rest_rows (map_in shorter)) ≡ row 1 56 0 56 8 ∷ []
-shorter-island = sym (rest-island-lent (map_in longer) (map_in shorter) behind_five premises-hold) ∙ longer-island

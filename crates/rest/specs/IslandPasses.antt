@@ -132,33 +132,3 @@ module _ (N N' : Map) (isl : ℕ → Bool) (A : Alike N N' isl) where
         island = inner N isl A.island ps T.within;
         island' = inner N' isl A.island' ps' T.within';
       }
-
-  pub together-passed : (pass : ℕ) {ps ps' : List ℕ} → Together ps ps' → Together (passed pass N ps) (passed pass N' ps')
-  together-passed pass {ps} {ps'} T =
-      record {
-        within = passed-within N isl A.island ps T.within pass;
-        within' = passed-within N' isl A.island' ps' T.within' pass;
-        same =
-            passed-ranks N isl A.island ps T.within pass
-            ∙ ap₂ (λ l S. collect (length l) (λ q. only_if (not (member q (removed_by pass (context_of S)))) (get_or l q 0))) T.same (restrict_same (kept_map N ps) (kept_map N' ps') isl (kept-alike T))
-            ∙ sym (passed-ranks N' isl A.island' ps' T.within' pass);
-      }
-
-  together-round : {ps ps' : List ℕ} → Together ps ps' → Together (round N ps) (round N' ps')
-  unfolding round
-  together-round T = together-passed 3 (together-passed 2 (together-passed 1 T))
-
-  pub together-iterate : (n : ℕ) {ps ps' : List ℕ} → Together ps ps' → Together (iterate N n ps) (iterate N' n ps')
-  unfolding iterate
-  together-iterate zero T = T
-  together-iterate (suc n) T = together-iterate n (together-round T)
-
-  pub together-start : Together (run 0 (span_count N)) (run 0 (span_count N'))
-  together-start =
-      record {
-        within = all_below_lem (span_count N);
-        within' = all_below_lem (span_count N');
-        same =
-            ranks-start N isl A.island ∙ ap (λ n. collect n (λ q. some q)) (sym (cutting-length N isl A.island) ∙ ap length A.counterparts ∙ cutting-length N' isl A.island')
-            ∙ sym (ranks-start N' isl A.island');
-      }

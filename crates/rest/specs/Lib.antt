@@ -8,7 +8,6 @@ pub mod FewerPairs
 pub mod StartMaps
 pub mod RowsInOrder
 pub mod Runs
-pub mod LentIsland
 pub mod PrintedIsland
 pub mod KeptAlike
 pub mod FlatLists

@@ -30,7 +30,7 @@ use Rattle.rest_definitions.specs.Rest.{rested, rest_rows}
 use Rattle.rest.specs.Picking.{filter-picked, first_none}
 use Rattle.rest.specs.StartMaps.{start-length, start-boundaries, start-boundary}
 use Rattle.rest.specs.Runs.{rested-reached, reached-ascends}
-use Rattle.rest.specs.IslandRest.{row_at, final_rows, rest-island}
+use Rattle.rest.specs.IslandRest.{row_at, final_rows}
 
 -- ---- a number stands once
 
@@ -156,9 +156,3 @@ module _ (M : Map) where
 
       one : (k : ℕ) → k < size → seen (start_row k) ≡ ranked S isl (row_at S k)
       one k h = λ t. record { number = rank_of S isl (place_is k h t); line = (sym (start-boundary M k h) t).endpoints }
-
--- "An island edited by itself must still leave its neighbour's final rows alike, as 01 has it for demand 3, and in the same order, under the mission's
--- premises for the starting map, taken in row order with canonical endpoints"
-pub rest-island-printed : (M M' : Map) (isl : ℕ → Bool) → Alike (start_map M) (start_map M') isl
-    → printed_island M isl (rest_rows M) ≡ printed_island M' isl (rest_rows M')
-rest-island-printed M M' isl A = printed-final M isl ∙ rest-island M M' isl A ∙ sym (printed-final M' isl)

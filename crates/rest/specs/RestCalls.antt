@@ -25,9 +25,8 @@ use Rattle.rest.specs.Rounds.{Rests, rested-rests, rounds_257}
 use Rattle.rest.specs.StartMaps.{start-boundaries}
 use Rattle.rest.specs.Runs.{numbered, printed}
 use Rattle.rest.specs.IslandRest.{final_rows}
-use Rattle.rest.specs.LentIsland.{rest-island-lent}
-use Rattle.rest.specs.PrintedIsland.{printed_island, rest-island-printed}
-use Rattle.rest.specs.KeptAlike.{has_row, number_at, rest-kept, rest-kept-lent}
+use Rattle.rest.specs.PrintedIsland.{printed_island}
+use Rattle.rest.specs.KeptAlike.{has_row, number_at}
 use Rattle.rest.specs.InnerCalls.{rest-accepted, accepted-answer}
 
 -- what was lent, the answer, and at exit labels l, masks m, queue q, tallies t, pairs p, records s and output o
@@ -91,34 +90,3 @@ pub record SameAtRest (M M' : Map) (isl : ℕ → Bool) (rows rows' : List Row) 
 pub record SameAsLent (M M' : Map) (isl : ℕ → Bool) (rows rows' : List Row) : Type 0 where
   pub alike : island_only M isl rows ≡ island_only M' isl rows'
   pub kept : (i j : ℕ) → cuts_island M isl i ≡ true → cuts_island M' isl j ≡ true → rank_of M isl i ≡ rank_of M' isl j → has_row i rows ≡ has_row j rows'
-
-module _
-    {L : Lent} {a : RestAnswer} {l m q t p : List ℕ} {s : List Region} {o : List ℕ}
-    {L' : Lent} {a' : RestAnswer} {l' m' q' t' p' : List ℕ} {s' : List Region} {o' : List ℕ}
-    (ran : RestRan L a l m q t p s o) (ran' : RestRan L' a' l' m' q' t' p' s' o')
-    (success : a.number ≡ 0) (success' : a'.number ≡ 0) (isl : ℕ → Bool) where
-  abbrev M : Map
-  M = map_in L
-
-  abbrev M' : Map
-  M' = map_in L'
-
-  abbrev rows : List Row
-  rows = rows_in_lem a.value o
-
-  abbrev rows' : List Row
-  rows' = rows_in_lem a'.value o'
-
-  -- "under the mission's premises for the starting map, taken in row order with canonical endpoints"
-  pub rest-island_calls : Alike (start_map M) (start_map M') isl → SameAtRest M M' isl rows rows'
-  rest-island_calls A =
-      subst (λ r. SameAtRest M M' isl r rows') (sym (rest_rows-held ran success))
-      (subst (λ r. SameAtRest M M' isl (rest_rows M) r) (sym (rest_rows-held ran' success'))
-      (record { alike = rest-island-printed M M' isl A; kept = rest-kept M M' isl A }))
-
-  -- the corollary: the premises of the maps as lent
-  pub rest-island-lent_calls : Alike M M' isl → SameAsLent M M' isl rows rows'
-  rest-island-lent_calls A =
-      subst (λ r. SameAsLent M M' isl r rows') (sym (rest_rows-held ran success))
-      (subst (λ r. SameAsLent M M' isl (rest_rows M) r) (sym (rest_rows-held ran' success'))
-      (record { alike = rest-island-lent M M' isl A; kept = rest-kept-lent M M' isl A }))

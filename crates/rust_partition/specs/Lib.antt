@@ -1,13 +1,6 @@
 pub mod Literal
-pub mod NeighborsAsRust
 pub mod MaskBits
 pub mod Candidates
-pub mod MasksAsRust
 pub mod OpenWays
 pub mod UsedCells
 pub mod FloodState
-pub mod FloodRounds
-pub mod ComponentsAsRust
-pub mod AssessmentAsRust
-pub mod PartitionAsRust
-pub mod Example

@@ -7,7 +7,7 @@ use lib.ListN.{length, get_or}
 use lib.Seq.{ext_get_or}
 use borrow.Author.Tests.{eq-eqb}
 use Rattle.map_sheets.specs.Converting.{same_numbers}
-use Rattle.map_sheets.specs.Converted.{same_numbers_lem}
+use Rattle.map_sheets.proofs.Converted.{same_numbers_lem}
 
 same_refl : (l : List ℕ) → same_numbers l l ≡ true
 unfolding same_numbers

@@ -12,7 +12,7 @@ use Rattle.definitions.specs.Verdict.{Answer}
 use Rattle.results.specs.Shortest.{shortest_within, shortest, list_bytes}
 use Rattle.map_sheets.specs.SheetBytes.{sheet_bytes}
 use Rattle.map_sheets.specs.Converting.{of_kind1, read_kind1, Converts}
-use Rattle.map_sheets.specs.Calls.{Made, made, made_reads}
+use Rattle.map_sheets.proofs.Calls.{Made, made, made_reads}
 use Rattle.sheets_equal.specs.NumberBytes.{Bytes}
 use Rattle.sheets_equal.specs.Refusing.{refuses-sheet}
 use Rattle.sheets_equal.specs.SheetsEqual.{kind_of, read-written, kind_1_or_3}

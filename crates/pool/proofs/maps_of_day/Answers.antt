@@ -48,8 +48,9 @@ pub returns-in-Number : goal.returns-in-Number
 returns-in-Number c =
     let lent = c.args in
     let L = c.list_day.ensures in
-    let day = sym (ap day_in c.in-Number.is) ∙ c.day_of.ensures in (
-      L.answer ∙ day-listed _ _ _ _ (sym (ap refusal_of c.in-Number.is) ∙ c.check_lists.ensures) day,
-      L.output
-          ∙ listed-at_exit (answer_of c.list_day.result).number lent.terms.now lent.records.now (date lent.year lent.month lent.day) lent.output.now day,
-    )
+    let day = sym (ap day_in c.in-Number.is) ∙ c.day_of.ensures in
+    record {
+      answer = L.answer ∙ day-listed _ _ _ _ (sym (ap refusal_of c.in-Number.is) ∙ c.check_lists.ensures) day;
+      output = L.output
+          ∙ listed-at_exit (answer_of c.list_day.result).number lent.terms.now lent.records.now (date lent.year lent.month lent.day) lent.output.now day;
+    }

@@ -8,16 +8,18 @@ pub returns-in-Maps : goal.returns-in-Maps
 returns-in-Maps c =
     let lent = c.args in
     let asked = date lent.year lent.month lent.day in
-    let given = c.in-Maps.is in (
-      sym (ap answer_of given) ∙ c.maps_of_day.ensures.answer,
-      c.maps_of_day.ensures.output ∙ ap (λ r. pool_at_exit (answer_of r).number lent.terms.now lent.records.now asked lent.output.now) given,
-    )
+    let given = c.in-Maps.is in
+    record {
+      answer = sym (ap answer_of given) ∙ c.maps_of_day.ensures.answer;
+      output = c.maps_of_day.ensures.output ∙ ap (λ r. pool_at_exit (answer_of r).number lent.terms.now lent.records.now asked lent.output.now) given;
+    }
 
 pub returns-in-Refused : goal.returns-in-Refused
 returns-in-Refused c =
     let lent = c.args in
     let asked = date lent.year lent.month lent.day in
-    let given = c.in-Refused.is in (
-      sym (ap answer_of given) ∙ c.maps_of_day.ensures.answer,
-      c.maps_of_day.ensures.output ∙ ap (λ r. pool_at_exit (answer_of r).number lent.terms.now lent.records.now asked lent.output.now) given,
-    )
+    let given = c.in-Refused.is in
+    record {
+      answer = sym (ap answer_of given) ∙ c.maps_of_day.ensures.answer;
+      output = c.maps_of_day.ensures.output ∙ ap (λ r. pool_at_exit (answer_of r).number lent.terms.now lent.records.now asked lent.output.now) given;
+    }

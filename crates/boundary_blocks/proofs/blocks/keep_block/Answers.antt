@@ -16,5 +16,8 @@ returns-then-removed-k c =
 pub returns : goal.returns
 returns c =
     let if1 = c.if-removed-k in
-    let given = c.args in record { list = c.move_block.ensures
-          ∙ ap (sets given.list.now (given.size * given.kept)) (sym (block-stays given.removed.now given.size given.list.now given.k if1.false)); answer = sym (ap (λ b. given.kept + bit (not b)) if1.false) }
+    let given = c.args in record {
+      list = c.move_block.ensures
+          ∙ ap (sets given.list.now (given.size * given.kept)) (sym (block-stays given.removed.now given.size given.list.now given.k if1.false));
+      answer = sym (ap (λ b. given.kept + bit (not b)) if1.false);
+    }

@@ -32,34 +32,34 @@ overflow_add-result c =
 pub returns-in-None : goal.returns-in-None
 returns-in-None c =
     let L = c.requires.shown in record {
-        bound = (omega arith, omega arith);
-        still_roomy = c.requires.roomy;
-        filled = λ C l S T ramp cut E F.
-            filled_none F (none_found C c.args.a c.args.m (sym (ap (candidate_form C c.args.m c.args.a) c.in-None.is) ∙ c.mouth_candidate.ensures C S T ramp cut E));
+      bound = (omega arith, omega arith);
+      still_roomy = c.requires.roomy;
+      filled = λ C l S T ramp cut E F.
+          filled_none F (none_found C c.args.a c.args.m (sym (ap (candidate_form C c.args.m c.args.a) c.in-None.is) ∙ c.mouth_candidate.ensures C S T ramp cut E));
     }
 
 pub returns-then-is_close : goal.returns-then-is_close
 returns-then-is_close c =
     let L = c.requires.shown in record {
-        bound = (omega arith, omega arith);
-        still_roomy = roomy-put c.requires.roomy c.put_candidate.ensures;
-        filled = λ C l S T ramp cut E F.
-            let lm = below S.counted c.requires.places.1.0 in
-            let la = below S.counted c.requires.places.1.1 in
-            let e = sym (ap (candidate_form C c.args.m c.args.a) c.in-Mouth.is) ∙ c.mouth_candidate.ensures C S T ramp cut E in
-            let d = c.separation_of-separation.ensures C S.bounds lm la in
-            filled_more C c.args.m c.args.a F c.requires.roomy c.put_candidate.ensures c.requires.places.0 lm la (outer-inside C c.args.a c.args.m (S.rows.named c.args.m lm) _ _ e)
-            (c.bits_of.ensures ∙ ap (to_bits binary64) d) (near-found C c.args.a c.args.m _ _ e (sym (ap (λ x. not (lt max_mouth_distance x)) d) ∙ sym c.is_close.ensures ∙ c.if-is_close.true));
+      bound = (omega arith, omega arith);
+      still_roomy = roomy-put c.requires.roomy c.put_candidate.ensures;
+      filled = λ C l S T ramp cut E F.
+          let lm = below S.counted c.requires.places.1.0 in
+          let la = below S.counted c.requires.places.1.1 in
+          let e = sym (ap (candidate_form C c.args.m c.args.a) c.in-Mouth.is) ∙ c.mouth_candidate.ensures C S T ramp cut E in
+          let d = c.separation_of-separation.ensures C S.bounds lm la in
+          filled_more C c.args.m c.args.a F c.requires.roomy c.put_candidate.ensures c.requires.places.0 lm la (outer-inside C c.args.a c.args.m (S.rows.named c.args.m lm) _ _ e)
+          (c.bits_of.ensures ∙ ap (to_bits binary64) d) (near-found C c.args.a c.args.m _ _ e (sym (ap (λ x. not (lt max_mouth_distance x)) d) ∙ sym c.is_close.ensures ∙ c.if-is_close.true));
     }
 
 pub returns-else-is_close : goal.returns-else-is_close
 returns-else-is_close c =
     let L = c.requires.shown in record {
-        bound = (omega arith, omega arith);
-        still_roomy = c.requires.roomy;
-        filled = λ C l S T ramp cut E F.
-            let lm = below S.counted c.requires.places.1.0 in
-            let la = below S.counted c.requires.places.1.1 in
-            let e = sym (ap (candidate_form C c.args.m c.args.a) c.in-Mouth.is) ∙ c.mouth_candidate.ensures C S T ramp cut E in
-            filled_none F (far-found C c.args.a c.args.m _ _ e (sym (ap (λ x. not (lt max_mouth_distance x)) (c.separation_of-separation.ensures C S.bounds lm la)) ∙ sym c.is_close.ensures ∙ c.if-is_close.false));
+      bound = (omega arith, omega arith);
+      still_roomy = c.requires.roomy;
+      filled = λ C l S T ramp cut E F.
+          let lm = below S.counted c.requires.places.1.0 in
+          let la = below S.counted c.requires.places.1.1 in
+          let e = sym (ap (candidate_form C c.args.m c.args.a) c.in-Mouth.is) ∙ c.mouth_candidate.ensures C S T ramp cut E in
+          filled_none F (far-found C c.args.a c.args.m _ _ e (sym (ap (λ x. not (lt max_mouth_distance x)) (c.separation_of-separation.ensures C S.bounds lm la)) ∙ sym c.is_close.ensures ∙ c.if-is_close.false));
     }

@@ -2,7 +2,6 @@
 use native.Mathlib.Omega.{arith}
 use native.Mathlib.Nat.{le_antisymm}
 use mathlib.Core.Path.{sym, ap}
-use mathlib.Core.Bool.{true, false}
 use Rattle.definitions.specs.Scan.{collect}
 use Rattle.laws.specs.ListLaws.ScanSteps.{collect_next}
 use Rattle.mouth_proposals.specs.Candidates.{mouth_candidate}
@@ -18,9 +17,9 @@ pub push_mouth-n-requires : goal.push_mouth-n-requires
 push_mouth-n-requires c =
     let at = c.loop-m in
     record {
-        shown = c.requires.shown;
-        roomy = at.invariant.1.1.0;
-        places = (omega (arith, at.invariant.1.0, c.loop-m-test.true, c.requires.shown.shows.bounds.few, c.requires.shown.shows.counted), (c.loop-m-test.true, c.requires.place));
+      shown = c.requires.shown;
+      roomy = at.invariant.1.1.0;
+      places = (omega (arith, at.invariant.1.0, c.loop-m-test.true, c.requires.shown.shows.bounds.few, c.requires.shown.shows.counted), (c.loop-m-test.true, c.requires.place));
     }
 
 pub loop-m-preserved : goal.loop-m-preserved
@@ -40,7 +39,7 @@ pub returns : goal.returns
 returns c =
     let at = c.loop-m in
     let same = le_antisymm at.invariant.0 c.loop-m-test.false in record {
-        bound = omega (arith, at.invariant.1.0, at.invariant.0, c.requires.shown.shows.bounds.few, c.requires.shown.shows.counted);
-        still_roomy = at.invariant.1.1.0;
-        filled = λ C S T ramp cut E. filled_as (at.invariant.1.1.1 C S T ramp cut E) (ap (λ m. collect m (mouth_candidate C c.args.a)) same);
+      bound = omega (arith, at.invariant.1.0, at.invariant.0, c.requires.shown.shows.bounds.few, c.requires.shown.shows.counted);
+      still_roomy = at.invariant.1.1.0;
+      filled = λ C S T ramp cut E. filled_as (at.invariant.1.1.1 C S T ramp cut E) (ap (λ m. collect m (mouth_candidate C c.args.a)) same);
     }

@@ -11,9 +11,9 @@ use Rattle.mouth_proposals.proofs.candidates.push_ramp.Goals as goal
 pub returns-then-kind_at-eq0 : goal.returns-then-kind_at-eq0
 returns-then-kind_at-eq0 c =
     record {
-        bound = omega arith;
-        still_roomy = c.requires.roomy;
-        filled = λ C S T. filled-empty (mouth_candidate C c.args.a) c.args.count (λ m. no_ramp_none C c.args.a m (kind-shown S.bounds c.args.a (below S.counted c.requires.place) ∙ ap (λ k. eqb k 0) (sym c.kind_at.ensures) ∙ eq-eqb _ 0 c.if-kind_at-eq0.true));
+      bound = omega arith;
+      still_roomy = c.requires.roomy;
+      filled = λ C S T. filled-empty (mouth_candidate C c.args.a) c.args.count (λ m. no_ramp_none C c.args.a m (kind-shown S.bounds c.args.a (below S.counted c.requires.place) ∙ ap (λ k. eqb k 0) (sym c.kind_at.ensures) ∙ eq-eqb _ 0 c.if-kind_at-eq0.true));
     }
 
 pub full_cut-requires : goal.full_cut-requires
@@ -23,33 +23,33 @@ full_cut-requires c =
 pub returns-then-not-full_cut : goal.returns-then-not-full_cut
 returns-then-not-full_cut c =
     record {
-        bound = omega arith;
-        still_roomy = c.requires.roomy;
-        filled = λ C S T. filled-empty (mouth_candidate C c.args.a) c.args.count (λ m. no_cut_none C c.args.a m (sym (c.full_cut.ensures C T (below S.counted c.requires.place)) ∙ not-true _ c.if-not-full_cut.true-raw));
+      bound = omega arith;
+      still_roomy = c.requires.roomy;
+      filled = λ C S T. filled-empty (mouth_candidate C c.args.a) c.args.count (λ m. no_cut_none C c.args.a m (sym (c.full_cut.ensures C T (below S.counted c.requires.place)) ∙ not-true _ c.if-not-full_cut.true-raw));
     }
 
 pub find_other_ends-ends-requires : goal.find_other_ends-ends-requires
 find_other_ends-ends-requires c =
     record {
-        sizes = (rows-counted c.requires.shown, c.requires.place);
-        tallies_room = tallies_at c.requires.shown c.requires.place;
-        stretches = λ i l. stretch_at c.requires.shown l;
+      sizes = (rows-counted c.requires.shown, c.requires.place);
+      tallies_room = tallies_at c.requires.shown c.requires.place;
+      stretches = λ i l. stretch_at c.requires.shown l;
     }
 
 pub push_mouths-requires : goal.push_mouths-requires
 push_mouths-requires c =
     record {
-        shown = c.requires.shown;
-        roomy = c.requires.roomy;
-        place = c.requires.place;
+      shown = c.requires.shown;
+      roomy = c.requires.roomy;
+      place = c.requires.place;
     }
 
 pub returns : goal.returns
 returns c =
     record {
-        bound = c.push_mouths.ensures.bound;
-        still_roomy = c.push_mouths.ensures.still_roomy;
-        filled = λ C S T.
-            let la = below S.counted c.requires.place in
-            c.push_mouths.ensures.filled C S T (kind-shown S.bounds c.args.a la ∙ ap (λ k. eqb k 0) (sym c.kind_at.ensures) ∙ ne_eqb _ 0 c.if-kind_at-eq0.false) (sym (c.full_cut.ensures C T la) ∙ not-false _ c.if-not-full_cut.false-raw) (c.find_other_ends-ends.ensures C S.counted S.bounds T S.rows);
+      bound = c.push_mouths.ensures.bound;
+      still_roomy = c.push_mouths.ensures.still_roomy;
+      filled = λ C S T.
+          let la = below S.counted c.requires.place in
+          c.push_mouths.ensures.filled C S T (kind-shown S.bounds c.args.a la ∙ ap (λ k. eqb k 0) (sym c.kind_at.ensures) ∙ ne_eqb _ 0 c.if-kind_at-eq0.false) (sym (c.full_cut.ensures C T la) ∙ not-false _ c.if-not-full_cut.false-raw) (c.find_other_ends-ends.ensures C S.counted S.bounds T S.rows);
     }

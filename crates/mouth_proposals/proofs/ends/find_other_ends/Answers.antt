@@ -8,8 +8,8 @@ use Rattle.mouth_proposals.proofs.ends.find_other_ends.Goals as goal
 pub full_pair-requires : goal.full_pair-requires
 full_pair-requires c =
     record {
-        tallies_room = c.requires.tallies_room;
-        stretch = c.requires.stretches c.args.a c.requires.sizes.1;
+      tallies_room = c.requires.tallies_room;
+      stretch = c.requires.stretches c.args.a c.requires.sizes.1;
     }
 
 pub returns-in-None : goal.returns-in-None

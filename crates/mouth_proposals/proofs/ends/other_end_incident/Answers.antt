@@ -2,7 +2,7 @@
 use Prim.Native.Nat.{◌<◌}
 use native.Mathlib.Nat.{le_antisymm}
 use mathlib.Core.Path.{refl, sym, ap, ap₂, ◌∙◌, subst}
-use mathlib.Core.Bool.{false, ◌&&◌}
+use mathlib.Core.Bool.{◌&&◌}
 use Rattle.definitions.specs.Scan.{any_below_lem}
 use Rattle.definitions.specs.Context.{is_incident}
 use Rattle.definitions.specs.RampMouths.{other_end_incident}

@@ -11,17 +11,17 @@ single_mouth-requires c =
     let n = subst (Within (length c.args.counts.now)) k c.requires.approach_within.0 in
     let t = subst (Within (length c.args.marks.now)) k c.requires.approach_within.1 in
     record {
-        outer_named = t.0;
-        r_named = (t.1.0, (t.1.1, n.1.1));
+      outer_named = t.0;
+      r_named = (t.1.0, (t.1.1, n.1.1));
     }
 
 pub star_mouth-requires : goal.star_mouth-requires
 star_mouth-requires c =
     let n = subst (Within (length c.args.counts.now)) c.in-Star.is c.requires.approach_within.0 in
     record {
-        stretch = c.requires.stretch;
-        named_rows = c.requires.named_rows;
-        r_named = n.1;
+      stretch = c.requires.stretch;
+      named_rows = c.requires.named_rows;
+      r_named = n.1;
     }
 
 pub returns-in-None : goal.returns-in-None

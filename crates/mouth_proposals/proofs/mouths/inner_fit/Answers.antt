@@ -1,7 +1,7 @@
 -- `mouths::inner_fit` meets its contract. The invariant: both regions of every row passed fit. Assumes nothing.
 use native.Mathlib.Nat.{le_antisymm}
 use mathlib.Core.Path.{sym, ap, ap₂, ◌∙◌}
-use mathlib.Core.Bool.{true, ◌&&◌}
+use mathlib.Core.Bool.{◌&&◌}
 use Rattle.definitions.specs.Scan.{all}
 use Rattle.context.specs.Shown.{pairs_between}
 use Rattle.mouth_proposals.specs.Outers.{inner_fits}

@@ -41,8 +41,8 @@ triangle_representative-triangle-requires c =
 pub approach_of-approach-requires : goal.approach_of-approach-requires
 approach_of-approach-requires c =
     record {
-        tallies_room = tallies_at c.requires.shown c.requires.places.1;
-        stretch = (stretch_at c.requires.shown c.requires.places.0, stretch_at c.requires.shown c.requires.places.1);
+      tallies_room = tallies_at c.requires.shown c.requires.places.1;
+      stretch = (stretch_at c.requires.shown c.requires.places.0, stretch_at c.requires.shown c.requires.places.1);
     }
 
 pub returns-then-triangle-is_none : goal.returns-then-triangle-is_none
@@ -83,12 +83,12 @@ returns-then-not-wide-nearby c =
 pub triangle_mouth-requires : goal.triangle_mouth-requires
 triangle_mouth-requires c =
     let h = both c.nearby_representative-nearby.result c.triangle_representative-triangle.result c.if-nearby-triangle.true in record {
-        places = (
+      places = (
         (stretch_at c.requires.shown c.requires.places.0).within,
         sym (between-length c.args.pairs.now _ _)
             ∙ triangle_two _ _ _ _ c.triangle_representative-triangle.ensures h.1,
       );
-        named_rows = λ k l u. (named-both c.requires.shown c.requires.places.0 k l u).1;
+      named_rows = λ k l u. (named-both c.requires.shown c.requires.places.0 k l u).1;
     }
 
 pub returns-then-nearby-triangle : goal.returns-then-nearby-triangle
@@ -107,10 +107,10 @@ returns-then-nearby-triangle c =
 pub approach_mouth-requires : goal.approach_mouth-requires
 approach_mouth-requires c =
     record {
-        stretch = stretch_at c.requires.shown c.requires.places.0;
-        named_rows = named-both c.requires.shown c.requires.places.0;
-        approach_within = named_in c.requires.shown c.requires.places.0 (full_pair c.requires.shown.context c.args.a)
-            (c.approach_of-approach.ensures c.requires.shown.context c.requires.shown.cuts c.requires.shown.shows.rows (below c.requires.shown.shows.counted c.requires.places.0) (below c.requires.shown.shows.counted c.requires.places.1));
+      stretch = stretch_at c.requires.shown c.requires.places.0;
+      named_rows = named-both c.requires.shown c.requires.places.0;
+      approach_within = named_in c.requires.shown c.requires.places.0 (full_pair c.requires.shown.context c.args.a)
+          (c.approach_of-approach.ensures c.requires.shown.context c.requires.shown.cuts c.requires.shown.shows.rows (below c.requires.shown.shows.counted c.requires.places.0) (below c.requires.shown.shows.counted c.requires.places.1));
     }
 
 pub returns : goal.returns

@@ -39,8 +39,8 @@ bounds-starts-m-2 c =
 pub inner_fit-requires : goal.inner_fit-requires
 inner_fit-requires c =
     record {
-        ordered = c.requires.stretch.rising;
-        named_rows = c.requires.named_rows;
+      ordered = c.requires.stretch.rising;
+      named_rows = c.requires.named_rows;
     }
 
 pub returns-then-not-inner_fit : goal.returns-then-not-inner_fit

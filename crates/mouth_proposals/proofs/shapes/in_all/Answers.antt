@@ -1,7 +1,6 @@
 -- `shapes::in_all` meets its contract. The invariant: every row passed names the region. Assumes nothing.
 use native.Mathlib.Nat.{le_antisymm}
 use mathlib.Core.Path.{sym, ap, ◌∙◌}
-use mathlib.Core.Bool.{true}
 use Rattle.definitions.specs.Scan.{all}
 use Rattle.definitions.specs.Grid.{contains}
 use Rattle.context.specs.Shown.{pairs_between}

@@ -17,9 +17,9 @@ is_gone-requires c =
     let m = c.loop-m.m in
     let h = c.loop-m-test.true in
     record {
-        boundary = omega (arith, c.requires.boundaries_room, h);
-        stretch = c.requires.rows.stretch m h;
-        named_rows = c.requires.rows.named m h;
+      boundary = omega (arith, c.requires.boundaries_room, h);
+      stretch = c.requires.rows.stretch m h;
+      named_rows = c.requires.rows.named m h;
     }
 
 pub returns-then-not-is_gone : goal.returns-then-not-is_gone

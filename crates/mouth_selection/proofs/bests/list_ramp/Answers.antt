@@ -21,9 +21,9 @@ lists S = record { counted = S.counted; bounds = S.bounds; rows = S.rows }
 pub push_ramp-n-requires : goal.push_ramp-n-requires
 push_ramp-n-requires c =
     record {
-        shown = c.requires.shown;
-        roomy = c.requires.roomy.0;
-        place = c.requires.place;
+      shown = c.requires.shown;
+      roomy = c.requires.roomy.0;
+      place = c.requires.place;
     }
 
 pub mark_left-requires : goal.mark_left-requires
@@ -31,19 +31,19 @@ mark_left-requires c =
     let S = c.requires.shown in
     let F = c.push_ramp-n.ensures.filled S.context S.shows S.cuts in
     record {
-        safe = safe-entries (lists S.shows) (named F.listed) F.listed.few S.shows.anchored.long;
-        marked_long = c.requires.roomy.1;
+      safe = safe-entries (lists S.shows) (named F.listed) F.listed.few S.shows.anchored.long;
+      marked_long = c.requires.roomy.1;
     }
 
 pub returns : goal.returns
 returns c =
     record {
-        bound = c.push_ramp-n.ensures.bound;
-        still_roomy = (c.push_ramp-n.ensures.still_roomy, c.mark_left.ensures.marked_length);
-        listed = λ C T S U K.
-            let F = c.push_ramp-n.ensures.filled C S U in
-            record {
-              filled = record { listed = F.listed; entries = F.entries ∙ ap (λ n. collect n (mouth_candidate C c.args.a)) (sym S.counted) };
-              left = c.mark_left.ensures.marked C T S.rows (named F.listed) K;
-            };
+      bound = c.push_ramp-n.ensures.bound;
+      still_roomy = (c.push_ramp-n.ensures.still_roomy, c.mark_left.ensures.marked_length);
+      listed = λ C T S U K.
+          let F = c.push_ramp-n.ensures.filled C S U in
+          record {
+            filled = record { listed = F.listed; entries = F.entries ∙ ap (λ n. collect n (mouth_candidate C c.args.a)) (sym S.counted) };
+            left = c.mark_left.ensures.marked C T S.rows (named F.listed) K;
+          };
     }

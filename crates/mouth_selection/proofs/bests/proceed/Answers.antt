@@ -46,25 +46,25 @@ returns-then-known-count c =
     let R = c.requires.room in
     let before = c.requires.places.1 in
     let stale = c.requires.stale in record {
-        bound = (before.1, λ h. refl);
-        stale = (
-          λ h. get_or-set_other s.fresh.now s.a s.known true false (λ e. omega (arith, e, before.0)) ∙ stale.1 s.known (le_refl _) h,
-          λ i h l. get_or-set_other s.fresh.now s.a i true false (λ e. omega (arith, e, h, before.0)) ∙ stale.1 i h l,
-        );
-        room = (
-            refl,
-            (
-              still-roomy R.0 W,
-              record {
-                gone_long = R.1.gone_long;
-                used_long = R.1.used_long;
-                found_long = length-set s.found.now s.a _ ∙ R.1.found_long;
-                fresh_long = length-set s.fresh.now s.a true ∙ R.1.fresh_long;
-              },
-            ),
-          );
-        weight = weight-put s.count s.removed.now s.fresh.now s.a (omega (arith, before)) (omega (arith, few, R.1.fresh_long)) stale.0;
-        progress = λ C L P H. (best_put P H W R.0 few R.1.found_long R.1.fresh_long (λ i k d. (k, d)), λ h. absurd (omega (arith, h, c.if-known-count.true)));
+      bound = (before.1, λ h. refl);
+      stale = (
+        λ h. get_or-set_other s.fresh.now s.a s.known true false (λ e. omega (arith, e, before.0)) ∙ stale.1 s.known (le_refl _) h,
+        λ i h l. get_or-set_other s.fresh.now s.a i true false (λ e. omega (arith, e, h, before.0)) ∙ stale.1 i h l,
+      );
+      room = (
+        refl,
+        (
+          still-roomy R.0 W,
+          record {
+            gone_long = R.1.gone_long;
+            used_long = R.1.used_long;
+            found_long = length-set s.found.now s.a _ ∙ R.1.found_long;
+            fresh_long = length-set s.fresh.now s.a true ∙ R.1.fresh_long;
+          },
+        ),
+      );
+      weight = weight-put s.count s.removed.now s.fresh.now s.a (omega (arith, before)) (omega (arith, few, R.1.fresh_long)) stale.0;
+      progress = λ C L P H. (best_put P H W R.0 few R.1.found_long R.1.fresh_long (λ i k d. (k, d)), λ h. absurd (omega (arith, h, c.if-known-count.true)));
     }
 
 pub advance-requires : goal.advance-requires
@@ -75,8 +75,8 @@ advance-requires c =
     let W = c.put_best.ensures in
     let R = c.requires.room in
     let given = c.requires.shown in record {
-        shown = (given.0, (given.1.0, best_put given.1.1.0 given.1.1.1 W R.0 few R.1.found_long R.1.fresh_long (λ i k d. (omega (arith, k, last), d))));
-        room = record {
+      shown = (given.0, (given.1.0, best_put given.1.1.0 given.1.1.1 W R.0 few R.1.found_long R.1.fresh_long (λ i k d. (omega (arith, k, last), d))));
+      room = record {
         gone_long = R.1.gone_long;
         used_long = R.1.used_long;
         found_long = length-set s.found.now s.a _ ∙ R.1.found_long;
@@ -98,16 +98,16 @@ returns c =
     let stale = c.requires.stale in
     let all = last in
     let E = c.advance.ensures in record {
-        bound = (E.bound.0, λ h. absurd (omega (arith, h, all)));
-        stale = (E.bound.1, λ i h l. absurd (omega (arith, h, l, all)));
-        room = (E.room.0, (still-roomy R.0 W, E.room.1));
-        weight = omega (
-              arith,
-              weight-put s.count s.removed.now s.fresh.now s.a (omega (arith, before)) (omega (arith, few, R.1.fresh_long)) stale.0,
-              E.weight,
-            );
-        progress = λ C L P H.
-                let N =
-                E.progress C L (best_put P H W R.0 few R.1.found_long R.1.fresh_long (λ i k d. (omega (arith, k, all), d))) in
-                (progress_as (λ i k. omega (arith, k, before.1)) N.0, N.1);
+      bound = (E.bound.0, λ h. absurd (omega (arith, h, all)));
+      stale = (E.bound.1, λ i h l. absurd (omega (arith, h, l, all)));
+      room = (E.room.0, (still-roomy R.0 W, E.room.1));
+      weight = omega (
+        arith,
+        weight-put s.count s.removed.now s.fresh.now s.a (omega (arith, before)) (omega (arith, few, R.1.fresh_long)) stale.0,
+        E.weight,
+      );
+      progress = λ C L P H.
+          let N =
+          E.progress C L (best_put P H W R.0 few R.1.found_long R.1.fresh_long (λ i k d. (omega (arith, k, all), d))) in
+          (progress_as (λ i k. omega (arith, k, before.1)) N.0, N.1);
     }

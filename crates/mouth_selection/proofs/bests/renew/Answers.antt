@@ -47,6 +47,6 @@ pub returns : goal.returns
 returns c =
     let at = c.loop-a in
     record {
-        renewed = record { found = λ i l. at.invariant.1.1.0 i (omega (arith, l, c.loop-a-test.false)); stale = λ i l. at.invariant.1.1.1 i (omega (arith, l, c.loop-a-test.false)) };
-        lengths = at.invariant.0.1;
+      renewed = record { found = λ i l. at.invariant.1.1.0 i (omega (arith, l, c.loop-a-test.false)); stale = λ i l. at.invariant.1.1.1 i (omega (arith, l, c.loop-a-test.false)) };
+      lengths = at.invariant.0.1;
     }

@@ -23,8 +23,8 @@ hold_row-requires c =
     let lo = named-lo c.row_at.ensures n n in
     let hi = named-hi c.row_at.ensures n n in
     record {
-        lo_named = (lo.0, lo.1.0);
-        hi_named = (hi.0, hi.1.0);
+      lo_named = (lo.0, lo.1.0);
+      hi_named = (hi.0, hi.1.0);
     }
 
 pub loop-k-preserved : goal.loop-k-preserved

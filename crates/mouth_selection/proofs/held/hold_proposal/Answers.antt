@@ -20,8 +20,8 @@ pub hold_inner-requires : goal.hold_inner-requires
 hold_inner-requires c =
     let same = same_long (eqb c.args.outer 0) c.args.marks.now _ c.args.outer c.hold_outer.ensures in
     record {
-        ordered = c.requires.stretch.rising;
-        named_rows = λ k l u. subst (λ n. NamedRow c.args.pairs.now n k) same (c.requires.named_rows k l u);
+      ordered = c.requires.stretch.rising;
+      named_rows = λ k l u. subst (λ n. NamedRow c.args.pairs.now n k) same (c.requires.named_rows k l u);
     }
 
 pub returns : goal.returns

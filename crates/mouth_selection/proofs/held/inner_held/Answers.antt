@@ -1,7 +1,7 @@
 -- `held::inner_held` meets its contract. The invariant: no row passed names such a region. Assumes nothing.
 use native.Mathlib.Nat.{le_antisymm}
 use mathlib.Core.Path.{sym, ap, ◌∙◌}
-use mathlib.Core.Bool.{false, not, ◌&&◌, ◌||◌}
+use mathlib.Core.Bool.{not, ◌&&◌, ◌||◌}
 use lib.Dec.{eqb, lit≤}
 use Rattle.definitions.specs.Scan.{any}
 use Rattle.laws.specs.RustMouths.Triangles.{any-regions}

@@ -13,8 +13,8 @@ bounds-marked-k c = omega (arith, c.requires.safe.few, c.requires.places.0)
 pub returns-then-not-marked-k : goal.returns-then-not-marked-k
 returns-then-not-marked-k c =
     let s = c.args in record {
-        bound = (c.requires.places.1, λ d. refl);
-        best = λ C outers kinds S M b.
+      bound = (c.requires.places.1, λ d. refl);
+      best = λ C outers kinds S M b.
           (b, passed_over C s.mouths.now s.ramps.now outers kinds s.marked.now s.n s.best s.k c.requires.places.0 (not-true _ c.if-not-marked-k.true-raw));
     }
 
@@ -22,8 +22,8 @@ pub returns-then-best-n : goal.returns-then-best-n
 returns-then-best-n c =
     let s = c.args in
     let e = not-false _ c.if-not-marked-k.false-raw in record {
-        bound = (omega (arith, c.requires.places.0), λ d. absurd (d refl));
-        best = λ C outers kinds S M b.
+      bound = (omega (arith, c.requires.places.0), λ d. absurd (d refl));
+      best = λ C outers kinds S M b.
           (λ h. e, first_found C s.mouths.now s.ramps.now outers kinds s.marked.now s.n s.best s.k c.requires.places.0 e c.if-best-n.true);
     }
 
@@ -31,9 +31,9 @@ pub entry_before-requires : goal.entry_before-requires
 entry_before-requires c =
     let s = c.args in
     let hb : s.best < s.n = lt_of_le-ne c.requires.places.1 c.if-best-n.false in record {
-        places = (omega (arith, c.requires.safe.few, c.requires.places.0), omega (arith, c.requires.safe.few, hb));
-        first_boundaries = (c.requires.safe.mouth s.k c.requires.places.0, c.requires.safe.ramp s.k c.requires.places.0);
-        second_boundaries = (c.requires.safe.mouth s.best hb, c.requires.safe.ramp s.best hb);
+      places = (omega (arith, c.requires.safe.few, c.requires.places.0), omega (arith, c.requires.safe.few, hb));
+      first_boundaries = (c.requires.safe.mouth s.k c.requires.places.0, c.requires.safe.ramp s.k c.requires.places.0);
+      second_boundaries = (c.requires.safe.mouth s.best hb, c.requires.safe.ramp s.best hb);
     }
 
 pub returns-then-entry_before : goal.returns-then-entry_before
@@ -41,8 +41,8 @@ returns-then-entry_before c =
     let s = c.args in
     let e = not-false _ c.if-not-marked-k.false-raw in
     let hb : s.best < s.n = lt_of_le-ne c.requires.places.1 c.if-best-n.false in record {
-        bound = (omega (arith, c.requires.places.0), λ d. absurd (d refl));
-        best = λ C outers kinds S M b. (
+      bound = (omega (arith, c.requires.places.0), λ d. absurd (d refl));
+      best = λ C outers kinds S M b. (
         λ h. e,
         one_better C s.mouths.now s.ramps.now outers kinds s.marked.now s.n s.best s.k c.requires.places.0 S M e hb (b hb) c.entry_before.ensures s.k c.if-entry_before.true c.requires.places.0 refl,
       );
@@ -53,8 +53,8 @@ returns c =
     let s = c.args in
     let e = not-false _ c.if-not-marked-k.false-raw in
     let hb : s.best < s.n = lt_of_le-ne c.requires.places.1 c.if-best-n.false in record {
-        bound = (c.requires.places.1, λ d. refl);
-        best = λ C outers kinds S M b. (
+      bound = (c.requires.places.1, λ d. refl);
+      best = λ C outers kinds S M b. (
         b,
         one_better C s.mouths.now s.ramps.now outers kinds s.marked.now s.n s.best s.k c.requires.places.0 S M e hb (b hb) c.entry_before.ensures s.best c.if-entry_before.false hb refl,
       );

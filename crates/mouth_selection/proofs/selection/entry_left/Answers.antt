@@ -12,9 +12,9 @@ pub is_left-requires : goal.is_left-requires
 is_left-requires c =
     let e = subst (λ m. SafeEntry c.args.pairs.now c.args.starts.now c.args.marks.now m (get_or c.args.outers.now c.args.k 0)) (sym c.wide_byte-m.ensures.same) c.requires.safe in
     record {
-        stretch = e.stretch;
-        named_rows = e.rows;
-        sizes = (e.marked, c.wide_byte-a.ensures.bound);
+      stretch = e.stretch;
+      named_rows = e.rows;
+      sizes = (e.marked, c.wide_byte-a.ensures.bound);
     }
 
 pub returns : goal.returns

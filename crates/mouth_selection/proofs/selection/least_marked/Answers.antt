@@ -2,7 +2,6 @@
 use native.Mathlib.Omega.{arith}
 use native.Mathlib.Nat.{le_antisymm}
 use mathlib.Core.Path.{ap, ◌∙◌}
-use mathlib.Core.Bool.{true, false}
 use mathlib.Core.Option.{none}
 use Rattle.definitions.specs.RampMouths.{ranks_before}
 use Rattle.mouth_selection.specs.Entries.{marked_entries}
@@ -19,8 +18,8 @@ loop-k-init c =
 pub better_marked-best-requires : goal.better_marked-best-requires
 better_marked-best-requires c =
     record {
-        safe = c.requires;
-        places = (c.loop-k-test.true, c.loop-k.invariant.0);
+      safe = c.requires;
+      places = (c.loop-k-test.true, c.loop-k.invariant.0);
     }
 
 pub loop-k-preserved : goal.loop-k-preserved
@@ -41,8 +40,8 @@ pub returns : goal.returns
 returns c =
     let at = c.loop-k in
     let s = c.args in record {
-        bound = at.invariant.0;
-        best = λ C outers kinds S M.
+      bound = at.invariant.0;
+      best = λ C outers kinds S M.
           let was = at.invariant.1.1 C outers kinds S M in
           (was.0, was.1 ∙ ap (λ k. least_from (ranks_before C) none (marked_entries C s.mouths.now s.ramps.now outers kinds s.marked.now k)) (le_antisymm at.invariant.1.0 c.loop-k-test.false));
     }

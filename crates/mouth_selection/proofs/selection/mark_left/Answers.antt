@@ -1,7 +1,7 @@
 -- `selection::mark_left` meets its contract. The invariant: the entries passed are marked where they are left. Assumes nothing.
 use native.Mathlib.Omega.{arith}
 use mathlib.Core.Path.{◌≡◌, ◌∙◌}
-use mathlib.Core.Bool.{false, not}
+use mathlib.Core.Bool.{not}
 use lib.ListN.{length-set}
 use Rattle.mouth_proposals.specs.Listed.{entry_at}
 use Rattle.mouth_selection.specs.Held.{is_refused}
@@ -14,8 +14,8 @@ loop-k-init c = (omega arith, (c.requires.marked_long, λ C T P N S i h. absurd 
 pub entry_left-requires : goal.entry_left-requires
 entry_left-requires c =
     record {
-        k_within = omega (arith, c.requires.safe.few, c.loop-k-test.true);
-        safe = c.requires.safe.safe c.loop-k.k c.loop-k-test.true;
+      k_within = omega (arith, c.requires.safe.few, c.loop-k-test.true);
+      safe = c.requires.safe.safe c.loop-k.k c.loop-k-test.true;
     }
 
 pub bounds-marked-k : goal.bounds-marked-k
@@ -41,6 +41,6 @@ pub returns : goal.returns
 returns c =
     let at = c.loop-k in
     record {
-        marked = λ C T P N S i l. at.invariant.1.1 C T P N S i (omega (arith, l, c.loop-k-test.false));
-        marked_length = at.invariant.1.0;
+      marked = λ C T P N S i l. at.invariant.1.1 C T P N S i (omega (arith, l, c.loop-k-test.false));
+      marked_length = at.invariant.1.0;
     }

@@ -22,7 +22,7 @@ returns c =
     let outer = c.args.outer in
     let kind = c.args.kind in
     let marks = c.args.marks.now in record {
-        taken = λ C T n B P long S hm ho free.
+      taken = λ C T n B P long S hm ho free.
           let p = proposal_of C m a outer kind in
           let ha : a < C.count = subst (λ k. a < k) (sym n) c.requires.marks_of_boundaries.0.0 in
           record {
@@ -37,12 +37,12 @@ returns c =
                 ∙ ap (λ l. mark_inner outer (cond (eqb outer 0) marks (mark_held (cond (eqb kind triangular) 2 1) marks outer)) (regions_of l)) (sym (P.at m hm))))
                 (held-taken C T m a outer kind marks S.holds long (P.named m hm) ho (refused-parts C T m a outer kind free));
           };
-        lengths = (
-          ap length c.hold_proposal.ensures ∙ inner-length _ _ _ ∙ outer-length (eqb outer 0) marks _ outer,
-          (c.use_end.ensures.used_length, length-set c.args.removed.now m true ∙ c.requires.marks_of_boundaries.1),
-        );
-        odd_parts = λ i h.
-            ap (λ l. get_or l i 0 % 2) c.hold_proposal.ensures
-            ∙ inner-odd outer (cond (eqb outer 0) marks (mark_held (cond (eqb kind triangular) 2 1) marks outer)) _ i (omega (arith, h, outer-length (eqb outer 0) marks (cond (eqb kind triangular) 2 1) outer))
-            ∙ outer-odd (eqb outer 0) marks (cond (eqb kind triangular) 2 1) outer i h;
+      lengths = (
+        ap length c.hold_proposal.ensures ∙ inner-length _ _ _ ∙ outer-length (eqb outer 0) marks _ outer,
+        (c.use_end.ensures.used_length, length-set c.args.removed.now m true ∙ c.requires.marks_of_boundaries.1),
+      );
+      odd_parts = λ i h.
+          ap (λ l. get_or l i 0 % 2) c.hold_proposal.ensures
+          ∙ inner-odd outer (cond (eqb outer 0) marks (mark_held (cond (eqb kind triangular) 2 1) marks outer)) _ i (omega (arith, h, outer-length (eqb outer 0) marks (cond (eqb kind triangular) 2 1) outer))
+          ∙ outer-odd (eqb outer 0) marks (cond (eqb kind triangular) 2 1) outer i h;
     }

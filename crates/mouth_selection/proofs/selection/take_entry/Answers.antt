@@ -12,11 +12,11 @@ pub take-requires : goal.take-requires
 take-requires c =
     let e = subst (λ m. SafeEntry c.args.pairs.now c.args.starts.now c.args.marks.now m (get_or c.args.outers.now c.args.k 0)) (sym c.wide_byte-m.ensures.same) c.requires.safe in
     record {
-        boundaries_room = c.requires.boundaries_room.1;
-        marks_of_boundaries = ((subst (λ a. a < c.args.count) (sym c.wide_byte-a.ensures.same) c.requires.marks_of_boundaries.0, c.requires.marks_of_boundaries.1.0), c.requires.marks_of_boundaries.1.1);
-        stretch = e.stretch;
-        named_rows = e.rows;
-        marks_room = e.marked;
+      boundaries_room = c.requires.boundaries_room.1;
+      marks_of_boundaries = ((subst (λ a. a < c.args.count) (sym c.wide_byte-a.ensures.same) c.requires.marks_of_boundaries.0, c.requires.marks_of_boundaries.1.0), c.requires.marks_of_boundaries.1.1);
+      stretch = e.stretch;
+      named_rows = e.rows;
+      marks_room = e.marked;
     }
 
 pub returns : goal.returns

@@ -2,7 +2,6 @@
 use native.Mathlib.Omega.{arith}
 use native.Mathlib.Nat.{le_antisymm}
 use mathlib.Core.Path.{ap, ◌∙◌}
-use mathlib.Core.Bool.{false}
 use lib.ListN.{length-set}
 use Rattle.mouth_selection.specs.Held.{end_mark}
 use Rattle.mouth_selection.proofs.TakenLaws.{ends_none, ends_more}
@@ -23,6 +22,6 @@ returns c =
     let s = c.args in
     let at = c.loop-j in
     record {
-        used = λ i. at.invariant.1.1 i ∙ ap (λ k. end_mark s.boundaries.now s.a k s.used.now i) (le_antisymm at.invariant.0 c.loop-j-test.false);
-        used_length = at.invariant.1.0;
+      used = λ i. at.invariant.1.1 i ∙ ap (λ k. end_mark s.boundaries.now s.a k s.used.now i) (le_antisymm at.invariant.0 c.loop-j-test.false);
+      used_length = at.invariant.1.0;
     }

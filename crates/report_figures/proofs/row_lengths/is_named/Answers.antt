@@ -2,6 +2,7 @@
 use Rattle.std.proofs.Common.{◌∙◌, ⊎_elim, rules}
 use Rattle.report_figures.proofs.Counting.{none_first, found_here, not_here, all_asked}
 use Rattle.report_figures.proofs.row_lengths.is_named.Goals as goal
+use Rattle.report_figures.proofs.row_lengths.is_named.Goals.{then-has_number, else-has_number}
 
 pub loop-k-init : goal.loop-k-init
 loop-k-init c = (search rules, none_first _ _)
@@ -9,10 +10,10 @@ loop-k-init c = (search rules, none_first _ _)
 pub loop-k-preserved : goal.loop-k-preserved
 loop-k-preserved c =
     let I = c.loop-k.invariant in
-    ⊎_elim
-    (λ w. (search rules, w.1 ∙ found_here _ _ _ c.has_number.ensures w.0.taken))
-    (λ w. (search rules, w.1 ∙ not_here _ _ _ c.has_number.ensures I.1 w.0.left))
-    c.if-has_number.branch
+    elim c.if-has_number.branch [
+      | then-has_number w ↦ (search rules, w.found-is ∙ found_here _ _ _ c.has_number.ensures w.if-has_number.true)
+      | else-has_number w ↦ (search rules, w.found-is ∙ not_here _ _ _ c.has_number.ensures I.1 w.if-has_number.false)
+    ]
 
 pub returns : goal.returns
 returns c =

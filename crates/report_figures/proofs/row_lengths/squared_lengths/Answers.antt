@@ -11,8 +11,8 @@ pub squared_length-sum-requires : goal.squared_length-sum-requires
 squared_length-sum-requires c =
     let given = c.requires in
     record {
-        output_room = omega (arith, given.held, c.loop-k-test.true);
-        pixels = given.lines _ c.loop-k-test.true;
+      output_room = omega (arith, given.held, c.loop-k-test.true);
+      pixels = given.lines _ c.loop-k-test.true;
     }
 
 pub overflow_add-sum : goal.overflow_add-sum

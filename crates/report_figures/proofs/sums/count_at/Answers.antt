@@ -5,7 +5,7 @@ use Rattle.report_figures.proofs.sums.count_at.Goals as goal
 
 pub returns-then-number : goal.returns-then-number
 returns-then-number c =
-    ap (λ n. set c.args.t1 c.args.number n) c.wrapping_add_u64.ensures ∙ counted c.args.t1 c.args.number (search rules)
+    ap (λ n. set c.args.counts c.args.number n) c.wrapping_add_u64.ensures.value ∙ counted c.args.counts c.args.number (search rules)
 
 pub returns-else-number : goal.returns-else-number
-returns-else-number c = not-counted c.args.t1 c.args.number (search rules)
+returns-else-number c = not-counted c.args.counts c.args.number (search rules)

@@ -4,8 +4,8 @@ use Rattle.report_figures.proofs.sums.with_figures.Goals as goal
 pub returns : goal.returns
 returns c =
     λ i. record {
-      accepted = c.wrapping_add_u64.ensures i;
-      boundaries = c.wrapping_add_u64-2.ensures i;
-      kept = c.wrapping_add_u64-3.ensures i;
-      removed = c.wrapping_add_u64-4.ensures i;
+      accepted = c.wrapping_add_u64.ensures.value i;
+      boundaries = c.wrapping_add_u64-2.ensures.value i;
+      kept = c.wrapping_add_u64-3.ensures.value i;
+      removed = c.wrapping_add_u64-4.ensures.value i;
     }

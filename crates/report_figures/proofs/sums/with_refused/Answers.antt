@@ -4,4 +4,4 @@ use Rattle.report_figures.proofs.sums.with_refused.Goals as goal
 
 pub returns : goal.returns
 returns c =
-    refused-added c.args.report c.args.number c.wrapping_add_u64.ensures c.count_at-refused.ensures
+    refused-added c.args.report c.args.number c.wrapping_add_u64.ensures.value c.count_at-refused.ensures

@@ -25,7 +25,7 @@ use Rattle.rust_partition.specs.UsedCells.{used, used_some, used_none, used-zero
 use Rattle.rust_partition.specs.Literal.Components.{Waiting, Flooding, Components, drain, flood_from, flood_all, components}
 use Rattle.rust_partition.specs.OpenWays.{uncut-level}
 use Rattle.rust_partition.specs.FloodState as flood
-use Rattle.rust_partition.specs.FloodRounds.{final, State, Drained, drained}
+use Rattle.rust_partition.proofs.FloodRounds.{final, State, Drained, drained}
 
 module _ (M : Map) (cells : length M.cells ≡ cell_count M) (masks : List ℕ) (marks : Marks M masks (cut_all_lem M)) where
   -- ---- the loop over all cells

@@ -30,7 +30,7 @@ use Rattle.grid_steps.proofs.MarkStep.{marks_none, mark-adds}
 use Rattle.rust_partition.specs.Literal.Neighbors.{index_rust, neighbors_rust}
 use Rattle.rust_partition.specs.Literal.CutMasks.{expect, edge_bit, or_at, Marking, mark_neighbor, mark_neighbors, mark_position, mark_positions, Removed, remove_by_span, remove_by_spans, removed_edges}
 use Rattle.rust_partition.specs.Candidates.{Inside, candidates-inside}
-use Rattle.rust_partition.specs.NeighborsAsRust.{index-inside, index-walkable, neighbors-are}
+use Rattle.rust_partition.proofs.NeighborsAsRust.{index-inside, index-walkable, neighbors-are}
 use Rattle.rust_partition.specs.MaskBits.{bit-set, edge_bit_lem, edge_bit-back}
 
 -- ---- masks and edges

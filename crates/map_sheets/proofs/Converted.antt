@@ -13,7 +13,7 @@ use Rattle.laws.specs.SheetReading.SheetSizes.{Gives, gives_any, gives_value, gi
 use Rattle.results.proofs.WrittenReads.{Words}
 use Rattle.map_sheets.specs.SheetBytes.{sheet_bytes}
 use Rattle.map_sheets.specs.Converting.{same_numbers, is_one_list}
-use Rattle.map_sheets.specs.WrittenReads.{Writable, written-reads}
+use Rattle.map_sheets.proofs.WrittenReads.{Writable, written-reads}
 
 -- ---- a sheet that was read can be written
 

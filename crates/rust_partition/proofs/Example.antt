@@ -8,7 +8,7 @@ use Rattle.definitions.specs.CaseJ.{map_j, pair}
 use Rattle.rust_partition.specs.Literal.Components.{Area}
 use Rattle.rust_partition.specs.Literal.Assessment.{Assessment}
 use Rattle.rust_partition.specs.Literal.PartitionBySpans.{SpanPartition, partition_by_spans}
-use Rattle.rust_partition.specs.PartitionAsRust.{Grid, rust_labels}
+use Rattle.rust_partition.proofs.PartitionAsRust.{Grid, rust_labels}
 
 abbrev area : ℕ → ℕ → Area
 area id count = record { id = id; cell_count = count }

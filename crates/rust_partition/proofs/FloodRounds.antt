@@ -25,7 +25,7 @@ use Rattle.rust_partition.specs.UsedCells.{used}
 use Rattle.rust_partition.specs.Literal.Neighbors.{index_rust, neighbors_rust}
 use Rattle.rust_partition.specs.Literal.CutMasks.{expect, edge_bit, has_bit}
 use Rattle.rust_partition.specs.Literal.Components.{Waiting, Flooding, visit_neighbor, visit_neighbors, drain}
-use Rattle.rust_partition.specs.NeighborsAsRust.{index-walkable, neighbors-are}
+use Rattle.rust_partition.proofs.NeighborsAsRust.{index-walkable, neighbors-are}
 use Rattle.rust_partition.specs.MaskBits.{bit-asked, edge_bit_lem}
 use Rattle.rust_partition.specs.OpenWays.{open_inside, labels-level}
 use Rattle.rust_partition.specs.FloodState as flood

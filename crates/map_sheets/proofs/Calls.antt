@@ -16,8 +16,8 @@ use Rattle.results.proofs.WrittenReads.{Words}
 use Rattle.map_sheets.specs.SheetBytes.{sheet_bytes}
 use Rattle.map_sheets.specs.Writing.{write_verdict, written_at_exit, Writes}
 use Rattle.map_sheets.specs.Converting.{is_one_list, of_kind1, read_kind1, convert_answer, convert_verdict, converted_bytes, Converts}
-use Rattle.map_sheets.specs.WrittenReads.{Writable, written-reads}
-use Rattle.map_sheets.specs.Converted.{converted-states}
+use Rattle.map_sheets.proofs.WrittenReads.{Writable, written-reads}
+use Rattle.map_sheets.proofs.Converted.{converted-states}
 use Rattle.map_sheets.specs.Limited.{read-within}
 use Rattle.laws.specs.TableLaws.AcceptedCalls.{Numbered, refusal-numbered, spans-numbered, number-above}
 use Rattle.laws.specs.SheetReading.SheetSizes.{sides_most}

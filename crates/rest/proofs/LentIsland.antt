@@ -23,7 +23,7 @@ use Rattle.rest_definitions.specs.Rest.{rest_rows}
 use Rattle.rest.specs.Picking.{filter-picked, picked_same}
 use Rattle.rest.specs.StartMaps.{start-length, start-count, start-boundary, start-cuts, start-island}
 use Rattle.rest.specs.IslandPasses.{ranks, cutting_at}
-use Rattle.rest.specs.IslandRest.{together-rested}
+use Rattle.rest.proofs.IslandRest.{together-rested}
 
 -- a boundary with other endpoints
 abbrev turn : Boundary → Segment → Boundary

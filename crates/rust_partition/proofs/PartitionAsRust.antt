@@ -25,9 +25,9 @@ use Rattle.laws.specs.TableLaws.AcceptedCalls.{accepted}
 use Rattle.rust_partition.specs.Literal.CutMasks.{removed_edges}
 use Rattle.rust_partition.specs.Literal.Assessment.{Assessment, boundary_assessment}
 use Rattle.rust_partition.specs.Literal.PartitionBySpans.{partition_by_spans, tallies_held, pair_rows_from, pair_rows_held}
-use Rattle.rust_partition.specs.MasksAsRust.{masks-are, edges_are}
-use Rattle.rust_partition.specs.ComponentsAsRust.{labels-are, areas-count}
-use Rattle.rust_partition.specs.AssessmentAsRust.{assessed}
+use Rattle.rust_partition.proofs.MasksAsRust.{masks-are, edges_are}
+use Rattle.rust_partition.proofs.ComponentsAsRust.{labels-are, areas-count}
+use Rattle.rust_partition.proofs.AssessmentAsRust.{assessed}
 
 -- sides of at least 1, and a byte for each cell
 pub record Grid (M : Map) : Type 0 where

@@ -1,0 +1,3 @@
+pub mod Calls
+pub mod Converted
+pub mod WrittenReads

@@ -1,0 +1,16 @@
+-- The premises of the island of a run to rest are met by maps that differ and that need different numbers of rounds, computed. Assumes nothing.
+use Rattle.std.specs.Prelude.{ℕ, ◌≡◌, refl, Bool, [], ◌∷◌, ◌++◌, leb}
+use Rattle.std.proofs.Common.{sym, ◌∙◌}
+use Rattle.definitions.specs.Scan.{filter}
+use Rattle.definitions.specs.Verdict.{Lent, map_in}
+use Rattle.definitions.specs.CaseJ.{row}
+use Rattle.island.specs.Premises.{cuts_island, rank_of, Alike, island_only}
+use Rattle.island.specs.Decide.{is_alike}
+use Rattle.island.proofs.Decide.{alike}
+use Rattle.rest_definitions.specs.Rest.{rounds_of, rest_rows}
+use Rattle.rest_definitions.specs.RestExamples.{plain, ramp, input_of}
+use Rattle.rest.proofs.LentIsland.{rest-island-lent}
+use Rattle.rest.specs.Example.{longer, shorter, behind_five, premises-hold, longer-island}
+
+pub shorter-island : island_only (map_in shorter) behind_five (rest_rows (map_in shorter)) ≡ row 1 56 0 56 8 ∷ []
+shorter-island = sym (rest-island-lent (map_in longer) (map_in shorter) behind_five premises-hold) ∙ longer-island
