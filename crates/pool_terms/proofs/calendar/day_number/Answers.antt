@@ -3,7 +3,6 @@ use Rattle.catalogue.specs.Dates.{day_number}
 use Rattle.catalogue.proofs.DateLaws.{parts}
 use Rattle.pool_terms.proofs.CalendarTables.{years_before, months_most, month_most}
 use native.Mathlib.Omega.{arith}
-use borrow.Author.Rules.{rules}
 use Rattle.pool_terms.proofs.calendar.day_number.Goals as goal
 
 pub overflow_sub-years : goal.overflow_sub-years
