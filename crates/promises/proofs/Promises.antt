@@ -59,7 +59,7 @@ use Rattle.island_calls.specs.RustRows.{rust_rows}
 use Rattle.island_calls.specs.RustPartition.{AsRust}
 use Rattle.island_calls.specs.RustPartition as partitions
 use Rattle.record_sums.specs.Totals.{AddUp}
-use Rattle.record_sums.specs.Theorem as sums
+use Rattle.record_sums.proofs.Theorem as sums
 use Rattle.ranked_list.specs.RankedList.{ranked_of}
 use Rattle.ranked_list.specs.RankedAnswers.{RankedAnswer}
 use Rattle.ranked_list.proofs.RankedLaws.{chosen}
