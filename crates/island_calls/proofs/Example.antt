@@ -35,17 +35,23 @@ shown L L' isl {held} {held'} ok ok' same premises rows rows' left =
           ap (island_only (map_in L') isl) (sym holds') ∙ sym (island_outputs (met L) (met L') ok ok' same isl premises) ∙ ap (island_only (map_in L) isl) holds ∙ left;
     }
 
+-- ---- pass 1
+
 pub mouths : Shown maps.mouth (elsewhere maps.mouth') maps.behind_four (row 3 16 0 16 8 ∷ row 1 48 0 48 8 ∷ []) (row 0 8 0 8 8 ∷ row 2 48 0 48 8 ∷ []) (row 1 48 0 48 8 ∷ [])
 unfolding elsewhere maps.mouth maps.mouth' map_in verdict rows_from member cuts_island rank_of
 mouths =
     shown maps.mouth (elsewhere maps.mouth') maps.behind_four refl refl refl (met_maps.mouth-shown).premises (maps.rows-without 1 (map_in maps.mouth) maps.mouth-removes)
     (maps.rows-without 1 (map_in maps.mouth') maps.mouth'-removes) refl
 
+-- ---- pass 2
+
 pub interiors : Shown maps.interior (elsewhere maps.interior') maps.behind_four (row 3 8 0 8 8 ∷ row 4 16 0 16 8 ∷ row 0 40 0 40 8 ∷ row 2 56 0 56 8 ∷ []) (row 1 8 0 8 8 ∷ row 0 40 0 40 8 ∷ row 3 56 0 56 8 ∷ []) (row 0 40 0 40 8 ∷ row 2 56 0 56 8 ∷ [])
 unfolding elsewhere maps.interior maps.interior' map_in verdict rows_from member cuts_island rank_of
 interiors =
     shown maps.interior (elsewhere maps.interior') maps.behind_four refl refl refl (met_maps.interior-shown).premises (maps.rows-without 2 (map_in maps.interior) maps.interior-removes)
     (maps.rows-without 2 (map_in maps.interior') maps.interior'-removes) refl
+
+-- ---- pass 3
 
 pub junctions : Shown maps.junction (elsewhere maps.junction') maps.first_four (row 1 8 8 8 16 ∷ row 2 8 8 16 8 ∷ row 4 16 16 24 16 ∷ row 3 24 8 24 16 ∷ row 5 40 8 48 8 ∷ []) (row 2 8 8 8 16 ∷ row 3 8 8 16 8 ∷ row 5 16 16 24 16 ∷ row 4 24 8 24 16 ∷ row 0 40 16 48 16 ∷ []) (row 1 8 8 8 16 ∷ row 2 8 8 16 8 ∷ row 4 16 16 24 16 ∷ row 3 24 8 24 16 ∷ [])
 unfolding elsewhere maps.junction maps.junction' map_in verdict rows_from member cuts_island rank_of

@@ -62,9 +62,3 @@ pub record Shown (L L' : Lent) (isl : ℕ → Bool) (held held' alike : List Row
   pub holds' : rows_held (verdict L') (exit L').output ≡ held'
   pub island : island_only (map_in L) isl held ≡ alike
   pub island' : island_only (map_in L') isl held' ≡ alike
-
--- ---- pass 1
-
--- ---- pass 2
-
--- ---- pass 3
