@@ -21,8 +21,7 @@ pub struct JenwylltAnswer {
     pub value: u64,
 }
 
-#[unsafe(no_mangle)]
-pub extern "C" fn jenwyllt_partition(
+pub fn jenwyllt_partition(
     width: u64,
     height: u64,
     cells: &[u8],
@@ -95,8 +94,7 @@ fn refused(number: u32, place: usize) -> JenwylltSheet
     }
 }
 
-#[unsafe(no_mangle)]
-pub extern "C" fn jenwyllt_read_sheet(
+pub fn jenwyllt_read_sheet(
     bytes: &[u8],
     cells: &mut [u8],
     spans: &mut [u64],
@@ -121,8 +119,7 @@ pub struct Outcome {
     pub value: f64,
 }
 
-#[unsafe(no_mangle)]
-pub extern "C" fn jenwyllt_hypotenuse(x: f64, y: f64) -> Outcome
+pub fn jenwyllt_hypotenuse(x: f64, y: f64) -> Outcome
     ensures { (result.number ≡ hypot_number x y) × (result.value ≡ hypot_value x y) }
 {
     match hypotenuse(x, y) {
@@ -135,8 +132,7 @@ pub extern "C" fn jenwyllt_hypotenuse(x: f64, y: f64) -> Outcome
 }
 
 // The value alone, for a caller whose arguments are in range.
-#[unsafe(no_mangle)]
-pub extern "C" fn jenwyllt_hypot(x: f64, y: f64) -> f64
+pub fn jenwyllt_hypot(x: f64, y: f64) -> f64
     ensures { result ≡ hypot_value x y }
 {
     jenwyllt_hypotenuse(x, y).value

@@ -7,7 +7,7 @@ use mathlib.Core.List.{List, [], ◌∷◌, ◌++◌}
 use lib.ListN.{get_or}
 use Rattle.definitions.specs.Scan.{any, filter}
 use Rattle.definitions.specs.Context.{Context}
-use Rattle.definitions.specs.Junctions.{conflict, proposals, ranked}
+use Rattle.definitions.specs.Junctions.{conflict, proposals}
 use Rattle.laws.specs.ListLaws.Lists.{All, done, more, all_append}
 use Rattle.junction_proposals.specs.Lent.{Shows}
 use Rattle.junction_proposals.specs.Rows.{row_at, rows_of, is_allowed}
@@ -40,10 +40,10 @@ module _ {A : Type 0} (P : A → Type 0) (c d : A → A → Bool) (same : (x y :
 
   list_same : {earlier : List (Listed A)} → All Fits earlier → {l : List A} → All P l → judged_after c earlier l ≡ judged_after d earlier l
   unfolding judged_after judged
-  list_same {earlier} hs done = refl
-  list_same {earlier} hs (more {x = p} {l = l} h rest) =
+  list_same {earlier = earlier} hs done = refl
+  list_same {earlier = earlier} hs (more {x = p} {l = l} h rest) =
       ap₂ {A = Listed A} {C = List (Listed A)} ◌∷◌ (judged_same hs p h)
-      (list_same (all_append hs (more h done)) rest ∙ ap (λ r. judged_after d (earlier ++ (r ∷ [])) l) (judged_same hs p h))
+      (list_same {earlier = earlier ++ (judged c earlier p ∷ [])} (all_append hs (more h done)) rest ∙ ap (λ r. judged_after d (earlier ++ (r ∷ [])) l) (judged_same hs p h))
 
 -- ---- of a context
 

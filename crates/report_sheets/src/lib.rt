@@ -131,8 +131,7 @@ fn add_sheet(report: Report, bytes: &[u8]) -> Reported
 }
 
 // A sheet of these bytes, read and run with what `keptlist` lends, is added to the report. A run beyond the last is refused before anything is read.
-#[unsafe(no_mangle)]
-pub extern "C" fn report_sheets_report_sheet(report: Report, bytes: &[u8]) -> Reported
+pub fn report_sheets_report_sheet(report: Report, bytes: &[u8]) -> Reported
     ensures { SheetReported (report_form report) bytes.now result }
 {
     if has_room(report) {

@@ -26,8 +26,8 @@ asked {k = k} h l p a q b =
       told = h.told;
       whole = omega (arith, h.whole);
       fits = h.fits k l;
-      first_is = record_is h.held p (h.fits k l).first-from (h.fits k l).first_to a;
-      second_is = record_is h.held q (h.fits k l).second_from (h.fits k l).second-to b;
+      first_is = record_is h.held p (h.fits k l).first_from (h.fits k l).first_to a;
+      second_is = record_is h.held q (h.fits k l).second_from (h.fits k l).second_to b;
     }
 
 pub allowed_more : {C : Context} {rows : List ℕ} {k : ℕ} {allowed : List Bool} (r : Bool) → k < length allowed → Allowed C rows k allowed → r ≡ is_allowed C (row_at rows k)

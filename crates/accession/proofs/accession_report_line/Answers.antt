@@ -13,20 +13,20 @@ pub returns-then-records-ne0 : goal.returns-then-records-ne0
 returns-then-records-ne0 c =
     let l = c.args.records.now in
     record {
-        answer = unfinished l c.args.own c.args.output.now (ne_eqb (length l % numbers_per_accession) 0 c.if-records-ne0.true);
-        left = refl;
+      answer = unfinished l c.args.own c.args.output.now (ne_eqb (length l % numbers_per_accession) 0 c.if-records-ne0.true);
+      left = refl;
     }
 
 pub report_kept-requires : goal.report_kept-requires
 report_kept-requires c =
     let finished : is_finished c.args.records.now ≡ true = eq-eqb (length c.args.records.now % numbers_per_accession) 0 c.if-records-ne0.false in
-    (finished, sym c.first_broken.ensures ∙ ap place_of c.in-MENDARM.is)
+    (finished, sym c.first_broken.ensures ∙ ap place_of c.in-Nothing.is)
 
 pub returns-in-At : goal.returns-in-At
 returns-in-At c =
     let finished : is_finished c.args.records.now ≡ true = eq-eqb (length c.args.records.now % numbers_per_accession) 0 c.if-records-ne0.false in
     let fault = sym c.first_broken.ensures ∙ ap place_of c.in-At.is in
     record {
-        answer = broken c.args.records.now c.args.own c.args.output.now finished fault;
-        left = refl;
+      answer = broken c.args.records.now c.args.own c.args.output.now finished fault;
+      left = refl;
     }

@@ -10,9 +10,9 @@ use Rattle.interior_regions.proofs.mark_edges.Goals as goal
 
 pub returns-then-not-on : goal.returns-then-not-on
 returns-then-not-on c = record {
-      removed = λ j l. marks-off c.args.on _ _ c.if-not-on.true-raw;
-      removed_length = search rules;
-    }
+  removed = λ j l. marks-off c.args.on _ _ c.if-not-on.true-raw;
+  removed_length = search rules;
+}
 
 pub loop-j-init : goal.loop-j-init
 loop-j-init c = (search rules, search rules, record { done = λ k l. absurd (omega arith); rest = λ k l. refl })

@@ -31,13 +31,12 @@ returns-then-parent_of-name c =
     }
 
 pub loop-k-preserved : goal.loop-k-preserved
-loop-k-preserved c =
-    (
-      omega (arith, c.loop-k.invariant.0),
-      omega (arith, c.loop-k-test.true),
-      from_more (λ k. is_named c.args.pairs.now c.args.names.now c.args.name k ≡ false) _ _ c.loop-k.invariant.2
-          (ne_eqb _ _ (λ e. c.if-parent_of-name.false (c.parent_of.ensures ∙ ap (entry_at c.args.names.now) c.region_at.ensures ∙ e))),
-    )
+loop-k-preserved c = (
+  omega (arith, c.loop-k.invariant.0),
+  omega (arith, c.loop-k-test.true),
+  from_more (λ k. is_named c.args.pairs.now c.args.names.now c.args.name k ≡ false) _ _ c.loop-k.invariant.2
+      (ne_eqb _ _ (λ e. c.if-parent_of-name.false (c.parent_of.ensures ∙ ap (entry_at c.args.names.now) c.region_at.ensures ∙ e))),
+)
 
 pub returns : goal.returns
 returns c =

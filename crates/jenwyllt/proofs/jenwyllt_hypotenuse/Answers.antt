@@ -6,13 +6,13 @@ use Rattle.jenwyllt.proofs.jenwyllt_hypotenuse.Goals as goal
 
 pub returns-in-Root : goal.returns-in-Root
 returns-in-Root c =
-    let e = sym c.value-1.given.1 in
+    let e = sym c.in-Root.is in
     let h = c.hypotenuse.ensures in
     (ap number_of e ∙ h.0, ap value_of e ∙ h.1)
 
 pub returns-in-Refused : goal.returns-in-Refused
 unfolding of_bits
 returns-in-Refused c =
-    let e = sym c.enum_told-1.given.1 in
+    let e = sym c.in-Refused.is in
     let h = c.hypotenuse.ensures in
     (ap number_of e ∙ h.0, ap value_of e ∙ h.1)

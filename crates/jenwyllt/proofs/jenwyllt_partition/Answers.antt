@@ -6,8 +6,8 @@ use Rattle.jenwyllt.proofs.jenwyllt_partition.Goals as goal
 
 pub returns-in-Regions : goal.returns-in-Regions
 returns-in-Regions c =
-    answered _ c.partition.ensures (ap answer_of c.count-1.given.1)
+    answered _ c.partition.ensures (ap answer_of c.in-Regions.is)
 
 pub returns-in-Refused : goal.returns-in-Refused
 returns-in-Refused c =
-    answered _ c.partition.ensures (ap answer_of c.number-1.given.1)
+    answered _ c.partition.ensures (ap answer_of c.in-Refused.is)

@@ -4,8 +4,8 @@ use Rattle.jenwyllt.proofs.jenwyllt_read_sheet.Goals as goal
 
 pub returns-in-Read : goal.returns-in-Read
 returns-in-Read c =
-    sheet-answered c.read_sheet.ensures c.header-1.given.1 c.opened.ensures
+    sheet-answered c.read_sheet.ensures c.in-Read.is c.opened.ensures
 
 pub returns-in-Refused : goal.returns-in-Refused
 returns-in-Refused c =
-    sheet-answered c.read_sheet.ensures c.number-1.given.1 c.refused.ensures
+    sheet-answered c.read_sheet.ensures c.in-Refused.is c.refused.ensures

@@ -1,5 +1,5 @@
 -- `refuse` meets its contract. Assumes nothing.
-use mathlib.Core.Path.{refl}
+use Rattle.std.proofs.Common.{refl}
 use Rattle.report.specs.Runs.{reading_run}
 use Rattle.report_sheets.specs.Contract.{reading_answer}
 use Rattle.report_sheets.proofs.refuse.Goals as goal

@@ -5,12 +5,12 @@ use Rattle.sheet_answer.proofs.read.Goals as goal
 
 pub returns-then-bytes-gt-SHEET_BYTES_MOST : goal.returns-then-bytes-gt-SHEET_BYTES_MOST
 returns-then-bytes-gt-SHEET_BYTES_MOST c =
-    begun-long _ _ _ _ _ c.if-bytes-gt-SHEET_BYTES_MOST.true c.print_refused.ensures.0
+    begun-long _ _ _ _ _ c.if-bytes-gt-SHEET_BYTES_MOST.true c.print_refused.ensures.printed
 
 pub returns-in-Read : goal.returns-in-Read
 returns-in-Read c =
-    begun-read _ _ _ _ _ c.if-bytes-gt-SHEET_BYTES_MOST.false c.pre.0 c.read_within.ensures c.header-1.given.1
+    begun-read _ _ _ _ _ c.if-bytes-gt-SHEET_BYTES_MOST.false c.requires.lists_long c.read_within.ensures c.in-Read.is
 
 pub returns-in-Refused : goal.returns-in-Refused
 returns-in-Refused c =
-    begun-refused _ _ _ _ _ c.if-bytes-gt-SHEET_BYTES_MOST.false c.pre.0 c.read_within.ensures _ _ c.number-1.given.1 c.print_refused-in-Refused.ensures.0
+    begun-refused _ _ _ _ _ c.if-bytes-gt-SHEET_BYTES_MOST.false c.requires.lists_long c.read_within.ensures _ _ c.in-Refused.is c.print_refused-in-Refused.ensures.printed

@@ -14,24 +14,15 @@ use Rattle.accession.proofs.Holding.{reached_first, reached_next, next_before}
 use Rattle.accession.proofs.held.last_held.Goals as goal
 
 pub slot_of-slot-requires : goal.slot_of-slot-requires
-slot_of-slot-requires c =
-    let = c in
-    entry.requires.some_slots
-
-pub overflow_cast-k : goal.overflow_cast-k
-overflow_cast-k c = omega (arith, c.shared_slice_known-4-1.given c.slot_of-slot.result)
+slot_of-slot-requires c = c.requires.some_slots
 
 pub loop-k-init : goal.loop-k-init
 loop-k-init c =
-    let list : List ℕ = c.args.records.now in
-    let number : ℕ = c.args.number in
     let found = c.slot_of-slot in
-    reached_first list c.pre number found.result found.ensures.0 found.ensures.1
+    reached_first c.args.records.now c.requires c.args.number found.result found.ensures.0 found.ensures.1
 
 pub map_of-requires : goal.map_of-requires
-map_of-requires c =
-    let = c in
-    omega (arith, c.loop-k.invariant.within, at_slot.requires.of_list)
+map_of-requires c = omega (arith, c.loop-k.invariant.within, c.requires.of_list)
 
 pub returns-then-map_of-number : goal.returns-then-map_of-number
 unfolding is_of_map
@@ -39,25 +30,14 @@ returns-then-map_of-number c =
     let list : List ℕ = c.args.records.now in
     let number : ℕ = c.args.number in
     let k : ℕ = c.loop-k.k in
-    let is_of_lem : c.map_of.result ≡ number → is_of_map list number (k - 1) ≡ true = λ e. eq-eqb (accession_at list (k - 1)).on_map number (sym c.map_of.ensures ∙ e) in
-    let f = is_of_map (list (number in
-    sym (c.loop-k.invariant.rest ∙ last_found f k (search rules) (is_of_lem c.if-map_of-number.true))
+    let is_of_lem : is_of_map list number (k - 1) ≡ true = eq-eqb (accession_at list (k - 1)).on_map number (sym c.map_of.ensures ∙ c.if-map_of-number.true) in
+    sym (c.loop-k.invariant.rest ∙ last_found (is_of_map list number) k (search rules) is_of_lem)
 
 pub bounds-links-k : goal.bounds-links-k
-bounds-links-k c =
-    omega (arith, c.loop-k.invariant.within, (entry c.pre.room)
-
-pub overflow_cast-k-in-loop-k : goal.overflow_cast-k-in-loop-k
-overflow_cast-k-in-loop-k c =
-    let k : ℕ = c.loop-k.k in
-    omega (arith, c.shared_slice_known-in-loop-k-1.given (k - 1))
+bounds-links-k c = omega (arith, c.loop-k.invariant.within, c.requires.room)
 
 pub loop-k-smaller : goal.loop-k-smaller
-loop-k-smaller c =
-    let list : List ℕ = c.args.records.now in
-    let number : ℕ = c.args.number in
-    let k : ℕ = c.loop-k.k in
-    next_before (list (entry c.pre (number k c.loop-k.invariant (search rules)
+loop-k-smaller c = next_before c.args.records.now c.requires c.args.number c.loop-k.k c.loop-k.invariant (search rules)
 
 pub loop-k-preserved : goal.loop-k-preserved
 unfolding is_of_map
@@ -65,17 +45,11 @@ loop-k-preserved c =
     let list : List ℕ = c.args.records.now in
     let number : ℕ = c.args.number in
     let k : ℕ = c.loop-k.k in
-    let is_not : (c.map_of.result ≡ number → ⊥) → is_of_map list number (k - 1) ≡ false = λ d. ne_eqb (accession_at list (k - 1)).on_map number (λ e. d (c.map_of.ensures ∙ e)) in
-    reached_next (list (entry c.pre (number k c.loop-k.invariant (search rules)
-    (is_not c.if-map_of-number.false)
+    let is_not : is_of_map list number (k - 1) ≡ false = ne_eqb (accession_at list (k - 1)).on_map number (λ e. c.if-map_of-number.false (c.map_of.ensures ∙ e)) in
+    reached_next list c.requires number k c.loop-k.invariant (search rules) is_not
 
 pub returns : goal.returns
 unfolding last_below
 returns c =
-    let list : List ℕ = c.args.records.now in
-    let number : ℕ = c.args.number in
-    let k : ℕ = c.loop-k.k in
-    let = c in
-    let = at-loop.before.before in
-    let none : at-loop.loop.k ≡ 0 = omega arith in
-    sym (at-loop.loop.invariant.rest ∙ ap (λ n. last_below n (is_of_map (list at_slot) (number at_slot))) none)
+    let none : c.loop-k.k ≡ 0 = omega arith in
+    sym (c.loop-k.invariant.rest ∙ ap (λ n. last_below n (is_of_map c.args.records.now c.args.number)) none)

@@ -23,9 +23,8 @@ returns-then-map_of-number c =
     let list : List ℕ = c.args.records.now in
     let i : ℕ = c.args.i in
     let k : ℕ = c.loop-k.k in
-    let is_same : c.map_of.result ≡ c.map_of-number.result → on_same_map list i (k - 1) ≡ true = λ e. eq-eqb (accession_at list (k - 1)).on_map (accession_at list i).on_map (sym c.map_of.ensures ∙ e ∙ c.map_of-number.ensures) in
-    let f = on_same_map (list (i in
-    sym (c.loop-k.invariant.2 ∙ last_found f k (search rules) (is_same c.if-map_of-number.true))
+    let is_same : on_same_map list i (k - 1) ≡ true = eq-eqb (accession_at list (k - 1)).on_map (accession_at list i).on_map (sym c.map_of.ensures ∙ c.if-map_of-number.true ∙ c.map_of-number.ensures) in
+    sym (c.loop-k.invariant.2 ∙ last_found (on_same_map list i) k (search rules) is_same)
 
 pub loop-k-preserved : goal.loop-k-preserved
 unfolding on_same_map
@@ -33,18 +32,14 @@ loop-k-preserved c =
     let list : List ℕ = c.args.records.now in
     let i : ℕ = c.args.i in
     let k : ℕ = c.loop-k.k in
-    let is_other_lem : (c.map_of.result ≡ c.map_of-number.result → ⊥) → on_same_map list i (k - 1) ≡ false = λ d. ne_eqb (accession_at list (k - 1)).on_map (accession_at list i).on_map (λ e. d (c.map_of.ensures ∙ e ∙ sym c.map_of-number.ensures)) in
-    let f = on_same_map (list (i in
-    (search rules, search rules, c.loop-k.invariant.2 ∙ last_back f k (search rules) (is_other_lem c.if-map_of-number.false))
+    let is_other_lem : on_same_map list i (k - 1) ≡ false = ne_eqb (accession_at list (k - 1)).on_map (accession_at list i).on_map (λ e. c.if-map_of-number.false (c.map_of.ensures ∙ e ∙ sym c.map_of-number.ensures)) in
+    (search rules, search rules, c.loop-k.invariant.2 ∙ last_back (on_same_map list i) k (search rules) is_other_lem)
 
 pub returns : goal.returns
 unfolding is_of_map on_same_map
 returns c =
     let list : List ℕ = c.args.records.now in
-    let i : ℕ = c.args.i in
-    let k : ℕ = c.loop-k.k in
-    let = c in
-    let = at-loop.before in
-    let here : at_map.args.held ≡ at-loop.loop.k = omega arith in
-    c.last_held.ensures ∙ ap (λ m. last_below at_map.args.held (is_of_map (list at_map) m)) at_map.map_of.ensures
-    ∙ ap (λ n. last_below n (on_same_map (list at_map) (i at_map))) here ∙ sym at-loop.loop.invariant.2
+    let held : ℕ = c.args.held in
+    let here : held ≡ c.loop-k.k = omega arith in
+    c.last_held.ensures ∙ ap (λ m. last_below held (is_of_map list m)) c.map_of-number.ensures
+    ∙ ap (λ n. last_below n (on_same_map list c.args.i)) here ∙ sym c.loop-k.invariant.2

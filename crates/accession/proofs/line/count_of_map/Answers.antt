@@ -3,13 +3,13 @@
 use Prim.Native.Nat.{◌+◌}
 use native.Mathlib.Omega.{arith}
 use mathlib.Core.Path.{◌≡◌, refl, sym, ap, ◌∙◌}
-use mathlib.Core.Logic.{⊎_elim}
 use borrow.Author.Rules.{rules}
 use borrow.Author.Tests.{eq-eqb, ne_eqb}
 use Rattle.definitions.specs.Scan.{count_below}
 use Rattle.laws.specs.ListLaws.ScanSteps.{count_in, count-out, count-le}
 use Rattle.catalogue.specs.Accession.{accession_at}
 use Rattle.catalogue.specs.AccessionLaws.MapLine.{is_of_map}
+use Rattle.accession.proofs.line.count_of_map.Goals.{then-map_of-number, else-map_of-number}
 use Rattle.accession.proofs.line.count_of_map.Goals as goal
 
 pub loop-i-init : goal.loop-i-init
@@ -27,10 +27,10 @@ loop-i-preserved c =
     let number = c.args.number in
     let i = c.loop-i.i in (
       search rules,
-      ⊎_elim
-          (λ w. w.1 ∙ ap (λ n. n + 1) c.loop-i.invariant.1 ∙ sym (count_in (is_of_map l number) i (eq-eqb (accession_at l i).on_map number (sym c.map_of.ensures ∙ w.0.taken))))
-          (λ w. w.1 ∙ c.loop-i.invariant.1 ∙ sym (count-out (is_of_map l number) i (ne_eqb (accession_at l i).on_map number (λ e. w.0.left (c.map_of.ensures ∙ e)))))
-          c.if-map_of-number.branch,
+      elim c.if-map_of-number.branch [
+        | then-map_of-number w ↦ w.found-is ∙ ap (λ n. n + 1) c.loop-i.invariant.1 ∙ sym (count_in (is_of_map l number) i (eq-eqb (accession_at l i).on_map number (sym c.map_of.ensures ∙ w.if-map_of-number.true)))
+        | else-map_of-number w ↦ w.found-is ∙ c.loop-i.invariant.1 ∙ sym (count-out (is_of_map l number) i (ne_eqb (accession_at l i).on_map number (λ e. w.if-map_of-number.false (c.map_of.ensures ∙ e))))
+      ],
     )
 
 pub returns : goal.returns

@@ -13,16 +13,14 @@ use Rattle.accession.proofs.line.put_line.Goals as goal
 
 pub loop-i-init : goal.loop-i-init
 loop-i-init c =
-    let number : ℕ = c.args.number in
-    let = c in
-    rw c.record_count-i.ensures (putting_none entry.args.records.now entry.args.number entry.args.output.now)
+    rw c.record_count-i.ensures (putting_none c.args.records.now c.args.number c.args.output.now)
 
 pub put_of_map-k-requires : goal.put_of_map-k-requires
 put_of_map-k-requires c =
     let list : List ℕ = c.args.records.now in
     let number : ℕ = c.args.number in
     let old : List ℕ = c.args.output.now in
-    let fits : numbers_per_accession * count_below (accession_count list) (is_of_map list number) ≤ length old = c.pre in
+    let fits : numbers_per_accession * count_below (accession_count list) (is_of_map list number) ≤ length old = c.requires in
     let inv = c.loop-i.invariant in
     (omega (arith, inv.within), room-before list number old fits c.loop-i.i (search rules) inv)
 
@@ -31,7 +29,7 @@ loop-i-preserved c =
     let list : List ℕ = c.args.records.now in
     let number : ℕ = c.args.number in
     let old : List ℕ = c.args.output.now in
-    let fits : numbers_per_accession * count_below (accession_count list) (is_of_map list number) ≤ length old = c.pre in
+    let fits : numbers_per_accession * count_below (accession_count list) (is_of_map list number) ≤ length old = c.requires in
     putting_next list number old fits c.loop-i.i (search rules) c.loop-i.invariant c.put_of_map-k.ensures.left c.put_of_map-k.ensures.next
 
 pub shape_of-output : goal.shape_of-output
@@ -39,7 +37,7 @@ shape_of-output c =
     let list : List ℕ = c.args.records.now in
     let number : ℕ = c.args.number in
     let old : List ℕ = c.args.output.now in
-    let fits : numbers_per_accession * count_below (accession_count list) (is_of_map list number) ≤ length old = c.pre in
+    let fits : numbers_per_accession * count_below (accession_count list) (is_of_map list number) ≤ length old = c.requires in
     putting-long list number old fits c.loop-i.invariant
 
 pub returns : goal.returns
@@ -47,5 +45,5 @@ returns c =
     let list : List ℕ = c.args.records.now in
     let number : ℕ = c.args.number in
     let old : List ℕ = c.args.output.now in
-    let fits : numbers_per_accession * count_below (accession_count list) (is_of_map list number) ≤ length old = c.pre in
+    let fits : numbers_per_accession * count_below (accession_count list) (is_of_map list number) ≤ length old = c.requires in
     putting-done list number old fits c.loop-i.invariant c.loop-i-test.false

@@ -16,7 +16,8 @@ returns-then-map_of-number c =
     let list : List ℕ = c.args.records.now in
     let number : ℕ = c.args.number in
     let is_not : (c.map_of.result ≡ number → ⊥) → is_of_map list number c.args.i ≡ false = λ d. ne_eqb (accession_at list c.args.i).on_map number (λ e. d (c.map_of.ensures ∙ e)) in
-    put_none list c.args.i c.args.output.now c.args.k (is_of_map list number c.args.i) (is_not c.if-map_of-number.true)
+    let done = put_none list c.args.i c.args.output.now c.args.k (is_of_map list number c.args.i) (is_not c.if-map_of-number.true) in
+    record { next = done.0; left = done.1 }
 
 pub put_record-requires : goal.put_record-requires
 unfolding is_of_map
@@ -43,6 +44,6 @@ returns c =
     let i = c.args.i in
     let done = put_one list i c.args.output.now c.args.k (is_of_map list number i) (is_of_lem c.if-map_of-number.false) in
     record {
-        next = done.0;
-        left = c.put_record.ensures ∙ done.1;
+      next = done.0;
+      left = c.put_record.ensures ∙ done.1;
     }

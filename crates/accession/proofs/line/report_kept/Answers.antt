@@ -1,6 +1,6 @@
 -- `accession::line::report_kept` meets its contract: where a record has the own number, the line is that of its map. Assumes nothing.
 use Prim.Native.Nat.{ℕ}
-use mathlib.Core.Path.{◌≡◌, sym, ap, subst, ◌∙◌}
+use mathlib.Core.Path.{◌≡◌, sym, ap, ◌∙◌}
 use mathlib.Core.List.{List}
 use lib.ListN.{length}
 use Rattle.catalogue.specs.Line.{line_of}
@@ -13,33 +13,29 @@ use Rattle.accession.proofs.line.report_kept.Goals as goal
 
 pub map_of-requires : goal.map_of-requires
 map_of-requires c =
-    let known_at : Finds c.args.records.now c.args.own (At c.i-1.given.0.0) = subst (Finds c.args.records.now c.args.own) c.in-At.is c.find_own.ensures in
-    let own : ℕ = c.args.own in
+    let known_at : Finds c.args.records.now c.args.own (At c.in-At.i) = c.in-At.ensures in
     known_at.0
 
 pub returns-in-Nowhere : goal.returns-in-Nowhere
 returns-in-Nowhere c =
-    let own : ℕ = c.args.own in
-    let = c in
-    let = at-find.before.before.before in
-    let l = entry.args.records.now in
-    let own = entry.args.own in
-    let none = line-unknown l own (subst (Finds l own) c.in-Nowhere.is at-find.find-own.ensures) in
+    let l = c.args.records.now in
+    let own = c.args.own in
+    let none = line-unknown l own c.in-Nowhere.ensures in
     record {
-        answer = unknown l own entry.args.output.now entry.requires.0 entry.requires.1 none;
-        left = exit-unknown l own entry.args.output.now none;
+      answer = unknown l own c.args.output.now c.requires.0 c.requires.1 none;
+      left = exit-unknown l own c.args.output.now none;
     }
 
 pub returns-in-At : goal.returns-in-At
 returns-in-At c =
-    let known_at : Finds c.args.records.now c.args.own (At c.i-1.given.0.0) = subst (Finds c.args.records.now c.args.own) c.in-At.is c.find_own.ensures in
+    let known_at : Finds c.args.records.now c.args.own (At c.in-At.i) = c.in-At.ensures in
     let list : List ℕ = c.args.records.now in
     let own : ℕ = c.args.own in
     let out : List ℕ = c.args.output.now in
-    let line : line_of list own ≡ map_line list c.map_of.result = let found = known_at in
-    line-of-record list own c.pre.1 c.i-1.given.0.0 found.0 found.1 ∙ ap (map_line list) (sym c.map_of.ensures) in
+    let line : line_of list own ≡ map_line list c.map_of.result = line-of-record list own c.requires.1 c.in-At.i known_at.0 known_at.1 ∙ ap (map_line list) (sym c.map_of.ensures) in
     let said = c.report_map in
-    let room = length out in (
-      said.ensures.0 ∙ ap (λ line. room_verdict line room) (sym line) ∙ ten-left list own out c.requires.0 c.requires.1,
-      said.ensures.1 ∙ exit-left list own out said.result.number line,
-    )
+    let room = length out in
+    record {
+      answer = said.ensures.answer ∙ ap (λ line. room_verdict line room) (sym line) ∙ ten-left list own out c.requires.0 c.requires.1;
+      left = said.ensures.left ∙ exit-left list own out said.result.number line;
+    }

@@ -8,8 +8,8 @@ use Rattle.accession.proofs.line.report_map.Goals as goal
 pub returns-then-output-count : goal.returns-then-output-count
 returns-then-output-count c =
     record {
-        answer = no_room c.args.records.now c.args.number (length c.args.output.now) c.count_of_map-count.ensures c.if-output-count.true;
-        left = refl;
+      answer = no_room c.args.records.now c.args.number (length c.args.output.now) c.count_of_map-count.ensures c.if-output-count.true;
+      left = refl;
     }
 
 pub put_line-requires : goal.put_line-requires
@@ -19,6 +19,6 @@ put_line-requires c =
 pub returns : goal.returns
 returns c =
     record {
-        answer = has_room c.args.records.now c.args.number (length c.args.output.now) c.count_of_map-count.ensures c.if-output-count.false;
-        left = c.put_line.ensures;
+      answer = has_room c.args.records.now c.args.number (length c.args.output.now) c.count_of_map-count.ensures c.if-output-count.false;
+      left = c.put_line.ensures;
     }

@@ -13,25 +13,19 @@ use Rattle.accession.proofs.rules.first_broken_by.Goals as goal
 
 pub loop-i-init : goal.loop-i-init
 loop-i-init c =
-    let = c in
-    checked_none entry.args.records.now entry.args.last.now entry.args.links.now entry.requires.0.0 entry.requires.1
+    checked_none c.args.records.now c.args.last.now c.args.links.now c.requires.sizes.0 c.requires.empty
 
 pub last_of_map-k-requires : goal.last_of_map-k-requires
 last_of_map-k-requires c =
-    let = c in
-    let inv = at-loop.loop.invariant in
+    let inv = c.loop-i.invariant in
     record {
-        places = (search rules, inv.behind);
-        table = inv.holds;
+      places = (search rules, inv.behind);
+      table = inv.holds;
     }
 
 pub goes_on-requires : goal.goes_on-requires
 goes_on-requires c =
-    let list : List ℕ = c.args.records.now in
-    let = c in
-    let lent = at-record.before.before in
-    let = lent.before.before in
-    (search rules, previous-within (list at-loop) at-loop.loop.i at-record.last-of-map.ensures)
+    (search rules, previous-within c.args.records.now c.loop-i.i c.last_of_map-k.ensures)
 
 pub shape_of-last-then-not-own_ascends-goes_on : goal.shape_of-last-then-not-own_ascends-goes_on
 shape_of-last-then-not-own_ascends-goes_on c = c.loop-i.invariant.same_slots
@@ -43,22 +37,22 @@ pub returns-then-not-own_ascends-goes_on : goal.returns-then-not-own_ascends-goe
 unfolding accessions_fault
 returns-then-not-own_ascends-goes_on c =
     let list : List ℕ = c.args.records.now in
-    let test : (c.own_ascends.result && c.goes_on.result) ≡ keeps_rules list c.loop-i.i = test-is list c.loop-i.i c.last_of_map-k.result c.loop-i.invariant.kept_below c.last_of_map-k.ensures
+    let test : (c.own_ascends.result && c.goes_on.result) ≡ keeps_rules list c.loop-i.i = test-is list c.loop-i.i c.last_of_map-k.result c.loop-i.invariant.kept_below_lem c.last_of_map-k.ensures
     c.own_ascends.ensures c.goes_on.ensures in
-    sym (first_faulty_lem (keeps_rules list) (accession_count list) c.loop-i.i (search rules) c.loop-i.invariant.kept_below test c.if-not-own_ascends-goes_on.true-raw)
+    sym (first_faulty_lem (keeps_rules list) (accession_count list) c.loop-i.i (search rules) c.loop-i.invariant.kept_below_lem test c.if-not-own_ascends-goes_on.true-raw)
 
 pub hold-held-requires : goal.hold-held-requires
 hold-held-requires c =
     let inv = c.loop-i.invariant in
     record {
-        sizes = (omega (arith, inv.behind), omega (arith, inv.same_room, c.pre.0.1));
-        table = inv.holds;
+      sizes = (omega (arith, inv.behind), omega (arith, inv.same_room, c.requires.sizes.1));
+      table = inv.holds;
     }
 
 pub loop-i-preserved : goal.loop-i-preserved
 loop-i-preserved c =
     let list : List ℕ = c.args.records.now in
-    let test : (c.own_ascends.result && c.goes_on.result) ≡ keeps_rules list c.loop-i.i = test-is list c.loop-i.i c.last_of_map-k.result c.loop-i.invariant.kept_below c.last_of_map-k.ensures
+    let test : (c.own_ascends.result && c.goes_on.result) ≡ keeps_rules list c.loop-i.i = test-is list c.loop-i.i c.last_of_map-k.result c.loop-i.invariant.kept_below_lem c.last_of_map-k.ensures
     c.own_ascends.ensures c.goes_on.ensures in
     let took = c.hold-held.ensures in
     let inv = c.loop-i.invariant in
@@ -68,7 +62,7 @@ loop-i-preserved c =
       same_slots = took.same_slots ∙ inv.same_slots;
       same_room = took.same_room ∙ inv.same_room;
       holds = took.holds;
-      kept_below_lem = none_faulty_more (keeps_rules list) c.loop-i.i inv.kept_below test c.if-not-own_ascends-goes_on.false-raw;
+      kept_below_lem = none_faulty_more (keeps_rules list) c.loop-i.i inv.kept_below_lem test c.if-not-own_ascends-goes_on.false-raw;
     }
 
 pub shape_of-last : goal.shape_of-last
@@ -81,4 +75,4 @@ pub returns : goal.returns
 unfolding accessions_fault
 returns c =
     let list : List ℕ = c.args.records.now in
-    sym (none_faulty_end (keeps_rules list) (accession_count list) c.loop-i.i c.loop-i.invariant.within (search rules) c.loop-i.invariant.kept_below)
+    sym (none_faulty_end (keeps_rules list) (accession_count list) c.loop-i.i c.loop-i.invariant.within (search rules) c.loop-i.invariant.kept_below_lem)

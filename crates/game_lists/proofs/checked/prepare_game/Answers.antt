@@ -5,17 +5,17 @@ use Rattle.game_lists.proofs.checked.prepare_game.Goals as goal
 
 pub divide-requires : goal.divide-requires
 divide-requires c =
-    lists-fit _ _ _ _ _ _ _ _ _ _ _ _ _ (says c.game_checks-check.ensures c.enum_told-1.given.1)
+    lists-fit _ _ _ _ _ _ _ _ _ _ _ _ _ (says c.game_checks-check.ensures c.in-Fit.is)
 
 pub returns-in-Refused : goal.returns-in-Refused
 returns-in-Refused c =
-    refused-early _ _ _ _ _ _ _ _ _ _ _ _ _ _ _ _ _ (says c.game_checks-check.ensures c.check-1.given.1)
+    refused-early _ _ _ _ _ _ _ _ _ _ _ _ _ _ _ _ _ (says c.game_checks-check.ensures c.in-Refused.is)
 
 pub returns-in-Fit : goal.returns-in-Fit
 returns-in-Fit c =
     let a = c.args in
-    let last = c.divide.new.1.1.1.1.1 in
+    let last = c.divide.new in
     prepared_game a.pass a.width a.height a.cells.now a.spans.now a.boundaries.now a.anchors.now a.room a.output a.verdicts
     a.labels.now a.masks.now a.queue.now a.tallies.now a.pairs.now
-    (says c.game_checks-check.ensures c.enum_told-1.given.1) c.divide.result last.0 last.1.0 last.1.1.0 last.1.1.1.0 last.1.1.1.1.0
-    c.divide.ensures.0 c.divide.ensures.1
+    (says c.game_checks-check.ensures c.in-Fit.is) c.divide.result last.labels last.masks last.queue last.tallies last.pairs
+    c.divide.ensures.divided c.divide.ensures.late

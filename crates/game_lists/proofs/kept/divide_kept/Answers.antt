@@ -18,7 +18,7 @@ kept_spans-count-requires c =
 pub overflow_mul-end : goal.overflow_mul-end
 overflow_mul-end c =
     let a = c.args in
-    record { fits = omega (arith, few-kept a.spans.now a.spans.now a.removed.now c.kept_spans-count.ensures.0, (spans-room _ c.requires.1).1) }
+    record { fits = omega (arith, few-kept a.spans.now a.spans.now a.removed.now c.kept_spans-count.ensures.answer, (spans-room _ c.requires.1).1) }
 
 pub clear_numbers-requires : goal.clear_numbers-requires
 clear_numbers-requires c =
@@ -35,25 +35,25 @@ clear_numbers-requires-2 c =
 pub slice_bounds-kept-end : goal.slice_bounds-kept-end
 slice_bounds-kept-end c =
     let a = c.args in
-    omega (arith, few-kept a.spans.now a.spans.now a.removed.now c.kept_spans-count.ensures.0, (spans-room _ c.requires.1).1, c.kept-2-1.given)
+    omega (arith, few-kept a.spans.now a.spans.now a.removed.now c.kept_spans-count.ensures.answer, (spans-room _ c.requires.1).1, c.kept-2-1.given)
 
 pub slice_bounds-divide-end : goal.slice_bounds-divide-end
 slice_bounds-divide-end c =
     let a = c.args in
-    sym (length-take-le _ _ (omega (arith, few-kept a.spans.now a.spans.now a.removed.now c.kept_spans-count.ensures.0, (spans-room _ c.requires.1).1, c.kept-2-1.given)))
+    sym (length-take-le _ _ (omega (arith, few-kept a.spans.now a.spans.now a.removed.now c.kept_spans-count.ensures.answer, (spans-room _ c.requires.1).1, c.kept-2-1.given)))
 
 pub divide-divided-requires : goal.divide-divided-requires
 divide-divided-requires c =
-    kept-fit _ c.requires.1 _ c.clear_numbers.new.0 c.clear_numbers-2.new.0 (kept-are _ c.requires.1 c.kept_spans-count.ensures.1)
+    kept-fit _ c.requires.1 _ c.clear_numbers.new.list c.clear_numbers-2.new.list (kept-are _ c.requires.1 c.kept_spans-count.ensures.kept)
     (search rules) (search rules)
 
 pub returns-in-Refused : goal.returns-in-Refused
 returns-in-Refused c = λ S D.
     absurd
-    (not-refused _ D _ _ _ (kept-are _ D c.kept_spans-count.ensures.1) (search rules) (search rules) _ _ _ _ _ _ c.divide-divided.ensures.0 c.divide-divided.ensures.1
-    c.divided-1.given.1)
+    (not-refused _ D _ _ _ (kept-are _ D c.kept_spans-count.ensures.kept) (search rules) (search rules) _ _ _ _ _ _ c.divide-divided.ensures.divided c.divide-divided.ensures.late
+    c.in-Refused.is)
 
 pub returns-in-Ready : goal.returns-in-Ready
 returns-in-Ready c = λ S D.
-    kept-ready _ D _ _ _ (kept-are _ D c.kept_spans-count.ensures.1) (search rules) (search rules) _ _ _ _ _ _ c.divide-divided.ensures.0 c.divided-in-Ready-1.given.1
+    kept-ready _ D _ _ _ (kept-are _ D c.kept_spans-count.ensures.kept) (search rules) (search rules) _ _ _ _ _ _ c.divide-divided.ensures.divided c.in-Ready.is
     c.clear_numbers.ensures c.clear_numbers-2.ensures refl refl

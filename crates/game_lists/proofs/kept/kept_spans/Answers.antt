@@ -5,4 +5,4 @@ use Rattle.game_lists.proofs.kept.kept_spans.Goals as goal
 pub returns : goal.returns
 returns c =
     let a = c.args in
-    (c.keep_blocks.ensures.1, kept-front a.spans.now a.kept.now a.removed.now c.requires.0 c.copy_block.ensures c.keep_blocks.ensures.0 _ c.keep_blocks.ensures.1)
+    record { answer = c.keep_blocks.ensures.answer; kept = kept-front a.spans.now a.kept.now a.removed.now c.requires.0 c.copy_block.ensures c.keep_blocks.ensures.list _ c.keep_blocks.ensures.answer }

@@ -8,16 +8,16 @@ use Rattle.game_lists.proofs.play.play.Goals as goal
 
 pub returns-then-answer-ne0 : goal.returns-then-answer-ne0
 returns-then-answer-ne0 c =
-    (c.answered-answer.ensures, at_refusal _ _ _ c.if-answer-ne0.true)
+    record { answer = c.answered-answer.ensures; verdicts = at_refusal _ _ _ c.if-answer-ne0.true }
 
 pub solve_rows-requires : goal.solve_rows-requires
 solve_rows-requires c =
     let given = c.requires in
     let a = c.args in
     let playable = is_playable a.kept a.regions a.goal (ap (λ (a : GameAnswer). a.number) (sym c.answered-answer.ensures) ∙ c.if-answer-ne0.false) in
-    ((playable.few, playable.first, playable.last, given.1), given.0)
+    record { sizes = (playable.few, playable.first, playable.last, given.1); rows = given.0 }
 
 pub returns : goal.returns
 unfolding graph_of
 returns c =
-    (c.answered-answer.ensures, at_success _ _ _ _ c.if-answer-ne0.false c.solve_rows.ensures)
+    record { answer = c.answered-answer.ensures; verdicts = at_success _ _ _ _ c.if-answer-ne0.false c.solve_rows.ensures }

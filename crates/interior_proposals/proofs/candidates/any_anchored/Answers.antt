@@ -1,6 +1,6 @@
 -- `candidates::any_anchored` meets its contract. The invariant: no region of a row passed is anchored. Assumes nothing.
 use mathlib.Core.Path.{◌≡◌, sym, ap, ap₂, ◌∙◌}
-use mathlib.Core.Bool.{Bool, false, ◌||◌}
+use mathlib.Core.Bool.{Bool, ◌||◌}
 use borrow.Author.Rules.{rules}
 use Rattle.context.specs.Shown.{pair_at}
 use Rattle.interior_proposals.specs.Candidates.{is_marked, pair_marked}

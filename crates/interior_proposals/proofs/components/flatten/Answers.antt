@@ -32,18 +32,17 @@ bounds-parents-k-in-loop-k c =
     inside
 
 pub loop-k-preserved : goal.loop-k-preserved
-loop-k-preserved c =
-    (
-      omega (arith, c.loop-k-test.true),
-      beyond-then c.loop-k.invariant.1 (beyond-set _ _ _ _ c.loop-k-test.true),
-      λ cs P e. flat_more (c.loop-k.invariant.2 cs P e) (omega (arith, e, c.loop-k-test.true)) c.parent_of-q.result c.parent_of-q.ensures,
-    )
+loop-k-preserved c = (
+  omega (arith, c.loop-k-test.true),
+  beyond-then c.loop-k.invariant.1 (beyond-set _ _ _ _ c.loop-k-test.true),
+  λ cs P e. flat_more (c.loop-k.invariant.2 cs P e) (omega (arith, e, c.loop-k-test.true)) c.parent_of-q.result c.parent_of-q.ensures,
+)
 
 pub shape_of-parents : goal.shape_of-parents
 shape_of-parents c = c.loop-k.invariant.1.long
 
 pub returns : goal.returns
 returns c = record {
-      named = λ cs P e. flat-end (c.loop-k.invariant.2 cs P e) c.loop-k-test.false e;
-      beyond = c.loop-k.invariant.1;
-    }
+  named = λ cs P e. flat-end (c.loop-k.invariant.2 cs P e) c.loop-k-test.false e;
+  beyond = c.loop-k.invariant.1;
+}

@@ -49,8 +49,7 @@ loop-p-smaller c =
 
 pub loop-p-preserved : goal.loop-p-preserved
 loop-p-preserved c =
-    let parent_is : get_or c.loop-p.parents (c.loop-p.p - 1) 0 ≡ get_or c.loop-p.parents (get_or c.loop-p.parents (c.loop-p.x - 1) 0 - 1) 0 = ap (λ q. get_or c.loop-p.parents (q - 1) 0) c.loop-p.invariant.0 in
-    (
+    let parent_is : get_or c.loop-p.parents (c.loop-p.p - 1) 0 ≡ get_or c.loop-p.parents (get_or c.loop-p.parents (c.loop-p.x - 1) 0 - 1) 0 = ap (λ q. get_or c.loop-p.parents (q - 1) 0) c.loop-p.invariant.0 in (
       c.parent_of-p-in-loop-p.ensures,
       λ cs P l. subst (λ ps. Way cs c.args.parents.now c.args.r ps c.parent_of-above.result) (sym c.set_parent.ensures)
           (way_step l (c.loop-p.invariant.1 cs P l) c.parent_of-above.result (c.parent_of-above.ensures ∙ parent_is)),

@@ -1,7 +1,6 @@
 -- `fits::elevations_fit` meets its contract. The invariant: the elevations not-false fit. Assumes nothing.
 use native.Mathlib.Omega.{arith}
 use mathlib.Core.Path.{◌≡◌, refl, sym, ap, ◌∙◌}
-use mathlib.Core.Bool.{true}
 use borrow.Author.Rules.{rules}
 use borrow.Author.Tests.{not-true, not-false}
 use Rattle.definitions.specs.Scan.{all_below}

@@ -2,7 +2,6 @@
 use Prim.Native.Nat.{ℕ, ◌≤◌}
 use native.Mathlib.Omega.{arith}
 use mathlib.Core.Path.{◌≡◌, refl, ◌∙◌}
-use lib.ListN.{length}
 use borrow.Author.Rules.{rules}
 use Rattle.interior_proposals.proofs.Walks.{row_in, low_in_lem, high_in}
 use Rattle.interior_proposals.proofs.ExteriorLaws.{clearing-start, clearing_more, clearing-end}
@@ -30,20 +29,19 @@ clear_exterior-requires-in-loop-k c =
     marks_in (high_in c.requires c.loop-k.invariant.0 c.loop-k-test.true c.larger_at.ensures) (c.clear_exterior.ensures.marks_length ∙ c.loop-k.invariant.2)
 
 pub loop-k-preserved : goal.loop-k-preserved
-loop-k-preserved c =
-    (
-      omega (arith, c.loop-k.invariant.0),
-      omega (arith, c.loop-k-test.true),
-      c.clear_exterior-in-loop-k.ensures.marks_length ∙ c.clear_exterior.ensures.marks_length ∙ c.loop-k.invariant.2,
-      λ C rs w M.
-          clearing_more C _ _ _ _ w c.loop-k.k c.loop-k.invariant.0 c.loop-k-test.true c.smaller_at.ensures c.larger_at.ensures (c.loop-k.invariant.3 C rs w M) c.clear_exterior.ensures.marks c.clear_exterior-in-loop-k.ensures.marks,
-    )
+loop-k-preserved c = (
+  omega (arith, c.loop-k.invariant.0),
+  omega (arith, c.loop-k-test.true),
+  c.clear_exterior-in-loop-k.ensures.marks_length ∙ c.clear_exterior.ensures.marks_length ∙ c.loop-k.invariant.2,
+  λ C rs w M.
+      clearing_more C _ _ _ _ w c.loop-k.k c.loop-k.invariant.0 c.loop-k-test.true c.smaller_at.ensures c.larger_at.ensures (c.loop-k.invariant.3 C rs w M) c.clear_exterior.ensures.marks c.clear_exterior-in-loop-k.ensures.marks,
+)
 
 pub shape_of-marks : goal.shape_of-marks
 shape_of-marks c = c.loop-k.invariant.2
 
 pub returns : goal.returns
 returns c = record {
-      cleared = λ C rs w M. clearing-end C rs _ _ _ w (c.loop-k.invariant.3 C rs w M) c.loop-k.invariant.1 c.loop-k-test.false;
-      marks_length = c.loop-k.invariant.2;
-    }
+  cleared = λ C rs w M. clearing-end C rs _ _ _ w (c.loop-k.invariant.3 C rs w M) c.loop-k.invariant.1 c.loop-k-test.false;
+  marks_length = c.loop-k.invariant.2;
+}

@@ -48,6 +48,6 @@ shape_of-names c = c.loop-k.invariant.2
 
 pub returns : goal.returns
 returns c = record {
-      expanded = λ C i rs es v P I M. held-end C i _ rs es v _ _ _ P (c.loop-k.invariant.3 C i rs es v P I M) c.loop-k.invariant.1 c.loop-k-test.false;
-      names_length = c.loop-k.invariant.2;
-    }
+  expanded = λ C i rs es v P I M. held-end C i _ rs es v _ _ _ P (c.loop-k.invariant.3 C i rs es v P I M) c.loop-k.invariant.1 c.loop-k-test.false;
+  names_length = c.loop-k.invariant.2;
+}

@@ -6,6 +6,6 @@ use Rattle.interior_proposals.proofs.leaves.mark_exterior.Goals as goal
 
 pub returns : goal.returns
 returns c = record {
-      marks = ap (set c.args.marks.now (c.args.x - 1)) c.with_exterior-mark.ensures;
-      marks_length = simp length-set;
-    }
+  marks = ap (set c.args.marks.now (c.args.x - 1)) c.with_exterior-mark.ensures;
+  marks_length = simp length-set;
+}

@@ -2,7 +2,6 @@
 use Prim.Native.Nat.{ℕ, ◌≤◌, ◌<◌}
 use native.Mathlib.Omega.{arith}
 use mathlib.Core.Path.{refl, ◌∙◌}
-use mathlib.Core.Bool.{false}
 use borrow.Author.Rules.{rules}
 use Rattle.interior_proposals.specs.Owners.{Walkable}
 use Rattle.interior_proposals.proofs.Walks.{row_in, low_in_lem, high_in}
@@ -60,8 +59,7 @@ mark_exterior-requires-in-loop-k c =
 pub loop-k-preserved : goal.loop-k-preserved
 loop-k-preserved c =
     let up : c.args.first ≤ c.loop-k.k = c.loop-k.invariant.0 in
-    let in_rows : c.loop-k.k < c.args.end = c.loop-k-test.true in
-    (
+    let in_rows : c.loop-k.k < c.args.end = c.loop-k-test.true in (
       omega (arith, up),
       omega (arith, in_rows),
       c.mark_exterior-in-loop-k.ensures.marks_length ∙ c.mark_exterior.ensures.marks_length ∙ c.loop-k.invariant.2,
@@ -74,6 +72,6 @@ shape_of-marks c = c.loop-k.invariant.2
 
 pub returns : goal.returns
 returns c = record {
-      marked = λ C rs w I M. marking-end C rs _ _ _ _ _ I w (c.loop-k.invariant.3 C rs w I M) c.loop-k.invariant.1 c.loop-k-test.false;
-      marks_length = c.loop-k.invariant.2;
-    }
+  marked = λ C rs w I M. marking-end C rs _ _ _ _ _ I w (c.loop-k.invariant.3 C rs w I M) c.loop-k.invariant.1 c.loop-k-test.false;
+  marks_length = c.loop-k.invariant.2;
+}

@@ -1,6 +1,6 @@
 -- `leaves::rows_split` meets its contract. The invariant: the rows passed have exactly one region of that name. Assumes nothing.
 use mathlib.Core.Path.{sym, ap, ap₂, ◌∙◌}
-use mathlib.Core.Bool.{true, not, ◌&&◌}
+use mathlib.Core.Bool.{not, ◌&&◌}
 use borrow.Author.Rules.{rules}
 use Rattle.interior_proposals.proofs.RowScans.{all-rows_none, all-rows_next, all-rows_end, all-rows_fail}
 use Rattle.interior_proposals.proofs.Walks.{row_in, low_in_lem, high_in}

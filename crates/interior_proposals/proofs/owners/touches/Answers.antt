@@ -35,13 +35,13 @@ parent_of-hi-requires c =
 pub returns-then-lo-r : goal.returns-then-lo-r
 returns-then-lo-r c =
     let compared : (eqb c.parent_of-lo.result c.args.r || eqb c.parent_of-hi.result c.args.r) ≡ pair_named c.args.names.now c.args.r (pair_at c.args.pairs.now c.loop-k.k) =
-        compared_at c.args.r (c.parent_of-lo.ensures ∙ ap (λ x. get_or c.args.names.now (x - 1) 0) c.smaller_at.ensures) (c.parent_of-hi.ensures ∙ ap (λ x. get_or c.args.names.now (x - 1) 0) c.larger_at.ensures) in
+    compared_at c.args.r (c.parent_of-lo.ensures ∙ ap (λ x. get_or c.args.names.now (x - 1) 0) c.smaller_at.ensures) (c.parent_of-hi.ensures ∙ ap (λ x. get_or c.args.names.now (x - 1) 0) c.larger_at.ensures) in
     sym (any-rows_at _ _ _ _ _ c.loop-k.invariant.0 c.loop-k-test.true (sym compared ∙ c.if-lo-r.true))
 
 pub loop-k-preserved : goal.loop-k-preserved
 loop-k-preserved c =
     let compared : (eqb c.parent_of-lo.result c.args.r || eqb c.parent_of-hi.result c.args.r) ≡ pair_named c.args.names.now c.args.r (pair_at c.args.pairs.now c.loop-k.k) =
-        compared_at c.args.r (c.parent_of-lo.ensures ∙ ap (λ x. get_or c.args.names.now (x - 1) 0) c.smaller_at.ensures) (c.parent_of-hi.ensures ∙ ap (λ x. get_or c.args.names.now (x - 1) 0) c.larger_at.ensures) in
+    compared_at c.args.r (c.parent_of-lo.ensures ∙ ap (λ x. get_or c.args.names.now (x - 1) 0) c.smaller_at.ensures) (c.parent_of-hi.ensures ∙ ap (λ x. get_or c.args.names.now (x - 1) 0) c.larger_at.ensures) in
     (search rules, search rules, any-rows_next _ _ _ _ c.loop-k.invariant.0 ∙ ap₂ ◌||◌ c.loop-k.invariant.2 (sym compared ∙ c.if-lo-r.false))
 
 pub returns : goal.returns

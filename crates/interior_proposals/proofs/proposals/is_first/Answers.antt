@@ -1,7 +1,6 @@
 -- `proposals::is_first` meets its contract. The invariant: no boundary passed has that owner. Assumes nothing.
 use native.Mathlib.Omega.{arith}
 use mathlib.Core.Path.{refl}
-use mathlib.Core.Bool.{false}
 use lib.Dec.{eqb}
 use lib.ListN.{get_or}
 use borrow.Author.Rules.{rules}

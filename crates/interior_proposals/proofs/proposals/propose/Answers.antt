@@ -17,9 +17,9 @@ is_candidate-requires c =
 
 pub returns-then-not-is_candidate : goal.returns-then-not-is_candidate
 returns-then-not-is_candidate c = record {
-      proposed = λ C F. no_candidate F (c.is_candidate.ensures C F.mapped F.counted F.owned) c.if-not-is_candidate.true-raw;
-      lengths = (refl, refl);
-    }
+  proposed = λ C F. no_candidate F (c.is_candidate.ensures C F.mapped F.counted F.owned) c.if-not-is_candidate.true-raw;
+  lengths = (refl, refl);
+}
 
 pub find_ports-found-requires : goal.find_ports-found-requires
 find_ports-found-requires c =

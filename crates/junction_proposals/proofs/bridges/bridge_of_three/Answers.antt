@@ -6,12 +6,12 @@ use Rattle.junction_proposals.proofs.bridges.bridge_of_three.Goals as goal
 
 pub is_shared-requires : goal.is_shared-requires
 is_shared-requires c = record {
-      sizes = (c.requires.boundaries_lent.few, c.requires.marks_room);
-      pairs_lent = c.requires.pairs_lent;
-      i_is_port = c.requires.i_is_port;
-      k_is_port = c.requires.j_is_port;
-      t_is_port = c.requires.k_is_port;
-    }
+  sizes = (c.requires.boundaries_lent.few, c.requires.marks_room);
+  pairs_lent = c.requires.pairs_lent;
+  i_is_port = c.requires.i_is_port;
+  k_is_port = c.requires.j_is_port;
+  t_is_port = c.requires.k_is_port;
+}
 
 pub pick_bridge-requires : goal.pick_bridge-requires
 pick_bridge-requires c =

@@ -6,15 +6,15 @@ use Rattle.junction_proposals.proofs.bridges.pick_bridge.Goals as goal
 
 pub is_twice_as_wide-requires : goal.is_twice_as_wide-requires
 is_twice_as_wide-requires c = record {
-      boundaries_lent = c.requires.boundaries_lent;
-      places = (c.requires.places.0, c.requires.places.1.0);
-    }
+  boundaries_lent = c.requires.boundaries_lent;
+  places = (c.requires.places.0, c.requires.places.1.0);
+}
 
 pub bridge_if_near-requires : goal.bridge_if_near-requires
 bridge_if_near-requires c = record {
-      boundaries_lent = c.requires.boundaries_lent;
-      places = c.requires.places;
-    }
+  boundaries_lent = c.requires.boundaries_lent;
+  places = c.requires.places;
+}
 
 pub returns-then-is_twice_as_wide : goal.returns-then-is_twice_as_wide
 unfolding pick_at
@@ -22,9 +22,9 @@ returns-then-is_twice_as_wide c = chosen _ c.is_twice_as_wide.ensures c.if-is_tw
 
 pub is_twice_as_wide-requires-2 : goal.is_twice_as_wide-requires-2
 is_twice_as_wide-requires-2 c = record {
-      boundaries_lent = c.requires.boundaries_lent;
-      places = (c.requires.places.1.0, c.requires.places.0);
-    }
+  boundaries_lent = c.requires.boundaries_lent;
+  places = (c.requires.places.1.0, c.requires.places.0);
+}
 
 pub bridge_if_near-requires-then-is_twice_as_wide-2 : goal.bridge_if_near-requires-then-is_twice_as_wide-2
 bridge_if_near-requires-then-is_twice_as_wide-2 c =

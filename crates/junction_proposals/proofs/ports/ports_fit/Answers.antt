@@ -6,7 +6,6 @@ use native.Mathlib.Nat.{le_antisymm}
 use mathlib.Core.Path.{◌≡◌, refl, sym, ap, ◌∙◌}
 use mathlib.Core.Bool.{Bool, true, false}
 use mathlib.Core.List.{List}
-use mathlib.Core.Logic.{⊎_elim}
 use lib.ListN.{length, get_or}
 use Rattle.definitions.specs.Scan.{all_below}
 use Rattle.definitions.specs.Grid.{Pair}
@@ -107,7 +106,7 @@ loop-k-preserved c =
         c.loop-k.invariant.1.0,
         passed_next (skipped smaller larger c.args.counts.now c.args.count c.args.index union side c.region_of-region.ensures) entry.is_named entry.rank_is
             (elim c.if-names_region.branch [
-              then-names_region+else-j-index w ↦ met-named _ _ _ _ _ m c.names_region.ensures w.if-names_region.true w.fits_union.ensures w.if-j-index.false w.met-is
+              | then-names_region+else-j-index w ↦ met-named _ _ _ _ _ m c.names_region.ensures w.if-names_region.true w.fits_union.ensures w.if-j-index.false w.met-is
               | else-names_region w ↦ met-other _ _ _ _ _ m c.names_region.ensures w.if-names_region.false w.met-is
             ]),
       ),
@@ -143,8 +142,7 @@ regions-preserved c =
     let union : Pair = pair (get_or smaller c.args.index 0) (get_or larger c.args.index 0) in
     let side : ℕ = c.regions.side in
     let region : ℕ = c.region_of-region.result in
-    let compared : c.wide-in-regions.result ≡ get_or counts (region - 1) 0 = c.wide-in-regions.ensures ∙ ap (λ r. get_or counts (r - 1) 0) c.wide.ensures in
-    (
+    let compared : c.wide-in-regions.result ≡ get_or counts (region - 1) 0 = c.wide-in-regions.ensures ∙ ap (λ r. get_or counts (r - 1) 0) c.wide.ensures in (
       search rules,
       (
         c.loop-k.invariant.1.0,

@@ -25,6 +25,6 @@ returns-then-is_union c =
 
 pub returns : goal.returns
 returns c = record {
-      rows = row-left _ _ c.is_union.ensures c.if-is_union.false;
-      bound = omega arith;
-    }
+  rows = row-left _ _ c.is_union.ensures c.if-is_union.false;
+  bound = omega arith;
+}

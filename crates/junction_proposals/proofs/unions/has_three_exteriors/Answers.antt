@@ -84,12 +84,11 @@ loop-k-preserved c =
     let union : Pair = record { lo = get_or smaller index 0; hi = get_or larger index 0 } in
     let j : ℕ = c.wide_byte-j.result in
     let entry : Entry smaller larger union c.args.count c.loop-k.k j = entry_at_lem _ _ _ c.requires.incidents_listed c.loop-k-test.true c.wide_byte-j.ensures.same in
-    let surveyed : Surveyed smaller larger index union j c.loop-k.exteriors = c.loop-k.invariant.1.up_to j entry.rank_is in
-    (
+    let surveyed : Surveyed smaller larger index union j c.loop-k.exteriors = c.loop-k.invariant.1.up_to j entry.rank_is in (
       search rules,
       passed_next (survey_skip smaller larger index union) entry.is_named entry.rank_is
           (elim c.if-is_port.branch [
-            then-is_port w ↦ survey_with _ _ _ _ surveyed (tested smaller larger index union j c.is_port.ensures ∙ w.if-is_port.true) w.exterior_of.ensures w.with-exteriors.ensures w.exteriors-is
+            | then-is_port w ↦ survey_with _ _ _ _ surveyed (tested smaller larger index union j c.is_port.ensures ∙ w.if-is_port.true) w.exterior_of.ensures w.with-exteriors.ensures w.exteriors-is
             | else-is_port w ↦ survey_other _ _ _ _ surveyed (tested smaller larger index union j c.is_port.ensures ∙ w.if-is_port.false) w.exteriors-is
           ]),
     )

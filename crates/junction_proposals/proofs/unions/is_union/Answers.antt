@@ -79,7 +79,7 @@ has_few_incidents-requires c =
     let pair : lo ≡ 0 → ⊥ = c.if-lo-eq0.false in
     let counted : ((1 ≤ lo) × (lo ≤ length counts)) × ((1 ≤ hi) × (hi ≤ length counts)) = let n = named pair in
     ((n.0, omega (arith, n, c.requires.lent.counts_long)), (omega (arith, n), omega (arith, n, c.requires.lent.counts_long))) in
-    record { lo_named = counted.0; hi_named = counted.1; }
+    record { lo_named = counted.0; hi_named = counted.1 }
 
 pub returns-then-has_few_incidents : goal.returns-then-has_few_incidents
 returns-then-has_few_incidents c =

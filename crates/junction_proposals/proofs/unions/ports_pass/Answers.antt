@@ -111,13 +111,12 @@ loop-k-preserved c =
     let union : Pair = record { lo = get_or smaller c.args.index 0; hi = get_or larger c.args.index 0 } in
     let test : ℕ → Bool = passing c.args.boundaries.now smaller larger c.args.index union.lo union.hi c.args.one in
     let j : ℕ = c.wide_byte-j.result in
-    let entry : Entry smaller larger union c.args.count c.loop-k.k j = entry_at_lem _ _ _ c.requires.incidents_listed c.loop-k-test.true c.wide_byte-j.ensures.same in
-    (
+    let entry : Entry smaller larger union c.args.count c.loop-k.k j = entry_at_lem _ _ _ c.requires.incidents_listed c.loop-k-test.true c.wide_byte-j.ensures.same in (
       search rules,
       passed_next (skipped c.args.boundaries.now smaller larger c.args.index union c.args.one) entry.is_named entry.rank_is
           (all_more test j (c.loop-k.invariant.1.up_to j entry.rank_is)
           (elim c.if-is_port.branch [
-            then-is_port+else-not-port_passes w ↦ passing-port (tested smaller larger c.args.index union j c.is_port.ensures ∙ w.if-is_port.true) w.port_passes.ensures w.if-not-port_passes.false-raw
+            | then-is_port+else-not-port_passes w ↦ passing-port (tested smaller larger c.args.index union j c.is_port.ensures ∙ w.if-is_port.true) w.port_passes.ensures w.if-not-port_passes.false-raw
             | else-is_port w ↦ passing-other _ (tested smaller larger c.args.index union j c.is_port.ensures ∙ w.if-is_port.false)
           ])),
     )

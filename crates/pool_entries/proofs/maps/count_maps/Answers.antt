@@ -6,6 +6,7 @@ use Rattle.pool_entries.proofs.Listing.{counted_in, counted-out, all-counted}
 use native.Mathlib.Omega.{arith}
 use borrow.Author.Rules.{rules}
 use Rattle.pool_entries.proofs.maps.count_maps.Goals as goal
+use Rattle.pool_entries.proofs.maps.count_maps.Goals.{then-has_day, else-has_day}
 
 pub loop-i-init : goal.loop-i-init
 unfolding collect
@@ -14,10 +15,10 @@ loop-i-init c = (search rules, search rules, refl)
 pub loop-i-preserved : goal.loop-i-preserved
 loop-i-preserved c =
     let I = c.loop-i.invariant in
-    ⊎_elim
-    (λ w. (search rules, omega arith, w.1 ∙ counted_in _ _ _ c.has_day.ensures w.0.taken I.2))
-    (λ w. (search rules, omega arith, w.1 ∙ counted-out _ _ _ c.has_day.ensures w.0.left I.2))
-    c.if-has_day.branch
+    elim c.if-has_day.branch [
+      | then-has_day w ↦ (search rules, omega arith, w.maps-is ∙ counted_in _ _ _ c.has_day.ensures w.if-has_day.true I.2)
+      | else-has_day w ↦ (search rules, omega arith, w.maps-is ∙ counted-out _ _ _ c.has_day.ensures w.if-has_day.false I.2)
+    ]
 
 pub returns : goal.returns
 returns c =

@@ -17,5 +17,5 @@ unfolding maps_of_day
 returns c =
     let lent = c.args in
     listed (maps_in lent.terms.now lent.day) lent.output.now _ _ _ lent.maps c.requires.maps_counted c.put_maps.ensures
-    (ap (λ (l : List ℕ). l ++ drop lent.maps c.put_maps.new.1.1.0) c.sort_numbers.ensures)
+    (ap (λ (l : List ℕ). l ++ drop lent.maps c.put_maps.new.output) c.sort_numbers.ensures)
     c.spread_maps.ensures

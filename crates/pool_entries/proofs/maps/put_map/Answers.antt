@@ -13,9 +13,9 @@ pub returns-then-has_day : goal.returns-then-has_day
 unfolding term_at
 returns-then-has_day c =
     let day = sym c.has_day.ensures ∙ c.if-has_day.true in
-    rw day (refl, refl)
+    rw day (record { output = refl; answer = refl })
 
 pub returns : goal.returns
 returns c =
     let day = sym c.has_day.ensures ∙ c.if-has_day.false in
-    rw day (refl, omega arith)
+    rw day (record { output = refl; answer = omega arith })

@@ -10,8 +10,8 @@ loop-i-init c = putting-starts refl c.requires
 pub put_map-maps-requires : goal.put_map-maps-requires
 put_map-maps-requires c =
     record {
-        terms_room = search rules;
-        output_room = putting-room c.loop-i.invariant c.loop-i-test.true;
+      terms_room = search rules;
+      output_room = putting-room c.loop-i.invariant c.loop-i-test.true;
     }
 
 pub loop-i-preserved : goal.loop-i-preserved

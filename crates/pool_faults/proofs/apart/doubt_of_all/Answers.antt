@@ -40,8 +40,8 @@ pub doubt_between-found-requires : goal.doubt_between-found-requires
 doubt_between-found-requires c =
     let fits = maps-fit _ _ c.take_maps.ensures c.in-All.is in
     record {
-        room = (search rules, still-fits fits (search rules));
-        sizes = (search rules, search rules);
+      room = (search rules, still-fits fits (search rules));
+      sizes = (search rules, search rules);
     }
 
 pub returns-then-high : goal.returns-then-high

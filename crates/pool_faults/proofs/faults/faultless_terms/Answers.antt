@@ -7,8 +7,8 @@ use Rattle.pool_faults.proofs.faults.faultless_terms.Goals as goal
 pub sound_terms-sound-requires : goal.sound_terms-sound-requires
 sound_terms-sound-requires c =
     record {
-        sizes = search rules;
-        sound = faultless_sound _ _ c.passing_terms-passing.ensures.1;
+      sizes = search rules;
+      sound = faultless_sound _ _ c.passing_terms-passing.ensures.1;
     }
 
 pub returns : goal.returns

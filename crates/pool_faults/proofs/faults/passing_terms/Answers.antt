@@ -13,8 +13,8 @@ loop-i-init c = (search rules, none_below-zero _, latest-starts _ _ refl)
 pub passes-requires : goal.passes-requires
 passes-requires c =
     record {
-        terms_room = search rules;
-        latest = c.loop-i.invariant.2;
+      terms_room = search rules;
+      latest = c.loop-i.invariant.2;
     }
 
 pub returns-then-not-passes : goal.returns-then-not-passes
@@ -24,8 +24,8 @@ returns-then-not-passes c =
 pub keep_end-requires : goal.keep_end-requires
 keep_end-requires c =
     record {
-        terms_room = search rules;
-        latest = c.loop-i.invariant.2;
+      terms_room = search rules;
+      latest = c.loop-i.invariant.2;
     }
 
 pub loop-i-preserved : goal.loop-i-preserved

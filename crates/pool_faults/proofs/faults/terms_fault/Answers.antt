@@ -25,7 +25,7 @@ returns-in-EmptyOrOverlapping c =
 
 pub loop-i-preserved : goal.loop-i-preserved
 loop-i-preserved c =
-    let nothing = ap refusal_in c.in-MENDARM.is in
+    let nothing = ap refusal_in c.in-Nothing.is in
     (search rules, none_below_more _ c.loop-i.i c.loop-i.invariant.1 (sym c.term_fault-fault.ensures ∙ nothing))
 
 pub returns : goal.returns

@@ -1,6 +1,5 @@
 -- `terms::overlaps_earlier` meets its contract. The invariant: no term below j of the map shares a day. The measure is what is left of i. Assumes nothing.
 use mathlib.Core.Path.{refl, sym, ◌∙◌}
-use mathlib.Core.Bool.{false}
 use Rattle.definitions.specs.Scan.{any_below_lem}
 use Rattle.laws.specs.ListLaws.Below.{below_at}
 use Rattle.laws.specs.ListLaws.ScanSteps.{any_none}

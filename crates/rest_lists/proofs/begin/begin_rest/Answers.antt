@@ -9,26 +9,23 @@ use Rattle.rest_lists.proofs.begin.begin_rest.Goals as goal
 
 pub returns-in-Refused : goal.returns-in-Refused
 returns-in-Refused c =
-    let answer = c.check-1 in
     let checks = c.rest_checks-check in
     let given = c.args in
     begun-refused given.width given.height given.cells.now given.spans.now given.boundaries.now given.anchors.now given.room given.output
     given.labels.now given.masks.now given.queue.now given.tallies.now given.pairs.now
-    given.numbers.now given.ends.now given.entries.now (says checks.ensures answer.given.1)
+    given.numbers.now given.ends.now given.entries.now (says checks.ensures c.in-Refused.is)
 
 pub start_lists-requires : goal.start_lists-requires
 start_lists-requires c =
-    let told = c.enum_told-1 in
     let checks = c.rest_checks-check in
     let given = c.args in
     let few = count-few given.width given.height given.cells.now given.spans.now given.boundaries.now given.anchors.now given.room given.output
     given.labels.now given.masks.now given.queue.now given.tallies.now given.pairs.now
-    (says checks.ensures told.given.1) in
-    ((few, omega arith), (omega (arith, few, c.requires.0), omega (arith, few, c.requires.1), omega (arith, few, c.requires.2)))
+    (says checks.ensures c.in_default.is) in
+    record { sizes = (few, omega arith); room = (omega (arith, few, c.requires.0), omega (arith, few, c.requires.1), omega (arith, few, c.requires.2)) }
 
 pub overflow_mul-end : goal.overflow_mul-end
 overflow_mul-end c =
-    let told = c.enum_told-1 in
     let checks = c.rest_checks-check in
     let given = c.args in
     record {
@@ -36,57 +33,53 @@ overflow_mul-end c =
         arith,
         count-few given.width given.height given.cells.now given.spans.now given.boundaries.now given.anchors.now given.room given.output
             given.labels.now given.masks.now given.queue.now given.tallies.now given.pairs.now
-            (says checks.ensures told.given.1),
+            (says checks.ensures c.in_default.is),
       );
     }
 
 pub slice_bounds-divide-end : goal.slice_bounds-divide-end
 slice_bounds-divide-end c =
     let lists = c.start_lists in
-    let told = c.enum_told-1 in
     let checks = c.rest_checks-check in
     let given = c.args in
     ends-long given.width given.height given.cells.now given.spans.now given.boundaries.now given.anchors.now given.room given.output
     given.labels.now given.masks.now given.queue.now given.tallies.now given.pairs.now
-    (says checks.ensures told.given.1)
+    (says checks.ensures c.in_default.is)
     (start-held given.width given.height given.cells.now given.spans.now given.boundaries.now given.anchors.now given.numbers.now given.ends.now given.entries.now
-    lists.ensures.0 lists.ensures.1.0 lists.ensures.1.1)
+    lists.ensures.numbers lists.ensures.spans lists.ensures.boundaries)
 
 pub slice_bounds-divide-end-2 : goal.slice_bounds-divide-end-2
 slice_bounds-divide-end-2 c =
     let lists = c.start_lists in
-    let told = c.enum_told-1 in
     let checks = c.rest_checks-check in
     let given = c.args in
     sym (length-take-le _ _ (ends-long given.width given.height given.cells.now given.spans.now given.boundaries.now given.anchors.now given.room given.output
     given.labels.now given.masks.now given.queue.now given.tallies.now given.pairs.now
-    (says checks.ensures told.given.1)
+    (says checks.ensures c.in_default.is)
     (start-held given.width given.height given.cells.now given.spans.now given.boundaries.now given.anchors.now given.numbers.now given.ends.now given.entries.now
-    lists.ensures.0 lists.ensures.1.0 lists.ensures.1.1)))
+    lists.ensures.numbers lists.ensures.spans lists.ensures.boundaries)))
 
 pub divide-requires : goal.divide-requires
 divide-requires c =
     let lists = c.start_lists in
-    let told = c.enum_told-1 in
     let checks = c.rest_checks-check in
     let given = c.args in
     begun-fits given.width given.height given.cells.now given.spans.now given.boundaries.now given.anchors.now given.room given.output
     given.labels.now given.masks.now given.queue.now given.tallies.now given.pairs.now
-    (says checks.ensures told.given.1)
+    (says checks.ensures c.in_default.is)
     (start-held given.width given.height given.cells.now given.spans.now given.boundaries.now given.anchors.now given.numbers.now given.ends.now given.entries.now
-    lists.ensures.0 lists.ensures.1.0 lists.ensures.1.1)
+    lists.ensures.numbers lists.ensures.spans lists.ensures.boundaries)
 
 pub returns : goal.returns
 returns c =
     let divided = c.divide in
     let lists = c.start_lists in
-    let told = c.enum_told-1 in
     let checks = c.rest_checks-check in
     let given = c.args in
-    let last = divided.new.1.1.1.1.1 in
+    let last = divided.new in
     begun_divided given.width given.height given.cells.now given.spans.now given.boundaries.now given.anchors.now given.room given.output
     given.labels.now given.masks.now given.queue.now given.tallies.now given.pairs.now
-    (says checks.ensures told.given.1)
+    (says checks.ensures c.in_default.is)
     (start-held given.width given.height given.cells.now given.spans.now given.boundaries.now given.anchors.now given.numbers.now given.ends.now given.entries.now
-    lists.ensures.0 lists.ensures.1.0 lists.ensures.1.1)
-    last.0 last.1.0 last.1.1.0 last.1.1.1.0 last.1.1.1.1.0 divided.result divided.ensures.0 divided.ensures.1
+    lists.ensures.numbers lists.ensures.spans lists.ensures.boundaries)
+    last.labels last.masks last.queue last.tallies last.pairs divided.result divided.ensures.divided divided.ensures.late

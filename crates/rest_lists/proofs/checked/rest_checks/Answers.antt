@@ -25,45 +25,45 @@ pub returns-in-Refused : goal.returns-in-Refused
 unfolding rest_early
 returns-in-Refused c =
     let check-sizes = c.check_sizes in
-    here _ (said check-sizes.ensures c.number-1.given.1)
+    here _ (said check-sizes.ensures c.in-Refused.is)
 
 pub returns-in-At : goal.returns-in-At
 unfolding rest_early
 returns-in-At c =
     let lists-fault = c.lists_fault in
-    let enum_told = c.enum_told-1 in
+    let enum_told = c.in_default in
     let check-sizes = c.check_sizes in
-    next (said check-sizes.ensures enum_told.given.1) (here _ (place-said 16 lists-fault.ensures c.entry-1.given.1))
+    next (said check-sizes.ensures enum_told.is) (here _ (place-said 16 lists-fault.ensures c.in-At.is))
 
 pub check_entries-requires : goal.check_entries-requires
 check_entries-requires c =
-    let enum_told = c.enum_told-1 in
+    let enum_told = c.in_default in
     let check-sizes = c.check_sizes in
-    let s = sizes-fit (said check-sizes.ensures enum_told.given.1) in (s.narrow, s.short)
+    let s = sizes-fit (said check-sizes.ensures enum_told.is) in (s.narrow, s.short)
 
 pub returns-in-Refused-check_entries : goal.returns-in-Refused-check_entries
 unfolding rest_early
 returns-in-Refused-check_entries c =
     let check-entries = c.check_entries in
-    let enum-told2 = c.enum_told-in_default-lists_fault-1 in
+    let enum-told2 = c.in_default-lists_fault in
     let lists-fault = c.lists_fault in
-    let enum_told = c.enum_told-1 in
+    let enum_told = c.in_default in
     let check-sizes = c.check_sizes in
-    next (said check-sizes.ensures enum_told.given.1)
-    (next (place-said 16 lists-fault.ensures enum-told2.given.1) (here _ (said check-entries.ensures c.number-in-Refused-check_entries-1.given.1)))
+    next (said check-sizes.ensures enum_told.is)
+    (next (place-said 16 lists-fault.ensures enum-told2.is) (here _ (said check-entries.ensures c.in-Refused-check_entries.is)))
 
 pub returns : goal.returns
 unfolding rest_early
 returns c =
     let check-entries = c.check_entries in
-    let enum-told2 = c.enum_told-in_default-lists_fault-1 in
+    let enum-told2 = c.in_default-lists_fault in
     let lists-fault = c.lists_fault in
-    let enum_told = c.enum_told-1 in
+    let enum_told = c.in_default in
     let check-sizes = c.check_sizes in
     let given = c.args in
     let a = given in
-    next (said check-sizes.ensures enum_told.given.1)
-    (next (place-said 16 lists-fault.ensures enum-told2.given.1)
-    (next (said check-entries.ensures c.enum_told-in_default-check_entries-1.given.1)
+    next (said check-sizes.ensures enum_told.is)
+    (next (place-said 16 lists-fault.ensures enum-told2.is)
+    (next (said check-entries.ensures c.in_default-check_entries.is)
     (room-counted a.width a.height a.cells.now a.spans.now a.boundaries.now a.anchors.now a.labels a.masks a.queue a.tallies a.output
-    (said check-sizes.ensures enum_told.given.1) c.check_room.ensures)))
+    (said check-sizes.ensures enum_told.is) c.check_room.ensures)))

@@ -38,16 +38,16 @@ divide-requires c =
 
 pub returns-in-Refused : goal.returns-in-Refused
 returns-in-Refused c =
-    let answer = c._number-1 in
+    let answer = c.in-Refused in
     let divided = c.divide in
     let pairs = c.clear_numbers-2 in
     let tallies = c.clear_numbers in
-    absurd (never-refused c.requires.4 tallies.ensures pairs.ensures _ _ _ _ _ _ divided.ensures.0 divided.ensures.1 answer.given.1)
+    absurd (never-refused c.requires.4 tallies.ensures pairs.ensures _ _ _ _ _ _ divided.ensures.divided divided.ensures.late answer.is)
 
 pub returns-in-Ready : goal.returns-in-Ready
 returns-in-Ready c =
-    let answer = c.regions-1 in
+    let answer = c.in-Ready in
     let divided = c.divide in
     let pairs = c.clear_numbers-2 in
     let tallies = c.clear_numbers in
-    λ O anchors s places D. redivided D tallies.ensures pairs.ensures _ _ _ _ _ _ divided.ensures.0 answer.given.1
+    λ O anchors s places D. redivided D tallies.ensures pairs.ensures _ _ _ _ _ _ divided.ensures.divided answer.is

@@ -6,4 +6,4 @@ returns c =
     let first = c.keep_blocks in
     let second = c.keep_blocks-2 in
     let third = c.keep_blocks-3 in
-    (first.ensures.0, (second.ensures.0, (third.ensures.0, third.ensures.1)))
+    record { numbers = first.ensures.list; spans = second.ensures.list; boundaries = third.ensures.list; answer = third.ensures.answer }

@@ -1,0 +1,64 @@
+-- Once the first partition is ready each part asks what those before it leave (Gaming).
+use Rattle.std.proofs.Common.{refl, arith}
+use Rattle.topology.proofs.Calling.{no_marks, needed-few}
+use Rattle.topology.proofs.Gaming.{runs_fills, runs-pass, runs-lent, runs_divides, runs_first, runs_renews, runs_finishes, ran-kept_graph}
+use Rattle.topology.proofs.games.run_kept.Goals as goal
+
+pub overflow_mul-needed : goal.overflow_mul-needed
+overflow_mul-needed c = record { fits = omega (arith, needed-few c.requires.1.ready.ready) }
+
+pub fill-requires : goal.fill-requires
+fill-requires c = (_, runs_fills c.requires.1)
+
+pub mark_removed-requires-clause-map_shown : goal.mark_removed-requires-clause-map_shown
+mark_removed-requires-clause-map_shown c = let G = c.requires.1 in (_, runs-lent G (c.fill.ensures _ (runs_fills G)))
+
+pub mark_removed-requires-clause-before_marking : goal.mark_removed-requires-clause-before_marking
+mark_removed-requires-clause-before_marking c = (runs-pass c.requires.1, no_marks)
+
+pub divide_kept-graph-requires : goal.divide_kept-graph-requires
+divide_kept-graph-requires c =
+    let G = c.requires.1 in
+    let F = c.fill.ensures _ (runs_fills G) in
+    let D = c.mark_removed.ensures _ (runs-lent G F) in
+    (_, runs_divides G F c.mark_removed.auto.masks c.mark_removed.auto.queue D)
+
+pub renew-requires-clause-first_in : goal.renew-requires-clause-first_in
+renew-requires-clause-first_in c =
+    let G = c.requires.1 in
+    let F = c.fill.ensures _ (runs_fills G) in
+    let D = c.mark_removed.ensures _ (runs-lent G F) in
+    let m = c.mark_removed.auto in
+    let d = c.divide_kept-graph.auto in
+    let N = c.divide_kept-graph.ensures _ (runs_divides G F m.masks m.queue D) in
+    runs_first G F m.masks m.queue D N d.labels d.masks d.queue c.fill.auto.records
+
+pub renew-requires-clause-map_shown : goal.renew-requires-clause-map_shown
+renew-requires-clause-map_shown c =
+    let G = c.requires.1 in
+    let F = c.fill.ensures _ (runs_fills G) in
+    let D = c.mark_removed.ensures _ (runs-lent G F) in
+    let m = c.mark_removed.auto in
+    let d = c.divide_kept-graph.auto in
+    let N = c.divide_kept-graph.ensures _ (runs_divides G F m.masks m.queue D) in
+    (_, runs_renews G F m.masks m.queue D N d.labels d.masks d.queue c.fill.auto.records)
+
+pub finish-kept-requires : goal.finish-kept-requires
+finish-kept-requires c =
+    let G = c.requires.1 in
+    let F = c.fill.ensures _ (runs_fills G) in
+    let D = c.mark_removed.ensures _ (runs-lent G F) in
+    let m = c.mark_removed.auto in
+    let d = c.divide_kept-graph.auto in
+    let N = c.divide_kept-graph.ensures _ (runs_divides G F m.masks m.queue D) in
+    runs_finishes G F m.masks m.queue D N d.labels d.masks d.queue
+
+pub returns : goal.returns
+returns c = λ B G.
+    let F = c.fill.ensures _ (runs_fills G) in
+    let D = c.mark_removed.ensures _ (runs-lent G F) in
+    let m = c.mark_removed.auto in
+    let d = c.divide_kept-graph.auto in
+    let N = c.divide_kept-graph.ensures _ (runs_divides G F m.masks m.queue D) in
+    let renews = runs_renews G F m.masks m.queue D N d.labels d.masks d.queue c.fill.auto.records in
+    ran-kept_graph G F m.masks m.queue D N d.labels d.masks d.queue (c.renew.ensures _ renews) c.finish-kept.ensures refl refl refl

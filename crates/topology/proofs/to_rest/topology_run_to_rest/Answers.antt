@@ -1,0 +1,50 @@
+-- A refusal of the beginning is the call's; where the first partition is ready and the records are filled the run stands at all places; at rest the rows are written (RestCall).
+use Rattle.std.proofs.Common.{refl, arith}
+use Rattle.topology.proofs.Calling.{needed-few}
+use Rattle.topology.proofs.RestCall.{begun_when, refused_over, begun_fills, stands_first, rest-scratch, rest-room, rest_over}
+use Rattle.topology.proofs.to_rest.topology_run_to_rest.Goals as goal
+
+pub returns-in-Refused : goal.returns-in-Refused
+returns-in-Refused c = refused_over _ _ _ c.begin_rest-prepared.ensures c.in-Refused.is
+
+pub fill-requires : goal.fill-requires
+fill-requires c = (_, begun_fills (begun_when c.begin_rest-prepared.ensures c.in-Ready.is) c.begin_rest-prepared.auto.queue)
+
+pub run_turns-answer-requires : goal.run_turns-answer-requires
+run_turns-answer-requires c =
+    let begun = begun_when c.begin_rest-prepared.ensures c.in-Ready.is in
+    let size = c.begin_rest-prepared.auto in
+    let fills = begun_fills begun size.queue in
+    (_, _, stands_first begun c.args.output.now refl refl (c.fill.ensures _ fills) c.fill.auto.records size.labels size.masks size.queue size.tallies size.pairs)
+
+pub overflow_mul-finish_rest : goal.overflow_mul-finish_rest
+overflow_mul-finish_rest c =
+    let begun = begun_when c.begin_rest-prepared.ensures c.in-Ready.is in
+    let size = c.begin_rest-prepared.auto in
+    let fills = begun_fills begun size.queue in
+    let T = stands_first begun c.args.output.now refl refl (c.fill.ensures _ fills) c.fill.auto.records size.labels size.masks size.queue size.tallies size.pairs in
+    record { fits = omega (arith, needed-few T.lists.ready) }
+
+pub finish_rest-requires-clause-scratch : goal.finish_rest-requires-clause-scratch
+finish_rest-requires-clause-scratch c =
+    let begun = begun_when c.begin_rest-prepared.ensures c.in-Ready.is in
+    let size = c.begin_rest-prepared.auto in
+    let fills = begun_fills begun size.queue in
+    let T = stands_first begun c.args.output.now refl refl (c.fill.ensures _ fills) c.fill.auto.records size.labels size.masks size.queue size.tallies size.pairs in
+    rest-scratch (c.run_turns-answer.ensures _ _ T)
+
+pub finish_rest-requires-clause-room : goal.finish_rest-requires-clause-room
+finish_rest-requires-clause-room c =
+    let begun = begun_when c.begin_rest-prepared.ensures c.in-Ready.is in
+    let size = c.begin_rest-prepared.auto in
+    let fills = begun_fills begun size.queue in
+    let T = stands_first begun c.args.output.now refl refl (c.fill.ensures _ fills) c.fill.auto.records size.labels size.masks size.queue size.tallies size.pairs in
+    rest-room (c.run_turns-answer.ensures _ _ T)
+
+pub returns-in-Ready : goal.returns-in-Ready
+returns-in-Ready c =
+    let begun = begun_when c.begin_rest-prepared.ensures c.in-Ready.is in
+    let size = c.begin_rest-prepared.auto in
+    let fills = begun_fills begun size.queue in
+    let T = stands_first begun c.args.output.now refl refl (c.fill.ensures _ fills) c.fill.auto.records size.labels size.masks size.queue size.tallies size.pairs in
+    rest_over (c.run_turns-answer.ensures _ _ T) c.finish_rest.ensures.scratch.0 c.finish_rest.ensures.scratch.1 c.finish_rest.ensures.output
