@@ -77,10 +77,11 @@ use Rattle.rest_definitions.specs.RestVerdict.{RestAnswer}
 use Rattle.rest.specs.Rounds.{Rests}
 use Rattle.rest.specs.RestCalls.{SameAtRest, SameAsLent}
 use Rattle.rest.specs.RestCalls as rest
+use Rattle.rest.proofs.RestCalls as rest-calls
 use Rattle.game.specs.Game.{Place, Inside}
 use Rattle.game.specs.Play as play
 use Rattle.game.specs.EntryLaws.{Entry}
-use Rattle.game.proofs.EntryLaws as entries
+use Rattle.game.specs.EntryLaws as entries
 use Rattle.game_calls.specs.KeptGraph.{kept_game}
 use Rattle.game_calls.specs.GameVerdict.{GameAnswer}
 use Rattle.game_calls.proofs.GameCalls as games
@@ -138,7 +139,7 @@ use Rattle.result_reader.specs.TwoCalls.{Enough, Holds}
 use Rattle.result_reader.specs.TwoCalls as two
 use Rattle.result_reader.specs.declared.ResultAnswer.{ResultAnswer}
 use Rattle.run_results.specs.Calls.{result_left}
-use Rattle.run_results.specs.Calls as runs
+use Rattle.run_results.proofs.Calls as runs
 use Rattle.report.specs.Runs.{Run}
 use Rattle.report.specs.Report.{Report, Mean, max_runs, empty_report, add_run, add_runs_by, add_runs, exact_runs, mean_of}
 use Rattle.report.specs.ReportLaws.Possible.{Made}
@@ -463,13 +464,13 @@ module _ {L : LentLists} {a : RestAnswer} {E : LeftLists} (call : RestRanOver L 
     pub rest-island_calls : Alike (start_map (lent_map L)) (start_map (lent_map L')) isl
         → SameAtRest (lent_map L) (lent_map L') isl (rows_in_lem a.value E.output) (rows_in_lem a'.value E'.output)
     unfolding map_in
-    rest-island_calls alike = rest.rest-island_calls call.ran call'.ran success success' isl alike
+    rest-island_calls alike = rest-calls.rest-island_calls call.ran call'.ran success success' isl alike
 
     -- with those of the maps as lent
     pub rest-island-lent_calls : Alike (lent_map L) (lent_map L') isl
         → SameAsLent (lent_map L) (lent_map L') isl (rows_in_lem a.value E.output) (rows_in_lem a'.value E'.output)
     unfolding map_in
-    rest-island-lent_calls alike = rest.rest-island-lent_calls call.ran call'.ran success success' isl alike
+    rest-island-lent_calls alike = rest-calls.rest-island-lent_calls call.ran call'.ran success success' isl alike
 
 -- ---- request 14: what each entry of the lent verdicts says once a call is accepted, over all ways of play
 

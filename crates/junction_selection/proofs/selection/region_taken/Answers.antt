@@ -3,10 +3,8 @@
 use native.Mathlib.Nat.{le_antisymm}
 use native.Mathlib.Omega.{arith}
 use mathlib.Core.Path.{◌≡◌, refl, sym, ap, ◌∙◌}
-use mathlib.Core.Bool.{false}
 use lib.ListN.{get_or}
 use Rattle.definitions.specs.Scan.{any_below_lem}
-use Rattle.definitions.specs.Junctions.{region_conflict}
 use Rattle.laws.specs.ListLaws.Below.{below_at}
 use Rattle.laws.specs.ListLaws.ScanSteps.{any_none}
 use Rattle.junction_proposals.specs.Rows.{row_at}
