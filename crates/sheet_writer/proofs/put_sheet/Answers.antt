@@ -19,36 +19,34 @@ put_cells-b-requires c =
     )
 
 pub put_list-c-requires : goal.put_list-c-requires
-put_list-c-requires c =
-    (
-      omega arith,
-      omega (
-        arith,
-        c.requires,
-        sheet-length c.args.pass c.args.width c.args.height c.args.cells.now c.args.boundaries.now c.args.anchors.now,
-        c.put_opening-a.ensures.next_is,
-        put-long c.put_opening-a.ensures,
-        c.put_cells-b.ensures.next_is,
-        put-long c.put_cells-b.ensures,
-      ),
-    )
+put_list-c-requires c = (
+  omega arith,
+  omega (
+    arith,
+    c.requires,
+    sheet-length c.args.pass c.args.width c.args.height c.args.cells.now c.args.boundaries.now c.args.anchors.now,
+    c.put_opening-a.ensures.next_is,
+    put-long c.put_opening-a.ensures,
+    c.put_cells-b.ensures.next_is,
+    put-long c.put_cells-b.ensures,
+  ),
+)
 
 pub put_list-requires : goal.put_list-requires
-put_list-requires c =
-    (
-      omega arith,
-      omega (
-        arith,
-        c.requires,
-        sheet-length c.args.pass c.args.width c.args.height c.args.cells.now c.args.boundaries.now c.args.anchors.now,
-        c.put_opening-a.ensures.next_is,
-        put-long c.put_opening-a.ensures,
-        c.put_cells-b.ensures.next_is,
-        put-long c.put_cells-b.ensures,
-        c.put_list-c.ensures.next_is,
-        put-long c.put_list-c.ensures,
-      ),
-    )
+put_list-requires c = (
+  omega arith,
+  omega (
+    arith,
+    c.requires,
+    sheet-length c.args.pass c.args.width c.args.height c.args.cells.now c.args.boundaries.now c.args.anchors.now,
+    c.put_opening-a.ensures.next_is,
+    put-long c.put_opening-a.ensures,
+    c.put_cells-b.ensures.next_is,
+    put-long c.put_cells-b.ensures,
+    c.put_list-c.ensures.next_is,
+    put-long c.put_list-c.ensures,
+  ),
+)
 
 pub returns : goal.returns
 returns c =
