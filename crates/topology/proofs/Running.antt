@@ -94,10 +94,10 @@ module _ {w h : ℕ} {cells anchors : List ℕ} {O : Origin} {s : List Region} {
               let quiet : turn'.quiet ≡ 0 = quiet_is ∙ ap (quiet_after turn.quiet) (gone ∙ ap not e) in
               omega (arith, k, quiet, going, fewer)
 
-    pub run_ends : ltb turn.quiet 3 ≡ false → {a : RestAnswer} → a.number ≡ 0 → a.value ≡ standing.kept
+    pub run_ends : 3 ≤ turn.quiet → {a : RestAnswer} → a.number ≡ 0 → a.value ≡ standing.kept
         → a.rounds ≡ cond (eqb turn.pass 1) turn.rounds (turn.rounds + 1) → RanToRest w h cells anchors O s first a (run-lists l m q t p rs n b d)
     run_ends f en ev er =
-        let end = R.turns.over (omega (arith, ltb-false turn.quiet 3 f, R.turns.quiet)) in
+        let end = R.turns.over (omega (arith, f, R.turns.quiet)) in
         record {
           standing = standing;
           number = en;

@@ -3,8 +3,8 @@ use Rattle.std.proofs.Common.{sym, ◌∙◌, arith}
 use Rattle.topology.proofs.Answered.{first_empty, lent-long, ran_here}
 use Rattle.topology.proofs.own_records.kept_boundaries_here.Goals as goal
 
-pub slice_bounds-topology_kept_boundaries-end-2 : goal.slice_bounds-topology_kept_boundaries-end-2
-slice_bounds-topology_kept_boundaries-end-2 c = omega (arith, c.least-lent.ensures)
+pub slice_bounds-topology_kept_boundaries-end : goal.slice_bounds-topology_kept_boundaries-end
+slice_bounds-topology_kept_boundaries-end c = omega (arith, c.least-lent.ensures)
 
 pub returns : goal.returns
 returns c =

@@ -1,5 +1,6 @@
 -- What a part of the call asks is what the parts before it leave (Calling, RankedCalling).
-use Rattle.std.proofs.Common.{ℕ, refl, ◌∙◌, length-replicate, arith}
+use Rattle.std.proofs.Common.{ℕ, refl, ◌∙◌, arith}
+use Rattle.std.proofs.lemmas.List.{length-replicate}
 use Rattle.pass_lists.proofs.AfterPartition.{ready_finishes}
 use Rattle.topology.proofs.Calling.{no_marks, when_ready, needed-few, ready_fills, ready-lent}
 use Rattle.topology.proofs.RankedCalling.{refused_over, listed-long, ranked-over}

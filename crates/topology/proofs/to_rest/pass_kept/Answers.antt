@@ -1,5 +1,6 @@
 -- What a pass of a run is lent, and that the blocks it leaves are those of the places left (Resting).
-use Rattle.std.proofs.Common.{arith}
+use Rattle.std.proofs.Common.{sym, arith}
+use lib.Seq.{length-take-le}
 use Rattle.topology.proofs.Calling.{no_marks}
 use Rattle.topology.proofs.Resting.{kept-few, numbers-long, ends-long, bounds-long, pass-lent, pass-done}
 use Rattle.topology.proofs.to_rest.pass_kept.Goals as goal
@@ -7,8 +8,11 @@ use Rattle.topology.proofs.to_rest.pass_kept.Goals as goal
 pub overflow_mul-end : goal.overflow_mul-end
 overflow_mul-end c = record { fits = omega (arith, kept-few c.requires.lists_stand.1.stands) }
 
+pub slice_bounds-mark_removed-end : goal.slice_bounds-mark_removed-end
+slice_bounds-mark_removed-end c = bounds-long c.requires.lists_stand.1.stands
+
 pub slice_bounds-mark_removed-end-2 : goal.slice_bounds-mark_removed-end-2
-slice_bounds-mark_removed-end-2 c = bounds-long c.requires.lists_stand.1.stands
+slice_bounds-mark_removed-end-2 c = sym (length-take-le _ _ (bounds-long c.requires.lists_stand.1.stands))
 
 pub mark_removed-requires-clause-map_shown : goal.mark_removed-requires-clause-map_shown
 mark_removed-requires-clause-map_shown c = (_, pass-lent c.requires.lists_stand.1)

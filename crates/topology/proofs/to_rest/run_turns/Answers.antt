@@ -30,4 +30,4 @@ pub rounds_of-requires : goal.rounds_of-requires
 rounds_of-requires c = (c.loop-turn.invariant _ _ c.requires.2).turns.rounds
 
 pub returns : goal.returns
-returns c = λ O s E. run_ends (c.loop-turn.invariant O s E) c.loop-turn-test.false-raw refl refl c.rounds_of.ensures
+returns c = λ O s E. run_ends (c.loop-turn.invariant O s E) c.loop-turn-test.false refl refl c.rounds_of.ensures

@@ -17,8 +17,8 @@ run_turns-answer-requires c =
     let fills = begun_fills begun size.queue in
     (_, _, stands_first begun c.args.output.now refl refl (c.fill.ensures _ fills) c.fill.auto.records size.labels size.masks size.queue size.tallies size.pairs)
 
-pub overflow_mul-finish_rest : goal.overflow_mul-finish_rest
-overflow_mul-finish_rest c =
+pub overflow_mul-lines : goal.overflow_mul-lines
+overflow_mul-lines c =
     let begun = begun_when c.begin_rest-prepared.ensures c.in-Ready.is in
     let size = c.begin_rest-prepared.auto in
     let fills = begun_fills begun size.queue in

@@ -15,16 +15,16 @@ asked : {w h : ℕ} {cells anchors : List ℕ} {O : Origin} {s : List Region} {p
     → Passes (record { height = h; cells = cells; origin = O; lent = s; places = places; first = first }) w (h * w) anchors standing (run-lists l m q t p rs n b d)
 asked T = record { cells_are = refl; stands = T }
 
-pub overflow_mul-pass_kept : goal.overflow_mul-pass_kept
-overflow_mul-pass_kept c = record { fits = omega (arith, needed-few c.requires.lists_stand.3.lists.ready) }
+pub overflow_mul-height : goal.overflow_mul-height
+overflow_mul-height c = record { fits = omega (arith, needed-few c.requires.lists_stand.3.lists.ready) }
 
 pub pass_kept-left-requires-clause-lists_stand : goal.pass_kept-left-requires-clause-lists_stand
 pass_kept-left-requires-clause-lists_stand c = (_, asked c.requires.lists_stand.3)
 
-pub returns-then-left-standing-kept : goal.returns-then-left-standing-kept
-returns-then-left-standing-kept c = λ O s places T.
+pub returns-then-left-standing : goal.returns-then-left-standing
+returns-then-left-standing c = λ O s places T.
     let at = c.pass_kept-left.ensures _ (asked T) in
-    stands-still T c.args.pass at.count at.held at.masks at.queue c.if-left-standing-kept.true
+    stands-still T c.args.pass at.count at.held at.masks at.queue c.if-left-standing.true
 
 pub divide_again-next-requires : goal.divide_again-next-requires
 divide_again-next-requires c =

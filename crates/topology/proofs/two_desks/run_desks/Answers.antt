@@ -2,8 +2,8 @@
 use Rattle.topology.proofs.TwoDesks.{terrain-again, route-before, coaching-before}
 use Rattle.topology.proofs.two_desks.run_desks.Goals as goal
 
-pub run_desk-coaching-requires-then-order-eq0 : goal.run_desk-coaching-requires-then-order-eq0
-run_desk-coaching-requires-then-order-eq0 c =
+pub run_desk-coaching-requires : goal.run_desk-coaching-requires
+run_desk-coaching-requires c =
     let T = c.requires.1 in
     let first = c.run_desk-route.ensures _ T in (_, terrain-again T first.same_masks first.same_queue)
 
@@ -12,12 +12,12 @@ returns-then-order-eq0 c = λ G T.
     let first = c.run_desk-route.ensures G T in
     route-before c.both.ensures first (c.run_desk-coaching.ensures G (terrain-again T first.same_masks first.same_queue))
 
-pub run_desk-route-requires : goal.run_desk-route-requires
-run_desk-route-requires c =
+pub run_desk-route-requires-2 : goal.run_desk-route-requires-2
+run_desk-route-requires-2 c =
     let T = c.requires.1 in
-    let first = c.run_desk-coaching.ensures _ T in (_, terrain-again T first.same_masks first.same_queue)
+    let first = c.run_desk-coaching-2.ensures _ T in (_, terrain-again T first.same_masks first.same_queue)
 
 pub returns : goal.returns
 returns c = λ G T.
-    let first = c.run_desk-coaching.ensures G T in
-    coaching-before c.both.ensures first (c.run_desk-route.ensures G (terrain-again T first.same_masks first.same_queue))
+    let first = c.run_desk-coaching-2.ensures G T in
+    coaching-before c.both-2.ensures first (c.run_desk-route-2.ensures G (terrain-again T first.same_masks first.same_queue))

@@ -1,5 +1,6 @@
 -- A refusal over the shared lists goes to both; of a terrain that is ready the records are filled, masks and queue cleared, and both desks served (TwoDesks).
-use Rattle.std.proofs.Common.{length-map, arith}
+use Rattle.std.proofs.Common.{arith}
+use Rattle.std.proofs.lemmas.List.{length-map}
 use Rattle.topology.proofs.Calling.{ready_fills, needed-few}
 use Rattle.topology.proofs.TwoDesks.{shared-ready, shared-refused, both-refused, needed-within, partitioned, terrain-filled, both-served}
 use Rattle.context.specs.Records.{record_of}
@@ -14,8 +15,8 @@ fill-requires c =
     let R = shared-ready c.prepare_shared-prepared.ensures c.in-Ready.is in
     (_, ready_fills R c.prepare_shared-prepared.auto.queue)
 
-pub overflow_mul-clear_scratch : goal.overflow_mul-clear_scratch
-overflow_mul-clear_scratch c =
+pub overflow_mul-height : goal.overflow_mul-height
+overflow_mul-height c =
     let R = shared-ready c.prepare_shared-prepared.ensures c.in-Ready.is in
     record { fits = omega (arith, needed-few R) }
 
