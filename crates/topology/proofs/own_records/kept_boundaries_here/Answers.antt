@@ -1,10 +1,10 @@
 -- What is lent to the call is a part of the empty records, and that part is what is written in numbers.
-use Rattle.std.proofs.Common.{sym, ◌∙◌, arith}
+use Rattle.std.proofs.Common.{sym, ◌∙◌}
 use Rattle.topology.proofs.Answered.{first_empty, lent-long, ran_here}
 use Rattle.topology.proofs.own_records.kept_boundaries_here.Goals as goal
 
 pub slice_bounds-topology_kept_boundaries-end : goal.slice_bounds-topology_kept_boundaries-end
-slice_bounds-topology_kept_boundaries-end c = omega (arith, c.least-lent.ensures)
+slice_bounds-topology_kept_boundaries-end c = lent-long c.args.room _ c.least-lent.ensures c.empty_records-records.ensures
 
 pub returns : goal.returns
 returns c =
