@@ -4,14 +4,14 @@ use Prim.Native.Nat.{ℕ, zero, suc, ◌+◌, ◌≤◌, ◌<◌, max}
 use native.Mathlib.Omega.{arith}
 use mathlib.Core.Path.{◌≡◌, refl, ◌∙◌}
 use mathlib.Core.Logic.{⊎_elim}
-use mathlib.Core.Bool.{Bool, true, false}
+use mathlib.Core.Bool.{Bool, false}
 use mathlib.Core.List.{List}
-use lib.ListN.{length, get_or, replicate}
+use lib.ListN.{get_or, replicate}
 use Rattle.definitions.specs.Context.{Context}
 use Rattle.laws.specs.ListLaws.Flags.{none_set}
 use Rattle.laws.specs.NumberLaws.Comparisons.{le_or_lt}
 use Rattle.context.specs.declared.Region.{Region}
-use Rattle.mouth_selection.specs.Selecting.{Progress, Ended, weight}
+use Rattle.mouth_selection.specs.Selecting.{Progress, Ended}
 use Rattle.topology.specs.Mouths.{Replaces, NoMarks, Replaced, Ready, Stepped}
 use Rattle.topology.proofs.MouthLoops.{pass-starts}
 use Rattle.topology.proofs.mouth_pass.replace_ramp_mouths.Invariants.{Between}
