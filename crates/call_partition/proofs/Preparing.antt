@@ -8,7 +8,7 @@ use lib.ListN.{length}
 use Rattle.definitions.specs.Limits.{numbers_per_span, tallies_per_span}
 use Rattle.definitions.specs.Grid.{Map, map_of, cell_count}
 use Rattle.definitions.specs.Lists.{zeroed}
-use Rattle.definitions.specs.Partition.{labels, region_count}
+use Rattle.definitions.specs.Partition.{region_count}
 use Rattle.definitions.specs.RegionRecord.{Region}
 use Rattle.definitions.specs.Context.{context_of}
 use Rattle.definitions.specs.Verdict.{pair_rows_of}

@@ -22,7 +22,7 @@ use Rattle.call_partition.specs.Prepared.{ReadyAs}
 use Rattle.call_partition.proofs.Exits.{verdict-kept}
 use Rattle.desks.specs.Desks.{own_refusal}
 use Rattle.desks.specs.Terrain.{regions_same, labels_same, rows_same, tallies_same}
-use Rattle.desks.proofs.Alone.{OwnPassed, own-passed, all_three}
+use Rattle.desks.proofs.Alone.{own-passed, all_three}
 
 module _ (w h : ℕ) (cells spans boundaries anchors : List ℕ) where
   -- the queue's chain

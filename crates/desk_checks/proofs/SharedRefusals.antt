@@ -22,14 +22,14 @@ use Rattle.definitions.specs.Verdict.{Answer, map_in, refusal}
 use Rattle.laws.specs.ListLaws.NoFault.{found}
 use Rattle.laws.specs.ListLaws.SortedMembers.{length-sort}
 use Rattle.laws.specs.TableLaws.AcceptedCalls.{Accepted, accepted, accepted-count}
-use Rattle.laws.specs.TableLaws.KeptRows.{rows_few, boundary_count_lem}
+use Rattle.laws.specs.TableLaws.KeptRows.{rows_few}
 use Rattle.call_partition.specs.declared.Prepared.{Prepared}
 use Rattle.call_partition.specs.declared.Prepared.TheVariants.{Refused, Ready}
 use Rattle.call_partition.specs.Early.{sizes_refusal, entries_refusal, has_room_lem, early_refusal}
 use Rattle.call_partition.specs.Contract.{given, Ran}
 use Rattle.call_partition.specs.Prepared.{DividedAs}
 use Rattle.call_partition.proofs.Exits.{ran-refused}
-use Rattle.desks.specs.Desks.{Shared, terrain, shared_refusal, answer_from}
+use Rattle.desks.specs.Desks.{Shared, terrain, shared_refusal}
 use Rattle.desks.proofs.SharedCalls.{shared_as_call, refused_is}
 use Rattle.desk_checks.specs.AloneCalls.{terrain-left}
 use Rattle.desk_checks.specs.Shared.{lent_both, RefusedBoth, SharedAs}

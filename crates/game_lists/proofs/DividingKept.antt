@@ -2,7 +2,7 @@
 -- its lists are those of the kept graph (`kept-ready`). Assumes what `divide_kept` asks (`Divides`).
 use Prim.Native.Nat.{ℕ, ◌*◌, ◌/◌, ◌≤◌}
 use native.Mathlib.Omega.{arith}
-use mathlib.Core.Path.{◌≡◌, refl, sym, ap, ap₂, subst, ◌∙◌}
+use mathlib.Core.Path.{◌≡◌, sym, ap, ap₂, subst, ◌∙◌}
 use mathlib.Core.Bool.{Bool, ◌&&◌}
 use mathlib.Core.Option.{none}
 use mathlib.Core.List.{List}
@@ -21,16 +21,14 @@ use Rattle.definitions.specs.AtExit.{tallies_of}
 use Rattle.laws.specs.ListLaws.Lists.{length_run}
 use Rattle.laws.specs.ListLaws.Tests.{both}
 use Rattle.laws.specs.ListLaws.NoFault.{no_fault_lem}
-use Rattle.laws.specs.TableLaws.AcceptedCalls.{Accepted}
 use Rattle.row_runs.specs.Contract.{Chain}
 use Rattle.areas.specs.Fit.{Fit}
 use Rattle.call_partition.specs.declared.Prepared.{Prepared}
 use Rattle.call_partition.specs.declared.Prepared.TheVariants.{Refused, Ready}
 use Rattle.call_partition.specs.Early.{early_refusal}
-use Rattle.call_partition.specs.Prepared.{ReadyAs, PreparedAs, DividedAs, RefusedLate}
+use Rattle.call_partition.specs.Prepared.{PreparedAs, DividedAs, RefusedLate}
 use Rattle.call_partition.proofs.EarlyFits.{early-fits}
 use Rattle.call_partition.proofs.Exits.{verdict-kept}
-use Rattle.rest_definitions.specs.RestVerdict.{lists_fault}
 use Rattle.rest.specs.FlatLists.{flat_spans, flat_boundaries}
 use Rattle.boundary_blocks.specs.Blocks.{left_blocks}
 use Rattle.game_calls.specs.KeptGraph.{graph_map}

@@ -5,7 +5,7 @@ use native.Mathlib.Omega.{arith}
 use mathlib.Core.Path.{◌≡◌, refl, sym, ap, ap₂, ◌∙◌}
 use mathlib.Core.Bool.{Bool, true, false, not, ◌&&◌, cond}
 use mathlib.Core.Option.{none}
-use mathlib.Core.List.{List, [], ◌∷◌, ◌++◌, map, map-map, append-nil}
+use mathlib.Core.List.{List, [], ◌∷◌, ◌++◌, map-map, append-nil}
 use lib.ListN.{length, get_or, take, drop, length-append, get_or-append}
 use lib.Seq.{sets, take-length, take-append_seam}
 use lib.Dec.{eqb, leb}
@@ -15,7 +15,7 @@ use Rattle.definitions.specs.Scan.{gather, collect, only_if, to_list, concat_map
 use Rattle.definitions.specs.Lists.{overwrite}
 use Rattle.definitions.specs.Grid.{Map, segment_at, boundary_at, map_of, boundary_of, span_count, span_of}
 use Rattle.definitions.specs.Rows.{removed_of, is_kept}
-use Rattle.definitions.specs.Refusals.{Refusal, or_else, unless, sides_fault, cells_fault, is_whole, pass_fault, endpoints_differ, spans_refusal, boundary_fits, boundaries_fault, anchors_fault, elevations_fault, partition_room, output_room}
+use Rattle.definitions.specs.Refusals.{Refusal, or_else, unless, is_whole, spans_refusal, boundary_fits, boundaries_fault, partition_room, output_room}
 use Rattle.definitions.specs.Verdict.{Lent, map_in, refusal, partition_has_room}
 use Rattle.laws.specs.ListLaws.Lists.{All}
 use Rattle.laws.specs.ListLaws.Members.{all-place}
@@ -37,12 +37,12 @@ use Rattle.rest.specs.Picking.{first_none}
 use Rattle.rest.specs.KeptMaps.{kept-count, kept-boundaries, kept-boundary, kept-endpoints}
 use Rattle.rest.specs.FlatLists.{flat_segment, flat_spans, flat_boundaries, flat_spans-length, flat_boundaries-length, span_count_lem, span_at_lem, boundary_at_lem, flat_map}
 use Rattle.rest.specs.FlatLists as flat
-use Rattle.rest.specs.InnerCalls.{lent-count, lent_fits, lent-span, lent-differ, span_refusal, outside_at, equal_at}
+use Rattle.rest.specs.InnerCalls.{lent_fits, lent-span, lent-differ, span_refusal, outside_at, equal_at}
 use Rattle.boundary_blocks.specs.Blocks.{part, is_left, left_block, left_blocks, left_count}
 use Rattle.boundary_blocks.proofs.Keeping.{left_length_lem, left-few}
 use Rattle.boundary_blocks.proofs.Placing.{part-four}
 use Rattle.game_calls.specs.KeptGraph.{kept_numbers, graph_map}
-use Rattle.game_calls.specs.SecondPartition.{rest-checked, same_count, second-fewer}
+use Rattle.game_calls.specs.SecondPartition.{rest-checked, same_count}
 
 -- ---- lists
 

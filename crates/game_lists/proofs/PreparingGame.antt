@@ -4,14 +4,11 @@ use mathlib.Core.Path.{◌≡◌, sym, ap₂, ◌∙◌}
 use mathlib.Core.Option.{none, some}
 use mathlib.Core.List.{List}
 use lib.ListN.{length}
-use Rattle.definitions.specs.RegionRecord.{Region}
 use Rattle.areas.specs.Fit.{Fit}
 use Rattle.call_partition.specs.declared.Prepared.{Prepared}
 use Rattle.call_partition.specs.declared.Prepared.TheVariants.{Refused, Ready}
-use Rattle.call_partition.specs.Contract.{given}
 use Rattle.call_partition.specs.Prepared.{DividedAs, RefusedLate}
 use Rattle.call_partition.proofs.EarlyFits.{early-fits}
-use Rattle.game_calls.specs.GameExit.{Played}
 use Rattle.game_lists.specs.Early.{game_early}
 use Rattle.game_lists.specs.Prepared.{GamePreparedAs}
 use Rattle.game_lists.proofs.Answering.{all_past, played-refused, played-late}

@@ -1,13 +1,12 @@
 -- What a call that is ready (`GameReady`) and the second partition's rows of pairs say, as the end of the call asks it: no check before the first partition refuses
 -- (`ready-early`), and the graph of the rows is the kept graph (`kept-edges`). Assumes nothing.
-use Prim.Native.Nat.{ℕ, ◌+◌, ◌*◌, ◌/◌, ◌≤◌, ◌<◌}
+use Prim.Native.Nat.{ℕ, ◌+◌, ◌*◌, ◌/◌, ◌≤◌}
 use native.Mathlib.Omega.{arith}
 use mathlib.Core.Path.{◌≡◌, sym, ap, ◌∙◌}
 use mathlib.Core.Option.{none}
 use mathlib.Core.List.{List, [], ◌∷◌, ◌++◌}
 use lib.ListN.{length, get_or, drop, get_or-append}
 use borrow.Author.Tests.{le-leb}
-use Rattle.definitions.specs.Scan.{gather}
 use Rattle.definitions.specs.Lists.{overwrite}
 use Rattle.definitions.specs.Refusals.{unless}
 use Rattle.definitions.specs.Verdict.{refusal}

@@ -59,7 +59,7 @@ use Rattle.island_calls.specs.RustRows.{rust_rows}
 use Rattle.island_calls.specs.RustPartition.{AsRust}
 use Rattle.island_calls.specs.RustPartition as partitions
 use Rattle.record_sums.specs.Totals.{AddUp}
-use Rattle.record_sums.specs.Theorem as sums
+use Rattle.record_sums.proofs.Theorem as sums
 use Rattle.ranked_list.specs.RankedList.{ranked_of}
 use Rattle.ranked_list.specs.RankedAnswers.{RankedAnswer}
 use Rattle.ranked_list.proofs.RankedLaws.{chosen}
@@ -121,19 +121,19 @@ use Rattle.results.proofs.Calls as written
 use Rattle.sheet.specs.Contract.{answer_number}
 use Rattle.sheet.specs.declared.Answer.{Answer as ReadAnswer}
 use Rattle.sheets_equal.specs.NumberBytes.{Bytes}
-use Rattle.sheets_equal.specs.NumberBytes as numbers
-use Rattle.sheets_equal.specs.SheetsEqual.{kind_of}
-use Rattle.sheets_equal.specs.SheetsEqual as sheets
-use Rattle.sheets_equal.specs.ConvertedPrints as conversions
+use Rattle.sheets_equal.proofs.NumberBytes as numbers
+use Rattle.sheets_equal.proofs.SheetsEqual.{kind_of}
+use Rattle.sheets_equal.proofs.SheetsEqual as sheets
+use Rattle.sheets_equal.proofs.ConvertedPrints as conversions
 use Rattle.map_sheets.specs.Writing.{Writes as WritesSheet}
 use Rattle.map_sheets.specs.Converting.{Converts}
 use Rattle.map_sheets.specs.Before as before
 use Rattle.map_sheets.proofs.Calls.{InMemory as SheetInMemory}
 use Rattle.map_sheets.proofs.Calls as new-sheets
-use Rattle.sheets_equal.specs.SheetCalls.{Called as ReadCall, held}
-use Rattle.sheets_equal.specs.SheetCalls as sheet-calls
-use Rattle.sheets_equal.specs.ResultsEqual as results
-use Rattle.sheets_equal.specs.ReaderCalls as reader-calls
+use Rattle.sheets_equal.proofs.SheetCalls.{Called as ReadCall, held}
+use Rattle.sheets_equal.proofs.SheetCalls as sheet-calls
+use Rattle.sheets_equal.proofs.ResultsEqual as results
+use Rattle.sheets_equal.proofs.ReaderCalls as reader-calls
 use Rattle.result_reader.specs.Contract.{Reads}
 use Rattle.result_reader.specs.TwoCalls.{Enough, Holds}
 use Rattle.result_reader.specs.TwoCalls as two

@@ -7,7 +7,7 @@ use mathlib.Core.Path.{◌≡◌, refl, sym, ap, ap₂, ◌∙◌, subst}
 use mathlib.Core.Bool.{Bool, true, false, cond}
 use mathlib.Core.List.{List, [], ◌∷◌}
 use lib.ListN.{length, get_or, replicate, length-replicate, length-map}
-use lib.Dec.{eqb, leb}
+use lib.Dec.{leb}
 use borrow.Author.Tests.{le-leb, lt-leb, ne_eqb}
 use Rattle.definitions.specs.Scan.{run}
 use Rattle.definitions.specs.Grid.{Map, map_of}
@@ -15,12 +15,12 @@ use Rattle.definitions.specs.RegionRecord.{Region, empty_region}
 use Rattle.definitions.specs.Context.{context_of}
 use Rattle.definitions.specs.Refusals.{unless}
 use Rattle.definitions.specs.Lists.{overwrite, zeroed}
-use Rattle.definitions.specs.Verdict.{Lent, map_in, refusal, verdict}
+use Rattle.definitions.specs.Verdict.{Lent, map_in, refusal}
 use Rattle.definitions.specs.AtExit.{complete, stage_of, records_of, labels_at_exit, scratch_at_exit, tallies_at_exit, pairs_at_exit, records_at_exit, exit_with, call_exit}
 use Rattle.laws.specs.ListLaws.Lists.{length_run}
 use Rattle.call_partition.specs.Contract.{given, Ran}
 use Rattle.ranked_list.specs.RankedList.{ranked_of, numbers_per_ranked, flat_ranked}
-use Rattle.ranked_list.specs.RankedAnswers.{RankedAnswer, ranked_fault, ranked_after, ranked_verdict, ranked_stage, ranked_exit, ranked_list_exit, RankedRan}
+use Rattle.ranked_list.specs.RankedAnswers.{ranked_fault, ranked_after, ranked_verdict, ranked_stage, ranked_exit, ranked_list_exit, RankedRan}
 use Rattle.ranked_finish.proofs.Numbers.{verdict-before}
 use Rattle.ranked_finish.proofs.Proposing.{none_ranked}
 

@@ -1,4 +1,3 @@
 -- What the records of all regions add up to (document 02, request 6), of every map and over every accepted call.
 pub mod Totals
 pub mod ByLabel
-pub mod Theorem

@@ -2,8 +2,8 @@
 -- starting map: its refusals 11 and 12 are the run's (`refused-late`), and where it is ready the run is accepted (`begun-ready`). Assumes nothing.
 use Prim.Native.Nat.{ℕ, ◌*◌, ◌/◌, ◌%◌, ◌≤◌}
 use native.Mathlib.Omega.{arith}
-use mathlib.Core.Path.{◌≡◌, refl, sym, ap, ap₂, subst, ◌∙◌}
-use mathlib.Core.Bool.{Bool, true, false, ◌&&◌, cond}
+use mathlib.Core.Path.{◌≡◌, refl, sym, ap, subst, ◌∙◌}
+use mathlib.Core.Bool.{◌&&◌, cond}
 use mathlib.Core.Option.{Option, none, some}
 use mathlib.Core.List.{List, [], ◌∷◌}
 use lib.ListN.{length, take, replicate, length-replicate}
@@ -18,7 +18,7 @@ use Rattle.definitions.specs.Context.{context_of}
 use Rattle.definitions.specs.Rows.{rows_of}
 use Rattle.definitions.specs.Refusals.{Refusal, or_else, unless, sides_fault, cells_fault, is_whole, pass_fault, spans_refusal, boundaries_fault, anchors_fault, elevations_fault}
 use Rattle.definitions.specs.Verdict.{Lent, Answer, map_in, refusal, first_refusal, records_fault, pair_rows_of, pairs_fault, verdict}
-use Rattle.definitions.specs.AtExit.{Stage, stage_of, untouched, complete, tallies_of, scratch_at_exit, call_exit, exit_with}
+use Rattle.definitions.specs.AtExit.{stage_of, untouched, complete, tallies_of, scratch_at_exit, call_exit, exit_with}
 use Rattle.definitions.specs.Lists.{overwrite, zeroed}
 use Rattle.laws.specs.TableLaws.AcceptedCalls.{or_else-assoc}
 use Rattle.laws.specs.ListLaws.Lists.{length_run}
@@ -37,13 +37,13 @@ use Rattle.call_partition.specs.declared.Prepared.TheVariants.{Refused, Ready}
 use Rattle.call_partition.specs.Prepared.{PreparedAs, DividedAs, RefusedLate}
 use Rattle.rest_definitions.specs.RowOrder.{start_map}
 use Rattle.rest_definitions.specs.Rest.{kept_map, rest_rows, rounds_of, last_map}
-use Rattle.rest_definitions.specs.RestVerdict.{RestAnswer, lists_fault, with_rounds, rest_verdict}
+use Rattle.rest_definitions.specs.RestVerdict.{lists_fault, with_rounds, rest_verdict}
 use Rattle.rest_definitions.specs.RestExit.{rest_exit, labels_rested, tallies_rested, pairs_rested, records_rested, output_rested}
 use Rattle.rest.specs.FewerPairs.{begun}
 use Rattle.rest.specs.FlatLists.{flat_spans, flat_boundaries}
 use Rattle.rest.specs.Runs.{start-kept}
 use Rattle.rest.specs.StartMaps.{start-boundaries}
-use Rattle.rest.specs.InnerCalls.{RestChecked, RestAccepted, two_faults, checked-answer, inner-map, first_map, first_verdict}
+use Rattle.rest.specs.InnerCalls.{RestChecked, RestAccepted, two_faults, checked-answer, first_map, first_verdict}
 use Rattle.rest.specs.RestCalls.{RestRan}
 use Rattle.rest_lists.specs.Early.{rest_early}
 use Rattle.rest_lists.specs.Kept.{ends_block, Holds, ReadyOf, rows_long_lem, kept_of, all_places}

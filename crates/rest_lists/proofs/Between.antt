@@ -13,7 +13,7 @@ use Rattle.definitions.specs.RegionRecord.{Region}
 use Rattle.definitions.specs.Context.{context_of}
 use Rattle.definitions.specs.AtExit.{tallies_of}
 use Rattle.definitions.specs.Lists.{overwrite, zeroed}
-use Rattle.definitions.specs.Verdict.{Lent, map_in, pair_rows_of}
+use Rattle.definitions.specs.Verdict.{map_in, pair_rows_of}
 use Rattle.laws.specs.ListLaws.Lists.{length_run}
 use Rattle.laws.specs.ListLaws.Overwritten.{overwrite-twice}
 use Rattle.laws.specs.RegionLaws.Regions.{labels_length}

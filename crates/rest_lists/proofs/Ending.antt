@@ -2,28 +2,26 @@
 use Prim.Native.Nat.{ℕ, ◌*◌, ◌/◌, ◌≤◌}
 use native.Mathlib.Omega.{arith}
 use mathlib.Core.Path.{◌≡◌, refl, sym, ap, ap₂, ◌∙◌}
-use mathlib.Core.Bool.{◌&&◌}
-use mathlib.Core.List.{List, [], ◌∷◌, ◌++◌, map}
+use mathlib.Core.List.{List, [], ◌∷◌, ◌++◌}
 use lib.ListN.{length, get_or, replicate, length-map}
-use lib.Dec.{leb}
 use borrow.Author.Tests.{leb-true}
 use Rattle.definitions.specs.Limits.{numbers_per_boundary}
 use Rattle.definitions.specs.Grid.{Map, cell_count, map_of}
-use Rattle.definitions.specs.Partition.{labels, region_count}
+use Rattle.definitions.specs.Partition.{labels}
 use Rattle.definitions.specs.RegionRecord.{Region, empty_region}
 use Rattle.definitions.specs.Context.{context_of}
 use Rattle.definitions.specs.Refusals.{output_room}
 use Rattle.definitions.specs.Rows.{flat_rows}
 use Rattle.definitions.specs.AtExit.{stage_of, tallies_of, records_of}
 use Rattle.definitions.specs.Lists.{overwrite, zeroed}
-use Rattle.definitions.specs.Verdict.{Lent, map_in, refusal, first_refusal, records_fault, pairs_fault, pair_rows_of, partition_has_room}
+use Rattle.definitions.specs.Verdict.{Lent, map_in, refusal, first_refusal, pair_rows_of, partition_has_room}
 use Rattle.laws.specs.ListLaws.Lists.{all_map}
 use Rattle.laws.specs.ListLaws.Tests.{both}
 use Rattle.areas.specs.Fit.{Fit}
 use Rattle.call_partition.proofs.EarlyFits.{early-fits}
 use Rattle.rest_definitions.specs.RowOrder.{start_rows, no_row, start_map}
 use Rattle.rest_definitions.specs.Rest.{rested, rest_rows, rounds_of, last_map}
-use Rattle.rest_definitions.specs.RestVerdict.{RestAnswer, with_rounds, rest_verdict}
+use Rattle.rest_definitions.specs.RestVerdict.{with_rounds, rest_verdict}
 use Rattle.rest_definitions.specs.RestExit.{rest_exit}
 use Rattle.rest.specs.FlatLists.{flat_spans, flat_boundaries}
 use Rattle.rest.specs.KeptMaps.{kept-count}

@@ -3,14 +3,14 @@
 use Prim.Native.Nat.{ℕ, zero, suc, ◌+◌, ◌*◌, ◌/◌, ◌≤◌, ◌<◌}
 use native.Mathlib.Omega.{arith}
 use native.Mathlib.Nat.{mul-suc, mul-zero}
-use mathlib.Core.Path.{◌≡◌, refl, sym, ap, ap₂, subst, ◌∙◌}
+use mathlib.Core.Path.{◌≡◌, refl, sym, ap, ap₂, ◌∙◌}
 use mathlib.Core.Bool.{Bool, true, false, not, cond}
 use mathlib.Core.Option.{Option, some}
 use mathlib.Core.List.{List, [], ◌∷◌, ◌++◌, map, append_assoc, append-nil}
 use lib.ListN.{length, get_or, take, drop, length-append, length-map}
 use lib.Seq.{take_at, drop-append-add}
 use Rattle.definitions.specs.Limits.{numbers_per_boundary}
-use Rattle.definitions.specs.Scan.{collect, concat_map, gather, count_below, only_if, to_list, member, run}
+use Rattle.definitions.specs.Scan.{collect, concat_map, gather, only_if, to_list, member, run}
 use Rattle.definitions.specs.Sort.{sort, list_lt}
 use Rattle.definitions.specs.Grid.{Map, at, Boundary, no_boundary, segment_at, boundary_at, boundary_of, canonical, map_of}
 use Rattle.definitions.specs.Rows.{Row, row_key, rows_from, removed_of}
@@ -24,8 +24,8 @@ use Rattle.rest.specs.FlatLists.{flat_segment, flat_boundary, flat_spans, flat_b
 use Rattle.rest.specs.Runs.{all-entries}
 use Rattle.rest.specs.Picking.{get_d_mapped, places}
 use Rattle.rest.specs.StartMaps.{Names, start-names, start-length, start-boundaries, start-boundary}
-use Rattle.boundary_blocks.specs.Blocks.{part, is_left, left_block, left_blocks, left_count}
-use Rattle.boundary_blocks.specs.Start.{rows_of_all, turned_in, numbers_of, ends_of_lem, turned_of, place_row, rows_at}
+use Rattle.boundary_blocks.specs.Blocks.{part, is_left, left_blocks, left_count}
+use Rattle.boundary_blocks.specs.Start.{rows_of_all, numbers_of, ends_of_lem, turned_of, place_row, rows_at}
 use Rattle.rest_lists.specs.Kept.{number_block, ends_block, boundary_block, BeginsWith, Holds, kept_of, all_places}
 use Rattle.boundary_blocks.proofs.Placing.{concat-append, concat-length, part_one, part-four}
 

@@ -2,7 +2,7 @@
 -- (`redivided`). Assumes that the run is accepted.
 use Prim.Native.Nat.{ℕ, ◌*◌, ◌/◌, ◌^◌, ◌≤◌, ◌<◌}
 use native.Mathlib.Omega.{arith}
-use mathlib.Core.Path.{◌≡◌, refl, sym, ap, ap₂, subst, ◌∙◌}
+use mathlib.Core.Path.{◌≡◌, refl, sym, ap, subst, ◌∙◌}
 use mathlib.Core.Bool.{◌&&◌}
 use mathlib.Core.Option.{none}
 use mathlib.Core.List.{List}
@@ -15,7 +15,7 @@ use Rattle.definitions.specs.Grid.{Map, span_count}
 use Rattle.definitions.specs.RegionRecord.{Region}
 use Rattle.definitions.specs.Context.{context_of}
 use Rattle.definitions.specs.Refusals.{unless, output_room}
-use Rattle.definitions.specs.Verdict.{Lent, Answer, map_in, refusal, pair_rows_of, pairs_fault, partition_has_room, verdict}
+use Rattle.definitions.specs.Verdict.{Lent, Answer, map_in, refusal, pair_rows_of, pairs_fault, partition_has_room}
 use Rattle.definitions.specs.Lists.{zeroed}
 use Rattle.laws.specs.ListLaws.Lists.{length_run}
 use Rattle.laws.specs.ListLaws.NoFault.{no_fault_lem}
@@ -28,7 +28,7 @@ use Rattle.call_partition.specs.Early.{sizes_refusal, entries_refusal, early_ref
 use Rattle.call_partition.specs.Prepared.{PreparedAs, DividedAs, RefusedLate}
 use Rattle.call_partition.proofs.EarlyFits.{early-fits}
 use Rattle.rest_definitions.specs.RowOrder.{start_map}
-use Rattle.rest_definitions.specs.Rest.{kept_map, passed}
+use Rattle.rest_definitions.specs.Rest.{kept_map}
 use Rattle.rest.specs.FewerPairs.{Reached, begun}
 use Rattle.rest.specs.FlatLists.{flat_spans, flat_boundaries, span_count_lem}
 use Rattle.rest.specs.KeptMaps.{kept-count}

@@ -14,7 +14,7 @@ use Rattle.definitions.specs.Grid.{Map}
 use Rattle.rest_definitions.specs.Rest.{passed, rested}
 use Rattle.rest.specs.Rounds.{passed-few, rested-rests, rounds_257}
 use Rattle.rest.specs.Turning.{Turning, turning-starts, turning_on, turning_on_quiet, turning-round, turning-round-quiet, turning-ends}
-use Rattle.rest_lists.specs.Turns.{TurnIs, turn_after, quiet_after}
+use Rattle.rest_lists.specs.Turns.{TurnIs, turn_after}
 
 -- the rounds of a run that ends before this turn
 abbrev pub rounds_at : TurnIs → ℕ

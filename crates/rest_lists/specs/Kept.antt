@@ -1,5 +1,5 @@
 -- What a run to rest keeps between its passes, over plain lists: the boundaries still kept, and the counts of their partition. Definitions only; assumes nothing.
-use Rattle.std.specs.Prelude.{ℕ, ◌*◌, ◌≤◌, ◌≡◌, List, [], ◌∷◌, ◌++◌, length, get_or, drop}
+use Rattle.std.specs.Prelude.{ℕ, ◌*◌, ◌≡◌, List, [], ◌∷◌, ◌++◌, length, get_or, drop}
 use Rattle.definitions.specs.Limits.{numbers_per_pair}
 use Rattle.definitions.specs.Scan.{concat_map, run}
 use Rattle.definitions.specs.Grid.{Map, boundary_of, map_of, span_count}
@@ -7,7 +7,7 @@ use Rattle.definitions.specs.Partition.{region_count}
 use Rattle.definitions.specs.RegionRecord.{Region}
 use Rattle.definitions.specs.Context.{context_of}
 use Rattle.definitions.specs.Lists.{zeroed}
-use Rattle.definitions.specs.Verdict.{Lent, map_in, pair_rows_of}
+use Rattle.definitions.specs.Verdict.{Lent, pair_rows_of}
 use Rattle.call_partition.specs.Contract.{given}
 use Rattle.call_partition.specs.Prepared.{ReadyAs}
 use Rattle.rest_definitions.specs.RowOrder.{start_rows, no_row, start_map}

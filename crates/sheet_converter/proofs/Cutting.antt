@@ -18,8 +18,8 @@ use Rattle.sheet.specs.declared.Plan.{Plan}
 use Rattle.sheet.specs.Parts.{Opening, opening, Extent, sides, part_of, cells_in, sheet_of, SheetHeld}
 use Rattle.map_sheets.specs.SheetBytes.{spans_bytes, sheet_bytes}
 use Rattle.sheets_equal.specs.NumberBytes.{Bytes}
-use Rattle.sheets_equal.specs.ReaderBytes.{Reads, reads-number, reads-give, reads_then, reads-check-then, reads_times}
-use Rattle.sheets_equal.specs.SheetsEqual.{reads-cell, reads-kind, reads-spans, kind_of, read-written}
+use Rattle.sheets_equal.proofs.ReaderBytes.{Reads, reads-number, reads-give, reads_then, reads-check-then, reads_times}
+use Rattle.sheets_equal.proofs.SheetsEqual.{reads-cell, reads-kind, reads-spans, kind_of, read-written}
 use Rattle.sheet_converter.specs.Contract.{cut_out, Cut}
 use Rattle.sheet_converter.proofs.FirstNumber.{opening-number}
 

@@ -10,8 +10,8 @@ use Rattle.definitions.specs.Sheet.{give, and_then, judged, is_map_kind, kind, R
 use Rattle.laws.specs.SheetReading.SheetLaws.{not_found}
 use Rattle.sheet.specs.Parts.{Opening, opening}
 use Rattle.map_sheets.specs.Converting.{of_kind1, read_kind1}
-use Rattle.sheets_equal.specs.ReaderBytes.{judged_is}
-use Rattle.sheets_equal.specs.SheetsEqual.{kind_in}
+use Rattle.sheets_equal.proofs.ReaderBytes.{judged_is}
+use Rattle.sheets_equal.proofs.SheetsEqual.{kind_in}
 use Rattle.sheet_converter.specs.Contract.{is_other}
 
 -- ---- what `number_at` tells

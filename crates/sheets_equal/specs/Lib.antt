@@ -1,10 +1,2 @@
 pub mod NumberBytes
-pub mod ReaderBytes
-pub mod SheetsEqual
-pub mod ResultsEqual
 pub mod Refusing
-pub mod SheetCalls
-pub mod ResultCalls
-pub mod Examples
-pub mod ReaderCalls
-pub mod ConvertedPrints

@@ -6,7 +6,7 @@ use lib.ListN.{length}
 use Rattle.definitions.specs.Refusals.{elevations_fault}
 use Rattle.definitions.specs.Sheet.{cell}
 use Rattle.laws.specs.ListLaws.FirstBelow.{none_faulty_zero, none_faulty_more, none_faulty_end, first_faulty_lem}
-use Rattle.sheet.specs.Numbers.{item_of, values_at}
+use Rattle.sheet.specs.Numbers.{values_at}
 use Rattle.sheet.proofs.Filling.{held-length}
 use Rattle.sheet.proofs.Items.{as_cell, up_to_most}
 use Rattle.sheet_converter.proofs.Walking.{walking_starts, walking_never-stops, walking_cell, walking_goes_on}
@@ -38,12 +38,11 @@ returns-then-not-elevation_fits c =
     (c.elevation_fits.ensures ∙ ap fitting (sym (walking_cell c.loop-i.invariant.0 c.loop-i-test.true (as_cell _ _ c.in-Item.ensures)))) c.if-not-elevation_fits.true-raw)
 
 pub loop-i-preserved : goal.loop-i-preserved
-loop-i-preserved c =
-    (
-      walking_goes_on c.loop-i.invariant.0 c.loop-i-test.true (as_cell _ _ c.in-Item.ensures),
-      none_faulty_more (fits (values_at cell c.args.bytes.now c.args.at c.args.count)) c.loop-i.i c.loop-i.invariant.1
-          (c.elevation_fits.ensures ∙ ap fitting (sym (walking_cell c.loop-i.invariant.0 c.loop-i-test.true (as_cell _ _ c.in-Item.ensures)))) c.if-not-elevation_fits.false-raw,
-    )
+loop-i-preserved c = (
+  walking_goes_on c.loop-i.invariant.0 c.loop-i-test.true (as_cell _ _ c.in-Item.ensures),
+  none_faulty_more (fits (values_at cell c.args.bytes.now c.args.at c.args.count)) c.loop-i.i c.loop-i.invariant.1
+      (c.elevation_fits.ensures ∙ ap fitting (sym (walking_cell c.loop-i.invariant.0 c.loop-i-test.true (as_cell _ _ c.in-Item.ensures)))) c.if-not-elevation_fits.false-raw,
+)
 
 pub returns : goal.returns
 unfolding elevations_fault

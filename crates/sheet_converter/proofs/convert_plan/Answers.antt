@@ -24,7 +24,7 @@ overflow_add-front c =
 
 pub returns-then-out-front : goal.returns-then-out-front
 returns-then-out-front c =
-    plan-short c.args.bytes.now c.args.plan c.args.out.now (sym (ap refusal_of c.in-MENDARM.is) ∙ c.plan_check.ensures) (omega (arith, c.if-out-front.true, cut-long (bytes-known c.args.bytes.now (λ i. omega (arith, c.shared_slice_known-1.given i))) c.requires.held c.requires.old))
+    plan-short c.args.bytes.now c.args.plan c.args.out.now (sym (ap refusal_of c.in_default.is) ∙ c.plan_check.ensures) (omega (arith, c.if-out-front.true, cut-long (bytes-known c.args.bytes.now (λ i. omega (arith, c.shared_slice_known-1.given i))) c.requires.held c.requires.old))
 
 pub put_converted-size-requires : goal.put_converted-size-requires
 put_converted-size-requires c =
@@ -32,5 +32,5 @@ put_converted-size-requires c =
 
 pub returns : goal.returns
 returns c =
-    plan-put c.args.bytes.now c.args.plan c.args.out.now (sym (ap refusal_of c.in-MENDARM.is) ∙ c.plan_check.ensures)
+    plan-put c.args.bytes.now c.args.plan c.args.out.now (sym (ap refusal_of c.in_default.is) ∙ c.plan_check.ensures)
     (omega (arith, c.if-out-front.false, cut-long (bytes-known c.args.bytes.now (λ i. omega (arith, c.shared_slice_known-1.given i))) c.requires.held c.requires.old)) (cut_is (bytes-known c.args.bytes.now (λ i. omega (arith, c.shared_slice_known-1.given i))) c.requires.held c.requires.old) c.put_converted-size.ensures

@@ -1,6 +1,4 @@
 -- `sheet_converter::is_other_kind` meets its contract: what the number says, or that there is none. Assumes nothing.
-use mathlib.Core.Path.{ap, ◌∙◌}
-use Rattle.sheet.specs.Numbers.{number_of}
 use Rattle.sheet_converter.proofs.FirstNumber.{kind-told, no_kind}
 use Rattle.sheet_converter.proofs.is_other_kind.Goals as goal
 

@@ -17,17 +17,17 @@ returns-in-Equal c =
 pub returns-in-At : goal.returns-in-At
 unfolding lists_refusal
 returns-in-At c =
-    next (spans-said c.spans_fault.ensures c.in-At.is)
+    next (spans-said c.spans_fault.ensures c.in-Nowhere.is)
     (here _ (place-said 7 c.boundaries_fault.ensures c.in-At.is))
 
 pub returns-in-At-anchors_fault : goal.returns-in-At-anchors_fault
 unfolding lists_refusal
 returns-in-At-anchors_fault c =
-    next (spans-said c.spans_fault.ensures c.in-At-anchors_fault.is)
+    next (spans-said c.spans_fault.ensures c.in-Nowhere.is)
     (next (place-said 7 c.boundaries_fault.ensures c.in_default.is) (sym (place-said 8 c.anchors_fault.ensures c.in-At-anchors_fault.is)))
 
 pub returns : goal.returns
 unfolding lists_refusal
 returns c =
-    next (spans-said c.spans_fault.ensures c.in-MENDARM.is)
+    next (spans-said c.spans_fault.ensures c.in-Nowhere.is)
     (next (place-said 7 c.boundaries_fault.ensures c.in_default.is) (sym (place-said 8 c.anchors_fault.ensures c.in_default-anchors_fault.is)))

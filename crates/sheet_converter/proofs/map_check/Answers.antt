@@ -27,7 +27,7 @@ pub returns-in-At : goal.returns-in-At
 unfolding map_refusal
 returns-in-At c =
     next (passes 4 c.pass_fits.ensures c.if-not-pass_fits.false-raw)
-    (next (said c.lists_check.ensures c.in-At.is)
+    (next (said c.lists_check.ensures c.in_default.is)
     (here _ (place-said 9 c.cells_fault.ensures c.in-At.is)))
 
 pub is_one_list-requires : goal.is_one_list-requires
@@ -38,7 +38,7 @@ pub returns-then-not-is_one_list : goal.returns-then-not-is_one_list
 unfolding map_refusal
 returns-then-not-is_one_list c =
     next (passes 4 c.pass_fits.ensures c.if-not-pass_fits.false-raw)
-    (next (said c.lists_check.ensures c.in-MENDARM.is)
+    (next (said c.lists_check.ensures c.in_default.is)
     (next (place-said 9 c.cells_fault.ensures c.in_default-cells_fault.is)
     (sym (refuses 22 c.is_one_list.ensures c.if-not-is_one_list.true-raw))))
 
@@ -46,6 +46,6 @@ pub returns : goal.returns
 unfolding map_refusal
 returns c =
     next (passes 4 c.pass_fits.ensures c.if-not-pass_fits.false-raw)
-    (next (said c.lists_check.ensures c.in-MENDARM.is)
+    (next (said c.lists_check.ensures c.in_default.is)
     (next (place-said 9 c.cells_fault.ensures c.in_default-cells_fault.is)
     (sym (passes 22 c.is_one_list.ensures c.if-not-is_one_list.false-raw))))

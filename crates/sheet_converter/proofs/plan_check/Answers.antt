@@ -46,9 +46,9 @@ slice_bounds-map_check-end-3 c =
 pub map_check-requires : goal.map_check-requires
 map_check-requires c =
     record {
-        sides = ((plan-fits c.requires.held c.requires.old).wide, (plan-fits c.requires.held c.requires.old).high);
-        cells = c.requires.held.held.cells;
-        few = omega (arith, (plan-fits c.requires.held c.requires.old).boundaries, ap length (part-taken c.args.bytes.now c.args.plan.parts.boundaries _ c.requires.held.held.boundaries c.fill_numbers-2.ensures), held-length c.requires.held.held.boundaries);
+      sides = ((plan-fits c.requires.held c.requires.old).wide, (plan-fits c.requires.held c.requires.old).high);
+      cells = c.requires.held.held.cells;
+      few = omega (arith, (plan-fits c.requires.held c.requires.old).boundaries, ap length (part-taken c.args.bytes.now c.args.plan.parts.boundaries _ c.requires.held.held.boundaries c.fill_numbers-2.ensures), held-length c.requires.held.held.boundaries);
     }
 
 pub returns : goal.returns

@@ -1,6 +1,5 @@
 -- `sheet_converter_convert_sheet` meets its contract: the kind first, then what the reader judges, then the sheet that was found. Assumes nothing.
-use mathlib.Core.Path.{sym, subst, ◌∙◌}
-use Rattle.sheet.specs.Parts.{SheetTold}
+use mathlib.Core.Path.{sym, ◌∙◌}
 use Rattle.sheet_converter.proofs.FirstNumber.{opened_1}
 use Rattle.sheet_converter.proofs.Answering.{converts_other, converts_plan, converts_refused}
 use Rattle.sheet_converter.proofs.sheet_converter_convert_sheet.Goals as goal
@@ -13,8 +12,8 @@ pub convert_plan-requires : goal.convert_plan-requires
 convert_plan-requires c =
     let held = c.in-Sound.ensures in
     record {
-        held = held;
-        old = opened_1 c.args.bytes.now held.stands.opened (sym c.is_other_kind.ensures ∙ c.if-is_other_kind.false);
+      held = held;
+      old = opened_1 c.args.bytes.now held.stands.opened (sym c.is_other_kind.ensures ∙ c.if-is_other_kind.false);
     }
 
 pub returns-in-Sound : goal.returns-in-Sound

@@ -8,7 +8,8 @@ use Rattle.definitions.specs.Sheet.{Reader, give, check, and_then, ◌>>=◌, ti
 use Rattle.laws.specs.ListLaws.Lists.{all_split}
 use Rattle.laws.specs.SheetReading.SheetLaws.{not_found}
 use Rattle.results.specs.Shortest.{shortest}
-use Rattle.sheets_equal.specs.NumberBytes.{Bytes, number-bytes}
+use Rattle.sheets_equal.specs.NumberBytes.{Bytes}
+use Rattle.sheets_equal.proofs.NumberBytes.{number-bytes}
 
 -- ---- readers: with `front` before them, the bytes that a reader takes are what is written for its value
 

@@ -5,8 +5,8 @@ use Rattle.std.proofs.Common.{sym, ap, ◌∙◌}
 use Rattle.results.specs.Result.{Result}
 use Rattle.results.specs.ResultAnswers.{ResultReading, well_formed, refused, read_result, at_exit}
 use Rattle.sheets_equal.specs.NumberBytes.{Bytes}
-use Rattle.sheets_equal.specs.ResultsEqual.{results_equal}
-use Rattle.sheets_equal.specs.ResultCalls.{result_number, held_with, held_by_lem, verdict_of, call-reads}
+use Rattle.sheets_equal.proofs.ResultsEqual.{results_equal}
+use Rattle.sheets_equal.proofs.ResultCalls.{result_number, held_with, held_by_lem, verdict_of, call-reads}
 use Rattle.result_reader.specs.Contract.{answer_of, Reads}
 use Rattle.result_reader.specs.declared.ResultAnswer.{ResultAnswer}
 

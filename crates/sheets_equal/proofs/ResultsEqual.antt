@@ -12,7 +12,7 @@ use Rattle.results.specs.Shortest.{shortest, list_bytes}
 use Rattle.results.specs.Result.{Result, Entry, Placed, result_of, kind, entry, times_entry, entries, result, rules_fault}
 use Rattle.results.specs.ResultAnswers.{well_formed, refused, judged_by, reading, read_result, result_bytes}
 use Rattle.sheets_equal.specs.NumberBytes.{Bytes}
-use Rattle.sheets_equal.specs.ReaderBytes.{Reads, reads-number, reads-give, reads_then, reads_times, reads_exactly, reads_end, Ends, ends-then, ends-end}
+use Rattle.sheets_equal.proofs.ReaderBytes.{Reads, reads-number, reads-give, reads_then, reads_times, reads_exactly, reads_end, Ends, ends-then, ends-end}
 
 -- ---- an entry and a list of entries
 

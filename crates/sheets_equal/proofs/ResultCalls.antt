@@ -13,8 +13,8 @@ use Rattle.results.specs.Result.{Result, Entry, Placed, result_of, kind, entry, 
 use Rattle.results.specs.ResultAnswers.{ResultReading, well_formed, refused, judged_by, reading, read_result, room_for, read_verdict, at_exit}
 use Rattle.sheets_equal.specs.NumberBytes.{Bytes}
 use Rattle.sheets_equal.specs.Refusing.{refuses-result}
-use Rattle.sheets_equal.specs.SheetCalls.{filled}
-use Rattle.sheets_equal.specs.ResultsEqual.{numbers_of, gives_list, results_equal}
+use Rattle.sheets_equal.proofs.SheetCalls.{filled}
+use Rattle.sheets_equal.proofs.ResultsEqual.{numbers_of, gives_list, results_equal}
 
 -- document 01: "Success returns 0"
 abbrev pub result_number : ResultReading → ℕ

@@ -13,7 +13,7 @@ use Rattle.laws.specs.SheetReading.SheetLaws.{not_found, times-length}
 use Rattle.results.specs.Shortest.{shortest, list_bytes}
 use Rattle.map_sheets.specs.SheetBytes.{spans_bytes, sheet_bytes}
 use Rattle.sheets_equal.specs.NumberBytes.{Bytes}
-use Rattle.sheets_equal.specs.ReaderBytes.{Reads, reads-number, reads-give, reads_then, reads-check-then, reads_times, reads_end, judged_is, Ends, ends-then, ends-end}
+use Rattle.sheets_equal.proofs.ReaderBytes.{Reads, reads-number, reads-give, reads_then, reads-check-then, reads_times, reads_end, judged_is, Ends, ends-then, ends-end}
 
 -- ---- the parts
 

@@ -14,7 +14,7 @@ use Rattle.sheet.specs.declared.Answer.{Answer}
 use Rattle.sheet.specs.declared.Answer.TheVariants as answers
 use Rattle.sheets_equal.specs.NumberBytes.{Bytes}
 use Rattle.sheets_equal.specs.Refusing.{refuses-sheet}
-use Rattle.sheets_equal.specs.SheetsEqual.{kind_of, sheets_equal}
+use Rattle.sheets_equal.proofs.SheetsEqual.{kind_of, sheets_equal}
 
 -- a call: the bytes, the lists at entry, the answer, and the lists at exit
 abbrev pub Called : List ℕ → List ℕ → List ℕ → List ℕ → List ℕ → Answer → List ℕ → List ℕ → List ℕ → List ℕ → Type 0

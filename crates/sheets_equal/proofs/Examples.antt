@@ -4,7 +4,7 @@ use Rattle.definitions.specs.SheetNumber.{found, number}
 use Rattle.definitions.specs.Sheet.{well_formed, read_sheet, keptlist_cell_limit}
 use Rattle.definitions.specs.SheetExamples.{sheet_j, bytes_j}
 use Rattle.map_sheets.specs.SheetBytes.{sheet_bytes}
-use Rattle.sheets_equal.specs.SheetsEqual.{kind_of}
+use Rattle.sheets_equal.proofs.SheetsEqual.{kind_of}
 
 -- case J as kind 1 and as kind 3: the kinds differ, and with them the first bytes
 pub two_kinds : map (λ bytes. read_sheet keptlist_cell_limit bytes) (bytes_j ∷ sheet_bytes 3 sheet_j ∷ []) ≡ well_formed sheet_j ∷ well_formed sheet_j ∷ []

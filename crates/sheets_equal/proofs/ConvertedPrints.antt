@@ -15,7 +15,7 @@ use Rattle.map_sheets.specs.Converting.{of_kind1, read_kind1, Converts}
 use Rattle.map_sheets.proofs.Calls.{Made, made, made_reads}
 use Rattle.sheets_equal.specs.NumberBytes.{Bytes}
 use Rattle.sheets_equal.specs.Refusing.{refuses-sheet}
-use Rattle.sheets_equal.specs.SheetsEqual.{kind_of, read-written, kind_1_or_3}
+use Rattle.sheets_equal.proofs.SheetsEqual.{kind_of, read-written, kind_1_or_3}
 
 -- ---- no refusal of the reader has the number 0
 

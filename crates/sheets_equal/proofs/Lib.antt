@@ -1,0 +1,9 @@
+pub mod NumberBytes
+pub mod ConvertedPrints
+pub mod Examples
+pub mod ReaderBytes
+pub mod ReaderCalls
+pub mod ResultCalls
+pub mod ResultsEqual
+pub mod SheetCalls
+pub mod SheetsEqual
