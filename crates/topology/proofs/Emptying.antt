@@ -5,7 +5,7 @@ use native.Mathlib.Omega.{arith}
 use native.Mathlib.Numerals.{add-one}
 use mathlib.Core.Path.{◌≡◌, refl, sym, ap, ap₂, ◌∙◌}
 use mathlib.Core.List.{List, [], ◌∷◌, ◌++◌, map, map-append}
-use lib.ListN.{length, set, drop, replicate, length-set, length-replicate, length-map}
+use lib.ListN.{length, set, drop, replicate, length-set, length-replicate}
 use lib.Seq.{drop_at, drop-drop}
 use Rattle.definitions.specs.Grid.{Map}
 use Rattle.definitions.specs.Partition.{region_count}

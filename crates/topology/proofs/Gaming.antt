@@ -4,20 +4,19 @@ use Prim.Native.Nat.{ℕ, ◌*◌, ◌/◌, ◌≤◌}
 use native.Mathlib.Omega.{arith}
 use native.Mathlib.Nat.{le_refl}
 use mathlib.Core.Path.{◌≡◌, refl, sym, ap, ap₂, ◌∙◌}
-use mathlib.Core.Bool.{Bool, false, ◌&&◌}
-use mathlib.Core.Option.{none}
+use mathlib.Core.Bool.{Bool, false}
 use mathlib.Core.List.{List, ◌++◌, map}
 use lib.ListN.{length, drop, replicate, length-map, length-replicate}
 use lib.Dec.{leb}
 use borrow.Author.Tests.{leb-true}
-use Rattle.definitions.specs.Limits.{max_entries, numbers_per_span, numbers_per_boundary, numbers_per_pair, tallies_per_span}
+use Rattle.definitions.specs.Limits.{max_entries, numbers_per_span, numbers_per_boundary, tallies_per_span}
 use Rattle.definitions.specs.Scan.{run}
 use Rattle.definitions.specs.Lists.{overwrite, zeroed}
 use Rattle.definitions.specs.Grid.{Map, map_of, cell_count, span_count}
 use Rattle.definitions.specs.Partition.{labels, region_count}
 use Rattle.definitions.specs.RegionRecord.{empty_region}
 use Rattle.definitions.specs.Context.{context_of}
-use Rattle.definitions.specs.Rows.{rows_of, flat_rows}
+use Rattle.definitions.specs.Rows.{flat_rows}
 use Rattle.definitions.specs.Verdict.{map_in, pair_rows_of, records_fault}
 use Rattle.definitions.specs.AtExit.{tallies_of, records_of}
 use Rattle.laws.specs.ListLaws.Lists.{length_run}
@@ -32,7 +31,7 @@ use Rattle.context.specs.declared.Region.{Region}
 use Rattle.context.specs.Records.{record_of}
 use Rattle.pass_lists.specs.Finished.{Finishes, Finished}
 use Rattle.pass_lists.proofs.AfterChecks.{ready-accepted, ready-sides, ready-fit}
-use Rattle.pass_lists.proofs.AfterPartition.{ready_finishes, spans-lent}
+use Rattle.pass_lists.proofs.AfterPartition.{ready_finishes}
 use Rattle.pass_lists.proofs.Closing.{kept_rows_lem}
 use Rattle.rest_definitions.specs.RowOrder.{map_with}
 use Rattle.rest_definitions.specs.Rest.{kept_map}

@@ -3,7 +3,7 @@ use Prim.Native.Nat.{ℕ, zero, suc, ◌+◌, ◌*◌, ◌/◌, ◌≤◌, ◌<�
 use native.Mathlib.Omega.{arith}
 use mathlib.Core.Path.{◌≡◌, refl, sym, ap, ◌∙◌}
 use mathlib.Core.List.{List, [], ◌∷◌, ◌++◌, map}
-use lib.ListN.{length, take, get_or, set, length-map, length-append}
+use lib.ListN.{length, take, get_or, set, length-map}
 use lib.Seq.{sets, length-take-le, take_all, take-suc}
 use lib.Ieee.{Float, binary64, to_bits}
 use Rattle.definitions.specs.Lists.{overwrite}

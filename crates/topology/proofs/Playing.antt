@@ -1,10 +1,10 @@
 -- The contract of the call that plays on the kept graph, by the case of what its first part answers: a refusal has left every list as it must (`refused_over`); of a call
 -- that is ready the second partition's lists and the verdicts are filled (`played-over`). Assumes nothing.
-use Prim.Native.Nat.{ℕ, ◌*◌, ◌/◌, ◌≤◌}
+use Prim.Native.Nat.{ℕ, ◌*◌, ◌≤◌}
 use native.Mathlib.Omega.{arith}
 use mathlib.Core.Path.{◌≡◌, refl, sym, ap, ap₂, subst, ◌∙◌}
-use mathlib.Core.Option.{Option, none, some}
-use mathlib.Core.List.{List, [], ◌∷◌, map}
+use mathlib.Core.Option.{none}
+use mathlib.Core.List.{List, map}
 use lib.ListN.{length, drop, length-append, length-map}
 use Rattle.definitions.specs.Lists.{zeroed}
 use Rattle.definitions.specs.Grid.{Map, map_of}
@@ -17,7 +17,7 @@ use Rattle.context.specs.declared.Region.{Region}
 use Rattle.context.specs.Records.{record_of}
 use Rattle.call_partition.specs.declared.Prepared.{Prepared}
 use Rattle.call_partition.specs.declared.Prepared.TheVariants.{Refused, Ready}
-use Rattle.game.specs.Graph.{graph_fault, goal_fault, edges_in, graph_of, verdicts_at_exit}
+use Rattle.game.specs.Graph.{edges_in, graph_of, verdicts_at_exit}
 use Rattle.game_calls.specs.KeptGraph.{graph_map, kept_game}
 use Rattle.game_calls.specs.GameVerdict.{GameAnswer}
 use Rattle.game_calls.specs.GameExit.{game_stage}

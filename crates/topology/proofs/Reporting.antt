@@ -7,7 +7,6 @@ use lib.ListN.{length}
 use lib.Dec.{ltb}
 use borrow.Author.Tests.{ltb-true, ltb-false}
 use Rattle.definitions.specs.Limits.{numbers_per_boundary}
-use Rattle.definitions.specs.Verdict as verdict
 use Rattle.report.specs.Runs.{run_of}
 use Rattle.report.specs.Report.{max_runs, sum64, added_by}
 use Rattle.report.proofs.ReportLaws.Order as order
@@ -18,7 +17,7 @@ use Rattle.report_figures.specs.Calls.{CallLeft, ReportedCall}
 use Rattle.report_figures.proofs.Called.{call-left, call-added}
 use Rattle.topology.specs.Lent.{LentLists, LeftLists, lent_call}
 use Rattle.topology.specs.Contract.{exported, RanOver}
-use Rattle.topology.specs.Reports.{Beyond, ReportedOver}
+use Rattle.topology.specs.Reports.{ReportedOver}
 use Rattle.topology.specs.declared.TopologyAnswer.{TopologyAnswer}
 use Rattle.topology.proofs.Lending.{leaves}
 

@@ -1,6 +1,6 @@
 -- The ends of the call that runs to rest: a refusal of its beginning is the call's (`refused_over`); where its first partition is ready and the records are filled, the run stands at all places
 -- (`stands_first`); and where it has come to rest, with masks and queue cleared and the rows written, the contract holds (`rest_over`). Assumes nothing.
-use Prim.Native.Nat.{ℕ, zero, suc, ◌*◌, ◌/◌, ◌≤◌}
+use Prim.Native.Nat.{ℕ, ◌*◌, ◌/◌, ◌≤◌}
 use native.Mathlib.Omega.{arith}
 use mathlib.Core.Path.{◌≡◌, refl, sym, ap, subst, ◌∙◌}
 use mathlib.Core.List.{List, ◌++◌, map}
@@ -9,7 +9,6 @@ use lib.Seq.{drop_at}
 use Rattle.definitions.specs.Grid.{Map, map_of}
 use Rattle.definitions.specs.Partition.{region_count}
 use Rattle.definitions.specs.RegionRecord.{empty_region}
-use Rattle.definitions.specs.RegionRecord as def
 use Rattle.definitions.specs.Context.{context_of}
 use Rattle.definitions.specs.Scan.{run}
 use Rattle.definitions.specs.AtExit.{records_of}
@@ -26,7 +25,7 @@ use Rattle.rest.specs.FlatLists.{flat_spans, flat_boundaries}
 use Rattle.rest.specs.Runs.{start-kept}
 use Rattle.rest.specs.RestCalls.{RestRan}
 use Rattle.rest_lists.specs.declared.kept.Standing.{Standing}
-use Rattle.rest_lists.specs.Kept.{Origin, map_lent, kept_of, all_places}
+use Rattle.rest_lists.specs.Kept.{Origin, map_lent, all_places}
 use Rattle.rest_lists.specs.Begun.{Begun, BegunAs}
 use Rattle.boundary_blocks.specs.Start.{rows_at}
 use Rattle.rest_lists.proofs.Between.{flat-kept, kept-starts}

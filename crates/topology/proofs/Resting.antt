@@ -13,7 +13,6 @@ use Rattle.definitions.specs.Scan.{member}
 use Rattle.definitions.specs.Grid.{Map, map_of, span_count}
 use Rattle.definitions.specs.Partition.{region_count}
 use Rattle.definitions.specs.RegionRecord.{empty_region}
-use Rattle.definitions.specs.RegionRecord as def
 use Rattle.definitions.specs.Context.{context_of}
 use Rattle.definitions.specs.AtExit.{records_of}
 use Rattle.definitions.specs.Lists.{overwrite}
@@ -28,12 +27,12 @@ use Rattle.rest_definitions.specs.RowOrder.{start_map}
 use Rattle.rest_definitions.specs.Rest.{passed}
 use Rattle.rest.specs.FlatLists.{flat_spans, flat_boundaries, span_count_lem}
 use Rattle.rest.specs.FlatLists as flat
-use Rattle.rest.specs.FewerPairs.{Fewer, passed_by}
+use Rattle.rest.specs.FewerPairs.{passed_by}
 use Rattle.rest.specs.KeptMaps.{kept-count, kept-boundaries}
 use Rattle.rest.specs.Runs.{run-fewer}
 use Rattle.rest_lists.specs.declared.kept.Standing.{Standing}
 use Rattle.boundary_blocks.specs.Blocks.{left_blocks, left_count}
-use Rattle.rest_lists.specs.Kept.{number_block, ends_block, boundary_block, Origin, map_lent, kept_of, Holds, Divides, Redivided, SameFrom, KeptLists}
+use Rattle.rest_lists.specs.Kept.{number_block, ends_block, boundary_block, Origin, map_lent, kept_of, Holds, Divides, Redivided, SameFrom}
 use Rattle.rest_lists.proofs.Holding.{begins-front, begins-long, flat-bounds, left_count_lem, kept-left}
 use Rattle.rest_lists.proofs.Between.{flat-kept, all-kept, kept-still, kept_divides, kept_again}
 use Rattle.topology.specs.Filled.{Fills, Renewed}

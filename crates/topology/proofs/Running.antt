@@ -6,19 +6,19 @@ use mathlib.Core.Path.{◌≡◌, refl, sym, ap, subst, ◌∙◌}
 use mathlib.Core.Bool.{Bool, true, false, not, cond}
 use mathlib.Core.List.{List}
 use lib.ListN.{length}
-use lib.Dec.{eqb, ltb}
-use borrow.Author.Tests.{ltb-true, ltb-false, eqb-true, eqb-false, not-true, not-false}
+use lib.Dec.{eqb}
+use borrow.Author.Tests.{eqb-true, eqb-false}
 use Rattle.definitions.specs.Grid.{Map}
 use Rattle.context.specs.declared.Region.{Region}
 use Rattle.rest_definitions.specs.RowOrder.{start_map}
-use Rattle.rest_definitions.specs.Rest.{passed, rested}
+use Rattle.rest_definitions.specs.Rest.{passed}
 use Rattle.rest.specs.Rounds.{passed-few}
 use Rattle.rest.specs.StartMaps.{start-boundaries, start-count}
 use Rattle.rest_lists.specs.declared.kept.Standing.{Standing}
 use Rattle.rest_lists.specs.declared.turns.Turn.{Turn}
 use Rattle.rest_lists.specs.Kept.{Origin, map_lent, all_places}
 use Rattle.rest_lists.specs.Turns.{turn_of, turn_after, quiet_after}
-use Rattle.rest_lists.proofs.Turned.{rounds_at, TurnsAt, turns-start, turns_next}
+use Rattle.rest_lists.proofs.Turned.{TurnsAt, turns-start, turns_next}
 use Rattle.topology.specs.declared.to_rest.RestAnswer.{RestAnswer}
 use Rattle.topology.specs.Marks.{IsPass}
 use Rattle.topology.specs.Rest.{Stands, RanToRest}

@@ -35,7 +35,7 @@ use Rattle.desks.proofs.Alone.{answer-alone, output-alone}
 use Rattle.desk_checks.specs.AloneCalls.{terrain-left}
 use Rattle.desk_checks.specs.Shared.{lent_both, RefusedBoth, SharedAs}
 use Rattle.desk_checks.proofs.DeskReady.{desk-ready}
-use Rattle.topology.specs.Filled.{Fills, Filled}
+use Rattle.topology.specs.Filled.{Filled}
 use Rattle.topology.specs.Marks.{IsPass, Lent, MarkedFor}
 use Rattle.rest_lists.proofs.Inner.{zeroed-length}
 use Rattle.topology.specs.Contract.{exported, written}
@@ -43,7 +43,7 @@ use Rattle.topology.specs.Desks.{desk_of, Ground, shared_of, Partitioned, Terrai
 use Rattle.topology.proofs.Lending.{lends_both, leaves-both}
 use Rattle.topology.specs.declared.TopologyAnswer.{TopologyAnswer}
 use Rattle.topology.specs.declared.two_desks.DesksAnswer.{DesksAnswer}
-use Rattle.topology.proofs.Calling.{is_pass, ready_fills, ready-lent, ran_over, needed-few}
+use Rattle.topology.proofs.Calling.{is_pass, ready-lent, ran_over, needed-few}
 
 -- a desk with this refusal before all others
 served-refused : (S : Shared) (D : Desk) {number place : ℕ} → first_of S D ≡ some (record { number = number; place = place })

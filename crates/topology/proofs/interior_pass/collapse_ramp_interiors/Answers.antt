@@ -1,5 +1,4 @@
 -- `find_interiors` lists the interiors of the context, and `judge_interiors` judges what is listed.
-use Rattle.std.proofs.Common.{refl}
 use Rattle.topology.proofs.interior_pass.collapse_ramp_interiors.Goals as goal
 
 pub find_interiors-requires-clause-lent : goal.find_interiors-requires-clause-lent

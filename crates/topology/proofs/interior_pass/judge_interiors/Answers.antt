@@ -1,5 +1,5 @@
 -- The interior that `interior_at` finds at a boundary fits or does not, and `mark_edges` marks the edges of one that fits (`InteriorLoops`).
-use Rattle.std.proofs.Common.{◌≡◌, ℕ, ◌+◌, ◌-◌, ◌≤◌, ◌<◌, Bool, false, ◌&&◌, ◌||◌, eqb, List, length, get_or, arith}
+use Rattle.std.proofs.Common.{◌≡◌, ℕ, ◌+◌, ◌≤◌, ◌<◌, Bool, false, ◌&&◌, ◌||◌, eqb, List, length, get_or, arith}
 use Rattle.definitions.specs.Limits.{max_entries}
 use Rattle.definitions.specs.Context.{Context}
 use Rattle.context.specs.declared.Region.{Region}

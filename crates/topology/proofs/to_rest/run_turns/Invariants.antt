@@ -1,5 +1,5 @@
 -- The run stands before some turn (`RunsAt`). The measure falls in each turn, since a pass removes some or is one quiet pass more.
-use Rattle.std.proofs.Common.{ℕ, ◌+◌, ◌*◌, ◌-◌, List}
+use Rattle.std.proofs.Common.{◌+◌, ◌*◌, ◌-◌, List}
 use Rattle.context.specs.declared.Region.{Region}
 use Rattle.rest_lists.specs.Kept.{Origin, map_lent, all_places}
 use Rattle.topology.specs.Rest.{Stands}
