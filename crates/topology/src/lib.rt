@@ -52,7 +52,7 @@ pub fn answer_of(a: TopologyAnswer) -> Answer
     Answer::Refused(a.number, a.value as usize)
 }
 
-// The call that runs a pass (SPECIFICATION 3), for callers in any language: the function that does the work is itself the one that is exported.
+// The call that runs a pass (SPECIFICATION 3), for callers in any language: `jenwyllt_c` exports it.
 pub fn topology_kept_boundaries(
     pass: u64,
     width: u64,
