@@ -23,7 +23,11 @@ cd "$(dirname "$0")/.."
 if [ ! -f target/lib/libjenwyllt.a ] || [ ! -f target/lib/libjenwyllt.so ]; then tools/build_library.sh; fi
 if [ ! -x target/bin/keptlist ]; then
     # The toolchain builds a program where it runs it: here on no bytes.
-    (cd crates/keptlist && rt run) </dev/null >/dev/null
+    mkdir -p target/bin
+    (cd crates/keptlist && rt run) </dev/null >/dev/null 2>target/bin/keptlist.log || {
+        tail -n 20 target/bin/keptlist.log >&2
+        exit 1
+    }
     install -D -m 755 crates/keptlist/out/keptlist target/bin/keptlist
 fi
 
