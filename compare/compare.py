@@ -94,13 +94,13 @@ class Definitions:
 
     def number(self, x):
         """a float of the translation as bits"""
-        return self.d.Ieee__toBits('binary64', x) if self.literal else bits(x)
+        return self.d.Ieee__to_bits('binary64', x) if self.literal else bits(x)
 
     def float(self, b):
-        return self.d.Ieee__ofBits('binary64', b) if self.literal else double(b)
+        return self.d.Ieee__of_bits('binary64', b) if self.literal else double(b)
 
     def record(self, r):
-        return (r.cells, *map(self.number, (r.minX, r.minY, r.maxX, r.maxY)), r.rampCells, r.elevations, tuple(r.elevationCounts))
+        return (r.cells, *map(self.number, (r.min_x_lem, r.min_y_lem, r.max_x_lem, r.max_y_lem)), r.ramp_cells_lem, r.elevations, tuple(r.elevation_counts_lem))
 
     def region(self, t):
         return self.d.R.Region(t[0], *map(self.float, t[1:5]), t[5], t[6], tuple(t[7]))
@@ -109,20 +109,20 @@ class Definitions:
         """as reference.results, with the rows of all three passes"""
         d = self.d
         d.forget()
-        M = d.Grid__mapOf(m.width, m.height, tuple(m.cells), tuple(m.spans), tuple(m.boundaries), tuple(m.anchors))
-        C = d.Context__contextOf(M)
-        return {'labels': list(d.Partition__labels(M)), 'regions': d.Partition__regionCount(M), 'tallies': groups(d.AtExit__talliesOf(C), 2),
-                'pairs': groups(d.Verdict__pairRowsOf(C), 3), 'records': [self.record(r) for r in d.AtExit__recordsOf(C)],
-                'rows': [groups(d.Rows__flatRows(d.Rows__rowsOf(p, M)), 5) for p in (1, 2, 3)]}
+        M = d.Grid__map_of(m.width, m.height, tuple(m.cells), tuple(m.spans), tuple(m.boundaries), tuple(m.anchors))
+        C = d.Context__context_of(M)
+        return {'labels': list(d.Partition__labels(M)), 'regions': d.Partition__region_count(M), 'tallies': groups(d.AtExit__tallies_of(C), 2),
+                'pairs': groups(d.Verdict__pair_rows_of(C), 3), 'records': [self.record(r) for r in d.AtExit__records_of(C)],
+                'rows': [groups(d.Rows__flat_rows(d.Rows__rows_of(p, M)), 5) for p in (1, 2, 3)]}
 
     def literal_partition(self, m):
         """what the literal rendering of the Rust's `partition_by_spans` gives (crates/rust_partition)"""
         d = self.d
         d.forget()
-        P = d.PartitionBySpans__partitionBySpans(d.Grid__mapOf(m.width, m.height, tuple(m.cells), tuple(m.spans), (), ()))
-        assert [a.id for a in P.areas] == list(range(1, len(P.areas) + 1)) and sum(a.cellCount for a in P.areas) == sum(c % 2 for c in m.cells)
-        return {'labels': list(P.labels), 'regions': len(P.areas), 'tallies': groups(d.PartitionBySpans__talliesHeld(P), 2),
-                'pairs': groups(d.PartitionBySpans__pairRowsHeld(P), 3)}
+        P = d.PartitionBySpans__partition_by_spans(d.Grid__map_of(m.width, m.height, tuple(m.cells), tuple(m.spans), (), ()))
+        assert [a.id for a in P.areas] == list(range(1, len(P.areas) + 1)) and sum(a.cell_count for a in P.areas) == sum(c % 2 for c in m.cells)
+        return {'labels': list(P.labels), 'regions': len(P.areas), 'tallies': groups(d.PartitionBySpans__tallies_held(P), 2),
+                'pairs': groups(d.PartitionBySpans__pair_rows_held(P), 3)}
 
     def call(self, m, lent, whole=True):
         """the answer, and the lists at exit; behind them the names of what was lent to be read only and is not as it was"""
@@ -130,8 +130,8 @@ class Definitions:
         L = d.R.Lent(m.pass_number if whole else 0, m.width, m.height, tuple(m.cells), tuple(m.spans), tuple(m.boundaries) if whole else (),
                      tuple(m.anchors) if whole else (), tuple(lent.labels), tuple(lent.masks), tuple(lent.queue), tuple(lent.tallies), tuple(lent.pairs),
                      tuple(map(self.region, lent.records)) if whole else (), tuple(lent.output) if whole else ())
-        answer = (d.Verdict__verdict if whole else d.Verdict__partitionVerdict)(L)
-        after = (d.AtExit__callExit if whole else d.AtExit__partitionExit)(L, answer.number)
+        answer = (d.Verdict__verdict if whole else d.Verdict__partition_verdict)(L)
+        after = (d.AtExit__call_exit if whole else d.AtExit__partition_exit)(L, answer.number)
         lists = [list(getattr(after, name)) for name in LENT]
         lists[5] = [self.record(r) for r in lists[5]]
         changed = [name for name in ('pass_', 'width', 'height', 'cells', 'spans', 'boundaries', 'anchors') if getattr(after, name) != getattr(L, name)]
@@ -144,10 +144,10 @@ class Definitions:
     def read(self, data, lengths):
         """number and place, and the four lists at exit, of lent lists full of nines"""
         d = self.d
-        reading = d.Sheet__readVerdict(tuple(data), *lengths)
+        reading = d.Sheet__read_verdict(tuple(data), *lengths)
         parts = [lambda s: s.cells, lambda s: s.spans, lambda s: s.boundaries, lambda s: s.anchors]
-        return ((d.Sheet__readingNumber(reading), d.Sheet__readingPlace(reading)),
-                [list(d.Sheet__atExit(part, reading, (9,) * n)) for part, n in zip(parts, lengths)])
+        return ((d.Sheet__reading_number(reading), d.Sheet__reading_place(reading)),
+                [list(d.Sheet__at_exit(part, reading, (9,) * n)) for part, n in zip(parts, lengths)])
 
 
 # ---- the Rust

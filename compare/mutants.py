@@ -29,9 +29,9 @@ import native                                    # noqa: E402
 from jenwyllt.unproved import reference, sheet_bytes  # noqa: E402
 from jenwyllt.unproved.hypotenuse import bits  # noqa: E402
 
-SWAPS = [('&&', '||'), ('leb', 'ltb'), ('le', 'lt'), ('any', 'all'), ('anyBelow', 'allBelow'), ('min', 'max'), ('fmin', 'fmax'), ('.lo', '.hi'), ('.a', '.b'),
-         ('.x', '.y'), ('.px', '.py'), ('.minX', '.maxX'), ('.minY', '.maxY'), ('.inner', '.outer'), ('.first', '.second'), ('.firstPort', '.secondPort'),
-         ('.mouthIndex', '.rampIndex'), ('.lower', '.upper'), ('.kind', '.rampId'), ('.removedEdges', '.separatedEdges'), ('.width', '.height'), ('add', 'sub'),
+SWAPS = [('&&', '||'), ('leb', 'ltb'), ('le', 'lt'), ('any', 'all'), ('any_below_lem', 'all_below'), ('min', 'max'), ('fmin', 'fmax'), ('.lo', '.hi'), ('.a', '.b'),
+         ('.x', '.y'), ('.px', '.py'), ('.min_x_lem', '.max_x_lem'), ('.min_y_lem', '.max_y_lem'), ('.inner', '.outer'), ('.first', '.second'), ('.first_port', '.second_port'),
+         ('.mouth_index', '.ramp_index'), ('.lower', '.upper'), ('.kind', '.ramp_id'), ('.removed_edges', '.separated_edges'), ('.width', '.height'), ('add', 'sub'),
          ('mul', 'div'), ('+', '-'), ('*', '/'), ('/', '%'), ('+ℤ', '-ℤ'), ('true', 'false'), ('leb', 'eqb'), ('ltb', 'eqb'), ('eqb', 'leb')]
 
 
@@ -157,9 +157,9 @@ class Corpus:
             expected = compare.all_results(m)
             d = self.original.d
             d.forget()
-            M = d.Grid__mapOf(m.width, m.height, tuple(m.cells), tuple(m.spans), tuple(m.boundaries), tuple(m.anchors))
+            M = d.Grid__map_of(m.width, m.height, tuple(m.cells), tuple(m.spans), tuple(m.boundaries), tuple(m.anchors))
             if len(m.boundaries) // 9 == len(m.spans) // 4:
-                C = d.Context__contextOf(M)
+                C = d.Context__context_of(M)
                 numbers = range(len(m.boundaries) // 9)
                 gone = [sorted(set(numbers) - {row[0] for row in rows}) for rows in expected['rows']]
                 self.contexts.append((C, gone))
@@ -231,8 +231,8 @@ class Corpus:
         d = compare.Definitions.__new__(compare.Definitions)
         d.d, d.literal = made, False
         full = f'{module}.{name}'
-        if module in PASS_MODULES and full not in ('RegionRecord.regionOf', 'RegionRecord.maskOf', 'RegionRecord.emptyRegion', 'RegionRecord.least', 'RegionRecord.most',
-                                                   'Context.contextOf', 'Context.anchoredOf', 'Context.endpointsKey'):
+        if module in PASS_MODULES and full not in ('RegionRecord.region_of', 'RegionRecord.mask_of', 'RegionRecord.empty_region', 'RegionRecord.least', 'RegionRecord.most',
+                                                   'Context.context_of', 'Context.anchored_of', 'Context.endpoints_key'):
             removed = {1: made.RampMouths__removed, 2: made.RampInteriors__removed, 3: made.Junctions__removed}
 
             def check(item):
@@ -243,7 +243,7 @@ class Corpus:
             return
         if module not in SHEET_MODULES + CALL_MODULES or module in ('Scan', 'Limits', 'Lists'):
             self.ask(self.maps, lambda item: d.results(item[0]) != item[1])
-        if module in CALL_MODULES or full == 'RegionRecord.emptyRegion':
+        if module in CALL_MODULES or full == 'RegionRecord.empty_region':
             def check_call(item):
                 native.forget()
                 return d.call(item[0], item[1], item[2]) != item[3]

@@ -28,10 +28,10 @@ def library():
     rt = shutil.which('rt')
     if rt is None:
         sys.exit('set RATTLE_LIB to the folder logic/Lib of the toolchain')
-    return os.path.join(os.path.dirname(os.path.dirname(os.path.realpath(rt))), 'logic/Lib')
+    return os.path.join(os.path.dirname(os.path.dirname(os.path.realpath(rt))), 'rattle/logic/Lib')
 
 
-TOK = re.compile(r'''\s+|(?P<str>"(?:[^"\\]|\\.)*")|(?P<punct>[(){};,])|(?P<lam>λ)|(?P<proj>(?<=[\s)])\.[^\W\d_][\w′]*)'''
+TOK = re.compile(r'''\s+|(?P<str>"(?:[^"\\]|\\.)*")|(?P<punct>[(){};,])|(?P<lam>λ)|(?P<proj>(?<=\))(?:\.[^\W\d_][\w']*)+)'''
                  r'''|(?P<name>[^\s(){};,λ."]+(?:\.[^\s(){};,.λ"]+)*)|(?P<dot>\.)''')
 
 
@@ -109,10 +109,7 @@ class P:
         e = self.atom()
         while True:
             k, v = self.peek()
-            if k == 'proj':
-                self.next()
-                e = ('proj', e, v[1:])
-            elif v == '(' or k == 'str' or (k == 'name' and v not in OPS and v not in ('=', 'in', ':', '←')):
+            if v == '(' or k == 'str' or (k == 'name' and v not in OPS and v not in ('=', 'in', ':', '←')):
                 e = ('app', e, self.atom())
             elif k == 'lam':
                 e = ('app', e, self.app())
@@ -131,13 +128,17 @@ class P:
             assert name is None
             return e
         self.expect(';')
-        return ('app', ('app', ('var', '_>>=_'), e), ('lam', name, self.statements()))
+        return ('app', ('app', ('var', '◌>>=◌'), e), ('lam', name, self.statements()))
 
     def atom(self):
         k, v = self.next()
         if v == '(':
             e = self.expr()
             self.expect(')')
+            # a projection stands tight behind what it is of
+            if self.peek()[0] == 'proj':
+                for field in self.next()[1].split('.')[1:]:
+                    e = ('proj', e, field)
             return e
         if k == 'str':
             return ('str', v[1:-1].replace('\\n', '\n'))
@@ -155,7 +156,11 @@ class P:
         if k == 'name' and NUMERAL.fullmatch(v):
             return ('num', int(v, 0))
         if k == 'name':
-            return ('var', v)
+            first, *fields = v.split('.') if v not in CONST and '..' not in v else [v]
+            e = ('var', first)
+            for field in fields:
+                e = ('proj', e, field)
+            return e
         raise SyntaxError(f'atom {k} {v} {self.t[self.i:self.i + 8]}')
 
 
@@ -251,7 +256,7 @@ class Module:
             if line.startswith(('pub mod', 'mod ', 'infix', 'ruleset')):
                 continue
             if line.startswith('use '):
-                m = re.fullmatch(r'use ([\w·.]+?)(?:\.\{(.*)\})?(?: as (\w+))?', line)
+                m = re.fullmatch(r'use ([\w.+-]+?)(?:\.\{(.*)\})?(?: as (\w+))?', ' '.join(text for _, text in block))
                 path, names, alias = m.group(1), m.group(2), m.group(3)
                 short = path.split('.')[-1]
                 if names is None:
@@ -265,7 +270,7 @@ class Module:
                 continue
             m = re.match(r'(?:pub )?record (\w+)', line)
             if m and line.endswith('where'):
-                self.records[m.group(1)] = [re.match(r'(?:pub )?([\w′]+) :', b).group(1) for _, b in block[1:]]
+                self.records[m.group(1)] = [re.match(r"(?:pub )?([\w']+) :", b).group(1) for _, b in block[1:]]
                 continue
             m = re.match(r'(?:pub )?data (\S+)', line)
             if m and line.endswith('where'):
@@ -315,7 +320,7 @@ TAKEN = {'at', 'all', 'any', 'map', 'filter', 'min', 'max', 'len', 'N', 'R', 'No
 
 
 def py(name):
-    for a, b in {'′': '_p', '·': '_dot_', '-': '_minus_', '?': '_q'}.items():
+    for a, b in {"'": '_p', '·': '_dot_', '-': '_minus_', '?': '_q'}.items():
         name = name.replace(a, b)
     if keyword.iskeyword(name) or name in TAKEN:
         name += '_'
@@ -324,15 +329,15 @@ def py(name):
 
 # name -> (python name, arity)
 NATIVE = {
-    'min': ('min', 2), 'max': ('max', 2), 'not': ('N.not_', 1), 'Bool·beq': ('N.beq', 2), 'map': ('N.map_', 2), 'length': ('len', 1),
-    'getD': ('N.getD', 3), 'drop': ('N.drop', 2), 'replicate': ('N.replicate', 2), 'eqb': ('N.eqb', 2), 'ltb': ('N.ltb', 2), 'leb': ('N.leb', 2),
-    'ltZ': ('N.ltb', 2), 'leZ': ('N.leb', 2), 'nonNeg': ('N.nonNeg', 1), 'shrZ': ('N.shrZ', 2), 'compare': ('N.compare', 2),
-    'set': ('N.set_', 3), 'getElem?': ('N.get', 2), 'bitAnd': ('N.bitAnd', 2), 'bitOr': ('N.bitOr', 2),
-    'suc': ('N.suc', 1), 'pos': ('N.pos', 1), 'negsuc': ('N.negsuc', 1), 'some': ('N.some', 1), 'negℤ': ('N.neg', 1), 'code': ('ord', 1),
+    'min': ('min', 2), 'max': ('max', 2), 'not': ('N.not_', 1), 'beq': ('N.beq', 2), 'map': ('N.map_', 2), 'length': ('len', 1),
+    'get_or': ('N.get_or', 3), 'drop': ('N.drop', 2), 'replicate': ('N.replicate', 2), 'eqb': ('N.eqb', 2), 'ltb': ('N.ltb', 2), 'leb': ('N.leb', 2),
+    'lt_z': ('N.ltb', 2), 'le_z': ('N.leb', 2), 'non_neg': ('N.non_neg', 1), 'shr_z': ('N.shr_z', 2), 'compare': ('N.compare', 2),
+    'set': ('N.set_', 3), 'get_elem?': ('N.get', 2), 'bit_and': ('N.bit_and', 2), 'bit_or': ('N.bit_or', 2),
+    'suc': ('N.suc', 1), 'pos': ('N.pos', 1), 'negsuc': ('N.negsuc', 1), 'some': ('N.some', 1), 'neg_ℤ': ('N.neg', 1), 'code': ('ord', 1),
 }
 CONST = {'true': 'True', 'false': 'False', 'zero': '0', '[]': '()', '[]ᴸ': '()', 'none': 'None', 'tt': '()',
-         'Ordering·lt': "'lt'", 'Ordering·eq': "'eq'", 'Ordering·gt': "'gt'"}
-FLOATS = {'add': 3, 'sub': 3, 'mul': 3, 'div': 3, 'neg': 1, 'lt': 2, 'le': 2, 'eq': 2, 'ofBits': 2, 'toBits': 2, 'ofInt': 2}
+         'Ordering.lt': "'lt'", 'Ordering.eq': "'eq'", 'Ordering.gt': "'gt'"}
+FLOATS = {'add': 3, 'sub': 3, 'mul': 3, 'div': 3, 'neg': 1, 'lt': 2, 'le': 2, 'eq': 2, 'of_bits': 2, 'to_bits': 2, 'of_int': 2}
 PLAIN_CLASS = {'Map', 'Context'}                 # compared by identity; their functions remember what they gave
 
 
@@ -425,6 +430,8 @@ class Gen:
                 return f'(({a},) + {b})'
             if o == '++':
                 return f'({a} + {b})'
+        if k == 'proj' and self.qualified(e, env, d):
+            return self.applied(e, env, d)
         if k == 'proj':
             return f'{self.ex(e[1], env, d)}.{py(e[2])}'
         if k == 'rec':
@@ -437,15 +444,24 @@ class Gen:
             return self.applied(e, env, d)
         raise ValueError(e)
 
+    def qualified(self, e, env, d):
+        """the name MODULE.NAME, where the record of a projection is no variable but a module that the file names so"""
+        if e[0] == 'proj' and e[1][0] == 'var' and e[1][1] not in env and e[1][1] in MODULES[d.module].mods:
+            return f'{e[1][1]}.{e[2]}'
+        return None
+
     def applied(self, e, env, d):
         head, args = flat_app(e)
+        name = self.qualified(head, env, d)
+        if name:
+            head = ('var', name)
         if head[0] != 'var' or head[1] in env:
             s = env[head[1]] if head[0] == 'var' else self.ex(head, env, d)
             for a in args:
                 s = f'{s}({self.ex(a, env, d)})'
             return s
         n = head[1]
-        if n == 'firstRefusal' and len(args) == 2 and self.listed(args[0]):
+        if n == 'first_refusal' and len(args) == 2 and self.listed(args[0]):
             entries = ', '.join(f'lambda: {self.ex(x, env, d)}' for x in self.listed(args[0]))
             return f'N.lazily({self.ref(self.find(d.module, n))}, [{entries}], lambda: {self.ex(args[1], env, d)})'
         a = [self.ex(x, env, d) for x in args]
@@ -503,7 +519,7 @@ class Gen:
         elif n in inner:
             conds.append(inner[n][0])
             self.pat(args[0], inner[n][1], d, conds, binds)
-        elif n.startswith('Ordering·'):
+        elif n.startswith('Ordering.'):
             conds.append(f'{v} == {CONST[n]}')
         elif n in ('binary64', 'binary32'):
             conds.append(f"{v} == '{n}'")
@@ -564,24 +580,24 @@ class Gen:
 
 SPEC_MODULES = ['Limits', 'Lists', 'Scan', 'Sort', 'Grid', 'Spans', 'Partition', 'Hypotenuse', 'Geometry', 'RampGeometry', 'RegionRecord', 'Context',
                 'MouthShapes', 'RampMouths', 'RampInteriors', 'Junctions', 'Rows', 'Refusals', 'Verdict', 'AtExit', 'SheetNumber', 'Sheet', 'Printed']
-FAST = {'Scan': ['anyBelow', 'allBelow', 'countBelow', 'collect', 'gather', 'any', 'all', 'filter', 'concatMap', 'run', 'member', 'addNew', 'addAll'],
-        'Sort': ['insert', 'sortOnto', 'sort', 'select', 'listLt'],
-        'Partition': ['mergeAll', 'uncut', 'roots', 'labels', 'regionCount'],
-        'RegionRecord': ['least', 'most'], 'Refusals': ['firstBelow'], 'RampGeometry': ['fabs'], 'Hypotenuse': ['hypotOf']}
-ROOTS = ['Grid.mapOf', 'Grid.onward', 'Spans.cutSteps', 'Spans.candidatePositions', 'Spans.cuts', 'Partition.allSteps', 'Partition.cutAll', 'Partition.uncut',
-         'Partition.mergeAll', 'Partition.roots', 'Partition.labels', 'Partition.regionCount', 'Partition.pairsOf', 'Context.contextOf', 'RegionRecord.regionOf',
-         'RegionRecord.emptyRegion', 'RegionRecord.least', 'RegionRecord.most', 'RegionRecord.dominance', 'RegionRecord.sameDominance', 'RegionRecord.strictlyFlat',
-         'Geometry.pointSegmentDistance', 'RampGeometry.segmentDistance', 'RampGeometry.isNearbyParallelRepresentative',
-         'RampGeometry.overlappingRampRepresentative', 'MouthShapes.mouthShape', 'RampMouths.proposals', 'RampMouths.taken', 'RampInteriors.proposals',
-         'RampInteriors.taken', 'Junctions.proposals', 'Junctions.taken', 'Rows.rowsOf', 'Rows.flatRows', 'Verdict.verdict', 'Verdict.partitionVerdict',
-         'Verdict.pairRowsOf', 'Verdict.firstRefusal', 'AtExit.talliesOf', 'AtExit.recordsOf', 'AtExit.callExit', 'AtExit.partitionExit', 'Refusals.firstBelow',
-         'Sheet.readSheet', 'Sheet.readVerdict', 'Sheet.readingNumber', 'Sheet.readingPlace', 'Sheet.atExit', 'Printed.keptlist', 'Printed.decimal']
-PARTITION_ROOTS = ['PartitionBySpans.partitionBySpans', 'PartitionBySpans.talliesHeld', 'PartitionBySpans.pairRowsHeld']
-LITERAL_ROOTS = ['Hypotenuse.hypotOf', 'Hypotenuse.hypotNumber', 'Hypotenuse.hypotValue', 'Ieee.add', 'Ieee.sub', 'Ieee.mul', 'Ieee.div', 'Ieee.lt', 'Ieee.le', 'Ieee.eq',
-                 'Ieee.neg', 'Ieee.ofBits', 'Ieee.toBits', 'Ieee.ofInt', 'RampGeometry.fabs'] + [f'{m}.{n}' for m in ('Scan', 'Sort') for n in FAST[m]]
-REMEMBERED = ['Grid.mapOf', 'Grid.onward', 'Spans.cutSteps', 'Partition.allSteps', 'Partition.cutAll', 'Partition.uncut', 'Partition.roots', 'Partition.labels',
-              'Partition.regionCount', 'Context.contextOf', 'Rows.removedOf', 'Geometry.distance', 'Geometry.pointSegmentDistance', 'RampGeometry.segmentDistance',
-              'RampGeometry.isNearbyParallelRepresentative', 'RampGeometry.overlappingRampRepresentative']
+FAST = {'Scan': ['any_below_lem', 'all_below', 'count_below', 'collect', 'gather', 'any', 'all', 'filter', 'concat_map', 'run', 'member', 'add_new', 'add_all'],
+        'Sort': ['insert', 'sort_onto', 'sort', 'select', 'list_lt'],
+        'Partition': ['merge_all', 'uncut', 'roots', 'labels', 'region_count'],
+        'RegionRecord': ['least', 'most'], 'Refusals': ['first_below_lem'], 'RampGeometry': ['fabs'], 'Hypotenuse': ['hypot_of']}
+ROOTS = ['Grid.map_of', 'Grid.onward', 'Spans.cut_steps', 'Spans.candidate_positions', 'Spans.cuts', 'Partition.all_steps', 'Partition.cut_all_lem', 'Partition.uncut',
+         'Partition.merge_all', 'Partition.roots', 'Partition.labels', 'Partition.region_count', 'Partition.pairs_of', 'Context.context_of', 'RegionRecord.region_of',
+         'RegionRecord.empty_region', 'RegionRecord.least', 'RegionRecord.most', 'RegionRecord.dominance', 'RegionRecord.same_dominance', 'RegionRecord.strictly_flat',
+         'Geometry.point_segment_distance', 'RampGeometry.segment_distance', 'RampGeometry.is_nearby_parallel_representative',
+         'RampGeometry.overlapping_ramp_representative', 'MouthShapes.mouth_shape', 'RampMouths.proposals', 'RampMouths.taken', 'RampInteriors.proposals',
+         'RampInteriors.taken', 'Junctions.proposals', 'Junctions.taken', 'Rows.rows_of', 'Rows.flat_rows', 'Verdict.verdict', 'Verdict.partition_verdict',
+         'Verdict.pair_rows_of', 'Verdict.first_refusal', 'AtExit.tallies_of', 'AtExit.records_of', 'AtExit.call_exit', 'AtExit.partition_exit', 'Refusals.first_below_lem',
+         'Sheet.read_sheet', 'Sheet.read_verdict', 'Sheet.reading_number', 'Sheet.reading_place', 'Sheet.at_exit', 'Printed.keptlist', 'Printed.decimal']
+PARTITION_ROOTS = ['PartitionBySpans.partition_by_spans', 'PartitionBySpans.tallies_held', 'PartitionBySpans.pair_rows_held']
+LITERAL_ROOTS = ['Hypotenuse.hypot_of', 'Hypotenuse.hypot_number', 'Hypotenuse.hypot_value', 'Ieee.add', 'Ieee.sub', 'Ieee.mul', 'Ieee.div', 'Ieee.lt', 'Ieee.le', 'Ieee.eq',
+                 'Ieee.neg', 'Ieee.of_bits', 'Ieee.to_bits', 'Ieee.of_int', 'RampGeometry.fabs'] + [f'{m}.{n}' for m in ('Scan', 'Sort') for n in FAST[m]]
+REMEMBERED = ['Grid.map_of', 'Grid.onward', 'Spans.cut_steps', 'Partition.all_steps', 'Partition.cut_all_lem', 'Partition.uncut', 'Partition.roots', 'Partition.labels',
+              'Partition.region_count', 'Context.context_of', 'Rows.removed_of', 'Geometry.distance', 'Geometry.point_segment_distance', 'RampGeometry.segment_distance',
+              'RampGeometry.is_nearby_parallel_representative', 'RampGeometry.overlapping_ramp_representative']
 
 
 def generate(mode):

@@ -67,7 +67,7 @@ def lazily(first_refusal, entries, count):
 def not_(b): return not b
 def beq(a, b): return a == b
 def map_(f, l): return tuple(f(x) for x in l)
-def getD(l, n, d): return l[n] if n < len(l) else d
+def get_or(l, n, d): return l[n] if n < len(l) else d
 def get(l, n): return (l[n],) if n < len(l) else None
 def set_(l, n, x): return l[:n] + (x,) + l[n + 1:] if n < len(l) else l
 def drop(n, l): return l[n:]
@@ -75,7 +75,7 @@ def replicate(n, x): return (x,) * n
 def eqb(a, b): return a == b
 def ltb(a, b): return a < b
 def leb(a, b): return a <= b
-def nonNeg(z): return z >= 0
+def non_neg(z): return z >= 0
 def suc(n): return n + 1
 def pos(n): return n
 def negsuc(n): return -1 - n
@@ -86,9 +86,9 @@ def monus(a, b): return a - b if a > b else 0
 def quot(a, b): return a // b if b else 0
 def mod(a, b): return a % b if b else a
 def power(a, b): return a ** b
-def bitAnd(a, b): return a & b
-def bitOr(a, b): return a | b
-def shrZ(z, m): return (z // m if m else 0) if z >= 0 else -1 - ((-1 - z) // m if m else 0)
+def bit_and(a, b): return a & b
+def bit_or(a, b): return a | b
+def shr_z(z, m): return (z // m if m else 0) if z >= 0 else -1 - ((-1 - z) // m if m else 0)
 
 
 # ---- lib.Ieee at binary64, on Python doubles
@@ -109,13 +109,13 @@ def f_neg(x): return -x
 def f_lt(x, y): return x < y
 def f_le(x, y): return x <= y
 def f_eq(x, y): return x == y
-def f_ofBits(_, b): return struct.unpack('<d', struct.pack('<Q', b))[0]
-def f_toBits(_, x): return struct.unpack('<Q', struct.pack('<d', x))[0]
-def f_ofInt(_, n): return float(n)
+def f_of_bits(_, b): return struct.unpack('<d', struct.pack('<Q', b))[0]
+def f_to_bits(_, x): return struct.unpack('<Q', struct.pack('<d', x))[0]
+def f_of_int(_, n): return float(n)
 def s_fabs(x): return abs(x)
 
 
-def s_hypotOf(x, y):
+def s_hypot_of(x, y):
     """Hypotenuse.hypotOf: the double nearest to the root"""
     if not (math.isfinite(x) and math.isfinite(y)):
         x, y = (x if math.isfinite(x) else 0.0), (y if math.isfinite(y) else 0.0)
@@ -133,21 +133,21 @@ def s_hypotOf(x, y):
 
 
 # ---- Scan
-def s_anyBelow(n, f):
+def s_any_below_lem(n, f):
     for i in range(n):
         if f(i):
             return True
     return False
 
 
-def s_allBelow(n, f):
+def s_all_below(n, f):
     for i in range(n):
         if not f(i):
             return False
     return True
 
 
-def s_countBelow(n, f): return sum(1 for i in range(n) if f(i))
+def s_count_below(n, f): return sum(1 for i in range(n) if f(i))
 
 
 def s_collect(n, f):
@@ -183,7 +183,7 @@ def s_all(f, l):
 def s_filter(f, l): return tuple(x for x in l if f(x))
 
 
-def s_concatMap(f, l):
+def s_concat_map(f, l):
     out = []
     for x in l:
         out.extend(f(x))
@@ -192,12 +192,12 @@ def s_concatMap(f, l):
 
 def s_run(n, k): return tuple(range(n, n + k))
 def s_member(r, l): return r in l
-def s_addNew(l, x): return l if x in l else l + (x,)
+def s_add_new(l, x): return l if x in l else l + (x,)
 
 
-def s_addAll(l, xs):
+def s_add_all(l, xs):
     for x in xs:
-        l = s_addNew(l, x)
+        l = s_add_new(l, x)
     return l
 
 
@@ -209,13 +209,13 @@ def s_insert(lt, x, l):
     return l + (x,)
 
 
-def s_sortOnto(lt, acc, l):
+def s_sort_onto(lt, acc, l):
     for x in l:
         acc = s_insert(lt, x, acc)
     return acc
 
 
-def s_sort(lt, l): return s_sortOnto(lt, (), l)
+def s_sort(lt, l): return s_sort_onto(lt, (), l)
 
 
 def s_select(conflict, taken, l):
@@ -225,7 +225,7 @@ def s_select(conflict, taken, l):
     return taken
 
 
-def s_listLt(l, m):
+def s_list_lt(l, m):
     for x, y in zip(l, m):
         if x != y:
             return x < y
@@ -233,7 +233,7 @@ def s_listLt(l, m):
 
 
 # ---- Refusals
-def s_firstBelow(n, f):
+def s_first_below_lem(n, f):
     for i in range(n):
         r = f(i)
         if r is not None:
@@ -250,7 +250,7 @@ def s_most(n, p, f): return max((f(i) for i in range(n) if p(i)), default=0)
 DEFS = None                                      # the module translated fast
 
 
-def s_mergeAll(rs, es):
+def s_merge_all(rs, es):
     """the same renaming, with the members of each class kept in a list"""
     rs = list(rs)
     members = {}
@@ -271,15 +271,15 @@ def s_mergeAll(rs, es):
 
 @memo
 def s_uncut(M):
-    gone = set(DEFS.Partition__cutAll(M))
-    return tuple(e for e in DEFS.Partition__allSteps(M) if e not in gone)
+    gone = set(DEFS.Partition__cut_all_lem(M))
+    return tuple(e for e in DEFS.Partition__all_steps(M) if e not in gone)
 
 
 @memo
-def s_roots(M): return s_mergeAll(s_run(0, M.height * M.width), s_uncut(M))
+def s_roots(M): return s_merge_all(s_run(0, M.height * M.width), s_uncut(M))
 
 
-def walkable_at(M, c): return getD(M.cells, c, 0) % 2 == 1
+def walkable_at(M, c): return get_or(M.cells, c, 0) % 2 == 1
 
 
 @memo
@@ -292,5 +292,5 @@ def s_labels(M):
 
 
 @memo
-def s_regionCount(M):
+def s_region_count(M):
     return sum(1 for c, r in enumerate(s_roots(M)) if walkable_at(M, c) and r == c)

@@ -43,13 +43,13 @@ def scans(r):
     some = lambda i: (i,) * (numbers[i % len(numbers)] % 3)
     before = lambda a: lambda b: a % 4 < b % 4
     clash = lambda a: lambda b: (a + b) % 3 == 0
-    calls = {'Scan': {'anyBelow': (n, holds), 'allBelow': (n, holds), 'countBelow': (n, holds), 'collect': (n, maybe), 'gather': (n, some),
-                      'any': (holds, l), 'all': (holds, l), 'filter': (holds, l), 'concatMap': (some, l), 'run': (n, len(m)),
-                      'member': (3, l), 'addNew': (l, 3), 'addAll': (l, m)},
-             'Sort': {'insert': (before, 3, l), 'sortOnto': (before, m, l), 'sort': (before, l), 'select': (clash, m, l), 'listLt': (l, m)},
-             'Refusals': {'firstBelow': (n, maybe)}, 'RegionRecord': {'least': (n, holds, value), 'most': (n, holds, value)}}
+    calls = {'Scan': {'any_below_lem': (n, holds), 'all_below': (n, holds), 'count_below': (n, holds), 'collect': (n, maybe), 'gather': (n, some),
+                      'any': (holds, l), 'all': (holds, l), 'filter': (holds, l), 'concat_map': (some, l), 'run': (n, len(m)),
+                      'member': (3, l), 'add_new': (l, 3), 'add_all': (l, m)},
+             'Sort': {'insert': (before, 3, l), 'sort_onto': (before, m, l), 'sort': (before, l), 'select': (clash, m, l), 'list_lt': (l, m)},
+             'Refusals': {'first_below_lem': (n, maybe)}, 'RegionRecord': {'least': (n, holds, value), 'most': (n, holds, value)}}
     steps = tuple(literal.R.Pair(r.randrange(8), r.randrange(10)) for _ in range(r.randrange(8)))
-    calls['Partition'] = {'mergeAll': (tuple(range(8)), steps)}
+    calls['Partition'] = {'merge_all': (tuple(range(8)), steps)}
     for module, functions in calls.items():
         for name, args in functions.items():
             same(f'{module}.{name}', getattr(N, f's_{name}')(*args), getattr(literal, f'{module}__{antt2py.py(name)}')(*args), args)
@@ -75,10 +75,10 @@ def floats(r):
     x, y = a_double(r), a_double(r)
     if r.random() < 0.1:
         y = r.choice((x, -x))
-    lx, ly = (literal.Ieee__ofBits('binary64', bits(v)) for v in (x, y))
+    lx, ly = (literal.Ieee__of_bits('binary64', bits(v)) for v in (x, y))
 
     def back(v):
-        return literal.Ieee__toBits('binary64', v)
+        return literal.Ieee__to_bits('binary64', v)
 
     def ours(v):
         return 0x7FF8 << 48 if v != v else bits(v)
@@ -95,9 +95,9 @@ def floats(r):
     same('fabs', ours(N.s_fabs(x)), back(literal.RampGeometry__fabs(lx)), x)
     same('bits', ours(x), back(lx), x)
     n = r.getrandbits(r.randint(1, 60))
-    same('ofInt', ours(N.f_ofInt(0, n)), back(literal.Ieee__ofInt('binary64', n)), n)
+    same('of_int', ours(N.f_of_int(0, n)), back(literal.Ieee__of_int('binary64', n)), n)
     if abs(x) < 1e150 and abs(y) < 1e150:
-        same('hypotOf', ours(N.s_hypotOf(x, y)), back(literal.Hypotenuse__hypotOf(lx, ly)), x, y)
+        same('hypot_of', ours(N.s_hypot_of(x, y)), back(literal.Hypotenuse__hypot_of(lx, ly)), x, y)
 
 
 def main(words):
