@@ -5,7 +5,7 @@
 set -eu
 if [ "${1:-}" = --help ]; then
     echo "usage: ./test.sh"
-    echo "The gate: proves everything from nothing, builds the library and runs all tests; its last line is 'N passed, M failed'. It takes 45 to 75 minutes on two cores, by the machine."
+    echo "The gate: proves everything that no earlier run on this machine passed, tries all must-fail edits, builds the library and runs all tests; its last line is 'N passed, M failed'."
     exit 0
 fi
 if [ $# -ne 0 ]; then
