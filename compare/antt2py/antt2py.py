@@ -333,9 +333,9 @@ NATIVE = {
     'get_or': ('N.get_or', 3), 'drop': ('N.drop', 2), 'replicate': ('N.replicate', 2), 'eqb': ('N.eqb', 2), 'ltb': ('N.ltb', 2), 'leb': ('N.leb', 2),
     'lt_z': ('N.ltb', 2), 'le_z': ('N.leb', 2), 'non_neg': ('N.non_neg', 1), 'shr_z': ('N.shr_z', 2), 'compare': ('N.compare', 2),
     'set': ('N.set_', 3), 'get_elem?': ('N.get', 2), 'bit_and': ('N.bit_and', 2), 'bit_or': ('N.bit_or', 2),
-    'suc': ('N.suc', 1), 'pos': ('N.pos', 1), 'negsuc': ('N.negsuc', 1), 'some': ('N.some', 1), 'neg_ℤ': ('N.neg', 1), 'code': ('ord', 1),
+    'suc': ('N.suc', 1), 'pos': ('N.pos', 1), 'negsuc': ('N.negsuc', 1), 'Some': ('N.some', 1), 'neg_ℤ': ('N.neg', 1), 'code': ('ord', 1),
 }
-CONST = {'true': 'True', 'false': 'False', 'zero': '0', '[]': '()', '[]ᴸ': '()', 'none': 'None', 'tt': '()',
+CONST = {'true': 'True', 'false': 'False', 'zero': '0', '[]': '()', '[]ᴸ': '()', 'None': 'None', 'tt': '()',
          'Ordering.lt': "'lt'", 'Ordering.eq': "'eq'", 'Ordering.gt': "'gt'"}
 FLOATS = {'add': 3, 'sub': 3, 'mul': 3, 'div': 3, 'neg': 1, 'lt': 2, 'le': 2, 'eq': 2, 'of_bits': 2, 'to_bits': 2, 'of_int': 2}
 PLAIN_CLASS = {'Map', 'Context'}                 # compared by identity; their functions remember what they gave
@@ -511,8 +511,8 @@ class Gen:
             return
         head, args = flat_app(p)
         n = head[1]
-        tests = {'[]': f'len({v}) == 0', 'zero': f'{v} == 0', 'true': f'{v}', 'false': f'not {v}', 'none': f'{v} is None'}
-        inner = {'some': (f'{v} is not None', f'{v}[0]'), 'suc': (f'{v} > 0', f'({v} - 1)'), 'pos': (f'{v} >= 0', v),
+        tests = {'[]': f'len({v}) == 0', 'zero': f'{v} == 0', 'true': f'{v}', 'false': f'not {v}', 'None': f'{v} is None'}
+        inner = {'Some': (f'{v} is not None', f'{v}[0]'), 'suc': (f'{v} > 0', f'({v} - 1)'), 'pos': (f'{v} >= 0', v),
                  'negsuc': (f'{v} < 0', f'(-1 - {v})')}
         if n in tests:
             conds.append(tests[n])

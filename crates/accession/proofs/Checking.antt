@@ -4,7 +4,7 @@ use Prim.Native.Nat.{ℕ, ◌≤◌, ◌<◌}
 use native.Mathlib.Omega.{arith}
 use mathlib.Core.Path.{◌≡◌, sym, ap, ap₂, ◌∙◌}
 use mathlib.Core.Bool.{Bool, ◌&&◌}
-use mathlib.Core.Option.{none}
+use Rattle.std.specs.Prelude.{None}
 use mathlib.Core.List.{List}
 use lib.ListN.{length, get_or}
 use Rattle.definitions.specs.Refusals.{first_faulty}
@@ -23,7 +23,7 @@ pub record Checked (l : List ℕ) (slots room : ℕ) (last links : List ℕ) (he
   pub same_slots : length last ≡ slots
   pub same_room : length links ≡ room
   pub holds : Holds l (length last) held last links
-  pub kept_below_lem : first_faulty i (keeps_rules l) ≡ none
+  pub kept_below_lem : first_faulty i (keeps_rules l) ≡ None
 
 module _ (l : List ℕ) where
   pub checked_none : (last links : List ℕ) → 0 < length last → ((slot : ℕ) → get_or last slot 0 ≡ 0) → Checked l (length last) (length links) last links 0 0
@@ -39,7 +39,7 @@ module _ (l : List ℕ) where
 
   -- the test of record i
   pub test-is :
-      (i k : ℕ) {a b : Bool} → first_faulty i (keeps_rules l) ≡ none → k ≡ previous l i → a ≡ own_ascends l i → b ≡ follows l i k
+      (i k : ℕ) {a b : Bool} → first_faulty i (keeps_rules l) ≡ None → k ≡ previous l i → a ≡ own_ascends l i → b ≡ follows l i k
       → (a && b) ≡ keeps_rules l i
   test-is i k h e p q = ap₂ ◌&&◌ p (q ∙ ap (follows l i) e) ∙ sym (chain l i (none_faulty (keeps_rules l) i h))
 

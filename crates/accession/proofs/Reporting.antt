@@ -3,7 +3,7 @@ use Prim.Native.Nat.{ℕ, zero, suc, ◌*◌, ◌/◌, ◌≤◌, ◌<◌}
 use native.Mathlib.Omega.{arith}
 use mathlib.Core.Path.{◌≡◌, refl, sym, ap, ap₂, ◌∙◌}
 use mathlib.Core.Bool.{Bool, true, false}
-use mathlib.Core.Option.{Option, none, some}
+use Rattle.std.specs.Prelude.{Option, None, Some}
 use mathlib.Core.List.{List, [], ◌∷◌}
 use lib.ListN.{length}
 use lib.Dec.{leb}
@@ -57,11 +57,11 @@ module _ (l : List ℕ) (own : ℕ) (out : List ℕ) where
   unfinished f = ap (λ a. checks a (accessions_fault l)) (sym f)
 
   module _ (f : is_finished l ≡ true) where
-    pub broken : {i : ℕ} → accessions_fault l ≡ some i → answer 17 i ≡ line_verdict l own (length out)
+    pub broken : {i : ℕ} → accessions_fault l ≡ Some i → answer 17 i ≡ line_verdict l own (length out)
     unfolding line_verdict
     broken g = ap₂ checks (sym f) (sym g)
 
-    module _ (g : accessions_fault l ≡ none) where
+    module _ (g : accessions_fault l ≡ None) where
       pub ten-left : room_verdict (line_of l own) (length out) ≡ line_verdict l own (length out)
       unfolding line_verdict
       ten-left = ap₂ checks (sym f) (sym g)

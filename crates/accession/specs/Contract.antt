@@ -1,6 +1,6 @@
 -- What the answers of this crate say, by cases. Assumes nothing.
 use Rattle.std.specs.Prelude.{ℕ, zero, suc, ◌*◌, ◌<◌, ◌≡◌, List, [], ◌∷◌, length, leb}
-use Rattle.std.proofs.Math.Option.{Option, none, some}
+use Rattle.std.specs.Prelude.{Option, None, Some}
 use Rattle.definitions.specs.Lists.{overwrite}
 use Rattle.definitions.specs.Refusals.{unless}
 use Rattle.definitions.specs.Verdict.{Answer, refusal, first_refusal}
@@ -13,8 +13,8 @@ use Rattle.accession.specs.declared.line.Found.TheVariants as found
 use Rattle.accession.specs.declared.line.LineAnswer.{LineAnswer}
 
 abbrev pub place_of : Broken → Option ℕ
-place_of Nothing = none
-place_of (At i) = some i
+place_of Nothing = None
+place_of (At i) = Some i
 
 -- number 0 and the count of records, or a refusal's number and place
 abbrev pub answer_in : LineAnswer → Answer

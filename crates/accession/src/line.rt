@@ -1,6 +1,6 @@
 // The line of an own number: every record of its map, newest first.
 ghost use Rattle.std.specs.Prelude.{◌≡◌, true, ◌≤◌, ◌<◌, ◌+◌, ◌*◌, length};
-ghost use Rattle.std.proofs.Math.Option.{none};
+ghost use Rattle.std.specs.Prelude.{None};
 ghost use Rattle.std.proofs.lemmas.List.Edits.{sets};
 ghost use Rattle.definitions.specs.Lists.{overwrite};
 ghost use Rattle.definitions.specs.Scan.{bit, count_below};
@@ -31,12 +31,10 @@ fn find_own(records: &[u64], own: u64) -> Found
     ensures { Finds records.now own result }
 {
     let count = record_count(records);
-    let mut i = 0;
-    while i < count {
+    for i in 0..count {
         if own_of(records, i) == own {
             return Found::At(i);
         }
-        i += 1;
     }
     Found::Nowhere
 }
@@ -46,12 +44,10 @@ fn count_of_map(records: &[u64], number: u64) -> usize
 {
     let count = record_count(records);
     let mut found = 0;
-    let mut i = 0;
-    while i < count {
+    for i in 0..count {
         if map_of(records, i) == number {
             found += 1;
         }
-        i += 1;
     }
     found
 }
@@ -113,7 +109,7 @@ fn report_map(records: &[u64], number: u64, output: &mut [u64]) -> LineAnswer
 
 // For records that keep the rules.
 pub fn report_kept(records: &[u64], own: u64, output: &mut [u64]) -> LineAnswer
-    requires { (is_finished records.now ≡ true) × (accessions_fault records.now ≡ none) }
+    requires { (is_finished records.now ≡ true) × (accessions_fault records.now ≡ None) }
     ensures answer { answer_in result ≡ line_verdict records.now own (length output.old) }
     ensures left { output.new ≡ line_at_exit result.number records.now own output.old }
 {

@@ -45,14 +45,12 @@ fn first_broken_by(records: &[u64], last: &mut [u32], links: &mut [u32]) -> Brok
 {
     let count = record_count(records);
     let mut held = 0;
-    let mut i = 0;
-    while i < count {
+    for i in 0..count {
         let k = last_of_map(records, i, held, last, links);
         if !(own_ascends(records, i) & goes_on(records, i, k)) {
             return Broken::At(i);
         }
         held = hold(records, held, last, links);
-        i += 1;
     }
     Broken::Nothing
 }

@@ -2,7 +2,7 @@
 use Prim.Native.Nat.{ℕ}
 use mathlib.Core.Path.{◌≡◌, sym, ap, ◌∙◌}
 use mathlib.Core.Bool.{Bool, true, false, not}
-use mathlib.Core.Option.{Option, none, some}
+use Rattle.std.specs.Prelude.{Option, None, Some}
 use Rattle.definitions.specs.Scan.{only_if}
 use Rattle.definitions.specs.Refusals.{Refusal, or_else, unless}
 use Rattle.definitions.specs.Verdict.{refusal}
@@ -13,18 +13,18 @@ use Rattle.areas.specs.declared.checked.Check.{Check}
 use Rattle.areas.specs.Answers.{refusal_of}
 
 -- of a test with place 0, whose answer is r
-pub passes : (number : ℕ) {r ok : Bool} → r ≡ ok → not r ≡ false → refusal number (unless ok) ≡ none
+pub passes : (number : ℕ) {r ok : Bool} → r ≡ ok → not r ≡ false → refusal number (unless ok) ≡ None
 passes number e h = ap (λ b. refusal number (only_if b 0)) (ap not (sym e) ∙ h)
 
-pub refuses : (number : ℕ) {r ok : Bool} → r ≡ ok → not r ≡ true → refusal number (unless ok) ≡ some (record { number = number; place = 0 })
+pub refuses : (number : ℕ) {r ok : Bool} → r ≡ ok → not r ≡ true → refusal number (unless ok) ≡ Some (record { number = number; place = 0 })
 refuses number e h = ap (λ b. refusal number (only_if b 0)) (ap not (sym e) ∙ h)
 
 -- a check that refuses, with those behind it
-pub here : {a : Option Refusal} (b : Option Refusal) {x : Refusal} → a ≡ some x → some x ≡ or_else a b
+pub here : {a : Option Refusal} (b : Option Refusal) {x : Refusal} → a ≡ Some x → Some x ≡ or_else a b
 here b p = sym (ap (λ o. or_else o b) p)
 
 -- a check that does not, and what those behind it say
-pub next : {a b o : Option Refusal} → a ≡ none → o ≡ b → o ≡ or_else a b
+pub next : {a b o : Option Refusal} → a ≡ None → o ≡ b → o ≡ or_else a b
 next {b} p q = q ∙ sym (ap (λ o. or_else o b) p)
 
 -- what a check's answer, known by its case, says

@@ -3,7 +3,7 @@ use Prim.Native.Nat.{ℕ, ◌*◌, ◌/◌, ◌%◌, ◌≤◌, ◌<◌}
 use native.Mathlib.Nat.{mul_comm}
 use mathlib.Core.Path.{◌≡◌, refl, ◌∙◌, subst}
 use mathlib.Core.Bool.{true, not, ◌&&◌}
-use mathlib.Core.Option.{none, some}
+use Rattle.std.specs.Prelude.{None, Some}
 use mathlib.Core.List.{List}
 use lib.ListN.{length}
 use lib.Dec.{eqb, leb}
@@ -43,7 +43,7 @@ module _ (w h : ℕ) (cells spans : List ℕ) (labels masks queue tallies : ℕ)
       (leaves_or _ _ (leaves-refusal 3 (unless (is_whole numbers_per_span spans)) refl)
       (leaves_or _ _ (spans_leave w h spans) (leaves-refusal 10 (unless (partition_room (w * h) (length spans / numbers_per_span) labels masks queue tallies)) refl))))
 
-  pub early-untouched : (x : Refusal) → early_refusal w h cells spans labels masks queue tallies ≡ some x → stage_of x.number ≡ untouched
+  pub early-untouched : (x : Refusal) → early_refusal w h cells spans labels masks queue tallies ≡ Some x → stage_of x.number ≡ untouched
   unfolding Leaves
   early-untouched x e = subst Leaves e early-leaves
 
@@ -52,10 +52,10 @@ module _ (w h : ℕ) (cells spans : List ℕ) (labels masks queue tallies : ℕ)
     sides : (is_side w && is_side h) ≡ true
     counted : eqb (length cells) (w * h) ≡ true
     whole : is_whole numbers_per_span spans ≡ true
-    spans_fit_lem : spans_refusal w h spans ≡ none
+    spans_fit_lem : spans_refusal w h spans ≡ None
     room : partition_room (w * h) (length spans / numbers_per_span) labels masks queue tallies ≡ true
 
-  early-passed : early_refusal w h cells spans labels masks queue tallies ≡ none → Passed
+  early-passed : early_refusal w h cells spans labels masks queue tallies ≡ None → Passed
   unfolding early_refusal
   early-passed e =
       let one = or_else_none (refusal 1 (sides_fault w h)) _ e in
@@ -70,13 +70,13 @@ module _ (w h : ℕ) (cells spans : List ℕ) (labels masks queue tallies : ℕ)
         room = no_fault_lem _ 0 (refusal_none 10 _ five.1);
       }
 
-  at_span : spans_refusal w h spans ≡ none → (i : ℕ) → i < length spans / numbers_per_span → (both_on_map w h (segment_at spans (numbers_per_span * i)) ≡ true) × (endpoints_differ (segment_at spans (numbers_per_span * i)) ≡ true)
+  at_span : spans_refusal w h spans ≡ None → (i : ℕ) → i < length spans / numbers_per_span → (both_on_map w h (segment_at spans (numbers_per_span * i)) ≡ true) × (endpoints_differ (segment_at spans (numbers_per_span * i)) ≡ true)
   unfolding spans_refusal
   at_span e i l =
       let both-none = or_else_none _ _ (none_at (λ k. or_else (only_if (not (both_on_map w h (segment_at spans (numbers_per_span * k)))) (record { number = 5; place = k })) (only_if (not (endpoints_differ (segment_at spans (numbers_per_span * k)))) (record { number = 6; place = k }))) (length spans / numbers_per_span) e i l) in
       (no_fault_lem _ _ both-none.0, no_fault_lem _ _ both-none.1)
 
-  pub early-fit : early_refusal w h cells spans labels masks queue tallies ≡ none → Fit w h cells spans labels masks queue tallies
+  pub early-fit : early_refusal w h cells spans labels masks queue tallies ≡ None → Fit w h cells spans labels masks queue tallies
   early-fit e =
       let p = early-passed e in
       let s = both (is_side w) (is_side h) p.sides in

@@ -3,7 +3,7 @@
 use Prim.Native.Nat.{ℕ, ◌*◌, ◌/◌, ◌≤◌, ◌<◌}
 use mathlib.Core.Path.{◌≡◌, sym, ap, ◌∙◌}
 use mathlib.Core.Bool.{not}
-use mathlib.Core.Option.{Option, none, some}
+use Rattle.std.specs.Prelude.{Option, None, Some}
 use mathlib.Core.List.{List, [], ◌∷◌}
 use lib.ListN.{length}
 use borrow.Author.Tests.{le-leb, lt-leb}
@@ -47,7 +47,7 @@ module _ (w h : ℕ) (cells spans l m q t p : List ℕ) where
       (refusal 12 (pairs_fault L M) ∷ [])
       (region_count M)
 
-  pub ran-refused : (number place : ℕ) → some (record { number = number; place = place }) ≡ early → Ran L (Refused number place) l m q t p
+  pub ran-refused : (number place : ℕ) → Some (record { number = number; place = place }) ≡ early → Ran L (Refused number place) l m q t p
   unfolding partition_exit exit_with
   ran-refused number place e =
       let u : stage_of number ≡ untouched = early-untouched w h cells spans (length l) (length m) (length q) (length t) _ (sym e) in
@@ -66,10 +66,10 @@ module _ (w h : ℕ) (cells spans l m q t p : List ℕ) where
     pub masks : m' ≡ zeroed (h * w) m
     pub queue : q' ≡ zeroed (h * w) q
 
-  verdict-late : none ≡ early → partition_verdict L ≡ first_refusal (refusal 12 (pairs_fault L M) ∷ []) (region_count M)
+  verdict-late : None ≡ early → partition_verdict L ≡ first_refusal (refusal 12 (pairs_fault L M) ∷ []) (region_count M)
   verdict-late e = verdict-early ∙ ap (λ o. first_refusal (o ∷ refusal 12 (pairs_fault L M) ∷ []) (region_count M)) (sym e)
 
-  module _ (e : none ≡ early) {l' m' q' t' p' : List ℕ} (B : Labelled l' m' q') (tallied : t' ≡ overwrite (tallies_of (context_of M)) t) where
+  module _ (e : None ≡ early) {l' m' q' t' p' : List ℕ} (B : Labelled l' m' q') (tallied : t' ≡ overwrite (tallies_of (context_of M)) t) where
     pub ran_complete : (regions : ℕ) → regions ≡ region_count M → length rows ≤ length p / numbers_per_pair * numbers_per_pair → p' ≡ overwrite rows p → Ran L (Regions regions) l' m' q' t' p'
     unfolding partition_exit exit_with stage_of pairs_fault cell_count map_in map_of
     ran_complete regions c room filled =

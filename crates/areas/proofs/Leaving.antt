@@ -2,25 +2,25 @@
 use Prim.Native.Nat.{ℕ, zero, suc}
 use mathlib.Core.Path.{◌≡◌}
 use mathlib.Core.Bool.{Bool, true, false}
-use mathlib.Core.Option.{Option, none, some}
+use Rattle.std.specs.Prelude.{Option, None, Some}
 use Rattle.definitions.specs.Scan.{only_if}
 use Rattle.definitions.specs.Refusals.{Refusal, or_else, first_below_lem}
 use Rattle.definitions.specs.Verdict.{refusal}
 use Rattle.definitions.specs.AtExit.{stage_of, untouched}
 
 unfoldable pub Leaves : Option Refusal → Type 0
-Leaves none = Unit
-Leaves (some x) = stage_of x.number ≡ untouched
+Leaves None = Unit
+Leaves (Some x) = stage_of x.number ≡ untouched
 
 pub leaves_or : (a b : Option Refusal) → Leaves a → Leaves b → Leaves (or_else a b)
 unfolding Leaves
-leaves_or none b h k = k
-leaves_or (some x) b h k = h
+leaves_or None b h k = k
+leaves_or (Some x) b h k = h
 
 pub leaves-refusal : (number : ℕ) (o : Option ℕ) → stage_of number ≡ untouched → Leaves (refusal number o)
 unfolding Leaves
-leaves-refusal number none h = tt
-leaves-refusal number (some place) h = h
+leaves-refusal number None h = tt
+leaves-refusal number (Some place) h = h
 
 pub leaves_only : (b : Bool) (x : Refusal) → stage_of x.number ≡ untouched → Leaves (only_if b x)
 unfolding Leaves

@@ -1,5 +1,5 @@
 -- What the answers of this crate say: the number and value of each case (SPECIFICATION 4). Assumes nothing.
-use Rattle.std.proofs.Math.Option.{Option, none, some}
+use Rattle.std.specs.Prelude.{Option, None, Some}
 use Rattle.definitions.specs.Refusals.{Refusal}
 use Rattle.definitions.specs.Verdict.{Answer}
 use Rattle.areas.specs.declared.Partitioned.{Partitioned}
@@ -13,5 +13,5 @@ answer_of (Regions count) = record { number = 0; value = count }
 answer_of (Refused number place) = record { number = number; value = place }
 
 abbrev pub refusal_of : Check → Option Refusal
-refusal_of check.Fit = none
-refusal_of (check.Refused number place) = some (record { number = number; place = place })
+refusal_of check.Fit = None
+refusal_of (check.Refused number place) = Some (record { number = number; place = place })

@@ -6,10 +6,8 @@ pub fn clear_masks(masks: &mut [u16], needed: usize)
     requires { needed ≤ length masks.old }
     ensures { masks.new ≡ zeroed needed masks.old }
 {
-    let mut i = 0;
-    while i < needed {
+    for i in 0..needed {
         masks[i] = 0;
-        i += 1;
     }
 }
 
@@ -17,9 +15,7 @@ pub fn clear_numbers(list: &mut [u32], needed: usize)
     requires { needed ≤ length list.old }
     ensures { list.new ≡ zeroed needed list.old }
 {
-    let mut i = 0;
-    while i < needed {
+    for i in 0..needed {
         list[i] = 0;
-        i += 1;
     }
 }

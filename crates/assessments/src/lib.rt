@@ -358,10 +358,9 @@ fn assess_between(
 {
     let tie = tie_of(g, strip);
     let mut a = start;
-    let mut k = from;
     let mut before = first_place(strip, tie, from as u64 - 1);
     let mut here = next_place(strip, tie, from as u64 - 1, before);
-    while k < to {
+    for k in from..to {
         let after = next_place(strip, tie, k as u64, here);
         a = assess_crossing(
             width,
@@ -382,7 +381,6 @@ fn assess_between(
         );
         before = here;
         here = after;
-        k += 1;
     }
     a
 }
@@ -478,15 +476,13 @@ pub fn assess_spans(
 {
     let count = spans.len() / NUMBERS_PER_SPAN;
     let mut end = 0;
-    let mut s = 0;
-    while s < count {
+    for s in 0..count {
         let g = span_at(spans, s);
         let a = assess_span(width, height, cells, masks, labels, pairs, g, s as u32, end);
         let at = TALLIES_PER_SPAN * s;
         tallies[at] = a.removed;
         tallies[at + 1] = a.separated;
         end = a.end;
-        s += 1;
     }
     if end <= pairs.len() / NUMBERS_PER_PAIR {
         Assessed::Rows(end)

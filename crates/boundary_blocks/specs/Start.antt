@@ -1,6 +1,6 @@
 -- The starting list over flat lists, and the rows of what is kept. Definitions only; assumes nothing.
 use Rattle.std.specs.Prelude.{ℕ, ◌+◌, ◌*◌, ◌≤◌, true, List, [], ◌∷◌, length, get_or}
-use Rattle.std.proofs.Math.Option.{some}
+use Rattle.std.specs.Prelude.{Some}
 use Rattle.definitions.specs.Limits.{numbers_per_span, numbers_per_boundary}
 use Rattle.definitions.specs.Scan.{collect, concat_map}
 use Rattle.definitions.specs.Grid.{Boundary, segment_at, boundary_at}
@@ -41,4 +41,4 @@ place_row numbers spans k = record { number = get_or numbers k 0; line = segment
 
 unfoldable pub rows_at : List ℕ → List ℕ → ℕ → List Row
 unfolding collect
-rows_at numbers spans kept = collect kept (λ k. some (place_row numbers spans k))
+rows_at numbers spans kept = collect kept (λ k. Some (place_row numbers spans k))

@@ -11,10 +11,8 @@ pub fn copy_block(from: &[u64], at: usize, to: &mut [u64], place: usize, size: u
     requires { (at + size ≤ length from.now) × (place + size ≤ length to.old) }
     ensures { to.new ≡ sets to.old place (part at size from.now) }
 {
-    let mut j = 0;
-    while j < size {
+    for j in 0..size {
         to[place + j] = from[at + j];
-        j += 1;
     }
 }
 
@@ -23,10 +21,8 @@ fn move_block(list: &mut [u64], at: usize, place: usize, size: usize)
     requires { (place ≤ at) × (at + size ≤ length list.old) }
     ensures { list.new ≡ sets list.old place (part at size list.old) }
 {
-    let mut j = 0;
-    while j < size {
+    for j in 0..size {
         list[place + j] = list[at + j];
-        j += 1;
     }
 }
 
@@ -50,10 +46,8 @@ pub fn keep_blocks(list: &mut [u64], size: usize, removed: &[bool; 256], count: 
     ensures answer { result ≡ left_count removed.now count }
 {
     let mut kept = 0;
-    let mut k = 0;
-    while k < count {
+    for k in 0..count {
         kept = keep_block(list, size, removed, k, kept);
-        k += 1;
     }
     kept
 }

@@ -28,10 +28,8 @@ fn put_numbers(rows: &[u64], count: usize, numbers: &mut [u64])
     requires { (5 * count ≤ length rows.now) × (count ≤ length numbers.old) }
     ensures { numbers.new ≡ overwrite (numbers_of (rows_in_lem count rows.now)) numbers.old }
 {
-    let mut k = 0;
-    while k < count {
+    for k in 0..count {
         copy_block(rows, ROW_SIZE * k, numbers, k, 1);
-        k += 1;
     }
 }
 
@@ -40,10 +38,8 @@ fn put_spans(rows: &[u64], count: usize, spans: &mut [u64])
     requires { (5 * count ≤ length rows.now) × (4 * count ≤ length spans.old) }
     ensures { spans.new ≡ overwrite (ends_of_lem (rows_in_lem count rows.now)) spans.old }
 {
-    let mut k = 0;
-    while k < count {
+    for k in 0..count {
         copy_block(rows, ROW_SIZE * k + 1, spans, SPAN_SIZE * k, SPAN_SIZE);
-        k += 1;
     }
 }
 
@@ -71,10 +67,8 @@ fn put_boundaries(lent: &[u64], rows: &[u64], count: usize, boundaries: &mut [u6
     requires { (5 * count ≤ length rows.now) × (9 * count ≤ length boundaries.old) × All (NamedIn lent.now) (rows_in_lem count rows.now) }
     ensures { boundaries.new ≡ overwrite (turned_of lent.now (rows_in_lem count rows.now)) boundaries.old }
 {
-    let mut k = 0;
-    while k < count {
+    for k in 0..count {
         put_boundary(lent, rows, k, boundaries);
-        k += 1;
     }
 }
 
@@ -106,11 +100,9 @@ pub fn put_rows(numbers: &[u64], spans: &[u64], kept: usize, output: &mut [u64])
     requires { (kept ≤ length numbers.now) × (4 * kept ≤ length spans.now) × (5 * kept ≤ length output.old) }
     ensures { output.new ≡ overwrite (flat_rows (rows_at numbers.now spans.now kept)) output.old }
 {
-    let mut k = 0;
-    while k < kept {
+    for k in 0..kept {
         let at = ROW_SIZE * k;
         copy_block(numbers, k, output, at, 1);
         copy_block(spans, SPAN_SIZE * k, output, at + 1, SPAN_SIZE);
-        k += 1;
     }
 }

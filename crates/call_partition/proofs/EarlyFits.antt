@@ -2,7 +2,7 @@
 use Prim.Native.Nat.{ℕ, ◌*◌, ◌/◌}
 use mathlib.Core.Path.{◌≡◌, sym, ap}
 use mathlib.Core.Bool.{Bool, true, ◌&&◌}
-use mathlib.Core.Option.{none}
+use Rattle.std.specs.Prelude.{None}
 use mathlib.Core.List.{List}
 use lib.ListN.{length}
 use Rattle.definitions.specs.Limits.{numbers_per_span, numbers_per_boundary, numbers_per_anchor}
@@ -17,11 +17,11 @@ use Rattle.areas.proofs.Chain.{next}
 use Rattle.areas.proofs.Early.{early-fit}
 use Rattle.call_partition.specs.Early.{sizes_refusal, entries_refusal, early_refusal}
 
-fits : (number : ℕ) {ok : Bool} → ok ≡ true → refusal number (unless ok) ≡ none
+fits : (number : ℕ) {ok : Bool} → ok ≡ true → refusal number (unless ok) ≡ None
 fits number e = ap (λ b. refusal number (unless b)) e
 
 module _ (pass w h : ℕ) (cells spans boundaries anchors : List ℕ) (l m q t o : ℕ) where
-  partition_passes : early_refusal pass w h cells spans boundaries anchors l m q t o ≡ none → partition.early_refusal w h cells spans l m q t ≡ none
+  partition_passes : early_refusal pass w h cells spans boundaries anchors l m q t o ≡ None → partition.early_refusal w h cells spans l m q t ≡ None
   unfolding early_refusal sizes_refusal entries_refusal partition.early_refusal
   partition_passes e =
       let sizes = or_else_none (sizes_refusal pass w h cells spans boundaries anchors) _ e in
@@ -34,5 +34,5 @@ module _ (pass w h : ℕ) (cells spans boundaries anchors : List ℕ) (l m q t o
       let room = both (partition_room (w * h) (length spans / numbers_per_span) l m q t) (output_room (length boundaries / numbers_per_boundary) o) (no_fault_lem _ 0 (refusal_none 10 _ entries.1)) in
       sym (next one.0 (next two.0 (next (fits 3 (both (is_whole numbers_per_span spans) (is_whole numbers_per_boundary boundaries) whole.0).0) (next five.0 (sym (fits 10 room.0))))))
 
-  pub early-fits : early_refusal pass w h cells spans boundaries anchors l m q t o ≡ none → Fit w h cells spans l m q t
+  pub early-fits : early_refusal pass w h cells spans boundaries anchors l m q t o ≡ None → Fit w h cells spans l m q t
   early-fits e = early-fit w h cells spans l m q t (partition_passes e)

@@ -2,7 +2,7 @@
 use Prim.Native.Nat.{ℕ}
 use mathlib.Core.Path.{◌≡◌, refl, subst}
 use mathlib.Core.Bool.{◌&&◌}
-use mathlib.Core.Option.{some}
+use Rattle.std.specs.Prelude.{Some}
 use mathlib.Core.List.{List}
 use Rattle.definitions.specs.Limits.{numbers_per_span, numbers_per_boundary, numbers_per_anchor}
 use Rattle.definitions.specs.Refusals.{Refusal, unless, sides_fault, cells_fault, is_whole, pass_fault, boundaries_fault, anchors_fault, elevations_fault}
@@ -30,6 +30,6 @@ module _ (pass w h : ℕ) (cells spans boundaries anchors : List ℕ) (l m q t o
   unfolding early_refusal stage_of
   early-leaves = leaves_or _ _ sizes_leave (leaves_or _ _ entries_leave (leaves-refusal 10 (unless (has_room_lem w h spans boundaries l m q t o)) refl))
 
-  pub early-untouched : (x : Refusal) → early_refusal pass w h cells spans boundaries anchors l m q t o ≡ some x → stage_of x.number ≡ untouched
+  pub early-untouched : (x : Refusal) → early_refusal pass w h cells spans boundaries anchors l m q t o ≡ Some x → stage_of x.number ≡ untouched
   unfolding Leaves
   early-untouched x e = subst Leaves e early-leaves

@@ -3,7 +3,7 @@
 use Prim.Native.Nat.{ℕ, ◌*◌, ◌/◌, ◌≤◌, ◌<◌}
 use mathlib.Core.Path.{◌≡◌, refl, sym, ap, ◌∙◌}
 use mathlib.Core.Bool.{not, ◌&&◌}
-use mathlib.Core.Option.{Option, none, some}
+use Rattle.std.specs.Prelude.{Option, None, Some}
 use mathlib.Core.List.{List, [], ◌∷◌}
 use lib.ListN.{length}
 use borrow.Author.Tests.{le-leb, lt-leb}
@@ -86,7 +86,7 @@ module _ (pass w h : ℕ) (cells spans boundaries anchors l m q t p : List ℕ) 
 
   -- ---- refused before it began
 
-  pub ran-refused : (number place : ℕ) → some (record { number = number; place = place }) ≡ early → Ran L (record { number = number; value = place }) l m q t p s o
+  pub ran-refused : (number place : ℕ) → Some (record { number = number; place = place }) ≡ early → Ran L (record { number = number; value = place }) l m q t p s o
   unfolding call_exit exit_with
   ran-refused number place e =
       let u : stage_of number ≡ untouched = early-untouched pass w h cells spans boundaries anchors (length l) (length m) (length q) (length t) (length o) _ (sym e) in
@@ -109,10 +109,10 @@ module _ (pass w h : ℕ) (cells spans boundaries anchors l m q t p : List ℕ) 
     pub masks : m' ≡ zeroed (h * w) m
     pub queue : q' ≡ zeroed (h * w) q
 
-  pub verdict-late : none ≡ early → verdict L ≡ first_refusal late kept
+  pub verdict-late : None ≡ early → verdict L ≡ first_refusal late kept
   verdict-late e = verdict-early ∙ ap (λ x. first_refusal (x ∷ late) kept) (sym e)
 
-  module _ (e : none ≡ early) (few : region_count M ≤ length s) where
+  module _ (e : None ≡ early) (few : region_count M ≤ length s) where
     verdict_last : verdict L ≡ first_refusal (refusal 12 (pairs_fault L (map_in L)) ∷ []) kept
     unfolding records_fault map_in
     verdict_last = verdict-late e ∙ ap (λ b. first_refusal (refusal 11 (only_if (not b) 0) ∷ refusal 12 (pairs_fault L (map_in L)) ∷ []) kept) (le-leb _ _ few)
@@ -121,7 +121,7 @@ module _ (pass w h : ℕ) (cells spans boundaries anchors l m q t p : List ℕ) 
     unfolding pairs_fault map_in
     verdict-kept room = verdict_last ∙ ap (λ b. first_refusal (refusal 12 (only_if (not b) 0) ∷ []) kept) (le-leb _ _ room)
 
-  module _ (e : none ≡ early) {l' m' q' t' : List ℕ} (B : Labelled l' m' q') where
+  module _ (e : None ≡ early) {l' m' q' t' : List ℕ} (B : Labelled l' m' q') where
     pub ran-records : length s < region_count M → t' ≡ zeroed (tallies_per_span * span_count M) t → Ran L (record { number = 11; value = 0 }) l' m' q' t' p s o
     unfolding call_exit exit_with stage_of records_fault cell_count map_in map_of
     ran-records more cleared =

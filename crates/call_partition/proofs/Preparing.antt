@@ -2,7 +2,7 @@
 use Prim.Native.Nat.{ℕ, ◌*◌, ◌/◌, ◌≤◌, ◌<◌}
 use native.Mathlib.Omega.{arith}
 use mathlib.Core.Path.{◌≡◌, refl, sym, ap, ◌∙◌, subst}
-use mathlib.Core.Option.{none, some}
+use Rattle.std.specs.Prelude.{None, Some}
 use mathlib.Core.List.{List}
 use lib.ListN.{length}
 use Rattle.definitions.specs.Limits.{numbers_per_span, tallies_per_span}
@@ -37,12 +37,12 @@ module _ (pass w h : ℕ) (cells spans boundaries anchors : List ℕ) where
 
   module _ (room output : ℕ) (l m q t p : List ℕ) where
     -- a check before it refuses
-    pub refused-before : (number place : ℕ) → some (record { number = number; place = place }) ≡ early_refusal pass w h cells spans boundaries anchors (length l) (length m) (length q) (length t) output
+    pub refused-before : (number place : ℕ) → Some (record { number = number; place = place }) ≡ early_refusal pass w h cells spans boundaries anchors (length l) (length m) (length q) (length t) output
         → (s : List Region) (o : List ℕ) → length s ≡ room → length o ≡ output → Ran (given pass w h cells spans boundaries anchors l m q t p s o) (record { number = number; value = place }) l m q t p s o
     refused-before number place e s o long wide =
         ran-refused pass w h cells spans boundaries anchors l m q t p s o number place (e ∙ ap (early_refusal pass w h cells spans boundaries anchors (length l) (length m) (length q) (length t)) (sym wide))
 
-    module _ (e : none ≡ early_refusal pass w h cells spans boundaries anchors (length l) (length m) (length q) (length t) output) {l' m₁ q₁ : List ℕ} {r : ℕ} (A : LabelledAs w h cells spans l m q l' m₁ q₁ r) where
+    module _ (e : None ≡ early_refusal pass w h cells spans boundaries anchors (length l) (length m) (length q) (length t) output) {l' m₁ q₁ : List ℕ} {r : ℕ} (A : LabelledAs w h cells spans l m q l' m₁ q₁ r) where
       labelled : LabelledCells M l q l' q₁ r
       labelled = A.maps M span-map
 
@@ -55,7 +55,7 @@ module _ (pass w h : ℕ) (cells spans boundaries anchors : List ℕ) where
             queue = eq ∙ zeroed-again (h * w) q q₁ labelled.beyond;
           }
 
-      early : (o : List ℕ) → length o ≡ output → none ≡ early_refusal pass w h cells spans boundaries anchors (length l) (length m) (length q) (length t) (length o)
+      early : (o : List ℕ) → length o ≡ output → None ≡ early_refusal pass w h cells spans boundaries anchors (length l) (length m) (length q) (length t) (length o)
       early o wide = e ∙ ap (early_refusal pass w h cells spans boundaries anchors (length l) (length m) (length q) (length t)) (sym wide)
 
       -- more regions than records

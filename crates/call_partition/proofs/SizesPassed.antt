@@ -2,7 +2,7 @@
 use Prim.Native.Nat.{ℕ, ◌*◌, ◌≤◌}
 use mathlib.Core.Path.{◌≡◌}
 use mathlib.Core.Bool.{true, ◌&&◌}
-use mathlib.Core.Option.{none}
+use Rattle.std.specs.Prelude.{None}
 use mathlib.Core.List.{List}
 use lib.ListN.{length}
 use borrow.Author.Tests.{eqb-true}
@@ -22,9 +22,9 @@ pub record SizesFit (pass w h : ℕ) (cells spans boundaries anchors : List ℕ)
   pub short : h ≤ max_side
   pub counted : length cells ≡ w * h
   pub whole : (is_whole numbers_per_span spans && is_whole numbers_per_boundary boundaries && is_whole numbers_per_anchor anchors) ≡ true
-  pub passed : pass_fault pass ≡ none
+  pub passed : pass_fault pass ≡ None
 
-pub sizes-fit : {pass w h : ℕ} {cells spans boundaries anchors : List ℕ} → sizes_refusal pass w h cells spans boundaries anchors ≡ none → SizesFit pass w h cells spans boundaries anchors
+pub sizes-fit : {pass w h : ℕ} {cells spans boundaries anchors : List ℕ} → sizes_refusal pass w h cells spans boundaries anchors ≡ None → SizesFit pass w h cells spans boundaries anchors
 unfolding sizes_refusal
 sizes-fit {pass} {w} {h} {cells} {spans} {boundaries} {anchors} e =
     let one = or_else_none (refusal 1 (sides_fault w h)) _ e in

@@ -1,7 +1,7 @@
 -- What the first part of the call leaves, before its records are filled: the whole contract where it refuses, and otherwise what the rest of the call goes on from.
 -- Definitions only; assumes nothing.
 use Rattle.std.specs.Prelude.{ℕ, ◌*◌, ◌/◌, ◌≤◌, ◌≡◌, List, length, drop}
-use Rattle.std.proofs.Math.Option.{none}
+use Rattle.std.specs.Prelude.{None}
 use Rattle.definitions.specs.Limits.{numbers_per_pair}
 use Rattle.definitions.specs.Grid.{map_of}
 use Rattle.definitions.specs.Lists.{overwrite}
@@ -19,7 +19,7 @@ use Rattle.call_partition.specs.Contract.{given, Ran}
 -- No check of the table refuses, with `room` records and an output of length `output`. Labels, tallies and pairs are filled; the queue has the stretches, from
 -- the first cell on; masks and queue are written over the needed length alone. There are so many regions and rows of pairs.
 pub record ReadyAs (pass w h : ℕ) (cells spans boundaries anchors : List ℕ) (room output : ℕ) (l m q t p : List ℕ) (regions rows : ℕ) (l' m' q' t' p' : List ℕ) : Type 0 where
-  pub accepted : none ≡ early_refusal pass w h cells spans boundaries anchors (length l) (length m) (length q) (length t) output
+  pub accepted : None ≡ early_refusal pass w h cells spans boundaries anchors (length l) (length m) (length q) (length t) output
   pub count : regions ≡ region_count (map_of w h cells spans boundaries anchors)
   pub enough : region_count (map_of w h cells spans boundaries anchors) ≤ room
   pub filled : l' ≡ overwrite (labels (map_of w h cells spans boundaries anchors)) l
@@ -39,7 +39,7 @@ PreparedAs pass w h cells spans boundaries anchors room output l m q t p (Ready 
 -- the same of lists that no check before 11 refuses, of whatever pass, boundaries, anchors and output
 abbrev pub DividedAs : (w h : ℕ) (cells spans : List ℕ) (room : ℕ) (l m q t p : List ℕ) → Prepared → (l' m' q' t' p' : List ℕ) → Type 0
 DividedAs w h cells spans room l m q t p r l' m' q' t' p' =
-    (pass : ℕ) (boundaries anchors : List ℕ) (output : ℕ) → none ≡ early_refusal pass w h cells spans boundaries anchors (length l) (length m) (length q) (length t) output
+    (pass : ℕ) (boundaries anchors : List ℕ) (output : ℕ) → None ≡ early_refusal pass w h cells spans boundaries anchors (length l) (length m) (length q) (length t) output
     → PreparedAs pass w h cells spans boundaries anchors room output l m q t p r l' m' q' t' p'
 
 -- a refusal has a number

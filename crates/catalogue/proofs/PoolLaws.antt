@@ -8,7 +8,7 @@ use Rattle.std.proofs.Common.{sym, ap₂, subst, ◌∙◌}
 use Rattle.std.specs.Prelude.{Bool, ◌&&◌, ◌||◌, cond, List, [], ◌∷◌, get_or, ltb, leb}
 use Rattle.std.proofs.Math.Bool.{true, false, or-false}
 use Rattle.std.proofs.lemmas.Bool.{false≢true}
-use Rattle.std.proofs.Math.Option.{Option, none, some}
+use Rattle.std.specs.Prelude.{Option, None, Some}
 use Rattle.std.proofs.Math.ListN.{length, length-append}
 use Rattle.std.proofs.Math.Dec.{eqb}
 use borrow.Author.Tests.{eq-eqb, eqb-true, eqb-false, ltb-true, ltb-false, leb-true, leb-false}
@@ -24,7 +24,7 @@ use Rattle.catalogue.proofs.TermLaws.{each_once}
 use Rattle.catalogue.specs.Pool.{maps_in, maps_of_day, newest, entry_of}
 use Rattle.catalogue.specs.PoolLaws.{Rising, collected-once, once-rising, kept}
 
-pub pool_rising : (terms : List ℕ) (day : ℕ) → terms_refusal terms ≡ none → Rising (maps_of_day terms day)
+pub pool_rising : (terms : List ℕ) (day : ℕ) → terms_refusal terms ≡ None → Rising (maps_of_day terms day)
 unfolding maps_of_day maps_in
 pool_rising terms day h =
     once-rising (sort_sorted ltb number-order (maps_in terms day))

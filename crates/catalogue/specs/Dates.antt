@@ -1,7 +1,6 @@
 -- The Gregorian dates of pool terms and their numbers. Quotations are of document 02, request 8. Assumes nothing.
 use Rattle.std.specs.Prelude.{ℕ, zero, suc, ◌+◌, ◌-◌, ◌%◌, Bool, not, ◌&&◌, ◌||◌, cond, List, [], ◌∷◌, get_or, eqb, leb}
-use Rattle.std.proofs.Math.Option.{Option, none, some}
-
+use Rattle.std.specs.Prelude.{Option, None, Some}
 -- "year, month and day"; month 1 is January
 pub record Date : Type 0 where
   pub year : ℕ
@@ -50,7 +49,7 @@ day_number d = days_before_year d.year + days_before_month d.year d.month + (d.d
 -- the number of a day, or none for a bad date
 unfoldable pub day_of : Date → Option ℕ
 unfolding is_day day_number
-day_of d = cond (is_day d) (some (day_number d)) none
+day_of d = cond (is_day d) (Some (day_number d)) None
 
 -- "an end also 1 January 2100"
 abbrev pub is_last_end : Date → Bool
@@ -58,4 +57,4 @@ is_last_end d = eqb d.year 2100 && eqb d.month 1 && eqb d.day 1
 
 unfoldable pub end_of : Date → Option ℕ
 unfolding day_of day_number
-end_of d = cond (is_last_end d) (some (day_number d)) (day_of d)
+end_of d = cond (is_last_end d) (Some (day_number d)) (day_of d)

@@ -1,7 +1,7 @@
 -- The maps of a day, each with the accession record that stood in the catalogue then. Quotations are of document 02, request 8.
 -- Assumes nothing; entries of the lists are 64-bit numbers, of any size.
 use Rattle.std.specs.Prelude.{ℕ, zero, suc, ◌/◌, ◌&&◌, cond, List, [], ◌∷◌, length, eqb, ltb, leb}
-use Rattle.std.proofs.Math.Option.{Option, none, some}
+use Rattle.std.specs.Prelude.{Option, None, Some}
 use Rattle.definitions.specs.Lists.{overwrite}
 use Rattle.definitions.specs.Scan.{only_if, collect, concat_map}
 use Rattle.definitions.specs.Sort.{sort}
@@ -29,17 +29,17 @@ maps_of_day terms day = sort ltb (maps_in terms day)
 -- "the newest accession record of that day or earlier": of the first n records the last one of the map that has such a day
 unfoldable pub newest : List ℕ → ℕ → ℕ → ℕ → Option Accession
 unfolding accession_at
-newest records on_map day zero = none
+newest records on_map day zero = None
 newest records on_map day (suc i) =
     let r = accession_at records i in
     let before = newest records on_map day i in
-    cond (eqb r.on_map on_map && leb r.day day) (some r) before
+    cond (eqb r.on_map on_map && leb r.day day) (Some r) before
 
 -- "A map's entry shows [it], or says that none exists": map number, and own number, day and number superseded of the record. Own numbers are above 0, so that
 -- an own number of 0 says that there is none.
 abbrev pub entry_of : ℕ → Option Accession → List ℕ
-entry_of on_map none = on_map ∷ 0 ∷ 0 ∷ 0 ∷ []
-entry_of on_map (some r) = on_map ∷ r.own ∷ r.day ∷ r.superseded ∷ []
+entry_of on_map None = on_map ∷ 0 ∷ 0 ∷ 0 ∷ []
+entry_of on_map (Some r) = on_map ∷ r.own ∷ r.day ∷ r.superseded ∷ []
 
 abbrev pub numbers_per_entry : ℕ
 numbers_per_entry = 4
@@ -51,15 +51,15 @@ entries_of records day n maps = concat_map (λ m. entry_of m (newest records m d
 
 -- what is listed for the day asked for; none where its date is bad
 abbrev pub entries_on : List ℕ → List ℕ → Option ℕ → List ℕ
-entries_on terms records none = []
-entries_on terms records (some day) = entries_of records day (accession_count records) (maps_of_day terms day)
+entries_on terms records None = []
+entries_on terms records (Some day) = entries_of records day (accession_count records) (maps_of_day terms day)
 
 -- ---- the operation
 
 -- "a bad day asked for is 18 at the number of terms"
 abbrev pub asked_fault : List ℕ → Option ℕ → Option ℕ
-asked_fault terms none = some (term_count terms)
-asked_fault terms (some day) = none
+asked_fault terms None = Some (term_count terms)
+asked_fault terms (Some day) = None
 
 -- 3 for a last entry unfinished, 17, 18 and 19 term by term, 18 for the day asked for, "last but for 10", which an output of this length has room for or not;
 -- success gives the count of maps

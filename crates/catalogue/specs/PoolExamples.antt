@@ -1,6 +1,6 @@
 -- Computed examples of pool terms: days and their numbers, each refusal with its place, the order of the checks, the record that is shown. Assumes nothing.
 use Rattle.std.specs.Prelude.{ℕ, ◌≡◌, refl, List, [], ◌∷◌, ◌++◌, map}
-use Rattle.std.proofs.Math.Option.{Option, none, some}
+use Rattle.std.specs.Prelude.{Option, None, Some}
 use Rattle.definitions.specs.SheetExamples.{Example, ◌gives◌}
 use Rattle.definitions.specs.Verdict.{Answer}
 use Rattle.catalogue.specs.Dates.{Date, day_of, end_of}
@@ -12,24 +12,24 @@ date year month day = record { year = year; month = month; day = day }
 unfoldable pub day_examples : List (Example (Option ℕ))
 unfolding day_of end_of
 day_examples =
-    day_of (date 2000 1 1) gives some 0
-    ∷ day_of (date 2000 2 29) gives some 59
-    ∷ day_of (date 2000 3 1) gives some 60
-    ∷ day_of (date 2000 12 31) gives some 365
-    ∷ day_of (date 2001 1 1) gives some 366
-    ∷ day_of (date 2099 12 31) gives some 36524
-    ∷ day_of (date 2096 2 29) gives some 35123
-    ∷ day_of (date 2001 2 29) gives none
-    ∷ day_of (date 2000 2 30) gives none
-    ∷ day_of (date 2000 4 31) gives none
-    ∷ day_of (date 2000 0 1) gives none
-    ∷ day_of (date 2000 13 1) gives none
-    ∷ day_of (date 2000 1 0) gives none
-    ∷ day_of (date 1999 12 31) gives none
-    ∷ day_of (date 2100 1 1) gives none
-    ∷ end_of (date 2100 1 1) gives some 36525
-    ∷ end_of (date 2100 1 2) gives none
-    ∷ end_of (date 2099 12 31) gives some 36524
+    day_of (date 2000 1 1) gives Some 0
+    ∷ day_of (date 2000 2 29) gives Some 59
+    ∷ day_of (date 2000 3 1) gives Some 60
+    ∷ day_of (date 2000 12 31) gives Some 365
+    ∷ day_of (date 2001 1 1) gives Some 366
+    ∷ day_of (date 2099 12 31) gives Some 36524
+    ∷ day_of (date 2096 2 29) gives Some 35123
+    ∷ day_of (date 2001 2 29) gives None
+    ∷ day_of (date 2000 2 30) gives None
+    ∷ day_of (date 2000 4 31) gives None
+    ∷ day_of (date 2000 0 1) gives None
+    ∷ day_of (date 2000 13 1) gives None
+    ∷ day_of (date 2000 1 0) gives None
+    ∷ day_of (date 1999 12 31) gives None
+    ∷ day_of (date 2100 1 1) gives None
+    ∷ end_of (date 2100 1 1) gives Some 36525
+    ∷ end_of (date 2100 1 2) gives None
+    ∷ end_of (date 2099 12 31) gives Some 36524
     ∷ []
 
 pub day_examples_lem : map (λ e. e.computed) day_examples ≡ map (λ e. e.expected) day_examples

@@ -8,7 +8,7 @@ use Rattle.std.proofs.Common.{sym, ap₂, subst, ◌∙◌}
 use Rattle.std.specs.Prelude.{Bool, ◌&&◌, ◌||◌, cond, List, [], ◌∷◌, get_or, ltb, leb}
 use Rattle.std.proofs.Math.Bool.{true, false, or-false}
 use Rattle.std.proofs.lemmas.Bool.{false≢true}
-use Rattle.std.proofs.Math.Option.{Option, none, some}
+use Rattle.std.specs.Prelude.{Option, None, Some}
 use Rattle.std.proofs.Math.ListN.{length, length-append}
 use Rattle.std.proofs.Math.Dec.{eqb}
 use borrow.Author.Tests.{eq-eqb, eqb-true, eqb-false, ltb-true, ltb-false, leb-true, leb-false}
@@ -51,19 +51,19 @@ abbrev pub Rising : List ℕ → Type 0
 Rising l = (j k : ℕ) → j < k → k < length l → get_or l j 0 < get_or l k 0
 
 module _ (x : ℕ) (F : ℕ → Option ℕ) where
-  few : (o : Option ℕ) → (o ≡ some x → ⊥) → length (filter (eqb x) (to_list o)) ≡ 0
+  few : (o : Option ℕ) → (o ≡ Some x → ⊥) → length (filter (eqb x) (to_list o)) ≡ 0
   unfolding filter
-  few none h = refl
-  few (some y) h = go (eqb x y) refl
+  few None h = refl
+  few (Some y) h = go (eqb x y) refl
     where
       go : (b : Bool) → eqb x y ≡ b → length (cond b (y ∷ []) []) ≡ 0
-      go true e = absurd (h (ap some (sym (eqb-true x y e))))
+      go true e = absurd (h (ap Some (sym (eqb-true x y e))))
       go false e = refl
 
   one : (o : Option ℕ) → length (filter (eqb x) (to_list o)) ≤ 1
   unfolding filter
-  one none = omega arith
-  one (some y) = go (eqb x y)
+  one None = omega arith
+  one (Some y) = go (eqb x y)
     where
       go : (b : Bool) → length (cond b (y ∷ []) []) ≤ 1
       go true = omega arith
@@ -73,31 +73,31 @@ module _ (x : ℕ) (F : ℕ → Option ℕ) where
   unfolding collect
   count_next n = ap length (filter-append (eqb x) (collect n F) (to_list (F n))) ∙ length-append (filter (eqb x) (collect n F)) (filter (eqb x) (to_list (F n)))
 
-  none_collected : (n : ℕ) → ((i : ℕ) → i < n → F i ≡ some x → ⊥) → length (filter (eqb x) (collect n F)) ≡ 0
+  none_collected : (n : ℕ) → ((i : ℕ) → i < n → F i ≡ Some x → ⊥) → length (filter (eqb x) (collect n F)) ≡ 0
   unfolding collect filter
   none_collected zero h = refl
   none_collected (suc n) h = omega (arith, count_next n, none_collected n (λ i b. h i (omega arith)), few (F n) (h n (omega arith)))
 
   -- a number that is found at most once is collected at most once
-  pub collected-once : (n : ℕ) → ((i j : ℕ) → i < j → j < n → F i ≡ some x → F j ≡ some x → ⊥) → length (filter (eqb x) (collect n F)) ≤ 1
+  pub collected-once : (n : ℕ) → ((i j : ℕ) → i < j → j < n → F i ≡ Some x → F j ≡ Some x → ⊥) → length (filter (eqb x) (collect n F)) ≤ 1
   unfolding collect filter
   collected-once zero h = omega arith
   collected-once (suc n) h = go (F n) refl (collected-once n (λ i j b c. h i j b (omega arith)))
     where
       go : (o : Option ℕ) → F n ≡ o → length (filter (eqb x) (collect n F)) ≤ 1 → length (filter (eqb x) (collect (suc n) F)) ≤ 1
-      go none e ih = omega (arith, count_next n, ih, ap (λ o. length (filter (eqb x) (to_list o))) e, few none (λ z. none_some z))
+      go None e ih = omega (arith, count_next n, ih, ap (λ o. length (filter (eqb x) (to_list o))) e, few None (λ z. none_some z))
         where
-          none_some : none ≡ some x → ⊥
+          none_some : None ≡ Some x → ⊥
           none_some z = let w : ◌≡◌ {A = ℕ} 0 1 = cc in omega arith
-      go (some y) e ih = at (eqb x y) refl
+      go (Some y) e ih = at (eqb x y) refl
         where
           at : (b : Bool) → eqb x y ≡ b → length (filter (eqb x) (collect (suc n) F)) ≤ 1
           at true q =
-              let here : F n ≡ some x = e ∙ ap some (sym (eqb-true x y q)) in
+              let here : F n ≡ Some x = e ∙ ap Some (sym (eqb-true x y q)) in
               omega (arith, count_next n, none_collected n (λ i b f. h i n b (omega arith) f here), one (F n))
           at false q = omega (arith, count_next n, ih, few (F n) (λ f. eqb-false x y q (some_same (sym f ∙ e))))
             where
-              some_same : {a b : ℕ} → some a ≡ some b → a ≡ b
+              some_same : {a b : ℕ} → Some a ≡ Some b → a ≡ b
               some_same z = cc
 
 -- ---- sorted, and each number once
@@ -142,14 +142,14 @@ once-rising (Sorted.some {x = x} {l = l} a s) h zero (suc k) b n = strict (eqb x
 once-rising (Sorted.some {x = x} {l = l} a s) h (suc j) zero b n = absurd (omega arith)
 once-rising (Sorted.some {x = x} {l = l} a s) h (suc j) (suc k) b n = once-rising s (λ y. omega (arith, tail-count y x l, h y)) j k (omega arith) (omega arith)
 
-pub kept : {A : Type 0} (b : Bool) (a c : A) → only_if b a ≡ some c → (b ≡ true) × (a ≡ c)
+pub kept : {A : Type 0} (b : Bool) (a c : A) → only_if b a ≡ Some c → (b ≡ true) × (a ≡ c)
 kept true a c e = (refl, same e)
   where
-    same : some a ≡ some c → a ≡ c
+    same : Some a ≡ Some c → a ≡ c
     same z = cc
 kept false a c e = absurd (none_some e)
   where
-    none_some : none ≡ some c → ⊥
+    none_some : None ≡ Some c → ⊥
     none_some z = let w : ◌≡◌ {A = ℕ} 0 1 = cc in omega arith
 
 -- ---- the record that is shown
@@ -173,19 +173,19 @@ late records m day i h e = go (leb (accession_at records i).day day) refl
     go true t = absurd (false≢true (sym h ∙ ap₂ ◌&&◌ (eq-eqb (accession_at records i).on_map m e) t))
     go false t = leb-false (accession_at records i).day day t
 
-pub newest_is : (records : List ℕ) (m day n : ℕ) (r : Accession) → newest records m day n ≡ some r → Newest records m day n r
+pub newest_is : (records : List ℕ) (m day n : ℕ) (r : Accession) → newest records m day n ≡ Some r → Newest records m day n r
 unfolding newest
 newest_is records m day zero r e = absurd (none_some e)
   where
-    none_some : none ≡ some r → ⊥
+    none_some : None ≡ Some r → ⊥
     none_some z = let w : ◌≡◌ {A = ℕ} 0 1 = cc in omega arith
 newest_is records m day (suc i) r e = go (counts records m day i) refl e (newest_is records m day i r)
   where
-    same : {a b : Accession} → some a ≡ some b → a ≡ b
+    same : {a b : Accession} → Some a ≡ Some b → a ≡ b
     same z = cc
 
-    go : (b : Bool) → counts records m day i ≡ b → cond b (some (accession_at records i)) (newest records m day i) ≡ some r
-        → (newest records m day i ≡ some r → Newest records m day i r) → Newest records m day (suc i) r
+    go : (b : Bool) → counts records m day i ≡ b → cond b (Some (accession_at records i)) (newest records m day i) ≡ Some r
+        → (newest records m day i ≡ Some r → Newest records m day i r) → Newest records m day (suc i) r
     go true t f ih =
         let B = both (eqb (accession_at records i).on_map m) (leb (accession_at records i).day day) t in
         record {
@@ -216,21 +216,21 @@ newest_is records m day (suc i) r e = go (counts records m day i) refl e (newest
                 late records m day j (ap (counts records m day) here ∙ t) q
 
 -- none is shown exactly when no record is of the map, and of the day or earlier
-pub newest_none : (records : List ℕ) (m day n : ℕ) → ((i : ℕ) → i < n → counts records m day i ≡ false) → newest records m day n ≡ none
+pub newest_none : (records : List ℕ) (m day n : ℕ) → ((i : ℕ) → i < n → counts records m day i ≡ false) → newest records m day n ≡ None
 unfolding newest
 newest_none records m day zero h = refl
 newest_none records m day (suc i) h = rw (h i (omega arith)) (newest_none records m day i (λ j b. h j (omega arith)))
 
-pub none_newest : (records : List ℕ) (m day n : ℕ) → newest records m day n ≡ none → (i : ℕ) → i < n → counts records m day i ≡ false
+pub none_newest : (records : List ℕ) (m day n : ℕ) → newest records m day n ≡ None → (i : ℕ) → i < n → counts records m day i ≡ false
 unfolding newest
 none_newest records m day zero e i b = absurd (omega arith)
 none_newest records m day (suc n) e i b = go (counts records m day n) refl e (λ f c. none_newest records m day n f i c)
   where
-    some_none : {a : Accession} → some a ≡ none → ⊥
+    some_none : {a : Accession} → Some a ≡ None → ⊥
     some_none z = let w : ◌≡◌ {A = ℕ} 0 1 = cc in omega arith
 
-    go : (t : Bool) → counts records m day n ≡ t → cond t (some (accession_at records n)) (newest records m day n) ≡ none
-        → (newest records m day n ≡ none → i < n → counts records m day i ≡ false) → counts records m day i ≡ false
+    go : (t : Bool) → counts records m day n ≡ t → cond t (Some (accession_at records n)) (newest records m day n) ≡ None
+        → (newest records m day n ≡ None → i < n → counts records m day i ≡ false) → counts records m day i ≡ false
     go true u f ih = absurd (some_none f)
     go false u f ih = at (ltb i n) refl
       where
@@ -242,11 +242,11 @@ none_newest records m day (suc n) e i b = go (counts records m day n) refl e (λ
 
 -- and an entry then has own number 0, which no record has
 pub none_shown : (records : List ℕ) (m day n : ℕ) → ((i : ℕ) → i < n → 0 < (accession_at records i).own) → get_or (entry_of m (newest records m day n)) 1 0 ≡ 0
-    → newest records m day n ≡ none
+    → newest records m day n ≡ None
 none_shown records m day n own e = go (newest records m day n) refl e
   where
-    go : (o : Option Accession) → newest records m day n ≡ o → get_or (entry_of m o) 1 0 ≡ 0 → o ≡ none
-    go none f z = refl
-    go (some r) f z =
+    go : (o : Option Accession) → newest records m day n ≡ o → get_or (entry_of m o) 1 0 ≡ 0 → o ≡ None
+    go None f z = refl
+    go (Some r) f z =
         let N = newest_is records m day n r f in
         absurd (omega (arith, own N.place N.below, ap (λ a. a.own) N.is))

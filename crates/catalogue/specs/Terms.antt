@@ -1,7 +1,7 @@
 -- Terms of maps in the tournament pool: their days, and the checks 18 and 19. Quotations are of document 02, request 8.
 -- Assumes nothing; entries of the list are 64-bit numbers, of any size.
 use Rattle.std.specs.Prelude.{ℕ, ◌+◌, ◌*◌, ◌/◌, ◌%◌, Bool, false, ◌&&◌, ◌||◌, List, length, get_or, eqb, ltb, leb}
-use Rattle.std.proofs.Math.Option.{Option, none, some}
+use Rattle.std.specs.Prelude.{Option, None, Some}
 use Rattle.definitions.specs.Scan.{any_below_lem, only_if}
 use Rattle.definitions.specs.Refusals.{Refusal, first_below_lem}
 use Rattle.catalogue.specs.Dates.{Date, day_of, end_of}
@@ -39,9 +39,9 @@ pub record Days : Type 0 where
   pub to : ℕ
 
 abbrev pub from_to : Option ℕ → Option ℕ → Option Days
-from_to none to = none
-from_to (some from) none = none
-from_to (some from) (some to) = some (record { from = from; to = to })
+from_to None to = None
+from_to (Some from) None = None
+from_to (Some from) (Some to) = Some (record { from = from; to = to })
 
 -- none where a date is bad
 unfoldable pub days_of : Term → Option Days
@@ -54,13 +54,13 @@ is_empty d = leb d.to d.from
 
 -- "Terms of one map may touch but not overlap": they have a day in common
 abbrev pub overlap : Days → Option Days → Bool
-overlap d none = false
-overlap d (some e) = ltb d.from e.to && ltb e.from d.to
+overlap d None = false
+overlap d (Some e) = ltb d.from e.to && ltb e.from d.to
 
 -- the day is one of the term's
 abbrev pub contains : ℕ → Option Days → Bool
-contains day none = false
-contains day (some d) = leb d.from day && ltb day d.to
+contains day None = false
+contains day (Some d) = leb d.from day && ltb day d.to
 
 -- ---- the checks
 
@@ -71,8 +71,8 @@ overlaps_earlier l i d = any_below_lem i (λ j. eqb (term_at l j).on_map (term_a
 
 -- "18 for a bad date, 19 for an empty term or one that overlaps an earlier term of its map, at the term's position, in that order within a term"
 abbrev pub term_fault : List ℕ → ℕ → Option Days → Option Refusal
-term_fault l i none = some (record { number = 18; place = i })
-term_fault l i (some d) = only_if (is_empty d || overlaps_earlier l i d) (record { number = 19; place = i })
+term_fault l i None = Some (record { number = 18; place = i })
+term_fault l i (Some d) = only_if (is_empty d || overlaps_earlier l i d) (record { number = 19; place = i })
 
 unfoldable pub terms_refusal : List ℕ → Option Refusal
 unfolding first_below_lem overlaps_earlier term_at days_of

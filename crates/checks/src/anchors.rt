@@ -18,12 +18,10 @@ pub fn anchors_fault(width: u64, height: u64, anchors: &[u64]) -> Fault
     ensures { place_of result ≡ anchors_fault width height anchors.now }
 {
     let count = anchors.len() / NUMBERS_PER_ANCHOR;
-    let mut i = 0;
-    while i < count {
+    for i in 0..count {
         if !anchor_fits(width, height, anchors, NUMBERS_PER_ANCHOR * i) {
             return Fault::At(i);
         }
-        i += 1;
     }
     Fault::Nowhere
 }

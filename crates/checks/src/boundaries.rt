@@ -46,12 +46,10 @@ pub fn boundaries_fault(width: u64, height: u64, boundaries: &[u64]) -> Fault
     ensures { place_of result ≡ boundaries_fault width height boundaries.now }
 {
     let count = boundaries.len() / NUMBERS_PER_BOUNDARY;
-    let mut i = 0;
-    while i < count {
+    for i in 0..count {
         if !boundary_fits(width, height, boundaries, NUMBERS_PER_BOUNDARY * i) {
             return Fault::At(i);
         }
-        i += 1;
     }
     Fault::Nowhere
 }

@@ -16,12 +16,10 @@ pub fn elevation_fits(cell: u8) -> bool
 pub fn elevations_fault(cells: &[u8]) -> Fault
     ensures { place_of result ≡ elevations_fault cells.now }
 {
-    let mut i = 0;
-    while i < cells.len() {
+    for i in 0..cells.len() {
         if !elevation_fits(cells[i]) {
             return Fault::At(i);
         }
-        i += 1;
     }
     Fault::Nowhere
 }

@@ -40,8 +40,7 @@ pub fn spans_fault(width: u64, height: u64, spans: &[u64]) -> SpanFault
     ensures { refusal_of result ≡ spans_refusal width height spans.now }
 {
     let count = spans.len() / NUMBERS_PER_SPAN;
-    let mut i = 0;
-    while i < count {
+    for i in 0..count {
         let k = NUMBERS_PER_SPAN * i;
         let on = both_on_map(width, height, spans, k);
         let differ = endpoints_differ(spans, k);
@@ -51,7 +50,6 @@ pub fn spans_fault(width: u64, height: u64, spans: &[u64]) -> SpanFault
         if !differ {
             return SpanFault::Equal(i);
         }
-        i += 1;
     }
     SpanFault::Nowhere
 }

@@ -4,7 +4,7 @@ use native.Mathlib.Omega.{arith}
 use mathlib.Core.Path.{◌≡◌, refl, sym, ap, ap₂, ◌∙◌, subst}
 use mathlib.Core.Bool.{Bool, true, false, not, ◌&&◌}
 use mathlib.Core.Logic.{⊎_elim}
-use mathlib.Core.Option.{none, some}
+use Rattle.std.specs.Prelude.{None, Some}
 use mathlib.Core.List.{List, [], ◌∷◌, map}
 use lib.ListN.{length, get_or, set, length-map}
 use lib.Seq.{get_or-set_same, get_or-set_other}
@@ -23,7 +23,7 @@ use Rattle.context.specs.Rows.{full_pair_of, smaller_of, larger_of}
 
 -- ---- one boundary
 
-only_one : (cut : Bool) (l : List Pair) → (length l ≡ 1 → ⊥) → none ≡ only_pair cut l
+only_one : (cut : Bool) (l : List Pair) → (length l ≡ 1 → ⊥) → None ≡ only_pair cut l
 only_one true [] h = refl
 only_one true (p ∷ []) h = absurd (h refl)
 only_one true (p ∷ q ∷ l) h = refl
@@ -44,27 +44,27 @@ module _ (C : Context) {tallies : List ℕ} {i : ℕ} (T : ShownTallies C tallie
 
 module _ (C : Context) {rows starts : List ℕ} {i : ℕ} (P : ShownPairs C rows starts) (l : i < C.count) where
   -- the number of its rows is not 1
-  pub pair_none : (get_or starts (i + 1) 0 - get_or starts i 0 ≡ 1 → ⊥) → none ≡ full_pair C i
+  pub pair_none : (get_or starts (i + 1) 0 - get_or starts i 0 ≡ 1 → ⊥) → None ≡ full_pair C i
   unfolding full_pair
   pair_none h =
       only_one (full_cut C i) (C.pairs i)
       (λ e. h (sym (between-length rows (get_or starts i 0) (get_or starts (i + 1) 0)) ∙ ap length (sym (P.at i l)) ∙ e))
 
-  pub pair-uncut : false ≡ full_cut C i → none ≡ full_pair C i
+  pub pair-uncut : false ≡ full_cut C i → None ≡ full_pair C i
   unfolding full_pair
   pair-uncut h = ap (λ b. only_pair b (C.pairs i)) h
 
-  pub pair_one : get_or starts (i + 1) 0 - get_or starts i 0 ≡ 1 → true ≡ full_cut C i → some (pair_at rows (get_or starts i 0)) ≡ full_pair C i
+  pub pair_one : get_or starts (i + 1) 0 - get_or starts i 0 ≡ 1 → true ≡ full_cut C i → Some (pair_at rows (get_or starts i 0)) ≡ full_pair C i
   unfolding full_pair
   pair_one h k =
       ap₂ only_pair k (sym (between_one rows (get_or starts i 0) (get_or starts (i + 1) 0) h) ∙ sym (P.at i l))
 
   -- a full pair names regions from 1 on
-  pub pair_named_lem : (p : Pair) → some p ≡ full_pair C i → 1 ≤ p.lo
+  pub pair_named_lem : (p : Pair) → Some p ≡ full_pair C i → 1 ≤ p.lo
   unfolding full_pair
   pair_named_lem p e = go (full_cut C i) (C.pairs i) (P.named i l) e
     where
-      go : (cut : Bool) (l : List Pair) → All (λ p. (1 ≤ p.lo) × ((p.lo < p.hi) × (p.hi ≤ C.regions))) l → some p ≡ only_pair cut l → 1 ≤ p.lo
+      go : (cut : Bool) (l : List Pair) → All (λ p. (1 ≤ p.lo) × ((p.lo < p.hi) × (p.hi ≤ C.regions))) l → Some p ≡ only_pair cut l → 1 ≤ p.lo
       go true [] a e = let z : ◌≡◌ {A = ℕ} 0 1 = cc in omega arith
       go true (q ∷ []) (more h a) e =
           let same : p ≡ q = cc in
@@ -76,7 +76,7 @@ module _ (C : Context) {rows starts : List ℕ} {i : ℕ} (P : ShownPairs C rows
   pair-stored full.None e = sym e
   pair-stored (full.Pair lo hi) e = sym e ∙ stored lo (pair_named_lem (record { lo = lo; hi = hi }) e)
     where
-      stored : (n : ℕ) → 1 ≤ n → some (record { lo = n; hi = hi }) ≡ optional_pair n hi
+      stored : (n : ℕ) → 1 ≤ n → Some (record { lo = n; hi = hi }) ≡ optional_pair n hi
       stored n h = ap (λ b. only_if (not b) (record { lo = n; hi = hi })) (sym (ne_eqb n 0 (λ e. omega (arith, e))))
 
 -- ---- all boundaries below i

@@ -1,6 +1,6 @@
 -- The words of the contracts over the rows of pairs. Definitions only; assumes nothing.
 use Rattle.std.specs.Prelude.{ℕ, ◌+◌, ◌*◌, ◌≤◌, ◌<◌, ◌≡◌, List, length, get_or}
-use Rattle.std.proofs.Math.Option.{Option, none, some}
+use Rattle.std.specs.Prelude.{Option, None, Some}
 use Rattle.definitions.specs.Limits.{max_entries, numbers_per_pair}
 use Rattle.definitions.specs.Grid.{Pair}
 use Rattle.definitions.specs.Lists.{overwrite}
@@ -48,8 +48,8 @@ pub record NamedRows (pairs starts : List ℕ) (count n : ℕ) : Type 0 where
 -- ---- a full pair
 
 abbrev pub full_pair_of : FullPair → Option Pair
-full_pair_of full.None = none
-full_pair_of (full.Pair lo hi) = some (record { lo = lo; hi = hi })
+full_pair_of full.None = None
+full_pair_of (full.Pair lo hi) = Some (record { lo = lo; hi = hi })
 
 -- 0 where there is none
 abbrev pub smaller_of : FullPair → ℕ

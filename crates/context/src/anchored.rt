@@ -34,10 +34,8 @@ pub fn mark_anchored(width: usize, labels: &[u32], anchors: &[u64], marks: &mut 
         (anchor_cells width anchors.now (length anchors.now / numbers_per_anchor)) }
 {
     let count = anchors.len() / NUMBERS_PER_ANCHOR;
-    let mut i = 0;
-    while i < count {
+    for i in 0..count {
         let cell = anchor_cell(width, anchors, i);
         mark_label(&mut *marks, wide(labels[cell]));
-        i += 1;
     }
 }

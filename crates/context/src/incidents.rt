@@ -30,12 +30,10 @@ pub fn is_incident(pairs: &[u32], starts: &[usize; 257], i: usize, r: u32) -> bo
 {
     let first = starts[i];
     let end = starts[i + 1];
-    let mut k = first;
-    while k < end {
+    for k in first..end {
         if names_region(pairs, k, r) {
             return true;
         }
-        k += 1;
     }
     false
 }
@@ -77,10 +75,8 @@ fn count_rows(pairs: &[u32], first: usize, end: usize, span: u32, counts: &mut [
     requires places { (span < max_entries) × Packed span counts.old }
     ensures { counts.new ≡ count_pairs span counts.old (pairs_between pairs.now first end) }
 {
-    let mut k = first;
-    while k < end {
+    for k in first..end {
         count_pair(pairs, k, span, &mut *counts);
-        k += 1;
     }
 }
 
@@ -90,12 +86,10 @@ fn count_spans(pairs: &[u32], starts: &[usize; 257], count: usize, counts: &mut 
     requires counts_clear { (k : ℕ) → get_or counts.old k 0 ≡ 0 }
     ensures { counts.new ≡ count_spans (span_pairs pairs.now starts.now) count counts.old }
 {
-    let mut i = 0;
-    while i < count {
+    for i in 0..count {
         let first = starts[i];
         let end = starts[i + 1];
         count_rows(pairs, first, end, i as u32, &mut *counts);
-        i += 1;
     }
 }
 
@@ -103,10 +97,8 @@ fn count_spans(pairs: &[u32], starts: &[usize; 257], count: usize, counts: &mut 
 fn unpack(counts: &mut [u32])
     ensures { counts.new ≡ map unpacked counts.old }
 {
-    let mut k = 0;
-    while k < counts.len() {
+    for k in 0..counts.len() {
         counts[k] = counts[k] / PACK_UNIT;
-        k += 1;
     }
 }
 

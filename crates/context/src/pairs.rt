@@ -41,11 +41,9 @@ pub fn pair_starts(pairs: &[u32], rows: usize, count: usize, starts: &mut [usize
     ensures { (C : Context) → PairRows C pairs.now rows count → ShownPairs C pairs.now starts.new }
 {
     let mut k = 0;
-    let mut s = 0;
-    while s < count {
+    for s in 0..count {
         starts[s] = k;
         k = span_end(pairs, rows, k, s);
-        s += 1;
     }
     starts[count] = k;
 }
@@ -120,11 +118,9 @@ pub fn full_pairs(
         ShownPairs C pairs.now starts.now →
         ShownFullPairs C smaller.new larger.new }
 {
-    let mut i = 0;
-    while i < count {
+    for i in 0..count {
         let pair = full_pair(tallies, pairs, starts, i);
         smaller[i] = smaller_of(pair);
         larger[i] = larger_of(pair);
-        i += 1;
     }
 }

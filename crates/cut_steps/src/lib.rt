@@ -206,10 +206,9 @@ fn mark_between(
         masks.new (cut_columns (grid_of width height cells.now) (segment_of g) strip from to) }
 {
     let tie = tie_of(g, strip);
-    let mut k = from;
     let mut before = first_place(strip, tie, from as u64 - 1);
     let mut here = next_place(strip, tie, from as u64 - 1, before);
-    while k < to {
+    for k in from..to {
         let after = next_place(strip, tie, k as u64, here);
         mark_crossing(
             width,
@@ -225,7 +224,6 @@ fn mark_between(
         );
         before = here;
         here = after;
-        k += 1;
     }
 }
 
@@ -338,9 +336,7 @@ pub fn mark_spans(width: usize, height: usize, cells: &[u8], spans: &[u64], mask
     ensures { SpansMarked width height cells.now spans.now masks.old masks.new }
 {
     let count = spans.len() / NUMBERS_PER_SPAN;
-    let mut i = 0;
-    while i < count {
+    for i in 0..count {
         mark_span(width, height, cells, span_at(spans, i), masks);
-        i += 1;
     }
 }

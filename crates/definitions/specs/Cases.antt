@@ -1,6 +1,6 @@
 -- The cases that document 01 marks P (SPECIFICATION 16), in its order, as one list of tests on the definitions, and one theorem: each holds.
 use Rattle.std.specs.Prelude.{ℕ, ◌-◌, ◌≡◌, refl, Bool, true, false, not, cond, List, [], ◌∷◌, eqb}
-use Rattle.std.proofs.Math.Option.{Option, none, some}
+use Rattle.std.specs.Prelude.{Option, None, Some}
 use Rattle.std.specs.Float.{binary64}
 use Rattle.std.specs.Float.Ieee.{to_bits}
 use Rattle.definitions.specs.Scan.{all}
@@ -28,8 +28,8 @@ width15_5 = 0x402F000000000000
 -- ---- tests
 
 abbrev pub is_none : {A : Type 0} → Option A → Bool
-is_none none = true
-is_none (some a) = false
+is_none None = true
+is_none (Some a) = false
 
 abbrev pub same_numbers : List ℕ → List ℕ → Bool
 same_numbers [] [] = true
@@ -38,13 +38,13 @@ same_numbers (x ∷ l) [] = false
 same_numbers (x ∷ l) (y ∷ m) = cond (eqb x y) (same_numbers l m) false
 
 abbrev pub removes : Option Proposal → ℕ → Bool
-removes none i = false
-removes (some p) i = eqb p.index i
+removes None i = false
+removes (Some p) i = eqb p.index i
 
 abbrev pub is_star_about : Option MouthShape → ℕ → Bool
-is_star_about none outer = false
-is_star_about (some (single p)) outer = false
-is_star_about (some (star r inner)) outer = eqb r outer
+is_star_about None outer = false
+is_star_about (Some (single p)) outer = false
+is_star_about (Some (star r inner)) outer = eqb r outer
 
 -- ---- what the tests are asked of
 

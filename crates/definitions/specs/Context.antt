@@ -1,7 +1,7 @@
 -- What a pass reads (SPECIFICATION 9; PartitionContext of context.rs with the boundaries): the boundaries and their assessments,
 -- and of each region whether it is anchored and its record. A pass is a function of this and of nothing else. Assumes nothing.
 use Rattle.std.specs.Prelude.{ℕ, Bool, true, false, ◌&&◌, cond, List, [], ◌∷◌, map, length, get_or, eqb, ltb, Float}
-use Rattle.std.proofs.Math.Option.{Option, none, some}
+use Rattle.std.specs.Prelude.{Option, None, Some}
 use Rattle.std.specs.Float.Ieee.{binary64, of_bits}
 use Rattle.definitions.specs.Scan.{run, any, filter, count_below}
 use Rattle.definitions.specs.Grid.{Map, Segment, Boundary, Pair, contains, canonical, span_count, boundary_of}
@@ -47,14 +47,14 @@ context_of M =
 -- ---- of a context
 
 abbrev pub only_pair : Bool → List Pair → Option Pair
-only_pair true [] = none
-only_pair true (p ∷ []) = some p
-only_pair true (p ∷ q ∷ l) = none
-only_pair false l = none
+only_pair true [] = None
+only_pair true (p ∷ []) = Some p
+only_pair true (p ∷ q ∷ l) = None
+only_pair false l = None
 
 abbrev pub holds : Option Pair → (Pair → Bool) → Bool
-holds none f = false
-holds (some p) f = f p
+holds None f = false
+holds (Some p) f = f p
 
 -- the region of p that is not r
 abbrev pub other_region : ℕ → Pair → ℕ

@@ -2,7 +2,7 @@
 -- reserved regions, this has their tests (laws: Ports, WidestPort, Exteriors, BridgeGroups, Selection3). Assumes nothing.
 use Rattle.std.specs.Prelude.{ℕ, zero, suc, ◌+◌, ◌-◌, ◌^◌, Bool, true, ◌&&◌, ◌||◌, Float}
 use Rattle.std.proofs.Math.Bool.{not, cond}
-use Rattle.std.proofs.Math.Option.{Option, none, some}
+use Rattle.std.specs.Prelude.{Option, None, Some}
 use mathlib.Core.List.{List, [], ◌∷◌, ◌++◌, map}
 use Rattle.std.proofs.Math.Dec.{eqb, ltb, leb}
 use Rattle.std.specs.Float.Ieee.{binary64, le, mul}
@@ -59,8 +59,8 @@ abbrev pub is_some : Option Pair → Bool
 is_some o = holds o (λ p. true)
 
 abbrev pub beyond : ℕ → Option Pair → ℕ
-beyond r none = r
-beyond r (some p) = other_region r p
+beyond r None = r
+beyond r (Some p) = other_region r p
 
 abbrev pub names_region : Proposal → ℕ → Bool
 names_region p r = eqb p.first r || eqb p.second r
@@ -135,8 +135,8 @@ module _ (C : Context) where
 
   unfoldable pub union_from : ℕ → Option Pair → Option Proposal
   unfolding union_shape union_regions
-  union_from i none = none
-  union_from i (some p) = only_if (union_shape i p && union_regions i p) (record { index = i; kind = 0; first = p.lo; second = p.hi })
+  union_from i None = None
+  union_from i (Some p) = only_if (union_shape i p && union_regions i p) (record { index = i; kind = 0; first = p.lo; second = p.hi })
 
   unfoldable pub union_proposal : ℕ → Option Proposal
   unfolding union_from full_pair
@@ -178,23 +178,23 @@ module _ (C : Context) where
   -- of the two that lead to one region, i before k, the one that is twice as wide as the other
   unfoldable pub pick_bridge : ℕ → ℕ → ℕ → ℕ → Option Proposal
   unfolding is_twice_as_wide bridge_at
-  pick_bridge r i k t = cond (is_twice_as_wide i k) (bridge_at r i k t) (cond (is_twice_as_wide k i) (bridge_at r k i t) none)
+  pick_bridge r i k t = cond (is_twice_as_wide i k) (bridge_at r i k t) (cond (is_twice_as_wide k i) (bridge_at r k i t) None)
 
   -- exactly three ports, of which two share their exterior
   unfoldable pub bridge_of_ports : ℕ → List ℕ → Option Proposal
   unfolding is_shared pick_bridge
-  bridge_of_ports r [] = none
-  bridge_of_ports r (i ∷ []) = none
-  bridge_of_ports r (i ∷ j ∷ []) = none
+  bridge_of_ports r [] = None
+  bridge_of_ports r (i ∷ []) = None
+  bridge_of_ports r (i ∷ j ∷ []) = None
   bridge_of_ports r (i ∷ j ∷ k ∷ []) =
-      cond (is_shared r i j k) (pick_bridge r i j k) (cond (is_shared r i k j) (pick_bridge r i k j) (cond (is_shared r j k i) (pick_bridge r j k i) none))
-  bridge_of_ports r (i ∷ j ∷ k ∷ x ∷ l) = none
+      cond (is_shared r i j k) (pick_bridge r i j k) (cond (is_shared r i k j) (pick_bridge r i k j) (cond (is_shared r j k i) (pick_bridge r j k i) None))
+  bridge_of_ports r (i ∷ j ∷ k ∷ x ∷ l) = None
 
   unfoldable pub bridge_proposal : ℕ → Option Proposal
   unfolding ports_of all full_pair bridge_of_ports
   bridge_proposal r =
       let ps = ports_of r in
-      cond (not (C.anchored r) && all (λ j. no_ramp C j && is_some (full_pair C j)) ps) (bridge_of_ports r ps) none
+      cond (not (C.anchored r) && all (λ j. no_ramp C j && is_some (full_pair C j)) ps) (bridge_of_ports r ps) None
 
   -- ---- `select_proposals`
 

@@ -1,6 +1,6 @@
 -- The shape of a mouth, from its pairs: `star` and `triangle_representative` of ramp_boundaries.rs (laws: Stars, Triangles). Assumes nothing.
 use Rattle.std.specs.Prelude.{ℕ, Bool, true, false, not, ◌&&◌, List, [], ◌∷◌, length, eqb}
-use Rattle.std.proofs.Math.Option.{Option, none, some}
+use Rattle.std.specs.Prelude.{Option, None, Some}
 use Rattle.definitions.specs.Scan.{any, all, filter, only_if, add_all}
 use Rattle.definitions.specs.Grid.{Pair, pair_eq, contains}
 
@@ -26,16 +26,16 @@ common_regions (p ∷ l) = filter (λ r. all (contains r) (p ∷ l)) (p.lo ∷ p
 
 unfoldable pub star_from : List Pair → List ℕ → Option MouthShape
 unfolding filter distinct_regions
-star_from l [] = none
-star_from l (outer ∷ []) = some (star outer (filter (λ r. not (eqb r outer)) (distinct_regions l)))
-star_from l (u ∷ v ∷ w) = none
+star_from l [] = None
+star_from l (outer ∷ []) = Some (star outer (filter (λ r. not (eqb r outer)) (distinct_regions l)))
+star_from l (u ∷ v ∷ w) = None
 
 -- `star` of ramp_boundaries.rs, of an assessment that is a full cut or not and has these pairs
 unfoldable pub mouth_shape : Bool → List Pair → Option MouthShape
 unfolding star_from common_regions
-mouth_shape false l = none
-mouth_shape true [] = none
-mouth_shape true (p ∷ []) = some (single p)
+mouth_shape false l = None
+mouth_shape true [] = None
+mouth_shape true (p ∷ []) = Some (single p)
 mouth_shape true (p ∷ q ∷ l) = star_from (p ∷ q ∷ l) (common_regions (p ∷ q ∷ l))
 
 -- `triangle_representative`, of two full cuts: three regions whose three borders the two spans cut, one border being cut by both
@@ -46,9 +46,9 @@ triangle_representative (p ∷ q ∷ []) (s ∷ t ∷ []) =
     only_if
     (eqb (length rs) 3 && all (λ r. any (contains r) (s ∷ t ∷ [])) rs && eqb (length (filter (λ e. any (pair_eq e) (s ∷ t ∷ [])) (p ∷ q ∷ []))) 1)
     rs
-triangle_representative [] m = none
-triangle_representative (p ∷ []) m = none
-triangle_representative (p ∷ q ∷ r ∷ l) m = none
-triangle_representative (p ∷ q ∷ []) [] = none
-triangle_representative (p ∷ q ∷ []) (s ∷ []) = none
-triangle_representative (p ∷ q ∷ []) (s ∷ t ∷ u ∷ m) = none
+triangle_representative [] m = None
+triangle_representative (p ∷ []) m = None
+triangle_representative (p ∷ q ∷ r ∷ l) m = None
+triangle_representative (p ∷ q ∷ []) [] = None
+triangle_representative (p ∷ q ∷ []) (s ∷ []) = None
+triangle_representative (p ∷ q ∷ []) (s ∷ t ∷ u ∷ m) = None

@@ -2,7 +2,7 @@
 -- here, and its leaves are found by the same walk (laws: Components, Leaves, Selection2). Assumes nothing.
 use Rattle.std.specs.Prelude.{ℕ, suc, ◌+◌, Bool, false, ◌&&◌, ◌||◌, length, get_or, ltb}
 use Rattle.std.proofs.Math.Bool.{true, not, cond}
-use Rattle.std.proofs.Math.Option.{Option, none}
+use Rattle.std.specs.Prelude.{Option, None}
 use mathlib.Core.List.{List, [], ◌∷◌, ◌++◌}
 use Rattle.std.proofs.Math.Dec.{eqb, leb}
 use Rattle.std.specs.Float.Ieee.{le}
@@ -160,17 +160,17 @@ module _ (C : Context) where
   -- from the component's regions, edges and ports: exactly two ports
   unfoldable pub interior_from : List ℕ → List ℕ → List ℕ → Option InteriorProposal
   unfolding expand_port ports_fit any all region_fits
-  interior_from rs es [] = none
-  interior_from rs es (a ∷ []) = none
+  interior_from rs es [] = None
+  interior_from rs es (a ∷ []) = None
   interior_from rs es (a ∷ b ∷ []) =
       let s = expand_port (expand_port (record { regions = rs; valid = true }) a) b in
       only_if (ports_fit a b && s.valid && any (λ q. has_ramp (C.region q)) s.regions && all (region_fits a b) s.regions)
       (record { regions = s.regions; edges = es; first_port = a; second_port = b })
-  interior_from rs es (a ∷ b ∷ c ∷ l) = none
+  interior_from rs es (a ∷ b ∷ c ∷ l) = None
 
   unfoldable pub interior_proposal : List ℕ → ℕ → Option InteriorProposal
   unfolding is_candidate interior_from component_regions edges_of component_ports
-  interior_proposal cs r = cond (is_candidate cs r) (interior_from (component_regions cs r) (edges_of cs r) (component_ports cs r)) none
+  interior_proposal cs r = cond (is_candidate cs r) (interior_from (component_regions cs r) (edges_of cs r) (component_ports cs r)) None
 
   -- by the least label of the component
   unfoldable pub proposals : List InteriorProposal

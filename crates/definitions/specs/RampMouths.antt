@@ -2,7 +2,7 @@
 -- as it is made (laws: MouthChain, Selection1, MouthsAsRust). Assumes nothing.
 use Rattle.std.specs.Prelude.{ℕ, Bool, ◌&&◌, ◌||◌, length, leb, Float}
 use Rattle.std.proofs.Math.Bool.{true, false, not, cond}
-use Rattle.std.proofs.Math.Option.{Option, none, some}
+use Rattle.std.specs.Prelude.{Option, None, Some}
 use mathlib.Core.List.{List, [], ◌∷◌, ◌++◌, map}
 use Rattle.std.proofs.Math.Dec.{eqb}
 use Rattle.std.specs.Float.Ieee.{binary64, le, lt, mul, div, to_bits}
@@ -49,8 +49,8 @@ unfolding any member
 meet l m = any (λ r. member r m) l
 
 abbrev pub retain : (MouthProposal → Bool) → Option MouthProposal → Option MouthProposal
-retain f none = none
-retain f (some p) = only_if (f p) p
+retain f None = None
+retain f (Some p) = only_if (f p) p
 
 module _ (C : Context) where
   -- the incidents of r are the boundaries i and j
@@ -109,7 +109,7 @@ module _ (C : Context) where
   -- a mouth of one pair p, those of its regions given that the ramp borders: exactly one is wanted
   unfoldable pub single_mouth : ℕ → ℕ → Pair → List ℕ → Option MouthProposal
   unfolding approach_fits two_port_broad separation_of
-  single_mouth m a p [] = none
+  single_mouth m a p [] = None
   single_mouth m a p (r ∷ []) =
       only_if (approach_fits m a r (r ∷ []) true (C.anchored p.lo || C.anchored p.hi))
       (record {
@@ -121,12 +121,12 @@ module _ (C : Context) where
         two_port_broad_approach = two_port_broad m a r (r ∷ []) true;
         separation = separation_of m a;
       })
-  single_mouth m a p (r ∷ s ∷ l) = none
+  single_mouth m a p (r ∷ s ∷ l) = None
 
   -- a star about `outer`, those of its inner regions given that the ramp borders: exactly one is wanted
   unfoldable pub star_mouth : ℕ → ℕ → ℕ → List ℕ → List ℕ → Option MouthProposal
   unfolding approach_fits any two_port_broad separation_of
-  star_mouth m a outer inner [] = none
+  star_mouth m a outer inner [] = None
   star_mouth m a outer inner (r ∷ []) =
       only_if (approach_fits m a r inner false (any C.anchored inner))
       (record {
@@ -138,15 +138,15 @@ module _ (C : Context) where
         two_port_broad_approach = two_port_broad m a r inner false;
         separation = separation_of m a;
       })
-  star_mouth m a outer inner (r ∷ s ∷ l) = none
+  star_mouth m a outer inner (r ∷ s ∷ l) = None
 
   -- from the ramp's full pair and the mouth's shape
   unfoldable pub shaped_mouth : ℕ → ℕ → Option Pair → Option MouthShape → Option MouthProposal
   unfolding single_mouth filter star_mouth
-  shaped_mouth m a none s = none
-  shaped_mouth m a (some q) none = none
-  shaped_mouth m a (some q) (some (single p)) = single_mouth m a p (filter (λ r. contains r q) (p.lo ∷ p.hi ∷ []))
-  shaped_mouth m a (some q) (some (star outer inner)) = star_mouth m a outer inner (filter (λ r. contains r q) inner)
+  shaped_mouth m a None s = None
+  shaped_mouth m a (Some q) None = None
+  shaped_mouth m a (Some q) (Some (single p)) = single_mouth m a p (filter (λ r. contains r q) (p.lo ∷ p.hi ∷ []))
+  shaped_mouth m a (Some q) (Some (star outer inner)) = star_mouth m a outer inner (filter (λ r. contains r q) inner)
 
   -- ---- a triangle: at most one of its regions is anchored, and that one is the outer
 
@@ -166,13 +166,13 @@ module _ (C : Context) where
 
   unfoldable pub triangle : ℕ → ℕ → Option (List ℕ)
   unfolding nearby_representative full_cut triangle_representative
-  triangle m a = cond (nearby_representative m a && full_cut C m && full_cut C a) (triangle_representative (C.pairs m) (C.pairs a)) none
+  triangle m a = cond (nearby_representative m a && full_cut C m && full_cut C a) (triangle_representative (C.pairs m) (C.pairs a)) None
 
   -- a triangle that has two anchored regions is not tried as a star
   unfoldable pub triangle_or : Option (List ℕ) → ℕ → ℕ → Option MouthProposal → Option MouthProposal
   unfolding triangle_mouth
-  triangle_or none m a d = d
-  triangle_or (some rs) m a d = triangle_mouth m a rs
+  triangle_or None m a d = d
+  triangle_or (Some rs) m a d = triangle_mouth m a rs
 
   -- ---- the proposals
 
@@ -198,7 +198,7 @@ module _ (C : Context) where
   mouth_proposal a m =
       cond (not (no_ramp C a) && full_cut C a && no_ramp C m && (broad_mouth m a || nearby_representative m a || overlay_representative m a))
       (retain is_local (triangle_or (triangle m a) m a (shaped_mouth m a (full_pair C a) (mouth_shape (full_cut C m) (C.pairs m)))))
-      none
+      None
 
   -- by ramp, then by mouth
   unfoldable pub proposals : List MouthProposal

@@ -1,7 +1,7 @@
 -- The checks of the table of SPECIFICATION 4 that look at what is lent, numbers 1 to 10: each gives the first faulty place, or none. Quotations are of the table of SPECIFICATION 4.
 -- Assumes nothing; entries of the lists are 64-bit numbers and cells are bytes, as their element types have it.
 use Rattle.std.specs.Prelude.{ℕ, zero, suc, ◌+◌, ◌*◌, ◌/◌, ◌%◌, ◌^◌, Bool, not, ◌&&◌, ◌||◌, List, length, get_or, eqb, ltb, leb}
-use Rattle.std.proofs.Math.Option.{Option, none, some}
+use Rattle.std.specs.Prelude.{Option, None, Some}
 use Rattle.std.specs.Float.{binary64}
 use Rattle.std.specs.Float.Ieee.{of_bits, le}
 use Rattle.definitions.specs.Limits.{is_side, max_entries, numbers_per_span, numbers_per_boundary, numbers_per_anchor, tallies_per_span, numbers_per_row}
@@ -11,12 +11,12 @@ use Rattle.definitions.specs.Spans.{pixels_per_walk_cell}
 use Rattle.definitions.specs.Geometry.{float}
 
 abbrev pub or_else : {A : Type 0} → Option A → Option A → Option A
-or_else none b = b
-or_else (some a) b = some a
+or_else None b = b
+or_else (Some a) b = Some a
 
 -- "Places are the first faulty one": what f says at the first number below n at which it says anything
 unfoldable pub first_below_lem : {A : Type 0} → ℕ → (ℕ → Option A) → Option A
-first_below_lem zero f = none
+first_below_lem zero f = None
 first_below_lem (suc n) f = or_else (first_below_lem n f) (f n)
 
 -- the first number below n that fails the test

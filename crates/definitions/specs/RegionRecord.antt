@@ -1,7 +1,7 @@
 -- Region records (SPECIFICATION 9; RegionStats of context.rs) and what is asked of one: corners, dominance (junctions.rs), flatness.
 -- Assumes nothing.
 use Rattle.std.specs.Prelude.{ℕ, zero, suc, ◌+◌, ◌*◌, ◌/◌, ◌%◌, ◌^◌, ◌<◌, min, max, ◌≡◌, Bool, false, ◌&&◌, ◌||◌, cond, List, [], ◌∷◌, map, get_or, eqb, ltb, leb, Float}
-use Rattle.std.proofs.Math.Option.{Option, none, some}
+use Rattle.std.specs.Prelude.{Option, None, Some}
 use Rattle.definitions.specs.Scan.{any_below_lem, count_below, bit}
 use Rattle.definitions.specs.Grid.{Map, cell_count, cell_at, is_ramp, elevation}
 use Rattle.definitions.specs.Spans.{pixels_per_walk_cell}
@@ -105,8 +105,8 @@ pub record IsShare (count n : ℕ) (h : Share) : Type 0 where
 
 -- the one share that `IsShare` allows (laws: Shares). "A region with no cells has no share"
 unfoldable pub share_of : ℕ → ℕ → Option Share
-share_of count zero = none
-share_of count (suc n) = some (record { percent = count * 100 / suc n; remainder = count * 100 % suc n })
+share_of count zero = None
+share_of count (suc n) = Some (record { percent = count * 100 / suc n; remainder = count * 100 % suc n })
 
 pub record Dominance : Type 0 where
   pub elevation : ℕ
@@ -125,8 +125,8 @@ dominance s = dominance_of s.cells s.elevation_counts_lem
 
 -- "Unions accept at 99 percent": no share is not 99 percent
 abbrev pub accepts : Option Share → Bool
-accepts none = false
-accepts (some h) = leb 99 h.percent
+accepts None = false
+accepts (Some h) = leb 99 h.percent
 
 -- both are accepted, and of one elevation
 unfoldable pub same_dominance : Region → Region → Bool

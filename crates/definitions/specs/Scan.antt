@@ -1,8 +1,7 @@
 -- Scans: over the numbers below n, the way a loop goes, and over lists; by structural recursion, so that they compute.
 -- The Rust's sets are put as such scans: a set is its test, its size a count, a walk over it in ascending order a `collect`. Assumes nothing.
 use Rattle.std.specs.Prelude.{ℕ, zero, suc, ◌+◌, Bool, true, false, ◌&&◌, ◌||◌, cond, List, [], ◌∷◌, ◌++◌, eqb}
-use Rattle.std.proofs.Math.Option.{Option, none, some}
-
+use Rattle.std.specs.Prelude.{Option, None, Some}
 -- ---- over the numbers below n
 
 unfoldable pub any_below_lem : ℕ → (ℕ → Bool) → Bool
@@ -23,12 +22,12 @@ count_below (suc n) f = count_below n f + bit (f n)
 
 module _ {A : Type 0} where
   abbrev pub to_list : Option A → List A
-  to_list none = []
-  to_list (some a) = a ∷ []
+  to_list None = []
+  to_list (Some a) = a ∷ []
 
   abbrev pub only_if : Bool → A → Option A
-  only_if true a = some a
-  only_if false a = none
+  only_if true a = Some a
+  only_if false a = None
 
   -- what f finds at the numbers below n, in ascending order
   unfoldable pub collect : ℕ → (ℕ → Option A) → List A

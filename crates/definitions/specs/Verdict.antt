@@ -1,7 +1,7 @@
 -- The table of refusals as one function: the answer to every input of the call that runs a pass and of the partition alone (SPECIFICATION 3 and
 -- 4). The lists at exit stand in AtExit.antt, the hypotenuse's answer in Hypotenuse.antt, the sheet reader's in Sheet.antt. Assumes nothing.
 use Rattle.std.specs.Prelude.{ℕ, ◌*◌, ◌/◌, Bool, ◌&&◌, List, [], ◌∷◌, length, leb}
-use Rattle.std.proofs.Math.Option.{Option, none, some}
+use Rattle.std.specs.Prelude.{Option, None, Some}
 use Rattle.definitions.specs.Limits.{numbers_per_span, numbers_per_boundary, numbers_per_anchor, numbers_per_pair}
 use Rattle.definitions.specs.Scan.{gather, concat_map}
 use Rattle.definitions.specs.Grid.{Map, map_of}
@@ -42,14 +42,14 @@ pub record Answer : Type 0 where
   pub value : ℕ
 
 abbrev pub refusal : ℕ → Option ℕ → Option Refusal
-refusal number none = none
-refusal number (some place) = some (record { number = number; place = place })
+refusal number None = None
+refusal number (Some place) = Some (record { number = number; place = place })
 
 -- "Checks follow the numbers": the first refusal of the list, or success with this count
 abbrev pub first_refusal : List (Option Refusal) → ℕ → Answer
 first_refusal [] count = record { number = 0; value = count }
-first_refusal (none ∷ l) count = first_refusal l count
-first_refusal (some r ∷ l) count = record { number = r.number; value = r.place }
+first_refusal (None ∷ l) count = first_refusal l count
+first_refusal (Some r ∷ l) count = record { number = r.number; value = r.place }
 
 -- 11: "more regions than records"
 unfoldable pub records_fault : Lent → Map → Option ℕ

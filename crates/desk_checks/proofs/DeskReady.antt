@@ -3,7 +3,7 @@
 use Prim.Native.Nat.{ℕ, ◌*◌, ◌/◌, ◌≤◌}
 use mathlib.Core.Path.{◌≡◌, sym, ap, ap₂, ◌∙◌, subst}
 use mathlib.Core.Bool.{true, ◌&&◌}
-use mathlib.Core.Option.{none}
+use Rattle.std.specs.Prelude.{None}
 use mathlib.Core.List.{List, []}
 use lib.ListN.{length, get_or, replicate, length-replicate}
 use native.Mathlib.Omega.{arith}
@@ -51,8 +51,8 @@ module _ {w h : ℕ} {cells spans : List ℕ} {room : ℕ} {l m q t p : List ℕ
       (ap (λ (a : Answer). a.number)
       (verdict-kept 1 w h cells spans [] [] l m q t p (replicate room empty_region) [] R.accepted (omega (arith, R.enough, length-replicate room empty_region)) R.fits))
 
-  module _ (pass : ℕ) (boundaries anchors : List ℕ) (output : ℕ) (passed : own_refusal w h spans pass boundaries anchors output ≡ none) where
-    early-passed : early_refusal pass w h cells spans boundaries anchors (length l) (length m) (length q) (length t) output ≡ none
+  module _ (pass : ℕ) (boundaries anchors : List ℕ) (output : ℕ) (passed : own_refusal w h spans pass boundaries anchors output ≡ None) where
+    early-passed : early_refusal pass w h cells spans boundaries anchors (length l) (length m) (length q) (length t) output ≡ None
     unfolding early_refusal sizes_refusal entries_refusal
     early-passed =
         let c = terrain-accepted in

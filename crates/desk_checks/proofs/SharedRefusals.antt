@@ -5,7 +5,7 @@ use Prim.Native.Nat.{ℕ, zero, suc, ◌*◌}
 use native.Mathlib.Omega.{arith}
 use mathlib.Core.Path.{◌≡◌, refl, sym, ap, ◌∙◌}
 use mathlib.Core.Bool.{Bool, true, false, not, ◌&&◌, cond, true≢false}
-use mathlib.Core.Option.{Option, none, some}
+use Rattle.std.specs.Prelude.{Option, None, Some}
 use mathlib.Core.List.{List, [], ◌∷◌}
 use lib.ListN.{length, replicate, length-append, length-replicate}
 use lib.Dec.{eqb, leb-zero}
@@ -45,7 +45,7 @@ refused-both {S} {number} {place} positive R =
 -- ---- refused by a check
 
 passes-early : (pass w h : ℕ) (cells spans boundaries anchors l m q t p : List ℕ) (s : List Region) (o : List ℕ) → Accepted (given pass w h cells spans boundaries anchors l m q t p s o)
-    → early_refusal pass w h cells spans boundaries anchors (length l) (length m) (length q) (length t) (length o) ≡ none
+    → early_refusal pass w h cells spans boundaries anchors (length l) (length m) (length q) (length t) (length o) ≡ None
 unfolding early_refusal sizes_refusal entries_refusal
 passes-early pass w h cells spans boundaries anchors l m q t p s o c = λ i.
     or_else
@@ -54,7 +54,7 @@ passes-early pass w h cells spans boundaries anchors l m q t p s o c = λ i.
     (or_else (c.spans i) (or_else (refusal 7 (c.boundaries i)) (or_else (refusal 8 (c.anchors i)) (refusal 9 (c.elevations i)))))
     (refusal 10 (unless (c.room i))))
 
-pub refused-early : (w h : ℕ) (cells spans l m q t p : List ℕ) (number place : ℕ) → some (record { number = number; place = place }) ≡ early_refusal 1 w h cells spans [] [] (length l) (length m) (length q) (length t) 0
+pub refused-early : (w h : ℕ) (cells spans l m q t p : List ℕ) (number place : ℕ) → Some (record { number = number; place = place }) ≡ early_refusal 1 w h cells spans [] [] (length l) (length m) (length q) (length t) 0
     → (s : List Region) → RefusedBoth (lent_both w h cells spans l m q t p s) number place l m q t p s
 refused-early w h cells spans l m q t p number place e s =
     let L = given 1 w h cells spans [] [] l m q t p s [] in
@@ -86,7 +86,7 @@ abbrev two : List ℕ
 two = 0 ∷ 0 ∷ 0 ∷ 0 ∷ 0 ∷ 0 ∷ 0 ∷ 0 ∷ 0 ∷ one
 
 module _ (w h : ℕ) (cells spans : List ℕ) (l m q t p : List ℕ)
-    (e : none ≡ early_refusal 1 w h cells spans [] [] (length l) (length m) (length q) (length t) 0) where
+    (e : None ≡ early_refusal 1 w h cells spans [] [] (length l) (length m) (length q) (length t) 0) where
   -- check 7 of such a boundary
   zeros-fit : boundary_fits w h (boundary_at one 0) ≡ true
   unfolding boundary_fits width_fits
@@ -94,26 +94,26 @@ module _ (w h : ℕ) (cells spans : List ℕ) (l m q t p : List ℕ)
       ((leb-zero (pixels_per_walk_cell * w) i && leb-zero (pixels_per_walk_cell * h) i) && (leb-zero (pixels_per_walk_cell * w) i && leb-zero (pixels_per_walk_cell * h) i))
       && true && true
 
-  one_fits : boundaries_fault w h one ≡ none
+  one_fits : boundaries_fault w h one ≡ None
   unfolding boundaries_fault first_below_lem
   one_fits = λ i. only_if (not (zeros-fit i)) 0
 
-  two_fit : boundaries_fault w h two ≡ none
+  two_fit : boundaries_fault w h two ≡ None
   unfolding boundaries_fault first_below_lem
   two_fit = λ i. or_else (only_if (not (zeros-fit i)) 0) (only_if (not (zeros-fit i)) 1)
 
   -- the other checks do not look at boundaries
-  passes_with : {f : Option ℕ} → f ≡ none
-      → none ≡ or_else (sizes_refusal 1 w h cells spans [] []) (or_else (or_else (spans_refusal w h spans) (or_else (refusal 7 f) (refusal 9 (elevations_fault cells)))) (refusal 10 (unless (has_room_lem w h spans [] (length l) (length m) (length q) (length t) 0))))
+  passes_with : {f : Option ℕ} → f ≡ None
+      → None ≡ or_else (sizes_refusal 1 w h cells spans [] []) (or_else (or_else (spans_refusal w h spans) (or_else (refusal 7 f) (refusal 9 (elevations_fault cells)))) (refusal 10 (unless (has_room_lem w h spans [] (length l) (length m) (length q) (length t) 0))))
   unfolding early_refusal entries_refusal boundaries_fault anchors_fault first_below_lem
   passes_with s =
       e ∙ (λ i. or_else (sizes_refusal 1 w h cells spans [] []) (or_else (or_else (spans_refusal w h spans) (or_else (refusal 7 (sym s i)) (refusal 9 (elevations_fault cells)))) (refusal 10 (unless (has_room_lem w h spans [] (length l) (length m) (length q) (length t) 0)))))
 
-  one_passes : none ≡ early_refusal 1 w h cells spans one [] (length l) (length m) (length q) (length t) 10
+  one_passes : None ≡ early_refusal 1 w h cells spans one [] (length l) (length m) (length q) (length t) 10
   unfolding early_refusal sizes_refusal entries_refusal anchors_fault first_below_lem
   one_passes = passes_with one_fits
 
-  two_pass : none ≡ early_refusal 1 w h cells spans two [] (length l) (length m) (length q) (length t) 10
+  two_pass : None ≡ early_refusal 1 w h cells spans two [] (length l) (length m) (length q) (length t) 10
   unfolding early_refusal sizes_refusal entries_refusal anchors_fault first_below_lem
   two_pass = passes_with two_fit
 
@@ -122,7 +122,7 @@ module _ (w h : ℕ) (cells spans : List ℕ) (l m q t p : List ℕ)
     map_with boundaries = map_of w h cells spans boundaries []
 
     -- the value is the count of rows, of whatever boundaries
-    counts-rows : (boundaries o : List ℕ) → none ≡ early_refusal 1 w h cells spans boundaries [] (length l) (length m) (length q) (length t) (length o)
+    counts-rows : (boundaries o : List ℕ) → None ≡ early_refusal 1 w h cells spans boundaries [] (length l) (length m) (length q) (length t) (length o)
         → place ≡ length (rows_of 1 (map_with boundaries))
     unfolding map_in
     counts-rows boundaries o f =

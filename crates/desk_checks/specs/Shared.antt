@@ -1,6 +1,6 @@
 -- The words of the contract of `prepare_shared`. Definitions only; assumes nothing.
 use Rattle.std.specs.Prelude.{ℕ, ◌≡◌, List, [], length}
-use Rattle.std.proofs.Math.Option.{some}
+use Rattle.std.specs.Prelude.{Some}
 use Rattle.definitions.specs.RegionRecord.{Region}
 use Rattle.call_partition.specs.declared.Prepared.{Prepared}
 use Rattle.call_partition.specs.declared.Prepared.TheVariants.{Refused, Ready}
@@ -14,7 +14,7 @@ lent_both w h cells spans l m q t p s =
 
 -- the shared refusal is this one, and the shared lists are as it leaves them
 pub record RefusedBoth (S : Shared) (number place : ℕ) (l m q t p : List ℕ) (s : List Region) : Type 0 where
-  pub refused : shared_refusal S ≡ some (record { number = number; place = place })
+  pub refused : shared_refusal S ≡ Some (record { number = number; place = place })
   pub left : LeftShared S l m q t p s
 
 -- A refusal is the shared one, for whatever records of this number, which are as they were. Otherwise the terrain is prepared: the call with no boundaries, no anchors and no

@@ -3,7 +3,7 @@
 use Rattle.std.specs.Prelude.{ℕ, ◌*◌, ◌/◌, ◌≡◌, Bool, true, ◌&&◌, List, [], ◌∷◌, length, leb}
 use Rattle.std.proofs.Math.Path.{sym, ap}
 use Rattle.std.proofs.Common.{ap₂, ◌∙◌}
-use Rattle.std.proofs.Math.Option.{none}
+use Rattle.std.specs.Prelude.{None}
 use Rattle.definitions.specs.Limits.{numbers_per_span, numbers_per_boundary, numbers_per_anchor, numbers_per_pair}
 use Rattle.definitions.specs.Grid.{map_of, cell_count}
 use Rattle.definitions.specs.Lists.{overwrite}
@@ -20,16 +20,16 @@ use Rattle.desks.proofs.SharedCalls.{shared-success}
 -- ---- every check passes
 
 pub record SharedPassed (S : Shared) : Type 0 where
-  pub one : refusal 1 (sides_fault S.width S.height) ≡ none
-  pub two : refusal 2 (cells_fault S.width S.height S.cells) ≡ none
+  pub one : refusal 1 (sides_fault S.width S.height) ≡ None
+  pub two : refusal 2 (cells_fault S.width S.height S.cells) ≡ None
   pub three : is_whole numbers_per_span S.spans ≡ true
-  pub five : spans_refusal S.width S.height S.spans ≡ none
-  pub nine : refusal 9 (elevations_fault S.cells) ≡ none
+  pub five : spans_refusal S.width S.height S.spans ≡ None
+  pub nine : refusal 9 (elevations_fault S.cells) ≡ None
   pub ten : partition_has_room (terrain S) ≡ true
-  pub eleven : refusal 11 (records_fault (terrain S) (map_in (terrain S))) ≡ none
-  pub twelve : refusal 12 (pairs_fault (terrain S) (map_in (terrain S))) ≡ none
+  pub eleven : refusal 11 (records_fault (terrain S) (map_in (terrain S))) ≡ None
+  pub twelve : refusal 12 (pairs_fault (terrain S) (map_in (terrain S))) ≡ None
 
-pub shared-passed : (S : Shared) → shared_refusal S ≡ none → SharedPassed S
+pub shared-passed : (S : Shared) → shared_refusal S ≡ None → SharedPassed S
 unfolding shared_refusal
 shared-passed S h =
     let a = or_else_none _ _ h in
@@ -52,14 +52,14 @@ shared-passed S h =
 
 pub record OwnPassed (w h : ℕ) (spans : List ℕ) (pass : ℕ) (boundaries anchors : List ℕ) (output : ℕ) : Type 0 where
   pub three : (is_whole numbers_per_boundary boundaries && is_whole numbers_per_anchor anchors) ≡ true
-  pub four : refusal 4 (pass_fault pass) ≡ none
-  pub seven : refusal 7 (boundaries_fault w h boundaries) ≡ none
-  pub twenty : desk_fault spans boundaries ≡ none
-  pub eight : refusal 8 (anchors_fault w h anchors) ≡ none
+  pub four : refusal 4 (pass_fault pass) ≡ None
+  pub seven : refusal 7 (boundaries_fault w h boundaries) ≡ None
+  pub twenty : desk_fault spans boundaries ≡ None
+  pub eight : refusal 8 (anchors_fault w h anchors) ≡ None
   pub ten : output_room (length boundaries / numbers_per_boundary) output ≡ true
 
 pub own-passed : (w h : ℕ) (spans : List ℕ) (pass : ℕ) (boundaries anchors : List ℕ) (output : ℕ)
-    → own_refusal w h spans pass boundaries anchors output ≡ none → OwnPassed w h spans pass boundaries anchors output
+    → own_refusal w h spans pass boundaries anchors output ≡ None → OwnPassed w h spans pass boundaries anchors output
 unfolding own_refusal
 own-passed w h spans pass boundaries anchors output e =
     let a = or_else_none _ _ e in
@@ -92,7 +92,7 @@ twelve_same S D =
 -- ---- the answer
 
 -- such a call is accepted, with as many rows
-pub answer-alone : (S : Shared) (D : Desk) → shared_refusal S ≡ none → desk_refusal S D ≡ none → desk_answer S D ≡ verdict (alone S D)
+pub answer-alone : (S : Shared) (D : Desk) → shared_refusal S ≡ None → desk_refusal S D ≡ None → desk_answer S D ≡ verdict (alone S D)
 unfolding verdict desk_answer
 answer-alone S D h k = ap (λ o. answer_from o (length (rows_of D.pass (map_in (alone S D))))) (ap₂ or_else h k) ∙ sym passed
   where
@@ -102,10 +102,10 @@ answer-alone S D h k = ap (λ o. answer_from o (length (rows_of D.pass (map_in (
     d : OwnPassed S.width S.height S.spans D.pass D.boundaries D.anchors (length D.output)
     d = own-passed S.width S.height S.spans D.pass D.boundaries D.anchors (length D.output) k
 
-    eleven : refusal 11 (records_fault (alone S D) (map_in (alone S D))) ≡ none
+    eleven : refusal 11 (records_fault (alone S D) (map_in (alone S D))) ≡ None
     eleven = ap (refusal 11) (eleven_same S D) ∙ s.eleven
 
-    twelve : refusal 12 (pairs_fault (alone S D) (map_in (alone S D))) ≡ none
+    twelve : refusal 12 (pairs_fault (alone S D) (map_in (alone S D))) ≡ None
     twelve = ap (refusal 12) (twelve_same S D) ∙ s.twelve
 
     whole : (is_whole numbers_per_span S.spans && is_whole numbers_per_boundary D.boundaries && is_whole numbers_per_anchor D.anchors) ≡ true
@@ -133,7 +133,7 @@ answer-alone S D h k = ap (λ o. answer_from o (length (rows_of D.pass (map_in (
 
 -- ---- the lists
 
-module _ (S : Shared) (D : Desk) (h : shared_refusal S ≡ none) where
+module _ (S : Shared) (D : Desk) (h : shared_refusal S ≡ None) where
   -- "Neither desk alters the shared lists": they are those of the run alone
   pub labels-alone : (shared_exit S).labels ≡ (call_exit (alone S D) 0).labels
   unfolding call_exit exit_with stage_of map_in
@@ -159,6 +159,6 @@ module _ (S : Shared) (D : Desk) (h : shared_refusal S ≡ none) where
   unfolding call_exit exit_with stage_of map_in map_of cell_count
   queue-alone = ap (λ x. x.queue) (shared-success S h)
 
-  pub output-alone : desk_refusal S D ≡ none → desk_output S D ≡ (call_exit (alone S D) 0).output
+  pub output-alone : desk_refusal S D ≡ None → desk_output S D ≡ (call_exit (alone S D) 0).output
   unfolding call_exit exit_with stage_of desk_output
   output-alone k = ap (λ o. output_from o (flat_rows (rows_of D.pass (map_in (alone S D)))) D.output) (ap₂ or_else h k)

@@ -3,7 +3,7 @@
 use Rattle.std.specs.Prelude.{ℕ, ◌≡◌, List, length}
 use Rattle.std.proofs.Common.{sym, ap₂, ◌∙◌}
 use Rattle.std.proofs.Math.Path.{ap}
-use Rattle.std.proofs.Math.Option.{none, some}
+use Rattle.std.specs.Prelude.{None, Some}
 use Rattle.definitions.specs.RegionRecord.{Region}
 use Rattle.definitions.specs.Rows.{rows_of, flat_rows}
 use Rattle.definitions.specs.Refusals.{Refusal, or_else}
@@ -57,7 +57,7 @@ pub record RefusedWith (D : Desk) (r : Refusal) (a : Answer) (o : List ℕ) : Ty
 
 module _ {S : Shared} {D : Desk} {a : Answer} {o : List ℕ} {r : Refusal} (v : Served S D a o) where
   -- by the first refusal there is
-  refused_with : or_else (shared_refusal S) (desk_refusal S D) ≡ some r → RefusedWith D r a o
+  refused_with : or_else (shared_refusal S) (desk_refusal S D) ≡ Some r → RefusedWith D r a o
   unfolding desk_answer desk_output
   refused_with e =
       record {
@@ -65,10 +65,10 @@ module _ {S : Shared} {D : Desk} {a : Answer} {o : List ℕ} {r : Refusal} (v : 
         output = v.output ∙ ap (λ f. output_from f (flat_rows (rows_of D.pass (map_in (alone S D)))) D.output) e;
       }
 
-  pub refused-shared : shared_refusal S ≡ some r → RefusedWith D r a o
+  pub refused-shared : shared_refusal S ≡ Some r → RefusedWith D r a o
   refused-shared e = refused_with (ap (λ f. or_else f (desk_refusal S D)) e)
 
-  pub refused-own : shared_refusal S ≡ none → desk_refusal S D ≡ some r → RefusedWith D r a o
+  pub refused-own : shared_refusal S ≡ None → desk_refusal S D ≡ Some r → RefusedWith D r a o
   refused-own h e = refused_with (ap₂ or_else h e)
 
 -- the shared lists are those of success, of the call with no boundaries and no anchors
@@ -77,7 +77,7 @@ LeftAsOnSuccess S l m q t p s =
     let exit = call_exit (terrain S) 0 in
     (l ≡ exit.labels) × (m ≡ exit.masks) × (q ≡ exit.queue) × (t ≡ exit.tallies) × (p ≡ exit.pairs) × (s ≡ exit.records)
 
-left_as_on_success : {S : Shared} {l m q t p : List ℕ} {s : List Region} → shared_refusal S ≡ none → LeftShared S l m q t p s → LeftAsOnSuccess S l m q t p s
+left_as_on_success : {S : Shared} {l m q t p : List ℕ} {s : List Region} → shared_refusal S ≡ None → LeftShared S l m q t p s → LeftAsOnSuccess S l m q t p s
 left_as_on_success {S} h k =
     let e = shared-success S h in (
       k.labels ∙ ap (λ x. x.labels) e,
@@ -90,12 +90,12 @@ left_as_on_success {S} h k =
 
 module _ {x : ℕ} {S : Shared} {A B : Desk} {a b : Answer} {l m q t p : List ℕ} {s : List Region} {o u : List ℕ} (f : RanBoth x S A B a b l m q t p s o u) {r : Refusal} where
   -- "a refusal over the shared lists comes first and goes to both"
-  pub goes_to_both : shared_refusal S ≡ some r → RefusedWith A r a o × RefusedWith B r b u
+  pub goes_to_both : shared_refusal S ≡ Some r → RefusedWith A r a o × RefusedWith B r b u
   goes_to_both e = (refused-shared f.route e, refused-shared f.coaching e)
 
   -- "a desk's own refusal leaves them as on success, and its output as it was"
-  pub route-refused : shared_refusal S ≡ none → desk_refusal S A ≡ some r → RefusedWith A r a o × LeftAsOnSuccess S l m q t p s
+  pub route-refused : shared_refusal S ≡ None → desk_refusal S A ≡ Some r → RefusedWith A r a o × LeftAsOnSuccess S l m q t p s
   route-refused h e = (refused-own f.route h e, left_as_on_success h f.shared)
 
-  pub coaching-refused : shared_refusal S ≡ none → desk_refusal S B ≡ some r → RefusedWith B r b u × LeftAsOnSuccess S l m q t p s
+  pub coaching-refused : shared_refusal S ≡ None → desk_refusal S B ≡ Some r → RefusedWith B r b u × LeftAsOnSuccess S l m q t p s
   coaching-refused h e = (refused-own f.coaching h e, left_as_on_success h f.shared)

@@ -2,7 +2,7 @@
 -- held does not, nor does the other desk. Assumes nothing.
 use Rattle.std.specs.Prelude.{ℕ, ◌*◌, ◌/◌, ◌≡◌, refl, List, [], length, leb}
 use Rattle.std.proofs.Common.{sym, ap₂, ◌∙◌}
-use Rattle.std.proofs.Math.Option.{Option}
+use Rattle.std.specs.Prelude.{Option}
 use Rattle.definitions.specs.Limits.{numbers_per_span, numbers_per_pair}
 use Rattle.definitions.specs.Grid.{map_of}
 use Rattle.definitions.specs.Partition.{region_count}

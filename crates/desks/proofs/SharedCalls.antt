@@ -4,7 +4,7 @@ use Rattle.std.specs.Prelude.{ℕ, zero, suc, ◌*◌, ◌/◌, ◌≡◌, refl,
 use Rattle.std.proofs.Common.{arith, ◌∙◌, true≢false}
 use Rattle.std.proofs.Math.Path.{sym, ap}
 use Rattle.std.proofs.Math.Bool.{true, and-true}
-use Rattle.std.proofs.Math.Option.{Option, none, some}
+use Rattle.std.specs.Prelude.{Option, None, Some}
 use Rattle.definitions.specs.Limits.{numbers_per_span, numbers_per_boundary, numbers_per_anchor}
 use Rattle.definitions.specs.Rows.{rows_of}
 use Rattle.definitions.specs.Refusals.{Refusal, or_else, unless, first_below_lem, sides_fault, cells_fault, is_whole, pass_fault, spans_refusal, boundaries_fault, anchors_fault, elevations_fault, output_room}
@@ -19,16 +19,16 @@ use Rattle.desks.specs.Desks.{Shared, Desk, nobody, terrain, shared_refusal, des
 -- ---- a list of checks as one refusal
 
 abbrev joined : List (Option Refusal) → Option Refusal
-joined [] = none
+joined [] = None
 joined (x ∷ []) = x
 joined (x ∷ y ∷ l) = or_else x (joined (y ∷ l))
 
 first_joined : (l : List (Option Refusal)) (n : ℕ) → first_refusal l n ≡ answer_from (joined l) n
 first_joined [] n = refl
-first_joined (none ∷ []) n = refl
-first_joined (some r ∷ []) n = refl
-first_joined (none ∷ y ∷ l) n = first_joined (y ∷ l) n
-first_joined (some r ∷ y ∷ l) n = refl
+first_joined (None ∷ []) n = refl
+first_joined (Some r ∷ []) n = refl
+first_joined (None ∷ y ∷ l) n = first_joined (y ∷ l) n
+first_joined (Some r ∷ y ∷ l) n = refl
 
 module _ (S : Shared) where
   abbrev kept : ℕ
@@ -52,10 +52,10 @@ module _ (S : Shared) where
       (refusal 1 (sides_fault S.width S.height)
       ∷ refusal 2 (cells_fault S.width S.height S.cells)
       ∷ refusal 3 (unless (spans-whole i))
-      ∷ none
+      ∷ None
       ∷ spans_refusal S.width S.height S.spans
-      ∷ none
-      ∷ none
+      ∷ None
+      ∷ None
       ∷ refusal 9 (elevations_fault S.cells)
       ∷ refusal 10 (unless (room-shared i))
       ∷ refusal 11 (records_fault (terrain S) (map_in (terrain S)))
@@ -66,10 +66,10 @@ module _ (S : Shared) where
       (refusal 1 (sides_fault S.width S.height)
       ∷ refusal 2 (cells_fault S.width S.height S.cells)
       ∷ refusal 3 (unless (is_whole numbers_per_span S.spans))
-      ∷ none
+      ∷ None
       ∷ spans_refusal S.width S.height S.spans
-      ∷ none
-      ∷ none
+      ∷ None
+      ∷ None
       ∷ refusal 9 (elevations_fault S.cells)
       ∷ refusal 10 (unless (partition_has_room (terrain S)))
       ∷ refusal 11 (records_fault (terrain S) (map_in (terrain S)))
@@ -78,13 +78,13 @@ module _ (S : Shared) where
       0
 
   -- "as on success"
-  pub shared-success : shared_refusal S ≡ none → shared_exit S ≡ call_exit (terrain S) 0
+  pub shared-success : shared_refusal S ≡ None → shared_exit S ≡ call_exit (terrain S) 0
   unfolding shared_exit
   shared-success h = ap (λ o. call_exit (terrain S) (answer_from o 0).number) h
 
   -- ---- no refusal has number 0
 
-  none_shared : Accepted (terrain S) → shared_refusal S ≡ none
+  none_shared : Accepted (terrain S) → shared_refusal S ≡ None
   unfolding shared_refusal
   none_shared c =
       let whole : is_whole numbers_per_span S.spans ≡ true = sym spans-whole ∙ c.whole in
@@ -96,19 +96,19 @@ module _ (S : Shared) where
       (or_else (c.spans i)
       (or_else (refusal 9 (c.elevations i)) (or_else (refusal 10 (unless (room i))) (or_else (refusal 11 (c.records i)) (refusal 12 (c.pairs i))))))))
 
-  pub shared-numbered : (answer_from (shared_refusal S) 0).number ≡ 0 → shared_refusal S ≡ none
+  pub shared-numbered : (answer_from (shared_refusal S) 0).number ≡ 0 → shared_refusal S ≡ None
   shared-numbered h = none_shared (accepted (terrain S) (ap (λ (a : Answer). a.number) shared_as_call ∙ h))
 
-own_or : (k : ℕ) (p : Option ℕ) (y : Option Refusal) (n : ℕ) → ((answer_from y n).number ≡ 0 → y ≡ none) → (answer_from (or_else (refusal (suc k) p) y) n).number ≡ 0 → or_else (refusal (suc k) p) y ≡ none
-own_or k none y n f h = f h
-own_or k (some x) y n f h = absurd (omega (arith, h))
+own_or : (k : ℕ) (p : Option ℕ) (y : Option Refusal) (n : ℕ) → ((answer_from y n).number ≡ 0 → y ≡ None) → (answer_from (or_else (refusal (suc k) p) y) n).number ≡ 0 → or_else (refusal (suc k) p) y ≡ None
+own_or k None y n f h = f h
+own_or k (Some x) y n f h = absurd (omega (arith, h))
 
-own_last : (k : ℕ) (p : Option ℕ) (n : ℕ) → (answer_from (refusal (suc k) p) n).number ≡ 0 → refusal (suc k) p ≡ none
-own_last k none n h = refl
-own_last k (some x) n h = absurd (omega (arith, h))
+own_last : (k : ℕ) (p : Option ℕ) (n : ℕ) → (answer_from (refusal (suc k) p) n).number ≡ 0 → refusal (suc k) p ≡ None
+own_last k None n h = refl
+own_last k (Some x) n h = absurd (omega (arith, h))
 
 pub own-numbered : (w h : ℕ) (spans : List ℕ) (pass : ℕ) (boundaries anchors : List ℕ) (output n : ℕ)
-    → (answer_from (own_refusal w h spans pass boundaries anchors output) n).number ≡ 0 → own_refusal w h spans pass boundaries anchors output ≡ none
+    → (answer_from (own_refusal w h spans pass boundaries anchors output) n).number ≡ 0 → own_refusal w h spans pass boundaries anchors output ≡ None
 unfolding own_refusal
 own-numbered w h spans pass boundaries anchors output n =
     own_or 2 (unless (is_whole numbers_per_boundary boundaries && is_whole numbers_per_anchor anchors)) _ n
@@ -118,16 +118,16 @@ own-numbered w h spans pass boundaries anchors output n =
     (own_or 7 (anchors_fault w h anchors) _ n (own_last 9 (unless (output_room (length boundaries / numbers_per_boundary) output)) n)))))
 
 -- an answer that is not 0 is its refusal
-pub refused_is : (x : Option Refusal) (number place : ℕ) → ◌≡◌ {A = Answer} (record { number = number; value = place }) (answer_from x 0) → (number ≡ 0 → ⊥) → x ≡ some (record { number = number; place = place })
-refused_is none number place e positive = absurd (positive (ap (λ (a : Answer). a.number) e))
-refused_is (some r) number place e positive = λ i. some (record { number = sym (ap (λ (a : Answer). a.number) e) i; place = sym (ap (λ (a : Answer). a.value) e) i })
+pub refused_is : (x : Option Refusal) (number place : ℕ) → ◌≡◌ {A = Answer} (record { number = number; value = place }) (answer_from x 0) → (number ≡ 0 → ⊥) → x ≡ Some (record { number = number; place = place })
+refused_is None number place e positive = absurd (positive (ap (λ (a : Answer). a.number) e))
+refused_is (Some r) number place e positive = λ i. Some (record { number = sym (ap (λ (a : Answer). a.number) e) i; place = sym (ap (λ (a : Answer). a.value) e) i })
 
-neither : (x y : Option Refusal) (n : ℕ) → ((answer_from x 0).number ≡ 0 → x ≡ none) → ((answer_from y n).number ≡ 0 → y ≡ none) → (answer_from (or_else x y) n).number ≡ 0 → (x ≡ none) × (y ≡ none)
-neither none y n f g h = (refl, g h)
-neither (some r) y n f g h = absurd (true≢false (ap found (f h)))
+neither : (x y : Option Refusal) (n : ℕ) → ((answer_from x 0).number ≡ 0 → x ≡ None) → ((answer_from y n).number ≡ 0 → y ≡ None) → (answer_from (or_else x y) n).number ≡ 0 → (x ≡ None) × (y ≡ None)
+neither None y n f g h = (refl, g h)
+neither (Some r) y n f g h = absurd (true≢false (ap found (f h)))
 
 -- a desk that is answered 0 meets no refusal
-pub answered-passes : (S : Shared) (D : Desk) → (desk_answer S D).number ≡ 0 → (shared_refusal S ≡ none) × (desk_refusal S D ≡ none)
+pub answered-passes : (S : Shared) (D : Desk) → (desk_answer S D).number ≡ 0 → (shared_refusal S ≡ None) × (desk_refusal S D ≡ None)
 unfolding desk_answer
 answered-passes S D h =
     neither (shared_refusal S) (desk_refusal S D) _ (shared-numbered S)

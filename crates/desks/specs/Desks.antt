@@ -1,7 +1,7 @@
 -- Two desks over one partition (document 02, request 9): what they share, what is a desk's own, the answer to each desk and every list at exit. Quotations are of the
 -- request. Assumes nothing.
 use Rattle.std.specs.Prelude.{ℕ, ◌*◌, ◌/◌, max, ◌≡◌, Bool, ◌&&◌, ◌||◌, List, [], length, eqb, ltb}
-use Rattle.std.proofs.Math.Option.{Option, none, some}
+use Rattle.std.specs.Prelude.{Option, None, Some}
 use Rattle.definitions.specs.Limits.{numbers_per_span, numbers_per_boundary, numbers_per_anchor}
 use Rattle.definitions.specs.Grid.{Segment, segment_at}
 use Rattle.definitions.specs.RegionRecord.{Region}
@@ -113,8 +113,8 @@ first_of S D = or_else (shared_refusal S) (desk_refusal S D)
 -- ---- answers and lists at exit
 
 abbrev pub answer_from : Option Refusal → ℕ → Answer
-answer_from none count = record { number = 0; value = count }
-answer_from (some r) count = record { number = r.number; value = r.place }
+answer_from None count = record { number = 0; value = count }
+answer_from (Some r) count = record { number = r.number; value = r.place }
 
 -- the answer to a desk: a refusal, or how many rows are kept. The other desk does not occur.
 unfoldable pub desk_answer : Shared → Desk → Answer
@@ -122,8 +122,8 @@ unfolding shared_refusal own_refusal rows_of map_in
 desk_answer S D = answer_from (first_of S D) (length (rows_of D.pass (map_in (alone S D))))
 
 abbrev pub output_from : Option Refusal → List ℕ → List ℕ → List ℕ
-output_from none new old = overwrite new old
-output_from (some r) new old = old
+output_from None new old = overwrite new old
+output_from (Some r) new old = old
 
 -- its output: the rows kept, or "as it was"
 unfoldable pub desk_output : Shared → Desk → List ℕ

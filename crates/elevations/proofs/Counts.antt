@@ -2,7 +2,7 @@
 use Prim.Native.Nat.{ℕ, zero, suc, ◌*◌, ◌/◌, ◌%◌, ◌≤◌}
 use native.Mathlib.Omega.{arith}
 use mathlib.Core.Path.{◌≡◌, refl, ap, ◌∙◌}
-use mathlib.Core.Option.{Option, none, some}
+use Rattle.std.specs.Prelude.{Option, None, Some}
 use mathlib.Core.List.{List, [], ◌∷◌}
 use lib.ListN.{get_or}
 use Rattle.definitions.specs.RegionRecord.{Share, Dominance, most_common_elevation, share_of, dominance_of}
@@ -14,12 +14,12 @@ each_below ha hb hc hd (suc (suc zero)) = hc
 each_below ha hb hc hd (suc (suc (suc zero))) = hd
 each_below ha hb hc hd (suc (suc (suc (suc e)))) = omega arith
 
-pub share_some : (count n : ℕ) → (n ≡ 0 → ⊥) → some (record { percent = count * 100 / n; remainder = count * 100 % n }) ≡ share_of count n
+pub share_some : (count n : ℕ) → (n ≡ 0 → ⊥) → Some (record { percent = count * 100 / n; remainder = count * 100 % n }) ≡ share_of count n
 unfolding share_of
 share_some count zero l = absurd (l refl)
 share_some count (suc n) l = refl
 
-pub share_none : (count n : ℕ) → n ≡ 0 → none ≡ share_of count n
+pub share_none : (count n : ℕ) → n ≡ 0 → None ≡ share_of count n
 unfolding share_of
 share_none count zero l = refl
 share_none count (suc n) l = absurd (omega (arith, l))

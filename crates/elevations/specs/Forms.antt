@@ -1,6 +1,6 @@
 -- What the declared types say, in the words of RegionRecord: for each case of `Share` the paper's values, and the answer for C. Definitions only; assumes nothing.
 use Rattle.std.specs.Prelude.{ℕ, Bool, true, false}
-use Rattle.std.proofs.Math.Option.{Option, none, some}
+use Rattle.std.specs.Prelude.{Option, None, Some}
 use Rattle.definitions.specs.RegionRecord as def
 use Rattle.elevations.specs.declared.Share.{Share}
 use Rattle.elevations.specs.declared.Share.TheVariants as share
@@ -12,8 +12,8 @@ abbrev pub max_count : ℕ
 max_count = 0xFFFFFFFF
 
 abbrev pub share_form : Share → Option def.Share
-share_form share.None = none
-share_form (share.Of p r) = some (record { percent = p; remainder = r })
+share_form share.None = None
+share_form (share.Of p r) = Some (record { percent = p; remainder = r })
 
 abbrev pub dominance_form : Dominance → def.Dominance
 dominance_form d = record { elevation = d.elevation; share = share_form d.share }
@@ -21,17 +21,17 @@ dominance_form d = record { elevation = d.elevation; share = share_form d.share 
 -- ---- for C
 
 abbrev pub has_share_lem : Option def.Share → Bool
-has_share_lem none = false
-has_share_lem (some h) = true
+has_share_lem None = false
+has_share_lem (Some h) = true
 
 -- 0 where there is no share
 abbrev pub percent_of : Option def.Share → ℕ
-percent_of none = 0
-percent_of (some h) = h.percent
+percent_of None = 0
+percent_of (Some h) = h.percent
 
 abbrev pub remainder_of : Option def.Share → ℕ
-remainder_of none = 0
-remainder_of (some h) = h.remainder
+remainder_of None = 0
+remainder_of (Some h) = h.remainder
 
 abbrev pub answer_of : def.Dominance → ElevationsAnswer
 answer_of d = record { elevation = d.elevation; has_share = has_share_lem d.share; percent = percent_of d.share; remainder = remainder_of d.share }

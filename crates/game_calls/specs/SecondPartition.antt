@@ -4,7 +4,7 @@
 use Rattle.std.specs.Prelude.{ℕ, ◌*◌, ◌/◌, ◌≤◌, ◌<◌, max, ◌≡◌, refl, Bool, true, false, not, ◌&&◌, get_or, ltb, leb}
 use Rattle.std.proofs.Common.{arith, ◌∙◌}
 use Rattle.std.proofs.Math.Path.{sym, ap, ap₂, subst}
-use Rattle.std.proofs.Math.Option.{none}
+use Rattle.std.specs.Prelude.{None}
 use mathlib.Core.List.{List, map, map-map}
 use Rattle.std.proofs.Math.ListN.{length}
 use borrow.Author.Tests.{ltb-true, ltb-false, leb-true, le-leb}
@@ -30,7 +30,7 @@ use Rattle.rest.specs.FewerPairs.{Fewer, passed-fewer}
 use Rattle.rest.specs.InnerCalls.{RestChecked, lent-count, lent-boundary, agrees, agree, spans-enough, lent-span}
 use Rattle.game_calls.specs.KeptGraph.{kept_numbers, graph_map}
 
-module _ (L : Lent) (A : Accepted L) (E : lists_fault L.spans L.boundaries ≡ none) where
+module _ (L : Lent) (A : Accepted L) (E : lists_fault L.spans L.boundaries ≡ None) where
   abbrev M : Map
   M = map_in L
 
@@ -110,13 +110,13 @@ module _ (L : Lent) (A : Accepted L) (E : lists_fault L.spans L.boundaries ≡ n
 
   -- ---- "16 as for running to rest [..]; 23 [..], 24": no 11 and no 12 comes between them
 
-  pub second-records : records_fault L K ≡ none
+  pub second-records : records_fault L K ≡ None
   unfolding records_fault
   second-records =
       let first = leb-true (region_count M) (length L.records) (no_fault_lem (leb (region_count M) (length L.records)) 0 A.records) in
       ap (λ b. unless b) (le-leb (region_count K) (length L.records) (omega (arith, first, second-fewer.regions)))
 
-  pub second-pairs : pairs_fault L K ≡ none
+  pub second-pairs : pairs_fault L K ≡ None
   unfolding pairs_fault
   second-pairs =
       let room = length L.pairs / 3 * 3 in

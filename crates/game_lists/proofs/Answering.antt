@@ -5,7 +5,7 @@ use Prim.Native.Nat.{ℕ, zero, suc, ◌*◌, ◌/◌, ◌≤◌}
 use native.Mathlib.Omega.{arith}
 use mathlib.Core.Path.{◌≡◌, refl, sym, ap, ap₂, subst, ◌∙◌}
 use mathlib.Core.Bool.{Bool, true, false, not, ◌&&◌, cond}
-use mathlib.Core.Option.{Option, none, some}
+use Rattle.std.specs.Prelude.{Option, None, Some}
 use mathlib.Core.List.{List, [], ◌∷◌}
 use lib.ListN.{length, replicate}
 use lib.Dec.{eqb, leb}
@@ -40,18 +40,18 @@ use Rattle.game_lists.specs.Forms.{late_answer}
 
 -- a refusal whose number is not 0 and leaves all lists as they were
 unfoldable pub Leaves : Option Refusal → Type 0
-Leaves none = Unit
-Leaves (some x) = (eqb x.number 0 ≡ false) × (game_stage x.number ≡ untouched)
+Leaves None = Unit
+Leaves (Some x) = (eqb x.number 0 ≡ false) × (game_stage x.number ≡ untouched)
 
 leaves_or : (a b : Option Refusal) → Leaves a → Leaves b → Leaves (or_else a b)
 unfolding Leaves
-leaves_or none b h k = k
-leaves_or (some x) b h k = h
+leaves_or None b h k = k
+leaves_or (Some x) b h k = h
 
 leaves-refusal : (number : ℕ) (o : Option ℕ) → eqb number 0 ≡ false → game_stage number ≡ untouched → Leaves (refusal number o)
 unfolding Leaves
-leaves-refusal number none g h = tt
-leaves-refusal number (some place) g h = (g, h)
+leaves-refusal number None g h = tt
+leaves-refusal number (Some place) g h = (g, h)
 
 leaves_only : (b : Bool) (x : Refusal) → eqb x.number 0 ≡ false → game_stage x.number ≡ untouched → Leaves (only_if b x)
 unfolding Leaves
@@ -74,9 +74,9 @@ spans_leave w h spans =
 -- 23, 24 and success leave the lists alike
 late-stage : (a b : Option ℕ) (kept regions : ℕ) → game_stage (with_regions (first_refusal (refusal 23 a ∷ refusal 24 b ∷ []) kept) regions).number ≡ complete
 unfolding game_stage stage_of
-late-stage (some x) b kept regions = refl
-late-stage none (some x) kept regions = refl
-late-stage none none kept regions = refl
+late-stage (Some x) b kept regions = refl
+late-stage None (Some x) kept regions = refl
+late-stage None None kept regions = refl
 
 pub late_complete : (kept regions goal : ℕ) → game_stage (late_answer kept regions goal).number ≡ complete
 late_complete kept regions goal = late-stage (graph_fault regions) (goal_fault regions goal) kept regions
@@ -85,16 +85,16 @@ late_complete kept regions goal = late-stage (graph_fault regions) (goal_fault r
 
 -- a check that is made twice, before and behind another
 twice : (a b c d e : Option Refusal) → or_else a (or_else b (or_else (or_else a (or_else c d)) e)) ≡ or_else a (or_else b (or_else c (or_else d e)))
-twice (some x) b c d e = refl
-twice none (some x) c d e = refl
-twice none none (some x) d e = refl
-twice none none none d e = refl
+twice (Some x) b c d e = refl
+twice None (Some x) c d e = refl
+twice None None (Some x) d e = refl
+twice None None None d e = refl
 
 four : (a b c d e : Option Refusal) → or_else (or_else a (or_else b (or_else c d))) e ≡ or_else a (or_else b (or_else c (or_else d e)))
-four (some x) b c d e = refl
-four none (some x) c d e = refl
-four none none (some x) d e = refl
-four none none none d e = refl
+four (Some x) b c d e = refl
+four None (Some x) c d e = refl
+four None None (Some x) d e = refl
+four None None None d e = refl
 
 -- 10 of two tests
 both-rooms : (a b : Bool) → or_else (refusal 10 (unless a)) (refusal 10 (unless b)) ≡ refusal 10 (unless (a && b))
@@ -103,11 +103,11 @@ both-rooms false b = refl
 
 -- what no refusal before the first partition says
 pub record Past (pass w h : ℕ) (cells spans boundaries anchors : List ℕ) (l m q t o v : ℕ) : Type 0 where
-  pub early : none ≡ early_refusal pass w h cells spans boundaries anchors l m q t o
-  pub lists : lists_fault spans boundaries ≡ none
+  pub early : None ≡ early_refusal pass w h cells spans boundaries anchors l m q t o
+  pub lists : lists_fault spans boundaries ≡ None
   pub enough : verdicts_room ≤ v
 
-pub all_past : (pass w h : ℕ) (cells spans boundaries anchors : List ℕ) (l m q t o v : ℕ) → none ≡ game_early pass w h cells spans boundaries anchors l m q t o v
+pub all_past : (pass w h : ℕ) (cells spans boundaries anchors : List ℕ) (l m q t o v : ℕ) → None ≡ game_early pass w h cells spans boundaries anchors l m q t o v
     → Past pass w h cells spans boundaries anchors l m q t o v
 unfolding game_early
 all_past pass w h cells spans boundaries anchors l m q t o v e =
@@ -207,11 +207,11 @@ module _ (pass w h : ℕ) (cells spans boundaries anchors l m q t p : List ℕ) 
       (leaves_or _ _ (leaves-refusal 8 (anchors_fault w h anchors) refl refl)
       (leaves_or _ _ (leaves-refusal 9 (elevations_fault cells) refl refl) (leaves-refusal 10 (unless (room && leb verdicts_room (length v))) refl refl)))))))))
 
-  untouched_by : (number place : ℕ) → some (record { number = number; place = place }) ≡ early → (eqb number 0 ≡ false) × (game_stage number ≡ untouched)
+  untouched_by : (number place : ℕ) → Some (record { number = number; place = place }) ≡ early → (eqb number 0 ≡ false) × (game_stage number ≡ untouched)
   unfolding Leaves
   untouched_by number place e = subst Leaves (sym early-parts ∙ sym e) early-leaves
 
-  pub played-refused : (number place : ℕ) → some (record { number = number; place = place }) ≡ early
+  pub played-refused : (number place : ℕ) → Some (record { number = number; place = place }) ≡ early
       → Played L goal v (record { number = number; value = place; regions = 0 }) l m q t p s o v
   unfolding game_exit verdicts_at_exit
   played-refused number place e =
@@ -232,8 +232,8 @@ module _ (pass w h : ℕ) (cells spans boundaries anchors l m q t p : List ℕ) 
 
   -- ---- past the checks
 
-  module _ (e : none ≡ early) where
-    past : none ≡ early_refusal pass w h cells spans boundaries anchors (length l) (length m) (length q) (length t) (length o)
+  module _ (e : None ≡ early) where
+    past : None ≡ early_refusal pass w h cells spans boundaries anchors (length l) (length m) (length q) (length t) (length o)
     past = (all_past pass w h cells spans boundaries anchors (length l) (length m) (length q) (length t) (length o) (length v) e).early
 
     verdict-past : game_verdict L goal (length v) ≡ with_regions (first_refusal late kept) regions
@@ -262,9 +262,9 @@ module _ (pass w h : ℕ) (cells spans boundaries anchors l m q t p : List ℕ) 
     answers-late : (a b : Option ℕ) (rest : List (Option Refusal)) (number place : ℕ) → 1 ≤ number
         → record { number = number; value = place } ≡ first_refusal (refusal 11 a ∷ refusal 12 b ∷ []) kept
         → Same number × (record { number = number; value = place } ≡ first_refusal (refusal 11 a ∷ refusal 12 b ∷ rest) kept)
-    answers-late (some x) b rest number place Some-number r = (subst Same (sym (ap (λ (a : Answer). a.number) r)) same_11, r)
-    answers-late none (some x) rest number place Some-number r = (subst Same (sym (ap (λ (a : Answer). a.number) r)) same_12, r)
-    answers-late none none rest number place Some-number r = absurd (omega (arith, Some-number, ap (λ (a : Answer). a.number) r))
+    answers-late (Some x) b rest number place Some-number r = (subst Same (sym (ap (λ (a : Answer). a.number) r)) same_11, r)
+    answers-late None (Some x) rest number place Some-number r = (subst Same (sym (ap (λ (a : Answer). a.number) r)) same_12, r)
+    answers-late None None rest number place Some-number r = absurd (omega (arith, Some-number, ap (λ (a : Answer). a.number) r))
 
     pub played-late : {number place : ℕ} {l' m' q' t' p' : List ℕ} → 1 ≤ number → Ran L (record { number = number; value = place }) l' m' q' t' p' s o
         → Played L goal v (record { number = number; value = place; regions = 0 }) l' m' q' t' p' s o v

@@ -4,7 +4,7 @@ use Prim.Native.Nat.{ℕ, ◌*◌, ◌/◌, ◌≤◌}
 use native.Mathlib.Omega.{arith}
 use mathlib.Core.Path.{◌≡◌, sym, ap, ap₂, subst, ◌∙◌}
 use mathlib.Core.Bool.{Bool, ◌&&◌}
-use mathlib.Core.Option.{none}
+use Rattle.std.specs.Prelude.{None}
 use mathlib.Core.List.{List}
 use lib.ListN.{length, replicate, length-map, length-replicate}
 use lib.Dec.{leb}
@@ -73,7 +73,7 @@ module _ (L : Lent) {removed : List Bool} {rows room : ℕ} {l m q t p : List �
   kept-are e = e ∙ left-spans L D.accepted D.lists removed D.marked
 
   module _ (kept t₁ p₁ : List ℕ) (are : kept ≡ flat_spans K.spans) (longT : length t₁ ≡ length t) (longP : length p₁ ≡ length p) where
-    early : none ≡ early_refusal 1 L.width L.height L.cells kept bs L.anchors (length l) (length m) (length q) (length t₁) 1280
+    early : None ≡ early_refusal 1 L.width L.height L.cells kept bs L.anchors (length l) (length m) (length q) (length t₁) 1280
     early =
         second-early L D.accepted D.lists (length l) (length m) (length q) (length t₁) D.labels_long D.masks_long D.queue_long_lem (longT ∙ D.tallies_long)
         ∙ ap (λ k. early_refusal 1 L.width L.height L.cells k bs L.anchors (length l) (length m) (length q) (length t₁) 1280) (sym are)

@@ -4,7 +4,7 @@ use Prim.Native.Nat.{ℕ, zero, suc, ◌+◌, ◌*◌, ◌/◌, ◌%◌, ◌≤�
 use native.Mathlib.Omega.{arith}
 use mathlib.Core.Path.{◌≡◌, refl, sym, ap, ap₂, ◌∙◌}
 use mathlib.Core.Bool.{Bool, true, false, not, ◌&&◌, cond}
-use mathlib.Core.Option.{none}
+use Rattle.std.specs.Prelude.{None}
 use mathlib.Core.List.{List, [], ◌∷◌, ◌++◌, map-map, append-nil}
 use lib.ListN.{length, get_or, take, drop, length-append, get_or-append}
 use lib.Seq.{sets, take-length, take-append_seam}
@@ -91,7 +91,7 @@ module _ (spans old : List ℕ) (removed : List Bool) where
   pub few-kept : {r : ℕ} → r ≡ left_count removed (length spans / 4) → r ≤ length spans / 4
   few-kept e = omega (arith, e, left-few removed 4 spans (length spans / 4) (omega arith) (length spans / 4))
 
-module _ (L : Lent) (A : Accepted L) (E : lists_fault L.spans L.boundaries ≡ none) where
+module _ (L : Lent) (A : Accepted L) (E : lists_fault L.spans L.boundaries ≡ None) where
   abbrev M : Map
   M = map_in L
 
@@ -186,7 +186,7 @@ module _ (L : Lent) (A : Accepted L) (E : lists_fault L.spans L.boundaries ≡ n
   unfolding graph_map span_of
   span_same i k = span_at_lem K.spans i (omega (arith, spans-kept)) ∙ kept-endpoints M ps i k ∙ ap (λ b. b.endpoints) (kept-boundary M ps i k)
 
-  span_fits : (i : ℕ) → i < length ps → span_refusal w h (flat_spans K.spans) i ≡ none
+  span_fits : (i : ℕ) → i < length ps → span_refusal w h (flat_spans K.spans) i ≡ None
   span_fits i k =
       let n = get_or ps i 0 in
       let C = rest-checked L A E in
@@ -196,7 +196,7 @@ module _ (L : Lent) (A : Accepted L) (E : lists_fault L.spans L.boundaries ≡ n
       number : ℕ → ℕ → Refusal
       number n i = record { number = n; place = i }
 
-  spans_fit : spans_refusal w h (flat_spans K.spans) ≡ none
+  spans_fit : spans_refusal w h (flat_spans K.spans) ≡ None
   unfolding spans_refusal
   spans_fit = first_none (span_refusal w h (flat_spans K.spans)) (length (flat_spans K.spans) / 4) (λ i l. span_fits i (omega (arith, span_count_lem K.spans, spans-kept)))
 
@@ -205,7 +205,7 @@ module _ (L : Lent) (A : Accepted L) (E : lists_fault L.spans L.boundaries ≡ n
   boundary_fits_lem i k =
       ap (boundary_fits w h) (boundary_at_lem K.boundaries i (omega (arith, boundaries-kept)) ∙ kept-boundary M ps i k) ∙ lent_fits L (rest-checked L A E) (get_or ps i 0) (place_lt i k)
 
-  boundaries-fit : boundaries_fault w h (flat_boundaries K.boundaries) ≡ none
+  boundaries-fit : boundaries_fault w h (flat_boundaries K.boundaries) ≡ None
   unfolding boundaries_fault
   boundaries-fit =
       first_none (λ i. only_if (not (boundary_fits w h (boundary_at (flat_boundaries K.boundaries) (9 * i)))) i) (length (flat_boundaries K.boundaries) / 9)
@@ -231,7 +231,7 @@ module _ (L : Lent) (A : Accepted L) (E : lists_fault L.spans L.boundaries ≡ n
         (le-leb (2 * (length (flat_spans K.spans) / 4)) t (omega (arith, span_count_lem K.spans, spans-kept, kept-few, leb-true (2 * spans) (length L.tallies) q.1, tallies_long))))
         (le-leb (5 * (length (flat_boundaries K.boundaries) / 9)) 1280 (omega (arith, flat.boundary_count_lem K.boundaries, boundaries-kept, kept-few, spans-few)))
 
-    pub second-early : none ≡ early_refusal 1 w h L.cells (flat_spans K.spans) (flat_boundaries K.boundaries) L.anchors l m q t 1280
+    pub second-early : None ≡ early_refusal 1 w h L.cells (flat_spans K.spans) (flat_boundaries K.boundaries) L.anchors l m q t 1280
     unfolding early_refusal sizes_refusal entries_refusal
     second-early =
         next (sym (next (ap (refusal 1) A.sides) (next (ap (refusal 2) A.cells) (next (ap (λ b. refusal 3 (unless b)) whole) refl))))

@@ -1,7 +1,7 @@
 -- The contract of the first part of the call (`GamePreparedAs`), from what its checks and its partition answer. Assumes nothing.
 use Prim.Native.Nat.{ℕ}
 use mathlib.Core.Path.{◌≡◌, sym, ap₂, ◌∙◌}
-use mathlib.Core.Option.{none, some}
+use Rattle.std.specs.Prelude.{None, Some}
 use mathlib.Core.List.{List}
 use lib.ListN.{length}
 use Rattle.areas.specs.Fit.{Fit}
@@ -14,21 +14,21 @@ use Rattle.game_lists.specs.Prepared.{GamePreparedAs}
 use Rattle.game_lists.proofs.Answering.{all_past, played-refused, played-late}
 
 pub lists-fit : (pass w h : ℕ) (cells spans boundaries anchors : List ℕ) (l m q t output verdicts : ℕ)
-    → none ≡ game_early pass w h cells spans boundaries anchors l m q t output verdicts → Fit w h cells spans l m q t
+    → None ≡ game_early pass w h cells spans boundaries anchors l m q t output verdicts → Fit w h cells spans l m q t
 lists-fit pass w h cells spans boundaries anchors l m q t output verdicts e =
     early-fits pass w h cells spans boundaries anchors l m q t output (sym (all_past pass w h cells spans boundaries anchors l m q t output verdicts e).early)
 
 module _ (pass w h : ℕ) (cells spans boundaries anchors : List ℕ) (room output verdicts : ℕ) (l m q t p : List ℕ) where
   -- a check refuses
   pub refused-early : (number place : ℕ)
-      → some (record { number = number; place = place }) ≡ game_early pass w h cells spans boundaries anchors (length l) (length m) (length q) (length t) output verdicts
+      → Some (record { number = number; place = place }) ≡ game_early pass w h cells spans boundaries anchors (length l) (length m) (length q) (length t) output verdicts
       → GamePreparedAs pass w h cells spans boundaries anchors room output verdicts l m q t p (Refused number place) l m q t p
   refused-early number place e goal s o v long wide table =
       played-refused pass w h cells spans boundaries anchors l m q t p s o goal v number place
       (e ∙ ap₂ (game_early pass w h cells spans boundaries anchors (length l) (length m) (length q) (length t)) (sym wide) (sym table))
 
   -- none does
-  module _ (e : none ≡ game_early pass w h cells spans boundaries anchors (length l) (length m) (length q) (length t) output verdicts) where
+  module _ (e : None ≡ game_early pass w h cells spans boundaries anchors (length l) (length m) (length q) (length t) output verdicts) where
     pub prepared_game : (r : Prepared) (l' m' q' t' p' : List ℕ) → DividedAs w h cells spans room l m q t p r l' m' q' t' p' → RefusedLate r
         → GamePreparedAs pass w h cells spans boundaries anchors room output verdicts l m q t p r l' m' q' t' p'
     prepared_game (Refused number place) l' m' q' t' p' D late =

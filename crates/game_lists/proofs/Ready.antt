@@ -3,7 +3,7 @@
 use Prim.Native.Nat.{ℕ, ◌+◌, ◌*◌, ◌/◌, ◌≤◌}
 use native.Mathlib.Omega.{arith}
 use mathlib.Core.Path.{◌≡◌, sym, ap, ◌∙◌}
-use mathlib.Core.Option.{none}
+use Rattle.std.specs.Prelude.{None}
 use mathlib.Core.List.{List, [], ◌∷◌, ◌++◌}
 use lib.ListN.{length, get_or, drop, get_or-append}
 use borrow.Author.Tests.{le-leb}
@@ -20,7 +20,7 @@ use Rattle.game_lists.specs.Prepared.{GameReady}
 
 pub ready-early : {pass w h : ℕ} {cells spans boundaries anchors : List ℕ} {room output verdicts : ℕ} {l m q t p : List ℕ} {regions rows : ℕ} {l' m' q' t' p' : List ℕ}
     → GameReady pass w h cells spans boundaries anchors room output verdicts l m q t p regions rows l' m' q' t' p'
-    → none ≡ game_early pass w h cells spans boundaries anchors (length l) (length m) (length q) (length t) output verdicts
+    → None ≡ game_early pass w h cells spans boundaries anchors (length l) (length m) (length q) (length t) output verdicts
 unfolding game_early early_refusal
 ready-early {pass} {w} {h} {cells} {spans} {boundaries} {anchors} {verdicts = verdicts} G =
     next (or_else_none (sizes_refusal pass w h cells spans boundaries anchors) _ (sym G.ready.accepted)).0

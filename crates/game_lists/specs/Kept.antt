@@ -1,6 +1,6 @@
 -- The words of the contract of `divide_kept`. Definitions only; assumes nothing.
 use Rattle.std.specs.Prelude.{ℕ, ◌*◌, ◌<◌, ◌≡◌, Bool, false, List, length, get_or, drop}
-use Rattle.std.proofs.Math.Option.{none}
+use Rattle.std.specs.Prelude.{None}
 use Rattle.definitions.specs.Limits.{tallies_per_span, numbers_per_pair}
 use Rattle.definitions.specs.Scan.{member}
 use Rattle.definitions.specs.Lists.{overwrite, zeroed}
@@ -39,7 +39,7 @@ lent_of w h cells spans S =
 -- lent to it, and there is as much room for records.
 pub record Divides (L : Lent) (removed : List Bool) (rows room : ℕ) (l m q t p : List ℕ) : Type 0 where
   pub accepted : Accepted L
-  pub lists : lists_fault L.spans L.boundaries ≡ none
+  pub lists : lists_fault L.spans L.boundaries ≡ None
   pub marked : (i : ℕ) → i < length (map_in L).boundaries → get_or removed i false ≡ member i (removed_of L.pass (map_in L))
   pub row_count_lem : numbers_per_pair * rows ≡ length (pair_rows_of (context_of (map_in L)))
   pub records_long : length L.records ≡ room

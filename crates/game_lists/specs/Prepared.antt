@@ -1,7 +1,7 @@
 -- What the first part of the call leaves, before its records are filled: the whole contract where it refuses, and otherwise what the rest goes on from. Definitions
 -- only; assumes nothing.
 use Rattle.std.specs.Prelude.{ℕ, ◌≤◌, ◌≡◌, List, length}
-use Rattle.std.proofs.Math.Option.{none}
+use Rattle.std.specs.Prelude.{None}
 use Rattle.definitions.specs.RegionRecord.{Region}
 use Rattle.call_partition.specs.declared.Prepared.{Prepared}
 use Rattle.call_partition.specs.declared.Prepared.TheVariants.{Refused, Ready}
@@ -15,7 +15,7 @@ use Rattle.game_calls.specs.GameExit.{Played}
 pub record GameReady (pass w h : ℕ) (cells spans boundaries anchors : List ℕ) (room output verdicts : ℕ) (l m q t p : List ℕ) (regions rows : ℕ)
     (l' m' q' t' p' : List ℕ) : Type 0 where
   pub ready : ReadyAs pass w h cells spans boundaries anchors room output l m q t p regions rows l' m' q' t' p'
-  pub lists : lists_fault spans boundaries ≡ none
+  pub lists : lists_fault spans boundaries ≡ None
   pub enough : verdicts_room ≤ verdicts
 
 -- A refusal is the call's, for whatever goal, and records, output and verdicts of these lengths.

@@ -32,11 +32,9 @@ fn sweep(
     ensures swept { Swept near.now regions goal runner.now guard.now runners.new guards.new }
     ensures lengths { (length runners.new ≡ 32) × (length guards.new ≡ 32) }
 {
-    let mut g = 0;
-    while g < regions {
+    for g in 0..regions {
         runners[g] = runner_row(near, regions, goal, guard[g], g);
         guards[g] = guard_row(near, regions, goal, runner, g);
-        g += 1;
     }
 }
 
@@ -72,11 +70,9 @@ fn put_row(old: u32, new: u32, at: usize, rank: u32, ranks: &mut [u32; 2048])
     if old == new {
         return;
     }
-    let mut r = 0;
-    while r < 32 {
+    for r in 0..32 {
         let i = RANKS_PER_RUNNER * r + at;
         ranks[i] = rank_of(old, new, r, ranks[i], rank);
-        r += 1;
     }
 }
 
@@ -94,12 +90,10 @@ fn put_ranks(
         ≡ ranked_by runner.now guard.now runners.now guards.now rank ranks.old i }
     ensures ranks_length { length ranks.new ≡ 2048 }
 {
-    let mut at = 0;
-    while at < RANKS_PER_RUNNER {
+    for at in 0..RANKS_PER_RUNNER {
         let old = set_for(runner, guard, at);
         let new = set_for(runners, guards, at);
         put_row(old, new, at, rank, ranks);
-        at += 1;
     }
 }
 

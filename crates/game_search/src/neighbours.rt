@@ -45,10 +45,8 @@ fn join_selves(near: &mut [u32; 32])
     ensures joined { (i j : ℕ) → i < 32 → j < 32 → bit_at near.new i j ≡ eqb j i }
     ensures near_length { length near.new ≡ 32 }
 {
-    let mut i = 0;
-    while i < 32 {
+    for i in 0..32 {
         near[i] = 1 << i;
-        i += 1;
     }
 }
 
@@ -60,10 +58,8 @@ pub fn find_neighbours(regions: usize, pairs: &[u32], near: &mut [u32; 32])
 {
     join_selves(near);
     let count = pairs.len() / 2;
-    let mut k = 0;
-    while k < count {
+    for k in 0..count {
         join_pair(near, regions, pairs[2 * k], pairs[2 * k + 1]);
-        k += 1;
     }
 }
 
@@ -74,9 +70,7 @@ pub fn find_row_neighbours(regions: usize, rows: &[u32], count: usize, near: &mu
     ensures near_length { length near.new ≡ 32 }
 {
     join_selves(near);
-    let mut k = 0;
-    while k < count {
+    for k in 0..count {
         join_pair(near, regions, rows[3 * k + 1], rows[3 * k + 2]);
-        k += 1;
     }
 }

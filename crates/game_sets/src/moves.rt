@@ -19,10 +19,8 @@ pub fn runner_row(near: &[u32; 32], regions: usize, goal: usize, set: u32, g: us
     ensures { (j : ℕ) → j < regions → has_bit result j ≡ runner_bit near.now goal set g j }
 {
     let mut row = 0;
-    let mut r = 0;
-    while r < regions {
+    for r in 0..regions {
         row = with_if(row, r, runner_wins(near, goal, set, g, r));
-        r += 1;
     }
     row
 }
@@ -33,10 +31,8 @@ pub fn guard_row(near: &[u32; 32], regions: usize, goal: usize, sets: &[u32; 32]
     ensures { (j : ℕ) → j < 32 → has_bit result j ≡ guard_bit near.now regions goal sets.now g j }
 {
     let mut row = 0xFFFF_FFFF;
-    let mut d = 0;
-    while d < regions {
+    for d in 0..regions {
         row = common_if(row, sets[d], has(near[g], d));
-        d += 1;
     }
     with_if(row, goal, g != goal)
 }

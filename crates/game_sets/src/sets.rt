@@ -52,12 +52,10 @@ pub fn meet(a: u32, b: u32) -> bool
 pub fn are_same(a: &[u32; 32], b: &[u32; 32]) -> bool
     ensures { result ≡ all_below 32 (λ i. eqb (get_or a.now i 0) (get_or b.now i 0)) }
 {
-    let mut i = 0;
-    while i < 32 {
+    for i in 0..32 {
         if a[i] != b[i] {
             return false;
         }
-        i += 1;
     }
     true
 }

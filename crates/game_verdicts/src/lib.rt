@@ -160,8 +160,7 @@ pub fn put_verdicts(
         verdicts.new ≡ sets verdicts.old 0 (verdicts_by G ranks.now (place_count regions)) }
 {
     let count = 2 * (regions * regions);
-    let mut c = 0;
-    while c < count {
+    for c in 0..count {
         let v = verdict_at(
             near,
             ranks,
@@ -172,6 +171,5 @@ pub fn put_verdicts(
             c % 2,
         );
         put_verdict(verdicts, 3 * c, v);
-        c += 1;
     }
 }

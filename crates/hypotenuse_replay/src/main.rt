@@ -54,10 +54,8 @@ fn number(s: &[u8], base: u64) -> u64
     ensures { result ≡ digits_after base 0 s.now }
 {
     let mut n = 0;
-    let mut i = 0;
-    while i < s.len() {
+    for i in 0..s.len() {
         n = n * base + digit(s[i]);
-        i += 1;
     }
     n
 }
@@ -152,14 +150,12 @@ fn replay<W: Write>(output: &mut W, s: &[u8], before: Tally) -> io::Result<Tally
     let mut lines = before.lines;
     let mut answers = before.answers;
     let mut start = 0;
-    let mut i = 0;
-    while i < s.len() {
+    for i in 0..s.len() {
         if s[i] == NEWLINE {
             lines += 1;
             answers += replay_line(output, &s[start..i], lines, answers)?;
             start = i + 1;
         }
-        i += 1;
     }
     Ok(Tally {
         lines,
@@ -172,10 +168,8 @@ fn replay<W: Write>(output: &mut W, s: &[u8], before: Tally) -> io::Result<Tally
 fn move_down(s: &mut [u8], a: usize, e: usize)
     requires { (a ≤ e) × (e ≤ length s.old) }
 {
-    let mut i = a;
-    while i < e {
+    for i in a..e {
         s[i - a] = s[i];
-        i += 1;
     }
 }
 

@@ -4,7 +4,7 @@ use Prim.Native.Nat.{ℕ, zero, suc, ◌≤◌, ◌<◌}
 use native.Mathlib.Omega.{arith}
 use mathlib.Core.Path.{◌≡◌, refl, sym, ap, ap₂, subst, ◌∙◌}
 use mathlib.Core.Bool.{Bool, true, false, not, ◌&&◌, ◌||◌, cond, or-false, and-false}
-use mathlib.Core.Option.{Option, none, some}
+use Rattle.std.specs.Prelude.{Option, None, Some}
 use mathlib.Core.List.{List, [], ◌∷◌, ◌++◌, append-nil, append_assoc}
 use lib.Dec.{eqb, ltb}
 use borrow.Author.Tests.{eq-eqb, ltb-true, ne_eqb, eqb-true, lt-ltb, not-true}
@@ -131,19 +131,19 @@ module _ (C : Context) (S : Sound C) where
       let g = first_two (not (no_ramp C a)) (not (no_ramp C b)) (full_cut C a) (full_cut C b) (eqb (C.boundary a).ramp_id (C.boundary b).ramp_id) (not (eqb (C.boundary a).kind (C.boundary b).kind)) q in
       record { from = from; cand = c; first = w.0.0; second = w.0.1; differ = λ z. omega (arith, w.1); first_ramp = not-true (no_ramp C a) g.0; second_ramp = not-true (no_ramp C b) g.1 }
 
-  no_some : {p : InteriorProposal} → none ≡ some p → ⊥
+  no_some : {p : InteriorProposal} → None ≡ Some p → ⊥
   no_some e =
       let z : ◌≡◌ {A = ℕ} 0 1 = cc in
       omega arith
 
-  made : (n : ℕ) (p : InteriorProposal) → interior_proposal C (components C) (suc n) ≡ some p → Made (suc n) p
+  made : (n : ℕ) (p : InteriorProposal) → interior_proposal C (components C) (suc n) ≡ Some p → Made (suc n) p
   unfolding interior_proposal interior_from
   made n p h = go (candidate C (suc n)) refl h
     where
       r : ℕ
       r = suc n
 
-      from_list : candidate C r ≡ true → (l : List ℕ) → component_ports C (components C) r ≡ l → interior_from C (component_regions C (components C) r) (edges_of C (components C) r) l ≡ some p → Made r p
+      from_list : candidate C r ≡ true → (l : List ℕ) → component_ports C (components C) r ≡ l → interior_from C (component_regions C (components C) r) (edges_of C (components C) r) l ≡ Some p → Made r p
       from_list c [] e k = absurd (no_some k)
       from_list c (a ∷ []) e k = absurd (no_some k)
       from_list c (a ∷ b ∷ d ∷ l) e k = absurd (no_some k)
@@ -152,7 +152,7 @@ module _ (C : Context) (S : Sound C) where
           found : InteriorProposal
           found = record { regions = (expanded_of C r a b).regions; edges = edges_of C (components C) r; first_port = a; second_port = b }
 
-          pick : (f : Bool) → ports_fit C a b ≡ f → (v : Bool) → (expanded_of C r a b).valid ≡ v → (x y : Bool) → only_if (f && v && x && y) found ≡ some p → Made r p
+          pick : (f : Bool) → ports_fit C a b ≡ f → (v : Bool) → (expanded_of C r a b).valid ≡ v → (x y : Bool) → only_if (f && v && x && y) found ≡ Some p → Made r p
           pick false q v u x y m = absurd (no_some m)
           pick true q false u x y m = absurd (no_some m)
           pick true q true u false y m = absurd (no_some m)
@@ -168,7 +168,7 @@ module _ (C : Context) (S : Sound C) where
                 edges = sym (ap (λ z. z.edges) same);
               }
 
-      go : (b : Bool) → candidate C r ≡ b → cond b (interior_from C (component_regions C (components C) r) (edges_of C (components C) r) (component_ports C (components C) r)) none ≡ some p → Made r p
+      go : (b : Bool) → candidate C r ≡ b → cond b (interior_from C (component_regions C (components C) r) (edges_of C (components C) r) (component_ports C (components C) r)) None ≡ Some p → Made r p
       go false c k = absurd (no_some k)
       go true c k = from_list c (component_ports C (components C) r) refl k
 
@@ -219,12 +219,12 @@ module _ (C : Context) (S : Sound C) where
       older : (p : InteriorProposal) → MadeUpto n p → MadeUpto (suc n) p
       older p m = (m.0, (omega (arith, m.1.0), m.1.1))
 
-      free : (p q : InteriorProposal) → MadeUpto n p → interior_proposal C (components C) (suc n) ≡ some q → Free p q
+      free : (p q : InteriorProposal) → MadeUpto n p → interior_proposal C (components C) (suc n) ≡ Some q → Free p q
       free p q m e = (made-free p q m.1.1 (made n q e) (λ d. omega (arith, m.1.0, d)), made-free q p (made n q e) m.1.1 (λ d. omega (arith, m.1.0, d)))
 
       go : (o : Option InteriorProposal) → found_at n ≡ o → All (MadeUpto n) (collect n found_at) × Apart Free turned (collect n found_at) → All (MadeUpto (suc n)) (collect n found_at ++ to_list o) × Apart Free turned (collect n found_at ++ to_list o)
-      go none e w = subst (λ l. All (MadeUpto (suc n)) l × Apart Free turned l) (sym (append-nil (collect n found_at))) (all_map older w.0, w.1)
-      go (some q) e w = (all_append (all_map older w.0) (more (suc n, (omega arith, made n q e)) done), apart_last Free turned q w.1 (all_map (λ p m. free p q m e) w.0))
+      go None e w = subst (λ l. All (MadeUpto (suc n)) l × Apart Free turned l) (sym (append-nil (collect n found_at))) (all_map older w.0, w.1)
+      go (Some q) e w = (all_append (all_map older w.0) (more (suc n, (omega arith, made n q e)) done), apart_last Free turned q w.1 (all_map (λ p m. free p q m e) w.0))
 
   -- every proposal is taken
   pub taken_is : taken C ≡ sort (ranks_before C) (proposals C)
@@ -259,8 +259,8 @@ module _ (C : Context) (S : Sound C) where
     owned-edge k m = go (found_at k) refl
       where
         go : (x : Option InteriorProposal) → found_at k ≡ x → any (λ p. member i p.edges) (to_list x) ≡ (any (λ p. true) (to_list x) && eqb v (suc k))
-        go none e = refl
-        go (some p) e =
+        go None e = refl
+        go (Some p) e =
             let w = made k p e in
             or-false (member i p.edges) ∙ ap (member i) w.edges ∙ edge_of (suc k) i ∙ ap (λ b. b && edge C (suc k) i) (lt-ltb i C.count l)
             ∙ sym (edge-owned C (suc k) i (omega arith) (omega arith) o (candidate_unspoilt C (suc k) w.fit.cand i l))
@@ -306,6 +306,6 @@ module _ (C : Context) (S : Sound C) where
       listed (a ∷ b ∷ []) = only (found a b) (ports_fit C a b) (expanded_of C r a b).valid (any (λ q. has_ramp (C.region q)) (expanded_of C r a b).regions) (all (region_fits C a b) (expanded_of C r a b).regions) (ports.Two a b) refl
       listed (a ∷ b ∷ c ∷ l) = refl
 
-      go : (t : Bool) → any (λ p. true) (to_list (cond t (interior_from C (component_regions C (components C) r) (edges_of C (components C) r) (component_ports C (components C) r)) none)) ≡ records_fit C r (cond t (fitting_ports C r (component_ports C (components C) r)) ports.Other)
+      go : (t : Bool) → any (λ p. true) (to_list (cond t (interior_from C (component_regions C (components C) r) (edges_of C (components C) r) (component_ports C (components C) r)) None)) ≡ records_fit C r (cond t (fitting_ports C r (component_ports C (components C) r)) ports.Other)
       go true = listed (component_ports C (components C) r)
       go false = refl

@@ -24,14 +24,12 @@ fn any_anchored(marks: &[u16], pairs: &[u32], first: usize, end: usize) -> bool
     requires { Walkable pairs.now first end (length marks.now) }
     ensures { result ≡ any (pair_marked marks.now) (pairs_between pairs.now first end) }
 {
-    let mut k = first;
-    while k < end {
+    for k in first..end {
         let lo = is_anchored(marks, smaller_at(pairs, k));
         let hi = is_anchored(marks, larger_at(pairs, k));
         if lo | hi {
             return true;
         }
-        k += 1;
     }
     false
 }
@@ -89,14 +87,12 @@ pub fn is_candidate(
         return false;
     }
     let mut edges = 0;
-    let mut i = 0;
-    while i < count {
+    for i in 0..count {
         let owner = owners[i];
         if spoils(pairs, starts, names, marks, owner, i, r) {
             return false;
         }
         edges += one_if(owner == r);
-        i += 1;
     }
     (1 <= edges) & (edges <= MAX_INTERIOR_EDGES)
 }

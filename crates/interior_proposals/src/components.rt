@@ -83,10 +83,8 @@ fn join_pairs(parents: &mut [u32], pairs: &[u32], first: usize, end: usize)
         Rows (length cs) pairs.now first end →
         Merged cs parents.old (pairs_between pairs.now first end) parents.new }
 {
-    let mut k = first;
-    while k < end {
+    for k in first..end {
         join(parents, smaller_at(pairs, k), larger_at(pairs, k));
-        k += 1;
     }
 }
 
@@ -140,10 +138,8 @@ fn join_cuts(
         Parented (alone C) parents.old →
         Merged (alone C) parents.old (links C) parents.new }
 {
-    let mut i = 0;
-    while i < count {
+    for i in 0..count {
         join_cut(parents, boundaries, tallies, pairs, starts, i);
-        i += 1;
     }
 }
 
@@ -153,12 +149,10 @@ fn flatten(parents: &mut [u32], regions: usize)
     ensures named { (cs : List ℕ) → Parented cs parents.old → length cs ≡ suc regions → Names cs parents.new }
     ensures beyond { Beyond regions parents.old parents.new }
 {
-    let mut k = 0;
-    while k < regions {
+    for k in 0..regions {
         let p = parents[k];
         let q = parent_of(parents, p);
         parents[k] = q;
-        k += 1;
     }
 }
 
@@ -180,12 +174,10 @@ fn prepare(marks: &mut [u16], counts: &mut [u32], regions: usize)
         Prepared C marks.new counts.new }
     ensures beyond { Beyond regions marks.old marks.new × Beyond regions counts.old counts.new }
 {
-    let mut k = 0;
-    while k < regions {
+    for k in 0..regions {
         let mark = flags(marks[k], counts[k]);
         marks[k] = mark;
         counts[k] = k as u32 + 1;
-        k += 1;
     }
 }
 

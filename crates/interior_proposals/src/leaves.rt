@@ -70,8 +70,7 @@ fn mark_exteriors(
     ensures marks_length { length marks.new ≡ length marks.old }
 {
     let mut fit = true;
-    let mut k = first;
-    while k < end {
+    for k in first..end {
         let lo = smaller_at(pairs, k);
         let hi = larger_at(pairs, k);
         let a = parent_of(names, lo) == r;
@@ -79,7 +78,6 @@ fn mark_exteriors(
         mark_exterior(marks, hi, a & !b);
         mark_exterior(marks, lo, b & !a);
         fit = fit & !(a & b);
-        k += 1;
     }
     fit
 }
@@ -93,11 +91,9 @@ fn clear_exteriors(marks: &mut [u16], pairs: &[u32], first: usize, end: usize)
         Cleared C marks.old marks.new }
     ensures marks_length { length marks.new ≡ length marks.old }
 {
-    let mut k = first;
-    while k < end {
+    for k in first..end {
         clear_exterior(marks, smaller_at(pairs, k));
         clear_exterior(marks, larger_at(pairs, k));
-        k += 1;
     }
 }
 
@@ -109,14 +105,12 @@ fn rows_split(names: &[u32], pairs: &[u32], first: usize, end: usize, r: u32) ->
         Inside C r rs names.now →
         result ≡ all (λ p. eqb (inside_count rs p) 1) (pairs_between pairs.now first end) }
 {
-    let mut k = first;
-    while k < end {
+    for k in first..end {
         let a = parent_of(names, smaller_at(pairs, k)) == r;
         let b = parent_of(names, larger_at(pairs, k)) == r;
         if (a & b) | (!a & !b) {
             return false;
         }
-        k += 1;
     }
     true
 }
@@ -172,13 +166,11 @@ fn expand_rows(
     ensures names_length { length names.new ≡ length names.old }
 {
     let mut fit = true;
-    let mut k = first;
-    while k < end {
+    for k in first..end {
         let lo = smaller_at(pairs, k);
         let hi = larger_at(pairs, k);
         let ok = expand_row(names, marks, lo, hi, r);
         fit = fit & ok;
-        k += 1;
     }
     fit
 }

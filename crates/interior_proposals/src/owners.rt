@@ -17,14 +17,12 @@ pub fn touches(names: &[u32], pairs: &[u32], first: usize, end: usize, r: u32) -
     requires { Walkable pairs.now first end (length names.now) }
     ensures { result ≡ any (pair_named names.now r) (pairs_between pairs.now first end) }
 {
-    let mut k = first;
-    while k < end {
+    for k in first..end {
         let lo = parent_of(names, smaller_at(pairs, k));
         let hi = parent_of(names, larger_at(pairs, k));
         if (lo == r) | (hi == r) {
             return true;
         }
-        k += 1;
     }
     false
 }
@@ -38,12 +36,10 @@ fn common_name(names: &[u32], pairs: &[u32], first: usize, end: usize) -> u32
         return 0;
     }
     let name = parent_of(names, smaller_at(pairs, first));
-    let mut k = first + 1;
-    while k < end {
+    for k in first + 1..end {
         if parent_of(names, smaller_at(pairs, k)) != name {
             return SEVERAL;
         }
-        k += 1;
     }
     name
 }
@@ -87,10 +83,8 @@ pub fn find_owners(
         C.count ≡ count →
         Owners C owners.new }
 {
-    let mut i = 0;
-    while i < count {
+    for i in 0..count {
         let owner = owner_of(boundaries, tallies, pairs, starts, names, i);
         owners[i] = owner;
-        i += 1;
     }
 }

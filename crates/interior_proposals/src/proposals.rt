@@ -88,12 +88,10 @@ fn is_first(owners: &[u32; 256], i: usize) -> bool
     if (owner == 0) | (owner == SEVERAL) {
         return false;
     }
-    let mut j = 0;
-    while j < i {
+    for j in 0..i {
         if owners[j] == owner {
             return false;
         }
-        j += 1;
     }
     true
 }
@@ -167,8 +165,7 @@ pub fn propose_all(
         × FoundAll C owners.now firsts.new seconds.new C.count }
     ensures lengths { (length names.new ≡ length names.old) × (length marks.new ≡ length marks.old) }
 {
-    let mut i = 0;
-    while i < count {
+    for i in 0..count {
         let found = propose_at(
             boundaries, tallies, pairs, starts, names, marks, owners, count, i,
         );
@@ -176,6 +173,5 @@ pub fn propose_all(
         let b = second_of(found);
         firsts[i] = a;
         seconds[i] = b;
-        i += 1;
     }
 }

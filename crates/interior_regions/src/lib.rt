@@ -73,11 +73,9 @@ pub fn mark_edges(owners: &[u32; 256], count: usize, name: u32, on: bool, remove
     if !on {
         return;
     }
-    let mut j = 0;
-    while j < count {
+    for j in 0..count {
         let mark = removed[j] | (owners[j] == name);
         removed[j] = mark;
-        j += 1;
     }
 }
 

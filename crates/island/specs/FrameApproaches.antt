@@ -5,8 +5,8 @@ use Rattle.std.specs.Prelude.{◌≡◌, ◌&&◌, ◌||◌, leb}
 use Rattle.std.proofs.Math.Path.{refl, sym, ap}
 use Rattle.std.proofs.Common.{◌∙◌}
 use Rattle.std.proofs.Math.Bool.{Bool, true, false, not, cond, and-false}
-use Rattle.std.proofs.Math.Option
-use Rattle.std.proofs.Math.Option.{Option}
+use Rattle.std.specs.Prelude.{option_map}
+use Rattle.std.specs.Prelude.{Option}
 use mathlib.Core.List.{List, [], ◌∷◌, map}
 use Rattle.std.proofs.Math.ListN.{length}
 use Rattle.std.proofs.lemmas.List.{length-map}
@@ -106,7 +106,7 @@ module _ {L S : Context} {in_b in_r : ℕ → Bool} (F : Frame L S in_b in_r) wh
 
     -- ---- a mouth of a given shape
 
-    single_mouth_in : (p : Pair) {l : List ℕ} → PairOn in_r true p → All (On in_r true) l → Option.map (ren_mouth in_b in_r) (single_mouth L m a p l) ≡ single_mouth S (rank in_b m) (rank in_b a) (ren_p in_r p) (map (ren in_r) l)
+    single_mouth_in : (p : Pair) {l : List ℕ} → PairOn in_r true p → All (On in_r true) l → option_map (ren_mouth in_b in_r) (single_mouth L m a p l) ≡ single_mouth S (rank in_b m) (rank in_b a) (ren_p in_r p) (map (ren in_r) l)
     unfolding single_mouth
     single_mouth_in p k done = refl
     single_mouth_in p k (more {x = r} h done) =
@@ -134,7 +134,7 @@ module _ {L S : Context} {in_b in_r : ℕ → Bool} (F : Frame L S in_b in_r) wh
         }))
     single_mouth_in p k (more h (more j x)) = refl
 
-    star_mouth_in : (o : ℕ) (inner : List ℕ) {l : List ℕ} → All (On in_r true) inner → All (On in_r true) l → Option.map (ren_mouth in_b in_r) (star_mouth L m a o inner l) ≡ star_mouth S (rank in_b m) (rank in_b a) (ren in_r o) (map (ren in_r) inner) (map (ren in_r) l)
+    star_mouth_in : (o : ℕ) (inner : List ℕ) {l : List ℕ} → All (On in_r true) inner → All (On in_r true) l → option_map (ren_mouth in_b in_r) (star_mouth L m a o inner l) ≡ star_mouth S (rank in_b m) (rank in_b a) (ren in_r o) (map (ren in_r) inner) (map (ren in_r) l)
     unfolding star_mouth
     star_mouth_in o inner k done = refl
     star_mouth_in o inner k (more {x = r} h done) =
@@ -166,7 +166,7 @@ module _ {L S : Context} {in_b in_r : ℕ → Bool} (F : Frame L S in_b in_r) wh
     named_in : (q : Pair) {l : List ℕ} → PairOn in_r true q → All (On in_r true) l → map (ren in_r) (filter (λ r. contains r q) l) ≡ filter (λ r. contains r (ren_p in_r q)) (map (ren in_r) l)
     named_in q h a = filter-ren (ren in_r) (On in_r true) (λ r. contains r q) (λ r. contains r (ren_p in_r q)) (λ r k. contains_in in_r r q k h) a
 
-    pub shaped_mouth_in : {o : Option Pair} {s : Option MouthShape} → OnO (PairOn in_r true) o → OnO (ShapeOn in_r true) s → Option.map (ren_mouth in_b in_r) (shaped_mouth L m a o s) ≡ shaped_mouth S (rank in_b m) (rank in_b a) (Option.map (ren_p in_r) o) (Option.map (ren_shape in_r) s)
+    pub shaped_mouth_in : {o : Option Pair} {s : Option MouthShape} → OnO (PairOn in_r true) o → OnO (ShapeOn in_r true) s → option_map (ren_mouth in_b in_r) (shaped_mouth L m a o s) ≡ shaped_mouth S (rank in_b m) (rank in_b a) (option_map (ren_p in_r) o) (option_map (ren_shape in_r) s)
     unfolding shaped_mouth
     shaped_mouth_in absent k = refl
     shaped_mouth_in (present h) absent = refl
@@ -179,7 +179,7 @@ module _ {L S : Context} {in_b in_r : ℕ → Bool} (F : Frame L S in_b in_r) wh
 
     -- ---- a mouth of a given triangle
 
-    pub triangle_mouth_in : {rs : List ℕ} → All (On in_r true) rs → Option.map (ren_mouth in_b in_r) (triangle_mouth L m a rs) ≡ triangle_mouth S (rank in_b m) (rank in_b a) (map (ren in_r) rs)
+    pub triangle_mouth_in : {rs : List ℕ} → All (On in_r true) rs → option_map (ren_mouth in_b in_r) (triangle_mouth L m a rs) ≡ triangle_mouth S (rank in_b m) (rank in_b a) (map (ren in_r) rs)
     unfolding triangle_mouth
     triangle_mouth_in {rs} k =
         sym

@@ -4,8 +4,8 @@ use Rattle.std.specs.Prelude.{ℕ, ◌≡◌, Bool, ◌&&◌, List, map, eqb}
 use Rattle.std.proofs.Math.Path.{refl, sym, ap}
 use Rattle.std.proofs.Common.{ap₂, ◌∙◌}
 use Rattle.std.proofs.Math.Bool.{true, not, cond}
-use Rattle.std.proofs.Math.Option
-use Rattle.std.proofs.Math.Option.{Option, none}
+use Rattle.std.specs.Prelude.{option_map}
+use Rattle.std.specs.Prelude.{Option, None}
 use Rattle.std.specs.Float.Ieee.{binary64, le, mul}
 use Rattle.definitions.specs.Scan.{all, only_if}
 use Rattle.definitions.specs.Grid.{Pair}
@@ -70,7 +70,7 @@ module _ {L S : Context} {in_b in_r : ℕ → Bool} (F : Frame L S in_b in_r) wh
     unfolding port_exterior
     port_exterior_in j b = ap (beyond (ren in_r r)) (full_pair_in F j b) ∙ go (full_pair_on F true j b)
       where
-        go : {o : Option Pair} → OnO (PairOn in_r true) o → beyond (ren in_r r) (Option.map (ren_p in_r) o) ≡ ren in_r (beyond r o)
+        go : {o : Option Pair} → OnO (PairOn in_r true) o → beyond (ren in_r r) (option_map (ren_p in_r) o) ≡ ren in_r (beyond r o)
         go absent = refl
         go (present {x = p} k) = sym (other_region_in in_r r p h k)
 
@@ -99,48 +99,48 @@ module _ {L S : Context} {in_b in_r : ℕ → Bool} (F : Frame L S in_b in_r) wh
           && within_radius (F.region r h x) (center (F.boundary i b x).endpoints)
           && strictly_flat (F.region r h x) (F.region r h x)
 
-      bridge_at_in : bridge_at S (ren in_r r) (rank in_b i) (rank in_b k) (rank in_b t) ≡ Option.map (ren_proposal in_b in_r) (bridge_at L r i k t)
+      bridge_at_in : bridge_at S (ren in_r r) (rank in_b i) (rank in_b k) (rank in_b t) ≡ option_map (ren_proposal in_b in_r) (bridge_at L r i k t)
       unfolding bridge_at
       bridge_at_in =
           (λ x. only_if (sym bridge_fits_in x) (record { index = rank in_b i; kind = 1; first = ren in_r r; second = port_exterior_in i b x }))
           ∙ only_map (ren_proposal in_b in_r) (bridge_fits L r i k t) (record { index = i; kind = 1; first = r; second = port_exterior L r i })
 
-    pick_bridge_in : (i k t : ℕ) → in_b i ≡ true → in_b k ≡ true → in_b t ≡ true → Option.map (ren_proposal in_b in_r) (pick_bridge L r i k t) ≡ pick_bridge S (ren in_r r) (rank in_b i) (rank in_b k) (rank in_b t)
+    pick_bridge_in : (i k t : ℕ) → in_b i ≡ true → in_b k ≡ true → in_b t ≡ true → option_map (ren_proposal in_b in_r) (pick_bridge L r i k t) ≡ pick_bridge S (ren in_r r) (rank in_b i) (rank in_b k) (rank in_b t)
     unfolding pick_bridge
     pick_bridge_in i k t b c d =
-        cond_map (ren_proposal in_b in_r) (is_twice_as_wide L i k) (bridge_at L r i k t) (cond (is_twice_as_wide L k i) (bridge_at L r k i t) none)
-        ∙ ap (cond (is_twice_as_wide L i k) (Option.map (ren_proposal in_b in_r) (bridge_at L r i k t))) (cond_map (ren_proposal in_b in_r) (is_twice_as_wide L k i) (bridge_at L r k i t) none)
-        ∙ (λ x. cond (is_twice_as_wide_in i k b c x) (sym (bridge_at_in i k t b c d) x) (cond (is_twice_as_wide_in k i c b x) (sym (bridge_at_in k i t c b d) x) none))
+        cond_map (ren_proposal in_b in_r) (is_twice_as_wide L i k) (bridge_at L r i k t) (cond (is_twice_as_wide L k i) (bridge_at L r k i t) None)
+        ∙ ap (cond (is_twice_as_wide L i k) (option_map (ren_proposal in_b in_r) (bridge_at L r i k t))) (cond_map (ren_proposal in_b in_r) (is_twice_as_wide L k i) (bridge_at L r k i t) None)
+        ∙ (λ x. cond (is_twice_as_wide_in i k b c x) (sym (bridge_at_in i k t b c d) x) (cond (is_twice_as_wide_in k i c b x) (sym (bridge_at_in k i t c b d) x) None))
 
-    bridge_of_ports_in : {ps : List ℕ} → All (λ j. in_b j ≡ true) ps → Option.map (ren_proposal in_b in_r) (bridge_of_ports L r ps) ≡ bridge_of_ports S (ren in_r r) (map (rank in_b) ps)
+    bridge_of_ports_in : {ps : List ℕ} → All (λ j. in_b j ≡ true) ps → option_map (ren_proposal in_b in_r) (bridge_of_ports L r ps) ≡ bridge_of_ports S (ren in_r r) (map (rank in_b) ps)
     unfolding bridge_of_ports
     bridge_of_ports_in done = refl
     bridge_of_ports_in (more b done) = refl
     bridge_of_ports_in (more b (more c done)) = refl
     bridge_of_ports_in (more {x = i} b (more {x = j} c (more {x = k} d done))) =
         cond_map e (is_shared L r i j k) (pick_bridge L r i j k) (cond (is_shared L r i k j) (pick_bridge L r i k j) last)
-        ∙ ap (cond (is_shared L r i j k) (Option.map e (pick_bridge L r i j k)))
+        ∙ ap (cond (is_shared L r i j k) (option_map e (pick_bridge L r i j k)))
         (cond_map e (is_shared L r i k j) (pick_bridge L r i k j) last
-        ∙ ap (cond (is_shared L r i k j) (Option.map e (pick_bridge L r i k j))) (cond_map e (is_shared L r j k i) (pick_bridge L r j k i) none))
+        ∙ ap (cond (is_shared L r i k j) (option_map e (pick_bridge L r i k j))) (cond_map e (is_shared L r j k i) (pick_bridge L r j k i) None))
         ∙ (λ x.
         cond (is_shared_in i j k b c d x) (pick_bridge_in i j k b c d x)
-        (cond (is_shared_in i k j b d c x) (pick_bridge_in i k j b d c x) (cond (is_shared_in j k i c d b x) (pick_bridge_in j k i c d b x) none)))
+        (cond (is_shared_in i k j b d c x) (pick_bridge_in i k j b d c x) (cond (is_shared_in j k i c d b x) (pick_bridge_in j k i c d b x) None)))
       where
         e : Proposal → Proposal
         e = ren_proposal in_b in_r
 
         last : Option Proposal
-        last = cond (is_shared L r j k i) (pick_bridge L r j k i) none
+        last = cond (is_shared L r j k i) (pick_bridge L r j k i) None
     bridge_of_ports_in (more b (more c (more d (more e a)))) = refl
 
-    pub bridge_proposal_in : Option.map (ren_proposal in_b in_r) (bridge_proposal L r) ≡ bridge_proposal S (ren in_r r)
+    pub bridge_proposal_in : option_map (ren_proposal in_b in_r) (bridge_proposal L r) ≡ bridge_proposal S (ren in_r r)
     unfolding bridge_proposal
     bridge_proposal_in =
-        cond_map (ren_proposal in_b in_r) (not (L.anchored r) && all (λ j. no_ramp L j && is_some (full_pair L j)) (ports_of L r)) (bridge_of_ports L r (ports_of L r)) none
+        cond_map (ren_proposal in_b in_r) (not (L.anchored r) && all (λ j. no_ramp L j && is_some (full_pair L j)) (ports_of L r)) (bridge_of_ports L r (ports_of L r)) None
         ∙ (λ x.
         cond (not (F.anchored r h x) && fit x)
         ((bridge_of_ports_in inside ∙ ap (bridge_of_ports S (ren in_r r)) ports_of_in) x)
-        none)
+        None)
       where
         inside : All (λ j. in_b j ≡ true) (ports_of L r)
         inside = ports_of_on true r h

@@ -4,8 +4,8 @@ use Rattle.std.specs.Prelude.{ℕ, suc, ◌<◌, ◌≡◌, Bool, ◌&&◌}
 use Rattle.std.proofs.Common.{arith, ◌∙◌}
 use Rattle.std.proofs.Math.Path.{refl, sym, ap, ap₂}
 use Rattle.std.proofs.Math.Bool.{true, false, not, ◌||◌, cond}
-use Rattle.std.proofs.Math.Option
-use Rattle.std.proofs.Math.Option.{none}
+use Rattle.std.specs.Prelude.{option_map}
+use Rattle.std.specs.Prelude.{None}
 use mathlib.Core.List.{List, ◌∷◌, map}
 use Rattle.std.proofs.Math.Dec.{eqb}
 use Rattle.std.specs.Float.Ieee.{le}
@@ -101,7 +101,7 @@ module _ {L S : Context} {in_b in_r : ℕ → Bool} (F : Frame L S in_b in_r) wh
 
   -- ---- proposals
 
-  interior_from_in : {rs : List ℕ} (es : List ℕ) {l : List ℕ} → All (On in_r true) rs → All (λ i. in_b i ≡ true) l → Option.map e (interior_from L rs es l) ≡ interior_from S (map (ren in_r) rs) (map (rank in_b) es) (map (rank in_b) l)
+  interior_from_in : {rs : List ℕ} (es : List ℕ) {l : List ℕ} → All (On in_r true) rs → All (λ i. in_b i ≡ true) l → option_map e (interior_from L rs es l) ≡ interior_from S (map (ren in_r) rs) (map (rank in_b) es) (map (rank in_b) l)
   unfolding interior_from
   interior_from_in es x done = refl
   interior_from_in es x (more b done) = refl
@@ -129,12 +129,12 @@ module _ {L S : Context} {in_b in_r : ℕ → Bool} (F : Frame L S in_b in_r) wh
   interior_proposal_on b r h =
       on_cond (is_candidate L (components L) r) (interior_from_on b (component_regions_on F b r h) (edges_of_on F b r h) (component_ports_on F b r h)) absent
 
-  interior_proposal_in : (r : ℕ) → r < suc L.regions → in_r r ≡ true → Option.map e (interior_proposal L (components L) r) ≡ interior_proposal S (components S) (ren in_r r)
+  interior_proposal_in : (r : ℕ) → r < suc L.regions → in_r r ≡ true → option_map e (interior_proposal L (components L) r) ≡ interior_proposal S (components S) (ren in_r r)
   unfolding interior_proposal
   interior_proposal_in r l h =
-      cond_map e (is_candidate L (components L) r) (interior_from L (component_regions L (components L) r) (edges_of L (components L) r) (component_ports L (components L) r)) none
-      ∙ ap (λ o. cond (is_candidate L (components L) r) o none) (interior_from_in (edges_of L (components L) r) (component_regions_on F true r h) (component_ports_on F true r h))
-      ∙ (λ t. cond (is_candidate_in F r h l t) (interior_from S (component_regions_in F r h t) (edges_of_in F r h t) (component_ports_in F r h t)) none)
+      cond_map e (is_candidate L (components L) r) (interior_from L (component_regions L (components L) r) (edges_of L (components L) r) (component_ports L (components L) r)) None
+      ∙ ap (λ o. cond (is_candidate L (components L) r) o None) (interior_from_in (edges_of L (components L) r) (component_regions_on F true r h) (component_ports_on F true r h))
+      ∙ (λ t. cond (is_candidate_in F r h l t) (interior_from S (component_regions_in F r h t) (edges_of_in F r h t) (component_ports_in F r h t)) None)
 
   all_placed : All (Placed inside PlaceOf) (proposals L)
   unfolding proposals

@@ -4,8 +4,8 @@ use Rattle.std.specs.Prelude.{ℕ, ◌≡◌, refl, Bool, false, not, ◌&&◌, 
 use Rattle.std.proofs.Common.{sym, ◌∙◌}
 use Rattle.std.proofs.Math.Path.{ap}
 use Rattle.std.proofs.Math.Bool.{true}
-use Rattle.std.proofs.Math.Option
-use Rattle.std.proofs.Math.Option.{Option}
+use Rattle.std.specs.Prelude.{option_map}
+use Rattle.std.specs.Prelude.{Option}
 use Rattle.std.proofs.Math.Dec.{eqb, ltb}
 use Rattle.std.specs.Float.Ieee.{binary64, of_bits}
 use Rattle.definitions.specs.Scan.{any, any_below_lem, all_below, count_below, collect, to_list, only_if}
@@ -17,7 +17,7 @@ use Rattle.laws.specs.ListLaws.Options.{OnO, absent, present, on_only, on_list}
 use Rattle.island.specs.Frame.{Frame, ren, ren_p, PairOn}
 use Rattle.island.specs.RegionLists.{On, any-contains_in, any-contains-split}
 
-only_pair-map : (e : Pair → Pair) (c : Bool) (l : List Pair) → only_pair c (map e l) ≡ Option.map e (only_pair c l)
+only_pair-map : (e : Pair → Pair) (c : Bool) (l : List Pair) → only_pair c (map e l) ≡ option_map e (only_pair c l)
 only_pair-map e true [] = refl
 only_pair-map e true (p ∷ []) = refl
 only_pair-map e true (p ∷ q ∷ l) = refl
@@ -46,7 +46,7 @@ module _ {L S : Context} {in_b in_r : ℕ → Bool} (F : Frame L S in_b in_r) wh
   unfolding full_cut
   full_cut_in i b = λ t. ltb 0 (F.removed_edges i b t) && eqb (F.removed_edges i b t) (F.separated_edges i b t)
 
-  pub full_pair_in : (i : ℕ) → in_b i ≡ true → full_pair S (rank in_b i) ≡ Option.map (ren_p in_r) (full_pair L i)
+  pub full_pair_in : (i : ℕ) → in_b i ≡ true → full_pair S (rank in_b i) ≡ option_map (ren_p in_r) (full_pair L i)
   unfolding full_pair
   full_pair_in i b = (λ t. only_pair (sym (full_cut_in i b) t) (F.pairs i b t)) ∙ only_pair-map (ren_p in_r) (full_cut L i) (L.pairs i)
 
@@ -57,7 +57,7 @@ module _ {L S : Context} {in_b in_r : ℕ → Bool} (F : Frame L S in_b in_r) wh
   pub holds_in : (j : ℕ) (f g : Pair → Bool) → in_b j ≡ true → ((q : Pair) → PairOn in_r true q → f q ≡ g (ren_p in_r q)) → holds (full_pair L j) f ≡ holds (full_pair S (rank in_b j)) g
   holds_in j f g b s = go (full_pair_on true j b) ∙ ap (λ o. holds o g) (sym (full_pair_in j b))
     where
-      go : {o : Option Pair} → OnO (PairOn in_r true) o → holds o f ≡ holds (Option.map (ren_p in_r) o) g
+      go : {o : Option Pair} → OnO (PairOn in_r true) o → holds o f ≡ holds (option_map (ren_p in_r) o) g
       go absent = refl
       go (present {x = q} k) = s q k
 

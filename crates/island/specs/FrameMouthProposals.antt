@@ -4,8 +4,8 @@ use Rattle.std.specs.Prelude.{ℕ, Bool, ◌&&◌, ◌||◌, List, [], ◌∷◌
 use Rattle.std.proofs.Math.Path.{◌≡◌, refl, ap, ap₂}
 use Rattle.std.proofs.Common.{sym, ◌∙◌}
 use Rattle.std.proofs.Math.Bool.{true, false, not, cond}
-use Rattle.std.proofs.Math.Option
-use Rattle.std.proofs.Math.Option.{Option, none, some}
+use Rattle.std.specs.Prelude.{option_map}
+use Rattle.std.specs.Prelude.{Option, None, Some}
 use Rattle.std.proofs.Math.Dec.{eqb}
 use Rattle.std.specs.Float.Ieee.{le, lt}
 use Rattle.definitions.specs.Scan.{any, all, filter, only_if}
@@ -68,10 +68,10 @@ module _ {L S : Context} {in_b in_r : ℕ → Bool} (F : Frame L S in_b in_r) wh
 
     shaped_mouth_on : (o : Option Pair) {s : Option MouthShape} → OnO (ShapeOn in_r b) s → OnO (MouthOn L in_b in_r b) (shaped_mouth L m a o s)
     unfolding shaped_mouth
-    shaped_mouth_on none k = absent
-    shaped_mouth_on (some q) absent = absent
-    shaped_mouth_on (some q) (present {x = single p} k) = single_mouth_on p k (all_filter (λ r. contains r q) (more k.lo (more k.hi done)))
-    shaped_mouth_on (some q) (present {x = star o l} k) = star_mouth_on o l k.0 k.1 (all_filter (λ r. contains r q) k.1)
+    shaped_mouth_on None k = absent
+    shaped_mouth_on (Some q) absent = absent
+    shaped_mouth_on (Some q) (present {x = single p} k) = single_mouth_on p k (all_filter (λ r. contains r q) (more k.lo (more k.hi done)))
+    shaped_mouth_on (Some q) (present {x = star o l} k) = star_mouth_on o l k.0 k.1 (all_filter (λ r. contains r q) k.1)
 
     untested_on : OnO (MouthOn L in_b in_r b) (untested L a m)
     unfolding triangle_or triangle_mouth
@@ -91,7 +91,7 @@ module _ {L S : Context} {in_b in_r : ℕ → Bool} (F : Frame L S in_b in_r) wh
       local absent = absent
       local (present {x = p} h) = on_only (is_local L p) p h
 
-      go : (c : Bool) → no_ramp L a ≡ c → OnO (MouthOn L in_b in_r b) (cond (is_tried L a m c) (retain (is_local L) (untested L a m)) none)
+      go : (c : Bool) → no_ramp L a ≡ c → OnO (MouthOn L in_b in_r b) (cond (is_tried L a m c) (retain (is_local L) (untested L a m)) None)
       go true e = absent
       go false e = on_cond (is_tried L a m false) (local (untested_on m a b hm ha e)) absent
 
@@ -113,39 +113,39 @@ module _ {L S : Context} {in_b in_r : ℕ → Bool} (F : Frame L S in_b in_r) wh
   unfolding is_local
   is_local_in p g = ap (λ t. not (lt max_mouth_distance p.separation) && t) (corners_near_in p g)
 
-  retain_in : {o : Option MouthProposal} → OnO (MouthOn L in_b in_r true) o → Option.map (ren_mouth in_b in_r) (retain (is_local L) o) ≡ retain (is_local S) (Option.map (ren_mouth in_b in_r) o)
+  retain_in : {o : Option MouthProposal} → OnO (MouthOn L in_b in_r true) o → option_map (ren_mouth in_b in_r) (retain (is_local L) o) ≡ retain (is_local S) (option_map (ren_mouth in_b in_r) o)
   retain_in absent = refl
   retain_in (present {x = p} g) = sym (only_map (ren_mouth in_b in_r) (is_local L p) p) ∙ ap (λ t. only_if t (ren_mouth in_b in_r p)) (is_local_in p g)
 
   module _ (m a : ℕ) (hm : in_b m ≡ true) (ha : in_b a ≡ true) where
-    triangle_in : Option.map (map (ren in_r)) (triangle L m a) ≡ triangle S (rank in_b m) (rank in_b a)
+    triangle_in : option_map (map (ren in_r)) (triangle L m a) ≡ triangle S (rank in_b m) (rank in_b a)
     unfolding triangle
     triangle_in =
-        cond_map (map (ren in_r)) (nearby_representative L m a && full_cut L m && full_cut L a) (triangle_representative (L.pairs m) (L.pairs a)) none
-        ∙ ap (λ o. cond (nearby_representative L m a && full_cut L m && full_cut L a) o none) (triangle_representative_in in_r (F.pairs_on true m hm) (F.pairs_on true a ha))
+        cond_map (map (ren in_r)) (nearby_representative L m a && full_cut L m && full_cut L a) (triangle_representative (L.pairs m) (L.pairs a)) None
+        ∙ ap (λ o. cond (nearby_representative L m a && full_cut L m && full_cut L a) o None) (triangle_representative_in in_r (F.pairs_on true m hm) (F.pairs_on true a ha))
         ∙ (λ t.
         cond (nearby_representative_in F m a hm ha t && full_cut_in F m hm t && full_cut_in F a ha t)
         (triangle_representative (sym (F.pairs m hm) t) (sym (F.pairs a ha) t))
-        none)
+        None)
 
-    shaped_in : Option.map (ren_mouth in_b in_r) (shaped_mouth L m a (full_pair L a) (mouth_shape (full_cut L m) (L.pairs m))) ≡ shaped_mouth S (rank in_b m) (rank in_b a) (full_pair S (rank in_b a)) (mouth_shape (full_cut S (rank in_b m)) (S.pairs (rank in_b m)))
+    shaped_in : option_map (ren_mouth in_b in_r) (shaped_mouth L m a (full_pair L a) (mouth_shape (full_cut L m) (L.pairs m))) ≡ shaped_mouth S (rank in_b m) (rank in_b a) (full_pair S (rank in_b a)) (mouth_shape (full_cut S (rank in_b m)) (S.pairs (rank in_b m)))
     shaped_in =
         shaped_mouth_in F m a hm ha (full_pair_on F true a ha) (shape_on m true hm)
         ∙ ap₂ (shaped_mouth S (rank in_b m) (rank in_b a)) (sym (full_pair_in F a ha))
         (mouth_shape_in in_r (full_cut L m) (F.pairs_on true m hm) ∙ ap₂ mouth_shape (full_cut_in F m hm) (sym (F.pairs m hm)))
 
-    untested_in : Option.map (ren_mouth in_b in_r) (untested L a m) ≡ untested S (rank in_b a) (rank in_b m)
+    untested_in : option_map (ren_mouth in_b in_r) (untested L a m) ≡ untested S (rank in_b a) (rank in_b m)
     unfolding triangle_or
     untested_in = go (triangle_on m a true hm) ∙ ap₂ (λ o d. triangle_or S o (rank in_b m) (rank in_b a) d) triangle_in shaped_in
       where
         d : Option MouthProposal
         d = shaped_mouth L m a (full_pair L a) (mouth_shape (full_cut L m) (L.pairs m))
 
-        go : {o : Option (List ℕ)} → OnO (All (On in_r true)) o → Option.map (ren_mouth in_b in_r) (triangle_or L o m a d) ≡ triangle_or S (Option.map (map (ren in_r)) o) (rank in_b m) (rank in_b a) (Option.map (ren_mouth in_b in_r) d)
+        go : {o : Option (List ℕ)} → OnO (All (On in_r true)) o → option_map (ren_mouth in_b in_r) (triangle_or L o m a d) ≡ triangle_or S (option_map (map (ren in_r)) o) (rank in_b m) (rank in_b a) (option_map (ren_mouth in_b in_r) d)
         go absent = refl
         go (present k) = triangle_mouth_in F m a hm ha k
 
-    pub mouth_proposal_in : Option.map (ren_mouth in_b in_r) (mouth_proposal L a m) ≡ mouth_proposal S (rank in_b a) (rank in_b m)
+    pub mouth_proposal_in : option_map (ren_mouth in_b in_r) (mouth_proposal L a m) ≡ mouth_proposal S (rank in_b a) (rank in_b m)
     unfolding mouth_proposal
     mouth_proposal_in = go (no_ramp L a) refl
         ∙ (λ t.
@@ -153,18 +153,18 @@ module _ {L S : Context} {in_b in_r : ℕ → Bool} (F : Frame L S in_b in_r) wh
         (not (eqb (F.boundary a ha t).kind 0) && full_cut_in F a ha t && eqb (F.boundary m hm t).kind 0
         && (broad_mouth_in F m a hm ha t || nearby_representative_in F m a hm ha t || overlay_representative_in F m a hm ha t))
         (retain (is_local S) (untested_in t))
-        none)
+        None)
       where
-        go : (c : Bool) → no_ramp L a ≡ c → Option.map (ren_mouth in_b in_r) (cond (is_tried L a m c) (retain (is_local L) (untested L a m)) none) ≡ cond (is_tried L a m c) (retain (is_local S) (Option.map (ren_mouth in_b in_r) (untested L a m))) none
+        go : (c : Bool) → no_ramp L a ≡ c → option_map (ren_mouth in_b in_r) (cond (is_tried L a m c) (retain (is_local L) (untested L a m)) None) ≡ cond (is_tried L a m c) (retain (is_local S) (option_map (ren_mouth in_b in_r) (untested L a m))) None
         go true e = refl
         go false e =
-            cond_map (ren_mouth in_b in_r) (is_tried L a m false) (retain (is_local L) (untested L a m)) none
-            ∙ ap (λ o. cond (is_tried L a m false) o none) (retain_in (untested_on m a true hm ha e))
+            cond_map (ren_mouth in_b in_r) (is_tried L a m false) (retain (is_local L) (untested L a m)) None
+            ∙ ap (λ o. cond (is_tried L a m false) o None) (retain_in (untested_on m a true hm ha e))
 
   -- ---- a ramp and a mouth of two sides
 
   module _ (m a : ℕ) (b : Bool) (hm : in_b m ≡ b) (ha : in_b a ≡ not b) where
-    shaped_mouth-split : {o : Option Pair} {s : Option MouthShape} → OnO (PairOn in_r (not b)) o → OnO (ShapeOn in_r b) s → shaped_mouth L m a o s ≡ none
+    shaped_mouth-split : {o : Option Pair} {s : Option MouthShape} → OnO (PairOn in_r (not b)) o → OnO (ShapeOn in_r b) s → shaped_mouth L m a o s ≡ None
     unfolding shaped_mouth single_mouth star_mouth
     shaped_mouth-split absent k = refl
     shaped_mouth-split (present h) absent = refl
@@ -173,16 +173,16 @@ module _ {L S : Context} {in_b in_r : ℕ → Bool} (F : Frame L S in_b in_r) wh
     shaped_mouth-split (present {x = q} h) (present {x = star o l} k) =
         ap (star_mouth L m a o l) (filter_none (λ r. contains r q) (λ r n. contains-split in_r b r q n h) k.1)
 
-    pub mouth_proposal-split : mouth_proposal L a m ≡ none
+    pub mouth_proposal-split : mouth_proposal L a m ≡ None
     unfolding mouth_proposal triangle_or triangle
     mouth_proposal-split =
-        ap (λ o. cond (is_tried L a m (no_ramp L a)) (retain (is_local L) o) none)
+        ap (λ o. cond (is_tried L a m (no_ramp L a)) (retain (is_local L) o) None)
         (ap₂ (λ o d. triangle_or L o m a d)
-        (ap (λ o. cond (nearby_representative L m a && full_cut L m && full_cut L a) o none) (triangle_representative-split in_r b (F.pairs_on b m hm) (F.pairs_on (not b) a ha))
+        (ap (λ o. cond (nearby_representative L m a && full_cut L m && full_cut L a) o None) (triangle_representative-split in_r b (F.pairs_on b m hm) (F.pairs_on (not b) a ha))
         ∙ neither (nearby_representative L m a && full_cut L m && full_cut L a))
         (shaped_mouth-split (full_pair_on F (not b) a ha) (shape_on m b hm)))
         ∙ neither (is_tried L a m (no_ramp L a))
       where
-        neither : {A : Type 0} (c : Bool) → ◌≡◌ {A = Option A} (cond c none none) none
+        neither : {A : Type 0} (c : Bool) → ◌≡◌ {A = Option A} (cond c None None) None
         neither true = refl
         neither false = refl

@@ -4,8 +4,8 @@ use Rattle.std.specs.Prelude.{ℕ, ◌≡◌, Bool, ◌&&◌, length}
 use Rattle.std.proofs.Math.Path.{refl, sym, ap}
 use Rattle.std.proofs.Common.{◌∙◌}
 use Rattle.std.proofs.Math.Bool.{true, false, not, and-false}
-use Rattle.std.proofs.Math.Option
-use Rattle.std.proofs.Math.Option.{Option, none, some}
+use Rattle.std.specs.Prelude.{option_map}
+use Rattle.std.specs.Prelude.{Option, None, Some}
 use mathlib.Core.List.{List, [], ◌∷◌, map}
 use Rattle.std.proofs.lemmas.List.{length-map}
 use Rattle.std.proofs.Math.Dec.{eqb}
@@ -41,11 +41,11 @@ module _ (in_r : ℕ → Bool) where
   common_regions_on b done = done
   common_regions_on b (more {x = p} {l = l} h a) = all_filter (λ r. all (contains r) (p ∷ l)) (more h.lo (more h.hi done))
 
-  star_from_in : {l : List Pair} {k : List ℕ} → All (PairOn in_r true) l → All (On in_r true) k → Option.map ren_shape (star_from l k) ≡ star_from (map (ren_p in_r) l) (map (ren in_r) k)
+  star_from_in : {l : List Pair} {k : List ℕ} → All (PairOn in_r true) l → All (On in_r true) k → option_map ren_shape (star_from l k) ≡ star_from (map (ren_p in_r) l) (map (ren in_r) k)
   unfolding star_from
   star_from_in a done = refl
   star_from_in {l} a (more {x = o} h done) =
-      ap {B = Option MouthShape} (λ m. some (star (ren in_r o) m))
+      ap {B = Option MouthShape} (λ m. Some (star (ren in_r o) m))
       (filter-ren (ren in_r) (On in_r true) (λ r. not (eqb r o)) (λ r. not (eqb r (ren in_r o))) (λ r k. ap not (ren-eqb in_r r o k h)) (distinct_regions_on in_r true a)
       ∙ ap (filter (λ r. not (eqb r (ren in_r o)))) (distinct_regions_in in_r a))
   star_from_in a (more h (more k b)) = refl
@@ -56,7 +56,7 @@ module _ (in_r : ℕ → Bool) where
   star_from_on b {l} a (more {x = o} h done) = present {x = star o (filter (λ r. not (eqb r o)) (distinct_regions l))} (h, all_filter (λ r. not (eqb r o)) (distinct_regions_on in_r b a))
   star_from_on b a (more h (more k c)) = absent
 
-  pub mouth_shape_in : (c : Bool) {l : List Pair} → All (PairOn in_r true) l → Option.map ren_shape (mouth_shape c l) ≡ mouth_shape c (map (ren_p in_r) l)
+  pub mouth_shape_in : (c : Bool) {l : List Pair} → All (PairOn in_r true) l → option_map ren_shape (mouth_shape c l) ≡ mouth_shape c (map (ren_p in_r) l)
   unfolding mouth_shape
   mouth_shape_in false a = refl
   mouth_shape_in true done = refl
@@ -97,7 +97,7 @@ module _ (in_r : ℕ → Bool) where
           (λ e k. any-ren (ren_p in_r) (PairOn in_r true) (pair_eq e) (pair_eq (ren_p in_r e)) (λ q n. pair_eq_in in_r e q k n) b)
           a)
 
-  pub triangle_representative_in : {l m : List Pair} → All (PairOn in_r true) l → All (PairOn in_r true) m → Option.map (map (ren in_r)) (triangle_representative l m) ≡ triangle_representative (map (ren_p in_r) l) (map (ren_p in_r) m)
+  pub triangle_representative_in : {l m : List Pair} → All (PairOn in_r true) l → All (PairOn in_r true) m → option_map (map (ren in_r)) (triangle_representative l m) ≡ triangle_representative (map (ren_p in_r) l) (map (ren_p in_r) m)
   unfolding triangle_representative
   triangle_representative_in done b = refl
   triangle_representative_in (more h done) b = refl
@@ -127,7 +127,7 @@ module _ (in_r : ℕ → Bool) where
       ap (λ z. eqb (length (r ∷ rs)) 3 && (z && all (λ r. any (contains r) m) rs) && c) (any-contains-split in_r b r h x)
       ∙ ap (λ z. z && c) (and-false (eqb (length (r ∷ rs)) 3))
 
-  pub triangle_representative-split : (b : Bool) {l m : List Pair} → All (PairOn in_r b) l → All (PairOn in_r (not b)) m → triangle_representative l m ≡ none
+  pub triangle_representative-split : (b : Bool) {l m : List Pair} → All (PairOn in_r b) l → All (PairOn in_r (not b)) m → triangle_representative l m ≡ None
   unfolding triangle_representative
   triangle_representative-split b done x = refl
   triangle_representative-split b (more h done) x = refl

@@ -4,7 +4,8 @@ use Rattle.std.specs.Prelude.{ℕ, ◌+◌, ◌≡◌, false, ◌||◌}
 use Rattle.std.proofs.Math.Path.{refl, ap, ap₂}
 use Rattle.std.proofs.Common.{sym, ◌∙◌}
 use Rattle.std.proofs.Math.Bool.{Bool, true, not, ◌&&◌, cond, and-false}
-use Rattle.std.proofs.Math.Option.{Option, map}
+use Rattle.std.specs.Prelude.{Option}
+use Rattle.std.specs.Prelude.{option_map}
 use Rattle.std.proofs.Math.Dec.{eqb, ltb, leb}
 use Rattle.std.specs.Float.Ieee.{le}
 use Rattle.definitions.specs.Scan.{any_below_lem, all_below, only_if, bit}
@@ -134,11 +135,11 @@ module _ {L S : Context} {in_b in_r : ℕ → Bool} (F : Frame L S in_b in_r) wh
 
   -- ---- proposals
 
-  pub union_proposal_in : (i : ℕ) → in_b i ≡ true → union_proposal S (rank in_b i) ≡ map (ren_proposal in_b in_r) (union_proposal L i)
+  pub union_proposal_in : (i : ℕ) → in_b i ≡ true → union_proposal S (rank in_b i) ≡ option_map (ren_proposal in_b in_r) (union_proposal L i)
   unfolding union_proposal union_from
   union_proposal_in i b = ap (union_from S (rank in_b i)) (full_pair_in F i b) ∙ go (full_pair_on F true i b)
     where
-      go : {o : Option Pair} → OnO (PairOn in_r true) o → union_from S (rank in_b i) (map (ren_p in_r) o) ≡ map (ren_proposal in_b in_r) (union_from L i o)
+      go : {o : Option Pair} → OnO (PairOn in_r true) o → union_from S (rank in_b i) (option_map (ren_p in_r) o) ≡ option_map (ren_proposal in_b in_r) (union_from L i o)
       go absent = refl
       go (present {x = p} k) =
           ap (λ t. only_if t (record { index = rank in_b i; kind = 0; first = ren in_r p.lo; second = ren in_r p.hi }))

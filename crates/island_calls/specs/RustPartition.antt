@@ -3,7 +3,7 @@
 -- definitions' data, which are the Rust's (rust_partition, PartitionAsRust). Assumes nothing more.
 use Rattle.std.specs.Prelude.{ℕ, ◌≡◌, List, [], ◌∷◌, length}
 use Rattle.std.proofs.Common.{arith, sym, ap, ◌∙◌}
-use Rattle.std.proofs.Math.Option.{Option}
+use Rattle.std.specs.Prelude.{Option}
 use Rattle.definitions.specs.Limits.{numbers_per_span}
 use Rattle.definitions.specs.RegionRecord.{Region}
 use Rattle.definitions.specs.Lists.{overwrite}

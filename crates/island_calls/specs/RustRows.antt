@@ -2,7 +2,7 @@
 -- The proof: check 4 leaves passes 1, 2 and 3, and for each the steps return the definitions' rows (laws, RustPasses). Assumes nothing more.
 use Rattle.std.specs.Prelude.{ℕ, zero, suc, ◌≡◌, List, [], leb}
 use Rattle.std.proofs.Common.{arith, sym, ap, ◌∙◌, true≢false, leb-true}
-use Rattle.std.proofs.Math.Option.{none}
+use Rattle.std.specs.Prelude.{None}
 use Rattle.definitions.specs.Grid.{Map}
 use Rattle.definitions.specs.RegionRecord.{Region}
 use Rattle.definitions.specs.Refusals.{pass_fault}
@@ -26,7 +26,7 @@ rust_rows (suc (suc zero)) M = collapse_ramp_interiors_lem M
 rust_rows (suc (suc (suc zero))) M = remove_junction_boundaries_lem M
 rust_rows (suc (suc (suc (suc n)))) M = []
 
-by_pass : (L : Lent) → (verdict L).number ≡ 0 → (pass : ℕ) → pass_fault pass ≡ none → rows_of pass (map_in L) ≡ rust_rows pass (map_in L)
+by_pass : (L : Lent) → (verdict L).number ≡ 0 → (pass : ℕ) → pass_fault pass ≡ None → rows_of pass (map_in L) ≡ rust_rows pass (map_in L)
 by_pass L h zero k = absurd (true≢false (ap found k))
 by_pass L h (suc zero) k = sym (accepted-mouths L h)
 by_pass L h (suc (suc zero)) k = sym (accepted-interiors L h)

@@ -3,7 +3,7 @@ use Prim.Native.Nat.{ℕ, ◌-◌, ◌≤◌, ◌<◌}
 use native.Mathlib.Omega.{arith}
 use mathlib.Core.Path.{◌≡◌, refl, sym, subst}
 use mathlib.Core.Bool.{Bool, true, false, not, ◌&&◌}
-use mathlib.Core.Option.{Option, some}
+use Rattle.std.specs.Prelude.{Option, Some}
 use mathlib.Core.List.{List}
 use lib.ListN.{get_or}
 use lib.Dec.{eqb}
@@ -62,8 +62,8 @@ module _ (boundaries smaller larger marks : List ℕ) (r count regions : ℕ) (p
   unfolding is_bridge_at
   bridge_fits_lem counts = on_cond (not (mark_at marks r) && eqb (get_or counts (r - 1) 0) 3) (list-fits ports_at) absent
 
-  pub bridge-found : (counts : List ℕ) {p : Proposal} → some p ≡ is_bridge_at boundaries smaller larger marks r counts count → Fits p
+  pub bridge-found : (counts : List ℕ) {p : Proposal} → Some p ≡ is_bridge_at boundaries smaller larger marks r counts count → Fits p
   bridge-found counts {p} e = only (subst (λ (o : Option Proposal). OnO Fits o) (sym e) (bridge_fits_lem counts))
     where
-      only : {q : Proposal} → OnO Fits (some q) → Fits q
+      only : {q : Proposal} → OnO Fits (Some q) → Fits q
       only (present h) = h

@@ -3,7 +3,7 @@
 use Prim.Native.Nat.{ℕ, ◌-◌, ◌≤◌, ◌<◌}
 use mathlib.Core.Path.{◌≡◌, refl, sym, ap, ap₂, ◌∙◌}
 use mathlib.Core.Bool.{Bool, true, false, not, ◌&&◌, ◌||◌, cond, true≢false}
-use mathlib.Core.Option.{Option, none, some}
+use Rattle.std.specs.Prelude.{Option, None, Some}
 use mathlib.Core.List.{List, [], ◌∷◌}
 use lib.ListN.{length, get_or}
 use lib.Dec.{eqb}
@@ -45,7 +45,7 @@ module _ (boundaries smaller larger counts marks : List ℕ) (C : Context) (S : 
   -- a port that is a full pair
   pub record Port (j : ℕ) : Type 0 where
     pub below : j < C.count
-    pub full : full_pair C j ≡ some (pair j)
+    pub full : full_pair C j ≡ Some (pair j)
 
   -- ---- the tests of ports
 
@@ -93,7 +93,7 @@ module _ (boundaries smaller larger counts marks : List ℕ) (C : Context) (S : 
       go true = f
       go false = g
 
-  nothing : filter allowed (to_list none) ≡ to_list none
+  nothing : filter allowed (to_list None) ≡ to_list None
   unfolding filter
   nothing = refl
 
@@ -177,7 +177,7 @@ module _ (boundaries smaller larger counts marks : List ℕ) (C : Context) (S : 
       go j l true d = ap₂ (λ x y. not x || y) (same j l ∙ d) (pocket-test j l d)
       go j l false d = ap (λ x. not x || test j) (same j l ∙ d)
 
-  other-ports : (l : List ℕ) → (length l ≡ 3 → ⊥) → bridge_of_ports C r l ≡ none
+  other-ports : (l : List ℕ) → (length l ≡ 3 → ⊥) → bridge_of_ports C r l ≡ None
   unfolding bridge_of_ports
   other-ports [] h = refl
   other-ports (i ∷ []) h = refl
@@ -190,12 +190,12 @@ module _ (boundaries smaller larger counts marks : List ℕ) (C : Context) (S : 
   abbrev whole : Option Proposal
   whole = is_bridge_at boundaries smaller larger marks r counts C.count
 
-  none_row : none ≡ whole → bridge_proposal C r ≡ none → filter allowed (to_list whole) ≡ to_list (bridge_proposal C r)
+  none_row : None ≡ whole → bridge_proposal C r ≡ None → filter allowed (to_list whole) ≡ to_list (bridge_proposal C r)
   none_row e f = ap (λ o. filter allowed (to_list o)) (sym e) ∙ nothing ∙ ap to_list (sym f)
 
-  proposal_is : {a b : Bool} → C.anchored r ≡ a → all test (ports_of C r) ≡ b → bridge_proposal C r ≡ cond (not a && b) (bridge_of_ports C r (ports_of C r)) none
+  proposal_is : {a b : Bool} → C.anchored r ≡ a → all test (ports_of C r) ≡ b → bridge_proposal C r ≡ cond (not a && b) (bridge_of_ports C r (ports_of C r)) None
   unfolding bridge_proposal
-  proposal_is e f = λ x. cond (not (e x) && f x) (bridge_of_ports C r (ports_of C r)) none
+  proposal_is e f = λ x. cond (not (e x) && f x) (bridge_of_ports C r (ports_of C r)) None
 
   marked : {b : Bool} → C.anchored r ≡ b → mark_at marks r ≡ b
   marked e = sym (anchored_is boundaries smaller larger counts marks C S r low high) ∙ e

@@ -3,7 +3,7 @@ use Prim.Native.Nat.{ℕ, ◌≤◌, ◌<◌}
 use native.Mathlib.Omega.{arith}
 use mathlib.Core.Path.{◌≡◌, sym, ap, ◌∙◌}
 use mathlib.Core.Bool.{Bool, true, false, ◌&&◌, cond}
-use mathlib.Core.Option.{none, some}
+use Rattle.std.specs.Prelude.{None, Some}
 use mathlib.Core.List.{List}
 use lib.Dec.{eqb}
 use Rattle.definitions.specs.Scan.{only_if}
@@ -37,10 +37,10 @@ module _ (boundaries smaller larger : List ℕ) (r i k t : ℕ) where
     together : (a && b && c) ≡ (is_near boundaries i i && is_near boundaries i k && is_near boundaries i t)
     together = λ x. own x && other x && third x
 
-    pub all_near : {e : ℕ} → (a && b && c) ≡ true → e ≡ beyond_at smaller larger r i → some (bridge e) ≡ near_at smaller larger r boundaries i k t
+    pub all_near : {e : ℕ} → (a && b && c) ≡ true → e ≡ beyond_at smaller larger r i → Some (bridge e) ≡ near_at smaller larger r boundaries i k t
     unfolding near_at
-    all_near h q = ap (λ x. some (bridge x)) q ∙ sym (ap (λ x. only_if x (bridge (beyond_at smaller larger r i))) (sym together ∙ h))
+    all_near h q = ap (λ x. Some (bridge x)) q ∙ sym (ap (λ x. only_if x (bridge (beyond_at smaller larger r i))) (sym together ∙ h))
 
-    pub not-near : (a && b && c) ≡ false → none ≡ near_at smaller larger r boundaries i k t
+    pub not-near : (a && b && c) ≡ false → None ≡ near_at smaller larger r boundaries i k t
     unfolding near_at
     not-near h = sym (ap (λ x. only_if x (bridge (beyond_at smaller larger r i))) (sym together ∙ h))

@@ -3,7 +3,7 @@ use Prim.Native.Nat.{ℕ, ◌-◌, ◌≤◌, ◌<◌}
 use native.Mathlib.Omega.{arith}
 use mathlib.Core.Path.{◌≡◌, refl, sym, ap, ap₂, ◌∙◌}
 use mathlib.Core.Bool.{Bool, true, false, not, ◌&&◌, cond, false≢true, and-false}
-use mathlib.Core.Option.{Option, none, some}
+use Rattle.std.specs.Prelude.{Option, None, Some}
 use mathlib.Core.List.{List, [], ◌∷◌}
 use lib.ListN.{length, get_or}
 use lib.Dec.{eqb}
@@ -18,8 +18,8 @@ use Rattle.junction_proposals.specs.Unions.{mark_at, no_ramp_at}
 use Rattle.junction_proposals.specs.Bridges.{PortAt, is_pocket_port, bridge_of_three, bridge_of_list, is_bridge_at}
 use Rattle.junction_proposals.proofs.FirstFound.{found}
 
-none≢some : {p : Proposal} → none ≡ some p → ⊥
-none≢some e = let z : ◌≡◌ {A = ℕ} 0 1 = cc in omega arith
+None≢Some : {p : Proposal} → None ≡ Some p → ⊥
+None≢Some e = let z : ◌≡◌ {A = ℕ} 0 1 = cc in omega arith
 
 pub bit_one : (b : Bool) → bit b ≡ 1 → b ≡ true
 bit_one true e = refl
@@ -46,7 +46,7 @@ module _ (boundaries smaller larger marks counts : List ℕ) (r count : ℕ) whe
   abbrev whole : Option Proposal
   whole = is_bridge_at boundaries smaller larger marks r counts count
 
-  other-list : (l : List ℕ) → (length l ≡ 3 → ⊥) → bridge_of_list boundaries smaller larger marks r l ≡ none
+  other-list : (l : List ℕ) → (length l ≡ 3 → ⊥) → bridge_of_list boundaries smaller larger marks r l ≡ None
   unfolding bridge_of_list
   other-list [] h = refl
   other-list (i ∷ []) h = refl
@@ -54,20 +54,20 @@ module _ (boundaries smaller larger marks counts : List ℕ) (r count : ℕ) whe
   other-list (i ∷ j ∷ k ∷ []) h = absurd (h refl)
   other-list (i ∷ j ∷ k ∷ x ∷ l) h = refl
 
-  pub other-count : (get_or counts (r - 1) 0 ≡ 3 → ⊥) → none ≡ whole
+  pub other-count : (get_or counts (r - 1) 0 ≡ 3 → ⊥) → None ≡ whole
   unfolding is_bridge_at
-  other-count h = sym (ap (λ b. cond b (bridge_of_list boundaries smaller larger marks r ports) none) (ap (λ b. not (mark_at marks r) && b) (ne_eqb (get_or counts (r - 1) 0) 3 h) ∙ and-false (not (mark_at marks r))))
+  other-count h = sym (ap (λ b. cond b (bridge_of_list boundaries smaller larger marks r ports) None) (ap (λ b. not (mark_at marks r) && b) (ne_eqb (get_or counts (r - 1) 0) 3 h) ∙ and-false (not (mark_at marks r))))
 
-  pub is_anchored : mark_at marks r ≡ true → none ≡ whole
+  pub is_anchored : mark_at marks r ≡ true → None ≡ whole
   unfolding is_bridge_at
-  is_anchored h = sym (ap (λ b. cond (not b && eqb (get_or counts (r - 1) 0) 3) (bridge_of_list boundaries smaller larger marks r ports) none) h)
+  is_anchored h = sym (ap (λ b. cond (not b && eqb (get_or counts (r - 1) 0) 3) (bridge_of_list boundaries smaller larger marks r ports) None) h)
 
   module _ (three : get_or counts (r - 1) 0 ≡ 3) (free : mark_at marks r ≡ false) where
     pub by_list : bridge_of_list boundaries smaller larger marks r ports ≡ whole
     unfolding is_bridge_at
-    by_list = sym (ap₂ (λ a b. cond (not a && b) (bridge_of_list boundaries smaller larger marks r ports) none) free (eq-eqb (get_or counts (r - 1) 0) 3 three))
+    by_list = sym (ap₂ (λ a b. cond (not a && b) (bridge_of_list boundaries smaller larger marks r ports) None) free (eq-eqb (get_or counts (r - 1) 0) 3 three))
 
-    pub other_length : (length ports ≡ 3 → ⊥) → none ≡ whole
+    pub other_length : (length ports ≡ 3 → ⊥) → None ≡ whole
     other_length h = sym (other-list ports h) ∙ by_list
 
     pub of_three : (i j k : ℕ) {o : Option Proposal} → ports ≡ i ∷ j ∷ k ∷ [] → o ≡ bridge_of_three boundaries smaller larger marks r i j k → o ≡ whole
@@ -75,17 +75,17 @@ module _ (boundaries smaller larger marks counts : List ℕ) (r count : ℕ) whe
     of_three i j k e h = h ∙ sym (ap (bridge_of_list boundaries smaller larger marks r) e) ∙ by_list
 
   -- a bridge has three ports
-  pub bridge-ports : {p : Proposal} → whole ≡ some p → length ports ≡ 3
+  pub bridge-ports : {p : Proposal} → whole ≡ Some p → length ports ≡ 3
   unfolding is_bridge_at bridge_of_list
   bridge-ports {p} h = go (not (mark_at marks r) && eqb (get_or counts (r - 1) 0) 3) h
     where
-      listed : (l : List ℕ) → bridge_of_list boundaries smaller larger marks r l ≡ some p → length l ≡ 3
-      listed [] e = absurd (none≢some e)
-      listed (i ∷ []) e = absurd (none≢some e)
-      listed (i ∷ j ∷ []) e = absurd (none≢some e)
+      listed : (l : List ℕ) → bridge_of_list boundaries smaller larger marks r l ≡ Some p → length l ≡ 3
+      listed [] e = absurd (None≢Some e)
+      listed (i ∷ []) e = absurd (None≢Some e)
+      listed (i ∷ j ∷ []) e = absurd (None≢Some e)
       listed (i ∷ j ∷ k ∷ []) e = refl
-      listed (i ∷ j ∷ k ∷ x ∷ l) e = absurd (none≢some e)
+      listed (i ∷ j ∷ k ∷ x ∷ l) e = absurd (None≢Some e)
 
-      go : (b : Bool) → cond b (bridge_of_list boundaries smaller larger marks r ports) none ≡ some p → length ports ≡ 3
+      go : (b : Bool) → cond b (bridge_of_list boundaries smaller larger marks r ports) None ≡ Some p → length ports ≡ 3
       go true e = listed ports e
-      go false e = absurd (none≢some e)
+      go false e = absurd (None≢Some e)

@@ -4,7 +4,7 @@ use Prim.Native.Nat.{ℕ, zero, suc, ◌+◌, ◌*◌, ◌≤◌, ◌<◌}
 use native.Mathlib.Omega.{arith}
 use mathlib.Core.Path.{◌≡◌, refl, sym, ap₂, ◌∙◌}
 use mathlib.Core.Bool.{Bool, true, false, ◌||◌, true≢false}
-use mathlib.Core.Option.{Option, none, some}
+use Rattle.std.specs.Prelude.{Option, None, Some}
 use mathlib.Core.List.{List}
 use lib.ListN.{length, length-append}
 use lib.Dec.{eqb}
@@ -87,14 +87,14 @@ labelled : (a m : ℕ) → count_below m (λ k. eqb a (suc k)) ≤ 1
 labelled a m = count-once (λ k. eqb a (suc k)) m (λ j k d e. omega (arith, eqb-true a (suc j) d, eqb-true a (suc k) e))
 
 named-twice : (o : Option Pair) (m : ℕ) → count_below m (λ k. holds o (contains (suc k))) ≤ 2
-named-twice none m = omega (arith, count_none (λ k. false) m (λ j l e. true≢false (sym e)))
-named-twice (some p) m = omega (arith, count_or (λ k. eqb p.lo (suc k)) (λ k. eqb p.hi (suc k)) m, labelled p.lo m, labelled p.hi m)
+named-twice None m = omega (arith, count_none (λ k. false) m (λ j l e. true≢false (sym e)))
+named-twice (Some p) m = omega (arith, count_or (λ k. eqb p.lo (suc k)) (λ k. eqb p.hi (suc k)) m, labelled p.lo m, labelled p.hi m)
 
 -- ---- the bridges
 
 abbrev present : Option Proposal → Bool
-present none = false
-present (some p) = true
+present None = false
+present (Some p) = true
 
 collect-present : (g : ℕ → Option Proposal) (m : ℕ) → length (collect m g) ≡ count_below m (λ k. present (g k))
 unfolding collect count_below
@@ -102,8 +102,8 @@ collect-present g zero = refl
 collect-present g (suc m) = length-append (collect m g) (to_list (g m)) ∙ ap₂ ◌+◌ (collect-present g m) (go (g m))
   where
     go : (o : Option Proposal) → length (to_list o) ≡ bit (present o)
-    go none = refl
-    go (some p) = refl
+    go None = refl
+    go (Some p) = refl
 
 module _ (boundaries smaller larger marks counts : List ℕ) (count : ℕ) where
   abbrev pub bridges : ℕ → Option Proposal
@@ -117,8 +117,8 @@ module _ (boundaries smaller larger marks counts : List ℕ) (count : ℕ) where
       port j l e = (both (names smaller larger (suc k) j) (no_ramp_at boundaries j) e).0
 
       go : (o : Option Proposal) → bridges k ≡ o → present o ≡ true → 3 ≤ count_below count (names smaller larger (suc k))
-      go none e p = absurd (true≢false (sym p))
-      go (some q) e p =
+      go None e p = absurd (true≢false (sym p))
+      go (Some q) e p =
           omega (arith, bridge-ports boundaries smaller larger marks counts (suc k) count e, picked-length (is_pocket_port smaller larger (suc k) boundaries) (λ j. j) count, count_mono (is_pocket_port smaller larger (suc k) boundaries) (names smaller larger (suc k)) count port)
 
   pub bridges-few : (m : ℕ) → 3 * length (collect m bridges) ≤ 2 * count

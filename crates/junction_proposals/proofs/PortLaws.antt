@@ -5,7 +5,7 @@ use Prim.Native.Nat.{ℕ, ◌-◌, ◌<◌, ◌≤◌}
 use native.Mathlib.Omega.{arith}
 use mathlib.Core.Path.{◌≡◌, refl, sym, ap, ap₂, ◌∙◌}
 use mathlib.Core.Bool.{Bool, true, false, not, ◌&&◌, ◌||◌, or-false, or-true, true≢false, false≢true}
-use mathlib.Core.Option.{Option, none, some}
+use Rattle.std.specs.Prelude.{Option, None, Some}
 use mathlib.Core.List.{List, [], ◌∷◌}
 use lib.ListN.{get_or}
 use lib.Dec.{eqb}
@@ -39,8 +39,8 @@ module _ (C : Context) (j r : ℕ) where
   holds_some f h = go (full_pair C j) h
     where
       go : (o : Option Pair) → holds o f ≡ true → is_some o ≡ true
-      go none e = e
-      go (some p) e = refl
+      go None e = e
+      go (Some p) e = refl
 
   pub named_incident : holds (full_pair C j) (contains r) ≡ true → is_incident C j r ≡ true
   named_incident h = full_incident (holds_some (contains r) h) ∙ h
@@ -100,7 +100,7 @@ module _ (C : Context) (smaller larger counts : List ℕ) (pairs : ShownFullPair
               (ap₂ (λ a b. a && (not (eqb j i) && not b)) (sym e) (sym (fit_is p j l)) ∙ any-fails_at (is_unfit smaller larger i p r) C.count none_unfit j l))
           at j l false e = ap (λ a. not a || (eqb j i || holds (full_pair C j) (fits_union p))) (fits-names h j l ∙ e)
 
-      module _ (own : full_pair C i ≡ some p) (side : contains r p ≡ true) where
+      module _ (own : full_pair C i ≡ Some p) (side : contains r p ≡ true) where
         -- where every incident passes, it is a full pair
         passes-names : all_below C.count (passes r) ≡ true → (j : ℕ) → j < C.count → names smaller larger r j ≡ is_incident C j r
         passes-names h j l = names_is r j l ∙ sym (go (is_incident C j r) refl (all_below_at C.count (passes r) h j l))
@@ -141,7 +141,7 @@ module _ (C : Context) (smaller larger counts : List ℕ) (pairs : ShownFullPair
 
     -- a boundary that is a full pair, and its two regions
     module _ (low : 1 ≤ p.lo) (high : p.hi ≤ C.regions) (ordered : p.lo < p.hi) where
-      module _ (own : full_pair C i ≡ some p) where
+      module _ (own : full_pair C i ≡ Some p) where
         -- what is asked of j as an incident of either region
         asked : (j : ℕ) → (passes p.lo j && passes p.hi j) ≡ (not (is_union_port C i p j) || holds (full_pair C j) (fits_union p))
         unfolding is_union_port

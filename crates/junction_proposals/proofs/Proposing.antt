@@ -3,7 +3,7 @@ use Prim.Native.Nat.{ℕ, zero, suc, ◌≤◌, ◌<◌}
 use native.Mathlib.Omega.{arith}
 use mathlib.Core.Path.{◌≡◌, refl, sym, ap, ap₂, ◌∙◌}
 use mathlib.Core.Bool.{Bool, true, false, not}
-use mathlib.Core.Option.{Option, some}
+use Rattle.std.specs.Prelude.{Option, Some}
 use mathlib.Core.List.{List, ◌++◌}
 use lib.ListN.{get_or}
 use lib.Dec.{eqb, ltb}
@@ -31,15 +31,15 @@ unfolding collect filter
 collect-filter f zero g h e = refl
 collect-filter f (suc n) g h e = filter-append f (collect n g) (to_list (g n)) ∙ ap₂ ◌++◌ (collect-filter f n g h (λ i l. e i (omega arith))) (e n (omega arith))
 
-collected_at : {A : Type 0} {P : A → Type 0} (g : ℕ → A) (n : ℕ) → All P (collect n (λ k. some (g k))) → (k : ℕ) → k < n → P (g k)
+collected_at : {A : Type 0} {P : A → Type 0} (g : ℕ → A) (n : ℕ) → All P (collect n (λ k. Some (g k))) → (k : ℕ) → k < n → P (g k)
 unfolding collect
 collected_at g zero a k l = absurd (omega arith)
-collected_at {A} {P} g (suc n) a k l = go (all_split (collect n (λ k. some (g k))) a) (ltb k n) refl (λ b. collected_at g n b k)
+collected_at {A} {P} g (suc n) a k l = go (all_split (collect n (λ k. Some (g k))) a) (ltb k n) refl (λ b. collected_at g n b k)
   where
-    one : {x : A} → All P (to_list (some x)) → P x
+    one : {x : A} → All P (to_list (Some x)) → P x
     one (more h done) = h
 
-    go : All P (collect n (λ k. some (g k))) × All P (to_list (some (g n))) → (b : Bool) → ltb k n ≡ b → (All P (collect n (λ k. some (g k))) → k < n → P (g k)) → P (g k)
+    go : All P (collect n (λ k. Some (g k))) × All P (to_list (Some (g n))) → (b : Bool) → ltb k n ≡ b → (All P (collect n (λ k. Some (g k))) → k < n → P (g k)) → P (g k)
     go s true e ih = ih s.0 (ltb-true k n e)
     go s false e ih = rw last (one s.1)
       where
@@ -114,7 +114,7 @@ shows-lent {boundaries} {smaller} {larger} {count} {regions} {C} S =
 
     named : (i : ℕ) → i < C.count → 1 ≤ get_or smaller i 0 → (get_or smaller i 0 < get_or larger i 0) × (get_or larger i 0 ≤ regions)
     named i l h =
-        let own : full_pair C i ≡ some (record { lo = get_or smaller i 0; hi = get_or larger i 0 }) = S.pairs.at i l ∙ ap (λ t. only_if (not t) (record { lo = get_or smaller i 0; hi = get_or larger i 0 })) (ne_eqb (get_or smaller i 0) 0 (λ e. omega arith)) in
+        let own : full_pair C i ≡ Some (record { lo = get_or smaller i 0; hi = get_or larger i 0 }) = S.pairs.at i l ∙ ap (λ t. only_if (not t) (record { lo = get_or smaller i 0; hi = get_or larger i 0 })) (ne_eqb (get_or smaller i 0) 0 (λ e. omega arith)) in
         let ordered = of_some (full-all C (λ q. q.lo < q.hi) i (S.sound.ordered i)) own in
         let labelled = of_some (full-all C (λ q. (1 ≤ q.lo) × (q.hi ≤ C.regions)) i (S.sound.labelled i)) own in
         (ordered, omega (arith, labelled.1, S.labelled))

@@ -3,7 +3,7 @@ use Prim.Native.Nat.{ℕ, ◌+◌, ◌*◌, ◌≤◌, ◌<◌}
 use native.Mathlib.Omega.{arith}
 use mathlib.Core.Path.{◌≡◌, refl, sym, ap, ap₂, ◌∙◌}
 use mathlib.Core.Bool.{Bool, true, false}
-use mathlib.Core.Option.{Option, none, some}
+use Rattle.std.specs.Prelude.{Option, None, Some}
 use mathlib.Core.List.{List, [], ◌∷◌, ◌++◌, append-nil}
 use lib.ListN.{length, get_or, set, length-set}
 use lib.Seq.{get_or-set_same, get_or-set_other}
@@ -66,8 +66,8 @@ module _ (l : List ℕ) (n : ℕ) (a b c d : ℕ) where
     pub rows-put : rows_of put (n + 1) ≡ rows_of l n ++ (record { index = a; kind = b; first = c; second = d } ∷ [])
     unfolding rows_of
     rows-put =
-        collect_next (λ k. some (row_at put k)) n
-        ∙ ap₂ (λ (x : List Proposal) (y : Proposal). x ++ (y ∷ [])) (collect_ext n (λ k. some (row_at put k)) (λ k. some (row_at l k)) (λ k h. ap some (other_row k h))) this-row
+        collect_next (λ k. Some (row_at put k)) n
+        ∙ ap₂ (λ (x : List Proposal) (y : Proposal). x ++ (y ∷ [])) (collect_ext n (λ k. Some (row_at put k)) (λ k. Some (row_at l k)) (λ k h. ap Some (other_row k h))) this-row
 
 -- a row that is put in where a test holds: b is what the test returned
 pub row-added : (l : List Proposal) {m : List Proposal} {a b : Bool} (p : Proposal) → m ≡ l ++ (p ∷ []) → b ≡ a → b ≡ true → m ≡ l ++ to_list (only_if a p)
@@ -77,18 +77,18 @@ pub row-left : (l : List Proposal) {a b : Bool} (p : Proposal) → b ≡ a → b
 row-left l p e t = sym (append-nil l) ∙ ap (λ x. l ++ to_list (only_if x p)) (sym (sym e ∙ t))
 
 -- the same of a proposal that there may be
-pub proposal-added : (l : List Proposal) {m : List Proposal} (p : Proposal) {o : Option Proposal} → m ≡ l ++ (p ∷ []) → some p ≡ o → m ≡ l ++ to_list o
+pub proposal-added : (l : List Proposal) {m : List Proposal} (p : Proposal) {o : Option Proposal} → m ≡ l ++ (p ∷ []) → Some p ≡ o → m ≡ l ++ to_list o
 proposal-added l p h e = h ∙ ap (λ x. l ++ to_list x) e
 
-pub proposal-left : (l : List Proposal) {o : Option Proposal} → none ≡ o → l ≡ l ++ to_list o
+pub proposal-left : (l : List Proposal) {o : Option Proposal} → None ≡ o → l ≡ l ++ to_list o
 proposal-left l e = sym (append-nil l) ∙ ap (λ x. l ++ to_list x) e
 
 -- room for it
-pub one_more : {p : Proposal} {o : Option Proposal} (n m : ℕ) → some p ≡ o → n + length (to_list o) ≤ m → n < m
+pub one_more : {p : Proposal} {o : Option Proposal} (n m : ℕ) → Some p ≡ o → n + length (to_list o) ≤ m → n < m
 one_more n m e h = omega (arith, h, ap (λ x. length (to_list x)) e)
 
-pub one_longer : {p : Proposal} {o : Option Proposal} (n : ℕ) → some p ≡ o → n + 1 ≡ n + length (to_list o)
+pub one_longer : {p : Proposal} {o : Option Proposal} (n : ℕ) → Some p ≡ o → n + 1 ≡ n + length (to_list o)
 one_longer n e = ap (λ x. n + length (to_list x)) e
 
-pub no_longer : {o : Option Proposal} (n : ℕ) → none ≡ o → n ≡ n + length (to_list o)
+pub no_longer : {o : Option Proposal} (n : ℕ) → None ≡ o → n ≡ n + length (to_list o)
 no_longer n e = omega (arith, ap (λ x. length (to_list x)) e)

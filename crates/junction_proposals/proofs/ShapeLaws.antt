@@ -4,7 +4,7 @@ use Prim.Native.Nat.{ℕ, ◌+◌, ◌≤◌, ◌<◌}
 use native.Mathlib.Omega.{arith}
 use mathlib.Core.Path.{◌≡◌, refl, sym, ap, ap₂, ◌∙◌}
 use mathlib.Core.Bool.{Bool, true, false, not, ◌&&◌, ◌||◌, and-true, false≢true}
-use mathlib.Core.Option.{some}
+use Rattle.std.specs.Prelude.{Some}
 use mathlib.Core.List.{List}
 use lib.ListN.{get_or}
 use lib.Dec.{eqb, ltb, leb}
@@ -27,7 +27,7 @@ use Rattle.junction_proposals.specs.Unions.{exterior_at, leads_to, leads_anew, w
 use Rattle.junction_proposals.proofs.PortLaws.{walk_is, port_is}
 
 -- a pair that is there
-optional_some : (a b : ℕ) → (a ≡ 0 → ⊥) → optional_pair a b ≡ some (record { lo = a; hi = b })
+optional_some : (a b : ℕ) → (a ≡ 0 → ⊥) → optional_pair a b ≡ Some (record { lo = a; hi = b })
 optional_some a b n = ap (λ t. only_if (not t) (record { lo = a; hi = b })) (ne_eqb a 0 n)
 
 -- a new exterior is one of a port
@@ -37,7 +37,7 @@ new-port C i p j e = (both (is_union_port C i p j) _ e).0
 
 module _ (boundaries smaller larger counts marks : List ℕ) (C : Context) (S : Shows boundaries smaller larger counts marks C.count C.regions C) where
   -- a test of the full pair of j that holds says that there is one
-  pub pair_is : (f : Pair → Bool) (j : ℕ) → j < C.count → holds (pair_of smaller larger j) f ≡ true → full_pair C j ≡ some (record { lo = get_or smaller j 0; hi = get_or larger j 0 })
+  pub pair_is : (f : Pair → Bool) (j : ℕ) → j < C.count → holds (pair_of smaller larger j) f ≡ true → full_pair C j ≡ Some (record { lo = get_or smaller j 0; hi = get_or larger j 0 })
   pair_is f j l h = S.pairs.at j l ∙ optional_some (get_or smaller j 0) (get_or larger j 0) (λ e. false≢true (sym (ap (λ a. holds (only_if (not (eqb a 0)) (record { lo = get_or smaller j 0; hi = get_or larger j 0 })) f) e) ∙ h))
 
   pub no_ramp_is : (i : ℕ) → i < C.count → no_ramp C i ≡ no_ramp_at boundaries i
@@ -58,7 +58,7 @@ module _ (boundaries smaller larger counts marks : List ℕ) (C : Context) (S : 
     abbrev p : Pair
     p = record { lo = get_or smaller i 0; hi = get_or larger i 0 }
 
-    module _ (own : full_pair C i ≡ some p) (low : 1 ≤ p.lo) (ordered : p.lo < p.hi) (high : p.hi ≤ C.regions) where
+    module _ (own : full_pair C i ≡ Some p) (low : 1 ≤ p.lo) (ordered : p.lo < p.hi) (high : p.hi ≤ C.regions) where
       walk : walk_fits smaller larger counts C.count i p ≡ ports_fit C i p
       walk = walk_is C smaller larger counts S.pairs S.incidents i p low high ordered own
 
@@ -69,11 +69,11 @@ module _ (boundaries smaller larger counts marks : List ℕ) (C : Context) (S : 
         port : (j : ℕ) → j < C.count → is_union_port C i p j ≡ is_port smaller larger i p j
         port = port_is C smaller larger counts S.pairs S.incidents i p low high ordered fits
 
-        port-pair : (j : ℕ) → j < C.count → is_port smaller larger i p j ≡ true → full_pair C j ≡ some (record { lo = get_or smaller j 0; hi = get_or larger j 0 })
+        port-pair : (j : ℕ) → j < C.count → is_port smaller larger i p j ≡ true → full_pair C j ≡ Some (record { lo = get_or smaller j 0; hi = get_or larger j 0 })
         unfolding is_port names
         port-pair j l h = go (names smaller larger p.lo j) refl (both (not (eqb j i)) (names smaller larger p.lo j || names smaller larger p.hi j) h).1
           where
-            go : (b : Bool) → names smaller larger p.lo j ≡ b → (b || names smaller larger p.hi j) ≡ true → full_pair C j ≡ some (record { lo = get_or smaller j 0; hi = get_or larger j 0 })
+            go : (b : Bool) → names smaller larger p.lo j ≡ b → (b || names smaller larger p.hi j) ≡ true → full_pair C j ≡ Some (record { lo = get_or smaller j 0; hi = get_or larger j 0 })
             go true e k = pair_is (contains p.lo) j l e
             go false e k = pair_is (contains p.hi) j l k
 

@@ -2,7 +2,7 @@
 use Prim.Native.Nat.{ℕ, ◌≤◌, ◌<◌}
 use mathlib.Core.Path.{◌≡◌, refl, sym, ap, ◌∙◌}
 use mathlib.Core.Bool.{Bool, true, false, not, ◌&&◌, cond}
-use mathlib.Core.Option.{Option, some}
+use Rattle.std.specs.Prelude.{Option, Some}
 use mathlib.Core.List.{List, [], ◌∷◌}
 use lib.ListN.{get_or}
 use lib.Dec.{eqb}
@@ -27,10 +27,10 @@ filter_only f true x = go (f x)
     go false = refl
 
 -- what holds of a pair that is there
-pub of_some : {P : Pair → Type 0} {o : Option Pair} {p : Pair} → All P (to_list o) → o ≡ some p → P p
+pub of_some : {P : Pair → Type 0} {o : Option Pair} {p : Pair} → All P (to_list o) → o ≡ Some p → P p
 of_some {P} a e = go (rw e at a)
   where
-    go : {q : Pair} → All P (to_list (some q)) → P q
+    go : {q : Pair} → All P (to_list (Some q)) → P q
     go (more h done) = h
 
 module _ (boundaries smaller larger counts marks : List ℕ) (C : Context) (S : Shows boundaries smaller larger counts marks C.count C.regions C) where
@@ -47,7 +47,7 @@ module _ (boundaries smaller larger counts marks : List ℕ) (C : Context) (S : 
   unfolding is_union_at union_proposal union_from is_allowed filter
   union-row i l = go (eqb (get_or smaller i 0) 0) refl
     where
-      there : full_pair C i ≡ some (p i) → tested i false ≡ to_list (union_from C i (full_pair C i))
+      there : full_pair C i ≡ Some (p i) → tested i false ≡ to_list (union_from C i (full_pair C i))
       there own =
           let ordered = of_some (full-all C (λ q. q.lo < q.hi) i (S.sound.ordered i)) own in
           let named = of_some (full-all C (λ q. (1 ≤ q.lo) × (q.hi ≤ C.regions)) i (S.sound.labelled i)) own in

@@ -1,7 +1,7 @@
 -- The bridge of a pocket, read off the lists: `bridge_proposal` of Junctions.antt but for what it asks of the pocket's record. Definitions only; assumes nothing.
 use Rattle.std.specs.Prelude.{ℕ, ◌-◌, ◌≤◌, ◌<◌, ◌≡◌, Bool, true, false, not, ◌&&◌, get_or}
 use Rattle.std.proofs.Math.Bool.{cond}
-use Rattle.std.proofs.Math.Option.{Option, none, some}
+use Rattle.std.specs.Prelude.{Option, None, Some}
 use mathlib.Core.List.{List, [], ◌∷◌}
 use Rattle.std.proofs.Math.Dec.{eqb}
 use Rattle.std.specs.Float.{binary64}
@@ -17,8 +17,8 @@ use Rattle.junction_proposals.specs.declared.bridges.Bridge.TheVariants.{None, A
 
 -- a bridge of pocket r
 abbrev pub bridge_form : ℕ → Bridge → Option Proposal
-bridge_form r None = none
-bridge_form r (At i e) = some (record { index = i; kind = 1; first = r; second = e })
+bridge_form r None = None
+bridge_form r (At i e) = Some (record { index = i; kind = 1; first = r; second = e })
 
 -- boundary j is a full pair
 pub record PortAt (smaller : List ℕ) (count j : ℕ) : Type 0 where
@@ -47,7 +47,7 @@ module _ (smaller larger : List ℕ) (r : ℕ) where
   -- of the two that lead to one region, i before k, the one that is twice as wide as the other
   unfoldable pub pick_at : List ℕ → ℕ → ℕ → ℕ → Option Proposal
   unfolding is_twice_at near_at
-  pick_at boundaries i k t = cond (is_twice_at boundaries i k) (near_at boundaries i k t) (cond (is_twice_at boundaries k i) (near_at boundaries k i t) none)
+  pick_at boundaries i k t = cond (is_twice_at boundaries i k) (near_at boundaries i k t) (cond (is_twice_at boundaries k i) (near_at boundaries k i t) None)
 
   -- a full pair without ramp that names the pocket
   unfoldable pub is_pocket_port : List ℕ → ℕ → Bool
@@ -59,25 +59,25 @@ module _ (boundaries smaller larger marks : List ℕ) (r : ℕ) where
   unfolding is_shared_at pick_at
   bridge_of_three i j k =
       cond (is_shared_at smaller larger r marks i j k) (pick_at smaller larger r boundaries i j k)
-      (cond (is_shared_at smaller larger r marks i k j) (pick_at smaller larger r boundaries i k j) (cond (is_shared_at smaller larger r marks j k i) (pick_at smaller larger r boundaries j k i) none))
+      (cond (is_shared_at smaller larger r marks i k j) (pick_at smaller larger r boundaries i k j) (cond (is_shared_at smaller larger r marks j k i) (pick_at smaller larger r boundaries j k i) None))
 
   unfoldable pub bridge_of_list : List ℕ → Option Proposal
   unfolding bridge_of_three
-  bridge_of_list [] = none
-  bridge_of_list (i ∷ []) = none
-  bridge_of_list (i ∷ j ∷ []) = none
+  bridge_of_list [] = None
+  bridge_of_list (i ∷ []) = None
+  bridge_of_list (i ∷ j ∷ []) = None
   bridge_of_list (i ∷ j ∷ k ∷ []) = bridge_of_three i j k
-  bridge_of_list (i ∷ j ∷ k ∷ x ∷ l) = none
+  bridge_of_list (i ∷ j ∷ k ∷ x ∷ l) = None
 
   -- the pocket is not anchored and has three incidents
   unfoldable pub is_bridge_at : List ℕ → ℕ → Option Proposal
   unfolding collect is_pocket_port bridge_of_list
   is_bridge_at counts count =
-      cond (not (mark_at marks r) && eqb (get_or counts (r - 1) 0) 3) (bridge_of_list (collect count (λ j. only_if (is_pocket_port smaller larger r boundaries j) j))) none
+      cond (not (mark_at marks r) && eqb (get_or counts (r - 1) 0) 3) (bridge_of_list (collect count (λ j. only_if (is_pocket_port smaller larger r boundaries j) j))) None
 
 -- r is the first number from `from` on, below n, that passes f; n where there is none
 pub record FirstFrom (f : ℕ → Bool) (from n r : ℕ) : Type 0 where
   pub within : r ≤ n
   pub behind : r < n → from ≤ r
-  pub none : (j : ℕ) → from ≤ j → j < r → f j ≡ false
+  pub None : (j : ℕ) → from ≤ j → j < r → f j ≡ false
   pub found : r < n → f r ≡ true

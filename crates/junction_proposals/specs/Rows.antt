@@ -1,7 +1,7 @@
 -- Proposals as rows of four numbers: boundary, kind, first and second region. Definitions only; assumes nothing.
 use Rattle.std.specs.Prelude.{ℕ, ◌+◌, ◌*◌, ◌≤◌, ◌<◌, Bool, ◌&&◌, List, get_or, eqb}
 use Rattle.std.proofs.Math.Bool.{not, cond}
-use Rattle.std.proofs.Math.Option.{Option, some}
+use Rattle.std.specs.Prelude.{Option, Some}
 use Rattle.definitions.specs.Scan.{collect, only_if}
 use Rattle.definitions.specs.Geometry.{center}
 use Rattle.definitions.specs.RegionRecord.{has_ramp, strictly_flat}
@@ -28,7 +28,7 @@ row_at rows k =
 -- the first n rows
 unfoldable pub rows_of : List ℕ → ℕ → List Proposal
 unfolding collect
-rows_of rows n = collect n (λ k. some (row_at rows k))
+rows_of rows n = collect n (λ k. Some (row_at rows k))
 
 -- the union at boundary i, if it has the shape of one
 abbrev pub union_at : List ℕ → List ℕ → List ℕ → List ℕ → List ℕ → ℕ → ℕ → Option Proposal

@@ -153,13 +153,11 @@ pub fn next_port(
     requires { LentBoundaries boundaries.now count }
     ensures { FirstFrom (is_pocket_port smaller.now larger.now r boundaries.now) «from» count result }
 {
-    let mut j = from;
-    while j < count {
+    for j in from..count {
         let plain = kind_at(boundaries, j) == 0;
         if names_region(smaller[j], larger[j], r) & plain {
             return j;
         }
-        j += 1;
     }
     count
 }

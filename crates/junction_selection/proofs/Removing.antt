@@ -3,7 +3,7 @@
 use Prim.Native.Nat.{ℕ, ◌<◌}
 use mathlib.Core.Path.{◌≡◌, refl, sym, ap, ap₂, ◌∙◌}
 use mathlib.Core.Bool.{Bool, true, false, ◌||◌, ◌&&◌}
-use mathlib.Core.Option.{some}
+use Rattle.std.specs.Prelude.{Some}
 use mathlib.Core.List.{List, [], ◌∷◌, ◌++◌, map}
 use lib.ListN.{get_or}
 use lib.Dec.{eqb}
@@ -62,7 +62,7 @@ module _ (boundaries smaller larger counts marks : List ℕ) (C : Context) (S : 
   module _ (formed : All Reserving (proposals C)) (rows : List ℕ) (verdicts : List Bool) (n : ℕ) (are : filter (is_allowed C) (rows_of rows n) ≡ proposals C) (judged : (k : ℕ) → k < n → get_or verdicts k false ≡ is_allowed C (row_at rows k)) where
     allowed_is : allowed_of rows verdicts n ≡ proposals C
     unfolding allowed_of rows_of
-    allowed_is = sym (collect-filter (is_allowed C) n (λ k. some (row_at rows k)) (λ k. only_if (get_or verdicts k false) (row_at rows k)) (λ k l. filter_only (is_allowed C) true (row_at rows k) ∙ ap (λ b. to_list (only_if b (row_at rows k))) (sym (judged k l)))) ∙ are
+    allowed_is = sym (collect-filter (is_allowed C) n (λ k. Some (row_at rows k)) (λ k. only_if (get_or verdicts k false) (row_at rows k)) (λ k l. filter_only (is_allowed C) true (row_at rows k) ∙ ap (λ b. to_list (only_if b (row_at rows k))) (sym (judged k l)))) ∙ are
 
     -- the ranked rows are the ranked proposals
     pub ranked_is : sort (ranks_at boundaries) (allowed_of rows verdicts n) ≡ ranked C

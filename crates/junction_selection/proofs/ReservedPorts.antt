@@ -3,7 +3,7 @@
 use Prim.Native.Nat.{ℕ, suc, ◌≤◌, ◌<◌}
 use mathlib.Core.Path.{◌≡◌, refl, sym, ap, ap₂, ◌∙◌}
 use mathlib.Core.Bool.{Bool, true, false, not, ◌&&◌, ◌||◌, cond}
-use mathlib.Core.Option.{Option, none, some}
+use Rattle.std.specs.Prelude.{Option, None, Some}
 use mathlib.Core.List.{List}
 use lib.Dec.{eqb, ltb, leb}
 use Rattle.definitions.specs.Scan.{all, all_below, count_below, only_if}
@@ -42,7 +42,7 @@ module _ (boundaries smaller larger counts marks : List ℕ) (C : Context) (S : 
       third_of (no_ramp C i) (ltb (anchored_regions C p) 2) (ports_fit C i p) (leb 3 (count_below C.count (is_union_port C i p))) (all_below C.count (λ j. not (is_union_port C i p j) || is_near_port C i j)) (leb 3 (count_below C.count (is_new_exterior C i p)))
       (not (eqb (anchored_regions C p) 1) || is_widest C i p) h
 
-  union_reserves : (i : ℕ) (p : Pair) → i < C.count → full_pair C i ≡ some p → union_shape C i p ≡ true → Fits (record { index = i; kind = 0; first = p.lo; second = p.hi })
+  union_reserves : (i : ℕ) (p : Pair) → i < C.count → full_pair C i ≡ Some p → union_shape C i p ≡ true → Fits (record { index = i; kind = 0; first = p.lo; second = p.hi })
   unfolding is_reserved_port reserves_at
   union_reserves i p l own h = record { index_in = l; same = λ j k. ap₂ (λ a b. (a || eqb 0 0 && b) && not (eqb 0 0 && eqb j i)) (ports j k).0 (ports j k).1 }
     where
@@ -55,8 +55,8 @@ module _ (boundaries smaller larger counts marks : List ℕ) (C : Context) (S : 
 
   union-fits : (i : ℕ) → i < C.count → (o : Option Pair) → full_pair C i ≡ o → OnO Fits (union_from C i o)
   unfolding union_from
-  union-fits i l none e = absent
-  union-fits i l (some p) e = go (union_shape C i p && union_regions C i p) refl
+  union-fits i l None e = absent
+  union-fits i l (Some p) e = go (union_shape C i p && union_regions C i p) refl
     where
       go : (b : Bool) → (union_shape C i p && union_regions C i p) ≡ b → OnO Fits (only_if b (record { index = i; kind = 0; first = p.lo; second = p.hi }))
       go true h = present (union_reserves i p l e (both (union_shape C i p) (union_regions C i p) h).0)
@@ -105,7 +105,7 @@ module _ (boundaries smaller larger counts marks : List ℕ) (C : Context) (S : 
   unfolding bridge_proposal
   bridge_fits_lem r = go (not (C.anchored r) && all (λ j. no_ramp C j && is_some (full_pair C j)) (ports_of C r)) refl
     where
-      go : (b : Bool) → (not (C.anchored r) && all (λ j. no_ramp C j && is_some (full_pair C j)) (ports_of C r)) ≡ b → OnO Fits (cond b (bridge_of_ports C r (ports_of C r)) none)
+      go : (b : Bool) → (not (C.anchored r) && all (λ j. no_ramp C j && is_some (full_pair C j)) (ports_of C r)) ≡ b → OnO Fits (cond b (bridge_of_ports C r (ports_of C r)) None)
       go true h = list-fits r (both (not (C.anchored r)) (all (λ j. no_ramp C j && is_some (full_pair C j)) (ports_of C r)) h).1 (ports-below r)
       go false h = absent
 

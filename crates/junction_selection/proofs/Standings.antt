@@ -3,7 +3,7 @@ use Prim.Native.Nat.{ℕ, ◌+◌, ◌≤◌, ◌<◌}
 use native.Mathlib.Omega.{arith}
 use mathlib.Core.Path.{◌≡◌, refl, sym, ap, ap₂, ◌∙◌, subst}
 use mathlib.Core.Bool.{Bool, true, false, ◌&&◌, ◌||◌, cond, or-false, or-true}
-use mathlib.Core.Option.{some}
+use Rattle.std.specs.Prelude.{Some}
 use mathlib.Core.List.{List, [], ◌∷◌, ◌++◌}
 use lib.ListN.{length, get_or, set}
 use lib.Seq.{get_or-set_same, get_or-set_other}
@@ -57,14 +57,14 @@ marked_more {was} {reserved} {test} {j} {t} h l e =
 -- the rows that an order names have boundaries
 pub order-all : (rows order : List ℕ) (count n t : ℕ) → ((k : ℕ) → k < n → (row_at rows k).index < count) → Rows order t n → All (λ q. q.index < count) (order_of rows order t)
 unfolding order_of
-order-all rows order count n t below rs = collect-below (λ q. q.index < count) (λ k. some (row_at rows (get_or order k 0))) t (λ k l. more (below (get_or order k 0) (rs k l)) done)
+order-all rows order count n t below rs = collect-below (λ q. q.index < count) (λ k. Some (row_at rows (get_or order k 0))) t (λ k l. more (below (get_or order k 0) (rs k l)) done)
 
 -- one more in the order
 order_more : (rows taken : List ℕ) (t p : ℕ) → t < length taken → order_of rows (set taken t p) (t + 1) ≡ order_of rows taken t ++ (row_at rows p ∷ [])
 unfolding order_of
 order_more rows taken t p l =
-    collect_next (λ k. some (row_at rows (get_or (set taken t p) k 0))) t
-    ∙ ap₂ (λ (x : List Proposal) (y : Proposal). x ++ (y ∷ [])) (collect_ext t (λ k. some (row_at rows (get_or (set taken t p) k 0))) (λ k. some (row_at rows (get_or taken k 0))) (λ k h. ap (λ x. some (row_at rows x)) (get_or-set_other taken t k p 0 (λ e. omega arith))))
+    collect_next (λ k. Some (row_at rows (get_or (set taken t p) k 0))) t
+    ∙ ap₂ (λ (x : List Proposal) (y : Proposal). x ++ (y ∷ [])) (collect_ext t (λ k. Some (row_at rows (get_or (set taken t p) k 0))) (λ k. Some (row_at rows (get_or taken k 0))) (λ k h. ap (λ x. Some (row_at rows x)) (get_or-set_other taken t k p 0 (λ e. omega arith))))
     (ap (row_at rows) (get_or-set_same taken t p 0 l))
 
 module _ (smaller larger rows taken : List ℕ) (removed reserved : List Bool) (count n t : ℕ) (chosen : List Proposal) (st : Standing smaller larger rows taken removed reserved count n t chosen) where
@@ -131,8 +131,8 @@ module _ {A : Type 0} (conflict : A → A → Bool) where
 pub selected_next : (smaller larger rows order : List ℕ) (count k : ℕ) → selected_of smaller larger rows order count (k + 1) ≡ grown (conflict_at smaller larger count) (selected_of smaller larger rows order count k) (row_at rows (get_or order k 0))
 unfolding selected_of order_of
 selected_next smaller larger rows order count k =
-    ap (select (conflict_at smaller larger count) []) (collect_next (λ j. some (row_at rows (get_or order j 0))) k)
-    ∙ select_more (conflict_at smaller larger count) [] (collect k (λ j. some (row_at rows (get_or order j 0)))) (row_at rows (get_or order k 0))
+    ap (select (conflict_at smaller larger count) []) (collect_next (λ j. Some (row_at rows (get_or order j 0))) k)
+    ∙ select_more (conflict_at smaller larger count) [] (collect k (λ j. Some (row_at rows (get_or order j 0)))) (row_at rows (get_or order k 0))
 
 pub standing-start : (smaller larger rows taken order : List ℕ) (removed reserved : List Bool) (count n : ℕ) → ((j : ℕ) → j < count → get_or removed j false ≡ false) → ((j : ℕ) → j < count → get_or reserved j false ≡ false) → Standing smaller larger rows taken removed reserved count n 0 (selected_of smaller larger rows order count 0)
 unfolding selected_of order_of collect select any

@@ -3,7 +3,7 @@
 -- for any limit of cells.
 use Rattle.std.specs.Prelude.{ℕ, ◌*◌, ◌/◌, ◌%◌, ◌^◌, ◌<◌, ◌≤◌, ◌≡◌, refl, Bool, true, false, not, ◌&&◌, cond, List, [], ◌∷◌, leb, eqb, length, take, drop}
 use Rattle.std.proofs.Common.{arith, sym, ap, ◌∙◌, leb-true, eqb-true, le-leb, mul-le-mul}
-use Rattle.std.proofs.Math.Option.{Option, none, some}
+use Rattle.std.specs.Prelude.{Option, None, Some}
 use Rattle.std.proofs.Math.Seq.{take-append_seam}
 use Rattle.definitions.specs.Limits.{is_side, max_entries, numbers_per_boundary, numbers_per_anchor}
 use Rattle.definitions.specs.Refusals.{Refusal, unless, is_whole, pass_fault, boundaries_fault, anchors_fault, elevations_fault}
@@ -115,20 +115,20 @@ answered s room h =
     _ (refusal-numbered 7 (boundaries_fault s.width s.height s.boundaries) (omega arith)) _ (refusal-numbered 8 (anchors_fault s.width s.height s.anchors) (omega arith))
     _ (refusal-numbered 9 (elevations_fault s.cells) (omega arith)) (is_one_list s) refl (leb (length (sheet_bytes 3 s)) room) h
   where
-    never : {r : Refusal} → Numbered (some r) → r.number ≡ 0 → ⊥
+    never : {r : Refusal} → Numbered (Some r) → r.number ≡ 0 → ⊥
     never N z = omega (arith, number-above N refl)
 
     go : (a : Option Refusal) → Numbered a → (b : Option Refusal) → Numbered b → (c : Option Refusal) → Numbered c → (d : Option Refusal) → Numbered d
         → (e : Option Refusal) → Numbered e → (t : Bool) → is_one_list s ≡ t → (u : Bool) → (first_refusal (checks a b c d e t u) (length (sheet_bytes 3 s))).number ≡ 0
         → Answered s (first_refusal (checks a b c d e t u) (length (sheet_bytes 3 s))).value
-    go none A none B none C none D none E true f true h = record { one = f; size = refl }
-    go none A none B none C none D none E true f false h = absurd (omega arith)
-    go none A none B none C none D none E false f u h = absurd (omega arith)
-    go none A none B none C none D (some r) E t f u h = absurd (never E h)
-    go none A none B none C (some r) D e E t f u h = absurd (never D h)
-    go none A none B (some r) C d D e E t f u h = absurd (never C h)
-    go none A (some r) B c C d D e E t f u h = absurd (never B h)
-    go (some r) A b B c C d D e E t f u h = absurd (never A h)
+    go None A None B None C None D None E true f true h = record { one = f; size = refl }
+    go None A None B None C None D None E true f false h = absurd (omega arith)
+    go None A None B None C None D None E false f u h = absurd (omega arith)
+    go None A None B None C None D (Some r) E t f u h = absurd (never E h)
+    go None A None B None C (Some r) D e E t f u h = absurd (never D h)
+    go None A None B (Some r) C d D e E t f u h = absurd (never C h)
+    go None A (Some r) B c C d D e E t f u h = absurd (never B h)
+    go (Some r) A b B c C d D e E t f u h = absurd (never A h)
 
 -- a reading that is refused is not answered 0: the numbers of the reader are above it
 converted : (bytes : List ℕ) (room : ℕ) → ((refusal place : ℕ) → read_kind1 bytes ≡ refused refusal place → 0 < refusal)

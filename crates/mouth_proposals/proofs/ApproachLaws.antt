@@ -3,7 +3,7 @@ use Prim.Native.Nat.{ℕ, zero, suc, ◌≤◌, ◌<◌}
 use native.Mathlib.Omega.{arith}
 use mathlib.Core.Path.{◌≡◌, refl, sym, ap, ◌∙◌, subst}
 use mathlib.Core.Bool.{Bool, true, false, not, ◌&&◌, ◌||◌, cond}
-use mathlib.Core.Option.{none, some}
+use Rattle.std.specs.Prelude.{None, Some}
 use mathlib.Core.List.{List, [], ◌∷◌}
 use lib.Dec.{eqb}
 use borrow.Author.Tests.{ne_eqb}
@@ -34,16 +34,16 @@ shared_is C m outer q h {s} {t} e f =
     hi = member-inner outer q.hi (C.pairs m) ∙ f
 
 -- a shape of one pair
-pub single-pairs : (l : List Pair) (p : Pair) → some (single p) ≡ mouth_shape true l → l ≡ p ∷ []
+pub single-pairs : (l : List Pair) (p : Pair) → Some (single p) ≡ mouth_shape true l → l ≡ p ∷ []
 unfolding mouth_shape star_from
 single-pairs [] p e = absurd (not_none e)
   where
-    not_none : some (single p) ≡ none → ⊥
+    not_none : Some (single p) ≡ None → ⊥
     not_none e = let z : ◌≡◌ {A = ℕ} 0 1 = cc in omega arith
 single-pairs (q ∷ []) p e = cc
 single-pairs (q ∷ r ∷ l) p e = absurd (go (common_regions (q ∷ r ∷ l)) e)
   where
-    go : (c : List ℕ) → some (single p) ≡ star_from (q ∷ r ∷ l) c → ⊥
+    go : (c : List ℕ) → Some (single p) ≡ star_from (q ∷ r ∷ l) c → ⊥
     go [] e = let z : ◌≡◌ {A = ℕ} 0 1 = cc in omega arith
     go (o ∷ []) e = let z : ◌≡◌ {A = ℕ} 0 1 = cc in omega arith
     go (o ∷ s ∷ c) e = let z : ◌≡◌ {A = ℕ} 0 1 = cc in omega arith
@@ -70,11 +70,11 @@ star-found outer zero n = absurd (n refl)
 star-found outer (suc r) n = refl
 
 -- a full pair is the boundary's one pair
-pub full-pairs : (C : Context) (a : ℕ) (q : Pair) → some q ≡ full_pair C a → C.pairs a ≡ q ∷ []
+pub full-pairs : (C : Context) (a : ℕ) (q : Pair) → Some q ≡ full_pair C a → C.pairs a ≡ q ∷ []
 unfolding full_pair
 full-pairs C a q e = go (full_cut C a) (C.pairs a) e
   where
-    go : (b : Bool) (l : List Pair) → some q ≡ only_pair b l → l ≡ q ∷ []
+    go : (b : Bool) (l : List Pair) → Some q ≡ only_pair b l → l ≡ q ∷ []
     go true [] e = absurd (let z : ◌≡◌ {A = ℕ} 0 1 = cc in omega arith)
     go true (p ∷ []) e = cc
     go true (p ∷ r ∷ l) e = absurd (let z : ◌≡◌ {A = ℕ} 0 1 = cc in omega arith)
@@ -93,20 +93,20 @@ module _ (l : List Pair) (q : Pair) where
   shared outer = one_of (filter (λ r. contains r q) (inner_of outer l))
 
   module _ (s : Shape) (e : shape_form l s ≡ mouth_shape true l) where
-    pub from_none : s ≡ shape.None → approach.None ≡ approach_of (some q) (mouth_shape true l)
-    from_none k = ap (approach_of (some q)) (sym (ap (shape_form l) k) ∙ e)
+    pub from_none : s ≡ shape.None → approach.None ≡ approach_of (Some q) (mouth_shape true l)
+    from_none k = ap (approach_of (Some q)) (sym (ap (shape_form l) k) ∙ e)
 
-    pub from_single : {n : ℕ} → All (Named n) l → {p : shape-pair.Pair} → s ≡ shape.Single p → {r : ℕ} → r ≡ shared 0 → single_at (pair_form p) r ≡ approach_of (some q) (mouth_shape true l)
+    pub from_single : {n : ℕ} → All (Named n) l → {p : shape-pair.Pair} → s ≡ shape.Single p → {r : ℕ} → r ≡ shared 0 → single_at (pair_form p) r ≡ approach_of (Some q) (mouth_shape true l)
     from_single named {p} k d =
         ap (single_at (pair_form p)) (d ∙ ap (λ l. one_of (filter (λ r. contains r q) l)) (ap (inner_of 0) one ∙ all-inner (pair_form p) (all_of_one one named)))
-        ∙ ap (approach_of (some q)) single_here
+        ∙ ap (approach_of (Some q)) single_here
       where
-        single_here : some (single (pair_form p)) ≡ mouth_shape true l
+        single_here : Some (single (pair_form p)) ≡ mouth_shape true l
         single_here = sym (ap (shape_form l) k) ∙ e
 
         one : l ≡ pair_form p ∷ []
         one = single-pairs l (pair_form p) (sym (ap (shape_form l) k) ∙ e)
 
-    pub from_star : {outer : ℕ} → s ≡ shape.Star outer → {r : ℕ} → r ≡ shared outer → star_at outer r ≡ approach_of (some q) (mouth_shape true l)
+    pub from_star : {outer : ℕ} → s ≡ shape.Star outer → {r : ℕ} → r ≡ shared outer → star_at outer r ≡ approach_of (Some q) (mouth_shape true l)
     unfolding inner_of
-    from_star {outer} k d = ap (star_at outer) d ∙ ap (approach_of (some q)) (sym (ap (shape_form l) k) ∙ e)
+    from_star {outer} k d = ap (star_at outer) d ∙ ap (approach_of (Some q)) (sym (ap (shape_form l) k) ∙ e)

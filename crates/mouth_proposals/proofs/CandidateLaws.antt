@@ -3,7 +3,7 @@ use Prim.Native.Nat.{ℕ, ◌+◌, ◌≤◌, ◌<◌}
 use native.Mathlib.Omega.{arith}
 use mathlib.Core.Path.{◌≡◌, sym, ap, ap₂, ◌∙◌, subst}
 use mathlib.Core.Bool.{Bool, true, false, not}
-use mathlib.Core.Option.{Option, none, some}
+use Rattle.std.specs.Prelude.{Option, None, Some}
 use mathlib.Core.Logic.{⊎_elim}
 use mathlib.Core.List.{List, [], ◌∷◌, ◌++◌, append-nil}
 use lib.ListN.{length, get_or, length-set}
@@ -32,19 +32,19 @@ separation-number C m a e = ap is_nan e ∙ apart-number (separation_of C m a) (
 -- ---- what is found
 
 module _ (C : Context) (a m : ℕ) where
-  pub none_found : none ≡ found_mouth C a m → mouth_candidate C a m ≡ none
+  pub none_found : None ≡ found_mouth C a m → mouth_candidate C a m ≡ None
   unfolding mouth_candidate
   none_found e = ap (retain (λ p. not (lt max_mouth_distance p.separation))) (sym e)
 
-  module _ (outer kind : ℕ) (e : some (proposal_of C m a outer kind) ≡ found_mouth C a m) where
+  module _ (outer kind : ℕ) (e : Some (proposal_of C m a outer kind) ≡ found_mouth C a m) where
     found_at : {b : Bool} → not (lt max_mouth_distance (separation_of C m a)) ≡ b → mouth_candidate C a m ≡ only_if b (proposal_of C m a outer kind)
     unfolding mouth_candidate proposal_of
     found_at f = ap (retain (λ p. not (lt max_mouth_distance p.separation))) (sym e) ∙ ap (λ b. only_if b (proposal_of C m a outer kind)) f
 
-    pub far-found : not (lt max_mouth_distance (separation_of C m a)) ≡ false → mouth_candidate C a m ≡ none
+    pub far-found : not (lt max_mouth_distance (separation_of C m a)) ≡ false → mouth_candidate C a m ≡ None
     far-found f = found_at f
 
-    pub near-found : not (lt max_mouth_distance (separation_of C m a)) ≡ true → mouth_candidate C a m ≡ some (proposal_of C m a outer kind)
+    pub near-found : not (lt max_mouth_distance (separation_of C m a)) ≡ true → mouth_candidate C a m ≡ Some (proposal_of C m a outer kind)
     near-found f = found_at f
 
 -- ---- the lists
@@ -64,7 +64,7 @@ module _ {mouths ramps outers kinds separations : List ℕ} where
         separations_long = same_long P.separations_put ∙ R.separations_long;
       }
 
-  pub filled_none : {C : Context} {n : ℕ} {l : List MouthProposal} {o : Option MouthProposal} → Filled C mouths ramps outers kinds separations n l → o ≡ none → Filled C mouths ramps outers kinds separations n (l ++ to_list o)
+  pub filled_none : {C : Context} {n : ℕ} {l : List MouthProposal} {o : Option MouthProposal} → Filled C mouths ramps outers kinds separations n l → o ≡ None → Filled C mouths ramps outers kinds separations n (l ++ to_list o)
   filled_none {l = l} F e = record { listed = F.listed; entries = F.entries ∙ sym (ap (λ o. l ++ to_list o) e ∙ append-nil l) }
 
 -- what stands at k of a list that was written at n
@@ -89,7 +89,7 @@ module _ (C : Context) (m a : ℕ) {mouths ramps outers kinds separations mouths
   new-entry : entry_at C mouths' ramps' outers' kinds' n ≡ proposal_of C m a outer kind
   new-entry = λ i. proposal_of C (new_at P.mouths_put (room mouths R.mouths_long) i) (new_at P.ramps_put (room ramps R.ramps_long) i) (new_at P.outers_put (room outers R.outers_long) i) (new_at P.kinds_put (room kinds R.kinds_long) i)
 
-  pub filled_more : m < C.count → a < C.count → outer ≤ C.regions → bits ≡ to_bits binary64 (separation_of C m a) → {o : Option MouthProposal} → o ≡ some (proposal_of C m a outer kind)
+  pub filled_more : m < C.count → a < C.count → outer ≤ C.regions → bits ≡ to_bits binary64 (separation_of C m a) → {o : Option MouthProposal} → o ≡ Some (proposal_of C m a outer kind)
       → Filled C mouths' ramps' outers' kinds' separations' (n + 1) (l ++ to_list o)
   filled_more hm ha ho hb {o} e =
       record {
@@ -102,8 +102,8 @@ module _ (C : Context) (m a : ℕ) {mouths ramps outers kinds separations mouths
               bits = new-bits;
             };
         entries =
-            collect_next (λ k. some (entry_at C mouths' ramps' outers' kinds' k)) n
-            ∙ ap₂ ◌++◌ (collect_ext n (λ k. some (entry_at C mouths' ramps' outers' kinds' k)) (λ k. some (entry_at C mouths ramps outers kinds k)) (λ k h. ap some (old-entry k h)) ∙ F.entries) (ap (λ p. p ∷ []) new-entry)
+            collect_next (λ k. Some (entry_at C mouths' ramps' outers' kinds' k)) n
+            ∙ ap₂ ◌++◌ (collect_ext n (λ k. Some (entry_at C mouths' ramps' outers' kinds' k)) (λ k. Some (entry_at C mouths ramps outers kinds k)) (λ k h. ap Some (old-entry k h)) ∙ F.entries) (ap (λ p. p ∷ []) new-entry)
             ∙ ap (λ o. l ++ to_list o) (sym e);
       }
     where

@@ -3,7 +3,7 @@ use Prim.Native.Nat.{ℕ, zero, suc}
 use native.Mathlib.Omega.{arith}
 use mathlib.Core.Path.{◌≡◌, refl, sym, ap₂, ◌∙◌}
 use mathlib.Core.Bool.{Bool, true, false, not, ◌&&◌, ◌||◌, cond}
-use mathlib.Core.Option.{Option, none}
+use Rattle.std.specs.Prelude.{Option, None}
 use mathlib.Core.List.{List, [], ◌++◌}
 use Rattle.definitions.specs.Scan.{collect, to_list}
 use Rattle.definitions.specs.Context.{Context, full_cut, full_pair, no_ramp}
@@ -15,7 +15,7 @@ use Rattle.mouth_proposals.proofs.CandidateLaws.{none_found}
 
 -- ---- the list goes on
 
-collected : {A : Type 0} (f : ℕ → Option A) → ((m : ℕ) → f m ≡ none) → (k : ℕ) → collect k f ≡ []
+collected : {A : Type 0} (f : ℕ → Option A) → ((m : ℕ) → f m ≡ None) → (k : ℕ) → collect k f ≡ []
 unfolding collect
 collected f h zero = refl
 collected f h (suc k) = ap₂ (λ l o. l ++ to_list o) (collected f h k) (h k)
@@ -24,7 +24,7 @@ pub filled_as : {C : Context} {mouths ramps outers kinds separations : List ℕ}
 filled_as F e = record { listed = F.listed; entries = F.entries ∙ e }
 
 -- nothing is listed, and there is no candidate
-pub filled-empty : {C : Context} {mouths ramps outers kinds separations : List ℕ} (f : ℕ → Option MouthProposal) (k : ℕ) → ((m : ℕ) → f m ≡ none) → Filled C mouths ramps outers kinds separations 0 (collect k f)
+pub filled-empty : {C : Context} {mouths ramps outers kinds separations : List ℕ} (f : ℕ → Option MouthProposal) (k : ℕ) → ((m : ℕ) → f m ≡ None) → Filled C mouths ramps outers kinds separations 0 (collect k f)
 filled-empty f k none_at = filled_as nothing (sym (collected f none_at k))
   where
     nothing : {C : Context} {mouths ramps outers kinds separations : List ℕ} → Filled C mouths ramps outers kinds separations 0 []
@@ -51,14 +51,14 @@ module _ (C : Context) (a m : ℕ) where
   abbrev rest : Option MouthProposal
   rest = triangle_or C (triangle C m a) m a (shaped_mouth C m a (full_pair C a) (mouth_shape (full_cut C m) (C.pairs m)))
 
-  pub no_ramp_none : no_ramp C a ≡ true → mouth_candidate C a m ≡ none
+  pub no_ramp_none : no_ramp C a ≡ true → mouth_candidate C a m ≡ None
   unfolding found_mouth
-  no_ramp_none e = none_found C a m (sym (λ i. cond (not (e i) && full_cut C a && no_ramp C m && near) rest none))
+  no_ramp_none e = none_found C a m (sym (λ i. cond (not (e i) && full_cut C a && no_ramp C m && near) rest None))
 
-  pub no_cut_none : full_cut C a ≡ false → mouth_candidate C a m ≡ none
+  pub no_cut_none : full_cut C a ≡ false → mouth_candidate C a m ≡ None
   unfolding found_mouth
-  no_cut_none e = none_found C a m (sym ((λ i. cond (not (no_ramp C a) && e i && no_ramp C m && near) rest none) ∙ go (not (no_ramp C a))))
+  no_cut_none e = none_found C a m (sym ((λ i. cond (not (no_ramp C a) && e i && no_ramp C m && near) rest None) ∙ go (not (no_ramp C a))))
     where
-      go : (b : Bool) → cond (b && false && no_ramp C m && near) rest none ≡ none
+      go : (b : Bool) → cond (b && false && no_ramp C m && near) rest None ≡ None
       go true = refl
       go false = refl

@@ -3,7 +3,7 @@ use Prim.Native.Nat.{ℕ}
 use native.Mathlib.Omega.{arith}
 use mathlib.Core.Path.{◌≡◌, refl, sym, ap, ◌∙◌}
 use mathlib.Core.Bool.{Bool, true, false, not, ◌&&◌, ◌||◌, cond, false≢true}
-use mathlib.Core.Option.{Option, none, some}
+use Rattle.std.specs.Prelude.{Option, None, Some}
 use mathlib.Core.List.{List, [], ◌∷◌}
 use lib.ListN.{length}
 use Rattle.definitions.specs.Scan.{only_if}
@@ -23,7 +23,7 @@ pub triangle_two : (l k : List Pair) (rs : List ℕ) (t : Bool) → triangle_rep
 unfolding triangle_representative
 triangle_two l k rs t e h = go l k (e ∙ ap (λ b. only_if b rs) h)
   where
-    go : (l k : List Pair) → triangle_representative l k ≡ some rs → length l ≡ 2
+    go : (l k : List Pair) → triangle_representative l k ≡ Some rs → length l ≡ 2
     go [] k e = absurd (let z : ◌≡◌ {A = ℕ} 0 1 = cc in omega arith)
     go (p ∷ []) k e = absurd (let z : ◌≡◌ {A = ℕ} 0 1 = cc in omega arith)
     go (p ∷ q ∷ []) k e = refl
@@ -36,56 +36,56 @@ module _ (C : Context) (a m : ℕ) (ramp : no_ramp C a ≡ false) (cut : full_cu
   abbrev rest : Option MouthProposal
   rest = triangle_or C (triangle C m a) m a (shaped_mouth C m a (full_pair C a) (mouth_shape (full_cut C m) (C.pairs m)))
 
-  reached : {b : Bool} → no_ramp C m ≡ b → found_mouth C a m ≡ cond (b && near) rest none
+  reached : {b : Bool} → no_ramp C m ≡ b → found_mouth C a m ≡ cond (b && near) rest None
   unfolding found_mouth
-  reached e = λ i. cond (not (ramp i) && cut i && e i && near) rest none
+  reached e = λ i. cond (not (ramp i) && cut i && e i && near) rest None
 
-  pub has_ramp_lem : no_ramp C m ≡ false → none ≡ found_mouth C a m
+  pub has_ramp_lem : no_ramp C m ≡ false → None ≡ found_mouth C a m
   has_ramp_lem e = sym (reached e)
 
   module _ (plain : no_ramp C m ≡ true) where
-    pub not_full : full_cut C m ≡ false → none ≡ found_mouth C a m
+    pub not_full : full_cut C m ≡ false → None ≡ found_mouth C a m
     not_full e = sym (reached plain ∙ both near rest nothing)
       where
-        shapeless : (q : Option Pair) → shaped_mouth C m a q none ≡ none
-        shapeless none = unfold shaped_mouth in refl
-        shapeless (some q) = unfold shaped_mouth in refl
+        shapeless : (q : Option Pair) → shaped_mouth C m a q None ≡ None
+        shapeless None = unfold shaped_mouth in refl
+        shapeless (Some q) = unfold shaped_mouth in refl
 
-        flat : mouth_shape false (C.pairs m) ≡ none
+        flat : mouth_shape false (C.pairs m) ≡ None
         flat = unfold mouth_shape in refl
 
-        none_found : triangle C m a ≡ none
-        none_found = unfold triangle in (ap (λ b. cond (nearby_representative C m a && b && full_cut C a) (triangle_representative (C.pairs m) (C.pairs a)) none) e ∙ go (nearby_representative C m a))
+        none_found : triangle C m a ≡ None
+        none_found = unfold triangle in (ap (λ b. cond (nearby_representative C m a && b && full_cut C a) (triangle_representative (C.pairs m) (C.pairs a)) None) e ∙ go (nearby_representative C m a))
           where
-            go : (b : Bool) → cond (b && false && full_cut C a) (triangle_representative (C.pairs m) (C.pairs a)) none ≡ none
+            go : (b : Bool) → cond (b && false && full_cut C a) (triangle_representative (C.pairs m) (C.pairs a)) None ≡ None
             go true = refl
             go false = refl
 
-        passed_on : (d : Option MouthProposal) → triangle_or C none m a d ≡ d
+        passed_on : (d : Option MouthProposal) → triangle_or C None m a d ≡ d
         passed_on d = unfold triangle_or in refl
 
-        nothing : rest ≡ none
+        nothing : rest ≡ None
         nothing =
             (λ i. triangle_or C (none_found i) m a (shaped_mouth C m a (full_pair C a) (mouth_shape (e i) (C.pairs m))))
             ∙ passed_on (shaped_mouth C m a (full_pair C a) (mouth_shape false (C.pairs m))) ∙ ap (shaped_mouth C m a (full_pair C a)) flat ∙ shapeless (full_pair C a)
 
-        both : (b : Bool) (o : Option MouthProposal) → o ≡ none → cond b o none ≡ none
+        both : (b : Bool) (o : Option MouthProposal) → o ≡ None → cond b o None ≡ None
         both true o h = h
         both false o h = refl
 
     module _ {n : ℕ} (full : full_cut C m ≡ true) (named : All (Named n) (C.pairs m)) (t : Bool) (three : triangle_representative (C.pairs m) (C.pairs a) ≡ only_if t (distinct_regions (C.pairs m))) (A : Approach) (by : A ≡ approach_of (full_pair C a) (mouth_shape true (C.pairs m))) where
-      triangle_by : {b : Bool} → nearby_representative C m a ≡ b → triangle C m a ≡ cond b (only_if t (distinct_regions (C.pairs m))) none
+      triangle_by : {b : Bool} → nearby_representative C m a ≡ b → triangle C m a ≡ cond b (only_if t (distinct_regions (C.pairs m))) None
       unfolding triangle
-      triangle_by {b} e = (λ i. cond (e i && full i && cut i) (three i) none) ∙ go b
+      triangle_by {b} e = (λ i. cond (e i && full i && cut i) (three i) None) ∙ go b
         where
-          go : (b : Bool) → cond (b && true && true) (only_if t (distinct_regions (C.pairs m))) none ≡ cond b (only_if t (distinct_regions (C.pairs m))) none
+          go : (b : Bool) → cond (b && true && true) (only_if t (distinct_regions (C.pairs m))) None ≡ cond b (only_if t (distinct_regions (C.pairs m))) None
           go true = refl
           go false = refl
 
-      found_by : {b : Bool} → nearby_representative C m a ≡ b → {g : Bool} → near ≡ g → found_mouth C a m ≡ cond g (triangle_or C (cond b (only_if t (distinct_regions (C.pairs m))) none) m a (approach_mouth C m a A)) none
+      found_by : {b : Bool} → nearby_representative C m a ≡ b → {g : Bool} → near ≡ g → found_mouth C a m ≡ cond g (triangle_or C (cond b (only_if t (distinct_regions (C.pairs m))) None) m a (approach_mouth C m a A)) None
       found_by {b} e {g} f =
-          reached plain ∙ (λ i. cond (f i) (triangle_or C (triangle_by e i) m a (shaped_mouth C m a (full_pair C a) (mouth_shape (full i) (C.pairs m)))) none)
-          ∙ ap (λ p. cond g (triangle_or C (cond b (only_if t (distinct_regions (C.pairs m))) none) m a p) none) (shaped_is C m a named ∙ ap (approach_mouth C m a) (sym by))
+          reached plain ∙ (λ i. cond (f i) (triangle_or C (triangle_by e i) m a (shaped_mouth C m a (full_pair C a) (mouth_shape (full i) (C.pairs m)))) None)
+          ∙ ap (λ p. cond g (triangle_or C (cond b (only_if t (distinct_regions (C.pairs m))) None) m a p) None) (shaped_is C m a named ∙ ap (approach_mouth C m a) (sym by))
 
       measured : {w b o : Bool} → broad_mouth C m a ≡ w → nearby_representative C m a ≡ b → overlay_representative C m a ≡ o → near ≡ ((w || b) || o)
       measured {w} {b} {o} e f g = (λ i. e i || f i || g i) ∙ go w b
@@ -95,25 +95,25 @@ module _ (C : Context) (a m : ℕ) (ramp : no_ramp C a ≡ false) (cut : full_cu
           go false y = refl
 
       -- neither a triangle nor an approach
-      pub no_shape : t ≡ false → A ≡ approach.None → none ≡ found_mouth C a m
+      pub no_shape : t ≡ false → A ≡ approach.None → None ≡ found_mouth C a m
       no_shape e k =
           sym (found_by {b = nearby_representative C m a} refl {g = near} refl
-          ∙ (λ i. cond near (triangle_or C (cond (nearby_representative C m a) (only_if (e i) (distinct_regions (C.pairs m))) none) m a (approach_mouth C m a (k i))) none)
+          ∙ (λ i. cond near (triangle_or C (cond (nearby_representative C m a) (only_if (e i) (distinct_regions (C.pairs m))) None) m a (approach_mouth C m a (k i))) None)
           ∙ go near (nearby_representative C m a))
         where
-          go : (g b : Bool) → cond g (triangle_or C (cond b none none) m a (approach_mouth C m a approach.None)) none ≡ none
+          go : (g b : Bool) → cond g (triangle_or C (cond b None None) m a (approach_mouth C m a approach.None)) None ≡ None
           go true true = unfold triangle_or in (unfold approach_mouth in refl)
           go true false = unfold triangle_or in (unfold approach_mouth in refl)
           go false b = refl
 
       module _ (w b o : Bool) (e : broad_mouth C m a ≡ w) (f : nearby_representative C m a ≡ b) (g : overlay_representative C m a ≡ o) where
-        pub too_far : ((w || b) || o) ≡ false → none ≡ found_mouth C a m
+        pub too_far : ((w || b) || o) ≡ false → None ≡ found_mouth C a m
         too_far h = sym (found_by f (measured e f g ∙ h))
 
         pub by_triangle : (b && t) ≡ true → triangle_mouth C m a (distinct_regions (C.pairs m)) ≡ found_mouth C a m
         by_triangle h = sym (found_by f (measured e f g) ∙ go b t w h)
           where
-            go : (b t w : Bool) → (b && t) ≡ true → cond ((w || b) || o) (triangle_or C (cond b (only_if t (distinct_regions (C.pairs m))) none) m a (approach_mouth C m a A)) none ≡ triangle_mouth C m a (distinct_regions (C.pairs m))
+            go : (b t w : Bool) → (b && t) ≡ true → cond ((w || b) || o) (triangle_or C (cond b (only_if t (distinct_regions (C.pairs m))) None) m a (approach_mouth C m a A)) None ≡ triangle_mouth C m a (distinct_regions (C.pairs m))
             go true true true h = unfold triangle_or in refl
             go true true false h = unfold triangle_or in refl
             go true false w h = absurd (false≢true h)
@@ -122,7 +122,7 @@ module _ (C : Context) (a m : ℕ) (ramp : no_ramp C a ≡ false) (cut : full_cu
         pub by_approach : ((w || b) || o) ≡ true → (b && t) ≡ false → approach_mouth C m a A ≡ found_mouth C a m
         by_approach k h = sym (found_by f (measured e f g ∙ k) ∙ go b t h)
           where
-            go : (b t : Bool) → (b && t) ≡ false → triangle_or C (cond b (only_if t (distinct_regions (C.pairs m))) none) m a (approach_mouth C m a A) ≡ approach_mouth C m a A
+            go : (b t : Bool) → (b && t) ≡ false → triangle_or C (cond b (only_if t (distinct_regions (C.pairs m))) None) m a (approach_mouth C m a A) ≡ approach_mouth C m a A
             go true true h = absurd (false≢true (sym h))
             go true false h = unfold triangle_or in refl
             go false t h = unfold triangle_or in refl

@@ -3,7 +3,7 @@ use Prim.Native.Nat.{ℕ, zero, suc}
 use native.Mathlib.Omega.{arith}
 use mathlib.Core.Path.{◌≡◌, refl, sym, ap, ◌∙◌, subst}
 use mathlib.Core.Bool.{Bool, true, false, ◌||◌, cond, false≢true}
-use mathlib.Core.Option.{Option, none, some}
+use Rattle.std.specs.Prelude.{Option, None, Some}
 use mathlib.Core.List.{List, [], ◌∷◌}
 use lib.Dec.{eqb}
 use borrow.Author.Tests.{eqb-true}
@@ -22,10 +22,10 @@ use Rattle.mouth_proposals.specs.declared.ends.OtherEnds.{OtherEnds}
 
 module _ (C : Context) (a : ℕ) where
   -- without a full pair no region is asked for
-  pub none_asked : (ends : OtherEnds) → none ≡ full_pair C a → EndsOf C a ends
+  pub none_asked : (ends : OtherEnds) → None ≡ full_pair C a → EndsOf C a ends
   none_asked ends e = record { at = λ r h. absurd (false≢true (ap (λ o. holds o (contains r)) e ∙ h)) }
 
-  pub both_found : (q : Pair) {x y : Bool} → some q ≡ full_pair C a → x ≡ other_end_incident C a q.lo → y ≡ other_end_incident C a q.hi → EndsOf C a (record { lo = q.lo; at_lo = x; at_hi = y })
+  pub both_found : (q : Pair) {x y : Bool} → Some q ≡ full_pair C a → x ≡ other_end_incident C a q.lo → y ≡ other_end_incident C a q.hi → EndsOf C a (record { lo = q.lo; at_lo = x; at_hi = y })
   both_found q {x} {y} e f g = record { at = λ r h. go r (eqb q.lo r) refl (ap (λ o. holds o (contains r)) e ∙ h) }
     where
       go : (r : ℕ) (b : Bool) → eqb q.lo r ≡ b → (b || eqb q.hi r) ≡ true → cond b x y ≡ other_end_incident C a r
@@ -52,11 +52,11 @@ module _ (C : Context) (a : ℕ) (ends : OtherEnds) where
   pub approach_known : EndsOf C a ends → (s : Option MouthShape) {A : Approach} → A ≡ approach_of (full_pair C a) s → EndKnown C a ends A
   approach_known E s k = subst (EndKnown C a ends) (sym k) (go (full_pair C a) refl s)
     where
-      left : (q : Pair) → full_pair C a ≡ some q → (l : List ℕ) (r : ℕ) → one_of (filter (λ r. contains r q) l) ≡ suc r → Right (suc r)
+      left : (q : Pair) → full_pair C a ≡ Some q → (l : List ℕ) (r : ℕ) → one_of (filter (λ r. contains r q) l) ≡ suc r → Right (suc r)
       left q e l r k = E.at (suc r) (ap (λ o. holds o (contains (suc r))) e ∙ one_of_lem (filter_passes (λ r. contains r q) l) r k)
 
       go : (o : Option Pair) → full_pair C a ≡ o → (s : Option MouthShape) → EndKnown C a ends (approach_of o s)
-      go none e s = tt
-      go (some q) e none = tt
-      go (some q) e (some (single p)) = single-known p (one_of (filter (λ r. contains r q) (p.lo ∷ p.hi ∷ []))) (left q e (p.lo ∷ p.hi ∷ []))
-      go (some q) e (some (star outer inner)) = star-known outer (one_of (filter (λ r. contains r q) inner)) (left q e inner)
+      go None e s = tt
+      go (Some q) e None = tt
+      go (Some q) e (Some (single p)) = single-known p (one_of (filter (λ r. contains r q) (p.lo ∷ p.hi ∷ []))) (left q e (p.lo ∷ p.hi ∷ []))
+      go (Some q) e (Some (star outer inner)) = star-known outer (one_of (filter (λ r. contains r q) inner)) (left q e inner)

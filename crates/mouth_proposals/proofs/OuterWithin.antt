@@ -3,7 +3,7 @@
 use Prim.Native.Nat.{ℕ, ◌≤◌, zero-le}
 use mathlib.Core.Path.{◌≡◌, refl, sym, ap, subst}
 use mathlib.Core.Bool.{Bool, true, false, not, ◌&&◌, ◌||◌, cond}
-use mathlib.Core.Option.{Option, none, some}
+use Rattle.std.specs.Prelude.{Option, None, Some}
 use mathlib.Core.List.{List, [], ◌∷◌}
 use lib.ListN.{length}
 use lib.Dec.{eqb, leb}
@@ -39,8 +39,8 @@ triangle_of C a m =
 
 module _ (C : Context) (a m : ℕ) (named : All (Named C.regions) (C.pairs m)) where
   abbrev OwnRegions : Option (List ℕ) → Type 0
-  OwnRegions none = Unit {0}
-  OwnRegions (some rs) = rs ≡ distinct_regions (C.pairs m)
+  OwnRegions None = Unit {0}
+  OwnRegions (Some rs) = rs ≡ distinct_regions (C.pairs m)
 
   own-regions : (l k : List Pair) → l ≡ C.pairs m → OwnRegions (triangle_representative l k)
   unfolding triangle_representative
@@ -74,8 +74,8 @@ module _ (C : Context) (a m : ℕ) (named : All (Named C.regions) (C.pairs m)) w
     shaped_on false = go (full_pair C a)
       where
         go : (o : Option Pair) → OnO P (shaped_mouth C m a o (mouth_shape false (C.pairs m)))
-        go none = unfold shaped_mouth in absent
-        go (some q) = unfold mouth_shape in (unfold shaped_mouth in absent)
+        go None = unfold shaped_mouth in absent
+        go (Some q) = unfold mouth_shape in (unfold shaped_mouth in absent)
 
     triangle_on : OnO P (triangle_mouth C m a (distinct_regions (C.pairs m)))
     unfolding triangle_mouth
@@ -83,14 +83,14 @@ module _ (C : Context) (a m : ℕ) (named : All (Named C.regions) (C.pairs m)) w
 
     either_on : (T : Option (List ℕ)) → OwnRegions T → OnO P (triangle_or C T m a (shaped_mouth C m a (full_pair C a) (mouth_shape (full_cut C m) (C.pairs m))))
     unfolding triangle_or
-    either_on none h = shaped_on (full_cut C m)
-    either_on (some rs) h = subst (λ rs. OnO P (triangle_mouth C m a rs)) (sym h) triangle_on
+    either_on None h = shaped_on (full_cut C m)
+    either_on (Some rs) h = subst (λ rs. OnO P (triangle_mouth C m a rs)) (sym h) triangle_on
 
     pub found_on : OnO P (found_mouth C a m)
     unfolding found_mouth triangle
     found_on = on_cond (not (no_ramp C a) && full_cut C a && no_ramp C m && (broad_mouth C m a || nearby_representative C m a || overlay_representative C m a)) (either_on (triangle C m a) (own (nearby_representative C m a && full_cut C m && full_cut C a))) absent
       where
-        own : (b : Bool) → OwnRegions (cond b (triangle_representative (C.pairs m) (C.pairs a)) none)
+        own : (b : Bool) → OwnRegions (cond b (triangle_representative (C.pairs m) (C.pairs a)) None)
         own true = own-regions (C.pairs m) (C.pairs a) refl
         own false = tt
 
@@ -105,12 +105,12 @@ module _ (C : Context) (a m : ℕ) (named : All (Named C.regions) (C.pairs m)) w
   unfolding distinct_regions
   triangle-inside = all_filter C.anchored (all_map (λ s h. h.1) (all-add_all done (all-named-regions named)))
 
-  pub outer-inside : (outer kind : ℕ) → some (proposal_of C m a outer kind) ≡ found_mouth C a m → outer ≤ C.regions
+  pub outer-inside : (outer kind : ℕ) → Some (proposal_of C m a outer kind) ≡ found_mouth C a m → outer ≤ C.regions
   outer-inside outer kind e = head (subst (OnO Inside) (sym e) (found_on proposal-inside triangle-inside))
     where
       first : (b : Bool) → eqb outer 0 ≡ b → All (λ r. r ≤ C.regions) (cond (not b) (outer ∷ []) []) → outer ≤ C.regions
       first true k a = subst (λ o. o ≤ C.regions) (sym (eqb-true outer 0 k)) zero-le
       first false k (more h t) = h
 
-      head : OnO Inside (some (proposal_of C m a outer kind)) → outer ≤ C.regions
+      head : OnO Inside (Some (proposal_of C m a outer kind)) → outer ≤ C.regions
       head (present h) = unfold proposal_of in (unfold filter in first (eqb outer 0) refl h)

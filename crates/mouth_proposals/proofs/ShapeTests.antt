@@ -4,7 +4,7 @@ use Prim.Native.Nat.{ℕ, ◌+◌, ◌≤◌}
 use native.Mathlib.Omega.{arith}
 use mathlib.Core.Path.{◌≡◌, refl, sym, ap, ◌∙◌}
 use mathlib.Core.Bool.{Bool, true, false, not, ◌&&◌, ◌||◌, cond, or-false}
-use mathlib.Core.Option.{Option, none}
+use Rattle.std.specs.Prelude.{Option, None}
 use mathlib.Core.List.{List, [], ◌∷◌, ◌++◌}
 use lib.ListN.{length, length-append}
 use lib.Dec.{eqb}
@@ -152,14 +152,14 @@ module _ (p q s t : Pair) where
   triangle_by e f g = sym (λ i. only_if ((e i && f i) && g i) (distinct_regions (p ∷ q ∷ [])))
 
 -- of a number of rows other than two there is none
-pub no_mouth-triangle : (l m : List Pair) → (length l ≡ 2 → ⊥) → triangle_representative l m ≡ none
+pub no_mouth-triangle : (l m : List Pair) → (length l ≡ 2 → ⊥) → triangle_representative l m ≡ None
 unfolding triangle_representative
 no_mouth-triangle [] m h = refl
 no_mouth-triangle (p ∷ []) m h = refl
 no_mouth-triangle (p ∷ q ∷ []) m h = absurd (h refl)
 no_mouth-triangle (p ∷ q ∷ r ∷ l) m h = refl
 
-pub no_ramp-triangle : (l m : List Pair) → (length m ≡ 2 → ⊥) → triangle_representative l m ≡ none
+pub no_ramp-triangle : (l m : List Pair) → (length m ≡ 2 → ⊥) → triangle_representative l m ≡ None
 unfolding triangle_representative
 no_ramp-triangle [] m h = refl
 no_ramp-triangle (p ∷ []) m h = refl

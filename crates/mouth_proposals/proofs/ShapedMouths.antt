@@ -4,7 +4,7 @@ use Prim.Native.Nat.{ℕ, ◌≤◌}
 use native.Mathlib.Omega.{arith}
 use mathlib.Core.Path.{◌≡◌, refl, sym, ap, ap₂, ◌∙◌, subst}
 use mathlib.Core.Bool.{Bool, true, false, not, ◌&&◌, ◌||◌, cond, or_comm, or-true}
-use mathlib.Core.Option.{Option, none, some}
+use Rattle.std.specs.Prelude.{Option, None, Some}
 use mathlib.Core.List.{List, [], ◌∷◌, Memᴰ}
 use lib.ListN.{length}
 use lib.Dec.{eqb, leb}
@@ -146,7 +146,7 @@ module _ (C : Context) (m a : ℕ) where
     unfolding filter single_mouth
     single_case = go (contains p.lo q) refl (contains p.hi q) refl
       where
-        empty : none ≡ approach_mouth C m a approach.None
+        empty : None ≡ approach_mouth C m a approach.None
         empty = unfold approach_mouth in refl
 
         go : (b : Bool) → contains p.lo q ≡ b → (c : Bool) → contains p.hi q ≡ c
@@ -221,7 +221,7 @@ module _ (C : Context) (m a : ℕ) where
     unfolding is_incident any
     at_ramp r e = ap (any (contains r)) ramp ∙ ap (λ b. b || false) e
 
-    empty-star : none ≡ approach_mouth C m a approach.None
+    empty-star : None ≡ approach_mouth C m a approach.None
     unfolding approach_mouth
     empty-star = refl
 
@@ -243,9 +243,9 @@ module _ (C : Context) (m a : ℕ) where
   shaped_is {n} named = go (full_pair C a) refl (mouth_shape true (C.pairs m)) refl
     where
       go : (o : Option Pair) → full_pair C a ≡ o → (s : Option MouthShape) → mouth_shape true (C.pairs m) ≡ s → shaped_mouth C m a o s ≡ approach_mouth C m a (approach_of o s)
-      go none e s f = refl
-      go (some q) e none f = refl
-      go (some q) e (some (single p)) f =
+      go None e s f = refl
+      go (Some q) e None f = refl
+      go (Some q) e (Some (single p)) f =
           let one = single-pairs (C.pairs m) p (sym f) in
           single_case p q (all_of_one one named) one (full-pairs C a q (sym e))
-      go (some q) e (some (star outer inner)) f = star_case q named (full-pairs C a q (sym e)) outer inner (star_is (C.pairs m) named outer inner f)
+      go (Some q) e (Some (star outer inner)) f = star_case q named (full-pairs C a q (sym e)) outer inner (star_is (C.pairs m) named outer inner f)

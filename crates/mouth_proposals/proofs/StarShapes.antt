@@ -4,7 +4,7 @@ use Prim.Native.Nat.{ℕ, ◌≤◌, ◌<◌}
 use native.Mathlib.Omega.{arith}
 use mathlib.Core.Path.{◌≡◌, refl, sym, ap, ap₂, ◌∙◌, subst}
 use mathlib.Core.Bool.{Bool, true, false, not, ◌&&◌, ◌||◌, cond, or-true, true≢false, false≢true}
-use mathlib.Core.Option.{some}
+use Rattle.std.specs.Prelude.{Some}
 use mathlib.Core.List.{List, [], ◌∷◌, Memᴰ}
 use lib.ListN.{length}
 use lib.Dec.{eqb, leb}
@@ -88,13 +88,13 @@ module _ {n : ℕ} (p q : Pair) (l : List Pair) (a : All (Named n) (p ∷ q ∷ 
           ((omega arith, h.1.1), two_inner (p ∷ q ∷ l) a p.hi p.lo g f (λ k. omega (arith, k)) (ap (λ b. b || eqb p.hi p.lo || any (contains p.lo) (q ∷ l)) (eq-eqb p.lo p.lo refl)))
       go (more h t) false f false g e = absurd (let z : ◌≡◌ {A = ℕ} 0 1 = cc in omega arith)
 
-pub star_is : {n : ℕ} (l : List Pair) → All (Named n) l → (outer : ℕ) (inner : List ℕ) → mouth_shape true l ≡ some (star outer inner) → Star n l outer inner
+pub star_is : {n : ℕ} (l : List Pair) → All (Named n) l → (outer : ℕ) (inner : List ℕ) → mouth_shape true l ≡ Some (star outer inner) → Star n l outer inner
 unfolding mouth_shape star_from inner_of
 star_is [] a outer inner e = absurd (let z : ◌≡◌ {A = ℕ} 0 1 = cc in omega arith)
 star_is (p ∷ []) a outer inner e = absurd (let z : ◌≡◌ {A = ℕ} 0 1 = cc in omega arith)
 star_is {n} (p ∷ q ∷ l) a outer inner e = go (common_regions (p ∷ q ∷ l)) refl e
   where
-    go : (c : List ℕ) → common_regions (p ∷ q ∷ l) ≡ c → star_from (p ∷ q ∷ l) c ≡ some (star outer inner) → Star n (p ∷ q ∷ l) outer inner
+    go : (c : List ℕ) → common_regions (p ∷ q ∷ l) ≡ c → star_from (p ∷ q ∷ l) c ≡ Some (star outer inner) → Star n (p ∷ q ∷ l) outer inner
     go [] k e = absurd (let z : ◌≡◌ {A = ℕ} 0 1 = cc in omega arith)
     go (o ∷ []) k e = from (common_one p q l a o k)
       where

@@ -4,7 +4,7 @@ use native.Mathlib.Omega.{arith}
 use native.Mathlib.Nat.{le_trans}
 use mathlib.Core.Path.{◌≡◌, refl, sym, subst}
 use mathlib.Core.Bool.{Bool, true, false, not, cond}
-use mathlib.Core.Option.{Option, none, some}
+use Rattle.std.specs.Prelude.{Option, None, Some}
 use mathlib.Core.List.{List, [], ◌∷◌}
 use lib.Dec.{eqb}
 use Rattle.definitions.specs.Scan.{filter}
@@ -48,17 +48,17 @@ module _ {n : ℕ} where
   inner-named outer l named = all_filter (λ r. not (eqb r outer)) (all-add_all done (all-named-regions named))
 
   pub approach_within : (l : List Pair) → All (Named n) l → (o : Option Pair) → Within n (approach_of o (mouth_shape true l))
-  approach_within l named none = tt
-  approach_within l named (some q) = go (mouth_shape true l) refl
+  approach_within l named None = tt
+  approach_within l named (Some q) = go (mouth_shape true l) refl
     where
       two : (p : Pair) → Named n p → All (λ s. (1 ≤ s) × (s ≤ n)) (p.lo ∷ p.hi ∷ [])
       two p h = more {x = p.lo} (h.0, omega arith) (more {x = p.hi} (omega arith, h.1.1) done)
 
-      go : (s : Option MouthShape) → mouth_shape true l ≡ s → Within n (approach_of (some q) s)
-      go none e = tt
-      go (some (single p)) e =
+      go : (s : Option MouthShape) → mouth_shape true l ≡ s → Within n (approach_of (Some q) s)
+      go None e = tt
+      go (Some (single p)) e =
           let h = all_of_one (single-pairs l p (sym e)) named in
           single-within p h (one_of (filter (λ r. contains r q) (p.lo ∷ p.hi ∷ []))) (one_le (all_filter (λ r. contains r q) (two p h)))
-      go (some (star outer inner)) e =
+      go (Some (star outer inner)) e =
           let S = star_is l named outer inner e in
           star-within outer S.outside (one_of (filter (λ r. contains r q) inner)) (one_le (all_filter (λ r. contains r q) (subst (All (λ s. (1 ≤ s) × (s ≤ n))) (sym S.inside) (inner-named outer l named))))

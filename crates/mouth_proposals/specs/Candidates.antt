@@ -1,7 +1,7 @@
 -- What a mouth and a ramp propose before the records of regions are looked at, as the code has it: the region outside, and a kind. Definitions only; assumes nothing.
 use Rattle.std.specs.Prelude.{ℕ, zero, suc, ◌≤◌, Bool, ◌&&◌, ◌||◌, [], ◌∷◌}
 use Rattle.std.proofs.Math.Bool.{not, cond}
-use Rattle.std.proofs.Math.Option.{Option, none, some}
+use Rattle.std.specs.Prelude.{Option, None, Some}
 use Rattle.std.proofs.Math.Dec.{eqb}
 use Rattle.std.specs.Float.Ieee.{lt}
 use Rattle.definitions.specs.Scan.{all, filter, only_if}
@@ -27,10 +27,10 @@ star_at outer (suc r) = approach.Star outer (suc r)
 
 -- from the ramp's full pair and the mouth's shape
 abbrev pub approach_of : Option Pair → Option MouthShape → Approach
-approach_of none s = approach.None
-approach_of (some q) none = approach.None
-approach_of (some q) (some (single p)) = single_at p (one_of (filter (λ r. contains r q) (p.lo ∷ p.hi ∷ [])))
-approach_of (some q) (some (star outer inner)) = star_at outer (one_of (filter (λ r. contains r q) inner))
+approach_of None s = approach.None
+approach_of (Some q) None = approach.None
+approach_of (Some q) (Some (single p)) = single_at p (one_of (filter (λ r. contains r q) (p.lo ∷ p.hi ∷ [])))
+approach_of (Some q) (Some (star outer inner)) = star_at outer (one_of (filter (λ r. contains r q) inner))
 
 -- both regions are numbered from 1 to n
 abbrev pub Within : ℕ → Approach → Type 0
@@ -65,15 +65,15 @@ module _ (C : Context) where
       }
 
   abbrev pub candidate_form : ℕ → ℕ → Candidate → Option MouthProposal
-  candidate_form m a candidate.None = none
-  candidate_form m a (candidate.Mouth outer kind) = some (proposal_of m a outer kind)
+  candidate_form m a candidate.None = None
+  candidate_form m a (candidate.Mouth outer kind) = Some (proposal_of m a outer kind)
 
   -- `mouth_proposal` of RampMouths.antt, but for `is_local`
   unfoldable pub found_mouth : ℕ → ℕ → Option MouthProposal
   unfolding full_cut broad_mouth nearby_representative overlay_representative triangle_or triangle shaped_mouth full_pair mouth_shape
   found_mouth a m =
       cond (not (no_ramp C a) && full_cut C a && no_ramp C m && (broad_mouth C m a || nearby_representative C m a || overlay_representative C m a))
-      (triangle_or C (triangle C m a) m a (shaped_mouth C m a (full_pair C a) (mouth_shape (full_cut C m) (C.pairs m)))) none
+      (triangle_or C (triangle C m a) m a (shaped_mouth C m a (full_pair C a) (mouth_shape (full_cut C m) (C.pairs m)))) None
 
   -- `mouth_proposal`, but for `corners_near_lem`
   unfoldable pub mouth_candidate : ℕ → ℕ → Option MouthProposal
@@ -95,7 +95,7 @@ module _ (C : Context) where
 
   unfoldable pub approach_mouth : ℕ → ℕ → Approach → Option MouthProposal
   unfolding single_fits star_fits proposal_of
-  approach_mouth m a approach.None = none
+  approach_mouth m a approach.None = None
   approach_mouth m a (approach.Single outer r) =
       only_if (single_fits m a outer r) (proposal_of m a outer (cond ((broad_mouth C m a || overlay_only C m a) && eqb (incident_count C r) 2) broad plain))
   approach_mouth m a (approach.Star outer r) = only_if (star_fits m a outer r) (proposal_of m a outer (cond (broad_mouth C m a) broad plain))

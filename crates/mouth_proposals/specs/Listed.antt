@@ -1,6 +1,6 @@
 -- Candidates as compact lists: entry k has a mouth, a ramp, a region outside (0 for none), a kind and the bits of a separation. Definitions only; assumes nothing.
 use Rattle.std.specs.Prelude.{ℕ, ◌≤◌, ◌<◌, ◌≡◌, List, length, get_or, set}
-use Rattle.std.proofs.Math.Option.{some}
+use Rattle.std.specs.Prelude.{Some}
 use Rattle.std.specs.Float.{binary64}
 use Rattle.std.specs.Float.Ieee.{to_bits}
 use Rattle.definitions.specs.Scan.{collect}
@@ -26,7 +26,7 @@ pub record Listed (C : Context) (mouths ramps outers separations : List ℕ) (n 
 -- the first n entries are l
 pub record Filled (C : Context) (mouths ramps outers kinds separations : List ℕ) (n : ℕ) (l : List MouthProposal) : Type 0 where
   pub listed : Listed C mouths ramps outers separations n
-  pub entries : collect n (λ k. some (entry_at C mouths ramps outers kinds k)) ≡ l
+  pub entries : collect n (λ k. Some (entry_at C mouths ramps outers kinds k)) ≡ l
 
 -- five lists with room for every candidate
 pub record Roomy (mouths ramps outers kinds separations : List ℕ) : Type 0 where

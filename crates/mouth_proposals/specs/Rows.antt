@@ -1,6 +1,6 @@
 -- The rows of a boundary, and what the answers on them stand for. Definitions only; assumes nothing.
 use Rattle.std.specs.Prelude.{ℕ, ◌+◌, not, List, [], ◌∷◌, get_or, eqb}
-use Rattle.std.proofs.Math.Option.{Option, none, some}
+use Rattle.std.specs.Prelude.{Option, None, Some}
 use Rattle.definitions.specs.Scan.{filter}
 use Rattle.definitions.specs.Grid as grid
 use Rattle.definitions.specs.MouthShapes.{MouthShape, single, star, distinct_regions}
@@ -23,9 +23,9 @@ inner_of outer l = filter (λ r. not (eqb r outer)) (distinct_regions l)
 
 -- l are the pairs of the mouth
 abbrev pub shape_form : List grid.Pair → Shape → Option MouthShape
-shape_form l shape.None = none
-shape_form l (shape.Single p) = some (single (pair_form p))
-shape_form l (shape.Star outer) = some (star outer (filter (λ r. not (eqb r outer)) (distinct_regions l)))
+shape_form l shape.None = None
+shape_form l (shape.Single p) = Some (single (pair_form p))
+shape_form l (shape.Star outer) = Some (star outer (filter (λ r. not (eqb r outer)) (distinct_regions l)))
 
 -- the one number of a list, 0 where there are none or several
 abbrev pub one_of : List ℕ → ℕ

@@ -1,6 +1,6 @@
 // The approach of a mouth: the one of its regions that the ramp's full pair names.
 ghost use Rattle.std.specs.Prelude.{◌≡◌, true, ◌+◌, ◌*◌, ◌<◌, length};
-ghost use Rattle.std.proofs.Math.Option.{some};
+ghost use Rattle.std.specs.Prelude.{Some};
 ghost use Rattle.definitions.specs.Limits.{tallies_per_span};
 ghost use Rattle.definitions.specs.Scan.{filter};
 ghost use Rattle.definitions.specs.Grid.{contains};
@@ -57,7 +57,7 @@ fn approach_from(pairs: &[u32], starts: &[usize; 257], m: usize, s: Shape, q: Pa
         m < C.count →
         q.lo < q.hi →
         shape_form (C.pairs m) s ≡ mouth_shape true (C.pairs m) →
-        result ≡ approach_of (some (pair_form q)) (mouth_shape true (C.pairs m)) }
+        result ≡ approach_of (Some (pair_form q)) (mouth_shape true (C.pairs m)) }
 {
     match s {
         Shape::None => Approach::None,

@@ -144,8 +144,7 @@ fn push_mouths(
         (collect count (mouth_candidate C a)) }
 {
     let mut n = 0;
-    let mut m = 0;
-    while m < count {
+    for m in 0..count {
         n = push_mouth(
             boundaries,
             tallies,
@@ -164,7 +163,6 @@ fn push_mouths(
             a,
             ends,
         );
-        m += 1;
     }
     n
 }

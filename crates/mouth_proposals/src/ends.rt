@@ -48,14 +48,12 @@ fn other_end_incident(
         ShownPairs C pairs.now starts.now →
         result ≡ other_end_incident C a r }
 {
-    let mut j = 0;
-    while j < count {
+    for j in 0..count {
         if is_other_end(boundaries, j, a) {
             if is_incident(pairs, starts, j, r) {
                 return true;
             }
         }
-        j += 1;
     }
     false
 }

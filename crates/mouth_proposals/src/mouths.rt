@@ -75,15 +75,13 @@ fn inner_fit(
     requires named_rows { (k : ℕ) → first ≤ k → k < end → NamedRow pairs.now (length counts.now) k × NamedRow pairs.now (length marks.now) k }
     ensures { result ≡ all (inner_fits marks.now counts.now outer r) (regions_of (pairs_between pairs.now first end)) }
 {
-    let mut k = first;
-    while k < end {
+    for k in first..end {
         let p = row_at(pairs, k);
         let lo = region_fits(counts, marks, outer, r, p.lo);
         let hi = region_fits(counts, marks, outer, r, p.hi);
         if !(lo & hi) {
             return false;
         }
-        k += 1;
     }
     true
 }

@@ -52,12 +52,10 @@ fn in_all(pairs: &[u32], first: usize, end: usize, r: u32) -> bool
     requires { (first ≤ end) × (numbers_per_pair * end ≤ length pairs.now) }
     ensures { result ≡ all (contains r) (pairs_between pairs.now first end) }
 {
-    let mut k = first;
-    while k < end {
+    for k in first..end {
         if !contains(r, row_at(pairs, k)) {
             return false;
         }
-        k += 1;
     }
     true
 }

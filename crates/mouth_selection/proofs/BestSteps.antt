@@ -4,7 +4,7 @@ use native.Mathlib.Omega.{arith}
 use mathlib.Core.Path.{◌≡◌, refl, sym, ap, ◌∙◌, subst}
 use mathlib.Core.Logic.{⊎_elim}
 use mathlib.Core.Bool.{Bool, true, false, not, ◌&&◌, cond, true≢false}
-use mathlib.Core.Option.{none, some}
+use Rattle.std.specs.Prelude.{None, Some}
 use mathlib.Core.List.{List, [], ◌∷◌, ◌++◌}
 use lib.ListN.{length, get_or, set, length-set}
 use lib.Seq.{get_or-set_same, get_or-set_other}
@@ -56,18 +56,18 @@ module _ {boundaries pairs starts : List ℕ} {count : ℕ} {C : Context} {marks
   few-count = omega (arith, L.counted, L.bounds.few)
 
   -- nothing is left
-  pub ended : none ≡ least_among C P.chosen (proposals C) → Ended C gone
+  pub ended : None ≡ least_among C P.chosen (proposals C) → Ended C gone
   ended e = record { at = round_last P.chosen P.state P.same e }
 
   -- a is the least of the bests
-  module _ (a : ℕ) (e : entry_if C mouthof rampof outerof kindof count a ≡ least_from (ranks_before C) none (marked_entries C mouthof rampof outerof kindof found count)) where
-    least_all : entry_if C mouthof rampof outerof kindof count a ≡ least_from (ranks_before C) none (marked_entries C mouthof rampof outerof kindof found C.count)
-    least_all = e ∙ ap (λ n. least_from (ranks_before C) none (marked_entries C mouthof rampof outerof kindof found n)) (sym L.counted)
+  module _ (a : ℕ) (e : entry_if C mouthof rampof outerof kindof count a ≡ least_from (ranks_before C) None (marked_entries C mouthof rampof outerof kindof found count)) where
+    least_all : entry_if C mouthof rampof outerof kindof count a ≡ least_from (ranks_before C) None (marked_entries C mouthof rampof outerof kindof found C.count)
+    least_all = e ∙ ap (λ n. least_from (ranks_before C) None (marked_entries C mouthof rampof outerof kindof found n)) (sym L.counted)
 
     pub no_best : a ≡ count → Ended C gone
     no_best f = ended (none_left C P.chosen P.bests (λ i h. omega (arith, h, L.counted)) (sym (entry_none C mouthof rampof outerof kindof count a f) ∙ least_all))
 
-    pub best_first : a < count → is_refused C P.chosen (entry_at C mouthof rampof outerof kindof a) ≡ false → some (entry_at C mouthof rampof outerof kindof a) ≡ least_among C P.chosen (proposals C)
+    pub best_first : a < count → is_refused C P.chosen (entry_at C mouthof rampof outerof kindof a) ≡ false → Some (entry_at C mouthof rampof outerof kindof a) ≡ least_among C P.chosen (proposals C)
     best_first h free =
         best_least C P.chosen P.bests (λ i h. omega (arith, h, L.counted)) (entry_at C mouthof rampof outerof kindof a)
         (sym (entry_in C mouthof rampof outerof kindof count a h) ∙ least_all) free
@@ -145,7 +145,7 @@ module _ {C : Context} {isKnown : ℕ → Type 0} {marks : List ℕ} {gone used 
   marked_at_lem = ap (λ b. only_if b (entry_at C mouthof' rampof' outerof' kindof' a)) found_at ∙ go (ltb k n) refl
     where
       go : (b : Bool) → ltb k n ≡ b → only_if b (entry_at C mouthof' rampof' outerof' kindof' a) ≡ only_if b (entry_at C mouths ramps outers kinds k)
-      go true t = ap some (entry_at_lem t)
+      go true t = ap Some (entry_at_lem t)
       go false f = refl
 
   -- the separation of ramp i
@@ -214,7 +214,7 @@ still-anchored A e odd = record { long = omega (arith, A.long, e); at = λ r h k
 
 module _ {C : Context} {count : ℕ} {marks : List ℕ} {gone used : List Bool} {mouthof rampof outerof kindof apart : List ℕ} {found fresh : List Bool}
     (P : Progress C (λ i. i < count) marks gone used mouthof rampof outerof kindof apart found fresh) (counted : C.count ≡ count) where
-  pub taken-progress : (p : MouthProposal) → some p ≡ least_among C P.chosen (proposals C) → {pairs starts : List ℕ} → ShownPairs C pairs starts
+  pub taken-progress : (p : MouthProposal) → Some p ≡ least_among C P.chosen (proposals C) → {pairs starts : List ℕ} → ShownPairs C pairs starts
       → {marks' : List ℕ} {gone' used' found' fresh' : List Bool} → TakenState C (P.chosen ++ (p ∷ [])) gone' used' marks' → ShownAnchored C marks' → Renewed used' found found' fresh' count
       → Progress C (λ i. i < count) marks' gone' used' mouthof rampof outerof kindof apart found' fresh'
   taken-progress p least rows {used' = used'} {found' = found'} {fresh' = fresh'} S A N =
@@ -235,7 +235,7 @@ module _ {C : Context} {count : ℕ} {marks : List ℕ} {gone used : List Bool} 
         anchored = A;
       }
     where
-      none_marked : (b : Bool) (x : MouthProposal) → only_if (b && false) x ≡ none
+      none_marked : (b : Bool) (x : MouthProposal) → only_if (b && false) x ≡ None
       none_marked true x = refl
       none_marked false x = refl
 

@@ -4,7 +4,7 @@ use native.Mathlib.Omega.{arith}
 use mathlib.Core.Path.{◌≡◌, refl, sym, ap, ap₂, ◌∙◌, subst}
 use mathlib.Core.Logic.{⊎_elim}
 use mathlib.Core.Bool.{Bool, true, false, not, ◌&&◌, ◌||◌, cond, or-false}
-use mathlib.Core.Option.{Option, none}
+use Rattle.std.specs.Prelude.{Option, None}
 use mathlib.Core.List.{List, [], ◌∷◌, map}
 use lib.ListN.{get_or}
 use lib.Dec.{eqb, leb}
@@ -109,9 +109,9 @@ module _ (C : Context) (T : List MouthProposal) where
         three true = le-leb 3 (held T r + 2) (omega arith)
         three false = le-leb 3 (held T r + 1) (omega arith)
 
-  none_free : {l : List MouthProposal} → All Refused l → none ≡ least_among C T l
+  none_free : {l : List MouthProposal} → All Refused l → None ≡ least_among C T l
   unfolding least_among least_from
-  none_free a = sym (ap (least_from (ranks_before C) none) (filter_none (λ p. not (is_refused C T p)) (λ p e. ap not e) a))
+  none_free a = sym (ap (least_from (ranks_before C) None) (filter_none (λ p. not (is_refused C T p)) (λ p e. ap not e) a))
 
   collected : (n : ℕ) (f : ℕ → Option MouthProposal) → ((i : ℕ) → i < n → OnO Refused (f i)) → All Refused (collect n f)
   unfolding collect
@@ -119,7 +119,7 @@ module _ (C : Context) (T : List MouthProposal) where
   collected (suc n) f h = all_append (collected n f (λ i l. h i (omega arith))) (on_list (h n (omega arith)))
 
   -- no boundary can be a mouth
-  pub all_none : ((m : ℕ) → m < C.count → Gone C T m) → none ≡ least_among C T (proposals C)
+  pub all_none : ((m : ℕ) → m < C.count → Gone C T m) → None ≡ least_among C T (proposals C)
   unfolding proposals
   all_none g = none_free (gather-below (λ a. collect C.count (mouth_proposal C a)) C.count (λ a h. collected C.count (mouth_proposal C a) (λ m k. (g m k).refused a)))
 
@@ -131,7 +131,7 @@ module _ (C : Context) (T : List MouthProposal) where
       record {
         refused = λ a.
             subst (OnO Refused)
-            (sym ((λ i. cond (not (no_ramp C a) && full_cut C a && e i && near a) (rest a) none) ∙ go (not (no_ramp C a)) (full_cut C a) (near a) (rest a)))
+            (sym ((λ i. cond (not (no_ramp C a) && full_cut C a && e i && near a) (rest a) None) ∙ go (not (no_ramp C a)) (full_cut C a) (near a) (rest a)))
             absent;
       }
     where
@@ -141,7 +141,7 @@ module _ (C : Context) (T : List MouthProposal) where
       rest : ℕ → Option MouthProposal
       rest a = retain (is_local C) (triangle_or C (triangle C m a) m a (shaped_mouth C m a (full_pair C a) (mouth_shape (full_cut C m) (C.pairs m))))
 
-      go : (x y z : Bool) (o : Option MouthProposal) → cond (x && y && false && z) o none ≡ none
+      go : (x y z : Bool) (o : Option MouthProposal) → cond (x && y && false && z) o None ≡ None
       go true true z o = refl
       go true false z o = refl
       go false y z o = refl
@@ -177,5 +177,5 @@ module _ (C : Context) (T : List MouthProposal) where
 
   -- ---- a ramp whose end is used
 
-  pub used_none : {pairs starts : List ℕ} → ShownPairs C pairs starts → (a : ℕ) → is_used C T a ≡ true → none ≡ least_among C T (row_of C a)
+  pub used_none : {pairs starts : List ℕ} → ShownPairs C pairs starts → (a : ℕ) → is_used C T a ≡ true → None ≡ least_among C T (row_of C a)
   used_none P a e = none_free (collected C.count (mouth_proposal C a) (λ m h. on_map_lem (λ p F. by_ramp p F e) (formed P h a)))

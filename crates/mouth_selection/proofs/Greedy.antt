@@ -2,7 +2,7 @@
 -- conflicts with a taken element does so for good, and the least of what is left is the next of the sorted list that is taken. Assumes nothing.
 use mathlib.Core.Path.{◌≡◌, refl, sym, ap, ◌∙◌}
 use mathlib.Core.Bool.{Bool, true, false, not, ◌||◌, cond, or-true, true≢false, false≢true}
-use mathlib.Core.Option.{Option, none, some}
+use Rattle.std.specs.Prelude.{Option, None, Some}
 use mathlib.Core.List.{List, [], ◌∷◌, ◌++◌}
 use Rattle.definitions.specs.Scan.{any, filter}
 use Rattle.definitions.specs.Sort.{insert, sort_onto, sort, select}
@@ -12,8 +12,8 @@ use Rattle.mouth_selection.specs.Rounds.{better, least_from}
 
 module _ {A : Type 0} where
   abbrev pub head_of : List A → Option A
-  head_of [] = none
-  head_of (x ∷ l) = some x
+  head_of [] = None
+  head_of (x ∷ l) = Some x
 
   module _ (lt : A → A → Bool) where
     head-insert : (x : A) (l : List A) → head_of (insert lt x l) ≡ better lt (head_of l) x
@@ -21,7 +21,7 @@ module _ {A : Type 0} where
     head-insert x [] = refl
     head-insert x (y ∷ l) = go (lt x y)
       where
-        go : (b : Bool) → head_of (cond b (x ∷ y ∷ l) (y ∷ insert lt x l)) ≡ some (cond b x y)
+        go : (b : Bool) → head_of (cond b (x ∷ y ∷ l) (y ∷ insert lt x l)) ≡ Some (cond b x y)
         go true = refl
         go false = refl
 
@@ -30,7 +30,7 @@ module _ {A : Type 0} where
     head-sort_onto acc [] = refl
     head-sort_onto acc (x ∷ l) = head-sort_onto (insert lt x acc) l ∙ ap (λ b. least_from lt b l) (head-insert x acc)
 
-    pub head-sort : (l : List A) → head_of (sort lt l) ≡ least_from lt none l
+    pub head-sort : (l : List A) → head_of (sort lt l) ≡ least_from lt None l
     unfolding sort
     head-sort l = head-sort_onto [] l
 
@@ -89,27 +89,27 @@ module _ {A : Type 0} where
         itself = any_append (λ q. conflict q p) taken (p ∷ []) ∙ ap (λ b. any (λ q. conflict q p) taken || (b || false)) self ∙ or-true (any (λ q. conflict q p) taken)
 
     module _ (lt : A → A → Bool) (W : Weak lt) (l taken : List A) where
-      empty_of : (m : List A) → head_of m ≡ none → m ≡ []
+      empty_of : (m : List A) → head_of m ≡ None → m ≡ []
       empty_of [] e = refl
       empty_of (x ∷ m) e = absurd (not_none e)
         where
-          not_none : some x ≡ none → ⊥
+          not_none : Some x ≡ None → ⊥
           not_none e = let z : ◌≡◌ {A = Bool} true false = cc in true≢false z
 
       -- nothing is left: what was taken is what is selected
-      pub rounds-end : least_from lt none (filter (is_left taken) l) ≡ none → select conflict taken (sort lt l) ≡ taken
+      pub rounds-end : least_from lt None (filter (is_left taken) l) ≡ None → select conflict taken (sort lt l) ≡ taken
       rounds-end e =
           none_left taken (sort lt l) (filter-sort lt W (is_left taken) l ∙ empty_of (sort lt (filter (is_left taken) l)) (head-sort lt (filter (is_left taken) l) ∙ e))
 
       -- the least of what is left is taken next
-      pub round-taken : (p : A) → conflict p p ≡ true → is_left taken p ≡ true → least_from lt none (filter (is_left taken) l) ≡ some p
+      pub round-taken : (p : A) → conflict p p ≡ true → is_left taken p ≡ true → least_from lt None (filter (is_left taken) l) ≡ Some p
           → select conflict taken (sort lt l) ≡ select conflict (taken ++ (p ∷ [])) (sort lt l)
       round-taken p self free e = go (sort lt (filter (is_left taken) l)) (filter-sort lt W (is_left taken) l) (head-sort lt (filter (is_left taken) l) ∙ e)
         where
-          go : (m : List A) → filter (is_left taken) (sort lt l) ≡ m → head_of m ≡ some p → select conflict taken (sort lt l) ≡ select conflict (taken ++ (p ∷ [])) (sort lt l)
+          go : (m : List A) → filter (is_left taken) (sort lt l) ≡ m → head_of m ≡ Some p → select conflict taken (sort lt l) ≡ select conflict (taken ++ (p ∷ [])) (sort lt l)
           go [] f h = absurd (none_some h)
             where
-              none_some : none ≡ some p → ⊥
+              none_some : None ≡ Some p → ⊥
               none_some e = let z : ◌≡◌ {A = Bool} true false = cc in true≢false z
           go (x ∷ r) f h =
               let same : x ≡ p = cc in

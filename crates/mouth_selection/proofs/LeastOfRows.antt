@@ -4,7 +4,7 @@ use Prim.Native.Nat.{ℕ, zero, suc, ◌<◌}
 use native.Mathlib.Omega.{arith}
 use mathlib.Core.Path.{◌≡◌, refl, sym, ap, ◌∙◌, subst}
 use mathlib.Core.Bool.{Bool, true, false, cond, true≢false}
-use mathlib.Core.Option.{Option, none, some}
+use Rattle.std.specs.Prelude.{Option, None, Some}
 use mathlib.Core.List.{List, [], ◌∷◌, ◌++◌}
 use Rattle.definitions.specs.Scan.{filter, collect, gather, to_list}
 use Rattle.definitions.specs.Sort.{sort}
@@ -16,12 +16,12 @@ use Rattle.mouth_selection.proofs.Greedy.{head_of, head-sort}
 module _ {A : Type 0} (lt : A → A → Bool) (W : Weak lt) where
   -- of two that are level the earlier
   abbrev pub join : Option A → Option A → Option A
-  join b none = b
-  join b (some x) = better lt b x
+  join b None = b
+  join b (Some x) = better lt b x
 
   -- the first least of the first n rows, of each its first least
   unfoldable pub least_rows : ℕ → (ℕ → Option A) → Option A
-  least_rows zero g = none
+  least_rows zero g = None
   least_rows (suc n) g = join (least_rows n g) (g n)
 
   -- ---- comparisons
@@ -47,8 +47,8 @@ module _ {A : Type 0} (lt : A → A → Bool) (W : Weak lt) where
 
   -- ---- rows
 
-  better-join : (y x z : A) → better lt (some (cond (lt x y) x y)) z ≡ better lt (some y) (cond (lt z x) z x)
-  better-join y x z = ap some (go (lt x y) refl (lt z x) refl)
+  better-join : (y x z : A) → better lt (Some (cond (lt x y) x y)) z ≡ better lt (Some y) (cond (lt z x) z x)
+  better-join y x z = ap Some (go (lt x y) refl (lt z x) refl)
     where
       go : (p : Bool) → lt x y ≡ p → (q : Bool) → lt z x ≡ q → cond (lt z (cond p x y)) z (cond p x y) ≡ cond (lt (cond q z x) y) (cond q z x) y
       go true p true q = ap (λ b. cond b z x) q ∙ sym (ap (λ b. cond b z y) (through z x y q p))
@@ -56,83 +56,83 @@ module _ {A : Type 0} (lt : A → A → Bool) (W : Weak lt) where
       go false p true q = refl
       go false p false q = ap (λ b. cond b z y) (behind z x y q p) ∙ sym (ap (λ b. cond b x y) p)
 
-  join-join : (b : Option A) (x : A) (c : Option A) → join (better lt b x) c ≡ join b (join (some x) c)
-  join-join b x none = refl
-  join-join none x (some z) = refl
-  join-join (some y) x (some z) = better-join y x z
+  join-join : (b : Option A) (x : A) (c : Option A) → join (better lt b x) c ≡ join b (join (Some x) c)
+  join-join b x None = refl
+  join-join None x (Some z) = refl
+  join-join (Some y) x (Some z) = better-join y x z
 
-  pub least_join : (b : Option A) (l : List A) → least_from lt b l ≡ join b (least_from lt none l)
+  pub least_join : (b : Option A) (l : List A) → least_from lt b l ≡ join b (least_from lt None l)
   unfolding least_from
   least_join b [] = refl
-  least_join b (x ∷ l) = least_join (better lt b x) l ∙ join-join b x (least_from lt none l) ∙ sym (ap (join b) (least_join (some x) l))
+  least_join b (x ∷ l) = least_join (better lt b x) l ∙ join-join b x (least_from lt None l) ∙ sym (ap (join b) (least_join (Some x) l))
 
   least_append : (b : Option A) (l m : List A) → least_from lt b (l ++ m) ≡ least_from lt (least_from lt b l) m
   unfolding least_from
   least_append b [] m = refl
   least_append b (x ∷ l) m = least_append (better lt b x) l m
 
-  pub least_rows_lem : (p : A → Bool) (f : ℕ → List A) (n : ℕ) → least_from lt none (filter p (gather n f)) ≡ least_rows n (λ a. least_from lt none (filter p (f a)))
+  pub least_rows_lem : (p : A → Bool) (f : ℕ → List A) (n : ℕ) → least_from lt None (filter p (gather n f)) ≡ least_rows n (λ a. least_from lt None (filter p (f a)))
   unfolding gather filter least_from least_rows
   least_rows_lem p f zero = refl
   least_rows_lem p f (suc n) =
-      ap (least_from lt none) (filter-append p (gather n f) (f n)) ∙ least_append none (filter p (gather n f)) (filter p (f n))
-      ∙ least_join (least_from lt none (filter p (gather n f))) (filter p (f n)) ∙ ap (λ b. join b (least_from lt none (filter p (f n)))) (least_rows_lem p f n)
+      ap (least_from lt None) (filter-append p (gather n f) (f n)) ∙ least_append None (filter p (gather n f)) (filter p (f n))
+      ∙ least_join (least_from lt None (filter p (gather n f))) (filter p (f n)) ∙ ap (λ b. join b (least_from lt None (filter p (f n)))) (least_rows_lem p f n)
 
-  pub least_collected : (g : ℕ → Option A) (n : ℕ) → least_from lt none (collect n g) ≡ least_rows n g
+  pub least_collected : (g : ℕ → Option A) (n : ℕ) → least_from lt None (collect n g) ≡ least_rows n g
   unfolding collect least_from least_rows
   least_collected g zero = refl
-  least_collected g (suc n) = least_append none (collect n g) (to_list (g n)) ∙ last (least_from lt none (collect n g)) (g n) ∙ ap (λ b. join b (g n)) (least_collected g n)
+  least_collected g (suc n) = least_append None (collect n g) (to_list (g n)) ∙ last (least_from lt None (collect n g)) (g n) ∙ ap (λ b. join b (g n)) (least_collected g n)
     where
       last : (b o : Option A) → least_from lt b (to_list o) ≡ join b o
-      last b none = refl
-      last b (some x) = refl
+      last b None = refl
+      last b (Some x) = refl
 
   -- ---- what is known of a row, and its first least that is left
 
   module _ (p : A → Bool) where
     -- of two that are not before x one is chosen
     chosen : (x : A) (b o : Option A) → NotBefore lt x b → NotBefore lt x o → NotBefore lt x (join b o)
-    chosen x b none h k = h
-    chosen x none (some y) h k = k
-    chosen x (some w) (some y) h k = go (lt y w)
+    chosen x b None h k = h
+    chosen x None (Some y) h k = k
+    chosen x (Some w) (Some y) h k = go (lt y w)
       where
         go : (b : Bool) → lt (cond b y w) x ≡ false
         go true = k
         go false = h
 
     not-before-through : (x w : A) (o : Option A) → lt x w ≡ true → NotBefore lt w o → NotBefore lt x o
-    not-before-through x w none h k = tt
-    not-before-through x w (some y) h k = W.asym x y (W.cotr x w y h k)
+    not-before-through x w None h k = tt
+    not-before-through x w (Some y) h k = W.asym x y (W.cotr x w y h k)
 
     not-before-behind : (x w : A) (o : Option A) → lt x w ≡ false → NotBefore lt x o → NotBefore lt w o
-    not-before-behind x w none h k = tt
-    not-before-behind x w (some y) h k = behind y x w k h
+    not-before-behind x w None h k = tt
+    not-before-behind x w (Some y) h k = behind y x w k h
 
-    stays : (w : A) (o : Option A) → NotBefore lt w o → join (some w) o ≡ some w
-    stays w none k = refl
-    stays w (some y) k = ap (λ b. some (cond b y w)) k
+    stays : (w : A) (o : Option A) → NotBefore lt w o → join (Some w) o ≡ Some w
+    stays w None k = refl
+    stays w (Some y) k = ap (λ b. Some (cond b y w)) k
 
-    beats : (x w : A) (b : Option A) → lt x w ≡ true → NotBefore lt w b → better lt b x ≡ some x
-    beats x w none h k = refl
-    beats x w (some v) h k = ap (λ b. some (cond b x v)) (W.cotr x w v h k)
+    beats : (x w : A) (b : Option A) → lt x w ≡ true → NotBefore lt w b → better lt b x ≡ Some x
+    beats x w None h k = refl
+    beats x w (Some v) h k = ap (λ b. Some (cond b x v)) (W.cotr x w v h k)
 
     pub under-join : {b b' e e' : Option A} → Under lt p b b' → Under lt p e e' → Under lt p (join b e) (join b' e')
     under-join same same = same
-    under-join {b = none} {e' = e'} same (over {x = x} h k) = over h (chosen x none e' tt k)
-    under-join {b = some w} {e' = e'} same (over {x = x} h k) = go (lt x w) refl
+    under-join {b = None} {e' = e'} same (over {x = x} h k) = over h (chosen x None e' tt k)
+    under-join {b = Some w} {e' = e'} same (over {x = x} h k) = go (lt x w) refl
       where
-        go : (c : Bool) → lt x w ≡ c → Under lt p (some (cond c x w)) (join (some w) e')
-        go true f = over h (chosen x (some w) e' (W.asym x w f) k)
-        go false f = subst (Under lt p (some w)) (sym (stays w e' (not-before-behind x w e' f k))) same
-    under-join {e = none} (over h k) same = over h k
-    under-join {b' = b'} {e = some x} (over {x = w} h k) same = go (lt x w) refl
+        go : (c : Bool) → lt x w ≡ c → Under lt p (Some (cond c x w)) (join (Some w) e')
+        go true f = over h (chosen x (Some w) e' (W.asym x w f) k)
+        go false f = subst (Under lt p (Some w)) (sym (stays w e' (not-before-behind x w e' f k))) same
+    under-join {e = None} (over h k) same = over h k
+    under-join {b' = b'} {e = Some x} (over {x = w} h k) same = go (lt x w) refl
       where
-        go : (c : Bool) → lt x w ≡ c → Under lt p (some (cond c x w)) (better lt b' x)
-        go true f = subst (Under lt p (some x)) (sym (beats x w b' f k)) same
-        go false f = over h (chosen w b' (some x) k f)
+        go : (c : Bool) → lt x w ≡ c → Under lt p (Some (cond c x w)) (better lt b' x)
+        go true f = subst (Under lt p (Some x)) (sym (beats x w b' f k)) same
+        go false f = over h (chosen w b' (Some x) k f)
     under-join {b' = b'} {e' = e'} (over {x = w} h k) (over {x = x} i l) = go (lt x w) refl
       where
-        go : (c : Bool) → lt x w ≡ c → Under lt p (some (cond c x w)) (join b' e')
+        go : (c : Bool) → lt x w ≡ c → Under lt p (Some (cond c x w)) (join b' e')
         go true f = over i (chosen x b' e' (not-before-through x w b' f k) l)
         go false f = over h (chosen w b' e' k (not-before-behind x w e' f l))
 
@@ -142,11 +142,11 @@ module _ {A : Type 0} (lt : A → A → Bool) (W : Weak lt) where
     under-rows e f (suc n) h = under-join (under-rows e f n (λ a l. h a (omega arith))) (h n (omega arith))
 
     -- the least of what is known is left, or there is none
-    pub under_left : {x : A} {o : Option A} → p x ≡ true → Under lt p (some x) o → o ≡ some x
+    pub under_left : {x : A} {o : Option A} → p x ≡ true → Under lt p (Some x) o → o ≡ Some x
     under_left h same = refl
     under_left h (over k l) = apart h k
 
-    pub under_none : {o : Option A} → Under lt p none o → o ≡ none
+    pub under_none : {o : Option A} → Under lt p None o → o ≡ None
     under_none same = refl
 
   -- ---- fewer are left
@@ -178,13 +178,13 @@ module _ {A : Type 0} (lt : A → A → Bool) (W : Weak lt) where
     sorted-under [] Sorted.none = same
     sorted-under (y ∷ l) (Sorted.some a s) = go (q y) refl
       where
-        go : (b : Bool) → q y ≡ b → Under lt q (some y) (head_of (cond b (y ∷ filter q l) (filter q l)))
+        go : (b : Bool) → q y ≡ b → Under lt q (Some y) (head_of (cond b (y ∷ filter q l) (filter q l)))
         go true e = same
         go false e = over e (after-head y l a)
 
-    shrunk : (l : List A) → Under lt q (least_from lt none (filter p l)) (least_from lt none (filter q l))
+    shrunk : (l : List A) → Under lt q (least_from lt None (filter p l)) (least_from lt None (filter q l))
     shrunk l =
-        subst (λ o. Under lt q o (least_from lt none (filter q l))) (head-sort lt (filter p l))
+        subst (λ o. Under lt q o (least_from lt None (filter q l))) (head-sort lt (filter p l))
         (subst (Under lt q (head_of (sort lt (filter p l)))) (ap head_of (filter-sort lt W q (filter p l) ∙ ap (sort lt) (filter-twice l)) ∙ head-sort lt (filter q l))
         (sorted-under (sort lt (filter p l)) (sort_sorted lt W (filter p l))))
 
@@ -201,5 +201,5 @@ module _ {A : Type 0} (lt : A → A → Bool) (W : Weak lt) where
     both_under {g = g} (over {x = x} h k) (over {x = y} i l) = over (still x h) (not-before-behind p y x g k l)
 
     -- what is known of a row stays so
-    pub under-fewer : {e : Option A} (l : List A) → Under lt p e (least_from lt none (filter p l)) → Under lt q e (least_from lt none (filter q l))
+    pub under-fewer : {e : Option A} (l : List A) → Under lt p e (least_from lt None (filter p l)) → Under lt q e (least_from lt None (filter q l))
     under-fewer l u = both_under u (shrunk l)

@@ -4,7 +4,7 @@ use Prim.Native.Nat.{ℕ, zero, suc, ◌+◌, ◌<◌}
 use native.Mathlib.Omega.{arith}
 use mathlib.Core.Path.{◌≡◌, refl, sym, ap, ap₂, ◌∙◌}
 use mathlib.Core.Bool.{Bool, true, false, not, ◌&&◌, cond}
-use mathlib.Core.Option.{Option, none, some}
+use Rattle.std.specs.Prelude.{Option, None, Some}
 use mathlib.Core.List.{List, [], ◌∷◌, ◌++◌, append-nil}
 use lib.ListN.{get_or}
 use Rattle.definitions.specs.Scan.{filter, collect, to_list, only_if}
@@ -45,15 +45,15 @@ module _ (C : Context) (mouths ramps outers kinds : List ℕ) where
     near_next : (k : ℕ) → least (k + 1) ≡ cond (get_or marked k false && corners_near_lem C (at k)) (better (ranks_before C) (least k) (at k)) (least k)
     unfolding near_least marked_entries filter
     near_next k =
-        ap (λ l. least_from (ranks_before C) none (filter (corners_near_lem C) l)) (collect_next (marked_at C mouths ramps outers kinds marked) k)
-        ∙ ap (least_from (ranks_before C) none) (filter-append (corners_near_lem C) (collect k (marked_at C mouths ramps outers kinds marked)) (to_list (only_if (get_or marked k false) (at k))))
+        ap (λ l. least_from (ranks_before C) None (filter (corners_near_lem C) l)) (collect_next (marked_at C mouths ramps outers kinds marked) k)
+        ∙ ap (least_from (ranks_before C) None) (filter-append (corners_near_lem C) (collect k (marked_at C mouths ramps outers kinds marked)) (to_list (only_if (get_or marked k false) (at k))))
         ∙ go (get_or marked k false) (corners_near_lem C (at k)) refl (filter (corners_near_lem C) (collect k (marked_at C mouths ramps outers kinds marked)))
       where
-        go : (b c : Bool) → corners_near_lem C (at k) ≡ c → (l : List MouthProposal) → least_from (ranks_before C) none (l ++ filter (corners_near_lem C) (to_list (only_if b (at k))))
-            ≡ cond (b && c) (better (ranks_before C) (least_from (ranks_before C) none l) (at k)) (least_from (ranks_before C) none l)
-        go true true e l = ap (λ c. least_from (ranks_before C) none (l ++ cond c (at k ∷ []) [])) e ∙ least_last (ranks_before C) none l (at k)
-        go true false e l = ap (λ c. least_from (ranks_before C) none (l ++ cond c (at k ∷ []) [])) e ∙ ap (least_from (ranks_before C) none) (append-nil l)
-        go false c e l = ap (least_from (ranks_before C) none) (append-nil l)
+        go : (b c : Bool) → corners_near_lem C (at k) ≡ c → (l : List MouthProposal) → least_from (ranks_before C) None (l ++ filter (corners_near_lem C) (to_list (only_if b (at k))))
+            ≡ cond (b && c) (better (ranks_before C) (least_from (ranks_before C) None l) (at k)) (least_from (ranks_before C) None l)
+        go true true e l = ap (λ c. least_from (ranks_before C) None (l ++ cond c (at k ∷ []) [])) e ∙ least_last (ranks_before C) None l (at k)
+        go true false e l = ap (λ c. least_from (ranks_before C) None (l ++ cond c (at k ∷ []) [])) e ∙ ap (least_from (ranks_before C) None) (append-nil l)
+        go false c e l = ap (least_from (ranks_before C) None) (append-nil l)
 
     pub near_none : (n : ℕ) → entry_if C mouths ramps outers kinds n n ≡ least 0
     unfolding near_least marked_entries collect filter least_from
@@ -91,12 +91,12 @@ module _ (C : Context) (mouths ramps outers kinds : List ℕ) where
   -- ---- the best of the ramp
 
   marked-are : (marked : List Bool) (p : MouthProposal → Bool) (n : ℕ) → ((k : ℕ) → k < n → get_or marked k false ≡ p (at k))
-      → marked_entries C mouths ramps outers kinds marked n ≡ filter p (collect n (λ k. some (at k)))
+      → marked_entries C mouths ramps outers kinds marked n ≡ filter p (collect n (λ k. Some (at k)))
   unfolding marked_entries collect filter
   marked-are marked p zero h = refl
   marked-are marked p (suc n) h =
       ap₂ ◌++◌ (marked-are marked p n (λ k l. h k (omega arith))) (ap (λ b. to_list (only_if b (at n))) (h n (omega arith)) ∙ one (p (at n)))
-      ∙ sym (filter-append p (collect n (λ k. some (at k))) (at n ∷ []))
+      ∙ sym (filter-append p (collect n (λ k. Some (at k))) (at n ∷ []))
     where
       one : (b : Bool) → to_list (only_if b (at n)) ≡ cond b (at n ∷ []) []
       one true = refl
@@ -115,7 +115,7 @@ best_of {C} {T} {a} {mouths} {ramps} {outers} {kinds} {marked = marked} {n = n} 
       bits = L.filled.listed.bits k;
       least =
           e
-          ∙ ap (least_from (ranks_before C) none)
-          (ap (filter (corners_near_lem C)) (marked-are C mouths ramps outers kinds marked free n L.left) ∙ filter-swap (corners_near_lem C) free (collect n (λ k. some (entry_at C mouths ramps outers kinds k)))
+          ∙ ap (least_from (ranks_before C) None)
+          (ap (filter (corners_near_lem C)) (marked-are C mouths ramps outers kinds marked free n L.left) ∙ filter-swap (corners_near_lem C) free (collect n (λ k. Some (entry_at C mouths ramps outers kinds k)))
           ∙ ap (filter free) (ap (filter (corners_near_lem C)) L.filled.entries ∙ sym (row_is C a C.count)));
     }

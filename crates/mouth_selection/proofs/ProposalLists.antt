@@ -3,7 +3,7 @@ use Prim.Native.Nat.{ℕ, zero, suc, ◌-◌, ◌/◌, ◌≤◌, ◌<◌}
 use native.Mathlib.Omega.{arith}
 use mathlib.Core.Path.{◌≡◌, refl, sym, ap, ap₂, ◌∙◌}
 use mathlib.Core.Bool.{Bool, true, false, not, ◌&&◌, ◌||◌, cond}
-use mathlib.Core.Option.{Option, none, some}
+use Rattle.std.specs.Prelude.{Option, None, Some}
 use mathlib.Core.List.{List, [], ◌∷◌, ◌++◌, map}
 use lib.ListN.{get_or}
 use lib.Ieee.{lt}
@@ -20,8 +20,8 @@ module _ (C : Context) where
   close p = not (lt max_mouth_distance p.separation)
 
   again : (o : Option MouthProposal) → retain (λ p. close p && corners_near_lem C p) o ≡ retain (corners_near_lem C) (retain close o)
-  again none = refl
-  again (some p) = both (close p)
+  again None = refl
+  again (Some p) = both (close p)
     where
       both : (x : Bool) → only_if (x && corners_near_lem C p) p ≡ retain (corners_near_lem C) (only_if x p)
       both true = refl
@@ -31,15 +31,15 @@ module _ (C : Context) where
   unfolding mouth_proposal mouth_candidate found_mouth is_local
   proposal_is a m = go (not (no_ramp C a) && full_cut C a && no_ramp C m && (broad_mouth C m a || nearby_representative C m a || overlay_representative C m a)) (triangle_or C (triangle C m a) m a (shaped_mouth C m a (full_pair C a) (mouth_shape (full_cut C m) (C.pairs m))))
     where
-      go : (b : Bool) (o : Option MouthProposal) → cond b (retain (λ p. close p && corners_near_lem C p) o) none ≡ retain (corners_near_lem C) (retain close (cond b o none))
+      go : (b : Bool) (o : Option MouthProposal) → cond b (retain (λ p. close p && corners_near_lem C p) o) None ≡ retain (corners_near_lem C) (retain close (cond b o None))
       go true o = again o
       go false o = refl
 
   -- what a filter leaves of what is collected
   kept : (o : Option MouthProposal) → to_list (retain (corners_near_lem C) o) ≡ filter (corners_near_lem C) (to_list o)
   unfolding filter
-  kept none = refl
-  kept (some p) = go (corners_near_lem C p)
+  kept None = refl
+  kept (Some p) = go (corners_near_lem C p)
     where
       go : (b : Bool) → to_list (only_if b p) ≡ cond b (p ∷ []) []
       go true = refl

@@ -3,7 +3,7 @@ use Prim.Native.Nat.{ℕ, ◌+◌, ◌<◌}
 use native.Mathlib.Omega.{arith}
 use mathlib.Core.Path.{◌≡◌, refl, sym, ap, ap₂, ◌∙◌}
 use mathlib.Core.Bool.{Bool, true, false, cond}
-use mathlib.Core.Option.{Option, none, some}
+use Rattle.std.specs.Prelude.{Option, None, Some}
 use mathlib.Core.List.{List, ◌∷◌, ◌++◌, append-nil}
 use lib.ListN.{get_or}
 use borrow.Author.Tests.{lt-ltb, le-ltb}
@@ -24,10 +24,10 @@ module _ (C : Context) (mouths ramps outers kinds : List ℕ) where
   abbrev at : ℕ → MouthProposal
   at = entry_at C mouths ramps outers kinds
 
-  pub entry_in : (n k : ℕ) → k < n → entry_if C mouths ramps outers kinds n k ≡ some (at k)
+  pub entry_in : (n k : ℕ) → k < n → entry_if C mouths ramps outers kinds n k ≡ Some (at k)
   entry_in n k h = ap (λ b. only_if b (at k)) (lt-ltb k n h)
 
-  pub entry_none : (n k : ℕ) → k ≡ n → entry_if C mouths ramps outers kinds n k ≡ none
+  pub entry_none : (n k : ℕ) → k ≡ n → entry_if C mouths ramps outers kinds n k ≡ None
   entry_none n k e = ap (λ b. only_if b (at k)) (le-ltb k n (omega (arith, e)))
 
   key-shown : {boundaries separations : List ℕ} {marked : List Bool} {n : ℕ} → ShownBoundaries C boundaries → Measured C mouths ramps separations marked n → (k : ℕ) → k < n → get_or marked k false ≡ true
@@ -52,33 +52,33 @@ module _ (C : Context) (mouths ramps outers kinds : List ℕ) where
 
     -- r is what `entry_before` answered
     module _ {boundaries separations : List ℕ} (S : ShownBoundaries C boundaries) (M : Measured C mouths ramps separations marked n) (e : get_or marked k false ≡ true) (hb : best < n) (b : get_or marked best false ≡ true) {r : Bool} (d : r ≡ list_lt (key_at boundaries (get_or separations k 0) (get_or mouths k 0) (get_or ramps k 0)) (key_at boundaries (get_or separations best 0) (get_or mouths best 0) (get_or ramps best 0))) where
-      compared : some (cond r (at k) (at best)) ≡ better (ranks_before C) (entry_if C mouths ramps outers kinds n best) (at k)
+      compared : Some (cond r (at k) (at best)) ≡ better (ranks_before C) (entry_if C mouths ramps outers kinds n best) (at k)
       unfolding ranks_before
       compared =
-          ap (λ b. some (cond b (at k) (at best))) (d ∙ ap₂ list_lt (key-shown S M k hk e) (key-shown S M best hb b))
+          ap (λ b. Some (cond b (at k) (at best))) (d ∙ ap₂ list_lt (key-shown S M k hk e) (key-shown S M best hb b))
           ∙ sym (ap (λ b. better (ranks_before C) b (at k)) (entry_in n best hb))
 
       pub one_better : {b : Bool} (j : ℕ) → r ≡ b → j < n → at j ≡ cond b (at k) (at best) → entry_if C mouths ramps outers kinds n j ≡ next
       unfolding better_of
       one_better j f hj g =
-          entry_in n j hj ∙ ap some (g ∙ ap (λ b. cond b (at k) (at best)) (sym f)) ∙ compared
+          entry_in n j hj ∙ ap Some (g ∙ ap (λ b. cond b (at k) (at best)) (sym f)) ∙ compared
           ∙ sym (ap (λ b. cond b (better (ranks_before C) (entry_if C mouths ramps outers kinds n best) (at k)) (entry_if C mouths ramps outers kinds n best)) e)
 
   -- ---- entry by entry
 
   least_more : (l : List MouthProposal) (b : Bool) (p : MouthProposal)
-      → least_from (ranks_before C) none (l ++ to_list (only_if b p)) ≡ cond b (better (ranks_before C) (least_from (ranks_before C) none l) p) (least_from (ranks_before C) none l)
-  least_more l false p = ap (least_from (ranks_before C) none) (append-nil l)
-  least_more l true p = least_last (ranks_before C) none l p
+      → least_from (ranks_before C) None (l ++ to_list (only_if b p)) ≡ cond b (better (ranks_before C) (least_from (ranks_before C) None l) p) (least_from (ranks_before C) None l)
+  least_more l false p = ap (least_from (ranks_before C) None) (append-nil l)
+  least_more l true p = least_last (ranks_before C) None l p
 
   module _ (marked : List Bool) (n : ℕ) where
-    pub round-start : entry_if C mouths ramps outers kinds n n ≡ least_from (ranks_before C) none (marked_entries C mouths ramps outers kinds marked 0)
+    pub round-start : entry_if C mouths ramps outers kinds n n ≡ least_from (ranks_before C) None (marked_entries C mouths ramps outers kinds marked 0)
     unfolding marked_entries collect least_from
     round-start = entry_none n n refl
 
-    pub round_more : (k : ℕ) {b c : Option MouthProposal} → b ≡ least_from (ranks_before C) none (marked_entries C mouths ramps outers kinds marked k) → c ≡ better_of C mouths ramps outers kinds marked k b
-        → c ≡ least_from (ranks_before C) none (marked_entries C mouths ramps outers kinds marked (k + 1))
+    pub round_more : (k : ℕ) {b c : Option MouthProposal} → b ≡ least_from (ranks_before C) None (marked_entries C mouths ramps outers kinds marked k) → c ≡ better_of C mouths ramps outers kinds marked k b
+        → c ≡ least_from (ranks_before C) None (marked_entries C mouths ramps outers kinds marked (k + 1))
     unfolding better_of marked_entries
     round_more k {b} e f =
         f ∙ ap (λ b. cond (get_or marked k false) (better (ranks_before C) b (at k)) b) e
-        ∙ sym (ap (least_from (ranks_before C) none) (collect_next (marked_at C mouths ramps outers kinds marked) k) ∙ least_more (collect k (marked_at C mouths ramps outers kinds marked)) (get_or marked k false) (at k))
+        ∙ sym (ap (least_from (ranks_before C) None) (collect_next (marked_at C mouths ramps outers kinds marked) k) ∙ least_more (collect k (marked_at C mouths ramps outers kinds marked)) (get_or marked k false) (at k))

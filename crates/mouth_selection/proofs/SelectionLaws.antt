@@ -4,7 +4,7 @@ use native.Mathlib.Omega.{arith}
 use native.Mathlib.Nat.{le_trans}
 use mathlib.Core.Path.{◌≡◌, refl, sym, ap, ◌∙◌, subst}
 use mathlib.Core.Bool.{Bool, true, false, not, ◌||◌, cond, or-false, or-true, false≢true}
-use mathlib.Core.Option.{Option, none, some}
+use Rattle.std.specs.Prelude.{Option, None, Some}
 use mathlib.Core.List.{List, [], ◌∷◌, ◌++◌, map}
 use lib.ListN.{length, get_or}
 use lib.Dec.{eqb}
@@ -61,26 +61,26 @@ module _ {boundaries pairs starts mouths ramps outers : List ℕ} {count n : ℕ
 -- ---- the least of what is left is left
 
 least_passes : {P : MouthProposal → Type 0} (lt : MouthProposal → MouthProposal → Bool) (b : Option MouthProposal) {l : List MouthProposal} (p : MouthProposal)
-    → ((q : MouthProposal) → b ≡ some q → P q) → All P l → least_from lt b l ≡ some p → P p
+    → ((q : MouthProposal) → b ≡ Some q → P q) → All P l → least_from lt b l ≡ Some p → P p
 unfolding least_from
 least_passes lt b p h done e = h p e
 least_passes {P} lt b p h (more {x = x} k a) e = least_passes lt (better lt b x) p (next b h) a e
   where
-    next : (b : Option MouthProposal) → ((q : MouthProposal) → b ≡ some q → P q) → (q : MouthProposal) → better lt b x ≡ some q → P q
-    next none h q f = let same : x ≡ q = cc in subst P same k
-    next (some y) h q f = pick (lt x y) f
+    next : (b : Option MouthProposal) → ((q : MouthProposal) → b ≡ Some q → P q) → (q : MouthProposal) → better lt b x ≡ Some q → P q
+    next None h q f = let same : x ≡ q = cc in subst P same k
+    next (Some y) h q f = pick (lt x y) f
       where
-        pick : (c : Bool) → some (cond c x y) ≡ some q → P q
+        pick : (c : Bool) → Some (cond c x y) ≡ Some q → P q
         pick true f = let same : x ≡ q = cc in subst P same k
         pick false f = let same : y ≡ q = cc in subst P same (h y refl)
 
-pub least_left-over : (C : Context) (T l : List MouthProposal) (p : MouthProposal) → some p ≡ least_among C T l → is_refused C T p ≡ false
+pub least_left-over : (C : Context) (T l : List MouthProposal) (p : MouthProposal) → Some p ≡ least_among C T l → is_refused C T p ≡ false
 unfolding least_among
 least_left-over C T l p e =
     negated (is_refused C T p)
-    (least_passes {P = λ q. not (is_refused C T q) ≡ true} (ranks_before C) none p (λ q f. absurd (apart q f)) (filter_passes (λ q. not (is_refused C T q)) l) (sym e))
+    (least_passes {P = λ q. not (is_refused C T q) ≡ true} (ranks_before C) None p (λ q f. absurd (apart q f)) (filter_passes (λ q. not (is_refused C T q)) l) (sym e))
   where
-    apart : (q : MouthProposal) → none ≡ some q → ⊥
+    apart : (q : MouthProposal) → None ≡ Some q → ⊥
     apart q f = let z : ◌≡◌ {A = ℕ} 0 1 = cc in omega arith
 
     negated : (b : Bool) → not b ≡ true → b ≡ false
@@ -97,20 +97,20 @@ module _ (C : Context) (l : List MouthProposal) where
   unfolding ranks_before
   weak = by_key (key C)
 
-  left_is : (T : List MouthProposal) → least_among C T l ≡ least_from (ranks_before C) none (filter (is_left (conflict C) T) l)
+  left_is : (T : List MouthProposal) → least_among C T l ≡ least_from (ranks_before C) None (filter (is_left (conflict C) T) l)
   unfolding least_among
-  left_is T = λ i. least_from (ranks_before C) none (filter (λ p. not (sym (refused_is T C p) i)) l)
+  left_is T = λ i. least_from (ranks_before C) None (filter (λ p. not (sym (refused_is T C p) i)) l)
 
-  pub one_round : (T : List MouthProposal) (p : MouthProposal) → some p ≡ least_among C T l → select (conflict C) T sorted ≡ select (conflict C) (T ++ (p ∷ [])) sorted
+  pub one_round : (T : List MouthProposal) (p : MouthProposal) → Some p ≡ least_among C T l → select (conflict C) T sorted ≡ select (conflict C) (T ++ (p ∷ [])) sorted
   one_round T p e =
       round-taken (conflict C) (ranks_before C) weak l T p (conflicts-itself C p) (ap not (refused_is T C p ∙ least_left-over C T l p e)) (sym (left_is T) ∙ sym e)
 
-  pub last_round : (T : List MouthProposal) → none ≡ least_among C T l → select (conflict C) T sorted ≡ T
+  pub last_round : (T : List MouthProposal) → None ≡ least_among C T l → select (conflict C) T sorted ≡ T
   last_round T e = rounds-end (conflict C) (ranks_before C) weak l T (sym (left_is T) ∙ sym e)
 
 -- nothing is left: what was taken is what the pass removes
 pub round_last : {C : Context} {removed used : List Bool} {marks : List ℕ} (T : List MouthProposal) → TakenState C T removed used marks
-    → select (conflict C) T (sort (ranks_before C) (proposals C)) ≡ select (conflict C) [] (sort (ranks_before C) (proposals C)) → none ≡ least_among C T (proposals C)
+    → select (conflict C) T (sort (ranks_before C) (proposals C)) ≡ select (conflict C) [] (sort (ranks_before C) (proposals C)) → None ≡ least_among C T (proposals C)
     → (i : ℕ) → i < C.count → get_or removed i false ≡ is_removed C i
 unfolding mouths.removed mouths.taken
 round_last {C} T S same e i h = S.gone i h ∙ ap (λ t. member i (map (λ q. q.mouth_index) t)) (sym (last_round C (proposals C) T e) ∙ same)

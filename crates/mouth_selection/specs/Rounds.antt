@@ -1,7 +1,7 @@
 -- The first least of what conflicts with none taken, and what may be known of it from before. Definitions only; assumes nothing.
 use Rattle.std.specs.Prelude.{ℕ, ◌≡◌, Bool, false, List, [], ◌∷◌, get_or}
 use Rattle.std.proofs.Math.Bool.{not, cond}
-use Rattle.std.proofs.Math.Option.{Option, none, some}
+use Rattle.std.specs.Prelude.{Option, None, Some}
 use Rattle.definitions.specs.Scan.{filter}
 use Rattle.definitions.specs.Context.{Context}
 use Rattle.definitions.specs.RampMouths.{MouthProposal, ranks_before, corners_near_lem}
@@ -12,8 +12,8 @@ use Rattle.mouth_selection.specs.Entries.{marked_entries}
 module _ {A : Type 0} (lt : A → A → Bool) where
   -- of two elements that are level the earlier
   abbrev pub better : Option A → A → Option A
-  better none x = some x
-  better (some b) x = some (cond (lt x b) x b)
+  better None x = Some x
+  better (Some b) x = Some (cond (lt x b) x b)
 
   -- the first least, b being that of what stands before
   unfoldable pub least_from : Option A → List A → Option A
@@ -21,18 +21,18 @@ module _ {A : Type 0} (lt : A → A → Bool) where
   least_from b (x ∷ l) = least_from (better b x) l
 
   abbrev pub NotBefore : A → Option A → Type 0
-  NotBefore x none = Unit {0}
-  NotBefore x (some y) = lt y x ≡ false
+  NotBefore x None = Unit {0}
+  NotBefore x (Some y) = lt y x ≡ false
 
   -- what is known of the first least: it is the same, or what is known is not left any more, and the first least is not before it
   pub data Under (p : A → Bool) : Option A → Option A → Type 0 where
     same : {o : Option A} → Under p o o
-    over : {x : A} {o : Option A} → p x ≡ false → NotBefore x o → Under p (some x) o
+    over : {x : A} {o : Option A} → p x ≡ false → NotBefore x o → Under p (Some x) o
 
 module _ (C : Context) where
   unfoldable pub least_among : List MouthProposal → List MouthProposal → Option MouthProposal
   unfolding least_from filter is_refused ranks_before
-  least_among taken l = least_from (ranks_before C) none (filter (λ p. not (is_refused C taken p)) l)
+  least_among taken l = least_from (ranks_before C) None (filter (λ p. not (is_refused C taken p)) l)
 
   -- with entry k, if it is marked
   unfoldable pub better_of : List ℕ → List ℕ → List ℕ → List ℕ → List Bool → ℕ → Option MouthProposal → Option MouthProposal
@@ -43,4 +43,4 @@ module _ (C : Context) where
   -- the first least of the first k entries that are marked and whose inner regions are near
   unfoldable pub near_least : List ℕ → List ℕ → List ℕ → List ℕ → List Bool → ℕ → Option MouthProposal
   unfolding least_from filter ranks_before corners_near_lem marked_entries
-  near_least mouths ramps outers kinds marked k = least_from (ranks_before C) none (filter (corners_near_lem C) (marked_entries C mouths ramps outers kinds marked k))
+  near_least mouths ramps outers kinds marked k = least_from (ranks_before C) None (filter (corners_near_lem C) (marked_entries C mouths ramps outers kinds marked k))

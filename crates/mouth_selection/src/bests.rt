@@ -1,7 +1,7 @@
 // The choice among proposals by the best of each ramp. A best that conflicts with one taken still ranks before all that is left of its ramp: it is found anew only
 // where it is the least of the bests.
 ghost use Rattle.std.specs.Prelude.{◌≡◌, true, false, List, ℕ, ◌+◌, ◌*◌, ◌≤◌, ◌<◌, length, get_or, set, ltb};
-ghost use Rattle.std.proofs.Math.Option.{none};
+ghost use Rattle.std.specs.Prelude.{None};
 ghost use Rattle.definitions.specs.Limits.{numbers_per_boundary};
 ghost use Rattle.definitions.specs.Context.{Context};
 ghost use Rattle.definitions.specs.RampMouths.{MouthProposal, proposals};
@@ -164,14 +164,12 @@ fn all_gone(
         (used : _) →
         TakenState C taken removed.now used marks.now →
         result ≡ true →
-        none ≡ least_among C taken (proposals C) }
+        None ≡ least_among C taken (proposals C) }
 {
-    let mut m = 0;
-    while m < count {
+    for m in 0..count {
         if !is_gone(boundaries, pairs, starts, marks, removed, m) {
             return false;
         }
-        m += 1;
     }
     true
 }
@@ -182,11 +180,9 @@ fn renew(used: &[bool; 256], found: &mut [bool; 256], fresh: &mut [bool; 256], c
     ensures renewed { Renewed used.now found.old found.new fresh.new count }
     ensures lengths { (length found.new ≡ 256) × (length fresh.new ≡ 256) }
 {
-    let mut a = 0;
-    while a < count {
+    for a in 0..count {
         found[a] = found[a] & !used[a];
         fresh[a] = false;
-        a += 1;
     }
 }
 

@@ -43,15 +43,13 @@ fn inner_held(pairs: &[u32], marks: &[u16], first: usize, end: usize, outer: u32
     requires named_rows { (k : ℕ) → first ≤ k → k < end → NamedRow pairs.now (length marks.now) k }
     ensures { result ≡ any (λ s. not (eqb s outer) && leb 3 (hold_at_lem marks.now s + 2)) (regions_of (pairs_between pairs.now first end)) }
 {
-    let mut k = first;
-    while k < end {
+    for k in first..end {
         let p = row_at(pairs, k);
         let lo = (p.lo != outer) & is_held(marks, p.lo, 2);
         let hi = (p.hi != outer) & is_held(marks, p.hi, 2);
         if lo | hi {
             return true;
         }
-        k += 1;
     }
     false
 }
@@ -117,10 +115,8 @@ fn hold_inner(pairs: &[u32], marks: &mut [u16], first: usize, end: usize, outer:
     requires named_rows { (k : ℕ) → first ≤ k → k < end → NamedRow pairs.now (length marks.old) k }
     ensures { marks.new ≡ mark_inner outer marks.old (regions_of (pairs_between pairs.now first end)) }
 {
-    let mut k = first;
-    while k < end {
+    for k in first..end {
         hold_row(&mut *marks, row_at(pairs, k), outer);
-        k += 1;
     }
 }
 

@@ -1,6 +1,6 @@
 // Entries of lists of candidates: which conflict with none taken, which is the least, and one taken.
 ghost use Rattle.std.specs.Prelude.{◌≡◌, true, false, not, List, [], ◌∷◌, ◌++◌, ℕ, ◌+◌, ◌*◌, ◌%◌, ◌≤◌, ◌<◌, length, get_or};
-ghost use Rattle.std.proofs.Math.Option.{none};
+ghost use Rattle.std.specs.Prelude.{None};
 ghost use Rattle.definitions.specs.Limits.{numbers_per_boundary};
 ghost use Rattle.definitions.specs.Sort.{list_lt};
 ghost use Rattle.definitions.specs.Context.{Context};
@@ -35,11 +35,9 @@ fn use_end(boundaries: &[u64], used: &mut [bool; 256], count: usize, a: usize)
     ensures used { (j : ℕ) → get_or used.new j false ≡ end_mark boundaries.now a count used.old j }
     ensures used_length { length used.new ≡ 256 }
 {
-    let mut j = 0;
-    while j < count {
+    for j in 0..count {
         let same = same_end(boundaries, a, j);
         used[j] = used[j] | same;
-        j += 1;
     }
 }
 
@@ -223,13 +221,11 @@ pub fn least_marked(
         Measured C mouths.now ramps.now separations.now marked.now n →
         (result < n → get_or marked.now result false ≡ true)
         × (entry_if C mouths.now ramps.now outers kinds n result
-        ≡ least_from (ranks_before C) none (marked_entries C mouths.now ramps.now outers kinds marked.now n)) }
+        ≡ least_from (ranks_before C) None (marked_entries C mouths.now ramps.now outers kinds marked.now n)) }
 {
     let mut best = n;
-    let mut k = 0;
-    while k < n {
+    for k in 0..n {
         best = better_marked(boundaries, mouths, ramps, separations, marked, n, best, k);
-        k += 1;
     }
     best
 }
@@ -260,12 +256,10 @@ pub fn mark_left(
         ≡ not (is_refused C taken (entry_at C mouths.now ramps.now outers.now kinds.now k)) }
     ensures marked_length { length marked.new ≡ max_candidates }
 {
-    let mut k = 0;
-    while k < n {
+    for k in 0..n {
         marked[k] = entry_left(
             pairs, starts, marks, removed, used, mouths, ramps, outers, kinds, k,
         );
-        k += 1;
     }
 }
 

@@ -53,9 +53,7 @@ pub fn alone(parents: &mut [u32], n: usize)
     requires { (n ≤ length parents.old) × (n ≤ 1048576) }
     ensures { Left n (λ c. c) parents.old parents.new }
 {
-    let mut c = 0;
-    while c < n {
+    for c in 0..n {
         parents[c] = c as u32;
-        c += 1;
     }
 }

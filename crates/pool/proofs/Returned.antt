@@ -4,7 +4,7 @@ use Prim.Native.Nat.{ℕ, zero, suc, ◌+◌, ◌*◌, ◌/◌, ◌<◌}
 use native.Mathlib.Omega.{arith}
 use mathlib.Core.Path.{◌≡◌, refl, sym, ap, ◌∙◌}
 use mathlib.Core.Bool.{Bool, true, false, ◌&&◌, ◌||◌, or-false, or_assoc}
-use mathlib.Core.Option.{Option, none, some}
+use Rattle.std.specs.Prelude.{Option, None, Some}
 use mathlib.Core.List.{List, [], ◌∷◌, ◌++◌}
 use lib.ListN.{length, get_or, drop}
 use lib.Dec.{eqb, leb}
@@ -26,27 +26,27 @@ use Rattle.pool_entries.proofs.Showing.{entries_of-length, map_at}
 -- ---- no refusal has number 0
 
 NonZero : Option Refusal → Type 0
-NonZero o = (r : Refusal) → o ≡ some r → r.number ≡ 0 → ⊥
+NonZero o = (r : Refusal) → o ≡ Some r → r.number ≡ 0 → ⊥
 
-none_some : {r : Refusal} → none ≡ some r → ⊥
+none_some : {r : Refusal} → None ≡ Some r → ⊥
 none_some z = let w : ◌≡◌ {A = ℕ} 0 1 = cc in omega arith
 
-some_same : {r s : Refusal} → some r ≡ some s → r ≡ s
+some_same : {r s : Refusal} → Some r ≡ Some s → r ≡ s
 some_same z = cc
 
 refusal-nonzero : (k : ℕ) (o : Option ℕ) → NonZero (refusal (suc k) o)
 unfolding NonZero
-refusal-nonzero k none r e z = none_some e
-refusal-nonzero k (some p) r e z = omega (arith, ap (λ s. s.number) (some_same e))
+refusal-nonzero k None r e z = none_some e
+refusal-nonzero k (Some p) r e z = omega (arith, ap (λ s. s.number) (some_same e))
 
 first_nonzero : (f : ℕ → Option Refusal) → ((i : ℕ) → NonZero (f i)) → (n : ℕ) → NonZero (first_below_lem n f)
 unfolding NonZero first_below_lem
 first_nonzero f h zero r e z = none_some e
 first_nonzero f h (suc n) r e z = go (first_below_lem n f) (first_nonzero f h n) e
   where
-    go : (o : Option Refusal) → NonZero o → or_else o (f n) ≡ some r → ⊥
-    go none ih e = h n r e z
-    go (some s) ih e = ih r e z
+    go : (o : Option Refusal) → NonZero o → or_else o (f n) ≡ Some r → ⊥
+    go None ih e = h n r e z
+    go (Some s) ih e = ih r e z
 
 terms_nonzero : (terms : List ℕ) → NonZero (terms_refusal terms)
 unfolding terms_refusal NonZero
@@ -57,14 +57,14 @@ terms_nonzero terms = first_nonzero (λ i. term_fault terms i (days_of (term_at 
     only false i r e z = none_some e
 
     fault : (i : ℕ) (d : Option Days) → NonZero (term_fault terms i d)
-    fault i none r e z = omega (arith, ap (λ s. s.number) (some_same e))
-    fault i (some d) r e z = only (is_empty d || overlaps_earlier terms i d) i r e z
+    fault i None r e z = omega (arith, ap (λ s. s.number) (some_same e))
+    fault i (Some d) r e z = only (is_empty d || overlaps_earlier terms i d) i r e z
 
 accepted-step : (o : Option Refusal) → NonZero o → (l : List (Option Refusal)) (n count : ℕ) → record { number = 0; value = count } ≡ first_refusal (o ∷ l) n
-    → (o ≡ none) × (record { number = 0; value = count } ≡ first_refusal l n)
+    → (o ≡ None) × (record { number = 0; value = count } ≡ first_refusal l n)
 unfolding NonZero
-accepted-step none h l n count e = (refl, e)
-accepted-step (some r) h l n count e = absurd (h r refl (sym (ap (λ a. a.number) e)))
+accepted-step None h l n count e = (refl, e)
+accepted-step (Some r) h l n count e = absurd (h r refl (sym (ap (λ a. a.number) e)))
 
 -- ---- tests along a list, by place
 
@@ -85,16 +85,16 @@ entry_at_lem f [] rest k j h b = absurd (omega arith)
 entry_at_lem f (m ∷ M) rest zero j h b = go (f m) j b
   where
     go : (o : Option Accession) (j : ℕ) → j < 4 → get_or ((entry_of m o ++ concat_map (λ n. entry_of n (f n)) M) ++ rest) (4 * 0 + j) 0 ≡ get_or (entry_of m o) j 0
-    go none zero b = refl
-    go none (suc zero) b = refl
-    go none (suc (suc zero)) b = refl
-    go none (suc (suc (suc zero))) b = refl
-    go none (suc (suc (suc (suc j)))) b = absurd (omega arith)
-    go (some r) zero b = refl
-    go (some r) (suc zero) b = refl
-    go (some r) (suc (suc zero)) b = refl
-    go (some r) (suc (suc (suc zero))) b = refl
-    go (some r) (suc (suc (suc (suc j)))) b = absurd (omega arith)
+    go None zero b = refl
+    go None (suc zero) b = refl
+    go None (suc (suc zero)) b = refl
+    go None (suc (suc (suc zero))) b = refl
+    go None (suc (suc (suc (suc j)))) b = absurd (omega arith)
+    go (Some r) zero b = refl
+    go (Some r) (suc zero) b = refl
+    go (Some r) (suc (suc zero)) b = refl
+    go (Some r) (suc (suc (suc zero))) b = refl
+    go (Some r) (suc (suc (suc (suc j)))) b = absurd (omega arith)
 entry_at_lem f (m ∷ M) rest (suc k) j h b = go (f m) (entry_at_lem f M rest k j (omega arith) b)
   where
     four : 4 * suc k + j ≡ suc (suc (suc (suc (4 * k + j))))
@@ -102,8 +102,8 @@ entry_at_lem f (m ∷ M) rest (suc k) j h b = go (f m) (entry_at_lem f M rest k 
 
     go : (o : Option Accession) → get_or (concat_map (λ n. entry_of n (f n)) M ++ rest) (4 * k + j) 0 ≡ get_or (entry_of (get_or M k 0) (f (get_or M k 0))) j 0
         → get_or ((entry_of m o ++ concat_map (λ n. entry_of n (f n)) M) ++ rest) (4 * suc k + j) 0 ≡ get_or (entry_of (get_or M k 0) (f (get_or M k 0))) j 0
-    go none e = rw four e
-    go (some r) e = rw four e
+    go None e = rw four e
+    go (Some r) e = rw four e
 
 -- ---- what a call returned
 
@@ -114,9 +114,9 @@ pub record Called (terms records : List ℕ) (asked : Date) (old : List ℕ) (co
 -- what its answer tells
 pub record Accepted (terms records : List ℕ) (asked : Date) (old : List ℕ) (count : ℕ) (new : List ℕ) : Type 0 where
   pub day : ℕ
-  pub asked_is : day_of asked ≡ some day
-  pub terms_keep : terms_refusal terms ≡ none
-  pub records-keep : accessions_fault records ≡ none
+  pub asked_is : day_of asked ≡ Some day
+  pub terms_keep : terms_refusal terms ≡ None
+  pub records-keep : accessions_fault records ≡ None
   pub count_is : length (maps_of_day terms day) ≡ count
   pub stored : new ≡ overwrite (entries_of records day (accession_count records) (maps_of_day terms day)) old
 
@@ -131,28 +131,28 @@ module _ {terms records : List ℕ} {asked : Date} {old : List ℕ} {count : ℕ
       last : List (Option Refusal)
       last = refusal 10 (unless (leb (length E) (length old))) ∷ []
 
-      one : (refusal 3 (unless (is_finished terms && accession.is_finished records)) ≡ none) × (record { number = 0; value = count } ≡ first_refusal (refusal 17 (accessions_fault records) ∷ terms_refusal terms ∷ refusal 18 (asked_fault terms (day_of asked)) ∷ last) (length E / 4))
+      one : (refusal 3 (unless (is_finished terms && accession.is_finished records)) ≡ None) × (record { number = 0; value = count } ≡ first_refusal (refusal 17 (accessions_fault records) ∷ terms_refusal terms ∷ refusal 18 (asked_fault terms (day_of asked)) ∷ last) (length E / 4))
       one = accepted-step (refusal 3 (unless (is_finished terms && accession.is_finished records))) (refusal-nonzero 2 (unless (is_finished terms && accession.is_finished records))) (refusal 17 (accessions_fault records) ∷ terms_refusal terms ∷ refusal 18 (asked_fault terms (day_of asked)) ∷ last) (length E / 4) count C.answer
 
-      two : (refusal 17 (accessions_fault records) ≡ none) × (record { number = 0; value = count } ≡ first_refusal (terms_refusal terms ∷ refusal 18 (asked_fault terms (day_of asked)) ∷ last) (length E / 4))
+      two : (refusal 17 (accessions_fault records) ≡ None) × (record { number = 0; value = count } ≡ first_refusal (terms_refusal terms ∷ refusal 18 (asked_fault terms (day_of asked)) ∷ last) (length E / 4))
       two = accepted-step (refusal 17 (accessions_fault records)) (refusal-nonzero 16 (accessions_fault records)) (terms_refusal terms ∷ refusal 18 (asked_fault terms (day_of asked)) ∷ last) (length E / 4) count one.1
 
-      three : (terms_refusal terms ≡ none) × (record { number = 0; value = count } ≡ first_refusal (refusal 18 (asked_fault terms (day_of asked)) ∷ last) (length E / 4))
+      three : (terms_refusal terms ≡ None) × (record { number = 0; value = count } ≡ first_refusal (refusal 18 (asked_fault terms (day_of asked)) ∷ last) (length E / 4))
       three = accepted-step (terms_refusal terms) (terms_nonzero terms) (refusal 18 (asked_fault terms (day_of asked)) ∷ last) (length E / 4) count two.1
 
-      four : (refusal 18 (asked_fault terms (day_of asked)) ≡ none) × (record { number = 0; value = count } ≡ first_refusal last (length E / 4))
+      four : (refusal 18 (asked_fault terms (day_of asked)) ≡ None) × (record { number = 0; value = count } ≡ first_refusal last (length E / 4))
       four = accepted-step (refusal 18 (asked_fault terms (day_of asked))) (refusal-nonzero 17 (asked_fault terms (day_of asked))) last (length E / 4) count three.1
 
-      five : (refusal 10 (unless (leb (length E) (length old))) ≡ none) × (record { number = 0; value = count } ≡ first_refusal [] (length E / 4))
+      five : (refusal 10 (unless (leb (length E) (length old))) ≡ None) × (record { number = 0; value = count } ≡ first_refusal [] (length E / 4))
       five = accepted-step (refusal 10 (unless (leb (length E) (length old)))) (refusal-nonzero 9 (unless (leb (length E) (length old)))) [] (length E / 4) count four.1
 
-      no_fault_lem : (o : Option ℕ) → refusal 17 o ≡ none → o ≡ none
-      no_fault_lem none e = refl
-      no_fault_lem (some p) e = absurd (none_some (sym e))
+      no_fault_lem : (o : Option ℕ) → refusal 17 o ≡ None → o ≡ None
+      no_fault_lem None e = refl
+      no_fault_lem (Some p) e = absurd (none_some (sym e))
 
-      go : (o : Option ℕ) → day_of asked ≡ o → refusal 18 (asked_fault terms o) ≡ none → record { number = 0; value = count } ≡ first_refusal [] (length E / 4) → Accepted terms records asked old count new
-      go none d e f = absurd (none_some (sym e))
-      go (some day) d e f =
+      go : (o : Option ℕ) → day_of asked ≡ o → refusal 18 (asked_fault terms o) ≡ None → record { number = 0; value = count } ≡ first_refusal [] (length E / 4) → Accepted terms records asked old count new
+      go None d e f = absurd (none_some (sym e))
+      go (Some day) d e f =
           let listed : E ≡ entries_of records day (accession_count records) (maps_of_day terms day) = ap (entries_on terms records) d in
           let size : length E ≡ 4 * length (maps_of_day terms day) = ap length listed ∙ entries_of-length records day (accession_count records) (maps_of_day terms day) in
           record {

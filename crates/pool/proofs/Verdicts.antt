@@ -4,7 +4,7 @@ use Prim.Native.Nat.{ℕ, zero, suc, ◌*◌, ◌/◌, ◌%◌, ◌≤◌, ◌<�
 use native.Mathlib.Omega.{arith}
 use mathlib.Core.Path.{◌≡◌, refl, sym, ap, ◌∙◌}
 use mathlib.Core.Bool.{◌&&◌}
-use mathlib.Core.Option.{Option, none, some}
+use Rattle.std.specs.Prelude.{Option, None, Some}
 use mathlib.Core.List.{List, [], ◌∷◌}
 use lib.ListN.{length}
 use lib.Dec.{ltb, leb}
@@ -29,11 +29,11 @@ use Rattle.pool.specs.Contract.{lists_refusal, output_by, Listed}
 -- ---- the lists
 
 module _ (terms records : List ℕ) where
-  pub terms_unfinished : (length terms % 7 ≡ 0 → ⊥) → some (record { number = 3; place = 0 }) ≡ lists_refusal terms records
+  pub terms_unfinished : (length terms % 7 ≡ 0 → ⊥) → Some (record { number = 3; place = 0 }) ≡ lists_refusal terms records
   unfolding lists_refusal
   terms_unfinished h = rw (ne_eqb (length terms % 7) 0 h) refl
 
-  pub records-unfinished : length terms % 7 ≡ 0 → (length records % 4 ≡ 0 → ⊥) → some (record { number = 3; place = 0 }) ≡ lists_refusal terms records
+  pub records-unfinished : length terms % 7 ≡ 0 → (length records % 4 ≡ 0 → ⊥) → Some (record { number = 3; place = 0 }) ≡ lists_refusal terms records
   unfolding lists_refusal
   records-unfinished h k = rw (eq-eqb (length terms % 7) 0 h, ne_eqb (length records % 4) 0 k) refl
 
@@ -42,20 +42,20 @@ module _ (terms records : List ℕ) where
     unfolding lists_refusal
     finished = rw (eq-eqb (length terms % 7) 0 h, eq-eqb (length records % 4) 0 k) refl
 
-    pub record_broken : {i : ℕ} → some i ≡ accessions_fault records → some (record { number = 17; place = i }) ≡ lists_refusal terms records
+    pub record_broken : {i : ℕ} → Some i ≡ accessions_fault records → Some (record { number = 17; place = i }) ≡ lists_refusal terms records
     record_broken e = sym (finished ∙ ap (λ o. or_else (refusal 17 o) (terms_refusal terms)) (sym e))
 
-    pub records-fine : none ≡ accessions_fault records → terms_refusal terms ≡ lists_refusal terms records
+    pub records-fine : None ≡ accessions_fault records → terms_refusal terms ≡ lists_refusal terms records
     records-fine e = sym (finished ∙ ap (λ o. or_else (refusal 17 o) (terms_refusal terms)) (sym e))
 
-  or_none : {A : Type 0} (a b : Option A) → or_else a b ≡ none → b ≡ none
-  or_none none b e = e
-  or_none (some x) b e = absurd (some_none e)
+  or_none : {A : Type 0} (a b : Option A) → or_else a b ≡ None → b ≡ None
+  or_none None b e = e
+  or_none (Some x) b e = absurd (some_none e)
     where
-      some_none : some x ≡ none → ⊥
+      some_none : Some x ≡ None → ⊥
       some_none z = let w : ◌≡◌ {A = ℕ} 0 1 = cc in omega arith
 
-  pub terms_fine : lists_refusal terms records ≡ none → terms_refusal terms ≡ none
+  pub terms_fine : lists_refusal terms records ≡ None → terms_refusal terms ≡ None
   unfolding lists_refusal
   terms_fine e =
       or_none (refusal 17 (accessions_fault records)) (terms_refusal terms)
@@ -66,41 +66,41 @@ module _ (terms records : List ℕ) where
 abbrev said : Refusal → Answer
 said r = record { number = r.number; value = r.place }
 
-first_found : (a b c : Option Refusal) (l : List (Option Refusal)) (n : ℕ) (r : Refusal) → or_else a (or_else b c) ≡ some r → first_refusal (a ∷ b ∷ c ∷ l) n ≡ said r
-first_found (some s) b c l n r e = ap said (same e)
+first_found : (a b c : Option Refusal) (l : List (Option Refusal)) (n : ℕ) (r : Refusal) → or_else a (or_else b c) ≡ Some r → first_refusal (a ∷ b ∷ c ∷ l) n ≡ said r
+first_found (Some s) b c l n r e = ap said (same e)
   where
-    same : some s ≡ some r → s ≡ r
+    same : Some s ≡ Some r → s ≡ r
     same z = cc
-first_found none (some s) c l n r e = ap said (same e)
+first_found None (Some s) c l n r e = ap said (same e)
   where
-    same : some s ≡ some r → s ≡ r
+    same : Some s ≡ Some r → s ≡ r
     same z = cc
-first_found none none (some s) l n r e = ap said (same e)
+first_found None None (Some s) l n r e = ap said (same e)
   where
-    same : some s ≡ some r → s ≡ r
+    same : Some s ≡ Some r → s ≡ r
     same z = cc
-first_found none none none l n r e = absurd (none_some e)
+first_found None None None l n r e = absurd (none_some e)
   where
-    none_some : none ≡ some r → ⊥
+    none_some : None ≡ Some r → ⊥
     none_some z = let w : ◌≡◌ {A = ℕ} 0 1 = cc in omega arith
 
-first_passed : (a b c : Option Refusal) (l : List (Option Refusal)) (n : ℕ) → or_else a (or_else b c) ≡ none → first_refusal (a ∷ b ∷ c ∷ l) n ≡ first_refusal l n
-first_passed (some s) b c l n e = absurd (some_none e)
+first_passed : (a b c : Option Refusal) (l : List (Option Refusal)) (n : ℕ) → or_else a (or_else b c) ≡ None → first_refusal (a ∷ b ∷ c ∷ l) n ≡ first_refusal l n
+first_passed (Some s) b c l n e = absurd (some_none e)
   where
-    some_none : some s ≡ none → ⊥
+    some_none : Some s ≡ None → ⊥
     some_none z = let w : ◌≡◌ {A = ℕ} 0 1 = cc in omega arith
-first_passed none (some s) c l n e = absurd (some_none e)
+first_passed None (Some s) c l n e = absurd (some_none e)
   where
-    some_none : some s ≡ none → ⊥
+    some_none : Some s ≡ None → ⊥
     some_none z = let w : ◌≡◌ {A = ℕ} 0 1 = cc in omega arith
-first_passed none none (some s) l n e = absurd (some_none e)
+first_passed None None (Some s) l n e = absurd (some_none e)
   where
-    some_none : some s ≡ none → ⊥
+    some_none : Some s ≡ None → ⊥
     some_none z = let w : ◌≡◌ {A = ℕ} 0 1 = cc in omega arith
-first_passed none none none l n e = refl
+first_passed None None None l n e = refl
 
 module _ (terms records : List ℕ) (asked : Date) (room : ℕ) where
-  pub lists-refused : {r : Refusal} → some r ≡ lists_refusal terms records → record { number = r.number; value = r.place } ≡ pool_verdict terms records asked room
+  pub lists-refused : {r : Refusal} → Some r ≡ lists_refusal terms records → record { number = r.number; value = r.place } ≡ pool_verdict terms records asked room
   unfolding lists_refusal pool_verdict
   lists-refused {r} e =
       let E = entries_on terms records (day_of asked) in
@@ -108,7 +108,7 @@ module _ (terms records : List ℕ) (asked : Date) (room : ℕ) where
       (first_found (refusal 3 (unless (is_finished terms && accession.is_finished records))) (refusal 17 (accessions_fault records)) (terms_refusal terms)
       (refusal 18 (asked_fault terms (day_of asked)) ∷ refusal 10 (unless (leb (length E) room)) ∷ []) (length E / 4) r (sym e))
 
-  passed : lists_refusal terms records ≡ none
+  passed : lists_refusal terms records ≡ None
       → pool_verdict terms records asked room ≡ first_refusal
       (refusal 18 (asked_fault terms (day_of asked)) ∷ refusal 10 (unless (leb (length (entries_on terms records (day_of asked))) room)) ∷ [])
       (length (entries_on terms records (day_of asked)) / 4)
@@ -118,7 +118,7 @@ module _ (terms records : List ℕ) (asked : Date) (room : ℕ) where
       first_passed (refusal 3 (unless (is_finished terms && accession.is_finished records))) (refusal 17 (accessions_fault records)) (terms_refusal terms)
       (refusal 18 (asked_fault terms (day_of asked)) ∷ refusal 10 (unless (leb (length E) room)) ∷ []) (length E / 4) e
 
-  pub day-refused : none ≡ lists_refusal terms records → none ≡ day_of asked → record { number = 18; value = term_count terms } ≡ pool_verdict terms records asked room
+  pub day-refused : None ≡ lists_refusal terms records → None ≡ day_of asked → record { number = 18; value = term_count terms } ≡ pool_verdict terms records asked room
   day-refused e d =
       sym
       (passed (sym e)
@@ -127,8 +127,8 @@ module _ (terms records : List ℕ) (asked : Date) (room : ℕ) where
       first_refusal (refusal 18 (asked_fault terms o) ∷ refusal 10 (unless (leb (length (entries_on terms records o)) room)) ∷ []) (length (entries_on terms records o) / 4))
       (sym d))
 
-  pub day-listed : {day : ℕ} → none ≡ lists_refusal terms records → some day ≡ day_of asked
-      → first_refusal (refusal 10 (unless (leb (length (entries_on terms records (some day))) room)) ∷ []) (length (entries_on terms records (some day)) / 4)
+  pub day-listed : {day : ℕ} → None ≡ lists_refusal terms records → Some day ≡ day_of asked
+      → first_refusal (refusal 10 (unless (leb (length (entries_on terms records (Some day))) room)) ∷ []) (length (entries_on terms records (Some day)) / 4)
       ≡ pool_verdict terms records asked room
   day-listed e d =
       sym
@@ -138,15 +138,15 @@ module _ (terms records : List ℕ) (asked : Date) (room : ℕ) where
       first_refusal (refusal 18 (asked_fault terms o) ∷ refusal 10 (unless (leb (length (entries_on terms records o)) room)) ∷ []) (length (entries_on terms records o) / 4))
       (sym d))
 
-pub listed-at_exit : (n : ℕ) (terms records : List ℕ) (asked : Date) (old : List ℕ) {day : ℕ} → some day ≡ day_of asked
-    → output_by n (entries_on terms records (some day)) old ≡ pool_at_exit n terms records asked old
+pub listed-at_exit : (n : ℕ) (terms records : List ℕ) (asked : Date) (old : List ℕ) {day : ℕ} → Some day ≡ day_of asked
+    → output_by n (entries_on terms records (Some day)) old ≡ pool_at_exit n terms records asked old
 listed-at_exit zero terms records asked old d = ap (λ o. overwrite (entries_on terms records o) old) d
 listed-at_exit (suc n) terms records asked old d = refl
 
 -- ---- the room
 
 module _ (terms records : List ℕ) (day : ℕ) (old : List ℕ) {maps : ℕ} (m : maps ≡ length (maps_in terms day)) where
-  need : length (entries_on terms records (some day)) ≡ 4 * maps
+  need : length (entries_on terms records (Some day)) ≡ 4 * maps
   unfolding maps_of_day
   need = entries_of-length records day (accession_count records) (maps_of_day terms day) ∙ ap (λ n. 4 * n) (length-sort ltb (maps_in terms day) ∙ sym m)
 
@@ -156,22 +156,22 @@ module _ (terms records : List ℕ) (day : ℕ) (old : List ℕ) {maps : ℕ} (m
 
   pub no_room : length old / 4 < maps → Listed terms records day old (Refused 10 0) old
   no_room h =
-      let short : length old < length (entries_on terms records (some day)) = omega (arith, need) in
-      record { answer = rw (lt-leb (length (entries_on terms records (some day))) (length old) short) refl; output = refl }
+      let short : length old < length (entries_on terms records (Some day)) = omega (arith, need) in
+      record { answer = rw (lt-leb (length (entries_on terms records (Some day))) (length old) short) refl; output = refl }
 
   pub room-enough : {new : List ℕ} → maps ≤ length old / 4 → new ≡ overwrite (entries_of records day (accession_count records) (maps_of_day terms day)) old
       → Listed terms records day old (Maps maps) new
   room-enough h e =
-      let fits : length (entries_on terms records (some day)) ≤ length old = omega (arith, need) in
-      let count : maps ≡ length (entries_on terms records (some day)) / 4 = omega (arith, need) in
+      let fits : length (entries_on terms records (Some day)) ≤ length old = omega (arith, need) in
+      let count : maps ≡ length (entries_on terms records (Some day)) / 4 = omega (arith, need) in
       record {
-        answer = rw (le-leb (length (entries_on terms records (some day))) (length old) fits) (λ i. record { number = 0; value = count i });
+        answer = rw (le-leb (length (entries_on terms records (Some day))) (length old) fits) (λ i. record { number = 0; value = count i });
         output = e;
       }
 
 -- ---- the entries, and the records shown in them
 
-pub shown-over : (terms records : List ℕ) (day : ℕ) (old put new : List ℕ) (maps : ℕ) → maps ≡ length (maps_in terms day) → terms_refusal terms ≡ none
+pub shown-over : (terms records : List ℕ) (day : ℕ) (old put new : List ℕ) (maps : ℕ) → maps ≡ length (maps_in terms day) → terms_refusal terms ≡ None
     → put ≡ overwrite (blank (maps_of_day terms day)) old → RecordsShown put maps records day new
     → new ≡ overwrite (entries_of records day (accession_count records) (maps_of_day terms day)) old
 shown-over terms records day old put new maps m ok p S =
@@ -180,4 +180,4 @@ shown-over terms records day old put new maps m ok p S =
     let again : put ≡ overwrite (blank M) put = p ∙ sym (overwrite-twice (blank M) (blank M) old (omega arith)) ∙ ap (overwrite (blank M)) (sym p) in
     S M (pool_rising terms day ok) (maps-listed terms records day old m) again
     ∙ ap (overwrite E) p
-    ∙ overwrite-twice E (blank M) old (omega (arith, entries-length (λ n. none) M, entries_of-length records day (accession_count records) M))
+    ∙ overwrite-twice E (blank M) old (omega (arith, entries-length (λ n. None) M, entries_of-length records day (accession_count records) M))

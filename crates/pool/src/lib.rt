@@ -3,7 +3,7 @@
 #![tactic(auto)]
 
 ghost use Rattle.std.specs.Prelude.{◌≡◌, length};
-ghost use Rattle.std.proofs.Math.Option.{none};
+ghost use Rattle.std.specs.Prelude.{None};
 ghost use Rattle.catalogue.specs.Terms.{terms_refusal};
 ghost use Rattle.catalogue.specs.Pool.{pool_verdict, pool_at_exit};
 ghost use Rattle.pool.specs.Contract.{date, answer_of, exported, refusal_of, lists_refusal, Listed};
@@ -67,7 +67,7 @@ fn check_lists(terms: &[u64], records: &[u64]) -> Checked
 
 // Lists the maps of a day, if the output has room for them: 10.
 fn list_day(terms: &[u64], records: &[u64], day: u64, output: &mut [u64]) -> Pool
-    requires { terms_refusal terms.now ≡ none }
+    requires { terms_refusal terms.now ≡ None }
     ensures { Listed terms.now records.now day output.old result output.new }
 {
     let maps = count_maps(terms, day);

@@ -6,7 +6,7 @@ use native.Mathlib.Nat.{le_antisymm}
 use native.Mathlib.Numerals.{add-one}
 use mathlib.Core.Path.{◌≡◌, refl, sym, ap, ap₂, subst, ◌∙◌}
 use mathlib.Core.Bool.{Bool, true, false, ◌&&◌, cond, false≢true}
-use mathlib.Core.Option.{Option, none, some}
+use Rattle.std.specs.Prelude.{Option, None, Some}
 use mathlib.Core.List.{List, [], ◌∷◌, ◌++◌}
 use lib.ListN.{length, get_or, set, drop}
 use lib.Seq.{sets}
@@ -36,8 +36,8 @@ map_at f [] rest k h = absurd (omega arith)
 map_at f (m ∷ M) rest zero h = go (f m)
   where
     go : (o : Option Accession) → get_or ((entry_of m o ++ concat_map (λ n. entry_of n (f n)) M) ++ rest) 0 0 ≡ m
-    go none = refl
-    go (some r) = refl
+    go None = refl
+    go (Some r) = refl
 map_at f (m ∷ M) rest (suc k) h = go (f m) (map_at f M rest k (omega arith))
   where
     four : 4 * suc k ≡ suc (suc (suc (suc (4 * k))))
@@ -45,12 +45,12 @@ map_at f (m ∷ M) rest (suc k) h = go (f m) (map_at f M rest k (omega arith))
 
     go : (o : Option Accession) → get_or (concat_map (λ n. entry_of n (f n)) M ++ rest) (4 * k) 0 ≡ get_or M k 0
         → get_or ((entry_of m o ++ concat_map (λ n. entry_of n (f n)) M) ++ rest) (4 * suc k) 0 ≡ get_or M k 0
-    go none e = rw four e
-    go (some r) e = rw four e
+    go None e = rw four e
+    go (Some r) e = rw four e
 
 -- the three numbers behind the map of entry q replaced
 module _ (f g : ℕ → Option Accession) (r : Accession) where
-  shown_at : (M rest : List ℕ) (q : ℕ) → q < length M → g (get_or M q 0) ≡ some r → ((k : ℕ) → k < length M → (k ≡ q → ⊥) → g (get_or M k 0) ≡ f (get_or M k 0))
+  shown_at : (M rest : List ℕ) (q : ℕ) → q < length M → g (get_or M q 0) ≡ Some r → ((k : ℕ) → k < length M → (k ≡ q → ⊥) → g (get_or M k 0) ≡ f (get_or M k 0))
       → sets (entries_by f M ++ rest) (4 * q + 1) (r.own ∷ r.day ∷ r.superseded ∷ []) ≡ entries_by g M ++ rest
   unfolding entries_by concat_map
   shown_at [] rest q h e o = absurd (omega arith)
@@ -59,8 +59,8 @@ module _ (f g : ℕ → Option Accession) (r : Accession) where
       go : (o : Option Accession) → concat_map (λ n. entry_of n (g n)) M ≡ concat_map (λ n. entry_of n (f n)) M
           → sets ((entry_of m o ++ concat_map (λ n. entry_of n (f n)) M) ++ rest) (4 * 0 + 1) (r.own ∷ r.day ∷ r.superseded ∷ [])
           ≡ m ∷ r.own ∷ r.day ∷ r.superseded ∷ (concat_map (λ n. entry_of n (g n)) M ++ rest)
-      go none p = ap {B = List ℕ} (λ l. m ∷ r.own ∷ r.day ∷ r.superseded ∷ (l ++ rest)) (sym p)
-      go (some s) p = ap {B = List ℕ} (λ l. m ∷ r.own ∷ r.day ∷ r.superseded ∷ (l ++ rest)) (sym p)
+      go None p = ap {B = List ℕ} (λ l. m ∷ r.own ∷ r.day ∷ r.superseded ∷ (l ++ rest)) (sym p)
+      go (Some s) p = ap {B = List ℕ} (λ l. m ∷ r.own ∷ r.day ∷ r.superseded ∷ (l ++ rest)) (sym p)
   shown_at (m ∷ M) rest (suc q) h e o = rw (o 0 (omega arith) (λ z. omega arith), five) (go (f m) (shown_at M rest q (omega arith) e (λ k b d. o (suc k) (omega arith) (λ z. d (omega arith)))))
     where
       five : 4 * suc q + 1 ≡ suc (suc (suc (suc (4 * q + 1))))
@@ -70,13 +70,13 @@ module _ (f g : ℕ → Option Accession) (r : Accession) where
           → sets (concat_map (λ n. entry_of n (f n)) M ++ rest) (4 * q + 1) (r.own ∷ r.day ∷ r.superseded ∷ []) ≡ concat_map (λ n. entry_of n (g n)) M ++ rest
           → sets ((entry_of m o ++ concat_map (λ n. entry_of n (f n)) M) ++ rest) (suc (suc (suc (suc (4 * q + 1))))) (r.own ∷ r.day ∷ r.superseded ∷ [])
           ≡ (entry_of m o ++ concat_map (λ n. entry_of n (g n)) M) ++ rest
-      go none p = ap {B = List ℕ} (λ l. m ∷ 0 ∷ 0 ∷ 0 ∷ l) p
-      go (some s) p = ap {B = List ℕ} (λ l. m ∷ s.own ∷ s.day ∷ s.superseded ∷ l) p
+      go None p = ap {B = List ℕ} (λ l. m ∷ 0 ∷ 0 ∷ 0 ∷ l) p
+      go (Some s) p = ap {B = List ℕ} (λ l. m ∷ s.own ∷ s.day ∷ s.superseded ∷ l) p
 
 -- ---- one record
 
 with_record : Accession → (ℕ → Option Accession) → ℕ → Option Accession
-with_record r f m = cond (eqb r.on_map m) (some r) (f m)
+with_record r f m = cond (eqb r.on_map m) (Some r) (f m)
 
 module _ (old : List ℕ) (count : ℕ) (r : Accession) (p : ℕ) (T : TurnsAt (λ k. ltb r.on_map (get_or old (4 * k) 0)) 0 count p) where
   module _ (M : List ℕ) (f : ℕ → Option Accession) (rising : Rising M) (n : length M ≡ count) (B : old ≡ overwrite (entries_by f M) old) where
@@ -158,7 +158,7 @@ three-stored l k v w x =
 
 -- what is shown of one record more
 newest_next : (records : List ℕ) (m day i : ℕ)
-    → newest records m day (i + 1) ≡ cond (eqb (accession_at records i).on_map m && leb (accession_at records i).day day) (some (accession_at records i)) (newest records m day i)
+    → newest records m day (i + 1) ≡ cond (eqb (accession_at records i).on_map m && leb (accession_at records i).day day) (Some (accession_at records i)) (newest records m day i)
 unfolding newest
 newest_next records m day i = rw (add-one i) refl
 
@@ -178,11 +178,11 @@ module _ {old new : List ℕ} {count : ℕ} (records : List ℕ) (i day : ℕ) w
   record_shown S h M R n B =
       S M (λ m. newest records m day i) R n B
       ∙ ap (λ l. overwrite l old)
-      (entries_ext (λ m. cond (eqb (accession_at records i).on_map m) (some (accession_at records i)) (newest records m day i)) (λ m. newest records m day (i + 1)) M
+      (entries_ext (λ m. cond (eqb (accession_at records i).on_map m) (Some (accession_at records i)) (newest records m day i)) (λ m. newest records m day (i + 1)) M
       (λ k b.
       sym
       (newest_next records (get_or M k 0) day i
-      ∙ and_known (eqb (accession_at records i).on_map (get_or M k 0)) (leb (accession_at records i).day day) (some (accession_at records i)) (newest records (get_or M k 0) day i) (le-leb (accession_at records i).day day h))))
+      ∙ and_known (eqb (accession_at records i).on_map (get_or M k 0)) (leb (accession_at records i).day day) (Some (accession_at records i)) (newest records (get_or M k 0) day i) (le-leb (accession_at records i).day day h))))
 
 module _ {old : List ℕ} {count : ℕ} (records : List ℕ) (i day : ℕ) where
   pub record_late : day < (accession_at records i).day → RecordShown old count records i day old
@@ -194,7 +194,7 @@ module _ {old : List ℕ} {count : ℕ} (records : List ℕ) (i day : ℕ) where
       (λ k b.
       sym
       (newest_next records (get_or M k 0) day i
-      ∙ and_not (eqb (accession_at records i).on_map (get_or M k 0)) (leb (accession_at records i).day day) (some (accession_at records i)) (newest records (get_or M k 0) day i) (lt-leb (accession_at records i).day day h))))
+      ∙ and_not (eqb (accession_at records i).on_map (get_or M k 0)) (leb (accession_at records i).day day) (Some (accession_at records i)) (newest records (get_or M k 0) day i) (lt-leb (accession_at records i).day day h))))
 
 -- ---- all records
 

@@ -3,7 +3,7 @@ use Prim.Native.Nat.{ℕ, zero, suc, ◌+◌, ◌-◌, ◌*◌, ◌≤◌, ◌<�
 use native.Mathlib.Omega.{arith}
 use mathlib.Core.Path.{◌≡◌, refl, sym, ap, ap₂, ◌∙◌}
 use mathlib.Core.List.{List, [], ◌∷◌, ◌++◌}
-use mathlib.Core.Option.{Option, none, some}
+use Rattle.std.specs.Prelude.{Option, None, Some}
 use lib.ListN.{length, get_or, set, take, drop, length-append, length-take}
 use lib.Seq.{sets, length-sets, drop-cons, drop-append_seam, get_or-take, get_or-set_other, take-append_seam}
 use lib.Dec.{ltb}
@@ -17,8 +17,8 @@ use Rattle.catalogue.specs.Pool.{entry_of}
 use Rattle.pool_entries.specs.Steps.{entries_by, blank}
 
 entry_length : (m : ℕ) (o : Option Accession) → length (entry_of m o) ≡ 4
-entry_length m none = refl
-entry_length m (some r) = refl
+entry_length m None = refl
+entry_length m (Some r) = refl
 
 pub entries-length : (f : ℕ → Option Accession) (M : List ℕ) → length (entries_by f M) ≡ 4 * length M
 unfolding entries_by concat_map
@@ -101,7 +101,7 @@ module _ {maps : ℕ} {old : List ℕ} where
       let z : k ≡ 0 = omega arith in
       S.stored
       ∙ ap (λ n. sets old (4 * n) (blank (drop n (take maps old)))) z
-      ∙ sets_overwrite old (blank (take maps old)) (omega (arith, entries-length (λ m. none) (take maps old), taken-length maps old S.room, S.room))
+      ∙ sets_overwrite old (blank (take maps old)) (omega (arith, entries-length (λ m. None) (take maps old), taken-length maps old S.room, S.room))
 
 -- ---- the maps put, sorted and spread
 
@@ -115,4 +115,4 @@ listed X old put sorted new maps n p s e =
     let read : take maps sorted ≡ sort ltb X = ap₂ take (sym size) there ∙ take-append_seam (sort ltb X) (drop (length (sort ltb X)) old) in
     e
     ∙ ap₂ (λ u v. overwrite (blank u) v) read there
-    ∙ overwrite-twice (blank (sort ltb X)) (sort ltb X) old (omega (arith, entries-length (λ m. none) (sort ltb X)))
+    ∙ overwrite-twice (blank (sort ltb X)) (sort ltb X) old (omega (arith, entries-length (λ m. None) (sort ltb X)))

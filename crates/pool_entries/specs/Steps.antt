@@ -1,6 +1,6 @@
 -- What the steps of the listing promise: entries that show no record yet, and entries in which a record is shown. Definitions only; assumes nothing.
 use Rattle.std.specs.Prelude.{ℕ, ◌+◌, ◌≡◌, cond, List, length, eqb}
-use Rattle.std.proofs.Math.Option.{Option, none, some}
+use Rattle.std.specs.Prelude.{Option, None, Some}
 use Rattle.definitions.specs.Lists.{overwrite}
 use Rattle.definitions.specs.Scan.{only_if, concat_map}
 use Rattle.catalogue.specs.Terms.{term_at, days_of, contains}
@@ -19,12 +19,12 @@ entries_by f maps = concat_map (λ m. entry_of m (f m)) maps
 
 -- showing no record
 abbrev pub blank : List ℕ → List ℕ
-blank maps = entries_by (λ m. none) maps
+blank maps = entries_by (λ m. None) maps
 
 -- where the output begins with the entries of so many rising maps, the record is shown in the entry of its map
 abbrev pub Shown : List ℕ → ℕ → Accession → List ℕ → Type 0
 Shown old count r new = (M : List ℕ) (f : ℕ → Option Accession) → Rising M → length M ≡ count → old ≡ overwrite (entries_by f M) old
-    → new ≡ overwrite (entries_by (λ m. cond (eqb r.on_map m) (some r) (f m)) M) old
+    → new ≡ overwrite (entries_by (λ m. cond (eqb r.on_map m) (Some r) (f m)) M) old
 
 -- the same of record i of the list and a day: what was shown of the records before it becomes what is shown with it
 abbrev pub RecordShown : List ℕ → ℕ → List ℕ → ℕ → ℕ → List ℕ → Type 0

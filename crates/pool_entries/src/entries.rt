@@ -72,9 +72,7 @@ pub fn show_records(output: &mut [u64], maps: usize, records: &[u64], day: u64)
     ensures { RecordsShown output.old maps records.now day output.new }
 {
     let count = records.len() / RECORD_SIZE;
-    let mut i = 0;
-    while i < count {
+    for i in 0..count {
         show_record(&mut *output, maps, records, i, day);
-        i += 1;
     }
 }

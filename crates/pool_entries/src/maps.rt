@@ -19,12 +19,10 @@ pub fn count_maps(terms: &[u64], day: u64) -> usize
 {
     let count = terms.len() / TERM_SIZE;
     let mut maps = 0;
-    let mut i = 0;
-    while i < count {
+    for i in 0..count {
         if has_day(terms, i, day) {
             maps += 1;
         }
-        i += 1;
     }
     maps
 }
@@ -49,10 +47,8 @@ fn put_maps(terms: &[u64], day: u64, output: &mut [u64])
 {
     let count = terms.len() / TERM_SIZE;
     let mut maps = 0;
-    let mut i = 0;
-    while i < count {
+    for i in 0..count {
         maps = put_map(terms, i, day, &mut *output, maps);
-        i += 1;
     }
 }
 

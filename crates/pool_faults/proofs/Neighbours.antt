@@ -4,7 +4,7 @@ use Prim.Native.Nat.{ℕ, zero, suc, ◌+◌, ◌-◌, ◌*◌, ◌≤◌, ◌<�
 use native.Mathlib.Omega.{arith}
 use mathlib.Core.Path.{◌≡◌, refl, sym, ap, subst, ◌∙◌}
 use mathlib.Core.Bool.{Bool, true, false, ◌&&◌, ◌||◌, false≢true, and-false}
-use mathlib.Core.Option.{Option, none, some}
+use Rattle.std.specs.Prelude.{Option, None, Some}
 use mathlib.Core.List.{List, [], ◌∷◌}
 use lib.ListN.{length, get_or}
 use lib.Dec.{eqb, ltb}
@@ -62,8 +62,8 @@ module _ (l : List ℕ) where
     where
       go : (t : Bool) → eqb (term_at l j).on_map (term_at l i).on_map ≡ t → (o : Option Days) → days_of (term_at l j) ≡ o → (t && overlap d o) ≡ false
       go false q o f = refl
-      go true q none f = refl
-      go true q (some c) f =
+      go true q None f = refl
+      go true q (Some c) f =
           let x = P.over (sym (eqb-true (term_at l j).on_map (term_at l i).on_map q)) in
           rw (le-ltb c.from d.to (omega (arith, x.1, ap end_in e, ap first_in f))) (and-false (ltb d.from c.to))
 
@@ -72,8 +72,8 @@ module _ (l : List ℕ) where
     where
       go : (t : Bool) → eqb (term_at l j).on_map (term_at l i).on_map ≡ t → (o : Option Days) → days_of (term_at l j) ≡ o → (t && overlap d o) ≡ false
       go false q o f = refl
-      go true q none f = refl
-      go true q (some c) f =
+      go true q None f = refl
+      go true q (Some c) f =
           let x = P.over (eqb-true (term_at l j).on_map (term_at l i).on_map q) in
           rw (le-ltb d.from c.to (omega (arith, x.1, ap first_in e, ap end_in f))) refl
 

@@ -3,7 +3,7 @@
 use Prim.Native.Nat.{ℕ, zero, suc, ◌+◌, ◌%◌, ◌≤◌, ◌<◌}
 use native.Mathlib.Omega.{arith}
 use mathlib.Core.Path.{◌≡◌, refl, sym, ap, subst, ◌∙◌}
-use mathlib.Core.Option.{Option, none, some}
+use Rattle.std.specs.Prelude.{Option, None, Some}
 use mathlib.Core.Bool.{Bool, true, false, ◌&&◌, ◌||◌, true≢false}
 use mathlib.Core.List.{List}
 use lib.ListN.{length, get_or, set, length-set}
@@ -28,8 +28,8 @@ module _ (terms : List ℕ) (i : ℕ) (ends : List ℕ) (L : Latest terms i ends
     where
       go : (j : ℕ) (t : Bool) → eqb (term_at terms j).on_map (term_at terms i).on_map ≡ t → (o : Option Days) → end_in o ≤ get_or ends ((term_at terms j).on_map % 4096) 0 → (t && overlap d o) ≡ false
       go j false e o k = refl
-      go j true e none k = refl
-      go j true e (some c) k =
+      go j true e None k = refl
+      go j true e (Some c) k =
           let same : get_or ends ((term_at terms j).on_map % 4096) 0 ≡ get_or ends ((term_at terms i).on_map % 4096) 0 =
           ap (λ m. get_or ends (m % 4096) 0) (eqb-true (term_at terms j).on_map (term_at terms i).on_map e) in
           rw (le-ltb d.from c.to (omega arith)) refl
@@ -67,7 +67,7 @@ module _ (terms : List ℕ) (i : ℕ) (ends : List ℕ) (L : Latest terms i ends
   end-stored {v} e h = subst (λ n. Latest terms (i + 1) (set ends n v)) (sym q) (latest-set terms i ends L v e (omega (arith, ap (λ n. get_or ends n 0) q)))
 
   -- a term that is not empty, and starts no earlier, breaks no rule
-  pub free_of_fault : (d : Days) → d.from < d.to → get_or ends s 0 ≤ d.from → term_fault terms i (some d) ≡ none
+  pub free_of_fault : (d : Days) → d.from < d.to → get_or ends s 0 ≤ d.from → term_fault terms i (Some d) ≡ None
   free_of_fault d b h = rw (lt-leb d.to d.from b, free-after d h) refl
 
 pub latest-starts : (terms ends : List ℕ) → length ends ≡ 4096 → Latest terms 0 ends
@@ -86,13 +86,13 @@ sound_more l i S h k b = go (ltb k i) refl
 pub faultless_sound : (l : List ℕ) (n : ℕ) → Faultless l n → Sound l n
 faultless_sound l n F i b = go (days_of (term_at l i)) (none_at (λ k. term_fault l k (days_of (term_at l k))) n F i b)
   where
-    kept : (d : Days) (t : Bool) → is_empty d ≡ t → only_if {A = Refusal} (t || overlaps_earlier l i d) (record { number = 19; place = i }) ≡ none → d.from < d.to
+    kept : (d : Days) (t : Bool) → is_empty d ≡ t → only_if {A = Refusal} (t || overlaps_earlier l i d) (record { number = 19; place = i }) ≡ None → d.from < d.to
     kept d true e f = absurd (true≢false (ap found f))
     kept d false e f = omega (arith, leb-false d.to d.from e)
 
-    go : (o : Option Days) → term_fault l i o ≡ none → first_in o < end_in o
-    go none f = absurd (true≢false (ap found f))
-    go (some d) f = kept d (is_empty d) refl f
+    go : (o : Option Days) → term_fault l i o ≡ None → first_in o < end_in o
+    go None f = absurd (true≢false (ap found f))
+    go (Some d) f = kept d (is_empty d) refl f
 
 -- terms that are sound and apart break no rule
 pub apart_faultless : (l : List ℕ) (n : ℕ) → Sound l n → ApartTo l n → Faultless l n
@@ -101,6 +101,6 @@ apart_faultless l zero S A = refl
 apart_faultless l (suc n) S A =
     rw (apart_faultless l n (λ i b. S i (omega arith)) (λ i j a b. A i j a (omega arith))) (go (days_of (term_at l n)) refl (S n (omega arith)))
   where
-    go : (o : Option Days) → days_of (term_at l n) ≡ o → first_in o < end_in o → term_fault l n o ≡ none
-    go none e h = absurd (omega arith)
-    go (some d) e h = rw (lt-leb d.to d.from h, below_none n (sharing l (term_at l n).on_map d) (λ j b. A n j b (omega arith) d e)) refl
+    go : (o : Option Days) → days_of (term_at l n) ≡ o → first_in o < end_in o → term_fault l n o ≡ None
+    go None e h = absurd (omega arith)
+    go (Some d) e h = rw (lt-leb d.to d.from h, below_none n (sharing l (term_at l n).on_map d) (λ j b. A n j b (omega arith) d e)) refl

@@ -1,7 +1,7 @@
 -- Terms of one map that are apart, that is have no day in common, and the keys by which terms are sorted so that neighbours tell it. Definitions only; assumes
 -- nothing.
 use Rattle.std.specs.Prelude.{ℕ, suc, ◌%◌, ◌≤◌, ◌<◌, ◌≡◌, false, List, length, get_or}
-use Rattle.std.proofs.Math.Option.{none, some}
+use Rattle.std.specs.Prelude.{None, Some}
 use Rattle.definitions.specs.Refusals.{first_below_lem}
 use Rattle.catalogue.specs.Terms.{Days, term_at, days_of, term_fault}
 use Rattle.pool_terms.specs.Contract.{sharing, first_in, end_in}
@@ -10,7 +10,7 @@ use Rattle.pool_faults.specs.declared.apart.Taken.TheVariants as taken
 
 -- term j is of another map than term i, or has no day in common with it
 abbrev pub Apart : List ℕ → ℕ → ℕ → Type 0
-Apart l i j = (d : Days) → days_of (term_at l i) ≡ some d → sharing l (term_at l i).on_map d j ≡ false
+Apart l i j = (d : Days) → days_of (term_at l i) ≡ Some d → sharing l (term_at l i).on_map d j ≡ false
 
 -- the first n terms are apart
 abbrev pub ApartTo : List ℕ → ℕ → Type 0
@@ -30,7 +30,7 @@ Sound l n = (i : ℕ) → i < n → first_in (days_of (term_at l i)) < end_in (d
 
 -- the first n terms break no rule
 abbrev pub Faultless : List ℕ → ℕ → Type 0
-Faultless l n = first_below_lem n (λ k. term_fault l k (days_of (term_at l k))) ≡ none
+Faultless l n = first_below_lem n (λ k. term_fault l k (days_of (term_at l k))) ≡ None
 
 -- ---- neighbours
 

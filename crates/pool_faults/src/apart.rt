@@ -71,12 +71,10 @@ fn least_astray(terms: &[u64], keys: &[u64], until: usize) -> usize
     ensures { (result ≤ until) × (result ≡ until → Following terms.now keys.now (length keys.now)) }
 {
     let mut found = until;
-    let mut k = 1;
-    while k < keys.len() {
+    for k in 1..keys.len() {
         let i = position_in(keys[k - 1]);
         let j = position_in(keys[k]);
         found = least_astray_of(terms, found, i, j);
-        k += 1;
     }
     found
 }
@@ -121,13 +119,11 @@ fn take_maps(terms: &[u64], until: usize, low: u64, high: u64, maps: &mut [u64])
     ensures { Fits until (length maps.old) result }
 {
     let mut taken = 0;
-    let mut i = 0;
-    while i < until {
+    for i in 0..until {
         if taken == maps.len() {
             return Taken::TooMany(i);
         }
         taken = take_map(terms, i, low, high, &mut *maps, taken);
-        i += 1;
     }
     Taken::All(taken)
 }
@@ -197,13 +193,11 @@ fn take_keys(
     ensures { Keyed terms.now until low high keys.new result }
 {
     let mut taken = 0;
-    let mut i = 0;
-    while i < until {
+    for i in 0..until {
         if taken == keys.len() {
             return Taken::TooMany(i);
         }
         taken = take_key(terms, i, low, high, maps, count, &mut *keys, taken);
-        i += 1;
     }
     Taken::All(taken)
 }

@@ -1,6 +1,6 @@
 // The first term that breaks a rule, 18 or 19.
 ghost use Rattle.std.specs.Prelude.{◌≡◌, true, ◌+◌, ◌*◌, ◌%◌, ◌≤◌, ◌<◌, length};
-ghost use Rattle.std.proofs.Math.Option.{none};
+ghost use Rattle.std.specs.Prelude.{None};
 ghost use Rattle.catalogue.specs.Terms.{numbers_per_term, term_at, days_of, term_fault, terms_refusal};
 ghost use Rattle.pool_terms.specs.Contract.{refusal_in};
 ghost use Rattle.pool_faults.specs.Ends.{Latest};
@@ -38,7 +38,7 @@ fn keep_end(terms: &[u64], i: usize, ends: &mut [u64; SLOTS])
 fn passes(terms: &[u64], i: usize, ends: &[u64; SLOTS]) -> bool
     requires terms_room { numbers_per_term * (i + 1) ≤ length terms.now }
     requires latest { Latest terms.now i ends.now }
-    ensures { result ≡ true → term_fault terms.now i (days_of (term_at terms.now i)) ≡ none }
+    ensures { result ≡ true → term_fault terms.now i (days_of (term_at terms.now i)) ≡ None }
 {
     match term_days(terms, i) {
         Days::Bad => false,
@@ -101,15 +101,13 @@ pub fn terms_fault(terms: &[u64]) -> Fault
     ensures { refusal_in result ≡ terms_refusal terms.now }
 {
     let count = terms.len() / TERM_SIZE;
-    let mut i = faultless_terms(terms, count);
-    while i < count {
+    for i in faultless_terms(terms, count)..count {
         let fault = term_fault(terms, i);
         match fault {
             Fault::Nothing => {}
             Fault::BadDate(_) => return fault,
             Fault::EmptyOrOverlapping(_) => return fault,
         }
-        i += 1;
     }
     Fault::Nothing
 }

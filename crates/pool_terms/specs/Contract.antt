@@ -1,6 +1,6 @@
 -- What the answers of this crate say, by cases, and what is asked of two terms. Definitions only; assumes nothing.
 use Rattle.std.specs.Prelude.{ℕ, Bool, ◌&&◌, List, eqb}
-use Rattle.std.proofs.Math.Option.{Option, none, some}
+use Rattle.std.specs.Prelude.{Option, None, Some}
 use Rattle.definitions.specs.Refusals.{Refusal}
 use Rattle.catalogue.specs.Dates.{Date}
 use Rattle.catalogue.specs.Terms as def
@@ -15,17 +15,17 @@ abbrev pub date : ℕ → ℕ → ℕ → Date
 date year month day = record { year = year; month = month; day = day }
 
 abbrev pub day_in : Day → Option ℕ
-day_in (day.Number n) = some n
-day_in day.Bad = none
+day_in (day.Number n) = Some n
+day_in day.Bad = None
 
 abbrev pub days_in : Days → Option def.Days
-days_in (days.FromTo from to) = some (record { from = from; to = to })
-days_in days.Bad = none
+days_in (days.FromTo from to) = Some (record { from = from; to = to })
+days_in days.Bad = None
 
 abbrev pub refusal_in : Fault → Option Refusal
-refusal_in fault.Nothing = none
-refusal_in (fault.BadDate i) = some (record { number = 18; place = i })
-refusal_in (fault.EmptyOrOverlapping i) = some (record { number = 19; place = i })
+refusal_in fault.Nothing = None
+refusal_in (fault.BadDate i) = Some (record { number = 18; place = i })
+refusal_in (fault.EmptyOrOverlapping i) = Some (record { number = 19; place = i })
 
 -- term j is of the map and has a day in common with d
 abbrev pub sharing : List ℕ → ℕ → def.Days → ℕ → Bool
@@ -33,10 +33,10 @@ sharing terms map d j = eqb (def.term_at terms j).on_map map && def.overlap d (d
 
 -- the first day of a term, or 0 for a bad date
 abbrev pub first_in : Option def.Days → ℕ
-first_in none = 0
-first_in (some d) = d.from
+first_in None = 0
+first_in (Some d) = d.from
 
 -- the end of a term, or 0 for a bad date
 abbrev pub end_in : Option def.Days → ℕ
-end_in none = 0
-end_in (some d) = d.to
+end_in None = 0
+end_in (Some d) = d.to

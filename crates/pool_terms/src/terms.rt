@@ -108,12 +108,10 @@ fn overlaps_earlier(terms: &[u64], i: usize, from: u64, to: u64) -> bool
     ensures { result ≡ overlaps_earlier terms.now i (record { from = from; to = to }) }
 {
     let map = terms[TERM_SIZE * i];
-    let mut j = 0;
-    while j < i {
+    for j in 0..i {
         if shares_day(terms, j, map, from, to) {
             return true;
         }
-        j += 1;
     }
     false
 }

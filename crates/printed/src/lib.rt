@@ -60,11 +60,9 @@ fn put_text(out: &mut [u8], at: usize, bytes: &[u8]) -> usize
     ensures { Put out.old at bytes.now out.new result }
 {
     let mut next = at;
-    let mut i = 0;
-    while i < bytes.len() {
+    for i in 0..bytes.len() {
         out[next] = bytes[i];
         next += 1;
-        i += 1;
     }
     next
 }
@@ -113,10 +111,8 @@ fn put_rows(out: &mut [u8], at: usize, output: &[u64], kept: usize) -> usize
     ensures bound { result ≤ at + row_room * kept }
 {
     let mut next = at;
-    let mut k = 0;
-    while k < kept {
+    for k in 0..kept {
         next = put_row(&mut *out, next, output, k);
-        k += 1;
     }
     next
 }

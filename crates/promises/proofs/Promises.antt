@@ -5,7 +5,7 @@ use native.Mathlib.Omega.{arith}
 use mathlib.Core.Path.{◌≡◌, refl, sym, ap, ◌∙◌}
 use mathlib.Core.Logic.{◌↔◌}
 use mathlib.Core.Bool.{Bool, true, not, ◌&&◌, ◌||◌}
-use mathlib.Core.Option.{none, some}
+use Rattle.std.specs.Prelude.{None, Some}
 use mathlib.Core.List.{List, [], ◌∷◌, map, Memᴰ, ◌++◌}
 use lib.ListN.{length, get_or, take}
 use lib.Dec.{eqb}
@@ -185,7 +185,7 @@ module _ {pass : ℕ} {L : LentLists} {a : Answer} {E : LeftLists} (call : RanOv
   abbrev pub run_left : Result
   run_left = result_left (lent_call pass L) a E.labels E.tallies E.pairs E.output
 
-  pub run-keeps_rules : rules_fault (answers.placed run_left) ≡ none
+  pub run-keeps_rules : rules_fault (answers.placed run_left) ≡ None
   run-keeps_rules = runs.call-keeps_rules call.ran success
 
   -- the writer, lent it whole, answers with its bytes where there is room for them
@@ -220,7 +220,7 @@ written-reads-back small call success = (written.written-call small call success
 
 -- ---- request 2: the share is exact, and there is no other
 
-pub share_exactly : (count n : ℕ) (h : Share) → (share_of count n ≡ some h) ↔ IsShare count n h
+pub share_exactly : (count n : ℕ) (h : Share) → (share_of count n ≡ Some h) ↔ IsShare count n h
 share_exactly count n h = (shares.share-exact count n h, shares.share_only count n h)
 
 -- and what a union asks of two records is what the Rust's own lines ask, with its dominant elevation, of every context
@@ -350,17 +350,17 @@ module _ {x : ℕ} {L : LentBoth} {A B : Desk} {r : DesksAnswer} {E : LeftBoth} 
   coaching-desk-alone = desk-calls.coaching-alone call.ran
 
   -- a refusal over the shared lists goes to both
-  pub desks_refused-both : {f : Refusal} → shared_refusal (shared_lent L) ≡ some f
+  pub desks_refused-both : {f : Refusal} → shared_refusal (shared_lent L) ≡ Some f
       → RefusedWith A f (exported r.route) E.route_output_lem × RefusedWith B f (exported r.coaching) E.coaching_output_lem
   desks_refused-both = desks.goes_to_both call.ran
 
   -- a desk's own leaves its output as it was, and the shared lists as on success
-  pub route-desk-refused : {f : Refusal} → shared_refusal (shared_lent L) ≡ none → desk_refusal (shared_lent L) A ≡ some f
+  pub route-desk-refused : {f : Refusal} → shared_refusal (shared_lent L) ≡ None → desk_refusal (shared_lent L) A ≡ Some f
       → RefusedWith A f (exported r.route) E.route_output_lem
       × LeftAsOnSuccess (shared_lent L) E.labels E.masks E.queue E.tallies E.pairs (map record_of E.records)
   route-desk-refused = desks.route-refused call.ran
 
-  pub coaching-desk-refused : {f : Refusal} → shared_refusal (shared_lent L) ≡ none → desk_refusal (shared_lent L) B ≡ some f
+  pub coaching-desk-refused : {f : Refusal} → shared_refusal (shared_lent L) ≡ None → desk_refusal (shared_lent L) B ≡ Some f
       → RefusedWith B f (exported r.coaching) E.coaching_output_lem
       × LeftAsOnSuccess (shared_lent L) E.labels E.masks E.queue E.tallies E.pairs (map record_of E.records)
   coaching-desk-refused = desks.coaching-refused call.ran
@@ -425,7 +425,7 @@ report-beyond R [] full = refl
 report-beyond R (x ∷ l) full = ap (λ Q. add_runs Q l) (orders.beyond R x full) ∙ report-beyond R l full
 
 -- the mean is exact, and there is no other
-pub report_mean_exactly : (accepted kept : ℕ) (m : Mean) → (mean_of accepted kept ≡ some m) ↔ IsMean accepted kept m
+pub report_mean_exactly : (accepted kept : ℕ) (m : Mean) → (mean_of accepted kept ≡ Some m) ↔ IsMean accepted kept m
 report_mean_exactly accepted kept m = (means.mean_exact accepted kept m, means.mean_only accepted kept m)
 
 -- ---- request 12: sheets without spans of their own

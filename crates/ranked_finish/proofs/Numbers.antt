@@ -2,7 +2,7 @@
 use Prim.Native.Nat.{ℕ, zero, suc, ◌*◌, ◌/◌, ◌<◌}
 use native.Mathlib.Omega.{arith}
 use mathlib.Core.Bool.{Bool, true, false, not, ◌&&◌}
-use mathlib.Core.Option.{Option, none, some}
+use Rattle.std.specs.Prelude.{Option, None, Some}
 use mathlib.Core.List.{List}
 use lib.ListN.{length}
 use Rattle.definitions.specs.Limits.{numbers_per_span, numbers_per_boundary, numbers_per_anchor}
@@ -14,12 +14,12 @@ use Rattle.laws.specs.ListLaws.Lists.{All, done, more}
 use Rattle.definitions.specs.Verdict.{Lent, map_in, refusal, first_refusal, records_fault, pairs_fault, partition_has_room, verdict}
 
 data Before : Option Refusal → Type 0 where
-  no_number : Before none
-  of_number : {r : Refusal} → r.number < 21 → Before (some r)
+  no_number : Before None
+  of_number : {r : Refusal} → r.number < 21 → Before (Some r)
 
 of_refusal : (number : ℕ) (place : Option ℕ) → number < 21 → Before (refusal number place)
-of_refusal number none h = no_number
-of_refusal number (some place) h = of_number h
+of_refusal number None h = no_number
+of_refusal number (Some place) h = of_number h
 
 of_either : {x y : Option Refusal} → Before x → Before y → Before (or_else x y)
 of_either no_number k = k

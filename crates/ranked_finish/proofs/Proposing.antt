@@ -3,7 +3,7 @@ use Prim.Native.Nat.{ℕ, suc, ◌<◌}
 use native.Mathlib.Omega.{arith}
 use mathlib.Core.Path.{◌≡◌, refl, ap, ◌∙◌}
 use mathlib.Core.Bool.{Bool, true, false, cond}
-use mathlib.Core.Option.{Option, none, some}
+use Rattle.std.specs.Prelude.{Option, None, Some}
 use mathlib.Core.List.{List, []}
 use lib.ListN.{length}
 use lib.Dec.{eqb}
@@ -30,14 +30,14 @@ module _ (M : Map) where
   Some p = 0 < C.regions
 
   of_any : 0 < C.regions → (o : Option Proposal) → All Some (to_list o)
-  of_any h none = done
-  of_any h (some p) = more h done
+  of_any h None = done
+  of_any h (Some p) = more h done
 
   of_pair : (i : ℕ) (b : Bool) {l : List Pair} → All (Named M) l → All Some (to_list (union_from C i (only_pair b l)))
   unfolding union_from context_of
   of_pair i false a = done
   of_pair i true done = done
-  of_pair i true (more {x = p} h done) = of_any (omega (arith, h.low, h.ordered, h.high)) (union_from C i (some p))
+  of_pair i true (more {x = p} h done) = of_any (omega (arith, h.low, h.ordered, h.high)) (union_from C i (Some p))
   of_pair i true (more h (more k a)) = done
 
   all_some : All Some (ranked C)

@@ -28,10 +28,8 @@ fn put_listed(listed: &[u32], size: usize, lent: &mut [u32])
     requires { (size ≤ length listed.now) × (size ≤ length lent.old) }
     ensures { lent.new ≡ overwrite (take size listed.now) lent.old }
 {
-    let mut i = 0;
-    while i < size {
+    for i in 0..size {
         lent[i] = listed[i];
-        i += 1;
     }
 }
 

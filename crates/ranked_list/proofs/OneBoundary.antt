@@ -4,7 +4,7 @@ use Rattle.std.proofs.Common.{arith, sym, ap₂, ◌∙◌, eq-eqb}
 use Rattle.std.proofs.Math.Path.{refl, ap, subst}
 use Rattle.std.proofs.Math.Bool.{true, false, not, or-true}
 use Rattle.std.proofs.lemmas.Bool.{false≢true}
-use Rattle.std.proofs.Math.Option.{Option, none, some}
+use Rattle.std.specs.Prelude.{Option, None, Some}
 use mathlib.Core.List.{List, []}
 use Rattle.std.proofs.Math.Dec.{eqb}
 use Rattle.definitions.specs.Scan.{any_below_lem, all, only_if, to_list}
@@ -20,8 +20,8 @@ use Rattle.ranked_list.specs.RankedList.{Listed, judged}
 use Rattle.ranked_list.proofs.RankedLaws.{rows, row, row_at_lem, taken-apart}
 
 abbrev pub low_of : Option Pair → ℕ
-low_of none = 0
-low_of (some p) = p.lo
+low_of None = 0
+low_of (Some p) = p.lo
 
 module _ (C : Context) where
   -- a union is of its boundary's full pair; a bridge's boundary is an incident of its pocket
@@ -31,8 +31,8 @@ module _ (C : Context) where
 
   union-owned : (i : ℕ) (o : Option Pair) → full_pair C i ≡ o → All Owned (to_list (union_from C i o))
   unfolding union_from
-  union-owned i none e = done
-  union-owned i (some p) e = on_list (on_only (union_shape C i p && union_regions C i p) (record { index = i; kind = 0; first = p.lo; second = p.hi }) (of_union refl (sym (ap low_of e))))
+  union-owned i None e = done
+  union-owned i (Some p) e = on_list (on_only (union_shape C i p && union_regions C i p) (record { index = i; kind = 0; first = p.lo; second = p.hi }) (of_union refl (sym (ap low_of e))))
 
   at_owned : (r i k t : ℕ) → is_incident C i r ≡ true → All Owned (to_list (bridge_at C r i k t))
   unfolding bridge_at
@@ -42,7 +42,7 @@ module _ (C : Context) where
   unfolding pick_bridge
   pick-owned r i k t h l = go (is_twice_as_wide C i k) (is_twice_as_wide C k i)
     where
-      go : (a b : Bool) → All Owned (to_list (cond a (bridge_at C r i k t) (cond b (bridge_at C r k i t) none)))
+      go : (a b : Bool) → All Owned (to_list (cond a (bridge_at C r i k t) (cond b (bridge_at C r k i t) None)))
       go true b = at_owned r i k t h
       go false true = at_owned r k i t l
       go false false = done
@@ -54,7 +54,7 @@ module _ (C : Context) where
   ports-owned r (more h (more k done)) = done
   ports-owned r (more {x = x} h (more {x = y} k (more {x = z} m done))) = go (is_shared C r x y z) (is_shared C r x z y) (is_shared C r y z x)
     where
-      go : (a b c : Bool) → All Owned (to_list (cond a (pick_bridge C r x y z) (cond b (pick_bridge C r x z y) (cond c (pick_bridge C r y z x) none))))
+      go : (a b c : Bool) → All Owned (to_list (cond a (pick_bridge C r x y z) (cond b (pick_bridge C r x z y) (cond c (pick_bridge C r y z x) None))))
       go true b c = pick-owned r x y z h k
       go false true c = pick-owned r x z y h m
       go false false true = pick-owned r y z x k m
@@ -73,7 +73,7 @@ module _ (C : Context) where
   unfolding bridge_proposal
   bridge-owned r = go (not (C.anchored r) && all (λ j. no_ramp C j && is_some (full_pair C j)) (ports_of C r))
     where
-      go : (b : Bool) → All Owned (to_list (cond b (bridge_of_ports C r (ports_of C r)) none))
+      go : (b : Bool) → All Owned (to_list (cond b (bridge_of_ports C r (ports_of C r)) None))
       go true = ports-owned r (ports_incident r)
       go false = done
 

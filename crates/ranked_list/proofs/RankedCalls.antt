@@ -4,7 +4,7 @@ use Rattle.std.specs.Prelude.{ℕ, zero, suc, ◌+◌, ◌<◌, ◌≡◌, Bool,
 use Rattle.std.proofs.Common.{arith, sym, ◌∙◌}
 use Rattle.std.proofs.Math.Path.{refl, ap, subst}
 use Rattle.std.proofs.Math.Bool.{true, false, cond}
-use Rattle.std.proofs.Math.Option.{Option, none, some}
+use Rattle.std.specs.Prelude.{Option, None, Some}
 use mathlib.Core.List.{List, [], ◌∷◌, ◌++◌, map}
 use Rattle.definitions.specs.Grid.{span_count}
 use Rattle.definitions.specs.RegionRecord.{Region}
@@ -87,8 +87,8 @@ rows_greedy C = record { items = items-are (conflict C) [] (ranked C); removes =
 
 -- an answer of 0 has the count of proposals
 proposals-are : (n v : ℕ) (o : Option ℕ) (k : ℕ) → (ranked_after n v (refusal 21 o) k).number ≡ 0 → (ranked_after n v (refusal 21 o) k).proposals ≡ k
-proposals-are zero v none k h = refl
-proposals-are zero v (some x) k h = absurd (omega (arith, h))
+proposals-are zero v None k h = refl
+proposals-are zero v (Some x) k h = absurd (omega (arith, h))
 proposals-are (suc n) v o k h = absurd (omega (arith, h))
 
 module _ {L : Lent} {was : List ℕ} {a : RankedAnswer} {l m q t p : List ℕ} {s : List Region} {o k : List ℕ} (ran : RankedRan L was a l m q t p s o k) (accepted : a.number ≡ 0) where

@@ -1,7 +1,7 @@
 -- The answer of the call that gives the ranked junction list, and every list at exit, for every input (docs/SPECIFICATION.md, 'The ranked junction list'). The call is
 -- lent what a call of pass 3 is lent, and the list. Assumes nothing.
 use Rattle.std.specs.Prelude.{ℕ, zero, suc, ◌/◌, ◌≡◌, cond, List, length, eqb, leb}
-use Rattle.std.proofs.Math.Option.{Option, none, some}
+use Rattle.std.specs.Prelude.{Option, None, Some}
 use Rattle.definitions.specs.Grid.{Map}
 use Rattle.definitions.specs.RegionRecord.{Region}
 use Rattle.definitions.specs.Refusals.{Refusal, unless}
@@ -23,8 +23,8 @@ ranked_fault M list = unless (leb (length (ranked_of M)) (length list / numbers_
 
 -- 21 comes last
 abbrev pub ranked_after : ℕ → ℕ → Option Refusal → ℕ → RankedAnswer
-ranked_after zero kept none proposals = record { number = 0; value = kept; proposals = proposals }
-ranked_after zero kept (some r) proposals = record { number = r.number; value = r.place; proposals = 0 }
+ranked_after zero kept None proposals = record { number = 0; value = kept; proposals = proposals }
+ranked_after zero kept (Some r) proposals = record { number = r.number; value = r.place; proposals = 0 }
 ranked_after (suc n) place r proposals = record { number = suc n; value = place; proposals = 0 }
 
 -- of a call that is lent L, with pass 3, and the list

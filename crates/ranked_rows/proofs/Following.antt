@@ -3,7 +3,7 @@ use Prim.Native.Nat.{ℕ, zero, suc, ◌+◌, ◌*◌, ◌≤◌, ◌<◌, zero-
 use native.Mathlib.Omega.{arith}
 use mathlib.Core.Path.{◌≡◌, refl, sym, ap, ap₂, ◌∙◌}
 use mathlib.Core.Bool.{Bool, true, false, ◌&&◌}
-use mathlib.Core.Option.{some}
+use Rattle.std.specs.Prelude.{Some}
 use mathlib.Core.List.{List, [], ◌∷◌, ◌++◌}
 use lib.ListN.{length, get_or, drop, length-append, length-drop, get_or-append}
 use lib.Seq.{sets, get_or_at}
@@ -24,21 +24,21 @@ use Rattle.ranked_rows.proofs.Judging.{judged_more, flat_more, flat-length, take
 -- ---- the rows that an order names
 
 module _ {A : Type 0} (f : ℕ → A) where
-  all-length : (n : ℕ) → length (collect n (λ k. some (f k))) ≡ n
+  all-length : (n : ℕ) → length (collect n (λ k. Some (f k))) ≡ n
   unfolding collect
   all-length zero = refl
-  all-length (suc n) = omega (arith, length-append (collect n (λ k. some (f k))) (f n ∷ []), all-length n)
+  all-length (suc n) = omega (arith, length-append (collect n (λ k. Some (f k))) (f n ∷ []), all-length n)
 
-  all_at : (n i : ℕ) (d : A) → i < n → get_or (collect n (λ k. some (f k))) i d ≡ f i
+  all_at : (n i : ℕ) (d : A) → i < n → get_or (collect n (λ k. Some (f k))) i d ≡ f i
   unfolding collect
   all_at zero i d h = absurd (omega arith)
   all_at (suc n) i d h = go (ltb i n) refl (all_at n i d)
     where
-      go : (b : Bool) → ltb i n ≡ b → (i < n → get_or (collect n (λ k. some (f k))) i d ≡ f i) → get_or (collect n (λ k. some (f k)) ++ (f n ∷ [])) i d ≡ f i
-      go true e ih = get_or-append (collect n (λ k. some (f k))) (f n ∷ []) d i (omega (arith, ltb-true i n e, all-length n)) ∙ ih (ltb-true i n e)
+      go : (b : Bool) → ltb i n ≡ b → (i < n → get_or (collect n (λ k. Some (f k))) i d ≡ f i) → get_or (collect n (λ k. Some (f k)) ++ (f n ∷ [])) i d ≡ f i
+      go true e ih = get_or-append (collect n (λ k. Some (f k))) (f n ∷ []) d i (omega (arith, ltb-true i n e, all-length n)) ∙ ih (ltb-true i n e)
       go false e ih =
           let q : n ≡ i = omega (arith, ltb-false i n e) in
-          get_or_at (collect n (λ k. some (f k))) (f n) [] d i (all-length n ∙ q) ∙ ap f q
+          get_or_at (collect n (λ k. Some (f k))) (f n) [] d i (all-length n ∙ q) ∙ ap f q
 
 pub order-length : (rows order : List ℕ) (m : ℕ) → length (order_of rows order m) ≡ m
 unfolding order_of
@@ -62,7 +62,7 @@ alike e q s =
     record {
       within = omega (arith, s.within, q);
       behind = λ h. omega arith;
-      none = λ j a h. sym (e j (omega (arith, s.within))) ∙ s.none j a h;
+      None = λ j a h. sym (e j (omega (arith, s.within))) ∙ s.none j a h;
       found = λ h. sym (e _ (omega (arith, q))) ∙ s.found (omega (arith, q));
     }
 

@@ -98,12 +98,10 @@ fn refused_by(
     ensures { FirstFrom (blocks_at smaller.now larger.now count rows.now order.now listed.now p)
         0 k result }
 {
-    let mut r = 0;
-    while r < k {
+    for r in 0..k {
         if blocks(smaller, larger, rows, order, listed, count, r, p) {
             return r;
         }
-        r += 1;
     }
     k
 }

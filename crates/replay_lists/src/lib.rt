@@ -109,10 +109,8 @@ pub fn write_wide_numbers<W: Write>(output: &mut W, word: &[u8], list: &[u64]) -
 {
     let n = changed(list);
     write_number(output, word, n as u64)?;
-    let mut i = 0;
-    while i < n {
+    for i in 0..n {
         write_number(output, b" ", list[i])?;
-        i += 1;
     }
     write_number(output, b" kept ", (list.len() - n) as u64)?;
     write_bytes(output, b"\n")?;
@@ -132,10 +130,8 @@ fn widen(list: &[u32], out: &mut [u64])
     ensures { Copied list.now out.new }
 {
     let n = least(list.len(), out.len());
-    let mut i = 0;
-    while i < n {
+    for i in 0..n {
         out[i] = number_of(list[i]);
-        i += 1;
     }
 }
 
@@ -143,10 +139,8 @@ fn widen_masks(masks: &[u16], out: &mut [u64])
     ensures { Copied masks.now out.new }
 {
     let n = least(masks.len(), out.len());
-    let mut i = 0;
-    while i < n {
+    for i in 0..n {
         out[i] = number_of_mask(masks[i]);
-        i += 1;
     }
 }
 

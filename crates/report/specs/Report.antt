@@ -2,7 +2,7 @@
 -- of a report that runs were added to from the empty one no sum wraps (ReportLaws/Reached). Assumes nothing.
 use Rattle.std.specs.Prelude.{ℕ, zero, suc, ◌+◌, ◌-◌, ◌/◌, ◌%◌, ◌^◌, replicate, ltb}
 use Rattle.std.proofs.Math.Bool.{cond}
-use Rattle.std.proofs.Math.Option.{Option, none, some}
+use Rattle.std.specs.Prelude.{Option, None, Some}
 use mathlib.Core.List.{List, [], ◌∷◌}
 use Rattle.report.specs.Runs.{Figures, Run, refused_run, accepted_run}
 
@@ -99,15 +99,15 @@ pub record Mean : Type 0 where
   pub remainder : ℕ
 
 abbrev pub mean_of : ℕ → ℕ → Option Mean
-mean_of zero kept = none
-mean_of (suc n) kept = some (record { quotient = kept / suc n; remainder = kept % suc n })
+mean_of zero kept = None
+mean_of (suc n) kept = Some (record { quotient = kept / suc n; remainder = kept % suc n })
 
 abbrev pub mean_at : ℕ → List Figures → Option Mean
-mean_at i [] = none
+mean_at i [] = None
 mean_at zero (f ∷ l) = mean_of f.accepted f.kept
 mean_at (suc i) (f ∷ l) = mean_at i l
 
 -- of passes 1, 2 and 3; there is none of any other number
 abbrev pub mean_kept : Report → ℕ → Option Mean
-mean_kept R zero = none
+mean_kept R zero = None
 mean_kept R (suc i) = mean_at i R.passes

@@ -1,7 +1,7 @@
 -- Computed examples of request 13: what case J (SPECIFICATION 18) adds, runs added in two orders, a run beyond the last, means, lengths, and sums that wrap.
 -- Assumes nothing.
 use Rattle.std.specs.Prelude.{ℕ, ◌-◌, ◌^◌, ◌≡◌, refl, List, [], ◌∷◌, map, replicate}
-use Rattle.std.proofs.Math.Option.{Option, none, some}
+use Rattle.std.specs.Prelude.{Option, None, Some}
 use Rattle.definitions.specs.Grid.{Segment, at}
 use Rattle.definitions.specs.SheetExamples.{Example, ◌gives◌, bytes_j}
 use Rattle.report.specs.Runs.{Figures, Run, refused_run, accepted_run, square_apart, squared_lengths, figures_from, sheet_run}
@@ -95,5 +95,5 @@ report_examples_lem = refl
 
 -- of passes 0, 1, 2, 3 and 4: no pass; 2 in one run; no run; 5 in two runs; no pass
 pub means : map (mean_kept reported) (0 ∷ 1 ∷ 2 ∷ 3 ∷ 4 ∷ [])
-    ≡ none ∷ some (record { quotient = 2; remainder = 0 }) ∷ none ∷ some (record { quotient = 2; remainder = 1 }) ∷ none ∷ []
+    ≡ None ∷ Some (record { quotient = 2; remainder = 0 }) ∷ None ∷ Some (record { quotient = 2; remainder = 1 }) ∷ None ∷ []
 means = refl

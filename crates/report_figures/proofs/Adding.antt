@@ -1,6 +1,6 @@
 -- A report with a run more, from its parts. Assumes nothing.
 use Rattle.std.proofs.Common.{◌≡◌, ℕ, zero, suc, ◌/◌, ◌%◌, ◌<◌, ◌≤◌, Bool, true, false, cond, eqb, List, [], ◌∷◌, length, get_or, set, refl, ap, ◌∙◌, arith}
-use mathlib.Core.Option.{none}
+use Rattle.std.specs.Prelude.{None}
 use Rattle.report.specs.Runs as def
 use Rattle.report.specs.Runs.{refused_run, accepted_run, squared_lengths}
 use Rattle.report.specs.Report as def'
@@ -31,7 +31,7 @@ pub some_mean : (runs kept : ℕ) → (runs ≡ 0 → ⊥) → record { has_mean
 some_mean zero kept h = absurd (h refl)
 some_mean (suc n) kept h = refl
 
-pub mean_none : (runs kept : ℕ) {m : Mean} → runs ≡ 0 → m ≡ mean_form none → m ≡ mean_form (mean_of runs kept)
+pub mean_none : (runs kept : ℕ) {m : Mean} → runs ≡ 0 → m ≡ mean_form None → m ≡ mean_form (mean_of runs kept)
 mean_none runs kept e h = rw e h
 
 pub mean_1 : (r : Report) (pass : ℕ) {m : Mean} → pass ≡ 1 → m ≡ mean_form (mean_of r.pass_1.accepted r.pass_1.kept) → m ≡ mean_form (mean_kept (report_form r) pass)
@@ -43,7 +43,7 @@ mean_2 r pass e h = rw e h
 pub mean_3 : (r : Report) (pass : ℕ) {m : Mean} → pass ≡ 3 → m ≡ mean_form (mean_of r.pass_3.accepted r.pass_3.kept) → m ≡ mean_form (mean_kept (report_form r) pass)
 mean_3 r pass e h = rw e h
 
-pub mean_else : (r : Report) (pass : ℕ) {m : Mean} → (pass ≡ 1 → ⊥) → (pass ≡ 2 → ⊥) → (pass ≡ 3 → ⊥) → m ≡ mean_form none → m ≡ mean_form (mean_kept (report_form r) pass)
+pub mean_else : (r : Report) (pass : ℕ) {m : Mean} → (pass ≡ 1 → ⊥) → (pass ≡ 2 → ⊥) → (pass ≡ 3 → ⊥) → m ≡ mean_form None → m ≡ mean_form (mean_kept (report_form r) pass)
 mean_else r zero a b c h = h
 mean_else r (suc zero) a b c h = absurd (a refl)
 mean_else r (suc (suc zero)) a b c h = absurd (b refl)

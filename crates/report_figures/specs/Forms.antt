@@ -1,6 +1,6 @@
 -- What the declared types say, in the words of the report, and what is asked of rows. Definitions only; assumes nothing.
 use Rattle.std.specs.Prelude.{ℕ, ◌*◌, ◌<◌, ◌≤◌, Bool, true, false, List, [], ◌∷◌, length}
-use Rattle.std.proofs.Math.Option.{Option, none, some}
+use Rattle.std.specs.Prelude.{Option, None, Some}
 use Rattle.definitions.specs.Limits.{max_entries, numbers_per_row}
 use Rattle.laws.specs.FloatLaws.Pixels.{PixelSegment}
 use Rattle.laws.specs.ListLaws.FlatRows.{row_at}
@@ -24,8 +24,8 @@ report_form r =
 
 -- 0 where there is no mean
 abbrev pub mean_form : Option def'.Mean → Mean
-mean_form none = record { has_mean = false; quotient = 0; remainder = 0 }
-mean_form (some m) = record { has_mean = true; quotient = m.quotient; remainder = m.remainder }
+mean_form None = record { has_mean = false; quotient = 0; remainder = 0 }
+mean_form (Some m) = record { has_mean = true; quotient = m.quotient; remainder = m.remainder }
 
 -- the list begins with so many rows, no more than a map has boundaries, and their lines lie on a map
 pub record RowsOnMap (kept : ℕ) (output : List ℕ) : Type 0 where

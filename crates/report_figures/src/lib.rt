@@ -7,7 +7,7 @@ pub mod row_lengths;
 pub mod sums;
 
 ghost use Rattle.std.specs.Prelude.{◌≡◌};
-ghost use Rattle.std.proofs.Math.Option.{none};
+ghost use Rattle.std.specs.Prelude.{None};
 ghost use Rattle.report.specs.Report.{empty_report, mean_of, mean_kept};
 ghost use Rattle.report_figures.specs.Forms.{report_form, mean_form};
 
@@ -84,7 +84,7 @@ pub struct Mean {
 }
 
 fn no_mean() -> Mean
-    ensures { result ≡ mean_form none }
+    ensures { result ≡ mean_form None }
 {
     Mean {
         has_mean: false,

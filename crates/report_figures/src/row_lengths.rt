@@ -25,12 +25,10 @@ fn is_named(output: &[u64], kept: usize, number: usize) -> bool
     ensures { result ≡ named (rows_in_lem kept output.now) number }
 {
     let mut found = false;
-    let mut k = 0;
-    while k < kept {
+    for k in 0..kept {
         if has_number(output, k, number) {
             found = true;
         }
-        k += 1;
     }
     found
 }
@@ -41,12 +39,10 @@ pub fn count_unnamed(output: &[u64], kept: usize, count: usize) -> u64
     ensures { result ≡ unnamed_below count (rows_in_lem kept output.now) }
 {
     let mut unnamed = 0;
-    let mut i = 0;
-    while i < count {
+    for i in 0..count {
         if !is_named(output, kept, i) {
             unnamed += 1;
         }
-        i += 1;
     }
     unnamed
 }
@@ -80,10 +76,8 @@ pub fn squared_lengths(output: &[u64], kept: usize) -> u64
     ensures { result ≡ squared_lengths (rows_in_lem kept output.now) }
 {
     let mut sum = 0;
-    let mut k = 0;
-    while k < kept {
+    for k in 0..kept {
         sum += squared_length(output, k);
-        k += 1;
     }
     sum
 }

@@ -6,7 +6,7 @@ use Rattle.std.specs.Prelude.{◌≡◌, refl, true, length}
 use Rattle.std.proofs.Math.Path.{sym, ap, ap₂}
 use Rattle.std.proofs.Common.{◌∙◌}
 use Rattle.std.proofs.Math.Bool.{Bool, not}
-use Rattle.std.proofs.Math.Option.{Option, some}
+use Rattle.std.specs.Prelude.{Option, Some}
 use mathlib.Core.List.{List, map}
 use Rattle.std.proofs.Math.ListN.{get_or}
 use Rattle.definitions.specs.Scan.{filter, collect, only_if, member, run, count_below}
@@ -54,6 +54,6 @@ module _ (N N' : Map) (isl : ℕ → Bool) (A : Alike N N' isl) where
         within = all_below_lem (span_count N);
         within' = all_below_lem (span_count N');
         same =
-            ranks-start N isl A.island ∙ ap (λ n. collect n (λ q. some q)) (sym (cutting-length N isl A.island) ∙ ap length A.counterparts ∙ cutting-length N' isl A.island')
+            ranks-start N isl A.island ∙ ap (λ n. collect n (λ q. Some q)) (sym (cutting-length N isl A.island) ∙ ap length A.counterparts ∙ cutting-length N' isl A.island')
             ∙ sym (ranks-start N' isl A.island');
       }

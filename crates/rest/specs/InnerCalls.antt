@@ -6,7 +6,7 @@ use Rattle.std.proofs.Common.{arith, sym, ◌∙◌}
 use Rattle.std.specs.Prelude.{◌≡◌, refl, Bool, true, false, not, cond, List, [], ◌∷◌, ◌++◌, eqb, ltb, leb}
 use Rattle.std.proofs.Math.Path.{ap, ap₂}
 use Rattle.std.proofs.Math.Bool.{◌&&◌}
-use Rattle.std.proofs.Math.Option.{Option, none}
+use Rattle.std.specs.Prelude.{Option, None}
 use Rattle.std.proofs.Math.ListN.{length, get_or}
 use Rattle.std.proofs.lemmas.List.{length-map}
 use borrow.Author.Tests.{ltb-true, ltb-false, leb-true, le-leb, eq-eqb, eqb-true}
@@ -43,32 +43,32 @@ use Rattle.rest.specs.FlatLists as flat
 
 -- no check before 11 refuses it
 pub record RestChecked (L : Lent) : Type 0 where
-  pub sides : sides_fault L.width L.height ≡ none
-  pub cells : cells_fault L.width L.height L.cells ≡ none
+  pub sides : sides_fault L.width L.height ≡ None
+  pub cells : cells_fault L.width L.height L.cells ≡ None
   pub whole : (is_whole numbers_per_span L.spans && is_whole numbers_per_boundary L.boundaries && is_whole numbers_per_anchor L.anchors) ≡ true
-  pub lists : lists_fault L.spans L.boundaries ≡ none
-  pub spans : spans_refusal L.width L.height L.spans ≡ none
-  pub boundaries : boundaries_fault L.width L.height L.boundaries ≡ none
-  pub anchors : anchors_fault L.width L.height L.anchors ≡ none
-  pub elevations : elevations_fault L.cells ≡ none
+  pub lists : lists_fault L.spans L.boundaries ≡ None
+  pub spans : spans_refusal L.width L.height L.spans ≡ None
+  pub boundaries : boundaries_fault L.width L.height L.boundaries ≡ None
+  pub anchors : anchors_fault L.width L.height L.anchors ≡ None
+  pub elevations : elevations_fault L.cells ≡ None
   pub room : (partition_has_room L && output_room (length L.boundaries / numbers_per_boundary) (length L.output)) ≡ true
 
 -- nor do 11 and 12
 pub record RestAccepted (L : Lent) : Type 0 where
   pub checked : RestChecked L
-  pub records : records_fault L (start_map (map_in L)) ≡ none
-  pub pairs : pairs_fault L (start_map (map_in L)) ≡ none
+  pub records : records_fault L (start_map (map_in L)) ≡ None
+  pub pairs : pairs_fault L (start_map (map_in L)) ≡ None
 
 -- a call that runs a pass and that no check before 11 refuses
 pub record Unfaulted (I : Lent) : Type 0 where
-  pub sides : sides_fault I.width I.height ≡ none
-  pub cells : cells_fault I.width I.height I.cells ≡ none
+  pub sides : sides_fault I.width I.height ≡ None
+  pub cells : cells_fault I.width I.height I.cells ≡ None
   pub whole : (is_whole numbers_per_span I.spans && is_whole numbers_per_boundary I.boundaries && is_whole numbers_per_anchor I.anchors) ≡ true
-  pub pass : pass_fault I.pass ≡ none
-  pub spans : spans_refusal I.width I.height I.spans ≡ none
-  pub boundaries : boundaries_fault I.width I.height I.boundaries ≡ none
-  pub anchors : anchors_fault I.width I.height I.anchors ≡ none
-  pub elevations : elevations_fault I.cells ≡ none
+  pub pass : pass_fault I.pass ≡ None
+  pub spans : spans_refusal I.width I.height I.spans ≡ None
+  pub boundaries : boundaries_fault I.width I.height I.boundaries ≡ None
+  pub anchors : anchors_fault I.width I.height I.anchors ≡ None
+  pub elevations : elevations_fault I.cells ≡ None
   pub room : (partition_has_room I && output_room (length I.boundaries / numbers_per_boundary) (length I.output)) ≡ true
 
 -- the checks of `rest_verdict`, in its order
@@ -101,7 +101,7 @@ checks-numbered L =
     (more (refusal-numbered 11 (records_fault L (start_map (map_in L))) (omega arith))
     (more (refusal-numbered 12 (pairs_fault L (start_map (map_in L))) (omega arith)) done))))))))))
 
-checks-passed : (L : Lent) → All (λ r. r ≡ none) (checks L) → RestAccepted L
+checks-passed : (L : Lent) → All (λ r. r ≡ None) (checks L) → RestAccepted L
 checks-passed L (more one (more two (more three (more sixteen (more five (more seven (more eight (more nine (more ten (more eleven (more twelve done))))))))))) =
     record {
       checked =
@@ -123,12 +123,12 @@ checks-passed L (more one (more two (more three (more sixteen (more five (more s
 pub rest-accepted : (L : Lent) → (rest_verdict L).number ≡ 0 → RestAccepted L
 rest-accepted L h = checks-passed L (none_refused (length (rest_rows (map_in L))) (checks-numbered L) (unfold rest_verdict in h))
 
-pub all_none : {l : List (Option Refusal)} (count : ℕ) → All (λ r. r ≡ none) l → first_refusal l count ≡ record { number = 0; value = count }
+pub all_none : {l : List (Option Refusal)} (count : ℕ) → All (λ r. r ≡ None) l → first_refusal l count ≡ record { number = 0; value = count }
 all_none count done = refl
 all_none count (more {l = l} e a) = ap (λ r. first_refusal (r ∷ l) count) e ∙ all_none count a
 
 -- checks that find nothing are passed over
-skip : {l : List (Option Refusal)} (m : List (Option Refusal)) (count : ℕ) → All (λ r. r ≡ none) l → first_refusal (l ++ m) count ≡ first_refusal m count
+skip : {l : List (Option Refusal)} (m : List (Option Refusal)) (count : ℕ) → All (λ r. r ≡ None) l → first_refusal (l ++ m) count ≡ first_refusal m count
 skip m count done = refl
 skip m count (more {l = l} e a) = ap (λ r. first_refusal (r ∷ (l ++ m)) count) e ∙ skip m count a
 
@@ -266,8 +266,8 @@ module _ (L : Lent) (A : RestChecked L) where
 
   pub lent-differ : (i : ℕ) → i < size → endpoints_differ (boundary_of M i).endpoints ≡ true
   lent-differ i k =
-      let none_there : first_below_lem lent_spans (span_refusal w h L.spans) ≡ none = unfold spans_refusal in A.spans in
-      let at : or_else (outside_at w h i (segment_at L.spans (4 * i))) (equal_at i (segment_at L.spans (4 * i))) ≡ none = none_at (span_refusal w h L.spans) lent_spans none_there i (omega (arith, k, spans-enough)) in
+      let none_there : first_below_lem lent_spans (span_refusal w h L.spans) ≡ None = unfold spans_refusal in A.spans in
+      let at : or_else (outside_at w h i (segment_at L.spans (4 * i))) (equal_at i (segment_at L.spans (4 * i))) ≡ None = none_at (span_refusal w h L.spans) lent_spans none_there i (omega (arith, k, spans-enough)) in
       ap endpoints_differ (sym (lent-span i k))
       ∙ no_fault_lem (endpoints_differ (segment_at L.spans (4 * i))) (record { number = 6; place = i }) (or_else_none (outside_at w h i (segment_at L.spans (4 * i))) (equal_at i (segment_at L.spans (4 * i))) at).1
 
@@ -289,7 +289,7 @@ module _ (L : Lent) (A : RestChecked L) where
   -- ---- a call of the run: for a pass, at what is kept, with these lists to fill
 
   module _
-      (pass : ℕ) (isPass : pass_fault pass ≡ none) (ps : List ℕ) (reached : Reached S (run 0 (length S.boundaries)) ps)
+      (pass : ℕ) (isPass : pass_fault pass ≡ None) (ps : List ℕ) (reached : Reached S (run 0 (length S.boundaries)) ps)
       (labels masks queue tallies pairs : List ℕ) (records : List Region) (output : List ℕ)
       (labels_long : length labels ≡ length L.labels) (masks_long : length masks ≡ length L.masks) (queue_long_lem : length queue ≡ length L.queue)
       (tallies_long : length tallies ≡ length L.tallies) (pairs_long : length pairs ≡ length L.pairs) (records_long : length records ≡ length L.records)
@@ -351,7 +351,7 @@ module _ (L : Lent) (A : RestChecked L) where
         anchors-whole
 
     -- 5 and 6
-    span_fits : (i : ℕ) → i < length ps → span_refusal w h (flat_spans K.spans) i ≡ none
+    span_fits : (i : ℕ) → i < length ps → span_refusal w h (flat_spans K.spans) i ≡ None
     unfolding span_of
     span_fits i l =
         let k = get_or ps i 0 in
@@ -363,7 +363,7 @@ module _ (L : Lent) (A : RestChecked L) where
         six : ℕ → ℕ → Refusal
         six n i = record { number = n; place = i }
 
-    spans_fit : spans_refusal w h (flat_spans K.spans) ≡ none
+    spans_fit : spans_refusal w h (flat_spans K.spans) ≡ None
     unfolding spans_refusal
     spans_fit = first_none (span_refusal w h (flat_spans K.spans)) (length (flat_spans K.spans) / 4) (λ i l. span_fits i (omega (arith, span_count_lem K.spans, spans-kept)))
 
@@ -373,7 +373,7 @@ module _ (L : Lent) (A : RestChecked L) where
     boundary_fits_lem i l =
         ap (boundary_fits w h) (boundary_at_lem K.boundaries i (omega (arith, kept-boundaries S ps)) ∙ kept-boundary S ps i l) ∙ start_fits (get_or ps i 0) (place_lt i l)
 
-    boundaries-fit : boundaries_fault w h (flat_boundaries K.boundaries) ≡ none
+    boundaries-fit : boundaries_fault w h (flat_boundaries K.boundaries) ≡ None
     unfolding boundaries_fault
     boundaries-fit =
         first_none (λ i. only_if (not (boundary_fits w h (boundary_at (flat_boundaries K.boundaries) (9 * i)))) i) (length (flat_boundaries K.boundaries) / 9)
@@ -408,7 +408,7 @@ module _ (L : Lent) (A : RestChecked L) where
         }
 
     -- the call without a fault before 11, whose two answers are given
-    inner_with : records_fault inner (map_in inner) ≡ none → pairs_fault inner (map_in inner) ≡ none → Accepted inner
+    inner_with : records_fault inner (map_in inner) ≡ None → pairs_fault inner (map_in inner) ≡ None → Accepted inner
     inner_with eleven twelve =
         record {
           sides = A.sides;
@@ -424,15 +424,15 @@ module _ (L : Lent) (A : RestChecked L) where
           pairs = twelve;
         }
 
-    module _ (eleven : records_fault L S ≡ none) (twelve : pairs_fault L S ≡ none) where
-      records-enough : records_fault inner (map_in inner) ≡ none
+    module _ (eleven : records_fault L S ≡ None) (twelve : pairs_fault L S ≡ None) where
+      records-enough : records_fault inner (map_in inner) ≡ None
       unfolding records_fault
       records-enough =
           let first = leb-true (region_count S) (length L.records) (no_fault_lem (leb (region_count S) (length L.records)) 0 eleven) in
           ap (λ N. unless (leb (region_count N) (length records))) inner-map
           ∙ ap (λ b. unless b) (le-leb (region_count K) (length records) (omega (arith, first, (run-fewer M reached).regions, records_long)))
 
-      pairs-enough : pairs_fault inner (map_in inner) ≡ none
+      pairs-enough : pairs_fault inner (map_in inner) ≡ None
       unfolding pairs_fault
       pairs-enough =
           let lent = length L.pairs / 3 * 3 in

@@ -6,7 +6,7 @@ use Rattle.std.specs.Prelude.{◌≡◌, refl, true, length}
 use Rattle.std.proofs.Math.Path.{sym, ap, ap₂}
 use Rattle.std.proofs.Common.{◌∙◌}
 use Rattle.std.proofs.Math.Bool.{Bool, not}
-use Rattle.std.proofs.Math.Option.{Option, some}
+use Rattle.std.specs.Prelude.{Option, Some}
 use mathlib.Core.List.{List, map}
 use Rattle.std.proofs.Math.ListN.{get_or}
 use Rattle.definitions.specs.Scan.{filter, collect, only_if, member, run, count_below}
@@ -103,7 +103,7 @@ module _ (N : Map) (isl : ℕ → Bool) (I : Island N isl) where
     passed-within pass = picked_all (λ k. not (member k (removed_of pass K))) 0 W
 
   -- at the start every rank is there
-  pub ranks-start : ranks N isl (run 0 (span_count N)) ≡ collect (rank_of N isl (span_count N)) (λ q. some q)
+  pub ranks-start : ranks N isl (run 0 (span_count N)) ≡ collect (rank_of N isl (span_count N)) (λ q. Some q)
   unfolding rank_of
   ranks-start = ranks-all (cuts_island N isl) (span_count N)
 

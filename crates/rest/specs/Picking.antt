@@ -4,7 +4,7 @@ use Rattle.std.specs.Prelude.{ℕ, zero, suc, ◌+◌, ◌≤◌, ◌<◌, ◌�
 use Rattle.std.proofs.Common.{arith, add-zero, add-one, ap₂, ◌∙◌, ltb-true, ltb-false}
 use Rattle.std.proofs.Math.Path.{refl, sym, ap}
 use Rattle.std.proofs.Math.Bool.{true, false}
-use Rattle.std.proofs.Math.Option.{Option, none, some}
+use Rattle.std.specs.Prelude.{Option, None, Some}
 use mathlib.Core.List.{List, [], ◌∷◌, ◌++◌, map, append-nil}
 use Rattle.definitions.specs.Scan.{collect, only_if, to_list, run, filter, count_below, bit}
 use Rattle.definitions.specs.Refusals.{or_else, first_below_lem}
@@ -57,21 +57,21 @@ pub picked_same : {A : Type 0} (p : ℕ → Bool) (f g : ℕ → A) (n : ℕ) �
 picked_same {A} p f g n h = collect_ext n _ (λ i. only_if (p i) (g i)) (λ i l. go i l (p i) refl)
   where
     go : (i : ℕ) → i < n → (b : Bool) → p i ≡ b → only_if b (f i) ≡ only_if b (g i)
-    go i l true e = ap {B = Option A} some (h i l e)
+    go i l true e = ap {B = Option A} Some (h i l e)
     go i l false e = refl
 
-picked-ranks : (p : ℕ → Bool) (n : ℕ) → picked p (rank p) n ≡ collect (rank p n) (λ q. some q)
+picked-ranks : (p : ℕ → Bool) (n : ℕ) → picked p (rank p) n ≡ collect (rank p n) (λ q. Some q)
 unfolding collect count_below
 picked-ranks p zero = refl
 picked-ranks p (suc n) = next (p n) (picked-ranks p n)
   where
-    next : (b : Bool) → picked p (rank p) n ≡ collect (rank p n) (λ q. some q)
-        → picked p (rank p) n ++ to_list (only_if b (rank p n)) ≡ collect (rank p n + bit b) (λ q. some q)
+    next : (b : Bool) → picked p (rank p) n ≡ collect (rank p n) (λ q. Some q)
+        → picked p (rank p) n ++ to_list (only_if b (rank p n)) ≡ collect (rank p n + bit b) (λ q. Some q)
     next true ih = rw (add-one (rank p n)) (ap (λ l. l ++ (rank p n ∷ [])) ih)
     next false ih = rw (add-zero (rank p n), append-nil (picked p (rank p) n)) ih
 
 -- the ranks of all that pass, in order, are all ranks
-pub ranks-all : (p : ℕ → Bool) (n : ℕ) → map (rank p) (filter p (run 0 n)) ≡ collect (rank p n) (λ q. some q)
+pub ranks-all : (p : ℕ → Bool) (n : ℕ) → map (rank p) (filter p (run 0 n)) ≡ collect (rank p n) (λ q. Some q)
 ranks-all p n =
     filter-picked p (rank p) 0 (run 0 n)
     ∙ ap (λ m. picked (λ k. p (get_or (run 0 n) k 0)) (λ k. rank p (get_or (run 0 n) k 0)) m) (length_run 0 n)
@@ -112,7 +112,7 @@ module _ {A : Type 0} (p : ℕ → Bool) (l : List A) (d : A) where
       ∙ places l d
 
 -- a search that finds nothing at any number below n
-pub first_none : {A : Type 0} (f : ℕ → Option A) (n : ℕ) → ((i : ℕ) → i < n → f i ≡ none) → first_below_lem n f ≡ none
+pub first_none : {A : Type 0} (f : ℕ → Option A) (n : ℕ) → ((i : ℕ) → i < n → f i ≡ None) → first_below_lem n f ≡ None
 unfolding first_below_lem
 first_none f zero h = refl
 first_none f (suc n) h = ap₂ or_else (first_none f n (λ i l. h i (omega arith))) (h n (omega arith))

@@ -7,7 +7,7 @@ use Rattle.std.specs.Prelude.{◌≡◌, refl, false, cond, get_or}
 use Rattle.std.proofs.Math.Path.{sym, ap}
 use Rattle.std.proofs.Common.{ap₂, ◌∙◌, length-append, eqb-true, eq-eqb, ne_eqb}
 use Rattle.std.proofs.Math.Bool.{Bool, true}
-use Rattle.std.proofs.Math.Option.{Option, none, some}
+use Rattle.std.specs.Prelude.{Option, None, Some}
 use mathlib.Core.List.{List, [], ◌∷◌, map, map-map}
 use Rattle.std.proofs.Math.ListN.{length}
 use Rattle.std.proofs.lemmas.List.{length-map}
@@ -113,8 +113,8 @@ module _ (M : Map) where
   -- ---- the place of a boundary in row order
 
   abbrev or_zero : Option ℕ → ℕ
-  or_zero none = 0
-  or_zero (some k) = k
+  or_zero None = 0
+  or_zero (Some k) = k
 
   -- the place in the starting list of the boundary of this number
   unfoldable pub place_of : ℕ → ℕ

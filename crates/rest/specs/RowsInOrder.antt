@@ -5,7 +5,7 @@ use Rattle.std.proofs.Common.{arith, ap₂, ◌∙◌, true≢false, ltb-true, l
 use Rattle.std.specs.Prelude.{◌≡◌, Bool, ◌&&◌, ◌||◌, length, eqb, ltb}
 use Rattle.std.proofs.Math.Path.{refl, sym, ap}
 use Rattle.std.proofs.Math.Bool.{true, false, not, cond}
-use Rattle.std.proofs.Math.Option.{none, some}
+use Rattle.std.specs.Prelude.{None, Some}
 use mathlib.Core.List.{List, [], ◌∷◌, ◌++◌, map, append-nil}
 use Rattle.std.proofs.Math.ListN.{get_or}
 use Rattle.definitions.specs.Scan.{collect, only_if, to_list, run, member}

@@ -4,7 +4,7 @@ use Prim.Native.Nat.{ℕ, ◌*◌, ◌/◌, ◌%◌, ◌≤◌}
 use native.Mathlib.Omega.{arith}
 use mathlib.Core.Path.{◌≡◌, refl, sym, ap, subst, ◌∙◌}
 use mathlib.Core.Bool.{◌&&◌, cond}
-use mathlib.Core.Option.{Option, none, some}
+use Rattle.std.specs.Prelude.{Option, None, Some}
 use mathlib.Core.List.{List, [], ◌∷◌}
 use lib.ListN.{length, take, replicate, length-replicate}
 use lib.Dec.{eqb, leb}
@@ -110,7 +110,7 @@ module _ (w h : ℕ) (cells spans boundaries anchors : List ℕ) (l m q t o : �
       (leaves_or _ _ (leaves-refusal 8 (anchors_fault w h anchors) refl)
       (leaves_or _ _ (leaves-refusal 9 (elevations_fault cells) refl) (leaves-refusal 10 (unless (has_room_lem w h spans boundaries l m q t o)) refl))))))))
 
-leaves_some : (x : Refusal) → Leaves (some x) → stage_of x.number ≡ untouched
+leaves_some : (x : Refusal) → Leaves (Some x) → stage_of x.number ≡ untouched
 unfolding Leaves
 leaves_some x h = h
 
@@ -152,7 +152,7 @@ module _ (w h : ℕ) (cells spans boundaries anchors l m q t p : List ℕ) (s : 
       ∙ ap (λ x. first_refusal (x ∷ two_faults L (start_map (map_in L))) (length (rest_rows (map_in L))))
       (sym (early-parts w h cells spans boundaries anchors (length l) (length m) (length q) (length t) (length o))))
 
-  pub refused-early : (number place : ℕ) → some (record { number = number; place = place }) ≡ early
+  pub refused-early : (number place : ℕ) → Some (record { number = number; place = place }) ≡ early
       → RestRan L (record { number = number; value = place; rounds = 0 }) l m q t p s o
   unfolding rest_exit
   refused-early number place e =
@@ -178,7 +178,7 @@ module _ (w h : ℕ) (cells spans boundaries anchors l m q t p : List ℕ) (s : 
       }
 
   -- no check before 11 refuses
-  pub checked : none ≡ early → RestChecked L
+  pub checked : None ≡ early → RestChecked L
   unfolding map_in
   checked e =
       let f = sym (e ∙ early-parts w h cells spans boundaries anchors (length l) (length m) (length q) (length t) (length o)) in
@@ -232,15 +232,15 @@ module _ (w h : ℕ) (cells spans boundaries anchors l m q t p : List ℕ) (s : 
         (go (records_fault L S) (pairs_fault L S) f, answer (records_fault L S) (pairs_fault L S) f ∙ sym (checked-answer L A))
       where
         go : (a b : Option ℕ) → record { number = number; value = place } ≡ first_refusal (refusal 11 a ∷ refusal 12 b ∷ []) (length (rows_of 1 S)) → Late number
-        go none none f = absurd (omega (arith, n, ap (λ (x : Answer). x.number) f))
-        go none (some x) f = twelfth (ap (λ (x : Answer). x.number) f)
-        go (some x) b f = eleventh (ap (λ (x : Answer). x.number) f)
+        go None None f = absurd (omega (arith, n, ap (λ (x : Answer). x.number) f))
+        go None (Some x) f = twelfth (ap (λ (x : Answer). x.number) f)
+        go (Some x) b f = eleventh (ap (λ (x : Answer). x.number) f)
 
         answer : (a b : Option ℕ) → record { number = number; value = place } ≡ first_refusal (refusal 11 a ∷ refusal 12 b ∷ []) (length (rows_of 1 S))
             → record { number = number; value = place; rounds = 0 } ≡ with_rounds (first_refusal (refusal 11 a ∷ refusal 12 b ∷ []) (length (rest_rows (map_in L)))) (rounds_of (map_in L))
-        answer none none f = absurd (omega (arith, n, ap (λ (x : Answer). x.number) f))
-        answer none (some x) f = (λ i. record { number = (f i).number; value = (f i).value; rounds = 0 })
-        answer (some x) b f = (λ i. record { number = (f i).number; value = (f i).value; rounds = 0 })
+        answer None None f = absurd (omega (arith, n, ap (λ (x : Answer). x.number) f))
+        answer None (Some x) f = (λ i. record { number = (f i).number; value = (f i).value; rounds = 0 })
+        answer (Some x) b f = (λ i. record { number = (f i).number; value = (f i).value; rounds = 0 })
 
     module _ {l' m' q' t' p' : List ℕ} where
       at_11 : {place : ℕ} → Ran I (record { number = 11; value = place }) l' m' q' t' p' s rows_out_lem → record { number = 11; value = place; rounds = 0 } ≡ rest_verdict L
@@ -306,11 +306,11 @@ module _ (w h : ℕ) (cells spans boundaries anchors : List ℕ) (room output : 
   wide_enough : {x : Option Refusal} (o : List ℕ) → length o ≡ output → x ≡ before → x ≡ rest_early w h cells spans boundaries anchors (length l) (length m) (length q) (length t) (length o)
   wide_enough o wide e = e ∙ ap (rest_early w h cells spans boundaries anchors (length l) (length m) (length q) (length t)) (sym wide)
 
-  pub begun-refused : {number place : ℕ} (n b d : List ℕ) → some (record { number = number; place = place }) ≡ before
+  pub begun-refused : {number place : ℕ} (n b d : List ℕ) → Some (record { number = number; place = place }) ≡ before
       → BegunAs w h cells spans boundaries anchors room output l m q t p (Refused number place) l m q t p n b d
   begun-refused n b d e s o long wide = refused-early w h cells spans boundaries anchors l m q t p s o _ _ (wide_enough o wide e)
 
-  module _ (e : none ≡ before) where
+  module _ (e : None ≡ before) where
     abbrev N : Map
     N = map_of w h cells spans boundaries anchors
 

@@ -5,7 +5,7 @@ use native.Mathlib.Omega.{arith}
 use native.Mathlib.Nat.{mul-suc, mul-zero}
 use mathlib.Core.Path.{◌≡◌, refl, sym, ap, ap₂, ◌∙◌}
 use mathlib.Core.Bool.{Bool, true, false, not, cond}
-use mathlib.Core.Option.{Option, some}
+use Rattle.std.specs.Prelude.{Option, Some}
 use mathlib.Core.List.{List, [], ◌∷◌, ◌++◌, map, append_assoc, append-nil}
 use lib.ListN.{length, get_or, take, drop, length-append, length-map}
 use lib.Seq.{take_at, drop-append-add}
@@ -238,7 +238,7 @@ module _ (M : Map) (ps : List ℕ) (within : All (λ p. p < length M.boundaries)
   rows-kept e =
       let rows = map (λ k. get_or (start_rows M) k no_row) ps in
       ap (rows_at n b) e
-      ∙ collect_ext (length ps) (λ k. some (place_row n b k)) (λ k. only_if true (get_or rows k no_row))
-      (λ k h. ap {B = Option Row} (λ r. some r) (row_at_lem k h ∙ sym (get_d_mapped (λ k. get_or (start_rows M) k no_row) ps 0 no_row k h)))
+      ∙ collect_ext (length ps) (λ k. Some (place_row n b k)) (λ k. only_if true (get_or rows k no_row))
+      (λ k h. ap {B = Option Row} (λ r. Some r) (row_at_lem k h ∙ sym (get_d_mapped (λ k. get_or (start_rows M) k no_row) ps 0 no_row k h)))
       ∙ ap (λ m. collect m (λ k. only_if true (get_or rows k no_row))) (sym (length-map ps (λ k. get_or (start_rows M) k no_row)))
       ∙ places rows no_row

@@ -4,7 +4,7 @@ use Prim.Native.Nat.{ℕ, ◌*◌, ◌/◌, ◌^◌, ◌≤◌, ◌<◌}
 use native.Mathlib.Omega.{arith}
 use mathlib.Core.Path.{◌≡◌, refl, sym, ap, subst, ◌∙◌}
 use mathlib.Core.Bool.{◌&&◌}
-use mathlib.Core.Option.{none}
+use Rattle.std.specs.Prelude.{None}
 use mathlib.Core.List.{List}
 use lib.ListN.{length, take, drop, replicate, length-append, length-drop, length-replicate}
 use lib.Dec.{leb}
@@ -39,7 +39,7 @@ use Rattle.rest_lists.specs.Kept.{ends_block, Origin, lent_to, map_lent, kept_of
 use Rattle.rest_lists.proofs.Holding.{begins-front, begins-long, flat-ends}
 
 pub early_none : (I : Lent) → Unfaulted I
-    → none ≡ early_refusal I.pass I.width I.height I.cells I.spans I.boundaries I.anchors (length I.labels) (length I.masks) (length I.queue) (length I.tallies) (length I.output)
+    → None ≡ early_refusal I.pass I.width I.height I.cells I.spans I.boundaries I.anchors (length I.labels) (length I.masks) (length I.queue) (length I.tallies) (length I.output)
 unfolding early_refusal sizes_refusal entries_refusal
 early_none I U =
     next
@@ -77,7 +77,7 @@ module _ (L : Lent) (A : RestChecked L) (places : List ℕ) (reached : Reached (
   unfaulted : Unfaulted call
   unfaulted = inner-unfaulted L A 1 refl places reached l m q t p L.records rows_out_lem el em eq et ep refl (omega (arith, rows_out))
 
-  pub inner-early : none ≡ early_refusal 1 L.width L.height L.cells (flat_spans K.spans) (flat_boundaries K.boundaries) L.anchors
+  pub inner-early : None ≡ early_refusal 1 L.width L.height L.cells (flat_spans K.spans) (flat_boundaries K.boundaries) L.anchors
       (length l) (length m) (length q) (length t) rows_long_lem
   inner-early =
       early_none call unfaulted

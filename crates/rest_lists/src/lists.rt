@@ -43,12 +43,10 @@ pub fn lists_fault(spans: &[u64], boundaries: &[u64]) -> Fault
         spans.len() / NUMBERS_PER_SPAN,
         boundaries.len() / NUMBERS_PER_BOUNDARY,
     );
-    let mut i = 0;
-    while i < count {
+    for i in 0..count {
         if !agrees(spans, boundaries, i) {
             return Fault::At(i);
         }
-        i += 1;
     }
     Fault::Nowhere
 }

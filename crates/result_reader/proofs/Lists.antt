@@ -2,7 +2,7 @@
 use Prim.Native.Nat.{ℕ, ◌*◌, ◌≤◌}
 use mathlib.Core.Path.{◌≡◌, refl, sym, ap, subst, ◌∙◌}
 use mathlib.Core.Bool.{Bool, not}
-use mathlib.Core.Option.{Option, none, some}
+use Rattle.std.specs.Prelude.{Option, None, Some}
 use mathlib.Core.List.{List, []}
 use lib.ListN.{length, drop}
 use borrow.Author.Tests.{eq-eqb, ne_eqb}
@@ -33,28 +33,28 @@ use Rattle.result_reader.proofs.Numbers.{times-inside}
 -- ---- what is remembered behind the last entry, as a breach
 
 module _ {state : Turned} (regions place : ℕ) where
-  pub turns-reached : (n : ℕ) → state ≡ Started n → n ≡ regions → none ≡ labels_fault regions place (turns_from regions state [])
+  pub turns-reached : (n : ℕ) → state ≡ Started n → n ≡ regions → None ≡ labels_fault regions place (turns_from regions state [])
   unfolding turns_from turns
   turns-reached n e h = sym (ap (λ s. labels_fault regions place (turns_from regions s [])) e ∙ ap (λ t. only_if (not t) place) (eq-eqb n regions h))
 
-  pub turns_unreached : (n : ℕ) → state ≡ Started n → (n ≡ regions → ⊥) → some place ≡ labels_fault regions place (turns_from regions state [])
+  pub turns_unreached : (n : ℕ) → state ≡ Started n → (n ≡ regions → ⊥) → Some place ≡ labels_fault regions place (turns_from regions state [])
   unfolding turns_from turns
   turns_unreached n e h = sym (ap (λ s. labels_fault regions place (turns_from regions s [])) e ∙ ap (λ t. only_if (not t) place) (ne_eqb n regions h))
 
-  pub turns-broken : {first : ℕ} → state ≡ OutAt first → some first ≡ labels_fault regions place (turns_from regions state [])
+  pub turns-broken : {first : ℕ} → state ≡ OutAt first → Some first ≡ labels_fault regions place (turns_from regions state [])
   unfolding turns_from
   turns-broken e = sym (ap (λ s. labels_fault regions place (turns_from regions s [])) e)
 
 module _ (rows : Bool) {state : Ascent} where
-  pub ascent_none : state ≡ Empty → none ≡ ascent_from rows state []
+  pub ascent_none : state ≡ Empty → None ≡ ascent_from rows state []
   unfolding ascent_from ascent_fault
   ascent_none e = sym (ap (λ s. ascent_from rows s []) e)
 
-  pub ascent_last : {k : Key} → state ≡ Last k → none ≡ ascent_from rows state []
+  pub ascent_last : {k : Key} → state ≡ Last k → None ≡ ascent_from rows state []
   unfolding ascent_from fault_behind
   ascent_last e = sym (ap (λ s. ascent_from rows s []) e)
 
-  pub ascent_broken : {place : ℕ} → state ≡ BrokenAt place → some place ≡ ascent_from rows state []
+  pub ascent_broken : {place : ℕ} → state ≡ BrokenAt place → Some place ≡ ascent_from rows state []
   unfolding ascent_from
   ascent_broken e = sym (ap (λ s. ascent_from rows s []) e)
 

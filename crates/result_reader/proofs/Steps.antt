@@ -2,7 +2,7 @@
 use Prim.Native.Nat.{ℕ, ◌+◌}
 use mathlib.Core.Path.{◌≡◌, refl, sym, ap, ◌∙◌}
 use mathlib.Core.Bool.{Bool, true, false, ◌&&◌, ◌||◌, cond}
-use mathlib.Core.Option.{some}
+use Rattle.std.specs.Prelude.{Some}
 use mathlib.Core.List.{List, [], ◌∷◌}
 use lib.Dec.{leb, ltb, eqb}
 use Rattle.definitions.specs.Sort.{list_lt}
@@ -43,7 +43,7 @@ key_same false k = refl
 first_behind : (key : List ℕ → List ℕ) (e : Entry) (es : List Entry) → fault_behind key (key e.numbers) es ≡ ascent_fault key (e ∷ es)
 unfolding fault_behind ascent_fault
 first_behind key e [] = refl
-first_behind key e (f ∷ es) = ap (λ r. cond (list_lt (key e.numbers) (key f.numbers)) r (some f.place)) (first_behind key f es)
+first_behind key e (f ∷ es) = ap (λ r. cond (list_lt (key e.numbers) (key f.numbers)) r (Some f.place)) (first_behind key f es)
 
 ascent_step : (rows : Bool) (s : Ascent) (k : Key) (place : ℕ) (es : List Entry)
     → ascent_from rows (ascent_of rows s k place) es ≡ ascent_from rows s (record { place = place; numbers = key_written rows k } ∷ es)
@@ -52,9 +52,9 @@ ascent_step rows Empty k place es =
     ap (λ l. fault_behind (key_in_lem rows) l es) (sym (key_same rows k)) ∙ first_behind (key_in_lem rows) (record { place = place; numbers = key_written rows k }) es
 ascent_step rows (Last before) k place es =
     go (list_lt (key_numbers rows before) (key_numbers rows k))
-    ∙ ap (λ l. cond (list_lt (key_numbers rows before) l) (fault_behind (key_in_lem rows) l es) (some place)) (sym (key_same rows k))
+    ∙ ap (λ l. cond (list_lt (key_numbers rows before) l) (fault_behind (key_in_lem rows) l es) (Some place)) (sym (key_same rows k))
   where
-    go : (t : Bool) → ascent_from rows (cond t (Last k) (BrokenAt place)) es ≡ cond t (fault_behind (key_in_lem rows) (key_numbers rows k) es) (some place)
+    go : (t : Bool) → ascent_from rows (cond t (Last k) (BrokenAt place)) es ≡ cond t (fault_behind (key_in_lem rows) (key_numbers rows k) es) (Some place)
     go true = refl
     go false = refl
 ascent_step rows (BrokenAt first) k place es = refl

@@ -1,6 +1,6 @@
 -- The grammar of a result sheet in three parts, one behind the other, and what the functions on them answer. Assumes nothing.
 use Rattle.std.specs.Prelude.{ℕ, ◌*◌, ◌≤◌, ◌≡◌, Bool, ◌&&◌, List, [], ◌∷◌, length, drop, leb}
-use Rattle.std.proofs.Math.Option.{Option, none, some}
+use Rattle.std.specs.Prelude.{Option, None, Some}
 use Rattle.definitions.specs.Limits.{tallies_per_span, numbers_per_pair, numbers_per_row}
 use Rattle.definitions.specs.Refusals.{or_else}
 use Rattle.definitions.specs.Scan.{concat_map}
@@ -26,15 +26,15 @@ use Rattle.result_reader.specs.declared.ResultRead.TheVariants.{Sound, Refused}
 -- ---- breaches
 
 abbrev pub breach_of : Breach → Option ℕ
-breach_of Nowhere = none
-breach_of (At place) = some place
+breach_of Nowhere = None
+breach_of (At place) = Some place
 
 -- what a rule says of a list of entries: of labels, of tallies, of pairs and rows
 abbrev pub turns_fault : ℕ → ℕ → List Entry → Option ℕ
 turns_fault regions place es = labels_fault regions place (turns regions 0 es)
 
 abbrev pub no_fault : List Entry → Option ℕ
-no_fault es = none
+no_fault es = None
 
 abbrev pub key_fault : Bool → List Entry → Option ℕ
 key_fault rows es = ascent_fault (key_in_lem rows) es

@@ -1,7 +1,7 @@
 -- Entries of a list while they are walked: what is remembered of those that went by, what the rules say of the ones that follow, and what a walk answers.
 -- Definitions only; assumes nothing.
 use Rattle.std.specs.Prelude.{ℕ, ◌≤◌, ◌≡◌, Bool, true, false, cond, List, [], ◌∷◌, length, drop}
-use Rattle.std.proofs.Math.Option.{Option, none, some}
+use Rattle.std.specs.Prelude.{Option, None, Some}
 use Rattle.definitions.specs.Limits.{numbers_per_pair, numbers_per_row}
 use Rattle.definitions.specs.SheetNumber.{Read, found, failed}
 use Rattle.definitions.specs.Sort.{list_lt}
@@ -104,14 +104,14 @@ ascent_of rows (BrokenAt first) k place = BrokenAt first
 -- the place of the first that is not above the one before it, behind an entry of this key
 unfoldable pub fault_behind : (List ℕ → List ℕ) → List ℕ → List Entry → Option ℕ
 unfolding list_lt
-fault_behind key before [] = none
-fault_behind key before (e ∷ es) = cond (list_lt before (key e.numbers)) (fault_behind key (key e.numbers) es) (some e.place)
+fault_behind key before [] = None
+fault_behind key before (e ∷ es) = cond (list_lt before (key e.numbers)) (fault_behind key (key e.numbers) es) (Some e.place)
 
 unfoldable pub ascent_from : Bool → Ascent → List Entry → Option ℕ
 unfolding ascent_fault fault_behind
 ascent_from rows Empty es = ascent_fault (key_in_lem rows) es
 ascent_from rows (Last k) es = fault_behind (key_in_lem rows) (key_numbers rows k) es
-ascent_from rows (BrokenAt place) es = some place
+ascent_from rows (BrokenAt place) es = Some place
 
 abbrev pub ascent_walk : AscentRead → Walk Ascent
 ascent_walk (Climbed next state) = walked next state

@@ -6,7 +6,7 @@ use native.Mathlib.Nat.{add-zero}
 use mathlib.Core.Path.{◌≡◌, refl, sym, ap, ap₂, ◌∙◌}
 use mathlib.Core.Bool.{Bool, true, false, ◌&&◌, ◌||◌}
 use lib.Dec.{ltb, eqb}
-use mathlib.Core.Option.{none, some}
+use Rattle.std.specs.Prelude.{None, Some}
 use mathlib.Core.List.{List, [], ◌∷◌, map}
 use lib.ListN.{length, take, drop, get_or, length-drop}
 use lib.Seq.{drop-drop, get_or-drop}
@@ -77,11 +77,11 @@ module _ (size : ℕ) (key : List ℕ → List ℕ) where
   unfolding chunks ascent_fault
   step-above k m h = rw h refl
 
-  step-not : (k : ℕ) (m : List ℕ) → list_lt (key (take size m)) (key (take size (drop size m))) ≡ false → ascent_fault key (unplaced (chunks (suc (suc k)) size m)) ≡ some 0
+  step-not : (k : ℕ) (m : List ℕ) → list_lt (key (take size m)) (key (take size (drop size m))) ≡ false → ascent_fault key (unplaced (chunks (suc (suc k)) size m)) ≡ Some 0
   unfolding chunks ascent_fault
   step-not k m h = rw h refl
 
-  alone : (m : List ℕ) → ascent_fault key (unplaced (chunks 1 size m)) ≡ none
+  alone : (m : List ℕ) → ascent_fault key (unplaced (chunks 1 size m)) ≡ None
   unfolding chunks ascent_fault
   alone m = refl
 
@@ -131,12 +131,12 @@ module _ (size : ℕ) (key : List ℕ → List ℕ) where
               ∙ A.same;
         }
 
-    pub ascending_stops : list_lt (key (take size (drop (size * (i - 1)) l))) (key (take size (drop (size * i) l))) ≡ false → ascent_fault key (entries_in size l) ≡ some 0
+    pub ascending_stops : list_lt (key (take size (drop (size * (i - 1)) l))) (key (take size (drop (size * i) l))) ≡ false → ascent_fault key (entries_in size l) ≡ Some 0
     ascending_stops h =
         sym A.same ∙ ap (λ j. ascent_fault key (unplaced (chunks (suc j) size (drop (size * (i - 1)) l)))) more
         ∙ step-not (length l / size - (i + 1)) (drop (size * (i - 1)) l) (test h)
 
-  pub ascending_ends : {l : List ℕ} {i : ℕ} → Ascending l i → length l / size ≤ i → ascent_fault key (entries_in size l) ≡ none
+  pub ascending_ends : {l : List ℕ} {i : ℕ} → Ascending l i → length l / size ≤ i → ascent_fault key (entries_in size l) ≡ None
   ascending_ends {l} {i} A h =
       let z : length l / size - i ≡ 0 = omega arith in
       sym A.same ∙ ap (λ j. ascent_fault key (unplaced (chunks (suc j) size (drop (size * (i - 1)) l)))) z ∙ alone (drop (size * (i - 1)) l)

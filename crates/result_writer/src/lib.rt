@@ -93,12 +93,10 @@ fn pairs_ascend(pairs: &[u64]) -> bool
     ensures { ascent_fault pair_key (entries_in numbers_per_pair pairs.now) ≡ unless result }
 {
     let count = pairs.len() / PAIR_SIZE;
-    let mut i = 1;
-    while i < count {
+    for i in 1..count {
         if !pair_ascends(pairs, i) {
             return false;
         }
-        i += 1;
     }
     true
 }
@@ -124,12 +122,10 @@ fn rows_ascend(rows: &[u64]) -> bool
     ensures { ascent_fault row_key (entries_in numbers_per_row rows.now) ≡ unless result }
 {
     let count = rows.len() / ROW_SIZE;
-    let mut i = 1;
-    while i < count {
+    for i in 1..count {
         if !row_ascends(rows, i) {
             return false;
         }
-        i += 1;
     }
     true
 }
@@ -207,14 +203,12 @@ fn spend_numbers(room: Room, numbers: &[u64]) -> Room
         return Room::Short;
     };
     let mut left = whole;
-    let mut i = 0;
-    while i < numbers.len() {
+    for i in 0..numbers.len() {
         let size = group_count(numbers[i]);
         if left < size {
             return Room::Short;
         }
         left -= size;
-        i += 1;
     }
     Room::Left(left)
 }
@@ -263,10 +257,8 @@ fn put_numbers(out: &mut [u8], at: usize, numbers: &[u64]) -> usize
     ensures { Put out.old at (concat_map shortest numbers.now) out.new result }
 {
     let mut next = at;
-    let mut i = 0;
-    while i < numbers.len() {
+    for i in 0..numbers.len() {
         next = put_shortest(&mut *out, next, numbers[i]);
-        i += 1;
     }
     next
 }

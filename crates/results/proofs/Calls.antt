@@ -3,7 +3,7 @@
 -- result that it was given.
 use Rattle.std.specs.Prelude.{ℕ, ◌%◌, ◌^◌, ◌<◌, ◌≡◌, refl, Bool, true, false, ◌&&◌, List, [], ◌∷◌, leb, eqb, length, take, drop}
 use Rattle.std.proofs.Common.{arith, sym, ap, ◌∙◌, eqb-true}
-use Rattle.std.proofs.Math.Option.{Option, none, some}
+use Rattle.std.specs.Prelude.{Option, None, Some}
 use Rattle.std.proofs.Math.Seq.{take-append_seam}
 use Rattle.definitions.specs.Limits.{tallies_per_span, numbers_per_pair, numbers_per_row}
 use Rattle.definitions.specs.Refusals.{unless}
@@ -27,7 +27,7 @@ pub record InMemory (r : Result) : Type 0 where
 
 -- the writer answered 0
 record Accepted (r : Result) (room value : ℕ) : Type 0 where
-  pub rules : rules_fault (placed r) ≡ none
+  pub rules : rules_fault (placed r) ≡ None
   pub finished : is_finished r ≡ true
   pub size : value ≡ length (result_bytes r)
 
@@ -38,12 +38,12 @@ accepted r room h = go (rules_fault (placed r)) refl (is_finished r) refl (leb (
     go : (o : Option ℕ) → rules_fault (placed r) ≡ o → (t : Bool) → is_finished r ≡ t → (u : Bool)
         → (first_refusal (refusal 15 o ∷ refusal 3 (unless t) ∷ refusal 10 (unless u) ∷ []) (length (result_bytes r))).number ≡ 0
         → Accepted r room (first_refusal (refusal 15 o ∷ refusal 3 (unless t) ∷ refusal 10 (unless u) ∷ []) (length (result_bytes r))).value
-    go none e true f true h = record { rules = e; finished = f; size = refl }
-    go none e true f false h = absurd (omega arith)
-    go none e false f u h = absurd (omega arith)
-    go (some place) e t f u h = absurd (omega arith)
+    go None e true f true h = record { rules = e; finished = f; size = refl }
+    go None e true f false h = absurd (omega arith)
+    go None e false f u h = absurd (omega arith)
+    go (Some place) e t f u h = absurd (omega arith)
 
-writable : {r : Result} → InMemory r → rules_fault (placed r) ≡ none → is_finished r ≡ true → Writable r
+writable : {r : Result} → InMemory r → rules_fault (placed r) ≡ None → is_finished r ≡ true → Writable r
 writable {r} m e f =
     let first = both (eqb (length r.tallies % tallies_per_span) 0 && eqb (length r.pairs % numbers_per_pair) 0) (eqb (length r.rows % numbers_per_row) 0) f in
     let second = both (eqb (length r.tallies % tallies_per_span) 0) (eqb (length r.pairs % numbers_per_pair) 0) first.0 in

@@ -2,7 +2,7 @@
 -- (`Back`), part by part; the places of the entries then depend on the offset, and the rules do not ask for them (SameRules). Assumes nothing.
 use Rattle.std.specs.Prelude.{ℕ, zero, suc, ◌+◌, ◌*◌, ◌/◌, ◌%◌, ◌^◌, ◌<◌, ◌≤◌, ◌≡◌, refl, ◌&&◌, List, [], ◌∷◌, ◌++◌, map, length, take, drop, get_or}
 use Rattle.std.proofs.Common.{arith, sym, ap, ◌∙◌, append_assoc, append-nil, take-append-drop, length-drop, length-take-le}
-use Rattle.std.proofs.Math.Option.{none}
+use Rattle.std.specs.Prelude.{None}
 use Rattle.definitions.specs.Limits.{tallies_per_span, numbers_per_pair, numbers_per_row}
 use Rattle.definitions.specs.Scan.{concat_map}
 use Rattle.definitions.specs.SheetNumber.{found, number}
@@ -153,7 +153,7 @@ pub record Writable (r : Result) : Type 0 where
   pub tallies-whole : length r.tallies % tallies_per_span ≡ 0
   pub pairs-whole : length r.pairs % numbers_per_pair ≡ 0
   pub rows_whole : length r.rows % numbers_per_row ≡ 0
-  pub rules : rules_fault (placed r) ≡ none
+  pub rules : rules_fault (placed r) ≡ None
 
 six : (a b c d e f : List ℕ) → a ++ b ++ c ++ d ++ e ++ f ≡ a ++ (b ++ (c ++ (d ++ (e ++ (f ++ [])))))
 six a b c d e f =
@@ -239,7 +239,7 @@ written-reads r W = ap reading P.same ∙ ap (λ f. judged_by f (result_of P.the
     P : Placement r
     P = placement r W
 
-    kept : rules_fault P.there ≡ none
+    kept : rules_fault P.there ≡ None
     kept =
         same_rules (placed r) P.there (sym P.regions) (numbers-again (chunks (length r.labels / 1) 1 r.labels) ∙ sym P.labels)
         (numbers-again (chunks (length r.pairs / numbers_per_pair) numbers_per_pair r.pairs) ∙ sym P.pairs)

@@ -1,7 +1,7 @@
 -- The result sheet, kind 2: what a list of bytes states, and the first place that breaks one of its three rules. Quotations are of document 02, request 1,
 -- where no other document is named. Bytes are numbers below 256. Assumes nothing.
 use Rattle.std.specs.Prelude.{ℕ, zero, suc, ◌+◌, Bool, not, ◌&&◌, cond, List, [], ◌∷◌, ◌++◌, take, drop, get_or, leb, eqb}
-use Rattle.std.proofs.Math.Option.{Option, none, some}
+use Rattle.std.specs.Prelude.{Option, None, Some}
 use Rattle.definitions.specs.Limits.{tallies_per_span, numbers_per_pair, numbers_per_row}
 use Rattle.definitions.specs.Scan.{only_if, concat_map}
 use Rattle.definitions.specs.Sort.{list_lt}
@@ -103,14 +103,14 @@ turns regions n (e ∷ l) =
 -- "the region count itself if labels all in turn never reach it"
 abbrev pub labels_fault : ℕ → ℕ → Turns → Option ℕ
 labels_fault regions place (started n) = only_if (not (eqb n regions)) place
-labels_fault regions place (out_of_turn at) = some at
+labels_fault regions place (out_of_turn at) = Some at
 
 -- "strictly ascending": the place of the first that is not above the one before it
 unfoldable pub ascent_fault : (List ℕ → List ℕ) → List Entry → Option ℕ
 unfolding list_lt
-ascent_fault key [] = none
-ascent_fault key (a ∷ []) = none
-ascent_fault key (a ∷ b ∷ l) = cond (list_lt (key a.numbers) (key b.numbers)) (ascent_fault key (b ∷ l)) (some b.place)
+ascent_fault key [] = None
+ascent_fault key (a ∷ []) = None
+ascent_fault key (a ∷ b ∷ l) = cond (list_lt (key a.numbers) (key b.numbers)) (ascent_fault key (b ∷ l)) (Some b.place)
 
 -- pairs "by their three numbers"
 abbrev pub pair_key : List ℕ → List ℕ

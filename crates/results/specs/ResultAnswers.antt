@@ -1,7 +1,7 @@
 -- What the reader and the writer of result sheets answer, for every input, what they leave in the lists lent to them, and the bytes of a result.
 -- Quotations are of document 02, request 1, where no other document is named. Assumes nothing.
 use Rattle.std.specs.Prelude.{ℕ, zero, suc, ◌/◌, ◌%◌, ◌≡◌, Bool, ◌&&◌, cond, List, [], ◌∷◌, ◌++◌, map, length, take, drop, leb, eqb}
-use Rattle.std.proofs.Math.Option.{Option, none, some}
+use Rattle.std.specs.Prelude.{Option, None, Some}
 use Rattle.definitions.specs.Limits.{tallies_per_span, numbers_per_pair, numbers_per_row}
 use Rattle.definitions.specs.Lists.{overwrite}
 use Rattle.definitions.specs.SheetNumber.{Read, found, failed}
@@ -17,8 +17,8 @@ pub data ResultReading : Type 0 where
   refused : ℕ → ℕ → ResultReading
 
 abbrev pub judged_by : Option ℕ → Result → ResultReading
-judged_by none r = well_formed r
-judged_by (some place) r = refused 15 place
+judged_by None r = well_formed r
+judged_by (Some place) r = refused 15 place
 
 -- "directly after 14": the rules are asked of a sheet that is well formed to its end
 unfoldable pub reading : Read Placed → ResultReading

@@ -74,10 +74,8 @@ pub fn join_cells(
     ensures { CellsJoined width height cells.now masks.now parents.old queue.old
         parents.new queue.new }
 {
-    let mut y = 0;
     let mut marked = false;
-    while y < height {
+    for y in 0..height {
         marked = join_row(width, cells, masks, parents, queue, y, marked);
-        y += 1;
     }
 }

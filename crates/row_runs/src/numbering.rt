@@ -24,10 +24,8 @@ fn put_label(labels: &mut [u32], from: usize, end: usize, label: u32)
     requires { (from ≤ end) × (end ≤ length labels.old) }
     ensures { Filled from end label labels.old labels.new }
 {
-    let mut c = from;
-    while c < end {
+    for c in from..end {
         labels[c] = label;
-        c += 1;
     }
 }
 

@@ -13,10 +13,8 @@ pub fn has_marks(masks: &[u16], from: usize, end: usize) -> bool
     ensures { result ≡ false → Clear masks.now from end }
 {
     let mut all: u16 = 0;
-    let mut c = from;
-    while c < end {
+    for c in from..end {
         all = all | masks[c];
-        c += 1;
     }
     if all == 0 {
         return false;

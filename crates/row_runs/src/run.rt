@@ -14,10 +14,8 @@ pub fn put_run(parents: &mut [u32], from: usize, end: usize)
         end ≤ n →
         RunPut n name from end parents.old parents.new }
 {
-    let mut c = from;
-    while c < end {
+    for c in from..end {
         parents[c] = from as u32;
-        c += 1;
     }
 }
 

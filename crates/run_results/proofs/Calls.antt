@@ -4,7 +4,7 @@
 use Rattle.std.specs.Prelude.{ℕ, ◌*◌, ◌≤◌, ◌≡◌, refl, Bool, true, List, [], ◌∷◌, leb, length, drop}
 use Rattle.std.proofs.Common.{arith, ◌∙◌, le-leb}
 use Rattle.std.proofs.Math.Path.{sym, ap}
-use Rattle.std.proofs.Math.Option.{Option, none}
+use Rattle.std.specs.Prelude.{Option, None}
 use Rattle.std.proofs.Math.ListN.{take}
 use Rattle.std.proofs.Math.Seq.{take-append_seam}
 use Rattle.definitions.specs.Limits.{tallies_per_span, numbers_per_row}
@@ -56,7 +56,7 @@ module _
           front (numbers_per_row * a.value) (flat_rows (rows_of L.pass (map_in L))) L.output o (omega (arith, flat-length (rows_of L.pass (map_in L)), kept))
           (ran.output ∙ ap (λ n. (call_exit L n).output) success)
 
-  pub call-keeps_rules : rules_fault (placed (result_left L a l t p o)) ≡ none
+  pub call-keeps_rules : rules_fault (placed (result_left L a l t p o)) ≡ None
   call-keeps_rules = ap (λ r. rules_fault (placed r)) left_is ∙ run-keeps_rules L.pass (map_in L)
 
   call-finished : is_finished (result_left L a l t p o) ≡ true

@@ -4,7 +4,7 @@
 use Rattle.std.specs.Prelude.{ℕ, ◌*◌, ◌≤◌, ◌≡◌, refl, Bool, true, List, [], ◌∷◌, leb, length, drop}
 use Rattle.std.proofs.Common.{arith, ◌∙◌, le-leb}
 use Rattle.std.proofs.Math.Path.{sym, ap}
-use Rattle.std.proofs.Math.Option.{Option, none}
+use Rattle.std.specs.Prelude.{Option, None}
 use Rattle.std.proofs.Math.ListN.{take}
 use Rattle.std.proofs.Math.Seq.{take-append_seam}
 use Rattle.definitions.specs.Limits.{tallies_per_span, numbers_per_row}
@@ -60,12 +60,12 @@ pub front : (n : ℕ) (new old l : List ℕ) → length new ≡ n → l ≡ over
 front n new old l h e = ap (λ k. take k l) (sym h) ∙ ap (take (length new)) e ∙ take-append_seam new (drop (length new) old)
 
 -- a result that keeps the rules is refused for want of room alone
-pub room-alone : (r : Result) (room : ℕ) → rules_fault (placed r) ≡ none → is_finished r ≡ true
+pub room-alone : (r : Result) (room : ℕ) → rules_fault (placed r) ≡ None → is_finished r ≡ true
     → write_verdict r room ≡ first_refusal (refusal 10 (unless (leb (length (result_bytes r)) room)) ∷ []) (length (result_bytes r))
 unfolding write_verdict
 room-alone r room e f = go (rules_fault (placed r)) e (is_finished r) f
   where
-    go : (o : Option ℕ) → o ≡ none → (t : Bool) → t ≡ true
+    go : (o : Option ℕ) → o ≡ None → (t : Bool) → t ≡ true
         → first_refusal (refusal 15 o ∷ refusal 3 (unless t) ∷ refusal 10 (unless (leb (length (result_bytes r)) room)) ∷ []) (length (result_bytes r))
         ≡ first_refusal (refusal 10 (unless (leb (length (result_bytes r)) room)) ∷ []) (length (result_bytes r))
     go o e t f = rw (e, f) refl

@@ -2,14 +2,14 @@
 -- rule of ascent. Assumes nothing.
 use Rattle.std.specs.Prelude.{ℕ, ◌*◌, ◌/◌, ◌≡◌, refl, List, ◌∷◌, ◌++◌, map, length, take, drop}
 use Rattle.std.proofs.Common.{arith, sym, ap, ap₂, ◌∙◌, length-append}
-use Rattle.std.proofs.Math.Option.{none}
+use Rattle.std.specs.Prelude.{None}
 use Rattle.std.proofs.Math.Seq.{take-append_seam, drop-append_seam}
 use Rattle.definitions.specs.Scan.{concat_map}
 use Rattle.definitions.specs.Sort.{list_lt}
 use Rattle.laws.specs.ListLaws.Lists.{All, done, more}
 use Rattle.results.specs.Result.{Entry, ascent_fault}
 use Rattle.results.specs.ResultAnswers.{chunks, entries_in}
-use Rattle.run_results.specs.Rises.{Rises, none, next}
+use Rattle.run_results.specs.Rises.{Rises, None, next}
 
 -- an entry as the writer has it, at no place
 abbrev pub unplaced : List ℕ → Entry
@@ -34,7 +34,7 @@ pub entries-joined : (size : ℕ) {cs : List (List ℕ)} → All (λ c. length c
 unfolding entries_in
 entries-joined size {cs} a h = ap (map unplaced) (ap (λ n. chunks n size (joined cs)) h ∙ chunks-joined size a)
 
-pub rises_ascent : (key : List ℕ → List ℕ) {cs : List (List ℕ)} → Rises (λ c d. list_lt (key c) (key d)) cs → ascent_fault key (map unplaced cs) ≡ none
+pub rises_ascent : (key : List ℕ → List ℕ) {cs : List (List ℕ)} → Rises (λ c d. list_lt (key c) (key d)) cs → ascent_fault key (map unplaced cs) ≡ None
 unfolding ascent_fault
 rises_ascent key Rises.none = refl
 rises_ascent key (Rises.next done Rises.none) = refl

@@ -2,7 +2,7 @@
 -- rules; and where the list lent for pairs was zero, the pairs are its rows whose smaller label is not 0, since no label of a pair is 0. Assumes nothing.
 use Rattle.std.specs.Prelude.{ℕ, zero, suc, ◌+◌, ◌/◌, max, ◌≡◌, refl, Bool, true, false, not, cond, List, [], ◌∷◌, ◌++◌, map, leb, eqb, length, take, drop, get_or}
 use Rattle.std.proofs.Common.{arith, zero-add, sym, ap, ap₂, ◌∙◌, append_assoc, append-nil, length-append, leb-true, eqb-true, eq-eqb}
-use Rattle.std.proofs.Math.Option.{none, some}
+use Rattle.std.specs.Prelude.{None, Some}
 use Rattle.std.proofs.Math.Seq.{take-append_seam, drop-append_seam}
 use Rattle.definitions.specs.Limits.{numbers_per_pair}
 use Rattle.definitions.specs.Lists.{overwrite}
@@ -50,21 +50,21 @@ turns-greatest regions n k (x ∷ l) h = go (leb x n) refl (in_turn regions n x)
         not-started : out_of_turn 0 ≡ started k → ⊥
         not-started h = let z : ◌≡◌ {A = ℕ} 0 1 = cc in omega arith
 
-pub regions-greatest : (r : Result) → rules_fault (placed r) ≡ none → r.regions ≡ greatest r.labels
+pub regions-greatest : (r : Result) → rules_fault (placed r) ≡ None → r.regions ≡ greatest r.labels
 unfolding rules_fault placed
 regions-greatest r h =
     let along = turns r.regions 0 (entries_in 1 r.labels) in
     let first = (or_else_none (labels_fault r.regions 0 along) (or_else (ascent_fault pair_key (placed r).pairs) (ascent_fault row_key (placed r).rows)) h).0 in
     reached along refl first
   where
-    reached : (t : Turns) → turns r.regions 0 (entries_in 1 r.labels) ≡ t → labels_fault r.regions 0 t ≡ none → r.regions ≡ greatest r.labels
+    reached : (t : Turns) → turns r.regions 0 (entries_in 1 r.labels) ≡ t → labels_fault r.regions 0 t ≡ None → r.regions ≡ greatest r.labels
     reached (started n) e f =
         let started-there : turns r.regions 0 (map unplaced (map single r.labels)) ≡ started n = ap (turns r.regions 0) (sym (label-entries r.labels)) ∙ e in
         let is-regions : n ≡ r.regions = eqb-true n r.regions (no_fault_lem (eqb n r.regions) 0 f) in
         omega (arith, turns-greatest r.regions 0 n r.labels started-there, is-regions)
     reached (out_of_turn at) e f = absurd (some_none f)
       where
-        some_none : {x : ℕ} → some x ≡ none → ⊥
+        some_none : {x : ℕ} → Some x ≡ None → ⊥
         some_none h = let z : ◌≡◌ {A = ℕ} 0 1 = cc in omega arith
 
 -- ---- the pairs

@@ -6,7 +6,7 @@ use native.Mathlib.Omega.{arith}
 use Rattle.std.specs.Prelude.{◌≡◌, Bool, true, false, not, ◌&&◌, cond, List, [], ◌∷◌, map, eqb, length}
 use Rattle.std.proofs.Math.Path.{refl, ap}
 use Rattle.std.proofs.Common.{sym, ap₂, ◌∙◌, le-leb, eqb-true, eq-eqb}
-use Rattle.std.proofs.Math.Option.{none}
+use Rattle.std.specs.Prelude.{None}
 use Rattle.std.proofs.lemmas.Bool.{lt-leb, eqb-false}
 use Rattle.definitions.specs.Scan.{run, concat_map, count_below, bit, only_if}
 use Rattle.definitions.specs.Grid.{Map, cell_count}
@@ -99,5 +99,5 @@ module _ (M : Map) where
   unfolding labels count_below
   labels-turn = ap (turns (region_count M) 0) (label-entries (labels M)) ∙ turns_from_lem (cell_count M) 0 (omega arith)
 
-  pub labels-keep : labels_fault (region_count M) 0 (turns (region_count M) 0 (entries_in 1 (labels M))) ≡ none
+  pub labels-keep : labels_fault (region_count M) 0 (turns (region_count M) 0 (entries_in 1 (labels M))) ≡ None
   labels-keep = ap (labels_fault (region_count M) 0) labels-turn ∙ ap (λ b. only_if (not b) 0) (eq-eqb (region_count M) (region_count M) refl)

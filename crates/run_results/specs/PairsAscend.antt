@@ -5,7 +5,7 @@ use Rattle.std.proofs.Common.{arith, ◌∙◌}
 use Rattle.std.specs.Prelude.{◌≡◌, true, not, ◌&&◌, ◌||◌, eqb, length, get_or}
 use Rattle.std.proofs.Math.Path.{refl, sym, ap, ap₂}
 use Rattle.std.proofs.Math.Bool.{and-false, or-false}
-use Rattle.std.proofs.Math.Option.{none}
+use Rattle.std.specs.Prelude.{None}
 use mathlib.Core.List.{List, [], ◌∷◌, ◌++◌, map, append_assoc}
 use Rattle.std.proofs.Math.Dec.{ltb}
 use borrow.Author.Tests.{lt-ltb, le-ltb, eq-eqb, ne_eqb}
@@ -99,7 +99,7 @@ module _ (C : Context) where
     rows-rise zero = Rises.none
     rows-rise (suc n) = rises-append list_lt (rows-rise n) (span-rises n (ascending n)) (all_map (λ c h. each n (λ p. earlier c n p h)) (rows-number n))
 
-    pairs_ascend : ascent_fault pair_key (entries_in numbers_per_pair (pair_rows_of C)) ≡ none
+    pairs_ascend : ascent_fault pair_key (entries_in numbers_per_pair (pair_rows_of C)) ≡ None
     pairs_ascend = ap (ascent_fault pair_key) pair-entries ∙ rises_ascent pair_key (rows-rise C.count)
 
 -- no label of a pair is 0
@@ -108,5 +108,5 @@ rows-labelled M =
     gather-below (rows_of_span (context_of M)) (context_of M).count
     (λ s h. all-mapped (row s) (all_map (λ p n. ap not (ne_eqb p.lo 0 (λ e. omega (arith, n.low)))) (pairs-named M s)))
 
-pub pairs-keep : (M : Map) → ascent_fault pair_key (entries_in numbers_per_pair (pair_rows_of (context_of M))) ≡ none
+pub pairs-keep : (M : Map) → ascent_fault pair_key (entries_in numbers_per_pair (pair_rows_of (context_of M))) ≡ None
 pairs-keep M = pairs_ascend (context_of M) (pairs_ascending M)

@@ -5,7 +5,7 @@ use Rattle.std.proofs.Common.{arith, sym, ap, ap₂, ◌∙◌, true≢false, lt
 use Rattle.std.specs.Prelude.{◌≡◌, refl, true, false, not, ◌&&◌, ◌||◌, ltb, eqb, length}
 use Rattle.std.proofs.Math.Path.{subst}
 use Rattle.std.proofs.Math.Bool.{Bool}
-use Rattle.std.proofs.Math.Option.{none}
+use Rattle.std.specs.Prelude.{None}
 use mathlib.Core.List.{List, [], ◌∷◌, ◌++◌, map}
 use Rattle.definitions.specs.Limits.{numbers_per_row}
 use Rattle.definitions.specs.Scan.{collect, to_list, only_if, concat_map, member}
@@ -120,7 +120,7 @@ row-entries l =
     ap (entries_in numbers_per_row) (flat-joined l)
     ∙ entries-joined numbers_per_row (numbers-long l) (omega (arith, ap length (flat-joined l), flat-length l, numbers-many l))
 
-rows_from-keep : (n : ℕ) (boundary : ℕ → Boundary) (kept : ℕ → Bool) → ascent_fault row_key (entries_in numbers_per_row (flat_rows (rows_from n boundary kept))) ≡ none
+rows_from-keep : (n : ℕ) (boundary : ℕ → Boundary) (kept : ℕ → Bool) → ascent_fault row_key (entries_in numbers_per_row (flat_rows (rows_from n boundary kept))) ≡ None
 unfolding rows_from
 rows_from-keep n boundary kept = ap (ascent_fault row_key) (row-entries sorted) ∙ rises_ascent row_key (written-rises canonicals (sorted_rises kept line n))
   where
@@ -135,6 +135,6 @@ rows_from-keep n boundary kept = ap (ascent_fault row_key) (row-entries sorted) 
         all-sort IsCanonical before
         (collect-below IsCanonical (λ i. only_if (kept i) (record { number = i; line = line i })) n (λ i h. on_list (on_only (kept i) (record { number = i; line = line i }) (canonical-twice (boundary i).endpoints))))
 
-pub rows-keep : (pass : ℕ) (M : Map) → ascent_fault row_key (entries_in numbers_per_row (flat_rows (rows_of pass M))) ≡ none
+pub rows-keep : (pass : ℕ) (M : Map) → ascent_fault row_key (entries_in numbers_per_row (flat_rows (rows_of pass M))) ≡ None
 unfolding rows_of
 rows-keep pass M = rows_from-keep (length M.boundaries) (boundary_of M) (λ i. not (member i (removed_of pass M)))

@@ -2,7 +2,7 @@
 -- request 1. Assumes nothing.
 use Rattle.std.specs.Prelude.{ℕ, ◌%◌, ◌≡◌, refl, true, length}
 use Rattle.std.proofs.Common.{arith, eq-eqb}
-use Rattle.std.proofs.Math.Option.{Option, none}
+use Rattle.std.specs.Prelude.{Option, None}
 use Rattle.definitions.specs.Limits.{tallies_per_span, numbers_per_pair, numbers_per_row}
 use Rattle.definitions.specs.Grid.{Map}
 use Rattle.definitions.specs.Partition.{labels, region_count}
@@ -30,11 +30,11 @@ run_result pass M =
       rows = flat_rows (rows_of pass M);
     }
 
-pub run-keeps_rules : (pass : ℕ) (M : Map) → rules_fault (placed (run_result pass M)) ≡ none
+pub run-keeps_rules : (pass : ℕ) (M : Map) → rules_fault (placed (run_result pass M)) ≡ None
 unfolding rules_fault placed
 run-keeps_rules pass M = all_none (labels-keep M) (pairs-keep M) (rows-keep pass M)
   where
-    all_none : {a b c : Option ℕ} → a ≡ none → b ≡ none → c ≡ none → or_else a (or_else b c) ≡ none
+    all_none : {a b c : Option ℕ} → a ≡ None → b ≡ None → c ≡ None → or_else a (or_else b c) ≡ None
     all_none e f g = rw (e, f, g) refl
 
 -- ---- and each list has whole entries

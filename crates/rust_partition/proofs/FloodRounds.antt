@@ -6,7 +6,7 @@ use Rattle.std.proofs.Common.{arith, sym, ◌∙◌}
 use Rattle.std.specs.Prelude.{◌≡◌, Bool, true, false, ◌&&◌, ◌||◌, length, get_or}
 use Rattle.std.proofs.Math.Path.{refl, ap, subst}
 use Rattle.std.proofs.Math.Bool.{not, cond}
-use Rattle.std.proofs.Math.Option.{some}
+use Rattle.std.specs.Prelude.{Some}
 use mathlib.Core.List.{List, [], ◌∷◌, ◌++◌, map}
 use Rattle.std.proofs.Math.ListN.{set}
 use Rattle.std.proofs.Math.Dec.{eqb}
@@ -78,7 +78,7 @@ module _ (M : Map) (masks : List ℕ) (marks : Marks M masks (cut_all_lem M)) wh
         f : Four M p d
         f = four M p d e
 
-        there : index_rust M (toward p d) ≡ some (reached M c d)
+        there : index_rust M (toward p d) ≡ Some (reached M c d)
         there = index-walkable M (toward p d) f.far
 
         bits : edge_bit p (toward p d) ≡ 2 ^ bit_of d
@@ -125,7 +125,7 @@ module _ (M : Map) (masks : List ℕ) (marks : Marks M masks (cut_all_lem M)) wh
   first_of : {P : ℕ → Type 0} {c : ℕ} {q : List ℕ} → All P (c ∷ q) → P c × All P q
   first_of (more h a) = (h, a)
 
-  module _ (id : ℕ) (some : 0 < id) where
+  module _ (id : ℕ) (Some : 0 < id) where
     -- one round: the cell that it takes is done
     record Round (l : List ℕ) (c : ℕ) (q : List ℕ) (s : Waiting) : Type 0 where
       is : visit_neighbors M masks id c (position_of M c) (record { labels = l; queue = q }) (neighbors_rust M (position_of M c)) ≡ s
@@ -139,10 +139,10 @@ module _ (M : Map) (masks : List ℕ) (marks : Marks M masks (cut_all_lem M)) wh
         let h = w.0.cell in
         let own : All (λ d. is_open M c d ≡ true → final M (reached M c d) ≡ id) directions = all_map (λ d f o. f o ∙ w.0.mine) (labels-level M c h) in
         let popped : State M id l q (c ∷ q) = record { long = S.long; right = S.right; below = S.below; waits = w.1; closed = S.closed } in
-        let v = flood.ways-visited (cell_count M) (final M) (is_open M) (reached M) id some c (open_inside M c) (record { labels = l; queue = q }) popped own in
+        let v = flood.ways-visited (cell_count M) (final M) (is_open M) (reached M) id Some c (open_inside M c) (record { labels = l; queue = q }) popped own in
         record {
           is = cell-visited c h id (position-walks c h (label-walks c h (omega (arith, w.0.mine)))) (record { labels = l; queue = q });
-          state = flood.cell-done (cell_count M) (final M) (is_open M) (reached M) id some c (open_inside M c) (visit_ways M id c (record { labels = l; queue = q }) directions) v.0.state v.1;
+          state = flood.cell-done (cell_count M) (final M) (is_open M) (reached M) id Some c (open_inside M c) (visit_ways M id c (record { labels = l; queue = q }) directions) v.0.state v.1;
           grows = v.0.grows;
           balance = v.0.balance;
         }

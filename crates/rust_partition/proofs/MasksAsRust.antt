@@ -8,7 +8,7 @@ use Rattle.std.proofs.Math.Path.{refl, sym, ap, subst}
 use Rattle.std.proofs.Common.{◌∙◌}
 use Rattle.std.proofs.Math.Bool.{true, false, not, cond}
 use Rattle.std.proofs.lemmas.Bool.{false≢true}
-use Rattle.std.proofs.Math.Option.{some}
+use Rattle.std.specs.Prelude.{Some}
 use mathlib.Core.List.{List, [], ◌∷◌, ◌++◌, map, append-nil, append_assoc}
 use Rattle.std.proofs.Math.ListN.{get_or, length-replicate, get_or-replicate}
 use Rattle.std.proofs.lemmas.List.{length-map}
@@ -85,7 +85,7 @@ module _ (M : Map) where
           ∙ (λ i. cond (leb (index M q) c || not (cuts g p q)) s (record { masks = set_both i; edges = s.edges ++ (edge M p q ∷ []) }))
           ∙ go (leb (index M q) c) refl (cuts g p q)
         where
-          there : index_rust M q ≡ some (index M q)
+          there : index_rust M q ≡ Some (index M q)
           there = index-walkable M q f.far
 
           bits : edge_bit p q ≡ 2 ^ bit_of d
@@ -148,11 +148,11 @@ module _ (M : Map) where
   unfolding onward neighbors filter
   no_steps g p w =
       ap (λ l. map (edge M p) (filter (cuts g p) (filter (λ q. ltb (index M p) (index M q)) (map (toward p) l))))
-      (filter_none (is_step M p) (λ d t. none d (is_step M p d) refl) (all_every {P = λ d. Unit {0}} (λ d. tt) directions))
+      (filter_none (is_step M p) (λ d t. None d (is_step M p d) refl) (all_every {P = λ d. Unit {0}} (λ d. tt) directions))
     where
-      none : (d : Position) (b : Bool) → is_step M p d ≡ b → b ≡ false
-      none d true e = absurd (false≢true (sym w ∙ (four M p d e).near))
-      none d false e = refl
+      None : (d : Position) (b : Bool) → is_step M p d ≡ b → b ≡ false
+      None d true e = absurd (false≢true (sym w ∙ (four M p d e).near))
+      None d false e = refl
 
   walkable-inside : (p : Position) → Inside M p → walkable M p ≡ is_walkable (cell_at M (index M p))
   unfolding walkable

@@ -6,7 +6,7 @@ use Rattle.std.proofs.Common.{arith, ◌∙◌}
 use Rattle.std.proofs.Math.Path.{refl, sym, ap}
 use Rattle.std.proofs.Math.Bool.{true, false}
 use Rattle.std.proofs.lemmas.Bool.{false≢true}
-use Rattle.std.proofs.Math.Option.{Option, none, some}
+use Rattle.std.specs.Prelude.{Option, None, Some}
 use mathlib.Core.List.{List, [], ◌∷◌, ◌++◌, map}
 use Rattle.std.proofs.Math.ListN.{get_elem?, get_or-eq_default}
 use Rattle.std.proofs.Math.Arith.{digits_lt}
@@ -27,10 +27,10 @@ record Moves (z : ℤ) (k : ℕ) : Type 0 where
   level : is_zero z ≡ eqb k 1
 
 stays : Moves (pos 0) 1
-stays = record { goes = λ n. rw (le-leb 1 (n + 1) (omega arith)) (ap some (omega arith)); near = refl; level = refl }
+stays = record { goes = λ n. rw (le-leb 1 (n + 1) (omega arith)) (ap Some (omega arith)); near = refl; level = refl }
 
 onwards : Moves (pos 1) 2
-onwards = record { goes = λ n. rw (le-leb 1 (n + 2) (omega arith)) (ap some (omega arith)); near = refl; level = refl }
+onwards = record { goes = λ n. rw (le-leb 1 (n + 2) (omega arith)) (ap Some (omega arith)); near = refl; level = refl }
 
 backwards : Moves minus_one 0
 backwards = record { goes = λ n. (λ i. only_if (same n (ltb 0 n) refl i) (one n i)); near = refl; level = refl }
@@ -54,22 +54,22 @@ module _ (M : Map) where
   unfolding cell_rust walkable
   cell-walkable p = go (leb M.width p.x) refl (leb M.height p.y) refl (ltb (index M p) (length M.cells)) refl
     where
-      go : (a : Bool) → leb M.width p.x ≡ a → (b : Bool) → leb M.height p.y ≡ b → (c : Bool) → ltb (index M p) (length M.cells) ≡ c → is_some_and (and_then (cond (a || b) none (only_if c (index M p))) (get_elem? M.cells)) is_walkable ≡ (ltb p.x M.width && ltb p.y M.height && is_walkable (cell_at M (index M p)))
+      go : (a : Bool) → leb M.width p.x ≡ a → (b : Bool) → leb M.height p.y ≡ b → (c : Bool) → ltb (index M p) (length M.cells) ≡ c → is_some_and (and_then (cond (a || b) None (only_if c (index M p))) (get_elem? M.cells)) is_walkable ≡ (ltb p.x M.width && ltb p.y M.height && is_walkable (cell_at M (index M p)))
       go true e b f c g = rw (le-ltb p.x M.width (leb-true _ _ e)) refl
       go false e true f c g = rw (lt-ltb p.x M.width (leb-false _ _ e), le-ltb p.y M.height (leb-true _ _ f)) refl
       go false e false f true g = rw (lt-ltb p.x M.width (leb-false _ _ e), lt-ltb p.y M.height (leb-false _ _ f)) (got M.cells (index M p))
       go false e false f false g =
           rw (lt-ltb p.x M.width (leb-false _ _ e), lt-ltb p.y M.height (leb-false _ _ f)) (ap is_walkable (sym (get_or-eq_default M.cells 0 (ltb-false (index M p) (length M.cells) g))))
 
-  index_there : (p : Position) → p.x < M.width → p.y < M.height → index M p < length M.cells → index_rust M p ≡ some (index M p)
+  index_there : (p : Position) → p.x < M.width → p.y < M.height → index M p < length M.cells → index_rust M p ≡ Some (index M p)
   unfolding index_rust
   index_there p a b c = rw (lt-leb M.width p.x a, lt-leb M.height p.y b, lt-ltb (index M p) (length M.cells) c) refl
 
-  pub index-inside : length M.cells ≡ cell_count M → (p : Position) → p.x < M.width → p.y < M.height → index_rust M p ≡ some (index M p)
+  pub index-inside : length M.cells ≡ cell_count M → (p : Position) → p.x < M.width → p.y < M.height → index_rust M p ≡ Some (index M p)
   unfolding cell_count
   index-inside long p a b = index_there p a b (rw long (digits_lt b a))
 
-  pub index-walkable : (p : Position) → walkable M p ≡ true → index_rust M p ≡ some (index M p)
+  pub index-walkable : (p : Position) → walkable M p ≡ true → index_rust M p ≡ Some (index M p)
   index-walkable p h = index_there p i.x i.y (listed (ltb (index M p) (length M.cells)) refl)
     where
       i : In M p
@@ -91,7 +91,7 @@ module _ (M : Map) where
     abbrev B : Position
     B = at p.x q.y
 
-    sides : (x y s u : Bool) → (x ≡ true → (s ≡ true) × (u ≡ true)) → (y ≡ true → (s ≡ true) × (u ≡ true)) → cond ((not x && not y) && (not s || not u)) none (some q) ≡ only_if (s && u) q
+    sides : (x y s u : Bool) → (x ≡ true → (s ≡ true) × (u ≡ true)) → (y ≡ true → (s ≡ true) × (u ≡ true)) → cond ((not x && not y) && (not s || not u)) None (Some q) ≡ only_if (s && u) q
     sides true y true true f g = refl
     sides true y true false f g = absurd (false≢true (f refl).1)
     sides true y false u f g = absurd (false≢true (f refl).0)
@@ -115,16 +115,16 @@ module _ (M : Map) where
           here : p.y + d.y - 1 ≡ p.y
           here = omega (arith, eqb-true d.y 1 h)
 
-    walks : (b : Bool) → walkable M q ≡ b → cond (not b) none (cond ((not (is_zero z.delta_x) && not (is_zero z.delta_y)) && (not (is_some_and (cell_rust M A) is_walkable) || not (is_some_and (cell_rust M B) is_walkable))) none (some q)) ≡ only_if (b && true && walkable M A && walkable M B) q
+    walks : (b : Bool) → walkable M q ≡ b → cond (not b) None (cond ((not (is_zero z.delta_x) && not (is_zero z.delta_y)) && (not (is_some_and (cell_rust M A) is_walkable) || not (is_some_and (cell_rust M B) is_walkable))) None (Some q)) ≡ only_if (b && true && walkable M A && walkable M B) q
     walks false e = refl
     walks true e =
-        (λ i. cond ((not (X.level i) && not (Y.level i)) && (not (cell-walkable A i) || not (cell-walkable B i))) none (some q))
+        (λ i. cond ((not (X.level i) && not (Y.level i)) && (not (cell-walkable A i) || not (cell-walkable B i))) None (Some q))
         ∙ sides (eqb d.x 1) (eqb d.y 1) (walkable M A) (walkable M B) (upright e) (flat e)
 
     found : (o : Option ℕ) → cell_rust M q ≡ o → and_then o (reachable M p z q) ≡ only_if (walkable M q && true && walkable M A && walkable M B) q
     unfolding reachable
-    found none e = rw (sym (cell-walkable q) ∙ ap (λ o. is_some_and o is_walkable) e) refl
-    found (some byte) e =
+    found None e = rw (sym (cell-walkable q) ∙ ap (λ o. is_some_and o is_walkable) e) refl
+    found (Some byte) e =
         let same : walkable M q ≡ is_walkable byte = sym (cell-walkable q) ∙ ap (λ o. is_some_and o is_walkable) e in
         walks (is_walkable byte) same ∙ ap (λ b. only_if (b && true && walkable M A && walkable M B) q) (sym same)
 

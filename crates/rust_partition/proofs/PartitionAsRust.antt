@@ -5,7 +5,7 @@ use Prim.Native.Nat.{ℕ, zero, suc, ◌+◌, ◌*◌, ◌≤◌, ◌<◌}
 use Rattle.std.proofs.Common.{arith, mul_comm, ◌∙◌, leb-true, eqb-true}
 use Rattle.std.specs.Prelude.{◌≡◌, refl, leb}
 use Rattle.std.proofs.Math.Path.{sym, ap}
-use Rattle.std.proofs.Math.Option.{Option, none, some}
+use Rattle.std.specs.Prelude.{Option, None, Some}
 use mathlib.Core.List.{List, [], ◌∷◌, ◌++◌, map, append-nil, append_assoc}
 use Rattle.std.proofs.Math.ListN.{length}
 use Rattle.definitions.specs.Limits.{is_side, numbers_per_span}
@@ -112,12 +112,12 @@ module _ (M : Map) (G : Grid M) where
 -- ---- of what is lent
 
 -- of the partition alone: checks 1 and 2 come first
-first_two : (x y : Option ℕ) (l : List (Option Refusal)) (count : ℕ) → (first_refusal (refusal 1 x ∷ refusal 2 y ∷ l) count).number ≡ 0 → (x ≡ none) × (y ≡ none)
-first_two none none l count h = (refl, refl)
-first_two none (some y) l count h = absurd (omega (arith, h))
-first_two (some x) y l count h = absurd (omega (arith, h))
+first_two : (x y : Option ℕ) (l : List (Option Refusal)) (count : ℕ) → (first_refusal (refusal 1 x ∷ refusal 2 y ∷ l) count).number ≡ 0 → (x ≡ None) × (y ≡ None)
+first_two None None l count h = (refl, refl)
+first_two None (Some y) l count h = absurd (omega (arith, h))
+first_two (Some x) y l count h = absurd (omega (arith, h))
 
-grid-fits : (L : Lent) → (sides_fault L.width L.height ≡ none) × (cells_fault L.width L.height L.cells ≡ none) → Grid (map_in L)
+grid-fits : (L : Lent) → (sides_fault L.width L.height ≡ None) × (cells_fault L.width L.height L.cells ≡ None) → Grid (map_in L)
 unfolding map_in cell_count
 grid-fits L h =
     let s = both (is_side L.width) (is_side L.height) (no_fault_lem _ 0 h.0) in

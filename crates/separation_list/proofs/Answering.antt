@@ -2,7 +2,7 @@
 use mathlib.Core.Path.{◌≡◌, refl, sym, ap, ◌∙◌}
 use mathlib.Core.Bool.{Bool, true, false, ◌&&◌, cond}
 use mathlib.Core.List.{List, [], ◌∷◌}
-use mathlib.Core.Option.{Option, none, some}
+use Rattle.std.specs.Prelude.{Option, None, Some}
 use Prim.Native.Nat.{ℕ, ◌-◌, ◌*◌, ◌%◌, ◌≤◌}
 use native.Mathlib.Nat.{le_trans, mul-le-mul, div-le_self}
 use native.Mathlib.Omega.{arith}
@@ -56,10 +56,10 @@ module _ (w h : ℕ) (boundaries : List ℕ) (room : ℕ) where
     pub sizes-refused : b ≡ false → answer 3 0 ≡ list_verdict w h boundaries room
     sizes-refused k = (λ i. by ((sym f ∙ e) i) ((sym k ∙ g) i) (boundaries_fault w h boundaries) fits count) ∙ is_by
 
-    pub boundary-refused : b ≡ true → {p : ℕ} → some p ≡ boundaries_fault w h boundaries → answer 7 p ≡ list_verdict w h boundaries room
+    pub boundary-refused : b ≡ true → {p : ℕ} → Some p ≡ boundaries_fault w h boundaries → answer 7 p ≡ list_verdict w h boundaries room
     boundary-refused k l = (λ i. by ((sym f ∙ e) i) ((sym k ∙ g) i) (l i) fits count) ∙ is_by
 
-    pub room-answered : b ≡ true → {n : ℕ} → none ≡ boundaries_fault w h boundaries → n ≡ count
+    pub room-answered : b ≡ true → {n : ℕ} → None ≡ boundaries_fault w h boundaries → n ≡ count
         → first_refusal (refusal 10 (unless (leb (numbers_per_separation * n) room)) ∷ []) n ≡ list_verdict w h boundaries room
     room-answered k l m = (λ i. by ((sym f ∙ e) i) ((sym k ∙ g) i) (l i) (leb (numbers_per_separation * m i) room) (m i)) ∙ is_by
 

@@ -2,7 +2,7 @@
 -- column j has j rows, and the columns before it have j * (j - 1) / 2. Assumes nothing.
 use Rattle.std.specs.Prelude.{◌≡◌, refl, ◌&&◌, List, [], ◌∷◌, ◌++◌, ℕ, zero, suc, ◌+◌, ◌-◌, ◌*◌, ◌/◌, ◌≤◌, ◌<◌, leb, length, get_or}
 use Rattle.std.proofs.Common.{sym, ap, ◌∙◌, subst, inl, inr, mul-le-mul, arith, length-append, get_or-append-add, leb-true}
-use Rattle.std.proofs.Math.Option.{Option, none, some}
+use Rattle.std.specs.Prelude.{Option, None, Some}
 use Rattle.std.proofs.Math.ListN.{get_or-append}
 use Rattle.definitions.specs.Limits.{is_side, numbers_per_boundary}
 use Rattle.definitions.specs.Grid.{Segment, boundary_at}
@@ -121,18 +121,18 @@ module _ (boundaries : List ℕ) (n i j k : ℕ) (h : i < j) (l : j < n) (m : k 
 -- ---- an accepted call
 
 none_found : (a b c d : Option ℕ) (n : ℕ) → (first_refusal (refusal 1 a ∷ refusal 3 b ∷ refusal 7 c ∷ refusal 10 d ∷ []) n).number ≡ 0
-    → (a ≡ none) × (c ≡ none) × (d ≡ none) × ((first_refusal (refusal 1 a ∷ refusal 3 b ∷ refusal 7 c ∷ refusal 10 d ∷ []) n).value ≡ n)
-none_found none none none none n h = (refl, refl, refl, refl)
-none_found none none none (some p) n h = absurd (omega arith)
-none_found none none (some p) d n h = absurd (omega arith)
-none_found none (some p) c d n h = absurd (omega arith)
-none_found (some p) b c d n h = absurd (omega arith)
+    → (a ≡ None) × (c ≡ None) × (d ≡ None) × ((first_refusal (refusal 1 a ∷ refusal 3 b ∷ refusal 7 c ∷ refusal 10 d ∷ []) n).value ≡ n)
+none_found None None None None n h = (refl, refl, refl, refl)
+none_found None None None (Some p) n h = absurd (omega arith)
+none_found None None (Some p) d n h = absurd (omega arith)
+none_found None (Some p) c d n h = absurd (omega arith)
+none_found (Some p) b c d n h = absurd (omega arith)
 
 module _ (w h : ℕ) (boundaries : List ℕ) (room : ℕ) (success : (list_verdict w h boundaries room).number ≡ 0) where
   abbrev count : ℕ
   count = pair_count (boundary_count boundaries)
 
-  found : (sides_fault w h ≡ none) × (boundaries_fault w h boundaries ≡ none) × (unless (leb (numbers_per_separation * count) room) ≡ none) × ((list_verdict w h boundaries room).value ≡ count)
+  found : (sides_fault w h ≡ None) × (boundaries_fault w h boundaries ≡ None) × (unless (leb (numbers_per_separation * count) room) ≡ None) × ((list_verdict w h boundaries room).value ≡ count)
   unfolding list_verdict
   found =
       none_found (sides_fault w h) (unless (is_whole numbers_per_boundary boundaries)) (boundaries_fault w h boundaries) (unless (leb (numbers_per_separation * count) room))

@@ -174,14 +174,12 @@ fn fill_rest(bytes: &[u8], at: usize, first: usize, count: usize, out: &mut [u64
     ensures { out.new ≡ sets out.old first (values_at grammar.number bytes.now at (count - first)) }
 {
     let mut next = at;
-    let mut i = first;
-    while i < count {
+    for i in first..count {
         let ItemRead::Item(value, behind) = item(bytes, next, MOST) else {
             return;
         };
         out[i] = value;
         next = behind;
-        i += 1;
     }
 }
 
@@ -191,15 +189,13 @@ pub fn fill_numbers(bytes: &[u8], at: usize, count: usize, out: &mut [u64])
     ensures { out.new ≡ overwrite (values_at grammar.number bytes.now at count) out.old }
 {
     let mut next = at;
-    let mut i = 0;
-    while i < count {
+    for i in 0..count {
         let ShortRead::Number(value, behind) = short_at(bytes, next) else {
             fill_rest(bytes, next, i, count, &mut *out);
             return;
         };
         out[i] = value;
         next = behind;
-        i += 1;
     }
 }
 
@@ -209,14 +205,12 @@ fn fill_cells(bytes: &[u8], at: usize, count: usize, out: &mut [u8])
     ensures { out.new ≡ overwrite (values_at cell bytes.now at count) out.old }
 {
     let mut next = at;
-    let mut i = 0;
-    while i < count {
+    for i in 0..count {
         let ItemRead::Item(value, behind) = item(bytes, next, CELL_MOST) else {
             return;
         };
         out[i] = value as u8;
         next = behind;
-        i += 1;
     }
 }
 
@@ -537,10 +531,8 @@ pub fn fill_endpoints(boundaries: &[u64], count: usize, spans: &mut [u64])
     requires { (9 * count ≤ length boundaries.now) × (4 * count ≤ length spans.old) }
     ensures { spans.new ≡ overwrite (endpoints_in count boundaries.now) spans.old }
 {
-    let mut i = 0;
-    while i < count {
+    for i in 0..count {
         put_endpoints(boundaries, i, &mut *spans);
-        i += 1;
     }
 }
 

@@ -3,7 +3,7 @@ use Prim.Native.Nat.{ℕ, zero, suc, ◌≤◌, ◌<◌}
 use native.Mathlib.Omega.{arith}
 use mathlib.Core.Path.{◌≡◌, refl, sym, ap, ◌∙◌}
 use mathlib.Core.Bool.{Bool, true, false}
-use mathlib.Core.Option.{Option, none, some}
+use Rattle.std.specs.Prelude.{Option, None, Some}
 use mathlib.Core.List.{List, [], ◌∷◌}
 use lib.Dec.{leb}
 use lib.ListN.{length}
@@ -42,19 +42,19 @@ numbered-map s =
 
 -- by the first refusal before 10, by 10, and by how many bytes there are
 by_refusal : Option Refusal → Option Refusal → ℕ → Answer
-by_refusal none ten n = first_refusal (ten ∷ []) n
-by_refusal (some r) ten n = record { number = r.number; value = r.place }
+by_refusal None ten n = first_refusal (ten ∷ []) n
+by_refusal (Some r) ten n = record { number = r.number; value = r.place }
 
 in_order : (a b c d e f g : Option Refusal) (n : ℕ)
     → first_refusal (a ∷ b ∷ c ∷ d ∷ e ∷ f ∷ g ∷ []) n ≡ by_refusal (or_else a (or_else (or_else b (or_else c d)) (or_else e f))) g n
 unfolding by_refusal
-in_order (some r) b c d e f g n = refl
-in_order none (some r) c d e f g n = refl
-in_order none none (some r) d e f g n = refl
-in_order none none none (some r) e f g n = refl
-in_order none none none none (some r) f g n = refl
-in_order none none none none none (some r) g n = refl
-in_order none none none none none none g n = refl
+in_order (Some r) b c d e f g n = refl
+in_order None (Some r) c d e f g n = refl
+in_order None None (Some r) d e f g n = refl
+in_order None None None (Some r) e f g n = refl
+in_order None None None None (Some r) f g n = refl
+in_order None None None None None (Some r) g n = refl
+in_order None None None None None None g n = refl
 
 answered : (s : Sheet) (room : ℕ)
     → convert_answer (well_formed s) room ≡ by_refusal (refusal_for s) (refusal 10 (unless (leb (length (sheet_bytes 3 s)) room))) (length (sheet_bytes 3 s))
@@ -67,7 +67,7 @@ module _ (bytes : List ℕ) (plan : Plan) (lent : List ℕ) where
   s : Sheet
   s = sheet_of bytes plan
 
-  pub plan-refused : {number place : ℕ} → some (record { number = number; place = place }) ≡ refusal_for (sheet_of bytes plan)
+  pub plan-refused : {number place : ℕ} → Some (record { number = number; place = place }) ≡ refusal_for (sheet_of bytes plan)
       → ConvertsPlan bytes plan lent (answer number place) lent
   unfolding by_refusal s
   plan-refused {number} {place} e =
@@ -80,7 +80,7 @@ module _ (bytes : List ℕ) (plan : Plan) (lent : List ℕ) where
       go zero h = absurd (omega arith)
       go (suc n) h = refl
 
-  module _ (None-found : none ≡ refusal_for (sheet_of bytes plan)) where
+  module _ (None-found : None ≡ refusal_for (sheet_of bytes plan)) where
     by_room : (t : Bool) → leb (length (sheet_bytes 3 s)) (length lent) ≡ t
         → convert_answer (well_formed (sheet_of bytes plan)) (length lent) ≡ first_refusal (refusal 10 (unless t) ∷ []) (length (sheet_bytes 3 s))
     unfolding by_refusal s

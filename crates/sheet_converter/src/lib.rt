@@ -76,8 +76,7 @@ fn cells_fault(bytes: &[u8], at: usize, count: usize) -> Fault
     ensures { place_of result ≡ elevations_fault (values_at cell bytes.now at count) }
 {
     let mut next = at;
-    let mut i = 0;
-    while i < count {
+    for i in 0..count {
         let ItemRead::Item(value, behind) = item(bytes, next, CELL_MOST) else {
             return Fault::Nowhere;
         };
@@ -85,7 +84,6 @@ fn cells_fault(bytes: &[u8], at: usize, count: usize) -> Fault
             return Fault::At(i);
         }
         next = behind;
-        i += 1;
     }
     Fault::Nowhere
 }
@@ -97,12 +95,10 @@ fn same_numbers(a: &[u64], b: &[u64]) -> bool
     if a.len() != b.len() {
         return false;
     }
-    let mut i = 0;
-    while i < a.len() {
+    for i in 0..a.len() {
         if a[i] != b[i] {
             return false;
         }
-        i += 1;
     }
     true
 }

@@ -38,14 +38,12 @@ fn spend_cells(room: Room, cells: &[u8]) -> Room
         return Room::Short;
     };
     let mut left = whole;
-    let mut i = 0;
-    while i < cells.len() {
+    for i in 0..cells.len() {
         let size = group_count(number_of_byte(cells[i]));
         if left < size {
             return Room::Short;
         }
         left -= size;
-        i += 1;
     }
     Room::Left(left)
 }
@@ -85,10 +83,8 @@ fn put_cells(out: &mut [u8], at: usize, cells: &[u8]) -> usize
     ensures { Put out.old at (concat_map shortest cells.now) out.new result }
 {
     let mut next = at;
-    let mut i = 0;
-    while i < cells.len() {
+    for i in 0..cells.len() {
         next = put_shortest(&mut *out, next, number_of_byte(cells[i]));
-        i += 1;
     }
     next
 }

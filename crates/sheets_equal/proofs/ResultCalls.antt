@@ -3,7 +3,7 @@
 use Rattle.std.specs.Prelude.{ℕ, ◌*◌, ◌/◌, ◌<◌, ◌↔◌, Bool, true, false, ◌&&◌, cond, List, [], leb, length, take, get_or}
 use Rattle.std.proofs.Common.{arith, sym, ◌∙◌}
 use Rattle.std.proofs.Math.Path.{◌≡◌, refl, ap, subst}
-use Rattle.std.proofs.Math.Option.{Option, none, some}
+use Rattle.std.specs.Prelude.{Option, None, Some}
 use Rattle.definitions.specs.Limits.{tallies_per_span, numbers_per_pair, numbers_per_row}
 use Rattle.definitions.specs.Lists.{overwrite}
 use Rattle.definitions.specs.SheetNumber.{Read, found, failed}
@@ -63,8 +63,8 @@ gives_result =
 
 module _ (bytes : List ℕ) where
   judged-kept : (fault : Option ℕ) (t : Result) {r : Result} → judged_by fault t ≡ well_formed r → t ≡ r
-  judged-kept none t q = cc
-  judged-kept (some place) t q = absurd (let z : ◌≡◌ {A = ℕ} 0 1 = cc in omega arith)
+  judged-kept None t q = cc
+  judged-kept (Some place) t q = absurd (let z : ◌≡◌ {A = ℕ} 0 1 = cc in omega arith)
 
   whole : {r : Result} → read_result bytes ≡ well_formed r → Whole r
   unfolding read_result reading
@@ -75,8 +75,8 @@ module _ (bytes : List ℕ) where
       go (failed number place) e q = absurd (let z : ◌≡◌ {A = ℕ} 0 1 = cc in omega arith)
 
   judged-above : (fault : Option ℕ) (t : Result) {number place : ℕ} → judged_by fault t ≡ refused number place → 0 < number
-  judged-above none t q = absurd (let z : ◌≡◌ {A = ℕ} 0 1 = cc in omega arith)
-  judged-above (some at) t {number} q =
+  judged-above None t q = absurd (let z : ◌≡◌ {A = ℕ} 0 1 = cc in omega arith)
+  judged-above (Some at) t {number} q =
       let same : 15 ≡ number = cc in
       omega arith
 

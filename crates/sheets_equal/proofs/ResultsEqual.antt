@@ -2,7 +2,7 @@
 -- state the same result (document 02, requests 1 and 3: "for both kinds"). What is assumed: the bytes are below 256.
 use Rattle.std.specs.Prelude.{ℕ, zero, suc, ◌+◌, ◌*◌, ◌/◌, ◌≡◌, refl, ◌↔◌, List, [], ◌∷◌, ◌++◌, length, get_or}
 use Rattle.std.proofs.Common.{arith, sym, ap, ◌∙◌, append_assoc, append-nil, length-append}
-use Rattle.std.proofs.Math.Option.{Option, none, some}
+use Rattle.std.specs.Prelude.{Option, None, Some}
 use Rattle.definitions.specs.Limits.{tallies_per_span, numbers_per_pair, numbers_per_row}
 use Rattle.definitions.specs.Scan.{concat_map}
 use Rattle.definitions.specs.SheetNumber.{Read, found, failed, number}
@@ -131,8 +131,8 @@ read-written bytes {r} B h = go (result 0 bytes) refl h
 
     -- the rules, which were kept, do not alter what is stated
     kept : (fault : Option ℕ) (t : Result) → judged_by fault t ≡ well_formed r → t ≡ r
-    kept none t q = cc
-    kept (some place) t q = absurd (not-refused q)
+    kept None t q = cc
+    kept (Some place) t q = absurd (not-refused q)
 
     go : (read : Read Placed) → result 0 bytes ≡ read → reading read ≡ well_formed r → bytes ≡ result_bytes r
     go (found p next rest) e q =

@@ -3,7 +3,7 @@ use Prim.Native.Nat.{ℕ, ◌<◌}
 use native.Mathlib.Omega.{arith}
 use mathlib.Core.Path.{◌≡◌, sym, ap, ◌∙◌}
 use mathlib.Core.Bool.{true, not, ◌&&◌}
-use mathlib.Core.Option.{none}
+use Rattle.std.specs.Prelude.{None}
 use lib.ListN.{length, get_or}
 use lib.Dec.{leb}
 use borrow.Author.Tests.{leb-false, not-true}
@@ -13,7 +13,7 @@ use Rattle.definitions.specs.Refusals.{elevations_fault}
 use Rattle.laws.specs.ListLaws.NoFault.{none_faulty}
 
 module _ (M : Map) (bytes_long : length M.cells ≡ cell_count M) where
-  pub low-elevations : elevations_fault M.cells ≡ none → (c : ℕ) → c < cell_count M → walkable_at M c ≡ true → elevation (cell_at M c) < 4
+  pub low-elevations : elevations_fault M.cells ≡ None → (c : ℕ) → c < cell_count M → walkable_at M c ≡ true → elevation (cell_at M c) < 4
   unfolding elevations_fault
   low-elevations h c l w = leb-false 4 (elevation (cell_at M c)) (not-true (leb 4 (elevation (cell_at M c))) (sym (ap (λ b. not (b && leb 4 (elevation (cell_at M c)))) w) ∙ passes))
     where

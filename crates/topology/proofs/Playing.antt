@@ -3,7 +3,7 @@
 use Prim.Native.Nat.{ℕ, ◌*◌, ◌≤◌}
 use native.Mathlib.Omega.{arith}
 use mathlib.Core.Path.{◌≡◌, refl, sym, ap, ap₂, subst, ◌∙◌}
-use mathlib.Core.Option.{none}
+use Rattle.std.specs.Prelude.{None}
 use mathlib.Core.List.{List, map}
 use lib.ListN.{length, drop, length-append, length-map}
 use Rattle.definitions.specs.Lists.{zeroed}
@@ -85,7 +85,7 @@ module _ {pass w h : ℕ} {cells spans boundaries anchors : List ℕ} {room outp
           → a ≡ late_answer r.kept r.regions goal → v₂ ≡ verdicts_at_exit (graph_of r.regions (edges_in p₂ r.rows) goal) v a.number
           → PlayedOver pass (lends w h cells spans boundaries anchors l m q t p s o) goal v a (leaves l₂ m₂ q₂ t₂ p₂ s₂ o₂) v₂
       played-over goal v {a} {v₂} long wide table answer filled =
-          let early : none ≡ game_early pass w h cells spans boundaries anchors (length l) (length m) (length q) (length t) (length o) (length v)
+          let early : None ≡ game_early pass w h cells spans boundaries anchors (length l) (length m) (length q) (length t) (length o) (length v)
           = ready-early G ∙ ap₂ (game_early pass w h cells spans boundaries anchors (length l) (length m) (length q) (length t)) (sym wide) (sym table) in
           let few : region_count M ≤ length (map record_of s) = omega (arith, G.ready.enough, length-map s record_of, long) in
           let is : a ≡ late_answer (length (rows_of pass M)) (region_count K) goal = answer ∙ ap₂ (λ k n. late_answer k n goal) R.kept R.regions in

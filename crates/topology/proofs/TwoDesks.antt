@@ -4,7 +4,7 @@ use Prim.Native.Nat.{ℕ, ◌*◌, ◌/◌, ◌≤◌}
 use native.Mathlib.Omega.{arith}
 use mathlib.Core.Path.{◌≡◌, refl, sym, ap, ap₂, ◌∙◌, subst}
 use mathlib.Core.Bool.{Bool, false}
-use mathlib.Core.Option.{none, some}
+use Rattle.std.specs.Prelude.{None, Some}
 use mathlib.Core.List.{List, [], map}
 use lib.ListN.{length, drop, replicate, length-map}
 use Rattle.definitions.specs.Limits.{max_side, max_entries, numbers_per_span, numbers_per_boundary}
@@ -46,7 +46,7 @@ use Rattle.topology.specs.declared.two_desks.DesksAnswer.{DesksAnswer}
 use Rattle.topology.proofs.Calling.{is_pass, ready-lent, ran_over, needed-few}
 
 -- a desk with this refusal before all others
-served-refused : (S : Shared) (D : Desk) {number place : ℕ} → first_of S D ≡ some (record { number = number; place = place })
+served-refused : (S : Shared) (D : Desk) {number place : ℕ} → first_of S D ≡ Some (record { number = number; place = place })
     → Served S D (record { number = number; value = place }) D.output
 unfolding desk_answer desk_output
 served-refused S D e =
@@ -71,7 +71,7 @@ module _ {G : Ground} {w h : ℕ} {spans : List ℕ} {regions rows : ℕ} {l m q
   needed-within = (omega (arith, (ready-fit R).masks_long, P.masks_long), omega (arith, (ready-fit R).queue_long_lem, P.queue_long_lem))
 
   -- the shared lists are not refused
-  pub none_shared : shared_refusal (shared_of w h spans G) ≡ none
+  pub none_shared : shared_refusal (shared_of w h spans G) ≡ None
   none_shared =
       shared-numbered (shared_of w h spans G)
       (ap (λ (a : verdict.Answer). a.number)
@@ -117,10 +117,10 @@ module _ {G : Ground} {w h : ℕ} {spans : List ℕ} {regions rows : ℕ} {l m q
 
     -- they are not
     pub desk-passed : {a : TopologyAnswer} → exported a ≡ answer_from (own_refusal w h spans pass boundaries anchors (length o)) 0 → a.number ≡ 0
-        → own_refusal w h spans pass boundaries anchors (length o) ≡ none
+        → own_refusal w h spans pass boundaries anchors (length o) ≡ None
     desk-passed e zero = own-numbered w h spans pass boundaries anchors (length o) 0 (sym (ap (λ (x : verdict.Answer). x.number) e) ∙ zero)
 
-    module _ (passed : own_refusal w h spans pass boundaries anchors (length o) ≡ none) where
+    module _ (passed : own_refusal w h spans pass boundaries anchors (length o) ≡ None) where
       abbrev M : Map
       M = map_of w h G.cells spans boundaries anchors
 

@@ -61,12 +61,10 @@ pub fn judge_interiors(
         owners.now firsts.now seconds.now count →
         Collapsed C count removed.new }
 {
-    let mut i = 0;
-    while i < count {
+    for i in 0..count {
         let interior = interior_at(pairs, starts, owners, firsts, seconds, count, i);
         let fits = interior_fits(records, boundaries, pairs, names, interior);
         mark_edges(owners, count, interior.name, fits, removed);
-        i += 1;
     }
 }
 

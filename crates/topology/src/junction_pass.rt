@@ -26,13 +26,11 @@ pub fn allow_proposals(
         Allows C records.now boundaries.now marks.now rows.now n →
         Allowed C rows.now n allowed.new }
 {
-    let mut k = 0;
-    while k < n {
+    for k in 0..n {
         let first = record_at(records, first_place(rows, k));
         let second = record_at(records, second_place(rows, k));
         let fits = is_allowed(boundaries, marks, rows, k, first, second);
         put_allowed(allowed, k, fits);
-        k += 1;
     }
 }
 

@@ -35,8 +35,7 @@ pub fn corners_near(
         result ≡ corners_near_lem C (proposal_of C m a outer kind) }
 {
     let count = places(pairs, starts, m);
-    let mut k = 0;
-    while k < count {
+    for k in 0..count {
         let r = wide(inner_region(pairs, starts, m, outer, k));
         if r != 0 {
             let region = record_at(records, r - 1);
@@ -44,7 +43,6 @@ pub fn corners_near(
                 return false;
             }
         }
-        k += 1;
     }
     true
 }
@@ -73,8 +71,7 @@ pub fn best_near(
         ≡ near_least C mouths.now ramps.now outers.now kinds.now marked.now n }
 {
     let mut best = n;
-    let mut k = 0;
-    while k < n {
+    for k in 0..n {
         if better_marked(boundaries, mouths, ramps, separations, marked, n, best, k) == k {
             if corners_near(
                 records,
@@ -89,7 +86,6 @@ pub fn best_near(
                 best = k;
             }
         }
-        k += 1;
     }
     best
 }

@@ -53,10 +53,8 @@ fn put_numbers(numbers: &mut [u64], at: usize, r: Region)
     ensures { numbers.new ≡ sets numbers.old at (record_numbers (record_of r)) }
 {
     let n = numbers_of(r);
-    let mut i = 0;
-    while i < NUMBERS_PER_RECORD {
+    for i in 0..NUMBERS_PER_RECORD {
         numbers[at + i] = n[i];
-        i += 1;
     }
 }
 
@@ -66,10 +64,8 @@ pub fn put_records(records: [Region; RECORDS_HERE], first: usize, numbers: &mut 
 {
     let lent = least(first, RECORDS_HERE);
     let count = least(lent, numbers.len() / NUMBERS_PER_RECORD);
-    let mut i = 0;
-    while i < count {
+    for i in 0..count {
         let r = records[i];
         put_numbers(numbers, NUMBERS_PER_RECORD * i, r);
-        i += 1;
     }
 }

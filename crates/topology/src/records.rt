@@ -59,10 +59,8 @@ pub fn clear_records(records: &mut [Region], needed: usize)
     ensures { Emptied needed records.old records.new }
 {
     let empty = Region::empty();
-    let mut i = 0;
-    while i < needed {
+    for i in 0..needed {
         put_record(records, i, empty);
-        i += 1;
     }
 }
 

@@ -6,7 +6,7 @@ use Rattle.std.proofs.Common.{arith, ap₂, ◌∙◌, true≢false}
 use Rattle.std.specs.Prelude.{◌≡◌, ◌&&◌, List, leb}
 use Rattle.std.proofs.Math.Path.{refl, sym, ap}
 use Rattle.std.proofs.Math.Bool.{Bool, true, false, not, cond}
-use Rattle.std.proofs.Math.Option.{none}
+use Rattle.std.specs.Prelude.{None}
 use Rattle.std.proofs.Math.Dec.{eqb, ltb}
 use borrow.Author.Tests.{eqb-true, eqb-false, eq-eqb, ne_eqb, ltb-true, ltb-false, le-ltb, le-leb, leb-true, not-true}
 use Rattle.definitions.specs.Scan.{any_below_lem}
@@ -162,7 +162,7 @@ chain l i ok = go (previous l i) refl
         rules_last l i ok k (omega (arith, last_within (on_same_map l i) i))
         (eqb-true (accession_at l k).on_map (accession_at l i).on_map (last_passes (on_same_map l i) i k e)) (λ j h m. none_behind (on_same_map l i) i j (omega arith) m)
 
-pub each_linked : (l : List ℕ) → accessions_fault l ≡ none → (i : ℕ) → i < accession_count l → Link l i
+pub each_linked : (l : List ℕ) → accessions_fault l ≡ None → (i : ℕ) → i < accession_count l → Link l i
 unfolding previous follows on_same_map
 each_linked l f i h = go (previous l i) refl (both (own_ascends l i) (follows l i (previous l i)) (sym (chain l i (λ j k. ok j (omega arith))) ∙ ok i h)).1
   where

@@ -9,7 +9,7 @@ use Rattle.std.proofs.Math.Path.{refl}
 use Rattle.std.proofs.Common.{sym, ap, ◌∙◌}
 use Rattle.std.proofs.Math.Bool.{Bool, true, false, not}
 use Rattle.std.proofs.lemmas.Bool.{false≢true}
-use Rattle.std.proofs.Math.Option.{none}
+use Rattle.std.specs.Prelude.{None}
 use Rattle.std.proofs.Math.Dec.{eqb, ltb}
 use borrow.Author.Tests.{eqb-true, eqb-false, eq-eqb, ne_eqb, ltb-true, ltb-false, lt-ltb, le-ltb, not-true}
 use Rattle.definitions.specs.Scan.{any_below_lem}
@@ -195,18 +195,18 @@ module _ (l : List ℕ) (n : ℕ) (ok : Keep l n) where
           ∙ joined (superseded_below l i a) (later_below l i a) (eqb (accession_at l i).superseded (accession_at l a).own) (eqb (accession_at l i).on_map (accession_at l a).on_map) (ih a c) (one_more i (omega arith) ih a c)
           ∙ sym (later_next i a c)
 
-pub kept : (l : List ℕ) → accessions_fault l ≡ none → Keep l (accession_count l)
+pub kept : (l : List ℕ) → accessions_fault l ≡ None → Keep l (accession_count l)
 unfolding accessions_fault
 kept l h = none_faulty (keeps_rules l) (accession_count l) h
 
 -- "its one record that nothing supersedes": the record of its map that no later one of the map follows
-pub current_last : (l : List ℕ) → accessions_fault l ≡ none → (a : ℕ) → a < accession_count l → is_current l a ≡ not (later_below l (accession_count l) a)
+pub current_last : (l : List ℕ) → accessions_fault l ≡ None → (a : ℕ) → a < accession_count l → is_current l a ≡ not (later_below l (accession_count l) a)
 unfolding is_current superseded_below
 current_last l h a k = ap not (superseded-later l (accession_count l) (kept l h) (accession_count l) (omega arith) a k)
 
 -- and there is no other
 pub current-unique :
-    (l : List ℕ) → accessions_fault l ≡ none → (a b : ℕ) → a < accession_count l → b < accession_count l → (accession_at l a).on_map ≡ (accession_at l b).on_map
+    (l : List ℕ) → accessions_fault l ≡ None → (a b : ℕ) → a < accession_count l → b < accession_count l → (accession_at l a).on_map ≡ (accession_at l b).on_map
     → is_current l a ≡ true → is_current l b ≡ true → a ≡ b
 current-unique l h a b k m e f g =
     one_last l (accession_count l) (kept l h) (accession_count l) a b k m e (not-true _ (sym (current_last l h a k) ∙ f)) (not-true _ (sym (current_last l h b m) ∙ g))

@@ -4,7 +4,7 @@ use Prim.Native.Nat.{ℕ, zero, suc, ◌≤◌, ◌<◌}
 use Rattle.std.proofs.Common.{arith, sym, ap, ◌∙◌, true≢false}
 use Rattle.std.specs.Prelude.{◌≡◌, refl, ◌↔◌, Bool, not, ◌&&◌, ltb}
 use Rattle.std.proofs.Math.Bool.{true, false}
-use Rattle.std.proofs.Math.Option.{none}
+use Rattle.std.specs.Prelude.{None}
 use mathlib.Core.List.{List, [], ◌∷◌, ◌++◌, Memᴰ}
 use Rattle.std.proofs.Math.Dec.{eqb}
 use borrow.Author.Tests.{eqb-true, eq-eqb, lt-ltb, ltb-true, not-true}
@@ -25,7 +25,7 @@ pub data Descends : List Accession → Type 0 where
   ended : Descends []
   above : {x : Accession} {l : List Accession} → All (λ y. y.own < x.own) l → Descends l → Descends (x ∷ l)
 
-module _ (l : List ℕ) (own : ℕ) (h : accessions_fault l ≡ none) where
+module _ (l : List ℕ) (own : ℕ) (h : accessions_fault l ≡ None) where
   -- "every record of its map"
   pub line_members : (i : ℕ) → i < accession_count l → Memᴰ (accession_at l i) (line_of l own) ↔ (on_line_of l own i ≡ true)
   line_members i k = (there, back)
@@ -106,7 +106,7 @@ pub record Current (l : List ℕ) (number : ℕ) : Type 0 where
   pub current : is_current l place ≡ true
   pub last : (j : ℕ) → place < j → j < accession_count l → is_of_map l number j ≡ false
 
-pub current-found : (l : List ℕ) → accessions_fault l ≡ none → (j : ℕ) → j < accession_count l → Current l (accession_at l j).on_map
+pub current-found : (l : List ℕ) → accessions_fault l ≡ None → (j : ℕ) → j < accession_count l → Current l (accession_at l j).on_map
 unfolding is_of_map later_below on_same_map
 current-found l h j k = go (last_below (accession_count l) p) refl
   where

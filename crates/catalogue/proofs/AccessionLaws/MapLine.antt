@@ -4,7 +4,7 @@ use Rattle.std.proofs.Common.{arith, sym, ap₂, ◌∙◌, eqb-true, eq-eqb, ne
 use Rattle.std.specs.Prelude.{◌≡◌, true, ◌&&◌, List, []}
 use Rattle.std.proofs.Math.Path.{ap}
 use Rattle.std.proofs.Math.Bool.{Bool, false}
-use Rattle.std.proofs.Math.Option.{none}
+use Rattle.std.specs.Prelude.{None}
 use Rattle.std.proofs.Math.Dec.{eqb}
 use Rattle.definitions.specs.Scan.{collect}
 use Rattle.laws.specs.ListLaws.Tests.{both, same_test}
@@ -18,7 +18,7 @@ use Rattle.catalogue.specs.AccessionLaws.MapLine.{is_of_map, map_line}
 
 module _ (l : List ℕ) (own : ℕ) where
   pub on_line :
-      accessions_fault l ≡ none → (j : ℕ) → j < accession_count l → (accession_at l j).own ≡ own
+      accessions_fault l ≡ None → (j : ℕ) → j < accession_count l → (accession_at l j).own ≡ own
       → (i : ℕ) → on_line_of l own i ≡ is_of_map l (accession_at l j).on_map i
   unfolding on_line_of on_same_map is_of_map
   on_line h j k e i = same_test there back ∙ eqb_sym (accession_at l j).on_map (accession_at l i).on_map
@@ -37,7 +37,7 @@ module _ (l : List ℕ) (own : ℕ) where
       back t = below_at (accession_count l) f j k (ap₂ ◌&&◌ (eq-eqb (accession_at l j).own own e) t)
 
   pub line-of-record :
-      accessions_fault l ≡ none → (j : ℕ) → j < accession_count l → (accession_at l j).own ≡ own
+      accessions_fault l ≡ None → (j : ℕ) → j < accession_count l → (accession_at l j).own ≡ own
       → line_of l own ≡ map_line l (accession_at l j).on_map
   unfolding line_of map_line newest_first
   line-of-record h j k e = newest_ext l (on_line_of l own) (is_of_map l (accession_at l j).on_map) (accession_count l) (λ i m. on_line h j k e i)

@@ -2,7 +2,7 @@
 -- of the numbers that stand in the output, read back four by four, as many records as the answer counts. Assumes nothing.
 use Rattle.std.specs.Prelude.{ℕ, zero, suc, ◌*◌, ◌<◌, ◌≡◌, refl, ◌↔◌, Bool, true, false, drop, leb}
 use Rattle.std.proofs.Common.{arith, sym, ap, ◌∙◌}
-use Rattle.std.proofs.Math.Option.{Option, none, some}
+use Rattle.std.specs.Prelude.{Option, None, Some}
 use mathlib.Core.List.{List, [], ◌∷◌, ◌++◌, Memᴰ}
 use Rattle.std.proofs.Math.ListN.{length}
 use Rattle.definitions.specs.Scan.{concat_map}
@@ -30,16 +30,16 @@ read-flat (r ∷ x) rest = ap {B = List Accession} (λ t. r ∷ t) (read-flat x 
 
 -- success says that no check refused
 accepted : (f : Bool) (o : Option ℕ) (b : Bool) (n : ℕ) → (first_refusal (refusal 3 (unless f) ∷ refusal 17 o ∷ refusal 10 (unless b) ∷ []) n).number ≡ 0
-    → (o ≡ none) × ((first_refusal (refusal 3 (unless f) ∷ refusal 17 o ∷ refusal 10 (unless b) ∷ []) n).value ≡ n)
-accepted true none true n h = (refl, refl)
-accepted true none false n h = absurd (omega arith)
-accepted true (some i) b n h = absurd (omega arith)
+    → (o ≡ None) × ((first_refusal (refusal 3 (unless f) ∷ refusal 17 o ∷ refusal 10 (unless b) ∷ []) n).value ≡ n)
+accepted true None true n h = (refl, refl)
+accepted true None false n h = absurd (omega arith)
+accepted true (Some i) b n h = absurd (omega arith)
 accepted false o b n h = absurd (omega arith)
 
 module _
     (l : List ℕ) (own : ℕ) (before : List ℕ) (answer : Answer) (output : List ℕ) (said : answer ≡ line_verdict l own (length before))
     (left : output ≡ line_at_exit answer.number l own before) (success : answer.number ≡ 0) where
-  checked : (accessions_fault l ≡ none) × ((line_verdict l own (length before)).value ≡ length (line_of l own))
+  checked : (accessions_fault l ≡ None) × ((line_verdict l own (length before)).value ≡ length (line_of l own))
   unfolding line_verdict
   checked =
       accepted (is_finished l) (accessions_fault l) (leb (numbers_per_accession * length (line_of l own)) (length before)) (length (line_of l own))

@@ -6,7 +6,7 @@ use Rattle.std.proofs.Common.{arith, ap₂, ◌∙◌, true≢false}
 use Rattle.std.specs.Prelude.{◌≡◌, ◌&&◌, List, leb}
 use Rattle.std.proofs.Math.Path.{refl, sym, ap}
 use Rattle.std.proofs.Math.Bool.{Bool, true, false, not, cond}
-use Rattle.std.proofs.Math.Option.{none}
+use Rattle.std.specs.Prelude.{None}
 use Rattle.std.proofs.Math.Dec.{eqb, ltb}
 use borrow.Author.Tests.{eqb-true, eqb-false, eq-eqb, ne_eqb, ltb-true, ltb-false, le-ltb, le-leb, leb-true, not-true}
 use Rattle.definitions.specs.Scan.{any_below_lem}

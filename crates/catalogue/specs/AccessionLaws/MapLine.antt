@@ -4,7 +4,7 @@ use Rattle.std.proofs.Common.{arith, sym, ap₂, ◌∙◌, eqb-true, eq-eqb, ne
 use Rattle.std.specs.Prelude.{◌≡◌, true, ◌&&◌, List, []}
 use Rattle.std.proofs.Math.Path.{ap}
 use Rattle.std.proofs.Math.Bool.{Bool, false}
-use Rattle.std.proofs.Math.Option.{none}
+use Rattle.std.specs.Prelude.{None}
 use Rattle.std.proofs.Math.Dec.{eqb}
 use Rattle.definitions.specs.Scan.{collect}
 use Rattle.laws.specs.ListLaws.Tests.{both, same_test}

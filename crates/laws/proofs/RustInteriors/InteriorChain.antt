@@ -5,7 +5,8 @@ use Rattle.std.specs.Prelude.{ℕ, zero, suc, ◌<◌, ◌≤◌, ◌≡◌, ◌
 use Rattle.std.proofs.Common.{arith, ◌∙◌, true≢false, lt-ltb}
 use Rattle.std.proofs.Math.Path.{refl, sym, ap, ap₂}
 use Rattle.std.proofs.Math.Bool.{Bool, true, false, not, ◌&&◌, cond, or-false, and_assoc, not-not}
-use Rattle.std.proofs.Math.Option.{none, some, map}
+use Rattle.std.specs.Prelude.{None, Some}
+use Rattle.std.specs.Prelude.{option_map}
 use mathlib.Core.List.{List, [], ◌∷◌, ◌++◌}
 use Rattle.std.proofs.Math.Dec.{eqb}
 use Rattle.std.specs.Float.Ieee.{le}
@@ -123,9 +124,9 @@ module _ (C : Context) (sound : Sound C) (checked : Checked C) where
       proposal = record { regions = expanded.regions; edges = es; first_port = a; second_port = b }
 
       -- the walk over the ports
-      pushed_is : push_interior C (set_extend [] rs) es a b (C.boundary a) ≡ cond expanded.valid (some (rendered C proposal)) none
+      pushed_is : push_interior C (set_extend [] rs) es a b (C.boundary a) ≡ cond expanded.valid (Some (rendered C proposal)) None
       unfolding push_interior
-      pushed_is = ap (λ s. cond s.valid (some (record { regions = s.regions; edges = es; first_port = a; second_port = b; ramp_id = (C.boundary a).ramp_id })) none) (ports-are C a b ha hb (record { regions = rs; valid = true }))
+      pushed_is = ap (λ s. cond s.valid (Some (record { regions = s.regions; edges = es; first_port = a; second_port = b; ramp_id = (C.boundary a).ramp_id })) None) (ports-are C a b ha hb (record { regions = rs; valid = true }))
 
       -- the tests of the ramps
       tests-are : no_ramp C a ≡ false → no_ramp C b ≡ false → (not (full_cut_at C a) || not (full_cut_at C b) || not (eqb (C.boundary a).ramp_id (C.boundary b).ramp_id) || other_ends (C.boundary a).kind (C.boundary b).kind) ≡ not (ports_fit C a b)
@@ -147,15 +148,15 @@ module _ (C : Context) (sound : Sound C) (checked : Checked C) where
       unfit x y ra rb e =
           ap (λ t. t && full_cut C a && full_cut C b && eqb (C.boundary a).ramp_id (C.boundary b).ramp_id && not (eqb (C.boundary a).kind (C.boundary b).kind)) ((λ i. not (ra i) && not (rb i)) ∙ e)
 
-      kept : (v : Bool) → keep_if (is_retained C) (cond v (some (rendered C proposal)) none) ≡ map (rendered C) (only_if (v && (any (λ q. has_ramp (C.region q)) expanded.regions && all (region_fits C a b) expanded.regions)) proposal)
+      kept : (v : Bool) → keep_if (is_retained C) (cond v (Some (rendered C proposal)) None) ≡ option_map (rendered C) (only_if (v && (any (λ q. has_ramp (C.region q)) expanded.regions && all (region_fits C a b) expanded.regions)) proposal)
       kept false = refl
       kept true = ap (λ t. only_if t (rendered C proposal)) (retained_is expanded.regions es (port-inhabited (expand_port C (record { regions = rs; valid = true }) a) b (port-inhabited (record { regions = rs; valid = true }) a h))) ∙ pass (any (λ q. has_ramp (C.region q)) expanded.regions && all (region_fits C a b) expanded.regions)
         where
-          pass : (t : Bool) → only_if t (rendered C proposal) ≡ map (rendered C) (only_if t proposal)
+          pass : (t : Bool) → only_if t (rendered C proposal) ≡ option_map (rendered C) (only_if t proposal)
           pass true = refl
           pass false = refl
 
-      two_ports_lem : keep_if (is_retained C) (from_ports C (set_extend [] rs) es (a ∷ b ∷ [])) ≡ map (rendered C) (interior_from C rs es (a ∷ b ∷ []))
+      two_ports_lem : keep_if (is_retained C) (from_ports C (set_extend [] rs) es (a ∷ b ∷ [])) ≡ option_map (rendered C) (interior_from C rs es (a ∷ b ∷ []))
       unfolding from_ports from_ramps interior_from
       two_ports_lem = go (no_ramp C a) refl (no_ramp C b) refl
         where
@@ -168,20 +169,20 @@ module _ (C : Context) (sound : Sound C) (checked : Checked C) where
           fits : Bool
           fits = all (region_fits C a b) expanded.regions
 
-          pick : (p : Bool) → keep_if (is_retained C) (cond (not p) none (cond valid (some (rendered C proposal)) none)) ≡ map (rendered C) (only_if (p && valid && ramped && fits) proposal)
-          pick true = kept valid ∙ ap (λ t. map (rendered C) (only_if t proposal)) (sym (and_assoc valid ramped fits))
+          pick : (p : Bool) → keep_if (is_retained C) (cond (not p) None (cond valid (Some (rendered C proposal)) None)) ≡ option_map (rendered C) (only_if (p && valid && ramped && fits) proposal)
+          pick true = kept valid ∙ ap (λ t. option_map (rendered C) (only_if t proposal)) (sym (and_assoc valid ramped fits))
           pick false = refl
 
-          nothing : ports_fit C a b ≡ false → none ≡ map (rendered C) (only_if (ports_fit C a b && valid && ramped && fits) proposal)
-          nothing e = λ i. map (rendered C) (only_if (sym e i && valid && ramped && fits) proposal)
+          nothing : ports_fit C a b ≡ false → None ≡ option_map (rendered C) (only_if (ports_fit C a b && valid && ramped && fits) proposal)
+          nothing e = λ i. option_map (rendered C) (only_if (sym e i && valid && ramped && fits) proposal)
 
-          go : (x : Bool) → no_ramp C a ≡ x → (y : Bool) → no_ramp C b ≡ y → keep_if (is_retained C) (from_ramps C (set_extend [] rs) es a b (cond x none (some (C.boundary a))) (cond y none (some (C.boundary b)))) ≡ map (rendered C) (only_if (ports_fit C a b && valid && ramped && fits) proposal)
+          go : (x : Bool) → no_ramp C a ≡ x → (y : Bool) → no_ramp C b ≡ y → keep_if (is_retained C) (from_ramps C (set_extend [] rs) es a b (cond x None (Some (C.boundary a))) (cond y None (Some (C.boundary b)))) ≡ option_map (rendered C) (only_if (ports_fit C a b && valid && ramped && fits) proposal)
           go true ra y rb = nothing (unfit true y ra rb refl)
           go false ra true rb = nothing (unfit false true ra rb refl)
-          go false ra false rb = (λ i. keep_if (is_retained C) (cond (tests-are ra rb i) none (pushed_is i))) ∙ pick (ports_fit C a b)
+          go false ra false rb = (λ i. keep_if (is_retained C) (cond (tests-are ra rb i) None (pushed_is i))) ∙ pick (ports_fit C a b)
 
   -- the proposal of the ports, whatever they are
-  pub interior_is : (rs es ports : List ℕ) → All (Inhabited C) rs → All (λ i. i < C.count) ports → keep_if (is_retained C) (from_ports C (set_extend [] rs) es ports) ≡ map (rendered C) (interior_from C rs es ports)
+  pub interior_is : (rs es ports : List ℕ) → All (Inhabited C) rs → All (λ i. i < C.count) ports → keep_if (is_retained C) (from_ports C (set_extend [] rs) es ports) ≡ option_map (rendered C) (interior_from C rs es ports)
   unfolding from_ports interior_from
   interior_is rs es [] h l = refl
   interior_is rs es (a ∷ []) h l = refl

@@ -6,8 +6,8 @@ use Rattle.std.proofs.Common.{arith, ◌∙◌}
 use Rattle.std.specs.Prelude.{◌≡◌, Bool, ◌&&◌, length}
 use Rattle.std.proofs.Math.Path.{refl, sym, ap}
 use Rattle.std.proofs.Math.Bool.{true, false, not, cond, and-false}
-use Rattle.std.proofs.Math.Option
-use Rattle.std.proofs.Math.Option.{Option, none}
+use Rattle.std.specs.Prelude.{option_map}
+use Rattle.std.specs.Prelude.{Option, None}
 use mathlib.Core.List.{List, [], ◌++◌, map, append-nil}
 use Rattle.std.proofs.Math.Dec.{eqb, leb}
 use borrow.Author.Tests.{le-ltb, eqb-true, eq-eqb}
@@ -73,25 +73,25 @@ module _ (C : Context) (sound : Sound C) (checked : Checked C) where
     edges_same : found.edges ≡ edges_of C cs r
     edges_same = edges_are C within r ordered.edges edges
 
-    from_search_lem : keep_if (is_retained C) (from_search C found) ≡ Option.map (rendered C) (interior_proposal C cs r)
+    from_search_lem : keep_if (is_retained C) (from_search C found) ≡ option_map (rendered C) (interior_proposal C cs r)
     unfolding from_search interior_proposal
     from_search_lem =
-        (λ i. keep_if (is_retained C) (cond (is_passed_over C found.regions (edges_same i)) none (cond (leaves_component C found.regions (edges_same i)) none (from_ports C found.regions (edges_same i) (ports_from C (edges_same i) [] found.regions)))))
+        (λ i. keep_if (is_retained C) (cond (is_passed_over C found.regions (edges_same i)) None (cond (leaves_component C found.regions (edges_same i)) None (from_ports C found.regions (edges_same i) (ports_from C (edges_same i) [] found.regions)))))
         ∙ go (is_passed_over C found.regions (edges_of C cs r)) refl (leaves_component C found.regions (edges_of C cs r)) refl
       where
         candidate : (p l : Bool) → is_passed_over C found.regions (edges_of C cs r) ≡ p → leaves_component C found.regions (edges_of C cs r) ≡ l → is_candidate C cs r ≡ (not p && not l)
         candidate p l hp hl = candidate_is C r within named found.regions ordered.regions regions ∙ (λ i. eq-eqb (component C r) r own i && (not (hp i) && not (hl i)))
 
-        refused : (p l : Bool) → is_passed_over C found.regions (edges_of C cs r) ≡ p → leaves_component C found.regions (edges_of C cs r) ≡ l → (not p && not l) ≡ false → none ≡ Option.map (rendered C) (cond (is_candidate C cs r) (interior_from C (component_regions C cs r) (edges_of C cs r) (component_ports C cs r)) none)
-        refused p l hp hl e = λ i. Option.map (rendered C) (cond (sym (candidate p l hp hl ∙ e) i) (interior_from C (component_regions C cs r) (edges_of C cs r) (component_ports C cs r)) none)
+        refused : (p l : Bool) → is_passed_over C found.regions (edges_of C cs r) ≡ p → leaves_component C found.regions (edges_of C cs r) ≡ l → (not p && not l) ≡ false → None ≡ option_map (rendered C) (cond (is_candidate C cs r) (interior_from C (component_regions C cs r) (edges_of C cs r) (component_ports C cs r)) None)
+        refused p l hp hl e = λ i. option_map (rendered C) (cond (sym (candidate p l hp hl ∙ e) i) (interior_from C (component_regions C cs r) (edges_of C cs r) (component_ports C cs r)) None)
 
-        go : (p : Bool) → is_passed_over C found.regions (edges_of C cs r) ≡ p → (l : Bool) → leaves_component C found.regions (edges_of C cs r) ≡ l → keep_if (is_retained C) (cond p none (cond l none (from_ports C found.regions (edges_of C cs r) (ports_from C (edges_of C cs r) [] found.regions)))) ≡ Option.map (rendered C) (cond (is_candidate C cs r) (interior_from C (component_regions C cs r) (edges_of C cs r) (component_ports C cs r)) none)
+        go : (p : Bool) → is_passed_over C found.regions (edges_of C cs r) ≡ p → (l : Bool) → leaves_component C found.regions (edges_of C cs r) ≡ l → keep_if (is_retained C) (cond p None (cond l None (from_ports C found.regions (edges_of C cs r) (ports_from C (edges_of C cs r) [] found.regions)))) ≡ option_map (rendered C) (cond (is_candidate C cs r) (interior_from C (component_regions C cs r) (edges_of C cs r) (component_ports C cs r)) None)
         go true hp l hl = refused true l hp hl refl
         go false hp true hl = refused false true hp hl refl
         go false hp false hl =
             (λ i. keep_if (is_retained C) (from_ports C (regions_are_lem C r within named found.regions ordered.regions regions (candidate false false hp hl) i) (edges_of C cs r) (ports-are C r within named found.regions ordered.regions regions i)))
             ∙ interior_is C sound checked (component_regions C cs r) (edges_of C cs r) (component_ports C cs r) (component-inhabited r) (ports-below r)
-            ∙ (λ i. Option.map (rendered C) (cond (sym (candidate false false hp hl) i) (interior_from C (component_regions C cs r) (edges_of C cs r) (component_ports C cs r)) none))
+            ∙ (λ i. option_map (rendered C) (cond (sym (candidate false false hp hl) i) (interior_from C (component_regions C cs r) (edges_of C cs r) (component_ports C cs r)) None))
 
   -- ---- where no search starts
 
@@ -107,12 +107,12 @@ module _ (C : Context) (sound : Sound C) (checked : Checked C) where
       let t0 = both e n t1.0 in
       (t0.0, sym (at_least_one (edges_of C cs r)) ∙ t0.1)
 
-  no_proposal : (r : ℕ) → is_candidate C cs r ≡ false → interior_proposal C cs r ≡ none
+  no_proposal : (r : ℕ) → is_candidate C cs r ≡ false → interior_proposal C cs r ≡ None
   unfolding interior_proposal
-  no_proposal r h = λ i. cond (h i) (interior_from C (component_regions C cs r) (edges_of C cs r) (component_ports C cs r)) none
+  no_proposal r h = λ i. cond (h i) (interior_from C (component_regions C cs r) (edges_of C cs r) (component_ports C cs r)) None
 
   -- a label that no ordinary full cut names is no candidate, nor one that is not the least of its component
-  key_only : (r : ℕ) → 1 ≤ r → is_key C r ≡ false → interior_proposal C cs r ≡ none
+  key_only : (r : ℕ) → 1 ≤ r → is_key C r ≡ false → interior_proposal C cs r ≡ None
   key_only r h k = no_proposal r (go (is_candidate C cs r) refl)
     where
       go : (b : Bool) → is_candidate C cs r ≡ b → b ≡ false
@@ -121,7 +121,7 @@ module _ (C : Context) (sound : Sound C) (checked : Checked C) where
           sym (inside-key C sound within r r h (sym (edge-found C r) ∙ t.1) t.0) ∙ k
       go false e = refl
 
-  least_only : (r : ℕ) → (component C r ≡ r → ⊥) → interior_proposal C cs r ≡ none
+  least_only : (r : ℕ) → (component C r ≡ r → ⊥) → interior_proposal C cs r ≡ None
   least_only r d = no_proposal r (go (is_candidate C cs r) refl)
     where
       go : (b : Bool) → is_candidate C cs r ≡ b → b ≡ false
@@ -131,14 +131,14 @@ module _ (C : Context) (sound : Sound C) (checked : Checked C) where
   -- ---- the loop
 
   abbrev start_proposal : ℕ → Option InteriorProposal
-  start_proposal zero = none
+  start_proposal zero = None
   start_proposal (suc k) = interior_proposal C cs (suc k)
 
   start_is : (n : ℕ) → 1 ≤ n → start_proposal n ≡ interior_proposal C cs n
   start_is zero h = absurd (omega arith)
   start_is (suc k) h = refl
 
-  start_none : (n : ℕ) → is_key C n ≡ false → start_proposal n ≡ none
+  start_none : (n : ℕ) → is_key C n ≡ false → start_proposal n ≡ None
   start_none zero h = refl
   start_none (suc k) h = key_only (suc k) (omega arith) h
 
@@ -162,7 +162,7 @@ module _ (C : Context) (sound : Sound C) (checked : Checked C) where
           named : 1 ≤ component C n
           named = component-named C sound within n range.0 range.1
 
-          kept : keep_if (is_retained C) (from_search C found) ≡ Option.map (rendered C) (interior_proposal C cs n)
+          kept : keep_if (is_retained C) (from_search C found) ≡ option_map (rendered C) (interior_proposal C cs n)
           kept =
               from_search_lem n range.0 c found (search_ordered C sound within visited n (visited-closed C sound within n visited w) range.1 m w.sorted named)
               (λ x. search_regions C sound within visited n (visited-closed C sound within n visited w) range.1 m w.sorted named x ∙ ap (λ r. inside C r x) c)

@@ -6,7 +6,7 @@ use Rattle.std.proofs.Common.{arith, ◌∙◌, ne_eqb, eqb-true}
 use Rattle.std.proofs.Math.Path.{refl, sym, ap, ap₂}
 use Rattle.std.proofs.Math.Bool.{true, false, not, ◌&&◌, cond, or-false}
 use Rattle.std.proofs.lemmas.Bool.{false≢true}
-use Rattle.std.proofs.Math.Option.{Option, none, some}
+use Rattle.std.specs.Prelude.{Option, None, Some}
 use mathlib.Core.List.{List, [], ◌∷◌}
 use Rattle.definitions.specs.Scan.{any, all, only_if}
 use Rattle.definitions.specs.Grid.{Pair, contains}
@@ -35,10 +35,10 @@ module _ (C : Context) (r : ℕ) where
 
   -- a port that is a full pair of the pocket
   port_pushed : (groups : List Group) (j : ℕ) (o : Option Pair) → holds o (contains r) ≡ true → push_port r groups j o ≡ push_group groups (beyond r o) j
-  port_pushed groups j none h = absurd (false≢true h)
-  port_pushed groups j (some q) h = go (eqb q.lo r) (eqb q.hi r) h
+  port_pushed groups j None h = absurd (false≢true h)
+  port_pushed groups j (Some q) h = go (eqb q.lo r) (eqb q.hi r) h
     where
-      go : (a b : Bool) → (a || b) ≡ true → push_beyond groups j (cond a (some q.hi) (cond b (some q.lo) none)) ≡ push_group groups (cond a q.hi q.lo) j
+      go : (a b : Bool) → (a || b) ≡ true → push_beyond groups j (cond a (Some q.hi) (cond b (Some q.lo) None)) ≡ push_group groups (cond a q.hi q.lo) j
       go true b h = refl
       go false true h = refl
       go false false h = absurd (false≢true h)
@@ -76,7 +76,7 @@ module _ (C : Context) (r : ℕ) where
       swap false true c = refl
       swap false false c = refl
 
-      go : (a b : Bool) → rank_bridge C r (cond a (bridge_if_near C ports (port_exterior C r i) i) (cond b (bridge_if_near C ports (port_exterior C r i) k) none)) ≡ cond a (bridge_at C r i k t) (cond b (bridge_at C r k i t) none)
+      go : (a b : Bool) → rank_bridge C r (cond a (bridge_if_near C ports (port_exterior C r i) i) (cond b (bridge_if_near C ports (port_exterior C r i) k) None)) ≡ cond a (bridge_at C r i k t) (cond b (bridge_at C r k i t) None)
       go true b = rank-near ports i k t (port_exterior C r i) (n i) refl
       go false true = rank-near ports k i t (port_exterior C r i) (n k ∙ swap (is_near_port C k i) (is_near_port C k k) (is_near_port C k t)) f
       go false false = refl
@@ -102,16 +102,16 @@ module _ (C : Context) (r : ℕ) where
       ∙ port_pushed (push_group (push_group [] (beyond r (full_pair C i)) i) (beyond r (full_pair C j)) j) k (full_pair C k) c
 
   -- the three arrangements
-  arranged_is : (i j k : ℕ) → rank_bridge C r (arranged C (i ∷ j ∷ k ∷ []) i j k (port_exterior C r i) (port_exterior C r j) (port_exterior C r k)) ≡ cond (is_shared C r i j k) (pick_bridge C r i j k) (cond (is_shared C r i k j) (pick_bridge C r i k j) (cond (is_shared C r j k i) (pick_bridge C r j k i) none))
+  arranged_is : (i j k : ℕ) → rank_bridge C r (arranged C (i ∷ j ∷ k ∷ []) i j k (port_exterior C r i) (port_exterior C r j) (port_exterior C r k)) ≡ cond (is_shared C r i j k) (pick_bridge C r i j k) (cond (is_shared C r i k j) (pick_bridge C r i k j) (cond (is_shared C r j k i) (pick_bridge C r j k i) None))
   unfolding all is_shared
   arranged_is i j k =
       rank-shared (i ∷ j ∷ k ∷ []) i j k (λ m. first (is_near_port C m i) (is_near_port C m j) (is_near_port C m k))
-      (cond (is_shared C r i k j) (wider_of C (i ∷ j ∷ k ∷ []) (port_exterior C r i) i k) (cond (is_shared C r j k i) (wider_of C (i ∷ j ∷ k ∷ []) (port_exterior C r j) j k) none))
-      (cond (is_shared C r i k j) (pick_bridge C r i k j) (cond (is_shared C r j k i) (pick_bridge C r j k i) none))
+      (cond (is_shared C r i k j) (wider_of C (i ∷ j ∷ k ∷ []) (port_exterior C r i) i k) (cond (is_shared C r j k i) (wider_of C (i ∷ j ∷ k ∷ []) (port_exterior C r j) j k) None))
+      (cond (is_shared C r i k j) (pick_bridge C r i k j) (cond (is_shared C r j k i) (pick_bridge C r j k i) None))
       (rank-shared (i ∷ j ∷ k ∷ []) i k j (λ m. second (is_near_port C m i) (is_near_port C m j) (is_near_port C m k))
-      (cond (is_shared C r j k i) (wider_of C (i ∷ j ∷ k ∷ []) (port_exterior C r j) j k) none)
-      (cond (is_shared C r j k i) (pick_bridge C r j k i) none)
-      (rank-shared (i ∷ j ∷ k ∷ []) j k i (λ m. third (is_near_port C m i) (is_near_port C m j) (is_near_port C m k)) none none refl))
+      (cond (is_shared C r j k i) (wider_of C (i ∷ j ∷ k ∷ []) (port_exterior C r j) j k) None)
+      (cond (is_shared C r j k i) (pick_bridge C r j k i) None)
+      (rank-shared (i ∷ j ∷ k ∷ []) j k i (λ m. third (is_near_port C m i) (is_near_port C m j) (is_near_port C m k)) None None refl))
     where
       first : (a b c : Bool) → (a && (b && (c && true))) ≡ (a && b && c)
       first true true true = refl
@@ -176,24 +176,24 @@ module _ (C : Context) (r : ℕ) where
 
   -- the ports, if they are usable
   abbrev validated : List ℕ → Option Bridge
-  validated l = cond (any (λ j. not (no_ramp C j) || not (is_some (full_pair C j))) l) none (bridge_of_groups C l (groups_from (full_pair C) r [] l))
+  validated l = cond (any (λ j. not (no_ramp C j) || not (is_some (full_pair C j))) l) None (bridge_of_groups C l (groups_from (full_pair C) r [] l))
 
-  three-validated : (i j k : ℕ) → All (λ j. is_incident C j r ≡ true) (i ∷ j ∷ k ∷ []) → rank_bridge C r (validated (i ∷ j ∷ k ∷ [])) ≡ cond (all usable (i ∷ j ∷ k ∷ [])) (bridge_of_ports C r (i ∷ j ∷ k ∷ [])) none
-  three-validated i j k a = ap (λ b. rank_bridge C r (cond b none (bridge_of_groups C (i ∷ j ∷ k ∷ []) (groups_from (full_pair C) r [] (i ∷ j ∷ k ∷ []))))) (none_unusable (i ∷ j ∷ k ∷ [])) ∙ go (all usable (i ∷ j ∷ k ∷ [])) refl
+  three-validated : (i j k : ℕ) → All (λ j. is_incident C j r ≡ true) (i ∷ j ∷ k ∷ []) → rank_bridge C r (validated (i ∷ j ∷ k ∷ [])) ≡ cond (all usable (i ∷ j ∷ k ∷ [])) (bridge_of_ports C r (i ∷ j ∷ k ∷ [])) None
+  three-validated i j k a = ap (λ b. rank_bridge C r (cond b None (bridge_of_groups C (i ∷ j ∷ k ∷ []) (groups_from (full_pair C) r [] (i ∷ j ∷ k ∷ []))))) (none_unusable (i ∷ j ∷ k ∷ [])) ∙ go (all usable (i ∷ j ∷ k ∷ [])) refl
     where
-      go : (b : Bool) → all usable (i ∷ j ∷ k ∷ []) ≡ b → rank_bridge C r (cond (not b) none (bridge_of_groups C (i ∷ j ∷ k ∷ []) (groups_from (full_pair C) r [] (i ∷ j ∷ k ∷ [])))) ≡ cond b (bridge_of_ports C r (i ∷ j ∷ k ∷ [])) none
+      go : (b : Bool) → all usable (i ∷ j ∷ k ∷ []) ≡ b → rank_bridge C r (cond (not b) None (bridge_of_groups C (i ∷ j ∷ k ∷ []) (groups_from (full_pair C) r [] (i ∷ j ∷ k ∷ [])))) ≡ cond b (bridge_of_ports C r (i ∷ j ∷ k ∷ [])) None
       go true e = bridge_of_three_lem i j k (ports-full a e)
       go false e = refl
 
   -- by the number of ports
-  counted : (l : List ℕ) → All (λ j. is_incident C j r ≡ true) l → rank_bridge C r (cond (not (eqb (length l) 3)) none (validated l)) ≡ cond (all usable l) (bridge_of_ports C r l) none
+  counted : (l : List ℕ) → All (λ j. is_incident C j r ≡ true) l → rank_bridge C r (cond (not (eqb (length l) 3)) None (validated l)) ≡ cond (all usable l) (bridge_of_ports C r l) None
   unfolding bridge_of_ports
   counted [] a = never (all usable [])
   counted (i ∷ []) a = never (all usable (i ∷ []))
   counted (i ∷ j ∷ []) a = never (all usable (i ∷ j ∷ []))
   counted (i ∷ j ∷ k ∷ []) a = three-validated i j k a
   counted (i ∷ j ∷ k ∷ x ∷ l) a =
-      ap (λ b. rank_bridge C r (cond (not b) none (validated (i ∷ j ∷ k ∷ x ∷ l)))) (ne_eqb (suc (suc (suc (suc (length l))))) 3 (λ e. omega arith)) ∙ never (all usable (i ∷ j ∷ k ∷ x ∷ l))
+      ap (λ b. rank_bridge C r (cond (not b) None (validated (i ∷ j ∷ k ∷ x ∷ l)))) (ne_eqb (suc (suc (suc (suc (length l))))) 3 (λ e. omega arith)) ∙ never (all usable (i ∷ j ∷ k ∷ x ∷ l))
 
   incidents-pass : All (λ j. is_incident C j r ≡ true) (ports_of C r)
   incidents-pass = rw (incidents-below C r) (below-pass (λ j. is_incident C j r) C.count)
@@ -203,6 +203,6 @@ module _ (C : Context) (r : ℕ) where
   unfolding pocket_bridge bridge_proposal
   pocket_is = go (C.anchored r) (counted (ports_of C r) incidents-pass)
     where
-      go : (b : Bool) → rank_bridge C r (cond (not (eqb (length (ports_of C r)) 3)) none (validated (ports_of C r))) ≡ cond (all usable (ports_of C r)) (bridge_of_ports C r (ports_of C r)) none → rank_bridge C r (cond (b || not (eqb (length (ports_of C r)) 3)) none (validated (ports_of C r))) ≡ cond (not b && all usable (ports_of C r)) (bridge_of_ports C r (ports_of C r)) none
+      go : (b : Bool) → rank_bridge C r (cond (not (eqb (length (ports_of C r)) 3)) None (validated (ports_of C r))) ≡ cond (all usable (ports_of C r)) (bridge_of_ports C r (ports_of C r)) None → rank_bridge C r (cond (b || not (eqb (length (ports_of C r)) 3)) None (validated (ports_of C r))) ≡ cond (not b && all usable (ports_of C r)) (bridge_of_ports C r (ports_of C r)) None
       go true h = refl
       go false h = h

@@ -6,8 +6,8 @@ use Rattle.std.proofs.Common.{◌∙◌}
 use Rattle.std.specs.Prelude.{◌≡◌, Bool, not, ◌&&◌, ◌||◌, eqb}
 use Rattle.std.proofs.Math.Path.{refl, sym, ap, ap₂, fun_ext}
 use Rattle.std.proofs.Math.Bool.{true, false, cond, or-false, and-true, and_comm}
-use Rattle.std.proofs.Math.Option
-use Rattle.std.proofs.Math.Option.{Option, none, some}
+use Rattle.std.specs.Prelude.{option_map}
+use Rattle.std.specs.Prelude.{Option, None, Some}
 use mathlib.Core.List.{List, [], ◌∷◌, ◌++◌, map, append-nil}
 use Rattle.definitions.specs.Scan.{any, member, filter, concat_map, collect, to_list, only_if}
 use Rattle.definitions.specs.Sort.{sort}
@@ -44,7 +44,7 @@ module _ (C : Context) where
 
   module _ (sound : Sound C) where
     -- a boundary that is a full pair
-    union_at_lem : (i : ℕ) (p : Pair) → i < C.count → map union (filter (union_passes C) (to_list (union_of_pair C (full_pair C) i (some p)))) ≡ map (as_enum C) (to_list (only_if (union_shape C i p && union_regions C i p) (record { index = i; kind = 0; first = p.lo; second = p.hi })))
+    union_at_lem : (i : ℕ) (p : Pair) → i < C.count → map union (filter (union_passes C) (to_list (union_of_pair C (full_pair C) i (Some p)))) ≡ map (as_enum C) (to_list (only_if (union_shape C i p && union_regions C i p) (record { index = i; kind = 0; first = p.lo; second = p.hi })))
     unfolding filter
     union_at_lem i p h = ap (λ o. map union (filter (union_passes C) (to_list o))) (union_is C i p sound h) ∙ shape (union_shape C i p)
       where
@@ -58,8 +58,8 @@ module _ (C : Context) where
 
     unions_at : (i : ℕ) → i < C.count → (o : Option Pair) → map union (filter (union_passes C) (to_list (union_of_pair C (full_pair C) i o))) ≡ map (as_enum C) (to_list (union_from C i o))
     unfolding union_of_pair union_from filter
-    unions_at i h none = refl
-    unions_at i h (some p) = union_at_lem i p h
+    unions_at i h None = refl
+    unions_at i h (Some p) = union_at_lem i p h
 
     unions-are : map union (filter (union_passes C) (union_proposals C (full_pair C))) ≡ map (as_enum C) (collect C.count (union_proposal C))
     unfolding union_proposals union_proposal collect
@@ -68,29 +68,29 @@ module _ (C : Context) where
         (λ i h. unions_at i h (full_pair C i))
 
     -- a pocket
-    bridge_at_lem : (r : ℕ) (l : List ℕ) → ports_of C r ≡ l → (o : Option Bridge) → map bridge (filter (bridge_passes C) (to_list (Option.map (bridge_with C (record { region = r; boundaries = l })) o))) ≡ map (as_enum C) (to_list (rank_bridge C r o))
+    bridge_at_lem : (r : ℕ) (l : List ℕ) → ports_of C r ≡ l → (o : Option Bridge) → map bridge (filter (bridge_passes C) (to_list (option_map (bridge_with C (record { region = r; boundaries = l })) o))) ≡ map (as_enum C) (to_list (rank_bridge C r o))
     unfolding filter bridge_passes
-    bridge_at_lem r l e none = refl
-    bridge_at_lem r l e (some b) = go (bridge_is_local C b.index (stats_of C r))
+    bridge_at_lem r l e None = refl
+    bridge_at_lem r l e (Some b) = go (bridge_is_local C b.index (stats_of C r))
       where
         go : (c : Bool) → map bridge (cond c (bridge_with C (record { region = r; boundaries = l }) b ∷ []) []) ≡ map (as_enum C) (to_list (only_if c (record { index = b.index; kind = 1; first = r; second = b.exterior })))
         go true = λ t. bridge (record { index = b.index; pocket = r; exterior = b.exterior; ports = (sym e ∙ bridge_reserved b.index r b.exterior) t }) ∷ []
         go false = refl
 
     abbrev bridges_of : Entry → List BridgeStruct
-    bridges_of e = to_list (Option.map (bridge_with C e) (pocket_bridge C (full_pair C) e.region e.boundaries))
+    bridges_of e = to_list (option_map (bridge_with C e) (pocket_bridge C (full_pair C) e.region e.boundaries))
 
-    pocket-empty : (r : ℕ) → pocket_bridge C (full_pair C) r [] ≡ none
+    pocket-empty : (r : ℕ) → pocket_bridge C (full_pair C) r [] ≡ None
     unfolding pocket_bridge any
     pocket-empty r = go (C.anchored r)
       where
-        go : (b : Bool) → cond (b || true) none (bridge_of_groups C [] (groups_from (full_pair C) r [] [])) ≡ none
+        go : (b : Bool) → cond (b || true) None (bridge_of_groups C [] (groups_from (full_pair C) r [] [])) ≡ None
         go true = refl
         go false = refl
 
     entry-bridges : (r : ℕ) (l : List ℕ) → concat_map bridges_of (to_list (entry_of r l)) ≡ bridges_of (record { region = r; boundaries = l })
     unfolding concat_map
-    entry-bridges r [] = ap (λ o. to_list (Option.map (bridge_with C (record { region = r; boundaries = [] })) o)) (sym (pocket-empty r))
+    entry-bridges r [] = ap (λ o. to_list (option_map (bridge_with C (record { region = r; boundaries = [] })) o)) (sym (pocket-empty r))
     entry-bridges r (x ∷ l) = append-nil (bridges_of (record { region = r; boundaries = x ∷ l }))
 
     bridges_at : (r : ℕ) → map bridge (filter (bridge_passes C) (concat_map bridges_of (to_list (entry_of r (ports_of C r))))) ≡ map (as_enum C) (to_list (bridge_proposal C r))

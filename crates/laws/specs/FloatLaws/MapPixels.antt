@@ -2,7 +2,7 @@
 -- endpoints are pixels up to 8,192. So are the edges of a region, the least and the most of coordinates of its cells. Assumes nothing.
 use Rattle.std.specs.Prelude.{◌≡◌, ℕ, ◌+◌, ◌*◌, ◌/◌, ◌%◌, ◌≤◌, ◌<◌, Bool, true, ◌&&◌, List, get_or, eqb}
 use Rattle.std.proofs.Common.{zero-le, le_trans, mul-le-mul_left, mod-lt, div-lt_iff_lt-mul, arith, leb-true}
-use Rattle.std.proofs.Math.Option.{none}
+use Rattle.std.specs.Prelude.{None}
 use Rattle.definitions.specs.Limits.{is_side, max_side}
 use Rattle.definitions.specs.Grid.{Position, Segment, Map, map_of, no_boundary, cell_count}
 use Rattle.definitions.specs.Spans.{pixels_per_walk_cell}
@@ -26,7 +26,7 @@ pub record OnMap (M : Map) : Type 0 where
 
 -- ---- what the checks found
 
-pub lent-on_map : (w h : ℕ) (cells spans boundaries anchors : List ℕ) → sides_fault w h ≡ none → boundaries_fault w h boundaries ≡ none
+pub lent-on_map : (w h : ℕ) (cells spans boundaries anchors : List ℕ) → sides_fault w h ≡ None → boundaries_fault w h boundaries ≡ None
     → OnMap (map_of w h cells spans boundaries anchors)
 unfolding map_of
 lent-on_map w h cells spans boundaries anchors s b =

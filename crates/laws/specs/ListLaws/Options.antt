@@ -2,15 +2,15 @@
 use Rattle.std.specs.Prelude.{◌≡◌, refl, Bool, true, false, cond}
 use Rattle.std.proofs.Math.Path.{ap}
 use Rattle.std.proofs.Common.{◌∙◌}
-use Rattle.std.proofs.Math.Option
-use Rattle.std.proofs.Math.Option.{Option, none, some}
+use Rattle.std.specs.Prelude.{option_map}
+use Rattle.std.specs.Prelude.{Option, None, Some}
 use mathlib.Core.List.{[], map}
 use Rattle.definitions.specs.Scan.{filter, to_list, only_if}
 use Rattle.laws.specs.ListLaws.Lists.{All, done, more, filter_in, filter-out}
 
 pub data OnO {A : Type 0} (P : A → Type 0) : Option A → Type 0 where
-  absent : OnO P none
-  present : {x : A} → P x → OnO P (some x)
+  absent : OnO P None
+  present : {x : A} → P x → OnO P (Some x)
 
 module _ {A : Type 0} {P : A → Type 0} where
   pub on_only : (b : Bool) (x : A) → P x → OnO P (only_if b x)
@@ -30,16 +30,16 @@ module _ {A : Type 0} {P : A → Type 0} where
   on_map_lem f (present {x = x} h) = present (f x h)
 
 module _ {A B : Type 0} (e : A → B) where
-  pub only_map : (b : Bool) (x : A) → only_if b (e x) ≡ Option.map e (only_if b x)
+  pub only_map : (b : Bool) (x : A) → only_if b (e x) ≡ option_map e (only_if b x)
   only_map true x = refl
   only_map false x = refl
 
-  pub cond_map : (b : Bool) (x y : Option A) → Option.map e (cond b x y) ≡ cond b (Option.map e x) (Option.map e y)
+  pub cond_map : (b : Bool) (x y : Option A) → option_map e (cond b x y) ≡ cond b (option_map e x) (option_map e y)
   cond_map true x y = refl
   cond_map false x y = refl
 
   -- of a test p that the value passes
-  pub option_in : (p : A → Bool) {o : Option A} {o' : Option B} → OnO (λ x. p x ≡ true) o → Option.map e o ≡ o' → map e (filter p (to_list o)) ≡ to_list o'
+  pub option_in : (p : A → Bool) {o : Option A} {o' : Option B} → OnO (λ x. p x ≡ true) o → option_map e o ≡ o' → map e (filter p (to_list o)) ≡ to_list o'
   unfolding filter
   option_in p absent q = ap to_list q
   option_in p (present {x = x} h) q = ap (map e) (filter_in p x [] h) ∙ ap to_list q

@@ -2,7 +2,8 @@
 -- least 99 exactly where 99 times the divisor is no more than what is divided. Assumes nothing.
 use Rattle.std.specs.Prelude.{ℕ, zero, suc, ◌*◌, ◌/◌, ◌%◌, ◌≤◌, ◌<◌, ◌≡◌, leb}
 use Rattle.std.proofs.Common.{arith, le-div_iff_mul-le, div-add-mod', mod-lt, mul_comm, sym, ap, ◌∙◌, subst, leb-true, le-leb}
-use Rattle.std.proofs.Math.Option.{none, some, some-injective, none-ne-some}
+use Rattle.std.specs.Prelude.{None, Some}
+use Rattle.std.proofs.lemmas.Option.{same_Some, none-some}
 use Rattle.std.proofs.Math.Arith.{digits_div, digits_mod}
 use Rattle.definitions.specs.RegionRecord.{Region, Share, IsShare, elevation_count, share_of, dominance_of, dominance, accepts}
 use Rattle.laws.specs.ListLaws.Tests.{same_test}
@@ -17,16 +18,16 @@ quotient-exact : (count n : ℕ) → 0 < n → IsShare count n (quotient count n
 unfolding quotient
 quotient-exact count n l = record { exact = sym (div-add-mod' (count * 100) n); below = mod-lt (count * 100) l }
 
-pub share-exact : (count n : ℕ) (h : Share) → share_of count n ≡ some h → IsShare count n h
+pub share-exact : (count n : ℕ) (h : Share) → share_of count n ≡ Some h → IsShare count n h
 unfolding share_of quotient
-share-exact count zero h e = absurd (none-ne-some h e)
-share-exact count (suc n) h e = subst (IsShare count (suc n)) (some-injective (quotient count (suc n)) h e) (quotient-exact count (suc n) (omega arith))
+share-exact count zero h e = absurd (none-some h e)
+share-exact count (suc n) h e = subst (IsShare count (suc n)) (same_Some (quotient count (suc n)) h e) (quotient-exact count (suc n) (omega arith))
 
 -- a percent and a remainder that fit are the answer: so there is no other, and none of no cells
-pub share_only : (count n : ℕ) (h : Share) → IsShare count n h → share_of count n ≡ some h
+pub share_only : (count n : ℕ) (h : Share) → IsShare count n h → share_of count n ≡ Some h
 unfolding share_of
 share_only count zero h s = absurd (omega (arith, s.below))
-share_only count (suc n) h s = λ i. some (record { percent = percent i; remainder = remainder i })
+share_only count (suc n) h s = λ i. Some (record { percent = percent i; remainder = remainder i })
   where
     percent : count * 100 / suc n ≡ h.percent
     percent = ap (λ (k : ℕ). k / suc n) s.exact ∙ digits_div h.percent s.below
@@ -35,18 +36,18 @@ share_only count (suc n) h s = λ i. some (record { percent = percent i; remaind
     remainder = ap (λ (k : ℕ). k % suc n) s.exact ∙ digits_mod h.percent s.below
 
 pub share_unique : (count n : ℕ) (h k : Share) → IsShare count n h → IsShare count n k → h ≡ k
-share_unique count n h k s t = some-injective h k (sym (share_only count n h s) ∙ share_only count n k t)
+share_unique count n h k s t = same_Some h k (sym (share_only count n h s) ∙ share_only count n k t)
 
 -- a region with cells has the share of its elevation's count, one with none has no share
 pub dominance-exact : (s : Region) → 0 < s.cells
-    → (h : Share) × (((dominance s).share ≡ some h) × IsShare (elevation_count s (dominance s).elevation) s.cells h)
+    → (h : Share) × (((dominance s).share ≡ Some h) × IsShare (elevation_count s (dominance s).elevation) s.cells h)
 unfolding dominance dominance_of
 dominance-exact s l =
     let count = elevation_count s (dominance s).elevation in
     let whole = quotient-exact count s.cells l in
     (quotient count s.cells, (share_only count s.cells (quotient count s.cells) whole, whole))
 
-pub dominance_none : (s : Region) → s.cells ≡ 0 → (dominance s).share ≡ none
+pub dominance_none : (s : Region) → s.cells ≡ 0 → (dominance s).share ≡ None
 unfolding dominance dominance_of share_of
 dominance_none s e = ap (share_of (elevation_count s (dominance s).elevation)) e
 

@@ -4,7 +4,7 @@
 use Rattle.std.specs.Prelude.{ℕ, zero, suc, ◌+◌, ◌*◌, ◌/◌, ◌%◌, ◌^◌, ◌<◌, max, ◌≡◌, refl, Bool, true, false, not, ◌&&◌, ◌||◌, cond, List, [], ◌∷◌, eqb, ltb, leb}
 use Rattle.std.proofs.Common.{arith, div-one, sym, ap, ap₂, ◌∙◌, eqb-true}
 use Rattle.std.proofs.Math.Nat.{div-div-eq-div-mul, pow-succ'}
-use Rattle.std.proofs.Math.Option.{Option, none, some}
+use Rattle.std.specs.Prelude.{Option, None, Some}
 use Rattle.std.proofs.Math.Arith.{digits_mod}
 use Rattle.std.specs.Int.Bits.{bit_or, or_step, or_self}
 use Rattle.std.proofs.lemmas.Nat.{or_shr}
@@ -40,9 +40,9 @@ dominant_fold s =
 
 --     dominant_elevation(first).zip(dominant_elevation(second)).is_some_and(|(a, b)| a == b)
 abbrev pub both_same : Option ℕ → Option ℕ → Bool
-both_same none o = false
-both_same (some a) none = false
-both_same (some a) (some b) = eqb a b
+both_same None o = false
+both_same (Some a) None = false
+both_same (Some a) (Some b) = eqb a b
 
 unfoldable pub dominant_same : Region → Region → Bool
 unfolding dominant_fold

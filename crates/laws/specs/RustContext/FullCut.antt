@@ -4,7 +4,7 @@ use Rattle.std.specs.Prelude.{ℕ, suc, ◌<◌, ◌≡◌, Bool, ◌&&◌, leng
 use Rattle.std.proofs.Common.{arith}
 use Rattle.std.proofs.Math.Path.{refl}
 use Rattle.std.proofs.Math.Bool.{true, false, not, cond}
-use Rattle.std.proofs.Math.Option.{Option, none, some}
+use Rattle.std.specs.Prelude.{Option, None, Some}
 use mathlib.Core.List.{List, [], ◌∷◌}
 use Rattle.std.proofs.Math.Dec.{eqb}
 use borrow.Author.Tests.{ltb-true, eqb-true, ne_eqb}
@@ -30,13 +30,13 @@ unfolding all
 full_cut_rust removed separated pairs = ltb 0 removed && eqb removed separated && not (is_empty pairs) && all (λ p. not (eqb p.lo p.hi)) pairs
 
 abbrev pub first_of : List Pair → Option Pair
-first_of [] = none
-first_of (p ∷ l) = some p
+first_of [] = None
+first_of (p ∷ l) = Some p
 
 --     (full_cut(entry) && entry.region_pairs.len() == 1).then(|| entry.region_pairs[0])
 unfoldable pub full_pair_rust : ℕ → ℕ → List Pair → Option Pair
 unfolding full_cut_rust
-full_pair_rust removed separated pairs = cond (full_cut_rust removed separated pairs && eqb (length pairs) 1) (first_of pairs) none
+full_pair_rust removed separated pairs = cond (full_cut_rust removed separated pairs && eqb (length pairs) 1) (first_of pairs) None
 
 -- ---- and that it is the same
 
@@ -71,7 +71,7 @@ module _ (C : Context) (sound : Sound C) where
   unfolding full_pair full_pair_rust
   full_pair_lem i = rw (← (full_cut_lem i)) (go (full_cut C i) (C.pairs i))
     where
-      go : (b : Bool) (l : List Pair) → only_pair b l ≡ cond (b && eqb (length l) 1) (first_of l) none
+      go : (b : Bool) (l : List Pair) → only_pair b l ≡ cond (b && eqb (length l) 1) (first_of l) None
       go true [] = refl
       go true (p ∷ []) = refl
       go true (p ∷ q ∷ l) = rw (ne_eqb (suc (suc (length l))) 1 (λ e. omega arith)) refl

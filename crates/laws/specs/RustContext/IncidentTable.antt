@@ -5,7 +5,7 @@ use Rattle.std.proofs.Common.{arith, ◌∙◌}
 use Rattle.std.specs.Prelude.{◌≡◌, Bool, ◌&&◌}
 use Rattle.std.proofs.Math.Path.{refl, sym, ap, ap₂}
 use Rattle.std.proofs.Math.Bool.{true, false, ◌||◌, cond}
-use Rattle.std.proofs.Math.Option.{Option, none, some}
+use Rattle.std.specs.Prelude.{Option, None, Some}
 use mathlib.Core.List.{List, [], ◌∷◌, ◌++◌, append-nil}
 use Rattle.std.proofs.Math.Dec.{eqb, ltb}
 use borrow.Author.Tests.{ltb-true, ltb-false, lt-ltb, le-ltb, eqb-true, eq-eqb, ne_eqb}
@@ -23,8 +23,8 @@ use Rattle.laws.specs.RustContext.IncidentMap.{incidents, incidents-below, incid
 
 -- a region and its boundaries, if it has any
 abbrev pub entry_of : ℕ → List ℕ → Option Entry
-entry_of r [] = none
-entry_of r (x ∷ l) = some (record { region = r; boundaries = x ∷ l })
+entry_of r [] = None
+entry_of r (x ∷ l) = Some (record { region = r; boundaries = x ∷ l })
 
 -- ---- an entry behind all others
 

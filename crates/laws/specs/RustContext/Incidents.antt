@@ -5,7 +5,7 @@ use Rattle.std.proofs.Math.Path.{refl, ap}
 use Rattle.std.proofs.Common.{ap₂, ◌∙◌, lt-ltb}
 use Rattle.std.proofs.Math.Bool.{not}
 use Rattle.std.proofs.lemmas.Bool.{false≢true}
-use Rattle.std.proofs.Math.Option.{Option, none, some}
+use Rattle.std.specs.Prelude.{Option, None, Some}
 use mathlib.Core.List.{List, [], ◌∷◌}
 use Rattle.std.proofs.Math.Dec.{eqb}
 use Rattle.definitions.specs.Scan.{member}
@@ -21,23 +21,23 @@ use Rattle.laws.specs.SetLaws.Sets.{numbers_below, member_below, length-below}
 
 -- `is_none_or`
 abbrev pub is_none_or : {A : Type 0} → Option A → (A → Bool) → Bool
-is_none_or none f = true
-is_none_or (some a) f = f a
+is_none_or None f = true
+is_none_or (Some a) f = f a
 
 -- `is_some_and`
 abbrev pub is_some_and : {A : Type 0} → Option A → (A → Bool) → Bool
-is_some_and none f = false
-is_some_and (some a) f = f a
+is_some_and None f = false
+is_some_and (Some a) f = f a
 
 -- `into_iter().flatten()`, of a set
 abbrev pub or_nothing : Option (List ℕ) → List ℕ
-or_nothing none = []
-or_nothing (some s) = s
+or_nothing None = []
+or_nothing (Some s) = s
 
 -- `get`
 unfoldable pub entry_at : List Entry → ℕ → Option (List ℕ)
-entry_at [] r = none
-entry_at (e ∷ es) r = cond (eqb r e.region) (some e.boundaries) (entry_at es r)
+entry_at [] r = None
+entry_at (e ∷ es) r = cond (eqb r e.region) (Some e.boundaries) (entry_at es r)
 
 --     ctx.incidents.get(&r)
 unfoldable pub incidents_rust : Context → ℕ → Option (List ℕ)
@@ -47,8 +47,8 @@ incidents_rust C r = entry_at (incidents C) r
 
 -- a set in a map without empty entries
 abbrev pub present_set : List ℕ → Option (List ℕ)
-present_set [] = none
-present_set (x ∷ l) = some (x ∷ l)
+present_set [] = None
+present_set (x ∷ l) = Some (x ∷ l)
 
 pub nothing-present : (l : List ℕ) → or_nothing (present_set l) ≡ l
 nothing-present [] = refl
@@ -59,11 +59,11 @@ unfolding entry_at boundaries_at
 entry_is r done = refl
 entry_is r (more {x = e} {l = es} h a) = go (eqb r e.region) (entry_is r a)
   where
-    there : (l : List ℕ) → is_filled l ≡ true → some l ≡ present_set l
+    there : (l : List ℕ) → is_filled l ≡ true → Some l ≡ present_set l
     there [] k = absurd (false≢true k)
     there (x ∷ l) k = refl
 
-    go : (b : Bool) → entry_at es r ≡ present_set (boundaries_at es r) → cond b (some e.boundaries) (entry_at es r) ≡ present_set (cond b e.boundaries (boundaries_at es r))
+    go : (b : Bool) → entry_at es r ≡ present_set (boundaries_at es r) → cond b (Some e.boundaries) (entry_at es r) ≡ present_set (cond b e.boundaries (boundaries_at es r))
     go true ih = there e.boundaries h
     go false ih = ih
 

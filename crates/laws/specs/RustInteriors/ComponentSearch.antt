@@ -4,7 +4,6 @@ use Rattle.std.specs.Prelude.{ℕ, suc, ◌≤◌, ◌≡◌, Bool, ◌&&◌, co
 use Rattle.std.proofs.Common.{arith, ◌∙◌, eqb-true, lt-ltb, le-ltb, leb-true, leb-false, le-leb}
 use Rattle.std.proofs.Math.Path.{refl, sym, ap, ap₂}
 use Rattle.std.proofs.Math.Bool.{true, false, not, ◌||◌, or-false, or-true, and-true, and-false, and_comm}
-use Rattle.std.proofs.Math.Option.{none}
 use mathlib.Core.List.{List, [], ◌∷◌}
 use Rattle.std.proofs.Math.Dec.{eqb, leb}
 use Rattle.definitions.specs.Scan.{any, member, any_below_lem}

@@ -1,7 +1,7 @@
 -- `collapse_ramp_interiors` (ramp_boundaries.rs) from the ports of a component on: the tests of the two ramps, the proposal, and the `retain` after the loop, as
 -- they are written there. Definitions only. Assumes nothing.
 use Rattle.std.specs.Prelude.{ℕ, Bool, true, false, not, ◌&&◌, ◌||◌, cond, List, [], ◌∷◌, eqb}
-use Rattle.std.proofs.Math.Option.{Option, none, some}
+use Rattle.std.specs.Prelude.{Option, None, Some}
 use Rattle.std.specs.Float.Ieee.{le}
 use Rattle.std.specs.Float.Ieee.Scale.{finite}
 use Rattle.definitions.specs.Scan.{any, all}
@@ -48,7 +48,7 @@ module _ (C : Context) where
   unfoldable pub push_interior : List ℕ → List ℕ → ℕ → ℕ → Boundary → Option InteriorRust
   push_interior regions edges first second first_ramp =
       let s = walk_port C (walk_port C (record { regions = regions; valid = true }) first) second in
-      cond s.valid (some (record { regions = s.regions; edges = edges; first_port = first; second_port = second; ramp_id = first_ramp.ramp_id })) none
+      cond s.valid (Some (record { regions = s.regions; edges = edges; first_port = first; second_port = second; ramp_id = first_ramp.ramp_id })) None
 
   --     let Some(first_ramp) = boundaries[port_indexes[0]].ramp else {
   --         continue;
@@ -65,21 +65,21 @@ module _ (C : Context) where
   --         continue;
   --     }
   unfoldable pub from_ramps : List ℕ → List ℕ → ℕ → ℕ → Option Boundary → Option Boundary → Option InteriorRust
-  from_ramps regions edges first second none second_ramp = none
-  from_ramps regions edges first second (some first_ramp) none = none
-  from_ramps regions edges first second (some first_ramp) (some second_ramp) =
+  from_ramps regions edges first second None second_ramp = None
+  from_ramps regions edges first second (Some first_ramp) None = None
+  from_ramps regions edges first second (Some first_ramp) (Some second_ramp) =
       cond
       (not (full_cut_at C first) || not (full_cut_at C second) || not (eqb first_ramp.ramp_id second_ramp.ramp_id) || other_ends first_ramp.kind second_ramp.kind)
-      none (push_interior regions edges first second first_ramp)
+      None (push_interior regions edges first second first_ramp)
 
   --     let [first_port, second_port] = port_indexes.as_slice() else {
   --         continue;
   --     };
   unfoldable pub from_ports : List ℕ → List ℕ → List ℕ → Option InteriorRust
-  from_ports regions edges [] = none
-  from_ports regions edges (first ∷ []) = none
+  from_ports regions edges [] = None
+  from_ports regions edges (first ∷ []) = None
   from_ports regions edges (first ∷ second ∷ []) = from_ramps regions edges first second (ramp_of C first) (ramp_of C second)
-  from_ports regions edges (first ∷ second ∷ third ∷ l) = none
+  from_ports regions edges (first ∷ second ∷ third ∷ l) = None
 
   -- ---- what is retained
 

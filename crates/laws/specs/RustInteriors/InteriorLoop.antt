@@ -2,7 +2,7 @@
 -- sort and the selection. Definitions only. Assumes nothing.
 use Prim.Native.Nat.{ℕ, compare, Ordering}
 use Rattle.std.specs.Prelude.{cond, List, [], ◌∷◌, ◌++◌}
-use Rattle.std.proofs.Math.Option.{Option, none}
+use Rattle.std.specs.Prelude.{Option, None}
 use Rattle.definitions.specs.Scan.{member, filter, to_list}
 use Rattle.definitions.specs.Sort.{sort}
 use Rattle.definitions.specs.Context.{Context}
@@ -24,8 +24,8 @@ module _ (C : Context) where
   --     ..
   unfoldable pub from_search : Search → Option InteriorRust
   from_search found =
-      cond (is_passed_over C found.regions found.edges) none
-      (cond (leaves_component C found.regions found.edges) none (from_ports C found.regions found.edges (ports_from C found.edges [] found.regions)))
+      cond (is_passed_over C found.regions found.edges) None
+      (cond (leaves_component C found.regions found.edges) None (from_ports C found.regions found.edges (ports_from C found.edges [] found.regions)))
 
   --     for start in graph.keys().copied().collect::<Vec<_>>() {
   --         if !visited.insert(start) {

@@ -1,7 +1,7 @@
 -- The walk of `collapse_ramp_interiors` (ramp_boundaries.rs) over the two ports of an interior, which takes in the leaves beyond them, as it is written there.
 -- `expanded_regions` and `valid_ports` are an `Expansion`, its regions a set. Definitions only. Assumes nothing.
 use Rattle.std.specs.Prelude.{ℕ, Bool, false, not, ◌||◌, cond, List, [], ◌∷◌, length, eqb, ltb}
-use Rattle.std.proofs.Math.Option.{Option, none, some}
+use Rattle.std.specs.Prelude.{Option, None, Some}
 use Rattle.definitions.specs.Scan.{any, filter, member}
 use Rattle.definitions.specs.Grid.{Pair}
 use Rattle.definitions.specs.Context.{Context}
@@ -17,8 +17,8 @@ pair_in set pair = filter (λ region. member region set) (pair.lo ∷ pair.hi �
 
 -- `expect`; 0 stands for the panic, which is never met here: the two regions of a pair differ where exactly one is in a set
 abbrev pub expected : Option ℕ → ℕ
-expected none = 0
-expected (some region) = region
+expected None = 0
+expected (Some region) = region
 
 --     pair.iter().copied().find(|region| region != inside).expect("pair has two regions")
 unfoldable pub other_of : ℕ → Pair → ℕ

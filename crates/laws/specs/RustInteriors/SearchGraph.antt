@@ -5,7 +5,7 @@ use Rattle.std.proofs.Math.Path.{refl, ap₂}
 use Rattle.std.proofs.Common.{sym, ◌∙◌, eqb-true, eq-eqb}
 use Rattle.std.proofs.Math.Bool.{true, false, ◌&&◌, cond}
 use Rattle.std.proofs.lemmas.Bool.{false≢true}
-use Rattle.std.proofs.Math.Option.{none, some}
+use Rattle.std.specs.Prelude.{None, Some}
 use mathlib.Core.List.{List, [], ◌∷◌, ◌++◌}
 use Rattle.definitions.specs.Scan.{concat_map, to_list, only_if}
 use Rattle.definitions.specs.Grid.{Pair}
@@ -23,7 +23,7 @@ module _ (C : Context) (sound : Sound C) where
   unfolding is_ordinary
   joining_is i = ap₂ ◌&&◌ (go (no_ramp C i)) (sym (full_cut_lem C sound i))
     where
-      go : (b : Bool) → is_none (cond b none (some (C.boundary i))) ≡ b
+      go : (b : Bool) → is_none (cond b None (Some (C.boundary i))) ≡ b
       go true = refl
       go false = refl
 

@@ -4,7 +4,7 @@
 -- Assumes nothing.
 use Rattle.std.specs.Prelude.{ℕ, length, get_or, eqb, ltb}
 use Rattle.std.proofs.Math.Bool.{cond}
-use Rattle.std.proofs.Math.Option.{Option, none, some}
+use Rattle.std.specs.Prelude.{Option, None, Some}
 use mathlib.Core.List.{List, [], ◌∷◌, ◌++◌}
 use Rattle.definitions.specs.Scan.{all, only_if}
 use Rattle.definitions.specs.Grid.{Pair}
@@ -27,23 +27,23 @@ push_group (g ∷ gs) e j =
 
 --     (pair[0] == *pocket).then_some(pair[1]).or_else(|| (pair[1] == *pocket).then_some(pair[0]))
 abbrev pub beyond_pocket : ℕ → Pair → Option ℕ
-beyond_pocket pocket q = cond (eqb q.lo pocket) (some q.hi) (cond (eqb q.hi pocket) (some q.lo) none)
+beyond_pocket pocket q = cond (eqb q.lo pocket) (Some q.hi) (cond (eqb q.hi pocket) (Some q.lo) None)
 
 --     let Some(exterior) = .. else { continue; };
 abbrev pub push_beyond : List Group → ℕ → Option ℕ → List Group
-push_beyond groups j none = groups
-push_beyond groups j (some e) = push_group groups e j
+push_beyond groups j None = groups
+push_beyond groups j (Some e) = push_group groups e j
 
 --     let pair = full_pair(&metadata[*index]).expect("validated bridge port");
 -- (No other port is met here.)
 abbrev pub push_port : ℕ → List Group → ℕ → Option Pair → List Group
-push_port pocket groups j none = groups
-push_port pocket groups j (some q) = push_beyond groups j (beyond_pocket pocket q)
+push_port pocket groups j None = groups
+push_port pocket groups j (Some q) = push_beyond groups j (beyond_pocket pocket q)
 
 --     groups.iter().find(|(_, indexes)| indexes.len() == n)
 unfoldable pub find_length : ℕ → List Group → Option Group
-find_length n [] = none
-find_length n (g ∷ gs) = cond (eqb (length g.indexes) n) (some g) (find_length n gs)
+find_length n [] = None
+find_length n (g ∷ gs) = cond (eqb (length g.indexes) n) (Some g) (find_length n gs)
 
 -- what a bridge proposal has besides its pocket and ports
 pub record Bridge : Type 0 where
@@ -68,17 +68,17 @@ module _ (C : Context) where
   --         else { continue; };
   unfoldable pub wider_of : List ℕ → ℕ → ℕ → ℕ → Option Bridge
   wider_of ports exterior first second =
-      cond (is_twice_as_wide C first second) (bridge_if_near ports exterior first) (cond (is_twice_as_wide C second first) (bridge_if_near ports exterior second) none)
+      cond (is_twice_as_wide C first second) (bridge_if_near ports exterior first) (cond (is_twice_as_wide C second first) (bridge_if_near ports exterior second) None)
 
   --     let Some((&exterior, shared)) = .. else { continue; };
   --     let Some((&third, _)) = .. else { continue; };
   --     if !ctx.anchored.contains(&third) { continue; }
   --     let (first, second) = (shared[0], shared[1]);
   abbrev pub bridge_of_two : List ℕ → Option Group → Option Group → Option Bridge
-  bridge_of_two ports none t = none
-  bridge_of_two ports (some g) none = none
-  bridge_of_two ports (some g) (some t) = cond (C.anchored t.exterior) (wider_of ports g.exterior (get_or g.indexes 0 0) (get_or g.indexes 1 0)) none
+  bridge_of_two ports None t = None
+  bridge_of_two ports (Some g) None = None
+  bridge_of_two ports (Some g) (Some t) = cond (C.anchored t.exterior) (wider_of ports g.exterior (get_or g.indexes 0 0) (get_or g.indexes 1 0)) None
 
   --     if groups.len() != 2 { continue; }
   unfoldable pub bridge_of_groups : List ℕ → List Group → Option Bridge
-  bridge_of_groups ports groups = cond (eqb (length groups) 2) (bridge_of_two ports (find_length 2 groups) (find_length 1 groups)) none
+  bridge_of_groups ports groups = cond (eqb (length groups) 2) (bridge_of_two ports (find_length 2 groups) (find_length 1 groups)) None

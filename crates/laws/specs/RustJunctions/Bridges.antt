@@ -4,7 +4,7 @@
 use Rattle.std.specs.Prelude.{ℕ, ◌≡◌, Bool, ◌||◌, length, eqb, ltb}
 use Rattle.std.proofs.Math.Path.{refl}
 use Rattle.std.proofs.Math.Bool.{true, false, not, ◌&&◌, cond}
-use Rattle.std.proofs.Math.Option.{Option, none, some}
+use Rattle.std.specs.Prelude.{Option, None, Some}
 use mathlib.Core.List.{List, []}
 use Rattle.definitions.specs.Scan.{any, all, only_if}
 use Rattle.definitions.specs.Grid.{Pair}
@@ -22,8 +22,8 @@ module _ (C : Context) (full : ℕ → Option Pair) where
   --     if ports.iter().any(|index| boundaries[*index].ramp.is_some() || full_pair(&metadata[*index]).is_none()) { continue; }
   unfoldable pub pocket_bridge : ℕ → List ℕ → Option Bridge
   pocket_bridge pocket ports =
-      cond (C.anchored pocket || not (eqb (length ports) 3)) none
-      (cond (any (λ j. not (no_ramp C j) || not (is_some (full j))) ports) none (bridge_of_groups C ports (groups_from full pocket [] ports)))
+      cond (C.anchored pocket || not (eqb (length ports) 3)) None
+      (cond (any (λ j. not (no_ramp C j) || not (is_some (full j))) ports) None (bridge_of_groups C ports (groups_from full pocket [] ports)))
 
 module _ (C : Context) where
   -- `ctx.stats.get(&region)`: a region has a record if it has a cell. Of a record `has_ramp` is written `has_ramp`, which is the Rust's flag (`ramp_flag` of RustContext).
@@ -33,13 +33,13 @@ module _ (C : Context) where
   --     let Some(stats) = ctx.stats.get(&proposal.pocket) else { continue; };
   --     if !stats.has_ramp && within_radius(stats, center(&boundaries[proposal.index])) && flat(stats) { .. }
   abbrev pub bridge_is_local : ℕ → Option Region → Bool
-  bridge_is_local index none = false
-  bridge_is_local index (some s) = not (has_ramp s) && within_radius s (center (C.boundary index).endpoints) && flat s
+  bridge_is_local index None = false
+  bridge_is_local index (Some s) = not (has_ramp s) && within_radius s (center (C.boundary index).endpoints) && flat s
 
   --     ranked.push(Proposal::Bridge(proposal));
   abbrev pub rank_bridge : ℕ → Option Bridge → Option Proposal
-  rank_bridge pocket none = none
-  rank_bridge pocket (some b) = only_if (bridge_is_local b.index (stats_of pocket)) (record { index = b.index; kind = 1; first = pocket; second = b.exterior })
+  rank_bridge pocket None = None
+  rank_bridge pocket (Some b) = only_if (bridge_is_local b.index (stats_of pocket)) (record { index = b.index; kind = 1; first = pocket; second = b.exterior })
 
 -- ---- and that it is the same
 
@@ -47,6 +47,6 @@ pub radius_empty : (s : Region) (m : Point) → ltb 0 s.cells ≡ false → with
 unfolding within_radius
 radius_empty s m h = λ t. h t && all (λ c. within_distance c m max_union_radius_pixels) (corners s)
 
-pub never : (b : Bool) → ◌≡◌ {A = Option Proposal} none (cond b none none)
+pub never : (b : Bool) → ◌≡◌ {A = Option Proposal} None (cond b None None)
 never true = refl
 never false = refl

@@ -6,7 +6,7 @@ use Rattle.std.proofs.Common.{add-zero, ◌∙◌}
 use Rattle.std.specs.Prelude.{◌≡◌, Bool, ◌&&◌, ◌||◌, eqb}
 use Rattle.std.proofs.Math.Path.{refl, sym, ap}
 use Rattle.std.proofs.Math.Bool.{true, false, not, cond, or-false}
-use Rattle.std.proofs.Math.Option.{Option, none, some}
+use Rattle.std.specs.Prelude.{Option, None, Some}
 use mathlib.Core.List.{List, [], ◌∷◌, ◌++◌}
 use Rattle.std.proofs.Math.ListN.{length}
 use Rattle.definitions.specs.Scan.{any, member, any_below_lem, count_below, collect, to_list, only_if, bit}
@@ -23,8 +23,8 @@ use Rattle.laws.specs.RustJunctions.Ports.{union_set, union-member}
 --     exteriors.insert(if union.contains(&other_pair[0]) { other_pair[1] } else { other_pair[0] });
 -- (The walk that found the ports has seen that each is a full pair, so that `none` is not met.)
 unfoldable pub insert_exterior : Pair → List ℕ → Option Pair → List ℕ
-insert_exterior p exteriors none = exteriors
-insert_exterior p exteriors (some q) = set_insert exteriors (cond (member q.lo (union_set p)) q.hi q.lo)
+insert_exterior p exteriors None = exteriors
+insert_exterior p exteriors (Some q) = set_insert exteriors (cond (member q.lo (union_set p)) q.hi q.lo)
 
 module _ (full : ℕ → Option Pair) (p : Pair) where
   --     for port in &ports { .. }
@@ -35,7 +35,7 @@ module _ (full : ℕ → Option Pair) (p : Pair) where
 -- ---- and that it is the same
 
 module _ (C : Context) (p : Pair) where
-  insert_is : (exteriors : List ℕ) (q : Pair) → insert_exterior p exteriors (some q) ≡ set_insert exteriors (exterior_of p q)
+  insert_is : (exteriors : List ℕ) (q : Pair) → insert_exterior p exteriors (Some q) ≡ set_insert exteriors (exterior_of p q)
   unfolding insert_exterior
   insert_is exteriors q = rw (union-member q.lo p) refl
 
@@ -63,8 +63,8 @@ module _ (C : Context) (p : Pair) where
     after_ascending (suc n) = rw (after-suc n) (go (is_union_port C i p n) (full_pair C n) (after_ascending n))
       where
         go : (b : Bool) (o : Option Pair) → Ascending (after n) → Ascending (cond b (insert_exterior p (after n) o) (after n))
-        go true none s = s
-        go true (some q) s = insert_ascending _ s
+        go true None s = s
+        go true (Some q) s = insert_ascending _ s
         go false o s = s
 
     -- e is the exterior of port k
@@ -83,8 +83,8 @@ module _ (C : Context) (p : Pair) where
         order false false = refl
 
         go : (b : Bool) (o : Option Pair) → member e (cond b (insert_exterior p (after n) o) (after n)) ≡ (member e (after n) || (b && holds o (λ o. eqb (exterior_of p o) e)))
-        go true none = sym (or-false (member e (after n)))
-        go true (some q) = ap (member e) (insert_is (after n) q) ∙ member-insert e (after n) (exterior_of p q) ∙ order (eqb e (exterior_of p q)) (member e (after n)) ∙ ap (λ b. member e (after n) || b) (eqb_sym e (exterior_of p q))
+        go true None = sym (or-false (member e (after n)))
+        go true (Some q) = ap (member e) (insert_is (after n) q) ∙ member-insert e (after n) (exterior_of p q) ∙ order (eqb e (exterior_of p q)) (member e (after n)) ∙ ap (λ b. member e (after n) || b) (eqb_sym e (exterior_of p q))
         go false o = sym (or-false (member e (after n)))
 
     after-length : (n : ℕ) → length (after n) ≡ count_below n (is_new_exterior C i p)
@@ -93,8 +93,8 @@ module _ (C : Context) (p : Pair) where
     after-length (suc n) = ap length (after-suc n) ∙ go (is_union_port C i p n) (full_pair C n) ∙ ap (λ m. m + bit (is_new_exterior C i p n)) (after-length n)
       where
         go : (b : Bool) (o : Option Pair) → length (cond b (insert_exterior p (after n) o) (after n)) ≡ length (after n) + bit (b && holds o (λ q. not (any_below_lem n (has_exterior (exterior_of p q)))))
-        go true none = sym (add-zero (length (after n)))
-        go true (some q) = ap length (insert_is (after n) q) ∙ length-insert (exterior_of p q) (after_ascending n) ∙ ap (λ b. length (after n) + bit (not b)) (after-member (exterior_of p q) n)
+        go true None = sym (add-zero (length (after n)))
+        go true (Some q) = ap length (insert_is (after n) q) ∙ length-insert (exterior_of p q) (after_ascending n) ∙ ap (λ b. length (after n) + bit (not b)) (after-member (exterior_of p q) n)
         go false o = sym (add-zero (length (after n)))
 
     -- `exteriors.len()`, of the set that the ports of the union give

@@ -3,7 +3,7 @@
 use Rattle.std.specs.Prelude.{ℕ, suc, ◌<◌, ◌≡◌, Bool, not, ◌&&◌, cond, List, [], map}
 use Rattle.std.proofs.Math.Path.{refl}
 use Rattle.std.proofs.Math.Bool.{true, false}
-use Rattle.std.proofs.Math.Option.{Option, none, some}
+use Rattle.std.specs.Prelude.{Option, None, Some}
 use Rattle.definitions.specs.Scan.{all, to_list}
 use Rattle.definitions.specs.Grid.{Pair}
 use Rattle.definitions.specs.Context.{Context, only_pair, full_cut, full_pair, is_incident, no_ramp}
@@ -32,8 +32,8 @@ full-all C P i a = go (full_cut C i) a
 module _ (C : Context) where
   union-formed : (i : ℕ) (o : Option Pair) → i < C.count → All (λ p. p.lo < p.hi) (to_list o) → All (Formed C) (to_list (union_from C i o))
   unfolding union_from
-  union-formed i none h a = done
-  union-formed i (some p) h (more l done) = on_list (on_only (union_shape C i p && union_regions C i p) (record { index = i; kind = 0; first = p.lo; second = p.hi }) (of_union refl l h))
+  union-formed i None h a = done
+  union-formed i (Some p) h (more l done) = on_list (on_only (union_shape C i p && union_regions C i p) (record { index = i; kind = 0; first = p.lo; second = p.hi }) (of_union refl l h))
 
   at_formed : (r i k t : ℕ) → i < C.count → All (Formed C) (to_list (bridge_at C r i k t))
   unfolding bridge_at
@@ -43,7 +43,7 @@ module _ (C : Context) where
   unfolding pick_bridge
   pick-formed r i k t h l = go (is_twice_as_wide C i k) (is_twice_as_wide C k i)
     where
-      go : (a b : Bool) → All (Formed C) (to_list (cond a (bridge_at C r i k t) (cond b (bridge_at C r k i t) none)))
+      go : (a b : Bool) → All (Formed C) (to_list (cond a (bridge_at C r i k t) (cond b (bridge_at C r k i t) None)))
       go true b = at_formed r i k t h
       go false true = at_formed r k i t l
       go false false = done
@@ -55,7 +55,7 @@ module _ (C : Context) where
   ports-formed r (more h (more k done)) = done
   ports-formed r (more {x = x} h (more {x = y} k (more {x = z} m done))) = go (is_shared C r x y z) (is_shared C r x z y) (is_shared C r y z x)
     where
-      go : (a b c : Bool) → All (Formed C) (to_list (cond a (pick_bridge C r x y z) (cond b (pick_bridge C r x z y) (cond c (pick_bridge C r y z x) none))))
+      go : (a b c : Bool) → All (Formed C) (to_list (cond a (pick_bridge C r x y z) (cond b (pick_bridge C r x z y) (cond c (pick_bridge C r y z x) None))))
       go true b c = pick-formed r x y z h k
       go false true c = pick-formed r x z y h m
       go false false true = pick-formed r y z x k m
@@ -66,7 +66,7 @@ module _ (C : Context) where
   unfolding bridge_proposal
   bridge-formed r = go (not (C.anchored r) && all (λ j. no_ramp C j && is_some (full_pair C j)) (ports_of C r))
     where
-      go : (b : Bool) → All (Formed C) (to_list (cond b (bridge_of_ports C r (ports_of C r)) none))
+      go : (b : Bool) → All (Formed C) (to_list (cond b (bridge_of_ports C r (ports_of C r)) None))
       go true = ports-formed r {l = ports_of C r} (rw (incidents-below C r) (below_all (λ j. is_incident C j r) C.count))
       go false = done
 

@@ -5,8 +5,8 @@ use Prim.Native.Nat.{ℕ, zero, suc, ◌<◌}
 use Rattle.std.proofs.Common.{arith, ◌∙◌}
 use Rattle.std.specs.Prelude.{◌≡◌, Bool}
 use Rattle.std.proofs.Math.Path.{refl, sym, ap, ap₂}
-use Rattle.std.proofs.Math.Option
-use Rattle.std.proofs.Math.Option.{Option}
+use Rattle.std.specs.Prelude.{option_map}
+use Rattle.std.specs.Prelude.{Option}
 use mathlib.Core.List.{List, [], ◌∷◌, ◌++◌, map, append_assoc}
 use Rattle.definitions.specs.Scan.{filter, concat_map, collect, to_list}
 use Rattle.definitions.specs.Grid.{Pair}
@@ -40,7 +40,7 @@ module _ (C : Context) (full : ℕ → Option Pair) where
 
   --     for (pocket, ports) in &ctx.incidents { ..; bridge_proposals.push(BridgeProposal { index, pocket: *pocket, exterior, ports: ports.clone() }); }
   unfoldable pub bridge_proposals : List BridgeStruct
-  bridge_proposals = concat_map (λ e. to_list (Option.map (bridge_with C e) (pocket_bridge C full e.region e.boundaries))) (incidents C)
+  bridge_proposals = concat_map (λ e. to_list (option_map (bridge_with C e) (pocket_bridge C full e.region e.boundaries))) (incidents C)
 
   --     for proposal in union_proposals { ..; if .. { ranked.push(Proposal::Union(proposal)); } }
   --     for proposal in bridge_proposals { ..; if .. { ranked.push(Proposal::Bridge(proposal)); } }

@@ -7,7 +7,7 @@ use Rattle.std.proofs.Common.{◌∙◌, eqb-true}
 use Rattle.std.proofs.Math.Bool.{true, false, not, ◌&&◌, or-false, or-true}
 use Rattle.std.specs.Bool.{beq}
 use Rattle.std.proofs.lemmas.Bool.{false≢true}
-use Rattle.std.proofs.Math.Option.{Option, none, some}
+use Rattle.std.specs.Prelude.{Option, None, Some}
 use mathlib.Core.List.{List, [], ◌∷◌}
 use Rattle.definitions.specs.Scan.{any, all, member, all_below}
 use Rattle.definitions.specs.Grid.{Pair, contains}
@@ -29,8 +29,8 @@ union_set p = set_insert (set_insert [] p.lo) p.hi
 --     let Some(other_pair) = full_pair(&metadata[*other_index]) else { valid = false; break; };
 --     if union.contains(&other_pair[0]) == union.contains(&other_pair[1]) { valid = false; break; }
 unfoldable pub is_unfit : Pair → Option Pair → Bool
-is_unfit p none = true
-is_unfit p (some q) = beq (member q.lo (union_set p)) (member q.hi (union_set p))
+is_unfit p None = true
+is_unfit p (Some q) = beq (member q.lo (union_set p)) (member q.hi (union_set p))
 
 pub record Walked : Type 0 where
   pub valid : Bool
@@ -69,8 +69,8 @@ union-member r p = member-insert r (set_insert [] p.lo) p.hi ∙ ap (λ b. eqb r
 
 pub fit-unfit : (p : Pair) (o : Option Pair) → not (is_unfit p o) ≡ holds o (fits_union p)
 unfolding is_unfit
-fit-unfit p none = refl
-fit-unfit p (some q) = rw (union-member q.lo p, union-member q.hi p) (go (contains q.lo p) (contains q.hi p))
+fit-unfit p None = refl
+fit-unfit p (Some q) = rw (union-member q.lo p, union-member q.hi p) (go (contains q.lo p) (contains q.hi p))
   where
     go : (a b : Bool) → not (beq a b) ≡ (not a && b || a && not b)
     go true true = refl

@@ -5,7 +5,7 @@ use Rattle.std.specs.Prelude.{ℕ, ◌+◌, ◌≡◌, Bool, ◌&&◌, ◌||◌}
 use Rattle.std.proofs.Common.{arith, ap, ◌∙◌}
 use Rattle.std.proofs.Math.Path.{refl, sym}
 use Rattle.std.proofs.Math.Bool.{true, false, not, cond}
-use Rattle.std.proofs.Math.Option.{Option, none, some}
+use Rattle.std.specs.Prelude.{Option, None, Some}
 use Rattle.std.proofs.Math.Dec.{eqb, ltb}
 use Rattle.std.specs.Float.Ieee.{le}
 use borrow.Author.Tests.{ltb-true, lt-ltb}
@@ -40,9 +40,9 @@ module _ (C : Context) where
   --         && dominant_elevation(first).zip(dominant_elevation(second)).is_some_and(|(a, b)| a == b);
   --     if first.cells + second.cells > 0 && !first.has_ramp && !second.has_ramp && local && (strictly_flat || near_flat) { .. }
   abbrev pub union_passes_in : UnionStruct → Option Region → Option Region → Bool
-  union_passes_in x none t = false
-  union_passes_in x (some first) none = false
-  union_passes_in x (some first) (some second) =
+  union_passes_in x None t = false
+  union_passes_in x (Some first) None = false
+  union_passes_in x (Some first) (Some second) =
       ltb 0 (first.cells + second.cells) && not (has_ramp first) && not (has_ramp second) && union_is_local x first second
       && (strictly_flat_mask first second || eqb x.anchored_regions 1 && dominant_same first second)
 

@@ -6,7 +6,7 @@ use Rattle.std.proofs.Common.{arith, sym, ap, ◌∙◌, ltb-true, ltb-false, lt
 use Rattle.std.proofs.Math.Path.{refl}
 use Rattle.std.proofs.Math.Bool.{true, false, cond}
 use Rattle.std.proofs.lemmas.Bool.{false≢true}
-use Rattle.std.proofs.Math.Option.{Option, none, some}
+use Rattle.std.specs.Prelude.{Option, None, Some}
 use mathlib.Core.List.{List, [], ◌∷◌}
 use Rattle.std.proofs.Math.Dec.{leb}
 use Rattle.std.specs.Float.Ieee.{le}
@@ -60,14 +60,14 @@ module _ (C : Context) where
 module _ (C : Context) (full : ℕ → Option Pair) where
   --     if !valid || ports.len() < 3 { continue; }
   unfoldable pub union_walked : ℕ → Pair → Walked → Option UnionStruct
-  union_walked i p w = cond (not w.valid || ltb (length w.ports) 3) none (union_surveyed C i p w.ports (survey_ports C full i p [] (float 0) w.ports))
+  union_walked i p w = cond (not w.valid || ltb (length w.ports) 3) None (union_surveyed C i p w.ports (survey_ports C full i p [] (float 0) w.ports))
 
   --     let Some(pair) = full_pair(entry) else { continue; };
   --     if boundaries[index].ramp.is_some() { continue; }
   --     if anchored_regions > 1 { continue; }
   unfoldable pub union_of_pair : ℕ → Option Pair → Option UnionStruct
-  union_of_pair i none = none
-  union_of_pair i (some p) = cond (not (no_ramp C i)) none (cond (ltb 1 (anchored_count C p)) none (union_walked i p (walk_union full (incidents C) i p)))
+  union_of_pair i None = None
+  union_of_pair i (Some p) = cond (not (no_ramp C i)) None (cond (ltb 1 (anchored_count C p)) None (union_walked i p (walk_union full (incidents C) i p)))
 
 -- ---- and that it is the same
 
@@ -148,27 +148,27 @@ module _ (C : Context) where
       unfolding union_walked
       walked_is = go (walk_union (full_pair C) (incidents C) i p).valid refl
         where
-          few : (b : Bool) → cond (not b) none (union_surveyed C i p ports (survey_ports C (full_pair C) i p [] (float 0) ports)) ≡ only_if (b && near && many_exteriors && wide_enough_lem) proposed
+          few : (b : Bool) → cond (not b) None (union_surveyed C i p ports (survey_ports C (full_pair C) i p [] (float 0) ports)) ≡ only_if (b && near && many_exteriors && wide_enough_lem) proposed
           few true = surveyed_is
           few false = refl
 
           go : (b : Bool) → (walk_union (full_pair C) (incidents C) i p).valid ≡ b → union_walked C (full_pair C) i p (walk_union (full_pair C) (incidents C) i p) ≡ only_if (ports_fit C i p && leb 3 (count_below C.count (is_union_port C i p)) && near && many_exteriors && wide_enough_lem) proposed
           go true e =
-              (λ t. cond (not (e t) || ltb (length (walk-ports C i p e t)) 3) none (union_surveyed C i p (walk-ports C i p e t) (survey_ports C (full_pair C) i p [] (float 0) (walk-ports C i p e t))))
-              ∙ (λ t. cond ((less_three (length ports) ∙ ap (λ n. not (leb 3 n)) (length-below (is_union_port C i p) C.count)) t) none (union_surveyed C i p ports (survey_ports C (full_pair C) i p [] (float 0) ports)))
+              (λ t. cond (not (e t) || ltb (length (walk-ports C i p e t)) 3) None (union_surveyed C i p (walk-ports C i p e t) (survey_ports C (full_pair C) i p [] (float 0) (walk-ports C i p e t))))
+              ∙ (λ t. cond ((less_three (length ports) ∙ ap (λ n. not (leb 3 n)) (length-below (is_union_port C i p) C.count)) t) None (union_surveyed C i p ports (survey_ports C (full_pair C) i p [] (float 0) ports)))
               ∙ few (leb 3 (count_below C.count (is_union_port C i p)))
               ∙ (λ t. only_if ((sym e ∙ walk-valid C i p) t && leb 3 (count_below C.count (is_union_port C i p)) && near && many_exteriors && wide_enough_lem) proposed)
           go false e =
-              (λ t. cond (not (e t) || ltb (length (walk_union (full_pair C) (incidents C) i p).ports) 3) none (union_surveyed C i p (walk_union (full_pair C) (incidents C) i p).ports (survey_ports C (full_pair C) i p [] (float 0) (walk_union (full_pair C) (incidents C) i p).ports)))
+              (λ t. cond (not (e t) || ltb (length (walk_union (full_pair C) (incidents C) i p).ports) 3) None (union_surveyed C i p (walk_union (full_pair C) (incidents C) i p).ports (survey_ports C (full_pair C) i p [] (float 0) (walk_union (full_pair C) (incidents C) i p).ports)))
               ∙ (λ t. only_if ((sym e ∙ walk-valid C i p) t && leb 3 (count_below C.count (is_union_port C i p)) && near && many_exteriors && wide_enough_lem) proposed)
 
       -- a boundary that is a full pair
-      pub union_is : union_of_pair C (full_pair C) i (some p) ≡ only_if (union_shape C i p) proposed
+      pub union_is : union_of_pair C (full_pair C) i (Some p) ≡ only_if (union_shape C i p) proposed
       unfolding union_of_pair union_shape
       union_is =
-          (λ t. cond (not (no_ramp C i)) none (cond ((ap (ltb 1) (anchored_is p) ∙ over_one (anchored_regions C p)) t) none (union_walked C (full_pair C) i p (walk_union (full_pair C) (incidents C) i p)))) ∙ go (no_ramp C i) (ltb (anchored_regions C p) 2)
+          (λ t. cond (not (no_ramp C i)) None (cond ((ap (ltb 1) (anchored_is p) ∙ over_one (anchored_regions C p)) t) None (union_walked C (full_pair C) i p (walk_union (full_pair C) (incidents C) i p)))) ∙ go (no_ramp C i) (ltb (anchored_regions C p) 2)
         where
-          go : (a b : Bool) → cond (not a) none (cond (not b) none (union_walked C (full_pair C) i p (walk_union (full_pair C) (incidents C) i p))) ≡ only_if (a && b && ports_fit C i p && leb 3 (count_below C.count (is_union_port C i p)) && near && many_exteriors && wide_enough_lem) proposed
+          go : (a b : Bool) → cond (not a) None (cond (not b) None (union_walked C (full_pair C) i p (walk_union (full_pair C) (incidents C) i p))) ≡ only_if (a && b && ports_fit C i p && leb 3 (count_below C.count (is_union_port C i p)) && near && many_exteriors && wide_enough_lem) proposed
           go true true = walked_is
           go true false = refl
           go false b = refl

@@ -6,8 +6,8 @@ use Rattle.std.specs.Prelude.{◌≡◌, ◌&&◌, ◌||◌, length}
 use Rattle.std.proofs.Math.Path.{refl, sym, ap}
 use Rattle.std.proofs.Common.{◌∙◌}
 use Rattle.std.proofs.Math.Bool.{Bool, true, false, not, cond, and-false}
-use Rattle.std.proofs.Math.Option
-use Rattle.std.proofs.Math.Option.{Option, none, some}
+use Rattle.std.specs.Prelude.{option_map}
+use Rattle.std.specs.Prelude.{Option, None, Some}
 use mathlib.Core.List.{List, [], ◌∷◌, map}
 use Rattle.std.proofs.Math.Dec.{eqb}
 use Rattle.std.specs.Float.Ieee.Scale.{finite}
@@ -33,11 +33,11 @@ module _ (C : Context) (sound : Sound C) (ascending : (i : ℕ) → Ascending (C
     shape_is : star_rust (full_cut_at C m) (C.pairs m) ≡ mouth_shape (full_cut C m) (C.pairs m)
     shape_is = star_is (full_cut_at C m) (C.pairs m) ∙ ap (λ b. mouth_shape b (C.pairs m)) (sym (full_cut_lem C sound m))
 
-    triangle_at : cond (nearby C a m) (triangle_rust (full_cut_at C m) (full_cut_at C a) (C.pairs m) (C.pairs a)) none ≡ sorted_regions (triangle C m a)
+    triangle_at : cond (nearby C a m) (triangle_rust (full_cut_at C m) (full_cut_at C a) (C.pairs m) (C.pairs a)) None ≡ sorted_regions (triangle C m a)
     unfolding triangle nearby_representative
-    triangle_at = (λ i. cond (nearby C a m) (triangle_rust (sym (full_cut_lem C sound m) i) (sym (full_cut_lem C sound a) i) (C.pairs m) (C.pairs a)) none) ∙ ap (λ o. cond (nearby C a m) o none) (triangle_is (full_cut C m) (full_cut C a) (C.pairs m) (C.pairs a) (sound.ordered m) (ascending m) (sound.ordered a) (ascending a)) ∙ go (nearby C a m) (full_cut C m) (full_cut C a)
+    triangle_at = (λ i. cond (nearby C a m) (triangle_rust (sym (full_cut_lem C sound m) i) (sym (full_cut_lem C sound a) i) (C.pairs m) (C.pairs a)) None) ∙ ap (λ o. cond (nearby C a m) o None) (triangle_is (full_cut C m) (full_cut C a) (C.pairs m) (C.pairs a) (sound.ordered m) (ascending m) (sound.ordered a) (ascending a)) ∙ go (nearby C a m) (full_cut C m) (full_cut C a)
       where
-        go : (n f g : Bool) → cond n (sorted_regions (cond (f && g) (triangle_representative (C.pairs m) (C.pairs a)) none)) none ≡ sorted_regions (cond (n && f && g) (triangle_representative (C.pairs m) (C.pairs a)) none)
+        go : (n f g : Bool) → cond n (sorted_regions (cond (f && g) (triangle_representative (C.pairs m) (C.pairs a)) None)) None ≡ sorted_regions (cond (n && f && g) (triangle_representative (C.pairs m) (C.pairs a)) None)
         go true true true = refl
         go true true false = refl
         go true false g = refl
@@ -48,35 +48,35 @@ module _ (C : Context) (sound : Sound C) (ascending : (i : ℕ) → Ascending (C
     made = triangle_or C (triangle C m a) m a (shaped_mouth C m a (full_pair C a) (mouth_shape (full_cut C m) (C.pairs m)))
 
     guarded : (x y : Bool) (T : Option (List ℕ)) (q : Option Pair) (S : Option MouthShape)
-        → cond (not (is_none (cond x none (some (C.boundary m)))) || (is_none S && is_none (sorted_regions T)) || not y) none (push_mouth C a m (found_of (triangle_or C T m a (shaped_mouth C m a q S))))
-        ≡ cond (x && y) (push_mouth C a m (found_of (triangle_or C T m a (shaped_mouth C m a q S)))) none
+        → cond (not (is_none (cond x None (Some (C.boundary m)))) || (is_none S && is_none (sorted_regions T)) || not y) None (push_mouth C a m (found_of (triangle_or C T m a (shaped_mouth C m a q S))))
+        ≡ cond (x && y) (push_mouth C a m (found_of (triangle_or C T m a (shaped_mouth C m a q S)))) None
     unfolding triangle_or shaped_mouth push_mouth
     guarded false y T q S = refl
-    guarded true y (some rs) q S = rw (and-false (is_none S)) (turn y)
+    guarded true y (Some rs) q S = rw (and-false (is_none S)) (turn y)
       where
-        turn : (y : Bool) → cond (not y) none (push_mouth C a m (found_of (triangle_mouth C m a rs))) ≡ cond y (push_mouth C a m (found_of (triangle_mouth C m a rs))) none
+        turn : (y : Bool) → cond (not y) None (push_mouth C a m (found_of (triangle_mouth C m a rs))) ≡ cond y (push_mouth C a m (found_of (triangle_mouth C m a rs))) None
         turn true = refl
         turn false = refl
-    guarded true y none q (some shape) = turn y
+    guarded true y None q (Some shape) = turn y
       where
-        turn : (y : Bool) → cond (not y) none (push_mouth C a m (found_of (shaped_mouth C m a q (some shape)))) ≡ cond y (push_mouth C a m (found_of (shaped_mouth C m a q (some shape)))) none
+        turn : (y : Bool) → cond (not y) None (push_mouth C a m (found_of (shaped_mouth C m a q (Some shape)))) ≡ cond y (push_mouth C a m (found_of (shaped_mouth C m a q (Some shape)))) None
         turn true = refl
         turn false = refl
-    guarded true true none none none = refl
-    guarded true true none (some q) none = refl
-    guarded true false none none none = refl
-    guarded true false none (some q) none = refl
+    guarded true true None None None = refl
+    guarded true true None (Some q) None = refl
+    guarded true false None None None = refl
+    guarded true false None (Some q) None = refl
 
     abbrev near : Bool
     near = broad_mouth C m a || nearby_representative C m a || overlay_representative C m a
 
-    body_is : a < C.count → m < C.count → mouth_body C a m ≡ cond (no_ramp C m && near) (push_mouth C a m (found_of made)) none
+    body_is : a < C.count → m < C.count → mouth_body C a m ≡ cond (no_ramp C m && near) (push_mouth C a m (found_of made)) None
     unfolding mouth_body broad_mouth nearby_representative overlay_representative
     body_is ha hm =
         (λ i.
-        cond (not (is_none (ramp_of C m)) || (is_none (shape_is i) && is_none (triangle_at i)) || not-any (broad C a m) (nearby C a m) (overlay C a m) i) none
+        cond (not (is_none (ramp_of C m)) || (is_none (shape_is i) && is_none (triangle_at i)) || not-any (broad C a m) (nearby C a m) (overlay C a m) i) None
         (push_mouth C a m (found_mouth C a m (triangle_at i) (sym (full_pair_lem C sound a) i) (shape_is i))))
-        ∙ ap (λ o. cond (not (is_none (ramp_of C m)) || (is_none (mouth_shape (full_cut C m) (C.pairs m)) && is_none (sorted_regions (triangle C m a))) || not near) none (push_mouth C a m o)) (found_is C a m ha hm (triangle C m a) (full_pair C a) (mouth_shape (full_cut C m) (C.pairs m)))
+        ∙ ap (λ o. cond (not (is_none (ramp_of C m)) || (is_none (mouth_shape (full_cut C m) (C.pairs m)) && is_none (sorted_regions (triangle C m a))) || not near) None (push_mouth C a m o)) (found_is C a m ha hm (triangle C m a) (full_pair C a) (mouth_shape (full_cut C m) (C.pairs m)))
         ∙ guarded (no_ramp C m) near (triangle C m a) (full_pair C a) (mouth_shape (full_cut C m) (C.pairs m))
       where
         not-any : (x y z : Bool) → (not x && not y && not z) ≡ not (x || y || z)
@@ -85,8 +85,8 @@ module _ (C : Context) (sound : Sound C) (ascending : (i : ℕ) → Ascending (C
         not-any false false z = refl
 
     abbrev AllIf : Option (List ℕ) → Type 0
-    AllIf none = Unit {0}
-    AllIf (some rs) = All (Inhabited C) rs
+    AllIf None = Unit {0}
+    AllIf (Some rs) = All (Inhabited C) rs
 
     triangle-regions : (l k : List Pair) → All (Inhabited C) (distinct_regions l) → AllIf (triangle_representative l k)
     unfolding triangle_representative
@@ -110,25 +110,25 @@ module _ (C : Context) (sound : Sound C) (ascending : (i : ℕ) → Ascending (C
     unfolding triangle triangle_or
     made-made = go (triangle C m a) (all_if (nearby_representative C m a && full_cut C m && full_cut C a))
       where
-        all_if : (b : Bool) → AllIf (cond b (triangle_representative (C.pairs m) (C.pairs a)) none)
+        all_if : (b : Bool) → AllIf (cond b (triangle_representative (C.pairs m) (C.pairs a)) None)
         all_if true = triangle-regions (C.pairs m) (C.pairs a) (distinct_inhabited C measured sound m)
         all_if false = tt
 
         go : (T : Option (List ℕ)) → AllIf T → MadeIf C measured a m (triangle_or C T m a (shaped_mouth C m a (full_pair C a) (mouth_shape (full_cut C m) (C.pairs m))))
-        go none h = made-shape C measured a m (full_pair C a) (mouth_shape (full_cut C m) (C.pairs m)) (shape-made C measured sound m)
-        go (some rs) h = made-triangle C measured a m rs h
+        go None h = made-shape C measured a m (full_pair C a) (mouth_shape (full_cut C m) (C.pairs m)) (shape-made C measured sound m)
+        go (Some rs) h = made-triangle C measured a m rs h
 
-    passed_over : (not (no_ramp C a) && full_cut C a) ≡ false → mouth_proposal C a m ≡ none
+    passed_over : (not (no_ramp C a) && full_cut C a) ≡ false → mouth_proposal C a m ≡ None
     unfolding mouth_proposal
-    passed_over h = λ i. cond (h i && no_ramp C m && near) (retain (is_local C) made) none
+    passed_over h = λ i. cond (h i && no_ramp C m && near) (retain (is_local C) made) None
 
     -- one mouth of a ramp that the loop does not pass over
-    mouth_is : a < C.count → m < C.count → no_ramp C a ≡ false → full_cut C a ≡ true → keep_if (is_retained C) (mouth_body C a m) ≡ Option.map (rendered C) (mouth_proposal C a m)
+    mouth_is : a < C.count → m < C.count → no_ramp C a ≡ false → full_cut C a ≡ true → keep_if (is_retained C) (mouth_body C a m) ≡ option_map (rendered C) (mouth_proposal C a m)
     unfolding mouth_proposal
     mouth_is ha hm hr hf = ap (keep_if (is_retained C)) (body_is ha hm) ∙ go (no_ramp C m && near)
-        ∙ (λ i. Option.map (rendered C) (cond (not (sym hr i) && sym hf i && no_ramp C m && near) (retain (is_local C) made) none))
+        ∙ (λ i. option_map (rendered C) (cond (not (sym hr i) && sym hf i && no_ramp C m && near) (retain (is_local C) made) None))
       where
-        go : (b : Bool) → keep_if (is_retained C) (cond b (push_mouth C a m (found_of made)) none) ≡ Option.map (rendered C) (cond b (retain (is_local C) made) none)
+        go : (b : Bool) → keep_if (is_retained C) (cond b (push_mouth C a m (found_of made)) None) ≡ option_map (rendered C) (cond b (retain (is_local C) made) None)
         go true = pushed_is C measured a m made made-made
         go false = refl
 
@@ -137,7 +137,7 @@ module _ (C : Context) (sound : Sound C) (ascending : (i : ℕ) → Ascending (C
   ramp_is a ha = ap (λ c. filter (is_retained C) (loop (no_ramp C a) c)) (sym (full_cut_lem C sound a)) ∙ go (no_ramp C a) refl (full_cut C a) refl
     where
       loop : Bool → Bool → List MouthRust
-      loop b c = cond (is_none (cond b none (some (C.boundary a)))) [] (cond (not c) [] (collect C.count (mouth_body C a)))
+      loop b c = cond (is_none (cond b None (Some (C.boundary a)))) [] (cond (not c) [] (collect C.count (mouth_body C a)))
 
       out : (b c : Bool) → no_ramp C a ≡ b → full_cut C a ≡ c → (not b && c) ≡ false → [] ≡ map (rendered C) (collect C.count (mouth_proposal C a))
       out b c e f h = collect_none (rendered C) C.count (mouth_proposal C a) (λ m. passed_over a m ((λ i. not (e i) && f i) ∙ h))

@@ -6,7 +6,8 @@ use Rattle.std.proofs.Common.{arith, ◌∙◌, ne_eqb, leb-true, leb-false, le-
 use Rattle.std.proofs.Math.Path.{refl, sym, ap}
 use Rattle.std.proofs.Math.Bool.{Bool, true, false, not, cond, or-false}
 use Rattle.std.proofs.lemmas.Bool.{false≢true}
-use Rattle.std.proofs.Math.Option.{Option, none, some, map}
+use Rattle.std.specs.Prelude.{Option, None, Some}
+use Rattle.std.specs.Prelude.{option_map}
 use mathlib.Core.List.{List, [], ◌∷◌}
 use Rattle.std.proofs.Math.Dec.{eqb, ltb, leb}
 use Rattle.definitions.specs.Scan.{any, all, filter, any_below_lem, only_if, member}
@@ -25,8 +26,8 @@ use Rattle.laws.specs.RustMouths.MouthLiteral.{FoundMouth, find, found_triangle,
 -- ---- a proposal, as the Rust has it found
 
 abbrev pub head_of : List ℕ → Option ℕ
-head_of [] = none
-head_of (x ∷ l) = some x
+head_of [] = None
+head_of (x ∷ l) = Some x
 
 abbrev pub inner_rust : MouthProposal → List ℕ
 inner_rust p = cond p.is_triangle (sort ltb p.inner) p.inner
@@ -38,7 +39,7 @@ abbrev pub found_for : MouthProposal → FoundMouth
 found_for p = record { outer = head_of p.outer; inner = inner_rust p; union = union_rust p; triangle = p.is_triangle; two_port_broad_approach = p.two_port_broad_approach }
 
 abbrev pub found_of : Option MouthProposal → Option FoundMouth
-found_of o = map found_for o
+found_of o = option_map found_for o
 
 -- ---- the tests
 
@@ -54,7 +55,7 @@ unfolding find filter
 find_is f [] = refl
 find_is f (x ∷ l) = go (f x) (find_is f l)
   where
-    go : (b : Bool) → find f l ≡ head_of (filter f l) → cond b (some x) (find f l) ≡ head_of (cond b (x ∷ filter f l) (filter f l))
+    go : (b : Bool) → find f l ≡ head_of (filter f l) → cond b (Some x) (find f l) ≡ head_of (cond b (x ∷ filter f l) (filter f l))
     go true ih = refl
     go false ih = ih
 
@@ -69,7 +70,7 @@ module _ (C : Context) where
   unfolding other_end other_end_incident is_incident
   other_end_lem a r = λ i. any_below_lem C.count (λ j. at j (no_ramp C j) i)
     where
-      at : (j : ℕ) (b : Bool) → is_some_and (cond b none (some (C.boundary j))) (λ other. eqb other.ramp_id (C.boundary a).ramp_id && not (eqb other.kind (C.boundary a).kind) && any (contains r) (C.pairs j)) ≡ (not b && eqb (C.boundary j).ramp_id (C.boundary a).ramp_id && not (eqb (C.boundary j).kind (C.boundary a).kind) && is_incident C j r)
+      at : (j : ℕ) (b : Bool) → is_some_and (cond b None (Some (C.boundary j))) (λ other. eqb other.ramp_id (C.boundary a).ramp_id && not (eqb other.kind (C.boundary a).kind) && any (contains r) (C.pairs j)) ≡ (not b && eqb (C.boundary j).ramp_id (C.boundary a).ramp_id && not (eqb (C.boundary j).kind (C.boundary a).kind) && is_incident C j r)
       at j true = refl
       at j false = refl
 
@@ -113,10 +114,10 @@ module _ (C : Context) where
         REST = all (λ s. eqb s r || eqb (incident_count C s) 1 && is_incident C m s) inner
 
         found : Bool → Option FoundMouth
-        found two = some (found_for (proposal_of outer inner two))
+        found two = Some (found_for (proposal_of outer inner two))
 
         chain : Bool → Bool → Bool → Bool → Bool → Bool → Option FoundMouth
-        chain x y z l w two = cond x none (cond y none (cond z none (cond l (cond w none (found (broad C a m))) (found two))))
+        chain x y z l w two = cond x None (cond y None (cond z None (cond l (cond w None (found (broad C a m))) (found two))))
 
         tests : found_approach C a m isOne hasAnchored r outer inner ≡ chain (any C.anchored inner) (oo && (not isOne || hasAnchored || not ONLY)) (other_end_incident C a r) (not (leb (length inner) 1)) (not ONLY || not REST) ((broad C a m || oo) && isOne && ONLY)
         tests = λ i.
@@ -134,20 +135,20 @@ module _ (C : Context) where
 
     -- ---- the shapes
 
-    outer_is : (p : Pair) (f : ℕ → Bool) (r : ℕ) → filter f (p.lo ∷ p.hi ∷ []) ≡ r ∷ [] → find (λ region. not (eqb region r)) (p.lo ∷ p.hi ∷ []) ≡ some (other_region r p)
+    outer_is : (p : Pair) (f : ℕ → Bool) (r : ℕ) → filter f (p.lo ∷ p.hi ∷ []) ≡ r ∷ [] → find (λ region. not (eqb region r)) (p.lo ∷ p.hi ∷ []) ≡ Some (other_region r p)
     unfolding find
     outer_is p f r h = go (eqb p.lo r) (eqb p.hi r) (other-out f p.lo p.hi r h)
       where
-        go : (s t : Bool) → (not s || not t) ≡ true → cond (not s) (some p.lo) (cond (not t) (some p.hi) none) ≡ some (cond s p.hi p.lo)
+        go : (s t : Bool) → (not s || not t) ≡ true → cond (not s) (Some p.lo) (cond (not t) (Some p.hi) None) ≡ Some (cond s p.hi p.lo)
         go true true e = absurd (false≢true e)
         go true false e = refl
         go false t e = refl
 
-    single_is : (q p : Pair) → found_shape C a m q (single p) ≡ found_of (shaped_mouth C m a (some q) (some (single p)))
+    single_is : (q p : Pair) → found_shape C a m q (single p) ≡ found_of (shaped_mouth C m a (Some q) (Some (single p)))
     unfolding found_shape found_outer shaped_mouth
     single_is q p = go (filter (λ r. contains r q) (p.lo ∷ p.hi ∷ [])) refl
       where
-        go : (l : List ℕ) → filter (λ r. contains r q) (p.lo ∷ p.hi ∷ []) ≡ l → cond (not (eqb (length l) 1)) none (found_outer C a m (single p) (any C.anchored (p.lo ∷ p.hi ∷ [])) (get_or l 0 0) (find (λ region. not (eqb region (get_or l 0 0))) (p.lo ∷ p.hi ∷ []))) ≡ found_of (single_mouth C m a p l)
+        go : (l : List ℕ) → filter (λ r. contains r q) (p.lo ∷ p.hi ∷ []) ≡ l → cond (not (eqb (length l) 1)) None (found_outer C a m (single p) (any C.anchored (p.lo ∷ p.hi ∷ [])) (get_or l 0 0) (find (λ region. not (eqb region (get_or l 0 0))) (p.lo ∷ p.hi ∷ []))) ≡ found_of (single_mouth C m a p l)
         go [] h = refl
         go (r ∷ []) h =
             ap (found_outer C a m (single p) (any C.anchored (p.lo ∷ p.hi ∷ [])) r) (outer_is p (λ r. contains r q) r h)
@@ -155,11 +156,11 @@ module _ (C : Context) where
             ∙ approach_is true (C.anchored p.lo || C.anchored p.hi) r (other_region r p) (r ∷ [])
         go (r ∷ s ∷ l) h = rw (ne_eqb (length (r ∷ s ∷ l)) 1 (λ e. omega arith)) refl
 
-    star-found : (q : Pair) (outer : ℕ) (inner : List ℕ) → found_shape C a m q (star outer inner) ≡ found_of (shaped_mouth C m a (some q) (some (star outer inner)))
+    star-found : (q : Pair) (outer : ℕ) (inner : List ℕ) → found_shape C a m q (star outer inner) ≡ found_of (shaped_mouth C m a (Some q) (Some (star outer inner)))
     unfolding found_shape found_outer shaped_mouth
     star-found q outer inner = go (filter (λ r. contains r q) inner)
       where
-        go : (l : List ℕ) → cond (not (eqb (length l) 1)) none (found_outer C a m (star outer inner) (any C.anchored inner) (get_or l 0 0) (some outer)) ≡ found_of (star_mouth C m a outer inner l)
+        go : (l : List ℕ) → cond (not (eqb (length l) 1)) None (found_outer C a m (star outer inner) (any C.anchored inner) (get_or l 0 0) (Some outer)) ≡ found_of (star_mouth C m a outer inner l)
         go [] = refl
         go (r ∷ []) = approach_is false (any C.anchored inner) r outer inner
         go (r ∷ s ∷ l) = rw (ne_eqb (length (r ∷ s ∷ l)) 1 (λ e. omega arith)) refl
@@ -178,10 +179,10 @@ module _ (C : Context) where
     triangle-found rs = rw (anchored_count_lem rs) (go (leb (length (filter C.anchored rs)) 1) refl)
       where
         go : (b : Bool) → leb (length (filter C.anchored rs)) 1 ≡ b
-            → cond (not b) none (some (record { outer = find C.anchored (sort ltb rs); inner = filter (λ r. not (C.anchored r)) (sort ltb rs); union = sort ltb rs; triangle = true; two_port_broad_approach = false }))
+            → cond (not b) None (Some (record { outer = find C.anchored (sort ltb rs); inner = filter (λ r. not (C.anchored r)) (sort ltb rs); union = sort ltb rs; triangle = true; two_port_broad_approach = false }))
             ≡ found_of (only_if b (record { mouth_index = m; ramp_index = a; outer = filter C.anchored rs; inner = filter (λ r. not (C.anchored r)) rs; is_triangle = true; two_port_broad_approach = false; separation = separation_of C m a }))
         go true e = λ i.
-            some
+            Some
             (record {
               outer = anchored_one rs (leb-true (length (filter C.anchored rs)) 1 e) i;
               inner = filter-sort ltb number-order (λ r. not (C.anchored r)) rs i;
@@ -194,8 +195,8 @@ module _ (C : Context) where
     -- ---- whatever is found
     pub found_is : (triangle : Option (List ℕ)) (q : Option Pair) (shape : Option MouthShape) → found_mouth C a m (sorted_regions triangle) q shape ≡ found_of (triangle_or C triangle m a (shaped_mouth C m a q shape))
     unfolding found_mouth triangle_or shaped_mouth
-    found_is (some rs) q shape = triangle-found rs
-    found_is none none shape = refl
-    found_is none (some q) none = refl
-    found_is none (some q) (some (single p)) = single_is q p
-    found_is none (some q) (some (star outer inner)) = star-found q outer inner
+    found_is (Some rs) q shape = triangle-found rs
+    found_is None None shape = refl
+    found_is None (Some q) None = refl
+    found_is None (Some q) (Some (single p)) = single_is q p
+    found_is None (Some q) (Some (star outer inner)) = star-found q outer inner

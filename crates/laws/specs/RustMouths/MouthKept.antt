@@ -4,7 +4,8 @@ use Rattle.std.specs.Prelude.{ℕ, ◌<◌, ◌≡◌, ◌&&◌, ◌||◌, cond,
 use Rattle.std.proofs.Math.Path.{refl, sym, ap}
 use Rattle.std.proofs.Common.{ap₂, ◌∙◌, lt-ltb}
 use Rattle.std.proofs.Math.Bool.{Bool, true, false, not, or-false}
-use Rattle.std.proofs.Math.Option.{Option, none, some, map}
+use Rattle.std.specs.Prelude.{Option, None, Some}
+use Rattle.std.specs.Prelude.{option_map}
 use mathlib.Core.List.{List, [], ◌∷◌}
 use Rattle.std.specs.Float.Ieee.{le, lt}
 use Rattle.std.specs.Float.Ieee.Scale.{finite}
@@ -67,7 +68,7 @@ module _ (C : Context) (measured : (r : ℕ) → finite (C.region r).min_x_lem �
       near : Point → Bool
       near middle = le (distance c middle) max_approach_radius
 
-      go : (b : Bool) → any near (concat_map to_list (cond b (some ramp ∷ some mouth ∷ []) (some ramp ∷ none ∷ []))) ≡ (near ramp || b && near mouth)
+      go : (b : Bool) → any near (concat_map to_list (cond b (Some ramp ∷ Some mouth ∷ []) (Some ramp ∷ None ∷ []))) ≡ (near ramp || b && near mouth)
       go true = ap (λ b. near ramp || b) (or-false (near mouth))
       go false = refl
 
@@ -91,9 +92,9 @@ module _ (C : Context) (measured : (r : ℕ) → finite (C.region r).min_x_lem �
 
   -- the regions of a mouth's shape
   abbrev pub ShapeIf : Option MouthShape → Type 0
-  ShapeIf none = Unit {0}
-  ShapeIf (some (single p)) = Inhabited C p.lo × Inhabited C p.hi
-  ShapeIf (some (star outer inner)) = All (Inhabited C) inner
+  ShapeIf None = Unit {0}
+  ShapeIf (Some (single p)) = Inhabited C p.lo × Inhabited C p.hi
+  ShapeIf (Some (star outer inner)) = All (Inhabited C) inner
 
   -- ---- what holds of a proposal of ramp a and mouth m
 
@@ -105,21 +106,21 @@ module _ (C : Context) (measured : (r : ℕ) → finite (C.region r).min_x_lem �
       pub inner : All (Inhabited C) p.inner
 
     abbrev pub MadeIf : Option MouthProposal → Type 0
-    MadeIf none = Unit {0}
-    MadeIf (some p) = Made p
+    MadeIf None = Unit {0}
+    MadeIf (Some p) = Made p
 
     made_if : (b : Bool) {p : MouthProposal} → Made p → MadeIf (only_if b p)
     made_if true h = h
     made_if false h = tt
 
-    pub pushed_is : (o : Option MouthProposal) → MadeIf o → keep_if (is_retained C) (push_mouth C a m (found_of o)) ≡ map (rendered C) (retain (is_local C) o)
+    pub pushed_is : (o : Option MouthProposal) → MadeIf o → keep_if (is_retained C) (push_mouth C a m (found_of o)) ≡ option_map (rendered C) (retain (is_local C) o)
     unfolding push_mouth is_local separation_of
-    pushed_is none h = refl
-    pushed_is (some p) h =
+    pushed_is None h = refl
+    pushed_is (Some p) h =
         (λ i.
         keep_if (is_retained C)
-        (cond (lt max_mouth_distance (sym h.apart i)) none
-        (some
+        (cond (lt max_mouth_distance (sym h.apart i)) None
+        (Some
         (record {
           mouth_index = sym h.mouth i;
           ramp_index = sym h.ramp i;
@@ -132,27 +133,27 @@ module _ (C : Context) (measured : (r : ℕ) → finite (C.region r).min_x_lem �
           mouth_center = center (C.boundary (sym h.mouth i)).endpoints;
           two_port_broad_approach = p.two_port_broad_approach;
         }))))
-        ∙ go (lt max_mouth_distance p.separation) ∙ ap (λ b. map (rendered C) (only_if (not (lt max_mouth_distance p.separation) && b) p)) (retained_is p h.inner)
+        ∙ go (lt max_mouth_distance p.separation) ∙ ap (λ b. option_map (rendered C) (only_if (not (lt max_mouth_distance p.separation) && b) p)) (retained_is p h.inner)
       where
-        pass : (c : Bool) → only_if c (rendered C p) ≡ map (rendered C) (only_if c p)
+        pass : (c : Bool) → only_if c (rendered C p) ≡ option_map (rendered C) (only_if c p)
         pass true = refl
         pass false = refl
 
-        go : (b : Bool) → keep_if (is_retained C) (cond b none (some (rendered C p))) ≡ map (rendered C) (only_if (not b && is_retained C (rendered C p)) p)
+        go : (b : Bool) → keep_if (is_retained C) (cond b None (Some (rendered C p))) ≡ option_map (rendered C) (only_if (not b && is_retained C (rendered C p)) p)
         go true = refl
         go false = pass (is_retained C (rendered C p))
 
     pub made-shape : (q : Option Pair) (shape : Option MouthShape) → ShapeIf shape → MadeIf (shaped_mouth C m a q shape)
     unfolding shaped_mouth
-    made-shape none shape h = tt
-    made-shape (some q) none h = tt
-    made-shape (some q) (some (single p)) h = go (filter (λ r. contains r q) (p.lo ∷ p.hi ∷ [])) (all_filter (λ r. contains r q) (more h.0 (more h.1 done)))
+    made-shape None shape h = tt
+    made-shape (Some q) None h = tt
+    made-shape (Some q) (Some (single p)) h = go (filter (λ r. contains r q) (p.lo ∷ p.hi ∷ [])) (all_filter (λ r. contains r q) (more h.0 (more h.1 done)))
       where
         go : (l : List ℕ) → All (Inhabited C) l → MadeIf (single_mouth C m a p l)
         go [] k = tt
         go (r ∷ []) k = made_if (approach_fits C m a r (r ∷ []) true (C.anchored p.lo || C.anchored p.hi)) (record { mouth = refl; ramp = refl; apart = refl; inner = k })
         go (r ∷ s ∷ l) k = tt
-    made-shape (some q) (some (star outer inner)) h = go (filter (λ r. contains r q) inner)
+    made-shape (Some q) (Some (star outer inner)) h = go (filter (λ r. contains r q) inner)
       where
         go : (l : List ℕ) → MadeIf (star_mouth C m a outer inner l)
         go [] = tt

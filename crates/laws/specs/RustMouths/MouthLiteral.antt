@@ -1,7 +1,7 @@
 -- What the loop of `replace_ramp_mouths` (ramp_boundaries.rs) finds of a mouth and a ramp, as it is written there: its chain of tests gives the five parts of a
 -- proposal, or none where the loop continues. Definitions only. Assumes nothing.
 use Rattle.std.specs.Prelude.{ℕ, Bool, true, false, not, ◌&&◌, ◌||◌, cond, List, [], ◌∷◌, length, get_or, eqb, ltb}
-use Rattle.std.proofs.Math.Option.{Option, none, some}
+use Rattle.std.specs.Prelude.{Option, None, Some}
 use Rattle.std.specs.Float.{binary64}
 use Rattle.std.specs.Float.Ieee.{le, mul}
 use Rattle.definitions.specs.Scan.{any, filter, any_below_lem, member}
@@ -24,12 +24,12 @@ pub record FoundMouth : Type 0 where
 
 -- `iter().find(..)`
 unfoldable pub find : (ℕ → Bool) → List ℕ → Option ℕ
-find f [] = none
-find f (x ∷ l) = cond (f x) (some x) (find f l)
+find f [] = None
+find f (x ∷ l) = cond (f x) (Some x) (find f l)
 
 abbrev pub is_none : {A : Type 0} → Option A → Bool
-is_none none = true
-is_none (some a) = false
+is_none None = true
+is_none (Some a) = false
 
 --     let mouth_inner = match &mouth_shape {
 --         MouthShape::Single(pair) => pair.as_slice(),
@@ -53,7 +53,7 @@ is_single (star outer inner) = false
 --     };
 abbrev pub outer_of : ℕ → MouthShape → Option ℕ
 outer_of approach (single pair) = find (λ region. not (eqb region approach)) (pair.lo ∷ pair.hi ∷ [])
-outer_of approach (star outer inner) = some outer
+outer_of approach (star outer inner) = Some outer
 
 abbrev pub inner_of : ℕ → MouthShape → List ℕ
 inner_of approach (single pair) = approach ∷ []
@@ -70,7 +70,7 @@ module _ (C : Context) where
 
   -- `boundaries[i].ramp`: the numbers of a boundary that has a ramp, kind 0 having none
   abbrev pub ramp_of : ℕ → Option Boundary
-  ramp_of i = cond (no_ramp C i) none (some (C.boundary i))
+  ramp_of i = cond (no_ramp C i) None (Some (C.boundary i))
 
   -- ---- a triangle
 
@@ -94,8 +94,8 @@ module _ (C : Context) where
   --     (outer, inner, triangle, true, false)
   unfoldable pub found_triangle : List ℕ → Option FoundMouth
   found_triangle triangle =
-      cond (ltb 1 (length (filter C.anchored triangle))) none
-      (some
+      cond (ltb 1 (length (filter C.anchored triangle))) None
+      (Some
       (record {
         outer = find C.anchored triangle;
         inner = filter (λ region. not (C.anchored region)) triangle;
@@ -190,23 +190,23 @@ module _ (C : Context) where
         let incidents = incidents_rust C approach in
         let overlay_only = overlay && not nearby && not broad in
         let found : Bool → Option FoundMouth =
-        λ two. some (record { outer = some outer; inner = inner; union = outer ∷ inner; triangle = false; two_port_broad_approach = two }) in
-        cond (any C.anchored inner) none
-        (cond (overlay_only && (not isOne || hasAnchored || is_none_or incidents not_both)) none
-        (cond (other_end a approach) none
+        λ two. Some (record { outer = Some outer; inner = inner; union = outer ∷ inner; triangle = false; two_port_broad_approach = two }) in
+        cond (any C.anchored inner) None
+        (cond (overlay_only && (not isOne || hasAnchored || is_none_or incidents not_both)) None
+        (cond (other_end a approach) None
         (cond (ltb 1 (length inner))
         (cond
         (is_none_or incidents not_both
         || any (λ region. not (eqb region approach) && is_none_or (incidents_rust C region) (λ s. not (eqb (length s) 1) || not (member m s))) inner)
-        none (found broad))
+        None (found broad))
         (found ((broad || overlay_only) && isOne && is_some_and incidents both)))))
 
     --     let Some(outer) = outer else {
     --         continue;
     --     };
     unfoldable pub found_outer : MouthShape → Bool → ℕ → Option ℕ → Option FoundMouth
-    found_outer shape hasAnchored approach none = none
-    found_outer shape hasAnchored approach (some outer) = found_approach (is_single shape) hasAnchored approach outer (inner_of approach shape)
+    found_outer shape hasAnchored approach None = None
+    found_outer shape hasAnchored approach (Some outer) = found_approach (is_single shape) hasAnchored approach outer (inner_of approach shape)
 
     --     let shared: Vec<_> = mouth_inner
     --         .iter()
@@ -221,7 +221,7 @@ module _ (C : Context) where
     found_shape rampRegions shape =
         let shared = filter (λ region. contains region rampRegions) (mouth_inner shape) in
         let approach = get_or shared 0 0 in
-        cond (not (eqb (length shared) 1)) none (found_outer shape (any C.anchored (mouth_inner shape)) approach (outer_of approach shape))
+        cond (not (eqb (length shared) 1)) None (found_outer shape (any C.anchored (mouth_inner shape)) approach (outer_of approach shape))
 
     --     if let Some(triangle) = triangle {
     --         ..
@@ -232,7 +232,7 @@ module _ (C : Context) where
     --         let mouth_shape = mouth_shape.expect("checked above");
     -- (That `expect` never fails: `found_mouth` is asked only where there is a triangle or a shape.)
     unfoldable pub found_mouth : Option (List ℕ) → Option Pair → Option MouthShape → Option FoundMouth
-    found_mouth (some triangle) rampRegions shape = found_triangle triangle
-    found_mouth none none shape = none
-    found_mouth none (some rampRegions) none = none
-    found_mouth none (some rampRegions) (some shape) = found_shape rampRegions shape
+    found_mouth (Some triangle) rampRegions shape = found_triangle triangle
+    found_mouth None None shape = None
+    found_mouth None (Some rampRegions) None = None
+    found_mouth None (Some rampRegions) (Some shape) = found_shape rampRegions shape

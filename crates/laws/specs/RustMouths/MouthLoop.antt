@@ -1,7 +1,7 @@
 -- The double loop of `replace_ramp_mouths` (ramp_boundaries.rs) that pushes the proposals, and the `retain` after it, as they are written there. The body of the
 -- loop gives the proposal that it pushes, or none where it continues. Definitions only. Assumes nothing.
 use Rattle.std.specs.Prelude.{ℕ, Bool, not, ◌&&◌, ◌||◌, cond, List, [], ◌∷◌, Float}
-use Rattle.std.proofs.Math.Option.{Option, none, some}
+use Rattle.std.specs.Prelude.{Option, None, Some}
 use Rattle.std.specs.Float.Ieee.{le, lt}
 use Rattle.std.specs.Float.Ieee.Scale.{finite}
 use Rattle.definitions.specs.Scan.{any, all, filter, concat_map, collect, gather, to_list}
@@ -35,7 +35,7 @@ pub record MouthRust : Type 0 where
 --         [Some(proposal.ramp_center), None]
 --     };
 abbrev pub centers_of : MouthRust → List (Option Point)
-centers_of p = cond p.two_port_broad_approach (some p.ramp_center ∷ some p.mouth_center ∷ []) (some p.ramp_center ∷ none ∷ [])
+centers_of p = cond p.two_port_broad_approach (Some p.ramp_center ∷ Some p.mouth_center ∷ []) (Some p.ramp_center ∷ None ∷ [])
 
 module _ (C : Context) where
   -- ---- the body of the loop
@@ -47,11 +47,11 @@ module _ (C : Context) where
     --     }
     --     proposals.push(MouthProposal { .. });
     unfoldable pub push_mouth : Option FoundMouth → Option MouthRust
-    push_mouth none = none
-    push_mouth (some found) =
+    push_mouth None = None
+    push_mouth (Some found) =
         let separation = segment_distance (C.boundary m).endpoints (C.boundary a).endpoints in
-        cond (lt max_mouth_distance separation) none
-        (some
+        cond (lt max_mouth_distance separation) None
+        (Some
         (record {
           mouth_index = m;
           ramp_index = a;
@@ -78,8 +78,8 @@ module _ (C : Context) where
     unfoldable pub mouth_body : Option MouthRust
     mouth_body =
         let shape = star_rust (full_cut_at C m) (C.pairs m) in
-        let triangle = cond (nearby C a m) (triangle_rust (full_cut_at C m) (full_cut_at C a) (C.pairs m) (C.pairs a)) none in
-        cond (not (is_none (ramp_of C m)) || (is_none shape && is_none triangle) || (not (broad C a m) && not (nearby C a m) && not (overlay C a m))) none
+        let triangle = cond (nearby C a m) (triangle_rust (full_cut_at C m) (full_cut_at C a) (C.pairs m) (C.pairs a)) None in
+        cond (not (is_none (ramp_of C m)) || (is_none shape && is_none triangle) || (not (broad C a m) && not (nearby C a m) && not (overlay C a m))) None
         (push_mouth (found_mouth C a m triangle (full_pair_at C a) shape))
 
   --     for (ramp_index, ramp) in boundaries.iter().enumerate() {

@@ -7,7 +7,7 @@ use Rattle.std.specs.Prelude.{◌≡◌, Bool, ◌&&◌, ◌||◌, length}
 use Rattle.std.proofs.Math.Path.{refl, sym, ap}
 use Rattle.std.proofs.Common.{◌∙◌, leb-true}
 use Rattle.std.proofs.Math.Bool.{true, false, not}
-use Rattle.std.proofs.Math.Option.{Option, none, some}
+use Rattle.std.specs.Prelude.{Option, None, Some}
 use mathlib.Core.List.{List, [], ◌∷◌}
 use Rattle.std.proofs.Math.Dec.{leb}
 use Rattle.std.specs.Float.Ieee.{binary64, to_bits}
@@ -87,15 +87,15 @@ module _ (C : Context) where
 
     good-shape : (q : Option Pair) (shape : Option MouthShape) → OnO Good (shaped_mouth C m a q shape)
     unfolding shaped_mouth
-    good-shape none shape = absent
-    good-shape (some q) none = absent
-    good-shape (some q) (some (single p)) = go (filter (λ r. contains r q) (p.lo ∷ p.hi ∷ []))
+    good-shape None shape = absent
+    good-shape (Some q) None = absent
+    good-shape (Some q) (Some (single p)) = go (filter (λ r. contains r q) (p.lo ∷ p.hi ∷ []))
       where
         go : (l : List ℕ) → OnO Good (single_mouth C m a p l)
         go [] = absent
         go (r ∷ []) = on_only (approach_fits C m a r (r ∷ []) true (C.anchored p.lo || C.anchored p.hi)) _ (omega arith, apart)
         go (r ∷ s ∷ l) = absent
-    good-shape (some q) (some (star outer inner)) = go (filter (λ r. contains r q) inner)
+    good-shape (Some q) (Some (star outer inner)) = go (filter (λ r. contains r q) inner)
       where
         go : (l : List ℕ) → OnO Good (star_mouth C m a outer inner l)
         go [] = absent
@@ -119,8 +119,8 @@ module _ (C : Context) where
     good-mouth = on_cond (not (no_ramp C a) && full_cut C a && no_ramp C m && (broad_mouth C m a || nearby_representative C m a || overlay_representative C m a)) (good_retained (go (triangle C m a))) absent
       where
         go : (T : Option (List ℕ)) → OnO Good (triangle_or C T m a (shaped_mouth C m a (full_pair C a) (mouth_shape (full_cut C m) (C.pairs m))))
-        go none = good-shape (full_pair C a) (mouth_shape (full_cut C m) (C.pairs m))
-        go (some rs) = good-triangle rs
+        go None = good-shape (full_pair C a) (mouth_shape (full_cut C m) (C.pairs m))
+        go (Some rs) = good-triangle rs
 
   proposals-good : All Good (proposals C)
   unfolding proposals

@@ -5,7 +5,7 @@ use Rattle.std.specs.Prelude.{ℕ, ◌≤◌, ◌≡◌, Bool, ◌&&◌, ◌||�
 use Rattle.std.proofs.Common.{arith, ◌∙◌}
 use Rattle.std.proofs.Math.Path.{refl, sym, ap}
 use Rattle.std.proofs.Math.Bool.{true, false, not, or-false, or_comm}
-use Rattle.std.proofs.Math.Option.{Option, none, some}
+use Rattle.std.specs.Prelude.{Option, None, Some}
 use mathlib.Core.List.{List, [], ◌∷◌, map}
 use Rattle.definitions.specs.Scan.{any, member}
 use Rattle.definitions.specs.Sort.{sort, select}
@@ -46,8 +46,8 @@ nothing_reserved = record { removed = []; absorbed = []; outers = []; ramp_ends 
 --         outers.insert(outer);
 --     }
 abbrev pub insert_outer : List ℕ → Option ℕ → List ℕ
-insert_outer outers none = outers
-insert_outer outers (some outer) = set_insert outers outer
+insert_outer outers None = outers
+insert_outer outers (Some outer) = set_insert outers outer
 
 module _ (C : Context) where
   --     let ramp = boundaries[proposal.ramp_index]
@@ -218,8 +218,8 @@ module _ (C : Context) where
   starts-free p h = (λ i. outer_none (head_of p.outer) i || any_false (inner_rust p) i || p.is_triangle && any_false (union_rust p) i || not p.is_triangle && any_false (union_rust p) i) ∙ go p.is_triangle
     where
       outer_none : (o : Option ℕ) → is_some_and o (λ r. false) ≡ false
-      outer_none none = refl
-      outer_none (some r) = refl
+      outer_none None = refl
+      outer_none (Some r) = refl
 
       go : (t : Bool) → (t && false || not t && false) ≡ false
       go true = refl

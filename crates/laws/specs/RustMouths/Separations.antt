@@ -3,7 +3,7 @@
 use Prim.Native.Nat.{ℕ, compare, Ordering, ◌*◌, ◌^◌, ◌<◌}
 use Rattle.std.proofs.Common.{arith, le_of_eq, le_of_lt, sym, ap, ap₂, ◌∙◌, subst, inl, inr, le-leb}
 use Rattle.std.specs.Prelude.{◌≡◌, refl, ◌⊎◌, Bool, true, false, ℤ, pos, T, leb, Float}
-use Rattle.std.proofs.Math.Option.{Option, none, some}
+use Rattle.std.specs.Prelude.{Option, None, Some}
 use Rattle.std.specs.Float.{inf, fin, binary64}
 use Rattle.std.specs.Float.Ieee.{sub, le, fits, to_bits}
 use Rattle.std.proofs.lemmas.Bool.{lt-leb}
@@ -27,10 +27,10 @@ use Rattle.laws.specs.OrderLaws.Orderings.{compare_less, compare_same, compare_o
 --         (true, true) => Some(Equal),
 --     }
 abbrev pub partial_from : Bool → Bool → Option Ordering
-partial_from false false = none
-partial_from false true = some Ordering.gt
-partial_from true false = some Ordering.lt
-partial_from true true = some Ordering.eq
+partial_from false false = None
+partial_from false true = Some Ordering.gt
+partial_from true false = Some Ordering.lt
+partial_from true true = Some Ordering.eq
 
 -- `partial_cmp` of f64, in the standard library
 unfoldable pub partial_cmp : Float → Float → Option Ordering
@@ -38,8 +38,8 @@ partial_cmp x y = partial_from (le x y) (le y x)
 
 -- `unwrap_or(Ordering::Equal)`
 abbrev pub or_equal : Option Ordering → Ordering
-or_equal none = Ordering.eq
-or_equal (some o) = o
+or_equal None = Ordering.eq
+or_equal (Some o) = o
 
 -- ---- numbers whose sign is clear
 

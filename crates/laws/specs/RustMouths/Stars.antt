@@ -7,7 +7,7 @@ use Rattle.std.specs.Prelude.{◌≡◌, true, false, ◌&&◌, ◌||◌, cond, 
 use Rattle.std.proofs.Math.Path.{refl}
 use Rattle.std.proofs.Math.Bool.{Bool, not, or-true}
 use Rattle.std.proofs.lemmas.Bool.{false≢true}
-use Rattle.std.proofs.Math.Option.{Option, none, some}
+use Rattle.std.specs.Prelude.{Option, None, Some}
 use mathlib.Core.List.{List, [], ◌∷◌, ◌++◌}
 use Rattle.definitions.specs.Scan.{any, all, filter, only_if, member, add_new, add_all}
 use Rattle.definitions.specs.Grid.{Pair, contains}
@@ -54,11 +54,11 @@ push_inners outer inner (pair ∷ pairs) = push_inners outer (push_inner outer (
 --     })
 unfoldable pub star_from_rust : List Pair → List ℕ → Option MouthShape
 unfolding push_inners
-star_from_rust pairs [] = none
+star_from_rust pairs [] = None
 star_from_rust pairs (outer ∷ []) =
     let inner = push_inners outer [] pairs in
     only_if (not (is_empty inner)) (star outer inner)
-star_from_rust pairs (u ∷ v ∷ common) = none
+star_from_rust pairs (u ∷ v ∷ common) = None
 
 --     if !full_cut(entry) {
 --         return None;
@@ -69,7 +69,7 @@ star_from_rust pairs (u ∷ v ∷ common) = none
 unfoldable pub star_rust : Bool → List Pair → Option MouthShape
 unfolding star_from_rust common_rust
 star_rust full pairs =
-    cond (not full) none (cond (eqb (length pairs) 1) (some (single (get_or pairs 0 no_pair))) (star_from_rust pairs (common_rust pairs)))
+    cond (not full) None (cond (eqb (length pairs) 1) (Some (single (get_or pairs 0 no_pair))) (star_from_rust pairs (common_rust pairs)))
 
 -- ---- the inner regions
 

@@ -6,7 +6,7 @@ use Rattle.std.proofs.Common.{arith, sym, ap, ◌∙◌, true≢false, le-leb, n
 use Rattle.std.specs.Prelude.{◌≡◌, Bool, not, ◌&&◌, ◌||◌, length, leb}
 use Rattle.std.proofs.Math.Path.{refl}
 use Rattle.std.proofs.Math.Bool.{true, false, cond, or-false, or_assoc}
-use Rattle.std.proofs.Math.Option.{Option, none, some}
+use Rattle.std.specs.Prelude.{Option, None, Some}
 use mathlib.Core.List.{List, [], ◌∷◌, ◌++◌, map}
 use Rattle.std.proofs.Math.Dec.{eqb, ltb}
 use Rattle.definitions.specs.Scan.{any, all, filter, only_if, add_new, add_all}
@@ -75,7 +75,7 @@ triangle_edges regions mouthEdges rampEdges =
     cond
     (not (eqb (length mouthEdges) 2) || not (eqb (length rampEdges) 2) || not (eqb (length edges) 3)
     || not (eqb (intersection_count mouthEdges rampEdges) 1))
-    none (some (sort ltb regions))
+    None (Some (sort ltb regions))
 
 --     if !full_cut(mouth)
 --         || !full_cut(ramp)
@@ -99,9 +99,9 @@ triangle_edges regions mouthEdges rampEdges =
 unfoldable pub triangle_rust : Bool → Bool → List Pair → List Pair → Option (List ℕ)
 unfolding push_regions any edge_set triangle_edges
 triangle_rust mouthFull rampFull mouth ramp =
-    cond (not mouthFull || not rampFull || not (eqb (length mouth) 2) || not (eqb (length ramp) 2)) none
+    cond (not mouthFull || not rampFull || not (eqb (length mouth) 2) || not (eqb (length ramp) 2)) None
     (let regions = push_regions [] mouth in
-    cond (not (eqb (length regions) 3) || any (λ region. not (any (λ rampRegion. eqb rampRegion region) (regions_of ramp))) regions) none
+    cond (not (eqb (length regions) 3) || any (λ region. not (any (λ rampRegion. eqb rampRegion region) (regions_of ramp))) regions) None
     (triangle_edges regions (edge_set mouth) (edge_set ramp)))
 
 -- ---- regions
@@ -146,7 +146,7 @@ module _ (p q s t : Pair) (pq : pair_eq p q ≡ false) (st : pair_eq s t ≡ fal
       go false = rw (pair_eq_sym t p, pair_eq_sym t q, pair_eq_sym t s, st, or-false (pair_eq q t)) refl
 
   -- the union has three edges exactly where one is common
-  counts : {A : Type 0} (x : A) → cond (not (eqb (length (add_edges (p ∷ q ∷ []) (s ∷ t ∷ []))) 3) || not (eqb (intersection_count (p ∷ q ∷ []) (s ∷ t ∷ [])) 1)) none (some x) ≡ only_if (eqb (intersection_count (p ∷ q ∷ []) (s ∷ t ∷ [])) 1) x
+  counts : {A : Type 0} (x : A) → cond (not (eqb (length (add_edges (p ∷ q ∷ []) (s ∷ t ∷ []))) 3) || not (eqb (intersection_count (p ∷ q ∷ []) (s ∷ t ∷ [])) 1)) None (Some x) ≡ only_if (eqb (intersection_count (p ∷ q ∷ []) (s ∷ t ∷ [])) 1) x
   unfolding intersection_count filter any
   counts {A} x = rw (union_is, or-false (pair_eq p t), or-false (pair_eq q t)) (go (pair_eq p s) refl (pair_eq p t) refl (pair_eq q s) refl (pair_eq q t) refl)
     where
@@ -157,7 +157,7 @@ module _ (p q s t : Pair) (pq : pair_eq p q ≡ false) (st : pair_eq s t ≡ fal
       Goal ps pt qs qt =
           let union : List Pair = cond (ps || qs) (cond (pt || qt) (p ∷ q ∷ []) (p ∷ q ∷ t ∷ [])) (cond (pt || qt) (p ∷ q ∷ s ∷ []) (p ∷ q ∷ s ∷ t ∷ [])) in
           let common : List Pair = cond (ps || pt) (p ∷ cond (qs || qt) (q ∷ []) []) (cond (qs || qt) (q ∷ []) []) in
-          cond (not (eqb (length union) 3) || not (eqb (length common) 1)) none (some x) ≡ only_if (eqb (length common) 1) x
+          cond (not (eqb (length union) 3) || not (eqb (length common) 1)) None (Some x) ≡ only_if (eqb (length common) 1) x
 
       go : (ps : Bool) → pair_eq p s ≡ ps → (pt : Bool) → pair_eq p t ≡ pt → (qs : Bool) → pair_eq q s ≡ qs → (qt : Bool) → pair_eq q t ≡ qt → Goal ps pt qs qt
       go true a true b qs c qt d = twice p s t st a b
@@ -175,8 +175,8 @@ module _ (p q s t : Pair) (pq : pair_eq p q ≡ false) (st : pair_eq s t ≡ fal
 -- ---- the whole
 
 abbrev pub sorted_regions : Option (List ℕ) → Option (List ℕ)
-sorted_regions none = none
-sorted_regions (some rs) = some (sort ltb rs)
+sorted_regions None = None
+sorted_regions (Some rs) = Some (sort ltb rs)
 
 module _ (p q s t : Pair) (hp : p.lo < p.hi) (hq : q.lo < q.hi) (hs : s.lo < s.hi) (ht : t.lo < t.hi) (pq : pair_lt p q ≡ true) (st : pair_lt s t ≡ true) where
   two_pairs : triangle_rust true true (p ∷ q ∷ []) (s ∷ t ∷ []) ≡ sorted_regions (triangle_representative (p ∷ q ∷ []) (s ∷ t ∷ []))
@@ -194,7 +194,7 @@ module _ (p q s t : Pair) (hp : p.lo < p.hi) (hq : q.lo < q.hi) (hs : s.lo < s.h
       rs : List ℕ
       rs = add_all [] (regions_of (p ∷ q ∷ []))
 
-      go : (a b c : Bool) → cond (not a || not b) none (only_if c (sort ltb rs)) ≡ sorted_regions (only_if (a && b && c) rs)
+      go : (a b c : Bool) → cond (not a || not b) None (only_if c (sort ltb rs)) ≡ sorted_regions (only_if (a && b && c) rs)
       go true true true = refl
       go true true false = refl
       go true false c = refl
@@ -202,7 +202,7 @@ module _ (p q s t : Pair) (hp : p.lo < p.hi) (hq : q.lo < q.hi) (hs : s.lo < s.h
 
 -- `triangle_representative` of the Rust is `triangle_representative`, sorted
 pub triangle_is : (mouthFull rampFull : Bool) (mouth ramp : List Pair) → All (λ e. e.lo < e.hi) mouth → Ascending mouth → All (λ e. e.lo < e.hi) ramp → Ascending ramp
-    → triangle_rust mouthFull rampFull mouth ramp ≡ sorted_regions (cond (mouthFull && rampFull) (triangle_representative mouth ramp) none)
+    → triangle_rust mouthFull rampFull mouth ramp ≡ sorted_regions (cond (mouthFull && rampFull) (triangle_representative mouth ramp) None)
 unfolding triangle_rust triangle_representative
 triangle_is false rampFull mouth ramp h a k b = refl
 triangle_is true false mouth ramp h a k b = refl

@@ -2,7 +2,8 @@
 -- least 1, so that a list of checks answered with 0 has no refusal in it. Of the boundaries it says that each passes check 7. Assumes nothing.
 use Rattle.std.specs.Prelude.{ℕ, zero, suc, ◌*◌, ◌/◌, ◌<◌, ◌≡◌, refl, Bool, true, false, not, ◌&&◌, List, [], ◌∷◌, map, length}
 use Rattle.std.proofs.Common.{arith, sym, ap, subst, true≢false}
-use Rattle.std.proofs.Math.Option.{Option, none, some, some-injective}
+use Rattle.std.specs.Prelude.{Option, None, Some}
+use Rattle.std.proofs.lemmas.Option.{same_Some}
 use Rattle.definitions.specs.Limits.{numbers_per_span, numbers_per_boundary, numbers_per_anchor}
 use Rattle.definitions.specs.Scan.{only_if, run}
 use Rattle.definitions.specs.Grid.{Segment, Boundary, segment_at, boundary_at}
@@ -16,18 +17,18 @@ use Rattle.laws.specs.ListLaws.NoFault.{found, no_fault_lem, none_faulty}
 -- ---- the first of several refusals
 
 pub or_else-assoc : {A : Type 0} (a b c : Option A) → or_else (or_else a b) c ≡ or_else a (or_else b c)
-or_else-assoc none b c = refl
-or_else-assoc (some x) b c = refl
+or_else-assoc None b c = refl
+or_else-assoc (Some x) b c = refl
 
 -- ---- no refusal has number 0
 
 pub data Numbered : Option Refusal → Type 0 where
-  nothing : Numbered none
-  numbered : {r : Refusal} → 0 < r.number → Numbered (some r)
+  nothing : Numbered None
+  numbered : {r : Refusal} → 0 < r.number → Numbered (Some r)
 
 pub refusal-numbered : (number : ℕ) (place : Option ℕ) → 0 < number → Numbered (refusal number place)
-refusal-numbered number none h = nothing
-refusal-numbered number (some place) h = numbered h
+refusal-numbered number None h = nothing
+refusal-numbered number (Some place) h = numbered h
 
 pub or_numbered : {x y : Option Refusal} → Numbered x → Numbered y → Numbered (or_else x y)
 or_numbered nothing k = k
@@ -53,15 +54,15 @@ spans-numbered w h spans = first_numbered (length spans / numbers_per_span) (λ 
     at_numbered : (s : Segment) (i : ℕ) → Numbered (at s i)
     at_numbered s i = or_numbered (only_numbered (not (both_on_map w h s)) 5 i (omega arith)) (only_numbered (not (endpoints_differ s)) 6 i (omega arith))
 
-pub number-above : {o : Option Refusal} {r : Refusal} → Numbered o → o ≡ some r → 0 < r.number
+pub number-above : {o : Option Refusal} {r : Refusal} → Numbered o → o ≡ Some r → 0 < r.number
 number-above nothing e = absurd (true≢false (ap found (sym e)))
-number-above (numbered h) e = subst (λ r. 0 < r.number) (some-injective _ _ e) h
+number-above (numbered h) e = subst (λ r. 0 < r.number) (same_Some _ _ e) h
 
-pub refusal_none : (number : ℕ) (place : Option ℕ) → refusal number place ≡ none → place ≡ none
-refusal_none number none h = refl
-refusal_none number (some place) h = absurd (true≢false (ap found h))
+pub refusal_none : (number : ℕ) (place : Option ℕ) → refusal number place ≡ None → place ≡ None
+refusal_none number None h = refl
+refusal_none number (Some place) h = absurd (true≢false (ap found h))
 
-pub none_refused : {l : List (Option Refusal)} (count : ℕ) → All Numbered l → (first_refusal l count).number ≡ 0 → All (λ r. r ≡ none) l
+pub none_refused : {l : List (Option Refusal)} (count : ℕ) → All Numbered l → (first_refusal l count).number ≡ 0 → All (λ r. r ≡ None) l
 none_refused count done h = done
 none_refused count (more nothing a) h = more refl (none_refused count a h)
 none_refused count (more (numbered k) a) h = absurd (omega (arith, k, h))
@@ -74,17 +75,17 @@ counted count (more (numbered k) a) h = absurd (omega (arith, k, h))
 -- ---- what no check found
 
 pub record Accepted (L : Lent) : Type 0 where
-  pub sides : sides_fault L.width L.height ≡ none
-  pub cells : cells_fault L.width L.height L.cells ≡ none
+  pub sides : sides_fault L.width L.height ≡ None
+  pub cells : cells_fault L.width L.height L.cells ≡ None
   pub whole : (is_whole numbers_per_span L.spans && is_whole numbers_per_boundary L.boundaries && is_whole numbers_per_anchor L.anchors) ≡ true
-  pub pass : pass_fault L.pass ≡ none
-  pub spans : spans_refusal L.width L.height L.spans ≡ none
-  pub boundaries : boundaries_fault L.width L.height L.boundaries ≡ none
-  pub anchors : anchors_fault L.width L.height L.anchors ≡ none
-  pub elevations : elevations_fault L.cells ≡ none
+  pub pass : pass_fault L.pass ≡ None
+  pub spans : spans_refusal L.width L.height L.spans ≡ None
+  pub boundaries : boundaries_fault L.width L.height L.boundaries ≡ None
+  pub anchors : anchors_fault L.width L.height L.anchors ≡ None
+  pub elevations : elevations_fault L.cells ≡ None
   pub room : (partition_has_room L && output_room (length L.boundaries / numbers_per_boundary) (length L.output)) ≡ true
-  pub records : records_fault L (map_in L) ≡ none
-  pub pairs : pairs_fault L (map_in L) ≡ none
+  pub records : records_fault L (map_in L) ≡ None
+  pub pairs : pairs_fault L (map_in L) ≡ None
 
 -- the checks of `verdict`, in its order
 abbrev checks : Lent → List (Option Refusal)
@@ -116,7 +117,7 @@ checks-numbered L =
     (more (refusal-numbered 11 (records_fault L (map_in L)) (omega arith))
     (more (refusal-numbered 12 (pairs_fault L (map_in L)) (omega arith)) done))))))))))
 
-checks-passed : (L : Lent) → All (λ r. r ≡ none) (checks L) → Accepted L
+checks-passed : (L : Lent) → All (λ r. r ≡ None) (checks L) → Accepted L
 checks-passed L (more one (more two (more three (more four (more five (more seven (more eight (more nine (more ten (more eleven (more twelve done))))))))))) =
     record {
       sides = refusal_none 1 _ one;
@@ -143,7 +144,7 @@ accepted-count L h = counted (length (rows_of L.pass (map_in L))) (checks-number
 -- ---- boundaries
 
 -- check 7, boundary by boundary
-pub boundaries-fit : (w h : ℕ) (boundaries : List ℕ) → boundaries_fault w h boundaries ≡ none
+pub boundaries-fit : (w h : ℕ) (boundaries : List ℕ) → boundaries_fault w h boundaries ≡ None
     → All (λ b. boundary_fits w h b ≡ true) (map (λ i. boundary_at boundaries (numbers_per_boundary * i)) (run 0 (length boundaries / numbers_per_boundary)))
 boundaries-fit w h boundaries e = all-run (λ i. boundary_at boundaries (9 * i)) 0 (length boundaries / 9) (λ i l. none_faulty (λ k. boundary_fits w h (boundary_at boundaries (9 * k))) (length boundaries / 9) (unfold boundaries_fault in e) i (omega (arith, l)))
 

@@ -3,7 +3,7 @@ use Prim.Native.Nat.{ℕ, zero, suc, ◌*◌, ◌/◌, ◌≤◌}
 use native.Mathlib.Omega.{arith}
 use Rattle.std.specs.Prelude.{◌≡◌, not, length}
 use Rattle.std.proofs.Common.{◌∙◌, leb-true}
-use Rattle.std.proofs.Math.Option.{Option, none, some}
+use Rattle.std.specs.Prelude.{Option, None, Some}
 use Rattle.std.proofs.lemmas.List.{length-map}
 use Rattle.std.proofs.Math.ListN.{length-append}
 use Rattle.definitions.specs.Limits.{numbers_per_boundary, numbers_per_row}
@@ -20,8 +20,8 @@ use Rattle.laws.specs.TableLaws.AcceptedCalls.{accepted}
 
 module _ {A : Type 0} where
   one_at_most : (x : Option A) → length (to_list x) ≤ 1
-  one_at_most none = omega arith
-  one_at_most (some x) = omega arith
+  one_at_most None = omega arith
+  one_at_most (Some x) = omega arith
 
   pub collect-few : (n : ℕ) (f : ℕ → Option A) → length (collect n f) ≤ n
   unfolding collect

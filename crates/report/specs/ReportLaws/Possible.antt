@@ -3,7 +3,7 @@
 -- nothing.
 use Rattle.std.specs.Prelude.{ℕ, zero, suc, ◌+◌, ◌*◌, ◌/◌, ◌%◌, ◌≤◌, ◌<◌, ◌≡◌, refl, Bool, true, false, not, ◌&&◌, cond, List, [], ◌∷◌, length, leb, eqb, ltb}
 use Rattle.std.proofs.Common.{arith, mul-le-mul_right, sym, ap, subst, ◌∙◌, leb-true}
-use Rattle.std.proofs.Math.Option.{Option, none, some}
+use Rattle.std.specs.Prelude.{Option, None, Some}
 use Rattle.definitions.specs.Limits.{is_side, max_entries, numbers_per_span, numbers_per_boundary, numbers_per_anchor}
 use Rattle.definitions.specs.Scan.{only_if}
 use Rattle.definitions.specs.Grid.{segment_at}
@@ -40,12 +40,12 @@ pub data Possible : Run → Type 0 where
 -- ---- the numbers of refusals: calls
 
 data Low : Option Refusal → Type 0 where
-  nothing : Low none
-  low : {r : Refusal} → r.number < refusal_numbers → Low (some r)
+  nothing : Low None
+  low : {r : Refusal} → r.number < refusal_numbers → Low (Some r)
 
 refusal-low : (n : ℕ) (place : Option ℕ) → n < refusal_numbers → Low (refusal n place)
-refusal-low n none h = nothing
-refusal-low n (some place) h = low h
+refusal-low n None h = nothing
+refusal-low n (Some place) h = low h
 
 or_low : {x y : Option Refusal} → Low x → Low y → Low (or_else x y)
 or_low nothing k = k

@@ -3,7 +3,7 @@
 -- Definitions only. Assumes nothing.
 use Rattle.std.specs.Prelude.{ℕ, ◌^◌, Bool, ◌||◌, length, get_or, set, replicate, eqb, leb, pos, ◌+ℤ◌, ◌*ℤ◌}
 use Rattle.std.proofs.Math.Bool.{not, cond}
-use Rattle.std.proofs.Math.Option.{Option, none, some}
+use Rattle.std.specs.Prelude.{Option, None, Some}
 use mathlib.Core.List.{List, [], ◌∷◌, ◌++◌}
 use Rattle.std.specs.Int.Bits.{bit_and, bit_or}
 use Rattle.definitions.specs.Grid.{Map, Position, Segment, Pair, canonical, cell_at, is_walkable}
@@ -12,8 +12,8 @@ use Rattle.rust_partition.specs.Literal.Neighbors.{index_rust, neighbors_rust}
 
 -- `expect`. (Where there is none the Rust would stop. There always is one: `index-inside`, `index-walkable` of NeighborsAsRust, `candidates-inside` of Candidates.)
 abbrev pub expect : Option ℕ → ℕ
-expect none = 0
-expect (some n) = n
+expect None = 0
+expect (Some n) = n
 
 --     let delta_x = to.x as i64 - from.x as i64;
 --     let delta_y = to.y as i64 - from.y as i64;

@@ -2,7 +2,7 @@
 -- reads of a cell here is whether it is walkable (`is_walkable`, Grid). The cost that `neighbors` gives with a cell is left out: the partition drops it. No sum or product
 -- of the Rust leaves its type, since sides are at most 1,024. Definitions only. Assumes nothing.
 use Rattle.std.specs.Prelude.{ℕ, suc, ◌+◌, ◌-◌, ◌*◌, Bool, not, ◌&&◌, ◌||◌, false, cond, List, [], ◌∷◌, ◌++◌, length, ltb, leb, ℤ, pos, negsuc}
-use Rattle.std.proofs.Math.Option.{Option, none, some}
+use Rattle.std.specs.Prelude.{Option, None, Some}
 use Rattle.std.proofs.Math.ListN.{get_elem?}
 use Rattle.definitions.specs.Scan.{to_list, only_if}
 use Rattle.definitions.specs.Grid.{Map, Position, at, is_walkable}
@@ -13,13 +13,13 @@ use Rattle.definitions.specs.Spans.{is_zero}
 module _ {A : Type 0} where
   -- `?`, `and_then`
   abbrev pub and_then : {B : Type 0} → Option A → (A → Option B) → Option B
-  and_then none f = none
-  and_then (some a) f = f a
+  and_then None f = None
+  and_then (Some a) f = f a
 
   -- `is_some_and`
   abbrev pub is_some_and : Option A → (A → Bool) → Bool
-  is_some_and none f = false
-  is_some_and (some a) f = f a
+  is_some_and None f = false
+  is_some_and (Some a) f = f a
 
   unfoldable pub filter_map : {B : Type 0} → (A → Option B) → List A → List B
   filter_map f [] = []
@@ -27,7 +27,7 @@ module _ {A : Type 0} where
 
 -- of an unsigned and a signed number: none where the sum is below zero
 abbrev pub checked_add_signed : ℕ → ℤ → Option ℕ
-checked_add_signed n (pos d) = some (n + d)
+checked_add_signed n (pos d) = Some (n + d)
 checked_add_signed n (negsuc d) = only_if (ltb d n) (n - suc d)
 
 -- ---- of the grid
@@ -42,7 +42,7 @@ checked_add_signed n (negsuc d) = only_if (ltb d n) (n - suc d)
 unfoldable pub index_rust : Map → Position → Option ℕ
 index_rust M position =
     let index = position.y * M.width + position.x in
-    cond (leb M.width position.x || leb M.height position.y) none (only_if (ltb index (length M.cells)) index)
+    cond (leb M.width position.x || leb M.height position.y) None (only_if (ltb index (length M.cells)) index)
 
 --     self.index(position).and_then(|index| self.cells.get(index))
 unfoldable pub cell_rust : Map → Position → Option ℕ
@@ -102,8 +102,8 @@ reachable M position d next nextCell =
     let diagonal = not (is_zero d.delta_x) && not (is_zero d.delta_y) in
     let sideA = at next.x position.y in
     let sideB = at position.x next.y in
-    cond (not (is_walkable nextCell)) none
-    (cond (diagonal && (not (is_some_and (cell_rust M sideA) is_walkable) || not (is_some_and (cell_rust M sideB) is_walkable))) none (some next))
+    cond (not (is_walkable nextCell)) None
+    (cond (diagonal && (not (is_some_and (cell_rust M sideA) is_walkable) || not (is_some_and (cell_rust M sideB) is_walkable))) None (Some next))
 
 --     |(delta_x, delta_y)| {
 --         let x = position.x.checked_add_signed(delta_x)?;

@@ -3,7 +3,7 @@
 use Prim.Native.Nat.{ℕ, ◌-◌}
 use mathlib.Core.Path.{◌≡◌}
 use mathlib.Core.Bool.{Bool, not, ◌&&◌}
-use mathlib.Core.Option.{none}
+use Rattle.std.specs.Prelude.{None}
 use mathlib.Core.List.{List}
 use lib.Dec.{leb}
 use lib.ListN.{get_or}
@@ -22,7 +22,7 @@ fits cells i = fitting (get_or cells i 0)
 
 abbrev pub invariant-loop-i : goal.invariant-loop-i
 invariant-loop-i l =
-    Walking l.bytes l.at l.count l.next l.i × (first_faulty l.i (fits (values_at cell l.bytes l.at l.count)) ≡ none)
+    Walking l.bytes l.at l.count l.next l.i × (first_faulty l.i (fits (values_at cell l.bytes l.at l.count)) ≡ None)
 
 abbrev pub decreases-loop-i : goal.decreases-loop-i
 decreases-loop-i l = l.count - l.i

@@ -2,7 +2,7 @@
 use Prim.Native.Nat.{ℕ, ◌+◌, ◌-◌, ◌*◌, ◌≤◌}
 use mathlib.Core.Path.{◌≡◌}
 use mathlib.Core.Bool.{Bool, ◌&&◌}
-use mathlib.Core.Option.{none}
+use Rattle.std.specs.Prelude.{None}
 use mathlib.Core.List.{List}
 use lib.Dec.{ltb}
 use lib.ListN.{get_or}
@@ -14,7 +14,7 @@ abbrev pub fits : ℕ → ℕ → List ℕ → ℕ → Bool
 fits w h anchors i = ltb (get_or anchors (numbers_per_anchor * i) 0) w && ltb (get_or anchors (numbers_per_anchor * i + 1) 0) h
 
 abbrev pub invariant-loop-i : goal.invariant-loop-i
-invariant-loop-i l = (l.i ≤ l.count) × (first_faulty l.i (fits l.width l.height l.anchors) ≡ none)
+invariant-loop-i l = (l.i ≤ l.count) × (first_faulty l.i (fits l.width l.height l.anchors) ≡ None)
 
 abbrev pub decreases-loop-i : goal.decreases-loop-i
 decreases-loop-i l = l.count - l.i

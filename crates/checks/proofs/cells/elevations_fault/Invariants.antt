@@ -2,7 +2,7 @@
 use Prim.Native.Nat.{ℕ, ◌-◌, ◌≤◌}
 use mathlib.Core.Path.{◌≡◌}
 use mathlib.Core.Bool.{Bool, not, ◌&&◌}
-use mathlib.Core.Option.{none}
+use Rattle.std.specs.Prelude.{None}
 use mathlib.Core.List.{List}
 use lib.Dec.{leb}
 use lib.ListN.{length, get_or}
@@ -14,7 +14,7 @@ abbrev pub fits : List ℕ → ℕ → Bool
 fits cells i = not (is_walkable (get_or cells i 0) && leb 4 (elevation (get_or cells i 0)))
 
 abbrev pub invariant-loop-i : goal.invariant-loop-i
-invariant-loop-i l = (l.i ≤ length l.cells) × (first_faulty l.i (fits l.cells) ≡ none)
+invariant-loop-i l = (l.i ≤ length l.cells) × (first_faulty l.i (fits l.cells) ≡ None)
 
 abbrev pub decreases-loop-i : goal.decreases-loop-i
 decreases-loop-i l = length l.cells - l.i

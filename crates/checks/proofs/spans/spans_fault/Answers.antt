@@ -2,7 +2,7 @@
 use Prim.Native.Nat.{ℕ, ◌/◌}
 use mathlib.Core.Path.{◌≡◌, sym}
 use mathlib.Core.Bool.{true, not}
-use mathlib.Core.Option.{Option, some}
+use Rattle.std.specs.Prelude.{Option, Some}
 use lib.ListN.{length}
 use borrow.Author.Rules.{rules}
 use Rattle.definitions.specs.Limits.{numbers_per_span}
@@ -21,7 +21,7 @@ unfolding spans_refusal
 returns-then-not-on c =
     let at : ℕ → Option Refusal = refusal_at c.args.width c.args.height c.args.spans.now in
     let count : ℕ = length c.args.spans.now / numbers_per_span in
-    let is_outside : not c.both_on_map-on.result ≡ true → at c.loop-i.i ≡ some (refusal 5 c.loop-i.i) = let a = c.args in
+    let is_outside : not c.both_on_map-on.result ≡ true → at c.loop-i.i ≡ Some (refusal 5 c.loop-i.i) = let a = c.args in
     outside a.width a.height a.spans.now c.loop-i.i c.both_on_map-on.ensures in
     sym (first_found at count c.loop-i.i (refusal 5 c.loop-i.i) (search rules) c.loop-i.invariant.1 (is_outside c.if-not-on.true-raw))
 

@@ -3,7 +3,7 @@
 use Prim.Native.Nat.{ℕ}
 use native.Mathlib.Nat.{le_antisymm}
 use mathlib.Core.Path.{sym, ap, ◌∙◌, refl}
-use mathlib.Core.Option.{Option}
+use Rattle.std.specs.Prelude.{Option}
 use mathlib.Core.List.{◌++◌}
 use Rattle.definitions.specs.Scan.{to_list, collect}
 use Rattle.definitions.specs.Junctions.{Proposal}

@@ -5,7 +5,7 @@ use native.Mathlib.Omega.{arith}
 use native.Mathlib.Nat.{le_refl, le_trans}
 use mathlib.Core.Path.{◌≡◌, refl, sym, ap, ◌∙◌, subst}
 use mathlib.Core.Bool.{Bool, true, false, not, false≢true}
-use mathlib.Core.Option.{some}
+use Rattle.std.specs.Prelude.{Some}
 use lib.ListN.{get_or}
 use lib.Arith.{lt_of_le-ne}
 use borrow.Author.Tests.{not-true, not-false}
@@ -54,7 +54,7 @@ module _ (c : goal.After-take_entry) where
         (sym (c.entry_left.ensures C P.chosen L.rows P.state (P.bests.named.mouth a within) (P.bests.named.ramp a within) (P.bests.named.outer a within))
         ∙ not-false _ c.if-not-entry_left.false-raw)
 
-    least : some entry ≡ least_among C P.chosen (proposals C)
+    least : Some entry ≡ least_among C P.chosen (proposals C)
     least = best_first L P a (c.least_marked-a.ensures.best C c.args.outerof.now c.args.kindof.now L.bounds (measured-count L P)).1 below free
 
 pub loop-found-init : goal.loop-found-init

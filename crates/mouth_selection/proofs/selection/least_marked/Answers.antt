@@ -2,7 +2,7 @@
 use native.Mathlib.Omega.{arith}
 use native.Mathlib.Nat.{le_antisymm}
 use mathlib.Core.Path.{ap, ◌∙◌}
-use mathlib.Core.Option.{none}
+use Rattle.std.specs.Prelude.{None}
 use Rattle.definitions.specs.RampMouths.{ranks_before}
 use Rattle.mouth_selection.specs.Entries.{marked_entries}
 use Rattle.mouth_selection.specs.Rounds.{least_from}
@@ -43,5 +43,5 @@ returns c =
       bound = at.invariant.0;
       best = λ C outers kinds S M.
           let was = at.invariant.1.1 C outers kinds S M in
-          (was.0, was.1 ∙ ap (λ k. least_from (ranks_before C) none (marked_entries C s.mouths.now s.ramps.now outers kinds s.marked.now k)) (le_antisymm at.invariant.1.0 c.loop-k-test.false));
+          (was.0, was.1 ∙ ap (λ k. least_from (ranks_before C) None (marked_entries C s.mouths.now s.ramps.now outers kinds s.marked.now k)) (le_antisymm at.invariant.1.0 c.loop-k-test.false));
     }

@@ -1,6 +1,6 @@
 -- `calendar::day_of` meets its contract, by those of `is_day` and `day_number`. Assumes nothing.
 use mathlib.Core.Path.{refl, sym, ap, ◌∙◌}
-use mathlib.Core.Option.{some}
+use Rattle.std.specs.Prelude.{Some}
 use Rattle.catalogue.specs.Dates.{day_of}
 use Rattle.pool_terms.proofs.calendar.day_of.Goals as goal
 
@@ -11,7 +11,7 @@ pub returns-then-is_day : goal.returns-then-is_day
 unfolding day_of
 returns-then-is_day c =
     let good = sym c.is_day.ensures ∙ c.if-is_day.true in
-    rw good (ap some c.day_number.ensures)
+    rw good (ap Some c.day_number.ensures)
 
 pub returns-else-is_day : goal.returns-else-is_day
 unfolding day_of

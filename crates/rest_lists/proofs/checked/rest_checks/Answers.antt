@@ -2,7 +2,7 @@
 use Prim.Native.Nat.{ℕ, ◌*◌, ◌/◌}
 use mathlib.Core.Path.{◌≡◌, ap, ◌∙◌}
 use mathlib.Core.Bool.{◌&&◌}
-use mathlib.Core.Option.{Option, none}
+use Rattle.std.specs.Prelude.{Option, None}
 use mathlib.Core.List.{List}
 use lib.ListN.{length}
 use Rattle.definitions.specs.Limits.{numbers_per_span, numbers_per_boundary}
@@ -15,7 +15,7 @@ use Rattle.rest_lists.specs.Early.{rest_early}
 use Rattle.rest_lists.proofs.checked.rest_checks.Goals as goal
 
 -- the cells are as many as the sides say
-room-counted : (w h : ℕ) (cells spans boundaries anchors : List ℕ) (l m q t u : ℕ) {o : Option Refusal} → sizes_refusal 1 w h cells spans boundaries anchors ≡ none
+room-counted : (w h : ℕ) (cells spans boundaries anchors : List ℕ) (l m q t u : ℕ) {o : Option Refusal} → sizes_refusal 1 w h cells spans boundaries anchors ≡ None
     → o ≡ refusal 10 (unless (partition_room (length cells) (length spans / numbers_per_span) l m q t && output_room (length boundaries / numbers_per_boundary) u))
     → o ≡ refusal 10 (unless (partition_room (w * h) (length spans / numbers_per_span) l m q t && output_room (length boundaries / numbers_per_boundary) u))
 room-counted w h cells spans boundaries anchors l m q t u e p =
