@@ -21,3 +21,4 @@ pub mod Flags
 pub mod Stores
 pub mod Beyond
 pub mod FourFlags
+pub mod Chains
