@@ -1,5 +1,7 @@
 -- Checks one after the other, each with `?` behind it: the first refusal is that of the first check that refuses. Assumes nothing.
-use Prim.Native.Nat.{ℕ}
+use Prim.Native.Nat.{ℕ, ◌≤◌}
+use Rattle.refusals.specs.declared.Cause.{Cause}
+use Rattle.refusals.specs.Refusals.{number_of}
 use mathlib.Core.Path.{◌≡◌, sym, ap, ◌∙◌}
 use mathlib.Core.Bool.{Bool, true, false}
 use borrow.Author.Rules.{rules}
@@ -27,3 +29,7 @@ searched number e p = ap (refusal number) (sym e) ∙ sym p
 pub holds : (number : ℕ) (r : Bool) → None ≡ refusal number (unless r) → r ≡ true
 holds number true p = search rules
 holds number false p = cc
+
+-- a refusal's number is not 0, which is that of success
+pub positive : (c : Cause) → 1 ≤ number_of c
+positive c = search rules
