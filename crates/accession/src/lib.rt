@@ -13,7 +13,7 @@ ghost use Rattle.accession.specs.Contract.{answer_in};
 
 use fields::NUMBERS_PER_ACCESSION;
 use line::{LineAnswer, report_kept};
-use rules::{Broken, first_broken};
+use rules::first_broken;
 
 // "Report the whole line of an own number": 3 for a last entry unfinished, 17 at the first record that breaks a rule, 10 where the line does not fit.
 pub fn accession_report_line(records: &[u64], own: u64, output: &mut [u64]) -> LineAnswer
@@ -27,8 +27,8 @@ pub fn accession_report_line(records: &[u64], own: u64, output: &mut [u64]) -> L
         };
     }
     match first_broken(records) {
-        Broken::Nothing => report_kept(records, own, output),
-        Broken::At(i) => LineAnswer {
+        None => report_kept(records, own, output),
+        Some(i) => LineAnswer {
             number: 17,
             value: i as u64,
         },

@@ -20,36 +20,19 @@ pub struct LineAnswer {
     pub value: u64,
 }
 
-// The position of the record with an own number.
-#[derive(Clone, Copy)]
-pub enum Found {
-    Nowhere,
-    At(usize),
-}
-
-fn find_own(records: &[u64], own: u64) -> Found
+// The position of a record with an own number.
+fn find_own(records: &[u64], own: u64) -> Option<usize>
     ensures { Finds records.now own result }
 {
-    let count = record_count(records);
-    for i in 0..count {
-        if own_of(records, i) == own {
-            return Found::At(i);
-        }
-    }
-    Found::Nowhere
+    (0..record_count(records)).find(|&i| own_of(records, i) == own)
 }
 
 fn count_of_map(records: &[u64], number: u64) -> usize
     ensures { result ≡ count_below (accession_count records.now) (is_of_map records.now number) }
 {
-    let count = record_count(records);
-    let mut found = 0;
-    for i in 0..count {
-        if map_of(records, i) == number {
-            found += 1;
-        }
-    }
-    found
+    (0..record_count(records))
+        .filter(|&i| map_of(records, i) == number)
+        .count()
 }
 
 fn put_record(records: &[u64], i: usize, output: &mut [u64], k: usize)
@@ -80,10 +63,8 @@ fn put_line(records: &[u64], number: u64, output: &mut [u64])
     requires { numbers_per_accession * count_below (accession_count records.now) (is_of_map records.now number) ≤ length output.old }
     ensures { output.new ≡ overwrite (flat_line (map_line records.now number)) output.old }
 {
-    let mut i = record_count(records);
     let mut k = 0;
-    while 0 < i {
-        i -= 1;
+    for i in (0..record_count(records)).rev() {
         k = put_of_map(records, number, i, output, k);
     }
 }
@@ -114,10 +95,10 @@ pub fn report_kept(records: &[u64], own: u64, output: &mut [u64]) -> LineAnswer
     ensures left { output.new ≡ line_at_exit result.number records.now own output.old }
 {
     match find_own(records, own) {
-        Found::Nowhere => LineAnswer {
+        None => LineAnswer {
             number: 0,
             value: 0,
         },
-        Found::At(i) => report_map(records, map_of(records, i), output),
+        Some(i) => report_map(records, map_of(records, i), output),
     }
 }
