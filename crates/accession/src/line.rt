@@ -8,17 +8,11 @@ ghost use Rattle.catalogue.specs.Accession.{numbers_per_accession, flat_accessio
 ghost use Rattle.catalogue.specs.Line.{flat_line, line_verdict, line_at_exit};
 ghost use Rattle.catalogue.specs.AccessionLaws.Newest.{one};
 ghost use Rattle.catalogue.specs.AccessionLaws.MapLine.{is_of_map, map_line};
-ghost use Rattle.accession.specs.Contract.{answer_in, Finds, room_verdict, room_exit};
+ghost use Rattle.accession.specs.Contract.{answer_of, Finds, room_verdict, room_exit};
 
 use crate::fields::{NUMBERS_PER_ACCESSION, day_of, map_of, own_of, record_count, superseded_of};
-
-// Number 0 and the count of records in the line, or a refusal's number and place.
-#[repr(C)]
-#[derive(Clone, Copy)]
-pub struct LineAnswer {
-    pub number: u64,
-    pub value: u64,
-}
+use crate::rules::first_broken;
+use refusals::{Cause, Refusal};
 
 // The position of a record with an own number.
 fn find_own(records: &[u64], own: u64) -> Option<usize>
@@ -69,36 +63,51 @@ fn put_line(records: &[u64], number: u64, output: &mut [u64])
     }
 }
 
-// Every record of the map: 10, or the line.
-fn report_map(records: &[u64], number: u64, output: &mut [u64]) -> LineAnswer
-    ensures answer { answer_in result ≡ room_verdict (map_line records.now number) (length output.old) }
-    ensures left { output.new ≡ room_exit result.number (map_line records.now number) output.old }
+// Every record of the map, or 10 where the output has no room for them. Gives how many there are.
+fn report_map(records: &[u64], number: u64, output: &mut [u64]) -> Result<usize, Refusal>
+    ensures answer { answer_of result ≡ room_verdict (map_line records.now number) (length output.old) }
+    ensures left { output.new ≡ room_exit (answer_of result).number (map_line records.now number) output.old }
 {
     let count = count_of_map(records, number);
     if output.len() / NUMBERS_PER_ACCESSION < count {
-        return LineAnswer {
-            number: 10,
-            value: 0,
-        };
+        return Err(Refusal {
+            cause: Cause::Room,
+            place: 0,
+        });
     }
     put_line(records, number, output);
-    LineAnswer {
-        number: 0,
-        value: count as u64,
-    }
+    Ok(count)
 }
 
 // For records that keep the rules.
-pub fn report_kept(records: &[u64], own: u64, output: &mut [u64]) -> LineAnswer
+fn report_kept(records: &[u64], own: u64, output: &mut [u64]) -> Result<usize, Refusal>
     requires { (is_finished records.now ≡ true) × (accessions_fault records.now ≡ None) }
-    ensures answer { answer_in result ≡ line_verdict records.now own (length output.old) }
-    ensures left { output.new ≡ line_at_exit result.number records.now own output.old }
+    ensures answer { answer_of result ≡ line_verdict records.now own (length output.old) }
+    ensures left { output.new ≡ line_at_exit (answer_of result).number records.now own output.old }
 {
     match find_own(records, own) {
-        None => LineAnswer {
-            number: 0,
-            value: 0,
-        },
+        None => Ok(0),
         Some(i) => report_map(records, map_of(records, i), output),
+    }
+}
+
+// The whole line of an own number: 3 for a last entry unfinished, 17 at the first record that breaks a rule, 10 where the line does not fit. Gives how many
+// records it has.
+pub fn report_line(records: &[u64], own: u64, output: &mut [u64]) -> Result<usize, Refusal>
+    ensures answer { answer_of result ≡ line_verdict records.now own (length output.old) }
+    ensures left { output.new ≡ line_at_exit (answer_of result).number records.now own output.old }
+{
+    if records.len() % NUMBERS_PER_ACCESSION != 0 {
+        return Err(Refusal {
+            cause: Cause::Entries,
+            place: 0,
+        });
+    }
+    match first_broken(records) {
+        None => report_kept(records, own, output),
+        Some(place) => Err(Refusal {
+            cause: Cause::Accession,
+            place,
+        }),
     }
 }

@@ -6,7 +6,7 @@ use lib.ListN.{length}
 use Rattle.catalogue.specs.Line.{line_of}
 use Rattle.catalogue.specs.AccessionLaws.MapLine.{map_line}
 use Rattle.catalogue.proofs.AccessionLaws.MapLine.{line-of-record, line-unknown}
-use Rattle.accession.specs.Contract.{Finds, room_verdict}
+use Rattle.accession.specs.Contract.{answer_of, Finds, room_verdict}
 use Rattle.std.specs.Prelude.{Some}
 use Rattle.accession.proofs.Reporting.{ten-left, unknown, exit-left, exit-unknown}
 use Rattle.accession.proofs.line.report_kept.Goals as goal
@@ -37,5 +37,5 @@ returns-in-Some c =
     let room = length out in
     record {
       answer = said.ensures.answer ∙ ap (λ line. room_verdict line room) (sym line) ∙ ten-left list own out c.requires.0 c.requires.1;
-      left = said.ensures.left ∙ exit-left list own out said.result.number line;
+      left = said.ensures.left ∙ exit-left list own out (answer_of said.result).number line;
     }

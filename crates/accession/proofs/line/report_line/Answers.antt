@@ -1,4 +1,4 @@
--- `accession::accession_report_line` meets its contract: each check refuses by its number, or those that are left decide. Assumes nothing.
+-- `accession::line::report_line` meets its contract: each check refuses by its number, or those that are left decide. Assumes nothing.
 use Prim.Native.Nat.{◌%◌}
 use mathlib.Core.Path.{◌≡◌, refl, sym, ◌∙◌}
 use mathlib.Core.Bool.{true}
@@ -6,7 +6,7 @@ use lib.ListN.{length}
 use borrow.Author.Tests.{eq-eqb, ne_eqb}
 use Rattle.catalogue.specs.Accession.{numbers_per_accession, is_finished}
 use Rattle.accession.proofs.Reporting.{unfinished, broken}
-use Rattle.accession.proofs.accession_report_line.Goals as goal
+use Rattle.accession.proofs.line.report_line.Goals as goal
 
 pub returns-then-records-ne0 : goal.returns-then-records-ne0
 returns-then-records-ne0 c =
