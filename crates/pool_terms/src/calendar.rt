@@ -62,12 +62,12 @@ fn day_number(year: u64, month: u64, day: u64) -> u64
 fn is_day(year: u64, month: u64, day: u64) -> bool
     ensures { result ≡ is_day (date year month day) }
 {
-    FIRST_YEAR <= year
-        && year <= LAST_YEAR
-        && 1 <= month
-        && month <= 12
-        && 1 <= day
-        && day <= month_days(year, month)
+    let in_range = (FIRST_YEAR <= year)
+        & (year <= LAST_YEAR)
+        & (1 <= month)
+        & (month <= 12)
+        & (1 <= day);
+    in_range && day <= month_days(year, month)
 }
 
 // A day of a term, or the day asked for; none where the date is bad.

@@ -1,9 +1,11 @@
 // The terms of maps in the pool: their days, and the rule that a term breaks, 18 or 19.
 ghost use Rattle.std.specs.Prelude.{◌≡◌, ◌+◌, ◌*◌, ◌≤◌, length};
-ghost use Rattle.catalogue.specs.Terms.{numbers_per_term, term_at, from_to, days_of, contains, overlaps_earlier, term_fault};
-ghost use Rattle.pool_terms.specs.Contract.{day_in, days_in, first_in, end_in, refusal_in, sharing};
+ghost use Rattle.catalogue.specs.Terms.{numbers_per_term, term_at, days_of, contains, overlaps_earlier, term_fault};
+ghost use Rattle.refusals.specs.Refusals.{refusal_in};
+ghost use Rattle.pool_terms.specs.Contract.{days_as, days_in, sharing};
 
-use crate::calendar::{Day, day_of, end_of};
+use crate::calendar::{day_of, end_of};
+use refusals::{Cause, Refusal};
 
 const TERM_SIZE: usize = 7;
 
@@ -12,13 +14,6 @@ const TERM_SIZE: usize = 7;
 pub struct Days {
     pub from: u64,
     pub to: u64,
-}
-
-// The rule that a term breaks.
-#[derive(Clone, Copy)]
-pub enum Fault {
-    BadDate,
-    EmptyOrOverlapping,
 }
 
 // None where a date is bad.
@@ -40,28 +35,6 @@ pub fn has_day(terms: &[u64], i: usize, day: u64) -> bool
     match term_days(terms, i) {
         None => false,
         Some(days) => days.from <= day && day < days.to,
-    }
-}
-
-// The first day of term i, or 0 for a bad date.
-pub fn first_in(terms: &[u64], i: usize) -> u64
-    requires { numbers_per_term * (i + 1) ≤ length terms.now }
-    ensures { result ≡ first_in (days_of (term_at terms.now i)) }
-{
-    match term_days(terms, i) {
-        None => 0,
-        Some(days) => days.from,
-    }
-}
-
-// The end of term i, or 0 for a bad date.
-pub fn end_in(terms: &[u64], i: usize) -> u64
-    requires { numbers_per_term * (i + 1) ≤ length terms.now }
-    ensures { result ≡ end_in (days_of (term_at terms.now i)) }
-{
-    match term_days(terms, i) {
-        None => 0,
-        Some(days) => days.to,
     }
 }
 
@@ -88,14 +61,20 @@ fn overlaps_earlier(terms: &[u64], i: usize, days: Days) -> bool
     (0..i).any(|j| shares_day(terms, j, map, days))
 }
 
-// Whether term i keeps the rules.
-pub fn term_fault(terms: &[u64], i: usize) -> Result<(), Fault>
+// Refuses term i, if it breaks a rule: 18 for a bad date, 19 where it is empty or overlaps an earlier one.
+pub fn term_fault(terms: &[u64], i: usize) -> Result<(), Refusal>
     requires { numbers_per_term * (i + 1) ≤ length terms.now }
-    ensures { fault_in i result ≡ term_fault terms.now i (days_of (term_at terms.now i)) }
+    ensures { refusal_in result ≡ term_fault terms.now i (days_of (term_at terms.now i)) }
 {
-    let days = term_days(terms, i).ok_or(Fault::BadDate)?;
+    let days = term_days(terms, i).ok_or(Refusal {
+        cause: Cause::Date,
+        place: i,
+    })?;
     if days.to <= days.from || overlaps_earlier(terms, i, days) {
-        return Err(Fault::EmptyOrOverlapping);
+        return Err(Refusal {
+            cause: Cause::Term,
+            place: i,
+        });
     }
     Ok(())
 }
