@@ -79,5 +79,5 @@ module _ (boundaries smaller larger marks : List ℕ) (r : ℕ) where
 pub record FirstFrom (f : ℕ → Bool) (from n r : ℕ) : Type 0 where
   pub within : r ≤ n
   pub behind : r < n → from ≤ r
-  pub None : (j : ℕ) → from ≤ j → j < r → f j ≡ false
+  pub none : (j : ℕ) → from ≤ j → j < r → f j ≡ false
   pub found : r < n → f r ≡ true

@@ -15,9 +15,6 @@ offset_bounds-parents-c c = omega (arith, c.loop-c-test.true, c.requires.1)
 pub bounds-parents-c : goal.bounds-parents-c
 bounds-parents-c c = omega (arith, c.loop-c-test.true, c.requires.0, c.loop-c.invariant.beyond.long)
 
-pub overflow_add-c : goal.overflow_add-c
-overflow_add-c c = omega (arith, c.loop-c-test.true, c.requires.1)
-
 pub loop-c-smaller : goal.loop-c-smaller
 loop-c-smaller c = omega (arith, c.loop-c-test.true)
 
