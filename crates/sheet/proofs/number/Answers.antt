@@ -11,9 +11,6 @@ loop-next-init c =
     let none : c.args.at - c.args.at ≡ 0 = omega arith in
     rw none (start _ _ c.requires)
 
-pub ill_formed-requires : goal.ill_formed-requires
-ill_formed-requires c = tt
-
 pub returns-then-ill_formed : goal.returns-then-ill_formed
 returns-then-ill_formed c = bad c.loop-next.invariant c.loop-next-test.true c.from-byte.ensures (sym c.ill_formed.ensures ∙ c.if-ill_formed.true)
 

@@ -8,9 +8,6 @@ pub returns-then-first-lt128 : goal.returns-then-first-lt128
 returns-then-first-lt128 c =
     short_one _ _ c.if-at-bytes.true c.from-first.ensures c.if-first-lt128.true
 
-pub ends_short-requires : goal.ends_short-requires
-ends_short-requires c = tt
-
 pub overflow_mul-result : goal.overflow_mul-result
 overflow_mul-result c = omega (arith, second_below c.from-second.result c.ends_short.ensures c.if-ends_short.true)
 
