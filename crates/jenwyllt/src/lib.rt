@@ -10,7 +10,7 @@ ghost use Rattle.sheet.specs.declared.Answer.TheVariants.{Read, Refused};
 ghost use Rattle.jenwyllt.specs.Contract.{Partitions, sheet_in, Reads};
 
 use areas::{Partitioned, partition};
-use hypotenuse::{Answer, hypotenuse};
+use hypotenuse::hypotenuse;
 use sheet::{Answer as Reading, Header, read_sheet};
 
 // Number 0 and a count, or a refusal's number and place.
@@ -123,8 +123,8 @@ pub fn jenwyllt_hypotenuse(x: f64, y: f64) -> Outcome
     ensures { (result.number ≡ hypot_number x y) × (result.value ≡ hypot_value x y) }
 {
     match hypotenuse(x, y) {
-        Answer::Root(value) => Outcome { number: 0, value },
-        Answer::Refused => Outcome {
+        Some(value) => Outcome { number: 0, value },
+        None => Outcome {
             number: 13,
             value: 0.0,
         },

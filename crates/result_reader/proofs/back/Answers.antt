@@ -6,9 +6,6 @@ pub keys_list-requires-in-List : goal.keys_list-requires-in-List
 keys_list-requires-in-List c =
     c.in-List.ensures.behind
 
-pub first_breach-requires : goal.first_breach-requires
-first_breach-requires c = tt
-
 pub returns-then-next-bytes : goal.returns-then-next-bytes
 returns-then-next-bytes c =
     back-too_long c.in-List.ensures c.in-List-keys_list.ensures c.if-next-bytes.true

@@ -2,9 +2,6 @@
 use Rattle.result_reader.proofs.Steps.{climbed_first, climbed_on, climbed_not, climbed_broken}
 use Rattle.result_reader.proofs.climb.Goals as goal
 
-pub ascends-requires : goal.ascends-requires
-ascends-requires c = tt
-
 pub returns-in-Empty : goal.returns-in-Empty
 returns-in-Empty c = climbed_first _ _ _ c.in-Empty.is
 

@@ -2,9 +2,6 @@
 use Rattle.result_reader.proofs.Chains.{result_unopened, result_no_front, result_no_back, result-told}
 use Rattle.result_reader.proofs.judge_result.Goals as goal
 
-pub opening-requires : goal.opening-requires
-opening-requires c = tt
-
 pub front-requires : goal.front-requires
 front-requires c =
     c.in-Opening.ensures.behind
@@ -12,12 +9,6 @@ front-requires c =
 pub back-requires : goal.back-requires
 back-requires c =
     c.in-Lists.ensures.behind
-
-pub first_breach-requires : goal.first_breach-requires
-first_breach-requires c = tt
-
-pub judged-requires : goal.judged-requires
-judged-requires c = tt
 
 pub returns-in-Lists-back : goal.returns-in-Lists-back
 returns-in-Lists-back c =

@@ -7,9 +7,6 @@ pub walk_keys-requires : goal.walk_keys-requires
 walk_keys-requires c =
     item-inside _ _ _ c.item.ensures c.requires c.in-Item.is
 
-pub ascent_breach-requires : goal.ascent_breach-requires
-ascent_breach-requires c = tt
-
 pub returns-in-Climbed : goal.returns-in-Climbed
 returns-in-Climbed c =
     keys_found _ _ (item-found _ _ _ c.item.ensures c.in-Item.is) _ _ c.walk_keys.ensures c.requires c.in-Climbed.is c.ascent_breach.ensures

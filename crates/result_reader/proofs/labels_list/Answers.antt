@@ -7,9 +7,6 @@ pub walk_labels-requires : goal.walk_labels-requires
 walk_labels-requires c =
     item-inside _ _ _ c.item.ensures c.requires c.in-Item.is
 
-pub turns_breach-requires : goal.turns_breach-requires
-turns_breach-requires c = tt
-
 pub returns-in-Turns : goal.returns-in-Turns
 returns-in-Turns c =
     labels-found _ _ (item-found _ _ _ c.item.ensures c.in-Item.is) _ _ c.walk_labels.ensures _ c.requires c.in-Turns.is c.turns_breach.ensures

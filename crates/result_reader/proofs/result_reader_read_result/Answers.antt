@@ -3,27 +3,12 @@ use mathlib.Core.Path.{sym, ◌∙◌}
 use Rattle.result_reader.proofs.Answering.{room-known, answered-read, answered-short, answered-refused}
 use Rattle.result_reader.proofs.result_reader_read_result.Goals as goal
 
-pub judge_result-requires : goal.judge_result-requires
-judge_result-requires c = tt
-
-pub fits-requires : goal.fits-requires
-fits-requires c = tt
-
 pub fill-requires : goal.fill-requires
 fill-requires c =
     record {
       held = c.in-Sound.ensures.held;
       room = room-known (sym c.fits.ensures ∙ c.if-fits.true);
     }
-
-pub opened-requires : goal.opened-requires
-opened-requires c = tt
-
-pub refused-requires : goal.refused-requires
-refused-requires c = tt
-
-pub refused-requires-in-Refused : goal.refused-requires-in-Refused
-refused-requires-in-Refused c = tt
 
 pub returns-then-fits : goal.returns-then-fits
 returns-then-fits c =

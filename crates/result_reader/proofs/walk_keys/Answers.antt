@@ -10,9 +10,6 @@ loop-left-init c = walking_starts _ _ _ c.requires
 pub key_at-requires : goal.key_at-requires
 key_at-requires c = c.loop-left.invariant.inside
 
-pub climb-state-requires : goal.climb-state-requires
-climb-state-requires c = tt
-
 pub loop-left-preserved : goal.loop-left-preserved
 loop-left-preserved c =
     walking_goes_on _ _ _ c.loop-left.invariant c.loop-left-test.true c.in-Entry.ensures

@@ -12,9 +12,6 @@ loop-left-init c = walking_starts _ _ _ c.requires
 pub item-requires : goal.item-requires
 item-requires c = c.loop-left.invariant.inside
 
-pub after_label-requires : goal.after_label-requires
-after_label-requires c = tt
-
 pub loop-left-preserved : goal.loop-left-preserved
 loop-left-preserved c =
     walking_goes_on _ _ _ c.loop-left.invariant c.loop-left-test.true (one_found _ _ (item-found _ _ _ c.item.ensures c.in-Item.is))
