@@ -32,10 +32,6 @@ put_verdict-requires c =
     let fits = c.requires in
     omega (arith, c.loop-c-test.true, places-few _ fits.sized.few, fits.room, c.loop-c.invariant.long)
 
-pub overflow_add-c : goal.overflow_add-c
-overflow_add-c c =
-    record { fits = omega (arith, c.loop-c-test.true, places-few _ c.requires.sized.few) }
-
 pub loop-c-preserved : goal.loop-c-preserved
 loop-c-preserved c =
     putting_more _ _ _ _ _ _ _ _ _ c.loop-c.invariant c.loop-c-test.true c.verdict_at-v.ensures c.put_verdict.ensures c.put_verdict.auto.verdicts
