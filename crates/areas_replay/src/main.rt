@@ -5,7 +5,7 @@
 
 ghost use Rattle.std.specs.Prelude.{◌≤◌, length};
 
-use areas::{Partitioned, partition};
+use areas::partition;
 use replay_lists::{
     CASES, CELLS, HEIGHT, LABELS, MASKS, OPENING, PAIRS, QUEUE, SPANS, TALLIES, WIDTH,
     masks_before, number, number_within, numbers_before, read_bytes, read_opening, write_partition,
@@ -31,11 +31,16 @@ fn run<W: Write>(
         width, height, cells, spans, labels, masks, queue, tallies, pairs,
     );
     match answer {
-        Partitioned::Regions(count) => write_partition(
-            out, 0, count, labels, masks, queue, tallies, pairs,
-        )?,
-        Partitioned::Refused(number, place) => write_partition(
-            out, number, place, labels, masks, queue, tallies, pairs,
+        Ok(count) => write_partition(out, 0, count, labels, masks, queue, tallies, pairs)?,
+        Err(refusal) => write_partition(
+            out,
+            refusal.cause.number(),
+            refusal.place,
+            labels,
+            masks,
+            queue,
+            tallies,
+            pairs,
         )?,
     };
     Ok(())
