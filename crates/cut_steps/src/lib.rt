@@ -21,7 +21,6 @@ ghost use Rattle.cut_steps.specs.Marking.{MarkAsked, SpanAsked, SpanAtAsked, Mar
 use cell::{crossed_directions, cut_directions, is_near, side_changes};
 use extents::{near_axis, near_range};
 use line_crossings::{first_place, next_place, tie_of};
-use span_geometry::numbers::saturating_sub;
 use span_geometry::strips::Strip;
 use span_geometry::{PIXELS_PER_WALK_CELL, SpanGeometry};
 
@@ -257,7 +256,7 @@ pub fn parts_of(strip: Strip, limit: usize) -> Parts
     let first = axis.first as usize;
     let end = max(first, axis.last as usize + 1);
     let inner = (strip.major0 + ENDS_AFTER) / PIXELS_PER_WALK_CELL;
-    let outer = saturating_sub(strip.major1, BEGINS_BEFORE) / PIXELS_PER_WALK_CELL;
+    let outer = strip.major1.saturating_sub(BEGINS_BEFORE) / PIXELS_PER_WALK_CELL;
     let from = min(max(first, inner as usize), end);
     let to = max(from, min(outer as usize, end));
     Parts {

@@ -10,7 +10,7 @@ ghost use Rattle.refusals.specs.Refusals.{refusal_of};
 ghost use Rattle.jenwyllt.specs.Contract.{Partitions, sheet_in, Reads};
 
 use areas::{Partitioned, partition};
-use hypotenuse::{Answer, hypotenuse};
+use hypotenuse::hypotenuse;
 use refusals::Refusal;
 use sheet::{Header, read_sheet};
 
@@ -124,8 +124,8 @@ pub fn jenwyllt_hypotenuse(x: f64, y: f64) -> Outcome
     ensures { (result.number ≡ hypot_number x y) × (result.value ≡ hypot_value x y) }
 {
     match hypotenuse(x, y) {
-        Answer::Root(value) => Outcome { number: 0, value },
-        Answer::Refused => Outcome {
+        Some(value) => Outcome { number: 0, value },
+        None => Outcome {
             number: 13,
             value: 0.0,
         },

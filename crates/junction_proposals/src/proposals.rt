@@ -7,7 +7,7 @@ ghost use Rattle.junction_proposals.specs.Lent.{Lent, Shows};
 ghost use Rattle.junction_proposals.specs.Bridges.{is_bridge_at};
 ghost use Rattle.junction_proposals.specs.Rows.{max_proposals, numbers_per_proposal, row_at, rows_of, union_at, is_allowed, RowFits};
 
-use crate::bridges::{Bridge, bridge_of};
+use crate::bridges::bridge_of;
 use crate::unions::is_union;
 
 pub const NUMBERS_PER_PROPOSAL: usize = 4;
@@ -108,11 +108,11 @@ fn add_bridge(
     match bridge_of(
         boundaries, smaller, larger, counts, marks, count, regions, r,
     ) {
-        Bridge::At(index, exterior) => {
-            push_proposal(rows, n, index, 1, r, exterior);
+        Some(bridge) => {
+            push_proposal(rows, n, bridge.index, 1, r, bridge.exterior);
             n + 1
         }
-        Bridge::None => n,
+        None => n,
     }
 }
 

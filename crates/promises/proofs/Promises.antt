@@ -41,7 +41,6 @@ use Rattle.laws.specs.RustContext.RampFlag as flags
 use Rattle.laws.specs.RustJunctions.Unions.{proposed}
 use Rattle.laws.specs.RustJunctions.UnionRegions.{union_passes}
 use Rattle.laws.specs.RustJunctions.UnionRegions as unions
-use Rattle.hypotenuse.specs.declared.Answer as root
 use Rattle.hypotenuse.specs.Contract.{number_of, value_of, Allowed}
 use Rattle.hypotenuse.specs.RootNearest as nearest
 use Rattle.grid_steps.specs.Walk.{direction_at}
@@ -155,7 +154,7 @@ use Rattle.report.specs.ReportLaws.Means as means
 -- ---- 2. Exact: the hypotenuse, the order of widths, and the Rust's own steps
 
 -- "a hypotenuse is the exact root rounded to nearest, ties to even"
-pub hypotenuse_nearest : (x y : Float) (r : root.Answer) → in_range x ≡ true → in_range y ≡ true → Allowed x y r
+pub hypotenuse_nearest : (x y : Float) (r : Option Float) → in_range x ≡ true → in_range y ≡ true → Allowed x y r
     → (number_of r ≡ 0) × Nearest (sum_of_squares x y) (to_bits binary64 (value_of r))
 hypotenuse_nearest = nearest.root-nearest
 

@@ -21,7 +21,7 @@ use Rattle.laws.specs.ListLaws.Lists.{length_run}
 use Rattle.laws.specs.ListLaws.NoFault.{no_fault_lem}
 use Rattle.laws.specs.ListLaws.Tests.{both}
 use Rattle.areas.specs.Fit.{Fit}
-use Rattle.areas.proofs.Chain.{next}
+use Rattle.refusals.proofs.Steps.{next}
 use Rattle.call_partition.specs.declared.Prepared.{Prepared}
 use Rattle.call_partition.specs.declared.Prepared.TheVariants.{Refused, Ready}
 use Rattle.call_partition.specs.Early.{sizes_refusal, entries_refusal, early_refusal}

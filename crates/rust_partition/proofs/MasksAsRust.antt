@@ -148,11 +148,11 @@ module _ (M : Map) where
   unfolding onward neighbors filter
   no_steps g p w =
       ap (λ l. map (edge M p) (filter (cuts g p) (filter (λ q. ltb (index M p) (index M q)) (map (toward p) l))))
-      (filter_none (is_step M p) (λ d t. None d (is_step M p d) refl) (all_every {P = λ d. Unit {0}} (λ d. tt) directions))
+      (filter_none (is_step M p) (λ d t. nowhere d (is_step M p d) refl) (all_every {P = λ d. Unit {0}} (λ d. tt) directions))
     where
-      None : (d : Position) (b : Bool) → is_step M p d ≡ b → b ≡ false
-      None d true e = absurd (false≢true (sym w ∙ (four M p d e).near))
-      None d false e = refl
+      nowhere : (d : Position) (b : Bool) → is_step M p d ≡ b → b ≡ false
+      nowhere d true e = absurd (false≢true (sym w ∙ (four M p d e).near))
+      nowhere d false e = refl
 
   walkable-inside : (p : Position) → Inside M p → walkable M p ≡ is_walkable (cell_at M (index M p))
   unfolding walkable

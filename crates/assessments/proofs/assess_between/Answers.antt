@@ -73,11 +73,6 @@ assess_crossing-a-requires c =
       counting = counting_most C (more_room i.0.from_k c.loop-k-test.true few c.requires.counting.few C.few);
     }
 
-pub overflow_add-k : goal.overflow_add-k
-overflow_add-k c =
-    let p = c.requires.lent in
-    omega (arith, column_in p.0.narrow p.0.short (column-asked p.2 c.loop-k.invariant.0.from_k c.loop-k-test.true))
-
 pub loop-k-smaller : goal.loop-k-smaller
 loop-k-smaller c = omega (arith, c.loop-k-test.true)
 

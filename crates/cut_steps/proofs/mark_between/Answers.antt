@@ -67,10 +67,6 @@ mark_crossing-requires c =
       follows = follows-in c.requires.between.0 c.requires.lent.1.usable c.tie_of-tie.ensures i.0 c.loop-k-test.true i.3 i.4 c.next_place-after.ensures.crossing i.5 c.next_place-after.ensures.close;
     }
 
-pub overflow_add-k : goal.overflow_add-k
-overflow_add-k c =
-    omega (arith, column_in c.requires.lent.0.narrow c.requires.lent.0.short (column-asked c.requires.lent.1 c.loop-k.invariant.0 c.loop-k-test.true))
-
 pub loop-k-smaller : goal.loop-k-smaller
 loop-k-smaller c = omega (arith, c.loop-k-test.true)
 

@@ -3,7 +3,7 @@
 -- of the Rust leaves its type, since sides are at most 1,024. Definitions only. Assumes nothing.
 use Rattle.std.specs.Prelude.{ℕ, suc, ◌+◌, ◌-◌, ◌*◌, Bool, not, ◌&&◌, ◌||◌, false, cond, List, [], ◌∷◌, ◌++◌, length, ltb, leb, ℤ, pos, negsuc}
 use Rattle.std.specs.Prelude.{Option, None, Some}
-use Rattle.std.proofs.Math.ListN.{get_elem?}
+use Rattle.std.specs.Prelude.{slice_get}
 use Rattle.definitions.specs.Scan.{to_list, only_if}
 use Rattle.definitions.specs.Grid.{Map, Position, at, is_walkable}
 use Rattle.definitions.specs.Spans.{is_zero}
@@ -47,7 +47,7 @@ index_rust M position =
 --     self.index(position).and_then(|index| self.cells.get(index))
 unfoldable pub cell_rust : Map → Position → Option ℕ
 unfolding index_rust
-cell_rust M position = and_then (index_rust M position) (get_elem? M.cells)
+cell_rust M position = and_then (index_rust M position) (slice_get M.cells)
 
 -- `(delta_x, delta_y)`
 pub record Delta : Type 0 where
