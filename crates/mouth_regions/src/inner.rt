@@ -3,7 +3,7 @@ ghost use Rattle.std.specs.Prelude.{◌≡◌, cond, ◌%◌, ◌<◌, eqb};
 ghost use Rattle.context.specs.Rows.{Stretch};
 ghost use Rattle.mouth_regions.specs.Inner.{places_of, inner_at};
 
-use mouth_proposals::shapes::{Pair, row_at};
+use context::pairs::{Pair, row_at};
 
 // How many regions the rows of mouth m name, each as often as it is named.
 pub fn places(pairs: &[u32], starts: &[usize; 257], m: usize) -> usize

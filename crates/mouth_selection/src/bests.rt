@@ -17,7 +17,7 @@ use crate::held::region_full;
 use crate::selection::{entry_left, least_marked, mark_left, take_entry};
 use geometry::boundaries::kind_at;
 use mouth_proposals::candidates::push_ramp;
-use mouth_proposals::shapes::row_at;
+use context::pairs::row_at;
 
 // Lists the candidates of ramp a, and marks those that conflict with none taken. Gives the number of candidates.
 pub fn list_ramp(
