@@ -12,7 +12,6 @@ ghost use Rattle.geometry.specs.Forms.{segment_form};
 ghost use Rattle.separations.specs.Listing.{numbers_per_separation, boundary_count, ends_of_lem, separation_row, column, separation_rows, pair_count, list_verdict, Lists};
 ghost use Rattle.separation_list.specs.Contract.{answer_in, PairFits, ColumnFits, RowsFit, max_pairs};
 
-use checks::Fault;
 use checks::boundaries::boundaries_fault;
 use checks::limits::NUMBERS_PER_BOUNDARY;
 use checks::sizes::{is_whole, sides_fit};
@@ -132,11 +131,11 @@ fn verdict(width: u64, height: u64, boundaries: &[u64], room: usize) -> Answer
     let fault = boundaries_fault(width, height, boundaries);
     let count = pair_count(boundaries.len() / NUMBERS_PER_BOUNDARY);
     match fault {
-        Fault::At(i) => Answer {
+        Some(i) => Answer {
             number: 7,
             value: i as u64,
         },
-        Fault::Nowhere => room_answer(count, room),
+        None => room_answer(count, room),
     }
 }
 

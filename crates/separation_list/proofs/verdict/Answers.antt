@@ -1,7 +1,6 @@
 -- `verdict` meets its contract: the four checks, in the definition's order. Assumes nothing.
-use mathlib.Core.Path.{sym, ap, ◌∙◌}
+use mathlib.Core.Path.{sym, ◌∙◌}
 use borrow.Author.Tests.{not-true, not-false}
-use Rattle.checks.specs.Contract.{place_of}
 use Rattle.separation_list.proofs.Answering.{entries-le, sides-refused, sizes-refused, boundary-refused, room-answered}
 use Rattle.laws.specs.SheetReading.SheetSizes.{sides_most}
 use Rattle.separation_list.proofs.verdict.Goals as goal
@@ -26,16 +25,16 @@ pair_count-count-requires c =
     let given = c.args in
     entries-le given.boundaries.now c.is_whole.ensures (not-false _ c.if-not-is_whole.false-raw)
 
-pub returns-in-At : goal.returns-in-At
-returns-in-At c =
+pub returns-in-Some : goal.returns-in-Some
+returns-in-Some c =
     let given = c.args in
     boundary-refused given.width given.height given.boundaries.now given.room c.sides_fit.ensures (not-false _ c.if-not-sides_fit.false-raw)
-    c.is_whole.ensures (not-false _ c.if-not-is_whole.false-raw) (sym (ap place_of c.in-At.is) ∙ c.boundaries_fault-fault.ensures)
+    c.is_whole.ensures (not-false _ c.if-not-is_whole.false-raw) (sym c.in-Some.is ∙ c.boundaries_fault-fault.ensures)
 
-pub returns-in-Nowhere : goal.returns-in-Nowhere
-returns-in-Nowhere c =
+pub returns-in-None : goal.returns-in-None
+returns-in-None c =
     let given = c.args in
     c.room_answer.ensures
     ∙ room-answered given.width given.height given.boundaries.now given.room c.sides_fit.ensures (not-false _ c.if-not-sides_fit.false-raw)
-    c.is_whole.ensures (not-false _ c.if-not-is_whole.false-raw) (sym (ap place_of c.in-Nowhere.is) ∙ c.boundaries_fault-fault.ensures)
+    c.is_whole.ensures (not-false _ c.if-not-is_whole.false-raw) (sym c.in-None.is ∙ c.boundaries_fault-fault.ensures)
     c.pair_count-count.ensures.0
