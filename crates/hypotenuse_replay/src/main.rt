@@ -11,7 +11,7 @@ ghost use Rattle.hypotenuse_replay.specs.Lines.{digit_of, digits_after, number_o
 
 use std::io;
 use std::io::{Read, Write};
-use streams::{read_full, write_bytes, write_decimal};
+use streams::read_full;
 
 // 2^63: the place of the sign.
 const SIGN: u64 = 9223372036854775808;
@@ -32,19 +32,11 @@ const TURNS: u64 = 1048576;
 fn digit(b: u8) -> u64
     ensures { (result ≡ digit_of b) × (result < 16) }
 {
-    if b < 48 {
-        return 0;
+    match b {
+        b'0'..=b'9' => u64::from(b - b'0'),
+        b'a'..=b'f' => u64::from(b - b'a') + 10,
+        _ => 0,
     }
-    if b < 58 {
-        return (b - 48) as u64;
-    }
-    if b < 97 {
-        return 0;
-    }
-    if b < 103 {
-        return (b - 87) as u64;
-    }
-    0
 }
 
 // The number that up to sixteen digits stand for.
@@ -53,8 +45,8 @@ fn number(s: &[u8], base: u64) -> u64
     ensures { result ≡ digits_after base 0 s.now }
 {
     let mut n = 0;
-    for i in 0..s.len() {
-        n = n * base + digit(s[i]);
+    for &b in s {
+        n = n * base + digit(b);
     }
     n
 }
@@ -121,9 +113,7 @@ struct Tally {
 }
 
 fn report<W: Write>(output: &mut W, line: u64) -> io::Result<()> {
-    write_bytes(output, b"not our answer: line ")?;
-    write_decimal(output, line)?;
-    write_bytes(output, b"\n")
+    writeln!(output, "not our answer: line {line}")
 }
 
 // Counts a line, the last of so many of which so many have our answer, and lists it where it is one of the first that have another.
@@ -164,6 +154,7 @@ fn replay<W: Write>(output: &mut W, s: &[u8], before: Tally) -> io::Result<Tally
 }
 
 // Moves what is from place a to before place e to the start.
+// Kept: std's slices have no `copy_within` here.
 fn move_down(s: &mut [u8], a: usize, e: usize)
     requires { (a ≤ e) × (e ≤ length s.old) }
 {
@@ -250,8 +241,9 @@ fn main(rt: HostRuntime) -> io::Result<()> {
     let mut output = rt.stdout();
     let mut buffer = [0u8; 65536];
     let turn = replay_all(&mut input, &mut output, &mut buffer)?;
-    write_decimal(&mut output, turn.answers)?;
-    write_bytes(&mut output, b" of ")?;
-    write_decimal(&mut output, turn.lines)?;
-    write_bytes(&mut output, b" stored answers are ours\n")
+    writeln!(
+        &mut output,
+        "{} of {} stored answers are ours",
+        turn.answers, turn.lines
+    )
 }

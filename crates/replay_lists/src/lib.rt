@@ -6,10 +6,9 @@
 ghost use Rattle.std.specs.Prelude.{◌≤◌, ◌<◌, ◌≡◌, length, take, IfOk};
 ghost use Rattle.replay_lists.specs.Contract.{held_at, HeldBefore, Copied, Changed, Zeros};
 
-use plain_numbers::{least, number_of, number_of_mask, wide_byte};
-use std::io;
 use std::io::{Read, Write};
-use streams::{read_full, write_bytes, write_decimal};
+use std::{array, io};
+use streams::read_full;
 
 // Reading ends after so many cases at the latest.
 pub const CASES: u64 = 65536;
@@ -26,44 +25,29 @@ fn held_before(i: usize) -> u64
 pub fn masks_before() -> [u16; 4096]
     ensures { HeldBefore 4096 result }
 {
-    let mut list = [0u16; 4096];
-    for i in 0..4096 {
-        list[i] = held_before(i) as u16;
-    }
-    list
+    array::from_fn(|i| held_before(i) as u16)
 }
 
 pub fn numbers_before() -> [u32; 4096]
     ensures { HeldBefore 4096 result }
 {
-    let mut list = [0u32; 4096];
-    for i in 0..4096 {
-        list[i] = held_before(i) as u32;
-    }
-    list
+    array::from_fn(|i| held_before(i) as u32)
 }
 
 pub fn wide_numbers_before() -> [u64; 4096]
     ensures { HeldBefore 4096 result }
 {
-    let mut list = [0u64; 4096];
-    for i in 0..4096 {
-        list[i] = held_before(i);
-    }
-    list
+    array::from_fn(|i| held_before(i))
 }
 
 // How many entries there are up to the last one that is not as it was.
 fn changed(list: &[u64]) -> usize
     ensures { Changed list.now result }
 {
-    let mut n = list.len();
-    while 0 < n {
-        let last = n - 1;
+    for last in (0..list.len()).rev() {
         if list[last] != held_before(last) {
-            return n;
+            return last + 1;
         }
-        n = last;
     }
     0
 }
@@ -72,14 +56,7 @@ fn changed(list: &[u64]) -> usize
 fn zeros(list: &[u64]) -> usize
     ensures { Zeros list.now result }
 {
-    let mut n = 0;
-    while n < list.len() {
-        if list[n] != 0 {
-            return n;
-        }
-        n += 1;
-    }
-    n
+    list.iter().position(|&x| x != 0).unwrap_or(list.len())
 }
 
 // ---- writing. What the system makes of it no contract can say: a function answers how many entries it wrote.
@@ -92,55 +69,43 @@ pub struct Written {
     pub pairs: usize,
 }
 
-fn write_number<W: Write>(output: &mut W, word: &[u8], n: u64) -> io::Result<()> {
-    write_bytes(output, word)?;
-    write_decimal(output, n)
-}
-
-fn write_answer<W: Write>(output: &mut W, number: u64, value: usize) -> io::Result<()> {
-    write_number(output, b"answer ", number)?;
-    write_number(output, b" ", value as u64)?;
-    write_bytes(output, b"\n")
-}
-
 // Writes a list's entries as far as they changed, and how many behind them are as they were. Answers how many entries it wrote.
 pub fn write_wide_numbers<W: Write>(output: &mut W, word: &[u8], list: &[u64]) -> io::Result<usize>
     ensures { IfOk result (λ n. Changed list.now n) }
 {
     let n = changed(list);
-    write_number(output, word, n as u64)?;
-    for i in 0..n {
-        write_number(output, b" ", list[i])?;
+    output.write_all(word)?;
+    write!(output, "{n}")?;
+    for x in &list[..n] {
+        write!(output, " {x}")?;
     }
-    write_number(output, b" kept ", (list.len() - n) as u64)?;
-    write_bytes(output, b"\n")?;
+    writeln!(output, " kept {}", list.len() - n)?;
     Ok(n)
 }
 
 // Of a list that is cleared.
 fn write_zeros<W: Write>(output: &mut W, word: &[u8], list: &[u64]) -> io::Result<()> {
     let n = changed(list);
-    write_number(output, word, n as u64)?;
-    write_number(output, b" zeros ", zeros(list) as u64)?;
-    write_number(output, b" kept ", (list.len() - n) as u64)?;
-    write_bytes(output, b"\n")
+    output.write_all(word)?;
+    writeln!(output, "{n} zeros {} kept {}", zeros(list), list.len() - n)
 }
 
+// Kept: two alike, of numbers and of masks, since a bound of `Into` says nothing of the value that a contract speaks of.
 fn widen(list: &[u32], out: &mut [u64])
     ensures { Copied list.now out.new }
 {
-    let n = least(list.len(), out.len());
+    let n = list.len().min(out.len());
     for i in 0..n {
-        out[i] = number_of(list[i]);
+        out[i] = u64::from(list[i]);
     }
 }
 
 fn widen_masks(masks: &[u16], out: &mut [u64])
     ensures { Copied masks.now out.new }
 {
-    let n = least(masks.len(), out.len());
+    let n = masks.len().min(out.len());
     for i in 0..n {
-        out[i] = number_of_mask(masks[i]);
+        out[i] = u64::from(masks[i]);
     }
 }
 
@@ -149,7 +114,7 @@ fn write_numbers<W: Write>(output: &mut W, word: &[u8], list: &[u32]) -> io::Res
 {
     let mut numbers = [0u64; 4096];
     widen(list, &mut numbers);
-    let n = least(4096, list.len());
+    let n = list.len().min(4096);
     write_wide_numbers(output, word, &numbers[0..n])
 }
 
@@ -168,7 +133,7 @@ pub fn write_partition<W: Write>(
     ensures tallies_changed { IfOk result (λ w. Changed (take 4096 tallies.now) w.tallies) }
     ensures pairs_changed { IfOk result (λ w. Changed (take 4096 pairs.now) w.pairs) }
 {
-    write_answer(output, number, value)?;
+    writeln!(output, "answer {number} {value}")?;
     let of_labels = write_numbers(output, b"labels ", labels)?;
     let of_tallies = write_numbers(output, b"tallies ", tallies)?;
     let of_pairs = write_numbers(output, b"pairs ", pairs)?;
@@ -184,14 +149,14 @@ pub fn write_partition<W: Write>(
 fn write_cleared_masks<W: Write>(output: &mut W, masks: &[u16]) -> io::Result<()> {
     let mut numbers = [0u64; 4096];
     widen_masks(masks, &mut numbers);
-    let n = least(4096, masks.len());
+    let n = masks.len().min(4096);
     write_zeros(output, b"masks ", &numbers[0..n])
 }
 
 fn write_cleared_queue<W: Write>(output: &mut W, queue: &[u32]) -> io::Result<()> {
     let mut numbers = [0u64; 4096];
     widen(queue, &mut numbers);
-    let n = least(4096, queue.len());
+    let n = queue.len().min(4096);
     write_zeros(output, b"queue ", &numbers[0..n])
 }
 
@@ -237,7 +202,7 @@ pub fn number(opening: &[u8; 30], k: usize) -> usize
     requires { k < 15 }
     ensures { result < 65536 }
 {
-    wide_byte(opening[2 * k]) + 256 * wide_byte(opening[2 * k + 1])
+    usize::from(opening[2 * k]) + 256 * usize::from(opening[2 * k + 1])
 }
 
 // Number k of an opening as the length of a list; the list has no more than `most` entries.
@@ -245,7 +210,7 @@ pub fn number_within(opening: &[u8; 30], k: usize, most: usize) -> usize
     requires { k < 15 }
     ensures { result ≤ most }
 {
-    least(number(opening, k), most)
+    number(opening, k).min(most)
 }
 
 // Reads the numbers of the next case, and answers how many bytes there were; fewer than 30 where there is none.

@@ -12,6 +12,7 @@ pub fn read_full<R: Read>(input: &mut R, list: &mut [u8]) -> io::Result<usize>
     ensures { IfOk result (λ n. n ≤ length list.new) }
 {
     let mut count = 0;
+    // Kept: a read may give fewer bytes than there is room for, so that no range gives the turns; and `read_exact` does not say how many bytes there were.
     while count < list.len() {
         let got = input.read(&mut list[count..])?;
         if got == 0 {

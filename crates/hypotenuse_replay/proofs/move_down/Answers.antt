@@ -15,9 +15,6 @@ overflow_sub-s c = omega arith
 pub bounds-s-i-in-loop-i : goal.bounds-s-i-in-loop-i
 bounds-s-i-in-loop-i c = omega arith
 
-pub loop-i-smaller : goal.loop-i-smaller
-loop-i-smaller c = omega arith
-
 pub loop-i-preserved : goal.loop-i-preserved
 loop-i-preserved c = simp length-set (omega arith)
 

@@ -29,40 +29,34 @@ word i h = pow_mono (four i h)
     four : (i : ℕ) → i ≤ 16 → 4 * i ≤ 64
     four i h = omega arith
 
-pub loop-i-init : goal.loop-i-init
-loop-i-init c = omega arith
+pub loop-b-init : goal.loop-b-init
+loop-b-init c = omega arith
 
 pub overflow_mul-n : goal.overflow_mul-n
 overflow_mul-n c =
-    let l = c.loop-i in
-    omega (arith, grows l.n c.args.base 0 l.i l.invariant.1 c.requires.1 (omega arith), word (l.i + 1) (omega (arith, c.requires.0)))
-
-pub bounds-s-i : goal.bounds-s-i
-bounds-s-i c = omega arith
+    let l = c.loop-b in
+    omega (arith, grows l.n c.args.base 0 l.b-index l.invariant.1 c.requires.1 (omega arith), word (l.b-index + 1) (omega (arith, c.requires.0)))
 
 pub digit-requires : goal.digit-requires
 digit-requires c = omega arith
 
 pub overflow_add-n : goal.overflow_add-n
 overflow_add-n c =
-    let l = c.loop-i in
-    omega (arith, grows l.n c.args.base c.digit.result l.i l.invariant.1 c.requires.1 c.digit.ensures.1, word (l.i + 1) (omega (arith, c.requires.0)))
+    let l = c.loop-b in
+    omega (arith, grows l.n c.args.base c.digit.result l.b-index l.invariant.1 c.requires.1 c.digit.ensures.1, word (l.b-index + 1) (omega (arith, c.requires.0)))
 
-pub loop-i-smaller : goal.loop-i-smaller
-loop-i-smaller c = omega arith
-
-pub loop-i-preserved : goal.loop-i-preserved
-loop-i-preserved c =
-    let l = c.loop-i in
+pub loop-b-preserved : goal.loop-b-preserved
+loop-b-preserved c =
+    let l = c.loop-b in
     let s = c.args.s.now in
-    let more : digits_after c.args.base (l.n * c.args.base + c.digit.result) (drop (l.i + 1) s) ≡ digits_after c.args.base 0 s =
-    ap (λ (d : ℕ). digits_after c.args.base (l.n * c.args.base + d) (drop (l.i + 1) s)) c.digit.ensures.0
-    ∙ sym (step c.args.base l.n s l.i c.loop-i-test.true) ∙ l.invariant.0 in
-    (more, grows l.n c.args.base c.digit.result l.i l.invariant.1 c.requires.1 c.digit.ensures.1, omega arith)
+    let more : digits_after c.args.base (l.n * c.args.base + c.digit.result) (drop (l.b-index + 1) s) ≡ digits_after c.args.base 0 s =
+    ap (λ (d : ℕ). digits_after c.args.base (l.n * c.args.base + d) (drop (l.b-index + 1) s)) c.digit.ensures.0
+    ∙ sym (step c.args.base l.n s l.b-index c.loop-b-test.true) ∙ l.invariant.0 in
+    (more, grows l.n c.args.base c.digit.result l.b-index l.invariant.1 c.requires.1 c.digit.ensures.1, omega arith)
 
 pub returns : goal.returns
 returns c =
-    let l = c.loop-i in
+    let l = c.loop-b in
     let s = c.args.s.now in
-    let whole : length s ≡ l.i = omega (arith, c.loop-i-test.false) in
+    let whole : length s ≡ l.b-index = omega (arith, c.loop-b-test.false) in
     ap (digits_after c.args.base l.n) (sym (drop-length s) ∙ ap (λ (j : ℕ). drop j s) whole) ∙ l.invariant.0

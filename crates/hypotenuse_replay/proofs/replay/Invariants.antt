@@ -1,12 +1,7 @@
 -- `replay` meets its contract. The invariant, at place i: the counts so far and those of the text from i on, behind the line that has begun, are the counts of the whole text.
 -- The measure is what is left of the text. Assumes nothing.
-use Prim.Native.Nat.{◌-◌}
-use lib.ListN.{length}
 use Rattle.hypotenuse_replay.proofs.Replayed.{Replayed}
 use Rattle.hypotenuse_replay.proofs.replay.Given as goal
 
 abbrev pub invariant-loop-i : goal.invariant-loop-i
 invariant-loop-i g l = Replayed l.s l.initial.lines l.initial.answers l.lines l.answers l.start l.i
-
-abbrev pub decreases-loop-i : goal.decreases-loop-i
-decreases-loop-i g l = length l.s - l.i
