@@ -1,5 +1,6 @@
 -- `mouth_pass::replace_ramp_mouths` meets its contract. The invariant (`Between`): what is known of every context that is shown, and which best is the next to be
 -- found; the measure is the weight of what is left. Assumes nothing.
+use Rattle.mouth_proposals.specs.declared.candidates.Candidate.{Candidate}
 use Prim.Native.Nat.{ℕ, zero, suc, ◌+◌, ◌≤◌, ◌<◌, max}
 use native.Mathlib.Omega.{arith}
 use mathlib.Core.Path.{◌≡◌, refl, ◌∙◌}
@@ -40,8 +41,8 @@ module _ {records : List Region} {boundaries tallies pairs starts : List ℕ} {c
             (pass-starts R N (none_set 256) (none_set 256) (zeros 256) (zeros 256) (zeros 256), λ h. record { at = λ i l. absurd (omega (arith, l, h, R.shows.counted)) });
       }
 
-  module _ {marks : List ℕ} {gone used : List Bool} {mouthof rampof outerof kindof apart : List ℕ} {found fresh : List Bool} {known a : ℕ}
-      (B : Between records boundaries tallies pairs starts count marks₀ counts marks gone used mouthof rampof outerof kindof apart found fresh known a) where
+  module _ {marks : List ℕ} {gone used : List Bool} {bestof : List Candidate} {found fresh : List Bool} {known a : ℕ}
+      (B : Between records boundaries tallies pairs starts count marks₀ counts marks gone used bestof found fresh known a) where
     done : count ≤ a → (C : Context) → Replaces C records boundaries tallies pairs starts count marks₀ counts → Replaced C count gone
     done f C R = record { at = λ j l. ((B.progress C R).1 f).at j (omega (arith, l, R.shows.counted)) }
 
@@ -51,7 +52,7 @@ module _ {records : List Region} {boundaries tallies pairs starts : List ℕ} {c
         one_more i h d =
             ⊎_elim (λ l. omega (arith, e, h, d, l, below)) (λ l. let q = B.next l in omega (arith, e, h, d, q)) (le_or_lt count known)
 
-        more : {C : Context} → Progress C (λ i. i < known) marks gone used mouthof rampof outerof kindof apart found fresh → Progress C (λ i. (i < known') × (i ≡ a → ⊥)) marks gone used mouthof rampof outerof kindof apart found fresh
+        more : {C : Context} → Progress C (λ i. i < known) marks gone used bestof found fresh → Progress C (λ i. (i < known') × (i ≡ a → ⊥)) marks gone used bestof found fresh
         more P =
             record {
               chosen = P.chosen;
@@ -62,7 +63,7 @@ module _ {records : List Region} {boundaries tallies pairs starts : List ℕ} {c
               anchored = P.anchored;
             }
 
-        ready : Ready mouthof rampof outerof kindof apart gone used found fresh known' a count
+        ready : Ready bestof gone used found fresh known' a count
         ready =
             record {
               roomy = B.roomy;
@@ -74,15 +75,15 @@ module _ {records : List Region} {boundaries tallies pairs starts : List ℕ} {c
             }
 
         asked : (C : Context) × ((m : List ℕ) × (Replaces C records boundaries tallies pairs starts count m counts
-            × Progress C (λ i. (i < known') × (i ≡ a → ⊥)) marks gone used mouthof rampof outerof kindof apart found fresh))
+            × Progress C (λ i. (i < known') × (i ≡ a → ⊥)) marks gone used bestof found fresh))
         asked = (pre.0, (marks₀, (pre.1, more (B.progress pre.0 pre.1).0)))
 
-        module _ {marks' mouthof' rampof' outerof' kindof' apart' : List ℕ} {gone' used' found' fresh' : List Bool} {r : ℕ}
-            (S : Stepped marks gone fresh marks' mouthof' rampof' outerof' kindof' apart' gone' used' found' fresh' known' count r)
+        module _ {marks' : List ℕ} {bestof' : List Candidate} {gone' used' found' fresh' : List Bool} {r : ℕ}
+            (S : Stepped marks gone fresh marks' bestof' gone' used' found' fresh' known' count r)
             (P : (C : Context) (m : List ℕ) → Replaces C records boundaries tallies pairs starts count m counts
-            → Progress C (λ i. (i < known') × (i ≡ a → ⊥)) marks gone used mouthof rampof outerof kindof apart found fresh
-            → Progress C (λ i. i < known') marks' gone' used' mouthof' rampof' outerof' kindof' apart' found' fresh' × (count ≤ r → Ended C gone')) where
-          again : Between records boundaries tallies pairs starts count marks₀ counts marks' gone' used' mouthof' rampof' outerof' kindof' apart' found' fresh' known' r
+            → Progress C (λ i. (i < known') × (i ≡ a → ⊥)) marks gone used bestof found fresh
+            → Progress C (λ i. i < known') marks' gone' used' bestof' found' fresh' × (count ≤ r → Ended C gone')) where
+          again : Between records boundaries tallies pairs starts count marks₀ counts marks' gone' used' bestof' found' fresh' known' r
           again =
               record {
                 few = S.few;
