@@ -8,15 +8,15 @@ ghost use Rattle.mouth_selection.specs.Rounds.{near_least};
 ghost use Rattle.mouth_selection.specs.Selecting.{Progress, Ended};
 ghost use Rattle.topology.specs.Mouths.{Locates, NearAsked, Ready, Stepped, Replaces, NoMarks, Replaced};
 
-use crate::entries::{index_at, kind_at, region_at};
+use crate::entries::candidate_at;
 use crate::slice::record_at;
 use context::Region;
-use mouth_proposals::mouths::BROAD;
+use mouth_proposals::candidates::Candidate;
+use mouth_proposals::mouths::MouthKind;
 use mouth_regions::inner::{inner_region, places};
 use mouth_regions::near::region_near;
 use mouth_selection::bests::{list_ramp, proceed};
 use mouth_selection::selection::better_marked;
-use plain_numbers::{most, wide};
 
 // Whether each corner of each inner region of a proposal of pass 1 is near.
 pub fn corners_near(
@@ -27,7 +27,7 @@ pub fn corners_near(
     m: usize,
     a: usize,
     outer: u32,
-    kind: u8,
+    kind: MouthKind,
 ) -> bool
     requires { (C : Context) × Locates C records.now boundaries.now pairs.now starts.now m a }
     ensures { (C : Context) →
@@ -36,10 +36,9 @@ pub fn corners_near(
 {
     let count = places(pairs, starts, m);
     for k in 0..count {
-        let r = wide(inner_region(pairs, starts, m, outer, k));
-        if r != 0 {
-            let region = record_at(records, r - 1);
-            if !region_near(region, boundaries, m, a, kind == BROAD) {
+        if let Some(r) = inner_region(pairs, starts, m, outer, k) {
+            let region = record_at(records, r as usize - 1);
+            if !region_near(region, boundaries, m, a, kind.is_broad()) {
                 return false;
             }
         }
@@ -69,15 +68,16 @@ pub fn best_near(
     let mut best = n;
     for k in 0..n {
         if better_marked(boundaries, entries, marked, n, best, k) == k {
+            let entry = candidate_at(entries, k);
             if corners_near(
                 records,
                 boundaries,
                 pairs,
                 starts,
-                index_at(mouths, k),
-                index_at(ramps, k),
-                region_at(outers, k),
-                kind_at(kinds, k),
+                entry.mouth as usize,
+                entry.ramp as usize,
+                entry.outer,
+                entry.kind,
             ) {
                 best = k;
             }
@@ -190,7 +190,7 @@ pub fn replace_ramp_mouths(
     let mut known = 0;
     let mut a = 0;
     while a < count {
-        known = most(known, a + 1);
+        known = known.max(a + 1);
         a = next_ramp(
             records,
             count,

@@ -1,8 +1,7 @@
 -- `mouth_pass::best_near` meets its contract. The invariant: of every context that is shown, `best` is the least of the candidates before `k` that are marked and near.
 -- A turn keeps it: a candidate that does not rank before the best so far need not be near (`NearLeast` of `mouth_selection`). Assumes nothing.
-use Rattle.mouth_proposals.specs.Listed.{blank}
+use Rattle.mouth_proposals.specs.Listed.{blank, proposal_in, entry_at}
 use Rattle.mouth_proposals.specs.declared.candidates.Candidate.{Candidate}
-use Rattle.mouth_proposals.specs.declared.mouths.MouthKind.{MouthKind}
 use Prim.Native.Nat.{ℕ, ◌+◌, ◌≤◌, ◌<◌}
 use native.Mathlib.Omega.{arith}
 use native.Mathlib.Nat.{le_antisymm, le_refl}
@@ -14,7 +13,6 @@ use Rattle.definitions.specs.Context.{Context}
 use Rattle.definitions.specs.RampMouths.{corners_near_lem}
 use Rattle.context.specs.declared.Region.{Region}
 use Rattle.context.specs.Shown.{ShownBoundaries}
-use Rattle.mouth_proposals.specs.Candidates.{proposal_of}
 use Rattle.mouth_selection.specs.Entries.{Measured, entry_if}
 use Rattle.mouth_selection.specs.Rounds.{better_of, near_least}
 use Rattle.mouth_selection.proofs.NearLeast.{near_none, near-taken, near-far, near-behind}
@@ -25,7 +23,7 @@ use Rattle.topology.proofs.mouth_pass.best_near.Goals as goal
 use Rattle.topology.proofs.mouth_pass.best_near.Goals.{then-better_marked-k+then-corners_near, then-better_marked-k+else-corners_near, else-better_marked-k}
 
 -- what `better_marked` ensures of its result r, of every context that is shown
-abbrev Better : List ℕ → List ℕ → List ℕ → List ℕ → List Bool → ℕ → ℕ → ℕ → ℕ → Type 0
+abbrev Better : List ℕ → List Candidate → List Bool → ℕ → ℕ → ℕ → ℕ → Type 0
 Better boundaries entries marked n best k r =
     (C : Context) → ShownBoundaries C boundaries → Measured C entries marked n
     → (best < n → get_or marked best false ≡ true) → (r < n → get_or marked r false ≡ true)
@@ -54,14 +52,14 @@ module _ {records : List Region} {boundaries pairs starts : List ℕ} {entries :
             let e = b.1 f in
             record {
               known = was.known;
-              is = near-behind C entries marked n best k was.is (ap (entry_if C entries n) (sym e) ∙ (better C outers kinds (shown A) M was.known).1);
+              is = near-behind C entries marked n best k was.is (ap (entry_if C entries n) (sym e) ∙ (better C (shown A) M was.known).1);
             },
       )
 
-      module _ (y : r ≡ k) {m a : ℕ} (p : m ≡ (get_or entries k blank).mouth) (q : a ≡ (get_or entries k blank).ramp) {outer : ℕ} {kind : MouthKind} (eo : outer ≡ (get_or entries k blank).outer) (ek : kind ≡ (get_or entries k blank).kind) {x : Bool}
-          (near : (C : Context) → Locates C records boundaries pairs starts m a → x ≡ corners_near_lem C (proposal_of C m a outer kind)) where
-        judged : (C : Context) → NearAsked C records boundaries pairs starts entries n → x ≡ corners_near_lem C (proposal_of C ((get_or entries k blank).mouth) ((get_or entries k blank).ramp) ((get_or entries k blank).outer) ((get_or entries k blank).kind))
-        judged C A = near C (located A below p q) ∙ (λ i. corners_near_lem C (proposal_of C (p i) (q i) (eo i) (ek i)))
+      module _ (y : r ≡ k) {e : Candidate} (read : e ≡ get_or entries k blank) {x : Bool}
+          (near : (C : Context) → Locates C records boundaries pairs starts e.mouth e.ramp → x ≡ corners_near_lem C (proposal_in C e)) where
+        judged : (C : Context) → NearAsked C records boundaries pairs starts entries n → x ≡ corners_near_lem C (entry_at C entries k)
+        judged C A = near C (located A below (ap (λ (e : Candidate). e.mouth) read) (ap (λ (e : Candidate). e.ramp) read)) ∙ ap (λ e. corners_near_lem C (proposal_in C e)) read
 
         taken : x ≡ true → LeastSoFar records boundaries pairs starts entries marked n k (k + 1)
         taken f = (
@@ -69,7 +67,7 @@ module _ {records : List Region} {boundaries pairs starts : List ℕ} {entries :
           omega (arith, below),
           λ C A M.
               let was = inv.2 C A M in
-              let now = better C outers kinds (shown A) M was.known in
+              let now = better C (shown A) M was.known in
               let m = subst (λ r. get_or marked r false ≡ true) y (now.0 (omega (arith, below, y))) in
               record {
                 known = λ h. m;
@@ -92,20 +90,12 @@ loop-k-init c = start
 pub better_marked-requires : goal.better_marked-requires
 better_marked-requires c = record { safe = near-keys c.requires.1; places = (c.loop-k-test.true, c.loop-k.invariant.0) }
 
-pub index_at-requires : goal.index_at-requires
-index_at-requires c = in_list c.requires c.loop-k.invariant c.loop-k-test.true
-
-pub index_at-requires-then-better_marked-k : goal.index_at-requires-then-better_marked-k
-index_at-requires-then-better_marked-k c = in_list c.requires c.loop-k.invariant c.loop-k-test.true
-
-pub region_at-requires : goal.region_at-requires
-region_at-requires c = in_list c.requires c.loop-k.invariant c.loop-k-test.true
-
-pub kind_at-requires : goal.kind_at-requires
-kind_at-requires c = in_list c.requires c.loop-k.invariant c.loop-k-test.true
+pub candidate_at-entry-requires : goal.candidate_at-entry-requires
+candidate_at-entry-requires c = in_list c.requires c.loop-k.invariant c.loop-k-test.true
 
 pub corners_near-requires : goal.corners_near-requires
-corners_near-requires c = (_, located c.requires.1 c.loop-k-test.true c.index_at.ensures c.index_at-then-better_marked-k.ensures)
+corners_near-requires c =
+    (_, located c.requires.1 c.loop-k-test.true (ap (λ (e : Candidate). e.mouth) c.candidate_at-entry.ensures) (ap (λ (e : Candidate). e.ramp) c.candidate_at-entry.ensures))
 
 pub loop-k-preserved : goal.loop-k-preserved
 loop-k-preserved c =
@@ -118,10 +108,10 @@ loop-k-preserved c =
     elim c.if-better_marked-k.branch [
       | then-better_marked-k+then-corners_near w ↦
           subst kept (sym w.best-is)
-          (taken c.requires inv h b better w.if-better_marked-k.true w.index_at.ensures w.index_at-then-better_marked-k.ensures w.region_at.ensures w.kind_at.ensures w.corners_near.ensures w.if-corners_near.true)
+          (taken c.requires inv h b better w.if-better_marked-k.true w.candidate_at-entry.ensures w.corners_near.ensures w.if-corners_near.true)
       | then-better_marked-k+else-corners_near w ↦
           subst kept (sym w.best-is)
-          (far c.requires inv h b better w.if-better_marked-k.true w.index_at.ensures w.index_at-then-better_marked-k.ensures w.region_at.ensures w.kind_at.ensures w.corners_near.ensures w.if-corners_near.false)
+          (far c.requires inv h b better w.if-better_marked-k.true w.candidate_at-entry.ensures w.corners_near.ensures w.if-corners_near.false)
       | else-better_marked-k w ↦ subst kept (sym w.best-is) (behind c.requires inv h b better w.if-better_marked-k.false)
     ]
 

@@ -19,7 +19,7 @@ pub record Least (C : Context) (entries : List Candidate) (marked : List Bool) (
   pub is : entry_if C entries n best ≡ near_least C entries marked k
 
 -- and so it is of every context that is shown
-abbrev pub LeastSoFar : List Region → List ℕ → List ℕ → List ℕ → List ℕ → List ℕ → List ℕ → List ℕ → List ℕ → List Bool → ℕ → ℕ → ℕ → Type 0
+abbrev pub LeastSoFar : List Region → List ℕ → List ℕ → List ℕ → List Candidate → List Bool → ℕ → ℕ → ℕ → Type 0
 LeastSoFar records boundaries pairs starts entries marked n best k =
     (best ≤ n) × (k ≤ n) × ((C : Context) → NearAsked C records boundaries pairs starts entries n → Measured C entries marked n → Least C entries marked n best k)
 
