@@ -8,7 +8,6 @@ ghost use Rattle.span_geometry.specs.Strips.{Usable};
 ghost use Rattle.cut_steps.specs.Extents.{Narrows, NearAxis};
 ghost use Rattle.cut_steps.specs.Columns.{Near};
 
-use plain_numbers::{max, min};
 use span_geometry::strips::{RangeInclusive, Strip};
 use span_geometry::{PIXELS_PER_WALK_CELL, SpanGeometry};
 
@@ -26,8 +25,8 @@ pub fn narrowed(range: RangeInclusive, least: u64, greatest: u64) -> RangeInclus
     let after = least.saturating_sub(REACHES_AFTER) / PIXELS_PER_WALK_CELL;
     let before = (greatest + REACHES_BEFORE) / PIXELS_PER_WALK_CELL;
     RangeInclusive {
-        first: max(range.first, after),
-        last: min(range.last, before),
+        first: range.first.max(after),
+        last: range.last.min(before),
     }
 }
 
@@ -54,11 +53,7 @@ pub fn near_range(g: SpanGeometry, strip: Strip, k: u64, limit: u64) -> RangeInc
 {
     let range = strip.minor_range(k, limit);
     if strip.columns {
-        return narrowed(
-            range,
-            g.min_y,
-            g.max_y.saturating_sub(PIXELS_PER_WALK_CELL),
-        );
+        return narrowed(range, g.min_y, g.max_y.saturating_sub(PIXELS_PER_WALK_CELL));
     }
     narrowed(range, g.min_x, g.max_x)
 }

@@ -10,10 +10,6 @@ pub join_row-marked-requires : goal.join_row-marked-requires
 join_row-marked-requires c =
     row-asked c.requires c.loop-y.invariant c.loop-y-test.true
 
-pub overflow_add-y : goal.overflow_add-y
-overflow_add-y c =
-    omega (arith, c.loop-y-test.true, c.requires.short)
-
 pub loop-y-smaller : goal.loop-y-smaller
 loop-y-smaller c = omega (arith, c.loop-y-test.true)
 

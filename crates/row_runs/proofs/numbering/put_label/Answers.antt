@@ -12,9 +12,6 @@ offset_bounds-labels-c c = omega arith
 pub bounds-labels-c : goal.bounds-labels-c
 bounds-labels-c c = omega (arith, c.loop-c-test.true, c.loop-c.invariant.filled.long)
 
-pub overflow_add-c : goal.overflow_add-c
-overflow_add-c c = omega arith
-
 pub loop-c-smaller : goal.loop-c-smaller
 loop-c-smaller c = omega (arith, c.loop-c-test.true)
 

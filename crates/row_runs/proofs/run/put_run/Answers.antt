@@ -21,11 +21,6 @@ bounds-parents-c c =
     let at_room : let a = c.args in Room a.from a.end a.parents.now c.loop-c.parents = room c.requires c.loop-c.invariant in
     omega (arith, c.loop-c-test.true, at_room.long)
 
-pub overflow_add-c : goal.overflow_add-c
-overflow_add-c c =
-    let at_room : let a = c.args in Room a.from a.end a.parents.now c.loop-c.parents = room c.requires c.loop-c.invariant in
-    omega (arith, c.loop-c-test.true, at_room.few)
-
 pub loop-c-smaller : goal.loop-c-smaller
 loop-c-smaller c = omega (arith, c.loop-c-test.true)
 
