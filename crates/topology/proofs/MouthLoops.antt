@@ -76,16 +76,16 @@ module _ {C : Context} {records : List Region} {boundaries pairs starts : List �
     near-outside e h = record { all = all_more (near_at C pairs starts m a outer kind) k h.all (ap (passes (λ r. region_near C m a (is_broad kind) (C.region r))) (sym e)) }
 
     module _ {r : ℕ} (e : Some r ≡ inner_at pairs starts m outer k) where
-      named : (1 ≤ r) × (r ≤ C.regions)
-      named = place-named k (omega (arith, l, n)) e
+      pub region_named : (1 ≤ r) × (r ≤ C.regions)
+      region_named = place-named k (omega (arith, l, n)) e
 
       pub near-place : r - 1 < length records
-      near-place = place_in L.held refl named.0 named.1
+      near-place = place_in L.held refl region_named.0 region_named.1
 
       module _ {s : Region} (read : (d : Region) → s ≡ get_or records (r - 1) d) {b : Bool} (kind_is : b ≡ is_broad kind) {x : Bool}
           (answer : (C : Context) → ShownBoundaries C boundaries → m < C.count → a < C.count → PixelRegion (record_of s) → x ≡ region_near C m a b (record_of s)) where
         is : record_of s ≡ C.region r
-        is = record_is L.held refl named.0 named.1 read
+        is = record_is L.held refl region_named.0 region_named.1 read
 
         judged : near_at C pairs starts m a outer kind k ≡ x
         judged =

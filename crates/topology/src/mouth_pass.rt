@@ -134,31 +134,10 @@ pub fn next_ramp(
         &mut entries,
         &mut marked,
     );
-    let k = best_near(
-        records,
-        boundaries,
-        pairs,
-        starts,
-        &entries,
-        &marked,
-        n,
-    );
+    let k = best_near(records, boundaries, pairs, starts, &entries, &marked, n);
     proceed(
-        boundaries,
-        pairs,
-        starts,
-        marks,
-        removed,
-        used,
-        &entries,
-        n,
-        k,
-        a,
-        bestof,
-        found,
-        fresh,
-        known,
-        count,
+        boundaries, pairs, starts, marks, removed, used, &entries, n, k, a, bestof, found, fresh,
+        known, count,
     )
 }
 
@@ -187,7 +166,7 @@ pub fn replace_ramp_mouths(
     let mut bestof = [Candidate::blank(); 256];
     let mut found = [false; 256];
     let mut fresh = [false; 256];
-    let mut known = 0;
+    let mut known = 0usize;
     let mut a = 0;
     while a < count {
         known = known.max(a + 1);

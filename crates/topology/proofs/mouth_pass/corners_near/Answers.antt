@@ -4,8 +4,9 @@ use native.Mathlib.Omega.{arith}
 use mathlib.Core.Path.{sym, ap, ◌∙◌}
 use mathlib.Core.Bool.{not}
 use Rattle.context.proofs.ShownLaws.{shown-stretch}
-use Rattle.topology.proofs.MouthLoops.{near-start, near-outside, near-place, near_more, near-fails, near-ends}
+use Rattle.topology.proofs.MouthLoops.{near-start, near-outside, region_named, near-place, near_more, near-fails, near-ends}
 use Rattle.topology.proofs.mouth_pass.corners_near.Goals as goal
+use Rattle.topology.proofs.mouth_pass.corners_near.Goals.{in-Some+else-not-region_near, in_default}
 
 pub places-count-requires : goal.places-count-requires
 places-count-requires c = shown-stretch c.requires.1.rows _ c.requires.1.mouth
@@ -16,6 +17,9 @@ loop-k-init c = (omega arith, λ C L. near-start C _ _ _ _ _ _)
 pub inner_region-requires : goal.inner_region-requires
 inner_region-requires c =
     record { stretch = shown-stretch c.requires.1.rows _ c.requires.1.mouth; k_within = omega (arith, c.loop-k-test.true, c.places-count.ensures) }
+
+pub overflow_sub-r : goal.overflow_sub-r
+overflow_sub-r c = (region_named c.args.outer c.args.kind c.requires.1 c.loop-k-test.true c.places-count.ensures (sym c.in-Some.is ∙ c.inner_region.ensures)).0
 
 pub record_at-region-requires : goal.record_at-region-requires
 record_at-region-requires c = near-place c.args.outer c.args.kind c.requires.1 c.loop-k-test.true c.places-count.ensures (sym c.in-Some.is ∙ c.inner_region.ensures)
@@ -31,8 +35,14 @@ returns-then-not-region_near c =
 pub loop-k-preserved : goal.loop-k-preserved
 loop-k-preserved c =
     let h = c.loop-k-test.true in
-    let n = c.places-count.ensures in
-    ?
+    let n = c.places-count.ensures in (
+      omega (arith, h),
+      λ C L. elim c.match-inner_region.branch [
+        | in-Some+else-not-region_near w ↦
+            near_more _ _ L h n (sym w.in-Some.is ∙ c.inner_region.ensures) w.record_at-region.ensures w.is_broad.ensures w.region_near.ensures (ap not w.if-not-region_near.false) (c.loop-k.invariant.1 C L)
+        | in_default w ↦ near-outside _ _ L h n (sym w.in_default.is ∙ c.inner_region.ensures) (c.loop-k.invariant.1 C L)
+      ],
+    )
 
 pub returns : goal.returns
 returns c =

@@ -99,7 +99,7 @@ module _ {records : List Region} {boundaries tallies pairs starts : List ℕ} {c
               }
 
 pub loop-a-init : goal.loop-a-init
-loop-a-init c = start c.blank.ensures c.requires.lists_show c.requires.none_marked
+loop-a-init c = start c.requires.lists_show c.blank-bestof.ensures c.requires.none_marked
 
 pub next_ramp-a-requires : goal.next_ramp-a-requires
 next_ramp-a-requires c =
