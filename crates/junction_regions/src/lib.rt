@@ -88,13 +88,10 @@ fn is_local(first: Region, second: Region, a: PixelPosition, b: PixelPosition, o
 }
 
 // Unions accept at 99 percent.
-fn is_accepted(share: Share) -> bool
+fn is_accepted(share: Option<Share>) -> bool
     ensures { result ≡ accepts (share_form share) }
 {
-    match share {
-        Share::None => false,
-        Share::Of(percent, _) => ACCEPTED_PERCENT <= percent,
-    }
+    share.is_some_and(|s| ACCEPTED_PERCENT <= s.percent)
 }
 
 // Whether both regions have an elevation of an accepted share, and it is the same.
