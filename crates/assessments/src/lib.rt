@@ -15,28 +15,20 @@ ghost use Rattle.cut_steps.specs.CutSteps.{cut_from, cut_span};
 ghost use Rattle.cut_steps.specs.Cell.{CutDirections};
 ghost use Rattle.cut_steps.specs.Columns.{ColumnAsked, cut_column};
 ghost use Rattle.cut_steps.specs.Marking.{Shown};
-ghost use Rattle.cut_steps.specs.Crossed.{CrossedAt, cut_two_back, FollowsIn, ColumnsAsked, BetweenAsked, cut_columns, PartAsked};
+ghost use Rattle.cut_steps.specs.Crossed.{CrossedAt, cut_two_back, FollowsIn, ColumnsAsked, BetweenAsked, cut_columns};
 ghost use Rattle.assessments.specs.Held.{pair_of, room_of};
 ghost use Rattle.assessments.specs.Assess.{nothing, max_cell_edges, max_line_edges, max_edges, Counting, Assesses, step_in_lem, Leads, Lent};
 ghost use Rattle.assessments.specs.Contract.{AssessAsked, SpansAssessed};
 
 use cut_steps::cell::{cut_directions, is_near, is_set, side_changes};
 use cut_steps::extents::near_range;
-use cut_steps::{NUMBERS_PER_SPAN, is_placed, part_end, parts_of, pick, span_at};
+use cut_steps::{NUMBERS_PER_SPAN, is_placed, parts_of, pick, span_at};
 use line_crossings::{first_place, next_place, tie_of};
-use plain_numbers::{greater, lesser};
 use region_pairs::{NUMBERS_PER_PAIR, put_pair};
 use span_geometry::SpanGeometry;
 use span_geometry::strips::Strip;
 
 pub const TALLIES_PER_SPAN: usize = 2;
-
-// How many rows of pairs there are, or that they are more than the list has room for.
-#[derive(Clone, Copy)]
-pub enum Assessed {
-    Rows(usize),
-    TooMany,
-}
 
 // What is found of a span so far: the counts of its removed and separated edges, the end of its rows in the list of pairs, and the row of the last pair, a
 // hint that is never relied on.
@@ -73,8 +65,8 @@ fn assess_step(
             row: start.row,
         };
     }
-    let lo = lesser(left, right);
-    let hi = greater(left, right);
+    let lo = left.min(right);
+    let hi = left.max(right);
     let put = put_pair(pairs, first, start.end, start.row, span, lo, hi);
     BoundaryAssessment {
         removed: start.removed + 1,
@@ -208,10 +200,8 @@ fn assess_column(
 {
     let columns = strip.columns;
     let range = near_range(g, strip, k as u64, pick(columns, height, width) as u64);
-    let last = range.last as usize;
     let mut a = start;
-    let mut m = range.first as usize;
-    while m <= last {
+    for m in range.first as usize..range.last as usize + 1 {
         a = assess_cell(
             width,
             height,
@@ -225,7 +215,6 @@ fn assess_column(
             pick(columns, k, m),
             pick(columns, m, k),
         );
-        m += 1;
     }
     a
 }
@@ -331,7 +320,8 @@ fn assess_crossing(
     a
 }
 
-// The steps that the span cuts from the candidates in the columns, or rows, from `from` on before `to`, which are between the span's ends.
+// The steps that the span cuts from the candidates in the columns, or rows, from `from` on before `to`, which are between the span's ends, if there
+// are any.
 fn assess_between(
     width: usize,
     height: usize,
@@ -349,13 +339,16 @@ fn assess_between(
 ) -> BoundaryAssessment
     requires lent { Lent width height cells.now labels.now × Sound g × ColumnsAsked width height strip from to
         × Shown (grid_of width height cells.now) masks.now (cut_columns (grid_of width height cells.now) (segment_of g) strip from to) }
-    requires between { BetweenAsked (segment_of g) strip from to × (from < to) }
+    requires between { BetweenAsked (segment_of g) strip from to }
     requires counting { Counting pairs.old first (max_edges - max_line_edges * (to - from)) start }
     ensures still_counting { Counting pairs.new first (start.removed + max_line_edges * (to - from)) result }
     ensures assessed { Assesses labels.now span first
         (cut_columns (grid_of width height cells.now) (segment_of g) strip from to)
         start pairs.old result pairs.new }
 {
+    if to <= from {
+        return start;
+    }
     let tie = tie_of(g, strip);
     let mut a = start;
     let mut before = first_place(strip, tie, from as u64 - 1);
@@ -385,41 +378,6 @@ fn assess_between(
     a
 }
 
-// The steps that the span cuts from a part: by the line between the span's ends, and of a single column, or row, those of every candidate.
-fn assess_part(
-    width: usize,
-    height: usize,
-    cells: &[u8],
-    masks: &[u16],
-    labels: &[u32],
-    pairs: &mut [u32],
-    g: SpanGeometry,
-    strip: Strip,
-    span: u32,
-    first: usize,
-    start: BoundaryAssessment,
-    from: usize,
-    to: usize,
-) -> BoundaryAssessment
-    requires lent { Lent width height cells.now labels.now × Sound g × ColumnsAsked width height strip from to
-        × Shown (grid_of width height cells.now) masks.now (cut_columns (grid_of width height cells.now) (segment_of g) strip from to) }
-    requires part { PartAsked (segment_of g) strip from to }
-    requires counting { Counting pairs.old first (max_edges - max_line_edges * (to - from)) start }
-    ensures still_counting { Counting pairs.new first (start.removed + max_line_edges * (to - from)) result }
-    ensures assessed { Assesses labels.now span first
-        (cut_columns (grid_of width height cells.now) (segment_of g) strip from to)
-        start pairs.old result pairs.new }
-{
-    if to <= from + 1 {
-        return assess_column(
-            width, height, cells, labels, pairs, g, strip, span, first, start, from,
-        );
-    }
-    assess_between(
-        width, height, cells, masks, labels, pairs, g, strip, span, first, start, from, to,
-    )
-}
-
 // The steps that the span cuts: near its ends from every candidate, and between them by the line. Its rows begin at `first`.
 fn assess_span(
     width: usize,
@@ -447,18 +405,24 @@ fn assess_span(
         end: first,
         row: first,
     };
-    let mut k = parts.first;
-    while k < parts.end {
-        let next = part_end(parts, k);
-        a = assess_part(
-            width, height, cells, masks, labels, pairs, g, strip, span, first, a, k, next,
+    for k in parts.first..parts.from {
+        a = assess_column(
+            width, height, cells, labels, pairs, g, strip, span, first, a, k,
         );
-        k = next;
+    }
+    a = assess_between(
+        width, height, cells, masks, labels, pairs, g, strip, span, first, a, parts.from, parts.to,
+    );
+    for k in parts.to..parts.end {
+        a = assess_column(
+            width, height, cells, labels, pairs, g, strip, span, first, a, k,
+        );
     }
     a
 }
 
-// Assesses every span by the labels of the partition and the masks of cut steps: two tallies a span, and the rows of pairs as far as there is room.
+// Assesses every span by the labels of the partition and the masks of cut steps: two tallies a span, and the rows of pairs as far as there is room. Gives how many rows
+// there are, or none where they are more than the list has room for.
 pub fn assess_spans(
     width: usize,
     height: usize,
@@ -468,7 +432,7 @@ pub fn assess_spans(
     labels: &[u32],
     tallies: &mut [u32],
     pairs: &mut [u32],
-) -> Assessed
+) -> Option<usize>
     requires checked { Checked width height cells.now spans.now }
     requires asked { AssessAsked width height cells.now masks.now spans.now labels.now tallies.old }
     ensures { SpansAssessed width height cells.now spans.now labels.now tallies.old
@@ -485,8 +449,8 @@ pub fn assess_spans(
         end = a.end;
     }
     if end <= pairs.len() / NUMBERS_PER_PAIR {
-        Assessed::Rows(end)
+        Some(end)
     } else {
-        Assessed::TooMany
+        None
     }
 }

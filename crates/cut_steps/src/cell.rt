@@ -19,8 +19,7 @@ fn exceeds(z: i64, bound: u64) -> bool
     requires { bound ≤ max_reach }
     ensures { result ≡ ltb bound (nat_abs z) }
 {
-    let limit = bound as i64;
-    (z > limit) | (z < 0 - limit)
+    z.unsigned_abs() > bound
 }
 
 // The side of the span's line on which the centre of (x, y) lies, as `cross` gives it.

@@ -8,8 +8,6 @@ ghost use Rattle.span_geometry.specs.Strips.{Usable};
 ghost use Rattle.cut_steps.specs.Extents.{Narrows, NearAxis};
 ghost use Rattle.cut_steps.specs.Columns.{Near};
 
-use plain_numbers::{max, min};
-use span_geometry::numbers::saturating_sub;
 use span_geometry::strips::{RangeInclusive, Strip};
 use span_geometry::{PIXELS_PER_WALK_CELL, SpanGeometry};
 
@@ -24,11 +22,11 @@ pub fn narrowed(range: RangeInclusive, least: u64, greatest: u64) -> RangeInclus
     requires { greatest ≤ max_pixel }
     ensures { Narrows least greatest range result }
 {
-    let after = saturating_sub(least, REACHES_AFTER) / PIXELS_PER_WALK_CELL;
+    let after = least.saturating_sub(REACHES_AFTER) / PIXELS_PER_WALK_CELL;
     let before = (greatest + REACHES_BEFORE) / PIXELS_PER_WALK_CELL;
     RangeInclusive {
-        first: max(range.first, after),
-        last: min(range.last, before),
+        first: range.first.max(after),
+        last: range.last.min(before),
     }
 }
 
@@ -44,7 +42,7 @@ pub fn near_axis(strip: Strip, limit: u64) -> RangeInclusive
     narrowed(
         range,
         strip.major0,
-        saturating_sub(strip.major1, PIXELS_PER_WALK_CELL),
+        strip.major1.saturating_sub(PIXELS_PER_WALK_CELL),
     )
 }
 
@@ -55,11 +53,7 @@ pub fn near_range(g: SpanGeometry, strip: Strip, k: u64, limit: u64) -> RangeInc
 {
     let range = strip.minor_range(k, limit);
     if strip.columns {
-        return narrowed(
-            range,
-            g.min_y,
-            saturating_sub(g.max_y, PIXELS_PER_WALK_CELL),
-        );
+        return narrowed(range, g.min_y, g.max_y.saturating_sub(PIXELS_PER_WALK_CELL));
     }
     narrowed(range, g.min_x, g.max_x)
 }

@@ -5,7 +5,7 @@
 pub mod cell;
 pub mod extents;
 
-ghost use Rattle.std.specs.Prelude.{◌≡◌, ◌&&◌, cond, ℕ, ◌-◌, ◌*◌, ◌≤◌, ◌<◌, min, max, length, get_or, leb, ltb};
+ghost use Rattle.std.specs.Prelude.{◌≡◌, ◌&&◌, cond, ℕ, ◌-◌, ◌*◌, ◌≤◌, ◌<◌, length, get_or, leb, ltb};
 ghost use Rattle.definitions.specs.Limits.{max_side, numbers_per_span};
 ghost use Rattle.definitions.specs.Grid.{at, segment_at};
 ghost use Rattle.span_geometry.specs.Shapes.{Made, segment_of};
@@ -15,13 +15,12 @@ ghost use Rattle.cut_steps.specs.CutSteps.{cut_from, cut_span};
 ghost use Rattle.cut_steps.specs.Contract.{Checked};
 ghost use Rattle.cut_steps.specs.Columns.{ColumnAsked, cut_column};
 ghost use Rattle.cut_steps.specs.Cell.{CutDirections};
-ghost use Rattle.cut_steps.specs.Crossed.{CrossedAt, cut_two_back, FollowsIn, ColumnsAsked, BetweenAsked, cut_columns, Parted, EndsPart, PartAsked};
+ghost use Rattle.cut_steps.specs.Crossed.{CrossedAt, cut_two_back, FollowsIn, ColumnsAsked, BetweenAsked, cut_columns, Parted};
 ghost use Rattle.cut_steps.specs.Marking.{MarkAsked, SpanAsked, SpanAtAsked, Marked, SpansMarked};
 
 use cell::{crossed_directions, cut_directions, is_near, side_changes};
 use extents::{near_axis, near_range};
 use line_crossings::{first_place, next_place, tie_of};
-use span_geometry::numbers::saturating_sub;
 use span_geometry::strips::Strip;
 use span_geometry::{PIXELS_PER_WALK_CELL, SpanGeometry};
 
@@ -97,9 +96,7 @@ fn mark_column(
 {
     let columns = strip.columns;
     let range = near_range(g, strip, k as u64, pick(columns, height, width) as u64);
-    let last = range.last as usize;
-    let mut m = range.first as usize;
-    while m <= last {
+    for m in range.first as usize..range.last as usize + 1 {
         mark_cell(
             width,
             height,
@@ -109,7 +106,6 @@ fn mark_column(
             pick(columns, k, m),
             pick(columns, m, k),
         );
-        m += 1;
     }
 }
 
@@ -189,7 +185,8 @@ fn mark_crossing(
     }
 }
 
-// The cut steps of the candidates in the columns, or rows, from `from` on before `to`, which are between the span's ends.
+// The cut steps of the candidates in the columns, or rows, from `from` on before `to`, which are between the span's ends, if there are
+// any.
 fn mark_between(
     width: usize,
     height: usize,
@@ -201,10 +198,13 @@ fn mark_between(
     to: usize,
 )
     requires lent { MarkAsked width height cells.now masks.old g × ColumnsAsked width height strip from to }
-    requires between { BetweenAsked (segment_of g) strip from to × (from < to) }
+    requires between { BetweenAsked (segment_of g) strip from to }
     ensures { Marked (grid_of width height cells.now) masks.old
         masks.new (cut_columns (grid_of width height cells.now) (segment_of g) strip from to) }
 {
+    if to <= from {
+        return;
+    }
     let tie = tie_of(g, strip);
     let mut before = first_place(strip, tie, from as u64 - 1);
     let mut here = next_place(strip, tie, from as u64 - 1, before);
@@ -236,18 +236,6 @@ pub struct Parts {
     pub end: usize,
 }
 
-fn min(m: usize, n: usize) -> usize
-    ensures { result ≡ min m n }
-{
-    if m <= n { m } else { n }
-}
-
-fn max(m: usize, n: usize) -> usize
-    ensures { result ≡ max m n }
-{
-    if m <= n { n } else { m }
-}
-
 // The parts of a map with as many columns, or rows, as limit says.
 pub fn parts_of(strip: Strip, limit: usize) -> Parts
     requires { Usable strip × (0 < limit) × (limit ≤ max_side) }
@@ -255,56 +243,20 @@ pub fn parts_of(strip: Strip, limit: usize) -> Parts
 {
     let axis = near_axis(strip, limit as u64);
     let first = axis.first as usize;
-    let end = max(first, axis.last as usize + 1);
+    let end = first.max(axis.last as usize + 1);
     let inner = (strip.major0 + ENDS_AFTER) / PIXELS_PER_WALK_CELL;
-    let outer = saturating_sub(strip.major1, BEGINS_BEFORE) / PIXELS_PER_WALK_CELL;
-    let from = min(max(first, inner as usize), end);
-    let to = max(from, min(outer as usize, end));
+    let outer = strip.major1.saturating_sub(BEGINS_BEFORE) / PIXELS_PER_WALK_CELL;
+    let from = first.max(inner as usize).min(end);
+    let to = from.max((outer as usize).min(end));
     Parts {
-        first: first,
-        from: from,
-        to: to,
-        end: end,
+        first,
+        from,
+        to,
+        end,
     }
 }
 
-// The end of the part that begins at k: that of the columns, or rows, between the ends, and elsewhere the next one.
-pub fn part_end(parts: Parts, k: usize) -> usize
-    requires { k < max_side }
-    ensures { EndsPart parts.from parts.to k result }
-{
-    if k == parts.from {
-        if k < parts.to {
-            return parts.to;
-        }
-    }
-    k + 1
-}
-
-// The cut steps of a part: by the line between the span's ends, and of a single column, or row, those of every candidate.
-fn mark_part(
-    width: usize,
-    height: usize,
-    cells: &[u8],
-    g: SpanGeometry,
-    masks: &mut [u16],
-    strip: Strip,
-    from: usize,
-    to: usize,
-)
-    requires lent { MarkAsked width height cells.now masks.old g × ColumnsAsked width height strip from to }
-    requires part { PartAsked (segment_of g) strip from to }
-    ensures { Marked (grid_of width height cells.now) masks.old
-        masks.new (cut_columns (grid_of width height cells.now) (segment_of g) strip from to) }
-{
-    if to <= from + 1 {
-        mark_column(width, height, cells, g, masks, strip, from);
-        return;
-    }
-    mark_between(width, height, cells, g, masks, strip, from, to);
-}
-
-// The cut steps of one span. One without a column, or row, between its ends has single ones only.
+// The cut steps of one span: near its ends those of every candidate, and between them by the line.
 fn mark_span(width: usize, height: usize, cells: &[u8], g: SpanGeometry, masks: &mut [u16])
     requires { MarkAsked width height cells.now masks.old g × SpanAsked width height g }
     ensures { Marked (grid_of width height cells.now) masks.old
@@ -312,11 +264,12 @@ fn mark_span(width: usize, height: usize, cells: &[u8], g: SpanGeometry, masks: 
 {
     let strip = Strip::new(g);
     let parts = parts_of(strip, pick(strip.columns, width, height));
-    let mut k = parts.first;
-    while k < parts.end {
-        let next = part_end(parts, k);
-        mark_part(width, height, cells, g, masks, strip, k, next);
-        k = next;
+    for k in parts.first..parts.from {
+        mark_column(width, height, cells, g, masks, strip, k);
+    }
+    mark_between(width, height, cells, g, masks, strip, parts.from, parts.to);
+    for k in parts.to..parts.end {
+        mark_column(width, height, cells, g, masks, strip, k);
     }
 }
 

@@ -4,17 +4,16 @@
 use Prim.Native.Nat.{ℕ, zero, suc, ◌+◌, ◌-◌, ◌*◌, ◌/◌, ◌%◌, ◌≤◌, ◌<◌}
 use native.Mathlib.Omega.{arith}
 use native.Mathlib.Nat.{mul-le-mul}
-use mathlib.Core.Path.{◌≡◌, refl, sym, ap, ap₂, ◌∙◌, subst}
-use mathlib.Core.Bool.{Bool, true, false, not, ◌&&◌, ◌||◌, cond, false≢true, or-true}
+use mathlib.Core.Path.{◌≡◌, refl, sym, ap, ◌∙◌, subst}
+use mathlib.Core.Bool.{Bool, true, false, not, ◌&&◌, ◌||◌, cond, false≢true}
 use mathlib.Core.List.{List}
 use lib.ListN.{length, get_or, replicate, get_or-replicate, length-replicate}
 use lib.Dec.{eqb, leb}
-use borrow.Author.Tests.{eqb-true, eq-eqb, ne_eqb, leb-true}
-use Rattle.definitions.specs.Scan.{any_below_lem, all_below}
+use borrow.Author.Tests.{eq-eqb, ne_eqb, leb-true}
 use Rattle.definitions.specs.RegionRecord.{has_bit}
 use Rattle.laws.specs.ListLaws.Tests.{both, same_test}
-use Rattle.laws.specs.ListLaws.Below.{below_none, all_below_at}
-use Rattle.game.specs.Game.{Game, Place, mover, move_to, is_captured, is_region, is_move, runner_has_won, is_over, Inside}
+use Rattle.laws.specs.ListLaws.Below.{below_none}
+use Rattle.game.specs.Game.{Game, Place, mover, is_captured, is_region, is_move, runner_has_won, is_over, Inside}
 use Rattle.game.specs.Search.{some_move, every_move, sweep, wins_within, sweeps, runner_wins, fewest}
 use Rattle.game.proofs.Sweeps.{won_uncaptured, move_in, stays, sweep-over, sweep-won, sweep-runner, sweep-guard, every_at}
 use Rattle.game.proofs.Settled.{wins_more, wins-le, over-wins, found_by_then}
@@ -304,12 +303,9 @@ searching_more near regions goal k runner guard ranks runners guards ranks' few 
     next = omega arith
 
 pub searching_still : (near : List ℕ) (regions goal k : ℕ) (runner guard ranks runners guards : List ℕ) → regions ≤ 32 → Searching near regions goal k runner guard ranks
-    → Swept near regions goal runner guard runners guards → {a b : Bool} → a ≡ all_below 32 (λ i. eqb (get_or runners i 0) (get_or runner i 0))
-    → b ≡ all_below 32 (λ i. eqb (get_or guards i 0) (get_or guard i 0)) → (a && b) ≡ true → (G : Game) → Plays near regions goal G → Ranked G ranks
-searching_still near regions goal k runner guard ranks runners guards few S w {a} {b} e f h G P =
-    ranks-still near regions goal few G P (S.found G P) w
-    (λ i l. eqb-true (get_or runners i 0) (get_or runner i 0) (all_below_at 32 (λ i. eqb (get_or runners i 0) (get_or runner i 0)) (sym e ∙ (both a b h).0) i l))
-    (λ i l. eqb-true (get_or guards i 0) (get_or guard i 0) (all_below_at 32 (λ i. eqb (get_or guards i 0) (get_or guard i 0)) (sym f ∙ (both a b h).1) i l))
+    → Swept near regions goal runner guard runners guards → runners ≡ runner → guards ≡ guard → (G : Game) → Plays near regions goal G → Ranked G ranks
+searching_still near regions goal k runner guard ranks runners guards few S w e f G P =
+    ranks-still near regions goal few G P (S.found G P) w (λ i l. ap (λ s. get_or s i 0) e) (λ i l. ap (λ s. get_or s i 0) f)
 
 pub searching_ends : (near : List ℕ) (regions goal k : ℕ) (runner guard ranks : List ℕ) → regions ≤ 32 → Searching near regions goal k runner guard ranks → 2180 ≤ k
     → (G : Game) → Plays near regions goal G → Ranked G ranks

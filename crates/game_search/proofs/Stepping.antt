@@ -2,20 +2,19 @@
 -- are both regions joins regions only, so that asking the pair's numbers or the two regions comes to the same. Assumes nothing.
 use Prim.Native.Nat.{ℕ, zero, suc, ◌+◌, ◌*◌, ◌-◌, ◌/◌, ◌%◌, ◌^◌, ◌≤◌, ◌<◌}
 use native.Mathlib.Omega.{arith}
-use mathlib.Core.Path.{◌≡◌, refl, sym, ap, ap₂, ◌∙◌}
-use mathlib.Core.Logic.{◌⊎◌, ⊎_elim}
+use mathlib.Core.Path.{◌≡◌, refl, sym, ap, ◌∙◌}
 use mathlib.Core.Bool.{Bool, true, false, ◌&&◌, ◌||◌, false≢true, or-false}
 use mathlib.Core.List.{List}
 use lib.ListN.{length, get_or, set, length-set}
 use lib.Seq.{get_or-set_same, get_or-set_other}
-use lib.Dec.{eqb, ltb, leb}
-use borrow.Author.Tests.{eqb-true, eqb-false, eq-eqb, ne_eqb, ltb-true, ltb-false, leb-true}
+use lib.Dec.{eqb, leb}
+use borrow.Author.Tests.{eqb-true, eqb-false, eq-eqb, ne_eqb, leb-true}
 use Rattle.definitions.specs.Scan.{any_below_lem}
 use Rattle.definitions.specs.RegionRecord.{has_bit}
 use Rattle.laws.specs.ListLaws.Tests.{both, eqb_same}
 use Rattle.laws.specs.ListLaws.Below.{below_ext}
 use Rattle.game.specs.Game.{is_region, is_step}
-use Rattle.game.specs.Graph.{numbers_per_edge, joins, any_joins, graph_of}
+use Rattle.game.specs.Graph.{joins, any_joins, graph_of}
 use Rattle.game_sets.specs.Words.{bit_at, Near}
 use Rattle.game_sets.proofs.Bits.{one_bit_is, shifted_one}
 

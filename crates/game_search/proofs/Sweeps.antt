@@ -2,20 +2,20 @@
 -- of the game are 1 to R, bits are from 0: a scan over the regions is the scan over the bits moved by one. Assumes nothing.
 use Prim.Native.Nat.{ℕ, zero, suc, ◌+◌, ◌-◌, ◌≤◌, ◌<◌}
 use native.Mathlib.Omega.{arith}
-use mathlib.Core.Path.{◌≡◌, refl, sym, ap, ap₂, ◌∙◌, subst}
-use mathlib.Core.Bool.{Bool, true, false, not, ◌&&◌, ◌||◌, cond, false≢true, or-true, or-false}
+use mathlib.Core.Path.{◌≡◌, refl, sym, ap, ap₂, ◌∙◌}
+use mathlib.Core.Bool.{Bool, true, false, not, ◌&&◌, ◌||◌, false≢true, or-true, or-false}
 use mathlib.Core.List.{List}
 use lib.ListN.{get_or}
 use lib.Dec.{eqb, leb}
-use borrow.Author.Tests.{eqb-true, eqb-false, eq-eqb, ne_eqb, leb-true, le-leb, lt-leb}
+use borrow.Author.Tests.{eqb-true, eqb-false, eq-eqb, ne_eqb, le-leb, lt-leb}
 use Rattle.definitions.specs.Scan.{any_below_lem, all_below}
 use Rattle.definitions.specs.RegionRecord.{has_bit}
-use Rattle.laws.specs.ListLaws.Tests.{both, eqb_same}
+use Rattle.laws.specs.ListLaws.Tests.{eqb_same}
 use Rattle.laws.specs.ListLaws.Below.{below_ext, all_below_at}
 use Rattle.game.specs.Game.{Game, Place, mover, move_to, is_captured, is_region, is_step, is_move, runner_has_won, is_over, Inside}
 use Rattle.game.specs.Search.{some_move, every_move, sweep}
 use Rattle.game.proofs.Sweeps.{sweep-over, sweep-runner, sweep-guard}
-use Rattle.game_sets.specs.Words.{bit_at, do_meet, Near, Plays, runner_bit, guard_bit}
+use Rattle.game_sets.specs.Words.{bit_at, do_meet, Plays, runner_bit, guard_bit}
 use Rattle.game_search.specs.Words.{at}
 
 -- ---- scans moved by one

@@ -11,42 +11,43 @@ ghost use Rattle.game_search.specs.Words.{Sized, Swept, set_for, is_new, ranked_
 pub mod neighbours;
 
 use game_sets::moves::{guard_row, runner_row};
-use game_sets::sets::{are_same, has};
+use game_sets::sets::has;
 
 // One more than the places of 33 regions, of which each sweep but the last finds one, and one for the last.
 const MAX_SWEEPS: u32 = 2180;
 
 const RANKS_PER_RUNNER: usize = 64;
 
+// Of each region of the guard the runner's regions from which he wins, where the runner is to move and where the guard is.
+#[derive(Clone, Copy, PartialEq, Eq)]
+struct Won {
+    runner: [u32; 32],
+    guard: [u32; 32],
+}
+
 // For each region of the guard, one move more.
-fn sweep(
-    near: &[u32; 32],
-    regions: usize,
-    goal: usize,
-    runner: &[u32; 32],
-    guard: &[u32; 32],
-    runners: &mut [u32; 32],
-    guards: &mut [u32; 32],
-)
-    requires { Sized regions goal × (length runners.old ≡ 32) × (length guards.old ≡ 32) }
-    ensures swept { Swept near.now regions goal runner.now guard.now runners.new guards.new }
-    ensures lengths { (length runners.new ≡ 32) × (length guards.new ≡ 32) }
+fn sweep(near: &[u32; 32], regions: usize, goal: usize, won: &Won) -> Won
+    requires { Sized regions goal × (length won.now.runner ≡ 32) × (length won.now.guard ≡ 32) }
+    ensures swept { Swept near.now regions goal won.now.runner won.now.guard result.runner result.guard }
+    ensures lengths { (length result.runner ≡ 32) × (length result.guard ≡ 32) }
 {
+    let mut next = *won;
     for g in 0..regions {
-        runners[g] = runner_row(near, regions, goal, guard[g], g);
-        guards[g] = guard_row(near, regions, goal, runner, g);
+        next.runner[g] = runner_row(near, regions, goal, won.guard[g], g);
+        next.guard[g] = guard_row(near, regions, goal, &won.runner, g);
     }
+    next
 }
 
 // The set in which the place of rank i is found.
-fn set_for(runner: &[u32; 32], guard: &[u32; 32], i: usize) -> u32
-    ensures { result ≡ set_for runner.now guard.now i }
+fn set_for(won: &Won, i: usize) -> u32
+    ensures { result ≡ set_for won.now.runner won.now.guard i }
 {
     let g = i % RANKS_PER_RUNNER / 2;
     if i % 2 == 0 {
-        return runner[g];
+        return won.runner[g];
     }
-    guard[g]
+    won.guard[g]
 }
 
 // The rank of a place that is in the new set and not in the old one; of another the one that it had.
@@ -76,24 +77,15 @@ fn put_row(old: u32, new: u32, at: usize, rank: u32, ranks: &mut [u32; 2048])
     }
 }
 
-// Ranks the places that a sweep found: those in its sets, `runners` and `guards`, and not in those before.
-fn put_ranks(
-    runner: &[u32; 32],
-    guard: &[u32; 32],
-    runners: &[u32; 32],
-    guards: &[u32; 32],
-    rank: u32,
-    ranks: &mut [u32; 2048],
-)
+// Ranks the places that a sweep found: those in its sets, `next`, and not in those before.
+fn put_ranks(won: &Won, next: &Won, rank: u32, ranks: &mut [u32; 2048])
     requires { length ranks.old ≡ 2048 }
     ensures ranks { (i : ℕ) → i < 2048 → get_or ranks.new i 0
-        ≡ ranked_by runner.now guard.now runners.now guards.now rank ranks.old i }
+        ≡ ranked_by won.now.runner won.now.guard next.now.runner next.now.guard rank ranks.old i }
     ensures ranks_length { length ranks.new ≡ 2048 }
 {
     for at in 0..RANKS_PER_RUNNER {
-        let old = set_for(runner, guard, at);
-        let new = set_for(runners, guards, at);
-        put_row(old, new, at, rank, ranks);
+        put_row(set_for(won, at), set_for(next, at), at, rank, ranks);
     }
 }
 
@@ -103,25 +95,16 @@ pub fn search(near: &[u32; 32], regions: usize, goal: usize, ranks: &mut [u32; 2
     ensures ranked { (G : Game) → Plays near.now regions goal G → Ranked G ranks.new }
     ensures ranks_length { length ranks.new ≡ 2048 }
 {
-    let mut runner = [0u32; 32];
-    let mut guard = [0u32; 32];
-    let mut moves = 0;
-    while moves < MAX_SWEEPS {
-        let old_runner = runner;
-        let old_guard = guard;
-        sweep(
-            near,
-            regions,
-            goal,
-            &old_runner,
-            &old_guard,
-            &mut runner,
-            &mut guard,
-        );
-        if are_same(&runner, &old_runner) & are_same(&guard, &old_guard) {
+    let mut won = Won {
+        runner: [0; 32],
+        guard: [0; 32],
+    };
+    for moves in 0..MAX_SWEEPS {
+        let next = sweep(near, regions, goal, &won);
+        if next == won {
             return;
         }
-        moves += 1;
-        put_ranks(&old_runner, &old_guard, &runner, &guard, moves, ranks);
+        put_ranks(&won, &next, moves + 1, ranks);
+        won = next;
     }
 }

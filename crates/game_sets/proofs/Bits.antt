@@ -1,9 +1,9 @@
 -- Bits of a number of 32: of one with a bit set, of what two have in common; and that one with no bit set is 0. Facts on the place of one bit are tests that
 -- compute. Assumes nothing.
-use Prim.Native.Nat.{ℕ, zero, suc, ◌+◌, ◌*◌, ◌/◌, ◌%◌, ◌^◌, ◌≤◌, ◌<◌}
+use Prim.Native.Nat.{ℕ, zero, suc, ◌*◌, ◌/◌, ◌%◌, ◌^◌, ◌<◌}
 use native.Mathlib.Omega.{arith}
 use native.Mathlib.Nat.{pow-suc}
-use mathlib.Core.Path.{◌≡◌, refl, sym, ap, ap₂, ◌∙◌, subst}
+use mathlib.Core.Path.{◌≡◌, refl, sym, ap, ◌∙◌, subst}
 use mathlib.Core.Bool.{Bool, true, false, not, ◌&&◌, ◌||◌, cond, false≢true}
 use lib.Dec.{eqb}
 use lib.Bits.{bit_and, bit_or, and_lt}
@@ -100,25 +100,3 @@ meet_is a b h k = go (do_meet a b) refl
 pub and_none : (b : Bool) → b ≡ (b && true)
 and_none true = refl
 and_none false = refl
-
--- the first i are the same, and so is the next
-pub same_more : (i : ℕ) (f : ℕ → Bool) → all_below i f ≡ true → f i ≡ true → all_below (i + 1) f ≡ true
-unfolding all_below
-same_more i f h e = ap (λ n. all_below n f) (sym next) ∙ ap₂ ◌&&◌ h e
-  where
-    next : suc i ≡ i + 1
-    next = omega arith
-
--- one fails
-pub same_not : (n i : ℕ) (f : ℕ → Bool) → i < n → f i ≡ false → false ≡ all_below n f
-same_not n i f l e = go (all_below n f) refl
-  where
-    go : (b : Bool) → all_below n f ≡ b → false ≡ all_below n f
-    go true h = absurd (false≢true (sym e ∙ all_below_at n f h i l))
-    go false h = sym h
-
-pub all_end : (n i : ℕ) (f : ℕ → Bool) → i ≤ n → n ≤ i → all_below i f ≡ true → all_below n f ≡ true
-all_end n i f l m h = ap (λ k. all_below k f) whole ∙ h
-  where
-    whole : n ≡ i
-    whole = omega arith

@@ -1,6 +1,5 @@
 // Sets of regions: bit i of a number is region i + 1.
-ghost use Rattle.std.specs.Prelude.{◌≡◌, not, ◌&&◌, ◌||◌, ℕ, ◌<◌, eqb, get_or};
-ghost use Rattle.definitions.specs.Scan.{all_below};
+ghost use Rattle.std.specs.Prelude.{◌≡◌, not, ◌&&◌, ◌||◌, ℕ, ◌<◌, eqb};
 ghost use Rattle.definitions.specs.RegionRecord.{has_bit};
 ghost use Rattle.game_sets.specs.Words.{do_meet};
 
@@ -46,16 +45,4 @@ pub fn meet(a: u32, b: u32) -> bool
     ensures { result ≡ do_meet a b }
 {
     a & b != 0
-}
-
-// Whether the sets of two lists are the same, one by one.
-pub fn are_same(a: &[u32; 32], b: &[u32; 32]) -> bool
-    ensures { result ≡ all_below 32 (λ i. eqb (get_or a.now i 0) (get_or b.now i 0)) }
-{
-    for i in 0..32 {
-        if a[i] != b[i] {
-            return false;
-        }
-    }
-    true
 }

@@ -6,8 +6,6 @@
 ghost use Rattle.std.specs.Prelude.{◌≡◌, ℕ, ◌≤◌, ◌<◌, length};
 ghost use Rattle.parents.specs.Forest.{Forest, Placed, PlacedTwo, Found, Left, joined_name};
 
-use plain_numbers::wide;
-
 // The name of a number's class. Every second parent on the way becomes its parent's parent, so that the next way is shorter.
 pub fn find(parents: &mut [u32], from: usize) -> usize
     requires { Placed parents.old from }
@@ -17,12 +15,13 @@ pub fn find(parents: &mut [u32], from: usize) -> usize
         Found n name from parents.old parents.new result }
 {
     let mut c = from;
-    let mut p = wide(parents[c]);
+    let mut p = parents[c] as usize;
+    // Kept: the way goes from a number to its parent, and no range or chain has these numbers.
     while p != c {
         let q = parents[p];
         parents[c] = q;
-        c = wide(q);
-        p = wide(parents[c]);
+        c = q as usize;
+        p = parents[c] as usize;
     }
     c
 }
@@ -41,11 +40,7 @@ pub fn join(parents: &mut [u32], a: usize, b: usize)
     }
     let i = find(parents, a);
     let j = find(parents, b);
-    if i < j {
-        parents[j] = i as u32;
-    } else {
-        parents[i] = j as u32;
-    }
+    parents[i.max(j)] = i.min(j) as u32;
 }
 
 // Each number below n is alone.

@@ -1,11 +1,18 @@
--- Loops that stop at the first place of which a test does not hold: at place c it holds of all places passed. Assumes nothing.
-use Prim.Native.Nat.{ℕ, ◌+◌, ◌≤◌, ◌<◌}
+-- The first place of which a test does not hold: what `find` gives over the places, and a loop over several at a time, where at place c the test holds of all places
+-- passed. Assumes nothing.
+use Prim.Native.Nat.{ℕ, ◌≤◌, ◌<◌}
 use native.Mathlib.Omega.{arith}
-use mathlib.Core.Path.{◌≡◌, refl, ap, ◌∙◌}
+use mathlib.Core.Path.{◌≡◌, refl}
 use mathlib.Core.Bool.{Bool, true, false}
-use lib.Dec.{eqb, ltb}
-use borrow.Author.Tests.{eqb-true, eqb-false, ltb-true, ltb-false}
+use lib.Dec.{ltb}
+use borrow.Author.Tests.{ltb-true, ltb-false}
+use Rattle.std.specs.Prelude.{Option, None, Some, MatchOption, unwrap_or}
 use Rattle.row_runs.specs.Stretch.{Until}
+
+-- what `find` gives, where it looks for what the test does not hold of, and the end where it finds none
+pub until_found : {f : ℕ → Bool} {from end : ℕ} → from ≤ end → (o : Option ℕ) → MatchOption o ((k : ℕ) → from ≤ k → k < end → f k ≡ true) (λ i. (from ≤ i) × (i < end) × (f i ≡ false) × ((k : ℕ) → from ≤ k → k < i → f k ≡ true)) → Until f from end (unwrap_or o end)
+until_found h None all = record { low = h; ends = omega arith; all = all; stop = λ l. absurd (omega arith) }
+until_found h (Some i) (low, l, e, all) = record { low = low; ends = omega arith; all = all; stop = λ _. e }
 
 pub record Passing (f : ℕ → Bool) (from end c : ℕ) : Type 0 where
   pub low : from ≤ c
@@ -14,21 +21,6 @@ pub record Passing (f : ℕ → Bool) (from end c : ℕ) : Type 0 where
 
 pub passing-starts : (f : ℕ → Bool) (from end : ℕ) → from ≤ end → Passing f from end from
 passing-starts f from end h = record { low = omega arith; ends = h; all = λ d i k. absurd (omega arith) }
-
-pub passing-goes_on : {f : ℕ → Bool} {from end c : ℕ} → Passing f from end c → c < end → f c ≡ true → Passing f from end (c + 1)
-passing-goes_on {f} {from} {end} {c} P h t = record { low = omega (arith, P.low); ends = omega arith; all = λ d i k. go d i k (eqb d c) refl }
-  where
-    go : (d : ℕ) → from ≤ d → d < c + 1 → (b : Bool) → eqb d c ≡ b → f d ≡ true
-    go d i k true e = ap f (eqb-true d c e) ∙ t
-    go d i k false e = P.all d i (omega (arith, eqb-false d c e))
-
-pub passing-stops : {f : ℕ → Bool} {from end c : ℕ} → Passing f from end c → f c ≡ false → Until f from end c
-passing-stops P t = record { low = P.low; ends = P.ends; all = P.all; stop = λ _. t }
-
-pub passing-ends : {f : ℕ → Bool} {from end c : ℕ} → Passing f from end c → end ≤ c → Until f from end c
-passing-ends P h = record { low = P.low; ends = P.ends; all = P.all; stop = λ l. absurd (omega arith) }
-
--- ---- several places at a time
 
 -- what is passed up to c, and behind it up to r
 pub passing_on : {f : ℕ → Bool} {from end c mid r : ℕ} → Passing f from end c → mid ≤ end → Until f c mid r → Passing f from end r
@@ -39,7 +31,8 @@ passing_on {f} {from} {end} {c} {mid} {r} P h U = record { low = omega (arith, P
     go d i k false e = U.all d (ltb-false d c e) k
 
 pub passing-stops_on : {f : ℕ → Bool} {from end c mid r : ℕ} → Passing f from end c → mid ≤ end → Until f c mid r → r < mid → Until f from end r
-passing-stops_on P h U l = passing-stops (passing_on P h U) (U.stop l)
+passing-stops_on P h U l =
+    let Q = passing_on P h U in record { low = Q.low; ends = Q.ends; all = Q.all; stop = λ _. U.stop l }
 
 pub passing-ends_on : {f : ℕ → Bool} {from end c r : ℕ} → Passing f from end c → Until f c end r → Until f from end r
 passing-ends_on P U = let Q = passing_on P (omega arith) U in record { low = Q.low; ends = Q.ends; all = Q.all; stop = U.stop }

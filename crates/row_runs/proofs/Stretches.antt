@@ -9,7 +9,7 @@ use lib.Dec.{eqb, ltb}
 use borrow.Author.Tests.{eqb-true, eqb-false, ltb-true, ltb-false, not-true}
 use Rattle.laws.specs.ListLaws.Tests.{both}
 use Rattle.grid_steps.specs.Masks.{cut_bit}
-use Rattle.row_runs.specs.Stretch.{walks, goes_on, Clear, Until, Stretch}
+use Rattle.row_runs.specs.Stretch.{walks, walks_as, goes_on, Clear, Until, Stretch}
 
 -- a mask of zero has no bit: no step to the east is cut
 pub clear-bit : (masks : List ℕ) (c : ℕ) → get_or masks c 0 ≡ 0 → cut_bit masks c 5 ≡ false
@@ -27,7 +27,7 @@ until_more f from end r h t u = go (ltb from r) refl
         absurd (true≢false (sym t ∙ ap f (sym same) ∙ u.stop (omega (arith, same))))
 
 module _ (cells masks : List ℕ) (from end r : ℕ) (h : from < end) where
-  pub gap-stretch : walks cells from ≡ false → Until (λ c. not (walks cells c)) from end r → Stretch cells masks end from r
+  gap-stretch : walks cells from ≡ false → Until (λ c. not (walks cells c)) from end r → Stretch cells masks end from r
   gap-stretch w u =
       record {
         more = until_more (λ c. not (walks cells c)) from end r h (ap not w) u;
@@ -37,7 +37,7 @@ module _ (cells masks : List ℕ) (from end r : ℕ) (h : from < end) where
         last = λ t. absurd (true≢false (sym t ∙ w));
       }
 
-  pub open_stretch : walks cells from ≡ true → Clear masks from end → Until (walks cells) from end r → Stretch cells masks end from r
+  open_stretch : walks cells from ≡ true → Clear masks from end → Until (walks cells) from end r → Stretch cells masks end from r
   open_stretch w clear u =
       record {
         more = until_more (walks cells) from end r h w u;
@@ -46,6 +46,11 @@ module _ (cells masks : List ℕ) (from end r : ℕ) (h : from < end) where
         free = λ t c i k. clear-bit masks c (clear c i (omega (arith, u.ends)));
         last = λ t l v. absurd (true≢false (sym v ∙ u.stop l));
       }
+
+  -- cells that are all walkable, in a row without cut steps, or none
+  pub alike-stretch : {walkable : Bool} → walks cells from ≡ walkable → (walkable ≡ true → Clear masks from end) → Until (walks_as walkable cells) from end r → Stretch cells masks end from r
+  alike-stretch {walkable = true} w clear u = open_stretch w (clear refl) u
+  alike-stretch {walkable = false} w clear u = gap-stretch w u
 
   pub run-stretch : walks cells from ≡ true → Until (goes_on cells masks) (from + 1) end r → Stretch cells masks end from r
   unfolding goes_on

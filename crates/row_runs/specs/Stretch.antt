@@ -1,12 +1,16 @@
 -- Stretches of a row of cells: the words of the contracts. A stretch is of walkable cells, each joined to the next by an uncut step, or of cells that are not
 -- walkable. Definitions only; assumes nothing.
-use Rattle.std.specs.Prelude.{ℕ, ◌+◌, ◌-◌, ◌≤◌, ◌<◌, ◌≡◌, Bool, true, false, not, ◌&&◌, List, length, get_or}
+use Rattle.std.specs.Prelude.{ℕ, ◌+◌, ◌-◌, ◌≤◌, ◌<◌, ◌≡◌, Bool, true, false, cond, not, ◌&&◌, List, length, get_or}
 use Rattle.definitions.specs.Grid.{is_walkable}
 use Rattle.grid_steps.specs.Masks.{cut_bit}
 
 -- cell c is walkable
 abbrev pub walks : List ℕ → ℕ → Bool
 walks cells c = is_walkable (get_or cells c 0)
+
+-- cell c is walkable or not, as the first argument says
+abbrev pub walks_as : Bool → List ℕ → ℕ → Bool
+walks_as walkable cells c = cond walkable (walks cells c) (not (walks cells c))
 
 -- cell c is walkable, and the step to it from the west is not cut (bit 5 of the cell there)
 unfoldable pub goes_on : List ℕ → List ℕ → ℕ → Bool

@@ -81,10 +81,7 @@ pub fn join_diagonals(width: usize, cells: &[u8], masks: &[u16], parents: &mut [
         SouthLevel width cells.now masks.now up (up + width) name →
         DiagonalsJoined width cells.now masks.now n name up parents.old parents.new }
 {
-    let end = up + width;
-    let mut c = up;
-    while c + 1 < end {
+    for c in up..(up + width).saturating_sub(1) {
         join_corners(width, cells, masks, parents, c);
-        c += 1;
     }
 }

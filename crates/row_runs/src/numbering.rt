@@ -3,7 +3,6 @@ ghost use Rattle.std.specs.Prelude.{◌≡◌, ℕ, ◌≤◌, length};
 ghost use Rattle.row_runs.specs.Numbered.{label_at, LabelAsked, Filled, Named, NumberAsked, Numbered};
 
 use crate::tests::is_walkable;
-use plain_numbers::{greater, wide};
 
 // The label of the stretch whose first cell is c, where `id` labels are given before it. Who is his own parent gets the next.
 fn label_at(cells: &[u8], labels: &[u32], c: usize, id: u32) -> u32
@@ -13,7 +12,7 @@ fn label_at(cells: &[u8], labels: &[u32], c: usize, id: u32) -> u32
     if !is_walkable(cells, c) {
         return 0;
     }
-    let p = wide(labels[c]);
+    let p = labels[c] as usize;
     if p == c {
         return id + 1;
     }
@@ -38,12 +37,13 @@ pub fn number(cells: &[u8], labels: &mut [u32], queue: &[u32], n: usize) -> usiz
 {
     let mut id: u32 = 0;
     let mut c = 0;
+    // Kept: each stretch begins where the one before it ends, and no range or chain has these places.
     while c < n {
-        let e = wide(queue[c]);
+        let e = queue[c] as usize;
         let label = label_at(cells, labels, c, id);
         put_label(labels, c, e, label);
-        id = greater(id, label);
+        id = id.max(label);
         c = e;
     }
-    wide(id)
+    id as usize
 }

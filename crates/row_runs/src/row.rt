@@ -1,10 +1,10 @@
-// The stretches of one row, each by its end: the loops stop at the first cell that a test does not hold of.
-ghost use Rattle.std.specs.Prelude.{◌≡◌, false, not, ◌+◌, ◌≤◌, ◌<◌, length};
+// The stretches of one row, each by its end, the first cell that a test does not hold of.
+ghost use Rattle.std.specs.Prelude.{◌≡◌, false, ◌+◌, ◌≤◌, ◌<◌, length};
 ghost use Rattle.grid_steps.specs.Masks.{cut_bit};
-ghost use Rattle.row_runs.specs.Stretch.{walks, goes_on, Clear, Until, Stretch, StretchAsked};
+ghost use Rattle.row_runs.specs.Stretch.{walks_as, goes_on, Clear, Until, Stretch, StretchAsked};
 
 use crate::tests::{SOUTH, goes_on, is_walkable};
-use crate::words::{first_flag, gap_flags, open_flags};
+use crate::words::{first_flag, unlike_flags};
 use grid_steps::is_cut;
 
 // Whether a step from a cell of the row is cut. Of most rows none is.
@@ -12,76 +12,33 @@ pub fn has_marks(masks: &[u16], from: usize, end: usize) -> bool
     requires { (from ≤ end) × (end ≤ length masks.now) }
     ensures { result ≡ false → Clear masks.now from end }
 {
-    let mut all: u16 = 0;
-    for c in from..end {
-        all = all | masks[c];
-    }
-    if all == 0 {
-        return false;
-    }
-    true
+    masks[from..end].iter().fold(0, |all, mask| all | mask) != 0
 }
 
-// The first walkable cell from `from` on, one at a time.
-fn gap_rest(cells: &[u8], from: usize, end: usize) -> usize
+// The first cell from `from` on that is not as `walkable` says, one at a time.
+fn alike_rest(cells: &[u8], from: usize, end: usize, walkable: bool) -> usize
     requires { (from ≤ end) × (end ≤ length cells.now) }
-    ensures { Until (λ c. not (walks cells.now c)) from end result }
+    ensures { Until (walks_as walkable cells.now) from end result }
 {
-    let mut c = from;
-    while c < end {
-        if is_walkable(cells, c) {
-            return c;
-        }
-        c += 1;
-    }
-    c
+    (from..end)
+        .find(|&c| is_walkable(cells, c) != walkable)
+        .unwrap_or(end)
 }
 
 // The same, eight at a time while there are eight.
-fn gap_end(cells: &[u8], from: usize, end: usize) -> usize
+fn alike_end(cells: &[u8], from: usize, end: usize, walkable: bool) -> usize
     requires { (from ≤ end) × (end ≤ length cells.now) }
-    ensures { Until (λ c. not (walks cells.now c)) from end result }
+    ensures { Until (walks_as walkable cells.now) from end result }
 {
-    let mut c = from;
-    while c + 8 <= end {
-        let flags = open_flags(cells, c);
+    let words = (end - from) / 8;
+    for k in 0..words {
+        let c = from + 8 * k;
+        let flags = unlike_flags(cells, c, walkable);
         if flags != 0 {
             return c + first_flag(flags);
         }
-        c += 8;
     }
-    gap_rest(cells, c, end)
-}
-
-// The first cell from `from` on that is not walkable, one at a time.
-fn open_rest(cells: &[u8], from: usize, end: usize) -> usize
-    requires { (from ≤ end) × (end ≤ length cells.now) }
-    ensures { Until (walks cells.now) from end result }
-{
-    let mut c = from;
-    while c < end {
-        if !is_walkable(cells, c) {
-            return c;
-        }
-        c += 1;
-    }
-    c
-}
-
-// The same, eight at a time while there are eight.
-fn open_end(cells: &[u8], from: usize, end: usize) -> usize
-    requires { (from ≤ end) × (end ≤ length cells.now) }
-    ensures { Until (walks cells.now) from end result }
-{
-    let mut c = from;
-    while c + 8 <= end {
-        let flags = gap_flags(cells, c);
-        if flags != 0 {
-            return c + first_flag(flags);
-        }
-        c += 8;
-    }
-    open_rest(cells, c, end)
+    alike_rest(cells, from + 8 * words, end, walkable)
 }
 
 // The first cell from `from` on that the run of the cell before `from` has not.
@@ -89,14 +46,9 @@ fn run_end(cells: &[u8], masks: &[u16], from: usize, end: usize) -> usize
     requires { (1 ≤ from) × (from ≤ end) × (end ≤ length cells.now) × (end ≤ length masks.now) }
     ensures { Until (goes_on cells.now masks.now) from end result }
 {
-    let mut c = from;
-    while c < end {
-        if !goes_on(cells, masks, c) {
-            return c;
-        }
-        c += 1;
-    }
-    c
+    (from..end)
+        .find(|&c| !goes_on(cells, masks, c))
+        .unwrap_or(end)
 }
 
 // The first cell from `from` on whose step to the south is not cut.
@@ -104,14 +56,9 @@ pub fn south_end(masks: &[u16], from: usize, end: usize) -> usize
     requires { (from ≤ end) × (end ≤ length masks.now) }
     ensures { Until (λ c. cut_bit masks.now c 7) from end result }
 {
-    let mut c = from;
-    while c < end {
-        if !is_cut(masks, c, SOUTH) {
-            return c;
-        }
-        c += 1;
-    }
-    c
+    (from..end)
+        .find(|&c| !is_cut(masks, c, SOUTH))
+        .unwrap_or(end)
 }
 
 // The end of the stretch that begins at `from`, in a row that ends at `end` and may have cut steps.
@@ -119,11 +66,9 @@ pub fn stretch_end(cells: &[u8], masks: &[u16], from: usize, end: usize, marked:
     requires { StretchAsked cells.now masks.now from end marked }
     ensures { Stretch cells.now masks.now end from result }
 {
-    if !is_walkable(cells, from) {
-        return gap_end(cells, from, end);
-    }
-    if marked {
+    let walkable = is_walkable(cells, from);
+    if walkable & marked {
         return run_end(cells, masks, from + 1, end);
     }
-    open_end(cells, from, end)
+    alike_end(cells, from, end, walkable)
 }

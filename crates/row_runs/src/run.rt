@@ -53,6 +53,7 @@ pub fn scan_row(
         parents.new queue.new }
 {
     let mut c = from;
+    // Kept: each stretch begins where the one before it ends, and no range or chain has these places.
     while c < end {
         let e = stretch_end(cells, masks, c, end, marked);
         queue[c] = e as u32;

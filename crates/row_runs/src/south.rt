@@ -7,7 +7,6 @@ ghost use Rattle.row_runs.specs.South.{OverlapAsked, OverlapJoined, RowsAsked, R
 use crate::row::south_end;
 use crate::tests::is_walkable;
 use parents::join;
-use plain_numbers::{least, wide};
 
 // The end of the stretch that has cell c: what is known, unless a stretch begins at c.
 fn end_at(queue: &[u32], c: usize, known: usize) -> usize
@@ -15,7 +14,7 @@ fn end_at(queue: &[u32], c: usize, known: usize) -> usize
     ensures { result ≡ cond (eqb known c) (get_or queue.now c 0) known }
 {
     if known == c {
-        return wide(queue[c]);
+        return queue[c] as usize;
     }
     known
 }
@@ -69,10 +68,11 @@ pub fn join_rows(
     let mut c = up;
     let mut a = up;
     let mut b = row;
+    // Kept: the places are where stretches of two rows end, and no range or chain has them.
     while c < row {
         a = end_at(queue, c, a);
         b = end_at(queue, c + width, b);
-        let e = least(a, b - width);
+        let e = a.min(b - width);
         join_overlap(width, cells, masks, parents, c, e);
         c = e;
     }

@@ -1,7 +1,7 @@
 // Eight cells at a time. Their bytes are put together to a word, of which the compiler makes one load; whether a cell is walkable is the lowest bit of its byte.
 ghost use Rattle.std.specs.Prelude.{◌≡◌, not, ◌+◌, ◌/◌, ◌≤◌, ◌<◌, length};
 ghost use Rattle.std.specs.Int.Count.{count_trailing_zeros};
-ghost use Rattle.row_runs.specs.Stretch.{walks};
+ghost use Rattle.row_runs.specs.Stretch.{walks, walks_as};
 ghost use Rattle.row_runs.specs.Words.{word_at, stops};
 
 const LOW_BITS: u64 = 0x01_01_01_01_01_01_01_01;
@@ -34,7 +34,7 @@ fn four(cells: &[u8], c: usize) -> u64
 }
 
 // The walkable ones of the eight cells from c on.
-pub fn open_flags(cells: &[u8], c: usize) -> u64
+fn open_flags(cells: &[u8], c: usize) -> u64
     requires { c + 8 ≤ length cells.now }
     ensures { result ≡ stops 8 (λ d. not (walks cells.now d)) c }
 {
@@ -43,12 +43,13 @@ pub fn open_flags(cells: &[u8], c: usize) -> u64
     (low + 0x1_0000_0000 * high) & LOW_BITS
 }
 
-// Those that are not.
-pub fn gap_flags(cells: &[u8], c: usize) -> u64
+// Those of the eight that are not as `walkable` says.
+pub fn unlike_flags(cells: &[u8], c: usize, walkable: bool) -> u64
     requires { c + 8 ≤ length cells.now }
-    ensures { result ≡ stops 8 (walks cells.now) c }
+    ensures { result ≡ stops 8 (walks_as walkable cells.now) c }
 {
-    LOW_BITS - open_flags(cells, c)
+    let flags = open_flags(cells, c);
+    if walkable { LOW_BITS - flags } else { flags }
 }
 
 // The byte with the lowest flag.

@@ -1,14 +1,12 @@
 -- `neighbors` as the Rust writes it, of a walkable cell, is the definitions' (`neighbors-are`), and `index` finds the index of every walkable cell (`index-walkable`) and of
 -- every position in the grid (`index-inside`). The argument: a cell is walkable by `cell` exactly if it is by `walkable`; the definitions ask all four cells of a step, which of
 -- a straight one are its own two. Assumes nothing.
-use Rattle.std.specs.Prelude.{ℕ, zero, suc, ◌+◌, ◌-◌, ◌<◌, ◌≡◌, Bool, not, ◌&&◌, ◌||◌, cond, length, get_or, eqb, ℤ, pos}
+use Rattle.std.specs.Prelude.{ℕ, zero, suc, ◌+◌, ◌-◌, ◌<◌, ◌≡◌, Bool, not, ◌&&◌, ◌||◌, cond, length, get_or, eqb, ℤ, pos, Option, None, Some, slice_get}
 use Rattle.std.proofs.Common.{arith, ◌∙◌}
 use Rattle.std.proofs.Math.Path.{refl, sym, ap}
 use Rattle.std.proofs.Math.Bool.{true, false}
 use Rattle.std.proofs.lemmas.Bool.{false≢true}
-use Rattle.std.specs.Prelude.{Option, None, Some}
 use mathlib.Core.List.{List, [], ◌∷◌, ◌++◌, map}
-use Rattle.std.specs.Prelude.{slice_get}
 use Rattle.std.proofs.Math.ListN.{get_or-eq_default}
 use Rattle.std.proofs.Math.Arith.{digits_lt}
 use Rattle.std.proofs.Math.Dec.{ltb, leb}

@@ -13,6 +13,3 @@ abbrev pub invariant-loop-k : goal.invariant-loop-k
 invariant-loop-k l =
     Passing l.labels l.span l.first (cut_column (grid_of l.width l.height l.cells) (segment_of l.g) l.strip) max_line_edges l.from l.to l.initial.a l.initial.pairs l.a l.pairs l.k
     × Crossing l.strip l.tie (l.k - 1) l.before.first l.before.rest × Crossing l.strip l.tie l.k l.here.first l.here.rest × Close l.before.first l.here.first
-
-abbrev pub decreases-loop-k : goal.decreases-loop-k
-decreases-loop-k l = l.to - l.k

@@ -1,7 +1,7 @@
 -- `assessments::assess_column` meets its contract. The loop's invariant: the cut steps of the column's cells from the first to the one before m are assessed
 -- (`Walking`). Assumes nothing.
-use Prim.Native.Nat.{◌<◌}
-use mathlib.Core.Path.{ap}
+use Prim.Native.Nat.{◌+◌, ◌-◌, ◌<◌}
+use mathlib.Core.Path.{◌≡◌, ap}
 use native.Mathlib.Omega.{arith}
 use Rattle.definitions.specs.Limits.{max_side}
 use Rattle.span_geometry.specs.Shapes.{segment_of}
@@ -28,13 +28,10 @@ assess_cell-a-requires c =
     let i = cell_in c.args.strip.columns c.pick-in-loop-m.ensures c.pick-in-loop-m-2.ensures c.requires.lent.2.column (omega (arith, c.loop-m-test.true, c.near_range-range.ensures.inside, c.pick.ensures)) in
     record { lent = (c.requires.lent.0, c.requires.lent.1, i.0, i.1); counting = counting_most c.loop-m.invariant.turns.counting (omega (arith, c.loop-m.invariant.turns.counting.few, c.loop-m-test.true, last_in, c.requires.counting.few)) }
 
-pub loop-m-smaller : goal.loop-m-smaller
-loop-m-smaller c = omega (arith, c.loop-m-test.true)
-
 pub loop-m-preserved : goal.loop-m-preserved
 loop-m-preserved c =
     let a = c.args in
-    walking_more c.loop-m.invariant c.loop-m-test.true c.assess_cell-a.ensures.still_counting c.assess_cell-a.auto.pairs
+    walking_more c.loop-m.invariant (omega (arith, c.loop-m-test.true)) c.assess_cell-a.ensures.still_counting c.assess_cell-a.auto.pairs
     (assesses_same (ap (cut_from (grid_of a.width a.height a.cells.now) (segment_of a.g)) (cell_at a.strip.columns a.k c.loop-m.m c.pick-in-loop-m.ensures c.pick-in-loop-m-2.ensures)) c.assess_cell-a.ensures.assessed)
 
 pub shape_of-pairs : goal.shape_of-pairs
@@ -45,7 +42,8 @@ returns c =
     let last_in : c.near_range-range.result.last < max_side = let p = c.requires.lent.0 in
     omega (arith, c.near_range-range.ensures.inside, c.pick.ensures, side-small c.args.strip.columns p.short p.narrow) in
     let a = c.args in
-    let T = walking_done c.loop-m.invariant c.loop-m-test.false last_in in
+    let e : c.near_range-range.result.last + 1 - 1 ≡ c.near_range-range.result.last = omega arith in
+    let T = rw e at (walking_done c.loop-m.invariant (omega (arith, c.loop-m-test.false)) (omega (arith, last_in))) in
     record {
       still_counting = T.counting;
       assessed = assesses_same (column-joined (grid_of a.width a.height a.cells.now) (segment_of a.g) a.strip a.k c.pick.ensures c.near_range-range.ensures) T.assessed;

@@ -1,6 +1,6 @@
 -- `assessments::assess_column` meets its contract. The loop's invariant: the cut steps of the column's cells from the first to the one before m are assessed
 -- (`Walking`). Assumes nothing.
-use Prim.Native.Nat.{◌+◌, ◌-◌}
+use Prim.Native.Nat.{◌-◌}
 use Rattle.span_geometry.specs.Shapes.{segment_of}
 use Rattle.grid_steps.specs.Walk.{grid_of}
 use Rattle.cut_steps.specs.Columns.{cut_across}
@@ -10,7 +10,4 @@ use Rattle.assessments.proofs.assess_column.Given as goal
 
 abbrev pub invariant-loop-m : goal.invariant-loop-m
 invariant-loop-m l =
-    Walking l.labels l.span l.first (cut_across (grid_of l.width l.height l.cells) (segment_of l.g) l.columns l.k) max_cell_edges l.initial.m l.last l.initial.a l.initial.pairs l.a l.pairs l.m
-
-abbrev pub decreases-loop-m : goal.decreases-loop-m
-decreases-loop-m l = l.last + 1 - l.m
+    Walking l.labels l.span l.first (cut_across (grid_of l.width l.height l.cells) (segment_of l.g) l.columns l.k) max_cell_edges l.initial.m (l.m-end - 1) l.initial.a l.initial.pairs l.a l.pairs l.m

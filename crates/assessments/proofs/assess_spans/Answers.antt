@@ -59,9 +59,6 @@ bounds-tallies-at-in-loop-s c =
     let room : 2 * (c.loop-s.s + 1) ≤ length c.args.tallies.now = omega (arith, c.loop-s-test.true, c.requires.asked.tallies_long) in
     simp length-set (omega (arith, room, c.loop-s.invariant.1.tallies_long))
 
-pub loop-s-smaller : goal.loop-s-smaller
-loop-s-smaller c = omega (arith, c.loop-s-test.true)
-
 pub loop-s-preserved : goal.loop-s-preserved
 loop-s-preserved c =
     let room : 2 * (c.loop-s.s + 1) ≤ length c.args.tallies.now = omega (arith, c.loop-s-test.true, c.requires.asked.tallies_long) in

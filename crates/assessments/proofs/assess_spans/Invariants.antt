@@ -1,11 +1,8 @@
 -- `assessments::assess_spans` meets its contract. The loop's invariant (`Before`): the rows and tallies of the spans before s are in their lists. The measure is how
 -- many spans are left. Assumes nothing.
-use Prim.Native.Nat.{◌-◌, ◌≤◌}
+use Prim.Native.Nat.{◌≤◌}
 use Rattle.assessments.proofs.Spans.{Before}
 use Rattle.assessments.proofs.assess_spans.Given as goal
 
 abbrev pub invariant-loop-s : goal.invariant-loop-s
 invariant-loop-s l = (l.s ≤ l.count) × Before l.width l.height l.cells l.spans l.labels l.initial.tallies l.initial.pairs l.s l.tallies l.pairs l.end
-
-abbrev pub decreases-loop-s : goal.decreases-loop-s
-decreases-loop-s l = l.count - l.s

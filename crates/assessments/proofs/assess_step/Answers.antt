@@ -10,5 +10,5 @@ pub returns : goal.returns
 returns c =
     record {
       still_counting = record { rows = c.put_pair-put.ensures.counted; fewer = search rules; few = search rules };
-      assessed = assesses-apart _ _ c.if-left-right.false c.lesser-lo.ensures c.greater-hi.ensures c.put_pair-put.ensures.added;
+      assessed = assesses-apart _ _ c.if-left-right.false c.min-lo.ensures c.max-hi.ensures c.put_pair-put.ensures.added;
     }

@@ -12,6 +12,3 @@ abbrev pub invariant-loop-k : goal.invariant-loop-k
 invariant-loop-k l =
     (l.from ≤ l.k) × (l.k ≤ l.to) × Marked (grid_of l.width l.height l.cells) l.initial.masks l.masks (cut_columns (grid_of l.width l.height l.cells) (segment_of l.g) l.strip l.from l.k)
     × Crossing l.strip l.tie (l.k - 1) l.before.first l.before.rest × Crossing l.strip l.tie l.k l.here.first l.here.rest × Close l.before.first l.here.first
-
-abbrev pub decreases-loop-k : goal.decreases-loop-k
-decreases-loop-k l = l.to - l.k

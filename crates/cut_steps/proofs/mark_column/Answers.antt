@@ -1,7 +1,8 @@
 -- `mark_column` meets its contract. The loop's invariant: the cut steps of the column's cells from the first to the one before m are marked (`Walking`).
 -- Assumes nothing.
+use Prim.Native.Nat.{◌+◌, ◌-◌}
 use native.Mathlib.Omega.{arith}
-use mathlib.Core.Path.{ap}
+use mathlib.Core.Path.{◌≡◌, ap}
 use Rattle.span_geometry.specs.Shapes.{segment_of}
 use Rattle.grid_steps.specs.Walk.{grid_of}
 use Rattle.cut_steps.specs.CutSteps.{cut_from}
@@ -21,9 +22,6 @@ mark_cell-requires c =
     let i = cell_in c.args.strip.columns c.pick-in-loop-m.ensures c.pick-in-loop-m-2.ensures c.requires.1.column (omega (arith, c.loop-m-test.true, c.near_range-range.ensures.inside, c.pick.ensures)) in
     (asked-again c.requires.0 c.loop-m.invariant.marked.long, i.0, i.1)
 
-pub loop-m-smaller : goal.loop-m-smaller
-loop-m-smaller c = omega (arith, c.loop-m-test.true)
-
 pub loop-m-preserved : goal.loop-m-preserved
 loop-m-preserved c =
     let a = c.args in
@@ -36,5 +34,6 @@ shape_of-masks c = c.loop-m.invariant.marked.long
 pub returns : goal.returns
 returns c =
     let a = c.args in
+    let e : c.near_range-range.result.last + 1 - 1 ≡ c.near_range-range.result.last = omega arith in
     marked_as (column-joined (grid_of a.width a.height a.cells.now) (segment_of a.g) a.strip a.k c.pick.ensures c.near_range-range.ensures)
-    (walking_done c.loop-m.invariant c.loop-m-test.false)
+    (rw e at (walking_done c.loop-m.invariant (omega (arith, c.loop-m-test.false))))

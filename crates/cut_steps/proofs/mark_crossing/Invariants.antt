@@ -1,6 +1,6 @@
 -- `mark_crossing` meets its contract. The loop's invariant: the cut steps of the cells before j are marked; the four are all of the column, or row (`column-crossed`).
 -- Assumes nothing.
-use Prim.Native.Nat.{◌+◌, ◌-◌, ◌≤◌}
+use Prim.Native.Nat.{◌+◌, ◌≤◌}
 use Rattle.definitions.specs.Scan.{concat_map}
 use Rattle.span_geometry.specs.Shapes.{segment_of}
 use Rattle.grid_steps.specs.Walk.{grid_of}
@@ -12,6 +12,3 @@ use Rattle.cut_steps.proofs.mark_crossing.Given as goal
 abbrev pub invariant-loop-j : goal.invariant-loop-j
 invariant-loop-j l =
     (l.j ≤ 4) × Marked (grid_of l.width l.height l.cells) l.initial.masks l.masks (concat_map (cut_two_back (grid_of l.width l.height l.cells) (segment_of l.g) l.strip l.k) (up_to l.here (l.here + l.j)))
-
-abbrev pub decreases-loop-j : goal.decreases-loop-j
-decreases-loop-j l = 4 - l.j

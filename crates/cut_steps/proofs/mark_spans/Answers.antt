@@ -17,9 +17,6 @@ mark_span-requires c =
     let g = c.span_at.ensures in
     (mark-asked c.requires.checked c.loop-i-test.true g c.requires.sizes.0 c.loop-i.invariant.1, span-asked c.requires.checked c.loop-i-test.true g)
 
-pub loop-i-smaller : goal.loop-i-smaller
-loop-i-smaller c = omega (arith, c.loop-i-test.true)
-
 pub loop-i-preserved : goal.loop-i-preserved
 loop-i-preserved c =
     (omega (arith, c.loop-i-test.true), spans_more c.requires.checked c.loop-i-test.true c.span_at.ensures c.loop-i.invariant.1 c.mark_span.ensures)

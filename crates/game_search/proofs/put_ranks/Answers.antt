@@ -12,7 +12,7 @@ put_row-requires c =
 
 pub loop-at-preserved : goal.loop-at-preserved
 loop-at-preserved c =
-    ranking_more _ _ _ _ _ _ _ _ _ _ _ c.loop-at.invariant c.loop-at-test.true c.set_for-old.ensures c.set_for-new.ensures
+    ranking_more _ _ _ _ _ _ _ _ _ _ _ c.loop-at.invariant c.loop-at-test.true c.set_for.ensures c.set_for-in-loop-at.ensures
     c.put_row.ensures.ranks c.put_row.ensures.ranks_length
 
 pub returns : goal.returns

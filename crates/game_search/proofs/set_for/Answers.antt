@@ -10,10 +10,10 @@ pub returns-then-i-eq0 : goal.returns-then-i-eq0
 returns-then-i-eq0 c =
     let a = c.args in
     let g = a.i % 64 / 2 in
-    sym (ap (λ b. cond b (get_or a.runner.now g 0) (get_or a.guard.now g 0)) (eq-eqb (a.i % 2) 0 c.if-i-eq0.true))
+    sym (ap (λ b. cond b (get_or a.won.now.runner g 0) (get_or a.won.now.guard g 0)) (eq-eqb (a.i % 2) 0 c.if-i-eq0.true))
 
 pub returns : goal.returns
 returns c =
     let a = c.args in
     let g = a.i % 64 / 2 in
-    sym (ap (λ b. cond b (get_or a.runner.now g 0) (get_or a.guard.now g 0)) (ne_eqb (a.i % 2) 0 c.if-i-eq0.false))
+    sym (ap (λ b. cond b (get_or a.won.now.runner g 0) (get_or a.won.now.guard g 0)) (ne_eqb (a.i % 2) 0 c.if-i-eq0.false))

@@ -6,14 +6,14 @@ use Rattle.game_search.proofs.sweep.Goals as goal
 pub loop-g-init : goal.loop-g-init
 loop-g-init c = sweeping_starts _ _ _ _ _ _ _ c.requires.1 c.requires.2
 
-pub bounds-guard-g : goal.bounds-guard-g
-bounds-guard-g c = omega (arith, c.loop-g-test.true, c.requires.0.few)
+pub bounds-won-g : goal.bounds-won-g
+bounds-won-g c = omega (arith, c.loop-g-test.true, c.requires.0.few)
 
 pub runner_row-requires : goal.runner_row-requires
 runner_row-requires c = c.requires.0.few
 
-pub bounds-runners-g : goal.bounds-runners-g
-bounds-runners-g c =
+pub bounds-next-g : goal.bounds-next-g
+bounds-next-g c =
     omega (arith, c.loop-g-test.true, c.requires.0.few)
 
 pub guard_row-requires : goal.guard_row-requires
@@ -21,8 +21,8 @@ guard_row-requires c =
     let sized = c.requires.0 in
     (sized.few, omega (arith, sized.few, sized.inside), omega (arith, sized.few, c.loop-g-test.true))
 
-pub bounds-guards-g : goal.bounds-guards-g
-bounds-guards-g c =
+pub bounds-next-g-in-loop-g : goal.bounds-next-g-in-loop-g
+bounds-next-g-in-loop-g c =
     omega (arith, c.loop-g-test.true, c.requires.0.few)
 
 pub loop-g-preserved : goal.loop-g-preserved

@@ -1,10 +1,6 @@
 -- `search::sweep` meets its contract. The loop's invariant (`Sweeping`): the rows of the guard's regions below g are put. Assumes nothing.
-use Prim.Native.Nat.{◌-◌}
 use Rattle.game_search.proofs.Rows.{Sweeping}
 use Rattle.game_search.proofs.sweep.Given as goal
 
 abbrev pub invariant-loop-g : goal.invariant-loop-g
-invariant-loop-g l = Sweeping l.near l.regions l.goal l.runner l.guard l.g l.runners l.guards
-
-abbrev pub decreases-loop-g : goal.decreases-loop-g
-decreases-loop-g l = l.regions - l.g
+invariant-loop-g l = Sweeping l.near l.regions l.goal l.won.runner l.won.guard l.g l.next.runner l.next.guard

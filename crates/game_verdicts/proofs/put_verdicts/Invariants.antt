@@ -5,6 +5,3 @@ use Rattle.game_verdicts.proofs.put_verdicts.Given as goal
 
 abbrev pub invariant-loop-c : goal.invariant-loop-c
 invariant-loop-c l = Putting l.near l.regions l.goal l.ranks l.initial.verdicts l.c l.verdicts
-
-abbrev pub decreases-loop-c : goal.decreases-loop-c
-decreases-loop-c l = l.count - l.c

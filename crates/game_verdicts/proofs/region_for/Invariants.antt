@@ -5,6 +5,3 @@ use Rattle.game_verdicts.proofs.region_for.Given as goal
 
 abbrev pub invariant-loop-d : goal.invariant-loop-d
 invariant-loop-d l = NoneBefore l.near l.ranks l.regions l.r l.g l.turn l.d
-
-abbrev pub decreases-loop-d : goal.decreases-loop-d
-decreases-loop-d l = l.regions - l.d

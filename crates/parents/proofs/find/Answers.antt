@@ -1,5 +1,6 @@
 -- `parents::find` meets its contract. The loop's invariant is `Finding`; the number reached falls with each turn, since a parent is no larger. Assumes nothing.
 use native.Mathlib.Omega.{arith}
+use mathlib.Core.Path.{refl}
 use lib.ListN.{get_or, length-set}
 use Rattle.parents.proofs.Finding.{Places, finding-starts, places, finding-goes_on, finding-ends}
 use Rattle.parents.proofs.find.Goals as goal
@@ -11,7 +12,7 @@ pub bounds-parents-c : goal.bounds-parents-c
 bounds-parents-c c = omega (arith, c.requires.inside, c.requires.forest.long)
 
 pub loop-p-init : goal.loop-p-init
-loop-p-init c = finding-starts _ _ _ c.wide-p.ensures
+loop-p-init c = finding-starts _ _ _ refl
 
 pub offset_bounds-parents-p : goal.offset_bounds-parents-p
 offset_bounds-parents-p c =
@@ -36,24 +37,24 @@ bounds-parents-c-in-loop-p c =
 pub offset_bounds-parents-c-in-loop-p-2 : goal.offset_bounds-parents-c-in-loop-p-2
 offset_bounds-parents-c-in-loop-p-2 c =
     let at_places : Places c.requires c.loop-p.invariant = places c.requires c.loop-p.invariant in
-    let at = at_places in omega (arith, c.wide-c.ensures, at.low, at.next, at.small)
+    let at = at_places in omega (arith, at.low, at.next, at.small)
 
 pub bounds-parents-c-in-loop-p-2 : goal.bounds-parents-c-in-loop-p-2
 bounds-parents-c-in-loop-p-2 c =
     let at_places : Places c.requires c.loop-p.invariant = places c.requires c.loop-p.invariant in
     let at = at_places in
     let l = c.loop-p in
-    omega (arith, c.wide-c.ensures, at.low, at.next, at.inside, length-set l.parents l.c (get_or l.parents l.p 0))
+    omega (arith, at.low, at.next, at.inside, length-set l.parents l.c (get_or l.parents l.p 0))
 
 pub loop-p-smaller : goal.loop-p-smaller
 loop-p-smaller c =
     let at_places : Places c.requires c.loop-p.invariant = places c.requires c.loop-p.invariant in
     let at = at_places in
-    omega (arith, c.wide-c.ensures, at.low, at.next, c.loop-p-test.true)
+    omega (arith, at.low, at.next, c.loop-p-test.true)
 
 pub loop-p-preserved : goal.loop-p-preserved
 loop-p-preserved c =
-    finding-goes_on c.loop-p.invariant c.wide-c.result c.wide-p-in-loop-p.result c.wide-c.ensures c.wide-p-in-loop-p.ensures
+    finding-goes_on c.loop-p.invariant _ _ refl refl
 
 pub shape_of-parents : goal.shape_of-parents
 shape_of-parents c =

@@ -29,43 +29,20 @@ overflow_cast-parents c =
     let at_names : Names c.find-i.ensures c.find-j.ensures = names c.find-i.ensures c.find-j.ensures c.requires in
     omega (arith, at_names.first)
 
-pub offset_bounds-parents-j : goal.offset_bounds-parents-j
-offset_bounds-parents-j c =
+pub offset_bounds-parents-max : goal.offset_bounds-parents-max
+offset_bounds-parents-max c =
     let at_names : Names c.find-i.ensures c.find-j.ensures = names c.find-i.ensures c.find-j.ensures c.requires in
-    omega (arith, at_names.second)
+    omega (arith, at_names.first, at_names.second)
 
-pub bounds-parents-j : goal.bounds-parents-j
-bounds-parents-j c =
+pub bounds-parents-max : goal.bounds-parents-max
+bounds-parents-max c =
     let at_names : Names c.find-i.ensures c.find-j.ensures = names c.find-i.ensures c.find-j.ensures c.requires in
-    at_names.second_in
+    omega (arith, at_names.first_in, at_names.second_in)
 
-pub overflow_cast-parents-else-i-j : goal.overflow_cast-parents-else-i-j
-overflow_cast-parents-else-i-j c =
-    let at_names : Names c.find-i.ensures c.find-j.ensures = names c.find-i.ensures c.find-j.ensures c.requires in
-    omega (arith, at_names.second)
+pub shape_of-parents : goal.shape_of-parents
+shape_of-parents c =
+    join-long c.find-i.ensures c.find-j.ensures c.requires c.max.result c.min.result
 
-pub offset_bounds-parents-i : goal.offset_bounds-parents-i
-offset_bounds-parents-i c =
-    let at_names : Names c.find-i.ensures c.find-j.ensures = names c.find-i.ensures c.find-j.ensures c.requires in
-    omega (arith, at_names.first)
-
-pub bounds-parents-i : goal.bounds-parents-i
-bounds-parents-i c =
-    let at_names : Names c.find-i.ensures c.find-j.ensures = names c.find-i.ensures c.find-j.ensures c.requires in
-    at_names.first_in
-
-pub shape_of-parents-then-i-j : goal.shape_of-parents-then-i-j
-shape_of-parents-then-i-j c =
-    join-long c.find-i.ensures c.find-j.ensures c.requires c.find-j.result c.find-i.result
-
-pub returns-then-i-j : goal.returns-then-i-j
-returns-then-i-j c =
-    join-linked c.find-i.ensures c.find-j.ensures c.find-j.result c.find-i.result (omega (arith, c.if-i-j.true)) (omega (arith, c.if-i-j.true))
-
-pub shape_of-parents-else-i-j : goal.shape_of-parents-else-i-j
-shape_of-parents-else-i-j c =
-    join-long c.find-i.ensures c.find-j.ensures c.requires c.find-i.result c.find-j.result
-
-pub returns-else-i-j : goal.returns-else-i-j
-returns-else-i-j c =
-    join-linked c.find-i.ensures c.find-j.ensures c.find-i.result c.find-j.result (omega (arith, c.if-i-j.false)) (omega (arith, c.if-i-j.false))
+pub returns : goal.returns
+returns c =
+    join-linked c.find-i.ensures c.find-j.ensures c.max.result c.min.result (omega arith) (omega arith)

@@ -1,6 +1,6 @@
 -- `sets::common_if` meets its contract, bit by bit. Assumes nothing.
 use mathlib.Core.Path.{sym, ap, ◌∙◌}
-use mathlib.Core.Bool.{not, ◌&&◌, ◌||◌, true, false}
+use mathlib.Core.Bool.{not, ◌&&◌, ◌||◌}
 use Rattle.definitions.specs.RegionRecord.{has_bit}
 use Rattle.game_sets.proofs.Bits.{and_bit, and_none}
 use Rattle.game_sets.proofs.sets.common_if.Goals as goal

@@ -1,10 +1,6 @@
--- `row_runs::corners::join_diagonals` meets its contract. The loop's invariant is `Cornering`; the measure is how many columns are left. Assumes nothing.
-use Prim.Native.Nat.{◌+◌, ◌-◌}
+-- `row_runs::corners::join_diagonals` meets its contract. The loop's invariant is `Cornering`. Assumes nothing.
 use Rattle.row_runs.proofs.CornerNames.{Cornering}
 use Rattle.row_runs.proofs.corners.join_diagonals.Given as goal
 
 abbrev pub invariant-loop-c : goal.invariant-loop-c
 invariant-loop-c l = Cornering l.width l.cells l.masks l.up l.initial.parents l.parents l.c
-
-abbrev pub decreases-loop-c : goal.decreases-loop-c
-decreases-loop-c l = l.up + l.width - l.c

@@ -1,8 +1,7 @@
 -- `row_runs::numbering::label_at` meets its contract: the tests are the definition's. Assumes nothing.
-use mathlib.Core.Path.{◌≡◌, sym, ap, ◌∙◌}
+use mathlib.Core.Path.{◌≡◌, sym, ◌∙◌}
 use mathlib.Core.Bool.{true}
 use native.Mathlib.Omega.{arith}
-use lib.ListN.{get_or}
 use borrow.Author.Tests.{not-true, not-false}
 use Rattle.row_runs.specs.Stretch.{walks}
 use Rattle.row_runs.proofs.Numbers.{label-gap, label-new, label-known}
@@ -26,15 +25,14 @@ pub returns-then-p-c : goal.returns-then-p-c
 returns-then-p-c c =
     let walked : walks c.args.cells.now c.args.c ≡ true = sym c.is_walkable.ensures ∙ not-false _ c.if-not-is_walkable.false-raw in
     let a = c.args in
-    label-new a.cells.now a.labels.now a.c a.id walked (sym c.wide-p.ensures ∙ c.if-p-c.true)
+    label-new a.cells.now a.labels.now a.c a.id walked (c.if-p-c.true)
 
 pub bounds-labels-p : goal.bounds-labels-p
 bounds-labels-p c =
-    omega (arith, c.wide-p.ensures, c.requires.parent_low, c.requires.labels_long)
+    omega (arith, c.requires.parent_low, c.requires.labels_long)
 
 pub returns : goal.returns
 returns c =
     let walked : walks c.args.cells.now c.args.c ≡ true = sym c.is_walkable.ensures ∙ not-false _ c.if-not-is_walkable.false-raw in
     let a = c.args in
-    ap (λ x. get_or a.labels.now x 0) c.wide-p.ensures
-    ∙ label-known a.cells.now a.labels.now a.c a.id walked (λ e. c.if-p-c.false (c.wide-p.ensures ∙ e))
+    label-known a.cells.now a.labels.now a.c a.id walked c.if-p-c.false

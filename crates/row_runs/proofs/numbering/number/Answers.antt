@@ -1,5 +1,6 @@
 -- `row_runs::numbering::number` meets its contract. The loop's invariant is `Numbering`; the measure is how many cells are left. Assumes nothing.
 use native.Mathlib.Omega.{arith}
+use mathlib.Core.Path.{refl}
 use Rattle.row_runs.proofs.Numbers.{numbering_starts, numbering_goes_on, numbering_ends, labels_long_lem, end_more, end-inside, room, label-asked}
 use Rattle.row_runs.proofs.numbering.number.Goals as goal
 
@@ -18,18 +19,18 @@ put_label-requires c =
     let I = c.loop-c.invariant in
     let A = c.requires in
     let h = c.loop-c-test.true in
-    (omega (arith, c.wide-e.ensures, end_more I A h), omega (arith, c.wide-e.ensures, end-inside I A h, room I A h))
+    (omega (arith, end_more I A h), omega (arith, end-inside I A h, room I A h))
 
 pub loop-c-smaller : goal.loop-c-smaller
 loop-c-smaller c =
-    omega (arith, c.wide-e.ensures, c.loop-c-test.true, end_more c.loop-c.invariant c.requires c.loop-c-test.true)
+    omega (arith, c.loop-c-test.true, end_more c.loop-c.invariant c.requires c.loop-c-test.true)
 
 pub loop-c-preserved : goal.loop-c-preserved
 loop-c-preserved c =
-    numbering_goes_on c.loop-c.invariant c.requires c.loop-c-test.true c.wide-e.ensures c.label_at-label.ensures c.put_label.ensures c.greater-id.ensures
+    numbering_goes_on c.loop-c.invariant c.requires c.loop-c-test.true refl c.label_at-label.ensures c.put_label.ensures c.max-id.ensures
 
 pub shape_of-labels : goal.shape_of-labels
 shape_of-labels c = labels_long_lem c.loop-c.invariant c.requires
 
 pub returns : goal.returns
-returns c = numbering_ends c.loop-c.invariant c.loop-c-test.false c.wide.ensures
+returns c = numbering_ends c.loop-c.invariant c.loop-c-test.false refl

@@ -1,23 +1,13 @@
--- `row_runs::row::has_marks` meets its contract. The loop's invariant is `Gathering`: if all masks so far together are zero, each of them is. Assumes nothing.
-use native.Mathlib.Omega.{arith}
-use mathlib.Core.Bool.{true≢false}
-use Rattle.row_runs.proofs.Marks.{gathering_starts, gathering_goes_on, gathering_ends}
+-- `row_runs::row::has_marks` meets its contract: if all masks together are zero, each of them is. Assumes nothing.
+use Rattle.std.proofs.Common.{rules, tests, ◌≡◌, ◌-◌, take, drop}
+use Rattle.std.proofs.lemmas.Fn.{fold_over, slice_gives, fronts}
+use Rattle.row_runs.proofs.Marks.{Gathered, gathered_none, gathered_more, gathered-clear}
 use Rattle.row_runs.proofs.row.has_marks.Goals as goal
 
-pub loop-c-init : goal.loop-c-init
-loop-c-init c = gathering_starts _ _ _ c.requires.0
-
-pub bounds-masks-c : goal.bounds-masks-c
-bounds-masks-c c = omega (arith, c.loop-c-test.true, c.requires.1)
-
-pub loop-c-smaller : goal.loop-c-smaller
-loop-c-smaller c = omega (arith, c.loop-c-test.true)
-
-pub loop-c-preserved : goal.loop-c-preserved
-loop-c-preserved c = gathering_goes_on c.loop-c.invariant c.loop-c-test.true
-
-pub returns-then-all-eq0 : goal.returns-then-all-eq0
-returns-then-all-eq0 c = λ _. gathering_ends c.loop-c.invariant c.loop-c-test.false c.if-all-eq0.true
-
 pub returns : goal.returns
-returns c = λ e. absurd (true≢false e)
+returns c =
+    let all : Gathered c.iter.result.rest.now c.fold.result =
+    fold_over fronts (λ y. y.now) _ Gathered _ (λ ys a x b f' j k. (gathered_more ys a x.now b j (search rules), search rules)) c.iter.result _ 0 _ (slice_gives c.iter.result) gathered_none c.fold.ensures.ran in
+    let masks = c.args.masks.now in
+    let is : c.iter.result.rest.now ≡ take (c.args.end - c.args.from) (drop c.args.from masks) = search rules in
+    λ none. gathered-clear masks c.args.from c.args.end c.requires.1 (rw is at all) (search (rules, tests, none))

@@ -1,19 +1,13 @@
--- `row_runs::row::stretch_end` meets its contract, by each of its three ways. Assumes nothing.
+-- `row_runs::row::stretch_end` meets its contract, by each of its two ways. Assumes nothing.
 use native.Mathlib.Omega.{arith}
-use mathlib.Core.Path.{sym, ◌∙◌}
-use borrow.Author.Tests.{not-true, not-false}
-use Rattle.row_runs.proofs.Stretches.{gap-stretch, open_stretch, run-stretch}
+use mathlib.Core.Path.{sym, ap, ◌∙◌}
+use mathlib.Core.Bool.{◌&&◌}
+use Rattle.laws.specs.ListLaws.Tests.{both}
+use Rattle.row_runs.proofs.Stretches.{alike-stretch, run-stretch}
 use Rattle.row_runs.proofs.row.stretch_end.Goals as goal
 
-pub is_walkable-requires : goal.is_walkable-requires
-is_walkable-requires c = let s = c.requires in omega (arith, s.more, s.cells_long)
-
-pub gap_end-requires : goal.gap_end-requires
-gap_end-requires c = let s = c.requires in (omega (arith, s.more), s.cells_long)
-
-pub returns-then-not-is_walkable : goal.returns-then-not-is_walkable
-returns-then-not-is_walkable c =
-    gap-stretch _ _ _ _ _ c.requires.more (sym c.is_walkable.ensures ∙ not-true _ c.if-not-is_walkable.true-raw) c.gap_end.ensures
+pub is_walkable-walkable-requires : goal.is_walkable-walkable-requires
+is_walkable-walkable-requires c = let s = c.requires in omega (arith, s.more, s.cells_long)
 
 pub overflow_add-from : goal.overflow_add-from
 overflow_add-from c = let s = c.requires in omega (arith, s.more, s.cells_long)
@@ -21,14 +15,13 @@ overflow_add-from c = let s = c.requires in omega (arith, s.more, s.cells_long)
 pub run_end-requires : goal.run_end-requires
 run_end-requires c = let s = c.requires in (omega arith, omega (arith, s.more), s.cells_long, s.masks_long)
 
-pub returns-then-marked : goal.returns-then-marked
-returns-then-marked c =
-    run-stretch _ _ _ _ _ c.requires.more (sym c.is_walkable.ensures ∙ not-false _ c.if-not-is_walkable.false-raw) c.run_end.ensures
+pub returns-then-walkable-marked : goal.returns-then-walkable-marked
+returns-then-walkable-marked c =
+    run-stretch _ _ _ _ _ c.requires.more (sym c.is_walkable-walkable.ensures ∙ (both _ _ c.if-walkable-marked.true).0) c.run_end.ensures
 
-pub open_end-requires : goal.open_end-requires
-open_end-requires c = let s = c.requires in (omega (arith, s.more), s.cells_long)
+pub alike_end-requires : goal.alike_end-requires
+alike_end-requires c = let s = c.requires in (omega (arith, s.more), s.cells_long)
 
 pub returns : goal.returns
 returns c =
-    open_stretch _ _ _ _ _ c.requires.more (sym c.is_walkable.ensures ∙ not-false _ c.if-not-is_walkable.false-raw)
-    (c.requires.clear c.if-marked.false) c.open_end.ensures
+    alike-stretch _ _ _ _ _ c.requires.more (sym c.is_walkable-walkable.ensures) (λ w. c.requires.clear (sym (ap (λ b. b && c.args.marked) w) ∙ c.if-walkable-marked.false)) c.alike_end.ensures

@@ -28,19 +28,19 @@ pub join_overlap-requires : goal.join_overlap-requires
 join_overlap-requires c =
     let upper : let arg = c.args in Reach arg.cells.now arg.masks.now arg.up (arg.up + arg.width) arg.queue.now c.loop-c.c c.end_at-a.result = upper-reach c.loop-c.invariant c.loop-c-test.true c.end_at-a.result c.end_at-a.ensures in
     let lower : let arg = c.args in Reach arg.cells.now arg.masks.now (arg.up + arg.width) (arg.up + arg.width + arg.width) arg.queue.now (c.loop-c.c + arg.width) c.end_at-b.result = lower-reach c.loop-c.invariant c.loop-c-test.true c.end_at-b.result c.end_at-b.ensures in
-    overlap-asked c.loop-c.invariant c.loop-c-test.true upper lower c.least-e.ensures c.requires
+    overlap-asked c.loop-c.invariant c.loop-c-test.true upper lower c.min-e.ensures c.requires
 
 pub loop-c-smaller : goal.loop-c-smaller
 loop-c-smaller c =
     let upper : let arg = c.args in Reach arg.cells.now arg.masks.now arg.up (arg.up + arg.width) arg.queue.now c.loop-c.c c.end_at-a.result = upper-reach c.loop-c.invariant c.loop-c-test.true c.end_at-a.result c.end_at-a.ensures in
     let lower : let arg = c.args in Reach arg.cells.now arg.masks.now (arg.up + arg.width) (arg.up + arg.width + arg.width) arg.queue.now (c.loop-c.c + arg.width) c.end_at-b.result = lower-reach c.loop-c.invariant c.loop-c-test.true c.end_at-b.result c.end_at-b.ensures in
-    omega (arith, c.loop-c-test.true, (overlap c.loop-c.invariant c.loop-c-test.true upper lower c.least-e.ensures).some)
+    omega (arith, c.loop-c-test.true, (overlap c.loop-c.invariant c.loop-c-test.true upper lower c.min-e.ensures).some)
 
 pub loop-c-preserved : goal.loop-c-preserved
 loop-c-preserved c =
     let upper : let arg = c.args in Reach arg.cells.now arg.masks.now arg.up (arg.up + arg.width) arg.queue.now c.loop-c.c c.end_at-a.result = upper-reach c.loop-c.invariant c.loop-c-test.true c.end_at-a.result c.end_at-a.ensures in
     let lower : let arg = c.args in Reach arg.cells.now arg.masks.now (arg.up + arg.width) (arg.up + arg.width + arg.width) arg.queue.now (c.loop-c.c + arg.width) c.end_at-b.result = lower-reach c.loop-c.invariant c.loop-c-test.true c.end_at-b.result c.end_at-b.ensures in
-    southing_goes_on c.loop-c.invariant c.loop-c-test.true upper lower c.least-e.ensures c.join_overlap.ensures
+    southing_goes_on c.loop-c.invariant c.loop-c-test.true upper lower c.min-e.ensures c.join_overlap.ensures
 
 pub shape_of-parents : goal.shape_of-parents
 shape_of-parents c = southing_long c.loop-c.invariant c.requires
