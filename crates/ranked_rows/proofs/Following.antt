@@ -79,9 +79,9 @@ module _ (smaller larger : List ℕ) (rows : List Candidate) (order : List ℕ) 
       sym (order_at rows order k i d.item h)
       ∙ sym (ap (λ r. r.item) (row_at_lem clash [] (order_of rows order k) i d d.item (omega (arith, order-length rows order k))))
 
-  pub row-follows : {was now : List ℕ} {n : ℕ} {found : Option ℕ} → Listing rows order was count n → RankOf order n k p → FirstIn (blocks_at smaller larger count rows order was p) 0 k found → now ≡ sets was (6 * k) (ranked_row (row_at rows p) found)
+  pub row-follows : {was now : List ℕ} {n : ℕ} (found : Option ℕ) → Listing rows order was count n → RankOf order n k p → FirstIn (blocks_at smaller larger count rows order was p) 0 k found → now ≡ sets was (6 * k) (ranked_row (row_at rows p) found)
       → Following smaller larger count rows order k p was now
-  row-follows {was} {now} {n} {found} listing rank first stored old e =
+  row-follows {was} {now} {n} found listing rank first stored old e =
       stored ∙ ap (λ l. sets l (6 * k) (ranked_row (row_at rows p) found)) e ∙ ap₂ (sets (overwrite (flat_ranked before) old)) place written
       ∙ overwrite_more (flat_ranked before) (flat_ranked (judged clash before (row_at rows p) ∷ [])) old room
       ∙ ap (λ l. overwrite l old) (sym (flat_more before (judged clash before (row_at rows p))) ∙ ap flat_ranked (sym grown))

@@ -126,10 +126,8 @@ fn put_ranked(rows: &[Candidate], listed: &mut [u32], k: usize, p: usize, by: Op
     ensures { listed.new ≡ sets listed.old (numbers_per_ranked * k) (ranked_row (row_at rows.now p) by) }
 {
     let row = rows[p];
-    let (taken, rank) = match by {
-        None => (1, 0),
-        Some(r) => (0, r as u32),
-    };
+    let taken = u32::from(by.is_none());
+    let rank = by.unwrap_or(0) as u32;
     put_row(
         listed,
         NUMBERS_PER_RANKED * k,
